@@ -1,0 +1,5 @@
+mod Words
+mod Cut
+mod NoWord
+mod Wide
+mod OneSpelling

@@ -1,0 +1,207 @@
+-- No two instructions have one spelling: read is the way back from the parts.
+use Rattle.std.proofs.Common.{◌≡◌, ℕ, ◌+◌, ◌-◌, ◌*◌, ◌/◌, ◌%◌, ℤ, pos, negsuc, arith, refl, sym, ap, ◌∙◌, Option, Some, None, nat_lt, List, [], ◌∷◌, ◌==◌, ◌&&◌, if◌then◌else◌}
+use Rattle.std.specs.Option.{option_map}
+use Rattle.rv_word.specs.declared.parts.Parts.{Parts}
+use Rattle.rv_word.specs.declared.instr.RegOp.{RegOp}
+use Rattle.rv_word.specs.declared.instr.RegOp.TheVariants.{Add, Sub, Sll, Slt, Sltu, Xor, Srl, Sra, Or, And, Mul, Mulh, Mulhsu, Mulhu, Div, Divu, Rem, Remu}
+use Rattle.rv_word.specs.declared.instr.ImmOp.{ImmOp}
+use Rattle.rv_word.specs.declared.instr.ImmOp.TheVariants.{Addi, Slti, Sltiu, Xori, Ori, Andi, Slli, Srli, Srai}
+use Rattle.rv_word.specs.declared.instr.LoadKind.{LoadKind}
+use Rattle.rv_word.specs.declared.instr.LoadKind.TheVariants.{Lb, Lh, Lw, Lbu, Lhu}
+use Rattle.rv_word.specs.declared.instr.StoreWidth.{StoreWidth}
+use Rattle.rv_word.specs.declared.instr.StoreWidth.TheVariants.{Sb, Sh, Sw}
+use Rattle.rv_word.specs.declared.instr.Cond.{Cond}
+use Rattle.rv_word.specs.declared.instr.Cond.TheVariants.{Beq, Bne, Blt, Bge, Bltu, Bgeu}
+use Rattle.rv_word.specs.declared.instr.Instr.{Instr}
+use Rattle.rv_word.specs.declared.instr.Instr.TheVariants.{Op, OpImm, Load, Store, Branch, Jal, Jalr, Lui, Auipc, Fence, Ecall, Ebreak}
+use Rattle.rv_word.specs.Numbers.{modulo, bits, minus, IsBetween, IsEven}
+use Rattle.rv_word.specs.Functs.{op_funct3, op_funct7, imm_funct3, load_funct3, store_funct3, cond_funct3}
+use Rattle.rv_word.specs.Spelling.{spelling, InRange, IsImm12, IsImmOf}
+use Rattle.rv_word.specs.Laws.{OneSpelling}
+use Rattle.rv_word.specs.Parts.{word_of}
+use Rattle.std.specs.List.{find}
+use Rattle.rv_word.proofs.Cut.{parts, cut, imm_cut, cut_fits, cut_sum, cut_is}
+
+-- the number whose two's complement is n, where half is the least n that stands for a negative number
+abbrev signed : ℕ → ℕ → ℤ
+signed half n = if nat_lt n half then pos n else negsuc (2 * half - 1 - n)
+
+abbrev conds : List Cond
+conds = Beq ∷ Bne ∷ Blt ∷ Bge ∷ Bltu ∷ Bgeu ∷ []
+
+abbrev cond_at : ℕ → Option Cond
+cond_at funct3 = find (λ c. cond_funct3 c == funct3) conds
+
+abbrev loads : List LoadKind
+loads = Lb ∷ Lh ∷ Lw ∷ Lbu ∷ Lhu ∷ []
+
+abbrev load_at : ℕ → Option LoadKind
+load_at funct3 = find (λ k. load_funct3 k == funct3) loads
+
+abbrev stores : List StoreWidth
+stores = Sb ∷ Sh ∷ Sw ∷ []
+
+abbrev store_at : ℕ → Option StoreWidth
+store_at funct3 = find (λ w. store_funct3 w == funct3) stores
+
+abbrev ops : List RegOp
+ops = Add ∷ Sub ∷ Sll ∷ Slt ∷ Sltu ∷ Xor ∷ Srl ∷ Sra ∷ Or ∷ And ∷ Mul ∷ Mulh ∷ Mulhsu ∷ Mulhu ∷ Div ∷ Divu ∷ Rem ∷ Remu ∷ []
+
+abbrev op_at : ℕ → ℕ → Option RegOp
+op_at funct7 funct3 = find (λ op. (op_funct7 op == funct7) && (op_funct3 op == funct3)) ops
+
+abbrev imm_ops : List ImmOp
+imm_ops = Addi ∷ Slti ∷ Sltiu ∷ Xori ∷ Ori ∷ Andi ∷ []
+
+abbrev imm_op_at : ℕ → Option ImmOp
+imm_op_at funct3 = find (λ op. imm_funct3 op == funct3) imm_ops
+
+abbrev shift_at : ℕ → ℕ → Option ImmOp
+shift_at funct7 funct3 =
+    if (funct7 == 0) && (funct3 == 1) then Some Slli
+    else if (funct7 == 0) && (funct3 == 5) then Some Srli
+    else if (funct7 == 32) && (funct3 == 5) then Some Srai
+    else None
+
+abbrev i_imm : Parts → ℤ
+i_imm p = signed 2048 (p.funct7 * 32 + p.rs2)
+
+abbrev s_imm : Parts → ℤ
+s_imm p = signed 2048 (p.funct7 * 32 + p.rd)
+
+abbrev b_offset : Parts → ℤ
+b_offset p = signed 4096 (p.funct7 / 64 * 4096 + p.rd % 2 * 2048 + p.funct7 % 64 * 32 + p.rd / 2 * 2)
+
+abbrev upper : Parts → ℕ
+upper p = p.funct7 * 8192 + p.rs2 * 256 + p.rs1 * 8 + p.funct3
+
+abbrev j_offset : Parts → ℤ
+j_offset p = signed 1048576 (p.funct7 / 64 * 1048576 + p.rs1 * 32768 + p.funct3 * 4096 + p.rs2 % 2 * 2048
+    + p.funct7 % 64 * 32 + p.rs2 / 2 * 2)
+
+abbrev imm_at : Parts → Option Instr
+imm_at p =
+    if (p.funct3 == 1) then option_map (λ op. OpImm op p.rd p.rs1 (pos p.rs2)) (shift_at p.funct7 p.funct3)
+    else if (p.funct3 == 5) then option_map (λ op. OpImm op p.rd p.rs1 (pos p.rs2)) (shift_at p.funct7 p.funct3)
+    else option_map (λ op. OpImm op p.rd p.rs1 (i_imm p)) (imm_op_at p.funct3)
+
+abbrev system_at : Parts → Option Instr
+system_at p =
+    if (word_of p == 0x00000073) then Some Ecall
+    else if (word_of p == 0x00100073) then Some Ebreak
+    else None
+
+read : Parts → Option Instr
+read p =
+    if (p.opcode == 0b0110111) then Some (Lui p.rd (upper p))
+    else if (p.opcode == 0b0010111) then Some (Auipc p.rd (upper p))
+    else if (p.opcode == 0b1101111) then Some (Jal p.rd (j_offset p))
+    else if (p.opcode == 0b1100111) then (if (p.funct3 == 0) then Some (Jalr p.rd p.rs1 (i_imm p)) else None)
+    else if (p.opcode == 0b1100011) then option_map (λ c. Branch c p.rs1 p.rs2 (b_offset p)) (cond_at p.funct3)
+    else if (p.opcode == 0b0000011) then option_map (λ k. Load k p.rd p.rs1 (i_imm p)) (load_at p.funct3)
+    else if (p.opcode == 0b0100011) then option_map (λ w. Store w p.rs1 p.rs2 (s_imm p)) (store_at p.funct3)
+    else if (p.opcode == 0b0010011) then imm_at p
+    else if (p.opcode == 0b0110011) then option_map (λ op. Op op p.rd p.rs1 p.rs2) (op_at p.funct7 p.funct3)
+    else if (p.opcode == 0b0001111) then (if (p.funct3 == 0) then Some (Fence (p.funct7 * 32 + p.rs2) p.rd p.rs1) else None)
+    else if (p.opcode == 0b1110011) then system_at p
+    else None
+
+-- the signed number of its two's complement
+imm12_again : (z : ℤ) → IsImm12 z → signed 2048 (modulo 12 z / 32 * 32 + modulo 12 z % 32) ≡ z
+imm12_again (pos n) r = grind arith
+imm12_again (negsuc n) r = grind arith
+
+cond_again : (c : Cond) → cond_at (cond_funct3 c) ≡ Some c
+cond_again Beq = refl
+cond_again Bne = refl
+cond_again Blt = refl
+cond_again Bge = refl
+cond_again Bltu = refl
+cond_again Bgeu = refl
+
+load_again : (k : LoadKind) → load_at (load_funct3 k) ≡ Some k
+load_again Lb = refl
+load_again Lh = refl
+load_again Lw = refl
+load_again Lbu = refl
+load_again Lhu = refl
+
+store_again : (w : StoreWidth) → store_at (store_funct3 w) ≡ Some w
+store_again Sb = refl
+store_again Sh = refl
+store_again Sw = refl
+
+op_again : (op : RegOp) → op_at (op_funct7 op) (op_funct3 op) ≡ Some op
+op_again Add = refl
+op_again Sub = refl
+op_again Sll = refl
+op_again Slt = refl
+op_again Sltu = refl
+op_again Xor = refl
+op_again Srl = refl
+op_again Sra = refl
+op_again Or = refl
+op_again And = refl
+op_again Mul = refl
+op_again Mulh = refl
+op_again Mulhsu = refl
+op_again Mulhu = refl
+op_again Div = refl
+op_again Divu = refl
+op_again Rem = refl
+op_again Remu = refl
+
+b_offset_again : (z : ℤ) → IsBetween (minus 4096) (pos 4094) z → IsEven z →
+    b_offset (parts 0 (bits (modulo 13 z) 4 1 * 2 + bits (modulo 13 z) 11 11) 0 0 0
+    (bits (modulo 13 z) 12 12 * 64 + bits (modulo 13 z) 10 5)) ≡ z
+b_offset_again (pos n) r even = grind arith
+b_offset_again (negsuc n) r even = grind arith
+
+j_offset_again : (z : ℤ) → IsBetween (minus 1048576) (pos 1048574) z → IsEven z →
+    let n = modulo 21 z in
+    j_offset (parts 0 0 (bits n 19 12 % 8) (bits n 19 12 / 8) (bits n 10 1 % 16 * 2 + bits n 11 11)
+    (bits n 20 20 * 64 + bits n 10 1 / 16)) ≡ z
+j_offset_again (pos n) r even = grind arith
+j_offset_again (negsuc n) r even = grind arith
+
+amount_again : (z : ℤ) → IsBetween (pos 0) (pos 31) z → pos (modulo 5 z) ≡ z
+amount_again (pos n) r = grind arith
+amount_again (negsuc n) r = grind arith
+
+imm_cut_read : (op : ImmOp) (rd rs1 : ℕ) (z : ℤ) → IsImmOf op z → read (imm_cut op z rs1 rd) ≡ Some (OpImm op rd rs1 z)
+unfolding imm_cut read
+imm_cut_read Slli rd rs1 z r = rw (amount_again z r) refl
+imm_cut_read Srli rd rs1 z r = rw (amount_again z r) refl
+imm_cut_read Srai rd rs1 z r = rw (amount_again z r) refl
+imm_cut_read Addi rd rs1 z r = rw (imm12_again z r) refl
+imm_cut_read Slti rd rs1 z r = rw (imm12_again z r) refl
+imm_cut_read Sltiu rd rs1 z r = rw (imm12_again z r) refl
+imm_cut_read Xori rd rs1 z r = rw (imm12_again z r) refl
+imm_cut_read Ori rd rs1 z r = rw (imm12_again z r) refl
+imm_cut_read Andi rd rs1 z r = rw (imm12_again z r) refl
+
+cut_read : (i : Instr) → InRange i → read (cut i) ≡ Some i
+unfolding cut read InRange
+cut_read (Op op rd rs1 rs2) r = rw (op_again op) refl
+cut_read (OpImm op rd rs1 z) r = imm_cut_read op rd rs1 z r.2
+cut_read (Load kind rd rs1 z) r = rw (load_again kind, imm12_again z r.2) refl
+cut_read (Store width rs1 rs2 z) r = rw (store_again width, imm12_again z r.2) refl
+cut_read (Branch cond rs1 rs2 z) r = rw (cond_again cond, b_offset_again z r.2.0 r.2.1) refl
+cut_read (Jal rd z) r = rw (j_offset_again z r.1.0 r.1.1) refl
+cut_read (Jalr rd rs1 z) r = rw (imm12_again z r.2) refl
+cut_read (Lui rd imm) r = let e : imm / 8192 * 8192 + imm / 256 % 32 * 256 + imm / 8 % 32 * 8 + imm % 8 ≡ imm = omega arith in rw e refl
+cut_read (Auipc rd imm) r = let e : imm / 8192 * 8192 + imm / 256 % 32 * 256 + imm / 8 % 32 * 8 + imm % 8 ≡ imm = omega arith in rw e refl
+cut_read (Fence imm rd rs1) r = let e : imm / 32 * 32 + imm % 32 ≡ imm = omega arith in rw e refl
+cut_read Ecall r = refl
+cut_read Ebreak r = refl
+
+-- no two instructions in range have one spelling
+same_spelling : (i j : Instr) → InRange i → InRange j → spelling i ≡ spelling j → i ≡ j
+same_spelling i j r s e =
+    let same : cut i ≡ cut j = cut_is (cut i) (cut_fits i r) j (s, cut_sum i ∙ e) in
+    let read_both : Some i ≡ Some j = sym (cut_read i r) ∙ ap read same ∙ cut_read j s in
+    cc
+
+-- a word spells one instruction at most
+pub one_spelling : OneSpelling
+one_spelling word i j p q = same_spelling i j p.0 q.0 (sym p.1 ∙ q.1)

@@ -1,0 +1,180 @@
+//! Reading a word as an instruction.
+ghost use Rattle.std.specs.Prelude.{◌≡◌, IfSome, IfNone};
+ghost use Rattle.rv_word.specs.declared.instr.Instr.{Instr};
+ghost use Rattle.rv_word.specs.Parts.{word_of, Fits, SpellsNone};
+ghost use Rattle.rv_word.specs.Spelling.{IsWordOf};
+
+use crate::instr::{Cond, ImmOp, Instr, LoadKind, RegOp, StoreWidth};
+use crate::opcode;
+use crate::parts::Parts;
+use crate::reg::Reg;
+
+/// The instruction that the word spells; `None` where it spells none.
+pub fn decode32(word: u32) -> Option<Instr>
+    ensures found { IfSome result (IsWordOf word) }
+    ensures only { (i : Instr) → IsWordOf word i → result ≡ Some i }
+{
+    Parts::of(word).instr()
+}
+
+// Below `instr` there is one function for each opcode of which some words spell nothing.
+#[tactic(auto, unfolding(crate::specs::Spelling::spelling, crate::specs::Spelling::InRange))]
+impl Parts {
+    /// The instruction that the parts' word spells.
+    fn instr(self) -> Option<Instr>
+        requires { Fits self }
+        ensures found { IfSome result (IsWordOf (word_of self)) }
+        ensures none { IfNone result (SpellsNone (word_of self)) }
+    {
+        match self.opcode {
+            opcode::LOAD => self.load(),
+            opcode::MISC_MEM => self.fence(),
+            opcode::OP_IMM => self.op_imm(),
+            opcode::AUIPC => Some(Instr::Auipc {
+                rd: Reg::of_field(self.rd),
+                imm: self.upper(),
+            }),
+            opcode::STORE => self.store(),
+            opcode::OP => self.op(),
+            opcode::LUI => Some(Instr::Lui {
+                rd: Reg::of_field(self.rd),
+                imm: self.upper(),
+            }),
+            opcode::BRANCH => self.branch(),
+            opcode::JALR => self.jalr(),
+            opcode::JAL => Some(Instr::Jal {
+                rd: Reg::of_field(self.rd),
+                offset: self.j_offset(),
+            }),
+            opcode::SYSTEM => self.system(),
+            _ => None,
+        }
+    }
+
+    fn load(self) -> Option<Instr>
+        requires fits { Fits self }
+        requires opcode { self.opcode ≡ 0b0000011 }
+        ensures found { IfSome result (IsWordOf (word_of self)) }
+        ensures none { IfNone result (SpellsNone (word_of self)) }
+    {
+        Some(Instr::Load {
+            kind: LoadKind::of(self.funct3)?,
+            rd: Reg::of_field(self.rd),
+            rs1: Reg::of_field(self.rs1),
+            imm: self.i_imm(),
+        })
+    }
+
+    fn fence(self) -> Option<Instr>
+        requires fits { Fits self }
+        requires opcode { self.opcode ≡ 0b0001111 }
+        ensures found { IfSome result (IsWordOf (word_of self)) }
+        ensures none { IfNone result (SpellsNone (word_of self)) }
+    {
+        if self.funct3 != 0b000 {
+            return None;
+        }
+        Some(Instr::Fence {
+            imm: self.i_bits(),
+            rd: Reg::of_field(self.rd),
+            rs1: Reg::of_field(self.rs1),
+        })
+    }
+
+    fn op_imm(self) -> Option<Instr>
+        requires fits { Fits self }
+        requires opcode { self.opcode ≡ 0b0010011 }
+        ensures found { IfSome result (IsWordOf (word_of self)) }
+        ensures none { IfNone result (SpellsNone (word_of self)) }
+    {
+        if let Some(op) = ImmOp::of(self.funct3) {
+            return Some(Instr::OpImm {
+                op,
+                rd: Reg::of_field(self.rd),
+                rs1: Reg::of_field(self.rs1),
+                imm: self.i_imm(),
+            });
+        }
+        Some(Instr::OpImm {
+            op: ImmOp::shift_of(self.funct7, self.funct3)?,
+            rd: Reg::of_field(self.rd),
+            rs1: Reg::of_field(self.rs1),
+            imm: self.rs2 as i32,
+        })
+    }
+
+    fn store(self) -> Option<Instr>
+        requires fits { Fits self }
+        requires opcode { self.opcode ≡ 0b0100011 }
+        ensures found { IfSome result (IsWordOf (word_of self)) }
+        ensures none { IfNone result (SpellsNone (word_of self)) }
+    {
+        Some(Instr::Store {
+            width: StoreWidth::of(self.funct3)?,
+            rs1: Reg::of_field(self.rs1),
+            rs2: Reg::of_field(self.rs2),
+            imm: self.s_imm(),
+        })
+    }
+
+    fn op(self) -> Option<Instr>
+        requires fits { Fits self }
+        requires opcode { self.opcode ≡ 0b0110011 }
+        ensures found { IfSome result (IsWordOf (word_of self)) }
+        ensures none { IfNone result (SpellsNone (word_of self)) }
+    {
+        Some(Instr::Op {
+            op: RegOp::of(self.funct7, self.funct3)?,
+            rd: Reg::of_field(self.rd),
+            rs1: Reg::of_field(self.rs1),
+            rs2: Reg::of_field(self.rs2),
+        })
+    }
+
+    fn branch(self) -> Option<Instr>
+        requires fits { Fits self }
+        requires opcode { self.opcode ≡ 0b1100011 }
+        ensures found { IfSome result (IsWordOf (word_of self)) }
+        ensures none { IfNone result (SpellsNone (word_of self)) }
+    {
+        Some(Instr::Branch {
+            cond: Cond::of(self.funct3)?,
+            rs1: Reg::of_field(self.rs1),
+            rs2: Reg::of_field(self.rs2),
+            offset: self.b_offset(),
+        })
+    }
+
+    fn jalr(self) -> Option<Instr>
+        requires fits { Fits self }
+        requires opcode { self.opcode ≡ 0b1100111 }
+        ensures found { IfSome result (IsWordOf (word_of self)) }
+        ensures none { IfNone result (SpellsNone (word_of self)) }
+    {
+        if self.funct3 != 0b000 {
+            return None;
+        }
+        Some(Instr::Jalr {
+            rd: Reg::of_field(self.rd),
+            rs1: Reg::of_field(self.rs1),
+            imm: self.i_imm(),
+        })
+    }
+
+    fn system(self) -> Option<Instr>
+        requires fits { Fits self }
+        requires opcode { self.opcode ≡ 0b1110011 }
+        ensures found { IfSome result (IsWordOf (word_of self)) }
+        ensures none { IfNone result (SpellsNone (word_of self)) }
+    {
+        // Both words have nothing but the opcode and rs2's bits.
+        let zeros = self.funct7 == 0 && self.rs1 == 0 && self.funct3 == 0 && self.rd == 0;
+        if zeros && self.rs2 == 0 {
+            Some(Instr::Ecall)
+        } else if zeros && self.rs2 == 1 {
+            Some(Instr::Ebreak)
+        } else {
+            None
+        }
+    }
+}
