@@ -1,0 +1,103 @@
+-- What stands at the front of a list of bytes: one front, and the one that its first halfword leads to.
+use Rattle.std.proofs.Common.{◌≡◌, ℕ, ◌<◌, ◌≤◌, refl, ap, subst, sym, ◌∙◌, List, length, take, get_or, arith, inl, inr}
+use Rattle.std.proofs.lemmas.List.{get_or-take}
+use Rattle.std.specs.Prelude.{slice_index}
+use Rattle.std.specs.Int.{w16, w32, from_le_bytes}
+use Rattle.rv_word.specs.declared.instr.Instr.{Instr}
+use Rattle.rv_word.specs.declared.length.Length.TheVariants as lengths
+use Rattle.rv_word.specs.Lengths.{length_of}
+use Rattle.rv_word.specs.Laws.{SpellingsAreWide}
+use Rattle.rv_word.specs.Spelling.{IsWordOf}
+use Rattle.rv_comp.specs.Halfwords.{IsShortSpelling}
+use Rattle.rv_comp.specs.Fronts.{Spells, IsCutShort, SpellsNothing, IsFront, IsOnlyFront}
+use Rattle.rv_comp.specs.Laws.{OneSpelling, OneFront}
+use Rattle.rv_comp.specs.declared.front.Front.{Front}
+use Rattle.rv_comp.specs.declared.front.Front.TheVariants.{Read, Short, Bad}
+use Rattle.rv_comp.proofs.Bytes.{first_two, first_four, two_bytes, four_bytes, short_long, wide_long, short_at, wide_at, short_length, wide_length, word_begins, not_both, not_short_longer, not_wide_longer}
+
+-- ---- one front
+
+-- what is spelled isn't cut short
+whole : (bs : List ℕ) (i : Instr) (n : ℕ) → Spells (take n bs) i n → IsCutShort bs → ⊥
+whole bs i n (inl s) (inl few) = let long = short_long bs n i s in omega arith
+whole bs i n (inl s) (inr cut) =
+    let spelled : IsShortSpelling (from_le_bytes w16 (take 2 bs)) i = subst (λ (k : ℕ). IsShortSpelling (from_le_bytes w16 (take k bs)) i) s.size s.spelled in
+    not_both _ (short_length _ i spelled) cut.1
+whole bs i n (inr s) (inl few) = let long = wide_long bs n i s in omega arith
+whole bs i n (inr s) (inr cut) = let long = wide_long bs n i s in let few = cut.0 in omega arith
+
+take_at : (bs : List ℕ) (m n k : ℕ) → k < m → k < n → slice_index (take m bs) k ≡ slice_index (take n bs) k
+take_at bs m n k a b = get_or-take m bs k 0 a ∙ sym (get_or-take n bs k 0 b)
+
+same_read : (i j : Instr) (m n : ℕ) → (i ≡ j) × (m ≡ n) → Read i m ≡ Read j n
+same_read i j m n (same, size) = cc
+
+pub front_one : OneSpelling → OneFront
+front_one one bs (Read i m) (Read j n) s t = same_read i j m n (one (take m bs) (take n bs) i j m n s t (take_at bs m n))
+front_one one bs (Read i m) Short s t = absurd (whole bs i m s t)
+front_one one bs (Read i m) Bad s t = absurd (t.unspelled i m s)
+front_one one bs Short (Read j n) s t = absurd (whole bs j n t s)
+front_one one bs Short Short s t = refl
+front_one one bs Short Bad s t = absurd (t.enough s)
+front_one one bs Bad (Read j n) s t = absurd (s.unspelled j n t)
+front_one one bs Bad Short s t = absurd (s.enough t)
+front_one one bs Bad Bad s t = refl
+
+-- ---- the front by its first halfword
+
+-- where the first halfword doesn't begin a 32-bit instruction, or four bytes are there, nothing is cut short
+uncut : (bs : List ℕ) (first : ℕ) → 2 ≤ length bs → first ≡ from_le_bytes w16 (first_two bs) → (length bs < 4 → length_of first ≡ lengths.Wide → ⊥) → IsCutShort bs → ⊥
+uncut bs first long e h (inl few) = omega arith
+uncut bs first long e h (inr cut) = h cut.0 (ap length_of (e ∙ ap (from_le_bytes w16) (sym (two_bytes bs long))) ∙ cut.1)
+
+pub halfword_front : SpellingsAreWide → (bs : List ℕ) (first : ℕ) (front : Front) → 2 ≤ length bs → ((k : ℕ) → get_or bs k 0 < 256) → first ≡ from_le_bytes w16 (first_two bs) → length_of first ≡ lengths.Short → IsOnlyFront (λ i. IsShortSpelling first i) 2 front → IsFront bs front
+halfword_front law bs first (Read i n) long small e is (size, spelled) =
+    let t : take n bs ≡ first_two bs = ap (λ (k : ℕ). take k bs) size ∙ two_bytes bs long in
+    inl (record {
+      size = size;
+      all = ap length t;
+      spelled = subst (λ (h : ℕ). IsShortSpelling h i) (e ∙ ap (from_le_bytes w16) (sym t)) spelled;
+    })
+halfword_front law bs first Short long small e is never = absurd never
+halfword_front law bs first Bad long small e is none =
+    record {
+      enough = uncut bs first long e (λ few wide. not_both _ is wide);
+      unspelled = unspelled;
+    }
+  where
+    unspelled : (i : Instr) (n : ℕ) → Spells (take n bs) i n → ⊥
+    unspelled i n (inl s) = none i (short_at bs n first i long e s)
+    unspelled i n (inr s) = not_both _ is (wide_length law _ first i (wide_at bs n i s) (word_begins bs first small e))
+
+pub word_front : (bs : List ℕ) (first word : ℕ) (front : Front) → 4 ≤ length bs → first ≡ from_le_bytes w16 (first_two bs) → word ≡ from_le_bytes w32 (first_four bs) → length_of first ≡ lengths.Wide → IsOnlyFront (λ i. IsWordOf word i) 4 front → IsFront bs front
+word_front bs first word (Read i n) long e f is (size, spelled) =
+    let t : take n bs ≡ first_four bs = ap (λ (k : ℕ). take k bs) size ∙ four_bytes bs long in
+    inr (record {
+      size = size;
+      all = ap length t;
+      spelled = subst (λ (w : ℕ). IsWordOf w i) (f ∙ ap (from_le_bytes w32) (sym t)) spelled;
+    })
+word_front bs first word Short long e f is never = absurd never
+word_front bs first word Bad long e f is none =
+    record {
+      enough = uncut bs first (omega arith) e (λ few wide. omega arith);
+      unspelled = unspelled;
+    }
+  where
+    unspelled : (i : Instr) (n : ℕ) → Spells (take n bs) i n → ⊥
+    unspelled i n (inl s) = not_both _ (short_length first i (short_at bs n first i (omega arith) e s)) is
+    unspelled i n (inr s) = none i (subst (λ (w : ℕ). IsWordOf w i) (sym f) (wide_at bs n i s))
+
+pub longer_front : SpellingsAreWide → (bs : List ℕ) (first : ℕ) → 2 ≤ length bs → ((k : ℕ) → get_or bs k 0 < 256) → first ≡ from_le_bytes w16 (first_two bs) → length_of first ≡ lengths.Longer → SpellsNothing bs
+longer_front law bs first long small e is =
+    record {
+      enough = uncut bs first long e (λ few wide. not_wide_longer _ wide is);
+      unspelled = unspelled;
+    }
+  where
+    unspelled : (i : Instr) (n : ℕ) → Spells (take n bs) i n → ⊥
+    unspelled i n (inl s) = not_short_longer _ (short_length first i (short_at bs n first i long e s)) is
+    unspelled i n (inr s) = not_wide_longer _ (wide_length law _ first i (wide_at bs n i s) (word_begins bs first small e)) is
+
+pub cut_front : (bs : List ℕ) (first : ℕ) → 2 ≤ length bs → length bs < 4 → first ≡ from_le_bytes w16 (first_two bs) → length_of first ≡ lengths.Wide → IsCutShort bs
+cut_front bs first long few e is = inr (few, ap length_of (ap (from_le_bytes w16) (two_bytes bs long) ∙ sym e) ∙ is)

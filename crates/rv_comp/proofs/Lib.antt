@@ -1,0 +1,11 @@
+pub mod Boxes
+pub mod Bytes
+pub mod Exact
+pub mod Firsts
+pub mod Fronts
+pub mod Moves
+pub mod Ranges
+pub mod Reach
+pub mod Same
+pub mod Spellings
+pub mod Whole

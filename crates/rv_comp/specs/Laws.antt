@@ -1,0 +1,31 @@
+-- What holds of every spelling.
+use Rattle.std.specs.Prelude.{◌≡◌, ℕ, ◌<◌, ◌⊎◌, List, slice_index}
+use Rattle.rv_word.specs.declared.instr.Instr.{Instr}
+use Rattle.rv_word.specs.declared.instr.Instr.TheVariants.{Ecall}
+use Rattle.rv_word.specs.Spelling.{InRange}
+use Rattle.rv_comp.specs.Fronts.{Spells, IsFront}
+use Rattle.rv_comp.specs.declared.front.Front.{Front}
+
+-- two lists of bytes that agree as far as both spellings go spell one instruction, with one length
+abbrev pub OneSpelling : Type 0
+OneSpelling =
+    (bytes others : List ℕ) (i j : Instr) (m n : ℕ) → Spells bytes i m → Spells others j n
+    → ((k : ℕ) → k < m → k < n → slice_index bytes k ≡ slice_index others k)
+    → (i ≡ j) × (m ≡ n)
+
+-- an instruction has two bytes or four
+abbrev pub TwoLengths : Type 0
+TwoLengths = (bytes : List ℕ) (i : Instr) (n : ℕ) → Spells bytes i n → (n ≡ 2) ⊎ (n ≡ 4)
+
+-- an ecall has four bytes
+abbrev pub EcallIsWide : Type 0
+EcallIsWide = (bytes : List ℕ) (n : ℕ) → Spells bytes Ecall n → n ≡ 4
+
+-- the fields of what is spelled are in range; so the offset of a branch or a jump is even
+abbrev pub SpelledInRange : Type 0
+SpelledInRange = (bytes : List ℕ) (i : Instr) (n : ℕ) → Spells bytes i n → InRange i
+
+-- a list of bytes has one front at most (and `read_front` finds one)
+abbrev pub OneFront : Type 0
+OneFront =
+    (bytes : List ℕ) (front other : Front) → IsFront bytes front → IsFront bytes other → front ≡ other

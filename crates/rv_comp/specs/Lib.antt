@@ -1,0 +1,6 @@
+pub mod Bits
+pub mod Fronts
+pub mod Halfwords
+pub mod Laws
+pub mod Table
+pub mod mirror

@@ -1,0 +1,103 @@
+//! The 16-bit forms, and the instructions that they stand for.
+use crate::build::{arithmetic, branch_on_zero, immediate, jump, jump_to, load, store, upper};
+use crate::register::register;
+use rv_word::{Cond, ImmOp, Instr, Reg, RegOp};
+
+/// A 16-bit instruction, by its form's name.
+///
+/// A row may allow fewer values of its fields than their types do: see [`crate::encode16`]. Offsets
+/// count bytes; the immediate of C.LUI is the number that it writes.
+#[derive(Clone, Copy, PartialEq, Eq, Debug)]
+pub enum Form16 {
+    /// rd becomes x2 plus a multiple of 4 from 4 to 1020.
+    CAddi4spn { rd: Reg, imm: i32 },
+    /// Loads a word at rs1 plus a multiple of 4 from 0 to 124.
+    CLw { rd: Reg, rs1: Reg, imm: i32 },
+    /// Stores rs2 at rs1 plus a multiple of 4 from 0 to 124.
+    CSw { rs1: Reg, rs2: Reg, imm: i32 },
+    /// Adds a number from -32 to 31 to rd.
+    CAddi { rd: Reg, imm: i32 },
+    /// Jumps by an even offset from -2048 to 2046, and links x1.
+    CJal { imm: i32 },
+    /// rd becomes a number from -32 to 31.
+    CLi { rd: Reg, imm: i32 },
+    /// Adds a multiple of 16 from -512 to 496, not 0, to x2.
+    CAddi16sp { imm: i32 },
+    /// rd, not x2, becomes a multiple of 4096 from -131072 to 126976, not 0.
+    CLui { rd: Reg, imm: i32 },
+    /// Shifts rd right by 0 to 31, filling with zeros.
+    CSrli { rd: Reg, imm: i32 },
+    /// Shifts rd right by 0 to 31, filling with its sign.
+    CSrai { rd: Reg, imm: i32 },
+    /// Ands a number from -32 to 31 into rd.
+    CAndi { rd: Reg, imm: i32 },
+    /// Subtracts rs2 from rd.
+    CSub { rd: Reg, rs2: Reg },
+    /// Combines rs2 into rd by exclusive or.
+    CXor { rd: Reg, rs2: Reg },
+    /// Ors rs2 into rd.
+    COr { rd: Reg, rs2: Reg },
+    /// Ands rs2 into rd.
+    CAnd { rd: Reg, rs2: Reg },
+    /// Jumps by an even offset from -2048 to 2046.
+    CJ { imm: i32 },
+    /// Where rs1 is 0, jumps by an even offset from -256 to 254.
+    CBeqz { rs1: Reg, imm: i32 },
+    /// Where rs1 isn't 0, jumps by an even offset from -256 to 254.
+    CBnez { rs1: Reg, imm: i32 },
+    /// Shifts rd left by 0 to 31.
+    CSlli { rd: Reg, imm: i32 },
+    /// Loads a word into rd, not x0, at x2 plus a multiple of 4 from 0 to 252.
+    CLwsp { rd: Reg, imm: i32 },
+    /// Jumps to rs1, not x0.
+    CJr { rs1: Reg },
+    /// Jumps to rs1, not x0, and links x1.
+    CJalr { rs1: Reg },
+    /// rd becomes rs2, not x0.
+    CMv { rd: Reg, rs2: Reg },
+    /// Adds rs2, not x0, to rd.
+    CAdd { rd: Reg, rs2: Reg },
+    /// Traps to the debugger.
+    CEbreak,
+    /// Stores rs2 at x2 plus a multiple of 4 from 0 to 252.
+    CSwsp { rs2: Reg, imm: i32 },
+}
+
+impl Form16 {
+    ghost use Rattle.std.specs.Prelude.{◌≡◌};
+    ghost use Rattle.rv_comp.specs.Table.{expansion};
+
+    /// The 32-bit instruction that the form stands for.
+    pub fn expand(&self) -> Instr
+        ensures { result ≡ expansion self.now }
+    {
+        match *self {
+            Form16::CAddi4spn { rd, imm } => immediate(ImmOp::Addi, rd, register(2), imm),
+            Form16::CLw { rd, rs1, imm } => load(rd, rs1, imm),
+            Form16::CSw { rs1, rs2, imm } => store(rs1, rs2, imm),
+            Form16::CAddi { rd, imm } => immediate(ImmOp::Addi, rd, rd, imm),
+            Form16::CJal { imm } => jump(register(1), imm),
+            Form16::CLi { rd, imm } => immediate(ImmOp::Addi, rd, register(0), imm),
+            Form16::CAddi16sp { imm } => immediate(ImmOp::Addi, register(2), register(2), imm),
+            Form16::CLui { rd, imm } => upper(rd, imm),
+            Form16::CSrli { rd, imm } => immediate(ImmOp::Srli, rd, rd, imm),
+            Form16::CSrai { rd, imm } => immediate(ImmOp::Srai, rd, rd, imm),
+            Form16::CAndi { rd, imm } => immediate(ImmOp::Andi, rd, rd, imm),
+            Form16::CSub { rd, rs2 } => arithmetic(RegOp::Sub, rd, rd, rs2),
+            Form16::CXor { rd, rs2 } => arithmetic(RegOp::Xor, rd, rd, rs2),
+            Form16::COr { rd, rs2 } => arithmetic(RegOp::Or, rd, rd, rs2),
+            Form16::CAnd { rd, rs2 } => arithmetic(RegOp::And, rd, rd, rs2),
+            Form16::CJ { imm } => jump(register(0), imm),
+            Form16::CBeqz { rs1, imm } => branch_on_zero(Cond::Beq, rs1, imm),
+            Form16::CBnez { rs1, imm } => branch_on_zero(Cond::Bne, rs1, imm),
+            Form16::CSlli { rd, imm } => immediate(ImmOp::Slli, rd, rd, imm),
+            Form16::CLwsp { rd, imm } => load(rd, register(2), imm),
+            Form16::CJr { rs1 } => jump_to(register(0), rs1),
+            Form16::CJalr { rs1 } => jump_to(register(1), rs1),
+            Form16::CMv { rd, rs2 } => arithmetic(RegOp::Add, rd, register(0), rs2),
+            Form16::CAdd { rd, rs2 } => arithmetic(RegOp::Add, rd, rd, rs2),
+            Form16::CEbreak => Instr::Ebreak,
+            Form16::CSwsp { rs2, imm } => store(register(2), rs2, imm),
+        }
+    }
+}

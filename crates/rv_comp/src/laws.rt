@@ -1,0 +1,33 @@
+//! What holds of every spelling. A caller calls one to have its statement at hand.
+ghost use Rattle.rv_comp.specs.Laws.{OneSpelling, TwoLengths, EcallIsWide, SpelledInRange, OneFront};
+
+/// Two lists of bytes that agree as far as both spellings go spell one instruction, with one
+/// length.
+pub fn one_spelling()
+    ensures { OneSpelling }
+{
+    rv_word::laws::one_spelling();
+    rv_word::laws::spellings_are_wide();
+}
+
+/// An instruction has two bytes or four.
+pub fn two_lengths()
+    ensures { TwoLengths }
+{}
+
+/// An ecall has four bytes.
+pub fn ecall_is_wide()
+    ensures { EcallIsWide }
+{}
+
+/// The fields of what is spelled are in range; so the offset of a branch or a jump is even.
+pub fn spelled_in_range()
+    ensures { SpelledInRange }
+{}
+
+/// A list of bytes has one front at most.
+pub fn one_front()
+    ensures { OneFront }
+{
+    one_spelling();
+}
