@@ -1,0 +1,59 @@
+-- What fields that pass their tests are.
+use Rattle.std.proofs.Common.{◌≡◌, List, [], ◌∷◌, ◌++◌, refl, sym, subst, arith, inl, inr, Option, None}
+use Rattle.std.specs.List.{All, AllPairs, AllByRecursion}
+use Rattle.sfi_image.specs.declared.fields.Fields.{Fields}
+use Rattle.sfi_image.specs.declared.span.Span.{Span}
+use Rattle.sfi_image.specs.declared.fault.LayoutFault.{LayoutFault}
+use Rattle.sfi_image.specs.Spelling.{Part, fields_of, AreFieldWords, AreGateWords}
+use Rattle.sfi_image.specs.Spans.{AreApart, IsBounded, code_span, guarded_span, spans_of}
+use Rattle.sfi_image.specs.Gates.{AreGates}
+use Rattle.sfi_image.specs.Parts.{IsRightPart}
+use Rattle.sfi_image.specs.Tests.{FieldTest, Passes, IsFirstFault, field_tests}
+use Rattle.sfi_image.specs.Tests.FieldTest.{Code, Data, GuardRoom, Start, Gates, Init, Overlap}
+
+-- where no test fails, each is passed
+pub all_pass : (before : List Span) (f : Fields) (ts : List FieldTest) → IsFirstFault before f ts None → AllByRecursion (Passes before f) ts
+all_pass before f [] h = tt
+all_pass before f (t ∷ ts) (inl h) = (h.0, all_pass before f ts h.1)
+all_pass before f (t ∷ ts) (inr h) = let e = h.1 in absurd cc
+
+-- and the other way round
+pub none_fails : (before : List Span) (f : Fields) (ts : List FieldTest) → AllByRecursion (Passes before f) ts → IsFirstFault before f ts None
+none_fails before f [] h = refl
+none_fails before f (t ∷ ts) h = inl (h.0, none_fails before f ts h.1)
+
+-- behind six tests that are passed, the seventh
+pub at_overlap : (before : List Span) (f : Fields) (found : Option LayoutFault) → Passes before f Code → Passes before f Data → Passes before f GuardRoom
+    → Passes before f Start → Passes before f Gates → Passes before f Init → IsFirstFault before f (Overlap ∷ []) found → IsFirstFault before f field_tests found
+at_overlap before f found code guarded room start gates init last = inl (code, inl (guarded, inl (room, inl (start, inl (gates, inl (init, last))))))
+
+-- spans of fields that pass hold an address and end below 2 ^ 64
+pub passed_bounded : (before : List Span) (f : Fields) → IsFirstFault before f field_tests None → AreFieldWords f → IsBounded (code_span f) × IsBounded (guarded_span f)
+passed_bounded before f passed words =
+    let all = all_pass before f field_tests passed in (
+      record { some = omega (arith, all.0.at_least); end = omega (arith, words.code_base, words.code_size) },
+      record { some = omega arith; end = omega (arith, words.data_base, words.data_size) },
+    )
+
+-- a sandbox whose fields pass and whose gates are right is right, and its spans lie apart from those before
+pub right_part : (before : List Span) (p : Part) (f : Fields) → fields_of p ≡ f → AreFieldWords f → IsFirstFault before f field_tests None
+    → All AreGateWords p.gates → AreGates (code_span f) p.gates → IsRightPart p × AllPairs AreApart (before ++ spans_of f)
+right_part before p f is words passed gate_words gates =
+    let all = all_pass before (fields_of p) field_tests (subst (λ (g : Fields). IsFirstFault before g field_tests None) (sym is) passed) in (
+      record {
+        words = record { fields = subst AreFieldWords (sym is) words; gates = gate_words };
+        code_placed = all.0;
+        data_placed = all.1.0;
+        guard_room = all.1.1.0;
+        start = all.1.1.1.0;
+        gate_count = all.1.1.1.1.0;
+        init_len = all.1.1.1.1.1.0;
+        gates = subst (λ (g : Fields). AreGates (code_span g) p.gates) (sym is) gates;
+      },
+      (all_pass before f field_tests passed).1.1.1.1.1.1.0,
+    )
+
+-- the fields of a right sandbox that lies apart from those before pass
+pub part_passes : (before : List Span) (p : Part) → IsRightPart p → AllPairs AreApart (before ++ spans_of (fields_of p)) → IsFirstFault before (fields_of p) field_tests None
+part_passes before p right apart =
+    none_fails before (fields_of p) field_tests (right.code_placed, (right.data_placed, (right.guard_room, (right.start, (right.gate_count, (right.init_len, (apart, tt)))))))

@@ -1,0 +1,9 @@
+pub mod Numbers
+pub mod Regions
+pub mod GateLists
+pub mod SpanLists
+pub mod FieldTests
+pub mod PartLists
+pub mod Whole
+pub mod Cancelling
+pub mod OneReading

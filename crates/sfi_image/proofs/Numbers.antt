@@ -1,0 +1,26 @@
+-- Numbers and their bytes.
+use Rattle.std.proofs.Common.{◌≡◌, ℕ, ◌<◌, List, length, get_or, take, refl, arith, inl, inr}
+use Rattle.std.proofs.lemmas.Nat.{le_bytes_4}
+use Rattle.std.proofs.lemmas.List.{get_or-take, get_or_past, length-take}
+use Rattle.std.proofs.lemmas.Bool.{cases_lt}
+use Rattle.byteorder.specs.Endian.{little_number}
+use Rattle.sfi_image.specs.Spelling.{number}
+
+abbrev pub IsBytes : List ℕ → Type 0
+IsBytes bytes = (i : ℕ) → get_or bytes i 0 < 256
+
+-- the bytes of the number that four bytes are
+pub number_of_bytes : (bs : List ℕ) (n : ℕ) → length bs ≡ 4 → IsBytes bs → n ≡ little_number 4 bs → number n ≡ bs
+unfolding number
+number_of_bytes bs n len fits e = le_bytes_4 bs n len fits (omega (arith, e))
+
+pub length-number : (n : ℕ) → length (number n) ≡ 4
+unfolding number
+length-number n = refl
+
+pub IsBytes-take : (n : ℕ) (bytes : List ℕ) → IsBytes bytes → IsBytes (take n bytes)
+IsBytes-take n bytes h i =
+    elim (cases_lt i n) [
+      | inl lt ↦ rw (get_or-take n bytes i 0 lt) (h i)
+      | inr le ↦ rw (get_or_past (take n bytes) i 0 (omega (arith, length-take n bytes))) (omega arith)
+    ]

@@ -1,0 +1,274 @@
+-- Bytes have one image or one fault.
+use Rattle.std.proofs.Common.{◌≡◌, ℕ, ◌+◌, ◌<◌, ◌≤◌, List, [], ◌∷◌, ◌++◌, length, take, refl, sym, ap, subst, ◌∙◌, arith, append_assoc, inl, inr, ◌⊎◌, Some, None, Option, Result, Ok, Err}
+use Rattle.std.specs.List.{All, AllPairs, flat_map}
+use Rattle.std.proofs.Math.Seq.{take-append_seam}
+use Rattle.std.proofs.lemmas.Grind.{flat_map-append}
+use Rattle.std.proofs.lemmas.List.{length-append, append-nil}
+use Rattle.sfi_image.specs.declared.part.Gate.{Gate}
+use Rattle.sfi_image.specs.declared.fields.Fields.{Fields}
+use Rattle.sfi_image.specs.declared.span.Span.{Span}
+use Rattle.sfi_image.specs.declared.fault.LayoutFault.{LayoutFault}
+use Rattle.sfi_image.specs.declared.fault.LayoutFault.TheVariants.{Count, Short, Gates, Trailing}
+use Rattle.sfi_image.specs.declared.fault.ImageFault.{ImageFault}
+use Rattle.sfi_image.specs.declared.fault.ImageFault.TheVariants as errors
+use Rattle.sfi_image.specs.Outcome.{Reads}
+use Rattle.sfi_image.specs.Spelling.{Part, fields_of, number, gate, part, magic, spelling, AreGateWords}
+use Rattle.sfi_image.specs.Spans.{AreApart, code_span, spans_of, spans}
+use Rattle.sfi_image.specs.Gates.{AreGates}
+use Rattle.sfi_image.specs.Parts.{IsRightPart, AreRight}
+use Rattle.sfi_image.specs.Tests.{FieldTest, IsFirstFault, field_tests}
+use Rattle.sfi_image.specs.Images.{IsImage}
+use Rattle.sfi_image.specs.Faults.{IsBodyFault, IsPartFault, ArePartsFault, IsCountFault, IsFault}
+use Rattle.sfi_image.proofs.GateLists.{front_gates}
+use Rattle.sfi_image.proofs.SpanLists.{front_apart}
+use Rattle.sfi_image.proofs.FieldTests.{part_passes}
+use Rattle.sfi_image.proofs.Cancelling.{same_front, same_number, same_gate, same_fields, same_part, same_list, fronts, GoesOn, length-gate, length-fields, part_split}
+
+-- ---- the fields
+
+-- one test at most is the first that fails
+one_field_fault : (before : List Span) (f : Fields) (ts : List FieldTest) (j k : Option LayoutFault) → IsFirstFault before f ts j → IsFirstFault before f ts k → j ≡ k
+one_field_fault before f [] j k a b = a ∙ sym b
+one_field_fault before f (t ∷ ts) j k (inl a) (inl b) = one_field_fault before f ts j k a.1 b.1
+one_field_fault before f (t ∷ ts) j k (inl a) (inr b) = absurd (b.0 a.0)
+one_field_fault before f (t ∷ ts) j k (inr a) (inl b) = absurd (a.0 b.0)
+one_field_fault before f (t ∷ ts) j k (inr a) (inr b) = a.1 ∙ sym b.1
+
+same_some : (j k : LayoutFault) → Some j ≡ Some k → j ≡ k
+same_some j k e = cc
+
+not_some : (k : LayoutFault) → None ≡ Some k → ⊥
+not_some k e = absurd cc
+
+-- ---- the gates
+
+-- what is wrong behind these gates
+abbrev BehindGates : Fields → List Gate → List ℕ → LayoutFault → Type 0
+BehindGates f gs rest k =
+    ((length gs < f.gate_count) × (length rest < 8) × (k ≡ Short))
+    ⊎ (((length gs < f.gate_count) × (g : Gate) × (after : List ℕ) × (rest ≡ gate g ++ after) × AreGateWords g
+    × (¬ AreGates (code_span f) (gs ++ g ∷ [])) × (k ≡ Gates))
+    ⊎ ((length gs ≡ f.gate_count) × (length rest < f.code_size + f.init_len) × (k ≡ Short)))
+
+behind_count : (f : Fields) (gs : List Gate) (rest : List ℕ) (k : LayoutFault) → BehindGates f gs rest k → length gs ≤ f.gate_count
+behind_count f gs rest k (inl a) = omega (arith, a.0)
+behind_count f gs rest k (inr (inl a)) = omega (arith, a.0)
+behind_count f gs rest k (inr (inr a)) = omega (arith, a.0)
+
+-- nothing is, where right gates go on there
+gates_go_on : (f : Fields) (xs gs : List Gate) (rest : List ℕ) (k : LayoutFault) → AreGates (code_span f) xs → length xs ≤ f.gate_count
+    → GoesOn gate AreGateWords same_gate xs gs rest → BehindGates f gs rest k → ⊥
+gates_go_on f xs gs rest k are le on (inl a) = omega (arith, a.1, ap length on.5, length-gate on.0 on.2)
+gates_go_on f xs gs rest k are le on (inr (inl a)) =
+    let same = same_gate a.1 on.0 a.2 on.2 a.4 on.3 (sym a.3 ∙ on.5) in
+    let long : xs ≡ (gs ++ on.0 ∷ []) ++ on.1 = on.4 ∙ sym (append_assoc gs (on.0 ∷ []) on.1) in
+    let front = front_gates (code_span f) (gs ++ on.0 ∷ []) on.1 (subst (AreGates (code_span f)) long are) in
+    a.5 (subst (λ (g : Gate). AreGates (code_span f) (gs ++ g ∷ [])) (sym same.0) front)
+gates_go_on f xs gs rest k are le on (inr (inr a)) = omega (arith, a.0, le, ap length on.4, length-append gs (on.0 ∷ on.1))
+
+behind_gates : (f : Fields) (gs : List Gate) (rest : List ℕ) (j k : LayoutFault) → BehindGates f gs rest j → BehindGates f gs rest k → j ≡ k
+behind_gates f gs rest j k (inl a) (inl b) = a.2 ∙ sym b.2
+behind_gates f gs rest j k (inl a) (inr (inl b)) = absurd (omega (arith, a.1, ap length b.3, length-gate b.1 b.2))
+behind_gates f gs rest j k (inl a) (inr (inr b)) = absurd (omega (arith, a.0, b.0))
+behind_gates f gs rest j k (inr (inl a)) (inl b) = absurd (omega (arith, b.1, ap length a.3, length-gate a.1 a.2))
+behind_gates f gs rest j k (inr (inl a)) (inr (inl b)) = a.6 ∙ sym b.6
+behind_gates f gs rest j k (inr (inl a)) (inr (inr b)) = absurd (omega (arith, a.0, b.0))
+behind_gates f gs rest j k (inr (inr a)) (inl b) = absurd (omega (arith, a.0, b.0))
+behind_gates f gs rest j k (inr (inr a)) (inr (inl b)) = absurd (omega (arith, a.0, b.0))
+behind_gates f gs rest j k (inr (inr a)) (inr (inr b)) = a.2 ∙ sym b.2
+
+one_body_fault : (f : Fields) (bytes : List ℕ) (j k : LayoutFault) → IsBodyFault f bytes j → IsBodyFault f bytes k → j ≡ k
+one_body_fault f bytes j k (gs, rest, ea, wa, ra, a) (hs, more, eb, wb, rb, b) =
+    elim (fronts gate AreGateWords same_gate gs hs rest more wa wb (sym ea ∙ eb)) [
+      | inl both ↦ behind_gates f hs more j k (subst (λ (t : List ℕ). BehindGates f hs t j) both.1 (subst (λ (g : List Gate). BehindGates f g rest j) both.0 a)) b
+      | inr (inl on) ↦ absurd (gates_go_on f gs hs more k ra (behind_count f gs rest j a) on b)
+      | inr (inr on) ↦ absurd (gates_go_on f hs gs rest j rb (behind_count f hs more k b) on a)
+    ]
+
+-- right gates with the code and the data behind them have no fault
+no_body_fault : (f : Fields) (gs : List Gate) (rest : List ℕ) (k : LayoutFault) → All AreGateWords gs → AreGates (code_span f) gs → length gs ≡ f.gate_count
+    → f.code_size + f.init_len ≤ length rest → IsBodyFault f (flat_map gate gs ++ rest) k → ⊥
+no_body_fault f gs rest k wa ra all long (hs, more, eb, wb, rb, b) =
+    elim (fronts gate AreGateWords same_gate gs hs rest more wa wb eb) [
+      | inl both ↦ at_end (subst (λ (t : List ℕ). BehindGates f gs t k) (sym both.1) (subst (λ (g : List Gate). BehindGates f g more k) (sym both.0) b))
+      | inr (inl on) ↦ gates_go_on f gs hs more k ra (omega (arith, all)) on b
+      | inr (inr on) ↦ omega (arith, all, behind_count f hs more k b, ap length on.4, length-append gs (on.0 ∷ on.1))
+    ]
+  where
+    at_end : BehindGates f gs rest k → ⊥
+    at_end (inl a) = omega (arith, a.0, all)
+    at_end (inr (inl a)) = omega (arith, a.0, all)
+    at_end (inr (inr a)) = omega (arith, a.1, long)
+
+-- ---- a sandbox
+
+-- what is wrong of these fields and what follows them
+abbrev BehindFields : List Span → Fields → List ℕ → LayoutFault → Type 0
+BehindFields before f rest k = IsFirstFault before f field_tests (Some k) ⊎ (IsFirstFault before f field_tests None × IsBodyFault f rest k)
+
+behind_fields : (before : List Span) (f : Fields) (rest : List ℕ) (j k : LayoutFault) → BehindFields before f rest j → BehindFields before f rest k → j ≡ k
+behind_fields before f rest j k (inl a) (inl b) = same_some j k (one_field_fault before f field_tests (Some j) (Some k) a b)
+behind_fields before f rest j k (inl a) (inr b) = absurd (not_some j (one_field_fault before f field_tests None (Some j) b.0 a))
+behind_fields before f rest j k (inr a) (inl b) = absurd (not_some k (one_field_fault before f field_tests None (Some k) a.0 b))
+behind_fields before f rest j k (inr a) (inr b) = one_body_fault f rest j k a.1 b.1
+
+one_part_fault : (before : List Span) (bytes : List ℕ) (j k : LayoutFault) → IsPartFault before bytes j → IsPartFault before bytes k → j ≡ k
+one_part_fault before bytes j k (inl a) (inl b) = a.1 ∙ sym b.1
+one_part_fault before bytes j k (inl a) (inr (g, more, eb, wb, b)) = absurd (omega (arith, a.0, ap length eb, length-fields g more))
+one_part_fault before bytes j k (inr (f, rest, ea, wa, a)) (inl b) = absurd (omega (arith, b.0, ap length ea, length-fields f rest))
+one_part_fault before bytes j k (inr (f, rest, ea, wa, a)) (inr (g, more, eb, wb, b)) =
+    let same = same_fields f g rest more wa wb (sym ea ∙ eb) in
+    behind_fields before g more j k (subst (λ (t : List ℕ). BehindFields before g t j) same.1 (subst (λ (h : Fields). BehindFields before h rest j) same.0 a)) b
+
+-- a right sandbox that lies apart from those before has no fault
+no_part_fault : (before : List Span) (p : Part) (after : List ℕ) (k : LayoutFault) → IsRightPart p → AllPairs AreApart (before ++ spans_of (fields_of p))
+    → IsPartFault before (part p ++ after) k → ⊥
+no_part_fault before p after k right apart (inl b) = omega (arith, b.0, ap length (part_split p after), length-fields (fields_of p) (flat_map gate p.gates ++ (p.code ++ (p.init ++ after))))
+no_part_fault before p after k right apart (inr (g, more, eb, wb, b)) =
+    let same = same_fields (fields_of p) g (flat_map gate p.gates ++ (p.code ++ (p.init ++ after))) more right.words.fields wb (sym (part_split p after) ∙ eb) in
+    behind (subst (λ (t : List ℕ). BehindFields before (fields_of p) t k) (sym same.1) (subst (λ (h : Fields). BehindFields before h more k) (sym same.0) b))
+  where
+    long : length p.code + length p.init ≤ length (p.code ++ (p.init ++ after))
+    long = omega (arith, length-append p.code (p.init ++ after), length-append p.init after)
+
+    behind : BehindFields before (fields_of p) (flat_map gate p.gates ++ (p.code ++ (p.init ++ after))) k → ⊥
+    behind (inl h) = not_some k (one_field_fault before (fields_of p) field_tests None (Some k) (part_passes before p right apart) h)
+    behind (inr h) = no_body_fault (fields_of p) p.gates (p.code ++ (p.init ++ after)) k right.words.gates right.gates refl long h.1
+
+-- ---- the sandboxes
+
+-- what is wrong behind these sandboxes
+abbrev BehindParts : ℕ → List Part → List ℕ → LayoutFault → Type 0
+BehindParts n ps rest k =
+    ((length ps < n) × IsPartFault (spans ps) rest k)
+    ⊎ ((length ps ≡ n) × (0 < length rest) × (k ≡ Trailing))
+
+same_right : (p q : Part) (r s : List ℕ) → IsRightPart p → IsRightPart q → part p ++ r ≡ part q ++ s → (p ≡ q) × (r ≡ s)
+same_right p q r s a b e = same_part p q r s a.words b.words e
+
+behind_parts_count : (n : ℕ) (ps : List Part) (rest : List ℕ) (k : LayoutFault) → BehindParts n ps rest k → length ps ≤ n
+behind_parts_count n ps rest k (inl a) = omega (arith, a.0)
+behind_parts_count n ps rest k (inr a) = omega (arith, a.0)
+
+parts_go_on : (n : ℕ) (xs ps : List Part) (rest : List ℕ) (k : LayoutFault) → AreRight xs → length xs ≤ n
+    → GoesOn part IsRightPart same_right xs ps rest → BehindParts n ps rest k → ⊥
+parts_go_on n xs ps rest k right le on (inl a) =
+    let spelled : spans xs ≡ (spans ps ++ spans_of (fields_of on.0)) ++ spans on.1 =
+    ap spans on.4 ∙ flat_map-append (λ q. spans_of (fields_of q)) ps (on.0 ∷ on.1) ∙ sym (append_assoc (spans ps) (spans_of (fields_of on.0)) (spans on.1)) in
+    let apart = front_apart (spans ps ++ spans_of (fields_of on.0)) (spans on.1) (subst (AllPairs AreApart) spelled right.apart) in
+    no_part_fault (spans ps) on.0 on.2 k on.3 apart (subst (λ (t : List ℕ). IsPartFault (spans ps) t k) on.5 a.1)
+parts_go_on n xs ps rest k right le on (inr a) = omega (arith, a.0, le, ap length on.4, length-append ps (on.0 ∷ on.1))
+
+behind_parts : (n : ℕ) (ps : List Part) (rest : List ℕ) (j k : LayoutFault) → BehindParts n ps rest j → BehindParts n ps rest k → j ≡ k
+behind_parts n ps rest j k (inl a) (inl b) = one_part_fault (spans ps) rest j k a.1 b.1
+behind_parts n ps rest j k (inl a) (inr b) = absurd (omega (arith, a.0, b.0))
+behind_parts n ps rest j k (inr a) (inl b) = absurd (omega (arith, a.0, b.0))
+behind_parts n ps rest j k (inr a) (inr b) = a.2 ∙ sym b.2
+
+one_parts_fault : (n : ℕ) (bytes : List ℕ) (j k : LayoutFault) → ArePartsFault n bytes j → ArePartsFault n bytes k → j ≡ k
+one_parts_fault n bytes j k (ps, rest, ea, ra, a) (qs, more, eb, rb, b) =
+    elim (fronts part IsRightPart same_right ps qs rest more ra.each rb.each (sym ea ∙ eb)) [
+      | inl both ↦ behind_parts n qs more j k (subst (λ (t : List ℕ). BehindParts n qs t j) both.1 (subst (λ (p : List Part). BehindParts n p rest j) both.0 a)) b
+      | inr (inl on) ↦ absurd (parts_go_on n ps qs more k ra (behind_parts_count n ps rest j a) on b)
+      | inr (inr on) ↦ absurd (parts_go_on n qs ps rest j rb (behind_parts_count n qs more k b) on a)
+    ]
+
+-- right sandboxes with nothing behind them have no fault
+no_parts_fault : (ps : List Part) (bytes : List ℕ) (k : LayoutFault) → AreRight ps → bytes ≡ flat_map part ps → ArePartsFault (length ps) bytes k → ⊥
+no_parts_fault ps bytes k ra ea (qs, more, eb, rb, b) =
+    elim (fronts part IsRightPart same_right ps qs [] more ra.each rb.each (append-nil (flat_map part ps) ∙ sym ea ∙ eb)) [
+      | inl both ↦ at_end (subst (λ (t : List ℕ). BehindParts (length ps) ps t k) (sym both.1) (subst (λ (p : List Part). BehindParts (length ps) p more k) (sym both.0) b))
+      | inr (inl on) ↦ parts_go_on (length ps) ps qs more k ra (omega arith) on b
+      | inr (inr on) ↦ omega (arith, behind_parts_count (length ps) qs more k b, ap length on.4, length-append ps (on.0 ∷ on.1))
+    ]
+  where
+    at_end : BehindParts (length ps) ps [] k → ⊥
+    at_end (inl a) = omega (arith, a.0)
+    at_end (inr a) = omega (arith, a.1)
+
+-- ---- the whole
+
+-- what is wrong of this count and what follows it
+abbrev BehindCount : ℕ → List ℕ → LayoutFault → Type 0
+BehindCount n rest k = ((¬ ((1 ≤ n) × (n ≤ 16))) × (k ≡ Count)) ⊎ ((1 ≤ n) × (n ≤ 16) × ArePartsFault n rest k)
+
+behind_number : (n : ℕ) (rest : List ℕ) (j k : LayoutFault) → BehindCount n rest j → BehindCount n rest k → j ≡ k
+behind_number n rest j k (inl a) (inl b) = a.1 ∙ sym b.1
+behind_number n rest j k (inl a) (inr b) = absurd (a.0 (b.0, b.1))
+behind_number n rest j k (inr a) (inl b) = absurd (b.0 (a.0, a.1))
+behind_number n rest j k (inr a) (inr b) = one_parts_fault n rest j k a.2 b.2
+
+length-numbered : (n : ℕ) (r : List ℕ) → length (number n ++ r) ≡ 4 + length r
+unfolding number
+length-numbered n r = omega arith
+
+one_count_fault : (bytes : List ℕ) (j k : LayoutFault) → IsCountFault bytes j → IsCountFault bytes k → j ≡ k
+one_count_fault bytes j k (inl a) (inl b) = a.1 ∙ sym b.1
+one_count_fault bytes j k (inl a) (inr (n, rest, e, w, b)) = absurd (omega (arith, a.0, ap length e, length-numbered n rest))
+one_count_fault bytes j k (inr (n, rest, e, w, a)) (inl b) = absurd (omega (arith, b.0, ap length e, length-numbered n rest))
+one_count_fault bytes j k (inr (n, rest, ea, wa, a)) (inr (m, more, eb, wb, b)) =
+    let same = same_number n m rest more wa wb (sym ea ∙ eb) in
+    behind_number m more j k (subst (λ (t : List ℕ). BehindCount m t j) same.1 (subst (λ (c : ℕ). BehindCount c rest j) same.0 a)) b
+
+no_count_fault : (ps : List Part) (bytes : List ℕ) (k : LayoutFault) → AreRight ps → 1 ≤ length ps → length ps ≤ 16 → bytes ≡ number (length ps) ++ flat_map part ps → IsCountFault bytes k → ⊥
+no_count_fault ps bytes k right least most e (inl a) = omega (arith, a.0, ap length e, length-numbered (length ps) (flat_map part ps))
+no_count_fault ps bytes k right least most e (inr (m, more, eb, wb, b)) =
+    let same = same_number (length ps) m (flat_map part ps) more (omega arith) wb (sym e ∙ eb) in
+    behind (subst (λ (t : List ℕ). BehindCount (length ps) t k) (sym same.1) (subst (λ (c : ℕ). BehindCount c more k) (sym same.0) b))
+  where
+    behind : BehindCount (length ps) (flat_map part ps) k → ⊥
+    behind (inl h) = h.0 (least, most)
+    behind (inr h) = no_parts_fault ps (flat_map part ps) k right refl h.2
+
+length-magic : (r : List ℕ) → length (magic ++ r) ≡ 4 + length r
+unfolding magic
+length-magic r = omega arith
+
+take-magic : (r : List ℕ) → take 4 (magic ++ r) ≡ magic
+unfolding magic
+take-magic r = take-append_seam magic r
+
+pub one_fault : (bytes : List ℕ) (j k : LayoutFault) → IsFault bytes j → IsFault bytes k → j ≡ k
+one_fault bytes j k (inl a) (inl b) = a.1 ∙ sym b.1
+one_fault bytes j k (inl a) (inr (inl b)) = absurd (omega (arith, a.0, b.0))
+one_fault bytes j k (inl a) (inr (inr b)) = absurd (omega (arith, a.0, ap length b.1, length-magic b.0))
+one_fault bytes j k (inr (inl a)) (inl b) = absurd (omega (arith, a.0, b.0))
+one_fault bytes j k (inr (inl a)) (inr (inl b)) = a.2 ∙ sym b.2
+one_fault bytes j k (inr (inl a)) (inr (inr b)) = absurd (a.1 (ap (take 4) b.1 ∙ take-magic b.0))
+one_fault bytes j k (inr (inr a)) (inl b) = absurd (omega (arith, b.0, ap length a.1, length-magic a.0))
+one_fault bytes j k (inr (inr a)) (inr (inl b)) = absurd (b.1 (ap (take 4) a.1 ∙ take-magic a.0))
+one_fault bytes j k (inr (inr a)) (inr (inr b)) =
+    let same = same_front magic magic a.0 b.0 refl (sym a.1 ∙ b.1) in
+    one_count_fault b.0 j k (subst (λ (t : List ℕ). IsCountFault t j) same.1 a.2) b.2
+
+pub no_fault : (bytes : List ℕ) (ps : List Part) (k : LayoutFault) → IsImage bytes ps → IsFault bytes k → ⊥
+unfolding spelling
+no_fault bytes ps k image (inl b) = omega (arith, b.0, ap length image.bytes_are, length-magic (number (length ps) ++ flat_map part ps))
+no_fault bytes ps k image (inr (inl b)) = b.1 (ap (take 4) image.bytes_are ∙ take-magic (number (length ps) ++ flat_map part ps))
+no_fault bytes ps k image (inr (inr b)) =
+    let same = same_front magic magic (number (length ps) ++ flat_map part ps) b.0 refl (sym image.bytes_are ∙ b.1) in
+    no_count_fault ps b.0 k image.layout.right image.layout.at_least_one image.layout.at_most (sym same.1) b.2
+
+pub one_image : (bytes : List ℕ) (ps qs : List Part) → IsImage bytes ps → IsImage bytes qs → ps ≡ qs
+unfolding spelling
+one_image bytes ps qs a b =
+    let behind = same_front magic magic (number (length ps) ++ flat_map part ps) (number (length qs) ++ flat_map part qs) refl (sym a.bytes_are ∙ b.bytes_are) in
+    let count = same_number (length ps) (length qs) (flat_map part ps) (flat_map part qs) (omega (arith, a.layout.at_most)) (omega (arith, b.layout.at_most)) behind.1 in
+    (same_list part IsRightPart same_right ps qs [] [] a.layout.right.each b.layout.right.each count.0
+    (append-nil (flat_map part ps) ∙ count.1 ∙ sym (append-nil (flat_map part qs)))).0
+
+-- ---- what a reader answers that way
+
+-- an image is answered, or memory ran out
+pub only_image : (bytes : List ℕ) (r : Result (List Part) ImageFault) → Reads (IsImage bytes) (IsFault bytes) r → (ps : List Part) → IsImage bytes ps
+    → (r ≡ Ok ps) ⊎ (r ≡ Err errors.Memory)
+only_image bytes (Ok qs) h ps image = inl (ap (λ (x : List Part). Ok x) (one_image bytes qs ps h image))
+only_image bytes (Err (errors.Layout k)) h ps image = absurd (no_fault bytes ps k image h)
+only_image bytes (Err errors.Memory) h ps image = inr refl
+
+-- a fault is answered, or memory ran out
+pub only_fault : (bytes : List ℕ) (r : Result (List Part) ImageFault) → Reads (IsImage bytes) (IsFault bytes) r → (k : LayoutFault) → IsFault bytes k
+    → (r ≡ Err (errors.Layout k)) ⊎ (r ≡ Err errors.Memory)
+only_fault bytes (Ok qs) h k wrong = absurd (no_fault bytes qs k h wrong)
+only_fault bytes (Err (errors.Layout j)) h k wrong = inl (ap (λ (x : LayoutFault). Err (errors.Layout x)) (one_fault bytes j k h wrong))
+only_fault bytes (Err errors.Memory) h k wrong = inr refl

@@ -1,0 +1,89 @@
+-- Reading sandboxes one after the other.
+use Rattle.std.proofs.Common.{◌≡◌, ℕ, ◌+◌, ◌<◌, List, [], ◌∷◌, ◌++◌, length, refl, sym, ap, ◌∙◌, arith, append_assoc, inl, inr, subst}
+use Rattle.std.specs.List.{All, AllPairs, flat_map}
+use Rattle.std.proofs.lemmas.Grind.{flat_map-append}
+use Rattle.std.proofs.lemmas.List.{length_push, append-nil}
+use Rattle.std.proofs.lemmas.List.Elements.{All-push, All-append, All-from_recursion}
+use Rattle.sfi_image.specs.declared.part.Gate.{Gate}
+use Rattle.sfi_image.specs.declared.fields.Fields.{Fields}
+use Rattle.sfi_image.specs.declared.span.Span.{Span}
+use Rattle.sfi_image.specs.declared.fault.LayoutFault.TheVariants.{Trailing}
+use Rattle.sfi_image.specs.declared.fault.ImageFault.{ImageFault}
+use Rattle.sfi_image.specs.declared.fault.ImageFault.TheVariants as errors
+use Rattle.sfi_image.specs.Spelling.{Part, fields_of, fields, gate, part}
+use Rattle.sfi_image.specs.Spans.{AreApart, IsBounded, spans_of, spans}
+use Rattle.sfi_image.specs.Parts.{IsRightPart, AreRight}
+use Rattle.sfi_image.specs.Faults.{IsPartFault, ArePartsFault}
+use Rattle.sfi_image.specs.Outcome.{IfLayout}
+use Rattle.sfi_image.proofs.GateLists.{flat_push}
+
+part_is : (p : Part) (last : List ℕ) (gs : List Gate) (code init : List ℕ) → p.gates ≡ gs → p.code ≡ code → p.init ≡ init
+    → fields (fields_of p) ++ (flat_map gate gs ++ (code ++ (init ++ last))) ≡ part p ++ last
+unfolding part
+part_is p last gs code init g c i = rw (← g, ← c, ← i) (simp append_assoc)
+
+-- a sandbox made of what was read spells the bytes read
+pub part_read : (bytes : List ℕ) (f : Fields) (rest : List ℕ) (gs : List Gate) (after code init last : List ℕ)
+    → bytes ≡ fields f ++ rest → rest ≡ flat_map gate gs ++ after → length gs ≡ f.gate_count
+    → after ≡ code ++ (init ++ last) → length code ≡ f.code_size → length init ≡ f.init_len
+    → (p : Part) → p ≡ record { code_base = f.code_base; data_base = f.data_base; data_size = f.data_size; start = f.start; gates = gs; code = code; init = init }
+    → (bytes ≡ part p ++ last) × (fields_of p ≡ f)
+part_read bytes f rest gs after code init last e0 e1 len e2 code_len init_len p is =
+    let same : fields_of p ≡ f = rw is (rw (len, code_len, init_len) refl) in
+    let whole : bytes ≡ fields (fields_of p) ++ (flat_map gate gs ++ (code ++ (init ++ last))) = e0 ∙ rw (same, e1, e2) refl in
+    (whole ∙ part_is p last gs code init (rw is refl) (rw is refl) (rw is refl), same)
+
+-- what stands behind the first sandboxes
+pub record PartsRead (bytes : List ℕ) (ps : List Part) (before : List Span) (rest : List ℕ) (n : ℕ) : Type 0 where
+  pub bytes_are : bytes ≡ flat_map part ps ++ rest
+  pub each : All IsRightPart ps
+  pub len : length ps ≡ n
+  pub spans_are : before ≡ spans ps
+  pub bounded : All IsBounded before
+  pub apart : AllPairs AreApart before
+
+-- the spans of one more
+pub spans_push : (ps : List Part) (p : Part) → spans (ps ++ p ∷ []) ≡ spans ps ++ spans_of (fields_of p)
+spans_push ps p = flat_map-append (λ q. spans_of (fields_of q)) ps (p ∷ []) ∙ ap (λ (t : List Span). spans ps ++ t) (append-nil (spans_of (fields_of p)))
+
+-- spans of right sandboxes hold an address and end below 2 ^ 64
+right_bounded : (p : Part) → IsRightPart p → All IsBounded (spans_of (fields_of p))
+right_bounded p right =
+    All-from_recursion IsBounded (spans_of (fields_of p)) (
+      record { some = omega (arith, right.code_placed.at_least); end = omega (arith, right.words.fields.code_base, right.code_placed.at_most) },
+      (record { some = omega arith; end = omega (arith, right.words.fields.data_base, right.data_placed.at_most) }, tt),
+    )
+
+pub PartsRead-push : (bytes : List ℕ) (ps : List Part) (before : List Span) (rest after : List ℕ) (n : ℕ) (p : Part) (f : Fields)
+    → PartsRead bytes ps before rest n → rest ≡ part p ++ after → fields_of p ≡ f → IsRightPart p → AllPairs AreApart (before ++ spans_of f)
+    → PartsRead bytes (ps ++ p ∷ []) (before ++ spans_of f) after (n + 1)
+PartsRead-push bytes ps before rest after n p f so_far next is right apart =
+    record {
+      bytes_are = so_far.bytes_are ∙ ap (λ (t : List ℕ). flat_map part ps ++ t) next ∙ sym (flat_push part ps p after);
+      each = All-push IsRightPart ps p so_far.each right;
+      len = length_push ps p ∙ ap (λ (k : ℕ). k + 1) so_far.len;
+      spans_are = ap (λ (g : Fields). before ++ spans_of g) (sym is) ∙ ap (λ (t : List Span). t ++ spans_of (fields_of p)) so_far.spans_are ∙ sym (spans_push ps p);
+      bounded = All-append IsBounded before (spans_of f) so_far.bounded (subst (λ (g : Fields). All IsBounded (spans_of g)) is (right_bounded p right));
+      apart = apart;
+    }
+
+-- the sandboxes read so far are right
+pub parts_right : (bytes : List ℕ) (ps : List Part) (before : List Span) (rest : List ℕ) (n : ℕ) → PartsRead bytes ps before rest n → AreRight ps
+parts_right bytes ps before rest n so_far = record { each = so_far.each; apart = subst (AllPairs AreApart) so_far.spans_are so_far.apart }
+
+pub part_failed : (e : ImageFault) (bytes : List ℕ) (ps : List Part) (before : List Span) (rest : List ℕ) (n count : ℕ)
+    → n < count → PartsRead bytes ps before rest n → (same : List Span) → same ≡ before → IfLayout e (IsPartFault same rest) → IfLayout e (ArePartsFault count bytes)
+part_failed errors.Memory bytes ps before rest n count lt so_far same is h = tt
+part_failed (errors.Layout k) bytes ps before rest n count lt so_far same is h =
+    (ps, rest, so_far.bytes_are, parts_right bytes ps before rest n so_far, inl (omega (arith, so_far.len), subst (λ (b : List Span). IsPartFault b rest k) (is ∙ so_far.spans_are) h))
+
+-- bytes behind the last sandbox
+pub trailing : (bytes : List ℕ) (ps : List Part) (before : List Span) (rest : List ℕ) (n count : ℕ) → PartsRead bytes ps before rest n → n ≡ count → 0 < length rest
+    → ArePartsFault count bytes Trailing
+trailing bytes ps before rest n count so_far all some = (ps, rest, so_far.bytes_are, parts_right bytes ps before rest n so_far, inr (so_far.len ∙ all, some, refl))
+
+-- none behind it
+pub all_read : (bytes : List ℕ) (ps : List Part) (before : List Span) (rest : List ℕ) (n count : ℕ) → PartsRead bytes ps before rest n → n ≡ count → length rest ≡ 0
+    → (bytes ≡ flat_map part ps) × AreRight ps × (length ps ≡ count)
+all_read bytes ps before [] n count so_far all none = (so_far.bytes_are ∙ append-nil (flat_map part ps), parts_right bytes ps before [] n so_far, so_far.len ∙ all)
+all_read bytes ps before (b ∷ rest) n count so_far all none = absurd (omega arith)

@@ -1,0 +1,13 @@
+use Rattle.std.proofs.Common.{◌≡◌, refl, inl, inr, arith, false, true}
+use Rattle.sfi_image.proofs.FieldTests.{at_overlap}
+use Rattle.sfi_image.proofs.fields.field_fault.Goals as goal
+
+pub returns : goal.returns
+returns c =
+    at_overlap _ _ _ (c.if-not-is_region.ensures.0 refl) (c.if-not-is_region-2.ensures.0 refl) (c.if-not-has_guard_room.ensures.0 refl) (c.if-not-is_bundle_start.ensures.0 refl) (omega arith) (omega arith)
+    (inl (rw (c.code_span.ensures, c.guarded_span.ensures) at (c.if-not-are_all_apart.ensures.0 refl), refl))
+
+pub returns-then-not-are_all_apart : goal.returns-then-not-are_all_apart
+returns-then-not-are_all_apart c =
+    at_overlap _ _ _ (c.if-not-is_region.ensures.0 refl) (c.if-not-is_region-2.ensures.0 refl) (c.if-not-has_guard_room.ensures.0 refl) (c.if-not-is_bundle_start.ensures.0 refl) (omega arith) (omega arith)
+    (inr (λ pairs. let e : false ≡ true = c.if-not-are_all_apart.ensures.1 (rw (c.code_span.ensures, c.guarded_span.ensures) pairs) in absurd cc, refl))

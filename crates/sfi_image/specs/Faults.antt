@@ -1,0 +1,76 @@
+-- The fault of bytes that are no image: a right front, and then what is wrong behind it.
+use Rattle.std.specs.Prelude.{◌≡◌, ◌≢◌, ℕ, ◌+◌, ◌<◌, ◌≤◌, ◌⊎◌, List, [], ◌∷◌, ◌++◌, length, take, Some, None}
+use Rattle.std.specs.List.{All, flat_map}
+use Rattle.sfi_image.specs.declared.part.Gate.{Gate}
+use Rattle.sfi_image.specs.declared.fields.Fields.{Fields}
+use Rattle.sfi_image.specs.declared.span.Span.{Span}
+use Rattle.sfi_image.specs.declared.fault.LayoutFault.{LayoutFault}
+use Rattle.sfi_image.specs.declared.fault.LayoutFault.TheVariants.{Magic, Count, Short, Code, Data, GuardRoom, Start, Gates, Init, Overlap, Trailing}
+use Rattle.sfi_image.specs.Spelling.{Part, number, fields, gate, part, magic, IsWord, AreFieldWords, AreGateWords}
+use Rattle.sfi_image.specs.Spans.{code_span, spans}
+use Rattle.sfi_image.specs.Gates.{AreGates}
+use Rattle.sfi_image.specs.Parts.{AreRight}
+use Rattle.sfi_image.specs.Tests.{IsFirstFault, field_tests}
+
+-- the number of a fault
+abbrev pub number_of : LayoutFault → ℕ
+number_of Magic = 1
+number_of Count = 2
+number_of Short = 3
+number_of Code = 4
+number_of Data = 5
+number_of GuardRoom = 6
+number_of Start = 7
+number_of Gates = 8
+number_of Init = 9
+number_of Overlap = 10
+number_of Trailing = 11
+
+-- behind these gates the next pair is cut short
+abbrev pub IsGateShort : Fields → List Gate → List ℕ → LayoutFault → Type 0
+IsGateShort f gs rest k = (length gs < f.gate_count) × (length rest < 8) × (k ≡ Short)
+
+-- the next pair is no gate behind these
+abbrev pub IsGateWrong : Fields → List Gate → List ℕ → LayoutFault → Type 0
+IsGateWrong f gs rest k =
+    (length gs < f.gate_count) × (g : Gate) × (after : List ℕ) × (rest ≡ gate g ++ after) × AreGateWords g
+    × (¬ AreGates (code_span f) (gs ++ g ∷ [])) × (k ≡ Gates)
+
+-- behind the last gate the code and the data are cut short
+abbrev pub AreContentsShort : Fields → List Gate → List ℕ → LayoutFault → Type 0
+AreContentsShort f gs rest k = (length gs ≡ f.gate_count) × (length rest < f.code_size + f.init_len) × (k ≡ Short)
+
+-- behind right gates one of these is so
+abbrev pub IsBodyFault : Fields → List ℕ → LayoutFault → Type 0
+IsBodyFault f bytes k = (gs : List Gate) × (rest : List ℕ)
+    × (bytes ≡ flat_map gate gs ++ rest) × All AreGateWords gs × AreGates (code_span f) gs
+    × (IsGateShort f gs rest k ⊎ (IsGateWrong f gs rest k ⊎ AreContentsShort f gs rest k))
+
+-- the fields are cut short, or fail a test, or pass them all before a wrong body
+abbrev pub IsPartFault : List Span → List ℕ → LayoutFault → Type 0
+IsPartFault before bytes k =
+    ((length bytes < 28) × (k ≡ Short))
+    ⊎ ((f : Fields) × (rest : List ℕ) × (bytes ≡ fields f ++ rest) × AreFieldWords f × (
+    IsFirstFault before f field_tests (Some k)
+    ⊎ (IsFirstFault before f field_tests None × IsBodyFault f rest k)))
+
+-- behind right sandboxes the next one is wrong, or bytes follow the last
+abbrev pub ArePartsFault : ℕ → List ℕ → LayoutFault → Type 0
+ArePartsFault n bytes k = (ps : List Part) × (rest : List ℕ) × (bytes ≡ flat_map part ps ++ rest) × AreRight ps × (
+    ((length ps < n) × IsPartFault (spans ps) rest k)
+    ⊎ ((length ps ≡ n) × (0 < length rest) × (k ≡ Trailing)))
+
+-- the count is cut short, or not from 1 to 16, or the sandboxes behind it are wrong
+abbrev pub IsCountFault : List ℕ → LayoutFault → Type 0
+IsCountFault bytes k =
+    ((length bytes < 4) × (k ≡ Short))
+    ⊎ ((n : ℕ) × (rest : List ℕ) × (bytes ≡ number n ++ rest) × IsWord n × (
+    ((¬ ((1 ≤ n) × (n ≤ 16))) × (k ≡ Count))
+    ⊎ ((1 ≤ n) × (n ≤ 16) × ArePartsFault n rest k)))
+
+-- the magic is cut short, or another, or what follows it is wrong
+abbrev pub IsFault : List ℕ → LayoutFault → Type 0
+IsFault bytes k =
+    ((length bytes < 4) × (k ≡ Short))
+    ⊎ (((4 ≤ length bytes) × (take 4 bytes ≢ magic) × (k ≡ Magic))
+    ⊎ ((rest : List ℕ) × (bytes ≡ magic ++ rest) × IsCountFault rest k))

@@ -1,0 +1,9 @@
+pub mod Spelling
+pub mod Spans
+pub mod Regions
+pub mod Gates
+pub mod Parts
+pub mod Tests
+pub mod Faults
+pub mod Images
+pub mod Outcome

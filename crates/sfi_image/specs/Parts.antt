@@ -1,0 +1,29 @@
+-- Sandboxes that pass each test but Overlap, and that lie apart.
+use Rattle.std.specs.Prelude.{◌≤◌, List, length}
+use Rattle.std.specs.List.{All, AllPairs}
+use Rattle.sfi_image.specs.Spelling.{Part, AreWords}
+use Rattle.sfi_image.specs.Spans.{AreApart, code_region, spans}
+use Rattle.sfi_image.specs.Regions.{IsCodeRegion, IsDataRegion, HasGuardRoom, IsBundleStart}
+use Rattle.sfi_image.specs.Gates.{AreGates, gates_most}
+
+-- each number has 32 bits, and the sandbox passes each test but Overlap: its own code and guard zones may still meet
+pub record IsRightPart (p : Part) : Type 0 where
+  pub words : AreWords p
+  pub code_placed : IsCodeRegion p.code_base (length p.code)
+  pub data_placed : IsDataRegion p.data_base p.data_size
+  pub guard_room : HasGuardRoom p.data_base p.data_size
+  pub start : IsBundleStart (code_region p) p.start
+  pub gate_count : length p.gates ≤ gates_most
+  pub init_len : length p.init ≤ p.data_size
+  pub gates : AreGates (code_region p) p.gates
+
+-- each passes those tests, and no two of all their spans meet
+pub record AreRight (ps : List Part) : Type 0 where
+  pub each : All IsRightPart ps
+  pub apart : AllPairs AreApart (spans ps)
+
+-- 1 to 16 such sandboxes
+pub record IsRightLayout (ps : List Part) : Type 0 where
+  pub at_least_one : 1 ≤ length ps
+  pub at_most : length ps ≤ 16
+  pub right : AreRight ps

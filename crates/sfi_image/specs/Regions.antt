@@ -1,0 +1,31 @@
+-- Where the regions of a sandbox may lie.
+use Rattle.std.specs.Prelude.{◌≡◌, ℕ, ◌+◌, ◌*◌, ◌%◌, ◌^◌, ◌≤◌}
+use Rattle.sfi_image.specs.declared.span.Span.{Span}
+use Rattle.sfi_image.specs.Spans.{Holds, guard}
+
+-- the size is a power of two within the bounds, the base a multiple of it
+pub record IsRegion (base size least most : ℕ) : Type 0 where
+  pub power : ℕ
+  pub size_is : size ≡ 2 ^ power
+  pub at_least : least ≤ size
+  pub at_most : size ≤ most
+  pub multiple : ℕ
+  pub base_is : base ≡ multiple * size
+
+-- code may lie here
+abbrev pub IsCodeRegion : ℕ → ℕ → Type 0
+IsCodeRegion base size = IsRegion base size 256 65536
+
+-- data may lie here
+abbrev pub IsDataRegion : ℕ → ℕ → Type 0
+IsDataRegion base size = IsRegion base size 256 1048576
+
+-- a guard zone has room below the data, and another between its end and 2 ^ 32
+pub record HasGuardRoom (base size : ℕ) : Type 0 where
+  pub below : guard ≤ base
+  pub above : base + size + guard ≤ 2 ^ 32
+
+-- a multiple of 16 in the region
+pub record IsBundleStart (region : Span) (at : ℕ) : Type 0 where
+  pub held : Holds region at
+  pub aligned : at % 16 ≡ 0

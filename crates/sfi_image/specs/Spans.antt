@@ -1,0 +1,65 @@
+-- Spans of addresses, and those of a sandbox.
+use Rattle.std.specs.Prelude.{ℕ, ◌+◌, ◌-◌, ◌^◌, ◌<◌, ◌≤◌, List, [], ◌∷◌}
+use Rattle.std.specs.List.{flat_map}
+use Rattle.sfi_image.specs.declared.fields.Fields.{Fields}
+use Rattle.sfi_image.specs.declared.span.Span.{Span}
+use Rattle.sfi_image.specs.Spelling.{Part, fields_of}
+
+-- the address is one of the span's size addresses from its base on; the end may be 2 ^ 32
+abbrev pub Holds : Span → ℕ → Type 0
+Holds s at = (s.base ≤ at) × (at < s.base + s.size)
+
+-- no address lies in both
+abbrev pub AreApart : Span → Span → Type 0
+AreApart s t = (at : ℕ) → Holds s at → Holds t at → ⊥
+
+-- how many addresses a guard zone has
+abbrev pub guard : ℕ
+guard = 4096
+
+-- ---- by the fields
+
+-- the code region
+abbrev pub code_span : Fields → Span
+code_span f = record { base = f.code_base; size = f.code_size }
+
+-- the data region with a guard zone on each side
+abbrev pub guarded_span : Fields → Span
+guarded_span f = record { base = f.data_base - guard; size = guard + f.data_size + guard }
+
+-- the two spans of a sandbox; no two spans of an image may meet
+abbrev pub spans_of : Fields → List Span
+spans_of f = code_span f ∷ guarded_span f ∷ []
+
+-- ---- of a sandbox
+
+-- where its code lies
+abbrev pub code_region : Part → Span
+code_region p = code_span (fields_of p)
+
+-- where its data lie
+abbrev pub data_region : Part → Span
+data_region p = record { base = p.data_base; size = p.data_size }
+
+-- the data region with a guard zone on each side
+abbrev pub guarded_region : Part → Span
+guarded_region p = guarded_span (fields_of p)
+
+-- the guard zone that ends where the data begins
+abbrev pub lower_guard : Part → Span
+lower_guard p = record { base = p.data_base - guard; size = guard }
+
+-- the guard zone that begins where the data ends
+abbrev pub upper_guard : Part → Span
+upper_guard p = record { base = p.data_base + p.data_size; size = guard }
+
+-- the spans of all
+abbrev pub spans : List Part → List Span
+spans ps = flat_map (λ p. spans_of (fields_of p)) ps
+
+-- ---- in 64 bits, for private contracts
+
+-- it holds an address, and its end has 64 bits
+pub record IsBounded (s : Span) : Type 0 where
+  pub some : 0 < s.size
+  pub end : s.base + s.size < 2 ^ 64

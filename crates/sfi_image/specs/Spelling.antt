@@ -1,0 +1,98 @@
+-- What a sandbox's part of an image holds, and the bytes of an image.
+use Rattle.std.specs.Prelude.{ℕ, ◌^◌, ◌<◌, List, ◌++◌, length, map, codes}
+use Rattle.std.specs.List.{All, flat_map}
+use Rattle.std.specs.Int.{w32, to_le_bytes}
+use Rattle.sfi_image.specs.declared.part.Gate.{Gate}
+use Rattle.sfi_image.specs.declared.fields.Fields.{Fields}
+use Rattle.sfi_image.specs.declared.part.SandboxPart.{SandboxPart}
+
+-- one sandbox, without where its bytes lie in memory; the code size, the gate count and the init length are its lists' lengths
+pub record Part : Type 0 where
+  pub code_base : ℕ
+  pub data_base : ℕ
+  pub data_size : ℕ
+  pub start : ℕ
+  pub gates : List Gate
+  pub code : List ℕ
+  pub init : List ℕ
+
+-- what a value of the program stands for
+abbrev pub view : SandboxPart → Part
+view p = record {
+  code_base = p.code_base;
+  data_base = p.data_base;
+  data_size = p.data_size;
+  start = p.start;
+  gates = p.gates.items;
+  code = p.code.now;
+  init = p.init.now;
+}
+
+-- what a list of them stands for
+abbrev pub views : List SandboxPart → List Part
+views ps = map view ps
+
+-- the seven fields of a sandbox
+abbrev pub fields_of : Part → Fields
+fields_of p = record {
+  code_base = p.code_base;
+  code_size = length p.code;
+  data_base = p.data_base;
+  data_size = p.data_size;
+  start = p.start;
+  gate_count = length p.gates;
+  init_len = length p.init;
+}
+
+-- ---- bytes
+
+-- a number in four bytes, the lowest first
+unfoldable pub number : ℕ → List ℕ
+number n = to_le_bytes w32 n
+
+-- the seven fields, in their order
+unfoldable pub fields : Fields → List ℕ
+fields f = number f.code_base ++ (number f.code_size ++ (number f.data_base ++ (number f.data_size
+    ++ (number f.start ++ (number f.gate_count ++ number f.init_len)))))
+
+-- a gate's address, then its service
+unfoldable pub gate : Gate → List ℕ
+gate g = number g.address ++ number g.service
+
+-- a sandbox: its fields, its gates, its code, its first data bytes
+unfoldable pub part : Part → List ℕ
+part p = fields (fields_of p) ++ (flat_map gate p.gates ++ (p.code ++ p.init))
+
+-- the bytes 53 46 49 31
+unfoldable pub magic : List ℕ
+magic = codes "SFI1"
+
+-- an image: the magic, the count, and each sandbox
+unfoldable pub spelling : List Part → List ℕ
+spelling ps = magic ++ (number (length ps) ++ flat_map part ps)
+
+-- ---- what four bytes can hold
+
+-- the number is one of 32 bits
+abbrev pub IsWord : ℕ → Type 0
+IsWord n = n < 2 ^ 32
+
+-- each of the seven fields is one
+pub record AreFieldWords (f : Fields) : Type 0 where
+  pub code_base : IsWord f.code_base
+  pub code_size : IsWord f.code_size
+  pub data_base : IsWord f.data_base
+  pub data_size : IsWord f.data_size
+  pub start : IsWord f.start
+  pub gate_count : IsWord f.gate_count
+  pub init_len : IsWord f.init_len
+
+-- both numbers of a gate are
+pub record AreGateWords (g : Gate) : Type 0 where
+  pub address : IsWord g.address
+  pub service : IsWord g.service
+
+-- each number of a sandbox is
+pub record AreWords (p : Part) : Type 0 where
+  pub fields : AreFieldWords (fields_of p)
+  pub gates : All AreGateWords p.gates

@@ -1,0 +1,94 @@
+//! Why bytes are no image.
+ghost use Rattle.std.specs.Prelude.{◌≡◌};
+ghost use Rattle.sfi_image.specs.declared.fault.ImageFault.TheVariants.{Memory};
+ghost use Rattle.sfi_image.specs.Faults.{number_of};
+
+use std::alloc::{AllocError, AllocFailed};
+use thiserror::Error;
+
+/// What is wrong with the bytes: the first test that fails, in the order of reading. Its text is its bare name.
+#[derive(Clone, Copy, Debug, PartialEq, Eq, Error)]
+pub enum LayoutFault {
+    /// The first four bytes aren't `SFI1`.
+    #[error("Magic")]
+    Magic,
+    /// The number of sandboxes isn't from 1 to 16.
+    #[error("Count")]
+    Count,
+    /// What is read next isn't there whole.
+    #[error("Short")]
+    Short,
+    /// The code size is no power of two from 256 to 65536, or the code base no multiple of it.
+    #[error("Code")]
+    Code,
+    /// The data size is no power of two from 256 to 1048576, or the data base no multiple of it.
+    #[error("Data")]
+    Data,
+    /// The 4096 addresses below the data, or those above it, reach past the first or last address.
+    #[error("GuardRoom")]
+    GuardRoom,
+    /// The start is no bundle start of the code region.
+    #[error("Start")]
+    Start,
+    /// There are more than 64 gates, or one is no bundle start of the code region, isn't above the gate before it, or
+    /// names a service above 5.
+    #[error("Gates")]
+    Gates,
+    /// There are more first data bytes than the data region holds.
+    #[error("Init")]
+    Init,
+    /// Two of the spans so far have an address in common: a code region, or a data region with its guard zones.
+    #[error("Overlap")]
+    Overlap,
+    /// A byte follows the last sandbox.
+    #[error("Trailing")]
+    Trailing,
+}
+
+impl LayoutFault {
+    /// The number by which a refusal is known, from 1 to 11.
+    pub fn number(self) -> u32
+        ensures { result ≡ number_of self }
+    {
+        match self {
+            LayoutFault::Magic => 1,
+            LayoutFault::Count => 2,
+            LayoutFault::Short => 3,
+            LayoutFault::Code => 4,
+            LayoutFault::Data => 5,
+            LayoutFault::GuardRoom => 6,
+            LayoutFault::Start => 7,
+            LayoutFault::Gates => 8,
+            LayoutFault::Init => 9,
+            LayoutFault::Overlap => 10,
+            LayoutFault::Trailing => 11,
+        }
+    }
+}
+
+/// Why no image was read.
+#[derive(Debug, Drop, Error)]
+pub enum ImageFault {
+    /// The bytes are no image.
+    #[error("layout fault {0}")]
+    Layout(LayoutFault),
+    /// Memory ran out; nothing is known of the bytes.
+    #[error("out of memory")]
+    Memory,
+}
+
+impl From<AllocError> for ImageFault {
+    ghost from_gives = { λ _ e. e ≡ Memory };
+
+    fn from(_e: AllocError) -> ImageFault {
+        ImageFault::Memory
+    }
+}
+
+impl<T: Drop> From<AllocFailed<T>> for ImageFault {
+    ghost from_gives = { λ _ e. e ≡ Memory };
+
+    fn from(_e: AllocFailed<T>) -> ImageFault {
+        ImageFault::Memory
+    }
+}

@@ -1,0 +1,42 @@
+//! Images whose layout is right.
+ghost use Rattle.std.specs.Prelude.{◌≡◌};
+ghost use Rattle.sfi_image.specs.Spelling.{views};
+ghost use Rattle.sfi_image.specs.Parts.{IsRightLayout};
+
+use crate::part::SandboxPart;
+use std::marker::Model;
+
+/// The sandboxes of an image, 1 to 16 of them, with a right layout. It borrows the bytes that it was read from.
+#[derive(Debug, Drop)]
+pub struct Image<'a> {
+    parts: Vec<SandboxPart<'a>>,
+}
+
+impl<'a> Model for Image<'a> {
+    ghost use Rattle.std.specs.Prelude.{List};
+    ghost use Rattle.sfi_image.specs.Spelling.{Part, views};
+    ghost use Rattle.sfi_image.specs.Parts.{IsRightLayout};
+
+    ghost Value = { List Part };
+
+    ghost view = { λ i. views i.parts.items };
+
+    ghost invariant = { λ i. IsRightLayout (views i.parts.items) };
+}
+
+impl<'a> Image<'a> {
+    pub(crate) fn new(parts: Vec<SandboxPart<'a>>) -> Image<'a>
+        requires { IsRightLayout (views parts.items) }
+        ensures { result ≡ views parts.entry.items }
+    {
+        Image { parts }
+    }
+
+    /// The sandboxes, in the order of the bytes.
+    pub fn parts(&self) -> &[SandboxPart<'a>]
+        ensures parts { views result.now ≡ self.now }
+        ensures layout { IsRightLayout self.now }
+    {
+        &self.parts
+    }
+}

@@ -1,0 +1,30 @@
+//! One sandbox of an image.
+
+/// A gate: the only place where control may leave a sandbox.
+#[derive(Clone, Copy, Debug, PartialEq, Eq)]
+pub struct Gate {
+    /// The bundle in which its stub lies.
+    pub address: u32,
+    /// What the host is asked for, from 0 to 5 in an image.
+    pub service: u32,
+}
+
+/// One sandbox. Its code and its first data bytes are slices of the bytes that it was read from, so the image's code
+/// size, gate count and number of first data bytes are the lengths here.
+#[derive(Debug, Drop)]
+pub struct SandboxPart<'a> {
+    /// The first address of the code region.
+    pub code_base: u32,
+    /// The first address of the data region.
+    pub data_base: u32,
+    /// How many bytes the data region has.
+    pub data_size: u32,
+    /// The address at which the sandbox starts to run.
+    pub start: u32,
+    /// In the order of their addresses.
+    pub gates: Vec<Gate>,
+    /// All bytes of the code region.
+    pub code: &'a [u8],
+    /// The first bytes of the data region; zeros follow.
+    pub init: &'a [u8],
+}

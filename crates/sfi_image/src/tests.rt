@@ -1,0 +1,66 @@
+use super::*;
+use std::test::Fail;
+
+// The head of an image with one sandbox: code 256 at 01000000, data 256 at 01800000, start 01000020, two gates, two
+// first data bytes; and the gates (01000000, 1) and (01000010, 0).
+const HEAD: [u8; 52] = [
+    0x53, 0x46, 0x49, 0x31, 1, 0, 0, 0, 0, 0, 0, 1, 0, 1, 0, 0, 0, 0, 0x80, 1, 0, 1, 0, 0, 0x20, 0,
+    0, 1, 2, 0, 0, 0, 2, 0, 0, 0, 0, 0, 0, 1, 1, 0, 0, 0, 0x10, 0, 0, 1, 0, 0, 0, 0,
+];
+
+#[test]
+fn reads_an_image(rt: HostRuntime) -> Result<(), Fail> {
+    let mut bytes = Vec::new(rt.alloc());
+    bytes.extend_from_slice(&HEAD)?;
+    for byte in 0..=255u8 {
+        bytes.push(byte)?;
+    }
+    bytes.extend_from_slice(b"Hi")?;
+    let image = parse_image(rt.alloc(), &bytes)?;
+    let parts = image.parts();
+    assert_eq!(rt; parts.len(), 1);
+    let part = &parts[0];
+    assert_eq!(rt; part.code_base, 0x0100_0000);
+    assert_eq!(rt; part.data_base, 0x0180_0000);
+    assert_eq!(rt; part.data_size, 256);
+    assert_eq!(rt; part.start, 0x0100_0020);
+    let gates = [
+        Gate {
+            address: 0x0100_0000,
+            service: 1,
+        },
+        Gate {
+            address: 0x0100_0010,
+            service: 0,
+        },
+    ];
+    assert!(rt; part.gates.as_slice() == gates.as_slice());
+    assert_eq!(rt; bytes.len(), 310);
+    assert!(rt; part.code == &bytes[52..308]);
+    assert!(rt; part.init == b"Hi".as_slice());
+    Ok(())
+}
+
+#[test]
+fn says_faults(rt: HostRuntime) -> Result<(), Fail> {
+    let alloc = rt.alloc();
+    for (fault, text) in [
+        (LayoutFault::Magic, "1 Magic"),
+        (LayoutFault::Count, "2 Count"),
+        (LayoutFault::Short, "3 Short"),
+        (LayoutFault::Code, "4 Code"),
+        (LayoutFault::Data, "5 Data"),
+        (LayoutFault::GuardRoom, "6 GuardRoom"),
+        (LayoutFault::Start, "7 Start"),
+        (LayoutFault::Gates, "8 Gates"),
+        (LayoutFault::Init, "9 Init"),
+        (LayoutFault::Overlap, "10 Overlap"),
+        (LayoutFault::Trailing, "11 Trailing"),
+    ] {
+        let said = format!(in alloc; "{} {fault}", fault.number())?;
+        assert_eq!(rt; said.as_str(), text);
+    }
+    let whole = format!(in alloc; "{}", ImageFault::Layout(LayoutFault::Magic))?;
+    assert_eq!(rt; whole.as_str(), "layout fault Magic");
+    Ok(())
+}
