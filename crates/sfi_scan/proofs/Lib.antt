@@ -1,0 +1,5 @@
+pub mod Bounds
+pub mod Gates
+pub mod OneList
+pub mod Readings
+pub mod Walk

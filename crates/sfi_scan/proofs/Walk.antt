@@ -1,0 +1,273 @@
+-- The walk over a bundle: what is found so far, and what the rest adds.
+use Rattle.std.proofs.Common.{◌≡◌, ℕ, ◌+◌, ◌-◌, ◌*◌, ◌%◌, ◌<◌, ◌≤◌, ◌==◌, Bool, true, false, List, [], ◌∷◌, ◌++◌, length, take, drop, Option, Some, None, refl, sym, ap, ◌∙◌, subst, inl, inr, arith, append_assoc, eq-eqb, length-drop}
+use Rattle.std.specs.Prelude.{◌&&◌}
+use Rattle.std.proofs.lemmas.Bool.{ne_eqb}
+use Rattle.std.proofs.lemmas.Bool.Decides.{eqb_tells}
+use Rattle.std.proofs.lemmas.List.{length-take, length-append, append-nil, drop_all, drop-drop, take_all}
+use Rattle.std.specs.Int.{w16, from_le_bytes}
+use Rattle.rv_word.specs.declared.instr.Instr.{Instr}
+use Rattle.rv_word.specs.declared.length.Length.{Length}
+use Rattle.rv_word.specs.declared.length.Length.TheVariants.{Wide, Longer}
+use Rattle.rv_word.specs.declared.length.Length.TheVariants as lengths
+use Rattle.rv_word.specs.Lengths.{length_of}
+use Rattle.rv_comp.specs.Fronts.{Spells, IsCutShort, SpellsNothing}
+use Rattle.rv_comp.specs.declared.front.Front.TheVariants.{Read}
+use Rattle.rv_comp.specs.declared.front.Front.TheVariants as fronts
+use Rattle.sfi_scan.specs.declared.before.Before.{Before}
+use Rattle.sfi_scan.specs.declared.bundle.BundlePlace.{BundlePlace}
+use Rattle.sfi_scan.specs.declared.rule.Rule.{Rule}
+use Rattle.sfi_scan.specs.declared.rule.Rule.TheVariants.{V1, V2}
+use Rattle.sfi_scan.specs.declared.finding.Finding.{Finding}
+use Rattle.sfi_scan.specs.Readings.{Piece, IsReading, IsLongestReading, rest_of}
+use Rattle.sfi_scan.specs.Rules.{Place, is_empty}
+use Rattle.sfi_scan.specs.Findings.{broken, lowest, all_rules, findings_from, rest_finding, rule_of_length, AreReadingFindings}
+use Rattle.sfi_scan.specs.Near.{near, finding_of}
+
+-- ---- spellings
+
+pub spell_size : (bytes : List ℕ) (i : Instr) (n : ℕ) → Spells bytes i n → (n ≡ length bytes) × (2 ≤ n) × (n ≤ 4) × (n % 2 ≡ 0)
+spell_size bytes i n (inl s) = let size = s.size in let all = s.all in (omega arith, omega arith, omega arith, rw size refl)
+spell_size bytes i n (inr s) = let size = s.size in let all = s.all in (omega arith, omega arith, omega arith, rw size refl)
+
+-- what is spelled at the front is there whole
+pub spell_fits : (bytes : List ℕ) (i : Instr) (n : ℕ) → Spells (take n bytes) i n → n ≤ length bytes
+spell_fits bytes i n s = let size = spell_size (take n bytes) i n s in let cut = length-take n bytes in omega (arith, size.0, cut)
+
+-- a reading of no bytes has no pieces
+nothing_there : (reading : List Piece) → IsReading [] reading → reading ≡ []
+nothing_there [] h = refl
+nothing_there (x ∷ reading) h = absurd (let none : List ℕ = [] in let fits = spell_fits none x.instr x.size h.0 in let size = spell_size (take x.size none) x.instr x.size h.0 in omega (arith, fits, size.1))
+
+-- ---- the walk
+
+-- what the rest of a bundle adds to the findings, if it is read so
+abbrev pub tail_findings : BundlePlace → ℕ → ℕ → List Instr → List ℕ → List Piece → List Finding
+tail_findings b count at earlier rest later =
+    findings_from b (is_empty (rest_of rest later)) at earlier later
+    ++ rest_finding b (b.address + (count - length (rest_of rest later))) (rest_of rest later)
+
+-- at this place, with these findings so far
+pub record Leads (b : BundlePlace) (bytes : List ℕ) (at : ℕ) (before : Before) (found : List Finding) : Type 0 where
+  pub earlier : List Instr
+  pub near_is : near earlier ≡ before
+  pub few : 2 * length found ≤ at
+  pub even : at % 2 ≡ 0
+  pub within : at ≤ 16
+  pub leads : (later : List Piece) → IsLongestReading (drop at bytes) later → AreReadingFindings b bytes (found ++ tail_findings b (length bytes) (b.address + at) earlier (drop at bytes) later)
+
+at_zero : (b : BundlePlace) (bytes : List ℕ) (later : List Piece) (rest : List ℕ) (at : ℕ) → rest ≡ bytes → at ≡ b.address → IsLongestReading rest later → AreReadingFindings b bytes (tail_findings b (length bytes) at [] rest later)
+at_zero b bytes later rest at e f longest =
+    record {
+      reading = later;
+      longest = subst (λ (r : List ℕ). IsLongestReading r later) e longest;
+      found_is = ap (λ (r : List ℕ). tail_findings b (length bytes) at [] r later) e ∙ ap (λ k. tail_findings b (length bytes) k [] bytes later) f;
+    }
+
+pub at_first : (b : BundlePlace) (bytes : List ℕ) → Leads b bytes 0 (near []) []
+at_first b bytes = record {
+  earlier = [];
+  near_is = refl;
+  few = omega arith;
+  even = refl;
+  within = omega arith;
+  leads = λ later longest. at_zero b bytes later (drop 0 bytes) (b.address + 0) refl (omega arith) longest;
+}
+
+-- whether a piece is the bundle's last, as the rule asks it
+is_last : (rest : List ℕ) (later : List Piece) → IsReading rest later → (is_empty (rest_of rest later) && is_empty later) ≡ is_empty rest
+is_last [] later h = rw (nothing_there later h) refl
+is_last (x ∷ rest) [] h = refl
+is_last (x ∷ rest) (y ∷ later) h = and_false (is_empty (rest_of (drop y.size (x ∷ rest)) later))
+  where
+    and_false : (p : Bool) → (p && false) ≡ false
+    and_false true = refl
+    and_false false = refl
+
+drop_drop : (n at : ℕ) (xs : List ℕ) → drop n (drop at xs) ≡ drop (at + n) xs
+drop_drop n at xs = drop-drop n at xs
+
+none_at : (xs : List ℕ) (n : ℕ) → length xs ≡ n → is_empty xs ≡ (n == 0)
+none_at [] n e = sym (eq-eqb n 0 (sym e))
+none_at (x ∷ xs) n e = sym (ne_eqb n 0 (λ z. omega arith))
+
+same_piece : (i j : Instr) (m n : ℕ) → Read i n ≡ Read j m → (i ≡ j) × (n ≡ m)
+same_piece i j m n e = (cc, cc)
+
+-- a longest reading behind the only piece that can stand at the front
+longer : (rest : List ℕ) (i : Instr) (n : ℕ) (later : List Piece) → Spells (take n rest) i n → ((j : Instr) (m : ℕ) → Spells (take m rest) j m → Read i n ≡ Read j m) → IsLongestReading (drop n rest) later → IsLongestReading rest (record { instr = i; size = n } ∷ later)
+longer rest i n later s only h = record { is_reading = (s, h.is_reading); longest = most }
+  where
+    most : (other : List Piece) → IsReading rest other → length other ≤ length (record { instr = i; size = n } ∷ later)
+    most [] g = omega arith
+    most (y ∷ other) g =
+        let e = same_piece i y.instr y.size n (only y.instr y.size g.0) in
+        let k = h.longest other (subst (λ m. IsReading (drop m rest) other) (sym e.1) g.1) in
+        omega arith
+
+at_end : (k : ℕ) → k ≤ 16 → (16 - k == 0) ≡ (k == 16)
+at_end k h = elim (eqb_tells k 16) [ inl e ↦ rw (e.0) (eq-eqb (16 - k) 0 (omega (arith, e.1))) | inr e ↦ rw (e.0) (ne_eqb (16 - k) 0 (λ z. e.1 (omega arith))) ]
+
+sums : (a b c : ℕ) → a + b + c ≡ a + (b + c)
+sums a b c = omega arith
+
+regroup : (found here here' more rest : List Finding) → here ≡ here' → found ++ ((here ++ more) ++ rest) ≡ (found ++ here') ++ (more ++ rest)
+regroup found here here' more rest e = rw e (simp append_assoc)
+
+pub next : (b : BundlePlace) (bytes : List ℕ) (at n : ℕ) (before after : Before) (found : List Finding) (i : Instr) (o : Option Rule)
+    → length bytes ≡ 16
+    → Leads b bytes at before found
+    → Spells (take n (drop at bytes)) i n
+    → ((j : Instr) (m : ℕ) → Spells (take m (drop at bytes)) j m → Read i n ≡ Read j m)
+    → ((x : Place) → x.bundle ≡ b → x.address ≡ b.address + at → near x.earlier ≡ before → x.instr ≡ i → (x.whole && is_empty x.later) ≡ (at + n == 16) → lowest x all_rules ≡ finding_of b (b.address + at) o)
+    → ((earlier : List Instr) → near earlier ≡ before → after ≡ near (i ∷ earlier))
+    → Leads b bytes (at + n) after (found ++ finding_of b (b.address + at) o)
+next b bytes at n before after found i o count so_far s only rule go =
+    let size = spell_size (take n (drop at bytes)) i n s in
+    let fits = spell_fits (drop at bytes) i n s in
+    let left = length-drop at bytes in
+    let even = so_far.even in
+    let few = so_far.few in
+    let within = so_far.within in
+    record {
+      earlier = i ∷ so_far.earlier;
+      near_is = sym (go so_far.earlier so_far.near_is);
+      few = few_more found o few;
+      even = omega (arith, size.3);
+      within = omega (arith, fits, left);
+      leads = leads;
+    }
+  where
+    few_more : (found : List Finding) (o : Option Rule) → 2 * length found ≤ at → 2 * length (found ++ finding_of b (b.address + at) o) ≤ at + n
+    few_more found None h = rw (append-nil found) (omega arith)
+    few_more found (Some r) h =
+        let size = spell_size (take n (drop at bytes)) i n s in
+        rw (length-append found (broken b (b.address + at) r ∷ [])) (omega (arith, size.1))
+
+    behind : drop n (drop at bytes) ≡ drop (at + n) bytes
+    behind = drop_drop n at bytes
+
+    leads : (later : List Piece) → IsLongestReading (drop (at + n) bytes) later → AreReadingFindings b bytes ((found ++ finding_of b (b.address + at) o) ++ tail_findings b (length bytes) (b.address + (at + n)) (i ∷ so_far.earlier) (drop (at + n) bytes) later)
+    leads later longest =
+        let longest' = subst (λ (r : List ℕ). IsLongestReading r later) (sym behind) longest in
+        let old = so_far.leads (record { instr = i; size = n } ∷ later) (longer (drop at bytes) i n later s only longest') in
+        let place : Place = record { bundle = b; address = b.address + at; earlier = so_far.earlier; instr = i; later = later; whole = is_empty (rest_of (drop n (drop at bytes)) later) } in
+        let left : length (drop n (drop at bytes)) ≡ 16 - (at + n) = omega (arith, length-drop at bytes, length-drop n (drop at bytes)) in
+        let last = is_last (drop n (drop at bytes)) later longest'.is_reading ∙ none_at (drop n (drop at bytes)) (16 - (at + n)) left ∙ at_end (at + n) (omega (arith, spell_fits (drop at bytes) i n s, length-drop at bytes, so_far.within)) in
+        let here = rule place refl refl so_far.near_is refl last in
+        let joined = regroup found (lowest place all_rules) (finding_of b (b.address + at) o) (findings_from b (is_empty (rest_of (drop n (drop at bytes)) later)) (b.address + at + n) (i ∷ so_far.earlier) later) (rest_finding b (b.address + (length bytes - length (rest_of (drop n (drop at bytes)) later))) (rest_of (drop n (drop at bytes)) later)) here in
+        let moved = ap (λ (r : List ℕ). (found ++ finding_of b (b.address + at) o) ++ tail_findings b (length bytes) (b.address + at + n) (i ∷ so_far.earlier) r later) behind in
+        let placed = ap (λ k. (found ++ finding_of b (b.address + at) o) ++ tail_findings b (length bytes) k (i ∷ so_far.earlier) (drop (at + n) bytes) later) (sums b.address at n) in
+        subst (λ (l : List Finding). AreReadingFindings b bytes l) (joined ∙ moved ∙ placed) old
+
+-- ---- its ends
+
+longest_of_none : IsLongestReading [] []
+longest_of_none = record { is_reading = tt; longest = λ other h. let e = nothing_there other h in rw e (omega arith) }
+
+-- behind the last byte
+pub at_last : (b : BundlePlace) (bytes : List ℕ) (at : ℕ) (before : Before) (found : List Finding) → length bytes ≡ 16 → 16 ≤ at → Leads b bytes at before found → AreReadingFindings b bytes found
+at_last b bytes at before found count over so_far =
+    let none : drop at bytes ≡ [] = drop_all at bytes (omega arith) in
+    let done = so_far.leads [] (subst (λ (r : List ℕ). IsLongestReading r []) (sym none) longest_of_none) in
+    let same = ap (λ (r : List ℕ). found ++ tail_findings b (length bytes) (b.address + at) so_far.earlier r []) none ∙ append-nil found in
+    subst (λ (l : List Finding). AreReadingFindings b bytes l) same done
+
+longest_of_stuck : (rest : List ℕ) → ((i : Instr) (n : ℕ) → Spells (take n rest) i n → ⊥) → IsLongestReading rest []
+longest_of_stuck rest stuck = record { is_reading = tt; longest = most }
+  where
+    most : (other : List Piece) → IsReading rest other → length other ≤ 0
+    most [] h = omega arith
+    most (x ∷ other) h = absurd (stuck x.instr x.size h.0)
+
+-- where nothing is spelled
+pub at_rest : (b : BundlePlace) (bytes : List ℕ) (at : ℕ) (before : Before) (found : List Finding) (rule : Rule) → length bytes ≡ 16 → at < 16
+    → ((i : Instr) (n : ℕ) → Spells (take n (drop at bytes)) i n → ⊥)
+    → rest_finding b (b.address + at) (drop at bytes) ≡ broken b (b.address + at) rule ∷ []
+    → Leads b bytes at before found → AreReadingFindings b bytes (found ++ broken b (b.address + at) rule ∷ [])
+at_rest b bytes at before found rule count below stuck e so_far =
+    let done = so_far.leads [] (longest_of_stuck (drop at bytes) stuck) in
+    let place : length bytes - length (drop at bytes) ≡ at = omega (arith, length-drop at bytes) in
+    let same = ap (λ k. found ++ rest_finding b (b.address + k) (drop at bytes)) place ∙ ap (λ (l : List Finding). found ++ l) e in
+    subst (λ (l : List Finding). AreReadingFindings b bytes l) same done
+
+-- where an instruction is cut short by the bundle's end
+pub rest_short : (b : BundlePlace) (at : ℕ) (rest : List ℕ) → 2 ≤ length rest → length rest % 2 ≡ 0 → IsCutShort rest → rest_finding b at rest ≡ broken b at V2 ∷ []
+rest_short b at [] h even cut = absurd (omega arith)
+rest_short b at (x ∷ []) h even cut = absurd (omega arith)
+rest_short b at (x ∷ y ∷ []) h even (inl low) = absurd (omega arith)
+rest_short b at (x ∷ y ∷ []) h even (inr wide) = ap (λ (l : Length). broken b at (rule_of_length l) ∷ []) wide.1
+rest_short b at (x ∷ y ∷ z ∷ []) h even cut = absurd (let three : 3 % 2 ≡ 0 = even in omega arith)
+rest_short b at (x ∷ y ∷ z ∷ u ∷ rest) h even (inl low) = absurd (omega arith)
+rest_short b at (x ∷ y ∷ z ∷ u ∷ rest) h even (inr wide) = absurd (let low = wide.0 in omega arith)
+
+-- where what stands there is no instruction
+pub rest_bad : (b : BundlePlace) (at : ℕ) (rest : List ℕ) → 0 < length rest → (IsCutShort rest → ⊥) → rest_finding b at rest ≡ broken b at V1 ∷ []
+rest_bad b at [] h none = absurd (omega arith)
+rest_bad b at (x ∷ []) h none = refl
+rest_bad b at (x ∷ y ∷ []) h none = ap (λ (r : Rule). broken b at r ∷ []) (not_wide (length_of (from_le_bytes w16 (x ∷ y ∷ []))) (λ wide. none (inr (omega arith, wide))))
+  where
+    not_wide : (l : Length) → (l ≡ Wide → ⊥) → rule_of_length l ≡ V1
+    not_wide lengths.Short h = refl
+    not_wide Wide h = absurd (h refl)
+    not_wide Longer h = refl
+rest_bad b at (x ∷ y ∷ z ∷ rest) h none = refl
+
+-- ---- as the code has it: the rest is a slice of the bytes
+
+pub slice_is : (at : ℕ) (bytes : List ℕ) → length bytes ≡ 16 → take (16 - at) (drop at bytes) ≡ drop at bytes
+slice_is at bytes e = take_all (16 - at) (drop at bytes) (omega (arith, length-drop at bytes))
+
+pub next_of : (b : BundlePlace) (bytes : List ℕ) (at n : ℕ) (before after : Before) (found : List Finding) (i : Instr) (o : Option Rule)
+    → length bytes ≡ 16
+    → Leads b bytes at before found
+    → Spells (take n (take (16 - at) (drop at bytes))) i n
+    → ((j : Instr) (m : ℕ) → Spells (take m (take (16 - at) (drop at bytes))) j m → Read i n ≡ Read j m)
+    → ((x : Place) → x.bundle ≡ b → x.address ≡ b.address + at → near x.earlier ≡ before → x.instr ≡ i → (x.whole && is_empty x.later) ≡ (at + n == 16) → lowest x all_rules ≡ finding_of b (b.address + at) o)
+    → ((earlier : List Instr) → near earlier ≡ before → after ≡ near (i ∷ earlier))
+    → Leads b bytes (at + n) after (found ++ finding_of b (b.address + at) o)
+next_of b bytes at n before after found i o count so_far s only rule go =
+    let e = slice_is at bytes count in
+    next b bytes at n before after found i o count so_far
+    (subst (λ (r : List ℕ). Spells (take n r) i n) e s)
+    (λ j m t. only j m (subst (λ (r : List ℕ). Spells (take m r) j m) (sym e) t))
+    rule go
+
+not_short : (i : Instr) (n : ℕ) → fronts.Short ≡ Read i n → ⊥
+not_short i n e = cc
+
+even_left : (at left : ℕ) → at < 16 → at % 2 ≡ 0 → left ≡ 16 - at → (2 ≤ left) × (left % 2 ≡ 0)
+even_left at left h even e = (omega arith, omega arith)
+
+pub short_end : (b : BundlePlace) (bytes : List ℕ) (at : ℕ) (before : Before) (found : List Finding) → length bytes ≡ 16 → at < 16
+    → Leads b bytes at before found
+    → ((j : Instr) (m : ℕ) → Spells (take m (take (16 - at) (drop at bytes))) j m → fronts.Short ≡ Read j m)
+    → IsCutShort (take (16 - at) (drop at bytes))
+    → AreReadingFindings b bytes (found ++ broken b (b.address + at) V2 ∷ [])
+short_end b bytes at before found count below so_far only cut =
+    let e = slice_is at bytes count in
+    let left = even_left at (length (drop at bytes)) below so_far.even (omega (arith, length-drop at bytes)) in
+    at_rest b bytes at before found V2 count below
+    (λ i n s. not_short i n (only i n (subst (λ (r : List ℕ). Spells (take n r) i n) (sym e) s)))
+    (rest_short b (b.address + at) (drop at bytes) left.0 left.1 (subst (λ (r : List ℕ). IsCutShort r) e cut))
+    so_far
+
+pub bad_end : (b : BundlePlace) (bytes : List ℕ) (at : ℕ) (before : Before) (found : List Finding) → length bytes ≡ 16 → at < 16
+    → Leads b bytes at before found
+    → SpellsNothing (take (16 - at) (drop at bytes))
+    → AreReadingFindings b bytes (found ++ broken b (b.address + at) V1 ∷ [])
+bad_end b bytes at before found count below so_far nothing =
+    let nothing' = subst (λ (r : List ℕ). SpellsNothing r) (slice_is at bytes count) nothing in
+    at_rest b bytes at before found V1 count below nothing'.unspelled
+    (rest_bad b (b.address + at) (drop at bytes) (omega (arith, length-drop at bytes)) nothing'.enough)
+    so_far
+
+-- ---- what a push leaves
+
+pub pushed : (b : BundlePlace) (at : ℕ) (rule : Rule) (f : Finding) (found after : List Finding) → after ≡ found ++ f ∷ [] → f ≡ broken b at rule → after ≡ found ++ broken b at rule ∷ []
+pushed b at rule f found after e g = e ∙ ap (λ (x : Finding). found ++ x ∷ []) g
+
+pub some_found : (b : BundlePlace) (at : ℕ) (o : Option Rule) (rule : Rule) (found after : List Finding) → after ≡ found ++ broken b at rule ∷ [] → o ≡ Some rule → after ≡ found ++ finding_of b at o
+some_found b at o rule found after e h = e ∙ ap (λ (p : Option Rule). found ++ finding_of b at p) (sym h)
+
+pub none_found : (b : BundlePlace) (at : ℕ) (o : Option Rule) (found after : List Finding) → after ≡ found → o ≡ None → after ≡ found ++ finding_of b at o
+none_found b at o found after e h = e ∙ sym (append-nil found) ∙ ap (λ (p : Option Rule). found ++ finding_of b at p) (sym h)

@@ -1,0 +1,29 @@
+-- Laws of readings, rules and findings.
+use Rattle.std.specs.Prelude.{◌≡◌, ◌↔◌, ℕ, List, IsTrue}
+use Rattle.sfi_image.specs.Spelling.{Part}
+use Rattle.sfi_image.specs.Regions.{IsBundleStart}
+use Rattle.sfi_scan.specs.declared.bundle.BundlePlace.{BundlePlace}
+use Rattle.sfi_scan.specs.declared.finding.Finding.{Finding}
+use Rattle.sfi_scan.specs.Readings.{Piece, IsLongestReading}
+use Rattle.sfi_scan.specs.Rules.{is_bundle_start}
+use Rattle.sfi_scan.specs.Findings.{AreBundleFindings, AreFindings, AreImageFindings}
+
+-- the rules' bundle starts are those of the image's code region
+abbrev pub SameBundleStarts : Type 0
+SameBundleStarts = (b : BundlePlace) (at : ℕ) → IsTrue (is_bundle_start b at) ↔ IsBundleStart (record { base = b.code_base; size = b.code_size }) at
+
+-- a list of bytes has one longest reading
+abbrev pub OneLongestReading : Type 0
+OneLongestReading = (bytes : List ℕ) (xs ys : List Piece) → IsLongestReading bytes xs → IsLongestReading bytes ys → xs ≡ ys
+
+-- a bundle has one list of findings
+abbrev pub OneBundleList : Type 0
+OneBundleList = (b : BundlePlace) (bytes : List ℕ) (xs ys : List Finding) → AreBundleFindings b bytes xs → AreBundleFindings b bytes ys → xs ≡ ys
+
+-- a part has one list of findings
+abbrev pub OneList : Type 0
+OneList = (sandbox : ℕ) (p : Part) (xs ys : List Finding) → AreFindings sandbox p xs → AreFindings sandbox p ys → xs ≡ ys
+
+-- an image has one list of findings
+abbrev pub OneImageList : Type 0
+OneImageList = (ps : List Part) (xs ys : List Finding) → AreImageFindings ps xs → AreImageFindings ps ys → xs ≡ ys

@@ -1,0 +1,25 @@
+-- Words of private contracts: what the scan keeps while it reads a bundle, and the next listed gate.
+use Rattle.std.specs.Prelude.{ℕ, List, [], ◌∷◌, ◌==◌, Bool, false, Option, Some, None}
+use Rattle.sfi_image.specs.declared.part.Gate.{Gate}
+use Rattle.rv_word.specs.declared.instr.Instr.{Instr}
+use Rattle.sfi_scan.specs.declared.before.Before.{Before}
+use Rattle.sfi_scan.specs.declared.bundle.BundlePlace.{BundlePlace}
+use Rattle.sfi_scan.specs.declared.rule.Rule.{Rule}
+use Rattle.sfi_scan.specs.declared.finding.Finding.{Finding}
+use Rattle.sfi_scan.specs.Findings.{broken}
+
+-- the two nearest of the instructions before a place
+abbrev pub near : List Instr → Before
+near [] = record { first = None; second = None }
+near (b ∷ []) = record { first = None; second = Some b }
+near (b ∷ a ∷ earlier) = record { first = Some a; second = Some b }
+
+-- the finding of a broken rule, if one is
+abbrev pub finding_of : BundlePlace → ℕ → Option Rule → List Finding
+finding_of b at None = []
+finding_of b at (Some rule) = broken b at rule ∷ []
+
+-- the first of the gates is at the address
+abbrev pub is_first_at : List Gate → ℕ → Bool
+is_first_at [] a = false
+is_first_at (g ∷ gates) a = g.address == a

@@ -1,0 +1,100 @@
+//! The instructions directly before a place, and the masked pairs that they may be.
+ghost use Rattle.std.specs.Prelude.{◌≡◌, List, [], ◌∷◌};
+ghost use Rattle.rv_word.specs.declared.instr.Instr.{Instr};
+ghost use Rattle.sfi_scan.specs.Pairs.{is_reserved, is_masking, is_placing, follows_pair};
+ghost use Rattle.sfi_scan.specs.Near.{near};
+
+use rv_word::{Instr, Reg, RegOp};
+
+/// The two instructions directly before a place in its bundle, as far as there are.
+#[derive(Clone, Copy)]
+pub(crate) struct Before {
+    pub(crate) first: Option<Instr>,
+    pub(crate) second: Option<Instr>,
+}
+
+/// Which reserved registers a pair uses.
+#[derive(Clone, Copy)]
+pub(crate) struct Pair {
+    pub(crate) mask: u8,
+    pub(crate) base: u8,
+}
+
+/// x24 to x27.
+pub(crate) fn is_reserved(reg: Reg) -> bool
+    ensures { result ≡ is_reserved reg }
+{
+    let number = reg.number();
+    number == 24 || number == 25 || number == 26 || number == 27
+}
+
+/// `and target, a, mask`.
+fn is_masking(mask: u8, target: Reg, instr: &Instr) -> bool
+    ensures { result ≡ is_masking mask target instr.now }
+{
+    match *instr {
+        Instr::Op {
+            op: RegOp::And,
+            rd,
+            rs2,
+            ..
+        } => rd.number() == target.number() && rs2.number() == mask,
+        _ => false,
+    }
+}
+
+/// `or target, target, base`.
+fn is_placing(base: u8, target: Reg, instr: &Instr) -> bool
+    ensures { result ≡ is_placing base target instr.now }
+{
+    match *instr {
+        Instr::Op {
+            op: RegOp::Or,
+            rd,
+            rs1,
+            rs2,
+        } => {
+            rd.number() == target.number()
+                && rs1.number() == target.number()
+                && rs2.number() == base
+        }
+        _ => false,
+    }
+}
+
+impl Before {
+    /// At a bundle's first instruction.
+    pub(crate) fn nothing() -> Self
+        ensures { result ≡ near [] }
+    {
+        Before {
+            first: None,
+            second: None,
+        }
+    }
+
+    /// Behind this instruction too.
+    pub(crate) fn and_then(self, instr: Instr) -> Self
+        ensures { (earlier : List Instr) → near earlier ≡ self → result ≡ near (instr ∷ earlier) }
+    {
+        Before {
+            first: self.second,
+            second: Some(instr),
+        }
+    }
+
+    /// Whether the two are the pair on this register.
+    pub(crate) fn is_pair(&self, pair: Pair, target: Reg) -> bool
+        ensures { (earlier : List Instr) → near earlier ≡ self.now → result ≡ follows_pair pair.mask pair.base target earlier }
+    {
+        match (&self.first, &self.second) {
+            (Some(first), Some(second)) => {
+                is_masking(pair.mask, target, first)
+                    && is_placing(pair.base, target, second)
+                    && target.number() != 0
+                    && !is_reserved(target)
+            }
+            (None, _) | (_, None) => false,
+        }
+    }
+}

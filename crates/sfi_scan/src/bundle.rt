@@ -1,0 +1,16 @@
+//! A bundle's place.
+
+/// Where a bundle stands.
+#[derive(Clone, Copy, PartialEq, Eq, Debug)]
+pub struct BundlePlace {
+    /// The sandbox's place in the image, counted from 0.
+    pub sandbox: u32,
+    /// The bundle's first address, a multiple of 16.
+    pub address: u32,
+    /// The first address of the sandbox's code region.
+    pub code_base: u32,
+    /// The size of the code region in bytes.
+    pub code_size: u32,
+    /// Whether the image lists a gate at this bundle.
+    pub listed: bool,
+}

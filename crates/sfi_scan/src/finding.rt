@@ -1,0 +1,13 @@
+//! A broken rule, and where.
+
+use crate::rule::Rule;
+
+/// A rule that is broken, and where.
+#[derive(Clone, Copy, PartialEq, Eq, Debug)]
+pub struct Finding {
+    /// The sandbox's place in the image, counted from 0.
+    pub sandbox: u32,
+    /// That of the first byte of the instruction, or of what is none.
+    pub address: u32,
+    pub rule: Rule,
+}

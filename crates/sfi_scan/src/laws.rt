@@ -1,0 +1,37 @@
+//! What holds of readings, rules and findings. A call costs nothing.
+ghost use Rattle.sfi_scan.specs.Laws.{SameBundleStarts, OneLongestReading, OneBundleList, OneList, OneImageList};
+
+use rv_comp::laws::one_spelling;
+
+/// The rules' bundle starts are those of the image's code region.
+pub fn same_bundle_starts()
+    ensures { SameBundleStarts }
+{}
+
+/// A list of bytes has one longest reading.
+pub fn one_longest_reading()
+    ensures { OneLongestReading }
+{
+    one_spelling();
+}
+
+/// A bundle has one list of findings.
+pub fn one_bundle_list()
+    ensures { OneBundleList }
+{
+    one_spelling();
+}
+
+/// A part has one list of findings.
+pub fn one_list()
+    ensures { OneList }
+{
+    one_spelling();
+}
+
+/// An image has one list of findings.
+pub fn one_image_list()
+    ensures { OneImageList }
+{
+    one_spelling();
+}

@@ -1,0 +1,22 @@
+//! The rules of sandboxed code, and the places of an image where they are broken.
+//!
+//! Code is read in bundles, aligned blocks of 16 bytes (Yee and others, 2009, "Native Client"). An access and an indirect jump
+//! stand behind a masked pair in the same bundle (Wahbe and others, 1993, "Efficient Software-Based Fault Isolation").
+#![tactic(auto)]
+
+mod before;
+mod bundle;
+mod finding;
+mod findings;
+pub mod laws;
+mod part;
+mod rule;
+mod rules;
+mod scan;
+
+pub use bundle::BundlePlace;
+pub use finding::Finding;
+pub use findings::BundleFindings;
+pub use part::scan_part;
+pub use rule::Rule;
+pub use scan::scan_bundle;

@@ -1,0 +1,64 @@
+//! The scan of a sandbox's part of an image.
+ghost use Rattle.std.specs.Prelude.{◌≡◌, IfOk, drop};
+ghost use Rattle.sfi_image.specs.Spelling.{view};
+ghost use Rattle.sfi_image.specs.Parts.{IsRightPart};
+ghost use Rattle.sfi_scan.specs.Findings.{AreFindings};
+ghost use Rattle.sfi_scan.specs.Near.{is_first_at};
+
+use crate::bundle::BundlePlace;
+use crate::finding::Finding;
+use crate::findings::BundleFindings;
+use crate::scan::scan_bundle;
+use sfi_image::{Gate, SandboxPart};
+use std::alloc::{AllocError, Global};
+
+/// Whether the first of the gates is at the address.
+fn is_first_at(gates: &[Gate], address: u32) -> bool
+    ensures { result ≡ is_first_at gates.now address }
+{
+    match gates {
+        [gate, ..] => gate.address == address,
+        [] => false,
+    }
+}
+
+/// The gates behind the first.
+fn behind_first(gates: &[Gate]) -> &[Gate]
+    ensures { result.now ≡ drop 1 gates.now }
+{
+    match gates {
+        [_, rest @ ..] => rest,
+        [] => gates,
+    }
+}
+
+/// The findings of the part, which is that of the sandbox of this number, in the order of their addresses.
+pub fn scan_part(
+    alloc: Global,
+    sandbox: u32,
+    part: &SandboxPart,
+) -> Result<Vec<Finding>, AllocError>
+    requires { IsRightPart (view part.now) }
+    ensures { IfOk result (λ found. AreFindings sandbox (view part.now) found.items) }
+{
+    let mut found = Vec::new(alloc);
+    let mut findings = BundleFindings::new();
+    let mut gates = part.gates.as_slice();
+    for (k, bytes) in part.code.as_chunks::<16>().0.iter().enumerate() {
+        let address = part.code_base + 16 * k as u32;
+        let listed = is_first_at(gates, address);
+        if listed {
+            gates = behind_first(gates);
+        }
+        let place = BundlePlace {
+            sandbox,
+            address,
+            code_base: part.code_base,
+            code_size: part.code.len() as u32,
+            listed,
+        };
+        scan_bundle(&place, bytes, &mut findings);
+        found.extend_from_slice(findings.as_slice())?;
+    }
+    Ok(found)
+}

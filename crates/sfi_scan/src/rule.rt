@@ -1,0 +1,46 @@
+//! The rules by name.
+ghost use Rattle.std.specs.Prelude.{◌≡◌};
+
+/// A rule of sandboxed code.
+#[derive(Clone, Copy, PartialEq, Eq, Debug)]
+pub enum Rule {
+    /// What stands there is no instruction.
+    V1,
+    /// A 32-bit instruction crosses the bundle's end.
+    V2,
+    /// An `ecall` that isn't the first instruction of a listed gate.
+    V3,
+    /// A reserved register, x24 to x27, is written.
+    V4,
+    /// A load or store without the data pair on its base directly before it.
+    V5,
+    /// An indirect jump with an offset, or without the code pair on its base directly before it.
+    V6,
+    /// A jump or branch to what is no bundle start of its own code region.
+    V7,
+    /// The region's last instruction lets control run on behind the region.
+    V8,
+    /// A listed gate's bundle isn't the gate stub.
+    V9,
+}
+
+impl Rule {
+    ghost use Rattle.sfi_scan.specs.Numbers.{number_of};
+
+    /// The rule's number, 1 to 9.
+    pub fn number(self) -> u32
+        ensures { result ≡ number_of self }
+    {
+        match self {
+            Rule::V1 => 1,
+            Rule::V2 => 2,
+            Rule::V3 => 3,
+            Rule::V4 => 4,
+            Rule::V5 => 5,
+            Rule::V6 => 6,
+            Rule::V7 => 7,
+            Rule::V8 => 8,
+            Rule::V9 => 9,
+        }
+    }
+}

@@ -1,0 +1,73 @@
+//! The scan of a bundle.
+ghost use Rattle.std.specs.Prelude.{◌≡◌, ◌+◌, ◌<◌};
+ghost use Rattle.sfi_scan.specs.Bundles.{IsWithin};
+ghost use Rattle.sfi_scan.specs.Findings.{AreBundleFindings, AreReadingFindings};
+
+use crate::before::Before;
+use crate::bundle::BundlePlace;
+use crate::finding::Finding;
+use crate::findings::BundleFindings;
+use crate::rule::Rule;
+use crate::rules::lowest_rule;
+use rv_comp::{Front, read_front};
+
+/// `ecall; and x31, x1, x25; or x31, x31, x24; jalr x0, 0(x31)`.
+const STUB: [u8; 16] = [
+    0x73, 0x00, 0x00, 0x00, 0xb3, 0xff, 0x90, 0x01, 0xb3, 0xef, 0x8f, 0x01, 0x67, 0x80, 0x0f, 0x00,
+];
+
+fn finding(place: &BundlePlace, offset: usize, rule: Rule) -> Finding
+    requires within { IsWithin place.now }
+    requires inside { offset < 16 }
+    ensures { result ≡ record { sandbox = place.now.sandbox; address = place.now.address + offset; rule = rule } }
+{
+    Finding {
+        sandbox: place.sandbox,
+        address: place.address + offset as u32,
+        rule,
+    }
+}
+
+/// Reads the bundle, and replaces the findings by those of its instructions.
+fn scan_instructions(place: &BundlePlace, bytes: &[u8; 16], findings: &mut BundleFindings)
+    requires within { IsWithin place.now }
+    ensures { AreReadingFindings place.now bytes.now findings.new }
+{
+    findings.clear();
+    let mut before = Before::nothing();
+    let mut at = 0;
+    while at < 16 {
+        match read_front(&bytes[at..]) {
+            Front::Read(instr, size) => {
+                let next = at + size as usize;
+                let address = place.address + at as u32;
+                if let Some(rule) = lowest_rule(place, address, &before, &instr, next == 16) {
+                    findings.push(finding(place, at, rule));
+                }
+                before = before.and_then(instr);
+                at = next;
+            }
+            Front::Short => {
+                findings.push(finding(place, at, Rule::V2));
+                return;
+            }
+            Front::Bad => {
+                findings.push(finding(place, at, Rule::V1));
+                return;
+            }
+        }
+    }
+}
+
+/// Replaces the findings by those of the bundle with these bytes, in the order of their addresses.
+pub fn scan_bundle(place: &BundlePlace, bytes: &[u8; 16], findings: &mut BundleFindings)
+    requires { IsWithin place.now }
+    ensures { AreBundleFindings place.now bytes.now findings.new }
+{
+    if place.listed && *bytes != STUB {
+        findings.clear();
+        findings.push(finding(place, 0, Rule::V9));
+    } else {
+        scan_instructions(place, bytes, findings);
+    }
+}
