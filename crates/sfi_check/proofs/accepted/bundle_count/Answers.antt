@@ -1,0 +1,22 @@
+use Rattle.std.proofs.Common.{arith}
+use Rattle.sfi_check.proofs.Counts.{one_more, few_more, few_parts, at_end}
+use Rattle.sfi_check.proofs.accepted.bundle_count.Goals as goal
+
+pub overflow_add-bundles : goal.overflow_add-bundles
+overflow_add-bundles c =
+    let more = few_more c.args.parts.now c.loop-part.part-index c.part-item.result c.part-item.result c.part-item.is c.requires c.loop-part-test.true in
+    let few = c.loop-part.invariant.few in
+    let parts = few_parts c.args.parts.now c.requires in
+    omega arith
+
+pub loop-part-preserved : goal.loop-part-preserved
+loop-part-preserved c =
+    let more = few_more c.args.parts.now c.loop-part.part-index c.part-item.result c.part-item.result c.part-item.is c.requires c.loop-part-test.true in
+    let few = c.loop-part.invariant.few in
+    record {
+      so_far = one_more c.args.parts.now c.loop-part.part-index c.part-item.result c.part-item.result c.loop-part.bundles c.part-item.is c.loop-part-test.true c.loop-part.invariant.so_far;
+      few = omega arith;
+    }
+
+pub returns : goal.returns
+returns c = at_end c.args.parts.now c.loop-part.part-index c.loop-part.bundles c.loop-part-test.false c.loop-part.invariant.so_far

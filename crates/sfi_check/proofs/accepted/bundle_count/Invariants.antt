@@ -1,0 +1,11 @@
+use Rattle.std.proofs.Common.{◌≡◌, ◌*◌, ◌≤◌, take}
+use Rattle.sfi_image.specs.Spelling.{views}
+use Rattle.sfi_check.specs.Verdict.{bundle_count}
+use Rattle.sfi_check.proofs.accepted.bundle_count.Given as goal
+
+-- the bundles of the parts so far, of which each has at most 4096
+abbrev pub invariant-loop-part : goal.invariant-loop-part
+invariant-loop-part l = record {
+  so_far : l.bundles ≡ bundle_count (take l.part-index (views l.parts));
+  few : l.bundles ≤ 4096 * l.part-index;
+}

@@ -1,0 +1,19 @@
+use Rattle.std.proofs.Common.{List, Err, sym, subst}
+use Rattle.sfi_image.specs.Spelling.{Part}
+use Rattle.sfi_image.specs.Faults.{IsFault}
+use Rattle.sfi_check.specs.declared.refusal.Refusal.{Refusal}
+use Rattle.sfi_check.specs.Refusals.{IfLayoutFault}
+use Rattle.sfi_check.specs.Verdict.{AnswersLayout}
+use Rattle.sfi_check.proofs.Verdicts.{fault_means, fault_layout}
+use Rattle.sfi_check.proofs.verdict.check.Goals as goal
+
+pub returns-in-Ok-clause-only_layout : goal.returns-in-Ok-clause-only_layout
+returns-in-Ok-clause-only_layout c = λ k fault. absurd (c.one_reading.ensures.either c.args.bytes.now c.in-Ok.image k c.in-Ok.ensures.image fault)
+
+pub returns-in-Err-clause-layout : goal.returns-in-Err-clause-layout
+returns-in-Err-clause-layout c =
+    subst (λ (r : Refusal). IfLayoutFault (IsFault c.args.bytes.now) r) (sym c.from.ensures) (fault_means c.args.bytes.now c.in-Err.fault c.in-Err.ensures.fault)
+
+pub returns-in-Err-clause-only_layout : goal.returns-in-Err-clause-only_layout
+returns-in-Err-clause-only_layout c =
+    λ k is. subst (λ (r : Refusal). AnswersLayout {A = List Part} k (Err r)) (sym c.from.ensures) (fault_layout c.args.bytes.now c.in-Err.fault (c.one_reading.ensures.faults c.args.bytes.now) c.in-Err.ensures.fault k is)

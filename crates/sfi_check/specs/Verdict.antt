@@ -1,0 +1,65 @@
+-- What `check` says of an image's bytes.
+use Rattle.std.specs.Prelude.{◌≡◌, ◌≢◌, ◌/◌, ℕ, List, [], length, sum_by, Result, Ok, Err, IfOk, IfErr}
+use Rattle.sfi_image.specs.declared.fault.LayoutFault.{LayoutFault}
+use Rattle.sfi_image.specs.Spelling.{Part}
+use Rattle.sfi_image.specs.Parts.{IsRightLayout}
+use Rattle.sfi_image.specs.Images.{IsImage}
+use Rattle.sfi_scan.specs.declared.finding.Finding.{Finding}
+use Rattle.sfi_scan.specs.Findings.{AreImageFindings}
+use Rattle.sfi_check.specs.declared.refusal.Refusal.{Refusal}
+use Rattle.sfi_check.specs.declared.refusal.Refusal.TheVariants.{Layout, Findings, Memory}
+use Rattle.sfi_check.specs.Refusals.{IfLayoutFault, IfFindings}
+
+-- ---- images
+
+-- the bundles of 16 bytes that the code regions have together
+abbrev pub bundle_count : List Part → ℕ
+bundle_count ps = sum_by (λ p. length p.code / 16) ps
+
+-- the layout is right, and no rule is broken
+pub record IsClean (ps : List Part) : Type 0 where
+  pub layout : IsRightLayout ps
+  pub none_found : AreImageFindings ps []
+
+-- ---- bytes
+
+-- the bytes are an image with these parts, in which no rule is broken
+pub record IsAccepted (bytes : List ℕ) (ps : List Part) : Type 0 where
+  pub image : IsImage bytes ps
+  pub none_found : AreImageFindings ps []
+
+-- the bytes are an image with these findings, of which there is at least one
+pub record HasFindings (bytes : List ℕ) (found : List Finding) : Type 0 where
+  pub parts : List Part
+  pub image : IsImage bytes parts
+  pub found_are : AreImageFindings parts found
+  pub some : found ≢ []
+
+-- the answer on an image with these parts, want of memory aside
+pub record Judges (ps : List Part) (answer : Result (List Part) Refusal) : Type 0 where
+  pub accepted : IfOk answer (λ qs. (qs ≡ ps) × AreImageFindings ps [])
+  pub findings : IfErr answer (IfFindings (λ found. AreImageFindings ps found × (found ≢ [])))
+  pub layout : IfErr answer (IfLayoutFault (λ k. ⊥))
+
+-- ---- answers, want of memory aside
+
+-- the answer is this fault of the layout, or memory ran out
+abbrev pub AnswersLayout : {A : Type 0} → LayoutFault → Result A Refusal → Type 0
+AnswersLayout k (Ok a) = ⊥
+AnswersLayout k (Err (Layout j)) = j ≡ k
+AnswersLayout k (Err (Findings found)) = ⊥
+AnswersLayout k (Err Memory) = Unit {0}
+
+-- the answer is these findings, or memory ran out
+abbrev pub AnswersFindings : {A : Type 0} → List Finding → Result A Refusal → Type 0
+AnswersFindings found (Ok a) = ⊥
+AnswersFindings found (Err (Layout j)) = ⊥
+AnswersFindings found (Err (Findings others)) = others.items ≡ found
+AnswersFindings found (Err Memory) = Unit {0}
+
+-- the answer is the image with these parts, or memory ran out
+abbrev pub AnswersAccepted : List Part → Result (List Part) Refusal → Type 0
+AnswersAccepted ps (Ok others) = others ≡ ps
+AnswersAccepted ps (Err (Layout j)) = ⊥
+AnswersAccepted ps (Err (Findings others)) = ⊥
+AnswersAccepted ps (Err Memory) = Unit {0}

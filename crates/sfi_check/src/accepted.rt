@@ -1,0 +1,68 @@
+//! An image that was accepted.
+ghost use Rattle.std.specs.Prelude.{◌≡◌, length};
+ghost use Rattle.sfi_image.specs.Spelling.{views};
+ghost use Rattle.sfi_image.specs.Parts.{IsRightLayout};
+ghost use Rattle.sfi_check.specs.Verdict.{IsClean, bundle_count};
+
+use sfi_image::{Image, SandboxPart};
+use std::marker::Model;
+
+/// An accepted image: its layout is right, and no rule is broken in it. Contracts see it as the list of its parts.
+#[derive(Debug, Drop)]
+pub struct Accepted<'a> {
+    image: Image<'a>,
+}
+
+impl<'a> Model for Accepted<'a> {
+    ghost use Rattle.std.specs.Prelude.{List};
+    ghost use Rattle.sfi_image.specs.Spelling.{Part};
+    ghost use Rattle.sfi_check.specs.Verdict.{IsClean};
+
+    ghost Value = { List Part };
+
+    ghost view = { λ a. a.image };
+
+    ghost invariant = { λ a. IsClean a.image };
+}
+
+impl<'a> Accepted<'a> {
+    pub(crate) fn new(image: Image<'a>) -> Accepted<'a>
+        requires { IsClean image }
+        ensures { result ≡ image.entry }
+    {
+        Accepted { image }
+    }
+
+    /// The image.
+    pub fn image(&self) -> &Image<'a>
+        ensures image { result.now ≡ self.now }
+        ensures clean { IsClean self.now }
+    {
+        &self.image
+    }
+
+    /// How many sandboxes the image has, 1 to 16.
+    pub fn sandboxes(&self) -> usize
+        ensures count { result ≡ length self.now }
+    {
+        self.image.parts().len()
+    }
+
+    /// How many bundles the code regions have together.
+    pub fn bundles(&self) -> usize
+        ensures count { result ≡ bundle_count self.now }
+    {
+        bundle_count(self.image.parts())
+    }
+}
+
+fn bundle_count(parts: &[SandboxPart]) -> usize
+    requires { IsRightLayout (views parts.now) }
+    ensures { result ≡ bundle_count (views parts.now) }
+{
+    let mut bundles = 0;
+    for part in parts {
+        bundles += part.code.len() / 16;
+    }
+    bundles
+}

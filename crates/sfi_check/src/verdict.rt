@@ -1,0 +1,66 @@
+//! The verdict on an image's bytes.
+ghost use Rattle.std.specs.Prelude.{List, IfOk, IfErr};
+ghost use Rattle.sfi_image.specs.declared.fault.LayoutFault.{LayoutFault};
+ghost use Rattle.sfi_image.specs.Spelling.{Part};
+ghost use Rattle.sfi_image.specs.Faults.{IsFault};
+ghost use Rattle.sfi_scan.specs.declared.finding.Finding.{Finding};
+ghost use Rattle.sfi_scan.specs.Findings.{AreImageFindings};
+ghost use Rattle.sfi_check.specs.Refusals.{IfLayoutFault, IfFindings};
+ghost use Rattle.sfi_check.specs.Verdict.{Judges, IsAccepted, HasFindings, AnswersLayout, AnswersFindings, AnswersAccepted};
+
+use crate::accepted::Accepted;
+use crate::refusal::Refusal;
+use sfi_image::{Image, one_reading, parse_image};
+use sfi_scan::laws::one_image_list;
+use sfi_scan::{Finding, scan_part};
+use std::alloc::{AllocError, Global};
+
+/// The findings of all sandboxes, by sandbox and then by address.
+fn findings_of(alloc: Global, image: &Image<'_>) -> Result<Vec<Finding>, AllocError>
+    ensures { IfOk result (λ found. AreImageFindings image.now found.items) }
+{
+    let mut found = Vec::new(alloc);
+    for (sandbox, part) in image.parts().iter().enumerate() {
+        let of_part = scan_part(alloc, sandbox as u32, part)?;
+        found.extend_from_slice(&of_part)?;
+    }
+    Ok(found)
+}
+
+/// Accepts the image, or gives its findings.
+fn judge<'a>(alloc: Global, image: Image<'a>) -> Result<Accepted<'a>, Refusal>
+    ensures { Judges image.entry result }
+{
+    let Ok(found) = findings_of(alloc, &image) else {
+        return Err(Refusal::Memory);
+    };
+    if found.is_empty() {
+        Ok(Accepted::new(image))
+    } else {
+        Err(Refusal::Findings(found))
+    }
+}
+
+/// Accepts the bytes, or says why not.
+///
+/// The verdict rests on the bytes alone. Want of memory is the one answer that the bytes don't determine.
+pub fn check<'a>(alloc: Global, bytes: &'a [u8]) -> Result<Accepted<'a>, Refusal>
+    // What each answer means.
+    ensures layout { IfErr result (IfLayoutFault (IsFault bytes.entry.now)) }
+    ensures findings { IfErr result (IfFindings (HasFindings bytes.entry.now)) }
+    ensures accepted { IfOk result (IsAccepted bytes.entry.now) }
+
+    // Which bytes get it, want of memory aside.
+    ensures only_layout { (k : LayoutFault) → IsFault bytes.entry.now k → AnswersLayout k result }
+    ensures only_findings { (found : List Finding) → HasFindings bytes.entry.now found → AnswersFindings found result }
+    ensures only_accepted { (parts : List Part) → IsAccepted bytes.entry.now parts → AnswersAccepted parts result }
+{
+    // The laws that the contract rests on: these calls do nothing.
+    one_reading();
+    one_image_list();
+
+    match parse_image(alloc, bytes) {
+        Ok(image) => judge(alloc, image),
+        Err(fault) => Err(Refusal::from(fault)),
+    }
+}
