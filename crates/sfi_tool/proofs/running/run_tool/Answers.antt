@@ -1,0 +1,36 @@
+use Rattle.std.proofs.Common.{◌≡◌, ◌≢◌, ◌<◌, ◌∙◌, ℕ, List, Option, Some, None, Vec, Global, sym, subst, arith, IfSome}
+use Rattle.sfi_tool.specs.Input.{IsInput}
+use Rattle.sfi_tool.specs.Says.{Says}
+use Rattle.sfi_tool.specs.declared.input.Input.TheVariants.{Whole}
+use Rattle.sfi_tool.proofs.running.run_tool.Goals as goal
+
+-- what holds of the text that was read holds of the bytes that the reader told
+of_told : (P : List ℕ → Type 0) (told : Option (List ℕ)) (whole : Vec ℕ Global) (read : List ℕ) → IsInput told (Whole whole)
+    → read ≡ whole.items → P read → IfSome told P
+of_told P None whole read is same holds = tt
+of_told P (Some bytes) whole read is same holds = subst P (same ∙ is.0) holds
+
+pub returns-in-Ok-answer-clause-says : goal.returns-in-Ok-answer-clause-says
+returns-in-Ok-answer-clause-says g c below =
+    let printed : c.printed-in-Ok-answer.result ≢ 5 = omega arith in
+    let status = c.printed-in-Ok-answer.ensures.status printed in
+    let verdict : c.in-Ok-answer.answer.status < 2 = omega (arith, status) in
+    let said = subst (λ (s : ℕ). Says c.in-Ok.job c.as_slice.result.now s c.deref-in-Ok-answer.result.now) (sym status)
+    (rw c.deref-in-Ok-answer.ensures (c.in-Ok-answer.ensures.says verdict)) in
+    record {
+      job = c.in-Ok.job;
+      asked = c.in-Ok.ensures.job;
+      wrote = of_told _ _ c.in-Ok-Whole.text c.as_slice.result.now (rw c.in-Ok-Whole.field-0-is at c.in-Ok-Whole.ensures) c.as_slice.ensures.value
+          (c.deref-in-Ok-answer.result.now, said, c.printed-in-Ok-answer.ensures.whole printed);
+    }
+
+pub returns-in-Ok-answer-clause-fault : goal.returns-in-Ok-answer-clause-fault
+returns-in-Ok-answer-clause-fault g c two =
+    let printed : c.printed-in-Ok-answer.result ≢ 5 = omega arith in
+    let status : c.in-Ok-answer.answer.status ≡ 2 = sym (c.printed-in-Ok-answer.ensures.status printed) ∙ two in
+    record {
+      job = c.in-Ok.job;
+      asked = c.in-Ok.ensures.job;
+      fault = of_told _ _ c.in-Ok-Whole.text c.as_slice.result.now (rw c.in-Ok-Whole.field-0-is at c.in-Ok-Whole.ensures) c.as_slice.ensures.value
+          (c.in-Ok-answer.ensures.fault status);
+    }

@@ -1,0 +1,7 @@
+pub mod Numbers
+pub mod Command
+pub mod Input
+pub mod Hexadecimal
+pub mod Verdict
+pub mod Says
+pub mod Run

@@ -1,0 +1,43 @@
+//! What a job answers on the text that was read.
+
+ghost use Rattle.std.specs.Prelude.{◌≡◌, ◌≤◌, ◌<◌, IfOk, string_bytes};
+ghost use Rattle.sfi_tool.specs.Says.{HasInputFault, Says, SpellsAccepted, SpellsFindings};
+
+use crate::checking::checked;
+use crate::fault::{Stop, input_line, layout_line};
+use crate::job::Job;
+use crate::verdict::Answer;
+use std::alloc::{AllocError, Global};
+
+/// What the job answers on the text that was read: its verdict, or the line of a fault.
+///
+/// A text above 134217728 bytes goes first, then an odd number of digits, then the first byte that is no
+/// digit, and then the layout of the image. The one error is that an allocation was refused.
+pub fn answer(alloc: Global, job: &Job, text: &[u8]) -> Result<Answer, AllocError>
+    // What each answer means.
+    ensures statuses { IfOk result (λ a. a.status ≤ 2) }
+    ensures says { IfOk result (λ a. a.status < 2
+        → Says job.now text.now a.status (string_bytes a.text)) }
+    ensures fault { IfOk result (λ a. a.status ≡ 2 → HasInputFault job.now text.now) }
+
+    // Which text gets it.
+    ensures only_accepted { SpellsAccepted job.now text.now → IfOk result (λ a. a.status ≡ 0) }
+    ensures only_findings { SpellsFindings job.now text.now → IfOk result (λ a. a.status ≡ 1) }
+    ensures only_fault { HasInputFault job.now text.now → IfOk result (λ a. a.status ≡ 2) }
+{
+    let answered = match job {
+        Job::Check => checked(alloc, text),
+    };
+    match answered {
+        Ok(answer) => Ok(answer),
+        Err(Stop::Input(fault)) => Ok(Answer {
+            status: 2,
+            text: input_line(alloc, &fault)?,
+        }),
+        Err(Stop::Layout(fault)) => Ok(Answer {
+            status: 2,
+            text: layout_line(alloc, fault)?,
+        }),
+        Err(Stop::Memory) => Err(AllocError),
+    }
+}

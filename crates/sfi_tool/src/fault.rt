@@ -1,0 +1,48 @@
+//! Faults of the input.
+
+ghost use Rattle.std.specs.Prelude.{◌≡◌};
+ghost use Rattle.sfi_tool.specs.declared.fault.Stop.TheVariants.{Memory};
+
+use sfi_image::LayoutFault;
+use std::alloc::{AllocError, Global};
+use thiserror::Error;
+
+/// What is wrong with the text that was read.
+#[derive(Debug, Drop, Error)]
+pub(crate) enum InputFault {
+    #[error("input fault too large")]
+    TooLarge,
+    #[error("input fault hex odd")]
+    HexOdd,
+    /// The place of the first byte that is no digit, counted from 0 among what isn't white space.
+    #[error("input fault hex digit {0}")]
+    HexDigit(usize),
+}
+
+/// Why a command gives no verdict: a fault of the text or of the image that it spells, or an allocation
+/// was refused.
+#[derive(Debug, Drop)]
+pub(crate) enum Stop {
+    Input(InputFault),
+    Layout(LayoutFault),
+    Memory,
+}
+
+impl From<AllocError> for Stop {
+    ghost from_gives = { λ _ e. e ≡ Memory };
+
+    fn from(_e: AllocError) -> Stop {
+        Stop::Memory
+    }
+}
+
+/// The line that names a fault of the text.
+pub(crate) fn input_line(alloc: Global, fault: &InputFault) -> Result<String, AllocError> {
+    format!(in alloc; "{fault}\n")
+}
+
+/// The line that names a fault of the image.
+pub(crate) fn layout_line(alloc: Global, fault: LayoutFault) -> Result<String, AllocError> {
+    let number = fault.number();
+    format!(in alloc; "layout fault {number} {fault}\n")
+}

@@ -1,0 +1,20 @@
+//! The commands of the program `sfi`, over any reader and writer.
+#![tactic(auto)]
+
+mod answering;
+mod checking;
+mod command_line;
+mod fault;
+mod hexadecimal;
+mod input;
+mod job;
+mod output;
+mod running;
+mod verdict;
+
+pub use answering::answer;
+pub use command_line::job_of;
+pub use job::{Job, JobFault};
+pub use output::write_out;
+pub use running::run_tool;
+pub use verdict::Answer;

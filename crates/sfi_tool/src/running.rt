@@ -1,0 +1,65 @@
+//! A run of the program, over its reader and writer.
+
+ghost use Rattle.std.specs.Prelude.{◌≡◌, ◌<◌, ◌≤◌, ◌≢◌, map, string_bytes};
+ghost use Rattle.std.specs.Io.KnownBytes.{Appends};
+ghost use Rattle.sfi_tool.specs.Command.{AsksNothing};
+ghost use Rattle.sfi_tool.specs.Run.{WritesAnswer, MeetsFault};
+
+use crate::answering::answer;
+use crate::command_line::job_of;
+use crate::input::{Input, ReadStop, read_input};
+use crate::job::JobFault;
+use crate::output::write_out;
+use std::alloc::Global;
+use std::io::{Read, Write};
+
+// Writes the text, and gives the status, or 5 where a write failed.
+fn printed<W: Write>(writer: &mut W, status: u8, text: &str) -> u8
+    ensures status { result ≢ 5 → result ≡ status }
+    ensures whole { result ≢ 5 → Appends (W.contents writer.old) (W.contents writer.new) text.now }
+{
+    if write_out(writer, text.as_bytes()) {
+        status
+    } else {
+        5
+    }
+}
+
+/// Runs the command that the words ask for, and answers the status to end with:
+///
+/// - 0: accepted; 1: findings; 2: a fault of the input, which the text names;
+/// - 3: the words don't parse, or ask for help: what to print for them was written;
+/// - 4: an allocation was refused, and nothing was written;
+/// - 5: a read or a write failed. After a failed read nothing was written; after a failed write a
+///   beginning of the text.
+///
+/// The text is made whole before its first byte is written.
+pub fn run_tool<R: Read, W: Write>(
+    alloc: Global,
+    words: &[String],
+    reader: &mut R,
+    writer: &mut W,
+) -> u8
+    ensures statuses { result ≤ 5 }
+    ensures says { result < 2 → WritesAnswer (map string_bytes words.now) (R.remaining reader.old)
+        (W.contents writer.old) (W.contents writer.new) result }
+    ensures fault { result ≡ 2 → MeetsFault (map string_bytes words.now) (R.remaining reader.old) }
+    ensures usage { result ≡ 3 → AsksNothing (map string_bytes words.now) }
+    ensures memory { result ≡ 4 → writer.new ≡ writer.old }
+{
+    let job = match job_of(alloc, words) {
+        Ok(job) => job,
+        Err(JobFault::Usage(text)) => return printed(writer, 3, &text),
+        Err(JobFault::Memory) => return 4,
+    };
+    let text = match read_input(alloc, reader) {
+        Ok(Input::Whole(text)) => text,
+        Ok(Input::TooLarge) => return printed(writer, 2, "input fault too large\n"),
+        Err(ReadStop::Memory) => return 4,
+        Err(ReadStop::Failed) => return 5,
+    };
+    match answer(alloc, &job, text.as_slice()) {
+        Ok(answer) => printed(writer, answer.status, &answer.text),
+        Err(_) => 4,
+    }
+}

@@ -1,0 +1,49 @@
+//! What a command answers.
+
+ghost use Rattle.std.specs.Prelude.{◌≡◌, ◌<◌, IfOk, string_bytes, length};
+ghost use Rattle.sfi_tool.specs.Verdict.{accepted_line, eight_digits, refused_line};
+
+use sfi_check::Accepted;
+use sfi_scan::Finding;
+use std::alloc::{AllocError, Global};
+
+/// What a command answers: the status to end with, and the text to print.
+#[derive(Debug, Drop)]
+pub struct Answer {
+    /// 0 where the image is accepted, 1 where it has findings, 2 for a fault of the input.
+    pub status: u8,
+    /// Whole lines, each of which ends in LF.
+    pub text: String,
+}
+
+/// The verdict on an image without findings.
+pub(crate) fn accepted_line(alloc: Global, accepted: &Accepted<'_>) -> Result<String, AllocError>
+    ensures { IfOk result (λ line. string_bytes line ≡ accepted_line accepted.now) }
+{
+    let sandboxes = accepted.sandboxes();
+    let bundles = accepted.bundles();
+    format!(in alloc; "accepted sandboxes={sandboxes} bundles={bundles}\n")
+}
+
+// The address in eight lower hexadecimal digits.
+fn address_text(alloc: Global, address: u32) -> Result<String, AllocError>
+    ensures { IfOk result (λ text. string_bytes text ≡ eight_digits address) }
+{
+    format!(in alloc; "{address:08x}")
+}
+
+/// The verdict on an image with these findings.
+pub(crate) fn refused_line(alloc: Global, findings: &[Finding]) -> Result<String, AllocError>
+    requires { 0 < length findings.now }
+    ensures { IfOk result (λ line. string_bytes line ≡ refused_line findings.now) }
+{
+    let count = findings.len();
+    let Finding {
+        sandbox,
+        address,
+        rule,
+    } = findings[0];
+    let number = rule.number();
+    let at = address_text(alloc, address)?;
+    format!(in alloc; "refused findings={count} first=V{number} sandbox={sandbox} at={at}\n")
+}
