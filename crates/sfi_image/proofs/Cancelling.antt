@@ -31,7 +31,7 @@ of_gate : (g : Gate) → gate_of g.address g.service ≡ g
 unfolding gate_of
 of_gate g = refl
 
-gate_split : (g : Gate) (r : List ℕ) → gate g ++ r ≡ number g.address ++ (number g.service ++ r)
+pub gate_split : (g : Gate) (r : List ℕ) → gate g ++ r ≡ number g.address ++ (number g.service ++ r)
 unfolding gate
 gate_split g r = append_assoc (number g.address) (number g.service) r
 
@@ -55,7 +55,7 @@ of_fields : (f : Fields) → fields_from f.code_base f.code_size f.data_base f.d
 unfolding fields_from
 of_fields f = refl
 
-fields_split : (f : Fields) (r : List ℕ) → fields f ++ r ≡ number f.code_base ++ (number f.code_size ++ (number f.data_base ++ (number f.data_size
+pub fields_split : (f : Fields) (r : List ℕ) → fields f ++ r ≡ number f.code_base ++ (number f.code_size ++ (number f.data_base ++ (number f.data_size
     ++ (number f.start ++ (number f.gate_count ++ (number f.init_len ++ r))))))
 unfolding fields
 fields_split f r = simp append_assoc

@@ -7,3 +7,6 @@ pub mod PartLists
 pub mod Whole
 pub mod Cancelling
 pub mod OneReading
+pub mod Deciding
+pub mod Fronts
+pub mod SomeReading

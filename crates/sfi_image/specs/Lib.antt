@@ -6,4 +6,5 @@ pub mod Parts
 pub mod Tests
 pub mod Faults
 pub mod Images
+pub mod Laws
 pub mod Outcome

@@ -20,6 +20,6 @@ mod tests;
 
 pub use fault::{ImageFault, LayoutFault};
 pub use image::Image;
-pub use laws::one_reading;
+pub use laws::{one_reading, some_reading};
 pub use part::{Gate, SandboxPart};
 pub use reading::parse_image;

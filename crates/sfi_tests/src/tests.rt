@@ -1,6 +1,7 @@
 mod check;
 mod failing;
 mod image;
+mod scan;
 mod usage;
 
 use sfi_tool::run_tool;
