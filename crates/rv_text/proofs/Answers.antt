@@ -1,0 +1,34 @@
+-- What an answer says of a text where it means the instruction, or is refused for the cause.
+use Rattle.std.proofs.Common.{◌≡◌, ℕ, List, inr, ap, Result, Ok, Err, IfOk}
+use Rattle.std.specs.Prelude.{IfErr}
+use Rattle.rv_word.specs.declared.instr.Instr.{Instr}
+use Rattle.rv_word.specs.Spelling.{InRange}
+use Rattle.rv_text.specs.declared.cause.TextCause.{TextCause}
+use Rattle.rv_text.specs.Tokens.{Takes}
+use Rattle.rv_text.specs.Reading.{FollowsToken}
+use Rattle.rv_text.specs.Statement.{Means, Refused, RefusedAt}
+use Rattle.rv_text.proofs.Meaning.{means}
+use Rattle.rv_text.proofs.OneMeaning.{one_meaning, in_range}
+use Rattle.rv_text.proofs.Refusals.{one_cause, meant_is_not_refused}
+
+module _ (text token rest : List ℕ) (takes : Takes text token rest) where
+  pub token_means : (r : Result Instr TextCause) → IfOk r (λ i. FollowsToken token rest i) → IfOk r (λ i. Means text i)
+  token_means (Ok i) h = means text token rest i takes h
+  token_means (Err e) h = tt
+
+  pub token_cause : (r : Result Instr TextCause) → IfErr r (λ e. RefusedAt token rest e) → IfErr r (λ e. Refused text e)
+  token_cause (Ok i) h = tt
+  token_cause (Err e) h = inr (inr (token, rest, takes, h))
+
+module _ (text : List ℕ) where
+  pub only : (r : Result Instr TextCause) → IfOk r (λ i. Means text i) → IfErr r (λ e. Refused text e) → (i : Instr) → Means text i → r ≡ Ok i
+  only (Ok i) h k j meant = ap Ok (one_meaning text i j h meant)
+  only (Err e) h k j meant = absurd (meant_is_not_refused text j e meant k)
+
+  pub only_cause : (r : Result Instr TextCause) → IfOk r (λ i. Means text i) → IfErr r (λ e. Refused text e) → (e : TextCause) → Refused text e → r ≡ Err e
+  only_cause (Ok i) h k f refused = absurd (meant_is_not_refused text i f h refused)
+  only_cause (Err e) h k f refused = ap Err (one_cause text e f k refused)
+
+  pub means_in_range : (r : Result Instr TextCause) → IfOk r (λ i. Means text i) → IfOk r (λ i. InRange i)
+  means_in_range (Ok i) h = in_range text i h
+  means_in_range (Err e) h = tt

@@ -1,0 +1,111 @@
+-- How operands are read, part by part.
+use Rattle.std.proofs.Common.{◌≡◌, ℕ, Bool, true, false, ◌||◌, ◌&&◌, not, List, [], ◌∷◌, length, ◌⊎◌, inl, inr, refl, sym, ◌∙◌, subst, arith, ℤ, nat_lt, Result, Ok, Err, IfOk, IfErr}
+use Rattle.std.specs.Prelude.{IsTrue, ◌==◌}
+use Rattle.std.proofs.lemmas.Bool.Decides.{nat_tests}
+use Rattle.rv_text.specs.declared.form.Part.{Part}
+use Rattle.rv_text.specs.declared.form.Part.TheVariants.{Rd, Rs1, Rs2, Number, Comma, Open, Close}
+use Rattle.rv_text.specs.declared.operands.Operands.{Operands}
+use Rattle.rv_text.specs.declared.cause.TextCause.{TextCause}
+use Rattle.rv_text.specs.declared.cause.TextCause.TheVariants as cause
+use Rattle.rv_text.specs.Registers.{IsRegister}
+use Rattle.rv_text.specs.Tokens.{Takes, IsBlank, IsStuck, IsNumber}
+use Rattle.rv_text.specs.Forms.{IsNumberOf}
+use Rattle.rv_text.specs.Operands.{Stands, Departs, part_cause}
+use Rattle.rv_text.specs.Reading.{Reads, operand_at, KeepsOthers, Suits, Fits, slot, is_fresh, has_no_repeat}
+
+-- a token stands at a part by the operand there
+pub stands_by_operand : (a b : Operands) (part : Part) (token : List ℕ) → operand_at a part ≡ operand_at b part → Stands b part token → Stands a part token
+stands_by_operand a b Rd token e h = let same : a.rd ≡ b.rd = cc in subst (IsRegister token) (sym same) h
+stands_by_operand a b Rs1 token e h = let same : a.rs1 ≡ b.rs1 = cc in subst (IsRegister token) (sym same) h
+stands_by_operand a b Rs2 token e h = let same : a.rs2 ≡ b.rs2 = cc in subst (IsRegister token) (sym same) h
+stands_by_operand a b (Number kind) token e h = subst (λ (z : ℤ). IsNumber token z × IsNumberOf kind z) (sym e) h
+stands_by_operand a b Comma token e h = h
+stands_by_operand a b Open token e h = h
+stands_by_operand a b Close token e h = h
+
+-- a mark has one operand, 0
+same_at_mark : (a b : Operands) (part : Part) → nat_lt 3 (slot part) ≡ true → operand_at a part ≡ operand_at b part
+same_at_mark a b Rd h = cc
+same_at_mark a b Rs1 h = cc
+same_at_mark a b Rs2 h = cc
+same_at_mark a b (Number kind) h = cc
+same_at_mark a b Comma h = refl
+same_at_mark a b Open h = refl
+same_at_mark a b Close h = refl
+
+not_true : (b : Bool) → not b ≡ true → b ≡ false
+not_true true h = cc
+not_true false h = refl
+
+or_cases : (a b : Bool) → (a || b) ≡ true → (a ≡ true) ⊎ (b ≡ true)
+or_cases true b h = inl refl
+or_cases false b h = inr h
+
+and_parts : (a b : Bool) → (a && b) ≡ true → (a ≡ true) × (b ≡ true)
+and_parts true b h = (refl, h)
+and_parts false b h = cc
+
+-- what is read at the part first stays while the rest is read
+pub reads_part : (first all : Operands) (part : Part) (form : List Part) (text token rest : List ℕ) → has_no_repeat (part ∷ form) ≡ true → Takes text token rest → Stands first part token → Reads all form rest → ((p : Part) → IsTrue (is_fresh p form) → operand_at all p ≡ operand_at first p) → Reads all (part ∷ form) text
+reads_part first all part form text token rest fresh takes stands reads keeps =
+    let parts = and_parts _ _ fresh in
+    let same : operand_at all part ≡ operand_at first part = elim (or_cases _ _ parts.0) [ inl mark ↦ same_at_mark all first part mark | inr f ↦ keeps part f ] in
+    (token, rest, takes, stands_by_operand all first part token same stands, reads)
+
+pub more_has_no_repeat : (part : Part) (form : List Part) → has_no_repeat (part ∷ form) ≡ true → has_no_repeat form ≡ true
+more_has_no_repeat part form h = (and_parts _ _ h).1
+
+slot_differs : (p part : Part) → (slot part == slot p) ≡ false → slot p ≡ slot part → ⊥
+slot_differs p part h e = grind (arith, nat_tests)
+
+-- the operands at the other parts are kept
+pub keeps_part : (old first all : Operands) (part : Part) (form : List Part) → KeepsOthers part old first → ((p : Part) → IsTrue (is_fresh p form) → operand_at all p ≡ operand_at first p) → (p : Part) → IsTrue (is_fresh p (part ∷ form)) → operand_at all p ≡ operand_at old p
+keeps_part old first all part form others keeps p fresh =
+    let parts = and_parts _ _ fresh in
+    keeps p parts.1 ∙ others p (slot_differs p part (not_true _ parts.0))
+
+pub reads_result : (r : Result Operands TextCause) (whole : List Part) (first : Operands) (part : Part) (form : List Part) (text token rest : List ℕ) → whole ≡ part ∷ form → has_no_repeat whole ≡ true → Takes text token rest → Stands first part token
+    → IfOk r (λ o. Reads o form rest) → IfOk r (λ o. (p : Part) → IsTrue (is_fresh p form) → operand_at o p ≡ operand_at first p) → IfOk r (λ o. Reads o whole text)
+reads_result (Ok all) whole first part form text token rest e fresh takes stands reads keeps =
+    subst (λ f. Reads all f text) (sym e) (reads_part first all part form text token rest (subst (λ f. has_no_repeat f ≡ true) e fresh) takes stands reads keeps)
+reads_result (Err e) whole first part form text token rest same fresh takes stands reads keeps = tt
+
+pub keeps_result : (r : Result Operands TextCause) (whole : List Part) (old first : Operands) (part : Part) (form : List Part) → whole ≡ part ∷ form → KeepsOthers part old first
+    → IfOk r (λ o. (p : Part) → IsTrue (is_fresh p form) → operand_at o p ≡ operand_at first p) → IfOk r (λ o. (p : Part) → IsTrue (is_fresh p whole) → operand_at o p ≡ operand_at old p)
+keeps_result (Ok all) whole old first part form e others keeps =
+    subst (λ f. (p : Part) → IsTrue (is_fresh p f) → operand_at all p ≡ operand_at old p) (sym e) (keeps_part old first all part form others keeps)
+keeps_result (Err e) whole old first part form same others keeps = tt
+
+-- the causes for which a text departs from a form
+pub departs_stuck : (form : List Part) (text : List ℕ) → IsStuck text → Departs form text cause.Word
+departs_stuck [] text stuck = inl (stuck, refl)
+departs_stuck (part ∷ form) text stuck = inl (stuck, refl)
+
+pub departs_beyond : (form : List Part) (text token rest : List ℕ) → length form ≡ 0 → Takes text token rest → Departs form text cause.Operands
+departs_beyond [] text token rest e takes = inr (token, rest, takes, refl)
+departs_beyond (part ∷ form) text token rest e takes = absurd (omega arith)
+
+module _ (whole : List Part) (part : Part) (form : List Part) (same : whole ≡ part ∷ form) (text : List ℕ) where
+  pub departs_missing : IsBlank text → Departs whole text cause.Operands
+  departs_missing blank = subst (λ f. Departs f text cause.Operands) (sym same) (inr (inl (blank, refl)))
+
+  pub departs_other : (token rest : List ℕ) (e : TextCause) → Takes text token rest → ((o : Operands) → Stands o part token → ⊥) → e ≡ part_cause part → Departs whole text e
+  departs_other token rest e takes none is = subst (λ f. Departs f text e) (sym same) (inr (inr (token, rest, takes, inl (none, is))))
+
+  pub departs_later : (r : Result Operands TextCause) (first : Operands) (token rest : List ℕ) → Takes text token rest → Stands first part token → IfErr r (λ e. Departs form rest e) → IfErr r (λ e. Departs whole text e)
+  departs_later (Ok all) first token rest takes stands h = tt
+  departs_later (Err e) first token rest takes stands h = subst (λ f. Departs f text e) (sym same) (inr (inr (token, rest, takes, inr (first, stands, h))))
+
+-- what is read fits its form
+stands_suits : (o : Operands) (part : Part) (token : List ℕ) → Stands o part token → Suits o part
+stands_suits o Rd token h = h.0
+stands_suits o Rs1 token h = h.0
+stands_suits o Rs2 token h = h.0
+stands_suits o (Number kind) token h = h.1
+stands_suits o Comma token h = tt
+stands_suits o Open token h = tt
+stands_suits o Close token h = tt
+
+pub reads_fit : (o : Operands) (form : List Part) (text : List ℕ) → Reads o form text → Fits o form
+reads_fit o [] text h = tt
+reads_fit o (part ∷ form) text (t, r, takes, stands, reads) = (stands_suits o part t stands, reads_fit o form r reads)

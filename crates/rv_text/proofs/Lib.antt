@@ -1,0 +1,13 @@
+pub mod Lexing
+pub mod Taking
+pub mod Names
+pub mod Numbers
+pub mod Ranges
+pub mod Forms
+pub mod Meaning
+pub mod OneMeaning
+pub mod Refusals
+pub mod Answers
+pub mod Longest
+pub mod Printing
+pub mod RoundTrip

@@ -1,0 +1,87 @@
+-- Where a token ends: at a mark, at a space, at the end of the text.
+use Rattle.std.proofs.Common.{◌≡◌, ℕ, ◌≤◌, Bool, true, false, ◌||◌, List, [], ◌∷◌, ◌++◌, length, length-append, ◌⊎◌, inl, inr, ⊎_elim, refl, sym, ap, ◌∙◌, subst, arith}
+use Rattle.std.specs.List.{AllByRecursion}
+use Rattle.std.specs.Char.{is_ascii_digit, is_ascii_hexdigit}
+use Rattle.std.proofs.lemmas.Bool.Decides.{nat_tests}
+use Rattle.std.proofs.lemmas.Bool.{false≢true}
+use Rattle.rv_text.specs.Tokens.{is_space, IsBlank, begins_name, continues_name, IsMagnitude, is_mark, IsToken, Takes}
+use Rattle.rv_text.specs.Scan.{token_len}
+use Rattle.rv_text.proofs.Lexing.{Passes, numeral_passes, hex_passes, token_within, token_at_mark}
+
+-- a mark or a space ends the token before it
+abbrev pub ends_word : ℕ → Bool
+ends_word c = is_mark c || is_space c
+
+abbrev Plain : List ℕ → Type 0
+Plain text = AllByRecursion (λ c. ends_word c ≡ false) text
+
+plain_from : (p : ℕ → Bool) → ((c : ℕ) → p c ≡ true → ends_word c ≡ false) → (text : List ℕ) → Passes p text → Plain text
+plain_from p f [] h = tt
+plain_from p f (c ∷ cs) h = (f c h.0, plain_from p f cs h.1)
+
+begins_plain : (c : ℕ) → begins_name c ≡ true → ends_word c ≡ false
+begins_plain c h = grind (arith, nat_tests)
+
+continues_plain : (c : ℕ) → continues_name c ≡ true → ends_word c ≡ false
+continues_plain c h = grind (arith, nat_tests)
+
+digit_plain : (c : ℕ) → is_ascii_digit c ≡ true → ends_word c ≡ false
+digit_plain c h = grind (arith, nat_tests)
+
+hex_plain : (c : ℕ) → is_ascii_hexdigit c ≡ true → ends_word c ≡ false
+hex_plain c h = grind (arith, nat_tests)
+
+magnitude_plain : (text : List ℕ) (n : ℕ) → IsMagnitude text n → Plain text
+magnitude_plain text n (inl h) = plain_from is_ascii_digit digit_plain text (numeral_passes text h.0.1)
+magnitude_plain text n (inr (ds, e, h, v)) = rw e (refl, (refl, plain_from is_ascii_hexdigit hex_plain ds (hex_passes ds h.1)))
+
+-- a token is one mark, or has none and no space
+token_plain : (token : List ℕ) → IsToken token → Plain token ⊎ (length token ≡ 1)
+token_plain [] (inl name) = absurd name
+token_plain (c ∷ cs) (inl name) = inl (begins_plain c name.0, plain_from continues_name continues_plain cs name.1)
+token_plain token (inr (inl (z, inl (n, h, e)))) = inl (magnitude_plain token n h)
+token_plain token (inr (inl (z, inr (n, digits, e, h, v)))) = inl (rw e (refl, magnitude_plain digits n h))
+token_plain token (inr (inr (c, h, e))) = inr (ap length e ∙ omega arith)
+
+-- what is plain goes no further than the first byte that ends a word
+plain_within : (token other more rest : List ℕ) (c : ℕ) → token ++ (c ∷ rest) ≡ other ++ more → ends_word c ≡ true → Plain other → length other ≤ length token
+plain_within token [] more rest c e h p = omega arith
+plain_within [] (d ∷ other) more rest c e h p = let same : c ≡ d = cc in let f : ends_word c ≡ false = subst (λ x. ends_word x ≡ false) (sym same) p.0 in absurd (false≢true (sym f ∙ h))
+plain_within (t ∷ token) (d ∷ other) more rest c e h p = let same : token ++ (c ∷ rest) ≡ other ++ more = cc in omega (arith, plain_within token other more rest c same h p.1)
+
+-- nothing follows, or a mark or a space
+abbrev pub Ends : List ℕ → Type 0
+Ends [] = Unit {0}
+Ends (c ∷ cs) = ends_word c ≡ true
+
+front_longest : (token more other rest : List ℕ) → Ends more → IsToken token → token ++ more ≡ other ++ rest → IsToken other → length other ≤ length token
+front_longest token [] other rest ends is_token e other_is = omega (arith, ap length e, length-append token [], length-append other rest)
+front_longest token (c ∷ cs) other rest ends is_token e other_is =
+    ⊎_elim
+    (λ p. plain_within token other rest cs c e ends p)
+    (λ one. omega (arith, one, token_within token [] is_token))
+    (token_plain other other_is)
+
+-- a token that a mark or a space follows, or nothing, is the longest that stands there
+pub takes_word : (gap token more : List ℕ) → IsBlank gap → IsToken token → Ends more → Takes (gap ++ (token ++ more)) token more
+takes_word gap token more blank is_token ends = record {
+  gap = gap;
+  blank = blank;
+  whole = refl;
+  is_token = is_token;
+  longest = λ other rest e other_is. front_longest token more other rest ends is_token e other_is;
+}
+
+mark_longest : (c : ℕ) (more other rest : List ℕ) → is_mark c ≡ true → c ∷ more ≡ other ++ rest → IsToken other → length other ≤ 1
+mark_longest c more other rest mark e other_is =
+    omega (arith, token_within other rest other_is, ap token_len e, token_at_mark c more mark)
+
+-- a mark is the longest token that stands there, whatever follows it
+pub takes_mark : (gap : List ℕ) (c : ℕ) (more : List ℕ) → IsBlank gap → is_mark c ≡ true → Takes (gap ++ (c ∷ more)) (c ∷ []) more
+takes_mark gap c more blank mark = record {
+  gap = gap;
+  blank = blank;
+  whole = refl;
+  is_token = inr (inr (c, mark, refl));
+  longest = λ other rest e other_is. mark_longest c more other rest mark e other_is;
+}

@@ -1,0 +1,89 @@
+-- What the text behind an instruction's name has to do with what the whole text means.
+use Rattle.std.proofs.Common.{◌≡◌, ℕ, List, [], ◌∷◌, inl, inr, refl, sym, ap, ◌∙◌, subst, pos, Some, Result, Ok, Err, IfOk}
+use Rattle.rv_word.specs.declared.instr.Instr.{Instr}
+use Rattle.rv_text.specs.declared.cause.TextCause.{TextCause}
+use Rattle.rv_text.specs.declared.mnemonic.Mnemonic.{Mnemonic}
+use Rattle.rv_text.specs.declared.form.Part.{Part}
+use Rattle.rv_text.specs.declared.form.Part.TheVariants.{Rd, Rs1, Rs2, Number, Comma, Open, Close}
+use Rattle.rv_text.specs.declared.operands.Operands.{Operands}
+use Rattle.rv_text.specs.Tokens.{Takes, IsBlank, LeadsTo, AreTokens}
+use Rattle.rv_text.specs.Registers.{IsRegister}
+use Rattle.rv_text.specs.Mnemonics.{name_of}
+use Rattle.rv_text.specs.Forms.{form_of}
+use Rattle.rv_text.specs.Operands.{Stands, HasForm}
+use Rattle.rv_text.specs.Reading.{Reads, operand_at, AgreesOn, FollowsName, FollowsToken}
+use Rattle.rv_text.specs.Statement.{mnemonic_of, operands_of, Means}
+use Rattle.rv_text.proofs.Names.{register_own}
+use Rattle.rv_text.proofs.Numbers.{number_unique}
+use Rattle.rv_text.proofs.Taking.{takes_unique}
+use Rattle.rv_text.proofs.Forms.{stands_by_operand}
+
+pub register_unique : (text : List ℕ) (r s : ℕ) → IsRegister text r → IsRegister text s → r ≡ s
+register_unique text r s h k = let e : Some r ≡ Some s = sym (register_own text r h) ∙ register_own text s k in cc
+
+-- a token gives one operand
+operand_unique : (a b : Operands) (part : Part) (token : List ℕ) → Stands a part token → Stands b part token → operand_at a part ≡ operand_at b part
+operand_unique a b Rd token h k = ap pos (register_unique token _ _ h k)
+operand_unique a b Rs1 token h k = ap pos (register_unique token _ _ h k)
+operand_unique a b Rs2 token h k = ap pos (register_unique token _ _ h k)
+operand_unique a b (Number kind) token h k = number_unique token _ _ h.0 k.0
+operand_unique a b Comma token h k = refl
+operand_unique a b Open token h k = refl
+operand_unique a b Close token h k = refl
+
+-- two statements that are read off one text have the same operands
+pub agree : (a b : Operands) (form : List Part) (text : List ℕ) → Reads a form text → Reads b form text → AgreesOn form a b
+agree a b [] text h k = tt
+agree a b (part ∷ form) text (t, r, takes, stands, reads) (u, s, other, stood, read) =
+    let same = takes_unique other takes in
+    (operand_unique a b part t stands (subst (Stands b part) same.0 stood), agree a b form r reads (subst (Reads b form) same.1 read))
+
+reads_by : (a b : Operands) (form : List Part) (text : List ℕ) → AgreesOn form a b → Reads b form text → Reads a form text
+reads_by a b [] text e h = h
+reads_by a b (part ∷ form) text e (t, r, takes, stands, reads) = (t, r, takes, stands_by_operand a b part t e.0 stands, reads_by a b form r e.1 reads)
+
+-- the tokens that are read, and what is read from the tokens
+tokens_of : (o : Operands) (form : List Part) (text : List ℕ) → Reads o form text → (tokens : List (List ℕ)) × AreTokens text tokens × HasForm o form tokens
+tokens_of o [] text h = ([], (text, refl, h), tt)
+tokens_of o (part ∷ form) text (t, r, takes, stands, reads) =
+    let more = tokens_of o form r reads in
+    (t ∷ more.0, (more.1.0, (r, takes, more.1.1), more.1.2), (stands, more.2))
+
+from_tokens : (o : Operands) (form : List Part) (tokens : List (List ℕ)) (text : List ℕ) → AreTokens text tokens → HasForm o form tokens → Reads o form text
+from_tokens o [] [] text (rest, leads, blank) h = subst IsBlank (sym leads) blank
+from_tokens o [] (t ∷ tokens) text leads h = absurd h
+from_tokens o (part ∷ form) [] text leads h = absurd h
+from_tokens o (part ∷ form) (t ∷ tokens) text (rest, (after, takes, leads), blank) h =
+    (t, after, takes, h.0, from_tokens o form tokens after (rest, leads, blank) h.1)
+
+-- a text means an instruction by its first token and what follows it
+pub means : (text token rest : List ℕ) (i : Instr) → Takes text token rest → FollowsToken token rest i → Means text i
+means text token rest i takes (named, inl reads) =
+    let tokens = tokens_of (operands_of i) (form_of (mnemonic_of i)) rest reads in
+    (token ∷ tokens.0, (tokens.1.0, (rest, takes, tokens.1.1), tokens.1.2), (sym named, inl tokens.2))
+means text token rest i takes (named, inr (fence, blank)) = (token ∷ [], (rest, (rest, takes, refl), blank), (sym named, inr (fence, refl)))
+
+pub meant : (text token rest : List ℕ) (i : Instr) → Takes text token rest → Means text i → FollowsToken token rest i
+meant text token rest i takes ([], leads, spells) = absurd spells
+meant text token rest i takes (t ∷ tokens, (last, (after, other, leads), blank), (named, inl form)) =
+    let same = takes_unique other takes in
+    (sym named ∙ same.0, inl (subst (Reads (operands_of i) (form_of (mnemonic_of i))) same.1 (from_tokens (operands_of i) (form_of (mnemonic_of i)) tokens after (last, leads, blank) form)))
+meant text token rest i takes (t ∷ tokens, (last, (after, other, leads), blank), (named, inr (fence, none))) =
+    let same = takes_unique other takes in
+    let ends : LeadsTo after [] last = subst (λ ts. LeadsTo after ts last) none leads in
+    (sym named ∙ same.0, inr (fence, subst IsBlank (sym ends ∙ same.1) blank))
+
+-- a text that means an instruction has a first token
+pub first_token : (text : List ℕ) (i : Instr) → Means text i → (token : List ℕ) × (rest : List ℕ) × Takes text token rest
+first_token text i ([], leads, spells) = absurd spells
+first_token text i (t ∷ tokens, (last, (after, other, leads), blank), spells) = (t, after, other)
+
+-- the operands that were read are those of the instruction that was made
+pub follows : (rest : List ℕ) (name : Mnemonic) (o : Operands) (i : Instr) → Reads o (form_of name) rest → mnemonic_of i ≡ name → AgreesOn (form_of name) (operands_of i) o → FollowsName rest name i
+follows rest name o i reads same agrees =
+    (same, inl (subst (λ m. Reads (operands_of i) (form_of m) rest) (sym same) (reads_by (operands_of i) o (form_of name) rest agrees reads)))
+
+-- what has the name of a mnemonic has the token
+pub token_follows : (r : Result Instr TextCause) (token rest : List ℕ) (name : Mnemonic) → name_of name ≡ token → IfOk r (λ i. FollowsName rest name i) → IfOk r (λ i. FollowsToken token rest i)
+token_follows (Ok i) token rest name named h = (ap name_of h.0 ∙ named, h.1)
+token_follows (Err e) token rest name named h = tt

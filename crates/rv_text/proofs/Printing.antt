@@ -1,0 +1,98 @@
+-- What a printed word of each kind is: a name, a register, a decimal or a hexadecimal number.
+use Rattle.std.proofs.Common.{◌≡◌, ℕ, ◌<◌, ◌^◌, Bool, true, false, ◌&&◌, List, [], ◌∷◌, ◌++◌, inl, inr, refl, sym, arith, suc, ℤ, pos, negsuc}
+use Rattle.std.specs.Prelude.{codes}
+use Rattle.std.specs.List.{list_all}
+use Rattle.std.specs.Fmt.{decimal, signed_decimal, digits}
+use Rattle.std.specs.Char.{is_ascii_digit}
+use Rattle.std.proofs.lemmas.Fmt.{decimal_is_IsNumeral, digits_is_IsNumeral}
+use Rattle.std.proofs.lemmas.Int.{ints}
+use Rattle.std.proofs.lemmas.Bool.{false≢true}
+use Rattle.std.proofs.lemmas.Bool.Decides.{nat_tests}
+use Rattle.rv_word.specs.declared.instr.RegOp.TheVariants.{Add}
+use Rattle.rv_word.specs.declared.instr.ImmOp.TheVariants.{Addi}
+use Rattle.rv_word.specs.declared.instr.LoadKind.TheVariants.{Lb}
+use Rattle.rv_word.specs.declared.instr.StoreWidth.TheVariants.{Sb}
+use Rattle.rv_word.specs.declared.instr.Cond.TheVariants.{Beq}
+use Rattle.rv_text.specs.declared.mnemonic.Mnemonic.{Mnemonic}
+use Rattle.rv_text.specs.declared.mnemonic.Mnemonic.TheVariants.{Op, OpImm, Load, Store, Branch}
+use Rattle.rv_text.specs.declared.form.NumberKind.{NumberKind}
+use Rattle.rv_text.specs.declared.form.NumberKind.TheVariants.{Immediate, ShiftAmount, BranchOffset, JumpOffset, Upper, FenceFields}
+use Rattle.rv_text.specs.Tokens.{begins_name, continues_name, IsName, IsNumber, IsInReach, IsToken}
+use Rattle.rv_text.specs.Registers.{x_name}
+use Rattle.rv_text.specs.Mnemonics.{name_of}
+use Rattle.rv_text.specs.Forms.{IsNumberOf}
+use Rattle.rv_text.specs.Printed.{number_text}
+use Rattle.rv_text.proofs.Lexing.{Passes, numeral_passes}
+use Rattle.rv_text.proofs.Numbers.{kind_in_reach}
+
+-- each name begins with a letter, and goes on with letters, digits, `_` and `.`
+abbrev is_name : List ℕ → Bool
+is_name [] = false
+is_name (c ∷ cs) = begins_name c && list_all continues_name cs
+
+and_parts : (a b : Bool) → (a && b) ≡ true → (a ≡ true) × (b ≡ true)
+and_parts true b h = (refl, h)
+and_parts false b h = cc
+
+all_pass : (p : ℕ → Bool) (text : List ℕ) → list_all p text ≡ true → Passes p text
+all_pass p [] h = tt
+all_pass p (c ∷ cs) h = let parts = and_parts _ _ h in (parts.0, all_pass p cs parts.1)
+
+name_from : (text : List ℕ) → is_name text ≡ true → IsName text
+name_from [] h = absurd (false≢true h)
+name_from (c ∷ cs) h = let parts = and_parts _ _ h in (parts.0, all_pass continues_name cs parts.1)
+
+mnemonic_is_name : (m : Mnemonic) → is_name (name_of m) ≡ true
+mnemonic_is_name (Op Add) = refl
+mnemonic_is_name (Op _) = refl
+mnemonic_is_name (OpImm Addi) = refl
+mnemonic_is_name (OpImm _) = refl
+mnemonic_is_name (Load Lb) = refl
+mnemonic_is_name (Load _) = refl
+mnemonic_is_name (Store Sb) = refl
+mnemonic_is_name (Store _) = refl
+mnemonic_is_name (Branch Beq) = refl
+mnemonic_is_name (Branch _) = refl
+mnemonic_is_name _ = refl
+
+pub name_is_name : (m : Mnemonic) → IsName (name_of m)
+name_is_name m = name_from (name_of m) (mnemonic_is_name m)
+
+pub name_token : (m : Mnemonic) → IsToken (name_of m)
+name_token m = inl (name_is_name m)
+
+digit_continues : (c : ℕ) → is_ascii_digit c ≡ true → continues_name c ≡ true
+digit_continues c h = grind (arith, nat_tests)
+
+digits_continue : (text : List ℕ) → Passes is_ascii_digit text → Passes continues_name text
+digits_continue [] h = tt
+digits_continue (c ∷ cs) h = (digit_continues c h.0, digits_continue cs h.1)
+
+pub register_token : (r : ℕ) → r < 32 → IsToken (x_name r)
+register_token r lt =
+    let numeral = decimal_is_IsNumeral r (omega arith) in
+    inl (refl, digits_continue (decimal r) (numeral_passes (decimal r) numeral.0.1))
+
+decimal_number : (z : ℤ) → IsInReach z → IsNumber (signed_decimal z) z
+decimal_number (pos n) h = let numeral = decimal_is_IsNumeral n (omega (arith, ints)) in inl (n, inl (numeral.0, sym numeral.1), refl)
+decimal_number (negsuc n) h =
+    let numeral = decimal_is_IsNumeral (suc n) (omega (arith, ints)) in
+    inr (suc n, decimal (suc n), refl, inl (numeral.0, sym numeral.1), refl)
+
+hex_number : (n : ℕ) → n < 16 ^ 64 → IsNumber (codes "0x" ++ digits 16 false n) (pos n)
+hex_number n h =
+    let numeral = digits_is_IsNumeral 16 false (omega arith) (omega arith) n h in
+    inl (n, inr (digits 16 false n, refl, numeral.0, sym numeral.1), refl)
+
+upper_small : (n : ℕ) → IsNumberOf Upper (pos n) → n < 16 ^ 64
+upper_small n h = omega (arith, ints)
+
+-- a printed number writes that number
+pub printed_number : (kind : NumberKind) (z : ℤ) → IsNumberOf kind z → IsNumber (number_text kind z) z
+printed_number Upper (pos n) h = hex_number n (upper_small n h)
+printed_number Upper (negsuc n) h = decimal_number (negsuc n) (kind_in_reach Upper (negsuc n) h)
+printed_number Immediate z h = decimal_number z (kind_in_reach Immediate z h)
+printed_number ShiftAmount z h = decimal_number z (kind_in_reach ShiftAmount z h)
+printed_number BranchOffset z h = decimal_number z (kind_in_reach BranchOffset z h)
+printed_number JumpOffset z h = decimal_number z (kind_in_reach JumpOffset z h)
+printed_number FenceFields z h = decimal_number z (kind_in_reach FenceFields z h)

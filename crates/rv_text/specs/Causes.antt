@@ -1,0 +1,15 @@
+-- The numbers of the causes for which a text is refused.
+use Rattle.std.specs.Prelude.{ℕ}
+use Rattle.rv_text.specs.declared.cause.TextCause.{TextCause}
+use Rattle.rv_text.specs.declared.cause.TextCause.TheVariants.{Word, Register, Number, Operands, LabelTwice, Directive, Limit, Memory}
+
+-- the number by which a cause is told
+abbrev pub cause_number : TextCause → ℕ
+cause_number Word = 1
+cause_number Register = 2
+cause_number Number = 3
+cause_number Operands = 4
+cause_number LabelTwice = 5
+cause_number Directive = 6
+cause_number Limit = 7
+cause_number Memory = 8

@@ -1,0 +1,40 @@
+-- What stands behind the name of each instruction.
+use Rattle.std.specs.Prelude.{List, [], ◌∷◌, ℤ, pos, if◌then◌else◌}
+use Rattle.rv_word.specs.declared.instr.ImmOp.{ImmOp}
+use Rattle.rv_word.specs.Numbers.{IsBetween}
+use Rattle.rv_word.specs.Functs.{is_shift}
+use Rattle.rv_word.specs.Spelling.{IsImm12, IsBranchOffset, IsJumpOffset}
+use Rattle.rv_text.specs.declared.mnemonic.Mnemonic.{Mnemonic}
+use Rattle.rv_text.specs.declared.mnemonic.Mnemonic.TheVariants as mnemonic
+use Rattle.rv_text.specs.declared.form.NumberKind.{NumberKind}
+use Rattle.rv_text.specs.declared.form.NumberKind.TheVariants.{Immediate, ShiftAmount, BranchOffset, JumpOffset, Upper, FenceFields}
+use Rattle.rv_text.specs.declared.form.Part.{Part}
+use Rattle.rv_text.specs.declared.form.Part.TheVariants.{Rd, Rs1, Rs2, Number, Comma, Open, Close}
+
+-- a number of this kind: one that the instruction's field can hold
+abbrev pub IsNumberOf : NumberKind → ℤ → Type 0
+IsNumberOf Immediate z = IsImm12 z
+IsNumberOf ShiftAmount z = IsBetween (pos 0) (pos 31) z
+IsNumberOf BranchOffset z = IsBranchOffset z
+IsNumberOf JumpOffset z = IsJumpOffset z
+IsNumberOf Upper z = IsBetween (pos 0) (pos 1048575) z
+IsNumberOf FenceFields z = IsBetween (pos 0) (pos 4095) z
+
+-- a shift's amount, or an immediate of 12 bits
+abbrev pub immediate_kind : ImmOp → NumberKind
+immediate_kind op = if is_shift op then ShiftAmount else Immediate
+
+-- the operands behind the name, and the marks between them
+abbrev pub form_of : Mnemonic → List Part
+form_of (mnemonic.Op op) = Rd ∷ Comma ∷ Rs1 ∷ Comma ∷ Rs2 ∷ []
+form_of (mnemonic.OpImm op) = Rd ∷ Comma ∷ Rs1 ∷ Comma ∷ Number (immediate_kind op) ∷ []
+form_of (mnemonic.Load kind) = Rd ∷ Comma ∷ Number Immediate ∷ Open ∷ Rs1 ∷ Close ∷ []
+form_of (mnemonic.Store width) = Rs2 ∷ Comma ∷ Number Immediate ∷ Open ∷ Rs1 ∷ Close ∷ []
+form_of (mnemonic.Branch cond) = Rs1 ∷ Comma ∷ Rs2 ∷ Comma ∷ Number BranchOffset ∷ []
+form_of mnemonic.Jal = Rd ∷ Comma ∷ Number JumpOffset ∷ []
+form_of mnemonic.Jalr = Rd ∷ Comma ∷ Number Immediate ∷ Open ∷ Rs1 ∷ Close ∷ []
+form_of mnemonic.Lui = Rd ∷ Comma ∷ Number Upper ∷ []
+form_of mnemonic.Auipc = Rd ∷ Comma ∷ Number Upper ∷ []
+form_of mnemonic.Fence = Number FenceFields ∷ Comma ∷ Rd ∷ Comma ∷ Rs1 ∷ []
+form_of mnemonic.Ecall = []
+form_of mnemonic.Ebreak = []

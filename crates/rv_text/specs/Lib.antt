@@ -1,0 +1,13 @@
+pub mod Causes
+pub mod Tokens
+pub mod Registers
+pub mod Mnemonics
+pub mod Forms
+pub mod Operands
+pub mod Statement
+pub mod Printed
+pub mod Laws
+pub mod Scan
+pub mod Next
+pub mod Lookup
+pub mod Reading

@@ -1,0 +1,85 @@
+-- What the text of one instruction means.
+use Rattle.std.specs.Prelude.{◌≡◌, ℕ, ◌⊎◌, List, [], ◌∷◌, ℤ, pos}
+use Rattle.rv_word.specs.declared.instr.Instr.{Instr}
+use Rattle.rv_word.specs.declared.instr.Instr.TheVariants as instr
+use Rattle.rv_text.specs.declared.cause.TextCause.{TextCause}
+use Rattle.rv_text.specs.declared.cause.TextCause.TheVariants as cause
+use Rattle.rv_text.specs.declared.mnemonic.Mnemonic.{Mnemonic}
+use Rattle.rv_text.specs.declared.mnemonic.Mnemonic.TheVariants as mnemonic
+use Rattle.rv_text.specs.declared.operands.Operands.{Operands}
+use Rattle.rv_text.specs.Tokens.{IsName, Takes, IsBlank, AreTokens}
+use Rattle.rv_text.specs.Mnemonics.{name_of}
+use Rattle.rv_text.specs.Forms.{form_of}
+use Rattle.rv_text.specs.Operands.{HasForm, Unformed, Missing, Departs}
+
+-- an instruction's mnemonic
+abbrev pub mnemonic_of : Instr → Mnemonic
+mnemonic_of (instr.Op op rd rs1 rs2) = mnemonic.Op op
+mnemonic_of (instr.OpImm op rd rs1 imm) = mnemonic.OpImm op
+mnemonic_of (instr.Load kind rd rs1 imm) = mnemonic.Load kind
+mnemonic_of (instr.Store width rs1 rs2 imm) = mnemonic.Store width
+mnemonic_of (instr.Branch cond rs1 rs2 offset) = mnemonic.Branch cond
+mnemonic_of (instr.Jal rd offset) = mnemonic.Jal
+mnemonic_of (instr.Jalr rd rs1 imm) = mnemonic.Jalr
+mnemonic_of (instr.Lui rd imm) = mnemonic.Lui
+mnemonic_of (instr.Auipc rd imm) = mnemonic.Auipc
+mnemonic_of (instr.Fence imm rd rs1) = mnemonic.Fence
+mnemonic_of instr.Ecall = mnemonic.Ecall
+mnemonic_of instr.Ebreak = mnemonic.Ebreak
+
+abbrev operands : ℕ → ℕ → ℕ → ℤ → Operands
+operands rd rs1 rs2 number = record { rd = rd; rs1 = rs1; rs2 = rs2; number = number }
+
+-- its operands by their places; those that its form lacks are 0
+abbrev pub operands_of : Instr → Operands
+operands_of (instr.Op op rd rs1 rs2) = operands rd rs1 rs2 (pos 0)
+operands_of (instr.OpImm op rd rs1 imm) = operands rd rs1 0 imm
+operands_of (instr.Load kind rd rs1 imm) = operands rd rs1 0 imm
+operands_of (instr.Store width rs1 rs2 imm) = operands 0 rs1 rs2 imm
+operands_of (instr.Branch cond rs1 rs2 offset) = operands 0 rs1 rs2 offset
+operands_of (instr.Jal rd offset) = operands rd 0 0 offset
+operands_of (instr.Jalr rd rs1 imm) = operands rd rs1 0 imm
+operands_of (instr.Lui rd imm) = operands rd 0 0 (pos imm)
+operands_of (instr.Auipc rd imm) = operands rd 0 0 (pos imm)
+operands_of (instr.Fence imm rd rs1) = operands rd rs1 0 (pos imm)
+operands_of instr.Ecall = operands 0 0 0 (pos 0)
+operands_of instr.Ebreak = operands 0 0 0 (pos 0)
+
+-- what a fence without operands means: from every access to every access
+abbrev pub full_fence : Instr
+full_fence = instr.Fence 255 0 0
+
+-- the tokens are the instruction's name and its operands; a full fence may leave them out
+abbrev pub Spells : Instr → List (List ℕ) → Type 0
+Spells i [] = ⊥
+Spells i (name ∷ tokens) =
+    (name ≡ name_of (mnemonic_of i))
+    × (HasForm (operands_of i) (form_of (mnemonic_of i)) tokens
+    ⊎ ((i ≡ full_fence) × (tokens ≡ [])))
+
+-- the text means the instruction
+abbrev pub Means : List ℕ → Instr → Type 0
+Means text i = (tokens : List (List ℕ)) × AreTokens text tokens × Spells i tokens
+
+-- the text behind the name is that of a fence without operands
+abbrev pub IsBareFence : Mnemonic → List ℕ → Type 0
+IsBareFence name rest = (name ≡ mnemonic.Fence) × IsBlank rest
+
+-- the token is a name that no instruction has, a pseudo-instruction's too
+abbrev pub IsUnknown : List ℕ → Type 0
+IsUnknown token = IsName token × ((m : Mnemonic) → name_of m ≡ token → ⊥)
+
+-- a text with this first token and this rest is refused for this cause
+abbrev pub RefusedAt : List ℕ → List ℕ → TextCause → Type 0
+RefusedAt token rest e =
+    ((IsName token → ⊥) × (e ≡ cause.Operands))
+    ⊎ ((IsUnknown token × (e ≡ cause.Word))
+    ⊎ ((m : Mnemonic) × (name_of m ≡ token) × (IsBareFence m rest → ⊥)
+    × Departs (form_of m) rest e))
+
+-- the text means nothing: the first token that departs from an instruction does so for this cause
+abbrev pub Refused : List ℕ → TextCause → Type 0
+Refused text e =
+    Unformed text e
+    ⊎ (Missing text e
+    ⊎ ((token : List ℕ) × (rest : List ℕ) × Takes text token rest × RefusedAt token rest e))

@@ -1,0 +1,80 @@
+-- The tokens of a line of source. A text is the list of its UTF-8 bytes, and a token is its text.
+use Rattle.std.specs.Prelude.{◌≡◌, ℕ, ◌≤◌, ◌⊎◌, Bool, ◌||◌, ◌==◌, List, [], ◌∷◌, ◌++◌, length, ℤ, pos, negsuc, neg_ℤ, ◌≤ℤ◌, IsTrue, codes}
+use Rattle.std.specs.List.{AllByRecursion}
+use Rattle.std.specs.Char.{is_ascii_alphabetic, is_ascii_digit}
+use Rattle.std.specs.Str.Parse.{IsNumeral, digits_value}
+
+-- space, tab and carriage return stand between tokens
+abbrev pub is_space : ℕ → Bool
+is_space c = (c == 32) || ((c == 9) || (c == 13))
+
+-- nothing but such stands there
+abbrev pub IsBlank : List ℕ → Type 0
+IsBlank text = AllByRecursion (λ c. IsTrue (is_space c)) text
+
+-- a letter, `_` or `.`
+abbrev pub begins_name : ℕ → Bool
+begins_name c = is_ascii_alphabetic c || ((c == 95) || (c == 46))
+
+-- the same, or a digit
+abbrev pub continues_name : ℕ → Bool
+continues_name c = begins_name c || is_ascii_digit c
+
+-- a letter, `_` or `.`, then letters, digits, `_` and `.`
+abbrev pub IsName : List ℕ → Type 0
+IsName [] = ⊥
+IsName (c ∷ cs) = IsTrue (begins_name c) × AllByRecursion (λ b. IsTrue (continues_name b)) cs
+
+-- decimal digits, or `0x` and hexadecimal digits, write n
+abbrev pub IsMagnitude : List ℕ → ℕ → Type 0
+IsMagnitude text n =
+    (IsNumeral 10 text × (n ≡ digits_value 10 text))
+    ⊎ ((digits : List ℕ) × (text ≡ codes "0x" ++ digits)
+    × IsNumeral 16 digits × (n ≡ digits_value 16 digits))
+
+-- a magnitude, perhaps behind a minus, writes z
+abbrev pub IsNumber : List ℕ → ℤ → Type 0
+IsNumber text z =
+    ((n : ℕ) × IsMagnitude text n × (z ≡ pos n))
+    ⊎ ((n : ℕ) × (digits : List ℕ) × (text ≡ codes "-" ++ digits)
+    × IsMagnitude digits n × (z ≡ neg_ℤ (pos n)))
+
+-- what 32 bits can hold, with or without a sign
+abbrev pub IsInReach : ℤ → Type 0
+IsInReach z = (negsuc 2147483647 ≤ℤ z) × (z ≤ℤ pos 4294967295)
+
+-- `,`, `:`, `(` or `)`
+abbrev pub is_mark : ℕ → Bool
+is_mark c = (c == 44) || ((c == 58) || ((c == 40) || (c == 41)))
+
+-- one of these
+abbrev pub IsMark : List ℕ → Type 0
+IsMark text = (c : ℕ) × IsTrue (is_mark c) × (text ≡ c ∷ [])
+
+-- a name, a number or a mark
+abbrev pub IsToken : List ℕ → Type 0
+IsToken text = IsName text ⊎ (((z : ℤ) × IsNumber text z) ⊎ IsMark text)
+
+-- the first token of the text, the longest that stands there, and what follows it
+pub record Takes (text token rest : List ℕ) : Type 0 where
+  pub gap : List ℕ
+  pub blank : IsBlank gap
+  pub whole : text ≡ gap ++ (token ++ rest)
+  pub is_token : IsToken token
+  pub longest : (other more : List ℕ)
+      → token ++ rest ≡ other ++ more → IsToken other → length other ≤ length token
+
+-- these tokens, in order, lead from the text to the rest
+abbrev pub LeadsTo : List ℕ → List (List ℕ) → List ℕ → Type 0
+LeadsTo text [] rest = text ≡ rest
+LeadsTo text (token ∷ tokens) rest =
+    (after : List ℕ) × Takes text token after × LeadsTo after tokens rest
+
+-- the text's tokens
+abbrev pub AreTokens : List ℕ → List (List ℕ) → Type 0
+AreTokens text tokens = (rest : List ℕ) × LeadsTo text tokens rest × IsBlank rest
+
+-- no token can be formed at the front of the text, and something is there
+pub record IsStuck (text : List ℕ) : Type 0 where
+  pub nothing : (token rest : List ℕ) → Takes text token rest → ⊥
+  pub something : IsBlank text → ⊥

@@ -1,0 +1,42 @@
+//! Why a text means nothing.
+ghost use Rattle.std.specs.Prelude.{◌≡◌};
+ghost use Rattle.rv_text.specs.Causes.{cause_number};
+
+/// Why a text means nothing.
+#[derive(Clone, Copy, Debug, PartialEq, Eq)]
+pub enum TextCause {
+    /// No token can be formed, or a statement's first name is none that is known.
+    Word,
+    /// Something else stands in a register's place.
+    Register,
+    /// Something else stands in a number's place, or a number that is out of its range.
+    Number,
+    /// A token is missing, is too many, or isn't the expected name or mark.
+    Operands,
+    /// The name is there already.
+    LabelTwice,
+    /// The statement may not stand there.
+    Directive,
+    /// Something is longer or more than is allowed.
+    Limit,
+    /// Memory was refused.
+    Memory,
+}
+
+impl TextCause {
+    /// 1 for `Word`, and so on in order to 8 for `Memory`.
+    pub fn number(self) -> u8
+        ensures { result ≡ cause_number self }
+    {
+        match self {
+            TextCause::Word => 1,
+            TextCause::Register => 2,
+            TextCause::Number => 3,
+            TextCause::Operands => 4,
+            TextCause::LabelTwice => 5,
+            TextCause::Directive => 6,
+            TextCause::Limit => 7,
+            TextCause::Memory => 8,
+        }
+    }
+}

@@ -1,0 +1,111 @@
+//! What stands behind the name of each instruction: its operands and the marks between them.
+ghost use Rattle.std.specs.Prelude.{◌≡◌, ◌↔◌, IsTrue};
+ghost use Rattle.rv_text.specs.Forms.{form_of, IsNumberOf};
+
+use crate::mnemonic::Mnemonic;
+use rv_word::ImmOp;
+
+/// Which numbers may stand at a place, in bytes where they are offsets.
+#[derive(Clone, Copy, Debug, PartialEq, Eq)]
+pub enum NumberKind {
+    /// -2048 to 2047.
+    Immediate,
+    /// 0 to 31.
+    ShiftAmount,
+    /// Even, -4096 to 4094.
+    BranchOffset,
+    /// Even, -1048576 to 1048574.
+    JumpOffset,
+    /// 0 to 1048575, the number of bits 31:12; printed in hexadecimal.
+    Upper,
+    /// 0 to 4095: the fence mode, predecessors and successors.
+    FenceFields,
+}
+
+/// What may stand at a place of a statement.
+#[derive(Clone, Copy, Debug, PartialEq, Eq)]
+pub enum Part {
+    Rd,
+    Rs1,
+    Rs2,
+    Number(NumberKind),
+    Comma,
+    Open,
+    Close,
+}
+
+impl Mnemonic {
+    /// The operands that stand behind the name, and the marks between them.
+    pub fn form(self) -> &'static [Part]
+        ensures { result.now ≡ form_of self }
+    {
+        match self {
+            Mnemonic::Op(_) => &[Part::Rd, Part::Comma, Part::Rs1, Part::Comma, Part::Rs2],
+            Mnemonic::OpImm(ImmOp::Slli | ImmOp::Srli | ImmOp::Srai) => &[
+                Part::Rd,
+                Part::Comma,
+                Part::Rs1,
+                Part::Comma,
+                Part::Number(NumberKind::ShiftAmount),
+            ],
+            Mnemonic::OpImm(_) => &[
+                Part::Rd,
+                Part::Comma,
+                Part::Rs1,
+                Part::Comma,
+                Part::Number(NumberKind::Immediate),
+            ],
+            Mnemonic::Load(_) | Mnemonic::Jalr => &[
+                Part::Rd,
+                Part::Comma,
+                Part::Number(NumberKind::Immediate),
+                Part::Open,
+                Part::Rs1,
+                Part::Close,
+            ],
+            Mnemonic::Store(_) => &[
+                Part::Rs2,
+                Part::Comma,
+                Part::Number(NumberKind::Immediate),
+                Part::Open,
+                Part::Rs1,
+                Part::Close,
+            ],
+            Mnemonic::Branch(_) => &[
+                Part::Rs1,
+                Part::Comma,
+                Part::Rs2,
+                Part::Comma,
+                Part::Number(NumberKind::BranchOffset),
+            ],
+            Mnemonic::Jal => &[Part::Rd, Part::Comma, Part::Number(NumberKind::JumpOffset)],
+            Mnemonic::Lui | Mnemonic::Auipc => {
+                &[Part::Rd, Part::Comma, Part::Number(NumberKind::Upper)]
+            }
+            Mnemonic::Fence => &[
+                Part::Number(NumberKind::FenceFields),
+                Part::Comma,
+                Part::Rd,
+                Part::Comma,
+                Part::Rs1,
+            ],
+            Mnemonic::Ecall | Mnemonic::Ebreak => &[],
+        }
+    }
+}
+
+impl NumberKind {
+    /// Whether the number is of this kind.
+    pub fn holds(self, number: i64) -> bool
+        ensures { IsTrue result ↔ IsNumberOf self number }
+    {
+        match self {
+            NumberKind::Immediate => (-2048..=2047).contains(&number),
+            NumberKind::ShiftAmount => (0..=31).contains(&number),
+            NumberKind::BranchOffset => (-4096..=4094).contains(&number) && number % 2 == 0,
+            NumberKind::JumpOffset => (-1048576..=1048574).contains(&number) && number % 2 == 0,
+            NumberKind::Upper => (0..=1048575).contains(&number),
+            NumberKind::FenceFields => (0..=4095).contains(&number),
+        }
+    }
+}

@@ -1,0 +1,160 @@
+//! The operands of a statement, and the instruction that they make with its name.
+ghost use Rattle.std.specs.Prelude.{◌≡◌, negsuc, ◌≤ℤ◌, pos};
+ghost use Rattle.rv_text.specs.Forms.{form_of};
+ghost use Rattle.rv_text.specs.Reading.{AgreesOn, Fits};
+ghost use Rattle.rv_text.specs.Statement.{mnemonic_of, operands_of};
+
+use crate::mnemonic::Mnemonic;
+use rv_word::{Instr, Reg};
+
+/// The operands of a statement; those that its form lacks are 0.
+#[derive(Clone, Copy, Debug, PartialEq, Eq)]
+pub struct Operands {
+    pub rd: Reg,
+    pub rs1: Reg,
+    pub rs2: Reg,
+    pub number: i64,
+}
+
+/// The register that reads as 0.
+pub fn x0() -> Reg
+    ensures { result ≡ 0 }
+{
+    Reg::new(0).unwrap()
+}
+
+impl Operands {
+    /// No operands.
+    pub fn none() -> Self
+        ensures { (result.rd ≡ 0) × (result.rs1 ≡ 0) × (result.rs2 ≡ 0) × (result.number ≡ pos 0) }
+    {
+        Operands {
+            rd: x0(),
+            rs1: x0(),
+            rs2: x0(),
+            number: 0,
+        }
+    }
+
+    /// The instruction's operands.
+    pub fn of(instr: &Instr) -> Self
+        ensures { result ≡ operands_of instr.now }
+    {
+        let none = Operands::none();
+        match *instr {
+            Instr::Op { rd, rs1, rs2, .. } => Operands {
+                rd,
+                rs1,
+                rs2,
+                ..none
+            },
+            Instr::OpImm { rd, rs1, imm, .. }
+            | Instr::Load { rd, rs1, imm, .. }
+            | Instr::Jalr { rd, rs1, imm } => Operands {
+                rd,
+                rs1,
+                number: i64::from(imm),
+                ..none
+            },
+            Instr::Store { rs1, rs2, imm, .. } => Operands {
+                rs1,
+                rs2,
+                number: i64::from(imm),
+                ..none
+            },
+            Instr::Branch {
+                rs1,
+                rs2,
+                offset,
+                ..
+            } => Operands {
+                rs1,
+                rs2,
+                number: i64::from(offset),
+                ..none
+            },
+            Instr::Jal { rd, offset } => Operands {
+                rd,
+                number: i64::from(offset),
+                ..none
+            },
+            Instr::Lui { rd, imm } | Instr::Auipc { rd, imm } => Operands {
+                rd,
+                number: i64::from(imm),
+                ..none
+            },
+            Instr::Fence { imm, rd, rs1 } => Operands {
+                rd,
+                rs1,
+                number: i64::from(imm),
+                ..none
+            },
+            Instr::Ecall | Instr::Ebreak => none,
+        }
+    }
+
+    /// The instruction of this name with these operands.
+    pub fn instr(self, name: Mnemonic) -> Instr
+        requires { Fits self (form_of name) }
+        ensures name { mnemonic_of result ≡ name }
+        ensures operands { AgreesOn (form_of name) (operands_of result) self }
+    {
+        let Operands {
+            rd,
+            rs1,
+            rs2,
+            number,
+        } = self;
+        match name {
+            Mnemonic::Op(op) => Instr::Op { op, rd, rs1, rs2 },
+            Mnemonic::OpImm(op) => Instr::OpImm {
+                op,
+                rd,
+                rs1,
+                imm: number as i32,
+            },
+            Mnemonic::Load(kind) => Instr::Load {
+                kind,
+                rd,
+                rs1,
+                imm: number as i32,
+            },
+            Mnemonic::Store(width) => Instr::Store {
+                width,
+                rs1,
+                rs2,
+                imm: number as i32,
+            },
+            Mnemonic::Branch(cond) => Instr::Branch {
+                cond,
+                rs1,
+                rs2,
+                offset: number as i32,
+            },
+            Mnemonic::Jal => Instr::Jal {
+                rd,
+                offset: number as i32,
+            },
+            Mnemonic::Jalr => Instr::Jalr {
+                rd,
+                rs1,
+                imm: number as i32,
+            },
+            Mnemonic::Lui => Instr::Lui {
+                rd,
+                imm: number as u32,
+            },
+            Mnemonic::Auipc => Instr::Auipc {
+                rd,
+                imm: number as u32,
+            },
+            Mnemonic::Fence => Instr::Fence {
+                imm: number as u32,
+                rd,
+                rs1,
+            },
+            Mnemonic::Ecall => Instr::Ecall,
+            Mnemonic::Ebreak => Instr::Ebreak,
+        }
+    }
+}

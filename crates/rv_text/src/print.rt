@@ -1,0 +1,110 @@
+//! Printing an instruction.
+ghost use Rattle.std.specs.Prelude.{◌≡◌, ◌++◌, OnOk, IfOk, string_bytes};
+ghost use Rattle.std.specs.List.{flat_map};
+ghost use Rattle.rv_word.specs.Spelling.{InRange};
+ghost use Rattle.rv_text.specs.Registers.{x_name};
+ghost use Rattle.rv_text.specs.Statement.{mnemonic_of, Means};
+ghost use Rattle.rv_text.specs.Printed.{part_text, number_text, printed, statement_text};
+
+use crate::form::{NumberKind, Part};
+use crate::mnemonic::Mnemonic;
+use crate::operands::Operands;
+use rv_word::{Instr, Reg};
+use std::alloc::{AllocError, Global};
+
+impl Mnemonic {
+    /// The instruction's mnemonic.
+    fn of_instr(instr: &Instr) -> Self
+        ensures { result ≡ mnemonic_of instr.now }
+    {
+        match *instr {
+            Instr::Op { op, .. } => Mnemonic::Op(op),
+            Instr::OpImm { op, .. } => Mnemonic::OpImm(op),
+            Instr::Load { kind, .. } => Mnemonic::Load(kind),
+            Instr::Store { width, .. } => Mnemonic::Store(width),
+            Instr::Branch { cond, .. } => Mnemonic::Branch(cond),
+            Instr::Jal { .. } => Mnemonic::Jal,
+            Instr::Jalr { .. } => Mnemonic::Jalr,
+            Instr::Lui { .. } => Mnemonic::Lui,
+            Instr::Auipc { .. } => Mnemonic::Auipc,
+            Instr::Fence { .. } => Mnemonic::Fence,
+            Instr::Ecall => Mnemonic::Ecall,
+            Instr::Ebreak => Mnemonic::Ebreak,
+        }
+    }
+}
+
+/// Writes a register behind the text.
+fn push_register(out: &mut String, register: Reg) -> Result<(), AllocError>
+    ensures { OnOk result (string_bytes out.new ≡ string_bytes out.old ++ x_name register) }
+{
+    let number = register.number();
+    write!(out, "x{number}")
+}
+
+/// Writes a number of this kind behind the text.
+fn push_number(out: &mut String, kind: NumberKind, number: i64) -> Result<(), AllocError>
+    ensures { OnOk result (string_bytes out.new ≡ string_bytes out.old ++ number_text kind number) }
+{
+    match kind {
+        NumberKind::Upper => match u64::try_from(number) {
+            Ok(n) => write!(out, "0x{n:x}"),
+            Err(_) => write!(out, "{number}"),
+        },
+        _ => write!(out, "{number}"),
+    }
+}
+
+/// Writes one of the operands, or a mark, behind the text.
+fn push_part(out: &mut String, o: &Operands, part: Part) -> Result<(), AllocError>
+    ensures { OnOk result (string_bytes out.new ≡ string_bytes out.old ++ part_text o.now part) }
+{
+    match part {
+        Part::Rd => push_register(out, o.rd),
+        Part::Rs1 => push_register(out, o.rs1),
+        Part::Rs2 => push_register(out, o.rs2),
+        Part::Number(kind) => push_number(out, kind, o.number),
+        Part::Comma => out.push_str(", "),
+        Part::Open => out.push_str("("),
+        Part::Close => out.push_str(")"),
+    }
+}
+
+/// Writes the operands of this form behind the text.
+fn push_operands(out: &mut String, o: &Operands, form: &[Part]) -> Result<(), AllocError>
+    ensures { OnOk result (string_bytes out.new
+        ≡ string_bytes out.old ++ flat_map (part_text o.now) form.now) }
+{
+    for part in form {
+        push_part(out, o, *part)?;
+    }
+    Ok(())
+}
+
+/// The text of a name and its operands.
+fn print_statement(alloc: Global, name: Mnemonic, o: &Operands) -> Result<String, AllocError>
+    ensures { IfOk result (λ s. string_bytes s ≡ statement_text name o.now) }
+{
+    let form = name.form();
+    let mut out = String::from_str(alloc, name.name())?;
+    if !form.is_empty() {
+        out.push_str(" ")?;
+    }
+    push_operands(&mut out, o, form)?;
+    Ok(out)
+}
+
+/// The text of an instruction: its name, a space, and its operands joined by `, `.
+///
+/// Registers are x0 to x31 and numbers are decimal, those of lui and auipc hexadecimal. A fence
+/// prints its three fields, ecall and ebreak their name alone, and nothing prints as a
+/// pseudo-instruction; otherwise this is what disassemblers of the GNU tools and LLVM print with
+/// numeric registers and no aliases.
+pub fn print_instr(alloc: Global, instr: &Instr) -> Result<String, AllocError>
+    ensures text { IfOk result (λ text. string_bytes text ≡ printed instr.now) }
+    ensures reads_back { IfOk result (λ text.
+        InRange instr.now → Means (string_bytes text) instr.now) }
+{
+    let operands = Operands::of(instr);
+    print_statement(alloc, Mnemonic::of_instr(instr), &operands)
+}

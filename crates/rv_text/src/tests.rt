@@ -1,0 +1,147 @@
+//! Texts of instructions, as the RISC-V manual and other assemblers have them.
+
+use super::*;
+use rv_word::{Instr, Reg, decode32, encode32};
+use std::alloc::Global;
+use std::process::Abort;
+use std::test::Fail;
+
+/// The instruction of a text that means one.
+fn instr(rt: &impl Abort, text: &str) -> Instr {
+    match parse_instr(text) {
+        Ok(instr) => instr,
+        Err(cause) => panic!(rt; "{text}: {cause:?}"),
+    }
+}
+
+/// The word and the text are those of one instruction.
+fn reads_and_prints(rt: &impl Abort, alloc: Global, word: u32, text: &str) -> Result<(), Fail> {
+    let read = instr(rt, text);
+    assert!(rt; decode32(word) == Some(read), "{text}");
+    assert!(rt; encode32(read) == Some(word), "{text}");
+    let printed = print_instr(alloc, &read)?;
+    assert_eq!(rt; printed.as_str(), text);
+    Ok(())
+}
+
+#[test]
+fn words_and_texts(rt: HostRuntime) -> Result<(), Fail> {
+    let vectors = [
+        (0x02c5_8533, "mul x10, x11, x12"),
+        (0x4045_5513, "srai x10, x10, 4"),
+        (0xfd5f_f0ef, "jal x1, -44"),
+        (0xfe00_0ae3, "beq x0, x0, -12"),
+        (0x001f_c503, "lbu x10, 1(x31)"),
+        (0x0180_0537, "lui x10, 0x1800"),
+        (0x0ff0_000f, "fence 255, x0, x0"),
+        (0xfeb1_2e23, "sw x11, -4(x2)"),
+        (0xffff_f797, "auipc x15, 0xfffff"),
+        (0x0000_8067, "jalr x0, 0(x1)"),
+        (0x0000_0073, "ecall"),
+        (0x0010_0073, "ebreak"),
+    ];
+    for (word, text) in vectors {
+        reads_and_prints(&rt, rt.alloc(), word, text)?;
+    }
+    Ok(())
+}
+
+#[test]
+fn ways_to_write_an_instruction(rt: HostRuntime) {
+    let pairs = [
+        ("fence", "fence 255, x0, x0"),
+        ("\taddi\tsp,sp,-0x10 \r", "addi x2, x2, -16"),
+        ("addi x0,x0,-0", "addi x0, x0, 0"),
+        ("addi x0, x0, 007", "addi x0, x0, 7"),
+        ("lui a0, 0xFfFfF", "lui x10, 1048575"),
+        ("lw fp , 4 ( s0 )", "lw x8, 4(x8)"),
+    ];
+    for (text, other) in pairs {
+        assert!(rt; instr(&rt, text) == instr(&rt, other), "{text}");
+    }
+}
+
+#[test]
+fn register_names(rt: HostRuntime) {
+    let rows = [
+        ("jal zero, 0", 0),
+        ("jal ra, 0", 1),
+        ("jal sp, 0", 2),
+        ("jal gp, 0", 3),
+        ("jal tp, 0", 4),
+        ("jal t0, 0", 5),
+        ("jal t2, 0", 7),
+        ("jal s0, 0", 8),
+        ("jal fp, 0", 8),
+        ("jal s1, 0", 9),
+        ("jal a0, 0", 10),
+        ("jal a7, 0", 17),
+        ("jal s2, 0", 18),
+        ("jal s11, 0", 27),
+        ("jal t3, 0", 28),
+        ("jal t6, 0", 31),
+    ];
+    for (text, number) in rows {
+        assert!(rt;
+            instr(&rt, text).writes() == Reg::new(number).filter(|r| r.number() != 0),
+            "{text}"
+        );
+    }
+}
+
+#[test]
+fn causes(rt: HostRuntime) {
+    let rows = [
+        ("addi x1, x1, 2048", TextCause::Number),
+        ("addi x1, x1, 2048 x", TextCause::Number),
+        ("beq x8, x0, 3", TextCause::Number),
+        ("slli x1, x1, 32", TextCause::Number),
+        ("lui x1, -1", TextCause::Number),
+        ("addi x1, x1, 99999999999999999999999", TextCause::Number),
+        ("lw a0, (a1)", TextCause::Number),
+        ("addi x1, x1, 0X1", TextCause::Operands),
+        ("addi x1, x1, 0xg", TextCause::Operands),
+        ("addi x1, x1, -x", TextCause::Word),
+        ("addi x1, x1, --5", TextCause::Word),
+        ("add x1, x2", TextCause::Operands),
+        ("add x1 x2, x3", TextCause::Operands),
+        ("ecall x1", TextCause::Operands),
+        ("", TextCause::Operands),
+        (" \t\r", TextCause::Operands),
+        ("5", TextCause::Operands),
+        (", nop", TextCause::Operands),
+        ("li x1, 1", TextCause::Word),
+        ("nop", TextCause::Word),
+        (".word 1", TextCause::Word),
+        ("ADD x1, x2, x3", TextCause::Word),
+        ("ecall # trap", TextCause::Word),
+        ("ecall\n", TextCause::Word),
+        ("é", TextCause::Word),
+        ("add x1, q9 $", TextCause::Register),
+        ("add x1, x2, x32", TextCause::Register),
+        ("add a0, , a0", TextCause::Register),
+        ("add x01, x2, x3", TextCause::Register),
+    ];
+    for (text, cause) in rows {
+        assert_eq!(rt; parse_instr(text).err(), Some(cause), "{text}");
+    }
+}
+
+#[test]
+fn numbers_of_causes(rt: HostRuntime) {
+    let causes = [
+        TextCause::Word,
+        TextCause::Register,
+        TextCause::Number,
+        TextCause::Operands,
+        TextCause::LabelTwice,
+        TextCause::Directive,
+        TextCause::Limit,
+        TextCause::Memory,
+    ];
+    let mut number = 1;
+    for cause in causes {
+        assert_eq!(rt; cause.number(), number);
+        number += 1;
+    }
+}
