@@ -1,6 +1,7 @@
 pub mod Spelling
 pub mod Spans
 pub mod Regions
+pub mod Registers
 pub mod Gates
 pub mod Parts
 pub mod Tests

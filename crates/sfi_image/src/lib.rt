@@ -14,6 +14,7 @@ mod image;
 mod laws;
 mod part;
 mod reading;
+mod reserved;
 mod span;
 #[cfg(test)]
 mod tests;
@@ -23,3 +24,4 @@ pub use image::Image;
 pub use laws::{one_reading, some_reading};
 pub use part::{Gate, SandboxPart};
 pub use reading::parse_image;
+pub use reserved::Reserved;

@@ -1,0 +1,37 @@
+//! What the reserved registers hold.
+
+ghost use Rattle.std.specs.Prelude.{◌≡◌};
+ghost use Rattle.sfi_image.specs.Spelling.{view};
+ghost use Rattle.sfi_image.specs.Parts.{IsRightPart};
+ghost use Rattle.sfi_image.specs.Registers.{reserved_of};
+
+use crate::part::SandboxPart;
+
+/// The values of the four reserved registers while a sandbox runs. A mask keeps an address's offset in a region, and a
+/// base sets the region's own bits (Wahbe and others, 1993).
+#[derive(Clone, Copy, Debug, PartialEq, Eq)]
+pub struct Reserved {
+    /// x24: the first address of the code region.
+    pub code_base: u32,
+    /// x25: the code size less 16, so that a masked offset is that of a bundle.
+    pub code_mask: u32,
+    /// x26: the first address of the data region.
+    pub data_base: u32,
+    /// x27: the data size less 1.
+    pub data_mask: u32,
+}
+
+impl Reserved {
+    /// Those of a sandbox.
+    pub fn of(part: &SandboxPart<'_>) -> Self
+        requires { IsRightPart (view part.now) }
+        ensures { result ≡ reserved_of (view part.now) }
+    {
+        Reserved {
+            code_base: part.code_base,
+            code_mask: part.code.len() as u32 - 16,
+            data_base: part.data_base,
+            data_mask: part.data_size - 1,
+        }
+    }
+}
