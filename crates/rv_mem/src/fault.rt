@@ -1,0 +1,32 @@
+//! Why no bytes were added.
+ghost use Rattle.std.specs.Prelude.{◌≡◌};
+ghost use Rattle.rv_mem.specs.Faults.{number_of};
+
+use thiserror::Error;
+
+/// Why no bytes were added to a memory: the first of these that applies.
+#[derive(Clone, Copy, Debug, PartialEq, Eq, Error)]
+pub enum AddFault {
+    /// One of the addresses is there already.
+    #[error("Overlap")]
+    Overlap,
+    /// The addresses would reach past the last one.
+    #[error("End")]
+    End,
+    /// The machine that runs this program has no room for them.
+    #[error("Memory")]
+    Memory,
+}
+
+impl AddFault {
+    /// The number by which the fault is known, from 1 to 3.
+    pub fn number(self) -> u32
+        ensures { result ≡ number_of self }
+    {
+        match self {
+            AddFault::Overlap => 1,
+            AddFault::End => 2,
+            AddFault::Memory => 3,
+        }
+    }
+}

@@ -1,0 +1,22 @@
+//! What holds of every read and write. A call costs nothing.
+ghost use Rattle.rv_mem.specs.Laws.{AddressesAreThese, ReadIsHeld, OthersStay, WrittenIsThere};
+
+/// The addresses of an access of n bytes lie k behind its first, for k below n.
+pub fn addresses_are_these()
+    ensures { AddressesAreThese }
+{}
+
+/// What is read is what the memory holds.
+pub fn read_is_held()
+    ensures { ReadIsHeld }
+{}
+
+/// A write changes no other address.
+pub fn others_stay()
+    ensures { OthersStay }
+{}
+
+/// Bytes that are written from an address on, up to the last one at most, are there.
+pub fn written_is_there()
+    ensures { WrittenIsThere }
+{}

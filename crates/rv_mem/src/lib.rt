@@ -1,0 +1,19 @@
+//! A machine's memory: which byte stands at which address.
+//!
+//! Contracts see a [`Memory`] as one finite map from address to byte (`specs/Bytes.antt`), and say of each call what it
+//! answers and what the whole map is afterwards. [`Segments`] keeps the map as runs of bytes.
+#![tactic(auto)]
+
+pub mod fault;
+pub mod laws;
+mod lookup;
+pub mod memory;
+mod segment;
+pub mod segments;
+
+pub use fault::AddFault;
+pub use memory::{Memory, Width};
+pub use segments::Segments;
+
+#[cfg(test)]
+mod tests;
