@@ -1,0 +1,6 @@
+pub mod Fetching
+pub mod Harts
+pub mod Memories
+pub mod Numbers
+pub mod Reading
+pub mod Steps

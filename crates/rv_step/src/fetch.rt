@@ -1,0 +1,34 @@
+//! The instruction at pc.
+ghost use Rattle.rv_step.specs.State.{State};
+ghost use Rattle.rv_step.specs.Step.{IsAtPc};
+
+use crate::cpu::Cpu;
+use rv_comp::laws::two_lengths;
+use rv_comp::{Front, read_front};
+use rv_mem::Memory;
+use rv_word::laws::spellings_are_wide;
+
+/// What is at pc. The second parcel is read where the first one asks for it alone.
+pub fn fetch<M: Memory>(cpu: &Cpu, memory: &M) -> Front
+    ensures { IsAtPc (record { hart = cpu.now; memory = M.bytes memory.now }) result }
+{
+    // The laws that the contract rests on: these calls do nothing.
+    spellings_are_wide();
+    two_lengths();
+
+    let pc = cpu.pc();
+    let Some(low) = memory.fetch16(pc) else {
+        return Front::Short;
+    };
+    let [byte0, byte1] = low.to_le_bytes();
+    let first = read_front(&[byte0, byte1]);
+    match first {
+        Front::Short => {}
+        _ => return first,
+    }
+    let Some(high) = memory.fetch16(pc.wrapping_add(2)) else {
+        return Front::Short;
+    };
+    let [byte2, byte3] = high.to_le_bytes();
+    read_front(&[byte0, byte1, byte2, byte3])
+}

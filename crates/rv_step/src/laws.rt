@@ -1,0 +1,58 @@
+//! What holds of every step. A call costs nothing.
+ghost use Rattle.rv_step.specs.Laws.{OneInstruction, OneStep, SomeStep, StepIsEffect, StepKeepsState, StoppedStays, OtherBytesStay, AccessedIsThere};
+
+use rv_comp::laws::{one_spelling, spelled_in_range, two_lengths};
+
+/// One instruction at most stands at pc.
+pub fn one_instruction()
+    ensures { OneInstruction }
+{
+    one_spelling();
+    two_lengths();
+}
+
+/// From a state a step comes to one thing at most.
+pub fn one_step()
+    ensures { OneStep }
+{
+    one_instruction();
+}
+
+/// From no state does a step come to nothing. [`step`](crate::step) finds what it comes to.
+pub fn some_step()
+    ensures { SomeStep }
+{}
+
+/// A step does what the instruction at pc does.
+pub fn step_is_effect()
+    ensures { StepIsEffect }
+{
+    one_instruction();
+}
+
+/// A step leads from a state to a state.
+pub fn step_keeps_state()
+    ensures { StepKeepsState }
+{
+    spelled_in_range();
+    two_lengths();
+}
+
+/// A step that isn't done leaves the state as it was.
+pub fn stopped_stays()
+    ensures { StoppedStays }
+{}
+
+/// A step changes no byte that its instruction doesn't access.
+pub fn other_bytes_stay()
+    ensures { OtherBytesStay }
+{
+    step_is_effect();
+}
+
+/// A step that is done found every byte that its instruction accesses.
+pub fn accessed_is_there()
+    ensures { AccessedIsThere }
+{
+    step_is_effect();
+}
