@@ -1,3 +1,12 @@
+pub mod Accessing
 pub mod Counts
+pub mod Effects
 pub mod Findings
+pub mod Going
+pub mod Leaving
+pub mod Masks
+pub mod Places
+pub mod Running
+pub mod Safe
+pub mod Stepping
 pub mod Verdicts

@@ -8,6 +8,7 @@ use Rattle.sfi_scan.specs.declared.finding.Finding.{Finding}
 use Rattle.sfi_scan.specs.Findings.{AreImageFindings}
 use Rattle.sfi_check.specs.declared.refusal.Refusal.{Refusal}
 use Rattle.sfi_check.specs.declared.refusal.Refusal.TheVariants.{Layout, Findings, Memory}
+use Rattle.sfi_check.specs.Safety.{AllRunSafely}
 use Rattle.sfi_check.specs.Refusals.{IfLayoutFault, IfFindings}
 
 -- ---- images
@@ -20,6 +21,11 @@ bundle_count ps = sum_by (λ p. length p.code / 16) ps
 pub record IsClean (ps : List Part) : Type 0 where
   pub layout : IsRightLayout ps
   pub none_found : AreImageFindings ps []
+
+-- the layout is right, no rule is broken, and every run from every entry of each sandbox is safe
+pub record MayRun (ps : List Part) : Type 0 where
+  pub clean : IsClean ps
+  pub safe : AllRunSafely ps
 
 -- ---- bytes
 

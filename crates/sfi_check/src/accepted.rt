@@ -2,12 +2,15 @@
 ghost use Rattle.std.specs.Prelude.{◌≡◌, length};
 ghost use Rattle.sfi_image.specs.Spelling.{views};
 ghost use Rattle.sfi_image.specs.Parts.{IsRightLayout};
+ghost use Rattle.sfi_check.specs.Safety.{AllRunSafely};
 ghost use Rattle.sfi_check.specs.Verdict.{IsClean, bundle_count};
 
+use crate::laws::clean_runs_safely;
 use sfi_image::{Image, SandboxPart};
 use std::marker::Model;
 
-/// An accepted image: its layout is right, and no rule is broken in it. Contracts see it as the list of its parts.
+/// An accepted image: its layout is right, no rule is broken in it, and so every run from every entry of each sandbox is safe.
+/// Contracts see it as the list of its parts.
 #[derive(Debug, Drop)]
 pub struct Accepted<'a> {
     image: Image<'a>,
@@ -16,13 +19,13 @@ pub struct Accepted<'a> {
 impl<'a> Model for Accepted<'a> {
     ghost use Rattle.std.specs.Prelude.{List};
     ghost use Rattle.sfi_image.specs.Spelling.{Part};
-    ghost use Rattle.sfi_check.specs.Verdict.{IsClean};
+    ghost use Rattle.sfi_check.specs.Verdict.{MayRun};
 
     ghost Value = { List Part };
 
     ghost view = { λ a. a.image };
 
-    ghost invariant = { λ a. IsClean a.image };
+    ghost invariant = { λ a. MayRun a.image };
 }
 
 impl<'a> Accepted<'a> {
@@ -30,6 +33,9 @@ impl<'a> Accepted<'a> {
         requires { IsClean image }
         ensures { result ≡ image.entry }
     {
+        // The law that the invariant rests on: this call does nothing.
+        clean_runs_safely();
+
         Accepted { image }
     }
 
@@ -37,6 +43,7 @@ impl<'a> Accepted<'a> {
     pub fn image(&self) -> &Image<'a>
         ensures image { result.now ≡ self.now }
         ensures clean { IsClean self.now }
+        ensures safe { AllRunSafely self.now }
     {
         &self.image
     }
@@ -44,6 +51,7 @@ impl<'a> Accepted<'a> {
     /// How many sandboxes the image has, 1 to 16.
     pub fn sandboxes(&self) -> usize
         ensures count { result ≡ length self.now }
+        ensures safe { AllRunSafely self.now }
     {
         self.image.parts().len()
     }
@@ -51,6 +59,7 @@ impl<'a> Accepted<'a> {
     /// How many bundles the code regions have together.
     pub fn bundles(&self) -> usize
         ensures count { result ≡ bundle_count self.now }
+        ensures safe { AllRunSafely self.now }
     {
         bundle_count(self.image.parts())
     }

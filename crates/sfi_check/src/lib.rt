@@ -4,6 +4,7 @@
 #![tactic(auto)]
 
 mod accepted;
+pub mod laws;
 mod refusal;
 mod verdict;
 

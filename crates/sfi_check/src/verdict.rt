@@ -6,6 +6,7 @@ ghost use Rattle.sfi_image.specs.Faults.{IsFault};
 ghost use Rattle.sfi_scan.specs.declared.finding.Finding.{Finding};
 ghost use Rattle.sfi_scan.specs.Findings.{AreImageFindings};
 ghost use Rattle.sfi_check.specs.Refusals.{IfLayoutFault, IfFindings};
+ghost use Rattle.sfi_check.specs.Safety.{AllRunSafely};
 ghost use Rattle.sfi_check.specs.Verdict.{Judges, IsAccepted, HasFindings, AnswersLayout, AnswersFindings, AnswersAccepted};
 
 use crate::accepted::Accepted;
@@ -54,6 +55,9 @@ pub fn check<'a>(alloc: Global, bytes: &'a [u8]) -> Result<Accepted<'a>, Refusal
     ensures only_layout { (k : LayoutFault) → IsFault bytes.entry.now k → AnswersLayout k result }
     ensures only_findings { (found : List Finding) → HasFindings bytes.entry.now found → AnswersFindings found result }
     ensures only_accepted { (parts : List Part) → IsAccepted bytes.entry.now parts → AnswersAccepted parts result }
+
+    // What acceptance is worth: every run from every entry of every sandbox is safe.
+    ensures safe { IfOk result (λ ps. AllRunSafely ps) }
 {
     // The laws that the contract rests on: these calls do nothing.
     one_reading();

@@ -1,0 +1,179 @@
+-- What each instruction at a place without a finding does: it accesses the data and the guards, calls at a gate, and goes on to a place.
+use Rattle.std.proofs.Common.{◌≡◌, ℕ, ◌+◌, ◌%◌, ◌^◌, ◌<◌, ◌≤◌, ◌⊎◌, ◌∷◌, length, Option, Some, None, Bool, true, false, cond, not, ◌==◌, refl, ap, ◌∙◌, subst, arith}
+use Rattle.std.specs.Prelude.{ℤ, pos, negsuc, is_some}
+use Rattle.std.proofs.lemmas.Bool.{and_parts, eqb-true, not-false}
+use Rattle.rv_word.specs.declared.instr.Instr.{Instr}
+use Rattle.rv_word.specs.declared.instr.Instr.TheVariants.{Op, OpImm, Load, Store, Branch, Jal, Jalr, Lui, Auipc, Fence, Ecall, Ebreak}
+use Rattle.rv_word.specs.declared.instr.LoadKind.{LoadKind}
+use Rattle.rv_word.specs.Spelling.{InRange}
+use Rattle.rv_mem.specs.Bytes.{Bytes, bytes_at, address_after, addresses, loaded, stored}
+use Rattle.rv_step.specs.declared.outcome.Outcome.{Outcome}
+use Rattle.rv_step.specs.declared.outcome.Outcome.TheVariants.{Next, Call, Trap}
+use Rattle.rv_step.specs.declared.outcome.Cause.TheVariants as cause
+use Rattle.rv_step.specs.Access.{Accesses}
+use Rattle.rv_step.specs.State.{Hart, register, with_register, with_pc, behind, even_of}
+use Rattle.rv_step.specs.Step.{effect, after_load, next, unchanged}
+use Rattle.rv_step.specs.Values.{plus, load_size, store_size, extended, is_taken}
+use Rattle.sfi_image.specs.Spelling.{Part}
+use Rattle.sfi_image.specs.Spans.{code_region}
+use Rattle.sfi_image.specs.Regions.{IsBundleStart}
+use Rattle.sfi_image.specs.Parts.{IsRightPart}
+use Rattle.sfi_scan.specs.Pairs.{is_reserved, follows_code_pair}
+use Rattle.sfi_scan.specs.Rules.{Place, is_empty, is_bundle_start, breaks_ecall, breaks_reserved, breaks_access, breaks_jump, breaks_target, ends_region, offset_by}
+use Rattle.sfi_check.specs.Regions.{InData, InGuard, IsGate, HasReserved}
+use Rattle.sfi_check.specs.Leaving.{Leaves, WritesResult}
+use Rattle.sfi_check.specs.Places.{IsAtPlace}
+use Rattle.sfi_check.proofs.Leaving.{leaves_after}
+use Rattle.sfi_check.proofs.Accessing.{same_target, near_access, load_most, store_most, load_range, store_range, count_kept, reserved_kept}
+
+-- what is used of the place where a step begins, for the instruction there
+pub record Here (sandbox : ℕ) (p : Part) (h : Hart) (i : Instr) (n : ℕ) : Type 0 where
+  pub place : Place
+  pub address : place.address ≡ h.pc
+  pub pc : h.pc < 2 ^ 32
+  pub end : p.code_base + length p.code ≤ 2 ^ 32
+  pub range : InRange i
+  pub leaves : Leaves p place.earlier h.registers
+  pub ecall : breaks_ecall place i ≡ false
+  pub reserved : breaks_reserved i ≡ false
+  pub access : breaks_access place i ≡ false
+  pub jump : breaks_jump place i ≡ false
+  pub target : breaks_target place i ≡ false
+  pub gate : is_empty place.earlier ≡ true → place.bundle.listed ≡ true → IsGate p h.pc
+  pub is_start : (a : ℕ) → is_bundle_start place.bundle a ≡ true → IsBundleStart (code_region p) a
+  pub goes : (h' : Hart) → h'.pc ≡ address_after h.pc n → ends_region i ≡ false → Leaves p (i ∷ place.earlier) h'.registers → IsAtPlace sandbox p h'
+  pub start : (h' : Hart) → IsBundleStart (code_region p) h'.pc → IsAtPlace sandbox p h'
+
+-- the registers keep what no turn changes, and pc is at a place
+pub record IsGoodHart (sandbox : ℕ) (p : Part) (h : Hart) : Type 0 where
+  pub count : length h.registers ≡ 32
+  pub reserved : HasReserved p h.registers
+  pub place : IsAtPlace sandbox p h
+
+-- what a step leads to, by its outcome
+abbrev pub Leads : ℕ → Part → Hart → Outcome → Hart → Type 0
+Leads sandbox p h Next h' = IsGoodHart sandbox p h'
+Leads sandbox p h Call h' = IsGate p h.pc
+Leads sandbox p h (Trap cause at) h' = Unit {0}
+
+-- ---- accesses
+
+pub accesses_near : (sandbox : ℕ) (p : Part) (h : Hart) (i : Instr) (n : ℕ) → IsRightPart p → Here sandbox p h i n → (a : ℕ) → Accesses i h a → InData p a ⊎ InGuard p a
+accesses_near sandbox p h (Load kind rd rs1 imm) n right here a has =
+    near_access p (register h rs1) imm (load_size kind) a right (here.leaves.data_pair rs1 (not-false _ here.access)) (load_range kind rd rs1 imm here.range) (load_most kind) has
+accesses_near sandbox p h (Store width rs1 rs2 imm) n right here a has =
+    near_access p (register h rs1) imm (store_size width) a right (here.leaves.data_pair rs1 (not-false _ here.access)) (store_range width rs1 rs2 imm here.range) (store_most width) has
+accesses_near sandbox p h (Op op rd rs1 rs2) n right here a (k, below, is) = absurd (omega arith)
+accesses_near sandbox p h (OpImm op rd rs1 imm) n right here a (k, below, is) = absurd (omega arith)
+accesses_near sandbox p h (Branch condition rs1 rs2 offset) n right here a (k, below, is) = absurd (omega arith)
+accesses_near sandbox p h (Jal rd offset) n right here a (k, below, is) = absurd (omega arith)
+accesses_near sandbox p h (Jalr rd rs1 imm) n right here a (k, below, is) = absurd (omega arith)
+accesses_near sandbox p h (Lui rd imm) n right here a (k, below, is) = absurd (omega arith)
+accesses_near sandbox p h (Auipc rd imm) n right here a (k, below, is) = absurd (omega arith)
+accesses_near sandbox p h (Fence imm rd rs1) n right here a (k, below, is) = absurd (omega arith)
+accesses_near sandbox p h Ecall n right here a (k, below, is) = absurd (omega arith)
+accesses_near sandbox p h Ebreak n right here a (k, below, is) = absurd (omega arith)
+
+load_no_call : (o : Option ℕ) (kind : LoadKind) (rd at n : ℕ) (h : Hart) (m : Bytes) → (after_load o kind rd at n h m).outcome ≡ Call → ⊥
+load_no_call None kind rd at n h m e = cc
+load_no_call (Some v) kind rd at n h m e = cc
+
+store_no_call : (b : Bool) (at : ℕ) (k : Hart) (w : Bytes) (h : Hart) (m : Bytes) → (cond b (next k w) (unchanged (Trap cause.Store at) h m)).outcome ≡ Call → ⊥
+store_no_call true at k w h m e = cc
+store_no_call false at k w h m e = cc
+
+-- what accesses anything does not call
+pub no_call : (i : Instr) (n : ℕ) (h : Hart) (m : Bytes) (a : ℕ) → Accesses i h a → (effect i n h m).outcome ≡ Call → ⊥
+no_call (Load kind rd rs1 imm) n h m a has e = load_no_call (loaded m (plus (register h rs1) imm) (load_size kind)) kind rd _ n h m e
+no_call (Store width rs1 rs2 imm) n h m a has e = store_no_call (is_some (bytes_at m (addresses (plus (register h rs1) imm) (store_size width)))) _ _ _ h m e
+no_call (Op op rd rs1 rs2) n h m a (k, below, is) e = omega arith
+no_call (OpImm op rd rs1 imm) n h m a (k, below, is) e = omega arith
+no_call (Branch condition rs1 rs2 offset) n h m a (k, below, is) e = omega arith
+no_call (Jal rd offset) n h m a (k, below, is) e = omega arith
+no_call (Jalr rd rs1 imm) n h m a (k, below, is) e = omega arith
+no_call (Lui rd imm) n h m a (k, below, is) e = omega arith
+no_call (Auipc rd imm) n h m a (k, below, is) e = omega arith
+no_call (Fence imm rd rs1) n h m a (k, below, is) e = omega arith
+no_call Ecall n h m a (k, below, is) e = omega arith
+no_call Ebreak n h m a (k, below, is) e = omega arith
+
+-- ---- each instruction
+
+module _ (sandbox : ℕ) (p : Part) (h : Hart) (m : Bytes) (right : IsRightPart p) (count : length h.registers ≡ 32) (reserved : HasReserved p h.registers) where
+  good_writing : (pc rd value : ℕ) → is_reserved rd ≡ false → IsAtPlace sandbox p (with_register (with_pc h pc) rd value) → IsGoodHart sandbox p (with_register (with_pc h pc) rd value)
+  good_writing pc rd value free place = record {
+    count = count_kept rd value (with_pc h pc) ∙ count;
+    reserved = reserved_kept p rd value (with_pc h pc) free reserved;
+    place = place;
+  }
+
+  good_moving : (pc : ℕ) → IsAtPlace sandbox p (with_pc h pc) → IsGoodHart sandbox p (with_pc h pc)
+  good_moving pc place = record { count = count; reserved = reserved; place = place }
+
+  leaves_writing : (h' : Hart) (i : Instr) (n : ℕ) (here : Here sandbox p h i n) → WritesResult i h h' → Leaves p (i ∷ here.place.earlier) h'.registers
+  leaves_writing h' i n here writes = leaves_after p h h' i here.place.earlier right count reserved here.range writes here.leaves
+
+  -- it writes a register and goes on
+  by_writing : (i : Instr) (n rd value : ℕ) (here : Here sandbox p h i n) → is_reserved rd ≡ false → ends_region i ≡ false → WritesResult i h (with_register (behind h n) rd value) → IsGoodHart sandbox p (with_register (behind h n) rd value)
+  by_writing i n rd value here free goes writes =
+      let h' = with_register (behind h n) rd value in
+      good_writing (address_after h.pc n) rd value free (here.goes h' refl goes (leaves_writing h' i n here writes))
+
+  -- it writes no register and goes on
+  by_moving : (i : Instr) (n : ℕ) (here : Here sandbox p h i n) → ends_region i ≡ false → WritesResult i h (behind h n) → IsGoodHart sandbox p (behind h n)
+  by_moving i n here goes writes = good_moving (address_after h.pc n) (here.goes (behind h n) refl goes (leaves_writing (behind h n) i n here writes))
+
+  by_load : (kind : LoadKind) (rd rs1 : ℕ) (imm : ℤ) (n : ℕ) → Here sandbox p h (Load kind rd rs1 imm) n → (o : Option ℕ) (at : ℕ) → Leads sandbox p h (after_load o kind rd at n h m).outcome (after_load o kind rd at n h m).state.hart
+  by_load kind rd rs1 imm n here None at = tt
+  by_load kind rd rs1 imm n here (Some v) at = by_writing (Load kind rd rs1 imm) n rd (extended kind v) here here.reserved refl tt
+
+  by_store : (b : Bool) (w : Bytes) (at n : ℕ) → IsGoodHart sandbox p (behind h n) → Leads sandbox p h (cond b (next (behind h n) w) (unchanged (Trap cause.Store at) h m)).outcome (cond b (next (behind h n) w) (unchanged (Trap cause.Store at) h m)).state.hart
+  by_store true w at n good = good
+  by_store false w at n good = tt
+
+  by_branch : (taken : Bool) (i : Instr) (n target : ℕ) (here : Here sandbox p h i n) → ends_region i ≡ false → WritesResult i h (behind h n) → IsBundleStart (code_region p) target → IsGoodHart sandbox p (cond taken (with_pc h target) (behind h n))
+  by_branch true i n target here goes writes start = good_moving target (here.start (with_pc h target) start)
+  by_branch false i n target here goes writes start = by_moving i n here goes writes
+
+  -- the target that the rules allow is where the machine goes
+  target_start : (i : Instr) (n : ℕ) (offset : ℤ) (here : Here sandbox p h i n) → not (is_bundle_start here.place.bundle (offset_by here.place.address offset)) ≡ false → IsBundleStart (code_region p) (plus h.pc offset)
+  target_start i n offset here kept =
+      let start = here.is_start (offset_by here.place.address offset) (not-false _ kept) in
+      subst (λ (a : ℕ). IsBundleStart (code_region p) a) (ap (λ (a : ℕ). offset_by a offset) here.address ∙ same_target h.pc offset here.pc) start
+
+  by_jalr : (rd rs1 n : ℕ) (imm : ℤ) → Here sandbox p h (Jalr rd rs1 imm) n → IsGoodHart sandbox p (with_register (with_pc h (even_of (plus (register h rs1) imm))) rd (address_after h.pc n))
+  by_jalr rd rs1 n (pos k) here =
+      let parts = and_parts (k == 0) (follows_code_pair rs1 here.place.earlier) (not-false _ here.jump) in
+      let none : k ≡ 0 = eqb-true k 0 parts.0 in
+      let start = here.leaves.code_pair rs1 parts.1 in
+      let below : register h rs1 < p.code_base + length p.code = start.held.1 in
+      let aligned : register h rs1 % 16 ≡ 0 = start.aligned in
+      let end : p.code_base + length p.code ≤ 2 ^ 32 = here.end in
+      let same : register h rs1 ≡ even_of ((register h rs1 + k) % 2 ^ 32) = omega arith in
+      let pc = even_of (plus (register h rs1) (pos k)) in
+      let h' = with_register (with_pc h pc) rd (address_after h.pc n) in
+      good_writing pc rd (address_after h.pc n) here.reserved (here.start h' (subst (λ (a : ℕ). IsBundleStart (code_region p) a) same start))
+  by_jalr rd rs1 n (negsuc k) here = absurd (let e = here.jump in cc)
+
+  by_ecall : (n : ℕ) → Here sandbox p h Ecall n → IsGate p h.pc
+  by_ecall n here =
+      let parts = and_parts (is_empty here.place.earlier) here.place.bundle.listed (not-false _ here.ecall) in
+      here.gate parts.0 parts.1
+
+  pub leads : (i : Instr) (n : ℕ) → Here sandbox p h i n → Leads sandbox p h (effect i n h m).outcome (effect i n h m).state.hart
+  leads (Op op rd rs1 rs2) n here = by_writing (Op op rd rs1 rs2) n rd _ here here.reserved refl refl
+  leads (OpImm op rd rs1 imm) n here = by_writing (OpImm op rd rs1 imm) n rd _ here here.reserved refl tt
+  leads (Load kind rd rs1 imm) n here = by_load kind rd rs1 imm n here (loaded m (plus (register h rs1) imm) (load_size kind)) (plus (register h rs1) imm)
+  leads (Store width rs1 rs2 imm) n here =
+      by_store (is_some (bytes_at m (addresses (plus (register h rs1) imm) (store_size width)))) (stored m (plus (register h rs1) imm) (store_size width) (register h rs2)) (plus (register h rs1) imm) n (by_moving (Store width rs1 rs2 imm) n here refl tt)
+  leads (Branch condition rs1 rs2 offset) n here =
+      by_branch (is_taken condition (register h rs1) (register h rs2)) (Branch condition rs1 rs2 offset) n (plus h.pc offset) here refl tt (target_start (Branch condition rs1 rs2 offset) n offset here here.target)
+  leads (Jal rd offset) n here =
+      let h' = with_register (with_pc h (plus h.pc offset)) rd (address_after h.pc n) in
+      good_writing (plus h.pc offset) rd (address_after h.pc n) here.reserved (here.start h' (target_start (Jal rd offset) n offset here here.target))
+  leads (Jalr rd rs1 imm) n here = by_jalr rd rs1 n imm here
+  leads (Lui rd imm) n here = by_writing (Lui rd imm) n rd _ here here.reserved refl tt
+  leads (Auipc rd imm) n here = by_writing (Auipc rd imm) n rd _ here here.reserved refl tt
+  leads (Fence imm rd rs1) n here = by_moving (Fence imm rd rs1) n here refl tt
+  leads Ecall n here = by_ecall n here
+  leads Ebreak n here = tt

@@ -1,0 +1,91 @@
+-- A mask and an or put any number into a region.
+use Rattle.std.proofs.Common.{◌≡◌, ℕ, ◌+◌, ◌-◌, ◌*◌, ◌/◌, ◌%◌, ◌^◌, ◌<◌, ◌≤◌, ap, ◌∙◌, ⊎_elim, arith}
+use Rattle.std.specs.Int.Bits.{bit_and, bit_or}
+use Rattle.std.proofs.lemmas.Nat.{and_mask, or_shifted, or_comm, mod_below, pow_pos, pow-add, pow_below}
+use Rattle.std.proofs.lemmas.Nat.Bits.{and_high}
+use Rattle.std.proofs.lemmas.Bool.{cases_lt}
+use Rattle.sfi_image.specs.Regions.{IsRegion}
+
+-- a number below 2 ^ k, put into a block of 2 ^ k
+in_block : (q k r : ℕ) → r < 2 ^ k → bit_or r (q * 2 ^ k) ≡ q * 2 ^ k + r
+in_block q k r h = or_comm r (q * 2 ^ k) ∙ or_shifted q k r h
+
+power_at_least : (k j : ℕ) → 2 ^ j ≤ 2 ^ k → j ≤ k
+power_at_least k j h = ⊎_elim (λ less. let below : 2 ^ k < 2 ^ j = pow_below k j less in omega arith) (λ more. more) (cases_lt k j)
+
+power_at_most : (k j : ℕ) → 2 ^ k ≤ 2 ^ j → k ≤ j
+power_at_most k j h = power_at_least j k h
+
+pub record IsPlaced (base size a : ℕ) : Type 0 where
+  pub from : base ≤ a
+  pub below : a < base + size
+
+-- the mask of size less 1
+pub masked_data : (base size least most x : ℕ) → IsRegion base size least most → IsPlaced base size (bit_or (bit_and x (size - 1)) base)
+masked_data base size least most x region =
+    let k = region.power in
+    let q = region.multiple in
+    let below : x % 2 ^ k < 2 ^ k = mod_below x (2 ^ k) (pow_pos k) in
+    let base_is : base ≡ q * 2 ^ k = region.base_is ∙ ap (λ n. q * n) region.size_is in
+    let low_part : bit_and x (size - 1) ≡ x % 2 ^ k = ap (λ n. bit_and x (n - 1)) region.size_is ∙ and_mask x k in
+    let value : bit_or (bit_and x (size - 1)) base ≡ q * 2 ^ k + x % 2 ^ k =
+    ap (λ n. bit_or n base) low_part ∙ ap (λ n. bit_or (x % 2 ^ k) n) base_is ∙ in_block q k (x % 2 ^ k) below in
+    let size_is : size ≡ 2 ^ k = region.size_is in
+    record { from = omega arith; below = omega arith }
+
+-- the mask of size less 16
+pub masked_code : (base size most x : ℕ) → IsRegion base size 256 most → IsPlaced base size (bit_or (bit_and x (size - 16)) base) × (bit_or (bit_and x (size - 16)) base % 16 ≡ 0)
+masked_code base size most x region =
+    let k = region.power in
+    let q = region.multiple in
+    let size_is : size ≡ 2 ^ k = region.size_is in
+    let at_least : 256 ≤ size = region.at_least in
+    let wide : 8 ≤ k = power_at_least k 8 (omega arith) in
+    let j = k - 4 in
+    let k_is : k ≡ j + 4 = omega arith in
+    let power : 2 ^ k ≡ 2 ^ j * 16 = ap (λ n. 2 ^ n) k_is ∙ pow-add 2 j 4 in
+    let y = x / 16 % 2 ^ j in
+    let below : y < 2 ^ j = mod_below (x / 16) (2 ^ j) (pow_pos j) in
+    let base_is : base ≡ q * 2 ^ k = region.base_is ∙ ap (λ n. q * n) region.size_is in
+    let size_is' : size - 16 ≡ 2 ^ (j + 4) - 2 ^ 4 = ap (λ n. n - 16) (region.size_is ∙ ap (λ n. 2 ^ n) k_is) in
+    let high_part : bit_and x (size - 16) ≡ y * 16 = ap (λ n. bit_and x n) size_is' ∙ and_high x j 4 in
+    let fits : y * 16 < 2 ^ k = omega arith in
+    let value : bit_or (bit_and x (size - 16)) base ≡ q * 2 ^ k + y * 16 =
+    ap (λ n. bit_or n base) high_part ∙ ap (λ n. bit_or (y * 16) n) base_is ∙ in_block q k (y * 16) fits in
+    let block : q * 2 ^ k ≡ (q * 2 ^ j) * 16 = ap (λ n. q * n) power ∙ omega arith in
+    let value' : bit_or (bit_and x (size - 16)) base ≡ (q * 2 ^ j + y) * 16 = omega arith in
+    (record { from = omega arith; below = omega arith }, omega arith)
+
+-- a region ends at or below 2 ^ 32
+pub region_end : (base size least most : ℕ) → most ≤ 2 ^ 32 → base < 2 ^ 32 → IsRegion base size least most → base + size ≤ 2 ^ 32
+region_end base size least most limit address region =
+    let k = region.power in
+    let q = region.multiple in
+    let size_is : size ≡ 2 ^ k = region.size_is in
+    let at_most : size ≤ most = region.at_most in
+    let narrow : k ≤ 32 = power_at_most k 32 (omega arith) in
+    let j = 32 - k in
+    let j_is : 32 ≡ j + k = omega arith in
+    let power : 2 ^ 32 ≡ 2 ^ j * 2 ^ k = ap (λ n. 2 ^ n) j_is ∙ pow-add 2 j k in
+    let base_is : base ≡ q * 2 ^ k = region.base_is ∙ ap (λ n. q * n) region.size_is in
+    ⊎_elim
+    (λ less. let grown : (q + 1) * 2 ^ k ≤ 2 ^ j * 2 ^ k = le_times (q + 1) (2 ^ j) (2 ^ k) (omega arith) in omega arith)
+    (λ more. let grown : 2 ^ j * 2 ^ k ≤ q * 2 ^ k = le_times (2 ^ j) q (2 ^ k) more in omega arith)
+    (cases_lt q (2 ^ j))
+  where
+    le_times : (a b c : ℕ) → a ≤ b → a * c ≤ b * c
+    le_times a b c h = grind arith
+
+-- the code region is whole bundles
+pub bundles_of : (base size most : ℕ) → IsRegion base size 256 most → (n : ℕ) × (m : ℕ) × (size ≡ 16 * n) × (base ≡ 16 * m)
+bundles_of base size most region =
+    let k = region.power in
+    let q = region.multiple in
+    let size_is : size ≡ 2 ^ k = region.size_is in
+    let at_least : 256 ≤ size = region.at_least in
+    let wide : 8 ≤ k = power_at_least k 8 (omega arith) in
+    let j = k - 4 in
+    let k_is : k ≡ j + 4 = omega arith in
+    let power : 2 ^ k ≡ 2 ^ j * 16 = ap (λ n. 2 ^ n) k_is ∙ pow-add 2 j 4 in
+    let base_is : base ≡ q * (16 * 2 ^ j) = region.base_is ∙ ap (λ n. q * n) (let e : size ≡ 16 * 2 ^ j = omega arith in e) in
+    (2 ^ j, q * 2 ^ j, omega arith, omega arith)

@@ -1,0 +1,5 @@
+use Rattle.sfi_check.proofs.Safe.{may_run}
+use Rattle.sfi_check.proofs.accepted.Accepted.new.Goals as goal
+
+pub invariant_of-result : goal.invariant_of-result
+invariant_of-result c = may_run c.clean_runs_safely.ensures c.args.image c.requires

@@ -1,0 +1,5 @@
+use Rattle.sfi_check.proofs.Running.{entry_good}
+use Rattle.sfi_check.proofs.laws.entry_is_good.Goals as goal
+
+pub returns : goal.returns
+returns c = entry_good

@@ -1,0 +1,48 @@
+-- What holds of every sandbox without a finding.
+use Rattle.std.specs.Prelude.{◌≡◌, ◌≢◌, ℕ, List, ◌∷◌, Some, length}
+use Rattle.rv_word.specs.declared.instr.Instr.{Instr}
+use Rattle.rv_word.specs.Spelling.{InRange}
+use Rattle.rv_step.specs.declared.outcome.Outcome.TheVariants.{Trap}
+use Rattle.rv_step.specs.declared.outcome.Cause.TheVariants.{Fetch, Illegal}
+use Rattle.rv_step.specs.State.{Hart, State}
+use Rattle.rv_step.specs.Step.{Stepped, IsStep}
+use Rattle.sfi_image.specs.Spelling.{Part}
+use Rattle.sfi_image.specs.Parts.{IsRightPart}
+use Rattle.sfi_check.specs.Regions.{HasReserved}
+use Rattle.sfi_check.specs.Runs.{Turn, IsTurn, IsEntry, after_turn}
+use Rattle.sfi_check.specs.Safety.{IsSafeState, IsSafeTurn, RunsSafelyFrom, RunsSafely}
+use Rattle.sfi_check.specs.Leaving.{Leaves, WritesResult}
+use Rattle.sfi_check.specs.Places.{IsCleanPart, IsGood, IsGoodIf}
+
+-- from what the instructions before a place have left, an instruction there makes what stands behind it, whatever it is and whatever else it writes
+abbrev pub InstructionLeaves : Type 0
+InstructionLeaves =
+    (p : Part) (before after : Hart) (i : Instr) (earlier : List Instr) → IsRightPart p
+    → length before.registers ≡ 32 → HasReserved p before.registers → InRange i → WritesResult i before after
+    → Leaves p earlier before.registers → Leaves p (i ∷ earlier) after.registers
+
+-- an entry is a good state
+abbrev pub EntryIsGood : Type 0
+EntryIsGood = (sandbox : ℕ) (p : Part) (s : State) → IsCleanPart sandbox p → IsEntry p s → IsGood sandbox p s
+
+-- a turn from a good state is safe, and leads to a good state
+abbrev pub TurnKeeps : Type 0
+TurnKeeps =
+    (sandbox : ℕ) (p : Part) (s : State) (turn : Turn) → IsCleanPart sandbox p → IsGood sandbox p s → IsTurn p s turn
+    → IsSafeState p s × IsSafeTurn p s turn × IsGoodIf sandbox p (after_turn turn)
+
+-- every run from every entry is safe
+abbrev pub CleanRunsSafely : Type 0
+CleanRunsSafely = (sandbox : ℕ) (p : Part) → IsCleanPart sandbox p → RunsSafely p
+
+-- from where every run is safe, it is so behind each turn
+abbrev pub SafeStaysSafe : Type 0
+SafeStaysSafe =
+    (p : Part) (s after : State) (turn : Turn) → RunsSafelyFrom p s → IsTurn p s turn → after_turn turn ≡ Some after
+    → RunsSafelyFrom p after
+
+-- from where every run is safe, no step traps for want of an instruction at pc
+abbrev pub SafeFetches : Type 0
+SafeFetches =
+    (p : Part) (s : State) (r : Stepped) (at : ℕ) → RunsSafelyFrom p s → IsStep s r
+    → (r.outcome ≢ Trap Fetch at) × (r.outcome ≢ Trap Illegal at)

@@ -1,0 +1,50 @@
+-- Where a run stands: the place of a bundle's reading, and what the registers hold there.
+use Rattle.std.specs.Prelude.{◌≡◌, ◌+◌, ◌*◌, ◌≤◌, ℕ, List, [], ◌∷◌, true, Option, Some, None, length, drop}
+use Rattle.rv_word.specs.declared.instr.Instr.{Instr}
+use Rattle.rv_step.specs.State.{Hart, State}
+use Rattle.sfi_image.specs.Spelling.{Part}
+use Rattle.sfi_image.specs.Spans.{AreApart, code_region, guarded_region}
+use Rattle.sfi_image.specs.Parts.{IsRightPart}
+use Rattle.sfi_scan.specs.Bundles.{place_of, bundle_bytes}
+use Rattle.sfi_scan.specs.Readings.{Piece, IsReading, rest_of}
+use Rattle.sfi_scan.specs.Findings.{findings_from, AreFindings}
+use Rattle.sfi_check.specs.Regions.{HasReserved, HasCode, HasEmptyGuards}
+use Rattle.sfi_check.specs.Leaving.{Leaves}
+
+-- the part of the sandbox of that number has a right layout, its code lies apart from its data and guards, and no rule is broken in it
+pub record IsCleanPart (sandbox : ℕ) (p : Part) : Type 0 where
+  pub right : IsRightPart p
+  pub apart : AreApart (code_region p) (guarded_region p)
+  pub none_found : AreFindings sandbox p []
+
+-- the registers keep their count and the reserved values, the code its bytes, and the guards are empty: no turn changes that
+pub record KeepsAll (p : Part) (s : State) : Type 0 where
+  pub count : length s.hart.registers ≡ 32
+  pub reserved : HasReserved p s.hart.registers
+  pub code : HasCode p s.memory
+  pub guards : HasEmptyGuards p s.memory
+
+-- pc is at a piece of a bundle that is read whole and has no finding from there on, and the instructions before it in the bundle have left their marks
+pub record IsAtPlace (sandbox : ℕ) (p : Part) (h : Hart) : Type 0 where
+  pub number : ℕ
+  pub within : 16 * number + 16 ≤ length p.code
+  pub offset : ℕ
+  pub earlier : List Instr
+  pub here : Piece
+  pub later : List Piece
+  pub reading : IsReading (drop offset (bundle_bytes p number)) (here ∷ later)
+  pub whole : rest_of (drop offset (bundle_bytes p number)) (here ∷ later) ≡ []
+  pub clean : findings_from (place_of sandbox p number) true (p.code_base + 16 * number + offset) earlier (here ∷ later) ≡ []
+  pub pc : h.pc ≡ p.code_base + 16 * number + offset
+  pub first : earlier ≡ [] → offset ≡ 0
+  pub leaves : Leaves p earlier h.registers
+
+-- both hold of the state
+pub record IsGood (sandbox : ℕ) (p : Part) (s : State) : Type 0 where
+  pub kept : KeepsAll p s
+  pub place : IsAtPlace sandbox p s.hart
+
+-- they hold of it, if there is one
+abbrev pub IsGoodIf : ℕ → Part → Option State → Type 0
+IsGoodIf sandbox p None = Unit {0}
+IsGoodIf sandbox p (Some s) = IsGood sandbox p s

@@ -1,0 +1,37 @@
+-- The addresses of a sandbox, and what of them a machine holds.
+use Rattle.std.specs.Prelude.{◌≡◌, ◌+◌, ◌-◌, ◌<◌, ◌⊎◌, ℕ, List, length, slice_get, slice_index, Some, None}
+use Rattle.sfi_image.specs.declared.part.Gate.{Gate}
+use Rattle.sfi_image.specs.Spelling.{Part}
+use Rattle.sfi_image.specs.Spans.{Holds, code_region, data_region, lower_guard, upper_guard}
+use Rattle.rv_mem.specs.Bytes.{Bytes, byte_at}
+
+-- the address is one of the code's
+abbrev pub InCode : Part → ℕ → Type 0
+InCode p a = Holds (code_region p) a
+
+-- it is one of the data's
+abbrev pub InData : Part → ℕ → Type 0
+InData p a = Holds (data_region p) a
+
+-- it is one of the 4096 on each side of the data
+abbrev pub InGuard : Part → ℕ → Type 0
+InGuard p a = Holds (lower_guard p) a ⊎ Holds (upper_guard p) a
+
+-- it is that of a listed gate
+abbrev pub IsGate : Part → ℕ → Type 0
+IsGate p a = (k : ℕ) × (g : Gate) × (slice_get p.gates k ≡ Some g) × (g.address ≡ a)
+
+-- x24 to x27 hold the code base, the code size less 16, the data base and the data size less 1
+pub record HasReserved (p : Part) (registers : List ℕ) : Type 0 where
+  pub x24 : slice_index registers 24 ≡ p.code_base
+  pub x25 : slice_index registers 25 ≡ length p.code - 16
+  pub x26 : slice_index registers 26 ≡ p.data_base
+  pub x27 : slice_index registers 27 ≡ p.data_size - 1
+
+-- at each code address is the image's byte
+abbrev pub HasCode : Part → Bytes → Type 0
+HasCode p m = (k : ℕ) → k < length p.code → byte_at m (p.code_base + k) ≡ Some (slice_index p.code k)
+
+-- at no guard address is a byte
+abbrev pub HasEmptyGuards : Part → Bytes → Type 0
+HasEmptyGuards p m = (a : ℕ) → InGuard p a → byte_at m a ≡ None

@@ -1,0 +1,79 @@
+-- What may happen to a sandbox: where it is entered, and the turns of a run.
+use Rattle.std.specs.Prelude.{◌≡◌, ℕ, List, [], ◌∷◌, Option, Some, None}
+use Rattle.rv_word.specs.declared.instr.Instr.TheVariants.{Ecall}
+use Rattle.rv_mem.specs.Bytes.{Bytes, byte_at, address_after}
+use Rattle.rv_step.specs.declared.outcome.Outcome.{Outcome}
+use Rattle.rv_step.specs.declared.outcome.Outcome.TheVariants.{Next, Call, Trap}
+use Rattle.rv_step.specs.State.{Hart, State, IsState, register}
+use Rattle.rv_step.specs.Step.{Stepped, Stands, IsStep}
+use Rattle.sfi_image.specs.Spelling.{Part}
+use Rattle.sfi_image.specs.Spans.{code_region}
+use Rattle.sfi_image.specs.Regions.{IsBundleStart}
+use Rattle.sfi_check.specs.Regions.{InCode, InGuard, HasReserved, HasCode, HasEmptyGuards}
+
+-- A sandbox may be entered here: at any bundle start, with the reserved registers set. All else is arbitrary.
+pub record IsEntry (p : Part) (s : State) : Type 0 where
+  pub state : IsState s
+  pub start : IsBundleStart (code_region p) s.hart.pc
+  pub reserved : HasReserved p s.hart.registers
+  pub code : HasCode p s.memory
+  pub guards : HasEmptyGuards p s.memory
+
+-- ---- turns
+
+-- the code's bytes stay, and where a guard has none it gets none
+pub record KeepsBytes (p : Part) (before after : Bytes) : Type 0 where
+  pub code : (a : ℕ) → InCode p a → byte_at after a ≡ byte_at before a
+  pub guards : (a : ℕ) → InGuard p a → byte_at before a ≡ None → byte_at after a ≡ None
+
+-- x24 to x27 stay
+pub record KeepsReserved (before after : Hart) : Type 0 where
+  pub x24 : register after 24 ≡ register before 24
+  pub x25 : register after 25 ≡ register before 25
+  pub x26 : register after 26 ≡ register before 26
+  pub x27 : register after 27 ≡ register before 27
+
+-- a reply to the ecall at pc: it goes on behind that. The other registers and all other memory are arbitrary.
+pub record IsReply (p : Part) (before after : State) : Type 0 where
+  pub size : ℕ
+  pub asked : Stands before Ecall size
+  pub state : IsState after
+  pub pc : after.hart.pc ≡ address_after before.hart.pc 4
+  pub reserved : KeepsReserved before.hart after.hart
+  pub bytes : KeepsBytes p before.memory after.memory
+
+-- A change of the memory alone, by others. All other memory is arbitrary: it need not even be bytes.
+pub record IsChange (p : Part) (before after : State) : Type 0 where
+  pub pc : after.hart.pc ≡ before.hart.pc
+  pub registers : after.hart.registers ≡ before.hart.registers
+  pub bytes : KeepsBytes p before.memory after.memory
+
+-- a step of the machine, a reply, or a change by others; the last two with the state behind them
+pub data Turn : Type 0 where
+  Steps : Stepped → Turn
+  Replies : State → Turn
+  Changes : State → Turn
+
+-- such a turn may come at this state
+abbrev pub IsTurn : Part → State → Turn → Type 0
+IsTurn p s (Steps r) = IsStep s r
+IsTurn p s (Replies after) = IsReply p s after
+IsTurn p s (Changes after) = IsChange p s after
+
+-- the state behind a step: a trap ends the run
+abbrev pub after_step : Outcome → State → Option State
+after_step Next after = Some after
+after_step Call after = Some after
+after_step (Trap cause at) after = None
+
+-- the state behind a turn, if the run goes on
+abbrev pub after_turn : Turn → Option State
+after_turn (Steps r) = after_step r.outcome r.state
+after_turn (Replies after) = Some after
+after_turn (Changes after) = Some after
+
+-- turns that follow one another from a state: behind a trap there are none
+abbrev pub IsRun : Part → Option State → List Turn → Type 0
+IsRun p s [] = Unit {0}
+IsRun p None (turn ∷ turns) = ⊥
+IsRun p (Some s) (turn ∷ turns) = IsTurn p s turn × IsRun p (after_turn turn) turns

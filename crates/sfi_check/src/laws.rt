@@ -1,0 +1,51 @@
+//! What holds of every sandbox without a finding. A call costs nothing.
+ghost use Rattle.sfi_check.specs.Laws.{InstructionLeaves, TurnKeeps, EntryIsGood, CleanRunsSafely, SafeStaysSafe, SafeFetches};
+
+use rv_comp::laws::{ecall_is_wide, spelled_in_range};
+use rv_step::laws::{
+    accessed_is_there, one_instruction, other_bytes_stay, step_is_effect, stopped_stays,
+};
+
+/// What an instruction and the one before it leave in the registers. It is said of every instruction and of whatever stands
+/// before it, so it holds at each place of a bundle's reading.
+pub fn instruction_leaves()
+    ensures { InstructionLeaves }
+{}
+
+/// A turn from a good state is safe, and leads to a good state.
+pub fn turn_keeps()
+    ensures { TurnKeeps }
+{
+    one_instruction();
+    step_is_effect();
+    stopped_stays();
+    other_bytes_stay();
+    accessed_is_there();
+    spelled_in_range();
+    ecall_is_wide();
+}
+
+/// An entry is a good state.
+pub fn entry_is_good()
+    ensures { EntryIsGood }
+{}
+
+/// A sandbox without a finding runs safely from every entry.
+pub fn clean_runs_safely()
+    ensures { CleanRunsSafely }
+{
+    entry_is_good();
+    turn_keeps();
+}
+
+/// From where every run is safe, it is so behind each turn.
+pub fn safe_stays_safe()
+    ensures { SafeStaysSafe }
+{}
+
+/// From where every run is safe, no step traps for want of an instruction.
+pub fn safe_fetches()
+    ensures { SafeFetches }
+{
+    step_is_effect();
+}
