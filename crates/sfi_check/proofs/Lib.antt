@@ -1,12 +1,15 @@
 pub mod Accessing
 pub mod Counts
 pub mod Effects
+pub mod Entering
 pub mod Findings
 pub mod Going
 pub mod Leaving
 pub mod Masks
+pub mod Needed
 pub mod Places
 pub mod Running
 pub mod Safe
 pub mod Stepping
+pub mod Unsafe
 pub mod Verdicts

@@ -113,7 +113,7 @@ at_start sandbox p h clean start =
 -- ---- the one instruction there
 
 -- bytes that stand one after another are read as a list
-read_all : (m : Bytes) (f : ℕ → ℕ) (a : ℕ) (bytes : List ℕ) → ((k : ℕ) → k < length bytes → byte_at m (f (a + k)) ≡ Some (slice_index bytes k)) → bytes_at m (map f (range_with_len a (length bytes))) ≡ Some bytes
+pub read_all : (m : Bytes) (f : ℕ → ℕ) (a : ℕ) (bytes : List ℕ) → ((k : ℕ) → k < length bytes → byte_at m (f (a + k)) ≡ Some (slice_index bytes k)) → bytes_at m (map f (range_with_len a (length bytes))) ≡ Some bytes
 read_all m f a [] each = refl
 read_all m f a (b ∷ bytes) each =
     let first : byte_at m (f a) ≡ Some b = ap (λ (n : ℕ). byte_at m (f n)) (sym (add-zero a)) ∙ each 0 (omega arith) in

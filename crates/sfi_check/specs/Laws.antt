@@ -1,12 +1,15 @@
 -- What holds of every sandbox without a finding.
-use Rattle.std.specs.Prelude.{◌≡◌, ◌≢◌, ℕ, List, ◌∷◌, Some, length}
+use Rattle.std.specs.Prelude.{◌≡◌, ◌≢◌, ◌<◌, slice_index, ℕ, List, ◌∷◌, Some, length}
 use Rattle.rv_word.specs.declared.instr.Instr.{Instr}
 use Rattle.rv_word.specs.Spelling.{InRange}
 use Rattle.rv_step.specs.declared.outcome.Outcome.TheVariants.{Trap}
 use Rattle.rv_step.specs.declared.outcome.Cause.TheVariants.{Fetch, Illegal}
-use Rattle.rv_step.specs.State.{Hart, State}
+use Rattle.rv_mem.specs.Bytes.{Bytes}
+use Rattle.rv_step.specs.State.{Hart, IsHart, State}
 use Rattle.rv_step.specs.Step.{Stepped, IsStep}
 use Rattle.sfi_image.specs.Spelling.{Part}
+use Rattle.sfi_image.specs.Spans.{AreApart, code_region, guarded_region}
+use Rattle.sfi_image.specs.Regions.{IsBundleStart}
 use Rattle.sfi_image.specs.Parts.{IsRightPart}
 use Rattle.sfi_check.specs.Regions.{HasReserved}
 use Rattle.sfi_check.specs.Runs.{Turn, IsTurn, IsEntry, after_turn}
@@ -46,3 +49,10 @@ abbrev pub SafeFetches : Type 0
 SafeFetches =
     (p : Part) (s : State) (r : Stepped) (at : ℕ) → RunsSafelyFrom p s → IsStep s r
     → (r.outcome ≢ Trap Fetch at) × (r.outcome ≢ Trap Illegal at)
+
+-- a sandbox with a right layout can be entered at each bundle start, with any registers beside the reserved ones
+abbrev pub CanBeEntered : Type 0
+CanBeEntered =
+    (p : Part) (h : Hart) → IsRightPart p → AreApart (code_region p) (guarded_region p) → ((k : ℕ) → slice_index p.code k < 256)
+    → IsHart h → IsBundleStart (code_region p) h.pc → HasReserved p h.registers
+    → (m : Bytes) × IsEntry p (record { hart = h; memory = m })

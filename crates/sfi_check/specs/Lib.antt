@@ -5,4 +5,5 @@ pub mod Refusals
 pub mod Regions
 pub mod Runs
 pub mod Safety
+pub mod Samples
 pub mod Verdict

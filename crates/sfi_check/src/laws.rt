@@ -1,5 +1,5 @@
 //! What holds of every sandbox without a finding. A call costs nothing.
-ghost use Rattle.sfi_check.specs.Laws.{InstructionLeaves, TurnKeeps, EntryIsGood, CleanRunsSafely, SafeStaysSafe, SafeFetches};
+ghost use Rattle.sfi_check.specs.Laws.{InstructionLeaves, TurnKeeps, EntryIsGood, CanBeEntered, CleanRunsSafely, SafeStaysSafe, SafeFetches};
 
 use rv_comp::laws::{ecall_is_wide, spelled_in_range};
 use rv_step::laws::{
@@ -49,3 +49,8 @@ pub fn safe_fetches()
 {
     step_is_effect();
 }
+
+/// A sandbox with a right layout can be entered.
+pub fn can_be_entered()
+    ensures { CanBeEntered }
+{}

@@ -5,6 +5,7 @@
 
 mod accepted;
 pub mod laws;
+pub mod needs;
 mod refusal;
 mod verdict;
 

@@ -1,0 +1,64 @@
+-- Sandboxes that show that the rules are needed. Each breaks one rule, and what its code does is not safe.
+use Rattle.std.specs.Prelude.{ℕ, pos, List, [], ◌∷◌, ◌++◌, replicate}
+use Rattle.std.specs.List.{flat_map}
+use Rattle.std.specs.Int.{w32, to_le_bytes}
+use Rattle.rv_word.specs.declared.instr.RegOp.TheVariants.{And, Or}
+use Rattle.rv_word.specs.declared.instr.StoreWidth.TheVariants.{Sw}
+use Rattle.rv_word.specs.declared.instr.Instr.{Instr}
+use Rattle.rv_word.specs.declared.instr.Instr.TheVariants.{Op, Store, Jal, Jalr, Ebreak}
+use Rattle.rv_word.specs.Numbers.{minus}
+use Rattle.rv_word.specs.Spelling.{spelling}
+use Rattle.sfi_image.specs.Spelling.{Part}
+use Rattle.sfi_image.specs.Spans.{AreApart, code_region, guarded_region}
+use Rattle.sfi_image.specs.Parts.{IsRightPart}
+use Rattle.sfi_check.specs.Safety.{RunsSafely}
+
+-- the words of instructions, low byte first
+abbrev pub words_of : List Instr → List ℕ
+words_of is = flat_map (λ i. to_le_bytes w32 (spelling i)) is
+
+-- 256 bytes of code at 01000000, which begin with 8 instructions and go on with ebreaks, and 256 bytes of data at 01800000
+abbrev pub sample : List Instr → Part
+sample is = record {
+  code_base = 0x01000000;
+  data_base = 0x01800000;
+  data_size = 256;
+  start = 0x01000000;
+  gates = [];
+  code = words_of (is ++ replicate 56 Ebreak);
+  init = [];
+}
+
+-- the layout of the sandbox is right, and not all its runs are safe: a checker that accepts it is wrong
+pub record IsUnsafe (p : Part) : Type 0 where
+  pub right : IsRightPart p
+  pub apart : AreApart (code_region p) (guarded_region p)
+  pub unsafe : RunsSafely p → ⊥
+
+-- a pair and a store on x0, which stays 0
+abbrev pub pair_on_x0 : List Instr
+pair_on_x0 = Op And 0 10 27 ∷ Op Or 0 0 26 ∷ Store Sw 0 11 (pos 0) ∷ Ebreak ∷ Ebreak ∷ Ebreak ∷ Ebreak ∷ Ebreak ∷ []
+
+-- a pair at the end of a bundle, and the store at the start of the next, where a run may be entered
+abbrev pub pair_across_bundles : List Instr
+pair_across_bundles =
+    Ebreak ∷ Ebreak ∷ Op And 31 10 27 ∷ Op Or 31 31 26
+    ∷ Store Sw 31 11 (pos 0) ∷ Ebreak ∷ Ebreak ∷ Ebreak ∷ []
+
+-- a jump back onto the store behind a pair
+abbrev pub jump_to_any_start : List Instr
+jump_to_any_start =
+    Op And 31 10 27 ∷ Op Or 31 31 26 ∷ Store Sw 31 11 (pos 0) ∷ Ebreak
+    ∷ Jal 0 (minus 8) ∷ Ebreak ∷ Ebreak ∷ Ebreak ∷ []
+
+-- a jalr behind its pair, to 16 bytes past a bundle start, which may be the region's last
+abbrev pub jalr_offset_ignored : List Instr
+jalr_offset_ignored =
+    Op And 31 10 25 ∷ Op Or 31 31 24 ∷ Jalr 0 31 (pos 16) ∷ Ebreak
+    ∷ Ebreak ∷ Ebreak ∷ Ebreak ∷ Ebreak ∷ []
+
+-- a jal that writes x26, and a store behind a pair
+abbrev pub written_rd_forgotten : List Instr
+written_rd_forgotten =
+    Jal 26 (pos 16) ∷ Ebreak ∷ Ebreak ∷ Ebreak
+    ∷ Op And 31 10 27 ∷ Op Or 31 31 26 ∷ Store Sw 31 11 (pos 0) ∷ Ebreak ∷ []
