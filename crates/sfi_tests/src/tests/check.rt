@@ -140,7 +140,7 @@ fn layouts() -> [Row<'static>; 18] {
     ]
 }
 
-fn rules() -> [Row<'static>; 18] {
+fn rules() -> [Row<'static>; 22] {
     [
         code(
             "masked store",
@@ -172,6 +172,34 @@ fn rules() -> [Row<'static>; 18] {
             "3370b5013360a0012320b000",
             1,
             "refused findings=1 first=V5 sandbox=0 at=01000008",
+        ),
+        code(
+            "jump back behind a pair",
+            "b37fb501b3efaf0123a0bf00730010006ff09fff",
+            1,
+            "refused findings=1 first=V7 sandbox=0 at=01000010",
+        ),
+        code(
+            "jalr with an offset",
+            "b37f9501b3ef8f0167800f01",
+            1,
+            "refused findings=1 first=V6 sandbox=0 at=01000008",
+        ),
+        edited_row(
+            "link in x26",
+            [
+                put(CODE, "6f0d0001"),
+                put(CODE + 16, "b37fb501b3efaf0123a0bf00"),
+                same(),
+            ],
+            1,
+            "refused findings=1 first=V4 sandbox=0 at=01000000",
+        ),
+        code(
+            "c.lwsp into x24",
+            "024c0290",
+            1,
+            "refused findings=1 first=V4 sandbox=0 at=01000000",
         ),
         code(
             "jalr",
