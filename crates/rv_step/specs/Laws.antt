@@ -16,7 +16,7 @@ OneInstruction =
 abbrev pub OneStep : Type 0
 OneStep = (s : State) (r q : Stepped) → IsStep s r → IsStep s q → r ≡ q
 
--- from no state does a step come to nothing
+-- it can't be that from some state a step comes to nothing (`step` finds what it comes to)
 abbrev pub SomeStep : Type 0
 SomeStep = (s : State) → ((r : Stepped) → IsStep s r → ⊥) → ⊥
 

@@ -2,10 +2,12 @@
 use Rattle.std.specs.Prelude.{◌≡◌, ℕ, ◌-◌, ◌%◌, ◌^◌, ◌<◌, ◌==◌, List, length, slice_index, slice_set, if◌then◌else◌}
 use Rattle.rv_mem.specs.Bytes.{Bytes, IsMemory, address_after}
 
+-- a hart
 pub record Hart : Type 0 where
   pub pc : ℕ
   pub registers : List ℕ
 
+-- a state
 pub record State : Type 0 where
   pub hart : Hart
   pub memory : Bytes

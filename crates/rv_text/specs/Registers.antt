@@ -1,5 +1,5 @@
 -- The names of the registers.
--- RISC-V ABIs Specification, "Register Convention".
+-- RISC-V ABIs Specification, "Register Convention"; ISA manual, "RISC-V Assembly Programmer's Handbook".
 use Rattle.std.specs.Prelude.{◌≡◌, ℕ, ◌<◌, ◌⊎◌, List, [], ◌∷◌, ◌++◌, Some, slice_get, codes}
 use Rattle.std.specs.Fmt.{decimal}
 

@@ -39,7 +39,7 @@ IsNumber text z =
     ⊎ ((n : ℕ) × (digits : List ℕ) × (text ≡ codes "-" ++ digits)
     × IsMagnitude digits n × (z ≡ neg_ℤ (pos n)))
 
--- what 32 bits can hold, with or without a sign
+-- what 32 bits can hold, with or without a sign (a word of private contracts)
 abbrev pub IsInReach : ℤ → Type 0
 IsInReach z = (negsuc 2147483647 ≤ℤ z) × (z ≤ℤ pos 4294967295)
 

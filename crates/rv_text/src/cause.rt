@@ -25,7 +25,7 @@ pub enum TextCause {
 
 impl TextCause {
     /// 1 for `Word`, and so on in order to 8 for `Memory`.
-    pub fn number(self) -> u8
+    pub fn number(self) -> u32
         ensures { result ≡ cause_number self }
     {
         match self {

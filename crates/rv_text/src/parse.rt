@@ -78,8 +78,8 @@ fn behind_token(token: &str, rest: &str) -> Result<Instr, TextCause>
 ///
 /// Names are in lower case, registers have either of their names (x8 also fp), numbers are decimal
 /// or hexadecimal behind `0x`, and a fence may leave out its operands. The cause of a refusal is
-/// that of the first token that departs from this: `Word` for a name that no instruction has and
-/// for what forms no token, `Register` and `Number` for what stands in the place of one,
+/// that of the first token that departs from this: `Word` for a first name that no instruction has
+/// and for what forms no token, `Register` and `Number` for what stands in the place of one,
 /// `Operands` for any other token, for one that is too many and for one that is missing.
 pub fn parse_instr(text: &str) -> Result<Instr, TextCause>
     ensures means { IfOk result (λ i. Means text.now i) }

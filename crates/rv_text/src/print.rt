@@ -97,9 +97,9 @@ fn print_statement(alloc: Global, name: Mnemonic, o: &Operands) -> Result<String
 /// The text of an instruction: its name, a space, and its operands joined by `, `.
 ///
 /// Registers are x0 to x31 and numbers are decimal, those of lui and auipc hexadecimal. A fence
-/// prints its three fields, ecall and ebreak their name alone, and nothing prints as a
-/// pseudo-instruction; otherwise this is what disassemblers of the GNU tools and LLVM print with
-/// numeric registers and no aliases.
+/// prints its three fields as numbers, ecall and ebreak their name alone, and nothing prints as a
+/// pseudo-instruction. LLVM's disassembler prints the same with numeric registers and no aliases,
+/// but for a fence's fields and the decimal numbers of its lui and auipc.
 pub fn print_instr(alloc: Global, instr: &Instr) -> Result<String, AllocError>
     ensures text { IfOk result (λ text. string_bytes text ≡ printed instr.now) }
     ensures reads_back { IfOk result (λ text.

@@ -10,6 +10,7 @@ pub mod Needed
 pub mod Places
 pub mod Running
 pub mod Safe
+pub mod Samples
+pub mod Sandboxed
 pub mod Stepping
-pub mod Unsafe
 pub mod Verdicts

@@ -10,7 +10,7 @@ use Rattle.rv_word.specs.Spelling.{spelling, InRange}
 use Rattle.rv_comp.specs.Fronts.{Spells}
 use Rattle.sfi_check.specs.Safety.{RunsSafely}
 use Rattle.sfi_check.specs.Samples.{sample, IsUnsafe, pair_on_x0, pair_across_bundles, jump_to_any_start, jalr_offset_ignored, written_rd_forgotten}
-use Rattle.sfi_check.proofs.Unsafe.{IsSample, each_below, right_part, apart, hart, begins, stands_at, goes_to, reaches, far}
+use Rattle.sfi_check.proofs.Samples.{IsSample, each_below, right_part, apart, hart, begins, stands_at, goes_to, reaches, far}
 
 -- ---- a pair on x0
 

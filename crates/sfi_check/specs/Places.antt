@@ -24,7 +24,8 @@ pub record KeepsAll (p : Part) (s : State) : Type 0 where
   pub code : HasCode p s.memory
   pub guards : HasEmptyGuards p s.memory
 
--- pc is at a piece of a bundle that is read whole and has no finding from there on, and the instructions before it in the bundle have left their marks
+-- pc is at an offset of a bundle from which the rest is read whole and has no finding, if `earlier` stood before it. That is any list, the nearest first,
+-- whose marks the registers bear, and it is empty at the bundle's start alone. So there are more such places than a run reaches.
 pub record IsAtPlace (sandbox : ℕ) (p : Part) (h : Hart) : Type 0 where
   pub number : ℕ
   pub within : 16 * number + 16 ≤ length p.code
@@ -39,12 +40,12 @@ pub record IsAtPlace (sandbox : ℕ) (p : Part) (h : Hart) : Type 0 where
   pub first : earlier ≡ [] → offset ≡ 0
   pub leaves : Leaves p earlier h.registers
 
--- both hold of the state
+-- a good state: it has what all turns keep, and stands at a good place
 pub record IsGood (sandbox : ℕ) (p : Part) (s : State) : Type 0 where
   pub kept : KeepsAll p s
   pub place : IsAtPlace sandbox p s.hart
 
--- they hold of it, if there is one
+-- the state is good, if the run goes on
 abbrev pub IsGoodIf : ℕ → Part → Option State → Type 0
 IsGoodIf sandbox p None = Unit {0}
 IsGoodIf sandbox p (Some s) = IsGood sandbox p s

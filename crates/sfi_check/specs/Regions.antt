@@ -9,15 +9,15 @@ use Rattle.rv_mem.specs.Bytes.{Bytes, byte_at}
 abbrev pub InCode : Part → ℕ → Type 0
 InCode p a = Holds (code_region p) a
 
--- it is one of the data's
+-- the address is one of the data's
 abbrev pub InData : Part → ℕ → Type 0
 InData p a = Holds (data_region p) a
 
--- it is one of the 4096 on each side of the data
+-- the address is one of the 4096 on each side of the data
 abbrev pub InGuard : Part → ℕ → Type 0
 InGuard p a = Holds (lower_guard p) a ⊎ Holds (upper_guard p) a
 
--- it is that of a listed gate
+-- the address is that of a listed gate
 abbrev pub IsGate : Part → ℕ → Type 0
 IsGate p a = (k : ℕ) × (g : Gate) × (slice_get p.gates k ≡ Some g) × (g.address ≡ a)
 

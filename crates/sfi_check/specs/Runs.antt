@@ -42,7 +42,8 @@ pub record IsReply (p : Part) (before after : State) : Type 0 where
   pub reserved : KeepsReserved before.hart after.hart
   pub bytes : KeepsBytes p before.memory after.memory
 
--- A change of the memory alone, by others. All other memory is arbitrary: it need not even be bytes.
+-- A change of the memory alone, by others. All other memory is arbitrary: it need not even be bytes, so that the states behind it may be none of a real
+-- machine, and what is said of runs holds of them too.
 pub record IsChange (p : Part) (before after : State) : Type 0 where
   pub pc : after.hart.pc ≡ before.hart.pc
   pub registers : after.hart.registers ≡ before.hart.registers

@@ -25,6 +25,7 @@ pub record IsSafeState (p : Part) (s : State) : Type 0 where
   pub pc : InCode p s.hart.pc
   pub instruction : (i : Instr) (n : ℕ) → Stands s i n → (k : ℕ) → k < n → InCode p (address_after s.hart.pc k)
 
+-- the step traps
 abbrev pub IsTrap : Outcome → Type 0
 IsTrap Next = ⊥
 IsTrap Call = ⊥
@@ -42,7 +43,7 @@ IsSafeTurn p s (Steps r) = IsSafeStep p s r
 IsSafeTurn p s (Replies after) = IsGate p s.hart.pc
 IsSafeTurn p s (Changes after) = Unit {0}
 
--- each state of the run is safe, and each turn
+-- each state of the run is safe, and each turn (a trap ends the run in the state before it)
 abbrev pub IsSafeRun : Part → Option State → List Turn → Type 0
 IsSafeRun p None turns = Unit {0}
 IsSafeRun p (Some s) [] = IsSafeState p s

@@ -1,17 +1,24 @@
--- Sandboxes that show that the rules are needed. Each breaks one rule, and what its code does is not safe.
-use Rattle.std.specs.Prelude.{ℕ, pos, List, [], ◌∷◌, ◌++◌, replicate}
+-- Sandboxes that show that the rules are needed, each of which breaks one, and one that is accepted.
+use Rattle.std.specs.Prelude.{◌≡◌, Some, ℕ, pos, List, [], ◌∷◌, ◌++◌, replicate}
 use Rattle.std.specs.List.{flat_map}
 use Rattle.std.specs.Int.{w32, to_le_bytes}
 use Rattle.rv_word.specs.declared.instr.RegOp.TheVariants.{And, Or}
-use Rattle.rv_word.specs.declared.instr.StoreWidth.TheVariants.{Sw}
+use Rattle.rv_word.specs.declared.instr.StoreWidth.TheVariants.{Sb, Sw}
 use Rattle.rv_word.specs.declared.instr.Instr.{Instr}
 use Rattle.rv_word.specs.declared.instr.Instr.TheVariants.{Op, Store, Jal, Jalr, Ebreak}
 use Rattle.rv_word.specs.Numbers.{minus}
 use Rattle.rv_word.specs.Spelling.{spelling}
+use Rattle.rv_mem.specs.Bytes.{byte_at}
+use Rattle.rv_step.specs.declared.outcome.Outcome.TheVariants.{Next}
+use Rattle.rv_step.specs.State.{State}
+use Rattle.rv_step.specs.Step.{Stepped}
 use Rattle.sfi_image.specs.Spelling.{Part}
 use Rattle.sfi_image.specs.Spans.{AreApart, code_region, guarded_region}
 use Rattle.sfi_image.specs.Parts.{IsRightPart}
+use Rattle.sfi_check.specs.Regions.{InData}
+use Rattle.sfi_check.specs.Runs.{Steps, Changes, IsEntry, IsRun}
 use Rattle.sfi_check.specs.Safety.{RunsSafely}
+use Rattle.sfi_check.specs.Verdict.{IsAccepted}
 
 -- the words of instructions, low byte first
 abbrev pub words_of : List Instr → List ℕ
@@ -51,7 +58,7 @@ jump_to_any_start =
     Op And 31 10 27 ∷ Op Or 31 31 26 ∷ Store Sw 31 11 (pos 0) ∷ Ebreak
     ∷ Jal 0 (minus 8) ∷ Ebreak ∷ Ebreak ∷ Ebreak ∷ []
 
--- a jalr behind its pair, to 16 bytes past a bundle start, which may be the region's last
+-- a jalr behind its pair, to 16 bytes past a bundle start, and behind the region's last bundle there is no code
 abbrev pub jalr_offset_ignored : List Instr
 jalr_offset_ignored =
     Op And 31 10 25 ∷ Op Or 31 31 24 ∷ Jalr 0 31 (pos 16) ∷ Ebreak
@@ -62,3 +69,32 @@ abbrev pub written_rd_forgotten : List Instr
 written_rd_forgotten =
     Jal 26 (pos 16) ∷ Ebreak ∷ Ebreak ∷ Ebreak
     ∷ Op And 31 10 27 ∷ Op Or 31 31 26 ∷ Store Sw 31 11 (pos 0) ∷ Ebreak ∷ []
+
+-- ---- an accepted one
+
+-- a store behind its pair, and a jump back
+abbrev pub sandboxed_store : List Instr
+sandboxed_store =
+    Op And 31 10 27 ∷ Op Or 31 31 26 ∷ Store Sb 31 10 (pos 0) ∷ Jal 0 (minus 12)
+    ∷ Ebreak ∷ Ebreak ∷ Ebreak ∷ Ebreak ∷ []
+
+-- a run in which others change a byte of the data, and three steps later the sandbox has stored one there
+pub record StoresByte (p : Part) : Type 0 where
+  pub entry : State
+  pub is_entry : IsEntry p entry
+  pub changed : State
+  pub masked : Stepped
+  pub placed : Stepped
+  pub stored : Stepped
+  pub run : IsRun p (Some entry) (Changes changed ∷ Steps masked ∷ Steps placed ∷ Steps stored ∷ [])
+  pub done : stored.outcome ≡ Next
+  pub address : ℕ
+  pub inside : InData p address
+  pub before : byte_at changed.memory address ≡ Some 0
+  pub after : byte_at stored.state.memory address ≡ Some 240
+
+-- there is an accepted image of this sandbox, and such a run of it
+pub record IsAcceptedAndRuns (p : Part) : Type 0 where
+  pub bytes : List ℕ
+  pub accepted : IsAccepted bytes (p ∷ [])
+  pub stores : StoresByte p

@@ -51,6 +51,7 @@ impl<'a> Accepted<'a> {
     /// How many sandboxes the image has, 1 to 16.
     pub fn sandboxes(&self) -> usize
         ensures count { result ≡ length self.now }
+        ensures clean { IsClean self.now }
         ensures safe { AllRunSafely self.now }
     {
         self.image.parts().len()
@@ -59,6 +60,7 @@ impl<'a> Accepted<'a> {
     /// How many bundles the code regions have together.
     pub fn bundles(&self) -> usize
         ensures count { result ≡ bundle_count self.now }
+        ensures clean { IsClean self.now }
         ensures safe { AllRunSafely self.now }
     {
         bundle_count(self.image.parts())

@@ -1,5 +1,8 @@
-//! That the rules are needed: code that breaks one does what is not safe, though its layout is right. A call costs nothing.
-ghost use Rattle.sfi_check.specs.Samples.{IsUnsafe, sample, pair_on_x0, pair_across_bundles, jump_to_any_start, jalr_offset_ignored, written_rd_forgotten};
+//! That the rules are needed, since code that breaks one does what is not safe, though its layout is right; and that they leave
+//! code that does something. A call costs nothing.
+ghost use Rattle.sfi_check.specs.Samples.{IsUnsafe, IsAcceptedAndRuns, sample, sandboxed_store, pair_on_x0, pair_across_bundles, jump_to_any_start, jalr_offset_ignored, written_rd_forgotten};
+
+use rv_comp::laws::one_spelling;
 
 /// A store behind a pair on x0 reaches address 0.
 pub fn pair_on_x0_is_unsafe()
@@ -25,3 +28,10 @@ pub fn jalr_offset_ignored_is_unsafe()
 pub fn written_rd_forgotten_is_unsafe()
     ensures { IsUnsafe (sample written_rd_forgotten) }
 {}
+
+/// An accepted sandbox stores a byte.
+pub fn sandboxed_store_is_accepted()
+    ensures { IsAcceptedAndRuns (sample sandboxed_store) }
+{
+    one_spelling();
+}

@@ -22,6 +22,8 @@ IsNoHexadecimal text = IsErr (decode_of (filter is_kept text))
 abbrev pub IsUnreadable : List ℕ → Type 0
 IsUnreadable text = (limit < length text) ⊎ IsNoHexadecimal text
 
+-- ---- for private contracts
+
 -- a fault is named only of such a text
 abbrev pub IsTextStop : List ℕ → Stop → Type 0
 IsTextStop text (Input fault) = IsUnreadable text

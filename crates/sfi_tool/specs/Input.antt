@@ -8,7 +8,7 @@ use Rattle.sfi_tool.specs.declared.input.Input.TheVariants.{Whole, TooLarge}
 abbrev pub limit : ℕ
 limit = 134217728
 
--- what was read of a reader that held these bytes: all of them, where they keep the limit
+-- what was read of a reader that held these bytes: all of them, where they keep the limit (a word of private contracts)
 abbrev pub IsInput : Option (List ℕ) → Input → Type 0
 IsInput None input = Unit {0}
 IsInput (Some bytes) (Whole text) = (text.items ≡ bytes) × (length bytes ≤ limit)

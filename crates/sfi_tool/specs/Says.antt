@@ -57,6 +57,8 @@ HasInputFault Check input = IsUnreadable input ⊎ SpellsFault input
 
 -- ---- answers, want of memory aside
 
+-- ---- for private contracts
+
 -- a job stops at a fault of the input only
 abbrev pub IsStop : Job → List ℕ → Stop → Type 0
 IsStop job input (stop.Input fault) = HasInputFault job input

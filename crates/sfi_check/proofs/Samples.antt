@@ -1,4 +1,4 @@
--- What the code of the samples does.
+-- The samples: their layout, how they are entered, and their steps.
 use Rattle.std.proofs.Common.{◌≡◌, ℕ, zero, suc, ◌+◌, ◌-◌, ◌*◌, ◌%◌, ◌^◌, ◌<◌, ◌≤◌, ◌⊎◌, List, [], ◌∷◌, ◌++◌, length, replicate, take, drop, true, Some, inl, inr, refl, sym, ap, subst, ◌∙◌, arith, get_or-drop, get_or-take}
 use Rattle.std.specs.Prelude.{slice_index, nat_lt}
 use Rattle.std.specs.List.{list_all}
@@ -75,7 +75,7 @@ hart pc x26 x31 = record {
   registers = replicate 10 0 ++ (240 ∷ (replicate 13 0 ++ (0x01000000 ∷ 240 ∷ x26 ∷ 255 ∷ 0 ∷ 0 ∷ 0 ∷ x31 ∷ [])));
 }
 
-is_hart : (pc : ℕ) → pc % 2 ≡ 0 → pc < 2 ^ 32 → IsHart (hart pc 0x01800000 0)
+pub is_hart : (pc : ℕ) → pc % 2 ≡ 0 → pc < 2 ^ 32 → IsHart (hart pc 0x01800000 0)
 is_hart pc even fits = record {
   even = even;
   address = fits;
@@ -84,7 +84,7 @@ is_hart pc even fits = record {
   zero = refl;
 }
 
-reserved : (is : List Instr) → IsSample is → (pc : ℕ) → HasReserved (sample is) (hart pc 0x01800000 0).registers
+pub reserved : (is : List Instr) → IsSample is → (pc : ℕ) → HasReserved (sample is) (hart pc 0x01800000 0).registers
 reserved is of pc = let size = of.size in record { x24 = refl; x25 = sym (ap (λ (n : ℕ). n - 16) size); x26 = refl; x27 = refl }
 
 -- a run may begin at the bundle of that number
@@ -120,7 +120,7 @@ module _ (p : Part) (m : Bytes) (code : HasCode p m) where
           let e : address_after h.pc (0 + k) ≡ p.code_base + (at + k) = omega (arith, pc, within, end, few) in
           ap (byte_at m) e ∙ code (at + k) (omega (arith, within, few)) ∙ ap Some (sym (get_or-take 4 (drop at p.code) k 0 few ∙ get_or-drop at p.code k 0))
 
-  step_here : (h : Hart) (i : Instr) → Stands (record { hart = h; memory = m }) i 4 → IsStep (record { hart = h; memory = m }) (effect i 4 h m)
+  pub step_here : (h : Hart) (i : Instr) → Stands (record { hart = h; memory = m }) i 4 → IsStep (record { hart = h; memory = m }) (effect i 4 h m)
   step_here h i stands = record { front = Read i 4; at_pc = stands; result = refl }
 
   -- the step is done
