@@ -8,6 +8,7 @@ pub mod Leaving
 pub mod Masks
 pub mod Needed
 pub mod Places
+pub mod Readings
 pub mod Running
 pub mod Safe
 pub mod Samples

@@ -20,11 +20,14 @@ use Rattle.sfi_scan.specs.declared.finding.Finding.{Finding}
 use Rattle.sfi_scan.specs.Findings.{AreFindings, AreFindingsFrom}
 use Rattle.sfi_check.specs.Runs.{IsRun}
 use Rattle.sfi_check.specs.Safety.{IsSafeRun, RunsSafelyFrom, RunsSafely, AllRunSafely}
-use Rattle.sfi_check.specs.Laws.{CleanRunsSafely, SafeStaysSafe, SafeFetches}
+use Rattle.sfi_check.specs.Laws.{CleanRunsSafely, SafeTurns, SafeStaysSafe, SafeFetches}
 use Rattle.sfi_check.specs.Verdict.{IsClean, MayRun}
 use Rattle.sfi_check.proofs.Places.{nothing_before}
 
 -- ---- from a state on
+
+pub turns_safe : SafeTurns
+turns_safe p s turn from h = let run = from.safe (turn ∷ []) (h, tt) in (run.0, run.1)
 
 pub stays_safe : SafeStaysSafe
 stays_safe p s after turn from h e = record {

@@ -1,16 +1,14 @@
 -- The accepted sample: no rule is broken in it, and it stores a byte.
-use Rattle.std.proofs.Common.{◌≡◌, ◌≢◌, ℕ, zero, suc, ◌+◌, ◌-◌, ◌*◌, ◌<◌, ◌≤◌, List, [], ◌∷◌, ◌++◌, length, take, drop, true, false, cond, Some, None, refl, sym, ap, ◌∙◌, subst, inl, inr, arith, get_or, get_or-take, length-take}
+use Rattle.std.proofs.Common.{◌≡◌, ◌≢◌, ℕ, zero, suc, ◌+◌, ◌<◌, [], ◌∷◌, cond, Some, None, refl, ap, ◌∙◌, inl, inr, arith, get_or}
 use Rattle.std.specs.Prelude.{pos, is_some}
 use Rattle.std.specs.List.{All}
 use Rattle.std.specs.FinMap.{insert}
-use Rattle.std.proofs.lemmas.Bool.{false≢true}
 use Rattle.std.proofs.lemmas.Int.{ints}
 use Rattle.rv_word.specs.declared.instr.RegOp.TheVariants.{And, Or}
 use Rattle.rv_word.specs.declared.instr.StoreWidth.TheVariants.{Sb}
 use Rattle.rv_word.specs.declared.instr.Instr.TheVariants.{Op, Store, Jal, Ebreak}
 use Rattle.rv_word.specs.Numbers.{minus}
 use Rattle.rv_word.specs.Spelling.{spelling, InRange}
-use Rattle.rv_comp.specs.Fronts.{Spells}
 use Rattle.rv_comp.specs.Laws.{OneSpelling}
 use Rattle.rv_mem.specs.Bytes.{Bytes, byte_at, in_front, stored}
 use Rattle.rv_step.specs.declared.outcome.Outcome.TheVariants.{Trap}
@@ -22,55 +20,16 @@ use Rattle.sfi_image.specs.Spelling as image
 use Rattle.sfi_image.specs.declared.span.Span.{Span}
 use Rattle.sfi_image.specs.Parts.{IsRightPart}
 use Rattle.sfi_image.specs.Spans.{AreApart, code_region, guarded_region}
-use Rattle.sfi_scan.specs.declared.bundle.BundlePlace.{BundlePlace}
-use Rattle.sfi_scan.specs.declared.finding.Finding.{Finding}
-use Rattle.sfi_scan.specs.Bundles.{place_of, bundle_bytes}
-use Rattle.sfi_scan.specs.Readings.{Piece, IsReading, rest_of}
-use Rattle.sfi_scan.specs.Rules.{is_empty}
-use Rattle.sfi_scan.specs.Findings.{findings_from, rest_finding, AreBundleFindings, AreFindingsOfFirst, AreFindings}
+use Rattle.sfi_scan.specs.Findings.{AreFindings}
 use Rattle.sfi_check.specs.Regions.{InGuard, HasCode}
 use Rattle.sfi_check.specs.Runs.{KeepsBytes}
 use Rattle.sfi_check.specs.Samples.{sample, sandboxed_store, StoresByte, IsAcceptedAndRuns}
 use Rattle.sfi_check.specs.Verdict.{IsAccepted}
-use Rattle.sfi_check.proofs.Places.{spelled_length, spelled_some}
 use Rattle.sfi_check.proofs.Entering.{entered, inserted_here, inserted_elsewhere}
+use Rattle.sfi_check.proofs.Readings.{IsSpelled, ebreak_spelled, all_findings}
 use Rattle.sfi_check.proofs.Samples.{IsSample, each_below, right_part, apart, hart, is_hart, reserved, stands_at, step_here}
 
--- ---- readings
-
--- nothing is spelled by no bytes
-none_spelled : (bytes : List ℕ) (y : Piece) → bytes ≡ [] → Spells (take y.size bytes) y.instr y.size → ⊥
-none_spelled bytes y e s =
-    let some = spelled_some (take y.size bytes) y.instr y.size s in
-    let long = spelled_length (take y.size bytes) y.instr y.size s in
-    let short : length (take y.size bytes) ≡ length (take y.size []) = ap (λ (l : List ℕ). length (take y.size l)) e in
-    let none = length-take {A = ℕ} y.size [] in
-    omega (arith, some, long, short, none)
-
--- no reading has more pieces than one that leaves nothing
-most : OneSpelling → (bytes : List ℕ) (xs ys : List Piece) → IsReading bytes xs → rest_of bytes xs ≡ [] → IsReading bytes ys → length ys ≤ length xs
-most law bytes [] [] a whole b = omega arith
-most law bytes [] (y ∷ ys) a whole b = absurd (none_spelled bytes y whole b.0)
-most law bytes (x ∷ xs) [] a whole b = omega arith
-most law bytes (x ∷ xs) (y ∷ ys) a whole b =
-    let e = law (take x.size bytes) (take y.size bytes) x.instr y.instr x.size y.size a.0 b.0 (λ k h g. get_or-take x.size bytes k 0 h ∙ sym (get_or-take y.size bytes k 0 g)) in
-    let rest = most law (drop x.size bytes) xs ys a.1 whole (subst (λ (n : ℕ). IsReading (drop n bytes) ys) (sym e.1) b.1) in
-    omega (arith, rest)
-
--- a bundle that is no gate's and is read whole, without a finding
-clean_bundle : OneSpelling → (b : BundlePlace) (bytes : List ℕ) (reading : List Piece) → b.listed ≡ false → IsReading bytes reading → rest_of bytes reading ≡ [] → findings_from b true b.address [] reading ≡ [] → AreBundleFindings b bytes []
-clean_bundle law b bytes reading unlisted is whole none = inr (
-  (λ listed. absurd (false≢true (sym unlisted ∙ listed))),
-  record {
-    reading = reading;
-    longest = record { is_reading = is; longest = λ other h. most law bytes reading other is whole h };
-    found_is =
-        sym (subst (λ (rest : List ℕ). findings_from b (is_empty rest) b.address [] reading ++ rest_finding b (b.address + (length bytes - length rest)) rest ≡ []) (sym whole)
-        (ap (λ (l : List Finding). l ++ []) none));
-  },
-)
-
--- ---- the sample's bundles
+-- ---- the sample
 
 abbrev pub p : Part
 p = sample sandboxed_store
@@ -79,64 +38,26 @@ is_sample : IsSample sandboxed_store
 unfolding spelling
 is_sample = record { size = refl; bytes = each_below 256 p.code (omega arith) refl }
 
-abbrev first_reading : List Piece
-first_reading =
-    record { instr = Op And 31 10 27; size = 4 } ∷ record { instr = Op Or 31 31 26; size = 4 }
-    ∷ record { instr = Store Sb 31 10 (pos 0); size = 4 } ∷ record { instr = Jal 0 (minus 12); size = 4 } ∷ []
-
-abbrev ebreaks : List Piece
-ebreaks =
-    record { instr = Ebreak; size = 4 } ∷ record { instr = Ebreak; size = 4 }
-    ∷ record { instr = Ebreak; size = 4 } ∷ record { instr = Ebreak; size = 4 } ∷ []
-
-abbrev ebreak_bytes : List ℕ
-ebreak_bytes = 0x73 ∷ 0x00 ∷ 0x10 ∷ 0x00 ∷ 0x73 ∷ 0x00 ∷ 0x10 ∷ 0x00 ∷ 0x73 ∷ 0x00 ∷ 0x10 ∷ 0x00 ∷ 0x73 ∷ 0x00 ∷ 0x10 ∷ 0x00 ∷ []
-
-and_there : Spells (take 4 (drop 0 p.code)) (Op And 31 10 27) 4
+and_there : IsSpelled (Op And 31 10 27)
 unfolding spelling InRange
 and_there = inr (record { size = refl; all = refl; spelled = ((omega arith, omega arith, omega arith), refl) })
 
-or_there : Spells (take 4 (drop 4 p.code)) (Op Or 31 31 26) 4
+or_there : IsSpelled (Op Or 31 31 26)
 unfolding spelling InRange
 or_there = inr (record { size = refl; all = refl; spelled = ((omega arith, omega arith, omega arith), refl) })
 
-store_there : Spells (take 4 (drop 8 p.code)) (Store Sb 31 10 (pos 0)) 4
+store_there : IsSpelled (Store Sb 31 10 (pos 0))
 unfolding spelling InRange
 store_there = inr (record { size = refl; all = refl; spelled = ((omega arith, omega arith, (omega (arith, ints), omega (arith, ints))), refl) })
 
-jump_there : Spells (take 4 (drop 12 p.code)) (Jal 0 (minus 12)) 4
+jump_there : IsSpelled (Jal 0 (minus 12))
 unfolding spelling InRange
 jump_there = inr (record { size = refl; all = refl; spelled = ((omega arith, ((omega (arith, ints), omega (arith, ints)), refl)), refl) })
 
-ebreak_spelled : Spells (0x73 ∷ 0x00 ∷ 0x10 ∷ 0x00 ∷ []) Ebreak 4
-unfolding spelling InRange
-ebreak_spelled = inr (record { size = refl; all = refl; spelled = (tt, refl) })
-
-first_bundle : OneSpelling → AreBundleFindings (place_of 0 p 0) (bundle_bytes p 0) []
-unfolding spelling
-first_bundle law = clean_bundle law (place_of 0 p 0) (bundle_bytes p 0) first_reading refl (and_there, (or_there, (store_there, (jump_there, tt)))) refl refl
-
-later_bundle : OneSpelling → (n : ℕ) → bundle_bytes p n ≡ ebreak_bytes → findings_from (place_of 0 p n) true (0x01000000 + 16 * n) [] ebreaks ≡ [] → AreBundleFindings (place_of 0 p n) (bundle_bytes p n) []
-later_bundle law n is none =
-    subst (λ (bytes : List ℕ). AreBundleFindings (place_of 0 p n) bytes []) (sym is)
-    (clean_bundle law (place_of 0 p n) ebreak_bytes ebreaks refl (ebreak_spelled, (ebreak_spelled, (ebreak_spelled, (ebreak_spelled, tt)))) refl none)
-
-one_more : (n : ℕ) → AreBundleFindings (place_of 0 p n) (bundle_bytes p n) [] → AreFindingsOfFirst 0 p n [] → AreFindingsOfFirst 0 p (suc n) []
-one_more n here before = ([], [], before, here, refl)
-
-ebreak_more : OneSpelling → (n : ℕ) → bundle_bytes p n ≡ ebreak_bytes → findings_from (place_of 0 p n) true (0x01000000 + 16 * n) [] ebreaks ≡ [] → AreFindingsOfFirst 0 p n [] → AreFindingsOfFirst 0 p (suc n) []
-ebreak_more law n is none before = one_more n (later_bundle law n is none) before
-
 no_finding : OneSpelling → AreFindings 0 p []
-unfolding spelling
-no_finding law = (
-  16,
-  refl,
-  ebreak_more law 15 refl refl (ebreak_more law 14 refl refl (ebreak_more law 13 refl refl (ebreak_more law 12 refl refl
-      (ebreak_more law 11 refl refl (ebreak_more law 10 refl refl (ebreak_more law 9 refl refl (ebreak_more law 8 refl refl
-      (ebreak_more law 7 refl refl (ebreak_more law 6 refl refl (ebreak_more law 5 refl refl (ebreak_more law 4 refl refl
-      (ebreak_more law 3 refl refl (ebreak_more law 2 refl refl (ebreak_more law 1 refl refl (one_more 0 (first_bundle law) refl))))))))))))))),
-)
+no_finding law =
+    all_findings law (Op And 31 10 27) (Op Or 31 31 26) (Store Sb 31 10 (pos 0)) (Jal 0 (minus 12)) Ebreak Ebreak Ebreak Ebreak [] []
+    and_there or_there store_there jump_there ebreak_spelled ebreak_spelled ebreak_spelled ebreak_spelled refl refl
 
 -- ---- the image
 

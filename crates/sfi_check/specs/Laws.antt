@@ -38,7 +38,11 @@ TurnKeeps =
 abbrev pub CleanRunsSafely : Type 0
 CleanRunsSafely = (sandbox : ℕ) (p : Part) → IsCleanPart sandbox p → RunsSafely p
 
--- from where every run is safe, it is so behind each turn
+-- from where every run is safe, the state is, and each turn
+abbrev pub SafeTurns : Type 0
+SafeTurns = (p : Part) (s : State) (turn : Turn) → RunsSafelyFrom p s → IsTurn p s turn → IsSafeState p s × IsSafeTurn p s turn
+
+-- and every run is safe behind that turn too
 abbrev pub SafeStaysSafe : Type 0
 SafeStaysSafe =
     (p : Part) (s after : State) (turn : Turn) → RunsSafelyFrom p s → IsTurn p s turn → after_turn turn ≡ Some after

@@ -15,6 +15,8 @@ use Rattle.rv_step.specs.Step.{Stepped}
 use Rattle.sfi_image.specs.Spelling.{Part}
 use Rattle.sfi_image.specs.Spans.{AreApart, code_region, guarded_region}
 use Rattle.sfi_image.specs.Parts.{IsRightPart}
+use Rattle.sfi_scan.specs.declared.rule.Rule.{Rule}
+use Rattle.sfi_scan.specs.Findings.{AreFindings}
 use Rattle.sfi_check.specs.Regions.{InData}
 use Rattle.sfi_check.specs.Runs.{Steps, Changes, IsEntry, IsRun}
 use Rattle.sfi_check.specs.Safety.{RunsSafely}
@@ -36,10 +38,11 @@ sample is = record {
   init = [];
 }
 
--- the layout of the sandbox is right, and not all its runs are safe: a checker that accepts it is wrong
-pub record IsUnsafe (p : Part) : Type 0 where
+-- The rule is needed: the sandbox has a right layout, it breaks this rule alone, at this address, and not all its runs are safe.
+pub record IsNeeded (rule : Rule) (address : ℕ) (p : Part) : Type 0 where
   pub right : IsRightPart p
   pub apart : AreApart (code_region p) (guarded_region p)
+  pub alone : AreFindings 0 p (record { sandbox = 0; address = address; rule = rule } ∷ [])
   pub unsafe : RunsSafely p → ⊥
 
 -- a pair and a store on x0, which stays 0

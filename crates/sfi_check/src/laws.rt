@@ -1,5 +1,5 @@
 //! What holds of every sandbox without a finding. A call costs nothing.
-ghost use Rattle.sfi_check.specs.Laws.{InstructionLeaves, TurnKeeps, EntryIsGood, CanBeEntered, CleanRunsSafely, SafeStaysSafe, SafeFetches};
+ghost use Rattle.sfi_check.specs.Laws.{InstructionLeaves, TurnKeeps, EntryIsGood, CanBeEntered, CleanRunsSafely, SafeTurns, SafeStaysSafe, SafeFetches};
 
 use rv_comp::laws::{ecall_is_wide, spelled_in_range};
 use rv_step::laws::{
@@ -37,6 +37,11 @@ pub fn clean_runs_safely()
     entry_is_good();
     turn_keeps();
 }
+
+/// From where every run is safe, the state is, and each turn.
+pub fn safe_turns()
+    ensures { SafeTurns }
+{}
 
 /// From where every run is safe, it is so behind each turn.
 pub fn safe_stays_safe()

@@ -1,6 +1,8 @@
 //! The checker: the verdict on the bytes of an image.
 //!
-//! It reads the image's bytes alone, and trusts nothing that made them.
+//! It reads the image's bytes alone, and trusts nothing that made them. Where it accepts them, every run of each sandbox is safe,
+//! from every bundle start, whatever the other registers and the data hold, and however the turns of its neighbours and its
+//! host's replies fall between its steps: `specs/Runs.antt` says what may happen, and `specs/Safety.antt` what is safe.
 #![tactic(auto)]
 
 mod accepted;

@@ -1,6 +1,7 @@
 mod check;
 mod failing;
 mod image;
+mod machine;
 mod scan;
 mod usage;
 

@@ -140,7 +140,7 @@ fn layouts() -> [Row<'static>; 18] {
     ]
 }
 
-fn rules() -> [Row<'static>; 22] {
+fn rules() -> [Row<'static>; 23] {
     [
         code(
             "masked store",
@@ -155,6 +155,12 @@ fn rules() -> [Row<'static>; 22] {
             ACCEPTED,
         ),
         code("c.jal to a bundle", "01280290", 0, ACCEPTED),
+        code(
+            "bare store",
+            "2320b500",
+            1,
+            "refused findings=1 first=V5 sandbox=0 at=01000000",
+        ),
         code(
             "half a pair",
             "b37fb50123a0bf00",
