@@ -42,7 +42,7 @@ begins : (a b c d : ℕ) → a < 256 → b < 256 → from_le_bytes w32 (a ∷ b 
 begins a b c d la lb = omega arith
 
 -- a word's low half is the halfword that begins it
-pub word_begins : (bs : List ℕ) (first : ℕ) → ((k : ℕ) → get_or bs k 0 < 256) → first ≡ from_le_bytes w16 (first_two bs) → from_le_bytes w32 (first_four bs) % 2 ^ 16 ≡ first
+word_begins : (bs : List ℕ) (first : ℕ) → ((k : ℕ) → get_or bs k 0 < 256) → first ≡ from_le_bytes w16 (first_two bs) → from_le_bytes w32 (first_four bs) % 2 ^ 16 ≡ first
 word_begins bs first small e = begins (get_or bs 0 0) (get_or bs 1 0) (get_or bs 2 0) (get_or bs 3 0) (small 0) (small 1) ∙ sym e
 
 -- the low half of a word, cut out by a mask
@@ -74,7 +74,7 @@ decoded_three : (h : ℕ) → bits h 1 0 ≡ 3 → decoded h ≡ None
 unfolding decoded
 decoded_three h e = rw e refl
 
-none_some : (f : Form16) (o : Option Form16) → o ≡ None → o ≡ Some f → ⊥
+pub none_some : (f : Form16) (o : Option Form16) → o ≡ None → o ≡ Some f → ⊥
 none_some f o a b = cc
 
 -- a short spelling doesn't end in 11
@@ -103,3 +103,9 @@ same_length h k e =
     let low : bits h 1 0 ≡ bits k 1 0 = omega arith in
     let middle : bits h 4 2 ≡ bits k 4 2 = omega arith in
     rw (low, middle) refl
+
+-- the first halfword tells the length of the word that begins with it
+pub wide_first : SpellingsAreWide → (bs : List ℕ) (n first : ℕ) (i : Instr) → first ≡ from_le_bytes w16 (first_two bs) → SpellsWide (take n bs) i n → length_of first ≡ Wide
+wide_first law bs n first i e s =
+    let word = from_le_bytes w32 (first_four bs) in
+    same_length first (word % 2 ^ 16) (omega arith) ∙ (law word i (wide_at bs n i s)).1

@@ -1,5 +1,5 @@
 -- What stands at the front of a list of bytes: one front, and the one that its first halfword leads to.
-use Rattle.std.proofs.Common.{◌≡◌, ℕ, ◌<◌, ◌≤◌, refl, ap, subst, sym, ◌∙◌, List, length, take, get_or, arith, inl, inr}
+use Rattle.std.proofs.Common.{◌≡◌, ℕ, ◌<◌, ◌≤◌, refl, ap, subst, sym, ◌∙◌, List, length, take, arith, inl, inr}
 use Rattle.std.proofs.lemmas.List.{get_or-take}
 use Rattle.std.specs.Prelude.{slice_index}
 use Rattle.std.specs.Int.{w16, w32, from_le_bytes}
@@ -13,7 +13,7 @@ use Rattle.rv_comp.specs.Fronts.{Spells, IsCutShort, SpellsNothing, IsFront, IsO
 use Rattle.rv_comp.specs.Laws.{OneSpelling, OneFront}
 use Rattle.rv_comp.specs.declared.front.Front.{Front}
 use Rattle.rv_comp.specs.declared.front.Front.TheVariants.{Read, Short, Bad}
-use Rattle.rv_comp.proofs.Bytes.{first_two, first_four, two_bytes, four_bytes, short_long, wide_long, short_at, wide_at, short_length, wide_length, word_begins, not_both, not_short_longer, not_wide_longer}
+use Rattle.rv_comp.proofs.Bytes.{first_two, first_four, two_bytes, four_bytes, short_long, wide_long, short_at, wide_at, wide_first, short_length, not_both, not_short_longer, not_wide_longer}
 
 -- ---- one front
 
@@ -50,16 +50,16 @@ uncut : (bs : List ℕ) (first : ℕ) → 2 ≤ length bs → first ≡ from_le_
 uncut bs first long e h (inl few) = omega arith
 uncut bs first long e h (inr cut) = h cut.0 (ap length_of (e ∙ ap (from_le_bytes w16) (sym (two_bytes bs long))) ∙ cut.1)
 
-pub halfword_front : SpellingsAreWide → (bs : List ℕ) (first : ℕ) (front : Front) → 2 ≤ length bs → ((k : ℕ) → get_or bs k 0 < 256) → first ≡ from_le_bytes w16 (first_two bs) → length_of first ≡ lengths.Short → IsOnlyFront (λ i. IsShortSpelling first i) 2 front → IsFront bs front
-halfword_front law bs first (Read i n) long small e is (size, spelled) =
+pub halfword_front : SpellingsAreWide → (bs : List ℕ) (first : ℕ) (front : Front) → 2 ≤ length bs → first ≡ from_le_bytes w16 (first_two bs) → length_of first ≡ lengths.Short → IsOnlyFront (λ i. IsShortSpelling first i) 2 front → IsFront bs front
+halfword_front law bs first (Read i n) long e is (size, spelled) =
     let t : take n bs ≡ first_two bs = ap (λ (k : ℕ). take k bs) size ∙ two_bytes bs long in
     inl (record {
       size = size;
       all = ap length t;
       spelled = subst (λ (h : ℕ). IsShortSpelling h i) (e ∙ ap (from_le_bytes w16) (sym t)) spelled;
     })
-halfword_front law bs first Short long small e is never = absurd never
-halfword_front law bs first Bad long small e is none =
+halfword_front law bs first Short long e is never = absurd never
+halfword_front law bs first Bad long e is none =
     record {
       enough = uncut bs first long e (λ few wide. not_both _ is wide);
       unspelled = unspelled;
@@ -67,7 +67,7 @@ halfword_front law bs first Bad long small e is none =
   where
     unspelled : (i : Instr) (n : ℕ) → Spells (take n bs) i n → ⊥
     unspelled i n (inl s) = none i (short_at bs n first i long e s)
-    unspelled i n (inr s) = not_both _ is (wide_length law _ first i (wide_at bs n i s) (word_begins bs first small e))
+    unspelled i n (inr s) = not_both _ is (wide_first law bs n first i e s)
 
 pub word_front : (bs : List ℕ) (first word : ℕ) (front : Front) → 4 ≤ length bs → first ≡ from_le_bytes w16 (first_two bs) → word ≡ from_le_bytes w32 (first_four bs) → length_of first ≡ lengths.Wide → IsOnlyFront (λ i. IsWordOf word i) 4 front → IsFront bs front
 word_front bs first word (Read i n) long e f is (size, spelled) =
@@ -88,8 +88,8 @@ word_front bs first word Bad long e f is none =
     unspelled i n (inl s) = not_both _ (short_length first i (short_at bs n first i (omega arith) e s)) is
     unspelled i n (inr s) = none i (subst (λ (w : ℕ). IsWordOf w i) (sym f) (wide_at bs n i s))
 
-pub longer_front : SpellingsAreWide → (bs : List ℕ) (first : ℕ) → 2 ≤ length bs → ((k : ℕ) → get_or bs k 0 < 256) → first ≡ from_le_bytes w16 (first_two bs) → length_of first ≡ lengths.Longer → SpellsNothing bs
-longer_front law bs first long small e is =
+pub longer_front : SpellingsAreWide → (bs : List ℕ) (first : ℕ) → 2 ≤ length bs → first ≡ from_le_bytes w16 (first_two bs) → length_of first ≡ lengths.Longer → SpellsNothing bs
+longer_front law bs first long e is =
     record {
       enough = uncut bs first long e (λ few wide. not_wide_longer _ wide is);
       unspelled = unspelled;
@@ -97,7 +97,7 @@ longer_front law bs first long small e is =
   where
     unspelled : (i : Instr) (n : ℕ) → Spells (take n bs) i n → ⊥
     unspelled i n (inl s) = not_short_longer _ (short_length first i (short_at bs n first i long e s)) is
-    unspelled i n (inr s) = not_wide_longer _ (wide_length law _ first i (wide_at bs n i s) (word_begins bs first small e)) is
+    unspelled i n (inr s) = not_wide_longer _ (wide_first law bs n first i e s) is
 
 pub cut_front : (bs : List ℕ) (first : ℕ) → 2 ≤ length bs → length bs < 4 → first ≡ from_le_bytes w16 (first_two bs) → length_of first ≡ lengths.Wide → IsCutShort bs
 cut_front bs first long few e is = inr (few, ap length_of (ap (from_le_bytes w16) (two_bytes bs long) ∙ sym e) ∙ is)

@@ -2,6 +2,7 @@ pub mod Boxes
 pub mod Bytes
 pub mod Exact
 pub mod Firsts
+pub mod Found
 pub mod Fronts
 pub mod Moves
 pub mod Ranges

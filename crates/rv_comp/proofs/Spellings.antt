@@ -16,7 +16,7 @@ use Rattle.rv_comp.specs.declared.form.Form16.TheVariants.{CEbreak}
 use Rattle.rv_comp.proofs.Exact.{decoded_only}
 use Rattle.rv_comp.proofs.Bytes.{short_length, wide_length, same_length, not_both}
 
-some_one : (o : Option Form16) (f g : Form16) → o ≡ Some f → o ≡ Some g → f ≡ g
+pub some_one : (o : Option Form16) (f g : Form16) → o ≡ Some f → o ≡ Some g → f ≡ g
 some_one o f g a b = cc
 
 -- a halfword has one short spelling

@@ -25,7 +25,11 @@ EcallIsWide = (bytes : List ℕ) (n : ℕ) → Spells bytes Ecall n → n ≡ 4
 abbrev pub SpelledInRange : Type 0
 SpelledInRange = (bytes : List ℕ) (i : Instr) (n : ℕ) → Spells bytes i n → InRange i
 
--- a list of bytes has one front at most (and `read_front` finds one)
+-- a list of bytes has one front at most
 abbrev pub OneFront : Type 0
 OneFront =
     (bytes : List ℕ) (front other : Front) → IsFront bytes front → IsFront bytes other → front ≡ other
+
+-- each list of bytes has a front
+abbrev pub SomeFront : Type 0
+SomeFront = (bytes : List ℕ) → (front : Front) × IsFront bytes front

@@ -1,5 +1,5 @@
 //! What holds of every spelling. A caller calls one to have its statement at hand.
-ghost use Rattle.rv_comp.specs.Laws.{OneSpelling, TwoLengths, EcallIsWide, SpelledInRange, OneFront};
+ghost use Rattle.rv_comp.specs.Laws.{OneSpelling, TwoLengths, EcallIsWide, SpelledInRange, OneFront, SomeFront};
 
 /// Two lists of bytes that agree as far as both spellings go spell one instruction, with one
 /// length.
@@ -30,4 +30,12 @@ pub fn one_front()
     ensures { OneFront }
 {
     one_spelling();
+}
+
+/// Each list of bytes has a front.
+pub fn some_front()
+    ensures { SomeFront }
+{
+    rv_word::laws::spellings_are_wide();
+    rv_word::laws::word_is_decided();
 }

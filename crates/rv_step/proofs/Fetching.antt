@@ -64,10 +64,10 @@ has_parcel m at n is e =
     record { small = t.0; low = t.1; high = t.2 }
 
 -- the second parcel's addresses
-second_low : (pc : ℕ) → address_after (address_after pc 2) 0 ≡ address_after pc 2
+pub second_low : (pc : ℕ) → address_after (address_after pc 2) 0 ≡ address_after pc 2
 second_low pc = omega arith
 
-second_high : (pc : ℕ) → address_after (address_after pc 2) 1 ≡ address_after pc 3
+pub second_high : (pc : ℕ) → address_after (address_after pc 2) 1 ≡ address_after pc 3
 second_high pc = omega arith
 
 one_parcel : (m : Bytes) (pc n : ℕ) → HasParcel m pc n → bytes_at m (addresses pc 2) ≡ Some (parcel n)
@@ -87,7 +87,7 @@ second_none m pc e =
 -- ---- instructions at pc
 
 -- what stands at pc has two bytes or four
-nothing : TwoLengths → (s : State) → ((i : Instr) → Stands s i 2 → ⊥) → ((i : Instr) → Stands s i 4 → ⊥) → NothingStands s
+pub nothing : TwoLengths → (s : State) → ((i : Instr) → Stands s i 2 → ⊥) → ((i : Instr) → Stands s i 4 → ⊥) → NothingStands s
 nothing lengths s no_two no_four i n st = of (lengths st.bytes i n st.spelled)
   where
     of : (n ≡ 2) ⊎ (n ≡ 4) → ⊥
@@ -99,9 +99,10 @@ pub no_parcel : TwoLengths → (s : State) → None ≡ loaded s.memory s.hart.p
 no_parcel lengths s e =
     (nothing lengths s (λ i st. two_none _ _ _ e st.there) (λ i st. four_none _ _ _ _ _ e st.there), inl (sym e))
 
-not_four : (n : ℕ) (i : Instr) → Spells (parcel n) i 4 → ⊥
-not_four n i (inl s) = let e = s.size in omega arith
-not_four n i (inr s) = let e = s.all in omega arith
+-- two bytes spell nothing of four
+pub not_four : (a b : ℕ) (i : Instr) → Spells (a ∷ b ∷ []) i 4 → ⊥
+not_four a b i (inl s) = let e = s.size in omega arith
+not_four a b i (inr s) = let e = s.all in omega arith
 
 -- four bytes that are spelled begin with a wide parcel
 wide_word : SpellingsAreWide → (bs : List ℕ) (i : Instr) → Spells bs i 4 → length_of (from_le_bytes w32 bs % 2 ^ 16) ≡ Wide
@@ -133,7 +134,7 @@ cut_wide n h (inr cut) = ap length_of (sym (parcel_number n h)) ∙ cut.1
 uncut : (n : ℕ) → n < 2 ^ 16 → (IsCutShort (parcel n) → ⊥) → length_of n ≡ Wide → ⊥
 uncut n h enough wide = enough (inr (omega arith, ap length_of (parcel_number n h) ∙ wide))
 
-same_bytes : (o : Option (List ℕ)) (bs cs : List ℕ) → o ≡ Some bs → o ≡ Some cs → bs ≡ cs
+pub same_bytes : (o : Option (List ℕ)) (bs cs : List ℕ) → o ≡ Some bs → o ≡ Some cs → bs ≡ cs
 same_bytes o bs cs d e = cc
 
 -- an instruction of two bytes at pc is what the first parcel spells
@@ -165,7 +166,7 @@ read_two s low n i h e spelled =
 
 told_read : (s : State) (low n : ℕ) (i : Instr) → HasParcel s.memory s.hart.pc low → (n ≡ 2) ⊎ (n ≡ 4) → Spells (take n (parcel low)) i n → Stands s i n
 told_read s low n i h (inl e) spelled = read_two s low n i h e spelled
-told_read s low n i h (inr e) spelled = absurd (not_four low i (subst (λ (k : ℕ). Spells (take k (parcel low)) i k) e spelled))
+told_read s low n i h (inr e) spelled = absurd (not_four (low % 256) (low / 256 % 256) i (subst (λ (k : ℕ). Spells (take k (parcel low)) i k) e spelled))
 
 told_bad : SpellingsAreWide → TwoLengths → (s : State) (low : ℕ) → HasParcel s.memory s.hart.pc low → Some low ≡ loaded s.memory s.hart.pc 2 → SpellsNothing (parcel low) → IsAtPc s Bad
 told_bad law lengths s low h e none = (

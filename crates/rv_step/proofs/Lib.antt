@@ -1,4 +1,5 @@
 pub mod Fetching
+pub mod Found
 pub mod Harts
 pub mod Memories
 pub mod Numbers

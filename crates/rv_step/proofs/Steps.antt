@@ -14,9 +14,9 @@ use Rattle.rv_mem.specs.Bytes.{Bytes, byte_at, bytes_at, addresses, number_of, l
 use Rattle.rv_step.specs.declared.outcome.Outcome.TheVariants.{Next, Trap}
 use Rattle.rv_step.specs.declared.outcome.Cause.TheVariants as cause
 use Rattle.rv_step.specs.Access.{Accesses}
-use Rattle.rv_step.specs.Laws.{OneInstruction, OneStep, SomeStep, StepIsEffect, StepKeepsState, StoppedStays, OtherBytesStay, AccessedIsThere}
+use Rattle.rv_step.specs.Laws.{OneInstruction, OneStep, StepIsEffect, StepKeepsState, StoppedStays, OtherBytesStay, AccessedIsThere}
 use Rattle.rv_step.specs.State.{Hart, State, IsHart, IsState, register, behind}
-use Rattle.rv_step.specs.Step.{Stepped, next, unchanged, after_load, effect, NothingStands, MissesParcel, IsAtPc, after_front, IsStep}
+use Rattle.rv_step.specs.Step.{Stepped, next, unchanged, after_load, effect, IsAtPc, after_front}
 use Rattle.rv_step.specs.Values.{plus, register_op, load_size, store_size}
 use Rattle.rv_step.proofs.Harts.{pc_is, behind_is, register_is, moved_is}
 use Rattle.rv_step.proofs.Memories.{stored_is, loaded_fits}
@@ -46,17 +46,6 @@ step_one one s r q a b =
 pub effect_of : OneInstruction → StepIsEffect
 effect_of one s i n r st step =
     step.result ∙ ap (λ (f : Front). after_front f s.hart s.memory) (one_front one s step.front (Read i n) step.at_pc st)
-
--- ---- some step
-
-step_at : (s : State) (f : Front) → IsAtPc s f → IsStep s (after_front f s.hart s.memory)
-step_at s f at_pc = record { front = f; at_pc = at_pc; result = refl }
-
-pub step_some : SomeStep
-step_some s none =
-    let nothing : NothingStands s = λ i n st. none _ (step_at s (Read i n) st) in
-    let whole : MissesParcel s → ⊥ = λ misses. none _ (step_at s Short (nothing, misses)) in
-    none _ (step_at s Bad (nothing, whole))
 
 -- ---- a step that isn't done
 

@@ -16,9 +16,9 @@ OneInstruction =
 abbrev pub OneStep : Type 0
 OneStep = (s : State) (r q : Stepped) → IsStep s r → IsStep s q → r ≡ q
 
--- it can't be that from some state a step comes to nothing (`step` finds what it comes to)
+-- from each state a step comes to something
 abbrev pub SomeStep : Type 0
-SomeStep = (s : State) → ((r : Stepped) → IsStep s r → ⊥) → ⊥
+SomeStep = (s : State) → (r : Stepped) × IsStep s r
 
 -- a step does what the instruction at pc does
 abbrev pub StepIsEffect : Type 0

@@ -1,7 +1,7 @@
 //! What holds of every step. A call costs nothing.
 ghost use Rattle.rv_step.specs.Laws.{OneInstruction, OneStep, SomeStep, StepIsEffect, StepKeepsState, StoppedStays, OtherBytesStay, AccessedIsThere};
 
-use rv_comp::laws::{one_spelling, spelled_in_range, two_lengths};
+use rv_comp::laws::{one_front, one_spelling, some_front, spelled_in_range, two_lengths};
 
 /// One instruction at most stands at pc.
 pub fn one_instruction()
@@ -18,10 +18,14 @@ pub fn one_step()
     one_instruction();
 }
 
-/// From no state does a step come to nothing. [`step`](crate::step) finds what it comes to.
+/// From each state a step comes to something.
 pub fn some_step()
     ensures { SomeStep }
-{}
+{
+    two_lengths();
+    one_front();
+    some_front();
+}
 
 /// A step does what the instruction at pc does.
 pub fn step_is_effect()

@@ -1,5 +1,6 @@
 mod Words
 mod Cut
+mod Decided
 mod NoWord
 mod Wide
 mod OneSpelling

@@ -91,7 +91,7 @@ system_at p =
     else if (word_of p == 0x00100073) then Some Ebreak
     else None
 
-read : Parts → Option Instr
+pub read : Parts → Option Instr
 read p =
     if (p.opcode == 0b0110111) then Some (Lui p.rd (upper p))
     else if (p.opcode == 0b0010111) then Some (Auipc p.rd (upper p))
@@ -180,7 +180,7 @@ imm_cut_read Xori rd rs1 z r = rw (imm12_again z r) refl
 imm_cut_read Ori rd rs1 z r = rw (imm12_again z r) refl
 imm_cut_read Andi rd rs1 z r = rw (imm12_again z r) refl
 
-cut_read : (i : Instr) → InRange i → read (cut i) ≡ Some i
+pub cut_read : (i : Instr) → InRange i → read (cut i) ≡ Some i
 unfolding cut read InRange
 cut_read (Op op rd rs1 rs2) r = rw (op_again op) refl
 cut_read (OpImm op rd rs1 z) r = imm_cut_read op rd rs1 z r.2

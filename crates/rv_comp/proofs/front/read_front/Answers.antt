@@ -7,7 +7,7 @@ pub returns-in-Short : goal.returns-in-Short
 returns-in-Short c =
     let bs = c.args.bytes.now in
     let first = low_half bs c.from_le_bytes-word.result (λ k. omega (arith, c.type_inv.bytes k)) c.from_le_bytes-word.ensures in
-    let is = halfword_front c.spellings_are_wide.ensures bs _ c.read_halfword.result (omega arith) (λ k. omega (arith, c.type_inv.bytes k)) first (sym c.size_of_first.ensures ∙ c.in-Short.is) c.read_halfword.ensures in
+    let is = halfword_front c.spellings_are_wide.ensures bs _ c.read_halfword.result (omega arith) first (sym c.size_of_first.ensures ∙ c.in-Short.is) c.read_halfword.ensures in
     record { front = is; only = λ other. c.one_front.ensures bs c.read_halfword.result other is }
 
 pub returns-in-Wide : goal.returns-in-Wide
@@ -21,5 +21,5 @@ pub returns-in-Longer : goal.returns-in-Longer
 returns-in-Longer c =
     let bs = c.args.bytes.now in
     let first = low_half bs c.from_le_bytes-word.result (λ k. omega (arith, c.type_inv.bytes k)) c.from_le_bytes-word.ensures in
-    let is = longer_front c.spellings_are_wide.ensures bs _ (omega arith) (λ k. omega (arith, c.type_inv.bytes k)) first (sym c.size_of_first.ensures ∙ c.in-Longer.is) in
+    let is = longer_front c.spellings_are_wide.ensures bs _ (omega arith) first (sym c.size_of_first.ensures ∙ c.in-Longer.is) in
     record { front = is; only = λ other. c.one_front.ensures bs _ other is }
