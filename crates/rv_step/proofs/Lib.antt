@@ -1,3 +1,4 @@
+pub mod Bytes
 pub mod Fetching
 pub mod Found
 pub mod Harts

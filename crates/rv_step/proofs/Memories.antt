@@ -9,7 +9,7 @@ use Rattle.rv_word.specs.declared.instr.StoreWidth.{StoreWidth}
 use Rattle.rv_word.specs.declared.instr.StoreWidth.TheVariants.{Sb, Sh, Sw}
 use Rattle.rv_mem.specs.Bytes.{Bytes, IsMemory, byte_at, bytes_at, addresses, number_of, loaded, stored}
 use Rattle.rv_step.specs.Values.{load_size, store_size}
-use Rattle.rv_mem.proofs.Accesses.{split, byte_at-insert}
+use Rattle.rv_step.proofs.Bytes.{split, byte_at-insert}
 
 -- ---- a byte that is written
 

@@ -3,7 +3,7 @@ use Rattle.std.proofs.Common.{◌≡◌, ℕ, ◌<◌, Option, Some, slice_index
 use Rattle.rv_word.specs.declared.instr.Instr.{Instr}
 use Rattle.rv_comp.specs.Laws.{OneSpelling}
 use Rattle.rv_mem.specs.Bytes.{byte_at, address_after}
-use Rattle.rv_mem.proofs.Accesses.{held_each}
+use Rattle.rv_step.proofs.Bytes.{held_each}
 use Rattle.rv_step.specs.Laws.{OneInstruction}
 use Rattle.rv_step.specs.State.{State}
 use Rattle.rv_step.specs.Step.{Stands}

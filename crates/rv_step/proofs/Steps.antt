@@ -21,7 +21,7 @@ use Rattle.rv_step.specs.Values.{plus, register_op, load_size, store_size}
 use Rattle.rv_step.proofs.Harts.{pc_is, behind_is, register_is, moved_is}
 use Rattle.rv_step.proofs.Memories.{stored_is, loaded_fits}
 use Rattle.rv_step.proofs.Numbers.{word_fits, plus_even, result_fits, extended_fits, branch_is_even, jump_is_even}
-use Rattle.rv_mem.proofs.Accesses.{there, others_stay}
+use Rattle.rv_step.proofs.Bytes.{there, others_stay}
 
 -- ---- one step
 
