@@ -1,0 +1,2 @@
+//! The linker: addresses for names, and the image.
+#![tactic(auto)]

@@ -1,0 +1,2 @@
+//! The report of findings and the listing of an image.
+#![tactic(auto)]
