@@ -160,7 +160,7 @@ form_back (CLui d i) h = ap (CLui d) (upper_back d i h)
 form_back _ h = refl
 
 -- two forms of one row that expand to one instruction are one
-first_one : (i : Instr) (f g : Form16) → IsFirst i f → IsFirst i g → f ≡ g
+pub first_one : (i : Instr) (f g : Form16) → IsFirst i f → IsFirst i g → f ≡ g
 first_one i f g s t =
     let up = s.first g t.meets t.expands in
     let down = t.first f s.meets s.expands in

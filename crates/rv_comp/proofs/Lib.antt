@@ -5,6 +5,7 @@ pub mod Firsts
 pub mod Found
 pub mod Fronts
 pub mod Moves
+pub mod Outlined
 pub mod Ranges
 pub mod Reach
 pub mod Same

@@ -1,6 +1,8 @@
 -- The halfword of a form, and which halfwords and instructions belong to one another.
 use Rattle.std.specs.Prelude.{◌≡◌, ◌≤◌, ℕ, IsTrue}
 use Rattle.rv_word.specs.declared.instr.Instr.{Instr}
+use Rattle.rv_word.specs.declared.outline.Outline.{Outline}
+use Rattle.rv_word.specs.Outlines.{outline}
 use Rattle.rv_comp.specs.Bits.{number_after}
 use Rattle.rv_comp.specs.Table.{row, allowed, fields_of, expansion, place}
 use Rattle.rv_comp.specs.declared.form.Form16.{Form16}
@@ -19,6 +21,12 @@ pub record IsShortSpelling (h : ℕ) (i : Instr) : Type 0 where
   pub form : Form16
   pub gives : IsHalfwordOf h form
   pub expands : expansion form ≡ i
+
+-- a row gives h for field values that expand to an instruction that does this
+pub record IsHalfwordThat (h : ℕ) (o : Outline) : Type 0 where
+  pub instr : Instr
+  pub spelled : IsShortSpelling h instr
+  pub does : outline instr ≡ o
 
 -- f's row is the first one of which a value expands to i, and f is that value
 pub record IsFirst (i : Instr) (f : Form16) : Type 0 where

@@ -4,6 +4,8 @@ use Rattle.rv_word.specs.declared.instr.Instr.{Instr}
 use Rattle.rv_word.specs.declared.instr.Instr.TheVariants.{Ecall}
 use Rattle.rv_word.specs.Spelling.{InRange}
 use Rattle.rv_comp.specs.Fronts.{Spells, IsFront}
+use Rattle.rv_comp.specs.Halfwords.{IsFirst}
+use Rattle.rv_comp.specs.declared.form.Form16.{Form16}
 use Rattle.rv_comp.specs.declared.front.Front.{Front}
 
 -- two lists of bytes that agree as far as both spellings go spell one instruction, with one length
@@ -33,3 +35,7 @@ OneFront =
 -- each list of bytes has a front
 abbrev pub SomeFront : Type 0
 SomeFront = (bytes : List ℕ) → (front : Front) × IsFront bytes front
+
+-- an instruction has one first form at most
+abbrev pub OneFirstForm : Type 0
+OneFirstForm = (i : Instr) (form other : Form16) → IsFirst i form → IsFirst i other → form ≡ other

@@ -3,3 +3,4 @@ pub mod Decoding
 pub mod Encoding
 pub mod First
 pub mod Moves
+pub mod Outlining

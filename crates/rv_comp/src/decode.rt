@@ -5,6 +5,7 @@ ghost use Rattle.rv_comp.specs.mirror.Decoding.{decoded, quadrant0, quadrant1, q
 ghost use Rattle.rv_comp.specs.declared.form.Form16.{Form16};
 
 mod fields;
+pub(crate) mod outline;
 
 use crate::bits::bits;
 use crate::form::Form16;

@@ -1,5 +1,5 @@
 //! What holds of every spelling. A caller calls one to have its statement at hand.
-ghost use Rattle.rv_comp.specs.Laws.{OneSpelling, TwoLengths, EcallIsWide, SpelledInRange, OneFront, SomeFront};
+ghost use Rattle.rv_comp.specs.Laws.{OneSpelling, TwoLengths, EcallIsWide, SpelledInRange, OneFront, SomeFront, OneFirstForm};
 
 /// Two lists of bytes that agree as far as both spellings go spell one instruction, with one
 /// length.
@@ -39,3 +39,8 @@ pub fn some_front()
     rv_word::laws::spellings_are_wide();
     rv_word::laws::word_is_decided();
 }
+
+/// An instruction has one first form at most.
+pub fn one_first_form()
+    ensures { OneFirstForm }
+{}

@@ -18,6 +18,7 @@ mod register;
 mod write;
 
 pub use decode::decode16;
+pub use decode::outline::outline16;
 pub use encode::encode16;
 pub use first::form_of;
 pub use form::Form16;

@@ -3,13 +3,14 @@ ghost use Rattle.std.specs.Prelude.{◌<◌};
 
 use crate::build::{arithmetic, branch_on_zero, immediate, jump, jump_to, load, store};
 use crate::decode::decode16;
+use crate::decode::outline::outline16;
 use crate::encode::encode16;
 use crate::first::form_of;
 use crate::form::Form16;
 use crate::front::{Front, read_front};
 use crate::register::register as x;
 use crate::write::{write_short, write_wide};
-use rv_word::{Cond, ImmOp, Instr, RegOp};
+use rv_word::{Cond, ImmOp, Instr, RegOp, outline_of};
 use std::process::Abort;
 
 fn addi(rd: u8, rs1: u8, imm: i32) -> Instr
@@ -25,6 +26,7 @@ fn expands(rt: &impl Abort, halfword: u16, want: Instr) {
         Some(form) => assert!(rt; form.expand() == want, "{halfword:04x}"),
         None => assert!(rt; false, "{halfword:04x}"),
     }
+    assert!(rt; outline16(halfword) == Some(outline_of(want)), "outline of {halfword:04x}");
 }
 
 #[test]
@@ -68,6 +70,7 @@ fn known_halfwords(rt: HostRuntime) {
 fn halfwords_of_no_form(rt: HostRuntime) {
     for halfword in [0x0000, 0x1002, 0x4002, 0x6101, 0x8002, 0x9c05] {
         assert!(rt; decode16(halfword).is_none());
+        assert!(rt; outline16(halfword).is_none());
     }
 }
 

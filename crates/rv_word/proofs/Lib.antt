@@ -4,3 +4,4 @@ mod Decided
 mod NoWord
 mod Wide
 mod OneSpelling
+mod Outlined

@@ -4,5 +4,6 @@ pub mod Functs
 pub mod Spelling
 pub mod Lengths
 pub mod Writes
+pub mod Outlines
 pub mod Laws
 pub mod Parts

@@ -51,7 +51,7 @@ impl Parts {
         }
     }
 
-    fn load(self) -> Option<Instr>
+    pub(crate) fn load(self) -> Option<Instr>
         requires fits { Fits self }
         requires opcode { self.opcode ≡ 0b0000011 }
         ensures found { IfSome result (IsWordOf (word_of self)) }
@@ -65,7 +65,7 @@ impl Parts {
         })
     }
 
-    fn fence(self) -> Option<Instr>
+    pub(crate) fn fence(self) -> Option<Instr>
         requires fits { Fits self }
         requires opcode { self.opcode ≡ 0b0001111 }
         ensures found { IfSome result (IsWordOf (word_of self)) }
@@ -81,7 +81,7 @@ impl Parts {
         })
     }
 
-    fn op_imm(self) -> Option<Instr>
+    pub(crate) fn op_imm(self) -> Option<Instr>
         requires fits { Fits self }
         requires opcode { self.opcode ≡ 0b0010011 }
         ensures found { IfSome result (IsWordOf (word_of self)) }
@@ -103,7 +103,7 @@ impl Parts {
         })
     }
 
-    fn store(self) -> Option<Instr>
+    pub(crate) fn store(self) -> Option<Instr>
         requires fits { Fits self }
         requires opcode { self.opcode ≡ 0b0100011 }
         ensures found { IfSome result (IsWordOf (word_of self)) }
@@ -117,7 +117,7 @@ impl Parts {
         })
     }
 
-    fn op(self) -> Option<Instr>
+    pub(crate) fn op(self) -> Option<Instr>
         requires fits { Fits self }
         requires opcode { self.opcode ≡ 0b0110011 }
         ensures found { IfSome result (IsWordOf (word_of self)) }
@@ -131,7 +131,7 @@ impl Parts {
         })
     }
 
-    fn branch(self) -> Option<Instr>
+    pub(crate) fn branch(self) -> Option<Instr>
         requires fits { Fits self }
         requires opcode { self.opcode ≡ 0b1100011 }
         ensures found { IfSome result (IsWordOf (word_of self)) }
@@ -145,7 +145,7 @@ impl Parts {
         })
     }
 
-    fn jalr(self) -> Option<Instr>
+    pub(crate) fn jalr(self) -> Option<Instr>
         requires fits { Fits self }
         requires opcode { self.opcode ≡ 0b1100111 }
         ensures found { IfSome result (IsWordOf (word_of self)) }
@@ -161,7 +161,7 @@ impl Parts {
         })
     }
 
-    fn system(self) -> Option<Instr>
+    pub(crate) fn system(self) -> Option<Instr>
         requires fits { Fits self }
         requires opcode { self.opcode ≡ 0b1110011 }
         ensures found { IfSome result (IsWordOf (word_of self)) }

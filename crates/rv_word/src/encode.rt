@@ -1,7 +1,7 @@
 //! Writing an instruction as its word.
 ghost use Rattle.std.specs.Prelude.{◌≡◌};
 ghost use Rattle.std.specs.Option.{SomeIff};
-ghost use Rattle.rv_word.specs.Spelling.{spelling, InRange};
+ghost use Rattle.rv_word.specs.Spelling.{spelling, InRange, IsWordOf};
 
 use crate::format::{b_word, i_word, j_word, s_word, u_word, unsigned_i_word};
 use crate::immediate::shift_bits;
@@ -41,10 +41,10 @@ pub fn encode32(instr: Instr) -> Option<u32>
     }
 }
 
-/// The word of a computation on two registers.
+/// The word of a computation on two registers, which has one always.
 #[tactic(auto, unfolding(crate::specs::Spelling::spelling, crate::specs::Spelling::InRange))]
-fn op_word(op: RegOp, rd: Reg, rs1: Reg, rs2: Reg) -> u32
-    ensures { result ≡ spelling (Instr.Op op rd rs1 rs2) }
+pub fn op_word(op: RegOp, rd: Reg, rs1: Reg, rs2: Reg) -> u32
+    ensures { IsWordOf result (Instr.Op op rd rs1 rs2) }
 {
     let parts = Parts {
         opcode: opcode::OP,

@@ -17,13 +17,15 @@ pub mod instr;
 pub mod laws;
 pub mod length;
 mod opcode;
+pub mod outline;
 mod parts;
 pub mod reg;
 
 pub use decode::decode32;
-pub use encode::encode32;
+pub use encode::{encode32, op_word};
 pub use instr::{Cond, ImmOp, Instr, LoadKind, RegOp, StoreWidth};
 pub use length::{Length, size_of_first};
+pub use outline::{Outline, outline_of, outline32};
 pub use reg::Reg;
 
 #[cfg(test)]

@@ -2,9 +2,10 @@
 ghost use Rattle.std.specs.Prelude.{◌<◌};
 
 use crate::decode::decode32;
-use crate::encode::encode32;
+use crate::encode::{encode32, op_word};
 use crate::instr::{Cond, ImmOp, Instr, LoadKind, RegOp};
 use crate::length::{Length, size_of_first};
+use crate::outline::{Outline, outline_of, outline32};
 use crate::reg::Reg;
 use std::process::Abort;
 
@@ -18,6 +19,7 @@ fn spells(rt: &impl Abort, word: u32, instr: &Instr) {
     let read = decode32(word);
     assert!(rt; read == Some(*instr), "reading {word:08x}");
     assert!(rt; encode32(*instr) == Some(word), "writing {word:08x}");
+    assert!(rt; outline32(word) == Some(outline_of(*instr)), "outline of {word:08x}");
 }
 
 #[test]
@@ -153,4 +155,15 @@ fn lengths(rt: HostRuntime) {
     for (first, length) in halves {
         assert!(rt; size_of_first(first) == length);
     }
+}
+
+#[test]
+fn outlines(rt: HostRuntime) {
+    let (rd, base) = (x(10), x(2));
+    assert!(rt; op_word(RegOp::And, x(31), x(1), x(25)) == 0x0190_ffb3);
+    assert!(rt; outline32(0x0190_ffb3) == Some(Outline::Computes { rd: x(31) }));
+    assert!(rt; outline32(0x0041_2503) == Some(Outline::Loads { rd, base }));
+    assert!(rt; outline32(0x00a1_2223) == Some(Outline::Stores { base }));
+    assert!(rt; outline32(0x0000_0073) == Some(Outline::Calls));
+    assert!(rt; outline32(0x0020_0073).is_none());
 }

@@ -1,0 +1,103 @@
+//! What the form of a halfword does, without making the form.
+ghost use Rattle.std.specs.Prelude.{◌≡◌, ◌<◌, IfSome, Some};
+ghost use Rattle.rv_word.specs.declared.instr.Instr.{Instr};
+ghost use Rattle.rv_word.specs.Outlines.{outline};
+ghost use Rattle.rv_comp.specs.Halfwords.{IsShortSpelling, IsHalfwordThat};
+ghost use Rattle.rv_comp.specs.mirror.Outlining.{row_of, jump, jump_or_stop, outlined};
+
+use super::fields::{branch_offset, jump_offset, long_reg, short_reg};
+use crate::bits::bits;
+use crate::register::register;
+use rv_word::Outline;
+
+/// Bits 15:13, and behind them bits 1:0.
+#[tactic(auto, unfolding(crate::specs::mirror::Outlining::row_of))]
+fn row_of(h: u16) -> u16
+    ensures { result ≡ row_of h }
+{
+    4 * bits(h, 15, 13) + bits(h, 1, 0)
+}
+
+/// C.JR, C.JALR, C.MV and C.ADD.
+#[tactic(auto, unfolding(crate::specs::mirror::Outlining::jump))]
+fn jump(h: u16) -> Outline
+    ensures { result ≡ jump h }
+{
+    let first = long_reg(h, 7);
+    if bits(h, 6, 2) == 0 {
+        Outline::JumpsTo {
+            rd: register(bits(h, 12, 12) as u8),
+            base: first,
+            imm: 0,
+        }
+    } else {
+        Outline::Computes { rd: first }
+    }
+}
+
+/// These, and C.EBREAK.
+#[tactic(auto, unfolding(crate::specs::mirror::Outlining::jump_or_stop))]
+fn jump_or_stop(h: u16) -> Option<Outline>
+    ensures { result ≡ jump_or_stop h }
+{
+    if bits(h, 11, 2) != 0 {
+        Some(jump(h))
+    } else if bits(h, 12, 12) != 0 {
+        Some(Outline::Stops)
+    } else {
+        None
+    }
+}
+
+#[tactic(auto, unfolding(crate::specs::mirror::Outlining::outlined))]
+fn outline_halfword(h: u16) -> Option<Outline>
+    ensures { result ≡ outlined h }
+{
+    match row_of(h) {
+        0b00000 if bits(h, 12, 5) != 0 => Some(Outline::Computes {
+            rd: short_reg(h, 2),
+        }),
+        0b01000 => Some(Outline::Loads {
+            rd: short_reg(h, 2),
+            base: short_reg(h, 7),
+        }),
+        0b11000 => Some(Outline::Stores {
+            base: short_reg(h, 7),
+        }),
+        0b00001 | 0b01001 => Some(Outline::Computes { rd: long_reg(h, 7) }),
+        0b01101 if bits(h, 6, 2) != 0 || bits(h, 12, 12) != 0 => {
+            Some(Outline::Computes { rd: long_reg(h, 7) })
+        }
+        0b10001 if bits(h, 12, 12) == 0 || bits(h, 11, 10) == 2 => Some(Outline::Computes {
+            rd: short_reg(h, 7),
+        }),
+        0b00101 => Some(Outline::Jumps {
+            rd: register(1),
+            offset: jump_offset(h),
+        }),
+        0b10101 => Some(Outline::Jumps {
+            rd: register(0),
+            offset: jump_offset(h),
+        }),
+        0b11001 | 0b11101 => Some(Outline::Branches {
+            offset: branch_offset(h),
+        }),
+        0b00010 if bits(h, 12, 12) == 0 => Some(Outline::Computes { rd: long_reg(h, 7) }),
+        0b01010 if bits(h, 11, 7) != 0 => Some(Outline::Loads {
+            rd: long_reg(h, 7),
+            base: register(2),
+        }),
+        0b10010 => jump_or_stop(h),
+        0b11010 => Some(Outline::Stores { base: register(2) }),
+        _ => None,
+    }
+}
+
+/// What the instruction does that the form of the halfword expands to; `None` where no row gives it.
+#[tactic(auto, using(crate::proofs::Outlined::outlined_found, crate::proofs::Outlined::outlined_only))]
+pub fn outline16(h: u16) -> Option<Outline>
+    ensures found { IfSome result (IsHalfwordThat h) }
+    ensures only { (i : Instr) → IsShortSpelling h i → result ≡ Some (outline i) }
+{
+    outline_halfword(h)
+}

@@ -1,0 +1,130 @@
+//! What an instruction does, without the values that it does it with.
+ghost use Rattle.std.specs.Prelude.{◌≡◌, IfSome, IfNone, Some};
+ghost use Rattle.rv_word.specs.declared.instr.Instr.{Instr};
+ghost use Rattle.std.specs.Option.{option_map};
+ghost use Rattle.rv_word.specs.Outlines.{outline, IsWordThat};
+ghost use Rattle.rv_word.specs.Parts.{word_of, Fits, SpellsNone};
+ghost use Rattle.rv_word.specs.Spelling.{IsWordOf};
+
+use crate::instr::Instr;
+use crate::opcode;
+use crate::parts::Parts;
+use crate::reg::Reg;
+
+/// What an instruction does, without the values that it does it with.
+#[derive(Clone, Copy, PartialEq, Eq, Debug)]
+pub enum Outline {
+    /// Computes into `rd`: no memory, no jump.
+    Computes { rd: Reg },
+    /// Loads into `rd` from an address near that in `base`.
+    Loads { rd: Reg, base: Reg },
+    /// Stores at an address near that in `base`.
+    Stores { base: Reg },
+    /// Jumps by `offset` bytes, or runs on.
+    Branches { offset: i32 },
+    /// Jumps by `offset` bytes, and links `rd`.
+    Jumps { rd: Reg, offset: i32 },
+    /// Jumps to the address in `base` plus `imm`, and links `rd`.
+    JumpsTo { rd: Reg, base: Reg, imm: i32 },
+    /// Orders accesses: a fence.
+    Orders,
+    /// Calls the environment: an `ecall`.
+    Calls,
+    /// Stops for the debugger: an `ebreak`.
+    Stops,
+}
+
+/// What the instruction does.
+pub fn outline_of(instr: Instr) -> Outline
+    ensures { result ≡ outline instr }
+{
+    match instr {
+        Instr::Op { rd, .. }
+        | Instr::OpImm { rd, .. }
+        | Instr::Lui { rd, .. }
+        | Instr::Auipc { rd, .. } => Outline::Computes { rd },
+        Instr::Load { rd, rs1, .. } => Outline::Loads { rd, base: rs1 },
+        Instr::Store { rs1, .. } => Outline::Stores { base: rs1 },
+        Instr::Branch { offset, .. } => Outline::Branches { offset },
+        Instr::Jal { rd, offset } => Outline::Jumps { rd, offset },
+        Instr::Jalr { rd, rs1, imm } => Outline::JumpsTo { rd, base: rs1, imm },
+        Instr::Fence { .. } => Outline::Orders,
+        Instr::Ecall => Outline::Calls,
+        Instr::Ebreak => Outline::Stops,
+    }
+}
+
+fn outline_of_some(instr: Option<Instr>) -> Option<Outline>
+    ensures { result ≡ option_map outline instr }
+{
+    match instr {
+        Some(instr) => Some(outline_of(instr)),
+        None => None,
+    }
+}
+
+#[tactic(auto, using(crate::proofs::Outlined::found, crate::proofs::Outlined::none), unfolding(crate::specs::Spelling::spelling, crate::specs::Spelling::InRange))]
+impl Parts {
+    // One reading for each opcode, so that what an outline doesn't tell is never made.
+    fn outline(self) -> Option<Outline>
+        requires { Fits self }
+        ensures found { IfSome result (IsWordThat (word_of self)) }
+        ensures none { IfNone result (SpellsNone (word_of self)) }
+    {
+        match self.opcode {
+            opcode::LOAD => outline_of_some(self.load()),
+            opcode::MISC_MEM => outline_of_some(self.fence()),
+            opcode::OP_IMM => outline_of_some(self.op_imm()),
+            opcode::AUIPC => outline_of_some(Some(self.auipc())),
+            opcode::STORE => outline_of_some(self.store()),
+            opcode::OP => outline_of_some(self.op()),
+            opcode::LUI => outline_of_some(Some(self.lui())),
+            opcode::BRANCH => outline_of_some(self.branch()),
+            opcode::JALR => outline_of_some(self.jalr()),
+            opcode::JAL => outline_of_some(Some(self.jal())),
+            opcode::SYSTEM => outline_of_some(self.system()),
+            _ => None,
+        }
+    }
+
+    fn auipc(self) -> Instr
+        requires fits { Fits self }
+        requires opcode { self.opcode ≡ 0b0010111 }
+        ensures { IsWordOf (word_of self) result }
+    {
+        Instr::Auipc {
+            rd: Reg::of_field(self.rd),
+            imm: self.upper(),
+        }
+    }
+
+    fn lui(self) -> Instr
+        requires fits { Fits self }
+        requires opcode { self.opcode ≡ 0b0110111 }
+        ensures { IsWordOf (word_of self) result }
+    {
+        Instr::Lui {
+            rd: Reg::of_field(self.rd),
+            imm: self.upper(),
+        }
+    }
+
+    fn jal(self) -> Instr
+        requires fits { Fits self }
+        requires opcode { self.opcode ≡ 0b1101111 }
+        ensures { IsWordOf (word_of self) result }
+    {
+        Instr::Jal {
+            rd: Reg::of_field(self.rd),
+            offset: self.j_offset(),
+        }
+    }
+}
+
+/// What the instruction does that the word spells; `None` where it spells none.
+pub fn outline32(word: u32) -> Option<Outline>
+    ensures found { IfSome result (IsWordThat word) }
+    ensures only { (i : Instr) → IsWordOf word i → result ≡ Some (outline i) }
+{
+    Parts::of(word).outline()
+}
