@@ -10,3 +10,7 @@ pub mod OneReading
 pub mod Deciding
 pub mod Fronts
 pub mod SomeReading
+pub mod Refused
+pub mod OneRefusal
+pub mod Bundles
+pub mod Ends

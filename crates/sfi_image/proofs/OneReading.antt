@@ -27,17 +27,17 @@ use Rattle.sfi_image.proofs.Cancelling.{same_front, same_number, same_gate, same
 -- ---- the fields
 
 -- one test at most is the first that fails
-one_field_fault : (before : List Span) (f : Fields) (ts : List FieldTest) (j k : Option LayoutFault) → IsFirstFault before f ts j → IsFirstFault before f ts k → j ≡ k
+pub one_field_fault : (before : List Span) (f : Fields) (ts : List FieldTest) (j k : Option LayoutFault) → IsFirstFault before f ts j → IsFirstFault before f ts k → j ≡ k
 one_field_fault before f [] j k a b = a ∙ sym b
 one_field_fault before f (t ∷ ts) j k (inl a) (inl b) = one_field_fault before f ts j k a.1 b.1
 one_field_fault before f (t ∷ ts) j k (inl a) (inr b) = absurd (b.0 a.0)
 one_field_fault before f (t ∷ ts) j k (inr a) (inl b) = absurd (a.0 b.0)
 one_field_fault before f (t ∷ ts) j k (inr a) (inr b) = a.1 ∙ sym b.1
 
-same_some : (j k : LayoutFault) → Some j ≡ Some k → j ≡ k
+pub same_some : (j k : LayoutFault) → Some j ≡ Some k → j ≡ k
 same_some j k e = cc
 
-not_some : (k : LayoutFault) → None ≡ Some k → ⊥
+pub not_some : (k : LayoutFault) → None ≡ Some k → ⊥
 not_some k e = absurd cc
 
 -- ---- the gates

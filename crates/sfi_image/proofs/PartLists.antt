@@ -47,7 +47,7 @@ pub spans_push : (ps : List Part) (p : Part) → spans (ps ++ p ∷ []) ≡ span
 spans_push ps p = flat_map-append (λ q. spans_of (fields_of q)) ps (p ∷ []) ∙ ap (λ (t : List Span). spans ps ++ t) (append-nil (spans_of (fields_of p)))
 
 -- spans of right sandboxes hold an address and end below 2 ^ 64
-right_bounded : (p : Part) → IsRightPart p → All IsBounded (spans_of (fields_of p))
+pub right_bounded : (p : Part) → IsRightPart p → All IsBounded (spans_of (fields_of p))
 right_bounded p right =
     All-from_recursion IsBounded (spans_of (fields_of p)) (
       record { some = omega (arith, right.code_placed.at_least); end = omega (arith, right.words.fields.code_base, right.code_placed.at_most) },

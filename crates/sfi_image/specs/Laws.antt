@@ -1,8 +1,10 @@
 -- What holds of the definitions themselves.
-use Rattle.std.specs.Prelude.{◌≡◌, ℕ, ◌<◌, ◌⊎◌, List}
+use Rattle.std.specs.Prelude.{◌≡◌, ℕ, ◌+◌, ◌*◌, ◌^◌, ◌<◌, ◌≤◌, ◌⊎◌, List, length}
 use Rattle.std.specs.List.{All}
 use Rattle.sfi_image.specs.declared.fault.LayoutFault.{LayoutFault}
-use Rattle.sfi_image.specs.Spelling.{Part}
+use Rattle.sfi_image.specs.Spelling.{Part, IsWord}
+use Rattle.sfi_image.specs.Regions.{IsCodeRegion}
+use Rattle.sfi_image.specs.Parts.{IsRightPart}
 use Rattle.sfi_image.specs.Images.{IsImage}
 use Rattle.sfi_image.specs.Faults.{IsFault}
 
@@ -21,3 +23,13 @@ OneFault = (b : List ℕ) (j k : LayoutFault) → IsFault b j → IsFault b k �
 -- bytes are an image or have a fault
 abbrev pub SomeReading : Type 0
 SomeReading = (b : List ℕ) → All (λ x. x < 256) b → ((ps : List Part) × IsImage b ps) ⊎ ((k : LayoutFault) × IsFault b k)
+
+-- a code region is whole bundles of 16 bytes, at a multiple of 16, and ends at or below 2 ^ 32
+abbrev pub WholeBundles : Type 0
+WholeBundles =
+    (base size : ℕ) → IsWord base → IsCodeRegion base size
+    → (n : ℕ) × (m : ℕ) × (size ≡ 16 * n) × (base ≡ 16 * m) × (base + size ≤ 2 ^ 32)
+
+-- a code region ends within the addresses
+abbrev pub CodeEnds : Type 0
+CodeEnds = (p : Part) → IsRightPart p → p.code_base + length p.code ≤ 2 ^ 32

@@ -6,6 +6,7 @@ pub mod Gates
 pub mod Parts
 pub mod Tests
 pub mod Faults
+pub mod Writing
 pub mod Images
 pub mod Laws
 pub mod Outcome

@@ -1,6 +1,7 @@
 //! Which gates may follow one another.
 ghost use Rattle.std.specs.Prelude.{◌<◌, ◌++◌, ◌↔◌, ◌∷◌, [], IsTrue};
 ghost use Rattle.std.specs.List.{All, AllPairs};
+ghost use Rattle.sfi_image.specs.Spelling.{AreGateWords};
 ghost use Rattle.sfi_image.specs.Spans.{code_span};
 ghost use Rattle.sfi_image.specs.Gates.{AreGates};
 
@@ -23,7 +24,8 @@ fn is_above_all(gates: &[Gate], address: u32) -> bool
 // The gate may come next behind these.
 pub(crate) fn is_next_gate(fields: &Fields, gates: &[Gate], gate: Gate) -> bool
     requires { AreGates (code_span fields.now) gates.now }
-    ensures { IsTrue result ↔ AreGates (code_span fields.now) (gates.now ++ gate ∷ []) }
+    ensures next { IsTrue result ↔ AreGates (code_span fields.now) (gates.now ++ gate ∷ []) }
+    ensures words { AreGateWords gate }
 {
     if !is_bundle_start(fields, gate.address) {
         return false;

@@ -1,5 +1,5 @@
 //! What holds of the definitions themselves.
-ghost use Rattle.sfi_image.specs.Laws.{OneImage, NeverBoth, OneFault, SomeReading};
+ghost use Rattle.sfi_image.specs.Laws.{OneImage, NeverBoth, OneFault, SomeReading, WholeBundles, CodeEnds};
 
 /// Bytes are the image of one list of sandboxes at most, or have one fault at most, and never both.
 pub fn one_reading()
@@ -11,4 +11,14 @@ pub fn one_reading()
 /// Bytes are the image of some list of sandboxes, or have some fault.
 pub fn some_reading()
     ensures { SomeReading }
+{}
+
+/// A code region is whole bundles of 16 bytes, at a multiple of 16, and ends at or below 2^32.
+pub fn whole_bundles()
+    ensures { WholeBundles }
+{}
+
+/// A code region ends within the addresses, as its base is a multiple of its size.
+pub fn code_ends()
+    ensures { CodeEnds }
 {}

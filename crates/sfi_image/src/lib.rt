@@ -12,16 +12,19 @@ mod fields;
 mod gates;
 mod image;
 mod laws;
+mod layout;
 mod part;
 mod reading;
 mod reserved;
 mod span;
 #[cfg(test)]
 mod tests;
+mod writing;
 
 pub use fault::{ImageFault, LayoutFault};
 pub use image::Image;
-pub use laws::{one_reading, some_reading};
+pub use laws::{code_ends, one_reading, some_reading, whole_bundles};
 pub use part::{Gate, SandboxPart};
 pub use reading::parse_image;
 pub use reserved::Reserved;
+pub use writing::write_image;

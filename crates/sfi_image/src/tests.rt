@@ -8,14 +8,20 @@ const HEAD: [u8; 52] = [
     0, 1, 2, 0, 0, 0, 2, 0, 0, 0, 0, 0, 0, 1, 1, 0, 0, 0, 0x10, 0, 0, 1, 0, 0, 0, 0,
 ];
 
-#[test]
-fn reads_an_image(rt: HostRuntime) -> Result<(), Fail> {
+// The whole image: its code is the bytes 0 to 255.
+fn image_bytes(rt: &HostRuntime) -> Result<Vec<u8>, Fail> {
     let mut bytes = Vec::new(rt.alloc());
     bytes.extend_from_slice(&HEAD)?;
     for byte in 0..=255u8 {
         bytes.push(byte)?;
     }
     bytes.extend_from_slice(b"Hi")?;
+    Ok(bytes)
+}
+
+#[test]
+fn reads_an_image(rt: HostRuntime) -> Result<(), Fail> {
+    let bytes = image_bytes(&rt)?;
     let image = parse_image(rt.alloc(), &bytes)?;
     let parts = image.parts();
     assert_eq!(rt; parts.len(), 1);
@@ -38,6 +44,15 @@ fn reads_an_image(rt: HostRuntime) -> Result<(), Fail> {
     assert_eq!(rt; bytes.len(), 310);
     assert!(rt; part.code == &bytes[52..308]);
     assert!(rt; part.init == b"Hi".as_slice());
+    Ok(())
+}
+
+#[test]
+fn writes_an_image(rt: HostRuntime) -> Result<(), Fail> {
+    let bytes = image_bytes(&rt)?;
+    let image = parse_image(rt.alloc(), &bytes)?;
+    let written = write_image(rt.alloc(), image.parts())?;
+    assert!(rt; written.as_slice() == bytes.as_slice());
     Ok(())
 }
 

@@ -1,0 +1,49 @@
+-- Code regions are whole bundles, and end within the addresses.
+use Rattle.std.proofs.Common.{◌≡◌, ℕ, ◌+◌, ◌-◌, ◌*◌, ◌^◌, ◌<◌, ◌≤◌, ap, ◌∙◌, ⊎_elim, arith}
+use Rattle.std.proofs.lemmas.Nat.{pow-add, pow_below}
+use Rattle.std.proofs.lemmas.Bool.{cases_lt}
+use Rattle.sfi_image.specs.Regions.{IsCodeRegion}
+use Rattle.sfi_image.specs.Laws.{WholeBundles}
+
+-- powers of two in the order of their exponents
+exponent_le : (k j : ℕ) → 2 ^ k ≤ 2 ^ j → k ≤ j
+exponent_le k j h = ⊎_elim (λ less. let below : 2 ^ j < 2 ^ k = pow_below j k less in omega arith) (λ more. more) (cases_lt j k)
+
+-- a code region ends at or below 2 ^ 32
+region_end : (base size : ℕ) → base < 2 ^ 32 → IsCodeRegion base size → base + size ≤ 2 ^ 32
+region_end base size address region =
+    let k = region.power in
+    let q = region.multiple in
+    let size_is : size ≡ 2 ^ k = region.size_is in
+    let at_most : size ≤ 65536 = region.at_most in
+    let narrow : k ≤ 32 = exponent_le k 32 (omega arith) in
+    let j = 32 - k in
+    let j_is : 32 ≡ j + k = omega arith in
+    let power : 2 ^ 32 ≡ 2 ^ j * 2 ^ k = ap (λ n. 2 ^ n) j_is ∙ pow-add 2 j k in
+    let base_is : base ≡ q * 2 ^ k = region.base_is ∙ ap (λ n. q * n) region.size_is in
+    ⊎_elim
+    (λ less. let grown : (q + 1) * 2 ^ k ≤ 2 ^ j * 2 ^ k = le_times (q + 1) (2 ^ j) (2 ^ k) (omega arith) in omega arith)
+    (λ more. let grown : 2 ^ j * 2 ^ k ≤ q * 2 ^ k = le_times (2 ^ j) q (2 ^ k) more in omega arith)
+    (cases_lt q (2 ^ j))
+  where
+    le_times : (a b c : ℕ) → a ≤ b → a * c ≤ b * c
+    le_times a b c h = grind arith
+
+-- its size and its base are whole bundles
+bundles_of : (base size : ℕ) → IsCodeRegion base size → (n : ℕ) × (m : ℕ) × (size ≡ 16 * n) × (base ≡ 16 * m)
+bundles_of base size region =
+    let k = region.power in
+    let q = region.multiple in
+    let size_is : size ≡ 2 ^ k = region.size_is in
+    let at_least : 256 ≤ size = region.at_least in
+    let wide : 8 ≤ k = exponent_le 8 k (omega arith) in
+    let j = k - 4 in
+    let k_is : k ≡ j + 4 = omega arith in
+    let power : 2 ^ k ≡ 2 ^ j * 16 = ap (λ n. 2 ^ n) k_is ∙ pow-add 2 j 4 in
+    let base_is : base ≡ q * (16 * 2 ^ j) = region.base_is ∙ ap (λ n. q * n) (let e : size ≡ 16 * 2 ^ j = omega arith in e) in
+    (2 ^ j, q * 2 ^ j, omega arith, omega arith)
+
+pub whole_bundles : WholeBundles
+whole_bundles base size address region =
+    let whole = bundles_of base size region in
+    (whole.0, whole.1, whole.2, whole.3, region_end base size address region)

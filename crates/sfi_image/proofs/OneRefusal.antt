@@ -1,0 +1,164 @@
+-- Sandboxes that are to be written have one fault at most, that of their bytes.
+use Rattle.std.proofs.Common.{◌≡◌, ℕ, ◌≤◌, List, [], ◌∷◌, ◌++◌, length, refl, sym, ap, subst, ◌∙◌, arith, append_assoc, append-nil, inl, inr, ◌⊎◌, Some, None, Result, Ok, Err}
+use Rattle.std.specs.Prelude.{IfErr}
+use Rattle.std.specs.List.{All, AllPairs, flat_map}
+use Rattle.std.proofs.lemmas.Grind.{flat_map-append}
+use Rattle.std.proofs.lemmas.List.{length-append}
+use Rattle.std.proofs.lemmas.List.Elements.{All-cons, All-head, All-tail}
+use Rattle.sfi_image.specs.declared.span.Span.{Span}
+use Rattle.sfi_image.specs.declared.fault.LayoutFault.{LayoutFault}
+use Rattle.sfi_image.specs.declared.fault.LayoutFault.TheVariants as faults
+use Rattle.sfi_image.specs.declared.fault.ImageFault.{ImageFault}
+use Rattle.sfi_image.specs.declared.fault.ImageFault.TheVariants as errors
+use Rattle.sfi_image.specs.Spelling.{Part, fields_of, gate, part, number, spelling, AreGateWords, AreWords}
+use Rattle.sfi_image.specs.Spans.{AreApart, code_region, spans_of, spans}
+use Rattle.sfi_image.specs.Gates.{AreGates}
+use Rattle.sfi_image.specs.Parts.{IsRightPart, AreRight, IsRightLayout}
+use Rattle.sfi_image.specs.Tests.{field_tests}
+use Rattle.sfi_image.specs.Faults.{IsBodyFault, IsPartFault, ArePartsFault, IsFault}
+use Rattle.sfi_image.specs.Writing.{HasWrongGate, HasFault, HasWrongPart, HaveFault}
+use Rattle.sfi_image.specs.Outcome.{IfLayout, Reads}
+use Rattle.sfi_image.proofs.GateLists.{front_gates}
+use Rattle.sfi_image.proofs.SpanLists.{front_apart}
+use Rattle.sfi_image.proofs.FieldTests.{part_passes}
+use Rattle.sfi_image.proofs.Cancelling.{part_split}
+use Rattle.sfi_image.proofs.OneReading.{one_field_fault, same_some, not_some, no_fault}
+
+-- ---- what is wrong is the fault of the bytes
+
+all_front : {X : Type 0} (P : X → Type 0) (xs ys : List X) → All P (xs ++ ys) → All P xs
+all_front P [] ys all = λ k d lt. absurd (omega arith)
+all_front P (x ∷ xs) ys all = All-cons P x xs (All-head P x (xs ++ ys) all) (all_front P xs ys (All-tail P x (xs ++ ys) all))
+
+all_middle : {X : Type 0} (P : X → Type 0) (xs : List X) (y : X) (ys : List X) → All P (xs ++ y ∷ ys) → P y
+all_middle P [] y ys all = All-head P y ys all
+all_middle P (x ∷ xs) y ys all = all_middle P xs y ys (All-tail P x (xs ++ y ∷ ys) all)
+
+flat_split : {X : Type 0} (h : X → List ℕ) (xs : List X) (y : X) (ys : List X) (rest : List ℕ) → flat_map h (xs ++ y ∷ ys) ++ rest ≡ flat_map h xs ++ (h y ++ (flat_map h ys ++ rest))
+flat_split h [] y ys rest = append_assoc (h y) (flat_map h ys) rest
+flat_split h (x ∷ xs) y ys rest =
+    append_assoc (h x) (flat_map h (xs ++ y ∷ ys)) rest ∙ ap (λ t. h x ++ t) (flat_split h xs y ys rest) ∙ sym (append_assoc (h x) (flat_map h xs) (h y ++ (flat_map h ys ++ rest)))
+
+-- too few gates are read before the wrong one
+gate_fault : (p : Part) (rest : List ℕ) → All AreGateWords p.gates → HasWrongGate (code_region p) p.gates
+    → IsBodyFault (fields_of p) (flat_map gate p.gates ++ rest) faults.Gates
+gate_fault p rest words (front, g, more, split, right, wrong) =
+    let w = subst (All AreGateWords) split words in
+    let count = ap length split ∙ length-append front (g ∷ more) in (
+      front,
+      gate g ++ (flat_map gate more ++ rest),
+      ap (λ gs. flat_map gate gs ++ rest) split ∙ flat_split gate front g more rest,
+      all_front AreGateWords front (g ∷ more) w,
+      right,
+      inr (inl (omega (arith, count), g, flat_map gate more ++ rest, refl, all_middle AreGateWords front g more w, wrong, refl)),
+    )
+
+part_fault : (before : List Span) (p : Part) (rest : List ℕ) (k : LayoutFault) → AreWords p → HasFault before p k → IsPartFault before (part p ++ rest) k
+part_fault before p rest k words (inl h) = inr (fields_of p, flat_map gate p.gates ++ (p.code ++ (p.init ++ rest)), part_split p rest, words.fields, inl h)
+part_fault before p rest k words (inr h) =
+    inr (
+      fields_of p,
+      flat_map gate p.gates ++ (p.code ++ (p.init ++ rest)),
+      part_split p rest,
+      words.fields,
+      inr (h.0, subst (IsBodyFault (fields_of p) (flat_map gate p.gates ++ (p.code ++ (p.init ++ rest)))) (sym h.2) (gate_fault p (p.code ++ (p.init ++ rest)) words.gates h.1)),
+    )
+
+parts_fault : (ps : List Part) (k : LayoutFault) → All AreWords ps → HasWrongPart ps k → ArePartsFault (length ps) (flat_map part ps) k
+parts_fault ps k words (front, p, more, split, right, wrong) =
+    let w = subst (All AreWords) split words in
+    let count = ap length split ∙ length-append front (p ∷ more) in
+    let bytes : flat_map part ps ≡ flat_map part front ++ (part p ++ flat_map part more) =
+    sym (append-nil (flat_map part ps)) ∙ ap (λ qs. flat_map part qs ++ []) split ∙ flat_split part front p more [] ∙ ap (λ t. flat_map part front ++ (part p ++ t)) (append-nil (flat_map part more)) in (
+      front,
+      part p ++ flat_map part more,
+      bytes,
+      right,
+      inl (omega (arith, count), part_fault (spans front) p (flat_map part more) k (all_middle AreWords front p more w) wrong),
+    )
+
+pub as_read : (ps : List Part) (k : LayoutFault) → length ps ≤ 16 → All AreWords ps → HaveFault ps k → IsFault (spelling ps) k
+unfolding spelling
+as_read ps k most words (inl h) = inr (inr (number (length ps) ++ flat_map part ps, refl, inr (length ps, flat_map part ps, refl, omega arith, inl h)))
+as_read ps k most words (inr h) =
+    inr (inr (number (length ps) ++ flat_map part ps, refl, inr (length ps, flat_map part ps, refl, omega arith, inr (h.0, h.1, parts_fault ps k words h.2))))
+
+-- right sandboxes have no fault
+pub none_of_right : (ps : List Part) (k : LayoutFault) → IsRightLayout ps → HaveFault ps k → ⊥
+none_of_right ps k right h =
+    let words : All AreWords ps = λ i d lt. (right.right.each i d lt).words in
+    no_fault (spelling ps) ps k (record { bytes_are = refl; layout = right }) (as_read ps k right.at_most words h)
+
+-- ---- one fault
+
+-- a list goes on with an element where another ends
+abbrev Goes : {X : Type 0} → List X → List X → X → Type 0
+Goes {X = X} xs ys y = (more : List X) × (xs ≡ ys ++ y ∷ more)
+
+same_split : {X : Type 0} (xs ys : List X) (x y : X) (r s : List X) → xs ++ x ∷ r ≡ ys ++ y ∷ s → ((xs ≡ ys) × (x ≡ y)) ⊎ (Goes xs ys y ⊎ Goes ys xs x)
+same_split [] [] x y r s e = inl (refl, cc)
+same_split [] (z ∷ ys) x y r s e = inr (inr (ys, ap (λ w. w ∷ ys) (cc)))
+same_split (z ∷ xs) [] x y r s e = inr (inl (xs, ap (λ w. w ∷ xs) (cc)))
+same_split (w ∷ xs) (z ∷ ys) x y r s e =
+    let head : w ≡ z = cc in
+    let tail : xs ++ x ∷ r ≡ ys ++ y ∷ s = cc in
+    elim (same_split xs ys x y r s tail) [
+      | inl both ↦ inl (cc, both.1)
+      | inr (inl on) ↦ inr (inl (on.0, (let f = on.1 in cc)))
+      | inr (inr on) ↦ inr (inr (on.0, (let f = on.1 in cc)))
+    ]
+
+-- right sandboxes go on where a wrong one stands
+right_goes_on : (xs ys : List Part) (y : Part) (k : LayoutFault) → AreRight xs → Goes xs ys y → HasFault (spans ys) y k → ⊥
+right_goes_on xs ys y k right (more, is) wrong =
+    let each = subst (All IsRightPart) is right.each in
+    let one : IsRightPart y = all_middle IsRightPart ys y more each in
+    let spelled : spans xs ≡ (spans ys ++ spans_of (fields_of y)) ++ spans more =
+    ap spans is ∙ flat_map-append (λ q. spans_of (fields_of q)) ys (y ∷ more) ∙ sym (append_assoc (spans ys) (spans_of (fields_of y)) (spans more)) in
+    let apart = front_apart (spans ys ++ spans_of (fields_of y)) (spans more) (subst (AllPairs AreApart) spelled right.apart) in
+    right_has_none (spans ys) y k one apart wrong
+  where
+    right_has_none : (before : List Span) (p : Part) (k : LayoutFault) → IsRightPart p → AllPairs AreApart (before ++ spans_of (fields_of p)) → HasFault before p k → ⊥
+    right_has_none before p k right apart (inl h) = not_some k (one_field_fault before (fields_of p) field_tests None (Some k) (part_passes before p right apart) h)
+    right_has_none before p k right apart (inr (passed, (front, g, more, split, ok, wrong), is)) =
+        let all = subst (AreGates (code_region p)) (split ∙ sym (append_assoc front (g ∷ []) more)) right.gates in
+        wrong (front_gates (code_region p) (front ++ g ∷ []) more all)
+
+one_of_part : (before : List Span) (p : Part) (j k : LayoutFault) → HasFault before p j → HasFault before p k → j ≡ k
+one_of_part before p j k (inl a) (inl b) = same_some j k (one_field_fault before (fields_of p) field_tests (Some j) (Some k) a b)
+one_of_part before p j k (inl a) (inr b) = absurd (not_some j (one_field_fault before (fields_of p) field_tests None (Some j) b.0 a))
+one_of_part before p j k (inr a) (inl b) = absurd (not_some k (one_field_fault before (fields_of p) field_tests None (Some k) a.0 b))
+one_of_part before p j k (inr a) (inr b) = a.2 ∙ sym b.2
+
+pub one_fault : (ps : List Part) (j k : LayoutFault) → HaveFault ps j → HaveFault ps k → j ≡ k
+one_fault ps j k (inl a) (inl b) = a.1 ∙ sym b.1
+one_fault ps j k (inl a) (inr b) = absurd (a.0 (b.0, b.1))
+one_fault ps j k (inr a) (inl b) = absurd (b.0 (a.0, a.1))
+one_fault ps j k (inr (_, _, (front, p, more, is, right, wrong))) (inr (_, _, (start, q, rest, same, good, bad))) =
+    elim (same_split front start p q more rest (sym is ∙ same)) [
+      | inl both ↦ one_of_part (spans start) q j k (subst (λ x. HasFault (spans start) x j) both.1 (subst (λ x. HasFault (spans x) p j) both.0 wrong)) bad
+      | inr (inl on) ↦ absurd (right_goes_on front start q k right on bad)
+      | inr (inr on) ↦ absurd (right_goes_on start front p j good on wrong)
+    ]
+
+-- ---- what a writer answers that way
+
+module _ {A : Type 0} (ps : List Part) (Found : A → Type 0) where
+  -- right sandboxes are written, or memory ran out
+  pub only_image : (r : Result A ImageFault) → Reads Found (HaveFault ps) r → IsRightLayout ps → IfErr r (λ e. e ≡ errors.Memory)
+  only_image (Ok a) h right = tt
+  only_image (Err (errors.Layout k)) h right = absurd (none_of_right ps k right h)
+  only_image (Err errors.Memory) h right = refl
+
+  -- a fault is answered, or memory ran out
+  pub only_fault : ((a : A) → Found a → IsRightLayout ps) → (r : Result A ImageFault) → Reads Found (HaveFault ps) r → (k : LayoutFault) → HaveFault ps k
+      → (r ≡ Err (errors.Layout k)) ⊎ (r ≡ Err errors.Memory)
+  only_fault right (Ok a) h k wrong = absurd (none_of_right ps k (right a h) wrong)
+  only_fault right (Err (errors.Layout j)) h k wrong = inl (ap (λ (x : LayoutFault). Err (errors.Layout x)) (one_fault ps j k h wrong))
+  only_fault right (Err errors.Memory) h k wrong = inr refl
+
+  -- it is that of the bytes
+  pub fault_as_read : (r : Result A ImageFault) → Reads Found (HaveFault ps) r → length ps ≤ 16 → All AreWords ps → IfErr r (λ e. IfLayout e (λ k. IsFault (spelling ps) k))
+  fault_as_read (Ok a) h most words = tt
+  fault_as_read (Err (errors.Layout k)) h most words = as_read ps k most words h
+  fault_as_read (Err errors.Memory) h most words = tt

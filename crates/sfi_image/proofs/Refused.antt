@@ -1,0 +1,196 @@
+-- What is wrong with sandboxes that are to be written.
+use Rattle.std.proofs.Common.{◌≡◌, ℕ, ◌+◌, ◌<◌, ◌≤◌, ◌^◌, List, [], ◌∷◌, ◌++◌, length, get_or, map, take, drop, refl, sym, ap, subst, ◌∙◌, arith, drop-cons, add-one, inl, inr, ◌⊎◌, Some, None, Option}
+use Rattle.std.specs.List.{All, AllPairs}
+use Rattle.std.proofs.lemmas.List.{take_more, take-append-drop, map_push}
+use Rattle.std.proofs.Math.ListN.{get_or-map}
+use Rattle.std.proofs.Math.Seq.{take-length}
+use Rattle.std.proofs.lemmas.List.Elements.{All-push, All-append}
+use Rattle.std.proofs.lemmas.Bool.{cases_lt}
+use Rattle.std.proofs.lemmas.Bool.Decides.{nat_tests}
+use Rattle.std.specs.Prelude.{nat_le, true, false}
+use Rattle.sfi_image.specs.declared.part.Gate.{Gate}
+use Rattle.sfi_image.specs.declared.fields.Fields.{Fields}
+use Rattle.sfi_image.specs.declared.span.Span.{Span}
+use Rattle.sfi_image.specs.declared.fault.LayoutFault.{LayoutFault}
+use Rattle.sfi_image.specs.declared.fault.LayoutFault.TheVariants as faults
+use Rattle.sfi_image.specs.Spelling.{Part, fields_of, AreFieldWords, AreGateWords}
+use Rattle.sfi_image.specs.Spans.{AreApart, IsBounded, code_span, code_region, spans_of, spans}
+use Rattle.sfi_image.specs.Gates.{AreGates, gates_most}
+use Rattle.sfi_image.specs.Parts.{IsRightPart, AreRight}
+use Rattle.sfi_image.specs.Tests.{IsFirstFault, field_tests}
+use Rattle.sfi_image.specs.Writing.{HasWrongGate, HasFault, HaveFault, capped, capped_fields}
+use Rattle.sfi_image.proofs.Regions.{not_region}
+use Rattle.sfi_image.proofs.FieldTests.{right_part, all_pass}
+use Rattle.sfi_image.proofs.PartLists.{right_bounded, spans_push}
+
+-- ---- lengths that no field can hold
+
+test_big : (n : ℕ) → 0xffffffff < n → nat_le n 0xffffffff ≡ false
+test_big n h = grind (arith, nat_tests)
+
+test_small : (n : ℕ) → n ≤ 0xffffffff → nat_le n 0xffffffff ≡ true
+test_small n h = grind (arith, nat_tests)
+
+-- a number is kept, or it is above each limit and so is what stands for it
+pub capped_cases : (n : ℕ) → (capped n ≡ n) ⊎ ((2 ^ 32 ≤ n) × (capped n ≡ 0xffffffff))
+capped_cases n = elim (cases_lt 0xffffffff n) [
+  | inl big ↦ inr (omega arith, rw (test_big n big) refl)
+  | inr small ↦ inl (rw (test_small n small) refl)
+]
+
+with_code : (before : List Span) (f : Fields) (m : ℕ) (k : Option LayoutFault) → 65536 < f.code_size → 65536 < m
+    → IsFirstFault before f field_tests k → IsFirstFault before (record f { code_size = m }) field_tests k
+with_code before f m k high too (inl h) = absurd (omega (arith, h.0.at_most))
+with_code before f m k high too (inr h) = inr (not_region f.code_base m 256 65536 (inr (inr too)), h.1)
+
+with_gates : (before : List Span) (f : Fields) (m : ℕ) (k : Option LayoutFault) → gates_most < f.gate_count → gates_most < m
+    → IsFirstFault before f field_tests k → IsFirstFault before (record f { gate_count = m }) field_tests k
+with_gates before f m k high too (inr h) = inr h
+with_gates before f m k high too (inl (a, inr h)) = inl (a, inr h)
+with_gates before f m k high too (inl (a, inl (b, inr h))) = inl (a, inl (b, inr h))
+with_gates before f m k high too (inl (a, inl (b, inl (c, inr h)))) = inl (a, inl (b, inl (c, inr h)))
+with_gates before f m k high too (inl (a, inl (b, inl (c, inl (d, inl h))))) = absurd (omega (arith, h.0))
+with_gates before f m k high too (inl (a, inl (b, inl (c, inl (d, inr h))))) = inl (a, inl (b, inl (c, inl (d, inr (λ low. omega arith, h.1)))))
+
+with_init : (before : List Span) (f : Fields) (m : ℕ) (k : Option LayoutFault) → 1048576 < f.init_len → 1048576 < m
+    → IsFirstFault before f field_tests k → IsFirstFault before (record f { init_len = m }) field_tests k
+with_init before f m k high too (inr h) = inr h
+with_init before f m k high too (inl (a, inr h)) = inl (a, inr h)
+with_init before f m k high too (inl (a, inl (b, inr h))) = inl (a, inl (b, inr h))
+with_init before f m k high too (inl (a, inl (b, inl (c, inr h)))) = inl (a, inl (b, inl (c, inr h)))
+with_init before f m k high too (inl (a, inl (b, inl (c, inl (d, inr h))))) = inl (a, inl (b, inl (c, inl (d, inr h))))
+with_init before f m k high too (inl (a, inl (b, inl (c, inl (d, inl (e, inl h)))))) = absurd (omega (arith, h.0, b.at_most))
+with_init before f m k high too (inl (a, inl (b, inl (c, inl (d, inl (e, inr h)))))) =
+    inl (a, inl (b, inl (c, inl (d, inl (e, inr (λ low. omega (arith, b.at_most), h.1))))))
+
+abbrev lengthened : Part → ℕ → ℕ → ℕ → Fields
+lengthened p c g i = record (fields_of p) { code_size = c; gate_count = g; init_len = i }
+
+abbrev Fails : List Span → Option LayoutFault → Part → ℕ → ℕ → ℕ → Type 0
+Fails before k p c g i = IsFirstFault before (lengthened p c g i) field_tests k
+
+same_code : (before : List Span) (k : Option LayoutFault) (p : Part) (g i : ℕ) → Fails before k p (capped (length p.code)) g i → Fails before k p (length p.code) g i
+same_code before k p g i h = elim (capped_cases (length p.code)) [
+  | inl same ↦ subst (λ n. Fails before k p n g i) same h
+  | inr big ↦ with_code before (lengthened p (capped (length p.code)) g i) (length p.code) k (omega (arith, big.1)) (omega (arith, big.0)) h
+]
+
+same_gates : (before : List Span) (k : Option LayoutFault) (p : Part) (c i : ℕ) → Fails before k p c (capped (length p.gates)) i → Fails before k p c (length p.gates) i
+same_gates before k p c i h = elim (capped_cases (length p.gates)) [
+  | inl same ↦ subst (λ n. Fails before k p c n i) same h
+  | inr big ↦ with_gates before (lengthened p c (capped (length p.gates)) i) (length p.gates) k (omega (arith, big.1)) (omega (arith, big.0)) h
+]
+
+same_init : (before : List Span) (k : Option LayoutFault) (p : Part) (c g : ℕ) → Fails before k p c g (capped (length p.init)) → Fails before k p c g (length p.init)
+same_init before k p c g h = elim (capped_cases (length p.init)) [
+  | inl same ↦ subst (λ n. Fails before k p c g n) same h
+  | inr big ↦ with_init before (lengthened p c g (capped (length p.init))) (length p.init) k (omega (arith, big.1)) (omega (arith, big.0)) h
+]
+
+-- the first test that fails is the same one
+pub uncapped : (before : List Span) (p : Part) (k : Option LayoutFault) → IsFirstFault before (capped_fields p) field_tests k → IsFirstFault before (fields_of p) field_tests k
+uncapped before p k h =
+    same_init before k p (length p.code) (length p.gates)
+    (same_gates before k p (length p.code) (capped (length p.init)) (same_code before k p (capped (length p.gates)) (capped (length p.init)) h))
+
+-- ---- gates
+
+abbrev pub other_gate : Gate
+other_gate = record { address = 0; service = 0 }
+
+-- the gate at the place is the first wrong one
+pub wrong_gate : (region : Span) (gs : List Gate) (i : ℕ) (d : Gate) → i < length gs → AreGates region (take i gs) → (AreGates region (take i gs ++ get_or gs i d ∷ []) → ⊥) → HasWrongGate region gs
+wrong_gate region gs i d lt right wrong = (take i gs, get_or gs i d, drop (i + 1) gs, split, right, wrong)
+  where
+    split : gs ≡ take i gs ++ get_or gs i d ∷ drop (i + 1) gs
+    split = sym (take-append-drop i gs) ∙ ap (λ t. take i gs ++ t) (drop-cons gs i d lt ∙ ap (λ n. get_or gs i d ∷ drop n gs) (sym (add-one i)))
+
+-- ---- sandboxes
+
+-- the first sandboxes are right, and these are their spans
+pub record StartRight (ps : List Part) (before : List Span) : Type 0 where
+  pub each : All IsRightPart ps
+  pub spans_are : before ≡ spans ps
+  pub bounded : All IsBounded before
+  pub apart : AllPairs AreApart before
+
+pub StartRight-push : (ps : List Part) (before : List Span) (p : Part) → StartRight ps before → IsRightPart p → AllPairs AreApart (before ++ spans_of (fields_of p))
+    → StartRight (ps ++ p ∷ []) (before ++ spans_of (fields_of p))
+StartRight-push ps before p start right apart = record {
+  each = All-push IsRightPart ps p start.each right;
+  spans_are = ap (λ (t : List Span). t ++ spans_of (fields_of p)) start.spans_are ∙ sym (spans_push ps p);
+  bounded = All-append IsBounded before (spans_of (fields_of p)) start.bounded (right_bounded p right);
+  apart = apart;
+}
+
+pub start_right : (ps : List Part) (before : List Span) → StartRight ps before → AreRight ps
+start_right ps before start = record { each = start.each; apart = subst (AllPairs AreApart) start.spans_are start.apart }
+
+-- ---- one sandbox
+
+pub tests_failed : (before : List Span) (p : Part) (f : Fields) (k : LayoutFault) → f ≡ capped_fields p → IsFirstFault before f field_tests (Some k) → HasFault before p k
+tests_failed before p f k is h = inl (uncapped before p (Some k) (subst (λ g. IsFirstFault before g field_tests (Some k)) is h))
+
+pub tests_passed : (before : List Span) (p : Part) (f : Fields) → f ≡ capped_fields p → IsFirstFault before f field_tests None → IsFirstFault before (fields_of p) field_tests None
+tests_passed before p f is h = uncapped before p None (subst (λ g. IsFirstFault before g field_tests None) is h)
+
+-- fields that pass are their own capped fields
+pub code_kept : (before : List Span) (p : Part) → IsFirstFault before (fields_of p) field_tests None → capped (length p.code) ≡ length p.code
+code_kept before p (inl h) = elim (capped_cases (length p.code)) [ inl same ↦ same | inr big ↦ absurd (omega (arith, big.0, h.0.at_most)) ]
+code_kept before p (inr h) = let e = h.1 in absurd cc
+
+pub gates_failed : (before : List Span) (p : Part) (f : Fields) (gs : List Gate) → f ≡ capped_fields p → IsFirstFault before f field_tests None → gs ≡ p.gates
+    → HasWrongGate (code_span f) gs → HasFault before p faults.Gates
+gates_failed before p f gs is h same wrong =
+    let passed = tests_passed before p f is h in
+    let region : code_span f ≡ code_region p = ap code_span is ∙ ap (λ n. code_span (record (fields_of p) { code_size = n })) (code_kept before p passed) in
+    inr (passed, subst (λ r. HasWrongGate r p.gates) region (subst (HasWrongGate (code_span f)) same wrong), refl)
+
+-- fields that pass are words
+passed_words : (before : List Span) (p : Part) → IsFirstFault before (fields_of p) field_tests None → AreFieldWords (capped_fields p) → AreFieldWords (fields_of p)
+passed_words before p passed words =
+    let all = all_pass before (fields_of p) field_tests passed in
+    record {
+      code_base = words.code_base;
+      code_size = omega (arith, all.0.at_most);
+      data_base = words.data_base;
+      data_size = words.data_size;
+      start = words.start;
+      gate_count = omega (arith, all.1.1.1.1.0);
+      init_len = omega (arith, all.1.1.1.1.1.0, all.1.0.at_most);
+    }
+
+pub all_passed : (before : List Span) (p : Part) (f : Fields) (gs : List Gate) → f ≡ capped_fields p → IsFirstFault before f field_tests None → gs ≡ p.gates
+    → AreFieldWords (capped_fields p) → AreGates (code_span f) gs → All AreGateWords gs → IsRightPart p × AllPairs AreApart (before ++ spans_of (fields_of p))
+all_passed before p f gs is h same fits right words =
+    let passed = tests_passed before p f is h in
+    let region : code_span f ≡ code_region p = ap code_span is ∙ ap (λ n. code_span (record (fields_of p) { code_size = n })) (code_kept before p passed) in
+    right_part before p (fields_of p) refl (passed_words before p passed fits) passed (subst (All AreGateWords) same words)
+    (subst (λ r. AreGates r p.gates) region (subst (AreGates (code_span f)) same right))
+
+-- ---- all
+
+pub wrong_part : (ps : List Part) (i : ℕ) (p : Part) (before : List Span) (k : LayoutFault) → 1 ≤ length ps → length ps ≤ 16 → i < length ps → get_or ps i p ≡ p
+    → StartRight (take i ps) before → HasFault before p k → HaveFault ps k
+wrong_part ps i p before k least most lt is start h =
+    inr (least, most, (take i ps, p, drop (i + 1) ps, split, start_right (take i ps) before start, subst (λ b. HasFault b p k) start.spans_are h))
+  where
+    split : ps ≡ take i ps ++ p ∷ drop (i + 1) ps
+    split = sym (take-append-drop i ps) ∙ ap (λ t. take i ps ++ t) (drop-cons ps i p lt ∙ ap (λ n. get_or ps i p ∷ drop n ps) (sym (add-one i)) ∙ ap (λ q. q ∷ drop (i + 1) ps) is)
+
+-- the spans that the code adds are the sandbox's
+pub same_spans : (before : List Span) (p : Part) (f : Fields) → f ≡ capped_fields p → IsRightPart p → spans_of f ≡ spans_of (fields_of p)
+same_spans before p f is right =
+    let kept : capped (length p.code) ≡ length p.code = elim (capped_cases (length p.code)) [ inl same ↦ same | inr big ↦ absurd (omega (arith, big.0, right.code_placed.at_most)) ] in
+    ap spans_of is ∙ ap (λ n. spans_of (record (fields_of p) { code_size = n })) kept
+
+-- ---- by what they stand for
+
+pub map_at : {X Y : Type 0} (f : X → Y) (xs : List X) (i : ℕ) (x : X) → x ≡ get_or xs i x → get_or (map f xs) i (f x) ≡ f x
+map_at f xs i x is = get_or-map f xs i x ∙ ap f (sym is)
+
+pub map_more_at : {X Y : Type 0} (f : X → Y) (xs : List X) (i : ℕ) (x : X) → i < length xs → x ≡ get_or xs i x → map f (take (i + 1) xs) ≡ map f (take i xs) ++ f x ∷ []
+map_more_at f xs i x lt is = ap (map f) (take_more xs i x lt) ∙ map_push f (take i xs) (get_or xs i x) ∙ ap (λ y. map f (take i xs) ++ f y ∷ []) (sym is)
+
+pub take_whole : {X : Type 0} (xs : List X) (i : ℕ) → i ≤ length xs → length xs ≤ i → take i xs ≡ xs
+take_whole xs i low high = let e : i ≡ length xs = omega arith in ap (λ n. take n xs) e ∙ take-length xs

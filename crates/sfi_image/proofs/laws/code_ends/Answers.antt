@@ -1,0 +1,5 @@
+use Rattle.sfi_image.proofs.Ends.{code_end}
+use Rattle.sfi_image.proofs.laws.code_ends.Goals as goal
+
+pub returns : goal.returns
+returns c = code_end

@@ -1,0 +1,7 @@
+use Rattle.std.proofs.Common.{take}
+use Rattle.sfi_image.specs.Spelling.{views}
+use Rattle.sfi_image.proofs.Refused.{StartRight}
+use Rattle.sfi_image.proofs.layout.check_layout.Given as goal
+
+abbrev pub invariant-loop-part : goal.invariant-loop-part
+invariant-loop-part l = StartRight (views (take l.part-index l.parts)) l.before.items

@@ -1,0 +1,7 @@
+use Rattle.std.proofs.Common.{◌≡◌, ◌++◌, take}
+use Rattle.std.specs.List.{flat_map}
+use Rattle.sfi_image.specs.Spelling.{views, part}
+use Rattle.sfi_image.proofs.writing.write_right.Given as goal
+
+abbrev pub invariant-loop-one : goal.invariant-loop-one
+invariant-loop-one l = l.bytes.items ≡ l.initial.bytes.items ++ flat_map part (views (take l.one-index l.parts))

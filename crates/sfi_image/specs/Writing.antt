@@ -1,0 +1,48 @@
+-- What is wrong with sandboxes that are to be written: what reading their bytes would find first.
+use Rattle.std.specs.Prelude.{◌≡◌, ◌≤◌, ◌⊎◌, ℕ, List, [], ◌∷◌, ◌++◌, length, Some, None, nat_le, if◌then◌else◌}
+use Rattle.sfi_image.specs.declared.fields.Fields.{Fields}
+use Rattle.sfi_image.specs.declared.part.Gate.{Gate}
+use Rattle.sfi_image.specs.declared.span.Span.{Span}
+use Rattle.sfi_image.specs.declared.fault.LayoutFault.{LayoutFault}
+use Rattle.sfi_image.specs.declared.fault.LayoutFault.TheVariants.{Count, Gates}
+use Rattle.sfi_image.specs.Spelling.{Part, fields_of}
+use Rattle.sfi_image.specs.Spans.{code_region, spans}
+use Rattle.sfi_image.specs.Gates.{AreGates}
+use Rattle.sfi_image.specs.Parts.{AreRight}
+use Rattle.sfi_image.specs.Tests.{IsFirstFault, field_tests}
+
+-- behind right gates the next one is none
+abbrev pub HasWrongGate : Span → List Gate → Type 0
+HasWrongGate region gs = (front : List Gate) × (g : Gate) × (more : List Gate)
+    × (gs ≡ front ++ g ∷ more) × AreGates region front × (¬ AreGates region (front ++ g ∷ []))
+
+-- behind sandboxes with these spans its fields fail a test, or pass them all and a gate is wrong
+abbrev pub HasFault : List Span → Part → LayoutFault → Type 0
+HasFault before p k =
+    IsFirstFault before (fields_of p) field_tests (Some k)
+    ⊎ (IsFirstFault before (fields_of p) field_tests None × HasWrongGate (code_region p) p.gates × (k ≡ Gates))
+
+-- behind right sandboxes the next one has the fault
+abbrev pub HasWrongPart : List Part → LayoutFault → Type 0
+HasWrongPart ps k = (front : List Part) × (p : Part) × (more : List Part)
+    × (ps ≡ front ++ p ∷ more) × AreRight front × HasFault (spans front) p k
+
+-- there are not 1 to 16 of them, or the first wrong one has the fault
+abbrev pub HaveFault : List Part → LayoutFault → Type 0
+HaveFault ps k =
+    ((¬ ((1 ≤ length ps) × (length ps ≤ 16))) × (k ≡ Count))
+    ⊎ ((1 ≤ length ps) × (length ps ≤ 16) × HasWrongPart ps k)
+
+-- ---- for private contracts
+
+-- the number, or the greatest of 32 bits where it has more
+abbrev pub capped : ℕ → ℕ
+capped n = if nat_le n 0xffffffff then n else 0xffffffff
+
+-- the seven fields, with lengths that fit
+abbrev pub capped_fields : Part → Fields
+capped_fields p = record (fields_of p) {
+  code_size = capped (length p.code);
+  gate_count = capped (length p.gates);
+  init_len = capped (length p.init);
+}

@@ -1,0 +1,104 @@
+//! Whether sandboxes have a right layout, before they are written.
+ghost use Rattle.std.specs.Prelude.{◌≡◌, ◌++◌, OnOk, IfSome, IfNone, IfErr};
+ghost use Rattle.std.specs.Bool.{OnTrue, OnFalse};
+ghost use Rattle.std.specs.List.{All, AllPairs};
+ghost use Rattle.sfi_image.specs.Spelling.{view, views, fields_of, IsWord, AreFieldWords, AreGateWords};
+ghost use Rattle.sfi_image.specs.Spans.{AreApart, IsBounded, code_span, spans_of};
+ghost use Rattle.sfi_image.specs.Gates.{AreGates};
+ghost use Rattle.sfi_image.specs.Parts.{IsRightPart, IsRightLayout};
+ghost use Rattle.sfi_image.specs.Writing.{HasWrongGate, HasFault, HaveFault, capped, capped_fields};
+ghost use Rattle.sfi_image.specs.Outcome.{IfLayout};
+
+use crate::fault::{ImageFault, LayoutFault};
+use crate::fields::{Fields, add_spans, field_fault};
+use crate::gates::is_next_gate;
+use crate::part::{Gate, SandboxPart};
+use crate::span::Span;
+use std::alloc::Global;
+
+const SANDBOXES_MOST: usize = 16;
+
+// The length, or the greatest number where it has more than 32 bits.
+fn capped(len: usize) -> u32
+    ensures value { result ≡ capped len }
+    ensures word { IsWord result }
+{
+    if len <= u32::MAX as usize {
+        len as u32
+    } else {
+        u32::MAX
+    }
+}
+
+// The number, of which a contract behind a reference doesn't know that it has 32 bits.
+fn word(number: u32) -> u32
+    ensures value { result ≡ number }
+    ensures word { IsWord result }
+{
+    number
+}
+
+// The seven fields of a sandbox. A length that its field can't hold is above each limit, and so is the greatest number.
+fn fields_of_part(part: &SandboxPart<'_>) -> Fields
+    ensures value { result ≡ capped_fields (view part.now) }
+    ensures words { AreFieldWords result }
+{
+    Fields {
+        code_base: word(part.code_base),
+        code_size: capped(part.code.len()),
+        data_base: word(part.data_base),
+        data_size: word(part.data_size),
+        start: word(part.start),
+        gate_count: capped(part.gates.len()),
+        init_len: capped(part.init.len()),
+    }
+}
+
+// Each gate may come next behind those before it.
+fn are_gates(fields: &Fields, gates: &[Gate]) -> bool
+    ensures right { OnTrue result (AreGates (code_span fields.now) gates.now) }
+    ensures words { OnTrue result (All AreGateWords gates.now) }
+    ensures wrong { OnFalse result (HasWrongGate (code_span fields.now) gates.now) }
+{
+    for (k, gate) in gates.iter().enumerate() {
+        if !is_next_gate(fields, &gates[..k], *gate) {
+            return false;
+        }
+    }
+    true
+}
+
+// What is wrong with a sandbox behind others with these spans.
+fn part_fault(before: &[Span], part: &SandboxPart<'_>) -> Option<LayoutFault>
+    requires bounded { All IsBounded before.now }
+    requires apart { AllPairs AreApart before.now }
+    ensures found { IfSome result (λ k. HasFault before.now (view part.now) k) }
+    ensures right { IfNone result (IsRightPart (view part.now) × AllPairs AreApart (before.now ++ spans_of (fields_of (view part.now)))) }
+{
+    let fields = fields_of_part(part);
+    if let Some(fault) = field_fault(before, &fields) {
+        return Some(fault);
+    }
+    if !are_gates(&fields, &part.gates) {
+        return Some(LayoutFault::Gates);
+    }
+    None
+}
+
+// The sandboxes have a right layout, or the first of them that is wrong has a fault.
+pub(crate) fn check_layout(alloc: Global, parts: &[SandboxPart<'_>]) -> Result<(), ImageFault>
+    ensures right { OnOk result (IsRightLayout (views parts.now)) }
+    ensures wrong { IfErr result (λ e. IfLayout e (HaveFault (views parts.now))) }
+{
+    if parts.is_empty() || parts.len() > SANDBOXES_MOST {
+        return Err(ImageFault::Layout(LayoutFault::Count));
+    }
+    let mut before = Vec::new(alloc);
+    for part in parts {
+        if let Some(fault) = part_fault(&before, part) {
+            return Err(ImageFault::Layout(fault));
+        }
+        add_spans(&mut before, &fields_of_part(part))?;
+    }
+    Ok(())
+}

@@ -1,0 +1,117 @@
+//! Writing an image from left to right.
+ghost use Rattle.std.specs.Prelude.{◌≡◌, ◌++◌, ◌⊎◌, ◌≤◌, ◌<◌, List, length, OnOk, IfOk, IfErr};
+ghost use Rattle.std.specs.List.{All, flat_map};
+ghost use Rattle.sfi_image.specs.declared.fault.LayoutFault.{LayoutFault};
+ghost use Rattle.sfi_image.specs.Spelling.{view, views, number, fields, fields_of, gate, part, spelling, AreWords};
+ghost use Rattle.sfi_image.specs.Parts.{IsRightPart, IsRightLayout};
+ghost use Rattle.sfi_image.specs.Faults.{IsFault};
+ghost use Rattle.sfi_image.specs.Writing.{HaveFault};
+ghost use Rattle.sfi_image.specs.Images.{IsImage};
+ghost use Rattle.sfi_image.specs.Outcome.{IfLayout, Reads};
+
+use crate::fault::ImageFault;
+use crate::layout::check_layout;
+use crate::part::{Gate, SandboxPart};
+use byteorder::{ByteOrder, LittleEndian};
+use std::alloc::{AllocError, Global};
+
+#[tactic(auto, unfolding(crate::specs::Spelling::number))]
+// The number in four bytes comes behind the bytes so far.
+fn push_number(bytes: &mut Vec<u8>, n: u32) -> Result<(), AllocError>
+    ensures { OnOk result (bytes.new.items ≡ bytes.old.items ++ number n) }
+{
+    let mut four = [0; 4];
+    LittleEndian::write_u32(&mut four, n);
+    bytes.extend_from_slice(&four)?;
+    Ok(())
+}
+
+#[tactic(auto, using(std::proofs::Common::append_assoc), unfolding(crate::specs::Spelling::gate))]
+// The gate comes behind the bytes so far.
+fn push_gate(bytes: &mut Vec<u8>, one: Gate) -> Result<(), AllocError>
+    ensures { OnOk result (bytes.new.items ≡ bytes.old.items ++ gate one) }
+{
+    push_number(bytes, one.address)?;
+    push_number(bytes, one.service)?;
+    Ok(())
+}
+
+// The gates come behind the bytes so far.
+fn push_gates(bytes: &mut Vec<u8>, gates: &[Gate]) -> Result<(), AllocError>
+    ensures { OnOk result (bytes.new.items ≡ bytes.old.items ++ flat_map gate gates.now) }
+{
+    for one in gates {
+        push_gate(bytes, *one)?;
+    }
+    Ok(())
+}
+
+#[tactic(auto, using(std::proofs::Common::append_assoc), unfolding(crate::specs::Spelling::fields))]
+// The seven fields of a sandbox come behind the bytes so far.
+fn push_fields(bytes: &mut Vec<u8>, one: &SandboxPart<'_>) -> Result<(), AllocError>
+    requires { IsRightPart (view one.now) }
+    ensures { OnOk result (bytes.new.items ≡ bytes.old.items ++ fields (fields_of (view one.now))) }
+{
+    push_number(bytes, one.code_base)?;
+    push_number(bytes, one.code.len() as u32)?;
+    push_number(bytes, one.data_base)?;
+    push_number(bytes, one.data_size)?;
+    push_number(bytes, one.start)?;
+    push_number(bytes, one.gates.len() as u32)?;
+    push_number(bytes, one.init.len() as u32)?;
+    Ok(())
+}
+
+#[tactic(auto, using(std::proofs::Common::append_assoc), unfolding(crate::specs::Spelling::part))]
+// The sandbox comes behind the bytes so far.
+fn push_part(bytes: &mut Vec<u8>, one: &SandboxPart<'_>) -> Result<(), AllocError>
+    requires { IsRightPart (view one.now) }
+    ensures { OnOk result (bytes.new.items ≡ bytes.old.items ++ part (view one.now)) }
+{
+    push_fields(bytes, one)?;
+    push_gates(bytes, &one.gates)?;
+    bytes.extend_from_slice(one.code)?;
+    bytes.extend_from_slice(one.init)?;
+    Ok(())
+}
+
+// The bytes of sandboxes with a right layout.
+fn write_right(alloc: Global, parts: &[SandboxPart<'_>]) -> Result<Vec<u8>, AllocError>
+    requires { IsRightLayout (views parts.now) }
+    ensures { IfOk result (λ bytes. bytes.items ≡ spelling (views parts.now)) }
+{
+    let mut bytes = Vec::new(alloc);
+    bytes.extend_from_slice(b"SFI1")?;
+    push_number(&mut bytes, parts.len() as u32)?;
+    for one in parts {
+        push_part(&mut bytes, one)?;
+    }
+    Ok(bytes)
+}
+
+// The image of these sandboxes, or their fault.
+fn image_of(alloc: Global, parts: &[SandboxPart<'_>]) -> Result<Vec<u8>, ImageFault>
+    ensures { Reads (λ bytes. IsImage bytes.items (views parts.now)) (HaveFault (views parts.now)) result }
+{
+    check_layout(alloc, parts)?;
+    Ok(write_right(alloc, parts)?)
+}
+
+/// Writes an image, or refuses with what reading it would find first. A length above 32 bits fails the test of its
+/// field.
+pub fn write_image(alloc: Global, parts: &[SandboxPart<'_>]) -> Result<Vec<u8>, ImageFault>
+    // What each answer means.
+    ensures image { IfOk result (λ bytes. IsImage bytes.items (views parts.now)) }
+    ensures fault { IfErr result (λ e. IfLayout e (HaveFault (views parts.now))) }
+
+    // Which sandboxes get it, want of memory aside.
+    ensures only_image { IsRightLayout (views parts.now) → IfErr result (λ e. e ≡ ImageFault.Memory) }
+    ensures only_fault { (k : LayoutFault) → HaveFault (views parts.now) k
+        → (result ≡ Err (ImageFault.Layout k)) ⊎ (result ≡ Err ImageFault.Memory) }
+
+    // Of at most 16 sandboxes whose numbers all have 32 bits, the fault is that of their bytes.
+    ensures as_read { length parts.now ≤ 16 → All AreWords (views parts.now)
+        → IfErr result (λ e. IfLayout e (λ k. IsFault (spelling (views parts.now)) k)) }
+{
+    image_of(alloc, parts)
+}
