@@ -4,5 +4,6 @@ pub mod Pairs
 pub mod Rules
 pub mod Findings
 pub mod Near
+pub mod FirstLook
 pub mod Numbers
 pub mod Laws

@@ -20,6 +20,11 @@ pub(crate) struct Pair {
     pub(crate) base: u8,
 }
 
+/// `and target, a, x27`, `or target, target, x26`.
+pub(crate) const DATA: Pair = Pair { mask: 27, base: 26 };
+/// `and target, a, x25`, `or target, target, x24`.
+pub(crate) const CODE: Pair = Pair { mask: 25, base: 24 };
+
 /// x24 to x27.
 pub(crate) fn is_reserved(reg: Reg) -> bool
     ensures { result ≡ is_reserved reg }

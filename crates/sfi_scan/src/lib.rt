@@ -6,6 +6,7 @@
 
 mod before;
 mod bundle;
+mod clean;
 mod finding;
 mod findings;
 pub mod laws;

@@ -5,15 +5,10 @@ ghost use Rattle.sfi_scan.specs.Rules.{Place, is_empty, offset_by, is_bundle_sta
 ghost use Rattle.sfi_scan.specs.Findings.{lowest, all_rules};
 ghost use Rattle.sfi_scan.specs.Near.{near, finding_of};
 
-use crate::before::{Before, Pair, is_reserved};
+use crate::before::{Before, CODE, DATA, is_reserved};
 use crate::bundle::BundlePlace;
 use crate::rule::Rule;
 use rv_word::Instr;
-
-/// `and target, a, x27`, `or target, target, x26`.
-const DATA: Pair = Pair { mask: 27, base: 26 };
-/// `and target, a, x25`, `or target, target, x24`.
-const CODE: Pair = Pair { mask: 25, base: 24 };
 
 fn breaks_ecall(place: &BundlePlace, is_first: bool, instr: &Instr) -> bool
     ensures { (x : Place) → x.bundle ≡ place.now → is_empty x.earlier ≡ is_first → result ≡ breaks_ecall x instr.now }
@@ -51,13 +46,13 @@ fn breaks_jump(before: &Before, instr: &Instr) -> bool
     }
 }
 
-fn offset_by(address: u32, offset: i32) -> u32
+pub(crate) fn offset_by(address: u32, offset: i32) -> u32
     ensures { result ≡ offset_by address offset }
 {
     address.wrapping_add_signed(offset)
 }
 
-fn is_bundle_start(place: &BundlePlace, address: u32) -> bool
+pub(crate) fn is_bundle_start(place: &BundlePlace, address: u32) -> bool
     requires { IsWithin place.now }
     ensures { result ≡ is_bundle_start place.now address }
 {
@@ -85,7 +80,7 @@ fn ends_region(instr: &Instr) -> bool
     )
 }
 
-fn is_last_bundle(place: &BundlePlace) -> bool
+pub(crate) fn is_last_bundle(place: &BundlePlace) -> bool
     requires { IsWithin place.now }
     ensures { result ≡ is_last_bundle place.now }
 {

@@ -5,6 +5,7 @@ ghost use Rattle.sfi_scan.specs.Findings.{AreBundleFindings, AreReadingFindings}
 
 use crate::before::Before;
 use crate::bundle::BundlePlace;
+use crate::clean::is_seen_clean;
 use crate::finding::Finding;
 use crate::findings::BundleFindings;
 use crate::rule::Rule;
@@ -29,6 +30,7 @@ fn finding(place: &BundlePlace, offset: usize, rule: Rule) -> Finding
 }
 
 /// Reads the bundle, and replaces the findings by those of its instructions.
+#[inline(never)]
 fn scan_instructions(place: &BundlePlace, bytes: &[u8; 16], findings: &mut BundleFindings)
     requires within { IsWithin place.now }
     ensures { AreReadingFindings place.now bytes.now findings.new }
@@ -67,6 +69,8 @@ pub fn scan_bundle(place: &BundlePlace, bytes: &[u8; 16], findings: &mut BundleF
     if place.listed && *bytes != STUB {
         findings.clear();
         findings.push(finding(place, 0, Rule::V9));
+    } else if is_seen_clean(place, bytes) {
+        findings.clear();
     } else {
         scan_instructions(place, bytes, findings);
     }

@@ -1,0 +1,96 @@
+-- The first look at a bundle: what breaks no rule.
+use Rattle.std.proofs.Common.{◌≡◌, ℕ, ◌==◌, Bool, true, false, List, [], ◌∷◌, Option, Some, None, ℤ, pos, negsuc, of_z, to_z, w32, SFits, refl, sym, ap, ◌∙◌, inl, inr, arith, eq-eqb}
+use Rattle.std.specs.Prelude.{◌&&◌, not}
+use Rattle.std.proofs.lemmas.Bool.{and_parts, ne_eqb}
+use Rattle.std.specs.Bool.{OnTrue}
+use Rattle.std.proofs.lemmas.Int.{to_z-of_z}
+use Rattle.rv_word.specs.declared.instr.Instr.{Instr}
+use Rattle.rv_word.specs.declared.instr.Instr.TheVariants.{Op, OpImm, Load, Store, Branch, Jal, Jalr, Lui, Auipc, Fence, Ecall, Ebreak}
+use Rattle.rv_word.specs.declared.instr.RegOp.TheVariants.{And, Or}
+use Rattle.rv_word.specs.Outlines.{outline}
+use Rattle.rv_word.specs.Spelling.{spelling, IsWordOf}
+use Rattle.rv_word.specs.Laws.{OneSpelling}
+use Rattle.sfi_scan.specs.declared.bundle.BundlePlace.{BundlePlace}
+use Rattle.sfi_scan.specs.declared.clean.Words.{Words}
+use Rattle.sfi_scan.specs.Pairs.{is_reserved, follows_pair, follows_data_pair, follows_code_pair}
+use Rattle.sfi_scan.specs.Readings.{Piece}
+use Rattle.sfi_scan.specs.Rules.{Place, is_last_bundle, is_bundle_start, offset_by}
+use Rattle.sfi_scan.specs.Findings.{lowest, all_rules}
+use Rattle.sfi_scan.specs.FirstLook.{IsWordOr0, AreBefore, is_clean, is_zero}
+use Rattle.sfi_scan.specs.Near.{near}
+
+-- ---- pairs
+
+-- the word of an operation on registers is not 0
+op_word : (t a m : ℕ) → (spelling (Op And t a m) ≡ 0 → ⊥) × (spelling (Op Or t a m) ≡ 0 → ⊥)
+unfolding spelling
+op_word t a m = (λ e. omega arith, λ e. omega arith)
+
+-- an instruction beside a word is that of the word
+beside_is : OneSpelling → (word : ℕ) (i : Instr) (o : Option Instr) → IsWordOf word i → (spelling i ≡ 0 → ⊥) → IsWordOr0 word o → o ≡ Some i
+beside_is law word i None is some near = absurd (some (sym is.1 ∙ near))
+beside_is law word i (Some j) is some (inl none) = absurd (some (sym is.1 ∙ none))
+beside_is law word i (Some j) is some (inr other) = ap Some (law word j i other is)
+
+-- the two nearest are the two that are known
+two_near : (earlier : List Instr) (i j : Instr) → (near earlier).first ≡ Some i → (near earlier).second ≡ Some j → (rest : List Instr) × (earlier ≡ j ∷ i ∷ rest)
+two_near [] i j e f = cc
+two_near (b ∷ []) i j e f = cc
+two_near (b ∷ a ∷ rest) i j e f = (rest, (let x : a ≡ i = cc in let y : b ≡ j = cc in rw (x, y) refl))
+
+both_pair : (m b t a : ℕ) (rest : List Instr) → (t == 0) ≡ false → is_reserved t ≡ false → follows_pair m b t (Op Or t t b ∷ Op And t a m ∷ rest) ≡ true
+both_pair m b t a rest zero reserved = rw (eq-eqb t t refl, eq-eqb m m refl, eq-eqb b b refl, zero, reserved) refl
+
+pub pair_is : OneSpelling → (words : Words) (m b t a : ℕ) (earlier : List Instr) → IsWordOf words.first (Op And t a m) → IsWordOf words.second (Op Or t t b)
+    → (t == 0) ≡ false → is_reserved t ≡ false → AreBefore words (near earlier) → follows_pair m b t earlier ≡ true
+pair_is law words m b t a earlier first second zero reserved are =
+    let masking = beside_is law words.first (Op And t a m) (near earlier).first first (op_word t a m).0 are.first in
+    let placing = beside_is law words.second (Op Or t t b) (near earlier).second second (op_word t t b).1 are.second in
+    let whole = two_near earlier (Op And t a m) (Op Or t t b) masking placing in
+    ap (follows_pair m b t) whole.1 ∙ both_pair m b t a whole.0 zero reserved
+
+pub pair_told : OneSpelling → (words : Words) (m b t a : ℕ) → IsWordOf words.first (Op And t a m) → IsWordOf words.second (Op Or t t b)
+    → (t ≡ 0 → ⊥) → (reserved : Bool) → reserved ≡ is_reserved t → (earlier : List Instr) → AreBefore words (near earlier) → OnTrue (not reserved) (follows_pair m b t earlier ≡ true)
+pair_told law words m b t a first second some true e earlier are = tt
+pair_told law words m b t a first second some false e earlier are = pair_is law words m b t a earlier first second (ne_eqb t 0 some) (sym e) are
+
+-- ---- rules
+
+not_is : (p : Bool) → not p ≡ true → p ≡ false
+not_is true e = sym e
+not_is false e = refl
+
+-- a number whose 32 bits are 0 is 0
+pub zero_of : (z : ℤ) → of_z w32 z ≡ 0 → SFits w32 z → is_zero z ≡ true
+zero_of z e fits = ap is_zero (sym (to_z-of_z w32 z fits) ∙ ap (to_z w32) e)
+
+pub jump_told : (earlier : List Instr) (rd base : ℕ) (z : ℤ) → is_zero z ≡ true → is_reserved rd ≡ false
+    → (p : Bool) → OnTrue p (follows_pair 25 24 base earlier ≡ true) → OnTrue p ((not (is_reserved rd) && (is_zero z && follows_code_pair base earlier)) ≡ true)
+jump_told earlier rd base z g f false h = tt
+jump_told earlier rd base z g f true h = rw (g, f, h) refl
+
+-- an instruction that is clean there breaks no rule, where the bundle is not the region's last
+clean_one : (b : BundlePlace) (at : ℕ) (earlier : List Instr) (i : Instr) (later : List Piece) (whole : Bool) → is_last_bundle b ≡ false → is_clean b at earlier (outline i) ≡ true
+    → lowest (record { bundle = b; address = at; earlier = earlier; instr = i; later = later; whole = whole }) all_rules ≡ []
+clean_one b at earlier (Op op rd rs1 rs2) later whole last clean = rw (not_is (is_reserved rd) clean, last) refl
+clean_one b at earlier (OpImm op rd rs1 imm) later whole last clean = rw (not_is (is_reserved rd) clean, last) refl
+clean_one b at earlier (Load kind rd rs1 imm) later whole last clean =
+    let both = and_parts (not (is_reserved rd)) (follows_data_pair rs1 earlier) clean in
+    rw (not_is (is_reserved rd) both.0, both.1, last) refl
+clean_one b at earlier (Store width rs1 rs2 imm) later whole last clean = rw (clean, last) refl
+clean_one b at earlier (Branch cond rs1 rs2 offset) later whole last clean = rw (clean, last) refl
+clean_one b at earlier (Jal rd offset) later whole last clean =
+    let both = and_parts (not (is_reserved rd)) (is_bundle_start b (offset_by at offset)) clean in
+    rw (not_is (is_reserved rd) both.0, both.1, last) refl
+clean_one b at earlier (Jalr rd rs1 (pos n)) later whole last clean =
+    let both = and_parts (not (is_reserved rd)) ((n == 0) && follows_code_pair rs1 earlier) clean in
+    rw (not_is (is_reserved rd) both.0, both.1, last) refl
+clean_one b at earlier (Jalr rd rs1 (negsuc n)) later whole last clean = absurd (let both = and_parts (not (is_reserved rd)) false clean in cc)
+clean_one b at earlier (Lui rd imm) later whole last clean = rw (not_is (is_reserved rd) clean, last) refl
+clean_one b at earlier (Auipc rd imm) later whole last clean = rw (not_is (is_reserved rd) clean, last) refl
+clean_one b at earlier (Fence imm rd rs1) later whole last clean = rw last refl
+clean_one b at earlier Ecall later whole last clean = absurd cc
+clean_one b at earlier Ebreak later whole last clean = rw last refl
+
+pub clean_is : (x : Place) → is_last_bundle x.bundle ≡ false → is_clean x.bundle x.address x.earlier (outline x.instr) ≡ true → lowest x all_rules ≡ []
+clean_is x last clean = clean_one x.bundle x.address x.earlier x.instr x.later x.whole last clean

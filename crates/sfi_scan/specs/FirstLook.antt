@@ -1,0 +1,45 @@
+-- Words of private contracts: the first look at a bundle.
+use Rattle.std.specs.Prelude.{◌≡◌, ◌⊎◌, ◌&&◌, ◌==◌, not, ℕ, ℤ, pos, negsuc, List, Bool, true, false, Option, Some, None}
+use Rattle.rv_word.specs.declared.instr.Instr.{Instr}
+use Rattle.rv_word.specs.declared.outline.Outline.{Outline}
+use Rattle.rv_word.specs.declared.outline.Outline.TheVariants.{Computes, Loads, Stores, Branches, Jumps, JumpsTo, Orders, Calls, Stops}
+use Rattle.rv_word.specs.Outlines.{outline}
+use Rattle.rv_word.specs.Spelling.{IsWordOf}
+use Rattle.sfi_scan.specs.declared.before.Before.{Before}
+use Rattle.sfi_scan.specs.declared.bundle.BundlePlace.{BundlePlace}
+use Rattle.sfi_scan.specs.declared.clean.Words.{Words}
+use Rattle.sfi_scan.specs.Near.{near}
+use Rattle.sfi_scan.specs.Pairs.{is_reserved, follows_data_pair, follows_code_pair}
+use Rattle.sfi_scan.specs.Rules.{is_bundle_start, offset_by}
+
+-- the instruction's word, or 0; 0 where there is none
+abbrev pub IsWordOr0 : ℕ → Option Instr → Type 0
+IsWordOr0 word None = word ≡ 0
+IsWordOr0 word (Some i) = (word ≡ 0) ⊎ IsWordOf word i
+
+-- the words of the two nearest instructions, or 0
+pub record AreBefore (words : Words) (before : Before) : Type 0 where
+  pub first : IsWordOr0 words.first before.first
+  pub second : IsWordOr0 words.second before.second
+
+abbrev pub is_zero : ℤ → Bool
+is_zero (pos n) = n == 0
+is_zero (negsuc n) = false
+
+-- an instruction that does this at the address breaks no rule of V3 to V7, nor does it if it is listed
+abbrev pub is_clean : BundlePlace → ℕ → List Instr → Outline → Bool
+is_clean b at earlier (Computes rd) = not (is_reserved rd)
+is_clean b at earlier (Loads rd base) = not (is_reserved rd) && follows_data_pair base earlier
+is_clean b at earlier (Stores base) = follows_data_pair base earlier
+is_clean b at earlier (Branches offset) = is_bundle_start b (offset_by at offset)
+is_clean b at earlier (Jumps rd offset) = not (is_reserved rd) && is_bundle_start b (offset_by at offset)
+is_clean b at earlier (JumpsTo rd base imm) = not (is_reserved rd) && (is_zero imm && follows_code_pair base earlier)
+is_clean b at earlier Orders = true
+is_clean b at earlier Calls = false
+is_clean b at earlier Stops = true
+
+-- what is spelled is an instruction that breaks none of them behind these words
+pub record IsCleanOne (b : BundlePlace) (at : ℕ) (words : Words) (spell : Instr → Type 0) : Type 0 where
+  pub instr : Instr
+  pub spelled : spell instr
+  pub clean : (earlier : List Instr) → AreBefore words (near earlier) → is_clean b at earlier (outline instr) ≡ true
