@@ -1,4 +1,6 @@
+pub mod Agreeing
 pub mod Bytes
+pub mod Calls
 pub mod Fetching
 pub mod Found
 pub mod Harts

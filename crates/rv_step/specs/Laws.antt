@@ -1,8 +1,9 @@
 -- What holds of every step.
-use Rattle.std.specs.Prelude.{◌≡◌, ◌≢◌, ℕ, IsSome}
+use Rattle.std.specs.Prelude.{◌≡◌, ◌≢◌, ℕ, ◌<◌, IsSome}
 use Rattle.rv_word.specs.declared.instr.Instr.{Instr}
-use Rattle.rv_mem.specs.Bytes.{byte_at}
-use Rattle.rv_step.specs.declared.outcome.Outcome.TheVariants.{Next}
+use Rattle.rv_word.specs.declared.instr.Instr.TheVariants.{Ecall}
+use Rattle.rv_mem.specs.Bytes.{byte_at, address_after}
+use Rattle.rv_step.specs.declared.outcome.Outcome.TheVariants.{Next, Call}
 use Rattle.rv_step.specs.Access.{Accesses}
 use Rattle.rv_step.specs.State.{State, IsState}
 use Rattle.rv_step.specs.Step.{Stepped, Stands, effect, IsStep}
@@ -44,3 +45,39 @@ abbrev pub AccessedIsThere : Type 0
 AccessedIsThere =
     (s : State) (i : Instr) (n : ℕ) (r : Stepped) (a : ℕ) → Stands s i n → IsStep s r
     → r.outcome ≡ Next → Accesses i s.hart a → IsSome (byte_at s.memory a)
+
+-- a step takes no byte away
+abbrev pub NoByteGoes : Type 0
+NoByteGoes = (s : State) (r : Stepped) (a : ℕ) → IsStep s r → IsSome (byte_at s.memory a) → IsSome (byte_at r.state.memory a)
+
+-- a step that calls is at an ecall
+abbrev pub CallsAreEcalls : Type 0
+CallsAreEcalls = (s : State) (r : Stepped) → IsStep s r → r.outcome ≡ Call → (n : ℕ) × Stands s Ecall n
+
+-- ---- two memories
+
+-- the memories have the same at the address: one byte, or none
+abbrev pub AgreeAt : State → State → ℕ → Type 0
+AgreeAt s t a = byte_at t.memory a ≡ byte_at s.memory a
+
+-- two states of one hart, whose memories agree at each byte of the instruction at pc, and at each byte that it accesses
+pub record AgreeHere (s t : State) (i : Instr) (n : ℕ) : Type 0 where
+  pub stands : Stands s i n
+  pub hart : t.hart ≡ s.hart
+  pub instruction : (k : ℕ) → k < n → AgreeAt s t (address_after s.hart.pc k)
+  pub access : (a : ℕ) → Accesses i s.hart a → AgreeAt s t a
+
+-- that instruction stands at the pc of the second too
+abbrev pub AgreeingStandsToo : Type 0
+AgreeingStandsToo = (s t : State) (i : Instr) (n : ℕ) → AgreeHere s t i n → Stands t i n
+
+-- The steps come to one outcome and one hart, and their memories still agree wherever they did. So they wrote the same bytes.
+pub record IsSameStep (s t : State) (r q : Stepped) : Type 0 where
+  pub outcome : q.outcome ≡ r.outcome
+  pub hart : q.state.hart ≡ r.state.hart
+  pub bytes : (a : ℕ) → AgreeAt s t a → AgreeAt r.state q.state a
+
+-- what a step does is told by its hart, and by the bytes of its instruction and of that one's access alone
+abbrev pub AgreeingStepsAreSame : Type 0
+AgreeingStepsAreSame =
+    (s t : State) (i : Instr) (n : ℕ) (r q : Stepped) → AgreeHere s t i n → IsStep s r → IsStep t q → IsSameStep s t r q

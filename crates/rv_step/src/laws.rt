@@ -1,5 +1,5 @@
 //! What holds of every step. A call costs nothing.
-ghost use Rattle.rv_step.specs.Laws.{OneInstruction, OneStep, SomeStep, StepIsEffect, StepKeepsState, StoppedStays, OtherBytesStay, AccessedIsThere};
+ghost use Rattle.rv_step.specs.Laws.{OneInstruction, OneStep, SomeStep, StepIsEffect, StepKeepsState, StoppedStays, OtherBytesStay, AccessedIsThere, NoByteGoes, CallsAreEcalls, AgreeingStandsToo, AgreeingStepsAreSame};
 
 use rv_comp::laws::{one_front, one_spelling, some_front, spelled_in_range, two_lengths};
 
@@ -57,6 +57,28 @@ pub fn other_bytes_stay()
 /// A step that is done found every byte that its instruction accesses.
 pub fn accessed_is_there()
     ensures { AccessedIsThere }
+{
+    step_is_effect();
+}
+
+/// A step takes no byte away.
+pub fn no_byte_goes()
+    ensures { NoByteGoes }
+{}
+
+/// A step that calls is at an ecall.
+pub fn calls_are_ecalls()
+    ensures { CallsAreEcalls }
+{}
+
+/// Where two memories agree on the bytes of an instruction, it stands in both.
+pub fn agreeing_stands_too()
+    ensures { AgreeingStandsToo }
+{}
+
+/// What a step does is told by its hart, and by the bytes of its instruction and of that one's access alone.
+pub fn agreeing_steps_are_same()
+    ensures { AgreeingStepsAreSame }
 {
     step_is_effect();
 }
