@@ -1,37 +1,52 @@
 -- How operands are read, part by part.
-use Rattle.std.proofs.Common.{◌≡◌, ℕ, Bool, true, false, ◌||◌, ◌&&◌, not, List, [], ◌∷◌, length, ◌⊎◌, inl, inr, refl, sym, ◌∙◌, subst, arith, ℤ, nat_lt, Result, Ok, Err, IfOk, IfErr}
+use Rattle.std.proofs.Common.{◌≡◌, ℕ, Bool, true, false, ◌||◌, ◌&&◌, not, List, [], ◌∷◌, length, ◌⊎◌, inl, inr, ◌≤◌, refl, sym, ap, ◌∙◌, subst, arith, ℤ, nat_lt, Result, Ok, Err, IfOk, IfErr}
 use Rattle.std.specs.Prelude.{IsTrue, ◌==◌}
 use Rattle.std.proofs.lemmas.Bool.Decides.{nat_tests}
 use Rattle.rv_text.specs.declared.form.Part.{Part}
-use Rattle.rv_text.specs.declared.form.Part.TheVariants.{Rd, Rs1, Rs2, Number, Comma, Open, Close}
+use Rattle.rv_text.specs.declared.form.Part.TheVariants.{Rd, Rs1, Rs2, Number, Name, Mode, Comma, Open, Close}
 use Rattle.rv_text.specs.declared.operands.Operands.{Operands}
 use Rattle.rv_text.specs.declared.cause.TextCause.{TextCause}
 use Rattle.rv_text.specs.declared.cause.TextCause.TheVariants as cause
 use Rattle.rv_text.specs.Registers.{IsRegister}
-use Rattle.rv_text.specs.Tokens.{Takes, IsBlank, IsStuck, IsNumber}
+use Rattle.rv_text.specs.Tokens.{Takes, IsBlank, IsStuck, IsNumber, IsLabel}
 use Rattle.rv_text.specs.Forms.{IsNumberOf}
-use Rattle.rv_text.specs.Operands.{Stands, Departs, part_cause}
-use Rattle.rv_text.specs.Reading.{Reads, operand_at, KeepsOthers, Suits, Fits, slot, is_fresh, has_no_repeat}
+use Rattle.rv_text.specs.Operands.{Given, given, Stands, Departs, part_cause, mode_name}
+use Rattle.rv_text.specs.Reading.{Reads, SameAt, KeepsOthers, Suits, Fits, slot, is_fresh, has_no_repeat}
 
 -- a token stands at a part by the operand there
-pub stands_by_operand : (a b : Operands) (part : Part) (token : List ℕ) → operand_at a part ≡ operand_at b part → Stands b part token → Stands a part token
-stands_by_operand a b Rd token e h = let same : a.rd ≡ b.rd = cc in subst (IsRegister token) (sym same) h
-stands_by_operand a b Rs1 token e h = let same : a.rs1 ≡ b.rs1 = cc in subst (IsRegister token) (sym same) h
-stands_by_operand a b Rs2 token e h = let same : a.rs2 ≡ b.rs2 = cc in subst (IsRegister token) (sym same) h
+pub stands_by_operand : (a b : Given) (part : Part) (token : List ℕ) → SameAt part a b → Stands b part token → Stands a part token
+stands_by_operand a b Rd token e h = subst (IsRegister token) (sym e) h
+stands_by_operand a b Rs1 token e h = subst (IsRegister token) (sym e) h
+stands_by_operand a b Rs2 token e h = subst (IsRegister token) (sym e) h
 stands_by_operand a b (Number kind) token e h = subst (λ (z : ℤ). IsNumber token z × IsNumberOf kind z) (sym e) h
+stands_by_operand a b Name token e h = (h.0, h.1, h.2 ∙ sym e)
+stands_by_operand a b Mode token e h = h ∙ ap mode_name (sym e)
 stands_by_operand a b Comma token e h = h
 stands_by_operand a b Open token e h = h
 stands_by_operand a b Close token e h = h
 
--- a mark has one operand, 0
-same_at_mark : (a b : Operands) (part : Part) → nat_lt 3 (slot part) ≡ true → operand_at a part ≡ operand_at b part
+-- a mark has one operand
+same_at_mark : (a b : Given) (part : Part) → nat_lt 5 (slot part) ≡ true → SameAt part a b
 same_at_mark a b Rd h = cc
 same_at_mark a b Rs1 h = cc
 same_at_mark a b Rs2 h = cc
 same_at_mark a b (Number kind) h = cc
-same_at_mark a b Comma h = refl
-same_at_mark a b Open h = refl
-same_at_mark a b Close h = refl
+same_at_mark a b Name h = cc
+same_at_mark a b Mode h = cc
+same_at_mark a b Comma h = tt
+same_at_mark a b Open h = tt
+same_at_mark a b Close h = tt
+
+same_through : (part : Part) (a b c : Given) → SameAt part a b → SameAt part b c → SameAt part a c
+same_through Rd a b c e f = e ∙ f
+same_through Rs1 a b c e f = e ∙ f
+same_through Rs2 a b c e f = e ∙ f
+same_through (Number kind) a b c e f = e ∙ f
+same_through Name a b c e f = e ∙ f
+same_through Mode a b c e f = e ∙ f
+same_through Comma a b c e f = tt
+same_through Open a b c e f = tt
+same_through Close a b c e f = tt
 
 not_true : (b : Bool) → not b ≡ true → b ≡ false
 not_true true h = cc
@@ -46,10 +61,10 @@ and_parts true b h = (refl, h)
 and_parts false b h = cc
 
 -- what is read at the part first stays while the rest is read
-pub reads_part : (first all : Operands) (part : Part) (form : List Part) (text token rest : List ℕ) → has_no_repeat (part ∷ form) ≡ true → Takes text token rest → Stands first part token → Reads all form rest → ((p : Part) → IsTrue (is_fresh p form) → operand_at all p ≡ operand_at first p) → Reads all (part ∷ form) text
+pub reads_part : (first all : Given) (part : Part) (form : List Part) (text token rest : List ℕ) → has_no_repeat (part ∷ form) ≡ true → Takes text token rest → Stands first part token → Reads all form rest → ((p : Part) → IsTrue (is_fresh p form) → SameAt p all first) → Reads all (part ∷ form) text
 reads_part first all part form text token rest fresh takes stands reads keeps =
     let parts = and_parts _ _ fresh in
-    let same : operand_at all part ≡ operand_at first part = elim (or_cases _ _ parts.0) [ inl mark ↦ same_at_mark all first part mark | inr f ↦ keeps part f ] in
+    let same : SameAt part all first = elim (or_cases _ _ parts.0) [ inl mark ↦ same_at_mark all first part mark | inr f ↦ keeps part f ] in
     (token, rest, takes, stands_by_operand all first part token same stands, reads)
 
 pub more_has_no_repeat : (part : Part) (form : List Part) → has_no_repeat (part ∷ form) ≡ true → has_no_repeat form ≡ true
@@ -59,21 +74,21 @@ slot_differs : (p part : Part) → (slot part == slot p) ≡ false → slot p �
 slot_differs p part h e = grind (arith, nat_tests)
 
 -- the operands at the other parts are kept
-pub keeps_part : (old first all : Operands) (part : Part) (form : List Part) → KeepsOthers part old first → ((p : Part) → IsTrue (is_fresh p form) → operand_at all p ≡ operand_at first p) → (p : Part) → IsTrue (is_fresh p (part ∷ form)) → operand_at all p ≡ operand_at old p
+pub keeps_part : (old first all : Given) (part : Part) (form : List Part) → KeepsOthers part old first → ((p : Part) → IsTrue (is_fresh p form) → SameAt p all first) → (p : Part) → IsTrue (is_fresh p (part ∷ form)) → SameAt p all old
 keeps_part old first all part form others keeps p fresh =
     let parts = and_parts _ _ fresh in
-    keeps p parts.1 ∙ others p (slot_differs p part (not_true _ parts.0))
+    same_through p all first old (keeps p parts.1) (others p (slot_differs p part (not_true _ parts.0)))
 
-pub reads_result : (r : Result Operands TextCause) (whole : List Part) (first : Operands) (part : Part) (form : List Part) (text token rest : List ℕ) → whole ≡ part ∷ form → has_no_repeat whole ≡ true → Takes text token rest → Stands first part token
-    → IfOk r (λ o. Reads o form rest) → IfOk r (λ o. (p : Part) → IsTrue (is_fresh p form) → operand_at o p ≡ operand_at first p) → IfOk r (λ o. Reads o whole text)
+pub reads_result : (r : Result Operands TextCause) (whole : List Part) (first : Given) (part : Part) (form : List Part) (text token rest : List ℕ) → whole ≡ part ∷ form → has_no_repeat whole ≡ true → Takes text token rest → Stands first part token
+    → IfOk r (λ o. Reads (given o) form rest) → IfOk r (λ o. (p : Part) → IsTrue (is_fresh p form) → SameAt p (given o) first) → IfOk r (λ o. Reads (given o) whole text)
 reads_result (Ok all) whole first part form text token rest e fresh takes stands reads keeps =
-    subst (λ f. Reads all f text) (sym e) (reads_part first all part form text token rest (subst (λ f. has_no_repeat f ≡ true) e fresh) takes stands reads keeps)
+    subst (λ f. Reads (given all) f text) (sym e) (reads_part first (given all) part form text token rest (subst (λ f. has_no_repeat f ≡ true) e fresh) takes stands reads keeps)
 reads_result (Err e) whole first part form text token rest same fresh takes stands reads keeps = tt
 
-pub keeps_result : (r : Result Operands TextCause) (whole : List Part) (old first : Operands) (part : Part) (form : List Part) → whole ≡ part ∷ form → KeepsOthers part old first
-    → IfOk r (λ o. (p : Part) → IsTrue (is_fresh p form) → operand_at o p ≡ operand_at first p) → IfOk r (λ o. (p : Part) → IsTrue (is_fresh p whole) → operand_at o p ≡ operand_at old p)
+pub keeps_result : (r : Result Operands TextCause) (whole : List Part) (old first : Given) (part : Part) (form : List Part) → whole ≡ part ∷ form → KeepsOthers part old first
+    → IfOk r (λ o. (p : Part) → IsTrue (is_fresh p form) → SameAt p (given o) first) → IfOk r (λ o. (p : Part) → IsTrue (is_fresh p whole) → SameAt p (given o) old)
 keeps_result (Ok all) whole old first part form e others keeps =
-    subst (λ f. (p : Part) → IsTrue (is_fresh p f) → operand_at all p ≡ operand_at old p) (sym e) (keeps_part old first all part form others keeps)
+    subst (λ f. (p : Part) → IsTrue (is_fresh p f) → SameAt p (given all) old) (sym e) (keeps_part old first (given all) part form others keeps)
 keeps_result (Err e) whole old first part form same others keeps = tt
 
 -- the causes for which a text departs from a form
@@ -89,23 +104,25 @@ module _ (whole : List Part) (part : Part) (form : List Part) (same : whole ≡ 
   pub departs_missing : IsBlank text → Departs whole text cause.Operands
   departs_missing blank = subst (λ f. Departs f text cause.Operands) (sym same) (inr (inl (blank, refl)))
 
-  pub departs_other : (token rest : List ℕ) (e : TextCause) → Takes text token rest → ((o : Operands) → Stands o part token → ⊥) → e ≡ part_cause part → Departs whole text e
+  pub departs_other : (token rest : List ℕ) (e : TextCause) → Takes text token rest → ((o : Given) → Stands o part token → ⊥) → e ≡ part_cause part token → Departs whole text e
   departs_other token rest e takes none is = subst (λ f. Departs f text e) (sym same) (inr (inr (token, rest, takes, inl (none, is))))
 
-  pub departs_later : (r : Result Operands TextCause) (first : Operands) (token rest : List ℕ) → Takes text token rest → Stands first part token → IfErr r (λ e. Departs form rest e) → IfErr r (λ e. Departs whole text e)
+  pub departs_later : (r : Result Operands TextCause) (first : Given) (token rest : List ℕ) → Takes text token rest → Stands first part token → IfErr r (λ e. Departs form rest e) → IfErr r (λ e. Departs whole text e)
   departs_later (Ok all) first token rest takes stands h = tt
   departs_later (Err e) first token rest takes stands h = subst (λ f. Departs f text e) (sym same) (inr (inr (token, rest, takes, inr (first, stands, h))))
 
 -- what is read fits its form
-stands_suits : (o : Operands) (part : Part) (token : List ℕ) → Stands o part token → Suits o part
+pub stands_suits : (o : Given) (part : Part) (token : List ℕ) → Stands o part token → Suits o part
 stands_suits o Rd token h = h.0
 stands_suits o Rs1 token h = h.0
 stands_suits o Rs2 token h = h.0
 stands_suits o (Number kind) token h = h.1
+stands_suits o Name token h = (subst IsLabel h.2 h.0, subst (λ (t : List ℕ). length t ≤ 64) h.2 h.1)
+stands_suits o Mode token h = tt
 stands_suits o Comma token h = tt
 stands_suits o Open token h = tt
 stands_suits o Close token h = tt
 
-pub reads_fit : (o : Operands) (form : List Part) (text : List ℕ) → Reads o form text → Fits o form
+pub reads_fit : (o : Given) (form : List Part) (text : List ℕ) → Reads o form text → Fits o form
 reads_fit o [] text h = tt
 reads_fit o (part ∷ form) text (t, r, takes, stands, reads) = (stands_suits o part t stands, reads_fit o form r reads)

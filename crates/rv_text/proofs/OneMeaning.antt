@@ -5,11 +5,10 @@ use Rattle.rv_word.specs.declared.instr.Instr.TheVariants as instr
 use Rattle.rv_word.specs.Spelling.{InRange}
 use Rattle.rv_text.specs.declared.mnemonic.Mnemonic.{Mnemonic}
 use Rattle.rv_text.specs.declared.mnemonic.Mnemonic.TheVariants as mnemonic
-use Rattle.rv_text.specs.declared.form.Part.TheVariants.{Rd, Rs1, Rs2}
-use Rattle.rv_text.specs.declared.operands.Operands.{Operands}
+use Rattle.rv_text.specs.Operands.{Given}
 use Rattle.rv_text.specs.Tokens.{IsBlank}
 use Rattle.rv_text.specs.Forms.{form_of}
-use Rattle.rv_text.specs.Reading.{Reads, operand_at, AgreesOn, Follows}
+use Rattle.rv_text.specs.Reading.{Reads, AgreesOn, Follows}
 use Rattle.rv_text.specs.Statement.{mnemonic_of, operands_of}
 use Rattle.rv_text.specs.Laws.{OneMeaning, MeaningsAreInRange}
 use Rattle.rv_text.proofs.Names.{name_unique}
@@ -23,17 +22,17 @@ abbrev natural : ℤ → ℕ
 natural (pos n) = n
 natural (negsuc n) = 0
 
-abbrev made : Mnemonic → Operands → Instr
-made (mnemonic.Op op) o = instr.Op op (natural (operand_at o Rd)) (natural (operand_at o Rs1)) (natural (operand_at o Rs2))
-made (mnemonic.OpImm op) o = instr.OpImm op (natural (operand_at o Rd)) (natural (operand_at o Rs1)) o.number
-made (mnemonic.Load kind) o = instr.Load kind (natural (operand_at o Rd)) (natural (operand_at o Rs1)) o.number
-made (mnemonic.Store width) o = instr.Store width (natural (operand_at o Rs1)) (natural (operand_at o Rs2)) o.number
-made (mnemonic.Branch cond) o = instr.Branch cond (natural (operand_at o Rs1)) (natural (operand_at o Rs2)) o.number
-made mnemonic.Jal o = instr.Jal (natural (operand_at o Rd)) o.number
-made mnemonic.Jalr o = instr.Jalr (natural (operand_at o Rd)) (natural (operand_at o Rs1)) o.number
-made mnemonic.Lui o = instr.Lui (natural (operand_at o Rd)) (natural o.number)
-made mnemonic.Auipc o = instr.Auipc (natural (operand_at o Rd)) (natural o.number)
-made mnemonic.Fence o = instr.Fence (natural o.number) (natural (operand_at o Rd)) (natural (operand_at o Rs1))
+abbrev made : Mnemonic → Given → Instr
+made (mnemonic.Op op) o = instr.Op op o.rd o.rs1 o.rs2
+made (mnemonic.OpImm op) o = instr.OpImm op o.rd o.rs1 o.number
+made (mnemonic.Load kind) o = instr.Load kind o.rd o.rs1 o.number
+made (mnemonic.Store width) o = instr.Store width o.rs1 o.rs2 o.number
+made (mnemonic.Branch cond) o = instr.Branch cond o.rs1 o.rs2 o.number
+made mnemonic.Jal o = instr.Jal o.rd o.number
+made mnemonic.Jalr o = instr.Jalr o.rd o.rs1 o.number
+made mnemonic.Lui o = instr.Lui o.rd (natural o.number)
+made mnemonic.Auipc o = instr.Auipc o.rd (natural o.number)
+made mnemonic.Fence o = instr.Fence (natural o.number) o.rd o.rs1
 made mnemonic.Ecall o = instr.Ecall
 made mnemonic.Ebreak o = instr.Ebreak
 
@@ -51,17 +50,17 @@ made_own (instr.Fence imm rd rs1) = refl
 made_own instr.Ecall = refl
 made_own instr.Ebreak = refl
 
-made_agrees : (m : Mnemonic) (a b : Operands) → AgreesOn (form_of m) a b → made m a ≡ made m b
-made_agrees (mnemonic.Op op) a b h = λ i. instr.Op op (natural (h.0 i)) (natural (h.1.1.0 i)) (natural (h.1.1.1.1.0 i))
-made_agrees (mnemonic.OpImm op) a b h = λ i. instr.OpImm op (natural (h.0 i)) (natural (h.1.1.0 i)) (h.1.1.1.1.0 i)
-made_agrees (mnemonic.Load kind) a b h = λ i. instr.Load kind (natural (h.0 i)) (natural (h.1.1.1.1.0 i)) (h.1.1.0 i)
-made_agrees (mnemonic.Store width) a b h = λ i. instr.Store width (natural (h.1.1.1.1.0 i)) (natural (h.0 i)) (h.1.1.0 i)
-made_agrees (mnemonic.Branch cond) a b h = λ i. instr.Branch cond (natural (h.0 i)) (natural (h.1.1.0 i)) (h.1.1.1.1.0 i)
-made_agrees mnemonic.Jal a b h = λ i. instr.Jal (natural (h.0 i)) (h.1.1.0 i)
-made_agrees mnemonic.Jalr a b h = λ i. instr.Jalr (natural (h.0 i)) (natural (h.1.1.1.1.0 i)) (h.1.1.0 i)
-made_agrees mnemonic.Lui a b h = λ i. instr.Lui (natural (h.0 i)) (natural (h.1.1.0 i))
-made_agrees mnemonic.Auipc a b h = λ i. instr.Auipc (natural (h.0 i)) (natural (h.1.1.0 i))
-made_agrees mnemonic.Fence a b h = λ i. instr.Fence (natural (h.0 i)) (natural (h.1.1.0 i)) (natural (h.1.1.1.1.0 i))
+made_agrees : (m : Mnemonic) (a b : Given) → AgreesOn (form_of m) a b → made m a ≡ made m b
+made_agrees (mnemonic.Op op) a b h = λ i. instr.Op op (h.0 i) (h.1.1.0 i) (h.1.1.1.1.0 i)
+made_agrees (mnemonic.OpImm op) a b h = λ i. instr.OpImm op (h.0 i) (h.1.1.0 i) (h.1.1.1.1.0 i)
+made_agrees (mnemonic.Load kind) a b h = λ i. instr.Load kind (h.0 i) (h.1.1.1.1.0 i) (h.1.1.0 i)
+made_agrees (mnemonic.Store width) a b h = λ i. instr.Store width (h.1.1.1.1.0 i) (h.0 i) (h.1.1.0 i)
+made_agrees (mnemonic.Branch cond) a b h = λ i. instr.Branch cond (h.0 i) (h.1.1.0 i) (h.1.1.1.1.0 i)
+made_agrees mnemonic.Jal a b h = λ i. instr.Jal (h.0 i) (h.1.1.0 i)
+made_agrees mnemonic.Jalr a b h = λ i. instr.Jalr (h.0 i) (h.1.1.1.1.0 i) (h.1.1.0 i)
+made_agrees mnemonic.Lui a b h = λ i. instr.Lui (h.0 i) (natural (h.1.1.0 i))
+made_agrees mnemonic.Auipc a b h = λ i. instr.Auipc (h.0 i) (natural (h.1.1.0 i))
+made_agrees mnemonic.Fence a b h = λ i. instr.Fence (natural (h.0 i)) (h.1.1.0 i) (h.1.1.1.1.0 i)
 made_agrees mnemonic.Ecall a b h = refl
 made_agrees mnemonic.Ebreak a b h = refl
 
@@ -70,12 +69,12 @@ same_instr i j same h =
     sym (made_own i) ∙ made_agrees (mnemonic_of i) (operands_of i) (operands_of j) h ∙ ap (λ m. made m (operands_of j)) (sym same) ∙ made_own j
 
 -- a fence with operands isn't one without
-no_bare : (o : Operands) (rest : List ℕ) (m : Mnemonic) → mnemonic.Fence ≡ m → IsBlank rest → Reads o (form_of m) rest → ⊥
+no_bare : (o : Given) (rest : List ℕ) (m : Mnemonic) → mnemonic.Fence ≡ m → IsBlank rest → Reads o (form_of m) rest → ⊥
 no_bare o rest m fence blank reads =
     let (t, r, takes, stands, more) = subst (λ x. Reads o (form_of x) rest) (sym fence) reads in
     blank_takes_none rest t r blank takes
 
-follows_one : (rest : List ℕ) (i j : Instr) → mnemonic_of j ≡ mnemonic_of i → Follows rest i → Follows rest j → i ≡ j
+pub follows_one : (rest : List ℕ) (i j : Instr) → mnemonic_of j ≡ mnemonic_of i → Follows rest i → Follows rest j → i ≡ j
 follows_one rest i j same (inl h) (inl k) = same_instr i j same (agree (operands_of i) (operands_of j) (form_of (mnemonic_of i)) rest h (subst (λ m. Reads (operands_of j) (form_of m) rest) same k))
 follows_one rest i j same (inl h) (inr (fence, blank)) = absurd (no_bare (operands_of i) rest (mnemonic_of i) (sym (ap mnemonic_of fence) ∙ same) blank h)
 follows_one rest i j same (inr (fence, blank)) (inl k) = absurd (no_bare (operands_of j) rest (mnemonic_of j) (sym (ap mnemonic_of fence) ∙ sym same) blank k)
@@ -89,7 +88,7 @@ one_meaning text i j h k =
     follows_one rest i j (name_unique (mnemonic_of j) (mnemonic_of i) (n.0 ∙ sym m.0)) m.1 n.1
 
 -- what follows the name is in range
-follows_in_range : (rest : List ℕ) (i : Instr) → Follows rest i → InRange i
+pub follows_in_range : (rest : List ℕ) (i : Instr) → Follows rest i → InRange i
 follows_in_range rest i (inl h) = fits_in_range i (reads_fit (operands_of i) (form_of (mnemonic_of i)) rest h)
 follows_in_range rest i (inr (fence, blank)) = subst InRange (sym fence) full_fence_in_range
 

@@ -16,7 +16,7 @@ use Rattle.rv_word.specs.declared.instr.Cond.TheVariants.{Beq}
 use Rattle.rv_text.specs.declared.mnemonic.Mnemonic.{Mnemonic}
 use Rattle.rv_text.specs.declared.mnemonic.Mnemonic.TheVariants.{Op, OpImm, Load, Store, Branch}
 use Rattle.rv_text.specs.declared.form.NumberKind.{NumberKind}
-use Rattle.rv_text.specs.declared.form.NumberKind.TheVariants.{Immediate, ShiftAmount, BranchOffset, JumpOffset, Upper, FenceFields}
+use Rattle.rv_text.specs.declared.form.NumberKind.TheVariants.{Immediate, ShiftAmount, BranchOffset, JumpOffset, Upper, FenceFields, DataSize, Service, Word, Half, Byte, ZeroCount}
 use Rattle.rv_text.specs.Tokens.{begins_name, continues_name, IsName, IsNumber, IsInReach, IsToken}
 use Rattle.rv_text.specs.Registers.{x_name}
 use Rattle.rv_text.specs.Mnemonics.{name_of}
@@ -26,7 +26,7 @@ use Rattle.rv_text.proofs.Lexing.{Passes, numeral_passes}
 use Rattle.rv_text.proofs.Numbers.{kind_in_reach}
 
 -- each name begins with a letter, and goes on with letters, digits, `_` and `.`
-abbrev is_name : List ℕ → Bool
+abbrev pub is_name : List ℕ → Bool
 is_name [] = false
 is_name (c ∷ cs) = begins_name c && list_all continues_name cs
 
@@ -38,7 +38,7 @@ all_pass : (p : ℕ → Bool) (text : List ℕ) → list_all p text ≡ true →
 all_pass p [] h = tt
 all_pass p (c ∷ cs) h = let parts = and_parts _ _ h in (parts.0, all_pass p cs parts.1)
 
-name_from : (text : List ℕ) → is_name text ≡ true → IsName text
+pub name_from : (text : List ℕ) → is_name text ≡ true → IsName text
 name_from [] h = absurd (false≢true h)
 name_from (c ∷ cs) h = let parts = and_parts _ _ h in (parts.0, all_pass continues_name cs parts.1)
 
@@ -96,3 +96,9 @@ printed_number ShiftAmount z h = decimal_number z (kind_in_reach ShiftAmount z h
 printed_number BranchOffset z h = decimal_number z (kind_in_reach BranchOffset z h)
 printed_number JumpOffset z h = decimal_number z (kind_in_reach JumpOffset z h)
 printed_number FenceFields z h = decimal_number z (kind_in_reach FenceFields z h)
+printed_number DataSize z h = decimal_number z (kind_in_reach DataSize z h)
+printed_number Service z h = decimal_number z (kind_in_reach Service z h)
+printed_number Word z h = decimal_number z (kind_in_reach Word z h)
+printed_number Half z h = decimal_number z (kind_in_reach Half z h)
+printed_number Byte z h = decimal_number z (kind_in_reach Byte z h)
+printed_number ZeroCount z h = decimal_number z (kind_in_reach ZeroCount z h)

@@ -4,11 +4,10 @@ use Rattle.rv_word.specs.declared.instr.Instr.{Instr}
 use Rattle.rv_text.specs.declared.cause.TextCause.{TextCause}
 use Rattle.rv_text.specs.declared.mnemonic.Mnemonic.{Mnemonic}
 use Rattle.rv_text.specs.declared.form.Part.{Part}
-use Rattle.rv_text.specs.declared.operands.Operands.{Operands}
 use Rattle.rv_text.specs.Tokens.{Takes, IsName}
 use Rattle.rv_text.specs.Mnemonics.{name_of}
 use Rattle.rv_text.specs.Forms.{form_of}
-use Rattle.rv_text.specs.Operands.{Stands, Departs}
+use Rattle.rv_text.specs.Operands.{Given, Stands, Departs, part_cause}
 use Rattle.rv_text.specs.Reading.{Reads, FollowsToken}
 use Rattle.rv_text.specs.Statement.{mnemonic_of, operands_of, Refused, RefusedAt}
 use Rattle.rv_text.specs.Laws.{OneCause, MeantIsNotRefused}
@@ -18,7 +17,7 @@ use Rattle.rv_text.proofs.Meaning.{meant, first_token}
 use Rattle.rv_text.proofs.Printing.{name_is_name}
 
 -- a text departs from a form for one cause
-departs_one : (form : List Part) (text : List ℕ) (e f : TextCause) → Departs form text e → Departs form text f → e ≡ f
+pub departs_one : (form : List Part) (text : List ℕ) (e f : TextCause) → Departs form text e → Departs form text f → e ≡ f
 departs_one [] text e f (inl s) (inl t) = s.1 ∙ sym t.1
 departs_one [] text e f (inl s) (inr (u, r, takes, d)) = absurd (s.0.nothing u r takes)
 departs_one [] text e f (inr (t, r, takes, d)) (inl s) = absurd (s.0.nothing t r takes)
@@ -31,13 +30,13 @@ departs_one (part ∷ form) text e f (inr (inl m)) (inr (inl n)) = m.1 ∙ sym n
 departs_one (part ∷ form) text e f (inr (inl m)) (inr (inr (u, r, takes, h))) = absurd (blank_takes_none text u r m.0 takes)
 departs_one (part ∷ form) text e f (inr (inr (t, r, takes, h))) (inl s) = absurd (s.0.nothing t r takes)
 departs_one (part ∷ form) text e f (inr (inr (t, r, takes, h))) (inr (inl m)) = absurd (blank_takes_none text t r m.0 takes)
-departs_one (part ∷ form) text e f (inr (inr (t, r, takes, inl d))) (inr (inr (u, v, other, inl c))) = d.1 ∙ sym c.1
+departs_one (part ∷ form) text e f (inr (inr (t, r, takes, inl d))) (inr (inr (u, v, other, inl c))) = d.1 ∙ ap (part_cause part) (takes_unique takes other).0 ∙ sym c.1
 departs_one (part ∷ form) text e f (inr (inr (t, r, takes, inl d))) (inr (inr (u, v, other, inr (o, stands, c)))) = absurd (d.0 o (subst (Stands o part) (takes_unique other takes).0 stands))
 departs_one (part ∷ form) text e f (inr (inr (t, r, takes, inr (o, stands, d)))) (inr (inr (u, v, other, inl c))) = absurd (c.0 o (subst (Stands o part) (takes_unique takes other).0 stands))
 departs_one (part ∷ form) text e f (inr (inr (t, r, takes, inr (o, stands, d)))) (inr (inr (u, v, other, inr (p, stood, c)))) = departs_one form r e f d (subst (λ x. Departs form x f) (takes_unique other takes).1 c)
 
 -- and one whose tokens stand at the form for none
-departs_reads : (form : List Part) (text : List ℕ) (e : TextCause) (o : Operands) → Departs form text e → Reads o form text → ⊥
+pub departs_reads : (form : List Part) (text : List ℕ) (e : TextCause) (o : Given) → Departs form text e → Reads o form text → ⊥
 departs_reads [] text e o (inl s) blank = s.0.something blank
 departs_reads [] text e o (inr (t, r, takes, d)) blank = blank_takes_none text t r blank takes
 departs_reads (part ∷ form) text e o (inl s) (t, r, takes, stands, reads) = s.0.nothing t r takes
@@ -45,7 +44,7 @@ departs_reads (part ∷ form) text e o (inr (inl m)) (t, r, takes, stands, reads
 departs_reads (part ∷ form) text e o (inr (inr (u, v, other, inl d))) (t, r, takes, stands, reads) = d.0 o (subst (Stands o part) (takes_unique takes other).0 stands)
 departs_reads (part ∷ form) text e o (inr (inr (u, v, other, inr (p, stood, d)))) (t, r, takes, stands, reads) = departs_reads form v e o d (subst (Reads o form) (takes_unique takes other).1 reads)
 
-named : (m : Mnemonic) (token : List ℕ) → name_of m ≡ token → IsName token
+pub named : (m : Mnemonic) (token : List ℕ) → name_of m ≡ token → IsName token
 named m token e = subst IsName e (name_is_name m)
 
 at_one : (token rest : List ℕ) (e f : TextCause) → RefusedAt token rest e → RefusedAt token rest f → e ≡ f

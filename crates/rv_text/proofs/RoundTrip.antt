@@ -1,6 +1,6 @@
 -- A printed instruction reads back, part by part.
-use Rattle.std.proofs.Common.{◌≡◌, ℕ, Bool, true, false, ◌&&◌, ◌||◌, List, [], ◌∷◌, ◌++◌, inl, inr, refl, sym, ◌∙◌, subst, String, Result, Ok, Err, IfOk}
-use Rattle.std.specs.Prelude.{codes, string_bytes}
+use Rattle.std.proofs.Common.{◌≡◌, ℕ, Bool, true, false, ◌&&◌, ◌||◌, List, [], ◌∷◌, ◌++◌, inl, inr, refl, sym, subst}
+use Rattle.std.specs.Prelude.{codes}
 use Rattle.std.specs.List.{flat_map}
 use Rattle.std.proofs.lemmas.List.{append-nil}
 use Rattle.rv_word.specs.declared.instr.Instr.{Instr}
@@ -8,15 +8,14 @@ use Rattle.rv_word.specs.Spelling.{InRange}
 use Rattle.rv_text.specs.declared.mnemonic.Mnemonic.{Mnemonic}
 use Rattle.rv_text.specs.declared.mnemonic.Mnemonic.TheVariants as mnemonic
 use Rattle.rv_text.specs.declared.form.Part.{Part}
-use Rattle.rv_text.specs.declared.form.Part.TheVariants.{Rd, Rs1, Rs2, Number, Comma, Open, Close}
-use Rattle.rv_text.specs.declared.operands.Operands.{Operands}
+use Rattle.rv_text.specs.declared.form.Part.TheVariants.{Rd, Rs1, Rs2, Number, Name, Mode, Comma, Open, Close}
 use Rattle.rv_text.specs.Tokens.{IsBlank, IsToken, Takes}
 use Rattle.rv_text.specs.Mnemonics.{name_of}
 use Rattle.rv_text.specs.Forms.{form_of}
-use Rattle.rv_text.specs.Operands.{Stands}
+use Rattle.rv_text.specs.Operands.{Given, Stands, mode_name}
 use Rattle.rv_text.specs.Reading.{Reads, Fits}
 use Rattle.rv_text.specs.Statement.{mnemonic_of, operands_of, Means}
-use Rattle.rv_text.specs.Printed.{part_text, operands_text, statement_text, printed}
+use Rattle.rv_text.specs.Printed.{part_text, operands_text, printed}
 use Rattle.rv_text.specs.Laws.{PrintedReadsBack}
 use Rattle.rv_text.proofs.Ranges.{in_range_fits}
 use Rattle.rv_text.proofs.Meaning.{means}
@@ -28,6 +27,8 @@ is_mark_part Rd = false
 is_mark_part Rs1 = false
 is_mark_part Rs2 = false
 is_mark_part (Number kind) = false
+is_mark_part Name = false
+is_mark_part Mode = false
 is_mark_part Comma = true
 is_mark_part Open = true
 is_mark_part Close = true
@@ -50,7 +51,7 @@ form_is_spaced (mnemonic.Store width) = refl
 form_is_spaced (mnemonic.Branch cond) = refl
 form_is_spaced _ = refl
 
-operands_end : (o : Operands) (form : List Part) → may_follow form ≡ true → Ends (flat_map (part_text o) form)
+operands_end : (o : Given) (form : List Part) → may_follow form ≡ true → Ends (flat_map (part_text o) form)
 operands_end o [] h = tt
 operands_end o (Comma ∷ form) h = refl
 operands_end o (Open ∷ form) h = refl
@@ -59,19 +60,25 @@ operands_end o (Rd ∷ form) h = cc
 operands_end o (Rs1 ∷ form) h = cc
 operands_end o (Rs2 ∷ form) h = cc
 operands_end o (Number kind ∷ form) h = cc
+operands_end o (Name ∷ form) h = cc
+operands_end o (Mode ∷ form) h = cc
 
 and_parts : (a b : Bool) → (a && b) ≡ true → (a ≡ true) × (b ≡ true)
 and_parts true b h = (refl, h)
 and_parts false b h = cc
 
 -- behind blanks the printed operands of a form read as those operands
-module _ (o : Operands) (form : List Part) (gap : List ℕ) (blank : IsBlank gap) where
+module _ (o : Given) (form : List Part) (gap : List ℕ) (blank : IsBlank gap) where
   -- a printed word, and then what follows it
   word_reads : (part : Part) → IsToken (part_text o part) → Stands o part (part_text o part) → may_follow form ≡ true → Reads o form (flat_map (part_text o) form) → Reads o (part ∷ form) (gap ++ (part_text o part ++ flat_map (part_text o) form))
   word_reads part is_token stands follows reads =
       (part_text o part, flat_map (part_text o) form, takes_word gap (part_text o part) _ blank is_token (operands_end o form follows), stands, reads)
 
-pub reads_printed : (o : Operands) (form : List Part) (gap : List ℕ) → IsBlank gap → is_spaced form ≡ true → Fits o form → Reads o form (gap ++ flat_map (part_text o) form)
+mode_token : (rvc : Bool) → IsToken (mode_name rvc)
+mode_token true = inl (refl, (refl, (refl, tt)))
+mode_token false = inl (refl, (refl, (refl, (refl, (refl, tt)))))
+
+pub reads_printed : (o : Given) (form : List Part) (gap : List ℕ) → IsBlank gap → is_spaced form ≡ true → Fits o form → Reads o form (gap ++ flat_map (part_text o) form)
 reads_printed o [] gap blank spaced fits = subst IsBlank (sym (append-nil gap)) blank
 reads_printed o (Comma ∷ form) gap blank spaced fits =
     (codes ",", codes " " ++ flat_map (part_text o) form, takes_mark gap 44 _ blank refl, refl, reads_printed o form (codes " ") (refl, tt) spaced fits.1)
@@ -92,13 +99,19 @@ reads_printed o (Number kind ∷ form) gap blank spaced fits =
     let parts = and_parts _ _ spaced in
     let number = printed_number kind o.number fits.0 in
     word_reads o form gap blank (Number kind) (inr (inl (o.number, number))) (number, fits.0) parts.0 (reads_printed o form [] tt parts.1 fits.1)
+reads_printed o (Name ∷ form) gap blank spaced fits =
+    let parts = and_parts _ _ spaced in
+    word_reads o form gap blank Name (inl fits.0.0.0) (fits.0.0, fits.0.1, refl) parts.0 (reads_printed o form [] tt parts.1 fits.1)
+reads_printed o (Mode ∷ form) gap blank spaced fits =
+    let parts = and_parts _ _ spaced in
+    word_reads o form gap blank Mode (mode_token o.compressed) refl parts.0 (reads_printed o form [] tt parts.1 fits.1)
 
 -- behind the name stand nothing, or a space and the operands
-behind_name_ends : (o : Operands) (form : List Part) → Ends (operands_text o form)
+behind_name_ends : (o : Given) (form : List Part) → Ends (operands_text o form)
 behind_name_ends o [] = tt
 behind_name_ends o (part ∷ form) = refl
 
-behind_name_reads : (o : Operands) (form : List Part) → is_spaced form ≡ true → Fits o form → Reads o form (operands_text o form)
+behind_name_reads : (o : Given) (form : List Part) → is_spaced form ≡ true → Fits o form → Reads o form (operands_text o form)
 behind_name_reads o [] spaced fits = tt
 behind_name_reads o (part ∷ form) spaced fits = reads_printed o (part ∷ form) (codes " ") (refl, tt) spaced fits
 
@@ -109,7 +122,6 @@ reads_back i h =
     let takes : Takes (printed i) (name_of name) (operands_text o (form_of name)) = takes_word [] (name_of name) _ tt (name_token name) (behind_name_ends o (form_of name)) in
     means (printed i) (name_of name) (operands_text o (form_of name)) i takes (refl, inl (behind_name_reads o (form_of name) (form_is_spaced name) (in_range_fits i h)))
 
--- what print_instr gives, by the operands and the mnemonic that it prints
-pub result_reads_back : {A X : Type 0} (r : Result (String A) X) (i : Instr) (m : Mnemonic) (o : Operands) → m ≡ mnemonic_of i → o ≡ operands_of i → IfOk r (λ text. string_bytes text ≡ statement_text m o) → IfOk r (λ text. InRange i → Means (string_bytes text) i)
-result_reads_back (Ok text) i m o e f h = λ in_range. subst (λ t. Means t i) (sym (h ∙ (λ k. statement_text (e k) (f k)))) (reads_back i in_range)
-result_reads_back (Err x) i m o e f h = tt
+-- a text that is printed means its instruction
+pub printed_means : (text : List ℕ) (i : Instr) → text ≡ printed i → InRange i → Means text i
+printed_means text i e in_range = subst (λ t. Means t i) (sym e) (reads_back i in_range)

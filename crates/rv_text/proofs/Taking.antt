@@ -1,5 +1,5 @@
 -- The first token of a text is what the lexer computes, and so is what follows it.
-use Rattle.std.proofs.Common.{◌≡◌, ℕ, ◌<◌, false, List, [], ◌∷◌, ◌++◌, length, take, drop, refl, sym, ap, ◌∙◌, subst, arith, take-append-drop, length-take-le, length-drop, take_all}
+use Rattle.std.proofs.Common.{◌≡◌, ℕ, ◌<◌, false, List, [], ◌∷◌, ◌++◌, length, take, drop, refl, sym, ap, ◌∙◌, subst, arith, take-append-drop, length-append, length-take-le, length-drop, take_all}
 use Rattle.std.specs.List.{prefix_len}
 use Rattle.std.proofs.Math.ListN.{drop_of_length-le}
 use Rattle.std.proofs.Math.Seq.{take-append_seam, drop-append_seam}
@@ -46,6 +46,12 @@ takes_is {text} {token} {rest} t =
 -- a text has one first token
 pub takes_unique : {text a x b y : List ℕ} → Takes text a x → Takes text b y → (a ≡ b) × (x ≡ y)
 takes_unique s t = let p = takes_is s in let q = takes_is t in (p.0 ∙ sym q.0, p.1 ∙ sym q.1)
+
+-- what follows a token is shorter than the text
+pub takes_shorter : {text token rest : List ℕ} → Takes text token rest → length rest < length text
+takes_shorter {text} {token} {rest} t =
+    let first = token_begins token t.is_token in
+    omega (arith, ap length t.whole, ap length first.2, length-append t.gap (token ++ rest), length-append token rest)
 
 takes_some : {text token rest : List ℕ} → Takes text token rest → 0 < token_len (body_of text)
 takes_some {text} {token} {rest} t = let within = token_within token rest t.is_token in omega (arith, takes_len t)

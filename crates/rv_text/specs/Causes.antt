@@ -1,6 +1,7 @@
 -- The numbers of the causes for which a text is refused.
 use Rattle.std.specs.Prelude.{ℕ}
 use Rattle.rv_text.specs.declared.cause.TextCause.{TextCause}
+use Rattle.rv_text.specs.declared.fault.TextFault.{TextFault}
 use Rattle.rv_text.specs.declared.cause.TextCause.TheVariants.{Word, Register, Number, Operands, LabelTwice, Directive, Limit, Memory}
 
 -- the number by which a cause is told
@@ -13,3 +14,7 @@ cause_number LabelTwice = 5
 cause_number Directive = 6
 cause_number Limit = 7
 cause_number Memory = 8
+
+-- memory was refused; nothing is known of the text
+abbrev pub memory : TextFault
+memory = record { line = 0; cause = Memory }

@@ -1,17 +1,18 @@
--- What stands behind the name of each instruction.
-use Rattle.std.specs.Prelude.{List, [], ◌∷◌, ℤ, pos, if◌then◌else◌}
+-- What stands behind the name of each instruction, and which numbers may stand in a statement.
+use Rattle.std.specs.Prelude.{◌≡◌, ℕ, List, [], ◌∷◌, ℤ, pos, negsuc, if◌then◌else◌}
 use Rattle.rv_word.specs.declared.instr.ImmOp.{ImmOp}
 use Rattle.rv_word.specs.Numbers.{IsBetween}
 use Rattle.rv_word.specs.Functs.{is_shift}
 use Rattle.rv_word.specs.Spelling.{IsImm12, IsBranchOffset, IsJumpOffset}
+use Rattle.rv_text.specs.Source.{IsDataSize}
 use Rattle.rv_text.specs.declared.mnemonic.Mnemonic.{Mnemonic}
 use Rattle.rv_text.specs.declared.mnemonic.Mnemonic.TheVariants as mnemonic
 use Rattle.rv_text.specs.declared.form.NumberKind.{NumberKind}
-use Rattle.rv_text.specs.declared.form.NumberKind.TheVariants.{Immediate, ShiftAmount, BranchOffset, JumpOffset, Upper, FenceFields}
+use Rattle.rv_text.specs.declared.form.NumberKind.TheVariants.{Immediate, ShiftAmount, BranchOffset, JumpOffset, Upper, FenceFields, DataSize, Service, Word, Half, Byte, ZeroCount}
 use Rattle.rv_text.specs.declared.form.Part.{Part}
 use Rattle.rv_text.specs.declared.form.Part.TheVariants.{Rd, Rs1, Rs2, Number, Comma, Open, Close}
 
--- a number of this kind: one that the instruction's field can hold
+-- a number of this kind: one that the instruction's field, or the directive's, can hold
 abbrev pub IsNumberOf : NumberKind → ℤ → Type 0
 IsNumberOf Immediate z = IsImm12 z
 IsNumberOf ShiftAmount z = IsBetween (pos 0) (pos 31) z
@@ -19,6 +20,12 @@ IsNumberOf BranchOffset z = IsBranchOffset z
 IsNumberOf JumpOffset z = IsJumpOffset z
 IsNumberOf Upper z = IsBetween (pos 0) (pos 1048575) z
 IsNumberOf FenceFields z = IsBetween (pos 0) (pos 4095) z
+IsNumberOf DataSize z = (size : ℕ) × (z ≡ pos size) × IsDataSize size
+IsNumberOf Service z = IsBetween (pos 0) (pos 5) z
+IsNumberOf Word z = IsBetween (negsuc 2147483647) (pos 4294967295) z
+IsNumberOf Half z = IsBetween (negsuc 32767) (pos 65535) z
+IsNumberOf Byte z = IsBetween (negsuc 127) (pos 255) z
+IsNumberOf ZeroCount z = IsBetween (pos 0) (pos 1048576) z
 
 -- a shift's amount, or an immediate of 12 bits
 abbrev pub immediate_kind : ImmOp → NumberKind

@@ -1,10 +1,17 @@
--- Laws of the text of an instruction.
-use Rattle.std.specs.Prelude.{◌≡◌, ℕ, List}
+-- Laws of the text of an instruction, and of the text of a source.
+use Rattle.std.specs.Prelude.{◌≡◌, ℕ, ◌*◌, List, ℤ, pos, ◌+ℤ◌}
 use Rattle.rv_word.specs.declared.instr.Instr.{Instr}
+use Rattle.rv_word.specs.Numbers.{modulo}
 use Rattle.rv_word.specs.Spelling.{InRange}
 use Rattle.rv_text.specs.declared.cause.TextCause.{TextCause}
 use Rattle.rv_text.specs.Statement.{Means, Refused}
 use Rattle.rv_text.specs.Printed.{printed}
+use Rattle.rv_text.specs.declared.fault.TextFault.{TextFault}
+use Rattle.rv_text.specs.Source.{Sandbox, IsSource}
+use Rattle.rv_text.specs.SoFar.{SoFar}
+use Rattle.rv_text.specs.Leads.{Leads, LineRefused}
+use Rattle.rv_text.specs.Texts.{MeansSource, IsFault}
+use Rattle.rv_text.specs.Constants.{upper, lower}
 
 -- a text means one instruction at most
 abbrev pub OneMeaning : Type 0
@@ -25,3 +32,36 @@ MeaningsAreInRange = (text : List ℕ) (i : Instr) → Means text i → InRange 
 -- a printed instruction whose fields are in range means that instruction
 abbrev pub PrintedReadsBack : Type 0
 PrintedReadsBack = (i : Instr) → InRange i → Means (printed i) i
+
+-- a line leads from a source so far to one next one at most
+abbrev pub LeadsOnce : Type 0
+LeadsOnce = (line : ℕ) (old a b : SoFar) (text : List ℕ) → Leads line old text a → Leads line old text b → a ≡ b
+
+-- a line that leads on is refused for no cause: where it is refused it leads nowhere
+abbrev pub LeadingIsNotRefused : Type 0
+LeadingIsNotRefused =
+    (line : ℕ) (old new : SoFar) (text : List ℕ) (e : TextCause) → Leads line old text new → LineRefused old text e → ⊥
+
+-- a line is refused for one cause at most
+abbrev pub RefusedOnce : Type 0
+RefusedOnce = (old : SoFar) (text : List ℕ) (e f : TextCause) → LineRefused old text e → LineRefused old text f → e ≡ f
+
+-- a text means one source at most
+abbrev pub OneSource : Type 0
+OneSource = (text : List ℕ) (p q : List Sandbox) → MeansSource text p → MeansSource text q → p ≡ q
+
+-- a text has one fault at most
+abbrev pub OneFault : Type 0
+OneFault = (text : List ℕ) (f g : TextFault) → IsFault text f → IsFault text g → f ≡ g
+
+-- a text that means a source has no fault
+abbrev pub MeantHasNoFault : Type 0
+MeantHasNoFault = (text : List ℕ) (p : List Sandbox) (f : TextFault) → MeansSource text p → IsFault text f → ⊥
+
+-- what a text means is within its limits, and its names, gates and instructions fit each other
+abbrev pub SourcesAreRight : Type 0
+SourcesAreRight = (text : List ℕ) (parts : List Sandbox) → MeansSource text parts → IsSource parts
+
+-- the lui and the addi of a number add up to it, as 32 bits hold it
+abbrev pub ConstantsAddUp : Type 0
+ConstantsAddUp = (z : ℤ) → modulo 32 (pos (4096 * upper z) +ℤ lower z) ≡ modulo 32 z

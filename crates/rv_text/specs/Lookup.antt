@@ -4,6 +4,9 @@ use Rattle.std.specs.List.{position, find}
 use Rattle.std.specs.Str.{bytes_eq}
 use Rattle.rv_text.specs.declared.mnemonic.TheConstants.{ALL}
 use Rattle.rv_text.specs.declared.mnemonic.Mnemonic.{Mnemonic}
+use Rattle.rv_text.specs.declared.keyword.TheConstants.{KEYWORDS}
+use Rattle.rv_text.specs.declared.keyword.Keyword.{Keyword}
+use Rattle.rv_text.specs.Keywords.{keyword_name}
 use Rattle.rv_text.specs.Mnemonics.{name_of}
 use Rattle.rv_text.specs.Registers.{abi_names}
 
@@ -33,3 +36,7 @@ register_of text =
 -- the mnemonic of this name
 unfoldable pub mnemonic_of : List ℕ → Option Mnemonic
 mnemonic_of text = find (λ m. bytes_eq (name_of m) text) ALL
+
+-- the keyword of this name
+unfoldable pub keyword_of : List ℕ → Option Keyword
+keyword_of text = find (λ k. bytes_eq (keyword_name k) text) KEYWORDS

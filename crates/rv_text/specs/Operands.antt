@@ -1,40 +1,74 @@
 -- The operands of a statement, and the tokens that give them.
-use Rattle.std.specs.Prelude.{◌≡◌, ℕ, ◌⊎◌, List, [], ◌∷◌, codes}
+use Rattle.std.specs.Prelude.{◌≡◌, ℕ, ◌≤◌, ◌⊎◌, Bool, true, false, List, [], ◌∷◌, length, ℤ, if◌then◌else◌, codes}
 use Rattle.rv_text.specs.declared.cause.TextCause.{TextCause}
 use Rattle.rv_text.specs.declared.cause.TextCause.TheVariants as cause
 use Rattle.rv_text.specs.declared.form.Part.{Part}
-use Rattle.rv_text.specs.declared.form.Part.TheVariants.{Rd, Rs1, Rs2, Number, Comma, Open, Close}
+use Rattle.rv_text.specs.declared.form.Part.TheVariants.{Rd, Rs1, Rs2, Number, Name, Mode, Comma, Open, Close}
 use Rattle.rv_text.specs.declared.operands.Operands.{Operands}
-use Rattle.rv_text.specs.Tokens.{IsNumber, Takes, IsBlank, IsStuck}
+use Rattle.rv_text.specs.Tokens.{IsNumber, IsLabel, is_too_long, Takes, IsBlank, IsStuck}
 use Rattle.rv_text.specs.Registers.{IsRegister}
 use Rattle.rv_text.specs.Forms.{IsNumberOf}
 
+-- the operands of a statement: registers, a number, a name, and whether `rvc` stands there
+pub record Given : Type 0 where
+  pub rd : ℕ
+  pub rs1 : ℕ
+  pub rs2 : ℕ
+  pub number : ℤ
+  pub name : List ℕ
+  pub compressed : Bool
+
+-- those that the code keeps
+abbrev pub given : Operands → Given
+given o =
+    record {
+      rd = o.rd;
+      rs1 = o.rs1;
+      rs2 = o.rs2;
+      number = o.number;
+      name = o.name.now;
+      compressed = o.compressed;
+    }
+
+-- the words behind `.option`
+abbrev pub mode_name : Bool → List ℕ
+mode_name true = codes "rvc"
+mode_name false = codes "norvc"
+
 -- the token stands at this part of a statement with these operands
-abbrev pub Stands : Operands → Part → List ℕ → Type 0
+abbrev pub Stands : Given → Part → List ℕ → Type 0
 Stands o Rd token = IsRegister token o.rd
 Stands o Rs1 token = IsRegister token o.rs1
 Stands o Rs2 token = IsRegister token o.rs2
 Stands o (Number kind) token = IsNumber token o.number × IsNumberOf kind o.number
+Stands o Name token = IsLabel token × (length token ≤ 64) × (token ≡ o.name)
+Stands o Mode token = token ≡ mode_name o.compressed
 Stands o Comma token = token ≡ codes ","
 Stands o Open token = token ≡ codes "("
 Stands o Close token = token ≡ codes ")"
 
 -- the tokens stand at the parts of the form, one each
-abbrev pub HasForm : Operands → List Part → List (List ℕ) → Type 0
+abbrev pub HasForm : Given → List Part → List (List ℕ) → Type 0
 HasForm o [] [] = Unit {0}
 HasForm o [] (token ∷ tokens) = ⊥
 HasForm o (part ∷ form) [] = ⊥
 HasForm o (part ∷ form) (token ∷ tokens) = Stands o part token × HasForm o form tokens
 
--- the cause where another token stands at this part
-abbrev pub part_cause : Part → TextCause
-part_cause Rd = cause.Register
-part_cause Rs1 = cause.Register
-part_cause Rs2 = cause.Register
-part_cause (Number kind) = cause.Number
-part_cause Comma = cause.Operands
-part_cause Open = cause.Operands
-part_cause Close = cause.Operands
+-- the cause where this token stands in a name's place and isn't one, or is too long
+abbrev pub label_cause : List ℕ → TextCause
+label_cause token = if is_too_long token then cause.Limit else cause.Operands
+
+-- the cause where this token stands at this part and may not
+abbrev pub part_cause : Part → List ℕ → TextCause
+part_cause Rd token = cause.Register
+part_cause Rs1 token = cause.Register
+part_cause Rs2 token = cause.Register
+part_cause (Number kind) token = cause.Number
+part_cause Name token = label_cause token
+part_cause Mode token = cause.Operands
+part_cause Comma token = cause.Operands
+part_cause Open token = cause.Operands
+part_cause Close token = cause.Operands
 
 -- no token can be formed at the front of the text
 abbrev pub Unformed : List ℕ → TextCause → Type 0
@@ -50,7 +84,7 @@ Beyond text e = (token : List ℕ) × (rest : List ℕ) × Takes text token rest
 
 -- the token can't stand at this part
 abbrev pub Differs : Part → List ℕ → TextCause → Type 0
-Differs part token e = ((o : Operands) → Stands o part token → ⊥) × (e ≡ part_cause part)
+Differs part token e = ((o : Given) → Stands o part token → ⊥) × (e ≡ part_cause part token)
 
 -- the first token of the text that departs from the form does so for this cause
 abbrev pub Departs : List Part → List ℕ → TextCause → Type 0
@@ -59,4 +93,4 @@ Departs (part ∷ form) text e =
     Unformed text e
     ⊎ (Missing text e
     ⊎ ((token : List ℕ) × (rest : List ℕ) × Takes text token rest
-    × (Differs part token e ⊎ ((o : Operands) × Stands o part token × Departs form rest e))))
+    × (Differs part token e ⊎ ((o : Given) × Stands o part token × Departs form rest e))))

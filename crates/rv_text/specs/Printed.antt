@@ -7,8 +7,8 @@ use Rattle.rv_text.specs.declared.mnemonic.Mnemonic.{Mnemonic}
 use Rattle.rv_text.specs.declared.form.NumberKind.{NumberKind}
 use Rattle.rv_text.specs.declared.form.NumberKind.TheVariants.{Upper}
 use Rattle.rv_text.specs.declared.form.Part.{Part}
-use Rattle.rv_text.specs.declared.form.Part.TheVariants.{Rd, Rs1, Rs2, Number, Comma, Open, Close}
-use Rattle.rv_text.specs.declared.operands.Operands.{Operands}
+use Rattle.rv_text.specs.declared.form.Part.TheVariants.{Rd, Rs1, Rs2, Number, Name, Mode, Comma, Open, Close}
+use Rattle.rv_text.specs.Operands.{Given, mode_name}
 use Rattle.rv_text.specs.Mnemonics.{name_of}
 use Rattle.rv_text.specs.Forms.{form_of}
 use Rattle.rv_text.specs.Registers.{x_name}
@@ -21,22 +21,24 @@ number_text Upper (pos n) = codes "0x" ++ digits 16 false n
 number_text kind z = signed_decimal z
 
 -- registers are x0 to x31, and a space follows a comma
-abbrev pub part_text : Operands → Part → List ℕ
+abbrev pub part_text : Given → Part → List ℕ
 part_text o Rd = x_name o.rd
 part_text o Rs1 = x_name o.rs1
 part_text o Rs2 = x_name o.rs2
 part_text o (Number kind) = number_text kind o.number
+part_text o Name = o.name
+part_text o Mode = mode_name o.compressed
 part_text o Comma = codes ", "
 part_text o Open = codes "("
 part_text o Close = codes ")"
 
 -- the operands behind a space, or nothing where there are none
-abbrev pub operands_text : Operands → List Part → List ℕ
+abbrev pub operands_text : Given → List Part → List ℕ
 operands_text o [] = []
 operands_text o (part ∷ form) = codes " " ++ flat_map (part_text o) (part ∷ form)
 
 -- a statement's text: its name and its operands
-abbrev pub statement_text : Mnemonic → Operands → List ℕ
+abbrev pub statement_text : Mnemonic → Given → List ℕ
 statement_text name o = name_of name ++ operands_text o (form_of name)
 
 -- the text of an instruction

@@ -1,65 +1,70 @@
 -- How the parser reads a statement part by part, for the contracts inside it.
-use Rattle.std.specs.Prelude.{◌≡◌, ◌≢◌, ℕ, ◌<◌, ◌⊎◌, Bool, ◌&&◌, ◌||◌, nat_lt, ◌==◌, not, true, List, [], ◌∷◌, ℤ, pos}
+use Rattle.std.specs.Prelude.{◌≡◌, ◌≢◌, ℕ, ◌<◌, ◌≤◌, ◌⊎◌, Bool, ◌&&◌, ◌||◌, nat_lt, ◌==◌, not, true, List, [], ◌∷◌, length}
 use Rattle.std.specs.List.{AllByRecursion, list_all}
 use Rattle.rv_word.specs.declared.instr.Instr.{Instr}
 use Rattle.rv_text.specs.declared.cause.TextCause.{TextCause}
 use Rattle.rv_text.specs.declared.form.Part.{Part}
-use Rattle.rv_text.specs.declared.form.Part.TheVariants.{Rd, Rs1, Rs2, Number, Comma, Open, Close}
+use Rattle.rv_text.specs.declared.form.Part.TheVariants.{Rd, Rs1, Rs2, Number, Name, Mode, Comma, Open, Close}
 use Rattle.rv_text.specs.declared.mnemonic.Mnemonic.{Mnemonic}
-use Rattle.rv_text.specs.declared.operands.Operands.{Operands}
-use Rattle.rv_text.specs.Tokens.{Takes, IsBlank}
+use Rattle.rv_text.specs.Tokens.{Takes, IsBlank, IsLabel}
 use Rattle.rv_text.specs.Mnemonics.{name_of}
 use Rattle.rv_text.specs.Forms.{IsNumberOf, form_of}
-use Rattle.rv_text.specs.Operands.{Stands, Departs}
+use Rattle.rv_text.specs.Operands.{Given, Stands, Departs}
 use Rattle.rv_text.specs.Statement.{mnemonic_of, operands_of, full_fence, IsBareFence}
 
 -- the text's tokens stand at the parts of the form, one each
-abbrev pub Reads : Operands → List Part → List ℕ → Type 0
+abbrev pub Reads : Given → List Part → List ℕ → Type 0
 Reads o [] text = IsBlank text
 Reads o (part ∷ form) text =
     (token : List ℕ) × (rest : List ℕ) × Takes text token rest
     × Stands o part token × Reads o form rest
 
--- the operand at a part; a mark has none
-abbrev pub operand_at : Operands → Part → ℤ
-operand_at o Rd = pos o.rd
-operand_at o Rs1 = pos o.rs1
-operand_at o Rs2 = pos o.rs2
-operand_at o (Number kind) = o.number
-operand_at o Comma = pos 0
-operand_at o Open = pos 0
-operand_at o Close = pos 0
+-- two statements have the same operand at a part; a mark has none
+abbrev pub SameAt : Part → Given → Given → Type 0
+SameAt Rd a b = a.rd ≡ b.rd
+SameAt Rs1 a b = a.rs1 ≡ b.rs1
+SameAt Rs2 a b = a.rs2 ≡ b.rs2
+SameAt (Number kind) a b = a.number ≡ b.number
+SameAt Name a b = a.name ≡ b.name
+SameAt Mode a b = a.compressed ≡ b.compressed
+SameAt Comma a b = Unit {0}
+SameAt Open a b = Unit {0}
+SameAt Close a b = Unit {0}
 
 -- two statements have the same operands at the parts of a form
-abbrev pub AgreesOn : List Part → Operands → Operands → Type 0
-AgreesOn form a b = AllByRecursion (λ part. operand_at a part ≡ operand_at b part) form
+abbrev pub AgreesOn : List Part → Given → Given → Type 0
+AgreesOn form a b = AllByRecursion (λ part. SameAt part a b) form
 
--- which operand a part gives, by number; marks, which give none, come after 3
+-- which operand a part gives, by number; marks, which give none, come after 5
 abbrev pub slot : Part → ℕ
 slot Rd = 0
 slot Rs1 = 1
 slot Rs2 = 2
 slot (Number kind) = 3
-slot Comma = 4
-slot Open = 5
-slot Close = 6
+slot Name = 4
+slot Mode = 5
+slot Comma = 6
+slot Open = 7
+slot Close = 8
 
 -- each operand but the one at this part is as it was
-abbrev pub KeepsOthers : Part → Operands → Operands → Type 0
-KeepsOthers part old new = (p : Part) → slot p ≢ slot part → operand_at new p ≡ operand_at old p
+abbrev pub KeepsOthers : Part → Given → Given → Type 0
+KeepsOthers part old new = (p : Part) → slot p ≢ slot part → SameAt p new old
 
 -- the operand is one that can stand at this part
-abbrev pub Suits : Operands → Part → Type 0
+abbrev pub Suits : Given → Part → Type 0
 Suits o Rd = o.rd < 32
 Suits o Rs1 = o.rs1 < 32
 Suits o Rs2 = o.rs2 < 32
 Suits o (Number kind) = IsNumberOf kind o.number
+Suits o Name = IsLabel o.name × (length o.name ≤ 64)
+Suits o Mode = Unit {0}
 Suits o Comma = Unit {0}
 Suits o Open = Unit {0}
 Suits o Close = Unit {0}
 
 -- each operand that the form names is one that can stand there
-abbrev pub Fits : Operands → List Part → Type 0
+abbrev pub Fits : Given → List Part → Type 0
 Fits o form = AllByRecursion (λ part. Suits o part) form
 
 -- the part's operand is not among those of the form
@@ -69,7 +74,7 @@ is_fresh part form = list_all (λ p. not (slot p == slot part)) form
 -- no operand stands at two parts of the form
 abbrev pub has_no_repeat : List Part → Bool
 has_no_repeat [] = true
-has_no_repeat (part ∷ form) = (nat_lt 3 (slot part) || is_fresh part form) && has_no_repeat form
+has_no_repeat (part ∷ form) = (nat_lt 5 (slot part) || is_fresh part form) && has_no_repeat form
 
 -- the text behind the instruction's name gives its operands, or nothing for a fence alone
 abbrev pub Follows : List ℕ → Instr → Type 0

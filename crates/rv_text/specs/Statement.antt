@@ -1,16 +1,15 @@
 -- What the text of one instruction means.
-use Rattle.std.specs.Prelude.{◌≡◌, ℕ, ◌⊎◌, List, [], ◌∷◌, ℤ, pos}
+use Rattle.std.specs.Prelude.{◌≡◌, ℕ, ◌⊎◌, List, [], ◌∷◌, ℤ, pos, false}
 use Rattle.rv_word.specs.declared.instr.Instr.{Instr}
 use Rattle.rv_word.specs.declared.instr.Instr.TheVariants as instr
 use Rattle.rv_text.specs.declared.cause.TextCause.{TextCause}
 use Rattle.rv_text.specs.declared.cause.TextCause.TheVariants as cause
 use Rattle.rv_text.specs.declared.mnemonic.Mnemonic.{Mnemonic}
 use Rattle.rv_text.specs.declared.mnemonic.Mnemonic.TheVariants as mnemonic
-use Rattle.rv_text.specs.declared.operands.Operands.{Operands}
 use Rattle.rv_text.specs.Tokens.{IsName, Takes, IsBlank, AreTokens}
 use Rattle.rv_text.specs.Mnemonics.{name_of}
 use Rattle.rv_text.specs.Forms.{form_of}
-use Rattle.rv_text.specs.Operands.{HasForm, Unformed, Missing, Departs}
+use Rattle.rv_text.specs.Operands.{Given, HasForm, Unformed, Missing, Departs}
 
 -- an instruction's mnemonic
 abbrev pub mnemonic_of : Instr → Mnemonic
@@ -27,11 +26,13 @@ mnemonic_of (instr.Fence imm rd rs1) = mnemonic.Fence
 mnemonic_of instr.Ecall = mnemonic.Ecall
 mnemonic_of instr.Ebreak = mnemonic.Ebreak
 
-abbrev operands : ℕ → ℕ → ℕ → ℤ → Operands
-operands rd rs1 rs2 number = record { rd = rd; rs1 = rs1; rs2 = rs2; number = number }
+-- these registers and this number
+abbrev pub operands : ℕ → ℕ → ℕ → ℤ → Given
+operands rd rs1 rs2 number =
+    record { rd = rd; rs1 = rs1; rs2 = rs2; number = number; name = []; compressed = false }
 
--- its operands by their places; those that its form lacks are 0
-abbrev pub operands_of : Instr → Operands
+-- its operands by their places; those that its form lacks are 0 or none
+abbrev pub operands_of : Instr → Given
 operands_of (instr.Op op rd rs1 rs2) = operands rd rs1 rs2 (pos 0)
 operands_of (instr.OpImm op rd rs1 imm) = operands rd rs1 0 imm
 operands_of (instr.Load kind rd rs1 imm) = operands rd rs1 0 imm

@@ -1,5 +1,5 @@
 -- The tokens of a line of source. A text is the list of its UTF-8 bytes, and a token is its text.
-use Rattle.std.specs.Prelude.{◌≡◌, ℕ, ◌≤◌, ◌⊎◌, Bool, ◌||◌, ◌==◌, List, [], ◌∷◌, ◌++◌, length, ℤ, pos, negsuc, neg_ℤ, ◌≤ℤ◌, IsTrue, codes}
+use Rattle.std.specs.Prelude.{◌≡◌, ℕ, ◌≤◌, ◌⊎◌, Bool, ◌||◌, ◌==◌, List, [], ◌∷◌, ◌++◌, length, ℤ, pos, negsuc, neg_ℤ, ◌≤ℤ◌, IsTrue, codes, false, ◌&&◌, nat_lt}
 use Rattle.std.specs.List.{AllByRecursion}
 use Rattle.std.specs.Char.{is_ascii_alphabetic, is_ascii_digit}
 use Rattle.std.specs.Str.Parse.{IsNumeral, digits_value}
@@ -24,6 +24,19 @@ continues_name c = begins_name c || is_ascii_digit c
 abbrev pub IsName : List ℕ → Type 0
 IsName [] = ⊥
 IsName (c ∷ cs) = IsTrue (begins_name c) × AllByRecursion (λ b. IsTrue (continues_name b)) cs
+
+-- a letter or `_` stands at the front
+abbrev pub begins_label : List ℕ → Bool
+begins_label [] = false
+begins_label (c ∷ cs) = is_ascii_alphabetic c || (c == 95)
+
+-- the name of a label, a gate or a target: a name that begins with no point
+abbrev pub IsLabel : List ℕ → Type 0
+IsLabel text = IsName text × IsTrue (begins_label text)
+
+-- it has more than 64 bytes
+abbrev pub is_too_long : List ℕ → Bool
+is_too_long text = begins_label text && nat_lt 64 (length text)
 
 -- decimal digits, or `0x` and hexadecimal digits, write n
 abbrev pub IsMagnitude : List ℕ → ℕ → Type 0

@@ -1,25 +1,37 @@
 //! Why a text means nothing.
 ghost use Rattle.std.specs.Prelude.{◌≡◌};
+ghost use Rattle.rv_text.specs.declared.cause.TextCause.TheVariants as cause;
 ghost use Rattle.rv_text.specs.Causes.{cause_number};
 
-/// Why a text means nothing.
-#[derive(Clone, Copy, Debug, PartialEq, Eq)]
+use std::alloc::{AllocError, AllocFailed};
+use thiserror::Error;
+
+/// Why a text means nothing. Its text is its bare name.
+#[derive(Clone, Copy, Debug, PartialEq, Eq, Error)]
 pub enum TextCause {
     /// No token can be formed, or a statement's first name is none that is known.
+    #[error("Word")]
     Word,
     /// Something else stands in a register's place.
+    #[error("Register")]
     Register,
     /// Something else stands in a number's place, or a number that is out of its range.
+    #[error("Number")]
     Number,
     /// A token is missing, is too many, or isn't the expected name or mark.
+    #[error("Operands")]
     Operands,
     /// The name is there already.
+    #[error("LabelTwice")]
     LabelTwice,
     /// The statement may not stand there.
+    #[error("Directive")]
     Directive,
     /// Something is longer or more than is allowed.
+    #[error("Limit")]
     Limit,
     /// Memory was refused.
+    #[error("Memory")]
     Memory,
 }
 
@@ -38,5 +50,21 @@ impl TextCause {
             TextCause::Limit => 7,
             TextCause::Memory => 8,
         }
+    }
+}
+
+impl From<AllocError> for TextCause {
+    ghost from_gives = { λ _ e. e ≡ cause.Memory };
+
+    fn from(_e: AllocError) -> TextCause {
+        TextCause::Memory
+    }
+}
+
+impl<T: Drop> From<AllocFailed<T>> for TextCause {
+    ghost from_gives = { λ _ e. e ≡ cause.Memory };
+
+    fn from(_e: AllocFailed<T>) -> TextCause {
+        TextCause::Memory
     }
 }

@@ -1,6 +1,8 @@
-//! What stands behind the name of each instruction: its operands and the marks between them.
+//! What stands behind the name of a statement: its operands and the marks between them.
 ghost use Rattle.std.specs.Prelude.{◌≡◌, ◌↔◌, IsTrue};
+ghost use Rattle.std.specs.Int.{IsPowerOfTwo};
 ghost use Rattle.rv_text.specs.Forms.{form_of, IsNumberOf};
+ghost use Rattle.rv_text.specs.Source.{IsDataSize};
 
 use crate::mnemonic::Mnemonic;
 use rv_word::ImmOp;
@@ -20,6 +22,18 @@ pub enum NumberKind {
     Upper,
     /// 0 to 4095: the fence mode, predecessors and successors.
     FenceFields,
+    /// A power of two of 256 to 1048576: the bytes of a sandbox's data.
+    DataSize,
+    /// 0 to 5: a gate's service.
+    Service,
+    /// -2147483648 to 4294967295: what 32 bits hold, with or without a sign.
+    Word,
+    /// -32768 to 65535.
+    Half,
+    /// -128 to 255.
+    Byte,
+    /// 0 to 1048576: how many bytes are 0.
+    ZeroCount,
 }
 
 /// What may stand at a place of a statement.
@@ -29,6 +43,10 @@ pub enum Part {
     Rs1,
     Rs2,
     Number(NumberKind),
+    /// A label's or a gate's name.
+    Name,
+    /// `rvc` or `norvc`.
+    Mode,
     Comma,
     Open,
     Close,
@@ -94,6 +112,28 @@ impl Mnemonic {
     }
 }
 
+fn is_power_of_two(number: u64) -> bool
+    ensures { IsTrue result ↔ IsPowerOfTwo number }
+{
+    number.is_power_of_two()
+}
+
+/// Whether the number is a power of two of 256 to 1048576.
+fn is_size(number: u64) -> bool
+    ensures { IsTrue result ↔ IsDataSize number }
+{
+    256 <= number && number <= 1048576 && is_power_of_two(number)
+}
+
+fn is_data_size(number: i64) -> bool
+    ensures { IsTrue result ↔ IsNumberOf NumberKind.DataSize number }
+{
+    match u64::try_from(number) {
+        Ok(size) => is_size(size),
+        Err(_) => false,
+    }
+}
+
 impl NumberKind {
     /// Whether the number is of this kind.
     pub fn holds(self, number: i64) -> bool
@@ -106,6 +146,12 @@ impl NumberKind {
             NumberKind::JumpOffset => (-1048576..=1048574).contains(&number) && number % 2 == 0,
             NumberKind::Upper => (0..=1048575).contains(&number),
             NumberKind::FenceFields => (0..=4095).contains(&number),
+            NumberKind::DataSize => is_data_size(number),
+            NumberKind::Service => (0..=5).contains(&number),
+            NumberKind::Word => (-2147483648..=4294967295).contains(&number),
+            NumberKind::Half => (-32768..=65535).contains(&number),
+            NumberKind::Byte => (-128..=255).contains(&number),
+            NumberKind::ZeroCount => (0..=1048576).contains(&number),
         }
     }
 }

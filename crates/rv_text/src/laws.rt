@@ -1,5 +1,5 @@
-//! Laws of the text of instructions. A caller calls one to have its statement at hand.
-ghost use Rattle.rv_text.specs.Laws.{OneMeaning, OneCause, MeantIsNotRefused, MeaningsAreInRange, PrintedReadsBack};
+//! Laws of the text of instructions and of sources. A caller calls one to have its statement at hand.
+ghost use Rattle.rv_text.specs.Laws.{OneMeaning, OneCause, MeantIsNotRefused, MeaningsAreInRange, PrintedReadsBack, LeadsOnce, LeadingIsNotRefused, RefusedOnce, OneSource, OneFault, MeantHasNoFault, SourcesAreRight, ConstantsAddUp};
 
 /// A text means one instruction at most.
 pub fn one_meaning()
@@ -24,4 +24,44 @@ pub fn meanings_are_in_range()
 /// A printed instruction whose fields are in range means that instruction.
 pub fn printed_reads_back()
     ensures { PrintedReadsBack }
+{}
+
+/// A line leads from a source so far to one next one at most.
+pub fn leads_once()
+    ensures { LeadsOnce }
+{}
+
+/// A line that leads on is refused for no cause.
+pub fn leading_is_not_refused()
+    ensures { LeadingIsNotRefused }
+{}
+
+/// A line is refused for one cause at most.
+pub fn refused_once()
+    ensures { RefusedOnce }
+{}
+
+/// A text means one source at most.
+pub fn one_source()
+    ensures { OneSource }
+{}
+
+/// A text has one fault at most.
+pub fn one_fault()
+    ensures { OneFault }
+{}
+
+/// A text that means a source has no fault.
+pub fn meant_has_no_fault()
+    ensures { MeantHasNoFault }
+{}
+
+/// What a text means is within its limits, and its names, gates and instructions fit each other.
+pub fn sources_are_right()
+    ensures { SourcesAreRight }
+{}
+
+/// The lui and the addi that `li` stands for add up to its number.
+pub fn constants_add_up()
+    ensures { ConstantsAddUp }
 {}

@@ -1,26 +1,43 @@
 //! The assembler's text of instructions.
 //!
-//! [`parse_instr`] reads the text of one instruction and [`print_instr`] writes it; a printed
+//! [`parse_instr`] reads the text of one instruction, [`print_instr`] and [`push_instr`] write it; a printed
 //! instruction that a word spells reads back as itself. What a text means is
 //! `specs/Statement.antt`, over the tokens of `specs/Tokens.antt` and the operands of
 //! `specs/Forms.antt`; the printed text is `specs/Printed.antt`.
 #![tactic(auto)]
 
 mod cause;
+mod constant;
+mod data;
+mod draft;
+mod fault;
 mod form;
+mod item;
+mod keyword;
 pub mod laws;
 mod lexer;
+mod line;
 mod mnemonic;
+mod name_table;
 mod number;
 mod operands;
 mod parse;
 mod print;
+mod progress;
 mod read;
 mod register;
+mod rows;
+mod source;
+mod statement;
+mod text;
 
 pub use cause::TextCause;
+pub use fault::TextFault;
+pub use item::{Body, Item, Named, SourceGate};
 pub use parse::parse_instr;
-pub use print::print_instr;
+pub use print::{print_instr, push_instr};
+pub use source::{Source, SourcePart};
+pub use text::parse_source;
 
 #[cfg(test)]
 mod tests;

@@ -1,19 +1,24 @@
 //! The operands of a statement, and the instruction that they make with its name.
-ghost use Rattle.std.specs.Prelude.{◌≡◌, negsuc, ◌≤ℤ◌, pos};
+ghost use Rattle.std.specs.Prelude.{◌≡◌, pos};
 ghost use Rattle.rv_text.specs.Forms.{form_of};
 ghost use Rattle.rv_text.specs.Reading.{AgreesOn, Fits};
-ghost use Rattle.rv_text.specs.Statement.{mnemonic_of, operands_of};
+ghost use Rattle.rv_text.specs.Operands.{given};
+ghost use Rattle.rv_text.specs.Statement.{mnemonic_of, operands_of, operands};
 
 use crate::mnemonic::Mnemonic;
 use rv_word::{Instr, Reg};
 
-/// The operands of a statement; those that its form lacks are 0.
-#[derive(Clone, Copy, Debug, PartialEq, Eq)]
-pub struct Operands {
+/// The operands of a statement; those that its form lacks are 0 or none.
+#[derive(Clone, Copy, Debug)]
+pub struct Operands<'a> {
     pub rd: Reg,
     pub rs1: Reg,
     pub rs2: Reg,
     pub number: i64,
+    /// The name that a gate or a target has.
+    pub name: &'a str,
+    /// Whether `rvc` stands behind `.option`.
+    pub compressed: bool,
 }
 
 /// The register that reads as 0.
@@ -23,22 +28,38 @@ pub fn x0() -> Reg
     Reg::new(0).unwrap()
 }
 
-impl Operands {
+impl<'a> Operands<'a> {
     /// No operands.
     pub fn none() -> Self
-        ensures { (result.rd ≡ 0) × (result.rs1 ≡ 0) × (result.rs2 ≡ 0) × (result.number ≡ pos 0) }
+        ensures { given result ≡ operands 0 0 0 (pos 0) }
     {
         Operands {
             rd: x0(),
             rs1: x0(),
             rs2: x0(),
             number: 0,
+            name: "",
+            compressed: false,
+        }
+    }
+
+    /// The same operands.
+    pub fn copied(&self) -> Self
+        ensures { given result ≡ given self.now }
+    {
+        Operands {
+            rd: self.rd,
+            rs1: self.rs1,
+            rs2: self.rs2,
+            number: self.number,
+            name: self.name,
+            compressed: self.compressed,
         }
     }
 
     /// The instruction's operands.
     pub fn of(instr: &Instr) -> Self
-        ensures { result ≡ operands_of instr.now }
+        ensures { given result ≡ operands_of instr.now }
     {
         let none = Operands::none();
         match *instr {
@@ -95,15 +116,16 @@ impl Operands {
 
     /// The instruction of this name with these operands.
     pub fn instr(self, name: Mnemonic) -> Instr
-        requires { Fits self (form_of name) }
+        requires { Fits (given self) (form_of name) }
         ensures name { mnemonic_of result ≡ name }
-        ensures operands { AgreesOn (form_of name) (operands_of result) self }
+        ensures operands { AgreesOn (form_of name) (operands_of result) (given self.entry) }
     {
         let Operands {
             rd,
             rs1,
             rs2,
             number,
+            ..
         } = self;
         match name {
             Mnemonic::Op(op) => Instr::Op { op, rd, rs1, rs2 },

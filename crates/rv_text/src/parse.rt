@@ -14,7 +14,7 @@ use crate::operands::{Operands, x0};
 use crate::read::read_operands;
 use rv_word::Instr;
 
-fn is_name(token: &str) -> bool
+pub fn is_name(token: &str) -> bool
     requires { IsToken token.now }
     ensures { IsTrue result ↔ IsName token.now }
 {
@@ -38,7 +38,7 @@ fn is_bare_fence(name: Mnemonic, rest: &str) -> bool
 }
 
 /// The instruction of this name whose operands are the rest of the text.
-fn behind_name(name: Mnemonic, rest: &str) -> Result<Instr, TextCause>
+pub fn behind_name(name: Mnemonic, rest: &str) -> Result<Instr, TextCause>
     ensures ok { IfOk result (λ i. FollowsName rest.now name i) }
     ensures cause { IfErr result (λ e. RefusedBehind name rest.now e) }
 {
@@ -49,7 +49,7 @@ fn behind_name(name: Mnemonic, rest: &str) -> Result<Instr, TextCause>
             rs1: x0(),
         });
     }
-    match read_operands(name.form(), rest, Operands::none()) {
+    match read_operands(name.form(), rest, &Operands::none()) {
         Ok(o) => Ok(o.instr(name)),
         Err(e) => Err(e),
     }

@@ -3,6 +3,7 @@ ghost use Rattle.std.specs.Prelude.{◌≡◌, ◌++◌, OnOk, IfOk, string_byte
 ghost use Rattle.std.specs.List.{flat_map};
 ghost use Rattle.rv_word.specs.Spelling.{InRange};
 ghost use Rattle.rv_text.specs.Registers.{x_name};
+ghost use Rattle.rv_text.specs.Operands.{given};
 ghost use Rattle.rv_text.specs.Statement.{mnemonic_of, Means};
 ghost use Rattle.rv_text.specs.Printed.{part_text, number_text, printed, statement_text};
 
@@ -57,13 +58,15 @@ fn push_number(out: &mut String, kind: NumberKind, number: i64) -> Result<(), Al
 
 /// Writes one of the operands, or a mark, behind the text.
 fn push_part(out: &mut String, o: &Operands, part: Part) -> Result<(), AllocError>
-    ensures { OnOk result (string_bytes out.new ≡ string_bytes out.old ++ part_text o.now part) }
+    ensures { OnOk result (string_bytes out.new ≡ string_bytes out.old ++ part_text (given o.now) part) }
 {
     match part {
         Part::Rd => push_register(out, o.rd),
         Part::Rs1 => push_register(out, o.rs1),
         Part::Rs2 => push_register(out, o.rs2),
         Part::Number(kind) => push_number(out, kind, o.number),
+        Part::Name => out.push_str(o.name),
+        Part::Mode => out.push_str(if o.compressed { "rvc" } else { "norvc" }),
         Part::Comma => out.push_str(", "),
         Part::Open => out.push_str("("),
         Part::Close => out.push_str(")"),
@@ -73,7 +76,7 @@ fn push_part(out: &mut String, o: &Operands, part: Part) -> Result<(), AllocErro
 /// Writes the operands of this form behind the text.
 fn push_operands(out: &mut String, o: &Operands, form: &[Part]) -> Result<(), AllocError>
     ensures { OnOk result (string_bytes out.new
-        ≡ string_bytes out.old ++ flat_map (part_text o.now) form.now) }
+        ≡ string_bytes out.old ++ flat_map (part_text (given o.now)) form.now) }
 {
     for part in form {
         push_part(out, o, *part)?;
@@ -81,17 +84,25 @@ fn push_operands(out: &mut String, o: &Operands, form: &[Part]) -> Result<(), Al
     Ok(())
 }
 
-/// The text of a name and its operands.
-fn print_statement(alloc: Global, name: Mnemonic, o: &Operands) -> Result<String, AllocError>
-    ensures { IfOk result (λ s. string_bytes s ≡ statement_text name o.now) }
+/// Writes a name and its operands behind the text.
+fn push_statement(out: &mut String, name: Mnemonic, o: &Operands) -> Result<(), AllocError>
+    ensures { OnOk result (string_bytes out.new
+        ≡ string_bytes out.old ++ statement_text name (given o.now)) }
 {
     let form = name.form();
-    let mut out = String::from_str(alloc, name.name())?;
+    out.push_str(name.name())?;
     if !form.is_empty() {
         out.push_str(" ")?;
     }
-    push_operands(&mut out, o, form)?;
-    Ok(out)
+    push_operands(out, o, form)
+}
+
+/// Writes the text of an instruction, as [`print_instr`] gives it, behind the text.
+pub fn push_instr(out: &mut String, instr: &Instr) -> Result<(), AllocError>
+    ensures { OnOk result (string_bytes out.new ≡ string_bytes out.old ++ printed instr.now) }
+{
+    let operands = Operands::of(instr);
+    push_statement(out, Mnemonic::of_instr(instr), &operands)
 }
 
 /// The text of an instruction: its name, a space, and its operands joined by `, `.
@@ -105,6 +116,7 @@ pub fn print_instr(alloc: Global, instr: &Instr) -> Result<String, AllocError>
     ensures reads_back { IfOk result (λ text.
         InRange instr.now → Means (string_bytes text) instr.now) }
 {
-    let operands = Operands::of(instr);
-    print_statement(alloc, Mnemonic::of_instr(instr), &operands)
+    let mut out = String::new(alloc);
+    push_instr(&mut out, instr)?;
+    Ok(out)
 }

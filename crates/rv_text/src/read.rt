@@ -1,12 +1,12 @@
 //! Reading the operands of a statement off its text.
-ghost use Rattle.std.specs.Prelude.{◌≡◌, IfOk, OnErr, IfErr, IsTrue, List, ℕ, ℤ};
+ghost use Rattle.std.specs.Prelude.{◌≡◌, ◌≤◌, ◌↔◌, IfOk, OnErr, IfErr, IsTrue, Bool, List, length, ℕ, ℤ};
 ghost use Rattle.rv_text.specs.declared.cause.TextCause.{TextCause};
 ghost use Rattle.rv_text.specs.declared.cause.TextCause.TheVariants as cause;
-ghost use Rattle.rv_text.specs.Tokens.{IsNumber};
+ghost use Rattle.rv_text.specs.Tokens.{IsNumber, IsLabel, IsToken, begins_label, is_too_long};
 ghost use Rattle.rv_text.specs.Registers.{IsRegister};
 ghost use Rattle.rv_text.specs.Forms.{IsNumberOf};
-ghost use Rattle.rv_text.specs.Operands.{Stands, Departs, part_cause};
-ghost use Rattle.rv_text.specs.Reading.{Reads, KeepsOthers, operand_at, has_no_repeat, is_fresh};
+ghost use Rattle.rv_text.specs.Operands.{Given, given, Stands, Departs, part_cause, label_cause, mode_name};
+ghost use Rattle.rv_text.specs.Reading.{Reads, KeepsOthers, SameAt, has_no_repeat, is_fresh};
 
 use crate::cause::TextCause;
 use crate::form::{NumberKind, Part};
@@ -29,7 +29,7 @@ fn read_register(token: &str) -> Result<Reg, TextCause>
 }
 
 /// Whether the token is this mark.
-fn read_mark(token: &str, mark: &str) -> Result<(), TextCause>
+pub fn read_mark(token: &str, mark: &str) -> Result<(), TextCause>
     ensures ok { IfOk result (λ _. token.now ≡ mark.now) }
     ensures err { OnErr result (token.now ≡ mark.now → ⊥) }
     ensures cause { IfErr result (λ e. e ≡ cause.Operands) }
@@ -42,7 +42,7 @@ fn read_mark(token: &str, mark: &str) -> Result<(), TextCause>
 }
 
 /// The number of this kind that the token writes.
-fn read_number(token: &str, kind: NumberKind) -> Result<i64, TextCause>
+pub fn read_number(token: &str, kind: NumberKind) -> Result<i64, TextCause>
     ensures ok { IfOk result (λ z. IsNumber token.now z × IsNumberOf kind z) }
     ensures err { OnErr result ((z : ℤ) → IsNumber token.now z → IsNumberOf kind z → ⊥) }
     ensures cause { IfErr result (λ e. e ≡ cause.Number) }
@@ -59,42 +59,110 @@ fn read_number(token: &str, kind: NumberKind) -> Result<i64, TextCause>
     }
 }
 
-impl Operands {
+/// Whether a letter or `_` stands at the front.
+pub fn begins_label(token: &str) -> bool
+    ensures { result ≡ begins_label token.now }
+{
+    match token.as_bytes() {
+        [first, ..] => first.is_ascii_alphabetic() || *first == b'_',
+        [] => false,
+    }
+}
+
+/// Whether the token is a name that a label, a gate or a target may have, of any length.
+pub fn is_label(token: &str) -> bool
+    requires { IsToken token.now }
+    ensures { IsTrue result ↔ IsLabel token.now }
+{
+    begins_label(token)
+}
+
+/// Whether it has more than 64 bytes.
+pub fn is_too_long(token: &str) -> bool
+    ensures { result ≡ is_too_long token.now }
+{
+    begins_label(token) && token.len() > 64
+}
+
+/// The name that the token is: one that a label, a gate or a target may have.
+pub fn read_label(token: &str) -> Result<&str, TextCause>
+    requires { IsToken token.now }
+    ensures ok { IfOk result (λ name. IsLabel name.now × (length name.now ≤ 64) × (name.now ≡ token.now)) }
+    ensures err { OnErr result (IsLabel token.now → length token.now ≤ 64 → ⊥) }
+    ensures cause { IfErr result (λ e. e ≡ label_cause token.now) }
+{
+    if !is_label(token) {
+        Err(TextCause::Operands)
+    } else if is_too_long(token) {
+        Err(TextCause::Limit)
+    } else {
+        Ok(token)
+    }
+}
+
+/// Whether the token is `rvc`, and not `norvc`.
+fn read_mode(token: &str) -> Result<bool, TextCause>
+    ensures ok { IfOk result (λ rvc. token.now ≡ mode_name rvc) }
+    ensures err { OnErr result ((rvc : Bool) → token.now ≡ mode_name rvc → ⊥) }
+    ensures cause { IfErr result (λ e. e ≡ cause.Operands) }
+{
+    if token == "rvc" {
+        Ok(true)
+    } else if token == "norvc" {
+        Ok(false)
+    } else {
+        Err(TextCause::Operands)
+    }
+}
+
+impl<'a> Operands<'a> {
     /// The operands with the one that the token gives at this part.
-    fn with(self, part: Part, token: &str) -> Result<Operands, TextCause>
-        ensures stands { IfOk result (λ o. Stands o part token.now) }
-        ensures others { IfOk result (λ o. KeepsOthers part self o) }
-        ensures err { OnErr result ((o : Operands) → Stands o part token.now → ⊥) }
-        ensures cause { IfErr result (λ e. e ≡ part_cause part) }
+    fn with(&self, part: Part, token: &'a str) -> Result<Operands<'a>, TextCause>
+        requires { IsToken token.now }
+        ensures stands { IfOk result (λ o. Stands (given o) part token.now) }
+        ensures others { IfOk result (λ o. KeepsOthers part (given self.now) (given o)) }
+        ensures err { OnErr result ((o : Given) → Stands o part token.now → ⊥) }
+        ensures cause { IfErr result (λ e. e ≡ part_cause part token.now) }
     {
         match part {
             Part::Rd => match read_register(token) {
-                Ok(rd) => Ok(Operands { rd, ..self }),
+                Ok(rd) => Ok(Operands { rd, ..*self }),
                 Err(e) => Err(e),
             },
             Part::Rs1 => match read_register(token) {
-                Ok(rs1) => Ok(Operands { rs1, ..self }),
+                Ok(rs1) => Ok(Operands { rs1, ..*self }),
                 Err(e) => Err(e),
             },
             Part::Rs2 => match read_register(token) {
-                Ok(rs2) => Ok(Operands { rs2, ..self }),
+                Ok(rs2) => Ok(Operands { rs2, ..*self }),
                 Err(e) => Err(e),
             },
             Part::Number(kind) => match read_number(token, kind) {
-                Ok(number) => Ok(Operands { number, ..self }),
+                Ok(number) => Ok(Operands { number, ..*self }),
+                Err(e) => Err(e),
+            },
+            Part::Name => match read_label(token) {
+                Ok(name) => Ok(Operands { name, ..*self }),
+                Err(e) => Err(e),
+            },
+            Part::Mode => match read_mode(token) {
+                Ok(compressed) => Ok(Operands {
+                    compressed,
+                    ..*self
+                }),
                 Err(e) => Err(e),
             },
             Part::Comma => {
                 read_mark(token, ",")?;
-                Ok(self)
+                Ok(self.copied())
             }
             Part::Open => {
                 read_mark(token, "(")?;
-                Ok(self)
+                Ok(self.copied())
             }
             Part::Close => {
                 read_mark(token, ")")?;
-                Ok(self)
+                Ok(self.copied())
             }
         }
     }
@@ -102,16 +170,20 @@ impl Operands {
 
 /// Reads the operands of this form, which are all of the text; an operand's range is tested where
 /// it stands.
-pub fn read_operands(form: &[Part], text: &str, operands: Operands) -> Result<Operands, TextCause>
+pub fn read_operands<'a>(
+    form: &[Part],
+    text: &'a str,
+    operands: &Operands<'a>,
+) -> Result<Operands<'a>, TextCause>
     requires { IsTrue (has_no_repeat form.now) }
-    ensures reads { IfOk result (λ o. Reads o form.now text.now) }
+    ensures reads { IfOk result (λ o. Reads (given o) form.now text.now) }
     ensures others { IfOk result (λ o. (p : Part) → IsTrue (is_fresh p form.now)
-        → operand_at o p ≡ operand_at operands p) }
+        → SameAt p (given o) (given operands.now)) }
     ensures cause { IfErr result (λ e. Departs form.now text.now e) }
 {
     match form.split_first() {
         None => match next_token(text) {
-            Next::End => Ok(operands),
+            Next::End => Ok(operands.copied()),
             Next::Stuck => Err(TextCause::Word),
             Next::Token(..) => Err(TextCause::Operands),
         },
@@ -119,7 +191,7 @@ pub fn read_operands(form: &[Part], text: &str, operands: Operands) -> Result<Op
             Next::End => Err(TextCause::Operands),
             Next::Stuck => Err(TextCause::Word),
             Next::Token(token, rest) => match operands.with(*part, token) {
-                Ok(operands) => read_operands(more, rest, operands),
+                Ok(operands) => read_operands(more, rest, &operands),
                 Err(e) => Err(e),
             },
         },

@@ -1,0 +1,34 @@
+-- The two halves of a number add up to it.
+use Rattle.std.proofs.Common.{◌≡◌, ℕ, ◌+◌, ◌-◌, ◌*◌, ◌/◌, ◌%◌, ◌^◌, ◌<◌, inl, inr, ap, ◌∙◌, arith, ℤ, pos, negsuc, ◌+ℤ◌, ◌-ℤ◌}
+use Rattle.std.proofs.lemmas.Int.{ints}
+use Rattle.std.proofs.lemmas.Bool.{cases_lt}
+use Rattle.rv_word.specs.Numbers.{modulo}
+use Rattle.rv_text.specs.Constants.{rounded}
+use Rattle.rv_text.specs.Laws.{ConstantsAddUp}
+
+-- 2048 less
+less : (r t : ℕ) → t < 2 ^ 32 → (t + 2048) % 2 ^ 32 ≡ r → modulo 32 (pos r -ℤ pos 2048) ≡ t
+less r t lt e =
+    elim (cases_lt r 2048) [
+      | inl low ↦ let d : pos r -ℤ pos 2048 ≡ negsuc (2047 - r) = omega (arith, ints) in ap (modulo 32) d ∙ omega arith
+      | inr high ↦ let d : pos r -ℤ pos 2048 ≡ pos (r - 2048) = omega (arith, ints) in ap (modulo 32) d ∙ omega arith
+    ]
+
+-- 2048 more
+more : (z : ℤ) → (modulo 32 z + 2048) % 2 ^ 32 ≡ rounded z
+more (pos n) = omega arith
+more (negsuc n) =
+    elim (cases_lt n 2048) [
+      | inl low ↦ let d : pos (2047 - n) ≡ negsuc n +ℤ pos 2048 = omega (arith, ints) in let e : (modulo 32 (negsuc n) + 2048) % 2 ^ 32 ≡ (2047 - n) % 2 ^ 32 = omega arith in e ∙ ap (modulo 32) d
+      | inr high ↦ let d : negsuc (n - 2048) ≡ negsuc n +ℤ pos 2048 = omega (arith, ints) in let e : (modulo 32 (negsuc n) + 2048) % 2 ^ 32 ≡ 2 ^ 32 - 1 - (n - 2048) % 2 ^ 32 = omega arith in e ∙ ap (modulo 32) d
+    ]
+
+below : (z : ℤ) → modulo 32 z < 2 ^ 32
+below (pos n) = omega arith
+below (negsuc n) = omega arith
+
+joined : (r : ℕ) → pos (4096 * (r / 4096)) +ℤ (pos (r % 4096) -ℤ pos 2048) ≡ pos r -ℤ pos 2048
+joined r = omega (arith, ints)
+
+pub add_up : ConstantsAddUp
+add_up z = ap (modulo 32) (joined (rounded z)) ∙ less (rounded z) (modulo 32 z) (below z) (more z)

@@ -1,0 +1,74 @@
+-- What is read of labels at the front of a line.
+use Rattle.std.proofs.Common.{◌≡◌, ◌↔◌, refl, sym, ap, subst, ◌∙◌, ℕ, Bool, true, false, not, IsTrue, List, [], ◌∷◌, ◌++◌, true≢false, codes, length, length-append, arith, ◌<◌, ◌⊎◌, inl, inr}
+use Rattle.std.specs.Str.{bytes_eq}
+use Rattle.rv_text.specs.Tokens.{Takes, IsToken, IsLabel}
+use Rattle.rv_text.specs.SoFar.{Begun, SoFar}
+use Rattle.rv_text.specs.Effects.{IsFree, Labels, RefusesLabel}
+use Rattle.rv_text.specs.Leads.{BeginsWithName, BeginsWithLabel, HasNoLabel, LabelsLead, IsTaken, LabelRefused}
+use Rattle.rv_text.specs.declared.cause.TextCause.{TextCause}
+use Rattle.rv_text.specs.declared.cause.TextCause.TheVariants as cause
+use Rattle.rv_text.proofs.Taking.{takes_unique}
+use Rattle.rv_text.proofs.Lexing.{token_within}
+
+-- a token isn't empty
+token_some : (token : List ℕ) → IsToken token → 0 < length token
+token_some [] h = omega (arith, (token_within [] [] h))
+token_some (c ∷ cs) h = omega arith
+
+-- another token stands there
+pub other_token : (text token after : List ℕ) → Takes text token after → (token ≡ codes ":" → ⊥)
+    → (rest : List ℕ) → Takes text (codes ":") rest → ⊥
+other_token text token after takes other rest colon = other (takes_unique takes colon).0
+
+-- a text begins with one name at most
+pub one_name : (text a x b y : List ℕ) → BeginsWithName text a x → BeginsWithName text b y → (a ≡ b) × (x ≡ y)
+one_name text a x b y h k = takes_unique h.0 k.0
+
+-- the token at the front is no name
+pub other_name : (text token after : List ℕ) → Takes text token after → (IsLabel token → ⊥)
+    → (name rest : List ℕ) → BeginsWithName text name rest → ⊥
+other_name text token after takes other name rest begins =
+    other (subst IsLabel (sym (takes_unique takes begins.0).0) begins.1)
+
+-- a name with no colon behind it is no label
+pub no_colon : (text name after : List ℕ) → BeginsWithName text name after → ((rest : List ℕ) → Takes after (codes ":") rest → ⊥) → HasNoLabel text
+no_colon text name after begins none other rest (a, begun, colon) =
+    none rest (subst (λ t. Takes t (codes ":") rest) (sym (takes_unique begins.0 begun.0).1) colon)
+
+-- whether the name at the front is there already
+pub taken : (b : Begun) (text name rest : List ℕ) (free : Bool) → BeginsWithName text name rest → (IsTrue free ↔ IsFree name b)
+    → IsTrue (not free) ↔ IsTaken b text
+taken b text name rest true begins free =
+    (λ h. absurd (true≢false (sym h)), λ t. absurd (t.3 (subst (λ n. IsFree n b) (takes_unique begins.0 t.2.0).0 (free.0 refl))))
+taken b text name rest false begins free =
+    (λ h. (name, rest, begins, λ f. true≢false (sym (free.1 f))), λ t. refl)
+
+-- one more label behind others
+pub one_more : (names : List (List ℕ)) (old next new : SoFar) (text rest after name : List ℕ)
+    → LabelsLead names old text next rest → BeginsWithLabel rest name after → Labels name next new
+    → LabelsLead (names ++ name ∷ []) old text new after
+one_more [] old next new text rest after name (same, is) begins labels =
+    (new, after, subst (λ t. BeginsWithLabel t name after) is begins, subst (λ s. Labels name s new) same labels, (refl, refl))
+one_more (n ∷ ns) old next new text rest after name (middle, behind, begun, labelled, more) begins labels =
+    (middle, behind, begun, labelled, one_more ns middle next new behind rest after name more begins labels)
+
+-- no name stands at the front, so none that is there already
+pub none_taken : (b : Begun) (text : List ℕ) → ((name rest : List ℕ) → BeginsWithName text name rest → ⊥) → IsTrue false ↔ IsTaken b text
+none_taken b text none = (λ h. absurd (true≢false (sym h)), λ t. absurd (none t.0 t.1 t.2))
+
+-- the text behind a token is shorter
+pub takes_shortens : {text token rest : List ℕ} → Takes text token rest → length rest < length text
+takes_shortens {text} {token} {rest} t =
+    omega (arith, ap length t.whole, length-append t.gap (token ++ rest), length-append token rest, token_some token t.is_token)
+
+-- the text behind a label is shorter
+pub label_shortens : (text name rest : List ℕ) → BeginsWithLabel text name rest → length rest < length text
+label_shortens text name rest (after, begins, colon) = omega (arith, takes_shortens begins.0, takes_shortens colon)
+
+-- a label that is refused behind others that lead on
+pub refused_label : (names : List (List ℕ)) (old next : SoFar) (text rest name after : List ℕ) (e : TextCause)
+    → LabelsLead names old text next rest → BeginsWithLabel rest name after → (e ≡ cause.Memory) ⊎ RefusesLabel name next e
+    → (e ≡ cause.Memory) ⊎ LabelRefused old text e
+refused_label names old next text rest name after e lead begins (inl memory) = inl memory
+refused_label names old next text rest name after e lead begins (inr refused) =
+    inr (names, next, rest, name, after, lead, begins, refused)

@@ -1,0 +1,278 @@
+-- A line states one thing, or nothing for one cause.
+use Rattle.std.proofs.Common.{◌≡◌, ℕ, List, [], ◌∷◌, ◌⊎◌, inl, inr, refl, sym, ap, ◌∙◌, subst, ℤ, pos, Result, Ok, Err, IfOk}
+use Rattle.std.specs.Prelude.{IfErr, MatchResult, unsigned_abs, replicate}
+use Rattle.std.specs.List.{flat_map}
+use Rattle.rv_word.specs.declared.instr.Instr.{Instr}
+use Rattle.rv_word.specs.declared.instr.Instr.TheVariants as instr
+use Rattle.rv_word.specs.declared.instr.Cond.{Cond}
+use Rattle.rv_word.specs.declared.instr.Cond.TheVariants.{Beq, Bne}
+use Rattle.rv_word.specs.declared.instr.ImmOp.TheVariants.{Addi}
+use Rattle.rv_text.specs.declared.cause.TextCause.{TextCause}
+use Rattle.rv_text.specs.declared.cause.TextCause.TheVariants as cause
+use Rattle.rv_text.specs.declared.mnemonic.Mnemonic.{Mnemonic}
+use Rattle.rv_text.specs.declared.mnemonic.Mnemonic.TheVariants as mnemonic
+use Rattle.rv_text.specs.declared.form.Part.{Part}
+use Rattle.rv_text.specs.declared.keyword.Directive.{Directive}
+use Rattle.rv_text.specs.declared.keyword.Directive.TheVariants as directive
+use Rattle.rv_text.specs.declared.keyword.Pseudo.{Pseudo}
+use Rattle.rv_text.specs.declared.keyword.Pseudo.TheVariants.{Nop, Ret, Li, Mv, Jr, J, Call, Beqz, Bnez, La}
+use Rattle.rv_text.specs.declared.keyword.DataWidth.{DataWidth}
+use Rattle.rv_text.specs.declared.keyword.Keyword.{Keyword}
+use Rattle.rv_text.specs.declared.keyword.Keyword.TheVariants as keyword
+use Rattle.rv_text.specs.declared.statement.Statement.{Statement}
+use Rattle.rv_text.specs.Tokens.{IsBlank, AreTokens, LeadsTo}
+use Rattle.rv_text.specs.Mnemonics.{name_of}
+use Rattle.rv_text.specs.Forms.{form_of}
+use Rattle.rv_text.specs.Operands.{Given, Departs}
+use Rattle.rv_text.specs.Statement.{mnemonic_of, operands_of, Spells}
+use Rattle.rv_text.specs.Reading.{Reads, AgreesOn, FollowsName, RefusedBehind}
+use Rattle.rv_text.specs.Keywords.{directive_form, directive_states, pseudo_form, pseudo_states, branch_form, branch_states, jal_form, jal_states, data_kind}
+use Rattle.rv_text.specs.Constants.{constant, data_bytes}
+use Rattle.rv_text.specs.Lines.{Writes, AreMore, IsRow, IsData, StatesBehind, InstrDeparts, RefusedWith}
+use Rattle.rv_text.specs.Lists.{ReadsRow, ReadsInstr, ReadsBehind, ReadsList}
+use Rattle.rv_text.specs.Stated.{Stated, stated, IsRightStatement, sandbox, gate, compressed, bytes, plain, jump, address}
+use Rattle.rv_text.proofs.Names.{name_unique}
+use Rattle.rv_text.proofs.Meaning.{tokens_of, from_tokens, agree}
+use Rattle.rv_text.proofs.OneMeaning.{follows_one}
+use Rattle.rv_text.proofs.Refusals.{departs_one, departs_reads}
+use Rattle.rv_text.proofs.Right.{behind_right}
+use Rattle.rv_text.proofs.Lists.{departs_list_one, more_tokens, more_leads, list_one, list_not_refused}
+
+-- an instruction that goes to no name, by itself
+abbrev ReadsPlain : Mnemonic → List ℕ → Stated → Type 0
+ReadsPlain name text s = (i : Instr) × FollowsName text name i × (s ≡ plain (i ∷ []))
+
+abbrev IsPlain : Mnemonic → List (List ℕ) → Stated → Type 0
+IsPlain name tokens s = (i : Instr) × Spells i (name_of name ∷ tokens) × (s ≡ plain (i ∷ []))
+
+module _ (name : Mnemonic) (no_branch : (cond : Cond) → name ≡ mnemonic.Branch cond → ⊥) (no_jal : name ≡ mnemonic.Jal → ⊥) where
+  pub plain_reads : (text : List ℕ) (s : Stated) → ReadsPlain name text s → ReadsInstr name text s
+  plain_reads text s = by_case name no_branch no_jal
+    where
+      by_case : (m : Mnemonic) → ((cond : Cond) → m ≡ mnemonic.Branch cond → ⊥) → (m ≡ mnemonic.Jal → ⊥) → ReadsPlain m text s → ReadsInstr m text s
+      by_case (mnemonic.Op op) b j h = h
+      by_case (mnemonic.OpImm op) b j h = h
+      by_case (mnemonic.Load kind) b j h = h
+      by_case (mnemonic.Store width) b j h = h
+      by_case (mnemonic.Branch cond) b j h = absurd (b cond refl)
+      by_case mnemonic.Jal b j h = absurd (j refl)
+      by_case mnemonic.Jalr b j h = h
+      by_case mnemonic.Lui b j h = h
+      by_case mnemonic.Auipc b j h = h
+      by_case mnemonic.Fence b j h = h
+      by_case mnemonic.Ecall b j h = h
+      by_case mnemonic.Ebreak b j h = h
+
+  pub plain_departs : (text : List ℕ) (e : TextCause) → RefusedBehind name text e → InstrDeparts name text e
+  plain_departs text e = by_case name no_branch no_jal
+    where
+      by_case : (m : Mnemonic) → ((cond : Cond) → m ≡ mnemonic.Branch cond → ⊥) → (m ≡ mnemonic.Jal → ⊥) → RefusedBehind m text e → InstrDeparts m text e
+      by_case (mnemonic.Op op) b j h = h
+      by_case (mnemonic.OpImm op) b j h = h
+      by_case (mnemonic.Load kind) b j h = h
+      by_case (mnemonic.Store width) b j h = h
+      by_case (mnemonic.Branch cond) b j h = absurd (b cond refl)
+      by_case mnemonic.Jal b j h = absurd (j refl)
+      by_case mnemonic.Jalr b j h = h
+      by_case mnemonic.Lui b j h = h
+      by_case mnemonic.Auipc b j h = h
+      by_case mnemonic.Fence b j h = h
+      by_case mnemonic.Ecall b j h = h
+      by_case mnemonic.Ebreak b j h = h
+
+-- what is read off a text is what its tokens state, and the other way round
+module _ (form : List Part) (states : Given → Stated) (text : List ℕ) (s : Stated) where
+  row_states : ReadsRow form states text s → (tokens : List (List ℕ)) × AreTokens text tokens × IsRow form states tokens s
+  row_states (o, reads, e) = let t = tokens_of o form text reads in (t.0, t.1, (o, t.2, e))
+
+  row_reads : (tokens : List (List ℕ)) → AreTokens text tokens → IsRow form states tokens s → ReadsRow form states text s
+  row_reads tokens are (o, form_is, e) = (o, from_tokens o form tokens text are form_is, e)
+
+module _ (name : Mnemonic) (text : List ℕ) (s : Stated) where
+  plain_states : ReadsPlain name text s → (tokens : List (List ℕ)) × AreTokens text tokens × IsPlain name tokens s
+  plain_states (i, (same, inl reads), e) =
+      let t = tokens_of (operands_of i) (form_of (mnemonic_of i)) text reads in
+      (t.0, t.1, (i, (ap name_of (sym same), inl t.2), e))
+  plain_states (i, (same, inr (fence, blank)), e) = ([], (text, refl, blank), (i, (ap name_of (sym same), inr (fence, refl)), e))
+
+  plain_read : (tokens : List (List ℕ)) → AreTokens text tokens → IsPlain name tokens s → ReadsPlain name text s
+  plain_read tokens are (i, (named, inl form), e) = (i, (name_unique (mnemonic_of i) name (sym named), inl (from_tokens (operands_of i) (form_of (mnemonic_of i)) tokens text are form)), e)
+  plain_read tokens (last, leads, blank) (i, (named, inr (fence, none)), e) =
+      let ends : text ≡ last = subst (λ ts. LeadsTo text ts last) none leads in
+      (i, (name_unique (mnemonic_of i) name (sym named), inr (fence, subst IsBlank (sym ends) blank)), e)
+
+list_states : (width : DataWidth) (text b : List ℕ) → ReadsList width text b → (tokens : List (List ℕ)) × AreTokens text tokens × IsData width tokens (bytes b)
+list_states width text b (z, rest, (t, takes, writes), (ns, last, leads, blank, e)) =
+    let more = more_tokens (data_kind width) ns rest last leads blank in
+    (t ∷ more.0, (more.1.0, (rest, takes, more.1.1), more.1.2), (z ∷ ns, (writes, more.2), ap bytes e))
+
+list_read : (width : DataWidth) (t : List ℕ) (tokens : List (List ℕ)) (text : List ℕ) (s : Stated) (z : ℤ) (ns : List ℤ) → AreTokens text (t ∷ tokens) → Writes (data_kind width) t z → AreMore (data_kind width) ns tokens → s ≡ bytes (flat_map (data_bytes width) (z ∷ ns)) → (b : List ℕ) × ReadsList width text b × (s ≡ bytes b)
+list_read width t tokens text s z ns (last, (rest, takes, leads), blank) writes more e =
+    let m = more_leads (data_kind width) ns tokens rest (last, leads, blank) more in
+    (flat_map (data_bytes width) (z ∷ ns), (z, rest, (t, takes, writes), (ns, m.0, m.1, m.2, refl)), e)
+
+list_reads : (width : DataWidth) (tokens : List (List ℕ)) (text : List ℕ) (s : Stated) → AreTokens text tokens → IsData width tokens s → (b : List ℕ) × ReadsList width text b × (s ≡ bytes b)
+list_reads width [] text s are ([], none, e) = absurd none
+list_reads width [] text s are (z ∷ ns, none, e) = absurd none
+list_reads width (t ∷ tokens) text s are ([], none, e) = absurd none
+list_reads width (t ∷ tokens) text s are (z ∷ ns, (writes, more), e) = list_read width t tokens text s z ns are writes more e
+
+pub reads_states : (k : Keyword) (text : List ℕ) (s : Stated) → ReadsBehind k text s → StatesBehind k text s
+reads_states (keyword.Instr (mnemonic.Branch cond)) text s h = row_states branch_form (branch_states cond) text s h
+reads_states (keyword.Instr mnemonic.Jal) text s h = row_states jal_form jal_states text s h
+reads_states (keyword.Instr (mnemonic.Op op)) text s h = plain_states (mnemonic.Op op) text s h
+reads_states (keyword.Instr (mnemonic.OpImm op)) text s h = plain_states (mnemonic.OpImm op) text s h
+reads_states (keyword.Instr (mnemonic.Load kind)) text s h = plain_states (mnemonic.Load kind) text s h
+reads_states (keyword.Instr (mnemonic.Store width)) text s h = plain_states (mnemonic.Store width) text s h
+reads_states (keyword.Instr mnemonic.Jalr) text s h = plain_states mnemonic.Jalr text s h
+reads_states (keyword.Instr mnemonic.Lui) text s h = plain_states mnemonic.Lui text s h
+reads_states (keyword.Instr mnemonic.Auipc) text s h = plain_states mnemonic.Auipc text s h
+reads_states (keyword.Instr mnemonic.Fence) text s h = plain_states mnemonic.Fence text s h
+reads_states (keyword.Instr mnemonic.Ecall) text s h = plain_states mnemonic.Ecall text s h
+reads_states (keyword.Instr mnemonic.Ebreak) text s h = plain_states mnemonic.Ebreak text s h
+reads_states (keyword.Pseudo name) text s h = row_states (pseudo_form name) (pseudo_states name) text s h
+reads_states (keyword.Directive name) text s h = row_states (directive_form name) (directive_states name) text s h
+reads_states (keyword.Numbers width) text s (b, reads, e) =
+    let t = list_states width text b reads in
+    (t.0, t.1, subst (IsData width t.0) (sym e) t.2)
+
+pub states_reads : (k : Keyword) (text : List ℕ) (s : Stated) → StatesBehind k text s → ReadsBehind k text s
+states_reads (keyword.Instr (mnemonic.Branch cond)) text s (ts, are, h) = row_reads branch_form (branch_states cond) text s ts are h
+states_reads (keyword.Instr mnemonic.Jal) text s (ts, are, h) = row_reads jal_form jal_states text s ts are h
+states_reads (keyword.Instr (mnemonic.Op op)) text s (ts, are, h) = plain_read (mnemonic.Op op) text s ts are h
+states_reads (keyword.Instr (mnemonic.OpImm op)) text s (ts, are, h) = plain_read (mnemonic.OpImm op) text s ts are h
+states_reads (keyword.Instr (mnemonic.Load kind)) text s (ts, are, h) = plain_read (mnemonic.Load kind) text s ts are h
+states_reads (keyword.Instr (mnemonic.Store width)) text s (ts, are, h) = plain_read (mnemonic.Store width) text s ts are h
+states_reads (keyword.Instr mnemonic.Jalr) text s (ts, are, h) = plain_read mnemonic.Jalr text s ts are h
+states_reads (keyword.Instr mnemonic.Lui) text s (ts, are, h) = plain_read mnemonic.Lui text s ts are h
+states_reads (keyword.Instr mnemonic.Auipc) text s (ts, are, h) = plain_read mnemonic.Auipc text s ts are h
+states_reads (keyword.Instr mnemonic.Fence) text s (ts, are, h) = plain_read mnemonic.Fence text s ts are h
+states_reads (keyword.Instr mnemonic.Ecall) text s (ts, are, h) = plain_read mnemonic.Ecall text s ts are h
+states_reads (keyword.Instr mnemonic.Ebreak) text s (ts, are, h) = plain_read mnemonic.Ebreak text s ts are h
+states_reads (keyword.Pseudo name) text s (ts, are, h) = row_reads (pseudo_form name) (pseudo_states name) text s ts are h
+states_reads (keyword.Directive name) text s (ts, are, h) = row_reads (directive_form name) (directive_states name) text s ts are h
+states_reads (keyword.Numbers width) text s (ts, are, h) = list_reads width ts text s are h
+
+-- what a row states is by the operands of its form alone
+directive_agrees : (d : Directive) (a b : Given) → AgreesOn (directive_form d) a b → directive_states d a ≡ directive_states d b
+directive_agrees directive.Sandbox a b h = λ i. sandbox (unsigned_abs (h.0 i))
+directive_agrees directive.Gate a b h = λ i. gate (h.0 i) (unsigned_abs (h.1.0 i))
+directive_agrees directive.Option a b h = λ i. compressed (h.0 i)
+directive_agrees directive.Data a b h = refl
+directive_agrees directive.Zero a b h = λ i. bytes (replicate (unsigned_abs (h.0 i)) 0)
+
+pseudo_agrees : (p : Pseudo) (a b : Given) → AgreesOn (pseudo_form p) a b → pseudo_states p a ≡ pseudo_states p b
+pseudo_agrees Nop a b h = refl
+pseudo_agrees Ret a b h = refl
+pseudo_agrees Li a b h = λ i. plain (constant (h.0 i) (h.1.1.0 i))
+pseudo_agrees Mv a b h = λ i. plain (instr.OpImm Addi (h.0 i) (h.1.1.0 i) (pos 0) ∷ [])
+pseudo_agrees Jr a b h = λ i. plain (instr.Jalr 0 (h.0 i) (pos 0) ∷ [])
+pseudo_agrees J a b h = λ i. jump (instr.Jal 0 (pos 0)) (h.0 i)
+pseudo_agrees Call a b h = λ i. jump (instr.Jal 1 (pos 0)) (h.0 i)
+pseudo_agrees Beqz a b h = λ i. jump (instr.Branch Beq (h.0 i) 0 (pos 0)) (h.1.1.0 i)
+pseudo_agrees Bnez a b h = λ i. jump (instr.Branch Bne (h.0 i) 0 (pos 0)) (h.1.1.0 i)
+pseudo_agrees La a b h = λ i. address (h.0 i) (h.1.1.0 i)
+
+branch_agrees : (cond : Cond) (a b : Given) → AgreesOn branch_form a b → branch_states cond a ≡ branch_states cond b
+branch_agrees cond a b h = λ i. jump (instr.Branch cond (h.0 i) (h.1.1.0 i) (pos 0)) (h.1.1.1.1.0 i)
+
+jal_agrees : (a b : Given) → AgreesOn jal_form a b → jal_states a ≡ jal_states b
+jal_agrees a b h = λ i. jump (instr.Jal (h.0 i) (pos 0)) (h.1.1.0 i)
+
+row_one : (form : List Part) (states : Given → Stated) → ((a b : Given) → AgreesOn form a b → states a ≡ states b) → (text : List ℕ) (s t : Stated) → ReadsRow form states text s → ReadsRow form states text t → s ≡ t
+row_one form states agrees text s t (o, reads, e) (p, read, f) = e ∙ agrees o p (agree o p form text reads read) ∙ sym f
+
+plain_one : (name : Mnemonic) (text : List ℕ) (s t : Stated) → ReadsPlain name text s → ReadsPlain name text t → s ≡ t
+plain_one name text s t (i, h, e) (j, k, f) = e ∙ ap (λ x. plain (x ∷ [])) (follows_one text i j (k.0 ∙ sym h.0) h.1 k.1) ∙ sym f
+
+-- a text behind a keyword states one thing
+pub reads_one : (k : Keyword) (text : List ℕ) (s t : Stated) → ReadsBehind k text s → ReadsBehind k text t → s ≡ t
+reads_one (keyword.Instr (mnemonic.Branch cond)) text s t h j = row_one branch_form (branch_states cond) (branch_agrees cond) text s t h j
+reads_one (keyword.Instr mnemonic.Jal) text s t h j = row_one jal_form jal_states jal_agrees text s t h j
+reads_one (keyword.Instr (mnemonic.Op op)) text s t h j = plain_one (mnemonic.Op op) text s t h j
+reads_one (keyword.Instr (mnemonic.OpImm op)) text s t h j = plain_one (mnemonic.OpImm op) text s t h j
+reads_one (keyword.Instr (mnemonic.Load kind)) text s t h j = plain_one (mnemonic.Load kind) text s t h j
+reads_one (keyword.Instr (mnemonic.Store width)) text s t h j = plain_one (mnemonic.Store width) text s t h j
+reads_one (keyword.Instr mnemonic.Jalr) text s t h j = plain_one mnemonic.Jalr text s t h j
+reads_one (keyword.Instr mnemonic.Lui) text s t h j = plain_one mnemonic.Lui text s t h j
+reads_one (keyword.Instr mnemonic.Auipc) text s t h j = plain_one mnemonic.Auipc text s t h j
+reads_one (keyword.Instr mnemonic.Fence) text s t h j = plain_one mnemonic.Fence text s t h j
+reads_one (keyword.Instr mnemonic.Ecall) text s t h j = plain_one mnemonic.Ecall text s t h j
+reads_one (keyword.Instr mnemonic.Ebreak) text s t h j = plain_one mnemonic.Ebreak text s t h j
+reads_one (keyword.Pseudo name) text s t h j = row_one (pseudo_form name) (pseudo_states name) (pseudo_agrees name) text s t h j
+reads_one (keyword.Directive name) text s t h j = row_one (directive_form name) (directive_states name) (directive_agrees name) text s t h j
+reads_one (keyword.Numbers width) text s t (b, h, e) (c, j, f) = e ∙ ap bytes (list_one width text b c h j) ∙ sym f
+
+row_not : (form : List Part) (states : Given → Stated) (text : List ℕ) (s : Stated) (e : TextCause) → ReadsRow form states text s → Departs form text e → ⊥
+row_not form states text s e (o, reads, is) departs = departs_reads form text e o departs reads
+
+plain_not : (name : Mnemonic) (text : List ℕ) (s : Stated) (e : TextCause) → ReadsPlain name text s → RefusedBehind name text e → ⊥
+plain_not name text s e (i, (same, inl reads), is) refused =
+    departs_reads (form_of name) text e (operands_of i) refused.1 (subst (λ m. Reads (operands_of i) (form_of m) text) same reads)
+plain_not name text s e (i, (same, inr (fence, blank)), is) refused = refused.0 (sym same ∙ ap mnemonic_of fence, blank)
+
+-- and is refused for no cause then
+pub reads_not : (k : Keyword) (text : List ℕ) (s : Stated) (e : TextCause) → ReadsBehind k text s → RefusedWith k text e → ⊥
+reads_not (keyword.Instr (mnemonic.Branch cond)) text s e h r = row_not branch_form (branch_states cond) text s e h r
+reads_not (keyword.Instr mnemonic.Jal) text s e h r = row_not jal_form jal_states text s e h r
+reads_not (keyword.Instr (mnemonic.Op op)) text s e h r = plain_not (mnemonic.Op op) text s e h r
+reads_not (keyword.Instr (mnemonic.OpImm op)) text s e h r = plain_not (mnemonic.OpImm op) text s e h r
+reads_not (keyword.Instr (mnemonic.Load kind)) text s e h r = plain_not (mnemonic.Load kind) text s e h r
+reads_not (keyword.Instr (mnemonic.Store width)) text s e h r = plain_not (mnemonic.Store width) text s e h r
+reads_not (keyword.Instr mnemonic.Jalr) text s e h r = plain_not mnemonic.Jalr text s e h r
+reads_not (keyword.Instr mnemonic.Lui) text s e h r = plain_not mnemonic.Lui text s e h r
+reads_not (keyword.Instr mnemonic.Auipc) text s e h r = plain_not mnemonic.Auipc text s e h r
+reads_not (keyword.Instr mnemonic.Fence) text s e h r = plain_not mnemonic.Fence text s e h r
+reads_not (keyword.Instr mnemonic.Ecall) text s e h r = plain_not mnemonic.Ecall text s e h r
+reads_not (keyword.Instr mnemonic.Ebreak) text s e h r = plain_not mnemonic.Ebreak text s e h r
+reads_not (keyword.Pseudo name) text s e h r = row_not (pseudo_form name) (pseudo_states name) text s e h r
+reads_not (keyword.Directive name) text s e h r = row_not (directive_form name) (directive_states name) text s e h r
+reads_not (keyword.Numbers width) text s e (b, h, is) r = list_not_refused width text b e h r
+
+plain_cause : (name : Mnemonic) (text : List ℕ) (e f : TextCause) → RefusedBehind name text e → RefusedBehind name text f → e ≡ f
+plain_cause name text e f h j = departs_one (form_of name) text e f h.1 j.1
+
+-- and for one cause else
+pub refused_one : (k : Keyword) (text : List ℕ) (e f : TextCause) → RefusedWith k text e → RefusedWith k text f → e ≡ f
+refused_one (keyword.Instr (mnemonic.Branch cond)) text e f h j = departs_one branch_form text e f h j
+refused_one (keyword.Instr mnemonic.Jal) text e f h j = departs_one jal_form text e f h j
+refused_one (keyword.Instr (mnemonic.Op op)) text e f h j = plain_cause (mnemonic.Op op) text e f h j
+refused_one (keyword.Instr (mnemonic.OpImm op)) text e f h j = plain_cause (mnemonic.OpImm op) text e f h j
+refused_one (keyword.Instr (mnemonic.Load kind)) text e f h j = plain_cause (mnemonic.Load kind) text e f h j
+refused_one (keyword.Instr (mnemonic.Store width)) text e f h j = plain_cause (mnemonic.Store width) text e f h j
+refused_one (keyword.Instr mnemonic.Jalr) text e f h j = plain_cause mnemonic.Jalr text e f h j
+refused_one (keyword.Instr mnemonic.Lui) text e f h j = plain_cause mnemonic.Lui text e f h j
+refused_one (keyword.Instr mnemonic.Auipc) text e f h j = plain_cause mnemonic.Auipc text e f h j
+refused_one (keyword.Instr mnemonic.Fence) text e f h j = plain_cause mnemonic.Fence text e f h j
+refused_one (keyword.Instr mnemonic.Ecall) text e f h j = plain_cause mnemonic.Ecall text e f h j
+refused_one (keyword.Instr mnemonic.Ebreak) text e f h j = plain_cause mnemonic.Ebreak text e f h j
+refused_one (keyword.Pseudo name) text e f h j = departs_one (pseudo_form name) text e f h j
+refused_one (keyword.Directive name) text e f h j = departs_one (directive_form name) text e f h j
+refused_one (keyword.Numbers width) text e f h j = departs_list_one (data_kind width) text e f h j
+
+-- the same of what is stated
+pub states_one : (k : Keyword) (text : List ℕ) (s t : Stated) → StatesBehind k text s → StatesBehind k text t → s ≡ t
+states_one k text s t h j = reads_one k text s t (states_reads k text s h) (states_reads k text t j)
+
+pub states_not : (k : Keyword) (text : List ℕ) (s : Stated) (e : TextCause) → StatesBehind k text s → RefusedWith k text e → ⊥
+states_not k text s e h r = reads_not k text s e (states_reads k text s h) r
+
+-- what the code's answer says of the text behind a keyword
+module _ (k : Keyword) (text : List ℕ) where
+  pub answer_states : (r : Result Statement TextCause) → IfOk r (λ s. ReadsBehind k text (stated s)) → IfOk r (λ s. StatesBehind k text (stated s))
+  answer_states (Ok s) h = reads_states k text (stated s) h
+  answer_states (Err e) h = tt
+
+  pub answer_right : (r : Result Statement TextCause) → IfOk r (λ s. ReadsBehind k text (stated s)) → IfOk r (λ s. IsRightStatement (stated s))
+  answer_right (Ok s) h = let states = reads_states k text (stated s) h in behind_right k states.0 (stated s) states.2
+  answer_right (Err e) h = tt
+
+  pub answer_only : (r : Result Statement TextCause) → IfOk r (λ s. ReadsBehind k text (stated s)) → IfErr r (λ e. (e ≡ cause.Memory) ⊎ RefusedWith k text e) → (s : Stated) → StatesBehind k text s → MatchResult r (λ t. stated t ≡ s) (λ e. e ≡ cause.Memory)
+  answer_only (Ok t) h c s states = reads_one k text (stated t) s h (states_reads k text s states)
+  answer_only (Err e) h (inl memory) s states = memory
+  answer_only (Err e) h (inr refused) s states = absurd (reads_not k text s e (states_reads k text s states) refused)
+
+  pub answer_cause : (r : Result Statement TextCause) → IfOk r (λ s. ReadsBehind k text (stated s)) → IfErr r (λ e. (e ≡ cause.Memory) ⊎ RefusedWith k text e) → (e : TextCause) → RefusedWith k text e → MatchResult r (λ _. ⊥) (λ f. (f ≡ e) ⊎ (f ≡ cause.Memory))
+  answer_cause (Ok t) h c e refused = reads_not k text (stated t) e h refused
+  answer_cause (Err f) h (inl memory) e refused = inr memory
+  answer_cause (Err f) h (inr other) e refused = inl (refused_one k text f e other refused)

@@ -1,0 +1,229 @@
+-- What a line states is in range.
+use Rattle.std.proofs.Common.{◌≡◌, ℕ, ◌^◌, ◌<◌, ◌≤◌, Bool, true, false, cond, List, [], ◌∷◌, length, inl, inr, refl, sym, ap, ◌∙◌, subst, arith, ℤ, pos, negsuc, ◌+ℤ◌}
+use Rattle.std.specs.Prelude.{unsigned_abs, ◌==◌}
+use Rattle.std.specs.List.{All, flat_map}
+use Rattle.std.proofs.lemmas.Int.{ints}
+use Rattle.std.proofs.lemmas.List.Elements.{All-nil, All-cons, All-append, All-replicate, All-from_recursion}
+use Rattle.rv_word.specs.declared.instr.Instr.{Instr}
+use Rattle.rv_word.specs.declared.instr.Instr.TheVariants as instr
+use Rattle.rv_word.specs.declared.instr.ImmOp.TheVariants.{Addi}
+use Rattle.rv_word.specs.declared.instr.Cond.{Cond}
+use Rattle.rv_word.specs.Numbers.{modulo}
+use Rattle.rv_word.specs.Spelling.{InRange, IsImm12}
+use Rattle.rv_text.specs.declared.mnemonic.Mnemonic.{Mnemonic}
+use Rattle.rv_text.specs.declared.mnemonic.Mnemonic.TheVariants as mnemonic
+use Rattle.rv_text.specs.declared.form.Part.{Part}
+use Rattle.rv_text.specs.declared.keyword.Directive.{Directive}
+use Rattle.rv_text.specs.declared.keyword.Directive.TheVariants as directive
+use Rattle.rv_text.specs.declared.keyword.Pseudo.{Pseudo}
+use Rattle.rv_text.specs.declared.keyword.Pseudo.TheVariants.{Nop, Ret, Li, Mv, Jr, J, Call, Beqz, Bnez, La}
+use Rattle.rv_text.specs.declared.keyword.DataWidth.{DataWidth}
+use Rattle.rv_text.specs.declared.keyword.DataWidth.TheVariants.{Word, Half, Byte}
+use Rattle.rv_text.specs.declared.keyword.Keyword.{Keyword}
+use Rattle.rv_text.specs.declared.keyword.Keyword.TheVariants as keyword
+use Rattle.rv_text.specs.declared.form.NumberKind.TheVariants as kind
+use Rattle.rv_text.specs.Source.{IsDataSize, IsStraight}
+use Rattle.rv_text.specs.declared.statement.Place.{Place}
+use Rattle.rv_text.specs.Mnemonics.{name_of}
+use Rattle.rv_text.specs.Forms.{form_of, IsNumberOf}
+use Rattle.rv_text.specs.Operands.{Given, HasForm}
+use Rattle.rv_text.specs.Reading.{Fits}
+use Rattle.rv_text.specs.Statement.{mnemonic_of, operands_of, Spells}
+use Rattle.rv_text.specs.Constants.{is_small, upper, lower, add_lower, constant, data_bytes}
+use Rattle.rv_text.specs.Keywords.{directive_form, directive_states, pseudo_form, pseudo_states, branch_form, branch_states, jal_form, jal_states, place_of_keyword}
+use Rattle.rv_text.specs.Lines.{IsRow, Behind}
+use Rattle.rv_text.specs.Stated.{Stated, IsRightStatement, place_of_stated, plain}
+use Rattle.rv_text.proofs.Names.{name_unique}
+use Rattle.rv_text.proofs.Forms.{stands_suits}
+use Rattle.rv_text.proofs.Ranges.{fits_in_range, full_fence_in_range}
+
+-- operands that tokens give fit their form
+form_fits : (o : Given) (form : List Part) (tokens : List (List ℕ)) → HasForm o form tokens → Fits o form
+form_fits o [] tokens h = tt
+form_fits o (part ∷ form) [] h = absurd h
+form_fits o (part ∷ form) (t ∷ tokens) h = (stands_suits o part t h.0, form_fits o form tokens h.1)
+
+-- one instruction, and two
+abbrev AreRight : List Instr → Type 0
+AreRight instrs = (1 ≤ length instrs) × All (λ i. InRange i × IsStraight i) instrs
+
+one_right : (i : Instr) → InRange i → IsStraight i → AreRight (i ∷ [])
+one_right i h s = (omega arith, All-cons (λ x. InRange x × IsStraight x) i [] (h, s) (All-nil (λ x. InRange x × IsStraight x)))
+
+two_right : (i j : Instr) → InRange i → IsStraight i → InRange j → IsStraight j → AreRight (i ∷ j ∷ [])
+two_right i j h s k t = (omega arith, All-cons (λ x. InRange x × IsStraight x) i (j ∷ []) (h, s) (one_right j k t).1)
+
+add_in_range : (rd rs1 : ℕ) (imm : ℤ) → rd < 32 → rs1 < 32 → IsImm12 imm → InRange (instr.OpImm Addi rd rs1 imm)
+unfolding InRange
+add_in_range rd rs1 imm d s h = (d, s, h)
+
+jump_in_range : (rd rs1 : ℕ) → rd < 32 → rs1 < 32 → InRange (instr.Jalr rd rs1 (pos 0))
+unfolding InRange
+jump_in_range rd rs1 d s = (d, s, (omega (arith, ints), omega (arith, ints)))
+
+lui_in_range : (rd imm : ℕ) → rd < 32 → imm < 2 ^ 20 → InRange (instr.Lui rd imm)
+unfolding InRange
+lui_in_range rd imm d h = (d, h)
+
+branch_in_range : (cond : Cond) (rs1 rs2 : ℕ) → rs1 < 32 → rs2 < 32 → InRange (instr.Branch cond rs1 rs2 (pos 0))
+unfolding InRange
+branch_in_range cond rs1 rs2 s t = (s, t, ((omega (arith, ints), omega (arith, ints)), refl))
+
+jal_in_range : (rd : ℕ) → rd < 32 → InRange (instr.Jal rd (pos 0))
+unfolding InRange
+jal_in_range rd d = (d, ((omega (arith, ints), omega (arith, ints)), refl))
+
+zero_imm : IsImm12 (pos 0)
+zero_imm = (omega (arith, ints), omega (arith, ints))
+
+-- the halves of a number
+modulo_below : (z : ℤ) → modulo 32 z < 2 ^ 32
+modulo_below (pos n) = omega arith
+modulo_below (negsuc n) = omega arith
+
+upper_below : (z : ℤ) → upper z < 2 ^ 20
+upper_below z = omega (arith, modulo_below (z +ℤ pos 2048))
+
+lower_imm : (z : ℤ) → IsImm12 (lower z)
+lower_imm z = (omega (arith, ints), omega (arith, ints))
+
+small_imm : (z : ℤ) → is_small z ≡ true → IsImm12 z
+small_imm z h = (grind (arith, ints), grind (arith, ints))
+
+constant_right : (rd : ℕ) (z : ℤ) → rd < 32 → AreRight (constant rd z)
+constant_right rd z d =
+    elim (is_small z) as (λ b. is_small z ≡ b → AreRight (cond b (instr.OpImm Addi rd 0 z ∷ []) (instr.Lui rd (upper z) ∷ add_lower rd z))) [
+      | true ↦ λ e. one_right _ (add_in_range rd 0 z d (omega arith) (small_imm z e)) tt
+      | false ↦ λ e. elim (unsigned_abs (lower z) == 0) as (λ b. AreRight (instr.Lui rd (upper z) ∷ cond b [] (instr.OpImm Addi rd rd (lower z) ∷ []))) [
+        | true ↦ one_right _ (lui_in_range rd (upper z) d (upper_below z)) tt
+        | false ↦ two_right _ _ (lui_in_range rd (upper z) d (upper_below z)) tt (add_in_range rd rd (lower z) d d (lower_imm z)) tt
+      ]
+    ] refl
+
+-- a number's bytes are bytes
+abbrev IsByte : ℕ → Type 0
+IsByte b = b < 256
+
+bytes_right : (width : DataWidth) (z : ℤ) → All IsByte (data_bytes width z)
+bytes_right Word z = All-from_recursion IsByte (data_bytes Word z) (omega arith, (omega arith, (omega arith, (omega arith, tt))))
+bytes_right Half z = All-from_recursion IsByte (data_bytes Half z) (omega arith, (omega arith, tt))
+bytes_right Byte (pos n) = All-from_recursion IsByte (data_bytes Byte (pos n)) (omega arith, tt)
+bytes_right Byte (negsuc n) = All-from_recursion IsByte (data_bytes Byte (negsuc n)) (omega arith, tt)
+
+list_right : (width : DataWidth) (numbers : List ℤ) → All IsByte (flat_map (data_bytes width) numbers)
+list_right width [] = All-nil IsByte
+list_right width (z ∷ numbers) = All-append IsByte (data_bytes width z) (flat_map (data_bytes width) numbers) (bytes_right width z) (list_right width numbers)
+
+natural_size : (z : ℤ) → IsNumberOf kind.DataSize z → IsDataSize (unsigned_abs z)
+natural_size z (size, is, h) = subst (λ (x : ℤ). IsDataSize (unsigned_abs x)) (sym is) h
+
+natural_service : (z : ℤ) → IsNumberOf kind.Service z → unsigned_abs z ≤ 5
+natural_service (pos n) h = omega (arith, ints)
+natural_service (negsuc n) h = omega (arith, ints)
+
+directive_right : (d : Directive) (o : Given) → Fits o (directive_form d) → IsRightStatement (directive_states d o)
+directive_right directive.Sandbox o h = natural_size o.number h.0
+directive_right directive.Gate o h = (h.0, natural_service o.number h.1.0)
+directive_right directive.Option o h = tt
+directive_right directive.Data o h = tt
+directive_right directive.Zero o h = All-replicate IsByte (unsigned_abs o.number) 0 (omega arith)
+
+pseudo_right : (p : Pseudo) (o : Given) → Fits o (pseudo_form p) → IsRightStatement (pseudo_states p o)
+pseudo_right Nop o h = one_right _ (add_in_range 0 0 (pos 0) (omega arith) (omega arith) zero_imm) tt
+pseudo_right Ret o h = one_right _ (jump_in_range 0 1 (omega arith) (omega arith)) tt
+pseudo_right Li o h = constant_right o.rd o.number h.0
+pseudo_right Mv o h = one_right _ (add_in_range o.rd o.rs1 (pos 0) h.0 h.1.1.0 zero_imm) tt
+pseudo_right Jr o h = one_right _ (jump_in_range 0 o.rs1 (omega arith) h.0) tt
+pseudo_right J o h = (jal_in_range 0 (omega arith), refl, h.0)
+pseudo_right Call o h = (jal_in_range 1 (omega arith), refl, h.0)
+pseudo_right Beqz o h = (branch_in_range _ o.rs1 0 h.0 (omega arith), refl, h.1.1.0)
+pseudo_right Bnez o h = (branch_in_range _ o.rs1 0 h.0 (omega arith), refl, h.1.1.0)
+pseudo_right La o h = (h.0, h.1.1.0)
+
+branch_right : (cond : Cond) (o : Given) → Fits o branch_form → IsRightStatement (branch_states cond o)
+branch_right cond o h = (branch_in_range cond o.rs1 o.rs2 h.0 h.1.1.0, refl, h.1.1.1.1.0)
+
+jal_right : (o : Given) → Fits o jal_form → IsRightStatement (jal_states o)
+jal_right o h = (jal_in_range o.rd h.0, refl, h.1.1.0)
+
+row_right : (form : List Part) (states : Given → Stated) → ((o : Given) → Fits o form → IsRightStatement (states o)) → (tokens : List (List ℕ)) (s : Stated) → IsRow form states tokens s → IsRightStatement s
+row_right form states right tokens s (o, has, e) = subst IsRightStatement (sym e) (right o (form_fits o form tokens has))
+
+-- an instruction by itself
+abbrev is_target : Mnemonic → Bool
+is_target (mnemonic.Branch cond) = true
+is_target mnemonic.Jal = true
+is_target _ = false
+
+straight : (i : Instr) → is_target (mnemonic_of i) ≡ false → IsStraight i
+straight (instr.Op op rd rs1 rs2) h = tt
+straight (instr.OpImm op rd rs1 imm) h = tt
+straight (instr.Load kind rd rs1 imm) h = tt
+straight (instr.Store width rs1 rs2 imm) h = tt
+straight (instr.Branch cond rs1 rs2 offset) h = cc
+straight (instr.Jal rd offset) h = cc
+straight (instr.Jalr rd rs1 imm) h = tt
+straight (instr.Lui rd imm) h = tt
+straight (instr.Auipc rd imm) h = tt
+straight (instr.Fence imm rd rs1) h = tt
+straight instr.Ecall h = tt
+straight instr.Ebreak h = tt
+
+spells_in_range : (i : Instr) (name : List ℕ) (tokens : List (List ℕ)) → Spells i (name ∷ tokens) → InRange i
+spells_in_range i name tokens (named, inl form) = fits_in_range i (form_fits (operands_of i) (form_of (mnemonic_of i)) tokens form)
+spells_in_range i name tokens (named, inr (fence, none)) = subst InRange (sym fence) full_fence_in_range
+
+plain_right : (name : Mnemonic) → is_target name ≡ false → (tokens : List (List ℕ)) (s : Stated) → ((i : Instr) × Spells i (name_of name ∷ tokens) × (s ≡ plain (i ∷ []))) → IsRightStatement s
+plain_right name h tokens s (i, spells, e) =
+    let same : mnemonic_of i ≡ name = name_unique (mnemonic_of i) name (sym spells.0) in
+    subst IsRightStatement (sym e) (one_right i (spells_in_range i (name_of name) tokens spells) (straight i (ap is_target same ∙ h)))
+
+-- what stands behind a keyword states what is in range
+pub behind_right : (k : Keyword) (tokens : List (List ℕ)) (s : Stated) → Behind k tokens s → IsRightStatement s
+behind_right (keyword.Instr (mnemonic.Branch cond)) ts s h = row_right branch_form (branch_states cond) (branch_right cond) ts s h
+behind_right (keyword.Instr mnemonic.Jal) ts s h = row_right jal_form jal_states jal_right ts s h
+behind_right (keyword.Instr (mnemonic.Op op)) ts s h = plain_right (mnemonic.Op op) refl ts s h
+behind_right (keyword.Instr (mnemonic.OpImm op)) ts s h = plain_right (mnemonic.OpImm op) refl ts s h
+behind_right (keyword.Instr (mnemonic.Load kind)) ts s h = plain_right (mnemonic.Load kind) refl ts s h
+behind_right (keyword.Instr (mnemonic.Store width)) ts s h = plain_right (mnemonic.Store width) refl ts s h
+behind_right (keyword.Instr mnemonic.Jalr) ts s h = plain_right mnemonic.Jalr refl ts s h
+behind_right (keyword.Instr mnemonic.Lui) ts s h = plain_right mnemonic.Lui refl ts s h
+behind_right (keyword.Instr mnemonic.Auipc) ts s h = plain_right mnemonic.Auipc refl ts s h
+behind_right (keyword.Instr mnemonic.Fence) ts s h = plain_right mnemonic.Fence refl ts s h
+behind_right (keyword.Instr mnemonic.Ecall) ts s h = plain_right mnemonic.Ecall refl ts s h
+behind_right (keyword.Instr mnemonic.Ebreak) ts s h = plain_right mnemonic.Ebreak refl ts s h
+behind_right (keyword.Pseudo name) ts s h = row_right (pseudo_form name) (pseudo_states name) (pseudo_right name) ts s h
+behind_right (keyword.Directive name) ts s h = row_right (directive_form name) (directive_states name) (directive_right name) ts s h
+behind_right (keyword.Numbers width) ts s (numbers, are, e) = subst IsRightStatement (sym e) (list_right width numbers)
+
+-- a statement may stand where its keyword may
+row_place : (place : Place) (form : List Part) (states : Given → Stated) → ((o : Given) → place ≡ place_of_stated (states o)) → (tokens : List (List ℕ)) (s : Stated) → IsRow form states tokens s → place ≡ place_of_stated s
+row_place place form states same tokens s (o, has, e) = same o ∙ ap place_of_stated (sym e)
+
+directive_place : (d : Directive) (o : Given) → place_of_keyword (keyword.Directive d) ≡ place_of_stated (directive_states d o)
+directive_place directive.Sandbox o = refl
+directive_place directive.Gate o = refl
+directive_place directive.Option o = refl
+directive_place directive.Data o = refl
+directive_place directive.Zero o = refl
+
+pseudo_place : (p : Pseudo) (o : Given) → place_of_keyword (keyword.Pseudo p) ≡ place_of_stated (pseudo_states p o)
+pseudo_place Nop o = refl
+pseudo_place _ o = refl
+
+pub behind_place : (k : Keyword) (tokens : List (List ℕ)) (s : Stated) → Behind k tokens s → place_of_keyword k ≡ place_of_stated s
+behind_place (keyword.Instr (mnemonic.Branch cond)) ts s (o, has, e) = ap place_of_stated (sym e)
+behind_place (keyword.Instr mnemonic.Jal) ts s (o, has, e) = ap place_of_stated (sym e)
+behind_place (keyword.Instr (mnemonic.Op op)) ts s (i, has, e) = ap place_of_stated (sym e)
+behind_place (keyword.Instr (mnemonic.OpImm op)) ts s (i, has, e) = ap place_of_stated (sym e)
+behind_place (keyword.Instr (mnemonic.Load kind)) ts s (i, has, e) = ap place_of_stated (sym e)
+behind_place (keyword.Instr (mnemonic.Store width)) ts s (i, has, e) = ap place_of_stated (sym e)
+behind_place (keyword.Instr mnemonic.Jalr) ts s (i, has, e) = ap place_of_stated (sym e)
+behind_place (keyword.Instr mnemonic.Lui) ts s (i, has, e) = ap place_of_stated (sym e)
+behind_place (keyword.Instr mnemonic.Auipc) ts s (i, has, e) = ap place_of_stated (sym e)
+behind_place (keyword.Instr mnemonic.Fence) ts s (i, has, e) = ap place_of_stated (sym e)
+behind_place (keyword.Instr mnemonic.Ecall) ts s (i, has, e) = ap place_of_stated (sym e)
+behind_place (keyword.Instr mnemonic.Ebreak) ts s (i, has, e) = ap place_of_stated (sym e)
+behind_place (keyword.Pseudo name) ts s h = row_place _ (pseudo_form name) (pseudo_states name) (pseudo_place name) ts s h
+behind_place (keyword.Directive name) ts s h = row_place _ (directive_form name) (directive_states name) (directive_place name) ts s h
+behind_place (keyword.Numbers width) ts s (numbers, are, e) = ap place_of_stated (sym e)

@@ -1,0 +1,5 @@
+use Rattle.rv_text.proofs.RightTexts.{sources_are_right}
+use Rattle.rv_text.proofs.laws.sources_are_right.Goals as goal
+
+pub returns : goal.returns
+returns c = sources_are_right

@@ -1,0 +1,10 @@
+use Rattle.std.proofs.Common.{ap, sym, refl, ◌∙◌, map}
+use Rattle.rv_text.specs.NameTable.{entry_of, placed}
+use Rattle.rv_text.proofs.NameTable.{inserted}
+use Rattle.rv_text.proofs.name_table.Names.place.Goals as goal
+
+pub returns-clause-placed : goal.returns-clause-placed
+returns-clause-placed c =
+    ap (map entry_of) c.in_ok-insert.ensures.entries
+    ∙ inserted c.self.inside.named.entries _ c.args.what
+    ∙ rw (c.in_ok-from_str.ensures.ok, c.self.view_is) refl

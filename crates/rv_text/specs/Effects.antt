@@ -1,0 +1,87 @@
+-- What a label and a statement do to the source so far, and what keeps them from it.
+use Rattle.std.specs.Prelude.{◌≡◌, ◌≢◌, ℕ, ◌+◌, ◌<◌, ◌≤◌, ◌⊎◌, Bool, true, false, List, [], ◌∷◌, length, map, Option, None, Some}
+use Rattle.std.specs.Option.{option_map}
+use Rattle.rv_text.specs.declared.cause.TextCause.{TextCause}
+use Rattle.rv_text.specs.declared.cause.TextCause.TheVariants as cause
+use Rattle.rv_text.specs.declared.item.Body.TheVariants.{Plain, To, High, Low}
+use Rattle.rv_text.specs.declared.item.Named.{Named}
+use Rattle.rv_text.specs.declared.item.Named.TheVariants.{Unknown}
+use Rattle.rv_text.specs.declared.statement.Place.{Place}
+use Rattle.rv_text.specs.declared.statement.Place.TheVariants as place
+use Rattle.rv_text.specs.NameTable.{meaning, place_of, met}
+use Rattle.rv_text.specs.SoFar.{Begun, SoFar, begin, sandboxes, with_names, with_label, with_gate, with_bodies, with_bytes}
+use Rattle.rv_text.specs.Stated.{Stated, sandbox, gate, compressed, data_part, bytes, plain, jump, address}
+
+-- the name may still be given to a label or a gate: it names nothing yet
+abbrev pub IsFree : List ℕ → Begun → Type 0
+IsFree name b = meaning b.sandbox.names name ≡ Unknown
+
+-- a label of this name may stand in the sandbox begun last, and leads to the next source so far
+abbrev pub Labels : List ℕ → SoFar → SoFar → Type 0
+Labels name old new =
+    (b : Begun) × (old.begun ≡ Some b) × (length name ≤ 64) × IsFree name b
+    × (new ≡ record old { begun = Some (with_label name b) })
+
+-- a label of this name is refused: no sandbox was begun, the name is too long, or it is there already
+abbrev pub RefusesLabel : List ℕ → SoFar → TextCause → Type 0
+RefusesLabel name old e =
+    ((old.begun ≡ None) × (e ≡ cause.Directive))
+    ⊎ ((b : Begun) × (old.begun ≡ Some b)
+    × (((64 < length name) × (e ≡ cause.Limit))
+    ⊎ ((length name ≤ 64) × (IsFree name b → ⊥) × (e ≡ cause.LabelTwice))))
+
+-- a statement of this kind may stand there: gates before the sandbox's first label and instruction, instructions in the
+-- code part, data in the data part
+abbrev pub MayStand : Place → Option Begun → Type 0
+MayStand place.Outside b = Unit {0}
+MayStand place.Gates None = ⊥
+MayStand place.Gates (Some b) = b.opened ≡ false
+MayStand place.Code None = ⊥
+MayStand place.Code (Some b) = b.in_data ≡ false
+MayStand place.Data None = ⊥
+MayStand place.Data (Some b) = b.in_data ≡ true
+
+-- how many gates, instructions and data bytes a sandbox may have: 64, 65536 and those that it was begun with
+abbrev pub Fits : Stated → Begun → Type 0
+Fits (sandbox size) b = Unit {0}
+Fits (gate name service) b = length b.sandbox.gates + 1 ≤ 64
+Fits (compressed rvc) b = Unit {0}
+Fits data_part b = Unit {0}
+Fits (bytes values) b = length b.sandbox.bytes + length values ≤ b.sandbox.data_size
+Fits (plain instrs) b = length b.sandbox.items + length instrs ≤ 65536
+Fits (jump instr name) b = length b.sandbox.items + 1 ≤ 65536
+Fits (address rd name) b = length b.sandbox.items + 2 ≤ 65536
+
+-- the sandbox behind a statement of a line; a name that an instruction goes to is met
+abbrev pub behind : ℕ → Stated → Begun → Begun
+behind line (sandbox size) b = begin size
+behind line (gate name service) b = with_gate name service b
+behind line (compressed rvc) b = record b { rvc = rvc }
+behind line data_part b = record b { in_data = true }
+behind line (bytes values) b = with_bytes values b
+behind line (plain instrs) b = with_bodies line (map Plain instrs) b
+behind line (jump instr name) b =
+    with_bodies line (To instr (place_of b.sandbox.names name) ∷ []) (with_names (met b.sandbox.names name) b)
+behind line (address rd name) b =
+    with_bodies line (High rd (place_of b.sandbox.names name) ∷ Low rd (place_of b.sandbox.names name) ∷ [])
+    (with_names (met b.sandbox.names name) b)
+
+-- a statement of a line goes on with the sandbox begun last, and fits there
+abbrev pub GoesOn : ℕ → Stated → SoFar → SoFar → Type 0
+GoesOn line s old new =
+    (b : Begun) × (old.begun ≡ Some b) × Fits s b × (new ≡ record old { begun = Some (behind line s b) })
+
+-- a statement of a line, which may stand there, leads to the next source so far
+abbrev pub Does : ℕ → Stated → SoFar → SoFar → Type 0
+Does line (sandbox size) old new = new ≡ record { finished = sandboxes old; begun = Some (begin size) }
+Does line (gate name service) old new = GoesOn line (gate name service) old new
+Does line (compressed rvc) old new = GoesOn line (compressed rvc) old new
+Does line data_part old new = GoesOn line data_part old new
+Does line (bytes values) old new = GoesOn line (bytes values) old new
+Does line (plain instrs) old new = GoesOn line (plain instrs) old new
+Does line (jump instr name) old new = GoesOn line (jump instr name) old new
+Does line (address rd name) old new = GoesOn line (address rd name) old new
+
+-- the sandbox begun last has no room for what is stated
+abbrev pub HasNoRoom : Stated → SoFar → Type 0
+HasNoRoom s old = (b : Begun) × (old.begun ≡ Some b) × (Fits s b → ⊥)

@@ -1,0 +1,124 @@
+-- What the tokens of a line behind its labels state, and for what cause they state nothing.
+use Rattle.std.specs.Prelude.{◌≡◌, ℕ, ◌⊎◌, List, [], ◌∷◌, ℤ, codes}
+use Rattle.std.specs.List.{flat_map}
+use Rattle.rv_word.specs.declared.instr.Instr.{Instr}
+use Rattle.rv_text.specs.declared.cause.TextCause.{TextCause}
+use Rattle.rv_text.specs.declared.cause.TextCause.TheVariants as cause
+use Rattle.rv_text.specs.declared.mnemonic.Mnemonic.{Mnemonic}
+use Rattle.rv_text.specs.declared.mnemonic.Mnemonic.TheVariants as mnemonic
+use Rattle.rv_text.specs.declared.form.NumberKind.{NumberKind}
+use Rattle.rv_text.specs.declared.form.Part.{Part}
+use Rattle.rv_text.specs.declared.form.Part.TheVariants.{Number, Comma}
+use Rattle.rv_text.specs.declared.keyword.DataWidth.{DataWidth}
+use Rattle.rv_text.specs.declared.keyword.Keyword.{Keyword}
+use Rattle.rv_text.specs.declared.keyword.Keyword.TheVariants as keyword
+use Rattle.rv_text.specs.Tokens.{IsName, IsNumber, Takes, AreTokens}
+use Rattle.rv_text.specs.Mnemonics.{name_of}
+use Rattle.rv_text.specs.Forms.{IsNumberOf, form_of}
+use Rattle.rv_text.specs.Operands.{Given, HasForm, Unformed, Missing, Differs, Departs}
+use Rattle.rv_text.specs.Statement.{Spells, IsBareFence}
+use Rattle.rv_text.specs.Constants.{data_bytes}
+use Rattle.rv_text.specs.Keywords.{directive_form, directive_states, pseudo_form, pseudo_states, branch_form, branch_states, jal_form, jal_states, data_kind, keyword_name}
+use Rattle.rv_text.specs.Stated.{Stated, bytes, plain}
+
+-- the tokens stand at the parts of the form, and with these operands state this
+abbrev pub IsRow : List Part → (Given → Stated) → List (List ℕ) → Stated → Type 0
+IsRow form states tokens s = (o : Given) × HasForm o form tokens × (s ≡ states o)
+
+-- the tokens behind the name are those of an instruction; a branch and a jal go to a name
+abbrev pub IsInstr : Mnemonic → List (List ℕ) → Stated → Type 0
+IsInstr (mnemonic.Branch cond) tokens s = IsRow branch_form (branch_states cond) tokens s
+IsInstr mnemonic.Jal tokens s = IsRow jal_form jal_states tokens s
+IsInstr name tokens s = (i : Instr) × Spells i (name_of name ∷ tokens) × (s ≡ plain (i ∷ []))
+
+-- the token writes a number of this kind
+abbrev pub Writes : NumberKind → List ℕ → ℤ → Type 0
+Writes kind token z = IsNumber token z × IsNumberOf kind z
+
+-- the tokens are such numbers, each behind a comma
+abbrev pub AreMore : NumberKind → List ℤ → List (List ℕ) → Type 0
+AreMore kind [] [] = Unit {0}
+AreMore kind [] (token ∷ tokens) = ⊥
+AreMore kind (z ∷ numbers) [] = ⊥
+AreMore kind (z ∷ numbers) (comma ∷ []) = ⊥
+AreMore kind (z ∷ numbers) (comma ∷ token ∷ tokens) =
+    (comma ≡ codes ",") × Writes kind token z × AreMore kind numbers tokens
+
+-- the tokens are such numbers with commas between, one at least
+abbrev pub AreNumbers : NumberKind → List ℤ → List (List ℕ) → Type 0
+AreNumbers kind [] tokens = ⊥
+AreNumbers kind (z ∷ numbers) [] = ⊥
+AreNumbers kind (z ∷ numbers) (token ∷ tokens) = Writes kind token z × AreMore kind numbers tokens
+
+-- the tokens are a list of data of this width
+abbrev pub IsData : DataWidth → List (List ℕ) → Stated → Type 0
+IsData width tokens s =
+    (numbers : List ℤ) × AreNumbers (data_kind width) numbers tokens
+    × (s ≡ bytes (flat_map (data_bytes width) numbers))
+
+-- the tokens behind this keyword make it a statement, and this is what it states
+abbrev pub Behind : Keyword → List (List ℕ) → Stated → Type 0
+Behind (keyword.Instr name) tokens s = IsInstr name tokens s
+Behind (keyword.Pseudo name) tokens s = IsRow (pseudo_form name) (pseudo_states name) tokens s
+Behind (keyword.Directive name) tokens s = IsRow (directive_form name) (directive_states name) tokens s
+Behind (keyword.Numbers width) tokens s = IsData width tokens s
+
+-- the tokens state this: a keyword, and what stands behind it
+abbrev pub States : List (List ℕ) → Stated → Type 0
+States [] s = ⊥
+States (name ∷ tokens) s = (k : Keyword) × (name ≡ keyword_name k) × Behind k tokens s
+
+-- the text behind this keyword states this with it
+abbrev pub StatesBehind : Keyword → List ℕ → Stated → Type 0
+StatesBehind k text s = (tokens : List (List ℕ)) × AreTokens text tokens × Behind k tokens s
+
+-- no number of this kind stands at the front of the text, for this cause
+abbrev pub NumberDeparts : NumberKind → List ℕ → TextCause → Type 0
+NumberDeparts kind text e =
+    Unformed text e
+    ⊎ (Missing text e
+    ⊎ ((token : List ℕ) × (rest : List ℕ) × Takes text token rest × Differs (Number kind) token e))
+
+-- neither the text's end nor a comma and such a number stands there, for this cause
+abbrev pub MoreDeparts : NumberKind → List ℕ → TextCause → Type 0
+MoreDeparts kind text e =
+    Unformed text e
+    ⊎ ((token : List ℕ) × (rest : List ℕ) × Takes text token rest
+    × (Differs Comma token e ⊎ ((token ≡ codes ",") × NumberDeparts kind rest e)))
+
+-- such numbers, each behind a comma, lead from the text to the rest
+abbrev pub LeadsByMore : NumberKind → List ℤ → List ℕ → List ℕ → Type 0
+LeadsByMore kind [] text rest = text ≡ rest
+LeadsByMore kind (z ∷ numbers) text rest =
+    (comma : List ℕ) × (after : List ℕ) × (token : List ℕ) × (next : List ℕ)
+    × Takes text comma after × (comma ≡ codes ",")
+    × Takes after token next × Writes kind token z × LeadsByMore kind numbers next rest
+
+-- the first token of the text that departs from a list of such numbers does so for this cause
+abbrev pub ListDeparts : NumberKind → List ℕ → TextCause → Type 0
+ListDeparts kind text e =
+    NumberDeparts kind text e
+    ⊎ ((token : List ℕ) × (rest : List ℕ) × (z : ℤ) × Takes text token rest × Writes kind token z
+    × ((numbers : List ℤ) × (last : List ℕ) × LeadsByMore kind numbers rest last × MoreDeparts kind last e))
+
+-- the first token behind an instruction's name that departs from it does so for this cause
+abbrev pub InstrDeparts : Mnemonic → List ℕ → TextCause → Type 0
+InstrDeparts (mnemonic.Branch cond) text e = Departs branch_form text e
+InstrDeparts mnemonic.Jal text e = Departs jal_form text e
+InstrDeparts name text e = (IsBareFence name text → ⊥) × Departs (form_of name) text e
+
+-- the text behind this keyword states nothing with it, for the cause of the first token that departs
+abbrev pub RefusedWith : Keyword → List ℕ → TextCause → Type 0
+RefusedWith (keyword.Instr name) text e = InstrDeparts name text e
+RefusedWith (keyword.Pseudo name) text e = Departs (pseudo_form name) text e
+RefusedWith (keyword.Directive name) text e = Departs (directive_form name) text e
+RefusedWith (keyword.Numbers width) text e = ListDeparts (data_kind width) text e
+
+-- the token is a name, and no statement's
+abbrev pub IsNoKeyword : List ℕ → Type 0
+IsNoKeyword token = IsName token × ((k : Keyword) → keyword_name k ≡ token → ⊥)
+
+-- a statement's first token is no keyword, for this cause
+abbrev pub NameRefused : List ℕ → TextCause → Type 0
+NameRefused token e =
+    ((IsName token → ⊥) × (e ≡ cause.Operands)) ⊎ (IsNoKeyword token × (e ≡ cause.Word))

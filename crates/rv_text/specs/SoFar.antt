@@ -1,0 +1,96 @@
+-- The source so far: what the lines read so far have made.
+use Rattle.std.specs.Prelude.{ℕ, Bool, true, false, ◌||◌, not, List, [], ◌∷◌, ◌++◌, Option, None, Some, length, map, if◌then◌else◌}
+use Rattle.rv_text.specs.declared.item.Body.{Body}
+use Rattle.rv_text.specs.declared.item.Body.TheVariants.{Plain, To, High, Low}
+use Rattle.rv_text.specs.declared.item.Item.{Item}
+use Rattle.rv_text.specs.declared.item.Named.{Named}
+use Rattle.rv_text.specs.declared.item.Named.TheVariants.{Gate, Code, Data, Unknown}
+use Rattle.rv_text.specs.NameTable.{meaning, place_of, placed, met}
+use Rattle.rv_text.specs.Source.{Sandbox}
+
+-- the sandbox begun last
+pub record Begun : Type 0 where
+  -- what it has so far
+  pub sandbox : Sandbox
+  -- its code part has ended
+  pub in_data : Bool
+  -- 16-bit forms may stand for the instructions from here on
+  pub rvc : Bool
+  -- a label stands behind its last instruction
+  pub labelled : Bool
+  -- it has a label or an instruction
+  pub opened : Bool
+
+-- the sandboxes that are finished, and the one begun last
+pub record SoFar : Type 0 where
+  pub finished : List Sandbox
+  pub begun : Option Begun
+
+-- before the first line
+abbrev pub nothing : SoFar
+nothing = record { finished = []; begun = None }
+
+-- a sandbox at its beginning: it has data bytes, and nothing else
+abbrev pub begin : ℕ → Begun
+begin size =
+    record {
+      sandbox = record { data_size = size; gates = []; names = []; items = []; bytes = [] };
+      in_data = false;
+      rvc = false;
+      labelled = false;
+      opened = false;
+    }
+
+-- the sandbox of the one begun last
+abbrev pub last_sandbox : Option Begun → List Sandbox
+last_sandbox None = []
+last_sandbox (Some b) = b.sandbox ∷ []
+
+-- the sandboxes that have been begun
+abbrev pub sandboxes : SoFar → List Sandbox
+sandboxes s = s.finished ++ last_sandbox s.begun
+
+-- the sandbox with these names
+abbrev pub with_names : List (List ℕ × Named) → Begun → Begun
+with_names names b = record b { sandbox = record b.sandbox { names = names } }
+
+-- what a label names there: the place before the next instruction or, in the data part, behind the bytes so far
+abbrev pub here : Begun → Named
+here b = if b.in_data then Data (length b.sandbox.bytes) else Code (length b.sandbox.items)
+
+-- the sandbox behind a label
+abbrev pub with_label : List ℕ → Begun → Begun
+with_label name b =
+    record (with_names (placed b.sandbox.names name (here b)) b) {
+      labelled = b.labelled || not b.in_data;
+      opened = true;
+    }
+
+-- the sandbox with one more gate
+abbrev pub with_gate : List ℕ → ℕ → Begun → Begun
+with_gate name service b =
+    record b {
+      sandbox = record b.sandbox {
+        names = placed b.sandbox.names name (Gate (length b.sandbox.gates));
+        gates = b.sandbox.gates ++ (record { name = place_of b.sandbox.names name; service = service } ∷ []);
+      };
+    }
+
+-- the items of these bodies, on one line: a label before the first is before none of the others
+abbrev pub items_of : ℕ → Bool → Bool → List Body → List Item
+items_of line rvc labelled [] = []
+items_of line rvc labelled (body ∷ bodies) =
+    record { line = line; labelled = labelled; rvc = rvc; body = body } ∷ items_of line rvc false bodies
+
+-- the sandbox with these instructions of a line behind the others, one at least
+abbrev pub with_bodies : ℕ → List Body → Begun → Begun
+with_bodies line bodies b =
+    record b {
+      sandbox = record b.sandbox { items = b.sandbox.items ++ items_of line b.rvc b.labelled bodies };
+      labelled = false;
+      opened = true;
+    }
+
+-- the sandbox with these data bytes behind the others
+abbrev pub with_bytes : List ℕ → Begun → Begun
+with_bytes bytes b = record b { sandbox = record b.sandbox { bytes = b.sandbox.bytes ++ bytes } }

@@ -1,0 +1,65 @@
+-- What a text of the assembler means, and what its fault is.
+use Rattle.std.specs.Prelude.{◌≡◌, ℕ, ◌+◌, ◌<◌, ◌≤◌, ◌⊎◌, ◌==◌, List, [], ◌∷◌, length, None, Some}
+use Rattle.std.specs.List.{slice_split, before_first}
+use Rattle.rv_text.specs.declared.cause.TextCause.{TextCause}
+use Rattle.rv_text.specs.declared.cause.TextCause.TheVariants as cause
+use Rattle.rv_text.specs.declared.fault.TextFault.{TextFault}
+use Rattle.rv_text.specs.Source.{Sandbox}
+use Rattle.rv_text.specs.SoFar.{Begun, SoFar, nothing, sandboxes}
+use Rattle.rv_text.specs.Leads.{Leads, LineRefused}
+
+-- the most bytes of a text
+abbrev pub most_bytes : ℕ
+most_bytes = 1048576
+
+-- the lines of a text, between its line feeds; behind the last one stands an empty line
+abbrev pub lines : List ℕ → List (List ℕ)
+lines text = slice_split (λ c. c == 10) text
+
+-- the text begins with this line and a line feed, and then this
+pub record BeginsWithLine (text line rest : List ℕ) : Type 0 where
+  pub first : lines text ≡ line ∷ lines rest
+  pub shorter : length rest < length text
+
+-- a line without its comment, which begins with `#`
+abbrev pub uncommented : List ℕ → List ℕ
+uncommented line = before_first (λ c. c == 35) line
+
+-- these lines, of which the first has this number, lead from the source so far to the next one
+abbrev pub LinesLead : ℕ → SoFar → List (List ℕ) → SoFar → Type 0
+LinesLead line old [] new = new ≡ old
+LinesLead line old (text ∷ texts) new =
+    (next : SoFar) × Leads line old (uncommented text) next × LinesLead (line + 1) next texts new
+
+-- the text is within its limit, and its lines lead from nothing to this source so far
+pub record LeadsFromNothing (text : List ℕ) (new : SoFar) : Type 0 where
+  pub within : length text ≤ most_bytes
+  pub lead : LinesLead 1 nothing (lines text) new
+
+-- the text means these sandboxes: its lines lead to them, and begin one at least
+abbrev pub MeansSource : List ℕ → List Sandbox → Type 0
+MeansSource text parts =
+    (new : SoFar) × (last : Begun)
+    × LeadsFromNothing text new × (new.begun ≡ Some last) × (parts ≡ sandboxes new)
+
+-- the line of this number is refused with this fault
+abbrev pub LineFault : ℕ → SoFar → List ℕ → TextFault → Type 0
+LineFault line old text f = LineRefused old (uncommented text) f.cause × (f.line ≡ line)
+
+-- the first of these lines that leads nowhere is refused with this fault
+abbrev pub FirstRefused : ℕ → SoFar → List (List ℕ) → TextFault → Type 0
+FirstRefused line old [] f = ⊥
+FirstRefused line old (text ∷ texts) f =
+    LineFault line old text f
+    ⊎ ((next : SoFar) × Leads line old (uncommented text) next × FirstRefused (line + 1) next texts f)
+
+-- the fault of line 1 with this cause
+abbrev pub first_line : TextCause → TextFault
+first_line e = record { line = 1; cause = e }
+
+-- the fault of a text: it is above its limit, or a line is refused, or no line begins a sandbox
+abbrev pub IsFault : List ℕ → TextFault → Type 0
+IsFault text f =
+    ((most_bytes < length text) × (f ≡ first_line cause.Limit))
+    ⊎ (((length text ≤ most_bytes) × FirstRefused 1 nothing (lines text) f)
+    ⊎ ((new : SoFar) × LeadsFromNothing text new × (new.begun ≡ None) × (f ≡ first_line cause.Directive)))

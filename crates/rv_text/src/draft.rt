@@ -1,0 +1,272 @@
+//! The sandbox begun last, as far as the lines have come.
+ghost use Rattle.std.specs.Prelude.{◌≡◌, ◌≤◌, ◌+◌, ◌<◌, ◌⊎◌, ◌∷◌, [], map, length, replicate, IfOk, IfErr, OnOk, IsTrue, ◌↔◌, true};
+ghost use Rattle.rv_text.specs.declared.cause.TextCause.TheVariants as cause;
+ghost use Rattle.rv_text.specs.declared.item.Body.TheVariants.{Plain, To, High, Low};
+ghost use Rattle.rv_text.specs.Effects.{IsFree, Fits, behind};
+ghost use Rattle.rv_text.specs.NameTable.{place_of, met};
+ghost use Rattle.rv_text.specs.Stated.{stated};
+ghost use Rattle.rv_text.specs.SoFar.{begin, here, with_names, with_label, with_gate, with_bodies, with_bytes};
+
+use crate::cause::TextCause;
+use crate::item::{Body, Item, Named, SourceGate};
+use crate::name_table::Names;
+use crate::source::SourcePart;
+use crate::statement::Statement;
+use std::alloc::Global;
+use std::marker::Model;
+
+/// The most gates of a sandbox.
+pub const MOST_GATES: usize = 64;
+
+/// The most instructions of a sandbox.
+pub const MOST_ITEMS: usize = 65536;
+
+/// The most bytes of a name.
+pub const MOST_NAME: usize = 64;
+
+/// The sandbox begun last.
+#[derive(Debug, Drop)]
+pub struct Draft {
+    data_size: u32,
+    gates: Vec<SourceGate>,
+    names: Names,
+    items: Vec<Item>,
+    bytes: Vec<u8>,
+    in_data: bool,
+    rvc: bool,
+    labelled: bool,
+    opened: bool,
+}
+
+impl Model for Draft {
+    ghost use Rattle.std.specs.Prelude.{◌≤◌, ◌<◌, ◌^◌, length};
+    ghost use Rattle.rv_text.specs.Stated.{stated};
+    ghost use Rattle.rv_text.specs.SoFar.{Begun};
+
+    ghost Value = { Begun };
+
+    ghost view = { λ b. record {
+      sandbox = record { data_size = b.data_size; gates = b.gates.items; names = b.names; items = b.items.items; bytes = b.bytes.items };
+      in_data = b.in_data;
+      rvc = b.rvc;
+      labelled = b.labelled;
+      opened = b.opened;
+    } };
+
+    ghost invariant = { λ b. (length b.bytes.items ≤ b.data_size) × (b.data_size < 2 ^ 32) };
+}
+
+impl Draft {
+    /// A sandbox with so many bytes of data, and nothing else.
+    pub fn new(alloc: Global, data_size: u32) -> Draft
+        ensures { result ≡ begin data_size }
+    {
+        Draft {
+            data_size,
+            gates: Vec::new(alloc),
+            names: Names::new(alloc),
+            items: Vec::new(alloc),
+            bytes: Vec::new(alloc),
+            in_data: false,
+            rvc: false,
+            labelled: false,
+            opened: false,
+        }
+    }
+
+    /// Whether its code part has ended.
+    pub fn is_in_data(&self) -> bool
+        ensures { result ≡ self.now.in_data }
+    {
+        self.in_data
+    }
+
+    /// Whether it has a label or an instruction.
+    pub fn is_opened(&self) -> bool
+        ensures { result ≡ self.now.opened }
+    {
+        self.opened
+    }
+
+    /// Whether a label or a gate may have this name.
+    pub fn is_free(&self, name: &str) -> bool
+        ensures { IsTrue result ↔ IsFree name.now self.now }
+    {
+        match self.names.meaning(name) {
+            Named::Unknown => true,
+            Named::Gate(_) | Named::Code(_) | Named::Data(_) => false,
+        }
+    }
+
+    /// What a label names here.
+    fn here(&self) -> Named
+        ensures { result ≡ here self.now }
+    {
+        if self.in_data {
+            Named::Data(self.bytes.len() as u32)
+        } else {
+            Named::Code(self.items.len())
+        }
+    }
+
+    /// Puts a label here.
+    pub fn label(&mut self, alloc: Global, name: &str) -> Result<(), TextCause>
+        ensures labelled { OnOk result (self.new ≡ with_label name.now self.old) }
+        ensures memory { IfErr result (λ e. e ≡ cause.Memory) }
+    {
+        let here = self.here();
+        self.names.place(alloc, name, here)?;
+        self.labelled = self.labelled || !self.in_data;
+        self.opened = true;
+        Ok(())
+    }
+
+    /// Adds a gate of this service.
+    pub fn gate(&mut self, alloc: Global, name: &str, service: u32) -> Result<(), TextCause>
+        ensures ok { OnOk result ((length self.old.sandbox.gates + 1 ≤ 64) × (self.new ≡ with_gate name.now service self.old)) }
+        ensures cause { IfErr result (λ e. (e ≡ cause.Memory) ⊎ ((64 < length self.old.sandbox.gates + 1) × (e ≡ cause.Limit))) }
+    {
+        if self.gates.len() >= MOST_GATES {
+            return Err(TextCause::Limit);
+        }
+        let place = self.names.place_of(name);
+        self.names
+            .place(alloc, name, Named::Gate(self.gates.len()))?;
+        self.gates.push(SourceGate {
+            name: place,
+            service,
+        })?;
+        Ok(())
+    }
+
+    /// Says whether 16-bit forms may stand for the instructions from here on.
+    pub fn set_rvc(&mut self, rvc: bool)
+        ensures { self.new ≡ record self.old { rvc = rvc } }
+    {
+        self.rvc = rvc;
+    }
+
+    /// Ends the code part.
+    pub fn begin_data(&mut self)
+        ensures { self.new ≡ record self.old { in_data = true } }
+    {
+        self.in_data = true;
+    }
+
+    /// Adds bytes of data.
+    pub fn push_bytes(&mut self, bytes: &[u8]) -> Result<(), TextCause>
+        ensures ok { OnOk result ((length self.old.sandbox.bytes + length bytes.now ≤ self.old.sandbox.data_size) × (self.new ≡ with_bytes bytes.now self.old)) }
+        ensures cause { IfErr result (λ e. (e ≡ cause.Memory) ⊎ ((self.old.sandbox.data_size < length self.old.sandbox.bytes + length bytes.now) × (e ≡ cause.Limit))) }
+    {
+        if bytes.len() > self.data_size as usize - self.bytes.len() {
+            return Err(TextCause::Limit);
+        }
+        self.bytes.extend_from_slice(bytes)?;
+        Ok(())
+    }
+
+    /// Adds bytes of data that are 0.
+    pub fn push_zeros(&mut self, count: u32) -> Result<(), TextCause>
+        ensures ok { OnOk result ((length self.old.sandbox.bytes + count ≤ self.old.sandbox.data_size) × (self.new ≡ with_bytes (replicate count 0) self.old)) }
+        ensures cause { IfErr result (λ e. (e ≡ cause.Memory) ⊎ ((self.old.sandbox.data_size < length self.old.sandbox.bytes + count) × (e ≡ cause.Limit))) }
+    {
+        if count as usize > self.data_size as usize - self.bytes.len() {
+            return Err(TextCause::Limit);
+        }
+        let len = self.bytes.len() + count as usize;
+        self.bytes.resize(len, 0)?;
+        Ok(())
+    }
+
+    /// Adds an instruction of this line.
+    pub fn push(&mut self, line: u32, body: Body) -> Result<(), TextCause>
+        ensures ok { OnOk result ((length self.old.sandbox.items + 1 ≤ 65536) × (self.new ≡ with_bodies line (body ∷ []) self.old)) }
+        ensures cause { IfErr result (λ e. (e ≡ cause.Memory) ⊎ ((65536 < length self.old.sandbox.items + 1) × (e ≡ cause.Limit))) }
+    {
+        if self.items.len() >= MOST_ITEMS {
+            return Err(TextCause::Limit);
+        }
+        self.items.push(Item {
+            line,
+            labelled: self.labelled,
+            rvc: self.rvc,
+            body,
+        })?;
+        self.labelled = false;
+        self.opened = true;
+        Ok(())
+    }
+
+    /// The place of a name that an instruction goes to, and that is met here.
+    pub fn meet(&mut self, alloc: Global, name: &str) -> Result<usize, TextCause>
+        ensures met { OnOk result (self.new ≡ with_names (met self.old.sandbox.names name.now) self.old) }
+        ensures place { IfOk result (λ place. place ≡ place_of self.old.sandbox.names name.now) }
+        ensures memory { IfErr result (λ e. e ≡ cause.Memory) }
+    {
+        self.names.meet(alloc, name)
+    }
+
+    /// Adds two instructions of this line.
+    pub fn push_two(&mut self, line: u32, first: Body, second: Body) -> Result<(), TextCause>
+        ensures ok { OnOk result ((length self.old.sandbox.items + 2 ≤ 65536) × (self.new ≡ with_bodies line (first ∷ second ∷ []) self.old)) }
+        ensures cause { IfErr result (λ e. (e ≡ cause.Memory) ⊎ ((65536 < length self.old.sandbox.items + 2) × (e ≡ cause.Limit))) }
+    {
+        self.push(line, first)?;
+        self.push(line, second)
+    }
+
+    /// Adds what a statement of this line states.
+    pub fn state(
+        &mut self,
+        alloc: Global,
+        line: u32,
+        statement: Statement<'_>,
+    ) -> Result<(), TextCause>
+        ensures fits { OnOk result (Fits (stated statement.entry) self.old) }
+        ensures behind { OnOk result (self.new ≡ behind line (stated statement.entry) self.old) }
+        ensures cause { IfErr result (λ e. (e ≡ cause.Memory) ⊎ ((Fits (stated statement.entry) self.old → ⊥) × (e ≡ cause.Limit))) }
+    {
+        match statement {
+            Statement::Sandbox { data_size } => {
+                *self = Draft::new(alloc, data_size);
+                Ok(())
+            }
+            Statement::Gate { name, service } => self.gate(alloc, name, service),
+            Statement::Compressed(rvc) => {
+                self.set_rvc(rvc);
+                Ok(())
+            }
+            Statement::Data => {
+                self.begin_data();
+                Ok(())
+            }
+            Statement::Bytes(bytes) => self.push_bytes(&bytes),
+            Statement::Zeros(count) => self.push_zeros(count),
+            Statement::One(instr) => self.push(line, Body::Plain(instr)),
+            Statement::Two(first, second) => {
+                self.push_two(line, Body::Plain(first), Body::Plain(second))
+            }
+            Statement::Jump { instr, name } => {
+                let place = self.meet(alloc, name)?;
+                self.push(line, Body::To(instr, place))
+            }
+            Statement::Address { rd, name } => {
+                let place = self.meet(alloc, name)?;
+                self.push_two(line, Body::High(rd, place), Body::Low(rd, place))
+            }
+        }
+    }
+
+    /// The sandbox as it stands.
+    pub fn finish(self) -> SourcePart
+        ensures { result ≡ self.sandbox }
+    {
+        SourcePart::new(
+            self.data_size,
+            self.gates,
+            self.names,
+            self.items,
+            self.bytes,
+        )
+    }
+}

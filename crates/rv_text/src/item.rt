@@ -1,0 +1,49 @@
+//! What a sandbox of a source is made of: its gates, and the instructions of its code.
+use rv_word::{Instr, Reg};
+
+/// What a name of a sandbox names.
+#[derive(Clone, Copy, Debug, PartialEq, Eq)]
+pub enum Named {
+    /// The gate of that number, from 0.
+    Gate(usize),
+    /// The place before the item of that number, from 0; it may be the number of items.
+    Code(usize),
+    /// The place that many bytes behind the data base.
+    Data(u32),
+    /// Nothing: it is met in a statement and stands at no place.
+    Unknown,
+}
+
+/// What an item has the machine do. A name is given by its place among the sandbox's names.
+#[derive(Clone, Copy, Debug, PartialEq, Eq)]
+pub enum Body {
+    /// The instruction, which is no jal and no branch.
+    Plain(Instr),
+    /// The jal or branch, to the name at that place. Its offset is still 0.
+    To(Instr, usize),
+    /// The lui of the upper half of the address of the name at that place.
+    High(Reg, usize),
+    /// The addi of the lower half of that address.
+    Low(Reg, usize),
+}
+
+/// An instruction of the code.
+#[derive(Clone, Copy, Debug, PartialEq, Eq)]
+pub struct Item {
+    /// The line that it stands on, from 1.
+    pub line: u32,
+    /// Whether a label stands before it.
+    pub labelled: bool,
+    /// Whether a 16-bit form may stand for it.
+    pub rvc: bool,
+    pub body: Body,
+}
+
+/// A gate of a sandbox.
+#[derive(Clone, Copy, Debug, PartialEq, Eq)]
+pub struct SourceGate {
+    /// The place of its name among the sandbox's names.
+    pub name: usize,
+    /// What the host is asked for, from 0 to 5.
+    pub service: u32,
+}

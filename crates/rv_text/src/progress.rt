@@ -1,0 +1,270 @@
+//! The source so far, and how the lines of a text lead it on.
+ghost use Rattle.std.specs.Prelude.{◌≡◌, ◌⊎◌, ◌↔◌, List, ℕ, None, Some, IsTrue, IfOk, IfErr, OnOk, IfSome, MatchOption, codes};
+ghost use Rattle.rv_text.specs.declared.cause.TextCause.TheVariants as cause;
+ghost use Rattle.rv_text.specs.Effects.{Labels, RefusesLabel, MayStand, Does, HasNoRoom};
+ghost use Rattle.rv_text.specs.Leads.{BeginsWithName, IsTaken, BeginsWithLabel, HasNoLabel, PassesLabels, IsGateTwice, LeadsBehind, RestLeads, Leads, LabelRefused, RefusedBehind, StatementRefused, LineRefused};
+ghost use Rattle.rv_text.specs.SoFar.{begin, nothing, sandboxes};
+ghost use Rattle.rv_text.specs.Stated.{stated, place_of_stated};
+ghost use Rattle.rv_text.specs.Texts.{LeadsFromNothing, MeansSource, IsFault};
+ghost use Rattle.rv_text.specs.Causes.{memory};
+ghost use Rattle.rv_text.specs.Tokens.{IsToken, IsLabel, Takes};
+
+use crate::cause::TextCause;
+use crate::draft::{Draft, MOST_NAME};
+use crate::fault::TextFault;
+use crate::keyword::{Directive, Keyword};
+use crate::lexer::{Next, next_token};
+use crate::line::{read_keyword, read_statement};
+use crate::parse::is_name;
+use crate::read::begins_label;
+use crate::source::{Source, SourcePart};
+use crate::statement::{Place, Statement};
+use std::alloc::Global;
+use std::marker::Model;
+
+/// The source so far: the sandboxes that are finished, and the one begun last.
+#[derive(Debug, Drop)]
+pub struct Progress {
+    finished: Vec<SourcePart>,
+    begun: Option<Draft>,
+}
+
+impl Model for Progress {
+    ghost use Rattle.rv_text.specs.SoFar.{SoFar};
+
+    ghost Value = { SoFar };
+
+    ghost view = { λ p. record { finished = p.finished.items; begun = p.begun } };
+}
+
+/// Whether the token may be a label's name.
+fn is_label(token: &str) -> bool
+    requires { IsToken token.now }
+    ensures { IsTrue result ↔ IsLabel token.now }
+{
+    is_name(token) && begins_label(token)
+}
+
+/// What follows a colon at the front of a text.
+fn behind_colon(text: &str) -> Option<&str>
+    ensures { MatchOption result ((rest : List ℕ) → Takes text.now (codes ":") rest → ⊥) (λ rest. Takes text.now (codes ":") rest.now) }
+{
+    match next_token(text) {
+        Next::Token(token, rest) => { if token == ":" { Some(rest) } else { None } }
+        Next::End => None,
+        Next::Stuck => None,
+    }
+}
+
+/// The name at the front of a text that a label may have, and what follows it.
+fn label_name(text: &str) -> Option<(&str, &str)>
+    ensures { MatchOption result ((name rest : List ℕ) → BeginsWithName text.now name rest → ⊥)
+        (λ x. BeginsWithName text.now x.0.now x.1.now) }
+{
+    match next_token(text) {
+        Next::Token(name, rest) => {
+            if is_label(name) {
+                Some((name, rest))
+            } else {
+                None
+            }
+        }
+        Next::End => None,
+        Next::Stuck => None,
+    }
+}
+
+/// The label at the front of a text: its name, and what follows its colon.
+fn label_of(text: &str) -> Option<(&str, &str)>
+    ensures { MatchOption result (HasNoLabel text.now) (λ x. BeginsWithLabel text.now x.0.now x.1.now) }
+{
+    match label_name(text) {
+        Some((name, after)) => match behind_colon(after) {
+            Some(rest) => Some((name, rest)),
+            None => None,
+        },
+        None => None,
+    }
+}
+
+/// Whether the name at the front of a text is there already.
+fn is_taken(draft: &Draft, text: &str) -> bool
+    ensures { IsTrue result ↔ IsTaken draft.now text.now }
+{
+    match label_name(text) {
+        Some((name, _)) => !draft.is_free(name),
+        None => false,
+    }
+}
+
+impl Progress {
+    /// Nothing yet.
+    pub fn new(alloc: Global) -> Progress
+        ensures { result ≡ nothing }
+    {
+        Progress {
+            finished: Vec::new(alloc),
+            begun: None,
+        }
+    }
+
+    /// Whether a statement of this kind may stand here.
+    fn may_stand(&self, place: Place) -> bool
+        ensures { IsTrue result ↔ MayStand place self.now.begun }
+    {
+        match (place, &self.begun) {
+            (Place::Outside, _) => true,
+            (Place::Gates | Place::Code | Place::Data, None) => false,
+            (Place::Gates, Some(draft)) => !draft.is_opened(),
+            (Place::Code, Some(draft)) => !draft.is_in_data(),
+            (Place::Data, Some(draft)) => draft.is_in_data(),
+        }
+    }
+
+    /// Puts a label here.
+    fn label(&mut self, alloc: Global, name: &str) -> Result<(), TextCause>
+        ensures labels { OnOk result (Labels name.now self.old self.new) }
+        ensures cause { IfErr result (λ e. (e ≡ cause.Memory) ⊎ RefusesLabel name.now self.old e) }
+    {
+        match &mut self.begun {
+            None => Err(TextCause::Directive),
+            Some(draft) => {
+                if name.len() > MOST_NAME {
+                    Err(TextCause::Limit)
+                } else if draft.is_free(name) {
+                    draft.label(alloc, name)
+                } else {
+                    Err(TextCause::LabelTwice)
+                }
+            }
+        }
+    }
+
+    /// Puts the labels at the front of a line, and gives the text behind them.
+    fn labels<'a>(&mut self, alloc: Global, line: &'a str) -> Result<&'a str, TextCause>
+        ensures passes { IfOk result (λ rest. PassesLabels self.old line.now self.new rest.now) }
+        ensures cause { IfErr result (λ e. (e ≡ cause.Memory) ⊎ LabelRefused self.old line.now e) }
+    {
+        let mut text = line;
+        while let Some((name, rest)) = label_of(text) {
+            match self.label(alloc, name) {
+                Ok(()) => text = rest,
+                Err(e) => return Err(e),
+            }
+        }
+        Ok(text)
+    }
+
+    /// Whether it is a gate whose name, behind this keyword, is there already.
+    fn is_gate_twice(&self, keyword: Keyword, text: &str) -> bool
+        ensures { IsTrue result ↔ IsGateTwice keyword self.now text.now }
+    {
+        match (keyword, &self.begun) {
+            (Keyword::Directive(Directive::Gate), Some(draft)) => is_taken(draft, text),
+            _ => false,
+        }
+    }
+
+    /// Begins a sandbox behind those so far.
+    fn begin(&mut self, alloc: Global, data_size: u32) -> Result<(), TextCause>
+        ensures begins { OnOk result (self.new ≡ record { finished = sandboxes self.old; begun = Some (begin data_size) }) }
+        ensures memory { IfErr result (λ e. e ≡ cause.Memory) }
+    {
+        if let Some(draft) = self.begun.take() {
+            self.finished.push(draft.finish())?;
+        }
+        self.begun = Some(Draft::new(alloc, data_size));
+        Ok(())
+    }
+
+    /// Does what a statement of this line states, which may stand here.
+    fn state(&mut self, alloc: Global, line: u32, statement: Statement<'_>) -> Result<(), TextCause>
+        requires { MayStand (place_of_stated (stated statement)) self.old.begun }
+        ensures does { OnOk result (Does line (stated statement.entry) self.old self.new) }
+        ensures cause { IfErr result (λ e. (e ≡ cause.Memory) ⊎ (HasNoRoom (stated statement.entry) self.old × (e ≡ cause.Limit))) }
+    {
+        match &statement {
+            Statement::Sandbox { data_size } => self.begin(alloc, *data_size),
+            Statement::Gate { .. }
+            | Statement::Compressed(_)
+            | Statement::Data
+            | Statement::Bytes(_)
+            | Statement::Zeros(_)
+            | Statement::One(_)
+            | Statement::Two(..)
+            | Statement::Jump { .. }
+            | Statement::Address { .. } => match &mut self.begun {
+                Some(draft) => draft.state(alloc, line, statement),
+                None => Err(TextCause::Directive),
+            },
+        }
+    }
+
+    /// Does what this keyword states with the text behind it.
+    fn behind_keyword(
+        &mut self,
+        alloc: Global,
+        line: u32,
+        keyword: Keyword,
+        text: &str,
+    ) -> Result<(), TextCause>
+        ensures leads { OnOk result (LeadsBehind keyword line self.old text.now self.new) }
+        ensures cause { IfErr result (λ e. (e ≡ cause.Memory) ⊎ RefusedBehind keyword self.old text.now e) }
+    {
+        if !self.may_stand(keyword.place()) {
+            return Err(TextCause::Directive);
+        }
+        if self.is_gate_twice(keyword, text) {
+            return Err(TextCause::LabelTwice);
+        }
+        match read_statement(alloc, keyword, text) {
+            Ok(statement) => self.state(alloc, line, statement),
+            Err(e) => Err(e),
+        }
+    }
+
+    /// Does what the text behind a line's labels states.
+    fn statement(&mut self, alloc: Global, line: u32, text: &str) -> Result<(), TextCause>
+        ensures leads { OnOk result (RestLeads line self.old text.now self.new) }
+        ensures cause { IfErr result (λ e. (e ≡ cause.Memory) ⊎ StatementRefused self.old text.now e) }
+    {
+        match next_token(text) {
+            Next::End => Ok(()),
+            Next::Stuck => Err(TextCause::Word),
+            Next::Token(token, rest) => match read_keyword(token) {
+                Ok(keyword) => self.behind_keyword(alloc, line, keyword, rest),
+                Err(e) => Err(e),
+            },
+        }
+    }
+
+    /// Goes on by a line, which has no comment.
+    pub fn line(&mut self, alloc: Global, line: u32, text: &str) -> Result<(), TextCause>
+        ensures leads { OnOk result (Leads line self.old text.now self.new) }
+        ensures cause { IfErr result (λ e. (e ≡ cause.Memory) ⊎ LineRefused self.old text.now e) }
+    {
+        match self.labels(alloc, text) {
+            Ok(rest) => self.statement(alloc, line, rest),
+            Err(e) => Err(e),
+        }
+    }
+
+    /// The source behind the last line of a text, whose lines lead to it from nothing.
+    pub fn finish(self, text: &str) -> Result<Source, TextFault>
+        requires { LeadsFromNothing text.now self }
+        ensures source { IfOk result (λ s. MeansSource text.now s) }
+        ensures fault { IfErr result (λ f. (f ≡ memory) ⊎ IsFault text.now f) }
+    {
+        let mut parts = self.finished;
+        match self.begun {
+            Some(draft) => {
+                parts.push(draft.finish())?;
+                Ok(Source::new(text, parts))
+            }
+            None => Err(TextFault {
+                line: 1,
+                cause: TextCause::Directive,
+            }),
+        }
+    }
+}

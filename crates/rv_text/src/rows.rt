@@ -1,0 +1,108 @@
+//! What each statement with operands states.
+ghost use Rattle.std.specs.Prelude.{◌≡◌, pos};
+ghost use Rattle.rv_word.specs.declared.instr.Instr.TheVariants as instr;
+ghost use Rattle.rv_word.specs.declared.instr.ImmOp.TheVariants.{Addi};
+ghost use Rattle.rv_text.specs.Operands.{given};
+ghost use Rattle.rv_text.specs.Reading.{Fits};
+ghost use Rattle.rv_text.specs.Keywords.{directive_form, directive_states, pseudo_form, pseudo_states};
+ghost use Rattle.rv_text.specs.Stated.{stated, jump};
+
+use crate::constant::constant;
+use crate::keyword::{Directive, Pseudo};
+use crate::operands::{Operands, x0};
+use crate::statement::Statement;
+use rv_word::{Cond, ImmOp, Instr, Reg};
+
+impl Directive {
+    /// What the directive states with these operands.
+    pub fn statement<'a>(self, o: &Operands<'a>) -> Statement<'a>
+        requires { Fits (given o.now) (directive_form self) }
+        ensures { stated result ≡ directive_states self (given o.now) }
+    {
+        match self {
+            Directive::Sandbox => Statement::Sandbox {
+                data_size: o.number as u32,
+            },
+            Directive::Gate => Statement::Gate {
+                name: o.name,
+                service: o.number as u32,
+            },
+            Directive::Option => Statement::Compressed(o.compressed),
+            Directive::Data => Statement::Data,
+            Directive::Zero => Statement::Zeros(o.number as u32),
+        }
+    }
+}
+
+fn add_immediate(rd: Reg, rs1: Reg) -> Instr
+    ensures { result ≡ instr.OpImm Addi rd rs1 (pos 0) }
+{
+    Instr::OpImm {
+        op: ImmOp::Addi,
+        rd,
+        rs1,
+        imm: 0,
+    }
+}
+
+fn jump_to(rs1: Reg) -> Instr
+    ensures { result ≡ instr.Jalr 0 rs1 (pos 0) }
+{
+    Instr::Jalr {
+        rd: x0(),
+        rs1,
+        imm: 0,
+    }
+}
+
+/// A jal to a name.
+pub fn jal_to<'a>(rd: Reg, name: &'a str) -> Statement<'a>
+    ensures { stated result ≡ jump (instr.Jal rd (pos 0)) name.now }
+{
+    let instr = Instr::Jal { rd, offset: 0 };
+    Statement::Jump { instr, name }
+}
+
+/// A branch to a name.
+pub fn branch_to<'a>(cond: Cond, rs1: Reg, rs2: Reg, name: &'a str) -> Statement<'a>
+    ensures { stated result ≡ jump (instr.Branch cond rs1 rs2 (pos 0)) name.now }
+{
+    let instr = Instr::Branch {
+        cond,
+        rs1,
+        rs2,
+        offset: 0,
+    };
+    Statement::Jump { instr, name }
+}
+
+/// The register of the return address, x1.
+fn ra() -> Reg
+    ensures { result ≡ 1 }
+{
+    Reg::new(1).unwrap()
+}
+
+impl Pseudo {
+    /// What the pseudo-instruction states with these operands.
+    pub fn statement<'a>(self, o: &Operands<'a>) -> Statement<'a>
+        requires { Fits (given o.now) (pseudo_form self) }
+        ensures { stated result ≡ pseudo_states self (given o.now) }
+    {
+        match self {
+            Pseudo::Nop => Statement::One(add_immediate(x0(), x0())),
+            Pseudo::Ret => Statement::One(jump_to(ra())),
+            Pseudo::Li => constant(o.rd, o.number),
+            Pseudo::Mv => Statement::One(add_immediate(o.rd, o.rs1)),
+            Pseudo::Jr => Statement::One(jump_to(o.rs1)),
+            Pseudo::J => jal_to(x0(), o.name),
+            Pseudo::Call => jal_to(ra(), o.name),
+            Pseudo::Beqz => branch_to(Cond::Beq, o.rs1, x0(), o.name),
+            Pseudo::Bnez => branch_to(Cond::Bne, o.rs1, x0(), o.name),
+            Pseudo::La => Statement::Address {
+                rd: o.rd,
+                name: o.name,
+            },
+        }
+    }
+}

@@ -1,0 +1,126 @@
+//! Sources: what a text of the assembler means.
+ghost use Rattle.std.specs.Prelude.{◌≡◌, length, slice_get};
+ghost use Rattle.rv_text.specs.Source.{sandbox, named, IsSource};
+ghost use Rattle.rv_text.specs.Texts.{MeansSource};
+
+use crate::item::{Item, Named, SourceGate};
+use crate::laws::sources_are_right;
+use crate::name_table::Names;
+use std::marker::Model;
+
+/// A sandbox of a source.
+#[derive(Debug, Drop)]
+pub struct SourcePart {
+    data_size: u32,
+    gates: Vec<SourceGate>,
+    names: Names,
+    items: Vec<Item>,
+    bytes: Vec<u8>,
+}
+
+impl Model for SourcePart {
+    ghost use Rattle.rv_text.specs.Source.{Sandbox, IsSandbox};
+
+    ghost Value = { Sandbox };
+
+    ghost view = { λ p. record { data_size = p.data_size; gates = p.gates.items; names = p.names; items = p.items.items; bytes = p.bytes.items } };
+}
+
+impl SourcePart {
+    pub(crate) fn new(
+        data_size: u32,
+        gates: Vec<SourceGate>,
+        names: Names,
+        items: Vec<Item>,
+        bytes: Vec<u8>,
+    ) -> SourcePart
+        ensures { result ≡ sandbox data_size gates.items names items.items bytes.items }
+    {
+        SourcePart {
+            data_size,
+            gates,
+            names,
+            items,
+            bytes,
+        }
+    }
+
+    /// How many bytes the data region has, a power of two from 256 to 1048576.
+    pub fn data_size(&self) -> u32
+        ensures { result ≡ self.now.data_size }
+    {
+        self.data_size
+    }
+
+    /// The gates, at most 64, in the order of the text.
+    pub fn gates(&self) -> &[SourceGate]
+        ensures { result.now ≡ self.now.gates }
+    {
+        &self.gates
+    }
+
+    /// How many names there are.
+    pub fn name_count(&self) -> usize
+        ensures { result ≡ length (named self.now) }
+    {
+        self.names.len()
+    }
+
+    /// What the name at this place names; `None` where there is none. The places are those of the order in which the
+    /// names are first seen, from 0.
+    pub fn named(&self, place: usize) -> Option<Named>
+        ensures { result ≡ slice_get (named self.now) place }
+    {
+        self.names.named(place)
+    }
+
+    /// The instructions, at most 65536, in the order of the text.
+    pub fn items(&self) -> &[Item]
+        ensures { result.now ≡ self.now.items }
+    {
+        &self.items
+    }
+
+    /// The first bytes of the data region, at most `data_size`.
+    pub fn bytes(&self) -> &[u8]
+        ensures { result.now ≡ self.now.bytes }
+    {
+        &self.bytes
+    }
+}
+
+/// What a text means: one sandbox at least.
+#[derive(Debug, Drop)]
+pub struct Source {
+    parts: Vec<SourcePart>,
+}
+
+impl Model for Source {
+    ghost use Rattle.std.specs.Prelude.{List};
+    ghost use Rattle.rv_text.specs.Source.{Sandbox, IsSource};
+
+    ghost Value = { List Sandbox };
+
+    ghost view = { λ s. s.parts.items };
+
+    ghost invariant = { λ s. IsSource s.parts.items };
+}
+
+impl Source {
+    /// The source that this text means.
+    pub(crate) fn new(text: &str, parts: Vec<SourcePart>) -> Source
+        requires { MeansSource text.now parts.items }
+        ensures { result ≡ parts.items }
+    {
+        sources_are_right();
+        Source { parts }
+    }
+
+    /// The sandboxes, in the order of the text.
+    pub fn parts(&self) -> &[SourcePart]
+        ensures parts { result.now ≡ self.now }
+        ensures right { IsSource self.now }
+    {
+        &self.parts
+    }
+}

@@ -1,0 +1,45 @@
+//! What one line of source states, behind its labels.
+
+use rv_word::{Instr, Reg};
+
+/// What a line of source states.
+///
+/// Pseudo-instructions stand as what they mean: `nop`, `ret`, `mv` and `jr` are one instruction,
+/// `li` is one or two, and `j`, `call`, `beqz` and `bnez` are a jump or branch to a name.
+#[derive(Debug, Drop)]
+pub enum Statement<'a> {
+    /// `.sandbox N`: a sandbox begins, with so many bytes of data.
+    Sandbox { data_size: u32 },
+    /// `.gate L N`: the name is that of a gate of this service.
+    Gate { name: &'a str, service: u32 },
+    /// `.option rvc`, where true, or `.option norvc`: whether 16-bit forms are taken from here on.
+    Compressed(bool),
+    /// `.data`: the data follow.
+    Data,
+    /// `.word`, `.half` and `.byte`: these bytes of data.
+    Bytes(Vec<u8>),
+    /// `.zero N`: so many bytes of data that are 0.
+    Zeros(u32),
+    /// One instruction that names no place.
+    One(Instr),
+    /// Two of them, of a `li` whose number takes two.
+    Two(Instr, Instr),
+    /// A jump or a branch to the place of this name; its offset is 0.
+    Jump { instr: Instr, name: &'a str },
+    /// `la rd, L`: the register takes the address of the place of this name, by a `lui` and an
+    /// `addi`.
+    Address { rd: Reg, name: &'a str },
+}
+
+/// Where a statement may stand.
+#[derive(Clone, Copy, Debug, PartialEq, Eq)]
+pub enum Place {
+    /// Anywhere, before the first sandbox too: it begins one.
+    Outside,
+    /// Before the sandbox's first label and instruction.
+    Gates,
+    /// In the code part.
+    Code,
+    /// In the data part.
+    Data,
+}
