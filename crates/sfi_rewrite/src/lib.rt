@@ -1,2 +1,28 @@
-//! The rewriter: a source's instructions, each with the masks that keep it in its sandbox, placed in bundles.
+//! From a source to what is placed: each instruction becomes its expansion, and each expansion stands at the first place
+//! in which it may.
+//!
+//! A load, a store and an indirect jump stand behind the masked pair that keeps their address in the sandbox (Wahbe and
+//! others, 1993, "Efficient Software-Based Fault Isolation"). No expansion crosses the end of a 16-byte bundle, labels are
+//! bundle starts, and a call ends its bundle, so that its return address is one too (Yee and others, 2009, "Native
+//! Client"). Names stay names: [`Placed`] has no address yet.
 #![tactic(auto)]
+
+mod bundle;
+mod expansion;
+mod fault;
+mod filling;
+mod item;
+pub mod laws;
+mod laying;
+mod names;
+mod place;
+mod placed;
+mod register;
+mod rewriting;
+mod slot;
+
+pub use bundle::Bundle;
+pub use fault::RewriteFault;
+pub use placed::{Placed, PlacedName, PlacedPart};
+pub use rewriting::rewrite;
+pub use slot::Slot;

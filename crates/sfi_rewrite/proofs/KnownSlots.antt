@@ -1,0 +1,117 @@
+-- What is known of the slots of a sandbox's items: they encode, and their names are the sandbox's.
+use Rattle.std.proofs.Common.{◌≡◌, ℕ, zero, suc, ◌+◌, ◌*◌, ◌<◌, ◌≤◌, List, [], ◌∷◌, ◌++◌, length, get_or, replicate, refl, sym, ap, ◌∙◌, subst, arith, inl, inr}
+use Rattle.std.proofs.lemmas.Int.{ints}
+use Rattle.std.specs.Prelude.{ℤ, pos, negsuc, Bool, true, false, IsTrue}
+use Rattle.std.specs.List.{All}
+use Rattle.std.proofs.lemmas.List.Elements.{All-nil, All-cons, All-append, All-head, All-tail}
+use Rattle.rv_word.specs.declared.instr.Instr.{Instr}
+use Rattle.rv_word.specs.declared.instr.RegOp.TheVariants.{And, Or}
+use Rattle.rv_word.specs.declared.instr.ImmOp.TheVariants.{Addi}
+use Rattle.rv_word.specs.declared.instr.LoadKind.{LoadKind}
+use Rattle.rv_word.specs.declared.instr.StoreWidth.{StoreWidth}
+use Rattle.rv_word.specs.declared.instr.Instr.TheVariants.{Op, OpImm, Load, Store, Branch, Jal, Jalr, Lui, Auipc, Fence, Ecall, Ebreak}
+use Rattle.rv_word.specs.Spelling.{InRange, IsImm12}
+use Rattle.rv_text.specs.declared.item.Item.{Item}
+use Rattle.rv_text.specs.declared.item.Body.{Body}
+use Rattle.rv_text.specs.declared.item.Body.TheVariants.{Plain, To, High, Low}
+use Rattle.rv_text.specs.Source.{IsBody}
+use Rattle.sfi_rewrite.specs.declared.slot.Slot.{Slot}
+use Rattle.sfi_rewrite.specs.declared.slot.Slot.TheVariants.{Wide, Short, Jump, Upper, Lower}
+use Rattle.sfi_rewrite.specs.Slots.{size_of, c_nop}
+use Rattle.sfi_rewrite.specs.Expansion.{code_pair, jump_to_x31, jump_slots, IsAlone, IsExpansionOf}
+use Rattle.sfi_rewrite.specs.Places.{AreLaidFrom}
+use Rattle.sfi_rewrite.specs.Placed.{Encodes, IsNamedBelow}
+
+pub record IsKnown (count : ℕ) (s : Slot) : Type 0 where
+  pub encodes : Encodes s
+  pub name : IsNamedBelow count s
+
+one : (count : ℕ) (s : Slot) → IsKnown count s → All (IsKnown count) (s ∷ [])
+one count s h = All-cons (IsKnown count) s [] h (All-nil (IsKnown count))
+
+more : (count : ℕ) (s : Slot) (slots : List Slot) → IsKnown count s → All (IsKnown count) slots → All (IsKnown count) (s ∷ slots)
+more count s slots h g = All-cons (IsKnown count) s slots h g
+
+zero_fits : IsImm12 (pos 0)
+zero_fits = (omega (arith, ints), omega (arith, ints))
+
+wide_known : (count : ℕ) (i : Instr) → InRange i → IsKnown count (Wide i)
+wide_known count i h = record { encodes = h; name = tt }
+
+alone_known : (count : ℕ) (rvc : Bool) (i : Instr) (slots : List Slot) → IsAlone rvc i slots → InRange i → All (IsKnown count) slots
+alone_known count false i slots e h = rw e (one count (Wide i) (wide_known count i h))
+alone_known count true i slots e h =
+    elim e [
+      | inl s ↦ rw (s.2) (one count (Short s.0) (record { encodes = s.1.meets; name = tt }))
+      | inr w ↦ rw (w.1) (one count (Wide i) (wide_known count i h))
+    ]
+
+three : (count : ℕ) (a b c : Slot) → IsKnown count a → IsKnown count b → IsKnown count c → All (IsKnown count) (a ∷ b ∷ c ∷ [])
+three count a b c h g k = more count a (b ∷ c ∷ []) h (more count b (c ∷ []) g (one count c k))
+
+masked : (count a mask : ℕ) → a < 32 → mask < 32 → IsKnown count (Wide (Op And 31 a mask))
+unfolding InRange
+masked count a mask h g = record { encodes = (omega arith, h, g); name = tt }
+
+based : (count base : ℕ) → base < 32 → IsKnown count (Wide (Op Or 31 31 base))
+unfolding InRange
+based count base g = record { encodes = (omega arith, omega arith, g); name = tt }
+
+summed : (count a : ℕ) (imm : ℤ) → a < 32 → IsImm12 imm → IsKnown count (Wide (OpImm Addi 31 a imm))
+unfolding InRange
+summed count a imm h i = record { encodes = (omega arith, h, i); name = tt }
+
+jumped : (count rd : ℕ) → rd < 32 → IsKnown count (jump_to_x31 rd)
+unfolding InRange
+jumped count rd d = record { encodes = (d, omega arith, zero_fits); name = tt }
+
+loaded : (count rd : ℕ) (kind : LoadKind) (imm : ℤ) → rd < 32 → IsImm12 imm → IsKnown count (Wide (Load kind rd 31 imm))
+unfolding InRange
+loaded count rd kind imm d i = record { encodes = (d, omega arith, i); name = tt }
+
+stored : (count rs2 : ℕ) (width : StoreWidth) (imm : ℤ) → rs2 < 32 → IsImm12 imm → IsKnown count (Wide (Store width 31 rs2 imm))
+unfolding InRange
+stored count rs2 width imm d i = record { encodes = (omega arith, d, i); name = tt }
+
+code_known : (count rd a : ℕ) → rd < 32 → a < 32 → All (IsKnown count) (code_pair a ++ jump_to_x31 rd ∷ [])
+code_known count rd a d h =
+    three count (Wide (Op And 31 a 25)) (Wide (Op Or 31 31 24)) (jump_to_x31 rd) (masked count a 25 h (omega arith)) (based count 24 (omega arith)) (jumped count rd d)
+
+jump_known : (count rd a : ℕ) (imm : ℤ) (slots : List Slot) → slots ≡ jump_slots rd a imm → rd < 32 → a < 32 → IsImm12 imm → All (IsKnown count) slots
+jump_known count rd a (pos zero) slots e d h i = rw e (code_known count rd a d h)
+jump_known count rd a (pos (suc n)) slots e d h i =
+    rw e (more count (Wide (OpImm Addi 31 a (pos (suc n)))) (code_pair 31 ++ jump_to_x31 rd ∷ []) (summed count a (pos (suc n)) h i) (code_known count rd 31 d (omega arith)))
+jump_known count rd a (negsuc n) slots e d h i =
+    rw e (more count (Wide (OpImm Addi 31 a (negsuc n))) (code_pair 31 ++ jump_to_x31 rd ∷ []) (summed count a (negsuc n) h i) (code_known count rd 31 d (omega arith)))
+
+expansion_known : (line : ℕ) (rvc : Bool) (body : Body) (count : ℕ) (slots : List Slot) → IsExpansionOf line rvc body slots → IsBody count body → All (IsKnown count) slots
+unfolding InRange
+expansion_known line rvc (Plain (Load kind rd a imm)) count slots e b =
+    rw e (three count (Wide (Op And 31 a 27)) (Wide (Op Or 31 31 26)) (Wide (Load kind rd 31 imm)) (masked count a 27 b.0.1 (omega arith)) (based count 26 (omega arith)) (loaded count rd kind imm b.0.0 b.0.2))
+expansion_known line rvc (Plain (Store width a rs2 imm)) count slots e b =
+    rw e (three count (Wide (Op And 31 a 27)) (Wide (Op Or 31 31 26)) (Wide (Store width 31 rs2 imm)) (masked count a 27 b.0.0 (omega arith)) (based count 26 (omega arith)) (stored count rs2 width imm b.0.1 b.0.2))
+expansion_known line rvc (Plain (Jalr rd a imm)) count slots e b = jump_known count rd a imm slots e b.0.0 b.0.1 b.0.2
+expansion_known line rvc (Plain (Op op rd rs1 rs2)) count slots e b = alone_known count rvc (Op op rd rs1 rs2) slots e b.0
+expansion_known line rvc (Plain (OpImm op rd rs1 imm)) count slots e b = alone_known count rvc (OpImm op rd rs1 imm) slots e b.0
+expansion_known line rvc (Plain (Branch cond rs1 rs2 offset)) count slots e b = alone_known count rvc (Branch cond rs1 rs2 offset) slots e b.0
+expansion_known line rvc (Plain (Jal rd offset)) count slots e b = alone_known count rvc (Jal rd offset) slots e b.0
+expansion_known line rvc (Plain (Lui rd imm)) count slots e b = alone_known count rvc (Lui rd imm) slots e b.0
+expansion_known line rvc (Plain (Auipc rd imm)) count slots e b = alone_known count rvc (Auipc rd imm) slots e b.0
+expansion_known line rvc (Plain (Fence imm rd rs1)) count slots e b = alone_known count rvc (Fence imm rd rs1) slots e b.0
+expansion_known line rvc (Plain Ecall) count slots e b = alone_known count rvc Ecall slots e b.0
+expansion_known line rvc (Plain Ebreak) count slots e b = alone_known count rvc Ebreak slots e b.0
+expansion_known line rvc (To i name) count slots e b = rw e (one count (Jump i name line) (record { encodes = b.0; name = b.2 }))
+expansion_known line rvc (High rd name) count slots e b = rw e (one count (Upper rd name line) (record { encodes = b.0; name = b.1 }))
+expansion_known line rvc (Low rd name) count slots e b = rw e (one count (Lower rd name line) (record { encodes = b.0; name = b.1 }))
+
+pub nops_known : (count n : ℕ) → All (IsKnown count) (replicate n c_nop)
+nops_known count zero = All-nil (IsKnown count)
+nops_known count (suc n) = more count c_nop (replicate n c_nop) (record { encodes = refl; name = tt }) (nops_known count n)
+
+pub laid_known : (count end : ℕ) (items : List Item) (slots : List Slot) → AreLaidFrom end items slots → All (λ x. IsBody count x.body) items → All (IsKnown count) slots
+laid_known count end [] slots l b = rw l (All-nil (IsKnown count))
+laid_known count end (x ∷ items) slots l b =
+    let P : Item → Type 0 = λ x. IsBody count x.body in
+    let first = expansion_known x.line x.rvc x.body count l.1 l.3.expansion (All-head P x items b) in
+    let rest = laid_known count (end + 2 * l.0 + size_of l.1) items l.2 l.5 (All-tail P x items b) in
+    rw (l.4) (All-append (IsKnown count) (replicate l.0 c_nop) (l.1 ++ l.2) (nops_known count l.0) (All-append (IsKnown count) l.1 l.2 first rest))

@@ -1,0 +1,11 @@
+pub mod Sizes
+pub mod Bundles
+pub mod Expansions
+pub mod Laid
+pub mod OneByOne
+pub mod PlacedNames
+pub mod KnownSlots
+pub mod Placements
+pub mod OneWay
+pub mod OneFault
+pub mod Sources

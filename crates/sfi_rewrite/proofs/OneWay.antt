@@ -1,0 +1,149 @@
+-- A sandbox has one placement.
+use Rattle.std.proofs.Common.{◌≡◌, ℕ, zero, suc, ◌+◌, ◌*◌, ◌<◌, ◌≤◌, List, [], ◌∷◌, ◌++◌, length, take, replicate, refl, sym, ap, ◌∙◌, subst, arith, append-nil}
+use Rattle.std.specs.List.{AllZip}
+use Rattle.rv_comp.specs.Laws.{OneFirstForm}
+use Rattle.rv_text.specs.declared.item.Item.{Item}
+use Rattle.rv_text.specs.declared.item.Named.{Named}
+use Rattle.rv_text.specs.declared.item.Named.TheVariants.{Gate, Code, Data, Unknown}
+use Rattle.rv_text.specs.declared.item.SourceGate.{SourceGate}
+use Rattle.rv_text.specs.Source.{Sandbox, named}
+use Rattle.sfi_rewrite.specs.declared.slot.Slot.{Slot}
+use Rattle.sfi_rewrite.specs.declared.placed.PlacedName.{PlacedName}
+use Rattle.sfi_rewrite.specs.declared.placed.PlacedName.TheVariants as placed
+use Rattle.sfi_rewrite.specs.Slots.{size_of, slots_of, c_nop, slot_size}
+use Rattle.sfi_rewrite.specs.Places.{next_bundle}
+use Rattle.sfi_rewrite.specs.Placement.{Placement, IsPlacedName, HasEndLabel, FillsEnd, AreBundles, IsPlacement}
+use Rattle.sfi_rewrite.specs.Rewriting.{IsRewritten}
+use Rattle.sfi_rewrite.proofs.Sizes.{size_of-append, size_of-cons, size_at_least}
+use Rattle.sfi_rewrite.proofs.Laid.{laid_one_way}
+
+-- ---- bundles
+
+record SameParts (xs ys us vs : List Slot) : Type 0 where
+  front : xs ≡ ys
+  back : us ≡ vs
+
+same_front : (xs ys us vs : List Slot) → xs ++ us ≡ ys ++ vs → size_of xs ≡ size_of ys → SameParts xs ys us vs
+same_front [] [] us vs e s = record { front = refl; back = e }
+same_front [] (y ∷ ys) us vs e s = absurd (let h = size_at_least y ys in let z : size_of [] ≡ 0 = refl in omega arith)
+same_front (x ∷ xs) [] us vs e s = absurd (let h = size_at_least x xs in let z : size_of [] ≡ 0 = refl in omega arith)
+same_front (x ∷ xs) (y ∷ ys) us vs e s =
+    let first : x ≡ y = cc in
+    let tails : xs ++ us ≡ ys ++ vs = cc in
+    let a = size_of-cons x xs in
+    let b = size_of-cons y ys in
+    let f = ap slot_size first in
+    let rest = same_front xs ys us vs tails (omega arith) in
+    record { front = ap (λ v. v ∷ xs) first ∙ ap (λ v. y ∷ v) rest.front; back = rest.back }
+
+-- what is known of the first of some bundles
+record IsFirstBundle (b : List Slot) (rest : List (List Slot)) : Type 0 where
+  some : 0 < size_of b
+  few : size_of b ≤ 16
+
+first_bundle : (b : List Slot) (rest : List (List Slot)) → AreBundles (b ∷ rest) → IsFirstBundle b rest
+first_bundle b [] h = record { some = h.0; few = h.1 }
+first_bundle b (c ∷ rest) h = let s = h.0 in record { some = omega arith; few = omega arith }
+
+rest_bundles : (b : List Slot) (rest : List (List Slot)) → AreBundles (b ∷ rest) → AreBundles rest
+rest_bundles b [] h = tt
+rest_bundles b (c ∷ rest) h = h.1
+
+first_size : (b c : List Slot) (bs cs : List (List Slot)) → AreBundles (b ∷ bs) → AreBundles (c ∷ cs) → slots_of (b ∷ bs) ≡ slots_of (c ∷ cs) → size_of b ≡ size_of c
+first_size b c [] [] h g e =
+    let a = ap size_of e in
+    let x = size_of-append b [] in
+    let y = size_of-append c [] in
+    omega arith
+first_size b c [] (d ∷ cs) h g e =
+    let a = ap size_of e in
+    let x = size_of-append b [] in
+    let y = size_of-append c (d ++ slots_of cs) in
+    let z = size_of-append d (slots_of cs) in
+    let n : size_of [] ≡ 0 = refl in
+    let i = (first_bundle b [] h).few in
+    let j = (first_bundle d cs (rest_bundles c (d ∷ cs) g)).some in
+    let k = g.0 in
+    absurd (omega arith)
+first_size b c (d ∷ bs) [] h g e =
+    let a = ap size_of e in
+    let x = size_of-append c [] in
+    let y = size_of-append b (d ++ slots_of bs) in
+    let z = size_of-append d (slots_of bs) in
+    let n : size_of [] ≡ 0 = refl in
+    let i = (first_bundle c [] g).few in
+    let j = (first_bundle d bs (rest_bundles b (d ∷ bs) h)).some in
+    let k = h.0 in
+    absurd (omega arith)
+first_size b c (d ∷ bs) (f ∷ cs) h g e = h.0 ∙ sym g.0
+
+bundles_one_way : (bs cs : List (List Slot)) → AreBundles bs → AreBundles cs → slots_of bs ≡ slots_of cs → bs ≡ cs
+bundles_one_way [] [] h g e = refl
+bundles_one_way [] (c ∷ cs) h g e =
+    let a = ap size_of e in
+    let x = size_of-append c (slots_of cs) in
+    let n : size_of [] ≡ 0 = refl in
+    let j = (first_bundle c cs g).some in
+    absurd (omega arith)
+bundles_one_way (b ∷ bs) [] h g e =
+    let a = ap size_of e in
+    let x = size_of-append b (slots_of bs) in
+    let n : size_of [] ≡ 0 = refl in
+    let j = (first_bundle b bs h).some in
+    absurd (omega arith)
+bundles_one_way (b ∷ bs) (c ∷ cs) h g e =
+    let same = same_front b c (slots_of bs) (slots_of cs) e (first_size b c bs cs h g e) in
+    let rest = bundles_one_way bs cs (rest_bundles b bs h) (rest_bundles c cs g) same.back in
+    ap (λ v. v ∷ bs) same.front ∙ ap (λ v. c ∷ v) rest
+
+-- ---- names
+
+name_one_way : OneFirstForm → (items : List Item) (n : Named) (a b : PlacedName) → IsPlacedName items n a → IsPlacedName items n b → a ≡ b
+name_one_way law items (Gate k) a b x y = x ∙ sym y
+name_one_way law items (Code k) a b x y =
+    let same = laid_one_way law 0 (take k items) x.1.0 y.1.0 x.1.1 y.1.1 in
+    x.2 ∙ ap placed.Code (x.1.2 ∙ ap (λ v. next_bundle (size_of v)) same ∙ sym y.1.2) ∙ sym y.2
+name_one_way law items (Data offset) a b x y = x ∙ sym y
+name_one_way law items Unknown a b x y = x ∙ sym y
+
+names_one_way : OneFirstForm → (items : List Item) (names : List Named) (a b : List PlacedName) → AllZip (IsPlacedName items) names a → AllZip (IsPlacedName items) names b → a ≡ b
+names_one_way law items [] [] [] x y = refl
+names_one_way law items [] [] (n ∷ b) x y = absurd y
+names_one_way law items [] (m ∷ a) b x y = absurd x
+names_one_way law items (i ∷ names) [] b x y = absurd x
+names_one_way law items (i ∷ names) (m ∷ a) [] x y = absurd y
+names_one_way law items (i ∷ names) (m ∷ a) (n ∷ b) x y =
+    ap (λ v. v ∷ a) (name_one_way law items i m n x.0 y.0) ∙ ap (λ v. n ∷ v) (names_one_way law items names a b x.1 y.1)
+
+-- ---- placements
+
+end_one_way : (end : ℕ) (labelled : Type 0) (m n : ℕ) → FillsEnd end labelled m → FillsEnd end labelled n → m ≡ n
+end_one_way end labelled m n a b =
+    let up = a.fewest n b.enough in
+    let down = b.fewest m a.enough in
+    omega arith
+
+same_placement : (p q : Placement) → p.data_size ≡ q.data_size → p.gates ≡ q.gates → p.names ≡ q.names → p.bytes ≡ q.bytes → p.bundles ≡ q.bundles → p ≡ q
+same_placement p q d g n b c =
+    ap (λ (v : ℕ). record p { data_size = v }) d
+    ∙ ap (λ (v : List SourceGate). record p { data_size = q.data_size; gates = v }) g
+    ∙ ap (λ (v : List PlacedName). record p { data_size = q.data_size; gates = q.gates; names = v }) n
+    ∙ ap (λ (v : List ℕ). record p { data_size = q.data_size; gates = q.gates; names = q.names; bytes = v }) b
+    ∙ ap (λ (v : List (List Slot)). record q { bundles = v }) c
+
+pub placement_one_way : OneFirstForm → (s : Sandbox) (p q : Placement) → IsPlacement s p → IsPlacement s q → p ≡ q
+placement_one_way law s p q a b =
+    let slots = laid_one_way law 0 s.items a.slots b.slots a.laid b.laid in
+    let nops = end_one_way (size_of b.slots) (HasEndLabel s) a.nops b.nops (subst (λ (v : List Slot). FillsEnd (size_of v) (HasEndLabel s) a.nops) slots a.end) b.end in
+    let code = a.code ∙ ap (λ (v : List Slot). v ++ replicate a.nops c_nop) slots ∙ ap (λ (n : ℕ). b.slots ++ replicate n c_nop) nops ∙ sym b.code in
+    same_placement p q (a.data_size ∙ sym b.data_size) (a.gates ∙ sym b.gates) (names_one_way law s.items (named s) p.names q.names a.names b.names)
+    (a.bytes ∙ sym b.bytes) (bundles_one_way p.bundles q.bundles a.bundles b.bundles code)
+
+pub rewriting_one_way : OneFirstForm → (source : List Sandbox) (a b : List Placement) → AllZip IsRewritten source a → AllZip IsRewritten source b → a ≡ b
+rewriting_one_way law [] [] [] x y = refl
+rewriting_one_way law [] [] (q ∷ b) x y = absurd y
+rewriting_one_way law [] (p ∷ a) b x y = absurd x
+rewriting_one_way law (s ∷ source) [] b x y = absurd x
+rewriting_one_way law (s ∷ source) (p ∷ a) [] x y = absurd y
+rewriting_one_way law (s ∷ source) (p ∷ a) (q ∷ b) x y =
+    ap (λ v. v ∷ a) (placement_one_way law s p q x.0.placement y.0.placement) ∙ ap (λ v. q ∷ v) (rewriting_one_way law source a b x.1 y.1)

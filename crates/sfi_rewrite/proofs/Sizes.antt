@@ -1,0 +1,74 @@
+-- How many bytes slots take.
+use Rattle.std.proofs.Common.{◌≡◌, ℕ, zero, suc, ◌+◌, ◌*◌, ◌%◌, ◌<◌, ◌≤◌, List, [], ◌∷◌, ◌++◌, length, take, get_or, replicate, refl, sym, ap, ◌∙◌, arith, length-take, ◌^◌, Fits, w64, rules}
+use Rattle.std.proofs.lemmas.List.{take_more}
+use Rattle.std.proofs.lemmas.List.Sums.{sum_by-append, sum_by-cons}
+use Rattle.sfi_rewrite.specs.declared.slot.Slot.{Slot}
+use Rattle.sfi_rewrite.specs.declared.slot.Slot.TheVariants.{Wide, Short, Jump, Upper, Lower}
+use Rattle.sfi_rewrite.specs.Slots.{slot_size, size_of, c_nop}
+
+pub size_of-append : (xs ys : List Slot) → size_of (xs ++ ys) ≡ size_of xs + size_of ys
+size_of-append xs ys = sum_by-append slot_size xs ys
+
+pub size_of-cons : (s : Slot) (xs : List Slot) → size_of (s ∷ xs) ≡ slot_size s + size_of xs
+size_of-cons s xs = sum_by-cons slot_size s xs
+
+-- a slot takes 2 bytes or 4
+pub record IsSize (n : ℕ) : Type 0 where
+  pub even : n % 2 ≡ 0
+  pub least : 2 ≤ n
+  pub most : n ≤ 4
+
+pub slot_is_size : (s : Slot) → IsSize (slot_size s)
+slot_is_size (Short f) = record { even = refl; least = omega arith; most = omega arith }
+slot_is_size (Wide i) = record { even = refl; least = omega arith; most = omega arith }
+slot_is_size (Jump i p l) = record { even = refl; least = omega arith; most = omega arith }
+slot_is_size (Upper r p l) = record { even = refl; least = omega arith; most = omega arith }
+slot_is_size (Lower r p l) = record { even = refl; least = omega arith; most = omega arith }
+
+pub size_even : (xs : List Slot) → size_of xs % 2 ≡ 0
+size_even [] = refl
+size_even (x ∷ xs) =
+    let h = size_even xs in
+    let g = (slot_is_size x).even in
+    let e = size_of-cons x xs in
+    omega (arith, h, g, e)
+
+pub size_at_most : (xs : List Slot) → size_of xs ≤ 4 * length xs
+size_at_most [] = omega arith
+size_at_most (x ∷ xs) =
+    let h = size_at_most xs in
+    let g = (slot_is_size x).most in
+    let e = size_of-cons x xs in
+    omega (arith, h, g, e)
+
+pub size_at_least : (x : Slot) (xs : List Slot) → 0 < size_of (x ∷ xs)
+size_at_least x xs =
+    let g = (slot_is_size x).least in
+    let e = size_of-cons x xs in
+    omega (arith, g, e)
+
+pub size_nops : (n : ℕ) → size_of (replicate n c_nop) ≡ 2 * n
+size_nops zero = refl
+size_nops (suc n) =
+    let h = size_nops n in
+    let e = size_of-cons c_nop (replicate n c_nop) in
+    omega (arith, h, e)
+
+pub size_more : (xs : List Slot) (k : ℕ) (d : Slot) → k < length xs → size_of (take (k + 1) xs) ≡ size_of (take k xs) + slot_size (get_or xs k d)
+size_more xs k d h =
+    let e = take_more xs k d h in
+    let g = size_of-append (take k xs) (get_or xs k d ∷ []) in
+    let f = size_of-cons (get_or xs k d) [] in
+    ap size_of e ∙ g ∙ (omega arith)
+
+-- one more slot in a sum
+pub size_step : (xs : List Slot) (k : ℕ) (d : Slot) (n r : ℕ) → k < length xs → n ≡ size_of (take k xs) → r ≡ slot_size (get_or xs k d) → n + r ≡ size_of (take (k + 1) xs)
+size_step xs k d n r h e f = let g = size_more xs k d h in omega arith
+
+pub size_fits : (xs : List Slot) (k : ℕ) (d : Slot) (n r : ℕ) → k < length xs → length xs ≤ 4 → n ≡ size_of (take k xs) → r ≡ slot_size (get_or xs k d) → Fits w64 (n + r)
+size_fits xs k d n r h l e f =
+    let g = size_step xs k d n r h e f in
+    let a = size_at_most (take (k + 1) xs) in
+    let b = length-take (k + 1) xs in
+    let h : n + r < 2 ^ 64 = omega arith in
+    search (rules, h)

@@ -1,0 +1,53 @@
+-- One sandbox after another.
+use Rattle.std.proofs.Common.{◌≡◌, ℕ, ◌+◌, ◌<◌, ◌≤◌, List, [], ◌∷◌, ◌++◌, length, take, get_or, refl, sym, ap, ◌∙◌, subst, arith, inl, inr, Some}
+use Rattle.std.specs.Prelude.{Result, Ok, Err}
+use Rattle.std.specs.List.{All, AllZip}
+use Rattle.std.proofs.lemmas.List.{take_more}
+use Rattle.std.proofs.lemmas.Option.{slice_get-get_or}
+use Rattle.std.proofs.lemmas.Slice.Zip.{AllZip-long}
+use Rattle.rv_text.specs.Source.{Sandbox, IsSource}
+use Rattle.sfi_rewrite.specs.declared.fault.RewriteFault.{RewriteFault}
+use Rattle.sfi_rewrite.specs.declared.fault.RewriteFault.TheVariants.{ReservedRegister, Ecall, TooLarge, Memory}
+use Rattle.sfi_rewrite.specs.Placement.{Placement}
+use Rattle.sfi_rewrite.specs.Placed.{IsPlacedPart, IsPlaced}
+use Rattle.sfi_rewrite.specs.Faults.{UnlessMemory, IsItemFault, IsSourceFault}
+use Rattle.sfi_rewrite.specs.Laws.{OneFault, NeverBoth}
+use Rattle.sfi_rewrite.specs.Rewriting.{IsRewritten, AreRewritten, AnswersFault}
+use Rattle.sfi_rewrite.proofs.OneFault.{each_faultless}
+use Rattle.sfi_rewrite.proofs.PlacedNames.{zip_push}
+
+faulty : (source : List Sandbox) (k n : ℕ) (s : Sandbox) (placed : List Placement) (f : RewriteFault)
+    → k < length source → s ≡ get_or source k s → AllZip IsRewritten (take k source) placed → n ≡ k → IsItemFault n s.items f → IsSourceFault source f
+faulty source k n s placed f h e z m is = record {
+  number = k;
+  sandbox = s;
+  at = slice_get-get_or source k s h ∙ ap Some (sym e);
+  before = each_faultless (take k source) placed z;
+  has = subst (λ (i : ℕ). IsItemFault i s.items f) m is;
+}
+
+pub source_fault : (source : List Sandbox) (k n : ℕ) (s : Sandbox) (placed : List Placement) (f : RewriteFault)
+    → k < length source → s ≡ get_or source k s → AllZip IsRewritten (take k source) placed → n ≡ k
+    → UnlessMemory (IsItemFault n s.items) f → UnlessMemory (IsSourceFault source) f
+source_fault source k n s placed (ReservedRegister line) h e z m is = faulty source k n s placed (ReservedRegister line) h e z m is
+source_fault source k n s placed (Ecall line) h e z m is = faulty source k n s placed (Ecall line) h e z m is
+source_fault source k n s placed (TooLarge sandbox) h e z m is = faulty source k n s placed (TooLarge sandbox) h e z m is
+source_fault source k n s placed Memory h e z m is = tt
+
+pub parts_push : (source : List Sandbox) (k : ℕ) (s : Sandbox) (placed now : List Placement) (p : Placement)
+    → k < length source → s ≡ get_or source k s → AllZip IsRewritten (take k source) placed → IsRewritten s p → now ≡ placed ++ p ∷ [] → AllZip IsRewritten (take (k + 1) source) now
+parts_push source k s placed now p h e z r w =
+    let more : take (k + 1) source ≡ take k source ++ s ∷ [] = take_more source k s h ∙ ap (λ v. take k source ++ v ∷ []) (sym e) in
+    rw (more, w) (zip_push IsRewritten (take k source) placed s p z r)
+
+pub is_placed : (source : List Sandbox) (placed : List Placement) → IsSource source → AllZip IsRewritten source placed → All IsPlacedPart placed → IsPlaced placed
+is_placed source placed s z a =
+    let l = AllZip-long IsRewritten source placed z in
+    let one = s.at_least_one in
+    record { at_least_one = omega arith; each = a }
+
+pub fault_answered : OneFault → (source : List Sandbox) (f e : RewriteFault) → UnlessMemory (IsSourceFault source) e → IsSourceFault source f → AnswersFault f (Err e)
+fault_answered one source f (ReservedRegister line) h g = inl (ap Err (one source (ReservedRegister line) f h g))
+fault_answered one source f (Ecall line) h g = inl (ap Err (one source (Ecall line) f h g))
+fault_answered one source f (TooLarge sandbox) h g = inl (ap Err (one source (TooLarge sandbox) f h g))
+fault_answered one source f Memory h g = inr refl

@@ -1,0 +1,8 @@
+use Rattle.std.proofs.Common.{sym, subst}
+use Rattle.sfi_rewrite.specs.Expansion.{IsExpansionOf}
+use Rattle.sfi_rewrite.proofs.expansion.expand.Goals as goal
+
+pub returns-in-Plain : goal.returns-in-Plain
+returns-in-Plain c =
+    let item = c.args.item.now in
+    subst (λ b. IsExpansionOf item.line item.rvc b c.of_plain.result) (sym c.in-Plain.is) (c.of_plain.ensures item.line)

@@ -1,0 +1,47 @@
+use Rattle.std.proofs.Common.{refl}
+use Rattle.sfi_rewrite.proofs.OneByOne.{even_size, item_one, is_some, is_few, too_large, fits_bundle, fits_code, has_next}
+use Rattle.sfi_rewrite.proofs.laying.lay_item.Goals as goal
+
+pub nops_before-nops-requires-clause-even : goal.nops_before-nops-requires-clause-even
+nops_before-nops-requires-clause-even c = even_size c.end-end.result c.args.code.now c.end-end.ensures
+
+pub nops_before-nops-requires-clause-even_size : goal.nops_before-nops-requires-clause-even_size
+nops_before-nops-requires-clause-even_size c = even_size c.size_of-size.result c.slots-slots.result.now c.size_of-size.ensures
+
+pub nops_before-nops-requires-clause-some : goal.nops_before-nops-requires-clause-some
+nops_before-nops-requires-clause-some c =
+    is_some c.size_of-size.result c.slots-slots.result.now c.size_of-size.ensures
+    (item_one c.args.item.now c.expand-expansion.result c.slots-slots.result.now c.expand-expansion.ensures c.slots-slots.ensures.slots c.requires.permitted c.requires.body)
+
+pub nops_before-nops-requires-clause-few : goal.nops_before-nops-requires-clause-few
+nops_before-nops-requires-clause-few c =
+    is_few c.size_of-size.result c.slots-slots.result.now c.size_of-size.ensures
+    (item_one c.args.item.now c.expand-expansion.result c.slots-slots.result.now c.expand-expansion.ensures c.slots-slots.ensures.slots c.requires.permitted c.requires.body)
+
+pub returns-then-end-nops-ge-CODE_MOST-clause-refused : goal.returns-then-end-nops-ge-CODE_MOST-clause-refused
+returns-then-end-nops-ge-CODE_MOST-clause-refused c = (
+  c.requires.permitted,
+  too_large c.args.item.now c.args.code.now c.expand-expansion.result c.slots-slots.result.now c.is_call.result c.end-end.result c.size_of-size.result c.nops_before-nops.result
+      c.expand-expansion.ensures c.slots-slots.ensures.slots c.end-end.ensures c.is_call.ensures c.size_of-size.ensures c.nops_before-nops.ensures.gap c.if-end-nops-ge-CODE_MOST.true,
+  refl,
+)
+
+pub push-requires-clause-whole : goal.push-requires-clause-whole
+push-requires-clause-whole c =
+    (item_one c.args.item.now c.expand-expansion.result c.slots-slots.result.now c.expand-expansion.ensures c.slots-slots.ensures.slots c.requires.permitted c.requires.body).whole
+
+pub push-requires-clause-fits : goal.push-requires-clause-fits
+push-requires-clause-fits c =
+    fits_bundle c.args.code.now c.push_nops.new.self c.args.item.now.labelled c.is_call.result c.end-end.result c.size_of-size.result c.nops_before-nops.result
+    c.end-end.ensures c.nops_before-nops.ensures.gap c.in_ok-push_nops.ensures
+
+pub push-requires-clause-room : goal.push-requires-clause-room
+push-requires-clause-room c =
+    fits_code c.args.code.now c.push_nops.new.self c.args.item.now.labelled c.is_call.result c.end-end.result c.size_of-size.result c.nops_before-nops.result
+    c.end-end.ensures c.nops_before-nops.ensures.gap c.in_ok-push_nops.ensures c.if-end-nops-ge-CODE_MOST.false
+
+pub returns-clause-laid : goal.returns-clause-laid
+returns-clause-laid c =
+    has_next c.args.item.now c.args.code.now c.push_nops.new.self c.push.new.self c.expand-expansion.result c.slots-slots.result.now c.is_call.result c.end-end.result c.size_of-size.result c.nops_before-nops.result
+    c.expand-expansion.ensures c.slots-slots.ensures.slots c.end-end.ensures c.is_call.ensures c.size_of-size.ensures c.nops_before-nops.ensures.gap
+    c.in_ok-push_nops.ensures c.in_ok-push.ensures c.if-end-nops-ge-CODE_MOST.false

@@ -1,0 +1,11 @@
+use Rattle.std.proofs.Common.{◌≡◌, ℕ, ◌<◌, length, take, get_or}
+use Rattle.sfi_rewrite.specs.Places.{IsLabelAt}
+use Rattle.sfi_rewrite.specs.Faults.{AreFaultless}
+use Rattle.sfi_rewrite.proofs.laying.lay_items.Given as goal
+
+abbrev pub invariant-loop-item : goal.invariant-loop-item
+invariant-loop-item l = record {
+  faultless : AreFaultless (take l.item-index l.items) l.code;
+  count : length l.labels.items ≡ l.item-index;
+  labels : (k : ℕ) → k < l.item-index → IsLabelAt l.items k (get_or l.labels.items k 0);
+}

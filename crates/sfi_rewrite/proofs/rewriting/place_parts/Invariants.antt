@@ -1,0 +1,11 @@
+use Rattle.std.specs.List.{All, AllZip}
+use Rattle.std.proofs.Common.{take}
+use Rattle.sfi_rewrite.specs.Placed.{IsPlacedPart}
+use Rattle.sfi_rewrite.specs.Rewriting.{IsRewritten}
+use Rattle.sfi_rewrite.proofs.rewriting.place_parts.Given as goal
+
+abbrev pub invariant-loop-number : goal.invariant-loop-number
+invariant-loop-number l = record {
+  rewritten : AllZip IsRewritten (take l.number l.parts) l.placed.items;
+  right : All IsPlacedPart l.placed.items;
+}

@@ -1,0 +1,63 @@
+-- The expansion of an item of the source: what stands in its place, so that its accesses and jumps stay in the sandbox.
+-- x24 holds the code base, x25 the code size less 16, x26 the data base, x27 the data size less 1. (Wahbe and others,
+-- "Efficient Software-Based Fault Isolation", 1993: an `and` keeps an address's offset, an `or` sets the region's bits.)
+use Rattle.std.specs.Prelude.{◌≡◌, ◌≢◌, ◌⊎◌, ◌==◌, not, IsTrue, ℕ, ℤ, zero, pos, List, [], ◌∷◌, ◌++◌, Bool, true, false}
+use Rattle.rv_word.specs.declared.instr.RegOp.TheVariants.{And, Or}
+use Rattle.rv_word.specs.declared.instr.ImmOp.TheVariants.{Addi}
+use Rattle.rv_word.specs.declared.instr.Instr.{Instr}
+use Rattle.rv_word.specs.declared.instr.Instr.TheVariants.{Op, OpImm, Load, Store, Jal, Jalr}
+use Rattle.rv_comp.specs.Table.{allowed, expansion}
+use Rattle.rv_comp.specs.Halfwords.{IsFirst}
+use Rattle.rv_comp.specs.declared.form.Form16.{Form16}
+use Rattle.rv_text.specs.declared.item.Body.{Body}
+use Rattle.rv_text.specs.declared.item.Body.TheVariants.{Plain, To, High, Low}
+use Rattle.rv_text.specs.declared.item.Item.{Item}
+use Rattle.sfi_rewrite.specs.declared.slot.Slot.{Slot}
+use Rattle.sfi_rewrite.specs.declared.slot.Slot.TheVariants.{Wide, Short, Jump, Upper, Lower}
+
+-- `and x31, a, x27`, `or x31, x31, x26`: x31 becomes an address of the data region
+abbrev pub data_pair : ℕ → List Slot
+data_pair a = Wide (Op And 31 a 27) ∷ Wide (Op Or 31 31 26) ∷ []
+
+-- `and x31, a, x25`, `or x31, x31, x24`: x31 becomes a bundle start of the code region
+abbrev pub code_pair : ℕ → List Slot
+code_pair a = Wide (Op And 31 a 25) ∷ Wide (Op Or 31 31 24) ∷ []
+
+-- `jalr rd, 0(x31)`
+abbrev pub jump_to_x31 : ℕ → Slot
+jump_to_x31 rd = Wide (Jalr rd 31 (pos 0))
+
+-- `jalr rd, imm(a)`; an offset other than 0 is added before the pair
+abbrev pub jump_slots : ℕ → ℕ → ℤ → List Slot
+jump_slots rd a (pos zero) = code_pair a ++ jump_to_x31 rd ∷ []
+jump_slots rd a imm = Wide (OpImm Addi 31 a imm) ∷ (code_pair 31 ++ jump_to_x31 rd ∷ [])
+
+-- no 16-bit form expands to the instruction
+abbrev pub HasNoForm : Instr → Type 0
+HasNoForm i = (f : Form16) → IsTrue (allowed f) → expansion f ≢ i
+
+-- an instruction that stays as it is: as the first 16-bit form that expands to it, where these are asked for and there is one
+abbrev pub IsAlone : Bool → Instr → List Slot → Type 0
+IsAlone false i slots = slots ≡ Wide i ∷ []
+IsAlone true i slots =
+    ((f : Form16) × IsFirst i f × (slots ≡ Short f ∷ [])) ⊎ (HasNoForm i × (slots ≡ Wide i ∷ []))
+
+-- the expansion of the item on a line
+abbrev pub IsExpansionOf : ℕ → Bool → Body → List Slot → Type 0
+IsExpansionOf line rvc (Plain (Load kind rd a imm)) slots = slots ≡ data_pair a ++ Wide (Load kind rd 31 imm) ∷ []
+IsExpansionOf line rvc (Plain (Store width a rs2 imm)) slots = slots ≡ data_pair a ++ Wide (Store width 31 rs2 imm) ∷ []
+IsExpansionOf line rvc (Plain (Jalr rd a imm)) slots = slots ≡ jump_slots rd a imm
+IsExpansionOf line rvc (Plain i) slots = IsAlone rvc i slots
+IsExpansionOf line rvc (To i name) slots = slots ≡ Jump i name line ∷ []
+IsExpansionOf line rvc (High rd name) slots = slots ≡ Upper rd name line ∷ []
+IsExpansionOf line rvc (Low rd name) slots = slots ≡ Lower rd name line ∷ []
+
+-- the slots are the item's, in order
+abbrev pub IsExpansion : Item → List Slot → Type 0
+IsExpansion x slots = IsExpansionOf x.line x.rvc x.body slots
+
+-- the item is a call: a jal or jalr that writes a register other than x0
+abbrev pub is_call : Body → Bool
+is_call (Plain (Jalr rd a imm)) = not (rd == 0)
+is_call (To (Jal rd offset) name) = not (rd == 0)
+is_call _ = false

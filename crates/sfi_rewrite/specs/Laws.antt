@@ -1,0 +1,33 @@
+-- What holds of every source.
+use Rattle.std.specs.Prelude.{◌≡◌, ℕ, List}
+use Rattle.rv_text.specs.declared.item.Item.{Item}
+use Rattle.rv_text.specs.Source.{Sandbox}
+use Rattle.sfi_rewrite.specs.declared.slot.Slot.{Slot}
+use Rattle.sfi_rewrite.specs.declared.fault.RewriteFault.{RewriteFault}
+use Rattle.sfi_rewrite.specs.Expansion.{IsExpansion}
+use Rattle.sfi_rewrite.specs.Places.{AreLaid}
+use Rattle.sfi_rewrite.specs.Placement.{Placement, IsPlacement}
+use Rattle.sfi_rewrite.specs.Faults.{IsSourceFault}
+use Rattle.sfi_rewrite.specs.Rewriting.{AreRewritten}
+
+-- an item has one expansion
+abbrev pub OneExpansion : Type 0
+OneExpansion = (x : Item) (slots others : List Slot) → IsExpansion x slots → IsExpansion x others → slots ≡ others
+
+-- a sandbox has one placement
+abbrev pub OnePlacement : Type 0
+OnePlacement = (s : Sandbox) (p q : Placement) → IsPlacement s p → IsPlacement s q → p ≡ q
+
+-- a source is rewritten in one way
+abbrev pub OneRewriting : Type 0
+OneRewriting =
+    (source : List Sandbox) (placed others : List Placement)
+    → AreRewritten source placed → AreRewritten source others → placed ≡ others
+
+-- a source has one fault
+abbrev pub OneFault : Type 0
+OneFault = (source : List Sandbox) (f g : RewriteFault) → IsSourceFault source f → IsSourceFault source g → f ≡ g
+
+-- a source with a fault isn't rewritten
+abbrev pub NeverBoth : Type 0
+NeverBoth = (source : List Sandbox) (placed : List Placement) (f : RewriteFault) → AreRewritten source placed → IsSourceFault source f → ⊥

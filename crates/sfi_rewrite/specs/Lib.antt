@@ -1,0 +1,10 @@
+pub mod Slots
+pub mod Registers
+pub mod Expansion
+pub mod Places
+pub mod Placement
+pub mod Placed
+pub mod Filling
+pub mod Faults
+pub mod Rewriting
+pub mod Laws

@@ -1,0 +1,43 @@
+-- Where each expansion stands. A place is a number of bytes from the end of the gates' stubs.
+use Rattle.std.specs.Prelude.{◌≡◌, ◌+◌, ◌*◌, ◌/◌, ◌%◌, ◌≤◌, ◌++◌, IsTrue, ℕ, List, [], ◌∷◌, Bool, replicate, take}
+use Rattle.rv_text.specs.declared.item.Item.{Item}
+use Rattle.sfi_rewrite.specs.declared.slot.Slot.{Slot}
+use Rattle.sfi_rewrite.specs.Slots.{size_of, bundle_size, c_nop}
+use Rattle.sfi_rewrite.specs.Expansion.{IsExpansion, is_call}
+
+-- the first bundle start not before n
+abbrev pub next_bundle : ℕ → ℕ
+next_bundle n = (n + 15) / 16 * 16
+
+-- An expansion of this size may stand here, where what stands before it ends at `end`: not before that end, nor before
+-- its label's bundle start; within one bundle; and a call up to its bundle's end, so that it returns to a bundle start.
+pub record MayStand (end : ℕ) (labelled call : Bool) (size here : ℕ) : Type 0 where
+  pub behind : end ≤ here
+  pub at_label : IsTrue labelled → next_bundle end ≤ here
+  pub in_bundle : here % bundle_size + size ≤ bundle_size
+  pub returns : IsTrue call → (here + size) % bundle_size ≡ 0
+
+-- so many c.nops, of 2 bytes each, fill the gap up to the first place where it may stand
+pub record FillsGap (end : ℕ) (labelled call : Bool) (size nops : ℕ) : Type 0 where
+  pub stands : MayStand end labelled call size (end + 2 * nops)
+  pub first : (here : ℕ) → MayStand end labelled call size here → end + 2 * nops ≤ here
+
+-- behind that end the item's expansion stands next, behind so many c.nops
+pub record IsNext (end : ℕ) (x : Item) (nops : ℕ) (expanded : List Slot) : Type 0 where
+  pub expansion : IsExpansion x expanded
+  pub gap : FillsGap end x.labelled (is_call x.body) (size_of expanded) nops
+
+-- from that end on, the expansions of the items stand one after another, each at its first place
+abbrev pub AreLaidFrom : ℕ → List Item → List Slot → Type 0
+AreLaidFrom end [] slots = slots ≡ []
+AreLaidFrom end (x ∷ items) slots =
+    (nops : ℕ) × (expanded : List Slot) × (rest : List Slot) × IsNext end x nops expanded
+    × (slots ≡ replicate nops c_nop ++ (expanded ++ rest)) × AreLaidFrom (end + 2 * nops + size_of expanded) items rest
+
+-- the slots of the items
+abbrev pub AreLaid : List Item → List Slot → Type 0
+AreLaid items slots = AreLaidFrom 0 items slots
+
+-- what a label before item k names: the first bundle start not before the end of what stands before the item
+abbrev pub IsLabelAt : List Item → ℕ → ℕ → Type 0
+IsLabelAt items k place = (before : List Slot) × AreLaid (take k items) before × (place ≡ next_bundle (size_of before))

@@ -1,0 +1,192 @@
+//! What an item of the source becomes.
+ghost use Rattle.std.specs.Prelude.{◌≡◌, ◌<◌, ℕ, ◌++◌, ◌∷◌, ◌≤◌, [], length};
+ghost use Rattle.sfi_rewrite.specs.Expansion.{data_pair, code_pair, jump_slots, IsAlone, IsExpansionOf, IsExpansion};
+ghost use Rattle.sfi_rewrite.specs.declared.slot.Slot.TheVariants.{Wide};
+ghost use Rattle.rv_word.specs.declared.instr.Instr.TheVariants.{Op};
+ghost use Rattle.rv_text.specs.declared.item.Body.TheVariants.{Plain};
+
+use crate::register::register;
+use crate::slot::Slot;
+use rv_comp::form_of;
+use rv_text::{Body, Item};
+use rv_word::{ImmOp, Instr, Reg, RegOp};
+use std::marker::Model;
+
+/// An expansion: at most four slots, in an array. Contracts see the list of them.
+#[derive(Drop)]
+pub(crate) struct Expansion {
+    slots: [Slot; 4],
+    count: usize,
+}
+
+impl Model for Expansion {
+    ghost use Rattle.std.specs.Prelude.{List, length, take, ◌≤◌, ◌≡◌};
+    ghost use Rattle.sfi_rewrite.specs.declared.slot.Slot.{Slot};
+
+    ghost Value = { List Slot };
+
+    ghost view = { λ e. take e.count e.slots };
+
+    ghost invariant = { λ e. (e.count ≤ 4) × (length e.slots ≡ 4) };
+}
+
+impl Expansion {
+    fn of_one(slot: Slot) -> Expansion
+        ensures { result ≡ slot ∷ [] }
+    {
+        Expansion {
+            slots: [slot; 4],
+            count: 1,
+        }
+    }
+
+    /// A pair, and what stands behind it.
+    fn of_three(pair: [Slot; 2], last: Slot) -> Expansion
+        ensures { result ≡ pair ++ last ∷ [] }
+    {
+        Expansion {
+            slots: [pair[0], pair[1], last, Slot::Wide(Instr::Ebreak)],
+            count: 3,
+        }
+    }
+
+    /// A sum, a pair, and what stands behind it.
+    fn of_four(sum: Slot, pair: [Slot; 2], last: Slot) -> Expansion
+        ensures { result ≡ sum ∷ (pair ++ last ∷ []) }
+    {
+        Expansion {
+            slots: [sum, pair[0], pair[1], last],
+            count: 4,
+        }
+    }
+
+    /// In order.
+    pub(crate) fn slots(&self) -> &[Slot]
+        ensures slots { result.now ≡ self.now }
+        ensures few { length self.now ≤ 4 }
+    {
+        &self.slots[..self.count]
+    }
+}
+
+/// `op x31, a, b`.
+fn into_x31(op: RegOp, a: Reg, b: u8) -> Slot
+    requires { b < 32 }
+    ensures { result ≡ Wide (Op op 31 a b) }
+{
+    Slot::Wide(Instr::Op {
+        op,
+        rd: register(31),
+        rs1: a,
+        rs2: register(b),
+    })
+}
+
+/// The masked pair that makes an address of the data region of a register.
+fn data_pair(a: Reg) -> [Slot; 2]
+    ensures { result ≡ data_pair a }
+{
+    [
+        into_x31(RegOp::And, a, 27),
+        into_x31(RegOp::Or, register(31), 26),
+    ]
+}
+
+/// The masked pair that makes a bundle start of the code region of a register.
+fn code_pair(a: Reg) -> [Slot; 2]
+    ensures { result ≡ code_pair a }
+{
+    [
+        into_x31(RegOp::And, a, 25),
+        into_x31(RegOp::Or, register(31), 24),
+    ]
+}
+
+/// The expansion of `jalr rd, imm(a)`.
+fn of_jump(rd: Reg, a: Reg, imm: i32) -> Expansion
+    ensures { result ≡ jump_slots rd a imm }
+{
+    let scratch = register(31);
+    let last = Slot::Wide(Instr::Jalr {
+        rd,
+        rs1: scratch,
+        imm: 0,
+    });
+    if imm == 0 {
+        return Expansion::of_three(code_pair(a), last);
+    }
+    let sum = Slot::Wide(Instr::OpImm {
+        op: ImmOp::Addi,
+        rd: scratch,
+        rs1: a,
+        imm,
+    });
+    Expansion::of_four(sum, code_pair(scratch), last)
+}
+
+/// The expansion of an instruction that stays as it is, in a 16-bit form where these are asked for and there is one.
+fn alone(rvc: bool, instr: &Instr) -> Expansion
+    ensures { IsAlone rvc instr.now result }
+{
+    if rvc {
+        if let Some(form) = form_of(*instr) {
+            return Expansion::of_one(Slot::Short(form));
+        }
+    }
+    Expansion::of_one(Slot::Wide(*instr))
+}
+
+/// The expansion of an instruction that names no label.
+fn of_plain(rvc: bool, instr: &Instr) -> Expansion
+    ensures { (line : ℕ) → IsExpansionOf line rvc (Plain instr.now) result }
+{
+    let scratch = register(31);
+    match *instr {
+        Instr::Load { kind, rd, rs1, imm } => {
+            let access = Instr::Load {
+                kind,
+                rd,
+                rs1: scratch,
+                imm,
+            };
+            Expansion::of_three(data_pair(rs1), Slot::Wide(access))
+        }
+        Instr::Store {
+            width,
+            rs1,
+            rs2,
+            imm,
+        } => {
+            let access = Instr::Store {
+                width,
+                rs1: scratch,
+                rs2,
+                imm,
+            };
+            Expansion::of_three(data_pair(rs1), Slot::Wide(access))
+        }
+        Instr::Jalr { rd, rs1, imm } => of_jump(rd, rs1, imm),
+        Instr::Op { .. }
+        | Instr::OpImm { .. }
+        | Instr::Branch { .. }
+        | Instr::Jal { .. }
+        | Instr::Lui { .. }
+        | Instr::Auipc { .. }
+        | Instr::Fence { .. }
+        | Instr::Ecall
+        | Instr::Ebreak => alone(rvc, instr),
+    }
+}
+
+/// The expansion of an item.
+pub(crate) fn expand(item: &Item) -> Expansion
+    ensures { IsExpansion item.now result }
+{
+    let line = item.line;
+    match item.body {
+        Body::Plain(ref instr) => of_plain(item.rvc, instr),
+        Body::To(instr, name) => Expansion::of_one(Slot::Jump { instr, name, line }),
+        Body::High(rd, name) => Expansion::of_one(Slot::Upper { rd, name, line }),
+        Body::Low(rd, name) => Expansion::of_one(Slot::Lower { rd, name, line }),
+    }
+}

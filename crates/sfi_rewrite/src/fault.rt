@@ -1,0 +1,55 @@
+//! Why a source isn't rewritten.
+ghost use Rattle.std.specs.Prelude.{◌≡◌};
+ghost use Rattle.sfi_rewrite.specs.declared.fault.RewriteFault.TheVariants.{Memory};
+ghost use Rattle.sfi_rewrite.specs.Faults.{number_of};
+
+use std::alloc::{AllocError, AllocFailed};
+use thiserror::Error;
+
+/// Why a source isn't rewritten: the first instruction in the order of the text that has a fault, with the lowest of its
+/// faults.
+#[derive(Clone, Copy, Debug, PartialEq, Eq, Error)]
+pub enum RewriteFault {
+    /// An operand of the instruction on the line, counted from 1, is x24, x25, x26, x27 or x31.
+    #[error("ReservedRegister line {line}")]
+    ReservedRegister { line: u32 },
+    /// The instruction on the line, counted from 1, is an ecall: only a gate's stub has one.
+    #[error("Ecall line {line}")]
+    Ecall { line: u32 },
+    /// The code of the sandbox, counted from 0, takes more than 4096 bundles, its gates' stubs not counted.
+    #[error("TooLarge sandbox {sandbox}")]
+    TooLarge { sandbox: u32 },
+    /// Memory ran out; nothing is known of the source.
+    #[error("Memory")]
+    Memory,
+}
+
+impl RewriteFault {
+    /// The number by which a refusal is known, from 1 to 4.
+    pub fn number(self) -> u32
+        ensures { result ≡ number_of self }
+    {
+        match self {
+            RewriteFault::ReservedRegister { .. } => 1,
+            RewriteFault::Ecall { .. } => 2,
+            RewriteFault::TooLarge { .. } => 3,
+            RewriteFault::Memory => 4,
+        }
+    }
+}
+
+impl From<AllocError> for RewriteFault {
+    ghost from_gives = { λ _ e. e ≡ Memory };
+
+    fn from(_e: AllocError) -> RewriteFault {
+        RewriteFault::Memory
+    }
+}
+
+impl<T: Drop> From<AllocFailed<T>> for RewriteFault {
+    ghost from_gives = { λ _ e. e ≡ Memory };
+
+    fn from(_e: AllocFailed<T>) -> RewriteFault {
+        RewriteFault::Memory
+    }
+}

@@ -1,0 +1,39 @@
+//! What holds of every source. A call costs nothing: it has the statement at hand.
+ghost use Rattle.sfi_rewrite.specs.Laws.{OneExpansion, OnePlacement, OneRewriting, OneFault, NeverBoth};
+
+use rv_comp::laws::one_first_form;
+
+/// An item has one expansion.
+pub fn one_expansion()
+    ensures { OneExpansion }
+{
+    one_first_form();
+}
+
+/// A sandbox has one placement.
+pub fn one_placement()
+    ensures { OnePlacement }
+{
+    one_first_form();
+}
+
+/// A source is rewritten in one way.
+pub fn one_rewriting()
+    ensures { OneRewriting }
+{
+    one_first_form();
+}
+
+/// A source has one fault.
+pub fn one_fault()
+    ensures { OneFault }
+{
+    one_first_form();
+}
+
+/// A source with a fault isn't rewritten.
+pub fn never_both()
+    ensures { NeverBoth }
+{
+    one_first_form();
+}

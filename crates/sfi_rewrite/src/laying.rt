@@ -1,0 +1,69 @@
+//! The items of a sandbox, laid one after another.
+ghost use Rattle.std.specs.Prelude.{◌≡◌, ◌<◌, ◌≤◌, ◌+◌, ◌*◌, ℕ, IfOk, IfErr, length, slice_index};
+ghost use Rattle.rv_text.specs.Source.{IsBody};
+ghost use Rattle.sfi_rewrite.specs.Slots.{size_of, code_most};
+ghost use Rattle.sfi_rewrite.specs.Filling.{HasNext, HaveBodies, AreLabels};
+ghost use Rattle.sfi_rewrite.specs.Faults.{IsPermitted, AreFaultless, HasFault, UnlessMemory, IsItemFault};
+
+use crate::expansion::expand;
+use crate::fault::RewriteFault;
+use crate::filling::{Filling, size_of};
+use crate::item::{is_call, permit};
+use crate::place::{next_bundle, nops_before};
+use rv_text::Item;
+use std::alloc::Global;
+
+/// The most bytes that a sandbox's code may take, its gates' stubs not counted.
+const CODE_MOST: usize = 65536;
+
+/// A sandbox's items in their places.
+#[derive(Drop)]
+pub(crate) struct Laid {
+    pub(crate) code: Filling,
+    /// For each item, and last for the end of the code, the place that a label before it names.
+    pub(crate) labels: Vec<u32>,
+}
+
+/// Adds an item, behind its c.nops, to the code of the sandbox of that number.
+fn lay_item(
+    alloc: Global,
+    sandbox: u32,
+    item: &Item,
+    code: &mut Filling,
+) -> Result<(), RewriteFault>
+    requires permitted { IsPermitted item.now }
+    requires body { (count : ℕ) × IsBody count item.now.body }
+    requires room { size_of code.old ≤ code_most }
+    ensures laid { IfOk result (λ _. HasNext code.old item.now code.new) }
+    ensures refused { IfErr result (UnlessMemory (HasFault sandbox (size_of code.old) item.now)) }
+{
+    let expansion = expand(item);
+    let slots = expansion.slots();
+    let size = size_of(slots);
+    let end = code.end();
+    let nops = nops_before(end, item.labelled, is_call(&item.body), size);
+    if end + 2 * nops >= CODE_MOST {
+        return Err(RewriteFault::TooLarge { sandbox });
+    }
+    code.push_nops(alloc, nops)?;
+    code.push(alloc, slots, size)?;
+    Ok(())
+}
+
+/// Lays the items of the sandbox of that number.
+pub(crate) fn lay_items(alloc: Global, sandbox: u32, items: &[Item]) -> Result<Laid, RewriteFault>
+    requires { HaveBodies items.now }
+    ensures faultless { IfOk result (λ l. AreFaultless items.now l.code) }
+    ensures labels { IfOk result (λ l. AreLabels items.now l.labels.items) }
+    ensures refused { IfErr result (UnlessMemory (IsItemFault sandbox items.now)) }
+{
+    let mut code = Filling::new(alloc);
+    let mut labels = Vec::new(alloc);
+    for item in items {
+        labels.push(next_bundle(code.end()))?;
+        permit(item)?;
+        lay_item(alloc, sandbox, item, &mut code)?;
+    }
+    labels.push(next_bundle(code.end()))?;
+    Ok(Laid { code, labels })
+}

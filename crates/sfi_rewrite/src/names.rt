@@ -1,0 +1,58 @@
+//! What the names of a sandbox name, once its items are placed.
+ghost use Rattle.std.specs.Prelude.{◌≡◌, ◌<◌, ◌↔◌, IfOk, IsTrue, length};
+ghost use Rattle.std.specs.List.{AllZip};
+ghost use Rattle.rv_text.specs.Source.{named, IsSandbox};
+ghost use Rattle.sfi_rewrite.specs.Placement.{IsPlacedName, HasEndLabel};
+ghost use Rattle.sfi_rewrite.specs.Filling.{AreLabels, HasLabel, placed_of};
+
+use crate::placed::PlacedName;
+use rv_text::{Named, SourcePart};
+use std::alloc::{AllocError, Global};
+
+/// What the name names, by the places that labels name.
+fn placed_name(named: Named, labels: &[u32]) -> PlacedName
+    requires { HasLabel (length labels.now) named }
+    ensures { result ≡ placed_of labels.now named }
+{
+    match named {
+        Named::Gate(gate) => PlacedName::Gate(gate),
+        Named::Code(item) => PlacedName::Code(labels[item]),
+        Named::Data(offset) => PlacedName::Data(offset),
+        Named::Unknown => PlacedName::Unknown,
+    }
+}
+
+/// What the names of the sandbox name, by the places that labels name: one for each item, and last that of the end of the code.
+pub(crate) fn place_names(
+    alloc: Global,
+    part: &SourcePart,
+    labels: &[u32],
+) -> Result<Vec<PlacedName>, AllocError>
+    requires sandbox { IsSandbox part.now }
+    requires labels { AreLabels part.now.items labels.now }
+    ensures { IfOk result (λ v. AllZip (IsPlacedName part.now.items) (named part.now) v.items) }
+{
+    let mut names = Vec::new(alloc);
+    for place in 0..part.name_count() {
+        match part.named(place) {
+            Some(named) => names.push(placed_name(named, labels))?,
+            None => unreachable!(),
+        }
+    }
+    Ok(names)
+}
+
+/// Whether a label stands at the end of the code.
+pub(crate) fn has_end_label(part: &SourcePart) -> bool
+    ensures { IsTrue result ↔ HasEndLabel part.now }
+{
+    let end = part.items().len();
+    for place in 0..part.name_count() {
+        if let Some(Named::Code(item)) = part.named(place) {
+            if item == end {
+                return true;
+            }
+        }
+    }
+    false
+}

@@ -1,0 +1,48 @@
+//! Where an expansion stands.
+ghost use Rattle.std.specs.Prelude.{◌≡◌, ◌%◌, ◌+◌, ◌*◌, ◌<◌, ◌≤◌, IsTrue};
+ghost use Rattle.sfi_rewrite.specs.Slots.{code_most};
+ghost use Rattle.sfi_rewrite.specs.Places.{next_bundle, FillsGap};
+
+/// How many bytes a bundle has.
+const BUNDLE: usize = 16;
+
+/// The first bundle start not before a place of the code.
+pub(crate) fn next_bundle(end: usize) -> u32
+    requires { end ≤ code_most }
+    ensures { result ≡ next_bundle end }
+{
+    (end.div_ceil(BUNDLE) * BUNDLE) as u32
+}
+
+/// How many c.nops stand between the end of what stands before an expansion of so many bytes and its place, which is the first
+/// that lies in one bundle, is not before the bundle start of its labels, and for a call ends its bundle.
+pub(crate) fn nops_before(end: usize, labelled: bool, call: bool, size: usize) -> usize
+    requires end { end ≤ code_most }
+    requires even { end % 2 ≡ 0 }
+    requires even_size { size % 2 ≡ 0 }
+    requires some { 0 < size }
+    requires few { size ≤ 16 }
+    ensures gap { FillsGap end labelled call size result }
+    ensures few { result < 16 }
+{
+    let used = end % BUNDLE;
+    let first = if labelled && used > 0 { BUNDLE } else { used };
+    let last = BUNDLE - size;
+    let at = if call {
+        if first <= last { last } else { last + BUNDLE }
+    } else if first <= last {
+        first
+    } else {
+        BUNDLE
+    };
+    (at - used) / 2
+}
+
+/// How many c.nops stand between the end of the last expansion and the bundle start behind it.
+pub(crate) fn nops_at_end(end: usize) -> usize
+    requires end { end ≤ code_most }
+    requires even { end % 2 ≡ 0 }
+    ensures { end + 2 * result ≡ next_bundle end }
+{
+    (next_bundle(end) as usize - end) / 2
+}

@@ -1,0 +1,132 @@
+//! What is placed: the sandboxes of a source, with their code in bundles and names for addresses.
+ghost use Rattle.std.specs.Prelude.{◌≡◌};
+ghost use Rattle.sfi_rewrite.specs.Placed.{IsPlaced};
+
+use crate::bundle::Bundle;
+use rv_text::SourceGate;
+use std::marker::Model;
+
+/// What a name of a sandbox names, once its code is placed.
+#[derive(Clone, Copy, Debug, PartialEq, Eq)]
+pub enum PlacedName {
+    /// The gate of that number, counted from 0.
+    Gate(usize),
+    /// A place in the code: so many bytes behind the gates' stubs.
+    Code(u32),
+    /// A place in the data: so many bytes behind the data base.
+    Data(u32),
+    /// Nothing: the text never says what it names.
+    Unknown,
+}
+
+/// A sandbox whose code is placed.
+#[derive(Debug, Drop)]
+pub struct PlacedPart {
+    data_size: u32,
+    gates: Vec<SourceGate>,
+    names: Vec<PlacedName>,
+    bytes: Vec<u8>,
+    bundles: Vec<Bundle>,
+}
+
+impl Model for PlacedPart {
+    ghost use Rattle.sfi_rewrite.specs.Placement.{Placement};
+
+    ghost Value = { Placement };
+
+    ghost view = { λ p. record { data_size = p.data_size; gates = p.gates.items; names = p.names.items; bytes = p.bytes.items; bundles = p.bundles.items } };
+}
+
+impl PlacedPart {
+    pub(crate) fn new(
+        data_size: u32,
+        gates: Vec<SourceGate>,
+        names: Vec<PlacedName>,
+        bytes: Vec<u8>,
+        bundles: Vec<Bundle>,
+    ) -> PlacedPart
+        ensures data_size { result.data_size ≡ data_size }
+        ensures gates { result.gates ≡ gates.items }
+        ensures names { result.names ≡ names.items }
+        ensures bytes { result.bytes ≡ bytes.items }
+        ensures bundles { result.bundles ≡ bundles.items }
+    {
+        PlacedPart {
+            data_size,
+            gates,
+            names,
+            bytes,
+            bundles,
+        }
+    }
+
+    /// How many bytes the data region has, a power of two from 256 to 1048576.
+    pub fn data_size(&self) -> u32
+        ensures { result ≡ self.now.data_size }
+    {
+        self.data_size
+    }
+
+    /// The gates, at most 64, in the order of their stubs.
+    pub fn gates(&self) -> &[SourceGate]
+        ensures { result.now ≡ self.now.gates }
+    {
+        &self.gates
+    }
+
+    /// What the names name, in the order of their places in the source.
+    pub fn names(&self) -> &[PlacedName]
+        ensures { result.now ≡ self.now.names }
+    {
+        &self.names
+    }
+
+    /// The first bytes of the data region, at most `data_size`.
+    pub fn bytes(&self) -> &[u8]
+        ensures { result.now ≡ self.now.bytes }
+    {
+        &self.bytes
+    }
+
+    /// The bundles that stand behind the gates' stubs, at most 4096. Each has 16 bytes, but for the last, which may have fewer.
+    pub fn bundles(&self) -> &[Bundle]
+        ensures { result.now ≡ self.now.bundles }
+    {
+        &self.bundles
+    }
+}
+
+/// A source whose code is placed: one sandbox at least. Contracts see the list of their placements.
+#[derive(Debug, Drop)]
+pub struct Placed {
+    parts: Vec<PlacedPart>,
+}
+
+impl Model for Placed {
+    ghost use Rattle.std.specs.Prelude.{List};
+    ghost use Rattle.sfi_rewrite.specs.Placement.{Placement};
+    ghost use Rattle.sfi_rewrite.specs.Placed.{IsPlaced};
+
+    ghost Value = { List Placement };
+
+    ghost view = { λ p. p.parts.items };
+
+    ghost invariant = { λ p. IsPlaced p.parts.items };
+}
+
+impl Placed {
+    pub(crate) fn new(parts: Vec<PlacedPart>) -> Placed
+        requires { IsPlaced parts.items }
+        ensures { result ≡ parts.items }
+    {
+        Placed { parts }
+    }
+
+    /// The sandboxes, in the order of the text.
+    pub fn parts(&self) -> &[PlacedPart]
+        ensures parts { result.now ≡ self.now }
+        ensures right { IsPlaced self.now }
+    {
+        &self.parts
+    }
+}

@@ -1,0 +1,91 @@
+//! From a source to what is placed.
+ghost use Rattle.std.specs.Prelude.{◌≡◌, ◌<◌, ◌≤◌, ◌^◌, ℕ, List, IfOk, IfErr, IsTrue, Ok, Err};
+ghost use Rattle.std.specs.List.{All};
+ghost use Rattle.rv_text.specs.Source.{IsSandbox, IsSource};
+ghost use Rattle.sfi_rewrite.specs.Slots.{size_of, code_most};
+ghost use Rattle.sfi_rewrite.specs.Placement.{Placement};
+ghost use Rattle.sfi_rewrite.specs.Placed.{IsPlacedPart};
+ghost use Rattle.sfi_rewrite.specs.Filling.{HasEnd};
+ghost use Rattle.sfi_rewrite.specs.declared.fault.RewriteFault.{RewriteFault};
+ghost use Rattle.sfi_rewrite.specs.Faults.{UnlessMemory, IsItemFault, IsSourceFault};
+ghost use Rattle.sfi_rewrite.specs.Rewriting.{IsRewritten, AreRewritten, AnswersPlaced, AnswersFault};
+
+use crate::fault::RewriteFault;
+use crate::filling::Filling;
+use crate::laws::{never_both, one_fault, one_rewriting};
+use crate::laying::lay_items;
+use crate::names::{has_end_label, place_names};
+use crate::place::nops_at_end;
+use crate::placed::{Placed, PlacedPart};
+use rv_comp::laws::one_first_form;
+use rv_text::{Source, SourcePart};
+use std::alloc::{AllocError, Global};
+
+/// Fills the code up to the bundle start of a label at its end.
+fn fill_end(alloc: Global, labelled: bool, code: &mut Filling) -> Result<(), AllocError>
+    requires { size_of code.old ≤ code_most }
+    ensures { IfOk result (λ _. HasEnd code.old (IsTrue labelled) code.new) }
+{
+    if !labelled {
+        return Ok(());
+    }
+    let nops = nops_at_end(code.end());
+    code.push_nops(alloc, nops)?;
+    Ok(())
+}
+
+/// Places the sandbox of that number.
+fn place_part(alloc: Global, sandbox: u32, part: &SourcePart) -> Result<PlacedPart, RewriteFault>
+    requires { IsSandbox part.now }
+    ensures rewritten { IfOk result (IsRewritten part.now) }
+    ensures right { IfOk result IsPlacedPart }
+    ensures refused { IfErr result (UnlessMemory (IsItemFault sandbox part.now.items)) }
+{
+    // The law that one placement rests on: this call does nothing.
+    one_first_form();
+
+    let laid = lay_items(alloc, sandbox, part.items())?;
+    let names = place_names(alloc, part, &laid.labels)?;
+    let mut code = laid.code;
+    fill_end(alloc, has_end_label(part), &mut code)?;
+    let mut gates = Vec::new(alloc);
+    gates.extend_from_slice(part.gates())?;
+    let mut bytes = Vec::new(alloc);
+    bytes.extend_from_slice(part.bytes())?;
+    let bundles = code.finish()?;
+    Ok(PlacedPart::new(part.data_size(), gates, names, bytes, bundles))
+}
+
+/// Places the sandboxes, in order.
+fn place_parts(alloc: Global, parts: &[SourcePart]) -> Result<Vec<PlacedPart>, RewriteFault>
+    requires { All IsSandbox parts.now }
+    ensures rewritten { IfOk result (λ v. AreRewritten parts.now v.items) }
+    ensures right { IfOk result (λ v. All IsPlacedPart v.items) }
+    ensures refused { IfErr result (UnlessMemory (IsSourceFault parts.now)) }
+{
+    let mut placed = Vec::new(alloc);
+    for (number, part) in parts.iter().enumerate() {
+        // No memory holds as many sandboxes as that.
+        let Ok(sandbox) = u32::try_from(number) else {
+            return Err(RewriteFault::Memory);
+        };
+        placed.push(place_part(alloc, sandbox, part)?)?;
+    }
+    Ok(placed)
+}
+
+/// Places a source: each sandbox's expansions, each at the first place in which it may stand; or the first fault in the order
+/// of the text, the lowest on one instruction.
+pub fn rewrite(alloc: Global, source: &Source) -> Result<Placed, RewriteFault>
+    ensures placed { IfOk result (AreRewritten source.now) }
+    ensures fault { IfErr result (UnlessMemory (IsSourceFault source.now)) }
+    ensures only_placed { (placed : List Placement) → AreRewritten source.now placed → AnswersPlaced placed result }
+    ensures only_fault { (fault : RewriteFault) → IsSourceFault source.now fault → AnswersFault fault result }
+{
+    // The laws that the last two clauses rest on: these calls do nothing.
+    one_rewriting();
+    one_fault();
+    never_both();
+
+    Ok(Placed::new(place_parts(alloc, source.parts())?))
+}

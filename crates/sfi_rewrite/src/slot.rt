@@ -1,0 +1,46 @@
+//! What stands in a bundle.
+ghost use Rattle.std.specs.Prelude.{◌≡◌};
+ghost use Rattle.sfi_rewrite.specs.Slots.{slot_size};
+
+use rv_comp::Form16;
+use rv_word::{Instr, Reg};
+
+/// What stands in a bundle: an instruction that is known whole, or one that waits for the address of a name. A name is given
+/// by its place among the names of its sandbox, and a line is that of the source, from 1.
+#[derive(Clone, Copy, Debug, PartialEq, Eq)]
+pub enum Slot {
+    /// A 32-bit instruction.
+    Wide(Instr),
+    /// A 16-bit form.
+    Short(Form16),
+    /// A jal or a branch to the name. Its offset is 0 until the name has an address.
+    Jump {
+        instr: Instr,
+        name: usize,
+        line: u32,
+    },
+    /// The lui of the name's address.
+    Upper {
+        rd: Reg,
+        name: usize,
+        line: u32,
+    },
+    /// The addi to `rd` of what the lui leaves of the name's address.
+    Lower {
+        rd: Reg,
+        name: usize,
+        line: u32,
+    },
+}
+
+impl Slot {
+    /// How many bytes it takes: 2 or 4.
+    pub fn size(&self) -> usize
+        ensures { result ≡ slot_size self.now }
+    {
+        match self {
+            Slot::Short(_) => 2,
+            Slot::Wide(_) | Slot::Jump { .. } | Slot::Upper { .. } | Slot::Lower { .. } => 4,
+        }
+    }
+}
