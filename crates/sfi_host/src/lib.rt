@@ -1,2 +1,35 @@
-//! The host: an accepted image is loaded, its sandboxes take turns, and their calls are answered at gates.
+//! Sandboxes of a checked image in one memory, and the host whose gates they call.
+//!
+//! A sandbox asks its host at a gate: for a service, with the numbers in a0 and a1. A host is a [`Gates`]. It sees of its
+//! caller what a [`Guest`] shows, and its meaning is a function from its state and what is asked to a reply
+//! (`specs/Hosts.antt`).
+//!
+//! A [`World`] runs the sandboxes of an accepted image in one memory, by turns. `specs/Joint.antt` says what they come to, each
+//! in a memory of its own; a law says that each comes to what it comes to alone with the replies that it got.
 #![tactic(auto)]
+
+mod asking;
+mod console;
+mod gates;
+mod guest;
+mod handing;
+pub mod laws;
+mod loading;
+mod plan;
+mod running;
+mod sandbox;
+mod services;
+mod session;
+mod status;
+mod turn;
+mod world;
+
+pub use console::Console;
+pub use gates::{GateAnswer, Gates};
+pub use guest::Guest;
+pub use status::Status;
+pub use turn::{RunAnswer, Turn};
+pub use world::World;
+
+#[cfg(test)]
+mod tests;

@@ -1,0 +1,61 @@
+-- What a world answers of a sandbox.
+use Rattle.std.proofs.Common.{◌≡◌, ℕ, zero, suc, ◌↔◌, List, [], ◌∷◌, Option, Some, None, IsSome, is_some, true, slice_get, refl, sym, ap, ◌∙◌, subst}
+use Rattle.std.specs.Option.{option_map}
+use Rattle.rv_mem.specs.Bytes.{Bytes, byte_at}
+use Rattle.sfi_image.specs.Spans.{Holds}
+use Rattle.sfi_host.specs.declared.sandbox.Sandbox.{Sandbox}
+use Rattle.sfi_host.specs.Regions.{bytes_in}
+use Rattle.sfi_host.specs.Slots.{Slot, own}
+use Rattle.sfi_host.specs.Sandboxes.{seat_of, world_of}
+use Rattle.sfi_host.specs.Worlds.{Seat, Sandboxes, slot_of, slots_of, status_at, steps_at, data_byte_of, IsSafeSeat, IsSafeWorld}
+use Rattle.sfi_host.proofs.Leaving.{data_of_own}
+
+-- the slot of a sandbox
+pub slot_at : (m : Bytes) (all : List Sandbox) (i : ℕ) (s : Sandbox) → slice_get all i ≡ Some s → slice_get (slots_of (world_of m all)) i ≡ Some (slot_of m (seat_of s))
+slot_at m [] i s e = absurd (cc)
+slot_at m (x ∷ all) zero s e = let same : x ≡ s = cc in ap (λ (y : Sandbox). Some (slot_of m (seat_of y))) same
+slot_at m (x ∷ all) (suc i) s e = slot_at m all i s e
+
+pub no_slot : (m : Bytes) (all : List Sandbox) (i : ℕ) → slice_get all i ≡ None → slice_get (slots_of (world_of m all)) i ≡ None
+no_slot m [] i e = refl
+no_slot m (x ∷ all) zero e = absurd (cc)
+no_slot m (x ∷ all) (suc i) e = no_slot m all i e
+
+pub seat_at : (all : List Sandbox) (i : ℕ) (s : Sandbox) → slice_get all i ≡ Some s → slice_get (Rattle.sfi_host.specs.Sandboxes.seats_of all) i ≡ Some (seat_of s)
+seat_at [] i s e = absurd (cc)
+seat_at (x ∷ all) zero s e = let same : x ≡ s = cc in ap (λ (y : Sandbox). Some (seat_of y)) same
+seat_at (x ∷ all) (suc i) s e = seat_at all i s e
+
+module _ (w : Sandboxes) (m : Bytes) (all : List Sandbox) (is : world_of m all ≡ w) (i : ℕ) where
+  pub status_is : (s : Sandbox) → slice_get all i ≡ Some s → Some s.status ≡ status_at (slots_of w) i
+  status_is s e =
+      sym (ap (λ (x : Sandboxes). status_at (slots_of x) i) (sym is) ∙ ap (λ (o : Option Slot). option_map (λ (y : Slot). y.status) o) (slot_at m all i s e))
+
+  pub steps_is : (s : Sandbox) → slice_get all i ≡ Some s → Some s.steps ≡ steps_at (slots_of w) i
+  steps_is s e =
+      sym (ap (λ (x : Sandboxes). steps_at (slots_of x) i) (sym is) ∙ ap (λ (o : Option Slot). option_map (λ (y : Slot). y.steps) o) (slot_at m all i s e))
+
+  pub slot_is : (s : Sandbox) → slice_get all i ≡ Some s → slice_get (slots_of w) i ≡ Some (slot_of m (seat_of s))
+  slot_is s e = ap (λ (x : Sandboxes). slice_get (slots_of x) i) (sym is) ∙ slot_at m all i s e
+
+  pub slot_none : slice_get all i ≡ None → slice_get (slots_of w) i ≡ None
+  slot_none e = ap (λ (x : Sandboxes). slice_get (slots_of x) i) (sym is) ∙ no_slot m all i e
+
+  pub data_is : (s : Sandbox) (at : ℕ) → slice_get all i ≡ Some s → byte_at (bytes_in (seat_of s).bounds.data m) at ≡ data_byte_of (slice_get (slots_of w) i) at
+  data_is s at e =
+      ap (λ (b : Bytes). byte_at b at) (sym (data_of_own (seat_of s).bounds m))
+      ∙ ap (λ (o : Option Slot). data_byte_of o at) (sym (slot_is s e))
+
+  pub data_none : (at : ℕ) → slice_get all i ≡ None → None ≡ data_byte_of (slice_get (slots_of w) i) at
+  data_none at e = ap (λ (o : Option Slot). data_byte_of o at) (sym (slot_none e))
+
+  -- its data are whole
+  pub there_is : IsSafeWorld (world_of m all) → (s : Sandbox) (at : ℕ) (o : Option ℕ) → slice_get all i ≡ Some s → (IsSome o ↔ Holds (seat_of s).bounds.data at)
+      → (IsSome o ↔ ((t : Slot) × (slice_get (slots_of w) i ≡ Some t) × Holds t.bounds.data at))
+  there_is safe s at o e both = (
+    λ h. (slot_of m (seat_of s), slot_is s e, both.0 h),
+    λ x. both.1 (subst (λ (t : Slot). Holds t.bounds.data at) (let f : Some (slot_of m (seat_of s)) ≡ Some x.0 = sym (slot_is s e) ∙ x.1 in let g : x.0 ≡ slot_of m (seat_of s) = cc in g) x.2),
+  )
+
+  pub there_none : (at : ℕ) → slice_get all i ≡ None → (is_some {T = ℕ} None ≡ true ↔ ((t : Slot) × (slice_get (slots_of w) i ≡ Some t) × Holds t.bounds.data at))
+  there_none at e = (λ h. absurd (cc), λ x. absurd (let f : None ≡ Some x.0 = sym (slot_none e) ∙ x.1 in cc))

@@ -1,0 +1,244 @@
+-- An image whose parts lie apart, in an empty memory: what is where.
+use Rattle.std.proofs.Common.{◌≡◌, ◌≢◌, ℕ, zero, suc, ◌+◌, ◌-◌, ◌%◌, ◌^◌, ◌<◌, ◌≤◌, ◌==◌, ◌⊎◌, inl, inr, ⊎_elim, Bool, true, false, List, [], ◌∷◌, ◌++◌, length, get_or, set, Option, Some, None, slice_get, refl, sym, ap, ◌∙◌, subst, arith, length-append}
+use Rattle.std.specs.Prelude.{slice_index, replicate, map}
+use Rattle.std.specs.List.{Contains, All, AllPairs, flat_map}
+use Rattle.std.specs.Ordering.{nat_cmp}
+use Rattle.std.specs.FinMap.{empty, get-empty}
+use Rattle.std.proofs.lemmas.Bool.{cases_lt}
+use Rattle.rv_mem.specs.Bytes.{Bytes, IsMemory, byte_at, address_after, addresses, with_bytes, added}
+use Rattle.rv_mem.specs.Laws.{AddressesAreThese, OthersStay, WrittenIsThere}
+use Rattle.sfi_image.specs.declared.span.Span.{Span}
+use Rattle.sfi_image.specs.Spelling.{Part}
+use Rattle.sfi_image.specs.Spans.{Holds, AreApart, code_region, guarded_region, spans}
+use Rattle.sfi_image.specs.Parts.{IsRightPart, IsRightLayout}
+use Rattle.sfi_image.specs.Laws.{CodeEnds}
+use Rattle.sfi_check.specs.Regions.{InCode, InData, InGuard}
+use Rattle.sfi_host.specs.Loading.{first_data, with_part, with_parts}
+
+-- ---- lists
+
+pub get_is : {A : Type 0} (xs : List A) (i : ℕ) (x d : A) → slice_get xs i ≡ Some x → get_or xs i d ≡ x
+get_is [] i x d e = absurd (cc)
+get_is (y ∷ xs) zero x d e = cc
+get_is (y ∷ xs) (suc i) x d e = get_is xs i x d e
+
+pub get_below : {A : Type 0} (xs : List A) (i : ℕ) (x : A) → slice_get xs i ≡ Some x → i < length xs
+get_below [] i x e = absurd (cc)
+get_below (y ∷ xs) zero x e = omega arith
+get_below (y ∷ xs) (suc i) x e = let h : i < length xs = get_below xs i x e in omega arith
+
+front_index : (xs ys : List ℕ) (k : ℕ) → k < length xs → slice_index (xs ++ ys) k ≡ slice_index xs k
+front_index [] ys k h = absurd (omega arith)
+front_index (x ∷ xs) ys zero h = refl
+front_index (x ∷ xs) ys (suc k) h = front_index xs ys k (omega arith)
+
+zeros : (n : ℕ) → length {A = ℕ} (replicate n 0) ≡ n
+zeros zero = refl
+zeros (suc n) = ap suc (zeros n)
+
+-- ---- the spans of an image
+
+span_count : (ps : List Part) → length (spans ps) ≡ length ps + length ps
+span_count [] = refl
+span_count (p ∷ ps) = let h : length (spans ps) ≡ length ps + length ps = span_count ps in omega arith
+
+code_at : (ps : List Part) (i : ℕ) (p : Part) (d : Span) → slice_get ps i ≡ Some p → get_or (spans ps) (i + i) d ≡ code_region p
+code_at [] i p d e = absurd (cc)
+code_at (q ∷ ps) zero p d e = let same : q ≡ p = cc in ap code_region same
+code_at (q ∷ ps) (suc i) p d e =
+    let z : suc i + suc i ≡ suc (suc (i + i)) = omega arith in
+    ap (λ (n : ℕ). get_or (spans (q ∷ ps)) n d) z ∙ code_at ps i p d e
+
+guarded_at : (ps : List Part) (i : ℕ) (p : Part) (d : Span) → slice_get ps i ≡ Some p → get_or (spans ps) (i + i + 1) d ≡ guarded_region p
+guarded_at [] i p d e = absurd (cc)
+guarded_at (q ∷ ps) zero p d e = let same : q ≡ p = cc in ap guarded_region same
+guarded_at (q ∷ ps) (suc i) p d e =
+    let z : suc i + suc i + 1 ≡ suc (suc (i + i + 1)) = omega arith in
+    ap (λ (n : ℕ). get_or (spans (q ∷ ps)) n d) z ∙ guarded_at ps i p d e
+
+-- two sandboxes of an image have no address in common
+pub record Apart (p q : Part) : Type 0 where
+  pub code_code : AreApart (code_region p) (code_region q)
+  pub code_guarded : AreApart (code_region p) (guarded_region q)
+  pub guarded_code : AreApart (guarded_region p) (code_region q)
+  pub guarded_guarded : AreApart (guarded_region p) (guarded_region q)
+
+-- sandboxes that are right and lie apart
+pub record LieApart (ps : List Part) : Type 0 where
+  pub each : (i : ℕ) (p : Part) → slice_get ps i ≡ Some p → IsRightPart p
+  pub own : (i : ℕ) (p : Part) → slice_get ps i ≡ Some p → AreApart (code_region p) (guarded_region p)
+  pub others : (i j : ℕ) (p q : Part) → i ≢ j → slice_get ps i ≡ Some p → slice_get ps j ≡ Some q → Apart p q
+
+two_spans : (all : List Span) (i j : ℕ) (s t d : Span) → AllPairs AreApart all → i < j → j < length all → get_or all i d ≡ s → get_or all j d ≡ t → AreApart s t
+two_spans all i j s t d apart less below e f =
+    subst (λ (x : Span). AreApart x t) e (subst (λ (x : Span). AreApart (get_or all i d) x) f (apart i j d less below))
+
+flip : (s t : Span) → AreApart s t → AreApart t s
+flip s t apart a h k = apart a k h
+
+in_order : (ps : List Part) (i j : ℕ) (p q : Part) → AllPairs AreApart (spans ps) → i < j → slice_get ps i ≡ Some p → slice_get ps j ≡ Some q → Apart p q
+in_order ps i j p q apart less e f =
+    let n = span_count ps in
+    let below : j < length ps = get_below ps j q f in
+    let d = code_region p in
+    record {
+      code_code = two_spans (spans ps) (i + i) (j + j) _ _ d apart (omega arith) (omega arith) (code_at ps i p d e) (code_at ps j q d f);
+      code_guarded = two_spans (spans ps) (i + i) (j + j + 1) _ _ d apart (omega arith) (omega arith) (code_at ps i p d e) (guarded_at ps j q d f);
+      guarded_code = two_spans (spans ps) (i + i + 1) (j + j) _ _ d apart (omega arith) (omega arith) (guarded_at ps i p d e) (code_at ps j q d f);
+      guarded_guarded = two_spans (spans ps) (i + i + 1) (j + j + 1) _ _ d apart (omega arith) (omega arith) (guarded_at ps i p d e) (guarded_at ps j q d f);
+    }
+
+flipped : (p q : Part) → Apart q p → Apart p q
+flipped p q a = record {
+  code_code = flip _ _ a.code_code;
+  code_guarded = flip _ _ a.guarded_code;
+  guarded_code = flip _ _ a.code_guarded;
+  guarded_guarded = flip _ _ a.guarded_guarded;
+}
+
+pub lie_apart : (ps : List Part) → IsRightLayout ps → LieApart ps
+lie_apart ps layout = record {
+  each = λ i p e. subst (λ (q : Part). IsRightPart q) (get_is ps i p p e) (layout.right.each i p (get_below ps i p e));
+  own = λ i p e.
+      let n = span_count ps in
+      let below : i < length ps = get_below ps i p e in
+      let d = code_region p in
+      two_spans (spans ps) (i + i) (i + i + 1) _ _ d layout.right.apart (omega arith) (omega arith) (code_at ps i p d e) (guarded_at ps i p d e);
+  others = λ i j p q ne e f.
+      ⊎_elim
+      (λ (less : i < j). in_order ps i j p q layout.right.apart less e f)
+      (λ (more : j ≤ i). flipped p q (in_order ps j i q p layout.right.apart (omega arith) f e))
+      (cases_lt i j);
+}
+
+next_of_suc : (i j : ℕ) → i ≢ j → suc i ≢ suc j
+next_of_suc i j ne e = ne (omega arith)
+
+tail : (p : Part) (ps : List Part) → LieApart (p ∷ ps) → LieApart ps
+tail p ps lie = record {
+  each = λ i q e. lie.each (suc i) q e;
+  own = λ i q e. lie.own (suc i) q e;
+  others = λ i j q r ne e f. lie.others (suc i) (suc j) q r (next_of_suc i j ne) e f;
+}
+
+-- ---- what is added
+
+pub record Laws : Type 0 where
+  pub these : AddressesAreThese
+  pub stay : OthersStay
+  pub written : WrittenIsThere
+  pub ends : CodeEnds
+
+abbrev region : ℕ → ℕ → Span
+region base size = record { base = base; size = size }
+
+guard_in : (p : Part) (a : ℕ) → IsRightPart p → InGuard p a → Holds (guarded_region p) a
+guard_in p a right (inl low) = let room : 4096 ≤ p.data_base = right.guard_room.below in (omega arith, omega arith)
+guard_in p a right (inr high) = let room : 4096 ≤ p.data_base = right.guard_room.below in (omega arith, omega arith)
+
+pub data_guarded : (p : Part) (a : ℕ) → IsRightPart p → InData p a → Holds (guarded_region p) a
+data_guarded p a right h = let room : 4096 ≤ p.data_base = right.guard_room.below in (omega arith, omega arith)
+
+guard_not_data : (p : Part) (a : ℕ) → IsRightPart p → InGuard p a → InData p a → ⊥
+guard_not_data p a right (inl low) h = let room : 4096 ≤ p.data_base = right.guard_room.below in omega arith
+guard_not_data p a right (inr high) h = omega arith
+
+eq_from_test : (a b : ℕ) → (a == b) ≡ true → a ≡ b
+eq_from_test a b t = grind arith
+
+not_same : (a b : ℕ) → (a == b) ≡ false → a ≢ b
+not_same a b t e = grind arith
+
+module _ (laws : Laws) where
+  at_region : (base size a : ℕ) → base + size ≤ 2 ^ 32 → Contains (addresses base size) a → Holds (region base size) a
+  at_region base size a fits c =
+      let x = (laws.these base size a).0 c in
+      let k = x.0 in
+      let below : k < size = x.1 in
+      let is : a ≡ (base + k) % 2 ^ 32 = x.2 in
+      (omega arith, omega arith)
+
+  added_outside : (m : Bytes) (base size : ℕ) (front : List ℕ) (a : ℕ) → base + size ≤ 2 ^ 32 → (Holds (region base size) a → ⊥) → byte_at (added m base size front) a ≡ byte_at m a
+  added_outside m base size front a fits out = laws.stay m (addresses base size) (front ++ replicate (size - length front) 0) a (λ c. out (at_region base size a fits c))
+
+  added_inside : (m : Bytes) (base size : ℕ) (front : List ℕ) (k : ℕ) → length front ≤ size → base + size ≤ 2 ^ 32 → k < size
+      → byte_at (added m base size front) (base + k) ≡ Some (slice_index (front ++ replicate (size - length front) 0) k)
+  added_inside m base size front k room fits below =
+      let bytes = front ++ replicate (size - length front) 0 in
+      let z : length {A = ℕ} (replicate (size - length front) 0) ≡ size - length front = zeros (size - length front) in
+      let e : length (front ++ replicate (size - length front) 0) ≡ size = omega (arith, length-append front (replicate (size - length front) 0)) in
+      subst (λ (n : ℕ). byte_at (with_bytes m (addresses base n) bytes) (base + k) ≡ Some (slice_index bytes k)) e (laws.written m base bytes k (omega arith) (omega arith))
+
+  -- ---- one sandbox
+
+  module _ (m : Bytes) (p : Part) (right : IsRightPart p) where
+    code_fits : p.code_base + length p.code ≤ 2 ^ 32
+    code_fits = laws.ends p right
+
+    data_fits : p.data_base + p.data_size ≤ 2 ^ 32
+    data_fits = let above : p.data_base + p.data_size + 4096 ≤ 2 ^ 32 = right.guard_room.above in omega arith
+
+    part_outside : (a : ℕ) → (InCode p a → ⊥) → (InData p a → ⊥) → byte_at (with_part m p) a ≡ byte_at m a
+    part_outside a no_code no_data =
+        added_outside (added m p.code_base (length p.code) p.code) p.data_base p.data_size p.init a data_fits no_data
+        ∙ added_outside m p.code_base (length p.code) p.code a code_fits no_code
+
+    part_code : AreApart (code_region p) (guarded_region p) → (k : ℕ) → k < length p.code → byte_at (with_part m p) (p.code_base + k) ≡ Some (slice_index p.code k)
+    part_code apart k below =
+        added_outside (added m p.code_base (length p.code) p.code) p.data_base p.data_size p.init (p.code_base + k) data_fits
+        (λ h. apart (p.code_base + k) (omega arith, omega (arith, below)) (data_guarded p (p.code_base + k) right h))
+        ∙ added_inside m p.code_base (length p.code) p.code k (omega arith) code_fits below
+        ∙ ap Some (front_index p.code (replicate (length p.code - length p.code) 0) k below)
+
+    part_data : (k : ℕ) → k < p.data_size → byte_at (with_part m p) (p.data_base + k) ≡ Some (slice_index (first_data p) k)
+    part_data k below = added_inside (added m p.code_base (length p.code) p.code) p.data_base p.data_size p.init k right.init_len data_fits below
+
+  -- ---- all of them
+
+  all_outside : (ps : List Part) (m : Bytes) (a : ℕ) → LieApart ps → ((i : ℕ) (q : Part) → slice_get ps i ≡ Some q → (InCode q a → ⊥) × (InData q a → ⊥)) → byte_at (with_parts m ps) a ≡ byte_at m a
+  all_outside [] m a lie out = refl
+  all_outside (p ∷ ps) m a lie out =
+      all_outside ps (with_part m p) a (tail p ps lie) (λ i q e. out (suc i) q e)
+      ∙ part_outside m p (lie.each 0 p refl) a (out 0 p refl).0 (out 0 p refl).1
+
+  -- what one sandbox has at an address, those behind it leave
+  left : (p : Part) (ps : List Part) (m : Bytes) (a : ℕ) → LieApart (p ∷ ps) → (InCode p a ⊎ InData p a) → byte_at (with_parts (with_part m p) ps) a ≡ byte_at (with_part m p) a
+  left p ps m a lie h = all_outside ps (with_part m p) a (tail p ps lie) (λ i q e.
+      let apart : Apart p q = lie.others 0 (suc i) p q (λ z. omega arith) refl e in
+      let mine = lie.each 0 p refl in
+      let its = lie.each (suc i) q e in
+      ⊎_elim
+      (λ (c : InCode p a). (λ k. apart.code_code a c k, λ k. apart.code_guarded a c (data_guarded q a its k)))
+      (λ (d : InData p a). (λ k. apart.guarded_code a (data_guarded p a mine d) k, λ k. apart.guarded_guarded a (data_guarded p a mine d) (data_guarded q a its k)))
+      h)
+
+  pub has_code : (ps : List Part) (m : Bytes) (i : ℕ) (p : Part) → LieApart ps → slice_get ps i ≡ Some p → (k : ℕ) → k < length p.code → byte_at (with_parts m ps) (p.code_base + k) ≡ Some (slice_index p.code k)
+  has_code [] m i p lie e k below = absurd (cc)
+  has_code (q ∷ ps) m zero p lie e k below =
+      let same : q ≡ p = cc in
+      let at : (j : ℕ) → j < length q.code → byte_at (with_parts m (q ∷ ps)) (q.code_base + j) ≡ Some (slice_index q.code j) =
+      λ j less. left q ps m (q.code_base + j) lie (inl (omega arith, omega (arith, less))) ∙ part_code m q (lie.each 0 q refl) (lie.own 0 q refl) j less in
+      (subst (λ (x : Part). (j : ℕ) → j < length x.code → byte_at (with_parts m (q ∷ ps)) (x.code_base + j) ≡ Some (slice_index x.code j)) same at) k below
+  has_code (q ∷ ps) m (suc i) p lie e k below = has_code ps (with_part m q) i p (tail q ps lie) e k below
+
+  pub has_data : (ps : List Part) (m : Bytes) (i : ℕ) (p : Part) → LieApart ps → slice_get ps i ≡ Some p → (k : ℕ) → k < p.data_size → byte_at (with_parts m ps) (p.data_base + k) ≡ Some (slice_index (first_data p) k)
+  has_data [] m i p lie e k below = absurd (cc)
+  has_data (q ∷ ps) m zero p lie e k below =
+      let same : q ≡ p = cc in
+      let at : (j : ℕ) → j < q.data_size → byte_at (with_parts m (q ∷ ps)) (q.data_base + j) ≡ Some (slice_index (first_data q) j) =
+      λ j less. left q ps m (q.data_base + j) lie (inr (omega arith, omega (arith, less))) ∙ part_data m q (lie.each 0 q refl) j less in
+      (subst (λ (x : Part). (j : ℕ) → j < x.data_size → byte_at (with_parts m (q ∷ ps)) (x.data_base + j) ≡ Some (slice_index (first_data x) j)) same at) k below
+  has_data (q ∷ ps) m (suc i) p lie e k below = has_data ps (with_part m q) i p (tail q ps lie) e k below
+
+  same_part : (ps : List Part) (i j : ℕ) (p q : Part) → i ≡ j → slice_get ps i ≡ Some p → slice_get ps j ≡ Some q → q ≡ p
+  same_part ps i j p q same e f = let g : slice_get ps j ≡ Some p = ap (slice_get ps) (sym same) ∙ e in cc
+
+  pub has_empty_guards : (ps : List Part) (i : ℕ) (p : Part) → LieApart ps → slice_get ps i ≡ Some p → (a : ℕ) → InGuard p a → byte_at (with_parts empty ps) a ≡ None
+  has_empty_guards ps i p lie e a guard =
+      all_outside ps empty a lie (λ j q f. elim (i == j) as (λ t. (i == j) ≡ t → (InCode q a → ⊥) × (InData q a → ⊥)) [
+        | true ↦ λ t. subst (λ (x : Part). (InCode x a → ⊥) × (InData x a → ⊥)) (sym (same_part ps i j p q (eq_from_test i j t) e f))
+            (λ c. lie.own i p e a c (guard_in p a (lie.each i p e) guard), λ d. guard_not_data p a (lie.each i p e) guard d)
+        | false ↦ λ t. let apart : Apart p q = lie.others i j p q (not_same i j t) e f in
+            (λ c. apart.guarded_code a (guard_in p a (lie.each i p e) guard) c, λ d. apart.guarded_guarded a (guard_in p a (lie.each i p e) guard) (data_guarded q a (lie.each j q f) d))
+      ] refl)
+      ∙ get-empty nat_cmp a

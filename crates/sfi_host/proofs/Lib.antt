@@ -1,0 +1,17 @@
+pub mod Alone
+pub mod Asked
+pub mod Entered
+pub mod Keeping
+pub mod Kept
+pub mod Leaving
+pub mod Loaded
+pub mod Moving
+pub mod Neighbours
+pub mod Owning
+pub mod Plans
+pub mod Replying
+pub mod Runs
+pub mod Serving
+pub mod Turning
+pub mod Worlds
+pub mod Writing

@@ -1,0 +1,122 @@
+-- What the turn of one sandbox leaves of the others.
+use Rattle.std.proofs.Common.{◌≡◌, ◌≢◌, ℕ, zero, suc, ◌+◌, ◌-◌, ◌<◌, ◌≤◌, ◌==◌, ◌⊎◌, ⊎_elim, Bool, true, false, List, [], ◌∷◌, map, set, length, Option, Some, None, is_some, slice_get, refl, sym, ap, ◌∙◌, subst, arith}
+use Rattle.rv_mem.specs.Bytes.{Bytes, byte_at}
+use Rattle.sfi_image.specs.Spans.{Holds}
+use Rattle.sfi_check.specs.Regions.{InCode, InGuard}
+use Rattle.sfi_check.specs.Runs.{KeepsBytes}
+use Rattle.sfi_check.specs.Laws.{SafeStaysSafe}
+use Rattle.sfi_host.specs.Regions.{IsWhole}
+use Rattle.sfi_host.specs.Slots.{Bounds, bounds_of, is_own, own, Slot}
+use Rattle.sfi_host.specs.Worlds.{Seat, Sandboxes, slot_of, slots_of, IsSafeSeat, LiesOutside, IsSafeWorld, StaysOutside, with_guards}
+use Rattle.sfi_host.proofs.Keeping as keep
+use Rattle.sfi_host.proofs.Owning.{own_is, own_there, own_missing, same_own}
+
+-- ---- lists
+
+pub get_set_same : {A : Type 0} (xs : List A) (i : ℕ) (x y : A) → slice_get xs i ≡ Some x → slice_get (set xs i y) i ≡ Some y
+get_set_same [] i x y e = absurd (cc)
+get_set_same (z ∷ xs) zero x y e = refl
+get_set_same (z ∷ xs) (suc i) x y e = get_set_same xs i x y e
+
+pub get_set_other : {A : Type 0} (xs : List A) (i j : ℕ) (y : A) → j ≢ i → slice_get (set xs i y) j ≡ slice_get xs j
+get_set_other [] i j y n = refl
+get_set_other (z ∷ xs) zero zero y n = absurd (n refl)
+get_set_other (z ∷ xs) zero (suc j) y n = refl
+get_set_other (z ∷ xs) (suc i) zero y n = refl
+get_set_other (z ∷ xs) (suc i) (suc j) y n = get_set_other xs i j y (λ e. n (ap suc e))
+
+eq_from_test : (a b : ℕ) → (a == b) ≡ true → a ≡ b
+eq_from_test a b t = grind arith
+
+not_same : (a b : ℕ) → (a == b) ≡ false → a ≢ b
+not_same a b t e = grind arith
+
+-- ---- one of the others
+
+data_guarded : (m : Bytes) (t : Seat) → IsSafeSeat m t → (a : ℕ) → Holds t.bounds.data a → Holds (with_guards t.bounds.data) a
+data_guarded m t seat a h =
+    let room : 4096 ≤ seat.part.data_base = seat.right.guard_room.below in
+    let e : t.bounds.data.base ≡ seat.part.data_base = ap (λ (b : Bounds). b.data.base) seat.bounds in
+    (omega arith, omega arith)
+
+guard_guarded : (m : Bytes) (t : Seat) (seat : IsSafeSeat m t) → (a : ℕ) → InGuard seat.part a → Holds (with_guards t.bounds.data) a
+guard_guarded m t seat a guard =
+    let room : 4096 ≤ seat.part.data_base = seat.right.guard_room.below in
+    let e : t.bounds.data.base ≡ seat.part.data_base = ap (λ (b : Bounds). b.data.base) seat.bounds in
+    let f : t.bounds.data.size ≡ seat.part.data_size = ap (λ (b : Bounds). b.data.size) seat.bounds in
+    ⊎_elim (λ (low : (seat.part.data_base - 4096 ≤ a) × (a < seat.part.data_base - 4096 + 4096)). (omega arith, omega arith)) (λ (high : (seat.part.data_base + seat.part.data_size ≤ a) × (a < seat.part.data_base + seat.part.data_size + 4096)). (omega arith, omega arith)) guard
+
+module _ (m n : Bytes) (b : Bounds) (left : StaysOutside b.data m n) (t : Seat) (seat : IsSafeSeat m t) (outside : LiesOutside b t.bounds) where
+  data_same : (a : ℕ) → Holds t.bounds.data a → byte_at n a ≡ byte_at m a
+  data_same a h = left a (λ k. outside.guarded a k (data_guarded m t seat a h))
+
+  code_same : (a : ℕ) → Holds t.bounds.code a → byte_at n a ≡ byte_at m a
+  code_same a h = left a (λ k. outside.code a k h)
+
+  -- it is safe as before
+  pub other_safe : SafeStaysSafe → IsSafeSeat n t
+  other_safe on = keep.changed m t seat on n
+      (record {
+        code = λ a h. code_same a (subst (λ (c : Bounds). Holds c.code a) (sym seat.bounds) h);
+        guards = λ a guard empty. left a (λ k. outside.guarded a k (guard_guarded m t seat a guard)) ∙ empty;
+      })
+      (λ a h. ap is_some (data_same a h) ∙ seat.has_data a h)
+
+  -- and its slot is the same
+  pub other_same : slot_of n t ≡ slot_of m t
+  other_same =
+      ap (λ (x : Bytes). slot_with x)
+      (same_own t.bounds (own t.bounds n) m
+      (λ a e. own_there t.bounds n a e ∙ ⊎_elim (λ (c : Holds t.bounds.code a). code_same a c) (λ (d : Holds t.bounds.data a). data_same a d) (own_is t.bounds a e))
+      (λ a e. own_missing t.bounds n a e))
+    where
+      slot_with : Bytes → Slot
+      slot_with x = record { bounds = t.bounds; hart = t.hart; status = t.status; steps = t.steps; bytes = x }
+
+-- ---- all of them
+
+set_slots : (m n : Bytes) (seats : List Seat) (i : ℕ) (s : Seat) → ((j : ℕ) (t : Seat) → j ≢ i → slice_get seats j ≡ Some t → slot_of n t ≡ slot_of m t)
+    → map (slot_of n) (set seats i s) ≡ set (map (slot_of m) seats) i (slot_of n s)
+set_slots m n [] i s same = refl
+set_slots m n (t ∷ seats) zero s same = ap (λ (l : List Slot). slot_of n s ∷ l) (each seats (λ j u e. same (suc j) u (λ z. omega arith) e))
+  where
+    each : (all : List Seat) → ((j : ℕ) (u : Seat) → slice_get all j ≡ Some u → slot_of n u ≡ slot_of m u) → map (slot_of n) all ≡ map (slot_of m) all
+    each [] h = refl
+    each (u ∷ all) h = ap (λ (x : Slot). x ∷ map (slot_of n) all) (h 0 u refl) ∙ ap (λ (l : List Slot). slot_of m u ∷ l) (each all (λ j v e. h (suc j) v e))
+set_slots m n (t ∷ seats) (suc i) s same =
+    ap (λ (x : Slot). x ∷ map (slot_of n) (set seats i s)) (same 0 t (λ z. omega arith) refl)
+    ∙ ap (λ (l : List Slot). slot_of m t ∷ l) (set_slots m n seats i s (λ j u ne e. same (suc j) u (λ z. ne (omega arith)) e))
+
+module _ (m n : Bytes) (seats : List Seat) (i : ℕ) (s new : Seat) (world : IsSafeWorld (record { bytes = m; seats = seats })) (at : slice_get seats i ≡ Some s) (left : StaysOutside s.bounds.data m n) where
+  pub slots_are : slots_of (record { bytes = n; seats = set seats i new }) ≡ set (slots_of (record { bytes = m; seats = seats })) i (slot_of n new)
+  slots_are = set_slots m n seats i new (λ j t ne e. other_same m n s.bounds left t (world.each j t e) (world.others i j s t (λ z. ne (sym z)) at e))
+
+  module _ (on : SafeStaysSafe) (safe : IsSafeSeat n new) (bounds : new.bounds ≡ s.bounds) where
+    -- what stands at a place
+    found : (j : ℕ) (t : Seat) → slice_get (set seats i new) j ≡ Some t → ((j ≡ i) × (t ≡ new)) ⊎ ((j ≢ i) × (slice_get seats j ≡ Some t))
+    found j t e = elim (j == i) as (λ b. (j == i) ≡ b → ((j ≡ i) × (t ≡ new)) ⊎ ((j ≢ i) × (slice_get seats j ≡ Some t))) [
+      | true ↦ λ b.
+          let same : j ≡ i = eq_from_test j i b in
+          let here : slice_get (set seats i new) j ≡ Some new = ap (slice_get (set seats i new)) same ∙ get_set_same seats i s new at in
+          Rattle.std.proofs.Common.inl (same, (let f : Some t ≡ Some new = sym e ∙ here in let g : t ≡ new = cc in g))
+      | false ↦ λ b. Rattle.std.proofs.Common.inr (not_same j i b, sym (get_set_other seats i j new (not_same j i b)) ∙ e)
+    ] refl
+
+    -- the seat before, with the same bounds
+    old_at : (j : ℕ) (t : Seat) → slice_get (set seats i new) j ≡ Some t → (u : Seat) × (slice_get seats j ≡ Some u) × (t.bounds ≡ u.bounds)
+    old_at j t e = ⊎_elim
+        (λ (x : (j ≡ i) × (t ≡ new)). (s, ap (slice_get seats) x.0 ∙ at, ap (λ (y : Seat). y.bounds) x.1 ∙ bounds))
+        (λ (y : (j ≢ i) × (slice_get seats j ≡ Some t)). (t, y.1, refl))
+        (found j t e)
+
+    pub world_safe : IsSafeWorld (record { bytes = n; seats = set seats i new })
+    world_safe = record {
+      each = λ j t e. ⊎_elim
+          (λ (x : (j ≡ i) × (t ≡ new)). subst (λ (y : Seat). IsSafeSeat n y) (sym x.1) safe)
+          (λ (y : (j ≢ i) × (slice_get seats j ≡ Some t)). other_safe m n s.bounds left t (world.each j t y.1) (world.others i j s t (λ z. y.0 (sym z)) at y.1) on)
+          (found j t e);
+      others = λ j k t u ne e f.
+          let a = old_at j t e in
+          let b = old_at k u f in
+          subst (λ (x : Bounds). LiesOutside x u.bounds) (sym a.2) (subst (λ (x : Bounds). LiesOutside a.0.bounds x) (sym b.2) (world.others j k a.0 b.0 ne a.1 b.1));
+    }

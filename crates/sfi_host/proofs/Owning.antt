@@ -1,0 +1,214 @@
+-- A step in the one memory, and the same step in the sandbox's own.
+use Rattle.std.proofs.Common.{◌≡◌, ◌≢◌, ℕ, ◌+◌, ◌-◌, ◌<◌, ◌≤◌, ◌⊎◌, inl, inr, ⊎_elim, ◌||◌, Bool, true, false, cond, Option, Some, None, IsSome, is_some, refl, sym, ap, ◌∙◌, subst, arith}
+use Rattle.std.specs.FinMap.{retain_keys}
+use Rattle.rv_word.specs.declared.instr.Instr.{Instr}
+use Rattle.rv_mem.specs.Bytes.{Bytes, byte_at, address_after}
+use Rattle.rv_step.specs.declared.outcome.Outcome.{Outcome}
+use Rattle.rv_step.specs.declared.outcome.Outcome.TheVariants.{Next, Call, Trap}
+use Rattle.rv_step.specs.Access.{Accesses}
+use Rattle.rv_step.specs.Laws.{AgreeHere, IsSameStep, AgreeingStandsToo, AgreeingStepsAreSame, OtherBytesStay, StoppedStays, NoByteGoes, CallsAreEcalls}
+use Rattle.rv_step.specs.State.{Hart, State}
+use Rattle.rv_step.specs.Step.{Stepped, Stands, IsStep}
+use Rattle.sfi_image.specs.declared.span.Span.{Span}
+use Rattle.sfi_image.specs.Spelling.{Part}
+use Rattle.sfi_image.specs.Spans.{Holds}
+use Rattle.sfi_check.specs.Regions.{InCode, InData, InGuard}
+use Rattle.sfi_check.specs.Runs.{Turn, Steps, after_step}
+use Rattle.sfi_check.specs.Safety.{IsSafeState, IsSafeStep, IsTrap, RunsSafelyFrom}
+use Rattle.sfi_check.specs.Laws.{SafeTurns, SafeStaysSafe}
+use Rattle.sfi_host.specs.declared.status.Status.TheVariants.{Ready}
+use Rattle.sfi_host.specs.Regions.{is_in, IsWhole}
+use Rattle.sfi_host.specs.Slots.{Bounds, bounds_of, is_own, own, state_of}
+use Rattle.sfi_host.specs.Joint.{Machine, IsMachine}
+use Rattle.sfi_host.specs.Worlds.{Seat, slot_of, machine_of, IsSafeSeat, StaysOutside}
+use Rattle.sfi_host.specs.Steps.{own_step, stepped_seat, IsOwnStep, StepsAreOwn}
+use Rattle.sfi_host.proofs.Kept.{get_kept, same_bytes, is_in-true, is_in-Holds}
+
+-- ---- a sandbox's own bytes
+
+or_left : (b c : Bool) → b ≡ true → (b || c) ≡ true
+or_left true c e = refl
+or_left false c e = absurd (cc)
+
+or_right : (b c : Bool) → c ≡ true → (b || c) ≡ true
+or_right true c e = refl
+or_right false c e = e
+
+or_either : (b c : Bool) → (b || c) ≡ true → (b ≡ true) ⊎ (c ≡ true)
+or_either true c e = inl refl
+or_either false c e = inr e
+
+pub own_code : (b : Bounds) (a : ℕ) → Holds b.code a → is_own b a ≡ true
+own_code b a h = or_left (is_in b.code a) (is_in b.data a) (is_in-Holds b.code a h)
+
+pub own_data : (b : Bounds) (a : ℕ) → Holds b.data a → is_own b a ≡ true
+own_data b a h = or_right (is_in b.code a) (is_in b.data a) (is_in-Holds b.data a h)
+
+pub own_is : (b : Bounds) (a : ℕ) → is_own b a ≡ true → Holds b.code a ⊎ Holds b.data a
+own_is b a e = ⊎_elim (λ (c : is_in b.code a ≡ true). inl (is_in-true b.code a c)) (λ (d : is_in b.data a ≡ true). inr (is_in-true b.data a d)) (or_either (is_in b.code a) (is_in b.data a) e)
+
+pub own_there : (b : Bounds) (m : Bytes) (a : ℕ) → is_own b a ≡ true → byte_at (own b m) a ≡ byte_at m a
+own_there b m a e = get_kept m (is_own b) a ∙ ap (λ t. cond t (byte_at m a) None) e
+
+pub own_missing : (b : Bounds) (m : Bytes) (a : ℕ) → is_own b a ≡ false → byte_at (own b m) a ≡ None
+own_missing b m a e = get_kept m (is_own b) a ∙ ap (λ t. cond t (byte_at m a) None) e
+
+-- maps that agree at each own address, of which the first has no other, are one
+pub same_own : (b : Bounds) (w m : Bytes) → ((a : ℕ) → is_own b a ≡ true → byte_at w a ≡ byte_at m a) → ((a : ℕ) → is_own b a ≡ false → byte_at w a ≡ None) → w ≡ own b m
+same_own b w m there missing = same_bytes w (own b m) (λ a.
+    elim (is_own b a) as (λ t. is_own b a ≡ t → byte_at w a ≡ byte_at (own b m) a) [
+      | true ↦ λ t. there a t ∙ sym (own_there b m a t)
+      | false ↦ λ t. missing a t ∙ sym (own_missing b m a t)
+    ] refl)
+
+-- ---- what the law needs
+
+pub record Laws : Type 0 where
+  pub stands : AgreeingStandsToo
+  pub agree : AgreeingStepsAreSame
+  pub others : OtherBytesStay
+  pub stops : StoppedStays
+  pub none_goes : NoByteGoes
+  pub ecalls : CallsAreEcalls
+  pub turns : SafeTurns
+  pub on : SafeStaysSafe
+
+true_false : (b : Bool) → b ≡ true → b ≡ false → ⊥
+true_false b t f = cc
+
+abbrev stepped_of : Outcome → Hart → Bytes → Stepped
+stepped_of o h w = record { outcome = o; state = record { hart = h; memory = w } }
+
+stepped_is : (q : Stepped) (o : Outcome) (h : Hart) (w : Bytes) → q.outcome ≡ o → q.state.hart ≡ h → q.state.memory ≡ w → q ≡ record { outcome = o; state = record { hart = h; memory = w } }
+stepped_is q o h w e f g =
+    ap (λ (x : Outcome). stepped_of x q.state.hart q.state.memory) e
+    ∙ ap (λ (x : Hart). stepped_of o x q.state.memory) f
+    ∙ ap (λ (x : Bytes). stepped_of o h x) g
+
+is_trap_not : (o : Outcome) → o ≡ Next → IsTrap o → ⊥
+is_trap_not Next e t = t
+is_trap_not Call e t = t
+is_trap_not (Trap cause at) e t = cc
+
+module _ (laws : Laws) (m : Bytes) (s : Seat) (r : Stepped) (seat : IsSafeSeat m s) (ready : s.status ≡ Ready) (step : IsStep (machine_of m s) r) where
+  from : RunsSafelyFrom seat.part (machine_of m s)
+  from = seat.safe ready
+
+  both : IsSafeState seat.part (machine_of m s) × IsSafeStep seat.part (machine_of m s) r
+  both = laws.turns seat.part (machine_of m s) (Steps r) from step
+
+  in_data : (a : ℕ) → InData seat.part a → Holds s.bounds.data a
+  in_data a h = subst (λ (b : Bounds). Holds b.data a) (sym seat.bounds) h
+
+  in_code : (a : ℕ) → InCode seat.part a → Holds s.bounds.code a
+  in_code a h = subst (λ (b : Bounds). Holds b.code a) (sym seat.bounds) h
+
+  data_in : (a : ℕ) → Holds s.bounds.data a → InData seat.part a
+  data_in a h = subst (λ (b : Bounds). Holds b.data a) seat.bounds h
+
+  code_in : (a : ℕ) → Holds s.bounds.code a → InCode seat.part a
+  code_in a h = subst (λ (b : Bounds). Holds b.code a) seat.bounds h
+
+  room : 4096 ≤ seat.part.data_base
+  room = seat.right.guard_room.below
+
+  guard_not_data : (a : ℕ) → InGuard seat.part a → InData seat.part a → ⊥
+  guard_not_data a (inl low) inside = let room' = room in omega arith
+  guard_not_data a (inr high) inside = omega arith
+
+  guard_not_code : (a : ℕ) → InGuard seat.part a → InCode seat.part a → ⊥
+  guard_not_code a (inl low) inside = let room' = room in seat.apart a inside (omega arith, omega arith)
+  guard_not_code a (inr high) inside = let room' = room in seat.apart a inside (omega arith, omega arith)
+
+  data_not_code : (a : ℕ) → InData seat.part a → InCode seat.part a → ⊥
+  data_not_code a inner inside = let room' = room in seat.apart a inside (omega arith, omega arith)
+
+  guard_not_own : (a : ℕ) → InGuard seat.part a → is_own s.bounds a ≡ false
+  guard_not_own a guard = elim (is_own s.bounds a) as (λ t. is_own s.bounds a ≡ t → t ≡ false) [
+    | true ↦ λ t. absurd (⊎_elim (λ (c : Holds s.bounds.code a). guard_not_code a guard (code_in a c)) (λ (d : Holds s.bounds.data a). guard_not_data a guard (data_in a d)) (own_is s.bounds a t))
+    | false ↦ λ t. refl
+  ] refl
+
+  -- ---- the instruction at pc, in both memories
+
+  found : (a : ℕ) → InData seat.part a ⊎ InGuard seat.part a → byte_at (own s.bounds m) a ≡ byte_at m a
+  found a (inl inside) = own_there s.bounds m a (own_data s.bounds a (in_data a inside))
+  found a (inr guard) = own_missing s.bounds m a (guard_not_own a guard) ∙ sym (seat.guards a guard)
+
+  agrees : AgreeHere (machine_of m s) (state_of (slot_of m s)) both.0.present.instr both.0.present.size
+  agrees =
+      let here = both.0.present in
+      record {
+        stands = here.stands;
+        hart = refl;
+        instruction = λ k below. own_there s.bounds m _ (own_code s.bounds _ (in_code _ (both.0.instruction here.instr here.size here.stands k below)));
+        access = λ a accesses. found a (both.1.within here.instr here.size here.stands a accesses);
+      }
+
+  -- a step that is done accesses data alone
+  data_alone : r.outcome ≡ Next → (a : ℕ) → Accesses both.0.present.instr s.hart a → Holds s.bounds.data a
+  data_alone done a accesses =
+      let here = both.0.present in
+      ⊎_elim
+      (λ (inside : InData seat.part a). in_data a inside)
+      (λ (guard : InGuard seat.part a). absurd (is_trap_not r.outcome done (both.1.trapped here.instr here.size here.stands a accesses guard)))
+      (both.1.within here.instr here.size here.stands a accesses)
+
+  -- ---- by the outcome
+
+  by_outcome : {A : Type 0} → (r.outcome ≡ Next → A) → (r.outcome ≢ Next → A) → A
+  by_outcome {A} done stopped = elim r.outcome as (λ o. r.outcome ≡ o → A) [
+    | Next ↦ λ e. done e
+    | Call ↦ λ e. stopped (λ f. cc)
+    | Trap cause at ↦ λ e. stopped (λ f. cc)
+  ] refl
+
+  stays_outside : StaysOutside s.bounds.data m r.state.memory
+  stays_outside a out =
+      let here = both.0.present in
+      by_outcome
+      (λ done. laws.others (machine_of m s) here.instr here.size r a here.stands step (λ accesses. out (data_alone done a accesses)))
+      (λ stopped. ap (λ (x : State). byte_at x.memory a) (laws.stops (machine_of m s) r step stopped))
+
+  safe_next : r.outcome ≡ Next → (steps : ℕ) → IsSafeSeat r.state.memory (stepped_seat s r steps)
+  safe_next done steps = record {
+    part = seat.part;
+    bounds = seat.bounds;
+    right = seat.right;
+    apart = seat.apart;
+    guards = λ a guard. stays_outside a (λ inside. guard_not_data a guard (data_in a inside)) ∙ seat.guards a guard;
+    has_data = λ a inside. laws.none_goes (machine_of m s) r a step (seat.has_data a inside);
+    safe = λ e. laws.on seat.part (machine_of m s) r.state (Steps r) from step (ap (λ (o : Outcome). after_step o r.state) done);
+  }
+
+  -- ---- alone
+
+  module _ (machine : Machine) (is : IsMachine machine) where
+    same : IsSameStep (machine_of m s) (state_of (slot_of m s)) r (machine (state_of (slot_of m s)))
+    same = laws.agree (machine_of m s) (state_of (slot_of m s)) both.0.present.instr both.0.present.size r (machine (state_of (slot_of m s))) agrees step (is.steps (state_of (slot_of m s)))
+
+    nothing_else : (a : ℕ) → is_own s.bounds a ≡ false → byte_at (machine (state_of (slot_of m s))).state.memory a ≡ None
+    nothing_else a out =
+        let here = both.0.present in
+        let stands : Stands (state_of (slot_of m s)) here.instr here.size = laws.stands (machine_of m s) (state_of (slot_of m s)) here.instr here.size agrees in
+        by_outcome
+        (λ done. laws.others (state_of (slot_of m s)) here.instr here.size (machine (state_of (slot_of m s))) a stands (is.steps (state_of (slot_of m s)))
+        (λ accesses. true_false (is_own s.bounds a) (own_data s.bounds a (data_alone done a accesses)) out) ∙ own_missing s.bounds m a out)
+        (λ stopped. ap (λ (x : State). byte_at x.memory a) (laws.stops (state_of (slot_of m s)) (machine (state_of (slot_of m s))) (is.steps (state_of (slot_of m s))) (λ e. stopped (sym same.outcome ∙ e)))
+        ∙ own_missing s.bounds m a out)
+
+    alone : machine (state_of (slot_of m s)) ≡ own_step s.bounds r
+    alone = stepped_is (machine (state_of (slot_of m s))) _ _ _ same.outcome same.hart
+        (same_own s.bounds (machine (state_of (slot_of m s))).state.memory r.state.memory (λ a e. same.bytes a (own_there s.bounds m a e)) nothing_else)
+
+  own_is_step : IsOwnStep m s r
+  own_is_step = record {
+    alone = alone;
+    others = stays_outside;
+    safe = safe_next;
+    stopped = laws.stops (machine_of m s) r step;
+    called = laws.ecalls (machine_of m s) r step;
+  }
+
+pub steps_own : Laws → StepsAreOwn
+steps_own laws m s r seat ready step = own_is_step laws m s r seat ready step

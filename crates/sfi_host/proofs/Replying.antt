@@ -1,0 +1,119 @@
+-- A sandbox behind an answered call is the slot that the definition makes.
+use Rattle.std.proofs.Common.{◌≡◌, ◌≢◌, ℕ, Bool, refl, sym, ap, ◌∙◌, subst}
+use Rattle.rv_mem.specs.Bytes.{Bytes, IsMemory}
+use Rattle.rv_word.specs.declared.instr.Instr.TheVariants.{Ecall}
+use Rattle.rv_step.specs.State.{Hart, IsHart, register, behind}
+use Rattle.rv_step.specs.Step.{Stands}
+use Rattle.sfi_check.specs.Laws.{SafeStaysSafe}
+use Rattle.sfi_host.specs.declared.status.Status.{Status}
+use Rattle.sfi_host.specs.declared.status.Status.TheVariants.{Ready}
+use Rattle.sfi_host.specs.declared.gates.GateAnswer.{GateAnswer}
+use Rattle.sfi_host.specs.declared.gates.GateAnswer.TheVariants as gate
+use Rattle.sfi_host.specs.declared.guest.Request.{Request}
+use Rattle.sfi_host.specs.declared.sandbox.Sandbox.{Sandbox}
+use Rattle.sfi_host.specs.declared.asking.Told.{Told}
+use Rattle.sfi_host.specs.declared.asking.Going.{Going}
+use Rattle.sfi_host.specs.declared.asking.Going.TheVariants as going
+use Rattle.sfi_host.specs.Answering.{spoken}
+use Rattle.sfi_host.specs.Hosts.{Call, Way, Replied, Yield, Exit, Reply, Answer}
+use Rattle.sfi_host.specs.Regions.{bytes_in, bytes_outside, IsWhole}
+use Rattle.sfi_host.specs.Slots.{Bounds, Slot, one_more, own}
+use Rattle.sfi_host.specs.Joint.{service_at, call_of, with_arguments, with_data, after_way, replied, then_of}
+use Rattle.sfi_host.specs.Sandboxes.{seat_of, call_by, IsTold, IsNotTold, after_told, going_after, next_of, IsReplied, IsNotReplied}
+use Rattle.sfi_host.specs.Worlds.{slot_of, machine_of, IsSafeSeat, StaysOutside}
+use Rattle.sfi_host.proofs.Leaving.{data_of_own, put_back, stays_outside, whole_of}
+use Rattle.sfi_host.proofs.Keeping as keep
+
+abbrev slot_with : Bounds → Hart → Status → ℕ → Bytes → Slot
+slot_with b h status n bytes = record { bounds = b; hart = h; status = status; steps = n; bytes = bytes }
+
+slot_from : (b : Bounds) (h h' : Hart) (st st' : Status) (n : ℕ) (m m' : Bytes) → h ≡ h' → st ≡ st' → m ≡ m' → slot_with b h st n m ≡ slot_with b h' st' n m'
+slot_from b h h' st st' n m m' e f q =
+    ap (λ (x : Hart). slot_with b x st n m) e ∙ ap (λ (x : Status). slot_with b h' x n m) f ∙ ap (λ (x : Bytes). slot_with b h' st' n x) q
+
+arguments : (h : Hart) (a0 a1 b0 b1 : ℕ) → a0 ≡ b0 → a1 ≡ b1 → with_arguments h a0 a1 ≡ with_arguments h b0 b1
+arguments h a0 a1 b0 b1 e f = ap (λ (x : ℕ). with_arguments h x a1) e ∙ ap (λ (x : ℕ). with_arguments h b0 x) f
+
+-- what is asked of the memory of all is what the sandbox asks alone
+pub asked_is : (number : ℕ) (r : Request) (m : Bytes) (s : Sandbox) → r.sandbox ≡ number → r.service ≡ service_at s.gates.items s.cpu.pc → r.a0 ≡ register s.cpu 10 → r.a1 ≡ register s.cpu 11
+    → call_by r (bytes_in (seat_of s).bounds.data m) ≡ call_of number (slot_of m (seat_of s))
+asked_is number r m s e f x y =
+    let bytes : bytes_in (seat_of s).bounds.data m ≡ bytes_in (seat_of s).bounds.data (own (seat_of s).bounds m) = sym (data_of_own (seat_of s).bounds m) in
+    ap (λ (i : ℕ). call_with i r.service r.a0 r.a1 (bytes_in (seat_of s).bounds.data m)) e
+    ∙ ap (λ (i : ℕ). call_with number i r.a0 r.a1 (bytes_in (seat_of s).bounds.data m)) f
+    ∙ ap (λ (i : ℕ). call_with number (service_at s.gates.items s.cpu.pc) i r.a1 (bytes_in (seat_of s).bounds.data m)) x
+    ∙ ap (λ (i : ℕ). call_with number (service_at s.gates.items s.cpu.pc) (register s.cpu 10) i (bytes_in (seat_of s).bounds.data m)) y
+    ∙ ap (λ (w : Bytes). call_with number (service_at s.gates.items s.cpu.pc) (register s.cpu 10) (register s.cpu 11) w) bytes
+  where
+    call_with : ℕ → ℕ → ℕ → ℕ → Bytes → Call
+    call_with i service a0 a1 w = record { caller = i; service = service; a0 = a0; a1 = a1; bytes = w }
+
+by_way : (m n : Bytes) (s : Sandbox) (t : Told) (r : Reply) (w : Way) → s.status ≡ Ready → t.a0 ≡ r.a0 → t.a1 ≡ r.a1 → own (seat_of s).bounds n ≡ with_data (seat_of s).bounds (own (seat_of s).bounds m) r.bytes
+    → slot_of n (seat_of (after_told (spoken w) s t)) ≡ replied (slot_of m (seat_of s)) (record { way = w; a0 = r.a0; a1 = r.a1; bytes = r.bytes })
+by_way m n s t r Replied ready x y b = slot_from (seat_of s).bounds _ _ _ _ (one_more s.steps) _ _ (ap (λ (h : Hart). behind h 4) (arguments s.cpu _ _ _ _ x y)) ready b
+by_way m n s t r Yield ready x y b = slot_from (seat_of s).bounds _ _ _ _ (one_more s.steps) _ _ (ap (λ (h : Hart). behind h 4) (arguments s.cpu _ _ _ _ x y)) ready b
+by_way m n s t r (Exit k) ready x y b = slot_from (seat_of s).bounds _ _ _ _ (one_more s.steps) _ _ (arguments s.cpu _ _ _ _ x y) refl b
+
+next_way : (w : Way) → next_of (going_after (spoken w)) ≡ then_of w
+next_way Replied = refl
+next_way Yield = refl
+next_way (Exit n) = refl
+
+refused_answer : (a : GateAnswer) → going_after a ≡ going.Refused → a ≡ gate.Memory
+refused_answer gate.Replied e = absurd (cc)
+refused_answer gate.Yield e = absurd (cc)
+refused_answer (gate.Exit n) e = absurd (cc)
+refused_answer gate.Memory e = refl
+
+-- ---- the two ways in which a call ends
+
+module _ {S : Type 0} (m n : Bytes) (s : Sandbox) (t : Told) (call : Call) (number : ℕ) (before after : S) (result : Going)
+    (is : call ≡ call_of number (slot_of m (seat_of s))) (out : bytes_outside (seat_of s).bounds.data n ≡ bytes_outside (seat_of s).bounds.data m)
+    (goes : result ≡ going_after t.answer) where
+  pub replies : (answer : S → Call → Answer S) → s.status ≡ Ready
+      → (t.answer ≢ gate.Memory → IsTold (answer before call) (bytes_in (seat_of s).bounds.data n) after t) → result ≢ going.Refused
+      → IsReplied answer number (slot_of m (seat_of s)) before (slot_of n (seat_of (after_told t.answer s t))) after result
+  replies answer ready told_if goes_on =
+      let told : IsTold (answer before call) (bytes_in (seat_of s).bounds.data n) after t = told_if (λ e. goes_on (goes ∙ ap going_after e)) in
+      let r = answer before call in
+      let same : answer before call ≡ answer before (call_of number (slot_of m (seat_of s))) = ap (λ (c : Call). answer before c) is in
+      let back : own (seat_of s).bounds n ≡ with_data (seat_of s).bounds (own (seat_of s).bounds m) r.reply.bytes = put_back (seat_of s).bounds m n r.reply.bytes out told.data_bytes in
+      record {
+        slot = ap (λ (a : GateAnswer). slot_of n (seat_of (after_told a s t))) told.way ∙ by_way m n s t r.reply r.reply.way ready told.a0 told.a1 back ∙ ap (λ (x : Answer S). replied (slot_of m (seat_of s)) x.reply) same;
+        host = told.state ∙ ap (λ (x : Answer S). x.host) same;
+        next = ap next_of (goes ∙ ap going_after told.way) ∙ next_way r.reply.way ∙ ap (λ (x : Answer S). then_of x.reply.way) same;
+      }
+
+  pub refuses : (may_refuse : S → Call → Bool)
+      → (t.answer ≡ gate.Memory → IsNotTold (may_refuse before) call (bytes_in (seat_of s).bounds.data n) before after) → result ≡ going.Refused
+      → IsNotReplied may_refuse number (slot_of m (seat_of s)) before (slot_of n (seat_of (after_told t.answer s t))) after
+  refuses may_refuse not_told ends =
+      let e : t.answer ≡ gate.Memory = refused_answer t.answer (sym goes ∙ ends) in
+      let b : IsNotTold (may_refuse before) call (bytes_in (seat_of s).bounds.data n) before after = not_told e in
+      let same : own (seat_of s).bounds n ≡ own (seat_of s).bounds m =
+      put_back (seat_of s).bounds m n _ out (b.data_bytes ∙ ap (λ (x : Call). x.bytes) is ∙ data_of_own (seat_of s).bounds m) ∙ sym (put_back (seat_of s).bounds m m _ refl refl) in
+      record {
+        test = ap (may_refuse before) (sym is) ∙ b.test;
+        slot = ap (λ (a : GateAnswer). slot_of n (seat_of (after_told a s t))) e ∙ slot_from (seat_of s).bounds s.cpu s.cpu s.status s.status s.steps _ _ refl refl same;
+        host = b.state;
+      }
+
+-- ---- the sandbox afterwards
+
+pub bounds_after : (a : GateAnswer) (s : Sandbox) (t : Told) → (seat_of (after_told a s t)).bounds ≡ (seat_of s).bounds
+bounds_after gate.Replied s t = refl
+bounds_after gate.Yield s t = refl
+bounds_after (gate.Exit n) s t = refl
+bounds_after gate.Memory s t = refl
+
+pub safe_after : SafeStaysSafe → (m n : Bytes) (s : Sandbox) (t : Told) (a : GateAnswer) (size : ℕ) → IsSafeSeat m (seat_of s) → s.status ≡ Ready → Stands (machine_of m (seat_of s)) Ecall size
+    → IsMemory n → StaysOutside (seat_of s).bounds.data m n → IsWhole (seat_of s).bounds.data n → (a ≢ gate.Memory → IsHart (after_told a s t).cpu)
+    → IsSafeSeat n (seat_of (after_told a s t))
+safe_after on m n s t gate.Replied size seat ready stands memory stays whole hart =
+    keep.replied m (seat_of s) seat on ready size stands n _ _ memory stays whole (hart (λ e. cc)) refl (keep.arguments_keep s.cpu t.a0 t.a1)
+safe_after on m n s t gate.Yield size seat ready stands memory stays whole hart =
+    keep.replied m (seat_of s) seat on ready size stands n _ _ memory stays whole (hart (λ e. cc)) refl (keep.arguments_keep s.cpu t.a0 t.a1)
+safe_after on m n s t (gate.Exit k) size seat ready stands memory stays whole hart =
+    keep.halted m (seat_of s) seat n _ refl (λ e. cc) stays whole
+safe_after on m n s t gate.Memory size seat ready stands memory stays whole hart =
+    keep.own_changed m (seat_of s) seat on n stays whole

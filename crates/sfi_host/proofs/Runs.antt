@@ -1,0 +1,171 @@
+-- Bytes at consecutive addresses, which aren't taken modulo 2 ^ 32.
+use Rattle.std.proofs.Common.{◌≡◌, ◌↔◌, IsTrue, IsSome, is_some, ℕ, zero, suc, ◌+◌, ◌-◌, ◌^◌, ◌<◌, ◌≤◌, List, [], ◌∷◌, ◌++◌, length, Option, Some, None, refl, sym, ap, ◌∙◌, add-one, Bool, true, false, nat_le, replicate, slice_index, arith}
+use Rattle.std.specs.Bool.{OnTrue}
+use Rattle.std.specs.List.{range_with_len}
+use Rattle.std.specs.FinMap.{insert}
+use Rattle.std.proofs.lemmas.Grind.{common_steps}
+use Rattle.rv_mem.specs.Bytes.{Bytes, IsMemory, byte_at, bytes_at, with_bytes, in_front, addresses, added}
+use Rattle.rv_mem.specs.Laws.{WrittenIsThere}
+use Rattle.sfi_image.specs.declared.span.Span.{Span}
+use Rattle.sfi_host.specs.Regions.{bytes_in, IsWhole}
+use Rattle.sfi_host.proofs.Kept.{held, byte_in, is_in-Holds, still_there}
+
+-- ---- which are there
+
+both_there : (o : Option ℕ) (p : Option (List ℕ)) → IsSome o → IsSome p → IsSome (in_front o p)
+both_there None p h g = h
+both_there (Some b) None h g = g
+both_there (Some b) (Some bs) h g = refl
+
+first_there : (o : Option ℕ) (p : Option (List ℕ)) → IsSome (in_front o p) → IsSome o
+first_there None p h = h
+first_there (Some b) p h = refl
+
+others_there : (o : Option ℕ) (p : Option (List ℕ)) → IsSome (in_front o p) → IsSome p
+others_there None p h = absurd (cc)
+others_there (Some b) None h = h
+others_there (Some b) (Some bs) h = refl
+
+-- all are there where each is
+pub all_there : (m : Bytes) (a n : ℕ) → ((k : ℕ) → k < n → IsSome (byte_at m (a + k))) → IsSome (bytes_at m (range_with_len a n))
+all_there m a zero h = refl
+all_there m a (suc n) h =
+    let z : a + 0 ≡ a = omega arith in
+    both_there _ _ (ap (λ x. is_some (byte_at m x)) (sym z) ∙ h 0 (omega arith)) (all_there m (a + 1) n further)
+  where
+    further : (k : ℕ) → k < n → IsSome (byte_at m (a + 1 + k))
+    further k l = let z : a + 1 + k ≡ a + suc k = omega arith in ap (λ x. is_some (byte_at m x)) z ∙ h (suc k) (omega arith)
+
+-- each is there where all are
+pub each_there : (m : Bytes) (a n k : ℕ) → IsSome (bytes_at m (range_with_len a n)) → k < n → IsSome (byte_at m (a + k))
+each_there m a zero k h l = absurd (omega arith)
+each_there m a (suc n) zero h l =
+    let z : a + 0 ≡ a = omega arith in
+    ap (λ x. is_some (byte_at m x)) z ∙ first_there (byte_at m a) (bytes_at m (range_with_len (a + 1) n)) h
+each_there m a (suc n) (suc k) h l =
+    let z : a + suc k ≡ a + 1 + k = omega arith in
+    ap (λ x. is_some (byte_at m x)) z ∙ each_there m (a + 1) n k (others_there (byte_at m a) _ h) (omega arith)
+
+-- ---- reading
+
+joined : (o : Option ℕ) (p : Option (List ℕ)) (b : ℕ) (bs : List ℕ) → o ≡ Some b → p ≡ Some bs → in_front o p ≡ Some (b ∷ bs)
+joined None p b bs e f = absurd (cc)
+joined (Some c) None b bs e f = absurd (cc)
+joined (Some c) (Some cs) b bs e f = cc
+
+pub record Splits (o : Option ℕ) (p : Option (List ℕ)) (bs : List ℕ) : Type 0 where
+  pub byte : ℕ
+  pub rest : List ℕ
+  pub first : o ≡ Some byte
+  pub others : p ≡ Some rest
+  pub all : bs ≡ byte ∷ rest
+
+split : (o : Option ℕ) (p : Option (List ℕ)) (bs : List ℕ) → in_front o p ≡ Some bs → Splits o p bs
+split None p bs e = absurd (cc)
+split (Some b) None bs e = absurd (cc)
+split (Some b) (Some rest) bs e = record { byte = b; rest = rest; first = refl; others = refl; all = cc }
+
+-- one byte more
+read_more : (m : Bytes) (a n b : ℕ) (bs : List ℕ) → bytes_at m (range_with_len a n) ≡ Some bs → byte_at m (a + n) ≡ Some b
+    → bytes_at m (range_with_len a (suc n)) ≡ Some (bs ++ b ∷ [])
+read_more m a zero b bs e f =
+    let z : a ≡ a + 0 = omega arith in
+    let none : bs ≡ [] = cc in
+    rw none (joined (byte_at m a) (Some []) b [] (ap (byte_at m) z ∙ f) refl)
+read_more m a (suc n) b bs e f =
+    let x = split (byte_at m a) (bytes_at m (range_with_len (a + 1) n)) bs e in
+    let z : a + 1 + n ≡ a + suc n = omega arith in
+    rw x.all (joined (byte_at m a) (bytes_at m (range_with_len (a + 1) (suc n))) x.byte (x.rest ++ b ∷ []) x.first
+    (read_more m (a + 1) n b x.rest x.others (ap (byte_at m) z ∙ f)))
+
+pub bytes_more : (m : Bytes) (a n b : ℕ) (bs : List ℕ) → bytes_at m (range_with_len a n) ≡ Some bs → byte_at m (a + n) ≡ Some b
+    → bytes_at m (range_with_len a (n + 1)) ≡ Some (bs ++ b ∷ [])
+bytes_more m a n b bs e f = ap (λ k. bytes_at m (range_with_len a k)) (add-one n) ∙ read_more m a n b bs e f
+
+-- ---- writing
+
+-- one byte more
+put_more : (m : Bytes) (a n b : ℕ) (bs : List ℕ) → length bs ≡ n
+    → with_bytes m (range_with_len a (suc n)) (bs ++ b ∷ []) ≡ insert (with_bytes m (range_with_len a n) bs) (a + n) b
+put_more m a zero b [] e = let z : a ≡ a + 0 = omega arith in ap (λ x. insert m x b) z
+put_more m a zero b (c ∷ bs) e = absurd (omega arith)
+put_more m a (suc n) b [] e = absurd (omega arith)
+put_more m a (suc n) b (c ∷ bs) e =
+    let z : a + 1 + n ≡ a + suc n = omega arith in
+    put_more (insert m a c) (a + 1) n b bs (omega arith) ∙ ap (λ x. insert (with_bytes (insert m a c) (range_with_len (a + 1) n) bs) x b) z
+
+pub write_more : (m : Bytes) (a n b : ℕ) (bs : List ℕ) → length bs ≡ n
+    → with_bytes m (range_with_len a (n + 1)) (bs ++ b ∷ []) ≡ insert (with_bytes m (range_with_len a n) bs) (a + n) b
+write_more m a n b bs e = ap (λ k. with_bytes m (range_with_len a k) (bs ++ b ∷ [])) (add-one n) ∙ put_more m a n b bs e
+
+-- ---- which of a region's are there
+
+last_there : (m : Bytes) (a n : ℕ) → IsSome (bytes_at m (range_with_len a n)) → 0 < n → IsSome (byte_at m (a + (n - 1)))
+last_there m a n h l = each_there m a n (n - 1) h (omega arith)
+
+-- n addresses that don't begin below the region: all are there exactly where they don't end above it
+pub covered : (s : Span) (m : Bytes) (a n p q : ℕ) → IsWhole s (bytes_in s m) → s.base ≤ a → 0 < n → p ≡ a + n → q ≡ s.base + s.size
+    → (IsTrue (nat_le p q) ↔ IsSome (bytes_at (bytes_in s m) (range_with_len a n)))
+covered s m a n p q w h l e f = (forth, back)
+  where
+    forth : IsTrue (nat_le p q) → IsSome (bytes_at (bytes_in s m) (range_with_len a n))
+    forth t = let le : p ≤ q = grind arith in all_there (bytes_in s m) a n (λ k below. w (a + k) (omega arith, omega arith))
+
+    back : IsSome (bytes_at (bytes_in s m) (range_with_len a n)) → IsTrue (nat_le p q)
+    back t = let x = held s m (a + (n - 1)) (last_there (bytes_in s m) a n t l) in let y = x.1 in grind (arith, y, e, f, l)
+
+-- those that begin below it aren't all there
+pub not_covered : (s : Span) (m : Bytes) (a n : ℕ) → a < s.base → 0 < n
+    → (IsTrue (nat_le s.base a) ↔ IsSome (bytes_at (bytes_in s m) (range_with_len a n)))
+not_covered s m a n h l = (forth, back)
+  where
+    forth : IsTrue (nat_le s.base a) → IsSome (bytes_at (bytes_in s m) (range_with_len a n))
+    forth t = let no : s.base ≤ a = grind arith in absurd (omega arith)
+
+    back : IsSome (bytes_at (bytes_in s m) (range_with_len a n)) → IsTrue (nat_le s.base a)
+    back t = let x = held s m (a + 0) (each_there (bytes_in s m) a n 0 t l) in let y = x.0 in absurd (omega (arith, y))
+
+-- where all are there, they end at the last address at most
+pub ends_within : (s : Span) (m : Bytes) (a n : ℕ) → IsMemory m → 0 < n → IsSome (bytes_at (bytes_in s m) (range_with_len a n)) → a + n ≤ 2 ^ 32
+ends_within s m a n r l t =
+    let x = last_there (bytes_in s m) a n t l in
+    let y = ap is_some (sym (byte_in s m (a + (n - 1)) (is_in-Holds s (a + (n - 1)) (held s m (a + (n - 1)) x)))) ∙ x in
+    let z = below (byte_at m (a + (n - 1))) y refl in
+    omega arith
+  where
+    below : (o : Option ℕ) → IsSome o → byte_at m (a + (n - 1)) ≡ o → a + (n - 1) < 2 ^ 32
+    below None h e = absurd (cc)
+    below (Some b) h e = r.addresses (a + (n - 1)) b e
+
+pub covered_end : (s : Span) (m : Bytes) (a n p q : ℕ) → IsMemory m → IsWhole s (bytes_in s m) → s.base ≤ a → 0 < n → p ≡ a + n → q ≡ s.base + s.size
+    → OnTrue (nat_le p q) (a + n ≤ 2 ^ 32)
+covered_end s m a n p q r w h l e f = on (nat_le p q) (λ t. ends_within s m a n r l ((covered s m a n p q w h l e f).0 t))
+  where
+    on : (b : Bool) → (IsTrue b → a + n ≤ 2 ^ 32) → OnTrue b (a + n ≤ 2 ^ 32)
+    on true g = g refl
+    on false g = tt
+
+-- the first of them are there too
+pub fewer_there : (m : Bytes) (a n k : ℕ) → IsSome (bytes_at m (range_with_len a n)) → k ≤ n → IsSome (bytes_at m (range_with_len a k))
+fewer_there m a n k h l = all_there m a k (λ j below. each_there m a n j h (omega arith))
+
+-- a write removes none
+pub with_keeps : (m : Bytes) (at bs : List ℕ) (q : ℕ) → IsSome (byte_at m q) → IsSome (byte_at (with_bytes m at bs) q)
+with_keeps m [] bs q h = h
+with_keeps m (a ∷ more) [] q h = h
+with_keeps m (a ∷ more) (b ∷ bs) q h = with_keeps (insert m a b) more bs q (still_there m a b q h)
+
+-- ---- a region that was added
+
+-- it is whole
+pub added_whole : WrittenIsThere → (m : Bytes) (base size : ℕ) (front : List ℕ) → base + size ≤ 2 ^ 32 → length front ≤ size
+    → IsWhole (record { base = base; size = size }) (bytes_in (record { base = base; size = size }) (added m base size front))
+added_whole law m base size front room few = λ a h.
+    let all : List ℕ = front ++ replicate (size - length front) 0 in
+    let many : length all ≡ size = grind (arith, common_steps) in
+    let k : base + (a - base) ≡ a = omega (arith, h.0) in
+    let below : a - base < length all = omega (arith, many, h.0, h.1) in
+    let there = law m base all (a - base) (omega (arith, many)) below in
+    let at : byte_at (added m base size front) a ≡ Some (slice_index all (a - base)) =
+    ap (λ n. byte_at (with_bytes m (addresses base n) all) a) (sym many) ∙ ap (byte_at (with_bytes m (addresses base (length all)) all)) (sym k) ∙ there in
+    ap is_some (byte_in (record { base = base; size = size }) (added m base size front) a (is_in-Holds (record { base = base; size = size }) a h)) ∙ ap is_some at

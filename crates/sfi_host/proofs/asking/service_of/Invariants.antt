@@ -1,0 +1,6 @@
+use Rattle.std.proofs.Common.{◌≡◌, drop}
+use Rattle.sfi_host.specs.Joint.{service_at}
+use Rattle.sfi_host.proofs.asking.service_of.Given as goal
+
+abbrev pub invariant-loop-gate : goal.invariant-loop-gate
+invariant-loop-gate l = service_at (drop l.gate-index l.gates) l.address ≡ service_at l.gates l.address

@@ -1,0 +1,5 @@
+use Rattle.std.proofs.Common.{◌≡◌, [], replicate}
+use Rattle.sfi_host.proofs.console.Console.new.Given as goal
+
+abbrev pub invariant-loop : goal.invariant-loop
+invariant-loop l = l.sessions.items ≡ replicate l.counter (record { output = []; place = 0 })

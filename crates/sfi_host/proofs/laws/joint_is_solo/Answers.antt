@@ -1,0 +1,5 @@
+use Rattle.sfi_host.proofs.Alone.{joint_alone}
+use Rattle.sfi_host.proofs.laws.joint_is_solo.Goals as goal
+
+pub returns : goal.returns
+returns g c = joint_alone

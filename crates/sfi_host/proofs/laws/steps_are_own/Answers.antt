@@ -1,0 +1,14 @@
+use Rattle.sfi_host.proofs.Owning.{steps_own}
+use Rattle.sfi_host.proofs.laws.steps_are_own.Goals as goal
+
+pub returns : goal.returns
+returns c = steps_own (record {
+  stands = c.agreeing_stands_too.ensures;
+  agree = c.agreeing_steps_are_same.ensures;
+  others = c.other_bytes_stay.ensures;
+  stops = c.stopped_stays.ensures;
+  none_goes = c.no_byte_goes.ensures;
+  ecalls = c.calls_are_ecalls.ensures;
+  turns = c.safe_turns.ensures;
+  on = c.safe_stays_safe.ensures;
+})

@@ -1,0 +1,15 @@
+use Rattle.std.proofs.Common.{ap, ◌∙◌, is_some, drop, length}
+use Rattle.std.specs.List.{range_with_len}
+use Rattle.rv_mem.specs.Bytes.{bytes_at}
+use Rattle.sfi_host.specs.Guests.{asked}
+use Rattle.sfi_host.proofs.Runs.{fewer_there}
+use Rattle.sfi_host.proofs.Writing.{few}
+use Rattle.sfi_host.proofs.session.Session.get.Goals as goal
+
+pub write-requires-clause-there : goal.write-requires-clause-there
+write-requires-clause-there g c =
+    let call = asked g.M.Memory.bytes c.args.guest.now in
+    let next = c.next_bytes-next.result.now in
+    let less = few c.arg1.result call.a1 (drop c.self.inside.place c.args.input.now) next c.next_bytes-next.ensures c.arg1.ensures in
+    ap (λ a. is_some (bytes_at call.bytes (range_with_len a (length next)))) c.arg0.ensures
+    ∙ fewer_there call.bytes call.a0 call.a1 (length next) c.if-not-may_hand.ensures.there less

@@ -1,0 +1,183 @@
+-- What sandboxes and their host come to under a plan. Each sandbox runs in a memory of its own code and data alone.
+use Rattle.std.specs.Prelude.{ℕ, zero, suc, ◌==◌, cond, Bool, true, false, List, [], ◌∷◌, ◌++◌, map, Option, Some, None, slice_get, slice_set}
+use Rattle.std.specs.FinMap.{from_entries, entries}
+use Rattle.std.specs.Ordering.{nat_cmp}
+use Rattle.rv_mem.specs.Bytes.{Bytes}
+use Rattle.rv_step.specs.State.{Hart, State, register, with_register, behind}
+use Rattle.rv_step.specs.Step.{Stepped, IsStep}
+use Rattle.rv_step.specs.declared.outcome.Outcome.{Outcome}
+use Rattle.rv_step.specs.declared.outcome.Outcome.TheVariants as outcome
+use Rattle.sfi_image.specs.declared.part.Gate.{Gate}
+use Rattle.sfi_host.specs.declared.status.Status.{Status}
+use Rattle.sfi_host.specs.declared.status.Status.TheVariants.{Ready, Exited, Trapped}
+use Rattle.sfi_host.specs.declared.turn.Turn.{Turn}
+use Rattle.sfi_host.specs.Regions.{bytes_in, bytes_outside}
+use Rattle.sfi_host.specs.Slots.{Bounds, Slot, one_more, state_of}
+use Rattle.sfi_host.specs.Hosts.{Call, Way, Replied, Yield, Exit, Reply, Answer, Host, Limited, limited}
+
+-- ---- the machine
+
+-- what each state comes to in one step
+abbrev pub Machine : Type 0
+Machine = State → Stepped
+
+-- it is the manual's step: by the laws of that there is such a function, and no other
+pub record IsMachine (machine : Machine) : Type 0 where
+  pub steps : (s : State) → IsStep s (machine s)
+
+-- ---- calls
+
+-- the service that the gate at an address asks for; 0 where none is listed, which never comes
+abbrev pub service_at : List Gate → ℕ → ℕ
+service_at [] at = 0
+service_at (g ∷ gates) at = cond (g.address == at) g.service (service_at gates at)
+
+-- what the sandbox of that number asks, with a0 and a1 in x10 and x11
+abbrev pub call_of : ℕ → Slot → Call
+call_of i slot = record {
+  caller = i;
+  service = service_at slot.bounds.gates slot.hart.pc;
+  a0 = register slot.hart 10;
+  a1 = register slot.hart 11;
+  bytes = bytes_in slot.bounds.data slot.bytes;
+}
+
+-- the hart with these values of a0 and a1
+abbrev pub with_arguments : Hart → ℕ → ℕ → Hart
+with_arguments h a0 a1 = with_register (with_register h 10 a0) 11 a1
+
+-- the bytes of two memories, those of the first where both have one
+abbrev pub both : Bytes → Bytes → Bytes
+both m w = from_entries {R = nat_cmp} (entries m ++ entries w)
+
+-- a sandbox's bytes with other data
+abbrev pub with_data : Bounds → Bytes → Bytes → Bytes
+with_data b bytes others = both (bytes_in b.data others) (bytes_outside b.data bytes)
+
+-- the pc goes on behind the ecall, or stays at an exit
+abbrev pub after_way : Way → Hart → Hart
+after_way Replied h = behind h 4
+after_way Yield h = behind h 4
+after_way (Exit n) h = h
+
+-- what a sandbox may do behind a reply
+abbrev pub status_after : Way → Status
+status_after Replied = Ready
+status_after Yield = Ready
+status_after (Exit n) = Exited n
+
+-- a sandbox behind a reply, which counts as a step
+abbrev pub replied : Slot → Reply → Slot
+replied slot r = record {
+  bounds = slot.bounds;
+  hart = after_way r.way (with_arguments slot.hart r.a0 r.a1);
+  status = status_after r.way;
+  steps = one_more slot.steps;
+  bytes = with_data slot.bounds slot.bytes r.bytes;
+}
+
+-- ---- one step
+
+-- what comes behind a step: more of its turn, the turn's end, or the end of the whole run
+pub data Then : Type 0 where
+  More TurnEnds RunEnds : Then
+
+-- a sandbox and its host behind a step or a turn, the replies that the sandbox got in it, and what comes then
+pub record Moved (S : Type 0) : Type 0 where
+  pub slot : Slot
+  pub host : S
+  pub replies : List Reply
+  pub next : Then
+
+-- nothing happens, and then this comes
+abbrev pub still : {S : Type 0} → Slot → S → Then → Moved S
+still slot s next = record { slot = slot; host = s; replies = []; next = next }
+
+-- a turn goes on behind a reply, ends at a yield, and at an exit
+abbrev pub then_of : Way → Then
+then_of Replied = More
+then_of Yield = TurnEnds
+then_of (Exit n) = TurnEnds
+
+-- a call that isn't answered ends the run
+abbrev pub after_answer : {S : Type 0} → Slot → S → Option (Answer S) → Moved S
+after_answer slot s None = still slot s RunEnds
+after_answer slot s (Some a) = record { slot = replied slot a.reply; host = a.host; replies = a.reply ∷ []; next = then_of a.reply.way }
+
+-- what a step's outcome makes of the sandbox: a trap isn't counted
+abbrev pub after_step : {S : Type 0} → Host S → ℕ → Slot → S → Outcome → State → Moved S
+after_step host i slot s outcome.Next state =
+    still (record { bounds = slot.bounds; hart = state.hart; status = slot.status; steps = one_more slot.steps; bytes = state.memory }) s More
+after_step host i slot s (outcome.Trap cause at) state =
+    still (record { bounds = slot.bounds; hart = slot.hart; status = Trapped cause at; steps = slot.steps; bytes = slot.bytes }) s TurnEnds
+after_step host i slot s outcome.Call state = after_answer slot s (host s (call_of i slot))
+
+-- a sandbox that isn't ready does nothing
+abbrev pub moved_if : {S : Type 0} → Machine → Host S → ℕ → Slot → S → Status → Moved S
+moved_if machine host i slot s Ready = let r = machine (state_of slot) in after_step host i slot s r.outcome r.state
+moved_if machine host i slot s (Exited n) = still slot s TurnEnds
+moved_if machine host i slot s (Trapped cause at) = still slot s TurnEnds
+
+-- one step of the sandbox of that number
+unfoldable pub moved : {S : Type 0} → Machine → Host S → ℕ → Slot → S → Moved S
+moved machine host i slot s = moved_if machine host i slot s slot.status
+
+-- ---- a turn
+
+-- the same, behind replies that came before
+abbrev pub after_replies : {S : Type 0} → List Reply → Moved S → Moved S
+after_replies earlier m = record { slot = m.slot; host = m.host; replies = earlier ++ m.replies; next = m.next }
+
+-- a step, and what follows it if the turn goes on
+abbrev pub and_more : {S : Type 0} → Then → Moved S → (Slot → S → Moved S) → Moved S
+and_more More m rest = after_replies m.replies (rest m.slot m.host)
+and_more TurnEnds m rest = m
+and_more RunEnds m rest = m
+
+-- at most so many steps
+unfoldable pub turned : {S : Type 0} → Machine → Host S → ℕ → ℕ → Slot → S → Moved S
+turned machine host i zero slot s = still slot s TurnEnds
+turned machine host i (suc k) slot s = let m = moved machine host i slot s in and_more m.next m (turned machine host i k)
+
+-- ---- a plan
+
+-- a reply, and who got it
+pub record Given : Type 0 where
+  pub to : ℕ
+  pub reply : Reply
+
+-- the replies that the sandbox of that number got
+abbrev pub given : ℕ → List Reply → List Given
+given i replies = map (λ r. record { to = i; reply = r }) replies
+
+-- the sandboxes and the host behind a plan, the replies in their order, how many turns were begun, and whether a call ended the run
+pub record Joined (S : Type 0) : Type 0 where
+  pub slots : List Slot
+  pub host : S
+  pub replies : List Given
+  pub turns : ℕ
+  pub is_ended : Bool
+
+-- the same, behind a turn with its replies
+abbrev pub after_turn : {S : Type 0} → List Given → Joined S → Joined S
+after_turn earlier j = record { slots = j.slots; host = j.host; replies = earlier ++ j.replies; turns = suc j.turns; is_ended = j.is_ended }
+
+-- a turn of the sandbox of that number, and what follows it if the run goes on
+abbrev pub and_plan : {S : Type 0} → Then → ℕ → Moved S → List Slot → (List Slot → S → Joined S) → Joined S
+and_plan More i m slots rest = after_turn (given i m.replies) (rest (slice_set slots i m.slot) m.host)
+and_plan TurnEnds i m slots rest = after_turn (given i m.replies) (rest (slice_set slots i m.slot) m.host)
+and_plan RunEnds i m slots rest = record { slots = slice_set slots i m.slot; host = m.host; replies = given i m.replies; turns = 1; is_ended = true }
+
+-- a turn that names no sandbox does nothing
+abbrev pub turn_and : {S : Type 0} → Machine → Host S → Turn → List Slot → S → Option Slot → (List Slot → S → Joined S) → Joined S
+turn_and machine host t slots s None rest = after_turn [] (rest slots s)
+turn_and machine host t slots s (Some slot) rest = let m = turned machine host t.sandbox t.steps slot s in and_plan m.next t.sandbox m slots rest
+
+-- the plan's turns, one after another
+unfoldable pub joined : {S : Type 0} → Machine → Host S → List Turn → List Slot → S → Joined S
+joined machine host [] slots s = record { slots = slots; host = s; replies = []; turns = 0; is_ended = false }
+joined machine host (t ∷ plan) slots s = turn_and machine host t slots s (slice_get slots t.sandbox) (joined machine host plan)
+
+-- what the plan comes to with a host that answers so many calls, or each call: the next call changes nothing and ends the run
+abbrev pub joint : {S : Type 0} → Machine → (S → Call → Answer S) → List Turn → List Slot → S → Option ℕ → Joined (Limited S)
+joint machine answer plan slots s limit = joined machine (limited answer) plan slots (record { host = s; left = limit })

@@ -1,0 +1,16 @@
+pub mod Regions
+pub mod Slots
+pub mod Hosts
+pub mod Guests
+pub mod Answering
+pub mod Consoles
+pub mod Joint
+pub mod Solo
+pub mod Calls
+pub mod Limits
+pub mod Plans
+pub mod Worlds
+pub mod Loading
+pub mod Sandboxes
+pub mod Steps
+pub mod Laws

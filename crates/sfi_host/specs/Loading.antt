@@ -1,0 +1,45 @@
+-- What a world is at first.
+use Rattle.std.specs.Prelude.{◌≡◌, ℕ, ◌+◌, ◌-◌, ◌<◌, List, [], ◌∷◌, ◌++◌, length, replicate, Some, slice_get, slice_index}
+use Rattle.rv_mem.specs.Bytes.{Bytes, byte_at, added}
+use Rattle.rv_step.specs.State.{Hart, with_register}
+use Rattle.sfi_image.specs.Spelling.{Part}
+use Rattle.sfi_check.specs.Runs.{IsEntry}
+use Rattle.sfi_host.specs.declared.status.Status.TheVariants.{Ready}
+use Rattle.sfi_host.specs.Slots.{bounds_of}
+use Rattle.sfi_host.specs.Worlds.{Seat, machine_of}
+
+-- pc at the start, and all registers 0
+abbrev pub bare_hart : Part → Hart
+bare_hart p = record { pc = p.start; registers = replicate 32 0 }
+
+-- the stack pointer x2 lies 16 below the data's end; x24 to x27 hold the code base, the code size less 16, the data base and the data size less 1
+abbrev pub first_hart : Part → Hart
+first_hart p =
+    with_register (with_register (with_register (with_register (with_register (bare_hart p)
+    2 (p.data_base + p.data_size - 16)) 24 p.code_base) 25 (length p.code - 16)) 26 p.data_base) 27 (p.data_size - 1)
+
+-- ready, with no step done
+abbrev pub first_seat : Part → Seat
+first_seat p = record { bounds = bounds_of p; hart = first_hart p; status = Ready; steps = 0 }
+
+-- the data bytes: those of the image, and then zeros
+abbrev pub first_data : Part → List ℕ
+first_data p = p.init ++ replicate (p.data_size - length p.init) 0
+
+-- the memory with a sandbox's code and data
+abbrev pub with_part : Bytes → Part → Bytes
+with_part m p = added (added m p.code_base (length p.code) p.code) p.data_base p.data_size p.init
+
+-- the memory with the code and data of all
+abbrev pub with_parts : Bytes → List Part → Bytes
+with_parts m [] = m
+with_parts m (p ∷ ps) = with_parts (with_part m p) ps
+
+-- each sandbox is entered at its start, as it may be at any bundle
+abbrev pub AreEntered : List Part → Bytes → Type 0
+AreEntered ps m = (i : ℕ) (p : Part) → slice_get ps i ≡ Some p → IsEntry p (machine_of m (first_seat p))
+
+-- each sandbox has its first data
+abbrev pub HaveFirstData : List Part → Bytes → Type 0
+HaveFirstData ps m =
+    (i : ℕ) (p : Part) → slice_get ps i ≡ Some p → (k : ℕ) → k < p.data_size → byte_at m (p.data_base + k) ≡ Some (slice_index (first_data p) k)

@@ -1,0 +1,155 @@
+//! What a host sees of its caller.
+ghost use Rattle.std.specs.Prelude.{◌≡◌, ◌+◌, ◌^◌, ◌≤◌, ◌↔◌, IsTrue, IsSome};
+ghost use Rattle.std.specs.Bool.{OnTrue, OnFalse};
+ghost use Rattle.rv_mem.specs.Bytes.{byte_at};
+ghost use Rattle.sfi_image.specs.Spans.{Holds};
+ghost use Rattle.sfi_host.specs.Regions.{is_in};
+
+use rv_mem::{Memory, Width};
+
+/// What is asked at a gate, and by whom.
+#[derive(Clone, Copy, Debug)]
+pub(crate) struct Request {
+    pub sandbox: u32,
+    pub service: u32,
+    pub a0: u32,
+    pub a1: u32,
+}
+
+/// A sandbox that called a gate: its number, the service that it asks for, its a0 and a1, and its data region in the memory
+/// of all. Contracts see what is asked as a `Call` of `specs/Hosts.antt`.
+#[derive(Drop)]
+pub struct Guest<'a, M: Memory> {
+    memory: &'a mut M,
+    data_base: u32,
+    data_size: u32,
+    request: Request,
+}
+
+impl<'a, M: Memory> Guest<'a, M> {
+    ghost use Rattle.sfi_host.specs.Guests.{data_of, asked, outside, HasData, SameMemory, data_from, with_a0, with_a1, with_byte};
+
+    /// A caller with `data_size` data bytes from `data_base` on.
+    pub(crate) fn new(
+        memory: &'a mut M,
+        data_base: u32,
+        data_size: u32,
+        request: Request,
+    ) -> Guest<'a, M>
+        ensures same_reference { result.memory.ghost_name ≡ memory.entry.ghost_name }
+        ensures memory { M.bytes result.memory.now ≡ M.bytes memory.old }
+        ensures base { result.data_base ≡ data_base }
+        ensures size { result.data_size ≡ data_size }
+        ensures request { result.request ≡ request }
+    {
+        Guest {
+            memory,
+            data_base,
+            data_size,
+            request,
+        }
+    }
+
+    // Whether the address is one of the caller's data region.
+    fn is_data(&self, at: u32) -> bool
+        ensures { result ≡ is_in (data_of self.now) at }
+    {
+        at >= self.data_base
+            && u64::from(at) < u64::from(self.data_base) + u64::from(self.data_size)
+    }
+
+    /// Whether each of the `count` addresses from `at` on is one of its data region. No address is asked for where `count`
+    /// is 0.
+    pub(crate) fn covers(&self, at: u32, count: u32) -> bool
+        requires has_data { HasData M.bytes self.now }
+        ensures there { IsTrue result ↔ IsSome (data_from (asked M.bytes self.now) at count) }
+        ensures end { OnTrue result (at + count ≤ 2 ^ 32) }
+    {
+        if count == 0 {
+            return true;
+        }
+        let end = u64::from(self.data_base) + u64::from(self.data_size);
+        self.data_base <= at && u64::from(at) + u64::from(count) <= end
+    }
+
+    /// The caller's number among the sandboxes.
+    pub fn sandbox(&self) -> u32
+        ensures { result ≡ (asked M.bytes self.now).caller }
+    {
+        self.request.sandbox
+    }
+
+    /// The service of the gate that it called.
+    pub fn service(&self) -> u32
+        ensures { result ≡ (asked M.bytes self.now).service }
+    {
+        self.request.service
+    }
+
+    /// Its a0.
+    pub fn arg0(&self) -> u32
+        ensures { result ≡ (asked M.bytes self.now).a0 }
+    {
+        self.request.a0
+    }
+
+    /// Its a1.
+    pub fn arg1(&self) -> u32
+        ensures { result ≡ (asked M.bytes self.now).a1 }
+    {
+        self.request.a1
+    }
+
+    /// The byte at an address of its data region; `None` for every other address.
+    pub fn byte(&self, at: u32) -> Option<u8>
+        ensures value { result ≡ byte_at (asked M.bytes self.now).bytes at }
+        ensures there { HasData M.bytes self.now → (IsSome result ↔ Holds (data_of self.now) at) }
+    {
+        if !self.is_data(at) {
+            return None;
+        }
+        match self.memory.load(at, Width::One) {
+            None => None,
+            Some(byte) => Some(byte as u8),
+        }
+    }
+
+    /// Writes the byte at an address of its data region; `false` for every other address, and then nothing changed.
+    pub fn put_byte(&mut self, at: u32, byte: u8) -> bool
+        ensures same_reference { SameMemory self.old self.new }
+        ensures done { OnTrue result (asked M.bytes self.new ≡ with_byte (asked M.bytes self.old) at byte) }
+        ensures refused { OnFalse result (asked M.bytes self.new ≡ asked M.bytes self.old) }
+        ensures there { IsTrue result ↔ IsSome (byte_at (asked M.bytes self.old).bytes at) }
+        ensures region { HasData M.bytes self.old → (IsTrue result ↔ Holds (data_of self.old) at) }
+        ensures has_data { HasData M.bytes self.old → HasData M.bytes self.new }
+        ensures outside { outside M.bytes self.new ≡ outside M.bytes self.old }
+        ensures place { data_of self.new ≡ data_of self.old }
+    {
+        if !self.is_data(at) {
+            return false;
+        }
+        self.memory.store(at, Width::One, u32::from(byte))
+    }
+
+    /// Sets its a0.
+    pub fn set0(&mut self, value: u32)
+        ensures same_reference { SameMemory self.old self.new }
+        ensures asked { asked M.bytes self.new ≡ with_a0 (asked M.bytes self.old) value }
+        ensures has_data { HasData M.bytes self.old → HasData M.bytes self.new }
+        ensures outside { outside M.bytes self.new ≡ outside M.bytes self.old }
+        ensures place { data_of self.new ≡ data_of self.old }
+    {
+        self.request.a0 = value;
+    }
+
+    /// Sets its a1.
+    pub fn set1(&mut self, value: u32)
+        ensures same_reference { SameMemory self.old self.new }
+        ensures asked { asked M.bytes self.new ≡ with_a1 (asked M.bytes self.old) value }
+        ensures has_data { HasData M.bytes self.old → HasData M.bytes self.new }
+        ensures outside { outside M.bytes self.new ≡ outside M.bytes self.old }
+        ensures place { data_of self.new ≡ data_of self.old }
+    {
+        self.request.a1 = value;
+    }
+}

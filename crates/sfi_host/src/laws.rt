@@ -1,0 +1,37 @@
+//! What holds of the definitions and of every run. A call costs nothing.
+ghost use Rattle.sfi_host.specs.Laws.{SomeMachine, OneMachine};
+ghost use Rattle.sfi_host.specs.Solo.{JointIsSolo};
+ghost use Rattle.sfi_host.specs.Steps.{StepsAreOwn};
+
+/// There is a machine.
+pub fn some_machine()
+    ensures { SomeMachine }
+{
+    rv_step::laws::some_step();
+}
+
+/// There is one machine alone.
+pub fn one_machine()
+    ensures { OneMachine }
+{
+    rv_step::laws::one_step();
+}
+
+/// What a sandbox comes to among others is what it comes to alone with the replies that it got. `S` is a host's state.
+pub fn joint_is_solo<S>()
+    ensures { JointIsSolo S }
+{}
+
+/// A step of a sandbox that is safe is, alone, the same step in its own memory; it leaves all but its data, and leaves it safe.
+pub fn steps_are_own()
+    ensures { StepsAreOwn }
+{
+    rv_step::laws::agreeing_stands_too();
+    rv_step::laws::agreeing_steps_are_same();
+    rv_step::laws::other_bytes_stay();
+    rv_step::laws::stopped_stays();
+    rv_step::laws::no_byte_goes();
+    rv_step::laws::calls_are_ecalls();
+    sfi_check::laws::safe_turns();
+    sfi_check::laws::safe_stays_safe();
+}

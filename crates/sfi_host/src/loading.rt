@@ -1,0 +1,87 @@
+//! From the parts of an image to sandboxes in a memory.
+ghost use Rattle.std.specs.Prelude.{◌≡◌, IfOk, OnOk, map};
+ghost use Rattle.std.specs.FinMap.{empty};
+ghost use Rattle.rv_step.specs.State.{IsHart};
+ghost use Rattle.sfi_image.specs.Spelling.{view, views};
+ghost use Rattle.sfi_image.specs.Parts.{IsRightPart, IsRightLayout};
+ghost use Rattle.sfi_host.specs.Loading.{first_hart, first_seat, with_part, with_parts};
+ghost use Rattle.sfi_host.specs.Sandboxes.{seat_of, seats_of};
+
+use crate::sandbox::{Sandbox, register};
+use crate::status::Status;
+use rv_mem::Memory;
+use rv_step::Cpu;
+use sfi_image::{Reserved, SandboxPart};
+use std::alloc::{AllocError, Global};
+
+// Adds a sandbox's code and data. All regions lie apart and end within the addresses, so memory alone may be wanting.
+fn add_part<M: Memory>(memory: &mut M, part: &SandboxPart<'_>) -> Result<(), AllocError>
+    requires { IsRightPart (view part.now) }
+    ensures { OnOk result (M.bytes memory.new ≡ with_part (M.bytes memory.old) (view part.now)) }
+{
+    if memory
+        .add(part.code_base, part.code.len() as u32, part.code)
+        .is_err()
+    {
+        return Err(AllocError);
+    }
+    if memory
+        .add(part.data_base, part.data_size, part.init)
+        .is_err()
+    {
+        return Err(AllocError);
+    }
+    Ok(())
+}
+
+// The pc and registers with which a sandbox begins.
+fn first_cpu(part: &SandboxPart<'_>) -> Cpu
+    requires { IsRightPart (view part.now) }
+    ensures { result ≡ first_hart (view part.now) }
+{
+    let reserved = Reserved::of(part);
+    let mut cpu = Cpu::at(part.start).unwrap();
+    cpu.set_reg(register(2), part.data_base + part.data_size - 16);
+    cpu.set_reg(register(24), reserved.code_base);
+    cpu.set_reg(register(25), reserved.code_mask);
+    cpu.set_reg(register(26), reserved.data_base);
+    cpu.set_reg(register(27), reserved.data_mask);
+    cpu
+}
+
+// A sandbox that has done nothing yet.
+fn first_sandbox(alloc: Global, part: &SandboxPart<'_>) -> Result<Sandbox, AllocError>
+    requires { IsRightPart (view part.now) }
+    ensures { IfOk result (λ s. seat_of s ≡ first_seat (view part.now)) }
+{
+    let mut gates = Vec::with_capacity(alloc, part.gates.len())?;
+    gates.extend_from_slice(&part.gates)?;
+    Ok(Sandbox {
+        code_base: part.code_base,
+        code_size: part.code.len() as u32,
+        data_base: part.data_base,
+        data_size: part.data_size,
+        gates,
+        cpu: first_cpu(part),
+        status: Status::Ready,
+        steps: 0,
+    })
+}
+
+/// The sandboxes of an image, with their code and data added to the memory.
+pub fn load_parts<M: Memory>(
+    alloc: Global,
+    parts: &[SandboxPart<'_>],
+    memory: &mut M,
+) -> Result<Vec<Sandbox>, AllocError>
+    requires { IsRightLayout (views parts.now) }
+    ensures seats { IfOk result (λ all. seats_of all.items ≡ map first_seat (views parts.now)) }
+    ensures bytes { OnOk result (M.bytes memory.new ≡ with_parts (M.bytes memory.old) (views parts.now)) }
+{
+    let mut sandboxes = Vec::with_capacity(alloc, parts.len())?;
+    for part in parts {
+        add_part(memory, part)?;
+        sandboxes.push(first_sandbox(alloc, part)?)?;
+    }
+    Ok(sandboxes)
+}

@@ -1,0 +1,67 @@
+//! A plan of turns.
+ghost use Rattle.std.specs.Prelude.{◌≡◌, ℕ};
+ghost use Rattle.sfi_host.specs.Joint.{Machine, IsMachine};
+ghost use Rattle.sfi_host.specs.Limits.{IsPlanStep, IsPlanCut};
+ghost use Rattle.sfi_host.specs.Plans.{IsJoint, IsCutJoint};
+ghost use Rattle.sfi_host.specs.Sandboxes.{world_of};
+ghost use Rattle.sfi_host.specs.Worlds.{slots_of, IsSafeWorld};
+
+use crate::gates::Gates;
+use crate::running::{Ended, run_turn};
+use crate::sandbox::Sandbox;
+use crate::turn::{RunAnswer, Turn};
+use rv_mem::Memory;
+use sfi_check::laws::safe_stays_safe;
+
+// One turn of a plan.
+fn take_turn<M: Memory, G: Gates>(
+    memory: &mut M,
+    sandboxes: &mut [Sandbox],
+    turn: Turn,
+    gates: &mut G,
+) -> Ended
+    requires { IsSafeWorld (world_of (M.bytes memory.old) sandboxes.old) }
+    ensures safe { IsSafeWorld (world_of (M.bytes memory.new) sandboxes.new) }
+    ensures whole { result ≡ Ended.Whole → (machine : Machine) → IsMachine machine
+        → IsPlanStep machine G.answer turn (slots_of (world_of (M.bytes memory.old) sandboxes.old)) gates.old (slots_of (world_of (M.bytes memory.new) sandboxes.new)) gates.new }
+    ensures refused { result ≡ Ended.Refused → (machine : Machine) → IsMachine machine
+        → IsPlanCut machine G.answer G.may_refuse turn (slots_of (world_of (M.bytes memory.old) sandboxes.old)) gates.old (slots_of (world_of (M.bytes memory.new) sandboxes.new)) gates.new }
+{
+    // The law that the contract rests on: this call does nothing.
+    safe_stays_safe();
+
+    let place = turn.sandbox as usize;
+    if place >= sandboxes.len() {
+        return Ended::Whole;
+    }
+    run_turn(
+        memory,
+        &mut sandboxes[place],
+        turn.sandbox,
+        turn.steps,
+        gates,
+    )
+}
+
+/// The turns of a plan, in their order.
+pub fn take_turns<M: Memory, G: Gates>(
+    memory: &mut M,
+    sandboxes: &mut [Sandbox],
+    plan: &[Turn],
+    gates: &mut G,
+) -> RunAnswer
+    requires { IsSafeWorld (world_of (M.bytes memory.old) sandboxes.old) }
+    ensures safe { IsSafeWorld (world_of (M.bytes memory.new) sandboxes.new) }
+    ensures done { result ≡ RunAnswer.Done → (machine : Machine) → IsMachine machine
+        → IsJoint machine G.answer plan.now (slots_of (world_of (M.bytes memory.old) sandboxes.old)) gates.old (slots_of (world_of (M.bytes memory.new) sandboxes.new)) gates.new }
+    ensures refused { (place : ℕ) → result ≡ RunAnswer.Memory place → (machine : Machine) → IsMachine machine
+        → IsCutJoint machine G.answer G.may_refuse plan.now (slots_of (world_of (M.bytes memory.old) sandboxes.old)) gates.old place (slots_of (world_of (M.bytes memory.new) sandboxes.new)) gates.new }
+{
+    for place in 0..plan.len() {
+        match take_turn(memory, sandboxes, plan[place], gates) {
+            Ended::Whole => {}
+            Ended::Refused => return RunAnswer::Memory { turn: place },
+        }
+    }
+    RunAnswer::Done
+}

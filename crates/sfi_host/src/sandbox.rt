@@ -1,0 +1,29 @@
+//! One sandbox of a world.
+ghost use Rattle.std.specs.Prelude.{◌≡◌, ◌<◌};
+
+use crate::status::Status;
+use rv_step::Cpu;
+use rv_word::Reg;
+use sfi_image::Gate;
+
+/// Where a sandbox lies, its pc and registers, what it may still do, and how many steps it did. Its bytes lie in the world's
+/// memory.
+#[derive(Drop)]
+pub struct Sandbox {
+    pub code_base: u32,
+    pub code_size: u32,
+    pub data_base: u32,
+    pub data_size: u32,
+    pub gates: Vec<Gate>,
+    pub cpu: Cpu,
+    pub status: Status,
+    pub steps: u64,
+}
+
+/// The register of that number.
+pub fn register(number: u8) -> Reg
+    requires { number < 32 }
+    ensures { result ≡ number }
+{
+    Reg::new(number).unwrap()
+}

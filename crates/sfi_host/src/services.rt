@@ -1,0 +1,9 @@
+//! The services of a console, by the numbers that a gate asks with.
+
+pub const EXIT: u32 = 0;
+
+pub const PUT: u32 = 1;
+
+pub const GET: u32 = 2;
+
+pub const YIELD: u32 = 3;

@@ -1,0 +1,138 @@
+//! Worlds.
+ghost use Rattle.std.specs.Prelude.{◌≡◌, ◌↔◌, ℕ, map, slice_get, IfOk, IsSome, Some};
+ghost use Rattle.std.specs.FinMap.{empty};
+ghost use Rattle.rv_mem.specs.Bytes.{byte_at};
+ghost use Rattle.sfi_image.specs.Spans.{Holds};
+ghost use Rattle.sfi_host.specs.Regions.{bytes_in, is_in, IsWhole};
+ghost use Rattle.sfi_host.specs.Sandboxes.{region};
+ghost use Rattle.sfi_host.specs.Joint.{Machine, IsMachine};
+ghost use Rattle.sfi_host.specs.Plans.{IsJoint, IsCutJoint};
+ghost use Rattle.sfi_host.specs.Slots.{Slot};
+ghost use Rattle.sfi_host.specs.Loading.{first_seat, with_parts, AreEntered, HaveFirstData};
+ghost use Rattle.sfi_host.specs.Worlds.{slots_of, status_at, steps_at, data_byte_of, IsSafeWorld};
+
+use crate::gates::Gates;
+use crate::loading::load_parts;
+use crate::plan::take_turns;
+use crate::sandbox::Sandbox;
+use crate::status::Status;
+use crate::turn::{RunAnswer, Turn};
+use rv_mem::laws::{addresses_are_these, others_stay, written_is_there};
+use rv_mem::{Memory, Width};
+use sfi_check::Accepted;
+use sfi_image::code_ends;
+use std::alloc::{AllocError, Global};
+use std::marker::Model;
+
+/// The sandboxes of an accepted image, in one memory. Contracts see the memory's bytes and what there is of each sandbox beside
+/// them; the type keeps that each is safe, whatever it does and whatever the others do.
+#[derive(Drop)]
+pub struct World<M: Memory> {
+    memory: M,
+    sandboxes: Vec<Sandbox>,
+}
+
+impl<M: Memory> Model for World<M> {
+    ghost use Rattle.std.specs.Coded.{codes, coded_ℕ};
+    ghost use Rattle.std.specs.FinMap as map;
+    ghost use Rattle.std.specs.Ordering.{nat_cmp};
+    ghost use Rattle.sfi_host.specs.Worlds.{Sandboxes};
+
+    ghost Value = { Sandboxes };
+
+    ghost coded = { Prim.hlevel (codes, map.code {R = nat_cmp} coded_ℕ coded_ℕ) };
+
+    ghost use Rattle.sfi_host.specs.Sandboxes.{world_of};
+    ghost use Rattle.sfi_host.specs.Worlds.{IsSafeWorld};
+
+    ghost view = { λ w. world_of (M.bytes w.memory) w.sandboxes.items };
+
+    ghost invariant = { λ w. IsSafeWorld (world_of (M.bytes w.memory) w.sandboxes.items) };
+}
+
+impl<M: Memory> World<M> {
+    /// The world of an image, before any turn. Where memory is wanting there is none, and the memory handed in is given up.
+    pub fn load(alloc: Global, accepted: &Accepted<'_>, memory: M) -> Result<World<M>, AllocError>
+        requires { M.bytes memory ≡ empty }
+        ensures seats { IfOk result (λ w. w.seats ≡ map first_seat accepted.now) }
+        ensures bytes { IfOk result (λ w. w.bytes ≡ with_parts empty accepted.now) }
+
+        // What that comes to: each sandbox is where it may be entered, so its code is the image's and its guard zones are empty.
+        ensures entered { IfOk result (λ w. AreEntered accepted.now w.bytes) }
+        ensures first_data { IfOk result (λ w. HaveFirstData accepted.now w.bytes) }
+    {
+        // The laws that the contract rests on: these calls do nothing.
+        addresses_are_these();
+        others_stay();
+        written_is_there();
+        code_ends();
+
+        let mut memory = memory;
+        let sandboxes = load_parts(alloc, accepted.image().parts(), &mut memory)?;
+        Ok(World { memory, sandboxes })
+    }
+
+    /// Takes the turns of a plan in their order. A turn repeats steps of its sandbox until its allowance is used, the sandbox is ready
+    /// no more, or the host answers Yield. Where the host has no memory for a reply the plan ends in that turn, at that call, and all
+    /// that was done before stands. What is said of runs holds of the machine, which is one function.
+    pub fn run_plan<G: Gates>(&mut self, plan: &[Turn], gates: &mut G) -> RunAnswer
+        ensures done { result ≡ RunAnswer.Done → (machine : Machine) → IsMachine machine
+            → IsJoint machine G.answer plan.now (slots_of self.old) gates.old (slots_of self.new) gates.new }
+        ensures memory { (turn : ℕ) → result ≡ RunAnswer.Memory turn → (machine : Machine) → IsMachine machine
+            → IsCutJoint machine G.answer G.may_refuse plan.now (slots_of self.old) gates.old turn (slots_of self.new) gates.new }
+    {
+        take_turns(&mut self.memory, &mut self.sandboxes, plan, gates)
+    }
+
+    /// What the sandbox of that number may still do; `None` where there is none.
+    pub fn status(&self, i: u32) -> Option<Status>
+        ensures { result ≡ status_at (slots_of self.now) i }
+    {
+        match self.sandboxes.get(i as usize) {
+            None => None,
+            Some(sandbox) => Some(sandbox.status),
+        }
+    }
+
+    /// How many steps it did, at most 2^64 - 1; `None` where there is none.
+    pub fn steps(&self, i: u32) -> Option<u64>
+        ensures { result ≡ steps_at (slots_of self.now) i }
+    {
+        match self.sandboxes.get(i as usize) {
+            None => None,
+            Some(sandbox) => Some(sandbox.steps),
+        }
+    }
+
+    /// The byte at an address of its data region; `None` where there is no such sandbox, or the address lies elsewhere.
+    pub fn data_byte(&self, i: u32, at: u32) -> Option<u8>
+        ensures value { result ≡ data_byte_of (slice_get (slots_of self.now) i) at }
+        ensures there { IsSome result ↔ ((s : Slot) × (slice_get (slots_of self.now) i ≡ Some s) × Holds s.bounds.data at) }
+    {
+        match self.sandboxes.get(i as usize) {
+            None => None,
+            Some(sandbox) => byte_in(&self.memory, sandbox.data_base, sandbox.data_size, at),
+        }
+    }
+}
+
+// Whether the address is one of so many from a first one on.
+fn holds(base: u32, size: u32, at: u32) -> bool
+    ensures { result ≡ is_in (region base size) at }
+{
+    at >= base && at - base < size
+}
+
+// The byte at an address, if it is one of so many from a first one on.
+fn byte_in<M: Memory>(memory: &M, base: u32, size: u32, at: u32) -> Option<u8>
+    ensures value { result ≡ byte_at (bytes_in (region base size) (M.bytes memory.now)) at }
+    ensures there { IsWhole (region base size) (M.bytes memory.now) → (IsSome result ↔ Holds (region base size) at) }
+{
+    if !holds(base, size, at) {
+        return None;
+    }
+    match memory.load(at, Width::One) {
+        None => None,
+        Some(byte) => Some(byte as u8),
+    }
+}
