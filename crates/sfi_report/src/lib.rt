@@ -1,2 +1,17 @@
-//! The report of findings and the listing of an image.
+//! The report on an image's findings, and the listing of an image.
+//!
+//! [`report_text`] writes a line for each finding, with the instruction that stands there. [`listing_text`] writes each
+//! sandbox's fields, its gates, and its code as instructions, bundle by bundle, as the rules read it. `specs/Report.antt`
+//! and `specs/Listing.antt` are these texts.
 #![tactic(auto)]
+
+mod digits;
+pub mod laws;
+mod listing;
+mod report;
+
+pub use listing::listing_text;
+pub use report::report_text;
+
+#[cfg(test)]
+mod tests;

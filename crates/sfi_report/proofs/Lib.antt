@@ -1,0 +1,6 @@
+pub mod Padding
+pub mod Lines
+pub mod Sandboxes
+pub mod Places
+pub mod Reports
+pub mod OneText

@@ -1,0 +1,129 @@
+-- The lines of a bundle: each instruction goes before the lines of what is behind it.
+use Rattle.std.proofs.Common.{◌≡◌, ℕ, ◌+◌, ◌-◌, ◌%◌, ◌≤◌, List, [], ◌∷◌, ◌++◌, length, take, drop, refl, sym, ap, ◌∙◌, subst, inl, inr, arith, append_assoc, length-drop}
+use Rattle.std.proofs.lemmas.List.{length-take, append-nil, drop-drop, take_all, drop_all}
+use Rattle.rv_word.specs.declared.instr.Instr.{Instr}
+use Rattle.rv_comp.specs.Fronts.{Spells}
+use Rattle.rv_comp.specs.declared.front.Front.TheVariants.{Read}
+use Rattle.sfi_scan.specs.Readings.{Piece, IsReading, IsLongestReading}
+use Rattle.sfi_report.specs.Listing.{instruction_line, rest_line, IsBundleListing}
+use Rattle.sfi_report.specs.Added.{Adds}
+
+-- ---- spellings
+
+-- a spelling has two bytes or four
+pub spell_size : (bytes : List ℕ) (i : Instr) (n : ℕ) → Spells bytes i n → (n ≡ length bytes) × (2 ≤ n) × (n ≤ 4)
+spell_size bytes i n (inl s) = let size = s.size in let all = s.all in (omega arith, omega arith, omega arith)
+spell_size bytes i n (inr s) = let size = s.size in let all = s.all in (omega arith, omega arith, omega arith)
+
+pub spell_even : (bytes : List ℕ) (i : Instr) (n : ℕ) → Spells bytes i n → n % 2 ≡ 0
+spell_even bytes i n (inl s) = rw s.size refl
+spell_even bytes i n (inr s) = rw s.size refl
+
+-- what is spelled at the front is there whole
+pub spell_fits : (bytes : List ℕ) (i : Instr) (n : ℕ) → Spells (take n bytes) i n → (2 ≤ n) × (n ≤ length bytes)
+spell_fits bytes i n s = let size = spell_size (take n bytes) i n s in let cut = length-take n bytes in (size.1, omega (arith, size.0, cut))
+
+-- ---- longest readings
+
+same_piece : (i j : Instr) (m n : ℕ) → Read i n ≡ Read j m → (i ≡ j) × (n ≡ m)
+same_piece i j m n e = (cc, cc)
+
+-- the only piece that can stand at the front, and a longest reading behind it
+longer : (bytes : List ℕ) (i : Instr) (n : ℕ) (later : List Piece) → Spells (take n bytes) i n
+    → ((j : Instr) (m : ℕ) → Spells (take m bytes) j m → Read i n ≡ Read j m)
+    → IsLongestReading (drop n bytes) later → IsLongestReading bytes (record { instr = i; size = n } ∷ later)
+longer bytes i n later s only h = record { is_reading = (s, h.is_reading); longest = most }
+  where
+    most : (other : List Piece) → IsReading bytes other → length other ≤ length (record { instr = i; size = n } ∷ later)
+    most [] g = omega arith
+    most (y ∷ other) g =
+        let e = same_piece i y.instr y.size n (only y.instr y.size g.0) in
+        let k = h.longest other (subst (λ m. IsReading (drop m bytes) other) (sym e.1) g.1) in
+        omega arith
+
+-- where nothing is spelled, the longest reading has no pieces
+longest_of_stuck : (bytes : List ℕ) → ((i : Instr) (n : ℕ) → Spells (take n bytes) i n → ⊥) → IsLongestReading bytes []
+longest_of_stuck bytes stuck = record { is_reading = tt; longest = most }
+  where
+    most : (other : List Piece) → IsReading bytes other → length other ≤ 0
+    most [] h = omega arith
+    most (x ∷ other) h = absurd (stuck x.instr x.size h.0)
+
+-- ---- lines
+
+line_then : (at : ℕ) (bytes : List ℕ) (i : Instr) (n : ℕ) (rest : List ℕ) → Spells (take n bytes) i n
+    → ((j : Instr) (m : ℕ) → Spells (take m bytes) j m → Read i n ≡ Read j m)
+    → IsBundleListing (at + n) (drop n bytes) rest → IsBundleListing at bytes (instruction_line at (take n bytes) i ++ rest)
+line_then at bytes i n rest s only h =
+    record {
+      reading = record { instr = i; size = n } ∷ h.reading;
+      longest = longer bytes i n h.reading s only h.longest;
+      text_is = ap (λ t. instruction_line at (take n bytes) i ++ t) h.text_is;
+    }
+
+stuck_lines : (at : ℕ) (bytes : List ℕ) → ((i : Instr) (n : ℕ) → Spells (take n bytes) i n → ⊥) → IsBundleListing at bytes (rest_line at bytes)
+stuck_lines at bytes stuck = record { reading = []; longest = longest_of_stuck bytes stuck; text_is = refl }
+
+-- ---- the walk over a bundle
+
+-- at this place, with these lines so far
+pub record Leads (address : ℕ) (bytes : List ℕ) (at : ℕ) (old new : List ℕ) : Type 0 where
+  pub lines : List ℕ
+  pub new_is : new ≡ old ++ lines
+  pub within : at ≤ 16
+  pub leads : (rest : List ℕ) → IsBundleListing (address + at) (drop at bytes) rest → IsBundleListing address bytes (lines ++ rest)
+
+pub at_first : (address : ℕ) (bytes old : List ℕ) → Leads address bytes 0 old old
+at_first address bytes old = record {
+  lines = [];
+  new_is = sym (append-nil old);
+  within = omega arith;
+  leads = λ rest h. subst (λ a. IsBundleListing a bytes rest) (let same : address + 0 ≡ address = omega arith in same) h;
+}
+
+-- what is left of the bundle, as a slice of its 16 bytes
+pub rest_is : (at : ℕ) (bytes : List ℕ) → length bytes ≡ 16 → take (16 - at) (drop at bytes) ≡ drop at bytes
+rest_is at bytes e = take_all (16 - at) (drop at bytes) (omega (arith, length-drop at bytes))
+
+pub next : (address : ℕ) (bytes : List ℕ) (at n : ℕ) (i : Instr) (rest old new more : List ℕ) → length bytes ≡ 16 → rest ≡ drop at bytes
+    → Leads address bytes at old new
+    → Spells (take n rest) i n
+    → ((j : Instr) (m : ℕ) → Spells (take m rest) j m → Read i n ≡ Read j m)
+    → more ≡ new ++ instruction_line (address + at) (take n rest) i
+    → Leads address bytes (at + n) old more
+next address bytes at n i rest old new more count is so_far s only e =
+    let line = instruction_line (address + at) (take n rest) i in
+    record {
+      lines = so_far.lines ++ line;
+      new_is = e ∙ ap (λ t. t ++ line) so_far.new_is ∙ append_assoc old so_far.lines line;
+      within = omega (arith, spell_fits rest i n s, ap length is, length-drop at bytes, so_far.within);
+      leads = λ later h.
+          let moved = subst (λ a. IsBundleListing a (drop (at + n) bytes) later) (let same : address + (at + n) ≡ address + at + n = omega arith in same) h in
+          let left : drop (at + n) bytes ≡ drop n rest = sym (drop-drop n at bytes) ∙ ap (drop n) (sym is) in
+          let here = subst (λ (b : List ℕ). IsBundleListing (address + at + n) b later) left moved in
+          let lines = line_then (address + at) rest i n later s only here in
+          let lines' = subst (λ (b : List ℕ). IsBundleListing (address + at) b (line ++ later)) is lines in
+          subst (λ (t : List ℕ). IsBundleListing address bytes t) (sym (append_assoc so_far.lines line later)) (so_far.leads (line ++ later) lines');
+    }
+
+-- where nothing is spelled
+pub at_rest : (address : ℕ) (bytes : List ℕ) (at : ℕ) (rest old new more : List ℕ) → rest ≡ drop at bytes
+    → Leads address bytes at old new
+    → ((i : Instr) (n : ℕ) → Spells (take n rest) i n → ⊥)
+    → more ≡ new ++ rest_line (address + at) rest
+    → Adds old more (IsBundleListing address bytes)
+at_rest address bytes at rest old new more is so_far stuck e =
+    let line = rest_line (address + at) rest in
+    let lines = subst (λ (b : List ℕ). IsBundleListing (address + at) b line) is (stuck_lines (address + at) rest stuck) in
+    record {
+      text = so_far.lines ++ line;
+      text_is = so_far.leads line lines;
+      new_is = e ∙ ap (λ t. t ++ line) so_far.new_is ∙ append_assoc old so_far.lines line;
+    }
+
+-- behind the last byte
+pub at_last : (address : ℕ) (bytes : List ℕ) (at : ℕ) (old new : List ℕ) → length bytes ≡ 16 → 16 ≤ at
+    → Leads address bytes at old new → Adds old new (IsBundleListing address bytes)
+at_last address bytes at old new count over so_far =
+    let none : [] ≡ drop at bytes = sym (drop_all at bytes (omega arith)) in
+    at_rest address bytes at [] old new new none so_far (λ i n s. let fits = spell_fits [] i n s in omega arith) (sym (append-nil new))

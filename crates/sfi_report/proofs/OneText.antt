@@ -1,0 +1,79 @@
+-- Findings have one report, and an image has one listing.
+use Rattle.std.proofs.Common.{◌≡◌, ℕ, zero, suc, ◌+◌, ◌-◌, ◌*◌, List, [], ◌∷◌, ◌++◌, take, drop, sym, ap, ◌∙◌, subst, arith, get_or-take, Some}
+use Rattle.std.specs.List.{flat_map}
+use Rattle.rv_comp.specs.Laws.{OneSpelling}
+use Rattle.rv_text.specs.Printed.{printed}
+use Rattle.sfi_image.specs.Spelling.{Part}
+use Rattle.sfi_scan.specs.declared.finding.Finding.{Finding}
+use Rattle.sfi_scan.specs.declared.rule.Rule.{Rule}
+use Rattle.sfi_scan.specs.declared.rule.Rule.TheVariants.{V1, V2, V3, V4, V5, V6, V7, V8, V9}
+use Rattle.sfi_scan.specs.Bundles.{bundle_bytes}
+use Rattle.sfi_scan.specs.Laws.{OneLongestReading}
+use Rattle.sfi_report.specs.Digits.{line_end}
+use Rattle.sfi_report.specs.Report.{IsInstructionText, IsPlaceText, line_front, IsFindingLine}
+use Rattle.sfi_report.specs.Listing.{reading_lines, sandbox_line, gate_line, IsBundleListing, IsListingOfFirst, IsCodeListing, IsSandboxListing, IsListingFrom}
+use Rattle.sfi_report.specs.Laws.{OneReport, OneListing}
+
+-- ---- reports
+
+one_instruction : OneSpelling → (code text other : List ℕ) → IsInstructionText code text → IsInstructionText code other → text ≡ other
+one_instruction law code text other a b =
+    let same = law (take a.1 code) (take b.1 code) a.0 b.0 a.1 b.1 a.2 b.2 (λ k h g. get_or-take a.1 code k 0 h ∙ sym (get_or-take b.1 code k 0 g)) in
+    a.3 ∙ ap printed same.0 ∙ sym b.3
+
+one_place : OneSpelling → (rule : Rule) (code text other : List ℕ) → IsPlaceText rule code text → IsPlaceText rule code other → text ≡ other
+one_place law V1 code text other a b = a ∙ sym b
+one_place law V2 code text other a b = a ∙ sym b
+one_place law V3 code text other a b = one_instruction law code text other a b
+one_place law V4 code text other a b = one_instruction law code text other a b
+one_place law V5 code text other a b = one_instruction law code text other a b
+one_place law V6 code text other a b = one_instruction law code text other a b
+one_place law V7 code text other a b = one_instruction law code text other a b
+one_place law V8 code text other a b = one_instruction law code text other a b
+one_place law V9 code text other a b = a ∙ sym b
+
+one_line : OneSpelling → (ps : List Part) (f : Finding) (line other : List ℕ) → IsFindingLine ps f line → IsFindingLine ps f other → line ≡ other
+one_line law ps f line other a b =
+    let whole : Some b.part ≡ Some a.part = sym b.part_is ∙ a.part_is in
+    let part : b.part ≡ a.part = cc in
+    let placed = subst (λ (p : Part). IsPlaceText f.rule (drop (f.address - p.code_base) p.code) b.place) part b.place_is in
+    let place = one_place law f.rule (drop (f.address - a.part.code_base) a.part.code) a.place b.place a.place_is placed in
+    a.line_is ∙ ap (λ t. line_front f ++ t ++ line_end) place ∙ sym b.line_is
+
+pub one_report : OneSpelling → OneReport
+one_report law ps [] text other a b = a ∙ sym b
+one_report law ps (f ∷ found) text other a b =
+    let line = one_line law ps f a.0 b.0 a.2 b.2 in
+    let rest = one_report law ps found a.1 b.1 a.3 b.3 in
+    a.4 ∙ ap (λ l. l ++ a.1) line ∙ ap (λ l. b.0 ++ l) rest ∙ sym b.4
+
+-- ---- listings
+
+one_bundle : OneLongestReading → (at : ℕ) (bytes text other : List ℕ) → IsBundleListing at bytes text → IsBundleListing at bytes other → text ≡ other
+one_bundle law at bytes text other a b = a.text_is ∙ ap (reading_lines at bytes) (law bytes a.reading b.reading a.longest b.longest) ∙ sym b.text_is
+
+one_of_first : OneLongestReading → (p : Part) (n : ℕ) (text other : List ℕ) → IsListingOfFirst p n text → IsListingOfFirst p n other → text ≡ other
+one_of_first law p zero text other a b = a ∙ sym b
+one_of_first law p (suc n) text other a b =
+    let front = one_of_first law p n a.0 b.0 a.2 b.2 in
+    let last = one_bundle law (p.code_base + 16 * n) (bundle_bytes p n) a.1 b.1 a.3 b.3 in
+    a.4 ∙ ap (λ l. l ++ a.1) front ∙ ap (λ l. b.0 ++ l) last ∙ sym b.4
+
+one_code : OneLongestReading → (p : Part) (text other : List ℕ) → IsCodeListing p text → IsCodeListing p other → text ≡ other
+one_code law p text other a b =
+    let same : a.bundles ≡ b.bundles = let e = a.whole in let f = b.whole in omega arith in
+    one_of_first law p b.bundles text other (subst (λ n. IsListingOfFirst p n text) same a.text_is) b.text_is
+
+one_sandbox : OneLongestReading → (sandbox : ℕ) (p : Part) (text other : List ℕ) → IsSandboxListing sandbox p text → IsSandboxListing sandbox p other → text ≡ other
+one_sandbox law sandbox p text other a b =
+    a.text_is ∙ ap (λ l. sandbox_line sandbox p ++ flat_map gate_line p.gates ++ l) (one_code law p a.code b.code a.code_is b.code_is) ∙ sym b.text_is
+
+one_from : OneLongestReading → (sandbox : ℕ) (ps : List Part) (text other : List ℕ) → IsListingFrom sandbox ps text → IsListingFrom sandbox ps other → text ≡ other
+one_from law sandbox [] text other a b = a ∙ sym b
+one_from law sandbox (p ∷ ps) text other a b =
+    let front = one_sandbox law sandbox p a.0 b.0 a.2 b.2 in
+    let rest = one_from law (sandbox + 1) ps a.1 b.1 a.3 b.3 in
+    a.4 ∙ ap (λ l. l ++ a.1) front ∙ ap (λ l. b.0 ++ l) rest ∙ sym b.4
+
+pub one_listing : OneLongestReading → OneListing
+one_listing law ps text other a b = one_from law 0 ps text other a b

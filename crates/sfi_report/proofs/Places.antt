@@ -1,0 +1,236 @@
+-- Each finding stands at a place of a part: what the code begins with there.
+use Rattle.std.proofs.Common.{◌≡◌, ℕ, zero, suc, ◌+◌, ◌-◌, ◌*◌, ◌%◌, ◌≤◌, Bool, true, false, cond, List, [], ◌∷◌, length, take, drop, refl, sym, ap, ◌∙◌, subst, inl, inr, arith, length-drop}
+use Rattle.std.specs.Prelude.{Some, slice_get}
+use Rattle.std.specs.Int.{w16, from_le_bytes}
+use Rattle.std.specs.List.{All}
+use Rattle.std.proofs.lemmas.List.{length-take, drop-drop, drop-take, take-take}
+use Rattle.std.proofs.lemmas.List.Elements.{All-append}
+use Rattle.rv_word.specs.declared.instr.Instr.{Instr}
+use Rattle.rv_word.specs.declared.length.Length.{Length}
+use Rattle.rv_word.specs.declared.length.Length.TheVariants as lengths
+use Rattle.rv_word.specs.Lengths.{length_of}
+use Rattle.rv_comp.specs.Fronts.{Spells}
+use Rattle.sfi_image.specs.Spelling.{Part}
+use Rattle.sfi_scan.specs.declared.bundle.BundlePlace.{BundlePlace}
+use Rattle.sfi_scan.specs.declared.rule.Rule.{Rule}
+use Rattle.sfi_scan.specs.declared.rule.Rule.TheVariants.{V1, V2, V3, V4, V5, V6, V7, V8, V9}
+use Rattle.sfi_scan.specs.declared.finding.Finding.{Finding}
+use Rattle.sfi_scan.specs.Bundles.{place_of, bundle_bytes}
+use Rattle.sfi_scan.specs.Readings.{Piece, IsReading, rest_of}
+use Rattle.sfi_scan.specs.Rules.{Place, breaks}
+use Rattle.sfi_scan.specs.Findings.{broken, lowest, all_rules, findings_from, rest_finding, rule_of_length, AreBundleFindings, AreFindingsOfFirst, AreFindings, AreFindingsFrom, AreImageFindings}
+use Rattle.sfi_report.specs.Added.{SpellsFirst, IsPlace, Stands}
+use Rattle.sfi_report.proofs.Lines.{spell_even, spell_fits}
+
+-- the finding is one of the sandbox, so many bytes behind the address, where these bytes are
+pub record StandsIn (sandbox at : ℕ) (bytes : List ℕ) (f : Finding) : Type 0 where
+  pub offset : ℕ
+  pub sandbox_is : f.sandbox ≡ sandbox
+  pub address_is : f.address ≡ at + offset
+  pub within : offset ≤ length bytes
+  pub place : IsPlace f.rule (drop offset bytes)
+
+-- ---- in a bundle
+
+-- a rule that is broken where an instruction stands
+lowest_stands : (P : Finding → Type 0) (x : Place)
+    → P (broken x.bundle x.address V3) → P (broken x.bundle x.address V4) → P (broken x.bundle x.address V5)
+    → P (broken x.bundle x.address V6) → P (broken x.bundle x.address V7) → P (broken x.bundle x.address V8)
+    → All P (lowest x all_rules)
+lowest_stands P x v3 v4 v5 v6 v7 v8 =
+    choose (breaks x V3) V3 _ v3 (choose (breaks x V4) V4 _ v4 (choose (breaks x V5) V5 _ v5 (choose (breaks x V6) V6 _ v6 (choose (breaks x V7) V7 _ v7 (choose (breaks x V8) V8 _ v8 none)))))
+  where
+    none : All P []
+    none = λ k d h. absurd (omega arith)
+
+    one : (f : Finding) → P f → All P (f ∷ [])
+    one f p zero d h = p
+    one f p (suc k) d h = absurd (omega arith)
+
+    choose : (b : Bool) (rule : Rule) (rest : List Finding) → P (broken x.bundle x.address rule) → All P rest → All P (cond b (broken x.bundle x.address rule ∷ []) rest)
+    choose true rule rest p h = one (broken x.bundle x.address rule) p
+    choose false rule rest p h = h
+
+-- at the places of a reading
+reading_stands : (b : BundlePlace) (whole : Bool) (at : ℕ) (earlier : List Instr) (rest : List ℕ) (reading : List Piece) → IsReading rest reading
+    → All (StandsIn b.sandbox at rest) (findings_from b whole at earlier reading)
+reading_stands b whole at earlier rest [] h = λ k d g. absurd (omega arith)
+reading_stands b whole at earlier rest (x ∷ later) h =
+    All-append (StandsIn b.sandbox at rest) (lowest (record { bundle = b; address = at; earlier = earlier; instr = x.instr; later = later; whole = whole }) all_rules) (findings_from b whole (at + x.size) (x.instr ∷ earlier) later)
+    (lowest_stands (StandsIn b.sandbox at rest) (record { bundle = b; address = at; earlier = earlier; instr = x.instr; later = later; whole = whole })
+    (here V3 first) (here V4 first) (here V5 first) (here V6 first) (here V7 first) (here V8 first))
+    (λ k d g. behind _ (reading_stands b whole (at + x.size) (x.instr ∷ earlier) (drop x.size rest) later h.1 k d g))
+  where
+    first : SpellsFirst rest
+    first = record { instr = x.instr; size = x.size; spelled = h.0 }
+
+    here : (rule : Rule) → IsPlace rule rest → StandsIn b.sandbox at rest (broken b at rule)
+    here rule place = record { offset = 0; sandbox_is = refl; address_is = omega arith; within = omega arith; place = place }
+
+    behind : (f : Finding) → StandsIn b.sandbox (at + x.size) (drop x.size rest) f → StandsIn b.sandbox at rest f
+    behind f s =
+        let fits = spell_fits rest x.instr x.size h.0 in
+        record {
+          offset = x.size + s.offset;
+          sandbox_is = s.sandbox_is;
+          address_is = omega (arith, s.address_is);
+          within = omega (arith, s.within, length-drop x.size rest, fits.1);
+          place = subst (λ (code : List ℕ). IsPlace f.rule code) (drop-drop s.offset x.size rest) s.place;
+        }
+
+-- where a reading ends
+record EndsAt (bytes rest : List ℕ) : Type 0 where
+  count : ℕ
+  rest_is : rest ≡ drop count bytes
+  within : count ≤ length bytes
+  even : count % 2 ≡ 0
+
+ends_at : (bytes : List ℕ) (reading : List Piece) → IsReading bytes reading → EndsAt bytes (rest_of bytes reading)
+ends_at bytes [] h = record { count = 0; rest_is = refl; within = omega arith; even = refl }
+ends_at bytes (x ∷ reading) h =
+    let fits = spell_fits bytes x.instr x.size h.0 in
+    let end = ends_at (drop x.size bytes) reading h.1 in
+    record {
+      count = x.size + end.count;
+      rest_is = end.rest_is ∙ drop-drop end.count x.size bytes;
+      within = omega (arith, end.within, length-drop x.size bytes, fits.1);
+      even = omega (arith, end.even, spell_even (take x.size bytes) x.instr x.size h.0);
+    }
+
+half_place : (l : Length) (code : List ℕ) → 2 ≤ length code → IsPlace (rule_of_length l) code
+half_place lengths.Short code h = h
+half_place lengths.Wide code h = h
+half_place lengths.Longer code h = h
+
+rest_stands : (b : BundlePlace) (at base : ℕ) (bytes rest : List ℕ) (offset : ℕ) → rest ≡ drop offset bytes → at ≡ base + offset → offset ≤ length bytes → length rest % 2 ≡ 0
+    → All (StandsIn b.sandbox base bytes) (rest_finding b at rest)
+rest_stands b at base bytes rest offset is at_is within even = stands rest is even
+  where
+    there : (rule : Rule) (code : List ℕ) → code ≡ drop offset bytes → IsPlace rule code → All (StandsIn b.sandbox base bytes) (broken b at rule ∷ [])
+    there rule code e place zero d g =
+        record { offset = offset; sandbox_is = refl; address_is = at_is; within = within; place = subst (λ (l : List ℕ). IsPlace rule l) e place }
+    there rule code e place (suc k) d g = absurd (omega arith)
+
+    stands : (code : List ℕ) → code ≡ drop offset bytes → length code % 2 ≡ 0 → All (StandsIn b.sandbox base bytes) (rest_finding b at code)
+    stands [] e two = λ k d g. absurd (omega arith)
+    stands (x ∷ []) e two = absurd (let one : 1 % 2 ≡ 0 = two in omega arith)
+    stands (x ∷ y ∷ []) e two =
+        there (rule_of_length (length_of (from_le_bytes w16 (x ∷ y ∷ [])))) (x ∷ y ∷ []) e (half_place (length_of (from_le_bytes w16 (x ∷ y ∷ []))) (x ∷ y ∷ []) (omega arith))
+    stands (x ∷ y ∷ z ∷ code) e two = there V1 (x ∷ y ∷ z ∷ code) e (omega arith)
+
+bundle_stands : (b : BundlePlace) (bytes : List ℕ) (found : List Finding) → length bytes ≡ 16 → AreBundleFindings b bytes found → All (StandsIn b.sandbox b.address bytes) found
+bundle_stands b bytes found count (inl gate) =
+    subst (λ (l : List Finding). All (StandsIn b.sandbox b.address bytes) l) (sym gate.2) one
+  where
+    one : All (StandsIn b.sandbox b.address bytes) (broken b b.address V9 ∷ [])
+    one zero d g = record { offset = 0; sandbox_is = refl; address_is = omega arith; within = omega arith; place = tt }
+    one (suc k) d g = absurd (omega arith)
+bundle_stands b bytes found count (inr read) =
+    let reading = read.1.reading in
+    let is_reading = read.1.longest.is_reading in
+    let rest = rest_of bytes reading in
+    let end = ends_at bytes reading is_reading in
+    let left : length rest ≡ 16 - end.count = omega (arith, ap length end.rest_is, length-drop end.count bytes) in
+    let place : b.address + (length bytes - length rest) ≡ b.address + end.count = omega (arith, end.within) in
+    subst (λ (l : List Finding). All (StandsIn b.sandbox b.address bytes) l) (sym read.1.found_is)
+    (All-append (StandsIn b.sandbox b.address bytes) _ _
+    (reading_stands b _ b.address [] bytes reading is_reading)
+    (rest_stands b (b.address + (length bytes - length rest)) b.address bytes rest end.count end.rest_is place end.within (omega (arith, end.even, end.within))))
+
+-- ---- in a part
+
+-- what a place of the first bytes is, it is of all
+place_more : (rule : Rule) (m : ℕ) (code : List ℕ) → IsPlace rule (take m code) → IsPlace rule code
+place_more rule m code h = more rule h
+  where
+    half : 2 ≤ length (take m code) → 2 ≤ length code
+    half e = omega (arith, length-take m code)
+
+    spelled : SpellsFirst (take m code) → SpellsFirst code
+    spelled s =
+        let fits = spell_fits (take m code) s.instr s.size s.spelled in
+        let short : s.size ≤ m = omega (arith, fits.1, length-take m code) in
+        record { instr = s.instr; size = s.size; spelled = subst (λ (l : List ℕ). Spells l s.instr s.size) (take-take s.size m code short) s.spelled }
+
+    more : (r : Rule) → IsPlace r (take m code) → IsPlace r code
+    more V1 e = half e
+    more V2 e = half e
+    more V3 e = spelled e
+    more V4 e = spelled e
+    more V5 e = spelled e
+    more V6 e = spelled e
+    more V7 e = spelled e
+    more V8 e = spelled e
+    more V9 e = tt
+
+first_stand : (sandbox : ℕ) (p : Part) (n : ℕ) (found : List Finding) → 16 * n ≤ length p.code → AreFindingsOfFirst sandbox p n found
+    → All (StandsIn sandbox p.code_base p.code) found
+first_stand sandbox p zero found few h = subst (λ (l : List Finding). All (StandsIn sandbox p.code_base p.code) l) (sym h) (λ k d g. absurd (omega arith))
+first_stand sandbox p (suc n) found few h =
+    subst (λ (l : List Finding). All (StandsIn sandbox p.code_base p.code) l) (sym h.4)
+    (All-append (StandsIn sandbox p.code_base p.code) h.0 h.1 (first_stand sandbox p n h.0 (omega arith) h.2)
+    (λ k d g. moved _ (bundle_stands (place_of sandbox p n) (bundle_bytes p n) h.1 count h.3 k d g)))
+  where
+    count : length (bundle_bytes p n) ≡ 16
+    count = omega (arith, length-take 16 (drop (16 * n) p.code), length-drop (16 * n) p.code)
+
+    moved : (f : Finding) → StandsIn sandbox (p.code_base + 16 * n) (bundle_bytes p n) f → StandsIn sandbox p.code_base p.code f
+    moved f s =
+        let within : s.offset ≤ 16 = omega (arith, s.within, count) in
+        let split : drop s.offset (bundle_bytes p n) ≡ take (16 - s.offset) (drop s.offset (drop (16 * n) p.code)) =
+        ap (λ m. drop s.offset (take m (drop (16 * n) p.code))) (let e : 16 ≡ s.offset + (16 - s.offset) = omega arith in e)
+        ∙ drop-take s.offset (16 - s.offset) (drop (16 * n) p.code) in
+        let place = place_more f.rule (16 - s.offset) (drop s.offset (drop (16 * n) p.code)) (subst (λ (l : List ℕ). IsPlace f.rule l) split s.place) in
+        record {
+          offset = 16 * n + s.offset;
+          sandbox_is = s.sandbox_is;
+          address_is = omega (arith, s.address_is);
+          within = omega arith;
+          place = subst (λ (l : List ℕ). IsPlace f.rule l) (drop-drop s.offset (16 * n) p.code) place;
+        }
+
+part_stands : (sandbox : ℕ) (p : Part) (found : List Finding) → AreFindings sandbox p found → All (StandsIn sandbox p.code_base p.code) found
+part_stands sandbox p found h = first_stand sandbox p h.0 found (omega (arith, h.1)) h.2
+
+-- ---- in an image
+
+record StandsFrom (first : ℕ) (ps : List Part) (f : Finding) : Type 0 where
+  part : Part
+  place : ℕ
+  part_is : slice_get ps place ≡ Some part
+  stands : StandsIn (first + place) part.code_base part.code f
+
+from_stand : (first : ℕ) (ps : List Part) (found : List Finding) → AreFindingsFrom first ps found → All (StandsFrom first ps) found
+from_stand first [] found h = subst (λ (l : List Finding). All (StandsFrom first []) l) (sym h) (λ k d g. absurd (omega arith))
+from_stand first (p ∷ ps) found h =
+    subst (λ (l : List Finding). All (StandsFrom first (p ∷ ps)) l) (sym h.4)
+    (All-append (StandsFrom first (p ∷ ps)) h.0 h.1
+    (λ k d g. here _ (part_stands first p h.0 h.2 k d g))
+    (λ k d g. behind _ (from_stand (first + 1) ps h.1 h.3 k d g)))
+  where
+    here : (f : Finding) → StandsIn first p.code_base p.code f → StandsFrom first (p ∷ ps) f
+    here f s = record { part = p; place = 0; part_is = refl; stands = subst (λ n. StandsIn n p.code_base p.code f) (let e : first ≡ first + 0 = omega arith in e) s }
+
+    behind : (f : Finding) → StandsFrom (first + 1) ps f → StandsFrom first (p ∷ ps) f
+    behind f s = record {
+      part = s.part;
+      place = suc s.place;
+      part_is = s.part_is;
+      stands = subst (λ n. StandsIn n s.part.code_base s.part.code f) (let e : first + 1 + s.place ≡ first + suc s.place = omega arith in e) s.stands;
+    }
+
+-- each finding of an image stands at a place of one of its parts
+pub findings_stand : (ps : List Part) (found : List Finding) → AreImageFindings ps found → All (Stands ps) found
+findings_stand ps found h = λ k d g. at _ (from_stand 0 ps found h k d g)
+  where
+    at : (f : Finding) → StandsFrom 0 ps f → Stands ps f
+    at f s =
+        let number : s.place ≡ f.sandbox = omega (arith, s.stands.sandbox_is) in
+        record {
+          part = s.part;
+          offset = s.stands.offset;
+          part_is = subst (λ n. slice_get ps n ≡ Some s.part) number s.part_is;
+          address_is = s.stands.address_is;
+          within = s.stands.within;
+          place = s.stands.place;
+        }

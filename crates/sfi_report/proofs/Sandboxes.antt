@@ -1,0 +1,91 @@
+-- The listing of sandboxes and of an image, one bundle and one sandbox more.
+use Rattle.std.proofs.Common.{◌≡◌, ℕ, zero, suc, ◌+◌, ◌*◌, ◌<◌, ◌≤◌, List, [], ◌∷◌, ◌++◌, length, get_or, take, drop, refl, sym, ap, ◌∙◌, subst, arith, append_assoc, add-zero}
+use Rattle.std.specs.List.{All, flat_map}
+use Rattle.std.specs.Simd.{first_chunks}
+use Rattle.std.proofs.lemmas.List.{take_more, append-nil, drop-drop, take_all, length-map, length-take, get_or-map}
+use Rattle.sfi_image.specs.declared.part.SandboxPart.{SandboxPart}
+use Rattle.sfi_image.specs.Spelling.{Part, view, views}
+use Rattle.sfi_image.specs.Parts.{IsRightPart, IsRightLayout}
+use Rattle.sfi_scan.specs.Bundles.{bundle_bytes}
+use Rattle.sfi_report.specs.Added.{Adds}
+use Rattle.sfi_report.specs.Listing.{sandbox_line, gate_line, IsBundleListing, IsListingOfFirst, IsCodeListing, IsSandboxListing, IsListingFrom, IsListing}
+
+-- a chunk of 16 bytes is the bundle of its number
+pub chunk_at : (count k : ℕ) (xs : List ℕ) → k < count → get_or (first_chunks 16 count xs) k [] ≡ take 16 (drop (16 * k) xs)
+chunk_at zero k xs h = absurd (omega arith)
+chunk_at (suc count) zero xs h = refl
+chunk_at (suc count) (suc k) xs h =
+    chunk_at count k (drop 16 xs) (omega arith)
+    ∙ ap (take 16) (drop-drop (16 * k) 16 xs ∙ ap (λ n. drop n xs) (let e : 16 + 16 * k ≡ 16 * suc k = omega arith in e))
+
+-- the listing of the first bundles behind the text
+pub record IsListedTo (p : Part) (n : ℕ) (old new : List ℕ) : Type 0 where
+  pub text : List ℕ
+  pub text_is : IsListingOfFirst p n text
+  pub new_is : new ≡ old ++ text
+
+pub none_listed : (p : Part) (old : List ℕ) → IsListedTo p 0 old old
+none_listed p old = record { text = []; text_is = refl; new_is = sym (append-nil old) }
+
+pub one_bundle_more : (p : Part) (n : ℕ) (bytes old new more : List ℕ) → bytes ≡ bundle_bytes p n
+    → IsListedTo p n old new → Adds new more (IsBundleListing (p.code_base + 16 * n) bytes) → IsListedTo p (n + 1) old more
+one_bundle_more p n bytes old new more is so_far here =
+    let here' = subst (λ (b : List ℕ). IsBundleListing (p.code_base + 16 * n) b here.text) is here.text_is in
+    let text = so_far.text ++ here.text in
+    let listed : IsListingOfFirst p (suc n) text = (so_far.text, here.text, so_far.text_is, here', refl) in
+    record {
+      text = text;
+      text_is = subst (λ k. IsListingOfFirst p k text) (let k : suc n ≡ n + 1 = omega arith in k) listed;
+      new_is = here.new_is ∙ ap (λ t. t ++ here.text) so_far.new_is ∙ append_assoc old so_far.text here.text;
+    }
+
+pub all_bundles : (p : Part) (n : ℕ) (old new : List ℕ) → length p.code ≡ 16 * n → IsListedTo p n old new → Adds old new (IsCodeListing p)
+all_bundles p n old new whole so_far =
+    record { text = so_far.text; text_is = record { bundles = n; whole = whole; text_is = so_far.text_is }; new_is = so_far.new_is }
+
+-- a sandbox's listing: its fields and gates, and then its code
+pub whole_sandbox : (sandbox : ℕ) (p : Part) (old fields gates new : List ℕ)
+    → fields ≡ old ++ sandbox_line sandbox p → gates ≡ fields ++ flat_map gate_line p.gates
+    → Adds gates new (IsCodeListing p) → Adds old new (IsSandboxListing sandbox p)
+whole_sandbox sandbox p old fields gates new e f h =
+    record {
+      text = sandbox_line sandbox p ++ flat_map gate_line p.gates ++ h.text;
+      text_is = record { code = h.text; code_is = h.text_is; text_is = refl };
+      new_is = h.new_is ∙ ap (λ t. t ++ h.text) (f ∙ ap (λ t. t ++ flat_map gate_line p.gates) e)
+          ∙ regroup old (sandbox_line sandbox p) (flat_map gate_line p.gates) h.text;
+    }
+  where
+    regroup : (a b c d : List ℕ) → ((a ++ b) ++ c) ++ d ≡ a ++ ((b ++ c) ++ d)
+    regroup a b c d = simp append_assoc
+
+listing_append : (n m : ℕ) (parts : List Part) (p : Part) (text last : List ℕ) → IsListingFrom n parts text → IsSandboxListing m p last → m ≡ n + length parts → IsListingFrom n (parts ++ p ∷ []) (text ++ last)
+listing_append n m [] p text last h here e =
+    let at : m ≡ n = e ∙ add-zero n in
+    (last, [], subst (λ k. IsSandboxListing k p last) at here, refl, ap (λ (l : List ℕ). l ++ last) h ∙ sym (append-nil last))
+listing_append n m (q ∷ parts) p text last h here e =
+    let rest = listing_append (n + 1) m parts p h.1 last h.3 here (omega arith) in
+    (h.0, h.1 ++ last, h.2, rest, ap (λ (l : List ℕ). l ++ last) h.4 ∙ append_assoc h.0 h.1 last)
+
+-- the parts in the list that the code goes over are right
+pub right_at : (image : List Part) (items : List SandboxPart) (i : ℕ) (d : SandboxPart) → views items ≡ image → IsRightLayout image → i < length items → IsRightPart (view (get_or items i d))
+right_at image items i d e right h =
+    let each = subst (λ (l : List Part). All IsRightPart l) (sym e) right.right.each in
+    let within : i < length (views items) = omega (arith, length-map items view) in
+    subst (λ (p : Part). IsRightPart p) (get_or-map view items i d (view d) h) (each i (view d) within)
+
+pub one_sandbox_more : (image : List Part) (items : List SandboxPart) (i : ℕ) (d : SandboxPart) (text more : List ℕ) → views items ≡ image → i < length items
+    → IsListing (take i image) text → Adds text more (IsSandboxListing i (view (get_or items i d))) → IsListing (take (i + 1) image) more
+one_sandbox_more image items i d text more e h before here =
+    let within : i < length (views items) = omega (arith, length-map items view) in
+    let longer : take (i + 1) (views items) ≡ take i (views items) ++ view (get_or items i d) ∷ [] =
+    take_more (views items) i (view d) within ∙ ap (λ (p : Part). take i (views items) ++ p ∷ []) (get_or-map view items i d (view d) h) in
+    let count : i ≡ 0 + length (take i (views items)) = omega (arith, length-take i (views items)) in
+    let before' = subst (λ (l : List Part). IsListing (take i l) text) (sym e) before in
+    let listed = listing_append 0 i (take i (views items)) (view (get_or items i d)) text here.text before' here.text_is count in
+    let placed = subst (λ (l : List Part). IsListing l (text ++ here.text)) (sym longer ∙ ap (take (i + 1)) e) listed in
+    subst (λ (t : List ℕ). IsListing (take (i + 1) image) t) (sym here.new_is) placed
+
+pub all_sandboxes : (image : List Part) (items : List SandboxPart) (i : ℕ) (text : List ℕ) → views items ≡ image → length items ≤ i → IsListing (take i image) text → IsListing image text
+all_sandboxes image items i text e h before =
+    let all : length image ≤ i = omega (arith, length-map items view, ap length e) in
+    subst (λ (l : List Part). IsListing l text) (take_all i image all) before

@@ -1,0 +1,11 @@
+use Rattle.std.proofs.Common.{◌-◌}
+use Rattle.std.specs.Prelude.{string_bytes}
+use Rattle.sfi_report.proofs.Lines.{Leads}
+use Rattle.sfi_report.proofs.listing.push_bundle.Given as goal
+
+-- the lines so far lead to the bundle's listing
+abbrev pub invariant-loop-at : goal.invariant-loop-at
+invariant-loop-at l = Leads l.address l.bytes l.at (string_bytes l.fn.out) (string_bytes l.out)
+
+abbrev pub decreases-loop-at : goal.decreases-loop-at
+decreases-loop-at l = 16 - l.at

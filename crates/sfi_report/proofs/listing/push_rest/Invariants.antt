@@ -1,0 +1,9 @@
+use Rattle.std.proofs.Common.{◌≡◌, ◌++◌, take}
+use Rattle.std.specs.Prelude.{string_bytes}
+use Rattle.std.specs.List.{flat_map}
+use Rattle.sfi_report.specs.Digits.{hex_digits}
+use Rattle.sfi_report.proofs.listing.push_rest.Given as goal
+
+abbrev pub invariant-loop-byte : goal.invariant-loop-byte
+invariant-loop-byte l =
+    string_bytes l.out ≡ string_bytes l.initial.out ++ flat_map (hex_digits 2) (take l.byte-index l.bytes)

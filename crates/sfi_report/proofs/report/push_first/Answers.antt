@@ -1,0 +1,8 @@
+use Rattle.std.proofs.Common.{inl, inr}
+use Rattle.rv_comp.specs.declared.front.Front.TheVariants.{Read}
+use Rattle.sfi_report.proofs.report.push_first.Goals as goal
+
+pub unreachable-requires : goal.unreachable-requires
+unreachable-requires c =
+    let read = c.read_front.ensures.only (Read c.requires.instr c.requires.size) c.requires.spelled in
+    elim c.in-Short.is [ inl short ↦ cc | inr bad ↦ cc ]

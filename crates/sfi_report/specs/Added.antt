@@ -1,0 +1,41 @@
+-- Words of private contracts: what a call adds behind a text, and where a finding stands.
+use Rattle.std.specs.Prelude.{◌≡◌, ◌≤◌, ℕ, ◌+◌, List, ◌++◌, Some, length, take, drop, slice_get}
+use Rattle.rv_word.specs.declared.instr.Instr.{Instr}
+use Rattle.rv_comp.specs.Fronts.{Spells}
+use Rattle.sfi_image.specs.Spelling.{Part}
+use Rattle.sfi_scan.specs.declared.finding.Finding.{Finding}
+use Rattle.sfi_scan.specs.declared.rule.Rule.{Rule}
+use Rattle.sfi_scan.specs.declared.rule.Rule.TheVariants.{V1, V2, V3, V4, V5, V6, V7, V8, V9}
+
+-- the new text is the old one and some such text
+pub record Adds (old new : List ℕ) (is : List ℕ → Type 0) : Type 0 where
+  pub text : List ℕ
+  pub text_is : is text
+  pub new_is : new ≡ old ++ text
+
+-- the first bytes spell an instruction
+pub record SpellsFirst (code : List ℕ) : Type 0 where
+  pub instr : Instr
+  pub size : ℕ
+  pub spelled : Spells (take size code) instr size
+
+-- what the code begins with, where the rule is broken
+abbrev pub IsPlace : Rule → List ℕ → Type 0
+IsPlace V1 code = 2 ≤ length code
+IsPlace V2 code = 2 ≤ length code
+IsPlace V3 code = SpellsFirst code
+IsPlace V4 code = SpellsFirst code
+IsPlace V5 code = SpellsFirst code
+IsPlace V6 code = SpellsFirst code
+IsPlace V7 code = SpellsFirst code
+IsPlace V8 code = SpellsFirst code
+IsPlace V9 code = Unit {0}
+
+-- the finding stands at a place of one of the parts
+pub record Stands (ps : List Part) (f : Finding) : Type 0 where
+  pub part : Part
+  pub offset : ℕ
+  pub part_is : slice_get ps f.sandbox ≡ Some part
+  pub address_is : f.address ≡ part.code_base + offset
+  pub within : offset ≤ length part.code
+  pub place : IsPlace f.rule (drop offset part.code)

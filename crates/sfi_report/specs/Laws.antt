@@ -1,0 +1,14 @@
+-- What holds of reports and listings.
+use Rattle.std.specs.Prelude.{◌≡◌, List, ℕ}
+use Rattle.sfi_image.specs.Spelling.{Part}
+use Rattle.sfi_scan.specs.declared.finding.Finding.{Finding}
+use Rattle.sfi_report.specs.Report.{IsReport}
+use Rattle.sfi_report.specs.Listing.{IsListing}
+
+-- findings have one report
+abbrev pub OneReport : Type 0
+OneReport = (ps : List Part) (found : List Finding) (text other : List ℕ) → IsReport ps found text → IsReport ps found other → text ≡ other
+
+-- an image has one listing
+abbrev pub OneListing : Type 0
+OneListing = (ps : List Part) (text other : List ℕ) → IsListing ps text → IsListing ps other → text ≡ other

@@ -1,0 +1,5 @@
+pub mod Digits
+pub mod Report
+pub mod Listing
+pub mod Laws
+pub mod Added

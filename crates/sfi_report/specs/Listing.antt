@@ -1,0 +1,84 @@
+-- The listing of an image.
+use Rattle.std.specs.Prelude.{◌≡◌, ℕ, zero, suc, ◌+◌, ◌*◌, List, [], ◌∷◌, ◌++◌, length, take, drop, codes, decimal}
+use Rattle.std.specs.List.{flat_map}
+use Rattle.rv_word.specs.declared.instr.Instr.{Instr}
+use Rattle.rv_text.specs.Printed.{printed}
+use Rattle.sfi_image.specs.Spelling.{Part}
+use Rattle.sfi_image.specs.declared.part.Gate.{Gate}
+use Rattle.sfi_scan.specs.Bundles.{bundle_bytes}
+use Rattle.sfi_scan.specs.Readings.{Piece, IsLongestReading}
+use Rattle.sfi_report.specs.Digits.{hex_digits, line_end, word_digits}
+
+-- ---- of a bundle
+
+-- an instruction: its address, its number, its text
+abbrev pub instruction_line : ℕ → List ℕ → Instr → List ℕ
+instruction_line at bytes i = hex_digits 8 at ++ codes " " ++ word_digits bytes ++ codes " " ++ printed i ++ line_end
+
+-- the bytes that a reading leaves, if any, two digits each
+abbrev pub rest_line : ℕ → List ℕ → List ℕ
+rest_line at [] = []
+rest_line at (b ∷ bytes) = hex_digits 8 at ++ codes " .bytes " ++ flat_map (hex_digits 2) (b ∷ bytes) ++ line_end
+
+-- the lines of a reading of the bytes at that address, and of what it leaves
+abbrev pub reading_lines : ℕ → List ℕ → List Piece → List ℕ
+reading_lines at bytes [] = rest_line at bytes
+reading_lines at bytes (x ∷ reading) =
+    instruction_line at (take x.size bytes) x.instr ++ reading_lines (at + x.size) (drop x.size bytes) reading
+
+-- the lines of the longest reading
+pub record IsBundleListing (at : ℕ) (bytes text : List ℕ) : Type 0 where
+  pub reading : List Piece
+  pub longest : IsLongestReading bytes reading
+  pub text_is : text ≡ reading_lines at bytes reading
+
+-- ---- of a sandbox
+
+-- a region: its base and its size
+unfoldable pub region_text : ℕ → ℕ → List ℕ
+region_text base size = hex_digits 8 base ++ codes " " ++ decimal size
+
+-- its fields
+abbrev pub sandbox_line : ℕ → Part → List ℕ
+sandbox_line sandbox p =
+    codes "sandbox " ++ decimal sandbox
+    ++ codes " code " ++ region_text p.code_base (length p.code)
+    ++ codes " data " ++ region_text p.data_base p.data_size
+    ++ codes " start " ++ hex_digits 8 p.start
+    ++ codes " gates " ++ decimal (length p.gates)
+    ++ codes " init " ++ decimal (length p.init) ++ line_end
+
+-- a gate
+abbrev pub gate_line : Gate → List ℕ
+gate_line g = codes "gate " ++ hex_digits 8 g.address ++ codes " " ++ decimal g.service ++ line_end
+
+-- the first n bundles of its code
+abbrev pub IsListingOfFirst : Part → ℕ → List ℕ → Type 0
+IsListingOfFirst p zero text = text ≡ []
+IsListingOfFirst p (suc n) text =
+    (front : List ℕ) × (last : List ℕ) × IsListingOfFirst p n front
+    × IsBundleListing (p.code_base + 16 * n) (bundle_bytes p n) last × (text ≡ front ++ last)
+
+-- all bundles of its code
+pub record IsCodeListing (p : Part) (text : List ℕ) : Type 0 where
+  pub bundles : ℕ
+  pub whole : length p.code ≡ 16 * bundles
+  pub text_is : IsListingOfFirst p bundles text
+
+-- its fields, its gates, and its code
+pub record IsSandboxListing (sandbox : ℕ) (p : Part) (text : List ℕ) : Type 0 where
+  pub code : List ℕ
+  pub code_is : IsCodeListing p code
+  pub text_is : text ≡ sandbox_line sandbox p ++ flat_map gate_line p.gates ++ code
+
+-- ---- of an image
+
+-- the listing of parts, the first of which is that of the sandbox of that number
+abbrev pub IsListingFrom : ℕ → List Part → List ℕ → Type 0
+IsListingFrom sandbox [] text = text ≡ []
+IsListingFrom sandbox (p ∷ ps) text =
+    (front : List ℕ) × (rest : List ℕ) × IsSandboxListing sandbox p front × IsListingFrom (sandbox + 1) ps rest × (text ≡ front ++ rest)
+
+-- the listing of an image with these parts
+abbrev pub IsListing : List Part → List ℕ → Type 0
+IsListing ps text = IsListingFrom 0 ps text

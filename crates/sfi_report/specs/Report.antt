@@ -1,0 +1,67 @@
+-- The report: a line for each finding.
+use Rattle.std.specs.Prelude.{◌≡◌, ◌-◌, ℕ, List, [], ◌∷◌, ◌++◌, Some, take, drop, codes, decimal, slice_get}
+use Rattle.rv_word.specs.declared.instr.Instr.{Instr}
+use Rattle.rv_comp.specs.Fronts.{Spells}
+use Rattle.rv_text.specs.Printed.{printed}
+use Rattle.sfi_image.specs.Spelling.{Part}
+use Rattle.sfi_scan.specs.Numbers.{number_of}
+use Rattle.sfi_scan.specs.declared.finding.Finding.{Finding}
+use Rattle.sfi_scan.specs.declared.rule.Rule.{Rule}
+use Rattle.sfi_scan.specs.declared.rule.Rule.TheVariants.{V1, V2, V3, V4, V5, V6, V7, V8, V9}
+use Rattle.sfi_report.specs.Digits.{hex_digits, line_end, word_digits}
+
+-- the name of a rule
+abbrev pub rule_name : Rule → List ℕ
+rule_name V1 = codes "decode"
+rule_name V2 = codes "cross"
+rule_name V3 = codes "ecall"
+rule_name V4 = codes "reserved"
+rule_name V5 = codes "access"
+rule_name V6 = codes "jump"
+rule_name V7 = codes "target"
+rule_name V8 = codes "end"
+rule_name V9 = codes "gate"
+
+-- ---- what stands where a rule is broken, by the code from there on
+
+-- the first halfword
+abbrev pub half_text : List ℕ → List ℕ
+half_text code = codes ".half 0x" ++ word_digits (take 2 code)
+
+-- the text is that of the instruction that the first bytes spell
+abbrev pub IsInstructionText : List ℕ → List ℕ → Type 0
+IsInstructionText code text = (i : Instr) × (n : ℕ) × Spells (take n code) i n × (text ≡ printed i)
+
+-- no instruction, an instruction, or a gate that is not the stub
+abbrev pub IsPlaceText : Rule → List ℕ → List ℕ → Type 0
+IsPlaceText V1 code text = text ≡ half_text code
+IsPlaceText V2 code text = text ≡ half_text code
+IsPlaceText V3 code text = IsInstructionText code text
+IsPlaceText V4 code text = IsInstructionText code text
+IsPlaceText V5 code text = IsInstructionText code text
+IsPlaceText V6 code text = IsInstructionText code text
+IsPlaceText V7 code text = IsInstructionText code text
+IsPlaceText V8 code text = IsInstructionText code text
+IsPlaceText V9 code text = text ≡ codes "stub expected"
+
+-- ---- lines
+
+-- the line up to what stands there: sandbox, address, the rule's number and name
+abbrev pub line_front : Finding → List ℕ
+line_front f =
+    decimal f.sandbox ++ codes " " ++ hex_digits 8 f.address ++ codes " V" ++ decimal (number_of f.rule)
+    ++ codes " " ++ rule_name f.rule ++ codes " "
+
+-- the line of a finding in one of the parts
+pub record IsFindingLine (ps : List Part) (f : Finding) (line : List ℕ) : Type 0 where
+  pub part : Part
+  pub place : List ℕ
+  pub part_is : slice_get ps f.sandbox ≡ Some part
+  pub place_is : IsPlaceText f.rule (drop (f.address - part.code_base) part.code) place
+  pub line_is : line ≡ line_front f ++ place ++ line_end
+
+-- the lines of findings, one after another
+abbrev pub IsReport : List Part → List Finding → List ℕ → Type 0
+IsReport ps [] text = text ≡ []
+IsReport ps (f ∷ found) text =
+    (line : List ℕ) × (rest : List ℕ) × IsFindingLine ps f line × IsReport ps found rest × (text ≡ line ++ rest)

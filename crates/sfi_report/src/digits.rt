@@ -1,0 +1,48 @@
+//! Hexadecimal digits.
+ghost use Rattle.std.specs.Prelude.{◌≡◌, ◌++◌, ◌⊎◌, OnOk, length, string_bytes};
+ghost use Rattle.sfi_report.specs.Digits.{hex_digits, word_digits};
+
+use std::alloc::AllocError;
+
+/// Writes eight digits behind the text.
+pub(crate) fn push_eight(out: &mut String, number: u32) -> Result<(), AllocError>
+    ensures { OnOk result (string_bytes out.new ≡ string_bytes out.old ++ hex_digits 8 number) }
+{
+    write!(out, "{number:08x}")
+}
+
+/// Writes four digits behind the text.
+pub(crate) fn push_four(out: &mut String, number: u16) -> Result<(), AllocError>
+    ensures { OnOk result (string_bytes out.new ≡ string_bytes out.old ++ hex_digits 4 number) }
+{
+    write!(out, "{number:04x}")
+}
+
+/// Writes two digits behind the text.
+pub(crate) fn push_two(out: &mut String, number: u8) -> Result<(), AllocError>
+    ensures { OnOk result (string_bytes out.new ≡ string_bytes out.old ++ hex_digits 2 number) }
+{
+    write!(out, "{number:02x}")
+}
+
+/// Writes the number of two bytes, the lowest first, behind the text.
+pub(crate) fn push_half(out: &mut String, bytes: &[u8]) -> Result<(), AllocError>
+    requires { length bytes.now ≡ 2 }
+    ensures { OnOk result (string_bytes out.new ≡ string_bytes out.old ++ word_digits bytes.now) }
+{
+    push_four(out, u16::from_le_bytes([bytes[0], bytes[1]]))
+}
+
+/// Writes the number of two bytes or four, the lowest first, behind the text.
+pub(crate) fn push_word(out: &mut String, bytes: &[u8]) -> Result<(), AllocError>
+    requires { (length bytes.now ≡ 2) ⊎ (length bytes.now ≡ 4) }
+    ensures { OnOk result (string_bytes out.new ≡ string_bytes out.old ++ word_digits bytes.now) }
+{
+    if bytes.len() == 2 {
+        return push_half(out, bytes);
+    }
+    push_eight(
+        out,
+        u32::from_le_bytes([bytes[0], bytes[1], bytes[2], bytes[3]]),
+    )
+}

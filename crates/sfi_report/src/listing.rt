@@ -1,0 +1,144 @@
+//! The listing of an image.
+ghost use Rattle.std.specs.Prelude.{◌≡◌, ◌+◌, ◌^◌, ◌<◌, ◌≤◌, ◌++◌, ◌⊎◌, OnOk, IfOk, length, string_bytes};
+ghost use Rattle.sfi_image.specs.Spelling.{view};
+ghost use Rattle.sfi_image.specs.Parts.{IsRightPart};
+ghost use Rattle.sfi_report.specs.Listing.{instruction_line, rest_line, sandbox_line, region_text, gate_line, IsBundleListing, IsCodeListing, IsSandboxListing, IsListing};
+ghost use Rattle.sfi_report.specs.Added.{Adds};
+
+use crate::digits::{push_eight, push_two, push_word};
+use rv_comp::{Front, read_front};
+use rv_text::push_instr;
+use rv_word::Instr;
+use sfi_image::{Gate, Image, SandboxPart, whole_bundles};
+use std::alloc::{AllocError, Global};
+
+/// Writes the line of an instruction with these bytes.
+fn push_instruction(
+    out: &mut String,
+    address: u32,
+    bytes: &[u8],
+    instr: &Instr,
+) -> Result<(), AllocError>
+    requires { (length bytes.now ≡ 2) ⊎ (length bytes.now ≡ 4) }
+    ensures { OnOk result (string_bytes out.new
+        ≡ string_bytes out.old ++ instruction_line address bytes.now instr.now) }
+{
+    push_eight(out, address)?;
+    out.push_str(" ")?;
+    push_word(out, bytes)?;
+    out.push_str(" ")?;
+    push_instr(out, instr)?;
+    out.push_str("\n")
+}
+
+/// Writes the line of the bytes that a reading leaves, if any.
+fn push_rest(out: &mut String, address: u32, bytes: &[u8]) -> Result<(), AllocError>
+    requires { 0 < length bytes.now }
+    ensures { OnOk result (string_bytes out.new ≡ string_bytes out.old ++ rest_line address bytes.now) }
+{
+    push_eight(out, address)?;
+    out.push_str(" .bytes ")?;
+    for byte in bytes {
+        push_two(out, *byte)?;
+    }
+    out.push_str("\n")
+}
+
+/// Writes the lines of the bundle at the address.
+fn push_bundle(out: &mut String, address: u32, bytes: &[u8; 16]) -> Result<(), AllocError>
+    requires { address + 16 ≤ 2 ^ 32 }
+    ensures { OnOk result (Adds (string_bytes out.old) (string_bytes out.new)
+        (IsBundleListing address bytes.now)) }
+{
+    let mut at = 0;
+    while at < 16 {
+        let rest = &bytes[at..];
+        let here = address + at as u32;
+        match read_front(rest) {
+            Front::Read(instr, size) => {
+                let size = size as usize;
+                push_instruction(out, here, &rest[..size], &instr)?;
+                at += size;
+            }
+            Front::Short | Front::Bad => return push_rest(out, here, rest),
+        }
+    }
+    Ok(())
+}
+
+/// Writes the region's base and its size.
+#[tactic(auto, unfolding(crate::specs::Listing::region_text))]
+fn push_region(out: &mut String, base: u32, size: usize) -> Result<(), AllocError>
+    ensures { OnOk result (string_bytes out.new ≡ string_bytes out.old ++ region_text base size) }
+{
+    push_eight(out, base)?;
+    write!(out, " {size}")
+}
+
+/// Writes the line of the sandbox's fields.
+fn push_fields(out: &mut String, sandbox: u32, part: &SandboxPart) -> Result<(), AllocError>
+    ensures { OnOk result (string_bytes out.new
+        ≡ string_bytes out.old ++ sandbox_line sandbox (view part.now)) }
+{
+    write!(out, "sandbox {sandbox} code ")?;
+    push_region(out, part.code_base, part.code.len())?;
+    out.push_str(" data ")?;
+    push_region(out, part.data_base, part.data_size as usize)?;
+    out.push_str(" start ")?;
+    push_eight(out, part.start)?;
+    let gates = part.gates.len();
+    let init = part.init.len();
+    write!(out, " gates {gates} init {init}\n")
+}
+
+/// Writes the line of a gate.
+fn push_gate(out: &mut String, gate: &Gate) -> Result<(), AllocError>
+    ensures { OnOk result (string_bytes out.new ≡ string_bytes out.old ++ gate_line gate.now) }
+{
+    out.push_str("gate ")?;
+    push_eight(out, gate.address)?;
+    let service = gate.service;
+    write!(out, " {service}\n")
+}
+
+/// Writes the lines of a sandbox.
+fn push_sandbox(out: &mut String, sandbox: u32, part: &SandboxPart) -> Result<(), AllocError>
+    requires { IsRightPart (view part.now) }
+    ensures { OnOk result (Adds (string_bytes out.old) (string_bytes out.new)
+        (IsSandboxListing sandbox (view part.now))) }
+{
+    push_fields(out, sandbox, part)?;
+    for gate in &part.gates {
+        push_gate(out, gate)?;
+    }
+    push_code(out, part)
+}
+
+/// Writes the lines of a sandbox's bundles.
+fn push_code(out: &mut String, part: &SandboxPart) -> Result<(), AllocError>
+    requires { IsRightPart (view part.now) }
+    ensures { OnOk result (Adds (string_bytes out.old) (string_bytes out.new)
+        (IsCodeListing (view part.now))) }
+{
+    // The law that the bounds rest on: this call does nothing.
+    whole_bundles();
+
+    for (k, bytes) in part.code.as_chunks::<16>().0.iter().enumerate() {
+        push_bundle(out, part.code_base + 16 * k as u32, bytes)?;
+    }
+    Ok(())
+}
+
+/// The listing of an image: for each sandbox a line of its fields, a line for each gate, and a line for each instruction.
+///
+/// Each bundle is read from its first byte, as the rules read it. Where reading stops before the bundle's end, a line
+/// `.bytes` has what is left. The one error is that an allocation was refused.
+pub fn listing_text(alloc: Global, image: &Image<'_>) -> Result<String, AllocError>
+    ensures text { IfOk result (λ text. IsListing image.now (string_bytes text)) }
+{
+    let mut out = String::new(alloc);
+    for (sandbox, part) in image.parts().iter().enumerate() {
+        push_sandbox(&mut out, sandbox as u32, part)?;
+    }
+    Ok(out)
+}

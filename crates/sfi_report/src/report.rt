@@ -1,0 +1,112 @@
+//! The report on the findings of an image.
+ghost use Rattle.std.specs.Prelude.{◌≡◌, ◌≤◌, ◌++◌, OnOk, IfOk, length, string_bytes};
+ghost use Rattle.sfi_image.specs.Spelling.{views};
+ghost use Rattle.sfi_scan.specs.Findings.{AreImageFindings};
+ghost use Rattle.sfi_report.specs.Report.{IsFindingLine, IsPlaceText, IsInstructionText, IsReport, line_front, half_text, rule_name};
+ghost use Rattle.sfi_report.specs.Added.{Adds, IsPlace, SpellsFirst, Stands};
+
+use crate::digits::{push_eight, push_half};
+use rv_comp::{Front, read_front};
+use rv_text::push_instr;
+use sfi_image::{Image, SandboxPart};
+use sfi_scan::{Finding, Rule};
+use std::alloc::{AllocError, Global};
+
+/// The rule's name.
+fn name_of(rule: Rule) -> &'static str
+    ensures { result.now ≡ rule_name rule }
+{
+    match rule {
+        Rule::V1 => "decode",
+        Rule::V2 => "cross",
+        Rule::V3 => "ecall",
+        Rule::V4 => "reserved",
+        Rule::V5 => "access",
+        Rule::V6 => "jump",
+        Rule::V7 => "target",
+        Rule::V8 => "end",
+        Rule::V9 => "gate",
+    }
+}
+
+/// Writes the halfword that the code begins with.
+fn push_data(out: &mut String, code: &[u8]) -> Result<(), AllocError>
+    requires { 2 ≤ length code.now }
+    ensures { OnOk result (string_bytes out.new ≡ string_bytes out.old ++ half_text code.now) }
+{
+    out.push_str(".half 0x")?;
+    push_half(out, &code[..2])
+}
+
+/// Writes the instruction that the code begins with.
+fn push_first(out: &mut String, code: &[u8]) -> Result<(), AllocError>
+    requires { SpellsFirst code.now }
+    ensures { OnOk result (Adds (string_bytes out.old) (string_bytes out.new) (IsInstructionText code.now)) }
+{
+    match read_front(code) {
+        Front::Read(instr, _) => push_instr(out, &instr),
+        Front::Short | Front::Bad => unreachable!(),
+    }
+}
+
+/// Writes what stands where the rule is broken; the code begins there.
+fn push_place(out: &mut String, rule: Rule, code: &[u8]) -> Result<(), AllocError>
+    requires { IsPlace rule code.now }
+    ensures { OnOk result (Adds (string_bytes out.old) (string_bytes out.new) (IsPlaceText rule code.now)) }
+{
+    match rule {
+        Rule::V1 | Rule::V2 => push_data(out, code),
+        Rule::V3 | Rule::V4 | Rule::V5 | Rule::V6 | Rule::V7 | Rule::V8 => push_first(out, code),
+        Rule::V9 => out.push_str("stub expected"),
+    }
+}
+
+/// Writes the line up to what stands at the finding's address.
+fn push_front(out: &mut String, finding: &Finding) -> Result<(), AllocError>
+    ensures { OnOk result (string_bytes out.new ≡ string_bytes out.old ++ line_front finding.now) }
+{
+    let sandbox = finding.sandbox;
+    write!(out, "{sandbox} ")?;
+    push_eight(out, finding.address)?;
+    let number = finding.rule.number();
+    let name = name_of(finding.rule);
+    write!(out, " V{number} {name} ")
+}
+
+/// Writes the line of a finding in one of the parts.
+fn push_finding(
+    out: &mut String,
+    parts: &[SandboxPart],
+    finding: &Finding,
+) -> Result<(), AllocError>
+    requires { Stands (views parts.now) finding.now }
+    ensures { OnOk result (Adds (string_bytes out.old) (string_bytes out.new)
+        (IsFindingLine (views parts.now) finding.now)) }
+{
+    let part = &parts[finding.sandbox as usize];
+    let offset = (finding.address - part.code_base) as usize;
+    push_front(out, finding)?;
+    push_place(out, finding.rule, &part.code[offset..])?;
+    out.push_str("\n")
+}
+
+/// The report on an image's findings: a line for each.
+///
+/// A line is `S AAAAAAAA Vk NAME TEXT`: the sandbox, the address, the rule and its name, and the instruction that stands
+/// there. For V1 and V2 it has the halfword there in place of an instruction, and for V9 `stub expected`. The one error is
+/// that an allocation was refused.
+pub fn report_text(
+    alloc: Global,
+    image: &Image<'_>,
+    findings: &[Finding],
+) -> Result<String, AllocError>
+    requires { AreImageFindings image.now findings.now }
+    ensures text { IfOk result (λ text. IsReport image.now findings.now (string_bytes text)) }
+{
+    let mut out = String::new(alloc);
+    let parts = image.parts();
+    for finding in findings {
+        push_finding(&mut out, parts, finding)?;
+    }
+    Ok(out)
+}
