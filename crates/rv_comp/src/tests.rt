@@ -26,7 +26,10 @@ fn expands(rt: &impl Abort, halfword: u16, want: Instr) {
         Some(form) => assert!(rt; form.expand() == want, "{halfword:04x}"),
         None => assert!(rt; false, "{halfword:04x}"),
     }
-    assert!(rt; outline16(halfword) == Some(outline_of(want)), "outline of {halfword:04x}");
+    assert!(rt;
+        outline16(halfword) == Some(outline_of(want)),
+        "outline of {halfword:04x}"
+    );
 }
 
 #[test]

@@ -7,7 +7,6 @@ use Rattle.rv_word.specs.declared.instr.LoadKind.{LoadKind}
 use Rattle.rv_comp.specs.declared.front.Front.{Front}
 use Rattle.rv_comp.specs.declared.front.Front.TheVariants.{Read, Short, Bad}
 use Rattle.rv_mem.specs.Bytes.{Bytes, byte_at, bytes_at, addresses, with_bytes, loaded, stored}
-use Rattle.rv_step.specs.declared.outcome.Outcome.{Outcome}
 use Rattle.rv_step.specs.declared.outcome.Outcome.TheVariants.{Call, Trap}
 use Rattle.rv_step.specs.declared.outcome.Cause.TheVariants as cause
 use Rattle.rv_step.specs.Laws.{NoByteGoes, CallsAreEcalls}

@@ -1,6 +1,5 @@
 -- What is read of labels at the front of a line.
-use Rattle.std.proofs.Common.{◌≡◌, ◌↔◌, refl, sym, ap, subst, ◌∙◌, ℕ, Bool, true, false, not, IsTrue, List, [], ◌∷◌, ◌++◌, true≢false, codes, length, length-append, arith, ◌<◌, ◌⊎◌, inl, inr}
-use Rattle.std.specs.Str.{bytes_eq}
+use Rattle.std.proofs.Common.{◌≡◌, ◌↔◌, refl, sym, ap, subst, ℕ, Bool, true, false, not, IsTrue, List, [], ◌∷◌, ◌++◌, true≢false, codes, length, length-append, arith, ◌<◌, ◌⊎◌, inl, inr}
 use Rattle.rv_text.specs.Tokens.{Takes, IsToken, IsLabel}
 use Rattle.rv_text.specs.SoFar.{Begun, SoFar}
 use Rattle.rv_text.specs.Effects.{IsFree, Labels, RefusesLabel}

@@ -1,18 +1,17 @@
 -- A line leads to one source so far at most, or is refused for one cause at most, and never both; so a text has one meaning or one fault at most.
-use Rattle.std.proofs.Common.{◌≡◌, refl, sym, ap, subst, ◌∙◌, ℕ, ◌+◌, ◌<◌, ◌≤◌, ◌⊎◌, inl, inr, IsTrue, List, [], ◌∷◌, Option, None, Some, length, arith, codes}
+use Rattle.std.proofs.Common.{◌≡◌, sym, ap, subst, ◌∙◌, ℕ, ◌+◌, inl, inr, List, [], ◌∷◌, Some, arith, codes}
 use Rattle.std.proofs.lemmas.Option.{same_Some, none-some}
 use Rattle.rv_text.specs.declared.cause.TextCause.{TextCause}
 use Rattle.rv_text.specs.declared.fault.TextFault.{TextFault}
 use Rattle.rv_text.specs.declared.keyword.Keyword.{Keyword}
-use Rattle.rv_text.specs.Tokens.{Takes, IsName, IsBlank}
+use Rattle.rv_text.specs.Tokens.{Takes, IsName}
 use Rattle.rv_text.specs.Keywords.{keyword_name}
-use Rattle.rv_text.specs.Lines.{StatesBehind, RefusedWith, NameRefused}
+use Rattle.rv_text.specs.Lines.{NameRefused}
 use Rattle.rv_text.specs.Stated.{Stated, sandbox, gate, compressed, data_part, bytes, plain, jump, address}
-use Rattle.rv_text.specs.Source.{Sandbox}
-use Rattle.rv_text.specs.SoFar.{Begun, SoFar, with_label, nothing, sandboxes}
+use Rattle.rv_text.specs.SoFar.{SoFar, with_label, nothing, sandboxes}
 use Rattle.rv_text.specs.Effects.{IsFree, Fits, Labels, RefusesLabel, GoesOn, Does, behind, HasNoRoom}
-use Rattle.rv_text.specs.Leads.{BeginsWithLabel, HasNoLabel, LabelsLead, PassesLabels, LeadsBehind, StatementLeads, RestLeads, Leads, LabelRefused, RefusedBehind, RefusedFrom, StatementRefused, LineRefused}
-use Rattle.rv_text.specs.Texts.{uncommented, lines, LinesLead, FirstRefused, LineFault, MeansSource, IsFault}
+use Rattle.rv_text.specs.Leads.{BeginsWithLabel, HasNoLabel, LabelsLead, LeadsBehind, RestLeads, RefusedBehind, RefusedFrom, StatementRefused}
+use Rattle.rv_text.specs.Texts.{uncommented, lines, LinesLead, FirstRefused}
 use Rattle.rv_text.specs.Laws.{LeadsOnce, LeadingIsNotRefused, RefusedOnce, OneSource, OneFault, MeantHasNoFault}
 use Rattle.rv_text.proofs.Taking.{takes_unique, blank_takes_none}
 use Rattle.rv_text.proofs.Keywords.{keyword_unique}

@@ -1,12 +1,12 @@
 -- What placing a name changes in the table of names, and what it leaves.
-use Rattle.std.proofs.Common.{◌≡◌, ◌≢◌, refl, sym, ap, subst, ◌∙◌, ℕ, zero, suc, ◌+◌, ◌<◌, ◌≤◌, ◌⊎◌, inl, inr, Bool, true, false, if◌then◌else◌, List, [], ◌∷◌, Option, None, Some, map, slice_get, slice_index_or, length, Contains, arith}
+use Rattle.std.proofs.Common.{◌≡◌, ◌≢◌, refl, sym, subst, ◌∙◌, ℕ, zero, suc, ◌+◌, ◌<◌, ◌≤◌, ◌⊎◌, inl, inr, Bool, true, false, if◌then◌else◌, List, [], ◌∷◌, Some, map, slice_get, length, Contains, arith}
 use Rattle.std.specs.List.{IsDistinct, AllByRecursion}
 use Rattle.std.specs.Str.{bytes_eq}
 use Rattle.std.proofs.lemmas.Option.{same_Some, none-some}
 use Rattle.std.proofs.lemmas.Slice.Eq.{bytes_eq-Decides}
 use Rattle.rv_text.specs.declared.item.Named.{Named}
 use Rattle.rv_text.specs.declared.item.Named.TheVariants.{Unknown}
-use Rattle.rv_text.specs.NameTable.{meaning, place_of, placed, met}
+use Rattle.rv_text.specs.NameTable.{meaning, place_of, placed}
 use Rattle.rv_text.proofs.NameTable.{same_text}
 
 -- the next number

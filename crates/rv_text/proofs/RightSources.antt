@@ -1,5 +1,5 @@
 -- What a text means is right: each sandbox is within its limits, and its names, gates and items fit each other.
-use Rattle.std.proofs.Common.{◌≡◌, ◌≢◌, ◌↔◌, refl, sym, ap, subst, ◌∙◌, ℕ, zero, suc, ◌+◌, ◌<◌, ◌≤◌, ◌⊎◌, inl, inr, Bool, true, false, not, ◌||◌, IsTrue, true≢false, if◌then◌else◌, List, [], ◌∷◌, ◌++◌, Option, None, Some, map, slice_get, length, length-append, Contains, nat_lt, arith}
+use Rattle.std.proofs.Common.{◌≡◌, ◌≢◌, ◌↔◌, refl, sym, ap, subst, ◌∙◌, ℕ, zero, suc, ◌+◌, ◌<◌, ◌≤◌, ◌⊎◌, inl, inr, Bool, true, false, not, ◌||◌, IsTrue, true≢false, if◌then◌else◌, List, [], ◌∷◌, ◌++◌, Some, map, slice_get, length, length-append, nat_lt, arith}
 use Rattle.std.specs.List.{All, IsDistinct, AllByRecursion}
 use Rattle.std.specs.Str.{bytes_eq}
 use Rattle.std.proofs.lemmas.Option.{same_Some, none-some, slice_get_within}
@@ -13,11 +13,11 @@ use Rattle.rv_text.specs.declared.item.Body.{Body}
 use Rattle.rv_text.specs.declared.item.Body.TheVariants.{Plain, To, High, Low}
 use Rattle.rv_text.specs.declared.item.Item.{Item}
 use Rattle.rv_text.specs.declared.item.SourceGate.{SourceGate}
-use Rattle.rv_text.specs.NameTable.{meaning, place_of, placed, met}
-use Rattle.rv_text.specs.Source.{Sandbox, named, IsDataSize, IsBody, IsThere, IsEntry, IsGate, IsItem, IsSandbox, IsSource}
-use Rattle.rv_text.specs.SoFar.{Begun, SoFar, begin, here, with_names, with_label, with_gate, items_of, with_bodies, with_bytes, nothing, sandboxes}
-use Rattle.rv_text.specs.Effects.{IsFree, Labels, Fits, GoesOn, Does, behind}
-use Rattle.rv_text.proofs.Placing.{Has, has_contained, contained_has, placed_has, placed_keeps, placed_only, placed_at, placed_stays, placed_all, placed_grows, place_among, placed_differ}
+use Rattle.rv_text.specs.NameTable.{place_of, placed, met}
+use Rattle.rv_text.specs.Source.{Sandbox, IsDataSize, IsBody, IsThere, IsEntry, IsGate, IsSandbox}
+use Rattle.rv_text.specs.SoFar.{Begun, begin, with_names, with_label, with_gate, items_of, with_bodies, with_bytes}
+use Rattle.rv_text.specs.Effects.{IsFree}
+use Rattle.rv_text.proofs.Placing.{Has, has_contained, contained_has, placed_has, placed_keeps, placed_only, placed_at, placed_stays, placed_all, placed_grows, placed_differ}
 
 -- the item of this number fits the names
 pub record IsDraftItem (s : Sandbox) (k : ℕ) (i : Item) : Type 0 where

@@ -1,5 +1,5 @@
 -- What a text means is right: by its lines, from nothing.
-use Rattle.std.proofs.Common.{◌≡◌, refl, sym, ap, subst, ◌∙◌, ℕ, zero, suc, ◌+◌, ◌<◌, ◌≤◌, inl, inr, List, [], ◌∷◌, ◌++◌, Option, None, Some, map, length, length-append, arith}
+use Rattle.std.proofs.Common.{◌≡◌, refl, sym, ap, subst, ◌∙◌, ℕ, suc, ◌+◌, ◌≤◌, inl, inr, List, [], ◌∷◌, ◌++◌, Option, None, Some, map, length, length-append, arith}
 use Rattle.std.proofs.lemmas.List.{length-map}
 use Rattle.std.specs.List.{All, AllByRecursion}
 use Rattle.std.proofs.lemmas.Option.{same_Some, none-some}
@@ -8,9 +8,7 @@ use Rattle.rv_word.specs.Spelling.{InRange}
 use Rattle.rv_text.specs.declared.item.Named.{Named}
 use Rattle.rv_text.specs.declared.item.Named.TheVariants.{Unknown}
 use Rattle.rv_text.specs.declared.item.Named.TheVariants as named_as
-use Rattle.rv_text.specs.declared.item.Body.{Body}
 use Rattle.rv_text.specs.declared.item.Body.TheVariants.{Plain, To, High, Low}
-use Rattle.rv_text.specs.declared.keyword.Directive.{Directive}
 use Rattle.rv_text.specs.declared.keyword.Directive.TheVariants as directive
 use Rattle.rv_text.specs.declared.keyword.Keyword.{Keyword}
 use Rattle.rv_text.specs.declared.keyword.Keyword.TheVariants as keyword
@@ -18,14 +16,14 @@ use Rattle.rv_text.specs.declared.statement.Place.{Place}
 use Rattle.rv_text.specs.declared.statement.Place.TheVariants as place
 use Rattle.rv_text.specs.Tokens.{IsLabel, Takes}
 use Rattle.rv_text.specs.Keywords.{place_of_keyword}
-use Rattle.rv_text.specs.Lines.{Behind, StatesBehind}
+use Rattle.rv_text.specs.Lines.{StatesBehind}
 use Rattle.rv_text.specs.Stated.{Stated, sandbox, gate, compressed, data_part, bytes, plain, jump, address, place_of_stated, IsRightStatement}
 use Rattle.rv_text.specs.NameTable.{meaning, place_of, met}
-use Rattle.rv_text.specs.Source.{Sandbox, IsStraight, IsBody, IsSandbox, IsSource}
-use Rattle.rv_text.specs.SoFar.{Begun, SoFar, begin, with_label, with_names, with_bodies, nothing, last_sandbox, sandboxes}
+use Rattle.rv_text.specs.Source.{IsStraight, IsBody, IsSandbox}
+use Rattle.rv_text.specs.SoFar.{Begun, SoFar, with_label, with_names, nothing, last_sandbox, sandboxes}
 use Rattle.rv_text.specs.Effects.{IsFree, Labels, Fits, GoesOn, Does, behind}
-use Rattle.rv_text.specs.Leads.{BeginsWithName, BeginsWithLabel, LabelsLead, IsTaken, IsGateTwice, LeadsBehind, StatementLeads, RestLeads, Leads}
-use Rattle.rv_text.specs.Texts.{uncommented, lines, LinesLead, MeansSource}
+use Rattle.rv_text.specs.Leads.{BeginsWithName, LabelsLead, IsTaken, LeadsBehind, RestLeads, Leads}
+use Rattle.rv_text.specs.Texts.{uncommented, lines, LinesLead}
 use Rattle.rv_text.specs.Laws.{SourcesAreRight}
 use Rattle.rv_text.proofs.Placing.{place_among}
 use Rattle.rv_text.proofs.Right.{behind_right, behind_place}

@@ -1,11 +1,10 @@
 -- The source so far: what the lines read so far have made.
-use Rattle.std.specs.Prelude.{ℕ, Bool, true, false, ◌||◌, not, List, [], ◌∷◌, ◌++◌, Option, None, Some, length, map, if◌then◌else◌}
+use Rattle.std.specs.Prelude.{ℕ, Bool, true, false, ◌||◌, not, List, [], ◌∷◌, ◌++◌, Option, None, Some, length, if◌then◌else◌}
 use Rattle.rv_text.specs.declared.item.Body.{Body}
-use Rattle.rv_text.specs.declared.item.Body.TheVariants.{Plain, To, High, Low}
 use Rattle.rv_text.specs.declared.item.Item.{Item}
 use Rattle.rv_text.specs.declared.item.Named.{Named}
-use Rattle.rv_text.specs.declared.item.Named.TheVariants.{Gate, Code, Data, Unknown}
-use Rattle.rv_text.specs.NameTable.{meaning, place_of, placed, met}
+use Rattle.rv_text.specs.declared.item.Named.TheVariants.{Gate, Code, Data}
+use Rattle.rv_text.specs.NameTable.{place_of, placed}
 use Rattle.rv_text.specs.Source.{Sandbox}
 
 -- the sandbox begun last

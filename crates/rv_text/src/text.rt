@@ -1,12 +1,12 @@
 //! Reading the text of a source.
-ghost use Rattle.std.specs.Prelude.{◌≡◌, ◌∷◌, [], ◌⊎◌, ◌<◌, ◌≤◌, List, ℕ, length, MatchOption, MatchResult, IfOk, IfErr, OnOk};
+ghost use Rattle.std.specs.Prelude.{◌≡◌, ◌∷◌, [], ◌⊎◌, ◌<◌, ◌≤◌, List, ℕ, length, MatchOption, MatchResult, IfOk, IfErr, OnOk, Err};
 ghost use Rattle.rv_text.specs.declared.fault.TextFault.{TextFault};
 ghost use Rattle.rv_text.specs.declared.cause.TextCause.TheVariants as causes;
 ghost use Rattle.rv_text.specs.Causes.{memory};
 ghost use Rattle.rv_text.specs.Leads.{Leads, LineRefused};
 ghost use Rattle.rv_text.specs.Source.{Sandbox};
 ghost use Rattle.rv_text.specs.SoFar.{nothing};
-ghost use Rattle.rv_text.specs.Texts.{uncommented, lines, LinesLead, FirstRefused, LineFault, BeginsWithLine, MeansSource, IsFault};
+ghost use Rattle.rv_text.specs.Texts.{most_bytes, first_line, uncommented, lines, LinesLead, FirstRefused, LineFault, BeginsWithLine, MeansSource, IsFault};
 
 use crate::cause::TextCause;
 use crate::fault::TextFault;
@@ -89,6 +89,7 @@ fn read_lines(progress: &mut Progress, alloc: Global, text: &str) -> Result<(), 
 fn read_source(alloc: Global, text: &str) -> Result<Source, TextFault>
     ensures source { IfOk result (λ s. MeansSource text.now s) }
     ensures fault { IfErr result (λ f. (f ≡ memory) ⊎ IsFault text.now f) }
+    ensures too_long { most_bytes < length text.now → result ≡ Err (first_line causes.Limit) }
 {
     if text.len() > MOST_BYTES {
         return Err(TextFault {
@@ -116,6 +117,7 @@ pub fn parse_source(alloc: Global, text: &str) -> Result<Source, TextFault>
     ensures fault { IfErr result (λ f. (f ≡ memory) ⊎ IsFault text.now f) }
     ensures only_fault { (f : TextFault) → IsFault text.now f
         → MatchResult result (λ _. ⊥) (λ g. (g ≡ f) ⊎ (g ≡ memory)) }
+    ensures too_long { most_bytes < length text.now → result ≡ Err (first_line causes.Limit) }
 {
     read_source(alloc, text)
 }

@@ -19,7 +19,10 @@ fn spells(rt: &impl Abort, word: u32, instr: &Instr) {
     let read = decode32(word);
     assert!(rt; read == Some(*instr), "reading {word:08x}");
     assert!(rt; encode32(*instr) == Some(word), "writing {word:08x}");
-    assert!(rt; outline32(word) == Some(outline_of(*instr)), "outline of {word:08x}");
+    assert!(rt;
+        outline32(word) == Some(outline_of(*instr)),
+        "outline of {word:08x}"
+    );
 }
 
 #[test]

@@ -1,5 +1,5 @@
 -- A sandbox alone, with the replies that it got among others.
-use Rattle.std.proofs.Common.{◌≡◌, ◌≢◌, ℕ, zero, suc, ◌==◌, Bool, true, false, cond, List, [], ◌∷◌, ◌++◌, map, Option, Some, None, slice_get, set, take, refl, sym, ap, ◌∙◌, subst, arith, append_assoc, append-nil}
+use Rattle.std.proofs.Common.{◌≡◌, ◌≢◌, ℕ, zero, suc, ◌==◌, true, false, cond, List, [], ◌∷◌, ◌++◌, map, Option, Some, None, slice_get, set, take, refl, sym, ap, ◌∙◌, subst, arith, append_assoc, append-nil}
 use Rattle.std.specs.List.{filter}
 use Rattle.rv_step.specs.State.{State}
 use Rattle.rv_step.specs.declared.outcome.Outcome.{Outcome}

@@ -5,9 +5,9 @@ use Rattle.rv_mem.specs.Bytes.{Bytes, byte_at}
 use Rattle.sfi_image.specs.Spans.{Holds}
 use Rattle.sfi_host.specs.declared.sandbox.Sandbox.{Sandbox}
 use Rattle.sfi_host.specs.Regions.{bytes_in}
-use Rattle.sfi_host.specs.Slots.{Slot, own}
+use Rattle.sfi_host.specs.Slots.{Slot}
 use Rattle.sfi_host.specs.Sandboxes.{seat_of, world_of}
-use Rattle.sfi_host.specs.Worlds.{Seat, Sandboxes, slot_of, slots_of, status_at, steps_at, data_byte_of, IsSafeSeat, IsSafeWorld}
+use Rattle.sfi_host.specs.Worlds.{Sandboxes, slot_of, slots_of, status_at, steps_at, data_byte_of, IsSafeWorld}
 use Rattle.sfi_host.proofs.Leaving.{data_of_own}
 
 -- the slot of a sandbox

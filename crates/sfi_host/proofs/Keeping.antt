@@ -1,19 +1,17 @@
 -- What leaves a sandbox safe.
-use Rattle.std.proofs.Common.{◌≡◌, ◌≢◌, ℕ, ◌+◌, ◌-◌, ◌<◌, ◌≤◌, ◌⊎◌, inl, inr, ◌^◌, List, get_or, refl, sym, ap, ◌∙◌, subst, arith, get_or-set_other}
+use Rattle.std.proofs.Common.{◌≡◌, ◌≢◌, ℕ, ◌≤◌, inl, inr, List, refl, sym, ◌∙◌, subst, arith, get_or-set_other}
 use Rattle.std.specs.Prelude.{slice_index, slice_set}
 use Rattle.rv_word.specs.declared.instr.Instr.TheVariants.{Ecall}
-use Rattle.rv_mem.specs.Bytes.{Bytes, IsMemory, byte_at, address_after}
-use Rattle.rv_step.specs.State.{Hart, State, IsHart, register, behind}
+use Rattle.rv_mem.specs.Bytes.{Bytes, IsMemory, address_after}
+use Rattle.rv_step.specs.State.{Hart, IsHart, behind}
 use Rattle.rv_step.specs.Step.{Stands}
-use Rattle.sfi_image.specs.declared.span.Span.{Span}
-use Rattle.sfi_image.specs.Spelling.{Part}
 use Rattle.sfi_image.specs.Spans.{Holds}
 use Rattle.sfi_check.specs.Regions.{InCode, InData, InGuard}
-use Rattle.sfi_check.specs.Runs.{Turn, Replies, Changes, KeepsBytes, KeepsReserved, IsReply, IsChange}
+use Rattle.sfi_check.specs.Runs.{Replies, Changes, KeepsBytes, KeepsReserved}
 use Rattle.sfi_check.specs.Laws.{SafeStaysSafe}
 use Rattle.sfi_host.specs.declared.status.Status.TheVariants.{Ready}
 use Rattle.sfi_host.specs.Regions.{IsWhole}
-use Rattle.sfi_host.specs.Slots.{Bounds, bounds_of}
+use Rattle.sfi_host.specs.Slots.{Bounds}
 use Rattle.sfi_host.specs.Joint.{with_arguments}
 use Rattle.sfi_host.specs.Worlds.{Seat, machine_of, IsSafeSeat, StaysOutside}
 

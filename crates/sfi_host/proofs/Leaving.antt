@@ -6,7 +6,6 @@ use Rattle.std.specs.Cmp.{nat_cmp_total}
 use Rattle.std.specs.FinMap.{find, entries, get-from_entries, get-entries}
 use Rattle.rv_mem.specs.Bytes.{Bytes, byte_at}
 use Rattle.sfi_image.specs.declared.span.Span.{Span}
-use Rattle.sfi_image.specs.Spans.{Holds}
 use Rattle.sfi_host.specs.Regions.{is_in, bytes_in, bytes_outside, IsWhole}
 use Rattle.sfi_host.specs.Slots.{Bounds, is_own, own}
 use Rattle.sfi_host.specs.Joint.{both, with_data}

@@ -2,12 +2,10 @@
 use Rattle.std.proofs.Common.{◌≡◌, ◌≢◌, ℕ, zero, suc, ◌+◌, ◌-◌, ◌<◌, ◌≤◌, ◌==◌, ◌⊎◌, ⊎_elim, Bool, true, false, List, [], ◌∷◌, map, set, length, Option, Some, None, is_some, slice_get, refl, sym, ap, ◌∙◌, subst, arith}
 use Rattle.rv_mem.specs.Bytes.{Bytes, byte_at}
 use Rattle.sfi_image.specs.Spans.{Holds}
-use Rattle.sfi_check.specs.Regions.{InCode, InGuard}
-use Rattle.sfi_check.specs.Runs.{KeepsBytes}
+use Rattle.sfi_check.specs.Regions.{InGuard}
 use Rattle.sfi_check.specs.Laws.{SafeStaysSafe}
-use Rattle.sfi_host.specs.Regions.{IsWhole}
-use Rattle.sfi_host.specs.Slots.{Bounds, bounds_of, is_own, own, Slot}
-use Rattle.sfi_host.specs.Worlds.{Seat, Sandboxes, slot_of, slots_of, IsSafeSeat, LiesOutside, IsSafeWorld, StaysOutside, with_guards}
+use Rattle.sfi_host.specs.Slots.{Bounds, own, Slot}
+use Rattle.sfi_host.specs.Worlds.{Seat, slot_of, slots_of, IsSafeSeat, LiesOutside, IsSafeWorld, StaysOutside, with_guards}
 use Rattle.sfi_host.proofs.Keeping as keep
 use Rattle.sfi_host.proofs.Owning.{own_is, own_there, own_missing, same_own}
 

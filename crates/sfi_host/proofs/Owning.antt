@@ -1,24 +1,20 @@
 -- A step in the one memory, and the same step in the sandbox's own.
-use Rattle.std.proofs.Common.{◌≡◌, ◌≢◌, ℕ, ◌+◌, ◌-◌, ◌<◌, ◌≤◌, ◌⊎◌, inl, inr, ⊎_elim, ◌||◌, Bool, true, false, cond, Option, Some, None, IsSome, is_some, refl, sym, ap, ◌∙◌, subst, arith}
-use Rattle.std.specs.FinMap.{retain_keys}
-use Rattle.rv_word.specs.declared.instr.Instr.{Instr}
-use Rattle.rv_mem.specs.Bytes.{Bytes, byte_at, address_after}
+use Rattle.std.proofs.Common.{◌≡◌, ◌≢◌, ℕ, ◌≤◌, ◌⊎◌, inl, inr, ⊎_elim, ◌||◌, Bool, true, false, cond, None, refl, sym, ap, ◌∙◌, subst, arith}
+use Rattle.rv_mem.specs.Bytes.{Bytes, byte_at}
 use Rattle.rv_step.specs.declared.outcome.Outcome.{Outcome}
 use Rattle.rv_step.specs.declared.outcome.Outcome.TheVariants.{Next, Call, Trap}
 use Rattle.rv_step.specs.Access.{Accesses}
 use Rattle.rv_step.specs.Laws.{AgreeHere, IsSameStep, AgreeingStandsToo, AgreeingStepsAreSame, OtherBytesStay, StoppedStays, NoByteGoes, CallsAreEcalls}
 use Rattle.rv_step.specs.State.{Hart, State}
 use Rattle.rv_step.specs.Step.{Stepped, Stands, IsStep}
-use Rattle.sfi_image.specs.declared.span.Span.{Span}
-use Rattle.sfi_image.specs.Spelling.{Part}
 use Rattle.sfi_image.specs.Spans.{Holds}
 use Rattle.sfi_check.specs.Regions.{InCode, InData, InGuard}
-use Rattle.sfi_check.specs.Runs.{Turn, Steps, after_step}
+use Rattle.sfi_check.specs.Runs.{Steps, after_step}
 use Rattle.sfi_check.specs.Safety.{IsSafeState, IsSafeStep, IsTrap, RunsSafelyFrom}
 use Rattle.sfi_check.specs.Laws.{SafeTurns, SafeStaysSafe}
 use Rattle.sfi_host.specs.declared.status.Status.TheVariants.{Ready}
-use Rattle.sfi_host.specs.Regions.{is_in, IsWhole}
-use Rattle.sfi_host.specs.Slots.{Bounds, bounds_of, is_own, own, state_of}
+use Rattle.sfi_host.specs.Regions.{is_in}
+use Rattle.sfi_host.specs.Slots.{Bounds, is_own, own, state_of}
 use Rattle.sfi_host.specs.Joint.{Machine, IsMachine}
 use Rattle.sfi_host.specs.Worlds.{Seat, slot_of, machine_of, IsSafeSeat, StaysOutside}
 use Rattle.sfi_host.specs.Steps.{own_step, stepped_seat, IsOwnStep, StepsAreOwn}

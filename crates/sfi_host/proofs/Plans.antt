@@ -1,14 +1,13 @@
 -- The turns of a plan, one after another.
-use Rattle.std.proofs.Common.{◌≡◌, ◌≢◌, ℕ, zero, suc, ◌+◌, ◌<◌, ◌≤◌, Bool, true, false, List, [], ◌∷◌, drop, get_or, length, Option, Some, None, slice_get, set, refl, sym, ap, ◌∙◌, subst, arith}
+use Rattle.std.proofs.Common.{◌≡◌, ℕ, zero, suc, ◌+◌, ◌<◌, ◌≤◌, Bool, true, false, List, [], ◌∷◌, drop, get_or, length, Option, Some, None, slice_get, set, refl, sym, ap, ◌∙◌, subst, arith}
 use Rattle.std.proofs.Math.Seq.{drop-cons}
 use Rattle.std.proofs.lemmas.Option.{slice_get-get_or}
 use Rattle.sfi_host.specs.declared.turn.Turn.{Turn}
 use Rattle.sfi_host.specs.Hosts.{Call, Answer, Host, Limited, limited}
 use Rattle.sfi_host.specs.Slots.{Slot}
-use Rattle.sfi_host.specs.Joint.{Machine, IsMachine, Then, More, TurnEnds, RunEnds, Moved, turned, Joined, joined, given, and_plan, turn_and, after_turn}
-use Rattle.sfi_host.specs.Calls.{IsAtRefusedCall}
-use Rattle.sfi_host.specs.Plans.{IsJoint, IsCutJoint, IsRefusedIn}
-use Rattle.sfi_host.specs.Limits.{allow, allows, with_left, Comes, IsTurnOf, IsCutTurnOf, SamePlan, IsPlanOnItsWay, IsPlanStep, IsCut, IsPlanCut}
+use Rattle.sfi_host.specs.Joint.{Machine, IsMachine, Then, TurnEnds, RunEnds, Moved, turned, Joined, joined, given, and_plan, turn_and, after_turn}
+use Rattle.sfi_host.specs.Plans.{IsJoint, IsCutJoint}
+use Rattle.sfi_host.specs.Limits.{allow, allows, with_left, Comes, IsTurnOf, IsCutTurnOf, SamePlan, IsPlanOnItsWay, IsPlanStep, IsPlanCut}
 use Rattle.sfi_host.specs.Worlds.{Sandboxes, slots_of, IsSafeWorld}
 use Rattle.sfi_host.proofs.Turning.{allows_both}
 

@@ -1,5 +1,5 @@
 -- A sandbox behind an answered call is the slot that the definition makes.
-use Rattle.std.proofs.Common.{◌≡◌, ◌≢◌, ℕ, Bool, refl, sym, ap, ◌∙◌, subst}
+use Rattle.std.proofs.Common.{◌≡◌, ◌≢◌, ℕ, Bool, refl, sym, ap, ◌∙◌}
 use Rattle.rv_mem.specs.Bytes.{Bytes, IsMemory}
 use Rattle.rv_word.specs.declared.instr.Instr.TheVariants.{Ecall}
 use Rattle.rv_step.specs.State.{Hart, IsHart, register, behind}
@@ -18,10 +18,10 @@ use Rattle.sfi_host.specs.Answering.{spoken}
 use Rattle.sfi_host.specs.Hosts.{Call, Way, Replied, Yield, Exit, Reply, Answer}
 use Rattle.sfi_host.specs.Regions.{bytes_in, bytes_outside, IsWhole}
 use Rattle.sfi_host.specs.Slots.{Bounds, Slot, one_more, own}
-use Rattle.sfi_host.specs.Joint.{service_at, call_of, with_arguments, with_data, after_way, replied, then_of}
+use Rattle.sfi_host.specs.Joint.{service_at, call_of, with_arguments, with_data, replied, then_of}
 use Rattle.sfi_host.specs.Sandboxes.{seat_of, call_by, IsTold, IsNotTold, after_told, going_after, next_of, IsReplied, IsNotReplied}
 use Rattle.sfi_host.specs.Worlds.{slot_of, machine_of, IsSafeSeat, StaysOutside}
-use Rattle.sfi_host.proofs.Leaving.{data_of_own, put_back, stays_outside, whole_of}
+use Rattle.sfi_host.proofs.Leaving.{data_of_own, put_back}
 use Rattle.sfi_host.proofs.Keeping as keep
 
 abbrev slot_with : Bounds → Hart → Status → ℕ → Bytes → Slot

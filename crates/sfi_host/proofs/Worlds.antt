@@ -1,19 +1,16 @@
 -- A world at its start is safe.
-use Rattle.std.proofs.Common.{◌≡◌, ◌≢◌, ℕ, zero, suc, ◌+◌, ◌-◌, ◌%◌, ◌^◌, ◌<◌, ◌≤◌, List, [], ◌∷◌, length, set, get_or, Option, Some, None, is_some, IsSome, slice_get, refl, sym, ap, ◌∙◌, subst, arith}
+use Rattle.std.proofs.Common.{◌≡◌, ◌≢◌, ℕ, zero, suc, ◌+◌, ◌-◌, ◌%◌, ◌^◌, ◌<◌, ◌≤◌, List, [], ◌∷◌, length, Option, Some, is_some, IsSome, slice_get, refl, sym, ap, ◌∙◌, subst, arith}
 use Rattle.std.specs.Prelude.{slice_index, slice_set, replicate, map}
-use Rattle.std.specs.List.{All}
 use Rattle.std.specs.FinMap.{empty}
-use Rattle.rv_mem.specs.Bytes.{Bytes, IsMemory, byte_at}
-use Rattle.rv_step.specs.State.{Hart, IsHart}
+use Rattle.rv_mem.specs.Bytes.{IsMemory, byte_at}
+use Rattle.rv_step.specs.State.{IsHart}
 use Rattle.sfi_image.specs.Spelling.{Part}
 use Rattle.sfi_image.specs.Parts.{IsRightPart, IsRightLayout}
-use Rattle.sfi_check.specs.Regions.{InData}
-use Rattle.sfi_check.specs.Runs.{IsEntry}
 use Rattle.sfi_check.specs.Safety.{RunsSafely, AllRunSafely}
 use Rattle.sfi_host.specs.Slots.{bounds_of}
 use Rattle.sfi_host.specs.Loading.{first_hart, first_seat, with_parts, AreEntered, HaveFirstData}
-use Rattle.sfi_host.specs.Worlds.{Seat, Sandboxes, machine_of, IsSafeSeat, LiesOutside, IsSafeWorld}
-use Rattle.sfi_host.proofs.Entered.{Laws, LieApart, Apart, lie_apart, has_code, has_data, has_empty_guards, get_is, get_below, data_guarded}
+use Rattle.sfi_host.specs.Worlds.{Seat, machine_of, IsSafeSeat, LiesOutside, IsSafeWorld}
+use Rattle.sfi_host.proofs.Entered.{Laws, Apart, lie_apart, has_code, has_data, has_empty_guards, get_is, get_below, data_guarded}
 
 -- ---- the first hart
 

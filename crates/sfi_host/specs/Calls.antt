@@ -1,5 +1,5 @@
 -- A call at which a host may refuse for want of memory.
-use Rattle.std.specs.Prelude.{◌≡◌, ℕ, Bool, true, Option, Some}
+use Rattle.std.specs.Prelude.{◌≡◌, ℕ, Bool, true}
 use Rattle.rv_step.specs.declared.outcome.Outcome.TheVariants.{Call as Calls}
 use Rattle.sfi_host.specs.declared.status.Status.TheVariants.{Ready}
 use Rattle.sfi_host.specs.Hosts.{Call}

@@ -1,5 +1,5 @@
 -- What a plan did to a world's sandboxes and their host.
-use Rattle.std.specs.Prelude.{◌≡◌, ℕ, ◌+◌, Bool, true, false, List, Option, Some, None, slice_get}
+use Rattle.std.specs.Prelude.{◌≡◌, ℕ, ◌+◌, Bool, true, false, List, Some, None, slice_get}
 use Rattle.sfi_host.specs.declared.turn.Turn.{Turn}
 use Rattle.sfi_host.specs.Hosts.{Call, Answer}
 use Rattle.sfi_host.specs.Slots.{Slot}

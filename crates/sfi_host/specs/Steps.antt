@@ -2,7 +2,6 @@
 use Rattle.std.specs.Prelude.{◌≡◌, ◌≢◌, ℕ}
 use Rattle.rv_word.specs.declared.instr.Instr.TheVariants.{Ecall}
 use Rattle.rv_mem.specs.Bytes.{Bytes}
-use Rattle.rv_step.specs.State.{State}
 use Rattle.rv_step.specs.Step.{Stepped, Stands, IsStep}
 use Rattle.rv_step.specs.declared.outcome.Outcome.TheVariants.{Next, Call}
 use Rattle.sfi_host.specs.declared.status.Status.TheVariants.{Ready}

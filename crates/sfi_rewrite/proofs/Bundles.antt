@@ -1,9 +1,9 @@
 -- Bundles of whole expansions.
 use Rattle.std.proofs.Common.{◌≡◌, ◌≢◌, ◌==◌, true, false, replicate, ℕ, ◌+◌, ◌-◌, ◌<◌, ◌≤◌, ◌*◌, ◌%◌, List, [], ◌∷◌, ◌++◌, length, refl, sym, ap, ◌∙◌, subst, arith, append_assoc, append-nil, length-append}
-use Rattle.std.specs.List.{All, flat_map}
+use Rattle.std.specs.List.{All}
 use Rattle.std.proofs.lemmas.List.Elements.{All-push, All-nil, All-head, All-tail}
 use Rattle.sfi_rewrite.specs.declared.slot.Slot.{Slot}
-use Rattle.sfi_rewrite.specs.Slots.{size_of, slots_of, bundle_size, c_nop, code_most}
+use Rattle.sfi_rewrite.specs.Slots.{size_of, slots_of, c_nop, code_most}
 use Rattle.sfi_rewrite.specs.Placed.{AreWhole, nothing, lone, load, store, jump, jump_with_offset}
 use Rattle.sfi_rewrite.specs.Placement.{AreBundles}
 use Rattle.sfi_rewrite.specs.Filling.{IsFull, IsFilled}

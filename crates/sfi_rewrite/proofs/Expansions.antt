@@ -1,11 +1,9 @@
 -- What is known of an expansion.
-use Rattle.std.proofs.Common.{◌≡◌, ℕ, zero, suc, ◌+◌, ◌<◌, ◌≤◌, List, [], ◌∷◌, ◌++◌, length, Bool, true, false, refl, sym, ap, ◌∙◌, subst, arith, inl, inr}
+use Rattle.std.proofs.Common.{◌≡◌, ℕ, zero, suc, ◌<◌, ◌≤◌, List, [], ◌∷◌, Bool, true, false, refl, ap, ◌∙◌, arith, inl, inr}
 use Rattle.std.proofs.lemmas.Bool.{or_parts}
-use Rattle.std.specs.Prelude.{ℤ, pos, negsuc, ◌==◌, ◌||◌, ◌≢◌, not, IsTrue}
+use Rattle.std.specs.Prelude.{ℤ, pos, negsuc}
 use Rattle.rv_word.specs.declared.instr.Instr.{Instr}
 use Rattle.rv_word.specs.declared.instr.Instr.TheVariants.{Op, OpImm, Load, Store, Branch, Jal, Jalr, Lui, Auipc, Fence, Ecall, Ebreak}
-use Rattle.rv_comp.specs.Table.{expansion}
-use Rattle.rv_text.specs.declared.item.Item.{Item}
 use Rattle.rv_text.specs.declared.item.Body.{Body}
 use Rattle.rv_text.specs.declared.item.Body.TheVariants.{Plain, To, High, Low}
 use Rattle.rv_text.specs.Source.{IsBody, IsOpen}
@@ -13,7 +11,7 @@ use Rattle.sfi_rewrite.specs.declared.slot.Slot.{Slot}
 use Rattle.sfi_rewrite.specs.declared.slot.Slot.TheVariants.{Wide, Short, Jump, Upper, Lower}
 use Rattle.sfi_rewrite.specs.Registers.{is_withheld, names_withheld, item_names_withheld, is_ecall}
 use Rattle.sfi_rewrite.specs.Slots.{size_of}
-use Rattle.sfi_rewrite.specs.Expansion.{data_pair, code_pair, jump_to_x31, jump_slots, IsAlone, IsExpansionOf}
+use Rattle.sfi_rewrite.specs.Expansion.{jump_slots, IsAlone, IsExpansionOf}
 use Rattle.sfi_rewrite.specs.Placed.{is_calm, is_direct, AreWhole, nothing, lone, load, store, jump, jump_with_offset}
 
 -- slots that fit one bundle, and are whole expansions

@@ -1,6 +1,6 @@
 -- What is laid from an end on: one more item, a beginning of the items, and that there is one way.
-use Rattle.std.proofs.Common.{◌≡◌, ℕ, zero, suc, ◌+◌, ◌*◌, ◌<◌, ◌≤◌, List, [], ◌∷◌, ◌++◌, take, drop, replicate, refl, sym, ap, ◌∙◌, subst, arith, append_assoc, append-nil, inl, inr}
-use Rattle.std.specs.Prelude.{ℤ, pos, negsuc, Bool, true, false, IsTrue}
+use Rattle.std.proofs.Common.{◌≡◌, ℕ, zero, suc, ◌+◌, ◌*◌, List, [], ◌∷◌, ◌++◌, take, drop, replicate, refl, sym, ap, ◌∙◌, subst, arith, append_assoc, append-nil, inl, inr}
+use Rattle.std.specs.Prelude.{Bool, true, false}
 use Rattle.rv_word.specs.declared.instr.Instr.{Instr}
 use Rattle.rv_word.specs.declared.instr.Instr.TheVariants.{Op, OpImm, Load, Store, Branch, Jal, Jalr, Lui, Auipc, Fence, Ecall, Ebreak}
 use Rattle.rv_comp.specs.declared.form.Form16.{Form16}
@@ -9,7 +9,7 @@ use Rattle.rv_text.specs.declared.item.Item.{Item}
 use Rattle.rv_text.specs.declared.item.Body.{Body}
 use Rattle.rv_text.specs.declared.item.Body.TheVariants.{Plain, To, High, Low}
 use Rattle.sfi_rewrite.specs.declared.slot.Slot.{Slot}
-use Rattle.sfi_rewrite.specs.declared.slot.Slot.TheVariants.{Wide, Short, Jump, Upper, Lower}
+use Rattle.sfi_rewrite.specs.declared.slot.Slot.TheVariants.{Short}
 use Rattle.sfi_rewrite.specs.Slots.{size_of, c_nop}
 use Rattle.sfi_rewrite.specs.Expansion.{IsAlone, IsExpansionOf, IsExpansion, is_call}
 use Rattle.sfi_rewrite.specs.Places.{FillsGap, IsNext, AreLaidFrom}

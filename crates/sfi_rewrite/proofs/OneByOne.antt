@@ -1,7 +1,6 @@
 -- One item after another.
-use Rattle.std.proofs.Common.{◌≡◌, ℕ, zero, suc, ◌+◌, ◌*◌, ◌%◌, ◌<◌, ◌≤◌, List, [], ◌∷◌, ◌++◌, length, take, get_or, replicate, refl, sym, ap, ◌∙◌, subst, arith, Some, append_assoc, inl, inr, length-append}
-use Rattle.std.specs.Prelude.{Bool, true, false, slice_get}
-use Rattle.std.specs.List.{All}
+use Rattle.std.proofs.Common.{◌≡◌, ℕ, ◌+◌, ◌*◌, ◌%◌, ◌<◌, ◌≤◌, List, [], ◌∷◌, ◌++◌, length, take, get_or, replicate, refl, sym, ap, ◌∙◌, subst, arith, Some, append_assoc, inl, inr, length-append}
+use Rattle.std.specs.Prelude.{Bool, slice_get}
 use Rattle.std.proofs.lemmas.List.{take_more, take_all, get_or_append_left, get_or_push}
 use Rattle.std.proofs.lemmas.List.Elements.{All-push, All-nil}
 use Rattle.std.proofs.lemmas.Bool.{cases_lt}
@@ -13,8 +12,7 @@ use Rattle.sfi_rewrite.specs.declared.fault.RewriteFault.{RewriteFault}
 use Rattle.sfi_rewrite.specs.declared.fault.RewriteFault.TheVariants.{ReservedRegister, Ecall, TooLarge, Memory}
 use Rattle.sfi_rewrite.specs.Slots.{size_of, code_most, c_nop}
 use Rattle.sfi_rewrite.specs.Expansion.{IsExpansion, is_call}
-use Rattle.sfi_rewrite.specs.Places.{next_bundle, FillsGap, IsNext, AreLaid, IsLabelAt}
-use Rattle.sfi_rewrite.specs.Placed.{AreWhole}
+use Rattle.sfi_rewrite.specs.Places.{next_bundle, FillsGap, IsNext, IsLabelAt}
 use Rattle.sfi_rewrite.specs.Filling.{HasNext, HaveBodies, AreLabels}
 use Rattle.sfi_rewrite.specs.Faults.{IsPermitted, AreFaultless, IsTooLarge, HasItemFault, HasFault, UnlessMemory, IsItemFault}
 use Rattle.sfi_rewrite.proofs.Sizes.{size_of-append, size_even, size_nops}

@@ -1,6 +1,6 @@
 -- A source has one fault, or is rewritten.
-use Rattle.std.proofs.Common.{◌≡◌, ℕ, zero, suc, ◌+◌, ◌*◌, ◌<◌, ◌≤◌, List, [], ◌∷◌, ◌++◌, length, take, drop, get_or, refl, sym, ap, ◌∙◌, subst, arith, Some, inl, inr}
-use Rattle.std.specs.Prelude.{ℤ, pos, negsuc, Bool, true, false, slice_get, IsTrue}
+use Rattle.std.proofs.Common.{◌≡◌, ℕ, zero, suc, ◌+◌, ◌<◌, ◌≤◌, List, [], ◌∷◌, length, take, drop, get_or, sym, ap, ◌∙◌, subst, arith, Some, inl, inr}
+use Rattle.std.specs.Prelude.{ℤ, pos, negsuc, Bool, true, false, slice_get}
 use Rattle.std.specs.List.{All, AllZip}
 use Rattle.std.proofs.Math.Seq.{drop-cons}
 use Rattle.std.proofs.lemmas.Bool.{cases_order}
@@ -14,14 +14,13 @@ use Rattle.rv_text.specs.declared.item.Body.{Body}
 use Rattle.rv_text.specs.declared.item.Body.TheVariants.{Plain, To, High, Low}
 use Rattle.rv_text.specs.Source.{Sandbox}
 use Rattle.sfi_rewrite.specs.declared.slot.Slot.{Slot}
-use Rattle.sfi_rewrite.specs.declared.slot.Slot.TheVariants.{Wide, Short, Jump, Upper, Lower}
 use Rattle.sfi_rewrite.specs.declared.fault.RewriteFault.{RewriteFault}
 use Rattle.sfi_rewrite.specs.declared.fault.RewriteFault.TheVariants.{ReservedRegister, Ecall, TooLarge, Memory}
-use Rattle.sfi_rewrite.specs.Slots.{size_of, code_most}
+use Rattle.sfi_rewrite.specs.Slots.{size_of}
 use Rattle.sfi_rewrite.specs.Expansion.{jump_slots, IsAlone, IsExpansionOf}
-use Rattle.sfi_rewrite.specs.Places.{IsNext, AreLaidFrom}
+use Rattle.sfi_rewrite.specs.Places.{AreLaidFrom}
 use Rattle.sfi_rewrite.specs.Placement.{Placement}
-use Rattle.sfi_rewrite.specs.Faults.{IsPermitted, AreFaultless, IsTooLarge, HasFault, UnlessMemory, IsItemFault, IsFaultless, IsSourceFault}
+use Rattle.sfi_rewrite.specs.Faults.{IsPermitted, AreFaultless, IsTooLarge, HasFault, IsItemFault, IsFaultless, IsSourceFault}
 use Rattle.sfi_rewrite.specs.Rewriting.{IsRewritten}
 use Rattle.sfi_rewrite.proofs.Sizes.{size_of-append}
 use Rattle.sfi_rewrite.proofs.Laid.{laid_split, laid_one_way, next_one_way, size_next}

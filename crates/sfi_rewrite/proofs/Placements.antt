@@ -1,6 +1,6 @@
 -- The placement of a sandbox keeps what the type of what is placed keeps.
-use Rattle.std.proofs.Common.{◌≡◌, ℕ, zero, suc, ◌+◌, ◌-◌, ◌*◌, ◌/◌, ◌%◌, ◌<◌, ◌≤◌, List, [], ◌∷◌, ◌++◌, length, map, take, drop, get_or, replicate, refl, sym, ap, ◌∙◌, subst, arith, Some, None, Option, inl, inr}
-use Rattle.std.specs.Prelude.{slice_get, IsTrue, ◌↔◌, Contains, Bool, true, false, MatchOption}
+use Rattle.std.proofs.Common.{◌≡◌, ℕ, suc, ◌+◌, ◌-◌, ◌*◌, ◌/◌, ◌%◌, ◌<◌, ◌≤◌, List, [], ◌∷◌, ◌++◌, length, take, drop, get_or, replicate, refl, sym, ap, ◌∙◌, subst, arith, Some, None, Option, inl, inr}
+use Rattle.std.specs.Prelude.{slice_get, IsTrue, ◌↔◌, Contains, Bool, false, MatchOption}
 use Rattle.std.specs.List.{All, AllZip}
 use Rattle.std.specs.Option.{IsSomeAnd}
 use Rattle.std.proofs.Math.Seq.{drop-cons}
@@ -19,16 +19,15 @@ use Rattle.rv_text.specs.declared.item.SourceGate.{SourceGate}
 use Rattle.rv_text.specs.Source.{Sandbox, IsSandbox, IsThere, IsBody, named}
 use Rattle.sfi_rewrite.specs.declared.slot.Slot.{Slot}
 use Rattle.sfi_rewrite.specs.declared.placed.PlacedName.{PlacedName}
-use Rattle.sfi_rewrite.specs.declared.placed.PlacedName.TheVariants as placed
 use Rattle.sfi_rewrite.specs.Slots.{size_of, slots_of, c_nop}
 use Rattle.sfi_rewrite.specs.Places.{next_bundle, AreLaid, AreLaidFrom, IsLabelAt}
-use Rattle.sfi_rewrite.specs.Placement.{Placement, IsPlacedName, HasEndLabel, FillsEnd, AreBundles, IsPlacement}
-use Rattle.sfi_rewrite.specs.Placed.{AreWhole, Encodes, IsNamedBelow, IsPlacedThere, IsPlacedGate, IsPlacedPart}
+use Rattle.sfi_rewrite.specs.Placement.{Placement, IsPlacedName, HasEndLabel, FillsEnd, AreBundles}
+use Rattle.sfi_rewrite.specs.Placed.{AreWhole, IsPlacedThere, IsPlacedGate, IsPlacedPart}
 use Rattle.sfi_rewrite.specs.Filling.{HaveBodies, HasEnd}
 use Rattle.sfi_rewrite.specs.Faults.{AreFaultless}
 use Rattle.sfi_rewrite.specs.Rewriting.{IsRewritten}
 use Rattle.sfi_rewrite.proofs.Sizes.{size_of-append, size_nops, size_even}
-use Rattle.sfi_rewrite.proofs.Laid.{Split, laid_split, laid_one_way, size_next}
+use Rattle.sfi_rewrite.proofs.Laid.{laid_split, laid_one_way, size_next}
 use Rattle.sfi_rewrite.proofs.KnownSlots.{IsKnown, nops_known, laid_known}
 use Rattle.sfi_rewrite.proofs.PlacedNames.{each_there}
 

@@ -1,6 +1,6 @@
 -- One sandbox after another.
-use Rattle.std.proofs.Common.{◌≡◌, ℕ, ◌+◌, ◌<◌, ◌≤◌, List, [], ◌∷◌, ◌++◌, length, take, get_or, refl, sym, ap, ◌∙◌, subst, arith, inl, inr, Some}
-use Rattle.std.specs.Prelude.{Result, Ok, Err}
+use Rattle.std.proofs.Common.{◌≡◌, ℕ, ◌+◌, ◌<◌, List, [], ◌∷◌, ◌++◌, length, take, get_or, refl, sym, ap, ◌∙◌, subst, arith, inl, inr, Some}
+use Rattle.std.specs.Prelude.{Err}
 use Rattle.std.specs.List.{All, AllZip}
 use Rattle.std.proofs.lemmas.List.{take_more}
 use Rattle.std.proofs.lemmas.Option.{slice_get-get_or}
@@ -11,8 +11,8 @@ use Rattle.sfi_rewrite.specs.declared.fault.RewriteFault.TheVariants.{ReservedRe
 use Rattle.sfi_rewrite.specs.Placement.{Placement}
 use Rattle.sfi_rewrite.specs.Placed.{IsPlacedPart, IsPlaced}
 use Rattle.sfi_rewrite.specs.Faults.{UnlessMemory, IsItemFault, IsSourceFault}
-use Rattle.sfi_rewrite.specs.Laws.{OneFault, NeverBoth}
-use Rattle.sfi_rewrite.specs.Rewriting.{IsRewritten, AreRewritten, AnswersFault}
+use Rattle.sfi_rewrite.specs.Laws.{OneFault}
+use Rattle.sfi_rewrite.specs.Rewriting.{IsRewritten, AnswersFault}
 use Rattle.sfi_rewrite.proofs.OneFault.{each_faultless}
 use Rattle.sfi_rewrite.proofs.PlacedNames.{zip_push}
 

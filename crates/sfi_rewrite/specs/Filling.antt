@@ -6,7 +6,7 @@ use Rattle.rv_text.specs.declared.item.Named.{Named}
 use Rattle.rv_text.specs.declared.item.Named.TheVariants.{Gate, Code, Data, Unknown}
 use Rattle.rv_text.specs.Source.{IsBody}
 use Rattle.sfi_rewrite.specs.declared.slot.Slot.{Slot}
-use Rattle.sfi_rewrite.specs.Slots.{size_of, slots_of, bundle_size, code_most, c_nop}
+use Rattle.sfi_rewrite.specs.Slots.{size_of, bundle_size, code_most, c_nop}
 use Rattle.sfi_rewrite.specs.declared.placed.PlacedName.{PlacedName}
 use Rattle.sfi_rewrite.specs.declared.placed.PlacedName.TheVariants as placed
 use Rattle.sfi_rewrite.specs.Places.{IsNext, IsLabelAt}

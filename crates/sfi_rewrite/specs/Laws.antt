@@ -1,11 +1,10 @@
 -- What holds of every source.
-use Rattle.std.specs.Prelude.{◌≡◌, ℕ, List}
+use Rattle.std.specs.Prelude.{◌≡◌, List}
 use Rattle.rv_text.specs.declared.item.Item.{Item}
 use Rattle.rv_text.specs.Source.{Sandbox}
 use Rattle.sfi_rewrite.specs.declared.slot.Slot.{Slot}
 use Rattle.sfi_rewrite.specs.declared.fault.RewriteFault.{RewriteFault}
 use Rattle.sfi_rewrite.specs.Expansion.{IsExpansion}
-use Rattle.sfi_rewrite.specs.Places.{AreLaid}
 use Rattle.sfi_rewrite.specs.Placement.{Placement, IsPlacement}
 use Rattle.sfi_rewrite.specs.Faults.{IsSourceFault}
 use Rattle.sfi_rewrite.specs.Rewriting.{AreRewritten}

@@ -3,10 +3,9 @@ use Rattle.rv_step.specs.State.{register}
 use Rattle.sfi_host.specs.declared.guest.Request.{Request}
 use Rattle.sfi_host.specs.declared.sandbox.Sandbox.{Sandbox}
 use Rattle.sfi_host.specs.Joint.{service_at}
-use Rattle.sfi_host.specs.Hosts.{Call}
 use Rattle.sfi_host.specs.Regions.{bytes_in}
-use Rattle.sfi_host.specs.Sandboxes.{seat_of, call_by, after_told, IsReplied, IsNotReplied}
-use Rattle.sfi_host.specs.Worlds.{slot_of, IsSafeSeat, StaysOutside}
+use Rattle.sfi_host.specs.Sandboxes.{seat_of, call_by, IsReplied, IsNotReplied}
+use Rattle.sfi_host.specs.Worlds.{slot_of, IsSafeSeat}
 use Rattle.sfi_host.proofs.Leaving.{whole_in, whole_of, stays_outside}
 use Rattle.sfi_host.proofs.Replying.{asked_is, bounds_after, safe_after, replies, refuses}
 use Rattle.sfi_host.proofs.asking.ask.Goals as goal

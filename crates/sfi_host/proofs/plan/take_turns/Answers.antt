@@ -1,4 +1,4 @@
-use Rattle.std.proofs.Common.{◌≡◌, ◌<◌, ◌≤◌, ◌+◌, ℕ, List, ◌∷◌, length, drop, get_or, refl, sym, ap, ◌∙◌, subst, arith}
+use Rattle.std.proofs.Common.{◌≡◌, ◌+◌, ℕ, List, drop, get_or, refl, subst}
 use Rattle.sfi_host.specs.declared.turn.Turn.{Turn}
 use Rattle.sfi_host.specs.Limits.{IsPlanOnItsWay}
 use Rattle.sfi_host.specs.Plans.{IsCutJoint}

@@ -1,4 +1,4 @@
-use Rattle.std.proofs.Common.{◌≡◌, true, false, None}
+use Rattle.std.proofs.Common.{◌≡◌, true, None}
 use Rattle.sfi_host.specs.Regions.{is_in}
 use Rattle.sfi_host.specs.Sandboxes.{region}
 use Rattle.sfi_host.proofs.Kept.{byte_out, load_kept, whole_there}

@@ -1,4 +1,4 @@
-use Rattle.std.proofs.Common.{ap, sym, ◌∙◌, Some, None}
+use Rattle.std.proofs.Common.{ap, ◌∙◌}
 use Rattle.std.specs.Option.{unwrap_or}
 use Rattle.rv_text.specs.declared.item.Named.TheVariants.{Unknown}
 use Rattle.rv_text.specs.NameTable.{meaning}

@@ -1,6 +1,6 @@
-use Rattle.std.proofs.Common.{ap, sym, refl, ◌∙◌, map}
+use Rattle.std.proofs.Common.{ap, sym, ◌∙◌, map}
 use Rattle.rv_text.specs.declared.item.Named.TheVariants.{Unknown}
-use Rattle.rv_text.specs.NameTable.{entry_of, placed, meaning}
+use Rattle.rv_text.specs.NameTable.{entry_of, placed}
 use Rattle.rv_text.proofs.NameTable.{inserted, found_place, new_place}
 use Rattle.rv_text.proofs.name_table.Names.meet.Goals as goal
 

@@ -1,5 +1,5 @@
-use Rattle.std.proofs.Common.{ap, sym, refl, ◌∙◌, map}
-use Rattle.rv_text.specs.NameTable.{entry_of, placed}
+use Rattle.std.proofs.Common.{ap, refl, ◌∙◌, map}
+use Rattle.rv_text.specs.NameTable.{entry_of}
 use Rattle.rv_text.proofs.NameTable.{inserted}
 use Rattle.rv_text.proofs.name_table.Names.place.Goals as goal
 

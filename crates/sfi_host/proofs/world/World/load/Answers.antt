@@ -4,7 +4,7 @@ use Rattle.rv_mem.specs.Bytes.{Bytes, IsMemory}
 use Rattle.sfi_image.specs.Spelling.{Part, views}
 use Rattle.sfi_host.specs.Loading.{first_seat, with_parts, AreEntered, HaveFirstData}
 use Rattle.sfi_host.specs.Sandboxes.{seats_of}
-use Rattle.sfi_host.specs.Worlds.{Seat, Sandboxes, IsSafeWorld}
+use Rattle.sfi_host.specs.Worlds.{Seat, IsSafeWorld}
 use Rattle.sfi_host.proofs.Entered.{Laws}
 use Rattle.sfi_host.proofs.Worlds.{entered, first_data_there, world_safe}
 use Rattle.sfi_host.proofs.world.World.load.Goals as goal

@@ -1,5 +1,4 @@
-use Rattle.std.proofs.Common.{◌≡◌, ap, ◌∙◌, sym, arith, ◌+◌, ◌≤◌, ◌++◌, refl}
-use Rattle.sfi_rewrite.specs.Slots.{size_of}
+use Rattle.std.proofs.Common.{ap, ◌∙◌, ◌++◌, refl}
 use Rattle.sfi_rewrite.proofs.Bundles.{filled_in, emptied, filled_up, fits_at}
 use Rattle.sfi_rewrite.proofs.filling.Filling.push.Goals as goal
 
