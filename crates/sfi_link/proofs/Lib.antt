@@ -1,0 +1,12 @@
+pub mod Written
+pub mod Stuck
+pub mod Sizes
+pub mod Clean
+pub mod Region
+pub mod Filled
+pub mod Parts
+pub mod LinkedClean
+pub mod OneLinking
+pub mod Pushed
+pub mod Linking
+pub mod Building

@@ -1,0 +1,118 @@
+-- What is made of a placed sandbox breaks no rule.
+use Rattle.std.proofs.Common.{◌≡◌, ℕ, ◌+◌, ◌-◌, ◌*◌, ◌^◌, ◌<◌, ◌≤◌, List, [], ◌∷◌, length, replicate, Option, Some, None, refl, sym, ap, ◌∙◌, subst, arith, length-append}
+use Rattle.std.specs.Prelude.{slice_get}
+use Rattle.std.specs.List.{All, repeat}
+use Rattle.std.proofs.lemmas.List.Elements.{All-head, All-tail}
+use Rattle.std.proofs.lemmas.Option.{slice_get_within, get_or_from_slice_get}
+use Rattle.rv_word.specs.Laws.{SpellingsAreWide}
+use Rattle.rv_comp.specs.Laws.{OneSpelling, TwoLengths}
+use Rattle.sfi_image.specs.Spelling.{Part}
+use Rattle.sfi_image.specs.Gates.{is_gate_of}
+use Rattle.sfi_image.specs.Regions.{IsBundleStart}
+use Rattle.sfi_scan.specs.Bundles.{place_of, stub}
+use Rattle.sfi_scan.specs.Findings.{AreFindings, AreFindingsFrom}
+use Rattle.sfi_scan.specs.Laws.{SameBundleStarts}
+use Rattle.sfi_rewrite.specs.declared.slot.Slot.{Slot}
+use Rattle.sfi_rewrite.specs.declared.placed.PlacedName.{PlacedName}
+use Rattle.sfi_rewrite.specs.declared.placed.PlacedName.TheVariants.{Gate, Code, Data, Unknown}
+use Rattle.sfi_rewrite.specs.Slots.{slots_of}
+use Rattle.sfi_rewrite.specs.Placement.{Placement}
+use Rattle.sfi_rewrite.specs.Placed.{IsPlacedPart, IsPlacedThere}
+use Rattle.sfi_link.specs.Addresses.{bases_of, of_name, target_of}
+use Rattle.sfi_link.specs.Code.{AreSlots}
+use Rattle.sfi_link.specs.Linked.{c_ebreak, needed, gates_from, IsLinked, AreLinkedFrom}
+use Rattle.sfi_link.proofs.Sizes.{size_of-append, size_fill}
+use Rattle.sfi_link.proofs.Clean.{AreStarts}
+use Rattle.sfi_link.proofs.Region.{IsClosed, closed_is_clean, length_stubs}
+use Rattle.sfi_link.proofs.Filled.{filled}
+use Rattle.sfi_link.proofs.Parts.{sixteens, slots_length, listed_at, listed_only}
+
+-- ---- names
+
+-- an address that a place among the names gives is that of a name there
+of_place : (f : PlacedName → Option ℕ) (o : Option PlacedName) (a : ℕ) → of_name f o ≡ Some a → (n : PlacedName) × (o ≡ Some n) × (f n ≡ Some a)
+of_place f None a e = cc
+of_place f (Some n) a e = (n, refl, e)
+
+some_same : (x y : ℕ) → Some x ≡ Some y → x ≡ y
+some_same x y e = cc
+
+-- the target of a jump to a name is a bundle start
+target_starts : (number : ℕ) (p : Placement) (q : Part) → IsLinked number p q → number < 16 → (n : PlacedName) → IsPlacedThere p n → (to : ℕ) → target_of (bases_of number p) n ≡ Some to
+    → IsBundleStart (record { base = q.code_base; size = length q.code }) to × (to < 2 ^ 32)
+target_starts number p q linked few (Gate k) there to e =
+    let is = some_same (0x01000000 * (number + 1) + 16 * k) to e in
+    let base = linked.code_base in
+    let room = linked.code.size.has_room.room in
+    let most = linked.code.size.has_room.at_most in
+    (record { held = (omega arith, omega arith); aligned = omega arith }, omega arith)
+target_starts number p q linked few (Code offset) there to e =
+    let is = some_same (0x01000000 * (number + 1) + 16 * length p.gates + offset) to e in
+    let base = linked.code_base in
+    let room = linked.code.size.has_room.room in
+    let most = linked.code.size.has_room.at_most in
+    let even = there.0 in
+    let within = there.1 in
+    (record { held = (omega arith, omega arith); aligned = omega arith }, omega arith)
+target_starts number p q linked few (Data offset) there to e = cc
+target_starts number p q linked few Unknown there to e = cc
+
+are_starts : SameBundleStarts → (number : ℕ) (p : Placement) (q : Part) → IsPlacedPart p → IsLinked number p q → number < 16 → (sandbox : ℕ) → AreStarts (place_of sandbox q 0) (bases_of number p) p.names
+are_starts law number p q placed linked few sandbox place to e =
+    let found = of_place (target_of (bases_of number p)) (slice_get p.names place) to e in
+    let within = slice_get_within p.names place found.0 found.1 in
+    let there : IsPlacedThere p found.0 = subst (IsPlacedThere p) (get_or_from_slice_get p.names place found.0 found.0 found.1) (placed.names place found.0 within) in
+    let start = target_starts number p q linked few found.0 there to found.2 in
+    ((law (place_of sandbox q 0) to).1 start.0, start.1)
+
+-- ---- a sandbox
+
+closed : SameBundleStarts → (number : ℕ) (p : Placement) (q : Part) → IsPlacedPart p → number < 16 → IsLinked number p q
+    → (full : List (List Slot)) × IsClosed q (bases_of number p) p.names (length p.gates) full × ((bases_of number p).start + 16 * length full ≤ 2 ^ 32)
+closed law number p q placed few linked =
+    let code = linked.code in
+    let room = code.size.has_room.room in
+    let most = code.size.has_room.at_most in
+    let base = linked.code_base in
+    let gates = linked.gates in
+    let start = linked.start in
+    let counted = sixteens (needed p) (length q.code) code.size.has_room in
+    let sixteen = counted.is in
+    let long = ap length code.code_is ∙ length-append (repeat (length p.gates) stub) code.bytes in
+    let stubs = length_stubs (length p.gates) in
+    let bytes = slots_length _ _ _ _ code.bytes code.slots in
+    let sized = size_of-append (slots_of p.bundles) (replicate code.fill c_ebreak) in
+    let fill = size_fill code.fill in
+    let n : ℕ = counted.count - length p.gates in
+    let whole = filled p.bundles placed.bundles placed.whole code.fill n (omega arith) (omega arith) in
+    let count = whole.count in
+    let at = bases_of number p in
+    let same : (k : ℕ) → is_gate_of q.gates (q.code_base + 16 * k) ≡ is_gate_of (gates_from at.code p.gates) (at.code + 16 * k) =
+    λ k. ap (λ gs. is_gate_of gs (q.code_base + 16 * k)) gates ∙ ap (λ a. is_gate_of (gates_from at.code p.gates) (a + 16 * k)) base in (
+      whole.full,
+      record {
+        starts = are_starts law number p q placed linked few;
+        start = omega arith;
+        room = omega arith;
+        bytes = code.bytes;
+        code = code.code_is;
+        slots = subst (λ l. AreSlots at p.names at.start l code.bytes) (sym whole.slots) code.slots;
+        all = whole.all;
+        some = omega arith;
+        ends = λ k h. whole.ends k (omega arith);
+        listed = λ k. (λ h. listed_only at.code p.gates k (sym (same k) ∙ h), λ h. same k ∙ listed_at at.code p.gates k h);
+      },
+      omega arith,
+    )
+
+pub linked_is_clean : SpellingsAreWide → OneSpelling → TwoLengths → SameBundleStarts → (number : ℕ) (p : Placement) (q : Part) → IsPlacedPart p → number < 16 → IsLinked number p q → AreFindings number q []
+linked_is_clean law one two starts number p q placed few linked =
+    let c = closed starts number p q placed few linked in
+    closed_is_clean law one two number q (bases_of number p) p.names (length p.gates) c.0 c.1 c.2
+
+pub all_are_clean : ((number : ℕ) (p : Placement) (q : Part) → IsPlacedPart p → number < 16 → IsLinked number p q → AreFindings number q [])
+    → (number : ℕ) (placed : List Placement) (parts : List Part) → All IsPlacedPart placed → number + length placed ≤ 16 → AreLinkedFrom number placed parts → AreFindingsFrom number parts []
+all_are_clean each number [] parts all few linked = subst (λ qs. AreFindingsFrom number qs []) (sym linked) refl
+all_are_clean each number (p ∷ placed) [] all few linked = absurd linked
+all_are_clean each number (p ∷ placed) (q ∷ parts) all few linked =
+    ([], [], each number p q (All-head IsPlacedPart p placed all) (omega arith) linked.0, all_are_clean each (number + 1) placed parts (All-tail IsPlacedPart p placed all) (omega arith) linked.1, refl)

@@ -1,0 +1,241 @@
+-- Slots written one behind another.
+use Rattle.std.proofs.Common.{◌≡◌, ℕ, zero, suc, ◌+◌, ◌^◌, ◌<◌, ◌≤◌, List, [], ◌∷◌, ◌++◌, length, take, drop, get_or, replicate, Some, refl, sym, ap, ◌∙◌, subst, arith, append_assoc, append-nil, length-append, drop-cons, add-one, Fits, w64, rules}
+use Rattle.std.specs.Prelude.{slice_get}
+use Rattle.std.specs.List.{All, repeat}
+use Rattle.std.specs.Int.{w32, to_le_bytes}
+use Rattle.std.proofs.lemmas.Grind.{flat_map-append}
+use Rattle.std.proofs.lemmas.List.{take_more, take-append-drop, get_or_append_left, get_or-append-add}
+use Rattle.std.proofs.lemmas.List.Sums.{sum_by-take-le}
+use Rattle.std.proofs.lemmas.Int.{ints}
+use Rattle.rv_word.specs.declared.instr.Instr.{Instr}
+use Rattle.rv_word.specs.declared.instr.Instr.TheVariants.{OpImm}
+use Rattle.rv_word.specs.declared.instr.ImmOp.TheVariants.{Addi}
+use Rattle.rv_word.specs.Spelling.{InRange, IsReg, IsImm12, spelling}
+use Rattle.rv_comp.specs.declared.form.Form16.TheVariants.{CEbreak}
+use Rattle.rv_comp.specs.Table.{expansion}
+use Rattle.sfi_rewrite.specs.declared.slot.Slot.{Slot}
+use Rattle.sfi_rewrite.specs.declared.slot.Slot.TheVariants.{Lower}
+use Rattle.sfi_rewrite.specs.declared.placed.PlacedName.{PlacedName}
+use Rattle.sfi_rewrite.specs.Slots.{slot_size, size_of, slots_of}
+use Rattle.sfi_link.specs.declared.bases.Bases.{Bases}
+use Rattle.sfi_link.specs.declared.fault.LinkFault.{LinkFault}
+use Rattle.sfi_link.specs.declared.fault.LinkFault.TheVariants.{UnknownName, BranchReach, TooLarge, TooManySandboxes, Memory}
+use Rattle.sfi_link.specs.Addresses.{lower, address_at}
+use Rattle.sfi_link.specs.Code.{AreSlots, made_of}
+use Rattle.sfi_link.specs.Linked.{c_ebreak}
+use Rattle.sfi_link.specs.Near.{IsPushed, AreWritten}
+use Rattle.sfi_link.specs.Faults.{HasSlotFault, IsSlotFault}
+use Rattle.sfi_link.specs.Answers.{UnlessMemory}
+use Rattle.sfi_link.proofs.Sizes.{size_cons, size_of-append}
+use Rattle.sfi_link.proofs.Parts.{slots_length}
+
+pub lower_fits : (a : ℕ) → IsImm12 (lower a)
+lower_fits a = (omega (arith, ints), omega (arith, ints))
+
+pub low_in_range : (rd a : ℕ) (i : Instr) → i ≡ OpImm Addi rd rd (lower a) → IsReg rd → InRange i
+unfolding InRange
+low_in_range rd a i is reg = subst InRange (sym is) (reg, reg, lower_fits a)
+
+pub low_pushed : (at : Bases) (names : List PlacedName) (rd place line a : ℕ) (i : Instr) (old new : List ℕ) → Some a ≡ address_at at names place → i ≡ OpImm Addi rd rd (lower a) → IsReg rd
+    → new ≡ old ++ to_le_bytes w32 (spelling i) → IsPushed at names (Lower rd place line) old new
+low_pushed at names rd place line a i old new there is reg e = (
+  to_le_bytes w32 (spelling i),
+  e,
+  record {
+    instr = i;
+    resolves = ap (made_of (λ address. OpImm Addi rd rd (lower address))) (sym there) ∙ ap (λ j. Some j) (sym is);
+    spelled = (low_in_range rd a i is reg, refl);
+  },
+)
+
+-- ---- one list behind another
+
+pub slots-append : (at : Bases) (names : List PlacedName) (here : ℕ) (xs ys : List Slot) (f r : List ℕ) → AreSlots at names here xs f → AreSlots at names (here + size_of xs) ys r → AreSlots at names here (xs ++ ys) (f ++ r)
+slots-append at names here [] ys f r a b =
+    let e : here + size_of [] ≡ here = omega arith in
+    subst (λ (l : List ℕ). AreSlots at names here ys (l ++ r)) (sym a) (subst (λ n. AreSlots at names n ys r) e b)
+slots-append at names here (x ∷ xs) ys f r (front, rest, one, others, e) b =
+    let z = size_cons x xs in
+    let n : here + size_of (x ∷ xs) ≡ here + slot_size x + size_of xs = omega arith in
+    (front, rest ++ r, one, slots-append at names (here + slot_size x) xs ys rest r others (subst (λ m. AreSlots at names m ys r) n b), ap (λ l. l ++ r) e ∙ append_assoc front rest r)
+
+pub written_length : (at : Bases) (names : List PlacedName) (slots : List Slot) (old new : List ℕ) → AreWritten at names slots old new → length new ≡ length old + size_of slots
+written_length at names slots old new w =
+    let a = slots_length at names (at.code + length old) slots w.bytes w.spelled in
+    let b = ap length w.appended ∙ length-append old w.bytes in
+    omega arith
+
+pub none_written : (at : Bases) (names : List PlacedName) (old : List ℕ) → AreWritten at names [] old old
+none_written at names old = record { bytes = []; appended = sym (append-nil old); spelled = refl }
+
+pub written-append : (at : Bases) (names : List PlacedName) (xs ys : List Slot) (old now new : List ℕ) → AreWritten at names xs old now → AreWritten at names ys now new → AreWritten at names (xs ++ ys) old new
+written-append at names xs ys old now new v w =
+    let long = written_length at names xs old now v in
+    let n : at.code + length now ≡ at.code + length old + size_of xs = omega arith in
+    record {
+      bytes = v.bytes ++ w.bytes;
+      appended = w.appended ∙ ap (λ l. l ++ w.bytes) v.appended ∙ append_assoc old v.bytes w.bytes;
+      spelled = slots-append at names (at.code + length old) xs ys v.bytes w.bytes v.spelled (subst (λ m. AreSlots at names m ys w.bytes) n w.spelled);
+    }
+
+pub one_written : (at : Bases) (names : List PlacedName) (s : Slot) (old new : List ℕ) → IsPushed at names s old new → AreWritten at names (s ∷ []) old new
+one_written at names s old new (bytes, e, one) = record { bytes = bytes; appended = e; spelled = (bytes, [], one, refl, sym (append-nil bytes)) }
+
+-- ---- the first fault behind what is written
+
+get_behind : {X : Type 0} (xs ys : List X) (k : ℕ) → slice_get (xs ++ ys) (length xs + k) ≡ slice_get ys k
+get_behind [] ys k = ap (slice_get ys) (let e : 0 + k ≡ k = omega arith in e)
+get_behind (x ∷ xs) ys k = ap (slice_get (x ∷ (xs ++ ys))) (let e : suc (length xs) + k ≡ suc (length xs + k) = omega arith in e) ∙ get_behind xs ys k
+
+take_behind : {X : Type 0} (xs ys : List X) (k : ℕ) → take (length xs + k) (xs ++ ys) ≡ xs ++ take k ys
+take_behind [] ys k = ap (λ n. take n ys) (let e : 0 + k ≡ k = omega arith in e)
+take_behind (x ∷ xs) ys k = ap (λ n. take n (x ∷ (xs ++ ys))) (let e : suc (length xs) + k ≡ suc (length xs + k) = omega arith in e) ∙ ap (λ l. x ∷ l) (take_behind xs ys k)
+
+get_append : {X : Type 0} (xs ys : List X) (k : ℕ) (x : X) → slice_get xs k ≡ Some x → slice_get (xs ++ ys) k ≡ Some x
+get_append [] ys zero x e = cc
+get_append [] ys (suc k) x e = cc
+get_append (y ∷ xs) ys zero x e = e
+get_append (y ∷ xs) ys (suc k) x e = get_append xs ys k x e
+
+take_within : {X : Type 0} (xs ys : List X) (k : ℕ) (x : X) → slice_get xs k ≡ Some x → take k (xs ++ ys) ≡ take k xs
+take_within [] ys zero x e = cc
+take_within [] ys (suc k) x e = cc
+take_within (y ∷ xs) ys zero x e = refl
+take_within (y ∷ xs) ys (suc k) x e = ap (λ l. y ∷ l) (take_within xs ys k x e)
+
+pub fault_behind : (at : Bases) (names : List PlacedName) (xs ys zs : List Slot) (old now : List ℕ) (f : LinkFault) → AreWritten at names xs old now → IsSlotFault at names (at.code + length now) ys f
+    → IsSlotFault at names (at.code + length old) (xs ++ (ys ++ zs)) f
+fault_behind at names xs ys zs old now f w x =
+    let long = written_length at names xs old now w in
+    let n : at.code + length now ≡ at.code + length old + size_of xs = omega arith in
+    let front : take (length xs + x.index) (xs ++ (ys ++ zs)) ≡ xs ++ take x.index ys = take_behind xs (ys ++ zs) x.index ∙ ap (λ l. xs ++ l) (take_within ys zs x.index x.slot x.there) in
+    let sized = size_of-append xs (take x.index ys) in
+    let here : at.code + length now + size_of (take x.index ys) ≡ at.code + length old + size_of (xs ++ take x.index ys) = omega arith in
+    record {
+      index = length xs + x.index;
+      slot = x.slot;
+      there = get_behind xs (ys ++ zs) x.index ∙ get_append ys zs x.index x.slot x.there;
+      before = w.bytes ++ x.before;
+      linked =
+          subst (λ l. AreSlots at names (at.code + length old) l (w.bytes ++ x.before)) (sym front)
+          (slots-append at names (at.code + length old) xs (take x.index ys) w.bytes x.before w.spelled (subst (λ m. AreSlots at names m (take x.index ys) x.before) n x.linked));
+      has = subst (λ l. HasSlotFault at names (at.code + length old + size_of l) x.slot f) (sym front) (subst (λ m. HasSlotFault at names m x.slot f) here x.has);
+    }
+
+one_fault : (at : Bases) (names : List PlacedName) (here : ℕ) (s : Slot) (f : LinkFault) → HasSlotFault at names here s f → IsSlotFault at names here (s ∷ []) f
+one_fault at names here s f h =
+    let e : here ≡ here + size_of [] = omega arith in
+    record { index = 0; slot = s; there = refl; before = []; linked = refl; has = subst (λ m. HasSlotFault at names m s f) e h }
+
+-- ---- of slots
+
+split_at : {X : Type 0} (xs : List X) (k : ℕ) (x : X) → k < length xs → x ≡ get_or xs k x → xs ≡ take k xs ++ (x ∷ drop (k + 1) xs)
+split_at xs k x lt is =
+    sym (take-append-drop k xs) ∙ ap (λ l. take k xs ++ l) (drop-cons xs k x lt ∙ ap (λ n. get_or xs k x ∷ drop n xs) (sym (add-one k)) ∙ ap (λ y. y ∷ drop (k + 1) xs) (sym is))
+
+take_one_more : {X : Type 0} (xs : List X) (k : ℕ) (x : X) → k < length xs → x ≡ get_or xs k x → take (k + 1) xs ≡ take k xs ++ x ∷ []
+take_one_more xs k x lt is = take_more xs k x lt ∙ ap (λ y. take k xs ++ y ∷ []) (sym is)
+
+pub slot_room : (at : Bases) (names : List PlacedName) (slots : List Slot) (k limit : ℕ) (old now : List ℕ) → AreWritten at names (take k slots) old now → at.code + length old + size_of slots < limit → at.code + length now < limit
+slot_room at names slots k limit old now w room =
+    let long = written_length at names (take k slots) old now w in
+    let part = sum_by-take-le slot_size slots k in
+    omega arith
+
+pub slot_written : (at : Bases) (names : List PlacedName) (slots : List Slot) (k : ℕ) (s : Slot) (old now new : List ℕ) → k < length slots → s ≡ get_or slots k s
+    → AreWritten at names (take k slots) old now → IsPushed at names s now new → AreWritten at names (take (k + 1) slots) old new
+slot_written at names slots k s old now new lt is w one =
+    subst (λ l. AreWritten at names l old new) (sym (take_one_more slots k s lt is)) (written-append at names (take k slots) (s ∷ []) old now new w (one_written at names s now new one))
+
+slot_fault : (at : Bases) (names : List PlacedName) (slots : List Slot) (k : ℕ) (s : Slot) (old now : List ℕ) (f : LinkFault) → k < length slots → s ≡ get_or slots k s
+    → AreWritten at names (take k slots) old now → HasSlotFault at names (at.code + length now) s f → IsSlotFault at names (at.code + length old) slots f
+slot_fault at names slots k s old now f lt is w h =
+    subst (λ l. IsSlotFault at names (at.code + length old) l f) (sym (split_at slots k s lt is))
+    (fault_behind at names (take k slots) (s ∷ []) (drop (k + 1) slots) old now f w (one_fault at names (at.code + length now) s f h))
+
+pub slot_refused : (at : Bases) (names : List PlacedName) (slots : List Slot) (k : ℕ) (s : Slot) (old now : List ℕ) (f : LinkFault) → k < length slots → s ≡ get_or slots k s
+    → AreWritten at names (take k slots) old now → UnlessMemory (HasSlotFault at names (at.code + length now) s) f → UnlessMemory (IsSlotFault at names (at.code + length old) slots) f
+slot_refused at names slots k s old now (UnknownName l) lt is w h = slot_fault at names slots k s old now (UnknownName l) lt is w h
+slot_refused at names slots k s old now (BranchReach l) lt is w h = slot_fault at names slots k s old now (BranchReach l) lt is w h
+slot_refused at names slots k s old now (TooLarge n) lt is w h = absurd h
+slot_refused at names slots k s old now TooManySandboxes lt is w h = absurd h
+slot_refused at names slots k s old now Memory lt is w h = tt
+
+-- ---- of bundles
+
+pub bundles_split : (bundles : List (List Slot)) (k : ℕ) (b : List Slot) → k < length bundles → b ≡ get_or bundles k b → slots_of bundles ≡ slots_of (take k bundles) ++ (b ++ slots_of (drop (k + 1) bundles))
+bundles_split bundles k b lt is = ap slots_of (split_at bundles k b lt is) ∙ flat_map-append (λ slots. slots) (take k bundles) (b ∷ drop (k + 1) bundles)
+
+bundles_more : (bundles : List (List Slot)) (k : ℕ) (b : List Slot) → k < length bundles → b ≡ get_or bundles k b → slots_of (take (k + 1) bundles) ≡ slots_of (take k bundles) ++ b
+bundles_more bundles k b lt is =
+    ap slots_of (take_one_more bundles k b lt is) ∙ flat_map-append (λ slots. slots) (take k bundles) (b ∷ []) ∙ ap (λ l. slots_of (take k bundles) ++ l) (append-nil b)
+
+all_middle : {X : Type 0} (P : X → Type 0) (xs ys zs : List X) → All P (xs ++ (ys ++ zs)) → All P ys
+all_middle P xs ys zs all k d lt =
+    let one = length-append xs (ys ++ zs) in
+    let two = length-append ys zs in
+    subst P (get_or-append-add xs (ys ++ zs) k d ∙ get_or_append_left ys zs d k lt) (all (length xs + k) d (omega arith))
+
+pub bundle_all : (P : Slot → Type 0) (bundles : List (List Slot)) (k : ℕ) (b : List Slot) → k < length bundles → b ≡ get_or bundles k b → All P (slots_of bundles) → All P b
+bundle_all P bundles k b lt is all = all_middle P (slots_of (take k bundles)) b (slots_of (drop (k + 1) bundles)) (subst (All P) (bundles_split bundles k b lt is) all)
+
+-- the slots of the first bundles and of the next one take no more than those of all
+pub bundle_size : (bundles : List (List Slot)) (k : ℕ) (b : List Slot) → k < length bundles → b ≡ get_or bundles k b → size_of (slots_of (take k bundles)) + size_of b ≤ size_of (slots_of bundles)
+bundle_size bundles k b lt is =
+    let e = ap size_of (bundles_split bundles k b lt is) in
+    let f = size_of-append (slots_of (take k bundles)) (b ++ slots_of (drop (k + 1) bundles)) in
+    let g = size_of-append b (slots_of (drop (k + 1) bundles)) in
+    omega arith
+
+pub bundle_sum : (bundles : List (List Slot)) (k : ℕ) (b : List Slot) → k < length bundles → b ≡ get_or bundles k b → size_of (slots_of (take (k + 1) bundles)) ≡ size_of (slots_of (take k bundles)) + size_of b
+bundle_sum bundles k b lt is = ap size_of (bundles_more bundles k b lt is) ∙ size_of-append (slots_of (take k bundles)) b
+
+pub bundle_room : (at : Bases) (names : List PlacedName) (bundles : List (List Slot)) (k limit : ℕ) (b : List Slot) (old now : List ℕ) → k < length bundles → b ≡ get_or bundles k b
+    → AreWritten at names (slots_of (take k bundles)) old now → at.code + length old + size_of (slots_of bundles) < limit → at.code + length now + size_of b < limit
+bundle_room at names bundles k limit b old now lt is w room =
+    let long = written_length at names (slots_of (take k bundles)) old now w in
+    let part = bundle_size bundles k b lt is in
+    omega arith
+
+pub bundle_written : (at : Bases) (names : List PlacedName) (bundles : List (List Slot)) (k : ℕ) (b : List Slot) (old now new : List ℕ) → k < length bundles → b ≡ get_or bundles k b
+    → AreWritten at names (slots_of (take k bundles)) old now → AreWritten at names b now new → AreWritten at names (slots_of (take (k + 1) bundles)) old new
+bundle_written at names bundles k b old now new lt is w one =
+    subst (λ l. AreWritten at names l old new) (sym (bundles_more bundles k b lt is)) (written-append at names (slots_of (take k bundles)) b old now new w one)
+
+bundle_fault : (at : Bases) (names : List PlacedName) (bundles : List (List Slot)) (k : ℕ) (b : List Slot) (old now : List ℕ) (f : LinkFault) → k < length bundles → b ≡ get_or bundles k b
+    → AreWritten at names (slots_of (take k bundles)) old now → IsSlotFault at names (at.code + length now) b f → IsSlotFault at names (at.code + length old) (slots_of bundles) f
+bundle_fault at names bundles k b old now f lt is w h =
+    subst (λ l. IsSlotFault at names (at.code + length old) l f) (sym (bundles_split bundles k b lt is))
+    (fault_behind at names (slots_of (take k bundles)) b (slots_of (drop (k + 1) bundles)) old now f w h)
+
+pub bundle_refused : (at : Bases) (names : List PlacedName) (bundles : List (List Slot)) (k : ℕ) (b : List Slot) (old now : List ℕ) (f : LinkFault) → k < length bundles → b ≡ get_or bundles k b
+    → AreWritten at names (slots_of (take k bundles)) old now → UnlessMemory (IsSlotFault at names (at.code + length now) b) f → UnlessMemory (IsSlotFault at names (at.code + length old) (slots_of bundles)) f
+bundle_refused at names bundles k b old now (UnknownName l) lt is w h = bundle_fault at names bundles k b old now (UnknownName l) lt is w h
+bundle_refused at names bundles k b old now (BranchReach l) lt is w h = bundle_fault at names bundles k b old now (BranchReach l) lt is w h
+bundle_refused at names bundles k b old now (TooLarge n) lt is w h = bundle_fault at names bundles k b old now (TooLarge n) lt is w h
+bundle_refused at names bundles k b old now TooManySandboxes lt is w h = bundle_fault at names bundles k b old now TooManySandboxes lt is w h
+bundle_refused at names bundles k b old now Memory lt is w h = tt
+
+-- ---- copies
+
+pub repeat_more : {X : Type 0} (n : ℕ) (xs : List X) → repeat (n + 1) xs ≡ repeat n xs ++ xs
+repeat_more zero xs = append-nil xs
+repeat_more (suc n) xs =
+    ap (λ k. repeat k xs) (let e : suc n + 1 ≡ suc (n + 1) = omega arith in e) ∙ ap (λ l. xs ++ l) (repeat_more n xs) ∙ sym (append_assoc xs (repeat n xs) xs)
+
+-- the bytes of c.ebreaks
+pub fill_slots : (at : Bases) (names : List PlacedName) (here n : ℕ) → AreSlots at names here (replicate n c_ebreak) (repeat n (0x02 ∷ 0x90 ∷ []))
+fill_slots at names here zero = refl
+fill_slots at names here (suc n) =
+    (0x02 ∷ 0x90 ∷ [], repeat n (0x02 ∷ 0x90 ∷ []), record { instr = expansion CEbreak; resolves = refl; spelled = (refl, refl) }, fill_slots at names (here + 2) n, refl)
+
+-- ---- sizes
+
+pub size_step : (slots : List Slot) (k : ℕ) (s : Slot) → k < length slots → s ≡ get_or slots k s → size_of (take (k + 1) slots) ≡ size_of (take k slots) + slot_size s
+size_step slots k s lt is = ap size_of (take_one_more slots k s lt is) ∙ size_of-append (take k slots) (s ∷ []) ∙ ap (λ n. size_of (take k slots) + n) (let e = size_cons s [] in let f : size_of (s ∷ []) ≡ slot_size s = omega arith in f)
+
+pub size_within : (slots : List Slot) (k : ℕ) (s : Slot) → k < length slots → s ≡ get_or slots k s → size_of (take k slots) + slot_size s ≤ size_of slots
+size_within slots k s lt is = let e = size_step slots k s lt is in let f = sum_by-take-le slot_size slots (k + 1) in omega arith
+
+pub small_fits : (n : ℕ) → n ≤ 65536 → Fits w64 n
+small_fits n le = let h : n < 2 ^ 64 = omega arith in search (rules, h)

@@ -1,0 +1,6 @@
+use Rattle.std.proofs.Common.{take}
+use Rattle.sfi_link.specs.Near.{AreWritten}
+use Rattle.sfi_link.proofs.code.push_slots.Given as goal
+
+abbrev pub invariant-loop-slot : goal.invariant-loop-slot
+invariant-loop-slot l = AreWritten l.at l.names (take l.slot-index l.slots) l.initial.code.items l.code.items

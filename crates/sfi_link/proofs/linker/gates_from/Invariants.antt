@@ -1,0 +1,6 @@
+use Rattle.std.proofs.Common.{◌≡◌, take}
+use Rattle.sfi_link.specs.Linked.{gates_from}
+use Rattle.sfi_link.proofs.linker.gates_from.Given as goal
+
+abbrev pub invariant-loop-k : goal.invariant-loop-k
+invariant-loop-k l = l.listed.items ≡ gates_from l.address (take l.k l.gates)

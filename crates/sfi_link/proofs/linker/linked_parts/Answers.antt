@@ -1,0 +1,38 @@
+use Rattle.std.proofs.Common.{◌≡◌, ◌<◌, ◌++◌, [], ◌∷◌, List, length, take, get_or, ap, sym, subst, arith, ◌∙◌}
+use Rattle.std.proofs.lemmas.List.{map_push, length-map, length-take-le}
+use Rattle.std.proofs.Math.ListN.{get_or-map}
+use Rattle.sfi_image.specs.Spelling.{Part, view, views}
+use Rattle.sfi_rewrite.specs.Placement.{Placement}
+use Rattle.sfi_link.specs.Linked.{AreLinkedFrom}
+use Rattle.sfi_link.specs.Near.{contents}
+use Rattle.sfi_link.proofs.Linking.{linked_push, codes_length, code_at, take_one_more}
+use Rattle.sfi_link.proofs.linker.linked_parts.Goals as goal
+
+pub bounds-codes-number : goal.bounds-codes-number
+bounds-codes-number c =
+    let a = codes_length 0 c.args.placed.now (contents c.args.codes.now) c.requires.codes in
+    let b = length-map c.args.codes.now (λ code. code.items) in
+    let d = c.loop-number-test.true in
+    omega arith
+
+pub linked_part-requires-clause-code : goal.linked_part-requires-clause-code
+linked_part-requires-clause-code c =
+    let k = c.loop-number.number in
+    let code = c.index-codes-number.result in
+    let there : code.items ≡ get_or (contents c.args.codes.now) k code.items = ap (λ v. v.items) c.index-codes-number.is ∙ sym (get_or-map (λ v. v.items) c.args.codes.now k code) in
+    rw c.deref.ensures.value
+    (code_at 0 k k c.args.placed.now (contents c.args.codes.now) c.index-placed-number.result code.items (omega arith) c.loop-number-test.true c.index-placed-number.is there c.requires.codes)
+
+pub loop-number-preserved : goal.loop-number-preserved
+loop-number-preserved c =
+    let ps = c.args.placed.now in
+    let k = c.loop-number.number in
+    let p = c.index-placed-number.result in
+    let qs = views c.loop-number.parts.items in
+    let q = view c.in_ok-linked.linked in
+    let lt : k < length ps = c.loop-number-test.true in
+    let long = length-take-le k ps (omega arith) in
+    let placed = take_one_more ps k p lt c.index-placed-number.is in
+    let parts : views c.push.new.self.items ≡ qs ++ q ∷ [] = ap views c.in_ok-push.ensures.items ∙ map_push view c.loop-number.parts.items c.in_ok-linked.linked in
+    let step : AreLinkedFrom 0 (take k ps ++ p ∷ []) (qs ++ q ∷ []) = linked_push 0 k (take k ps) qs p q (omega arith) c.loop-number.invariant c.in_ok-linked.ensures in
+    subst (λ (l : List Placement). AreLinkedFrom 0 l (views c.push.new.self.items)) (sym placed) (subst (λ (l : List Part). AreLinkedFrom 0 (take k ps ++ p ∷ []) l) (sym parts) step)

@@ -1,0 +1,74 @@
+-- Addresses for names.
+use Rattle.std.specs.Prelude.{ℕ, ◌+◌, ◌*◌, ◌/◌, ◌%◌, ◌^◌, ℤ, pos, ◌-ℤ◌, List, length, slice_get, Option, Some, None}
+use Rattle.rv_word.specs.declared.instr.Instr.{Instr}
+use Rattle.rv_word.specs.declared.instr.Instr.TheVariants.{Op, OpImm, Load, Store, Branch, Jal, Jalr, Lui, Auipc, Fence, Ecall, Ebreak}
+use Rattle.sfi_rewrite.specs.declared.placed.PlacedName.{PlacedName}
+use Rattle.sfi_rewrite.specs.declared.placed.PlacedName.TheVariants.{Gate, Code, Data, Unknown}
+use Rattle.sfi_rewrite.specs.Placement.{Placement}
+use Rattle.sfi_link.specs.declared.bases.Bases.{Bases}
+
+-- ---- where a sandbox lies
+
+-- each gate's stub is one bundle
+abbrev pub stub_size : ℕ
+stub_size = 16
+
+-- the sandbox of that number: its code, the first byte behind its gates' stubs, its data
+abbrev pub bases_of : ℕ → Placement → Bases
+bases_of number p =
+    let code = 0x01000000 * (number + 1) in
+    record { code = code; start = code + stub_size * length p.gates; «data» = code + 0x00800000 }
+
+-- ---- names
+
+-- the address that stands for a name: that of the gate's stub, of the place in the code, of the byte of the data
+abbrev pub address_of : Bases → PlacedName → Option ℕ
+address_of at (Gate k) = Some (at.code + stub_size * k)
+address_of at (Code place) = Some (at.start + place)
+address_of at (Data offset) = Some (at.«data» + offset)
+address_of at Unknown = None
+
+-- the address to which a jump to a name leads: no jump leads to data
+abbrev pub target_of : Bases → PlacedName → Option ℕ
+target_of at (Gate k) = address_of at (Gate k)
+target_of at (Code place) = address_of at (Code place)
+target_of at (Data offset) = None
+target_of at Unknown = None
+
+-- what f gives for the name, if there is one
+abbrev pub of_name : (PlacedName → Option ℕ) → Option PlacedName → Option ℕ
+of_name f None = None
+of_name f (Some name) = f name
+
+-- the address of the name at that place
+abbrev pub address_at : Bases → List PlacedName → ℕ → Option ℕ
+address_at at names place = of_name (address_of at) (slice_get names place)
+
+-- the address to which a jump to the name at that place leads
+abbrev pub target_at : Bases → List PlacedName → ℕ → Option ℕ
+target_at at names place = of_name (target_of at) (slice_get names place)
+
+-- ---- in instructions
+
+-- what lui gives of an address, such that an addi of 12 signed bits can give the rest
+abbrev pub upper : ℕ → ℕ
+upper address = (address + 2 ^ 11) / 2 ^ 12 % 2 ^ 20
+
+-- the rest: the low 12 bits, signed
+abbrev pub lower : ℕ → ℤ
+lower address = pos address -ℤ pos ((address + 2 ^ 11) / 2 ^ 12 * 2 ^ 12)
+
+-- the jal or branch with this offset
+abbrev pub with_offset : ℤ → Instr → Instr
+with_offset z (Jal rd offset) = Jal rd z
+with_offset z (Branch cond rs1 rs2 offset) = Branch cond rs1 rs2 z
+with_offset z (Op op rd rs1 rs2) = Op op rd rs1 rs2
+with_offset z (OpImm op rd rs1 imm) = OpImm op rd rs1 imm
+with_offset z (Load kind rd rs1 imm) = Load kind rd rs1 imm
+with_offset z (Store width rs1 rs2 imm) = Store width rs1 rs2 imm
+with_offset z (Jalr rd rs1 imm) = Jalr rd rs1 imm
+with_offset z (Lui rd imm) = Lui rd imm
+with_offset z (Auipc rd imm) = Auipc rd imm
+with_offset z (Fence imm rd rs1) = Fence imm rd rs1
+with_offset z Ecall = Ecall
+with_offset z Ebreak = Ebreak

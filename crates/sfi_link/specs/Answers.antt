@@ -1,0 +1,27 @@
+-- What a linker answers, want of memory aside.
+use Rattle.std.specs.Prelude.{◌≡◌, ◌⊎◌, ℕ, List, Result, Ok, Err, Vec}
+use Rattle.std.specs.Global.{Global}
+use Rattle.sfi_link.specs.declared.fault.LinkFault.{LinkFault}
+use Rattle.sfi_link.specs.declared.fault.LinkFault.TheVariants.{UnknownName, BranchReach, TooLarge, TooManySandboxes, Memory}
+
+-- what is said of a fault, where that isn't want of memory
+abbrev pub UnlessMemory : (LinkFault → Type 0) → LinkFault → Type 0
+UnlessMemory P (UnknownName line) = P (UnknownName line)
+UnlessMemory P (BranchReach line) = P (BranchReach line)
+UnlessMemory P (TooLarge sandbox) = P (TooLarge sandbox)
+UnlessMemory P TooManySandboxes = P TooManySandboxes
+UnlessMemory P Memory = Unit {0}
+
+-- the value that was made meets Made, or the fault meets Faulty, or memory ran out
+abbrev pub Links : {X : Type 0} → (X → Type 0) → (LinkFault → Type 0) → Result X LinkFault → Type 0
+Links Made Faulty (Ok x) = Made x
+Links Made Faulty (Err f) = UnlessMemory Faulty f
+
+-- the answer is these bytes, or memory ran out
+abbrev pub AnswersBytes : List ℕ → Result (Vec ℕ Global) LinkFault → Type 0
+AnswersBytes bytes (Ok v) = v.items ≡ bytes
+AnswersBytes bytes (Err f) = f ≡ Memory
+
+-- the answer is this fault, or memory ran out
+abbrev pub AnswersFault : {X : Type 0} → LinkFault → Result X LinkFault → Type 0
+AnswersFault f answer = (answer ≡ Err f) ⊎ (answer ≡ Err Memory)

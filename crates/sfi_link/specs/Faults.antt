@@ -1,0 +1,92 @@
+-- Why what is placed can't be linked.
+use Rattle.std.specs.Prelude.{◌≡◌, ◌⊎◌, ℕ, ◌+◌, ◌<◌, ◌≤◌, pos, ◌-ℤ◌, List, length, take, slice_get, Some, None}
+use Rattle.rv_word.specs.Spelling.{InRange}
+use Rattle.sfi_image.specs.Spelling.{Part}
+use Rattle.sfi_rewrite.specs.declared.slot.Slot.{Slot}
+use Rattle.sfi_rewrite.specs.declared.slot.Slot.TheVariants.{Wide, Short, Jump, Upper, Lower}
+use Rattle.sfi_rewrite.specs.declared.placed.PlacedName.{PlacedName}
+use Rattle.sfi_rewrite.specs.Slots.{size_of, slots_of, code_most}
+use Rattle.sfi_rewrite.specs.Placement.{Placement}
+use Rattle.sfi_link.specs.declared.bases.Bases.{Bases}
+use Rattle.sfi_link.specs.declared.fault.LinkFault.{LinkFault}
+use Rattle.sfi_link.specs.declared.fault.LinkFault.TheVariants.{UnknownName, BranchReach, TooLarge, TooManySandboxes, Memory}
+use Rattle.sfi_link.specs.Addresses.{address_at, target_at, with_offset, bases_of}
+use Rattle.sfi_link.specs.Code.{AreSlots}
+use Rattle.sfi_link.specs.Linked.{needed, AreLinked}
+
+-- the number of a fault
+abbrev pub number_of : LinkFault → ℕ
+number_of (UnknownName line) = 1
+number_of (BranchReach line) = 2
+number_of (TooLarge sandbox) = 3
+number_of TooManySandboxes = 4
+number_of Memory = 5
+
+-- ---- of a slot
+
+-- the slot stands on that line, and its name has no address; a jump's names neither a gate nor a place in the code
+abbrev pub IsUnknown : Bases → List PlacedName → Slot → ℕ → Type 0
+IsUnknown at names (Wide i) line = ⊥
+IsUnknown at names (Short f) line = ⊥
+IsUnknown at names (Jump i name on) line = (target_at at names name ≡ None) × (line ≡ on)
+IsUnknown at names (Upper rd name on) line = (address_at at names name ≡ None) × (line ≡ on)
+IsUnknown at names (Lower rd name on) line = (address_at at names name ≡ None) × (line ≡ on)
+
+-- the slot is a jump on that line, and where it stands it doesn't reach its target
+abbrev pub IsOutOfReach : Bases → List PlacedName → ℕ → Slot → ℕ → Type 0
+IsOutOfReach at names here (Wide i) line = ⊥
+IsOutOfReach at names here (Short f) line = ⊥
+IsOutOfReach at names here (Jump i name on) line =
+    (to : ℕ) × (target_at at names name ≡ Some to) × (¬ InRange (with_offset (pos to -ℤ pos here) i)) × (line ≡ on)
+IsOutOfReach at names here (Upper rd name on) line = ⊥
+IsOutOfReach at names here (Lower rd name on) line = ⊥
+
+-- the fault of the slot that stands at `here`
+abbrev pub HasSlotFault : Bases → List PlacedName → ℕ → Slot → LinkFault → Type 0
+HasSlotFault at names here s (UnknownName line) = IsUnknown at names s line
+HasSlotFault at names here s (BranchReach line) = IsOutOfReach at names here s line
+HasSlotFault at names here s (TooLarge sandbox) = ⊥
+HasSlotFault at names here s TooManySandboxes = ⊥
+HasSlotFault at names here s Memory = ⊥
+
+-- the first of the slots from `here` on that has a fault has this one
+pub record IsSlotFault (at : Bases) (names : List PlacedName) (here : ℕ) (slots : List Slot) (f : LinkFault) : Type 0 where
+  pub index : ℕ
+  pub slot : Slot
+  pub there : slice_get slots index ≡ Some slot
+  pub before : List ℕ
+  pub linked : AreSlots at names here (take index slots) before
+  pub has : HasSlotFault at names (here + size_of (take index slots)) slot f
+
+-- ---- of a sandbox
+
+-- no code region has room for the stubs, the code and one c.ebreak
+abbrev pub IsTooLarge : Placement → Type 0
+IsTooLarge p = code_most < needed p
+
+-- the fault of the sandbox of that number, of which being too large goes first
+abbrev pub HasPartFault : ℕ → Placement → LinkFault → Type 0
+HasPartFault number p f =
+    (IsTooLarge p × (f ≡ TooLarge number))
+    ⊎ ((¬ IsTooLarge p) × IsSlotFault (bases_of number p) p.names (bases_of number p).start (slots_of p.bundles) f)
+
+-- the first sandbox that has a fault has this one
+pub record IsPartFault (placed : List Placement) (f : LinkFault) : Type 0 where
+  pub number : ℕ
+  pub part : Placement
+  pub there : slice_get placed number ≡ Some part
+  pub before : List Part
+  pub linked : AreLinked (take number placed) before
+  pub has : HasPartFault number part f
+
+-- ---- of all
+
+-- the most sandboxes that an image has
+abbrev pub sandboxes_most : ℕ
+sandboxes_most = 16
+
+-- the fault of what is placed: too many sandboxes, or the first one's in the order of the text
+abbrev pub IsLinkFault : List Placement → LinkFault → Type 0
+IsLinkFault placed f =
+    ((sandboxes_most < length placed) × (f ≡ TooManySandboxes))
+    ⊎ ((length placed ≤ sandboxes_most) × IsPartFault placed f)

@@ -1,0 +1,32 @@
+-- What holds of all that is placed.
+use Rattle.std.specs.Prelude.{◌≡◌, ℕ, ◌<◌, ◌≤◌, List, [], length}
+use Rattle.sfi_image.specs.Spelling.{Part}
+use Rattle.sfi_image.specs.Parts.{IsRightLayout}
+use Rattle.sfi_scan.specs.Findings.{AreFindings}
+use Rattle.sfi_rewrite.specs.Placement.{Placement}
+use Rattle.sfi_rewrite.specs.Placed.{IsPlacedPart, IsPlaced}
+use Rattle.sfi_link.specs.declared.fault.LinkFault.{LinkFault}
+use Rattle.sfi_link.specs.Linked.{IsLinked, AreLinked}
+use Rattle.sfi_link.specs.Faults.{IsLinkFault, sandboxes_most}
+
+-- what is made of a placed sandbox breaks no rule
+abbrev pub LinkedIsClean : Type 0
+LinkedIsClean = (number : ℕ) (p : Placement) (q : Part) → IsPlacedPart p → number < sandboxes_most → IsLinked number p q → AreFindings number q []
+
+-- what is made of at most 16 placed sandboxes has a right layout
+abbrev pub LinkedIsRight : Type 0
+LinkedIsRight = (placed : List Placement) (parts : List Part) → IsPlaced placed → length placed ≤ sandboxes_most → AreLinked placed parts → IsRightLayout parts
+
+-- one list of sandboxes is made of what is placed
+abbrev pub OneLinking : Type 0
+OneLinking = (placed : List Placement) (parts others : List Part) → AreLinked placed parts → AreLinked placed others → parts ≡ others
+
+-- what is placed has one fault
+abbrev pub OneFault : Type 0
+OneFault = (placed : List Placement) (f g : LinkFault) → IsLinkFault placed f → IsLinkFault placed g → f ≡ g
+
+-- of at most 16 placed sandboxes with a fault no image is made
+abbrev pub NeverBoth : Type 0
+NeverBoth =
+    (placed : List Placement) (parts : List Part) (f : LinkFault)
+    → length placed ≤ sandboxes_most → AreLinked placed parts → IsLinkFault placed f → ⊥

@@ -1,0 +1,9 @@
+pub mod Addresses
+pub mod Code
+pub mod Linked
+pub mod Faults
+pub mod Building
+pub mod Answers
+pub mod Texts
+pub mod Near
+pub mod Laws

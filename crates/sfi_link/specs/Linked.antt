@@ -1,0 +1,72 @@
+-- The sandbox of an image that is made of a placed one.
+use Rattle.std.specs.Prelude.{◌≡◌, ℕ, ◌+◌, ◌*◌, ◌^◌, ◌≤◌, List, [], ◌∷◌, ◌++◌, length, replicate}
+use Rattle.std.specs.List.{repeat}
+use Rattle.rv_comp.specs.declared.form.Form16.TheVariants.{CEbreak}
+use Rattle.rv_text.specs.declared.item.SourceGate.{SourceGate}
+use Rattle.sfi_image.specs.declared.part.Gate.{Gate}
+use Rattle.sfi_image.specs.Spelling.{Part}
+use Rattle.sfi_scan.specs.Bundles.{stub}
+use Rattle.sfi_rewrite.specs.declared.slot.Slot.{Slot}
+use Rattle.sfi_rewrite.specs.declared.slot.Slot.TheVariants.{Short}
+use Rattle.sfi_rewrite.specs.Slots.{size_of, slots_of}
+use Rattle.sfi_rewrite.specs.Placement.{Placement}
+use Rattle.sfi_link.specs.Addresses.{stub_size, bases_of}
+use Rattle.sfi_link.specs.Code.{AreSlots}
+
+-- ---- how large the code region is
+
+-- c.ebreak, with which the region is filled: what runs on behind the code stops there
+abbrev pub c_ebreak : Slot
+c_ebreak = Short CEbreak
+
+-- the bytes of the stubs, the code and one c.ebreak
+abbrev pub needed : Placement → ℕ
+needed p = stub_size * length p.gates + size_of (slots_of p.bundles) + 2
+
+-- a code region may have so many bytes, and so many have room in it
+pub record HasRoom (bytes size : ℕ) : Type 0 where
+  pub power : ℕ
+  pub size_is : size ≡ 2 ^ power
+  pub at_least : 256 ≤ size
+  pub at_most : size ≤ 65536
+  pub room : bytes ≤ size
+
+-- it is the least such size
+pub record IsCodeSize (bytes size : ℕ) : Type 0 where
+  pub has_room : HasRoom bytes size
+  pub least : (other : ℕ) → HasRoom bytes other → size ≤ other
+
+-- ---- a sandbox
+
+-- the gates' stubs lie one behind another from the address on
+abbrev pub gates_from : ℕ → List SourceGate → List Gate
+gates_from address [] = []
+gates_from address (g ∷ gates) = record { address = address; service = g.service } ∷ gates_from (address + stub_size) gates
+
+-- the code: the stubs, then the bytes of the slots with addresses for names, then c.ebreaks to the region's end, one at least
+pub record IsLinkedCode (number : ℕ) (p : Placement) (code : List ℕ) : Type 0 where
+  pub size : IsCodeSize (needed p) (length code)
+  pub fill : ℕ
+  pub bytes : List ℕ
+  pub slots : AreSlots (bases_of number p) p.names (bases_of number p).start (slots_of p.bundles ++ replicate fill c_ebreak) bytes
+  pub code_is : code ≡ repeat (length p.gates) stub ++ bytes
+
+-- the placed sandbox makes that one of the image, as the one of that number, counted from 0
+pub record IsLinked (number : ℕ) (p : Placement) (q : Part) : Type 0 where
+  pub code_base : q.code_base ≡ (bases_of number p).code
+  pub data_base : q.data_base ≡ (bases_of number p).«data»
+  pub data_size : q.data_size ≡ p.data_size
+  pub start : q.start ≡ (bases_of number p).start
+  pub gates : q.gates ≡ gates_from (bases_of number p).code p.gates
+  pub init : q.init ≡ p.bytes
+  pub code : IsLinkedCode number p q.code
+
+-- the same of sandboxes, the first of which has that number
+abbrev pub AreLinkedFrom : ℕ → List Placement → List Part → Type 0
+AreLinkedFrom number [] parts = parts ≡ []
+AreLinkedFrom number (p ∷ placed) [] = ⊥
+AreLinkedFrom number (p ∷ placed) (q ∷ parts) = IsLinked number p q × AreLinkedFrom (number + 1) placed parts
+
+-- the placed sandboxes make those of the image
+abbrev pub AreLinked : List Placement → List Part → Type 0
+AreLinked placed parts = AreLinkedFrom 0 placed parts

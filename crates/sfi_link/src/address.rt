@@ -1,0 +1,111 @@
+//! Addresses for names, and what an instruction holds of them.
+ghost use Rattle.std.specs.Prelude.{◌≡◌, ◌<◌, ◌^◌, pos, ◌-ℤ◌, IfSome};
+ghost use Rattle.sfi_link.specs.Addresses.{address_of, target_of, address_at, target_at, upper, lower, with_offset};
+ghost use Rattle.sfi_link.specs.Near.{IsLow, AreLow, IsNear, AreNear};
+
+use crate::bases::Bases;
+use rv_word::Instr;
+use sfi_rewrite::PlacedName;
+
+const STUB_BYTES: u32 = 16;
+
+fn address_of(at: Bases, name: PlacedName) -> Option<u32>
+    requires low { AreLow at }
+    requires near { IsNear name }
+    ensures is { result ≡ address_of at name }
+    ensures low { IfSome result (λ a. a < 2 ^ 31) }
+{
+    match name {
+        PlacedName::Gate(k) => Some(at.code + STUB_BYTES * k as u32),
+        PlacedName::Code(place) => Some(at.start + place),
+        PlacedName::Data(offset) => Some(at.data + offset),
+        PlacedName::Unknown => None,
+    }
+}
+
+fn target_of(at: Bases, name: PlacedName) -> Option<u32>
+    requires low { AreLow at }
+    requires near { IsNear name }
+    ensures is { result ≡ target_of at name }
+    ensures low { IfSome result (λ a. a < 2 ^ 31) }
+{
+    match name {
+        PlacedName::Gate(_) | PlacedName::Code(_) => address_of(at, name),
+        PlacedName::Data(_) | PlacedName::Unknown => None,
+    }
+}
+
+// The address of the name at that place.
+pub(crate) fn address_at(at: Bases, names: &[PlacedName], place: usize) -> Option<u32>
+    requires { AreNear at names.now }
+    ensures is { result ≡ address_at at names.now place }
+    ensures low { IfSome result (λ a. a < 2 ^ 31) }
+{
+    match names.get(place) {
+        Some(name) => address_of(at, *name),
+        None => None,
+    }
+}
+
+// The address to which a jump to the name at that place leads.
+pub(crate) fn target_at(at: Bases, names: &[PlacedName], place: usize) -> Option<u32>
+    requires { AreNear at names.now }
+    ensures is { result ≡ target_at at names.now place }
+    ensures low { IfSome result (λ a. a < 2 ^ 31) }
+{
+    match names.get(place) {
+        Some(name) => target_of(at, *name),
+        None => None,
+    }
+}
+
+// What a lui gives of the address.
+pub(crate) fn upper(address: u32) -> u32
+    requires { address < 2 ^ 31 }
+    ensures is { result ≡ upper address }
+    ensures fits { result < 2 ^ 20 }
+{
+    (address + 2048) / 4096
+}
+
+// What an addi adds to that.
+pub(crate) fn lower(address: u32) -> i32
+    requires { address < 2 ^ 31 }
+    ensures { result ≡ lower address }
+{
+    (i64::from(address) - i64::from((address + 2048) / 4096 * 4096)) as i32
+}
+
+// How far it is from here to there.
+pub(crate) fn distance(here: u32, there: u32) -> i32
+    requires here { here < 2 ^ 31 }
+    requires there { there < 2 ^ 31 }
+    ensures { result ≡ pos there -ℤ pos here }
+{
+    (i64::from(there) - i64::from(here)) as i32
+}
+
+// The jal or branch with that offset.
+pub(crate) fn with_offset(instr: Instr, offset: i32) -> Instr
+    ensures { result ≡ with_offset offset instr }
+{
+    match instr {
+        Instr::Jal { rd, .. } => Instr::Jal { rd, offset },
+        Instr::Branch { cond, rs1, rs2, .. } => Instr::Branch {
+            cond,
+            rs1,
+            rs2,
+            offset,
+        },
+        Instr::Op { .. }
+        | Instr::OpImm { .. }
+        | Instr::Load { .. }
+        | Instr::Store { .. }
+        | Instr::Jalr { .. }
+        | Instr::Lui { .. }
+        | Instr::Auipc { .. }
+        | Instr::Fence { .. }
+        | Instr::Ecall
+        | Instr::Ebreak => instr,
+    }
+}

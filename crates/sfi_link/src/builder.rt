@@ -1,0 +1,59 @@
+//! From a text to an image.
+ghost use Rattle.std.specs.Prelude.{◌⊎◌, ℕ, List, IfOk, IfErr};
+ghost use Rattle.rv_text.specs.Source.{Sandbox};
+ghost use Rattle.rv_text.specs.Texts.{MeansSource};
+ghost use Rattle.sfi_link.specs.declared.fault.BuildFault.{BuildFault};
+ghost use Rattle.sfi_link.specs.Building.{IsBuild};
+ghost use Rattle.sfi_link.specs.Texts.{IsTextBuild, IsCleanImage, IsBuildFault, IsWantOfMemory, Builds, AnswersBuild, AnswersBuildFault};
+
+use crate::fault::BuildFault;
+use crate::laws::one_linking;
+use crate::linker::link;
+use rv_text::laws::{meant_has_no_fault, one_fault as one_text_fault, one_source};
+use rv_text::parse_source;
+use sfi_rewrite::laws::{never_both, one_fault as one_source_fault, one_rewriting};
+use sfi_rewrite::rewrite;
+use std::alloc::Global;
+
+// The build of the text, or its fault.
+fn built(alloc: Global, text: &str) -> Result<Vec<u8>, BuildFault>
+    ensures { Builds text.now result }
+{
+    let source = match parse_source(alloc, text) {
+        Ok(source) => source,
+        Err(fault) => return Err(BuildFault::Text(fault)),
+    };
+    let placed = match rewrite(alloc, &source) {
+        Ok(placed) => placed,
+        Err(fault) => return Err(BuildFault::Rewrite(fault)),
+    };
+    match link(alloc, &placed) {
+        Ok(bytes) => Ok(bytes),
+        Err(fault) => Err(BuildFault::Link(fault)),
+    }
+}
+
+/// Reads a source, places it and links it: the image of a text, or the first fault of the three in this order. The image
+/// has a right layout and breaks no rule, so the checker accepts it.
+pub fn build(alloc: Global, text: &str) -> Result<Vec<u8>, BuildFault>
+    // What each answer means.
+    ensures built { IfOk result (λ bytes. IsTextBuild text.now bytes.items) }
+    ensures build { (source : List Sandbox) → MeansSource text.now source → IfOk result (λ bytes. IsBuild source bytes.items) }
+    ensures clean { IfOk result (λ bytes. IsCleanImage bytes.items) }
+    ensures fault { IfErr result (λ f. IsWantOfMemory f ⊎ IsBuildFault text.now f) }
+
+    // Which texts get it, want of memory aside.
+    ensures only_built { (bytes : List ℕ) → IsTextBuild text.now bytes → AnswersBuild bytes result }
+    ensures only_fault { (f : BuildFault) → IsBuildFault text.now f → AnswersBuildFault f result }
+{
+    // The laws that the contract rests on: these calls do nothing.
+    one_source();
+    one_text_fault();
+    meant_has_no_fault();
+    one_rewriting();
+    one_source_fault();
+    never_both();
+    one_linking();
+
+    built(alloc, text)
+}

@@ -1,0 +1,190 @@
+//! The bytes of what is placed, written one slot after another.
+ghost use Rattle.std.specs.Prelude.{◌≡◌, ◌+◌, ◌^◌, ◌<◌, ◌++◌, IsTrue, length, OnOk};
+ghost use Rattle.std.specs.List.{All};
+ghost use Rattle.std.specs.Int.{w16, w32, to_le_bytes};
+ghost use Rattle.rv_word.specs.Spelling.{InRange, IsReg, spelling};
+ghost use Rattle.rv_word.specs.declared.instr.Instr.TheVariants.{OpImm};
+ghost use Rattle.rv_word.specs.declared.instr.ImmOp.TheVariants.{Addi};
+ghost use Rattle.rv_comp.specs.Table.{allowed};
+ghost use Rattle.rv_comp.specs.Halfwords.{halfword_of};
+ghost use Rattle.sfi_rewrite.specs.Slots.{size_of, slots_of};
+ghost use Rattle.sfi_rewrite.specs.Placed.{Encodes};
+ghost use Rattle.sfi_link.specs.Addresses.{lower};
+ghost use Rattle.sfi_link.specs.Near.{IsLow, AreNear, IsPushed, AreWritten};
+ghost use Rattle.sfi_link.specs.Faults.{HasSlotFault, IsSlotFault};
+ghost use Rattle.sfi_rewrite.specs.declared.slot.Slot.TheVariants.{Jump, Upper, Lower};
+ghost use Rattle.sfi_link.specs.Answers.{Links};
+
+use crate::address::{address_at, distance, lower, target_at, upper, with_offset};
+use crate::bases::Bases;
+use crate::fault::LinkFault;
+use rv_comp::{Form16, write_short, write_wide};
+use rv_word::{ImmOp, Instr, Reg};
+use sfi_rewrite::{Bundle, PlacedName, Slot};
+use std::alloc::AllocError;
+
+// A 32-bit instruction comes behind the bytes so far.
+fn push_wide(code: &mut Vec<u8>, instr: Instr) -> Result<(), AllocError>
+    requires { InRange instr }
+    ensures { OnOk result (code.new.items ≡ code.old.items ++ to_le_bytes w32 (spelling instr)) }
+{
+    let mut word = [0; 4];
+    write_wide(instr, &mut word);
+    code.extend_from_slice(&word)?;
+    Ok(())
+}
+
+// A 16-bit form comes behind the bytes so far.
+fn push_short(code: &mut Vec<u8>, form: Form16) -> Result<(), AllocError>
+    requires { IsTrue (allowed form) }
+    ensures { OnOk result (code.new.items ≡ code.old.items ++ to_le_bytes w16 (halfword_of form)) }
+{
+    let mut halfword = [0; 2];
+    write_short(form, &mut halfword);
+    code.extend_from_slice(&halfword)?;
+    Ok(())
+}
+
+// The jal or branch to the name comes behind the bytes so far.
+fn push_jump(
+    code: &mut Vec<u8>,
+    at: Bases,
+    names: &[PlacedName],
+    instr: Instr,
+    place: usize,
+    line: u32,
+) -> Result<(), LinkFault>
+    requires near { AreNear at names.now }
+    requires room { IsLow (at.code + length code.old.items) }
+    ensures { Links (λ _. IsPushed at names.now (Jump instr place line) code.old.items code.new.items)
+        (HasSlotFault at names.now (at.code + length code.old.items) (Jump instr place line)) result }
+{
+    let here = at.code + code.len() as u32;
+    let Some(to) = target_at(at, names, place) else {
+        return Err(LinkFault::UnknownName { line });
+    };
+    let mut word = [0; 4];
+    if !write_wide(with_offset(instr, distance(here, to)), &mut word) {
+        return Err(LinkFault::BranchReach { line });
+    }
+    code.extend_from_slice(&word)?;
+    Ok(())
+}
+
+// The lui of the name's address comes behind the bytes so far.
+#[tactic(auto, unfolding(rv_word::specs::Spelling::InRange))]
+fn push_upper(
+    code: &mut Vec<u8>,
+    at: Bases,
+    names: &[PlacedName],
+    rd: Reg,
+    place: usize,
+    line: u32,
+) -> Result<(), LinkFault>
+    requires near { AreNear at names.now }
+    requires register { IsReg rd }
+    ensures { Links (λ _. IsPushed at names.now (Upper rd place line) code.old.items code.new.items)
+        (HasSlotFault at names.now (at.code + length code.old.items) (Upper rd place line)) result }
+{
+    let Some(address) = address_at(at, names, place) else {
+        return Err(LinkFault::UnknownName { line });
+    };
+    let imm = upper(address);
+    push_wide(code, Instr::Lui { rd, imm })?;
+    Ok(())
+}
+
+// `addi rd, rd, imm` of what a lui leaves of the address
+fn add_lower(rd: Reg, address: u32) -> Instr
+    requires { address < 2 ^ 31 }
+    ensures { result ≡ OpImm Addi rd rd (lower address) }
+{
+    Instr::OpImm {
+        op: ImmOp::Addi,
+        rd,
+        rs1: rd,
+        imm: lower(address),
+    }
+}
+
+// The addi of what the lui leaves comes behind the bytes so far.
+fn push_lower(
+    code: &mut Vec<u8>,
+    at: Bases,
+    names: &[PlacedName],
+    rd: Reg,
+    place: usize,
+    line: u32,
+) -> Result<(), LinkFault>
+    requires near { AreNear at names.now }
+    requires register { IsReg rd }
+    ensures { Links (λ _. IsPushed at names.now (Lower rd place line) code.old.items code.new.items)
+        (HasSlotFault at names.now (at.code + length code.old.items) (Lower rd place line)) result }
+{
+    let Some(address) = address_at(at, names, place) else {
+        return Err(LinkFault::UnknownName { line });
+    };
+    push_wide(code, add_lower(rd, address))?;
+    Ok(())
+}
+
+// A slot comes behind the bytes so far.
+fn push_slot(
+    code: &mut Vec<u8>,
+    at: Bases,
+    names: &[PlacedName],
+    slot: Slot,
+) -> Result<(), LinkFault>
+    requires near { AreNear at names.now }
+    requires encodes { Encodes slot }
+    requires room { IsLow (at.code + length code.old.items) }
+    ensures { Links (λ _. IsPushed at names.now slot code.old.items code.new.items)
+        (HasSlotFault at names.now (at.code + length code.old.items) slot) result }
+{
+    match slot {
+        Slot::Wide(instr) => push_wide(code, instr)?,
+        Slot::Short(form) => push_short(code, form)?,
+        Slot::Jump { instr, name, line } => push_jump(code, at, names, instr, name, line)?,
+        Slot::Upper { rd, name, line } => push_upper(code, at, names, rd, name, line)?,
+        Slot::Lower { rd, name, line } => push_lower(code, at, names, rd, name, line)?,
+    }
+    Ok(())
+}
+
+// Slots come behind the bytes so far, one behind another.
+fn push_slots(
+    code: &mut Vec<u8>,
+    at: Bases,
+    names: &[PlacedName],
+    slots: &[Slot],
+) -> Result<(), LinkFault>
+    requires near { AreNear at names.now }
+    requires encodes { All Encodes slots.now }
+    requires room { IsLow (at.code + length code.old.items + size_of slots.now) }
+    ensures { Links (λ _. AreWritten at names.now slots.now code.old.items code.new.items)
+        (IsSlotFault at names.now (at.code + length code.old.items) slots.now) result }
+{
+    for slot in slots {
+        push_slot(code, at, names, *slot)?;
+    }
+    Ok(())
+}
+
+// The slots of bundles come behind the bytes so far, one behind another.
+pub(crate) fn push_bundles(
+    code: &mut Vec<u8>,
+    at: Bases,
+    names: &[PlacedName],
+    bundles: &[Bundle],
+) -> Result<(), LinkFault>
+    requires near { AreNear at names.now }
+    requires encodes { All Encodes (slots_of bundles.now) }
+    requires room { IsLow (at.code + length code.old.items + size_of (slots_of bundles.now)) }
+    ensures { Links (λ _. AreWritten at names.now (slots_of bundles.now) code.old.items code.new.items)
+        (IsSlotFault at names.now (at.code + length code.old.items) (slots_of bundles.now)) result }
+{
+    for bundle in bundles {
+        push_slots(code, at, names, bundle.slots())?;
+    }
+    Ok(())
+}

@@ -1,0 +1,119 @@
+//! The code region of a sandbox: its gates' stubs, its code, and c.ebreaks up to its end.
+ghost use Rattle.std.specs.Prelude.{◌≡◌, ◌++◌, ◌<◌, ◌≤◌, length, OnOk};
+ghost use Rattle.std.specs.List.{repeat};
+ghost use Rattle.sfi_rewrite.specs.Slots.{size_of, code_most};
+ghost use Rattle.sfi_rewrite.specs.Placed.{IsPlacedPart};
+ghost use Rattle.sfi_link.specs.Addresses.{bases_of};
+ghost use Rattle.sfi_link.specs.Linked.{needed, IsCodeSize, IsLinkedCode};
+ghost use Rattle.sfi_link.specs.Faults.{HasPartFault, sandboxes_most};
+ghost use Rattle.sfi_link.specs.Near.{AreLow};
+ghost use Rattle.sfi_link.specs.Answers.{Links};
+
+use crate::bases::Bases;
+use crate::code::push_bundles;
+use crate::fault::LinkFault;
+use sfi_rewrite::{PlacedPart, Slot};
+use std::alloc::{AllocError, Global};
+
+// A gate's bundle: `ecall`, `and x31, x1, x25`, `or x31, x31, x24`, `jalr x0, 0(x31)`.
+const STUB: [u8; 16] = [
+    0x73, 0x00, 0x00, 0x00, 0xb3, 0xff, 0x90, 0x01, 0xb3, 0xef, 0x8f, 0x01, 0x67, 0x80, 0x0f, 0x00,
+];
+
+const C_EBREAK: [u8; 2] = [0x02, 0x90];
+
+const CODE_LEAST: usize = 256;
+
+const CODE_MOST: usize = 65536;
+
+// The first code base, and how far one sandbox lies from the next.
+const STRIDE: u32 = 0x0100_0000;
+
+// How far the data lies from the code.
+const DATA_OFFSET: u32 = 0x0080_0000;
+
+// How many bytes the slots take.
+fn size_of(slots: &[Slot]) -> usize
+    requires { size_of slots.now ≤ code_most }
+    ensures { result ≡ size_of slots.now }
+{
+    let mut size = 0;
+    for slot in slots {
+        size += slot.size();
+    }
+    size
+}
+
+// How many bytes the stubs, the code and one c.ebreak take.
+fn needed(part: &PlacedPart) -> usize
+    requires { IsPlacedPart part.now }
+    ensures { result ≡ needed part.now }
+{
+    let bundles = part.bundles();
+    let mut code = 0;
+    for bundle in bundles {
+        code += size_of(bundle.slots());
+    }
+    STUB.len() * part.gates().len() + code + C_EBREAK.len()
+}
+
+// The least size of a code region in which so many bytes have room.
+fn code_size(needed: usize) -> usize
+    requires { needed ≤ code_most }
+    ensures { IsCodeSize needed result }
+{
+    if needed <= CODE_LEAST {
+        CODE_LEAST
+    } else {
+        needed.next_power_of_two()
+    }
+}
+
+// Where the sandbox of that number lies.
+pub(crate) fn bases_of(number: u32, part: &PlacedPart) -> Bases
+    requires few { number < sandboxes_most }
+    requires right { IsPlacedPart part.now }
+    ensures is { result ≡ bases_of number part.now }
+    ensures low { AreLow result }
+{
+    let code = STRIDE * (number + 1);
+    Bases {
+        code,
+        start: code + 16 * part.gates().len() as u32,
+        data: code + DATA_OFFSET,
+    }
+}
+
+// So many copies of some bytes come behind the bytes so far.
+fn push_copies(code: &mut Vec<u8>, copied: &[u8], count: usize) -> Result<(), AllocError>
+    ensures { OnOk result (code.new.items ≡ code.old.items ++ repeat count copied.now) }
+{
+    for _ in 0..count {
+        code.extend_from_slice(copied)?;
+    }
+    Ok(())
+}
+
+// The bytes of the code region of the sandbox of that number.
+pub(crate) fn linked_code(
+    alloc: Global,
+    number: u32,
+    part: &PlacedPart,
+) -> Result<Vec<u8>, LinkFault>
+    requires few { number < sandboxes_most }
+    requires right { IsPlacedPart part.now }
+    ensures { Links (λ code. IsLinkedCode number part.now code.items) (HasPartFault number part.now) result }
+{
+    let needed = needed(part);
+    if needed > CODE_MOST {
+        return Err(LinkFault::TooLarge { sandbox: number });
+    }
+    let size = code_size(needed);
+    let at = bases_of(number, part);
+    let mut code = Vec::with_capacity(alloc, size)?;
+    push_copies(&mut code, &STUB, part.gates().len())?;
+    push_bundles(&mut code, at, part.names(), part.bundles())?;
+    let fill = (size - code.len()) / C_EBREAK.len();
+    push_copies(&mut code, &C_EBREAK, fill)?;
+    Ok(code)
+}

@@ -1,0 +1,102 @@
+//! Why nothing is linked, or nothing is built.
+ghost use Rattle.std.specs.Prelude.{◌≡◌};
+ghost use Rattle.sfi_link.specs.declared.fault.LinkFault.TheVariants.{Memory};
+ghost use Rattle.sfi_link.specs.declared.fault.BuildFault.TheVariants.{Text, Rewrite, Link};
+ghost use Rattle.sfi_link.specs.Faults.{number_of};
+
+use rv_text::TextFault;
+use sfi_rewrite::RewriteFault;
+use std::alloc::{AllocError, AllocFailed};
+use thiserror::Error;
+
+/// Why what is placed can't be linked. Too many sandboxes go first; then the first sandbox that has a fault counts, with
+/// TooLarge before the faults of its instructions, of which the first counts.
+#[derive(Clone, Copy, Debug, PartialEq, Eq, Error)]
+pub enum LinkFault {
+    /// The instruction on the line, counted from 1, jumps to a name that is neither a label of the code nor a gate of its
+    /// sandbox, or takes the address of a name that is none of it.
+    #[error("UnknownName line {line}")]
+    UnknownName { line: u32 },
+    /// The jump or branch on the line, counted from 1, doesn't reach its target: a branch reaches from 4096 bytes below it to
+    /// 4094 above, a jal from 1048576 below to 1048574 above.
+    #[error("BranchReach line {line}")]
+    BranchReach { line: u32 },
+    /// The code of the sandbox, counted from 0, has no room in 65536 bytes with its gates' stubs and one c.ebreak.
+    #[error("TooLarge sandbox {sandbox}")]
+    TooLarge { sandbox: u32 },
+    /// There are more than 16 sandboxes.
+    #[error("TooManySandboxes")]
+    TooManySandboxes,
+    /// Memory ran out; nothing is known of what is placed.
+    #[error("Memory")]
+    Memory,
+}
+
+impl LinkFault {
+    /// The number by which a refusal is known, from 1 to 5.
+    pub fn number(self) -> u32
+        ensures { result ≡ number_of self }
+    {
+        match self {
+            LinkFault::UnknownName { .. } => 1,
+            LinkFault::BranchReach { .. } => 2,
+            LinkFault::TooLarge { .. } => 3,
+            LinkFault::TooManySandboxes => 4,
+            LinkFault::Memory => 5,
+        }
+    }
+}
+
+impl From<AllocError> for LinkFault {
+    ghost from_gives = { λ _ e. e ≡ Memory };
+
+    fn from(_e: AllocError) -> LinkFault {
+        LinkFault::Memory
+    }
+}
+
+impl<T: Drop> From<AllocFailed<T>> for LinkFault {
+    ghost from_gives = { λ _ e. e ≡ Memory };
+
+    fn from(_e: AllocFailed<T>) -> LinkFault {
+        LinkFault::Memory
+    }
+}
+
+/// Why a text isn't built: the first of its reading, its rewriting and its linking that fails.
+#[derive(Clone, Copy, Debug, PartialEq, Eq, Error)]
+pub enum BuildFault {
+    /// The text is no source.
+    #[error("{0}")]
+    Text(TextFault),
+    /// The source can't be rewritten.
+    #[error("rewrite fault {0}")]
+    Rewrite(RewriteFault),
+    /// What is placed can't be linked.
+    #[error("link fault {0}")]
+    Link(LinkFault),
+}
+
+impl From<TextFault> for BuildFault {
+    ghost from_gives = { λ f e. e ≡ Text f };
+
+    fn from(fault: TextFault) -> BuildFault {
+        BuildFault::Text(fault)
+    }
+}
+
+impl From<RewriteFault> for BuildFault {
+    ghost from_gives = { λ f e. e ≡ Rewrite f };
+
+    fn from(fault: RewriteFault) -> BuildFault {
+        BuildFault::Rewrite(fault)
+    }
+}
+
+impl From<LinkFault> for BuildFault {
+    ghost from_gives = { λ f e. e ≡ Link f };
+
+    fn from(fault: LinkFault) -> BuildFault {
+        BuildFault::Link(fault)
+    }
+}

@@ -1,0 +1,138 @@
+//! From what is placed to an image.
+ghost use Rattle.std.specs.Prelude.{◌≡◌, ◌<◌, ◌≤◌, ◌^◌, ℕ, List, length, IfOk, IfErr};
+ghost use Rattle.std.specs.List.{All};
+ghost use Rattle.rv_text.specs.Source.{Sandbox};
+ghost use Rattle.sfi_image.specs.Spelling.{view, views};
+ghost use Rattle.sfi_rewrite.specs.Placed.{IsPlacedPart};
+ghost use Rattle.sfi_link.specs.declared.fault.LinkFault.{LinkFault};
+ghost use Rattle.sfi_link.specs.Linked.{gates_from, IsLinkedCode, IsLinked, AreLinkedFrom};
+ghost use Rattle.sfi_link.specs.Building.{IsLinkedImage, ArePlacements, IsBuild};
+ghost use Rattle.sfi_link.specs.Faults.{IsPartFault, IsLinkFault, sandboxes_most};
+ghost use Rattle.sfi_link.specs.Near.{AreCodesFrom, contents};
+ghost use Rattle.sfi_link.specs.Answers.{Links, UnlessMemory, AnswersBytes, AnswersFault};
+
+use crate::code_region::{bases_of, linked_code};
+use crate::fault::LinkFault;
+use crate::laws::{linked_is_clean, linked_is_right, one_linking};
+use rv_text::SourceGate;
+use sfi_image::{Gate, ImageFault, SandboxPart, write_image};
+use sfi_rewrite::{Placed, PlacedPart};
+use std::alloc::{AllocError, Global};
+
+const SANDBOXES_MOST: usize = 16;
+
+const STUB_BYTES: u32 = 16;
+
+// The gates, whose stubs lie one behind another from the address on.
+fn gates_from(alloc: Global, address: u32, gates: &[SourceGate]) -> Result<Vec<Gate>, AllocError>
+    requires low { address < 2 ^ 30 }
+    requires few { length gates.now ≤ 64 }
+    ensures { IfOk result (λ listed. listed.items ≡ gates_from address gates.now) }
+{
+    let mut listed = Vec::new(alloc);
+    for (k, gate) in gates.iter().enumerate() {
+        listed.push(Gate {
+            address: address + STUB_BYTES * k as u32,
+            service: gate.service,
+        })?;
+    }
+    Ok(listed)
+}
+
+// The sandbox of that number, with this code.
+fn linked_part<'a>(
+    alloc: Global,
+    number: u32,
+    placed: &'a PlacedPart,
+    code: &'a [u8],
+) -> Result<SandboxPart<'a>, AllocError>
+    requires few { number < sandboxes_most }
+    requires right { IsPlacedPart placed.now }
+    requires code { IsLinkedCode number placed.now code.now }
+    ensures { IfOk result (λ part. IsLinked number placed.entry.now (view part)) }
+{
+    let at = bases_of(number, placed);
+    let gates = gates_from(alloc, at.code, placed.gates())?;
+    Ok(SandboxPart {
+        code_base: at.code,
+        data_base: at.data,
+        data_size: placed.data_size(),
+        start: at.start,
+        gates,
+        code,
+        init: placed.bytes(),
+    })
+}
+
+// The code of each sandbox, or the first fault.
+fn codes_of(alloc: Global, placed: &[PlacedPart]) -> Result<Vec<Vec<u8>>, LinkFault>
+    requires right { All IsPlacedPart placed.now }
+    requires few { length placed.now ≤ sandboxes_most }
+    ensures { Links (λ codes. AreCodesFrom 0 placed.now (contents codes.items)) (IsPartFault placed.now) result }
+{
+    let mut codes = Vec::new(alloc);
+    for (number, part) in placed.iter().enumerate() {
+        let code = linked_code(alloc, number as u32, part)?;
+        codes.push(code)?;
+    }
+    Ok(codes)
+}
+
+// Each sandbox, with its code.
+fn linked_parts<'a>(
+    alloc: Global,
+    placed: &'a [PlacedPart],
+    codes: &'a [Vec<u8>],
+) -> Result<Vec<SandboxPart<'a>>, AllocError>
+    requires right { All IsPlacedPart placed.now }
+    requires few { length placed.now ≤ sandboxes_most }
+    requires codes { AreCodesFrom 0 placed.now (contents codes.now) }
+    ensures { IfOk result (λ parts. AreLinkedFrom 0 placed.entry.now (views parts.items)) }
+{
+    let mut parts = Vec::new(alloc);
+    for (number, part) in placed.iter().enumerate() {
+        let linked = linked_part(alloc, number as u32, part, &codes[number])?;
+        parts.push(linked)?;
+    }
+    Ok(parts)
+}
+
+// The image of what is placed, or its fault.
+fn image_of(alloc: Global, placed: &Placed) -> Result<Vec<u8>, LinkFault>
+    ensures { Links (λ bytes. IsLinkedImage placed.now bytes.items) (IsLinkFault placed.now) result }
+{
+    // The laws that the contract rests on: these calls do nothing.
+    linked_is_right();
+    linked_is_clean();
+
+    let placed = placed.parts();
+    if placed.len() > SANDBOXES_MOST {
+        return Err(LinkFault::TooManySandboxes);
+    }
+    let codes = codes_of(alloc, placed)?;
+    let parts = linked_parts(alloc, placed, &codes)?;
+    match write_image(alloc, &parts) {
+        Ok(bytes) => Ok(bytes),
+        Err(ImageFault::Memory) => Err(LinkFault::Memory),
+        Err(ImageFault::Layout(_)) => unreachable!(),
+    }
+}
+
+/// Gives the names their addresses, and writes the image: sandbox after sandbox its stubs, its code and c.ebreaks behind it.
+pub fn link(alloc: Global, placed: &Placed) -> Result<Vec<u8>, LinkFault>
+    // What each answer means: the image has a right layout and breaks no rule.
+    ensures image { IfOk result (λ bytes. IsLinkedImage placed.now bytes.items) }
+    ensures fault { IfErr result (UnlessMemory (IsLinkFault placed.now)) }
+
+    // What is placed gets it, want of memory aside.
+    ensures only_image { (bytes : List ℕ) → IsLinkedImage placed.now bytes → AnswersBytes bytes result }
+    ensures only_fault { (f : LinkFault) → IsLinkFault placed.now f → AnswersFault f result }
+
+    // The image is the build of each source that is placed so.
+    ensures build { (source : List Sandbox) → ArePlacements source placed.now → IfOk result (λ bytes. IsBuild source bytes.items) }
+{
+    // The laws that the contract rests on: this call does nothing.
+    one_linking();
+
+    image_of(alloc, placed)
+}
