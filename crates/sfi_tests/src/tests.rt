@@ -1,8 +1,12 @@
+mod build;
 mod check;
 mod failing;
 mod image;
+mod listing;
 mod machine;
+mod report;
 mod scan;
+mod source;
 mod usage;
 
 use sfi_tool::run_tool;

@@ -1,2 +1,4 @@
+pub mod Digits
 pub mod KnownBytes
 pub mod Words
+pub mod Texts

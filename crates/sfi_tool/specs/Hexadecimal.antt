@@ -36,3 +36,9 @@ GivesBytes bytes (Ok others) = others.items ≡ bytes
 GivesBytes bytes (Err (Input fault)) = ⊥
 GivesBytes bytes (Err (Layout fault)) = ⊥
 GivesBytes bytes (Err Memory) = Unit {0}
+
+-- a fault is named only where the digits spell no bytes
+abbrev pub IsDigitStop : List ℕ → Stop → Type 0
+IsDigitStop text (Input fault) = IsNoHexadecimal text
+IsDigitStop text (Layout fault) = ⊥
+IsDigitStop text Memory = Unit {0}

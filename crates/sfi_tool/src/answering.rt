@@ -1,15 +1,16 @@
 //! What a job answers on the text that was read.
 
 ghost use Rattle.std.specs.Prelude.{◌≡◌, ◌≤◌, ◌<◌, IfOk, string_bytes};
-ghost use Rattle.sfi_tool.specs.Says.{HasInputFault, Says, SpellsAccepted, SpellsFindings};
+ghost use Rattle.sfi_tool.specs.Says.{HasInputFault, IsDone, IsRefused, Says};
 
 use crate::checking::checked;
 use crate::fault::{Stop, input_line, layout_line};
 use crate::job::Job;
+use crate::listing::listed;
 use crate::verdict::Answer;
 use std::alloc::{AllocError, Global};
 
-/// What the job answers on the text that was read: its verdict, or the line of a fault.
+/// What the job answers on the text that was read: what it was to print, or the line of a fault.
 ///
 /// A text above 134217728 bytes goes first, then an odd number of digits, then the first byte that is no
 /// digit, and then the layout of the image. The one error is that an allocation was refused.
@@ -21,12 +22,13 @@ pub fn answer(alloc: Global, job: &Job, text: &[u8]) -> Result<Answer, AllocErro
     ensures fault { IfOk result (λ a. a.status ≡ 2 → HasInputFault job.now text.now) }
 
     // Which text gets it.
-    ensures only_accepted { SpellsAccepted job.now text.now → IfOk result (λ a. a.status ≡ 0) }
-    ensures only_findings { SpellsFindings job.now text.now → IfOk result (λ a. a.status ≡ 1) }
+    ensures only_done { IsDone job.now text.now → IfOk result (λ a. a.status ≡ 0) }
+    ensures only_refused { IsRefused job.now text.now → IfOk result (λ a. a.status ≡ 1) }
     ensures only_fault { HasInputFault job.now text.now → IfOk result (λ a. a.status ≡ 2) }
 {
     let answered = match job {
-        Job::Check => checked(alloc, text),
+        Job::Check { report } => checked(alloc, *report, text),
+        Job::Dis => listed(alloc, text),
     };
     match answered {
         Ok(answer) => Ok(answer),

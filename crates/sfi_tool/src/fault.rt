@@ -7,10 +7,13 @@ use sfi_image::LayoutFault;
 use std::alloc::{AllocError, Global};
 use thiserror::Error;
 
+/// The line that names a text above its limit. A run says it without an allocation.
+pub(crate) const TOO_LARGE_LINE: &str = "input fault too large\n";
+
 /// What is wrong with the text that was read.
 #[derive(Debug, Drop, Error)]
 pub(crate) enum InputFault {
-    #[error("input fault too large")]
+    #[error("{}", TOO_LARGE_LINE.trim_ascii_end())]
     TooLarge,
     #[error("input fault hex odd")]
     HexOdd,

@@ -11,7 +11,12 @@ use thiserror::Error;
 #[derive(Debug, Drop)]
 pub enum Job {
     /// Is the image accepted? Its bytes come as hexadecimal text.
-    Check,
+    Check {
+        /// Whether each finding is printed before the verdict.
+        report: bool,
+    },
+    /// The listing of the image. Its bytes come as hexadecimal text.
+    Dis,
 }
 
 /// Why the words ask for no job.

@@ -8,6 +8,7 @@ mod fault;
 mod hexadecimal;
 mod input;
 mod job;
+mod listing;
 mod output;
 mod running;
 mod verdict;

@@ -7,6 +7,7 @@ ghost use Rattle.sfi_tool.specs.Run.{WritesAnswer, MeetsFault};
 
 use crate::answering::answer;
 use crate::command_line::job_of;
+use crate::fault::TOO_LARGE_LINE;
 use crate::input::{Input, ReadStop, read_input};
 use crate::job::JobFault;
 use crate::output::write_out;
@@ -27,7 +28,7 @@ fn printed<W: Write>(writer: &mut W, status: u8, text: &str) -> u8
 
 /// Runs the command that the words ask for, and answers the status to end with:
 ///
-/// - 0: accepted; 1: findings; 2: a fault of the input, which the text names;
+/// - 0: accepted or listed; 1: findings; 2: a fault of the input, which the text names;
 /// - 3: the words don't parse, or ask for help: what to print for them was written;
 /// - 4: an allocation was refused, and nothing was written;
 /// - 5: a read or a write failed. After a failed read nothing was written; after a failed write a
@@ -54,7 +55,7 @@ pub fn run_tool<R: Read, W: Write>(
     };
     let text = match read_input(alloc, reader) {
         Ok(Input::Whole(text)) => text,
-        Ok(Input::TooLarge) => return printed(writer, 2, "input fault too large\n"),
+        Ok(Input::TooLarge) => return printed(writer, 2, TOO_LARGE_LINE),
         Err(ReadStop::Memory) => return 4,
         Err(ReadStop::Failed) => return 5,
     };

@@ -1,7 +1,8 @@
 //! What a command answers.
 
 ghost use Rattle.std.specs.Prelude.{◌≡◌, ◌<◌, IfOk, string_bytes, length};
-ghost use Rattle.sfi_tool.specs.Verdict.{accepted_line, eight_digits, refused_line};
+ghost use Rattle.sfi_report.specs.Digits.{hex_digits};
+ghost use Rattle.sfi_tool.specs.Verdict.{accepted_line, refused_line};
 
 use sfi_check::Accepted;
 use sfi_scan::Finding;
@@ -10,7 +11,7 @@ use std::alloc::{AllocError, Global};
 /// What a command answers: the status to end with, and the text to print.
 #[derive(Debug, Drop)]
 pub struct Answer {
-    /// 0 where the image is accepted, 1 where it has findings, 2 for a fault of the input.
+    /// 0 where the job was done, 1 where the image has findings, 2 for a fault of the input.
     pub status: u8,
     /// Whole lines, each of which ends in LF.
     pub text: String,
@@ -27,7 +28,7 @@ pub(crate) fn accepted_line(alloc: Global, accepted: &Accepted<'_>) -> Result<St
 
 // The address in eight lower hexadecimal digits.
 fn address_text(alloc: Global, address: u32) -> Result<String, AllocError>
-    ensures { IfOk result (λ text. string_bytes text ≡ eight_digits address) }
+    ensures { IfOk result (λ text. string_bytes text ≡ hex_digits 8 address) }
 {
     format!(in alloc; "{address:08x}")
 }

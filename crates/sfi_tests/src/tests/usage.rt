@@ -10,13 +10,17 @@ fn usage(rt: HostRuntime) -> Result<(), Fail> {
         ("sfi frob", "error: "),
         ("sfi check image", "error: "),
         ("sfi check --raw", "error: "),
-        ("sfi check --report", "error: "),
+        ("sfi check --report=yes", "error: "),
+        ("sfi check --report --report", "error: "),
+        ("sfi check --report image", "error: "),
         ("sfi build", "error: "),
-        ("sfi dis", "error: "),
+        ("sfi dis image", "error: "),
+        ("sfi dis --report", "error: "),
         ("sfi run", "error: "),
         ("sfi --help", "Usage: sfi "),
         ("sfi help", "Usage: sfi "),
         ("sfi check --help", "Usage: sfi check"),
+        ("sfi dis --help", "Usage: sfi dis"),
     ];
     for (line, front) in rows {
         let Outcome { status, text } = run(alloc, line, b"")?;

@@ -1,6 +1,7 @@
 use Rattle.std.proofs.Common.{◌≡◌, ◌∙◌, ◌-◌, ℕ, List, [], ◌++◌, length, replicate, false, arith, append-nil}
 use Rattle.std.specs.Fmt.{padded_integral, char_count, format_spec}
 use Rattle.std.proofs.lemmas.Result.{IfOk-weaker}
+use Rattle.sfi_report.specs.Digits.{hex_digits}
 use Rattle.sfi_tool.proofs.verdict.address_text.Goals as goal
 
 -- up to eight digits, zeros stand before them
@@ -11,4 +12,5 @@ padded_to_eight ds =
     simp (append-nil, width)
 
 pub returns : goal.returns
+unfolding hex_digits
 returns c = IfOk-weaker c.format.result _ _ (λ s h. (rw (c.laid_out.ensures, c.in_radix.ensures) at h) ∙ padded_to_eight _) c.format.ensures.ok

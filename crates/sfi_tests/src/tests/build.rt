@@ -1,0 +1,300 @@
+//! Building: texts, and the images or the faults that they give.
+use rv_text::{TextCause, TextFault};
+use sfi_check::check;
+use sfi_image::{parse_image, write_image};
+use sfi_link::{BuildFault, LinkFault, build};
+use sfi_rewrite::RewriteFault;
+use std::alloc::{AllocError, Global};
+use std::test::Fail;
+
+// Two gates, the address of data, calls, and a load.
+const CALLS: &str = ".sandbox 256
+.gate put 1
+.gate quit 0
+la a0, msg
+li a1, 2
+call put
+la a0, msg
+lbu a0, 1(a0)
+call quit
+.data
+msg: .byte 72, 105
+";
+
+// Its image up to the fill, which is 88 c.ebreaks, and behind these the two data bytes.
+const CALLS_HEAD: &str = "534649310100000000000001000100000000800100010000200000010200000002000000\
+    00000001010000001000000100000000\
+    73000000b3ff9001b3ef8f0167800f0073000000b3ff9001b3ef8f0167800f00\
+    370580011305050093052000eff05ffd37058001130505000100010001000100b37fb501b3efaf0103c51f00eff05ffc";
+
+fn calls_image(alloc: Global) -> Result<Vec<u8>, AllocError> {
+    let mut text = Vec::new(alloc);
+    text.extend_from_slice(CALLS_HEAD.as_bytes())?;
+    for _ in 0..88 {
+        text.extend_from_slice(b"0290")?;
+    }
+    text.extend_from_slice(b"4869")?;
+    Ok(text)
+}
+
+// A head, a line so many times, and an end.
+fn repeated(
+    alloc: Global,
+    head: &str,
+    line: &str,
+    times: usize,
+    end: &str,
+) -> Result<String, AllocError> {
+    let mut text = String::from_str(alloc, head)?;
+    for _ in 0..times {
+        text.push_str(line)?;
+    }
+    text.push_str(end)?;
+    Ok(text)
+}
+
+// The build is accepted, with so many bundles.
+fn is_accepted(alloc: Global, text: &str, bundles: usize) -> Result<bool, Fail> {
+    let bytes = build(alloc, text)?;
+    let accepted = check(alloc, bytes.as_slice())?;
+    Ok(accepted.sandboxes() == 1 && accepted.bundles() == bundles)
+}
+
+#[test]
+fn calls_are_built_to_the_letter(rt: HostRuntime) -> Result<(), Fail> {
+    let alloc = rt.alloc();
+    let bytes = build(alloc, CALLS)?;
+    let wanted = hex::decode(alloc, calls_image(alloc)?.as_slice())?;
+    assert_eq!(rt; bytes.len(), 310);
+    assert!(rt; bytes.as_slice() == wanted.as_slice());
+    assert!(rt; is_accepted(alloc, CALLS, 16)?);
+    Ok(())
+}
+
+#[test]
+fn parts_are_written_to_the_letter(rt: HostRuntime) -> Result<(), Fail> {
+    let alloc = rt.alloc();
+    let bytes = hex::decode(alloc, calls_image(alloc)?.as_slice())?;
+    let image = parse_image(alloc, bytes.as_slice())?;
+    let written = write_image(alloc, image.parts())?;
+    assert!(rt; written.as_slice() == bytes.as_slice());
+    Ok(())
+}
+
+#[test]
+fn faults(rt: HostRuntime) -> Result<(), Fail> {
+    let alloc = rt.alloc();
+    let operands = TextFault {
+        line: 2,
+        cause: TextCause::Operands,
+    };
+    let rows = [
+        (
+            ".sandbox 256\nmv t6, a0",
+            BuildFault::Rewrite(RewriteFault::ReservedRegister { line: 2 }),
+        ),
+        (".sandbox 256\nli a0 5", BuildFault::Text(operands)),
+        (
+            ".sandbox 256\nj away",
+            BuildFault::Link(LinkFault::UnknownName { line: 2 }),
+        ),
+        (
+            ".sandbox 256\nj there\n.data\nthere: .byte 1",
+            BuildFault::Link(LinkFault::UnknownName { line: 2 }),
+        ),
+    ];
+    for (text, wanted) in rows {
+        assert_eq!(rt; build(alloc, text).err(), Some(wanted), "{text}");
+    }
+    Ok(())
+}
+
+#[test]
+fn a_branch_reaches_255_stores(rt: HostRuntime) -> Result<(), Fail> {
+    let alloc = rt.alloc();
+    let head = ".sandbox 256\nbeqz a0, over\n";
+    let reached = repeated(alloc, head, "sw a1, 0(a2)\n", 255, "over:\n")?;
+    assert!(rt; is_accepted(alloc, reached.as_str(), 256)?);
+    let missed = repeated(alloc, head, "sw a1, 0(a2)\n", 256, "over:\n")?;
+    let fault = BuildFault::Link(LinkFault::BranchReach { line: 2 });
+    assert_eq!(rt; build(alloc, missed.as_str()).err(), Some(fault));
+    Ok(())
+}
+
+#[test]
+fn a_region_holds_4096_bundles(rt: HostRuntime) -> Result<(), Fail> {
+    let alloc = rt.alloc();
+    let full = repeated(alloc, ".sandbox 256\n", "sw a1, 0(a2)\n", 4096, "")?;
+    assert!(rt; is_accepted(alloc, full.as_str(), 4096)?);
+    let more = repeated(alloc, ".sandbox 256\n", "sw a1, 0(a2)\n", 4097, "")?;
+    let fault = BuildFault::Rewrite(RewriteFault::TooLarge { sandbox: 0 });
+    assert_eq!(rt; build(alloc, more.as_str()).err(), Some(fault));
+    let gated = repeated(
+        alloc,
+        ".sandbox 256\n.gate g 0\n",
+        "sw a1, 0(a2)\n",
+        4096,
+        "",
+    )?;
+    let fault = BuildFault::Link(LinkFault::TooLarge { sandbox: 0 });
+    assert_eq!(rt; build(alloc, gated.as_str()).err(), Some(fault));
+    Ok(())
+}
+
+#[test]
+fn sixteen_sandboxes_are_linked(rt: HostRuntime) -> Result<(), Fail> {
+    let alloc = rt.alloc();
+    let sixteen = repeated(alloc, "", ".sandbox 256\nebreak\n", 16, "")?;
+    let bytes = build(alloc, sixteen.as_str())?;
+    assert_eq!(rt; check(alloc, bytes.as_slice())?.sandboxes(), 16);
+    let more = repeated(alloc, "", ".sandbox 256\nebreak\n", 17, "")?;
+    let fault = BuildFault::Link(LinkFault::TooManySandboxes);
+    assert_eq!(rt; build(alloc, more.as_str()).err(), Some(fault));
+    Ok(())
+}
+
+#[test]
+fn examples_are_accepted(rt: HostRuntime) -> Result<(), Fail> {
+    let alloc = rt.alloc();
+    for text in [ECHO, CHECKSUM, COUNTER] {
+        let bytes = build(alloc, text)?;
+        assert_eq!(rt; check(alloc, bytes.as_slice())?.sandboxes(), 1, "{text}");
+    }
+    Ok(())
+}
+
+// The text of examples/echo.s.
+const ECHO: &str =
+    "# Copies its input to its output with small letters made capital, and exits with the number of bytes.
+.sandbox 1024
+.gate get 2
+.gate put 1
+.gate exit 0
+.option rvc
+
+        li   s0, 0              # the bytes so far
+block:  la   a0, buffer
+        li   a1, 64
+        call get
+        beqz a0, done
+        add  s0, s0, a0
+        mv   s1, a0             # the bytes of this block
+        la   a2, buffer
+        mv   a3, a0
+        call capital
+        la   a0, buffer
+        mv   a1, s1
+        call put
+        j    block
+done:   mv   a0, s0
+        call exit
+
+# Makes the a3 letters from a2 on capital.
+capital:
+        beqz a3, made
+        lbu  t0, 0(a2)
+        li   t1, 97             # a
+        bltu t0, t1, next
+        li   t1, 123            # behind z
+        bgeu t0, t1, next
+        addi t0, t0, -32
+        sb   t0, 0(a2)
+next:   addi a2, a2, 1
+        addi a3, a3, -1
+        j    capital
+made:   ret
+
+.data
+buffer: .zero 64
+";
+
+// The text of examples/checksum.s.
+const CHECKSUM: &str =
+    "# Writes the Adler-32 checksum of its input (RFC 1950, section 8.2) as four bytes, the highest first.
+.sandbox 1024
+.gate get 2
+.gate put 1
+.gate exit 0
+
+        li   s0, 1              # the sum of the bytes, plus 1
+        li   s1, 0              # the sum of these sums
+        li   s2, 65521          # the modulus of both
+block:  la   a0, buffer
+        li   a1, 256
+        call get
+        beqz a0, done
+        la   a2, buffer
+        mv   a3, a0
+        call add_bytes
+        j    block
+done:   slli s1, s1, 16
+        or   a0, s1, s0
+        call store_word
+        la   a0, buffer
+        li   a1, 4
+        call put
+        li   a0, 0
+        call exit
+
+# Adds the a3 bytes from a2 on; there is one at least.
+add_bytes:
+        lbu  t0, 0(a2)
+        add  s0, s0, t0
+        remu s0, s0, s2
+        add  s1, s1, s0
+        remu s1, s1, s2
+        addi a2, a2, 1
+        addi a3, a3, -1
+        bnez a3, add_bytes
+        ret
+
+# Writes the bytes of a0 to the buffer, the highest first.
+store_word:
+        la   a2, buffer
+        srli t0, a0, 24
+        sb   t0, 0(a2)
+        srli t0, a0, 16
+        sb   t0, 1(a2)
+        srli t0, a0, 8
+        sb   t0, 2(a2)
+        sb   a0, 3(a2)
+        ret
+
+.data
+buffer: .zero 256
+";
+
+// The text of examples/counter.s.
+const COUNTER: &str = "# Writes the digits 1 to 9, one a line, and yields its turn behind each.
+.sandbox 256
+.gate put 1
+.gate yield 3
+.gate exit 0
+
+        li   s0, 1
+again:  mv   a0, s0
+        call write_digit
+        call yield
+        addi s0, s0, 1
+        li   t0, 10
+        bne  s0, t0, again
+        li   a0, 0
+        call exit
+
+# Writes the digit a0 and a line feed. It calls a gate, so it keeps its own return address on the stack.
+write_digit:
+        addi sp, sp, -16
+        sw   ra, 0(sp)
+        addi a0, a0, 48
+        la   t0, line
+        sb   a0, 0(t0)
+        mv   a0, t0
+        li   a1, 2
+        call put
+        lw   ra, 0(sp)
+        addi sp, sp, 16
+        ret
+
+.data
+line:   .byte 0, 10
+";

@@ -1,0 +1,14 @@
+use Rattle.std.proofs.Common.{◌≡◌, ◌∙◌, ap, ap₂, rules, codes}
+use Rattle.std.proofs.lemmas.Result.{IfOk-weaker}
+use Rattle.clap.specs.Simple.{App, app_of, new_app, with_subcommand}
+use Rattle.sfi_tool.specs.Command.{program}
+use Rattle.sfi_tool.proofs.command_line.command.Goals as goal
+
+pub returns : goal.returns
+returns c =
+    let program_is : app_of c.subcommand_required-program.result ≡ program = search rules in
+    let with_check = c.in_ok-subcommand.ensures.shape c.in_ok-check.ensures.local
+    ∙ ap₂ with_subcommand program_is (ap (λ (a : App). a.top) c.in_ok-check.ensures.shape_is) in
+    IfOk-weaker c.subcommand-2.result _ _
+    (λ r h. h.shape c.new-dis.ensures.local ∙ ap₂ with_subcommand with_check (ap (λ (a : App). a.top) c.new-dis.ensures.app))
+    c.subcommand-2.ensures

@@ -1,0 +1,30 @@
+//! The command `dis`.
+
+ghost use Rattle.std.specs.Prelude.{IfOk, IfErr, IsErr, string_bytes};
+ghost use Rattle.sfi_tool.specs.Says.{AnswersStatus, HasInputFault, IsDone, IsStop, Says};
+ghost use Rattle.sfi_tool.specs.declared.job.Job.TheVariants.{Dis};
+
+use crate::fault::Stop;
+use crate::hexadecimal::bytes_of;
+use crate::verdict::Answer;
+use sfi_image::{ImageFault, parse_image};
+use sfi_report::listing_text;
+use std::alloc::Global;
+
+/// The listing of the image that the text spells.
+pub(crate) fn listed(alloc: Global, text: &[u8]) -> Result<Answer, Stop>
+    ensures says { IfOk result (λ a. Says Dis text.now a.status (string_bytes a.text)) }
+    ensures stop { IfErr result (IsStop Dis text.now) }
+    ensures only_done { IsDone Dis text.now → AnswersStatus 0 result }
+    ensures only_fault { HasInputFault Dis text.now → IsErr result }
+{
+    let bytes = bytes_of(alloc, text)?;
+    match parse_image(alloc, bytes.as_slice()) {
+        Ok(image) => Ok(Answer {
+            status: 0,
+            text: listing_text(alloc, &image)?,
+        }),
+        Err(ImageFault::Layout(fault)) => Err(Stop::Layout(fault)),
+        Err(ImageFault::Memory) => Err(Stop::Memory),
+    }
+}
