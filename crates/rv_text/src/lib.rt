@@ -1,4 +1,7 @@
-//! The assembler's text of instructions.
+//! The assembler's text, of sources and of single instructions.
+//!
+//! [`parse_source`] reads a text to its sandboxes: what it means is `specs/Texts.antt`, line by line
+//! `specs/Leads.antt`, over the table of statements in `specs/Keywords.antt`.
 //!
 //! [`parse_instr`] reads the text of one instruction, [`print_instr`] and [`push_instr`] write it; a printed
 //! instruction that a word spells reads back as itself. What a text means is

@@ -1,8 +1,10 @@
 //! From a text to an image.
-ghost use Rattle.std.specs.Prelude.{◌⊎◌, ℕ, List, IfOk, IfErr};
+ghost use Rattle.std.specs.Prelude.{◌≡◌, ◌⊎◌, ◌<◌, ℕ, List, length, Err, IfOk, IfErr};
 ghost use Rattle.rv_text.specs.Source.{Sandbox};
-ghost use Rattle.rv_text.specs.Texts.{MeansSource};
+ghost use Rattle.rv_text.specs.Texts.{MeansSource, most_bytes, first_line};
+ghost use Rattle.rv_text.specs.declared.cause.TextCause.TheVariants.{Limit};
 ghost use Rattle.sfi_link.specs.declared.fault.BuildFault.{BuildFault};
+ghost use Rattle.sfi_link.specs.declared.fault.BuildFault.TheVariants.{Text};
 ghost use Rattle.sfi_link.specs.Building.{IsBuild};
 ghost use Rattle.sfi_link.specs.Texts.{IsTextBuild, IsCleanImage, IsBuildFault, IsWantOfMemory, Builds, AnswersBuild, AnswersBuildFault};
 
@@ -17,7 +19,8 @@ use std::alloc::Global;
 
 // The build of the text, or its fault.
 fn built(alloc: Global, text: &str) -> Result<Vec<u8>, BuildFault>
-    ensures { Builds text.now result }
+    ensures builds { Builds text.now result }
+    ensures too_long { most_bytes < length text.now → result ≡ Err (Text (first_line Limit)) }
 {
     let source = match parse_source(alloc, text) {
         Ok(source) => source,
@@ -45,6 +48,9 @@ pub fn build(alloc: Global, text: &str) -> Result<Vec<u8>, BuildFault>
     // Which texts get it, want of memory aside.
     ensures only_built { (bytes : List ℕ) → IsTextBuild text.now bytes → AnswersBuild bytes result }
     ensures only_fault { (f : BuildFault) → IsBuildFault text.now f → AnswersBuildFault f result }
+
+    // Of a text above its limit, whatever memory there is.
+    ensures too_long { most_bytes < length text.now → result ≡ Err (Text (first_line Limit)) }
 {
     // The laws that the contract rests on: these calls do nothing.
     one_source();

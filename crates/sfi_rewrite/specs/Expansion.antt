@@ -56,7 +56,7 @@ IsExpansionOf line rvc (Low rd name) slots = slots ≡ Lower rd name line ∷ []
 abbrev pub IsExpansion : Item → List Slot → Type 0
 IsExpansion x slots = IsExpansionOf x.line x.rvc x.body slots
 
--- the item is a call: a jal or jalr that writes a register other than x0
+-- the item is a call: a jalr, or a jal to a name, that writes a register other than x0; no item is a jal by number
 abbrev pub is_call : Body → Bool
 is_call (Plain (Jalr rd a imm)) = not (rd == 0)
 is_call (To (Jal rd offset) name) = not (rd == 0)
