@@ -1,12 +1,15 @@
 mod build;
+mod build_command;
 mod check;
 mod failing;
 mod image;
 mod listing;
 mod machine;
 mod report;
+mod runs;
 mod scan;
 mod source;
+mod tour;
 mod usage;
 
 use sfi_tool::run_tool;

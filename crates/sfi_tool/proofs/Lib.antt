@@ -2,3 +2,4 @@ pub mod Digits
 pub mod KnownBytes
 pub mod Words
 pub mod Texts
+pub mod TooLarge

@@ -1,6 +1,14 @@
 -- From what the command-line crate ensures to what the words ask for.
-use Rattle.std.proofs.Common.{◌≡◌, ◌∙◌, ap, refl, sym, true, Option, Some, None, List, [], subst, IfOk, Result}
-use Rattle.std.specs.Prelude.{option_map, IfErr, IsTrue, ◌↔◌, Bool, false, codes}
+use Rattle.std.proofs.Common.{◌≡◌, ◌≢◌, ◌⊎◌, ◌<◌, ◌≤◌, ◌^◌, ◌∙◌, ℕ, ap, refl, sym, true, Option, Some, None, List, [], subst, IfOk, Result, Ok, Err, inl, inr, arith, slice_index}
+use Rattle.std.specs.Prelude.{option_map, IfErr, IsErr, IsTrue, ◌↔◌, Bool, false, codes}
+use Rattle.std.specs.Str.Parse.{IsNumeral, digits_value, without_leading_plus}
+use Rattle.hex.specs.Hex.{decode_of}
+use Rattle.hex.specs.declared.error.FromHexError.{FromHexError}
+use Rattle.hex.specs.declared.error.FromHexError.TheVariants.{OutOfMemory}
+use Rattle.clap.specs.Kinds.{HasKind}
+use Rattle.clap.specs.Values.{kind_of}
+use Rattle.clap.specs.declared.error.Error.{Error}
+use Rattle.clap.specs.declared.error.kind.ErrorKind.TheVariants as kind
 use Rattle.std.specs.Str.{bytes_eq}
 use Rattle.std.proofs.lemmas.Slice.Eq.{bytes_eq-Decides}
 use Rattle.clap.specs.declared.parser.matches.Found.{Found}
@@ -13,10 +21,12 @@ use Rattle.clap.specs.Simple.{App, is_simple, subcommand_of, subcommand_rows, Ha
 use Rattle.clap.specs.declared.parser.matches.ArgMatches.{ArgMatches}
 use Rattle.clap.specs.declared.parser.matches.ArgMatches.TheViews.{out-ArgMatches}
 use Rattle.clap.proofs.OnLiterals.{clap_on_literals}
-use Rattle.sfi_tool.specs.Command.{sfi, Names, Asks, IsFaultOf, IsFaultOfNamed}
+use Rattle.sfi_tool.specs.Command.{sfi, quantum_most, rounds_most, Names, NamesNoInput, Asks, AsksNothing, IsCount, IsFaultOf, IsFaultOfNamed, IsInputFault, IsInputOf}
+use Rattle.sfi_tool.specs.Numbers.{number_of}
 use Rattle.sfi_tool.specs.declared.job.Job.{Job}
+use Rattle.sfi_tool.specs.declared.job.Job.TheVariants.{Check, Dis, Build, Run}
 use Rattle.sfi_tool.specs.declared.job.JobFault.{JobFault}
-use Rattle.sfi_tool.specs.declared.job.JobFault.TheVariants.{Usage, Memory}
+use Rattle.sfi_tool.specs.declared.job.JobFault.TheVariants.{Usage, Hex, Memory}
 
 -- the crate's definitions give the matches of the command line, and its faults
 pub simple : is_simple sfi ≡ true
@@ -50,28 +60,37 @@ met a words m n rows is has e h =
 pub unmet : (a : App) (words : List Text) (m : ArgMatches) → a ≡ sfi → HasMatchesOf a words m → None ≡ subcommand_name_of m → subcommand_of sfi words ≡ None
 unmet a words m is has e = sym (ap (λ (x : App). subcommand_of x words) is) ∙ sym (has (ap is_simple is ∙ simple)).1 ∙ none_of _ _ e
 
+-- words of which the parse succeeds
+pub parsed : (a : App) (words : List Text) → a ≡ sfi → (is_simple_and_free a ≡ true → fault_of a words ≡ []) → fault_of sfi words ≡ []
+parsed a words is parses = sym (ap (λ (x : App). fault_of x words) is) ∙ parses (ap is_simple_and_free is ∙ free)
+
 -- the job of the subcommand that the parse met is what the words ask for
-pub asked : (a : App) (words : List Text) (named : Option (Text × List Row)) (r : Result Job JobFault) → a ≡ sfi
-    → (is_simple_and_free a ≡ true → fault_of a words ≡ []) → subcommand_of sfi words ≡ named → IfOk r (Names named) → IfOk r (Asks words)
-asked a words named r is parses met h =
+pub asked : (words : List Text) (named : Option (Text × List Row)) (r : Result Job JobFault) → fault_of sfi words ≡ []
+    → subcommand_of sfi words ≡ named → IfOk r (Names named) → IfOk r (Asks words)
+asked words named r parses met h =
     IfOk-weaker r (Names named) (Asks words)
-    (λ job names. record {
-      parses = sym (ap (λ (x : App). fault_of x words) is) ∙ parses (ap is_simple_and_free is ∙ free);
-      names = subst (λ (o : Option (Text × List Row)). Names o job) (sym met) names;
-    }) h
+    (λ job names. record { parses = parses; names = subst (λ (o : Option (Text × List Row)). Names o job) (sym met) names }) h
 
 -- and its fault is that of the words
-pub fault_asked : (words : List Text) (named : Option (Text × List Row)) (fault : JobFault) → subcommand_of sfi words ≡ named → IsFaultOfNamed named fault → IsFaultOf words fault
-fault_asked words named (Usage text) met none = λ job asks. none job (subst (λ (o : Option (Text × List Row)). Names o job) met asks.names)
-fault_asked words named Memory met none = tt
+pub fault_asked : (words : List Text) (named : Option (Text × List Row)) (fault : JobFault) → fault_of sfi words ≡ [] → subcommand_of sfi words ≡ named
+    → IsFaultOfNamed named fault → IsFaultOf words fault
+fault_asked words named (Usage text) parses met none = λ job asks. none job (subst (λ (o : Option (Text × List Row)). Names o job) met asks.names)
+fault_asked words named Hex parses met none = record { parses = parses; names = subst (λ (o : Option (Text × List Row)). NamesNoInput o) (sym met) none }
+fault_asked words named Memory parses met none = tt
 
-pub unasked : (words : List Text) (named : Option (Text × List Row)) (r : Result Job JobFault) → subcommand_of sfi words ≡ named → IfErr r (IsFaultOfNamed named) → IfErr r (IsFaultOf words)
-unasked words named r met h = IfErr-weaker r (IsFaultOfNamed named) (IsFaultOf words) (λ fault. fault_asked words named fault met) h
+pub unasked : (words : List Text) (named : Option (Text × List Row)) (r : Result Job JobFault) → fault_of sfi words ≡ [] → subcommand_of sfi words ≡ named
+    → IfErr r (IsFaultOfNamed named) → IfErr r (IsFaultOf words)
+unasked words named r parses met h = IfErr-weaker r (IsFaultOfNamed named) (IsFaultOf words) (λ fault. fault_asked words named fault parses met) h
+
+-- words whose options are no run's ask for none
+pub usage_of_named : (named : Option (Text × List Row)) (fault : JobFault) → (number_of fault ≡ 2 → ⊥) → ((job : Job) → ¬ Names named job) → IsFaultOfNamed named fault
+usage_of_named named (Usage text) other none = none
+usage_of_named named Hex other none = absurd (other refl)
+usage_of_named named Memory other none = tt
 
 -- no subcommand asks for anything
-pub none_asked : (fault : JobFault) → IsFaultOfNamed None fault
-none_asked (Usage text) = λ job names. names
-none_asked Memory = tt
+pub none_asked : (fault : JobFault) → (number_of fault ≡ 2 → ⊥) → IsFaultOfNamed None fault
+none_asked fault other = usage_of_named None fault other (λ job names. names)
 
 -- an option with this value, and one without
 pub given_some : (f : Found) (id v : Text) (b : Bool) → Some v ≡ first_value f id → b ≡ bytes_eq v (codes "true")
@@ -85,3 +104,110 @@ given_some f id v b e h = (
 
 pub given_none : (f : Found) (id : Text) → None ≡ first_value f id → IsTrue false ↔ (first_of id (rows_of f) ≡ Some (codes "true"))
 given_none f id e = (λ t. absurd (cc), λ g. let none : None ≡ Some (codes "true") = e ∙ first_value-rows f id ∙ g in absurd (cc))
+
+-- ---- the options of a run
+
+-- the text of an option is the one that its value has
+text_of : (f : Found) (id v t : Text) → Some v ≡ first_value f id → first_of id (rows_of f) ≡ Some t → v ≡ t
+text_of f id v t e is =
+    let whole : Some v ≡ Some t = e ∙ first_value-rows f id ∙ is in
+    cc
+
+-- an option whose text reads as a number in its range
+pub counted : (f : Found) (id v : Text) (most n : ℕ) → Some v ≡ first_value f id
+    → (IsNumeral 10 (without_leading_plus v) × (digits_value 10 (without_leading_plus v) < 2 ^ 32)) × (n ≡ digits_value 10 (without_leading_plus v))
+    → 1 ≤ n → n ≤ most → IsCount id most (rows_of f) n
+counted f id v most n e parsed low high = record {
+  text = v;
+  text_is = sym (first_value-rows f id) ∙ sym e;
+  numeral = parsed.0.0;
+  value = sym parsed.1;
+  at_least = low;
+  at_most = high;
+}
+
+-- one whose text reads as a number out of it
+pub out_of_range : (f : Found) (id v : Text) (most n : ℕ) → Some v ≡ first_value f id
+    → (IsNumeral 10 (without_leading_plus v) × (digits_value 10 (without_leading_plus v) < 2 ^ 32)) × (n ≡ digits_value 10 (without_leading_plus v))
+    → (1 ≤ n → n ≤ most → ⊥) → (k : ℕ) → ¬ IsCount id most (rows_of f) k
+out_of_range f id v most n e parsed out k is =
+    let same = text_of f id v is.text e is.text_is in
+    let value : digits_value 10 (without_leading_plus v) ≡ k = ap (λ (t : Text). digits_value 10 (without_leading_plus t)) same ∙ is.value in
+    out (omega (arith, parsed.1, value, is.at_least)) (omega (arith, parsed.1, value, is.at_most))
+
+-- one whose text is no number
+pub no_number : (f : Found) (id v : Text) (most : ℕ) → most < 2 ^ 32 → Some v ≡ first_value f id
+    → ¬ (IsNumeral 10 (without_leading_plus v) × (digits_value 10 (without_leading_plus v) < 2 ^ 32)) → (k : ℕ) → ¬ IsCount id most (rows_of f) k
+no_number f id v most small e unread k is =
+    let same = text_of f id v is.text e is.text_is in
+    let value : digits_value 10 (without_leading_plus v) ≡ k = ap (λ (t : Text). digits_value 10 (without_leading_plus t)) same ∙ is.value in
+    let numeral : IsNumeral 10 (without_leading_plus v) = subst (λ (t : Text). IsNumeral 10 (without_leading_plus t)) (sym same) is.numeral in
+    let fits : digits_value 10 (without_leading_plus v) < 2 ^ 32 = omega (arith, value, is.at_most, small) in
+    unread (numeral, fits)
+
+-- and one without a text
+pub unfound : (f : Found) (id : Text) (most : ℕ) → None ≡ first_value f id → (n : ℕ) → ¬ IsCount id most (rows_of f) n
+unfound f id most e n is =
+    let none : None ≡ Some is.text = e ∙ first_value-rows f id ∙ is.text_is in
+    absurd (cc)
+
+-- the bytes of an input that wasn't given, and of one that was
+pub no_input : (f : Found) (id : Text) (bytes : List ℕ) → None ≡ first_value f id → bytes ≡ [] → IsInputOf (first_of id (rows_of f)) bytes
+no_input f id bytes e is = subst (λ (o : Option Text). IsInputOf o bytes) (e ∙ first_value-rows f id) is
+
+pub decoded_input : (f : Found) (id v w : Text) (bytes : List ℕ) → Some v ≡ first_value f id → w ≡ v → decode_of w ≡ Ok bytes
+    → IsInputOf (first_of id (rows_of f)) bytes
+decoded_input f id v w bytes e same is =
+    subst (λ (o : Option Text). IsInputOf o bytes) (e ∙ first_value-rows f id) (subst (λ (t : Text). decode_of t ≡ Ok bytes) same is)
+
+-- the fault of one that spells no bytes
+pub undecoded : (f : Found) (id v w : Text) (error : FromHexError) (fault : JobFault) → Some v ≡ first_value f id → w ≡ v
+    → (error ≡ OutOfMemory) ⊎ (decode_of w ≡ Err error) → (number_of fault ≡ 2 → error ≢ OutOfMemory) → number_of fault ≢ 1
+    → IsInputFault (first_of id (rows_of f)) fault
+undecoded f id v w error fault e same kinds refused other =
+    subst (λ (o : Option Text). IsInputFault o fault) (e ∙ first_value-rows f id) (go fault refused other)
+  where
+    spells_none : error ≢ OutOfMemory → IsErr (decode_of v)
+    spells_none whole = elim kinds [
+      | inl memory ↦ absurd (whole memory)
+      | inr err ↦
+          let is : decode_of v ≡ Err error = ap decode_of (sym same) ∙ err in
+          rw is refl
+    ]
+
+    go : (fault : JobFault) → (number_of fault ≡ 2 → error ≢ OutOfMemory) → number_of fault ≢ 1 → IsInputFault (Some v) fault
+    go (Usage text) refused other = absurd (other refl)
+    go Hex refused other = spells_none (refused refl)
+    go Memory refused other = tt
+
+-- a name that begins with r is no other command's
+not_run : (t : Text) (first : ℕ) → codes "run" ≡ t → slice_index t 0 ≡ first → first ≢ 114 → ⊥
+not_run t first e is differs = differs (sym is ∙ ap (λ (u : Text). slice_index u 0) (sym e))
+
+-- a run without rounds, or without a quantum, is no job
+pub no_rounds : (rows : List Row) → ((n : ℕ) → ¬ IsCount (codes "rounds") rounds_most rows n) → (job : Job) → ¬ Names (Some (codes "run", rows)) job
+no_rounds rows none (Check report) names = not_run _ 99 names.0 refl (λ e. absurd (omega (arith, e)))
+no_rounds rows none Dis names = not_run _ 100 names refl (λ e. absurd (omega (arith, e)))
+no_rounds rows none Build names = not_run _ 98 names refl (λ e. absurd (omega (arith, e)))
+no_rounds rows none (Run rounds quantum input) names = none rounds names.1
+
+pub no_quantum : (rows : List Row) → ((n : ℕ) → ¬ IsCount (codes "quantum") quantum_most rows n) → (job : Job) → ¬ Names (Some (codes "run", rows)) job
+no_quantum rows none (Check report) names = not_run _ 99 names.0 refl (λ e. absurd (omega (arith, e)))
+no_quantum rows none Dis names = not_run _ 100 names refl (λ e. absurd (omega (arith, e)))
+no_quantum rows none Build names = not_run _ 98 names refl (λ e. absurd (omega (arith, e)))
+no_quantum rows none (Run rounds quantum input) names = none quantum names.2
+
+-- ---- words that don't parse
+
+-- the fault of words that don't parse
+pub unparsed : (a : App) (words : List Text) (error : Error) (fault : JobFault) → a ≡ sfi
+    → (is_simple_and_free a ≡ true → HasKind (fault_of a words) error) → (number_of fault ≡ 1 → kind_of error ≢ kind.OutOfMemory) → number_of fault ≢ 2
+    → IsFaultOf words fault
+unparsed a words error (Usage text) is kinds refused other = λ job asks.
+    let none : fault_of a words ≡ [] = ap (λ (x : App). fault_of x words) is ∙ asks.parses in
+    elim (subst (λ ks. HasKind ks error) none (kinds (ap is_simple_and_free is ∙ free))) [
+      | inl memory ↦ refused refl memory
+      | inr among ↦ among
+    ]
+unparsed a words error Hex is kinds refused other = absurd (other refl)
+unparsed a words error Memory is kinds refused other = tt

@@ -1,17 +1,28 @@
 -- The command line of `sfi`, and the job that its words ask for.
-use Rattle.std.specs.Prelude.{◌≡◌, ◌↔◌, IsTrue, ℕ, List, [], ◌∷◌, Bool, false, Option, Some, None, codes, true}
+use Rattle.std.specs.Prelude.{◌≡◌, ◌↔◌, ◌≤◌, IsTrue, IsErr, ℕ, pos, Ok, List, [], ◌∷◌, Bool, false, Option, Some, None, codes, true}
+use Rattle.std.specs.Str.Parse.{IsNumeral, digits_value, without_leading_plus}
+use Rattle.hex.specs.Hex.{decode_of}
 use Rattle.clap.specs.Faults.{fault_of}
 use Rattle.clap.specs.Simple.{App, Shape, app_of, new_app, new_rule, new_shape, on_top, subcommand_of, with_subcommand}
 use Rattle.clap.specs.Walk.{Row, Rule, Text, first_of}
 use Rattle.clap.specs.declared.builder.command.Command.{Command}
 use Rattle.clap.specs.declared.builder.command.Command.TheViews.{out-Command}
 use Rattle.clap.specs.declared.builder.action.ArgAction.TheVariants.{SetTrue}
+use Rattle.clap.specs.declared.builder.value_parser.ValueParser.TheVariants.{Signed}
 use Rattle.sfi_tool.specs.declared.job.Job.{Job}
-use Rattle.sfi_tool.specs.declared.job.Job.TheVariants.{Check, Dis}
+use Rattle.sfi_tool.specs.declared.job.Job.TheVariants.{Check, Dis, Build, Run}
 use Rattle.sfi_tool.specs.declared.job.JobFault.{JobFault}
-use Rattle.sfi_tool.specs.declared.job.JobFault.TheVariants.{Usage, Memory}
+use Rattle.sfi_tool.specs.declared.job.JobFault.TheVariants.{Usage, Hex, Memory}
 
 -- ---- the command line
+
+-- the most rounds of a run
+abbrev pub rounds_most : ℕ
+rounds_most = 10000
+
+-- the most steps of a turn
+abbrev pub quantum_most : ℕ
+quantum_most = 1000000
 
 -- the program, which wants a subcommand
 abbrev pub program : App
@@ -29,9 +40,27 @@ check = record (new_shape (codes "check")) { rules = report ∷ [] }
 abbrev pub dis : Shape
 dis = new_shape (codes "dis")
 
+-- `build`, without options
+abbrev pub build : Shape
+build = new_shape (codes "build")
+
+-- an option that takes a number from 1 to the most, with its default
+abbrev pub count_rule : Text → Text → ℕ → Rule
+count_rule name usual most = record (new_rule name) { long = Some name; defaults = usual ∷ []; parser = Some (Signed (pos 1) (pos most)) }
+
+-- the option `--input`, which takes a text
+abbrev pub input_rule : Rule
+input_rule = record (new_rule (codes "input")) { long = Some (codes "input") }
+
+-- `run [--rounds N] [--quantum Q] [--input HEX]`
+abbrev pub run : Shape
+run = record (new_shape (codes "run")) {
+  rules = count_rule (codes "rounds") (codes "1") rounds_most ∷ count_rule (codes "quantum") (codes "1000") quantum_most ∷ input_rule ∷ [];
+}
+
 -- the command line: the program with its subcommands
 abbrev pub sfi : App
-sfi = with_subcommand (with_subcommand program check) dis
+sfi = with_subcommand (with_subcommand (with_subcommand (with_subcommand program check) dis) build) run
 
 -- the command has this shape, and no argument that its subcommands share (a word of private contracts)
 pub record IsCommandOf (s : Shape) (c : Command) : Type 0 where
@@ -44,11 +73,34 @@ pub record IsCommandOf (s : Shape) (c : Command) : Type 0 where
 abbrev pub IsGiven : List ℕ → List Row → Bool → Type 0
 IsGiven option found given = IsTrue given ↔ (first_of option found ≡ Some (codes "true"))
 
+-- the option's text is this decimal number, from 1 to the most
+pub record IsCount (option : List ℕ) (most : ℕ) (found : List Row) (n : ℕ) : Type 0 where
+  pub text : Text
+  pub text_is : first_of option found ≡ Some text
+  pub numeral : IsNumeral 10 (without_leading_plus text)
+  pub value : digits_value 10 (without_leading_plus text) ≡ n
+  pub at_least : 1 ≤ n
+  pub at_most : n ≤ most
+
+-- the text of an option spells these bytes in hexadecimal; no option, none
+abbrev pub IsInputOf : Option Text → List ℕ → Type 0
+IsInputOf None bytes = bytes ≡ []
+IsInputOf (Some text) bytes = decode_of text ≡ Ok bytes
+
+-- the text of an option spells no bytes
+abbrev pub IsNoInput : Option Text → Type 0
+IsNoInput None = ⊥
+IsNoInput (Some text) = IsErr (decode_of text)
+
 -- the subcommand, with what was found for its options, asks for the job
 abbrev pub Names : Option (Text × List Row) → Job → Type 0
 Names None job = ⊥
 Names (Some p) (Check report) = (p.0 ≡ codes "check") × IsGiven (codes "report") p.1 report
 Names (Some p) Dis = p.0 ≡ codes "dis"
+Names (Some p) Build = p.0 ≡ codes "build"
+Names (Some p) (Run rounds quantum input) =
+    (p.0 ≡ codes "run") × IsCount (codes "rounds") rounds_most p.1 rounds × IsCount (codes "quantum") quantum_most p.1 quantum
+    × IsInputOf (first_of (codes "input") p.1) input.items
 
 -- the words parse by the command line, and their subcommand asks for the job; the first word is the program's name
 pub record Asks (words : List Text) (job : Job) : Type 0 where
@@ -61,12 +113,30 @@ pub record Asks (words : List Text) (job : Job) : Type 0 where
 abbrev pub AsksNothing : List Text → Type 0
 AsksNothing words = (job : Job) → ¬ Asks words job
 
--- usage is the fault only of words that ask for no job
+-- the subcommand is a run whose input spells no bytes
+abbrev pub NamesNoInput : Option (Text × List Row) → Type 0
+NamesNoInput None = ⊥
+NamesNoInput (Some p) = (p.0 ≡ codes "run") × IsNoInput (first_of (codes "input") p.1)
+
+-- the words parse, and ask for a run whose input spells no bytes
+pub record AsksNoInput (words : List Text) : Type 0 where
+  pub parses : fault_of sfi words ≡ []
+  pub names : NamesNoInput (subcommand_of sfi words)
+
+-- usage is the fault only of words that ask for no job, and Hex of a run whose input spells no bytes
 abbrev pub IsFaultOf : List Text → JobFault → Type 0
 IsFaultOf words (Usage text) = AsksNothing words
+IsFaultOf words Hex = AsksNoInput words
 IsFaultOf words Memory = Unit {0}
 
 -- the same of a subcommand, with what was found for its options (a word of private contracts)
 abbrev pub IsFaultOfNamed : Option (Text × List Row) → JobFault → Type 0
 IsFaultOfNamed named (Usage text) = (job : Job) → ¬ Names named job
+IsFaultOfNamed named Hex = NamesNoInput named
 IsFaultOfNamed named Memory = Unit {0}
+
+-- the same of the text of a run's input
+abbrev pub IsInputFault : Option Text → JobFault → Type 0
+IsInputFault input (Usage text) = ⊥
+IsInputFault input Hex = IsNoInput input
+IsInputFault input Memory = Unit {0}

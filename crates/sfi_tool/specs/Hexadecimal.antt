@@ -3,7 +3,7 @@ use Rattle.std.specs.Prelude.{◌≡◌, ◌⊎◌, ◌<◌, ◌≤◌, ℕ, Lis
 use Rattle.hex.specs.Hex.{decode_of}
 use Rattle.sfi_tool.specs.Input.{limit}
 use Rattle.sfi_tool.specs.declared.fault.Stop.{Stop}
-use Rattle.sfi_tool.specs.declared.fault.Stop.TheVariants.{Input, Layout, Memory}
+use Rattle.sfi_tool.specs.declared.fault.Stop.TheVariants.{Input, Layout, Build, Memory}
 
 -- a byte that counts: no space, tab, CR or LF
 abbrev pub is_kept : ℕ → Bool
@@ -28,6 +28,7 @@ IsUnreadable text = (limit < length text) ⊎ IsNoHexadecimal text
 abbrev pub IsTextStop : List ℕ → Stop → Type 0
 IsTextStop text (Input fault) = IsUnreadable text
 IsTextStop text (Layout fault) = ⊥
+IsTextStop text (Build fault) = ⊥
 IsTextStop text Memory = Unit {0}
 
 -- the answer is these bytes, or memory ran out
@@ -35,10 +36,12 @@ abbrev pub GivesBytes : {Z : Type 0} → List ℕ → Result (Vec ℕ Z) Stop �
 GivesBytes bytes (Ok others) = others.items ≡ bytes
 GivesBytes bytes (Err (Input fault)) = ⊥
 GivesBytes bytes (Err (Layout fault)) = ⊥
+GivesBytes bytes (Err (Build fault)) = ⊥
 GivesBytes bytes (Err Memory) = Unit {0}
 
 -- a fault is named only where the digits spell no bytes
 abbrev pub IsDigitStop : List ℕ → Stop → Type 0
 IsDigitStop text (Input fault) = IsNoHexadecimal text
 IsDigitStop text (Layout fault) = ⊥
+IsDigitStop text (Build fault) = ⊥
 IsDigitStop text Memory = Unit {0}

@@ -3,5 +3,6 @@ pub mod Command
 pub mod Input
 pub mod Hexadecimal
 pub mod Verdict
+pub mod RunLines
 pub mod Says
 pub mod Run

@@ -1,8 +1,8 @@
 -- What a run of the program writes, where its reader and writer tell their bytes.
-use Rattle.std.specs.Prelude.{ℕ, List, Option, IfSome}
+use Rattle.std.specs.Prelude.{ℕ, ◌⊎◌, List, Option, IfSome}
 use Rattle.std.specs.Io.KnownBytes.{Appends}
 use Rattle.clap.specs.Walk.{Text}
-use Rattle.sfi_tool.specs.Command.{Asks}
+use Rattle.sfi_tool.specs.Command.{Asks, AsksNoInput}
 use Rattle.sfi_tool.specs.Says.{Says, HasInputFault}
 use Rattle.sfi_tool.specs.declared.job.Job.{Job}
 
@@ -13,7 +13,11 @@ pub record WritesAnswer (words : List Text) (input old new : Option (List ℕ)) 
   pub wrote : IfSome input (λ bytes. (text : List ℕ) × Says job bytes status text × Appends old new text)
 
 -- the words ask for a job, and the bytes read have one of its faults
-pub record MeetsFault (words : List Text) (input : Option (List ℕ)) : Type 0 where
+pub record MeetsInputFault (words : List Text) (input : Option (List ℕ)) : Type 0 where
   pub job : Job
   pub asked : Asks words job
   pub fault : IfSome input (HasInputFault job)
+
+-- that, or the words ask for a run whose input spells no bytes
+abbrev pub MeetsFault : List Text → Option (List ℕ) → Type 0
+MeetsFault words input = MeetsInputFault words input ⊎ AsksNoInput words

@@ -1,19 +1,25 @@
 -- What the commands answer on the text that was read.
-use Rattle.std.specs.Prelude.{◌≡◌, ◌⊎◌, ℕ, List, ◌++◌, Bool, true, false, Result, Ok, Err}
+use Rattle.std.specs.Prelude.{◌≡◌, ◌⊎◌, ◌<◌, ◌≤◌, ℕ, List, ◌++◌, length, Bool, true, false, Result, Ok, Err, IsUtf8}
+use Rattle.hex.specs.Hex.{encode_lower}
 use Rattle.sfi_image.specs.Spelling.{Part}
 use Rattle.sfi_image.specs.Images.{IsImage}
 use Rattle.sfi_image.specs.Faults.{IsFault}
 use Rattle.sfi_image.specs.declared.fault.LayoutFault.{LayoutFault}
 use Rattle.sfi_check.specs.Verdict.{IsAccepted, HasFindings}
+use Rattle.sfi_link.specs.declared.fault.BuildFault.{BuildFault}
+use Rattle.sfi_link.specs.Texts.{IsTextBuild, IsBuildFault, IsWantOfMemory}
+use Rattle.sfi_report.specs.Digits.{line_end}
 use Rattle.sfi_report.specs.Report.{IsReport}
 use Rattle.sfi_report.specs.Listing.{IsListing}
 use Rattle.sfi_scan.specs.declared.finding.Finding.{Finding}
 use Rattle.sfi_tool.specs.Hexadecimal.{SpellsBytes, IsUnreadable}
+use Rattle.sfi_tool.specs.Input.{limit}
+use Rattle.sfi_tool.specs.RunLines.{IsRunText}
 use Rattle.sfi_tool.specs.Verdict.{accepted_line, refused_line}
 use Rattle.sfi_tool.specs.declared.fault.Stop.{Stop}
 use Rattle.sfi_tool.specs.declared.fault.Stop.TheVariants as stop
 use Rattle.sfi_tool.specs.declared.job.Job.{Job}
-use Rattle.sfi_tool.specs.declared.job.Job.TheVariants.{Check, Dis}
+use Rattle.sfi_tool.specs.declared.job.Job.TheVariants.{Check, Dis, Build, Run}
 use Rattle.sfi_tool.specs.declared.verdict.Answer.{Answer}
 
 -- ---- status 0 and 1, with the text that is printed
@@ -54,10 +60,36 @@ pub record SaysListing (bytes : List ℕ) (status : ℕ) (text : List ℕ) : Typ
   pub status_is : status ≡ 0
   pub text_is : IsListing parts text
 
+-- what was read keeps its limit and is UTF-8
+pub record IsSourceText (input : List ℕ) : Type 0 where
+  pub short : length input ≤ limit
+  pub utf8 : IsUtf8 input
+
+-- what was read is a source text with a build: status 0 and one line, the lower-case digits of the build's bytes
+pub record SaysBuild (input : List ℕ) (status : ℕ) (text : List ℕ) : Type 0 where
+  pub bytes : List ℕ
+  pub source : IsSourceText input
+  pub build : IsTextBuild input bytes
+  pub status_is : status ≡ 0
+  pub text_is : text ≡ encode_lower bytes ++ line_end
+
+-- the image has no findings: status 0 and the lines of a run of its sandboxes, each of which reads what is given
+pub record SaysRan (rounds quantum : ℕ) (given bytes : List ℕ) (status : ℕ) (text : List ℕ) : Type 0 where
+  pub parts : List Part
+  pub accepted : IsAccepted bytes parts
+  pub status_is : status ≡ 0
+  pub text_is : IsRunText rounds quantum given parts text
+
+-- the lines of a run, or the verdict on an image with findings
+abbrev pub SaysRun : ℕ → ℕ → List ℕ → List ℕ → ℕ → List ℕ → Type 0
+SaysRun rounds quantum given bytes status text = SaysRan rounds quantum given bytes status text ⊎ SaysRefused false bytes status text
+
 -- the job's answer, with status 0 or 1, on what was read
 abbrev pub Says : Job → List ℕ → ℕ → List ℕ → Type 0
 Says (Check report) input status text = (bytes : List ℕ) × SpellsBytes input bytes × SaysVerdict report bytes status text
 Says Dis input status text = (bytes : List ℕ) × SpellsBytes input bytes × SaysListing bytes status text
+Says Build input status text = SaysBuild input status text
+Says (Run rounds quantum given) input status text = (bytes : List ℕ) × SpellsBytes input bytes × SaysRun rounds quantum given.items bytes status text
 
 -- ---- which status what was read has
 
@@ -77,20 +109,38 @@ SpellsFindings input = (bytes : List ℕ) × (found : List Finding) × SpellsByt
 abbrev pub SpellsFault : List ℕ → Type 0
 SpellsFault input = (bytes : List ℕ) × (k : LayoutFault) × SpellsBytes input bytes × IsFault bytes k
 
+-- it is a source text with a build
+abbrev pub MeansBuild : List ℕ → Type 0
+MeansBuild input = (bytes : List ℕ) × IsSourceText input × IsTextBuild input bytes
+
+-- it is above its limit or isn't UTF-8
+abbrev pub IsNoSourceText : List ℕ → Type 0
+IsNoSourceText input = (limit < length input) ⊎ ¬ IsUtf8 input
+
+-- it has a fault of its source, or of what its source makes
+abbrev pub MeansFault : List ℕ → Type 0
+MeansFault input = (f : BuildFault) × IsBuildFault input f
+
 -- status 0: the job can be done on it
 abbrev pub IsDone : Job → List ℕ → Type 0
 IsDone (Check report) input = SpellsAccepted input
 IsDone Dis input = SpellsImage input
+IsDone Build input = MeansBuild input
+IsDone (Run rounds quantum given) input = SpellsAccepted input
 
 -- status 1: the job refuses it for its findings
 abbrev pub IsRefused : Job → List ℕ → Type 0
 IsRefused (Check report) input = SpellsFindings input
 IsRefused Dis input = ⊥
+IsRefused Build input = ⊥
+IsRefused (Run rounds quantum given) input = SpellsFindings input
 
--- status 2: it is above its limit, isn't the text that the job reads, or spells an image with a fault
+-- status 2: it is above its limit, isn't the text that the job reads, spells an image with a fault, or is a source with one
 abbrev pub HasInputFault : Job → List ℕ → Type 0
 HasInputFault (Check report) input = IsUnreadable input ⊎ SpellsFault input
 HasInputFault Dis input = IsUnreadable input ⊎ SpellsFault input
+HasInputFault Build input = IsNoSourceText input ⊎ MeansFault input
+HasInputFault (Run rounds quantum given) input = IsUnreadable input ⊎ SpellsFault input
 
 -- ---- for private contracts
 
@@ -98,6 +148,7 @@ HasInputFault Dis input = IsUnreadable input ⊎ SpellsFault input
 abbrev pub IsStop : Job → List ℕ → Stop → Type 0
 IsStop job input (stop.Input fault) = HasInputFault job input
 IsStop job input (stop.Layout fault) = HasInputFault job input
+IsStop job input (stop.Build fault) = HasInputFault job input
 IsStop job input stop.Memory = Unit {0}
 
 -- the answer has this status, or memory ran out
@@ -105,4 +156,19 @@ abbrev pub AnswersStatus : ℕ → Result Answer Stop → Type 0
 AnswersStatus status (Ok answer) = answer.status ≡ status
 AnswersStatus status (Err (stop.Input fault)) = ⊥
 AnswersStatus status (Err (stop.Layout fault)) = ⊥
+AnswersStatus status (Err (stop.Build fault)) = ⊥
 AnswersStatus status (Err stop.Memory) = Unit {0}
+
+-- a source text isn't read only where what was read is none
+abbrev pub IsSourceStop : List ℕ → Stop → Type 0
+IsSourceStop input (stop.Input fault) = IsNoSourceText input
+IsSourceStop input (stop.Layout fault) = ⊥
+IsSourceStop input (stop.Build fault) = ⊥
+IsSourceStop input stop.Memory = ⊥
+
+-- a build stops at its fault, or for want of memory
+abbrev pub StopsBuild : BuildFault → Stop → Type 0
+StopsBuild f (stop.Input fault) = ⊥
+StopsBuild f (stop.Layout fault) = ⊥
+StopsBuild f (stop.Build fault) = (fault ≡ f) × ¬ IsWantOfMemory f
+StopsBuild f stop.Memory = Unit {0}

@@ -3,10 +3,12 @@
 ghost use Rattle.std.specs.Prelude.{◌≡◌, ◌≤◌, ◌<◌, IfOk, string_bytes};
 ghost use Rattle.sfi_tool.specs.Says.{HasInputFault, IsDone, IsRefused, Says};
 
+use crate::building::built;
 use crate::checking::checked;
-use crate::fault::{Stop, input_line, layout_line};
+use crate::fault::{Stop, build_line, input_line, layout_line};
 use crate::job::Job;
 use crate::listing::listed;
+use crate::ran::ran;
 use crate::verdict::Answer;
 use std::alloc::{AllocError, Global};
 
@@ -29,6 +31,12 @@ pub fn answer(alloc: Global, job: &Job, text: &[u8]) -> Result<Answer, AllocErro
     let answered = match job {
         Job::Check { report } => checked(alloc, *report, text),
         Job::Dis => listed(alloc, text),
+        Job::Build => built(alloc, text),
+        Job::Run {
+            rounds,
+            quantum,
+            input,
+        } => ran(alloc, *rounds, *quantum, input, text),
     };
     match answered {
         Ok(answer) => Ok(answer),
@@ -39,6 +47,10 @@ pub fn answer(alloc: Global, job: &Job, text: &[u8]) -> Result<Answer, AllocErro
         Err(Stop::Layout(fault)) => Ok(Answer {
             status: 2,
             text: layout_line(alloc, fault)?,
+        }),
+        Err(Stop::Build(fault)) => Ok(Answer {
+            status: 2,
+            text: build_line(alloc, fault)?,
         }),
         Err(Stop::Memory) => Err(AllocError),
     }

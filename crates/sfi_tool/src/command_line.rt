@@ -1,17 +1,22 @@
 //! The command line of the program.
 
-ghost use Rattle.std.specs.Prelude.{◌≡◌, ◌≢◌, IfOk, IfErr, map, string_bytes};
+ghost use Rattle.std.specs.Prelude.{◌≡◌, ◌≢◌, ℕ, false, IfOk, IfErr, IfSome, codes, map, string_bytes};
 ghost use Rattle.clap.specs.Matches.{found_of};
 ghost use Rattle.clap.specs.Simple.{app_of};
 ghost use Rattle.clap.specs.Values.{kind_of};
-ghost use Rattle.clap.specs.Walk.{rows_of};
-ghost use Rattle.sfi_tool.specs.Command.{check, sfi, Asks, IsFaultOf, IsCommandOf, IsFaultOfNamed, IsGiven, Names};
+ghost use Rattle.clap.specs.Walk.{first_of, rows_of, rule_of};
+ghost use Rattle.sfi_tool.specs.Command.{check, count_rule, quantum_most, rounds_most, run, sfi, Asks, IsFaultOf, IsCommandOf, IsCount, IsFaultOfNamed, IsGiven, IsInputFault, IsInputOf, Names};
 ghost use Rattle.sfi_tool.specs.Numbers.{number_of};
 
 use crate::job::{Job, JobFault};
 use clap::error::ErrorKind;
-use clap::{Arg, ArgAction, ArgMatches, Command, Error};
+use clap::{Arg, ArgAction, ArgMatches, Command, Error, value_parser};
+use hex::FromHexError;
 use std::alloc::{AllocError, Global};
+
+const ROUNDS_MOST: u32 = 10000;
+
+const QUANTUM_MOST: u32 = 1000000;
 
 // `check [--report]`.
 fn check_command<'a>(alloc: Global) -> Result<Command<'a>, AllocError>
@@ -23,19 +28,56 @@ fn check_command<'a>(alloc: Global) -> Result<Command<'a>, AllocError>
     Command::new(alloc, "check").arg(report)
 }
 
+// `--rounds N`.
+fn rounds_arg<'a>(alloc: Global) -> Arg<'a>
+    ensures rule { rule_of result ≡ count_rule (codes "rounds") (codes "1") rounds_most }
+    ensures local { result.global ≡ false }
+{
+    Arg::new(alloc, "rounds")
+        .long("rounds")
+        .default_value("1")
+        .value_parser(value_parser!(u32).range(1..=10000))
+}
+
+// `--quantum Q`.
+fn quantum_arg<'a>(alloc: Global) -> Arg<'a>
+    ensures rule { rule_of result ≡ count_rule (codes "quantum") (codes "1000") quantum_most }
+    ensures local { result.global ≡ false }
+{
+    Arg::new(alloc, "quantum")
+        .long("quantum")
+        .default_value("1000")
+        .value_parser(value_parser!(u32).range(1..=1000000))
+}
+
+// `run [--rounds N] [--quantum Q] [--input HEX]`.
+fn run_command<'a>(alloc: Global) -> Result<Command<'a>, AllocError>
+    ensures { IfOk result (IsCommandOf run) }
+{
+    let rounds = rounds_arg(alloc);
+    let quantum = quantum_arg(alloc);
+    let input = Arg::new(alloc, "input").long("input");
+    let run = Command::new(alloc, "run");
+    run.arg(rounds)?.arg(quantum)?.arg(input)
+}
+
 // The program with its subcommands.
 fn command<'a>(alloc: Global) -> Result<Command<'a>, AllocError>
     ensures { IfOk result (λ c. app_of c ≡ sfi) }
 {
     let check = check_command(alloc)?;
     let dis = Command::new(alloc, "dis");
+    let build = Command::new(alloc, "build");
+    let run = run_command(alloc)?;
     let program = Command::new(alloc, "sfi").subcommand_required(true);
-    program.subcommand(check)?.subcommand(dis)
+    let program = program.subcommand(check)?.subcommand(dis)?;
+    program.subcommand(build)?.subcommand(run)
 }
 
 // What is printed for words that don't parse, or ask for help.
 fn usage(alloc: Global, error: Error) -> JobFault
-    ensures { number_of result ≡ 1 → kind_of error ≢ ErrorKind.OutOfMemory }
+    ensures refused { number_of result ≡ 1 → kind_of error ≢ ErrorKind.OutOfMemory }
+    ensures other { number_of result ≢ 2 }
 {
     if error.kind() == ErrorKind::OutOfMemory {
         return JobFault::Memory;
@@ -46,7 +88,9 @@ fn usage(alloc: Global, error: Error) -> JobFault
     }
 }
 
-fn no_command(alloc: Global) -> JobFault {
+fn no_command(alloc: Global) -> JobFault
+    ensures { number_of result ≢ 2 }
+{
     match String::from_str(alloc, "error: no such command\n") {
         Ok(text) => JobFault::Usage(text),
         Err(_) => JobFault::Memory,
@@ -63,6 +107,64 @@ fn is_given(found: &ArgMatches<'_>, option: &str) -> bool
     }
 }
 
+// The number that the option's text is, from 1 to the most.
+fn count_of(found: &ArgMatches<'_>, option: &str, most: u32) -> Option<u32>
+    ensures some { IfSome result (IsCount option.now most (rows_of (found_of found.now))) }
+    ensures none { result ≡ None → (n : ℕ) → ¬ IsCount option.now most (rows_of (found_of found.now)) n }
+{
+    let text = found.get_str(option)?;
+    match text.parse::<u32>() {
+        Ok(count) if 1 <= count && count <= most => Some(count),
+        _ => None,
+    }
+}
+
+// The fault of a text that didn't decode.
+fn hex_fault(error: FromHexError) -> JobFault
+    ensures refused { number_of result ≡ 2 → error ≢ FromHexError.OutOfMemory }
+    ensures other { number_of result ≢ 1 }
+{
+    match error {
+        FromHexError::InvalidHexCharacter { .. }
+        | FromHexError::OddLength
+        | FromHexError::InvalidStringLength => JobFault::Hex,
+        FromHexError::OutOfMemory => JobFault::Memory,
+    }
+}
+
+// The bytes that the text of `--input` spells, or none where it wasn't given.
+fn input_of(alloc: Global, found: &ArgMatches<'_>) -> Result<Vec<u8>, JobFault>
+    ensures bytes { IfOk result (λ bytes. IsInputOf (first_of (codes "input") (rows_of (found_of found.now))) bytes.items) }
+    ensures fault { IfErr result (IsInputFault (first_of (codes "input") (rows_of (found_of found.now)))) }
+{
+    let Some(text) = found.get_str("input") else {
+        return Ok(Vec::new(alloc));
+    };
+    match hex::decode(alloc, text.as_bytes()) {
+        Ok(bytes) => Ok(bytes),
+        Err(error) => Err(hex_fault(error)),
+    }
+}
+
+// The run that these options ask for.
+fn run_of(alloc: Global, found: &ArgMatches<'_>) -> Result<Job, JobFault>
+    ensures job { IfOk result (Names (Some (codes "run", rows_of (found_of found.now)))) }
+    ensures fault { IfErr result (IsFaultOfNamed (Some (codes "run", rows_of (found_of found.now)))) }
+{
+    let Some(rounds) = count_of(found, "rounds", ROUNDS_MOST) else {
+        return Err(no_command(alloc));
+    };
+    let Some(quantum) = count_of(found, "quantum", QUANTUM_MOST) else {
+        return Err(no_command(alloc));
+    };
+    let input = input_of(alloc, found)?;
+    Ok(Job::Run {
+        rounds,
+        quantum,
+        input,
+    })
+}
+
 // The job that the subcommand of this name asks for, with what was found for its options.
 fn job_named(alloc: Global, name: &str, found: &ArgMatches<'_>) -> Result<Job, JobFault>
     ensures job { IfOk result (Names (Some (name.now, rows_of (found_of found.now)))) }
@@ -76,12 +178,19 @@ fn job_named(alloc: Global, name: &str, found: &ArgMatches<'_>) -> Result<Job, J
     if name == "dis" {
         return Ok(Job::Dis);
     }
+    if name == "build" {
+        return Ok(Job::Build);
+    }
+    if name == "run" {
+        return run_of(alloc, found);
+    }
     Err(no_command(alloc))
 }
 
 /// The job that the words ask for. The first word is the program's name, as `env::args` gives it.
 ///
-/// Words that don't parse, and those that ask for help, are a `Usage`, with the text to print.
+/// Words that don't parse, and those that ask for help, are a `Usage`, with the text to print. `Hex` comes of words that
+/// parse, where the text of `--input` has an odd number of digits or something that is no digit.
 pub fn job_of(alloc: Global, words: &[String]) -> Result<Job, JobFault>
     ensures job { IfOk result (Asks (map string_bytes words.now)) }
     ensures fault { IfErr result (IsFaultOf (map string_bytes words.now)) }

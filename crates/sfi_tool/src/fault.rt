@@ -1,9 +1,13 @@
 //! Faults of the input.
 
 ghost use Rattle.std.specs.Prelude.{◌≡◌};
+ghost use Rattle.sfi_tool.specs.Says.{StopsBuild};
 ghost use Rattle.sfi_tool.specs.declared.fault.Stop.TheVariants.{Memory};
 
+use rv_text::{TextCause, TextFault};
 use sfi_image::LayoutFault;
+use sfi_link::{BuildFault, LinkFault};
+use sfi_rewrite::RewriteFault;
 use std::alloc::{AllocError, Global};
 use thiserror::Error;
 
@@ -20,14 +24,17 @@ pub(crate) enum InputFault {
     /// The place of the first byte that is no digit, counted from 0 among what isn't white space.
     #[error("input fault hex digit {0}")]
     HexDigit(usize),
+    #[error("input fault utf8")]
+    Utf8,
 }
 
-/// Why a command gives no verdict: a fault of the text or of the image that it spells, or an allocation
-/// was refused.
+/// Why a command gives no verdict: a fault of the text, of the image that it spells or of the source that it means, or an
+/// allocation was refused.
 #[derive(Debug, Drop)]
 pub(crate) enum Stop {
     Input(InputFault),
     Layout(LayoutFault),
+    Build(BuildFault),
     Memory,
 }
 
@@ -48,4 +55,39 @@ pub(crate) fn input_line(alloc: Global, fault: &InputFault) -> Result<String, Al
 pub(crate) fn layout_line(alloc: Global, fault: LayoutFault) -> Result<String, AllocError> {
     let number = fault.number();
     format!(in alloc; "layout fault {number} {fault}\n")
+}
+
+/// Why a build stops: want of memory is no fault of the text.
+pub(crate) fn build_stop(fault: BuildFault) -> Stop
+    ensures { StopsBuild fault result }
+{
+    match fault {
+        BuildFault::Text(
+            TextFault {
+                cause: TextCause::Memory,
+                ..
+            },
+        )
+        | BuildFault::Rewrite(RewriteFault::Memory)
+        | BuildFault::Link(LinkFault::Memory) => Stop::Memory,
+        BuildFault::Text(_) | BuildFault::Rewrite(_) | BuildFault::Link(_) => Stop::Build(fault),
+    }
+}
+
+/// The line that names a fault of the source.
+pub(crate) fn build_line(alloc: Global, fault: BuildFault) -> Result<String, AllocError> {
+    match fault {
+        BuildFault::Text(TextFault { line, cause }) => {
+            let number = cause.number();
+            format!(in alloc; "source fault {number} {cause} line {line}\n")
+        }
+        BuildFault::Rewrite(fault) => {
+            let number = fault.number();
+            format!(in alloc; "rewrite fault {number} {fault}\n")
+        }
+        BuildFault::Link(fault) => {
+            let number = fault.number();
+            format!(in alloc; "link fault {number} {fault}\n")
+        }
+    }
 }

@@ -17,6 +17,17 @@ pub enum Job {
     },
     /// The listing of the image. Its bytes come as hexadecimal text.
     Dis,
+    /// The image that a source text makes, as hexadecimal text.
+    Build,
+    /// A run of the image's sandboxes. Its bytes come as hexadecimal text.
+    Run {
+        /// How often each sandbox gets a turn, from 1 to 10000.
+        rounds: u32,
+        /// How many steps a turn has, from 1 to 1000000.
+        quantum: u32,
+        /// What each sandbox reads.
+        input: Vec<u8>,
+    },
 }
 
 /// Why the words ask for no job.
@@ -25,18 +36,22 @@ pub enum JobFault {
     /// The words don't parse, or ask for help: the text to print.
     #[error("{0}")]
     Usage(String),
+    /// The words parse, and the text of `--input` spells no bytes.
+    #[error("option fault hex")]
+    Hex,
     /// An allocation was refused.
     #[error("out of memory")]
     Memory,
 }
 
 impl JobFault {
-    /// The number of the fault: 1 for `Usage`, 3 for `Memory`.
+    /// The number of the fault, from 1 to 3.
     pub fn number(&self) -> u32
         ensures { result ≡ number_of self.now }
     {
         match self {
             JobFault::Usage(_) => 1,
+            JobFault::Hex => 2,
             JobFault::Memory => 3,
         }
     }

@@ -2,6 +2,7 @@
 #![tactic(auto)]
 
 mod answering;
+mod building;
 mod checking;
 mod command_line;
 mod fault;
@@ -10,6 +11,9 @@ mod input;
 mod job;
 mod listing;
 mod output;
+mod plan;
+mod ran;
+mod run_lines;
 mod running;
 mod verdict;
 

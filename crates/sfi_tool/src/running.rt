@@ -28,7 +28,9 @@ fn printed<W: Write>(writer: &mut W, status: u8, text: &str) -> u8
 
 /// Runs the command that the words ask for, and answers the status to end with:
 ///
-/// - 0: accepted or listed; 1: findings; 2: a fault of the input, which the text names;
+/// - 0: accepted, built, listed or run; 1: findings;
+/// - 2: a fault of the input, or a text of `--input` that spells no bytes, which the text names. The latter is
+///   answered before anything is read;
 /// - 3: the words don't parse, or ask for help: what to print for them was written;
 /// - 4: an allocation was refused, and nothing was written;
 /// - 5: a read or a write failed. After a failed read nothing was written; after a failed write a
@@ -51,6 +53,7 @@ pub fn run_tool<R: Read, W: Write>(
     let job = match job_of(alloc, words) {
         Ok(job) => job,
         Err(JobFault::Usage(text)) => return printed(writer, 3, &text),
+        Err(JobFault::Hex) => return printed(writer, 2, "option fault hex\n"),
         Err(JobFault::Memory) => return 4,
     };
     let text = match read_input(alloc, reader) {

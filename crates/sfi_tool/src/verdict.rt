@@ -27,7 +27,7 @@ pub(crate) fn accepted_line(alloc: Global, accepted: &Accepted<'_>) -> Result<St
 }
 
 // The address in eight lower hexadecimal digits.
-fn address_text(alloc: Global, address: u32) -> Result<String, AllocError>
+pub(crate) fn address_text(alloc: Global, address: u32) -> Result<String, AllocError>
     ensures { IfOk result (λ text. string_bytes text ≡ hex_digits 8 address) }
 {
     format!(in alloc; "{address:08x}")

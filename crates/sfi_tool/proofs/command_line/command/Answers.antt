@@ -9,6 +9,10 @@ returns c =
     let program_is : app_of c.subcommand_required-program.result ≡ program = search rules in
     let with_check = c.in_ok-subcommand.ensures.shape c.in_ok-check.ensures.local
     ∙ ap₂ with_subcommand program_is (ap (λ (a : App). a.top) c.in_ok-check.ensures.shape_is) in
-    IfOk-weaker c.subcommand-2.result _ _
-    (λ r h. h.shape c.new-dis.ensures.local ∙ ap₂ with_subcommand with_check (ap (λ (a : App). a.top) c.new-dis.ensures.app))
-    c.subcommand-2.ensures
+    let with_dis = c.in_ok-program.ensures.shape c.new-dis.ensures.local
+    ∙ ap₂ with_subcommand with_check (ap (λ (a : App). a.top) c.new-dis.ensures.app) in
+    let with_build = c.in_ok-subcommand-2.ensures.shape c.new-build.ensures.local
+    ∙ ap₂ with_subcommand with_dis (ap (λ (a : App). a.top) c.new-build.ensures.app) in
+    IfOk-weaker c.subcommand-4.result _ _
+    (λ r h. h.shape c.in_ok-run.ensures.local ∙ ap₂ with_subcommand with_build (ap (λ (a : App). a.top) c.in_ok-run.ensures.shape_is))
+    c.subcommand-4.ensures

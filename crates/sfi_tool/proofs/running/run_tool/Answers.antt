@@ -1,7 +1,8 @@
-use Rattle.std.proofs.Common.{◌≡◌, ◌≢◌, ◌<◌, ◌∙◌, ℕ, List, Option, Some, None, Vec, Global, sym, subst, arith, IfSome}
+use Rattle.std.proofs.Common.{◌≡◌, ◌≢◌, ◌<◌, ◌∙◌, ℕ, List, Option, Some, None, Vec, Global, sym, subst, arith, inl, inr, IfSome}
 use Rattle.sfi_tool.specs.Input.{IsInput}
 use Rattle.sfi_tool.specs.Says.{Says}
 use Rattle.sfi_tool.specs.declared.input.Input.TheVariants.{Whole}
+use Rattle.sfi_tool.proofs.TooLarge.{told_too_large}
 use Rattle.sfi_tool.proofs.running.run_tool.Goals as goal
 
 -- what holds of the text that was read holds of the bytes that the reader told
@@ -28,9 +29,17 @@ pub returns-in-Ok-answer-clause-fault : goal.returns-in-Ok-answer-clause-fault
 returns-in-Ok-answer-clause-fault g c two =
     let printed : c.printed-in-Ok-answer.result ≢ 5 = omega arith in
     let status : c.in-Ok-answer.answer.status ≡ 2 = sym (c.printed-in-Ok-answer.ensures.status printed) ∙ two in
-    record {
+    inl (record {
       job = c.in-Ok.job;
       asked = c.in-Ok.ensures.job;
       fault = of_told _ _ c.in-Ok-Whole.text c.as_slice.result.now (rw c.in-Ok-Whole.field-0-is at c.in-Ok-Whole.ensures) c.as_slice.ensures.value
           (c.in-Ok-answer.ensures.fault status);
-    }
+    })
+
+pub returns-in-Ok-TooLarge-clause-fault : goal.returns-in-Ok-TooLarge-clause-fault
+returns-in-Ok-TooLarge-clause-fault g c two =
+    inl (record {
+      job = c.in-Ok.job;
+      asked = c.in-Ok.ensures.job;
+      fault = told_too_large c.in-Ok.job (g.R.Read.remaining c.args.reader.now) (rw c.in-Ok-TooLarge.field-0-is at c.in-Ok-TooLarge.ensures);
+    })

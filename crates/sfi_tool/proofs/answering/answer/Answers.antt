@@ -1,0 +1,23 @@
+use Rattle.std.proofs.Common.{◌≡◌, ◌∙◌, ◌<◌, ℕ, List, Result, Ok, IfOk, string_bytes, sym, subst}
+use Rattle.sfi_tool.specs.Says.{Says}
+use Rattle.sfi_tool.specs.declared.fault.Stop.{Stop}
+use Rattle.sfi_tool.specs.declared.job.Job.{Job}
+use Rattle.sfi_tool.specs.declared.verdict.Answer.{Answer}
+use Rattle.sfi_tool.proofs.answering.answer.Goals.{in-Check, in-Dis, in-Build, in-Run}
+use Rattle.sfi_tool.proofs.answering.answer.Goals as goal
+
+-- what a command says is the job's answer, where that job was asked for
+said : (asked job : Job) (text : List ℕ) (answered result : Result Answer Stop) (a : Answer) → asked ≡ job → answered ≡ result → answered ≡ Ok a
+    → IfOk result (λ (x : Answer). Says job text x.status (string_bytes x.text)) → Says asked text a.status (string_bytes a.text)
+said asked job text answered result a same made ok says =
+    subst (λ (j : Job). Says j text a.status (string_bytes a.text)) (sym same)
+    (subst (λ (r : Result Answer Stop). IfOk r (λ (x : Answer). Says job text x.status (string_bytes x.text))) (sym made ∙ ok) says)
+
+pub returns-in-Ok-clause-says : goal.returns-in-Ok-clause-says
+returns-in-Ok-clause-says c less =
+    elim c.match-job.branch [
+      in-Check w ↦ said _ _ _ _ _ c.in-Ok.answer w.in-Check.is w.answered-is c.in-Ok.is w.checked-answered.ensures.says
+    | in-Dis w ↦ said _ _ _ _ _ c.in-Ok.answer w.in-Dis.is w.answered-is c.in-Ok.is w.listed-answered.ensures.says
+    | in-Build w ↦ let none = sym w.answered-is ∙ c.in-Ok.is in absurd (cc)
+    | in-Run w ↦ said _ _ _ _ _ c.in-Ok.answer w.in-Run.is w.answered-is c.in-Ok.is w.ran-answered.ensures.says
+    ]

@@ -1,0 +1,81 @@
+-- What a run comes to, and the lines that say it.
+use Rattle.std.specs.Prelude.{◌≡◌, ℕ, zero, suc, List, [], ◌∷◌, ◌++◌, Option, Some, None, length, map, slice_get, codes, decimal}
+use Rattle.std.specs.FinMap.{empty}
+use Rattle.hex.specs.Hex.{encode_lower}
+use Rattle.rv_step.specs.declared.outcome.Cause.{Cause}
+use Rattle.rv_step.specs.declared.outcome.Cause.TheVariants.{Fetch, Illegal, Break, Load, Store}
+use Rattle.sfi_image.specs.Spelling.{Part}
+use Rattle.sfi_report.specs.Digits.{hex_digits, line_end}
+use Rattle.sfi_host.specs.declared.status.Status.{Status}
+use Rattle.sfi_host.specs.declared.status.Status.TheVariants.{Ready, Exited, Trapped}
+use Rattle.sfi_host.specs.declared.turn.Turn.{Turn}
+use Rattle.sfi_host.specs.Consoles.{ConsoleState, console, new_console, output_of}
+use Rattle.sfi_host.specs.Hosts.{Limited}
+use Rattle.sfi_host.specs.Joint.{Machine, IsMachine, Joined, joint}
+use Rattle.sfi_host.specs.Loading.{first_seat, with_parts}
+use Rattle.sfi_host.specs.Slots.{Slot}
+use Rattle.sfi_host.specs.Worlds.{slots_of}
+
+-- ---- lines
+
+-- the name of a trap's cause
+abbrev pub cause_name : Cause → List ℕ
+cause_name Fetch = codes "Fetch"
+cause_name Illegal = codes "Illegal"
+cause_name Break = codes "Break"
+cause_name Load = codes "Load"
+cause_name Store = codes "Store"
+
+-- what a sandbox may still do: an exit's number is decimal, a trap's address hexadecimal
+abbrev pub state_text : Status → List ℕ
+state_text Ready = codes "ready"
+state_text (Exited n) = codes "exit=" ++ decimal n
+state_text (Trapped cause at) = codes "trap=" ++ cause_name cause ++ codes " at=" ++ hex_digits 8 at
+
+-- the line of the sandbox of that number: what it may still do, how many steps it did, and its output in lower hexadecimal digits
+abbrev pub run_line : ℕ → Status → ℕ → List ℕ → List ℕ
+run_line sandbox status steps output =
+    codes "sandbox=" ++ decimal sandbox
+    ++ codes " " ++ state_text status
+    ++ codes " steps=" ++ decimal steps
+    ++ codes " out=" ++ encode_lower output ++ line_end
+
+-- the line of a slot and its output; none where there is no such sandbox
+abbrev pub line_of : ℕ → Option Slot → Option (List ℕ) → List ℕ
+line_of sandbox None output = []
+line_of sandbox (Some slot) None = []
+line_of sandbox (Some slot) (Some output) = run_line sandbox slot.status slot.steps output
+
+-- the lines of the first n sandboxes, in order
+abbrev pub run_lines : ℕ → List Slot → ConsoleState → List ℕ
+run_lines zero slots host = []
+run_lines (suc n) slots host = run_lines n slots host ++ line_of n (slice_get slots n) (output_of host n)
+
+-- ---- the plan
+
+-- one turn of each of the first n sandboxes, in order
+abbrev pub round_of : ℕ → ℕ → List Turn
+round_of quantum zero = []
+round_of quantum (suc n) = round_of quantum n ++ record { sandbox = n; steps = quantum } ∷ []
+
+-- so many rounds of so many sandboxes
+abbrev pub plan_of : ℕ → ℕ → ℕ → List Turn
+plan_of zero quantum count = []
+plan_of (suc rounds) quantum count = plan_of rounds quantum count ++ round_of quantum count
+
+-- ---- the run
+
+-- the sandboxes of an image before any turn
+abbrev pub first_slots : List Part → List Slot
+first_slots ps = slots_of (record { bytes = with_parts empty ps; seats = map first_seat ps })
+
+-- the sandboxes and their host, which answers each call, behind that plan
+abbrev pub run_of : Machine → ℕ → ℕ → List ℕ → List Part → Joined (Limited ConsoleState)
+run_of machine rounds quantum given ps =
+    joint machine console (plan_of rounds quantum (length ps)) (first_slots ps) (new_console (length ps) given) None
+
+-- the text has a line for each sandbox, of what it and its output are then; what is said holds of the machine, which is one function
+abbrev pub IsRunText : ℕ → ℕ → List ℕ → List Part → List ℕ → Type 0
+IsRunText rounds quantum given ps text =
+    (machine : Machine) → IsMachine machine
+    → text ≡ run_lines (length ps) (run_of machine rounds quantum given ps).slots (run_of machine rounds quantum given ps).host.host

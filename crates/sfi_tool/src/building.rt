@@ -1,0 +1,53 @@
+//! The command `build`.
+
+ghost use Rattle.std.specs.Prelude.{◌≡◌, ◌++◌, IfOk, IfErr, IsErr, string_bytes};
+ghost use Rattle.hex.specs.Hex.{encode_lower};
+ghost use Rattle.sfi_report.specs.Digits.{line_end};
+ghost use Rattle.sfi_tool.specs.Says.{AnswersStatus, HasInputFault, IsDone, IsSourceStop, IsSourceText, IsStop, Says};
+ghost use Rattle.sfi_tool.specs.declared.job.Job.TheVariants.{Build};
+
+use crate::fault::{InputFault, Stop, build_stop};
+use crate::input::INPUT_LIMIT;
+use crate::verdict::Answer;
+use sfi_link::build;
+use std::alloc::{AllocError, Global};
+
+/// The source text that was read. A text above its limit goes first.
+fn source_text(text: &[u8]) -> Result<&str, Stop>
+    ensures text { IfOk result (λ source. (source.now ≡ text.now) × IsSourceText text.now) }
+    ensures stop { IfErr result (IsSourceStop text.now) }
+{
+    if text.len() > INPUT_LIMIT {
+        return Err(Stop::Input(InputFault::TooLarge));
+    }
+    match std::str::from_utf8(text) {
+        Ok(source) => Ok(source),
+        Err(_) => Err(Stop::Input(InputFault::Utf8)),
+    }
+}
+
+/// The bytes in lower-case hexadecimal digits, on one line.
+fn digits_line(alloc: Global, bytes: &[u8]) -> Result<String, AllocError>
+    ensures { IfOk result (λ line. string_bytes line ≡ encode_lower bytes.now ++ line_end) }
+{
+    let mut line = hex::encode(alloc, bytes)?;
+    line.push_str("\n")?;
+    Ok(line)
+}
+
+/// The image that the source text makes, in hexadecimal digits.
+pub(crate) fn built(alloc: Global, text: &[u8]) -> Result<Answer, Stop>
+    ensures says { IfOk result (λ a. Says Build text.now a.status (string_bytes a.text)) }
+    ensures stop { IfErr result (IsStop Build text.now) }
+    ensures only_done { IsDone Build text.now → AnswersStatus 0 result }
+    ensures only_fault { HasInputFault Build text.now → IsErr result }
+{
+    let source = source_text(text)?;
+    match build(alloc, source) {
+        Ok(bytes) => Ok(Answer {
+            status: 0,
+            text: digits_line(alloc, bytes.as_slice())?,
+        }),
+        Err(fault) => Err(build_stop(fault)),
+    }
+}

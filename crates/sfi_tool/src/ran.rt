@@ -1,0 +1,65 @@
+//! The command `run`.
+
+ghost use Rattle.std.specs.Prelude.{IfOk, IfErr, IsErr, string_bytes};
+ghost use Rattle.sfi_tool.specs.RunLines.{IsRunText};
+ghost use Rattle.sfi_tool.specs.Says.{AnswersStatus, HasInputFault, IsDone, IsRefused, IsStop, Says};
+ghost use Rattle.sfi_tool.specs.declared.job.Job.TheVariants.{Run};
+
+use crate::fault::Stop;
+use crate::hexadecimal::bytes_of;
+use crate::plan::plan_of;
+use crate::run_lines::run_lines;
+use crate::verdict::{Answer, refused_line};
+use rv_mem::Segments;
+use sfi_check::{Accepted, Refusal, check};
+use sfi_host::{Console, RunAnswer, World};
+use std::alloc::{AllocError, Global};
+
+/// Runs the sandboxes of an accepted image, and says what became of each.
+fn run_text(
+    alloc: Global,
+    accepted: &Accepted<'_>,
+    rounds: u32,
+    quantum: u32,
+    input: &[u8],
+) -> Result<String, AllocError>
+    ensures { IfOk result (λ text. IsRunText rounds quantum input.now accepted.now (string_bytes text)) }
+{
+    let count = accepted.sandboxes() as u32;
+    let mut world = World::load(alloc, accepted, Segments::new(alloc))?;
+    let mut console = Console::new(alloc, count, input)?;
+    let plan = plan_of(alloc, rounds, quantum, count)?;
+    match world.run_plan(&plan, &mut console) {
+        RunAnswer::Done => run_lines(alloc, count, &world, &console),
+        RunAnswer::Memory { .. } => Err(AllocError),
+    }
+}
+
+/// The verdict on the image that the text spells where it has findings, and else what became of its sandboxes.
+pub(crate) fn ran(
+    alloc: Global,
+    rounds: u32,
+    quantum: u32,
+    input: &Vec<u8>,
+    text: &[u8],
+) -> Result<Answer, Stop>
+    ensures says { IfOk result (λ a. Says (Run rounds quantum input.now) text.now a.status (string_bytes a.text)) }
+    ensures stop { IfErr result (IsStop (Run rounds quantum input.now) text.now) }
+    ensures only_done { IsDone (Run rounds quantum input.now) text.now → AnswersStatus 0 result }
+    ensures only_refused { IsRefused (Run rounds quantum input.now) text.now → AnswersStatus 1 result }
+    ensures only_fault { HasInputFault (Run rounds quantum input.now) text.now → IsErr result }
+{
+    let bytes = bytes_of(alloc, text)?;
+    match check(alloc, bytes.as_slice()) {
+        Ok(accepted) => Ok(Answer {
+            status: 0,
+            text: run_text(alloc, &accepted, rounds, quantum, input.as_slice())?,
+        }),
+        Err(Refusal::Findings(findings)) => Ok(Answer {
+            status: 1,
+            text: refused_line(alloc, findings.as_slice())?,
+        }),
+        Err(Refusal::Layout(fault)) => Err(Stop::Layout(fault)),
+        Err(Refusal::Memory) => Err(Stop::Memory),
+    }
+}
