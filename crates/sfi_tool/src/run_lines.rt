@@ -1,10 +1,9 @@
 //! The lines that say what became of the sandboxes of a run.
 
-ghost use Rattle.std.specs.Prelude.{◌≡◌, ◌++◌, IfOk, OnOk, string_bytes};
+ghost use Rattle.std.specs.Prelude.{◌≡◌, IfOk, slice_get, string_bytes};
+ghost use Rattle.sfi_host.specs.Consoles.{output_of};
 ghost use Rattle.sfi_host.specs.Worlds.{slots_of};
 ghost use Rattle.sfi_tool.specs.RunLines.{cause_name, line_of, run_line, run_lines, state_text};
-ghost use Rattle.std.specs.Prelude.{slice_get};
-ghost use Rattle.sfi_host.specs.Consoles.{output_of};
 
 use crate::verdict::address_text;
 use rv_mem::Memory;

@@ -56,9 +56,9 @@ refused findings=1 first=V5 sandbox=0 at=01000048
 #[test]
 fn tour(rt: HostRuntime) -> Result<(), Fail> {
     let alloc = rt.alloc();
-    let built = run(alloc, "sfi build", HI.as_bytes())?;
-    assert_eq!(rt; built.status, 0);
-    let image = built.text.as_slice();
+    let Outcome { status, text } = run(alloc, "sfi build", HI.as_bytes())?;
+    assert_eq!(rt; status, 0);
+    let image = text.as_slice();
     let rows = [
         ("sfi check", "accepted sandboxes=1 bundles=16\n"),
         ("sfi run", "sandbox=0 exit=105 steps=19 out=4869\n"),
@@ -68,15 +68,15 @@ fn tour(rt: HostRuntime) -> Result<(), Fail> {
         assert_eq!(rt; text.as_slice(), wanted.as_bytes(), "{command}");
         assert_eq!(rt; status, 0, "{command}");
     }
-    let listing = run(alloc, "sfi dis", image)?;
-    assert!(rt; listing.text.as_slice().starts_with(LISTING.as_bytes()));
-    assert_eq!(rt; listing.status, 0);
+    let Outcome { status, text } = run(alloc, "sfi dis", image)?;
+    assert!(rt; text.as_slice().starts_with(LISTING.as_bytes()));
+    assert_eq!(rt; status, 0);
 
     // The mask of the load's address becomes a nop.
     let digits = from_utf8(image)?;
     let broken = digits.replace(alloc, "b37fb501", "13000000")?;
-    let report = run(alloc, "sfi check --report", broken.as_bytes())?;
-    assert_eq!(rt; report.text.as_slice(), REPORT.as_bytes());
-    assert_eq!(rt; report.status, 1);
+    let Outcome { status, text } = run(alloc, "sfi check --report", broken.as_bytes())?;
+    assert_eq!(rt; text.as_slice(), REPORT.as_bytes());
+    assert_eq!(rt; status, 1);
     Ok(())
 }

@@ -18,6 +18,6 @@ returns-in-Ok-clause-says c less =
     elim c.match-job.branch [
       in-Check w ↦ said _ _ _ _ _ c.in-Ok.answer w.in-Check.is w.answered-is c.in-Ok.is w.checked-answered.ensures.says
     | in-Dis w ↦ said _ _ _ _ _ c.in-Ok.answer w.in-Dis.is w.answered-is c.in-Ok.is w.listed-answered.ensures.says
-    | in-Build w ↦ let none = sym w.answered-is ∙ c.in-Ok.is in absurd (cc)
+    | in-Build w ↦ said _ _ _ _ _ c.in-Ok.answer w.in-Build.is w.answered-is c.in-Ok.is w.built-answered.ensures.says
     | in-Run w ↦ said _ _ _ _ _ c.in-Ok.answer w.in-Run.is w.answered-is c.in-Ok.is w.ran-answered.ensures.says
     ]
