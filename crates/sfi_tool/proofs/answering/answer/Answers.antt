@@ -16,8 +16,8 @@ said asked job text answered result a same made ok says =
 pub returns-in-Ok-clause-says : goal.returns-in-Ok-clause-says
 returns-in-Ok-clause-says c less =
     elim c.match-job.branch [
-      in-Check w ↦ said _ _ _ _ _ c.in-Ok.answer w.in-Check.is w.answered-is c.in-Ok.is w.checked-answered.ensures.says
-    | in-Dis w ↦ said _ _ _ _ _ c.in-Ok.answer w.in-Dis.is w.answered-is c.in-Ok.is w.listed-answered.ensures.says
-    | in-Build w ↦ said _ _ _ _ _ c.in-Ok.answer w.in-Build.is w.answered-is c.in-Ok.is w.built-answered.ensures.says
-    | in-Run w ↦ said _ _ _ _ _ c.in-Ok.answer w.in-Run.is w.answered-is c.in-Ok.is w.ran-answered.ensures.says
+      | in-Check w ↦ said _ _ _ _ _ c.in-Ok.answer w.in-Check.is w.answered-is c.in-Ok.is w.checked-answered.ensures.says
+      | in-Dis w ↦ said _ _ _ _ _ c.in-Ok.answer w.in-Dis.is w.answered-is c.in-Ok.is w.listed-answered.ensures.says
+      | in-Build w ↦ said _ _ _ _ _ c.in-Ok.answer w.in-Build.is w.answered-is c.in-Ok.is w.built-answered.ensures.says
+      | in-Run w ↦ said _ _ _ _ _ c.in-Ok.answer w.in-Run.is w.answered-is c.in-Ok.is w.ran-answered.ensures.says
     ]
