@@ -21,7 +21,7 @@ use Rattle.sfi_link.specs.declared.fault.LinkFault.{LinkFault}
 use Rattle.sfi_link.specs.declared.fault.LinkFault.TheVariants.{UnknownName, BranchReach, TooLarge, TooManySandboxes, Memory}
 use Rattle.sfi_link.specs.Addresses.{bases_of}
 use Rattle.sfi_link.specs.Code.{AreSlots}
-use Rattle.sfi_link.specs.Linked.{c_ebreak, needed, IsCodeSize, gates_from, IsLinkedCode, IsLinked, AreLinkedFrom}
+use Rattle.sfi_link.specs.Linked.{c_ebreak, needed, HasRoom, IsCodeSize, gates_from, IsLinkedCode, IsLinked, AreLinkedFrom}
 use Rattle.sfi_link.specs.Building.{IsLinkedImage, ArePlacements, IsBuild}
 use Rattle.sfi_link.specs.Faults.{IsSlotFault, HasPartFault, IsPartFault, IsLinkFault}
 use Rattle.sfi_link.specs.Near.{IsNear, AreLow, AreNear, AreWritten, AreCodesFrom}
@@ -57,6 +57,10 @@ small_size needed low = record {
   has_room = record { power = 8; size_is = refl; at_least = omega arith; at_most = omega arith; room = low };
   least = λ other h. h.at_least;
 }
+
+-- more than 65536 bytes have room nowhere
+pub no_room : (needed size : ℕ) → 65536 < needed → HasRoom needed size → ⊥
+no_room needed size large h = let a = h.room in let b = h.at_most in omega arith
 
 -- ---- what is near
 
@@ -122,21 +126,21 @@ code_room number p at stubs few placed is stubs_are =
     let d = placed.gate_count in
     omega arith
 
-slots_refused : (number : ℕ) (p : Placement) (at : Bases) (stubs : List ℕ) (f : LinkFault) → at ≡ bases_of number p → stubs ≡ repeat (length p.gates) stub → needed p ≤ 65536
+slots_refused : (number : ℕ) (p : Placement) (at : Bases) (size : ℕ) (stubs : List ℕ) (f : LinkFault) → at ≡ bases_of number p → IsCodeSize (needed p) size → stubs ≡ repeat (length p.gates) stub
     → IsSlotFault at p.names (at.code + length stubs) (slots_of p.bundles) f → HasPartFault number p f
-slots_refused number p at stubs f is stubs_are fits x =
+slots_refused number p at size stubs f is sized stubs_are x =
     let a : length stubs ≡ 16 * length p.gates = ap length stubs_are ∙ length_stubs (length p.gates) in
     let b = ap (λ (b : Bases). b.code) is in
     let start : at.code + length stubs ≡ (bases_of number p).start = omega (arith, a, b) in
-    inr (λ large. omega arith, subst (λ (c : Bases). IsSlotFault c p.names (bases_of number p).start (slots_of p.bundles) f) is (subst (λ n. IsSlotFault at p.names n (slots_of p.bundles) f) start x))
+    inr (λ large. large size sized.has_room, subst (λ (c : Bases). IsSlotFault c p.names (bases_of number p).start (slots_of p.bundles) f) is (subst (λ n. IsSlotFault at p.names n (slots_of p.bundles) f) start x))
 
-pub part_refused : (number : ℕ) (p : Placement) (at : Bases) (stubs : List ℕ) (f : LinkFault) → at ≡ bases_of number p → stubs ≡ repeat (length p.gates) stub → needed p ≤ 65536
+pub part_refused : (number : ℕ) (p : Placement) (at : Bases) (size : ℕ) (stubs : List ℕ) (f : LinkFault) → at ≡ bases_of number p → IsCodeSize (needed p) size → stubs ≡ repeat (length p.gates) stub
     → UnlessMemory (IsSlotFault at p.names (at.code + length stubs) (slots_of p.bundles)) f → UnlessMemory (HasPartFault number p) f
-part_refused number p at stubs (UnknownName l) is stubs_are fits h = slots_refused number p at stubs (UnknownName l) is stubs_are fits h
-part_refused number p at stubs (BranchReach l) is stubs_are fits h = slots_refused number p at stubs (BranchReach l) is stubs_are fits h
-part_refused number p at stubs (TooLarge n) is stubs_are fits h = slots_refused number p at stubs (TooLarge n) is stubs_are fits h
-part_refused number p at stubs TooManySandboxes is stubs_are fits h = slots_refused number p at stubs TooManySandboxes is stubs_are fits h
-part_refused number p at stubs Memory is stubs_are fits h = tt
+part_refused number p at size stubs (UnknownName l) is sized stubs_are h = slots_refused number p at size stubs (UnknownName l) is sized stubs_are h
+part_refused number p at size stubs (BranchReach l) is sized stubs_are h = slots_refused number p at size stubs (BranchReach l) is sized stubs_are h
+part_refused number p at size stubs (TooLarge n) is sized stubs_are h = slots_refused number p at size stubs (TooLarge n) is sized stubs_are h
+part_refused number p at size stubs TooManySandboxes is sized stubs_are h = slots_refused number p at size stubs TooManySandboxes is sized stubs_are h
+part_refused number p at size stubs Memory is sized stubs_are h = tt
 
 -- ---- gates
 

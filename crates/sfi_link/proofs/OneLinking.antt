@@ -216,7 +216,7 @@ one_slot_fault at names here slots f g x y =
 -- ---- of a sandbox
 
 never_part : (number : ℕ) (p : Placement) (q : Part) (f : LinkFault) → IsLinked number p q → HasPartFault number p f → ⊥
-never_part number p q f linked (inl h) = let a = linked.code.size.has_room.room in let b = linked.code.size.has_room.at_most in let c = h.0 in omega arith
+never_part number p q f linked (inl h) = h.0 (length q.code) linked.code.size.has_room
 never_part number p q f linked (inr h) = never_slots _ _ _ (slots_of p.bundles) (replicate linked.code.fill c_ebreak) linked.code.bytes f linked.code.slots h.1
 
 one_of_part : (number : ℕ) (p : Placement) (f g : LinkFault) → HasPartFault number p f → HasPartFault number p g → f ≡ g

@@ -5,14 +5,14 @@ use Rattle.sfi_image.specs.Spelling.{Part}
 use Rattle.sfi_rewrite.specs.declared.slot.Slot.{Slot}
 use Rattle.sfi_rewrite.specs.declared.slot.Slot.TheVariants.{Wide, Short, Jump, Upper, Lower}
 use Rattle.sfi_rewrite.specs.declared.placed.PlacedName.{PlacedName}
-use Rattle.sfi_rewrite.specs.Slots.{size_of, slots_of, code_most}
+use Rattle.sfi_rewrite.specs.Slots.{size_of, slots_of}
 use Rattle.sfi_rewrite.specs.Placement.{Placement}
 use Rattle.sfi_link.specs.declared.bases.Bases.{Bases}
 use Rattle.sfi_link.specs.declared.fault.LinkFault.{LinkFault}
 use Rattle.sfi_link.specs.declared.fault.LinkFault.TheVariants.{UnknownName, BranchReach, TooLarge, TooManySandboxes, Memory}
 use Rattle.sfi_link.specs.Addresses.{address_at, target_at, with_offset, bases_of}
 use Rattle.sfi_link.specs.Code.{AreSlots}
-use Rattle.sfi_link.specs.Linked.{needed, AreLinked}
+use Rattle.sfi_link.specs.Linked.{needed, HasRoom, AreLinked}
 
 -- the number of a fault
 abbrev pub number_of : LinkFault → ℕ
@@ -62,7 +62,7 @@ pub record IsSlotFault (at : Bases) (names : List PlacedName) (here : ℕ) (slot
 
 -- no code region has room for the stubs, the code and one c.ebreak
 abbrev pub IsTooLarge : Placement → Type 0
-IsTooLarge p = code_most < needed p
+IsTooLarge p = (size : ℕ) → HasRoom (needed p) size → ⊥
 
 -- the fault of the sandbox of that number, of which being too large goes first
 abbrev pub HasPartFault : ℕ → Placement → LinkFault → Type 0

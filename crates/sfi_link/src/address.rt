@@ -3,11 +3,9 @@ ghost use Rattle.std.specs.Prelude.{◌≡◌, ◌<◌, ◌^◌, pos, ◌-ℤ◌
 ghost use Rattle.sfi_link.specs.Addresses.{address_of, target_of, address_at, target_at, upper, lower, with_offset};
 ghost use Rattle.sfi_link.specs.Near.{IsLow, AreLow, IsNear, AreNear};
 
-use crate::bases::Bases;
+use crate::bases::{Bases, STUB_BYTES};
 use rv_word::Instr;
 use sfi_rewrite::PlacedName;
-
-const STUB_BYTES: u32 = 16;
 
 fn address_of(at: Bases, name: PlacedName) -> Option<u32>
     requires low { AreLow at }

@@ -1,4 +1,20 @@
 //! Where the regions of a sandbox lie.
+ghost use Rattle.std.specs.Prelude.{◌≡◌, ◌<◌};
+ghost use Rattle.sfi_rewrite.specs.Placed.{IsPlacedPart};
+ghost use Rattle.sfi_link.specs.Addresses.{bases_of};
+ghost use Rattle.sfi_link.specs.Faults.{sandboxes_most};
+ghost use Rattle.sfi_link.specs.Near.{AreLow};
+
+use sfi_rewrite::PlacedPart;
+
+// How far the stub of one gate lies from the next: each is one bundle.
+pub(crate) const STUB_BYTES: u32 = 16;
+
+// The first code base, and how far one sandbox lies from the next.
+const STRIDE: u32 = 0x0100_0000;
+
+// How far the data lies from the code.
+const DATA_OFFSET: u32 = 0x0080_0000;
 
 /// Where the regions of a sandbox begin.
 #[derive(Clone, Copy, Debug)]
@@ -9,4 +25,19 @@ pub struct Bases {
     pub start: u32,
     /// The first address of the data.
     pub data: u32,
+}
+
+// Where the sandbox of that number lies.
+pub(crate) fn bases_of(number: u32, part: &PlacedPart) -> Bases
+    requires few { number < sandboxes_most }
+    requires right { IsPlacedPart part.now }
+    ensures is { result ≡ bases_of number part.now }
+    ensures low { AreLow result }
+{
+    let code = STRIDE * (number + 1);
+    Bases {
+        code,
+        start: code + STUB_BYTES * part.gates().len() as u32,
+        data: code + DATA_OFFSET,
+    }
 }

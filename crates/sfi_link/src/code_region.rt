@@ -1,15 +1,13 @@
 //! The code region of a sandbox: its gates' stubs, its code, and c.ebreaks up to its end.
-ghost use Rattle.std.specs.Prelude.{◌≡◌, ◌++◌, ◌<◌, ◌≤◌, length, OnOk};
+ghost use Rattle.std.specs.Prelude.{◌≡◌, ◌++◌, ◌<◌, ◌≤◌, ℕ, length, IfSome, IfNone, OnOk};
 ghost use Rattle.std.specs.List.{repeat};
 ghost use Rattle.sfi_rewrite.specs.Slots.{size_of, code_most};
 ghost use Rattle.sfi_rewrite.specs.Placed.{IsPlacedPart};
-ghost use Rattle.sfi_link.specs.Addresses.{bases_of};
-ghost use Rattle.sfi_link.specs.Linked.{needed, IsCodeSize, IsLinkedCode};
+ghost use Rattle.sfi_link.specs.Linked.{needed, HasRoom, IsCodeSize, IsLinkedCode};
 ghost use Rattle.sfi_link.specs.Faults.{HasPartFault, sandboxes_most};
-ghost use Rattle.sfi_link.specs.Near.{AreLow};
 ghost use Rattle.sfi_link.specs.Answers.{Links};
 
-use crate::bases::Bases;
+use crate::bases::bases_of;
 use crate::code::push_bundles;
 use crate::fault::LinkFault;
 use sfi_rewrite::{PlacedPart, Slot};
@@ -22,15 +20,10 @@ const STUB: [u8; 16] = [
 
 const C_EBREAK: [u8; 2] = [0x02, 0x90];
 
-const CODE_LEAST: usize = 256;
+// The sizes that a code region may have go from this one to the next.
+const REGION_LEAST: usize = 256;
 
-const CODE_MOST: usize = 65536;
-
-// The first code base, and how far one sandbox lies from the next.
-const STRIDE: u32 = 0x0100_0000;
-
-// How far the data lies from the code.
-const DATA_OFFSET: u32 = 0x0080_0000;
+const REGION_MOST: usize = 65536;
 
 // How many bytes the slots take.
 fn size_of(slots: &[Slot]) -> usize
@@ -57,31 +50,18 @@ fn needed(part: &PlacedPart) -> usize
     STUB.len() * part.gates().len() + code + C_EBREAK.len()
 }
 
-// The least size of a code region in which so many bytes have room.
-fn code_size(needed: usize) -> usize
-    requires { needed ≤ code_most }
-    ensures { IsCodeSize needed result }
+// The least size of a code region in which so many bytes have room, if there is one.
+fn code_size(needed: usize) -> Option<usize>
+    ensures least { IfSome result (IsCodeSize needed) }
+    ensures none { IfNone result ((size : ℕ) → HasRoom needed size → ⊥) }
 {
-    if needed <= CODE_LEAST {
-        CODE_LEAST
-    } else {
-        needed.next_power_of_two()
+    if needed > REGION_MOST {
+        return None;
     }
-}
-
-// Where the sandbox of that number lies.
-pub(crate) fn bases_of(number: u32, part: &PlacedPart) -> Bases
-    requires few { number < sandboxes_most }
-    requires right { IsPlacedPart part.now }
-    ensures is { result ≡ bases_of number part.now }
-    ensures low { AreLow result }
-{
-    let code = STRIDE * (number + 1);
-    Bases {
-        code,
-        start: code + 16 * part.gates().len() as u32,
-        data: code + DATA_OFFSET,
+    if needed <= REGION_LEAST {
+        return Some(REGION_LEAST);
     }
+    Some(needed.next_power_of_two())
 }
 
 // So many copies of some bytes come behind the bytes so far.
@@ -104,11 +84,9 @@ pub(crate) fn linked_code(
     requires right { IsPlacedPart part.now }
     ensures { Links (λ code. IsLinkedCode number part.now code.items) (HasPartFault number part.now) result }
 {
-    let needed = needed(part);
-    if needed > CODE_MOST {
+    let Some(size) = code_size(needed(part)) else {
         return Err(LinkFault::TooLarge { sandbox: number });
-    }
-    let size = code_size(needed);
+    };
     let at = bases_of(number, part);
     let mut code = Vec::with_capacity(alloc, size)?;
     push_copies(&mut code, &STUB, part.gates().len())?;

@@ -11,7 +11,8 @@ ghost use Rattle.sfi_link.specs.Faults.{IsPartFault, IsLinkFault, sandboxes_most
 ghost use Rattle.sfi_link.specs.Near.{AreCodesFrom, contents};
 ghost use Rattle.sfi_link.specs.Answers.{Links, UnlessMemory, AnswersBytes, AnswersFault};
 
-use crate::code_region::{bases_of, linked_code};
+use crate::bases::{STUB_BYTES, bases_of};
+use crate::code_region::linked_code;
 use crate::fault::LinkFault;
 use crate::laws::{linked_is_clean, linked_is_right, one_linking};
 use rv_text::SourceGate;
@@ -20,8 +21,6 @@ use sfi_rewrite::{Placed, PlacedPart};
 use std::alloc::{AllocError, Global};
 
 const SANDBOXES_MOST: usize = 16;
-
-const STUB_BYTES: u32 = 16;
 
 // The gates, whose stubs lie one behind another from the address on.
 fn gates_from(alloc: Global, address: u32, gates: &[SourceGate]) -> Result<Vec<Gate>, AllocError>

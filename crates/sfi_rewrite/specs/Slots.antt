@@ -29,6 +29,6 @@ c_nop = Short (CAddi 0 (pos 0))
 abbrev pub bundle_size : ℕ
 bundle_size = 16
 
--- the most bytes of a code region, 4096 bundles; so the most that a sandbox's code may take, its gates' stubs not counted
+-- the most bytes that a sandbox's code may take, 4096 bundles, its gates' stubs not counted
 abbrev pub code_most : ℕ
 code_most = 65536
