@@ -16,6 +16,7 @@ use Rattle.sfi_scan.specs.Readings.{Piece, IsReading, rest_of}
 use Rattle.sfi_scan.specs.Pairs.{is_reserved}
 use Rattle.sfi_scan.specs.Rules.{Place, is_empty, offset_by, is_bundle_start, breaks_ecall, breaks_reserved, breaks_access, breaks_jump, breaks_target, breaks_end, ends_region, is_last_bundle}
 use Rattle.sfi_scan.specs.Findings.{lowest, all_rules, findings_from}
+use Rattle.rv_text.specs.Constants.{upper, lower}
 use Rattle.sfi_rewrite.specs.declared.slot.Slot.{Slot}
 use Rattle.sfi_rewrite.specs.declared.slot.Slot.TheVariants.{Wide, Short, Jump, Upper, Lower}
 use Rattle.sfi_rewrite.specs.declared.placed.PlacedName.{PlacedName}
@@ -24,7 +25,7 @@ use Rattle.sfi_rewrite.specs.Slots.{slot_size, size_of}
 use Rattle.sfi_rewrite.specs.Expansion.{jump_to_x31}
 use Rattle.sfi_rewrite.specs.Placed.{is_calm, is_direct, IsLone, AreWhole, nothing, lone, load, store, jump, jump_with_offset}
 use Rattle.sfi_link.specs.declared.bases.Bases.{Bases}
-use Rattle.sfi_link.specs.Addresses.{target_at, address_at, upper, lower, with_offset}
+use Rattle.sfi_link.specs.Addresses.{target_at, address_at, with_offset}
 use Rattle.sfi_link.specs.Code.{resolved, made_of, IsSlot, AreSlots}
 use Rattle.sfi_link.proofs.Written.{short_spells, wide_spells, spelled_length}
 use Rattle.sfi_link.proofs.Sizes.{slot_some, size_cons}
@@ -209,10 +210,10 @@ lone_passes b at names starts here h earlier (Jump j k line) i r a later e =
     let P : Instr → Type 0 = λ i. breaks_end (place b here earlier i later) i ≡ false → Passes (place b here earlier i later) in
     subst P (sym m.2) (direct b here earlier j (pos m.0 -ℤ pos here) later a.0 a.1 (ap (is_bundle_start b) l ∙ s.0)) e
 lone_passes b at names starts here h earlier (Upper rd k line) i r a later e =
-    let m = made (λ address. Lui rd (upper address)) (address_at at names k) i r in
+    let m = made (λ address. Lui rd (upper (pos address))) (address_at at names k) i r in
     calm b here earlier i later (ap is_calm m.2) (ap breaks_reserved m.2 ∙ unreserved rd a) e
 lone_passes b at names starts here h earlier (Lower rd k line) i r a later e =
-    let m = made (λ address. OpImm Addi rd rd (lower address)) (address_at at names k) i r in
+    let m = made (λ address. OpImm Addi rd rd (lower (pos address))) (address_at at names k) i r in
     calm b here earlier i later (ap is_calm m.2) (ap breaks_reserved m.2 ∙ unreserved rd a) e
 
 lone_ends : (at : Bases) (names : List PlacedName) (here : ℕ) (s : Slot) (i : Instr) → resolved at names here s ≡ Some i → is_end s ≡ true → ends_region i ≡ true

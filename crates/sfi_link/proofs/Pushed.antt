@@ -1,6 +1,6 @@
 -- Slots written one behind another.
 use Rattle.std.proofs.Common.{◌≡◌, ℕ, zero, suc, ◌+◌, ◌^◌, ◌<◌, ◌≤◌, List, [], ◌∷◌, ◌++◌, length, take, drop, get_or, replicate, Some, refl, sym, ap, ◌∙◌, subst, arith, append_assoc, append-nil, length-append, drop-cons, add-one, Fits, w64, rules}
-use Rattle.std.specs.Prelude.{slice_get}
+use Rattle.std.specs.Prelude.{ℤ, pos, slice_get}
 use Rattle.std.specs.List.{All, repeat}
 use Rattle.std.specs.Int.{w32, to_le_bytes}
 use Rattle.std.proofs.lemmas.Grind.{flat_map-append}
@@ -13,6 +13,7 @@ use Rattle.rv_word.specs.declared.instr.ImmOp.TheVariants.{Addi}
 use Rattle.rv_word.specs.Spelling.{InRange, IsReg, IsImm12, spelling}
 use Rattle.rv_comp.specs.declared.form.Form16.TheVariants.{CEbreak}
 use Rattle.rv_comp.specs.Table.{expansion}
+use Rattle.rv_text.specs.Constants.{lower}
 use Rattle.sfi_rewrite.specs.declared.slot.Slot.{Slot}
 use Rattle.sfi_rewrite.specs.declared.slot.Slot.TheVariants.{Lower}
 use Rattle.sfi_rewrite.specs.declared.placed.PlacedName.{PlacedName}
@@ -20,7 +21,7 @@ use Rattle.sfi_rewrite.specs.Slots.{slot_size, size_of, slots_of}
 use Rattle.sfi_link.specs.declared.bases.Bases.{Bases}
 use Rattle.sfi_link.specs.declared.fault.LinkFault.{LinkFault}
 use Rattle.sfi_link.specs.declared.fault.LinkFault.TheVariants.{UnknownName, BranchReach, TooLarge, TooManySandboxes, Memory}
-use Rattle.sfi_link.specs.Addresses.{lower, address_at}
+use Rattle.sfi_link.specs.Addresses.{address_at}
 use Rattle.sfi_link.specs.Code.{AreSlots, made_of}
 use Rattle.sfi_link.specs.Linked.{c_ebreak}
 use Rattle.sfi_link.specs.Near.{IsPushed, AreWritten}
@@ -29,21 +30,21 @@ use Rattle.sfi_link.specs.Answers.{UnlessMemory}
 use Rattle.sfi_link.proofs.Sizes.{size_cons, size_of-append}
 use Rattle.sfi_link.proofs.Parts.{slots_length}
 
-pub lower_fits : (a : ℕ) → IsImm12 (lower a)
-lower_fits a = (omega (arith, ints), omega (arith, ints))
+lower_fits : (z : ℤ) → IsImm12 (lower z)
+lower_fits z = (omega (arith, ints), omega (arith, ints))
 
-pub low_in_range : (rd a : ℕ) (i : Instr) → i ≡ OpImm Addi rd rd (lower a) → IsReg rd → InRange i
+pub low_in_range : (rd a : ℕ) (i : Instr) → i ≡ OpImm Addi rd rd (lower (pos a)) → IsReg rd → InRange i
 unfolding InRange
-low_in_range rd a i is reg = subst InRange (sym is) (reg, reg, lower_fits a)
+low_in_range rd a i is reg = subst InRange (sym is) (reg, reg, lower_fits (pos a))
 
-pub low_pushed : (at : Bases) (names : List PlacedName) (rd place line a : ℕ) (i : Instr) (old new : List ℕ) → Some a ≡ address_at at names place → i ≡ OpImm Addi rd rd (lower a) → IsReg rd
+pub low_pushed : (at : Bases) (names : List PlacedName) (rd place line a : ℕ) (i : Instr) (old new : List ℕ) → Some a ≡ address_at at names place → i ≡ OpImm Addi rd rd (lower (pos a)) → IsReg rd
     → new ≡ old ++ to_le_bytes w32 (spelling i) → IsPushed at names (Lower rd place line) old new
 low_pushed at names rd place line a i old new there is reg e = (
   to_le_bytes w32 (spelling i),
   e,
   record {
     instr = i;
-    resolves = ap (made_of (λ address. OpImm Addi rd rd (lower address))) (sym there) ∙ ap (λ j. Some j) (sym is);
+    resolves = ap (made_of (λ address. OpImm Addi rd rd (lower (pos address)))) (sym there) ∙ ap (λ j. Some j) (sym is);
     spelled = (low_in_range rd a i is reg, refl);
   },
 )

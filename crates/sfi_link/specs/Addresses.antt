@@ -1,5 +1,5 @@
 -- Addresses for names.
-use Rattle.std.specs.Prelude.{ℕ, ◌+◌, ◌*◌, ◌/◌, ◌%◌, ◌^◌, ℤ, pos, ◌-ℤ◌, List, length, slice_get, Option, Some, None}
+use Rattle.std.specs.Prelude.{ℕ, ◌+◌, ◌*◌, ℤ, List, length, slice_get, Option, Some, None}
 use Rattle.rv_word.specs.declared.instr.Instr.{Instr}
 use Rattle.rv_word.specs.declared.instr.Instr.TheVariants.{Op, OpImm, Load, Store, Branch, Jal, Jalr, Lui, Auipc, Fence, Ecall, Ebreak}
 use Rattle.sfi_rewrite.specs.declared.placed.PlacedName.{PlacedName}
@@ -49,14 +49,6 @@ abbrev pub target_at : Bases → List PlacedName → ℕ → Option ℕ
 target_at at names place = of_name (target_of at) (slice_get names place)
 
 -- ---- in instructions
-
--- what lui gives of an address, such that an addi of 12 signed bits can give the rest
-abbrev pub upper : ℕ → ℕ
-upper address = (address + 2 ^ 11) / 2 ^ 12 % 2 ^ 20
-
--- the rest: the low 12 bits, signed
-abbrev pub lower : ℕ → ℤ
-lower address = pos address -ℤ pos ((address + 2 ^ 11) / 2 ^ 12 * 2 ^ 12)
 
 -- the jal or branch with this offset
 abbrev pub with_offset : ℤ → Instr → Instr

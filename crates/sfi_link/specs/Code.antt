@@ -7,25 +7,26 @@ use Rattle.rv_word.specs.declared.instr.ImmOp.TheVariants.{Addi}
 use Rattle.rv_word.specs.Spelling.{InRange, spelling}
 use Rattle.rv_comp.specs.Table.{allowed, expansion}
 use Rattle.rv_comp.specs.Halfwords.{halfword_of}
+use Rattle.rv_text.specs.Constants.{upper, lower}
 use Rattle.sfi_rewrite.specs.declared.slot.Slot.{Slot}
 use Rattle.sfi_rewrite.specs.declared.slot.Slot.TheVariants.{Wide, Short, Jump, Upper, Lower}
 use Rattle.sfi_rewrite.specs.declared.placed.PlacedName.{PlacedName}
 use Rattle.sfi_rewrite.specs.Slots.{slot_size}
 use Rattle.sfi_link.specs.declared.bases.Bases.{Bases}
-use Rattle.sfi_link.specs.Addresses.{address_at, target_at, upper, lower, with_offset}
+use Rattle.sfi_link.specs.Addresses.{address_at, target_at, with_offset}
 
 -- the instruction made of an address, where there is one
 abbrev pub made_of : (ℕ → Instr) → Option ℕ → Option Instr
 made_of f None = None
 made_of f (Some address) = Some (f address)
 
--- the instruction of the slot that stands at `here`, if its name has an address
+-- the instruction of the slot that stands at `here`, if its name has an address: an address is split as li splits a number
 abbrev pub resolved : Bases → List PlacedName → ℕ → Slot → Option Instr
 resolved at names here (Wide i) = Some i
 resolved at names here (Short f) = Some (expansion f)
 resolved at names here (Jump i name line) = made_of (λ to. with_offset (pos to -ℤ pos here) i) (target_at at names name)
-resolved at names here (Upper rd name line) = made_of (λ address. Lui rd (upper address)) (address_at at names name)
-resolved at names here (Lower rd name line) = made_of (λ address. OpImm Addi rd rd (lower address)) (address_at at names name)
+resolved at names here (Upper rd name line) = made_of (λ address. Lui rd (upper (pos address))) (address_at at names name)
+resolved at names here (Lower rd name line) = made_of (λ address. OpImm Addi rd rd (lower (pos address))) (address_at at names name)
 
 -- the four bytes of a 32-bit instruction, the lowest first
 abbrev IsWord : List ℕ → Instr → Type 0

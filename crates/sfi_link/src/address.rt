@@ -1,6 +1,7 @@
 //! Addresses for names, and what an instruction holds of them.
 ghost use Rattle.std.specs.Prelude.{◌≡◌, ◌<◌, ◌^◌, pos, ◌-ℤ◌, IfSome};
-ghost use Rattle.sfi_link.specs.Addresses.{address_of, target_of, address_at, target_at, upper, lower, with_offset};
+ghost use Rattle.rv_text.specs.Constants.{upper, lower};
+ghost use Rattle.sfi_link.specs.Addresses.{address_of, target_of, address_at, target_at, with_offset};
 ghost use Rattle.sfi_link.specs.Near.{IsLow, AreLow, IsNear, AreNear};
 
 use crate::bases::{Bases, STUB_BYTES};
@@ -60,7 +61,7 @@ pub(crate) fn target_at(at: Bases, names: &[PlacedName], place: usize) -> Option
 // What a lui gives of the address.
 pub(crate) fn upper(address: u32) -> u32
     requires { address < 2 ^ 31 }
-    ensures is { result ≡ upper address }
+    ensures is { result ≡ upper (pos address) }
     ensures fits { result < 2 ^ 20 }
 {
     (address + 2048) / 4096
@@ -69,9 +70,9 @@ pub(crate) fn upper(address: u32) -> u32
 // What an addi adds to that.
 pub(crate) fn lower(address: u32) -> i32
     requires { address < 2 ^ 31 }
-    ensures { result ≡ lower address }
+    ensures { result ≡ lower (pos address) }
 {
-    (i64::from(address) - i64::from((address + 2048) / 4096 * 4096)) as i32
+    ((address + 2048) % 4096) as i32 - 2048
 }
 
 // How far it is from here to there.

@@ -1,5 +1,5 @@
 //! The bytes of what is placed, written one slot after another.
-ghost use Rattle.std.specs.Prelude.{◌≡◌, ◌+◌, ◌^◌, ◌<◌, ◌++◌, IsTrue, length, OnOk};
+ghost use Rattle.std.specs.Prelude.{◌≡◌, ◌+◌, ◌^◌, ◌<◌, ◌++◌, IsTrue, pos, length, OnOk};
 ghost use Rattle.std.specs.List.{All};
 ghost use Rattle.std.specs.Int.{w16, w32, to_le_bytes};
 ghost use Rattle.rv_word.specs.Spelling.{InRange, IsReg, spelling};
@@ -9,7 +9,7 @@ ghost use Rattle.rv_comp.specs.Table.{allowed};
 ghost use Rattle.rv_comp.specs.Halfwords.{halfword_of};
 ghost use Rattle.sfi_rewrite.specs.Slots.{size_of, slots_of};
 ghost use Rattle.sfi_rewrite.specs.Placed.{Encodes};
-ghost use Rattle.sfi_link.specs.Addresses.{lower};
+ghost use Rattle.rv_text.specs.Constants.{lower};
 ghost use Rattle.sfi_link.specs.Near.{IsLow, AreNear, IsPushed, AreWritten};
 ghost use Rattle.sfi_link.specs.Faults.{HasSlotFault, IsSlotFault};
 ghost use Rattle.sfi_rewrite.specs.declared.slot.Slot.TheVariants.{Jump, Upper, Lower};
@@ -97,7 +97,7 @@ fn push_upper(
 // `addi rd, rd, imm` of what a lui leaves of the address
 fn add_lower(rd: Reg, address: u32) -> Instr
     requires { address < 2 ^ 31 }
-    ensures { result ≡ OpImm Addi rd rd (lower address) }
+    ensures { result ≡ OpImm Addi rd rd (lower (pos address)) }
 {
     Instr::OpImm {
         op: ImmOp::Addi,
