@@ -22,18 +22,9 @@ fn built(alloc: Global, text: &str) -> Result<Vec<u8>, BuildFault>
     ensures builds { Builds text.now result }
     ensures too_long { most_bytes < length text.now → result ≡ Err (Text (first_line Limit)) }
 {
-    let source = match parse_source(alloc, text) {
-        Ok(source) => source,
-        Err(fault) => return Err(BuildFault::Text(fault)),
-    };
-    let placed = match rewrite(alloc, &source) {
-        Ok(placed) => placed,
-        Err(fault) => return Err(BuildFault::Rewrite(fault)),
-    };
-    match link(alloc, &placed) {
-        Ok(bytes) => Ok(bytes),
-        Err(fault) => Err(BuildFault::Link(fault)),
-    }
+    let source = parse_source(alloc, text)?;
+    let placed = rewrite(alloc, &source)?;
+    Ok(link(alloc, &placed)?)
 }
 
 /// Reads a source, places it and links it: the image of a text, or the first fault of the three in this order. The image

@@ -1,10 +1,11 @@
 //! From what is placed to an image.
-ghost use Rattle.std.specs.Prelude.{◌≡◌, ◌<◌, ◌≤◌, ◌^◌, ℕ, List, length, IfOk, IfErr};
+ghost use Rattle.std.specs.Prelude.{◌≡◌, ◌<◌, ◌≤◌, ◌^◌, ℕ, List, length, Err, IfOk, IfErr};
 ghost use Rattle.std.specs.List.{All};
 ghost use Rattle.rv_text.specs.Source.{Sandbox};
 ghost use Rattle.sfi_image.specs.Spelling.{view, views};
 ghost use Rattle.sfi_rewrite.specs.Placed.{IsPlacedPart};
 ghost use Rattle.sfi_link.specs.declared.fault.LinkFault.{LinkFault};
+ghost use Rattle.sfi_link.specs.declared.fault.LinkFault.TheVariants.{TooManySandboxes};
 ghost use Rattle.sfi_link.specs.Linked.{gates_from, IsLinkedCode, IsLinked, AreLinkedFrom};
 ghost use Rattle.sfi_link.specs.Building.{IsLinkedImage, ArePlacements, IsBuild};
 ghost use Rattle.sfi_link.specs.Faults.{IsPartFault, IsLinkFault, sandboxes_most};
@@ -98,7 +99,8 @@ fn linked_parts<'a>(
 
 // The image of what is placed, or its fault.
 fn image_of(alloc: Global, placed: &Placed) -> Result<Vec<u8>, LinkFault>
-    ensures { Links (λ bytes. IsLinkedImage placed.now bytes.items) (IsLinkFault placed.now) result }
+    ensures links { Links (λ bytes. IsLinkedImage placed.now bytes.items) (IsLinkFault placed.now) result }
+    ensures too_many { sandboxes_most < length placed.now → result ≡ Err TooManySandboxes }
 {
     // The laws that the contract rests on: these calls do nothing.
     linked_is_right();
@@ -126,6 +128,9 @@ pub fn link(alloc: Global, placed: &Placed) -> Result<Vec<u8>, LinkFault>
     // What is placed gets it, want of memory aside.
     ensures only_image { (bytes : List ℕ) → IsLinkedImage placed.now bytes → AnswersBytes bytes result }
     ensures only_fault { (f : LinkFault) → IsLinkFault placed.now f → AnswersFault f result }
+
+    // Of too many sandboxes, whatever memory there is.
+    ensures too_many { sandboxes_most < length placed.now → result ≡ Err TooManySandboxes }
 
     // The image is the build of each source that is placed so.
     ensures build { (source : List Sandbox) → ArePlacements source placed.now → IfOk result (λ bytes. IsBuild source bytes.items) }

@@ -5,8 +5,8 @@ use Rattle.sfi_link.specs.Linked.{AreLinkedFrom}
 use Rattle.sfi_link.proofs.LinkedClean.{all_are_clean}
 use Rattle.sfi_link.proofs.linker.image_of.Goals as goal
 
-pub returns-in-Ok : goal.returns-in-Ok
-returns-in-Ok c =
+pub returns-in-Ok-clause-links : goal.returns-in-Ok-clause-links
+returns-in-Ok-clause-links c =
     let ps = c.args.placed.now in
     let parts = views c.in_ok-parts.parts.items in
     let same = c.parts-placed.ensures.parts in
