@@ -1,45 +1,74 @@
 -- What leaves a sandbox safe.
-use Rattle.std.proofs.Common.{◌≡◌, ◌≢◌, ℕ, ◌≤◌, inl, inr, List, refl, sym, ◌∙◌, subst, arith, get_or-set_other}
+use Rattle.std.proofs.Common.{◌≡◌, ◌≢◌, ℕ, ◌≤◌, inl, inr, List, refl, sym, ap, ◌∙◌, subst, arith, get_or-set_other}
 use Rattle.std.specs.Prelude.{slice_index, slice_set}
 use Rattle.rv_word.specs.declared.instr.Instr.TheVariants.{Ecall}
 use Rattle.rv_mem.specs.Bytes.{Bytes, IsMemory, address_after}
-use Rattle.rv_step.specs.State.{Hart, IsHart, behind}
+use Rattle.rv_step.specs.State.{Hart, IsHart, IsState, behind}
 use Rattle.rv_step.specs.Step.{Stands}
-use Rattle.sfi_image.specs.Spans.{Holds}
-use Rattle.sfi_check.specs.Regions.{InCode, InData, InGuard}
-use Rattle.sfi_check.specs.Runs.{Replies, Changes, KeepsBytes, KeepsReserved}
+use Rattle.sfi_image.specs.Spelling.{Part}
+use Rattle.sfi_image.specs.Spans.{Holds, AreApart}
+use Rattle.sfi_check.specs.Regions.{InCode, InGuard}
+use Rattle.sfi_check.specs.Runs.{Replies, Changes, KeepsBytes, KeepsReserved, IsReply}
 use Rattle.sfi_check.specs.Laws.{SafeStaysSafe}
 use Rattle.sfi_host.specs.declared.status.Status.TheVariants.{Ready}
 use Rattle.sfi_host.specs.Regions.{IsWhole}
-use Rattle.sfi_host.specs.Slots.{Bounds}
-use Rattle.sfi_host.specs.Joint.{with_arguments}
-use Rattle.sfi_host.specs.Worlds.{Seat, machine_of, IsSafeSeat, StaysOutside}
+use Rattle.sfi_host.specs.Slots.{Bounds, bounds_of}
+use Rattle.sfi_host.specs.Hosts.{Way, Replied, Yield, Exit}
+use Rattle.sfi_host.specs.Joint.{with_arguments, after_way, status_after}
+use Rattle.sfi_host.specs.Laws.{AnswersAreReplies}
+use Rattle.sfi_host.specs.Worlds.{Seat, machine_of, IsSafeSeat, StaysOutside, with_guards}
 
 -- ---- the regions of one sandbox
 
 module _ (m : Bytes) (s : Seat) (seat : IsSafeSeat m s) where
-  pub data_in : (a : ℕ) → Holds s.bounds.data a → InData seat.part a
-  data_in a h = subst (λ (b : Bounds). Holds b.data a) seat.bounds h
+  room : 4096 ≤ s.bounds.data.base
+  room =
+      let below : 4096 ≤ seat.part.data_base = seat.right.guard_room.below in
+      let e : s.bounds.data.base ≡ seat.part.data_base = ap (λ (b : Bounds). b.data.base) seat.bounds in
+      omega arith
 
-  room : 4096 ≤ seat.part.data_base
-  room = seat.right.guard_room.below
+  -- the data are among the addresses that are guarded
+  pub data_guarded : (a : ℕ) → Holds s.bounds.data a → Holds (with_guards s.bounds.data) a
+  data_guarded a h = let room' = room in (omega arith, omega arith)
 
-  pub guard_not_data : (a : ℕ) → InGuard seat.part a → Holds s.bounds.data a → ⊥
-  guard_not_data a guard h = apart guard (data_in a h)
-    where
-      apart : InGuard seat.part a → InData seat.part a → ⊥
-      apart (inl low) inside = let room' = room in omega arith
-      apart (inr high) inside = omega arith
+  -- ---- for a part that lies there
 
-  pub code_not_data : (a : ℕ) → InCode seat.part a → Holds s.bounds.data a → ⊥
-  code_not_data a inside h = let room' = room in let inner : InData seat.part a = data_in a h in seat.apart a inside (omega arith, omega arith)
+  module _ (p : Part) (is : s.bounds ≡ bounds_of p) where
+    base_is : s.bounds.data.base ≡ p.data_base
+    base_is = ap (λ (b : Bounds). b.data.base) is
 
-  -- its own data alone may have changed
-  own_kept : (n : Bytes) → StaysOutside s.bounds.data m n → KeepsBytes seat.part m n
-  own_kept n stays = record {
-    code = λ a inside. stays a (code_not_data a inside);
-    guards = λ a guard empty. stays a (guard_not_data a guard) ∙ empty;
-  }
+    size_is : s.bounds.data.size ≡ p.data_size
+    size_is = ap (λ (b : Bounds). b.data.size) is
+
+    pub code_in : (a : ℕ) → InCode p a → Holds s.bounds.code a
+    code_in a inside = subst (λ (b : Bounds). Holds b.code a) (sym is) inside
+
+    pub guard_guarded : (a : ℕ) → InGuard p a → Holds (with_guards s.bounds.data) a
+    guard_guarded a (inl low) = let room' = room in let e = base_is in let f = size_is in (omega arith, omega arith)
+    guard_guarded a (inr high) = let room' = room in let e = base_is in let f = size_is in (omega arith, omega arith)
+
+    guard_not_data : (a : ℕ) → InGuard p a → Holds s.bounds.data a → ⊥
+    guard_not_data a (inl low) h = let room' = room in let e = base_is in omega arith
+    guard_not_data a (inr high) h = let e = base_is in let f = size_is in omega arith
+
+    code_not_data : (a : ℕ) → InCode p a → Holds s.bounds.data a → ⊥
+    code_not_data a inside h = apart a (code_in a inside) (data_guarded a h)
+      where
+        apart : AreApart s.bounds.code (with_guards s.bounds.data)
+        apart = subst (λ (b : Bounds). AreApart b.code (with_guards b.data)) (sym seat.bounds) seat.apart
+
+    -- its own data alone may have changed
+    own_kept : (n : Bytes) → StaysOutside s.bounds.data m n → KeepsBytes p m n
+    own_kept n stays = record {
+      code = λ a inside. stays a (code_not_data a inside);
+      guards = λ a guard empty. stays a (guard_not_data a guard) ∙ empty;
+    }
+
+    -- a hart that goes on behind the ecall
+    pub is_reply : (size : ℕ) → Stands (machine_of m s) Ecall size → (n : Bytes) (h : Hart) → StaysOutside s.bounds.data m n → IsState (record { hart = h; memory = n })
+        → h.pc ≡ address_after s.hart.pc 4 → KeepsReserved s.hart h → IsReply p (machine_of m s) (record { hart = h; memory = n })
+    is_reply size stands n h stays state pc reserved =
+        record { size = size; asked = stands; state = state; pc = pc; reserved = reserved; bytes = own_kept n stays }
 
   -- ---- a change by others
 
@@ -57,7 +86,7 @@ module _ (m : Bytes) (s : Seat) (seat : IsSafeSeat m s) where
 
   -- the same, where all but its own data is left
   pub own_changed : SafeStaysSafe → (n : Bytes) → StaysOutside s.bounds.data m n → IsWhole s.bounds.data n → IsSafeSeat n s
-  own_changed on n stays whole = changed on n (own_kept n stays) whole
+  own_changed on n stays whole = changed on n (own_kept seat.part seat.bounds n stays) whole
 
   -- ---- behind a reply
 
@@ -70,10 +99,10 @@ module _ (m : Bytes) (s : Seat) (seat : IsSafeSeat m s) where
     bounds = seat.bounds;
     right = seat.right;
     apart = seat.apart;
-    guards = λ a guard. (own_kept n stays).guards a guard (seat.guards a guard);
+    guards = λ a guard. (own_kept seat.part seat.bounds n stays).guards a guard (seat.guards a guard);
     has_data = whole;
     safe = λ still. on seat.part (machine_of m s) (record { hart = h; memory = n }) (Replies (record { hart = h; memory = n })) (seat.safe ready)
-        (record { size = size; asked = stands; state = record { hart = hart; memory = memory }; pc = pc; reserved = reserved; bytes = own_kept n stays }) refl;
+        (is_reply seat.part seat.bounds size stands n h stays (record { hart = hart; memory = memory }) pc reserved) refl;
   }
 
   -- one that has stopped is safe, whatever its registers hold
@@ -83,7 +112,7 @@ module _ (m : Bytes) (s : Seat) (seat : IsSafeSeat m s) where
     bounds = same ∙ seat.bounds;
     right = seat.right;
     apart = seat.apart;
-    guards = λ a guard. (own_kept n stays).guards a guard (seat.guards a guard);
+    guards = λ a guard. (own_kept seat.part seat.bounds n stays).guards a guard (seat.guards a guard);
     has_data = subst (λ (b : Bounds). IsWhole b.data n) (sym same) whole;
     safe = λ ready. absurd (not_ready ready);
   }
@@ -99,3 +128,21 @@ arguments_keep h a0 a1 = record {
   x26 = kept_register h.registers a0 a1 26 (λ e. omega arith) (λ e. omega arith);
   x27 = kept_register h.registers a0 a1 27 (λ e. omega arith) (λ e. omega arith);
 }
+
+-- ---- a reply in the words of runs
+
+way_keeps : (w : Way) (h : Hart) (a0 a1 : ℕ) → status_after w ≡ Ready → KeepsReserved h (after_way w (with_arguments h a0 a1))
+way_keeps Replied h a0 a1 goes_on = arguments_keep h a0 a1
+way_keeps Yield h a0 a1 goes_on = arguments_keep h a0 a1
+way_keeps (Exit n) h a0 a1 goes_on = absurd (cc)
+
+way_pc : (w : Way) (h : Hart) (a0 a1 : ℕ) → status_after w ≡ Ready → (after_way w (with_arguments h a0 a1)).pc ≡ address_after h.pc 4
+way_pc Replied h a0 a1 goes_on = refl
+way_pc Yield h a0 a1 goes_on = refl
+way_pc (Exit n) h a0 a1 goes_on = absurd (cc)
+
+pub answers_are : AnswersAreReplies
+answers_are m s r after size p seat is stands goes_on state hart stays =
+    is_reply m s seat p is size stands after.memory after.hart stays state
+    (ap (λ (h : Hart). h.pc) hart ∙ way_pc r.way s.hart r.a0 r.a1 goes_on)
+    (subst (λ (h : Hart). KeepsReserved s.hart h) (sym hart) (way_keeps r.way s.hart r.a0 r.a1 goes_on))

@@ -1,11 +1,13 @@
 -- What the turn of one sandbox leaves of the others.
 use Rattle.std.proofs.Common.{◌≡◌, ◌≢◌, ℕ, zero, suc, ◌+◌, ◌-◌, ◌<◌, ◌≤◌, ◌==◌, ◌⊎◌, ⊎_elim, Bool, true, false, List, [], ◌∷◌, map, set, length, Option, Some, None, is_some, slice_get, refl, sym, ap, ◌∙◌, subst, arith}
 use Rattle.rv_mem.specs.Bytes.{Bytes, byte_at}
+use Rattle.sfi_image.specs.Spelling.{Part}
 use Rattle.sfi_image.specs.Spans.{Holds}
-use Rattle.sfi_check.specs.Regions.{InGuard}
+use Rattle.sfi_check.specs.Runs.{KeepsBytes}
 use Rattle.sfi_check.specs.Laws.{SafeStaysSafe}
-use Rattle.sfi_host.specs.Slots.{Bounds, own, Slot}
-use Rattle.sfi_host.specs.Worlds.{Seat, slot_of, slots_of, IsSafeSeat, LiesOutside, IsSafeWorld, StaysOutside, with_guards}
+use Rattle.sfi_host.specs.Laws.{NeighboursAreChanges}
+use Rattle.sfi_host.specs.Slots.{Bounds, bounds_of, own, Slot}
+use Rattle.sfi_host.specs.Worlds.{Seat, slot_of, slots_of, IsSafeSeat, LiesOutside, IsSafeWorld, StaysOutside}
 use Rattle.sfi_host.proofs.Keeping as keep
 use Rattle.sfi_host.proofs.Owning.{own_is, own_there, own_missing, same_own}
 
@@ -31,33 +33,23 @@ not_same a b t e = grind arith
 
 -- ---- one of the others
 
-data_guarded : (m : Bytes) (t : Seat) → IsSafeSeat m t → (a : ℕ) → Holds t.bounds.data a → Holds (with_guards t.bounds.data) a
-data_guarded m t seat a h =
-    let room : 4096 ≤ seat.part.data_base = seat.right.guard_room.below in
-    let e : t.bounds.data.base ≡ seat.part.data_base = ap (λ (b : Bounds). b.data.base) seat.bounds in
-    (omega arith, omega arith)
-
-guard_guarded : (m : Bytes) (t : Seat) (seat : IsSafeSeat m t) → (a : ℕ) → InGuard seat.part a → Holds (with_guards t.bounds.data) a
-guard_guarded m t seat a guard =
-    let room : 4096 ≤ seat.part.data_base = seat.right.guard_room.below in
-    let e : t.bounds.data.base ≡ seat.part.data_base = ap (λ (b : Bounds). b.data.base) seat.bounds in
-    let f : t.bounds.data.size ≡ seat.part.data_size = ap (λ (b : Bounds). b.data.size) seat.bounds in
-    ⊎_elim (λ (low : (seat.part.data_base - 4096 ≤ a) × (a < seat.part.data_base - 4096 + 4096)). (omega arith, omega arith)) (λ (high : (seat.part.data_base + seat.part.data_size ≤ a) × (a < seat.part.data_base + seat.part.data_size + 4096)). (omega arith, omega arith)) guard
-
 module _ (m n : Bytes) (b : Bounds) (left : StaysOutside b.data m n) (t : Seat) (seat : IsSafeSeat m t) (outside : LiesOutside b t.bounds) where
   data_same : (a : ℕ) → Holds t.bounds.data a → byte_at n a ≡ byte_at m a
-  data_same a h = left a (λ k. outside.guarded a k (data_guarded m t seat a h))
+  data_same a h = left a (λ k. outside.guarded a k (keep.data_guarded m t seat a h))
 
   code_same : (a : ℕ) → Holds t.bounds.code a → byte_at n a ≡ byte_at m a
   code_same a h = left a (λ k. outside.code a k h)
 
+  -- its code and its guards are kept
+  pub others_kept : (p : Part) → t.bounds ≡ bounds_of p → KeepsBytes p m n
+  others_kept p is = record {
+    code = λ a inside. code_same a (keep.code_in m t seat p is a inside);
+    guards = λ a guard empty. left a (λ k. outside.guarded a k (keep.guard_guarded m t seat p is a guard)) ∙ empty;
+  }
+
   -- it is safe as before
   pub other_safe : SafeStaysSafe → IsSafeSeat n t
-  other_safe on = keep.changed m t seat on n
-      (record {
-        code = λ a h. code_same a (subst (λ (c : Bounds). Holds c.code a) (sym seat.bounds) h);
-        guards = λ a guard empty. left a (λ k. outside.guarded a k (guard_guarded m t seat a guard)) ∙ empty;
-      })
+  other_safe on = keep.changed m t seat on n (others_kept seat.part seat.bounds)
       (λ a h. ap is_some (data_same a h) ∙ seat.has_data a h)
 
   -- and its slot is the same
@@ -118,3 +110,9 @@ module _ (m n : Bytes) (seats : List Seat) (i : ℕ) (s new : Seat) (world : IsS
           let b = old_at k u f in
           subst (λ (x : Bounds). LiesOutside x u.bounds) (sym a.2) (subst (λ (x : Bounds). LiesOutside a.0.bounds x) (sym b.2) (world.others j k a.0 b.0 ne a.1 b.1));
     }
+
+-- ---- the law
+
+pub neighbours_are : NeighboursAreChanges
+neighbours_are w i j s t new p world ne at there stays is =
+    record { pc = refl; registers = refl; bytes = others_kept w.bytes new s.bounds stays t (world.each j t there) (world.others i j s t ne at there) p is }

@@ -1,5 +1,5 @@
 //! What holds of the definitions and of every run. A call costs nothing.
-ghost use Rattle.sfi_host.specs.Laws.{SomeMachine, OneMachine};
+ghost use Rattle.sfi_host.specs.Laws.{SomeMachine, OneMachine, NeighboursAreChanges, AnswersAreReplies};
 ghost use Rattle.sfi_host.specs.Solo.{JointIsSolo};
 ghost use Rattle.sfi_host.specs.Steps.{StepsAreOwn};
 
@@ -35,3 +35,13 @@ pub fn steps_are_own()
     sfi_check::laws::safe_turns();
     sfi_check::laws::safe_stays_safe();
 }
+
+/// Between the steps of a sandbox the others of its world keep its pc, registers, code and empty guard zones.
+pub fn neighbours_are_changes()
+    ensures { NeighboursAreChanges }
+{}
+
+/// A host's reply keeps its caller's x24 to x27, code and empty guard zones, and goes on behind the ecall.
+pub fn answers_are_replies()
+    ensures { AnswersAreReplies }
+{}
