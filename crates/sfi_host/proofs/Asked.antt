@@ -1,5 +1,5 @@
 -- What a world answers of a sandbox.
-use Rattle.std.proofs.Common.{◌≡◌, ℕ, zero, suc, ◌↔◌, List, [], ◌∷◌, Option, Some, None, IsSome, is_some, true, slice_get, refl, sym, ap, ◌∙◌, subst}
+use Rattle.std.proofs.Common.{◌≡◌, ℕ, zero, suc, ◌↔◌, List, [], ◌∷◌, Option, Some, None, IsSome, slice_get, refl, sym, ap, ◌∙◌, subst}
 use Rattle.std.specs.Option.{option_map}
 use Rattle.rv_mem.specs.Bytes.{Bytes, byte_at}
 use Rattle.sfi_image.specs.Spans.{Holds}
@@ -7,7 +7,7 @@ use Rattle.sfi_host.specs.declared.sandbox.Sandbox.{Sandbox}
 use Rattle.sfi_host.specs.Regions.{bytes_in}
 use Rattle.sfi_host.specs.Slots.{Slot}
 use Rattle.sfi_host.specs.Sandboxes.{seat_of, world_of}
-use Rattle.sfi_host.specs.Worlds.{Sandboxes, slot_of, slots_of, status_at, steps_at, data_byte_of, IsSafeWorld}
+use Rattle.sfi_host.specs.Worlds.{Sandboxes, slot_of, slots_of, status_at, steps_at, data_byte_of}
 use Rattle.sfi_host.proofs.Leaving.{data_of_own}
 
 -- the slot of a sandbox
@@ -38,24 +38,15 @@ module _ (w : Sandboxes) (m : Bytes) (all : List Sandbox) (is : world_of m all �
   pub slot_is : (s : Sandbox) → slice_get all i ≡ Some s → slice_get (slots_of w) i ≡ Some (slot_of m (seat_of s))
   slot_is s e = ap (λ (x : Sandboxes). slice_get (slots_of x) i) (sym is) ∙ slot_at m all i s e
 
-  pub slot_none : slice_get all i ≡ None → slice_get (slots_of w) i ≡ None
-  slot_none e = ap (λ (x : Sandboxes). slice_get (slots_of x) i) (sym is) ∙ no_slot m all i e
-
   pub data_is : (s : Sandbox) (at : ℕ) → slice_get all i ≡ Some s → byte_at (bytes_in (seat_of s).bounds.data m) at ≡ data_byte_of (slice_get (slots_of w) i) at
   data_is s at e =
       ap (λ (b : Bytes). byte_at b at) (sym (data_of_own (seat_of s).bounds m))
       ∙ ap (λ (o : Option Slot). data_byte_of o at) (sym (slot_is s e))
 
-  pub data_none : (at : ℕ) → slice_get all i ≡ None → None ≡ data_byte_of (slice_get (slots_of w) i) at
-  data_none at e = ap (λ (o : Option Slot). data_byte_of o at) (sym (slot_none e))
-
-  -- its data are whole
-  pub there_is : IsSafeWorld (world_of m all) → (s : Sandbox) (at : ℕ) (o : Option ℕ) → slice_get all i ≡ Some s → (IsSome o ↔ Holds (seat_of s).bounds.data at)
+  -- the addresses at which it has a byte
+  pub there_is : (s : Sandbox) (at : ℕ) (o : Option ℕ) → slice_get all i ≡ Some s → (IsSome o ↔ Holds (seat_of s).bounds.data at)
       → (IsSome o ↔ ((t : Slot) × (slice_get (slots_of w) i ≡ Some t) × Holds t.bounds.data at))
-  there_is safe s at o e both = (
+  there_is s at o e both = (
     λ h. (slot_of m (seat_of s), slot_is s e, both.0 h),
     λ x. both.1 (subst (λ (t : Slot). Holds t.bounds.data at) (let f : Some (slot_of m (seat_of s)) ≡ Some x.0 = sym (slot_is s e) ∙ x.1 in let g : x.0 ≡ slot_of m (seat_of s) = cc in g) x.2),
   )
-
-  pub there_none : (at : ℕ) → slice_get all i ≡ None → (is_some {T = ℕ} None ≡ true ↔ ((t : Slot) × (slice_get (slots_of w) i ≡ Some t) × Holds t.bounds.data at))
-  there_none at e = (λ h. absurd (cc), λ x. absurd (let f : None ≡ Some x.0 = sym (slot_none e) ∙ x.1 in cc))

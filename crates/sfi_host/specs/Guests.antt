@@ -6,11 +6,11 @@ use Rattle.rv_mem.specs.Bytes.{Bytes, bytes_at, with_bytes}
 use Rattle.sfi_image.specs.declared.span.Span.{Span}
 use Rattle.sfi_host.specs.declared.guest.Guest.{Guest}
 use Rattle.sfi_host.specs.Hosts.{Call}
-use Rattle.sfi_host.specs.Regions.{bytes_in, bytes_outside, IsWhole}
+use Rattle.sfi_host.specs.Regions.{span_of, bytes_in, bytes_outside, IsWhole}
 
 -- the caller's data region
 abbrev pub data_of : {M : Type 0} → Guest M → Span
-data_of g = record { base = g.data_base; size = g.data_size }
+data_of g = span_of g.data
 
 -- what is asked; `bytes` gives the bytes of a memory
 abbrev pub asked : {M : Type 0} → (M → Bytes) → Guest M → Call

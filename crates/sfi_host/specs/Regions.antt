@@ -4,6 +4,11 @@ use Rattle.std.specs.FinMap.{retain_keys}
 use Rattle.rv_mem.specs.Bytes.{Bytes, byte_at}
 use Rattle.sfi_image.specs.declared.span.Span.{Span}
 use Rattle.sfi_image.specs.Spans.{Holds}
+use Rattle.sfi_host.specs.declared.region.Region.{Region}
+
+-- the addresses of a region of the program
+abbrev pub span_of : Region → Span
+span_of r = record { base = r.base; size = r.size }
 
 -- the region holds the address
 abbrev pub is_in : Span → ℕ → Bool

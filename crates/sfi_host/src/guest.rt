@@ -3,8 +3,8 @@ ghost use Rattle.std.specs.Prelude.{◌≡◌, ◌+◌, ◌^◌, ◌≤◌, ◌�
 ghost use Rattle.std.specs.Bool.{OnTrue, OnFalse};
 ghost use Rattle.rv_mem.specs.Bytes.{byte_at};
 ghost use Rattle.sfi_image.specs.Spans.{Holds};
-ghost use Rattle.sfi_host.specs.Regions.{is_in};
 
+use crate::region::Region;
 use rv_mem::{Memory, Width};
 
 /// What is asked at a gate, and by whom.
@@ -21,41 +21,25 @@ pub(crate) struct Request {
 #[derive(Drop)]
 pub struct Guest<'a, M: Memory> {
     memory: &'a mut M,
-    data_base: u32,
-    data_size: u32,
+    data: Region,
     request: Request,
 }
 
 impl<'a, M: Memory> Guest<'a, M> {
     ghost use Rattle.sfi_host.specs.Guests.{data_of, asked, outside, HasData, SameMemory, data_from, with_a0, with_a1, with_byte};
 
-    /// A caller with `data_size` data bytes from `data_base` on.
-    pub(crate) fn new(
-        memory: &'a mut M,
-        data_base: u32,
-        data_size: u32,
-        request: Request,
-    ) -> Guest<'a, M>
+    /// A caller with this data region.
+    pub(crate) fn new(memory: &'a mut M, region: Region, request: Request) -> Guest<'a, M>
         ensures same_reference { result.memory.ghost_name ≡ memory.entry.ghost_name }
         ensures memory { M.bytes result.memory.now ≡ M.bytes memory.old }
-        ensures base { result.data_base ≡ data_base }
-        ensures size { result.data_size ≡ data_size }
+        ensures region { result.data ≡ region }
         ensures request { result.request ≡ request }
     {
         Guest {
             memory,
-            data_base,
-            data_size,
+            data: region,
             request,
         }
-    }
-
-    // Whether the address is one of the caller's data region.
-    fn is_data(&self, at: u32) -> bool
-        ensures { result ≡ is_in (data_of self.now) at }
-    {
-        at >= self.data_base
-            && u64::from(at) < u64::from(self.data_base) + u64::from(self.data_size)
     }
 
     /// Whether each of the `count` addresses from `at` on is one of its data region. No address is asked for where `count`
@@ -68,8 +52,8 @@ impl<'a, M: Memory> Guest<'a, M> {
         if count == 0 {
             return true;
         }
-        let end = u64::from(self.data_base) + u64::from(self.data_size);
-        self.data_base <= at && u64::from(at) + u64::from(count) <= end
+        let end = u64::from(self.data.base) + u64::from(self.data.size);
+        self.data.base <= at && u64::from(at) + u64::from(count) <= end
     }
 
     /// The caller's number among the sandboxes.
@@ -105,13 +89,7 @@ impl<'a, M: Memory> Guest<'a, M> {
         ensures value { result ≡ byte_at (asked M.bytes self.now).bytes at }
         ensures there { HasData M.bytes self.now → (IsSome result ↔ Holds (data_of self.now) at) }
     {
-        if !self.is_data(at) {
-            return None;
-        }
-        match self.memory.load(at, Width::One) {
-            None => None,
-            Some(byte) => Some(byte as u8),
-        }
+        self.data.byte(&*self.memory, at)
     }
 
     /// Writes the byte at an address of its data region; `false` for every other address, and then nothing changed.
@@ -125,7 +103,7 @@ impl<'a, M: Memory> Guest<'a, M> {
         ensures outside { outside M.bytes self.new ≡ outside M.bytes self.old }
         ensures place { data_of self.new ≡ data_of self.old }
     {
-        if !self.is_data(at) {
+        if !self.data.holds(at) {
             return false;
         }
         self.memory.store(at, Width::One, u32::from(byte))

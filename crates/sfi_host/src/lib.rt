@@ -16,6 +16,7 @@ mod handing;
 pub mod laws;
 mod loading;
 mod plan;
+mod region;
 mod running;
 mod sandbox;
 mod services;

@@ -7,6 +7,7 @@ ghost use Rattle.sfi_image.specs.Parts.{IsRightPart, IsRightLayout};
 ghost use Rattle.sfi_host.specs.Loading.{first_hart, first_seat, with_part, with_parts};
 ghost use Rattle.sfi_host.specs.Sandboxes.{seat_of, seats_of};
 
+use crate::region::Region;
 use crate::sandbox::{Sandbox, register};
 use crate::status::Status;
 use rv_mem::Memory;
@@ -57,10 +58,14 @@ fn first_sandbox(alloc: Global, part: &SandboxPart<'_>) -> Result<Sandbox, Alloc
     let mut gates = Vec::with_capacity(alloc, part.gates.len())?;
     gates.extend_from_slice(&part.gates)?;
     Ok(Sandbox {
-        code_base: part.code_base,
-        code_size: part.code.len() as u32,
-        data_base: part.data_base,
-        data_size: part.data_size,
+        code: Region {
+            base: part.code_base,
+            size: part.code.len() as u32,
+        },
+        data: Region {
+            base: part.data_base,
+            size: part.data_size,
+        },
         gates,
         cpu: first_cpu(part),
         status: Status::Ready,

@@ -1,6 +1,7 @@
 //! One sandbox of a world.
 ghost use Rattle.std.specs.Prelude.{◌≡◌, ◌<◌};
 
+use crate::region::Region;
 use crate::status::Status;
 use rv_step::Cpu;
 use rv_word::Reg;
@@ -10,10 +11,8 @@ use sfi_image::Gate;
 /// memory.
 #[derive(Drop)]
 pub struct Sandbox {
-    pub code_base: u32,
-    pub code_size: u32,
-    pub data_base: u32,
-    pub data_size: u32,
+    pub code: Region,
+    pub data: Region,
     pub gates: Vec<Gate>,
     pub cpu: Cpu,
     pub status: Status,

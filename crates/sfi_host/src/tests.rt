@@ -7,6 +7,7 @@ ghost use Rattle.sfi_host.specs.Regions.{bytes_in, IsWhole};
 use crate::console::Console;
 use crate::gates::{GateAnswer, Gates};
 use crate::guest::{Guest, Request};
+use crate::region::Region;
 use crate::status::Status;
 use crate::turn::{RunAnswer, Turn};
 use crate::world::World;
@@ -18,8 +19,14 @@ use std::alloc::Global;
 use std::process::Abort;
 use std::test::Fail;
 
-/// The data region of the tests.
+/// Where the data region of the tests begins.
 const DATA: u32 = 0x0180_0000;
+
+/// The data region of the tests.
+const REGION: Region = Region {
+    base: DATA,
+    size: 256,
+};
 
 /// Whatever it is asked, it marks where a0 points and yields, with a0 as its number.
 #[derive(Clone, Copy, Debug, PartialEq, Eq)]
@@ -69,7 +76,7 @@ fn call<G: Gates>(gates: &mut G, memory: &mut Segments, request: Request) -> (Ga
     requires { IsWhole (record { base = 25165824; size = 256 }) (bytes_in (record { base = 25165824; size = 256 }) (bytes_of memory.old)) }
     ensures { IsWhole (record { base = 25165824; size = 256 }) (bytes_in (record { base = 25165824; size = 256 }) (bytes_of memory.new)) }
 {
-    let mut guest = Guest::new(memory, DATA, 256, request);
+    let mut guest = Guest::new(memory, REGION, request);
     let answer = gates.call(&mut guest);
     (answer, guest.arg0(), guest.arg1())
 }
@@ -86,7 +93,7 @@ fn request(sandbox: u32, service: u32, a0: u32, a1: u32) -> Request {
 #[test]
 fn a_guest_reaches_its_data_alone(rt: HostRuntime) {
     let mut memory = memory(&rt, rt.alloc(), &[72, 105]);
-    let mut guest = Guest::new(&mut memory, DATA, 256, request(3, 1, DATA, 2));
+    let mut guest = Guest::new(&mut memory, REGION, request(3, 1, DATA, 2));
     assert_eq!(rt; (guest.sandbox(), guest.service()), (3, 1));
     assert_eq!(rt; (guest.arg0(), guest.arg1()), (DATA, 2));
     assert_eq!(rt;

@@ -1,10 +1,7 @@
 //! Worlds.
 ghost use Rattle.std.specs.Prelude.{◌≡◌, ◌↔◌, ℕ, map, slice_get, IfOk, IsSome, Some};
 ghost use Rattle.std.specs.FinMap.{empty};
-ghost use Rattle.rv_mem.specs.Bytes.{byte_at};
 ghost use Rattle.sfi_image.specs.Spans.{Holds};
-ghost use Rattle.sfi_host.specs.Regions.{bytes_in, is_in, IsWhole};
-ghost use Rattle.sfi_host.specs.Sandboxes.{region};
 ghost use Rattle.sfi_host.specs.Joint.{Machine, IsMachine};
 ghost use Rattle.sfi_host.specs.Plans.{IsJoint, IsCutJoint};
 ghost use Rattle.sfi_host.specs.Slots.{Slot};
@@ -17,8 +14,8 @@ use crate::plan::take_turns;
 use crate::sandbox::Sandbox;
 use crate::status::Status;
 use crate::turn::{RunAnswer, Turn};
+use rv_mem::Memory;
 use rv_mem::laws::{addresses_are_these, others_stay, written_is_there};
-use rv_mem::{Memory, Width};
 use sfi_check::Accepted;
 use sfi_image::code_ends;
 use std::alloc::{AllocError, Global};
@@ -88,20 +85,16 @@ impl<M: Memory> World<M> {
     pub fn status(&self, i: u32) -> Option<Status>
         ensures { result ≡ status_at (slots_of self.now) i }
     {
-        match self.sandboxes.get(i as usize) {
-            None => None,
-            Some(sandbox) => Some(sandbox.status),
-        }
+        let sandbox = self.sandboxes.get(i as usize)?;
+        Some(sandbox.status)
     }
 
     /// How many steps it did, at most 2^64 - 1; `None` where there is none.
     pub fn steps(&self, i: u32) -> Option<u64>
         ensures { result ≡ steps_at (slots_of self.now) i }
     {
-        match self.sandboxes.get(i as usize) {
-            None => None,
-            Some(sandbox) => Some(sandbox.steps),
-        }
+        let sandbox = self.sandboxes.get(i as usize)?;
+        Some(sandbox.steps)
     }
 
     /// The byte at an address of its data region; `None` where there is no such sandbox, or the address lies elsewhere.
@@ -109,30 +102,7 @@ impl<M: Memory> World<M> {
         ensures value { result ≡ data_byte_of (slice_get (slots_of self.now) i) at }
         ensures there { IsSome result ↔ ((s : Slot) × (slice_get (slots_of self.now) i ≡ Some s) × Holds s.bounds.data at) }
     {
-        match self.sandboxes.get(i as usize) {
-            None => None,
-            Some(sandbox) => byte_in(&self.memory, sandbox.data_base, sandbox.data_size, at),
-        }
-    }
-}
-
-// Whether the address is one of so many from a first one on.
-fn holds(base: u32, size: u32, at: u32) -> bool
-    ensures { result ≡ is_in (region base size) at }
-{
-    at >= base && at - base < size
-}
-
-// The byte at an address, if it is one of so many from a first one on.
-fn byte_in<M: Memory>(memory: &M, base: u32, size: u32, at: u32) -> Option<u8>
-    ensures value { result ≡ byte_at (bytes_in (region base size) (M.bytes memory.now)) at }
-    ensures there { IsWhole (region base size) (M.bytes memory.now) → (IsSome result ↔ Holds (region base size) at) }
-{
-    if !holds(base, size, at) {
-        return None;
-    }
-    match memory.load(at, Width::One) {
-        None => None,
-        Some(byte) => Some(byte as u8),
+        let sandbox = self.sandboxes.get(i as usize)?;
+        sandbox.data.byte(&self.memory, at)
     }
 }

@@ -4,8 +4,8 @@ use Rattle.sfi_host.specs.Guests.{data_of}
 use Rattle.sfi_host.proofs.Kept.{byte_out, Puts, store_puts, put_there, put_kept, put_outside, put_whole, put_region}
 use Rattle.sfi_host.proofs.guest.Guest.put_byte.Goals as goal
 
-pub returns-then-not-is_data-clause-there : goal.returns-then-not-is_data-clause-there
-returns-then-not-is_data-clause-there g c =
+pub returns-then-not-holds-clause-there : goal.returns-then-not-holds-clause-there
+returns-then-not-holds-clause-there g c =
     let missing = byte_out (data_of c.args.self.now) (g.M.Memory.bytes c.args.self.now.memory.now) c.args.at (cc) in
     (λ t. ap is_some (sym missing) ∙ t, λ t. ap is_some missing ∙ t)
 
