@@ -10,7 +10,7 @@ use Rattle.sfi_host.specs.Regions.{span_of, bytes_in, bytes_outside, IsWhole}
 
 -- the caller's data region
 abbrev pub data_of : {M : Type 0} → Guest M → Span
-data_of g = span_of g.data
+data_of g = span_of g.region
 
 -- what is asked; `bytes` gives the bytes of a memory
 abbrev pub asked : {M : Type 0} → (M → Bytes) → Guest M → Call

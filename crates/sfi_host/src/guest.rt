@@ -21,7 +21,7 @@ pub(crate) struct Request {
 #[derive(Drop)]
 pub struct Guest<'a, M: Memory> {
     memory: &'a mut M,
-    data: Region,
+    region: Region,
     request: Request,
 }
 
@@ -32,12 +32,12 @@ impl<'a, M: Memory> Guest<'a, M> {
     pub(crate) fn new(memory: &'a mut M, region: Region, request: Request) -> Guest<'a, M>
         ensures same_reference { result.memory.ghost_name ≡ memory.entry.ghost_name }
         ensures memory { M.bytes result.memory.now ≡ M.bytes memory.old }
-        ensures region { result.data ≡ region }
+        ensures region { result.region ≡ region }
         ensures request { result.request ≡ request }
     {
         Guest {
             memory,
-            data: region,
+            region,
             request,
         }
     }
@@ -52,8 +52,8 @@ impl<'a, M: Memory> Guest<'a, M> {
         if count == 0 {
             return true;
         }
-        let end = u64::from(self.data.base) + u64::from(self.data.size);
-        self.data.base <= at && u64::from(at) + u64::from(count) <= end
+        let end = u64::from(self.region.base) + u64::from(self.region.size);
+        self.region.base <= at && u64::from(at) + u64::from(count) <= end
     }
 
     /// The caller's number among the sandboxes.
@@ -89,7 +89,7 @@ impl<'a, M: Memory> Guest<'a, M> {
         ensures value { result ≡ byte_at (asked M.bytes self.now).bytes at }
         ensures there { HasData M.bytes self.now → (IsSome result ↔ Holds (data_of self.now) at) }
     {
-        self.data.byte(&*self.memory, at)
+        self.region.byte(&*self.memory, at)
     }
 
     /// Writes the byte at an address of its data region; `false` for every other address, and then nothing changed.
@@ -103,7 +103,7 @@ impl<'a, M: Memory> Guest<'a, M> {
         ensures outside { outside M.bytes self.new ≡ outside M.bytes self.old }
         ensures place { data_of self.new ≡ data_of self.old }
     {
-        if !self.data.holds(at) {
+        if !self.region.holds(at) {
             return false;
         }
         self.memory.store(at, Width::One, u32::from(byte))
