@@ -21,7 +21,7 @@ use Rattle.clap.specs.Simple.{App, is_simple, subcommand_of, subcommand_rows, Ha
 use Rattle.clap.specs.declared.parser.matches.ArgMatches.{ArgMatches}
 use Rattle.clap.specs.declared.parser.matches.ArgMatches.TheViews.{out-ArgMatches}
 use Rattle.clap.proofs.OnLiterals.{clap_on_literals}
-use Rattle.sfi_tool.specs.Command.{sfi, quantum_most, rounds_most, Names, NamesNoInput, Asks, AsksNothing, IsCount, IsFaultOf, IsFaultOfNamed, IsInputFault, IsInputOf}
+use Rattle.sfi_tool.specs.Command.{sfi, quantum_most, rounds_most, Names, NamesNoInput, NamesNothing, Asks, IsCount, IsFaultOf, IsFaultOfNamed, IsInputFault, IsInputOf, IsNoInput}
 use Rattle.sfi_tool.specs.Numbers.{number_of}
 use Rattle.sfi_tool.specs.declared.job.Job.{Job}
 use Rattle.sfi_tool.specs.declared.job.Job.TheVariants.{Check, Dis, Build, Run}
@@ -74,7 +74,10 @@ asked words named r parses met h =
 -- and its fault is that of the words
 pub fault_asked : (words : List Text) (named : Option (Text × List Row)) (fault : JobFault) → fault_of sfi words ≡ [] → subcommand_of sfi words ≡ named
     → IsFaultOfNamed named fault → IsFaultOf words fault
-fault_asked words named (Usage text) parses met none = λ job asks. none job (subst (λ (o : Option (Text × List Row)). Names o job) met asks.names)
+fault_asked words named (Usage text) parses met none = record {
+  no_job = λ job asks. none.no_job job (subst (λ (o : Option (Text × List Row)). Names o job) met asks.names);
+  no_run = λ asks. none.no_run (subst (λ (o : Option (Text × List Row)). NamesNoInput o) met asks.names);
+}
 fault_asked words named Hex parses met none = record { parses = parses; names = subst (λ (o : Option (Text × List Row)). NamesNoInput o) (sym met) none }
 fault_asked words named Memory parses met none = tt
 
@@ -82,15 +85,15 @@ pub unasked : (words : List Text) (named : Option (Text × List Row)) (r : Resul
     → IfErr r (IsFaultOfNamed named) → IfErr r (IsFaultOf words)
 unasked words named r parses met h = IfErr-weaker r (IsFaultOfNamed named) (IsFaultOf words) (λ fault. fault_asked words named fault parses met) h
 
--- words whose options are no run's ask for none
-pub usage_of_named : (named : Option (Text × List Row)) (fault : JobFault) → (number_of fault ≡ 2 → ⊥) → ((job : Job) → ¬ Names named job) → IsFaultOfNamed named fault
+-- a subcommand that names nothing has no other fault
+pub usage_of_named : (named : Option (Text × List Row)) (fault : JobFault) → (number_of fault ≡ 2 → ⊥) → NamesNothing named → IsFaultOfNamed named fault
 usage_of_named named (Usage text) other none = none
 usage_of_named named Hex other none = absurd (other refl)
 usage_of_named named Memory other none = tt
 
 -- no subcommand asks for anything
 pub none_asked : (fault : JobFault) → (number_of fault ≡ 2 → ⊥) → IsFaultOfNamed None fault
-none_asked fault other = usage_of_named None fault other (λ job names. names)
+none_asked fault other = usage_of_named None fault other (record { no_job = λ job names. names; no_run = λ names. names })
 
 -- an option with this value, and one without
 pub given_some : (f : Found) (id v : Text) (b : Bool) → Some v ≡ first_value f id → b ≡ bytes_eq v (codes "true")
@@ -184,18 +187,31 @@ undecoded f id v w error fault e same kinds refused other =
 not_run : (t : Text) (first : ℕ) → codes "run" ≡ t → slice_index t 0 ≡ first → first ≢ 114 → ⊥
 not_run t first e is differs = differs (sym is ∙ ap (λ (u : Text). slice_index u 0) (sym e))
 
--- a run without rounds, or without a quantum, is no job
-pub no_rounds : (rows : List Row) → ((n : ℕ) → ¬ IsCount (codes "rounds") rounds_most rows n) → (job : Job) → ¬ Names (Some (codes "run", rows)) job
-no_rounds rows none (Check report) names = not_run _ 99 names.0 refl (λ e. absurd (omega (arith, e)))
-no_rounds rows none Dis names = not_run _ 100 names refl (λ e. absurd (omega (arith, e)))
-no_rounds rows none Build names = not_run _ 98 names refl (λ e. absurd (omega (arith, e)))
-no_rounds rows none (Run rounds quantum input) names = none rounds names.1
+-- an input that spells bytes is no other
+spelled : (text : Option Text) (bytes : List ℕ) → IsInputOf text bytes → ¬ IsNoInput text
+spelled None bytes spells none = none
+spelled (Some text) bytes spells none = absurd (cc)
 
-pub no_quantum : (rows : List Row) → ((n : ℕ) → ¬ IsCount (codes "quantum") quantum_most rows n) → (job : Job) → ¬ Names (Some (codes "run", rows)) job
-no_quantum rows none (Check report) names = not_run _ 99 names.0 refl (λ e. absurd (omega (arith, e)))
-no_quantum rows none Dis names = not_run _ 100 names refl (λ e. absurd (omega (arith, e)))
-no_quantum rows none Build names = not_run _ 98 names refl (λ e. absurd (omega (arith, e)))
-no_quantum rows none (Run rounds quantum input) names = none quantum names.2
+-- a run with an input, but without rounds or without a quantum, names nothing
+pub no_rounds : (rows : List Row) (bytes : List ℕ) → IsInputOf (first_of (codes "input") rows) bytes
+    → ((n : ℕ) → ¬ IsCount (codes "rounds") rounds_most rows n) → NamesNothing (Some (codes "run", rows))
+no_rounds rows bytes spells none = record { no_job = no_job; no_run = λ names. spelled (first_of (codes "input") rows) bytes spells names.1 }
+  where
+    no_job : (job : Job) → ¬ Names (Some (codes "run", rows)) job
+    no_job (Check report) names = not_run _ 99 names.0 refl (λ e. absurd (omega (arith, e)))
+    no_job Dis names = not_run _ 100 names refl (λ e. absurd (omega (arith, e)))
+    no_job Build names = not_run _ 98 names refl (λ e. absurd (omega (arith, e)))
+    no_job (Run rounds quantum input) names = none rounds names.1
+
+pub no_quantum : (rows : List Row) (bytes : List ℕ) → IsInputOf (first_of (codes "input") rows) bytes
+    → ((n : ℕ) → ¬ IsCount (codes "quantum") quantum_most rows n) → NamesNothing (Some (codes "run", rows))
+no_quantum rows bytes spells none = record { no_job = no_job; no_run = λ names. spelled (first_of (codes "input") rows) bytes spells names.1 }
+  where
+    no_job : (job : Job) → ¬ Names (Some (codes "run", rows)) job
+    no_job (Check report) names = not_run _ 99 names.0 refl (λ e. absurd (omega (arith, e)))
+    no_job Dis names = not_run _ 100 names refl (λ e. absurd (omega (arith, e)))
+    no_job Build names = not_run _ 98 names refl (λ e. absurd (omega (arith, e)))
+    no_job (Run rounds quantum input) names = none quantum names.2
 
 -- ---- words that don't parse
 
@@ -203,11 +219,14 @@ no_quantum rows none (Run rounds quantum input) names = none quantum names.2
 pub unparsed : (a : App) (words : List Text) (error : Error) (fault : JobFault) → a ≡ sfi
     → (is_simple_and_free a ≡ true → HasKind (fault_of a words) error) → (number_of fault ≡ 1 → kind_of error ≢ kind.OutOfMemory) → number_of fault ≢ 2
     → IsFaultOf words fault
-unparsed a words error (Usage text) is kinds refused other = λ job asks.
-    let none : fault_of a words ≡ [] = ap (λ (x : App). fault_of x words) is ∙ asks.parses in
-    elim (subst (λ ks. HasKind ks error) none (kinds (ap is_simple_and_free is ∙ free))) [
-      | inl memory ↦ refused refl memory
-      | inr among ↦ among
-    ]
+unparsed a words error (Usage text) is kinds refused other = record { no_job = λ job asks. unread asks.parses; no_run = λ asks. unread asks.parses }
+  where
+    unread : fault_of sfi words ≢ []
+    unread parses =
+        let none : fault_of a words ≡ [] = ap (λ (x : App). fault_of x words) is ∙ parses in
+        elim (subst (λ ks. HasKind ks error) none (kinds (ap is_simple_and_free is ∙ free))) [
+          | inl memory ↦ refused refl memory
+          | inr among ↦ among
+        ]
 unparsed a words error Hex is kinds refused other = absurd (other refl)
 unparsed a words error Memory is kinds refused other = tt

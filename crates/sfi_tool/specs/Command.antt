@@ -109,10 +109,6 @@ pub record Asks (words : List Text) (job : Job) : Type 0 where
 
 -- ---- faults
 
--- the words don't parse, or name no job
-abbrev pub AsksNothing : List Text → Type 0
-AsksNothing words = (job : Job) → ¬ Asks words job
-
 -- the subcommand is a run whose input spells no bytes
 abbrev pub NamesNoInput : Option (Text × List Row) → Type 0
 NamesNoInput None = ⊥
@@ -123,19 +119,31 @@ pub record AsksNoInput (words : List Text) : Type 0 where
   pub parses : fault_of sfi words ≡ []
   pub names : NamesNoInput (subcommand_of sfi words)
 
--- usage is the fault only of words that ask for no job, and Hex of a run whose input spells no bytes
+-- the words don't parse, or name neither a job nor a run whose input spells no bytes
+pub record AsksNothing (words : List Text) : Type 0 where
+  pub no_job : (job : Job) → ¬ Asks words job
+  pub no_run : ¬ AsksNoInput words
+
+-- usage is the fault only of words that ask for nothing, and Hex of a run whose input spells no bytes
 abbrev pub IsFaultOf : List Text → JobFault → Type 0
 IsFaultOf words (Usage text) = AsksNothing words
 IsFaultOf words Hex = AsksNoInput words
 IsFaultOf words Memory = Unit {0}
 
--- the same of a subcommand, with what was found for its options (a word of private contracts)
+-- ---- for private contracts
+
+-- the subcommand is neither a job nor a run whose input spells no bytes
+pub record NamesNothing (named : Option (Text × List Row)) : Type 0 where
+  pub no_job : (job : Job) → ¬ Names named job
+  pub no_run : ¬ NamesNoInput named
+
+-- the fault of a subcommand, with what was found for its options
 abbrev pub IsFaultOfNamed : Option (Text × List Row) → JobFault → Type 0
-IsFaultOfNamed named (Usage text) = (job : Job) → ¬ Names named job
+IsFaultOfNamed named (Usage text) = NamesNothing named
 IsFaultOfNamed named Hex = NamesNoInput named
 IsFaultOfNamed named Memory = Unit {0}
 
--- the same of the text of a run's input
+-- the fault of the text of a run's input
 abbrev pub IsInputFault : Option Text → JobFault → Type 0
 IsInputFault input (Usage text) = ⊥
 IsInputFault input Hex = IsNoInput input

@@ -18,7 +18,7 @@ const ROUNDS_MOST: u32 = 10000;
 
 const QUANTUM_MOST: u32 = 1000000;
 
-// `check [--report]`.
+/// `check [--report]`.
 fn check_command<'a>(alloc: Global) -> Result<Command<'a>, AllocError>
     ensures { IfOk result (IsCommandOf check) }
 {
@@ -28,7 +28,7 @@ fn check_command<'a>(alloc: Global) -> Result<Command<'a>, AllocError>
     Command::new(alloc, "check").arg(report)
 }
 
-// `--rounds N`.
+/// `--rounds N`.
 fn rounds_arg<'a>(alloc: Global) -> Arg<'a>
     ensures rule { rule_of result ≡ count_rule (codes "rounds") (codes "1") rounds_most }
     ensures local { result.global ≡ false }
@@ -39,7 +39,7 @@ fn rounds_arg<'a>(alloc: Global) -> Arg<'a>
         .value_parser(value_parser!(u32).range(1..=10000))
 }
 
-// `--quantum Q`.
+/// `--quantum Q`.
 fn quantum_arg<'a>(alloc: Global) -> Arg<'a>
     ensures rule { rule_of result ≡ count_rule (codes "quantum") (codes "1000") quantum_most }
     ensures local { result.global ≡ false }
@@ -50,7 +50,7 @@ fn quantum_arg<'a>(alloc: Global) -> Arg<'a>
         .value_parser(value_parser!(u32).range(1..=1000000))
 }
 
-// `run [--rounds N] [--quantum Q] [--input HEX]`.
+/// `run [--rounds N] [--quantum Q] [--input HEX]`.
 fn run_command<'a>(alloc: Global) -> Result<Command<'a>, AllocError>
     ensures { IfOk result (IsCommandOf run) }
 {
@@ -61,7 +61,7 @@ fn run_command<'a>(alloc: Global) -> Result<Command<'a>, AllocError>
     run.arg(rounds)?.arg(quantum)?.arg(input)
 }
 
-// The program with its subcommands.
+/// The program with its subcommands.
 fn command<'a>(alloc: Global) -> Result<Command<'a>, AllocError>
     ensures { IfOk result (λ c. app_of c ≡ sfi) }
 {
@@ -74,7 +74,7 @@ fn command<'a>(alloc: Global) -> Result<Command<'a>, AllocError>
     program.subcommand(build)?.subcommand(run)
 }
 
-// What is printed for words that don't parse, or ask for help.
+/// What is printed for words that don't parse, or ask for help.
 fn usage(alloc: Global, error: Error) -> JobFault
     ensures refused { number_of result ≡ 1 → kind_of error ≢ ErrorKind.OutOfMemory }
     ensures other { number_of result ≢ 2 }
@@ -88,6 +88,7 @@ fn usage(alloc: Global, error: Error) -> JobFault
     }
 }
 
+/// The fault of words that parse and name no job.
 fn no_command(alloc: Global) -> JobFault
     ensures { number_of result ≢ 2 }
 {
@@ -97,7 +98,7 @@ fn no_command(alloc: Global) -> JobFault
     }
 }
 
-// Whether the option was given, which takes no value.
+/// Whether the option was given, which takes no value.
 fn is_given(found: &ArgMatches<'_>, option: &str) -> bool
     ensures { IsGiven option.now (rows_of (found_of found.now)) result }
 {
@@ -107,7 +108,7 @@ fn is_given(found: &ArgMatches<'_>, option: &str) -> bool
     }
 }
 
-// The number that the option's text is, from 1 to the most.
+/// The number that the option's text is, from 1 to the most.
 fn count_of(found: &ArgMatches<'_>, option: &str, most: u32) -> Option<u32>
     ensures some { IfSome result (IsCount option.now most (rows_of (found_of found.now))) }
     ensures none { result ≡ None → (n : ℕ) → ¬ IsCount option.now most (rows_of (found_of found.now)) n }
@@ -119,7 +120,7 @@ fn count_of(found: &ArgMatches<'_>, option: &str, most: u32) -> Option<u32>
     }
 }
 
-// The fault of a text that didn't decode.
+/// The fault of a text that didn't decode.
 fn hex_fault(error: FromHexError) -> JobFault
     ensures refused { number_of result ≡ 2 → error ≢ FromHexError.OutOfMemory }
     ensures other { number_of result ≢ 1 }
@@ -132,7 +133,7 @@ fn hex_fault(error: FromHexError) -> JobFault
     }
 }
 
-// The bytes that the text of `--input` spells, or none where it wasn't given.
+/// The bytes that the text of `--input` spells, or none where it wasn't given.
 fn input_of(alloc: Global, found: &ArgMatches<'_>) -> Result<Vec<u8>, JobFault>
     ensures bytes { IfOk result (λ bytes. IsInputOf (first_of (codes "input") (rows_of (found_of found.now))) bytes.items) }
     ensures fault { IfErr result (IsInputFault (first_of (codes "input") (rows_of (found_of found.now)))) }
@@ -146,18 +147,18 @@ fn input_of(alloc: Global, found: &ArgMatches<'_>) -> Result<Vec<u8>, JobFault>
     }
 }
 
-// The run that these options ask for.
+/// The run that these options ask for.
 fn run_of(alloc: Global, found: &ArgMatches<'_>) -> Result<Job, JobFault>
     ensures job { IfOk result (Names (Some (codes "run", rows_of (found_of found.now)))) }
     ensures fault { IfErr result (IsFaultOfNamed (Some (codes "run", rows_of (found_of found.now)))) }
 {
+    let input = input_of(alloc, found)?;
     let Some(rounds) = count_of(found, "rounds", ROUNDS_MOST) else {
         return Err(no_command(alloc));
     };
     let Some(quantum) = count_of(found, "quantum", QUANTUM_MOST) else {
         return Err(no_command(alloc));
     };
-    let input = input_of(alloc, found)?;
     Ok(Job::Run {
         rounds,
         quantum,
@@ -165,7 +166,7 @@ fn run_of(alloc: Global, found: &ArgMatches<'_>) -> Result<Job, JobFault>
     })
 }
 
-// The job that the subcommand of this name asks for, with what was found for its options.
+/// The job that the subcommand of this name asks for, with what was found for its options.
 fn job_named(alloc: Global, name: &str, found: &ArgMatches<'_>) -> Result<Job, JobFault>
     ensures job { IfOk result (Names (Some (name.now, rows_of (found_of found.now)))) }
     ensures fault { IfErr result (IsFaultOfNamed (Some (name.now, rows_of (found_of found.now)))) }

@@ -7,10 +7,11 @@ use Rattle.sfi_tool.proofs.command_line.run_of.Goals as goal
 pub returns-in_default-clause-fault : goal.returns-in_default-clause-fault
 returns-in_default-clause-fault c =
     usage_of_named (Some (codes "run", rows_of (found_of c.args.found.now))) c.no_command.result c.no_command.ensures
-    (no_rounds (rows_of (found_of c.args.found.now)) (c.count_of.ensures.none c.in_default.is))
+    (no_rounds (rows_of (found_of c.args.found.now)) c.in_ok-input.input.items c.in_ok-input.ensures.bytes (c.count_of.ensures.none c.in_default.is))
 
 pub returns-in_default-count_of-clause-fault : goal.returns-in_default-count_of-clause-fault
 returns-in_default-count_of-clause-fault c =
     usage_of_named (Some (codes "run", rows_of (found_of c.args.found.now)))
     c.no_command-in_default-count_of.result c.no_command-in_default-count_of.ensures
-    (no_quantum (rows_of (found_of c.args.found.now)) (c.count_of-2.ensures.none c.in_default-count_of.is))
+    (no_quantum (rows_of (found_of c.args.found.now)) c.in_ok-input.input.items c.in_ok-input.ensures.bytes
+    (c.count_of-2.ensures.none c.in_default-count_of.is))
