@@ -4,8 +4,9 @@ ghost use Rattle.sfi_report.specs.Digits.{hex_digits, word_digits};
 
 use std::alloc::AllocError;
 
-/// Writes eight digits behind the text.
-pub(crate) fn push_eight(out: &mut String, number: u32) -> Result<(), AllocError>
+/// Writes the number in eight hexadecimal digits, in lower case, behind the text. The one error is that an allocation was
+/// refused.
+pub fn push_eight(out: &mut String, number: u32) -> Result<(), AllocError>
     ensures { OnOk result (string_bytes out.new ≡ string_bytes out.old ++ hex_digits 8 number) }
 {
     write!(out, "{number:08x}")

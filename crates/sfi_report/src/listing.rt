@@ -31,7 +31,7 @@ fn push_instruction(
     out.push_str("\n")
 }
 
-/// Writes the line of the bytes that a reading leaves, if any.
+/// Writes the line of the bytes that a reading leaves.
 fn push_rest(out: &mut String, address: u32, bytes: &[u8]) -> Result<(), AllocError>
     requires { 0 < length bytes.now }
     ensures { OnOk result (string_bytes out.new ≡ string_bytes out.old ++ rest_line address bytes.now) }

@@ -1,14 +1,14 @@
 //! The lines that say what became of the sandboxes of a run.
 
-ghost use Rattle.std.specs.Prelude.{◌≡◌, IfOk, slice_get, string_bytes};
+ghost use Rattle.std.specs.Prelude.{◌≡◌, ◌++◌, OnOk, IfOk, slice_get, string_bytes};
 ghost use Rattle.sfi_host.specs.Consoles.{output_of};
 ghost use Rattle.sfi_host.specs.Worlds.{slots_of};
 ghost use Rattle.sfi_tool.specs.RunLines.{cause_name, line_of, run_line, run_lines, state_text};
 
-use crate::verdict::address_text;
 use rv_mem::Memory;
 use rv_step::Cause;
 use sfi_host::{Console, Status, World};
+use sfi_report::push_eight;
 use std::alloc::{AllocError, Global};
 
 fn cause_name(cause: Cause) -> &'static str
@@ -23,56 +23,60 @@ fn cause_name(cause: Cause) -> &'static str
     }
 }
 
-/// What a sandbox may still do.
-fn state_text(alloc: Global, status: Status) -> Result<String, AllocError>
-    ensures { IfOk result (λ text. string_bytes text ≡ state_text status) }
+/// Writes what a sandbox may still do.
+fn push_state(out: &mut String, status: Status) -> Result<(), AllocError>
+    ensures { OnOk result (string_bytes out.new ≡ string_bytes out.old ++ state_text status) }
 {
     match status {
-        Status::Ready => String::from_str(alloc, "ready"),
-        Status::Exited(number) => format!(in alloc; "exit={number}"),
+        Status::Ready => out.push_str("ready"),
+        Status::Exited(number) => write!(out, "exit={number}"),
         Status::Trapped(cause, address) => {
             let name = cause_name(cause);
-            let at = address_text(alloc, address)?;
-            format!(in alloc; "trap={name} at={at}")
+            write!(out, "trap={name} at=")?;
+            push_eight(out, address)
         }
     }
 }
 
-/// The line of a sandbox with that output.
-fn run_line(
+/// Writes the line of a sandbox with that output.
+fn push_run_line(
     alloc: Global,
+    out: &mut String,
     sandbox: u32,
     status: Status,
     steps: u64,
     output: &[u8],
-) -> Result<String, AllocError>
-    ensures { IfOk result (λ line. string_bytes line ≡ run_line sandbox status steps output.now) }
+) -> Result<(), AllocError>
+    ensures { OnOk result (string_bytes out.new
+        ≡ string_bytes out.old ++ run_line sandbox status steps output.now) }
 {
-    let state = state_text(alloc, status)?;
     let digits = hex::encode(alloc, output)?;
-    format!(in alloc; "sandbox={sandbox} {state} steps={steps} out={digits}\n")
+    write!(out, "sandbox={sandbox} ")?;
+    push_state(out, status)?;
+    write!(out, " steps={steps} out={digits}\n")
 }
 
-/// The line of the sandbox of that number; none where there is no such sandbox.
-fn line_of<M: Memory>(
+/// Writes the line of the sandbox of that number; none where there is no such sandbox.
+fn push_line_of<M: Memory>(
     alloc: Global,
+    out: &mut String,
     sandbox: u32,
     world: &World<M>,
     console: &Console,
-) -> Result<String, AllocError>
-    ensures { IfOk result (λ line. string_bytes line
-        ≡ line_of sandbox (slice_get (slots_of world.now) sandbox) (output_of console.now sandbox)) }
+) -> Result<(), AllocError>
+    ensures { OnOk result (string_bytes out.new ≡ string_bytes out.old
+        ++ line_of sandbox (slice_get (slots_of world.now) sandbox) (output_of console.now sandbox)) }
 {
     let Some(status) = world.status(sandbox) else {
-        return Ok(String::new(alloc));
+        return Ok(());
     };
     let Some(steps) = world.steps(sandbox) else {
-        return Ok(String::new(alloc));
+        return Ok(());
     };
     let Some(output) = console.output(sandbox) else {
-        return Ok(String::new(alloc));
+        return Ok(());
     };
-    run_line(alloc, sandbox, status, steps, output)
+    push_run_line(alloc, out, sandbox, status, steps, output)
 }
 
 /// The lines of the first sandboxes, so many, in order.
@@ -86,8 +90,7 @@ pub(crate) fn run_lines<M: Memory>(
 {
     let mut text = String::new(alloc);
     for sandbox in 0..count {
-        let line = line_of(alloc, sandbox, world, console)?;
-        text.push_str(&line)?;
+        push_line_of(alloc, &mut text, sandbox, world, console)?;
     }
     Ok(text)
 }

@@ -1,10 +1,10 @@
 //! What a command answers.
 
 ghost use Rattle.std.specs.Prelude.{◌≡◌, ◌<◌, IfOk, string_bytes, length};
-ghost use Rattle.sfi_report.specs.Digits.{hex_digits};
 ghost use Rattle.sfi_tool.specs.Verdict.{accepted_line, refused_line};
 
 use sfi_check::Accepted;
+use sfi_report::push_eight;
 use sfi_scan::Finding;
 use std::alloc::{AllocError, Global};
 
@@ -26,13 +26,6 @@ pub(crate) fn accepted_line(alloc: Global, accepted: &Accepted<'_>) -> Result<St
     format!(in alloc; "accepted sandboxes={sandboxes} bundles={bundles}\n")
 }
 
-// The address in eight lower hexadecimal digits.
-pub(crate) fn address_text(alloc: Global, address: u32) -> Result<String, AllocError>
-    ensures { IfOk result (λ text. string_bytes text ≡ hex_digits 8 address) }
-{
-    format!(in alloc; "{address:08x}")
-}
-
 /// The verdict on an image with these findings.
 pub(crate) fn refused_line(alloc: Global, findings: &[Finding]) -> Result<String, AllocError>
     requires { 0 < length findings.now }
@@ -45,6 +38,10 @@ pub(crate) fn refused_line(alloc: Global, findings: &[Finding]) -> Result<String
         rule,
     } = findings[0];
     let number = rule.number();
-    let at = address_text(alloc, address)?;
-    format!(in alloc; "refused findings={count} first=V{number} sandbox={sandbox} at={at}\n")
+    let mut line = format!(in alloc;
+        "refused findings={count} first=V{number} sandbox={sandbox} at="
+    )?;
+    push_eight(&mut line, address)?;
+    line.push_str("\n")?;
+    Ok(line)
 }
