@@ -2,7 +2,7 @@
 
 ghost use Rattle.std.specs.Prelude.{IfOk, IfErr, IsErr, string_bytes};
 ghost use Rattle.sfi_check.specs.Verdict.{HasFindings};
-ghost use Rattle.sfi_tool.specs.Says.{AnswersStatus, HasInputFault, IsDone, IsRefused, IsReportOf, IsStop, Says, SaysRefused};
+ghost use Rattle.sfi_tool.specs.Says.{AnswersStatus, HasInputFault, IsDone, IsRefusalText, IsRefused, IsReportOf, IsStop, Says};
 ghost use Rattle.sfi_tool.specs.declared.job.Job.TheVariants.{Check};
 
 use crate::fault::Stop;
@@ -29,26 +29,23 @@ fn reported(alloc: Global, bytes: &[u8], findings: &[Finding]) -> Result<String,
     }
 }
 
-/// The verdict on an image with these findings. With the report a line for each goes before it.
-fn refused(
+/// The line of the first of an image's findings. With the report a line for each finding goes before it.
+fn refusal_text(
     alloc: Global,
     report: bool,
     bytes: &[u8],
     findings: &[Finding],
-) -> Result<Answer, AllocError>
+) -> Result<String, AllocError>
     requires { HasFindings bytes.now findings.now }
-    ensures { IfOk result (λ a. SaysRefused report bytes.now a.status (string_bytes a.text)) }
+    ensures { IfOk result (λ text. IsRefusalText report bytes.now findings.now (string_bytes text)) }
 {
     let verdict = refused_line(alloc, findings)?;
     if !report {
-        return Ok(Answer {
-            status: 1,
-            text: verdict,
-        });
+        return Ok(verdict);
     }
     let mut text = reported(alloc, bytes, findings)?;
     text.push_str(&verdict)?;
-    Ok(Answer { status: 1, text })
+    Ok(text)
 }
 
 /// The verdict on the image that the text spells, with a report on its findings or without.
@@ -65,10 +62,10 @@ pub(crate) fn checked(alloc: Global, report: bool, text: &[u8]) -> Result<Answer
             status: 0,
             text: accepted_line(alloc, &accepted)?,
         }),
-        Err(Refusal::Findings(findings)) => {
-            let answer = refused(alloc, report, bytes.as_slice(), findings.as_slice())?;
-            Ok(answer)
-        }
+        Err(Refusal::Findings(findings)) => Ok(Answer {
+            status: 1,
+            text: refusal_text(alloc, report, bytes.as_slice(), findings.as_slice())?,
+        }),
         Err(Refusal::Layout(fault)) => Err(Stop::Layout(fault)),
         Err(Refusal::Memory) => Err(Stop::Memory),
     }
