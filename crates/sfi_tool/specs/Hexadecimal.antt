@@ -24,12 +24,12 @@ IsUnreadable text = (limit < length text) ⊎ IsNoHexadecimal text
 
 -- ---- for private contracts
 
--- a fault is named only of such a text
-abbrev pub IsTextStop : List ℕ → Stop → Type 0
-IsTextStop text (Input fault) = IsUnreadable text
-IsTextStop text (Layout fault) = ⊥
-IsTextStop text (Build fault) = ⊥
-IsTextStop text Memory = Unit {0}
+-- a fault of the text is named only where this holds, and no other fault is
+abbrev pub IsInputStop : Type 0 → Stop → Type 0
+IsInputStop wrong (Input fault) = wrong
+IsInputStop wrong (Layout fault) = ⊥
+IsInputStop wrong (Build fault) = ⊥
+IsInputStop wrong Memory = Unit {0}
 
 -- the answer is these bytes, or memory ran out
 abbrev pub GivesBytes : {Z : Type 0} → List ℕ → Result (Vec ℕ Z) Stop → Type 0
@@ -38,10 +38,3 @@ GivesBytes bytes (Err (Input fault)) = ⊥
 GivesBytes bytes (Err (Layout fault)) = ⊥
 GivesBytes bytes (Err (Build fault)) = ⊥
 GivesBytes bytes (Err Memory) = Unit {0}
-
--- a fault is named only where the digits spell no bytes
-abbrev pub IsDigitStop : List ℕ → Stop → Type 0
-IsDigitStop text (Input fault) = IsNoHexadecimal text
-IsDigitStop text (Layout fault) = ⊥
-IsDigitStop text (Build fault) = ⊥
-IsDigitStop text Memory = Unit {0}

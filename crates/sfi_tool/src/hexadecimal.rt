@@ -2,7 +2,7 @@
 
 ghost use Rattle.std.specs.Prelude.{◌≡◌, ◌≤◌, ℕ, List, not, IfOk, IfErr, IsErr, Ok, filter, length};
 ghost use Rattle.hex.specs.Hex.{decode_of, hex_digit_value};
-ghost use Rattle.sfi_tool.specs.Hexadecimal.{is_kept, GivesBytes, IsDigitStop, IsTextStop, IsUnreadable, SpellsBytes};
+ghost use Rattle.sfi_tool.specs.Hexadecimal.{is_kept, GivesBytes, IsInputStop, IsNoHexadecimal, IsUnreadable, SpellsBytes};
 
 use crate::fault::{InputFault, Stop};
 use crate::input::INPUT_LIMIT;
@@ -19,9 +19,9 @@ fn digit_value(digit: u8) -> Option<u8>
     ensures { result ≡ hex_digit_value digit }
 {
     match digit {
-        b'A'..=b'F' => Some(digit - 55),
-        b'a'..=b'f' => Some(digit - 87),
-        b'0'..=b'9' => Some(digit - 48),
+        b'A'..=b'F' => Some(digit - b'A' + 10),
+        b'a'..=b'f' => Some(digit - b'a' + 10),
+        b'0'..=b'9' => Some(digit - b'0'),
         _ => None,
     }
 }
@@ -43,10 +43,10 @@ fn digit_fault(text: &[u8], at: usize) -> InputFault
     }
 }
 
-// The bytes that the text's digits spell, each made as its second digit is met.
+/// The bytes that the text's digits spell, each made as its second digit is met.
 fn decoded(alloc: Global, text: &[u8]) -> Result<Vec<u8>, Stop>
     ensures bytes { IfOk result (λ v. decode_of (filter is_kept text.now) ≡ Ok v.items) }
-    ensures stop { IfErr result (IsDigitStop text.now) }
+    ensures stop { IfErr result (IsInputStop (IsNoHexadecimal text.now)) }
 {
     let mut bytes = Vec::with_capacity(alloc, text.len() / 2)?;
     let mut high = None;
@@ -76,7 +76,7 @@ fn decoded(alloc: Global, text: &[u8]) -> Result<Vec<u8>, Stop>
 /// The bytes that the text spells. A text above its limit goes first, and then an odd number of digits.
 pub(crate) fn bytes_of(alloc: Global, text: &[u8]) -> Result<Vec<u8>, Stop>
     ensures bytes { IfOk result (λ v. SpellsBytes text.now v.items) }
-    ensures stop { IfErr result (IsTextStop text.now) }
+    ensures stop { IfErr result (IsInputStop (IsUnreadable text.now)) }
     ensures only_bytes { (bytes : List ℕ) → SpellsBytes text.now bytes → GivesBytes bytes result }
     ensures only_stop { IsUnreadable text.now → IsErr result }
 {

@@ -14,7 +14,7 @@ use crate::output::write_out;
 use std::alloc::Global;
 use std::io::{Read, Write};
 
-// Writes the text, and gives the status, or 5 where a write failed.
+/// Writes the text, and gives the status, or 5 where a write failed.
 fn printed<W: Write>(writer: &mut W, status: u8, text: &str) -> u8
     ensures status { result ≢ 5 → result ≡ status }
     ensures whole { result ≢ 5 → Appends (W.contents writer.old) (W.contents writer.new) text.now }
