@@ -1,5 +1,5 @@
 use Rattle.std.proofs.Common.{◌≡◌}
-use Rattle.sfi_tool.specs.RunLines.{plan_of, round_of}
+use Rattle.sfi_tool.specs.RunLines.{plan_of}
 use Rattle.sfi_tool.proofs.plan.plan_of.Given as goal
 
 abbrev pub invariant-loop : goal.invariant-loop

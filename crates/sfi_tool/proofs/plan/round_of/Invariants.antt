@@ -1,4 +1,4 @@
-use Rattle.std.proofs.Common.{◌≡◌, ◌≤◌}
+use Rattle.std.proofs.Common.{◌≡◌}
 use Rattle.sfi_tool.specs.RunLines.{round_of}
 use Rattle.sfi_tool.proofs.plan.round_of.Given as goal
 
