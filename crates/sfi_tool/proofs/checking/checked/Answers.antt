@@ -1,5 +1,4 @@
-use Rattle.std.proofs.Common.{◌∙◌, ℕ, List, subst}
-use Rattle.sfi_check.specs.Verdict.{HasFindings}
+use Rattle.std.proofs.Common.{◌∙◌}
 use Rattle.sfi_tool.proofs.Texts.{findingless, faultless}
 use Rattle.sfi_tool.proofs.checking.checked.Goals as goal
 
