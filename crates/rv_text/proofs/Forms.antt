@@ -10,11 +10,11 @@ use Rattle.rv_text.specs.declared.cause.TextCause.TheVariants as cause
 use Rattle.rv_text.specs.Registers.{IsRegister}
 use Rattle.rv_text.specs.Tokens.{Takes, IsBlank, IsStuck, IsNumber, IsLabel}
 use Rattle.rv_text.specs.Forms.{IsNumberOf}
-use Rattle.rv_text.specs.Operands.{Given, given, Stands, Departs, part_cause, mode_name}
-use Rattle.rv_text.specs.Reading.{Reads, SameAt, KeepsOthers, Suits, Fits, slot, is_fresh, has_no_repeat}
+use Rattle.rv_text.specs.Operands.{OperandValues, values_of, Stands, Departs, part_cause, mode_name}
+use Rattle.rv_text.specs.Reading.{Reads, SameAt, KeepsOthers, Suits, AllSuit, slot, is_fresh, has_no_repeat}
 
 -- a token stands at a part by the operand there
-pub stands_by_operand : (a b : Given) (part : Part) (token : List ℕ) → SameAt part a b → Stands b part token → Stands a part token
+pub stands_by_operand : (a b : OperandValues) (part : Part) (token : List ℕ) → SameAt part a b → Stands b part token → Stands a part token
 stands_by_operand a b Rd token e h = subst (IsRegister token) (sym e) h
 stands_by_operand a b Rs1 token e h = subst (IsRegister token) (sym e) h
 stands_by_operand a b Rs2 token e h = subst (IsRegister token) (sym e) h
@@ -26,7 +26,7 @@ stands_by_operand a b Open token e h = h
 stands_by_operand a b Close token e h = h
 
 -- a mark has one operand
-same_at_mark : (a b : Given) (part : Part) → nat_lt 5 (slot part) ≡ true → SameAt part a b
+same_at_mark : (a b : OperandValues) (part : Part) → nat_lt 5 (slot part) ≡ true → SameAt part a b
 same_at_mark a b Rd h = cc
 same_at_mark a b Rs1 h = cc
 same_at_mark a b Rs2 h = cc
@@ -37,7 +37,7 @@ same_at_mark a b Comma h = tt
 same_at_mark a b Open h = tt
 same_at_mark a b Close h = tt
 
-same_through : (part : Part) (a b c : Given) → SameAt part a b → SameAt part b c → SameAt part a c
+same_through : (part : Part) (a b c : OperandValues) → SameAt part a b → SameAt part b c → SameAt part a c
 same_through Rd a b c e f = e ∙ f
 same_through Rs1 a b c e f = e ∙ f
 same_through Rs2 a b c e f = e ∙ f
@@ -61,7 +61,7 @@ and_parts true b h = (refl, h)
 and_parts false b h = cc
 
 -- what is read at the part first stays while the rest is read
-pub reads_part : (first all : Given) (part : Part) (form : List Part) (text token rest : List ℕ) → has_no_repeat (part ∷ form) ≡ true → Takes text token rest → Stands first part token → Reads all form rest → ((p : Part) → IsTrue (is_fresh p form) → SameAt p all first) → Reads all (part ∷ form) text
+pub reads_part : (first all : OperandValues) (part : Part) (form : List Part) (text token rest : List ℕ) → has_no_repeat (part ∷ form) ≡ true → Takes text token rest → Stands first part token → Reads all form rest → ((p : Part) → IsTrue (is_fresh p form) → SameAt p all first) → Reads all (part ∷ form) text
 reads_part first all part form text token rest fresh takes stands reads keeps =
     let parts = and_parts _ _ fresh in
     let same : SameAt part all first = elim (or_cases _ _ parts.0) [ inl mark ↦ same_at_mark all first part mark | inr f ↦ keeps part f ] in
@@ -74,21 +74,21 @@ slot_differs : (p part : Part) → (slot part == slot p) ≡ false → slot p �
 slot_differs p part h e = grind (arith, nat_tests)
 
 -- the operands at the other parts are kept
-pub keeps_part : (old first all : Given) (part : Part) (form : List Part) → KeepsOthers part old first → ((p : Part) → IsTrue (is_fresh p form) → SameAt p all first) → (p : Part) → IsTrue (is_fresh p (part ∷ form)) → SameAt p all old
+pub keeps_part : (old first all : OperandValues) (part : Part) (form : List Part) → KeepsOthers part old first → ((p : Part) → IsTrue (is_fresh p form) → SameAt p all first) → (p : Part) → IsTrue (is_fresh p (part ∷ form)) → SameAt p all old
 keeps_part old first all part form others keeps p fresh =
     let parts = and_parts _ _ fresh in
     same_through p all first old (keeps p parts.1) (others p (slot_differs p part (not_true _ parts.0)))
 
-pub reads_result : (r : Result Operands TextCause) (whole : List Part) (first : Given) (part : Part) (form : List Part) (text token rest : List ℕ) → whole ≡ part ∷ form → has_no_repeat whole ≡ true → Takes text token rest → Stands first part token
-    → IfOk r (λ o. Reads (given o) form rest) → IfOk r (λ o. (p : Part) → IsTrue (is_fresh p form) → SameAt p (given o) first) → IfOk r (λ o. Reads (given o) whole text)
+pub reads_result : (r : Result Operands TextCause) (whole : List Part) (first : OperandValues) (part : Part) (form : List Part) (text token rest : List ℕ) → whole ≡ part ∷ form → has_no_repeat whole ≡ true → Takes text token rest → Stands first part token
+    → IfOk r (λ o. Reads (values_of o) form rest) → IfOk r (λ o. (p : Part) → IsTrue (is_fresh p form) → SameAt p (values_of o) first) → IfOk r (λ o. Reads (values_of o) whole text)
 reads_result (Ok all) whole first part form text token rest e fresh takes stands reads keeps =
-    subst (λ f. Reads (given all) f text) (sym e) (reads_part first (given all) part form text token rest (subst (λ f. has_no_repeat f ≡ true) e fresh) takes stands reads keeps)
+    subst (λ f. Reads (values_of all) f text) (sym e) (reads_part first (values_of all) part form text token rest (subst (λ f. has_no_repeat f ≡ true) e fresh) takes stands reads keeps)
 reads_result (Err e) whole first part form text token rest same fresh takes stands reads keeps = tt
 
-pub keeps_result : (r : Result Operands TextCause) (whole : List Part) (old first : Given) (part : Part) (form : List Part) → whole ≡ part ∷ form → KeepsOthers part old first
-    → IfOk r (λ o. (p : Part) → IsTrue (is_fresh p form) → SameAt p (given o) first) → IfOk r (λ o. (p : Part) → IsTrue (is_fresh p whole) → SameAt p (given o) old)
+pub keeps_result : (r : Result Operands TextCause) (whole : List Part) (old first : OperandValues) (part : Part) (form : List Part) → whole ≡ part ∷ form → KeepsOthers part old first
+    → IfOk r (λ o. (p : Part) → IsTrue (is_fresh p form) → SameAt p (values_of o) first) → IfOk r (λ o. (p : Part) → IsTrue (is_fresh p whole) → SameAt p (values_of o) old)
 keeps_result (Ok all) whole old first part form e others keeps =
-    subst (λ f. (p : Part) → IsTrue (is_fresh p f) → SameAt p (given all) old) (sym e) (keeps_part old first (given all) part form others keeps)
+    subst (λ f. (p : Part) → IsTrue (is_fresh p f) → SameAt p (values_of all) old) (sym e) (keeps_part old first (values_of all) part form others keeps)
 keeps_result (Err e) whole old first part form same others keeps = tt
 
 -- the causes for which a text departs from a form
@@ -104,15 +104,15 @@ module _ (whole : List Part) (part : Part) (form : List Part) (same : whole ≡ 
   pub departs_missing : IsBlank text → Departs whole text cause.Operands
   departs_missing blank = subst (λ f. Departs f text cause.Operands) (sym same) (inr (inl (blank, refl)))
 
-  pub departs_other : (token rest : List ℕ) (e : TextCause) → Takes text token rest → ((o : Given) → Stands o part token → ⊥) → e ≡ part_cause part token → Departs whole text e
+  pub departs_other : (token rest : List ℕ) (e : TextCause) → Takes text token rest → ((o : OperandValues) → Stands o part token → ⊥) → e ≡ part_cause part token → Departs whole text e
   departs_other token rest e takes none is = subst (λ f. Departs f text e) (sym same) (inr (inr (token, rest, takes, inl (none, is))))
 
-  pub departs_later : (r : Result Operands TextCause) (first : Given) (token rest : List ℕ) → Takes text token rest → Stands first part token → IfErr r (λ e. Departs form rest e) → IfErr r (λ e. Departs whole text e)
+  pub departs_later : (r : Result Operands TextCause) (first : OperandValues) (token rest : List ℕ) → Takes text token rest → Stands first part token → IfErr r (λ e. Departs form rest e) → IfErr r (λ e. Departs whole text e)
   departs_later (Ok all) first token rest takes stands h = tt
   departs_later (Err e) first token rest takes stands h = subst (λ f. Departs f text e) (sym same) (inr (inr (token, rest, takes, inr (first, stands, h))))
 
 -- what is read fits its form
-pub stands_suits : (o : Given) (part : Part) (token : List ℕ) → Stands o part token → Suits o part
+pub stands_suits : (o : OperandValues) (part : Part) (token : List ℕ) → Stands o part token → Suits o part
 stands_suits o Rd token h = h.0
 stands_suits o Rs1 token h = h.0
 stands_suits o Rs2 token h = h.0
@@ -123,6 +123,6 @@ stands_suits o Comma token h = tt
 stands_suits o Open token h = tt
 stands_suits o Close token h = tt
 
-pub reads_fit : (o : Given) (form : List Part) (text : List ℕ) → Reads o form text → Fits o form
+pub reads_fit : (o : OperandValues) (form : List Part) (text : List ℕ) → Reads o form text → AllSuit o form
 reads_fit o [] text h = tt
 reads_fit o (part ∷ form) text (t, r, takes, stands, reads) = (stands_suits o part t stands, reads_fit o form r reads)

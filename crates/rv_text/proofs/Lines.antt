@@ -23,9 +23,9 @@ use Rattle.rv_text.specs.declared.statement.Statement.{Statement}
 use Rattle.rv_text.specs.Tokens.{IsBlank, AreTokens, LeadsTo}
 use Rattle.rv_text.specs.Mnemonics.{name_of}
 use Rattle.rv_text.specs.Forms.{form_of}
-use Rattle.rv_text.specs.Operands.{Given, Departs}
-use Rattle.rv_text.specs.Statement.{mnemonic_of, operands_of, Spells}
-use Rattle.rv_text.specs.Reading.{Reads, AgreesOn, FollowsName, RefusedBehind}
+use Rattle.rv_text.specs.Operands.{OperandValues, Departs}
+use Rattle.rv_text.specs.Statement.{mnemonic_of, operands_of, Spells, OperandsDepart}
+use Rattle.rv_text.specs.Reading.{Reads, AgreesOn, FollowsName}
 use Rattle.rv_text.specs.Keywords.{directive_form, directive_states, pseudo_form, pseudo_states, branch_form, branch_states, jal_form, jal_states, data_kind}
 use Rattle.rv_text.specs.Constants.{constant, data_bytes}
 use Rattle.rv_text.specs.Lines.{Writes, AreMore, IsRow, IsData, StatesBehind, InstrDeparts, RefusedWith}
@@ -63,10 +63,10 @@ module _ (name : Mnemonic) (no_branch : (cond : Cond) → name ≡ mnemonic.Bran
       by_case mnemonic.Ecall b j h = h
       by_case mnemonic.Ebreak b j h = h
 
-  pub plain_departs : (text : List ℕ) (e : TextCause) → RefusedBehind name text e → InstrDeparts name text e
+  pub plain_departs : (text : List ℕ) (e : TextCause) → OperandsDepart name text e → InstrDeparts name text e
   plain_departs text e = by_case name no_branch no_jal
     where
-      by_case : (m : Mnemonic) → ((cond : Cond) → m ≡ mnemonic.Branch cond → ⊥) → (m ≡ mnemonic.Jal → ⊥) → RefusedBehind m text e → InstrDeparts m text e
+      by_case : (m : Mnemonic) → ((cond : Cond) → m ≡ mnemonic.Branch cond → ⊥) → (m ≡ mnemonic.Jal → ⊥) → OperandsDepart m text e → InstrDeparts m text e
       by_case (mnemonic.Op op) b j h = h
       by_case (mnemonic.OpImm op) b j h = h
       by_case (mnemonic.Load kind) b j h = h
@@ -81,7 +81,7 @@ module _ (name : Mnemonic) (no_branch : (cond : Cond) → name ≡ mnemonic.Bran
       by_case mnemonic.Ebreak b j h = h
 
 -- what is read off a text is what its tokens state, and the other way round
-module _ (form : List Part) (states : Given → Stated) (text : List ℕ) (s : Stated) where
+module _ (form : List Part) (states : OperandValues → Stated) (text : List ℕ) (s : Stated) where
   row_states : ReadsRow form states text s → (tokens : List (List ℕ)) × AreTokens text tokens × IsRow form states tokens s
   row_states (o, reads, e) = let t = tokens_of o form text reads in (t.0, t.1, (o, t.2, e))
 
@@ -154,14 +154,14 @@ states_reads (keyword.Directive name) text s (ts, are, h) = row_reads (directive
 states_reads (keyword.Numbers width) text s (ts, are, h) = list_reads width ts text s are h
 
 -- what a row states is by the operands of its form alone
-directive_agrees : (d : Directive) (a b : Given) → AgreesOn (directive_form d) a b → directive_states d a ≡ directive_states d b
+directive_agrees : (d : Directive) (a b : OperandValues) → AgreesOn (directive_form d) a b → directive_states d a ≡ directive_states d b
 directive_agrees directive.Sandbox a b h = λ i. sandbox (unsigned_abs (h.0 i))
 directive_agrees directive.Gate a b h = λ i. gate (h.0 i) (unsigned_abs (h.1.0 i))
 directive_agrees directive.Option a b h = λ i. compressed (h.0 i)
 directive_agrees directive.Data a b h = refl
 directive_agrees directive.Zero a b h = λ i. bytes (replicate (unsigned_abs (h.0 i)) 0)
 
-pseudo_agrees : (p : Pseudo) (a b : Given) → AgreesOn (pseudo_form p) a b → pseudo_states p a ≡ pseudo_states p b
+pseudo_agrees : (p : Pseudo) (a b : OperandValues) → AgreesOn (pseudo_form p) a b → pseudo_states p a ≡ pseudo_states p b
 pseudo_agrees Nop a b h = refl
 pseudo_agrees Ret a b h = refl
 pseudo_agrees Li a b h = λ i. plain (constant (h.0 i) (h.1.1.0 i))
@@ -173,13 +173,13 @@ pseudo_agrees Beqz a b h = λ i. jump (instr.Branch Beq (h.0 i) 0 (pos 0)) (h.1.
 pseudo_agrees Bnez a b h = λ i. jump (instr.Branch Bne (h.0 i) 0 (pos 0)) (h.1.1.0 i)
 pseudo_agrees La a b h = λ i. address (h.0 i) (h.1.1.0 i)
 
-branch_agrees : (cond : Cond) (a b : Given) → AgreesOn branch_form a b → branch_states cond a ≡ branch_states cond b
+branch_agrees : (cond : Cond) (a b : OperandValues) → AgreesOn branch_form a b → branch_states cond a ≡ branch_states cond b
 branch_agrees cond a b h = λ i. jump (instr.Branch cond (h.0 i) (h.1.1.0 i) (pos 0)) (h.1.1.1.1.0 i)
 
-jal_agrees : (a b : Given) → AgreesOn jal_form a b → jal_states a ≡ jal_states b
+jal_agrees : (a b : OperandValues) → AgreesOn jal_form a b → jal_states a ≡ jal_states b
 jal_agrees a b h = λ i. jump (instr.Jal (h.0 i) (pos 0)) (h.1.1.0 i)
 
-row_one : (form : List Part) (states : Given → Stated) → ((a b : Given) → AgreesOn form a b → states a ≡ states b) → (text : List ℕ) (s t : Stated) → ReadsRow form states text s → ReadsRow form states text t → s ≡ t
+row_one : (form : List Part) (states : OperandValues → Stated) → ((a b : OperandValues) → AgreesOn form a b → states a ≡ states b) → (text : List ℕ) (s t : Stated) → ReadsRow form states text s → ReadsRow form states text t → s ≡ t
 row_one form states agrees text s t (o, reads, e) (p, read, f) = e ∙ agrees o p (agree o p form text reads read) ∙ sym f
 
 plain_one : (name : Mnemonic) (text : List ℕ) (s t : Stated) → ReadsPlain name text s → ReadsPlain name text t → s ≡ t
@@ -203,10 +203,10 @@ reads_one (keyword.Pseudo name) text s t h j = row_one (pseudo_form name) (pseud
 reads_one (keyword.Directive name) text s t h j = row_one (directive_form name) (directive_states name) (directive_agrees name) text s t h j
 reads_one (keyword.Numbers width) text s t (b, h, e) (c, j, f) = e ∙ ap bytes (list_one width text b c h j) ∙ sym f
 
-row_not : (form : List Part) (states : Given → Stated) (text : List ℕ) (s : Stated) (e : TextCause) → ReadsRow form states text s → Departs form text e → ⊥
+row_not : (form : List Part) (states : OperandValues → Stated) (text : List ℕ) (s : Stated) (e : TextCause) → ReadsRow form states text s → Departs form text e → ⊥
 row_not form states text s e (o, reads, is) departs = departs_reads form text e o departs reads
 
-plain_not : (name : Mnemonic) (text : List ℕ) (s : Stated) (e : TextCause) → ReadsPlain name text s → RefusedBehind name text e → ⊥
+plain_not : (name : Mnemonic) (text : List ℕ) (s : Stated) (e : TextCause) → ReadsPlain name text s → OperandsDepart name text e → ⊥
 plain_not name text s e (i, (same, inl reads), is) refused =
     departs_reads (form_of name) text e (operands_of i) refused.1 (subst (λ m. Reads (operands_of i) (form_of m) text) same reads)
 plain_not name text s e (i, (same, inr (fence, blank)), is) refused = refused.0 (sym same ∙ ap mnemonic_of fence, blank)
@@ -229,7 +229,7 @@ reads_not (keyword.Pseudo name) text s e h r = row_not (pseudo_form name) (pseud
 reads_not (keyword.Directive name) text s e h r = row_not (directive_form name) (directive_states name) text s e h r
 reads_not (keyword.Numbers width) text s e (b, h, is) r = list_not_refused width text b e h r
 
-plain_cause : (name : Mnemonic) (text : List ℕ) (e f : TextCause) → RefusedBehind name text e → RefusedBehind name text f → e ≡ f
+plain_cause : (name : Mnemonic) (text : List ℕ) (e f : TextCause) → OperandsDepart name text e → OperandsDepart name text f → e ≡ f
 plain_cause name text e f h j = departs_one (form_of name) text e f h.1 j.1
 
 -- and for one cause else

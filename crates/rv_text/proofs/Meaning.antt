@@ -9,7 +9,7 @@ use Rattle.rv_text.specs.Tokens.{Takes, IsBlank, LeadsTo, AreTokens}
 use Rattle.rv_text.specs.Registers.{IsRegister}
 use Rattle.rv_text.specs.Mnemonics.{name_of}
 use Rattle.rv_text.specs.Forms.{form_of}
-use Rattle.rv_text.specs.Operands.{Given, Stands, HasForm, mode_name}
+use Rattle.rv_text.specs.Operands.{OperandValues, Stands, HasForm, mode_name}
 use Rattle.rv_text.specs.Reading.{Reads, SameAt, AgreesOn, FollowsName, FollowsToken}
 use Rattle.rv_text.specs.Statement.{mnemonic_of, operands_of, Means}
 use Rattle.rv_text.proofs.Names.{register_own}
@@ -27,7 +27,7 @@ mode_unique false true h = cc
 mode_unique false false h = refl
 
 -- a token gives one operand
-operand_unique : (a b : Given) (part : Part) (token : List ℕ) → Stands a part token → Stands b part token → SameAt part a b
+operand_unique : (a b : OperandValues) (part : Part) (token : List ℕ) → Stands a part token → Stands b part token → SameAt part a b
 operand_unique a b Rd token h k = register_unique token _ _ h k
 operand_unique a b Rs1 token h k = register_unique token _ _ h k
 operand_unique a b Rs2 token h k = register_unique token _ _ h k
@@ -39,24 +39,24 @@ operand_unique a b Open token h k = tt
 operand_unique a b Close token h k = tt
 
 -- two statements that are read off one text have the same operands
-pub agree : (a b : Given) (form : List Part) (text : List ℕ) → Reads a form text → Reads b form text → AgreesOn form a b
+pub agree : (a b : OperandValues) (form : List Part) (text : List ℕ) → Reads a form text → Reads b form text → AgreesOn form a b
 agree a b [] text h k = tt
 agree a b (part ∷ form) text (t, r, takes, stands, reads) (u, s, other, stood, read) =
     let same = takes_unique other takes in
     (operand_unique a b part t stands (subst (Stands b part) same.0 stood), agree a b form r reads (subst (Reads b form) same.1 read))
 
-reads_by : (a b : Given) (form : List Part) (text : List ℕ) → AgreesOn form a b → Reads b form text → Reads a form text
+reads_by : (a b : OperandValues) (form : List Part) (text : List ℕ) → AgreesOn form a b → Reads b form text → Reads a form text
 reads_by a b [] text e h = h
 reads_by a b (part ∷ form) text e (t, r, takes, stands, reads) = (t, r, takes, stands_by_operand a b part t e.0 stands, reads_by a b form r e.1 reads)
 
 -- the tokens that are read, and what is read from the tokens
-pub tokens_of : (o : Given) (form : List Part) (text : List ℕ) → Reads o form text → (tokens : List (List ℕ)) × AreTokens text tokens × HasForm o form tokens
+pub tokens_of : (o : OperandValues) (form : List Part) (text : List ℕ) → Reads o form text → (tokens : List (List ℕ)) × AreTokens text tokens × HasForm o form tokens
 tokens_of o [] text h = ([], (text, refl, h), tt)
 tokens_of o (part ∷ form) text (t, r, takes, stands, reads) =
     let more = tokens_of o form r reads in
     (t ∷ more.0, (more.1.0, (r, takes, more.1.1), more.1.2), (stands, more.2))
 
-pub from_tokens : (o : Given) (form : List Part) (tokens : List (List ℕ)) (text : List ℕ) → AreTokens text tokens → HasForm o form tokens → Reads o form text
+pub from_tokens : (o : OperandValues) (form : List Part) (tokens : List (List ℕ)) (text : List ℕ) → AreTokens text tokens → HasForm o form tokens → Reads o form text
 from_tokens o [] [] text (rest, leads, blank) h = subst IsBlank (sym leads) blank
 from_tokens o [] (t ∷ tokens) text leads h = absurd h
 from_tokens o (part ∷ form) [] text leads h = absurd h
@@ -86,7 +86,7 @@ first_token text i ([], leads, spells) = absurd spells
 first_token text i (t ∷ tokens, (last, (after, other, leads), blank), spells) = (t, after, other)
 
 -- the operands that were read are those of the instruction that was made
-pub follows : (rest : List ℕ) (name : Mnemonic) (o : Given) (i : Instr) → Reads o (form_of name) rest → mnemonic_of i ≡ name → AgreesOn (form_of name) (operands_of i) o → FollowsName rest name i
+pub follows : (rest : List ℕ) (name : Mnemonic) (o : OperandValues) (i : Instr) → Reads o (form_of name) rest → mnemonic_of i ≡ name → AgreesOn (form_of name) (operands_of i) o → FollowsName rest name i
 follows rest name o i reads same agrees =
     (same, inl (subst (λ m. Reads (operands_of i) (form_of m) rest) (sym same) (reads_by (operands_of i) o (form_of name) rest agrees reads)))
 

@@ -21,11 +21,11 @@ use Rattle.rv_text.specs.declared.mnemonic.Mnemonic.TheVariants.{Op, OpImm, Load
 use Rattle.rv_text.specs.declared.mnemonic.TheConstants.{ALL}
 use Rattle.rv_text.specs.Registers.{abi_names, x_name, IsRegister}
 use Rattle.rv_text.specs.Mnemonics.{name_of}
-use Rattle.rv_text.specs.Lookup.{numbered_names, place, or_else, register_of, mnemonic_of}
+use Rattle.rv_text.specs.Lookup.{numbered_names, place, or_else, find_register, find_mnemonic}
 
 -- each mnemonic is the first of its name in the table
-pub mnemonic_own : (m : Mnemonic) → mnemonic_of (name_of m) ≡ Some m
-unfolding mnemonic_of
+pub mnemonic_own : (m : Mnemonic) → find_mnemonic (name_of m) ≡ Some m
+unfolding find_mnemonic
 mnemonic_own (Op Add) = refl
 mnemonic_own (Op _) = refl
 mnemonic_own (OpImm Addi) = refl
@@ -46,13 +46,13 @@ found_passes p (y ∷ ys) x e =
       | false ↦ λ h f. found_passes p ys x f
     ] refl e
 
-pub mnemonic_found : (text : List ℕ) (m : Mnemonic) → mnemonic_of text ≡ Some m → name_of m ≡ text
-unfolding mnemonic_of
+pub mnemonic_found : (text : List ℕ) (m : Mnemonic) → find_mnemonic text ≡ Some m → name_of m ≡ text
+unfolding find_mnemonic
 mnemonic_found text m e = (bytes_eq-Decides (name_of m) text).0 (found_passes (λ x. bytes_eq (name_of x) text) ALL m e)
 
 -- a name has one mnemonic
 pub name_unique : (m n : Mnemonic) → name_of m ≡ name_of n → m ≡ n
-name_unique m n e = let p = mnemonic_own m in let q = mnemonic_own n in let s : mnemonic_of (name_of m) ≡ mnemonic_of (name_of n) = ap mnemonic_of e in let t : Some m ≡ Some n = sym p ∙ s ∙ q in cc
+name_unique m n e = let p = mnemonic_own m in let q = mnemonic_own n in let s : find_mnemonic (name_of m) ≡ find_mnemonic (name_of n) = ap find_mnemonic e in let t : Some m ≡ Some n = sym p ∙ s ∙ q in cc
 
 -- a test that passes at each number below 32 by computation
 below_32 : (test : ℕ → Bool) → list_all test (range_with_len 0 32) ≡ true → (r : ℕ) → r < 32 → test r ≡ true
@@ -66,22 +66,22 @@ gives_is : (o : Option ℕ) (r : ℕ) → gives o r ≡ true → o ≡ Some r
 gives_is None r h = cc
 gives_is (Some k) r h = ap Some (grind (arith, nat_tests))
 
-register_own_x : (r : ℕ) → r < 32 → register_of (x_name r) ≡ Some r
-unfolding register_of digits
-register_own_x r lt = gives_is _ r (below_32 (λ k. gives (register_of (x_name k)) k) refl r lt)
+register_own_x : (r : ℕ) → r < 32 → find_register (x_name r) ≡ Some r
+unfolding find_register digits
+register_own_x r lt = gives_is _ r (below_32 (λ k. gives (find_register (x_name k)) k) refl r lt)
 
-register_own_abi : (r : ℕ) → r < 32 → register_of (get_or abi_names r []) ≡ Some r
-unfolding register_of
-register_own_abi r lt = gives_is _ r (below_32 (λ k. gives (register_of (get_or abi_names k [])) k) refl r lt)
+register_own_abi : (r : ℕ) → r < 32 → find_register (get_or abi_names r []) ≡ Some r
+unfolding find_register
+register_own_abi r lt = gives_is _ r (below_32 (λ k. gives (find_register (get_or abi_names k [])) k) refl r lt)
 
-register_own_fp : register_of (codes "fp") ≡ Some 8
-unfolding register_of
+register_own_fp : find_register (codes "fp") ≡ Some 8
+unfolding find_register
 register_own_fp = refl
 
-pub register_own : (text : List ℕ) (r : ℕ) → IsRegister text r → register_of text ≡ Some r
-register_own text r (lt, inl e) = ap register_of e ∙ register_own_x r lt
-register_own text r (lt, inr (inl e)) = ap register_of (sym (get_or_from_slice_get abi_names r text [] e)) ∙ register_own_abi r lt
-register_own text r (lt, inr (inr (e, f))) = ap register_of e ∙ register_own_fp ∙ ap Some (sym f)
+pub register_own : (text : List ℕ) (r : ℕ) → IsRegister text r → find_register text ≡ Some r
+register_own text r (lt, inl e) = ap find_register e ∙ register_own_x r lt
+register_own text r (lt, inr (inl e)) = ap find_register (sym (get_or_from_slice_get abi_names r text [] e)) ∙ register_own_abi r lt
+register_own text r (lt, inr (inr (e, f))) = ap find_register e ∙ register_own_fp ∙ ap Some (sym f)
 
 numbered_is : (r : ℕ) → r < 32 → get_or numbered_names r [] ≡ x_name r
 unfolding digits
@@ -94,8 +94,8 @@ or_else_cases (Some k) b r e = inl e
 placed : (names : List (List ℕ)) (text : List ℕ) (r : ℕ) → place names text ≡ Some r → (r < length names) × (text ≡ get_or names r [])
 placed names text r e = let p = position-Some (λ n. bytes_eq n text) names r [] e in (p.0, sym ((bytes_eq-Decides (get_or names r []) text).0 p.1))
 
-pub register_found : (text : List ℕ) (r : ℕ) → register_of text ≡ Some r → IsRegister text r
-unfolding register_of
+pub register_found : (text : List ℕ) (r : ℕ) → find_register text ≡ Some r → IsRegister text r
+unfolding find_register
 register_found text r e =
     elim (bytes_eq text (codes "fp")) as (λ b. bytes_eq text (codes "fp") ≡ b → cond b (Some 8) (or_else (place numbered_names text) (place abi_names text)) ≡ Some r → IsRegister text r) [
       | true ↦ λ h f. let eight : 8 ≡ r = cc in (omega arith, inr (inr ((bytes_eq-Decides text (codes "fp")).0 h, sym eight)))
@@ -105,15 +105,15 @@ register_found text r e =
           (or_else_cases (place numbered_names text) (place abi_names text) r f)
     ] refl e
 
-pub mnemonic_if_some : (text : List ℕ) (o : Option Mnemonic) → o ≡ mnemonic_of text → IfSome o (λ m. name_of m ≡ text)
+pub mnemonic_if_some : (text : List ℕ) (o : Option Mnemonic) → o ≡ find_mnemonic text → IfSome o (λ m. name_of m ≡ text)
 mnemonic_if_some text None e = tt
 mnemonic_if_some text (Some m) e = mnemonic_found text m (sym e)
 
-pub mnemonic_if_none : (text : List ℕ) (o : Option Mnemonic) → o ≡ mnemonic_of text → IfNone o ((m : Mnemonic) → name_of m ≡ text → ⊥)
-mnemonic_if_none text None e = λ m f. let g : None ≡ Some m = e ∙ sym (ap mnemonic_of f) ∙ mnemonic_own m in cc
+pub mnemonic_if_none : (text : List ℕ) (o : Option Mnemonic) → o ≡ find_mnemonic text → IfNone o ((m : Mnemonic) → name_of m ≡ text → ⊥)
+mnemonic_if_none text None e = λ m f. let g : None ≡ Some m = e ∙ sym (ap find_mnemonic f) ∙ mnemonic_own m in cc
 mnemonic_if_none text (Some m) e = tt
 
-pub register_none : (text : List ℕ) (o : Option ℕ) → o ≡ register_of text → o ≡ None → (r : ℕ) → IsRegister text r → ⊥
+pub register_none : (text : List ℕ) (o : Option ℕ) → o ≡ find_register text → o ≡ None → (r : ℕ) → IsRegister text r → ⊥
 register_none text o e n r h = let own = register_own text r h in cc
 
 -- the register of a number that the tables give

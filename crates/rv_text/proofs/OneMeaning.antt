@@ -5,7 +5,7 @@ use Rattle.rv_word.specs.declared.instr.Instr.TheVariants as instr
 use Rattle.rv_word.specs.Spelling.{InRange}
 use Rattle.rv_text.specs.declared.mnemonic.Mnemonic.{Mnemonic}
 use Rattle.rv_text.specs.declared.mnemonic.Mnemonic.TheVariants as mnemonic
-use Rattle.rv_text.specs.Operands.{Given}
+use Rattle.rv_text.specs.Operands.{OperandValues}
 use Rattle.rv_text.specs.Tokens.{IsBlank}
 use Rattle.rv_text.specs.Forms.{form_of}
 use Rattle.rv_text.specs.Reading.{Reads, AgreesOn, Follows}
@@ -22,7 +22,7 @@ abbrev natural : ℤ → ℕ
 natural (pos n) = n
 natural (negsuc n) = 0
 
-abbrev made : Mnemonic → Given → Instr
+abbrev made : Mnemonic → OperandValues → Instr
 made (mnemonic.Op op) o = instr.Op op o.rd o.rs1 o.rs2
 made (mnemonic.OpImm op) o = instr.OpImm op o.rd o.rs1 o.number
 made (mnemonic.Load kind) o = instr.Load kind o.rd o.rs1 o.number
@@ -50,7 +50,7 @@ made_own (instr.Fence imm rd rs1) = refl
 made_own instr.Ecall = refl
 made_own instr.Ebreak = refl
 
-made_agrees : (m : Mnemonic) (a b : Given) → AgreesOn (form_of m) a b → made m a ≡ made m b
+made_agrees : (m : Mnemonic) (a b : OperandValues) → AgreesOn (form_of m) a b → made m a ≡ made m b
 made_agrees (mnemonic.Op op) a b h = λ i. instr.Op op (h.0 i) (h.1.1.0 i) (h.1.1.1.1.0 i)
 made_agrees (mnemonic.OpImm op) a b h = λ i. instr.OpImm op (h.0 i) (h.1.1.0 i) (h.1.1.1.1.0 i)
 made_agrees (mnemonic.Load kind) a b h = λ i. instr.Load kind (h.0 i) (h.1.1.1.1.0 i) (h.1.1.0 i)
@@ -69,7 +69,7 @@ same_instr i j same h =
     sym (made_own i) ∙ made_agrees (mnemonic_of i) (operands_of i) (operands_of j) h ∙ ap (λ m. made m (operands_of j)) (sym same) ∙ made_own j
 
 -- a fence with operands isn't one without
-no_bare : (o : Given) (rest : List ℕ) (m : Mnemonic) → mnemonic.Fence ≡ m → IsBlank rest → Reads o (form_of m) rest → ⊥
+no_bare : (o : OperandValues) (rest : List ℕ) (m : Mnemonic) → mnemonic.Fence ≡ m → IsBlank rest → Reads o (form_of m) rest → ⊥
 no_bare o rest m fence blank reads =
     let (t, r, takes, stands, more) = subst (λ x. Reads o (form_of x) rest) (sym fence) reads in
     blank_takes_none rest t r blank takes

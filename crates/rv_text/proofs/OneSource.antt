@@ -9,7 +9,7 @@ use Rattle.rv_text.specs.Keywords.{keyword_name}
 use Rattle.rv_text.specs.Lines.{NameRefused}
 use Rattle.rv_text.specs.Stated.{Stated, sandbox, gate, compressed, data_part, bytes, plain, jump, address}
 use Rattle.rv_text.specs.SoFar.{SoFar, with_label, nothing, sandboxes}
-use Rattle.rv_text.specs.Effects.{IsFree, Fits, Labels, RefusesLabel, GoesOn, Does, behind, HasNoRoom}
+use Rattle.rv_text.specs.Effects.{IsFree, Fits, Labels, RefusesLabel, GoesOn, Does, with_stated, HasNoRoom}
 use Rattle.rv_text.specs.Leads.{BeginsWithLabel, HasNoLabel, LabelsLead, LeadsBehind, RestLeads, RefusedBehind, RefusedFrom, StatementRefused}
 use Rattle.rv_text.specs.Texts.{uncommented, lines, LinesLead, FirstRefused}
 use Rattle.rv_text.specs.Laws.{LeadsOnce, LeadingIsNotRefused, RefusedOnce, OneSource, OneFault, MeantHasNoFault}
@@ -97,7 +97,7 @@ label_refused_one (k ∷ ns) (l ∷ ms) old a b text r q n m after then e f (nex
 
 goes_one : (line : ℕ) (s : Stated) (old a b : SoFar) → GoesOn line s old a → GoesOn line s old b → a ≡ b
 goes_one line s old a b (x, is, fits, a_is) (y, other, _, b_is) =
-    a_is ∙ ap (λ c. record old { begun = Some (behind line s c) }) (same_Some x y (sym is ∙ other)) ∙ sym b_is
+    a_is ∙ ap (λ c. record old { begun = Some (with_stated line s c) }) (same_Some x y (sym is ∙ other)) ∙ sym b_is
 
 does_one : (line : ℕ) (s : Stated) (old a b : SoFar) → Does line s old a → Does line s old b → a ≡ b
 does_one line (sandbox size) old a b h k = h ∙ sym k

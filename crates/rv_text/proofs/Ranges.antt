@@ -9,7 +9,7 @@ use Rattle.rv_word.specs.Numbers.{IsBetween}
 use Rattle.rv_word.specs.Spelling.{InRange, IsImm12}
 use Rattle.rv_text.specs.declared.form.NumberKind.TheVariants.{Immediate, ShiftAmount}
 use Rattle.rv_text.specs.Forms.{IsNumberOf, form_of}
-use Rattle.rv_text.specs.Reading.{Fits}
+use Rattle.rv_text.specs.Reading.{AllSuit}
 use Rattle.rv_text.specs.Statement.{mnemonic_of, operands_of, full_fence}
 
 abbrev IsImmediate : Bool → ℤ → Type 0
@@ -35,7 +35,7 @@ below_fence n h = omega (arith, ints)
 fence_between : (n : ℕ) → n < 2 ^ 12 → IsBetween (pos 0) (pos 4095) (pos n)
 fence_between n h = (omega (arith, ints), omega (arith, ints))
 
-pub fits_in_range : (i : Instr) → Fits (operands_of i) (form_of (mnemonic_of i)) → InRange i
+pub fits_in_range : (i : Instr) → AllSuit (operands_of i) (form_of (mnemonic_of i)) → InRange i
 unfolding InRange
 fits_in_range (instr.Op op rd rs1 rs2) h = (h.0, h.1.1.0, h.1.1.1.1.0)
 fits_in_range (instr.OpImm op rd rs1 imm) h = (h.0, h.1.1.0, kind_immediate (is_shift op) imm h.1.1.1.1.0)
@@ -50,7 +50,7 @@ fits_in_range (instr.Fence imm rd rs1) h = (below_fence imm h.0, h.1.1.0, h.1.1.
 fits_in_range instr.Ecall h = tt
 fits_in_range instr.Ebreak h = tt
 
-pub in_range_fits : (i : Instr) → InRange i → Fits (operands_of i) (form_of (mnemonic_of i))
+pub in_range_fits : (i : Instr) → InRange i → AllSuit (operands_of i) (form_of (mnemonic_of i))
 unfolding InRange
 in_range_fits (instr.Op op rd rs1 rs2) h = (h.0, (tt, (h.1, (tt, (h.2, tt)))))
 in_range_fits (instr.OpImm op rd rs1 imm) h = (h.0, (tt, (h.1, (tt, (immediate_kinds (is_shift op) imm h.2, tt)))))

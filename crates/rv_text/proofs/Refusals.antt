@@ -7,7 +7,7 @@ use Rattle.rv_text.specs.declared.form.Part.{Part}
 use Rattle.rv_text.specs.Tokens.{Takes, IsName}
 use Rattle.rv_text.specs.Mnemonics.{name_of}
 use Rattle.rv_text.specs.Forms.{form_of}
-use Rattle.rv_text.specs.Operands.{Given, Stands, Departs, part_cause}
+use Rattle.rv_text.specs.Operands.{OperandValues, Stands, Departs, part_cause}
 use Rattle.rv_text.specs.Reading.{Reads, FollowsToken}
 use Rattle.rv_text.specs.Statement.{mnemonic_of, operands_of, Refused, RefusedAt}
 use Rattle.rv_text.specs.Laws.{OneCause, MeantIsNotRefused}
@@ -36,7 +36,7 @@ departs_one (part ∷ form) text e f (inr (inr (t, r, takes, inr (o, stands, d))
 departs_one (part ∷ form) text e f (inr (inr (t, r, takes, inr (o, stands, d)))) (inr (inr (u, v, other, inr (p, stood, c)))) = departs_one form r e f d (subst (λ x. Departs form x f) (takes_unique other takes).1 c)
 
 -- and one whose tokens stand at the form for none
-pub departs_reads : (form : List Part) (text : List ℕ) (e : TextCause) (o : Given) → Departs form text e → Reads o form text → ⊥
+pub departs_reads : (form : List Part) (text : List ℕ) (e : TextCause) (o : OperandValues) → Departs form text e → Reads o form text → ⊥
 departs_reads [] text e o (inl s) blank = s.0.something blank
 departs_reads [] text e o (inr (t, r, takes, d)) blank = blank_takes_none text t r blank takes
 departs_reads (part ∷ form) text e o (inl s) (t, r, takes, stands, reads) = s.0.nothing t r takes
@@ -50,13 +50,13 @@ named m token e = subst IsName e (name_is_name m)
 at_one : (token rest : List ℕ) (e f : TextCause) → RefusedAt token rest e → RefusedAt token rest f → e ≡ f
 at_one token rest e f (inl n) (inl k) = n.1 ∙ sym k.1
 at_one token rest e f (inl n) (inr (inl k)) = absurd (n.0 k.0.0)
-at_one token rest e f (inl n) (inr (inr (m, is, bare, d))) = absurd (n.0 (named m token is))
+at_one token rest e f (inl n) (inr (inr (m, is, (bare, d)))) = absurd (n.0 (named m token is))
 at_one token rest e f (inr (inl k)) (inl n) = absurd (n.0 k.0.0)
 at_one token rest e f (inr (inl k)) (inr (inl l)) = k.1 ∙ sym l.1
-at_one token rest e f (inr (inl k)) (inr (inr (m, is, bare, d))) = absurd (k.0.1 m is)
-at_one token rest e f (inr (inr (m, is, bare, d))) (inl n) = absurd (n.0 (named m token is))
-at_one token rest e f (inr (inr (m, is, bare, d))) (inr (inl k)) = absurd (k.0.1 m is)
-at_one token rest e f (inr (inr (m, is, bare, d))) (inr (inr (n, same, other, c))) =
+at_one token rest e f (inr (inl k)) (inr (inr (m, is, (bare, d)))) = absurd (k.0.1 m is)
+at_one token rest e f (inr (inr (m, is, (bare, d)))) (inl n) = absurd (n.0 (named m token is))
+at_one token rest e f (inr (inr (m, is, (bare, d)))) (inr (inl k)) = absurd (k.0.1 m is)
+at_one token rest e f (inr (inr (m, is, (bare, d)))) (inr (inr (n, same, (other, c)))) =
     departs_one (form_of m) rest e f d (subst (λ k. Departs (form_of k) rest f) (name_unique n m (same ∙ sym is)) c)
 
 pub one_cause : OneCause
@@ -75,9 +75,9 @@ one_cause text e f (inr (inr (t, r, takes, h))) (inr (inr (u, v, other, k))) =
 at_none : (token rest : List ℕ) (e : TextCause) (i : Instr) → RefusedAt token rest e → FollowsToken token rest i → ⊥
 at_none token rest e i (inl n) h = n.0 (named (mnemonic_of i) token h.0)
 at_none token rest e i (inr (inl k)) h = k.0.1 (mnemonic_of i) h.0
-at_none token rest e i (inr (inr (m, is, bare, d))) (has, inl reads) =
+at_none token rest e i (inr (inr (m, is, (bare, d)))) (has, inl reads) =
     departs_reads (form_of m) rest e (operands_of i) d (subst (λ k. Reads (operands_of i) (form_of k) rest) (name_unique (mnemonic_of i) m (has ∙ sym is)) reads)
-at_none token rest e i (inr (inr (m, is, bare, d))) (has, inr (fence, blank)) =
+at_none token rest e i (inr (inr (m, is, (bare, d)))) (has, inr (fence, blank)) =
     bare (name_unique m (mnemonic_of i) (is ∙ sym has) ∙ ap mnemonic_of fence, blank)
 
 refused_takes : (text token rest : List ℕ) (e : TextCause) → Takes text token rest → Refused text e → RefusedAt token rest e

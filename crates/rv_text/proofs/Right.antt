@@ -26,8 +26,8 @@ use Rattle.rv_text.specs.Source.{IsDataSize, IsStraight}
 use Rattle.rv_text.specs.declared.statement.Place.{Place}
 use Rattle.rv_text.specs.Mnemonics.{name_of}
 use Rattle.rv_text.specs.Forms.{form_of, IsNumberOf}
-use Rattle.rv_text.specs.Operands.{Given, HasForm}
-use Rattle.rv_text.specs.Reading.{Fits}
+use Rattle.rv_text.specs.Operands.{OperandValues, HasForm}
+use Rattle.rv_text.specs.Reading.{AllSuit}
 use Rattle.rv_text.specs.Statement.{mnemonic_of, operands_of, Spells}
 use Rattle.rv_text.specs.Constants.{is_small, upper, lower, add_lower, constant, data_bytes}
 use Rattle.rv_text.specs.Keywords.{directive_form, directive_states, pseudo_form, pseudo_states, branch_form, branch_states, jal_form, jal_states, place_of_keyword}
@@ -38,7 +38,7 @@ use Rattle.rv_text.proofs.Forms.{stands_suits}
 use Rattle.rv_text.proofs.Ranges.{fits_in_range, full_fence_in_range}
 
 -- operands that tokens give fit their form
-form_fits : (o : Given) (form : List Part) (tokens : List (List ℕ)) → HasForm o form tokens → Fits o form
+form_fits : (o : OperandValues) (form : List Part) (tokens : List (List ℕ)) → HasForm o form tokens → AllSuit o form
 form_fits o [] tokens h = tt
 form_fits o (part ∷ form) [] h = absurd h
 form_fits o (part ∷ form) (t ∷ tokens) h = (stands_suits o part t h.0, form_fits o form tokens h.1)
@@ -121,14 +121,14 @@ natural_service : (z : ℤ) → IsNumberOf kind.Service z → unsigned_abs z ≤
 natural_service (pos n) h = omega (arith, ints)
 natural_service (negsuc n) h = omega (arith, ints)
 
-directive_right : (d : Directive) (o : Given) → Fits o (directive_form d) → IsRightStatement (directive_states d o)
+directive_right : (d : Directive) (o : OperandValues) → AllSuit o (directive_form d) → IsRightStatement (directive_states d o)
 directive_right directive.Sandbox o h = natural_size o.number h.0
 directive_right directive.Gate o h = (h.0, natural_service o.number h.1.0)
 directive_right directive.Option o h = tt
 directive_right directive.Data o h = tt
 directive_right directive.Zero o h = All-replicate IsByte (unsigned_abs o.number) 0 (omega arith)
 
-pseudo_right : (p : Pseudo) (o : Given) → Fits o (pseudo_form p) → IsRightStatement (pseudo_states p o)
+pseudo_right : (p : Pseudo) (o : OperandValues) → AllSuit o (pseudo_form p) → IsRightStatement (pseudo_states p o)
 pseudo_right Nop o h = one_right _ (add_in_range 0 0 (pos 0) (omega arith) (omega arith) zero_imm) tt
 pseudo_right Ret o h = one_right _ (jump_in_range 0 1 (omega arith) (omega arith)) tt
 pseudo_right Li o h = constant_right o.rd o.number h.0
@@ -140,13 +140,13 @@ pseudo_right Beqz o h = (branch_in_range _ o.rs1 0 h.0 (omega arith), refl, h.1.
 pseudo_right Bnez o h = (branch_in_range _ o.rs1 0 h.0 (omega arith), refl, h.1.1.0)
 pseudo_right La o h = (h.0, h.1.1.0)
 
-branch_right : (cond : Cond) (o : Given) → Fits o branch_form → IsRightStatement (branch_states cond o)
+branch_right : (cond : Cond) (o : OperandValues) → AllSuit o branch_form → IsRightStatement (branch_states cond o)
 branch_right cond o h = (branch_in_range cond o.rs1 o.rs2 h.0 h.1.1.0, refl, h.1.1.1.1.0)
 
-jal_right : (o : Given) → Fits o jal_form → IsRightStatement (jal_states o)
+jal_right : (o : OperandValues) → AllSuit o jal_form → IsRightStatement (jal_states o)
 jal_right o h = (jal_in_range o.rd h.0, refl, h.1.1.0)
 
-row_right : (form : List Part) (states : Given → Stated) → ((o : Given) → Fits o form → IsRightStatement (states o)) → (tokens : List (List ℕ)) (s : Stated) → IsRow form states tokens s → IsRightStatement s
+row_right : (form : List Part) (states : OperandValues → Stated) → ((o : OperandValues) → AllSuit o form → IsRightStatement (states o)) → (tokens : List (List ℕ)) (s : Stated) → IsRow form states tokens s → IsRightStatement s
 row_right form states right tokens s (o, has, e) = subst IsRightStatement (sym e) (right o (form_fits o form tokens has))
 
 -- an instruction by itself
@@ -197,17 +197,17 @@ behind_right (keyword.Directive name) ts s h = row_right (directive_form name) (
 behind_right (keyword.Numbers width) ts s (numbers, are, e) = subst IsRightStatement (sym e) (list_right width numbers)
 
 -- a statement may stand where its keyword may
-row_place : (place : Place) (form : List Part) (states : Given → Stated) → ((o : Given) → place ≡ place_of_stated (states o)) → (tokens : List (List ℕ)) (s : Stated) → IsRow form states tokens s → place ≡ place_of_stated s
+row_place : (place : Place) (form : List Part) (states : OperandValues → Stated) → ((o : OperandValues) → place ≡ place_of_stated (states o)) → (tokens : List (List ℕ)) (s : Stated) → IsRow form states tokens s → place ≡ place_of_stated s
 row_place place form states same tokens s (o, has, e) = same o ∙ ap place_of_stated (sym e)
 
-directive_place : (d : Directive) (o : Given) → place_of_keyword (keyword.Directive d) ≡ place_of_stated (directive_states d o)
+directive_place : (d : Directive) (o : OperandValues) → place_of_keyword (keyword.Directive d) ≡ place_of_stated (directive_states d o)
 directive_place directive.Sandbox o = refl
 directive_place directive.Gate o = refl
 directive_place directive.Option o = refl
 directive_place directive.Data o = refl
 directive_place directive.Zero o = refl
 
-pseudo_place : (p : Pseudo) (o : Given) → place_of_keyword (keyword.Pseudo p) ≡ place_of_stated (pseudo_states p o)
+pseudo_place : (p : Pseudo) (o : OperandValues) → place_of_keyword (keyword.Pseudo p) ≡ place_of_stated (pseudo_states p o)
 pseudo_place Nop o = refl
 pseudo_place _ o = refl
 

@@ -21,7 +21,7 @@ use Rattle.rv_text.specs.Stated.{Stated, sandbox, gate, compressed, data_part, b
 use Rattle.rv_text.specs.NameTable.{meaning, place_of, met}
 use Rattle.rv_text.specs.Source.{IsStraight, IsBody, IsSandbox}
 use Rattle.rv_text.specs.SoFar.{Begun, SoFar, with_label, with_names, nothing, last_sandbox, sandboxes}
-use Rattle.rv_text.specs.Effects.{IsFree, Labels, Fits, GoesOn, Does, behind}
+use Rattle.rv_text.specs.Effects.{IsFree, Labels, Fits, GoesOn, Does, with_stated}
 use Rattle.rv_text.specs.Leads.{BeginsWithName, LabelsLead, IsTaken, LeadsBehind, RestLeads, Leads}
 use Rattle.rv_text.specs.Texts.{uncommented, lines, LinesLead}
 use Rattle.rv_text.specs.Laws.{SourcesAreRight}
@@ -62,7 +62,7 @@ plain_bodies n (i ∷ instrs) h = (h.0, plain_bodies n instrs h.1)
 
 -- each sandbox behind a statement is right
 goes_right : (line : ℕ) (s : Stated) (b : Begun) → IsRightStatement s → ((name : List ℕ) (service : ℕ) → s ≡ gate name service → IsFree name b)
-    → Fits s b → IsDraft b → IsDraft (behind line s b)
+    → Fits s b → IsDraft b → IsDraft (with_stated line s b)
 goes_right line (sandbox size) b right free fits d = begun_right size right
 goes_right line (gate name service) b right free fits d =
     gate_right name service b d (free name service refl) (label_some name right.0.0) right.0.1 right.1 fits
@@ -86,7 +86,7 @@ goes_on : (line : ℕ) (s : Stated) (old new : SoFar) → IsRightStatement s
     → ((b : Begun) (name : List ℕ) (service : ℕ) → old.begun ≡ Some b → s ≡ gate name service → IsFree name b)
     → GoesOn line s old new → IsRightSoFar old → IsRightSoFar new
 goes_on line s old new right free (b, is, fits, new_is) so_far =
-    subst IsRightSoFar (sym new_is) (begun_is old (behind line s b) so_far (goes_right line s b right (λ name service e. free b name service is e) fits (so_far.begun b is)))
+    subst IsRightSoFar (sym new_is) (begun_is old (with_stated line s b) so_far (goes_right line s b right (λ name service e. free b name service is e) fits (so_far.begun b is)))
 
 last_right : (s : SoFar) (b : Option Begun) → s.begun ≡ b → IsRightSoFar s → AllByRecursion IsSandbox (last_sandbox b)
 last_right s None is right = tt

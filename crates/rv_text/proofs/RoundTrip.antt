@@ -12,8 +12,8 @@ use Rattle.rv_text.specs.declared.form.Part.TheVariants.{Rd, Rs1, Rs2, Number, N
 use Rattle.rv_text.specs.Tokens.{IsBlank, IsToken, Takes}
 use Rattle.rv_text.specs.Mnemonics.{name_of}
 use Rattle.rv_text.specs.Forms.{form_of}
-use Rattle.rv_text.specs.Operands.{Given, Stands, mode_name}
-use Rattle.rv_text.specs.Reading.{Reads, Fits}
+use Rattle.rv_text.specs.Operands.{OperandValues, Stands, mode_name}
+use Rattle.rv_text.specs.Reading.{Reads, AllSuit}
 use Rattle.rv_text.specs.Statement.{mnemonic_of, operands_of, Means}
 use Rattle.rv_text.specs.Printed.{part_text, operands_text, printed}
 use Rattle.rv_text.specs.Laws.{PrintedReadsBack}
@@ -51,7 +51,7 @@ form_is_spaced (mnemonic.Store width) = refl
 form_is_spaced (mnemonic.Branch cond) = refl
 form_is_spaced _ = refl
 
-operands_end : (o : Given) (form : List Part) → may_follow form ≡ true → Ends (flat_map (part_text o) form)
+operands_end : (o : OperandValues) (form : List Part) → may_follow form ≡ true → Ends (flat_map (part_text o) form)
 operands_end o [] h = tt
 operands_end o (Comma ∷ form) h = refl
 operands_end o (Open ∷ form) h = refl
@@ -68,7 +68,7 @@ and_parts true b h = (refl, h)
 and_parts false b h = cc
 
 -- behind blanks the printed operands of a form read as those operands
-module _ (o : Given) (form : List Part) (gap : List ℕ) (blank : IsBlank gap) where
+module _ (o : OperandValues) (form : List Part) (gap : List ℕ) (blank : IsBlank gap) where
   -- a printed word, and then what follows it
   word_reads : (part : Part) → IsToken (part_text o part) → Stands o part (part_text o part) → may_follow form ≡ true → Reads o form (flat_map (part_text o) form) → Reads o (part ∷ form) (gap ++ (part_text o part ++ flat_map (part_text o) form))
   word_reads part is_token stands follows reads =
@@ -78,7 +78,7 @@ mode_token : (rvc : Bool) → IsToken (mode_name rvc)
 mode_token true = inl (refl, (refl, (refl, tt)))
 mode_token false = inl (refl, (refl, (refl, (refl, (refl, tt)))))
 
-pub reads_printed : (o : Given) (form : List Part) (gap : List ℕ) → IsBlank gap → is_spaced form ≡ true → Fits o form → Reads o form (gap ++ flat_map (part_text o) form)
+pub reads_printed : (o : OperandValues) (form : List Part) (gap : List ℕ) → IsBlank gap → is_spaced form ≡ true → AllSuit o form → Reads o form (gap ++ flat_map (part_text o) form)
 reads_printed o [] gap blank spaced fits = subst IsBlank (sym (append-nil gap)) blank
 reads_printed o (Comma ∷ form) gap blank spaced fits =
     (codes ",", codes " " ++ flat_map (part_text o) form, takes_mark gap 44 _ blank refl, refl, reads_printed o form (codes " ") (refl, tt) spaced fits.1)
@@ -107,11 +107,11 @@ reads_printed o (Mode ∷ form) gap blank spaced fits =
     word_reads o form gap blank Mode (mode_token o.compressed) refl parts.0 (reads_printed o form [] tt parts.1 fits.1)
 
 -- behind the name stand nothing, or a space and the operands
-behind_name_ends : (o : Given) (form : List Part) → Ends (operands_text o form)
+behind_name_ends : (o : OperandValues) (form : List Part) → Ends (operands_text o form)
 behind_name_ends o [] = tt
 behind_name_ends o (part ∷ form) = refl
 
-behind_name_reads : (o : Given) (form : List Part) → is_spaced form ≡ true → Fits o form → Reads o form (operands_text o form)
+behind_name_reads : (o : OperandValues) (form : List Part) → is_spaced form ≡ true → AllSuit o form → Reads o form (operands_text o form)
 behind_name_reads o [] spaced fits = tt
 behind_name_reads o (part ∷ form) spaced fits = reads_printed o (part ∷ form) (codes " ") (refl, tt) spaced fits
 

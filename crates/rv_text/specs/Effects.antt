@@ -28,16 +28,16 @@ RefusesLabel name old e =
     × (((64 < length name) × (e ≡ cause.Limit))
     ⊎ ((length name ≤ 64) × (IsFree name b → ⊥) × (e ≡ cause.LabelTwice))))
 
--- a statement of this kind may stand there: gates before the sandbox's first label and instruction, instructions in the
+-- a statement of this kind may come there: gates before the sandbox's first label and instruction, instructions in the
 -- code part, data in the data part
-abbrev pub MayStand : Place → Option Begun → Type 0
-MayStand place.Outside b = Unit {0}
-MayStand place.Gates None = ⊥
-MayStand place.Gates (Some b) = b.opened ≡ false
-MayStand place.Code None = ⊥
-MayStand place.Code (Some b) = b.in_data ≡ false
-MayStand place.Data None = ⊥
-MayStand place.Data (Some b) = b.in_data ≡ true
+abbrev pub MayCome : Place → Option Begun → Type 0
+MayCome place.Outside b = Unit {0}
+MayCome place.Gates None = ⊥
+MayCome place.Gates (Some b) = b.opened ≡ false
+MayCome place.Code None = ⊥
+MayCome place.Code (Some b) = b.in_data ≡ false
+MayCome place.Data None = ⊥
+MayCome place.Data (Some b) = b.in_data ≡ true
 
 -- how many gates, instructions and data bytes a sandbox may have: 64, 65536 and those that it was begun with
 abbrev pub Fits : Stated → Begun → Type 0
@@ -51,23 +51,23 @@ Fits (jump instr name) b = length b.sandbox.items + 1 ≤ 65536
 Fits (address rd name) b = length b.sandbox.items + 2 ≤ 65536
 
 -- the sandbox behind a statement of a line; a name that an instruction goes to is met
-abbrev pub behind : ℕ → Stated → Begun → Begun
-behind line (sandbox size) b = begin size
-behind line (gate name service) b = with_gate name service b
-behind line (compressed rvc) b = record b { rvc = rvc }
-behind line data_part b = record b { in_data = true }
-behind line (bytes values) b = with_bytes values b
-behind line (plain instrs) b = with_bodies line (map Plain instrs) b
-behind line (jump instr name) b =
+abbrev pub with_stated : ℕ → Stated → Begun → Begun
+with_stated line (sandbox size) b = begin size
+with_stated line (gate name service) b = with_gate name service b
+with_stated line (compressed rvc) b = record b { rvc = rvc }
+with_stated line data_part b = record b { in_data = true }
+with_stated line (bytes values) b = with_bytes values b
+with_stated line (plain instrs) b = with_bodies line (map Plain instrs) b
+with_stated line (jump instr name) b =
     with_bodies line (To instr (place_of b.sandbox.names name) ∷ []) (with_names (met b.sandbox.names name) b)
-behind line (address rd name) b =
+with_stated line (address rd name) b =
     with_bodies line (High rd (place_of b.sandbox.names name) ∷ Low rd (place_of b.sandbox.names name) ∷ [])
     (with_names (met b.sandbox.names name) b)
 
 -- a statement of a line goes on with the sandbox begun last, and fits there
 abbrev pub GoesOn : ℕ → Stated → SoFar → SoFar → Type 0
 GoesOn line s old new =
-    (b : Begun) × (old.begun ≡ Some b) × Fits s b × (new ≡ record old { begun = Some (behind line s b) })
+    (b : Begun) × (old.begun ≡ Some b) × Fits s b × (new ≡ record old { begun = Some (with_stated line s b) })
 
 -- a statement of a line, which may stand there, leads to the next source so far
 abbrev pub Does : ℕ → Stated → SoFar → SoFar → Type 0

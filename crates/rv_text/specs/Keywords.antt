@@ -20,7 +20,7 @@ use Rattle.rv_text.specs.declared.form.NumberKind.TheVariants.{DataSize, Service
 use Rattle.rv_text.specs.declared.form.Part.{Part}
 use Rattle.rv_text.specs.declared.form.Part.TheVariants.{Rd, Rs1, Rs2, Number, Name, Mode, Comma}
 use Rattle.rv_text.specs.Mnemonics.{name_of}
-use Rattle.rv_text.specs.Operands.{Given}
+use Rattle.rv_text.specs.Operands.{OperandValues}
 use Rattle.rv_text.specs.Constants.{constant}
 use Rattle.rv_text.specs.Stated.{Stated, sandbox, gate, compressed, data_part, bytes, plain, jump, address}
 
@@ -39,7 +39,7 @@ directive_form directive.Option = Mode ∷ []
 directive_form directive.Data = []
 directive_form directive.Zero = Number ZeroCount ∷ []
 
-abbrev pub directive_states : Directive → Given → Stated
+abbrev pub directive_states : Directive → OperandValues → Stated
 directive_states directive.Sandbox o = sandbox (unsigned_abs o.number)
 directive_states directive.Gate o = gate o.name (unsigned_abs o.number)
 directive_states directive.Option o = compressed o.compressed
@@ -71,7 +71,7 @@ pseudo_form Beqz = Rs1 ∷ Comma ∷ Name ∷ []
 pseudo_form Bnez = Rs1 ∷ Comma ∷ Name ∷ []
 pseudo_form La = Rd ∷ Comma ∷ Name ∷ []
 
-abbrev pub pseudo_states : Pseudo → Given → Stated
+abbrev pub pseudo_states : Pseudo → OperandValues → Stated
 pseudo_states Nop o = plain (instr.OpImm Addi 0 0 (pos 0) ∷ [])
 pseudo_states Ret o = plain (instr.Jalr 0 1 (pos 0) ∷ [])
 pseudo_states Li o = plain (constant o.rd o.number)
@@ -87,13 +87,13 @@ pseudo_states La o = address o.rd o.name
 abbrev pub branch_form : List Part
 branch_form = Rs1 ∷ Comma ∷ Rs2 ∷ Comma ∷ Name ∷ []
 
-abbrev pub branch_states : Cond → Given → Stated
+abbrev pub branch_states : Cond → OperandValues → Stated
 branch_states cond o = jump (instr.Branch cond o.rs1 o.rs2 (pos 0)) o.name
 
 abbrev pub jal_form : List Part
 jal_form = Rd ∷ Comma ∷ Name ∷ []
 
-abbrev pub jal_states : Given → Stated
+abbrev pub jal_states : OperandValues → Stated
 jal_states o = jump (instr.Jal o.rd (pos 0)) o.name
 
 -- lists of data

@@ -11,7 +11,7 @@ use Rattle.rv_text.specs.Keywords.{keyword_name, place_of_keyword}
 use Rattle.rv_text.specs.Lines.{StatesBehind, RefusedWith, NameRefused}
 use Rattle.rv_text.specs.Stated.{Stated}
 use Rattle.rv_text.specs.SoFar.{Begun, SoFar}
-use Rattle.rv_text.specs.Effects.{IsFree, Labels, RefusesLabel, MayStand, Does, HasNoRoom}
+use Rattle.rv_text.specs.Effects.{IsFree, Labels, RefusesLabel, MayCome, Does, HasNoRoom}
 
 -- the text begins with a name that a label or a gate may have, and then this
 abbrev pub BeginsWithName : List ℕ → List ℕ → List ℕ → Type 0
@@ -53,7 +53,7 @@ IsGateTwice k s text =
 -- the next one
 abbrev pub LeadsBehind : Keyword → ℕ → SoFar → List ℕ → SoFar → Type 0
 LeadsBehind k line old text new =
-    MayStand (place_of_keyword k) old.begun × (IsGateTwice k old text → ⊥)
+    MayCome (place_of_keyword k) old.begun × (IsGateTwice k old text → ⊥)
     × ((s : Stated) × StatesBehind k text s × Does line s old new)
 
 -- the text is a statement of this line, which leads from the source so far to the next one
@@ -91,8 +91,8 @@ OperandsRefused k s text e =
 -- a statement of this keyword, with this text behind it, is refused for this cause
 abbrev pub RefusedBehind : Keyword → SoFar → List ℕ → TextCause → Type 0
 RefusedBehind k s text e =
-    ((MayStand (place_of_keyword k) s.begun → ⊥) × (e ≡ cause.Directive))
-    ⊎ (MayStand (place_of_keyword k) s.begun × OperandsRefused k s text e)
+    ((MayCome (place_of_keyword k) s.begun → ⊥) × (e ≡ cause.Directive))
+    ⊎ (MayCome (place_of_keyword k) s.begun × OperandsRefused k s text e)
 
 -- a statement with this first token and this rest is refused for this cause
 abbrev pub RefusedFrom : SoFar → List ℕ → List ℕ → TextCause → Type 0

@@ -14,18 +14,19 @@ use Rattle.rv_text.specs.declared.keyword.Keyword.{Keyword}
 use Rattle.rv_text.specs.declared.keyword.Keyword.TheVariants as keyword
 use Rattle.rv_text.specs.Tokens.{IsName, IsNumber, Takes, AreTokens}
 use Rattle.rv_text.specs.Mnemonics.{name_of}
-use Rattle.rv_text.specs.Forms.{IsNumberOf, form_of}
-use Rattle.rv_text.specs.Operands.{Given, HasForm, Unformed, Missing, Differs, Departs}
-use Rattle.rv_text.specs.Statement.{Spells, IsBareFence}
+use Rattle.rv_text.specs.Forms.{IsNumberOf}
+use Rattle.rv_text.specs.Operands.{OperandValues, HasForm, Unformed, Missing, Differs, Departs}
+use Rattle.rv_text.specs.Statement.{Spells, OperandsDepart}
 use Rattle.rv_text.specs.Constants.{data_bytes}
 use Rattle.rv_text.specs.Keywords.{directive_form, directive_states, pseudo_form, pseudo_states, branch_form, branch_states, jal_form, jal_states, data_kind, keyword_name}
 use Rattle.rv_text.specs.Stated.{Stated, bytes, plain}
 
 -- the tokens stand at the parts of the form, and with these operands state this
-abbrev pub IsRow : List Part → (Given → Stated) → List (List ℕ) → Stated → Type 0
-IsRow form states tokens s = (o : Given) × HasForm o form tokens × (s ≡ states o)
+abbrev pub IsRow : List Part → (OperandValues → Stated) → List (List ℕ) → Stated → Type 0
+IsRow form states tokens s = (o : OperandValues) × HasForm o form tokens × (s ≡ states o)
 
--- the tokens behind the name are those of an instruction; a branch and a jal go to a name
+-- the tokens behind the name are those of an instruction: a branch and a jal go to a name, and each of the others has the
+-- operands that it has in the text of one instruction
 abbrev pub IsInstr : Mnemonic → List (List ℕ) → Stated → Type 0
 IsInstr (mnemonic.Branch cond) tokens s = IsRow branch_form (branch_states cond) tokens s
 IsInstr mnemonic.Jal tokens s = IsRow jal_form jal_states tokens s
@@ -63,11 +64,6 @@ Behind (keyword.Pseudo name) tokens s = IsRow (pseudo_form name) (pseudo_states 
 Behind (keyword.Directive name) tokens s = IsRow (directive_form name) (directive_states name) tokens s
 Behind (keyword.Numbers width) tokens s = IsData width tokens s
 
--- the tokens state this: a keyword, and what stands behind it
-abbrev pub States : List (List ℕ) → Stated → Type 0
-States [] s = ⊥
-States (name ∷ tokens) s = (k : Keyword) × (name ≡ keyword_name k) × Behind k tokens s
-
 -- the text behind this keyword states this with it
 abbrev pub StatesBehind : Keyword → List ℕ → Stated → Type 0
 StatesBehind k text s = (tokens : List (List ℕ)) × AreTokens text tokens × Behind k tokens s
@@ -101,11 +97,12 @@ ListDeparts kind text e =
     ⊎ ((token : List ℕ) × (rest : List ℕ) × (z : ℤ) × Takes text token rest × Writes kind token z
     × ((numbers : List ℤ) × (last : List ℕ) × LeadsByMore kind numbers rest last × MoreDeparts kind last e))
 
--- the first token behind an instruction's name that departs from it does so for this cause
+-- the first token behind an instruction's name that departs from it does so for this cause: from a branch or a jal to a
+-- name, or from any other instruction
 abbrev pub InstrDeparts : Mnemonic → List ℕ → TextCause → Type 0
 InstrDeparts (mnemonic.Branch cond) text e = Departs branch_form text e
 InstrDeparts mnemonic.Jal text e = Departs jal_form text e
-InstrDeparts name text e = (IsBareFence name text → ⊥) × Departs (form_of name) text e
+InstrDeparts name text e = OperandsDepart name text e
 
 -- the text behind this keyword states nothing with it, for the cause of the first token that departs
 abbrev pub RefusedWith : Keyword → List ℕ → TextCause → Type 0

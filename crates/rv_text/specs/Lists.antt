@@ -14,7 +14,7 @@ use Rattle.rv_text.specs.Tokens.{Takes, IsBlank}
 use Rattle.rv_text.specs.Keywords.{directive_form, directive_states, pseudo_form, pseudo_states, branch_form, branch_states, jal_form, jal_states, data_kind}
 use Rattle.rv_text.specs.Constants.{data_bytes}
 use Rattle.rv_text.specs.Lines.{Writes, LeadsByMore, MoreDeparts}
-use Rattle.rv_text.specs.Operands.{Given}
+use Rattle.rv_text.specs.Operands.{OperandValues}
 use Rattle.rv_text.specs.Reading.{Reads, FollowsName}
 use Rattle.rv_text.specs.Stated.{Stated, bytes, plain}
 
@@ -53,10 +53,11 @@ ReadsList width text values =
     × ReadsMore width (data_bytes width z) values rest
 
 -- the text gives the operands of this form, which state this
-abbrev pub ReadsRow : List Part → (Given → Stated) → List ℕ → Stated → Type 0
-ReadsRow form states text s = (o : Given) × Reads o form text × (s ≡ states o)
+abbrev pub ReadsRow : List Part → (OperandValues → Stated) → List ℕ → Stated → Type 0
+ReadsRow form states text s = (o : OperandValues) × Reads o form text × (s ≡ states o)
 
--- the text behind the instruction's name gives its operands
+-- the text behind the instruction's name gives its operands: for a branch and a jal a name, for any other those that it
+-- has in the text of one instruction
 abbrev pub ReadsInstr : Mnemonic → List ℕ → Stated → Type 0
 ReadsInstr (mnemonic.Branch cond) text s = ReadsRow branch_form (branch_states cond) text s
 ReadsInstr mnemonic.Jal text s = ReadsRow jal_form jal_states text s

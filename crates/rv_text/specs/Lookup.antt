@@ -4,7 +4,7 @@ use Rattle.std.specs.List.{position, find}
 use Rattle.std.specs.Str.{bytes_eq}
 use Rattle.rv_text.specs.declared.mnemonic.TheConstants.{ALL}
 use Rattle.rv_text.specs.declared.mnemonic.Mnemonic.{Mnemonic}
-use Rattle.rv_text.specs.declared.keyword.TheConstants.{KEYWORDS}
+use Rattle.rv_text.specs.declared.keyword.TheConstants.{OTHERS}
 use Rattle.rv_text.specs.declared.keyword.Keyword.{Keyword}
 use Rattle.rv_text.specs.Keywords.{keyword_name}
 use Rattle.rv_text.specs.Mnemonics.{name_of}
@@ -28,15 +28,15 @@ or_else None other = other
 or_else (Some k) other = Some k
 
 -- the number of the register of this name
-unfoldable pub register_of : List ℕ → Option ℕ
-register_of text =
+unfoldable pub find_register : List ℕ → Option ℕ
+find_register text =
     if bytes_eq text (codes "fp") then Some 8
     else or_else (place numbered_names text) (place abi_names text)
 
 -- the mnemonic of this name
-unfoldable pub mnemonic_of : List ℕ → Option Mnemonic
-mnemonic_of text = find (λ m. bytes_eq (name_of m) text) ALL
+unfoldable pub find_mnemonic : List ℕ → Option Mnemonic
+find_mnemonic text = find (λ m. bytes_eq (name_of m) text) ALL
 
--- the keyword of this name
-unfoldable pub keyword_of : List ℕ → Option Keyword
-keyword_of text = find (λ k. bytes_eq (keyword_name k) text) KEYWORDS
+-- the keyword of this name that isn't the name of an instruction
+unfoldable pub find_other : List ℕ → Option Keyword
+find_other text = find (λ k. bytes_eq (keyword_name k) text) OTHERS

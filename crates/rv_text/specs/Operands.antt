@@ -10,7 +10,7 @@ use Rattle.rv_text.specs.Registers.{IsRegister}
 use Rattle.rv_text.specs.Forms.{IsNumberOf}
 
 -- the operands of a statement: registers, a number, a name, and whether `rvc` stands there
-pub record Given : Type 0 where
+pub record OperandValues : Type 0 where
   pub rd : ℕ
   pub rs1 : ℕ
   pub rs2 : ℕ
@@ -19,8 +19,8 @@ pub record Given : Type 0 where
   pub compressed : Bool
 
 -- those that the code keeps
-abbrev pub given : Operands → Given
-given o =
+abbrev pub values_of : Operands → OperandValues
+values_of o =
     record {
       rd = o.rd;
       rs1 = o.rs1;
@@ -36,7 +36,7 @@ mode_name true = codes "rvc"
 mode_name false = codes "norvc"
 
 -- the token stands at this part of a statement with these operands
-abbrev pub Stands : Given → Part → List ℕ → Type 0
+abbrev pub Stands : OperandValues → Part → List ℕ → Type 0
 Stands o Rd token = IsRegister token o.rd
 Stands o Rs1 token = IsRegister token o.rs1
 Stands o Rs2 token = IsRegister token o.rs2
@@ -48,7 +48,7 @@ Stands o Open token = token ≡ codes "("
 Stands o Close token = token ≡ codes ")"
 
 -- the tokens stand at the parts of the form, one each
-abbrev pub HasForm : Given → List Part → List (List ℕ) → Type 0
+abbrev pub HasForm : OperandValues → List Part → List (List ℕ) → Type 0
 HasForm o [] [] = Unit {0}
 HasForm o [] (token ∷ tokens) = ⊥
 HasForm o (part ∷ form) [] = ⊥
@@ -84,7 +84,7 @@ Beyond text e = (token : List ℕ) × (rest : List ℕ) × Takes text token rest
 
 -- the token can't stand at this part
 abbrev pub Differs : Part → List ℕ → TextCause → Type 0
-Differs part token e = ((o : Given) → Stands o part token → ⊥) × (e ≡ part_cause part token)
+Differs part token e = ((o : OperandValues) → Stands o part token → ⊥) × (e ≡ part_cause part token)
 
 -- the first token of the text that departs from the form does so for this cause
 abbrev pub Departs : List Part → List ℕ → TextCause → Type 0
@@ -93,4 +93,4 @@ Departs (part ∷ form) text e =
     Unformed text e
     ⊎ (Missing text e
     ⊎ ((token : List ℕ) × (rest : List ℕ) × Takes text token rest
-    × (Differs part token e ⊎ ((o : Given) × Stands o part token × Departs form rest e))))
+    × (Differs part token e ⊎ ((o : OperandValues) × Stands o part token × Departs form rest e))))

@@ -8,20 +8,20 @@ use Rattle.rv_text.specs.declared.form.NumberKind.{NumberKind}
 use Rattle.rv_text.specs.declared.form.NumberKind.TheVariants.{Upper}
 use Rattle.rv_text.specs.declared.form.Part.{Part}
 use Rattle.rv_text.specs.declared.form.Part.TheVariants.{Rd, Rs1, Rs2, Number, Name, Mode, Comma, Open, Close}
-use Rattle.rv_text.specs.Operands.{Given, mode_name}
+use Rattle.rv_text.specs.Operands.{OperandValues, mode_name}
 use Rattle.rv_text.specs.Mnemonics.{name_of}
 use Rattle.rv_text.specs.Forms.{form_of}
 use Rattle.rv_text.specs.Registers.{x_name}
 use Rattle.rv_text.specs.Statement.{mnemonic_of, operands_of}
 
--- numbers are decimal, with `-` where negative; those of lui and auipc are `0x` and lower
--- hexadecimal, without leading zeros
+-- those of lui and auipc, which are never negative, are `0x` and lower hexadecimal, without leading zeros; numbers of any
+-- other kind are decimal, with `-` where negative
 abbrev pub number_text : NumberKind → ℤ → List ℕ
 number_text Upper (pos n) = codes "0x" ++ digits 16 false n
 number_text kind z = signed_decimal z
 
 -- registers are x0 to x31, and a space follows a comma
-abbrev pub part_text : Given → Part → List ℕ
+abbrev pub part_text : OperandValues → Part → List ℕ
 part_text o Rd = x_name o.rd
 part_text o Rs1 = x_name o.rs1
 part_text o Rs2 = x_name o.rs2
@@ -33,12 +33,12 @@ part_text o Open = codes "("
 part_text o Close = codes ")"
 
 -- the operands behind a space, or nothing where there are none
-abbrev pub operands_text : Given → List Part → List ℕ
+abbrev pub operands_text : OperandValues → List Part → List ℕ
 operands_text o [] = []
 operands_text o (part ∷ form) = codes " " ++ flat_map (part_text o) (part ∷ form)
 
 -- a statement's text: its name and its operands
-abbrev pub statement_text : Mnemonic → Given → List ℕ
+abbrev pub statement_text : Mnemonic → OperandValues → List ℕ
 statement_text name o = name_of name ++ operands_text o (form_of name)
 
 -- the text of an instruction

@@ -2,25 +2,24 @@
 use Rattle.std.specs.Prelude.{◌≡◌, ◌≢◌, ℕ, ◌<◌, ◌≤◌, ◌⊎◌, Bool, ◌&&◌, ◌||◌, nat_lt, ◌==◌, not, true, List, [], ◌∷◌, length}
 use Rattle.std.specs.List.{AllByRecursion, list_all}
 use Rattle.rv_word.specs.declared.instr.Instr.{Instr}
-use Rattle.rv_text.specs.declared.cause.TextCause.{TextCause}
 use Rattle.rv_text.specs.declared.form.Part.{Part}
 use Rattle.rv_text.specs.declared.form.Part.TheVariants.{Rd, Rs1, Rs2, Number, Name, Mode, Comma, Open, Close}
 use Rattle.rv_text.specs.declared.mnemonic.Mnemonic.{Mnemonic}
 use Rattle.rv_text.specs.Tokens.{Takes, IsBlank, IsLabel}
 use Rattle.rv_text.specs.Mnemonics.{name_of}
 use Rattle.rv_text.specs.Forms.{IsNumberOf, form_of}
-use Rattle.rv_text.specs.Operands.{Given, Stands, Departs}
-use Rattle.rv_text.specs.Statement.{mnemonic_of, operands_of, full_fence, IsBareFence}
+use Rattle.rv_text.specs.Operands.{OperandValues, Stands}
+use Rattle.rv_text.specs.Statement.{mnemonic_of, operands_of, full_fence}
 
 -- the text's tokens stand at the parts of the form, one each
-abbrev pub Reads : Given → List Part → List ℕ → Type 0
+abbrev pub Reads : OperandValues → List Part → List ℕ → Type 0
 Reads o [] text = IsBlank text
 Reads o (part ∷ form) text =
     (token : List ℕ) × (rest : List ℕ) × Takes text token rest
     × Stands o part token × Reads o form rest
 
 -- two statements have the same operand at a part; a mark has none
-abbrev pub SameAt : Part → Given → Given → Type 0
+abbrev pub SameAt : Part → OperandValues → OperandValues → Type 0
 SameAt Rd a b = a.rd ≡ b.rd
 SameAt Rs1 a b = a.rs1 ≡ b.rs1
 SameAt Rs2 a b = a.rs2 ≡ b.rs2
@@ -32,7 +31,7 @@ SameAt Open a b = Unit {0}
 SameAt Close a b = Unit {0}
 
 -- two statements have the same operands at the parts of a form
-abbrev pub AgreesOn : List Part → Given → Given → Type 0
+abbrev pub AgreesOn : List Part → OperandValues → OperandValues → Type 0
 AgreesOn form a b = AllByRecursion (λ part. SameAt part a b) form
 
 -- which operand a part gives, by number; marks, which give none, come after 5
@@ -48,11 +47,11 @@ slot Open = 7
 slot Close = 8
 
 -- each operand but the one at this part is as it was
-abbrev pub KeepsOthers : Part → Given → Given → Type 0
+abbrev pub KeepsOthers : Part → OperandValues → OperandValues → Type 0
 KeepsOthers part old new = (p : Part) → slot p ≢ slot part → SameAt p new old
 
 -- the operand is one that can stand at this part
-abbrev pub Suits : Given → Part → Type 0
+abbrev pub Suits : OperandValues → Part → Type 0
 Suits o Rd = o.rd < 32
 Suits o Rs1 = o.rs1 < 32
 Suits o Rs2 = o.rs2 < 32
@@ -64,8 +63,8 @@ Suits o Open = Unit {0}
 Suits o Close = Unit {0}
 
 -- each operand that the form names is one that can stand there
-abbrev pub Fits : Given → List Part → Type 0
-Fits o form = AllByRecursion (λ part. Suits o part) form
+abbrev pub AllSuit : OperandValues → List Part → Type 0
+AllSuit o form = AllByRecursion (λ part. Suits o part) form
 
 -- the part's operand is not among those of the form
 abbrev pub is_fresh : Part → List Part → Bool
@@ -88,7 +87,3 @@ FollowsName rest name i = (mnemonic_of i ≡ name) × Follows rest i
 -- the instruction has this token as its name, and the text behind it gives its operands
 abbrev pub FollowsToken : List ℕ → List ℕ → Instr → Type 0
 FollowsToken token rest i = (name_of (mnemonic_of i) ≡ token) × Follows rest i
-
--- what the text behind a name is refused for
-abbrev pub RefusedBehind : Mnemonic → List ℕ → TextCause → Type 0
-RefusedBehind name rest e = (IsBareFence name rest → ⊥) × Departs (form_of name) rest e

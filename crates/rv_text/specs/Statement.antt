@@ -9,7 +9,7 @@ use Rattle.rv_text.specs.declared.mnemonic.Mnemonic.TheVariants as mnemonic
 use Rattle.rv_text.specs.Tokens.{IsName, Takes, IsBlank, AreTokens}
 use Rattle.rv_text.specs.Mnemonics.{name_of}
 use Rattle.rv_text.specs.Forms.{form_of}
-use Rattle.rv_text.specs.Operands.{Given, HasForm, Unformed, Missing, Departs}
+use Rattle.rv_text.specs.Operands.{OperandValues, HasForm, Unformed, Missing, Departs}
 
 -- an instruction's mnemonic
 abbrev pub mnemonic_of : Instr → Mnemonic
@@ -27,12 +27,12 @@ mnemonic_of instr.Ecall = mnemonic.Ecall
 mnemonic_of instr.Ebreak = mnemonic.Ebreak
 
 -- these registers and this number
-abbrev pub operands : ℕ → ℕ → ℕ → ℤ → Given
+abbrev pub operands : ℕ → ℕ → ℕ → ℤ → OperandValues
 operands rd rs1 rs2 number =
     record { rd = rd; rs1 = rs1; rs2 = rs2; number = number; name = []; compressed = false }
 
 -- its operands by their places; those that its form lacks are 0 or none
-abbrev pub operands_of : Instr → Given
+abbrev pub operands_of : Instr → OperandValues
 operands_of (instr.Op op rd rs1 rs2) = operands rd rs1 rs2 (pos 0)
 operands_of (instr.OpImm op rd rs1 imm) = operands rd rs1 0 imm
 operands_of (instr.Load kind rd rs1 imm) = operands rd rs1 0 imm
@@ -66,6 +66,11 @@ Means text i = (tokens : List (List ℕ)) × AreTokens text tokens × Spells i t
 abbrev pub IsBareFence : Mnemonic → List ℕ → Type 0
 IsBareFence name rest = (name ≡ mnemonic.Fence) × IsBlank rest
 
+-- the first token behind an instruction's name that departs from its operands does so for this cause; none departs from a
+-- fence without operands
+abbrev pub OperandsDepart : Mnemonic → List ℕ → TextCause → Type 0
+OperandsDepart name rest e = (IsBareFence name rest → ⊥) × Departs (form_of name) rest e
+
 -- the token is a name that no instruction has, a pseudo-instruction's too
 abbrev pub IsUnknown : List ℕ → Type 0
 IsUnknown token = IsName token × ((m : Mnemonic) → name_of m ≡ token → ⊥)
@@ -75,8 +80,7 @@ abbrev pub RefusedAt : List ℕ → List ℕ → TextCause → Type 0
 RefusedAt token rest e =
     ((IsName token → ⊥) × (e ≡ cause.Operands))
     ⊎ ((IsUnknown token × (e ≡ cause.Word))
-    ⊎ ((m : Mnemonic) × (name_of m ≡ token) × (IsBareFence m rest → ⊥)
-    × Departs (form_of m) rest e))
+    ⊎ ((m : Mnemonic) × (name_of m ≡ token) × OperandsDepart m rest e))
 
 -- the text means nothing: the first token that departs from an instruction does so for this cause
 abbrev pub Refused : List ℕ → TextCause → Type 0

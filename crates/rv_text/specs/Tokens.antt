@@ -34,7 +34,7 @@ begins_label (c ∷ cs) = is_ascii_alphabetic c || (c == 95)
 abbrev pub IsLabel : List ℕ → Type 0
 IsLabel text = IsName text × IsTrue (begins_label text)
 
--- it has more than 64 bytes
+-- it begins as such a name, and has more than 64 bytes
 abbrev pub is_too_long : List ℕ → Bool
 is_too_long text = begins_label text && nat_lt 64 (length text)
 

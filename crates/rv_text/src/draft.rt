@@ -2,7 +2,7 @@
 ghost use Rattle.std.specs.Prelude.{◌≡◌, ◌≤◌, ◌+◌, ◌<◌, ◌⊎◌, ◌∷◌, [], map, length, replicate, IfOk, IfErr, OnOk, IsTrue, ◌↔◌, true};
 ghost use Rattle.rv_text.specs.declared.cause.TextCause.TheVariants as cause;
 ghost use Rattle.rv_text.specs.declared.item.Body.TheVariants.{Plain, To, High, Low};
-ghost use Rattle.rv_text.specs.Effects.{IsFree, Fits, behind};
+ghost use Rattle.rv_text.specs.Effects.{IsFree, Fits, with_stated};
 ghost use Rattle.rv_text.specs.NameTable.{place_of, met};
 ghost use Rattle.rv_text.specs.Stated.{stated};
 ghost use Rattle.rv_text.specs.SoFar.{begin, here, with_names, with_label, with_gate, with_bodies, with_bytes};
@@ -16,13 +16,10 @@ use std::alloc::Global;
 use std::marker::Model;
 
 /// The most gates of a sandbox.
-pub const MOST_GATES: usize = 64;
+const MOST_GATES: usize = 64;
 
 /// The most instructions of a sandbox.
-pub const MOST_ITEMS: usize = 65536;
-
-/// The most bytes of a name.
-pub const MOST_NAME: usize = 64;
+const MOST_ITEMS: usize = 65536;
 
 /// The sandbox begun last.
 #[derive(Debug, Drop)]
@@ -122,7 +119,7 @@ impl Draft {
     }
 
     /// Adds a gate of this service.
-    pub fn gate(&mut self, alloc: Global, name: &str, service: u32) -> Result<(), TextCause>
+    fn gate(&mut self, alloc: Global, name: &str, service: u32) -> Result<(), TextCause>
         ensures ok { OnOk result ((length self.old.sandbox.gates + 1 ≤ 64) × (self.new ≡ with_gate name.now service self.old)) }
         ensures cause { IfErr result (λ e. (e ≡ cause.Memory) ⊎ ((64 < length self.old.sandbox.gates + 1) × (e ≡ cause.Limit))) }
     {
@@ -140,21 +137,21 @@ impl Draft {
     }
 
     /// Says whether 16-bit forms may stand for the instructions from here on.
-    pub fn set_rvc(&mut self, rvc: bool)
+    fn set_rvc(&mut self, rvc: bool)
         ensures { self.new ≡ record self.old { rvc = rvc } }
     {
         self.rvc = rvc;
     }
 
     /// Ends the code part.
-    pub fn begin_data(&mut self)
+    fn begin_data(&mut self)
         ensures { self.new ≡ record self.old { in_data = true } }
     {
         self.in_data = true;
     }
 
     /// Adds bytes of data.
-    pub fn push_bytes(&mut self, bytes: &[u8]) -> Result<(), TextCause>
+    fn push_bytes(&mut self, bytes: &[u8]) -> Result<(), TextCause>
         ensures ok { OnOk result ((length self.old.sandbox.bytes + length bytes.now ≤ self.old.sandbox.data_size) × (self.new ≡ with_bytes bytes.now self.old)) }
         ensures cause { IfErr result (λ e. (e ≡ cause.Memory) ⊎ ((self.old.sandbox.data_size < length self.old.sandbox.bytes + length bytes.now) × (e ≡ cause.Limit))) }
     {
@@ -166,7 +163,7 @@ impl Draft {
     }
 
     /// Adds bytes of data that are 0.
-    pub fn push_zeros(&mut self, count: u32) -> Result<(), TextCause>
+    fn push_zeros(&mut self, count: u32) -> Result<(), TextCause>
         ensures ok { OnOk result ((length self.old.sandbox.bytes + count ≤ self.old.sandbox.data_size) × (self.new ≡ with_bytes (replicate count 0) self.old)) }
         ensures cause { IfErr result (λ e. (e ≡ cause.Memory) ⊎ ((self.old.sandbox.data_size < length self.old.sandbox.bytes + count) × (e ≡ cause.Limit))) }
     {
@@ -179,7 +176,7 @@ impl Draft {
     }
 
     /// Adds an instruction of this line.
-    pub fn push(&mut self, line: u32, body: Body) -> Result<(), TextCause>
+    fn push(&mut self, line: u32, body: Body) -> Result<(), TextCause>
         ensures ok { OnOk result ((length self.old.sandbox.items + 1 ≤ 65536) × (self.new ≡ with_bodies line (body ∷ []) self.old)) }
         ensures cause { IfErr result (λ e. (e ≡ cause.Memory) ⊎ ((65536 < length self.old.sandbox.items + 1) × (e ≡ cause.Limit))) }
     {
@@ -198,7 +195,7 @@ impl Draft {
     }
 
     /// The place of a name that an instruction goes to, and that is met here.
-    pub fn meet(&mut self, alloc: Global, name: &str) -> Result<usize, TextCause>
+    fn meet(&mut self, alloc: Global, name: &str) -> Result<usize, TextCause>
         ensures met { OnOk result (self.new ≡ with_names (met self.old.sandbox.names name.now) self.old) }
         ensures place { IfOk result (λ place. place ≡ place_of self.old.sandbox.names name.now) }
         ensures memory { IfErr result (λ e. e ≡ cause.Memory) }
@@ -207,7 +204,7 @@ impl Draft {
     }
 
     /// Adds two instructions of this line.
-    pub fn push_two(&mut self, line: u32, first: Body, second: Body) -> Result<(), TextCause>
+    fn push_two(&mut self, line: u32, first: Body, second: Body) -> Result<(), TextCause>
         ensures ok { OnOk result ((length self.old.sandbox.items + 2 ≤ 65536) × (self.new ≡ with_bodies line (first ∷ second ∷ []) self.old)) }
         ensures cause { IfErr result (λ e. (e ≡ cause.Memory) ⊎ ((65536 < length self.old.sandbox.items + 2) × (e ≡ cause.Limit))) }
     {
@@ -223,7 +220,7 @@ impl Draft {
         statement: Statement<'_>,
     ) -> Result<(), TextCause>
         ensures fits { OnOk result (Fits (stated statement.entry) self.old) }
-        ensures behind { OnOk result (self.new ≡ behind line (stated statement.entry) self.old) }
+        ensures behind { OnOk result (self.new ≡ with_stated line (stated statement.entry) self.old) }
         ensures cause { IfErr result (λ e. (e ≡ cause.Memory) ⊎ ((Fits (stated statement.entry) self.old → ⊥) × (e ≡ cause.Limit))) }
     {
         match statement {

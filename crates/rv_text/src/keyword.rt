@@ -1,12 +1,11 @@
 //! The first words of statements: directives, pseudo-instructions and the names of instructions.
 ghost use Rattle.std.specs.Prelude.{◌≡◌, IfSome, IfNone};
 ghost use Rattle.rv_text.specs.Keywords.{directive_name, directive_form, pseudo_name, pseudo_form, data_name, data_kind, keyword_name, place_of_keyword};
-ghost use Rattle.rv_text.specs.Lookup.{keyword_of};
+ghost use Rattle.rv_text.specs.Lookup.{find_other};
 
 use crate::form::{NumberKind, Part};
 use crate::mnemonic::Mnemonic;
 use crate::statement::Place;
-use rv_word::{Cond, ImmOp, LoadKind, RegOp, StoreWidth};
 
 /// A directive, but for those of lists of data.
 #[derive(Clone, Copy, Debug, PartialEq, Eq)]
@@ -50,56 +49,8 @@ pub enum Keyword {
     Numbers(DataWidth),
 }
 
-/// Every keyword.
-const KEYWORDS: [Keyword; 66] = [
-    Keyword::Instr(Mnemonic::Op(RegOp::Add)),
-    Keyword::Instr(Mnemonic::Op(RegOp::Sub)),
-    Keyword::Instr(Mnemonic::Op(RegOp::Sll)),
-    Keyword::Instr(Mnemonic::Op(RegOp::Slt)),
-    Keyword::Instr(Mnemonic::Op(RegOp::Sltu)),
-    Keyword::Instr(Mnemonic::Op(RegOp::Xor)),
-    Keyword::Instr(Mnemonic::Op(RegOp::Srl)),
-    Keyword::Instr(Mnemonic::Op(RegOp::Sra)),
-    Keyword::Instr(Mnemonic::Op(RegOp::Or)),
-    Keyword::Instr(Mnemonic::Op(RegOp::And)),
-    Keyword::Instr(Mnemonic::Op(RegOp::Mul)),
-    Keyword::Instr(Mnemonic::Op(RegOp::Mulh)),
-    Keyword::Instr(Mnemonic::Op(RegOp::Mulhsu)),
-    Keyword::Instr(Mnemonic::Op(RegOp::Mulhu)),
-    Keyword::Instr(Mnemonic::Op(RegOp::Div)),
-    Keyword::Instr(Mnemonic::Op(RegOp::Divu)),
-    Keyword::Instr(Mnemonic::Op(RegOp::Rem)),
-    Keyword::Instr(Mnemonic::Op(RegOp::Remu)),
-    Keyword::Instr(Mnemonic::OpImm(ImmOp::Addi)),
-    Keyword::Instr(Mnemonic::OpImm(ImmOp::Slti)),
-    Keyword::Instr(Mnemonic::OpImm(ImmOp::Sltiu)),
-    Keyword::Instr(Mnemonic::OpImm(ImmOp::Xori)),
-    Keyword::Instr(Mnemonic::OpImm(ImmOp::Ori)),
-    Keyword::Instr(Mnemonic::OpImm(ImmOp::Andi)),
-    Keyword::Instr(Mnemonic::OpImm(ImmOp::Slli)),
-    Keyword::Instr(Mnemonic::OpImm(ImmOp::Srli)),
-    Keyword::Instr(Mnemonic::OpImm(ImmOp::Srai)),
-    Keyword::Instr(Mnemonic::Load(LoadKind::Lb)),
-    Keyword::Instr(Mnemonic::Load(LoadKind::Lh)),
-    Keyword::Instr(Mnemonic::Load(LoadKind::Lw)),
-    Keyword::Instr(Mnemonic::Load(LoadKind::Lbu)),
-    Keyword::Instr(Mnemonic::Load(LoadKind::Lhu)),
-    Keyword::Instr(Mnemonic::Store(StoreWidth::Sb)),
-    Keyword::Instr(Mnemonic::Store(StoreWidth::Sh)),
-    Keyword::Instr(Mnemonic::Store(StoreWidth::Sw)),
-    Keyword::Instr(Mnemonic::Branch(Cond::Beq)),
-    Keyword::Instr(Mnemonic::Branch(Cond::Bne)),
-    Keyword::Instr(Mnemonic::Branch(Cond::Blt)),
-    Keyword::Instr(Mnemonic::Branch(Cond::Bge)),
-    Keyword::Instr(Mnemonic::Branch(Cond::Bltu)),
-    Keyword::Instr(Mnemonic::Branch(Cond::Bgeu)),
-    Keyword::Instr(Mnemonic::Jal),
-    Keyword::Instr(Mnemonic::Jalr),
-    Keyword::Instr(Mnemonic::Lui),
-    Keyword::Instr(Mnemonic::Auipc),
-    Keyword::Instr(Mnemonic::Fence),
-    Keyword::Instr(Mnemonic::Ecall),
-    Keyword::Instr(Mnemonic::Ebreak),
+/// Every keyword that isn't the name of an instruction.
+const OTHERS: [Keyword; 18] = [
     Keyword::Pseudo(Pseudo::Nop),
     Keyword::Pseudo(Pseudo::Ret),
     Keyword::Pseudo(Pseudo::Li),
@@ -207,11 +158,11 @@ impl DataWidth {
     }
 }
 
-#[tactic(auto, unfolding(crate::specs::Lookup::keyword_of))]
-fn find(name: &str) -> Option<Keyword>
-    ensures { result ≡ keyword_of name.now }
+#[tactic(auto, unfolding(crate::specs::Lookup::find_other))]
+fn find_other(name: &str) -> Option<Keyword>
+    ensures { result ≡ find_other name.now }
 {
-    KEYWORDS.iter().copied().find(|k| k.name() == name)
+    OTHERS.iter().copied().find(|k| k.name() == name)
 }
 
 impl Keyword {
@@ -232,7 +183,10 @@ impl Keyword {
         ensures some { IfSome result (λ k. keyword_name k ≡ name.now) }
         ensures none { IfNone result ((k : Keyword) → keyword_name k ≡ name.now → ⊥) }
     {
-        find(name)
+        match Mnemonic::of(name) {
+            Some(name) => Some(Keyword::Instr(name)),
+            None => find_other(name),
+        }
     }
 
     /// Where a statement of this name may stand.

@@ -38,18 +38,21 @@ fn continues_name(byte: u8) -> bool
     begins_name(byte) || byte.is_ascii_digit()
 }
 
+/// `,`, `:`, `(` and `)` are tokens of their own.
 fn is_mark(byte: u8) -> bool
     ensures { result ≡ is_mark byte }
 {
     byte == b',' || byte == b':' || byte == b'(' || byte == b')'
 }
 
+/// How many spaces stand at the front.
 fn gap_len(text: &[u8]) -> usize
     ensures { result ≡ prefix_len is_space text.now }
 {
     text.iter().take_while(|b| is_space(**b)).count()
 }
 
+/// How many bytes that continue a name stand at the front.
 fn name_len(text: &[u8]) -> usize
     ensures value { result ≡ prefix_len continues_name text.now }
     ensures within { result ≤ length text.now }
@@ -57,6 +60,7 @@ fn name_len(text: &[u8]) -> usize
     text.iter().take_while(|b| continues_name(**b)).count()
 }
 
+/// How many decimal digits stand at the front.
 fn digits_len(text: &[u8]) -> usize
     ensures value { result ≡ prefix_len is_ascii_digit text.now }
     ensures within { result ≤ length text.now }
@@ -64,6 +68,7 @@ fn digits_len(text: &[u8]) -> usize
     text.iter().take_while(|b| b.is_ascii_digit()).count()
 }
 
+/// How many hexadecimal digits stand at the front.
 fn hex_digits_len(text: &[u8]) -> usize
     ensures value { result ≡ prefix_len is_ascii_hexdigit text.now }
     ensures within { result ≤ length text.now }
@@ -71,6 +76,7 @@ fn hex_digits_len(text: &[u8]) -> usize
     text.iter().take_while(|b| b.is_ascii_hexdigit()).count()
 }
 
+/// Whether `0x` and a hexadecimal digit stand at the front.
 fn begins_hex(text: &[u8]) -> bool
     ensures value { result ≡ begins_hex text.now }
     ensures room { IsTrue result → 2 ≤ length text.now }
@@ -81,6 +87,7 @@ fn begins_hex(text: &[u8]) -> bool
     }
 }
 
+/// The length of the longest number without a sign that stands at the front, 0 where none does.
 #[tactic(auto, unfolding(crate::specs::Scan::magnitude_len))]
 fn magnitude_len(text: &[u8]) -> usize
     ensures value { result ≡ magnitude_len text.now }

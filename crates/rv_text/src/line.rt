@@ -15,7 +15,7 @@ use crate::form::Part;
 use crate::keyword::{Directive, Keyword, Pseudo};
 use crate::mnemonic::Mnemonic;
 use crate::operands::Operands;
-use crate::parse::{behind_name, is_name};
+use crate::parse::{behind_name, name_cause};
 use crate::read::read_operands;
 use crate::rows::{branch_to, jal_to};
 use crate::statement::Statement;
@@ -31,13 +31,7 @@ pub fn read_keyword(token: &str) -> Result<Keyword, TextCause>
 {
     match Keyword::of(token) {
         Some(keyword) => Ok(keyword),
-        None => {
-            if is_name(token) {
-                Err(TextCause::Word)
-            } else {
-                Err(TextCause::Operands)
-            }
-        }
+        None => Err(name_cause(token)),
     }
 }
 

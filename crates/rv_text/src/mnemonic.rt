@@ -1,7 +1,7 @@
 //! The names of the instructions.
 ghost use Rattle.std.specs.Prelude.{◌≡◌, IfSome, IfNone};
 ghost use Rattle.rv_text.specs.Mnemonics.{name_of, op_name, immediate_name, load_name, store_name, branch_name};
-ghost use Rattle.rv_text.specs.Lookup.{mnemonic_of};
+ghost use Rattle.rv_text.specs.Lookup.{find_mnemonic};
 
 use rv_word::{Cond, ImmOp, LoadKind, RegOp, StoreWidth};
 
@@ -150,9 +150,9 @@ fn branch_name(cond: Cond) -> &'static str
     }
 }
 
-#[tactic(auto, unfolding(crate::specs::Lookup::mnemonic_of))]
+#[tactic(auto, unfolding(crate::specs::Lookup::find_mnemonic))]
 fn find(name: &str) -> Option<Mnemonic>
-    ensures { result ≡ mnemonic_of name.now }
+    ensures { result ≡ find_mnemonic name.now }
 {
     ALL.iter().copied().find(|m| m.name() == name)
 }

@@ -1,8 +1,8 @@
 //! The operands of a statement, and the instruction that they make with its name.
 ghost use Rattle.std.specs.Prelude.{◌≡◌, pos};
 ghost use Rattle.rv_text.specs.Forms.{form_of};
-ghost use Rattle.rv_text.specs.Reading.{AgreesOn, Fits};
-ghost use Rattle.rv_text.specs.Operands.{given};
+ghost use Rattle.rv_text.specs.Reading.{AgreesOn, AllSuit};
+ghost use Rattle.rv_text.specs.Operands.{values_of};
 ghost use Rattle.rv_text.specs.Statement.{mnemonic_of, operands_of, operands};
 
 use crate::mnemonic::Mnemonic;
@@ -31,7 +31,7 @@ pub fn x0() -> Reg
 impl<'a> Operands<'a> {
     /// No operands.
     pub fn none() -> Self
-        ensures { given result ≡ operands 0 0 0 (pos 0) }
+        ensures { values_of result ≡ operands 0 0 0 (pos 0) }
     {
         Operands {
             rd: x0(),
@@ -45,7 +45,7 @@ impl<'a> Operands<'a> {
 
     /// The same operands.
     pub fn copied(&self) -> Self
-        ensures { given result ≡ given self.now }
+        ensures { values_of result ≡ values_of self.now }
     {
         Operands {
             rd: self.rd,
@@ -59,7 +59,7 @@ impl<'a> Operands<'a> {
 
     /// The instruction's operands.
     pub fn of(instr: &Instr) -> Self
-        ensures { given result ≡ operands_of instr.now }
+        ensures { values_of result ≡ operands_of instr.now }
     {
         let none = Operands::none();
         match *instr {
@@ -116,9 +116,9 @@ impl<'a> Operands<'a> {
 
     /// The instruction of this name with these operands.
     pub fn instr(self, name: Mnemonic) -> Instr
-        requires { Fits (given self) (form_of name) }
+        requires { AllSuit (values_of self) (form_of name) }
         ensures name { mnemonic_of result ≡ name }
-        ensures operands { AgreesOn (form_of name) (operands_of result) (given self.entry) }
+        ensures operands { AgreesOn (form_of name) (operands_of result) (values_of self.entry) }
     {
         let Operands {
             rd,

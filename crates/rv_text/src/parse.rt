@@ -1,11 +1,12 @@
 //! Reading the text of one instruction.
-ghost use Rattle.std.specs.Prelude.{◌≡◌, ◌↔◌, IfOk, IfErr, IsTrue, Ok, Err};
+ghost use Rattle.std.specs.Prelude.{◌≡◌, ◌⊎◌, ◌↔◌, IfOk, IfErr, IsTrue, Ok, Err};
 ghost use Rattle.rv_text.specs.declared.cause.TextCause.{TextCause};
-ghost use Rattle.rv_text.specs.Reading.{FollowsName, FollowsToken, RefusedBehind};
+ghost use Rattle.rv_text.specs.declared.cause.TextCause.TheVariants as cause;
+ghost use Rattle.rv_text.specs.Reading.{FollowsName, FollowsToken};
 ghost use Rattle.rv_word.specs.declared.instr.Instr.{Instr};
 ghost use Rattle.rv_word.specs.Spelling.{InRange};
 ghost use Rattle.rv_text.specs.Tokens.{IsName, IsToken};
-ghost use Rattle.rv_text.specs.Statement.{Means, Refused, RefusedAt, IsBareFence};
+ghost use Rattle.rv_text.specs.Statement.{Means, Refused, RefusedAt, IsBareFence, OperandsDepart};
 
 use crate::cause::TextCause;
 use crate::lexer::{Next, begins_name, next_token};
@@ -14,7 +15,8 @@ use crate::operands::{Operands, x0};
 use crate::read::read_operands;
 use rv_word::Instr;
 
-pub fn is_name(token: &str) -> bool
+/// Whether the token is a name, and no number or mark.
+fn is_name(token: &str) -> bool
     requires { IsToken token.now }
     ensures { IsTrue result ↔ IsName token.now }
 {
@@ -24,6 +26,19 @@ pub fn is_name(token: &str) -> bool
     }
 }
 
+/// Why a token that is no statement's name is refused in the place of one.
+pub fn name_cause(token: &str) -> TextCause
+    requires { IsToken token.now }
+    ensures { (IsName token.now × (result ≡ cause.Word)) ⊎ ((IsName token.now → ⊥) × (result ≡ cause.Operands)) }
+{
+    if is_name(token) {
+        TextCause::Word
+    } else {
+        TextCause::Operands
+    }
+}
+
+/// Whether it is a fence that leaves out its operands.
 fn is_bare_fence(name: Mnemonic, rest: &str) -> bool
     ensures { IsTrue result ↔ IsBareFence name rest.now }
 {
@@ -40,7 +55,7 @@ fn is_bare_fence(name: Mnemonic, rest: &str) -> bool
 /// The instruction of this name whose operands are the rest of the text.
 pub fn behind_name(name: Mnemonic, rest: &str) -> Result<Instr, TextCause>
     ensures ok { IfOk result (λ i. FollowsName rest.now name i) }
-    ensures cause { IfErr result (λ e. RefusedBehind name rest.now e) }
+    ensures cause { IfErr result (λ e. OperandsDepart name rest.now e) }
 {
     if is_bare_fence(name, rest) {
         return Ok(Instr::Fence {
@@ -63,13 +78,7 @@ fn behind_token(token: &str, rest: &str) -> Result<Instr, TextCause>
 {
     match Mnemonic::of(token) {
         Some(name) => behind_name(name, rest),
-        None => {
-            if is_name(token) {
-                Err(TextCause::Word)
-            } else {
-                Err(TextCause::Operands)
-            }
-        }
+        None => Err(name_cause(token)),
     }
 }
 

@@ -3,7 +3,7 @@ ghost use Rattle.std.specs.Prelude.{◌≡◌, ◌++◌, OnOk, IfOk, string_byte
 ghost use Rattle.std.specs.List.{flat_map};
 ghost use Rattle.rv_word.specs.Spelling.{InRange};
 ghost use Rattle.rv_text.specs.Registers.{x_name};
-ghost use Rattle.rv_text.specs.Operands.{given};
+ghost use Rattle.rv_text.specs.Operands.{values_of};
 ghost use Rattle.rv_text.specs.Statement.{mnemonic_of, Means};
 ghost use Rattle.rv_text.specs.Printed.{part_text, number_text, printed, statement_text};
 
@@ -58,7 +58,7 @@ fn push_number(out: &mut String, kind: NumberKind, number: i64) -> Result<(), Al
 
 /// Writes one of the operands, or a mark, behind the text.
 fn push_part(out: &mut String, o: &Operands, part: Part) -> Result<(), AllocError>
-    ensures { OnOk result (string_bytes out.new ≡ string_bytes out.old ++ part_text (given o.now) part) }
+    ensures { OnOk result (string_bytes out.new ≡ string_bytes out.old ++ part_text (values_of o.now) part) }
 {
     match part {
         Part::Rd => push_register(out, o.rd),
@@ -76,7 +76,7 @@ fn push_part(out: &mut String, o: &Operands, part: Part) -> Result<(), AllocErro
 /// Writes the operands of this form behind the text.
 fn push_operands(out: &mut String, o: &Operands, form: &[Part]) -> Result<(), AllocError>
     ensures { OnOk result (string_bytes out.new
-        ≡ string_bytes out.old ++ flat_map (part_text (given o.now)) form.now) }
+        ≡ string_bytes out.old ++ flat_map (part_text (values_of o.now)) form.now) }
 {
     for part in form {
         push_part(out, o, *part)?;
@@ -87,7 +87,7 @@ fn push_operands(out: &mut String, o: &Operands, form: &[Part]) -> Result<(), Al
 /// Writes a name and its operands behind the text.
 fn push_statement(out: &mut String, name: Mnemonic, o: &Operands) -> Result<(), AllocError>
     ensures { OnOk result (string_bytes out.new
-        ≡ string_bytes out.old ++ statement_text name (given o.now)) }
+        ≡ string_bytes out.old ++ statement_text name (values_of o.now)) }
 {
     let form = name.form();
     out.push_str(name.name())?;

@@ -1,22 +1,21 @@
 //! The source so far, and how the lines of a text lead it on.
 ghost use Rattle.std.specs.Prelude.{◌≡◌, ◌⊎◌, ◌↔◌, List, ℕ, None, Some, IsTrue, IfOk, IfErr, OnOk, IfSome, MatchOption, codes};
 ghost use Rattle.rv_text.specs.declared.cause.TextCause.TheVariants as cause;
-ghost use Rattle.rv_text.specs.Effects.{Labels, RefusesLabel, MayStand, Does, HasNoRoom};
+ghost use Rattle.rv_text.specs.Effects.{Labels, RefusesLabel, MayCome, Does, HasNoRoom};
 ghost use Rattle.rv_text.specs.Leads.{BeginsWithName, IsTaken, BeginsWithLabel, HasNoLabel, PassesLabels, IsGateTwice, LeadsBehind, RestLeads, Leads, LabelRefused, RefusedBehind, StatementRefused, LineRefused};
 ghost use Rattle.rv_text.specs.SoFar.{begin, nothing, sandboxes};
 ghost use Rattle.rv_text.specs.Stated.{stated, place_of_stated};
 ghost use Rattle.rv_text.specs.Texts.{LeadsFromNothing, MeansSource, IsFault};
 ghost use Rattle.rv_text.specs.Causes.{memory};
-ghost use Rattle.rv_text.specs.Tokens.{IsToken, IsLabel, Takes};
+ghost use Rattle.rv_text.specs.Tokens.{Takes};
 
 use crate::cause::TextCause;
-use crate::draft::{Draft, MOST_NAME};
+use crate::draft::Draft;
 use crate::fault::TextFault;
 use crate::keyword::{Directive, Keyword};
 use crate::lexer::{Next, next_token};
 use crate::line::{read_keyword, read_statement};
-use crate::parse::is_name;
-use crate::read::begins_label;
+use crate::read::{MOST_NAME, is_label};
 use crate::source::{Source, SourcePart};
 use crate::statement::{Place, Statement};
 use std::alloc::Global;
@@ -35,14 +34,6 @@ impl Model for Progress {
     ghost Value = { SoFar };
 
     ghost view = { λ p. record { finished = p.finished.items; begun = p.begun } };
-}
-
-/// Whether the token may be a label's name.
-fn is_label(token: &str) -> bool
-    requires { IsToken token.now }
-    ensures { IsTrue result ↔ IsLabel token.now }
-{
-    is_name(token) && begins_label(token)
 }
 
 /// What follows a colon at the front of a text.
@@ -109,8 +100,8 @@ impl Progress {
     }
 
     /// Whether a statement of this kind may stand here.
-    fn may_stand(&self, place: Place) -> bool
-        ensures { IsTrue result ↔ MayStand place self.now.begun }
+    fn may_come(&self, place: Place) -> bool
+        ensures { IsTrue result ↔ MayCome place self.now.begun }
     {
         match (place, &self.begun) {
             (Place::Outside, _) => true,
@@ -179,7 +170,7 @@ impl Progress {
 
     /// Does what a statement of this line states, which may stand here.
     fn state(&mut self, alloc: Global, line: u32, statement: Statement<'_>) -> Result<(), TextCause>
-        requires { MayStand (place_of_stated (stated statement)) self.old.begun }
+        requires { MayCome (place_of_stated (stated statement)) self.old.begun }
         ensures does { OnOk result (Does line (stated statement.entry) self.old self.new) }
         ensures cause { IfErr result (λ e. (e ≡ cause.Memory) ⊎ (HasNoRoom (stated statement.entry) self.old × (e ≡ cause.Limit))) }
     {
@@ -211,16 +202,14 @@ impl Progress {
         ensures leads { OnOk result (LeadsBehind keyword line self.old text.now self.new) }
         ensures cause { IfErr result (λ e. (e ≡ cause.Memory) ⊎ RefusedBehind keyword self.old text.now e) }
     {
-        if !self.may_stand(keyword.place()) {
+        if !self.may_come(keyword.place()) {
             return Err(TextCause::Directive);
         }
         if self.is_gate_twice(keyword, text) {
             return Err(TextCause::LabelTwice);
         }
-        match read_statement(alloc, keyword, text) {
-            Ok(statement) => self.state(alloc, line, statement),
-            Err(e) => Err(e),
-        }
+        let statement = read_statement(alloc, keyword, text)?;
+        self.state(alloc, line, statement)
     }
 
     /// Does what the text behind a line's labels states.
@@ -231,10 +220,10 @@ impl Progress {
         match next_token(text) {
             Next::End => Ok(()),
             Next::Stuck => Err(TextCause::Word),
-            Next::Token(token, rest) => match read_keyword(token) {
-                Ok(keyword) => self.behind_keyword(alloc, line, keyword, rest),
-                Err(e) => Err(e),
-            },
+            Next::Token(token, rest) => {
+                let keyword = read_keyword(token)?;
+                self.behind_keyword(alloc, line, keyword, rest)
+            }
         }
     }
 
@@ -243,10 +232,8 @@ impl Progress {
         ensures leads { OnOk result (Leads line self.old text.now self.new) }
         ensures cause { IfErr result (λ e. (e ≡ cause.Memory) ⊎ LineRefused self.old text.now e) }
     {
-        match self.labels(alloc, text) {
-            Ok(rest) => self.statement(alloc, line, rest),
-            Err(e) => Err(e),
-        }
+        let rest = self.labels(alloc, text)?;
+        self.statement(alloc, line, rest)
     }
 
     /// The source behind the last line of a text, whose lines lead to it from nothing.

@@ -5,7 +5,7 @@ ghost use Rattle.rv_text.specs.declared.cause.TextCause.TheVariants as cause;
 ghost use Rattle.rv_text.specs.Tokens.{IsNumber, IsLabel, IsToken, begins_label, is_too_long};
 ghost use Rattle.rv_text.specs.Registers.{IsRegister};
 ghost use Rattle.rv_text.specs.Forms.{IsNumberOf};
-ghost use Rattle.rv_text.specs.Operands.{Given, given, Stands, Departs, part_cause, label_cause, mode_name};
+ghost use Rattle.rv_text.specs.Operands.{OperandValues, values_of, Stands, Departs, part_cause, label_cause, mode_name};
 ghost use Rattle.rv_text.specs.Reading.{Reads, KeepsOthers, SameAt, has_no_repeat, is_fresh};
 
 use crate::cause::TextCause;
@@ -15,6 +15,9 @@ use crate::number::number;
 use crate::operands::Operands;
 use crate::register::register;
 use rv_word::Reg;
+
+/// The most bytes of a name.
+pub const MOST_NAME: usize = 64;
 
 /// The register that the token names.
 fn read_register(token: &str) -> Result<Reg, TextCause>
@@ -60,7 +63,7 @@ pub fn read_number(token: &str, kind: NumberKind) -> Result<i64, TextCause>
 }
 
 /// Whether a letter or `_` stands at the front.
-pub fn begins_label(token: &str) -> bool
+fn begins_label(token: &str) -> bool
     ensures { result ≡ begins_label token.now }
 {
     match token.as_bytes() {
@@ -77,15 +80,15 @@ pub fn is_label(token: &str) -> bool
     begins_label(token)
 }
 
-/// Whether it has more than 64 bytes.
-pub fn is_too_long(token: &str) -> bool
+/// Whether it is such a name but for its length: it has more bytes than a name may have.
+fn is_too_long(token: &str) -> bool
     ensures { result ≡ is_too_long token.now }
 {
-    begins_label(token) && token.len() > 64
+    begins_label(token) && token.len() > MOST_NAME
 }
 
 /// The name that the token is: one that a label, a gate or a target may have.
-pub fn read_label(token: &str) -> Result<&str, TextCause>
+fn read_label(token: &str) -> Result<&str, TextCause>
     requires { IsToken token.now }
     ensures ok { IfOk result (λ name. IsLabel name.now × (length name.now ≤ 64) × (name.now ≡ token.now)) }
     ensures err { OnErr result (IsLabel token.now → length token.now ≤ 64 → ⊥) }
@@ -119,9 +122,9 @@ impl<'a> Operands<'a> {
     /// The operands with the one that the token gives at this part.
     fn with(&self, part: Part, token: &'a str) -> Result<Operands<'a>, TextCause>
         requires { IsToken token.now }
-        ensures stands { IfOk result (λ o. Stands (given o) part token.now) }
-        ensures others { IfOk result (λ o. KeepsOthers part (given self.now) (given o)) }
-        ensures err { OnErr result ((o : Given) → Stands o part token.now → ⊥) }
+        ensures stands { IfOk result (λ o. Stands (values_of o) part token.now) }
+        ensures others { IfOk result (λ o. KeepsOthers part (values_of self.now) (values_of o)) }
+        ensures err { OnErr result ((o : OperandValues) → Stands o part token.now → ⊥) }
         ensures cause { IfErr result (λ e. e ≡ part_cause part token.now) }
     {
         match part {
@@ -176,9 +179,9 @@ pub fn read_operands<'a>(
     operands: &Operands<'a>,
 ) -> Result<Operands<'a>, TextCause>
     requires { IsTrue (has_no_repeat form.now) }
-    ensures reads { IfOk result (λ o. Reads (given o) form.now text.now) }
+    ensures reads { IfOk result (λ o. Reads (values_of o) form.now text.now) }
     ensures others { IfOk result (λ o. (p : Part) → IsTrue (is_fresh p form.now)
-        → SameAt p (given o) (given operands.now)) }
+        → SameAt p (values_of o) (values_of operands.now)) }
     ensures cause { IfErr result (λ e. Departs form.now text.now e) }
 {
     match form.split_first() {

@@ -3,19 +3,19 @@ ghost use Rattle.std.specs.Prelude.{◌≡◌, ◌<◌, ℕ, IfSome, IfNone};
 ghost use Rattle.std.specs.List.{position};
 ghost use Rattle.std.specs.Str.{bytes_eq};
 ghost use Rattle.rv_text.specs.Registers.{IsRegister, abi_names};
-ghost use Rattle.rv_text.specs.Lookup.{place, register_of, numbered_names};
+ghost use Rattle.rv_text.specs.Lookup.{place, find_register, numbered_names};
 
 use rv_word::Reg;
 
 /// x0 to x31.
-pub const NUMBERED: [&str; 32] = [
+const NUMBERED: [&str; 32] = [
     "x0", "x1", "x2", "x3", "x4", "x5", "x6", "x7", "x8", "x9", "x10", "x11", "x12", "x13", "x14",
     "x15", "x16", "x17", "x18", "x19", "x20", "x21", "x22", "x23", "x24", "x25", "x26", "x27",
     "x28", "x29", "x30", "x31",
 ];
 
 /// Their names in the ABI, in order.
-pub const NAMED: [&str; 32] = [
+const NAMED: [&str; 32] = [
     "zero", "ra", "sp", "gp", "tp", "t0", "t1", "t2", "s0", "s1", "a0", "a1", "a2", "a3", "a4",
     "a5", "a6", "a7", "s2", "s3", "s4", "s5", "s6", "s7", "s8", "s9", "s10", "s11", "t3", "t4",
     "t5", "t6",
@@ -39,9 +39,9 @@ fn named(name: &str) -> Option<usize>
     place_of(&NAMED, name)
 }
 
-#[tactic(auto, unfolding(crate::specs::Lookup::register_of))]
+#[tactic(auto, unfolding(crate::specs::Lookup::find_register))]
 fn number_of(name: &str) -> Option<usize>
-    ensures { result ≡ register_of name.now }
+    ensures { result ≡ find_register name.now }
 {
     if name == "fp" {
         return Some(8);

@@ -2,8 +2,8 @@
 ghost use Rattle.std.specs.Prelude.{◌≡◌, pos};
 ghost use Rattle.rv_word.specs.declared.instr.Instr.TheVariants as instr;
 ghost use Rattle.rv_word.specs.declared.instr.ImmOp.TheVariants.{Addi};
-ghost use Rattle.rv_text.specs.Operands.{given};
-ghost use Rattle.rv_text.specs.Reading.{Fits};
+ghost use Rattle.rv_text.specs.Operands.{values_of};
+ghost use Rattle.rv_text.specs.Reading.{AllSuit};
 ghost use Rattle.rv_text.specs.Keywords.{directive_form, directive_states, pseudo_form, pseudo_states};
 ghost use Rattle.rv_text.specs.Stated.{stated, jump};
 
@@ -16,8 +16,8 @@ use rv_word::{Cond, ImmOp, Instr, Reg};
 impl Directive {
     /// What the directive states with these operands.
     pub fn statement<'a>(self, o: &Operands<'a>) -> Statement<'a>
-        requires { Fits (given o.now) (directive_form self) }
-        ensures { stated result ≡ directive_states self (given o.now) }
+        requires { AllSuit (values_of o.now) (directive_form self) }
+        ensures { stated result ≡ directive_states self (values_of o.now) }
     {
         match self {
             Directive::Sandbox => Statement::Sandbox {
@@ -34,7 +34,8 @@ impl Directive {
     }
 }
 
-fn add_immediate(rd: Reg, rs1: Reg) -> Instr
+/// An addi of 0: the register takes the value of the other.
+fn add_zero(rd: Reg, rs1: Reg) -> Instr
     ensures { result ≡ instr.OpImm Addi rd rs1 (pos 0) }
 {
     Instr::OpImm {
@@ -45,6 +46,7 @@ fn add_immediate(rd: Reg, rs1: Reg) -> Instr
     }
 }
 
+/// A jump to the address in a register.
 fn jump_to(rs1: Reg) -> Instr
     ensures { result ≡ instr.Jalr 0 rs1 (pos 0) }
 {
@@ -86,14 +88,14 @@ fn ra() -> Reg
 impl Pseudo {
     /// What the pseudo-instruction states with these operands.
     pub fn statement<'a>(self, o: &Operands<'a>) -> Statement<'a>
-        requires { Fits (given o.now) (pseudo_form self) }
-        ensures { stated result ≡ pseudo_states self (given o.now) }
+        requires { AllSuit (values_of o.now) (pseudo_form self) }
+        ensures { stated result ≡ pseudo_states self (values_of o.now) }
     {
         match self {
-            Pseudo::Nop => Statement::One(add_immediate(x0(), x0())),
+            Pseudo::Nop => Statement::One(add_zero(x0(), x0())),
             Pseudo::Ret => Statement::One(jump_to(ra())),
             Pseudo::Li => constant(o.rd, o.number),
-            Pseudo::Mv => Statement::One(add_immediate(o.rd, o.rs1)),
+            Pseudo::Mv => Statement::One(add_zero(o.rd, o.rs1)),
             Pseudo::Jr => Statement::One(jump_to(o.rs1)),
             Pseudo::J => jal_to(x0(), o.name),
             Pseudo::Call => jal_to(ra(), o.name),

@@ -19,7 +19,7 @@ pub struct SourcePart {
 }
 
 impl Model for SourcePart {
-    ghost use Rattle.rv_text.specs.Source.{Sandbox, IsSandbox};
+    ghost use Rattle.rv_text.specs.Source.{Sandbox};
 
     ghost Value = { Sandbox };
 

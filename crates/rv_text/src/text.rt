@@ -3,9 +3,8 @@ ghost use Rattle.std.specs.Prelude.{◌≡◌, ◌∷◌, [], ◌⊎◌, ◌<◌
 ghost use Rattle.rv_text.specs.declared.fault.TextFault.{TextFault};
 ghost use Rattle.rv_text.specs.declared.cause.TextCause.TheVariants as causes;
 ghost use Rattle.rv_text.specs.Causes.{memory};
-ghost use Rattle.rv_text.specs.Leads.{Leads, LineRefused};
+ghost use Rattle.rv_text.specs.Leads.{Leads};
 ghost use Rattle.rv_text.specs.Source.{Sandbox};
-ghost use Rattle.rv_text.specs.SoFar.{nothing};
 ghost use Rattle.rv_text.specs.Texts.{most_bytes, first_line, uncommented, lines, LinesLead, FirstRefused, LineFault, BeginsWithLine, MeansSource, IsFault};
 
 use crate::cause::TextCause;
@@ -98,10 +97,8 @@ fn read_source(alloc: Global, text: &str) -> Result<Source, TextFault>
         });
     }
     let mut progress = Progress::new(alloc);
-    match read_lines(&mut progress, alloc, text) {
-        Ok(()) => progress.finish(text),
-        Err(f) => Err(f),
-    }
+    read_lines(&mut progress, alloc, text)?;
+    progress.finish(text)
 }
 
 /// The source that a text means: one sandbox at least, each begun by a `.sandbox` line.

@@ -1,5 +1,5 @@
 use Rattle.rv_text.proofs.Forms.{reads_result, keeps_result, departs_stuck, departs_beyond, departs_missing, departs_other, departs_later}
-use Rattle.rv_text.specs.Operands.{given}
+use Rattle.rv_text.specs.Operands.{values_of}
 use Rattle.rv_text.proofs.read.+read_operands.Goals as goal
 
 pub returns-in-Stuck-clause-cause : goal.returns-in-Stuck-clause-cause
@@ -15,10 +15,10 @@ pub returns-in-Stuck-next_token-clause-cause : goal.returns-in-Stuck-next_token-
 returns-in-Stuck-next_token-clause-cause t c = departs_stuck _ _ c.in-Stuck-next_token.ensures
 
 pub returns-in-Ok-clause-reads : goal.returns-in-Ok-clause-reads
-returns-in-Ok-clause-reads t c = reads_result c.read_operands.result c.args.form.now (given c.in-Ok.operands) c.in-Some.part.now c.in-Some.more.now c.args.text.now _ _ c.in-Some.ensures.cases.0 c.requires.1.1 c.in-Token-next_token.ensures c.in-Ok.ensures.stands c.read_operands.ensures.reads c.read_operands.ensures.others
+returns-in-Ok-clause-reads t c = reads_result c.read_operands.result c.args.form.now (values_of c.in-Ok.operands) c.in-Some.part.now c.in-Some.more.now c.args.text.now _ _ c.in-Some.ensures.cases.0 c.requires.1.1 c.in-Token-next_token.ensures c.in-Ok.ensures.stands c.read_operands.ensures.reads c.read_operands.ensures.others
 
 pub returns-in-Ok-clause-others : goal.returns-in-Ok-clause-others
-returns-in-Ok-clause-others t c = keeps_result c.read_operands.result c.args.form.now (given c.args.operands.now) (given c.in-Ok.operands) c.in-Some.part.now c.in-Some.more.now c.in-Some.ensures.cases.0 c.in-Ok.ensures.others c.read_operands.ensures.others
+returns-in-Ok-clause-others t c = keeps_result c.read_operands.result c.args.form.now (values_of c.args.operands.now) (values_of c.in-Ok.operands) c.in-Some.part.now c.in-Some.more.now c.in-Some.ensures.cases.0 c.in-Ok.ensures.others c.read_operands.ensures.others
 
 pub returns-in-Ok-clause-cause : goal.returns-in-Ok-clause-cause
 returns-in-Ok-clause-cause t c = departs_later _ _ _ c.in-Some.ensures.cases.0 _ c.read_operands.result _ _ _ c.in-Token-next_token.ensures c.in-Ok.ensures.stands c.read_operands.ensures.cause
