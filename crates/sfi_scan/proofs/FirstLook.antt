@@ -1,7 +1,7 @@
 -- The first look at a bundle: what breaks no rule.
 use Rattle.std.proofs.Common.{◌≡◌, ℕ, ◌==◌, Bool, true, false, List, [], ◌∷◌, Option, Some, None, ℤ, pos, negsuc, of_z, to_z, w32, SFits, refl, sym, ap, ◌∙◌, inl, inr, arith, eq-eqb}
 use Rattle.std.specs.Prelude.{◌&&◌, not}
-use Rattle.std.proofs.lemmas.Bool.{and_parts, ne_eqb}
+use Rattle.std.proofs.lemmas.Bool.{and_parts}
 use Rattle.std.specs.Bool.{OnTrue}
 use Rattle.std.proofs.lemmas.Int.{to_z-of_z}
 use Rattle.rv_word.specs.declared.instr.Instr.{Instr}
@@ -20,6 +20,10 @@ use Rattle.sfi_scan.specs.FirstLook.{IsWordOr0, AreBefore, is_clean, is_zero}
 use Rattle.sfi_scan.specs.Near.{near}
 
 -- ---- pairs
+
+not_is : (p : Bool) → not p ≡ true → p ≡ false
+not_is true e = sym e
+not_is false e = refl
 
 -- the word of an operation on registers is not 0
 op_word : (t a m : ℕ) → (spelling (Op And t a m) ≡ 0 → ⊥) × (spelling (Op Or t a m) ≡ 0 → ⊥)
@@ -50,15 +54,13 @@ pair_is law words m b t a earlier first second zero reserved are =
     ap (follows_pair m b t) whole.1 ∙ both_pair m b t a whole.0 zero reserved
 
 pub pair_told : OneSpelling → (words : Words) (m b t a : ℕ) → IsWordOf words.first (Op And t a m) → IsWordOf words.second (Op Or t t b)
-    → (t ≡ 0 → ⊥) → (reserved : Bool) → reserved ≡ is_reserved t → (earlier : List Instr) → AreBefore words (near earlier) → OnTrue (not reserved) (follows_pair m b t earlier ≡ true)
-pair_told law words m b t a first second some true e earlier are = tt
-pair_told law words m b t a first second some false e earlier are = pair_is law words m b t a earlier first second (ne_eqb t 0 some) (sym e) are
+    → (counts : Bool) → counts ≡ (not (t == 0) && not (is_reserved t)) → (earlier : List Instr) → AreBefore words (near earlier) → OnTrue counts (follows_pair m b t earlier ≡ true)
+pair_told law words m b t a first second false e earlier are = tt
+pair_told law words m b t a first second true e earlier are =
+    let both = and_parts (not (t == 0)) (not (is_reserved t)) (sym e) in
+    pair_is law words m b t a earlier first second (not_is (t == 0) both.0) (not_is (is_reserved t) both.1) are
 
 -- ---- rules
-
-not_is : (p : Bool) → not p ≡ true → p ≡ false
-not_is true e = sym e
-not_is false e = refl
 
 -- a number whose 32 bits are 0 is 0
 pub zero_of : (z : ℤ) → of_z w32 z ≡ 0 → SFits w32 z → is_zero z ≡ true

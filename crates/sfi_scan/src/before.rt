@@ -1,5 +1,5 @@
 //! The instructions directly before a place, and the masked pairs that they may be.
-ghost use Rattle.std.specs.Prelude.{◌≡◌, List, [], ◌∷◌};
+ghost use Rattle.std.specs.Prelude.{◌≡◌, ◌==◌, ◌&&◌, not, List, [], ◌∷◌};
 ghost use Rattle.rv_word.specs.declared.instr.Instr.{Instr};
 ghost use Rattle.sfi_scan.specs.Pairs.{is_reserved, is_masking, is_placing, follows_pair};
 ghost use Rattle.sfi_scan.specs.Near.{near};
@@ -31,6 +31,13 @@ pub(crate) fn is_reserved(reg: Reg) -> bool
 {
     let number = reg.number();
     number == 24 || number == 25 || number == 26 || number == 27
+}
+
+/// Whether a pair on this register counts: it is neither x0 nor reserved.
+pub(crate) fn may_be_target(reg: Reg) -> bool
+    ensures { result ≡ (not (reg == 0) && not (is_reserved reg)) }
+{
+    reg.number() != 0 && !is_reserved(reg)
 }
 
 /// `and target, a, mask`.
@@ -96,8 +103,7 @@ impl Before {
             (Some(first), Some(second)) => {
                 is_masking(pair.mask, target, first)
                     && is_placing(pair.base, target, second)
-                    && target.number() != 0
-                    && !is_reserved(target)
+                    && may_be_target(target)
             }
             (None, _) | (_, None) => false,
         }

@@ -12,7 +12,7 @@ ghost use Rattle.sfi_scan.specs.Pairs.{is_reserved, follows_pair, follows_code_p
 ghost use Rattle.sfi_scan.specs.Rules.{is_last_bundle};
 ghost use Rattle.sfi_scan.specs.FirstLook.{AreBefore, is_zero, is_clean, IsCleanOne};
 
-use crate::before::{CODE, DATA, Pair, is_reserved};
+use crate::before::{CODE, DATA, Pair, is_reserved, may_be_target};
 use crate::bundle::BundlePlace;
 use crate::rules::{is_bundle_start, is_last_bundle, offset_by};
 use rv_comp::outline16;
@@ -68,10 +68,7 @@ impl Words {
         if masking != self.first {
             return false;
         }
-        if target.number() == 0 {
-            return false;
-        }
-        !is_reserved(target)
+        may_be_target(target)
     }
 }
 

@@ -1,4 +1,4 @@
-use Rattle.std.proofs.Common.{◌∙◌, subst}
+use Rattle.std.proofs.Common.{subst}
 use Rattle.rv_word.specs.declared.instr.Instr.TheVariants.{Op}
 use Rattle.rv_word.specs.declared.instr.RegOp.TheVariants.{And, Or}
 use Rattle.rv_word.specs.Spelling.{IsWordOf}
@@ -11,4 +11,4 @@ returns c = pair_told c.one_spelling.ensures c.args.self c.args.pair.mask c.args
     (subst (λ m. IsWordOf c.op_word-masking.result (Op And c.args.target c.register-any.result m)) c.register-mask.ensures c.op_word-masking.ensures))
     (subst (λ w. IsWordOf w (Op Or c.args.target c.args.target c.args.pair.base)) c.if-placing-self.false
     (subst (λ m. IsWordOf c.op_word-placing.result (Op Or c.args.target c.args.target m)) c.register-base.ensures c.op_word-placing.ensures))
-    (λ e. c.if-number-eq0.false (c.number.ensures.value ∙ e)) _ c.is_reserved.ensures
+    _ c.may_be_target.ensures
