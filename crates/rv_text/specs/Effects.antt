@@ -14,7 +14,7 @@ use Rattle.rv_text.specs.Stated.{Stated, sandbox, gate, compressed, data_part, b
 abbrev pub IsFree : List ℕ → Begun → Type 0
 IsFree name b = meaning b.sandbox.names name ≡ Unknown
 
--- a label of this name may stand in the sandbox begun last, and leads to the next source so far
+-- a label of this name may come in the sandbox begun last, and leads to the next source so far
 abbrev pub Labels : List ℕ → SoFar → SoFar → Type 0
 Labels name old new =
     (b : Begun) × (old.begun ≡ Some b) × (length name ≤ 64) × IsFree name b
@@ -69,7 +69,7 @@ abbrev pub GoesOn : ℕ → Stated → SoFar → SoFar → Type 0
 GoesOn line s old new =
     (b : Begun) × (old.begun ≡ Some b) × Fits s b × (new ≡ record old { begun = Some (with_stated line s b) })
 
--- a statement of a line, which may stand there, leads to the next source so far
+-- a statement of a line, which may come there, leads to the next source so far
 abbrev pub Does : ℕ → Stated → SoFar → SoFar → Type 0
 Does line (sandbox size) old new = new ≡ record { finished = sandboxes old; begun = Some (begin size) }
 Does line (gate name service) old new = GoesOn line (gate name service) old new

@@ -114,7 +114,7 @@ keyword_name (keyword.Pseudo name) = pseudo_name name
 keyword_name (keyword.Directive name) = directive_name name
 keyword_name (keyword.Numbers width) = data_name width
 
--- where a statement of this name may stand
+-- where a statement of this name may come
 abbrev pub place_of_keyword : Keyword → Place
 place_of_keyword (keyword.Instr name) = place.Code
 place_of_keyword (keyword.Pseudo name) = place.Code

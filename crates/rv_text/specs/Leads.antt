@@ -49,7 +49,7 @@ abbrev pub IsGateTwice : Keyword → SoFar → List ℕ → Type 0
 IsGateTwice k s text =
     (k ≡ keyword.Directive directive.Gate) × ((b : Begun) × (s.begun ≡ Some b) × IsTaken b text)
 
--- a statement of this keyword and line, with this text behind it, may stand there, and leads from the source so far to
+-- a statement of this keyword and line, with this text behind it, may come there, and leads from the source so far to
 -- the next one
 abbrev pub LeadsBehind : Keyword → ℕ → SoFar → List ℕ → SoFar → Type 0
 LeadsBehind k line old text new =
@@ -81,7 +81,7 @@ abbrev pub PassesLimit : Keyword → SoFar → List ℕ → Type 0
 PassesLimit k s text =
     (st : Stated) × StatesBehind k text st × HasNoRoom st s
 
--- the text behind a keyword that may stand there is refused for this cause
+-- the text behind a keyword that may come there is refused for this cause
 abbrev pub OperandsRefused : Keyword → SoFar → List ℕ → TextCause → Type 0
 OperandsRefused k s text e =
     (IsGateTwice k s text × (e ≡ cause.LabelTwice))
@@ -100,7 +100,7 @@ RefusedFrom s token rest e =
     NameRefused token e
     ⊎ ((k : Keyword) × (keyword_name k ≡ token) × RefusedBehind k s rest e)
 
--- the text behind the labels is no statement that may stand there: its first token that departs from one does so for
+-- the text behind the labels is no statement that may come there: its first token that departs from one does so for
 -- this cause
 abbrev pub StatementRefused : SoFar → List ℕ → TextCause → Type 0
 StatementRefused s text e =

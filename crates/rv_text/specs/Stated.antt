@@ -42,7 +42,7 @@ stated (statement.Two i j) = plain (i ∷ j ∷ [])
 stated (statement.Jump i name) = jump i name.now
 stated (statement.Address rd name) = address rd name.now
 
--- where each statement may stand
+-- where each statement may come
 abbrev pub place_of_stated : Stated → Place
 place_of_stated (sandbox size) = place.Outside
 place_of_stated (gate name service) = place.Gates

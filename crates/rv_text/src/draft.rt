@@ -1,5 +1,5 @@
 //! The sandbox begun last, as far as the lines have come.
-ghost use Rattle.std.specs.Prelude.{◌≡◌, ◌≤◌, ◌+◌, ◌<◌, ◌⊎◌, ◌∷◌, [], map, length, replicate, IfOk, IfErr, OnOk, IsTrue, ◌↔◌, true};
+ghost use Rattle.std.specs.Prelude.{◌≡◌, ◌≤◌, ◌+◌, ◌<◌, ◌⊎◌, ◌∷◌, [], length, replicate, IfOk, IfErr, OnOk, IsTrue, ◌↔◌, true};
 ghost use Rattle.rv_text.specs.declared.cause.TextCause.TheVariants as cause;
 ghost use Rattle.rv_text.specs.declared.item.Body.TheVariants.{Plain, To, High, Low};
 ghost use Rattle.rv_text.specs.Effects.{IsFree, Fits, with_stated};

@@ -189,7 +189,7 @@ impl Keyword {
         }
     }
 
-    /// Where a statement of this name may stand.
+    /// Where a statement of this name may come.
     pub fn place(self) -> Place
         ensures { result ≡ place_of_keyword self }
     {

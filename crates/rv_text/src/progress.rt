@@ -1,5 +1,5 @@
 //! The source so far, and how the lines of a text lead it on.
-ghost use Rattle.std.specs.Prelude.{◌≡◌, ◌⊎◌, ◌↔◌, List, ℕ, None, Some, IsTrue, IfOk, IfErr, OnOk, IfSome, MatchOption, codes};
+ghost use Rattle.std.specs.Prelude.{◌≡◌, ◌⊎◌, ◌↔◌, List, ℕ, None, Some, IsTrue, IfOk, IfErr, OnOk, MatchOption, codes};
 ghost use Rattle.rv_text.specs.declared.cause.TextCause.TheVariants as cause;
 ghost use Rattle.rv_text.specs.Effects.{Labels, RefusesLabel, MayCome, Does, HasNoRoom};
 ghost use Rattle.rv_text.specs.Leads.{BeginsWithName, IsTaken, BeginsWithLabel, HasNoLabel, PassesLabels, IsGateTwice, LeadsBehind, RestLeads, Leads, LabelRefused, RefusedBehind, StatementRefused, LineRefused};
@@ -99,7 +99,7 @@ impl Progress {
         }
     }
 
-    /// Whether a statement of this kind may stand here.
+    /// Whether a statement of this kind may come here.
     fn may_come(&self, place: Place) -> bool
         ensures { IsTrue result ↔ MayCome place self.now.begun }
     {
@@ -168,7 +168,7 @@ impl Progress {
         Ok(())
     }
 
-    /// Does what a statement of this line states, which may stand here.
+    /// Does what a statement of this line states, which may come here.
     fn state(&mut self, alloc: Global, line: u32, statement: Statement<'_>) -> Result<(), TextCause>
         requires { MayCome (place_of_stated (stated statement)) self.old.begun }
         ensures does { OnOk result (Does line (stated statement.entry) self.old self.new) }

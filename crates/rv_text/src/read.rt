@@ -1,5 +1,5 @@
 //! Reading the operands of a statement off its text.
-ghost use Rattle.std.specs.Prelude.{◌≡◌, ◌≤◌, ◌↔◌, IfOk, OnErr, IfErr, IsTrue, Bool, List, length, ℕ, ℤ};
+ghost use Rattle.std.specs.Prelude.{◌≡◌, ◌≤◌, ◌↔◌, IfOk, OnErr, IfErr, IsTrue, Bool, length, ℕ, ℤ};
 ghost use Rattle.rv_text.specs.declared.cause.TextCause.{TextCause};
 ghost use Rattle.rv_text.specs.declared.cause.TextCause.TheVariants as cause;
 ghost use Rattle.rv_text.specs.Tokens.{IsNumber, IsLabel, IsToken, begins_label, is_too_long};

@@ -31,7 +31,7 @@ pub enum Statement<'a> {
     Address { rd: Reg, name: &'a str },
 }
 
-/// Where a statement may stand.
+/// Where a statement may come.
 #[derive(Clone, Copy, Debug, PartialEq, Eq)]
 pub enum Place {
     /// Anywhere, before the first sandbox too: it begins one.

@@ -1,5 +1,5 @@
 //! Reading the text of a source.
-ghost use Rattle.std.specs.Prelude.{◌≡◌, ◌∷◌, [], ◌⊎◌, ◌<◌, ◌≤◌, List, ℕ, length, MatchOption, MatchResult, IfOk, IfErr, OnOk, Err};
+ghost use Rattle.std.specs.Prelude.{◌≡◌, ◌∷◌, [], ◌⊎◌, ◌<◌, ◌≤◌, List, length, MatchOption, MatchResult, IfOk, IfErr, OnOk, Err};
 ghost use Rattle.rv_text.specs.declared.fault.TextFault.{TextFault};
 ghost use Rattle.rv_text.specs.declared.cause.TextCause.TheVariants as causes;
 ghost use Rattle.rv_text.specs.Causes.{memory};
@@ -105,7 +105,7 @@ fn read_source(alloc: Global, text: &str) -> Result<Source, TextFault>
 ///
 /// A line has labels, each a name and a colon, and then a statement or nothing; `#` begins a comment. A text has at most
 /// 1048576 bytes. The fault of a text is that of the first line that is refused, and its cause that of the first token
-/// there that departs from a statement that may stand there; `Limit` on line 1 for a longer text, and `Directive` on
+/// there that departs from a statement that may come there; `Limit` on line 1 for a longer text, and `Directive` on
 /// line 1 for one that begins no sandbox.
 pub fn parse_source(alloc: Global, text: &str) -> Result<Source, TextFault>
     ensures source { IfOk result (λ s. MeansSource text.now s) }

@@ -36,12 +36,14 @@ pub fn steps_are_own()
     sfi_check::laws::safe_stays_safe();
 }
 
-/// Between the steps of a sandbox the others of its world keep its pc, registers, code and empty guard zones.
+/// What one sandbox of a safe world makes of its own data is, to each other one, a change by others: that keeps its pc, registers, code
+/// and empty guard zones.
 pub fn neighbours_are_changes()
     ensures { NeighboursAreChanges }
 {}
 
-/// A host's reply keeps its caller's x24 to x27, code and empty guard zones, and goes on behind the ecall.
+/// A host's reply to a sandbox that goes on, where the memory outside its data stays, keeps its x24 to x27, code and empty guard zones,
+/// and goes on behind the ecall.
 pub fn answers_are_replies()
     ensures { AnswersAreReplies }
 {}

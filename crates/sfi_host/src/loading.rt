@@ -1,7 +1,5 @@
 //! From the parts of an image to sandboxes in a memory.
 ghost use Rattle.std.specs.Prelude.{◌≡◌, IfOk, OnOk, map};
-ghost use Rattle.std.specs.FinMap.{empty};
-ghost use Rattle.rv_step.specs.State.{IsHart};
 ghost use Rattle.sfi_image.specs.Spelling.{view, views};
 ghost use Rattle.sfi_image.specs.Parts.{IsRightPart, IsRightLayout};
 ghost use Rattle.sfi_host.specs.Loading.{first_hart, first_seat, with_part, with_parts};

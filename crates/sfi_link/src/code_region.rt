@@ -1,5 +1,5 @@
 //! The code region of a sandbox: its gates' stubs, its code, and c.ebreaks up to its end.
-ghost use Rattle.std.specs.Prelude.{◌≡◌, ◌++◌, ◌<◌, ◌≤◌, ℕ, length, IfSome, IfNone, OnOk};
+ghost use Rattle.std.specs.Prelude.{◌≡◌, ◌++◌, ◌<◌, ◌≤◌, ℕ, IfSome, IfNone, OnOk};
 ghost use Rattle.std.specs.List.{repeat};
 ghost use Rattle.sfi_rewrite.specs.Slots.{size_of, code_most};
 ghost use Rattle.sfi_rewrite.specs.Placed.{IsPlacedPart};

@@ -6,21 +6,21 @@ use std::alloc::AllocError;
 
 /// Writes the number in eight hexadecimal digits, in lower case, behind the text. The one error is that an allocation was
 /// refused.
-pub fn push_eight(out: &mut String, number: u32) -> Result<(), AllocError>
+pub fn push_eight_digits(out: &mut String, number: u32) -> Result<(), AllocError>
     ensures { OnOk result (string_bytes out.new ≡ string_bytes out.old ++ hex_digits 8 number) }
 {
     write!(out, "{number:08x}")
 }
 
 /// Writes four digits behind the text.
-pub(crate) fn push_four(out: &mut String, number: u16) -> Result<(), AllocError>
+pub(crate) fn push_four_digits(out: &mut String, number: u16) -> Result<(), AllocError>
     ensures { OnOk result (string_bytes out.new ≡ string_bytes out.old ++ hex_digits 4 number) }
 {
     write!(out, "{number:04x}")
 }
 
 /// Writes two digits behind the text.
-pub(crate) fn push_two(out: &mut String, number: u8) -> Result<(), AllocError>
+pub(crate) fn push_two_digits(out: &mut String, number: u8) -> Result<(), AllocError>
     ensures { OnOk result (string_bytes out.new ≡ string_bytes out.old ++ hex_digits 2 number) }
 {
     write!(out, "{number:02x}")
@@ -31,7 +31,7 @@ pub(crate) fn push_half(out: &mut String, bytes: &[u8]) -> Result<(), AllocError
     requires { length bytes.now ≡ 2 }
     ensures { OnOk result (string_bytes out.new ≡ string_bytes out.old ++ word_digits bytes.now) }
 {
-    push_four(out, u16::from_le_bytes([bytes[0], bytes[1]]))
+    push_four_digits(out, u16::from_le_bytes([bytes[0], bytes[1]]))
 }
 
 /// Writes the number of two bytes or four, the lowest first, behind the text.
@@ -42,7 +42,7 @@ pub(crate) fn push_word(out: &mut String, bytes: &[u8]) -> Result<(), AllocError
     if bytes.len() == 2 {
         return push_half(out, bytes);
     }
-    push_eight(
+    push_eight_digits(
         out,
         u32::from_le_bytes([bytes[0], bytes[1], bytes[2], bytes[3]]),
     )

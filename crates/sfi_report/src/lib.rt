@@ -2,7 +2,7 @@
 //!
 //! [`report_text`] writes a line for each finding, with the instruction that stands there. [`listing_text`] writes each
 //! sandbox's fields, its gates, and its code as instructions, bundle by bundle, as the rules read it. `specs/Report.antt`
-//! and `specs/Listing.antt` are these texts. [`push_eight`] writes a number as an address is written in them.
+//! and `specs/Listing.antt` are these texts. [`push_eight_digits`] writes a number as an address is written in them.
 #![tactic(auto)]
 
 mod digits;
@@ -10,7 +10,7 @@ pub mod laws;
 mod listing;
 mod report;
 
-pub use digits::push_eight;
+pub use digits::push_eight_digits;
 pub use listing::listing_text;
 pub use report::report_text;
 

@@ -5,7 +5,7 @@ ghost use Rattle.sfi_image.specs.Parts.{IsRightPart};
 ghost use Rattle.sfi_report.specs.Listing.{instruction_line, rest_line, sandbox_line, region_text, gate_line, IsBundleListing, IsCodeListing, IsSandboxListing, IsListing};
 ghost use Rattle.sfi_report.specs.Added.{Adds};
 
-use crate::digits::{push_eight, push_two, push_word};
+use crate::digits::{push_eight_digits, push_two_digits, push_word};
 use rv_comp::{Front, read_front};
 use rv_text::push_instr;
 use rv_word::Instr;
@@ -23,7 +23,7 @@ fn push_instruction(
     ensures { OnOk result (string_bytes out.new
         ≡ string_bytes out.old ++ instruction_line address bytes.now instr.now) }
 {
-    push_eight(out, address)?;
+    push_eight_digits(out, address)?;
     out.push_str(" ")?;
     push_word(out, bytes)?;
     out.push_str(" ")?;
@@ -36,10 +36,10 @@ fn push_rest(out: &mut String, address: u32, bytes: &[u8]) -> Result<(), AllocEr
     requires { 0 < length bytes.now }
     ensures { OnOk result (string_bytes out.new ≡ string_bytes out.old ++ rest_line address bytes.now) }
 {
-    push_eight(out, address)?;
+    push_eight_digits(out, address)?;
     out.push_str(" .bytes ")?;
     for byte in bytes {
-        push_two(out, *byte)?;
+        push_two_digits(out, *byte)?;
     }
     out.push_str("\n")
 }
@@ -71,7 +71,7 @@ fn push_bundle(out: &mut String, address: u32, bytes: &[u8; 16]) -> Result<(), A
 fn push_region(out: &mut String, base: u32, size: usize) -> Result<(), AllocError>
     ensures { OnOk result (string_bytes out.new ≡ string_bytes out.old ++ region_text base size) }
 {
-    push_eight(out, base)?;
+    push_eight_digits(out, base)?;
     write!(out, " {size}")
 }
 
@@ -85,7 +85,7 @@ fn push_fields(out: &mut String, sandbox: u32, part: &SandboxPart) -> Result<(),
     out.push_str(" data ")?;
     push_region(out, part.data_base, part.data_size as usize)?;
     out.push_str(" start ")?;
-    push_eight(out, part.start)?;
+    push_eight_digits(out, part.start)?;
     let gates = part.gates.len();
     let init = part.init.len();
     write!(out, " gates {gates} init {init}\n")
@@ -96,7 +96,7 @@ fn push_gate(out: &mut String, gate: &Gate) -> Result<(), AllocError>
     ensures { OnOk result (string_bytes out.new ≡ string_bytes out.old ++ gate_line gate.now) }
 {
     out.push_str("gate ")?;
-    push_eight(out, gate.address)?;
+    push_eight_digits(out, gate.address)?;
     let service = gate.service;
     write!(out, " {service}\n")
 }

@@ -5,7 +5,7 @@ ghost use Rattle.sfi_scan.specs.Findings.{AreImageFindings};
 ghost use Rattle.sfi_report.specs.Report.{IsFindingLine, IsPlaceText, IsInstructionText, IsReport, line_front, half_text, rule_name};
 ghost use Rattle.sfi_report.specs.Added.{Adds, IsPlace, SpellsFirst, Stands};
 
-use crate::digits::{push_eight, push_half};
+use crate::digits::{push_eight_digits, push_half};
 use rv_comp::{Front, read_front};
 use rv_text::push_instr;
 use sfi_image::{Image, SandboxPart};
@@ -67,7 +67,7 @@ fn push_front(out: &mut String, finding: &Finding) -> Result<(), AllocError>
 {
     let sandbox = finding.sandbox;
     write!(out, "{sandbox} ")?;
-    push_eight(out, finding.address)?;
+    push_eight_digits(out, finding.address)?;
     let number = finding.rule.number();
     let name = name_of(finding.rule);
     write!(out, " V{number} {name} ")

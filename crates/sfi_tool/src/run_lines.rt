@@ -8,7 +8,7 @@ ghost use Rattle.sfi_tool.specs.RunLines.{cause_name, line_of, run_line, run_lin
 use rv_mem::Memory;
 use rv_step::Cause;
 use sfi_host::{Console, Status, World};
-use sfi_report::push_eight;
+use sfi_report::push_eight_digits;
 use std::alloc::{AllocError, Global};
 
 fn cause_name(cause: Cause) -> &'static str
@@ -33,7 +33,7 @@ fn push_state(out: &mut String, status: Status) -> Result<(), AllocError>
         Status::Trapped(cause, address) => {
             let name = cause_name(cause);
             write!(out, "trap={name} at=")?;
-            push_eight(out, address)
+            push_eight_digits(out, address)
         }
     }
 }

@@ -4,7 +4,7 @@ ghost use Rattle.std.specs.Prelude.{◌≡◌, ◌<◌, IfOk, string_bytes, leng
 ghost use Rattle.sfi_tool.specs.Verdict.{accepted_line, refused_line};
 
 use sfi_check::Accepted;
-use sfi_report::push_eight;
+use sfi_report::push_eight_digits;
 use sfi_scan::Finding;
 use std::alloc::{AllocError, Global};
 
@@ -41,7 +41,7 @@ pub(crate) fn refused_line(alloc: Global, findings: &[Finding]) -> Result<String
     let mut line = format!(in alloc;
         "refused findings={count} first=V{number} sandbox={sandbox} at="
     )?;
-    push_eight(&mut line, address)?;
+    push_eight_digits(&mut line, address)?;
     line.push_str("\n")?;
     Ok(line)
 }

@@ -24,4 +24,4 @@ line_of_pieces (first ∷ rest) absent front placed whole some is at end =
 pub returns : goal.returns
 returns c =
     line_of_pieces c.args.findings.now _ _ _ _ c.requires (simp c.number-number.ensures at c.in_ok-line.ensures.ok)
-    c.in_ok-push_eight.ensures c.in_ok-push_str.ensures.bytes
+    c.in_ok-push_eight_digits.ensures c.in_ok-push_str.ensures.bytes

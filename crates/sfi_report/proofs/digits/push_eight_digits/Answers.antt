@@ -2,7 +2,7 @@ use Rattle.std.proofs.Common.{◌∙◌, ◌++◌, ap}
 use Rattle.std.specs.Prelude.{string_bytes}
 use Rattle.std.proofs.lemmas.Result.{on_ok_weaker}
 use Rattle.sfi_report.proofs.Padding.{padded}
-use Rattle.sfi_report.proofs.digits.push_eight.Goals as goal
+use Rattle.sfi_report.proofs.digits.push_eight_digits.Goals as goal
 
 pub returns : goal.returns
 returns c =
