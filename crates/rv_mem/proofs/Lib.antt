@@ -1,3 +1,4 @@
 pub mod Accesses
 pub mod Lookups
+pub mod Paging
 pub mod Ranges

@@ -1,6 +1,8 @@
 pub mod Bytes
 pub mod Faults
+pub mod Frames
 pub mod Laws
+pub mod Pages
 pub mod Ranges
 pub mod Segment
 pub mod Segments

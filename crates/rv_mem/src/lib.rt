@@ -8,11 +8,13 @@ pub mod fault;
 pub mod laws;
 mod lookup;
 pub mod memory;
+pub mod pages;
 mod segment;
 pub mod segments;
 
 pub use fault::AddFault;
 pub use memory::{Memory, Width};
+pub use pages::Pages;
 pub use segments::Segments;
 
 #[cfg(test)]

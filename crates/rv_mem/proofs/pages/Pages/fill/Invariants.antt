@@ -1,0 +1,15 @@
+use Rattle.std.proofs.Common.{◌≡◌, ◌-◌, ◌≤◌, ℕ}
+use Rattle.rv_mem.specs.Bytes.{byte_at}
+use Rattle.rv_mem.specs.Pages.{bytes_of}
+use Rattle.rv_mem.proofs.Paging.{run_at}
+use Rattle.rv_mem.proofs.pages.Pages.fill.Given as goal
+
+abbrev pub invariant-loop-done : goal.invariant-loop-done
+invariant-loop-done l = record {
+  most : l.done ≤ l.size;
+  table : l.self.table.items ≡ l.fn.self.table.items;
+  run : (q : ℕ) → byte_at (bytes_of l.self) q ≡ run_at l.base l.done l.front q (byte_at (bytes_of l.fn.self) q);
+}
+
+abbrev pub decreases-loop-done : goal.decreases-loop-done
+decreases-loop-done l = l.size - l.done

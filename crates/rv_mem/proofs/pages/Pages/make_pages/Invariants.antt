@@ -1,0 +1,10 @@
+use Rattle.std.proofs.Common.{◌≡◌, ◌≢◌, ◌/◌, ◌≤◌, ◌<◌, ℕ}
+use Rattle.std.specs.Prelude.{slice_index}
+use Rattle.rv_mem.specs.Pages.{bytes_of}
+use Rattle.rv_mem.proofs.pages.Pages.make_pages.Given as goal
+
+abbrev pub invariant-loop-page : goal.invariant-loop-page
+invariant-loop-page l = record {
+  same : bytes_of l.self ≡ bytes_of l.fn.self;
+  made : (p : ℕ) → l.base / 4096 ≤ p → p < l.page → slice_index l.self.table.items p ≢ 0;
+}

@@ -1,0 +1,13 @@
+use Rattle.std.proofs.Common.{◌≡◌, ◌-◌, ◌≤◌, ℕ, ◌<◌, None}
+use Rattle.rv_mem.specs.Bytes.{byte_at, address_after}
+use Rattle.rv_mem.specs.Pages.{bytes_of}
+use Rattle.rv_mem.proofs.pages.Pages.overlaps.Given as goal
+
+abbrev pub invariant-loop-done : goal.invariant-loop-done
+invariant-loop-done l = record {
+  most : l.done ≤ l.size;
+  none : (j : ℕ) → j < l.done → byte_at (bytes_of l.self) (address_after l.base j) ≡ None;
+}
+
+abbrev pub decreases-loop-done : goal.decreases-loop-done
+decreases-loop-done l = l.size - l.done

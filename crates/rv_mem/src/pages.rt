@@ -1,0 +1,406 @@
+//! A memory of pages.
+ghost use Rattle.std.specs.Prelude.{◌≡◌, ◌≢◌, ◌+◌, ◌*◌, ◌/◌, ◌%◌, ◌^◌, ◌<◌, ◌≤◌, ◌↔◌, IsTrue, IsSome, IfSome, OnOk, OnErr, length, slice_index, ℕ, None};
+ghost use Rattle.std.specs.Bool.{OnTrue, OnFalse};
+ghost use Rattle.std.specs.FinMap.{empty, insert};
+ghost use Rattle.std.specs.Int.{bytes_low_first};
+ghost use Rattle.rv_mem.specs.Bytes.{IsMemory, count_of, byte_at, loaded, stored, IsThere, Overlaps, IsFree, added};
+ghost use Rattle.rv_mem.specs.Frames.{ArePages, frame_of, cell_at, values_of, with_four, run_of, MarksRun};
+
+use crate::fault::AddFault;
+use crate::memory::{Memory, Width};
+use std::alloc::{AllocError, Global};
+
+/// How many addresses there are.
+const ADDRESSES: u64 = 1 << 32;
+
+/// How many bytes a page has.
+const PAGE: u32 = 4096;
+
+/// A page's bytes, and behind them their marks.
+const FRAME: usize = 8192;
+
+/// Where the last word begins that lies in one page.
+const LAST_WORD: u32 = 4092;
+
+/// All marks of a word's bytes.
+const FOUR_MARKS: u32 = 0x0101_0101;
+
+/// Lengthens by zeros.
+fn lengthen_cells(cells: &mut Vec<u8>, n: usize) -> Result<(), AllocError>
+    requires { length cells.old.items ≤ n }
+    ensures same { (k : ℕ) → slice_index cells.new.items k ≡ slice_index cells.old.items k }
+    ensures ok { OnOk result (length cells.new.items ≡ n) }
+    ensures err { OnErr result (length cells.new.items ≡ length cells.old.items) }
+{
+    cells.resize(n, 0)
+}
+
+/// Lengthens by zeros.
+fn lengthen_table(table: &mut Vec<u32>, n: usize) -> Result<(), AllocError>
+    requires { length table.old.items ≤ n }
+    ensures same { (k : ℕ) → slice_index table.new.items k ≡ slice_index table.old.items k }
+    ensures ok { OnOk result (length table.new.items ≡ n) }
+    ensures err { OnErr result (length table.new.items ≡ length table.old.items) }
+{
+    table.resize(n, 0)
+}
+
+/// Room for a page in the table, and for frame 0.
+fn make_room(table: &mut Vec<u32>, cells: &mut Vec<u8>, page: u32) -> Result<(), AllocError>
+    requires are { ArePages table.old.items cells.old.items }
+    requires page { page < 2 ^ 20 }
+    ensures are { ArePages table.new.items cells.new.items }
+    ensures cells { (k : ℕ) → slice_index cells.new.items k ≡ slice_index cells.old.items k }
+    ensures table { (k : ℕ) → slice_index table.new.items k ≡ slice_index table.old.items k }
+    ensures room { OnOk result (page < length table.new.items) }
+{
+    if cells.is_empty() {
+        lengthen_cells(cells, FRAME)?;
+    }
+    if page as usize >= table.len() {
+        lengthen_table(table, page as usize + 1)?;
+    }
+    Ok(())
+}
+
+/// Makes a frame for a page that has none.
+fn make_frame(table: &mut Vec<u32>, cells: &mut Vec<u8>, page: u32) -> Result<(), AllocError>
+    requires are { ArePages table.old.items cells.old.items }
+    requires page { page < 2 ^ 20 }
+    ensures are { ArePages table.new.items cells.new.items }
+    ensures same { (q : ℕ) → cell_at table.new.items cells.new.items q ≡ cell_at table.old.items cells.old.items q }
+    ensures made { OnOk result (slice_index table.new.items page ≢ 0) }
+    ensures kept { (p : ℕ) → slice_index table.old.items p ≢ 0 → slice_index table.new.items p ≢ 0 }
+{
+    make_room(table, cells, page)?;
+    if table[page as usize] != 0 {
+        return Ok(());
+    }
+    let frames = cells.len() / FRAME;
+    let Ok(number) = u32::try_from(frames) else {
+        return Err(AllocError);
+    };
+    lengthen_cells(cells, (frames + 1) * FRAME)?;
+    table[page as usize] = number;
+    Ok(())
+}
+
+/// A memory as pages of 4096 bytes. As in a machine's page table, each page's number leads to a frame, in which its bytes stand;
+/// behind them is a mark for each byte that is there. Pages without a byte share frame 0, which has no mark.
+#[derive(Drop)]
+pub struct Pages {
+    table: Vec<u32>,
+    cells: Vec<u8>,
+    ghost are_pages: { ArePages table.items cells.items },
+    ghost in_range: { IsMemory (values_of (cell_at table.items cells.items)) },
+}
+
+impl Pages {
+    ghost use Rattle.rv_mem.specs.Pages.{bytes_of};
+
+    /// A memory without any byte.
+    pub fn new(alloc: Global) -> Pages
+        ensures { bytes_of result ≡ empty }
+    {
+        Pages {
+            table: Vec::new(alloc),
+            cells: Vec::new(alloc),
+        }
+    }
+
+    /// Where the frame of an address's page begins, if the table has that page.
+    #[inline(always)]
+    fn frame(&self, at: u32) -> Option<usize>
+        ensures value { IfSome result (λ f. f ≡ frame_of self.now.table.items at) }
+        ensures within { IfSome result (λ f. f + 8192 ≤ length self.now.cells.items) }
+        ensures none { result ≡ None → cell_at self.now.table.items self.now.cells.items at ≡ None }
+    {
+        let number = *self.table.get((at / PAGE) as usize)?;
+        Some(number as usize * FRAME)
+    }
+
+    #[inline(always)]
+    fn byte_at(&self, at: u32) -> Option<u8>
+        ensures { result ≡ byte_at (bytes_of self.now) at }
+    {
+        let place = self.frame(at)? + (at % PAGE) as usize;
+        if self.cells[place + PAGE as usize] == 1 {
+            Some(self.cells[place])
+        } else {
+            None
+        }
+    }
+
+    /// The four bytes from an address on, in one page.
+    #[inline(always)]
+    fn word_at(&self, at: u32) -> Option<u32>
+        requires { at % 4096 ≤ 4092 }
+        ensures { result ≡ loaded (bytes_of self.now) at 4 }
+    {
+        let place = self.frame(at)? + (at % PAGE) as usize;
+        let marks = place + PAGE as usize;
+        let all = u32::from_le_bytes([
+            self.cells[marks],
+            self.cells[marks + 1],
+            self.cells[marks + 2],
+            self.cells[marks + 3],
+        ]);
+        if all != FOUR_MARKS {
+            return None;
+        }
+        Some(u32::from_le_bytes([
+            self.cells[place],
+            self.cells[place + 1],
+            self.cells[place + 2],
+            self.cells[place + 3],
+        ]))
+    }
+
+    /// Writes the byte of an address that is there.
+    #[inline(always)]
+    fn put_byte(&mut self, at: u32, byte: u8)
+        requires { IsSome (byte_at (bytes_of self.old) at) }
+        ensures { bytes_of self.new ≡ insert (bytes_of self.old) at byte }
+    {
+        let place = self.frame(at).unwrap() + (at % PAGE) as usize;
+        self.cells[place] = byte;
+    }
+
+    /// Whether one of so many addresses from one on, in one page, is there.
+    fn run_has(&self, at: u32, count: u32) -> bool
+        requires { at % 4096 + count ≤ 4096 }
+        ensures found { OnTrue result ((j : ℕ) × (j < count) × IsSome (byte_at (bytes_of self.now) (at + j))) }
+        ensures none { OnFalse result ((j : ℕ) → j < count → byte_at (bytes_of self.now) (at + j) ≡ None) }
+    {
+        if self.frame_number(at) == 0 {
+            return false;
+        }
+        for j in 0..count {
+            if self.byte_at(at + j).is_some() {
+                return true;
+            }
+        }
+        false
+    }
+
+    /// The number of the frame of an address's page, or 0.
+    fn frame_number(&self, at: u32) -> u32
+        ensures { result ≡ slice_index self.now.table.items (at / 4096) }
+    {
+        let page = (at / PAGE) as usize;
+        if page < self.table.len() {
+            self.table[page]
+        } else {
+            0
+        }
+    }
+
+    /// Whether one of the size addresses from base on is there.
+    fn overlaps(&self, base: u32, size: u32) -> bool
+        ensures found { OnTrue result (Overlaps (bytes_of self.now) base size) }
+        ensures free { OnFalse result (IsFree (bytes_of self.now) base size) }
+    {
+        let mut done = 0;
+        while done < size {
+            let at = base.wrapping_add(done);
+            let count = (PAGE - at % PAGE).min(size - done);
+            if self.run_has(at, count) {
+                return true;
+            }
+            done += count;
+        }
+        false
+    }
+
+    /// Makes the page of an address, if it has no frame.
+    fn make_page(&mut self, page: u32) -> Result<(), AllocError>
+        requires { page < 2 ^ 20 }
+        ensures same { bytes_of self.new ≡ bytes_of self.old }
+        ensures made { OnOk result (slice_index self.new.table.items page ≢ 0) }
+        ensures kept { (p : ℕ) → slice_index self.old.table.items p ≢ 0 → slice_index self.new.table.items p ≢ 0 }
+    {
+        make_frame(&mut self.table, &mut self.cells, page)
+    }
+
+    /// Writes bytes of front, from one of its places on, and zeros behind its end: so many from an address on, in one page that
+    /// has a frame. It marks them.
+    fn mark_run(&mut self, at: u32, count: u32, front: &[u8], from: u32)
+        requires page { at % 4096 + count ≤ 4096 }
+        requires made { slice_index self.old.table.items (at / 4096) ≢ 0 }
+        ensures written { (q : ℕ) → byte_at (bytes_of self.new) q ≡ run_of at count front.now from q (byte_at (bytes_of self.old) q) }
+        ensures table { self.new.table.items ≡ self.old.table.items }
+    {
+        let place = self.table[(at / PAGE) as usize] as usize * FRAME + (at % PAGE) as usize;
+        mark_cells(&mut self.cells, place, count as usize, front, from as usize);
+    }
+
+    /// Writes the four bytes from an address on, in one page; false where one of them is missing, and then nothing changed.
+    #[inline(always)]
+    fn put_word(&mut self, at: u32, value: u32) -> bool
+        requires { at % 4096 ≤ 4092 }
+        ensures there { IsTrue result ↔ IsThere (bytes_of self.old) at 4 }
+        ensures done { OnTrue result (bytes_of self.new ≡ stored (bytes_of self.old) at 4 value) }
+        ensures refused { OnFalse result (bytes_of self.new ≡ bytes_of self.old) }
+    {
+        if self.word_at(at).is_none() {
+            return false;
+        }
+        let place = self.frame(at).unwrap() + (at % PAGE) as usize;
+        write_word(&mut self.cells, place, value);
+        true
+    }
+
+    /// A load, byte by byte.
+    fn load_bytes(&self, at: u32, width: Width) -> Option<u32>
+        ensures value { result ≡ loaded (bytes_of self.now) at (count_of width) }
+        ensures fits { IfSome result (λ n. n < 256 ^ count_of width) }
+    {
+        let byte0 = u32::from(self.byte_at(at)?);
+        if width == Width::One {
+            return Some(byte0);
+        }
+        let byte1 = u32::from(self.byte_at(at.wrapping_add(1))?);
+        if width == Width::Two {
+            return Some(byte0 + byte1 * 0x100);
+        }
+        let byte2 = u32::from(self.byte_at(at.wrapping_add(2))?);
+        let byte3 = u32::from(self.byte_at(at.wrapping_add(3))?);
+        Some(byte0 + byte1 * 0x100 + byte2 * 0x1_0000 + byte3 * 0x100_0000)
+    }
+
+    /// A store, byte by byte.
+    #[tactic(auto, using(crate::proofs::Lookups::stays))]
+    fn store_bytes(&mut self, at: u32, width: Width, value: u32) -> bool
+        ensures there { IsTrue result ↔ IsThere (bytes_of self.old) at (count_of width) }
+        ensures done { OnTrue result (bytes_of self.new ≡ stored (bytes_of self.old) at (count_of width) value) }
+        ensures refused { OnFalse result (bytes_of self.new ≡ bytes_of self.old) }
+    {
+        if self.load_bytes(at, width).is_none() {
+            return false;
+        }
+        let [byte0, byte1, byte2, byte3] = value.to_le_bytes();
+        self.put_byte(at, byte0);
+        if width == Width::One {
+            return true;
+        }
+        self.put_byte(at.wrapping_add(1), byte1);
+        if width == Width::Two {
+            return true;
+        }
+        self.put_byte(at.wrapping_add(2), byte2);
+        self.put_byte(at.wrapping_add(3), byte3);
+        true
+    }
+
+    /// Makes the pages of the size addresses from base on.
+    fn make_pages(&mut self, base: u32, size: u32) -> Result<(), AllocError>
+        requires { base + size ≤ 2 ^ 32 }
+        ensures same { bytes_of self.new ≡ bytes_of self.old }
+        ensures made { OnOk result ((k : ℕ) → k < size → slice_index self.new.table.items ((base + k) / 4096) ≢ 0) }
+    {
+        if size == 0 {
+            return Ok(());
+        }
+        let last = (base + (size - 1)) / PAGE;
+        for page in base / PAGE..last + 1 {
+            self.make_page(page)?;
+        }
+        Ok(())
+    }
+
+    /// Writes the bytes of front and then zeros, in pages that have frames.
+    fn fill(&mut self, base: u32, size: u32, front: &[u8])
+        requires end { base + size ≤ 2 ^ 32 }
+        requires room { length front.now ≤ size }
+        requires made { (k : ℕ) → k < size → slice_index self.old.table.items ((base + k) / 4096) ≢ 0 }
+        ensures { bytes_of self.new ≡ added (bytes_of self.old) base size front.now }
+    {
+        let mut done = 0;
+        while done < size {
+            let at = base + done;
+            let count = (PAGE - at % PAGE).min(size - done);
+            self.mark_run(at, count, front, done);
+            done += count;
+        }
+    }
+}
+
+/// Writes the four bytes of a number from a place on: over a slice, so that it is one store of the processor.
+#[inline(always)]
+fn write_word(cells: &mut [u8], place: usize, value: u32)
+    requires { place + 4 ≤ length cells.old }
+    ensures { cells.new ≡ with_four cells.old place (bytes_low_first 0 4 value) }
+{
+    let [byte0, byte1, byte2, byte3] = value.to_le_bytes();
+    cells[place] = byte0;
+    cells[place + 1] = byte1;
+    cells[place + 2] = byte2;
+    cells[place + 3] = byte3;
+}
+
+/// Writes so many bytes and their marks.
+fn mark_cells(cells: &mut [u8], place: usize, count: usize, front: &[u8], from: usize)
+    requires room { place + count + 4096 ≤ length cells.old }
+    requires small { from + count < 2 ^ 64 }
+    ensures { MarksRun cells.old cells.new place count front.now from }
+{
+    for j in 0..count {
+        cells[place + j] = byte_or_zero(front, from + j);
+        cells[place + j + PAGE as usize] = 1;
+    }
+}
+
+/// The byte of that place, or 0 past the end.
+fn byte_or_zero(bytes: &[u8], place: usize) -> u8
+    ensures { result ≡ slice_index bytes.now place }
+{
+    if place < bytes.len() { bytes[place] } else { 0 }
+}
+
+impl Memory for Pages {
+    ghost use Rattle.rv_mem.specs.Pages.{bytes_of};
+
+    ghost bytes = { bytes_of };
+
+    ghost in_range = { λ m. m.in_range };
+
+    #[inline(always)]
+    fn load(&self, at: u32, width: Width) -> Option<u32> {
+        if width == Width::Four && at % PAGE <= LAST_WORD {
+            return self.word_at(at);
+        }
+        if width == Width::One {
+            let byte = self.byte_at(at)?;
+            return Some(u32::from(byte));
+        }
+        self.load_bytes(at, width)
+    }
+
+    fn fetch16(&self, at: u32) -> Option<u16> {
+        let low = self.byte_at(at)?;
+        let high = self.byte_at(at.wrapping_add(1))?;
+        Some(u16::from_le_bytes([low, high]))
+    }
+
+    #[inline(always)]
+    fn store(&mut self, at: u32, width: Width, value: u32) -> bool {
+        if width == Width::Four && at % PAGE <= LAST_WORD {
+            return self.put_word(at, value);
+        }
+        self.store_bytes(at, width, value)
+    }
+
+    fn add(&mut self, base: u32, size: u32, front: &[u8]) -> Result<(), AddFault> {
+        if self.overlaps(base, size) {
+            return Err(AddFault::Overlap);
+        }
+        if u64::from(base) + u64::from(size) > ADDRESSES {
+            return Err(AddFault::End);
+        }
+        if self.make_pages(base, size).is_err() {
+            return Err(AddFault::Memory);
+        }
+        self.fill(base, size, front);
+        Ok(())
+    }
+}
