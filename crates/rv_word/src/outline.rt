@@ -66,6 +66,7 @@ fn outline_of_some(instr: Option<Instr>) -> Option<Outline>
 #[tactic(auto, using(crate::proofs::Outlined::found, crate::proofs::Outlined::none), unfolding(crate::specs::Spelling::spelling, crate::specs::Spelling::InRange))]
 impl Parts {
     // One reading for each opcode, so that what an outline doesn't tell is never made.
+    #[inline(always)]
     fn outline(self) -> Option<Outline>
         requires { Fits self }
         ensures found { IfSome result (IsWordThat (word_of self)) }
@@ -122,6 +123,7 @@ impl Parts {
 }
 
 /// What the instruction does that the word spells; `None` where it spells none.
+#[inline(always)]
 pub fn outline32(word: u32) -> Option<Outline>
     ensures found { IfSome result (IsWordThat word) }
     ensures only { (i : Instr) → IsWordOf word i → result ≡ Some (outline i) }

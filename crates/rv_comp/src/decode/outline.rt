@@ -20,6 +20,7 @@ fn row_of(h: u16) -> u16
 
 /// C.JR, C.JALR, C.MV and C.ADD.
 #[tactic(auto, unfolding(crate::specs::mirror::Outlining::jump))]
+#[inline(always)]
 fn jump(h: u16) -> Outline
     ensures { result ≡ jump h }
 {
@@ -37,6 +38,7 @@ fn jump(h: u16) -> Outline
 
 /// These, and C.EBREAK.
 #[tactic(auto, unfolding(crate::specs::mirror::Outlining::jump_or_stop))]
+#[inline(always)]
 fn jump_or_stop(h: u16) -> Option<Outline>
     ensures { result ≡ jump_or_stop h }
 {
@@ -50,6 +52,7 @@ fn jump_or_stop(h: u16) -> Option<Outline>
 }
 
 #[tactic(auto, unfolding(crate::specs::mirror::Outlining::outlined))]
+#[inline(always)]
 fn outline_halfword(h: u16) -> Option<Outline>
     ensures { result ≡ outlined h }
 {
@@ -95,6 +98,7 @@ fn outline_halfword(h: u16) -> Option<Outline>
 
 /// What the instruction does that the form of the halfword expands to; `None` where no row gives it.
 #[tactic(auto, using(crate::proofs::Outlined::outlined_found, crate::proofs::Outlined::outlined_only))]
+#[inline(always)]
 pub fn outline16(h: u16) -> Option<Outline>
     ensures found { IfSome result (IsHalfwordThat h) }
     ensures only { (i : Instr) → IsShortSpelling h i → result ≡ Some (outline i) }
