@@ -8,3 +8,4 @@ pub mod Memories
 pub mod Numbers
 pub mod Reading
 pub mod Steps
+pub mod Pairs

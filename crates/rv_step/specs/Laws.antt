@@ -1,12 +1,14 @@
 -- What holds of every step.
-use Rattle.std.specs.Prelude.{◌≡◌, ◌≢◌, ℕ, ◌<◌, IsSome}
+use Rattle.std.specs.Prelude.{◌≡◌, ◌≢◌, ℕ, ◌<◌, IsSome, [], ◌∷◌, bit_and, bit_or}
 use Rattle.rv_word.specs.declared.instr.Instr.{Instr}
-use Rattle.rv_word.specs.declared.instr.Instr.TheVariants.{Ecall}
+use Rattle.rv_word.specs.declared.instr.RegOp.TheVariants.{And, Or}
+use Rattle.rv_word.specs.declared.instr.Instr.TheVariants.{Op, Ecall}
 use Rattle.rv_mem.specs.Bytes.{byte_at, address_after}
 use Rattle.rv_step.specs.declared.outcome.Outcome.TheVariants.{Next, Call}
 use Rattle.rv_step.specs.Access.{Accesses}
-use Rattle.rv_step.specs.State.{State, IsState}
+use Rattle.rv_step.specs.State.{State, IsState, register, with_register, behind}
 use Rattle.rv_step.specs.Step.{Stepped, Stands, effect, IsStep}
+use Rattle.rv_step.specs.Steps.{StandInRow, LeadTo}
 
 -- one instruction at most stands at pc
 abbrev pub OneInstruction : Type 0
@@ -81,3 +83,14 @@ pub record IsSameStep (s t : State) (r q : Stepped) : Type 0 where
 abbrev pub AgreeingStepsAreSame : Type 0
 AgreeingStepsAreSame =
     (s t : State) (i : Instr) (n : ℕ) (r q : Stepped) → AgreeHere s t i n → IsStep s r → IsStep t q → IsSameStep s t r q
+
+-- ---- a pair
+
+-- `and t, a, mask` and `or t, t, base` are done, wherever they stand, and leave in t the value of a, masked, with the bits of base. No other register changes, nor does memory.
+abbrev pub PairLeaves : Type 0
+PairLeaves =
+    (s : State) (t a mask base : ℕ) → IsState s → t ≢ 0 → base ≢ t → StandInRow s (Op And t a mask ∷ Op Or t t base ∷ [])
+    → LeadTo 2 s (record {
+      hart = with_register (behind s.hart 8) t (bit_or (bit_and (register s.hart a) (register s.hart mask)) (register s.hart base));
+      memory = s.memory;
+    })

@@ -2,4 +2,5 @@ pub mod Access
 pub mod Laws
 pub mod State
 pub mod Step
+pub mod Steps
 pub mod Values

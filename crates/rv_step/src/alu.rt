@@ -6,6 +6,7 @@ ghost use Rattle.rv_step.specs.Values.{extended, is_taken, load_size, plus, regi
 use rv_word::{Cond, ImmOp, LoadKind, RegOp};
 
 /// The result of an operation on the values of rs1 and rs2.
+#[inline(always)]
 pub fn result_of(op: RegOp, a: u32, b: u32) -> u32
     ensures { result ≡ op_result op a b }
 {
@@ -42,6 +43,7 @@ pub fn result_of(op: RegOp, a: u32, b: u32) -> u32
 }
 
 /// Bits 63 to 32 of a product.
+#[inline(always)]
 fn high_word(product: i64) -> u32
     ensures { result ≡ word (shifted_right product 32) }
 {
@@ -49,6 +51,7 @@ fn high_word(product: i64) -> u32
 }
 
 /// The operation on registers that computes what this one does.
+#[inline(always)]
 pub fn register_op_of(op: ImmOp) -> RegOp
     ensures { result ≡ register_op op }
 {
@@ -66,6 +69,7 @@ pub fn register_op_of(op: ImmOp) -> RegOp
 }
 
 /// The register's value for the number that a load read.
+#[inline(always)]
 pub fn extend(kind: LoadKind, read: u32) -> u32
     requires { read < 256 ^ load_size kind }
     ensures { result ≡ extended kind read }
@@ -78,6 +82,7 @@ pub fn extend(kind: LoadKind, read: u32) -> u32
 }
 
 /// Whether a branch on the values of rs1 and rs2 is taken.
+#[inline(always)]
 pub fn takes(cond: Cond, a: u32, b: u32) -> bool
     ensures { result ≡ is_taken cond a b }
 {
@@ -93,6 +98,7 @@ pub fn takes(cond: Cond, a: u32, b: u32) -> bool
 
 /// The address that lies an offset away.
 #[tactic(auto, using(crate::proofs::Numbers::plus_even))]
+#[inline(always)]
 pub fn offset_from(a: u32, offset: i32) -> u32
     ensures value { result ≡ plus a offset }
     ensures even { a % 2 ≡ 0 → IsEven offset → result % 2 ≡ 0 }

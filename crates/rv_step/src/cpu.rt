@@ -40,6 +40,7 @@ impl Cpu {
     }
 
     /// The address of the instruction that the next step executes.
+    #[inline(always)]
     pub fn pc(&self) -> u32
         ensures value { result ≡ self.now.pc }
         ensures hart { IsHart self.now }
@@ -48,6 +49,7 @@ impl Cpu {
     }
 
     /// The value of a register.
+    #[inline(always)]
     pub fn reg(&self, r: Reg) -> u32
         ensures value { result ≡ register self.now r }
         ensures hart { IsHart self.now }
@@ -56,6 +58,7 @@ impl Cpu {
     }
 
     /// Writes a register. x0 stays 0.
+    #[inline(always)]
     pub fn set_reg(&mut self, r: Reg, value: u32)
         ensures written { self.new ≡ with_register self.old r value }
         ensures hart { IsHart self.new }
@@ -67,6 +70,7 @@ impl Cpu {
     }
 
     /// Goes to an address.
+    #[inline(always)]
     pub(crate) fn go_to(&mut self, pc: u32)
         requires { pc % 2 ≡ 0 }
         ensures gone { self.new ≡ with_pc self.old pc }

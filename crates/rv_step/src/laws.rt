@@ -1,5 +1,5 @@
 //! What holds of every step. A call costs nothing.
-ghost use Rattle.rv_step.specs.Laws.{OneInstruction, OneStep, SomeStep, StepIsEffect, StepKeepsState, StoppedStays, OtherBytesStay, AccessedIsThere, NoByteGoes, CallsAreEcalls, AgreeingStandsToo, AgreeingStepsAreSame};
+ghost use Rattle.rv_step.specs.Laws.{OneInstruction, OneStep, SomeStep, StepIsEffect, StepKeepsState, StoppedStays, OtherBytesStay, AccessedIsThere, NoByteGoes, CallsAreEcalls, AgreeingStandsToo, AgreeingStepsAreSame, PairLeaves};
 
 use rv_comp::laws::{one_front, one_spelling, some_front, spelled_in_range, two_lengths};
 
@@ -81,4 +81,11 @@ pub fn agreeing_steps_are_same()
     ensures { AgreeingStepsAreSame }
 {
     step_is_effect();
+}
+
+/// What `and t, a, mask` and `or t, t, base` leave.
+pub fn pair_leaves()
+    ensures { PairLeaves }
+{
+    spelled_in_range();
 }

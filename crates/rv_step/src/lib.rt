@@ -7,13 +7,13 @@
 mod alu;
 pub mod cpu;
 mod execute;
-mod fetch;
+pub mod fetch;
 pub mod laws;
 pub mod machine;
 pub mod outcome;
 
 pub use cpu::{Cpu, after_call};
-pub use machine::step;
+pub use machine::{step, step_decoded};
 pub use outcome::{Cause, Outcome};
 
 #[cfg(test)]
