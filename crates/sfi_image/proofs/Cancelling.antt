@@ -8,6 +8,7 @@ use Rattle.std.proofs.lemmas.List.{append_cancel_left, length-append}
 use Rattle.std.proofs.lemmas.List.Elements.{All-head, All-tail}
 use Rattle.sfi_image.specs.declared.part.Gate.{Gate}
 use Rattle.sfi_image.specs.declared.fields.Fields.{Fields}
+use Rattle.sfi_image.specs.declared.format.Format.{Format}
 use Rattle.sfi_image.specs.Spelling.{Part, fields_of, number, fields, gate, part, IsWord, AreFieldWords, AreGateWords, AreWords}
 
 -- two fronts of one length are the same front
@@ -48,10 +49,10 @@ length-gate g r = omega arith
 
 -- ---- fields
 
-fields_from : (a b c d e f g : ℕ) → Fields
-fields_from a b c d e f g = record { code_base = a; code_size = b; data_base = c; data_size = d; start = e; gate_count = f; init_len = g }
+fields_from : (k : Format) (a b c d e f g : ℕ) → Fields
+fields_from k a b c d e f g = record { format = k; code_base = a; code_size = b; data_base = c; data_size = d; start = e; gate_count = f; init_len = g }
 
-of_fields : (f : Fields) → fields_from f.code_base f.code_size f.data_base f.data_size f.start f.gate_count f.init_len ≡ f
+of_fields : (f : Fields) → fields_from f.format f.code_base f.code_size f.data_base f.data_size f.start f.gate_count f.init_len ≡ f
 unfolding fields_from
 of_fields f = refl
 
@@ -60,8 +61,8 @@ pub fields_split : (f : Fields) (r : List ℕ) → fields f ++ r ≡ number f.co
 unfolding fields
 fields_split f r = simp append_assoc
 
-pub same_fields : (f g : Fields) (r s : List ℕ) → AreFieldWords f → AreFieldWords g → fields f ++ r ≡ fields g ++ s → (f ≡ g) × (r ≡ s)
-same_fields f g r s wf wg e =
+pub same_fields : (f g : Fields) (r s : List ℕ) → AreFieldWords f → AreFieldWords g → f.format ≡ g.format → fields f ++ r ≡ fields g ++ s → (f ≡ g) × (r ≡ s)
+same_fields f g r s wf wg kind e =
     let a = same_number f.code_base g.code_base _ _ wf.code_base wg.code_base (sym (fields_split f r) ∙ e ∙ fields_split g s) in
     let b = same_number f.code_size g.code_size _ _ wf.code_size wg.code_size a.1 in
     let c = same_number f.data_base g.data_base _ _ wf.data_base wg.data_base b.1 in
@@ -69,8 +70,8 @@ same_fields f g r s wf wg e =
     let h = same_number f.start g.start _ _ wf.start wg.start d.1 in
     let i = same_number f.gate_count g.gate_count _ _ wf.gate_count wg.gate_count h.1 in
     let j = same_number f.init_len g.init_len r s wf.init_len wg.init_len i.1 in
-    let same : fields_from f.code_base f.code_size f.data_base f.data_size f.start f.gate_count f.init_len ≡ fields_from g.code_base g.code_size g.data_base g.data_size g.start g.gate_count g.init_len =
-    rw (a.0, b.0, c.0, d.0, h.0, i.0, j.0) refl in
+    let same : fields_from f.format f.code_base f.code_size f.data_base f.data_size f.start f.gate_count f.init_len ≡ fields_from g.format g.code_base g.code_size g.data_base g.data_size g.start g.gate_count g.init_len =
+    rw (kind, a.0, b.0, c.0, d.0, h.0, i.0, j.0) refl in
     (sym (of_fields f) ∙ same ∙ of_fields g, j.1)
 
 pub length-fields : (f : Fields) (r : List ℕ) → length (fields f ++ r) ≡ 28 + length r
@@ -113,7 +114,7 @@ module _ {X : Type 0} (spell : X → List ℕ) (Fits : X → Type 0)
 -- ---- sandboxes
 
 part_from : Fields → List Gate → (code init : List ℕ) → Part
-part_from f gs code init = record { code_base = f.code_base; data_base = f.data_base; data_size = f.data_size; start = f.start; gates = gs; code = code; init = init }
+part_from f gs code init = record { format = f.format; code_base = f.code_base; data_base = f.data_base; data_size = f.data_size; start = f.start; gates = gs; code = code; init = init }
 
 of_part : (p : Part) → part_from (fields_of p) p.gates p.code p.init ≡ p
 unfolding part_from
@@ -123,9 +124,9 @@ pub part_split : (p : Part) (r : List ℕ) → part p ++ r ≡ fields (fields_of
 unfolding part
 part_split p r = simp append_assoc
 
-pub same_part : (p q : Part) (r s : List ℕ) → AreWords p → AreWords q → part p ++ r ≡ part q ++ s → (p ≡ q) × (r ≡ s)
-same_part p q r s wp wq e =
-    let head = same_fields (fields_of p) (fields_of q) _ _ wp.fields wq.fields (sym (part_split p r) ∙ e ∙ part_split q s) in
+pub same_part : (p q : Part) (r s : List ℕ) → AreWords p → AreWords q → p.format ≡ q.format → part p ++ r ≡ part q ++ s → (p ≡ q) × (r ≡ s)
+same_part p q r s wp wq kind e =
+    let head = same_fields (fields_of p) (fields_of q) _ _ wp.fields wq.fields kind (sym (part_split p r) ∙ e ∙ part_split q s) in
     let gates = same_list gate AreGateWords same_gate p.gates q.gates _ _ wp.gates wq.gates (ap (λ (f : Fields). f.gate_count) head.0) head.1 in
     let code = same_front p.code q.code _ _ (ap (λ (f : Fields). f.code_size) head.0) gates.1 in
     let init = same_front p.init q.init r s (ap (λ (f : Fields). f.init_len) head.0) code.1 in

@@ -11,6 +11,7 @@ use Rattle.sfi_image.specs.declared.span.Span.{Span}
 use Rattle.sfi_image.specs.declared.fault.LayoutFault.{LayoutFault}
 use Rattle.sfi_image.specs.Spans.{Holds, AreApart, code_span, spans_of}
 use Rattle.sfi_image.specs.Regions.{IsRegion, HasGuardRoom, IsBundleStart}
+use Rattle.sfi_image.specs.Formats.{code_most}
 use Rattle.sfi_image.specs.Gates.{AreGates, gates_most}
 use Rattle.sfi_image.specs.Tests.{FieldTest, Passes, IsFirstFault, fault_of}
 use Rattle.sfi_image.specs.Tests.FieldTest.{Code, Data, GuardRoom, Start, Gates, Init, Overlap}
@@ -144,7 +145,7 @@ decided_gates region gs =
 -- ---- the tests of the fields
 
 pub decided_test : (before : List Span) (f : Fields) (t : FieldTest) → Decided (Passes before f t)
-decided_test before f Code = decided_region f.code_base f.code_size 256 65536
+decided_test before f Code = decided_region f.code_base f.code_size 256 (code_most f.format)
 decided_test before f Data = decided_region f.data_base f.data_size 256 1048576
 decided_test before f GuardRoom = decided_guard_room f.data_base f.data_size
 decided_test before f Start = decided_bundle_start (code_span f) f.start

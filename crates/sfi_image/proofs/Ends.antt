@@ -2,8 +2,10 @@
 use Rattle.std.proofs.Common.{◌≡◌, ℕ, ◌+◌, ◌-◌, ◌*◌, ◌^◌, ◌<◌, ◌≤◌, ap, ◌∙◌, ⊎_elim, arith}
 use Rattle.std.proofs.lemmas.Nat.{pow-add, pow_below}
 use Rattle.std.proofs.lemmas.Bool.{cases_lt}
+use Rattle.sfi_image.specs.Formats.{code_most}
 use Rattle.sfi_image.specs.Regions.{IsRegion}
 use Rattle.sfi_image.specs.Laws.{CodeEnds}
+use Rattle.sfi_image.proofs.Formats.{code_at_most}
 
 power_at_most : (k j : ℕ) → 2 ^ k ≤ 2 ^ j → k ≤ j
 power_at_most k j h = ⊎_elim (λ (less : j < k). let below : 2 ^ j < 2 ^ k = pow_below j k less in omega arith) (λ (more : k ≤ j). more) (cases_lt j k)
@@ -29,4 +31,4 @@ region_end base size least most limit address region =
     le_times a b c h = grind arith
 
 pub code_end : CodeEnds
-code_end p right = region_end p.code_base _ 256 65536 (omega arith) right.words.fields.code_base right.code_placed
+code_end p right = region_end p.code_base _ 256 (code_most p.format) (omega (arith, code_at_most p.format)) right.words.fields.code_base right.code_placed

@@ -6,6 +6,7 @@ use Rattle.std.proofs.lemmas.List.{take-append-drop, length-take, length-drop, g
 use Rattle.byteorder.specs.Endian.{little_number}
 use Rattle.sfi_image.specs.declared.part.Gate.{Gate}
 use Rattle.sfi_image.specs.declared.fields.Fields.{Fields}
+use Rattle.sfi_image.specs.declared.format.Format.{Format}
 use Rattle.sfi_image.specs.Spelling.{number, fields, gate, IsWord, AreFieldWords, AreGateWords}
 use Rattle.sfi_image.proofs.Numbers.{IsBytes, IsBytes-take, number_of_bytes}
 use Rattle.sfi_image.proofs.Cancelling.{gate_split, fields_split}
@@ -72,8 +73,8 @@ fields_joined : (bytes r0 r1 r2 r3 r4 r5 r6 : List ℕ) (f : Fields)
     → r3 ≡ number f.start ++ r4 → r4 ≡ number f.gate_count ++ r5 → r5 ≡ number f.init_len ++ r6 → bytes ≡ fields f ++ r6
 fields_joined bytes r0 r1 r2 r3 r4 r5 r6 f e0 e1 e2 e3 e4 e5 e6 = rw (e0, e1, e2, e3, e4, e5, e6, fields_split f r6) refl
 
-pub fields_front : (bytes : List ℕ) → 28 ≤ length bytes → IsBytes bytes → Front fields AreFieldWords 28 bytes
-fields_front bytes long small =
+pub fields_front : (format : Format) (bytes : List ℕ) → 28 ≤ length bytes → IsBytes bytes → (front : Front fields AreFieldWords 28 bytes) × (front.item.format ≡ format)
+fields_front format bytes long small =
     let code_base = number_front bytes (omega arith) small in
     let code_size = number_front code_base.rest (omega (arith, code_base.len)) code_base.small in
     let data_base = number_front code_size.rest (omega (arith, code_base.len, code_size.len)) code_size.small in
@@ -82,6 +83,7 @@ fields_front bytes long small =
     let gate_count = number_front start.rest (omega (arith, code_base.len, code_size.len, data_base.len, data_size.len, start.len)) start.small in
     let init_len = number_front gate_count.rest (omega (arith, code_base.len, code_size.len, data_base.len, data_size.len, start.len, gate_count.len)) gate_count.small in
     let f : Fields = record {
+      format = format;
       code_base = code_base.item;
       code_size = code_size.item;
       data_base = data_base.item;
@@ -89,20 +91,22 @@ fields_front bytes long small =
       start = start.item;
       gate_count = gate_count.item;
       init_len = init_len.item;
-    } in
-    record {
-      item = f;
-      rest = init_len.rest;
-      bytes_are = fields_joined bytes code_base.rest code_size.rest data_base.rest data_size.rest start.rest gate_count.rest init_len.rest f code_base.bytes_are code_size.bytes_are data_base.bytes_are data_size.bytes_are start.bytes_are gate_count.bytes_are init_len.bytes_are;
-      fits = record {
-        code_base = code_base.fits;
-        code_size = code_size.fits;
-        data_base = data_base.fits;
-        data_size = data_size.fits;
-        start = start.fits;
-        gate_count = gate_count.fits;
-        init_len = init_len.fits;
-      };
-      len = omega (arith, code_base.len, code_size.len, data_base.len, data_size.len, start.len, gate_count.len, init_len.len);
-      small = init_len.small;
-    }
+    } in (
+      record {
+        item = f;
+        rest = init_len.rest;
+        bytes_are = fields_joined bytes code_base.rest code_size.rest data_base.rest data_size.rest start.rest gate_count.rest init_len.rest f code_base.bytes_are code_size.bytes_are data_base.bytes_are data_size.bytes_are start.bytes_are gate_count.bytes_are init_len.bytes_are;
+        fits = record {
+          code_base = code_base.fits;
+          code_size = code_size.fits;
+          data_base = data_base.fits;
+          data_size = data_size.fits;
+          start = start.fits;
+          gate_count = gate_count.fits;
+          init_len = init_len.fits;
+        };
+        len = omega (arith, code_base.len, code_size.len, data_base.len, data_size.len, start.len, gate_count.len, init_len.len);
+        small = init_len.small;
+      },
+      refl,
+    )

@@ -1,10 +1,11 @@
 -- Gates that follow one another.
-use Rattle.std.proofs.Common.{◌≡◌, ℕ, ◌+◌, ◌-◌, ◌<◌, ◌≤◌, List, [], ◌∷◌, ◌++◌, length, get_or, refl, sym, ap, subst, ◌∙◌, arith, append_assoc, inl, inr, lt_trans, ltb}
-use Rattle.std.specs.Prelude.{◌↔◌, IsTrue, slice_get, Some}
+use Rattle.std.proofs.Common.{◌≡◌, ℕ, ◌+◌, ◌-◌, ◌<◌, ◌≤◌, List, [], ◌∷◌, ◌++◌, length, map, get_or, refl, sym, ap, subst, ◌∙◌, arith, append_assoc, inl, inr, lt_trans, ltb}
+use Rattle.std.specs.Prelude.{◌↔◌, IsTrue, slice_get, Option, None, Some}
 use Rattle.std.specs.List.{All, AllPairs, flat_map}
+use Rattle.std.specs.Option.{option_map}
 use Rattle.std.proofs.lemmas.Bool.{cases_lt, ltb-true, lt-ltb}
-use Rattle.std.proofs.lemmas.List.{length_push, length-append, get_or_append_left, get_or_push}
-use Rattle.std.proofs.lemmas.Option.{get_or_from_slice_get, slice_get_within}
+use Rattle.std.proofs.lemmas.List.{length-map, length_push, length-append, get_or_append_left, get_or_push}
+use Rattle.std.proofs.lemmas.Option.{get_or_from_slice_get, slice_get_within, slice_get-map}
 use Rattle.std.proofs.lemmas.List.Elements.{All-push}
 use Rattle.std.proofs.lemmas.List.Quantifiers.{all_pairs_push}
 use Rattle.sfi_image.specs.declared.part.Gate.{Gate}
@@ -29,6 +30,19 @@ above_last gs at g ascending is =
       ],
       λ all. lt-ltb _ _ (subst (λ (h : Gate). h.address < at) (last g) (all (length gs - 1) g within)),
     )
+
+-- the same of the last of their addresses
+pub above_last_address : (gs : List Gate) (addresses : List ℕ) (at last : ℕ) → map (λ g. g.address) gs ≡ addresses → AllPairs (λ g h. g.address < h.address) gs
+    → Some last ≡ slice_get addresses (length addresses - 1) → IsTrue (ltb last at) ↔ All (λ h. h.address < at) gs
+above_last_address gs addresses at last e ascending is =
+    let n : length addresses ≡ length gs = ap length (sym e) ∙ length-map gs (λ g. g.address) in
+    let there : Some last ≡ slice_get (map (λ (g : Gate). g.address) gs) (length gs - 1) = rw (e, ← n) is in
+    let g = found (slice_get gs (length gs - 1)) last (there ∙ slice_get-map (λ (g : Gate). g.address) gs (length gs - 1)) in
+    subst (λ (a : ℕ). IsTrue (ltb a at) ↔ All (λ h. h.address < at) gs) g.2 (above_last gs at g.0 ascending g.1)
+  where
+    found : (o : Option Gate) (a : ℕ) → Some a ≡ option_map (λ g. g.address) o → (g : Gate) × (o ≡ Some g) × (g.address ≡ a)
+    found None a e = absurd cc
+    found (Some g) a e = (g, refl, cc)
 
 -- a gate that passes its tests may come next
 pub next_gate : (region : Span) (gs : List Gate) (g : Gate) → AreGates region gs → IsBundleStart region g.address → g.service ≤ 5

@@ -8,9 +8,17 @@ pub mod Whole
 pub mod Cancelling
 pub mod OneReading
 pub mod Deciding
+pub mod Formats
+pub mod Views
 pub mod Fronts
 pub mod SomeReading
 pub mod Refused
 pub mod OneRefusal
 pub mod Bundles
 pub mod Ends
+pub mod Following
+pub mod Standing
+pub mod Steps
+pub mod Places
+pub mod Ending
+pub mod Parsing

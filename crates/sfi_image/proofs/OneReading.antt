@@ -1,9 +1,9 @@
 -- Bytes have one image or one fault.
 use Rattle.std.proofs.Common.{◌≡◌, ℕ, ◌+◌, ◌<◌, ◌≤◌, List, [], ◌∷◌, ◌++◌, length, take, refl, sym, ap, subst, ◌∙◌, arith, append_assoc, inl, inr, ◌⊎◌, Some, None, Option, Result, Ok, Err}
 use Rattle.std.specs.List.{All, AllPairs, flat_map}
-use Rattle.std.proofs.Math.Seq.{take-append_seam}
 use Rattle.std.proofs.lemmas.Grind.{flat_map-append}
 use Rattle.std.proofs.lemmas.List.{length-append, append-nil}
+use Rattle.sfi_image.specs.declared.format.Format.{Format}
 use Rattle.sfi_image.specs.declared.part.Gate.{Gate}
 use Rattle.sfi_image.specs.declared.fields.Fields.{Fields}
 use Rattle.sfi_image.specs.declared.span.Span.{Span}
@@ -12,13 +12,15 @@ use Rattle.sfi_image.specs.declared.fault.LayoutFault.TheVariants.{Count, Short,
 use Rattle.sfi_image.specs.declared.fault.ImageFault.{ImageFault}
 use Rattle.sfi_image.specs.declared.fault.ImageFault.TheVariants as errors
 use Rattle.sfi_image.specs.Outcome.{Reads}
-use Rattle.sfi_image.specs.Spelling.{Part, fields_of, number, gate, part, magic, spelling, AreGateWords}
+use Rattle.sfi_image.specs.Spelling.{Part, fields_of, format_of, number, gate, part, spelling, AreGateWords}
+use Rattle.sfi_image.specs.Formats.{magic}
 use Rattle.sfi_image.specs.Spans.{AreApart, code_span, spans_of, spans}
 use Rattle.sfi_image.specs.Gates.{AreGates}
-use Rattle.sfi_image.specs.Parts.{IsRightPart, AreRight}
+use Rattle.sfi_image.specs.Parts.{IsRightPart, AreOf, AreRight}
 use Rattle.sfi_image.specs.Tests.{FieldTest, IsFirstFault, field_tests}
 use Rattle.sfi_image.specs.Images.{IsImage}
 use Rattle.sfi_image.specs.Faults.{IsBodyFault, IsPartFault, ArePartsFault, IsCountFault, IsFault}
+use Rattle.sfi_image.proofs.Formats.{one_magic, length-magic, length_of_magic, take-magic}
 use Rattle.sfi_image.proofs.GateLists.{front_gates}
 use Rattle.sfi_image.proofs.SpanLists.{front_apart}
 use Rattle.sfi_image.proofs.FieldTests.{part_passes}
@@ -112,20 +114,20 @@ behind_fields before f rest j k (inl a) (inr b) = absurd (not_some j (one_field_
 behind_fields before f rest j k (inr a) (inl b) = absurd (not_some k (one_field_fault before f field_tests None (Some k) a.0 b))
 behind_fields before f rest j k (inr a) (inr b) = one_body_fault f rest j k a.1 b.1
 
-one_part_fault : (before : List Span) (bytes : List ℕ) (j k : LayoutFault) → IsPartFault before bytes j → IsPartFault before bytes k → j ≡ k
-one_part_fault before bytes j k (inl a) (inl b) = a.1 ∙ sym b.1
-one_part_fault before bytes j k (inl a) (inr (g, more, eb, wb, b)) = absurd (omega (arith, a.0, ap length eb, length-fields g more))
-one_part_fault before bytes j k (inr (f, rest, ea, wa, a)) (inl b) = absurd (omega (arith, b.0, ap length ea, length-fields f rest))
-one_part_fault before bytes j k (inr (f, rest, ea, wa, a)) (inr (g, more, eb, wb, b)) =
-    let same = same_fields f g rest more wa wb (sym ea ∙ eb) in
+one_part_fault : (format : Format) (before : List Span) (bytes : List ℕ) (j k : LayoutFault) → IsPartFault format before bytes j → IsPartFault format before bytes k → j ≡ k
+one_part_fault format before bytes j k (inl a) (inl b) = a.1 ∙ sym b.1
+one_part_fault format before bytes j k (inl a) (inr (g, more, eb, wb, fb, b)) = absurd (omega (arith, a.0, ap length eb, length-fields g more))
+one_part_fault format before bytes j k (inr (f, rest, ea, wa, fa, a)) (inl b) = absurd (omega (arith, b.0, ap length ea, length-fields f rest))
+one_part_fault format before bytes j k (inr (f, rest, ea, wa, fa, a)) (inr (g, more, eb, wb, fb, b)) =
+    let same = same_fields f g rest more wa wb (fa ∙ sym fb) (sym ea ∙ eb) in
     behind_fields before g more j k (subst (λ (t : List ℕ). BehindFields before g t j) same.1 (subst (λ (h : Fields). BehindFields before h rest j) same.0 a)) b
 
 -- a right sandbox that lies apart from those before has no fault
-no_part_fault : (before : List Span) (p : Part) (after : List ℕ) (k : LayoutFault) → IsRightPart p → AllPairs AreApart (before ++ spans_of (fields_of p))
-    → IsPartFault before (part p ++ after) k → ⊥
-no_part_fault before p after k right apart (inl b) = omega (arith, b.0, ap length (part_split p after), length-fields (fields_of p) (flat_map gate p.gates ++ (p.code ++ (p.init ++ after))))
-no_part_fault before p after k right apart (inr (g, more, eb, wb, b)) =
-    let same = same_fields (fields_of p) g (flat_map gate p.gates ++ (p.code ++ (p.init ++ after))) more right.words.fields wb (sym (part_split p after) ∙ eb) in
+no_part_fault : (format : Format) (before : List Span) (p : Part) (after : List ℕ) (k : LayoutFault) → p.format ≡ format → IsRightPart p → AllPairs AreApart (before ++ spans_of (fields_of p))
+    → IsPartFault format before (part p ++ after) k → ⊥
+no_part_fault format before p after k kind right apart (inl b) = omega (arith, b.0, ap length (part_split p after), length-fields (fields_of p) (flat_map gate p.gates ++ (p.code ++ (p.init ++ after))))
+no_part_fault format before p after k kind right apart (inr (g, more, eb, wb, fb, b)) =
+    let same = same_fields (fields_of p) g (flat_map gate p.gates ++ (p.code ++ (p.init ++ after))) more right.words.fields wb (kind ∙ sym fb) (sym (part_split p after) ∙ eb) in
     behind (subst (λ (t : List ℕ). BehindFields before (fields_of p) t k) (sym same.1) (subst (λ (h : Fields). BehindFields before h more k) (sym same.0) b))
   where
     long : length p.code + length p.init ≤ length (p.code ++ (p.init ++ after))
@@ -138,123 +140,138 @@ no_part_fault before p after k right apart (inr (g, more, eb, wb, b)) =
 -- ---- the sandboxes
 
 -- what is wrong behind these sandboxes
-abbrev BehindParts : ℕ → List Part → List ℕ → LayoutFault → Type 0
-BehindParts n ps rest k =
-    ((length ps < n) × IsPartFault (spans ps) rest k)
+abbrev BehindParts : Format → ℕ → List Part → List ℕ → LayoutFault → Type 0
+BehindParts format n ps rest k =
+    ((length ps < n) × IsPartFault format (spans ps) rest k)
     ⊎ ((length ps ≡ n) × (0 < length rest) × (k ≡ Trailing))
 
-same_right : (p q : Part) (r s : List ℕ) → IsRightPart p → IsRightPart q → part p ++ r ≡ part q ++ s → (p ≡ q) × (r ≡ s)
-same_right p q r s a b e = same_part p q r s a.words b.words e
+-- right, and of this format
+RightOf : Format → Part → Type 0
+RightOf format p = (p.format ≡ format) × IsRightPart p
 
-behind_parts_count : (n : ℕ) (ps : List Part) (rest : List ℕ) (k : LayoutFault) → BehindParts n ps rest k → length ps ≤ n
-behind_parts_count n ps rest k (inl a) = omega (arith, a.0)
-behind_parts_count n ps rest k (inr a) = omega (arith, a.0)
+are_right_of : (format : Format) (ps : List Part) → AreOf format ps → AreRight ps → All (RightOf format) ps
+unfolding RightOf
+are_right_of format ps are right = λ k d lt. (are k d lt, right.each k d lt)
 
-parts_go_on : (n : ℕ) (xs ps : List Part) (rest : List ℕ) (k : LayoutFault) → AreRight xs → length xs ≤ n
-    → GoesOn part IsRightPart same_right xs ps rest → BehindParts n ps rest k → ⊥
-parts_go_on n xs ps rest k right le on (inl a) =
+right_of : (format : Format) (p : Part) → RightOf format p → IsRightPart p
+unfolding RightOf
+right_of format p a = a.1
+
+format_is : (format : Format) (p : Part) → RightOf format p → p.format ≡ format
+unfolding RightOf
+format_is format p a = a.0
+
+same_right : (format : Format) (p q : Part) (r s : List ℕ) → RightOf format p → RightOf format q → part p ++ r ≡ part q ++ s → (p ≡ q) × (r ≡ s)
+same_right format p q r s a b e = same_part p q r s (right_of format p a).words (right_of format q b).words (format_is format p a ∙ sym (format_is format q b)) e
+
+behind_parts_count : (format : Format) (n : ℕ) (ps : List Part) (rest : List ℕ) (k : LayoutFault) → BehindParts format n ps rest k → length ps ≤ n
+behind_parts_count format n ps rest k (inl a) = omega (arith, a.0)
+behind_parts_count format n ps rest k (inr a) = omega (arith, a.0)
+
+parts_go_on : (format : Format) (n : ℕ) (xs ps : List Part) (rest : List ℕ) (k : LayoutFault) → AreRight xs → length xs ≤ n
+    → GoesOn part (RightOf format) (same_right format) xs ps rest → BehindParts format n ps rest k → ⊥
+parts_go_on format n xs ps rest k right le on (inl a) =
     let spelled : spans xs ≡ (spans ps ++ spans_of (fields_of on.0)) ++ spans on.1 =
     ap spans on.4 ∙ flat_map-append (λ q. spans_of (fields_of q)) ps (on.0 ∷ on.1) ∙ sym (append_assoc (spans ps) (spans_of (fields_of on.0)) (spans on.1)) in
     let apart = front_apart (spans ps ++ spans_of (fields_of on.0)) (spans on.1) (subst (AllPairs AreApart) spelled right.apart) in
-    no_part_fault (spans ps) on.0 on.2 k on.3 apart (subst (λ (t : List ℕ). IsPartFault (spans ps) t k) on.5 a.1)
-parts_go_on n xs ps rest k right le on (inr a) = omega (arith, a.0, le, ap length on.4, length-append ps (on.0 ∷ on.1))
+    no_part_fault format (spans ps) on.0 on.2 k (format_is format on.0 on.3) (right_of format on.0 on.3) apart (subst (λ (t : List ℕ). IsPartFault format (spans ps) t k) on.5 a.1)
+parts_go_on format n xs ps rest k right le on (inr a) = omega (arith, a.0, le, ap length on.4, length-append ps (on.0 ∷ on.1))
 
-behind_parts : (n : ℕ) (ps : List Part) (rest : List ℕ) (j k : LayoutFault) → BehindParts n ps rest j → BehindParts n ps rest k → j ≡ k
-behind_parts n ps rest j k (inl a) (inl b) = one_part_fault (spans ps) rest j k a.1 b.1
-behind_parts n ps rest j k (inl a) (inr b) = absurd (omega (arith, a.0, b.0))
-behind_parts n ps rest j k (inr a) (inl b) = absurd (omega (arith, a.0, b.0))
-behind_parts n ps rest j k (inr a) (inr b) = a.2 ∙ sym b.2
+behind_parts : (format : Format) (n : ℕ) (ps : List Part) (rest : List ℕ) (j k : LayoutFault) → BehindParts format n ps rest j → BehindParts format n ps rest k → j ≡ k
+behind_parts format n ps rest j k (inl a) (inl b) = one_part_fault format (spans ps) rest j k a.1 b.1
+behind_parts format n ps rest j k (inl a) (inr b) = absurd (omega (arith, a.0, b.0))
+behind_parts format n ps rest j k (inr a) (inl b) = absurd (omega (arith, a.0, b.0))
+behind_parts format n ps rest j k (inr a) (inr b) = a.2 ∙ sym b.2
 
-one_parts_fault : (n : ℕ) (bytes : List ℕ) (j k : LayoutFault) → ArePartsFault n bytes j → ArePartsFault n bytes k → j ≡ k
-one_parts_fault n bytes j k (ps, rest, ea, ra, a) (qs, more, eb, rb, b) =
-    elim (fronts part IsRightPart same_right ps qs rest more ra.each rb.each (sym ea ∙ eb)) [
-      | inl both ↦ behind_parts n qs more j k (subst (λ (t : List ℕ). BehindParts n qs t j) both.1 (subst (λ (p : List Part). BehindParts n p rest j) both.0 a)) b
-      | inr (inl on) ↦ absurd (parts_go_on n ps qs more k ra (behind_parts_count n ps rest j a) on b)
-      | inr (inr on) ↦ absurd (parts_go_on n qs ps rest j rb (behind_parts_count n qs more k b) on a)
+one_parts_fault : (format : Format) (n : ℕ) (bytes : List ℕ) (j k : LayoutFault) → ArePartsFault format n bytes j → ArePartsFault format n bytes k → j ≡ k
+one_parts_fault format n bytes j k (ps, rest, ea, ra, oa, a) (qs, more, eb, rb, ob, b) =
+    elim (fronts part (RightOf format) (same_right format) ps qs rest more (are_right_of format ps oa ra) (are_right_of format qs ob rb) (sym ea ∙ eb)) [
+      | inl both ↦ behind_parts format n qs more j k (subst (λ (t : List ℕ). BehindParts format n qs t j) both.1 (subst (λ (p : List Part). BehindParts format n p rest j) both.0 a)) b
+      | inr (inl on) ↦ absurd (parts_go_on format n ps qs more k ra (behind_parts_count format n ps rest j a) on b)
+      | inr (inr on) ↦ absurd (parts_go_on format n qs ps rest j rb (behind_parts_count format n qs more k b) on a)
     ]
 
 -- right sandboxes with nothing behind them have no fault
-no_parts_fault : (ps : List Part) (bytes : List ℕ) (k : LayoutFault) → AreRight ps → bytes ≡ flat_map part ps → ArePartsFault (length ps) bytes k → ⊥
-no_parts_fault ps bytes k ra ea (qs, more, eb, rb, b) =
-    elim (fronts part IsRightPart same_right ps qs [] more ra.each rb.each (append-nil (flat_map part ps) ∙ sym ea ∙ eb)) [
-      | inl both ↦ at_end (subst (λ (t : List ℕ). BehindParts (length ps) ps t k) (sym both.1) (subst (λ (p : List Part). BehindParts (length ps) p more k) (sym both.0) b))
-      | inr (inl on) ↦ parts_go_on (length ps) ps qs more k ra (omega arith) on b
-      | inr (inr on) ↦ omega (arith, behind_parts_count (length ps) qs more k b, ap length on.4, length-append ps (on.0 ∷ on.1))
+no_parts_fault : (format : Format) (ps : List Part) (bytes : List ℕ) (k : LayoutFault) → AreOf format ps → AreRight ps → bytes ≡ flat_map part ps → ArePartsFault format (length ps) bytes k → ⊥
+no_parts_fault format ps bytes k oa ra ea (qs, more, eb, rb, ob, b) =
+    elim (fronts part (RightOf format) (same_right format) ps qs [] more (are_right_of format ps oa ra) (are_right_of format qs ob rb) (append-nil (flat_map part ps) ∙ sym ea ∙ eb)) [
+      | inl both ↦ at_end (subst (λ (t : List ℕ). BehindParts format (length ps) ps t k) (sym both.1) (subst (λ (p : List Part). BehindParts format (length ps) p more k) (sym both.0) b))
+      | inr (inl on) ↦ parts_go_on format (length ps) ps qs more k ra (omega arith) on b
+      | inr (inr on) ↦ omega (arith, behind_parts_count format (length ps) qs more k b, ap length on.4, length-append ps (on.0 ∷ on.1))
     ]
   where
-    at_end : BehindParts (length ps) ps [] k → ⊥
+    at_end : BehindParts format (length ps) ps [] k → ⊥
     at_end (inl a) = omega (arith, a.0)
     at_end (inr a) = omega (arith, a.1)
 
 -- ---- the whole
 
 -- what is wrong of this count and what follows it
-abbrev BehindCount : ℕ → List ℕ → LayoutFault → Type 0
-BehindCount n rest k = ((¬ ((1 ≤ n) × (n ≤ 16))) × (k ≡ Count)) ⊎ ((1 ≤ n) × (n ≤ 16) × ArePartsFault n rest k)
+abbrev BehindCount : Format → ℕ → List ℕ → LayoutFault → Type 0
+BehindCount format n rest k = ((¬ ((1 ≤ n) × (n ≤ 16))) × (k ≡ Count)) ⊎ ((1 ≤ n) × (n ≤ 16) × ArePartsFault format n rest k)
 
-behind_number : (n : ℕ) (rest : List ℕ) (j k : LayoutFault) → BehindCount n rest j → BehindCount n rest k → j ≡ k
-behind_number n rest j k (inl a) (inl b) = a.1 ∙ sym b.1
-behind_number n rest j k (inl a) (inr b) = absurd (a.0 (b.0, b.1))
-behind_number n rest j k (inr a) (inl b) = absurd (b.0 (a.0, a.1))
-behind_number n rest j k (inr a) (inr b) = one_parts_fault n rest j k a.2 b.2
+behind_number : (format : Format) (n : ℕ) (rest : List ℕ) (j k : LayoutFault) → BehindCount format n rest j → BehindCount format n rest k → j ≡ k
+behind_number format n rest j k (inl a) (inl b) = a.1 ∙ sym b.1
+behind_number format n rest j k (inl a) (inr b) = absurd (a.0 (b.0, b.1))
+behind_number format n rest j k (inr a) (inl b) = absurd (b.0 (a.0, a.1))
+behind_number format n rest j k (inr a) (inr b) = one_parts_fault format n rest j k a.2 b.2
 
 length-numbered : (n : ℕ) (r : List ℕ) → length (number n ++ r) ≡ 4 + length r
 unfolding number
 length-numbered n r = omega arith
 
-one_count_fault : (bytes : List ℕ) (j k : LayoutFault) → IsCountFault bytes j → IsCountFault bytes k → j ≡ k
-one_count_fault bytes j k (inl a) (inl b) = a.1 ∙ sym b.1
-one_count_fault bytes j k (inl a) (inr (n, rest, e, w, b)) = absurd (omega (arith, a.0, ap length e, length-numbered n rest))
-one_count_fault bytes j k (inr (n, rest, e, w, a)) (inl b) = absurd (omega (arith, b.0, ap length e, length-numbered n rest))
-one_count_fault bytes j k (inr (n, rest, ea, wa, a)) (inr (m, more, eb, wb, b)) =
+one_count_fault : (format : Format) (bytes : List ℕ) (j k : LayoutFault) → IsCountFault format bytes j → IsCountFault format bytes k → j ≡ k
+one_count_fault format bytes j k (inl a) (inl b) = a.1 ∙ sym b.1
+one_count_fault format bytes j k (inl a) (inr (n, rest, e, w, b)) = absurd (omega (arith, a.0, ap length e, length-numbered n rest))
+one_count_fault format bytes j k (inr (n, rest, e, w, a)) (inl b) = absurd (omega (arith, b.0, ap length e, length-numbered n rest))
+one_count_fault format bytes j k (inr (n, rest, ea, wa, a)) (inr (m, more, eb, wb, b)) =
     let same = same_number n m rest more wa wb (sym ea ∙ eb) in
-    behind_number m more j k (subst (λ (t : List ℕ). BehindCount m t j) same.1 (subst (λ (c : ℕ). BehindCount c rest j) same.0 a)) b
+    behind_number format m more j k (subst (λ (t : List ℕ). BehindCount format m t j) same.1 (subst (λ (c : ℕ). BehindCount format c rest j) same.0 a)) b
 
-no_count_fault : (ps : List Part) (bytes : List ℕ) (k : LayoutFault) → AreRight ps → 1 ≤ length ps → length ps ≤ 16 → bytes ≡ number (length ps) ++ flat_map part ps → IsCountFault bytes k → ⊥
-no_count_fault ps bytes k right least most e (inl a) = omega (arith, a.0, ap length e, length-numbered (length ps) (flat_map part ps))
-no_count_fault ps bytes k right least most e (inr (m, more, eb, wb, b)) =
+no_count_fault : (format : Format) (ps : List Part) (bytes : List ℕ) (k : LayoutFault) → AreOf format ps → AreRight ps → 1 ≤ length ps → length ps ≤ 16 → bytes ≡ number (length ps) ++ flat_map part ps → IsCountFault format bytes k → ⊥
+no_count_fault format ps bytes k are right least most e (inl a) = omega (arith, a.0, ap length e, length-numbered (length ps) (flat_map part ps))
+no_count_fault format ps bytes k are right least most e (inr (m, more, eb, wb, b)) =
     let same = same_number (length ps) m (flat_map part ps) more (omega arith) wb (sym e ∙ eb) in
-    behind (subst (λ (t : List ℕ). BehindCount (length ps) t k) (sym same.1) (subst (λ (c : ℕ). BehindCount c more k) (sym same.0) b))
+    behind (subst (λ (t : List ℕ). BehindCount format (length ps) t k) (sym same.1) (subst (λ (c : ℕ). BehindCount format c more k) (sym same.0) b))
   where
-    behind : BehindCount (length ps) (flat_map part ps) k → ⊥
+    behind : BehindCount format (length ps) (flat_map part ps) k → ⊥
     behind (inl h) = h.0 (least, most)
-    behind (inr h) = no_parts_fault ps (flat_map part ps) k right refl h.2
+    behind (inr h) = no_parts_fault format ps (flat_map part ps) k are right refl h.2
 
-length-magic : (r : List ℕ) → length (magic ++ r) ≡ 4 + length r
-unfolding magic
-length-magic r = omega arith
-
-take-magic : (r : List ℕ) → take 4 (magic ++ r) ≡ magic
-unfolding magic
-take-magic r = take-append_seam magic r
+-- the same magic, and what is behind it
+same_magic : (f g : Format) (r s : List ℕ) → magic f ++ r ≡ magic g ++ s → (f ≡ g) × (r ≡ s)
+same_magic f g r s e =
+    let same = same_front (magic f) (magic g) r s (length_of_magic f ∙ sym (length_of_magic g)) e in
+    (one_magic f g same.0, same.1)
 
 pub one_fault : (bytes : List ℕ) (j k : LayoutFault) → IsFault bytes j → IsFault bytes k → j ≡ k
 one_fault bytes j k (inl a) (inl b) = a.1 ∙ sym b.1
 one_fault bytes j k (inl a) (inr (inl b)) = absurd (omega (arith, a.0, b.0))
-one_fault bytes j k (inl a) (inr (inr b)) = absurd (omega (arith, a.0, ap length b.1, length-magic b.0))
+one_fault bytes j k (inl a) (inr (inr b)) = absurd (omega (arith, a.0, ap length b.2, length-magic b.0 b.1))
 one_fault bytes j k (inr (inl a)) (inl b) = absurd (omega (arith, a.0, b.0))
 one_fault bytes j k (inr (inl a)) (inr (inl b)) = a.2 ∙ sym b.2
-one_fault bytes j k (inr (inl a)) (inr (inr b)) = absurd (a.1 (ap (take 4) b.1 ∙ take-magic b.0))
-one_fault bytes j k (inr (inr a)) (inl b) = absurd (omega (arith, b.0, ap length a.1, length-magic a.0))
-one_fault bytes j k (inr (inr a)) (inr (inl b)) = absurd (b.1 (ap (take 4) a.1 ∙ take-magic a.0))
+one_fault bytes j k (inr (inl a)) (inr (inr b)) = absurd (a.1 b.0 (ap (take 4) b.2 ∙ take-magic b.0 b.1))
+one_fault bytes j k (inr (inr a)) (inl b) = absurd (omega (arith, b.0, ap length a.2, length-magic a.0 a.1))
+one_fault bytes j k (inr (inr a)) (inr (inl b)) = absurd (b.1 a.0 (ap (take 4) a.2 ∙ take-magic a.0 a.1))
 one_fault bytes j k (inr (inr a)) (inr (inr b)) =
-    let same = same_front magic magic a.0 b.0 refl (sym a.1 ∙ b.1) in
-    one_count_fault b.0 j k (subst (λ (t : List ℕ). IsCountFault t j) same.1 a.2) b.2
+    let same = same_magic a.0 b.0 a.1 b.1 (sym a.2 ∙ b.2) in
+    one_count_fault b.0 b.1 j k (subst (λ (t : List ℕ). IsCountFault b.0 t j) same.1 (subst (λ (f : Format). IsCountFault f a.1 j) same.0 a.3)) b.3
 
 pub no_fault : (bytes : List ℕ) (ps : List Part) (k : LayoutFault) → IsImage bytes ps → IsFault bytes k → ⊥
 unfolding spelling
-no_fault bytes ps k image (inl b) = omega (arith, b.0, ap length image.bytes_are, length-magic (number (length ps) ++ flat_map part ps))
-no_fault bytes ps k image (inr (inl b)) = b.1 (ap (take 4) image.bytes_are ∙ take-magic (number (length ps) ++ flat_map part ps))
+no_fault bytes ps k image (inl b) = omega (arith, b.0, ap length image.bytes_are, length-magic (format_of ps) (number (length ps) ++ flat_map part ps))
+no_fault bytes ps k image (inr (inl b)) = b.1 (format_of ps) (ap (take 4) image.bytes_are ∙ take-magic (format_of ps) (number (length ps) ++ flat_map part ps))
 no_fault bytes ps k image (inr (inr b)) =
-    let same = same_front magic magic (number (length ps) ++ flat_map part ps) b.0 refl (sym image.bytes_are ∙ b.1) in
-    no_count_fault ps b.0 k image.layout.right image.layout.at_least_one image.layout.at_most (sym same.1) b.2
+    let same = same_magic (format_of ps) b.0 (number (length ps) ++ flat_map part ps) b.1 (sym image.bytes_are ∙ b.2) in
+    no_count_fault b.0 ps b.1 k (subst (λ (f : Format). AreOf f ps) same.0 image.layout.one_format) image.layout.right image.layout.at_least_one image.layout.at_most (sym same.1) b.3
 
 pub one_image : (bytes : List ℕ) (ps qs : List Part) → IsImage bytes ps → IsImage bytes qs → ps ≡ qs
 unfolding spelling
 one_image bytes ps qs a b =
-    let behind = same_front magic magic (number (length ps) ++ flat_map part ps) (number (length qs) ++ flat_map part qs) refl (sym a.bytes_are ∙ b.bytes_are) in
+    let behind = same_magic (format_of ps) (format_of qs) (number (length ps) ++ flat_map part ps) (number (length qs) ++ flat_map part qs) (sym a.bytes_are ∙ b.bytes_are) in
     let count = same_number (length ps) (length qs) (flat_map part ps) (flat_map part qs) (omega (arith, a.layout.at_most)) (omega (arith, b.layout.at_most)) behind.1 in
-    (same_list part IsRightPart same_right ps qs [] [] a.layout.right.each b.layout.right.each count.0
+    let format = format_of qs in
+    (same_list part (RightOf format) (same_right format) ps qs [] [] (are_right_of format ps (subst (λ (f : Format). AreOf f ps) behind.0 a.layout.one_format) a.layout.right) (are_right_of format qs b.layout.one_format b.layout.right) count.0
     (append-nil (flat_map part ps) ∙ count.1 ∙ sym (append-nil (flat_map part qs)))).0
 
 -- ---- what a reader answers that way

@@ -5,15 +5,16 @@ use Rattle.std.specs.List.{All, AllPairs, flat_map}
 use Rattle.std.proofs.lemmas.Grind.{flat_map-append}
 use Rattle.std.proofs.lemmas.List.{length-append}
 use Rattle.std.proofs.lemmas.List.Elements.{All-cons, All-head, All-tail}
+use Rattle.sfi_image.specs.declared.format.Format.{Format}
 use Rattle.sfi_image.specs.declared.span.Span.{Span}
 use Rattle.sfi_image.specs.declared.fault.LayoutFault.{LayoutFault}
 use Rattle.sfi_image.specs.declared.fault.LayoutFault.TheVariants as faults
 use Rattle.sfi_image.specs.declared.fault.ImageFault.{ImageFault}
 use Rattle.sfi_image.specs.declared.fault.ImageFault.TheVariants as errors
-use Rattle.sfi_image.specs.Spelling.{Part, fields_of, gate, part, number, spelling, AreGateWords, AreWords}
+use Rattle.sfi_image.specs.Spelling.{Part, format_of, fields_of, gate, part, number, spelling, AreGateWords, AreWords}
 use Rattle.sfi_image.specs.Spans.{AreApart, code_region, spans_of, spans}
 use Rattle.sfi_image.specs.Gates.{AreGates}
-use Rattle.sfi_image.specs.Parts.{IsRightPart, AreRight, IsRightLayout}
+use Rattle.sfi_image.specs.Parts.{IsRightPart, AreOf, AreRight, IsRightLayout}
 use Rattle.sfi_image.specs.Tests.{field_tests}
 use Rattle.sfi_image.specs.Faults.{IsBodyFault, IsPartFault, ArePartsFault, IsFault}
 use Rattle.sfi_image.specs.Writing.{HasWrongGate, HasFault, HasWrongPart, HaveFault}
@@ -53,20 +54,22 @@ gate_fault p rest words (front, g, more, split, right, wrong) =
       inr (inl (omega (arith, count), g, flat_map gate more ++ rest, refl, all_middle AreGateWords front g more w, wrong, refl)),
     )
 
-part_fault : (before : List Span) (p : Part) (rest : List ℕ) (k : LayoutFault) → AreWords p → HasFault before p k → IsPartFault before (part p ++ rest) k
-part_fault before p rest k words (inl h) = inr (fields_of p, flat_map gate p.gates ++ (p.code ++ (p.init ++ rest)), part_split p rest, words.fields, inl h)
+part_fault : (before : List Span) (p : Part) (rest : List ℕ) (k : LayoutFault) → AreWords p → HasFault before p k → IsPartFault p.format before (part p ++ rest) k
+part_fault before p rest k words (inl h) = inr (fields_of p, flat_map gate p.gates ++ (p.code ++ (p.init ++ rest)), part_split p rest, words.fields, refl, inl h)
 part_fault before p rest k words (inr h) =
     inr (
       fields_of p,
       flat_map gate p.gates ++ (p.code ++ (p.init ++ rest)),
       part_split p rest,
       words.fields,
+      refl,
       inr (h.0, subst (IsBodyFault (fields_of p) (flat_map gate p.gates ++ (p.code ++ (p.init ++ rest)))) (sym h.2) (gate_fault p (p.code ++ (p.init ++ rest)) words.gates h.1)),
     )
 
-parts_fault : (ps : List Part) (k : LayoutFault) → All AreWords ps → HasWrongPart ps k → ArePartsFault (length ps) (flat_map part ps) k
-parts_fault ps k words (front, p, more, split, right, wrong) =
+parts_fault : (format : Format) (ps : List Part) (k : LayoutFault) → AreOf format ps → All AreWords ps → HasWrongPart ps k → ArePartsFault format (length ps) (flat_map part ps) k
+parts_fault format ps k are words (front, p, more, split, right, wrong) =
     let w = subst (All AreWords) split words in
+    let are' = subst (AreOf format) split are in
     let count = ap length split ∙ length-append front (p ∷ more) in
     let bytes : flat_map part ps ≡ flat_map part front ++ (part p ++ flat_map part more) =
     sym (append-nil (flat_map part ps)) ∙ ap (λ qs. flat_map part qs ++ []) split ∙ flat_split part front p more [] ∙ ap (λ t. flat_map part front ++ (part p ++ t)) (append-nil (flat_map part more)) in (
@@ -74,20 +77,21 @@ parts_fault ps k words (front, p, more, split, right, wrong) =
       part p ++ flat_map part more,
       bytes,
       right,
-      inl (omega (arith, count), part_fault (spans front) p (flat_map part more) k (all_middle AreWords front p more w) wrong),
+      all_front (λ (q : Part). q.format ≡ format) front (p ∷ more) are',
+      inl (omega (arith, count), subst (λ (f : Format). IsPartFault f (spans front) (part p ++ flat_map part more) k) (all_middle (λ (q : Part). q.format ≡ format) front p more are') (part_fault (spans front) p (flat_map part more) k (all_middle AreWords front p more w) wrong)),
     )
 
-pub as_read : (ps : List Part) (k : LayoutFault) → length ps ≤ 16 → All AreWords ps → HaveFault ps k → IsFault (spelling ps) k
+pub as_read : (ps : List Part) (k : LayoutFault) → length ps ≤ 16 → AreOf (format_of ps) ps → All AreWords ps → HaveFault ps k → IsFault (spelling ps) k
 unfolding spelling
-as_read ps k most words (inl h) = inr (inr (number (length ps) ++ flat_map part ps, refl, inr (length ps, flat_map part ps, refl, omega arith, inl h)))
-as_read ps k most words (inr h) =
-    inr (inr (number (length ps) ++ flat_map part ps, refl, inr (length ps, flat_map part ps, refl, omega arith, inr (h.0, h.1, parts_fault ps k words h.2))))
+as_read ps k most are words (inl h) = inr (inr (format_of ps, number (length ps) ++ flat_map part ps, refl, inr (length ps, flat_map part ps, refl, omega arith, inl h)))
+as_read ps k most are words (inr h) =
+    inr (inr (format_of ps, number (length ps) ++ flat_map part ps, refl, inr (length ps, flat_map part ps, refl, omega arith, inr (h.0, h.1, parts_fault (format_of ps) ps k are words h.2))))
 
 -- right sandboxes have no fault
 pub none_of_right : (ps : List Part) (k : LayoutFault) → IsRightLayout ps → HaveFault ps k → ⊥
 none_of_right ps k right h =
     let words : All AreWords ps = λ i d lt. (right.right.each i d lt).words in
-    no_fault (spelling ps) ps k (record { bytes_are = refl; layout = right }) (as_read ps k right.at_most words h)
+    no_fault (spelling ps) ps k (record { bytes_are = refl; layout = right }) (as_read ps k right.at_most right.one_format words h)
 
 -- ---- one fault
 
@@ -158,7 +162,7 @@ module _ {A : Type 0} (ps : List Part) (Found : A → Type 0) where
   only_fault right (Err errors.Memory) h k wrong = inr refl
 
   -- it is that of the bytes
-  pub fault_as_read : (r : Result A ImageFault) → Reads Found (HaveFault ps) r → length ps ≤ 16 → All AreWords ps → IfErr r (λ e. IfLayout e (λ k. IsFault (spelling ps) k))
-  fault_as_read (Ok a) h most words = tt
-  fault_as_read (Err (errors.Layout k)) h most words = as_read ps k most words h
-  fault_as_read (Err errors.Memory) h most words = tt
+  pub fault_as_read : (r : Result A ImageFault) → Reads Found (HaveFault ps) r → length ps ≤ 16 → AreOf (format_of ps) ps → All AreWords ps → IfErr r (λ e. IfLayout e (λ k. IsFault (spelling ps) k))
+  fault_as_read (Ok a) h most are words = tt
+  fault_as_read (Err (errors.Layout k)) h most are words = as_read ps k most are words h
+  fault_as_read (Err errors.Memory) h most are words = tt

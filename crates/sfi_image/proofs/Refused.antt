@@ -15,10 +15,12 @@ use Rattle.sfi_image.specs.declared.fault.LayoutFault.{LayoutFault}
 use Rattle.sfi_image.specs.declared.fault.LayoutFault.TheVariants as faults
 use Rattle.sfi_image.specs.Spelling.{Part, fields_of, AreFieldWords, AreGateWords}
 use Rattle.sfi_image.specs.Spans.{AreApart, IsBounded, code_span, code_region, spans_of, spans}
+use Rattle.sfi_image.specs.Formats.{code_most}
 use Rattle.sfi_image.specs.Gates.{AreGates, gates_most}
 use Rattle.sfi_image.specs.Parts.{IsRightPart, AreRight}
 use Rattle.sfi_image.specs.Tests.{IsFirstFault, field_tests}
 use Rattle.sfi_image.specs.Writing.{HasWrongGate, HasFault, HaveFault, capped, capped_fields}
+use Rattle.sfi_image.proofs.Formats.{code_at_most}
 use Rattle.sfi_image.proofs.Regions.{not_region}
 use Rattle.sfi_image.proofs.FieldTests.{right_part, all_pass}
 use Rattle.sfi_image.proofs.PartLists.{right_bounded, spans_push}
@@ -38,10 +40,10 @@ capped_cases n = elim (cases_lt 0xffffffff n) [
   | inr small ↦ inl (rw (test_small n small) refl)
 ]
 
-with_code : (before : List Span) (f : Fields) (m : ℕ) (k : Option LayoutFault) → 65536 < f.code_size → 65536 < m
+with_code : (before : List Span) (f : Fields) (m : ℕ) (k : Option LayoutFault) → code_most f.format < f.code_size → code_most f.format < m
     → IsFirstFault before f field_tests k → IsFirstFault before (record f { code_size = m }) field_tests k
 with_code before f m k high too (inl h) = absurd (omega (arith, h.0.at_most))
-with_code before f m k high too (inr h) = inr (not_region f.code_base m 256 65536 (inr (inr too)), h.1)
+with_code before f m k high too (inr h) = inr (not_region f.code_base m 256 (code_most f.format) (inr (inr too)), h.1)
 
 with_gates : (before : List Span) (f : Fields) (m : ℕ) (k : Option LayoutFault) → gates_most < f.gate_count → gates_most < m
     → IsFirstFault before f field_tests k → IsFirstFault before (record f { gate_count = m }) field_tests k
@@ -72,7 +74,7 @@ Fails before k p c g i = IsFirstFault before (lengthened p c g i) field_tests k
 same_code : (before : List Span) (k : Option LayoutFault) (p : Part) (g i : ℕ) → Fails before k p (capped (length p.code)) g i → Fails before k p (length p.code) g i
 same_code before k p g i h = elim (capped_cases (length p.code)) [
   | inl same ↦ subst (λ n. Fails before k p n g i) same h
-  | inr big ↦ with_code before (lengthened p (capped (length p.code)) g i) (length p.code) k (omega (arith, big.1)) (omega (arith, big.0)) h
+  | inr big ↦ with_code before (lengthened p (capped (length p.code)) g i) (length p.code) k (omega (arith, big.0, code_at_most p.format, big.1)) (omega (arith, big.0, code_at_most p.format)) h
 ]
 
 same_gates : (before : List Span) (k : Option LayoutFault) (p : Part) (c i : ℕ) → Fails before k p c (capped (length p.gates)) i → Fails before k p c (length p.gates) i
@@ -136,7 +138,7 @@ tests_passed before p f is h = uncapped before p None (subst (λ g. IsFirstFault
 
 -- fields that pass are their own capped fields
 pub code_kept : (before : List Span) (p : Part) → IsFirstFault before (fields_of p) field_tests None → capped (length p.code) ≡ length p.code
-code_kept before p (inl h) = elim (capped_cases (length p.code)) [ inl same ↦ same | inr big ↦ absurd (omega (arith, big.0, h.0.at_most)) ]
+code_kept before p (inl h) = elim (capped_cases (length p.code)) [ inl same ↦ same | inr big ↦ absurd (omega (arith, big.0, h.0.at_most, code_at_most p.format)) ]
 code_kept before p (inr h) = let e = h.1 in absurd cc
 
 pub gates_failed : (before : List Span) (p : Part) (f : Fields) (gs : List Gate) → f ≡ capped_fields p → IsFirstFault before f field_tests None → gs ≡ p.gates
@@ -152,7 +154,7 @@ passed_words before p passed words =
     let all = all_pass before (fields_of p) field_tests passed in
     record {
       code_base = words.code_base;
-      code_size = omega (arith, all.0.at_most);
+      code_size = omega (arith, all.0.at_most, code_at_most p.format);
       data_base = words.data_base;
       data_size = words.data_size;
       start = words.start;
@@ -181,7 +183,7 @@ wrong_part ps i p before k least most lt is start h =
 -- the spans that the code adds are the sandbox's
 pub same_spans : (before : List Span) (p : Part) (f : Fields) → f ≡ capped_fields p → IsRightPart p → spans_of f ≡ spans_of (fields_of p)
 same_spans before p f is right =
-    let kept : capped (length p.code) ≡ length p.code = elim (capped_cases (length p.code)) [ inl same ↦ same | inr big ↦ absurd (omega (arith, big.0, right.code_placed.at_most)) ] in
+    let kept : capped (length p.code) ≡ length p.code = elim (capped_cases (length p.code)) [ inl same ↦ same | inr big ↦ absurd (omega (arith, big.0, right.code_placed.at_most, code_at_most p.format)) ] in
     ap spans_of is ∙ ap (λ n. spans_of (record (fields_of p) { code_size = n })) kept
 
 -- ---- by what they stand for

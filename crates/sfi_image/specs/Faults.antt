@@ -1,15 +1,17 @@
 -- The fault of bytes that are no image: a right front, and then what is wrong behind it.
 use Rattle.std.specs.Prelude.{◌≡◌, ◌≢◌, ℕ, ◌+◌, ◌<◌, ◌≤◌, ◌⊎◌, List, [], ◌∷◌, ◌++◌, length, take, Some, None}
 use Rattle.std.specs.List.{All, flat_map}
+use Rattle.sfi_image.specs.declared.format.Format.{Format}
 use Rattle.sfi_image.specs.declared.part.Gate.{Gate}
 use Rattle.sfi_image.specs.declared.fields.Fields.{Fields}
 use Rattle.sfi_image.specs.declared.span.Span.{Span}
 use Rattle.sfi_image.specs.declared.fault.LayoutFault.{LayoutFault}
 use Rattle.sfi_image.specs.declared.fault.LayoutFault.TheVariants.{Magic, Count, Short, Code, Data, GuardRoom, Start, Gates, Init, Overlap, Trailing}
-use Rattle.sfi_image.specs.Spelling.{Part, number, fields, gate, part, magic, IsWord, AreFieldWords, AreGateWords}
+use Rattle.sfi_image.specs.Formats.{magic}
+use Rattle.sfi_image.specs.Spelling.{Part, number, fields, gate, part, IsWord, AreFieldWords, AreGateWords}
 use Rattle.sfi_image.specs.Spans.{code_span, spans}
 use Rattle.sfi_image.specs.Gates.{AreGates}
-use Rattle.sfi_image.specs.Parts.{AreRight}
+use Rattle.sfi_image.specs.Parts.{AreOf, AreRight}
 use Rattle.sfi_image.specs.Tests.{IsFirstFault, field_tests}
 
 -- the number of a fault
@@ -47,30 +49,30 @@ IsBodyFault f bytes k = (gs : List Gate) × (rest : List ℕ)
     × (IsGateShort f gs rest k ⊎ (IsGateWrong f gs rest k ⊎ AreContentsShort f gs rest k))
 
 -- the fields are cut short, or fail a test, or pass them all before a wrong body
-abbrev pub IsPartFault : List Span → List ℕ → LayoutFault → Type 0
-IsPartFault before bytes k =
+abbrev pub IsPartFault : Format → List Span → List ℕ → LayoutFault → Type 0
+IsPartFault format before bytes k =
     ((length bytes < 28) × (k ≡ Short))
-    ⊎ ((f : Fields) × (rest : List ℕ) × (bytes ≡ fields f ++ rest) × AreFieldWords f × (
+    ⊎ ((f : Fields) × (rest : List ℕ) × (bytes ≡ fields f ++ rest) × AreFieldWords f × (f.format ≡ format) × (
     IsFirstFault before f field_tests (Some k)
     ⊎ (IsFirstFault before f field_tests None × IsBodyFault f rest k)))
 
 -- behind right sandboxes the next one is wrong, or bytes follow the last
-abbrev pub ArePartsFault : ℕ → List ℕ → LayoutFault → Type 0
-ArePartsFault n bytes k = (ps : List Part) × (rest : List ℕ) × (bytes ≡ flat_map part ps ++ rest) × AreRight ps × (
-    ((length ps < n) × IsPartFault (spans ps) rest k)
+abbrev pub ArePartsFault : Format → ℕ → List ℕ → LayoutFault → Type 0
+ArePartsFault format n bytes k = (ps : List Part) × (rest : List ℕ) × (bytes ≡ flat_map part ps ++ rest) × AreRight ps × AreOf format ps × (
+    ((length ps < n) × IsPartFault format (spans ps) rest k)
     ⊎ ((length ps ≡ n) × (0 < length rest) × (k ≡ Trailing)))
 
 -- the count is cut short, or not from 1 to 16, or the sandboxes behind it are wrong
-abbrev pub IsCountFault : List ℕ → LayoutFault → Type 0
-IsCountFault bytes k =
+abbrev pub IsCountFault : Format → List ℕ → LayoutFault → Type 0
+IsCountFault format bytes k =
     ((length bytes < 4) × (k ≡ Short))
     ⊎ ((n : ℕ) × (rest : List ℕ) × (bytes ≡ number n ++ rest) × IsWord n × (
     ((¬ ((1 ≤ n) × (n ≤ 16))) × (k ≡ Count))
-    ⊎ ((1 ≤ n) × (n ≤ 16) × ArePartsFault n rest k)))
+    ⊎ ((1 ≤ n) × (n ≤ 16) × ArePartsFault format n rest k)))
 
--- the magic is cut short, or another, or what follows it is wrong
+-- the magic is cut short, or that of no format, or what follows it is wrong
 abbrev pub IsFault : List ℕ → LayoutFault → Type 0
 IsFault bytes k =
     ((length bytes < 4) × (k ≡ Short))
-    ⊎ (((4 ≤ length bytes) × (take 4 bytes ≢ magic) × (k ≡ Magic))
-    ⊎ ((rest : List ℕ) × (bytes ≡ magic ++ rest) × IsCountFault rest k))
+    ⊎ (((4 ≤ length bytes) × ((format : Format) → take 4 bytes ≢ magic format) × (k ≡ Magic))
+    ⊎ ((format : Format) × (rest : List ℕ) × (bytes ≡ magic format ++ rest) × IsCountFault format rest k))

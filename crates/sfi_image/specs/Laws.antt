@@ -1,6 +1,7 @@
 -- What holds of the definitions themselves.
 use Rattle.std.specs.Prelude.{◌≡◌, ℕ, ◌+◌, ◌*◌, ◌^◌, ◌<◌, ◌≤◌, ◌⊎◌, List, length}
 use Rattle.std.specs.List.{All}
+use Rattle.sfi_image.specs.declared.format.Format.{Format}
 use Rattle.sfi_image.specs.declared.fault.LayoutFault.{LayoutFault}
 use Rattle.sfi_image.specs.Spelling.{Part, IsWord}
 use Rattle.sfi_image.specs.Regions.{IsCodeRegion}
@@ -27,7 +28,7 @@ SomeReading = (b : List ℕ) → All (λ x. x < 256) b → ((ps : List Part) × 
 -- a code region is whole bundles of 16 bytes, at a multiple of 16, and ends at or below 2 ^ 32
 abbrev pub WholeBundles : Type 0
 WholeBundles =
-    (base size : ℕ) → IsWord base → IsCodeRegion base size
+    (format : Format) (base size : ℕ) → IsWord base → IsCodeRegion format base size
     → (n : ℕ) × (m : ℕ) × (size ≡ 16 * n) × (base ≡ 16 * m) × (base + size ≤ 2 ^ 32)
 
 -- a code region ends within the addresses

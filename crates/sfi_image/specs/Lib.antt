@@ -1,3 +1,4 @@
+pub mod Formats
 pub mod Spelling
 pub mod Spans
 pub mod Regions
@@ -10,3 +11,8 @@ pub mod Writing
 pub mod Images
 pub mod Laws
 pub mod Outcome
+pub mod Fronts
+pub mod Keeping
+pub mod Reader
+pub mod Sources
+pub mod Reading

@@ -1,7 +1,8 @@
 -- Sandboxes that pass each test but Overlap, and that lie apart.
-use Rattle.std.specs.Prelude.{◌≤◌, List, length}
+use Rattle.std.specs.Prelude.{◌≡◌, ◌≤◌, List, length}
 use Rattle.std.specs.List.{All, AllPairs}
-use Rattle.sfi_image.specs.Spelling.{Part, AreWords}
+use Rattle.sfi_image.specs.declared.format.Format.{Format}
+use Rattle.sfi_image.specs.Spelling.{Part, format_of, AreWords}
 use Rattle.sfi_image.specs.Spans.{AreApart, code_region, spans}
 use Rattle.sfi_image.specs.Regions.{IsCodeRegion, IsDataRegion, HasGuardRoom, IsBundleStart}
 use Rattle.sfi_image.specs.Gates.{AreGates, gates_most}
@@ -9,7 +10,7 @@ use Rattle.sfi_image.specs.Gates.{AreGates, gates_most}
 -- each number has 32 bits, and the sandbox passes each test but Overlap: its own code and guard zones may still meet
 pub record IsRightPart (p : Part) : Type 0 where
   pub words : AreWords p
-  pub code_placed : IsCodeRegion p.code_base (length p.code)
+  pub code_placed : IsCodeRegion p.format p.code_base (length p.code)
   pub data_placed : IsDataRegion p.data_base p.data_size
   pub guard_room : HasGuardRoom p.data_base p.data_size
   pub start : IsBundleStart (code_region p) p.start
@@ -22,8 +23,13 @@ pub record AreRight (ps : List Part) : Type 0 where
   pub each : All IsRightPart ps
   pub apart : AllPairs AreApart (spans ps)
 
--- 1 to 16 such sandboxes
+-- each has this format
+abbrev pub AreOf : Format → List Part → Type 0
+AreOf format ps = All (λ p. p.format ≡ format) ps
+
+-- 1 to 16 such sandboxes, of one format
 pub record IsRightLayout (ps : List Part) : Type 0 where
   pub at_least_one : 1 ≤ length ps
   pub at_most : length ps ≤ 16
+  pub one_format : AreOf (format_of ps) ps
   pub right : AreRight ps

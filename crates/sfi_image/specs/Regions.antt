@@ -1,6 +1,8 @@
 -- Where the regions of a sandbox may lie.
 use Rattle.std.specs.Prelude.{◌≡◌, ℕ, ◌+◌, ◌*◌, ◌%◌, ◌^◌, ◌≤◌}
+use Rattle.sfi_image.specs.declared.format.Format.{Format}
 use Rattle.sfi_image.specs.declared.span.Span.{Span}
+use Rattle.sfi_image.specs.Formats.{code_most}
 use Rattle.sfi_image.specs.Spans.{Holds, guard}
 
 -- the size is a power of two within the bounds, the base a multiple of it
@@ -12,9 +14,9 @@ pub record IsRegion (base size least most : ℕ) : Type 0 where
   pub multiple : ℕ
   pub base_is : base ≡ multiple * size
 
--- code may lie here
-abbrev pub IsCodeRegion : ℕ → ℕ → Type 0
-IsCodeRegion base size = IsRegion base size 256 65536
+-- code may lie here, in this format
+abbrev pub IsCodeRegion : Format → ℕ → ℕ → Type 0
+IsCodeRegion format base size = IsRegion base size 256 (code_most format)
 
 -- data may lie here
 abbrev pub IsDataRegion : ℕ → ℕ → Type 0

@@ -1,13 +1,17 @@
 -- What a sandbox's part of an image holds, and the bytes of an image.
-use Rattle.std.specs.Prelude.{ℕ, ◌^◌, ◌<◌, List, ◌++◌, length, map, codes}
+use Rattle.std.specs.Prelude.{ℕ, ◌^◌, ◌<◌, List, [], ◌∷◌, ◌++◌, length, map}
 use Rattle.std.specs.List.{All, flat_map}
 use Rattle.std.specs.Int.{w32, to_le_bytes}
+use Rattle.sfi_image.specs.declared.format.Format.{Format}
+use Rattle.sfi_image.specs.declared.format.Format.TheVariants.{Sfi1}
 use Rattle.sfi_image.specs.declared.part.Gate.{Gate}
 use Rattle.sfi_image.specs.declared.fields.Fields.{Fields}
 use Rattle.sfi_image.specs.declared.part.SandboxPart.{SandboxPart}
+use Rattle.sfi_image.specs.Formats.{magic}
 
 -- one sandbox, without where its bytes lie in memory; the code size, the gate count and the init length are its lists' lengths
 pub record Part : Type 0 where
+  pub format : Format  -- that of its image
   pub code_base : ℕ
   pub data_base : ℕ
   pub data_size : ℕ
@@ -16,9 +20,10 @@ pub record Part : Type 0 where
   pub code : List ℕ
   pub init : List ℕ
 
--- what a value of the program stands for
-abbrev pub view : SandboxPart → Part
-view p = record {
+-- what a value of the program stands for, in an image of this format
+abbrev pub view : Format → SandboxPart → Part
+view f p = record {
+  format = f;
   code_base = p.code_base;
   data_base = p.data_base;
   data_size = p.data_size;
@@ -29,12 +34,18 @@ view p = record {
 }
 
 -- what a list of them stands for
-abbrev pub views : List SandboxPart → List Part
-views ps = map view ps
+abbrev pub views : Format → List SandboxPart → List Part
+views f ps = map (view f) ps
 
--- the seven fields of a sandbox
+-- the format of an image with these parts: that of the first one
+abbrev pub format_of : List Part → Format
+format_of [] = Sfi1
+format_of (p ∷ ps) = p.format
+
+-- the seven fields of a sandbox, and its image's format
 abbrev pub fields_of : Part → Fields
 fields_of p = record {
+  format = p.format;
   code_base = p.code_base;
   code_size = length p.code;
   data_base = p.data_base;
@@ -63,13 +74,9 @@ gate g = number g.address ++ number g.service
 unfoldable pub part : Part → List ℕ
 part p = fields (fields_of p) ++ (flat_map gate p.gates ++ (p.code ++ p.init))
 
--- the bytes 53 46 49 31
-unfoldable pub magic : List ℕ
-magic = codes "SFI1"
-
--- an image: the magic, the count, and each sandbox
+-- an image: its format's magic, the count, and each sandbox
 unfoldable pub spelling : List Part → List ℕ
-spelling ps = magic ++ (number (length ps) ++ flat_map part ps)
+spelling ps = magic (format_of ps) ++ (number (length ps) ++ flat_map part ps)
 
 -- ---- what four bytes can hold
 

@@ -6,12 +6,14 @@ ghost use Rattle.sfi_image.specs.Regions.{IsRegion, IsBundleStart, HasGuardRoom}
 ghost use Rattle.sfi_image.specs.Tests.{IsFirstFault, field_tests};
 
 use crate::fault::LayoutFault;
+use crate::format::Format;
 use crate::span::{Span, are_all_apart};
 use std::alloc::AllocError;
 
-/// The seven numbers at the head of a sandbox.
+/// The seven numbers at the head of a sandbox, and its image's format.
 #[derive(Clone, Copy, Debug)]
 pub struct Fields {
+    pub format: Format,
     pub code_base: u32,
     pub code_size: u32,
     pub data_base: u32,
@@ -96,7 +98,12 @@ pub(crate) fn field_fault(before: &[Span], fields: &Fields) -> Option<LayoutFaul
     requires apart { AllPairs AreApart before.now }
     ensures { IsFirstFault before.now fields.now field_tests result }
 {
-    if !is_region(fields.code_base, fields.code_size, 256, 65536) {
+    if !is_region(
+        fields.code_base,
+        fields.code_size,
+        256,
+        fields.format.code_most(),
+    ) {
         return Some(LayoutFault::Code);
     }
     if !is_region(fields.data_base, fields.data_size, 256, 1048576) {

@@ -11,6 +11,7 @@ ghost use Rattle.sfi_image.specs.Outcome.{IfLayout};
 
 use crate::fault::{ImageFault, LayoutFault};
 use crate::fields::{Fields, add_spans, field_fault};
+use crate::format::Format;
 use crate::gates::is_next_gate;
 use crate::part::{Gate, SandboxPart};
 use crate::span::Span;
@@ -39,11 +40,12 @@ fn word(number: u32) -> u32
 }
 
 // The seven fields of a sandbox. A length that its field can't hold is above each limit, and so is the greatest number.
-fn fields_of_part(part: &SandboxPart<'_>) -> Fields
-    ensures value { result ≡ capped_fields (view part.now) }
+fn fields_of_part(format: Format, part: &SandboxPart<'_>) -> Fields
+    ensures value { result ≡ capped_fields (view format part.now) }
     ensures words { AreFieldWords result }
 {
     Fields {
+        format,
         code_base: word(part.code_base),
         code_size: capped(part.code.len()),
         data_base: word(part.data_base),
@@ -69,13 +71,13 @@ fn are_gates(fields: &Fields, gates: &[Gate]) -> bool
 }
 
 // What is wrong with a sandbox behind others with these spans.
-fn part_fault(before: &[Span], part: &SandboxPart<'_>) -> Option<LayoutFault>
+fn part_fault(format: Format, before: &[Span], part: &SandboxPart<'_>) -> Option<LayoutFault>
     requires bounded { All IsBounded before.now }
     requires apart { AllPairs AreApart before.now }
-    ensures found { IfSome result (λ k. HasFault before.now (view part.now) k) }
-    ensures right { IfNone result (IsRightPart (view part.now) × AllPairs AreApart (before.now ++ spans_of (fields_of (view part.now)))) }
+    ensures found { IfSome result (λ k. HasFault before.now (view format part.now) k) }
+    ensures right { IfNone result (IsRightPart (view format part.now) × AllPairs AreApart (before.now ++ spans_of (fields_of (view format part.now)))) }
 {
-    let fields = fields_of_part(part);
+    let fields = fields_of_part(format, part);
     if let Some(fault) = field_fault(before, &fields) {
         return Some(fault);
     }
@@ -86,19 +88,23 @@ fn part_fault(before: &[Span], part: &SandboxPart<'_>) -> Option<LayoutFault>
 }
 
 // The sandboxes have a right layout, or the first of them that is wrong has a fault.
-pub(crate) fn check_layout(alloc: Global, parts: &[SandboxPart<'_>]) -> Result<(), ImageFault>
-    ensures right { OnOk result (IsRightLayout (views parts.now)) }
-    ensures wrong { IfErr result (λ e. IfLayout e (HaveFault (views parts.now))) }
+pub(crate) fn check_layout(
+    alloc: Global,
+    format: Format,
+    parts: &[SandboxPart<'_>],
+) -> Result<(), ImageFault>
+    ensures right { OnOk result (IsRightLayout (views format parts.now)) }
+    ensures wrong { IfErr result (λ e. IfLayout e (HaveFault (views format parts.now))) }
 {
     if parts.is_empty() || parts.len() > SANDBOXES_MOST {
         return Err(ImageFault::Layout(LayoutFault::Count));
     }
     let mut before = Vec::new(alloc);
     for part in parts {
-        if let Some(fault) = part_fault(&before, part) {
+        if let Some(fault) = part_fault(format, &before, part) {
             return Err(ImageFault::Layout(fault));
         }
-        add_spans(&mut before, &fields_of_part(part))?;
+        add_spans(&mut before, &fields_of_part(format, part))?;
     }
     Ok(())
 }

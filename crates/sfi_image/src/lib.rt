@@ -1,6 +1,6 @@
 //! Images of sandboxed code: how their bytes are read, and which layouts are right.
 //!
-//! An image is the four bytes `SFI1`, a count from 1 to 16, and for each sandbox seven numbers, its gates, its code
+//! An image is the four bytes of its format, `SFI1` or `SFI2`, a count from 1 to 16, and for each sandbox seven numbers, its gates, its code
 //! and its first data bytes. Each number has 32 bits, the lowest byte first. Code and data lie in power-of-two regions
 //! with guard zones round the data, so that one mask and one or confine an address (Wahbe, Lucco, Anderson and Graham,
 //! "Efficient Software-Based Fault Isolation", 1993), and gates lie at the starts of 16-byte bundles (Yee and others,
@@ -9,22 +9,31 @@
 
 mod fault;
 mod fields;
+mod format;
 mod gates;
 mod image;
+mod kept;
 mod laws;
 mod layout;
+mod layout_reader;
 mod part;
 mod reading;
 mod reserved;
+mod source;
 mod span;
 #[cfg(test)]
 mod tests;
+mod want;
 mod writing;
 
 pub use fault::{ImageFault, LayoutFault};
+pub use format::Format;
 pub use image::Image;
-pub use laws::{code_ends, one_reading, some_reading, whole_bundles};
+pub use laws::{code_ends, front_ends, one_reading, some_reading, whole_bundles};
+pub use layout_reader::LayoutReader;
 pub use part::{Gate, SandboxPart};
 pub use reading::parse_image;
 pub use reserved::Reserved;
-pub use writing::write_image;
+pub use source::{ByteSource, ReadFault, Reading};
+pub use want::Want;
+pub use writing::{write_image, write_image_as};

@@ -1,21 +1,25 @@
 //! Reading an image from left to right.
-ghost use Rattle.std.specs.Prelude.{◌≡◌, ℕ, ◌+◌, ◌≤◌, ◌++◌, ◌↔◌, ◌⊎◌, List, length, IsTrue, IfOk, IfErr};
+ghost use Rattle.std.specs.Prelude.{◌≡◌, ℕ, ◌+◌, ◌<◌, ◌≤◌, ◌++◌, ◌∷◌, [], ◌≢◌, ◌↔◌, ◌⊎◌, List, length, IsTrue, IfOk, IfErr, IfSome, IfNone};
 ghost use Rattle.std.specs.List.{All, AllPairs, flat_map};
 ghost use Rattle.sfi_image.specs.declared.fault.LayoutFault.{LayoutFault};
-ghost use Rattle.sfi_image.specs.Spelling.{Part, view, views, number, fields, fields_of, gate, part, magic, IsWord, AreFieldWords, AreGateWords};
+ghost use Rattle.sfi_image.specs.Spelling.{Part, view, views, number, fields, fields_of, gate, part, IsWord, AreFieldWords, AreGateWords};
+ghost use Rattle.sfi_image.specs.Formats.{magic};
 ghost use Rattle.sfi_image.specs.Spans.{AreApart, IsBounded, code_span, spans_of};
 ghost use Rattle.sfi_image.specs.Gates.{AreGates};
 ghost use Rattle.sfi_image.specs.Parts.{IsRightPart, AreRight};
 ghost use Rattle.sfi_image.specs.Images.{IsImage};
 ghost use Rattle.sfi_image.specs.Faults.{IsBodyFault, IsPartFault, ArePartsFault, IsFault};
 ghost use Rattle.sfi_image.specs.Outcome.{IfLayout, Reads};
+ghost use Rattle.sfi_image.specs.Fronts.{Front, front, head, want_of, IsLess, part_of, behind_parts, behind_init, behind_code, behind_gates};
+ghost use Rattle.sfi_image.specs.Fronts.Front.{Counted, InCode};
+ghost use Rattle.sfi_image.specs.Keeping.{StandsFor, IsAsked, Leads};
 
 use crate::fault::{ImageFault, LayoutFault};
-use crate::fields::{Fields, add_spans, field_fault};
-use crate::gates::is_next_gate;
+use crate::fields::Fields;
+use crate::format::Format;
 use crate::image::Image;
+use crate::layout_reader::LayoutReader;
 use crate::part::{Gate, SandboxPart};
-use crate::span::Span;
 use byteorder::{ByteOrder, LittleEndian};
 use std::alloc::Global;
 
@@ -25,10 +29,8 @@ const FIELDS_BYTES: usize = 28;
 
 const GATE_BYTES: usize = 8;
 
-const SANDBOXES_MOST: u32 = 16;
-
 // The number at the front, and the bytes after it.
-fn number_at(bytes: &[u8]) -> (u32, &[u8])
+pub(crate) fn number_at(bytes: &[u8]) -> (u32, &[u8])
     requires { NUMBER_BYTES ≤ length bytes.now }
     ensures front { bytes.now ≡ number result.0 ++ result.1.now }
     ensures word { IsWord result.0 }
@@ -39,10 +41,11 @@ fn number_at(bytes: &[u8]) -> (u32, &[u8])
 }
 
 // The seven fields at the front, and the bytes after them.
-fn fields_at(bytes: &[u8]) -> (Fields, &[u8])
+pub(crate) fn fields_at(format: Format, bytes: &[u8]) -> (Fields, &[u8])
     requires { FIELDS_BYTES ≤ length bytes.now }
     ensures front { bytes.now ≡ fields result.0 ++ result.1.now }
     ensures words { AreFieldWords result.0 }
+    ensures format { result.0.format ≡ format }
     ensures len { length result.1.now + FIELDS_BYTES ≡ length bytes.now }
 {
     let (code_base, rest) = number_at(bytes);
@@ -53,6 +56,7 @@ fn fields_at(bytes: &[u8]) -> (Fields, &[u8])
     let (gate_count, rest) = number_at(rest);
     let (init_len, rest) = number_at(rest);
     let fields = Fields {
+        format,
         code_base,
         code_size,
         data_base,
@@ -65,7 +69,7 @@ fn fields_at(bytes: &[u8]) -> (Fields, &[u8])
 }
 
 // The gate at the front, and the bytes after it.
-fn gate_at(bytes: &[u8]) -> (Gate, &[u8])
+pub(crate) fn gate_at(bytes: &[u8]) -> (Gate, &[u8])
     requires { GATE_BYTES ≤ length bytes.now }
     ensures front { bytes.now ≡ gate result.0 ++ result.1.now }
     ensures words { AreGateWords result.0 }
@@ -76,69 +80,104 @@ fn gate_at(bytes: &[u8]) -> (Gate, &[u8])
     (Gate { address, service }, rest)
 }
 
-// The gates at the front, as many as the fields say, where the code and the data follow them whole.
+// The bytes that the reader takes next, at the front, and the bytes after them.
+fn take_front<'a>(
+    reader: &mut LayoutReader,
+    len: usize,
+    bytes: &'a [u8],
+) -> Result<(&'a [u8], &'a [u8]), ImageFault>
+    requires asked { IsAsked reader.old len }
+    requires whole { (x : Front) → StandsFor reader.old x → (n : ℕ) → n < len → IsLess n (want_of x) }
+    ensures { (x : Front) → StandsFor reader.old x → Reads (λ r. (bytes.entry.now ≡ r.0.now ++ r.1.now) × (length r.0.now ≡ len) × Leads x r.0.now reader.new)
+        (IsFault (front x ++ bytes.entry.now)) result }
+{
+    if bytes.len() < len {
+        return Err(ImageFault::Layout(LayoutFault::Short));
+    }
+    let (front, rest) = bytes.split_at(len);
+    if let Some(fault) = reader.advance(front) {
+        return Err(ImageFault::Layout(fault));
+    }
+    Ok((front, rest))
+}
+
+// The gates at the front, and the bytes after them.
 fn gates_at<'a>(
     alloc: Global,
-    fields: &Fields,
+    reader: &mut LayoutReader,
+    seven: &Fields,
     bytes: &'a [u8],
 ) -> Result<(Vec<Gate>, &'a [u8]), ImageFault>
-    ensures { Reads (λ r. (bytes.entry.now ≡ flat_map gate r.0.items ++ r.1.now) × All AreGateWords r.0.items
-        × AreGates (code_span fields.now) r.0.items × (length r.0.items ≡ fields.now.gate_count)
-        × (fields.now.code_size + fields.now.init_len ≤ length r.1.now))
-        (IsBodyFault fields.now bytes.entry.now) result }
+    requires { (n : ℕ) × (ps : List Part) × StandsFor reader.old (behind_gates n ps seven.now []) }
+    ensures { (n : ℕ) (ps : List Part) → StandsFor reader.old (behind_gates n ps seven.now []) → Reads (λ r. (bytes.entry.now ≡ flat_map gate r.0.items ++ r.1.now)
+        × StandsFor reader.new (InCode n ps seven.now r.0.items [])) (IsFault (head seven.now.format n ps ++ (fields seven.now ++ bytes.entry.now))) result }
 {
     let mut gates = Vec::new(alloc);
     let mut rest = bytes;
-    for _ in 0..fields.gate_count {
-        if rest.len() < GATE_BYTES {
-            return Err(ImageFault::Layout(LayoutFault::Short));
-        }
-        let (gate, after) = gate_at(rest);
-        if !is_next_gate(fields, &gates, gate) {
-            return Err(ImageFault::Layout(LayoutFault::Gates));
-        }
+    for _ in 0..seven.gate_count {
+        let (front, after) = take_front(reader, GATE_BYTES, rest)?;
+        let (gate, _) = gate_at(front);
         gates.push(gate)?;
         rest = after;
-    }
-    if rest.len() < fields.code_size as usize + fields.init_len as usize {
-        return Err(ImageFault::Layout(LayoutFault::Short));
     }
     Ok((gates, rest))
 }
 
-// The code and the first data bytes at the front, and the bytes after them.
-fn contents_at<'a>(fields: &Fields, bytes: &'a [u8]) -> (&'a [u8], &'a [u8], &'a [u8])
-    requires { fields.now.code_size + fields.now.init_len ≤ length bytes.now }
-    ensures front { bytes.entry.now ≡ result.0.now ++ (result.1.now ++ result.2.now) }
-    ensures code_size { length result.0.now ≡ fields.now.code_size }
-    ensures init_len { length result.1.now ≡ fields.now.init_len }
-{
-    let (code, rest) = bytes.split_at(fields.code_size as usize);
-    let (init, rest) = rest.split_at(fields.init_len as usize);
-    (code, init, rest)
-}
-
-// The sandbox at the front, behind others with these spans, its fields, and the bytes after it.
-fn part_at<'a>(
-    alloc: Global,
-    before: &[Span],
+// The code at the front, and the bytes after it.
+fn code_at<'a>(
+    reader: &mut LayoutReader,
+    seven: &Fields,
     bytes: &'a [u8],
-) -> Result<(SandboxPart<'a>, Fields, &'a [u8]), ImageFault>
-    requires bounded { All IsBounded before.now }
-    requires apart { AllPairs AreApart before.now }
-    ensures { Reads (λ r. (bytes.entry.now ≡ part (view r.0) ++ r.2.now) × (fields_of (view r.0) ≡ r.1)
-        × IsRightPart (view r.0) × AllPairs AreApart (before.now ++ spans_of r.1))
-        (IsPartFault before.now bytes.entry.now) result }
+) -> Result<(&'a [u8], &'a [u8]), ImageFault>
+    requires { (n : ℕ) × (ps : List Part) × (gs : List Gate) × StandsFor reader.old (InCode n ps seven.now gs []) }
+    ensures { (n : ℕ) (ps : List Part) (gs : List Gate) → StandsFor reader.old (InCode n ps seven.now gs [])
+        → Reads (λ r. (bytes.entry.now ≡ r.0.now ++ r.1.now) × (length r.0.now ≡ seven.now.code_size)
+        × StandsFor reader.new (behind_code n ps seven.now gs r.0.now)) (IsFault (front (InCode n ps seven.now gs []) ++ bytes.entry.now)) result }
 {
-    if bytes.len() < FIELDS_BYTES {
+    let len = seven.code_size as usize;
+    if bytes.len() < len {
         return Err(ImageFault::Layout(LayoutFault::Short));
     }
-    let (fields, rest) = fields_at(bytes);
-    if let Some(fault) = field_fault(before, &fields) {
-        return Err(ImageFault::Layout(fault));
+    let (code, rest) = bytes.split_at(len);
+    reader.take_code(code);
+    Ok((code, rest))
+}
+
+// The first data bytes at the front, and the bytes after them.
+fn init_at<'a>(
+    reader: &mut LayoutReader,
+    seven: &Fields,
+    bytes: &'a [u8],
+) -> Result<(&'a [u8], &'a [u8]), ImageFault>
+    requires { (n : ℕ) × (ps : List Part) × (gs : List Gate) × (code : List ℕ) × StandsFor reader.old (behind_init n ps seven.now gs code []) }
+    ensures { (n : ℕ) (ps : List Part) (gs : List Gate) (code : List ℕ) → length gs ≡ seven.now.gate_count → length code ≡ seven.now.code_size
+        → StandsFor reader.old (behind_init n ps seven.now gs code [])
+        → Reads (λ r. (bytes.entry.now ≡ r.0.now ++ r.1.now) × (length r.0.now ≡ seven.now.init_len)
+        × StandsFor reader.new (behind_parts seven.now.format n (ps ++ part_of seven.now gs code r.0.now ∷ [])))
+        (IsFault (front (InCode n ps seven.now gs code) ++ bytes.entry.now)) result }
+{
+    if seven.init_len == 0 {
+        return Ok(bytes.split_at(0));
     }
-    let (gates, rest) = gates_at(alloc, &fields, rest)?;
-    let (code, init, rest) = contents_at(&fields, rest);
+    take_front(reader, seven.init_len as usize, bytes)
+}
+
+// The sandbox at the front, and the bytes after it.
+fn part_at<'a>(
+    alloc: Global,
+    format: Format,
+    reader: &mut LayoutReader,
+    bytes: &'a [u8],
+) -> Result<(SandboxPart<'a>, &'a [u8]), ImageFault>
+    requires { (n : ℕ) × (ps : List Part) × StandsFor reader.old (Counted format n ps) }
+    ensures { (n : ℕ) (ps : List Part) → StandsFor reader.old (Counted format n ps) → Reads (λ r. (bytes.entry.now ≡ part (view format r.0) ++ r.1.now)
+        × StandsFor reader.new (behind_parts format n (ps ++ view format r.0 ∷ []))) (IsFault (head format n ps ++ bytes.entry.now)) result }
+{
+    let (front, rest) = take_front(reader, FIELDS_BYTES, bytes)?;
+    let (fields, _) = fields_at(format, front);
+    let (gates, rest) = gates_at(alloc, reader, &fields, rest)?;
+    let (code, rest) = code_at(reader, &fields, rest)?;
+    let (init, rest) = init_at(reader, &fields, rest)?;
     let part = SandboxPart {
         code_base: fields.code_base,
         data_base: fields.data_base,
@@ -148,61 +187,50 @@ fn part_at<'a>(
         code,
         init,
     };
-    Ok((part, fields, rest))
+    Ok((part, rest))
 }
 
-// The sandboxes behind the count, to the end of the bytes.
-fn parts_at<'a>(
-    alloc: Global,
-    count: u32,
-    bytes: &'a [u8],
-) -> Result<Vec<SandboxPart<'a>>, ImageFault>
-    ensures { Reads (λ v. (bytes.entry.now ≡ flat_map part (views v.items)) × AreRight (views v.items)
-        × (length v.items ≡ count))
-        (ArePartsFault count bytes.entry.now) result }
+// The bytes are those that each image of this format begins with.
+fn is_magic(format: Format, front: &[u8]) -> bool
+    ensures { IsTrue result ↔ (front.now ≡ magic format) }
 {
-    let mut parts = Vec::new(alloc);
-    let mut before = Vec::new(alloc);
-    let mut rest = bytes;
-    for _ in 0..count {
-        let (part, fields, after) = part_at(alloc, &before, rest)?;
-        parts.push(part)?;
-        add_spans(&mut before, &fields)?;
-        rest = after;
-    }
-    if !rest.is_empty() {
-        return Err(ImageFault::Layout(LayoutFault::Trailing));
-    }
-    Ok(parts)
+    front == format.magic().as_slice()
 }
 
-// The bytes are those that each image begins with.
-fn is_magic(front: &[u8]) -> bool
-    ensures { IsTrue result ↔ (front.now ≡ magic) }
+// The format of an image that begins with these bytes.
+pub(crate) fn format_at(front: &[u8]) -> Option<Format>
+    ensures found { IfSome result (λ format. front.now ≡ magic format) }
+    ensures none { IfNone result ((format : Format) → front.now ≢ magic format) }
 {
-    front == b"SFI1".as_slice()
+    if is_magic(Format::Sfi1, front) {
+        Some(Format::Sfi1)
+    } else if is_magic(Format::Sfi2, front) {
+        Some(Format::Sfi2)
+    } else {
+        None
+    }
 }
 
 // The image that the bytes are, or their fault.
 fn image_at<'a>(alloc: Global, bytes: &'a [u8]) -> Result<Image<'a>, ImageFault>
     ensures { Reads (IsImage bytes.entry.now) (IsFault bytes.entry.now) result }
 {
-    if bytes.len() < NUMBER_BYTES {
-        return Err(ImageFault::Layout(LayoutFault::Short));
+    let mut reader = LayoutReader::new();
+    let (_, rest) = take_front(&mut reader, NUMBER_BYTES, bytes)?;
+    let format = reader.format();
+    let (front, rest) = take_front(&mut reader, NUMBER_BYTES, rest)?;
+    let (count, _) = number_at(front);
+    let mut parts = Vec::new(alloc);
+    let mut rest = rest;
+    for _ in 0..count {
+        let (part, after) = part_at(alloc, format, &mut reader, rest)?;
+        parts.push(part)?;
+        rest = after;
     }
-    let (front, rest) = bytes.split_at(NUMBER_BYTES);
-    if !is_magic(front) {
-        return Err(ImageFault::Layout(LayoutFault::Magic));
+    if !rest.is_empty() {
+        return Err(ImageFault::Layout(LayoutFault::Trailing));
     }
-    if rest.len() < NUMBER_BYTES {
-        return Err(ImageFault::Layout(LayoutFault::Short));
-    }
-    let (count, rest) = number_at(rest);
-    if count < 1 || count > SANDBOXES_MOST {
-        return Err(ImageFault::Layout(LayoutFault::Count));
-    }
-    let parts = parts_at(alloc, count, rest)?;
-    Ok(Image::new(parts))
+    Ok(Image::new(format, parts))
 }
 
 /// Reads an image. It is refused with the first fault from the left. The sandboxes borrow their code and their first

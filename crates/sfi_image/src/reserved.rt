@@ -1,6 +1,7 @@
 //! What the reserved registers hold.
 
 ghost use Rattle.std.specs.Prelude.{◌≡◌};
+ghost use Rattle.sfi_image.specs.declared.format.Format.{Format};
 ghost use Rattle.sfi_image.specs.Spelling.{view};
 ghost use Rattle.sfi_image.specs.Parts.{IsRightPart};
 ghost use Rattle.sfi_image.specs.Registers.{reserved_of};
@@ -24,8 +25,8 @@ pub struct Reserved {
 impl Reserved {
     /// Those of a sandbox.
     pub fn of(part: &SandboxPart<'_>) -> Self
-        requires { IsRightPart (view part.now) }
-        ensures { result ≡ reserved_of (view part.now) }
+        requires { (format : Format) × IsRightPart (view format part.now) }
+        ensures { (format : Format) → result ≡ reserved_of (view format part.now) }
     {
         Reserved {
             code_base: part.code_base,

@@ -2,6 +2,7 @@
 ghost use Rattle.std.specs.Prelude.{◌≡◌, ◌++◌, ◌⊎◌, ◌≤◌, ◌<◌, List, length, OnOk, IfOk, IfErr};
 ghost use Rattle.std.specs.List.{All, flat_map};
 ghost use Rattle.sfi_image.specs.declared.fault.LayoutFault.{LayoutFault};
+ghost use Rattle.sfi_image.specs.declared.format.Format.TheVariants.{Sfi1};
 ghost use Rattle.sfi_image.specs.Spelling.{view, views, number, fields, fields_of, gate, part, spelling, AreWords};
 ghost use Rattle.sfi_image.specs.Parts.{IsRightPart, IsRightLayout};
 ghost use Rattle.sfi_image.specs.Faults.{IsFault};
@@ -10,6 +11,7 @@ ghost use Rattle.sfi_image.specs.Images.{IsImage};
 ghost use Rattle.sfi_image.specs.Outcome.{IfLayout, Reads};
 
 use crate::fault::ImageFault;
+use crate::format::Format;
 use crate::layout::check_layout;
 use crate::part::{Gate, SandboxPart};
 use byteorder::{ByteOrder, LittleEndian};
@@ -49,8 +51,8 @@ fn push_gates(bytes: &mut Vec<u8>, gates: &[Gate]) -> Result<(), AllocError>
 #[tactic(auto, using(std::proofs::Common::append_assoc), unfolding(crate::specs::Spelling::fields))]
 // The seven fields of a sandbox come behind the bytes so far.
 fn push_fields(bytes: &mut Vec<u8>, one: &SandboxPart<'_>) -> Result<(), AllocError>
-    requires { IsRightPart (view one.now) }
-    ensures { OnOk result (bytes.new.items ≡ bytes.old.items ++ fields (fields_of (view one.now))) }
+    requires { (format : Format) × IsRightPart (view format one.now) }
+    ensures { (format : Format) → OnOk result (bytes.new.items ≡ bytes.old.items ++ fields (fields_of (view format one.now))) }
 {
     push_number(bytes, one.code_base)?;
     push_number(bytes, one.code.len() as u32)?;
@@ -65,8 +67,8 @@ fn push_fields(bytes: &mut Vec<u8>, one: &SandboxPart<'_>) -> Result<(), AllocEr
 #[tactic(auto, using(std::proofs::Common::append_assoc), unfolding(crate::specs::Spelling::part))]
 // The sandbox comes behind the bytes so far.
 fn push_part(bytes: &mut Vec<u8>, one: &SandboxPart<'_>) -> Result<(), AllocError>
-    requires { IsRightPart (view one.now) }
-    ensures { OnOk result (bytes.new.items ≡ bytes.old.items ++ part (view one.now)) }
+    requires { (format : Format) × IsRightPart (view format one.now) }
+    ensures { (format : Format) → OnOk result (bytes.new.items ≡ bytes.old.items ++ part (view format one.now)) }
 {
     push_fields(bytes, one)?;
     push_gates(bytes, &one.gates)?;
@@ -76,12 +78,16 @@ fn push_part(bytes: &mut Vec<u8>, one: &SandboxPart<'_>) -> Result<(), AllocErro
 }
 
 // The bytes of sandboxes with a right layout.
-fn write_right(alloc: Global, parts: &[SandboxPart<'_>]) -> Result<Vec<u8>, AllocError>
-    requires { IsRightLayout (views parts.now) }
-    ensures { IfOk result (λ bytes. bytes.items ≡ spelling (views parts.now)) }
+fn write_right(
+    alloc: Global,
+    format: Format,
+    parts: &[SandboxPart<'_>],
+) -> Result<Vec<u8>, AllocError>
+    requires { IsRightLayout (views format parts.now) }
+    ensures { IfOk result (λ bytes. bytes.items ≡ spelling (views format parts.now)) }
 {
     let mut bytes = Vec::new(alloc);
-    bytes.extend_from_slice(b"SFI1")?;
+    bytes.extend_from_slice(&format.magic())?;
     push_number(&mut bytes, parts.len() as u32)?;
     for one in parts {
         push_part(&mut bytes, one)?;
@@ -90,28 +96,51 @@ fn write_right(alloc: Global, parts: &[SandboxPart<'_>]) -> Result<Vec<u8>, Allo
 }
 
 // The image of these sandboxes, or their fault.
-fn image_of(alloc: Global, parts: &[SandboxPart<'_>]) -> Result<Vec<u8>, ImageFault>
-    ensures { Reads (λ bytes. IsImage bytes.items (views parts.now)) (HaveFault (views parts.now)) result }
+fn image_of(alloc: Global, format: Format, parts: &[SandboxPart<'_>]) -> Result<Vec<u8>, ImageFault>
+    ensures { Reads (λ bytes. IsImage bytes.items (views format parts.now)) (HaveFault (views format parts.now)) result }
 {
-    check_layout(alloc, parts)?;
-    Ok(write_right(alloc, parts)?)
+    check_layout(alloc, format, parts)?;
+    Ok(write_right(alloc, format, parts)?)
 }
 
-/// Writes an image, or refuses with what reading it would find first. A length above 32 bits fails the test of its
+/// Writes an image of this format, or refuses with what reading it would find first. A length above 32 bits fails the test of its
 /// field.
-pub fn write_image(alloc: Global, parts: &[SandboxPart<'_>]) -> Result<Vec<u8>, ImageFault>
+pub fn write_image_as(
+    alloc: Global,
+    format: Format,
+    parts: &[SandboxPart<'_>],
+) -> Result<Vec<u8>, ImageFault>
     // What each answer means.
-    ensures image { IfOk result (λ bytes. IsImage bytes.items (views parts.now)) }
-    ensures fault { IfErr result (λ e. IfLayout e (HaveFault (views parts.now))) }
+    ensures image { IfOk result (λ bytes. IsImage bytes.items (views format parts.now)) }
+    ensures fault { IfErr result (λ e. IfLayout e (HaveFault (views format parts.now))) }
 
     // Which sandboxes get it, want of memory aside.
-    ensures only_image { IsRightLayout (views parts.now) → IfErr result (λ e. e ≡ ImageFault.Memory) }
-    ensures only_fault { (k : LayoutFault) → HaveFault (views parts.now) k
+    ensures only_image { IsRightLayout (views format parts.now) → IfErr result (λ e. e ≡ ImageFault.Memory) }
+    ensures only_fault { (k : LayoutFault) → HaveFault (views format parts.now) k
         → (result ≡ Err (ImageFault.Layout k)) ⊎ (result ≡ Err ImageFault.Memory) }
 
     // Of at most 16 sandboxes whose numbers all have 32 bits, the fault is that of their bytes.
-    ensures as_read { length parts.now ≤ 16 → All AreWords (views parts.now)
-        → IfErr result (λ e. IfLayout e (λ k. IsFault (spelling (views parts.now)) k)) }
+    ensures as_read { length parts.now ≤ 16 → All AreWords (views format parts.now)
+        → IfErr result (λ e. IfLayout e (λ k. IsFault (spelling (views format parts.now)) k)) }
 {
-    image_of(alloc, parts)
+    image_of(alloc, format, parts)
+}
+
+/// Writes an image of the first format, or refuses with what reading it would find first. A length above 32 bits fails the test of its
+/// field.
+pub fn write_image(alloc: Global, parts: &[SandboxPart<'_>]) -> Result<Vec<u8>, ImageFault>
+    // What each answer means.
+    ensures image { IfOk result (λ bytes. IsImage bytes.items (views Sfi1 parts.now)) }
+    ensures fault { IfErr result (λ e. IfLayout e (HaveFault (views Sfi1 parts.now))) }
+
+    // Which sandboxes get it, want of memory aside.
+    ensures only_image { IsRightLayout (views Sfi1 parts.now) → IfErr result (λ e. e ≡ ImageFault.Memory) }
+    ensures only_fault { (k : LayoutFault) → HaveFault (views Sfi1 parts.now) k
+        → (result ≡ Err (ImageFault.Layout k)) ⊎ (result ≡ Err ImageFault.Memory) }
+
+    // Of at most 16 sandboxes whose numbers all have 32 bits, the fault is that of their bytes.
+    ensures as_read { length parts.now ≤ 16 → All AreWords (views Sfi1 parts.now)
+        → IfErr result (λ e. IfLayout e (λ k. IsFault (spelling (views Sfi1 parts.now)) k)) }
+{
+    write_image_as(alloc, Format::Sfi1, parts)
 }

@@ -1,13 +1,31 @@
-use Rattle.std.proofs.Common.{◌≡◌, refl, inl, inr, arith, false, true}
+use Rattle.std.proofs.Common.{◌≡◌, refl, inl, inr, arith, false, true, subst}
+use Rattle.sfi_image.specs.Regions.{IsRegion}
 use Rattle.sfi_image.proofs.FieldTests.{at_overlap}
 use Rattle.sfi_image.proofs.fields.field_fault.Goals as goal
 
 pub returns : goal.returns
 returns c =
-    at_overlap _ _ _ (c.if-not-is_region.ensures.0 refl) (c.if-not-is_region-2.ensures.0 refl) (c.if-not-has_guard_room.ensures.0 refl) (c.if-not-is_bundle_start.ensures.0 refl) (omega arith) (omega arith)
+    at_overlap _ _ _ (subst (λ n. IsRegion c.args.fields.now.code_base c.args.fields.now.code_size 256 n) c.code_most.ensures (c.if-not-is_region.ensures.0 refl)) (c.if-not-is_region-2.ensures.0 refl) (c.if-not-has_guard_room.ensures.0 refl) (c.if-not-is_bundle_start.ensures.0 refl) (omega arith) (omega arith)
     (inl (rw (c.code_span.ensures, c.guarded_span.ensures) at (c.if-not-are_all_apart.ensures.0 refl), refl))
 
 pub returns-then-not-are_all_apart : goal.returns-then-not-are_all_apart
 returns-then-not-are_all_apart c =
-    at_overlap _ _ _ (c.if-not-is_region.ensures.0 refl) (c.if-not-is_region-2.ensures.0 refl) (c.if-not-has_guard_room.ensures.0 refl) (c.if-not-is_bundle_start.ensures.0 refl) (omega arith) (omega arith)
+    at_overlap _ _ _ (subst (λ n. IsRegion c.args.fields.now.code_base c.args.fields.now.code_size 256 n) c.code_most.ensures (c.if-not-is_region.ensures.0 refl)) (c.if-not-is_region-2.ensures.0 refl) (c.if-not-has_guard_room.ensures.0 refl) (c.if-not-is_bundle_start.ensures.0 refl) (omega arith) (omega arith)
     (inr (λ pairs. let e : false ≡ true = c.if-not-are_all_apart.ensures.1 (rw (c.code_span.ensures, c.guarded_span.ensures) pairs) in absurd cc, refl))
+
+pub returns-then-not-is_region-2 : goal.returns-then-not-is_region-2
+returns-then-not-is_region-2 c =
+    inl (
+      (subst (λ n. IsRegion c.args.fields.now.code_base c.args.fields.now.code_size 256 n) c.code_most.ensures (c.if-not-is_region.ensures.0 refl)),
+      inr (λ region. let e : false ≡ true = c.if-not-is_region-2.ensures.1 region in absurd cc, refl),
+    )
+
+pub returns-then-not-has_guard_room : goal.returns-then-not-has_guard_room
+returns-then-not-has_guard_room c =
+    inl (
+      (subst (λ n. IsRegion c.args.fields.now.code_base c.args.fields.now.code_size 256 n) c.code_most.ensures (c.if-not-is_region.ensures.0 refl)),
+      inl (
+        c.if-not-is_region-2.ensures.0 refl,
+        inr (λ room. let e : false ≡ true = c.if-not-has_guard_room.ensures.1 room in absurd cc, refl),
+      ),
+    )

@@ -3,6 +3,7 @@ use Rattle.std.proofs.lemmas.List.{take-map, length-map}
 use Rattle.std.proofs.lemmas.Bool.{eq-eqb}
 use Rattle.sfi_image.specs.Spelling.{Part, view, views}
 use Rattle.sfi_image.specs.Parts.{AreRight}
+use Rattle.sfi_image.proofs.Views.{views_of}
 use Rattle.sfi_image.proofs.Refused.{StartRight, StartRight-push, start_right, wrong_part, same_spans, map_at, map_more_at, take_whole}
 use Rattle.sfi_image.proofs.layout.check_layout.Goals as goal
 
@@ -16,25 +17,26 @@ pub returns-in-Some-clause-wrong : goal.returns-in-Some-clause-wrong
 returns-in-Some-clause-wrong c =
     let ps = c.args.parts.now in
     let i = c.loop-part.part-index in
-    let same = length-map ps view in
-    let start = subst (λ (qs : List Part). StartRight qs c.loop-part.before.items) (sym (take-map view i ps)) c.loop-part.invariant in
-    wrong_part (views ps) i (view c.part-item.result) c.loop-part.before.items c.in-Some.fault (omega arith) (omega arith) (omega arith)
-    (map_at view ps i c.part-item.result c.part-item.is) start (rw c.deref.ensures.value at c.in-Some.ensures.found)
+    let same = length-map ps (view c.args.format) in
+    let start = subst (λ (qs : List Part). StartRight qs c.loop-part.before.items) (sym (take-map (view c.args.format) i ps)) c.loop-part.invariant in
+    wrong_part (views c.args.format ps) i (view c.args.format c.part-item.result) c.loop-part.before.items c.in-Some.fault (omega arith) (omega arith) (omega arith)
+    (map_at (view c.args.format) ps i c.part-item.result c.part-item.is) start (rw c.deref.ensures.value at c.in-Some.ensures.found)
 
 pub loop-part-preserved : goal.loop-part-preserved
 loop-part-preserved c =
     let found = rw c.deref.ensures.value at c.in_default.ensures.right in
     let spans = same_spans c.loop-part.before.items _ _ c.fields_of_part.ensures.value found.0 in
-    rw (map_more_at view c.args.parts.now c.loop-part.part-index c.part-item.result c.loop-part-test.true c.part-item.is, c.in_ok-add_spans.ensures, spans)
+    rw (map_more_at (view c.args.format) c.args.parts.now c.loop-part.part-index c.part-item.result c.loop-part-test.true c.part-item.is, c.in_ok-add_spans.ensures, spans)
     (StartRight-push _ _ _ c.loop-part.invariant found.0 found.1)
 
 pub returns-clause-right : goal.returns-clause-right
 returns-clause-right c =
     let ps = c.args.parts.now in
     let whole : take c.loop-part.part-index ps ≡ ps = take_whole ps c.loop-part.part-index (omega arith) (omega arith) in
-    let same = length-map ps view in
+    let same = length-map ps (view c.args.format) in
     record {
       at_least_one = (let some = not_eq_zero _ (sym c.is_empty.ensures ∙ c.if-is_empty.false) in omega arith);
       at_most = omega arith;
-      right = subst (λ qs. AreRight (views qs)) whole (start_right _ _ c.loop-part.invariant);
+      one_format = views_of c.args.format c.args.parts.now;
+      right = subst (λ qs. AreRight (views c.args.format qs)) whole (start_right _ _ c.loop-part.invariant);
     }

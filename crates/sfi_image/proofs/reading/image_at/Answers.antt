@@ -1,33 +1,89 @@
-use Rattle.std.proofs.Common.{refl, arith, ◌∙◌, inl, inr}
+use Rattle.std.proofs.Common.{◌≡◌, ◌∙◌, ◌++◌, ◌∷◌, ◌+◌, ◌<◌, eqb, false, ℕ, List, [], length, refl, sym, ap, subst, arith}
+use Rattle.std.proofs.lemmas.Bool.{eqb-true, eq-eqb}
 use Rattle.std.proofs.lemmas.Result.{err_from_is_err_and}
-use Rattle.std.proofs.lemmas.List.{length-map}
-use Rattle.sfi_image.proofs.Whole.{magic_wrong, behind_magic, parts_failed, whole}
+use Rattle.std.proofs.lemmas.List.{map_push, length-map, length_push}
+use Rattle.sfi_image.specs.declared.fault.LayoutFault.TheVariants.{Trailing}
+use Rattle.sfi_image.specs.declared.format.Format.{Format}
+use Rattle.sfi_image.specs.Formats.{magic}
+use Rattle.sfi_image.specs.Spelling.{view, views, format_of, number}
+use Rattle.sfi_image.specs.Faults.{IsFault}
+use Rattle.sfi_image.specs.Images.{IsImage}
+use Rattle.sfi_image.specs.Outcome.{IfLayout}
+use Rattle.sfi_image.specs.Fronts.{Front, head}
+use Rattle.sfi_image.specs.Fronts.Front.{Empty, Named}
+use Rattle.sfi_image.specs.Keeping.{StandsFor}
+use Rattle.sfi_image.proofs.Views.{same_format, views_have}
+use Rattle.sfi_image.proofs.Steps.{no_rest}
+use Rattle.sfi_image.proofs.Ending.{trails, whole_is_image}
+use Rattle.sfi_image.proofs.Parsing.{count_taken, at_more, at_all, first_bytes, more_bytes}
 use Rattle.sfi_image.proofs.reading.image_at.Goals as goal
-use Rattle.sfi_image.proofs.reading.image_at.Goals.{then-count-lt1-via-then-count-lt1, then-count-lt1-via-else-count-lt1+then-count-gt-SANDBOXES_MOST}
 
-pub returns-then-not-is_magic : goal.returns-then-not-is_magic
-returns-then-not-is_magic c = magic_wrong _ _ (omega arith) c.split_at.ensures.front (λ is. let e = c.if-not-is_magic.ensures.1 is in absurd cc)
+not_eq_zero : (n : ℕ) → eqb n 0 ≡ false → 0 < n
+not_eq_zero n e = grind (arith, eq-eqb n 0, e)
 
-pub returns-then-rest-lt-NUMBER_BYTES : goal.returns-then-rest-lt-NUMBER_BYTES
-returns-then-rest-lt-NUMBER_BYTES c = behind_magic _ _ _ _ c.split_at.ensures.front c.split_at.ensures.back (c.if-not-is_magic.ensures.0 refl) (inl (omega arith, refl))
+pub loop-init : goal.loop-init
+loop-init c =
+    let t1 = c.in_ok-rest.ensures Empty c.new-reader.ensures in
+    let first = subst (λ (y : Front). StandsFor c.take_front.new.reader y) t1.2.follows.2 t1.2.stands in
+    let kind : t1.2.follows.0 ≡ c.format-format.result = sym first.kept.2 ∙ sym c.format-format.ensures in
+    let named = subst (λ (f : Format). StandsFor c.take_front.new.reader (Named f)) kind first in
+    let t2 = c.in_ok-front.ensures (Named c.format-format.result) named in
+    let n = c.number_at-count.result.0 in
+    let is : c.in_ok-front.front.now ≡ number n = no_rest c.in_ok-front.front.now (number n) _ c.number_at-count.ensures.front (let len = c.number_at-count.ensures.len in let l = t2.1 in omega arith) in
+    rw (c.new-parts.ensures.items) (record {
+      bytes = first_bytes c.format-format.result c.args.bytes.now _ c.in_ok-rest.rest.now c.in_ok-front.front.now c.in_ok-front.rest.now n t1.0 (t1.2.follows.1 ∙ ap magic kind) t2.0 is;
+      stands = count_taken c.take_front-2.new.reader c.format-format.result n c.in_ok-front.front.now t2.2 is c.number_at-count.ensures.word;
+      len = refl;
+    })
 
-pub returns-then-count-lt1 : goal.returns-then-count-lt1
-returns-then-count-lt1 c =
-    behind_magic _ _ _ _ c.split_at.ensures.front c.split_at.ensures.back (c.if-not-is_magic.ensures.0 refl)
-    (inr (
-      c.number_at-count.result.0,
-      c.number_at-count.result.1.now,
-      c.number_at-count.ensures.front,
-      c.number_at-count.ensures.word,
-      inl (elim c.then-count-lt1.branch [ then-count-lt1-via-then-count-lt1 w ↦ (λ h. omega arith) | then-count-lt1-via-else-count-lt1+then-count-gt-SANDBOXES_MOST w ↦ (λ h. omega arith) ], refl),
-    ))
+pub returns-in_err-part : goal.returns-in_err-part
+returns-in_err-part c =
+    let p = err_from_is_err_and c.from_residual-in_err-part.result c.from_residual-in_err-part.ensures.1 in
+    let i = c.loop.invariant in
+    let ps = views c.format-format.result c.loop.parts.items in
+    let lt : length ps < c.number_at-count.result.0 = let b = c.loop-test.true in let l = i.len in omega (arith, length-map c.loop.parts.items (view c.format-format.result)) in
+    rw (p.1, p.2) (subst (λ (l : List ℕ). IfLayout c.in_err-part.field-0.0 (IsFault l)) (sym i.bytes) (c.in_err-part.ensures c.number_at-count.result.0 ps (at_more c.loop.reader c.format-format.result c.number_at-count.result.0 ps i.stands lt)))
 
-pub returns-in_err-parts : goal.returns-in_err-parts
-returns-in_err-parts c =
-    let p = err_from_is_err_and c.from_residual.result c.from_residual.ensures.1 in
-    rw (p.1, p.2) (parts_failed c.in_err-parts.field-0.0 _ _ _ _ _ c.split_at.ensures.front c.split_at.ensures.back (c.if-not-is_magic.ensures.0 refl) c.number_at-count.ensures.front c.number_at-count.ensures.word (omega arith) (omega arith) c.in_err-parts.ensures)
+pub loop-preserved : goal.loop-preserved
+loop-preserved c =
+    let i = c.loop.invariant in
+    let n = c.number_at-count.result.0 in
+    let ps = views c.format-format.result c.loop.parts.items in
+    let lt : length ps < n = let b = c.loop-test.true in let l = i.len in omega (arith, length-map c.loop.parts.items (view c.format-format.result)) in
+    let t = c.in_ok-part.ensures n ps (at_more c.loop.reader c.format-format.result n ps i.stands lt) in
+    let e : views c.format-format.result c.push.new.self.items ≡ ps ++ view c.format-format.result c.in_ok-part.part ∷ [] = rw c.in_ok-push.ensures.items (map_push _ c.loop.parts.items c.in_ok-part.part) in
+    record {
+      bytes = rw (e) (more_bytes c.format-format.result c.args.bytes.now c.loop.rest.now c.in_ok-part.after.now n ps (view c.format-format.result c.in_ok-part.part) i.bytes t.0);
+      stands = rw (e) t.1;
+      len = ap length c.in_ok-push.ensures.items ∙ length_push c.loop.parts.items c.in_ok-part.part ∙ ap (λ (k : ℕ). k + 1) i.len;
+    }
+
+pub returns-then-not-is_empty : goal.returns-then-not-is_empty
+returns-then-not-is_empty c =
+    let i = c.loop.invariant in
+    let n = c.number_at-count.result.0 in
+    let ps = views c.format-format.result c.loop.parts.items in
+    let all : length ps ≡ n = let b = c.loop-test.false in let u = c.loop.auto.counter-end in let l = i.len in omega (arith, length-map c.loop.parts.items (view c.format-format.result)) in
+    let whole = at_all c.loop.reader c.format-format.result n ps i.stands all in
+    let of : format_of ps ≡ c.format-format.result = same_format ps (views_have c.format-format.result c.loop.parts.items) whole.right.at_least in
+    subst (λ (l : List ℕ). IsFault l Trailing) (ap (λ (f : Format). head f (length ps) ps ++ c.loop.rest.now) of ∙ ap (λ (k : ℕ). head c.format-format.result k ps ++ c.loop.rest.now) all ∙ sym i.bytes)
+    (trails ps c.loop.rest.now whole.right (not_eq_zero _ (sym c.is_empty.ensures ∙ c.if-not-is_empty.true)))
+
+pub new-requires : goal.new-requires
+new-requires c =
+    let i = c.loop.invariant in
+    let n = c.number_at-count.result.0 in
+    let ps = views c.format-format.result c.loop.parts.items in
+    let all : length ps ≡ n = let b = c.loop-test.false in let u = c.loop.auto.counter-end in let l = i.len in omega (arith, length-map c.loop.parts.items (view c.format-format.result)) in
+    (whole_is_image ps (at_all c.loop.reader c.format-format.result n ps i.stands all).right).layout
 
 pub returns : goal.returns
 returns c =
-    let g = c.in_ok-parts.ensures in
-    rw c.new.ensures (whole _ _ _ _ _ _ c.split_at.ensures.front c.split_at.ensures.back (c.if-not-is_magic.ensures.0 refl) c.number_at-count.ensures.front (omega arith) (omega arith) g.0 g.1 (length-map _ _ ∙ g.2))
+    let i = c.loop.invariant in
+    let n = c.number_at-count.result.0 in
+    let ps = views c.format-format.result c.loop.parts.items in
+    let all : length ps ≡ n = let b = c.loop-test.false in let u = c.loop.auto.counter-end in let l = i.len in omega (arith, length-map c.loop.parts.items (view c.format-format.result)) in
+    let whole = at_all c.loop.reader c.format-format.result n ps i.stands all in
+    let of : format_of ps ≡ c.format-format.result = same_format ps (views_have c.format-format.result c.loop.parts.items) whole.right.at_least in
+    let same : c.args.bytes.now ≡ head c.format-format.result n ps = no_rest c.args.bytes.now (head c.format-format.result n ps) c.loop.rest.now i.bytes (eqb-true _ _ (sym c.is_empty.ensures ∙ c.if-not-is_empty.false)) in
+    rw c.new.ensures (subst (λ (l : List ℕ). IsImage l ps) (ap (λ (f : Format). head f (length ps) ps) of ∙ ap (λ (k : ℕ). head c.format-format.result k ps) all ∙ sym same) (whole_is_image ps whole.right))

@@ -1,7 +1,8 @@
 use Rattle.std.proofs.Common.{◌≡◌, ◌++◌, take}
 use Rattle.std.specs.List.{flat_map}
+use Rattle.sfi_image.specs.declared.format.Format.{Format}
 use Rattle.sfi_image.specs.Spelling.{views, part}
 use Rattle.sfi_image.proofs.writing.write_right.Given as goal
 
 abbrev pub invariant-loop-one : goal.invariant-loop-one
-invariant-loop-one l = l.bytes.items ≡ l.initial.bytes.items ++ flat_map part (views (take l.one-index l.parts))
+invariant-loop-one l = (f : Format) → l.bytes.items ≡ l.initial.bytes.items ++ flat_map part (views f (take l.one-index l.parts))

@@ -1,0 +1,109 @@
+-- The bytes of fronts that follow one another, and that what they hold is right.
+use Rattle.std.proofs.Common.{◌≡◌, ◌≢◌, ℕ, ◌≤◌, eqb, Bool, true, false, List, [], ◌∷◌, ◌++◌, length, refl, sym, ap, ◌∙◌, subst, arith, append_assoc, inl, inr, ◌⊎◌}
+use Rattle.std.specs.List.{AllPairs, flat_map}
+use Rattle.std.proofs.lemmas.Bool.{eqb-true, eqb-false}
+use Rattle.std.proofs.lemmas.Grind.{flat_map-append}
+use Rattle.std.proofs.lemmas.List.{append-nil}
+use Rattle.std.proofs.lemmas.List.Elements.{All-push}
+use Rattle.sfi_image.specs.declared.format.Format.{Format}
+use Rattle.sfi_image.specs.declared.part.Gate.{Gate}
+use Rattle.sfi_image.specs.declared.fields.Fields.{Fields}
+use Rattle.sfi_image.specs.Formats.{magic}
+use Rattle.sfi_image.specs.Spelling.{Part, number, fields, fields_of, gate, part}
+use Rattle.sfi_image.specs.Spans.{AreApart, spans, spans_of}
+use Rattle.sfi_image.specs.Parts.{IsRightPart, AreOf}
+use Rattle.sfi_image.specs.Fronts.{Front, front, head, IsHead, IsOpened, IsRightFront, part_of, behind_parts, behind_init, behind_code, behind_gates, Follows}
+use Rattle.sfi_image.specs.Fronts.Front.{Empty, Named, Counted, InGates, InCode, InInit, Whole}
+use Rattle.sfi_image.proofs.FieldTests.{right_part}
+use Rattle.sfi_image.proofs.Views.{same_format}
+use Rattle.sfi_image.proofs.PartLists.{spans_push}
+
+-- a test on two numbers went one way
+pub same_or_not : (a b : ℕ) → ((eqb a b ≡ true) × (a ≡ b)) ⊎ ((eqb a b ≡ false) × (a ≢ b))
+same_or_not a b = by (eqb a b) refl
+  where
+    by : (v : Bool) → eqb a b ≡ v → ((eqb a b ≡ true) × (a ≡ b)) ⊎ ((eqb a b ≡ false) × (a ≢ b))
+    by true e = inl (e, eqb-true a b e)
+    by false e = inr (e, eqb-false a b e)
+
+-- ---- bytes
+
+pub parts_bytes : (format : Format) (n : ℕ) (ps : List Part) → 1 ≤ n → AreOf format ps → front (behind_parts format n ps) ≡ head format n ps
+parts_bytes format n ps some are =
+    elim (same_or_not (length ps) n) [
+      | inl h ↦ rw (h.0) (ap (λ (g : Format). head g (length ps) ps) (same_format ps are (omega (arith, h.1))) ∙ ap (λ (k : ℕ). head format k ps) h.1)
+      | inr h ↦ rw (h.0) refl
+    ]
+
+-- a sandbox of these has those fields
+pub fields_again : (f : Fields) (gs : List Gate) (code init : List ℕ) → length gs ≡ f.gate_count → length code ≡ f.code_size → length init ≡ f.init_len
+    → fields_of (part_of f gs code init) ≡ f
+fields_again f gs code init g c i = rw (g, c, i) refl
+
+pub head_push : (format : Format) (n : ℕ) (ps : List Part) (p : Part) → head format n (ps ++ p ∷ []) ≡ head format n ps ++ part p
+head_push format n ps p =
+    let e : flat_map part (ps ++ p ∷ []) ≡ flat_map part ps ++ part p = flat_map-append part ps (p ∷ []) ∙ ap (λ (t : List ℕ). flat_map part ps ++ t) (append-nil (part p)) in
+    rw e (simp append_assoc)
+
+pub part_bytes : (f : Fields) (gs : List Gate) (code init : List ℕ) → length gs ≡ f.gate_count → length code ≡ f.code_size → length init ≡ f.init_len
+    → part (part_of f gs code init) ≡ fields f ++ (flat_map gate gs ++ (code ++ init))
+unfolding part
+part_bytes f gs code init g c i = ap (λ (h : Fields). fields h ++ (flat_map gate gs ++ (code ++ init))) (fields_again f gs code init g c i)
+
+pub init_bytes : (n : ℕ) (ps : List Part) (f : Fields) (gs : List Gate) (code init : List ℕ) → IsHead f.format n ps → length gs ≡ f.gate_count → length code ≡ f.code_size
+    → front (behind_init n ps f gs code init) ≡ head f.format n ps ++ (fields f ++ (flat_map gate gs ++ (code ++ init)))
+init_bytes n ps f gs code init before g c =
+    elim (same_or_not (length init) f.init_len) [
+      | inl h ↦ rw (h.0) (
+          parts_bytes f.format n (ps ++ part_of f gs code init ∷ []) before.at_least (All-push (λ (q : Part). q.format ≡ f.format) ps (part_of f gs code init) before.one_format refl) ∙ head_push f.format n ps (part_of f gs code init)
+          ∙ ap (λ (t : List ℕ). head f.format n ps ++ t) (part_bytes f gs code init g c h.1))
+      | inr h ↦ rw (h.0) refl
+    ]
+
+pub code_bytes : (n : ℕ) (ps : List Part) (f : Fields) (gs : List Gate) (code : List ℕ) → IsHead f.format n ps → length gs ≡ f.gate_count
+    → front (behind_code n ps f gs code) ≡ head f.format n ps ++ (fields f ++ (flat_map gate gs ++ code))
+code_bytes n ps f gs code before g =
+    elim (same_or_not (length code) f.code_size) [
+      | inl h ↦ rw (h.0) (init_bytes n ps f gs code [] before g h.1 ∙ ap (λ (t : List ℕ). head f.format n ps ++ (fields f ++ (flat_map gate gs ++ t))) (append-nil code))
+      | inr h ↦ rw (h.0) refl
+    ]
+
+pub gates_bytes : (n : ℕ) (ps : List Part) (f : Fields) (gs : List Gate) → front (behind_gates n ps f gs) ≡ head f.format n ps ++ (fields f ++ flat_map gate gs)
+gates_bytes n ps f gs =
+    elim (same_or_not (length gs) f.gate_count) [
+      | inl h ↦ rw (h.0) (ap (λ (t : List ℕ). head f.format n ps ++ (fields f ++ t)) (append-nil (flat_map gate gs)))
+      | inr h ↦ rw (h.0) refl
+    ]
+
+pub flat_gate : (gs : List Gate) (g : Gate) → flat_map gate (gs ++ g ∷ []) ≡ flat_map gate gs ++ gate g
+flat_gate gs g = flat_map-append gate gs (g ∷ []) ∙ ap (λ (t : List ℕ). flat_map gate gs ++ t) (append-nil (gate g))
+
+-- a front that follows another is that with the bytes
+pub following_bytes : (x : Front) (s : List ℕ) (y : Front) → IsRightFront x → Follows x s y → front y ≡ front x ++ s
+following_bytes Empty s y right h = rw (h.2) (sym h.1)
+following_bytes (Named format) s y right h = rw (h.2, h.1) (ap (λ (t : List ℕ). magic format ++ t) (append-nil (number h.0)))
+following_bytes (Counted format n ps) s y right h =
+    rw (h.3, h.2, ← h.1) (gates_bytes n ps h.0 [] ∙ ap (λ (t : List ℕ). head h.0.format n ps ++ t) (append-nil (fields h.0)))
+following_bytes (InGates n ps f gs) s y right h =
+    rw (h.2, h.1) (gates_bytes n ps f (gs ++ h.0 ∷ []) ∙ ap (λ (t : List ℕ). head f.format n ps ++ (fields f ++ t)) (flat_gate gs h.0) ∙ simp append_assoc)
+following_bytes (InCode n ps f gs code) s y right h = rw h (code_bytes n ps f gs (code ++ s) right.0.before right.1 ∙ simp append_assoc)
+following_bytes (InInit n ps f gs code init) s y right h = rw h (init_bytes n ps f gs code (init ++ s) right.0.before right.1 right.2 ∙ simp append_assoc)
+following_bytes (Whole ps) s y right h = absurd h
+
+-- ---- a sandbox that is whole
+
+pub finished : (n : ℕ) (ps : List Part) (f : Fields) (gs : List Gate) (code init : List ℕ) → IsOpened n ps f gs
+    → length gs ≡ f.gate_count → length code ≡ f.code_size → length init ≡ f.init_len → IsHead f.format n (ps ++ part_of f gs code init ∷ [])
+finished n ps f gs code init opened g c i =
+    let p = part_of f gs code init in
+    let same = fields_again f gs code init g c i in
+    let both = right_part (spans ps) p f same opened.words opened.passed opened.gate_words opened.gates in
+    record {
+      at_least = opened.before.at_least;
+      at_most = opened.before.at_most;
+      one_format = All-push (λ (q : Part). q.format ≡ f.format) ps p opened.before.one_format refl;
+      right = record {
+        each = All-push IsRightPart ps p opened.before.right.each both.0;
+        apart = subst (AllPairs AreApart) (ap (λ (h : Fields). spans ps ++ spans_of h) (sym same) ∙ sym (spans_push ps p)) both.1;
+      };
+    }

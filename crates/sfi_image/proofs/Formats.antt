@@ -1,0 +1,33 @@
+-- What holds of each format.
+use Rattle.std.proofs.Common.{◌≡◌, ℕ, ◌+◌, ◌≤◌, List, ◌++◌, length, get_or, take, refl, ap, arith}
+use Rattle.sfi_image.specs.declared.format.Format.{Format}
+use Rattle.sfi_image.specs.declared.format.Format.TheVariants.{Sfi1, Sfi2}
+use Rattle.sfi_image.specs.Formats.{magic, code_most}
+
+-- no code region is larger than this
+pub code_at_most : (f : Format) → code_most f ≤ 1048576
+code_at_most Sfi1 = omega arith
+code_at_most Sfi2 = omega arith
+
+-- a magic is that of one format
+pub one_magic : (f g : Format) → magic f ≡ magic g → f ≡ g
+unfolding magic
+one_magic Sfi1 Sfi1 e = refl
+one_magic Sfi1 Sfi2 e = absurd (let last : 49 ≡ 50 = ap (λ (l : List ℕ). get_or l 3 0) e in omega arith)
+one_magic Sfi2 Sfi1 e = absurd (let last : 50 ≡ 49 = ap (λ (l : List ℕ). get_or l 3 0) e in omega arith)
+one_magic Sfi2 Sfi2 e = refl
+
+pub length-magic : (f : Format) (r : List ℕ) → length (magic f ++ r) ≡ 4 + length r
+unfolding magic
+length-magic Sfi1 r = omega arith
+length-magic Sfi2 r = omega arith
+
+pub length_of_magic : (f : Format) → length (magic f) ≡ 4
+unfolding magic
+length_of_magic Sfi1 = refl
+length_of_magic Sfi2 = refl
+
+pub take-magic : (f : Format) (r : List ℕ) → take 4 (magic f ++ r) ≡ magic f
+unfolding magic
+take-magic Sfi1 r = refl
+take-magic Sfi2 r = refl

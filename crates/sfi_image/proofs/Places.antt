@@ -1,0 +1,181 @@
+-- What a reader stands for, by what it reads next; and what its numbers are there.
+use Rattle.std.proofs.Common.{◌≡◌, ℕ, ◌+◌, ◌-◌, ◌*◌, ◌^◌, ◌<◌, ◌≤◌, List, [], ◌∷◌, length, drop, refl, sym, ap, ◌∙◌, subst, arith, inl, inr}
+use Rattle.std.specs.List.{All, AllPairs}
+use Rattle.std.proofs.lemmas.List.{length-map}
+use Rattle.std.proofs.lemmas.List.Elements.{All-append, All-head, All-tail}
+use Rattle.sfi_image.specs.declared.format.Format.{Format}
+use Rattle.sfi_image.specs.declared.part.Gate.{Gate}
+use Rattle.sfi_image.specs.declared.fields.Fields.{Fields}
+use Rattle.sfi_image.specs.declared.want.Next.TheVariants as next
+use Rattle.sfi_image.specs.declared.want.Want.TheVariants as wants
+use Rattle.sfi_image.specs.Spelling.{Part, fields_of}
+use Rattle.sfi_image.specs.Spans.{AreApart, IsBounded, spans, spans_of}
+use Rattle.sfi_image.specs.Parts.{IsRightPart}
+use Rattle.sfi_image.specs.Fronts.{Front, want_of}
+use Rattle.sfi_image.specs.Fronts.Front.{Empty, Named, Counted, InGates, InCode, InInit, Whole}
+use Rattle.sfi_image.specs.Keeping.{Kept, StandsFor, IsReader, is_first}
+use Rattle.sfi_image.proofs.PartLists.{right_bounded}
+use Rattle.sfi_image.proofs.Standing.{region, first_is}
+
+by_fields : (r : Kept) (x : Front) → StandsFor r x → r.next ≡ next.Fields → (format : Format) × (n : ℕ) × (ps : List Part) × StandsFor r (Counted format n ps)
+by_fields r Empty h is = let k = h.kept.0 in absurd cc
+by_fields r (Named format) h is = let k = h.kept.0 in absurd cc
+by_fields r (Counted format n ps) h is = (format, n, ps, h)
+by_fields r (InGates n ps f gs) h is = let k = h.kept.0 in absurd cc
+by_fields r (InCode n ps f gs code) h is = let k = h.kept.0 in absurd cc
+by_fields r (InInit n ps f gs code init) h is = let k = h.kept.0 in absurd cc
+by_fields r (Whole ps) h is = let k = h.kept.0 in absurd cc
+
+pub at_fields : (r : Kept) → IsReader r → r.next ≡ next.Fields → (format : Format) × (n : ℕ) × (ps : List Part) × StandsFor r (Counted format n ps)
+at_fields r (inl stopped) is = absurd cc
+at_fields r (inr x) is = by_fields r x.0 x.1 is
+
+by_gates : (r : Kept) (x : Front) → StandsFor r x → r.next ≡ next.Gate → (n : ℕ) × (ps : List Part) × (f : Fields) × (gs : List Gate) × StandsFor r (InGates n ps f gs)
+by_gates r Empty h is = let k = h.kept.0 in absurd cc
+by_gates r (Named format) h is = let k = h.kept.0 in absurd cc
+by_gates r (Counted format n ps) h is = let k = h.kept.0 in absurd cc
+by_gates r (InGates n ps f gs) h is = (n, ps, f, gs, h)
+by_gates r (InCode n ps f gs code) h is = let k = h.kept.0 in absurd cc
+by_gates r (InInit n ps f gs code init) h is = let k = h.kept.0 in absurd cc
+by_gates r (Whole ps) h is = let k = h.kept.0 in absurd cc
+
+pub at_gates : (r : Kept) → IsReader r → r.next ≡ next.Gate → (n : ℕ) × (ps : List Part) × (f : Fields) × (gs : List Gate) × StandsFor r (InGates n ps f gs)
+at_gates r (inl stopped) is = absurd cc
+at_gates r (inr x) is = by_gates r x.0 x.1 is
+
+by_code : (r : Kept) (x : Front) → StandsFor r x → r.next ≡ next.Code → (n : ℕ) × (ps : List Part) × (f : Fields) × (gs : List Gate) × (code : List ℕ) × StandsFor r (InCode n ps f gs code)
+by_code r Empty h is = let k = h.kept.0 in absurd cc
+by_code r (Named format) h is = let k = h.kept.0 in absurd cc
+by_code r (Counted format n ps) h is = let k = h.kept.0 in absurd cc
+by_code r (InGates n ps f gs) h is = let k = h.kept.0 in absurd cc
+by_code r (InCode n ps f gs code) h is = (n, ps, f, gs, code, h)
+by_code r (InInit n ps f gs code init) h is = let k = h.kept.0 in absurd cc
+by_code r (Whole ps) h is = let k = h.kept.0 in absurd cc
+
+pub at_code : (r : Kept) → IsReader r → r.next ≡ next.Code → (n : ℕ) × (ps : List Part) × (f : Fields) × (gs : List Gate) × (code : List ℕ) × StandsFor r (InCode n ps f gs code)
+at_code r (inl stopped) is = absurd cc
+at_code r (inr x) is = by_code r x.0 x.1 is
+
+by_init : (r : Kept) (x : Front) → StandsFor r x → r.next ≡ next.Init → (n : ℕ) × (ps : List Part) × (f : Fields) × (gs : List Gate) × (code : List ℕ) × (init : List ℕ) × StandsFor r (InInit n ps f gs code init)
+by_init r Empty h is = let k = h.kept.0 in absurd cc
+by_init r (Named format) h is = let k = h.kept.0 in absurd cc
+by_init r (Counted format n ps) h is = let k = h.kept.0 in absurd cc
+by_init r (InGates n ps f gs) h is = let k = h.kept.0 in absurd cc
+by_init r (InCode n ps f gs code) h is = let k = h.kept.0 in absurd cc
+by_init r (InInit n ps f gs code init) h is = (n, ps, f, gs, code, init, h)
+by_init r (Whole ps) h is = let k = h.kept.0 in absurd cc
+
+pub at_init : (r : Kept) → IsReader r → r.next ≡ next.Init → (n : ℕ) × (ps : List Part) × (f : Fields) × (gs : List Gate) × (code : List ℕ) × (init : List ℕ) × StandsFor r (InInit n ps f gs code init)
+at_init r (inl stopped) is = absurd cc
+at_init r (inr x) is = by_init r x.0 x.1 is
+
+-- ---- numbers
+
+all_bounded : (ps : List Part) → All IsRightPart ps → All IsBounded (spans ps)
+all_bounded [] each = λ k d h. absurd (omega arith)
+all_bounded (p ∷ ps) each = All-append IsBounded (spans_of (fields_of p)) (spans ps) (right_bounded p (All-head IsRightPart p ps each)) (all_bounded ps (All-tail IsRightPart p ps each))
+
+length_spans : (ps : List Part) → length (spans ps) ≡ 2 * length ps
+length_spans [] = refl
+length_spans (p ∷ ps) = omega (arith, length_spans ps)
+
+-- before the fields of a sandbox
+pub record FieldsNext (r : Kept) : Type 0 where
+  pub bounded : All IsBounded r.spans
+  pub apart : AllPairs AreApart r.spans
+  pub room : length r.spans + 2 ≤ 32
+  pub more : r.begun < r.count
+  pub few : r.count ≤ 16
+
+pub fields_next : (r : Kept) → IsReader r → r.next ≡ next.Fields → FieldsNext r
+fields_next r reader is =
+    let at = at_fields r reader is in
+    let right = at.3.right in
+    let k = at.3.kept.1 in
+    record {
+      bounded = subst (All IsBounded) (sym k.spans) (all_bounded at.2 right.0.right.each);
+      apart = subst (AllPairs AreApart) (sym k.spans) right.0.right.apart;
+      room = omega (arith, ap length k.spans, length_spans at.2, right.0.at_most, right.1);
+      more = omega (arith, k.begun, k.count, right.1);
+      few = omega (arith, k.count, right.0.at_most);
+    }
+
+-- before a bundle
+pub record CodeNext (r : Kept) : Type 0 where
+  pub begun : 1 ≤ r.begun
+  pub inside : r.code_read + 16 ≤ r.fields.code_size
+  pub address : r.fields.code_base + r.code_read < 2 ^ 32
+  pub passed : r.passed ≤ length r.gates
+  pub few : length r.gates ≤ 64
+  pub size : r.fields.code_size ≤ 1048576
+  pub not_more : r.begun ≤ r.count
+
+pub code_next : (r : Kept) → IsReader r → r.next ≡ next.Code → CodeNext r
+code_next r reader is =
+    let at = at_code r reader is in
+    let f = at.2 in
+    let right = at.5.right in
+    let k = at.5.kept.1 in
+    let reg = region (spans at.1) f right.0.words right.0.passed in
+    let even = right.2 in
+    let less = right.3 in
+    let size = reg.size_is in
+    let size' : r.fields.code_size ≡ f.code_size = ap (λ (y : Fields). y.code_size) k.head.fields in
+    let base' : r.fields.code_base ≡ f.code_base = ap (λ (y : Fields). y.code_base) k.head.fields in
+    let read = k.code_read in
+    record {
+      begun = omega (arith, k.head.begun);
+      inside = omega arith;
+      address = omega (arith, reg.end);
+      passed = k.passed;
+      few = omega (arith, ap length k.head.gates, length-map at.3 (λ (g : Gate). g.address), right.1, reg.gate_count);
+      size = omega (arith, reg.code_size);
+      not_more = omega (arith, k.head.begun, k.head.count, right.0.more);
+    }
+
+-- before a gate
+pub record GateNext (r : Kept) : Type 0 where
+  pub more : length r.gates < r.fields.gate_count
+  pub few : r.fields.gate_count ≤ 64
+
+pub gate_next : (r : Kept) → IsReader r → r.next ≡ next.Gate → GateNext r
+gate_next r reader is =
+    let at = at_gates r reader is in
+    let right = at.4.right in
+    let k = at.4.kept.1 in
+    let reg = region (spans at.1) at.2 right.0.words right.0.passed in
+    let count' : r.fields.gate_count ≡ at.2.gate_count = ap (λ (y : Fields). y.gate_count) k.fields in
+    record {
+      more = omega (arith, ap length k.gates, length-map at.3 (λ (g : Gate). g.address), right.1);
+      few = omega (arith, reg.gate_count);
+    }
+
+-- before first data bytes
+pub record InitNext (r : Kept) : Type 0 where
+  pub less : r.init_read < r.fields.init_len
+  pub few : r.fields.init_len ≤ 1048576
+
+pub init_next : (r : Kept) → IsReader r → r.next ≡ next.Init → InitNext r
+init_next r reader is =
+    let at = at_init r reader is in
+    let right = at.6.right in
+    let k = at.6.kept in
+    let reg = region (spans at.1) at.2 right.0.words right.0.passed in
+    let len' : r.fields.init_len ≡ at.2.init_len = ap (λ (y : Fields). y.init_len) k.1.fields in
+    record { less = omega (arith, k.2, right.3); few = omega (arith, reg.init_len) }
+
+-- ---- what is wanted
+
+pub wants_bundle : (r : Kept) (x : Front) → StandsFor r x → r.next ≡ next.Code
+    → wants.Bundle (r.begun - 1) (r.fields.code_base + r.code_read) r.fields.format r.fields.code_base r.fields.code_size (is_first (drop r.passed r.gates) (r.fields.code_base + r.code_read)) ≡ want_of x
+wants_bundle r Empty h is = let k = h.kept.0 in absurd cc
+wants_bundle r (Named format) h is = let k = h.kept.0 in absurd cc
+wants_bundle r (Counted format n ps) h is = let k = h.kept.0 in absurd cc
+wants_bundle r (InGates n ps f gs) h is = let k = h.kept.0 in absurd cc
+wants_bundle r (InCode n ps f gs code) h is =
+    let k = h.kept.1 in
+    let begun : length ps + 1 - 1 ≡ length ps = omega arith in
+    let first = first_is (f.code_base + length code) (drop r.passed r.gates) k.rest.ahead_are ∙ k.rest.same (f.code_base + length code) (omega arith) in
+    rw (k.head.fields, k.head.begun, k.code_read, begun, first) refl
+wants_bundle r (InInit n ps f gs code init) h is = let k = h.kept.0 in absurd cc
+wants_bundle r (Whole ps) h is = let k = h.kept.0 in absurd cc

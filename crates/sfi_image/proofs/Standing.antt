@@ -1,0 +1,248 @@
+-- What a reader stands for behind each step.
+use Rattle.std.proofs.Common.{◌≡◌, ℕ, zero, suc, ◌+◌, ◌*◌, ◌%◌, ◌<◌, ◌≤◌, ◌==◌, Bool, true, false, ◌^◌, List, [], ◌∷◌, ◌++◌, length, map, drop, cond, refl, sym, ap, ◌∙◌, subst, arith, inl, inr, None}
+use Rattle.std.specs.List.{All, AllPairs}
+use Rattle.std.specs.Prelude.{◌||◌}
+use Rattle.std.proofs.lemmas.Bool.{eqb-true, eqb-false, ne_eqb}
+use Rattle.std.proofs.lemmas.List.{length_push, drop-drop}
+use Rattle.sfi_image.specs.declared.format.Format.{Format}
+use Rattle.sfi_image.specs.declared.part.Gate.{Gate}
+use Rattle.sfi_image.specs.declared.fields.Fields.{Fields}
+use Rattle.sfi_image.specs.declared.span.Span.{Span}
+use Rattle.sfi_image.specs.declared.want.Next.TheVariants as next
+use Rattle.sfi_image.specs.Spelling.{Part, number, AreFieldWords}
+use Rattle.sfi_image.specs.Formats.{magic}
+use Rattle.sfi_image.specs.Spans.{code_span, spans, spans_of}
+use Rattle.sfi_image.specs.Gates.{AreGates, is_gate_of}
+use Rattle.sfi_image.specs.Parts.{AreOf, AreRight}
+use Rattle.sfi_image.specs.Tests.{IsFirstFault, field_tests}
+use Rattle.sfi_image.specs.Fronts.{Front, IsHead, IsOpened, IsRightFront, part_of, behind_parts, behind_init, behind_code, behind_gates, Follows}
+use Rattle.sfi_image.specs.Fronts.Front.{Empty, Named, Counted, InGates, InCode, InInit, Whole}
+use Rattle.sfi_image.specs.Keeping.{Kept, KeepsHead, KeepsFields, StandsFor, KeepsCode, IsReader, Leads, next_part, next_init, next_code, next_gate, AreAhead, AreRest, is_first, is_one_of}
+use Rattle.sfi_image.proofs.FieldTests.{all_pass}
+use Rattle.sfi_image.proofs.PartLists.{spans_push}
+use Rattle.sfi_image.proofs.Bundles.{whole_bundles}
+use Rattle.sfi_image.proofs.Formats.{code_at_most}
+use Rattle.sfi_image.proofs.Following.{same_or_not, fields_again, finished, following_bytes}
+use Rattle.sfi_image.proofs.Views.{same_format}
+
+-- one step, from where it leads
+pub leads : (x : Front) (s : List ℕ) (r : Kept) (y : Front) → IsRightFront x → Follows x s y → StandsFor r y → Leads x s r
+leads x s r y right follows stands = record { to = y; stands = stands; follows = follows; bytes = following_bytes x s y right follows }
+
+-- a reader behind a step is one
+pub still_reader : (x : Front) (s : List ℕ) (r : Kept) → Leads x s r → IsReader r
+still_reader x s r l = inr (l.to, l.stands)
+
+-- ---- magic and count
+
+pub magic_leads : (old new : Kept) (x : Front) (s : List ℕ) (format : Format) → StandsFor old x → old.next ≡ next.Magic → s ≡ magic format
+    → new.next ≡ next.Count → new.spans ≡ old.spans → new.fields.format ≡ format → Leads x s new
+magic_leads old new Empty s format h is e to spans_are kind =
+    leads Empty s new (Named format) tt (format, e, refl) (record { right = tt; kept = (to, spans_are ∙ h.kept.1, kind) })
+magic_leads old new (Named k') s format h is e to spans_are kind = let k = h.kept.0 in absurd cc
+magic_leads old new (Counted k' n ps) s format h is e to spans_are kind = let k = h.kept.0 in absurd cc
+magic_leads old new (InGates n ps f gs) s format h is e to spans_are kind = let k = h.kept.0 in absurd cc
+magic_leads old new (InCode n ps f gs code) s format h is e to spans_are kind = let k = h.kept.0 in absurd cc
+magic_leads old new (InInit n ps f gs code init) s format h is e to spans_are kind = let k = h.kept.0 in absurd cc
+magic_leads old new (Whole ps) s format h is e to spans_are kind = let k = h.kept.0 in absurd cc
+
+none_of : (format : Format) → AreOf format []
+none_of format = λ k d h. absurd (omega arith)
+
+none_right : AreRight []
+none_right = record { each = λ k d h. absurd (omega arith); apart = λ i j d h e. absurd (omega arith) }
+
+pub count_leads : (old : Kept) (x : Front) (s : List ℕ) (n : ℕ) → StandsFor old x → old.next ≡ next.Count → s ≡ number n → 1 ≤ n → n ≤ 16
+    → Leads x s (record old { next = next.Fields; count = n; begun = 0 })
+count_leads old Empty s n h is e low high = let k = h.kept.0 in absurd cc
+count_leads old (Named format) s n h is e low high =
+    leads (Named format) s _ (Counted format n []) tt (n, e, refl) (record {
+      right = (record { at_least = low; at_most = high; one_format = none_of format; right = none_right }, omega arith);
+      kept = (refl, record { of = h.kept.2; count = refl; begun = refl; spans = h.kept.1 });
+    })
+count_leads old (Counted format n' ps) s n h is e low high = let k = h.kept.0 in absurd cc
+count_leads old (InGates n' ps f gs) s n h is e low high = let k = h.kept.0 in absurd cc
+count_leads old (InCode n' ps f gs code) s n h is e low high = let k = h.kept.0 in absurd cc
+count_leads old (InInit n' ps f gs code init) s n h is e low high = let k = h.kept.0 in absurd cc
+count_leads old (Whole ps) s n h is e low high = let k = h.kept.0 in absurd cc
+
+-- ---- gates ahead
+
+pub apart : (a b : ℕ) → a < b → a % 16 ≡ 0 → b % 16 ≡ 0 → a + 16 ≤ b
+apart a b h e f = omega arith
+
+none_before : (at a : ℕ) (as' : List ℕ) → a < at → AreAhead at as' → is_one_of as' a ≡ false
+none_before at a [] h ahead = refl
+none_before at a (g ∷ more) h ahead =
+    let low = ahead.0 in
+    rw (ne_eqb g a (λ e. omega arith)) (none_before (g + 16) a more (omega arith) ahead.2)
+
+pub first_is : (at : ℕ) (as' : List ℕ) → AreAhead at as' → is_first as' at ≡ is_one_of as' at
+first_is at [] ahead = refl
+first_is at (g ∷ more) ahead = rw (none_before (g + 16) at more (let low = ahead.0 in omega arith) ahead.2) (or_false (g == at))
+  where
+    or_false : (b : Bool) → b ≡ (b || false)
+    or_false true = refl
+    or_false false = refl
+
+ahead_taken : (at : ℕ) (as' : List ℕ) → is_first as' at ≡ true → AreAhead at as' → AreAhead (at + 16) (drop 1 as')
+ahead_taken at [] e ahead = tt
+ahead_taken at (g ∷ more) e ahead = subst (λ a. AreAhead (a + 16) more) (eqb-true g at e) ahead.2
+
+ahead_kept : (at : ℕ) (as' : List ℕ) → is_first as' at ≡ false → at % 16 ≡ 0 → AreAhead at as' → AreAhead (at + 16) as'
+ahead_kept at [] e even ahead = tt
+ahead_kept at (g ∷ more) e even ahead =
+    let low = ahead.0 in
+    let other = eqb-false g at e in
+    let low' : at < g = omega arith in
+    (apart at g low' even ahead.1, ahead.1, ahead.2)
+
+same_taken : (at a : ℕ) (as' : List ℕ) → is_first as' at ≡ true → at < a → is_one_of (drop 1 as') a ≡ is_one_of as' a
+same_taken at a [] e h = refl
+same_taken at a (g ∷ more) e h = rw (ne_eqb g a (λ f. let same = eqb-true g at e in omega arith)) refl
+
+some_first : (k : ℕ) (as' : List ℕ) (at : ℕ) → is_first (drop k as') at ≡ true → k + 1 ≤ length as'
+some_first zero [] at e = absurd cc
+some_first zero (g ∷ more) at e = omega arith
+some_first (suc k) [] at e = absurd cc
+some_first (suc k) (g ∷ more) at e = omega (arith, some_first k more at e)
+
+-- behind the bundle at that address
+pub rest_behind : (at : ℕ) (gs : List Gate) (as' : List ℕ) (k : ℕ) → at % 16 ≡ 0 → k ≤ length as' → AreRest at gs (drop k as')
+    → (cond (is_first (drop k as') at) (k + 1) k ≤ length as') × AreRest (at + 16) gs (drop (cond (is_first (drop k as') at) (k + 1) k) as')
+rest_behind at gs as' k even le rest = by (is_first (drop k as') at) refl
+  where
+    by : (b : Bool) → is_first (drop k as') at ≡ b → (cond b (k + 1) k ≤ length as') × AreRest (at + 16) gs (drop (cond b (k + 1) k) as')
+    by true e =
+        let one : drop 1 (drop k as') ≡ drop (k + 1) as' = drop-drop 1 k as' in (
+          some_first k as' at e,
+          subst (AreRest (at + 16) gs) one (record {
+            ahead_are = ahead_taken at (drop k as') e rest.ahead_are;
+            same = λ a h. same_taken at a (drop k as') e (omega arith) ∙ rest.same a (omega arith);
+          }),
+        )
+    by false e = (
+      le,
+      record {
+        ahead_are = ahead_kept at (drop k as') e even rest.ahead_are;
+        same = λ a h. rest.same a (omega arith);
+      },
+    )
+
+all_ahead : (region : Span) (at : ℕ) (gs : List Gate) → All (λ g. at ≤ g.address) gs → All (λ g. g.address % 16 ≡ 0) gs
+    → AllPairs (λ g h. g.address < h.address) gs → AreAhead at (map (λ g. g.address) gs)
+all_ahead region at [] low even up = tt
+all_ahead region at (g ∷ gs) low even up = (
+  low 0 g (omega arith),
+  even 0 g (omega arith),
+  all_ahead region (g.address + 16) gs (λ k d h. apart g.address _ (up 0 (suc k) d (omega arith) (omega arith)) (even 0 g (omega arith)) (even (suc k) d (omega arith)))
+      (λ k d h. even (suc k) d (omega arith)) (λ i j d h e. up (suc i) (suc j) d (omega arith) (omega arith)),
+)
+
+same_addresses : (gs : List Gate) (a : ℕ) → is_one_of (map (λ g. g.address) gs) a ≡ is_gate_of gs a
+same_addresses [] a = refl
+same_addresses (g ∷ gs) a = rw (same_addresses gs a) refl
+
+-- before the first bundle all gates are ahead
+pub all_rest : (f : Fields) (gs : List Gate) → AreGates (code_span f) gs → AreRest (f.code_base + 0) gs (drop 0 (map (λ g. g.address) gs))
+all_rest f gs are = record {
+  ahead_are = all_ahead (code_span f) (f.code_base + 0) gs (λ k d h. let from = (are.starts k d h).held.0 in omega arith) (λ k d h. (are.starts k d h).aligned) are.ascending;
+  same = λ a h. same_addresses gs a;
+}
+
+-- ---- the code region
+
+pub record Region (f : Fields) : Type 0 where
+  pub bundles : ℕ
+  pub size_is : f.code_size ≡ 16 * bundles
+  pub some : 256 ≤ f.code_size
+  pub base : ℕ
+  pub base_is : f.code_base ≡ 16 * base
+  pub end : f.code_base + f.code_size ≤ 2 ^ 32
+  pub init_len : f.init_len ≤ 1048576
+  pub gate_count : f.gate_count ≤ 64
+  pub code_size : f.code_size ≤ 1048576
+
+pub region : (before : List Span) (f : Fields) → AreFieldWords f → IsFirstFault before f field_tests None → Region f
+region before f words passed =
+    let all = all_pass before f field_tests passed in
+    let w = whole_bundles f.format f.code_base f.code_size words.code_base all.0 in
+    record {
+      bundles = w.0;
+      size_is = w.2;
+      some = all.0.at_least;
+      base = w.1;
+      base_is = w.3;
+      end = w.4;
+      init_len = omega (arith, all.1.1.1.1.1.0, all.1.0.at_most);
+      gate_count = all.1.1.1.1.0;
+      code_size = omega (arith, all.0.at_most, code_at_most f.format);
+    }
+
+-- ---- where whole sandboxes, first data bytes, code and gates lead
+
+pub parts_stand : (r : Kept) (format : Format) (n : ℕ) (ps : List Part) → IsHead format n ps → length ps ≤ n → KeepsHead r format n ps → r.next ≡ next_part (length ps) n
+    → StandsFor r (behind_parts format n ps)
+parts_stand r format n ps h le k is =
+    elim (same_or_not (length ps) n) [
+      | inl e ↦
+          let of = same_format ps h.one_format (let some = h.at_least in omega (arith, e.1)) in
+          rw (e.0) (record {
+            right = subst (λ (g : Format). IsHead g (length ps) ps) (sym of) (subst (λ (m : ℕ). IsHead format m ps) (sym e.1) h);
+            kept = (rw (e.0) at is, tt);
+          })
+      | inr e ↦ rw (e.0) (record { right = (h, omega (arith, e.1)); kept = (rw (e.0) at is, k) })
+    ]
+
+pub init_stand : (r : Kept) (n : ℕ) (ps : List Part) (f : Fields) (gs : List Gate) (code init : List ℕ) → IsOpened n ps f gs → length gs ≡ f.gate_count
+    → length code ≡ f.code_size → length init ≤ f.init_len → KeepsFields r n ps f gs → r.init_read ≡ length init
+    → r.next ≡ next_init (length init) f.init_len (length ps + 1) n → StandsFor r (behind_init n ps f gs code init)
+init_stand r n ps f gs code init opened g c le k read is =
+    elim (same_or_not (length init) f.init_len) [
+      | inl e ↦
+          let p = part_of f gs code init in
+          let len = length_push ps p in
+          let fin = finished n ps f gs code init opened g c e.1 in
+          let more = opened.more in
+          rw (e.0) (parts_stand r f.format n (ps ++ p ∷ []) fin (omega (arith, len, more))
+          (record {
+            of = ap (λ (h : Fields). h.format) k.fields;
+            count = k.count;
+            begun = k.begun ∙ sym len;
+            spans = k.spans ∙ ap (λ (h : Fields). spans ps ++ spans_of h) (sym (fields_again f gs code init g c e.1)) ∙ sym (spans_push ps p);
+          })
+          (rw (len) (rw (e.0) at is)))
+      | inr e ↦ rw (e.0) (record { right = (opened, g, c, omega (arith, e.1)); kept = (rw (e.0) at is, k, read) })
+    ]
+
+pub code_stand : (r : Kept) (n : ℕ) (ps : List Part) (f : Fields) (gs : List Gate) (code : List ℕ) → IsOpened n ps f gs → length gs ≡ f.gate_count
+    → length code % 16 ≡ 0 → length code ≤ f.code_size → KeepsCode r n ps f gs code
+    → r.next ≡ next_code (length code) f.code_size f.init_len (length ps + 1) n → StandsFor r (behind_code n ps f gs code)
+code_stand r n ps f gs code opened g even le k is =
+    elim (same_or_not (length code) f.code_size) [
+      | inl e ↦ rw (e.0) (init_stand r n ps f gs code [] opened g e.1 (omega arith) k.head k.init_read (rw (e.0) at is))
+      | inr e ↦ rw (e.0) (record { right = (opened, g, even, omega (arith, e.1)); kept = (rw (e.0) at is, k) })
+    ]
+
+pub gates_stand : (r : Kept) (n : ℕ) (ps : List Part) (f : Fields) (gs : List Gate) → IsOpened n ps f gs → length gs ≤ f.gate_count → KeepsFields r n ps f gs
+    → r.passed ≡ 0 → r.code_read ≡ 0 → r.init_read ≡ 0 → r.next ≡ next_gate (length gs) f.gate_count → StandsFor r (behind_gates n ps f gs)
+gates_stand r n ps f gs opened le k passed code_read init_read is =
+    elim (same_or_not (length gs) f.gate_count) [
+      | inl e ↦
+          let reg = region (spans ps) f opened.words opened.passed in
+          let some = reg.some in
+          rw (e.0) (record {
+            right = (opened, e.1, refl, omega arith);
+            kept = (
+              rw (e.0) at is,
+              record {
+                head = k;
+                code_read = code_read;
+                init_read = init_read;
+                passed = omega (arith, passed);
+                rest = subst (λ (as' : List ℕ). AreRest (f.code_base + 0) gs as') (ap (λ (j : ℕ). drop j (map (λ (x : Gate). x.address) gs)) (sym passed) ∙ ap (drop r.passed) (sym k.gates)) (all_rest f gs opened.gates);
+              },
+            );
+          })
+      | inr e ↦ rw (e.0) (record { right = (opened, omega (arith, e.1)); kept = (rw (e.0) at is, k, passed, code_read, init_read) })
+    ]

@@ -1,0 +1,8 @@
+use Rattle.std.proofs.Common.{sym, ◌∙◌, ap}
+use Rattle.sfi_image.specs.Spelling.{format_of}
+use Rattle.sfi_image.proofs.Views.{format_is}
+use Rattle.sfi_image.proofs.image.Image.format.Goals as goal
+
+pub returns : goal.returns
+returns c =
+    sym (format_is c.self.inside.format c.self.inside.parts.items c.self.invariant.at_least_one) ∙ ap format_of c.self.view_is

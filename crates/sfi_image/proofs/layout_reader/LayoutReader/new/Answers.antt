@@ -1,0 +1,6 @@
+use Rattle.std.proofs.Common.{refl, inr}
+use Rattle.sfi_image.specs.Fronts.Front.{Empty}
+use Rattle.sfi_image.proofs.layout_reader.LayoutReader.new.Goals as goal
+
+pub invariant_of-result : goal.invariant_of-result
+invariant_of-result c = inr (Empty, record { right = tt; kept = (refl, c.new.ensures) })

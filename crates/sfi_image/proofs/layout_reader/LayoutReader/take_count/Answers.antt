@@ -1,0 +1,34 @@
+use Rattle.std.proofs.Common.{◌≡◌, refl, sym, subst, inl, inr, arith}
+use Rattle.sfi_image.specs.declared.want.Next.TheVariants as next
+use Rattle.sfi_image.specs.Spelling.{number}
+use Rattle.sfi_image.specs.Keeping.{Kept, StandsFor}
+use Rattle.sfi_image.specs.Reader.{kept}
+use Rattle.sfi_image.proofs.Standing.{count_leads, still_reader}
+use Rattle.sfi_image.proofs.Steps.{count_fault, no_rest}
+use Rattle.sfi_image.proofs.layout_reader.LayoutReader.take_count.Goals as goal
+use Rattle.sfi_image.proofs.layout_reader.LayoutReader.take_count.Goals.{then-count-lt1-via-then-count-lt1, then-count-lt1-via-else-count-lt1+then-count-gt16}
+
+pub returns-then-count-lt1-clause-takes : goal.returns-then-count-lt1-clause-takes
+returns-then-count-lt1-clause-takes c =
+    let e = no_rest c.args.bytes.now (number c.number_at-count.result.0) _ c.number_at-count.ensures.front (omega (arith, c.number_at-count.ensures.len, c.requires.len)) in (
+      refl,
+      λ x h. count_fault c.args.self.now x c.args.bytes.now c.number_at-count.result.0 h c.requires.next e c.number_at-count.ensures.word
+          (elim c.then-count-lt1.branch [ then-count-lt1-via-then-count-lt1 w ↦ (λ a b. omega arith) | then-count-lt1-via-else-count-lt1+then-count-gt16 w ↦ (λ a b. omega arith) ]),
+    )
+
+pub invariant_of-self-2 : goal.invariant_of-self-2
+invariant_of-self-2 c =
+    let old = kept c.self.inside in
+    let e = no_rest c.args.bytes.now (number c.number_at-count.result.0) _ c.number_at-count.ensures.front (omega (arith, c.number_at-count.ensures.len, c.requires.len)) in
+    let is : old.next ≡ next.Count = subst (λ (r : Kept). r.next ≡ next.Count) (sym c.self.view_is) c.requires.next in
+    elim c.self.invariant [
+      | inl stopped ↦ absurd cc
+      | inr x ↦ still_reader x.0 c.args.bytes.now _ (count_leads old x.0 c.args.bytes.now c.number_at-count.result.0 x.1 is e (omega arith) (omega arith))
+    ]
+
+pub returns-clause-takes : goal.returns-clause-takes
+returns-clause-takes c =
+    let old = kept c.self.inside in
+    let e = no_rest c.args.bytes.now (number c.number_at-count.result.0) _ c.number_at-count.ensures.front (omega (arith, c.number_at-count.ensures.len, c.requires.len)) in
+    let is : old.next ≡ next.Count = subst (λ (r : Kept). r.next ≡ next.Count) (sym c.self.view_is) c.requires.next in
+    λ x h. count_leads old x c.args.bytes.now c.number_at-count.result.0 (subst (λ (r : Kept). StandsFor r x) (sym c.self.view_is) h) is e (omega arith) (omega arith)

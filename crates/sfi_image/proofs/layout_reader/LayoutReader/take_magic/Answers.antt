@@ -1,0 +1,25 @@
+use Rattle.std.proofs.Common.{◌≡◌, refl, sym, subst, inl, inr}
+use Rattle.sfi_image.specs.declared.want.Next.TheVariants as next
+use Rattle.sfi_image.specs.Keeping.{Kept, StandsFor}
+use Rattle.sfi_image.specs.Reader.{kept}
+use Rattle.sfi_image.proofs.Standing.{magic_leads, still_reader}
+use Rattle.sfi_image.proofs.Steps.{magic_fault}
+use Rattle.sfi_image.proofs.layout_reader.LayoutReader.take_magic.Goals as goal
+
+pub returns-in_default-clause-takes : goal.returns-in_default-clause-takes
+returns-in_default-clause-takes c = (refl, λ x h. magic_fault c.args.self.now x c.args.bytes.now h c.requires.next c.requires.len c.in_default.ensures.none)
+
+pub invariant_of-self-2 : goal.invariant_of-self-2
+invariant_of-self-2 c =
+    let old = kept c.self.inside in
+    let is : old.next ≡ next.Magic = subst (λ (r : Kept). r.next ≡ next.Magic) (sym c.self.view_is) c.requires.next in
+    elim c.self.invariant [
+      | inl stopped ↦ absurd cc
+      | inr x ↦ still_reader x.0 c.args.bytes.now _ (magic_leads old _ x.0 c.args.bytes.now c.in-Some.format x.1 is c.in-Some.ensures.found refl refl refl)
+    ]
+
+pub returns-clause-takes : goal.returns-clause-takes
+returns-clause-takes c =
+    let old = kept c.self.inside in
+    let is : old.next ≡ next.Magic = subst (λ (r : Kept). r.next ≡ next.Magic) (sym c.self.view_is) c.requires.next in
+    λ x h. magic_leads old _ x c.args.bytes.now c.in-Some.format (subst (λ (r : Kept). StandsFor r x) (sym c.self.view_is) h) is c.in-Some.ensures.found refl refl refl

@@ -1,0 +1,152 @@
+-- What a reader in fixed arrays keeps of the front that it has read.
+use Rattle.std.specs.Prelude.{◌≡◌, ℕ, ◌+◌, ◌-◌, ◌*◌, ◌%◌, ◌≤◌, ◌==◌, ◌||◌, ◌⊎◌, Bool, false, List, [], ◌∷◌, ◌++◌, length, map, drop, cond, Option, Some, None}
+use Rattle.sfi_image.specs.declared.format.Format.{Format}
+use Rattle.sfi_image.specs.declared.part.Gate.{Gate}
+use Rattle.sfi_image.specs.declared.fields.Fields.{Fields}
+use Rattle.sfi_image.specs.declared.span.Span.{Span}
+use Rattle.sfi_image.specs.declared.fault.LayoutFault.{LayoutFault}
+use Rattle.sfi_image.specs.declared.want.Next.{Next}
+use Rattle.sfi_image.specs.declared.want.Next.TheVariants as next
+use Rattle.sfi_image.specs.Spelling.{Part}
+use Rattle.sfi_image.specs.Spans.{spans, spans_of}
+use Rattle.sfi_image.specs.Gates.{is_gate_of}
+use Rattle.sfi_image.specs.Fronts.{Front, front, IsRightFront, Follows, IsFaultOnwards}
+use Rattle.sfi_image.specs.Fronts.Front.{Empty, Named, Counted, InGates, InCode, InInit, Whole}
+
+-- what is kept: what comes next, the count, how many sandboxes are begun, their spans, and of the last of these the fields, the gates' addresses, how many
+-- of them lie before the next bundle, and how many bytes were read of its code and of its first data bytes; the format of the fields is kept from the magic on
+pub record Kept : Type 0 where
+  pub next : Next
+  pub count : ℕ
+  pub begun : ℕ
+  pub spans : List Span
+  pub fields : Fields
+  pub gates : List ℕ
+  pub passed : ℕ
+  pub code_read : ℕ
+  pub init_read : ℕ
+
+-- ---- of which fronts
+
+pub record KeepsHead (r : Kept) (format : Format) (n : ℕ) (ps : List Part) : Type 0 where
+  pub of : r.fields.format ≡ format
+  pub count : r.count ≡ n
+  pub begun : r.begun ≡ length ps
+  pub spans : r.spans ≡ spans ps
+
+pub record KeepsFields (r : Kept) (n : ℕ) (ps : List Part) (f : Fields) (gs : List Gate) : Type 0 where
+  pub count : r.count ≡ n
+  pub begun : r.begun ≡ length ps + 1
+  pub spans : r.spans ≡ spans ps ++ spans_of f
+  pub fields : r.fields ≡ f
+  pub gates : r.gates ≡ map (λ g. g.address) gs
+
+-- the first of the addresses is that one
+abbrev pub is_first : List ℕ → ℕ → Bool
+is_first [] at = false
+is_first (a ∷ more) at = a == at
+
+-- addresses of bundles from that one on, in ascending order
+abbrev pub AreAhead : ℕ → List ℕ → Type 0
+AreAhead at [] = Unit {0}
+AreAhead at (a ∷ more) = (at ≤ a) × (a % 16 ≡ 0) × AreAhead (a + 16) more
+
+-- the address is one of these
+abbrev pub is_one_of : List ℕ → ℕ → Bool
+is_one_of [] at = false
+is_one_of (a ∷ more) at = (a == at) || is_one_of more at
+
+-- the addresses are those of the gates from that address on
+pub record AreRest (at : ℕ) (gs : List Gate) (ahead : List ℕ) : Type 0 where
+  pub ahead_are : AreAhead at ahead
+  pub same : (a : ℕ) → at ≤ a → is_one_of ahead a ≡ is_gate_of gs a
+
+pub record KeepsCode (r : Kept) (n : ℕ) (ps : List Part) (f : Fields) (gs : List Gate) (code : List ℕ) : Type 0 where
+  pub head : KeepsFields r n ps f gs
+  pub code_read : r.code_read ≡ length code
+  pub init_read : r.init_read ≡ 0
+  pub passed : r.passed ≤ length r.gates
+  pub rest : AreRest (f.code_base + length code) gs (drop r.passed r.gates)
+
+abbrev pub Keeps : Kept → Front → Type 0
+Keeps r Empty = (r.next ≡ next.Magic) × (r.spans ≡ [])
+Keeps r (Named format) = (r.next ≡ next.Count) × (r.spans ≡ []) × (r.fields.format ≡ format)
+Keeps r (Counted format n ps) = (r.next ≡ next.Fields) × KeepsHead r format n ps
+Keeps r (InGates n ps f gs) = (r.next ≡ next.Gate) × KeepsFields r n ps f gs × (r.passed ≡ 0) × (r.code_read ≡ 0) × (r.init_read ≡ 0)
+Keeps r (InCode n ps f gs code) = (r.next ≡ next.Code) × KeepsCode r n ps f gs code
+Keeps r (InInit n ps f gs code init) = (r.next ≡ next.Init) × KeepsFields r n ps f gs × (r.init_read ≡ length init)
+Keeps r (Whole ps) = (r.next ≡ next.End) × Unit {0}
+
+-- the reader has read that front, and all of it passed its tests
+pub record StandsFor (r : Kept) (x : Front) : Type 0 where
+  pub right : IsRightFront x
+  pub kept : Keeps r x
+
+-- each reader stands for a front, or has met a fault
+abbrev pub IsReader : Kept → Type 0
+IsReader r = (r.next ≡ next.Nothing) ⊎ ((x : Front) × StandsFor r x)
+
+-- ---- what comes next, by the numbers kept
+
+-- behind so many sandboxes of that count
+abbrev pub next_part : ℕ → ℕ → Next
+next_part begun count = cond (begun == count) next.End next.Fields
+
+-- behind so many first data bytes of so many
+abbrev pub next_init : ℕ → ℕ → ℕ → ℕ → Next
+next_init read len begun count = cond (read == len) (next_part begun count) next.Init
+
+-- behind so many bytes of code of so many
+abbrev pub next_code : ℕ → ℕ → ℕ → ℕ → ℕ → Next
+next_code read size len begun count = cond (read == size) (next_init 0 len begun count) next.Code
+
+-- behind so many gates of so many
+abbrev pub next_gate : ℕ → ℕ → Next
+next_gate read gate_count = cond (read == gate_count) next.Code next.Gate
+
+-- ---- one step
+
+-- so many bytes may be taken
+abbrev pub asked : Next → Fields → ℕ → ℕ → Type 0
+asked next.Magic f read len = len ≡ 4
+asked next.Count f read len = len ≡ 4
+asked next.Fields f read len = len ≡ 28
+asked next.Gate f read len = len ≡ 8
+asked next.Code f read len = len ≡ 16
+asked next.Init f read len = (1 ≤ len) × (len + read ≤ f.init_len)
+asked next.End f read len = ⊥
+asked next.Nothing f read len = ⊥
+
+abbrev pub IsAsked : Kept → ℕ → Type 0
+IsAsked r len = asked r.next r.fields r.init_read len
+
+-- behind the bytes the reader stands for the front that they make of that one
+pub record Leads (x : Front) (s : List ℕ) (r : Kept) : Type 0 where
+  pub to : Front
+  pub stands : StandsFor r to
+  pub follows : Follows x s to
+  pub bytes : front to ≡ front x ++ s
+
+-- no fault, and it goes on from each front that it stands for; or a fault of each of them with these bytes
+abbrev pub Takes : Kept → List ℕ → Kept → Option LayoutFault → Type 0
+Takes old s new None = (x : Front) → StandsFor old x → Leads x s new
+Takes old s new (Some k) = (new.next ≡ next.Nothing) × ((x : Front) → StandsFor old x → IsFaultOnwards (front x ++ s) k)
+
+-- ---- how much is left
+
+abbrev pub part_most : ℕ
+part_most = 2097218
+
+abbrev pub left_by : Next → Kept → ℕ
+left_by next.Magic r = 16 * part_most + 2
+left_by next.Count r = 16 * part_most + 1
+left_by next.Fields r = (r.count - r.begun) * part_most
+left_by next.Gate r = (r.count - r.begun) * part_most + (r.fields.gate_count - length r.gates) + r.fields.code_size + r.fields.init_len + 1
+left_by next.Code r = (r.count - r.begun) * part_most + (r.fields.code_size - r.code_read) + r.fields.init_len + 1
+left_by next.Init r = (r.count - r.begun) * part_most + (r.fields.init_len - r.init_read) + 1
+left_by next.End r = 0
+left_by next.Nothing r = 0
+
+-- a number that falls with each step
+abbrev pub left : Kept → ℕ
+left r = left_by r.next r

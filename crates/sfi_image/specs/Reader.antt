@@ -1,0 +1,16 @@
+-- The fields of a reader as what it keeps.
+use Rattle.sfi_image.specs.declared.layout_reader.LayoutReader.TheInside.{Inside}
+use Rattle.sfi_image.specs.Keeping.{Kept}
+
+abbrev pub kept : Inside → Kept
+kept a = record {
+  next = a.next;
+  count = a.count;
+  begun = a.begun;
+  spans = a.spans;
+  fields = a.fields;
+  gates = a.gates;
+  passed = a.passed;
+  code_read = a.code_read;
+  init_read = a.init_read;
+}

@@ -1,0 +1,45 @@
+//! The formats of images.
+ghost use Rattle.std.specs.Prelude.{◌≡◌};
+ghost use Rattle.sfi_image.specs.Formats.{magic, code_most, has_stack};
+
+/// A format of images.
+#[derive(Clone, Copy, PartialEq, Eq, Debug)]
+pub enum Format {
+    /// The first one.
+    Sfi1,
+    /// That in which x2 is a stack pointer, which always lies in the data region.
+    Sfi2,
+}
+
+impl Format {
+    #[tactic(auto, unfolding(crate::specs::Formats::magic))]
+    // The bytes that an image of this format begins with.
+    pub(crate) fn magic(self) -> [u8; 4]
+        ensures { result ≡ magic self }
+    {
+        match self {
+            Format::Sfi1 => *b"SFI1",
+            Format::Sfi2 => *b"SFI2",
+        }
+    }
+
+    /// The largest size of a code region, in bytes.
+    pub fn code_most(self) -> u32
+        ensures { result ≡ code_most self }
+    {
+        match self {
+            Format::Sfi1 => 65536,
+            Format::Sfi2 => 1_048_576,
+        }
+    }
+
+    /// Whether x2 is a stack pointer.
+    pub fn has_stack(self) -> bool
+        ensures { result ≡ has_stack self }
+    {
+        match self {
+            Format::Sfi1 => false,
+            Format::Sfi2 => true,
+        }
+    }
+}

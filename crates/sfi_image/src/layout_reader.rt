@@ -1,0 +1,337 @@
+//! Reading an image's layout piece by piece, without taking memory.
+ghost use Rattle.std.specs.Prelude.{◌≡◌, ℕ, ◌+◌, ◌<◌, ◌≤◌, ◌↔◌, ◌++◌, ◌∷◌, [], List, length, map, drop, cond, ◌==◌, IsTrue, IfSome, IfNone};
+ghost use Rattle.sfi_image.specs.declared.fault.LayoutFault.{LayoutFault};
+ghost use Rattle.sfi_image.specs.Fronts.{Front, front, want_of, IsLengthOf, IsFaultOnwardsOf};
+ghost use Rattle.sfi_image.specs.Fronts.Front.{Empty};
+ghost use Rattle.sfi_image.specs.Keeping.{StandsFor, IsAsked, Leads, Takes, left, is_first, next_part, next_init, next_code, next_gate};
+
+use crate::fault::LayoutFault;
+use crate::fields::{Fields, code_span, field_fault, guarded_span};
+use crate::format::Format;
+use crate::gates::is_next_address;
+use crate::kept::{KeptGates, KeptSpans};
+use crate::reading::{fields_at, format_at, gate_at, number_at};
+use crate::want::{Next, Want};
+use std::marker::Model;
+
+/// Reads an image's bytes in order, as they come, and keeps of them only what its tests need.
+#[derive(Debug, Drop)]
+pub struct LayoutReader {
+    next: Next,
+    count: u32,
+    begun: u32,
+    spans: KeptSpans,
+    fields: Fields,
+    gates: KeptGates,
+    passed: usize,
+    code_read: u32,
+    init_read: u32,
+}
+
+impl Model for LayoutReader {
+    ghost use Rattle.sfi_image.specs.Keeping.{Kept, IsReader};
+
+    ghost Value = { Kept };
+
+    ghost use Rattle.sfi_image.specs.Reader.{kept};
+
+    ghost view = { kept };
+
+    ghost invariant = { λ a. IsReader (kept a) };
+}
+
+// What comes behind so many sandboxes.
+fn next_part(begun: u32, count: u32) -> Next
+    ensures { result ≡ next_part begun count }
+{
+    if begun == count {
+        Next::End
+    } else {
+        Next::Fields
+    }
+}
+
+// What comes behind so many first data bytes.
+fn next_init(read: u32, len: u32, begun: u32, count: u32) -> Next
+    ensures { result ≡ next_init read len begun count }
+{
+    if read == len {
+        next_part(begun, count)
+    } else {
+        Next::Init
+    }
+}
+
+// What comes behind so many bytes of code.
+#[inline]
+fn next_code(read: u32, size: u32, len: u32, begun: u32, count: u32) -> Next
+    ensures { result ≡ next_code read size len begun count }
+{
+    if read == size {
+        next_init(0, len, begun, count)
+    } else {
+        Next::Code
+    }
+}
+
+// What comes behind so many gates.
+fn next_gate(read: u32, gate_count: u32) -> Next
+    ensures { result ≡ next_gate read gate_count }
+{
+    if read == gate_count {
+        Next::Code
+    } else {
+        Next::Gate
+    }
+}
+
+// Whether the first of the addresses behind so many is that one.
+#[inline]
+fn is_first_behind(addresses: &[u32], passed: usize, address: u32) -> bool
+    ensures { result ≡ is_first (drop passed addresses.now) address }
+{
+    match addresses.get(passed) {
+        Some(first) => *first == address,
+        None => false,
+    }
+}
+
+// How many addresses lie behind that one, where so many lie before it.
+#[inline]
+fn passed_by(addresses: &[u32], passed: usize, address: u32) -> usize
+    requires { passed ≤ length addresses.now }
+    ensures { result ≡ cond (is_first (drop passed addresses.now) address) (passed + 1) passed }
+{
+    if is_first_behind(addresses, passed, address) {
+        passed + 1
+    } else {
+        passed
+    }
+}
+
+impl LayoutReader {
+    /// Nothing has been read.
+    pub fn new() -> Self
+        ensures { StandsFor result Empty }
+    {
+        LayoutReader {
+            next: Next::Magic,
+            count: 0,
+            begun: 0,
+            spans: KeptSpans::new(),
+            fields: Fields {
+                format: Format::Sfi1,
+                code_base: 0,
+                code_size: 0,
+                data_base: 0,
+                data_size: 0,
+                start: 0,
+                gate_count: 0,
+                init_len: 0,
+            },
+            gates: KeptGates::new(),
+            passed: 0,
+            code_read: 0,
+            init_read: 0,
+        }
+    }
+
+    // The image's format, behind its magic.
+    pub(crate) fn format(&self) -> Format
+        ensures { result ≡ self.now.fields.format }
+    {
+        self.fields.format
+    }
+
+    /// What comes next.
+    #[inline]
+    pub fn wants(&self) -> Want
+        ensures want { (x : Front) → StandsFor self.now x → result ≡ want_of x }
+        ensures asked { (n : ℕ) → IsLengthOf n result → IsAsked self.now n }
+        ensures stopped { self.now.next ≡ Next.Nothing → result ≡ Want.Nothing }
+    {
+        match self.next {
+            Next::Magic | Next::Count => Want::Field(4),
+            Next::Fields => Want::Field(28),
+            Next::Gate => Want::Field(8),
+            Next::Code => {
+                let address = self.fields.code_base + self.code_read;
+                Want::Bundle {
+                    sandbox: self.begun - 1,
+                    address,
+                    format: self.fields.format,
+                    code_base: self.fields.code_base,
+                    code_size: self.fields.code_size,
+                    listed: is_first_behind(self.gates.as_slice(), self.passed, address),
+                }
+            }
+            Next::Init => Want::Init((self.fields.init_len - self.init_read) as usize),
+            Next::End => Want::End,
+            Next::Nothing => Want::Nothing,
+        }
+    }
+
+    /// Takes the bytes that come next. The answer is the number of the first test that fails, if one does; then nothing
+    /// is wanted any more.
+    #[inline]
+    pub fn take(&mut self, bytes: &[u8]) -> Option<u32>
+        requires { IsAsked self.old (length bytes.now) }
+        ensures goes_on { IfNone result ((x : Front) → StandsFor self.old x → Leads x bytes.now self.new) }
+        ensures fault { IfSome result (λ n. (x : Front) → StandsFor self.old x → IsFaultOnwardsOf (front x ++ bytes.now) n) }
+        ensures stopped { IfSome result (λ n. self.new.next ≡ Next.Nothing) }
+        ensures falls { left self.new < left self.old }
+    {
+        match self.advance(bytes) {
+            Some(fault) => Some(fault.number()),
+            None => None,
+        }
+    }
+
+    // The same, with the fault itself.
+    #[inline]
+    pub(crate) fn advance(&mut self, bytes: &[u8]) -> Option<LayoutFault>
+        requires { IsAsked self.old (length bytes.now) }
+        ensures takes { Takes self.old bytes.now self.new result }
+        ensures falls { left self.new < left self.old }
+    {
+        match self.next {
+            Next::Magic => self.take_magic(bytes),
+            Next::Count => self.take_count(bytes),
+            Next::Fields => self.take_fields(bytes),
+            Next::Gate => self.take_gate(bytes),
+            Next::Code => {
+                self.take_bundle(bytes);
+                None
+            }
+            Next::Init => {
+                self.take_init(bytes);
+                None
+            }
+            Next::End | Next::Nothing => unreachable!(),
+        }
+    }
+
+    #[inline(never)]
+    fn take_magic(&mut self, bytes: &[u8]) -> Option<LayoutFault>
+        requires next { self.old.next ≡ Next.Magic }
+        requires len { length bytes.now ≡ 4 }
+        ensures takes { Takes self.old bytes.now self.new result }
+        ensures falls { left self.new < left self.old }
+    {
+        let Some(format) = format_at(bytes) else {
+            self.next = Next::Nothing;
+            return Some(LayoutFault::Magic);
+        };
+        self.next = Next::Count;
+        self.fields.format = format;
+        None
+    }
+
+    #[inline(never)]
+    fn take_count(&mut self, bytes: &[u8]) -> Option<LayoutFault>
+        requires next { self.old.next ≡ Next.Count }
+        requires len { length bytes.now ≡ 4 }
+        ensures takes { Takes self.old bytes.now self.new result }
+        ensures falls { left self.new < left self.old }
+    {
+        let (count, _) = number_at(bytes);
+        if count < 1 || count > 16 {
+            self.next = Next::Nothing;
+            return Some(LayoutFault::Count);
+        }
+        self.next = Next::Fields;
+        self.count = count;
+        self.begun = 0;
+        None
+    }
+
+    #[inline(never)]
+    fn take_fields(&mut self, bytes: &[u8]) -> Option<LayoutFault>
+        requires next { self.old.next ≡ Next.Fields }
+        requires len { length bytes.now ≡ 28 }
+        ensures takes { Takes self.old bytes.now self.new result }
+        ensures falls { left self.new < left self.old }
+    {
+        let (fields, _) = fields_at(self.fields.format, bytes);
+        if let Some(fault) = field_fault(self.spans.as_slice(), &fields) {
+            self.next = Next::Nothing;
+            return Some(fault);
+        }
+        self.spans.push(code_span(&fields));
+        self.spans.push(guarded_span(&fields));
+        self.begun += 1;
+        self.gates.clear();
+        self.passed = 0;
+        self.code_read = 0;
+        self.init_read = 0;
+        self.next = next_gate(0, fields.gate_count);
+        self.fields = fields;
+        None
+    }
+
+    #[inline(never)]
+    fn take_gate(&mut self, bytes: &[u8]) -> Option<LayoutFault>
+        requires next { self.old.next ≡ Next.Gate }
+        requires len { length bytes.now ≡ 8 }
+        ensures takes { Takes self.old bytes.now self.new result }
+        ensures falls { left self.new < left self.old }
+    {
+        let (gate, _) = gate_at(bytes);
+        if !is_next_address(&self.fields, self.gates.as_slice(), gate) {
+            self.next = Next::Nothing;
+            return Some(LayoutFault::Gates);
+        }
+        self.gates.push(gate.address);
+        self.next = next_gate(self.gates.len() as u32, self.fields.gate_count);
+        None
+    }
+
+    #[inline]
+    fn take_bundle(&mut self, bytes: &[u8])
+        requires next { self.old.next ≡ Next.Code }
+        requires len { length bytes.now ≡ 16 }
+        ensures takes { Takes self.old bytes.now self.new None }
+        ensures falls { left self.new < left self.old }
+    {
+        let address = self.fields.code_base + self.code_read;
+        self.passed = passed_by(self.gates.as_slice(), self.passed, address);
+        self.code_read += 16;
+        self.next = next_code(
+            self.code_read,
+            self.fields.code_size,
+            self.fields.init_len,
+            self.begun,
+            self.count,
+        );
+    }
+
+    #[inline(never)]
+    fn take_init(&mut self, bytes: &[u8])
+        requires next { self.old.next ≡ Next.Init }
+        requires len { 1 ≤ length bytes.now }
+        requires room { length bytes.now + self.old.init_read ≤ self.old.fields.init_len }
+        ensures takes { Takes self.old bytes.now self.new None }
+        ensures falls { left self.new < left self.old }
+    {
+        let read = self.init_read as usize + bytes.len();
+        self.init_read = read as u32;
+        self.next = next_init(self.init_read, self.fields.init_len, self.begun, self.count);
+    }
+
+    // Takes all that is left of a sandbox's code.
+    pub(crate) fn take_code(&mut self, code: &[u8])
+        requires next { self.old.next ≡ Next.Code }
+        requires len { self.old.code_read + length code.now ≡ self.old.fields.code_size }
+        ensures { (x : Front) → StandsFor self.old x → Leads x code.now self.new }
+    {
+        self.code_read = self.fields.code_size;
+        self.passed = self.gates.len();
+        self.next = next_code(
+            self.code_read,
+            self.fields.code_size,
+            self.fields.init_len,
+            self.begun,
+            self.count,
+        );
+    }
+}
