@@ -2,19 +2,28 @@
 use Rattle.std.proofs.Common.{◌≡◌, ℕ, ◌+◌, ◌-◌, ◌*◌, ◌^◌, ◌<◌, ◌≤◌, ap, ◌∙◌, ⊎_elim, arith}
 use Rattle.std.proofs.lemmas.Nat.{pow-add, pow_below}
 use Rattle.std.proofs.lemmas.Bool.{cases_lt}
+use Rattle.sfi_image.specs.declared.format.Format.{Format}
+use Rattle.sfi_image.specs.declared.format.Format.TheVariants.{Sfi1, Sfi2}
+use Rattle.sfi_image.specs.Formats.{code_most}
 use Rattle.sfi_image.specs.Regions.{IsCodeRegion}
+
+-- no code region is larger than this
+code_at_most : (format : Format) → code_most format ≤ 1048576
+code_at_most Sfi1 = omega arith
+code_at_most Sfi2 = omega arith
 
 -- powers of two in the order of their exponents
 exponent_le : (k j : ℕ) → 2 ^ k ≤ 2 ^ j → k ≤ j
 exponent_le k j h = ⊎_elim (λ less. let below : 2 ^ j < 2 ^ k = pow_below j k less in omega arith) (λ more. more) (cases_lt j k)
 
 -- a code region ends at or below 2 ^ 32
-pub region_end : (base size : ℕ) → base < 2 ^ 32 → IsCodeRegion base size → base + size ≤ 2 ^ 32
-region_end base size address region =
+pub region_end : (format : Format) (base size : ℕ) → base < 2 ^ 32 → IsCodeRegion format base size → base + size ≤ 2 ^ 32
+region_end format base size address region =
+    let limit = code_at_most format in
     let k = region.power in
     let q = region.multiple in
     let size_is : size ≡ 2 ^ k = region.size_is in
-    let at_most : size ≤ 65536 = region.at_most in
+    let at_most : size ≤ code_most format = region.at_most in
     let narrow : k ≤ 32 = exponent_le k 32 (omega arith) in
     let j = 32 - k in
     let j_is : 32 ≡ j + k = omega arith in
@@ -29,8 +38,8 @@ region_end base size address region =
     le_times a b c h = grind arith
 
 -- its size and its base are whole bundles
-pub bundles_of : (base size : ℕ) → IsCodeRegion base size → (n : ℕ) × (m : ℕ) × (size ≡ 16 * n) × (base ≡ 16 * m)
-bundles_of base size region =
+pub bundles_of : (format : Format) (base size : ℕ) → IsCodeRegion format base size → (n : ℕ) × (m : ℕ) × (size ≡ 16 * n) × (base ≡ 16 * m)
+bundles_of format base size region =
     let k = region.power in
     let q = region.multiple in
     let size_is : size ≡ 2 ^ k = region.size_is in

@@ -1,22 +1,26 @@
 -- The first look at a bundle: what breaks no rule.
-use Rattle.std.proofs.Common.{◌≡◌, ℕ, ◌==◌, Bool, true, false, List, [], ◌∷◌, Option, Some, None, ℤ, pos, negsuc, of_z, to_z, w32, SFits, refl, sym, ap, ◌∙◌, inl, inr, arith, eq-eqb}
-use Rattle.std.specs.Prelude.{◌&&◌, not}
-use Rattle.std.proofs.lemmas.Bool.{and_parts}
+use Rattle.std.proofs.Common.{◌≡◌, ℕ, ◌==◌, Bool, true, false, List, [], ◌∷◌, Option, Some, None, ℤ, pos, negsuc, of_z, to_z, w32, SFits, refl, sym, ap, ◌∙◌, ◌⊎◌, subst, inl, inr, arith, eq-eqb}
+use Rattle.std.specs.Prelude.{◌&&◌, ◌||◌, not}
+use Rattle.std.proofs.lemmas.Bool.{and_parts, or_parts}
 use Rattle.std.specs.Bool.{OnTrue}
 use Rattle.std.proofs.lemmas.Int.{to_z-of_z}
 use Rattle.rv_word.specs.declared.instr.Instr.{Instr}
 use Rattle.rv_word.specs.declared.instr.Instr.TheVariants.{Op, OpImm, Load, Store, Branch, Jal, Jalr, Lui, Auipc, Fence, Ecall, Ebreak}
 use Rattle.rv_word.specs.declared.instr.RegOp.TheVariants.{And, Or}
+use Rattle.rv_word.specs.declared.outline.Outline.{Outline}
+use Rattle.rv_word.specs.declared.outline.Outline.TheVariants.{Computes, Loads}
 use Rattle.rv_word.specs.Outlines.{outline}
 use Rattle.rv_word.specs.Spelling.{spelling, IsWordOf}
 use Rattle.rv_word.specs.Laws.{OneSpelling}
 use Rattle.sfi_scan.specs.declared.bundle.BundlePlace.{BundlePlace}
 use Rattle.sfi_scan.specs.declared.clean.Words.{Words}
-use Rattle.sfi_scan.specs.Pairs.{is_reserved, follows_pair, follows_data_pair, follows_code_pair}
+use Rattle.sfi_image.specs.Formats.{has_stack}
+use Rattle.sfi_scan.specs.Pairs.{is_reserved, follows_pair, follows_code_pair}
 use Rattle.sfi_scan.specs.Readings.{Piece}
-use Rattle.sfi_scan.specs.Rules.{Place, is_last_bundle, is_bundle_start, offset_by}
+use Rattle.sfi_scan.specs.Stack.{is_stack, begins_pair, ends_pair, precedes_pair, is_jump}
+use Rattle.sfi_scan.specs.Rules.{Place, is_last_bundle, is_bundle_start, offset_by, may_access}
 use Rattle.sfi_scan.specs.Findings.{lowest, all_rules}
-use Rattle.sfi_scan.specs.FirstLook.{IsWordOr0, AreBefore, is_clean, is_zero}
+use Rattle.sfi_scan.specs.FirstLook.{IsWordOr0, AreBefore, is_withheld, is_clean, is_zero}
 use Rattle.sfi_scan.specs.Near.{near}
 
 -- ---- pairs
@@ -66,33 +70,127 @@ pair_told law words m b t a first second true e earlier are =
 pub zero_of : (z : ℤ) → of_z w32 z ≡ 0 → SFits w32 z → is_zero z ≡ true
 zero_of z e fits = ap is_zero (sym (to_z-of_z w32 z fits) ∙ ap (to_z w32) e)
 
-pub jump_told : (earlier : List Instr) (rd base : ℕ) (z : ℤ) → is_zero z ≡ true → is_reserved rd ≡ false
-    → (p : Bool) → OnTrue p (follows_pair 25 24 base earlier ≡ true) → OnTrue p ((not (is_reserved rd) && (is_zero z && follows_code_pair base earlier)) ≡ true)
-jump_told earlier rd base z g f false h = tt
-jump_told earlier rd base z g f true h = rw (g, f, h) refl
+pub jump_told : (b : BundlePlace) (earlier : List Instr) (rd base : ℕ) (z : ℤ) → is_zero z ≡ true → is_withheld b rd ≡ false
+    → (p : Bool) → OnTrue p (follows_pair 25 24 base earlier ≡ true) → OnTrue p ((not (is_withheld b rd) && (is_zero z && follows_code_pair base earlier)) ≡ true)
+jump_told b earlier rd base z g f false h = tt
+jump_told b earlier rd base z g f true h = rw (g, f, h) refl
+
+-- what is not withheld is not reserved, nor the stack pointer
+free : (b : BundlePlace) (r : ℕ) → not (is_withheld b r) ≡ true → (is_reserved r ≡ false) × (is_stack b r ≡ false)
+free b r h = or_parts (is_reserved r) (is_stack b r) (not_is (is_withheld b r) h)
 
 -- an instruction that is clean there breaks no rule, where the bundle is not the region's last
 clean_one : (b : BundlePlace) (at : ℕ) (earlier : List Instr) (i : Instr) (later : List Piece) (whole : Bool) → is_last_bundle b ≡ false → is_clean b at earlier (outline i) ≡ true
     → lowest (record { bundle = b; address = at; earlier = earlier; instr = i; later = later; whole = whole }) all_rules ≡ []
-clean_one b at earlier (Op op rd rs1 rs2) later whole last clean = rw (not_is (is_reserved rd) clean, last) refl
-clean_one b at earlier (OpImm op rd rs1 imm) later whole last clean = rw (not_is (is_reserved rd) clean, last) refl
+clean_one b at earlier (Op op rd rs1 rs2) later whole last clean = let f = free b rd clean in rw (f.0, f.1, last) refl
+clean_one b at earlier (OpImm op rd rs1 imm) later whole last clean = let f = free b rd clean in rw (f.0, f.1, last) refl
 clean_one b at earlier (Load kind rd rs1 imm) later whole last clean =
-    let both = and_parts (not (is_reserved rd)) (follows_data_pair rs1 earlier) clean in
-    rw (not_is (is_reserved rd) both.0, both.1, last) refl
+    let both = and_parts (not (is_withheld b rd)) (may_access b rs1 earlier) clean in
+    let f = free b rd both.0 in
+    rw (f.0, f.1, both.1, last) refl
 clean_one b at earlier (Store width rs1 rs2 imm) later whole last clean = rw (clean, last) refl
 clean_one b at earlier (Branch cond rs1 rs2 offset) later whole last clean = rw (clean, last) refl
 clean_one b at earlier (Jal rd offset) later whole last clean =
-    let both = and_parts (not (is_reserved rd)) (is_bundle_start b (offset_by at offset)) clean in
-    rw (not_is (is_reserved rd) both.0, both.1, last) refl
+    let both = and_parts (not (is_withheld b rd)) (is_bundle_start b (offset_by at offset)) clean in
+    let f = free b rd both.0 in
+    rw (f.0, f.1, both.1, last) refl
 clean_one b at earlier (Jalr rd rs1 (pos n)) later whole last clean =
-    let both = and_parts (not (is_reserved rd)) ((n == 0) && follows_code_pair rs1 earlier) clean in
-    rw (not_is (is_reserved rd) both.0, both.1, last) refl
-clean_one b at earlier (Jalr rd rs1 (negsuc n)) later whole last clean = absurd (let both = and_parts (not (is_reserved rd)) false clean in cc)
-clean_one b at earlier (Lui rd imm) later whole last clean = rw (not_is (is_reserved rd) clean, last) refl
-clean_one b at earlier (Auipc rd imm) later whole last clean = rw (not_is (is_reserved rd) clean, last) refl
+    let both = and_parts (not (is_withheld b rd)) ((n == 0) && follows_code_pair rs1 earlier) clean in
+    let f = free b rd both.0 in
+    rw (f.0, f.1, both.1, last) refl
+clean_one b at earlier (Jalr rd rs1 (negsuc n)) later whole last clean = absurd (let both = and_parts (not (is_withheld b rd)) false clean in cc)
+clean_one b at earlier (Lui rd imm) later whole last clean = let f = free b rd clean in rw (f.0, f.1, last) refl
+clean_one b at earlier (Auipc rd imm) later whole last clean = let f = free b rd clean in rw (f.0, f.1, last) refl
 clean_one b at earlier (Fence imm rd rs1) later whole last clean = rw last refl
 clean_one b at earlier Ecall later whole last clean = absurd cc
 clean_one b at earlier Ebreak later whole last clean = rw last refl
 
 pub clean_is : (x : Place) → is_last_bundle x.bundle ≡ false → is_clean x.bundle x.address x.earlier (outline x.instr) ≡ true → lowest x all_rules ≡ []
 clean_is x last clean = clean_one x.bundle x.address x.earlier x.instr x.later x.whole last clean
+
+-- ---- the stack pointer written, and put back
+
+-- it computes into the stack pointer, or loads into it from near it
+abbrev pub IsWrite : Outline → Type 0
+IsWrite o = (o ≡ Computes 2) ⊎ (o ≡ Loads 2 2)
+
+pub kind_of : (j i : Instr) → j ≡ i → IsWrite (outline i) → IsWrite (outline j)
+kind_of j i e kind = subst (λ (k : Instr). IsWrite (outline k)) (sym e) kind
+
+or_last : (p q r : Bool) → r ≡ true → (p || q || r) ≡ true
+or_last true q r h = refl
+or_last false true r h = refl
+or_last false false r h = h
+
+or_middle : (p q r : Bool) → q ≡ true → (p || q || r) ≡ true
+or_middle true q r h = refl
+or_middle false q r h = rw h refl
+
+or_first : (p q r : Bool) → p ≡ true → (p || q || r) ≡ true
+or_first p q r h = rw h refl
+
+-- what writes it, and stands where it may
+write_one : (b : BundlePlace) (at : ℕ) (earlier : List Instr) (i : Instr) (later : List Piece) (whole : Bool) → is_last_bundle b ≡ false → has_stack b.format ≡ true → IsWrite (outline i)
+    → (begins_pair i later || ends_pair earlier i || (not (is_jump i) && precedes_pair later)) ≡ true
+    → lowest (record { bundle = b; address = at; earlier = earlier; instr = i; later = later; whole = whole }) all_rules ≡ []
+write_one b at earlier (Op op rd rs1 rs2) later whole last has (inl e) may = let two : rd ≡ 2 = cc in rw (may, last, has, two) refl
+write_one b at earlier (OpImm op rd rs1 imm) later whole last has (inl e) may = let two : rd ≡ 2 = cc in rw (may, last, has, two) refl
+write_one b at earlier (Lui rd imm) later whole last has (inl e) may = let two : rd ≡ 2 = cc in rw (may, last, has, two) refl
+write_one b at earlier (Auipc rd imm) later whole last has (inl e) may = let two : rd ≡ 2 = cc in rw (may, last, has, two) refl
+write_one b at earlier (Load kind rd rs1 imm) later whole last has (inr e) may = let two : rd ≡ 2 = cc in let base : rs1 ≡ 2 = cc in rw (may, last, has, two, base) refl
+write_one b at earlier (Op op rd rs1 rs2) later whole last has (inr e) may = absurd cc
+write_one b at earlier (OpImm op rd rs1 imm) later whole last has (inr e) may = absurd cc
+write_one b at earlier (Lui rd imm) later whole last has (inr e) may = absurd cc
+write_one b at earlier (Auipc rd imm) later whole last has (inr e) may = absurd cc
+write_one b at earlier (Load kind rd rs1 imm) later whole last has (inl e) may = absurd cc
+write_one b at earlier (Store width rs1 rs2 imm) later whole last has (inl e) may = absurd cc
+write_one b at earlier (Store width rs1 rs2 imm) later whole last has (inr e) may = absurd cc
+write_one b at earlier (Branch cond rs1 rs2 offset) later whole last has (inl e) may = absurd cc
+write_one b at earlier (Branch cond rs1 rs2 offset) later whole last has (inr e) may = absurd cc
+write_one b at earlier (Jal rd offset) later whole last has (inl e) may = absurd cc
+write_one b at earlier (Jal rd offset) later whole last has (inr e) may = absurd cc
+write_one b at earlier (Jalr rd rs1 imm) later whole last has (inl e) may = absurd cc
+write_one b at earlier (Jalr rd rs1 imm) later whole last has (inr e) may = absurd cc
+write_one b at earlier (Fence imm rd rs1) later whole last has (inl e) may = absurd cc
+write_one b at earlier (Fence imm rd rs1) later whole last has (inr e) may = absurd cc
+write_one b at earlier Ecall later whole last has (inl e) may = absurd cc
+write_one b at earlier Ecall later whole last has (inr e) may = absurd cc
+write_one b at earlier Ebreak later whole last has (inl e) may = absurd cc
+write_one b at earlier Ebreak later whole last has (inr e) may = absurd cc
+
+-- no jump does
+not_jump : (i : Instr) → IsWrite (outline i) → not (is_jump i) ≡ true
+not_jump (Jal rd offset) (inl e) = absurd cc
+not_jump (Jal rd offset) (inr e) = absurd cc
+not_jump (Jalr rd rs1 imm) (inl e) = absurd cc
+not_jump (Jalr rd rs1 imm) (inr e) = absurd cc
+not_jump (Op op rd rs1 rs2) kind = refl
+not_jump (OpImm op rd rs1 imm) kind = refl
+not_jump (Load k rd rs1 imm) kind = refl
+not_jump (Store width rs1 rs2 imm) kind = refl
+not_jump (Branch cond rs1 rs2 offset) kind = refl
+not_jump (Lui rd imm) kind = refl
+not_jump (Auipc rd imm) kind = refl
+not_jump (Fence imm rd rs1) kind = refl
+not_jump Ecall kind = refl
+not_jump Ebreak kind = refl
+
+pub write_quiet : (x : Place) → is_last_bundle x.bundle ≡ false → has_stack x.bundle.format ≡ true → IsWrite (outline x.instr) → precedes_pair x.later ≡ true → lowest x all_rules ≡ []
+write_quiet x last has kind pair =
+    write_one x.bundle x.address x.earlier x.instr x.later x.whole last has kind
+    (or_last (begins_pair x.instr x.later) (ends_pair x.earlier x.instr) (not (is_jump x.instr) && precedes_pair x.later) (rw (not_jump x.instr kind, pair) refl))
+
+pub masking_quiet : (x : Place) (a : ℕ) → is_last_bundle x.bundle ≡ false → has_stack x.bundle.format ≡ true → x.instr ≡ Op And 2 a 27 → begins_pair (Op And 2 a 27) x.later ≡ true → lowest x all_rules ≡ []
+masking_quiet x a last has e pair =
+    write_one x.bundle x.address x.earlier x.instr x.later x.whole last has (inl (ap outline e))
+    (or_first (begins_pair x.instr x.later) (ends_pair x.earlier x.instr) (not (is_jump x.instr) && precedes_pair x.later) (ap (λ (i : Instr). begins_pair i x.later) e ∙ pair))
+
+pub placing_quiet : (x : Place) (a : ℕ) → is_last_bundle x.bundle ≡ false → has_stack x.bundle.format ≡ true → x.instr ≡ Op Or 2 2 26 → (near x.earlier).second ≡ Some (Op And 2 a 27) → lowest x all_rules ≡ []
+placing_quiet x a last has e before =
+    write_one x.bundle x.address x.earlier x.instr x.later x.whole last has (inl (ap outline e))
+    (or_middle (begins_pair x.instr x.later) (ends_pair x.earlier x.instr) (not (is_jump x.instr) && precedes_pair x.later) (ap (ends_pair x.earlier) e ∙ ends x.earlier before))
+  where
+    ends : (earlier : List Instr) → (near earlier).second ≡ Some (Op And 2 a 27) → ends_pair earlier (Op Or 2 2 26) ≡ true
+    ends [] h = absurd cc
+    ends (y ∷ []) h = let same : y ≡ Op And 2 a 27 = cc in rw same refl
+    ends (y ∷ z ∷ rest) h = let same : y ≡ Op And 2 a 27 = cc in rw same refl

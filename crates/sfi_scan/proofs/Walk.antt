@@ -1,8 +1,6 @@
 -- The walk over a bundle: what is found so far, and what the rest adds.
-use Rattle.std.proofs.Common.{◌≡◌, ℕ, ◌+◌, ◌-◌, ◌*◌, ◌%◌, ◌<◌, ◌≤◌, ◌==◌, Bool, true, false, List, [], ◌∷◌, ◌++◌, length, take, drop, Option, Some, None, refl, sym, ap, ◌∙◌, subst, inl, inr, arith, append_assoc, eq-eqb, length-drop}
+use Rattle.std.proofs.Common.{◌≡◌, ℕ, ◌+◌, ◌-◌, ◌*◌, ◌%◌, ◌<◌, ◌≤◌, Bool, true, false, List, [], ◌∷◌, ◌++◌, length, take, drop, Option, Some, None, refl, sym, ap, ◌∙◌, subst, inl, inr, arith, append_assoc, length-drop}
 use Rattle.std.specs.Prelude.{◌&&◌}
-use Rattle.std.proofs.lemmas.Bool.{ne_eqb}
-use Rattle.std.proofs.lemmas.Bool.Decides.{eqb_tells}
 use Rattle.std.proofs.lemmas.List.{length-take, length-append, append-nil, drop_all, drop-drop, take_all}
 use Rattle.std.specs.Int.{w16, from_le_bytes}
 use Rattle.rv_word.specs.declared.instr.Instr.{Instr}
@@ -86,10 +84,6 @@ is_last (x ∷ rest) (y ∷ later) h = and_false (is_empty (rest_of (drop y.size
 drop_drop : (n at : ℕ) (xs : List ℕ) → drop n (drop at xs) ≡ drop (at + n) xs
 drop_drop n at xs = drop-drop n at xs
 
-none_at : (xs : List ℕ) (n : ℕ) → length xs ≡ n → is_empty xs ≡ (n == 0)
-none_at [] n e = sym (eq-eqb n 0 (sym e))
-none_at (x ∷ xs) n e = sym (ne_eqb n 0 (λ z. omega arith))
-
 same_piece : (i j : Instr) (m n : ℕ) → Read i n ≡ Read j m → (i ≡ j) × (n ≡ m)
 same_piece i j m n e = (cc, cc)
 
@@ -104,9 +98,6 @@ longer rest i n later s only h = record { is_reading = (s, h.is_reading); longes
         let k = h.longest other (subst (λ m. IsReading (drop m rest) other) (sym e.1) g.1) in
         omega arith
 
-at_end : (k : ℕ) → k ≤ 16 → (16 - k == 0) ≡ (k == 16)
-at_end k h = elim (eqb_tells k 16) [ inl e ↦ rw (e.0) (eq-eqb (16 - k) 0 (omega (arith, e.1))) | inr e ↦ rw (e.0) (ne_eqb (16 - k) 0 (λ z. e.1 (omega arith))) ]
-
 sums : (a b c : ℕ) → a + b + c ≡ a + (b + c)
 sums a b c = omega arith
 
@@ -118,7 +109,7 @@ pub next : (b : BundlePlace) (bytes : List ℕ) (at n : ℕ) (before after : Bef
     → Leads b bytes at before found
     → Spells (take n (drop at bytes)) i n
     → ((j : Instr) (m : ℕ) → Spells (take m (drop at bytes)) j m → Read i n ≡ Read j m)
-    → ((x : Place) → x.bundle ≡ b → x.address ≡ b.address + at → near x.earlier ≡ before → x.instr ≡ i → (x.whole && is_empty x.later) ≡ (at + n == 16) → lowest x all_rules ≡ finding_of b (b.address + at) o)
+    → ((x : Place) → x.bundle ≡ b → x.address ≡ b.address + at → near x.earlier ≡ before → x.instr ≡ i → (x.whole && is_empty x.later) ≡ is_empty (drop (at + n) bytes) → IsLongestReading (drop (at + n) bytes) x.later → lowest x all_rules ≡ finding_of b (b.address + at) o)
     → ((earlier : List Instr) → near earlier ≡ before → after ≡ near (i ∷ earlier))
     → Leads b bytes (at + n) after (found ++ finding_of b (b.address + at) o)
 next b bytes at n before after found i o count so_far s only rule go =
@@ -151,9 +142,8 @@ next b bytes at n before after found i o count so_far s only rule go =
         let longest' = subst (λ (r : List ℕ). IsLongestReading r later) (sym behind) longest in
         let old = so_far.leads (record { instr = i; size = n } ∷ later) (longer (drop at bytes) i n later s only longest') in
         let place : Place = record { bundle = b; address = b.address + at; earlier = so_far.earlier; instr = i; later = later; whole = is_empty (rest_of (drop n (drop at bytes)) later) } in
-        let left : length (drop n (drop at bytes)) ≡ 16 - (at + n) = omega (arith, length-drop at bytes, length-drop n (drop at bytes)) in
-        let last = is_last (drop n (drop at bytes)) later longest'.is_reading ∙ none_at (drop n (drop at bytes)) (16 - (at + n)) left ∙ at_end (at + n) (omega (arith, spell_fits (drop at bytes) i n s, length-drop at bytes, so_far.within)) in
-        let here = rule place refl refl so_far.near_is refl last in
+        let last = is_last (drop n (drop at bytes)) later longest'.is_reading ∙ ap (λ (r : List ℕ). is_empty r) behind in
+        let here = rule place refl refl so_far.near_is refl last longest in
         let joined = regroup found (lowest place all_rules) (finding_of b (b.address + at) o) (findings_from b (is_empty (rest_of (drop n (drop at bytes)) later)) (b.address + at + n) (i ∷ so_far.earlier) later) (rest_finding b (b.address + (length bytes - length (rest_of (drop n (drop at bytes)) later))) (rest_of (drop n (drop at bytes)) later)) here in
         let moved = ap (λ (r : List ℕ). (found ++ finding_of b (b.address + at) o) ++ tail_findings b (length bytes) (b.address + at + n) (i ∷ so_far.earlier) r later) behind in
         let placed = ap (λ k. (found ++ finding_of b (b.address + at) o) ++ tail_findings b (length bytes) k (i ∷ so_far.earlier) (drop (at + n) bytes) later) (sums b.address at n) in
@@ -222,7 +212,7 @@ pub next_of : (b : BundlePlace) (bytes : List ℕ) (at n : ℕ) (before after : 
     → Leads b bytes at before found
     → Spells (take n (take (16 - at) (drop at bytes))) i n
     → ((j : Instr) (m : ℕ) → Spells (take m (take (16 - at) (drop at bytes))) j m → Read i n ≡ Read j m)
-    → ((x : Place) → x.bundle ≡ b → x.address ≡ b.address + at → near x.earlier ≡ before → x.instr ≡ i → (x.whole && is_empty x.later) ≡ (at + n == 16) → lowest x all_rules ≡ finding_of b (b.address + at) o)
+    → ((x : Place) → x.bundle ≡ b → x.address ≡ b.address + at → near x.earlier ≡ before → x.instr ≡ i → (x.whole && is_empty x.later) ≡ is_empty (take (16 - (at + n)) (drop (at + n) bytes)) → IsLongestReading (take (16 - (at + n)) (drop (at + n) bytes)) x.later → lowest x all_rules ≡ finding_of b (b.address + at) o)
     → ((earlier : List Instr) → near earlier ≡ before → after ≡ near (i ∷ earlier))
     → Leads b bytes (at + n) after (found ++ finding_of b (b.address + at) o)
 next_of b bytes at n before after found i o count so_far s only rule go =
@@ -230,7 +220,10 @@ next_of b bytes at n before after found i o count so_far s only rule go =
     next b bytes at n before after found i o count so_far
     (subst (λ (r : List ℕ). Spells (take n r) i n) e s)
     (λ j m t. only j m (subst (λ (r : List ℕ). Spells (take m r) j m) (sym e) t))
-    rule go
+    (λ x place address near_is instr last longest. rule x place address near_is instr
+    (last ∙ ap (λ (r : List ℕ). is_empty r) (sym (slice_is (at + n) bytes count)))
+    (subst (λ (r : List ℕ). IsLongestReading r x.later) (sym (slice_is (at + n) bytes count)) longest))
+    go
 
 not_short : (i : Instr) (n : ℕ) → fronts.Short ≡ Read i n → ⊥
 not_short i n e = cc

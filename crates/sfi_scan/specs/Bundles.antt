@@ -14,7 +14,7 @@ pub record IsWithin (b : BundlePlace) : Type 0 where
 abbrev pub place_of : ℕ → Part → ℕ → BundlePlace
 place_of sandbox p n =
     let at = p.code_base + 16 * n in
-    record { sandbox = sandbox; address = at; code_base = p.code_base; code_size = length p.code; listed = is_gate_of p.gates at }
+    record { sandbox = sandbox; address = at; format = p.format; code_base = p.code_base; code_size = length p.code; listed = is_gate_of p.gates at }
 
 -- its bytes
 abbrev pub bundle_bytes : Part → ℕ → List ℕ

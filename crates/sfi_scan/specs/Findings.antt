@@ -7,7 +7,7 @@ use Rattle.rv_word.specs.declared.length.Length.TheVariants.{Short, Wide, Longer
 use Rattle.rv_word.specs.Lengths.{length_of}
 use Rattle.sfi_image.specs.Spelling.{Part}
 use Rattle.sfi_scan.specs.declared.rule.Rule.{Rule}
-use Rattle.sfi_scan.specs.declared.rule.Rule.TheVariants.{V1, V2, V3, V4, V5, V6, V7, V8, V9}
+use Rattle.sfi_scan.specs.declared.rule.Rule.TheVariants.{V1, V2, V3, V4, V5, V6, V7, V8, V9, V10}
 use Rattle.sfi_scan.specs.declared.finding.Finding.{Finding}
 use Rattle.sfi_scan.specs.declared.bundle.BundlePlace.{BundlePlace}
 use Rattle.sfi_scan.specs.Bundles.{place_of, bundle_bytes, stub}
@@ -27,7 +27,7 @@ lowest x (rule ∷ rules) = cond (breaks x rule) (broken x.bundle x.address rule
 
 -- the rules, from the lowest up
 abbrev pub all_rules : List Rule
-all_rules = V1 ∷ V2 ∷ V3 ∷ V4 ∷ V5 ∷ V6 ∷ V7 ∷ V8 ∷ V9 ∷ []
+all_rules = V1 ∷ V2 ∷ V3 ∷ V4 ∷ V5 ∷ V6 ∷ V7 ∷ V8 ∷ V9 ∷ V10 ∷ []
 
 -- the lowest rule broken at each place of what is left of a reading, in order
 abbrev pub findings_from : BundlePlace → Bool → ℕ → List Instr → List Piece → List Finding

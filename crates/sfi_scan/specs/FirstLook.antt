@@ -1,6 +1,8 @@
 -- Words of private contracts: the first look at a bundle.
-use Rattle.std.specs.Prelude.{◌≡◌, ◌⊎◌, ◌&&◌, ◌==◌, not, ℕ, ℤ, pos, negsuc, List, Bool, true, false, Option, Some, None}
+use Rattle.std.specs.Prelude.{◌≡◌, ◌⊎◌, ◌&&◌, ◌||◌, ◌==◌, not, ℕ, ℤ, pos, negsuc, List, Bool, true, false, Option, Some, None}
 use Rattle.rv_word.specs.declared.instr.Instr.{Instr}
+use Rattle.rv_word.specs.declared.instr.Instr.TheVariants.{Op}
+use Rattle.rv_word.specs.declared.instr.RegOp.TheVariants.{And, Or}
 use Rattle.rv_word.specs.declared.outline.Outline.{Outline}
 use Rattle.rv_word.specs.declared.outline.Outline.TheVariants.{Computes, Loads, Stores, Branches, Jumps, JumpsTo, Orders, Calls, Stops}
 use Rattle.rv_word.specs.Outlines.{outline}
@@ -9,8 +11,9 @@ use Rattle.sfi_scan.specs.declared.before.Before.{Before}
 use Rattle.sfi_scan.specs.declared.bundle.BundlePlace.{BundlePlace}
 use Rattle.sfi_scan.specs.declared.clean.Words.{Words}
 use Rattle.sfi_scan.specs.Near.{near}
-use Rattle.sfi_scan.specs.Pairs.{is_reserved, follows_data_pair, follows_code_pair}
-use Rattle.sfi_scan.specs.Rules.{is_bundle_start, offset_by}
+use Rattle.sfi_scan.specs.Pairs.{is_reserved, follows_code_pair}
+use Rattle.sfi_scan.specs.Stack.{is_stack}
+use Rattle.sfi_scan.specs.Rules.{is_bundle_start, offset_by, may_access}
 
 -- the instruction's word, or 0; 0 where there is none
 abbrev pub IsWordOr0 : ℕ → Option Instr → Type 0
@@ -26,14 +29,18 @@ abbrev pub is_zero : ℤ → Bool
 is_zero (pos n) = n == 0
 is_zero (negsuc n) = false
 
--- an instruction that does this at the address breaks no rule of V3 to V7, nor does it if it is listed
+-- the first look lets nothing write this register: it is reserved, or the stack pointer
+abbrev pub is_withheld : BundlePlace → ℕ → Bool
+is_withheld b r = is_reserved r || is_stack b r
+
+-- an instruction that does this at the address breaks none of V3 to V7 and V10, nor does it if it is listed
 abbrev pub is_clean : BundlePlace → ℕ → List Instr → Outline → Bool
-is_clean b at earlier (Computes rd) = not (is_reserved rd)
-is_clean b at earlier (Loads rd base) = not (is_reserved rd) && follows_data_pair base earlier
-is_clean b at earlier (Stores base) = follows_data_pair base earlier
+is_clean b at earlier (Computes rd) = not (is_withheld b rd)
+is_clean b at earlier (Loads rd base) = not (is_withheld b rd) && may_access b base earlier
+is_clean b at earlier (Stores base) = may_access b base earlier
 is_clean b at earlier (Branches offset) = is_bundle_start b (offset_by at offset)
-is_clean b at earlier (Jumps rd offset) = not (is_reserved rd) && is_bundle_start b (offset_by at offset)
-is_clean b at earlier (JumpsTo rd base imm) = not (is_reserved rd) && (is_zero imm && follows_code_pair base earlier)
+is_clean b at earlier (Jumps rd offset) = not (is_withheld b rd) && is_bundle_start b (offset_by at offset)
+is_clean b at earlier (JumpsTo rd base imm) = not (is_withheld b rd) && (is_zero imm && follows_code_pair base earlier)
 is_clean b at earlier Orders = true
 is_clean b at earlier Calls = false
 is_clean b at earlier Stops = true
@@ -43,3 +50,15 @@ pub record IsCleanOne (b : BundlePlace) (at : ℕ) (words : Words) (spell : Inst
   pub instr : Instr
   pub spelled : spell instr
   pub clean : (earlier : List Instr) → AreBefore words (near earlier) → is_clean b at earlier (outline instr) ≡ true
+
+-- the word is an instruction that writes the stack pointer: it computes into it, or loads into it from near it
+pub record IsStackWrite (word : ℕ) : Type 0 where
+  pub instr : Instr
+  pub spelled : IsWordOf word instr
+  pub kind : (outline instr ≡ Computes 2) ⊎ (outline instr ≡ Loads 2 2)
+
+-- the words are the pair on the stack pointer
+pub record AreStackPair (first second : ℕ) : Type 0 where
+  pub any : ℕ
+  pub masking : IsWordOf first (Op And 2 any 27)
+  pub placing : IsWordOf second (Op Or 2 2 26)

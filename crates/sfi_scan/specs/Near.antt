@@ -2,10 +2,12 @@
 use Rattle.std.specs.Prelude.{ℕ, List, [], ◌∷◌, ◌==◌, Bool, false, Option, Some, None}
 use Rattle.sfi_image.specs.declared.part.Gate.{Gate}
 use Rattle.rv_word.specs.declared.instr.Instr.{Instr}
+use Rattle.sfi_scan.specs.declared.ahead.Ahead.{Ahead}
 use Rattle.sfi_scan.specs.declared.before.Before.{Before}
 use Rattle.sfi_scan.specs.declared.bundle.BundlePlace.{BundlePlace}
 use Rattle.sfi_scan.specs.declared.rule.Rule.{Rule}
 use Rattle.sfi_scan.specs.declared.finding.Finding.{Finding}
+use Rattle.sfi_scan.specs.Readings.{Piece}
 use Rattle.sfi_scan.specs.Findings.{broken}
 
 -- the two nearest of the instructions before a place
@@ -13,6 +15,12 @@ abbrev pub near : List Instr → Before
 near [] = record { first = None; second = None }
 near (b ∷ []) = record { first = None; second = Some b }
 near (b ∷ a ∷ earlier) = record { first = Some a; second = Some b }
+
+-- the two nearest of those behind it
+abbrev pub ahead : List Piece → Ahead
+ahead [] = record { first = None; second = None }
+ahead (x ∷ []) = record { first = Some x.instr; second = None }
+ahead (x ∷ y ∷ later) = record { first = Some x.instr; second = Some y.instr }
 
 -- the finding of a broken rule, if one is
 abbrev pub finding_of : BundlePlace → ℕ → Option Rule → List Finding

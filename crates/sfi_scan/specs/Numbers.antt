@@ -1,7 +1,7 @@
 -- The numbers of the rules.
 use Rattle.std.specs.Prelude.{ℕ}
 use Rattle.sfi_scan.specs.declared.rule.Rule.{Rule}
-use Rattle.sfi_scan.specs.declared.rule.Rule.TheVariants.{V1, V2, V3, V4, V5, V6, V7, V8, V9}
+use Rattle.sfi_scan.specs.declared.rule.Rule.TheVariants.{V1, V2, V3, V4, V5, V6, V7, V8, V9, V10}
 
 abbrev pub number_of : Rule → ℕ
 number_of V1 = 1
@@ -13,3 +13,4 @@ number_of V6 = 6
 number_of V7 = 7
 number_of V8 = 8
 number_of V9 = 9
+number_of V10 = 10

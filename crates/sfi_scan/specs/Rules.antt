@@ -1,14 +1,15 @@
 -- Which rules are broken at a place of a bundle's reading.
-use Rattle.std.specs.Prelude.{◌+◌, ◌%◌, ◌^◌, ◌==◌, ◌&&◌, not, ℕ, ℤ, pos, negsuc, List, [], ◌∷◌, Bool, true, false, Option, Some, None, nat_lt, nat_le}
+use Rattle.std.specs.Prelude.{◌+◌, ◌%◌, ◌^◌, ◌==◌, ◌&&◌, ◌||◌, not, ℕ, ℤ, pos, negsuc, List, [], ◌∷◌, Bool, true, false, Option, Some, None, nat_lt, nat_le}
 use Rattle.rv_word.specs.declared.instr.Instr.{Instr}
 use Rattle.rv_word.specs.declared.instr.Instr.TheVariants.{Load, Store, Branch, Jal, Jalr, Ecall, Ebreak}
 use Rattle.rv_word.specs.Numbers.{modulo}
 use Rattle.rv_word.specs.Writes.{destination}
 use Rattle.sfi_scan.specs.declared.rule.Rule.{Rule}
-use Rattle.sfi_scan.specs.declared.rule.Rule.TheVariants.{V1, V2, V3, V4, V5, V6, V7, V8, V9}
+use Rattle.sfi_scan.specs.declared.rule.Rule.TheVariants.{V1, V2, V3, V4, V5, V6, V7, V8, V9, V10}
 use Rattle.sfi_scan.specs.declared.bundle.BundlePlace.{BundlePlace}
 use Rattle.sfi_scan.specs.Pairs.{is_reserved, follows_data_pair, follows_code_pair}
 use Rattle.sfi_scan.specs.Readings.{Piece}
+use Rattle.sfi_scan.specs.Stack.{is_stack, writes_stack, begins_pair, ends_pair, precedes_pair, is_jump}
 
 -- a place of a bundle's reading
 pub record Place : Type 0 where
@@ -44,10 +45,14 @@ is_reserved_one (Some r) = is_reserved r
 abbrev pub breaks_reserved : Instr → Bool
 breaks_reserved i = is_reserved_one (destination i)
 
--- V5: a load or store, and the two instructions directly before it are not the data pair on its base
+-- an access on this base stays in the data and the guards: the two instructions directly before are the data pair on it, or it is the stack pointer
+abbrev pub may_access : BundlePlace → ℕ → List Instr → Bool
+may_access b base earlier = is_stack b base || follows_data_pair base earlier
+
+-- V5: a load or store, and the two instructions directly before it are not the data pair on its base (on the stack pointer it is never broken)
 abbrev pub breaks_access : Place → Instr → Bool
-breaks_access x (Load kind rd rs1 imm) = not (follows_data_pair rs1 x.earlier)
-breaks_access x (Store width rs1 rs2 imm) = not (follows_data_pair rs1 x.earlier)
+breaks_access x (Load kind rd rs1 imm) = not (may_access x.bundle rs1 x.earlier)
+breaks_access x (Store width rs1 rs2 imm) = not (may_access x.bundle rs1 x.earlier)
 breaks_access x _ = false
 
 -- V6: a jalr whose offset is not 0, or the two directly before it are not the code pair on its base
@@ -76,6 +81,14 @@ is_last_bundle b = b.address + 16 == b.code_base + b.code_size
 abbrev pub breaks_end : Place → Instr → Bool
 breaks_end x i = is_last_bundle x.bundle && (x.whole && is_empty x.later) && not (ends_region i)
 
+-- it stands in the pair on x2, or directly before it and control runs on
+abbrev pub may_write_stack : Place → Instr → Bool
+may_write_stack x i = begins_pair i x.later || ends_pair x.earlier i || (not (is_jump i) && precedes_pair x.later)
+
+-- V10: it writes the stack pointer, and does not stand so. (Where the format has none this is never broken.)
+abbrev pub breaks_stack : Place → Instr → Bool
+breaks_stack x i = writes_stack x.bundle i && not (may_write_stack x i)
+
 -- The rule is broken at the place. (Each test takes the place's instruction again, to go by its cases.)
 -- V1 and V2 are broken where no instruction stands, and V9 by a whole bundle, so never at a place.
 abbrev pub breaks : Place → Rule → Bool
@@ -88,3 +101,4 @@ breaks x V6 = breaks_jump x x.instr
 breaks x V7 = breaks_target x x.instr
 breaks x V8 = breaks_end x x.instr
 breaks x V9 = false
+breaks x V10 = breaks_stack x x.instr

@@ -41,7 +41,7 @@ pub(crate) fn may_be_target(reg: Reg) -> bool
 }
 
 /// `and target, a, mask`.
-fn is_masking(mask: u8, target: Reg, instr: &Instr) -> bool
+pub(crate) fn is_masking(mask: u8, target: u8, instr: &Instr) -> bool
     ensures { result ≡ is_masking mask target instr.now }
 {
     match *instr {
@@ -50,13 +50,13 @@ fn is_masking(mask: u8, target: Reg, instr: &Instr) -> bool
             rd,
             rs2,
             ..
-        } => rd.number() == target.number() && rs2.number() == mask,
+        } => rd.number() == target && rs2.number() == mask,
         _ => false,
     }
 }
 
 /// `or target, target, base`.
-fn is_placing(base: u8, target: Reg, instr: &Instr) -> bool
+pub(crate) fn is_placing(base: u8, target: u8, instr: &Instr) -> bool
     ensures { result ≡ is_placing base target instr.now }
 {
     match *instr {
@@ -65,11 +65,7 @@ fn is_placing(base: u8, target: Reg, instr: &Instr) -> bool
             rd,
             rs1,
             rs2,
-        } => {
-            rd.number() == target.number()
-                && rs1.number() == target.number()
-                && rs2.number() == base
-        }
+        } => { rd.number() == target && rs1.number() == target && rs2.number() == base }
         _ => false,
     }
 }
@@ -101,8 +97,8 @@ impl Before {
     {
         match (&self.first, &self.second) {
             (Some(first), Some(second)) => {
-                is_masking(pair.mask, target, first)
-                    && is_placing(pair.base, target, second)
+                is_masking(pair.mask, target.number(), first)
+                    && is_placing(pair.base, target.number(), second)
                     && may_be_target(target)
             }
             (None, _) | (_, None) => false,

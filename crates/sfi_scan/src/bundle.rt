@@ -1,5 +1,7 @@
 //! A bundle's place.
 
+use sfi_image::Format;
+
 /// Where a bundle stands.
 #[derive(Clone, Copy, PartialEq, Eq, Debug)]
 pub struct BundlePlace {
@@ -7,6 +9,8 @@ pub struct BundlePlace {
     pub sandbox: u32,
     /// The bundle's first address, a multiple of 16.
     pub address: u32,
+    /// The image's format.
+    pub format: Format,
     /// The first address of the sandbox's code region.
     pub code_base: u32,
     /// The size of the code region in bytes.

@@ -5,16 +5,17 @@ ghost use Rattle.std.specs.Bool.{OnTrue};
 ghost use Rattle.rv_comp.specs.Halfwords.{IsShortSpelling};
 ghost use Rattle.rv_word.specs.declared.instr.Instr.{Instr};
 ghost use Rattle.rv_word.specs.Spelling.{IsWordOf};
+ghost use Rattle.sfi_image.specs.Formats.{has_stack};
 ghost use Rattle.sfi_scan.specs.Bundles.{IsWithin};
 ghost use Rattle.sfi_scan.specs.Findings.{AreReadingFindings};
 ghost use Rattle.sfi_scan.specs.Near.{near};
 ghost use Rattle.sfi_scan.specs.Pairs.{is_reserved, follows_pair, follows_code_pair};
-ghost use Rattle.sfi_scan.specs.Rules.{is_last_bundle};
-ghost use Rattle.sfi_scan.specs.FirstLook.{AreBefore, is_zero, is_clean, IsCleanOne};
+ghost use Rattle.sfi_scan.specs.Rules.{is_last_bundle, may_access};
+ghost use Rattle.sfi_scan.specs.FirstLook.{AreBefore, is_zero, is_withheld, is_clean, IsCleanOne, IsStackWrite, AreStackPair};
 
 use crate::before::{CODE, DATA, Pair, is_reserved, may_be_target};
 use crate::bundle::BundlePlace;
-use crate::rules::{is_bundle_start, is_last_bundle, offset_by};
+use crate::rules::{STACK, is_bundle_start, is_last_bundle, offset_by};
 use rv_comp::outline16;
 use rv_word::{Outline, Reg, RegOp, op_word, outline32};
 
@@ -72,15 +73,39 @@ impl Words {
     }
 }
 
+/// Whether nothing that this look lets pass writes the register.
+#[inline(always)]
+fn is_withheld(stack: bool, reg: Reg) -> bool
+    ensures { (b : BundlePlace) → stack ≡ has_stack b.format → result ≡ is_withheld b reg }
+{
+    is_reserved(reg) || (stack && reg.number() == STACK)
+}
+
+/// Whether an access on this base stays in the data and its guard zones.
+#[inline(always)]
+fn may_access(stack: bool, words: Words, base: Reg) -> bool
+    ensures { (b : BundlePlace) (earlier : List Instr) → stack ≡ has_stack b.format → AreBefore words (near earlier) → OnTrue result (may_access b base earlier ≡ true) }
+{
+    (stack && base.number() == STACK) || words.is_pair(DATA, base)
+}
+
 /// Whether an indirect jump breaks no rule there.
 #[inline(always)]
-fn is_clean_jump(words: Words, rd: Reg, base: Reg, imm: i32) -> bool
-    ensures { (earlier : List Instr) → AreBefore words (near earlier) → OnTrue result ((not (is_reserved rd) && (is_zero imm && follows_code_pair base earlier)) ≡ true) }
+fn is_clean_jump(
+    place: &BundlePlace,
+    stack: bool,
+    words: Words,
+    rd: Reg,
+    base: Reg,
+    imm: i32,
+) -> bool
+    requires { stack ≡ has_stack place.now.format }
+    ensures { (earlier : List Instr) → AreBefore words (near earlier) → OnTrue result ((not (is_withheld place.now rd) && (is_zero imm && follows_code_pair base earlier)) ≡ true) }
 {
     if imm != 0 {
         return false;
     }
-    if is_reserved(rd) {
+    if is_withheld(stack, rd) {
         return false;
     }
     words.is_pair(CODE, base)
@@ -88,19 +113,20 @@ fn is_clean_jump(words: Words, rd: Reg, base: Reg, imm: i32) -> bool
 
 /// Whether an instruction that does this breaks no rule there. The bundle isn't the region's last.
 #[inline(always)]
-fn is_clean(place: &BundlePlace, address: u32, words: Words, outline: Outline) -> bool
-    requires { IsWithin place.now }
+fn is_clean(place: &BundlePlace, stack: bool, address: u32, words: Words, outline: Outline) -> bool
+    requires within { IsWithin place.now }
+    requires stack { stack ≡ has_stack place.now.format }
     ensures { (earlier : List Instr) → AreBefore words (near earlier) → OnTrue result (is_clean place.now address earlier outline ≡ true) }
 {
     match outline {
-        Outline::Computes { rd } => !is_reserved(rd),
-        Outline::Loads { rd, base } => !is_reserved(rd) && words.is_pair(DATA, base),
-        Outline::Stores { base } => words.is_pair(DATA, base),
+        Outline::Computes { rd } => !is_withheld(stack, rd),
+        Outline::Loads { rd, base } => !is_withheld(stack, rd) && may_access(stack, words, base),
+        Outline::Stores { base } => may_access(stack, words, base),
         Outline::Branches { offset } => is_bundle_start(place, offset_by(address, offset)),
         Outline::Jumps { rd, offset } => {
-            !is_reserved(rd) && is_bundle_start(place, offset_by(address, offset))
+            !is_withheld(stack, rd) && is_bundle_start(place, offset_by(address, offset))
         }
-        Outline::JumpsTo { rd, base, imm } => is_clean_jump(words, rd, base, imm),
+        Outline::JumpsTo { rd, base, imm } => is_clean_jump(place, stack, words, rd, base, imm),
         Outline::Orders | Outline::Stops => true,
         Outline::Calls => false,
     }
@@ -108,31 +134,71 @@ fn is_clean(place: &BundlePlace, address: u32, words: Words, outline: Outline) -
 
 /// Whether the halfword is a form that breaks no rule there.
 #[inline(always)]
-fn is_clean_half(place: &BundlePlace, address: u32, words: Words, halfword: u16) -> bool
-    requires { IsWithin place.now }
+fn is_clean_half(
+    place: &BundlePlace,
+    stack: bool,
+    address: u32,
+    words: Words,
+    halfword: u16,
+) -> bool
+    requires within { IsWithin place.now }
+    requires stack { stack ≡ has_stack place.now.format }
     ensures { OnTrue result (IsCleanOne place.now address words (IsShortSpelling halfword)) }
 {
     match outline16(halfword) {
-        Some(outline) => is_clean(place, address, words, outline),
+        Some(outline) => is_clean(place, stack, address, words, outline),
         None => false,
     }
 }
 
 /// Whether the word is an instruction that breaks no rule there.
 #[inline(always)]
-fn is_clean_word(place: &BundlePlace, address: u32, words: Words, word: u32) -> bool
-    requires { IsWithin place.now }
+fn is_clean_word(place: &BundlePlace, stack: bool, address: u32, words: Words, word: u32) -> bool
+    requires within { IsWithin place.now }
+    requires stack { stack ≡ has_stack place.now.format }
     ensures { OnTrue result (IsCleanOne place.now address words (IsWordOf word)) }
 {
     match outline32(word) {
-        Some(outline) => is_clean(place, address, words, outline),
+        Some(outline) => is_clean(place, stack, address, words, outline),
         None => false,
     }
 }
 
-/// Whether the bundle is seen to break no rule but perhaps that of a gate's bundle.
-pub(crate) fn is_seen_clean(place: &BundlePlace, bytes: &[u8; 16]) -> bool
-    requires { IsWithin place.now }
+/// Whether the word is an instruction that computes into the stack pointer, or loads into it from near it.
+fn is_stack_write(word: u32) -> bool
+    ensures { OnTrue result (IsStackWrite word) }
+{
+    match outline32(word) {
+        Some(outline) => match outline {
+            Outline::Computes { rd } => rd.number() == STACK,
+            Outline::Loads { rd, base } => rd.number() == STACK && base.number() == STACK,
+            _ => false,
+        },
+        None => false,
+    }
+}
+
+/// Whether the words are the pair on the stack pointer.
+#[inline(always)]
+fn is_stack_pair(first: u32, second: u32) -> bool
+    ensures { OnTrue result (AreStackPair first second) }
+{
+    let stack = register(STACK);
+    let placing = op_word(RegOp::Or, stack, stack, register(26));
+    if placing != second {
+        return false;
+    }
+    let any = register((first >> 15 & 0b11111) as u8);
+    let masking = op_word(RegOp::And, stack, any, register(27));
+    masking == first
+}
+
+/// Whether the bundle is seen to break no rule but perhaps that of a gate's bundle. It is compiled once for a format with a stack
+/// pointer and once for one without.
+#[inline(always)]
+fn looks_clean(place: &BundlePlace, stack: bool, bytes: &[u8; 16]) -> bool
+    requires within { IsWithin place.now }
+    requires stack { stack ≡ has_stack place.now.format }
     ensures { OnTrue result (AreReadingFindings place.now bytes.now []) }
 {
     // The law that the contract rests on: the call does nothing.
@@ -152,14 +218,29 @@ pub(crate) fn is_seen_clean(place: &BundlePlace, bytes: &[u8; 16]) -> bool
         let word = (rest & 0xffff_ffff) as u32;
         let address = place.address + at as u32;
         if word & 0b11 != 0b11 {
-            if !is_clean_half(place, address, words, (word & 0xffff) as u16) {
+            if !is_clean_half(place, stack, address, words, (word & 0xffff) as u16) {
                 return false;
             }
             words = words.and_then(0);
             rest >>= 16;
             at += 2;
+        } else if stack
+            && at <= 4
+            && is_stack_pair(
+                (rest >> 32 & 0xffff_ffff) as u32,
+                (rest >> 64 & 0xffff_ffff) as u32,
+            )
+            && is_stack_write(word)
+        {
+            // The stack pointer is written, and put back into the data.
+            words = Words {
+                first: (rest >> 32 & 0xffff_ffff) as u32,
+                second: (rest >> 64 & 0xffff_ffff) as u32,
+            };
+            rest >>= 96;
+            at += 12;
         } else {
-            if at > 12 || !is_clean_word(place, address, words, word) {
+            if at > 12 || !is_clean_word(place, stack, address, words, word) {
                 return false;
             }
             words = words.and_then(word);
@@ -168,4 +249,16 @@ pub(crate) fn is_seen_clean(place: &BundlePlace, bytes: &[u8; 16]) -> bool
         }
     }
     true
+}
+
+/// The same. What it has to say of the first format is as quick as if there were no second.
+pub(crate) fn is_seen_clean(place: &BundlePlace, bytes: &[u8; 16]) -> bool
+    requires { IsWithin place.now }
+    ensures { OnTrue result (AreReadingFindings place.now bytes.now []) }
+{
+    if place.format.has_stack() {
+        looks_clean(place, true, bytes)
+    } else {
+        looks_clean(place, false, bytes)
+    }
 }

@@ -4,6 +4,7 @@
 //! stand behind a masked pair in the same bundle (Wahbe and others, 1993, "Efficient Software-Based Fault Isolation").
 #![tactic(auto)]
 
+mod ahead;
 mod before;
 mod bundle;
 mod clean;
@@ -18,6 +19,6 @@ mod scan;
 pub use bundle::BundlePlace;
 pub use finding::Finding;
 pub use findings::BundleFindings;
-pub use part::scan_part;
+pub use part::{scan_part, scan_part_as};
 pub use rule::Rule;
 pub use scan::scan_bundle;

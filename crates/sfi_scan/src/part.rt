@@ -1,5 +1,6 @@
 //! The scan of a sandbox's part of an image.
 ghost use Rattle.std.specs.Prelude.{◌≡◌, IfOk, drop};
+ghost use Rattle.sfi_image.specs.declared.format.Format.TheVariants.{Sfi1};
 ghost use Rattle.sfi_image.specs.Spelling.{view};
 ghost use Rattle.sfi_image.specs.Parts.{IsRightPart};
 ghost use Rattle.sfi_scan.specs.Findings.{AreFindings};
@@ -9,7 +10,7 @@ use crate::bundle::BundlePlace;
 use crate::finding::Finding;
 use crate::findings::BundleFindings;
 use crate::scan::scan_bundle;
-use sfi_image::{Gate, SandboxPart};
+use sfi_image::{Format, Gate, SandboxPart};
 use std::alloc::{AllocError, Global};
 
 /// Whether the first of the gates is at the address.
@@ -32,14 +33,16 @@ fn behind_first(gates: &[Gate]) -> &[Gate]
     }
 }
 
-/// The findings of the part, which is that of the sandbox of this number, in the order of their addresses.
-pub fn scan_part(
+/// The findings of the part of an image of this format, which is that of the sandbox of this number, in the order of their
+/// addresses.
+pub fn scan_part_as(
     alloc: Global,
+    format: Format,
     sandbox: u32,
     part: &SandboxPart,
 ) -> Result<Vec<Finding>, AllocError>
-    requires { IsRightPart (view part.now) }
-    ensures { IfOk result (λ found. AreFindings sandbox (view part.now) found.items) }
+    requires { IsRightPart (view format part.now) }
+    ensures { IfOk result (λ found. AreFindings sandbox (view format part.now) found.items) }
 {
     let mut found = Vec::new(alloc);
     let mut findings = BundleFindings::new();
@@ -53,6 +56,7 @@ pub fn scan_part(
         let place = BundlePlace {
             sandbox,
             address,
+            format,
             code_base: part.code_base,
             code_size: part.code.len() as u32,
             listed,
@@ -61,4 +65,16 @@ pub fn scan_part(
         found.extend_from_slice(findings.as_slice())?;
     }
     Ok(found)
+}
+
+/// The same for an image of the first format.
+pub fn scan_part(
+    alloc: Global,
+    sandbox: u32,
+    part: &SandboxPart,
+) -> Result<Vec<Finding>, AllocError>
+    requires { IsRightPart (view Sfi1 part.now) }
+    ensures { IfOk result (λ found. AreFindings sandbox (view Sfi1 part.now) found.items) }
+{
+    scan_part_as(alloc, Format::Sfi1, sandbox, part)
 }

@@ -22,12 +22,14 @@ pub enum Rule {
     V8,
     /// A listed gate's bundle isn't the gate stub.
     V9,
+    /// The stack pointer of the second format is written, and the pair that puts it into the data isn't directly behind.
+    V10,
 }
 
 impl Rule {
     ghost use Rattle.sfi_scan.specs.Numbers.{number_of};
 
-    /// The rule's number, 1 to 9.
+    /// The rule's number, 1 to 10.
     pub fn number(self) -> u32
         ensures { result ≡ number_of self }
     {
@@ -41,6 +43,7 @@ impl Rule {
             Rule::V7 => 7,
             Rule::V8 => 8,
             Rule::V9 => 9,
+            Rule::V10 => 10,
         }
     }
 }

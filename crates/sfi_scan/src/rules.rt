@@ -1,14 +1,18 @@
 //! The rules, each as a test on an instruction and what stands around it.
-ghost use Rattle.std.specs.Prelude.{◌≡◌, ◌&&◌};
+ghost use Rattle.std.specs.Prelude.{◌≡◌, ◌&&◌, not, List};
+ghost use Rattle.rv_word.specs.declared.instr.Instr.{Instr};
+ghost use Rattle.sfi_scan.specs.Readings.{Piece, IsLongestReading};
+ghost use Rattle.sfi_scan.specs.Stack.{is_stack, writes_stack, is_stack_pair, begins_pair, ends_pair, precedes_pair, is_jump};
 ghost use Rattle.sfi_scan.specs.Bundles.{IsWithin};
-ghost use Rattle.sfi_scan.specs.Rules.{Place, is_empty, offset_by, is_bundle_start, is_last_bundle, breaks_ecall, breaks_reserved, breaks_access, breaks_jump, breaks_target, ends_region};
+ghost use Rattle.sfi_scan.specs.Rules.{Place, is_empty, offset_by, is_bundle_start, is_last_bundle, breaks_ecall, breaks_reserved, breaks_access, breaks_jump, breaks_target, breaks_stack, may_write_stack, may_access, ends_region};
 ghost use Rattle.sfi_scan.specs.Findings.{lowest, all_rules};
-ghost use Rattle.sfi_scan.specs.Near.{near, finding_of};
+ghost use Rattle.sfi_scan.specs.Near.{near, ahead, finding_of};
 
-use crate::before::{Before, CODE, DATA, is_reserved};
+use crate::ahead::{Ahead, read_ahead};
+use crate::before::{Before, CODE, DATA, is_masking, is_placing, is_reserved};
 use crate::bundle::BundlePlace;
 use crate::rule::Rule;
-use rv_word::Instr;
+use rv_word::{Instr, Reg};
 
 fn breaks_ecall(place: &BundlePlace, is_first: bool, instr: &Instr) -> bool
     ensures { (x : Place) → x.bundle ≡ place.now → is_empty x.earlier ≡ is_first → result ≡ breaks_ecall x instr.now }
@@ -28,11 +32,23 @@ fn breaks_reserved(instr: &Instr) -> bool
     }
 }
 
-fn breaks_access(before: &Before, instr: &Instr) -> bool
-    ensures { (x : Place) → near x.earlier ≡ before.now → result ≡ breaks_access x instr.now }
+/// The stack pointer's number.
+pub(crate) const STACK: u8 = 2;
+
+/// The register is the stack pointer of the bundle's format.
+fn is_stack(place: &BundlePlace, reg: Reg) -> bool
+    ensures { result ≡ is_stack place.now reg }
+{
+    place.format.has_stack() && reg.number() == STACK
+}
+
+fn breaks_access(place: &BundlePlace, before: &Before, instr: &Instr) -> bool
+    ensures { (x : Place) → x.bundle ≡ place.now → near x.earlier ≡ before.now → result ≡ breaks_access x instr.now }
 {
     match *instr {
-        Instr::Load { rs1, .. } | Instr::Store { rs1, .. } => !before.is_pair(DATA, rs1),
+        Instr::Load { rs1, .. } | Instr::Store { rs1, .. } => {
+            !(is_stack(place, rs1) || before.is_pair(DATA, rs1))
+        }
         _ => false,
     }
 }
@@ -87,30 +103,93 @@ pub(crate) fn is_last_bundle(place: &BundlePlace) -> bool
     place.address - place.code_base == place.code_size - 16
 }
 
-/// The lowest rule that the instruction breaks, if any.
+/// The two are the pair on the stack pointer.
+fn is_stack_pair(first: &Instr, second: &Instr) -> bool
+    ensures { result ≡ is_stack_pair first.now second.now }
+{
+    is_masking(DATA.mask, STACK, first) && is_placing(DATA.base, STACK, second)
+}
+
+fn writes_stack(place: &BundlePlace, instr: &Instr) -> bool
+    ensures { result ≡ writes_stack place.now instr.now }
+{
+    match instr.writes() {
+        Some(rd) => is_stack(place, rd),
+        None => false,
+    }
+}
+
+fn is_jump(instr: &Instr) -> bool
+    ensures { result ≡ is_jump instr.now }
+{
+    matches!(instr, Instr::Jal { .. } | Instr::Jalr { .. })
+}
+
+fn begins_pair(instr: &Instr, two: &Ahead) -> bool
+    ensures { (later : List Piece) → ahead later ≡ two.now → result ≡ begins_pair instr.now later }
+{
+    match &two.first {
+        Some(next) => is_stack_pair(instr, next),
+        None => false,
+    }
+}
+
+fn ends_pair(before: &Before, instr: &Instr) -> bool
+    ensures { (earlier : List Instr) → near earlier ≡ before.now → result ≡ ends_pair earlier instr.now }
+{
+    match &before.second {
+        Some(nearest) => is_stack_pair(nearest, instr),
+        None => false,
+    }
+}
+
+fn precedes_pair(two: &Ahead) -> bool
+    ensures { (later : List Piece) → ahead later ≡ two.now → result ≡ precedes_pair later }
+{
+    match (&two.first, &two.second) {
+        (Some(first), Some(second)) => is_stack_pair(first, second),
+        (None, _) | (_, None) => false,
+    }
+}
+
+fn breaks_stack(place: &BundlePlace, before: &Before, instr: &Instr, behind: &[u8]) -> bool
+    ensures { (x : Place) → x.bundle ≡ place.now → near x.earlier ≡ before.now → IsLongestReading behind.now x.later → result ≡ breaks_stack x instr.now }
+{
+    if !writes_stack(place, instr) {
+        return false;
+    }
+    let two = read_ahead(behind);
+    !(begins_pair(instr, &two)
+        || ends_pair(before, instr)
+        || (!is_jump(instr) && precedes_pair(&two)))
+}
+
+/// The lowest rule that the instruction breaks, if any. These bytes of its bundle stand behind it.
 pub(crate) fn lowest_rule(
     place: &BundlePlace,
     address: u32,
     before: &Before,
     instr: &Instr,
-    is_last: bool,
+    behind: &[u8],
 ) -> Option<Rule>
     requires { IsWithin place.now }
-    ensures { (x : Place) → x.bundle ≡ place.now → x.address ≡ address → near x.earlier ≡ before.now → x.instr ≡ instr.now → (x.whole && is_empty x.later) ≡ is_last → lowest x all_rules ≡ finding_of place.now address result }
+    ensures { (x : Place) → x.bundle ≡ place.now → x.address ≡ address → near x.earlier ≡ before.now → x.instr ≡ instr.now → (x.whole && is_empty x.later) ≡ is_empty behind.now → IsLongestReading behind.now x.later → lowest x all_rules ≡ finding_of place.now address result }
 {
     let is_first = before.second.is_none();
     if breaks_ecall(place, is_first, instr) {
         Some(Rule::V3)
     } else if breaks_reserved(instr) {
         Some(Rule::V4)
-    } else if breaks_access(before, instr) {
+    } else if breaks_access(place, before, instr) {
         Some(Rule::V5)
     } else if breaks_jump(before, instr) {
         Some(Rule::V6)
     } else if breaks_target(place, address, instr) {
         Some(Rule::V7)
-    } else if is_last && is_last_bundle(place) && !ends_region(instr) {
+    } else if behind.is_empty() && is_last_bundle(place) && !ends_region(instr) {
         Some(Rule::V8)
+    } else if breaks_stack(place, before, instr, behind) {
+        Some(Rule::V10)
     } else {
         None
     }

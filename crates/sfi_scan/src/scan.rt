@@ -43,7 +43,7 @@ fn scan_instructions(place: &BundlePlace, bytes: &[u8; 16], findings: &mut Bundl
             Front::Read(instr, size) => {
                 let next = at + size as usize;
                 let address = place.address + at as u32;
-                if let Some(rule) = lowest_rule(place, address, &before, &instr, next == 16) {
+                if let Some(rule) = lowest_rule(place, address, &before, &instr, &bytes[next..]) {
                     findings.push(finding(place, at, rule));
                 }
                 before = before.and_then(instr);

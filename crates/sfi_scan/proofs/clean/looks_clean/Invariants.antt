@@ -1,6 +1,6 @@
 use Rattle.std.proofs.Common.{◌-◌}
 use Rattle.sfi_scan.proofs.Look.{Looks}
-use Rattle.sfi_scan.proofs.clean.is_seen_clean.Given as goal
+use Rattle.sfi_scan.proofs.clean.looks_clean.Given as goal
 
 -- nothing is found so far
 abbrev pub invariant-loop-at : goal.invariant-loop-at

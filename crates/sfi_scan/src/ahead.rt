@@ -1,0 +1,48 @@
+//! The instructions directly behind a place.
+ghost use Rattle.std.specs.Prelude.{◌≡◌, ◌+◌, ◌≤◌, length, List, []};
+ghost use Rattle.sfi_scan.specs.Near.{ahead};
+ghost use Rattle.sfi_scan.specs.Readings.{Piece, IsLongestReading};
+
+use rv_comp::{Front, read_front};
+use rv_word::Instr;
+
+/// The two instructions directly behind a place in its bundle, as far as there are.
+#[derive(Clone, Copy)]
+pub(crate) struct Ahead {
+    pub(crate) first: Option<Instr>,
+    pub(crate) second: Option<Instr>,
+}
+
+/// The instruction that these bytes begin with.
+fn first_of(bytes: &[u8]) -> Option<Instr>
+    ensures { (later : List Piece) → IsLongestReading bytes.now later → result ≡ (ahead later).first }
+{
+    match read_front(bytes) {
+        Front::Read(instr, _) => Some(instr),
+        Front::Short => None,
+        Front::Bad => None,
+    }
+}
+
+fn none_ahead() -> Ahead
+    ensures { result ≡ ahead [] }
+{
+    Ahead {
+        first: None,
+        second: None,
+    }
+}
+
+/// Those that these bytes are read as, the last of a bundle.
+pub(crate) fn read_ahead(bytes: &[u8]) -> Ahead
+    ensures { (later : List Piece) → IsLongestReading bytes.now later → result ≡ ahead later }
+{
+    match read_front(bytes) {
+        Front::Read(instr, size) => Ahead {
+            first: Some(instr),
+            second: first_of(&bytes[size as usize..]),
+        },
+        Front::Short => none_ahead(),
+        Front::Bad => none_ahead(),
+    }
+}
