@@ -110,7 +110,7 @@ store_range width rs1 rs2 imm h = h.2
 
 -- ---- registers
 
-kept : (r value j : ℕ) (h : Hart) → j ≢ r → slice_index (with_register h r value).registers j ≡ slice_index h.registers j
+pub kept : (r value j : ℕ) (h : Hart) → j ≢ r → slice_index (with_register h r value).registers j ≡ slice_index h.registers j
 kept r value j h ne =
     cond_both (r == 0) h.registers (set h.registers r value) (λ (l : List ℕ). get_or l j 0 ≡ get_or h.registers j 0)
     (λ e. refl)

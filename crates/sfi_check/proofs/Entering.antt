@@ -5,12 +5,13 @@ use Rattle.std.specs.Cmp.{nat_cmp_total, unsigned_tied}
 use Rattle.std.specs.Ordering.{nat_cmp}
 use Rattle.std.specs.FinMap.{empty, get-empty, insert, get-insert}
 use Rattle.rv_mem.specs.Bytes.{Bytes, IsMemory, byte_at}
+use Rattle.sfi_image.specs.Formats.{code_most}
 use Rattle.sfi_image.specs.Spelling.{Part}
 use Rattle.sfi_image.specs.Spans.{AreApart, code_region, guarded_region}
 use Rattle.sfi_image.specs.Parts.{IsRightPart}
 use Rattle.sfi_check.specs.Regions.{InGuard}
 use Rattle.sfi_check.specs.Laws.{CanBeEntered}
-use Rattle.sfi_check.proofs.Masks.{region_end}
+use Rattle.sfi_check.proofs.Masks.{code_at_most, region_end}
 
 -- bytes from an address on, and nothing else
 bytes_from : ℕ → List ℕ → Bytes
@@ -84,15 +85,16 @@ outside p a right apart guard = by_order guard
     by_order (inr (from, below)) = not_in (omega arith) below
 
 pub entered : CanBeEntered
-entered p h right apart small hart start reserved = (
+entered p h right apart small hart start reserved stack = (
   bytes_from p.code_base p.code,
   record {
     state = record {
       hart = hart;
-      memory = bytes_are p.code_base p.code (region_end p.code_base (length p.code) 256 65536 (omega arith) right.words.fields.code_base right.code_placed) small;
+      memory = bytes_are p.code_base p.code (region_end p.code_base (length p.code) 256 (code_most p.format) (omega (arith, code_at_most p.format)) right.words.fields.code_base right.code_placed) small;
     };
     start = start;
     reserved = reserved;
+    stack = stack;
     code = there p.code_base p.code;
     guards = λ a guard. nowhere_else p.code_base p.code a (outside p a right apart guard);
   },

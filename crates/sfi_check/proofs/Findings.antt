@@ -2,13 +2,14 @@
 use Rattle.std.proofs.Common.{◌≡◌, ℕ, ◌+◌, ◌<◌, ◌≤◌, List, [], ◌∷◌, ◌++◌, length, get_or, take, refl, sym, ap, ◌∙◌, subst, arith, append_assoc, add-zero}
 use Rattle.std.specs.List.{All}
 use Rattle.std.proofs.lemmas.List.{take_more, append-nil, take_all, length-map, length-take, get_or-map}
+use Rattle.sfi_image.specs.declared.format.Format.{Format}
 use Rattle.sfi_image.specs.declared.part.SandboxPart.{SandboxPart}
 use Rattle.sfi_image.specs.Spelling.{Part, view, views}
 use Rattle.sfi_image.specs.Parts.{IsRightPart, IsRightLayout}
 use Rattle.sfi_scan.specs.declared.finding.Finding.{Finding}
 use Rattle.sfi_scan.specs.Findings.{AreFindings, AreFindingsFrom, AreImageFindings}
 
-findings_append : (n m : ℕ) (parts : List Part) (p : Part) (found last : List Finding) → AreFindingsFrom n parts found → AreFindings m p last → m ≡ n + length parts → AreFindingsFrom n (parts ++ p ∷ []) (found ++ last)
+pub findings_append : (n m : ℕ) (parts : List Part) (p : Part) (found last : List Finding) → AreFindingsFrom n parts found → AreFindings m p last → m ≡ n + length parts → AreFindingsFrom n (parts ++ p ∷ []) (found ++ last)
 findings_append n m [] p found last h here e =
     let at : m ≡ n = e ∙ add-zero n in
     (last, [], subst (λ k. AreFindings k p last) at here, refl, ap (λ (l : List Finding). l ++ last) h ∙ sym (append-nil last))
@@ -17,23 +18,23 @@ findings_append n m (q ∷ parts) p found last h here e =
     (h.0, h.1 ++ last, h.2, rest, ap (λ (l : List Finding). l ++ last) h.4 ∙ append_assoc h.0 h.1 last)
 
 -- the parts in the list that the code goes over are right
-pub right_at : (image : List Part) (items : List SandboxPart) (i : ℕ) (d : SandboxPart) → views items ≡ image → IsRightLayout image → i < length items → IsRightPart (view (get_or items i d))
-right_at image items i d e right h =
+pub right_at : (f : Format) (image : List Part) (items : List SandboxPart) (i : ℕ) (d : SandboxPart) → views f items ≡ image → IsRightLayout image → i < length items → IsRightPart (view f (get_or items i d))
+right_at f image items i d e right h =
     let each = subst (λ (l : List Part). All IsRightPart l) (sym e) right.right.each in
-    let within : i < length (views items) = omega (arith, length-map items view) in
-    subst (λ (p : Part). IsRightPart p) (get_or-map view items i d (view d) h) (each i (view d) within)
+    let within : i < length (views f items) = omega (arith, length-map items (view f)) in
+    subst (λ (p : Part). IsRightPart p) (get_or-map (view f) items i d (view f d) h) (each i (view f d) within)
 
-pub one_more : (image : List Part) (items : List SandboxPart) (i : ℕ) (d : SandboxPart) (found last : List Finding) → views items ≡ image → i < length items → AreImageFindings (take i image) found → AreFindings i (view (get_or items i d)) last → AreImageFindings (take (i + 1) image) (found ++ last)
-one_more image items i d found last e h before here =
-    let within : i < length (views items) = omega (arith, length-map items view) in
-    let longer : take (i + 1) (views items) ≡ take i (views items) ++ view (get_or items i d) ∷ [] =
-    take_more (views items) i (view d) within ∙ ap (λ (p : Part). take i (views items) ++ p ∷ []) (get_or-map view items i d (view d) h) in
-    let count : i ≡ 0 + length (take i (views items)) = omega (arith, length-take i (views items)) in
+pub one_more : (f : Format) (image : List Part) (items : List SandboxPart) (i : ℕ) (d : SandboxPart) (found last : List Finding) → views f items ≡ image → i < length items → AreImageFindings (take i image) found → AreFindings i (view f (get_or items i d)) last → AreImageFindings (take (i + 1) image) (found ++ last)
+one_more f image items i d found last e h before here =
+    let within : i < length (views f items) = omega (arith, length-map items (view f)) in
+    let longer : take (i + 1) (views f items) ≡ take i (views f items) ++ view f (get_or items i d) ∷ [] =
+    take_more (views f items) i (view f d) within ∙ ap (λ (p : Part). take i (views f items) ++ p ∷ []) (get_or-map (view f) items i d (view f d) h) in
+    let count : i ≡ 0 + length (take i (views f items)) = omega (arith, length-take i (views f items)) in
     let before' = subst (λ (l : List Part). AreImageFindings (take i l) found) (sym e) before in
-    let more = findings_append 0 i (take i (views items)) (view (get_or items i d)) found last before' here count in
+    let more = findings_append 0 i (take i (views f items)) (view f (get_or items i d)) found last before' here count in
     subst (λ (l : List Part). AreImageFindings l (found ++ last)) (sym longer ∙ ap (take (i + 1)) e) more
 
-pub in_the_end : (image : List Part) (items : List SandboxPart) (i : ℕ) (found : List Finding) → views items ≡ image → length items ≤ i → AreImageFindings (take i image) found → AreImageFindings image found
-in_the_end image items i found e h before =
-    let all : length image ≤ i = omega (arith, length-map items view, ap length e) in
+pub in_the_end : (f : Format) (image : List Part) (items : List SandboxPart) (i : ℕ) (found : List Finding) → views f items ≡ image → length items ≤ i → AreImageFindings (take i image) found → AreImageFindings image found
+in_the_end f image items i found e h before =
+    let all : length image ≤ i = omega (arith, length-map items (view f), ap length e) in
     subst (λ (l : List Part). AreImageFindings l found) (take_all i image all) before

@@ -5,15 +5,16 @@ use Rattle.std.proofs.lemmas.List.{drop-drop}
 use Rattle.rv_comp.specs.Fronts.{Spells}
 use Rattle.rv_mem.specs.Bytes.{address_after}
 use Rattle.rv_step.specs.State.{Hart}
+use Rattle.sfi_image.specs.Formats.{code_most}
 use Rattle.sfi_image.specs.Spelling.{Part}
-use Rattle.sfi_scan.specs.declared.rule.Rule.TheVariants.{V3, V4, V5, V6, V7, V8, V9}
+use Rattle.sfi_scan.specs.declared.rule.Rule.TheVariants.{V3, V4, V5, V6, V7, V8, V9, V10}
 use Rattle.sfi_scan.specs.declared.finding.Finding.{Finding}
 use Rattle.sfi_scan.specs.Bundles.{place_of, bundle_bytes}
 use Rattle.sfi_scan.specs.Readings.{Piece, IsReading, rest_of}
-use Rattle.sfi_scan.specs.Rules.{Place, breaks, breaks_ecall, breaks_reserved, breaks_access, breaks_jump, breaks_target, breaks_end, ends_region, is_empty}
+use Rattle.sfi_scan.specs.Rules.{Place, breaks, breaks_ecall, breaks_reserved, breaks_access, breaks_jump, breaks_target, breaks_end, breaks_stack, ends_region, is_empty}
 use Rattle.sfi_scan.specs.Findings.{lowest, all_rules, findings_from}
 use Rattle.sfi_check.specs.Leaving.{Leaves}
-use Rattle.sfi_check.specs.Places.{IsCleanPart, IsAtPlace}
+use Rattle.sfi_check.specs.Places.{IsCleanPart, HasStackBefore, IsAtPlace}
 use Rattle.sfi_check.proofs.Masks.{bundles_of}
 use Rattle.sfi_check.proofs.Places.{spelled_length, spelled_some, nothing_before, at_start, bundle_length, here_within, code_end}
 
@@ -25,6 +26,7 @@ pub record KeepsRules (x : Place) : Type 0 where
   pub jump : breaks_jump x x.instr ≡ false
   pub target : breaks_target x x.instr ≡ false
   pub end : breaks_end x x.instr ≡ false
+  pub stack : breaks_stack x x.instr ≡ false
 
 not_first : (b : Bool) (f : Finding) (rest : List Finding) → cond b (f ∷ []) rest ≡ [] → (b ≡ false) × (rest ≡ [])
 not_first true f rest h = absurd cc
@@ -32,13 +34,14 @@ not_first false f rest h = (refl, h)
 
 keeps_rules : (x : Place) → lowest x all_rules ≡ [] → KeepsRules x
 keeps_rules x h =
-    let v3 = not_first (breaks x V3) _ (lowest x (V4 ∷ V5 ∷ V6 ∷ V7 ∷ V8 ∷ V9 ∷ [])) h in
-    let v4 = not_first (breaks x V4) _ (lowest x (V5 ∷ V6 ∷ V7 ∷ V8 ∷ V9 ∷ [])) v3.1 in
-    let v5 = not_first (breaks x V5) _ (lowest x (V6 ∷ V7 ∷ V8 ∷ V9 ∷ [])) v4.1 in
-    let v6 = not_first (breaks x V6) _ (lowest x (V7 ∷ V8 ∷ V9 ∷ [])) v5.1 in
-    let v7 = not_first (breaks x V7) _ (lowest x (V8 ∷ V9 ∷ [])) v6.1 in
-    let v8 = not_first (breaks x V8) _ (lowest x (V9 ∷ [])) v7.1 in
-    record { ecall = v3.0; reserved = v4.0; access = v5.0; jump = v6.0; target = v7.0; end = v8.0 }
+    let v3 = not_first (breaks x V3) _ (lowest x (V4 ∷ V5 ∷ V6 ∷ V7 ∷ V8 ∷ V9 ∷ V10 ∷ [])) h in
+    let v4 = not_first (breaks x V4) _ (lowest x (V5 ∷ V6 ∷ V7 ∷ V8 ∷ V9 ∷ V10 ∷ [])) v3.1 in
+    let v5 = not_first (breaks x V5) _ (lowest x (V6 ∷ V7 ∷ V8 ∷ V9 ∷ V10 ∷ [])) v4.1 in
+    let v6 = not_first (breaks x V6) _ (lowest x (V7 ∷ V8 ∷ V9 ∷ V10 ∷ [])) v5.1 in
+    let v7 = not_first (breaks x V7) _ (lowest x (V8 ∷ V9 ∷ V10 ∷ [])) v6.1 in
+    let v8 = not_first (breaks x V8) _ (lowest x (V9 ∷ V10 ∷ [])) v7.1 in
+    let v10 = not_first (breaks x V10) _ [] v8.1 in
+    record { ecall = v3.0; reserved = v4.0; access = v5.0; jump = v6.0; target = v7.0; end = v8.0; stack = v10.0 }
 
 -- the place where the machine is
 abbrev pub place_here : (sandbox : ℕ) (p : Part) (h : Hart) → IsAtPlace sandbox p h → Place
@@ -80,14 +83,14 @@ something_left bytes x h =
 
 module _ (sandbox : ℕ) (p : Part) (h h' : Hart) (clean : IsCleanPart sandbox p) (at : IsAtPlace sandbox p h) where
   -- behind the last piece of a bundle that is not the region's last
-  over_the_end : at.later ≡ [] → h'.pc ≡ address_after h.pc at.here.size → ends_region at.here.instr ≡ false → IsAtPlace sandbox p h'
-  over_the_end nil pc' goes =
+  over_the_end : at.later ≡ [] → h'.pc ≡ address_after h.pc at.here.size → ends_region at.here.instr ≡ false → HasStackBefore p (at.here.instr ∷ at.earlier) at.later h'.registers → IsAtPlace sandbox p h'
+  over_the_end nil pc' goes stack =
       let b = at.number in
       let size = here_within sandbox p h clean at in
       let end = code_end sandbox p clean in
       let pc : h.pc ≡ p.code_base + 16 * b + at.offset = at.pc in
       let within : 16 * b + 16 ≤ length p.code = at.within in
-      let bundles = bundles_of p.code_base (length p.code) 65536 clean.right.code_placed in
+      let bundles = bundles_of p.code_base (length p.code) (code_most p.format) clean.right.code_placed in
       let base_is : p.code_base ≡ 16 * bundles.1 = bundles.3 in
       let size_is : length p.code ≡ 16 * bundles.0 = bundles.2 in
       let gone : drop at.here.size (drop at.offset (bundle_bytes p b)) ≡ [] =
@@ -103,12 +106,12 @@ module _ (sandbox : ℕ) (p : Part) (h h' : Hart) (clean : IsCleanPart sandbox p
       let other : p.code_base + 16 * b + 16 ≢ p.code_base + length p.code = eqb-false _ _ not_last in
       let next : p.code_base + 16 * b + 16 < p.code_base + length p.code = omega arith in
       let to : h'.pc ≡ p.code_base + 16 * b + 16 = pc' ∙ omega arith in
-      at_start sandbox p h' clean (record { held = (omega arith, omega arith); aligned = omega arith })
+      at_start sandbox p h' clean (record { held = (omega arith, omega arith); aligned = omega arith }) (subst (λ (l : List Piece). HasStackBefore p (at.here.instr ∷ at.earlier) l h'.registers) nil stack)
 
   -- before another piece of the same bundle
-  to_the_next : (x : Piece) (later : List Piece) → at.later ≡ x ∷ later → h'.pc ≡ address_after h.pc at.here.size → Leaves p (at.here.instr ∷ at.earlier) h'.registers → IsAtPlace sandbox p h'
+  to_the_next : (x : Piece) (later : List Piece) → at.later ≡ x ∷ later → h'.pc ≡ address_after h.pc at.here.size → Leaves p (at.here.instr ∷ at.earlier) h'.registers → HasStackBefore p (at.here.instr ∷ at.earlier) at.later h'.registers → IsAtPlace sandbox p h'
   unfolding later_clean
-  to_the_next x later is pc' leaves =
+  to_the_next x later is pc' leaves stack =
       let b = at.number in
       let size = here_within sandbox p h clean at in
       let end = code_end sandbox p clean in
@@ -135,12 +138,13 @@ module _ (sandbox : ℕ) (p : Part) (h h' : Hart) (clean : IsCleanPart sandbox p
         pc = pc' ∙ (let e : address_after h.pc at.here.size ≡ p.code_base + 16 * b + (at.offset + at.here.size) = omega (arith, inside, pc, within, end) in e);
         first = λ none. absurd (let e : at.here.instr ∷ at.earlier ≡ [] = none in cc);
         leaves = leaves;
+        stack = subst (λ (l : List Piece). HasStackBefore p (at.here.instr ∷ at.earlier) l h'.registers) is stack;
       }
 
   -- to what is behind an instruction that does not end a region
-  pub goes_on : h'.pc ≡ address_after h.pc at.here.size → ends_region at.here.instr ≡ false → Leaves p (at.here.instr ∷ at.earlier) h'.registers → IsAtPlace sandbox p h'
-  goes_on pc' goes leaves = by_later at.later refl
+  pub goes_on : h'.pc ≡ address_after h.pc at.here.size → ends_region at.here.instr ≡ false → Leaves p (at.here.instr ∷ at.earlier) h'.registers → HasStackBefore p (at.here.instr ∷ at.earlier) at.later h'.registers → IsAtPlace sandbox p h'
+  goes_on pc' goes leaves stack = by_later at.later refl
     where
       by_later : (later : List Piece) → at.later ≡ later → IsAtPlace sandbox p h'
-      by_later [] is = over_the_end is pc' goes
-      by_later (x ∷ later) is = to_the_next x later is pc' leaves
+      by_later [] is = over_the_end is pc' goes stack
+      by_later (x ∷ later) is = to_the_next x later is pc' leaves stack

@@ -10,6 +10,7 @@ use Rattle.rv_word.specs.declared.instr.Instr.TheVariants.{Op}
 use Rattle.rv_word.specs.Spelling.{InRange}
 use Rattle.rv_step.specs.State.{Hart, register, with_register}
 use Rattle.rv_step.specs.Values.{result_of}
+use Rattle.sfi_image.specs.Formats.{code_most}
 use Rattle.sfi_image.specs.Spelling.{Part}
 use Rattle.sfi_image.specs.Spans.{code_region}
 use Rattle.sfi_image.specs.Regions.{IsBundleStart}
@@ -111,7 +112,7 @@ leaves_after p before after i earlier right count reserved range writes had = re
       let x = had.code_mask t pair.mask_before in
       let value = after_placing 24 t i before after pair.placing pair.target count range writes in
       let value' : register after t ≡ bit_or (bit_and x.0 (length p.code - 16)) p.code_base = value ∙ ap (λ n. bit_or n (register before 24)) x.1 ∙ ap (λ n. bit_or (bit_and x.0 (length p.code - 16)) n) reserved.x24 in
-      let placed = masked_code p.code_base (length p.code) 65536 x.0 right.code_placed in
+      let placed = masked_code p.code_base (length p.code) (code_most p.format) x.0 right.code_placed in
       subst (λ n. IsBundleStart (code_region p) n) (sym value') (record { held = (placed.0.from, placed.0.below); aligned = placed.1 });
   data_mask = λ t h.
       let parts = mask_parts 27 t i earlier h in

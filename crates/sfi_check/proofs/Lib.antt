@@ -13,5 +13,11 @@ pub mod Running
 pub mod Safe
 pub mod Samples
 pub mod Sandboxed
+pub mod Calling
+pub mod Stacking
 pub mod Stepping
 pub mod Verdicts
+pub mod Tallying
+pub mod Leading
+pub mod Chains
+pub mod Judging

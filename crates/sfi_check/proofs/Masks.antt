@@ -4,7 +4,15 @@ use Rattle.std.specs.Int.Bits.{bit_and, bit_or}
 use Rattle.std.proofs.lemmas.Nat.{and_mask, or_shifted, or_comm, mod_below, pow_pos, pow-add, pow_below}
 use Rattle.std.proofs.lemmas.Nat.Bits.{and_high}
 use Rattle.std.proofs.lemmas.Bool.{cases_lt}
+use Rattle.sfi_image.specs.declared.format.Format.{Format}
+use Rattle.sfi_image.specs.declared.format.Format.TheVariants.{Sfi1, Sfi2}
+use Rattle.sfi_image.specs.Formats.{code_most}
 use Rattle.sfi_image.specs.Regions.{IsRegion}
+
+-- no code region is larger than this
+pub code_at_most : (format : Format) → code_most format ≤ 1048576
+code_at_most Sfi1 = omega arith
+code_at_most Sfi2 = omega arith
 
 -- a number below 2 ^ k, put into a block of 2 ^ k
 in_block : (q k r : ℕ) → r < 2 ^ k → bit_or r (q * 2 ^ k) ≡ q * 2 ^ k + r

@@ -1,5 +1,5 @@
 -- A hart at a bundle start is at that bundle's first piece, and the one instruction there is the reading's.
-use Rattle.std.proofs.Common.{◌≡◌, ℕ, zero, suc, ◌+◌, ◌-◌, ◌*◌, ◌/◌, ◌%◌, ◌^◌, ◌<◌, ◌≤◌, List, [], ◌∷◌, ◌++◌, length, map, get_or, take, drop, Some, true, refl, sym, ap, ◌∙◌, subst, inl, inr, ⊎_elim, arith, length-take, length-drop, get_or-drop, get_or-take, add-zero, lit≤}
+use Rattle.std.proofs.Common.{◌≡◌, ℕ, zero, suc, ◌+◌, ◌-◌, ◌*◌, ◌/◌, ◌%◌, ◌^◌, ◌<◌, ◌≤◌, List, [], ◌∷◌, ◌++◌, length, map, get_or, take, drop, Some, true, refl, sym, ap, ◌∙◌, subst, inl, inr, ⊎_elim, arith, length-take, length-drop, get_or-drop, get_or-take, add-zero}
 use Rattle.std.specs.Prelude.{slice_index}
 use Rattle.std.specs.List.{range_with_len}
 use Rattle.std.proofs.lemmas.Bool.{cases_lt}
@@ -8,6 +8,7 @@ use Rattle.rv_comp.specs.Fronts.{Spells}
 use Rattle.rv_mem.specs.Bytes.{Bytes, byte_at, bytes_at, address_after, addresses}
 use Rattle.rv_step.specs.State.{Hart}
 use Rattle.rv_step.specs.Step.{Stands}
+use Rattle.sfi_image.specs.Formats.{code_most}
 use Rattle.sfi_image.specs.Spelling.{Part}
 use Rattle.sfi_image.specs.Spans.{code_region}
 use Rattle.sfi_image.specs.Regions.{IsBundleStart}
@@ -17,9 +18,9 @@ use Rattle.sfi_scan.specs.Bundles.{place_of, bundle_bytes}
 use Rattle.sfi_scan.specs.Readings.{Piece, IsReading, rest_of}
 use Rattle.sfi_scan.specs.Rules.{is_empty}
 use Rattle.sfi_scan.specs.Findings.{findings_from, rest_finding, AreReadingFindings, AreBundleFindings, AreFindingsOfFirst}
-use Rattle.sfi_check.specs.Regions.{InCode, HasCode}
+use Rattle.sfi_check.specs.Regions.{InCode, HasStack, HasCode}
 use Rattle.sfi_check.specs.Places.{IsCleanPart, IsAtPlace}
-use Rattle.sfi_check.proofs.Masks.{region_end, bundles_of}
+use Rattle.sfi_check.proofs.Masks.{code_at_most, region_end, bundles_of}
 use Rattle.sfi_check.proofs.Leaving.{leaves_nothing}
 
 -- ---- spellings
@@ -71,13 +72,13 @@ pub bundle_length : (p : Part) (b : ℕ) → 16 * b + 16 ≤ length p.code → l
 bundle_length p b within = simp (length-take, length-drop) (omega arith)
 
 pub code_end : (sandbox : ℕ) (p : Part) → IsCleanPart sandbox p → p.code_base + length p.code ≤ 2 ^ 32
-code_end sandbox p clean = region_end p.code_base (length p.code) 256 65536 (lit≤ tt) clean.right.words.fields.code_base clean.right.code_placed
+code_end sandbox p clean = region_end p.code_base (length p.code) 256 (code_most p.format) (omega (arith, code_at_most p.format)) clean.right.words.fields.code_base clean.right.code_placed
 
 -- a reading that leaves nothing has a first piece
 at_first : (sandbox : ℕ) (p : Part) (h : Hart) (b : ℕ) → 16 * b + 16 ≤ length p.code → h.pc ≡ p.code_base + 16 * b → length (bundle_bytes p b) ≡ 16
-    → (reading : List Piece) → IsReading (bundle_bytes p b) reading → rest_of (bundle_bytes p b) reading ≡ [] → findings_from (place_of sandbox p b) true (p.code_base + 16 * b) [] reading ≡ [] → IsAtPlace sandbox p h
-at_first sandbox p h b within pc size [] is whole clean = absurd (let e = sym size ∙ ap length whole in omega arith)
-at_first sandbox p h b within pc size (here ∷ later) is whole clean = record {
+    → HasStack p h.registers → (reading : List Piece) → IsReading (bundle_bytes p b) reading → rest_of (bundle_bytes p b) reading ≡ [] → findings_from (place_of sandbox p b) true (p.code_base + 16 * b) [] reading ≡ [] → IsAtPlace sandbox p h
+at_first sandbox p h b within pc size stack [] is whole clean = absurd (let e = sym size ∙ ap length whole in omega arith)
+at_first sandbox p h b within pc size stack (here ∷ later) is whole clean = record {
   number = b;
   within = within;
   offset = 0;
@@ -90,12 +91,13 @@ at_first sandbox p h b within pc size (here ∷ later) is whole clean = record {
   pc = pc ∙ sym (add-zero (p.code_base + 16 * b));
   first = λ _. refl;
   leaves = leaves_nothing p h.registers;
+  stack = λ has. inl (stack has);
 }
 
 -- at a bundle start
-pub at_start : (sandbox : ℕ) (p : Part) (h : Hart) → IsCleanPart sandbox p → IsBundleStart (code_region p) h.pc → IsAtPlace sandbox p h
-at_start sandbox p h clean start =
-    let bundles = bundles_of p.code_base (length p.code) 65536 clean.right.code_placed in
+pub at_start : (sandbox : ℕ) (p : Part) (h : Hart) → IsCleanPart sandbox p → IsBundleStart (code_region p) h.pc → HasStack p h.registers → IsAtPlace sandbox p h
+at_start sandbox p h clean start stack =
+    let bundles = bundles_of p.code_base (length p.code) (code_most p.format) clean.right.code_placed in
     let base_is : p.code_base ≡ 16 * bundles.1 = bundles.3 in
     let from : p.code_base ≤ h.pc = start.held.0 in
     let below : h.pc < p.code_base + length p.code = start.held.1 in
@@ -108,7 +110,7 @@ at_start sandbox p h clean start =
     let within : 16 * b + 16 ≤ length p.code = omega arith in
     let found = by_reading (place_of sandbox p b) (bundle_bytes p b) (clean_bundle sandbox p n [] clean.none_found.2 refl b number) in
     let all = all_clean (place_of sandbox p b) (bundle_bytes p b) found in
-    at_first sandbox p h b within pc (bundle_length p b within) found.reading found.longest.is_reading all.0 all.1
+    at_first sandbox p h b within pc (bundle_length p b within) stack found.reading found.longest.is_reading all.0 all.1
 
 -- ---- the one instruction there
 

@@ -8,13 +8,14 @@ use Rattle.rv_word.specs.declared.instr.Instr.TheVariants.{Ebreak}
 use Rattle.rv_word.specs.Spelling.{spelling, InRange}
 use Rattle.rv_comp.specs.Fronts.{Spells}
 use Rattle.rv_comp.specs.Laws.{OneSpelling}
+use Rattle.sfi_image.specs.declared.format.Format.{Format}
 use Rattle.sfi_scan.specs.declared.bundle.BundlePlace.{BundlePlace}
 use Rattle.sfi_scan.specs.declared.finding.Finding.{Finding}
 use Rattle.sfi_scan.specs.Bundles.{place_of, bundle_bytes}
 use Rattle.sfi_scan.specs.Readings.{Piece, IsReading, rest_of}
 use Rattle.sfi_scan.specs.Rules.{is_empty}
 use Rattle.sfi_scan.specs.Findings.{findings_from, rest_finding, AreBundleFindings, AreFindingsOfFirst, AreFindings}
-use Rattle.sfi_check.specs.Samples.{words_of, sample}
+use Rattle.sfi_check.specs.Samples.{words_of, sample_as}
 use Rattle.sfi_check.proofs.Places.{spelled_length, spelled_some}
 
 -- nothing is spelled by no bytes
@@ -71,29 +72,29 @@ four_words law place bytes a b c d found unlisted is sa sb sc sd e =
     subst (λ (l : List ℕ). AreBundleFindings place l found) is
     (read_bundle law place (words_of (a ∷ b ∷ c ∷ d ∷ [])) (four a b c d) found unlisted (sa, (sb, (sc, (sd, tt)))) refl e)
 
-module _ (law : OneSpelling) (a b c d e f g h : Instr) where
+module _ (law : OneSpelling) (format : Format) (a b c d e f g h : Instr) where
   abbrev is : List Instr
   is = a ∷ b ∷ c ∷ d ∷ e ∷ f ∷ g ∷ h ∷ []
 
   -- one bundle of ebreaks more
-  more : (n : ℕ) (found : List Finding) → words_of (Ebreak ∷ Ebreak ∷ Ebreak ∷ Ebreak ∷ []) ≡ bundle_bytes (sample is) n → findings_from (place_of 0 (sample is) n) true (0x01000000 + 16 * n) [] (four Ebreak Ebreak Ebreak Ebreak) ≡ []
-      → AreFindingsOfFirst 0 (sample is) n found → AreFindingsOfFirst 0 (sample is) (suc n) found
+  more : (n : ℕ) (found : List Finding) → words_of (Ebreak ∷ Ebreak ∷ Ebreak ∷ Ebreak ∷ []) ≡ bundle_bytes (sample_as format is) n → findings_from (place_of 0 (sample_as format is) n) true (0x01000000 + 16 * n) [] (four Ebreak Ebreak Ebreak Ebreak) ≡ []
+      → AreFindingsOfFirst 0 (sample_as format is) n found → AreFindingsOfFirst 0 (sample_as format is) (suc n) found
   more n found bytes none before =
-      (found, [], before, four_words law (place_of 0 (sample is) n) (bundle_bytes (sample is) n) Ebreak Ebreak Ebreak Ebreak [] refl bytes ebreak_spelled ebreak_spelled ebreak_spelled ebreak_spelled none, sym (append-nil found))
+      (found, [], before, four_words law (place_of 0 (sample_as format is) n) (bundle_bytes (sample_as format is) n) Ebreak Ebreak Ebreak Ebreak [] refl bytes ebreak_spelled ebreak_spelled ebreak_spelled ebreak_spelled none, sym (append-nil found))
 
   first_two : (x y : List Finding) → IsSpelled a → IsSpelled b → IsSpelled c → IsSpelled d → IsSpelled e → IsSpelled f → IsSpelled g → IsSpelled h
-      → findings_from (place_of 0 (sample is) 0) true 0x01000000 [] (four a b c d) ≡ x → findings_from (place_of 0 (sample is) 1) true 0x01000010 [] (four e f g h) ≡ y → AreFindingsOfFirst 0 (sample is) 2 (x ++ y)
+      → findings_from (place_of 0 (sample_as format is) 0) true 0x01000000 [] (four a b c d) ≡ x → findings_from (place_of 0 (sample_as format is) 1) true 0x01000010 [] (four e f g h) ≡ y → AreFindingsOfFirst 0 (sample_as format is) 2 (x ++ y)
   first_two x y sa sb sc sd se sf sg sh first second = (
     x,
     y,
-    ([], x, refl, four_words law (place_of 0 (sample is) 0) (bundle_bytes (sample is) 0) a b c d x refl refl sa sb sc sd first, refl),
-    four_words law (place_of 0 (sample is) 1) (bundle_bytes (sample is) 1) e f g h y refl refl se sf sg sh second,
+    ([], x, refl, four_words law (place_of 0 (sample_as format is) 0) (bundle_bytes (sample_as format is) 0) a b c d x refl refl sa sb sc sd first, refl),
+    four_words law (place_of 0 (sample_as format is) 1) (bundle_bytes (sample_as format is) 1) e f g h y refl refl se sf sg sh second,
     refl,
   )
 
   -- the findings of a sample are those of its first two bundles
   pub all_findings : (x y : List Finding) → IsSpelled a → IsSpelled b → IsSpelled c → IsSpelled d → IsSpelled e → IsSpelled f → IsSpelled g → IsSpelled h
-      → findings_from (place_of 0 (sample is) 0) true 0x01000000 [] (four a b c d) ≡ x → findings_from (place_of 0 (sample is) 1) true 0x01000010 [] (four e f g h) ≡ y → AreFindings 0 (sample is) (x ++ y)
+      → findings_from (place_of 0 (sample_as format is) 0) true 0x01000000 [] (four a b c d) ≡ x → findings_from (place_of 0 (sample_as format is) 1) true 0x01000010 [] (four e f g h) ≡ y → AreFindings 0 (sample_as format is) (x ++ y)
   all_findings x y sa sb sc sd se sf sg sh first second =
       let at2 = first_two x y sa sb sc sd se sf sg sh first second in
       let at4 = more 3 (x ++ y) refl refl (more 2 (x ++ y) refl refl at2) in

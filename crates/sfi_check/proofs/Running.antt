@@ -14,11 +14,12 @@ use Rattle.sfi_check.specs.Regions.{IsGate, HasCode, HasReserved, HasEmptyGuards
 use Rattle.sfi_check.specs.Runs.{KeepsBytes, IsReply, IsChange, Turn, Steps, Replies, Changes, IsTurn, IsRun, after_turn}
 use Rattle.sfi_check.specs.Safety.{IsSafeState, IsSafeTurn, IsSafeRun}
 use Rattle.sfi_check.specs.Leaving.{Leaves}
-use Rattle.sfi_check.specs.Places.{IsCleanPart, IsGood, IsGoodIf}
+use Rattle.sfi_check.specs.Places.{HasStackBefore, IsCleanPart, IsGood, IsGoodIf}
 use Rattle.sfi_check.specs.Laws.{EntryIsGood, TurnKeeps, CleanRunsSafely}
 use Rattle.sfi_check.proofs.Leaving.{leaves_after}
 use Rattle.sfi_check.proofs.Places.{at_start, pc_in_code, byte_in_code}
 use Rattle.sfi_check.proofs.Going.{goes_on}
+use Rattle.sfi_check.proofs.Stacking.{stack_lies}
 use Rattle.sfi_check.proofs.Stepping.{Machine, only, stands_here, step_good, step_safe}
 
 -- ---- what is not a step
@@ -63,7 +64,7 @@ module _ (laws : Machine) (sandbox : ℕ) (p : Part) (clean : IsCleanPart sandbo
             code = code_kept p s.memory after.memory r.bytes good.kept.code;
             guards = guards_kept p s.memory after.memory r.bytes good.kept.guards;
           };
-          place = goes_on sandbox p s.hart after.hart clean at pc goes (subst (λ (i : Instr). Leaves p (i ∷ at.earlier) after.hart.registers) e.0 left);
+          place = goes_on sandbox p s.hart after.hart clean at pc goes (subst (λ (i : Instr). Leaves p (i ∷ at.earlier) after.hart.registers) e.0 left) (stack_lies p (at.here.instr ∷ at.earlier) at.later after.hart.registers r.stack);
         }
 
     change_good : (after : State) → IsChange p s after → IsGood sandbox p after
@@ -89,6 +90,7 @@ module _ (laws : Machine) (sandbox : ℕ) (p : Part) (clean : IsCleanPart sandbo
             pc = c.pc ∙ at.pc;
             first = at.first;
             leaves = subst (λ (l : List ℕ). Leaves p at.earlier l) (sym c.registers) at.leaves;
+            stack = subst (λ (l : List ℕ). HasStackBefore p at.earlier (at.here ∷ at.later) l) (sym c.registers) at.stack;
           };
         }
 
@@ -124,7 +126,7 @@ entry_good sandbox p s clean entry = record {
     code = entry.code;
     guards = entry.guards;
   };
-  place = at_start sandbox p s.hart clean entry.start;
+  place = at_start sandbox p s.hart clean entry.start entry.stack;
 }
 
 -- a change that changes nothing

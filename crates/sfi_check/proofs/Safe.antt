@@ -20,6 +20,7 @@ use Rattle.sfi_scan.specs.declared.finding.Finding.{Finding}
 use Rattle.sfi_scan.specs.Findings.{AreFindings, AreFindingsFrom}
 use Rattle.sfi_check.specs.Runs.{IsRun}
 use Rattle.sfi_check.specs.Safety.{IsSafeRun, RunsSafelyFrom, RunsSafely, AllRunSafely}
+use Rattle.sfi_check.specs.Stack.{AllCallWithStack}
 use Rattle.sfi_check.specs.Laws.{CleanRunsSafely, SafeTurns, SafeStaysSafe, SafeFetches}
 use Rattle.sfi_check.specs.Verdict.{IsClean, MayRun}
 use Rattle.sfi_check.proofs.Places.{nothing_before}
@@ -82,10 +83,10 @@ fetches is p s r at from step = (
 -- ---- images
 
 -- the first sandbox's code lies apart from its data and guards, and the others are right too
-first_apart : (p : Part) (ps : List Part) → AreRight (p ∷ ps) → AreApart (code_region p) (guarded_region p)
+pub first_apart : (p : Part) (ps : List Part) → AreRight (p ∷ ps) → AreApart (code_region p) (guarded_region p)
 first_apart p ps right = right.apart 0 1 (code_region p) (omega arith) (omega arith)
 
-others_right : (p : Part) (ps : List Part) → AreRight (p ∷ ps) → AreRight ps
+pub others_right : (p : Part) (ps : List Part) → AreRight (p ∷ ps) → AreRight ps
 others_right p ps right = record {
   each = λ k d below. right.each (suc k) d (omega (arith, below));
   apart = λ i j d less below. right.apart (suc (suc i)) (suc (suc j)) d (omega (arith, less)) (omega (arith, below));
@@ -107,5 +108,5 @@ each_safe law sandbox (p ∷ ps) found right none h (suc k) d below =
 pub all_safe : CleanRunsSafely → (ps : List Part) → IsClean ps → AllRunSafely ps
 all_safe law ps clean = record { each = each_safe law 0 ps [] clean.layout.right refl clean.none_found }
 
-pub may_run : CleanRunsSafely → (ps : List Part) → IsClean ps → MayRun ps
-may_run law ps clean = record { clean = clean; safe = all_safe law ps clean }
+pub may_run : CleanRunsSafely → (ps : List Part) → IsClean ps → AllCallWithStack ps → MayRun ps
+may_run law ps clean calls = record { clean = clean; safe = all_safe law ps clean; calls = calls }

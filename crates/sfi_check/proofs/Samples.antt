@@ -10,6 +10,9 @@ use Rattle.rv_mem.specs.Bytes.{Bytes, byte_at, bytes_at, addresses, address_afte
 use Rattle.rv_step.specs.Access.{Accesses}
 use Rattle.rv_step.specs.State.{Hart, IsHart}
 use Rattle.rv_step.specs.Step.{Stepped, Stands, IsStep, effect, next}
+use Rattle.sfi_image.specs.declared.format.Format.{Format}
+use Rattle.sfi_image.specs.declared.format.Format.TheVariants.{Sfi1, Sfi2}
+use Rattle.sfi_image.specs.Formats.{code_most}
 use Rattle.sfi_image.specs.Spelling.{Part}
 use Rattle.sfi_image.specs.Spans.{AreApart, code_region, guarded_region}
 use Rattle.sfi_image.specs.Regions.{IsBundleStart}
@@ -17,7 +20,7 @@ use Rattle.sfi_image.specs.Parts.{IsRightPart}
 use Rattle.sfi_check.specs.Regions.{InData, InGuard, HasReserved, HasCode}
 use Rattle.sfi_check.specs.Runs.{Steps, after_step}
 use Rattle.sfi_check.specs.Safety.{RunsSafelyFrom, RunsSafely}
-use Rattle.sfi_check.specs.Samples.{sample}
+use Rattle.sfi_check.specs.Samples.{sample, sample_as}
 use Rattle.sfi_check.proofs.Places.{spelled_length, read_all}
 use Rattle.sfi_check.proofs.Safe.{stays_safe}
 use Rattle.sfi_check.proofs.Entering.{entered}
@@ -34,8 +37,13 @@ pub record IsSample (is : List Instr) : Type 0 where
   pub size : length (sample is).code ≡ 256
   pub bytes : (k : ℕ) → slice_index (sample is).code k < 256
 
-pub right_part : (is : List Instr) → IsSample is → IsRightPart (sample is)
-right_part is of =
+-- no code region need be larger than this
+code_at_least : (f : Format) → 256 ≤ code_most f
+code_at_least Sfi1 = omega arith
+code_at_least Sfi2 = omega arith
+
+pub right_part : (f : Format) (is : List Instr) → IsSample is → IsRightPart (sample_as f is)
+right_part f is of =
     let size = of.size in
     record {
       words = record {
@@ -50,7 +58,7 @@ right_part is of =
         };
         gates = λ k d below. absurd (omega arith);
       };
-      code_placed = record { power = 8; size_is = size; at_least = omega (arith, size); at_most = omega (arith, size); multiple = 65536; base_is = sym (ap (λ (n : ℕ). 65536 * n) size) };
+      code_placed = record { power = 8; size_is = size; at_least = omega (arith, size); at_most = omega (arith, size, code_at_least f); multiple = 65536; base_is = sym (ap (λ (n : ℕ). 65536 * n) size) };
       data_placed = record { power = 8; size_is = refl; at_least = omega arith; at_most = omega arith; multiple = 98304; base_is = refl };
       guard_room = record { below = omega arith; above = omega arith };
       start = record { held = (omega arith, omega (arith, size)); aligned = refl };
@@ -63,17 +71,21 @@ right_part is of =
       };
     }
 
-pub apart : (is : List Instr) → IsSample is → AreApart (code_region (sample is)) (guarded_region (sample is))
-apart is of a (low, high) (from, below) = let size = of.size in omega arith
+pub apart : (f : Format) (is : List Instr) → IsSample is → AreApart (code_region (sample_as f is)) (guarded_region (sample_as f is))
+apart f is of a (low, high) (from, below) = let size = of.size in omega arith
 
 -- ---- entries
 
--- x10 is 240, the reserved registers but x26 have their values, and all others but x31 are 0
-abbrev pub hart : ℕ → ℕ → ℕ → Hart
-hart pc x26 x31 = record {
+-- x10 is 240, the reserved registers but x26 have their values, and all others but x2 and x31 are 0
+abbrev pub stack_hart : ℕ → ℕ → ℕ → ℕ → Hart
+stack_hart x2 pc x26 x31 = record {
   pc = pc;
-  registers = replicate 10 0 ++ (240 ∷ (replicate 13 0 ++ (0x01000000 ∷ 240 ∷ x26 ∷ 255 ∷ 0 ∷ 0 ∷ 0 ∷ x31 ∷ [])));
+  registers = 0 ∷ 0 ∷ x2 ∷ replicate 7 0 ++ (240 ∷ (replicate 13 0 ++ (0x01000000 ∷ 240 ∷ x26 ∷ 255 ∷ 0 ∷ 0 ∷ 0 ∷ x31 ∷ [])));
 }
+
+-- x2 points to the data
+abbrev pub hart : ℕ → ℕ → ℕ → Hart
+hart pc x26 x31 = stack_hart 0x01800000 pc x26 x31
 
 pub is_hart : (pc : ℕ) → pc % 2 ≡ 0 → pc < 2 ^ 32 → IsHart (hart pc 0x01800000 0)
 is_hart pc even fits = record {
@@ -84,20 +96,20 @@ is_hart pc even fits = record {
   zero = refl;
 }
 
-pub reserved : (is : List Instr) → IsSample is → (pc : ℕ) → HasReserved (sample is) (hart pc 0x01800000 0).registers
-reserved is of pc = let size = of.size in record { x24 = refl; x25 = sym (ap (λ (n : ℕ). n - 16) size); x26 = refl; x27 = refl }
+pub reserved : (f : Format) (is : List Instr) → IsSample is → (pc : ℕ) → HasReserved (sample_as f is) (hart pc 0x01800000 0).registers
+reserved f is of pc = let size = of.size in record { x24 = refl; x25 = sym (ap (λ (n : ℕ). n - 16) size); x26 = refl; x27 = refl }
 
 -- a run may begin at the bundle of that number
-pub record Begins (is : List Instr) (pc : ℕ) : Type 0 where
+pub record Begins (f : Format) (is : List Instr) (pc : ℕ) : Type 0 where
   pub memory : Bytes
-  pub code : HasCode (sample is) memory
-  pub safe : RunsSafelyFrom (sample is) (record { hart = hart pc 0x01800000 0; memory = memory })
+  pub code : HasCode (sample_as f is) memory
+  pub safe : RunsSafelyFrom (sample_as f is) (record { hart = hart pc 0x01800000 0; memory = memory })
 
-pub begins : (is : List Instr) → IsSample is → RunsSafely (sample is) → (n : ℕ) → n < 16 → Begins is (0x01000000 + 16 * n)
-begins is of safe n few =
+pub begins : (f : Format) (is : List Instr) → IsSample is → RunsSafely (sample_as f is) → (n : ℕ) → n < 16 → Begins f is (0x01000000 + 16 * n)
+begins f is of safe n few =
     let size = of.size in
-    let start : IsBundleStart (code_region (sample is)) (0x01000000 + 16 * n) = record { held = (omega arith, omega (arith, size)); aligned = omega arith } in
-    let m = entered (sample is) (hart (0x01000000 + 16 * n) 0x01800000 0) (right_part is of) (apart is of) of.bytes (is_hart (0x01000000 + 16 * n) (omega arith) (omega arith)) start (reserved is of (0x01000000 + 16 * n)) in
+    let start : IsBundleStart (code_region (sample_as f is)) (0x01000000 + 16 * n) = record { held = (omega arith, omega (arith, size)); aligned = omega arith } in
+    let m = entered (sample_as f is) (hart (0x01000000 + 16 * n) 0x01800000 0) (right_part f is of) (apart f is of) of.bytes (is_hart (0x01000000 + 16 * n) (omega arith) (omega arith)) start (reserved f is of (0x01000000 + 16 * n)) (λ has. (omega arith, omega arith)) in
     record { memory = m.0; code = m.1.code; safe = safe.from (record { hart = hart (0x01000000 + 16 * n) 0x01800000 0; memory = m.0 }) m.1 }
 
 -- ---- steps
@@ -132,7 +144,7 @@ module _ (p : Part) (m : Bytes) (code : HasCode p m) where
   pub reaches : (h : Hart) (i : Instr) (a : ℕ) → RunsSafelyFrom p (record { hart = h; memory = m }) → Stands (record { hart = h; memory = m }) i 4 → Accesses i h a → InData p a ⊎ InGuard p a
   reaches h i a from stands has = (from.safe (Steps (effect i 4 h m) ∷ []) (step_here h i stands, tt)).1.within i 4 stands a has
 
-pub far : (is : List Instr) (a : ℕ) → a + 4096 < 0x01800000 → InData (sample is) a ⊎ InGuard (sample is) a → ⊥
-far is a h (inl (from, below)) = omega arith
-far is a h (inr (inl (from, below))) = omega arith
-far is a h (inr (inr (from, below))) = omega arith
+pub far : (f : Format) (is : List Instr) (a : ℕ) → a + 4096 < 0x01800000 → InData (sample_as f is) a ⊎ InGuard (sample_as f is) a → ⊥
+far f is a h (inl (from, below)) = omega arith
+far f is a h (inr (inl (from, below))) = omega arith
+far f is a h (inr (inr (from, below))) = omega arith

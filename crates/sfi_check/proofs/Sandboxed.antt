@@ -18,7 +18,8 @@ use Rattle.rv_step.specs.Step.{Stepped, effect, next, unchanged}
 use Rattle.sfi_image.specs.Spelling.{Part}
 use Rattle.sfi_image.specs.Spelling as image
 use Rattle.sfi_image.specs.declared.span.Span.{Span}
-use Rattle.sfi_image.specs.Parts.{IsRightPart}
+use Rattle.sfi_image.specs.declared.format.Format.TheVariants.{Sfi1}
+use Rattle.sfi_image.specs.Parts.{IsRightPart, AreOf}
 use Rattle.sfi_image.specs.Spans.{AreApart, code_region, guarded_region}
 use Rattle.sfi_scan.specs.Findings.{AreFindings}
 use Rattle.sfi_check.specs.Regions.{InGuard, HasCode}
@@ -56,13 +57,13 @@ jump_there = inr (record { size = refl; all = refl; spelled = ((omega arith, ((o
 
 no_finding : OneSpelling → AreFindings 0 p []
 no_finding law =
-    all_findings law (Op And 31 10 27) (Op Or 31 31 26) (Store Sb 31 10 (pos 0)) (Jal 0 (minus 12)) Ebreak Ebreak Ebreak Ebreak [] []
+    all_findings law Sfi1 (Op And 31 10 27) (Op Or 31 31 26) (Store Sb 31 10 (pos 0)) (Jal 0 (minus 12)) Ebreak Ebreak Ebreak Ebreak [] []
     and_there or_there store_there jump_there ebreak_spelled ebreak_spelled ebreak_spelled ebreak_spelled refl refl
 
 -- ---- the image
 
 pairs_apart : (i j : ℕ) (d : Span) → i < j → j < 2 → AreApart (get_or (code_region p ∷ guarded_region p ∷ []) i d) (get_or (code_region p ∷ guarded_region p ∷ []) j d)
-pairs_apart zero (suc zero) d less below = apart sandboxed_store is_sample
+pairs_apart zero (suc zero) d less below = apart Sfi1 sandboxed_store is_sample
 pairs_apart zero zero d less below = absurd (omega arith)
 pairs_apart zero (suc (suc j)) d less below = absurd (omega arith)
 pairs_apart (suc i) zero d less below = absurd (omega arith)
@@ -75,14 +76,19 @@ accepted law = record {
     layout = record {
       at_least_one = omega arith;
       at_most = omega arith;
+      one_format = one;
       right = record { each = only; apart = pairs_apart };
     };
   };
   none_found = ([], [], no_finding law, refl, refl);
 }
   where
+    one : AreOf Sfi1 (p ∷ [])
+    one zero d below = refl
+    one (suc k) d below = absurd (omega arith)
+
     only : All IsRightPart (p ∷ [])
-    only zero d below = right_part sandboxed_store is_sample
+    only zero d below = right_part Sfi1 sandboxed_store is_sample
     only (suc k) d below = absurd (omega arith)
 
 -- ---- the run
@@ -125,7 +131,7 @@ stores : StoresByte p
 stores =
     let size = is_sample.size in
     let h = hart 0x01000000 0x01800000 0 in
-    let m = entered p h (right_part sandboxed_store is_sample) (apart sandboxed_store is_sample) is_sample.bytes (is_hart 0x01000000 refl (omega arith)) (record { held = (omega arith, omega (arith, size)); aligned = refl }) (reserved sandboxed_store is_sample 0x01000000) in
+    let m = entered p h (right_part Sfi1 sandboxed_store is_sample) (apart Sfi1 sandboxed_store is_sample) is_sample.bytes (is_hart 0x01000000 refl (omega arith)) (record { held = (omega arith, omega (arith, size)); aligned = refl }) (reserved Sfi1 sandboxed_store is_sample 0x01000000) (λ has. (omega arith, omega arith)) in
     let w = changed m.0 m.1.code m.1.guards in
     let code = changed_code m.0 m.1.code m.1.guards in
     let at0 = stands_at p w code (hart 0x01000000 0x01800000 0) 0 (Op And 31 10 27) refl (omega (arith, size)) (omega (arith, size)) and_there in

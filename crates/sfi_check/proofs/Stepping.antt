@@ -95,12 +95,15 @@ module _ (laws : Machine) (sandbox : ℕ) (p : Part) (s : State) (clean : IsClea
         access = rules.access;
         jump = rules.jump;
         target = rules.target;
+        writing = rules.stack;
+        format = refl;
+        stack = at.stack;
         gate = λ e listed.
             let first : p.code_base + 16 * at.number ≡ s.hart.pc = sym (at.pc ∙ ap (λ (n : ℕ). p.code_base + 16 * at.number + n) (at.first (no_earlier at.earlier e)) ∙ add-zero (p.code_base + 16 * at.number)) in
             subst (λ (a : ℕ). IsGate p a) first (gate_of p.gates (p.code_base + 16 * at.number) listed);
         is_start = bundle_start sandbox p at.number;
-        goes = λ h' pc goes leaves. goes_on sandbox p s.hart h' clean at pc goes leaves;
-        start = λ h' start. at_start sandbox p h' clean start;
+        goes = λ h' pc goes leaves stack. goes_on sandbox p s.hart h' clean at pc goes leaves stack;
+        start = λ h' start stack. at_start sandbox p h' clean start stack;
       }
 
   near_here : (a : ℕ) → Accesses good.place.here.instr s.hart a → InData p a ⊎ InGuard p a

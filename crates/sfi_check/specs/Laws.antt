@@ -11,9 +11,10 @@ use Rattle.sfi_image.specs.Spelling.{Part}
 use Rattle.sfi_image.specs.Spans.{AreApart, code_region, guarded_region}
 use Rattle.sfi_image.specs.Regions.{IsBundleStart}
 use Rattle.sfi_image.specs.Parts.{IsRightPart}
-use Rattle.sfi_check.specs.Regions.{HasReserved}
+use Rattle.sfi_check.specs.Regions.{HasReserved, HasStack}
 use Rattle.sfi_check.specs.Runs.{Turn, IsTurn, IsEntry, after_turn}
 use Rattle.sfi_check.specs.Safety.{IsSafeState, IsSafeTurn, RunsSafelyFrom, RunsSafely}
+use Rattle.sfi_check.specs.Stack.{GoesSafelyFrom, CallsWithStack}
 use Rattle.sfi_check.specs.Leaving.{Leaves, WritesResult}
 use Rattle.sfi_check.specs.Places.{IsCleanPart, IsGood, IsGoodIf}
 
@@ -54,9 +55,19 @@ SafeFetches =
     (p : Part) (s : State) (r : Stepped) (at : ℕ) → RunsSafelyFrom p s → IsStep s r
     → (r.outcome ≢ Trap Fetch at) × (r.outcome ≢ Trap Illegal at)
 
--- a sandbox with a right layout can be entered at each bundle start, with any registers beside the reserved ones
+-- a sandbox with a right layout can be entered at each bundle start, with any registers beside the reserved ones and a stack pointer
 abbrev pub CanBeEntered : Type 0
 CanBeEntered =
     (p : Part) (h : Hart) → IsRightPart p → AreApart (code_region p) (guarded_region p) → ((k : ℕ) → slice_index p.code k < 256)
-    → IsHart h → IsBundleStart (code_region p) h.pc → HasReserved p h.registers
+    → IsHart h → IsBundleStart (code_region p) h.pc → HasReserved p h.registers → HasStack p h.registers
     → (m : Bytes) × IsEntry p (record { hart = h; memory = m })
+
+-- in every run from every entry each call is made with the stack pointer in the data region
+abbrev pub CleanCallsWithStack : Type 0
+CleanCallsWithStack = (sandbox : ℕ) (p : Part) → IsCleanPart sandbox p → CallsWithStack p
+
+-- from where every run is safe and calls so, it goes on so behind each turn
+abbrev pub GoesOnSafely : Type 0
+GoesOnSafely =
+    (p : Part) (s after : State) (turn : Turn) → GoesSafelyFrom p s → IsTurn p s turn → after_turn turn ≡ Some after
+    → GoesSafelyFrom p after

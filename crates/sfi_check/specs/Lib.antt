@@ -5,5 +5,8 @@ pub mod Refusals
 pub mod Regions
 pub mod Runs
 pub mod Safety
+pub mod Stack
 pub mod Samples
 pub mod Verdict
+pub mod Tallies
+pub mod Streams

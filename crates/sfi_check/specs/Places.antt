@@ -1,14 +1,16 @@
 -- Where a run stands: the place of a bundle's reading, and what the registers hold there.
-use Rattle.std.specs.Prelude.{◌≡◌, ◌+◌, ◌*◌, ◌≤◌, ℕ, List, [], ◌∷◌, true, Option, Some, None, length, drop}
+use Rattle.std.specs.Prelude.{◌≡◌, ◌+◌, ◌*◌, ◌≤◌, ◌⊎◌, ◌||◌, ℕ, List, [], ◌∷◌, true, Option, Some, None, length, drop, slice_index}
 use Rattle.rv_word.specs.declared.instr.Instr.{Instr}
 use Rattle.rv_step.specs.State.{Hart, State}
+use Rattle.sfi_image.specs.Formats.{has_stack}
 use Rattle.sfi_image.specs.Spelling.{Part}
 use Rattle.sfi_image.specs.Spans.{AreApart, code_region, guarded_region}
 use Rattle.sfi_image.specs.Parts.{IsRightPart}
 use Rattle.sfi_scan.specs.Bundles.{place_of, bundle_bytes}
 use Rattle.sfi_scan.specs.Readings.{Piece, IsReading, rest_of}
+use Rattle.sfi_scan.specs.Stack.{begins_pair, ends_pair}
 use Rattle.sfi_scan.specs.Findings.{findings_from, AreFindings}
-use Rattle.sfi_check.specs.Regions.{HasReserved, HasCode, HasEmptyGuards}
+use Rattle.sfi_check.specs.Regions.{InData, HasReserved, HasStack, HasCode, HasEmptyGuards}
 use Rattle.sfi_check.specs.Leaving.{Leaves}
 
 -- the part of the sandbox of that number has a right layout, its code lies apart from its data and guards, and no rule is broken in it
@@ -23,6 +25,13 @@ pub record KeepsAll (p : Part) (s : State) : Type 0 where
   pub reserved : HasReserved p s.hart.registers
   pub code : HasCode p s.memory
   pub guards : HasEmptyGuards p s.memory
+
+-- A stack pointer lies in the data region at each bundle's end. Before, it lies there, or the pair that puts it there stands here, or has begun directly
+-- before. (`later` has the instruction here and those behind it.)
+abbrev pub HasStackBefore : Part → List Instr → List Piece → List ℕ → Type 0
+HasStackBefore p earlier [] registers = HasStack p registers
+HasStackBefore p earlier (here ∷ later) registers =
+    has_stack p.format ≡ true → InData p (slice_index registers 2) ⊎ ((begins_pair here.instr later || ends_pair earlier here.instr) ≡ true)
 
 -- pc is at an offset of a bundle from which the rest is read whole and has no finding, if `earlier` stood before it. That is any list, the nearest first,
 -- whose marks the registers bear, and it is empty at the bundle's start alone. So there are more such places than a run reaches.
@@ -39,6 +48,7 @@ pub record IsAtPlace (sandbox : ℕ) (p : Part) (h : Hart) : Type 0 where
   pub pc : h.pc ≡ p.code_base + 16 * number + offset
   pub first : earlier ≡ [] → offset ≡ 0
   pub leaves : Leaves p earlier h.registers
+  pub stack : HasStackBefore p earlier (here ∷ later) h.registers
 
 -- a good state: it has what all turns keep, and stands at a good place
 pub record IsGood (sandbox : ℕ) (p : Part) (s : State) : Type 0 where

@@ -1,6 +1,7 @@
 -- The addresses of a sandbox, and what of them a machine holds.
-use Rattle.std.specs.Prelude.{◌≡◌, ◌+◌, ◌-◌, ◌<◌, ◌⊎◌, ℕ, List, length, slice_get, slice_index, Some, None}
+use Rattle.std.specs.Prelude.{◌≡◌, ◌+◌, ◌-◌, ◌<◌, ◌⊎◌, ℕ, List, length, slice_get, slice_index, true, Some, None}
 use Rattle.sfi_image.specs.declared.part.Gate.{Gate}
+use Rattle.sfi_image.specs.Formats.{has_stack}
 use Rattle.sfi_image.specs.Spelling.{Part}
 use Rattle.sfi_image.specs.Spans.{Holds, code_region, data_region, lower_guard, upper_guard}
 use Rattle.rv_mem.specs.Bytes.{Bytes, byte_at}
@@ -27,6 +28,10 @@ pub record HasReserved (p : Part) (registers : List ℕ) : Type 0 where
   pub x25 : slice_index registers 25 ≡ length p.code - 16
   pub x26 : slice_index registers 26 ≡ p.data_base
   pub x27 : slice_index registers 27 ≡ p.data_size - 1
+
+-- where its format has a stack pointer, x2 lies in the data region; else nothing is asked
+abbrev pub HasStack : Part → List ℕ → Type 0
+HasStack p registers = has_stack p.format ≡ true → InData p (slice_index registers 2)
 
 -- at each code address is the image's byte
 abbrev pub HasCode : Part → Bytes → Type 0

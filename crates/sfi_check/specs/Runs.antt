@@ -9,13 +9,14 @@ use Rattle.rv_step.specs.Step.{Stepped, Stands, IsStep}
 use Rattle.sfi_image.specs.Spelling.{Part}
 use Rattle.sfi_image.specs.Spans.{code_region}
 use Rattle.sfi_image.specs.Regions.{IsBundleStart}
-use Rattle.sfi_check.specs.Regions.{InCode, InGuard, HasReserved, HasCode, HasEmptyGuards}
+use Rattle.sfi_check.specs.Regions.{InCode, InGuard, HasReserved, HasStack, HasCode, HasEmptyGuards}
 
--- A sandbox may be entered here: at any bundle start, with the reserved registers set. All else is arbitrary.
+-- A sandbox may be entered here: at any bundle start, with the reserved registers set and a stack pointer in the data. All else is arbitrary.
 pub record IsEntry (p : Part) (s : State) : Type 0 where
   pub state : IsState s
   pub start : IsBundleStart (code_region p) s.hart.pc
   pub reserved : HasReserved p s.hart.registers
+  pub stack : HasStack p s.hart.registers
   pub code : HasCode p s.memory
   pub guards : HasEmptyGuards p s.memory
 
@@ -33,13 +34,14 @@ pub record KeepsReserved (before after : Hart) : Type 0 where
   pub x26 : register after 26 ≡ register before 26
   pub x27 : register after 27 ≡ register before 27
 
--- a reply to the ecall at pc: it goes on behind that. The other registers and all other memory are arbitrary.
+-- a reply to the ecall at pc: it goes on behind that, with a stack pointer in the data. The other registers and all other memory are arbitrary.
 pub record IsReply (p : Part) (before after : State) : Type 0 where
   pub size : ℕ
   pub asked : Stands before Ecall size
   pub state : IsState after
   pub pc : after.hart.pc ≡ address_after before.hart.pc 4
   pub reserved : KeepsReserved before.hart after.hart
+  pub stack : HasStack p after.hart.registers
   pub bytes : KeepsBytes p before.memory after.memory
 
 -- A change of the memory alone, by others. All other memory is arbitrary: it need not even be bytes, so that the states behind it may be none of a real

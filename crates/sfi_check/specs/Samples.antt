@@ -3,15 +3,18 @@ use Rattle.std.specs.Prelude.{◌≡◌, Some, ℕ, pos, List, [], ◌∷◌, �
 use Rattle.std.specs.List.{flat_map}
 use Rattle.std.specs.Int.{w32, to_le_bytes}
 use Rattle.rv_word.specs.declared.instr.RegOp.TheVariants.{And, Or}
+use Rattle.rv_word.specs.declared.instr.ImmOp.TheVariants.{Addi}
 use Rattle.rv_word.specs.declared.instr.StoreWidth.TheVariants.{Sb, Sw}
 use Rattle.rv_word.specs.declared.instr.Instr.{Instr}
-use Rattle.rv_word.specs.declared.instr.Instr.TheVariants.{Op, Store, Jal, Jalr, Ebreak}
+use Rattle.rv_word.specs.declared.instr.Instr.TheVariants.{Op, OpImm, Store, Jal, Jalr, Ebreak}
 use Rattle.rv_word.specs.Numbers.{minus}
 use Rattle.rv_word.specs.Spelling.{spelling}
 use Rattle.rv_mem.specs.Bytes.{byte_at}
 use Rattle.rv_step.specs.declared.outcome.Outcome.TheVariants.{Next}
 use Rattle.rv_step.specs.State.{State}
 use Rattle.rv_step.specs.Step.{Stepped}
+use Rattle.sfi_image.specs.declared.format.Format.{Format}
+use Rattle.sfi_image.specs.declared.format.Format.TheVariants.{Sfi1}
 use Rattle.sfi_image.specs.Spelling.{Part}
 use Rattle.sfi_image.specs.Spans.{AreApart, code_region, guarded_region}
 use Rattle.sfi_image.specs.Parts.{IsRightPart}
@@ -27,8 +30,9 @@ abbrev pub words_of : List Instr → List ℕ
 words_of is = flat_map (λ i. to_le_bytes w32 (spelling i)) is
 
 -- 256 bytes of code at 01000000, which begin with 8 instructions and go on with ebreaks, and 256 bytes of data at 01800000
-abbrev pub sample : List Instr → Part
-sample is = record {
+abbrev pub sample_as : Format → List Instr → Part
+sample_as f is = record {
+  format = f;
   code_base = 0x01000000;
   data_base = 0x01800000;
   data_size = 256;
@@ -37,6 +41,10 @@ sample is = record {
   code = words_of (is ++ replicate 56 Ebreak);
   init = [];
 }
+
+-- the same in the first format
+abbrev pub sample : List Instr → Part
+sample is = sample_as Sfi1 is
 
 -- The rule is needed: the sandbox has a right layout, it breaks this rule alone, at this address, and not all its runs are safe.
 pub record IsNeeded (rule : Rule) (address : ℕ) (p : Part) : Type 0 where
@@ -72,6 +80,10 @@ abbrev pub written_rd_forgotten : List Instr
 written_rd_forgotten =
     Jal 26 (pos 16) ∷ Ebreak ∷ Ebreak ∷ Ebreak
     ∷ Op And 31 10 27 ∷ Op Or 31 31 26 ∷ Store Sw 31 11 (pos 0) ∷ Ebreak ∷ []
+
+-- x2 becomes 0, and a store on it
+abbrev pub stack_not_put_back : List Instr
+stack_not_put_back = OpImm Addi 2 0 (pos 0) ∷ Store Sw 2 11 (pos 0) ∷ Ebreak ∷ Ebreak ∷ Ebreak ∷ Ebreak ∷ Ebreak ∷ Ebreak ∷ []
 
 -- ---- an accepted one
 

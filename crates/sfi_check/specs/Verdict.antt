@@ -9,6 +9,7 @@ use Rattle.sfi_scan.specs.Findings.{AreImageFindings}
 use Rattle.sfi_check.specs.declared.refusal.Refusal.{Refusal}
 use Rattle.sfi_check.specs.declared.refusal.Refusal.TheVariants.{Layout, Findings, Memory}
 use Rattle.sfi_check.specs.Safety.{AllRunSafely}
+use Rattle.sfi_check.specs.Stack.{AllCallWithStack}
 use Rattle.sfi_check.specs.Refusals.{IfLayoutFault, IfFindings}
 
 -- ---- images
@@ -22,10 +23,11 @@ pub record IsClean (ps : List Part) : Type 0 where
   pub layout : IsRightLayout ps
   pub none_found : AreImageFindings ps []
 
--- the layout is right, no rule is broken, and every run from every entry of each sandbox is safe
+-- the layout is right, no rule is broken, every run from every entry of each sandbox is safe, and calls with the stack pointer in the data
 pub record MayRun (ps : List Part) : Type 0 where
   pub clean : IsClean ps
   pub safe : AllRunSafely ps
+  pub calls : AllCallWithStack ps
 
 -- ---- bytes
 

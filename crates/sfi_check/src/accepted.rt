@@ -1,11 +1,13 @@
 //! An image that was accepted.
 ghost use Rattle.std.specs.Prelude.{◌≡◌, length};
+ghost use Rattle.sfi_image.specs.declared.format.Format.{Format};
 ghost use Rattle.sfi_image.specs.Spelling.{views};
 ghost use Rattle.sfi_image.specs.Parts.{IsRightLayout};
 ghost use Rattle.sfi_check.specs.Safety.{AllRunSafely};
+ghost use Rattle.sfi_check.specs.Stack.{AllCallWithStack};
 ghost use Rattle.sfi_check.specs.Verdict.{IsClean, bundle_count};
 
-use crate::laws::clean_runs_safely;
+use crate::laws::{clean_calls_with_stack, clean_runs_safely};
 use sfi_image::{Image, SandboxPart};
 use std::marker::Model;
 
@@ -33,8 +35,9 @@ impl<'a> Accepted<'a> {
         requires { IsClean image }
         ensures { result ≡ image.entry }
     {
-        // The law that the invariant rests on: this call does nothing.
+        // The laws that the invariant rests on: these calls do nothing.
         clean_runs_safely();
+        clean_calls_with_stack();
 
         Accepted { image }
     }
@@ -44,6 +47,7 @@ impl<'a> Accepted<'a> {
         ensures image { result.now ≡ self.now }
         ensures clean { IsClean self.now }
         ensures safe { AllRunSafely self.now }
+        ensures calls { AllCallWithStack self.now }
     {
         &self.image
     }
@@ -68,8 +72,8 @@ impl<'a> Accepted<'a> {
 }
 
 fn bundle_count(parts: &[SandboxPart]) -> usize
-    requires { IsRightLayout (views parts.now) }
-    ensures { result ≡ bundle_count (views parts.now) }
+    requires { (format : Format) × IsRightLayout (views format parts.now) }
+    ensures { (format : Format) → result ≡ bundle_count (views format parts.now) }
 {
     let mut bundles = 0;
     for part in parts {

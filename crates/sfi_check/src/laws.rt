@@ -1,5 +1,5 @@
 //! What holds of every sandbox without a finding. A call costs nothing.
-ghost use Rattle.sfi_check.specs.Laws.{InstructionLeaves, TurnKeeps, EntryIsGood, CanBeEntered, CleanRunsSafely, SafeTurns, SafeStaysSafe, SafeFetches};
+ghost use Rattle.sfi_check.specs.Laws.{InstructionLeaves, TurnKeeps, EntryIsGood, CanBeEntered, CleanRunsSafely, SafeTurns, SafeStaysSafe, SafeFetches, CleanCallsWithStack, GoesOnSafely};
 
 use rv_comp::laws::{ecall_is_wide, spelled_in_range};
 use rv_step::laws::{
@@ -58,4 +58,18 @@ pub fn safe_fetches()
 /// A sandbox with a right layout can be entered.
 pub fn can_be_entered()
     ensures { CanBeEntered }
+{}
+
+/// A sandbox without a finding calls with its stack pointer in the data region.
+pub fn clean_calls_with_stack()
+    ensures { CleanCallsWithStack }
+{
+    one_instruction();
+    entry_is_good();
+    turn_keeps();
+}
+
+/// From where every run is safe and calls so, it goes on so behind each turn.
+pub fn goes_on_safely()
+    ensures { GoesOnSafely }
 {}

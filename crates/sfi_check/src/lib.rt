@@ -8,9 +8,17 @@
 mod accepted;
 pub mod laws;
 pub mod needs;
+mod progress;
 mod refusal;
+mod stream;
+mod stream_answer;
+mod tally;
+#[cfg(test)]
+mod tests;
 mod verdict;
 
 pub use accepted::Accepted;
 pub use refusal::Refusal;
+pub use stream::check_stream;
+pub use stream_answer::StreamAnswer;
 pub use verdict::check;

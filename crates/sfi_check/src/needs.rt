@@ -1,7 +1,8 @@
 //! That the rules are needed, since code that breaks one of them alone does what is not safe; and that they leave code that does
 //! something. A call costs nothing.
-ghost use Rattle.sfi_scan.specs.declared.rule.Rule.TheVariants.{V4, V5, V6, V7};
-ghost use Rattle.sfi_check.specs.Samples.{IsNeeded, IsAcceptedAndRuns, sample, sandboxed_store, pair_on_x0, pair_across_bundles, jump_to_any_start, jalr_offset_ignored, written_rd_forgotten};
+ghost use Rattle.sfi_image.specs.declared.format.Format.TheVariants.{Sfi2};
+ghost use Rattle.sfi_scan.specs.declared.rule.Rule.TheVariants.{V4, V5, V6, V7, V10};
+ghost use Rattle.sfi_check.specs.Samples.{IsNeeded, IsAcceptedAndRuns, sample, sample_as, stack_not_put_back, sandboxed_store, pair_on_x0, pair_across_bundles, jump_to_any_start, jalr_offset_ignored, written_rd_forgotten};
 
 use rv_comp::laws::one_spelling;
 
@@ -36,6 +37,13 @@ pub fn jalr_offset_ignored_is_unsafe()
 /// V4 is needed: behind a jal that writes x26 a store reaches the code.
 pub fn written_rd_forgotten_is_unsafe()
     ensures { IsNeeded V4 0x01000000 (sample written_rd_forgotten) }
+{
+    one_spelling();
+}
+
+/// V10 is needed: a store on a stack pointer that was made 0 reaches address 0.
+pub fn stack_not_put_back_is_unsafe()
+    ensures { IsNeeded V10 0x01000000 (sample_as Sfi2 stack_not_put_back) }
 {
     one_spelling();
 }

@@ -13,16 +13,17 @@ use crate::accepted::Accepted;
 use crate::refusal::Refusal;
 use sfi_image::{Image, one_reading, parse_image};
 use sfi_scan::laws::one_image_list;
-use sfi_scan::{Finding, scan_part};
+use sfi_scan::{Finding, scan_part_as};
 use std::alloc::{AllocError, Global};
 
 /// The findings of all sandboxes, by sandbox and then by address.
 fn findings_of(alloc: Global, image: &Image<'_>) -> Result<Vec<Finding>, AllocError>
     ensures { IfOk result (λ found. AreImageFindings image.now found.items) }
 {
+    let format = image.format();
     let mut found = Vec::new(alloc);
     for (sandbox, part) in image.parts().iter().enumerate() {
-        let of_part = scan_part(alloc, sandbox as u32, part)?;
+        let of_part = scan_part_as(alloc, format, sandbox as u32, part)?;
         found.extend_from_slice(&of_part)?;
     }
     Ok(found)

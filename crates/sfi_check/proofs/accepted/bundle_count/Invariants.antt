@@ -1,4 +1,5 @@
 use Rattle.std.proofs.Common.{◌≡◌, ◌*◌, ◌≤◌, take}
+use Rattle.sfi_image.specs.declared.format.Format.{Format}
 use Rattle.sfi_image.specs.Spelling.{views}
 use Rattle.sfi_check.specs.Verdict.{bundle_count}
 use Rattle.sfi_check.proofs.accepted.bundle_count.Given as goal
@@ -6,6 +7,6 @@ use Rattle.sfi_check.proofs.accepted.bundle_count.Given as goal
 -- the bundles of the parts so far, of which each has at most 4096
 abbrev pub invariant-loop-part : goal.invariant-loop-part
 invariant-loop-part l = record {
-  so_far : l.bundles ≡ bundle_count (take l.part-index (views l.parts));
-  few : l.bundles ≤ 4096 * l.part-index;
+  so_far : (format : Format) → l.bundles ≡ bundle_count (take l.part-index (views format l.parts));
+  few : l.bundles ≤ 65536 * l.part-index;
 }

@@ -1,0 +1,108 @@
+-- Reads one after another.
+use Rattle.std.proofs.Common.{◌≡◌, ℕ, ◌<◌, ◌≤◌, Bool, true, false, cond, List, [], ◌∷◌, ◌++◌, length, Option, Some, None, refl, sym, ap, ◌∙◌, subst, arith, append_assoc, inl, inr, ◌⊎◌}
+use Rattle.std.specs.Prelude.{◌||◌, nat_lt}
+use Rattle.std.proofs.lemmas.Bool.{lt-ltb, ltb-true}
+use Rattle.std.proofs.lemmas.List.{append-nil}
+use Rattle.std.proofs.lemmas.List.Elements.{All-push}
+use Rattle.sfi_image.specs.Reading.{ReadsOf}
+use Rattle.sfi_image.specs.Sources.{OneRead, IsChain, is_end, bytes_of, handed, ended, Streams}
+
+module _ {S : Type 0} (reads : S → ℕ → Option (List ℕ) → S → Type 0) where
+  chain_push : (s : S) (rs : List (OneRead S)) (t : S) (r : OneRead S) → IsChain reads s rs t → reads t r.asked r.answer r.after → IsChain reads s (rs ++ r ∷ []) r.after
+  chain_push s [] t r h one = (subst (λ (u : S). reads u r.asked r.answer r.after) h one, refl)
+  chain_push s (q ∷ rs) t r h one = (h.0, chain_push q.after rs t r h.1 one)
+
+  handed_by : (q : OneRead S) (rs : List (OneRead S)) (r : OneRead S) (b : Bool) → is_end q.asked q.answer ≡ b → ended (q ∷ rs) ≡ false
+      → (ended rs ≡ false → handed (rs ++ r ∷ []) ≡ handed rs ++ cond (is_end r.asked r.answer) [] (bytes_of r.answer))
+      → handed (q ∷ (rs ++ r ∷ [])) ≡ handed (q ∷ rs) ++ cond (is_end r.asked r.answer) [] (bytes_of r.answer)
+  handed_by q rs r true is e ih = let t : ended (q ∷ rs) ≡ true = rw is refl in absurd cc
+  handed_by q rs r false is e ih =
+      let f : ended rs ≡ false = rw is at e in
+      rw is (ap (λ (l : List ℕ). bytes_of q.answer ++ l) (ih f) ∙ sym (append_assoc (bytes_of q.answer) (handed rs) (cond (is_end r.asked r.answer) [] (bytes_of r.answer))))
+
+  handed_push : (rs : List (OneRead S)) (r : OneRead S) → ended rs ≡ false → handed (rs ++ r ∷ []) ≡ handed rs ++ cond (is_end r.asked r.answer) [] (bytes_of r.answer)
+  handed_push [] r e = ap (λ (l : List ℕ). cond (is_end r.asked r.answer) [] l) (append-nil (bytes_of r.answer))
+  handed_push (q ∷ rs) r e = handed_by q rs r (is_end q.asked q.answer) refl e (λ f. handed_push rs r f)
+
+  or_false : (b : Bool) → (b || false) ≡ b
+  or_false true = refl
+  or_false false = refl
+
+  ended_by : (q : OneRead S) (rs : List (OneRead S)) (r : OneRead S) (b : Bool) → is_end q.asked q.answer ≡ b → ended (q ∷ rs) ≡ false
+      → (ended rs ≡ false → ended (rs ++ r ∷ []) ≡ is_end r.asked r.answer) → ended (q ∷ (rs ++ r ∷ [])) ≡ is_end r.asked r.answer
+  ended_by q rs r true is e ih = let t : ended (q ∷ rs) ≡ true = rw is refl in absurd cc
+  ended_by q rs r false is e ih = let f : ended rs ≡ false = rw is at e in rw is (ih f)
+
+  ended_push : (rs : List (OneRead S)) (r : OneRead S) → ended rs ≡ false → ended (rs ++ r ∷ []) ≡ is_end r.asked r.answer
+  ended_push [] r e = or_false (is_end r.asked r.answer)
+  ended_push (q ∷ rs) r e = ended_by q rs r (is_end q.asked q.answer) refl e (λ f. ended_push rs r f)
+
+  pub no_reads : (s : S) → Streams reads s s [] false
+  no_reads s = record { chain = []; is_chain = refl; bytes_are = refl; ends_is = refl; short = λ k d h. absurd (omega arith) }
+
+  one_more : (s t u : S) (bytes new : List ℕ) (asked : ℕ) (answer : Option (List ℕ)) → Streams reads s t bytes false → reads t asked answer u → asked ≤ 4096
+      → new ≡ bytes ++ cond (is_end asked answer) [] (bytes_of answer) → Streams reads s u new (is_end asked answer)
+  one_more s t u bytes new asked answer h one le e =
+      let r : OneRead S = record { asked = asked; answer = answer; after = u } in
+      let goes = sym h.ends_is in
+      record {
+        chain = h.chain ++ r ∷ [];
+        is_chain = chain_push s h.chain t r h.is_chain one;
+        bytes_are = e ∙ ap (λ (l : List ℕ). l ++ cond (is_end asked answer) [] (bytes_of answer)) h.bytes_are ∙ sym (handed_push h.chain r goes);
+        ends_is = sym (ended_push h.chain r goes);
+        short = All-push (λ (q : OneRead S). q.asked ≤ 4096) h.chain r h.short le;
+      }
+
+  -- behind a read that hands out bytes
+  pub some_read : (s t u : S) (bytes more : List ℕ) (asked : ℕ) → Streams reads s t bytes false → reads t asked (Some more) u → asked ≤ 4096 → 0 < length more → Streams reads s u (bytes ++ more) false
+  some_read s t u bytes [] asked h one le some = absurd (omega arith)
+  some_read s t u bytes (b ∷ more) asked h one le some = one_more s t u bytes (bytes ++ b ∷ more) asked (Some (b ∷ more)) h one le refl
+
+  -- behind one that finds the end
+  pub end_read : (s t u : S) (bytes : List ℕ) (asked : ℕ) → Streams reads s t bytes false → reads t asked (Some []) u → asked ≤ 4096 → 0 < asked → Streams reads s u bytes true
+  end_read s t u bytes asked h one le some =
+      let ends : is_end asked (Some []) ≡ true = lt-ltb 0 asked some in
+      subst (λ (b : Bool). Streams reads s u bytes b) ends (one_more s t u bytes bytes asked (Some []) h one le (sym (rw (ends) (append-nil bytes))))
+
+  -- behind one that fails
+  pub failed_read : (s t u : S) (bytes : List ℕ) (asked : ℕ) → Streams reads s t bytes false → reads t asked None u → asked ≤ 4096 → Streams reads s u bytes false
+  failed_read s t u bytes asked h one le = one_more s t u bytes bytes asked None h one le (sym (append-nil bytes))
+
+-- ---- over a reader that tells its bytes
+
+which : (b : Bool) → (b ≡ true) ⊎ (b ≡ false)
+which true = inl refl
+which false = inr refl
+
+module _ {S : Type 0} (known : S → Option (List ℕ)) (failed : S → Bool) where
+  abbrev reads_known : S → ℕ → Option (List ℕ) → S → Type 0
+  reads_known s n answer t = ReadsOf (known s) (failed s) n answer (known t) (failed t)
+
+  -- what a chain of reads hands out is the front of the reader's bytes, and all of them where it found the end
+  pub known_front : (rs : List (OneRead S)) (s t : S) (all : List ℕ) → IsChain reads_known s rs t → known s ≡ Some all
+      → (rest : List ℕ) × (all ≡ handed rs ++ rest) × (ended rs ≡ true → rest ≡ [])
+  known_front [] s t all h e = (all, refl, λ f. absurd cc)
+  known_front (r ∷ rs) s t all h e = by r.answer (known r.after) refl refl (subst (λ (o : Option (List ℕ)). ReadsOf o (failed s) r.asked r.answer (known r.after) (failed r.after)) e h.0)
+      (λ left is. known_front rs r.after t left h.1 is)
+    where
+      by : (answer new : Option (List ℕ)) → r.answer ≡ answer → known r.after ≡ new → ReadsOf (Some all) (failed s) r.asked r.answer (known r.after) (failed r.after)
+          → ((left : List ℕ) → known r.after ≡ Some left → (rest : List ℕ) × (left ≡ handed rs ++ rest) × (ended rs ≡ true → rest ≡ []))
+          → (rest : List ℕ) × (all ≡ handed (r ∷ rs) ++ rest) × (ended (r ∷ rs) ≡ true → rest ≡ [])
+      by None None a n one ih = let k = (subst (λ (o : Option (List ℕ)). ReadsOf (Some all) (failed s) r.asked None o (failed r.after)) n (subst (λ (o : Option (List ℕ)). ReadsOf (Some all) (failed s) r.asked o (known r.after) (failed r.after)) a one)).1 in absurd k
+      by None (Some left) a n one ih =
+          let k = (subst (λ (o : Option (List ℕ)). ReadsOf (Some all) (failed s) r.asked None o (failed r.after)) n (subst (λ (o : Option (List ℕ)). ReadsOf (Some all) (failed s) r.asked o (known r.after) (failed r.after)) a one)).1 in
+          let rest = ih left n in
+          rw (a) (rest.0, sym k ∙ rest.1, rest.2)
+      by (Some bytes) None a n one ih = let k = (subst (λ (o : Option (List ℕ)). ReadsOf (Some all) (failed s) r.asked (Some bytes) o (failed r.after)) n (subst (λ (o : Option (List ℕ)). ReadsOf (Some all) (failed s) r.asked o (known r.after) (failed r.after)) a one)).1 in absurd k
+      by (Some []) (Some left) a n one ih =
+          let k = subst (λ (o : Option (List ℕ)). ReadsOf (Some all) (failed s) r.asked (Some []) o (failed r.after)) n (subst (λ (o : Option (List ℕ)). ReadsOf (Some all) (failed s) r.asked o (known r.after) (failed r.after)) a one) in
+          let rest = ih left n in
+          let same : all ≡ left = k.1 in
+          elim (which (nat_lt 0 r.asked)) [
+            | inl holds ↦ (let none : left ≡ [] = k.3 refl (ltb-true 0 r.asked holds) in rw (a, holds) ([], same ∙ none, λ _. refl))
+            | inr fails ↦ rw (a, fails) (rest.0, same ∙ rest.1, rest.2)
+          ]
+      by (Some (b ∷ bs)) (Some left) a n one ih =
+          let k = subst (λ (o : Option (List ℕ)). ReadsOf (Some all) (failed s) r.asked (Some (b ∷ bs)) o (failed r.after)) n (subst (λ (o : Option (List ℕ)). ReadsOf (Some all) (failed s) r.asked o (known r.after) (failed r.after)) a one) in
+          let rest = ih left n in
+          rw (a) (rest.0, k.1 ∙ ap (λ (l : List ℕ). (b ∷ bs) ++ l) rest.1 ∙ sym (append_assoc (b ∷ bs) (handed rs) rest.0), rest.2)

@@ -1,0 +1,142 @@
+-- One step of a reader with its tally.
+use Rattle.std.proofs.Common.{◌≡◌, ℕ, ◌+◌, ◌-◌, ◌<◌, ◌≤◌, Bool, List, ◌++◌, length, take, drop, sym, ap, ◌∙◌, subst, arith, append_assoc, inl, inr, None}
+use Rattle.std.proofs.lemmas.List.{take-append-drop, length-take, length-drop, take_all}
+use Rattle.std.proofs.Math.Seq.{take-append-add}
+use Rattle.sfi_image.specs.declared.format.Format.{Format}
+use Rattle.sfi_image.specs.declared.fields.Fields.{Fields}
+use Rattle.sfi_image.specs.declared.span.Span.{Span}
+use Rattle.sfi_image.specs.declared.want.Want.TheVariants as wants
+use Rattle.sfi_image.specs.Spans.{spans}
+use Rattle.sfi_image.specs.Regions.{IsCodeRegion}
+use Rattle.sfi_image.specs.Tests.{IsFirstFault, field_tests}
+use Rattle.sfi_image.specs.Laws.{WholeBundles}
+use Rattle.sfi_image.specs.Fronts.{Front, front, IsRightFront, want_of, IsFaultOnwardsOf}
+use Rattle.sfi_image.specs.Fronts.Front.{Empty, Named, Counted, InGates, InCode, InInit, Whole}
+use Rattle.sfi_image.specs.Keeping.{Kept, StandsFor, Leads, left}
+use Rattle.sfi_scan.specs.declared.finding.Finding.{Finding}
+use Rattle.sfi_scan.specs.Bundles.{IsWithin}
+use Rattle.sfi_scan.specs.Findings.{AreBundleFindings}
+use Rattle.sfi_check.specs.declared.tally.Tally.{Tally}
+use Rattle.sfi_check.specs.Tallies.{IsSoFar}
+use Rattle.sfi_check.proofs.Tallying.{field_tallies, bundle_tallies, init_tallies, fault_onwards, Adds}
+
+code_test : (before : List Span) (f : Fields) → IsFirstFault before f field_tests None → IsCodeRegion f.format f.code_base f.code_size
+code_test before f (inl h) = h.0
+code_test before f (inr h) = let e = h.1 in absurd cc
+
+pub bundle_within : WholeBundles → (x : Front) (sandbox address : ℕ) (format : Format) (base size : ℕ) (listed : Bool) → IsRightFront x → wants.Bundle sandbox address format base size listed ≡ want_of x
+    → IsWithin (record { sandbox = sandbox; address = address; format = format; code_base = base; code_size = size; listed = listed })
+bundle_within law Empty sandbox address format base size listed right w = absurd cc
+bundle_within law (Named kind) sandbox address format base size listed right w = absurd cc
+bundle_within law (Counted kind n ps) sandbox address format base size listed right w = absurd cc
+bundle_within law (InGates n ps f gs) sandbox address format base size listed right w = absurd cc
+bundle_within law (InCode n ps f gs code) sandbox address format base size listed right w =
+    let at : address ≡ f.code_base + length code = cc in
+    let b : base ≡ f.code_base = cc in
+    let z : size ≡ f.code_size = cc in
+    let placed = law f.format f.code_base f.code_size right.0.words.code_base (code_test (spans ps) f right.0.passed) in
+    let whole = placed.2 in
+    let even = right.2 in
+    let inside = right.3 in
+    record { base = omega arith; end = omega arith; addresses = omega (arith, placed.4) }
+bundle_within law (InInit n ps f gs code init) sandbox address format base size listed right w = absurd cc
+bundle_within law (Whole ps) sandbox address format base size listed right w = absurd cc
+
+pub bundle_sandbox : (x : Front) (sandbox address : ℕ) (format : Format) (base size : ℕ) (listed : Bool) → IsRightFront x → wants.Bundle sandbox address format base size listed ≡ want_of x → sandbox < 16
+bundle_sandbox Empty sandbox address format base size listed right w = absurd cc
+bundle_sandbox (Named kind) sandbox address format base size listed right w = absurd cc
+bundle_sandbox (Counted kind n ps) sandbox address format base size listed right w = absurd cc
+bundle_sandbox (InGates n ps f gs) sandbox address format base size listed right w = absurd cc
+bundle_sandbox (InCode n ps f gs code) sandbox address format base size listed right w =
+    let number : sandbox ≡ length ps = cc in
+    omega (arith, right.0.more, right.0.before.at_most)
+bundle_sandbox (InInit n ps f gs code init) sandbox address format base size listed right w = absurd cc
+bundle_sandbox (Whole ps) sandbox address format base size listed right w = absurd cc
+
+pub field_len : (x : Front) (len : ℕ) → wants.Field len ≡ want_of x → (1 ≤ len) × (len ≤ 28)
+field_len Empty len w = let e : len ≡ 4 = cc in (omega arith, omega arith)
+field_len (Named kind) len w = let e : len ≡ 4 = cc in (omega arith, omega arith)
+field_len (Counted kind n ps) len w = let e : len ≡ 28 = cc in (omega arith, omega arith)
+field_len (InGates n ps f gs) len w = let e : len ≡ 8 = cc in (omega arith, omega arith)
+field_len (InCode n ps f gs code) len w = absurd cc
+field_len (InInit n ps f gs code init) len w = absurd cc
+field_len (Whole ps) len w = absurd cc
+
+pub init_some : (x : Front) (len : ℕ) → wants.Init len ≡ want_of x → IsRightFront x → 1 ≤ len
+init_some Empty len w right = absurd cc
+init_some (Named kind) len w right = absurd cc
+init_some (Counted kind n ps) len w right = absurd cc
+init_some (InGates n ps f gs) len w right = absurd cc
+init_some (InCode n ps f gs code) len w right = absurd cc
+init_some (InInit n ps f gs code init) len w right = let e : len ≡ f.init_len - length init = cc in let less = right.3 in omega arith
+init_some (Whole ps) len w right = absurd cc
+
+-- ---- steps
+
+joined : (so_far : List ℕ) (x : Front) (s : List ℕ) (y : Front) → so_far ≡ front x → front y ≡ front x ++ s → so_far ++ s ≡ front y
+joined so_far x s y a b = ap (λ (l : List ℕ). l ++ s) a ∙ sym b
+
+pub field_step : (old new : Kept) (t : Tally) (so_far s : List ℕ) (len : ℕ) → ((x : Front) → StandsFor old x → wants.Field len ≡ want_of x)
+    → ((x : Front) → StandsFor old x → Leads x s new) → left new < left old → IsSoFar old t so_far → IsSoFar new t (so_far ++ s)
+field_step old new t so_far s len wanted leads falls h =
+    let l = leads h.at h.stands in
+    record {
+      at = l.to;
+      stands = l.stands;
+      bytes_are = joined so_far h.at s l.to h.bytes_are l.bytes;
+      tallies = field_tallies t h.at s l.to len (wanted h.at h.stands) l.follows h.tallies;
+      few = omega (arith, h.few);
+    }
+
+pub init_step : (old new : Kept) (t : Tally) (so_far s : List ℕ) (len : ℕ) → ((x : Front) → StandsFor old x → wants.Init len ≡ want_of x)
+    → ((x : Front) → StandsFor old x → Leads x s new) → left new < left old → IsSoFar old t so_far → IsSoFar new t (so_far ++ s)
+init_step old new t so_far s len wanted leads falls h =
+    let l = leads h.at h.stands in
+    record {
+      at = l.to;
+      stands = l.stands;
+      bytes_are = joined so_far h.at s l.to h.bytes_are l.bytes;
+      tallies = init_tallies t h.at s l.to len (wanted h.at h.stands) h.stands.right l.follows h.tallies;
+      few = omega (arith, h.few);
+    }
+
+pub bundle_step : (old new : Kept) (t u : Tally) (so_far s : List ℕ) (sandbox address : ℕ) (format : Format) (base size : ℕ) (listed : Bool) (found : List Finding)
+    → ((x : Front) → StandsFor old x → wants.Bundle sandbox address format base size listed ≡ want_of x) → length s ≡ 16
+    → AreBundleFindings (record { sandbox = sandbox; address = address; format = format; code_base = base; code_size = size; listed = listed }) s found → Adds t u sandbox found
+    → ((x : Front) → StandsFor old x → Leads x s new) → left new < left old → IsSoFar old t so_far → IsSoFar new u (so_far ++ s)
+bundle_step old new t u so_far s sandbox address format base size listed found wanted len are adds leads falls h =
+    let l = leads h.at h.stands in
+    record {
+      at = l.to;
+      stands = l.stands;
+      bytes_are = joined so_far h.at s l.to h.bytes_are l.bytes;
+      tallies = bundle_tallies t u h.at s l.to sandbox address format base size listed found (wanted h.at h.stands) len l.follows are adds h.tallies;
+      few = omega (arith, h.few, adds.bundles);
+    }
+
+pub step_fault : (old : Kept) (t : Tally) (so_far s rest : List ℕ) (len number : ℕ) → s ≡ take len rest
+    → ((x : Front) → StandsFor old x → IsFaultOnwardsOf (front x ++ s) number) → IsSoFar old t so_far → IsFaultOnwardsOf (so_far ++ rest) number
+step_fault old t so_far s rest len number e wrong h =
+    let here = subst (λ (l : List ℕ). IsFaultOnwardsOf (l ++ s) number) (sym h.bytes_are) (wrong h.at h.stands) in
+    fault_onwards so_far s rest (drop len rest) number (sym (take-append-drop len rest) ∙ ap (λ (l : List ℕ). l ++ drop len rest) (sym e)) here
+
+-- ---- pieces
+
+-- so many bytes more of a list
+pub take_on : (at n : ℕ) (xs : List ℕ) → at ≤ length xs → take (at + n) xs ≡ take at xs ++ take n (drop at xs)
+take_on at n xs le =
+    let len : length (take at xs) ≡ at = omega (arith, length-take at xs) in
+    sym (ap (λ (l : List ℕ). take (at + n) l) (take-append-drop at xs)) ∙ ap (λ (k : ℕ). take (k + n) (take at xs ++ drop at xs)) (sym len) ∙ take-append-add (take at xs) (drop at xs) n
+
+pub so_far_on : (r : Kept) (t : Tally) (so_far : List ℕ) (at n : ℕ) (xs : List ℕ) → at ≤ length xs → IsSoFar r t ((so_far ++ take at xs) ++ take n (drop at xs)) → IsSoFar r t (so_far ++ take (at + n) xs)
+so_far_on r t so_far at n xs le h =
+    subst (λ (l : List ℕ). IsSoFar r t l) (append_assoc so_far (take at xs) (take n (drop at xs)) ∙ ap (λ (l : List ℕ). so_far ++ l) (sym (take_on at n xs le))) h
+
+-- a fault behind so many bytes of a piece is one of all of them
+pub fault_on : (so_far : List ℕ) (at number : ℕ) (xs : List ℕ) → IsFaultOnwardsOf ((so_far ++ take at xs) ++ drop at xs) number → IsFaultOnwardsOf (so_far ++ xs) number
+fault_on so_far at number xs h =
+    subst (λ (l : List ℕ). IsFaultOnwardsOf l number) (append_assoc so_far (take at xs) (drop at xs) ∙ ap (λ (l : List ℕ). so_far ++ l) (take-append-drop at xs)) h
+
+-- the rest of a piece, as a slice
+pub tail_is : (at : ℕ) (xs : List ℕ) → take (length xs - at) (drop at xs) ≡ drop at xs
+tail_is at xs = take_all (length xs - at) (drop at xs) (omega (arith, length-drop at xs))

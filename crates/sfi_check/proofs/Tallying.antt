@@ -1,0 +1,216 @@
+-- The tally of a front and of the one that follows it.
+use Rattle.std.proofs.Common.{◌≡◌, ◌≢◌, ℕ, suc, ◌+◌, ◌*◌, ◌/◌, ◌<◌, ◌≤◌, eqb, Bool, true, false, List, [], ◌∷◌, ◌++◌, length, take, drop, refl, sym, ap, ◌∙◌, subst, arith, append_assoc, inl, inr, ◌⊎◌}
+use Rattle.std.specs.Prelude.{slice_get}
+use Rattle.std.proofs.Math.Seq.{take-append_seam}
+use Rattle.std.proofs.lemmas.Bool.{eqb-true, eqb-false}
+use Rattle.std.proofs.lemmas.List.{length-append, length_push, append-nil}
+use Rattle.std.proofs.lemmas.List.Sums.{sum_by-append}
+use Rattle.sfi_image.specs.declared.format.Format.{Format}
+use Rattle.sfi_image.specs.declared.part.Gate.{Gate}
+use Rattle.sfi_image.specs.declared.fields.Fields.{Fields}
+use Rattle.sfi_image.specs.declared.want.Want.TheVariants as wants
+use Rattle.sfi_image.specs.Spelling.{Part}
+use Rattle.sfi_image.specs.Gates.{is_gate_of}
+use Rattle.sfi_image.specs.Fronts.{Front, IsRightFront, want_of, part_of, behind_parts, behind_init, behind_code, behind_gates, Follows, IsFaultOnwardsOf}
+use Rattle.sfi_image.specs.Fronts.Front.{Empty, Named, Counted, InGates, InCode, InInit, Whole}
+use Rattle.sfi_scan.specs.declared.bundle.BundlePlace.{BundlePlace}
+use Rattle.sfi_scan.specs.declared.finding.Finding.{Finding}
+use Rattle.sfi_scan.specs.Bundles.{place_of, bundle_bytes}
+use Rattle.sfi_scan.specs.Findings.{AreBundleFindings, AreFindings, AreFindingsOfFirst, AreImageFindings}
+use Rattle.sfi_check.specs.declared.tally.Tally.{Tally}
+use Rattle.sfi_check.specs.Verdict.{bundle_count}
+use Rattle.sfi_check.specs.Tallies.{AreFindingsSoFar, AreFindingsWithin, Tallies}
+use Rattle.sfi_check.proofs.Findings.{findings_append}
+
+-- a test on two numbers went one way
+pub same_or_not : (a b : ℕ) → ((eqb a b ≡ true) × (a ≡ b)) ⊎ ((eqb a b ≡ false) × (a ≢ b))
+same_or_not a b = by (eqb a b) refl
+  where
+    by : (v : Bool) → eqb a b ≡ v → ((eqb a b ≡ true) × (a ≡ b)) ⊎ ((eqb a b ≡ false) × (a ≢ b))
+    by true e = inl (e, eqb-true a b e)
+    by false e = inr (e, eqb-false a b e)
+
+-- ---- one bundle more
+
+pub bundle_more : (sandbox : ℕ) (f : Fields) (gs : List Gate) (code s : List ℕ) (b : BundlePlace) (here new : List Finding) → AreFindingsSoFar sandbox f gs code here
+    → length s ≡ 16 → b ≡ record { sandbox = sandbox; address = f.code_base + length code; format = f.format; code_base = f.code_base; code_size = f.code_size; listed = is_gate_of gs (f.code_base + length code) }
+    → AreBundleFindings b s new → AreFindingsSoFar sandbox f gs (code ++ s) (here ++ new)
+bundle_more sandbox f gs code s b here new so_far len is found = record {
+  bundles = suc so_far.bundles;
+  len = omega (arith, so_far.len, length-append code s);
+  found_are = λ more init size.
+      let p = part_of f gs ((code ++ s) ++ more) init in
+      let q = part_of f gs (code ++ (s ++ more)) init in
+      let same : code ++ (s ++ more) ≡ (code ++ s) ++ more = sym (append_assoc code s more) in
+      let before : AreFindingsOfFirst sandbox p so_far.bundles here =
+      subst (λ (c : List ℕ). AreFindingsOfFirst sandbox (part_of f gs c init) so_far.bundles here) same (so_far.found_are (s ++ more) init (ap length same ∙ size)) in
+      let n : 16 * so_far.bundles ≡ length code = sym so_far.len in
+      let place : b ≡ place_of sandbox p so_far.bundles = is ∙ rw (n, size) refl in
+      let bytes : s ≡ bundle_bytes p so_far.bundles =
+      sym (ap (λ (c : List ℕ). take 16 (drop (16 * so_far.bundles) c)) (sym same) ∙ ap (λ (k : ℕ). take 16 (drop k (code ++ (s ++ more)))) n ∙ ap (take 16) (drop_seam code (s ++ more)) ∙ ap (λ (k : ℕ). take k (s ++ more)) (sym len) ∙ take-append_seam s more) in
+      (here, new, before, subst (λ (x : BundlePlace). AreBundleFindings x (bundle_bytes p so_far.bundles) new) place (subst (λ (x : List ℕ). AreBundleFindings b x new) bytes found), refl);
+}
+  where
+    drop_seam : (xs ys : List ℕ) → drop (length xs) (xs ++ ys) ≡ ys
+    drop_seam [] ys = refl
+    drop_seam (x ∷ xs) ys = drop_seam xs ys
+
+-- ---- a tally within a sandbox's code
+
+pub record CodeTally (t : Tally) (ps : List Part) (f : Fields) (gs : List Gate) (code : List ℕ) : Type 0 where
+  pub found : List Finding
+  pub within : AreFindingsWithin ps f gs code found
+  pub count : t.count ≡ length found
+  pub first : t.first ≡ slice_get found 0
+  pub bundles : t.bundles ≡ bundle_count ps + length code / 16
+  pub sandboxes : t.sandboxes ≡ length ps + 1
+  pub few : t.count ≤ 8 * t.bundles
+
+count_push : (ps : List Part) (p : Part) → bundle_count (ps ++ p ∷ []) ≡ bundle_count ps + length p.code / 16
+count_push ps p = let e = sum_by-append (λ (q : Part). length q.code / 16) ps (p ∷ []) in omega (arith, e)
+
+parts_tally : (t : Tally) (n : ℕ) (ps : List Part) (f : Fields) (gs : List Gate) (code init : List ℕ) → CodeTally t ps f gs code → length code ≡ f.code_size
+    → Tallies t (behind_parts f.format n (ps ++ part_of f gs code init ∷ []))
+parts_tally t n ps f gs code init c all =
+    let p = part_of f gs code init in
+    let w = c.within in
+    let of_part : AreFindings (length ps) p w.here =
+    (w.here_are.bundles, w.here_are.len, subst (λ (x : List ℕ). AreFindingsOfFirst (length ps) (part_of f gs x init) w.here_are.bundles w.here) (append-nil code) (w.here_are.found_are [] init (ap length (append-nil code) ∙ all))) in
+    let found : AreImageFindings (ps ++ p ∷ []) c.found =
+    subst (λ (l : List Finding). AreImageFindings (ps ++ p ∷ []) l) (sym w.found_is) (findings_append 0 (length ps) ps p w.before w.here w.before_are of_part (omega arith)) in
+    let bundles = c.bundles ∙ sym (count_push ps p) in
+    let sandboxes = c.sandboxes ∙ sym (length_push ps p) in
+    elim (same_or_not (length (ps ++ p ∷ [])) n) [
+      | inl e ↦ rw (e.0) (record { found = c.found; found_are = found; count = c.count; first = c.first; bundles = bundles; sandboxes = sandboxes; few = c.few })
+      | inr e ↦ rw (e.0) (record { found = c.found; found_are = found; count = c.count; first = c.first; bundles = bundles; sandboxes = sandboxes; few = c.few })
+    ]
+
+pub init_tally : (t : Tally) (n : ℕ) (ps : List Part) (f : Fields) (gs : List Gate) (code init : List ℕ) → CodeTally t ps f gs code → length code ≡ f.code_size
+    → Tallies t (behind_init n ps f gs code init)
+init_tally t n ps f gs code init c all =
+    elim (same_or_not (length init) f.init_len) [
+      | inl e ↦ rw (e.0) (parts_tally t n ps f gs code init c all)
+      | inr e ↦ rw (e.0) (record { found = c.found; found_are = c.within; count = c.count; first = c.first; bundles = c.bundles; sandboxes = c.sandboxes; few = c.few })
+    ]
+
+pub code_tally : (t : Tally) (n : ℕ) (ps : List Part) (f : Fields) (gs : List Gate) (code : List ℕ) → CodeTally t ps f gs code → 0 < length code
+    → Tallies t (behind_code n ps f gs code)
+code_tally t n ps f gs code c some =
+    elim (same_or_not (length code) f.code_size) [
+      | inl e ↦ rw (e.0) (init_tally t n ps f gs code [] c e.1)
+      | inr e ↦ rw (e.0) (record {
+        found = c.found;
+        found_are = c.within;
+        count = c.count;
+        first = c.first;
+        bundles = c.bundles;
+        sandboxes = c.sandboxes ∙ elim (same_or_not (length code) 0) [
+          | inl z ↦ absurd (omega (arith, z.1))
+          | inr z ↦ rw (z.0) refl
+        ];
+        few = c.few;
+      })
+    ]
+
+gates_tally : (t : Tally) (n : ℕ) (ps : List Part) (f : Fields) (gs : List Gate) (found : List Finding) → AreImageFindings ps found → t.count ≡ length found → t.first ≡ slice_get found 0
+    → t.bundles ≡ bundle_count ps → t.sandboxes ≡ length ps → t.count ≤ 8 * t.bundles → Tallies t (behind_gates n ps f gs)
+gates_tally t n ps f gs found are count first bundles sandboxes few =
+    elim (same_or_not (length gs) f.gate_count) [
+      | inl e ↦ rw (e.0) (record {
+        found = found;
+        found_are = record {
+          before = found;
+          here = [];
+          before_are = are;
+          here_are = record { bundles = 0; len = refl; found_are = λ more init size. refl };
+          found_is = sym (append-nil found);
+        };
+        count = count;
+        first = first;
+        bundles = omega (arith, bundles);
+        sandboxes = sandboxes;
+        few = few;
+      })
+      | inr e ↦ rw (e.0) (record { found = found; found_are = are; count = count; first = first; bundles = bundles; sandboxes = sandboxes; few = few })
+    ]
+
+-- ---- steps
+
+pub field_tallies : (t : Tally) (x : Front) (s : List ℕ) (y : Front) (len : ℕ) → wants.Field len ≡ want_of x → Follows x s y → Tallies t x → Tallies t y
+field_tallies t Empty s y len w h k = rw (h.2) (record { found = k.found; found_are = k.found_are; count = k.count; first = k.first; bundles = k.bundles; sandboxes = k.sandboxes; few = k.few })
+field_tallies t (Named kind) s y len w h k = rw (h.2) (record { found = k.found; found_are = k.found_are; count = k.count; first = k.first; bundles = k.bundles; sandboxes = k.sandboxes; few = k.few })
+field_tallies t (Counted kind n ps) s y len w h k = rw (h.3) (gates_tally t n ps h.0 [] k.found k.found_are k.count k.first k.bundles k.sandboxes k.few)
+field_tallies t (InGates n ps f gs) s y len w h k = rw (h.2) (gates_tally t n ps f (gs ++ h.0 ∷ []) k.found k.found_are k.count k.first k.bundles k.sandboxes k.few)
+field_tallies t (InCode n ps f gs code) s y len w h k = absurd cc
+field_tallies t (InInit n ps f gs code init) s y len w h k = absurd cc
+field_tallies t (Whole ps) s y len w h k = absurd cc
+
+pub init_tallies : (t : Tally) (x : Front) (s : List ℕ) (y : Front) (len : ℕ) → wants.Init len ≡ want_of x → IsRightFront x → Follows x s y → Tallies t x → Tallies t y
+init_tallies t Empty s y len w right h k = absurd cc
+init_tallies t (Named kind) s y len w right h k = absurd cc
+init_tallies t (Counted kind n ps) s y len w right h k = absurd cc
+init_tallies t (InGates n ps f gs) s y len w right h k = absurd cc
+init_tallies t (InCode n ps f gs code) s y len w right h k = absurd cc
+init_tallies t (InInit n ps f gs code init) s y len w right h k =
+    rw (h) (init_tally t n ps f gs code (init ++ s) (record { found = k.found; within = k.found_are; count = k.count; first = k.first; bundles = k.bundles; sandboxes = k.sandboxes; few = k.few }) right.2)
+init_tallies t (Whole ps) s y len w right h k = absurd cc
+
+-- the tally with the findings of a bundle
+pub record Adds (old new : Tally) (sandbox : ℕ) (found : List Finding) : Type 0 where
+  pub sandboxes : new.sandboxes ≡ sandbox + 1
+  pub bundles : new.bundles ≡ old.bundles + 1
+  pub count : new.count ≡ old.count + length found
+  pub few : length found ≤ 8
+  pub first : (before : List Finding) → old.first ≡ slice_get before 0 → new.first ≡ slice_get (before ++ found) 0
+
+pub bundle_tallies : (old new : Tally) (x : Front) (s : List ℕ) (y : Front) (sandbox address : ℕ) (format : Format) (base size : ℕ) (listed : Bool) (found : List Finding)
+    → wants.Bundle sandbox address format base size listed ≡ want_of x → length s ≡ 16 → Follows x s y
+    → AreBundleFindings (record { sandbox = sandbox; address = address; format = format; code_base = base; code_size = size; listed = listed }) s found
+    → Adds old new sandbox found → Tallies old x → Tallies new y
+bundle_tallies old new Empty s y sandbox address format base size listed found w len h are adds k = absurd cc
+bundle_tallies old new (Named kind) s y sandbox address format base size listed found w len h are adds k = absurd cc
+bundle_tallies old new (Counted kind n ps) s y sandbox address format base size listed found w len h are adds k = absurd cc
+bundle_tallies old new (InGates n ps f gs) s y sandbox address format base size listed found w len h are adds k = absurd cc
+bundle_tallies old new (InCode n ps f gs code) s y sandbox address format base size listed found w len h are adds k =
+    let number : sandbox ≡ length ps = cc in
+    let at : address ≡ f.code_base + length code = cc in
+    let of : format ≡ f.format = cc in
+    let b : base ≡ f.code_base = cc in
+    let z : size ≡ f.code_size = cc in
+    let l : listed ≡ is_gate_of gs (f.code_base + length code) = cc in
+    let place : BundlePlace = record { sandbox = sandbox; address = address; format = format; code_base = base; code_size = size; listed = listed } in
+    let is : place ≡ record { sandbox = length ps; address = f.code_base + length code; format = f.format; code_base = f.code_base; code_size = f.code_size; listed = is_gate_of gs (f.code_base + length code) } =
+    rw (number, at, of, b, z, l) refl in
+    let within = k.found_are in
+    let more = bundle_more (length ps) f gs code s place within.here found within.here_are len is are in
+    let longer = length-append code s in
+    let so_far = within.here_are.len in
+    rw (h) (code_tally new n ps f gs (code ++ s) (record {
+      found = k.found ++ found;
+      within = record {
+        before = within.before;
+        here = within.here ++ found;
+        before_are = within.before_are;
+        here_are = more;
+        found_is = ap (λ (x : List Finding). x ++ found) within.found_is ∙ append_assoc within.before within.here found;
+      };
+      count = omega (arith, adds.count, k.count, length-append k.found found);
+      first = adds.first k.found k.first;
+      bundles = omega (arith, adds.bundles, k.bundles, longer, so_far);
+      sandboxes = adds.sandboxes ∙ ap (λ (j : ℕ). j + 1) number;
+      few = omega (arith, adds.count, adds.bundles, adds.few, k.few);
+    }) (omega (arith, longer)))
+bundle_tallies old new (InInit n ps f gs code init) s y sandbox address format base size listed found w len h are adds k = absurd cc
+bundle_tallies old new (Whole ps) s y sandbox address format base size listed found w len h are adds k = absurd cc
+
+-- ---- faults
+
+-- a fault of the bytes is one of more bytes
+pub fault_onwards : (bytes s rest : List ℕ) (more : List ℕ) (number : ℕ) → rest ≡ s ++ more → IsFaultOnwardsOf (bytes ++ s) number → IsFaultOnwardsOf (bytes ++ rest) number
+fault_onwards bytes s rest more number e h = (
+  h.0,
+  h.1,
+  λ tail.
+      let regroup : (bytes ++ rest) ++ tail ≡ (bytes ++ s) ++ (more ++ tail) = ap (λ (x : List ℕ). (bytes ++ x) ++ tail) e ∙ simp append_assoc in
+      rw (regroup) (h.2 (more ++ tail)),
+)

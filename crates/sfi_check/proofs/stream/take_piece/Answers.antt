@@ -1,0 +1,48 @@
+use Rattle.std.proofs.Common.{◌++◌, ℕ, List, take, subst, arith, inl, inr}
+use Rattle.std.proofs.lemmas.List.{length-drop}
+use Rattle.sfi_check.specs.declared.progress.Step.TheVariants as steps
+use Rattle.sfi_check.specs.Tallies.{IsCut, Steps}
+use Rattle.sfi_check.proofs.Leading.{tail_is, so_far_on, fault_on}
+use Rattle.sfi_check.proofs.stream.take_piece.Goals as goal
+
+pub step-requires : goal.step-requires
+step-requires c = (c.requires.0 ++ take c.loop-len.at c.args.piece.now, c.loop-len.invariant.so_far c.requires.0 c.requires.1)
+
+pub overflow_add-at : goal.overflow_add-at
+overflow_add-at c =
+    let s = subst (λ (l : List ℕ). Steps c.loop-len.reader c.step.new.reader c.step.new.tally (c.requires.0 ++ take c.loop-len.at c.args.piece.now) l (steps.Took c.in-Took.len)) (tail_is c.loop-len.at c.args.piece.now) (c.in-Took.ensures (c.requires.0 ++ take c.loop-len.at c.args.piece.now) (c.loop-len.invariant.so_far c.requires.0 c.requires.1)) in
+    omega (arith, s.1, length-drop c.loop-len.at c.args.piece.now, c.loop-len.invariant.inside)
+
+pub loop-len-smaller : goal.loop-len-smaller
+loop-len-smaller c =
+    let s = subst (λ (l : List ℕ). Steps c.loop-len.reader c.step.new.reader c.step.new.tally (c.requires.0 ++ take c.loop-len.at c.args.piece.now) l (steps.Took c.in-Took.len)) (tail_is c.loop-len.at c.args.piece.now) (c.in-Took.ensures (c.requires.0 ++ take c.loop-len.at c.args.piece.now) (c.loop-len.invariant.so_far c.requires.0 c.requires.1)) in
+    s.3
+
+pub loop-len-preserved : goal.loop-len-preserved
+loop-len-preserved c =
+    let s = subst (λ (l : List ℕ). Steps c.loop-len.reader c.step.new.reader c.step.new.tally (c.requires.0 ++ take c.loop-len.at c.args.piece.now) l (steps.Took c.in-Took.len)) (tail_is c.loop-len.at c.args.piece.now) (c.in-Took.ensures (c.requires.0 ++ take c.loop-len.at c.args.piece.now) (c.loop-len.invariant.so_far c.requires.0 c.requires.1)) in
+    let falls = s.3 in
+    record {
+      inside = omega (arith, s.1, length-drop c.loop-len.at c.args.piece.now, c.loop-len.invariant.inside);
+      so_far = λ b h. so_far_on c.step.new.reader c.step.new.tally b c.loop-len.at c.in-Took.len c.args.piece.now c.loop-len.invariant.inside
+          (subst (λ (l : List ℕ). Steps c.loop-len.reader c.step.new.reader c.step.new.tally (b ++ take c.loop-len.at c.args.piece.now) l (steps.Took c.in-Took.len)) (tail_is c.loop-len.at c.args.piece.now) (c.in-Took.ensures (b ++ take c.loop-len.at c.args.piece.now) (c.loop-len.invariant.so_far b h))).2;
+      falls = inl (elim c.loop-len.invariant.falls [ inl lt ↦ omega arith | inr z ↦ (let le = z.1 in omega arith) ]);
+    }
+
+pub returns-in-Short : goal.returns-in-Short
+returns-in-Short c = λ b h.
+    let s = subst (λ (l : List ℕ). Steps c.loop-len.reader c.step.new.reader c.step.new.tally (b ++ take c.loop-len.at c.args.piece.now) l steps.Short) (tail_is c.loop-len.at c.args.piece.now) (c.in-Short.ensures (b ++ take c.loop-len.at c.args.piece.now) (c.loop-len.invariant.so_far b h)) in
+    let le = s.2 in (
+      c.loop-len.invariant.inside,
+      s.0,
+      subst (λ (n : ℕ). IsCut c.step.new.reader n) (length-drop c.loop-len.at c.args.piece.now) s.1,
+      elim c.loop-len.invariant.falls [ inl lt ↦ inl (omega arith) | inr z ↦ inr (z.0, (let l = z.1 in omega arith)) ],
+    )
+
+pub returns-in-Whole : goal.returns-in-Whole
+returns-in-Whole c = λ b h.
+    let s = subst (λ (l : List ℕ). Steps c.loop-len.reader c.step.new.reader c.step.new.tally (b ++ take c.loop-len.at c.args.piece.now) l steps.Whole) (tail_is c.loop-len.at c.args.piece.now) (c.in-Whole.ensures (b ++ take c.loop-len.at c.args.piece.now) (c.loop-len.invariant.so_far b h)) in
+    (c.loop-len.invariant.inside, s.0, s.1)
+
+pub returns-in-Fault : goal.returns-in-Fault
+returns-in-Fault c = λ b h. fault_on b c.loop-len.at c.in-Fault.number c.args.piece.now (subst (λ (l : List ℕ). Steps c.loop-len.reader c.step.new.reader c.step.new.tally (b ++ take c.loop-len.at c.args.piece.now) l (steps.Fault c.in-Fault.number)) (tail_is c.loop-len.at c.args.piece.now) (c.in-Fault.ensures (b ++ take c.loop-len.at c.args.piece.now) (c.loop-len.invariant.so_far b h)))

@@ -1,0 +1,52 @@
+-- What `check_stream` says of the bytes of a stream.
+use Rattle.std.specs.Prelude.{◌≡◌, ◌⊎◌, ℕ, List, Bool, true, length, slice_get, Some}
+use Rattle.sfi_image.specs.declared.fault.LayoutFault.{LayoutFault}
+use Rattle.sfi_image.specs.Spelling.{Part}
+use Rattle.sfi_image.specs.Faults.{IsFault, number_of}
+use Rattle.sfi_image.specs.Fronts.{IsFaultOnwardsOf}
+use Rattle.sfi_scan.specs.declared.finding.Finding.{Finding}
+use Rattle.sfi_check.specs.declared.stream_answer.StreamAnswer.{StreamAnswer}
+use Rattle.sfi_check.specs.declared.stream_answer.StreamAnswer.TheVariants as answers
+use Rattle.sfi_check.specs.Verdict.{IsAccepted, HasFindings, bundle_count}
+use Rattle.sfi_check.specs.Safety.{AllRunSafely}
+
+-- ---- a fact of the answer, where it is that one
+
+abbrev pub IfLayout : (ℕ → Type 0) → StreamAnswer → Type 0
+IfLayout P (answers.Accepted sandboxes bundles) = Unit {0}
+IfLayout P (answers.Layout number) = P number
+IfLayout P (answers.Findings count first) = Unit {0}
+IfLayout P answers.ReadFault = Unit {0}
+
+abbrev pub IfFindings : (ℕ → Finding → Type 0) → StreamAnswer → Type 0
+IfFindings P (answers.Accepted sandboxes bundles) = Unit {0}
+IfFindings P (answers.Layout number) = Unit {0}
+IfFindings P (answers.Findings count first) = P count first
+IfFindings P answers.ReadFault = Unit {0}
+
+abbrev pub IfAccepted : (ℕ → ℕ → Type 0) → StreamAnswer → Type 0
+IfAccepted P (answers.Accepted sandboxes bundles) = P sandboxes bundles
+IfAccepted P (answers.Layout number) = Unit {0}
+IfAccepted P (answers.Findings count first) = Unit {0}
+IfAccepted P answers.ReadFault = Unit {0}
+
+-- ---- of bytes
+
+-- the bytes have the fault of that number
+abbrev pub IsFaultOf : List ℕ → ℕ → Type 0
+IsFaultOf bytes number = (k : LayoutFault) × (number_of k ≡ number) × IsFault bytes k
+
+-- the number and the first of findings
+pub record AreCounted (count : ℕ) (first : Finding) (found : List Finding) : Type 0 where
+  pub count_is : count ≡ length found
+  pub first_is : slice_get found 0 ≡ Some first
+
+-- The answer on the bytes of a stream, and whether it ended: what each answer means; which bytes get it, where the stream ended; and what acceptance is worth
+pub record Judged (bytes : List ℕ) (ends : Bool) (answer : StreamAnswer) : Type 0 where
+  pub layout : IfLayout (λ number. ((ends ≡ true) × IsFaultOf bytes number) ⊎ IsFaultOnwardsOf bytes number) answer
+  pub findings : IfFindings (λ count first. (ends ≡ true) × (found : List Finding) × HasFindings bytes found × AreCounted count first found) answer
+  pub accepted : IfAccepted (λ sandboxes bundles. (ends ≡ true) × (ps : List Part) × IsAccepted bytes ps × (sandboxes ≡ length ps) × (bundles ≡ bundle_count ps)) answer
+  pub only_layout : ends ≡ true → (k : LayoutFault) → IsFault bytes k → answer ≡ answers.Layout (number_of k)
+  pub only_findings : ends ≡ true → (found : List Finding) → HasFindings bytes found → (first : Finding) → slice_get found 0 ≡ Some first → answer ≡ answers.Findings (length found) first
+  pub only_accepted : ends ≡ true → (ps : List Part) → IsAccepted bytes ps → answer ≡ answers.Accepted (length ps) (bundle_count ps)
+  pub safe : IfAccepted (λ sandboxes bundles. (ps : List Part) → IsAccepted bytes ps → AllRunSafely ps) answer

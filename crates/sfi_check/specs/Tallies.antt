@@ -1,0 +1,107 @@
+-- What was found in the front of an image: words of private contracts.
+use Rattle.std.specs.Prelude.{◌≡◌, ℕ, ◌+◌, ◌*◌, ◌/◌, ◌-◌, ◌<◌, ◌≤◌, ◌==◌, ◌⊎◌, List, [], ◌++◌, length, take, cond, slice_get, Option, Some, None}
+use Rattle.sfi_image.specs.declared.part.Gate.{Gate}
+use Rattle.sfi_image.specs.declared.fields.Fields.{Fields}
+use Rattle.sfi_image.specs.declared.want.Next.TheVariants as next
+use Rattle.sfi_image.specs.Spelling.{Part}
+use Rattle.sfi_image.specs.Fronts.{Front, front, want_of, IsLess, part_of, IsFaultOnwardsOf}
+use Rattle.sfi_image.specs.Fronts.Front.{Empty, Named, Counted, InGates, InCode, InInit, Whole}
+use Rattle.sfi_image.specs.Keeping.{Kept, StandsFor, left}
+use Rattle.sfi_scan.specs.declared.finding.Finding.{Finding}
+use Rattle.sfi_scan.specs.Findings.{AreFindingsOfFirst, AreImageFindings}
+use Rattle.sfi_check.specs.declared.tally.Tally.{Tally}
+use Rattle.sfi_check.specs.declared.stream_answer.StreamAnswer.{StreamAnswer}
+use Rattle.sfi_check.specs.declared.stream_answer.StreamAnswer.TheVariants as answers
+use Rattle.sfi_check.specs.declared.progress.Step.{Step}
+use Rattle.sfi_check.specs.declared.progress.Step.TheVariants as steps
+use Rattle.sfi_check.specs.declared.progress.Progress.{Progress}
+use Rattle.sfi_check.specs.declared.progress.Progress.TheVariants as ways
+use Rattle.sfi_check.specs.Verdict.{bundle_count}
+
+-- the findings of the code so far of the sandbox of that number, whatever its other code and its data are
+pub record AreFindingsSoFar (sandbox : ℕ) (f : Fields) (gs : List Gate) (code : List ℕ) (found : List Finding) : Type 0 where
+  pub bundles : ℕ
+  pub len : length code ≡ 16 * bundles
+  pub found_are : (more init : List ℕ) → length (code ++ more) ≡ f.code_size → AreFindingsOfFirst sandbox (part_of f gs (code ++ more) init) bundles found
+
+-- the findings of whole sandboxes and of the code so far of the next
+pub record AreFindingsWithin (ps : List Part) (f : Fields) (gs : List Gate) (code : List ℕ) (found : List Finding) : Type 0 where
+  pub before : List Finding
+  pub here : List Finding
+  pub before_are : AreImageFindings ps before
+  pub here_are : AreFindingsSoFar (length ps) f gs code here
+  pub found_is : found ≡ before ++ here
+
+abbrev pub AreFrontFindings : Front → List Finding → Type 0
+AreFrontFindings Empty found = found ≡ []
+AreFrontFindings (Named format) found = found ≡ []
+AreFrontFindings (Counted format n ps) found = AreImageFindings ps found
+AreFrontFindings (InGates n ps f gs) found = AreImageFindings ps found
+AreFrontFindings (InCode n ps f gs code) found = AreFindingsWithin ps f gs code found
+AreFrontFindings (InInit n ps f gs code init) found = AreFindingsWithin ps f gs code found
+AreFrontFindings (Whole ps) found = AreImageFindings ps found
+
+-- how many bundles it has
+abbrev pub front_bundles : Front → ℕ
+front_bundles Empty = 0
+front_bundles (Named format) = 0
+front_bundles (Counted format n ps) = bundle_count ps
+front_bundles (InGates n ps f gs) = bundle_count ps
+front_bundles (InCode n ps f gs code) = bundle_count ps + length code / 16
+front_bundles (InInit n ps f gs code init) = bundle_count ps + length code / 16
+front_bundles (Whole ps) = bundle_count ps
+
+-- how many sandboxes have a bundle in it
+abbrev pub front_sandboxes : Front → ℕ
+front_sandboxes Empty = 0
+front_sandboxes (Named format) = 0
+front_sandboxes (Counted format n ps) = length ps
+front_sandboxes (InGates n ps f gs) = length ps
+front_sandboxes (InCode n ps f gs code) = cond (length code == 0) (length ps) (length ps + 1)
+front_sandboxes (InInit n ps f gs code init) = length ps + 1
+front_sandboxes (Whole ps) = length ps
+
+-- the tally is that of the front
+pub record Tallies (t : Tally) (x : Front) : Type 0 where
+  pub found : List Finding
+  pub found_are : AreFrontFindings x found
+  pub count : t.count ≡ length found
+  pub first : t.first ≡ slice_get found 0
+  pub bundles : t.bundles ≡ front_bundles x
+  pub sandboxes : t.sandboxes ≡ front_sandboxes x
+  pub few : t.count ≤ 8 * t.bundles
+
+-- the reader and the tally are those of the bytes so far
+pub record IsSoFar (r : Kept) (t : Tally) (bytes : List ℕ) : Type 0 where
+  pub at : Front
+  pub stands : StandsFor r at
+  pub bytes_are : bytes ≡ front at
+  pub tallies : Tallies t at
+  pub few : t.bundles + left r ≤ 33555490
+
+-- the bytes end before what comes next is whole, and are fewer than 28
+pub record IsCut (r : Kept) (len : ℕ) : Type 0 where
+  pub less : (x : Front) → StandsFor r x → IsLess len (want_of x)
+  pub few : len < 28
+
+-- one step on the bytes that follow those so far
+abbrev pub Steps : Kept → Kept → Tally → List ℕ → List ℕ → Step → Type 0
+Steps old new t so_far rest (steps.Took n) = (1 ≤ n) × (n ≤ length rest) × IsSoFar new t (so_far ++ take n rest) × (left new < left old)
+Steps old new t so_far rest steps.Short = IsSoFar new t so_far × IsCut new (length rest) × (left new ≤ left old)
+Steps old new t so_far rest steps.Whole = IsSoFar new t so_far × (new.next ≡ next.End)
+Steps old new t so_far rest (steps.Fault k) = IsFaultOnwardsOf (so_far ++ rest) k
+
+-- all steps on a piece that follows the bytes so far
+abbrev pub Goes : Kept → Kept → Tally → List ℕ → List ℕ → Progress → Type 0
+Goes old new t so_far rest (ways.More n) =
+    (n ≤ length rest) × IsSoFar new t (so_far ++ take n rest) × IsCut new (length rest - n) × ((left new < left old) ⊎ ((n ≡ 0) × (left new ≤ left old)))
+Goes old new t so_far rest (ways.Whole n) = (n ≤ length rest) × IsSoFar new t (so_far ++ take n rest) × (new.next ≡ next.End)
+Goes old new t so_far rest (ways.Fault k) = IsFaultOnwardsOf (so_far ++ rest) k
+
+-- the answer on a whole image with that tally
+abbrev pub verdict_by : Option Finding → Tally → StreamAnswer
+verdict_by None t = answers.Accepted t.sandboxes t.bundles
+verdict_by (Some first) t = answers.Findings t.count first
+
+abbrev pub verdict_of : Tally → StreamAnswer
+verdict_of t = verdict_by t.first t

@@ -1,0 +1,229 @@
+//! The verdict on a stream of bytes, without taking memory.
+ghost use Rattle.std.specs.Prelude.{◌≡◌, ◌↔◌, ℕ, ◌+◌, ◌-◌, ◌*◌, ◌<◌, ◌≤◌, List, [], ◌++◌, Bool, true, false, length, take, drop, slice_get, cond, ◌==◌, Some, None, IfOk, OnErr, is_some};
+ghost use Rattle.sfi_image.specs.Fronts.{Front, want_of};
+ghost use Rattle.sfi_image.specs.Keeping.{StandsFor};
+ghost use Rattle.sfi_image.specs.Sources.{Streams};
+ghost use Rattle.sfi_scan.specs.Bundles.{IsWithin};
+ghost use Rattle.sfi_scan.specs.declared.finding.Finding.{Finding};
+ghost use Rattle.sfi_check.specs.Tallies.{IsSoFar, Steps, Goes, verdict_of};
+ghost use Rattle.sfi_check.specs.Streams.{Judged};
+
+use crate::laws::clean_runs_safely;
+use crate::progress::{Progress, Step};
+use crate::stream_answer::StreamAnswer;
+use crate::tally::Tally;
+use sfi_image::{
+    ByteSource, LayoutReader, ReadFault, Want, front_ends, one_reading, whole_bundles,
+};
+use sfi_scan::laws::one_image_list;
+use sfi_scan::{BundleFindings, BundlePlace, Finding, scan_bundle};
+
+/// How many bytes are read at a time, at most.
+const PIECE: usize = 4096;
+
+/// The first finding of both.
+fn first_of(first: Option<Finding>, found: &BundleFindings) -> Option<Finding>
+    ensures { (before : List Finding) → first ≡ slice_get before 0 → result ≡ slice_get (before ++ found.now) 0 }
+{
+    match first {
+        Some(finding) => Some(finding),
+        None => found.at(0),
+    }
+}
+
+/// The tally with a bundle of that sandbox more.
+fn with_bundle(tally: Tally, sandbox: u32, found: &BundleFindings) -> Tally
+    requires bundles { tally.bundles < 33555490 }
+    requires count { tally.count ≤ 8 * tally.bundles }
+    requires sandbox { sandbox < 16 }
+    ensures sandboxes { result.sandboxes ≡ sandbox + 1 }
+    ensures bundles { result.bundles ≡ tally.bundles + 1 }
+    ensures count { result.count ≡ tally.count + length found.now }
+    ensures few { length found.now ≤ 8 }
+    ensures first { (before : List Finding) → tally.first ≡ slice_get before 0 → result.first ≡ slice_get (before ++ found.now) 0 }
+{
+    let count = found.count() as u32;
+    let first = if count == 0 {
+        tally.first
+    } else {
+        first_of(tally.first, found)
+    };
+    Tally {
+        sandboxes: sandbox + 1,
+        bundles: tally.bundles + 1,
+        count: tally.count + count,
+        first,
+    }
+}
+
+/// Takes the bytes that come next, if they are there, and scans them where they are a bundle.
+#[inline(always)]
+fn step(
+    reader: &mut LayoutReader,
+    tally: &mut Tally,
+    findings: &mut BundleFindings,
+    rest: &[u8],
+) -> Step
+    requires { (so_far : List ℕ) × IsSoFar reader.old tally.old so_far }
+    ensures { (so_far : List ℕ) → IsSoFar reader.old tally.old so_far → Steps reader.old reader.new tally.new so_far rest.now result }
+{
+    // The law that the contract rests on: the call does nothing.
+    whole_bundles();
+
+    match reader.wants() {
+        Want::Field(len) => {
+            if rest.len() < len {
+                return Step::Short;
+            }
+            match reader.take(&rest[..len]) {
+                Some(number) => Step::Fault(number),
+                None => Step::Took(len),
+            }
+        }
+        Want::Bundle {
+            sandbox,
+            address,
+            format,
+            code_base,
+            code_size,
+            listed,
+        } => {
+            let Some(bundle) = rest.first_chunk::<16>() else {
+                return Step::Short;
+            };
+            let place = BundlePlace {
+                sandbox,
+                address,
+                format,
+                code_base,
+                code_size,
+                listed,
+            };
+            scan_bundle(&place, bundle, findings);
+            match reader.take(bundle) {
+                Some(number) => Step::Fault(number),
+                None => {
+                    *tally = with_bundle(*tally, sandbox, findings);
+                    Step::Took(16)
+                }
+            }
+        }
+        Want::Init(most) => {
+            if rest.is_empty() {
+                return Step::Short;
+            }
+            let len = if rest.len() < most { rest.len() } else { most };
+            match reader.take(&rest[..len]) {
+                Some(number) => Step::Fault(number),
+                None => Step::Took(len),
+            }
+        }
+        Want::End => Step::Whole,
+        Want::Nothing => unreachable!(),
+    }
+}
+
+/// Takes as many bytes of a piece as lead on.
+fn take_piece(reader: &mut LayoutReader, tally: &mut Tally, piece: &[u8]) -> Progress
+    requires { (so_far : List ℕ) × IsSoFar reader.old tally.old so_far }
+    ensures { (so_far : List ℕ) → IsSoFar reader.old tally.old so_far → Goes reader.old reader.new tally.new so_far piece.now result }
+{
+    let mut findings = BundleFindings::new();
+    let mut at = 0;
+    loop {
+        match step(reader, tally, &mut findings, &piece[at..]) {
+            Step::Took(len) => at += len,
+            Step::Short => return Progress::More(at),
+            Step::Whole => return Progress::Whole(at),
+            Step::Fault(number) => return Progress::Fault(number),
+        }
+    }
+}
+
+/// The verdict on an image with that tally.
+fn verdict(tally: &Tally) -> StreamAnswer
+    ensures { result ≡ verdict_of tally.now }
+{
+    match tally.first {
+        Some(first) => StreamAnswer::Findings {
+            count: tally.count,
+            first,
+        },
+        None => StreamAnswer::Accepted {
+            sandboxes: tally.sandboxes,
+            bundles: tally.bundles,
+        },
+    }
+}
+
+/// Moves what is held behind so many bytes to the front.
+fn move_to_front(piece: &mut [u8; PIECE], from: usize, held: usize)
+    requires from { from ≤ held }
+    requires held { held ≤ 4096 }
+    ensures { take (held - from) piece.new ≡ drop from (take held piece.old) }
+{
+    piece.copy_within(from..held, 0);
+}
+
+/// Reads more bytes behind those that are held.
+fn read_more<S: ByteSource>(
+    source: &mut S,
+    piece: &mut [u8; PIECE],
+    held: usize,
+) -> Result<usize, ReadFault>
+    requires { held < 4096 }
+    ensures bound { IfOk result (λ n. held + n ≤ 4096) }
+    ensures kept { take held piece.new ≡ take held piece.old }
+    ensures some { IfOk result (λ n. S.reads source.old (length (drop held piece.old)) (Some (take n (drop held piece.new))) source.new) }
+    ensures fault { OnErr result (S.reads source.old (length (drop held piece.old)) None source.new) }
+{
+    source.read_some(&mut piece[held..])
+}
+
+/// Accepts the bytes of the stream, or says why not. It takes no memory, and reads at most 4096 bytes at a time, to a fault of
+/// the layout or to the end.
+pub fn check_stream<S: ByteSource>(source: &mut S) -> StreamAnswer
+    requires { S.has_failed source.old ≡ false }
+    ensures judged { (bytes : List ℕ) × (ends : Bool) × Streams S.reads source.old source.new bytes ends × Judged bytes ends result }
+    ensures failed { (result ≡ StreamAnswer.ReadFault) ↔ (S.has_failed source.new ≡ true) }
+{
+    // The laws that the contract rests on: these calls do nothing.
+    one_reading();
+    one_image_list();
+    clean_runs_safely();
+    front_ends();
+
+    let mut reader = LayoutReader::new();
+    let mut tally = Tally {
+        sandboxes: 0,
+        bundles: 0,
+        count: 0,
+        first: None,
+    };
+    let mut piece = [0; PIECE];
+    let mut held = 0;
+    'pieces: loop {
+        match take_piece(&mut reader, &mut tally, &piece[..held]) {
+            Progress::Fault(number) => return StreamAnswer::Layout(number),
+            Progress::Whole(at) => {
+                if at < held {
+                    return StreamAnswer::Layout(11);
+                }
+                return match read_more(source, &mut piece, 0) {
+                    Ok(0) => verdict(&tally),
+                    Ok(_) => StreamAnswer::Layout(11),
+                    Err(_) => StreamAnswer::ReadFault,
+                };
+            }
+            Progress::More(at) => {
+                move_to_front(&mut piece, at, held);
+                held -= at;
+                match read_more(source, &mut piece, held) {
+                    Ok(0) => return StreamAnswer::Layout(3),
+                    Ok(count) => held += count,
+                    Err(_) => return StreamAnswer::ReadFault,
+                }
+            }
+        }
+    }
+}

@@ -1,0 +1,16 @@
+//! The verdict on a stream of bytes.
+
+use sfi_scan::Finding;
+
+/// The verdict on the bytes of a stream.
+#[derive(Clone, Copy, PartialEq, Eq, Debug)]
+pub enum StreamAnswer {
+    /// The bytes are accepted: how many sandboxes and how many bundles they have.
+    Accepted { sandboxes: u32, bundles: u32 },
+    /// The bytes are no image: the number of the layout fault.
+    Layout(u32),
+    /// Rules are broken: how many times, and the first place by sandbox and address.
+    Findings { count: u32, first: Finding },
+    /// A read failed.
+    ReadFault,
+}
