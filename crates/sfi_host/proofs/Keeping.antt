@@ -1,15 +1,16 @@
 -- What leaves a sandbox safe.
-use Rattle.std.proofs.Common.{◌≡◌, ◌≢◌, ℕ, ◌≤◌, inl, inr, List, refl, sym, ap, ◌∙◌, subst, arith, get_or-set_other}
+use Rattle.std.proofs.Common.{◌≡◌, ◌≢◌, ℕ, ◌≤◌, inl, inr, List, [], true, refl, sym, ap, ◌∙◌, subst, arith, get_or-set_other}
 use Rattle.std.specs.Prelude.{slice_index, slice_set}
 use Rattle.rv_word.specs.declared.instr.Instr.TheVariants.{Ecall}
 use Rattle.rv_mem.specs.Bytes.{Bytes, IsMemory, address_after}
 use Rattle.rv_step.specs.State.{Hart, IsHart, IsState, behind}
 use Rattle.rv_step.specs.Step.{Stands}
+use Rattle.sfi_image.specs.Formats.{has_stack}
 use Rattle.sfi_image.specs.Spelling.{Part}
 use Rattle.sfi_image.specs.Spans.{Holds, AreApart}
-use Rattle.sfi_check.specs.Regions.{InCode, InGuard}
+use Rattle.sfi_check.specs.Regions.{InCode, InData, InGuard, HasStack}
 use Rattle.sfi_check.specs.Runs.{Replies, Changes, KeepsBytes, KeepsReserved, IsReply}
-use Rattle.sfi_check.specs.Laws.{SafeStaysSafe}
+use Rattle.sfi_check.specs.Laws.{GoesOnSafely}
 use Rattle.sfi_host.specs.declared.status.Status.TheVariants.{Ready}
 use Rattle.sfi_host.specs.Regions.{IsWhole}
 use Rattle.sfi_host.specs.Slots.{Bounds, bounds_of}
@@ -66,13 +67,21 @@ module _ (m : Bytes) (s : Seat) (seat : IsSafeSeat m s) where
 
     -- a hart that goes on behind the ecall
     pub is_reply : (size : ℕ) → Stands (machine_of m s) Ecall size → (n : Bytes) (h : Hart) → StaysOutside s.bounds.data m n → IsState (record { hart = h; memory = n })
-        → h.pc ≡ address_after s.hart.pc 4 → KeepsReserved s.hart h → IsReply p (machine_of m s) (record { hart = h; memory = n })
-    is_reply size stands n h stays state pc reserved =
-        record { size = size; asked = stands; state = state; pc = pc; reserved = reserved; bytes = own_kept n stays }
+        → h.pc ≡ address_after s.hart.pc 4 → KeepsReserved s.hart h → HasStack p h.registers → IsReply p (machine_of m s) (record { hart = h; memory = n })
+    is_reply size stands n h stays state pc reserved stack =
+        record { size = size; asked = stands; state = state; pc = pc; reserved = reserved; stack = stack; bytes = own_kept n stays }
+
+    -- where a stack pointer lies at a call it lies behind it
+    pub stack_kept : s.status ≡ Ready → (size : ℕ) → Stands (machine_of m s) Ecall size → (h : Hart) → slice_index h.registers 2 ≡ slice_index s.hart.registers 2 → HasStack p h.registers
+    stack_kept ready size stands h same has =
+        let same_bounds : bounds_of seat.part ≡ bounds_of p = sym seat.bounds ∙ is in
+        let has' : has_stack seat.part.format ≡ true = ap (λ (b : Bounds). has_stack b.format) same_bounds ∙ has in
+        let inside : InData seat.part (slice_index s.hart.registers 2) = (seat.safe ready).calls.lies [] (machine_of m s) size tt refl stands has' in
+        subst (λ (a : ℕ). InData p a) (sym same) (subst (λ (b : Bounds). Holds b.data (slice_index s.hart.registers 2)) same_bounds inside)
 
   -- ---- a change by others
 
-  pub changed : SafeStaysSafe → (n : Bytes) → KeepsBytes seat.part m n → IsWhole s.bounds.data n → IsSafeSeat n s
+  pub changed : GoesOnSafely → (n : Bytes) → KeepsBytes seat.part m n → IsWhole s.bounds.data n → IsSafeSeat n s
   changed on n keeps whole = record {
     part = seat.part;
     bounds = seat.bounds;
@@ -85,16 +94,16 @@ module _ (m : Bytes) (s : Seat) (seat : IsSafeSeat m s) where
   }
 
   -- the same, where all but its own data is left
-  pub own_changed : SafeStaysSafe → (n : Bytes) → StaysOutside s.bounds.data m n → IsWhole s.bounds.data n → IsSafeSeat n s
+  pub own_changed : GoesOnSafely → (n : Bytes) → StaysOutside s.bounds.data m n → IsWhole s.bounds.data n → IsSafeSeat n s
   own_changed on n stays whole = changed on n (own_kept seat.part seat.bounds n stays) whole
 
   -- ---- behind a reply
 
-  pub replied : SafeStaysSafe → s.status ≡ Ready → (size : ℕ) → Stands (machine_of m s) Ecall size
+  pub replied : GoesOnSafely → s.status ≡ Ready → (size : ℕ) → Stands (machine_of m s) Ecall size
       → (n : Bytes) (h : Hart) (steps : ℕ) → IsMemory n → StaysOutside s.bounds.data m n → IsWhole s.bounds.data n
-      → IsHart h → h.pc ≡ address_after s.hart.pc 4 → KeepsReserved s.hart h
+      → IsHart h → h.pc ≡ address_after s.hart.pc 4 → KeepsReserved s.hart h → slice_index h.registers 2 ≡ slice_index s.hart.registers 2
       → IsSafeSeat n (record { bounds = s.bounds; hart = h; status = s.status; steps = steps })
-  replied on ready size stands n h steps memory stays whole hart pc reserved = record {
+  replied on ready size stands n h steps memory stays whole hart pc reserved stack = record {
     part = seat.part;
     bounds = seat.bounds;
     right = seat.right;
@@ -102,7 +111,7 @@ module _ (m : Bytes) (s : Seat) (seat : IsSafeSeat m s) where
     guards = λ a guard. (own_kept seat.part seat.bounds n stays).guards a guard (seat.guards a guard);
     has_data = whole;
     safe = λ still. on seat.part (machine_of m s) (record { hart = h; memory = n }) (Replies (record { hart = h; memory = n })) (seat.safe ready)
-        (is_reply seat.part seat.bounds size stands n h stays (record { hart = hart; memory = memory }) pc reserved) refl;
+        (is_reply seat.part seat.bounds size stands n h stays (record { hart = hart; memory = memory }) pc reserved (stack_kept seat.part seat.bounds ready size stands h stack)) refl;
   }
 
   -- one that has stopped is safe, whatever its registers hold
@@ -129,6 +138,9 @@ arguments_keep h a0 a1 = record {
   x27 = kept_register h.registers a0 a1 27 (λ e. omega arith) (λ e. omega arith);
 }
 
+pub stack_argument : (h : Hart) (a0 a1 : ℕ) → slice_index (behind (with_arguments h a0 a1) 4).registers 2 ≡ slice_index h.registers 2
+stack_argument h a0 a1 = kept_register h.registers a0 a1 2 (λ e. omega arith) (λ e. omega arith)
+
 -- ---- a reply in the words of runs
 
 way_keeps : (w : Way) (h : Hart) (a0 a1 : ℕ) → status_after w ≡ Ready → KeepsReserved h (after_way w (with_arguments h a0 a1))
@@ -136,13 +148,19 @@ way_keeps Replied h a0 a1 goes_on = arguments_keep h a0 a1
 way_keeps Yield h a0 a1 goes_on = arguments_keep h a0 a1
 way_keeps (Exit n) h a0 a1 goes_on = absurd (cc)
 
+way_stack : (w : Way) (h : Hart) (a0 a1 : ℕ) → status_after w ≡ Ready → slice_index (after_way w (with_arguments h a0 a1)).registers 2 ≡ slice_index h.registers 2
+way_stack Replied h a0 a1 goes_on = stack_argument h a0 a1
+way_stack Yield h a0 a1 goes_on = stack_argument h a0 a1
+way_stack (Exit n) h a0 a1 goes_on = absurd (cc)
+
 way_pc : (w : Way) (h : Hart) (a0 a1 : ℕ) → status_after w ≡ Ready → (after_way w (with_arguments h a0 a1)).pc ≡ address_after h.pc 4
 way_pc Replied h a0 a1 goes_on = refl
 way_pc Yield h a0 a1 goes_on = refl
 way_pc (Exit n) h a0 a1 goes_on = absurd (cc)
 
 pub answers_are : AnswersAreReplies
-answers_are m s r after size p seat is stands goes_on state hart stays =
+answers_are m s r after size p seat is ready stands goes_on state hart stays =
     is_reply m s seat p is size stands after.memory after.hart stays state
     (ap (λ (h : Hart). h.pc) hart ∙ way_pc r.way s.hart r.a0 r.a1 goes_on)
     (subst (λ (h : Hart). KeepsReserved s.hart h) (sym hart) (way_keeps r.way s.hart r.a0 r.a1 goes_on))
+    (stack_kept m s seat p is ready size stands after.hart (ap (λ (h : Hart). slice_index h.registers 2) hart ∙ way_stack r.way s.hart r.a0 r.a1 goes_on))

@@ -1,5 +1,6 @@
 pub mod Alone
 pub mod Asked
+pub mod Decoding
 pub mod Entered
 pub mod Keeping
 pub mod Kept

@@ -4,7 +4,7 @@ use Rattle.rv_mem.specs.Bytes.{Bytes, byte_at}
 use Rattle.sfi_image.specs.Spelling.{Part}
 use Rattle.sfi_image.specs.Spans.{Holds}
 use Rattle.sfi_check.specs.Runs.{KeepsBytes}
-use Rattle.sfi_check.specs.Laws.{SafeStaysSafe}
+use Rattle.sfi_check.specs.Laws.{GoesOnSafely}
 use Rattle.sfi_host.specs.Laws.{NeighboursAreChanges}
 use Rattle.sfi_host.specs.Slots.{Bounds, bounds_of, own, Slot}
 use Rattle.sfi_host.specs.Worlds.{Seat, slot_of, slots_of, IsSafeSeat, LiesOutside, IsSafeWorld, StaysOutside}
@@ -48,7 +48,7 @@ module _ (m n : Bytes) (b : Bounds) (left : StaysOutside b.data m n) (t : Seat) 
   }
 
   -- it is safe as before
-  pub other_safe : SafeStaysSafe → IsSafeSeat n t
+  pub other_safe : GoesOnSafely → IsSafeSeat n t
   other_safe on = keep.changed m t seat on n (others_kept seat.part seat.bounds)
       (λ a h. ap is_some (data_same a h) ∙ seat.has_data a h)
 
@@ -81,7 +81,7 @@ module _ (m n : Bytes) (seats : List Seat) (i : ℕ) (s new : Seat) (world : IsS
   pub slots_are : slots_of (record { bytes = n; seats = set seats i new }) ≡ set (slots_of (record { bytes = m; seats = seats })) i (slot_of n new)
   slots_are = set_slots m n seats i new (λ j t ne e. other_same m n s.bounds left t (world.each j t e) (world.others i j s t (λ z. ne (sym z)) at e))
 
-  module _ (on : SafeStaysSafe) (safe : IsSafeSeat n new) (bounds : new.bounds ≡ s.bounds) where
+  module _ (on : GoesOnSafely) (safe : IsSafeSeat n new) (bounds : new.bounds ≡ s.bounds) where
     -- what stands at a place
     found : (j : ℕ) (t : Seat) → slice_get (set seats i new) j ≡ Some t → ((j ≡ i) × (t ≡ new)) ⊎ ((j ≢ i) × (slice_get seats j ≡ Some t))
     found j t e = elim (j == i) as (λ b. (j == i) ≡ b → ((j ≡ i) × (t ≡ new)) ⊎ ((j ≢ i) × (slice_get seats j ≡ Some t))) [

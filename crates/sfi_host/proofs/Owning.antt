@@ -11,7 +11,7 @@ use Rattle.sfi_image.specs.Spans.{Holds}
 use Rattle.sfi_check.specs.Regions.{InCode, InData, InGuard}
 use Rattle.sfi_check.specs.Runs.{Steps, after_step}
 use Rattle.sfi_check.specs.Safety.{IsSafeState, IsSafeStep, IsTrap, RunsSafelyFrom}
-use Rattle.sfi_check.specs.Laws.{SafeTurns, SafeStaysSafe}
+use Rattle.sfi_check.specs.Laws.{SafeTurns, GoesOnSafely}
 use Rattle.sfi_host.specs.declared.status.Status.TheVariants.{Ready}
 use Rattle.sfi_host.specs.Regions.{is_in}
 use Rattle.sfi_host.specs.Slots.{Bounds, is_own, own, state_of}
@@ -67,7 +67,7 @@ pub record Laws : Type 0 where
   pub none_goes : NoByteGoes
   pub ecalls : CallsAreEcalls
   pub turns : SafeTurns
-  pub on : SafeStaysSafe
+  pub on : GoesOnSafely
 
 true_false : (b : Bool) → b ≡ true → b ≡ false → ⊥
 true_false b t f = cc
@@ -88,7 +88,7 @@ is_trap_not (Trap cause at) e t = cc
 
 module _ (laws : Laws) (m : Bytes) (s : Seat) (r : Stepped) (seat : IsSafeSeat m s) (ready : s.status ≡ Ready) (step : IsStep (machine_of m s) r) where
   from : RunsSafelyFrom seat.part (machine_of m s)
-  from = seat.safe ready
+  from = (seat.safe ready).safe
 
   both : IsSafeState seat.part (machine_of m s) × IsSafeStep seat.part (machine_of m s) r
   both = laws.turns seat.part (machine_of m s) (Steps r) from step
@@ -174,7 +174,7 @@ module _ (laws : Laws) (m : Bytes) (s : Seat) (r : Stepped) (seat : IsSafeSeat m
     apart = seat.apart;
     guards = λ a guard. stays_outside a (λ inside. guard_not_data a guard (data_in a inside)) ∙ seat.guards a guard;
     has_data = λ a inside. laws.none_goes (machine_of m s) r a step (seat.has_data a inside);
-    safe = λ e. laws.on seat.part (machine_of m s) r.state (Steps r) from step (ap (λ (o : Outcome). after_step o r.state) done);
+    safe = λ e. laws.on seat.part (machine_of m s) r.state (Steps r) (seat.safe ready) step (ap (λ (o : Outcome). after_step o r.state) done);
   }
 
   -- ---- alone

@@ -4,7 +4,7 @@ use Rattle.rv_mem.specs.Bytes.{Bytes, IsMemory}
 use Rattle.rv_word.specs.declared.instr.Instr.TheVariants.{Ecall}
 use Rattle.rv_step.specs.State.{Hart, IsHart, register, behind}
 use Rattle.rv_step.specs.Step.{Stands}
-use Rattle.sfi_check.specs.Laws.{SafeStaysSafe}
+use Rattle.sfi_check.specs.Laws.{GoesOnSafely}
 use Rattle.sfi_host.specs.declared.status.Status.{Status}
 use Rattle.sfi_host.specs.declared.status.Status.TheVariants.{Ready}
 use Rattle.sfi_host.specs.declared.gates.GateAnswer.{GateAnswer}
@@ -106,13 +106,13 @@ bounds_after gate.Yield s t = refl
 bounds_after (gate.Exit n) s t = refl
 bounds_after gate.Memory s t = refl
 
-pub safe_after : SafeStaysSafe → (m n : Bytes) (s : Sandbox) (t : Told) (a : GateAnswer) (size : ℕ) → IsSafeSeat m (seat_of s) → s.status ≡ Ready → Stands (machine_of m (seat_of s)) Ecall size
+pub safe_after : GoesOnSafely → (m n : Bytes) (s : Sandbox) (t : Told) (a : GateAnswer) (size : ℕ) → IsSafeSeat m (seat_of s) → s.status ≡ Ready → Stands (machine_of m (seat_of s)) Ecall size
     → IsMemory n → StaysOutside (seat_of s).bounds.data m n → IsWhole (seat_of s).bounds.data n → (a ≢ gate.Memory → IsHart (after_told a s t).cpu)
     → IsSafeSeat n (seat_of (after_told a s t))
 safe_after on m n s t gate.Replied size seat ready stands memory stays whole hart =
-    keep.replied m (seat_of s) seat on ready size stands n _ _ memory stays whole (hart (λ e. cc)) refl (keep.arguments_keep s.cpu t.a0 t.a1)
+    keep.replied m (seat_of s) seat on ready size stands n _ _ memory stays whole (hart (λ e. cc)) refl (keep.arguments_keep s.cpu t.a0 t.a1) (keep.stack_argument s.cpu t.a0 t.a1)
 safe_after on m n s t gate.Yield size seat ready stands memory stays whole hart =
-    keep.replied m (seat_of s) seat on ready size stands n _ _ memory stays whole (hart (λ e. cc)) refl (keep.arguments_keep s.cpu t.a0 t.a1)
+    keep.replied m (seat_of s) seat on ready size stands n _ _ memory stays whole (hart (λ e. cc)) refl (keep.arguments_keep s.cpu t.a0 t.a1) (keep.stack_argument s.cpu t.a0 t.a1)
 safe_after on m n s t (gate.Exit k) size seat ready stands memory stays whole hart =
     keep.halted m (seat_of s) seat n _ refl (λ e. cc) stays whole
 safe_after on m n s t gate.Memory size seat ready stands memory stays whole hart =

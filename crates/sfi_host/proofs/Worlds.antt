@@ -6,7 +6,9 @@ use Rattle.rv_mem.specs.Bytes.{IsMemory, byte_at}
 use Rattle.rv_step.specs.State.{IsHart}
 use Rattle.sfi_image.specs.Spelling.{Part}
 use Rattle.sfi_image.specs.Parts.{IsRightPart, IsRightLayout}
+use Rattle.sfi_check.specs.Regions.{InData}
 use Rattle.sfi_check.specs.Safety.{RunsSafely, AllRunSafely}
+use Rattle.sfi_check.specs.Stack.{CallsWithStack, AllCallWithStack}
 use Rattle.sfi_host.specs.Slots.{bounds_of}
 use Rattle.sfi_host.specs.Loading.{first_hart, first_seat, with_parts, AreEntered, HaveFirstData}
 use Rattle.sfi_host.specs.Worlds.{Seat, machine_of, IsSafeSeat, LiesOutside, IsSafeWorld}
@@ -61,6 +63,10 @@ map_get f (x ∷ xs) (suc i) y e = map_get f xs i y e
 some_at : (o : Option ℕ) (b : ℕ) → o ≡ Some b → IsSome o
 some_at o b e = ap is_some e
 
+-- the stack pointer lies 16 below the data's end
+first_stack : (p : Part) → IsRightPart p → InData p (slice_index (first_hart p).registers 2)
+first_stack p right = let least = right.data_placed.at_least in (omega arith, omega arith)
+
 module _ (laws : Laws) (ps : List Part) (layout : IsRightLayout ps) (memory : IsMemory (with_parts empty ps)) where
   pub entered : AreEntered ps (with_parts empty ps)
   entered i p e =
@@ -69,6 +75,7 @@ module _ (laws : Laws) (ps : List Part) (layout : IsRightLayout ps) (memory : Is
         state = record { hart = first_is p (lie.each i p e); memory = memory };
         start = (lie.each i p e).start;
         reserved = record { x24 = refl; x25 = refl; x26 = refl; x27 = refl };
+        stack = λ has. first_stack p (lie.each i p e);
         code = has_code laws ps empty i p lie e;
         guards = has_empty_guards laws ps i p lie e;
       }
@@ -76,8 +83,8 @@ module _ (laws : Laws) (ps : List Part) (layout : IsRightLayout ps) (memory : Is
   pub first_data_there : HaveFirstData ps (with_parts empty ps)
   first_data_there i p e k below = has_data laws ps empty i p (lie_apart ps layout) e k below
 
-  seat_safe : AllRunSafely ps → (i : ℕ) (p : Part) → slice_get ps i ≡ Some p → IsSafeSeat (with_parts empty ps) (first_seat p)
-  seat_safe safe i p e =
+  seat_safe : AllRunSafely ps → AllCallWithStack ps → (i : ℕ) (p : Part) → slice_get ps i ≡ Some p → IsSafeSeat (with_parts empty ps) (first_seat p)
+  seat_safe safe calls i p e =
       let lie = lie_apart ps layout in
       let runs : RunsSafely p = subst (λ (q : Part). RunsSafely q) (get_is ps i p p e) (safe.each i p (get_below ps i p e)) in
       record {
@@ -89,7 +96,10 @@ module _ (laws : Laws) (ps : List Part) (layout : IsRightLayout ps) (memory : Is
         has_data = λ a h.
             let z : p.data_base + (a - p.data_base) ≡ a = omega arith in
             some_at (byte_at (with_parts empty ps) a) _ (ap (byte_at (with_parts empty ps)) (sym z) ∙ has_data laws ps empty i p lie e (a - p.data_base) (omega arith));
-        safe = λ ready. runs.from (machine_of (with_parts empty ps) (first_seat p)) (entered i p e);
+        safe = λ ready. record {
+          safe = runs.from (machine_of (with_parts empty ps) (first_seat p)) (entered i p e);
+          calls = (subst (λ (q : Part). CallsWithStack q) (get_is ps i p p e) (calls.each i p (get_below ps i p e))).from (machine_of (with_parts empty ps) (first_seat p)) (entered i p e);
+        };
       }
 
   outside : (i j : ℕ) (p q : Part) → i ≢ j → slice_get ps i ≡ Some p → slice_get ps j ≡ Some q → LiesOutside (bounds_of p) (bounds_of q)
@@ -101,11 +111,11 @@ module _ (laws : Laws) (ps : List Part) (layout : IsRightLayout ps) (memory : Is
         guarded = λ a h k. apart.guarded_guarded a (data_guarded p a (lie.each i p e) h) k;
       }
 
-  pub world_safe : AllRunSafely ps → IsSafeWorld (record { bytes = with_parts empty ps; seats = map first_seat ps })
-  world_safe safe = record {
+  pub world_safe : AllRunSafely ps → AllCallWithStack ps → IsSafeWorld (record { bytes = with_parts empty ps; seats = map first_seat ps })
+  world_safe safe calls = record {
     each = λ i s e.
         let x = map_get first_seat ps i s e in
-        subst (λ (t : Seat). IsSafeSeat (with_parts empty ps) t) (sym x.2) (seat_safe safe i x.0 x.1);
+        subst (λ (t : Seat). IsSafeSeat (with_parts empty ps) t) (sym x.2) (seat_safe safe calls i x.0 x.1);
     others = λ i j s t ne e f.
         let x = map_get first_seat ps i s e in
         let y = map_get first_seat ps j t f in

@@ -31,6 +31,6 @@ NeighboursAreChanges =
 abbrev pub AnswersAreReplies : Type 0
 AnswersAreReplies =
     (m : Bytes) (s : Seat) (r : Reply) (after : State) (size : ℕ) (p : Part) → IsSafeSeat m s → s.bounds ≡ bounds_of p
-    → Stands (machine_of m s) Ecall size → status_after r.way ≡ Ready
+    → s.status ≡ Ready → Stands (machine_of m s) Ecall size → status_after r.way ≡ Ready
     → IsState after → after.hart ≡ (replied (slot_of m s) r).hart → StaysOutside s.bounds.data m after.memory
     → IsReply p (machine_of m s) after

@@ -12,5 +12,6 @@ pub mod Plans
 pub mod Worlds
 pub mod Loading
 pub mod Sandboxes
+pub mod Programs
 pub mod Steps
 pub mod Laws

@@ -3,6 +3,7 @@ use Rattle.std.specs.Prelude.{ℕ, ◌+◌, ◌-◌, ◌^◌, ◌||◌, Bool, Li
 use Rattle.std.specs.FinMap.{retain_keys}
 use Rattle.rv_mem.specs.Bytes.{Bytes}
 use Rattle.rv_step.specs.State.{Hart, State}
+use Rattle.sfi_image.specs.declared.format.Format.{Format}
 use Rattle.sfi_image.specs.declared.part.Gate.{Gate}
 use Rattle.sfi_image.specs.declared.span.Span.{Span}
 use Rattle.sfi_image.specs.Spelling.{Part}
@@ -10,15 +11,16 @@ use Rattle.sfi_image.specs.Spans.{code_region, data_region}
 use Rattle.sfi_host.specs.declared.status.Status.{Status}
 use Rattle.sfi_host.specs.Regions.{is_in}
 
--- where a sandbox lies: its code region, its data region, and its gates
+-- where a sandbox lies: its code region, its data region, and its gates; and the format of its image
 pub record Bounds : Type 0 where
+  pub format : Format
   pub code : Span
   pub «data» : Span
   pub gates : List Gate
 
 -- those of a sandbox of an image
 abbrev pub bounds_of : Part → Bounds
-bounds_of p = record { code = code_region p; «data» = data_region p; gates = p.gates }
+bounds_of p = record { format = p.format; code = code_region p; «data» = data_region p; gates = p.gates }
 
 -- the address lies in its code or its data
 abbrev pub is_own : Bounds → ℕ → Bool

@@ -8,7 +8,7 @@ use Rattle.sfi_image.specs.Spelling.{Part}
 use Rattle.sfi_image.specs.Spans.{Holds, AreApart, guard, code_region, guarded_region}
 use Rattle.sfi_image.specs.Parts.{IsRightPart}
 use Rattle.sfi_check.specs.Regions.{HasEmptyGuards}
-use Rattle.sfi_check.specs.Safety.{RunsSafelyFrom}
+use Rattle.sfi_check.specs.Stack.{GoesSafelyFrom}
 use Rattle.sfi_host.specs.declared.status.Status.{Status}
 use Rattle.sfi_host.specs.declared.status.Status.TheVariants.{Ready}
 use Rattle.sfi_host.specs.Regions.{bytes_in, IsWhole}
@@ -56,7 +56,7 @@ data_byte_of (Some s) at = byte_at (bytes_in s.bounds.data s.bytes) at
 -- ---- what is kept of a world
 
 -- The sandbox is a part of an image that passes each test of its own. Its guard zones are empty and its data whole, and if it may
--- still run, every run from its state is safe.
+-- still run, every run from its state is safe, and calls with a stack pointer in the data.
 pub record IsSafeSeat (m : Bytes) (s : Seat) : Type 0 where
   pub part : Part
   pub bounds : s.bounds ≡ bounds_of part
@@ -64,7 +64,7 @@ pub record IsSafeSeat (m : Bytes) (s : Seat) : Type 0 where
   pub apart : AreApart (code_region part) (guarded_region part)
   pub guards : HasEmptyGuards part m
   pub has_data : IsWhole s.bounds.data m
-  pub safe : s.status ≡ Ready → RunsSafelyFrom part (machine_of m s)
+  pub safe : s.status ≡ Ready → GoesSafelyFrom part (machine_of m s)
 
 -- data with the guard zones on both sides
 abbrev pub with_guards : Span → Span

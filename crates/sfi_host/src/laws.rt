@@ -33,7 +33,7 @@ pub fn steps_are_own()
     rv_step::laws::no_byte_goes();
     rv_step::laws::calls_are_ecalls();
     sfi_check::laws::safe_turns();
-    sfi_check::laws::safe_stays_safe();
+    sfi_check::laws::goes_on_safely();
 }
 
 /// What one sandbox of a safe world makes of its own data is, to each other one, a change by others: that keeps its pc, registers, code

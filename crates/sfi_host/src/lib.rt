@@ -16,6 +16,7 @@ mod handing;
 pub mod laws;
 mod loading;
 mod plan;
+mod program;
 mod region;
 mod running;
 mod sandbox;

@@ -10,13 +10,13 @@ use crate::sandbox::{Sandbox, register};
 use crate::status::Status;
 use rv_mem::Memory;
 use rv_step::Cpu;
-use sfi_image::{Reserved, SandboxPart};
+use sfi_image::{Format, Reserved, SandboxPart};
 use std::alloc::{AllocError, Global};
 
 // Adds a sandbox's code and data. All regions lie apart and end within the addresses, so memory alone may be wanting.
 fn add_part<M: Memory>(memory: &mut M, part: &SandboxPart<'_>) -> Result<(), AllocError>
-    requires { IsRightPart (view part.now) }
-    ensures { OnOk result (M.bytes memory.new ≡ with_part (M.bytes memory.old) (view part.now)) }
+    requires { (format : Format) × IsRightPart (view format part.now) }
+    ensures { (format : Format) → OnOk result (M.bytes memory.new ≡ with_part (M.bytes memory.old) (view format part.now)) }
 {
     if memory
         .add(part.code_base, part.code.len() as u32, part.code)
@@ -34,9 +34,9 @@ fn add_part<M: Memory>(memory: &mut M, part: &SandboxPart<'_>) -> Result<(), All
 }
 
 // The pc and registers with which a sandbox begins.
-fn first_cpu(part: &SandboxPart<'_>) -> Cpu
-    requires { IsRightPart (view part.now) }
-    ensures { result ≡ first_hart (view part.now) }
+fn first_cpu(format: Format, part: &SandboxPart<'_>) -> Cpu
+    requires { IsRightPart (view format part.now) }
+    ensures { result ≡ first_hart (view format part.now) }
 {
     let reserved = Reserved::of(part);
     let mut cpu = Cpu::at(part.start).unwrap();
@@ -49,13 +49,18 @@ fn first_cpu(part: &SandboxPart<'_>) -> Cpu
 }
 
 // A sandbox that has done nothing yet.
-fn first_sandbox(alloc: Global, part: &SandboxPart<'_>) -> Result<Sandbox, AllocError>
-    requires { IsRightPart (view part.now) }
-    ensures { IfOk result (λ s. seat_of s ≡ first_seat (view part.now)) }
+fn first_sandbox(
+    alloc: Global,
+    format: Format,
+    part: &SandboxPart<'_>,
+) -> Result<Sandbox, AllocError>
+    requires { IsRightPart (view format part.now) }
+    ensures { IfOk result (λ s. seat_of s ≡ first_seat (view format part.now)) }
 {
     let mut gates = Vec::with_capacity(alloc, part.gates.len())?;
     gates.extend_from_slice(&part.gates)?;
     Ok(Sandbox {
+        format,
         code: Region {
             base: part.code_base,
             size: part.code.len() as u32,
@@ -65,7 +70,7 @@ fn first_sandbox(alloc: Global, part: &SandboxPart<'_>) -> Result<Sandbox, Alloc
             size: part.data_size,
         },
         gates,
-        cpu: first_cpu(part),
+        cpu: first_cpu(format, part),
         status: Status::Ready,
         steps: 0,
     })
@@ -74,17 +79,18 @@ fn first_sandbox(alloc: Global, part: &SandboxPart<'_>) -> Result<Sandbox, Alloc
 /// The sandboxes of an image, with their code and data added to the memory.
 pub fn load_parts<M: Memory>(
     alloc: Global,
+    format: Format,
     parts: &[SandboxPart<'_>],
     memory: &mut M,
 ) -> Result<Vec<Sandbox>, AllocError>
-    requires { IsRightLayout (views parts.now) }
-    ensures seats { IfOk result (λ all. seats_of all.items ≡ map first_seat (views parts.now)) }
-    ensures bytes { OnOk result (M.bytes memory.new ≡ with_parts (M.bytes memory.old) (views parts.now)) }
+    requires { IsRightLayout (views format parts.now) }
+    ensures seats { IfOk result (λ all. seats_of all.items ≡ map first_seat (views format parts.now)) }
+    ensures bytes { OnOk result (M.bytes memory.new ≡ with_parts (M.bytes memory.old) (views format parts.now)) }
 {
     let mut sandboxes = Vec::with_capacity(alloc, parts.len())?;
     for part in parts {
         add_part(memory, part)?;
-        sandboxes.push(first_sandbox(alloc, part)?)?;
+        sandboxes.push(first_sandbox(alloc, format, part)?)?;
     }
     Ok(sandboxes)
 }

@@ -2,33 +2,40 @@
 ghost use Rattle.std.specs.Prelude.{◌≡◌, ℕ};
 ghost use Rattle.sfi_host.specs.Joint.{Machine, IsMachine};
 ghost use Rattle.sfi_host.specs.Limits.{IsPlanStep, IsPlanCut};
+ghost use Rattle.sfi_host.specs.Programs.{AreDecoded};
 ghost use Rattle.sfi_host.specs.Plans.{IsJoint, IsCutJoint};
 ghost use Rattle.sfi_host.specs.Sandboxes.{world_of};
 ghost use Rattle.sfi_host.specs.Worlds.{slots_of, IsSafeWorld};
 
 use crate::gates::Gates;
+use crate::program::Program;
 use crate::running::{Ended, run_turn};
 use crate::sandbox::Sandbox;
 use crate::turn::{RunAnswer, Turn};
 use rv_mem::Memory;
-use sfi_check::laws::safe_stays_safe;
+use rv_mem::laws::read_is_held;
+use sfi_check::laws::goes_on_safely;
 
 // One turn of a plan.
 fn take_turn<M: Memory, G: Gates>(
     memory: &mut M,
+    programs: &[Program],
     sandboxes: &mut [Sandbox],
     turn: Turn,
     gates: &mut G,
 ) -> Ended
-    requires { IsSafeWorld (world_of (M.bytes memory.old) sandboxes.old) }
+    requires safe { IsSafeWorld (world_of (M.bytes memory.old) sandboxes.old) }
+    requires decoded { AreDecoded (world_of (M.bytes memory.old) sandboxes.old) programs.now }
     ensures safe { IsSafeWorld (world_of (M.bytes memory.new) sandboxes.new) }
+    ensures decoded { AreDecoded (world_of (M.bytes memory.new) sandboxes.new) programs.now }
     ensures whole { result ≡ Ended.Whole → (machine : Machine) → IsMachine machine
         → IsPlanStep machine G.answer turn (slots_of (world_of (M.bytes memory.old) sandboxes.old)) gates.old (slots_of (world_of (M.bytes memory.new) sandboxes.new)) gates.new }
     ensures refused { result ≡ Ended.Refused → (machine : Machine) → IsMachine machine
         → IsPlanCut machine G.answer G.may_refuse turn (slots_of (world_of (M.bytes memory.old) sandboxes.old)) gates.old (slots_of (world_of (M.bytes memory.new) sandboxes.new)) gates.new }
 {
     // The law that the contract rests on: this call does nothing.
-    safe_stays_safe();
+    goes_on_safely();
+    read_is_held();
 
     let place = turn.sandbox as usize;
     if place >= sandboxes.len() {
@@ -36,6 +43,7 @@ fn take_turn<M: Memory, G: Gates>(
     }
     run_turn(
         memory,
+        &programs[place],
         &mut sandboxes[place],
         turn.sandbox,
         turn.steps,
@@ -46,19 +54,22 @@ fn take_turn<M: Memory, G: Gates>(
 /// The turns of a plan, in their order.
 pub fn take_turns<M: Memory, G: Gates>(
     memory: &mut M,
+    programs: &[Program],
     sandboxes: &mut [Sandbox],
     plan: &[Turn],
     gates: &mut G,
 ) -> RunAnswer
-    requires { IsSafeWorld (world_of (M.bytes memory.old) sandboxes.old) }
+    requires safe { IsSafeWorld (world_of (M.bytes memory.old) sandboxes.old) }
+    requires decoded { AreDecoded (world_of (M.bytes memory.old) sandboxes.old) programs.now }
     ensures safe { IsSafeWorld (world_of (M.bytes memory.new) sandboxes.new) }
+    ensures decoded { AreDecoded (world_of (M.bytes memory.new) sandboxes.new) programs.now }
     ensures done { result ≡ RunAnswer.Done → (machine : Machine) → IsMachine machine
         → IsJoint machine G.answer plan.now (slots_of (world_of (M.bytes memory.old) sandboxes.old)) gates.old (slots_of (world_of (M.bytes memory.new) sandboxes.new)) gates.new }
     ensures refused { (place : ℕ) → result ≡ RunAnswer.Memory place → (machine : Machine) → IsMachine machine
         → IsCutJoint machine G.answer G.may_refuse plan.now (slots_of (world_of (M.bytes memory.old) sandboxes.old)) gates.old place (slots_of (world_of (M.bytes memory.new) sandboxes.new)) gates.new }
 {
     for place in 0..plan.len() {
-        match take_turn(memory, sandboxes, plan[place], gates) {
+        match take_turn(memory, programs, sandboxes, plan[place], gates) {
             Ended::Whole => {}
             Ended::Refused => return RunAnswer::Memory { turn: place },
         }

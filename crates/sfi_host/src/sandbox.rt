@@ -5,12 +5,13 @@ use crate::region::Region;
 use crate::status::Status;
 use rv_step::Cpu;
 use rv_word::Reg;
-use sfi_image::Gate;
+use sfi_image::{Format, Gate};
 
 /// Where a sandbox lies, its pc and registers, what it may still do, and how many steps it did. Its bytes lie in the world's
 /// memory.
 #[derive(Drop)]
 pub struct Sandbox {
+    pub format: Format,
     pub code: Region,
     pub data: Region,
     pub gates: Vec<Gate>,

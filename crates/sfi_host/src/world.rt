@@ -11,6 +11,7 @@ ghost use Rattle.sfi_host.specs.Worlds.{slots_of, status_at, steps_at, data_byte
 use crate::gates::Gates;
 use crate::loading::load_parts;
 use crate::plan::take_turns;
+use crate::program::{Program, decode_all};
 use crate::sandbox::Sandbox;
 use crate::status::Status;
 use crate::turn::{RunAnswer, Turn};
@@ -27,6 +28,7 @@ use std::marker::Model;
 pub struct World<M: Memory> {
     memory: M,
     sandboxes: Vec<Sandbox>,
+    programs: Vec<Program>,
 }
 
 impl<M: Memory> Model for World<M> {
@@ -40,11 +42,12 @@ impl<M: Memory> Model for World<M> {
     ghost coded = { Prim.hlevel (codes, map.code {R = nat_cmp} coded_ℕ coded_ℕ) };
 
     ghost use Rattle.sfi_host.specs.Sandboxes.{world_of};
+    ghost use Rattle.sfi_host.specs.Programs.{AreDecoded};
     ghost use Rattle.sfi_host.specs.Worlds.{IsSafeWorld};
 
     ghost view = { λ w. world_of (M.bytes w.memory) w.sandboxes.items };
 
-    ghost invariant = { λ w. IsSafeWorld (world_of (M.bytes w.memory) w.sandboxes.items) };
+    ghost invariant = { λ w. IsSafeWorld (world_of (M.bytes w.memory) w.sandboxes.items) × AreDecoded (world_of (M.bytes w.memory) w.sandboxes.items) w.programs.items };
 }
 
 impl<M: Memory> World<M> {
@@ -65,8 +68,14 @@ impl<M: Memory> World<M> {
         code_ends();
 
         let mut memory = memory;
-        let sandboxes = load_parts(alloc, accepted.image().parts(), &mut memory)?;
-        Ok(World { memory, sandboxes })
+        let image = accepted.image();
+        let sandboxes = load_parts(alloc, image.format(), image.parts(), &mut memory)?;
+        let programs = decode_all(alloc, &memory, &sandboxes)?;
+        Ok(World {
+            memory,
+            sandboxes,
+            programs,
+        })
     }
 
     /// Takes the turns of a plan in their order. A turn repeats steps of its sandbox until its allowance is used, the sandbox is ready
@@ -78,7 +87,13 @@ impl<M: Memory> World<M> {
         ensures memory { (turn : ℕ) → result ≡ RunAnswer.Memory turn → (machine : Machine) → IsMachine machine
             → IsCutJoint machine G.answer G.may_refuse plan.now (slots_of self.old) gates.old turn (slots_of self.new) gates.new }
     {
-        take_turns(&mut self.memory, &mut self.sandboxes, plan, gates)
+        take_turns(
+            &mut self.memory,
+            &self.programs,
+            &mut self.sandboxes,
+            plan,
+            gates,
+        )
     }
 
     /// What the sandbox of that number may still do; `None` where there is none.

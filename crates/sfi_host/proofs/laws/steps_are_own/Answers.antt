@@ -10,5 +10,5 @@ returns c = steps_own (record {
   none_goes = c.no_byte_goes.ensures;
   ecalls = c.calls_are_ecalls.ensures;
   turns = c.safe_turns.ensures;
-  on = c.safe_stays_safe.ensures;
+  on = c.goes_on_safely.ensures;
 })

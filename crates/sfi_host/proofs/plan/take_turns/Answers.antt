@@ -9,13 +9,15 @@ use Rattle.sfi_host.proofs.plan.take_turns.Goals as goal
 
 pub loop-place-init : goal.loop-place-init
 loop-place-init g c = record {
-  safe = c.requires;
+  safe = c.requires.safe;
+  decoded = c.requires.decoded;
   way = λ machine is. plan_starts machine g.G.Gates.answer c.args.plan.now (slots_of (world_of (g.M.Memory.bytes c.args.memory.now) c.args.sandboxes.now)) c.args.gates.now;
 }
 
 pub loop-place-preserved : goal.loop-place-preserved
 loop-place-preserved g c = record {
   safe = c.in-Whole.ensures.safe;
+  decoded = c.in-Whole.ensures.decoded;
   way = λ machine is.
       let plan = c.args.plan.now in
       let k = c.loop-place.place in

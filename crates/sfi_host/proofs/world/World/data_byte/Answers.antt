@@ -21,4 +21,4 @@ returns-clause-there g c =
     let there : slice_get c.deref.result.now c.args.i ≡ Some s = slice_get-get_or c.deref.result.now c.args.i s h.3.0 ∙ ap Some (sym h.1) in
     let here : slice_get c.self.inside.sandboxes.items c.args.i ≡ Some s = ap (λ (l : List Sandbox). slice_get l c.args.i) (sym c.deref.ensures.value) ∙ there in
     there_is c.args.self.now (g.M.Memory.bytes c.self.inside.memory) c.self.inside.sandboxes.items c.self.view_is c.args.i s c.args.at c.byte.result here
-    (c.byte.ensures.there (whole_in (seat_of s).bounds.data (g.M.Memory.bytes c.self.inside.memory) (c.self.invariant.each c.args.i (seat_of s) (seat_at c.self.inside.sandboxes.items c.args.i s here)).has_data))
+    (c.byte.ensures.there (whole_in (seat_of s).bounds.data (g.M.Memory.bytes c.self.inside.memory) (c.self.invariant.0.each c.args.i (seat_of s) (seat_at c.self.inside.sandboxes.items c.args.i s here)).has_data))
