@@ -27,6 +27,7 @@ keyword_named (keyword.Pseudo Call) = by_test (keyword.Pseudo Call) refl
 keyword_named (keyword.Pseudo Beqz) = by_test (keyword.Pseudo Beqz) refl
 keyword_named (keyword.Pseudo Bnez) = by_test (keyword.Pseudo Bnez) refl
 keyword_named (keyword.Pseudo La) = by_test (keyword.Pseudo La) refl
+keyword_named (keyword.Directive directive.Format) = by_test (keyword.Directive directive.Format) refl
 keyword_named (keyword.Directive directive.Sandbox) = by_test (keyword.Directive directive.Sandbox) refl
 keyword_named (keyword.Directive directive.Gate) = by_test (keyword.Directive directive.Gate) refl
 keyword_named (keyword.Directive directive.Option) = by_test (keyword.Directive directive.Option) refl

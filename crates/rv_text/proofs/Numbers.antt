@@ -6,7 +6,7 @@ use Rattle.std.proofs.lemmas.Bool.Decides.{nat_tests}
 use Rattle.std.specs.Str.Parse.{AllDigits, digits_value}
 use Rattle.rv_text.specs.Tokens.{IsMagnitude, IsNumber, IsInReach}
 use Rattle.rv_text.specs.declared.form.NumberKind.{NumberKind}
-use Rattle.rv_text.specs.declared.form.NumberKind.TheVariants.{Immediate, ShiftAmount, BranchOffset, JumpOffset, Upper, FenceFields, DataSize, Service, Word, Half, Byte, ZeroCount}
+use Rattle.rv_text.specs.declared.form.NumberKind.TheVariants.{Immediate, ShiftAmount, BranchOffset, JumpOffset, Upper, FenceFields, DataSize, Service, Word, Half, Byte, ZeroCount, FormatNumber}
 use Rattle.rv_text.specs.Forms.{IsNumberOf}
 
 abbrev WritesNone : List ℕ → Type 0
@@ -65,3 +65,4 @@ kind_in_reach Word z h = (omega (arith, ints), omega (arith, ints))
 kind_in_reach Half z h = (omega (arith, ints), omega (arith, ints))
 kind_in_reach Byte z h = (omega (arith, ints), omega (arith, ints))
 kind_in_reach ZeroCount z h = (omega (arith, ints), omega (arith, ints))
+kind_in_reach FormatNumber z h = (omega (arith, ints), omega (arith, ints))

@@ -7,7 +7,7 @@ use Rattle.rv_text.specs.declared.keyword.Keyword.{Keyword}
 use Rattle.rv_text.specs.Tokens.{Takes, IsName}
 use Rattle.rv_text.specs.Keywords.{keyword_name}
 use Rattle.rv_text.specs.Lines.{NameRefused}
-use Rattle.rv_text.specs.Stated.{Stated, sandbox, gate, compressed, data_part, bytes, plain, jump, address}
+use Rattle.rv_text.specs.Stated.{Stated, format, sandbox, gate, compressed, data_part, bytes, plain, jump, address}
 use Rattle.rv_text.specs.SoFar.{SoFar, with_label, nothing, sandboxes}
 use Rattle.rv_text.specs.Effects.{IsFree, Fits, Labels, RefusesLabel, GoesOn, Does, with_stated, HasNoRoom}
 use Rattle.rv_text.specs.Leads.{BeginsWithLabel, HasNoLabel, LabelsLead, LeadsBehind, RestLeads, RefusedBehind, RefusedFrom, StatementRefused}
@@ -100,6 +100,7 @@ goes_one line s old a b (x, is, fits, a_is) (y, other, _, b_is) =
     a_is ∙ ap (λ c. record old { begun = Some (with_stated line s c) }) (same_Some x y (sym is ∙ other)) ∙ sym b_is
 
 does_one : (line : ℕ) (s : Stated) (old a b : SoFar) → Does line s old a → Does line s old b → a ≡ b
+does_one line (format value) old a b h k = h ∙ sym k
 does_one line (sandbox size) old a b h k = h ∙ sym k
 does_one line (gate name service) old a b h k = goes_one line (gate name service) old a b h k
 does_one line (compressed rvc) old a b h k = goes_one line (compressed rvc) old a b h k
@@ -114,6 +115,7 @@ goes_fits line s old new (x, is, fits, new_is) (y, other, none) =
     none (subst (λ c. Fits s c) (same_Some x y (sym is ∙ other)) fits)
 
 does_fit : (line : ℕ) (s : Stated) (old new : SoFar) → Does line s old new → HasNoRoom s old → ⊥
+does_fit line (format value) old new h (y, is, none) = none tt
 does_fit line (sandbox size) old new h (y, is, none) = none tt
 does_fit line (gate name service) old new h none = goes_fits line (gate name service) old new h none
 does_fit line (compressed rvc) old new h none = goes_fits line (compressed rvc) old new h none

@@ -16,7 +16,7 @@ use Rattle.rv_word.specs.declared.instr.Cond.TheVariants.{Beq}
 use Rattle.rv_text.specs.declared.mnemonic.Mnemonic.{Mnemonic}
 use Rattle.rv_text.specs.declared.mnemonic.Mnemonic.TheVariants.{Op, OpImm, Load, Store, Branch}
 use Rattle.rv_text.specs.declared.form.NumberKind.{NumberKind}
-use Rattle.rv_text.specs.declared.form.NumberKind.TheVariants.{Immediate, ShiftAmount, BranchOffset, JumpOffset, Upper, FenceFields, DataSize, Service, Word, Half, Byte, ZeroCount}
+use Rattle.rv_text.specs.declared.form.NumberKind.TheVariants.{Immediate, ShiftAmount, BranchOffset, JumpOffset, Upper, FenceFields, DataSize, Service, Word, Half, Byte, ZeroCount, FormatNumber}
 use Rattle.rv_text.specs.Tokens.{begins_name, continues_name, IsName, IsNumber, IsInReach, IsToken}
 use Rattle.rv_text.specs.Registers.{x_name}
 use Rattle.rv_text.specs.Mnemonics.{name_of}
@@ -102,3 +102,4 @@ printed_number Word z h = decimal_number z (kind_in_reach Word z h)
 printed_number Half z h = decimal_number z (kind_in_reach Half z h)
 printed_number Byte z h = decimal_number z (kind_in_reach Byte z h)
 printed_number ZeroCount z h = decimal_number z (kind_in_reach ZeroCount z h)
+printed_number FormatNumber z h = decimal_number z (kind_in_reach FormatNumber z h)

@@ -122,6 +122,7 @@ natural_service (pos n) h = omega (arith, ints)
 natural_service (negsuc n) h = omega (arith, ints)
 
 directive_right : (d : Directive) (o : OperandValues) → AllSuit o (directive_form d) → IsRightStatement (directive_states d o)
+directive_right directive.Format o h = tt
 directive_right directive.Sandbox o h = natural_size o.number h.0
 directive_right directive.Gate o h = (h.0, natural_service o.number h.1.0)
 directive_right directive.Option o h = tt
@@ -201,6 +202,7 @@ row_place : (place : Place) (form : List Part) (states : OperandValues → State
 row_place place form states same tokens s (o, has, e) = same o ∙ ap place_of_stated (sym e)
 
 directive_place : (d : Directive) (o : OperandValues) → place_of_keyword (keyword.Directive d) ≡ place_of_stated (directive_states d o)
+directive_place directive.Format o = refl
 directive_place directive.Sandbox o = refl
 directive_place directive.Gate o = refl
 directive_place directive.Option o = refl

@@ -14,6 +14,7 @@ use Rattle.rv_text.specs.declared.item.Body.TheVariants.{Plain, To, High, Low}
 use Rattle.rv_text.specs.declared.item.Item.{Item}
 use Rattle.rv_text.specs.declared.item.SourceGate.{SourceGate}
 use Rattle.rv_text.specs.NameTable.{place_of, placed, met}
+use Rattle.sfi_image.specs.declared.format.Format.{Format}
 use Rattle.rv_text.specs.Source.{Sandbox, IsDataSize, IsBody, IsThere, IsEntry, IsGate, IsSandbox}
 use Rattle.rv_text.specs.SoFar.{Begun, begin, with_names, with_label, with_gate, items_of, with_bodies, with_bytes}
 use Rattle.rv_text.specs.Effects.{IsFree}
@@ -107,8 +108,8 @@ unfolding IsDistinct
 none_differ = tt
 
 -- a sandbox at its beginning is right
-pub begun_right : (size : ℕ) → IsDataSize size → IsDraft (begin size)
-begun_right size h = record {
+pub begun_right : (format : Format) (size : ℕ) → IsDataSize size → IsDraft (begin format size)
+begun_right format size h = record {
   data_size = h;
   gate_count = omega arith;
   gates = λ k g at. absurd (none-some g at);

@@ -3,6 +3,7 @@ use Rattle.std.proofs.Common.{◌≡◌, refl, sym, ap, subst, ◌∙◌, ℕ, s
 use Rattle.std.proofs.lemmas.List.{length-map}
 use Rattle.std.specs.List.{All, AllByRecursion}
 use Rattle.std.proofs.lemmas.Option.{same_Some, none-some}
+use Rattle.sfi_image.specs.declared.format.Format.{Format}
 use Rattle.rv_word.specs.declared.instr.Instr.{Instr}
 use Rattle.rv_word.specs.Spelling.{InRange}
 use Rattle.rv_text.specs.declared.item.Named.{Named}
@@ -17,11 +18,11 @@ use Rattle.rv_text.specs.declared.statement.Place.TheVariants as place
 use Rattle.rv_text.specs.Tokens.{IsLabel, Takes}
 use Rattle.rv_text.specs.Keywords.{place_of_keyword}
 use Rattle.rv_text.specs.Lines.{StatesBehind}
-use Rattle.rv_text.specs.Stated.{Stated, sandbox, gate, compressed, data_part, bytes, plain, jump, address, place_of_stated, IsRightStatement}
+use Rattle.rv_text.specs.Stated.{Stated, format, sandbox, gate, compressed, data_part, bytes, plain, jump, address, place_of_stated, IsRightStatement}
 use Rattle.rv_text.specs.NameTable.{meaning, place_of, met}
-use Rattle.rv_text.specs.Source.{IsStraight, IsBody, IsSandbox}
-use Rattle.rv_text.specs.SoFar.{Begun, SoFar, with_label, with_names, nothing, last_sandbox, sandboxes}
-use Rattle.rv_text.specs.Effects.{IsFree, Labels, Fits, GoesOn, Does, with_stated}
+use Rattle.rv_text.specs.Source.{IsStraight, Sandbox, IsBody, IsSandbox, AreOf, format_of}
+use Rattle.rv_text.specs.SoFar.{Begun, SoFar, format_or_first, with_label, with_names, nothing, last_sandbox, sandboxes}
+use Rattle.rv_text.specs.Effects.{IsFree, Labels, Fits, MayCome, GoesOn, Does, with_stated}
 use Rattle.rv_text.specs.Leads.{BeginsWithName, LabelsLead, IsTaken, LeadsBehind, RestLeads, Leads}
 use Rattle.rv_text.specs.Texts.{uncommented, lines, LinesLead}
 use Rattle.rv_text.specs.Laws.{SourcesAreRight}
@@ -29,17 +30,30 @@ use Rattle.rv_text.proofs.Placing.{place_among}
 use Rattle.rv_text.proofs.Right.{behind_right, behind_place}
 use Rattle.rv_text.proofs.RightSources.{IsDraft, known, all_of, all_append, finished, begun_right, label_right, met_right, bodies_right, bytes_right, gate_right}
 
--- each sandbox so far is right
+-- the sandbox is of the format that the text has said, or of the first
+abbrev IsOf : Option Format → Sandbox → Type 0
+IsOf said s = s.format ≡ format_or_first said
+
+-- each sandbox so far is right and of the format, and before the first one begins none is finished
 record IsRightSoFar (s : SoFar) : Type 0 where
   finished : AllByRecursion IsSandbox s.finished
   begun : (b : Begun) → s.begun ≡ Some b → IsDraft b
+  finished_format : AllByRecursion (IsOf s.format) s.finished
+  begun_format : (b : Begun) → s.begun ≡ Some b → IsOf s.format b.sandbox
+  first : s.begun ≡ None → s.finished ≡ []
 
 all_recursively : {X : Type 0} (P : X → Type 0) (xs : List X) → All P xs → AllByRecursion P xs
 all_recursively P [] h = tt
 all_recursively P (x ∷ xs) h = (h 0 x (omega arith), all_recursively P xs (λ k d within. h (suc k) d (omega (arith, within))))
 
-begun_is : (old : SoFar) (c : Begun) → IsRightSoFar old → IsDraft c → IsRightSoFar (record old { begun = Some c })
-begun_is old c right draft = record { finished = right.finished; begun = λ b e. subst IsDraft (same_Some _ _ e) draft }
+begun_is : (old : SoFar) (c : Begun) → IsRightSoFar old → IsDraft c → IsOf old.format c.sandbox → IsRightSoFar (record old { begun = Some c })
+begun_is old c right draft format_is = record {
+  finished = right.finished;
+  begun = λ b e. subst IsDraft (same_Some _ _ e) draft;
+  finished_format = right.finished_format;
+  begun_format = λ b e. subst (λ x. IsOf old.format x.sandbox) (same_Some _ _ e) format_is;
+  first = λ e. absurd (none-some c (sym e));
+}
 
 -- a label's name isn't empty
 label_some : (name : List ℕ) → IsLabel name → 1 ≤ length name
@@ -48,7 +62,7 @@ label_some (c ∷ cs) label = omega arith
 
 label_leads : (name : List ℕ) (old new : SoFar) → IsLabel name → Labels name old new → IsRightSoFar old → IsRightSoFar new
 label_leads name old new label (b, is, short, free, new_is) right =
-    subst IsRightSoFar (sym new_is) (begun_is old (with_label name b) right (label_right b (right.begun b is) name free (label_some name label) short))
+    subst IsRightSoFar (sym new_is) (begun_is old (with_label name b) right (label_right b (right.begun b is) name free (label_some name label) short) (right.begun_format b is))
 
 labels_lead : (names : List (List ℕ)) (old new : SoFar) (text rest : List ℕ) → LabelsLead names old text new rest → IsRightSoFar old → IsRightSoFar new
 labels_lead [] old new text rest (same, at) right = subst IsRightSoFar (sym same) right
@@ -63,7 +77,8 @@ plain_bodies n (i ∷ instrs) h = (h.0, plain_bodies n instrs h.1)
 -- each sandbox behind a statement is right
 goes_right : (line : ℕ) (s : Stated) (b : Begun) → IsRightStatement s → ((name : List ℕ) (service : ℕ) → s ≡ gate name service → IsFree name b)
     → Fits s b → IsDraft b → IsDraft (with_stated line s b)
-goes_right line (sandbox size) b right free fits d = begun_right size right
+goes_right line (format value) b right free fits d = d
+goes_right line (sandbox size) b right free fits d = begun_right b.sandbox.format size right
 goes_right line (gate name service) b right free fits d =
     gate_right name service b d (free name service refl) (label_some name right.0.0) right.0.1 right.1 fits
 goes_right line (compressed rvc) b right free fits d =
@@ -82,11 +97,23 @@ goes_right line (address rd name) b right free fits d =
     bodies_right line (High rd (place_of b.sandbox.names name) ∷ Low rd (place_of b.sandbox.names name) ∷ []) (with_names (met b.sandbox.names name) b) (met_right b d name (label_some name right.1.0) right.1.1)
     ((right.0, among), ((right.0, among), tt)) (omega arith) fits
 
+-- a statement leaves the sandbox's format
+stays_of : (line : ℕ) (s : Stated) (b : Begun) (said : Option Format) → IsOf said b.sandbox → IsOf said (with_stated line s b).sandbox
+stays_of line (format value) b said h = h
+stays_of line (sandbox size) b said h = h
+stays_of line (gate name service) b said h = h
+stays_of line (compressed rvc) b said h = h
+stays_of line data_part b said h = h
+stays_of line (bytes values) b said h = h
+stays_of line (plain instrs) b said h = h
+stays_of line (jump i name) b said h = h
+stays_of line (address rd name) b said h = h
+
 goes_on : (line : ℕ) (s : Stated) (old new : SoFar) → IsRightStatement s
     → ((b : Begun) (name : List ℕ) (service : ℕ) → old.begun ≡ Some b → s ≡ gate name service → IsFree name b)
     → GoesOn line s old new → IsRightSoFar old → IsRightSoFar new
 goes_on line s old new right free (b, is, fits, new_is) so_far =
-    subst IsRightSoFar (sym new_is) (begun_is old (with_stated line s b) so_far (goes_right line s b right (λ name service e. free b name service is e) fits (so_far.begun b is)))
+    subst IsRightSoFar (sym new_is) (begun_is old (with_stated line s b) so_far (goes_right line s b right (λ name service e. free b name service is e) fits (so_far.begun b is)) (stays_of line s b old.format (so_far.begun_format b is)))
 
 last_right : (s : SoFar) (b : Option Begun) → s.begun ≡ b → IsRightSoFar s → AllByRecursion IsSandbox (last_sandbox b)
 last_right s None is right = tt
@@ -95,18 +122,42 @@ last_right s (Some b) is right = (finished b (right.begun b is), tt)
 sandboxes_right : (s : SoFar) → IsRightSoFar s → AllByRecursion IsSandbox (sandboxes s)
 sandboxes_right s right = all_append IsSandbox s.finished (last_sandbox s.begun) right.finished (last_right s s.begun refl right)
 
+last_format : (s : SoFar) (b : Option Begun) → s.begun ≡ b → IsRightSoFar s → AllByRecursion (IsOf s.format) (last_sandbox b)
+last_format s None is right = tt
+last_format s (Some b) is right = (right.begun_format b is, tt)
+
+sandboxes_format : (s : SoFar) → IsRightSoFar s → AllByRecursion (IsOf s.format) (sandboxes s)
+sandboxes_format s right = all_append (IsOf s.format) s.finished (last_sandbox s.begun) right.finished_format (last_format s s.begun refl right)
+
+-- before the first sandbox the format may be said
+format_said : (value : Format) (old : SoFar) → old.begun ≡ None → IsRightSoFar old → IsRightSoFar (record old { format = Some value })
+format_said value old none right = record {
+  finished = right.finished;
+  begun = right.begun;
+  finished_format = subst (λ v. AllByRecursion (IsOf (Some value)) v) (sym (right.first none)) tt;
+  begun_format = λ b e. absurd (none-some b (sym none ∙ e));
+  first = right.first;
+}
+
 does_right : (line : ℕ) (s : Stated) (old new : SoFar) → IsRightStatement s
     → ((b : Begun) (name : List ℕ) (service : ℕ) → old.begun ≡ Some b → s ≡ gate name service → IsFree name b)
-    → Does line s old new → IsRightSoFar old → IsRightSoFar new
-does_right line (sandbox size) old new right free does so_far =
-    subst IsRightSoFar (sym does) (record { finished = sandboxes_right old so_far; begun = λ b e. subst IsDraft (same_Some _ _ e) (begun_right size right) })
-does_right line (gate name service) old new right free does so_far = goes_on line (gate name service) old new right free does so_far
-does_right line (compressed rvc) old new right free does so_far = goes_on line (compressed rvc) old new right free does so_far
-does_right line data_part old new right free does so_far = goes_on line data_part old new right free does so_far
-does_right line (bytes values) old new right free does so_far = goes_on line (bytes values) old new right free does so_far
-does_right line (plain instrs) old new right free does so_far = goes_on line (plain instrs) old new right free does so_far
-does_right line (jump i name) old new right free does so_far = goes_on line (jump i name) old new right free does so_far
-does_right line (address rd name) old new right free does so_far = goes_on line (address rd name) old new right free does so_far
+    → MayCome (place_of_stated s) old → Does line s old new → IsRightSoFar old → IsRightSoFar new
+does_right line (format value) old new right free may does so_far = subst IsRightSoFar (sym does) (format_said value old may.1 so_far)
+does_right line (sandbox size) old new right free may does so_far =
+    subst IsRightSoFar (sym does) (record {
+      finished = sandboxes_right old so_far;
+      begun = λ b e. subst IsDraft (same_Some _ _ e) (begun_right (format_or_first old.format) size right);
+      finished_format = sandboxes_format old so_far;
+      begun_format = λ b e. subst (λ x. IsOf old.format x.sandbox) (same_Some _ _ e) refl;
+      first = λ e. absurd (none-some _ (sym e));
+    })
+does_right line (gate name service) old new right free may does so_far = goes_on line (gate name service) old new right free does so_far
+does_right line (compressed rvc) old new right free may does so_far = goes_on line (compressed rvc) old new right free does so_far
+does_right line data_part old new right free may does so_far = goes_on line data_part old new right free does so_far
+does_right line (bytes values) old new right free may does so_far = goes_on line (bytes values) old new right free does so_far
+does_right line (plain instrs) old new right free may does so_far = goes_on line (plain instrs) old new right free does so_far
+does_right line (jump i name) old new right free may does so_far = goes_on line (jump i name) old new right free does so_far
+does_right line (address rd name) old new right free may does so_far = goes_on line (address rd name) old new right free does so_far
 
 -- a keyword that stands where gates do is that of a gate
 abbrev place_number : Place → ℕ
@@ -114,10 +165,12 @@ place_number place.Outside = 0
 place_number place.Gates = 1
 place_number place.Code = 2
 place_number place.Data = 3
+place_number place.Head = 4
 
 gate_keyword : (k : Keyword) → place_number (place_of_keyword k) ≡ 1 → k ≡ keyword.Directive directive.Gate
 gate_keyword (keyword.Instr name) h = absurd (omega (arith, h))
 gate_keyword (keyword.Pseudo name) h = absurd (omega (arith, h))
+gate_keyword (keyword.Directive directive.Format) h = absurd (omega (arith, h))
 gate_keyword (keyword.Directive directive.Sandbox) h = absurd (omega (arith, h))
 gate_keyword (keyword.Directive directive.Gate) h = refl
 gate_keyword (keyword.Directive directive.Option) h = absurd (omega (arith, h))
@@ -127,6 +180,7 @@ gate_keyword (keyword.Numbers width) h = absurd (omega (arith, h))
 
 abbrev gate_name_of : Stated → List ℕ
 gate_name_of (gate name service) = name
+gate_name_of (format value) = []
 gate_name_of (sandbox size) = []
 gate_name_of (compressed rvc) = []
 gate_name_of data_part = []
@@ -155,7 +209,7 @@ not_taken b text name rest begins none = decide (meaning b.sandbox.names name) r
 
 behind_leads : (k : Keyword) (line : ℕ) (old new : SoFar) (text : List ℕ) → LeadsBehind k line old text new → IsRightSoFar old → IsRightSoFar new
 behind_leads k line old new text (stands, once, (s, (tokens, are, behind_k), does)) so_far =
-    does_right line s old new (behind_right k tokens s behind_k) free does so_far
+    does_right line s old new (behind_right k tokens s behind_k) free (subst (λ p. MayCome p old) (behind_place k tokens s behind_k) stands) does so_far
   where
     free : (b : Begun) (name : List ℕ) (service : ℕ) → old.begun ≡ Some b → s ≡ gate name service → IsFree name b
     free b name service is gate_is =
@@ -179,12 +233,18 @@ lines_lead line old new [] same so_far = subst IsRightSoFar (sym same) so_far
 lines_lead line old new (text ∷ texts) (next, leads, more) so_far =
     lines_lead (line + 1) next new texts more (line_leads line old next (uncommented text) leads so_far)
 
+-- sandboxes of one format have the first one's
+all_one : (parts : List Sandbox) (f : Format) → AreOf f parts → AreOf (format_of parts) parts
+all_one [] f h = λ k d l. absurd (omega (arith, l))
+all_one (s ∷ rest) f h = subst (λ (g : Format). AreOf g (s ∷ rest)) (sym (h 0 s (omega arith))) h
+
 -- the source that a text means
 pub sources_are_right : SourcesAreRight
 sources_are_right text parts (new, last, leads, begun, parts_are) =
-    let right = lines_lead 1 nothing new (lines text) leads.lead (record { finished = tt; begun = λ b e. absurd (none-some b e) }) in
+    let right = lines_lead 1 nothing new (lines text) leads.lead (record { finished = tt; begun = λ b e. absurd (none-some b e); finished_format = tt; begun_format = λ b e. absurd (none-some b e); first = λ e. refl }) in
     let shape : parts ≡ new.finished ++ last.sandbox ∷ [] = parts_are ∙ ap (λ b. new.finished ++ last_sandbox b) begun in
     record {
       at_least_one = omega (arith, ap length shape, length-append new.finished (last.sandbox ∷ []));
       each = subst (λ ps. All IsSandbox ps) (sym parts_are) (all_of IsSandbox (sandboxes new) (sandboxes_right new right));
+      one_format = all_one parts (format_or_first new.format) (subst (λ ps. AreOf (format_or_first new.format) ps) (sym parts_are) (all_of (IsOf new.format) (sandboxes new) (sandboxes_format new right)));
     }

@@ -1,5 +1,6 @@
 -- What a label and a statement do to the source so far, and what keeps them from it.
 use Rattle.std.specs.Prelude.{◌≡◌, ℕ, ◌+◌, ◌<◌, ◌≤◌, ◌⊎◌, true, false, List, [], ◌∷◌, length, map, Option, None, Some}
+use Rattle.std.specs.Option.{IsSomeAnd}
 use Rattle.rv_text.specs.declared.cause.TextCause.{TextCause}
 use Rattle.rv_text.specs.declared.cause.TextCause.TheVariants as cause
 use Rattle.rv_text.specs.declared.item.Body.TheVariants.{Plain, To, High, Low}
@@ -7,8 +8,8 @@ use Rattle.rv_text.specs.declared.item.Named.TheVariants.{Unknown}
 use Rattle.rv_text.specs.declared.statement.Place.{Place}
 use Rattle.rv_text.specs.declared.statement.Place.TheVariants as place
 use Rattle.rv_text.specs.NameTable.{meaning, place_of, met}
-use Rattle.rv_text.specs.SoFar.{Begun, SoFar, begin, sandboxes, with_names, with_label, with_gate, with_bodies, with_bytes}
-use Rattle.rv_text.specs.Stated.{Stated, sandbox, gate, compressed, data_part, bytes, plain, jump, address}
+use Rattle.rv_text.specs.SoFar.{Begun, SoFar, begin, format_or_first, sandboxes, with_names, with_label, with_gate, with_bodies, with_bytes}
+use Rattle.rv_text.specs.Stated.{Stated, format, sandbox, gate, compressed, data_part, bytes, plain, jump, address}
 
 -- the name may still be given to a label or a gate: it names nothing yet
 abbrev pub IsFree : List ℕ → Begun → Type 0
@@ -28,19 +29,18 @@ RefusesLabel name old e =
     × (((64 < length name) × (e ≡ cause.Limit))
     ⊎ ((length name ≤ 64) × (IsFree name b → ⊥) × (e ≡ cause.LabelTwice))))
 
--- a statement of this kind may come there: gates before the sandbox's first label and instruction, instructions in the
--- code part, data in the data part
-abbrev pub MayCome : Place → Option Begun → Type 0
-MayCome place.Outside b = Unit {0}
-MayCome place.Gates None = ⊥
-MayCome place.Gates (Some b) = b.opened ≡ false
-MayCome place.Code None = ⊥
-MayCome place.Code (Some b) = b.in_data ≡ false
-MayCome place.Data None = ⊥
-MayCome place.Data (Some b) = b.in_data ≡ true
+-- a statement of this kind may come there: the format once, before the first sandbox, gates before the sandbox's first
+-- label and instruction, instructions in the code part, data in the data part
+abbrev pub MayCome : Place → SoFar → Type 0
+MayCome place.Head s = (s.format ≡ None) × (s.begun ≡ None)
+MayCome place.Outside s = Unit {0}
+MayCome place.Gates s = IsSomeAnd s.begun (λ b. b.opened ≡ false)
+MayCome place.Code s = IsSomeAnd s.begun (λ b. b.in_data ≡ false)
+MayCome place.Data s = IsSomeAnd s.begun (λ b. b.in_data ≡ true)
 
 -- how many gates, instructions and data bytes a sandbox may have: 64, 65536 and those that it was begun with
 abbrev pub Fits : Stated → Begun → Type 0
+Fits (format value) b = Unit {0}
 Fits (sandbox size) b = Unit {0}
 Fits (gate name service) b = length b.sandbox.gates + 1 ≤ 64
 Fits (compressed rvc) b = Unit {0}
@@ -52,7 +52,8 @@ Fits (address rd name) b = length b.sandbox.items + 2 ≤ 65536
 
 -- the sandbox behind a statement of a line; a name that an instruction goes to is met
 abbrev pub with_stated : ℕ → Stated → Begun → Begun
-with_stated line (sandbox size) b = begin size
+with_stated line (format value) b = b
+with_stated line (sandbox size) b = begin b.sandbox.format size
 with_stated line (gate name service) b = with_gate name service b
 with_stated line (compressed rvc) b = record b { rvc = rvc }
 with_stated line data_part b = record b { in_data = true }
@@ -71,7 +72,9 @@ GoesOn line s old new =
 
 -- a statement of a line, which may come there, leads to the next source so far
 abbrev pub Does : ℕ → Stated → SoFar → SoFar → Type 0
-Does line (sandbox size) old new = new ≡ record { finished = sandboxes old; begun = Some (begin size) }
+Does line (format value) old new = new ≡ record old { format = Some value }
+Does line (sandbox size) old new =
+    new ≡ record { format = old.format; finished = sandboxes old; begun = Some (begin (format_or_first old.format) size) }
 Does line (gate name service) old new = GoesOn line (gate name service) old new
 Does line (compressed rvc) old new = GoesOn line (compressed rvc) old new
 Does line data_part old new = GoesOn line data_part old new

@@ -1,10 +1,12 @@
 -- The statements of source: the name of each, what stands behind it, and what it states.
 -- RISC-V ISA manual, "RISC-V Assembly Programmer's Handbook", has the pseudo-instructions.
-use Rattle.std.specs.Prelude.{ℕ, List, [], ◌∷◌, pos, unsigned_abs, replicate, codes}
+use Rattle.std.specs.Prelude.{ℕ, List, [], ◌∷◌, pos, unsigned_abs, replicate, codes, ◌==◌, if◌then◌else◌}
 use Rattle.rv_word.specs.declared.instr.Instr.TheVariants as instr
 use Rattle.rv_word.specs.declared.instr.ImmOp.TheVariants.{Addi}
 use Rattle.rv_word.specs.declared.instr.Cond.{Cond}
 use Rattle.rv_word.specs.declared.instr.Cond.TheVariants.{Beq, Bne}
+use Rattle.sfi_image.specs.declared.format.Format.{Format}
+use Rattle.sfi_image.specs.declared.format.Format.TheVariants.{Sfi1, Sfi2}
 use Rattle.rv_text.specs.declared.statement.Place.{Place}
 use Rattle.rv_text.specs.declared.statement.Place.TheVariants as place
 use Rattle.rv_text.specs.declared.keyword.Directive.{Directive}
@@ -16,16 +18,21 @@ use Rattle.rv_text.specs.declared.keyword.DataWidth.TheVariants as width
 use Rattle.rv_text.specs.declared.keyword.Keyword.{Keyword}
 use Rattle.rv_text.specs.declared.keyword.Keyword.TheVariants as keyword
 use Rattle.rv_text.specs.declared.form.NumberKind.{NumberKind}
-use Rattle.rv_text.specs.declared.form.NumberKind.TheVariants.{DataSize, Service, Word, Half, Byte, ZeroCount}
+use Rattle.rv_text.specs.declared.form.NumberKind.TheVariants.{DataSize, Service, Word, Half, Byte, ZeroCount, FormatNumber}
 use Rattle.rv_text.specs.declared.form.Part.{Part}
 use Rattle.rv_text.specs.declared.form.Part.TheVariants.{Rd, Rs1, Rs2, Number, Name, Mode, Comma}
 use Rattle.rv_text.specs.Mnemonics.{name_of}
 use Rattle.rv_text.specs.Operands.{OperandValues}
 use Rattle.rv_text.specs.Constants.{constant}
-use Rattle.rv_text.specs.Stated.{Stated, sandbox, gate, compressed, data_part, bytes, plain, jump, address}
+use Rattle.rv_text.specs.Stated.{Stated, format, sandbox, gate, compressed, data_part, bytes, plain, jump, address}
+
+-- the format of a number, 1 or 2
+abbrev pub format_numbered : ℕ → Format
+format_numbered n = if n == 2 then Sfi2 else Sfi1
 
 -- directives
 abbrev pub directive_name : Directive → List ℕ
+directive_name directive.Format = codes ".format"
 directive_name directive.Sandbox = codes ".sandbox"
 directive_name directive.Gate = codes ".gate"
 directive_name directive.Option = codes ".option"
@@ -33,6 +40,7 @@ directive_name directive.Data = codes ".data"
 directive_name directive.Zero = codes ".zero"
 
 abbrev pub directive_form : Directive → List Part
+directive_form directive.Format = Number FormatNumber ∷ []
 directive_form directive.Sandbox = Number DataSize ∷ []
 directive_form directive.Gate = Name ∷ Number Service ∷ []
 directive_form directive.Option = Mode ∷ []
@@ -40,6 +48,7 @@ directive_form directive.Data = []
 directive_form directive.Zero = Number ZeroCount ∷ []
 
 abbrev pub directive_states : Directive → OperandValues → Stated
+directive_states directive.Format o = format (format_numbered (unsigned_abs o.number))
 directive_states directive.Sandbox o = sandbox (unsigned_abs o.number)
 directive_states directive.Gate o = gate o.name (unsigned_abs o.number)
 directive_states directive.Option o = compressed o.compressed
@@ -118,6 +127,7 @@ keyword_name (keyword.Numbers width) = data_name width
 abbrev pub place_of_keyword : Keyword → Place
 place_of_keyword (keyword.Instr name) = place.Code
 place_of_keyword (keyword.Pseudo name) = place.Code
+place_of_keyword (keyword.Directive directive.Format) = place.Head
 place_of_keyword (keyword.Directive directive.Sandbox) = place.Outside
 place_of_keyword (keyword.Directive directive.Gate) = place.Gates
 place_of_keyword (keyword.Directive directive.Option) = place.Code

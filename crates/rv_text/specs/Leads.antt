@@ -53,7 +53,7 @@ IsGateTwice k s text =
 -- the next one
 abbrev pub LeadsBehind : Keyword → ℕ → SoFar → List ℕ → SoFar → Type 0
 LeadsBehind k line old text new =
-    MayCome (place_of_keyword k) old.begun × (IsGateTwice k old text → ⊥)
+    MayCome (place_of_keyword k) old × (IsGateTwice k old text → ⊥)
     × ((s : Stated) × StatesBehind k text s × Does line s old new)
 
 -- the text is a statement of this line, which leads from the source so far to the next one
@@ -91,8 +91,8 @@ OperandsRefused k s text e =
 -- a statement of this keyword, with this text behind it, is refused for this cause
 abbrev pub RefusedBehind : Keyword → SoFar → List ℕ → TextCause → Type 0
 RefusedBehind k s text e =
-    ((MayCome (place_of_keyword k) s.begun → ⊥) × (e ≡ cause.Directive))
-    ⊎ (MayCome (place_of_keyword k) s.begun × OperandsRefused k s text e)
+    ((MayCome (place_of_keyword k) s → ⊥) × (e ≡ cause.Directive))
+    ⊎ (MayCome (place_of_keyword k) s × OperandsRefused k s text e)
 
 -- a statement with this first token and this rest is refused for this cause
 abbrev pub RefusedFrom : SoFar → List ℕ → List ℕ → TextCause → Type 0

@@ -1,5 +1,7 @@
 -- The source so far: what the lines read so far have made.
 use Rattle.std.specs.Prelude.{ℕ, Bool, true, false, ◌||◌, not, List, [], ◌∷◌, ◌++◌, Option, None, Some, length, if◌then◌else◌}
+use Rattle.sfi_image.specs.declared.format.Format.{Format}
+use Rattle.sfi_image.specs.declared.format.Format.TheVariants.{Sfi1}
 use Rattle.rv_text.specs.declared.item.Body.{Body}
 use Rattle.rv_text.specs.declared.item.Item.{Item}
 use Rattle.rv_text.specs.declared.item.Named.{Named}
@@ -20,20 +22,26 @@ pub record Begun : Type 0 where
   -- it has a label or an instruction
   pub opened : Bool
 
--- the sandboxes that are finished, and the one begun last
+-- the format, if the text has said it, the sandboxes that are finished, and the one begun last
 pub record SoFar : Type 0 where
+  pub format : Option Format
   pub finished : List Sandbox
   pub begun : Option Begun
 
 -- before the first line
 abbrev pub nothing : SoFar
-nothing = record { finished = []; begun = None }
+nothing = record { format = None; finished = []; begun = None }
 
--- a sandbox at its beginning: it has data bytes, and nothing else
-abbrev pub begin : ℕ → Begun
-begin size =
+-- the format: the first one where the text says none
+abbrev pub format_or_first : Option Format → Format
+format_or_first None = Sfi1
+format_or_first (Some format) = format
+
+-- a sandbox at its beginning: it has a format and data bytes, and nothing else
+abbrev pub begin : Format → ℕ → Begun
+begin format size =
     record {
-      sandbox = record { data_size = size; gates = []; names = []; items = []; bytes = [] };
+      sandbox = record { format = format; data_size = size; gates = []; names = []; items = []; bytes = [] };
       in_data = false;
       rvc = false;
       labelled = false;

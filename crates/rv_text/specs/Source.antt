@@ -1,9 +1,11 @@
 -- What a text of the assembler means: sandboxes.
-use Rattle.std.specs.Prelude.{◌≡◌, ◌≢◌, ◌↔◌, ℕ, ◌^◌, ◌<◌, ◌≤◌, IsTrue, List, length, map, slice_get, Some, Contains, pos}
+use Rattle.std.specs.Prelude.{◌≡◌, ◌≢◌, ◌↔◌, ℕ, ◌^◌, ◌<◌, ◌≤◌, IsTrue, List, [], ◌∷◌, length, map, slice_get, Some, Contains, pos}
 use Rattle.std.specs.List.{All, AllPairs}
 use Rattle.rv_word.specs.declared.instr.Instr.{Instr}
 use Rattle.rv_word.specs.declared.instr.Instr.TheVariants as instr
 use Rattle.rv_word.specs.Spelling.{IsReg, InRange}
+use Rattle.sfi_image.specs.declared.format.Format.{Format}
+use Rattle.sfi_image.specs.declared.format.Format.TheVariants.{Sfi1}
 use Rattle.rv_text.specs.declared.item.Named.{Named}
 use Rattle.rv_text.specs.declared.item.Named.TheVariants.{Gate, Code, Data, Unknown}
 use Rattle.rv_text.specs.declared.item.Body.{Body}
@@ -11,8 +13,9 @@ use Rattle.rv_text.specs.declared.item.Body.TheVariants.{Plain, To, High, Low}
 use Rattle.rv_text.specs.declared.item.Item.{Item}
 use Rattle.rv_text.specs.declared.item.SourceGate.{SourceGate}
 
--- a sandbox: how many data bytes it has, its gates, its names with what they name, its instructions and its first data bytes
+-- a sandbox: the format of its source, how many data bytes it has, its gates, its names with what they name, its instructions and its first data bytes
 pub record Sandbox : Type 0 where
+  pub format : Format
   pub data_size : ℕ
   pub gates : List SourceGate
   pub names : List (List ℕ × Named)
@@ -20,9 +23,9 @@ pub record Sandbox : Type 0 where
   pub bytes : List ℕ
 
 -- the sandbox of these
-abbrev pub sandbox : ℕ → List SourceGate → List (List ℕ × Named) → List Item → List ℕ → Sandbox
-sandbox data_size gates names items bytes =
-    record { data_size = data_size; gates = gates; names = names; items = items; bytes = bytes }
+abbrev pub sandbox : Format → ℕ → List SourceGate → List (List ℕ × Named) → List Item → List ℕ → Sandbox
+sandbox format data_size gates names items bytes =
+    record { format = format; data_size = data_size; gates = gates; names = names; items = items; bytes = bytes }
 
 -- what the names name, in the order of their places
 abbrev pub named : Sandbox → List Named
@@ -107,7 +110,17 @@ pub record IsSandbox (s : Sandbox) : Type 0 where
   pub byte_count : length s.bytes ≤ s.data_size
   pub bytes : All (λ b. b < 256) s.bytes
 
--- one such sandbox at least
+-- the format of a source: that of its sandboxes
+abbrev pub format_of : List Sandbox → Format
+format_of [] = Sfi1
+format_of (s ∷ rest) = s.format
+
+-- the sandboxes are of the format
+abbrev pub AreOf : Format → List Sandbox → Type 0
+AreOf format parts = All (λ s. s.format ≡ format) parts
+
+-- one such sandbox at least, all of one format
 pub record IsSource (parts : List Sandbox) : Type 0 where
   pub at_least_one : 1 ≤ length parts
   pub each : All IsSandbox parts
+  pub one_format : AreOf (format_of parts) parts

@@ -3,6 +3,7 @@ use Rattle.std.specs.Prelude.{◌<◌, ◌≤◌, length, ℕ, List, [], ◌∷�
 use Rattle.rv_word.specs.declared.instr.Instr.{Instr}
 use Rattle.std.specs.List.{All}
 use Rattle.rv_word.specs.Spelling.{IsReg, InRange}
+use Rattle.sfi_image.specs.declared.format.Format.{Format}
 use Rattle.rv_text.specs.Source.{IsDataSize, IsStraight, IsOpen}
 use Rattle.rv_text.specs.Tokens.{IsLabel}
 use Rattle.rv_text.specs.declared.statement.Statement.{Statement}
@@ -12,6 +13,8 @@ use Rattle.rv_text.specs.declared.statement.Place.TheVariants as place
 
 -- what a line states; a name is its text
 pub data Stated : Type 0 where
+  -- the format of the source is this one
+  format : (value : Format) → Stated
   -- a sandbox begins, with so many bytes of data
   sandbox : (size : ℕ) → Stated
   -- the name is that of a gate of this service
@@ -31,6 +34,7 @@ pub data Stated : Type 0 where
 
 -- what a statement states
 abbrev pub stated : Statement → Stated
+stated (statement.Format value) = format value
 stated (statement.Sandbox size) = sandbox size
 stated (statement.Gate name service) = gate name.now service
 stated (statement.Compressed rvc) = compressed rvc
@@ -44,6 +48,7 @@ stated (statement.Address rd name) = address rd name.now
 
 -- where each statement may come
 abbrev pub place_of_stated : Stated → Place
+place_of_stated (format value) = place.Head
 place_of_stated (sandbox size) = place.Outside
 place_of_stated (gate name service) = place.Gates
 place_of_stated (compressed rvc) = place.Code
@@ -59,6 +64,7 @@ IsShortLabel name = IsLabel name × (length name ≤ 64)
 
 -- each number, name and instruction is in range; a jump or a branch by name has offset 0, and none stands among the others
 abbrev pub IsRightStatement : Stated → Type 0
+IsRightStatement (format value) = Unit {0}
 IsRightStatement (sandbox size) = IsDataSize size
 IsRightStatement (gate name service) = IsShortLabel name × (service ≤ 5)
 IsRightStatement (compressed rvc) = Unit {0}

@@ -12,6 +12,7 @@ use crate::item::{Body, Item, Named, SourceGate};
 use crate::name_table::Names;
 use crate::source::SourcePart;
 use crate::statement::Statement;
+use sfi_image::Format;
 use std::alloc::Global;
 use std::marker::Model;
 
@@ -24,6 +25,7 @@ const MOST_ITEMS: usize = 65536;
 /// The sandbox begun last.
 #[derive(Debug, Drop)]
 pub struct Draft {
+    format: Format,
     data_size: u32,
     gates: Vec<SourceGate>,
     names: Names,
@@ -43,7 +45,7 @@ impl Model for Draft {
     ghost Value = { Begun };
 
     ghost view = { λ b. record {
-      sandbox = record { data_size = b.data_size; gates = b.gates.items; names = b.names; items = b.items.items; bytes = b.bytes.items };
+      sandbox = record { format = b.format; data_size = b.data_size; gates = b.gates.items; names = b.names; items = b.items.items; bytes = b.bytes.items };
       in_data = b.in_data;
       rvc = b.rvc;
       labelled = b.labelled;
@@ -54,11 +56,12 @@ impl Model for Draft {
 }
 
 impl Draft {
-    /// A sandbox with so many bytes of data, and nothing else.
-    pub fn new(alloc: Global, data_size: u32) -> Draft
-        ensures { result ≡ begin data_size }
+    /// A sandbox of this format with so many bytes of data, and nothing else.
+    pub fn new(alloc: Global, format: Format, data_size: u32) -> Draft
+        ensures { result ≡ begin format data_size }
     {
         Draft {
+            format,
             data_size,
             gates: Vec::new(alloc),
             names: Names::new(alloc),
@@ -224,8 +227,9 @@ impl Draft {
         ensures cause { IfErr result (λ e. (e ≡ cause.Memory) ⊎ ((Fits (stated statement.entry) self.old → ⊥) × (e ≡ cause.Limit))) }
     {
         match statement {
+            Statement::Format(_) => Ok(()),
             Statement::Sandbox { data_size } => {
-                *self = Draft::new(alloc, data_size);
+                *self = Draft::new(alloc, self.format, data_size);
                 Ok(())
             }
             Statement::Gate { name, service } => self.gate(alloc, name, service),
@@ -259,6 +263,7 @@ impl Draft {
         ensures { result ≡ self.sandbox }
     {
         SourcePart::new(
+            self.format,
             self.data_size,
             self.gates,
             self.names,

@@ -34,6 +34,8 @@ pub enum NumberKind {
     Byte,
     /// 0 to 1048576: how many bytes are 0.
     ZeroCount,
+    /// 1 or 2: the number of a format.
+    FormatNumber,
 }
 
 /// What may stand at a place of a statement.
@@ -152,6 +154,7 @@ impl NumberKind {
             NumberKind::Half => (-32768..=65535).contains(&number),
             NumberKind::Byte => (-128..=255).contains(&number),
             NumberKind::ZeroCount => (0..=1048576).contains(&number),
+            NumberKind::FormatNumber => (1..=2).contains(&number),
         }
     }
 }

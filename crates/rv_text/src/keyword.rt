@@ -10,6 +10,7 @@ use crate::statement::Place;
 /// A directive, but for those of lists of data.
 #[derive(Clone, Copy, Debug, PartialEq, Eq)]
 pub enum Directive {
+    Format,
     Sandbox,
     Gate,
     Option,
@@ -50,7 +51,7 @@ pub enum Keyword {
 }
 
 /// Every keyword that isn't the name of an instruction.
-const OTHERS: [Keyword; 18] = [
+const OTHERS: [Keyword; 19] = [
     Keyword::Pseudo(Pseudo::Nop),
     Keyword::Pseudo(Pseudo::Ret),
     Keyword::Pseudo(Pseudo::Li),
@@ -61,6 +62,7 @@ const OTHERS: [Keyword; 18] = [
     Keyword::Pseudo(Pseudo::Beqz),
     Keyword::Pseudo(Pseudo::Bnez),
     Keyword::Pseudo(Pseudo::La),
+    Keyword::Directive(Directive::Format),
     Keyword::Directive(Directive::Sandbox),
     Keyword::Directive(Directive::Gate),
     Keyword::Directive(Directive::Option),
@@ -77,6 +79,7 @@ impl Directive {
         ensures { result.now ≡ directive_name self }
     {
         match self {
+            Directive::Format => ".format",
             Directive::Sandbox => ".sandbox",
             Directive::Gate => ".gate",
             Directive::Option => ".option",
@@ -90,6 +93,7 @@ impl Directive {
         ensures { result.now ≡ directive_form self }
     {
         match self {
+            Directive::Format => &[Part::Number(NumberKind::FormatNumber)],
             Directive::Sandbox => &[Part::Number(NumberKind::DataSize)],
             Directive::Gate => &[Part::Name, Part::Number(NumberKind::Service)],
             Directive::Option => &[Part::Mode],
@@ -196,6 +200,7 @@ impl Keyword {
         match self {
             Keyword::Instr(_) | Keyword::Pseudo(_) => Place::Code,
             Keyword::Numbers(_) => Place::Data,
+            Keyword::Directive(Directive::Format) => Place::Head,
             Keyword::Directive(Directive::Sandbox) => Place::Outside,
             Keyword::Directive(Directive::Gate) => Place::Gates,
             Keyword::Directive(Directive::Option | Directive::Data) => Place::Code,

@@ -3,7 +3,7 @@ ghost use Rattle.std.specs.Prelude.{◌≡◌, ◌⊎◌, ◌↔◌, List, ℕ, 
 ghost use Rattle.rv_text.specs.declared.cause.TextCause.TheVariants as cause;
 ghost use Rattle.rv_text.specs.Effects.{Labels, RefusesLabel, MayCome, Does, HasNoRoom};
 ghost use Rattle.rv_text.specs.Leads.{BeginsWithName, IsTaken, BeginsWithLabel, HasNoLabel, PassesLabels, IsGateTwice, LeadsBehind, RestLeads, Leads, LabelRefused, RefusedBehind, StatementRefused, LineRefused};
-ghost use Rattle.rv_text.specs.SoFar.{begin, nothing, sandboxes};
+ghost use Rattle.rv_text.specs.SoFar.{begin, format_or_first, nothing, sandboxes};
 ghost use Rattle.rv_text.specs.Stated.{stated, place_of_stated};
 ghost use Rattle.rv_text.specs.Texts.{LeadsFromNothing, MeansSource, IsFault};
 ghost use Rattle.rv_text.specs.Causes.{memory};
@@ -18,12 +18,14 @@ use crate::line::{read_keyword, read_statement};
 use crate::read::{MOST_NAME, is_label};
 use crate::source::{Source, SourcePart};
 use crate::statement::{Place, Statement};
+use sfi_image::Format;
 use std::alloc::Global;
 use std::marker::Model;
 
-/// The source so far: the sandboxes that are finished, and the one begun last.
+/// The source so far: its format, if the text has said it, the sandboxes that are finished, and the one begun last.
 #[derive(Debug, Drop)]
 pub struct Progress {
+    format: Option<Format>,
     finished: Vec<SourcePart>,
     begun: Option<Draft>,
 }
@@ -33,7 +35,7 @@ impl Model for Progress {
 
     ghost Value = { SoFar };
 
-    ghost view = { λ p. record { finished = p.finished.items; begun = p.begun } };
+    ghost view = { λ p. record { format = p.format; finished = p.finished.items; begun = p.begun } };
 }
 
 /// What follows a colon at the front of a text.
@@ -94,6 +96,7 @@ impl Progress {
         ensures { result ≡ nothing }
     {
         Progress {
+            format: None,
             finished: Vec::new(alloc),
             begun: None,
         }
@@ -101,9 +104,11 @@ impl Progress {
 
     /// Whether a statement of this kind may come here.
     fn may_come(&self, place: Place) -> bool
-        ensures { IsTrue result ↔ MayCome place self.now.begun }
+        ensures { IsTrue result ↔ MayCome place self.now }
     {
         match (place, &self.begun) {
+            (Place::Head, None) => self.format.is_none(),
+            (Place::Head, Some(_)) => false,
             (Place::Outside, _) => true,
             (Place::Gates | Place::Code | Place::Data, None) => false,
             (Place::Gates, Some(draft)) => !draft.is_opened(),
@@ -156,25 +161,39 @@ impl Progress {
         }
     }
 
+    /// The format: the first one where the text says none.
+    fn format(&self) -> Format
+        ensures { result ≡ format_or_first self.now.format }
+    {
+        match self.format {
+            Some(format) => format,
+            None => Format::Sfi1,
+        }
+    }
+
     /// Begins a sandbox behind those so far.
     fn begin(&mut self, alloc: Global, data_size: u32) -> Result<(), TextCause>
-        ensures begins { OnOk result (self.new ≡ record { finished = sandboxes self.old; begun = Some (begin data_size) }) }
+        ensures begins { OnOk result (self.new ≡ record { format = self.old.format; finished = sandboxes self.old; begun = Some (begin (format_or_first self.old.format) data_size) }) }
         ensures memory { IfErr result (λ e. e ≡ cause.Memory) }
     {
         if let Some(draft) = self.begun.take() {
             self.finished.push(draft.finish())?;
         }
-        self.begun = Some(Draft::new(alloc, data_size));
+        self.begun = Some(Draft::new(alloc, self.format(), data_size));
         Ok(())
     }
 
     /// Does what a statement of this line states, which may come here.
     fn state(&mut self, alloc: Global, line: u32, statement: Statement<'_>) -> Result<(), TextCause>
-        requires { MayCome (place_of_stated (stated statement)) self.old.begun }
+        requires { MayCome (place_of_stated (stated statement)) self.old }
         ensures does { OnOk result (Does line (stated statement.entry) self.old self.new) }
         ensures cause { IfErr result (λ e. (e ≡ cause.Memory) ⊎ (HasNoRoom (stated statement.entry) self.old × (e ≡ cause.Limit))) }
     {
         match &statement {
+            Statement::Format(format) => {
+                self.format = Some(*format);
+                Ok(())
+            }
             Statement::Sandbox { data_size } => self.begin(alloc, *data_size),
             Statement::Gate { .. }
             | Statement::Compressed(_)

@@ -4,7 +4,7 @@ ghost use Rattle.rv_word.specs.declared.instr.Instr.TheVariants as instr;
 ghost use Rattle.rv_word.specs.declared.instr.ImmOp.TheVariants.{Addi};
 ghost use Rattle.rv_text.specs.Operands.{values_of};
 ghost use Rattle.rv_text.specs.Reading.{AllSuit};
-ghost use Rattle.rv_text.specs.Keywords.{directive_form, directive_states, pseudo_form, pseudo_states};
+ghost use Rattle.rv_text.specs.Keywords.{format_numbered, directive_form, directive_states, pseudo_form, pseudo_states};
 ghost use Rattle.rv_text.specs.Stated.{stated, jump};
 
 use crate::constant::constant;
@@ -12,6 +12,18 @@ use crate::keyword::{Directive, Pseudo};
 use crate::operands::{Operands, x0};
 use crate::statement::Statement;
 use rv_word::{Cond, ImmOp, Instr, Reg};
+use sfi_image::Format;
+
+/// The format of a number, 1 or 2.
+fn format_numbered(number: u32) -> Format
+    ensures { result ≡ format_numbered number }
+{
+    if number == 2 {
+        Format::Sfi2
+    } else {
+        Format::Sfi1
+    }
+}
 
 impl Directive {
     /// What the directive states with these operands.
@@ -20,6 +32,7 @@ impl Directive {
         ensures { stated result ≡ directive_states self (values_of o.now) }
     {
         match self {
+            Directive::Format => Statement::Format(format_numbered(o.number as u32)),
             Directive::Sandbox => Statement::Sandbox {
                 data_size: o.number as u32,
             },

@@ -1,16 +1,18 @@
 //! Sources: what a text of the assembler means.
 ghost use Rattle.std.specs.Prelude.{◌≡◌, length, slice_get};
-ghost use Rattle.rv_text.specs.Source.{sandbox, named, IsSource};
+ghost use Rattle.rv_text.specs.Source.{sandbox, named, format_of, IsSource};
 ghost use Rattle.rv_text.specs.Texts.{MeansSource};
 
 use crate::item::{Item, Named, SourceGate};
 use crate::laws::sources_are_right;
 use crate::name_table::Names;
+use sfi_image::Format;
 use std::marker::Model;
 
 /// A sandbox of a source.
 #[derive(Debug, Drop)]
 pub struct SourcePart {
+    format: Format,
     data_size: u32,
     gates: Vec<SourceGate>,
     names: Names,
@@ -23,26 +25,35 @@ impl Model for SourcePart {
 
     ghost Value = { Sandbox };
 
-    ghost view = { λ p. record { data_size = p.data_size; gates = p.gates.items; names = p.names; items = p.items.items; bytes = p.bytes.items } };
+    ghost view = { λ p. record { format = p.format; data_size = p.data_size; gates = p.gates.items; names = p.names; items = p.items.items; bytes = p.bytes.items } };
 }
 
 impl SourcePart {
     pub(crate) fn new(
+        format: Format,
         data_size: u32,
         gates: Vec<SourceGate>,
         names: Names,
         items: Vec<Item>,
         bytes: Vec<u8>,
     ) -> SourcePart
-        ensures { result ≡ sandbox data_size gates.items names items.items bytes.items }
+        ensures { result ≡ sandbox format data_size gates.items names items.items bytes.items }
     {
         SourcePart {
+            format,
             data_size,
             gates,
             names,
             items,
             bytes,
         }
+    }
+
+    /// The format of its source.
+    pub fn format(&self) -> Format
+        ensures { result ≡ self.now.format }
+    {
+        self.format
     }
 
     /// How many bytes the data region has, a power of two from 256 to 1048576.
@@ -89,7 +100,7 @@ impl SourcePart {
     }
 }
 
-/// What a text means: one sandbox at least.
+/// What a text means: one sandbox at least, all of one format.
 #[derive(Debug, Drop)]
 pub struct Source {
     parts: Vec<SourcePart>,
@@ -114,6 +125,16 @@ impl Source {
     {
         sources_are_right();
         Source { parts }
+    }
+
+    /// The format of the image to be made.
+    pub fn format(&self) -> Format
+        ensures { result ≡ format_of self.now }
+    {
+        match self.parts.first() {
+            Some(part) => part.format(),
+            None => Format::Sfi1,
+        }
     }
 
     /// The sandboxes, in the order of the text.

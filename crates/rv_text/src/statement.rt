@@ -1,6 +1,7 @@
 //! What one line of source states, behind its labels.
 
 use rv_word::{Instr, Reg};
+use sfi_image::Format;
 
 /// What a line of source states.
 ///
@@ -8,6 +9,8 @@ use rv_word::{Instr, Reg};
 /// `li` is one or two, and `j`, `call`, `beqz` and `bnez` are a jump or branch to a name.
 #[derive(Debug, Drop)]
 pub enum Statement<'a> {
+    /// `.format N`: the format of the source is this one.
+    Format(Format),
     /// `.sandbox N`: a sandbox begins, with so many bytes of data.
     Sandbox { data_size: u32 },
     /// `.gate L N`: the name is that of a gate of this service.
@@ -34,6 +37,8 @@ pub enum Statement<'a> {
 /// Where a statement may come.
 #[derive(Clone, Copy, Debug, PartialEq, Eq)]
 pub enum Place {
+    /// Once, before the first sandbox.
+    Head,
     /// Anywhere, before the first sandbox too: it begins one.
     Outside,
     /// Before the sandbox's first label and instruction.
