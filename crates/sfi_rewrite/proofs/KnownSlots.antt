@@ -1,7 +1,7 @@
 -- What is known of the slots of a sandbox's items: they encode, and their names are the sandbox's.
 use Rattle.std.proofs.Common.{◌≡◌, ℕ, zero, suc, ◌+◌, ◌*◌, ◌<◌, List, [], ◌∷◌, ◌++◌, replicate, refl, arith, inl, inr}
 use Rattle.std.proofs.lemmas.Int.{ints}
-use Rattle.std.specs.Prelude.{ℤ, pos, negsuc, Bool, true, false}
+use Rattle.std.specs.Prelude.{ℤ, pos, negsuc, Bool, true, false, MatchBool}
 use Rattle.std.specs.List.{All}
 use Rattle.std.proofs.lemmas.List.Elements.{All-nil, All-cons, All-append, All-head, All-tail}
 use Rattle.rv_word.specs.declared.instr.Instr.{Instr}
@@ -15,10 +15,12 @@ use Rattle.rv_text.specs.declared.item.Item.{Item}
 use Rattle.rv_text.specs.declared.item.Body.{Body}
 use Rattle.rv_text.specs.declared.item.Body.TheVariants.{Plain, To, High, Low}
 use Rattle.rv_text.specs.Source.{IsBody}
+use Rattle.sfi_image.specs.declared.format.Format.{Format}
 use Rattle.sfi_rewrite.specs.declared.slot.Slot.{Slot}
 use Rattle.sfi_rewrite.specs.declared.slot.Slot.TheVariants.{Wide, Short, Jump, Upper, Lower}
 use Rattle.sfi_rewrite.specs.Slots.{size_of, c_nop}
-use Rattle.sfi_rewrite.specs.Expansion.{code_pair, jump_to_x31, jump_slots, IsAlone, IsExpansionOf}
+use Rattle.sfi_rewrite.specs.Stack.{is_stack, writes_stack, is_on_stack, stack_pair, put_back}
+use Rattle.sfi_rewrite.specs.Expansion.{code_pair, jump_to_x31, jump_slots, IsAlone, IsMasked, IsExpansionOf}
 use Rattle.sfi_rewrite.specs.Places.{AreLaidFrom}
 use Rattle.sfi_rewrite.specs.Placed.{Encodes, IsNamedBelow}
 
@@ -84,34 +86,56 @@ jump_known count rd a (pos (suc n)) slots e d h i =
 jump_known count rd a (negsuc n) slots e d h i =
     rw e (more count (Wide (OpImm Addi 31 a (negsuc n))) (code_pair 31 ++ jump_to_x31 rd ∷ []) (summed count a (negsuc n) h i) (code_known count rd 31 d (omega arith)))
 
-expansion_known : (line : ℕ) (rvc : Bool) (body : Body) (count : ℕ) (slots : List Slot) → IsExpansionOf line rvc body slots → IsBody count body → All (IsKnown count) slots
+masked_known : (rvc : Bool) (i : Instr) (count : ℕ) (slots : List Slot) → IsMasked rvc i slots → InRange i → All (IsKnown count) slots
 unfolding InRange
-expansion_known line rvc (Plain (Load kind rd a imm)) count slots e b =
-    rw e (three count (Wide (Op And 31 a 27)) (Wide (Op Or 31 31 26)) (Wide (Load kind rd 31 imm)) (masked count a 27 b.0.1 (omega arith)) (based count 26 (omega arith)) (loaded count rd kind imm b.0.0 b.0.2))
-expansion_known line rvc (Plain (Store width a rs2 imm)) count slots e b =
-    rw e (three count (Wide (Op And 31 a 27)) (Wide (Op Or 31 31 26)) (Wide (Store width 31 rs2 imm)) (masked count a 27 b.0.0 (omega arith)) (based count 26 (omega arith)) (stored count rs2 width imm b.0.1 b.0.2))
-expansion_known line rvc (Plain (Jalr rd a imm)) count slots e b = jump_known count rd a imm slots e b.0.0 b.0.1 b.0.2
-expansion_known line rvc (Plain (Op op rd rs1 rs2)) count slots e b = alone_known count rvc (Op op rd rs1 rs2) slots e b.0
-expansion_known line rvc (Plain (OpImm op rd rs1 imm)) count slots e b = alone_known count rvc (OpImm op rd rs1 imm) slots e b.0
-expansion_known line rvc (Plain (Branch cond rs1 rs2 offset)) count slots e b = alone_known count rvc (Branch cond rs1 rs2 offset) slots e b.0
-expansion_known line rvc (Plain (Jal rd offset)) count slots e b = alone_known count rvc (Jal rd offset) slots e b.0
-expansion_known line rvc (Plain (Lui rd imm)) count slots e b = alone_known count rvc (Lui rd imm) slots e b.0
-expansion_known line rvc (Plain (Auipc rd imm)) count slots e b = alone_known count rvc (Auipc rd imm) slots e b.0
-expansion_known line rvc (Plain (Fence imm rd rs1)) count slots e b = alone_known count rvc (Fence imm rd rs1) slots e b.0
-expansion_known line rvc (Plain Ecall) count slots e b = alone_known count rvc Ecall slots e b.0
-expansion_known line rvc (Plain Ebreak) count slots e b = alone_known count rvc Ebreak slots e b.0
-expansion_known line rvc (To i name) count slots e b = rw e (one count (Jump i name line) (record { encodes = b.0; name = b.2 }))
-expansion_known line rvc (High rd name) count slots e b = rw e (one count (Upper rd name line) (record { encodes = b.0; name = b.1 }))
-expansion_known line rvc (Low rd name) count slots e b = rw e (one count (Lower rd name line) (record { encodes = b.0; name = b.1 }))
+masked_known rvc (Load kind rd a imm) count slots e b =
+    rw e (three count (Wide (Op And 31 a 27)) (Wide (Op Or 31 31 26)) (Wide (Load kind rd 31 imm)) (masked count a 27 b.1 (omega arith)) (based count 26 (omega arith)) (loaded count rd kind imm b.0 b.2))
+masked_known rvc (Store width a rs2 imm) count slots e b =
+    rw e (three count (Wide (Op And 31 a 27)) (Wide (Op Or 31 31 26)) (Wide (Store width 31 rs2 imm)) (masked count a 27 b.0 (omega arith)) (based count 26 (omega arith)) (stored count rs2 width imm b.1 b.2))
+masked_known rvc (Jalr rd a imm) count slots e b = jump_known count rd a imm slots e b.0 b.1 b.2
+masked_known rvc (Op op rd rs1 rs2) count slots e b = alone_known count rvc (Op op rd rs1 rs2) slots e b
+masked_known rvc (OpImm op rd rs1 imm) count slots e b = alone_known count rvc (OpImm op rd rs1 imm) slots e b
+masked_known rvc (Branch cond rs1 rs2 offset) count slots e b = alone_known count rvc (Branch cond rs1 rs2 offset) slots e b
+masked_known rvc (Jal rd offset) count slots e b = alone_known count rvc (Jal rd offset) slots e b
+masked_known rvc (Lui rd imm) count slots e b = alone_known count rvc (Lui rd imm) slots e b
+masked_known rvc (Auipc rd imm) count slots e b = alone_known count rvc (Auipc rd imm) slots e b
+masked_known rvc (Fence imm rd rs1) count slots e b = alone_known count rvc (Fence imm rd rs1) slots e b
+masked_known rvc Ecall count slots e b = alone_known count rvc Ecall slots e b
+masked_known rvc Ebreak count slots e b = alone_known count rvc Ebreak slots e b
+
+pair_known : (count : ℕ) → All (IsKnown count) stack_pair
+unfolding InRange
+pair_known count =
+    more count (Wide (Op And 2 2 27)) (Wide (Op Or 2 2 26) ∷ []) (record { encodes = (omega arith, omega arith, omega arith); name = tt })
+    (one count (Wide (Op Or 2 2 26)) (record { encodes = (omega arith, omega arith, omega arith); name = tt }))
+
+put_back_known : (count : ℕ) (writes : Bool) → All (IsKnown count) (put_back writes)
+put_back_known count false = All-nil (IsKnown count)
+put_back_known count true = pair_known count
+
+plain_known : (writes on rvc : Bool) (i : Instr) (count : ℕ) (slots : List Slot)
+    → MatchBool writes (slots ≡ Wide i ∷ stack_pair) (MatchBool on (IsAlone rvc i slots) (IsMasked rvc i slots)) → InRange i → All (IsKnown count) slots
+plain_known true on rvc i count slots e h = rw e (more count (Wide i) stack_pair (wide_known count i h) (pair_known count))
+plain_known false true rvc i count slots e h = alone_known count rvc i slots e h
+plain_known false false rvc i count slots e h = masked_known rvc i count slots e h
+
+expansion_known : (f : Format) (line : ℕ) (rvc : Bool) (body : Body) (count : ℕ) (slots : List Slot) → IsExpansionOf f line rvc body slots → IsBody count body
+    → All (IsKnown count) slots
+expansion_known f line rvc (Plain i) count slots e b = plain_known (writes_stack f i) (is_on_stack f i) rvc i count slots e b.0
+expansion_known f line rvc (To i name) count slots e b = rw e (one count (Jump i name line) (record { encodes = b.0; name = b.2 }))
+expansion_known f line rvc (High rd name) count slots e b =
+    rw e (more count (Upper rd name line) (put_back (is_stack f rd)) (record { encodes = b.0; name = b.1 }) (put_back_known count (is_stack f rd)))
+expansion_known f line rvc (Low rd name) count slots e b =
+    rw e (more count (Lower rd name line) (put_back (is_stack f rd)) (record { encodes = b.0; name = b.1 }) (put_back_known count (is_stack f rd)))
 
 pub nops_known : (count n : ℕ) → All (IsKnown count) (replicate n c_nop)
 nops_known count zero = All-nil (IsKnown count)
 nops_known count (suc n) = more count c_nop (replicate n c_nop) (record { encodes = refl; name = tt }) (nops_known count n)
 
-pub laid_known : (count end : ℕ) (items : List Item) (slots : List Slot) → AreLaidFrom end items slots → All (λ x. IsBody count x.body) items → All (IsKnown count) slots
-laid_known count end [] slots l b = rw l (All-nil (IsKnown count))
-laid_known count end (x ∷ items) slots l b =
+pub laid_known : (f : Format) (count end : ℕ) (items : List Item) (slots : List Slot) → AreLaidFrom f end items slots → All (λ x. IsBody count x.body) items → All (IsKnown count) slots
+laid_known f count end [] slots l b = rw l (All-nil (IsKnown count))
+laid_known f count end (x ∷ items) slots l b =
     let P : Item → Type 0 = λ x. IsBody count x.body in
-    let first = expansion_known x.line x.rvc x.body count l.1 l.3.expansion (All-head P x items b) in
-    let rest = laid_known count (end + 2 * l.0 + size_of l.1) items l.2 l.5 (All-tail P x items b) in
+    let first = expansion_known f x.line x.rvc x.body count l.1 l.3.expansion (All-head P x items b) in
+    let rest = laid_known f count (end + 2 * l.0 + size_of l.1) items l.2 l.5 (All-tail P x items b) in
     rw (l.4) (All-append (IsKnown count) (replicate l.0 c_nop) (l.1 ++ l.2) (nops_known count l.0) (All-append (IsKnown count) l.1 l.2 first rest))

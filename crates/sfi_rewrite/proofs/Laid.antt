@@ -1,6 +1,6 @@
 -- What is laid from an end on: one more item, a beginning of the items, and that there is one way.
 use Rattle.std.proofs.Common.{◌≡◌, ℕ, zero, suc, ◌+◌, ◌*◌, List, [], ◌∷◌, ◌++◌, take, drop, replicate, refl, sym, ap, ◌∙◌, subst, arith, append_assoc, append-nil, inl, inr}
-use Rattle.std.specs.Prelude.{Bool, true, false}
+use Rattle.std.specs.Prelude.{Bool, true, false, MatchBool}
 use Rattle.rv_word.specs.declared.instr.Instr.{Instr}
 use Rattle.rv_word.specs.declared.instr.Instr.TheVariants.{Op, OpImm, Load, Store, Branch, Jal, Jalr, Lui, Auipc, Fence, Ecall, Ebreak}
 use Rattle.rv_comp.specs.declared.form.Form16.{Form16}
@@ -8,10 +8,12 @@ use Rattle.rv_comp.specs.Laws.{OneFirstForm}
 use Rattle.rv_text.specs.declared.item.Item.{Item}
 use Rattle.rv_text.specs.declared.item.Body.{Body}
 use Rattle.rv_text.specs.declared.item.Body.TheVariants.{Plain, To, High, Low}
+use Rattle.sfi_image.specs.declared.format.Format.{Format}
 use Rattle.sfi_rewrite.specs.declared.slot.Slot.{Slot}
-use Rattle.sfi_rewrite.specs.declared.slot.Slot.TheVariants.{Short}
+use Rattle.sfi_rewrite.specs.declared.slot.Slot.TheVariants.{Short, Wide}
 use Rattle.sfi_rewrite.specs.Slots.{size_of, c_nop}
-use Rattle.sfi_rewrite.specs.Expansion.{IsAlone, IsExpansionOf, IsExpansion, is_call}
+use Rattle.sfi_rewrite.specs.Stack.{is_stack, writes_stack, is_on_stack, stack_pair, put_back}
+use Rattle.sfi_rewrite.specs.Expansion.{IsAlone, IsMasked, IsExpansionOf, IsExpansion, is_call}
 use Rattle.sfi_rewrite.specs.Places.{FillsGap, IsNext, AreLaidFrom}
 use Rattle.sfi_rewrite.proofs.Sizes.{size_of-append, size_nops}
 
@@ -23,49 +25,49 @@ size_next nops expanded rest =
     let c = size_nops nops in
     omega arith
 
-moved : (end other : ℕ) (x : Item) (nops : ℕ) (expanded : List Slot) → end ≡ other → IsNext end x nops expanded → IsNext other x nops expanded
-moved end other x nops expanded e n = subst (λ (m : ℕ). IsNext m x nops expanded) e n
+moved : (f : Format) (end other : ℕ) (x : Item) (nops : ℕ) (expanded : List Slot) → end ≡ other → IsNext f end x nops expanded → IsNext f other x nops expanded
+moved f end other x nops expanded e n = subst (λ (m : ℕ). IsNext f m x nops expanded) e n
 
 -- one more item
-pub laid_push : (end : ℕ) (items : List Item) (slots : List Slot) (x : Item) (nops : ℕ) (expanded : List Slot)
-    → AreLaidFrom end items slots → IsNext (end + size_of slots) x nops expanded → AreLaidFrom end (items ++ x ∷ []) (slots ++ (replicate nops c_nop ++ expanded))
-laid_push end [] slots x nops expanded l n =
+pub laid_push : (f : Format) (end : ℕ) (items : List Item) (slots : List Slot) (x : Item) (nops : ℕ) (expanded : List Slot)
+    → AreLaidFrom f end items slots → IsNext f (end + size_of slots) x nops expanded → AreLaidFrom f end (items ++ x ∷ []) (slots ++ (replicate nops c_nop ++ expanded))
+laid_push f end [] slots x nops expanded l n =
     let e : end + size_of slots ≡ end = (let z = ap size_of l in omega arith) in
     let g : slots ++ (replicate nops c_nop ++ expanded) ≡ replicate nops c_nop ++ (expanded ++ []) =
     ap (λ s. s ++ (replicate nops c_nop ++ expanded)) l ∙ ap (λ s. replicate nops c_nop ++ s) (sym (append-nil expanded)) in
-    (nops, expanded, [], moved (end + size_of slots) end x nops expanded e n, g, refl)
-laid_push end (y ∷ items) slots x nops expanded l n =
+    (nops, expanded, [], moved f (end + size_of slots) end x nops expanded e n, g, refl)
+laid_push f end (y ∷ items) slots x nops expanded l n =
     let k = l.0 in
     let first = l.1 in
     let rest = l.2 in
     let e : end + size_of slots ≡ end + 2 * k + size_of first + size_of rest =
     (let z = ap size_of l.4 ∙ size_next k first rest in omega arith) in
-    let tail = laid_push (end + 2 * k + size_of first) items rest x nops expanded l.5 (moved _ _ x nops expanded e n) in
+    let tail = laid_push f (end + 2 * k + size_of first) items rest x nops expanded l.5 (moved f _ _ x nops expanded e n) in
     let more = replicate nops c_nop ++ expanded in
     let g : slots ++ more ≡ replicate k c_nop ++ (first ++ (rest ++ more)) =
     ap (λ s. s ++ more) l.4 ∙ append_assoc (replicate k c_nop) (first ++ rest) more ∙ ap (λ s. replicate k c_nop ++ s) (append_assoc first rest more) in
     (k, first, rest ++ more, l.3, g, tail)
 
 -- what stands before item k, and what stands from it on
-pub record Split (end : ℕ) (items : List Item) (k : ℕ) (slots : List Slot) : Type 0 where
+pub record Split (f : Format) (end : ℕ) (items : List Item) (k : ℕ) (slots : List Slot) : Type 0 where
   pub front : List Slot
   pub back : List Slot
   pub both : slots ≡ front ++ back
-  pub before : AreLaidFrom end (take k items) front
-  pub behind : AreLaidFrom (end + size_of front) (drop k items) back
+  pub before : AreLaidFrom f end (take k items) front
+  pub behind : AreLaidFrom f (end + size_of front) (drop k items) back
 
-pub laid_split : (end : ℕ) (items : List Item) (k : ℕ) (slots : List Slot) → AreLaidFrom end items slots → Split end items k slots
-laid_split end items zero slots l =
+pub laid_split : (f : Format) (end : ℕ) (items : List Item) (k : ℕ) (slots : List Slot) → AreLaidFrom f end items slots → Split f end items k slots
+laid_split f end items zero slots l =
     record {
       front = [];
       back = slots;
       both = refl;
       before = refl;
-      behind = subst (λ (m : ℕ). AreLaidFrom m items slots) (let z : end ≡ end + size_of [] = omega arith in z) l;
+      behind = subst (λ (m : ℕ). AreLaidFrom f m items slots) (let z : end ≡ end + size_of [] = omega arith in z) l;
     }
-laid_split end [] (suc k) slots l = record { front = []; back = slots; both = refl; before = refl; behind = l }
-laid_split end (x ∷ items) (suc k) slots l =
-    let s = laid_split (end + 2 * l.0 + size_of l.1) items k l.2 l.5 in
+laid_split f end [] (suc k) slots l = record { front = []; back = slots; both = refl; before = refl; behind = l }
+laid_split f end (x ∷ items) (suc k) slots l =
+    let s = laid_split f (end + 2 * l.0 + size_of l.1) items k l.2 l.5 in
     let front = replicate l.0 c_nop ++ (l.1 ++ s.front) in
     let e : end + 2 * l.0 + size_of l.1 + size_of s.front ≡ end + size_of front = (let z = size_next l.0 l.1 s.front in omega arith) in
     record {
@@ -76,7 +78,7 @@ laid_split end (x ∷ items) (suc k) slots l =
           ∙ ap (λ t. replicate l.0 c_nop ++ t) (sym (append_assoc l.1 s.front s.back))
           ∙ sym (append_assoc (replicate l.0 c_nop) (l.1 ++ s.front) s.back);
       before = (l.0, l.1, s.front, l.3, refl, s.before);
-      behind = subst (λ (m : ℕ). AreLaidFrom m (drop k items) s.back) e s.behind;
+      behind = subst (λ (m : ℕ). AreLaidFrom f m (drop k items) s.back) e s.behind;
     }
 
 -- ---- one way
@@ -91,25 +93,36 @@ alone_one_way one true i a b x y = cases x y
     cases (inr x) (inl y) = absurd (x.0 y.0 y.1.meets y.1.expands)
     cases (inr x) (inr y) = x.1 ∙ sym y.1
 
-expansion_of_one_way : OneFirstForm → (line : ℕ) (rvc : Bool) (body : Body) (a b : List Slot) → IsExpansionOf line rvc body a → IsExpansionOf line rvc body b → a ≡ b
-expansion_of_one_way one line rvc (Plain (Load kind rd rs1 imm)) a b x y = x ∙ sym y
-expansion_of_one_way one line rvc (Plain (Store width rs1 rs2 imm)) a b x y = x ∙ sym y
-expansion_of_one_way one line rvc (Plain (Jalr rd rs1 imm)) a b x y = x ∙ sym y
-expansion_of_one_way one line rvc (Plain (Op op rd rs1 rs2)) a b x y = alone_one_way one rvc (Op op rd rs1 rs2) a b x y
-expansion_of_one_way one line rvc (Plain (OpImm op rd rs1 imm)) a b x y = alone_one_way one rvc (OpImm op rd rs1 imm) a b x y
-expansion_of_one_way one line rvc (Plain (Branch cond rs1 rs2 offset)) a b x y = alone_one_way one rvc (Branch cond rs1 rs2 offset) a b x y
-expansion_of_one_way one line rvc (Plain (Jal rd offset)) a b x y = alone_one_way one rvc (Jal rd offset) a b x y
-expansion_of_one_way one line rvc (Plain (Lui rd imm)) a b x y = alone_one_way one rvc (Lui rd imm) a b x y
-expansion_of_one_way one line rvc (Plain (Auipc rd imm)) a b x y = alone_one_way one rvc (Auipc rd imm) a b x y
-expansion_of_one_way one line rvc (Plain (Fence imm rd rs1)) a b x y = alone_one_way one rvc (Fence imm rd rs1) a b x y
-expansion_of_one_way one line rvc (Plain Ecall) a b x y = alone_one_way one rvc Ecall a b x y
-expansion_of_one_way one line rvc (Plain Ebreak) a b x y = alone_one_way one rvc Ebreak a b x y
-expansion_of_one_way one line rvc (To i name) a b x y = x ∙ sym y
-expansion_of_one_way one line rvc (High rd name) a b x y = x ∙ sym y
-expansion_of_one_way one line rvc (Low rd name) a b x y = x ∙ sym y
+masked_one_way : OneFirstForm → (rvc : Bool) (i : Instr) (a b : List Slot) → IsMasked rvc i a → IsMasked rvc i b → a ≡ b
+masked_one_way one rvc (Load kind rd rs1 imm) a b x y = x ∙ sym y
+masked_one_way one rvc (Store width rs1 rs2 imm) a b x y = x ∙ sym y
+masked_one_way one rvc (Jalr rd rs1 imm) a b x y = x ∙ sym y
+masked_one_way one rvc (Op op rd rs1 rs2) a b x y = alone_one_way one rvc (Op op rd rs1 rs2) a b x y
+masked_one_way one rvc (OpImm op rd rs1 imm) a b x y = alone_one_way one rvc (OpImm op rd rs1 imm) a b x y
+masked_one_way one rvc (Branch cond rs1 rs2 offset) a b x y = alone_one_way one rvc (Branch cond rs1 rs2 offset) a b x y
+masked_one_way one rvc (Jal rd offset) a b x y = alone_one_way one rvc (Jal rd offset) a b x y
+masked_one_way one rvc (Lui rd imm) a b x y = alone_one_way one rvc (Lui rd imm) a b x y
+masked_one_way one rvc (Auipc rd imm) a b x y = alone_one_way one rvc (Auipc rd imm) a b x y
+masked_one_way one rvc (Fence imm rd rs1) a b x y = alone_one_way one rvc (Fence imm rd rs1) a b x y
+masked_one_way one rvc Ecall a b x y = alone_one_way one rvc Ecall a b x y
+masked_one_way one rvc Ebreak a b x y = alone_one_way one rvc Ebreak a b x y
 
-pub expansion_one_way : OneFirstForm → (x : Item) (a b : List Slot) → IsExpansion x a → IsExpansion x b → a ≡ b
-expansion_one_way one x a b e f = expansion_of_one_way one x.line x.rvc x.body a b e f
+plain_one_way : OneFirstForm → (writes on rvc : Bool) (i : Instr) (a b : List Slot)
+    → MatchBool writes (a ≡ Wide i ∷ stack_pair) (MatchBool on (IsAlone rvc i a) (IsMasked rvc i a))
+    → MatchBool writes (b ≡ Wide i ∷ stack_pair) (MatchBool on (IsAlone rvc i b) (IsMasked rvc i b)) → a ≡ b
+plain_one_way one true on rvc i a b x y = x ∙ sym y
+plain_one_way one false true rvc i a b x y = alone_one_way one rvc i a b x y
+plain_one_way one false false rvc i a b x y = masked_one_way one rvc i a b x y
+
+expansion_of_one_way : OneFirstForm → (f : Format) (line : ℕ) (rvc : Bool) (body : Body) (a b : List Slot)
+    → IsExpansionOf f line rvc body a → IsExpansionOf f line rvc body b → a ≡ b
+expansion_of_one_way one f line rvc (Plain i) a b x y = plain_one_way one (writes_stack f i) (is_on_stack f i) rvc i a b x y
+expansion_of_one_way one f line rvc (To i name) a b x y = x ∙ sym y
+expansion_of_one_way one f line rvc (High rd name) a b x y = x ∙ sym y
+expansion_of_one_way one f line rvc (Low rd name) a b x y = x ∙ sym y
+
+pub expansion_one_way : OneFirstForm → (f : Format) (x : Item) (a b : List Slot) → IsExpansion f x a → IsExpansion f x b → a ≡ b
+expansion_one_way one f x a b h g = expansion_of_one_way one f x.line x.rvc x.body a b h g
 
 gap_one_way : (end : ℕ) (labelled call : Bool) (size m n : ℕ) → FillsGap end labelled call size m → FillsGap end labelled call size n → m ≡ n
 gap_one_way end labelled call size m n a b =
@@ -122,20 +135,20 @@ pub record SameNext (m n : ℕ) (a b : List Slot) : Type 0 where
   pub nops : m ≡ n
   pub expanded : a ≡ b
 
-pub next_one_way : OneFirstForm → (end : ℕ) (x : Item) (m n : ℕ) (a b : List Slot) → IsNext end x m a → IsNext end x n b → SameNext m n a b
-next_one_way one end x m n a b s t =
-    let e = expansion_one_way one x a b s.expansion t.expansion in
+pub next_one_way : OneFirstForm → (f : Format) (end : ℕ) (x : Item) (m n : ℕ) (a b : List Slot) → IsNext f end x m a → IsNext f end x n b → SameNext m n a b
+next_one_way one f end x m n a b s t =
+    let e = expansion_one_way one f x a b s.expansion t.expansion in
     record {
       nops = gap_one_way end x.labelled (is_call x.body) (size_of b) m n (subst (λ (c : List Slot). FillsGap end x.labelled (is_call x.body) (size_of c) m) e s.gap) t.gap;
       expanded = e;
     }
 
-pub laid_one_way : OneFirstForm → (end : ℕ) (items : List Item) (a b : List Slot) → AreLaidFrom end items a → AreLaidFrom end items b → a ≡ b
-laid_one_way one end [] a b x y = x ∙ sym y
-laid_one_way one end (i ∷ items) a b x y =
-    let same = next_one_way one end i x.0 y.0 x.1 y.1 x.3 y.3 in
-    let e : end + 2 * y.0 + size_of y.1 ≡ end + 2 * x.0 + size_of x.1 = (let f = same.nops in let g = ap size_of same.expanded in omega arith) in
-    let rest = laid_one_way one (end + 2 * x.0 + size_of x.1) items x.2 y.2 x.5 (subst (λ (m : ℕ). AreLaidFrom m items y.2) e y.5) in
+pub laid_one_way : OneFirstForm → (f : Format) (end : ℕ) (items : List Item) (a b : List Slot) → AreLaidFrom f end items a → AreLaidFrom f end items b → a ≡ b
+laid_one_way one f end [] a b x y = x ∙ sym y
+laid_one_way one f end (i ∷ items) a b x y =
+    let same = next_one_way one f end i x.0 y.0 x.1 y.1 x.3 y.3 in
+    let e : end + 2 * y.0 + size_of y.1 ≡ end + 2 * x.0 + size_of x.1 = (let h = same.nops in let g = ap size_of same.expanded in omega arith) in
+    let rest = laid_one_way one f (end + 2 * x.0 + size_of x.1) items x.2 y.2 x.5 (subst (λ (m : ℕ). AreLaidFrom f m items y.2) e y.5) in
     x.4
     ∙ ap (λ (n : ℕ). replicate n c_nop ++ (x.1 ++ x.2)) same.nops
     ∙ ap (λ (s : List Slot). replicate y.0 c_nop ++ (s ++ x.2)) same.expanded

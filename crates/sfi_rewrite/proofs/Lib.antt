@@ -2,6 +2,7 @@ pub mod Sizes
 pub mod Bundles
 pub mod Expansions
 pub mod Laid
+pub mod Whole
 pub mod OneByOne
 pub mod PlacedNames
 pub mod KnownSlots
@@ -9,3 +10,8 @@ pub mod Placements
 pub mod OneWay
 pub mod OneFault
 pub mod Sources
+pub mod Unmoved
+pub mod Aside
+pub mod Transparent
+pub mod StackKept
+pub mod Standing

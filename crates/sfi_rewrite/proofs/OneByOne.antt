@@ -7,17 +7,34 @@ use Rattle.std.proofs.lemmas.Bool.{cases_lt}
 use Rattle.std.proofs.lemmas.Option.{slice_get-get_or}
 use Rattle.rv_text.specs.declared.item.Item.{Item}
 use Rattle.rv_text.specs.Source.{IsBody}
+use Rattle.sfi_image.specs.declared.format.Format.{Format}
+use Rattle.sfi_image.specs.declared.format.Format.TheVariants.{Sfi1, Sfi2}
+use Rattle.sfi_image.specs.Formats.{code_most}
 use Rattle.sfi_rewrite.specs.declared.slot.Slot.{Slot}
 use Rattle.sfi_rewrite.specs.declared.fault.RewriteFault.{RewriteFault}
-use Rattle.sfi_rewrite.specs.declared.fault.RewriteFault.TheVariants.{ReservedRegister, Ecall, TooLarge, Memory}
-use Rattle.sfi_rewrite.specs.Slots.{size_of, code_most, c_nop}
+use Rattle.sfi_rewrite.specs.declared.fault.RewriteFault.TheVariants.{ReservedRegister, Ecall, TooLarge, Memory, StackWrite}
+use Rattle.sfi_rewrite.specs.Slots.{size_of, c_nop}
 use Rattle.sfi_rewrite.specs.Expansion.{IsExpansion, is_call}
 use Rattle.sfi_rewrite.specs.Places.{next_bundle, FillsGap, IsNext, IsLabelAt}
-use Rattle.sfi_rewrite.specs.Filling.{HasNext, HaveBodies, AreLabels}
+use Rattle.sfi_rewrite.specs.Filling.{HasNext, HaveBodies, AreLabels, largest}
 use Rattle.sfi_rewrite.specs.Faults.{IsPermitted, AreFaultless, IsTooLarge, HasItemFault, HasFault, UnlessMemory, IsItemFault}
 use Rattle.sfi_rewrite.proofs.Sizes.{size_of-append, size_even, size_nops}
 use Rattle.sfi_rewrite.proofs.Expansions.{IsOne, expansion_one}
 use Rattle.sfi_rewrite.proofs.Laid.{laid_push}
+
+-- ---- the room of a format
+
+pub some_room : (f : Format) → 0 ≤ code_most f
+some_room f = omega arith
+
+pub most_of_any : (f : Format) (n : ℕ) → n ≤ code_most f → n ≤ largest
+most_of_any Sfi1 n h = omega arith
+most_of_any Sfi2 n h = omega arith
+
+-- a code region ends at a bundle's end
+pub whole_bundles : (f : Format) → code_most f % 16 ≡ 0
+whole_bundles Sfi1 = refl
+whole_bundles Sfi2 = refl
 
 -- ---- one item
 
@@ -30,13 +47,13 @@ is_some size slots e o = let h = o.some in omega arith
 pub is_few : (size : ℕ) (slots : List Slot) → size ≡ size_of slots → IsOne slots → size ≤ 16
 is_few size slots e o = let h = o.few in omega arith
 
-pub item_one : (x : Item) (expanded slots : List Slot) → IsExpansion x expanded → slots ≡ expanded → IsPermitted x → (count : ℕ) × IsBody count x.body → IsOne slots
-item_one x expanded slots e s p b = rw s (expansion_one x.line x.rvc x.body b.0 expanded e p.operands p.no_ecall b.1)
+pub item_one : (f : Format) (x : Item) (expanded slots : List Slot) → IsExpansion f x expanded → slots ≡ expanded → IsOne slots
+item_one f x expanded slots e s = rw s (expansion_one f x expanded e)
 
-pub next_is : (x : Item) (code expanded slots : List Slot) (call : Bool) (end size nops : ℕ)
-    → IsExpansion x expanded → slots ≡ expanded → end ≡ size_of code → call ≡ is_call x.body → size ≡ size_of slots
-    → FillsGap end x.labelled call size nops → IsNext (size_of code) x nops expanded
-next_is x code expanded slots call end size nops e s n c z g =
+pub next_is : (f : Format) (x : Item) (code expanded slots : List Slot) (call : Bool) (end size nops : ℕ)
+    → IsExpansion f x expanded → slots ≡ expanded → end ≡ size_of code → call ≡ is_call x.body → size ≡ size_of slots
+    → FillsGap end x.labelled call size nops → IsNext f (size_of code) x nops expanded
+next_is f x code expanded slots call end size nops e s n c z g =
     record {
       expansion = e;
       gap =
@@ -45,11 +62,11 @@ next_is x code expanded slots call end size nops e s n c z g =
           (subst (λ (m : ℕ). FillsGap end x.labelled call m nops) (z ∙ ap size_of s) g));
     }
 
-pub too_large : (x : Item) (code expanded slots : List Slot) (call : Bool) (end size nops : ℕ)
-    → IsExpansion x expanded → slots ≡ expanded → end ≡ size_of code → call ≡ is_call x.body → size ≡ size_of slots
-    → FillsGap end x.labelled call size nops → 65536 ≤ end + 2 * nops → IsTooLarge (size_of code) x
-too_large x code expanded slots call end size nops e s n c z g h =
-    record { nops = nops; expanded = expanded; next = next_is x code expanded slots call end size nops e s n c z g; beyond = omega arith }
+pub too_large : (f : Format) (x : Item) (code expanded slots : List Slot) (call : Bool) (end size nops : ℕ)
+    → IsExpansion f x expanded → slots ≡ expanded → end ≡ size_of code → call ≡ is_call x.body → size ≡ size_of slots
+    → FillsGap end x.labelled call size nops → code_most f ≤ end + 2 * nops → IsTooLarge f (size_of code) x
+too_large f x code expanded slots call end size nops e s n c z g h =
+    record { nops = nops; expanded = expanded; next = next_is f x code expanded slots call end size nops e s n c z g; beyond = omega arith }
 
 pub fits_bundle : (code then : List Slot) (labelled call : Bool) (end size nops : ℕ)
     → end ≡ size_of code → FillsGap end labelled call size nops → then ≡ code ++ replicate nops c_nop → size_of then % 16 + size ≤ 16
@@ -59,24 +76,25 @@ fits_bundle code then labelled call end size nops e g t =
     let h = g.stands.in_bundle in
     omega arith
 
-pub fits_code : (code then : List Slot) (labelled call : Bool) (end size nops : ℕ)
-    → end ≡ size_of code → FillsGap end labelled call size nops → then ≡ code ++ replicate nops c_nop → end + 2 * nops < 65536 → size_of then + size ≤ 65536
-fits_code code then labelled call end size nops e g t l =
+pub fits_code : (f : Format) (code then : List Slot) (labelled call : Bool) (end size nops : ℕ)
+    → end ≡ size_of code → FillsGap end labelled call size nops → then ≡ code ++ replicate nops c_nop → end + 2 * nops < code_most f → size_of then + size ≤ code_most f
+fits_code f code then labelled call end size nops e g t l =
+    let most = whole_bundles f in
     let a = ap size_of t ∙ size_of-append code (replicate nops c_nop) in
     let b = size_nops nops in
     let h = g.stands.in_bundle in
     omega arith
 
-pub has_next : (x : Item) (code then now expanded slots : List Slot) (call : Bool) (end size nops : ℕ)
-    → IsExpansion x expanded → slots ≡ expanded → end ≡ size_of code → call ≡ is_call x.body → size ≡ size_of slots
-    → FillsGap end x.labelled call size nops → then ≡ code ++ replicate nops c_nop → now ≡ then ++ slots → end + 2 * nops < 65536 → HasNext code x now
-has_next x code then now expanded slots call end size nops e s n c z g t w l =
-    let f = fits_code code then x.labelled call end size nops n g t l in
+pub has_next : (f : Format) (x : Item) (code then now expanded slots : List Slot) (call : Bool) (end size nops : ℕ)
+    → IsExpansion f x expanded → slots ≡ expanded → end ≡ size_of code → call ≡ is_call x.body → size ≡ size_of slots
+    → FillsGap end x.labelled call size nops → then ≡ code ++ replicate nops c_nop → now ≡ then ++ slots → end + 2 * nops < code_most f → HasNext f code x now
+has_next f x code then now expanded slots call end size nops e s n c z g t w l =
+    let within = fits_code f code then x.labelled call end size nops n g t l in
     let a = ap size_of w ∙ size_of-append then slots in
     record {
       nops = nops;
       expanded = expanded;
-      next = next_is x code expanded slots call end size nops e s n c z g;
+      next = next_is f x code expanded slots call end size nops e s n c z g;
       slots = w ∙ ap (λ v. v ++ slots) t ∙ append_assoc code (replicate nops c_nop) slots ∙ ap (λ v. code ++ (replicate nops c_nop ++ v)) s;
       fits = omega arith;
     }
@@ -95,36 +113,36 @@ is_at items k x h e =
       at = slice_get-get_or items k x h ∙ ap Some (sym e);
     }
 
-pub none_faultless : (items : List Item) (code : List Slot) → code ≡ [] → AreFaultless (take 0 items) code
-none_faultless items code e = rw e (record { laid = refl; permitted = All-nil IsPermitted; fits = omega arith })
+pub none_faultless : (f : Format) (items : List Item) (code : List Slot) → code ≡ [] → AreFaultless f (take 0 items) code
+none_faultless f items code e = rw e (record { laid = refl; permitted = All-nil (IsPermitted f); fits = some_room f })
 
-pub one_more : (items : List Item) (k : ℕ) (x : Item) (code now : List Slot)
-    → k < length items → x ≡ get_or items k x → AreFaultless (take k items) code → IsPermitted x → HasNext code x now → AreFaultless (take (k + 1) items) now
-one_more items k x code now h e f p n =
+pub one_more : (f : Format) (items : List Item) (k : ℕ) (x : Item) (code now : List Slot)
+    → k < length items → x ≡ get_or items k x → AreFaultless f (take k items) code → IsPermitted f x → HasNext f code x now → AreFaultless f (take (k + 1) items) now
+one_more f items k x code now h e l p n =
     let at = is_at items k x h e in
     rw (at.more, n.slots) (record {
-      laid = laid_push 0 (take k items) code x n.nops n.expanded f.laid (subst (λ (m : ℕ). IsNext m x n.nops n.expanded) (let z : size_of code ≡ 0 + size_of code = omega arith in z) n.next);
-      permitted = All-push IsPermitted (take k items) x f.permitted p;
-      fits = subst (λ v. size_of v ≤ code_most) n.slots n.fits;
+      laid = laid_push f 0 (take k items) code x n.nops n.expanded l.laid (subst (λ (m : ℕ). IsNext f m x n.nops n.expanded) (let z : size_of code ≡ 0 + size_of code = omega arith in z) n.next);
+      permitted = All-push (IsPermitted f) (take k items) x l.permitted p;
+      fits = subst (λ v. size_of v ≤ code_most f) n.slots n.fits;
     })
 
-pub label_here : (items : List Item) (k end place : ℕ) (code : List Slot) → AreFaultless (take k items) code → end ≡ size_of code → place ≡ next_bundle end → IsLabelAt items k place
-label_here items k end place code f e p = (code, f.laid, p ∙ ap next_bundle e)
+pub label_here : (f : Format) (items : List Item) (k end place : ℕ) (code : List Slot) → AreFaultless f (take k items) code → end ≡ size_of code → place ≡ next_bundle end → IsLabelAt f items k place
+label_here f items k end place code l e p = (code, l.laid, p ∙ ap next_bundle e)
 
 -- one more label
-pub label_push : (items : List Item) (labels now : List ℕ) (n place : ℕ)
-    → length labels ≡ n → ((k : ℕ) → k < n → IsLabelAt items k (get_or labels k 0)) → IsLabelAt items n place → now ≡ labels ++ place ∷ []
-    → (k : ℕ) → k < n + 1 → IsLabelAt items k (get_or now k 0)
-label_push items labels now n place l each here e k h =
+pub label_push : (f : Format) (items : List Item) (labels now : List ℕ) (n place : ℕ)
+    → length labels ≡ n → ((k : ℕ) → k < n → IsLabelAt f items k (get_or labels k 0)) → IsLabelAt f items n place → now ≡ labels ++ place ∷ []
+    → (k : ℕ) → k < n + 1 → IsLabelAt f items k (get_or now k 0)
+label_push f items labels now n place l each here e k h =
     elim (cases_lt k n) [
       | inl b ↦
           let same : get_or now k 0 ≡ get_or labels k 0 =
           ap (λ v. get_or v k 0) e ∙ get_or_append_left labels (place ∷ []) 0 k (let z : k < length labels = omega arith in z) in
-          subst (λ (p : ℕ). IsLabelAt items k p) (sym same) (each k b)
+          subst (λ (p : ℕ). IsLabelAt f items k p) (sym same) (each k b)
       | inr b ↦
           let at : n ≡ k = omega arith in
           let same : get_or now n 0 ≡ place = ap (λ v. get_or v n 0) e ∙ get_or_push labels place 0 n l in
-          subst (λ (m : ℕ). IsLabelAt items m (get_or now m 0)) at (subst (λ (p : ℕ). IsLabelAt items n p) (sym same) here)
+          subst (λ (m : ℕ). IsLabelAt f items m (get_or now m 0)) at (subst (λ (p : ℕ). IsLabelAt f items n p) (sym same) here)
     ]
 
 pub label_count : (labels now : List ℕ) (n place : ℕ) → length labels ≡ n → now ≡ labels ++ place ∷ [] → length now ≡ n + 1
@@ -132,31 +150,33 @@ label_count labels now n place l e = ap length e ∙ length-append labels (place
 
 -- ---- faults
 
-pub item_fault : (sandbox : ℕ) (items : List Item) (k : ℕ) (x : Item) (code : List Slot) (f : RewriteFault)
-    → k < length items → x ≡ get_or items k x → AreFaultless (take k items) code → UnlessMemory (HasFault sandbox (size_of code) x) f → UnlessMemory (IsItemFault sandbox items) f
-item_fault sandbox items k x code (ReservedRegister line) h e l f = record { index = k; item = x; at = (is_at items k x h e).at; before = code; faultless = l; has = f }
-item_fault sandbox items k x code (Ecall line) h e l f = record { index = k; item = x; at = (is_at items k x h e).at; before = code; faultless = l; has = f }
-item_fault sandbox items k x code (TooLarge number) h e l f = record { index = k; item = x; at = (is_at items k x h e).at; before = code; faultless = l; has = f }
-item_fault sandbox items k x code Memory h e l f = tt
+pub item_fault : (format : Format) (sandbox : ℕ) (items : List Item) (k : ℕ) (x : Item) (code : List Slot) (f : RewriteFault)
+    → k < length items → x ≡ get_or items k x → AreFaultless format (take k items) code → UnlessMemory (HasFault format sandbox (size_of code) x) f → UnlessMemory (IsItemFault format sandbox items) f
+item_fault format sandbox items k x code (ReservedRegister line) h e l f = record { index = k; item = x; at = (is_at items k x h e).at; before = code; faultless = l; has = f }
+item_fault format sandbox items k x code (Ecall line) h e l f = record { index = k; item = x; at = (is_at items k x h e).at; before = code; faultless = l; has = f }
+item_fault format sandbox items k x code (StackWrite line) h e l f = record { index = k; item = x; at = (is_at items k x h e).at; before = code; faultless = l; has = f }
+item_fault format sandbox items k x code (TooLarge number) h e l f = record { index = k; item = x; at = (is_at items k x h e).at; before = code; faultless = l; has = f }
+item_fault format sandbox items k x code Memory h e l f = tt
 
 -- a fault that the item has wherever it stands
-pub found_fault : (sandbox end : ℕ) (x : Item) (f : RewriteFault) → HasItemFault x f → UnlessMemory (HasFault sandbox end x) f
-found_fault sandbox end x (ReservedRegister line) h = h
-found_fault sandbox end x (Ecall line) h = h
-found_fault sandbox end x (TooLarge number) h = absurd h
-found_fault sandbox end x Memory h = tt
+pub found_fault : (format : Format) (sandbox end : ℕ) (x : Item) (f : RewriteFault) → HasItemFault format x f → UnlessMemory (HasFault format sandbox end x) f
+found_fault format sandbox end x (ReservedRegister line) h = h
+found_fault format sandbox end x (Ecall line) h = h
+found_fault format sandbox end x (StackWrite line) h = h
+found_fault format sandbox end x (TooLarge number) h = absurd h
+found_fault format sandbox end x Memory h = tt
 
-pub all_faultless : (items : List Item) (k : ℕ) (code : List Slot) → length items ≤ k → AreFaultless (take k items) code → AreFaultless items code
-all_faultless items k code h f = subst (λ (v : List Item). AreFaultless v code) (take_all k items h) f
+pub all_faultless : (f : Format) (items : List Item) (k : ℕ) (code : List Slot) → length items ≤ k → AreFaultless f (take k items) code → AreFaultless f items code
+all_faultless f items k code h l = subst (λ (v : List Item). AreFaultless f v code) (take_all k items h) l
 
 pub body_at : (items : List Item) (k : ℕ) (x : Item) → k < length items → x ≡ get_or items k x → HaveBodies items → (count : ℕ) × IsBody count x.body
 body_at items k x h e b = subst (λ (y : Item). (count : ℕ) × IsBody count y.body) (sym e) (b k x h)
 
-pub all_labels : (items : List Item) (labels now : List ℕ) (n place : ℕ)
-    → length items ≤ n → n ≤ length items → length labels ≡ n → ((k : ℕ) → k < n → IsLabelAt items k (get_or labels k 0)) → IsLabelAt items n place
-    → now ≡ labels ++ place ∷ [] → AreLabels items now
-all_labels items labels now n place low high l each here e =
+pub all_labels : (f : Format) (items : List Item) (labels now : List ℕ) (n place : ℕ)
+    → length items ≤ n → n ≤ length items → length labels ≡ n → ((k : ℕ) → k < n → IsLabelAt f items k (get_or labels k 0)) → IsLabelAt f items n place
+    → now ≡ labels ++ place ∷ [] → AreLabels f items now
+all_labels f items labels now n place low high l each here e =
     record {
       count = label_count labels now n place l e ∙ (omega arith);
-      each = λ k h. label_push items labels now n place l each here e k (omega arith);
+      each = λ k h. label_push f items labels now n place l each here e k (omega arith);
     }

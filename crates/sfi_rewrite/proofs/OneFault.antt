@@ -13,45 +13,19 @@ use Rattle.rv_text.specs.declared.item.Item.{Item}
 use Rattle.rv_text.specs.declared.item.Body.{Body}
 use Rattle.rv_text.specs.declared.item.Body.TheVariants.{Plain, To, High, Low}
 use Rattle.rv_text.specs.Source.{Sandbox}
+use Rattle.sfi_image.specs.declared.format.Format.{Format}
+use Rattle.sfi_image.specs.Formats.{code_most}
 use Rattle.sfi_rewrite.specs.declared.slot.Slot.{Slot}
 use Rattle.sfi_rewrite.specs.declared.fault.RewriteFault.{RewriteFault}
-use Rattle.sfi_rewrite.specs.declared.fault.RewriteFault.TheVariants.{ReservedRegister, Ecall, TooLarge, Memory}
+use Rattle.sfi_rewrite.specs.declared.fault.RewriteFault.TheVariants.{ReservedRegister, Ecall, TooLarge, Memory, StackWrite}
 use Rattle.sfi_rewrite.specs.Slots.{size_of}
-use Rattle.sfi_rewrite.specs.Expansion.{jump_slots, IsAlone, IsExpansionOf}
 use Rattle.sfi_rewrite.specs.Places.{AreLaidFrom}
 use Rattle.sfi_rewrite.specs.Placement.{Placement}
 use Rattle.sfi_rewrite.specs.Faults.{IsPermitted, AreFaultless, IsTooLarge, HasFault, IsItemFault, IsFaultless, IsSourceFault}
 use Rattle.sfi_rewrite.specs.Rewriting.{IsRewritten}
 use Rattle.sfi_rewrite.proofs.Sizes.{size_of-append}
+use Rattle.sfi_rewrite.proofs.Expansions.{expansion_one}
 use Rattle.sfi_rewrite.proofs.Laid.{laid_split, laid_one_way, next_one_way, size_next}
-
--- ---- an expansion takes bytes
-
-alone_some : (rvc : Bool) (i : Instr) (slots : List Slot) → IsAlone rvc i slots → 0 < size_of slots
-alone_some false i slots e = rw e (omega arith)
-alone_some true i slots e = elim e [ inl s ↦ rw (s.2) (omega arith) | inr w ↦ rw (w.1) (omega arith) ]
-
-jump_some : (rd a : ℕ) (imm : ℤ) (slots : List Slot) → slots ≡ jump_slots rd a imm → 0 < size_of slots
-jump_some rd a (pos zero) slots e = rw e (omega arith)
-jump_some rd a (pos (suc n)) slots e = rw e (omega arith)
-jump_some rd a (negsuc n) slots e = rw e (omega arith)
-
-expansion_some : (line : ℕ) (rvc : Bool) (body : Body) (slots : List Slot) → IsExpansionOf line rvc body slots → 0 < size_of slots
-expansion_some line rvc (Plain (instr.Load kind rd rs1 imm)) slots e = rw e (omega arith)
-expansion_some line rvc (Plain (instr.Store width rs1 rs2 imm)) slots e = rw e (omega arith)
-expansion_some line rvc (Plain (instr.Jalr rd rs1 imm)) slots e = jump_some rd rs1 imm slots e
-expansion_some line rvc (Plain (instr.Op op rd rs1 rs2)) slots e = alone_some rvc (instr.Op op rd rs1 rs2) slots e
-expansion_some line rvc (Plain (instr.OpImm op rd rs1 imm)) slots e = alone_some rvc (instr.OpImm op rd rs1 imm) slots e
-expansion_some line rvc (Plain (instr.Branch cond rs1 rs2 offset)) slots e = alone_some rvc (instr.Branch cond rs1 rs2 offset) slots e
-expansion_some line rvc (Plain (instr.Jal rd offset)) slots e = alone_some rvc (instr.Jal rd offset) slots e
-expansion_some line rvc (Plain (instr.Lui rd imm)) slots e = alone_some rvc (instr.Lui rd imm) slots e
-expansion_some line rvc (Plain (instr.Auipc rd imm)) slots e = alone_some rvc (instr.Auipc rd imm) slots e
-expansion_some line rvc (Plain (instr.Fence imm rd rs1)) slots e = alone_some rvc (instr.Fence imm rd rs1) slots e
-expansion_some line rvc (Plain instr.Ecall) slots e = alone_some rvc instr.Ecall slots e
-expansion_some line rvc (Plain instr.Ebreak) slots e = alone_some rvc instr.Ebreak slots e
-expansion_some line rvc (To i name) slots e = rw e (omega arith)
-expansion_some line rvc (High rd name) slots e = rw e (omega arith)
-expansion_some line rvc (Low rd name) slots e = rw e (omega arith)
 
 -- ---- items
 
@@ -59,34 +33,42 @@ both_ways : (b : Bool) → b ≡ true → b ≡ false → ⊥
 both_ways b t f = let e : true ≡ false = sym t ∙ f in cc
 
 -- an item has one fault
-fault_one_way : (sandbox end : ℕ) (x : Item) (f g : RewriteFault) → HasFault sandbox end x f → HasFault sandbox end x g → f ≡ g
-fault_one_way sandbox end x (ReservedRegister line) (ReservedRegister other) h k = ap ReservedRegister (h.1 ∙ sym k.1)
-fault_one_way sandbox end x (ReservedRegister line) (Ecall other) h k = absurd (both_ways _ h.0 k.0)
-fault_one_way sandbox end x (ReservedRegister line) (TooLarge number) h k = absurd (both_ways _ h.0 k.0.operands)
-fault_one_way sandbox end x (Ecall line) (ReservedRegister other) h k = absurd (both_ways _ k.0 h.0)
-fault_one_way sandbox end x (Ecall line) (Ecall other) h k = ap Ecall (h.2 ∙ sym k.2)
-fault_one_way sandbox end x (Ecall line) (TooLarge number) h k = absurd (both_ways _ h.1 k.0.no_ecall)
-fault_one_way sandbox end x (TooLarge number) (ReservedRegister other) h k = absurd (both_ways _ k.0 h.0.operands)
-fault_one_way sandbox end x (TooLarge number) (Ecall other) h k = absurd (both_ways _ k.1 h.0.no_ecall)
-fault_one_way sandbox end x (TooLarge number) (TooLarge other) h k = ap TooLarge (h.2 ∙ sym k.2)
-fault_one_way sandbox end x (ReservedRegister line) Memory h k = absurd k
-fault_one_way sandbox end x (Ecall line) Memory h k = absurd k
-fault_one_way sandbox end x (TooLarge number) Memory h k = absurd k
-fault_one_way sandbox end x Memory g h k = absurd h
+fault_one_way : (format : Format) (sandbox end : ℕ) (x : Item) (f g : RewriteFault) → HasFault format sandbox end x f → HasFault format sandbox end x g → f ≡ g
+fault_one_way format sandbox end x (ReservedRegister line) (ReservedRegister other) h k = ap ReservedRegister (h.1 ∙ sym k.1)
+fault_one_way format sandbox end x (ReservedRegister line) (Ecall other) h k = absurd (both_ways _ h.0 k.0)
+fault_one_way format sandbox end x (ReservedRegister line) (TooLarge number) h k = absurd (both_ways _ h.0 k.0.operands)
+fault_one_way format sandbox end x (Ecall line) (ReservedRegister other) h k = absurd (both_ways _ k.0 h.0)
+fault_one_way format sandbox end x (Ecall line) (Ecall other) h k = ap Ecall (h.2 ∙ sym k.2)
+fault_one_way format sandbox end x (Ecall line) (TooLarge number) h k = absurd (both_ways _ h.1 k.0.no_ecall)
+fault_one_way format sandbox end x (TooLarge number) (ReservedRegister other) h k = absurd (both_ways _ k.0 h.0.operands)
+fault_one_way format sandbox end x (TooLarge number) (Ecall other) h k = absurd (both_ways _ k.1 h.0.no_ecall)
+fault_one_way format sandbox end x (TooLarge number) (TooLarge other) h k = ap TooLarge (h.2 ∙ sym k.2)
+fault_one_way format sandbox end x (ReservedRegister line) Memory h k = absurd k
+fault_one_way format sandbox end x (Ecall line) Memory h k = absurd k
+fault_one_way format sandbox end x (TooLarge number) Memory h k = absurd k
+fault_one_way format sandbox end x (StackWrite line) (ReservedRegister other) h k = absurd (both_ways _ k.0 h.0)
+fault_one_way format sandbox end x (StackWrite line) (Ecall other) h k = absurd (both_ways _ k.1 h.1)
+fault_one_way format sandbox end x (StackWrite line) (StackWrite other) h k = ap StackWrite (h.3 ∙ sym k.3)
+fault_one_way format sandbox end x (StackWrite line) (TooLarge number) h k = absurd (both_ways _ h.2 k.0.no_stack_write)
+fault_one_way format sandbox end x (StackWrite line) Memory h k = absurd k
+fault_one_way format sandbox end x (ReservedRegister line) (StackWrite other) h k = absurd (both_ways _ h.0 k.0)
+fault_one_way format sandbox end x (Ecall line) (StackWrite other) h k = absurd (both_ways _ h.1 k.1)
+fault_one_way format sandbox end x (TooLarge number) (StackWrite other) h k = absurd (both_ways _ k.2 h.0.no_stack_write)
+fault_one_way format sandbox end x Memory g h k = absurd h
 
 -- no item of some without a fault is too large
-fits_at : OneFirstForm → (items : List Item) (slots before : List Slot) (k : ℕ) (x : Item)
-    → AreFaultless items slots → k < length items → get_or items k x ≡ x → AreLaidFrom 0 (take k items) before → IsTooLarge (size_of before) x → ⊥
-fits_at law items slots before k x f h at b t =
-    let s = laid_split 0 items k slots f.laid in
-    let same : s.front ≡ before = laid_one_way law 0 (take k items) s.front before s.before b in
+fits_at : OneFirstForm → (format : Format) (items : List Item) (slots before : List Slot) (k : ℕ) (x : Item)
+    → AreFaultless format items slots → k < length items → get_or items k x ≡ x → AreLaidFrom format 0 (take k items) before → IsTooLarge format (size_of before) x → ⊥
+fits_at law format items slots before k x f h at b t =
+    let s = laid_split format 0 items k slots f.laid in
+    let same : s.front ≡ before = laid_one_way law format 0 (take k items) s.front before s.before b in
     let from : drop k items ≡ x ∷ drop (suc k) items = drop-cons items k x h ∙ ap (λ y. y ∷ drop (suc k) items) at in
-    let behind : AreLaidFrom (size_of before) (x ∷ drop (suc k) items) s.back =
-    subst (λ (n : ℕ). AreLaidFrom n (x ∷ drop (suc k) items) s.back) (let z = ap size_of same in let g : 0 + size_of s.front ≡ size_of before = omega arith in g)
-    (subst (λ (v : List Item). AreLaidFrom (0 + size_of s.front) v s.back) from s.behind) in
-    let next = next_one_way law (size_of before) x behind.0 t.nops behind.1 t.expanded behind.3 t.next in
+    let behind : AreLaidFrom format (size_of before) (x ∷ drop (suc k) items) s.back =
+    subst (λ (n : ℕ). AreLaidFrom format n (x ∷ drop (suc k) items) s.back) (let z = ap size_of same in let g : 0 + size_of s.front ≡ size_of before = omega arith in g)
+    (subst (λ (v : List Item). AreLaidFrom format (0 + size_of s.front) v s.back) from s.behind) in
+    let next = next_one_way law format (size_of before) x behind.0 t.nops behind.1 t.expanded behind.3 t.next in
     let nops = next.nops in
-    let some = expansion_some x.line x.rvc x.body behind.1 behind.3.expansion in
+    let some = (expansion_one format x behind.1 behind.3.expansion).some in
     let all = ap size_of s.both ∙ size_of-append s.front s.back in
     let rest = ap size_of behind.4 ∙ size_next behind.0 behind.1 behind.2 in
     let e = ap size_of same in
@@ -94,45 +76,47 @@ fits_at law items slots before k x f h at b t =
     let beyond = t.beyond in
     omega arith
 
-no_fault_in : OneFirstForm → (sandbox : ℕ) (items : List Item) (slots before : List Slot) (k : ℕ) (x : Item) (f : RewriteFault)
-    → AreFaultless items slots → k < length items → get_or items k x ≡ x → AreLaidFrom 0 (take k items) before → HasFault sandbox (size_of before) x f → ⊥
-no_fault_in law sandbox items slots before k x (ReservedRegister line) a h at b f =
-    both_ways _ f.0 (subst (λ (y : Item). IsPermitted y) at (a.permitted k x h)).operands
-no_fault_in law sandbox items slots before k x (Ecall line) a h at b f = both_ways _ f.1 (subst (λ (y : Item). IsPermitted y) at (a.permitted k x h)).no_ecall
-no_fault_in law sandbox items slots before k x (TooLarge number) a h at b f = fits_at law items slots before k x a h at b f.1
-no_fault_in law sandbox items slots before k x Memory a h at b f = f
+no_fault_in : OneFirstForm → (format : Format) (sandbox : ℕ) (items : List Item) (slots before : List Slot) (k : ℕ) (x : Item) (f : RewriteFault)
+    → AreFaultless format items slots → k < length items → get_or items k x ≡ x → AreLaidFrom format 0 (take k items) before → HasFault format sandbox (size_of before) x f → ⊥
+no_fault_in law format sandbox items slots before k x (ReservedRegister line) a h at b f =
+    both_ways _ f.0 (subst (λ (y : Item). IsPermitted format y) at (a.permitted k x h)).operands
+no_fault_in law format sandbox items slots before k x (Ecall line) a h at b f = both_ways _ f.1 (subst (λ (y : Item). IsPermitted format y) at (a.permitted k x h)).no_ecall
+no_fault_in law format sandbox items slots before k x (StackWrite line) a h at b f =
+    both_ways _ f.2 (subst (λ (y : Item). IsPermitted format y) at (a.permitted k x h)).no_stack_write
+no_fault_in law format sandbox items slots before k x (TooLarge number) a h at b f = fits_at law format items slots before k x a h at b f.1
+no_fault_in law format sandbox items slots before k x Memory a h at b f = f
 
 -- a fault's item doesn't stand before what has no fault
-item_before : OneFirstForm → (sandbox : ℕ) (items : List Item) (f : RewriteFault) (j : ℕ) (slots : List Slot)
-    → (a : IsItemFault sandbox items f) → AreFaultless (take j items) slots → a.index < j → j ≤ length items → ⊥
-item_before law sandbox items f j slots a g low high =
+item_before : OneFirstForm → (format : Format) (sandbox : ℕ) (items : List Item) (f : RewriteFault) (j : ℕ) (slots : List Slot)
+    → (a : IsItemFault format sandbox items f) → AreFaultless format (take j items) slots → a.index < j → j ≤ length items → ⊥
+item_before law format sandbox items f j slots a g low high =
     let l = length-take-le j items high in
-    no_fault_in law sandbox (take j items) slots a.before a.index a.item f g (omega arith) (get_or-take j items a.index a.item low ∙ get_or_from_slice_get items a.index a.item a.item a.at)
-    (subst (λ (v : List Item). AreLaidFrom 0 v a.before) (sym (take-take a.index j items (omega arith))) a.faultless.laid) a.has
+    no_fault_in law format sandbox (take j items) slots a.before a.index a.item f g (omega arith) (get_or-take j items a.index a.item low ∙ get_or_from_slice_get items a.index a.item a.item a.at)
+    (subst (λ (v : List Item). AreLaidFrom format 0 v a.before) (sym (take-take a.index j items (omega arith))) a.faultless.laid) a.has
 
-pub item_fault_one_way : OneFirstForm → (sandbox : ℕ) (items : List Item) (f g : RewriteFault) → IsItemFault sandbox items f → IsItemFault sandbox items g → f ≡ g
-item_fault_one_way law sandbox items f g a b =
+pub item_fault_one_way : OneFirstForm → (format : Format) (sandbox : ℕ) (items : List Item) (f g : RewriteFault) → IsItemFault format sandbox items f → IsItemFault format sandbox items g → f ≡ g
+item_fault_one_way law format sandbox items f g a b =
     elim (cases_order a.index b.index) [
       | inl e ↦
           let i : Some a.item ≡ Some b.item = sym a.at ∙ ap (λ (k : ℕ). slice_get items k) e ∙ b.at in
           let x : a.item ≡ b.item = cc in
-          let l : AreLaidFrom 0 (take b.index items) a.before = subst (λ (k : ℕ). AreLaidFrom 0 (take k items) a.before) e a.faultless.laid in
-          let same : a.before ≡ b.before = laid_one_way law 0 (take b.index items) a.before b.before l b.faultless.laid in
-          fault_one_way sandbox (size_of b.before) b.item f g
-          (subst (λ (y : Item). HasFault sandbox (size_of b.before) y f) x (subst (λ (v : List Slot). HasFault sandbox (size_of v) a.item f) same a.has)) b.has
+          let l : AreLaidFrom format 0 (take b.index items) a.before = subst (λ (k : ℕ). AreLaidFrom format 0 (take k items) a.before) e a.faultless.laid in
+          let same : a.before ≡ b.before = laid_one_way law format 0 (take b.index items) a.before b.before l b.faultless.laid in
+          fault_one_way format sandbox (size_of b.before) b.item f g
+          (subst (λ (y : Item). HasFault format sandbox (size_of b.before) y f) x (subst (λ (v : List Slot). HasFault format sandbox (size_of v) a.item f) same a.has)) b.has
       | inr other ↦
           let m = slice_get_within items a.index a.item a.at in
           let n = slice_get_within items b.index b.item b.at in
           elim other [
-            | inl low ↦ absurd (item_before law sandbox items f b.index b.before a b.faultless low (omega arith))
-            | inr low ↦ absurd (item_before law sandbox items g a.index a.before b a.faultless low (omega arith))
+            | inl low ↦ absurd (item_before law format sandbox items f b.index b.before a b.faultless low (omega arith))
+            | inr low ↦ absurd (item_before law format sandbox items g a.index a.before b a.faultless low (omega arith))
           ]
     ]
 
-pub faultless_has_none : OneFirstForm → (sandbox : ℕ) (s : Sandbox) (f : RewriteFault) → IsFaultless s → IsItemFault sandbox s.items f → ⊥
+pub faultless_has_none : OneFirstForm → (sandbox : ℕ) (s : Sandbox) (f : RewriteFault) → IsFaultless s → IsItemFault s.format sandbox s.items f → ⊥
 faultless_has_none law sandbox s f l a =
-    let all = subst (λ (v : List Item). AreFaultless v l.slots) (sym (take_all (length s.items) s.items (omega arith))) l.items in
-    item_before law sandbox s.items f (length s.items) l.slots a all (slice_get_within s.items a.index a.item a.at) (omega arith)
+    let all = subst (λ (v : List Item). AreFaultless s.format v l.slots) (sym (take_all (length s.items) s.items (omega arith))) l.items in
+    item_before law s.format sandbox s.items f (length s.items) l.slots a all (slice_get_within s.items a.index a.item a.at) (omega arith)
 
 -- ---- sandboxes
 
@@ -148,8 +132,8 @@ source_fault_one_way law source f g a b =
       | inl e ↦
           let i : Some a.sandbox ≡ Some b.sandbox = sym a.at ∙ ap (λ (k : ℕ). slice_get source k) e ∙ b.at in
           let s : a.sandbox ≡ b.sandbox = cc in
-          item_fault_one_way law b.number b.sandbox.items f g
-          (subst (λ (n : ℕ). IsItemFault n b.sandbox.items f) e (subst (λ (v : Sandbox). IsItemFault a.number v.items f) s a.has)) b.has
+          item_fault_one_way law b.sandbox.format b.number b.sandbox.items f g
+          (subst (λ (n : ℕ). IsItemFault b.sandbox.format n b.sandbox.items f) e (subst (λ (v : Sandbox). IsItemFault v.format a.number v.items f) s a.has)) b.has
       | inr other ↦
           let m = slice_get_within source a.number a.sandbox a.at in
           let n = slice_get_within source b.number b.sandbox b.at in

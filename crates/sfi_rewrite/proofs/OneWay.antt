@@ -7,6 +7,7 @@ use Rattle.rv_text.specs.declared.item.Named.{Named}
 use Rattle.rv_text.specs.declared.item.Named.TheVariants.{Gate, Code, Data, Unknown}
 use Rattle.rv_text.specs.declared.item.SourceGate.{SourceGate}
 use Rattle.rv_text.specs.Source.{Sandbox, named}
+use Rattle.sfi_image.specs.declared.format.Format.{Format}
 use Rattle.sfi_rewrite.specs.declared.slot.Slot.{Slot}
 use Rattle.sfi_rewrite.specs.declared.placed.PlacedName.{PlacedName}
 use Rattle.sfi_rewrite.specs.declared.placed.PlacedName.TheVariants as placed
@@ -98,22 +99,22 @@ bundles_one_way (b ∷ bs) (c ∷ cs) h g e =
 
 -- ---- names
 
-name_one_way : OneFirstForm → (items : List Item) (n : Named) (a b : PlacedName) → IsPlacedName items n a → IsPlacedName items n b → a ≡ b
-name_one_way law items (Gate k) a b x y = x ∙ sym y
-name_one_way law items (Code k) a b x y =
-    let same = laid_one_way law 0 (take k items) x.1.0 y.1.0 x.1.1 y.1.1 in
+name_one_way : OneFirstForm → (f : Format) (items : List Item) (n : Named) (a b : PlacedName) → IsPlacedName f items n a → IsPlacedName f items n b → a ≡ b
+name_one_way law f items (Gate k) a b x y = x ∙ sym y
+name_one_way law f items (Code k) a b x y =
+    let same = laid_one_way law f 0 (take k items) x.1.0 y.1.0 x.1.1 y.1.1 in
     x.2 ∙ ap placed.Code (x.1.2 ∙ ap (λ v. next_bundle (size_of v)) same ∙ sym y.1.2) ∙ sym y.2
-name_one_way law items (Data offset) a b x y = x ∙ sym y
-name_one_way law items Unknown a b x y = x ∙ sym y
+name_one_way law f items (Data offset) a b x y = x ∙ sym y
+name_one_way law f items Unknown a b x y = x ∙ sym y
 
-names_one_way : OneFirstForm → (items : List Item) (names : List Named) (a b : List PlacedName) → AllZip (IsPlacedName items) names a → AllZip (IsPlacedName items) names b → a ≡ b
-names_one_way law items [] [] [] x y = refl
-names_one_way law items [] [] (n ∷ b) x y = absurd y
-names_one_way law items [] (m ∷ a) b x y = absurd x
-names_one_way law items (i ∷ names) [] b x y = absurd x
-names_one_way law items (i ∷ names) (m ∷ a) [] x y = absurd y
-names_one_way law items (i ∷ names) (m ∷ a) (n ∷ b) x y =
-    ap (λ v. v ∷ a) (name_one_way law items i m n x.0 y.0) ∙ ap (λ v. n ∷ v) (names_one_way law items names a b x.1 y.1)
+names_one_way : OneFirstForm → (f : Format) (items : List Item) (names : List Named) (a b : List PlacedName) → AllZip (IsPlacedName f items) names a → AllZip (IsPlacedName f items) names b → a ≡ b
+names_one_way law f items [] [] [] x y = refl
+names_one_way law f items [] [] (n ∷ b) x y = absurd y
+names_one_way law f items [] (m ∷ a) b x y = absurd x
+names_one_way law f items (i ∷ names) [] b x y = absurd x
+names_one_way law f items (i ∷ names) (m ∷ a) [] x y = absurd y
+names_one_way law f items (i ∷ names) (m ∷ a) (n ∷ b) x y =
+    ap (λ v. v ∷ a) (name_one_way law f items i m n x.0 y.0) ∙ ap (λ v. n ∷ v) (names_one_way law f items names a b x.1 y.1)
 
 -- ---- placements
 
@@ -123,20 +124,21 @@ end_one_way end labelled m n a b =
     let down = b.fewest m a.enough in
     omega arith
 
-same_placement : (p q : Placement) → p.data_size ≡ q.data_size → p.gates ≡ q.gates → p.names ≡ q.names → p.bytes ≡ q.bytes → p.bundles ≡ q.bundles → p ≡ q
-same_placement p q d g n b c =
-    ap (λ (v : ℕ). record p { data_size = v }) d
-    ∙ ap (λ (v : List SourceGate). record p { data_size = q.data_size; gates = v }) g
-    ∙ ap (λ (v : List PlacedName). record p { data_size = q.data_size; gates = q.gates; names = v }) n
-    ∙ ap (λ (v : List ℕ). record p { data_size = q.data_size; gates = q.gates; names = q.names; bytes = v }) b
+same_placement : (p q : Placement) → p.format ≡ q.format → p.data_size ≡ q.data_size → p.gates ≡ q.gates → p.names ≡ q.names → p.bytes ≡ q.bytes → p.bundles ≡ q.bundles → p ≡ q
+same_placement p q f d g n b c =
+    ap (λ (v : Format). record p { format = v }) f
+    ∙ ap (λ (v : ℕ). record p { format = q.format; data_size = v }) d
+    ∙ ap (λ (v : List SourceGate). record p { format = q.format; data_size = q.data_size; gates = v }) g
+    ∙ ap (λ (v : List PlacedName). record p { format = q.format; data_size = q.data_size; gates = q.gates; names = v }) n
+    ∙ ap (λ (v : List ℕ). record p { format = q.format; data_size = q.data_size; gates = q.gates; names = q.names; bytes = v }) b
     ∙ ap (λ (v : List (List Slot)). record q { bundles = v }) c
 
 pub placement_one_way : OneFirstForm → (s : Sandbox) (p q : Placement) → IsPlacement s p → IsPlacement s q → p ≡ q
 placement_one_way law s p q a b =
-    let slots = laid_one_way law 0 s.items a.slots b.slots a.laid b.laid in
+    let slots = laid_one_way law s.format 0 s.items a.slots b.slots a.laid b.laid in
     let nops = end_one_way (size_of b.slots) (HasEndLabel s) a.nops b.nops (subst (λ (v : List Slot). FillsEnd (size_of v) (HasEndLabel s) a.nops) slots a.end) b.end in
     let code = a.code ∙ ap (λ (v : List Slot). v ++ replicate a.nops c_nop) slots ∙ ap (λ (n : ℕ). b.slots ++ replicate n c_nop) nops ∙ sym b.code in
-    same_placement p q (a.data_size ∙ sym b.data_size) (a.gates ∙ sym b.gates) (names_one_way law s.items (named s) p.names q.names a.names b.names)
+    same_placement p q (a.format ∙ sym b.format) (a.data_size ∙ sym b.data_size) (a.gates ∙ sym b.gates) (names_one_way law s.format s.items (named s) p.names q.names a.names b.names)
     (a.bytes ∙ sym b.bytes) (bundles_one_way p.bundles q.bundles a.bundles b.bundles code)
 
 pub rewriting_one_way : OneFirstForm → (source : List Sandbox) (a b : List Placement) → AllZip IsRewritten source a → AllZip IsRewritten source b → a ≡ b

@@ -31,17 +31,17 @@ each_there s h = All-map (IsThere s) (λ e. e.1) s.names (λ k d l. (h.names k d
 pub there_at : (s : Sandbox) (k : ℕ) (n : Named) → IsSandbox s → k < length (named s) → n ≡ get_or (named s) k n → IsThere s n
 there_at s k n h l e = subst (λ (m : Named). IsThere s m) (sym e) (each_there s h k n l)
 
-has_label : (s : Sandbox) (labels : List ℕ) (n : Named) → AreLabels s.items labels → IsThere s n → HasLabel (length labels) n
+has_label : (s : Sandbox) (labels : List ℕ) (n : Named) → AreLabels s.format s.items labels → IsThere s n → HasLabel (length labels) n
 has_label s labels (Gate k) a t = tt
 has_label s labels (Code k) a t = let c = a.count in omega arith
 has_label s labels (Data offset) a t = tt
 has_label s labels Unknown a t = tt
 
 pub label_at : (s : Sandbox) (labels : List ℕ) (k : ℕ) (n : Named) (found : Option Named)
-    → IsSandbox s → AreLabels s.items labels → k < length (named s) → found ≡ slice_get (named s) k → found ≡ Some n → HasLabel (length labels) n
+    → IsSandbox s → AreLabels s.format s.items labels → k < length (named s) → found ≡ slice_get (named s) k → found ≡ Some n → HasLabel (length labels) n
 label_at s labels k n found h a l e f = has_label s labels n a (there_at s k n h l (name_at (named s) k n found l e f))
 
-is_placed_name : (s : Sandbox) (labels : List ℕ) (n : Named) → AreLabels s.items labels → IsThere s n → IsPlacedName s.items n (placed_of labels n)
+is_placed_name : (s : Sandbox) (labels : List ℕ) (n : Named) → AreLabels s.format s.items labels → IsThere s n → IsPlacedName s.format s.items n (placed_of labels n)
 is_placed_name s labels (Gate k) a t = refl
 is_placed_name s labels (Code k) a t = (slice_index labels k, a.each k t, refl)
 is_placed_name s labels (Data offset) a t = refl
@@ -49,11 +49,11 @@ is_placed_name s labels Unknown a t = refl
 
 -- one more name
 pub names_push : (s : Sandbox) (labels : List ℕ) (k : ℕ) (n : Named) (found : Option Named) (names now : List PlacedName) (name : PlacedName)
-    → IsSandbox s → AreLabels s.items labels → k < length (named s) → found ≡ slice_get (named s) k → found ≡ Some n
-    → AllZip (IsPlacedName s.items) (take k (named s)) names → name ≡ placed_of labels n → now ≡ names ++ name ∷ []
-    → AllZip (IsPlacedName s.items) (take (k + 1) (named s)) now
+    → IsSandbox s → AreLabels s.format s.items labels → k < length (named s) → found ≡ slice_get (named s) k → found ≡ Some n
+    → AllZip (IsPlacedName s.format s.items) (take k (named s)) names → name ≡ placed_of labels n → now ≡ names ++ name ∷ []
+    → AllZip (IsPlacedName s.format s.items) (take (k + 1) (named s)) now
 names_push s labels k n found names now name h a l e f z g w =
     let at = name_at (named s) k n found l e f in
     let more : take (k + 1) (named s) ≡ take k (named s) ++ n ∷ [] = take_more (named s) k n l ∙ ap (λ m. take k (named s) ++ m ∷ []) (sym at) in
-    let is : IsPlacedName s.items n name = subst (λ (m : PlacedName). IsPlacedName s.items n m) (sym g) (is_placed_name s labels n a (there_at s k n h l at)) in
-    rw (more, w) (zip_push (IsPlacedName s.items) (take k (named s)) names n name z is)
+    let is : IsPlacedName s.format s.items n name = subst (λ (m : PlacedName). IsPlacedName s.format s.items n m) (sym g) (is_placed_name s labels n a (there_at s k n h l at)) in
+    rw (more, w) (zip_push (IsPlacedName s.format s.items) (take k (named s)) names n name z is)

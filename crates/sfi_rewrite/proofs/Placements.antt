@@ -17,6 +17,8 @@ use Rattle.rv_text.specs.declared.item.Named.{Named}
 use Rattle.rv_text.specs.declared.item.Named.TheVariants.{Gate, Code, Data, Unknown}
 use Rattle.rv_text.specs.declared.item.SourceGate.{SourceGate}
 use Rattle.rv_text.specs.Source.{Sandbox, IsSandbox, IsThere, IsBody, named}
+use Rattle.sfi_image.specs.declared.format.Format.{Format}
+use Rattle.sfi_image.specs.Formats.{code_most}
 use Rattle.sfi_rewrite.specs.declared.slot.Slot.{Slot}
 use Rattle.sfi_rewrite.specs.declared.placed.PlacedName.{PlacedName}
 use Rattle.sfi_rewrite.specs.Slots.{size_of, slots_of, c_nop}
@@ -28,6 +30,8 @@ use Rattle.sfi_rewrite.specs.Faults.{AreFaultless}
 use Rattle.sfi_rewrite.specs.Rewriting.{IsRewritten}
 use Rattle.sfi_rewrite.proofs.Sizes.{size_of-append, size_nops, size_even}
 use Rattle.sfi_rewrite.proofs.Laid.{laid_split, laid_one_way, size_next}
+use Rattle.sfi_rewrite.proofs.OneByOne.{whole_bundles}
+use Rattle.sfi_rewrite.proofs.Whole.{laid_whole}
 use Rattle.sfi_rewrite.proofs.KnownSlots.{IsKnown, nops_known, laid_known}
 use Rattle.sfi_rewrite.proofs.PlacedNames.{each_there}
 
@@ -56,41 +60,41 @@ end_size slots code nops e =
     omega arith
 
 -- a label before an item stands no later than its expansion
-label_before : OneFirstForm → (items : List Item) (slots before : List Slot) (k place : ℕ)
-    → AreLaid items slots → k < length items → IsTrue (get_or items k other_item).labelled → AreLaid (take k items) before → place ≡ next_bundle (size_of before) → Within place (size_of slots)
-label_before law items slots before k place l h labelled b p =
-    let s = laid_split 0 items k slots l in
-    let same : s.front ≡ before = laid_one_way law 0 (take k items) s.front before s.before b in
+label_before : OneFirstForm → (f : Format) (items : List Item) (slots before : List Slot) (k place : ℕ)
+    → AreLaid f items slots → k < length items → IsTrue (get_or items k other_item).labelled → AreLaid f (take k items) before → place ≡ next_bundle (size_of before) → Within place (size_of slots)
+label_before law f items slots before k place l h labelled b p =
+    let s = laid_split f 0 items k slots l in
+    let same : s.front ≡ before = laid_one_way law f 0 (take k items) s.front before s.before b in
     let x = get_or items k other_item in
-    let behind : AreLaidFrom (0 + size_of s.front) (x ∷ drop (suc k) items) s.back = subst (λ (v : List Item). AreLaidFrom (0 + size_of s.front) v s.back) (drop-cons items k other_item h) s.behind in
+    let behind : AreLaidFrom f (0 + size_of s.front) (x ∷ drop (suc k) items) s.back = subst (λ (v : List Item). AreLaidFrom f (0 + size_of s.front) v s.back) (drop-cons items k other_item h) s.behind in
     let starts = behind.3.gap.stands.at_label labelled in
     let all = ap size_of s.both ∙ size_of-append s.front s.back in
     let rest = ap size_of behind.4 ∙ size_next behind.0 behind.1 behind.2 in
-    let f = ap size_of same in
+    let g = ap size_of same in
     record { aligned = omega arith; below = omega arith }
 
 -- a label at the end of the code stands no later than the fill
 label_last : OneFirstForm → (s : Sandbox) (slots before : List Slot) (nops k place : ℕ)
-    → AreLaid s.items slots → length s.items ≤ k → k ≤ length s.items → Contains (named s) (Code k) → FillsEnd (size_of slots) (HasEndLabel s) nops
-    → AreLaid (take k s.items) before → place ≡ next_bundle (size_of before) → Within place (size_of slots + 2 * nops)
+    → AreLaid s.format s.items slots → length s.items ≤ k → k ≤ length s.items → Contains (named s) (Code k) → FillsEnd (size_of slots) (HasEndLabel s) nops
+    → AreLaid s.format (take k s.items) before → place ≡ next_bundle (size_of before) → Within place (size_of slots + 2 * nops)
 label_last law s slots before nops k place l low high c end b p =
     let at : k ≡ length s.items = omega arith in
     let has : HasEndLabel s = subst (λ (m : ℕ). Contains (named s) (Code m)) at c in
     let e : take k s.items ≡ s.items = take_all k s.items low in
-    let same : before ≡ slots = laid_one_way law 0 s.items before slots (subst (λ (v : List Item). AreLaid v before) e b) l in
+    let same : before ≡ slots = laid_one_way law s.format 0 s.items before slots (subst (λ (v : List Item). AreLaid s.format v before) e b) l in
     let f = ap size_of same in
     let enough = end.enough has in
     record { aligned = omega arith; below = omega arith }
 
 label_within : OneFirstForm → (s : Sandbox) (slots : List Slot) (nops k place : ℕ)
-    → IsSandbox s → AreLaid s.items slots → FillsEnd (size_of slots) (HasEndLabel s) nops → k ≤ length s.items → Contains (named s) (Code k) → IsLabelAt s.items k place
+    → IsSandbox s → AreLaid s.format s.items slots → FillsEnd (size_of slots) (HasEndLabel s) nops → k ≤ length s.items → Contains (named s) (Code k) → IsLabelAt s.format s.items k place
     → Within place (size_of slots + 2 * nops)
 label_within law s slots nops k place h l end high c at =
     elim (cases_lt k (length s.items)) [
       | inl low ↦
           let x = get_or s.items k other_item in
           let is = h.items k x (slice_get-get_or s.items k other_item low) in
-          let w = label_before law s.items slots at.0 k place l low (is.labelled.1 c) at.1 at.2 in
+          let w = label_before law s.format s.items slots at.0 k place l low (is.labelled.1 c) at.1 at.2 in
           let b = w.below in
           record { aligned = w.aligned; below = omega arith }
       | inr low ↦ label_last law s slots at.0 nops k place l low high c end at.1 at.2
@@ -103,8 +107,8 @@ record IsNameOf (s : Sandbox) (n : Named) : Type 0 where
   contained : Contains (named s) n
 
 name_there : OneFirstForm → (s : Sandbox) (p : Placement) (slots : List Slot) (nops : ℕ) (n : Named) (m : PlacedName)
-    → IsSandbox s → AreLaid s.items slots → FillsEnd (size_of slots) (HasEndLabel s) nops → slots_of p.bundles ≡ slots ++ replicate nops c_nop
-    → p.gates ≡ s.gates → p.bytes ≡ s.bytes → IsNameOf s n → IsPlacedName s.items n m → IsPlacedThere p m
+    → IsSandbox s → AreLaid s.format s.items slots → FillsEnd (size_of slots) (HasEndLabel s) nops → slots_of p.bundles ≡ slots ++ replicate nops c_nop
+    → p.gates ≡ s.gates → p.bytes ≡ s.bytes → IsNameOf s n → IsPlacedName s.format s.items n m → IsPlacedThere p m
 name_there law s p slots nops (Gate k) m h l end e g b n is = rw is (rw g (n.there))
 name_there law s p slots nops (Code k) m h l end e g b n is =
     let w = label_within law s slots nops k is.0 h l end n.there n.contained is.1 in
@@ -133,46 +137,49 @@ zip_at : {A B : Type 0} (R : A → B → Type 0) (xs : List A) (ys : List B) (k 
 zip_at {A} {B} R xs ys k x z e =
     some_at (slice_get ys k) (R x) (subst (λ (o : Option A). MatchOption o (Unit {0}) (λ v. IsSomeAnd (slice_get ys k) (R v))) e (AllZip-left R xs ys z k))
 
-gate_in : (s : Sandbox) (p : Placement) (k : ℕ) (g : SourceGate) → IsSandbox s → AllZip (IsPlacedName s.items) (named s) p.names → slice_get s.gates k ≡ Some g → IsPlacedGate p k g
+gate_in : (s : Sandbox) (p : Placement) (k : ℕ) (g : SourceGate) → IsSandbox s → AllZip (IsPlacedName s.format s.items) (named s) p.names → slice_get s.gates k ≡ Some g → IsPlacedGate p k g
 gate_in s p k g h z e =
     let is = h.gates k g e in
-    let at = zip_at (IsPlacedName s.items) (named s) p.names g.name (Gate k) z is.name in
+    let at = zip_at (IsPlacedName s.format s.items) (named s) p.names g.name (Gate k) z is.name in
     record { service = is.service; name = at.1 ∙ ap Some at.2 }
 
 -- ---- all of it
 
-end_fits : (slots : List Slot) (labelled : Type 0) (nops : ℕ) → FillsEnd (size_of slots) labelled nops → size_of slots ≤ 65536 → size_of slots + 2 * nops ≤ 65536
-end_fits slots labelled nops f h =
+end_fits : (format : Format) (slots : List Slot) (labelled : Type 0) (nops : ℕ) → FillsEnd (size_of slots) labelled nops → size_of slots ≤ code_most format → size_of slots + 2 * nops ≤ code_most format
+end_fits format slots labelled nops f h =
     let even = size_even slots in
+    let most = whole_bundles format in
     let n = (next_bundle (size_of slots) - size_of slots) / 2 in
     let few = f.fewest n (λ _. omega arith) in
     omega arith
 
-pub placed_part : OneFirstForm → (s : Sandbox) (p : Placement) → IsSandbox s → IsRewritten s p → All AreWhole p.bundles → IsPlacedPart p
-placed_part law s p h r w =
+pub placed_part : OneFirstForm → (s : Sandbox) (p : Placement) → IsSandbox s → IsRewritten s p → IsPlacedPart p
+placed_part law s p h r =
     let is = r.placement in
     let all = r.faultless in
-    let same : is.slots ≡ all.slots = laid_one_way law 0 s.items is.slots all.slots is.laid all.items.laid in
+    let same : is.slots ≡ all.slots = laid_one_way law s.format 0 s.items is.slots all.slots is.laid all.items.laid in
     let fits = all.items.fits in
     let size = end_size is.slots (slots_of p.bundles) is.nops is.code in
-    let end = end_fits is.slots (HasEndLabel s) is.nops is.end (let z = ap size_of same in omega arith) in
+    let end = end_fits s.format is.slots (HasEndLabel s) is.nops is.end (let z = ap size_of same in omega arith) in
     let count = length p.names in
-    let counted : length s.names ≡ count = sym (AllZip-long (IsPlacedName s.items) (named s) p.names is.names ∙ length-map s.names (λ e. e.1)) in
+    let counted : length s.names ≡ count = sym (AllZip-long (IsPlacedName s.format s.items) (named s) p.names is.names ∙ length-map s.names (λ e. e.1)) in
     let bodies : All (λ x. IsBody count x.body) s.items = subst (λ (n : ℕ). All (λ x. IsBody n x.body) s.items) counted (bodies_in s h) in
     let known : All (IsKnown count) (slots_of p.bundles) =
-    rw (is.code) (All-append (IsKnown count) is.slots (replicate is.nops c_nop) (laid_known count 0 s.items is.slots is.laid bodies) (nops_known count is.nops)) in
+    rw (is.code) (All-append (IsKnown count) is.slots (replicate is.nops c_nop) (laid_known s.format count 0 s.items is.slots is.laid bodies) (nops_known count is.nops)) in
     record {
       data_size = rw (is.data_size) h.data_size;
       gate_count = rw (is.gates) h.gate_count;
       gates = λ k g e. gate_in s p k g h is.names (ap (λ v. slice_get v k) (sym is.gates) ∙ e);
       names =
-          zip_all (IsPlacedName s.items) (IsNameOf s) (IsPlacedThere p) (named s) p.names is.names (names_of s h)
+          zip_all (IsPlacedName s.format s.items) (IsNameOf s) (IsPlacedThere p) (named s) p.names is.names (names_of s h)
           (λ n m of at. name_there law s p is.slots is.nops n m h is.laid is.end is.code is.gates is.bytes of at);
       byte_count = rw (is.bytes, is.data_size) h.byte_count;
       bytes = rw (is.bytes) h.bytes;
       bundles = is.bundles;
-      whole = w;
-      fits = omega arith;
+      whole =
+          subst (λ (f : Format). All (AreWhole f count) p.bundles) (sym is.format)
+          (laid_whole s.format count s.items is.slots is.nops p.bundles is.laid all.items.permitted bodies is.code is.bundles);
+      fits = subst (λ (f : Format). size_of (slots_of p.bundles) ≤ code_most f) (sym is.format) (omega arith);
       encodes = λ k d l. (known k d l).encodes;
       names_known = λ k d l. (known k d l).name;
     }
@@ -190,20 +197,22 @@ end_of s labelled slots all both end =
 -- what the program made of the sandbox
 pub record IsMade (s : Sandbox) (p : Placement) : Type 0 where
   pub slots : List Slot
-  pub faultless : AreFaultless s.items slots
+  pub faultless : AreFaultless s.format s.items slots
   pub all : List Slot
   pub end : HasEnd slots (HasEndLabel s) all
   pub code : slots_of p.bundles ≡ all
+  pub format : p.format ≡ s.format
   pub data_size : p.data_size ≡ s.data_size
   pub gates : p.gates ≡ s.gates
   pub bytes : p.bytes ≡ s.bytes
-  pub names : AllZip (IsPlacedName s.items) (named s) p.names
+  pub names : AllZip (IsPlacedName s.format s.items) (named s) p.names
   pub bundles : AreBundles p.bundles
 
 pub rewritten : (s : Sandbox) (p : Placement) → IsMade s p → IsRewritten s p
 rewritten s p m = record {
   faultless = record { slots = m.slots; items = m.faultless };
   placement = record {
+    format = m.format;
     data_size = m.data_size;
     gates = m.gates;
     bytes = m.bytes;

@@ -3,13 +3,16 @@ use Rattle.std.proofs.Common.{◌≡◌, ℕ, ◌+◌, ◌<◌, List, [], ◌∷
 use Rattle.std.specs.Prelude.{Err}
 use Rattle.std.specs.List.{All, AllZip}
 use Rattle.std.proofs.lemmas.List.{take_more}
+use Rattle.std.proofs.lemmas.List.Elements.{All-cons, All-head, All-tail}
 use Rattle.std.proofs.lemmas.Option.{slice_get-get_or}
 use Rattle.std.proofs.lemmas.Slice.Zip.{AllZip-long}
 use Rattle.rv_text.specs.Source.{Sandbox, IsSource}
+use Rattle.rv_text.specs.Source as text
+use Rattle.sfi_image.specs.declared.format.Format.{Format}
 use Rattle.sfi_rewrite.specs.declared.fault.RewriteFault.{RewriteFault}
-use Rattle.sfi_rewrite.specs.declared.fault.RewriteFault.TheVariants.{ReservedRegister, Ecall, TooLarge, Memory}
+use Rattle.sfi_rewrite.specs.declared.fault.RewriteFault.TheVariants.{ReservedRegister, Ecall, TooLarge, Memory, StackWrite}
 use Rattle.sfi_rewrite.specs.Placement.{Placement}
-use Rattle.sfi_rewrite.specs.Placed.{IsPlacedPart, IsPlaced}
+use Rattle.sfi_rewrite.specs.Placed.{IsPlacedPart, IsPlaced, AreOf, format_of}
 use Rattle.sfi_rewrite.specs.Faults.{UnlessMemory, IsItemFault, IsSourceFault}
 use Rattle.sfi_rewrite.specs.Laws.{OneFault}
 use Rattle.sfi_rewrite.specs.Rewriting.{IsRewritten, AnswersFault}
@@ -17,20 +20,21 @@ use Rattle.sfi_rewrite.proofs.OneFault.{each_faultless}
 use Rattle.sfi_rewrite.proofs.PlacedNames.{zip_push}
 
 faulty : (source : List Sandbox) (k n : ℕ) (s : Sandbox) (placed : List Placement) (f : RewriteFault)
-    → k < length source → s ≡ get_or source k s → AllZip IsRewritten (take k source) placed → n ≡ k → IsItemFault n s.items f → IsSourceFault source f
+    → k < length source → s ≡ get_or source k s → AllZip IsRewritten (take k source) placed → n ≡ k → IsItemFault s.format n s.items f → IsSourceFault source f
 faulty source k n s placed f h e z m is = record {
   number = k;
   sandbox = s;
   at = slice_get-get_or source k s h ∙ ap Some (sym e);
   before = each_faultless (take k source) placed z;
-  has = subst (λ (i : ℕ). IsItemFault i s.items f) m is;
+  has = subst (λ (i : ℕ). IsItemFault s.format i s.items f) m is;
 }
 
 pub source_fault : (source : List Sandbox) (k n : ℕ) (s : Sandbox) (placed : List Placement) (f : RewriteFault)
     → k < length source → s ≡ get_or source k s → AllZip IsRewritten (take k source) placed → n ≡ k
-    → UnlessMemory (IsItemFault n s.items) f → UnlessMemory (IsSourceFault source) f
+    → UnlessMemory (IsItemFault s.format n s.items) f → UnlessMemory (IsSourceFault source) f
 source_fault source k n s placed (ReservedRegister line) h e z m is = faulty source k n s placed (ReservedRegister line) h e z m is
 source_fault source k n s placed (Ecall line) h e z m is = faulty source k n s placed (Ecall line) h e z m is
+source_fault source k n s placed (StackWrite line) h e z m is = faulty source k n s placed (StackWrite line) h e z m is
 source_fault source k n s placed (TooLarge sandbox) h e z m is = faulty source k n s placed (TooLarge sandbox) h e z m is
 source_fault source k n s placed Memory h e z m is = tt
 
@@ -40,14 +44,28 @@ parts_push source k s placed now p h e z r w =
     let more : take (k + 1) source ≡ take k source ++ s ∷ [] = take_more source k s h ∙ ap (λ v. take k source ++ v ∷ []) (sym e) in
     rw (more, w) (zip_push IsRewritten (take k source) placed s p z r)
 
+-- what is placed has the formats of the source
+placed_of : (f : Format) (source : List Sandbox) (placed : List Placement) → text.AreOf f source → AllZip IsRewritten source placed → AreOf f placed
+placed_of f [] [] h z = λ k d l. absurd (omega (arith, l))
+placed_of f [] (p ∷ placed) h z = absurd z
+placed_of f (s ∷ rest) [] h z = absurd z
+placed_of f (s ∷ rest) (p ∷ placed) h z =
+    All-cons (λ q. q.format ≡ f) p placed (z.0.placement.format ∙ All-head (λ t. t.format ≡ f) s rest h) (placed_of f rest placed (All-tail (λ t. t.format ≡ f) s rest h) z.1)
+
+-- sandboxes of one format have the first one's
+all_one : (f : Format) (placed : List Placement) → AreOf f placed → AreOf (format_of placed) placed
+all_one f [] h = λ k d l. absurd (omega (arith, l))
+all_one f (p ∷ rest) h = subst (λ (g : Format). AreOf g (p ∷ rest)) (sym (All-head (λ q. q.format ≡ f) p rest h)) h
+
 pub is_placed : (source : List Sandbox) (placed : List Placement) → IsSource source → AllZip IsRewritten source placed → All IsPlacedPart placed → IsPlaced placed
 is_placed source placed s z a =
     let l = AllZip-long IsRewritten source placed z in
     let one = s.at_least_one in
-    record { at_least_one = omega arith; each = a }
+    record { at_least_one = omega arith; each = a; one_format = all_one (text.format_of source) placed (placed_of (text.format_of source) source placed s.one_format z) }
 
 pub fault_answered : OneFault → (source : List Sandbox) (f e : RewriteFault) → UnlessMemory (IsSourceFault source) e → IsSourceFault source f → AnswersFault f (Err e)
 fault_answered one source f (ReservedRegister line) h g = inl (ap Err (one source (ReservedRegister line) f h g))
 fault_answered one source f (Ecall line) h g = inl (ap Err (one source (Ecall line) f h g))
+fault_answered one source f (StackWrite line) h g = inl (ap Err (one source (StackWrite line) f h g))
 fault_answered one source f (TooLarge sandbox) h g = inl (ap Err (one source (TooLarge sandbox) f h g))
 fault_answered one source f Memory h g = inr refl

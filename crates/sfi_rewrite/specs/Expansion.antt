@@ -1,7 +1,8 @@
--- The expansion of an item of the source: what stands in its place, so that its accesses and jumps stay in the sandbox.
+-- The expansion of an item of the source: what stands in its place, so that its accesses and jumps stay in the sandbox,
+-- and the stack pointer of a format that has one in its data region.
 -- x24 holds the code base, x25 the code size less 16, x26 the data base, x27 the data size less 1. (Wahbe and others,
 -- "Efficient Software-Based Fault Isolation", 1993: an `and` keeps an address's offset, an `or` sets the region's bits.)
-use Rattle.std.specs.Prelude.{◌≡◌, ◌≢◌, ◌⊎◌, ◌==◌, not, IsTrue, ℕ, ℤ, zero, pos, List, [], ◌∷◌, ◌++◌, Bool, true, false}
+use Rattle.std.specs.Prelude.{◌≡◌, ◌≢◌, ◌⊎◌, ◌==◌, not, IsTrue, ℕ, ℤ, zero, pos, List, [], ◌∷◌, ◌++◌, Bool, true, false, MatchBool}
 use Rattle.rv_word.specs.declared.instr.RegOp.TheVariants.{And, Or}
 use Rattle.rv_word.specs.declared.instr.ImmOp.TheVariants.{Addi}
 use Rattle.rv_word.specs.declared.instr.Instr.{Instr}
@@ -12,8 +13,10 @@ use Rattle.rv_comp.specs.declared.form.Form16.{Form16}
 use Rattle.rv_text.specs.declared.item.Body.{Body}
 use Rattle.rv_text.specs.declared.item.Body.TheVariants.{Plain, To, High, Low}
 use Rattle.rv_text.specs.declared.item.Item.{Item}
+use Rattle.sfi_image.specs.declared.format.Format.{Format}
 use Rattle.sfi_rewrite.specs.declared.slot.Slot.{Slot}
 use Rattle.sfi_rewrite.specs.declared.slot.Slot.TheVariants.{Wide, Short, Jump, Upper, Lower}
+use Rattle.sfi_rewrite.specs.Stack.{is_stack, writes_stack, is_on_stack, stack_pair, put_back}
 
 -- `and x31, a, x27`, `or x31, x31, x26`: x31 becomes an address of the data region
 abbrev pub data_pair : ℕ → List Slot
@@ -42,19 +45,28 @@ IsAlone false i slots = slots ≡ Wide i ∷ []
 IsAlone true i slots =
     ((f : Form16) × IsFirst i f × (slots ≡ Short f ∷ [])) ⊎ (HasNoForm i × (slots ≡ Wide i ∷ []))
 
--- the expansion of the item on a line
-abbrev pub IsExpansionOf : ℕ → Bool → Body → List Slot → Type 0
-IsExpansionOf line rvc (Plain (Load kind rd a imm)) slots = slots ≡ data_pair a ++ Wide (Load kind rd 31 imm) ∷ []
-IsExpansionOf line rvc (Plain (Store width a rs2 imm)) slots = slots ≡ data_pair a ++ Wide (Store width 31 rs2 imm) ∷ []
-IsExpansionOf line rvc (Plain (Jalr rd a imm)) slots = slots ≡ jump_slots rd a imm
-IsExpansionOf line rvc (Plain i) slots = IsAlone rvc i slots
-IsExpansionOf line rvc (To i name) slots = slots ≡ Jump i name line ∷ []
-IsExpansionOf line rvc (High rd name) slots = slots ≡ Upper rd name line ∷ []
-IsExpansionOf line rvc (Low rd name) slots = slots ≡ Lower rd name line ∷ []
+-- the expansion of an instruction that has nothing to do with a stack pointer
+abbrev pub IsMasked : Bool → Instr → List Slot → Type 0
+IsMasked rvc (Load kind rd a imm) slots = slots ≡ data_pair a ++ Wide (Load kind rd 31 imm) ∷ []
+IsMasked rvc (Store width a rs2 imm) slots = slots ≡ data_pair a ++ Wide (Store width 31 rs2 imm) ∷ []
+IsMasked rvc (Jalr rd a imm) slots = slots ≡ jump_slots rd a imm
+IsMasked rvc i slots = IsAlone rvc i slots
 
--- the slots are the item's, in order
-abbrev pub IsExpansion : Item → List Slot → Type 0
-IsExpansion x slots = IsExpansionOf x.line x.rvc x.body slots
+-- that of any: before the pair, if it writes the stack pointer; as it is, if it is an access on it
+abbrev pub IsPlainExpansion : Format → Bool → Instr → List Slot → Type 0
+IsPlainExpansion f rvc i slots =
+    MatchBool (writes_stack f i) (slots ≡ Wide i ∷ stack_pair) (MatchBool (is_on_stack f i) (IsAlone rvc i slots) (IsMasked rvc i slots))
+
+-- the expansion of the item on a line
+abbrev pub IsExpansionOf : Format → ℕ → Bool → Body → List Slot → Type 0
+IsExpansionOf f line rvc (Plain i) slots = IsPlainExpansion f rvc i slots
+IsExpansionOf f line rvc (To i name) slots = slots ≡ Jump i name line ∷ []
+IsExpansionOf f line rvc (High rd name) slots = slots ≡ Upper rd name line ∷ put_back (is_stack f rd)
+IsExpansionOf f line rvc (Low rd name) slots = slots ≡ Lower rd name line ∷ put_back (is_stack f rd)
+
+-- the slots are the item's in this format, in order
+abbrev pub IsExpansion : Format → Item → List Slot → Type 0
+IsExpansion f x slots = IsExpansionOf f x.line x.rvc x.body slots
 
 -- the item is a call: a jalr, or a jal to a name, that writes a register other than x0; no item is a jal by number
 abbrev pub is_call : Body → Bool

@@ -1,46 +1,49 @@
 -- Bundles while they are filled: cited by private contracts.
 use Rattle.std.specs.Prelude.{◌≡◌, ◌+◌, ◌*◌, ◌<◌, ◌≤◌, ◌++◌, ℕ, List, length, replicate, slice_index}
 use Rattle.std.specs.List.{All}
+use Rattle.sfi_image.specs.declared.format.Format.{Format}
+use Rattle.sfi_image.specs.Formats.{code_most}
 use Rattle.rv_text.specs.declared.item.Item.{Item}
 use Rattle.rv_text.specs.declared.item.Named.{Named}
 use Rattle.rv_text.specs.declared.item.Named.TheVariants.{Gate, Code, Data, Unknown}
 use Rattle.rv_text.specs.Source.{IsBody}
 use Rattle.sfi_rewrite.specs.declared.slot.Slot.{Slot}
-use Rattle.sfi_rewrite.specs.Slots.{size_of, bundle_size, code_most, c_nop}
+use Rattle.sfi_rewrite.specs.Slots.{size_of, bundle_size, c_nop}
 use Rattle.sfi_rewrite.specs.declared.placed.PlacedName.{PlacedName}
 use Rattle.sfi_rewrite.specs.declared.placed.PlacedName.TheVariants as placed
 use Rattle.sfi_rewrite.specs.Places.{IsNext, IsLabelAt}
 use Rattle.sfi_rewrite.specs.Placement.{FillsEnd}
-use Rattle.sfi_rewrite.specs.Placed.{AreWhole}
 
--- 16 bytes of whole expansions and c.nops
-pub record IsFull (bundle : List Slot) : Type 0 where
-  pub size : size_of bundle ≡ bundle_size
-  pub whole : AreWhole bundle
+-- the most bytes of a sandbox's code in any format, its gates' stubs not counted
+abbrev pub largest : ℕ
+largest = 1048576
+
+-- 16 bytes of slots
+abbrev pub IsFull : List Slot → Type 0
+IsFull bundle = size_of bundle ≡ bundle_size
 
 -- what the bundles keep; `end` is the bytes of all
 pub record IsFilled (full : List (List Slot)) (last : List Slot) (end : ℕ) : Type 0 where
   pub each_full : All IsFull full
-  pub whole : AreWhole last
   pub room : size_of last < bundle_size
   pub end_is : end ≡ bundle_size * length full + size_of last
 
 -- the slots with the item's c.nops and expansion behind them, within the most that a sandbox may have
-pub record HasNext (old : List Slot) (x : Item) (new : List Slot) : Type 0 where
+pub record HasNext (f : Format) (old : List Slot) (x : Item) (new : List Slot) : Type 0 where
   pub nops : ℕ
   pub expanded : List Slot
-  pub next : IsNext (size_of old) x nops expanded
+  pub next : IsNext f (size_of old) x nops expanded
   pub slots : new ≡ old ++ (replicate nops c_nop ++ expanded)
-  pub fits : size_of new ≤ code_most
+  pub fits : size_of new ≤ code_most f
 
 -- the body of each item is one of a source
 abbrev pub HaveBodies : List Item → Type 0
 HaveBodies items = All (λ x. (count : ℕ) × IsBody count x.body) items
 
 -- of each item, and last of the end of the code, the place that a label before it names
-pub record AreLabels (items : List Item) (labels : List ℕ) : Type 0 where
+pub record AreLabels (f : Format) (items : List Item) (labels : List ℕ) : Type 0 where
   pub count : length labels ≡ length items + 1
-  pub each : (k : ℕ) → k ≤ length items → IsLabelAt items k (slice_index labels k)
+  pub each : (k : ℕ) → k ≤ length items → IsLabelAt f items k (slice_index labels k)
 
 -- where a label stands before an item, there is a place of it among so many
 abbrev pub HasLabel : ℕ → Named → Type 0

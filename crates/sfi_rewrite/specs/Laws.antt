@@ -1,17 +1,20 @@
 -- What holds of every source.
 use Rattle.std.specs.Prelude.{◌≡◌, List}
+use Rattle.rv_word.specs.declared.instr.Instr.{Instr}
 use Rattle.rv_text.specs.declared.item.Item.{Item}
 use Rattle.rv_text.specs.Source.{Sandbox}
+use Rattle.sfi_image.specs.declared.format.Format.{Format}
 use Rattle.sfi_rewrite.specs.declared.slot.Slot.{Slot}
 use Rattle.sfi_rewrite.specs.declared.fault.RewriteFault.{RewriteFault}
 use Rattle.sfi_rewrite.specs.Expansion.{IsExpansion}
 use Rattle.sfi_rewrite.specs.Placement.{Placement, IsPlacement}
-use Rattle.sfi_rewrite.specs.Faults.{IsSourceFault}
-use Rattle.sfi_rewrite.specs.Rewriting.{AreRewritten}
+use Rattle.sfi_rewrite.specs.Faults.{IsPermitted, IsSourceFault}
+use Rattle.sfi_rewrite.specs.Rewriting.{IsRewritten, AreRewritten}
+use Rattle.sfi_rewrite.specs.Transparency.{MayBe, ActsAs, StandTransparent}
 
--- an item has one expansion
+-- an item has one expansion in each format
 abbrev pub OneExpansion : Type 0
-OneExpansion = (x : Item) (slots others : List Slot) → IsExpansion x slots → IsExpansion x others → slots ≡ others
+OneExpansion = (f : Format) (x : Item) (slots others : List Slot) → IsExpansion f x slots → IsExpansion f x others → slots ≡ others
 
 -- a sandbox has one placement
 abbrev pub OnePlacement : Type 0
@@ -30,3 +33,12 @@ OneFault = (source : List Sandbox) (f g : RewriteFault) → IsSourceFault source
 -- a source with a fault isn't rewritten
 abbrev pub NeverBoth : Type 0
 NeverBoth = (source : List Sandbox) (placed : List Placement) (f : RewriteFault) → AreRewritten source placed → IsSourceFault source f → ⊥
+
+-- the expansion of a permitted item acts as the item's instruction
+abbrev pub ExpansionsAreTransparent : Type 0
+ExpansionsAreTransparent =
+    (f : Format) (x : Item) (i : Instr) (slots : List Slot) → MayBe x.body i → IsPermitted f x → IsExpansion f x slots → ActsAs f i slots
+
+-- so each item of a source stands transparent in what is placed
+abbrev pub RewrittenIsTransparent : Type 0
+RewrittenIsTransparent = (s : Sandbox) (p : Placement) → IsRewritten s p → StandTransparent s p

@@ -1,10 +1,12 @@
 pub mod Slots
 pub mod Registers
+pub mod Stack
 pub mod Expansion
 pub mod Places
 pub mod Placement
-pub mod Placed
 pub mod Filling
 pub mod Faults
+pub mod Placed
 pub mod Rewriting
+pub mod Transparency
 pub mod Laws

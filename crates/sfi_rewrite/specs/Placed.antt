@@ -1,83 +1,33 @@
 -- What the type of what is placed keeps.
-use Rattle.std.specs.Prelude.{◌≡◌, ◌≢◌, ◌%◌, ◌≤◌, ◌<◌, ◌++◌, ℕ, ℤ, pos, List, [], ◌∷◌, Bool, true, false, IsTrue, length, slice_get, Some}
+use Rattle.std.specs.Prelude.{◌≡◌, ◌%◌, ◌≤◌, ◌<◌, ◌++◌, ℕ, List, [], ◌∷◌, IsTrue, length, slice_get, Some}
 use Rattle.std.specs.List.{All}
-use Rattle.rv_word.specs.declared.instr.ImmOp.TheVariants.{Addi}
-use Rattle.rv_word.specs.declared.instr.LoadKind.{LoadKind}
-use Rattle.rv_word.specs.declared.instr.StoreWidth.{StoreWidth}
-use Rattle.rv_word.specs.declared.instr.Instr.{Instr}
-use Rattle.rv_word.specs.declared.instr.Instr.TheVariants.{Op, OpImm, Load, Store, Branch, Jal, Jalr, Lui, Auipc, Fence, Ecall, Ebreak}
 use Rattle.rv_word.specs.Spelling.{InRange, IsReg}
-use Rattle.rv_comp.specs.Table.{allowed, expansion}
+use Rattle.rv_comp.specs.Table.{allowed}
+use Rattle.rv_text.specs.declared.item.Item.{Item}
 use Rattle.rv_text.specs.declared.item.SourceGate.{SourceGate}
-use Rattle.rv_text.specs.Source.{IsDataSize}
+use Rattle.rv_text.specs.Source.{IsDataSize, IsBody}
+use Rattle.sfi_image.specs.declared.format.Format.{Format}
+use Rattle.sfi_image.specs.declared.format.Format.TheVariants.{Sfi1}
+use Rattle.sfi_image.specs.Formats.{code_most}
 use Rattle.sfi_rewrite.specs.declared.slot.Slot.{Slot}
 use Rattle.sfi_rewrite.specs.declared.slot.Slot.TheVariants.{Wide, Short, Jump, Upper, Lower}
 use Rattle.sfi_rewrite.specs.declared.placed.PlacedName.{PlacedName}
 use Rattle.sfi_rewrite.specs.declared.placed.PlacedName.TheVariants as placed
-use Rattle.sfi_rewrite.specs.Registers.{is_withheld, names_withheld}
-use Rattle.sfi_rewrite.specs.Expansion.{data_pair, code_pair, jump_to_x31}
-use Rattle.sfi_rewrite.specs.Slots.{size_of, slots_of, bundle_size, code_most}
+use Rattle.sfi_rewrite.specs.Expansion.{IsExpansion}
+use Rattle.sfi_rewrite.specs.Faults.{IsPermitted}
+use Rattle.sfi_rewrite.specs.Slots.{size_of, slots_of, bundle_size, c_nop}
 use Rattle.sfi_rewrite.specs.Placement.{Placement, AreBundles}
 
 -- ---- slots
 
--- an instruction that neither accesses memory nor leads anywhere but behind itself, or stops: its own expansion
-abbrev pub is_calm : Instr → Bool
-is_calm (Op op rd rs1 rs2) = true
-is_calm (OpImm op rd rs1 imm) = true
-is_calm (Load kind rd rs1 imm) = false
-is_calm (Store width rs1 rs2 imm) = false
-is_calm (Branch cond rs1 rs2 offset) = false
-is_calm (Jal rd offset) = false
-is_calm (Jalr rd rs1 imm) = false
-is_calm (Lui rd imm) = true
-is_calm (Auipc rd imm) = true
-is_calm (Fence imm rd rs1) = true
-is_calm Ecall = false
-is_calm Ebreak = true
-
--- a jal or a branch
-abbrev pub is_direct : Instr → Bool
-is_direct (Op op rd rs1 rs2) = false
-is_direct (OpImm op rd rs1 imm) = false
-is_direct (Load kind rd rs1 imm) = false
-is_direct (Store width rs1 rs2 imm) = false
-is_direct (Branch cond rs1 rs2 offset) = true
-is_direct (Jal rd offset) = true
-is_direct (Jalr rd rs1 imm) = false
-is_direct (Lui rd imm) = false
-is_direct (Auipc rd imm) = false
-is_direct (Fence imm rd rs1) = false
-is_direct Ecall = false
-is_direct Ebreak = false
-
--- a slot that is an expansion alone, and names none of x24 to x27 and x31: a jal or a branch goes to a name
-abbrev pub IsLone : Slot → Type 0
-IsLone (Wide i) = (is_calm i ≡ true) × (names_withheld i ≡ false)
-IsLone (Short f) = (is_calm (expansion f) ≡ true) × (names_withheld (expansion f) ≡ false)
-IsLone (Jump i name line) = (is_direct i ≡ true) × (names_withheld i ≡ false)
-IsLone (Upper rd name line) = is_withheld rd ≡ false
-IsLone (Lower rd name line) = is_withheld rd ≡ false
-
--- Slots that are whole expansions and c.nops. Operands are none of x24 to x27 and x31, but where the expansion puts them.
-pub data AreWhole : List Slot → Type 0 where
-  nothing : AreWhole []
-  lone : (s : Slot) (rest : List Slot) → IsLone s → AreWhole rest → AreWhole (s ∷ rest)
-  load :
-      (a rd : ℕ) (kind : LoadKind) (imm : ℤ) (rest : List Slot)
-      → is_withheld a ≡ false → is_withheld rd ≡ false → AreWhole rest
-      → AreWhole (data_pair a ++ (Wide (Load kind rd 31 imm) ∷ rest))
-  store :
-      (a rs2 : ℕ) (width : StoreWidth) (imm : ℤ) (rest : List Slot)
-      → is_withheld a ≡ false → is_withheld rs2 ≡ false → AreWhole rest
-      → AreWhole (data_pair a ++ (Wide (Store width 31 rs2 imm) ∷ rest))
-  jump :
-      (a rd : ℕ) (rest : List Slot) → is_withheld a ≡ false → is_withheld rd ≡ false → AreWhole rest
-      → AreWhole (code_pair a ++ (jump_to_x31 rd ∷ rest))
-  jump_with_offset :
-      (a rd : ℕ) (imm : ℤ) (rest : List Slot)
-      → imm ≢ pos 0 → is_withheld a ≡ false → is_withheld rd ≡ false → AreWhole rest
-      → AreWhole (Wide (OpImm Addi 31 a imm) ∷ (code_pair 31 ++ (jump_to_x31 rd ∷ rest)))
+-- Slots that are whole expansions of permitted items of a source with so many names, and c.nops: no expansion is cut, and none stands that the format doesn't
+-- have.
+pub data AreWhole (f : Format) (count : ℕ) : List Slot → Type 0 where
+  nothing : AreWhole f count []
+  padding : (rest : List Slot) → AreWhole f count rest → AreWhole f count (c_nop ∷ rest)
+  expansion :
+      (x : Item) (expanded rest : List Slot) → IsPermitted f x → IsBody count x.body → IsExpansion f x expanded → AreWhole f count rest
+      → AreWhole f count (expanded ++ rest)
 
 -- the slot encodes, whatever its name's address is, but for a jump out of its reach
 abbrev pub Encodes : Slot → Type 0
@@ -118,12 +68,22 @@ pub record IsPlacedPart (p : Placement) : Type 0 where
   pub byte_count : length p.bytes ≤ p.data_size
   pub bytes : All (λ b. b < 256) p.bytes
   pub bundles : AreBundles p.bundles
-  pub whole : All AreWhole p.bundles
-  pub fits : size_of (slots_of p.bundles) ≤ code_most
+  pub whole : All (AreWhole p.format (length p.names)) p.bundles
+  pub fits : size_of (slots_of p.bundles) ≤ code_most p.format
   pub encodes : All Encodes (slots_of p.bundles)
   pub names_known : All (IsNamedBelow (length p.names)) (slots_of p.bundles)
 
--- one such sandbox at least
+-- the format of what is placed: that of its sandboxes
+abbrev pub format_of : List Placement → Format
+format_of [] = Sfi1
+format_of (p ∷ rest) = p.format
+
+-- the sandboxes are of the format
+abbrev pub AreOf : Format → List Placement → Type 0
+AreOf format parts = All (λ p. p.format ≡ format) parts
+
+-- one such sandbox at least, all of one format
 pub record IsPlaced (parts : List Placement) : Type 0 where
   pub at_least_one : 1 ≤ length parts
   pub each : All IsPlacedPart parts
+  pub one_format : AreOf (format_of parts) parts

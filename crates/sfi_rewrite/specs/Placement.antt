@@ -6,6 +6,7 @@ use Rattle.rv_text.specs.declared.item.Named.{Named}
 use Rattle.rv_text.specs.declared.item.Named.TheVariants.{Gate, Code, Data, Unknown}
 use Rattle.rv_text.specs.declared.item.SourceGate.{SourceGate}
 use Rattle.rv_text.specs.Source.{Sandbox, named}
+use Rattle.sfi_image.specs.declared.format.Format.{Format}
 use Rattle.sfi_rewrite.specs.declared.slot.Slot.{Slot}
 use Rattle.sfi_rewrite.specs.declared.placed.PlacedName.{PlacedName}
 use Rattle.sfi_rewrite.specs.declared.placed.PlacedName.TheVariants as placed
@@ -14,6 +15,7 @@ use Rattle.sfi_rewrite.specs.Places.{next_bundle, AreLaid, IsLabelAt}
 
 -- one sandbox, placed
 pub record Placement : Type 0 where
+  pub format : Format
   pub data_size : ℕ
   pub gates : List SourceGate
   pub names : List PlacedName
@@ -21,11 +23,11 @@ pub record Placement : Type 0 where
   pub bundles : List (List Slot)
 
 -- what a name of the source names once its items are placed: a label the place of what stands behind it
-abbrev pub IsPlacedName : List Item → Named → PlacedName → Type 0
-IsPlacedName items (Gate k) name = name ≡ placed.Gate k
-IsPlacedName items (Code k) name = (place : ℕ) × IsLabelAt items k place × (name ≡ placed.Code place)
-IsPlacedName items (Data offset) name = name ≡ placed.Data offset
-IsPlacedName items Unknown name = name ≡ placed.Unknown
+abbrev pub IsPlacedName : Format → List Item → Named → PlacedName → Type 0
+IsPlacedName f items (Gate k) name = name ≡ placed.Gate k
+IsPlacedName f items (Code k) name = (place : ℕ) × IsLabelAt f items k place × (name ≡ placed.Code place)
+IsPlacedName f items (Data offset) name = name ≡ placed.Data offset
+IsPlacedName f items Unknown name = name ≡ placed.Unknown
 
 -- a label stands at the end of the code
 abbrev pub HasEndLabel : Sandbox → Type 0
@@ -44,12 +46,13 @@ AreBundles (b ∷ c ∷ bundles) = (size_of b ≡ bundle_size) × AreBundles (c 
 
 -- this is the placement of the sandbox
 pub record IsPlacement (s : Sandbox) (p : Placement) : Type 0 where
+  pub format : p.format ≡ s.format
   pub data_size : p.data_size ≡ s.data_size
   pub gates : p.gates ≡ s.gates
   pub bytes : p.bytes ≡ s.bytes
-  pub names : AllZip (IsPlacedName s.items) (named s) p.names
+  pub names : AllZip (IsPlacedName s.format s.items) (named s) p.names
   pub slots : List Slot
-  pub laid : AreLaid s.items slots
+  pub laid : AreLaid s.format s.items slots
   pub nops : ℕ
   pub end : FillsEnd (size_of slots) (HasEndLabel s) nops
   pub code : slots_of p.bundles ≡ slots ++ replicate nops c_nop

@@ -1,6 +1,7 @@
 -- Where each expansion stands. A place is a number of bytes from the end of the gates' stubs.
 use Rattle.std.specs.Prelude.{◌≡◌, ◌+◌, ◌*◌, ◌/◌, ◌%◌, ◌≤◌, ◌++◌, IsTrue, ℕ, List, [], ◌∷◌, Bool, replicate, take}
 use Rattle.rv_text.specs.declared.item.Item.{Item}
+use Rattle.sfi_image.specs.declared.format.Format.{Format}
 use Rattle.sfi_rewrite.specs.declared.slot.Slot.{Slot}
 use Rattle.sfi_rewrite.specs.Slots.{size_of, bundle_size, c_nop}
 use Rattle.sfi_rewrite.specs.Expansion.{IsExpansion, is_call}
@@ -23,21 +24,21 @@ pub record FillsGap (end : ℕ) (labelled call : Bool) (size nops : ℕ) : Type 
   pub first : (here : ℕ) → MayStand end labelled call size here → end + 2 * nops ≤ here
 
 -- behind that end the item's expansion stands next, behind so many c.nops
-pub record IsNext (end : ℕ) (x : Item) (nops : ℕ) (expanded : List Slot) : Type 0 where
-  pub expansion : IsExpansion x expanded
+pub record IsNext (f : Format) (end : ℕ) (x : Item) (nops : ℕ) (expanded : List Slot) : Type 0 where
+  pub expansion : IsExpansion f x expanded
   pub gap : FillsGap end x.labelled (is_call x.body) (size_of expanded) nops
 
 -- from that end on, the expansions of the items stand one after another, each at its first place
-abbrev pub AreLaidFrom : ℕ → List Item → List Slot → Type 0
-AreLaidFrom end [] slots = slots ≡ []
-AreLaidFrom end (x ∷ items) slots =
-    (nops : ℕ) × (expanded : List Slot) × (rest : List Slot) × IsNext end x nops expanded
-    × (slots ≡ replicate nops c_nop ++ (expanded ++ rest)) × AreLaidFrom (end + 2 * nops + size_of expanded) items rest
+abbrev pub AreLaidFrom : Format → ℕ → List Item → List Slot → Type 0
+AreLaidFrom f end [] slots = slots ≡ []
+AreLaidFrom f end (x ∷ items) slots =
+    (nops : ℕ) × (expanded : List Slot) × (rest : List Slot) × IsNext f end x nops expanded
+    × (slots ≡ replicate nops c_nop ++ (expanded ++ rest)) × AreLaidFrom f (end + 2 * nops + size_of expanded) items rest
 
 -- the slots of the items
-abbrev pub AreLaid : List Item → List Slot → Type 0
-AreLaid items slots = AreLaidFrom 0 items slots
+abbrev pub AreLaid : Format → List Item → List Slot → Type 0
+AreLaid f items slots = AreLaidFrom f 0 items slots
 
 -- what a label before item k names: the first bundle start not before the end of what stands before the item
-abbrev pub IsLabelAt : List Item → ℕ → ℕ → Type 0
-IsLabelAt items k place = (before : List Slot) × AreLaid (take k items) before × (place ≡ next_bundle (size_of before))
+abbrev pub IsLabelAt : Format → List Item → ℕ → ℕ → Type 0
+IsLabelAt f items k place = (before : List Slot) × AreLaid f (take k items) before × (place ≡ next_bundle (size_of before))

@@ -28,7 +28,3 @@ c_nop = Short (CAddi 0 (pos 0))
 -- the bytes of a bundle
 abbrev pub bundle_size : ℕ
 bundle_size = 16
-
--- the most bytes that a sandbox's code may take, 4096 bundles, its gates' stubs not counted
-abbrev pub code_most : ℕ
-code_most = 65536

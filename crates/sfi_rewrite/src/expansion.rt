@@ -1,15 +1,16 @@
-//! What an item of the source becomes.
+//! What an item of the source becomes in a format.
 ghost use Rattle.std.specs.Prelude.{◌≡◌, ◌<◌, ℕ, ◌++◌, ◌∷◌, ◌≤◌, [], length};
-ghost use Rattle.sfi_rewrite.specs.Expansion.{data_pair, code_pair, jump_slots, IsAlone, IsExpansionOf, IsExpansion};
+ghost use Rattle.sfi_rewrite.specs.Expansion.{data_pair, code_pair, jump_slots, IsAlone, IsMasked, IsPlainExpansion, IsExpansion};
+ghost use Rattle.sfi_rewrite.specs.Stack.{stack_pair, put_back, writes_x2, is_on_x2};
 ghost use Rattle.sfi_rewrite.specs.declared.slot.Slot.TheVariants.{Wide};
 ghost use Rattle.rv_word.specs.declared.instr.Instr.TheVariants.{Op};
-ghost use Rattle.rv_text.specs.declared.item.Body.TheVariants.{Plain};
 
-use crate::register::register;
+use crate::register::{is_stack, register};
 use crate::slot::Slot;
 use rv_comp::form_of;
 use rv_text::{Body, Item};
 use rv_word::{ImmOp, Instr, Reg, RegOp};
+use sfi_image::Format;
 use std::marker::Model;
 
 /// An expansion: at most four slots, in an array. Contracts see the list of them.
@@ -50,6 +51,28 @@ impl Expansion {
         }
     }
 
+    /// What writes the stack pointer, and the pair that puts it back.
+    fn with_stack_pair(first: Slot) -> Expansion
+        ensures { result ≡ first ∷ stack_pair }
+    {
+        let pair = stack_pair();
+        Expansion {
+            slots: [first, pair[0], pair[1], Slot::Wide(Instr::Ebreak)],
+            count: 3,
+        }
+    }
+
+    /// One slot, before that pair if the slot writes the stack pointer.
+    fn put_back(first: Slot, writes_stack: bool) -> Expansion
+        ensures { result ≡ first ∷ put_back writes_stack }
+    {
+        if writes_stack {
+            Expansion::with_stack_pair(first)
+        } else {
+            Expansion::of_one(first)
+        }
+    }
+
     /// A sum, a pair, and what stands behind it.
     fn of_four(sum: Slot, pair: [Slot; 2], last: Slot) -> Expansion
         ensures { result ≡ sum ∷ (pair ++ last ∷ []) }
@@ -69,17 +92,28 @@ impl Expansion {
     }
 }
 
-/// `op x31, a, b`.
-fn into_x31(op: RegOp, a: Reg, b: u8) -> Slot
-    requires { b < 32 }
-    ensures { result ≡ Wide (Op op 31 a b) }
+/// `op rd, a, b`.
+fn masked(op: RegOp, rd: u8, a: Reg, b: u8) -> Slot
+    requires rd { rd < 32 }
+    requires b { b < 32 }
+    ensures { result ≡ Wide (Op op rd a b) }
 {
     Slot::Wide(Instr::Op {
         op,
-        rd: register(31),
+        rd: register(rd),
         rs1: a,
         rs2: register(b),
     })
+}
+
+/// The masked pair that puts x2 back into the data region.
+fn stack_pair() -> [Slot; 2]
+    ensures { result ≡ stack_pair }
+{
+    [
+        masked(RegOp::And, 2, register(2), 27),
+        masked(RegOp::Or, 2, register(2), 26),
+    ]
 }
 
 /// The masked pair that makes an address of the data region of a register.
@@ -87,8 +121,8 @@ fn data_pair(a: Reg) -> [Slot; 2]
     ensures { result ≡ data_pair a }
 {
     [
-        into_x31(RegOp::And, a, 27),
-        into_x31(RegOp::Or, register(31), 26),
+        masked(RegOp::And, 31, a, 27),
+        masked(RegOp::Or, 31, register(31), 26),
     ]
 }
 
@@ -97,8 +131,8 @@ fn code_pair(a: Reg) -> [Slot; 2]
     ensures { result ≡ code_pair a }
 {
     [
-        into_x31(RegOp::And, a, 25),
-        into_x31(RegOp::Or, register(31), 24),
+        masked(RegOp::And, 31, a, 25),
+        masked(RegOp::Or, 31, register(31), 24),
     ]
 }
 
@@ -136,9 +170,9 @@ fn alone(rvc: bool, instr: &Instr) -> Expansion
     Expansion::of_one(Slot::Wide(*instr))
 }
 
-/// The expansion of an instruction that names no label.
-fn of_plain(rvc: bool, instr: &Instr) -> Expansion
-    ensures { (line : ℕ) → IsExpansionOf line rvc (Plain instr.now) result }
+/// The expansion of an instruction that has nothing to do with a stack pointer.
+fn of_masked(rvc: bool, instr: &Instr) -> Expansion
+    ensures { IsMasked rvc instr.now result }
 {
     let scratch = register(31);
     match *instr {
@@ -178,15 +212,62 @@ fn of_plain(rvc: bool, instr: &Instr) -> Expansion
     }
 }
 
-/// The expansion of an item.
-pub(crate) fn expand(item: &Item) -> Expansion
-    ensures { IsExpansion item.now result }
+/// Whether the instruction writes x2.
+fn writes_x2(instr: &Instr) -> bool
+    ensures { result ≡ writes_x2 instr.now }
+{
+    match *instr {
+        Instr::Op { rd, .. }
+        | Instr::OpImm { rd, .. }
+        | Instr::Load { rd, .. }
+        | Instr::Jal { rd, .. }
+        | Instr::Jalr { rd, .. }
+        | Instr::Lui { rd, .. }
+        | Instr::Auipc { rd, .. } => rd.number() == 2,
+        Instr::Store { .. }
+        | Instr::Branch { .. }
+        | Instr::Fence { .. }
+        | Instr::Ecall
+        | Instr::Ebreak => false,
+    }
+}
+
+/// Whether the instruction is a load or store on x2.
+fn is_on_x2(instr: &Instr) -> bool
+    ensures { result ≡ is_on_x2 instr.now }
+{
+    match *instr {
+        Instr::Load { rs1, .. } | Instr::Store { rs1, .. } => rs1.number() == 2,
+        _ => false,
+    }
+}
+
+/// The expansion of an instruction that names no label.
+fn of_plain(format: Format, rvc: bool, instr: &Instr) -> Expansion
+    ensures { IsPlainExpansion format rvc instr.now result }
+{
+    if format.has_stack() && writes_x2(instr) {
+        Expansion::with_stack_pair(Slot::Wide(*instr))
+    } else if format.has_stack() && is_on_x2(instr) {
+        alone(rvc, instr)
+    } else {
+        of_masked(rvc, instr)
+    }
+}
+
+/// The expansion of an item in a format.
+pub(crate) fn expand(format: Format, item: &Item) -> Expansion
+    ensures { IsExpansion format item.now result }
 {
     let line = item.line;
     match item.body {
-        Body::Plain(ref instr) => of_plain(item.rvc, instr),
+        Body::Plain(ref instr) => of_plain(format, item.rvc, instr),
         Body::To(instr, name) => Expansion::of_one(Slot::Jump { instr, name, line }),
-        Body::High(rd, name) => Expansion::of_one(Slot::Upper { rd, name, line }),
-        Body::Low(rd, name) => Expansion::of_one(Slot::Lower { rd, name, line }),
+        Body::High(rd, name) => {
+            Expansion::put_back(Slot::Upper { rd, name, line }, is_stack(format, rd))
+        }
+        Body::Low(rd, name) => {
+            Expansion::put_back(Slot::Lower { rd, name, line }, is_stack(format, rd))
+        }
     }
 }

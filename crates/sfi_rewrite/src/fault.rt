@@ -6,8 +6,8 @@ ghost use Rattle.sfi_rewrite.specs.Faults.{number_of};
 use std::alloc::{AllocError, AllocFailed};
 use thiserror::Error;
 
-/// Why a source isn't rewritten: the first instruction in the order of the text that has a fault, with the lowest of its
-/// faults.
+/// Why a source isn't rewritten: the first instruction in the order of the text that has a fault, with the first of its
+/// faults, in the order 1, 2, 5, 3.
 #[derive(Clone, Copy, Debug, PartialEq, Eq, Error)]
 pub enum RewriteFault {
     /// An operand of the instruction on the line, counted from 1, is x24, x25, x26, x27 or x31.
@@ -16,16 +16,21 @@ pub enum RewriteFault {
     /// The instruction on the line, counted from 1, is an ecall: only a gate's stub has one.
     #[error("Ecall line {line}")]
     Ecall { line: u32 },
-    /// The code of the sandbox, counted from 0, takes more than 4096 bundles, its gates' stubs not counted.
+    /// The code of the sandbox, counted from 0, takes more bytes than a code region of its
+    /// format may have, its gates' stubs not counted.
     #[error("TooLarge sandbox {sandbox}")]
     TooLarge { sandbox: u32 },
+    /// The instruction on the line, counted from 1, writes the stack pointer, which is to be put back behind it: it is a jal
+    /// or jalr, or a load on another register. Only a format with a stack pointer has this fault.
+    #[error("StackWrite line {line}")]
+    StackWrite { line: u32 },
     /// Memory ran out; nothing is known of the source.
     #[error("Memory")]
     Memory,
 }
 
 impl RewriteFault {
-    /// The number by which a refusal is known, from 1 to 4.
+    /// The number by which a refusal is known, from 1 to 5.
     pub fn number(self) -> u32
         ensures { result ≡ number_of self }
     {
@@ -34,6 +39,7 @@ impl RewriteFault {
             RewriteFault::Ecall { .. } => 2,
             RewriteFault::TooLarge { .. } => 3,
             RewriteFault::Memory => 4,
+            RewriteFault::StackWrite { .. } => 5,
         }
     }
 }

@@ -1,8 +1,7 @@
 //! Bundles that are filled one after another.
 ghost use Rattle.std.specs.Prelude.{◌≡◌, ◌%◌, ◌+◌, ◌*◌, ◌<◌, ◌≤◌, ◌++◌, [], IfOk, length, replicate};
-ghost use Rattle.std.specs.List.{All};
-ghost use Rattle.sfi_rewrite.specs.Slots.{size_of, slots_of, c_nop, code_most};
-ghost use Rattle.sfi_rewrite.specs.Placed.{AreWhole};
+ghost use Rattle.sfi_rewrite.specs.Slots.{size_of, slots_of, c_nop};
+ghost use Rattle.sfi_rewrite.specs.Filling.{largest};
 ghost use Rattle.sfi_rewrite.specs.Placement.{AreBundles};
 
 use crate::bundle::Bundle;
@@ -76,17 +75,16 @@ impl Filling {
         self.end
     }
 
-    /// Adds slots of so many bytes, which are whole expansions or c.nops and fit into the last bundle.
+    /// Adds slots of so many bytes, which fit into the last bundle.
     pub(crate) fn push(
         &mut self,
         alloc: Global,
         slots: &[Slot],
         size: usize,
     ) -> Result<(), AllocError>
-        requires whole { AreWhole slots.now }
         requires size { size ≡ size_of slots.now }
         requires fits { size_of self.old % 16 + size ≤ 16 }
-        requires room { size_of self.old + size ≤ code_most }
+        requires room { size_of self.old + size ≤ largest }
         ensures { IfOk result (λ _. self.new ≡ self.old ++ slots.now) }
     {
         let used = self.end % 16;
@@ -105,7 +103,7 @@ impl Filling {
 
     /// Adds so many c.nops.
     pub(crate) fn push_nops(&mut self, alloc: Global, nops: usize) -> Result<(), AllocError>
-        requires { size_of self.old + 2 * nops ≤ code_most }
+        requires { size_of self.old + 2 * nops ≤ largest }
         ensures { IfOk result (λ _. self.new ≡ self.old ++ replicate nops c_nop) }
     {
         for _ in 0..nops {
@@ -118,7 +116,6 @@ impl Filling {
     pub(crate) fn finish(self) -> Result<Vec<Bundle>, AllocError>
         ensures code { IfOk result (λ v. slots_of v.items ≡ self) }
         ensures bundles { IfOk result (λ v. AreBundles v.items) }
-        ensures whole { IfOk result (λ v. All AreWhole v.items) }
     {
         let Filling { mut full, last, .. } = self;
         if last.is_empty() {

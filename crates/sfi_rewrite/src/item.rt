@@ -2,12 +2,14 @@
 ghost use Rattle.std.specs.Prelude.{◌≡◌, IfOk, IfErr};
 ghost use Rattle.sfi_rewrite.specs.Registers.{names_withheld, item_names_withheld, is_ecall};
 ghost use Rattle.sfi_rewrite.specs.Expansion.{is_call};
+ghost use Rattle.sfi_rewrite.specs.Stack.{is_stack_write};
 ghost use Rattle.sfi_rewrite.specs.Faults.{IsPermitted, HasItemFault};
 
 use crate::fault::RewriteFault;
-use crate::register::is_withheld;
+use crate::register::{is_stack, is_withheld};
 use rv_text::{Body, Item};
 use rv_word::Instr;
+use sfi_image::Format;
 
 /// Whether one of the instruction's register operands is x24 to x27 or x31.
 fn names_withheld(instr: &Instr) -> bool
@@ -58,16 +60,32 @@ pub(crate) fn is_call(body: &Body) -> bool
     }
 }
 
-/// The lower of the faults that an item has wherever it stands.
-pub(crate) fn permit(item: &Item) -> Result<(), RewriteFault>
-    ensures permitted { IfOk result (λ _. IsPermitted item.now) }
-    ensures refused { IfErr result (HasItemFault item.now) }
+/// Whether it is a jump, or a load on another register, that writes the stack pointer.
+fn is_stack_write(format: Format, body: &Body) -> bool
+    ensures { result ≡ is_stack_write format body.now }
+{
+    match body {
+        Body::Plain(Instr::Load { rd, rs1, .. }) => is_stack(format, *rd)
+            && !is_stack(format, *rs1),
+        Body::Plain(Instr::Jal { rd, .. } | Instr::Jalr { rd, .. }) => is_stack(format, *rd),
+        Body::To(Instr::Jal { rd, .. }, _) => is_stack(format, *rd),
+        _ => false,
+    }
+}
+
+/// The first of the faults that an item has wherever it stands: a write of the stack pointer goes last.
+pub(crate) fn permit(format: Format, item: &Item) -> Result<(), RewriteFault>
+    ensures permitted { IfOk result (λ _. IsPermitted format item.now) }
+    ensures refused { IfErr result (HasItemFault format item.now) }
 {
     if item_names_withheld(&item.body) {
         return Err(RewriteFault::ReservedRegister { line: item.line });
     }
     if is_ecall(&item.body) {
         return Err(RewriteFault::Ecall { line: item.line });
+    }
+    if is_stack_write(format, &item.body) {
+        return Err(RewriteFault::StackWrite { line: item.line });
     }
     Ok(())
 }

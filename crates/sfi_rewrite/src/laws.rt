@@ -1,7 +1,8 @@
 //! What holds of every source. A call costs nothing: it has the statement at hand.
-ghost use Rattle.sfi_rewrite.specs.Laws.{OneExpansion, OnePlacement, OneRewriting, OneFault, NeverBoth};
+ghost use Rattle.sfi_rewrite.specs.Laws.{OneExpansion, OnePlacement, OneRewriting, OneFault, NeverBoth, ExpansionsAreTransparent, RewrittenIsTransparent};
 
 use rv_comp::laws::one_first_form;
+use rv_step::laws::{pair_leaves, step_keeps_state};
 
 /// An item has one expansion.
 pub fn one_expansion()
@@ -36,4 +37,20 @@ pub fn never_both()
     ensures { NeverBoth }
 {
     one_first_form();
+}
+
+/// The expansion of an instruction does what the instruction does, x31 aside; behind an instruction that writes the stack pointer
+/// it keeps what that leaves.
+pub fn expansions_are_transparent()
+    ensures { ExpansionsAreTransparent }
+{
+    pair_leaves();
+    step_keeps_state();
+}
+
+/// Each instruction of a source stands transparent in what is placed.
+pub fn rewritten_is_transparent()
+    ensures { RewrittenIsTransparent }
+{
+    expansions_are_transparent();
 }

@@ -1,7 +1,8 @@
 //! The items of a sandbox, laid one after another.
 ghost use Rattle.std.specs.Prelude.{◌≡◌, ◌<◌, ◌≤◌, ◌+◌, ◌*◌, ℕ, IfOk, IfErr, length, slice_index};
 ghost use Rattle.rv_text.specs.Source.{IsBody};
-ghost use Rattle.sfi_rewrite.specs.Slots.{size_of, code_most};
+ghost use Rattle.sfi_image.specs.Formats.{code_most};
+ghost use Rattle.sfi_rewrite.specs.Slots.{size_of};
 ghost use Rattle.sfi_rewrite.specs.Filling.{HasNext, HaveBodies, AreLabels};
 ghost use Rattle.sfi_rewrite.specs.Faults.{IsPermitted, AreFaultless, HasFault, UnlessMemory, IsItemFault};
 
@@ -11,10 +12,8 @@ use crate::filling::{Filling, size_of};
 use crate::item::{is_call, permit};
 use crate::place::{next_bundle, nops_before};
 use rv_text::Item;
+use sfi_image::Format;
 use std::alloc::Global;
-
-/// The most bytes that a sandbox's code may take, its gates' stubs not counted.
-const CODE_MOST: usize = 65536;
 
 /// A sandbox's items in their places.
 #[derive(Drop)]
@@ -27,22 +26,23 @@ pub(crate) struct Laid {
 /// Adds an item, behind its c.nops, to the code of the sandbox of that number.
 fn lay_item(
     alloc: Global,
+    format: Format,
     sandbox: u32,
     item: &Item,
     code: &mut Filling,
 ) -> Result<(), RewriteFault>
-    requires permitted { IsPermitted item.now }
+    requires permitted { IsPermitted format item.now }
     requires body { (count : ℕ) × IsBody count item.now.body }
-    requires room { size_of code.old ≤ code_most }
-    ensures laid { IfOk result (λ _. HasNext code.old item.now code.new) }
-    ensures refused { IfErr result (UnlessMemory (HasFault sandbox (size_of code.old) item.now)) }
+    requires room { size_of code.old ≤ code_most format }
+    ensures laid { IfOk result (λ _. HasNext format code.old item.now code.new) }
+    ensures refused { IfErr result (UnlessMemory (HasFault format sandbox (size_of code.old) item.now)) }
 {
-    let expansion = expand(item);
+    let expansion = expand(format, item);
     let slots = expansion.slots();
     let size = size_of(slots);
     let end = code.end();
     let nops = nops_before(end, item.labelled, is_call(&item.body), size);
-    if end + 2 * nops >= CODE_MOST {
+    if end + 2 * nops >= format.code_most() as usize {
         return Err(RewriteFault::TooLarge { sandbox });
     }
     code.push_nops(alloc, nops)?;
@@ -51,18 +51,23 @@ fn lay_item(
 }
 
 /// Lays the items of the sandbox of that number.
-pub(crate) fn lay_items(alloc: Global, sandbox: u32, items: &[Item]) -> Result<Laid, RewriteFault>
+pub(crate) fn lay_items(
+    alloc: Global,
+    format: Format,
+    sandbox: u32,
+    items: &[Item],
+) -> Result<Laid, RewriteFault>
     requires { HaveBodies items.now }
-    ensures faultless { IfOk result (λ l. AreFaultless items.now l.code) }
-    ensures labels { IfOk result (λ l. AreLabels items.now l.labels.items) }
-    ensures refused { IfErr result (UnlessMemory (IsItemFault sandbox items.now)) }
+    ensures faultless { IfOk result (λ l. AreFaultless format items.now l.code) }
+    ensures labels { IfOk result (λ l. AreLabels format items.now l.labels.items) }
+    ensures refused { IfErr result (UnlessMemory (IsItemFault format sandbox items.now)) }
 {
     let mut code = Filling::new(alloc);
     let mut labels = Vec::new(alloc);
     for item in items {
         labels.push(next_bundle(code.end()))?;
-        permit(item)?;
-        lay_item(alloc, sandbox, item, &mut code)?;
+        permit(format, item)?;
+        lay_item(alloc, format, sandbox, item, &mut code)?;
     }
     labels.push(next_bundle(code.end()))?;
     Ok(Laid { code, labels })

@@ -29,8 +29,8 @@ pub(crate) fn place_names(
     labels: &[u32],
 ) -> Result<Vec<PlacedName>, AllocError>
     requires sandbox { IsSandbox part.now }
-    requires labels { AreLabels part.now.items labels.now }
-    ensures { IfOk result (λ v. AllZip (IsPlacedName part.now.items) (named part.now) v.items) }
+    requires labels { AreLabels part.now.format part.now.items labels.now }
+    ensures { IfOk result (λ v. AllZip (IsPlacedName part.now.format part.now.items) (named part.now) v.items) }
 {
     let mut names = Vec::new(alloc);
     for place in 0..part.name_count() {

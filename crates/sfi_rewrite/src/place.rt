@@ -1,6 +1,6 @@
 //! Where an expansion stands.
 ghost use Rattle.std.specs.Prelude.{◌≡◌, ◌%◌, ◌+◌, ◌*◌, ◌<◌, ◌≤◌, IsTrue};
-ghost use Rattle.sfi_rewrite.specs.Slots.{code_most};
+ghost use Rattle.sfi_rewrite.specs.Filling.{largest};
 ghost use Rattle.sfi_rewrite.specs.Places.{next_bundle, FillsGap};
 
 /// How many bytes a bundle has.
@@ -8,7 +8,7 @@ const BUNDLE: usize = 16;
 
 /// The first bundle start not before a place of the code.
 pub(crate) fn next_bundle(end: usize) -> u32
-    requires { end ≤ code_most }
+    requires { end ≤ largest }
     ensures { result ≡ next_bundle end }
 {
     (end.div_ceil(BUNDLE) * BUNDLE) as u32
@@ -17,7 +17,7 @@ pub(crate) fn next_bundle(end: usize) -> u32
 /// How many c.nops stand between the end of what stands before an expansion of so many bytes and its place, which is the first
 /// that lies in one bundle, is not before the bundle start of its labels, and for a call ends its bundle.
 pub(crate) fn nops_before(end: usize, labelled: bool, call: bool, size: usize) -> usize
-    requires end { end ≤ code_most }
+    requires end { end ≤ largest }
     requires even { end % 2 ≡ 0 }
     requires even_size { size % 2 ≡ 0 }
     requires some { 0 < size }
@@ -40,7 +40,7 @@ pub(crate) fn nops_before(end: usize, labelled: bool, call: bool, size: usize) -
 
 /// How many c.nops stand between the end of the last expansion and the bundle start behind it.
 pub(crate) fn nops_at_end(end: usize) -> usize
-    requires end { end ≤ code_most }
+    requires end { end ≤ largest }
     requires even { end % 2 ≡ 0 }
     ensures { end + 2 * result ≡ next_bundle end }
 {

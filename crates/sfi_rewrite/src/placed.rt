@@ -1,9 +1,10 @@
 //! What is placed: the sandboxes of a source, with their code in bundles and names for addresses.
 ghost use Rattle.std.specs.Prelude.{◌≡◌};
-ghost use Rattle.sfi_rewrite.specs.Placed.{IsPlaced};
+ghost use Rattle.sfi_rewrite.specs.Placed.{format_of, IsPlaced};
 
 use crate::bundle::Bundle;
 use rv_text::SourceGate;
+use sfi_image::Format;
 use std::marker::Model;
 
 /// What a name of a sandbox names, once its code is placed.
@@ -22,6 +23,7 @@ pub enum PlacedName {
 /// A sandbox whose code is placed.
 #[derive(Debug, Drop)]
 pub struct PlacedPart {
+    format: Format,
     data_size: u32,
     gates: Vec<SourceGate>,
     names: Vec<PlacedName>,
@@ -34,17 +36,19 @@ impl Model for PlacedPart {
 
     ghost Value = { Placement };
 
-    ghost view = { λ p. record { data_size = p.data_size; gates = p.gates.items; names = p.names.items; bytes = p.bytes.items; bundles = p.bundles.items } };
+    ghost view = { λ p. record { format = p.format; data_size = p.data_size; gates = p.gates.items; names = p.names.items; bytes = p.bytes.items; bundles = p.bundles.items } };
 }
 
 impl PlacedPart {
     pub(crate) fn new(
+        format: Format,
         data_size: u32,
         gates: Vec<SourceGate>,
         names: Vec<PlacedName>,
         bytes: Vec<u8>,
         bundles: Vec<Bundle>,
     ) -> PlacedPart
+        ensures format { result.format ≡ format }
         ensures data_size { result.data_size ≡ data_size }
         ensures gates { result.gates ≡ gates.items }
         ensures names { result.names ≡ names.items }
@@ -52,12 +56,20 @@ impl PlacedPart {
         ensures bundles { result.bundles ≡ bundles.items }
     {
         PlacedPart {
+            format,
             data_size,
             gates,
             names,
             bytes,
             bundles,
         }
+    }
+
+    /// The format of its source.
+    pub fn format(&self) -> Format
+        ensures { result ≡ self.now.format }
+    {
+        self.format
     }
 
     /// How many bytes the data region has, a power of two from 256 to 1048576.
@@ -88,7 +100,7 @@ impl PlacedPart {
         &self.bytes
     }
 
-    /// The bundles that stand behind the gates' stubs, at most 4096. Each has 16 bytes, but for the last, which may have fewer.
+    /// The bundles that stand behind the gates' stubs, at most 4096, or 65536 in the second format. Each has 16 bytes, but for the last, which may have fewer.
     pub fn bundles(&self) -> &[Bundle]
         ensures { result.now ≡ self.now.bundles }
     {
@@ -96,7 +108,7 @@ impl PlacedPart {
     }
 }
 
-/// A source whose code is placed: one sandbox at least. Contracts see the list of their placements.
+/// A source whose code is placed: one sandbox at least, all of one format. Contracts see the list of their placements.
 #[derive(Debug, Drop)]
 pub struct Placed {
     parts: Vec<PlacedPart>,
@@ -120,6 +132,16 @@ impl Placed {
         ensures { result ≡ parts.items }
     {
         Placed { parts }
+    }
+
+    /// The format of the image to be made.
+    pub fn format(&self) -> Format
+        ensures { result ≡ format_of self.now }
+    {
+        match self.parts.first() {
+            Some(part) => part.format(),
+            None => Format::Sfi1,
+        }
     }
 
     /// The sandboxes, in the order of the text.

@@ -1,18 +1,19 @@
 //! From a source to what is placed.
 ghost use Rattle.std.specs.Prelude.{◌≡◌, ◌<◌, ◌≤◌, ◌^◌, ℕ, List, IfOk, IfErr, IsTrue, Ok, Err};
-ghost use Rattle.std.specs.List.{All};
+ghost use Rattle.std.specs.List.{All, AllZip};
 ghost use Rattle.rv_text.specs.Source.{IsSandbox, IsSource};
-ghost use Rattle.sfi_rewrite.specs.Slots.{size_of, code_most};
+ghost use Rattle.sfi_rewrite.specs.Slots.{size_of};
 ghost use Rattle.sfi_rewrite.specs.Placement.{Placement};
 ghost use Rattle.sfi_rewrite.specs.Placed.{IsPlacedPart};
-ghost use Rattle.sfi_rewrite.specs.Filling.{HasEnd};
+ghost use Rattle.sfi_rewrite.specs.Filling.{HasEnd, largest};
 ghost use Rattle.sfi_rewrite.specs.declared.fault.RewriteFault.{RewriteFault};
 ghost use Rattle.sfi_rewrite.specs.Faults.{UnlessMemory, IsItemFault, IsSourceFault};
+ghost use Rattle.sfi_rewrite.specs.Transparency.{StandTransparent};
 ghost use Rattle.sfi_rewrite.specs.Rewriting.{IsRewritten, AreRewritten, AnswersPlaced, AnswersFault};
 
 use crate::fault::RewriteFault;
 use crate::filling::Filling;
-use crate::laws::{never_both, one_fault, one_rewriting};
+use crate::laws::{never_both, one_fault, one_rewriting, rewritten_is_transparent};
 use crate::laying::lay_items;
 use crate::names::{has_end_label, place_names};
 use crate::place::nops_at_end;
@@ -23,7 +24,7 @@ use std::alloc::{AllocError, Global};
 
 /// Fills the code up to the bundle start of a label at its end.
 fn fill_end(alloc: Global, labelled: bool, code: &mut Filling) -> Result<(), AllocError>
-    requires { size_of code.old ≤ code_most }
+    requires { size_of code.old ≤ largest }
     ensures { IfOk result (λ _. HasEnd code.old (IsTrue labelled) code.new) }
 {
     if !labelled {
@@ -39,12 +40,12 @@ fn place_part(alloc: Global, sandbox: u32, part: &SourcePart) -> Result<PlacedPa
     requires { IsSandbox part.now }
     ensures rewritten { IfOk result (IsRewritten part.now) }
     ensures right { IfOk result IsPlacedPart }
-    ensures refused { IfErr result (UnlessMemory (IsItemFault sandbox part.now.items)) }
+    ensures refused { IfErr result (UnlessMemory (IsItemFault part.now.format sandbox part.now.items)) }
 {
     // The law that one placement rests on: this call does nothing.
     one_first_form();
 
-    let laid = lay_items(alloc, sandbox, part.items())?;
+    let laid = lay_items(alloc, part.format(), sandbox, part.items())?;
     let names = place_names(alloc, part, &laid.labels)?;
     let mut code = laid.code;
     fill_end(alloc, has_end_label(part), &mut code)?;
@@ -53,7 +54,14 @@ fn place_part(alloc: Global, sandbox: u32, part: &SourcePart) -> Result<PlacedPa
     let mut bytes = Vec::new(alloc);
     bytes.extend_from_slice(part.bytes())?;
     let bundles = code.finish()?;
-    Ok(PlacedPart::new(part.data_size(), gates, names, bytes, bundles))
+    Ok(PlacedPart::new(
+        part.format(),
+        part.data_size(),
+        gates,
+        names,
+        bytes,
+        bundles,
+    ))
 }
 
 /// Places the sandboxes, in order.
@@ -78,11 +86,13 @@ fn place_parts(alloc: Global, parts: &[SourcePart]) -> Result<Vec<PlacedPart>, R
 /// of the text, the lowest on one instruction.
 pub fn rewrite(alloc: Global, source: &Source) -> Result<Placed, RewriteFault>
     ensures placed { IfOk result (AreRewritten source.now) }
+    ensures transparent { IfOk result (AllZip StandTransparent source.now) }
     ensures fault { IfErr result (UnlessMemory (IsSourceFault source.now)) }
     ensures only_placed { (placed : List Placement) → AreRewritten source.now placed → AnswersPlaced placed result }
     ensures only_fault { (fault : RewriteFault) → IsSourceFault source.now fault → AnswersFault fault result }
 {
-    // The laws that the last two clauses rest on: these calls do nothing.
+    // The laws that the clauses rest on: these calls do nothing.
+    rewritten_is_transparent();
     one_rewriting();
     one_fault();
     never_both();

@@ -1,5 +1,5 @@
-use Rattle.std.proofs.Common.{refl}
-use Rattle.sfi_rewrite.proofs.OneByOne.{even_size, item_one, is_some, is_few, too_large, fits_bundle, fits_code, has_next}
+use Rattle.std.proofs.Common.{refl, arith}
+use Rattle.sfi_rewrite.proofs.OneByOne.{even_size, item_one, is_some, is_few, too_large, fits_bundle, fits_code, has_next, most_of_any}
 use Rattle.sfi_rewrite.proofs.laying.lay_item.Goals as goal
 
 pub nops_before-nops-requires-clause-even : goal.nops_before-nops-requires-clause-even
@@ -11,24 +11,20 @@ nops_before-nops-requires-clause-even_size c = even_size c.size_of-size.result c
 pub nops_before-nops-requires-clause-some : goal.nops_before-nops-requires-clause-some
 nops_before-nops-requires-clause-some c =
     is_some c.size_of-size.result c.slots-slots.result.now c.size_of-size.ensures
-    (item_one c.args.item.now c.expand-expansion.result c.slots-slots.result.now c.expand-expansion.ensures c.slots-slots.ensures.slots c.requires.permitted c.requires.body)
+    (item_one c.args.format c.args.item.now c.expand-expansion.result c.slots-slots.result.now c.expand-expansion.ensures c.slots-slots.ensures.slots)
 
 pub nops_before-nops-requires-clause-few : goal.nops_before-nops-requires-clause-few
 nops_before-nops-requires-clause-few c =
     is_few c.size_of-size.result c.slots-slots.result.now c.size_of-size.ensures
-    (item_one c.args.item.now c.expand-expansion.result c.slots-slots.result.now c.expand-expansion.ensures c.slots-slots.ensures.slots c.requires.permitted c.requires.body)
+    (item_one c.args.format c.args.item.now c.expand-expansion.result c.slots-slots.result.now c.expand-expansion.ensures c.slots-slots.ensures.slots)
 
-pub returns-then-end-nops-ge-CODE_MOST-clause-refused : goal.returns-then-end-nops-ge-CODE_MOST-clause-refused
-returns-then-end-nops-ge-CODE_MOST-clause-refused c = (
+pub returns-then-end-nops-clause-refused : goal.returns-then-end-nops-clause-refused
+returns-then-end-nops-clause-refused c = (
   c.requires.permitted,
-  too_large c.args.item.now c.args.code.now c.expand-expansion.result c.slots-slots.result.now c.is_call.result c.end-end.result c.size_of-size.result c.nops_before-nops.result
-      c.expand-expansion.ensures c.slots-slots.ensures.slots c.end-end.ensures c.is_call.ensures c.size_of-size.ensures c.nops_before-nops.ensures.gap c.if-end-nops-ge-CODE_MOST.true,
+  too_large c.args.format c.args.item.now c.args.code.now c.expand-expansion.result c.slots-slots.result.now c.is_call.result c.end-end.result c.size_of-size.result c.nops_before-nops.result
+      c.expand-expansion.ensures c.slots-slots.ensures.slots c.end-end.ensures c.is_call.ensures c.size_of-size.ensures c.nops_before-nops.ensures.gap (omega (arith, c.code_most.ensures, c.if-end-nops.true)),
   refl,
 )
-
-pub push-requires-clause-whole : goal.push-requires-clause-whole
-push-requires-clause-whole c =
-    (item_one c.args.item.now c.expand-expansion.result c.slots-slots.result.now c.expand-expansion.ensures c.slots-slots.ensures.slots c.requires.permitted c.requires.body).whole
 
 pub push-requires-clause-fits : goal.push-requires-clause-fits
 push-requires-clause-fits c =
@@ -37,11 +33,12 @@ push-requires-clause-fits c =
 
 pub push-requires-clause-room : goal.push-requires-clause-room
 push-requires-clause-room c =
-    fits_code c.args.code.now c.push_nops.new.self c.args.item.now.labelled c.is_call.result c.end-end.result c.size_of-size.result c.nops_before-nops.result
-    c.end-end.ensures c.nops_before-nops.ensures.gap c.in_ok-push_nops.ensures c.if-end-nops-ge-CODE_MOST.false
+    most_of_any c.args.format _
+    (fits_code c.args.format c.args.code.now c.push_nops.new.self c.args.item.now.labelled c.is_call.result c.end-end.result c.size_of-size.result c.nops_before-nops.result
+    c.end-end.ensures c.nops_before-nops.ensures.gap c.in_ok-push_nops.ensures (omega (arith, c.code_most.ensures, c.if-end-nops.false)))
 
 pub returns-clause-laid : goal.returns-clause-laid
 returns-clause-laid c =
-    has_next c.args.item.now c.args.code.now c.push_nops.new.self c.push.new.self c.expand-expansion.result c.slots-slots.result.now c.is_call.result c.end-end.result c.size_of-size.result c.nops_before-nops.result
+    has_next c.args.format c.args.item.now c.args.code.now c.push_nops.new.self c.push.new.self c.expand-expansion.result c.slots-slots.result.now c.is_call.result c.end-end.result c.size_of-size.result c.nops_before-nops.result
     c.expand-expansion.ensures c.slots-slots.ensures.slots c.end-end.ensures c.is_call.ensures c.size_of-size.ensures c.nops_before-nops.ensures.gap
-    c.in_ok-push_nops.ensures c.in_ok-push.ensures c.if-end-nops-ge-CODE_MOST.false
+    c.in_ok-push_nops.ensures c.in_ok-push.ensures (omega (arith, c.code_most.ensures, c.if-end-nops.false))

@@ -7,9 +7,9 @@ pub returns-in_err-permit-clause-refused : goal.returns-in_err-permit-clause-ref
 returns-in_err-permit-clause-refused c =
     let p = err_from_is_err_and c.from_residual-in_err-permit.result c.from_residual-in_err-permit.ensures.1 in
     rw (p.1, p.2)
-    (item_fault c.args.sandbox c.args.items.now c.loop-item.item-index c.item-item.result c.loop-item.code c.in_err-permit.field-0.0
+    (item_fault c.args.format c.args.sandbox c.args.items.now c.loop-item.item-index c.item-item.result c.loop-item.code c.in_err-permit.field-0.0
     c.loop-item-test.true c.item-item.is c.loop-item.invariant.faultless
-    (found_fault c.args.sandbox (size_of c.loop-item.code) c.item-item.result c.in_err-permit.field-0.0 c.in_err-permit.ensures.refused))
+    (found_fault c.args.format c.args.sandbox (size_of c.loop-item.code) c.item-item.result c.in_err-permit.field-0.0 c.in_err-permit.ensures.refused))
 
 pub lay_item-requires-clause-body : goal.lay_item-requires-clause-body
 lay_item-requires-clause-body c = body_at c.args.items.now c.loop-item.item-index c.item-item.result c.loop-item-test.true c.item-item.is c.requires
@@ -18,25 +18,25 @@ pub returns-in_err-lay_item-clause-refused : goal.returns-in_err-lay_item-clause
 returns-in_err-lay_item-clause-refused c =
     let p = err_from_is_err_and c.from_residual-in_err-lay_item.result c.from_residual-in_err-lay_item.ensures.1 in
     rw (p.1, p.2)
-    (item_fault c.args.sandbox c.args.items.now c.loop-item.item-index c.item-item.result c.loop-item.code c.in_err-lay_item.field-0.0
+    (item_fault c.args.format c.args.sandbox c.args.items.now c.loop-item.item-index c.item-item.result c.loop-item.code c.in_err-lay_item.field-0.0
     c.loop-item-test.true c.item-item.is c.loop-item.invariant.faultless c.in_err-lay_item.ensures.refused)
 
 pub loop-item-preserved : goal.loop-item-preserved
 loop-item-preserved c = record {
   faultless =
-      one_more c.args.items.now c.loop-item.item-index c.item-item.result c.loop-item.code c.lay_item.new.code
+      one_more c.args.format c.args.items.now c.loop-item.item-index c.item-item.result c.loop-item.code c.lay_item.new.code
       c.loop-item-test.true c.item-item.is c.loop-item.invariant.faultless c.in_ok-permit.ensures.permitted c.in_ok-lay_item.ensures.laid;
   count = label_count c.loop-item.labels.items c.push.new.self.items c.loop-item.item-index c.next_bundle.result c.loop-item.invariant.count c.in_ok-push.ensures.items;
   labels =
-      label_push c.args.items.now c.loop-item.labels.items c.push.new.self.items c.loop-item.item-index c.next_bundle.result
+      label_push c.args.format c.args.items.now c.loop-item.labels.items c.push.new.self.items c.loop-item.item-index c.next_bundle.result
       c.loop-item.invariant.count c.loop-item.invariant.labels
-      (label_here c.args.items.now c.loop-item.item-index c.end.result c.next_bundle.result c.loop-item.code c.loop-item.invariant.faultless c.end.ensures c.next_bundle.ensures)
+      (label_here c.args.format c.args.items.now c.loop-item.item-index c.end.result c.next_bundle.result c.loop-item.code c.loop-item.invariant.faultless c.end.ensures c.next_bundle.ensures)
       c.in_ok-push.ensures.items;
 }
 
 pub returns-clause-labels : goal.returns-clause-labels
 returns-clause-labels c =
-    all_labels c.args.items.now c.loop-item.labels.items c.push-2.new.self.items c.loop-item.item-index c.next_bundle-2.result
+    all_labels c.args.format c.args.items.now c.loop-item.labels.items c.push-2.new.self.items c.loop-item.item-index c.next_bundle-2.result
     c.loop-item-test.false c.loop-item.auto.item-index-end c.loop-item.invariant.count c.loop-item.invariant.labels
-    (label_here c.args.items.now c.loop-item.item-index c.end-2.result c.next_bundle-2.result c.loop-item.code c.loop-item.invariant.faultless c.end-2.ensures c.next_bundle-2.ensures)
+    (label_here c.args.format c.args.items.now c.loop-item.item-index c.end-2.result c.next_bundle-2.result c.loop-item.code c.loop-item.invariant.faultless c.end-2.ensures c.next_bundle-2.ensures)
     c.in_ok-push-2.ensures.items

@@ -5,4 +5,4 @@ use Rattle.sfi_rewrite.specs.Placement.{IsPlacedName}
 use Rattle.sfi_rewrite.proofs.names.place_names.Given as goal
 
 abbrev pub invariant-loop-place : goal.invariant-loop-place
-invariant-loop-place l = AllZip (IsPlacedName l.part.items) (take l.place (named l.part)) l.names.items
+invariant-loop-place l = AllZip (IsPlacedName l.part.format l.part.items) (take l.place (named l.part)) l.names.items

@@ -3,7 +3,6 @@ use Rattle.std.specs.List.{All, AllZip}
 use Rattle.rv_text.specs.Source.{named}
 use Rattle.sfi_rewrite.specs.Slots.{slots_of}
 use Rattle.sfi_rewrite.specs.Placement.{IsPlacedName, AreBundles}
-use Rattle.sfi_rewrite.specs.Placed.{AreWhole}
 use Rattle.sfi_rewrite.specs.Faults.{AreFaultless}
 use Rattle.sfi_rewrite.proofs.Placements.{have_bodies, placed_part, rewritten, end_of, copied}
 use Rattle.sfi_rewrite.proofs.rewriting.place_part.Goals as goal
@@ -15,14 +14,15 @@ made : goal.returns-clause-rewritten
 made c =
     rewritten c.args.part.now c.new.result (record {
       slots = c.in_ok-laid.laid.code;
-      faultless = subst (λ v. AreFaultless v c.in_ok-laid.laid.code) c.items.ensures c.in_ok-laid.ensures.faultless;
+      faultless = subst (λ f. AreFaultless f c.args.part.now.items c.in_ok-laid.laid.code) c.format.ensures (subst (λ v. AreFaultless c.format.result v c.in_ok-laid.laid.code) c.items.ensures c.in_ok-laid.ensures.faultless);
       all = c.fill_end.new.code;
       end = end_of c.args.part.now c.has_end_label.result c.in_ok-laid.laid.code c.fill_end.new.code c.has_end_label.ensures c.in_ok-fill_end.ensures;
       code = ap slots_of c.new.ensures.bundles ∙ c.in_ok-bundles.ensures.code;
+      format = c.new.ensures.format ∙ c.format-2.ensures;
       data_size = c.new.ensures.data_size ∙ c.data_size.ensures;
       gates = c.new.ensures.gates ∙ copied c.new-gates.result.items c.extend_from_slice.new.self.items c.gates.result.now c.args.part.now.gates c.in_ok-extend_from_slice.ensures.items c.new-gates.ensures.items c.gates.ensures;
       bytes = c.new.ensures.bytes ∙ copied c.new-bytes.result.items c.extend_from_slice-2.new.self.items c.bytes.result.now c.args.part.now.bytes c.in_ok-extend_from_slice-2.ensures.items c.new-bytes.ensures.items c.bytes.ensures;
-      names = subst (λ v. AllZip (IsPlacedName c.args.part.now.items) (named c.args.part.now) v) (sym c.new.ensures.names) c.in_ok-names.ensures;
+      names = subst (λ v. AllZip (IsPlacedName c.args.part.now.format c.args.part.now.items) (named c.args.part.now) v) (sym c.new.ensures.names) c.in_ok-names.ensures;
       bundles = subst AreBundles (sym c.new.ensures.bundles) c.in_ok-bundles.ensures.bundles;
     })
 
@@ -31,4 +31,4 @@ returns-clause-rewritten c = made c
 
 pub returns-clause-right : goal.returns-clause-right
 returns-clause-right c =
-    placed_part c.one_first_form.ensures c.args.part.now c.new.result c.requires (made c) (subst (λ v. All AreWhole v) (sym c.new.ensures.bundles) c.in_ok-bundles.ensures.whole)
+    placed_part c.one_first_form.ensures c.args.part.now c.new.result c.requires (made c)

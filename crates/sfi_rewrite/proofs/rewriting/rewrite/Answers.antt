@@ -1,8 +1,9 @@
-use Rattle.std.proofs.Common.{subst}
+use Rattle.std.proofs.Common.{subst, sym}
 use Rattle.std.specs.List.{AllZip}
 use Rattle.std.proofs.lemmas.Result.{err_from_is_err_and}
 use Rattle.sfi_rewrite.specs.Faults.{UnlessMemory, IsSourceFault}
 use Rattle.sfi_rewrite.specs.Rewriting.{IsRewritten}
+use Rattle.sfi_rewrite.proofs.Standing.{all_stand}
 use Rattle.sfi_rewrite.proofs.Sources.{is_placed, fault_answered}
 use Rattle.sfi_rewrite.proofs.rewriting.rewrite.Goals as goal
 
@@ -23,3 +24,9 @@ pub returns-clause-only_fault : goal.returns-clause-only_fault
 returns-clause-only_fault c fault is =
     absurd (c.never_both.ensures c.args.source.now c.in_ok-place_parts.field-0.items fault
     (subst (λ v. AllZip IsRewritten v c.in_ok-place_parts.field-0.items) c.parts.ensures.parts c.in_ok-place_parts.ensures.rewritten) is)
+
+pub returns-clause-transparent : goal.returns-clause-transparent
+returns-clause-transparent c =
+    all_stand c.rewritten_is_transparent.ensures c.args.source.now c.new.result
+    (subst (λ v. AllZip IsRewritten c.args.source.now v) (sym c.new.ensures)
+    (subst (λ v. AllZip IsRewritten v c.in_ok-place_parts.field-0.items) c.parts.ensures.parts c.in_ok-place_parts.ensures.rewritten))

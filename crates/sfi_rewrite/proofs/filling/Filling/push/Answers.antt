@@ -4,7 +4,7 @@ use Rattle.sfi_rewrite.proofs.filling.Filling.push.Goals as goal
 
 pub invariant_of-self-then-used-size-lt16 : goal.invariant_of-self-then-used-size-lt16
 invariant_of-self-then-used-size-lt16 c =
-    filled_in c.self.inside.full.items c.self.inside.last.items c.args.slots.now _ c.self.inside.end c.args.size c.self.invariant c.requires.whole c.in_ok-extend_from_slice.ensures.items c.requires.size c.if-used-size-lt16.true
+    filled_in c.self.inside.full.items c.self.inside.last.items c.args.slots.now _ c.self.inside.end c.args.size c.self.invariant c.in_ok-extend_from_slice.ensures.items c.requires.size c.if-used-size-lt16.true
 
 pub invariant_of-self-in_err-extend_from_slice-2 : goal.invariant_of-self-in_err-extend_from_slice-2
 invariant_of-self-in_err-extend_from_slice-2 c =
@@ -16,7 +16,7 @@ invariant_of-self-in_err-push c =
 
 pub invariant_of-self-2 : goal.invariant_of-self-2
 invariant_of-self-2 c =
-    filled_up c.self.inside.full.items c.push.new.self.items c.self.inside.last.items c.args.slots.now _ _ c.self.inside.end c.args.size c.self.invariant c.requires.whole
+    filled_up c.self.inside.full.items c.push.new.self.items c.self.inside.last.items c.args.slots.now _ _ c.self.inside.end c.args.size c.self.invariant
     c.in_ok-push.ensures.items
     (c.new-2.ensures ∙ c.in_ok-extend_from_slice-2.ensures.items ∙ ap (λ v. v.items ++ c.args.slots.now) c.replace-bundle.ensures.value)
     (ap (λ v. v.items) c.replace-bundle.ensures.after ∙ c.new.ensures.items)

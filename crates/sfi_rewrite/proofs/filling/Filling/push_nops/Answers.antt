@@ -1,8 +1,5 @@
-use Rattle.sfi_rewrite.proofs.Bundles.{nop_whole, nop_fits, nops_room}
+use Rattle.sfi_rewrite.proofs.Bundles.{nop_fits, nops_room}
 use Rattle.sfi_rewrite.proofs.filling.Filling.push_nops.Goals as goal
-
-pub push-requires-clause-whole : goal.push-requires-clause-whole
-push-requires-clause-whole c = rw c.c_nop.ensures nop_whole
 
 pub push-requires-clause-fits : goal.push-requires-clause-fits
 push-requires-clause-fits c = nop_fits c.loop.self

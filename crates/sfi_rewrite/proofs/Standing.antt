@@ -1,0 +1,53 @@
+-- Each instruction of a source stands transparent in what is placed.
+use Rattle.std.proofs.Common.{◌≡◌, ℕ, ◌+◌, ◌<◌, List, [], ◌∷◌, ◌++◌, length, drop, replicate, ap, ◌∙◌, subst, arith, append_assoc}
+use Rattle.std.specs.List.{AllZip}
+use Rattle.std.proofs.lemmas.List.{drop_more}
+use Rattle.std.proofs.lemmas.List.Elements.{All-get_or}
+use Rattle.std.proofs.lemmas.Option.{get_or_from_slice_get, slice_get_within}
+use Rattle.rv_text.specs.declared.item.Item.{Item}
+use Rattle.rv_text.specs.Source.{Sandbox}
+use Rattle.sfi_rewrite.specs.declared.slot.Slot.{Slot}
+use Rattle.sfi_rewrite.specs.Slots.{size_of, c_nop}
+use Rattle.sfi_rewrite.specs.Places.{AreLaidFrom}
+use Rattle.sfi_rewrite.specs.Placement.{Placement}
+use Rattle.sfi_rewrite.specs.Faults.{IsPermitted}
+use Rattle.sfi_rewrite.specs.Rewriting.{IsRewritten}
+use Rattle.sfi_rewrite.specs.Laws.{ExpansionsAreTransparent, RewrittenIsTransparent}
+use Rattle.sfi_rewrite.specs.Transparency.{StandTransparent}
+use Rattle.sfi_rewrite.proofs.Laid.{laid_split}
+
+apart : (front nops expanded rest pad : List Slot) → (front ++ (nops ++ (expanded ++ rest))) ++ pad ≡ front ++ (nops ++ (expanded ++ (rest ++ pad)))
+apart front nops expanded rest pad =
+    append_assoc front (nops ++ (expanded ++ rest)) pad
+    ∙ ap (λ v. front ++ v) (append_assoc nops (expanded ++ rest) pad ∙ ap (λ v. nops ++ v) (append_assoc expanded rest pad))
+
+pub stand_transparent : ExpansionsAreTransparent → RewrittenIsTransparent
+stand_transparent law s p r k x at =
+    let q = r.placement in
+    let split = laid_split s.format 0 s.items k q.slots q.laid in
+    let within : k < length s.items = slice_get_within s.items k x at in
+    let here : drop k s.items ≡ x ∷ drop (k + 1) s.items =
+    drop_more s.items k x within ∙ ap (λ (y : Item). y ∷ drop (k + 1) s.items) (get_or_from_slice_get s.items k x x at) in
+    let from : 0 + size_of split.front ≡ size_of split.front = omega arith in
+    let behind : AreLaidFrom s.format (size_of split.front) (x ∷ drop (k + 1) s.items) split.back =
+    subst (λ (l : List Item). AreLaidFrom s.format (size_of split.front) l split.back) here (subst (λ (n : ℕ). AreLaidFrom s.format n (drop k s.items) split.back) from split.behind) in
+    let is : IsPermitted s.format x = subst (IsPermitted s.format) (get_or_from_slice_get s.items k x x at) (All-get_or (IsPermitted s.format) s.items k x within r.faultless.items.permitted) in
+    record {
+      before = split.front;
+      laid = split.before;
+      nops = behind.0;
+      expanded = behind.1;
+      next = behind.3;
+      behind = behind.2 ++ replicate q.nops c_nop;
+      placed =
+          q.code ∙ ap (λ v. v ++ replicate q.nops c_nop) (split.both ∙ ap (λ v. split.front ++ v) behind.4)
+          ∙ apart split.front (replicate behind.0 c_nop) behind.1 behind.2 (replicate q.nops c_nop);
+      transparent = λ i be. law s.format x i behind.1 be is behind.3.expansion;
+    }
+
+-- so does each of all sandboxes
+pub all_stand : RewrittenIsTransparent → (source : List Sandbox) (placed : List Placement) → AllZip IsRewritten source placed → AllZip StandTransparent source placed
+all_stand law [] [] z = z
+all_stand law [] (p ∷ placed) z = absurd z
+all_stand law (s ∷ source) [] z = absurd z
+all_stand law (s ∷ source) (p ∷ placed) z = (law s p z.0, all_stand law source placed z.1)

@@ -1,0 +1,274 @@
+-- Each expansion does what its instruction does.
+use Rattle.std.proofs.Common.{◌≡◌, ◌≢◌, ℕ, zero, suc, ◌-◌, ◌^◌, ◌<◌, List, [], ◌∷◌, ◌++◌, Bool, true, false, refl, sym, ap, ◌∙◌, subst, arith, inl, inr, ℤ, pos, negsuc}
+use Rattle.std.specs.Prelude.{bit_and, bit_or}
+use Rattle.std.proofs.lemmas.Bool.{or_parts}
+use Rattle.rv_word.specs.declared.instr.RegOp.TheVariants.{And, Or}
+use Rattle.rv_word.specs.declared.instr.ImmOp.TheVariants.{Addi}
+use Rattle.rv_word.specs.declared.instr.LoadKind.{LoadKind}
+use Rattle.rv_word.specs.declared.instr.StoreWidth.{StoreWidth}
+use Rattle.rv_word.specs.declared.instr.Instr.{Instr}
+use Rattle.rv_word.specs.declared.instr.Instr.TheVariants.{Op, OpImm, Load, Store, Branch, Jal, Jalr, Lui, Auipc, Fence, Ecall, Ebreak}
+use Rattle.rv_comp.specs.declared.front.Front.TheVariants.{Read}
+use Rattle.rv_comp.specs.declared.form.Form16.{Form16}
+use Rattle.rv_comp.specs.Table.{expansion}
+use Rattle.rv_mem.specs.Bytes.{address_after}
+use Rattle.rv_step.specs.Laws.{PairLeaves, StepKeepsState}
+use Rattle.rv_step.specs.State.{Hart, State, IsState, register, with_register, with_pc}
+use Rattle.rv_step.specs.Step.{Stands, effect, IsStep}
+use Rattle.rv_step.specs.Steps.{further, StandInRow, LeadsTo, LeadTo}
+use Rattle.rv_step.specs.Values.{plus}
+use Rattle.sfi_image.specs.Formats.{code_most}
+use Rattle.sfi_image.specs.declared.span.Span.{Span}
+use Rattle.sfi_image.specs.Spans.{Holds}
+use Rattle.sfi_image.specs.Regions.{IsBundleStart}
+use Rattle.sfi_rewrite.specs.declared.slot.Slot.{Slot}
+use Rattle.sfi_rewrite.specs.declared.slot.Slot.TheVariants.{Wide, Short, Jump, Upper, Lower}
+use Rattle.sfi_rewrite.specs.Registers.{is_withheld, names_withheld}
+use Rattle.sfi_rewrite.specs.Slots.{slot_size}
+use Rattle.sfi_rewrite.specs.Expansion.{data_pair, code_pair, jump_to_x31, jump_slots, IsAlone, IsMasked}
+use Rattle.sfi_rewrite.specs.Transparency.{AreRegions, HasReserved, SlotStands, IsSameAside, DoesAs, IsTransparent}
+use Rattle.sfi_rewrite.proofs.Unmoved.{unmoved_data, unmoved_code}
+use Rattle.sfi_rewrite.proofs.Aside.{Aside, aside_scratch, written_here, loads_same, stores_same, jumps_same, plus_zero, added, plus_fits}
+
+-- ---- what stands at a pc
+
+-- the state at this pc, with this value in x31
+abbrev scratched : State → ℕ → ℕ → State
+scratched s pc v = record { hart = with_register (with_pc s.hart pc) 31 v; memory = s.memory }
+
+-- what stands there is told by pc and memory
+pub stands_at : (s t : State) (i : Instr) (n : ℕ) → t.hart.pc ≡ s.hart.pc → t.memory ≡ s.memory → Stands s i n → Stands t i n
+stands_at s t i n e f st = record { bytes = st.bytes; there = rw (e, f) st.there; spelled = st.spelled }
+
+pub does : (s : State) (i : Instr) (n : ℕ) → Stands s i n → IsStep s (effect i n s.hart s.memory)
+does s i n st = record { front = Read i n; at_pc = st; result = refl }
+
+not_withheld : (r : ℕ) → is_withheld r ≡ false → r ≢ 31
+not_withheld r h = λ e. cc
+
+-- ---- a pair at pc
+
+-- behind a pair on x31 whose masked value is v
+pair_to : PairLeaves → (s : State) (a mask base v : ℕ) → IsState s → base ≢ 31 → StandInRow s (Op And 31 a mask ∷ Op Or 31 31 base ∷ [])
+    → bit_or (bit_and (register s.hart a) (register s.hart mask)) (register s.hart base) ≡ v → LeadTo 2 s (scratched s (address_after s.hart.pc 8) v)
+pair_to pair s a mask base v is apart stand e =
+    subst (λ (n : ℕ). LeadTo 2 s (scratched s (address_after s.hart.pc 8) n)) e (pair s 31 a mask base is (λ z. omega arith) apart stand)
+
+pub unmasked_data : (c d : Span) (h : Hart) (x : ℕ) → AreRegions c d → HasReserved c d h → Holds d x → bit_or (bit_and x (register h 27)) (register h 26) ≡ x
+unmasked_data c d h x regions reserved held =
+    ap (λ n. bit_or (bit_and x n) (register h 26)) reserved.x27 ∙ ap (λ n. bit_or (bit_and x (d.size - 1)) n) reserved.x26
+    ∙ unmoved_data d.base d.size 256 1048576 x regions.data_placed held.0 held.1
+
+unmasked_code : (c d : Span) (h : Hart) (x : ℕ) → AreRegions c d → HasReserved c d h → IsBundleStart c x → bit_or (bit_and x (register h 25)) (register h 24) ≡ x
+unmasked_code c d h x regions reserved start =
+    ap (λ n. bit_or (bit_and x n) (register h 24)) reserved.x25 ∙ ap (λ n. bit_or (bit_and x (c.size - 16)) n) reserved.x24
+    ∙ unmoved_code c.base c.size (code_most regions.format) x regions.code_placed start.held.0 start.held.1 start.aligned
+
+eight : (pc : ℕ) → address_after (address_after pc 4) 4 ≡ address_after pc 8
+eight pc = omega arith
+
+twelve : (pc : ℕ) → address_after (address_after pc 4) 8 ≡ address_after pc 12
+twelve pc = omega arith
+
+scratch_is : (s : State) (pc v : ℕ) → IsState s → register (scratched s pc v).hart 31 ≡ v
+scratch_is s pc v is = let n = is.hart.count in written_here (with_pc s.hart pc) 31 v (λ e. omega arith) (omega arith)
+
+-- ---- a pair and what stands behind it
+
+-- from harts with v in x31, and else the registers of s, j does what i does from these
+abbrev DoesFor : State → Instr → Instr → ℕ → Type 0
+DoesFor s i j v =
+    (h : Hart) → Aside h (with_pc s.hart h.pc) → register h 31 ≡ v → IsSameAside (effect j 4 h s.memory) (effect i 4 (with_pc s.hart h.pc) s.memory)
+
+-- three slots: the last does from behind the pair what i does
+behind_pair : PairLeaves → (s : State) (i j : Instr) (a mask base v : ℕ) → IsState s → base ≢ 31
+    → Stands s (Op And 31 a mask) 4 → Stands (further s 4) (Op Or 31 31 base) 4 → Stands (further (further s 4) 4) j 4
+    → bit_or (bit_and (register s.hart a) (register s.hart mask)) (register s.hart base) ≡ v
+    → DoesFor s i j v
+    → DoesAs s i (Wide (Op And 31 a mask) ∷ Wide (Op Or 31 31 base) ∷ []) (Wide j)
+behind_pair pair s i j a mask base v is apart first second third e same =
+    let pc = address_after s.hart.pc 8 in
+    let there = scratched s pc v in
+    record {
+      there = there;
+      leads = pair_to pair s a mask base v is apart (first, (second, tt)) e;
+      place = refl;
+      result = effect j 4 there.hart s.memory;
+      step = does there j 4 (stands_at (further (further s 4) 4) there j 4 (sym (eight s.hart.pc)) refl third);
+      same = same there.hart (aside_scratch s.hart v pc) (scratch_is s pc v is);
+    }
+
+-- x31 was written twice
+aside_twice : (s : State) (p q v w : ℕ) → Aside (scratched (scratched s p v) q w).hart (with_pc s.hart q)
+aside_twice s p q v w =
+    let one = aside_scratch s.hart v p in
+    let two = aside_scratch (scratched s p v).hart w q in
+    record { pc = refl; count = two.count ∙ one.count; registers = λ x ne. two.registers x ne ∙ one.registers x ne }
+
+-- four slots: the sum goes before the pair
+behind_sum : PairLeaves → StepKeepsState → (s : State) (i j : Instr) (a mask base : ℕ) (imm : ℤ) → IsState s → mask ≢ 31 → base ≢ 31
+    → Stands s (OpImm Addi 31 a imm) 4 → Stands (further s 4) (Op And 31 31 mask) 4 → Stands (further (further s 4) 4) (Op Or 31 31 base) 4 → Stands (further (further (further s 4) 4) 4) j 4
+    → bit_or (bit_and (plus (register s.hart a) imm) (register s.hart mask)) (register s.hart base) ≡ plus (register s.hart a) imm
+    → DoesFor s i j (plus (register s.hart a) imm)
+    → DoesAs s i (Wide (OpImm Addi 31 a imm) ∷ Wide (Op And 31 31 mask) ∷ Wide (Op Or 31 31 base) ∷ []) (Wide j)
+behind_sum pair keeps s i j a mask base imm is ne apart first second third fourth e same =
+    let v = plus (register s.hart a) imm in
+    let p = address_after s.hart.pc 4 in
+    let q = address_after p 8 in
+    let one = scratched s p v in
+    let there = scratched one q v in
+    let step : LeadsTo s one = subst (λ (n : ℕ). LeadsTo s (scratched s p n)) (added (register s.hart a) imm) (does s (OpImm Addi 31 a imm) 4 first) in
+    let is_one : IsState one = keeps s _ is step in
+    let aside = aside_scratch s.hart v p in
+    let value : bit_or (bit_and (register one.hart 31) (register one.hart mask)) (register one.hart base) ≡ v =
+    ap (λ n. bit_or (bit_and n (register one.hart mask)) (register one.hart base)) (scratch_is s p v is)
+    ∙ ap (λ n. bit_or (bit_and v n) (register one.hart base)) (aside.registers mask ne)
+    ∙ ap (λ n. bit_or (bit_and v (register s.hart mask)) n) (aside.registers base apart)
+    ∙ e in
+    let row : StandInRow one (Op And 31 31 mask ∷ Op Or 31 31 base ∷ []) =
+    (stands_at (further s 4) one (Op And 31 31 mask) 4 refl refl second, (stands_at (further (further s 4) 4) (further one 4) (Op Or 31 31 base) 4 refl refl third, tt)) in
+    record {
+      there = there;
+      leads = (one, step, pair_to pair one 31 mask base v is_one apart row value);
+      place = twelve s.hart.pc;
+      result = effect j 4 there.hart s.memory;
+      step = does there j 4 (stands_at (further (further (further s 4) 4) 4) there j 4 (sym (eight p)) refl fourth);
+      same = same there.hart (aside_twice s p q v v) (scratch_is one q v is_one);
+    }
+
+-- ---- the expansions
+
+load_transparent : PairLeaves → (kind : LoadKind) (rd a : ℕ) (imm : ℤ) → IsTransparent (Load kind rd a imm) (data_pair a ++ Wide (Load kind rd 31 imm) ∷ [])
+load_transparent pair kind rd a imm = record {
+  before = data_pair a;
+  last = Wide (Load kind rd 31 imm);
+  slots_are = refl;
+  does = λ c d s regions is reserved stand keeps.
+      behind_pair pair s (Load kind rd a imm) (Load kind rd 31 imm) a 27 26 (register s.hart a) is (λ z. omega arith) stand.0 stand.1.0 stand.1.1.0
+      (unmasked_data c d s.hart (register s.hart a) regions reserved keeps)
+      (λ h aside e. loads_same kind rd a imm h (with_pc s.hart h.pc) s.memory aside e);
+}
+
+store_transparent : PairLeaves → (width : StoreWidth) (a rs2 : ℕ) (imm : ℤ) → rs2 ≢ 31 → IsTransparent (Store width a rs2 imm) (data_pair a ++ Wide (Store width 31 rs2 imm) ∷ [])
+store_transparent pair width a rs2 imm ne = record {
+  before = data_pair a;
+  last = Wide (Store width 31 rs2 imm);
+  slots_are = refl;
+  does = λ c d s regions is reserved stand keeps.
+      behind_pair pair s (Store width a rs2 imm) (Store width 31 rs2 imm) a 27 26 (register s.hart a) is (λ z. omega arith) stand.0 stand.1.0 stand.1.1.0
+      (unmasked_data c d s.hart (register s.hart a) regions reserved keeps)
+      (λ h aside e. stores_same width a rs2 imm h (with_pc s.hart h.pc) s.memory aside e ne);
+}
+
+-- a jump's offset is 0
+jump_transparent : PairLeaves → (rd a : ℕ) → IsTransparent (Jalr rd a (pos 0)) (code_pair a ++ jump_to_x31 rd ∷ [])
+jump_transparent pair rd a = record {
+  before = code_pair a;
+  last = jump_to_x31 rd;
+  slots_are = refl;
+  does = λ c d s regions is reserved stand keeps.
+      let v = register s.hart a in
+      let to = plus_zero v (is.hart.words a) in
+      behind_pair pair s (Jalr rd a (pos 0)) (Jalr rd 31 (pos 0)) a 25 24 v is (λ z. omega arith) stand.0 stand.1.0 stand.1.1.0
+      (unmasked_code c d s.hart v regions reserved (subst (λ (n : ℕ). IsBundleStart c n) to keeps))
+      (λ h aside e. jumps_same rd a (pos 0) h (with_pc s.hart h.pc) s.memory aside (ap (λ n. plus n (pos 0)) e));
+}
+
+-- it isn't
+sum_transparent : PairLeaves → StepKeepsState → (rd a : ℕ) (imm : ℤ) → IsTransparent (Jalr rd a imm) (Wide (OpImm Addi 31 a imm) ∷ (code_pair 31 ++ jump_to_x31 rd ∷ []))
+sum_transparent pair keeps rd a imm = record {
+  before = Wide (OpImm Addi 31 a imm) ∷ code_pair 31;
+  last = jump_to_x31 rd;
+  slots_are = refl;
+  does = λ c d s regions is reserved stand keep.
+      let v = plus (register s.hart a) imm in
+      behind_sum pair keeps s (Jalr rd a imm) (Jalr rd 31 (pos 0)) a 25 24 imm is (λ z. omega arith) (λ z. omega arith) stand.0 stand.1.0 stand.1.1.0 stand.1.1.1.0
+      (unmasked_code c d s.hart v regions reserved keep)
+      (λ h aside e. jumps_same rd a imm h (with_pc s.hart h.pc) s.memory aside (ap (λ n. plus n (pos 0)) e ∙ plus_zero v (plus_fits (register s.hart a) imm)));
+}
+
+jumps_transparent : PairLeaves → StepKeepsState → (rd a : ℕ) (imm : ℤ) → IsTransparent (Jalr rd a imm) (jump_slots rd a imm)
+jumps_transparent pair keeps rd a (pos zero) = jump_transparent pair rd a
+jumps_transparent pair keeps rd a (pos (suc n)) = sum_transparent pair keeps rd a (pos (suc n))
+jumps_transparent pair keeps rd a (negsuc n) = sum_transparent pair keeps rd a (negsuc n)
+
+-- ---- an instruction that is its own expansion
+
+stays_there : (pc : ℕ) → pc < 2 ^ 32 → pc ≡ address_after pc 0
+stays_there pc h = omega arith
+
+same_alone : (i : Instr) (n : ℕ) (s : State) → IsSameAside (effect i n s.hart s.memory) (effect i n (with_pc s.hart s.hart.pc) s.memory)
+same_alone i n s = record { outcome = refl; pc = refl; registers = λ x ne. refl; memory = refl }
+
+wide_transparent : (i : Instr) → IsTransparent i (Wide i ∷ [])
+wide_transparent i = record {
+  before = [];
+  last = Wide i;
+  slots_are = refl;
+  does = λ c d s regions is reserved stand keeps.
+      record {
+        there = s;
+        leads = refl;
+        place = stays_there s.hart.pc is.hart.address;
+        result = effect i 4 s.hart s.memory;
+        step = does s i 4 stand.0;
+        same = same_alone i 4 s;
+      };
+}
+
+short_transparent : (i : Instr) (f : Form16) → expansion f ≡ i → IsTransparent i (Short f ∷ [])
+short_transparent i f e = record {
+  before = [];
+  last = Short f;
+  slots_are = refl;
+  does = λ c d s regions is reserved stand keeps.
+      record {
+        there = s;
+        leads = refl;
+        place = stays_there s.hart.pc is.hart.address;
+        result = effect i 2 s.hart s.memory;
+        step = does s i 2 (subst (λ (j : Instr). Stands s j 2) e stand.0);
+        same = same_alone i 2 s;
+      };
+}
+
+pub alone_transparent : (rvc : Bool) (i : Instr) (slots : List Slot) → IsAlone rvc i slots → IsTransparent i slots
+alone_transparent false i slots e = subst (λ (l : List Slot). IsTransparent i l) (sym e) (wide_transparent i)
+alone_transparent true i slots (inl s) = subst (λ (l : List Slot). IsTransparent i l) (sym s.2) (short_transparent i s.0 s.1.expands)
+alone_transparent true i slots (inr w) = subst (λ (l : List Slot). IsTransparent i l) (sym w.1) (wide_transparent i)
+
+-- a slot that waits for its name
+pub named_transparent : (i : Instr) (x : Slot) → slot_size x ≡ 4 → ((s : State) → SlotStands i s x → Stands s i 4) → IsTransparent i (x ∷ [])
+named_transparent i x size stands = record {
+  before = [];
+  last = x;
+  slots_are = refl;
+  does = λ c d s regions is reserved stand keeps.
+      record {
+        there = s;
+        leads = refl;
+        place = stays_there s.hart.pc is.hart.address;
+        result = effect i 4 s.hart s.memory;
+        step = does s i 4 (stands s stand.0);
+        same = subst (λ (n : ℕ). IsSameAside (effect i 4 s.hart s.memory) (effect i n (with_pc s.hart s.hart.pc) s.memory)) (sym size) (same_alone i 4 s);
+      };
+}
+
+-- ---- any expansion
+
+pub of_masked : PairLeaves → StepKeepsState → (rvc : Bool) (i : Instr) (slots : List Slot)
+    → names_withheld i ≡ false → IsMasked rvc i slots → IsTransparent i slots
+of_masked pair keeps rvc (Load kind rd a imm) slots n e = subst (λ (l : List Slot). IsTransparent (Load kind rd a imm) l) (sym e) (load_transparent pair kind rd a imm)
+of_masked pair keeps rvc (Store width a rs2 imm) slots n e =
+    let h = or_parts (is_withheld a) (is_withheld rs2) n in
+    subst (λ (l : List Slot). IsTransparent (Store width a rs2 imm) l) (sym e) (store_transparent pair width a rs2 imm (not_withheld rs2 h.1))
+of_masked pair keeps rvc (Jalr rd a imm) slots n e = subst (λ (l : List Slot). IsTransparent (Jalr rd a imm) l) (sym e) (jumps_transparent pair keeps rd a imm)
+of_masked pair keeps rvc (Op op rd rs1 rs2) slots n e = alone_transparent rvc (Op op rd rs1 rs2) slots e
+of_masked pair keeps rvc (OpImm op rd rs1 imm) slots n e = alone_transparent rvc (OpImm op rd rs1 imm) slots e
+of_masked pair keeps rvc (Branch cond rs1 rs2 offset) slots n e = alone_transparent rvc (Branch cond rs1 rs2 offset) slots e
+of_masked pair keeps rvc (Jal rd offset) slots n e = alone_transparent rvc (Jal rd offset) slots e
+of_masked pair keeps rvc (Lui rd imm) slots n e = alone_transparent rvc (Lui rd imm) slots e
+of_masked pair keeps rvc (Auipc rd imm) slots n e = alone_transparent rvc (Auipc rd imm) slots e
+of_masked pair keeps rvc (Fence imm rd rs1) slots n e = alone_transparent rvc (Fence imm rd rs1) slots e
+of_masked pair keeps rvc Ecall slots n e = alone_transparent rvc Ecall slots e
+of_masked pair keeps rvc Ebreak slots n e = alone_transparent rvc Ebreak slots e

@@ -1,0 +1,62 @@
+-- The stack pointer x2, of a format that has one: an access on it stands as it is, and what writes it stands before the pair that puts it back into the
+-- data region.
+use Rattle.std.specs.Prelude.{◌==◌, ◌&&◌, not, ℕ, Bool, true, false, List, [], ◌∷◌, Option, Some, None}
+use Rattle.rv_word.specs.declared.instr.RegOp.TheVariants.{And, Or}
+use Rattle.rv_word.specs.declared.instr.Instr.{Instr}
+use Rattle.rv_word.specs.declared.instr.Instr.TheVariants.{Op, Load, Store, Jal, Jalr}
+use Rattle.rv_word.specs.Writes.{destination}
+use Rattle.rv_text.specs.declared.item.Body.{Body}
+use Rattle.rv_text.specs.declared.item.Body.TheVariants.{Plain, To, High, Low}
+use Rattle.sfi_image.specs.declared.format.Format.{Format}
+use Rattle.sfi_image.specs.Formats.{has_stack}
+use Rattle.sfi_rewrite.specs.declared.slot.Slot.{Slot}
+use Rattle.sfi_rewrite.specs.declared.slot.Slot.TheVariants.{Wide}
+
+-- ---- x2 in an instruction
+
+abbrev pub is_x2 : Option ℕ → Bool
+is_x2 None = false
+is_x2 (Some r) = r == 2
+
+-- it writes x2
+abbrev pub writes_x2 : Instr → Bool
+writes_x2 i = is_x2 (destination i)
+
+-- a load or store on x2
+abbrev pub is_on_x2 : Instr → Bool
+is_on_x2 (Load kind rd a imm) = a == 2
+is_on_x2 (Store width a rs2 imm) = a == 2
+is_on_x2 _ = false
+
+-- x2 is written by what can't stand before the pair: by a jump, or by a load on another register, which has its own pair
+abbrev pub jumps_or_loads_x2 : Body → Bool
+jumps_or_loads_x2 (Plain (Load kind rd a imm)) = (rd == 2) && not (a == 2)
+jumps_or_loads_x2 (Plain (Jal rd offset)) = rd == 2
+jumps_or_loads_x2 (Plain (Jalr rd a imm)) = rd == 2
+jumps_or_loads_x2 (To (Jal rd offset) name) = rd == 2
+jumps_or_loads_x2 _ = false
+
+-- ---- the same, where x2 is a stack pointer
+
+abbrev pub is_stack : Format → ℕ → Bool
+is_stack f r = has_stack f && (r == 2)
+
+abbrev pub writes_stack : Format → Instr → Bool
+writes_stack f i = has_stack f && writes_x2 i
+
+abbrev pub is_on_stack : Format → Instr → Bool
+is_on_stack f i = has_stack f && is_on_x2 i
+
+abbrev pub is_stack_write : Format → Body → Bool
+is_stack_write f x = has_stack f && jumps_or_loads_x2 x
+
+-- ---- the pair
+
+-- `and x2, x2, x27`, `or x2, x2, x26`
+abbrev pub stack_pair : List Slot
+stack_pair = Wide (Op And 2 2 27) ∷ Wide (Op Or 2 2 26) ∷ []
+
+-- the pair, where there is something to put back
+abbrev pub put_back : Bool → List Slot
+put_back false = []
+put_back true = stack_pair

@@ -1,0 +1,143 @@
+-- What an expansion does: within its sandbox it does what its instruction does, x31 aside; before the pair that puts the stack pointer back, what
+-- its instruction leaves stays.
+use Rattle.std.specs.Prelude.{◌≡◌, ◌≢◌, ◌-◌, ◌++◌, ℕ, ℤ, MatchBool, List, [], ◌∷◌, length, take, replicate, slice_get, Some}
+use Rattle.rv_word.specs.declared.instr.Instr.{Instr}
+use Rattle.rv_word.specs.declared.instr.ImmOp.TheVariants.{Addi}
+use Rattle.rv_word.specs.declared.instr.Instr.TheVariants.{OpImm, Load, Store, Branch, Jal, Jalr, Lui}
+use Rattle.rv_comp.specs.Table.{expansion}
+use Rattle.rv_mem.specs.Bytes.{address_after}
+use Rattle.rv_step.specs.declared.outcome.Outcome.TheVariants.{Next}
+use Rattle.rv_step.specs.State.{Hart, State, IsState, register, with_pc}
+use Rattle.rv_step.specs.Step.{Stepped, Stands, effect, IsStep}
+use Rattle.rv_step.specs.Steps.{further, LeadTo}
+use Rattle.rv_step.specs.Values.{plus}
+use Rattle.rv_text.specs.declared.item.Body.{Body}
+use Rattle.rv_text.specs.declared.item.Body.TheVariants.{Plain, To, High, Low}
+use Rattle.rv_text.specs.declared.item.Item.{Item}
+use Rattle.rv_text.specs.Source.{Sandbox}
+use Rattle.sfi_image.specs.declared.format.Format.{Format}
+use Rattle.sfi_image.specs.declared.span.Span.{Span}
+use Rattle.sfi_image.specs.Spans.{Holds}
+use Rattle.sfi_image.specs.Regions.{IsCodeRegion, IsDataRegion, IsBundleStart}
+use Rattle.sfi_rewrite.specs.declared.slot.Slot.{Slot}
+use Rattle.sfi_rewrite.specs.declared.slot.Slot.TheVariants.{Wide, Short, Jump, Upper, Lower}
+use Rattle.sfi_rewrite.specs.Stack.{writes_stack}
+use Rattle.sfi_rewrite.specs.Slots.{slot_size, size_of, slots_of, c_nop}
+use Rattle.sfi_rewrite.specs.Places.{IsNext, AreLaid}
+use Rattle.sfi_rewrite.specs.Placement.{Placement}
+
+-- ---- the sandbox
+
+-- a sandbox's code, in some format, may lie in the one span, and its data in the other
+pub record AreRegions (code_at data_at : Span) : Type 0 where
+  pub format : Format
+  pub code_placed : IsCodeRegion format code_at.base code_at.size
+  pub data_placed : IsDataRegion data_at.base data_at.size
+
+-- x24 to x27 hold the code base, the code size less 16, the data base and the data size less 1
+pub record HasReserved (code_at data_at : Span) (h : Hart) : Type 0 where
+  pub x24 : register h 24 ≡ code_at.base
+  pub x25 : register h 25 ≡ code_at.size - 16
+  pub x26 : register h 26 ≡ data_at.base
+  pub x27 : register h 27 ≡ data_at.size - 1
+
+-- The instruction keeps to the sandbox: a load's or store's base register lies in the data region, whatever its offset adds, and a jalr goes to a
+-- bundle start of the code region. Of any other instruction nothing is asked.
+abbrev pub KeepsTo : Span → Span → Hart → Instr → Type 0
+KeepsTo code_at data_at h (Load kind rd a imm) = Holds data_at (register h a)
+KeepsTo code_at data_at h (Store width a rs2 imm) = Holds data_at (register h a)
+KeepsTo code_at data_at h (Jalr rd a imm) = IsBundleStart code_at (plus (register h a) imm)
+KeepsTo code_at data_at h _ = Unit {0}
+
+-- ---- what stands there
+
+-- the bytes at pc are the slot's: a slot that waits for a name's address has become i
+abbrev pub SlotStands : Instr → State → Slot → Type 0
+SlotStands i s (Wide j) = Stands s j 4
+SlotStands i s (Short f) = Stands s (expansion f) 2
+SlotStands i s (Jump j name line) = Stands s i 4
+SlotStands i s (Upper rd name line) = Stands s i 4
+SlotStands i s (Lower rd name line) = Stands s i 4
+
+-- the slots stand one behind another from pc on, wherever that is
+abbrev pub SlotsStand : Instr → State → List Slot → Type 0
+SlotsStand i s [] = Unit {0}
+SlotsStand i s (x ∷ slots) = SlotStands i s x × SlotsStand i (further s (slot_size x)) slots
+
+-- ---- what it does
+
+-- the steps came to the same, x31 aside: one outcome, with one cause and one address, one pc, one memory
+pub record IsSameAside (r q : Stepped) : Type 0 where
+  pub outcome : r.outcome ≡ q.outcome
+  pub pc : r.state.hart.pc ≡ q.state.hart.pc
+  pub registers : (x : ℕ) → x ≢ 31 → register r.state.hart x ≡ register q.state.hart x
+  pub memory : r.state.memory ≡ q.state.memory
+
+-- From this state the steps of the slots before the last are done, and lead to the last one's place. The step there comes to what the line of i does, if i stood
+-- there with the last one's length, on the registers and the memory of this state, x31 aside.
+pub record DoesAs (s : State) (i : Instr) (before : List Slot) (last : Slot) : Type 0 where
+  pub there : State
+  pub leads : LeadTo (length before) s there
+  pub place : there.hart.pc ≡ address_after s.hart.pc (size_of before)
+  pub result : Stepped
+  pub step : IsStep there result
+  pub same : IsSameAside result (effect i (slot_size last) (with_pc s.hart there.hart.pc) s.memory)
+
+-- The slots are transparent to the instruction: wherever they stand, from any state in which the instruction keeps to its sandbox, they do as it does.
+pub record IsTransparent (i : Instr) (slots : List Slot) : Type 0 where
+  pub before : List Slot
+  pub last : Slot
+  pub slots_are : slots ≡ before ++ last ∷ []
+  pub does :
+      (code_at data_at : Span) (s : State) → AreRegions code_at data_at → IsState s → HasReserved code_at data_at s.hart → SlotsStand i s slots → KeepsTo code_at data_at s.hart i
+      → DoesAs s i before last
+
+-- ---- before the pair that puts the stack pointer back
+
+-- the same state at another pc
+abbrev pub at_pc : State → ℕ → State
+at_pc s pc = record { hart = with_pc s.hart pc; memory = s.memory }
+
+-- The slots keep what i leaves: wherever they stand, from any state with x2 in the data region in which the line of i, there, is done and leaves x2 in the data
+-- region, each of their steps is done, and they leave the registers and the memory that i leaves, and the pc behind all of them.
+pub record KeepsStack (i : Instr) (slots : List Slot) : Type 0 where
+  pub does :
+      (code_at data_at : Span) (s : State) → AreRegions code_at data_at → IsState s → HasReserved code_at data_at s.hart → Holds data_at (register s.hart 2) → SlotsStand i s slots
+      → (effect i 4 s.hart s.memory).outcome ≡ Next → Holds data_at (register (effect i 4 s.hart s.memory).state.hart 2)
+      → LeadTo (length slots) s (at_pc (effect i 4 s.hart s.memory).state (address_after s.hart.pc (size_of slots)))
+
+-- what an expansion of the format is to its instruction
+abbrev pub ActsAs : Format → Instr → List Slot → Type 0
+ActsAs f i slots = MatchBool (writes_stack f i) (KeepsStack i slots) (IsTransparent i slots)
+
+-- ---- an item
+
+-- the jal or branch with any offset: no other instruction goes to a name
+abbrev pub IsAimed : Instr → Instr → Type 0
+IsAimed (Jal rd offset) i = (z : ℤ) × (i ≡ Jal rd z)
+IsAimed (Branch cond rs1 rs2 offset) i = (z : ℤ) × (i ≡ Branch cond rs1 rs2 z)
+IsAimed _ i = ⊥
+
+-- the item is this instruction, for some address of its name
+abbrev pub MayBe : Body → Instr → Type 0
+MayBe (Plain j) i = i ≡ j
+MayBe (To j name) i = IsAimed j i
+MayBe (High rd name) i = (imm : ℕ) × (i ≡ Lui rd imm)
+MayBe (Low rd name) i = (imm : ℤ) × (i ≡ OpImm Addi rd rd imm)
+
+-- ---- what is placed
+
+-- the expansion of item k in its place among the placed bundles, which acts as whatever the item may be
+pub record StandsTransparent (f : Format) (items : List Item) (p : Placement) (k : ℕ) (x : Item) : Type 0 where
+  pub before : List Slot
+  pub laid : AreLaid f (take k items) before
+  pub nops : ℕ
+  pub expanded : List Slot
+  pub next : IsNext f (size_of before) x nops expanded
+  pub behind : List Slot
+  pub placed : slots_of p.bundles ≡ before ++ (replicate nops c_nop ++ (expanded ++ behind))
+  pub transparent : (i : Instr) → MayBe x.body i → ActsAs f i expanded
+
+-- each item of the sandbox stands so
+abbrev pub StandTransparent : Sandbox → Placement → Type 0
+StandTransparent s p = (k : ℕ) (x : Item) → slice_get s.items k ≡ Some x → StandsTransparent s.format s.items p k x
