@@ -26,6 +26,7 @@ use Rattle.sfi_link.proofs.OneLinking.{one_fault}
 pub rewrite_failed : (text : List ℕ) (source : List Sandbox) (f : RewriteFault) → MeansSource text source → UnlessMemory (IsSourceFault source) f → Builds text (Err (Rewrite f))
 rewrite_failed text source (rewriter.ReservedRegister l) means h = inr (source, means, h)
 rewrite_failed text source (rewriter.Ecall l) means h = inr (source, means, h)
+rewrite_failed text source (rewriter.StackWrite l) means h = inr (source, means, h)
 rewrite_failed text source (rewriter.TooLarge n) means h = inr (source, means, h)
 rewrite_failed text source rewriter.Memory means h = inl refl
 

@@ -6,25 +6,12 @@ use Rattle.std.proofs.lemmas.List.Elements.{All-head, All-tail, All-nil, All-con
 use Rattle.sfi_rewrite.specs.declared.slot.Slot.{Slot}
 use Rattle.sfi_rewrite.specs.Slots.{size_of, slots_of}
 use Rattle.sfi_rewrite.specs.Placement.{AreBundles}
-use Rattle.sfi_rewrite.specs.Placed.{AreWhole, nothing, lone, load, store, jump, jump_with_offset}
+use Rattle.sfi_image.specs.declared.format.Format.{Format}
+use Rattle.sfi_rewrite.specs.Placed.{AreWhole, nothing}
 use Rattle.sfi_link.specs.Linked.{c_ebreak}
 use Rattle.sfi_link.proofs.Sizes.{size_of-append, size_even, size_fill}
 use Rattle.sfi_link.proofs.Clean.{ends_slots}
 use Rattle.sfi_link.proofs.Region.{IsFull}
-
--- ---- whole expansions
-
-whole-append : (xs ys : List Slot) → AreWhole xs → AreWhole ys → AreWhole (xs ++ ys)
-whole-append _ ys nothing b = b
-whole-append _ ys (lone s rest h a) b = lone s (rest ++ ys) h (whole-append rest ys a b)
-whole-append _ ys (load x rd kind imm rest h g a) b = load x rd kind imm (rest ++ ys) h g (whole-append rest ys a b)
-whole-append _ ys (store x rs2 width imm rest h g a) b = store x rs2 width imm (rest ++ ys) h g (whole-append rest ys a b)
-whole-append _ ys (jump x rd rest h g a) b = jump x rd (rest ++ ys) h g (whole-append rest ys a b)
-whole-append _ ys (jump_with_offset x rd imm rest n h g a) b = jump_with_offset x rd imm (rest ++ ys) n h g (whole-append rest ys a b)
-
-whole_fill : (n : ℕ) → AreWhole (replicate n c_ebreak)
-whole_fill zero = nothing
-whole_fill (suc n) = lone c_ebreak (replicate n c_ebreak) (refl, refl) (whole_fill n)
 
 -- ---- c.ebreaks
 
@@ -41,9 +28,10 @@ eights zero = refl
 eights (suc m) =
     ap (λ l. eight ++ l) (eights m) ∙ sym (replicate-add 8 (8 * m) c_ebreak) ∙ ap (λ k. replicate k c_ebreak) (let e : 8 + 8 * m ≡ 8 * suc m = omega arith in e)
 
-eights_full : (m : ℕ) → All IsFull (replicate m eight)
-eights_full zero = All-nil IsFull
-eights_full (suc m) = All-cons IsFull eight (replicate m eight) (record { size = size_fill 8; whole = whole_fill 8 }) (eights_full m)
+eights_full : (f : Format) (c m : ℕ) → All (IsFull f c) (replicate m eight)
+eights_full f c zero = All-nil (IsFull f c)
+eights_full f c (suc m) =
+    All-cons (IsFull f c) eight (replicate m eight) (record { size = size_fill 8; front = []; fill = 8; shape = refl; whole = nothing }) (eights_full f c m)
 
 ends_fill : (xs : List Slot) (n : ℕ) → 0 < n → ends_slots (xs ++ replicate n c_ebreak) ≡ true
 ends_fill xs zero h = absurd (omega arith)
@@ -55,16 +43,16 @@ ends_fill (x ∷ y ∷ xs) (suc n) h = ends_fill (y ∷ xs) (suc n) h
 -- ---- bundles
 
 -- so many full bundles, which are these bundles and so many c.ebreaks, the last of which ends in one
-pub record AreFilled (bundles : List (List Slot)) (fill n : ℕ) : Type 0 where
+pub record AreFilled (f : Format) (c : ℕ) (bundles : List (List Slot)) (fill n : ℕ) : Type 0 where
   pub full : List (List Slot)
   pub slots : slots_of full ≡ slots_of bundles ++ replicate fill c_ebreak
-  pub all : All IsFull full
+  pub all : All (IsFull f c) full
   pub count : length full ≡ n
   pub ends : (k : ℕ) → k + 1 ≡ n → ends_slots (get_or full k []) ≡ true
 
 -- the last bundle and the c.ebreaks
-filled_one : (b : List Slot) → AreWhole b → (j m fill n : ℕ) → size_of b + 2 * j ≡ 16 → fill ≡ j + 8 * m → n ≡ suc m → 0 < fill → AreFilled (b ∷ []) fill n
-filled_one b w j m fill n size sum count some =
+filled_one : (f : Format) (c : ℕ) (b : List Slot) → AreWhole f c b → (j m fill n : ℕ) → size_of b + 2 * j ≡ 16 → fill ≡ j + 8 * m → n ≡ suc m → 0 < fill → AreFilled f c (b ∷ []) fill n
+filled_one f c b w j m fill n size sum count some =
     let first : List Slot = b ++ replicate j c_ebreak in
     let sized = size_of-append b (replicate j c_ebreak) in
     let filled = size_fill j in
@@ -77,7 +65,7 @@ filled_one b w j m fill n size sum count some =
     record {
       full = first ∷ replicate m eight;
       slots = flat;
-      all = All-cons IsFull first (replicate m eight) (record { size = omega arith; whole = whole-append b (replicate j c_ebreak) w (whole_fill j) }) (eights_full m);
+      all = All-cons (IsFull f c) first (replicate m eight) (record { size = omega arith; front = b; fill = j; shape = refl; whole = w }) (eights_full f c m);
       count = omega arith;
       ends = ends_of first m (λ zero_m. ends_fill b j (omega arith)) n count;
     }
@@ -86,32 +74,32 @@ filled_one b w j m fill n size sum count some =
     ends_of first m one n count zero e = one (omega arith)
     ends_of first m one n count (suc k) e = ap ends_slots (get_or-replicate m k eight [] (omega arith))
 
-pub filled : (bundles : List (List Slot)) → AreBundles bundles → All AreWhole bundles → (fill n : ℕ) → size_of (slots_of bundles) + 2 * fill ≡ 16 * n → 0 < fill → AreFilled bundles fill n
-filled [] are whole fill n size some =
+pub filled : (f : Format) (k : ℕ) (bundles : List (List Slot)) → AreBundles bundles → All (AreWhole f k) bundles → (fill n : ℕ) → size_of (slots_of bundles) + 2 * fill ≡ 16 * n → 0 < fill → AreFilled f k bundles fill n
+filled f k [] are whole fill n size some =
     let e : 8 * n ≡ fill = omega arith in
     let many = length-replicate n eight in
     record {
       full = replicate n eight;
-      slots = eights n ∙ ap (λ k. replicate k c_ebreak) e;
-      all = eights_full n;
+      slots = eights n ∙ ap (λ m. replicate m c_ebreak) e;
+      all = eights_full f k n;
       count = many;
-      ends = λ k h. ap ends_slots (get_or-replicate n k eight [] (omega arith));
+      ends = λ m h. ap ends_slots (get_or-replicate n m eight [] (omega arith));
     }
-filled (b ∷ []) are whole fill n size some =
+filled f k (b ∷ []) are whole fill n size some =
     let even = size_even b in
     let most = are.1 in
     let same = ap size_of (append-nil b) in
-    filled_one b (All-head AreWhole b [] whole) ((16 - size_of b) / 2) (n - 1) fill n (omega arith) (omega arith) (omega arith) some
-filled (b ∷ c ∷ bundles) are whole fill n size some =
+    filled_one f k b (All-head (AreWhole f k) b [] whole) ((16 - size_of b) / 2) (n - 1) fill n (omega arith) (omega arith) (omega arith) some
+filled f k (b ∷ c ∷ bundles) are whole fill n size some =
     let first = are.0 in
     let e = size_of-append b (slots_of (c ∷ bundles)) in
-    let one : AreFilled (c ∷ bundles) fill (n - 1) = filled (c ∷ bundles) are.1 (All-tail AreWhole b (c ∷ bundles) whole) fill (n - 1) (omega arith) some in
+    let one : AreFilled f k (c ∷ bundles) fill (n - 1) = filled f k (c ∷ bundles) are.1 (All-tail (AreWhole f k) b (c ∷ bundles) whole) fill (n - 1) (omega arith) some in
     let counted = one.count in
     let n_some : 0 < n = omega arith in
     record {
       full = b ∷ one.full;
       slots = ap (λ l. b ++ l) one.slots ∙ sym (append_assoc b (slots_of (c ∷ bundles)) (replicate fill c_ebreak));
-      all = All-cons IsFull b one.full (record { size = first; whole = All-head AreWhole b (c ∷ bundles) whole }) one.all;
+      all = All-cons (IsFull f k) b one.full (record { size = first; front = b; fill = 0; shape = sym (append-nil b); whole = All-head (AreWhole f k) b (c ∷ bundles) whole }) one.all;
       count = omega arith;
       ends = ends_of b one.full (n - 1) n (omega arith) (size_positive (c ∷ bundles) fill (n - 1) (omega arith) some) one.ends;
     }

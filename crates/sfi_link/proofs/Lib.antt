@@ -6,6 +6,8 @@ pub mod Region
 pub mod Filled
 pub mod Parts
 pub mod LinkedClean
+pub mod SlotsThere
+pub mod RunsAs
 pub mod OneLinking
 pub mod Pushed
 pub mod Linking

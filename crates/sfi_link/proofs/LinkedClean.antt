@@ -6,6 +6,7 @@ use Rattle.std.proofs.lemmas.List.Elements.{All-head, All-tail}
 use Rattle.std.proofs.lemmas.Option.{slice_get_within, get_or_from_slice_get}
 use Rattle.rv_word.specs.Laws.{SpellingsAreWide}
 use Rattle.rv_comp.specs.Laws.{OneSpelling, TwoLengths}
+use Rattle.sfi_image.specs.declared.format.Format.{Format}
 use Rattle.sfi_image.specs.Spelling.{Part}
 use Rattle.sfi_image.specs.Gates.{is_gate_of}
 use Rattle.sfi_image.specs.Regions.{IsBundleStart}
@@ -17,7 +18,7 @@ use Rattle.sfi_rewrite.specs.declared.placed.PlacedName.{PlacedName}
 use Rattle.sfi_rewrite.specs.declared.placed.PlacedName.TheVariants.{Gate, Code, Data, Unknown}
 use Rattle.sfi_rewrite.specs.Slots.{slots_of}
 use Rattle.sfi_rewrite.specs.Placement.{Placement}
-use Rattle.sfi_rewrite.specs.Placed.{IsPlacedPart, IsPlacedThere}
+use Rattle.sfi_rewrite.specs.Placed.{AreWhole, IsPlacedPart, IsPlacedThere}
 use Rattle.sfi_link.specs.Addresses.{bases_of, of_name, target_of}
 use Rattle.sfi_link.specs.Code.{AreSlots}
 use Rattle.sfi_link.specs.Linked.{c_ebreak, needed, gates_from, IsLinked, AreLinkedFrom}
@@ -25,7 +26,7 @@ use Rattle.sfi_link.proofs.Sizes.{size_of-append, size_fill}
 use Rattle.sfi_link.proofs.Clean.{AreStarts}
 use Rattle.sfi_link.proofs.Region.{IsClosed, closed_is_clean, length_stubs}
 use Rattle.sfi_link.proofs.Filled.{filled}
-use Rattle.sfi_link.proofs.Parts.{sixteens, slots_length, listed_at, listed_only}
+use Rattle.sfi_link.proofs.Parts.{code_at_most, sixteens, slots_length, listed_at, listed_only}
 
 -- ---- names
 
@@ -45,12 +46,14 @@ target_starts number p q linked few (Gate k) there to e =
     let base = linked.code_base in
     let room = linked.code.size.has_room.room in
     let most = linked.code.size.has_room.at_most in
+    let bound = code_at_most p.format in
     (record { held = (omega arith, omega arith); aligned = omega arith }, omega arith)
 target_starts number p q linked few (Code offset) there to e =
     let is = some_same (0x01000000 * (number + 1) + 16 * length p.gates + offset) to e in
     let base = linked.code_base in
     let room = linked.code.size.has_room.room in
     let most = linked.code.size.has_room.at_most in
+    let bound = code_at_most p.format in
     let even = there.0 in
     let within = there.1 in
     (record { held = (omega arith, omega arith); aligned = omega arith }, omega arith)
@@ -73,10 +76,11 @@ closed law number p q placed few linked =
     let code = linked.code in
     let room = code.size.has_room.room in
     let most = code.size.has_room.at_most in
+    let bound = code_at_most p.format in
     let base = linked.code_base in
     let gates = linked.gates in
     let start = linked.start in
-    let counted = sixteens (needed p) (length q.code) code.size.has_room in
+    let counted = sixteens p.format (needed p) (length q.code) code.size.has_room in
     let sixteen = counted.is in
     let long = ap length code.code_is ∙ length-append (repeat (length p.gates) stub) code.bytes in
     let stubs = length_stubs (length p.gates) in
@@ -84,7 +88,7 @@ closed law number p q placed few linked =
     let sized = size_of-append (slots_of p.bundles) (replicate code.fill c_ebreak) in
     let fill = size_fill code.fill in
     let n : ℕ = counted.count - length p.gates in
-    let whole = filled p.bundles placed.bundles placed.whole code.fill n (omega arith) (omega arith) in
+    let whole = filled q.format (length p.names) p.bundles placed.bundles (subst (λ (f : Format). All (AreWhole f (length p.names)) p.bundles) (sym linked.format) placed.whole) code.fill n (omega arith) (omega arith) in
     let count = whole.count in
     let at = bases_of number p in
     let same : (k : ℕ) → is_gate_of q.gates (q.code_base + 16 * k) ≡ is_gate_of (gates_from at.code p.gates) (at.code + 16 * k) =

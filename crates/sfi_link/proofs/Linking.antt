@@ -9,6 +9,9 @@ use Rattle.std.proofs.lemmas.List.{take_more}
 use Rattle.std.proofs.lemmas.Option.{slice_get-get_or}
 use Rattle.rv_text.specs.declared.item.SourceGate.{SourceGate}
 use Rattle.rv_text.specs.Source.{Sandbox}
+use Rattle.sfi_image.specs.declared.format.Format.{Format}
+use Rattle.sfi_image.specs.declared.format.Format.TheVariants.{Sfi1, Sfi2}
+use Rattle.sfi_image.specs.Formats.{code_most}
 use Rattle.sfi_image.specs.Spelling.{Part, spelling}
 use Rattle.sfi_scan.specs.Bundles.{stub}
 use Rattle.sfi_rewrite.specs.declared.placed.PlacedName.{PlacedName}
@@ -28,7 +31,7 @@ use Rattle.sfi_link.specs.Near.{IsNear, AreLow, AreNear, AreWritten, AreCodesFro
 use Rattle.sfi_link.specs.Answers.{UnlessMemory, Links, AnswersBytes, AnswersFault}
 use Rattle.sfi_link.proofs.Sizes.{size_even}
 use Rattle.sfi_link.proofs.Region.{length_stubs}
-use Rattle.sfi_link.proofs.Parts.{sixteens}
+use Rattle.sfi_link.proofs.Parts.{sixteens, code_at_most}
 use Rattle.sfi_link.proofs.Pushed.{slots-append, written_length, fill_slots}
 use Rattle.sfi_link.proofs.OneLinking.{one_linking, one_fault, never_both}
 
@@ -46,27 +49,36 @@ least_power needed n (suc k) m j is half some mis enough =
       | inr more ↦ let high : 2 ^ suc k ≤ 2 ^ j = pow_mono more in omega (arith, high, is, mis)
     ]
 
-pub least_size : (needed n k : ℕ) → n ≡ 2 ^ k → needed ≤ n → n / 2 < max 1 needed → 256 < needed → needed ≤ 65536 → IsCodeSize needed n
-least_size needed n k is enough half low high = record {
-  has_room = record { power = k; size_is = is; at_least = omega arith; at_most = least_power needed n k 65536 16 is half (omega arith) refl high; room = enough };
+-- the largest code region is a power of two
+most_power : (f : Format) → (j : ℕ) × (code_most f ≡ 2 ^ j)
+most_power Sfi1 = (16, refl)
+most_power Sfi2 = (20, refl)
+
+pub least_size : (f : Format) (needed n k : ℕ) → n ≡ 2 ^ k → needed ≤ n → n / 2 < max 1 needed → 256 < needed → needed ≤ code_most f → IsCodeSize f needed n
+least_size f needed n k is enough half low high = record {
+  has_room = record { power = k; size_is = is; at_least = omega arith; at_most = least_power needed n k (code_most f) (most_power f).0 is half (omega arith) (most_power f).1 high; room = enough };
   least = λ other h. least_power needed n k other h.power is half (omega arith) h.size_is h.room;
 }
 
-pub small_size : (needed : ℕ) → needed ≤ 256 → IsCodeSize needed 256
-small_size needed low = record {
-  has_room = record { power = 8; size_is = refl; at_least = omega arith; at_most = omega arith; room = low };
+some_most : (f : Format) → 256 ≤ code_most f
+some_most Sfi1 = omega arith
+some_most Sfi2 = omega arith
+
+pub small_size : (f : Format) (needed : ℕ) → needed ≤ 256 → IsCodeSize f needed 256
+small_size f needed low = record {
+  has_room = record { power = 8; size_is = refl; at_least = omega arith; at_most = some_most f; room = low };
   least = λ other h. h.at_least;
 }
 
--- more than 65536 bytes have room nowhere
-pub no_room : (needed size : ℕ) → 65536 < needed → HasRoom needed size → ⊥
-no_room needed size large h = let a = h.room in let b = h.at_most in omega arith
+-- more bytes than the largest code region has have room nowhere
+pub no_room : (f : Format) (needed size : ℕ) → code_most f < needed → HasRoom f needed size → ⊥
+no_room f needed size large h = let a = h.room in let b = h.at_most in omega arith
 
 -- ---- what is near
 
 near_name : (p : Placement) → IsPlacedPart p → (n : PlacedName) → IsPlacedThere p n → IsNear n
 near_name p placed (name.Gate k) there = let few = placed.gate_count in omega arith
-near_name p placed (name.Code place) there = let fits = placed.fits in let within = there.1 in omega arith
+near_name p placed (name.Code place) there = let fits = placed.fits in let most = code_at_most p.format in let within = there.1 in omega arith
 near_name p placed (name.Data offset) there = let count = placed.byte_count in let most = placed.data_size.at_most in omega arith
 near_name p placed name.Unknown there = tt
 
@@ -84,12 +96,12 @@ length_pairs zero = refl
 length_pairs (suc n) = let h = length_pairs n in omega arith
 
 -- the stubs, the slots and so many c.ebreaks that the size is reached
-pub linked_code : (number : ℕ) (p : Placement) (at : Bases) (size fill : ℕ) (stubs now code : List ℕ) → at ≡ bases_of number p → IsCodeSize (needed p) size
+pub linked_code : (number : ℕ) (p : Placement) (at : Bases) (size fill : ℕ) (stubs now code : List ℕ) → at ≡ bases_of number p → IsCodeSize p.format (needed p) size
     → stubs ≡ repeat (length p.gates) stub → AreWritten at p.names (slots_of p.bundles) stubs now → fill ≡ (size - length now) / 2 → code ≡ now ++ repeat fill pair
     → IsLinkedCode number p code
 linked_code number p at size fill stubs now code is sized stubs_are written count code_is =
     let room = sized.has_room.room in
-    let sixteen = (sixteens (needed p) size sized.has_room).is in
+    let sixteen = (sixteens p.format (needed p) size sized.has_room).is in
     let stubs_long : length stubs ≡ 16 * length p.gates = ap length stubs_are ∙ length_stubs (length p.gates) in
     let now_long = written_length at p.names (slots_of p.bundles) stubs now written in
     let even = size_even (slots_of p.bundles) in
@@ -102,7 +114,7 @@ linked_code number p at size fill stubs now code is sized stubs_are written coun
     subst (λ n. AreSlots at p.names n (slots_of p.bundles ++ replicate fill c_ebreak) (written.bytes ++ repeat fill pair)) start
     (slots-append at p.names (at.code + length stubs) (slots_of p.bundles) (replicate fill c_ebreak) written.bytes (repeat fill pair) written.spelled (fill_slots at p.names _ fill)) in
     record {
-      size = subst (IsCodeSize (needed p)) (sym whole) sized;
+      size = subst (IsCodeSize p.format (needed p)) (sym whole) sized;
       fill = fill;
       bytes = written.bytes ++ repeat fill pair;
       slots = subst (λ b. AreSlots b p.names b.start (slots_of p.bundles ++ replicate fill c_ebreak) (written.bytes ++ repeat fill pair)) is slots;
@@ -110,7 +122,7 @@ linked_code number p at size fill stubs now code is sized stubs_are written coun
     }
 
 -- what the slots need has room in the region
-pub written_within : (p : Placement) (at : Bases) (size : ℕ) (stubs now : List ℕ) → IsCodeSize (needed p) size → stubs ≡ repeat (length p.gates) stub → AreWritten at p.names (slots_of p.bundles) stubs now → length now ≤ size
+pub written_within : (p : Placement) (at : Bases) (size : ℕ) (stubs now : List ℕ) → IsCodeSize p.format (needed p) size → stubs ≡ repeat (length p.gates) stub → AreWritten at p.names (slots_of p.bundles) stubs now → length now ≤ size
 written_within p at size stubs now sized stubs_are written =
     let room = sized.has_room.room in
     let a = ap length stubs_are ∙ length_stubs (length p.gates) in
@@ -123,10 +135,11 @@ code_room number p at stubs few placed is stubs_are =
     let a = ap length stubs_are ∙ length_stubs (length p.gates) in
     let b = ap (λ (b : Bases). b.code) is in
     let c = placed.fits in
+    let e = code_at_most p.format in
     let d = placed.gate_count in
     omega arith
 
-slots_refused : (number : ℕ) (p : Placement) (at : Bases) (size : ℕ) (stubs : List ℕ) (f : LinkFault) → at ≡ bases_of number p → IsCodeSize (needed p) size → stubs ≡ repeat (length p.gates) stub
+slots_refused : (number : ℕ) (p : Placement) (at : Bases) (size : ℕ) (stubs : List ℕ) (f : LinkFault) → at ≡ bases_of number p → IsCodeSize p.format (needed p) size → stubs ≡ repeat (length p.gates) stub
     → IsSlotFault at p.names (at.code + length stubs) (slots_of p.bundles) f → HasPartFault number p f
 slots_refused number p at size stubs f is sized stubs_are x =
     let a : length stubs ≡ 16 * length p.gates = ap length stubs_are ∙ length_stubs (length p.gates) in
@@ -134,7 +147,7 @@ slots_refused number p at size stubs f is sized stubs_are x =
     let start : at.code + length stubs ≡ (bases_of number p).start = omega (arith, a, b) in
     inr (λ large. large size sized.has_room, subst (λ (c : Bases). IsSlotFault c p.names (bases_of number p).start (slots_of p.bundles) f) is (subst (λ n. IsSlotFault at p.names n (slots_of p.bundles) f) start x))
 
-pub part_refused : (number : ℕ) (p : Placement) (at : Bases) (size : ℕ) (stubs : List ℕ) (f : LinkFault) → at ≡ bases_of number p → IsCodeSize (needed p) size → stubs ≡ repeat (length p.gates) stub
+pub part_refused : (number : ℕ) (p : Placement) (at : Bases) (size : ℕ) (stubs : List ℕ) (f : LinkFault) → at ≡ bases_of number p → IsCodeSize p.format (needed p) size → stubs ≡ repeat (length p.gates) stub
     → UnlessMemory (IsSlotFault at p.names (at.code + length stubs) (slots_of p.bundles)) f → UnlessMemory (HasPartFault number p) f
 part_refused number p at size stubs (UnknownName l) is sized stubs_are h = slots_refused number p at size stubs (UnknownName l) is sized stubs_are h
 part_refused number p at size stubs (BranchReach l) is sized stubs_are h = slots_refused number p at size stubs (BranchReach l) is sized stubs_are h
@@ -189,6 +202,7 @@ code_at number (suc k) n (q ∷ ps) (d ∷ cs) p c e lt ep ec all = code_at (num
 -- the sandbox with this code
 part_of : ℕ → Placement → List ℕ → Part
 part_of number p code = record {
+  format = p.format;
   code_base = (bases_of number p).code;
   data_base = (bases_of number p).«data»;
   data_size = p.data_size;
@@ -205,7 +219,7 @@ parts_from number (p ∷ ps) [] all = absurd all
 parts_from number (p ∷ ps) (c ∷ cs) all =
     let rest = parts_from (number + 1) ps cs all.1 in (
       part_of number p c ∷ rest.0,
-      (record { code_base = refl; data_base = refl; data_size = refl; start = refl; gates = refl; init = refl; code = all.0 }, rest.1),
+      (record { format = refl; code_base = refl; data_base = refl; data_size = refl; start = refl; gates = refl; init = refl; code = all.0 }, rest.1),
     )
 
 part_fault : (placed : List Placement) (k : ℕ) (p : Placement) (cs : List (List ℕ)) (f : LinkFault) → k < length placed → p ≡ get_or placed k p → AreCodesFrom 0 (take k placed) cs → HasPartFault k p f → IsPartFault placed f

@@ -6,6 +6,7 @@ use Rattle.std.specs.Int.{w32, to_le_bytes}
 use Rattle.std.proofs.lemmas.Bool.{cases_lt}
 use Rattle.rv_word.specs.declared.instr.Instr.{Instr}
 use Rattle.rv_word.specs.Spelling.{InRange, spelling}
+use Rattle.sfi_image.specs.declared.format.Format.{Format}
 use Rattle.sfi_image.specs.Spelling.{Part}
 use Rattle.sfi_scan.specs.Bundles.{stub}
 use Rattle.sfi_rewrite.specs.declared.slot.Slot.{Slot}
@@ -41,8 +42,8 @@ one_slots at names here [] xs ys a b = a ∙ sym b
 one_slots at names here (s ∷ slots) xs ys (f, r, one, others, e) (g, t, two, more, d) =
     e ∙ ap (λ l. l ++ r) (one_slot at names here s f g one two) ∙ ap (λ l. g ++ l) (one_slots at names (here + slot_size s) slots r t others more) ∙ sym d
 
-one_size : (bytes m n : ℕ) → IsCodeSize bytes m → IsCodeSize bytes n → m ≡ n
-one_size bytes m n a b = let x = a.least n b.has_room in let y = b.least m a.has_room in omega arith
+one_size : (f : Format) (bytes m n : ℕ) → IsCodeSize f bytes m → IsCodeSize f bytes n → m ≡ n
+one_size f bytes m n a b = let x = a.least n b.has_room in let y = b.least m a.has_room in omega arith
 
 code_length : (number : ℕ) (p : Placement) (code : List ℕ) (c : IsLinkedCode number p code) → length code ≡ 16 * length p.gates + (size_of (slots_of p.bundles) + 2 * c.fill)
 code_length number p code c =
@@ -55,7 +56,7 @@ code_length number p code c =
 
 one_code : (number : ℕ) (p : Placement) (xs ys : List ℕ) → IsLinkedCode number p xs → IsLinkedCode number p ys → xs ≡ ys
 one_code number p xs ys a b =
-    let size = one_size (needed p) (length xs) (length ys) a.size b.size in
+    let size = one_size p.format (needed p) (length xs) (length ys) a.size b.size in
     let x = code_length number p xs a in
     let y = code_length number p ys b in
     let fill : a.fill ≡ b.fill = omega arith in
@@ -67,11 +68,11 @@ one_code number p xs ys a b =
 
 one_part : (number : ℕ) (p : Placement) (q r : Part) → IsLinked number p q → IsLinked number p r → q ≡ r
 one_part number p q r a b =
-    same q r (a.code_base ∙ sym b.code_base) (a.data_base ∙ sym b.data_base) (a.data_size ∙ sym b.data_size) (a.start ∙ sym b.start) (a.gates ∙ sym b.gates)
+    same q r (a.format ∙ sym b.format) (a.code_base ∙ sym b.code_base) (a.data_base ∙ sym b.data_base) (a.data_size ∙ sym b.data_size) (a.start ∙ sym b.start) (a.gates ∙ sym b.gates)
     (one_code number p q.code r.code a.code b.code) (a.init ∙ sym b.init)
   where
-    same : (q r : Part) → q.code_base ≡ r.code_base → q.data_base ≡ r.data_base → q.data_size ≡ r.data_size → q.start ≡ r.start → q.gates ≡ r.gates → q.code ≡ r.code → q.init ≡ r.init → q ≡ r
-    same q r a b c d e f g = λ i. record { code_base = a i; data_base = b i; data_size = c i; start = d i; gates = e i; code = f i; init = g i }
+    same : (q r : Part) → q.format ≡ r.format → q.code_base ≡ r.code_base → q.data_base ≡ r.data_base → q.data_size ≡ r.data_size → q.start ≡ r.start → q.gates ≡ r.gates → q.code ≡ r.code → q.init ≡ r.init → q ≡ r
+    same q r h a b c d e f g = λ i. record { format = h i; code_base = a i; data_base = b i; data_size = c i; start = d i; gates = e i; code = f i; init = g i }
 
 pub one_linking : (number : ℕ) (placed : List Placement) (parts others : List Part) → AreLinkedFrom number placed parts → AreLinkedFrom number placed others → parts ≡ others
 one_linking number [] parts others a b = a ∙ sym b

@@ -8,12 +8,16 @@ use Rattle.std.proofs.lemmas.List.Elements.{All-nil, All-cons, All-head, All-tai
 use Rattle.std.proofs.lemmas.List.Kept.{AllPairs-cons}
 use Rattle.std.proofs.lemmas.Option.{slice_get-get_or}
 use Rattle.rv_text.specs.declared.item.SourceGate.{SourceGate}
+use Rattle.sfi_image.specs.declared.format.Format.{Format}
+use Rattle.sfi_image.specs.declared.format.Format.TheVariants.{Sfi1, Sfi2}
+use Rattle.sfi_image.specs.Formats.{code_most}
+use Rattle.sfi_rewrite.specs.Placed as placements
 use Rattle.sfi_image.specs.declared.span.Span.{Span}
-use Rattle.sfi_image.specs.Spelling.{Part, fields_of}
+use Rattle.sfi_image.specs.Spelling.{Part, format_of, fields_of}
 use Rattle.sfi_image.specs.Spans.{AreApart, code_span, guarded_span, code_region, spans}
 use Rattle.sfi_image.specs.Regions.{IsBundleStart}
 use Rattle.sfi_image.specs.Gates.{is_gate_of}
-use Rattle.sfi_image.specs.Parts.{IsRightPart, IsRightLayout}
+use Rattle.sfi_image.specs.Parts.{IsRightPart, IsRightLayout, AreOf}
 use Rattle.sfi_rewrite.specs.declared.slot.Slot.{Slot}
 use Rattle.sfi_rewrite.specs.declared.slot.Slot.TheVariants.{Wide, Short, Jump, Upper, Lower}
 use Rattle.sfi_rewrite.specs.declared.placed.PlacedName.{PlacedName}
@@ -52,8 +56,13 @@ pub record InSixteens (size : ℕ) : Type 0 where
   pub count : ℕ
   pub is : size ≡ 16 * count
 
-pub sixteens : (bytes size : ℕ) → HasRoom bytes size → InSixteens size
-sixteens bytes size h =
+-- no code region is larger
+pub code_at_most : (f : Format) → code_most f ≤ 1048576
+code_at_most Sfi1 = omega arith
+code_at_most Sfi2 = omega arith
+
+pub sixteens : (f : Format) (bytes size : ℕ) → HasRoom f bytes size → InSixteens size
+sixteens f bytes size h =
     let low = h.at_least in
     let is = h.size_is in
     let four : 2 ^ 4 ≤ 2 ^ h.power = omega arith in
@@ -156,6 +165,7 @@ linked_lies number p q placed few linked =
     let room = linked.code.size.has_room in
     let needs = room.room in
     let most = room.at_most in
+    let bound = code_at_most p.format in
     let code_base = linked.code_base in
     let data_base = linked.data_base in
     let data_size = linked.data_size in
@@ -191,7 +201,7 @@ linked_lies number p q placed few linked =
           power = room.power;
           size_is = room.size_is;
           at_least = room.at_least;
-          at_most = room.at_most;
+          at_most = subst (λ (f : Format). length q.code ≤ code_most f) (sym linked.format) room.at_most;
           multiple = 2 ^ (24 - room.power) * (number + 1);
           base_is = code_base ∙ region_at (length q.code) room.power 24 (number + 1) room.size_is (omega arith);
         };
@@ -257,9 +267,23 @@ lie_from number (p ∷ placed) (q ∷ parts) all few linked =
       ap suc rest.1,
     )
 
+-- what is linked has the format of what is placed
+formats : (f : Format) (number : ℕ) (placed : List Placement) (parts : List Part) → placements.AreOf f placed → AreLinkedFrom number placed parts → AreOf f parts
+formats f number [] parts h linked = subst (AreOf f) (sym linked) (λ k d l. absurd (omega (arith, l)))
+formats f number (p ∷ placed) [] h linked = absurd linked
+formats f number (p ∷ placed) (q ∷ parts) h linked =
+    All-cons (λ r. r.format ≡ f) q parts (linked.0.format ∙ All-head (λ r. r.format ≡ f) p placed h) (formats f (number + 1) placed parts (All-tail (λ r. r.format ≡ f) p placed h) linked.1)
+
+one_format : (number : ℕ) (placed : List Placement) (parts : List Part) → IsPlaced placed → AreLinkedFrom number placed parts → AreOf (format_of parts) parts
+one_format number placed parts is linked = first_is parts (placements.format_of placed) (formats (placements.format_of placed) number placed parts is.one_format linked)
+  where
+    first_is : (parts : List Part) (f : Format) → AreOf f parts → AreOf (format_of parts) parts
+    first_is [] f h = λ k d l. absurd (omega (arith, l))
+    first_is (q ∷ rest) f h = subst (λ (g : Format). AreOf g (q ∷ rest)) (sym (All-head (λ r. r.format ≡ f) q rest h)) h
+
 pub linked_is_right : (placed : List Placement) (parts : List Part) → IsPlaced placed → length placed ≤ 16 → AreLinkedFrom 0 placed parts → IsRightLayout parts
 linked_is_right placed parts is few linked =
     let all = lie_from 0 placed parts is.each (omega arith) linked in
     let count = all.1 in
     let some = is.at_least_one in
-    record { at_least_one = omega arith; at_most = omega arith; right = record { each = all.0.each; apart = all.0.apart } }
+    record { at_least_one = omega arith; at_most = omega arith; one_format = one_format 0 placed parts is linked; right = record { each = all.0.each; apart = all.0.apart } }

@@ -238,5 +238,5 @@ size_step slots k s lt is = ap size_of (take_one_more slots k s lt is) ∙ size_
 pub size_within : (slots : List Slot) (k : ℕ) (s : Slot) → k < length slots → s ≡ get_or slots k s → size_of (take k slots) + slot_size s ≤ size_of slots
 size_within slots k s lt is = let e = size_step slots k s lt is in let f = sum_by-take-le slot_size slots (k + 1) in omega arith
 
-pub small_fits : (n : ℕ) → n ≤ 65536 → Fits w64 n
+pub small_fits : (n : ℕ) → n ≤ 1048576 → Fits w64 n
 small_fits n le = let h : n < 2 ^ 64 = omega arith in search (rules, h)

@@ -12,6 +12,10 @@ use Rattle.rv_word.specs.declared.instr.Instr.TheVariants.{Op, Jalr, Ecall}
 use Rattle.rv_word.specs.Spelling.{InRange, spelling}
 use Rattle.rv_word.specs.Laws.{SpellingsAreWide}
 use Rattle.rv_comp.specs.Laws.{OneSpelling, TwoLengths}
+use Rattle.sfi_image.specs.declared.format.Format.{Format}
+use Rattle.rv_word.specs.declared.instr.Instr.{Instr}
+use Rattle.sfi_link.specs.Linked.{c_ebreak}
+use Rattle.sfi_image.specs.Formats.{has_stack}
 use Rattle.sfi_image.specs.Spelling.{Part}
 use Rattle.sfi_image.specs.Gates.{is_gate_of}
 use Rattle.sfi_scan.specs.declared.bundle.BundlePlace.{BundlePlace}
@@ -28,7 +32,7 @@ use Rattle.sfi_link.specs.Code.{AreSlots}
 use Rattle.sfi_link.proofs.Written.{wide_spells}
 use Rattle.sfi_link.proofs.Stuck.{whole_is_longest}
 use Rattle.sfi_link.proofs.Sizes.{size_cons}
-use Rattle.sfi_link.proofs.Clean.{AreStarts, ends_slots, ends_well, IsEndFine, IsCleanFrom, clean}
+use Rattle.sfi_link.proofs.Clean.{AreStarts, ends_slots, ends_well, IsEndFine, IsCleanFrom, IsCleanly, clean, clean_fill, and_false}
 
 -- ---- bundles by their number
 
@@ -103,10 +107,13 @@ cut at names here (x ∷ xs) ys bytes (f, r, one, others, e) =
 
 -- ---- full bundles
 
--- 16 bytes of whole expansions
-pub record IsFull (slots : List Slot) : Type 0 where
+-- 16 bytes of whole expansions, and of c.ebreaks behind them
+pub record IsFull (f : Format) (count : ℕ) (slots : List Slot) : Type 0 where
   pub size : size_of slots ≡ 16
-  pub whole : AreWhole slots
+  pub front : List Slot
+  pub fill : ℕ
+  pub shape : slots ≡ front ++ replicate fill c_ebreak
+  pub whole : AreWhole f count front
 
 -- the bundle whose first byte stands there
 abbrev bundle_at : BundlePlace → ℕ → BundlePlace
@@ -119,16 +126,22 @@ pub record AreChunks (b : BundlePlace) (here : ℕ) (full : List (List Slot)) (b
   pub all : All IsChunk chunks
   pub each : (k : ℕ) (listed : Bool) → k < length full → IsCleanFrom (record b { address = here + 16 * k; listed = listed }) (here + 16 * k) [] (get_or full k []) (get_or chunks k [])
 
-chunked : SpellingsAreWide → (b : BundlePlace) (at : Bases) (names : List PlacedName) → AreStarts b at names → (here : ℕ) (full : List (List Slot)) (bytes : List ℕ) → All IsFull full
+full_clean : SpellingsAreWide → (b : BundlePlace) (at : Bases) (names : List PlacedName) → AreStarts b at names → (count : ℕ) (x : List Slot) → IsFull b.format count x
+    → (here : ℕ) (earlier : List Instr) → IsCleanly b at names here earlier x
+full_clean law b at names starts count x f here earlier =
+    subst (IsCleanly b at names here earlier) (sym f.shape)
+    (clean law b at names starts count f.front (replicate f.fill c_ebreak) f.whole (clean_fill law b at names f.fill) here earlier)
+
+chunked : SpellingsAreWide → (b : BundlePlace) (at : Bases) (names : List PlacedName) → AreStarts b at names → (here count : ℕ) (full : List (List Slot)) (bytes : List ℕ) → All (IsFull b.format count) full
     → AreSlots at names here (slots_of full) bytes → here + 16 * length full ≤ 2 ^ 32 → AreChunks b here full bytes
-chunked law b at names starts here [] bytes all s room = record { chunks = []; whole = s; count = refl; all = All-nil IsChunk; each = λ k l h. absurd (omega arith) }
-chunked law b at names starts here (x ∷ full) bytes all s room =
-    let f = All-head IsFull x full all in
+chunked law b at names starts here count [] bytes all s room = record { chunks = []; whole = s; count = refl; all = All-nil IsChunk; each = λ k l h. absurd (omega arith) }
+chunked law b at names starts here count (x ∷ full) bytes all s room =
+    let f = All-head (IsFull b.format count) x full all in
     let c = cut at names here x (slots_of full) bytes s in
     let z = f.size in
     let n : here + size_of x ≡ here + 16 = omega arith in
-    let more = chunked law b at names starts (here + 16) full c.rest (All-tail IsFull x full all) (subst (λ m. AreSlots at names m (slots_of full) c.rest) n c.second) (omega arith) in
-    let one = λ (l : Bool). clean law (record b { address = here; listed = l }) at names starts here [] x c.front f.whole c.first (omega arith) in
+    let more = chunked law b at names starts (here + 16) count full c.rest (All-tail (IsFull b.format count) x full all) (subst (λ m. AreSlots at names m (slots_of full) c.rest) n c.second) (omega arith) in
+    let one = λ (l : Bool). full_clean law (record b { address = here; listed = l }) at names starts count x f here [] (omega arith) c.front c.first in
     record {
       chunks = c.front ∷ more.chunks;
       whole = c.whole ∙ ap (λ l. c.front ++ l) more.whole;
@@ -198,7 +211,7 @@ stub_clean law one two b g last =
     let nv : is_last_bundle b ≡ false = never (b.address + 16) (b.code_base + b.code_size) last in
     inr (
       λ _. refl,
-      record { reading = stub_pieces; longest = whole_is_longest one two stub stub_pieces (stub_read law) refl; found_is = simp (g, nv) },
+      record { reading = stub_pieces; longest = whole_is_longest one two stub stub_pieces (stub_read law) refl; found_is = simp (g, nv, and_false (has_stack b.format)) },
     )
 
 -- ---- the whole region
@@ -222,7 +235,7 @@ pub record IsClosed (p : Part) (at : Bases) (names : List PlacedName) (stubs : �
   pub bytes : List ℕ
   pub code : p.code ≡ repeat stubs stub ++ bytes
   pub slots : AreSlots at names at.start (slots_of full) bytes
-  pub all : All IsFull full
+  pub all : All (IsFull p.format (length names)) full
   pub some : 0 < length full
   pub ends : (k : ℕ) → k + 1 ≡ length full → ends_slots (get_or full k []) ≡ true
   pub listed : (k : ℕ) → ((is_gate_of p.gates (p.code_base + 16 * k) ≡ true) → k < stubs) × (k < stubs → is_gate_of p.gates (p.code_base + 16 * k) ≡ true)
@@ -239,7 +252,7 @@ region_size p stubs full bytes e n =
 pub closed_is_clean : SpellingsAreWide → OneSpelling → TwoLengths → (sandbox : ℕ) (p : Part) (at : Bases) (names : List PlacedName) (stubs : ℕ) (full : List (List Slot)) → IsClosed p at names stubs full
     → at.start + 16 * length full ≤ 2 ^ 32 → AreFindings sandbox p []
 closed_is_clean law one two sandbox p at names stubs full h fits =
-    let c = chunked law (place_of sandbox p 0) at names (h.starts sandbox) at.start full h.bytes h.all h.slots fits in
+    let c = chunked law (place_of sandbox p 0) at names (h.starts sandbox) at.start (length names) full h.bytes h.all h.slots fits in
     let count = c.count in
     let start = h.start in
     let some = h.some in

@@ -62,7 +62,7 @@ pub record IsSlotFault (at : Bases) (names : List PlacedName) (here : ℕ) (slot
 
 -- no code region has room for the stubs, the code and one c.ebreak
 abbrev pub IsTooLarge : Placement → Type 0
-IsTooLarge p = (size : ℕ) → HasRoom (needed p) size → ⊥
+IsTooLarge p = (size : ℕ) → HasRoom p.format (needed p) size → ⊥
 
 -- the fault of the sandbox of that number, of which being too large goes first
 abbrev pub HasPartFault : ℕ → Placement → LinkFault → Type 0

@@ -6,4 +6,5 @@ pub mod Building
 pub mod Answers
 pub mod Texts
 pub mod Near
+pub mod Standing
 pub mod Laws

@@ -3,6 +3,8 @@ use Rattle.std.specs.Prelude.{◌≡◌, ℕ, ◌+◌, ◌*◌, ◌^◌, ◌≤�
 use Rattle.std.specs.List.{repeat}
 use Rattle.rv_comp.specs.declared.form.Form16.TheVariants.{CEbreak}
 use Rattle.rv_text.specs.declared.item.SourceGate.{SourceGate}
+use Rattle.sfi_image.specs.declared.format.Format.{Format}
+use Rattle.sfi_image.specs.Formats.{code_most}
 use Rattle.sfi_image.specs.declared.part.Gate.{Gate}
 use Rattle.sfi_image.specs.Spelling.{Part}
 use Rattle.sfi_scan.specs.Bundles.{stub}
@@ -23,18 +25,18 @@ c_ebreak = Short CEbreak
 abbrev pub needed : Placement → ℕ
 needed p = stub_size * length p.gates + size_of (slots_of p.bundles) + 2
 
--- a code region may have so many bytes, and so many have room in it
-pub record HasRoom (bytes size : ℕ) : Type 0 where
+-- a code region of the format may have so many bytes, and so many have room in it
+pub record HasRoom (f : Format) (bytes size : ℕ) : Type 0 where
   pub power : ℕ
   pub size_is : size ≡ 2 ^ power
   pub at_least : 256 ≤ size
-  pub at_most : size ≤ 65536
+  pub at_most : size ≤ code_most f
   pub room : bytes ≤ size
 
 -- it is the least such size
-pub record IsCodeSize (bytes size : ℕ) : Type 0 where
-  pub has_room : HasRoom bytes size
-  pub least : (other : ℕ) → HasRoom bytes other → size ≤ other
+pub record IsCodeSize (f : Format) (bytes size : ℕ) : Type 0 where
+  pub has_room : HasRoom f bytes size
+  pub least : (other : ℕ) → HasRoom f bytes other → size ≤ other
 
 -- ---- a sandbox
 
@@ -45,7 +47,7 @@ gates_from address (g ∷ gates) = record { address = address; service = g.servi
 
 -- the code: the stubs, then the bytes of the slots with addresses for names, then c.ebreaks to the region's end, one at least
 pub record IsLinkedCode (number : ℕ) (p : Placement) (code : List ℕ) : Type 0 where
-  pub size : IsCodeSize (needed p) (length code)
+  pub size : IsCodeSize p.format (needed p) (length code)
   pub fill : ℕ
   pub bytes : List ℕ
   pub slots : AreSlots (bases_of number p) p.names (bases_of number p).start (slots_of p.bundles ++ replicate fill c_ebreak) bytes
@@ -53,6 +55,7 @@ pub record IsLinkedCode (number : ℕ) (p : Placement) (code : List ℕ) : Type 
 
 -- the placed sandbox makes that one of the image, as the one of that number, counted from 0
 pub record IsLinked (number : ℕ) (p : Placement) (q : Part) : Type 0 where
+  pub format : q.format ≡ p.format
   pub code_base : q.code_base ≡ (bases_of number p).code
   pub data_base : q.data_base ≡ (bases_of number p).«data»
   pub data_size : q.data_size ≡ p.data_size

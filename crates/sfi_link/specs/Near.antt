@@ -23,7 +23,7 @@ pub record AreLow (at : Bases) : Type 0 where
 -- what the name names lies within the limits
 abbrev pub IsNear : PlacedName → Type 0
 IsNear (Gate k) = k < 64
-IsNear (Code place) = place ≤ 65536
+IsNear (Code place) = place ≤ 1048576
 IsNear (Data offset) = offset ≤ 1048576
 IsNear Unknown = Unit {0}
 

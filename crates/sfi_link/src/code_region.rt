@@ -1,7 +1,7 @@
 //! The code region of a sandbox: its gates' stubs, its code, and c.ebreaks up to its end.
 ghost use Rattle.std.specs.Prelude.{◌≡◌, ◌++◌, ◌<◌, ◌≤◌, ℕ, IfSome, IfNone, OnOk};
 ghost use Rattle.std.specs.List.{repeat};
-ghost use Rattle.sfi_rewrite.specs.Slots.{size_of, code_most};
+ghost use Rattle.sfi_rewrite.specs.Slots.{size_of};
 ghost use Rattle.sfi_rewrite.specs.Placed.{IsPlacedPart};
 ghost use Rattle.sfi_link.specs.Linked.{needed, HasRoom, IsCodeSize, IsLinkedCode};
 ghost use Rattle.sfi_link.specs.Faults.{HasPartFault, sandboxes_most};
@@ -10,6 +10,7 @@ ghost use Rattle.sfi_link.specs.Answers.{Links};
 use crate::bases::bases_of;
 use crate::code::push_bundles;
 use crate::fault::LinkFault;
+use sfi_image::Format;
 use sfi_rewrite::{PlacedPart, Slot};
 use std::alloc::{AllocError, Global};
 
@@ -20,14 +21,12 @@ const STUB: [u8; 16] = [
 
 const C_EBREAK: [u8; 2] = [0x02, 0x90];
 
-// The sizes that a code region may have go from this one to the next.
+// The sizes that a code region may have go from this one to the most of its format.
 const REGION_LEAST: usize = 256;
-
-const REGION_MOST: usize = 65536;
 
 // How many bytes the slots take.
 fn size_of(slots: &[Slot]) -> usize
-    requires { size_of slots.now ≤ code_most }
+    requires { size_of slots.now ≤ 1048576 }
     ensures { result ≡ size_of slots.now }
 {
     let mut size = 0;
@@ -50,12 +49,12 @@ fn needed(part: &PlacedPart) -> usize
     STUB.len() * part.gates().len() + code + C_EBREAK.len()
 }
 
-// The least size of a code region in which so many bytes have room, if there is one.
-fn code_size(needed: usize) -> Option<usize>
-    ensures least { IfSome result (IsCodeSize needed) }
-    ensures none { IfNone result ((size : ℕ) → HasRoom needed size → ⊥) }
+// The least size of a code region of the format in which so many bytes have room, if there is one.
+fn code_size(format: Format, needed: usize) -> Option<usize>
+    ensures least { IfSome result (IsCodeSize format needed) }
+    ensures none { IfNone result ((size : ℕ) → HasRoom format needed size → ⊥) }
 {
-    if needed > REGION_MOST {
+    if needed > format.code_most() as usize {
         return None;
     }
     if needed <= REGION_LEAST {
@@ -84,7 +83,7 @@ pub(crate) fn linked_code(
     requires right { IsPlacedPart part.now }
     ensures { Links (λ code. IsLinkedCode number part.now code.items) (HasPartFault number part.now) result }
 {
-    let Some(size) = code_size(needed(part)) else {
+    let Some(size) = code_size(part.format(), needed(part)) else {
         return Err(LinkFault::TooLarge { sandbox: number });
     };
     let at = bases_of(number, part);

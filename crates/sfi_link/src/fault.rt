@@ -21,7 +21,7 @@ pub enum LinkFault {
     /// 4094 above, a jal from 1048576 below to 1048574 above.
     #[error("BranchReach line {line}")]
     BranchReach { line: u32 },
-    /// The code of the sandbox, counted from 0, has no room in 65536 bytes with its gates' stubs and one c.ebreak.
+    /// The code of the sandbox, counted from 0, has no room in a code region of its format with its gates' stubs and one c.ebreak.
     #[error("TooLarge sandbox {sandbox}")]
     TooLarge { sandbox: u32 },
     /// There are more than 16 sandboxes.

@@ -1,8 +1,11 @@
 //! What holds of all that is placed. A call costs nothing.
 ghost use Rattle.sfi_link.specs.Laws.{LinkedIsClean, LinkedIsRight, OneLinking, OneFault, NeverBoth};
+ghost use Rattle.sfi_link.specs.Standing.{LinkedSlotsStand, LinkedRunsAs};
 
 use rv_comp::laws::{one_spelling, two_lengths};
+use rv_mem::laws::read_is_held;
 use rv_word::laws::spellings_are_wide;
+use sfi_rewrite::laws::rewritten_is_transparent;
 use sfi_scan::laws::same_bundle_starts;
 
 /// What is made of a placed sandbox breaks no rule: its stubs, its whole expansions with addresses for names, its c.ebreaks.
@@ -26,3 +29,19 @@ pub fn one_linking()
     ensures faults { OneFault }
     ensures either { NeverBoth }
 {}
+
+/// Where a memory holds the bytes that are linked for slots, the slots stand.
+pub fn linked_slots_stand()
+    ensures { LinkedSlotsStand }
+{
+    spellings_are_wide();
+    read_is_held();
+}
+
+/// Each item of a source stands in the image as its instruction, with an expansion that acts as the instruction.
+pub fn linked_runs_as()
+    ensures { LinkedRunsAs }
+{
+    rewritten_is_transparent();
+    linked_slots_stand();
+}

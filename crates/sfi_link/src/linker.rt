@@ -3,7 +3,7 @@ ghost use Rattle.std.specs.Prelude.{◌≡◌, ◌<◌, ◌≤◌, ◌^◌, ℕ,
 ghost use Rattle.std.specs.List.{All};
 ghost use Rattle.rv_text.specs.Source.{Sandbox};
 ghost use Rattle.sfi_image.specs.Spelling.{view, views};
-ghost use Rattle.sfi_rewrite.specs.Placed.{IsPlacedPart};
+ghost use Rattle.sfi_rewrite.specs.Placed.{IsPlacedPart, AreOf};
 ghost use Rattle.sfi_link.specs.declared.fault.LinkFault.{LinkFault};
 ghost use Rattle.sfi_link.specs.declared.fault.LinkFault.TheVariants.{TooManySandboxes};
 ghost use Rattle.sfi_link.specs.Linked.{gates_from, IsLinkedCode, IsLinked, AreLinkedFrom};
@@ -17,7 +17,7 @@ use crate::code_region::linked_code;
 use crate::fault::LinkFault;
 use crate::laws::{linked_is_clean, linked_is_right, one_linking};
 use rv_text::SourceGate;
-use sfi_image::{Gate, ImageFault, SandboxPart, write_image};
+use sfi_image::{Format, Gate, ImageFault, SandboxPart, write_image_as};
 use sfi_rewrite::{Placed, PlacedPart};
 use std::alloc::{AllocError, Global};
 
@@ -49,7 +49,7 @@ fn linked_part<'a>(
     requires few { number < sandboxes_most }
     requires right { IsPlacedPart placed.now }
     requires code { IsLinkedCode number placed.now code.now }
-    ensures { IfOk result (λ part. IsLinked number placed.entry.now (view part)) }
+    ensures { IfOk result (λ part. IsLinked number placed.entry.now (view placed.entry.now.format part)) }
 {
     let at = bases_of(number, placed);
     let gates = gates_from(alloc, at.code, placed.gates())?;
@@ -78,16 +78,18 @@ fn codes_of(alloc: Global, placed: &[PlacedPart]) -> Result<Vec<Vec<u8>>, LinkFa
     Ok(codes)
 }
 
-// Each sandbox, with its code.
+// Each sandbox, all of this format, with its code.
 fn linked_parts<'a>(
     alloc: Global,
+    format: Format,
     placed: &'a [PlacedPart],
     codes: &'a [Vec<u8>],
 ) -> Result<Vec<SandboxPart<'a>>, AllocError>
     requires right { All IsPlacedPart placed.now }
     requires few { length placed.now ≤ sandboxes_most }
+    requires format { AreOf format placed.now }
     requires codes { AreCodesFrom 0 placed.now (contents codes.now) }
-    ensures { IfOk result (λ parts. AreLinkedFrom 0 placed.entry.now (views parts.items)) }
+    ensures { IfOk result (λ parts. AreLinkedFrom 0 placed.entry.now (views format parts.items)) }
 {
     let mut parts = Vec::new(alloc);
     for (number, part) in placed.iter().enumerate() {
@@ -106,13 +108,14 @@ fn image_of(alloc: Global, placed: &Placed) -> Result<Vec<u8>, LinkFault>
     linked_is_right();
     linked_is_clean();
 
+    let format = placed.format();
     let placed = placed.parts();
     if placed.len() > SANDBOXES_MOST {
         return Err(LinkFault::TooManySandboxes);
     }
     let codes = codes_of(alloc, placed)?;
-    let parts = linked_parts(alloc, placed, &codes)?;
-    match write_image(alloc, &parts) {
+    let parts = linked_parts(alloc, format, placed, &codes)?;
+    match write_image_as(alloc, format, &parts) {
         Ok(bytes) => Ok(bytes),
         Err(ImageFault::Memory) => Err(LinkFault::Memory),
         Err(ImageFault::Layout(_)) => unreachable!(),

@@ -7,7 +7,7 @@ use Rattle.sfi_link.proofs.Linking.{code_room, part_refused, written_within, lin
 use Rattle.sfi_link.proofs.code_region.linked_code.Goals as goal
 
 pub returns-in_default : goal.returns-in_default
-returns-in_default c = inl (λ size h. c.in_default.ensures.none size (subst (λ n. HasRoom n size) (sym c.needed.ensures) h), refl)
+returns-in_default c = inl (λ size h. c.in_default.ensures.none size (subst (λ f. HasRoom f c.needed.result size) (sym c.format.ensures) (subst (λ n. HasRoom c.args.part.now.format n size) (sym c.needed.ensures) h)), refl)
 
 pub push_bundles-requires-clause-room : goal.push_bundles-requires-clause-room
 push_bundles-requires-clause-room c =
@@ -22,7 +22,7 @@ returns-in_err-push_bundles c =
     let stubs : c.push_copies.new.code.items ≡ repeat (length p.gates) stub =
     c.in_ok-push_copies.ensures ∙ ap (λ l. l ++ repeat (length c.gates.result.now) stub) c.in_ok-code.ensures.items ∙ ap (λ gs. repeat (length gs) stub) c.gates.ensures in
     let e = err_from_is_err_and c.from_residual-in_err-push_bundles.result c.from_residual-in_err-push_bundles.ensures.1 in
-    let sized = rw c.needed.ensures at c.in-Some.ensures.least in
+    let sized = rw (c.needed.ensures, c.format.ensures) at c.in-Some.ensures.least in
     let h = rw (c.names.ensures, c.bundles.ensures) at c.in_err-push_bundles.ensures in
     rw (e.1, e.2) (part_refused c.args.number p c.bases_of-at.result c.in-Some.size c.push_copies.new.code.items c.in_err-push_bundles.field-0.0 c.bases_of-at.ensures.is sized stubs h)
 
@@ -32,7 +32,7 @@ overflow_sub-fill c =
     let stubs : c.push_copies.new.code.items ≡ repeat (length p.gates) stub =
     c.in_ok-push_copies.ensures ∙ ap (λ l. l ++ repeat (length c.gates.result.now) stub) c.in_ok-code.ensures.items ∙ ap (λ gs. repeat (length gs) stub) c.gates.ensures in
     let w = rw (c.names.ensures, c.bundles.ensures) at c.in_ok-push_bundles.ensures in
-    let sized = rw c.needed.ensures at c.in-Some.ensures.least in
+    let sized = rw (c.needed.ensures, c.format.ensures) at c.in-Some.ensures.least in
     let h = written_within p c.bases_of-at.result c.in-Some.size c.push_copies.new.code.items c.push_bundles.new.code.items sized stubs w in
     let l = c.len.ensures in
     omega arith
@@ -43,7 +43,7 @@ returns c =
     let stubs : c.push_copies.new.code.items ≡ repeat (length p.gates) stub =
     c.in_ok-push_copies.ensures ∙ ap (λ l. l ++ repeat (length c.gates.result.now) stub) c.in_ok-code.ensures.items ∙ ap (λ gs. repeat (length gs) stub) c.gates.ensures in
     let w = rw (c.names.ensures, c.bundles.ensures) at c.in_ok-push_bundles.ensures in
-    let sized = rw c.needed.ensures at c.in-Some.ensures.least in
+    let sized = rw (c.needed.ensures, c.format.ensures) at c.in-Some.ensures.least in
     let l = c.len.ensures in
     linked_code c.args.number p c.bases_of-at.result c.in-Some.size _ c.push_copies.new.code.items c.push_bundles.new.code.items c.push_copies-2.new.code.items c.bases_of-at.ensures.is sized stubs w
     (omega arith) c.in_ok-push_copies-2.ensures

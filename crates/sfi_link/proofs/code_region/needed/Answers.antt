@@ -1,6 +1,7 @@
 use Rattle.std.proofs.Common.{arith, ap}
 use Rattle.sfi_rewrite.specs.Slots.{size_of, slots_of}
 use Rattle.sfi_link.proofs.Pushed.{bundle_size, bundle_sum, small_fits}
+use Rattle.sfi_link.proofs.Parts.{code_at_most}
 use Rattle.sfi_link.proofs.code_region.needed.Goals as goal
 
 pub size_of-code-requires : goal.size_of-code-requires
@@ -9,6 +10,7 @@ size_of-code-requires c =
     let b = ap (λ bs. size_of (slots_of bs)) c.bundles-bundles.ensures in
     let d = ap size_of c.slots.ensures in
     let e = c.requires.fits in
+    let most = code_at_most c.args.part.now.format in
     omega arith
 
 pub overflow_add-code : goal.overflow_add-code
@@ -17,6 +19,7 @@ overflow_add-code c =
     let b = ap (λ bs. size_of (slots_of bs)) c.bundles-bundles.ensures in
     let d = ap size_of c.slots.ensures in
     let e = c.requires.fits in
+    let most = code_at_most c.args.part.now.format in
     let f = c.size_of-code.ensures in
     let g = c.loop-bundle.invariant in
     small_fits _ (omega arith)

@@ -8,7 +8,7 @@ use Rattle.sfi_link.proofs.linker.image_of.Goals as goal
 pub returns-in-Ok-clause-links : goal.returns-in-Ok-clause-links
 returns-in-Ok-clause-links c =
     let ps = c.args.placed.now in
-    let parts = views c.in_ok-parts.parts.items in
+    let parts = views c.format-format.result c.in_ok-parts.parts.items in
     let same = c.parts-placed.ensures.parts in
     let count = ap (λ (l : List Placement). length l) same in
     let linked : AreLinkedFrom 0 ps parts = subst (λ (l : List Placement). AreLinkedFrom 0 l parts) same c.in_ok-parts.ensures in

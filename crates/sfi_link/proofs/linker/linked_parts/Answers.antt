@@ -1,9 +1,10 @@
 use Rattle.std.proofs.Common.{◌≡◌, ◌<◌, ◌++◌, [], ◌∷◌, List, length, take, get_or, ap, sym, subst, arith, ◌∙◌}
 use Rattle.std.proofs.lemmas.List.{map_push, length-map, length-take-le}
 use Rattle.std.proofs.Math.ListN.{get_or-map}
+use Rattle.sfi_image.specs.declared.format.Format.{Format}
 use Rattle.sfi_image.specs.Spelling.{Part, view, views}
 use Rattle.sfi_rewrite.specs.Placement.{Placement}
-use Rattle.sfi_link.specs.Linked.{AreLinkedFrom}
+use Rattle.sfi_link.specs.Linked.{IsLinked, AreLinkedFrom}
 use Rattle.sfi_link.specs.Near.{contents}
 use Rattle.sfi_link.proofs.Linking.{linked_push, codes_length, code_at, take_one_more}
 use Rattle.sfi_link.proofs.linker.linked_parts.Goals as goal
@@ -28,11 +29,13 @@ loop-number-preserved c =
     let ps = c.args.placed.now in
     let k = c.loop-number.number in
     let p = c.index-placed-number.result in
-    let qs = views c.loop-number.parts.items in
-    let q = view c.in_ok-linked.linked in
+    let f = c.args.format in
+    let qs = views f c.loop-number.parts.items in
+    let q = view f c.in_ok-linked.linked in
     let lt : k < length ps = c.loop-number-test.true in
     let long = length-take-le k ps (omega arith) in
+    let one_format : p.format ≡ f = ap (λ v. v.format) c.index-placed-number.is ∙ c.requires.format k p lt in
     let placed = take_one_more ps k p lt c.index-placed-number.is in
-    let parts : views c.push.new.self.items ≡ qs ++ q ∷ [] = ap views c.in_ok-push.ensures.items ∙ map_push view c.loop-number.parts.items c.in_ok-linked.linked in
-    let step : AreLinkedFrom 0 (take k ps ++ p ∷ []) (qs ++ q ∷ []) = linked_push 0 k (take k ps) qs p q (omega arith) c.loop-number.invariant c.in_ok-linked.ensures in
-    subst (λ (l : List Placement). AreLinkedFrom 0 l (views c.push.new.self.items)) (sym placed) (subst (λ (l : List Part). AreLinkedFrom 0 (take k ps ++ p ∷ []) l) (sym parts) step)
+    let parts : views f c.push.new.self.items ≡ qs ++ q ∷ [] = ap (views f) c.in_ok-push.ensures.items ∙ map_push (view f) c.loop-number.parts.items c.in_ok-linked.linked in
+    let step : AreLinkedFrom 0 (take k ps ++ p ∷ []) (qs ++ q ∷ []) = linked_push 0 k (take k ps) qs p q (omega arith) c.loop-number.invariant (subst (λ (g : Format). IsLinked k p (view g c.in_ok-linked.linked)) one_format c.in_ok-linked.ensures) in
+    subst (λ (l : List Placement). AreLinkedFrom 0 l (views f c.push.new.self.items)) (sym placed) (subst (λ (l : List Part). AreLinkedFrom 0 (take k ps ++ p ∷ []) l) (sym parts) step)

@@ -1,0 +1,176 @@
+-- Each item of a source does in the image what its instruction does.
+use Rattle.std.proofs.Common.{◌≡◌, ℕ, ◌+◌, ◌*◌, ◌^◌, ◌<◌, ◌≤◌, List, [], ◌∷◌, ◌++◌, length, length-append, replicate, Some, Bool, true, false, refl, sym, ap, ◌∙◌, subst, arith, append_assoc, inl, inr}
+use Rattle.std.specs.Prelude.{slice_index, pos, ℤ, negsuc, zero, suc, ◌-ℤ◌, MatchBool}
+use Rattle.std.specs.List.{repeat}
+use Rattle.std.proofs.lemmas.List.{get_or_append_left, get_or-append-add}
+use Rattle.rv_word.specs.declared.instr.Instr.{Instr}
+use Rattle.rv_word.specs.declared.instr.Instr.TheVariants.{Op, OpImm, Load, Store, Branch, Jal, Jalr, Lui, Auipc, Fence, Ecall, Ebreak}
+use Rattle.rv_word.specs.declared.instr.ImmOp.TheVariants.{Addi}
+use Rattle.rv_mem.specs.Bytes.{Bytes, byte_at, address_after}
+use Rattle.rv_mem.specs.Laws.{Holds}
+use Rattle.rv_text.specs.Constants.{upper, lower}
+use Rattle.rv_text.specs.declared.item.Body.{Body}
+use Rattle.rv_text.specs.declared.item.Body.TheVariants.{Plain, To, High, Low}
+use Rattle.rv_text.specs.Source.{IsBody}
+use Rattle.sfi_image.specs.declared.format.Format.{Format}
+use Rattle.sfi_image.specs.Spans.{code_region, data_region}
+use Rattle.sfi_scan.specs.Bundles.{stub}
+use Rattle.sfi_rewrite.specs.Laws.{RewrittenIsTransparent}
+use Rattle.sfi_rewrite.specs.declared.slot.Slot.{Slot}
+use Rattle.sfi_rewrite.specs.declared.slot.Slot.TheVariants.{Wide, Short}
+use Rattle.sfi_rewrite.specs.declared.placed.PlacedName.{PlacedName}
+use Rattle.sfi_rewrite.specs.Slots.{slot_size, size_of, slots_of, c_nop}
+use Rattle.sfi_rewrite.specs.Stack.{is_stack, writes_stack, is_on_stack, stack_pair, put_back}
+use Rattle.sfi_rewrite.specs.Expansion.{jump_slots, IsAlone, IsMasked, IsExpansionOf}
+use Rattle.sfi_rewrite.specs.Transparency.{IsAimed, MayBe}
+use Rattle.sfi_link.specs.declared.bases.Bases.{Bases}
+use Rattle.sfi_link.specs.Addresses.{bases_of, with_offset, target_at, address_at}
+use Rattle.sfi_link.specs.Code.{AreSlots}
+use Rattle.sfi_link.specs.Linked.{c_ebreak}
+use Rattle.sfi_link.specs.Standing.{AreFor, LinkedSlotsStand, LinkedRunsAs}
+use Rattle.sfi_link.proofs.Clean.{made}
+use Rattle.sfi_link.proofs.Region.{AreCut, cut, length_stubs}
+use Rattle.sfi_link.proofs.Sizes.{size_of-append}
+use Rattle.sfi_link.proofs.Parts.{slots_length, linked_lies}
+use Rattle.std.proofs.lemmas.List.Folds.{sum_by-replicate}
+
+-- ---- which instruction an item becomes
+
+record Becomes (at : Bases) (names : List PlacedName) (here : ℕ) (body : Body) (slots : List Slot) : Type 0 where
+  instr : Instr
+  may_be : MayBe body instr
+  goes : AreFor at names here instr slots
+
+plainly : (at : Bases) (names : List PlacedName) (here : ℕ) (i : Instr) (slots expanded : List Slot) → slots ≡ expanded → AreFor at names here i expanded → Becomes at names here (Plain i) slots
+plainly at names here i slots expanded e h = record { instr = i; may_be = refl; goes = subst (λ (l : List Slot). AreFor at names here i l) (sym e) h }
+
+alone : (at : Bases) (names : List PlacedName) (here : ℕ) (rvc : Bool) (i : Instr) (slots : List Slot) → IsAlone rvc i slots → Becomes at names here (Plain i) slots
+alone at names here false i slots e = plainly at names here i slots (Wide i ∷ []) e (tt, tt)
+alone at names here true i slots (inl s) = plainly at names here i slots (Short s.0 ∷ []) s.2 (tt, tt)
+alone at names here true i slots (inr w) = plainly at names here i slots (Wide i ∷ []) w.1 (tt, tt)
+
+jumping : (at : Bases) (names : List PlacedName) (here : ℕ) (rd a : ℕ) (imm : ℤ) (slots : List Slot) → slots ≡ jump_slots rd a imm → Becomes at names here (Plain (Jalr rd a imm)) slots
+jumping at names here rd a (pos zero) slots e = plainly at names here (Jalr rd a (pos zero)) slots (jump_slots rd a (pos zero)) e (tt, (tt, (tt, tt)))
+jumping at names here rd a (pos (suc n)) slots e = plainly at names here (Jalr rd a (pos (suc n))) slots (jump_slots rd a (pos (suc n))) e (tt, (tt, (tt, (tt, tt))))
+jumping at names here rd a (negsuc n) slots e = plainly at names here (Jalr rd a (negsuc n)) slots (jump_slots rd a (negsuc n)) e (tt, (tt, (tt, (tt, tt))))
+
+aimed : (j i : Instr) (z : ℤ) (count name : ℕ) → IsBody count (To j name) → i ≡ with_offset z j → IsAimed j i
+aimed (Jal rd offset) i z count name b e = (z, e)
+aimed (Branch cond rs1 rs2 offset) i z count name b e = (z, e)
+aimed (Op op rd rs1 rs2) i z count name b e = absurd b.1
+aimed (OpImm op rd rs1 imm) i z count name b e = absurd b.1
+aimed (Load kind rd rs1 imm) i z count name b e = absurd b.1
+aimed (Store width rs1 rs2 imm) i z count name b e = absurd b.1
+aimed (Jalr rd rs1 imm) i z count name b e = absurd b.1
+aimed (Lui rd imm) i z count name b e = absurd b.1
+aimed (Auipc rd imm) i z count name b e = absurd b.1
+aimed (Fence imm rd rs1) i z count name b e = absurd b.1
+aimed Ecall i z count name b e = absurd b.1
+aimed Ebreak i z count name b e = absurd b.1
+
+-- the pair that puts the stack pointer back waits for no name
+pair_for : (at : Bases) (names : List PlacedName) (here : ℕ) (i : Instr) (writes : Bool) → AreFor at names here i (put_back writes)
+pair_for at names here i false = tt
+pair_for at names here i true = (tt, (tt, tt))
+
+masked : (at : Bases) (names : List PlacedName) (here : ℕ) (rvc : Bool) (i : Instr) (slots : List Slot) → IsMasked rvc i slots → Becomes at names here (Plain i) slots
+masked at names here rvc (Load kind rd a imm) slots e = plainly at names here (Load kind rd a imm) slots _ e (tt, (tt, (tt, tt)))
+masked at names here rvc (Store width a rs2 imm) slots e = plainly at names here (Store width a rs2 imm) slots _ e (tt, (tt, (tt, tt)))
+masked at names here rvc (Jalr rd a imm) slots e = jumping at names here rd a imm slots e
+masked at names here rvc (Op op rd rs1 rs2) slots e = alone at names here rvc (Op op rd rs1 rs2) slots e
+masked at names here rvc (OpImm op rd rs1 imm) slots e = alone at names here rvc (OpImm op rd rs1 imm) slots e
+masked at names here rvc (Branch cond rs1 rs2 offset) slots e = alone at names here rvc (Branch cond rs1 rs2 offset) slots e
+masked at names here rvc (Jal rd offset) slots e = alone at names here rvc (Jal rd offset) slots e
+masked at names here rvc (Lui rd imm) slots e = alone at names here rvc (Lui rd imm) slots e
+masked at names here rvc (Auipc rd imm) slots e = alone at names here rvc (Auipc rd imm) slots e
+masked at names here rvc (Fence imm rd rs1) slots e = alone at names here rvc (Fence imm rd rs1) slots e
+masked at names here rvc Ecall slots e = alone at names here rvc Ecall slots e
+masked at names here rvc Ebreak slots e = alone at names here rvc Ebreak slots e
+
+plain : (at : Bases) (names : List PlacedName) (here : ℕ) (writes on rvc : Bool) (i : Instr) (slots : List Slot)
+    → MatchBool writes (slots ≡ Wide i ∷ stack_pair) (MatchBool on (IsAlone rvc i slots) (IsMasked rvc i slots)) → Becomes at names here (Plain i) slots
+plain at names here true on rvc i slots e = plainly at names here i slots (Wide i ∷ stack_pair) e (tt, (tt, (tt, tt)))
+plain at names here false true rvc i slots e = alone at names here rvc i slots e
+plain at names here false false rvc i slots e = masked at names here rvc i slots e
+
+becomes : (f : Format) (at : Bases) (names : List PlacedName) (here line count : ℕ) (rvc : Bool) (body : Body) (slots : List Slot) (bytes : List ℕ)
+    → IsBody count body → IsExpansionOf f line rvc body slots → AreSlots at names here slots bytes → Becomes at names here body slots
+becomes f at names here line count rvc (Plain i) slots bytes b e h = plain at names here (writes_stack f i) (is_on_stack f i) rvc i slots e
+becomes f at names here line count rvc (To j name) slots bytes b e h =
+    let g = subst (λ (l : List Slot). AreSlots at names here l bytes) e h in
+    let m = made (λ to. with_offset (pos to -ℤ pos here) j) (target_at at names name) g.2.instr g.2.resolves in
+    record { instr = g.2.instr; may_be = aimed j g.2.instr (pos m.0 -ℤ pos here) count name b m.2; goes = subst (λ (l : List Slot). AreFor at names here g.2.instr l) (sym e) (g.2.resolves, tt) }
+becomes f at names here line count rvc (High rd name) slots bytes b e h =
+    let g = subst (λ (l : List Slot). AreSlots at names here l bytes) e h in
+    let m = made (λ address. Lui rd (upper (pos address))) (address_at at names name) g.2.instr g.2.resolves in
+    record { instr = g.2.instr; may_be = (upper (pos m.0), m.2); goes = subst (λ (l : List Slot). AreFor at names here g.2.instr l) (sym e) (g.2.resolves, pair_for at names (here + 4) g.2.instr (is_stack f rd)) }
+becomes f at names here line count rvc (Low rd name) slots bytes b e h =
+    let g = subst (λ (l : List Slot). AreSlots at names here l bytes) e h in
+    let m = made (λ address. OpImm Addi rd rd (lower (pos address))) (address_at at names name) g.2.instr g.2.resolves in
+    record { instr = g.2.instr; may_be = (lower (pos m.0), m.2); goes = subst (λ (l : List Slot). AreFor at names here g.2.instr l) (sym e) (g.2.resolves, pair_for at names (here + 4) g.2.instr (is_stack f rd)) }
+
+-- ---- where it stands in the code
+
+-- bytes behind others, in a memory that holds all of them from a base on
+held_inside : (m : Bytes) (base pc : ℕ) (front mid rest all : List ℕ) → ((k : ℕ) → k < length all → byte_at m (base + k) ≡ Some (slice_index all k))
+    → all ≡ front ++ (mid ++ rest) → base + length all ≤ 2 ^ 32 → pc ≡ base + length front → Holds m pc (length mid) mid
+held_inside m base pc front mid rest all holds e fits at = record {
+  count = refl;
+  each = λ k below.
+      let size : length all ≡ length front + (length mid + length rest) = ap (λ (l : List ℕ). length l) e ∙ length-append front (mid ++ rest) ∙ ap (λ n. length front + n) (length-append mid rest) in
+      let a : address_after pc k ≡ base + (length front + k) = omega arith in
+      let b : slice_index all (length front + k) ≡ slice_index mid k =
+      ap (λ (l : List ℕ). slice_index l (length front + k)) e ∙ get_or-append-add front (mid ++ rest) k 0 ∙ get_or_append_left mid rest 0 k below in
+      ap (byte_at m) a ∙ holds (length front + k) (omega arith) ∙ ap Some b;
+}
+
+nops_size : (n : ℕ) → size_of (replicate n c_nop) ≡ 2 * n
+nops_size n = let e = sum_by-replicate slot_size n c_nop in omega arith
+
+regroup : (before nops expanded behind fill : List Slot) → (before ++ (nops ++ (expanded ++ behind))) ++ fill ≡ (before ++ nops) ++ (expanded ++ (behind ++ fill))
+regroup before nops expanded behind fill =
+    append_assoc before (nops ++ (expanded ++ behind)) fill
+    ∙ ap (λ v. before ++ v) (append_assoc nops (expanded ++ behind) fill ∙ ap (λ v. nops ++ v) (append_assoc expanded behind fill))
+    ∙ sym (append_assoc before nops (expanded ++ (behind ++ fill)))
+
+regroup_bytes : (stubs front mid rest bytes more : List ℕ) → bytes ≡ front ++ more → more ≡ mid ++ rest → stubs ++ bytes ≡ (stubs ++ front) ++ (mid ++ rest)
+regroup_bytes stubs front mid rest bytes more e f = ap (λ v. stubs ++ v) (e ∙ ap (λ v. front ++ v) f) ∙ sym (append_assoc stubs front (mid ++ rest))
+
+pub runs_as : RewrittenIsTransparent → LinkedSlotsStand → LinkedRunsAs
+runs_as law stand number s p q k x sandbox r placed few linked at =
+    let st = law s p r k x at in
+    let lies = linked_lies number p q placed few linked in
+    let b = bases_of number p in
+    let lead = st.before ++ replicate st.nops c_nop in
+    let fill = replicate linked.code.fill c_ebreak in
+    let stubs = repeat (length p.gates) stub in
+    let here = b.start + size_of lead in
+    let grouped : slots_of p.bundles ++ fill ≡ lead ++ (st.expanded ++ (st.behind ++ fill)) =
+    ap (λ v. v ++ fill) st.placed ∙ regroup st.before (replicate st.nops c_nop) st.expanded st.behind fill in
+    let one : AreCut b p.names b.start lead (st.expanded ++ (st.behind ++ fill)) linked.code.bytes =
+    cut b p.names b.start lead (st.expanded ++ (st.behind ++ fill)) linked.code.bytes
+    (subst (λ (l : List Slot). AreSlots b p.names b.start l linked.code.bytes) grouped linked.code.slots) in
+    let two : AreCut b p.names here st.expanded (st.behind ++ fill) one.rest = cut b p.names here st.expanded (st.behind ++ fill) one.rest one.second in
+    let is = becomes s.format b p.names here x.line (length s.names) x.rvc x.body st.expanded two.front (sandbox.items k x at).body st.next.expansion two.first in
+    let all : q.code ≡ (stubs ++ one.front) ++ (two.front ++ two.rest) = linked.code.code_is ∙ regroup_bytes stubs one.front two.front two.rest linked.code.bytes one.rest one.whole two.whole in
+    let front_size : length (stubs ++ one.front) ≡ 16 * length p.gates + (size_of st.before + 2 * st.nops) =
+    length-append stubs one.front
+    ∙ (let a = length_stubs (length p.gates) in
+    let c = slots_length b p.names b.start lead one.front one.first in
+    let d = size_of-append st.before (replicate st.nops c_nop) in
+    let e = nops_size st.nops in
+    omega arith) in
+    let mid_size : length two.front ≡ size_of st.expanded = slots_length b p.names here st.expanded two.front two.first in
+    let fits : q.code_base + length q.code ≤ 2 ^ 32 = (let a = lies.code_end in let c = lies.high in omega arith) in
+    let start : q.start ≡ q.code_base + 16 * length p.gates = (let a = linked.start in let c = linked.code_base in omega arith) in
+    record {
+      placed = st;
+      instr = is.instr;
+      may_be = is.may_be;
+      regions = record { format = q.format; code_placed = lies.right.code_placed; data_placed = lies.right.data_placed };
+      stands = λ t code pc.
+          let there : t.hart.pc ≡ q.code_base + length (stubs ++ one.front) = omega arith in
+          let held : Holds t.memory t.hart.pc (size_of st.expanded) two.front =
+          subst (λ (n : ℕ). Holds t.memory t.hart.pc n two.front) mid_size (held_inside t.memory q.code_base t.hart.pc (stubs ++ one.front) two.front two.rest q.code code all fits there) in
+          stand b p.names here is.instr st.expanded two.front t two.first is.goes held;
+    }
