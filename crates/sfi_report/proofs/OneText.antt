@@ -3,15 +3,15 @@ use Rattle.std.proofs.Common.{◌≡◌, ℕ, zero, suc, ◌+◌, ◌-◌, ◌*�
 use Rattle.std.specs.List.{flat_map}
 use Rattle.rv_comp.specs.Laws.{OneSpelling}
 use Rattle.rv_text.specs.Printed.{printed}
-use Rattle.sfi_image.specs.Spelling.{Part}
+use Rattle.sfi_image.specs.Spelling.{Part, format_of}
 use Rattle.sfi_scan.specs.declared.finding.Finding.{Finding}
 use Rattle.sfi_scan.specs.declared.rule.Rule.{Rule}
-use Rattle.sfi_scan.specs.declared.rule.Rule.TheVariants.{V1, V2, V3, V4, V5, V6, V7, V8, V9}
+use Rattle.sfi_scan.specs.declared.rule.Rule.TheVariants.{V1, V2, V3, V4, V5, V6, V7, V8, V9, V10}
 use Rattle.sfi_scan.specs.Bundles.{bundle_bytes}
 use Rattle.sfi_scan.specs.Laws.{OneLongestReading}
 use Rattle.sfi_report.specs.Digits.{line_end}
 use Rattle.sfi_report.specs.Report.{IsInstructionText, IsPlaceText, line_front, IsFindingLine}
-use Rattle.sfi_report.specs.Listing.{reading_lines, sandbox_line, gate_line, IsBundleListing, IsListingOfFirst, IsCodeListing, IsSandboxListing, IsListingFrom}
+use Rattle.sfi_report.specs.Listing.{reading_lines, sandbox_line, gate_line, format_line, IsBundleListing, IsListingOfFirst, IsCodeListing, IsSandboxListing, IsListingFrom}
 use Rattle.sfi_report.specs.Laws.{OneReport, OneListing}
 
 -- ---- reports
@@ -31,6 +31,7 @@ one_place law V6 code text other a b = one_instruction law code text other a b
 one_place law V7 code text other a b = one_instruction law code text other a b
 one_place law V8 code text other a b = one_instruction law code text other a b
 one_place law V9 code text other a b = a ∙ sym b
+one_place law V10 code text other a b = one_instruction law code text other a b
 
 one_line : OneSpelling → (ps : List Part) (f : Finding) (line other : List ℕ) → IsFindingLine ps f line → IsFindingLine ps f other → line ≡ other
 one_line law ps f line other a b =
@@ -76,4 +77,4 @@ one_from law sandbox (p ∷ ps) text other a b =
     a.4 ∙ ap (λ l. l ++ a.1) front ∙ ap (λ l. b.0 ++ l) rest ∙ sym b.4
 
 pub one_listing : OneLongestReading → OneListing
-one_listing law ps text other a b = one_from law 0 ps text other a b
+one_listing law ps text other a b = a.2 ∙ ap (λ l. format_line (format_of ps) ++ l) (one_from law 0 ps a.0 b.0 a.1 b.1) ∙ sym b.2

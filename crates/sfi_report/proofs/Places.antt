@@ -13,7 +13,7 @@ use Rattle.rv_comp.specs.Fronts.{Spells}
 use Rattle.sfi_image.specs.Spelling.{Part}
 use Rattle.sfi_scan.specs.declared.bundle.BundlePlace.{BundlePlace}
 use Rattle.sfi_scan.specs.declared.rule.Rule.{Rule}
-use Rattle.sfi_scan.specs.declared.rule.Rule.TheVariants.{V1, V2, V3, V4, V5, V6, V7, V8, V9}
+use Rattle.sfi_scan.specs.declared.rule.Rule.TheVariants.{V1, V2, V3, V4, V5, V6, V7, V8, V9, V10}
 use Rattle.sfi_scan.specs.declared.finding.Finding.{Finding}
 use Rattle.sfi_scan.specs.Bundles.{place_of, bundle_bytes}
 use Rattle.sfi_scan.specs.Readings.{Piece, IsReading, rest_of}
@@ -35,10 +35,10 @@ pub record StandsIn (sandbox at : ℕ) (bytes : List ℕ) (f : Finding) : Type 0
 -- a rule that is broken where an instruction stands
 lowest_stands : (P : Finding → Type 0) (x : Place)
     → P (broken x.bundle x.address V3) → P (broken x.bundle x.address V4) → P (broken x.bundle x.address V5)
-    → P (broken x.bundle x.address V6) → P (broken x.bundle x.address V7) → P (broken x.bundle x.address V8)
+    → P (broken x.bundle x.address V6) → P (broken x.bundle x.address V7) → P (broken x.bundle x.address V8) → P (broken x.bundle x.address V10)
     → All P (lowest x all_rules)
-lowest_stands P x v3 v4 v5 v6 v7 v8 =
-    choose (breaks x V3) V3 _ v3 (choose (breaks x V4) V4 _ v4 (choose (breaks x V5) V5 _ v5 (choose (breaks x V6) V6 _ v6 (choose (breaks x V7) V7 _ v7 (choose (breaks x V8) V8 _ v8 none)))))
+lowest_stands P x v3 v4 v5 v6 v7 v8 v10 =
+    choose (breaks x V3) V3 _ v3 (choose (breaks x V4) V4 _ v4 (choose (breaks x V5) V5 _ v5 (choose (breaks x V6) V6 _ v6 (choose (breaks x V7) V7 _ v7 (choose (breaks x V8) V8 _ v8 (choose (breaks x V10) V10 _ v10 none))))))
   where
     none : All P []
     none = λ k d h. absurd (omega arith)
@@ -58,7 +58,7 @@ reading_stands b whole at earlier rest [] h = λ k d g. absurd (omega arith)
 reading_stands b whole at earlier rest (x ∷ later) h =
     All-append (StandsIn b.sandbox at rest) (lowest (record { bundle = b; address = at; earlier = earlier; instr = x.instr; later = later; whole = whole }) all_rules) (findings_from b whole (at + x.size) (x.instr ∷ earlier) later)
     (lowest_stands (StandsIn b.sandbox at rest) (record { bundle = b; address = at; earlier = earlier; instr = x.instr; later = later; whole = whole })
-    (here V3 first) (here V4 first) (here V5 first) (here V6 first) (here V7 first) (here V8 first))
+    (here V3 first) (here V4 first) (here V5 first) (here V6 first) (here V7 first) (here V8 first) (here V10 first))
     (λ k d g. behind _ (reading_stands b whole (at + x.size) (x.instr ∷ earlier) (drop x.size rest) later h.1 k d g))
   where
     first : SpellsFirst rest
@@ -162,6 +162,7 @@ place_more rule m code h = more rule h
     more V7 e = spelled e
     more V8 e = spelled e
     more V9 e = tt
+    more V10 e = spelled e
 
 first_stand : (sandbox : ℕ) (p : Part) (n : ℕ) (found : List Finding) → 16 * n ≤ length p.code → AreFindingsOfFirst sandbox p n found
     → All (StandsIn sandbox p.code_base p.code) found

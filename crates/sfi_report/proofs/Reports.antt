@@ -3,6 +3,7 @@ use Rattle.std.proofs.Common.{◌≡◌, ℕ, zero, suc, ◌+◌, ◌-◌, ◌<�
 use Rattle.std.specs.Prelude.{slice_get, Result, Ok, Err, OnOk, if◌then◌else◌}
 use Rattle.std.specs.Result.{is_ok}
 use Rattle.std.proofs.lemmas.List.{append-nil, take_more}
+use Rattle.sfi_image.specs.declared.format.Format.{Format}
 use Rattle.sfi_image.specs.declared.part.SandboxPart.{SandboxPart}
 use Rattle.sfi_image.specs.Spelling.{Part, view, views}
 use Rattle.sfi_scan.specs.declared.finding.Finding.{Finding}
@@ -11,24 +12,24 @@ use Rattle.sfi_report.specs.Report.{IsPlaceText, line_front, IsFindingLine, IsRe
 use Rattle.sfi_report.specs.Added.{Adds, Stands}
 
 -- the part of that number
-part_at : (items : List SandboxPart) (k : ℕ) (d : SandboxPart) (p : Part) → slice_get (views items) k ≡ Some p → view (get_or items k d) ≡ p
-part_at [] k d p h = absurd (cc)
-part_at (x ∷ items) zero d p h = cc
-part_at (x ∷ items) (suc k) d p h = part_at items k d p h
+part_at : (format : Format) (items : List SandboxPart) (k : ℕ) (d : SandboxPart) (p : Part) → slice_get (views format items) k ≡ Some p → view format (get_or items k d) ≡ p
+part_at format [] k d p h = absurd (cc)
+part_at format (x ∷ items) zero d p h = cc
+part_at format (x ∷ items) (suc k) d p h = part_at format items k d p h
 
 -- the pieces of a finding's line
-pub line_of : (items : List SandboxPart) (f : Finding) (d : SandboxPart) (code old front placed new : List ℕ) → Stands (views items) f
+pub line_of : (format : Format) (items : List SandboxPart) (f : Finding) (d : SandboxPart) (code old front placed new : List ℕ) → Stands (views format items) f
     → d ≡ get_or items f.sandbox d
     → code ≡ drop (f.address - d.code_base) d.code.now
     → front ≡ old ++ line_front f
     → Adds front placed (IsPlaceText f.rule code)
     → new ≡ placed ++ line_end
-    → Adds old new (IsFindingLine (views items) f)
-line_of items f d code old front placed new s is there e h g =
-    let part : view d ≡ s.part = ap view is ∙ part_at items f.sandbox d s.part s.part_is in
+    → Adds old new (IsFindingLine (views format items) f)
+line_of format items f d code old front placed new s is there e h g =
+    let part : view format d ≡ s.part = ap (view format) is ∙ part_at format items f.sandbox d s.part s.part_is in
     record {
       text = line_front f ++ h.text ++ line_end;
-      text_is = record { part = view d; place = h.text; part_is = s.part_is ∙ ap Some (sym part); place_is = subst (λ (l : List ℕ). IsPlaceText f.rule l h.text) there h.text_is; line_is = refl };
+      text_is = record { part = view format d; place = h.text; part_is = s.part_is ∙ ap Some (sym part); place_is = subst (λ (l : List ℕ). IsPlaceText f.rule l h.text) there h.text_is; line_is = refl };
       new_is = g ∙ ap (λ t. t ++ line_end) (h.new_is ∙ ap (λ t. t ++ h.text) e) ∙ regroup old (line_front f) h.text line_end;
     }
   where

@@ -3,12 +3,13 @@ use Rattle.std.proofs.Common.{◌≡◌, ℕ, zero, suc, ◌+◌, ◌*◌, ◌<�
 use Rattle.std.specs.List.{All, flat_map}
 use Rattle.std.specs.Simd.{first_chunks}
 use Rattle.std.proofs.lemmas.List.{take_more, append-nil, drop-drop, take_all, length-map, length-take, get_or-map}
+use Rattle.sfi_image.specs.declared.format.Format.{Format}
 use Rattle.sfi_image.specs.declared.part.SandboxPart.{SandboxPart}
-use Rattle.sfi_image.specs.Spelling.{Part, view, views}
+use Rattle.sfi_image.specs.Spelling.{Part, view, views, format_of}
 use Rattle.sfi_image.specs.Parts.{IsRightPart, IsRightLayout}
 use Rattle.sfi_scan.specs.Bundles.{bundle_bytes}
 use Rattle.sfi_report.specs.Added.{Adds}
-use Rattle.sfi_report.specs.Listing.{sandbox_line, gate_line, IsBundleListing, IsListingOfFirst, IsCodeListing, IsSandboxListing, IsListingFrom, IsListing}
+use Rattle.sfi_report.specs.Listing.{sandbox_line, gate_line, IsBundleListing, IsListingOfFirst, IsCodeListing, IsSandboxListing, IsListingFrom, format_line, IsListing}
 
 -- a chunk of 16 bytes is the bundle of its number
 pub chunk_at : (count k : ℕ) (xs : List ℕ) → k < count → get_or (first_chunks 16 count xs) k [] ≡ take 16 (drop (16 * k) xs)
@@ -67,25 +68,37 @@ listing_append n m (q ∷ parts) p text last h here e =
     (h.0, h.1 ++ last, h.2, rest, ap (λ (l : List ℕ). l ++ last) h.4 ∙ append_assoc h.0 h.1 last)
 
 -- the parts in the list that the code goes over are right
-pub right_at : (image : List Part) (items : List SandboxPart) (i : ℕ) (d : SandboxPart) → views items ≡ image → IsRightLayout image → i < length items → IsRightPart (view (get_or items i d))
-right_at image items i d e right h =
+pub right_at : (format : Format) (image : List Part) (items : List SandboxPart) (i : ℕ) (d : SandboxPart) → views format items ≡ image → IsRightLayout image → i < length items
+    → IsRightPart (view format (get_or items i d))
+right_at format image items i d e right h =
     let each = subst (λ (l : List Part). All IsRightPart l) (sym e) right.right.each in
-    let within : i < length (views items) = omega (arith, length-map items view) in
-    subst (λ (p : Part). IsRightPart p) (get_or-map view items i d (view d) h) (each i (view d) within)
+    let within : i < length (views format items) = omega (arith, length-map items (view format)) in
+    subst (λ (p : Part). IsRightPart p) (get_or-map (view format) items i d (view format d) h) (each i (view format d) within)
 
-pub one_sandbox_more : (image : List Part) (items : List SandboxPart) (i : ℕ) (d : SandboxPart) (text more : List ℕ) → views items ≡ image → i < length items
-    → IsListing (take i image) text → Adds text more (IsSandboxListing i (view (get_or items i d))) → IsListing (take (i + 1) image) more
-one_sandbox_more image items i d text more e h before here =
-    let within : i < length (views items) = omega (arith, length-map items view) in
-    let longer : take (i + 1) (views items) ≡ take i (views items) ++ view (get_or items i d) ∷ [] =
-    take_more (views items) i (view d) within ∙ ap (λ (p : Part). take i (views items) ++ p ∷ []) (get_or-map view items i d (view d) h) in
-    let count : i ≡ 0 + length (take i (views items)) = omega (arith, length-take i (views items)) in
-    let before' = subst (λ (l : List Part). IsListing (take i l) text) (sym e) before in
-    let listed = listing_append 0 i (take i (views items)) (view (get_or items i d)) text here.text before' here.text_is count in
-    let placed = subst (λ (l : List Part). IsListing l (text ++ here.text)) (sym longer ∙ ap (take (i + 1)) e) listed in
-    subst (λ (t : List ℕ). IsListing (take (i + 1) image) t) (sym here.new_is) placed
+-- the listing of the first sandboxes behind the text
+abbrev pub AreListedTo : List Part → ℕ → List ℕ → List ℕ → Type 0
+AreListedTo image i old new = Adds old new (IsListingFrom 0 (take i image))
 
-pub all_sandboxes : (image : List Part) (items : List SandboxPart) (i : ℕ) (text : List ℕ) → views items ≡ image → length items ≤ i → IsListing (take i image) text → IsListing image text
-all_sandboxes image items i text e h before =
-    let all : length image ≤ i = omega (arith, length-map items view, ap length e) in
-    subst (λ (l : List Part). IsListing l text) (take_all i image all) before
+pub no_sandboxes : (image : List Part) (old : List ℕ) → AreListedTo image 0 old old
+no_sandboxes image old = record { text = []; text_is = refl; new_is = sym (append-nil old) }
+
+pub one_sandbox_more : (format : Format) (image : List Part) (items : List SandboxPart) (i : ℕ) (d : SandboxPart) (old text more : List ℕ) → views format items ≡ image → i < length items
+    → AreListedTo image i old text → Adds text more (IsSandboxListing i (view format (get_or items i d))) → AreListedTo image (i + 1) old more
+one_sandbox_more format image items i d old text more e h before here =
+    let within : i < length (views format items) = omega (arith, length-map items (view format)) in
+    let longer : take (i + 1) (views format items) ≡ take i (views format items) ++ view format (get_or items i d) ∷ [] =
+    take_more (views format items) i (view format d) within ∙ ap (λ (p : Part). take i (views format items) ++ p ∷ []) (get_or-map (view format) items i d (view format d) h) in
+    let count : i ≡ 0 + length (take i (views format items)) = omega (arith, length-take i (views format items)) in
+    let before' = subst (λ (l : List Part). IsListingFrom 0 (take i l) before.text) (sym e) before.text_is in
+    let listed = listing_append 0 i (take i (views format items)) (view format (get_or items i d)) before.text here.text before' here.text_is count in
+    record {
+      text = before.text ++ here.text;
+      text_is = subst (λ (l : List Part). IsListingFrom 0 l (before.text ++ here.text)) (sym longer ∙ ap (take (i + 1)) e) listed;
+      new_is = here.new_is ∙ ap (λ t. t ++ here.text) before.new_is ∙ append_assoc old before.text here.text;
+    }
+
+pub all_sandboxes : (format : Format) (image : List Part) (items : List SandboxPart) (i : ℕ) (text : List ℕ) → views format items ≡ image → format ≡ format_of image → length items ≤ i
+    → AreListedTo image i (format_line format) text → IsListing image text
+all_sandboxes format image items i text e is h before =
+    let all : length image ≤ i = omega (arith, length-map items (view format), ap length e) in
+    (before.text, subst (λ (l : List Part). IsListingFrom 0 l before.text) (take_all i image all) before.text_is, before.new_is ∙ ap (λ (f : Format). format_line f ++ before.text) is)

@@ -3,7 +3,9 @@ use Rattle.std.specs.Prelude.{◌≡◌, ℕ, zero, suc, ◌+◌, ◌*◌, List,
 use Rattle.std.specs.List.{flat_map}
 use Rattle.rv_word.specs.declared.instr.Instr.{Instr}
 use Rattle.rv_text.specs.Printed.{printed}
-use Rattle.sfi_image.specs.Spelling.{Part}
+use Rattle.sfi_image.specs.declared.format.Format.{Format}
+use Rattle.sfi_image.specs.declared.format.Format.TheVariants.{Sfi1, Sfi2}
+use Rattle.sfi_image.specs.Spelling.{Part, format_of}
 use Rattle.sfi_image.specs.declared.part.Gate.{Gate}
 use Rattle.sfi_scan.specs.Bundles.{bundle_bytes}
 use Rattle.sfi_scan.specs.Readings.{Piece, IsLongestReading}
@@ -79,6 +81,11 @@ IsListingFrom sandbox [] text = text ≡ []
 IsListingFrom sandbox (p ∷ ps) text =
     (front : List ℕ) × (rest : List ℕ) × IsSandboxListing sandbox p front × IsListingFrom (sandbox + 1) ps rest × (text ≡ front ++ rest)
 
+-- its format, but for the first
+unfoldable pub format_line : Format → List ℕ
+format_line Sfi1 = []
+format_line Sfi2 = codes "format SFI2" ++ line_end
+
 -- the listing of an image with these parts
 abbrev pub IsListing : List Part → List ℕ → Type 0
-IsListing ps text = IsListingFrom 0 ps text
+IsListing ps text = (sandboxes : List ℕ) × IsListingFrom 0 ps sandboxes × (text ≡ format_line (format_of ps) ++ sandboxes)

@@ -7,7 +7,7 @@ use Rattle.sfi_image.specs.Spelling.{Part}
 use Rattle.sfi_scan.specs.Numbers.{number_of}
 use Rattle.sfi_scan.specs.declared.finding.Finding.{Finding}
 use Rattle.sfi_scan.specs.declared.rule.Rule.{Rule}
-use Rattle.sfi_scan.specs.declared.rule.Rule.TheVariants.{V1, V2, V3, V4, V5, V6, V7, V8, V9}
+use Rattle.sfi_scan.specs.declared.rule.Rule.TheVariants.{V1, V2, V3, V4, V5, V6, V7, V8, V9, V10}
 use Rattle.sfi_report.specs.Digits.{hex_digits, line_end, word_digits}
 
 -- the name of a rule
@@ -21,6 +21,7 @@ rule_name V6 = codes "jump"
 rule_name V7 = codes "target"
 rule_name V8 = codes "end"
 rule_name V9 = codes "gate"
+rule_name V10 = codes "stack"
 
 -- ---- what stands where a rule is broken, by the code from there on
 
@@ -43,6 +44,7 @@ IsPlaceText V6 code text = IsInstructionText code text
 IsPlaceText V7 code text = IsInstructionText code text
 IsPlaceText V8 code text = IsInstructionText code text
 IsPlaceText V9 code text = text ≡ codes "stub expected"
+IsPlaceText V10 code text = IsInstructionText code text
 
 -- ---- lines
 

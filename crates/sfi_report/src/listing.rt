@@ -2,14 +2,14 @@
 ghost use Rattle.std.specs.Prelude.{◌≡◌, ◌+◌, ◌^◌, ◌<◌, ◌≤◌, ◌++◌, ◌⊎◌, OnOk, IfOk, length, string_bytes};
 ghost use Rattle.sfi_image.specs.Spelling.{view};
 ghost use Rattle.sfi_image.specs.Parts.{IsRightPart};
-ghost use Rattle.sfi_report.specs.Listing.{instruction_line, rest_line, sandbox_line, region_text, gate_line, IsBundleListing, IsCodeListing, IsSandboxListing, IsListing};
+ghost use Rattle.sfi_report.specs.Listing.{instruction_line, rest_line, sandbox_line, region_text, gate_line, format_line, IsBundleListing, IsCodeListing, IsSandboxListing, IsListing};
 ghost use Rattle.sfi_report.specs.Added.{Adds};
 
 use crate::digits::{push_eight_digits, push_two_digits, push_word};
 use rv_comp::{Front, read_front};
 use rv_text::push_instr;
 use rv_word::Instr;
-use sfi_image::{Gate, Image, SandboxPart, whole_bundles};
+use sfi_image::{Format, Gate, Image, SandboxPart, whole_bundles};
 use std::alloc::{AllocError, Global};
 
 /// Writes the line of an instruction with these bytes.
@@ -77,8 +77,8 @@ fn push_region(out: &mut String, base: u32, size: usize) -> Result<(), AllocErro
 
 /// Writes the line of the sandbox's fields.
 fn push_fields(out: &mut String, sandbox: u32, part: &SandboxPart) -> Result<(), AllocError>
-    ensures { OnOk result (string_bytes out.new
-        ≡ string_bytes out.old ++ sandbox_line sandbox (view part.now)) }
+    ensures { (format : Format) → OnOk result (string_bytes out.new
+        ≡ string_bytes out.old ++ sandbox_line sandbox (view format part.now)) }
 {
     write!(out, "sandbox {sandbox} code ")?;
     push_region(out, part.code_base, part.code.len())?;
@@ -103,9 +103,9 @@ fn push_gate(out: &mut String, gate: &Gate) -> Result<(), AllocError>
 
 /// Writes the lines of a sandbox.
 fn push_sandbox(out: &mut String, sandbox: u32, part: &SandboxPart) -> Result<(), AllocError>
-    requires { IsRightPart (view part.now) }
-    ensures { OnOk result (Adds (string_bytes out.old) (string_bytes out.new)
-        (IsSandboxListing sandbox (view part.now))) }
+    requires { (format : Format) × IsRightPart (view format part.now) }
+    ensures { (format : Format) → OnOk result (Adds (string_bytes out.old) (string_bytes out.new)
+        (IsSandboxListing sandbox (view format part.now))) }
 {
     push_fields(out, sandbox, part)?;
     for gate in &part.gates {
@@ -116,9 +116,9 @@ fn push_sandbox(out: &mut String, sandbox: u32, part: &SandboxPart) -> Result<()
 
 /// Writes the lines of a sandbox's bundles.
 fn push_code(out: &mut String, part: &SandboxPart) -> Result<(), AllocError>
-    requires { IsRightPart (view part.now) }
-    ensures { OnOk result (Adds (string_bytes out.old) (string_bytes out.new)
-        (IsCodeListing (view part.now))) }
+    requires { (format : Format) × IsRightPart (view format part.now) }
+    ensures { (format : Format) → OnOk result (Adds (string_bytes out.old) (string_bytes out.new)
+        (IsCodeListing (view format part.now))) }
 {
     // The law that the bounds rest on: this call does nothing.
     whole_bundles();
@@ -129,7 +129,18 @@ fn push_code(out: &mut String, part: &SandboxPart) -> Result<(), AllocError>
     Ok(())
 }
 
-/// The listing of an image: for each sandbox a line of its fields, a line for each gate, and a line for each instruction.
+/// Writes the line of the image's format, if it has one.
+#[tactic(auto, unfolding(crate::specs::Listing::format_line))]
+fn push_format(out: &mut String, format: Format) -> Result<(), AllocError>
+    ensures { OnOk result (string_bytes out.new ≡ string_bytes out.old ++ format_line format) }
+{
+    match format {
+        Format::Sfi1 => Ok(()),
+        Format::Sfi2 => out.push_str("format SFI2\n"),
+    }
+}
+
+/// The listing of an image: a line of its format, but for the first; then for each sandbox a line of its fields, a line for each gate, and a line for each instruction.
 ///
 /// Each bundle is read from its first byte, as the rules read it. Where reading stops before the bundle's end, a line
 /// `.bytes` has what is left. The one error is that an allocation was refused.
@@ -137,6 +148,7 @@ pub fn listing_text(alloc: Global, image: &Image<'_>) -> Result<String, AllocErr
     ensures text { IfOk result (λ text. IsListing image.now (string_bytes text)) }
 {
     let mut out = String::new(alloc);
+    push_format(&mut out, image.format())?;
     for (sandbox, part) in image.parts().iter().enumerate() {
         push_sandbox(&mut out, sandbox as u32, part)?;
     }

@@ -8,7 +8,7 @@ ghost use Rattle.sfi_report.specs.Added.{Adds, IsPlace, SpellsFirst, Stands};
 use crate::digits::{push_eight_digits, push_half};
 use rv_comp::{Front, read_front};
 use rv_text::push_instr;
-use sfi_image::{Image, SandboxPart};
+use sfi_image::{Format, Image, SandboxPart};
 use sfi_scan::{Finding, Rule};
 use std::alloc::{AllocError, Global};
 
@@ -26,6 +26,7 @@ fn name_of(rule: Rule) -> &'static str
         Rule::V7 => "target",
         Rule::V8 => "end",
         Rule::V9 => "gate",
+        Rule::V10 => "stack",
     }
 }
 
@@ -56,7 +57,9 @@ fn push_place(out: &mut String, rule: Rule, code: &[u8]) -> Result<(), AllocErro
 {
     match rule {
         Rule::V1 | Rule::V2 => push_data(out, code),
-        Rule::V3 | Rule::V4 | Rule::V5 | Rule::V6 | Rule::V7 | Rule::V8 => push_first(out, code),
+        Rule::V3 | Rule::V4 | Rule::V5 | Rule::V6 | Rule::V7 | Rule::V8 | Rule::V10 => push_first(
+            out, code,
+        ),
         Rule::V9 => out.push_str("stub expected"),
     }
 }
@@ -79,9 +82,9 @@ fn push_finding(
     parts: &[SandboxPart],
     finding: &Finding,
 ) -> Result<(), AllocError>
-    requires { Stands (views parts.now) finding.now }
-    ensures { OnOk result (Adds (string_bytes out.old) (string_bytes out.new)
-        (IsFindingLine (views parts.now) finding.now)) }
+    requires { (format : Format) × Stands (views format parts.now) finding.now }
+    ensures { (format : Format) → Stands (views format parts.now) finding.now → OnOk result (Adds (string_bytes out.old) (string_bytes out.new)
+        (IsFindingLine (views format parts.now) finding.now)) }
 {
     let part = &parts[finding.sandbox as usize];
     let offset = (finding.address - part.code_base) as usize;

@@ -1,8 +1,9 @@
-use Rattle.std.proofs.Common.{take}
 use Rattle.std.specs.Prelude.{string_bytes}
-use Rattle.sfi_report.specs.Listing.{IsListing}
+use Rattle.sfi_image.specs.Spelling.{format_of}
+use Rattle.sfi_report.specs.Listing.{format_line}
+use Rattle.sfi_report.proofs.Sandboxes.{AreListedTo}
 use Rattle.sfi_report.proofs.listing.listing_text.Given as goal
 
 -- the sandboxes so far are listed
 abbrev pub invariant-loop-sandbox : goal.invariant-loop-sandbox
-invariant-loop-sandbox l = IsListing (take l.sandbox l.image) (string_bytes l.out)
+invariant-loop-sandbox l = AreListedTo l.image l.sandbox (format_line (format_of l.image)) (string_bytes l.out)

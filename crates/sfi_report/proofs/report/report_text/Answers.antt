@@ -1,7 +1,7 @@
 use Rattle.std.proofs.Common.{List, get_or, sym, subst}
 use Rattle.std.specs.Prelude.{string_bytes}
 use Rattle.std.proofs.lemmas.List.{take_all}
-use Rattle.sfi_image.specs.Spelling.{Part}
+use Rattle.sfi_image.specs.Spelling.{Part, format_of}
 use Rattle.sfi_scan.specs.declared.finding.Finding.{Finding}
 use Rattle.sfi_scan.specs.declared.rule.Rule.TheVariants.{V1}
 use Rattle.sfi_report.specs.Added.{Adds, Stands}
@@ -17,9 +17,11 @@ none = record { sandbox = 0; address = 0; rule = V1 }
 pub push_finding-requires : goal.push_finding-requires
 unfolding none
 push_finding-requires c =
-    let k = c.loop-finding.finding-index in
-    subst (λ (ps : List Part). Stands ps (get_or c.args.findings.now k none)) (sym c.parts-parts.ensures.parts)
-    (findings_stand c.args.image.now c.args.findings.now c.requires k none c.loop-finding-test.true)
+    let k = c.loop-finding.finding-index in (
+      format_of c.args.image.now,
+      subst (λ (ps : List Part). Stands ps (get_or c.args.findings.now k none)) (sym c.parts-parts.ensures.parts)
+          (findings_stand c.args.image.now c.args.findings.now c.requires k none c.loop-finding-test.true),
+    )
 
 pub loop-finding-preserved : goal.loop-finding-preserved
 unfolding none
@@ -27,7 +29,9 @@ loop-finding-preserved c =
     let k = c.loop-finding.finding-index in
     let old = string_bytes c.loop-finding.out in
     let new = string_bytes c.push_finding.new.out in
-    let here = subst (λ (ps : List Part). Adds old new (IsFindingLine ps (get_or c.args.findings.now k none))) c.parts-parts.ensures.parts c.in_ok-push_finding.ensures in
+    let stands = subst (λ (ps : List Part). Stands ps (get_or c.args.findings.now k none)) (sym c.parts-parts.ensures.parts)
+    (findings_stand c.args.image.now c.args.findings.now c.requires k none c.loop-finding-test.true) in
+    let here = subst (λ (ps : List Part). Adds old new (IsFindingLine ps (get_or c.args.findings.now k none))) c.parts-parts.ensures.parts (c.in_ok-push_finding.ensures (format_of c.args.image.now) stands) in
     one_finding_more c.args.image.now c.args.findings.now k none old new c.loop-finding-test.true c.loop-finding.invariant here
 
 pub returns : goal.returns
