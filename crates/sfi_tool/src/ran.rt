@@ -10,7 +10,7 @@ use crate::hexadecimal::bytes_of;
 use crate::plan::plan_of;
 use crate::run_lines::run_lines;
 use crate::verdict::{Answer, refused_line};
-use rv_mem::Segments;
+use rv_mem::Pages;
 use sfi_check::{Accepted, Refusal, check};
 use sfi_host::{Console, RunAnswer, World};
 use std::alloc::{AllocError, Global};
@@ -26,7 +26,7 @@ fn run_text(
     ensures { IfOk result (λ text. IsRunText rounds quantum input.now accepted.now (string_bytes text)) }
 {
     let count = accepted.sandboxes() as u32;
-    let mut world = World::load(alloc, accepted, Segments::new(alloc))?;
+    let mut world = World::load(alloc, accepted, Pages::new(alloc))?;
     let mut console = Console::new(alloc, count, input)?;
     let plan = plan_of(alloc, rounds, quantum, count)?;
     match world.run_plan(&plan, &mut console) {

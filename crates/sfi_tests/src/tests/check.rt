@@ -62,10 +62,11 @@ const APART: &str = "00000002000100000021800100010000000000020000000000000000";
 // ecall; and x31, x1, x25; or x31, x31, x24; jalr x0, 0(x31)
 const STUB: &str = "73000000b3ff9001b3ef8f0167800f00";
 
-fn layouts() -> [Row<'static>; 18] {
+fn layouts() -> [Row<'static>; 19] {
     [
         one("smallest", same(), 0, ACCEPTED),
-        one("magic", put(0, "53464932"), 2, "layout fault 1 Magic"),
+        one("magic", put(0, "53464933"), 2, "layout fault 1 Magic"),
+        one("second format", put(0, "53464932"), 0, ACCEPTED),
         one("no sandbox", put(4, "00000000"), 2, "layout fault 2 Count"),
         one(
             "17 sandboxes",

@@ -91,7 +91,7 @@ gate 01000000 5
 #[test]
 fn names_faults(rt: HostRuntime) -> Result<(), Fail> {
     let alloc = rt.alloc();
-    let text = image(alloc, &[put(0, "53464932")])?;
+    let text = image(alloc, &[put(0, "53464933")])?;
     let Outcome { status, text } = run(alloc, "sfi dis", text.as_slice())?;
     assert_eq!(rt; text.as_slice(), b"layout fault 1 Magic\n".as_slice());
     assert_eq!(rt; status, 2);

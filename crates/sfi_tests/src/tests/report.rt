@@ -33,7 +33,7 @@ const SECOND: &str = "00000002000100000021800100010000000000020000000000000000";
 fn rows() -> [Row<'static>; 11] {
     [
         one("smallest", same(), 0, "accepted sandboxes=1 bundles=16\n"),
-        one("magic", put(0, "53464932"), 2, "layout fault 1 Magic\n"),
+        one("magic", put(0, "53464933"), 2, "layout fault 1 Magic\n"),
         code(
             "no instruction",
             "00000000",
