@@ -11,6 +11,7 @@ mod scan;
 mod source;
 mod tour;
 mod usage;
+mod worlds;
 
 use sfi_tool::run_tool;
 use std::alloc::{AllocError, Global};

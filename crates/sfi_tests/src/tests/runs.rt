@@ -4,15 +4,15 @@ use std::alloc::{AllocError, Global};
 use std::test::Fail;
 
 // A gate y for service 3; `again: call y`, `j again`.
-const YIELDS: &str =
+pub(super) const YIELDS: &str =
     "534649310100000000000001000100000000800100010000100000010100000000000000000000010300000073000000b3ff9001b3ef8f0167800f00010001000100010001000100eff05ffe6ff01fff";
 
 // Gates get and quit; `la a0, buf`, `li a1, 2`, `call get`, `call quit`, and two data bytes `buf`.
-const READS: &str =
+pub(super) const READS: &str =
     "5346493101000000000000010001000000008001000100002000000102000000020000000000000102000000100000010000000073000000b3ff9001b3ef8f0167800f0073000000b3ff9001b3ef8f0167800f00370580011305050093052000eff05ffd010001000100010001000100eff05ffd";
 
 // Gates put and quit; `la a0, msg`, `li a1, 2`, `call put`, `la a0, msg`, `lbu a0, 1(a0)`, `call quit`, and the data bytes `msg`.
-const WRITES: &str =
+pub(super) const WRITES: &str =
     "5346493101000000000000010001000000008001000100002000000102000000020000000000000101000000100000010000000073000000b3ff9001b3ef8f0167800f0073000000b3ff9001b3ef8f0167800f00370580011305050093052000eff05ffd37058001130505000100010001000100b37fb501b3efaf0103c51f00eff05ffc";
 
 // The same as a second sandbox, with its code at 02000000 and its data at 02800000.
@@ -35,10 +35,10 @@ const STORES_LOOSELY: &str = "b37fb50123a0bf00";
 const EBREAK: &str = "73001000";
 
 // c.ebreak, which fills up a code region.
-const FILL: &str = "0290";
+pub(super) const FILL: &str = "0290";
 
 // The text that has each of the pieces so many times.
-fn text_of(alloc: Global, pieces: &[(&str, usize)]) -> Result<Vec<u8>, AllocError> {
+pub(super) fn text_of(alloc: Global, pieces: &[(&str, usize)]) -> Result<Vec<u8>, AllocError> {
     let mut text = Vec::new(alloc);
     for (digits, times) in pieces {
         for _ in 0..*times {
