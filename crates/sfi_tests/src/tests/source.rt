@@ -170,7 +170,7 @@ fn faults() -> [(&'static str, TextCause); 77] {
     [
         ("frob a0", TextCause::Word),
         ("NOP", TextCause::Word),
-        (".format 1", TextCause::Word),
+        (".format 1", TextCause::Directive),
         (".foo: nop", TextCause::Word),
         ("é", TextCause::Word),
         ("nop 'x", TextCause::Word),
