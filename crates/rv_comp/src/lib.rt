@@ -24,6 +24,3 @@ pub use first::form_of;
 pub use form::Form16;
 pub use front::{Front, read_front};
 pub use write::{write_short, write_wide};
-
-#[cfg(test)]
-mod tests;

@@ -16,6 +16,3 @@ pub use fault::AddFault;
 pub use memory::{Memory, Width};
 pub use pages::Pages;
 pub use segments::Segments;
-
-#[cfg(test)]
-mod tests;

@@ -15,6 +15,3 @@ pub mod outcome;
 pub use cpu::{Cpu, after_call};
 pub use machine::{step, step_decoded};
 pub use outcome::{Cause, Outcome};
-
-#[cfg(test)]
-mod tests;

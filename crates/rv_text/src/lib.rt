@@ -41,6 +41,3 @@ pub use parse::parse_instr;
 pub use print::{print_instr, push_instr};
 pub use source::{Source, SourcePart};
 pub use text::parse_source;
-
-#[cfg(test)]
-mod tests;

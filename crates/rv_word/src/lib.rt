@@ -27,6 +27,3 @@ pub use instr::{Cond, ImmOp, Instr, LoadKind, RegOp, StoreWidth};
 pub use length::{Length, size_of_first};
 pub use outline::{Outline, outline_of, outline32};
 pub use reg::Reg;
-
-#[cfg(test)]
-mod tests;

@@ -1,20 +1,15 @@
 //! Steps by the manual's words.
 
-use crate::cpu::{Cpu, after_call};
-use crate::machine::step;
-use crate::outcome::{Cause, Outcome};
+use super::x;
 use rv_mem::{Memory, Segments, Width};
-use rv_word::{ImmOp, Instr, LoadKind, Reg, RegOp, StoreWidth, encode32};
+use rv_step::{Cause, Cpu, Outcome, after_call, step};
+use rv_word::{ImmOp, Instr, LoadKind, RegOp, StoreWidth, encode32};
 use std::process::Abort;
 
 /// Where the code lies, 256 bytes.
 const CODE: u32 = 0x0100_0000;
 /// Where the data lies, 256 bytes.
 const DATA: u32 = 0x0180_0000;
-
-fn x(rt: &impl Abort, number: u8) -> Reg {
-    Reg::new(number).expect(rt, "a register")
-}
 
 /// A machine at a pc.
 fn at(rt: &impl Abort, pc: u32) -> Cpu {
@@ -28,14 +23,14 @@ fn put(rt: &impl Abort, memory: &mut Segments, pc: u32, instr: Instr) {
 }
 
 #[test]
-fn jumps_link_behind_themselves(rt: HostRuntime) {
+fn jumps_link_the_next_address(rt: HostRuntime) {
     let mut memory = Segments::new(rt.alloc());
     assert_eq!(rt; memory.add(CODE, 256, &[0x01, 0x28]), Ok(()));
     let mut cpu = at(&rt, CODE);
     assert_eq!(rt; step(&mut cpu, &mut memory), Outcome::Next);
-    assert_eq!(rt; (cpu.pc(), cpu.reg(x(&rt, 1))), (0x0100_0010, 0x0100_0002));
+    assert_eq!(rt; (cpu.pc(), cpu.reg(x(1))), (0x0100_0010, 0x0100_0002));
 
-    let (ra, imm) = (x(&rt, 1), 3);
+    let (ra, imm) = (x(1), 3);
     put(
         &rt,
         &mut memory,
@@ -68,7 +63,7 @@ fn the_last_parcel_is_cut_short_or_illegal(rt: HostRuntime) {
 
 #[test]
 fn accesses_trap_where_a_byte_is_missing(rt: HostRuntime) {
-    let (rd, rs1, rs2) = (x(&rt, 0), x(&rt, 31), x(&rt, 11));
+    let (rd, rs1, rs2) = (x(0), x(31), x(11));
     let (word, byte) = (StoreWidth::Sw, LoadKind::Lb);
     let cases = [
         (
@@ -132,7 +127,7 @@ fn accesses_trap_where_a_byte_is_missing(rt: HostRuntime) {
 
 #[test]
 fn results_are_the_manuals(rt: HostRuntime) {
-    let (rd, rs1, rs2) = (x(&rt, 10), x(&rt, 11), x(&rt, 12));
+    let (rd, rs1, rs2) = (x(10), x(11), x(12));
     let least = 0x8000_0000;
     let cases = [
         (RegOp::Div, 7, 0, u32::MAX),
@@ -159,7 +154,7 @@ fn results_are_the_manuals(rt: HostRuntime) {
 
 #[test]
 fn x0_stays_and_an_ecall_is_passed(rt: HostRuntime) {
-    let (zero, base) = (x(&rt, 0), x(&rt, 31));
+    let (zero, base) = (x(0), x(31));
     let mut memory = Segments::new(rt.alloc());
     assert_eq!(rt; memory.add(CODE, 256, &[]), Ok(()));
     assert_eq!(rt; memory.add(DATA, 256, &[1, 2, 3, 4]), Ok(()));

@@ -1,19 +1,10 @@
 //! Words and instructions as an assembler and a disassembler have them.
-ghost use Rattle.std.specs.Prelude.{◌<◌};
-
-use crate::decode::decode32;
-use crate::encode::{encode32, op_word};
-use crate::instr::{Cond, ImmOp, Instr, LoadKind, RegOp};
-use crate::length::{Length, size_of_first};
-use crate::outline::{Outline, outline_of, outline32};
-use crate::reg::Reg;
+use super::x;
+use rv_word::{
+    Cond, ImmOp, Instr, Length, LoadKind, Outline, Reg, RegOp, decode32, encode32, op_word,
+    outline_of, outline32, size_of_first,
+};
 use std::process::Abort;
-
-fn x(number: u32) -> Reg
-    requires { number < 32 }
-{
-    Reg::of_field(number)
-}
 
 fn spells(rt: &impl Abort, word: u32, instr: &Instr) {
     let read = decode32(word);
@@ -128,7 +119,7 @@ fn instructions_of_no_word(rt: HostRuntime) {
 
 #[test]
 fn registers(rt: HostRuntime) {
-    assert!(rt; Reg::new(31) == Some(x(31)));
+    assert!(rt; x(31).number() == 31);
     assert!(rt; Reg::new(32) == None);
     assert!(rt;
         Instr::Jal {

@@ -1,8 +1,5 @@
 //! A memory as its callers use it.
-use crate::fault::AddFault;
-use crate::memory::{Memory, Width};
-use crate::pages::Pages;
-use crate::segments::Segments;
+use rv_mem::{AddFault, Memory, Pages, Segments, Width};
 
 #[test]
 fn adds_up_to_the_last_address(rt: HostRuntime) {

@@ -1,17 +1,51 @@
 //! Halfwords whose meaning is known from outside, first forms, and all halfwords there and back.
 ghost use Rattle.std.specs.Prelude.{◌<◌};
 
-use crate::build::{arithmetic, branch_on_zero, immediate, jump, jump_to, load, store};
-use crate::decode::decode16;
-use crate::decode::outline::outline16;
-use crate::encode::encode16;
-use crate::first::form_of;
-use crate::form::Form16;
-use crate::front::{Front, read_front};
-use crate::register::register as x;
-use crate::write::{write_short, write_wide};
-use rv_word::{Cond, ImmOp, Instr, RegOp, outline_of};
+use super::x;
+use rv_comp::{
+    Form16, Front, decode16, encode16, form_of, outline16, read_front, write_short, write_wide,
+};
+use rv_word::{Cond, ImmOp, Instr, LoadKind, Reg, RegOp, StoreWidth, outline_of};
 use std::process::Abort;
+
+fn arithmetic(op: RegOp, rd: Reg, rs1: Reg, rs2: Reg) -> Instr {
+    Instr::Op { op, rd, rs1, rs2 }
+}
+
+fn immediate(op: ImmOp, rd: Reg, rs1: Reg, imm: i32) -> Instr {
+    Instr::OpImm { op, rd, rs1, imm }
+}
+
+fn load(rd: Reg, rs1: Reg, imm: i32) -> Instr {
+    let kind = LoadKind::Lw;
+    Instr::Load { kind, rd, rs1, imm }
+}
+
+fn store(rs1: Reg, rs2: Reg, imm: i32) -> Instr {
+    Instr::Store {
+        width: StoreWidth::Sw,
+        rs1,
+        rs2,
+        imm,
+    }
+}
+
+fn branch_on_zero(cond: Cond, rs1: Reg, offset: i32) -> Instr {
+    Instr::Branch {
+        cond,
+        rs1,
+        rs2: x(0),
+        offset,
+    }
+}
+
+fn jump(rd: Reg, offset: i32) -> Instr {
+    Instr::Jal { rd, offset }
+}
+
+fn jump_to(rd: Reg, rs1: Reg) -> Instr {
+    Instr::Jalr { rd, rs1, imm: 0 }
+}
 
 fn addi(rd: u8, rs1: u8, imm: i32) -> Instr
     requires rd { rd < 32 }
@@ -108,7 +142,7 @@ fn first_forms(rt: HostRuntime) {
 fn the_first_form_of_a_later_one(rt: HostRuntime) {
     let first = decode16(0x717d)
         .and_then(|form| form_of(form.expand()))
-        .and_then(encode16);
+        .and_then(|form| encode16(form));
     assert!(rt; first == Some(0x1141));
 }
 

@@ -1,6 +1,6 @@
 //! Texts of instructions, as the RISC-V manual and other assemblers have them.
 
-use super::*;
+use rv_text::{TextCause, parse_instr, print_instr};
 use rv_word::{Instr, Reg, decode32, encode32};
 use std::alloc::Global;
 use std::process::Abort;

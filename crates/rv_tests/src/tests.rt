@@ -1,0 +1,19 @@
+mod halfwords;
+mod memories;
+mod steps;
+mod texts;
+mod words;
+
+ghost use Rattle.std.specs.Prelude.{◌<◌};
+
+use rv_word::Reg;
+
+/// The register of a number below 32.
+fn x(number: u8) -> Reg
+    requires { number < 32 }
+{
+    match Reg::new(number) {
+        Some(reg) => reg,
+        None => unreachable!(),
+    }
+}
