@@ -23,7 +23,7 @@ const MOST_GATES: usize = 64;
 const MOST_ITEMS: usize = 65536;
 
 /// The sandbox begun last.
-#[derive(Debug, Drop)]
+#[derive(Drop)]
 pub struct Draft {
     format: Format,
     data_size: u32,

@@ -8,7 +8,7 @@ use crate::mnemonic::Mnemonic;
 use rv_word::ImmOp;
 
 /// Which numbers may stand at a place, in bytes where they are offsets.
-#[derive(Clone, Copy, Debug, PartialEq, Eq)]
+#[derive(Clone, Copy)]
 pub enum NumberKind {
     /// -2048 to 2047.
     Immediate,
@@ -39,7 +39,7 @@ pub enum NumberKind {
 }
 
 /// What may stand at a place of a statement.
-#[derive(Clone, Copy, Debug, PartialEq, Eq)]
+#[derive(Clone, Copy)]
 pub enum Part {
     Rd,
     Rs1,

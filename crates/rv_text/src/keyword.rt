@@ -8,7 +8,7 @@ use crate::mnemonic::Mnemonic;
 use crate::statement::Place;
 
 /// A directive, but for those of lists of data.
-#[derive(Clone, Copy, Debug, PartialEq, Eq)]
+#[derive(Clone, Copy)]
 pub enum Directive {
     Format,
     Sandbox,
@@ -19,7 +19,7 @@ pub enum Directive {
 }
 
 /// A pseudo-instruction.
-#[derive(Clone, Copy, Debug, PartialEq, Eq)]
+#[derive(Clone, Copy)]
 pub enum Pseudo {
     Nop,
     Ret,
@@ -34,7 +34,7 @@ pub enum Pseudo {
 }
 
 /// The numbers of a list of data: 4, 2 or 1 bytes each, the lowest first.
-#[derive(Clone, Copy, Debug, PartialEq, Eq)]
+#[derive(Clone, Copy)]
 pub enum DataWidth {
     Word,
     Half,
@@ -42,7 +42,7 @@ pub enum DataWidth {
 }
 
 /// The first word of a statement.
-#[derive(Clone, Copy, Debug, PartialEq, Eq)]
+#[derive(Clone, Copy)]
 pub enum Keyword {
     Instr(Mnemonic),
     Pseudo(Pseudo),

@@ -7,7 +7,7 @@ ghost use Rattle.rv_text.specs.Scan.{magnitude_len, token_len, begins_hex, body_
 ghost use Rattle.rv_text.specs.Next.{IsNext};
 
 /// What stands at the front of a text.
-#[derive(Clone, Copy, Debug)]
+#[derive(Clone, Copy)]
 pub enum Next<'a> {
     /// A token, and what follows it.
     Token(&'a str, &'a str),

@@ -6,7 +6,7 @@ ghost use Rattle.rv_text.specs.Lookup.{find_mnemonic};
 use rv_word::{Cond, ImmOp, LoadKind, RegOp, StoreWidth};
 
 /// An instruction's name.
-#[derive(Clone, Copy, Debug, PartialEq, Eq)]
+#[derive(Clone, Copy)]
 pub enum Mnemonic {
     Op(RegOp),
     OpImm(ImmOp),

@@ -9,7 +9,7 @@ use crate::mnemonic::Mnemonic;
 use rv_word::{Instr, Reg};
 
 /// The operands of a statement; those that its form lacks are 0 or none.
-#[derive(Clone, Copy, Debug)]
+#[derive(Clone, Copy)]
 pub struct Operands<'a> {
     pub rd: Reg,
     pub rs1: Reg,

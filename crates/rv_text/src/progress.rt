@@ -23,7 +23,7 @@ use std::alloc::Global;
 use std::marker::Model;
 
 /// The source so far: its format, if the text has said it, the sandboxes that are finished, and the one begun last.
-#[derive(Debug, Drop)]
+#[derive(Drop)]
 pub struct Progress {
     format: Option<Format>,
     finished: Vec<SourcePart>,

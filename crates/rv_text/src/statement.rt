@@ -7,7 +7,7 @@ use sfi_image::Format;
 ///
 /// Pseudo-instructions stand as what they mean: `nop`, `ret`, `mv` and `jr` are one instruction,
 /// `li` is one or two, and `j`, `call`, `beqz` and `bnez` are a jump or branch to a name.
-#[derive(Debug, Drop)]
+#[derive(Drop)]
 pub enum Statement<'a> {
     /// `.format N`: the format of the source is this one.
     Format(Format),
@@ -35,7 +35,7 @@ pub enum Statement<'a> {
 }
 
 /// Where a statement may come.
-#[derive(Clone, Copy, Debug, PartialEq, Eq)]
+#[derive(Clone, Copy)]
 pub enum Place {
     /// Once, before the first sandbox.
     Head,
