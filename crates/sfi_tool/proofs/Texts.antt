@@ -7,15 +7,15 @@ use Rattle.sfi_scan.specs.declared.finding.Finding.{Finding}
 use Rattle.sfi_tool.specs.Hexadecimal.{SpellsBytes, IsUnreadable}
 use Rattle.sfi_tool.specs.Says.{SpellsFault, SpellsFindings}
 
--- a text whose bytes have no findings spells none
-pub findingless : (text read : List ℕ) → ((bytes : List ℕ) → SpellsBytes text bytes → read ≡ bytes)
-    → ((found : List Finding) → HasFindings read found → ⊥) → SpellsFindings text → ⊥
-findingless text read one clean spelt =
-    clean spelt.1 (subst (λ (b : List ℕ). HasFindings b spelt.1) (sym (one spelt.0 spelt.2)) spelt.3)
+-- what follows from findings of the bytes
+pub on_findings : {Q : Type 0} (text read : List ℕ) → ((bytes : List ℕ) → SpellsBytes text bytes → read ≡ bytes)
+    → ((found : List Finding) → HasFindings read found → Q) → SpellsFindings text → Q
+on_findings text read one follows spelt =
+    follows spelt.1 (subst (λ (b : List ℕ). HasFindings b spelt.1) (sym (one spelt.0 spelt.2)) spelt.3)
 
--- a text whose bytes have no fault has none
-pub faultless : (text read : List ℕ) → ((bytes : List ℕ) → SpellsBytes text bytes → read ≡ bytes) → (IsUnreadable text → ⊥)
-    → ((k : LayoutFault) → IsFault read k → ⊥) → IsUnreadable text ⊎ SpellsFault text → ⊥
-faultless text read one readable right (inl unreadable) = readable unreadable
-faultless text read one readable right (inr spelt) =
-    right spelt.1 (subst (λ (b : List ℕ). IsFault b spelt.1) (sym (one spelt.0 spelt.2)) spelt.3)
+-- what follows from a fault of the bytes
+pub on_fault : {Q : Type 0} (text read : List ℕ) → ((bytes : List ℕ) → SpellsBytes text bytes → read ≡ bytes) → (IsUnreadable text → ⊥)
+    → ((k : LayoutFault) → IsFault read k → Q) → IsUnreadable text ⊎ SpellsFault text → Q
+on_fault text read one readable follows (inl unreadable) = absurd (readable unreadable)
+on_fault text read one readable follows (inr spelt) =
+    follows spelt.1 (subst (λ (b : List ℕ). IsFault b spelt.1) (sym (one spelt.0 spelt.2)) spelt.3)

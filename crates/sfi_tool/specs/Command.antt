@@ -28,13 +28,13 @@ quantum_most = 1000000
 abbrev pub program : App
 program = on_top (λ s. record s { subcommand_required = true }) (new_app (codes "sfi"))
 
--- the option `--report`
-abbrev pub report : Rule
-report = record (new_rule (codes "report")) { long = Some (codes "report"); action = Some SetTrue }
+-- an option that takes no value
+abbrev pub flag_rule : Text → Rule
+flag_rule name = record (new_rule name) { long = Some name; action = Some SetTrue }
 
--- `check [--report]`
+-- `check [--raw] [--report]`
 abbrev pub check : Shape
-check = record (new_shape (codes "check")) { rules = report ∷ [] }
+check = record (new_shape (codes "check")) { rules = flag_rule (codes "raw") ∷ flag_rule (codes "report") ∷ [] }
 
 -- `dis`, without options
 abbrev pub dis : Shape
@@ -92,10 +92,11 @@ abbrev pub IsNoInput : Option Text → Type 0
 IsNoInput None = ⊥
 IsNoInput (Some text) = IsErr (decode_of text)
 
--- the subcommand, with what was found for its options, asks for the job
+-- the subcommand, with what was found for its options, asks for the job; a check of an image's own bytes has no report
 abbrev pub Names : Option (Text × List Row) → Job → Type 0
 Names None job = ⊥
-Names (Some p) (Check report) = (p.0 ≡ codes "check") × IsGiven (codes "report") p.1 report
+Names (Some p) (Check raw report) =
+    (p.0 ≡ codes "check") × IsGiven (codes "raw") p.1 raw × IsGiven (codes "report") p.1 report × ¬ ((raw ≡ true) × (report ≡ true))
 Names (Some p) Dis = p.0 ≡ codes "dis"
 Names (Some p) Build = p.0 ≡ codes "build"
 Names (Some p) (Run rounds quantum input) =

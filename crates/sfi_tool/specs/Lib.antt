@@ -1,4 +1,5 @@
 pub mod Numbers
+pub mod Jobs
 pub mod Command
 pub mod Input
 pub mod Hexadecimal

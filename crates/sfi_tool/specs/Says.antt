@@ -5,7 +5,9 @@ use Rattle.sfi_image.specs.Spelling.{Part}
 use Rattle.sfi_image.specs.Images.{IsImage}
 use Rattle.sfi_image.specs.Faults.{IsFault}
 use Rattle.sfi_image.specs.declared.fault.LayoutFault.{LayoutFault}
-use Rattle.sfi_check.specs.Verdict.{IsAccepted, HasFindings}
+use Rattle.sfi_check.specs.declared.refusal.Refusal.{Refusal}
+use Rattle.sfi_check.specs.Refusals.{IfLayoutFault, IfFindings}
+use Rattle.sfi_check.specs.Verdict.{IsAccepted, HasFindings, AnswersLayout, AnswersFindings, AnswersAccepted}
 use Rattle.sfi_link.specs.declared.fault.BuildFault.{BuildFault}
 use Rattle.sfi_link.specs.Texts.{IsTextBuild, IsBuildFault, IsWantOfMemory}
 use Rattle.sfi_report.specs.Digits.{line_end}
@@ -84,14 +86,27 @@ pub record SaysRan (rounds quantum : ℕ) (given bytes : List ℕ) (status : ℕ
 abbrev pub SaysRun : ℕ → ℕ → List ℕ → List ℕ → ℕ → List ℕ → Type 0
 SaysRun rounds quantum given bytes status text = SaysRan rounds quantum given bytes status text ⊎ SaysRefused false bytes status text
 
--- the job's answer, with status 0 or 1, on what was read
+-- the job's answer, with status 0 or 1, on what was read: an image's own bytes, or a text
 abbrev pub Says : Job → List ℕ → ℕ → List ℕ → Type 0
-Says (Check report) input status text = (bytes : List ℕ) × SpellsBytes input bytes × SaysVerdict report bytes status text
+Says (Check true report) input status text = SaysVerdict report input status text
+Says (Check false report) input status text = (bytes : List ℕ) × SpellsBytes input bytes × SaysVerdict report bytes status text
 Says Dis input status text = (bytes : List ℕ) × SpellsBytes input bytes × SaysListing bytes status text
 Says Build input status text = SaysBuild input status text
 Says (Run rounds quantum given) input status text = (bytes : List ℕ) × SpellsBytes input bytes × SaysRun rounds quantum given.items bytes status text
 
 -- ---- which status what was read has
+
+-- it is an image without findings
+abbrev pub IsSomeAccepted : List ℕ → Type 0
+IsSomeAccepted input = (parts : List Part) × IsAccepted input parts
+
+-- it is an image with findings
+abbrev pub HasSomeFindings : List ℕ → Type 0
+HasSomeFindings input = (found : List Finding) × HasFindings input found
+
+-- it is an image with a fault
+abbrev pub HasSomeFault : List ℕ → Type 0
+HasSomeFault input = (k : LayoutFault) × IsFault input k
 
 -- it spells an image
 abbrev pub SpellsImage : List ℕ → Type 0
@@ -123,26 +138,45 @@ MeansFault input = (f : BuildFault) × IsBuildFault input f
 
 -- status 0: the job can be done on it
 abbrev pub IsDone : Job → List ℕ → Type 0
-IsDone (Check report) input = SpellsAccepted input
+IsDone (Check true report) input = IsSomeAccepted input
+IsDone (Check false report) input = SpellsAccepted input
 IsDone Dis input = SpellsImage input
 IsDone Build input = MeansBuild input
 IsDone (Run rounds quantum given) input = SpellsAccepted input
 
 -- status 1: the job refuses it for its findings
 abbrev pub IsRefused : Job → List ℕ → Type 0
-IsRefused (Check report) input = SpellsFindings input
+IsRefused (Check true report) input = HasSomeFindings input
+IsRefused (Check false report) input = SpellsFindings input
 IsRefused Dis input = ⊥
 IsRefused Build input = ⊥
 IsRefused (Run rounds quantum given) input = SpellsFindings input
 
--- status 2: it is above its limit, isn't the text that the job reads, spells an image with a fault, or is a source with one
+-- status 2: it is above its limit, isn't the text that the job reads, spells an image with a fault, or is a source with one; or it is
+-- itself an image with a fault, where the job reads an image's own bytes, which have no limit
 abbrev pub HasInputFault : Job → List ℕ → Type 0
-HasInputFault (Check report) input = IsUnreadable input ⊎ SpellsFault input
+HasInputFault (Check true report) input = HasSomeFault input
+HasInputFault (Check false report) input = IsUnreadable input ⊎ SpellsFault input
 HasInputFault Dis input = IsUnreadable input ⊎ SpellsFault input
 HasInputFault Build input = IsNoSourceText input ⊎ MeansFault input
 HasInputFault (Run rounds quantum given) input = IsUnreadable input ⊎ SpellsFault input
 
 -- ---- for private contracts
+
+-- the check of these bytes refuses them so: the fault or the findings are theirs, and no other answer is
+pub record Refuses (bytes : List ℕ) (refusal : Refusal) : Type 0 where
+  pub layout : IfLayoutFault (IsFault bytes) refusal
+  pub findings : IfFindings (HasFindings bytes) refusal
+  pub only_layout : (k : LayoutFault) → IsFault bytes k → AnswersLayout {A = List Part} k (Err refusal)
+  pub only_findings : (found : List Finding) → HasFindings bytes found → AnswersFindings {A = List Part} found (Err refusal)
+  pub only_accepted : (parts : List Part) → IsAccepted bytes parts → AnswersAccepted parts (Err refusal)
+
+-- a refusal stops at a fault of the layout only
+abbrev pub IsRefusalStop : List ℕ → Stop → Type 0
+IsRefusalStop bytes (stop.Input fault) = ⊥
+IsRefusalStop bytes (stop.Layout fault) = IsFault bytes fault
+IsRefusalStop bytes (stop.Build fault) = ⊥
+IsRefusalStop bytes stop.Memory = Unit {0}
 
 -- a job stops at a fault of the input only
 abbrev pub IsStop : Job → List ℕ → Stop → Type 0

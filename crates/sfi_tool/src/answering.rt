@@ -1,6 +1,7 @@
 //! What a job answers on the text that was read.
 
-ghost use Rattle.std.specs.Prelude.{◌≡◌, ◌≤◌, ◌<◌, IfOk, string_bytes};
+ghost use Rattle.std.specs.Prelude.{◌≡◌, ◌≤◌, ◌<◌, false, IfOk, string_bytes};
+ghost use Rattle.sfi_tool.specs.Jobs.{is_raw};
 ghost use Rattle.sfi_tool.specs.Says.{HasInputFault, IsDone, IsRefused, Says};
 
 use crate::building::built;
@@ -12,11 +13,14 @@ use crate::ran::ran;
 use crate::verdict::Answer;
 use std::alloc::{AllocError, Global};
 
-/// What the job answers on the text that was read: what it was to print, or the line of a fault.
+/// What the job answers on the text that was read: what it was to print, or the line of a fault. A job that reads an image's
+/// own bytes has no text.
 ///
 /// A text above 134217728 bytes goes first, then an odd number of digits, then the first byte that is no
 /// digit, and then the layout of the image. The one error is that an allocation was refused.
 pub fn answer(alloc: Global, job: &Job, text: &[u8]) -> Result<Answer, AllocError>
+    requires { is_raw job.now ≡ false }
+
     // What each answer means.
     ensures statuses { IfOk result (λ a. a.status ≤ 2) }
     ensures says { IfOk result (λ a. a.status < 2
@@ -29,7 +33,7 @@ pub fn answer(alloc: Global, job: &Job, text: &[u8]) -> Result<Answer, AllocErro
     ensures only_fault { HasInputFault job.now text.now → IfOk result (λ a. a.status ≡ 2) }
 {
     let answered = match job {
-        Job::Check { report } => checked(alloc, *report, text),
+        Job::Check { report, .. } => checked(alloc, *report, text),
         Job::Dis => listed(alloc, text),
         Job::Build => built(alloc, text),
         Job::Run {

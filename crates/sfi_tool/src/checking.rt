@@ -1,8 +1,12 @@
 //! The command `check`.
 
-ghost use Rattle.std.specs.Prelude.{IfOk, IfErr, IsErr, string_bytes};
-ghost use Rattle.sfi_check.specs.Verdict.{HasFindings};
-ghost use Rattle.sfi_tool.specs.Says.{AnswersStatus, HasInputFault, IsDone, IsRefusalText, IsRefused, IsReportOf, IsStop, Says};
+ghost use Rattle.std.specs.Prelude.{List, false, IfOk, IfErr, IsErr, string_bytes};
+ghost use Rattle.sfi_image.specs.declared.fault.LayoutFault.{LayoutFault};
+ghost use Rattle.sfi_image.specs.Spelling.{Part};
+ghost use Rattle.sfi_image.specs.Faults.{IsFault};
+ghost use Rattle.sfi_check.specs.Verdict.{IsAccepted, HasFindings};
+ghost use Rattle.sfi_scan.specs.declared.finding.Finding.{Finding};
+ghost use Rattle.sfi_tool.specs.Says.{AnswersStatus, HasInputFault, IsDone, IsRefusalStop, IsRefusalText, IsRefused, IsReportOf, IsStop, Refuses, Says, SaysRefused};
 ghost use Rattle.sfi_tool.specs.declared.job.Job.TheVariants.{Check};
 
 use crate::fault::Stop;
@@ -39,7 +43,7 @@ fn refusal_text(
     requires { HasFindings bytes.now findings.now }
     ensures { IfOk result (λ text. IsRefusalText report bytes.now findings.now (string_bytes text)) }
 {
-    let verdict = refused_line(alloc, findings)?;
+    let verdict = refused_line(alloc, findings.len(), findings[0])?;
     if !report {
         return Ok(verdict);
     }
@@ -48,25 +52,44 @@ fn refusal_text(
     Ok(text)
 }
 
+/// What a command answers on an image that is refused, with a report on its findings or without.
+pub(crate) fn refusal_answer(
+    alloc: Global,
+    report: bool,
+    bytes: &[u8],
+    refusal: Refusal,
+) -> Result<Answer, Stop>
+    requires { Refuses bytes.now refusal }
+    ensures says { IfOk result (λ a. SaysRefused report bytes.now a.status (string_bytes a.text)) }
+    ensures stop { IfErr result (IsRefusalStop bytes.now) }
+    ensures only_done { (parts : List Part) → IsAccepted bytes.now parts → AnswersStatus 0 result }
+    ensures only_refused { (found : List Finding) → HasFindings bytes.now found → AnswersStatus 1 result }
+    ensures only_fault { (k : LayoutFault) → IsFault bytes.now k → IsErr result }
+{
+    match refusal {
+        Refusal::Findings(findings) => Ok(Answer {
+            status: 1,
+            text: refusal_text(alloc, report, bytes, findings.as_slice())?,
+        }),
+        Refusal::Layout(fault) => Err(Stop::Layout(fault)),
+        Refusal::Memory => Err(Stop::Memory),
+    }
+}
+
 /// The verdict on the image that the text spells, with a report on its findings or without.
 pub(crate) fn checked(alloc: Global, report: bool, text: &[u8]) -> Result<Answer, Stop>
-    ensures says { IfOk result (λ a. Says (Check report) text.now a.status (string_bytes a.text)) }
-    ensures stop { IfErr result (IsStop (Check report) text.now) }
-    ensures only_done { IsDone (Check report) text.now → AnswersStatus 0 result }
-    ensures only_refused { IsRefused (Check report) text.now → AnswersStatus 1 result }
-    ensures only_fault { HasInputFault (Check report) text.now → IsErr result }
+    ensures says { IfOk result (λ a. Says (Check false report) text.now a.status (string_bytes a.text)) }
+    ensures stop { IfErr result (IsStop (Check false report) text.now) }
+    ensures only_done { IsDone (Check false report) text.now → AnswersStatus 0 result }
+    ensures only_refused { IsRefused (Check false report) text.now → AnswersStatus 1 result }
+    ensures only_fault { HasInputFault (Check false report) text.now → IsErr result }
 {
     let bytes = bytes_of(alloc, text)?;
     match check(alloc, bytes.as_slice()) {
         Ok(accepted) => Ok(Answer {
             status: 0,
-            text: accepted_line(alloc, &accepted)?,
+            text: accepted_line(alloc, accepted.sandboxes(), accepted.bundles())?,
         }),
-        Err(Refusal::Findings(findings)) => Ok(Answer {
-            status: 1,
-            text: refusal_text(alloc, report, bytes.as_slice(), findings.as_slice())?,
-        }),
-        Err(Refusal::Layout(fault)) => Err(Stop::Layout(fault)),
-        Err(Refusal::Memory) => Err(Stop::Memory),
+        Err(refusal) => refusal_answer(alloc, report, bytes.as_slice(), refusal),
     }
 }

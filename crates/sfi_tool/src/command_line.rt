@@ -5,7 +5,7 @@ ghost use Rattle.clap.specs.Matches.{found_of};
 ghost use Rattle.clap.specs.Simple.{app_of};
 ghost use Rattle.clap.specs.Values.{kind_of};
 ghost use Rattle.clap.specs.Walk.{first_of, rows_of, rule_of};
-ghost use Rattle.sfi_tool.specs.Command.{check, count_rule, quantum_most, rounds_most, run, sfi, Asks, IsFaultOf, IsCommandOf, IsCount, IsFaultOfNamed, IsGiven, IsInputFault, IsInputOf, Names};
+ghost use Rattle.sfi_tool.specs.Command.{check, count_rule, flag_rule, quantum_most, rounds_most, run, sfi, Asks, IsFaultOf, IsCommandOf, IsCount, IsFaultOfNamed, IsGiven, IsInputFault, IsInputOf, Names};
 ghost use Rattle.sfi_tool.specs.Numbers.{number_of};
 
 use crate::job::{Job, JobFault};
@@ -18,14 +18,24 @@ const ROUNDS_MOST: u32 = 10000;
 
 const QUANTUM_MOST: u32 = 1000000;
 
-/// `check [--report]`.
+const RAW_REPORT: &str = "error: '--raw' and '--report' cannot be used together\n";
+
+/// An option of this name that takes no value.
+fn flag<'a>(alloc: Global, name: &'a str) -> Arg<'a>
+    ensures rule { rule_of result ≡ flag_rule name.now }
+    ensures local { result.global ≡ false }
+{
+    Arg::new(alloc, name).long(name).action(ArgAction::SetTrue)
+}
+
+/// `check [--raw] [--report]`.
 fn check_command<'a>(alloc: Global) -> Result<Command<'a>, AllocError>
     ensures { IfOk result (IsCommandOf check) }
 {
-    let report = Arg::new(alloc, "report")
-        .long("report")
-        .action(ArgAction::SetTrue);
-    Command::new(alloc, "check").arg(report)
+    let raw = flag(alloc, "raw");
+    let report = flag(alloc, "report");
+    let check = Command::new(alloc, "check");
+    check.arg(raw)?.arg(report)
 }
 
 /// `--rounds N`.
@@ -88,14 +98,21 @@ fn usage(alloc: Global, error: Error) -> JobFault
     }
 }
 
-/// The fault of words that parse and name no job.
-fn no_command(alloc: Global) -> JobFault
+/// The fault of words that parse and name no job, with the text to print.
+fn unnamed(alloc: Global, text: &str) -> JobFault
     ensures { number_of result ≢ 2 }
 {
-    match String::from_str(alloc, "error: no such command\n") {
+    match String::from_str(alloc, text) {
         Ok(text) => JobFault::Usage(text),
         Err(_) => JobFault::Memory,
     }
+}
+
+/// The fault of a subcommand or of a number that there isn't.
+fn no_command(alloc: Global) -> JobFault
+    ensures { number_of result ≢ 2 }
+{
+    unnamed(alloc, "error: no such command\n")
 }
 
 /// Whether the option was given, which takes no value.
@@ -166,15 +183,26 @@ fn run_of(alloc: Global, found: &ArgMatches<'_>) -> Result<Job, JobFault>
     })
 }
 
+/// The check that these options ask for. A report wants the whole image, which a check of its own bytes doesn't keep.
+fn check_of(alloc: Global, found: &ArgMatches<'_>) -> Result<Job, JobFault>
+    ensures job { IfOk result (Names (Some (codes "check", rows_of (found_of found.now)))) }
+    ensures fault { IfErr result (IsFaultOfNamed (Some (codes "check", rows_of (found_of found.now)))) }
+{
+    let raw = is_given(found, "raw");
+    let report = is_given(found, "report");
+    if raw && report {
+        return Err(unnamed(alloc, RAW_REPORT));
+    }
+    Ok(Job::Check { raw, report })
+}
+
 /// The job that the subcommand of this name asks for, with what was found for its options.
 fn job_named(alloc: Global, name: &str, found: &ArgMatches<'_>) -> Result<Job, JobFault>
     ensures job { IfOk result (Names (Some (name.now, rows_of (found_of found.now)))) }
     ensures fault { IfErr result (IsFaultOfNamed (Some (name.now, rows_of (found_of found.now)))) }
 {
     if name == "check" {
-        return Ok(Job::Check {
-            report: is_given(found, "report"),
-        });
+        return check_of(alloc, found);
     }
     if name == "dis" {
         return Ok(Job::Dis);

@@ -1,6 +1,8 @@
 //! Faults of the input.
 
 ghost use Rattle.std.specs.Prelude.{◌≡◌};
+ghost use Rattle.sfi_image.specs.declared.fault.LayoutFault.{LayoutFault};
+ghost use Rattle.sfi_image.specs.Faults.{number_of};
 ghost use Rattle.sfi_tool.specs.Says.{StopsBuild};
 ghost use Rattle.sfi_tool.specs.declared.fault.Stop.TheVariants.{Memory};
 
@@ -49,6 +51,26 @@ impl From<AllocError> for Stop {
 /// The line that names a fault of the text.
 pub(crate) fn input_line(alloc: Global, fault: &InputFault) -> Result<String, AllocError> {
     format!(in alloc; "{fault}\n")
+}
+
+/// The fault of an image that has this number.
+pub(crate) fn fault_numbered(number: u32) -> LayoutFault
+    requires { (fault : LayoutFault) × (number_of fault ≡ number) }
+    ensures { number_of result ≡ number }
+{
+    match number {
+        1 => LayoutFault::Magic,
+        2 => LayoutFault::Count,
+        3 => LayoutFault::Short,
+        4 => LayoutFault::Code,
+        5 => LayoutFault::Data,
+        6 => LayoutFault::GuardRoom,
+        7 => LayoutFault::Start,
+        8 => LayoutFault::Gates,
+        9 => LayoutFault::Init,
+        10 => LayoutFault::Overlap,
+        _ => LayoutFault::Trailing,
+    }
 }
 
 /// The line that names a fault of the image.

@@ -1,6 +1,7 @@
 //! What the words of a command line ask for.
 
 ghost use Rattle.std.specs.Prelude.{◌≡◌};
+ghost use Rattle.sfi_tool.specs.Jobs.{is_raw};
 ghost use Rattle.sfi_tool.specs.Numbers.{number_of};
 ghost use Rattle.sfi_tool.specs.declared.job.JobFault.TheVariants.{Memory};
 
@@ -10,8 +11,10 @@ use thiserror::Error;
 /// A command with its options as values.
 #[derive(Debug, Drop)]
 pub enum Job {
-    /// Is the image accepted? Its bytes come as hexadecimal text.
+    /// Is the image accepted? Its bytes come as hexadecimal text, or as they are.
     Check {
+        /// Whether the bytes come as they are. There is no report then.
+        raw: bool,
         /// Whether each finding is printed before the verdict.
         report: bool,
     },
@@ -28,6 +31,18 @@ pub enum Job {
         /// What each sandbox reads.
         input: Vec<u8>,
     },
+}
+
+impl Job {
+    /// Whether the job reads an image's own bytes, and no text.
+    pub fn is_raw(&self) -> bool
+        ensures { result ≡ is_raw self.now }
+    {
+        match self {
+            Job::Check { raw, .. } => *raw,
+            Job::Dis | Job::Build | Job::Run { .. } => false,
+        }
+    }
 }
 
 /// Why the words ask for no job.

@@ -13,6 +13,7 @@ mod listing;
 mod output;
 mod plan;
 mod ran;
+mod raw;
 mod run_lines;
 mod running;
 mod verdict;

@@ -5,13 +5,14 @@ ghost use Rattle.sfi_tool.specs.RunLines.{IsRunText};
 ghost use Rattle.sfi_tool.specs.Says.{AnswersStatus, HasInputFault, IsDone, IsRefused, IsStop, Says};
 ghost use Rattle.sfi_tool.specs.declared.job.Job.TheVariants.{Run};
 
+use crate::checking::refusal_answer;
 use crate::fault::Stop;
 use crate::hexadecimal::bytes_of;
 use crate::plan::plan_of;
 use crate::run_lines::run_lines;
-use crate::verdict::{Answer, refused_line};
+use crate::verdict::Answer;
 use rv_mem::Pages;
-use sfi_check::{Accepted, Refusal, check};
+use sfi_check::{Accepted, check};
 use sfi_host::{Console, RunAnswer, World};
 use std::alloc::{AllocError, Global};
 
@@ -55,11 +56,6 @@ pub(crate) fn ran(
             status: 0,
             text: run_text(alloc, &accepted, rounds, quantum, input.as_slice())?,
         }),
-        Err(Refusal::Findings(findings)) => Ok(Answer {
-            status: 1,
-            text: refused_line(alloc, findings.as_slice())?,
-        }),
-        Err(Refusal::Layout(fault)) => Err(Stop::Layout(fault)),
-        Err(Refusal::Memory) => Err(Stop::Memory),
+        Err(refusal) => refusal_answer(alloc, false, bytes.as_slice(), refusal),
     }
 }

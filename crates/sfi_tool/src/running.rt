@@ -1,9 +1,11 @@
 //! A run of the program, over its reader and writer.
 
-ghost use Rattle.std.specs.Prelude.{◌≡◌, ◌<◌, ◌≤◌, ◌≢◌, map, string_bytes};
+ghost use Rattle.std.specs.Prelude.{◌≡◌, ◌<◌, ◌≤◌, ◌≢◌, ℕ, List, true, false, IfSome, map, string_bytes};
 ghost use Rattle.std.specs.Io.KnownBytes.{Appends};
 ghost use Rattle.sfi_tool.specs.Command.{AsksNothing};
 ghost use Rattle.sfi_tool.specs.Run.{WritesAnswer, MeetsFault};
+ghost use Rattle.sfi_tool.specs.Says.{HasInputFault, Says};
+ghost use Rattle.sfi_tool.specs.declared.job.Job.TheVariants.{Check};
 
 use crate::answering::answer;
 use crate::command_line::job_of;
@@ -11,6 +13,7 @@ use crate::fault::TOO_LARGE_LINE;
 use crate::input::{Input, ReadStop, read_input};
 use crate::job::JobFault;
 use crate::output::write_out;
+use crate::raw::raw_answer;
 use std::alloc::Global;
 use std::io::{Read, Write};
 
@@ -23,6 +26,22 @@ fn printed<W: Write>(writer: &mut W, status: u8, text: &str) -> u8
         status
     } else {
         5
+    }
+}
+
+/// Runs `check --raw`.
+fn run_raw<R: Read, W: Write>(alloc: Global, reader: &mut R, writer: &mut W) -> u8
+    ensures statuses { result ≤ 5 }
+    ensures says { result < 2 → IfSome (R.remaining reader.old) (λ bytes. (text : List ℕ)
+        × Says (Check true false) bytes result text × Appends (W.contents writer.old) (W.contents writer.new) text) }
+    ensures fault { result ≡ 2 → IfSome (R.remaining reader.old) (HasInputFault (Check true false)) }
+    ensures usage { result ≢ 3 }
+    ensures memory { result ≡ 4 → writer.new ≡ writer.old }
+{
+    match raw_answer(alloc, reader) {
+        Ok(answer) => printed(writer, answer.status, &answer.text),
+        Err(ReadStop::Memory) => 4,
+        Err(ReadStop::Failed) => 5,
     }
 }
 
@@ -56,6 +75,9 @@ pub fn run_tool<R: Read, W: Write>(
         Err(JobFault::Hex) => return printed(writer, 2, "option fault hex\n"),
         Err(JobFault::Memory) => return 4,
     };
+    if job.is_raw() {
+        return run_raw(alloc, reader, writer);
+    }
     let text = match read_input(alloc, reader) {
         Ok(Input::Whole(text)) => text,
         Ok(Input::TooLarge) => return printed(writer, 2, TOO_LARGE_LINE),

@@ -1,9 +1,8 @@
 //! What a command answers.
 
-ghost use Rattle.std.specs.Prelude.{◌≡◌, ◌<◌, IfOk, string_bytes, length};
-ghost use Rattle.sfi_tool.specs.Verdict.{accepted_line, refused_line};
+ghost use Rattle.std.specs.Prelude.{◌≡◌, IfOk, string_bytes};
+ghost use Rattle.sfi_tool.specs.Verdict.{accepted_text, refused_text};
 
-use sfi_check::Accepted;
 use sfi_report::push_eight_digits;
 use sfi_scan::Finding;
 use std::alloc::{AllocError, Global};
@@ -17,26 +16,30 @@ pub struct Answer {
     pub text: String,
 }
 
-/// The verdict on an image without findings.
-pub(crate) fn accepted_line(alloc: Global, accepted: &Accepted<'_>) -> Result<String, AllocError>
-    ensures { IfOk result (λ line. string_bytes line ≡ accepted_line accepted.now) }
+/// The verdict on an image without findings, which has so many sandboxes and bundles.
+pub(crate) fn accepted_line(
+    alloc: Global,
+    sandboxes: usize,
+    bundles: usize,
+) -> Result<String, AllocError>
+    ensures { IfOk result (λ line. string_bytes line ≡ accepted_text sandboxes bundles) }
 {
-    let sandboxes = accepted.sandboxes();
-    let bundles = accepted.bundles();
     format!(in alloc; "accepted sandboxes={sandboxes} bundles={bundles}\n")
 }
 
-/// The verdict on an image with these findings.
-pub(crate) fn refused_line(alloc: Global, findings: &[Finding]) -> Result<String, AllocError>
-    requires { 0 < length findings.now }
-    ensures { IfOk result (λ line. string_bytes line ≡ refused_line findings.now) }
+/// The verdict on an image with so many findings, of which this is the first.
+pub(crate) fn refused_line(
+    alloc: Global,
+    count: usize,
+    first: Finding,
+) -> Result<String, AllocError>
+    ensures { IfOk result (λ line. string_bytes line ≡ refused_text count first) }
 {
-    let count = findings.len();
     let Finding {
         sandbox,
         address,
         rule,
-    } = findings[0];
+    } = first;
     let number = rule.number();
     let mut line = format!(in alloc;
         "refused findings={count} first=V{number} sandbox={sandbox} at="

@@ -1,6 +1,6 @@
-use Rattle.std.proofs.Common.{◌≡◌, ◌∙◌, ap, ap₂, rules, codes}
+use Rattle.std.proofs.Common.{◌≡◌, ◌∙◌, ap, ap₂, rules}
 use Rattle.std.proofs.lemmas.Result.{IfOk-weaker}
-use Rattle.clap.specs.Simple.{App, app_of, new_app, with_subcommand}
+use Rattle.clap.specs.Simple.{App, app_of, with_subcommand}
 use Rattle.sfi_tool.specs.Command.{program}
 use Rattle.sfi_tool.proofs.command_line.command.Goals as goal
 

@@ -1,4 +1,4 @@
-use Rattle.std.proofs.Common.{◌≡◌, ◌≢◌, ◌<◌, ◌∙◌, ℕ, List, Option, Some, None, Vec, Global, sym, subst, arith, inl, inr, IfSome}
+use Rattle.std.proofs.Common.{◌≡◌, ◌≢◌, ◌<◌, ◌∙◌, ℕ, List, Option, Some, None, Vec, Global, sym, subst, arith, inl, IfSome}
 use Rattle.sfi_tool.specs.Input.{IsInput}
 use Rattle.sfi_tool.specs.Says.{Says}
 use Rattle.sfi_tool.specs.declared.input.Input.TheVariants.{Whole}
@@ -41,5 +41,5 @@ returns-in-Ok-TooLarge-clause-fault g c two =
     inl (record {
       job = c.in-Ok.job;
       asked = c.in-Ok.ensures.job;
-      fault = told_too_large c.in-Ok.job (g.R.Read.remaining c.args.reader.now) (rw c.in-Ok-TooLarge.field-0-is at c.in-Ok-TooLarge.ensures);
+      fault = told_too_large c.in-Ok.job (g.R.Read.remaining c.args.reader.now) (sym c.is_raw.ensures ∙ c.if-is_raw.false) (rw c.in-Ok-TooLarge.field-0-is at c.in-Ok-TooLarge.ensures);
     })
