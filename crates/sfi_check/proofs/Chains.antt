@@ -1,10 +1,9 @@
 -- Reads one after another.
-use Rattle.std.proofs.Common.{◌≡◌, ℕ, ◌<◌, ◌≤◌, Bool, true, false, cond, List, [], ◌∷◌, ◌++◌, length, Option, Some, None, refl, sym, ap, ◌∙◌, subst, arith, append_assoc, inl, inr, ◌⊎◌}
-use Rattle.std.specs.Prelude.{◌||◌, nat_lt}
-use Rattle.std.proofs.lemmas.Bool.{lt-ltb, ltb-true}
+use Rattle.std.proofs.Common.{◌≡◌, ℕ, ◌<◌, ◌≤◌, Bool, true, false, cond, List, [], ◌∷◌, ◌++◌, length, Option, Some, None, refl, sym, ap, ◌∙◌, subst, arith, append_assoc}
+use Rattle.std.specs.Prelude.{◌||◌}
+use Rattle.std.proofs.lemmas.Bool.{lt-ltb}
 use Rattle.std.proofs.lemmas.List.{append-nil}
 use Rattle.std.proofs.lemmas.List.Elements.{All-push}
-use Rattle.sfi_image.specs.Reading.{ReadsOf}
 use Rattle.sfi_image.specs.Sources.{OneRead, IsChain, is_end, bytes_of, handed, ended, Streams}
 
 module _ {S : Type 0} (reads : S → ℕ → Option (List ℕ) → S → Type 0) where
@@ -53,56 +52,17 @@ module _ {S : Type 0} (reads : S → ℕ → Option (List ℕ) → S → Type 0)
         short = All-push (λ (q : OneRead S). q.asked ≤ 4096) h.chain r h.short le;
       }
 
-  -- behind a read that hands out bytes
+  -- after a read that hands out bytes
   pub some_read : (s t u : S) (bytes more : List ℕ) (asked : ℕ) → Streams reads s t bytes false → reads t asked (Some more) u → asked ≤ 4096 → 0 < length more → Streams reads s u (bytes ++ more) false
   some_read s t u bytes [] asked h one le some = absurd (omega arith)
   some_read s t u bytes (b ∷ more) asked h one le some = one_more s t u bytes (bytes ++ b ∷ more) asked (Some (b ∷ more)) h one le refl
 
-  -- behind one that finds the end
+  -- after one that finds the end
   pub end_read : (s t u : S) (bytes : List ℕ) (asked : ℕ) → Streams reads s t bytes false → reads t asked (Some []) u → asked ≤ 4096 → 0 < asked → Streams reads s u bytes true
   end_read s t u bytes asked h one le some =
       let ends : is_end asked (Some []) ≡ true = lt-ltb 0 asked some in
       subst (λ (b : Bool). Streams reads s u bytes b) ends (one_more s t u bytes bytes asked (Some []) h one le (sym (rw (ends) (append-nil bytes))))
 
-  -- behind one that fails
+  -- after one that fails
   pub failed_read : (s t u : S) (bytes : List ℕ) (asked : ℕ) → Streams reads s t bytes false → reads t asked None u → asked ≤ 4096 → Streams reads s u bytes false
   failed_read s t u bytes asked h one le = one_more s t u bytes bytes asked None h one le (sym (append-nil bytes))
-
--- ---- over a reader that tells its bytes
-
-which : (b : Bool) → (b ≡ true) ⊎ (b ≡ false)
-which true = inl refl
-which false = inr refl
-
-module _ {S : Type 0} (known : S → Option (List ℕ)) (failed : S → Bool) where
-  abbrev reads_known : S → ℕ → Option (List ℕ) → S → Type 0
-  reads_known s n answer t = ReadsOf (known s) (failed s) n answer (known t) (failed t)
-
-  -- what a chain of reads hands out is the front of the reader's bytes, and all of them where it found the end
-  pub known_front : (rs : List (OneRead S)) (s t : S) (all : List ℕ) → IsChain reads_known s rs t → known s ≡ Some all
-      → (rest : List ℕ) × (all ≡ handed rs ++ rest) × (ended rs ≡ true → rest ≡ [])
-  known_front [] s t all h e = (all, refl, λ f. absurd cc)
-  known_front (r ∷ rs) s t all h e = by r.answer (known r.after) refl refl (subst (λ (o : Option (List ℕ)). ReadsOf o (failed s) r.asked r.answer (known r.after) (failed r.after)) e h.0)
-      (λ left is. known_front rs r.after t left h.1 is)
-    where
-      by : (answer new : Option (List ℕ)) → r.answer ≡ answer → known r.after ≡ new → ReadsOf (Some all) (failed s) r.asked r.answer (known r.after) (failed r.after)
-          → ((left : List ℕ) → known r.after ≡ Some left → (rest : List ℕ) × (left ≡ handed rs ++ rest) × (ended rs ≡ true → rest ≡ []))
-          → (rest : List ℕ) × (all ≡ handed (r ∷ rs) ++ rest) × (ended (r ∷ rs) ≡ true → rest ≡ [])
-      by None None a n one ih = let k = (subst (λ (o : Option (List ℕ)). ReadsOf (Some all) (failed s) r.asked None o (failed r.after)) n (subst (λ (o : Option (List ℕ)). ReadsOf (Some all) (failed s) r.asked o (known r.after) (failed r.after)) a one)).1 in absurd k
-      by None (Some left) a n one ih =
-          let k = (subst (λ (o : Option (List ℕ)). ReadsOf (Some all) (failed s) r.asked None o (failed r.after)) n (subst (λ (o : Option (List ℕ)). ReadsOf (Some all) (failed s) r.asked o (known r.after) (failed r.after)) a one)).1 in
-          let rest = ih left n in
-          rw (a) (rest.0, sym k ∙ rest.1, rest.2)
-      by (Some bytes) None a n one ih = let k = (subst (λ (o : Option (List ℕ)). ReadsOf (Some all) (failed s) r.asked (Some bytes) o (failed r.after)) n (subst (λ (o : Option (List ℕ)). ReadsOf (Some all) (failed s) r.asked o (known r.after) (failed r.after)) a one)).1 in absurd k
-      by (Some []) (Some left) a n one ih =
-          let k = subst (λ (o : Option (List ℕ)). ReadsOf (Some all) (failed s) r.asked (Some []) o (failed r.after)) n (subst (λ (o : Option (List ℕ)). ReadsOf (Some all) (failed s) r.asked o (known r.after) (failed r.after)) a one) in
-          let rest = ih left n in
-          let same : all ≡ left = k.1 in
-          elim (which (nat_lt 0 r.asked)) [
-            | inl holds ↦ (let none : left ≡ [] = k.3 refl (ltb-true 0 r.asked holds) in rw (a, holds) ([], same ∙ none, λ _. refl))
-            | inr fails ↦ rw (a, fails) (rest.0, same ∙ rest.1, rest.2)
-          ]
-      by (Some (b ∷ bs)) (Some left) a n one ih =
-          let k = subst (λ (o : Option (List ℕ)). ReadsOf (Some all) (failed s) r.asked (Some (b ∷ bs)) o (failed r.after)) n (subst (λ (o : Option (List ℕ)). ReadsOf (Some all) (failed s) r.asked o (known r.after) (failed r.after)) a one) in
-          let rest = ih left n in
-          rw (a) (rest.0, k.1 ∙ ap (λ (l : List ℕ). (b ∷ bs) ++ l) rest.1 ∙ sym (append_assoc (b ∷ bs) (handed rs) rest.0), rest.2)

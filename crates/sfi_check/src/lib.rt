@@ -13,8 +13,6 @@ mod refusal;
 mod stream;
 mod stream_answer;
 mod tally;
-#[cfg(test)]
-mod tests;
 mod verdict;
 
 pub use accepted::Accepted;

@@ -16,9 +16,9 @@ pub(crate) enum Step {
 /// All steps on a piece.
 #[derive(Clone, Copy)]
 pub(crate) enum Progress {
-    /// More bytes are wanted than there are behind so many.
+    /// More bytes are wanted than there are after so many.
     More(usize),
-    /// The image is whole behind so many.
+    /// The image is whole after so many.
     Whole(usize),
     /// A test failed, of that number.
     Fault(u32),

@@ -156,7 +156,7 @@ fn verdict(tally: &Tally) -> StreamAnswer
     }
 }
 
-/// Moves what is held behind so many bytes to the front.
+/// Moves what is held after so many bytes to the front.
 fn move_to_front(piece: &mut [u8; PIECE], from: usize, held: usize)
     requires from { from ≤ held }
     requires held { held ≤ 4096 }
@@ -165,7 +165,7 @@ fn move_to_front(piece: &mut [u8; PIECE], from: usize, held: usize)
     piece.copy_within(from..held, 0);
 }
 
-/// Reads more bytes behind those that are held.
+/// Reads more bytes after those that are held.
 fn read_more<S: ByteSource>(
     source: &mut S,
     piece: &mut [u8; PIECE],
