@@ -22,8 +22,14 @@ const FRAME: usize = 8192;
 /// Where the last word begins that lies in one page.
 const LAST_WORD: u32 = 4092;
 
+/// Where the last halfword begins that lies in one page.
+const LAST_HALFWORD: u32 = 4094;
+
 /// All marks of a word's bytes.
 const FOUR_MARKS: u32 = 0x0101_0101;
+
+/// Both marks of a halfword's bytes.
+const TWO_MARKS: u16 = 0x0101;
 
 /// Lengthens by zeros.
 fn lengthen_cells(cells: &mut Vec<u8>, n: usize) -> Result<(), AllocError>
@@ -156,6 +162,21 @@ impl Pages {
         ]))
     }
 
+    /// The two bytes from an address on, in one page.
+    #[inline(always)]
+    fn halfword_at(&self, at: u32) -> Option<u16>
+        requires { at % 4096 ≤ 4094 }
+        ensures { result ≡ loaded (bytes_of self.now) at 2 }
+    {
+        let place = self.frame(at)? + (at % PAGE) as usize;
+        let marks = place + PAGE as usize;
+        let both = u16::from_le_bytes([self.cells[marks], self.cells[marks + 1]]);
+        if both != TWO_MARKS {
+            return None;
+        }
+        Some(u16::from_le_bytes([self.cells[place], self.cells[place + 1]]))
+    }
+
     /// Writes the byte of an address that is there.
     #[inline(always)]
     fn put_byte(&mut self, at: u32, byte: u8)
@@ -247,6 +268,39 @@ impl Pages {
         }
         let place = self.frame(at).unwrap() + (at % PAGE) as usize;
         write_word(&mut self.cells, place, value);
+        true
+    }
+
+    /// Writes the two bytes from an address on, in one page; false where one of them is missing, and then nothing changed.
+    #[inline(always)]
+    #[tactic(auto, using(crate::proofs::Lookups::stays))]
+    fn put_halfword(&mut self, at: u32, value: u32) -> bool
+        requires { at % 4096 ≤ 4094 }
+        ensures there { IsTrue result ↔ IsThere (bytes_of self.old) at 2 }
+        ensures done { OnTrue result (bytes_of self.new ≡ stored (bytes_of self.old) at 2 value) }
+        ensures refused { OnFalse result (bytes_of self.new ≡ bytes_of self.old) }
+    {
+        if self.halfword_at(at).is_none() {
+            return false;
+        }
+        let [byte0, byte1, _, _] = value.to_le_bytes();
+        self.put_byte(at, byte0);
+        self.put_byte(at.wrapping_add(1), byte1);
+        true
+    }
+
+    /// Writes the byte of an address; false where it is missing, and then nothing changed.
+    #[inline(always)]
+    fn store_byte(&mut self, at: u32, value: u32) -> bool
+        ensures there { IsTrue result ↔ IsThere (bytes_of self.old) at 1 }
+        ensures done { OnTrue result (bytes_of self.new ≡ stored (bytes_of self.old) at 1 value) }
+        ensures refused { OnFalse result (bytes_of self.new ≡ bytes_of self.old) }
+    {
+        if self.byte_at(at).is_none() {
+            return false;
+        }
+        let [byte, _, _, _] = value.to_le_bytes();
+        self.put_byte(at, byte);
         true
     }
 
@@ -373,10 +427,17 @@ impl Memory for Pages {
             let byte = self.byte_at(at)?;
             return Some(u32::from(byte));
         }
+        if width == Width::Two && at % PAGE <= LAST_HALFWORD {
+            let halfword = self.halfword_at(at)?;
+            return Some(u32::from(halfword));
+        }
         self.load_bytes(at, width)
     }
 
     fn fetch16(&self, at: u32) -> Option<u16> {
+        if at % PAGE <= LAST_HALFWORD {
+            return self.halfword_at(at);
+        }
         let low = self.byte_at(at)?;
         let high = self.byte_at(at.wrapping_add(1))?;
         Some(u16::from_le_bytes([low, high]))
@@ -386,6 +447,12 @@ impl Memory for Pages {
     fn store(&mut self, at: u32, width: Width, value: u32) -> bool {
         if width == Width::Four && at % PAGE <= LAST_WORD {
             return self.put_word(at, value);
+        }
+        if width == Width::One {
+            return self.store_byte(at, value);
+        }
+        if width == Width::Two && at % PAGE <= LAST_HALFWORD {
+            return self.put_halfword(at, value);
         }
         self.store_bytes(at, width, value)
     }
