@@ -70,7 +70,7 @@ impl<M: Memory> World<M> {
         let mut memory = memory;
         let image = accepted.image();
         let sandboxes = load_parts(alloc, image.format(), image.parts(), &mut memory)?;
-        let programs = decode_all(alloc, &memory, &sandboxes)?;
+        let programs = decode_all(alloc, image.parts())?;
         Ok(World {
             memory,
             sandboxes,
