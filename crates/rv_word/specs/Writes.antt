@@ -1,5 +1,5 @@
 -- The register that an instruction writes.
-use Rattle.std.specs.Prelude.{ℕ, ◌==◌, Option, Some, None, if◌then◌else◌}
+use Rattle.std.specs.Prelude.{ℕ, ◌==◌, Bool, false, Option, Some, None, if◌then◌else◌}
 use Rattle.rv_word.specs.declared.instr.Instr.{Instr}
 use Rattle.rv_word.specs.declared.instr.Instr.TheVariants.{Op, OpImm, Load, Store, Branch, Jal, Jalr, Lui, Auipc, Fence, Ecall, Ebreak}
 
@@ -26,3 +26,11 @@ unless_x0 None = None
 -- the register that the instruction writes: x0 stays 0
 abbrev pub written : Instr → Option ℕ
 written i = unless_x0 (destination i)
+
+abbrev pub is_register : ℕ → Option ℕ → Bool
+is_register r None = false
+is_register r (Some rd) = rd == r
+
+-- its destination is the register of that number
+abbrev pub writes_register : ℕ → Instr → Bool
+writes_register r i = is_register r (destination i)

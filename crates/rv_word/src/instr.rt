@@ -1,6 +1,6 @@
 //! The instructions.
 ghost use Rattle.std.specs.Prelude.{◌≡◌};
-ghost use Rattle.rv_word.specs.Writes.{written};
+ghost use Rattle.rv_word.specs.Writes.{destination, written, writes_register};
 
 use crate::reg::Reg;
 
@@ -170,25 +170,42 @@ pub enum Instr {
 }
 
 impl Instr {
-    /// The register that the instruction writes: `rd` of each instruction that has one, except a
-    /// fence; `None` where that is x0.
-    pub fn writes(&self) -> Option<Reg>
-        ensures { result ≡ written self.now }
+    /// `rd` of each instruction that has one, except a fence.
+    fn destination(&self) -> Option<Reg>
+        ensures { result ≡ destination self.now }
     {
-        let rd = match *self {
+        match *self {
             Instr::Op { rd, .. }
             | Instr::OpImm { rd, .. }
             | Instr::Load { rd, .. }
             | Instr::Jal { rd, .. }
             | Instr::Jalr { rd, .. }
             | Instr::Lui { rd, .. }
-            | Instr::Auipc { rd, .. } => rd,
+            | Instr::Auipc { rd, .. } => Some(rd),
             Instr::Store { .. }
             | Instr::Branch { .. }
             | Instr::Fence { .. }
             | Instr::Ecall
-            | Instr::Ebreak => return None,
-        };
+            | Instr::Ebreak => None,
+        }
+    }
+
+    /// The register that the instruction writes: `rd` of each instruction that has one, except a
+    /// fence; `None` where that is x0.
+    pub fn writes(&self) -> Option<Reg>
+        ensures { result ≡ written self.now }
+    {
+        let rd = self.destination()?;
         if rd.number() == 0 { None } else { Some(rd) }
+    }
+
+    /// Whether the instruction has `rd`, is no fence, and names the register of this number there.
+    pub fn writes_register(&self, number: u8) -> bool
+        ensures { result ≡ writes_register number self.now }
+    {
+        match self.destination() {
+            Some(rd) => rd.number() == number,
+            None => false,
+        }
     }
 }

@@ -1,12 +1,12 @@
 -- What each instruction at a place without a finding does: it accesses the data and the guards, calls at a gate, and goes on to a place.
 use Rattle.std.proofs.Common.{◌≡◌, ℕ, ◌+◌, ◌%◌, ◌^◌, ◌<◌, ◌≤◌, ◌⊎◌, ◌∷◌, length, Option, Some, None, Bool, true, false, cond, not, ◌==◌, refl, sym, ap, ◌∙◌, subst, ⊎_elim, arith}
-use Rattle.std.specs.Prelude.{ℤ, pos, negsuc, is_some, slice_index}
+use Rattle.std.specs.Prelude.{◌&&◌, ℤ, pos, negsuc, is_some, slice_index}
 use Rattle.std.proofs.lemmas.Bool.{and_parts, or_cases, eqb-true, eqb-false, not-false}
 use Rattle.rv_word.specs.declared.instr.Instr.{Instr}
 use Rattle.rv_word.specs.declared.instr.Instr.TheVariants.{Op, OpImm, Load, Store, Branch, Jal, Jalr, Lui, Auipc, Fence, Ecall, Ebreak}
 use Rattle.rv_word.specs.declared.instr.LoadKind.{LoadKind}
 use Rattle.rv_word.specs.Spelling.{InRange}
-use Rattle.rv_word.specs.Writes.{destination}
+use Rattle.rv_word.specs.Writes.{destination, is_register}
 use Rattle.rv_mem.specs.Bytes.{Bytes, bytes_at, address_after, addresses, loaded, stored}
 use Rattle.rv_step.specs.declared.outcome.Outcome.{Outcome}
 use Rattle.rv_step.specs.declared.outcome.Outcome.TheVariants.{Next, Call, Trap}
@@ -15,14 +15,14 @@ use Rattle.rv_step.specs.Access.{Accesses}
 use Rattle.rv_step.specs.State.{Hart, register, with_register, with_pc, behind, even_of}
 use Rattle.rv_step.specs.Step.{effect, after_load, next, unchanged}
 use Rattle.rv_step.specs.Values.{plus, load_size, store_size, extended, is_taken}
-use Rattle.sfi_image.specs.Formats.{has_stack}
+use Rattle.sfi_image.specs.Formats.{has_stack, is_stack}
 use Rattle.sfi_image.specs.Spelling.{Part}
 use Rattle.sfi_image.specs.Spans.{code_region}
 use Rattle.sfi_image.specs.Regions.{IsBundleStart}
 use Rattle.sfi_image.specs.Parts.{IsRightPart}
 use Rattle.sfi_scan.specs.declared.bundle.BundlePlace.{BundlePlace}
 use Rattle.sfi_scan.specs.Pairs.{is_reserved, follows_data_pair, follows_code_pair}
-use Rattle.sfi_scan.specs.Stack.{is_stack, is_stack_one, writes_stack, is_jump}
+use Rattle.sfi_scan.specs.Stack.{writes_stack, is_jump}
 use Rattle.sfi_scan.specs.Rules.{Place, is_empty, is_bundle_start, breaks_ecall, breaks_reserved, breaks_access, breaks_jump, breaks_target, breaks_stack, may_access, ends_region, offset_by}
 use Rattle.sfi_check.specs.Regions.{InData, InGuard, IsGate, HasReserved, HasStack}
 use Rattle.sfi_check.specs.Leaving.{Leaves, WritesResult}
@@ -75,11 +75,11 @@ base_lies : (sandbox : ℕ) (p : Part) (h : Hart) (i : Instr) (n : ℕ) (here : 
     → InData p (register h base)
 base_lies sandbox p h i n here other base may =
     ⊎_elim
-    (λ (on : is_stack here.place.bundle base ≡ true).
+    (λ (on : is_stack here.place.bundle.format base ≡ true).
     let parts = and_parts (has_stack here.place.bundle.format) (base == 2) on in
     subst (λ (r : ℕ). InData p (register h r)) (sym (eqb-true base 2 parts.1)) (lies sandbox p h i n here other (sym here.format ∙ parts.0)))
     (λ (pair : follows_data_pair base here.place.earlier ≡ true). here.leaves.data_pair base pair)
-    (or_cases (is_stack here.place.bundle base) (follows_data_pair base here.place.earlier) may)
+    (or_cases (is_stack here.place.bundle.format base) (follows_data_pair base here.place.earlier) may)
 
 pub accesses_near : (sandbox : ℕ) (p : Part) (h : Hart) (i : Instr) (n : ℕ) → IsRightPart p → Here sandbox p h i n → (a : ℕ) → Accesses i h a → InData p a ⊎ InGuard p a
 accesses_near sandbox p h (Load kind rd rs1 imm) n right here a has =
@@ -140,7 +140,7 @@ module _ (sandbox : ℕ) (p : Part) (h : Hart) (m : Bytes) (right : IsRightPart 
   keeps : (b : BundlePlace) (i : Instr) (rd value : ℕ) (k : Hart) → destination i ≡ Some rd → has_stack b.format ≡ true → writes_stack b i ≡ false
       → slice_index (with_register k rd value).registers 2 ≡ slice_index k.registers 2
   keeps b i rd value k dest has none =
-      let free : is_stack b rd ≡ false = ap (is_stack_one b) (sym dest) ∙ none in
+      let free : is_stack b.format rd ≡ false = ap (λ o. has_stack b.format && is_register 2 o) (sym dest) ∙ none in
       let other : (rd == 2) ≡ false = rw has at free in
       kept rd value 2 k (λ e. eqb-false rd 2 other (sym e))
 

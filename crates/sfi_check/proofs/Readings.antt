@@ -9,6 +9,7 @@ use Rattle.rv_word.specs.Spelling.{spelling, InRange}
 use Rattle.rv_comp.specs.Fronts.{Spells}
 use Rattle.rv_comp.specs.Laws.{OneSpelling}
 use Rattle.sfi_image.specs.declared.format.Format.{Format}
+use Rattle.sfi_image.specs.declared.format.Format.TheVariants.{Sfi1, Sfi2}
 use Rattle.sfi_scan.specs.declared.bundle.BundlePlace.{BundlePlace}
 use Rattle.sfi_scan.specs.declared.finding.Finding.{Finding}
 use Rattle.sfi_scan.specs.Bundles.{place_of, bundle_bytes}
@@ -76,11 +77,19 @@ module _ (law : OneSpelling) (format : Format) (a b c d e f g h : Instr) where
   abbrev is : List Instr
   is = a ∷ b ∷ c ∷ d ∷ e ∷ f ∷ g ∷ h ∷ []
 
+  -- a bundle of ebreaks there has no finding
+  abbrev IsQuiet : ℕ → Format → Type 0
+  IsQuiet n k = findings_from (place_of 0 (sample_as k is) n) true (0x01000000 + 16 * n) [] (four Ebreak Ebreak Ebreak Ebreak) ≡ []
+
+  in_each : (n : ℕ) (k : Format) → IsQuiet n Sfi1 → IsQuiet n Sfi2 → IsQuiet n k
+  in_each n Sfi1 one two = one
+  in_each n Sfi2 one two = two
+
   -- one bundle of ebreaks more
-  more : (n : ℕ) (found : List Finding) → words_of (Ebreak ∷ Ebreak ∷ Ebreak ∷ Ebreak ∷ []) ≡ bundle_bytes (sample_as format is) n → findings_from (place_of 0 (sample_as format is) n) true (0x01000000 + 16 * n) [] (four Ebreak Ebreak Ebreak Ebreak) ≡ []
+  more : (n : ℕ) (found : List Finding) → words_of (Ebreak ∷ Ebreak ∷ Ebreak ∷ Ebreak ∷ []) ≡ bundle_bytes (sample_as format is) n → IsQuiet n Sfi1 → IsQuiet n Sfi2
       → AreFindingsOfFirst 0 (sample_as format is) n found → AreFindingsOfFirst 0 (sample_as format is) (suc n) found
-  more n found bytes none before =
-      (found, [], before, four_words law (place_of 0 (sample_as format is) n) (bundle_bytes (sample_as format is) n) Ebreak Ebreak Ebreak Ebreak [] refl bytes ebreak_spelled ebreak_spelled ebreak_spelled ebreak_spelled none, sym (append-nil found))
+  more n found bytes one two before =
+      (found, [], before, four_words law (place_of 0 (sample_as format is) n) (bundle_bytes (sample_as format is) n) Ebreak Ebreak Ebreak Ebreak [] refl bytes ebreak_spelled ebreak_spelled ebreak_spelled ebreak_spelled (in_each n format one two), sym (append-nil found))
 
   first_two : (x y : List Finding) → IsSpelled a → IsSpelled b → IsSpelled c → IsSpelled d → IsSpelled e → IsSpelled f → IsSpelled g → IsSpelled h
       → findings_from (place_of 0 (sample_as format is) 0) true 0x01000000 [] (four a b c d) ≡ x → findings_from (place_of 0 (sample_as format is) 1) true 0x01000010 [] (four e f g h) ≡ y → AreFindingsOfFirst 0 (sample_as format is) 2 (x ++ y)
@@ -97,8 +106,8 @@ module _ (law : OneSpelling) (format : Format) (a b c d e f g h : Instr) where
       → findings_from (place_of 0 (sample_as format is) 0) true 0x01000000 [] (four a b c d) ≡ x → findings_from (place_of 0 (sample_as format is) 1) true 0x01000010 [] (four e f g h) ≡ y → AreFindings 0 (sample_as format is) (x ++ y)
   all_findings x y sa sb sc sd se sf sg sh first second =
       let at2 = first_two x y sa sb sc sd se sf sg sh first second in
-      let at4 = more 3 (x ++ y) refl refl (more 2 (x ++ y) refl refl at2) in
-      let at8 = more 7 (x ++ y) refl refl (more 6 (x ++ y) refl refl (more 5 (x ++ y) refl refl (more 4 (x ++ y) refl refl at4))) in
-      let at12 = more 11 (x ++ y) refl refl (more 10 (x ++ y) refl refl (more 9 (x ++ y) refl refl (more 8 (x ++ y) refl refl at8))) in
-      let at16 = more 15 (x ++ y) refl refl (more 14 (x ++ y) refl refl (more 13 (x ++ y) refl refl (more 12 (x ++ y) refl refl at12))) in
+      let at4 = more 3 (x ++ y) refl refl refl (more 2 (x ++ y) refl refl refl at2) in
+      let at8 = more 7 (x ++ y) refl refl refl (more 6 (x ++ y) refl refl refl (more 5 (x ++ y) refl refl refl (more 4 (x ++ y) refl refl refl at4))) in
+      let at12 = more 11 (x ++ y) refl refl refl (more 10 (x ++ y) refl refl refl (more 9 (x ++ y) refl refl refl (more 8 (x ++ y) refl refl refl at8))) in
+      let at16 = more 15 (x ++ y) refl refl refl (more 14 (x ++ y) refl refl refl (more 13 (x ++ y) refl refl refl (more 12 (x ++ y) refl refl refl at12))) in
       (16, refl, at16)

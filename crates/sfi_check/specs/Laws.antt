@@ -1,6 +1,7 @@
 -- What holds of every sandbox without a finding.
 use Rattle.std.specs.Prelude.{◌≡◌, ◌≢◌, ◌<◌, slice_index, ℕ, List, ◌∷◌, Some, length}
 use Rattle.rv_word.specs.declared.instr.Instr.{Instr}
+use Rattle.sfi_image.specs.declared.format.Format.TheVariants.{Sfi1}
 use Rattle.rv_word.specs.Spelling.{InRange}
 use Rattle.rv_step.specs.declared.outcome.Outcome.TheVariants.{Trap}
 use Rattle.rv_step.specs.declared.outcome.Cause.TheVariants.{Fetch, Illegal}
@@ -61,6 +62,10 @@ CanBeEntered =
     (p : Part) (h : Hart) → IsRightPart p → AreApart (code_region p) (guarded_region p) → ((k : ℕ) → slice_index p.code k < 256)
     → IsHart h → IsBundleStart (code_region p) h.pc → HasReserved p h.registers → HasStack p h.registers
     → (m : Bytes) × IsEntry p (record { hart = h; memory = m })
+
+-- in the first format nothing is asked of x2, at an entry, after a reply or at a call
+abbrev pub FirstFormatAsksNoStack : Type 0
+FirstFormatAsksNoStack = (p : Part) (registers : List ℕ) → p.format ≡ Sfi1 → HasStack p registers
 
 -- in every run from every entry each call is made with the stack pointer in the data region
 abbrev pub CleanCallsWithStack : Type 0

@@ -1,5 +1,5 @@
 //! What holds of every sandbox without a finding. A call costs nothing.
-ghost use Rattle.sfi_check.specs.Laws.{InstructionLeaves, TurnKeeps, EntryIsGood, CanBeEntered, CleanRunsSafely, SafeTurns, SafeStaysSafe, SafeFetches, CleanCallsWithStack, GoesOnSafely};
+ghost use Rattle.sfi_check.specs.Laws.{InstructionLeaves, TurnKeeps, EntryIsGood, CanBeEntered, FirstFormatAsksNoStack, CleanRunsSafely, SafeTurns, SafeStaysSafe, SafeFetches, CleanCallsWithStack, GoesOnSafely};
 
 use rv_comp::laws::{ecall_is_wide, spelled_in_range};
 use rv_step::laws::{
@@ -58,6 +58,11 @@ pub fn safe_fetches()
 /// A sandbox with a right layout can be entered.
 pub fn can_be_entered()
     ensures { CanBeEntered }
+{}
+
+/// In the first format nothing is asked of x2.
+pub fn first_format_asks_no_stack()
+    ensures { FirstFormatAsksNoStack }
 {}
 
 /// A sandbox without a finding calls with its stack pointer in the data region.

@@ -1,5 +1,5 @@
 -- The formats of images, and all that they differ in.
-use Rattle.std.specs.Prelude.{ℕ, List, Bool, true, false, codes}
+use Rattle.std.specs.Prelude.{◌&&◌, ◌==◌, ℕ, List, Bool, true, false, codes}
 use Rattle.sfi_image.specs.declared.format.Format.{Format}
 use Rattle.sfi_image.specs.declared.format.Format.TheVariants.{Sfi1, Sfi2}
 
@@ -18,3 +18,7 @@ code_most Sfi2 = 1048576
 abbrev pub has_stack : Format → Bool
 has_stack Sfi1 = false
 has_stack Sfi2 = true
+
+-- the register of that number is the stack pointer
+abbrev pub is_stack : Format → ℕ → Bool
+is_stack f r = has_stack f && (r == 2)

@@ -1,6 +1,6 @@
 //! The formats of images.
 ghost use Rattle.std.specs.Prelude.{◌≡◌};
-ghost use Rattle.sfi_image.specs.Formats.{magic, code_most, has_stack};
+ghost use Rattle.sfi_image.specs.Formats.{magic, code_most, has_stack, is_stack};
 
 /// A format of images.
 #[derive(Clone, Copy, PartialEq, Eq, Debug)]
@@ -41,5 +41,12 @@ impl Format {
             Format::Sfi1 => false,
             Format::Sfi2 => true,
         }
+    }
+
+    /// Whether the register of this number is the stack pointer.
+    pub fn is_stack(self, register: u8) -> bool
+        ensures { result ≡ is_stack self register }
+    {
+        self.has_stack() && register == 2
     }
 }

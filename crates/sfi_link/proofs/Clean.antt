@@ -8,7 +8,7 @@ use Rattle.rv_word.specs.declared.instr.ImmOp.TheVariants.{Addi}
 use Rattle.rv_word.specs.declared.instr.Instr.{Instr}
 use Rattle.rv_word.specs.declared.instr.Instr.TheVariants.{Op, OpImm, Load, Store, Branch, Jal, Jalr, Lui, Auipc, Fence, Ecall, Ebreak}
 use Rattle.rv_word.specs.Laws.{SpellingsAreWide}
-use Rattle.rv_word.specs.Writes.{destination}
+use Rattle.rv_word.specs.Writes.{destination, is_register, writes_register}
 use Rattle.rv_comp.specs.declared.form.Form16.TheVariants.{CEbreak}
 use Rattle.rv_comp.specs.Fronts.{Spells}
 use Rattle.rv_comp.specs.Table.{expansion}
@@ -16,11 +16,11 @@ use Rattle.rv_text.specs.declared.item.Item.{Item}
 use Rattle.rv_text.specs.declared.item.Body.{Body}
 use Rattle.rv_text.specs.declared.item.Body.TheVariants.{Plain, To, High, Low}
 use Rattle.rv_text.specs.Source.{IsBody}
-use Rattle.sfi_image.specs.Formats.{has_stack}
+use Rattle.sfi_image.specs.Formats.{has_stack, is_stack}
 use Rattle.sfi_scan.specs.declared.bundle.BundlePlace.{BundlePlace}
 use Rattle.sfi_scan.specs.Readings.{Piece, IsReading, rest_of}
 use Rattle.sfi_scan.specs.Pairs.{is_reserved, is_masking, is_placing, follows_data_pair}
-use Rattle.sfi_scan.specs.Stack.{is_stack, is_stack_one, writes_stack, begins_pair, precedes_pair, is_jump}
+use Rattle.sfi_scan.specs.Stack.{writes_stack, begins_pair, precedes_pair, is_jump}
 use Rattle.sfi_scan.specs.Rules.{Place, is_empty, offset_by, is_bundle_start, breaks_ecall, breaks_reserved, breaks_access, breaks_jump, breaks_target, breaks_end, breaks_stack, may_write_stack, ends_region, is_last_bundle}
 use Rattle.sfi_scan.specs.Findings.{lowest, all_rules, findings_from}
 use Rattle.rv_text.specs.Constants.{upper, lower}
@@ -164,17 +164,13 @@ calm b here earlier _ later h r w e = cc
 
 -- ---- the stack pointer
 
--- the rewriter's words for it are the scan's
-same_writes : (b : BundlePlace) (i : Instr) → writes_stack b i ≡ stack.writes_stack b.format i
-same_writes b i = of_register (destination i)
-  where
-    of_register : (o : Option ℕ) → is_stack_one b o ≡ (has_stack b.format && stack.is_x2 o)
-    of_register None = sym (and_false (has_stack b.format))
-    of_register (Some r) = refl
-
 -- V10, of what doesn't write it
 no_write : (x : Place) (i : Instr) → writes_stack x.bundle i ≡ false → breaks_stack x i ≡ false
 no_write x i h = ap (λ w. w && not (may_write_stack x i)) h
+
+-- above all of what has no rd
+unwritten : (x : Place) (i : Instr) → writes_register 2 i ≡ false → breaks_stack x i ≡ false
+unwritten x i h = no_write x i (ap (λ w. has_stack x.bundle.format && w) h ∙ and_false (has_stack x.bundle.format))
 
 -- and of what may
 well_written : (x : Place) (i : Instr) → may_write_stack x i ≡ true → breaks_stack x i ≡ false
@@ -218,7 +214,7 @@ not_false true h = refl
 not_false false h = cc
 
 -- an access on the stack pointer
-on_stack : (b : BundlePlace) (a : ℕ) (p : Bool) → is_stack b a ≡ true → not (is_stack b a || p) ≡ false
+on_stack : (b : BundlePlace) (a : ℕ) (p : Bool) → is_stack b.format a ≡ true → not (is_stack b.format a || p) ≡ false
 on_stack b a p h = ap (λ v. not (v || p)) h
 
 -- an access behind the pair
@@ -236,7 +232,9 @@ direct : (b : BundlePlace) (here : ℕ) (earlier : List Instr) (j : Instr) (z : 
     → breaks_end (place b here earlier (with_offset z j) later) (with_offset z j) ≡ false → Passes (place b here earlier (with_offset z j) later)
 direct b here earlier (Jal rd offset) z later names name d h w s e =
     record { v3 = refl; v4 = unreserved rd h; v5 = refl; v6 = refl; v7 = ap not s; v8 = e; v10 = no_write (place b here earlier (Jal rd z) later) (Jal rd z) w }
-direct b here earlier (Branch cond rs1 rs2 offset) z later names name d h w s e = record { v3 = refl; v4 = refl; v5 = refl; v6 = refl; v7 = ap not s; v8 = e; v10 = refl }
+direct b here earlier (Branch cond rs1 rs2 offset) z later names name d h w s e =
+    let x = place b here earlier (Branch cond rs1 rs2 z) later in
+    record { v3 = refl; v4 = refl; v5 = refl; v6 = refl; v7 = ap not s; v8 = e; v10 = unwritten x x.instr refl }
 direct b here earlier (Op op rd rs1 rs2) z later names name d h w s e = absurd d.1
 direct b here earlier (OpImm op rd rs1 imm) z later names name d h w s e = absurd d.1
 direct b here earlier (Load kind rd rs1 imm) z later names name d h w s e = absurd d.1
@@ -371,7 +369,7 @@ alone law b at names here earlier true i expanded more a passes rest =
 into_x31 : (b : BundlePlace) (here : ℕ) (earlier : List Instr) (i : Instr) (more : List Slot) → is_calm i ≡ true → destination i ≡ Some 31 → PassesBefore b here earlier i more
 into_x31 b here earlier i more c d later read e =
     calm b here earlier i later c (ap is_reserved_of d)
-    (no_write (place b here earlier i later) i (ap (is_stack_one b) d ∙ and_false (has_stack b.format))) e
+    (no_write (place b here earlier i later) i (ap (λ o. has_stack b.format && is_register 2 o) d ∙ and_false (has_stack b.format))) e
   where
     is_reserved_of : Option ℕ → Bool
     is_reserved_of None = false
@@ -411,7 +409,7 @@ before_pair b here earlier i later j p =
     well_written (place b here earlier i later) i (by_third (begins_pair i later) _ _ (ap (λ v. not v && precedes_pair later) j ∙ p))
 
 -- what writes the stack pointer
-writer_passes : (b : BundlePlace) (here : ℕ) (earlier : List Instr) (i : Instr) (more : List Slot) → names_withheld i ≡ false → has_stack b.format ≡ true → stack.writes_x2 i ≡ true
+writer_passes : (b : BundlePlace) (here : ℕ) (earlier : List Instr) (i : Instr) (more : List Slot) → names_withheld i ≡ false → has_stack b.format ≡ true → writes_register 2 i ≡ true
     → stack.jumps_or_loads_x2 (Plain i) ≡ false → PassesBefore b here earlier i (stack.stack_pair ++ more)
 writer_passes b here earlier (Op op rd rs1 rs2) more h f w j later read e =
     calm b here earlier (Op op rd rs1 rs2) later refl (writes_unreserved (Op op rd rs1 rs2) h) (before_pair b here earlier (Op op rd rs1 rs2) later refl (pair_read more later read)) e
@@ -453,7 +451,8 @@ access_passes b here earlier (Load kind rd a imm) more h f o w later read e =
       v10 = no_write (place b here earlier (Load kind rd a imm) later) (Load kind rd a imm) w;
     }
 access_passes b here earlier (Store width a rs2 imm) more h f o w later read e =
-    record { v3 = refl; v4 = refl; v5 = on_stack b a (follows_data_pair a earlier) (ap (λ v. v && (a == 2)) f ∙ o); v6 = refl; v7 = refl; v8 = e; v10 = refl }
+    let x = place b here earlier (Store width a rs2 imm) later in
+    record { v3 = refl; v4 = refl; v5 = on_stack b a (follows_data_pair a earlier) (ap (λ v. v && (a == 2)) f ∙ o); v6 = refl; v7 = refl; v8 = e; v10 = no_write x x.instr w }
 access_passes b here earlier _ more h f o w later read e = cc
 
 -- an instruction that stays as it is, and is none of these
@@ -461,7 +460,7 @@ calm_passes : (b : BundlePlace) (here : ℕ) (earlier : List Instr) (i : Instr) 
     → PassesBefore b here earlier i more
 calm_passes b here earlier i more c h w later read e = calm b here earlier i later c (writes_unreserved i h) (no_write (place b here earlier i later) i w) e
 
-jump_passes : (b : BundlePlace) (here : ℕ) (earlier : List Instr) (a rd : ℕ) (more : List Slot) → is_withheld rd ≡ false → is_stack b rd ≡ false
+jump_passes : (b : BundlePlace) (here : ℕ) (earlier : List Instr) (a rd : ℕ) (more : List Slot) → is_withheld rd ≡ false → is_stack b.format rd ≡ false
     → PassesBefore b here (Op Or 31 31 24 ∷ Op And 31 a 25 ∷ earlier) (Jalr rd 31 (pos 0)) more
 jump_passes b here earlier a rd more h w later read e =
     record {
@@ -475,7 +474,7 @@ jump_passes b here earlier a rd more h w later read e =
     }
 
 with_sum : SpellingsAreWide → (b : BundlePlace) (at : Bases) (names : List PlacedName) (here : ℕ) (earlier : List Instr) (rd a : ℕ) (imm : ℤ) (more : List Slot)
-    → is_withheld rd ≡ false → is_stack b rd ≡ false → IsCleanBehind b at names more
+    → is_withheld rd ≡ false → is_stack b.format rd ≡ false → IsCleanBehind b at names more
     → IsCleanly b at names here earlier (Wide (OpImm Addi 31 a imm) ∷ Wide (Op And 31 31 25) ∷ Wide (Op Or 31 31 24) ∷ jump_to_x31 rd ∷ more)
 with_sum law b at names here earlier rd a imm more h w rest =
     wide law b at names here earlier (OpImm Addi 31 a imm) (Wide (Op And 31 31 25) ∷ Wide (Op Or 31 31 24) ∷ jump_to_x31 rd ∷ more)
@@ -484,7 +483,7 @@ with_sum law b at names here earlier rd a imm more h w rest =
     (jump_passes b (here + 4 + 4 + 4) (OpImm Addi 31 a imm ∷ earlier) 31 rd more h w) rest)
 
 jump_clean : SpellingsAreWide → (b : BundlePlace) (at : Bases) (names : List PlacedName) (here : ℕ) (earlier : List Instr) (rd a : ℕ) (imm : ℤ) (more : List Slot)
-    → is_withheld rd ≡ false → is_stack b rd ≡ false → IsCleanBehind b at names more → IsCleanly b at names here earlier (jump_slots rd a imm ++ more)
+    → is_withheld rd ≡ false → is_stack b.format rd ≡ false → IsCleanBehind b at names more → IsCleanly b at names here earlier (jump_slots rd a imm ++ more)
 jump_clean law b at names here earlier rd a (pos zero) more h w rest =
     pair_then law b at names here earlier a 25 24 (Jalr rd 31 (pos 0)) more (jump_passes b (here + 4 + 4) earlier a rd more h w) rest
 jump_clean law b at names here earlier rd a (pos (suc n)) more h w rest = with_sum law b at names here earlier rd a (pos (suc n)) more h w rest
@@ -499,7 +498,7 @@ masked_clean law b at names here earlier rvc (Load kind rd a imm) count expanded
     (λ later read e. record {
       v3 = refl;
       v4 = writes_unreserved (Load kind rd a imm) h;
-      v5 = behind_pair (is_stack b 31);
+      v5 = behind_pair (is_stack b.format 31);
       v6 = refl;
       v7 = refl;
       v8 = e;
@@ -509,7 +508,15 @@ masked_clean law b at names here earlier rvc (Load kind rd a imm) count expanded
 masked_clean law b at names here earlier rvc (Store width a rs2 imm) count expanded more x body h c w rest =
     subst (λ v. IsCleanly b at names here earlier (v ++ more)) (sym x)
     (pair_then law b at names here earlier a 27 26 (Store width 31 rs2 imm) more
-    (λ later read e. record { v3 = refl; v4 = refl; v5 = behind_pair (is_stack b 31); v6 = refl; v7 = refl; v8 = e; v10 = refl })
+    (λ later read e. record {
+      v3 = refl;
+      v4 = refl;
+      v5 = behind_pair (is_stack b.format 31);
+      v6 = refl;
+      v7 = refl;
+      v8 = e;
+      v10 = no_write (place b (here + 4 + 4) (Op Or 31 31 26 ∷ Op And 31 a 27 ∷ earlier) (Store width 31 rs2 imm) later) (Store width 31 rs2 imm) w;
+    })
     rest)
 masked_clean law b at names here earlier rvc (Jalr rd a imm) count expanded more x body h c w rest =
     subst (λ v. IsCleanly b at names here earlier (v ++ more)) (sym x)
@@ -537,20 +544,20 @@ plain_clean : SpellingsAreWide → (b : BundlePlace) (at : Bases) (names : List 
     → IsBody count (Plain i) → names_withheld i ≡ false → is_ecall (Plain i) ≡ false → stack.is_stack_write b.format (Plain i) ≡ false → IsCleanBehind b at names more
     → IsCleanly b at names here earlier (expanded ++ more)
 plain_clean law b at names here earlier true on rvc i count expanded more w o x body h c s rest =
-    let both = both_true (has_stack b.format) (stack.writes_x2 i) w in
+    let both = both_true (has_stack b.format) (writes_register 2 i) w in
     subst (λ v. IsCleanly b at names here earlier (v ++ more)) (sym x)
     (wide law b at names here earlier i (stack.stack_pair ++ more)
     (writer_passes b here earlier i more h both.0 both.1 (second_false (has_stack b.format) (stack.jumps_or_loads_x2 (Plain i)) both.0 s))
     (stack_pair_then law b at names (here + 4) (i ∷ earlier) more rest))
 plain_clean law b at names here earlier false true rvc i count expanded more w o x body h c s rest =
     let both = both_true (has_stack b.format) (stack.is_on_x2 i) o in
-    alone law b at names here earlier rvc i expanded more x (access_passes b here earlier i more h both.0 both.1 (same_writes b i ∙ w)) rest
+    alone law b at names here earlier rvc i expanded more x (access_passes b here earlier i more h both.0 both.1 w) rest
 plain_clean law b at names here earlier false false rvc i count expanded more w o x body h c s rest =
-    masked_clean law b at names here earlier rvc i count expanded more x body h c (same_writes b i ∙ w) rest
+    masked_clean law b at names here earlier rvc i count expanded more x body h c w rest
 
 -- an instruction made of a name's address, before the pair if it writes the stack pointer
 made_clean : SpellingsAreWide → (b : BundlePlace) (at : Bases) (names : List PlacedName) (here : ℕ) (earlier : List Instr) (writes : Bool) (rd : ℕ) (x : Slot) (f : ℕ → Instr) (o : Option ℕ) (more : List Slot)
-    → is_stack b rd ≡ writes → resolved at names here x ≡ made_of f o → ((a : ℕ) → (is_calm (f a) ≡ true) × (is_jump (f a) ≡ false) × (destination (f a) ≡ Some rd) × (breaks_reserved (f a) ≡ false))
+    → is_stack b.format rd ≡ writes → resolved at names here x ≡ made_of f o → ((a : ℕ) → (is_calm (f a) ≡ true) × (is_jump (f a) ≡ false) × (destination (f a) ≡ Some rd) × (breaks_reserved (f a) ≡ false))
     → ((i : Instr) → IsReadAs x (record { instr = i; size = slot_size x })) → IsCleanBehind b at names more
     → IsCleanly b at names here earlier (x ∷ (stack.put_back writes ++ more))
 made_clean law b at names here earlier true rd x f o more w r calmly own rest =
@@ -570,7 +577,7 @@ made_clean law b at names here earlier false rd x f o more w r calmly own rest =
     record {
       own = own i;
       passes = subst (λ j. PassesBefore b here earlier j more) (sym m.2)
-          (λ later read e. calm b here earlier (f m.0) later k.0 k.3 (no_write (place b here earlier (f m.0) later) (f m.0) (ap (is_stack_one b) k.2 ∙ w)) e);
+          (λ later read e. calm b here earlier (f m.0) later k.0 k.3 (no_write (place b here earlier (f m.0) later) (f m.0) (ap (λ o. has_stack b.format && is_register 2 o) k.2 ∙ w)) e);
       rest = rest (here + slot_size x) (i ∷ earlier);
     })
 
@@ -600,11 +607,11 @@ body_clean law b at names starts here earlier line rvc (To j k) count expanded m
         room bytes
 body_clean law b at names starts here earlier line rvc (High rd k) count expanded more h c s is x rest =
     subst (λ v. IsCleanly b at names here earlier (v ++ more)) (sym x)
-    (made_clean law b at names here earlier (stack.is_stack b.format rd) rd (Upper rd k line) (λ address. Lui rd (upper (pos address))) (address_at at names k) more refl refl
+    (made_clean law b at names here earlier (is_stack b.format rd) rd (Upper rd k line) (λ address. Lui rd (upper (pos address))) (address_at at names k) more refl refl
     (λ a. (refl, refl, refl, unreserved rd h)) (λ i. tt) rest)
 body_clean law b at names starts here earlier line rvc (Low rd k) count expanded more h c s is x rest =
     subst (λ v. IsCleanly b at names here earlier (v ++ more)) (sym x)
-    (made_clean law b at names here earlier (stack.is_stack b.format rd) rd (Lower rd k line) (λ address. OpImm Addi rd rd (lower (pos address))) (address_at at names k) more refl refl
+    (made_clean law b at names here earlier (is_stack b.format rd) rd (Lower rd k line) (λ address. OpImm Addi rd rd (lower (pos address))) (address_at at names k) more refl refl
     (λ a. (refl, refl, refl, unreserved rd h)) (λ i. tt) rest)
 
 -- ---- whole expansions
@@ -627,5 +634,5 @@ pub clean_fill : SpellingsAreWide → (b : BundlePlace) (at : Bases) (names : Li
 clean_fill law b at names zero here earlier room bytes s =
     record { reading = []; is_reading = tt; nothing_left = s; count = refl; read = tt; ending = λ _. refl; length_is = ap length s; found = λ _. refl }
 clean_fill law b at names (suc n) here earlier room bytes s =
-    known law b at names here earlier c_ebreak Ebreak (replicate n c_ebreak) refl tt (calm_passes b here earlier Ebreak (replicate n c_ebreak) refl refl refl)
+    known law b at names here earlier c_ebreak Ebreak (replicate n c_ebreak) refl tt (calm_passes b here earlier Ebreak (replicate n c_ebreak) refl refl (and_false (has_stack b.format)))
     (clean_fill law b at names n (here + 2) (Ebreak ∷ earlier)) room bytes s

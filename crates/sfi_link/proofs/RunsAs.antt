@@ -20,7 +20,8 @@ use Rattle.sfi_rewrite.specs.declared.slot.Slot.{Slot}
 use Rattle.sfi_rewrite.specs.declared.slot.Slot.TheVariants.{Wide, Short}
 use Rattle.sfi_rewrite.specs.declared.placed.PlacedName.{PlacedName}
 use Rattle.sfi_rewrite.specs.Slots.{slot_size, size_of, slots_of, c_nop}
-use Rattle.sfi_rewrite.specs.Stack.{is_stack, writes_stack, is_on_stack, stack_pair, put_back}
+use Rattle.sfi_image.specs.Formats.{is_stack}
+use Rattle.sfi_rewrite.specs.Stack.{writes_stack, is_on_stack, stack_pair, put_back}
 use Rattle.sfi_rewrite.specs.Expansion.{jump_slots, IsAlone, IsMasked, IsExpansionOf}
 use Rattle.sfi_rewrite.specs.Transparency.{IsAimed, MayBe}
 use Rattle.sfi_link.specs.declared.bases.Bases.{Bases}

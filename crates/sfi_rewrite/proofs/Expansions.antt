@@ -9,7 +9,8 @@ use Rattle.rv_text.specs.declared.item.Item.{Item}
 use Rattle.sfi_image.specs.declared.format.Format.{Format}
 use Rattle.sfi_rewrite.specs.declared.slot.Slot.{Slot}
 use Rattle.sfi_rewrite.specs.declared.slot.Slot.TheVariants.{Wide, Short, Jump, Upper, Lower}
-use Rattle.sfi_rewrite.specs.Stack.{is_stack, writes_stack, is_on_stack, stack_pair, put_back}
+use Rattle.sfi_image.specs.Formats.{is_stack}
+use Rattle.sfi_rewrite.specs.Stack.{writes_stack, is_on_stack, stack_pair, put_back}
 use Rattle.sfi_rewrite.specs.Slots.{size_of}
 use Rattle.sfi_rewrite.specs.Expansion.{jump_slots, IsAlone, IsMasked, IsPlainExpansion, IsExpansionOf, IsExpansion}
 

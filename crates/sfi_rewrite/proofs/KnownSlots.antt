@@ -19,7 +19,8 @@ use Rattle.sfi_image.specs.declared.format.Format.{Format}
 use Rattle.sfi_rewrite.specs.declared.slot.Slot.{Slot}
 use Rattle.sfi_rewrite.specs.declared.slot.Slot.TheVariants.{Wide, Short, Jump, Upper, Lower}
 use Rattle.sfi_rewrite.specs.Slots.{size_of, c_nop}
-use Rattle.sfi_rewrite.specs.Stack.{is_stack, writes_stack, is_on_stack, stack_pair, put_back}
+use Rattle.sfi_image.specs.Formats.{is_stack}
+use Rattle.sfi_rewrite.specs.Stack.{writes_stack, is_on_stack, stack_pair, put_back}
 use Rattle.sfi_rewrite.specs.Expansion.{code_pair, jump_to_x31, jump_slots, IsAlone, IsMasked, IsExpansionOf}
 use Rattle.sfi_rewrite.specs.Places.{AreLaidFrom}
 use Rattle.sfi_rewrite.specs.Placed.{Encodes, IsNamedBelow}

@@ -3,6 +3,7 @@ use Rattle.std.proofs.Common.{◌≡◌, ◌≢◌, ℕ, ◌+◌, ◌==◌, ◌&
 use Rattle.std.specs.Prelude.{bit_and, bit_or, MatchBool}
 use Rattle.std.proofs.lemmas.Bool.{eqb-true, true≢false}
 use Rattle.std.proofs.lemmas.List.{set-get_or}
+use Rattle.rv_word.specs.Writes.{writes_register}
 use Rattle.rv_word.specs.declared.instr.RegOp.TheVariants.{And, Or}
 use Rattle.rv_word.specs.declared.instr.ImmOp.TheVariants.{Addi}
 use Rattle.rv_word.specs.declared.instr.LoadKind.{LoadKind}
@@ -18,7 +19,7 @@ use Rattle.rv_step.specs.Values.{plus, load_size}
 use Rattle.rv_text.specs.declared.item.Body.{Body}
 use Rattle.rv_text.specs.declared.item.Body.TheVariants.{Plain, To, High, Low}
 use Rattle.sfi_image.specs.declared.format.Format.{Format}
-use Rattle.sfi_image.specs.Formats.{has_stack}
+use Rattle.sfi_image.specs.Formats.{has_stack, is_stack}
 use Rattle.sfi_image.specs.declared.span.Span.{Span}
 use Rattle.sfi_image.specs.Spans.{Holds}
 use Rattle.sfi_rewrite.specs.declared.slot.Slot.{Slot}
@@ -26,7 +27,7 @@ use Rattle.sfi_rewrite.specs.declared.slot.Slot.TheVariants.{Wide, Jump, Upper, 
 use Rattle.sfi_rewrite.specs.Registers.{names_withheld, item_names_withheld}
 use Rattle.sfi_rewrite.specs.Slots.{slot_size}
 use Rattle.sfi_rewrite.specs.Expansion.{IsAlone, IsMasked, IsExpansionOf}
-use Rattle.sfi_rewrite.specs.Stack.{writes_x2, is_stack, writes_stack, is_on_stack, is_stack_write, jumps_or_loads_x2, stack_pair, put_back}
+use Rattle.sfi_rewrite.specs.Stack.{writes_stack, is_on_stack, is_stack_write, jumps_or_loads_x2, stack_pair, put_back}
 use Rattle.sfi_rewrite.specs.Faults.{IsPermitted}
 use Rattle.sfi_rewrite.specs.Laws.{ExpansionsAreTransparent}
 use Rattle.sfi_rewrite.specs.Transparency.{AreRegions, HasReserved, SlotStands, IsTransparent, at_pc, KeepsStack, ActsAs, IsAimed, MayBe}
@@ -53,7 +54,7 @@ load_writes : (o : Option ℕ) (kind : LoadKind) (rd at : ℕ) (h : Hart) (m : B
 load_writes None kind rd at h m e done = absurd (cc)
 load_writes (Some v) kind rd at h m e done = here _ h m rd _ e refl
 
-writes_alone : (i : Instr) (h : Hart) (m : Bytes) → writes_x2 i ≡ true → is_jump i ≡ false → (effect i 4 h m).outcome ≡ Next → WritesX2 (effect i 4 h m) h m
+writes_alone : (i : Instr) (h : Hart) (m : Bytes) → writes_register 2 i ≡ true → is_jump i ≡ false → (effect i 4 h m).outcome ≡ Next → WritesX2 (effect i 4 h m) h m
 writes_alone (Op op rd rs1 rs2) h m e j done = here _ h m rd _ e refl
 writes_alone (OpImm op rd rs1 imm) h m e j done = here _ h m rd _ e refl
 writes_alone (Load kind rd rs1 imm) h m e j done = load_writes (loaded m (plus (register h rs1) imm) (load_size kind)) kind rd (plus (register h rs1) imm) h m e done
@@ -113,7 +114,7 @@ done_is : (x : Stepped) → x.outcome ≡ Next → x ≡ record { outcome = Next
 done_is x e = ap (λ o. let y : Stepped = record { outcome = o; state = x.state } in y) e
 
 -- i and the pair
-keeps_stack : PairLeaves → StepKeepsState → (i : Instr) (x : Slot) → writes_x2 i ≡ true → is_jump i ≡ false → slot_size x ≡ 4 → ((s : State) → SlotStands i s x → Stands s i 4)
+keeps_stack : PairLeaves → StepKeepsState → (i : Instr) (x : Slot) → writes_register 2 i ≡ true → is_jump i ≡ false → slot_size x ≡ 4 → ((s : State) → SlotStands i s x → Stands s i 4)
     → KeepsStack i (x ∷ stack_pair)
 keeps_stack pair keeps i x writes no_jump size stands = record {
   does = λ c d s regions is reserved before stand done after.
@@ -130,14 +131,14 @@ keeps_stack pair keeps i x writes no_jump size stands = record {
 -- ---- the expansions
 
 -- an instruction: it writes the stack pointer, is an access on it, or neither
-of_plain : PairLeaves → StepKeepsState → (writes on rvc : Bool) (i : Instr) (slots : List Slot) → (writes ≡ true → (writes_x2 i ≡ true) × (is_jump i ≡ false)) → names_withheld i ≡ false
+of_plain : PairLeaves → StepKeepsState → (writes on rvc : Bool) (i : Instr) (slots : List Slot) → (writes ≡ true → (writes_register 2 i ≡ true) × (is_jump i ≡ false)) → names_withheld i ≡ false
     → MatchBool writes (slots ≡ Wide i ∷ stack_pair) (MatchBool on (IsAlone rvc i slots) (IsMasked rvc i slots)) → MatchBool writes (KeepsStack i slots) (IsTransparent i slots)
 of_plain pair keeps true on rvc i slots w n h =
     subst (λ (l : List Slot). KeepsStack i l) (sym h) (keeps_stack pair keeps i (Wide i) (w refl).0 (w refl).1 refl (λ s st. st))
 of_plain pair keeps false true rvc i slots w n h = alone_transparent rvc i slots h
 of_plain pair keeps false false rvc i slots w n h = of_masked pair keeps rvc i slots n h
 
-no_jump_writes : (i : Instr) → jumps_or_loads_x2 (Plain i) ≡ false → writes_x2 i ≡ true → is_jump i ≡ false
+no_jump_writes : (i : Instr) → jumps_or_loads_x2 (Plain i) ≡ false → writes_register 2 i ≡ true → is_jump i ≡ false
 no_jump_writes (Op op rd rs1 rs2) h w = refl
 no_jump_writes (OpImm op rd rs1 imm) h w = refl
 no_jump_writes (Load kind rd rs1 imm) h w = refl
@@ -152,13 +153,13 @@ no_jump_writes Ecall h w = refl
 no_jump_writes Ebreak h w = refl
 
 -- where the format has a stack pointer that i writes, and which i may write, i is no jump
-writer : (has : Bool) (i : Instr) → (has && jumps_or_loads_x2 (Plain i)) ≡ false → (has && writes_x2 i) ≡ true → (writes_x2 i ≡ true) × (is_jump i ≡ false)
+writer : (has : Bool) (i : Instr) → (has && jumps_or_loads_x2 (Plain i)) ≡ false → (has && writes_register 2 i) ≡ true → (writes_register 2 i ≡ true) × (is_jump i ≡ false)
 writer true i h w = (w, no_jump_writes i h w)
 writer false i h w = cc
 
 -- a half of an address, to the stack pointer or to another register
-at_half : PairLeaves → StepKeepsState → (has : Bool) (i : Instr) (rd : ℕ) (x : Slot) (slots : List Slot) → writes_x2 i ≡ (rd == 2) → is_jump i ≡ false → slot_size x ≡ 4
-    → ((s : State) → SlotStands i s x → Stands s i 4) → slots ≡ x ∷ put_back (has && (rd == 2)) → MatchBool (has && writes_x2 i) (KeepsStack i slots) (IsTransparent i slots)
+at_half : PairLeaves → StepKeepsState → (has : Bool) (i : Instr) (rd : ℕ) (x : Slot) (slots : List Slot) → writes_register 2 i ≡ (rd == 2) → is_jump i ≡ false → slot_size x ≡ 4
+    → ((s : State) → SlotStands i s x → Stands s i 4) → slots ≡ x ∷ put_back (has && (rd == 2)) → MatchBool (has && writes_register 2 i) (KeepsStack i slots) (IsTransparent i slots)
 at_half pair keeps has i rd x slots e no_jump size stands h =
     subst (λ (b : Bool). MatchBool (has && b) (KeepsStack i slots) (IsTransparent i slots)) (sym e) (cases (has && (rd == 2)) (λ both. e ∙ second has (rd == 2) both) h)
   where
@@ -166,7 +167,7 @@ at_half pair keeps has i rd x slots e no_jump size stands h =
     second true b z = z
     second false b z = cc
 
-    cases : (b : Bool) → (b ≡ true → writes_x2 i ≡ true) → slots ≡ x ∷ put_back b → MatchBool b (KeepsStack i slots) (IsTransparent i slots)
+    cases : (b : Bool) → (b ≡ true → writes_register 2 i ≡ true) → slots ≡ x ∷ put_back b → MatchBool b (KeepsStack i slots) (IsTransparent i slots)
     cases true w z = subst (λ (l : List Slot). KeepsStack i l) (sym z) (keeps_stack pair keeps i x (w refl) no_jump size stands)
     cases false w z = subst (λ (l : List Slot). IsTransparent i l) (sym z) (named_transparent i x size stands)
 

@@ -14,9 +14,10 @@ use Rattle.rv_text.specs.declared.item.Body.{Body}
 use Rattle.rv_text.specs.declared.item.Body.TheVariants.{Plain, To, High, Low}
 use Rattle.rv_text.specs.declared.item.Item.{Item}
 use Rattle.sfi_image.specs.declared.format.Format.{Format}
+use Rattle.sfi_image.specs.Formats.{is_stack}
 use Rattle.sfi_rewrite.specs.declared.slot.Slot.{Slot}
 use Rattle.sfi_rewrite.specs.declared.slot.Slot.TheVariants.{Wide, Short, Jump, Upper, Lower}
-use Rattle.sfi_rewrite.specs.Stack.{is_stack, writes_stack, is_on_stack, stack_pair, put_back}
+use Rattle.sfi_rewrite.specs.Stack.{writes_stack, is_on_stack, stack_pair, put_back}
 
 -- `and x31, a, x27`, `or x31, x31, x26`: x31 becomes an address of the data region
 abbrev pub data_pair : ℕ → List Slot

@@ -1,10 +1,10 @@
 -- The stack pointer x2, of a format that has one: an access on it stands as it is, and what writes it stands before the pair that puts it back into the
 -- data region.
-use Rattle.std.specs.Prelude.{◌==◌, ◌&&◌, not, ℕ, Bool, true, false, List, [], ◌∷◌, Option, Some, None}
+use Rattle.std.specs.Prelude.{◌==◌, ◌&&◌, not, Bool, true, false, List, [], ◌∷◌}
 use Rattle.rv_word.specs.declared.instr.RegOp.TheVariants.{And, Or}
 use Rattle.rv_word.specs.declared.instr.Instr.{Instr}
 use Rattle.rv_word.specs.declared.instr.Instr.TheVariants.{Op, Load, Store, Jal, Jalr}
-use Rattle.rv_word.specs.Writes.{destination}
+use Rattle.rv_word.specs.Writes.{writes_register}
 use Rattle.rv_text.specs.declared.item.Body.{Body}
 use Rattle.rv_text.specs.declared.item.Body.TheVariants.{Plain, To, High, Low}
 use Rattle.sfi_image.specs.declared.format.Format.{Format}
@@ -13,14 +13,6 @@ use Rattle.sfi_rewrite.specs.declared.slot.Slot.{Slot}
 use Rattle.sfi_rewrite.specs.declared.slot.Slot.TheVariants.{Wide}
 
 -- ---- x2 in an instruction
-
-abbrev pub is_x2 : Option ℕ → Bool
-is_x2 None = false
-is_x2 (Some r) = r == 2
-
--- it writes x2
-abbrev pub writes_x2 : Instr → Bool
-writes_x2 i = is_x2 (destination i)
 
 -- a load or store on x2
 abbrev pub is_on_x2 : Instr → Bool
@@ -38,11 +30,8 @@ jumps_or_loads_x2 _ = false
 
 -- ---- the same, where x2 is a stack pointer
 
-abbrev pub is_stack : Format → ℕ → Bool
-is_stack f r = has_stack f && (r == 2)
-
 abbrev pub writes_stack : Format → Instr → Bool
-writes_stack f i = has_stack f && writes_x2 i
+writes_stack f i = has_stack f && writes_register 2 i
 
 abbrev pub is_on_stack : Format → Instr → Bool
 is_on_stack f i = has_stack f && is_on_x2 i

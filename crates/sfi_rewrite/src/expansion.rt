@@ -1,11 +1,11 @@
 //! What an item of the source becomes in a format.
 ghost use Rattle.std.specs.Prelude.{◌≡◌, ◌<◌, ℕ, ◌++◌, ◌∷◌, ◌≤◌, [], length};
 ghost use Rattle.sfi_rewrite.specs.Expansion.{data_pair, code_pair, jump_slots, IsAlone, IsMasked, IsPlainExpansion, IsExpansion};
-ghost use Rattle.sfi_rewrite.specs.Stack.{stack_pair, put_back, writes_x2, is_on_x2};
+ghost use Rattle.sfi_rewrite.specs.Stack.{stack_pair, put_back, is_on_x2};
 ghost use Rattle.sfi_rewrite.specs.declared.slot.Slot.TheVariants.{Wide};
 ghost use Rattle.rv_word.specs.declared.instr.Instr.TheVariants.{Op};
 
-use crate::register::{is_stack, register};
+use crate::register::register;
 use crate::slot::Slot;
 use rv_comp::form_of;
 use rv_text::{Body, Item};
@@ -212,26 +212,6 @@ fn of_masked(rvc: bool, instr: &Instr) -> Expansion
     }
 }
 
-/// Whether the instruction writes x2.
-fn writes_x2(instr: &Instr) -> bool
-    ensures { result ≡ writes_x2 instr.now }
-{
-    match *instr {
-        Instr::Op { rd, .. }
-        | Instr::OpImm { rd, .. }
-        | Instr::Load { rd, .. }
-        | Instr::Jal { rd, .. }
-        | Instr::Jalr { rd, .. }
-        | Instr::Lui { rd, .. }
-        | Instr::Auipc { rd, .. } => rd.number() == 2,
-        Instr::Store { .. }
-        | Instr::Branch { .. }
-        | Instr::Fence { .. }
-        | Instr::Ecall
-        | Instr::Ebreak => false,
-    }
-}
-
 /// Whether the instruction is a load or store on x2.
 fn is_on_x2(instr: &Instr) -> bool
     ensures { result ≡ is_on_x2 instr.now }
@@ -246,7 +226,7 @@ fn is_on_x2(instr: &Instr) -> bool
 fn of_plain(format: Format, rvc: bool, instr: &Instr) -> Expansion
     ensures { IsPlainExpansion format rvc instr.now result }
 {
-    if format.has_stack() && writes_x2(instr) {
+    if format.has_stack() && instr.writes_register(2) {
         Expansion::with_stack_pair(Slot::Wide(*instr))
     } else if format.has_stack() && is_on_x2(instr) {
         alone(rvc, instr)
@@ -264,10 +244,10 @@ pub(crate) fn expand(format: Format, item: &Item) -> Expansion
         Body::Plain(ref instr) => of_plain(format, item.rvc, instr),
         Body::To(instr, name) => Expansion::of_one(Slot::Jump { instr, name, line }),
         Body::High(rd, name) => {
-            Expansion::put_back(Slot::Upper { rd, name, line }, is_stack(format, rd))
+            Expansion::put_back(Slot::Upper { rd, name, line }, format.is_stack(rd.number()))
         }
         Body::Low(rd, name) => {
-            Expansion::put_back(Slot::Lower { rd, name, line }, is_stack(format, rd))
+            Expansion::put_back(Slot::Lower { rd, name, line }, format.is_stack(rd.number()))
         }
     }
 }

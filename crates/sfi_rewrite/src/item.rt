@@ -6,7 +6,7 @@ ghost use Rattle.sfi_rewrite.specs.Stack.{is_stack_write};
 ghost use Rattle.sfi_rewrite.specs.Faults.{IsPermitted, HasItemFault};
 
 use crate::fault::RewriteFault;
-use crate::register::{is_stack, is_withheld};
+use crate::register::is_withheld;
 use rv_text::{Body, Item};
 use rv_word::Instr;
 use sfi_image::Format;
@@ -65,10 +65,12 @@ fn is_stack_write(format: Format, body: &Body) -> bool
     ensures { result ≡ is_stack_write format body.now }
 {
     match body {
-        Body::Plain(Instr::Load { rd, rs1, .. }) => is_stack(format, *rd)
-            && !is_stack(format, *rs1),
-        Body::Plain(Instr::Jal { rd, .. } | Instr::Jalr { rd, .. }) => is_stack(format, *rd),
-        Body::To(Instr::Jal { rd, .. }, _) => is_stack(format, *rd),
+        Body::Plain(Instr::Load { rd, rs1, .. }) => format.is_stack(rd.number())
+            && !format.is_stack(rs1.number()),
+        Body::Plain(Instr::Jal { rd, .. } | Instr::Jalr { rd, .. }) => {
+            format.is_stack(rd.number())
+        }
+        Body::To(Instr::Jal { rd, .. }, _) => format.is_stack(rd.number()),
         _ => false,
     }
 }

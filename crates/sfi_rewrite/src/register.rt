@@ -1,10 +1,8 @@
 //! Registers.
 ghost use Rattle.std.specs.Prelude.{◌≡◌, ◌<◌};
 ghost use Rattle.sfi_rewrite.specs.Registers.{is_withheld};
-ghost use Rattle.sfi_rewrite.specs.Stack.{is_stack};
 
 use rv_word::Reg;
-use sfi_image::Format;
 
 /// The register of a number below 32.
 pub(crate) fn register(number: u8) -> Reg
@@ -23,11 +21,4 @@ pub(crate) fn is_withheld(reg: Reg) -> bool
 {
     let number = reg.number();
     number == 24 || number == 25 || number == 26 || number == 27 || number == 31
-}
-
-/// Whether it is the stack pointer of the format.
-pub(crate) fn is_stack(format: Format, reg: Reg) -> bool
-    ensures { result ≡ is_stack format reg }
-{
-    format.has_stack() && reg.number() == 2
 }

@@ -1,7 +1,7 @@
 -- The first look at a bundle: what breaks no rule.
 use Rattle.std.proofs.Common.{◌≡◌, ℕ, ◌==◌, Bool, true, false, List, [], ◌∷◌, Option, Some, None, ℤ, pos, negsuc, of_z, to_z, w32, SFits, refl, sym, ap, ◌∙◌, ◌⊎◌, subst, inl, inr, arith, eq-eqb}
 use Rattle.std.specs.Prelude.{◌&&◌, ◌||◌, not}
-use Rattle.std.proofs.lemmas.Bool.{and_parts, or_parts}
+use Rattle.std.proofs.lemmas.Bool.{and_parts, and_right, or_parts}
 use Rattle.std.specs.Bool.{OnTrue}
 use Rattle.std.proofs.lemmas.Int.{to_z-of_z}
 use Rattle.rv_word.specs.declared.instr.Instr.{Instr}
@@ -14,10 +14,10 @@ use Rattle.rv_word.specs.Spelling.{spelling, IsWordOf}
 use Rattle.rv_word.specs.Laws.{OneSpelling}
 use Rattle.sfi_scan.specs.declared.bundle.BundlePlace.{BundlePlace}
 use Rattle.sfi_scan.specs.declared.clean.Words.{Words}
-use Rattle.sfi_image.specs.Formats.{has_stack}
+use Rattle.sfi_image.specs.Formats.{has_stack, is_stack}
 use Rattle.sfi_scan.specs.Pairs.{is_reserved, follows_pair, follows_code_pair}
 use Rattle.sfi_scan.specs.Readings.{Piece}
-use Rattle.sfi_scan.specs.Stack.{is_stack, begins_pair, ends_pair, precedes_pair, is_jump}
+use Rattle.sfi_scan.specs.Stack.{begins_pair, ends_pair, precedes_pair, is_jump}
 use Rattle.sfi_scan.specs.Rules.{Place, is_last_bundle, is_bundle_start, offset_by, may_access}
 use Rattle.sfi_scan.specs.Findings.{lowest, all_rules}
 use Rattle.sfi_scan.specs.FirstLook.{IsWordOr0, AreBefore, is_withheld, is_clean, is_zero}
@@ -76,8 +76,8 @@ jump_told b earlier rd base z g f false h = tt
 jump_told b earlier rd base z g f true h = rw (g, f, h) refl
 
 -- what is not withheld is not reserved, nor the stack pointer
-free : (b : BundlePlace) (r : ℕ) → not (is_withheld b r) ≡ true → (is_reserved r ≡ false) × (is_stack b r ≡ false)
-free b r h = or_parts (is_reserved r) (is_stack b r) (not_is (is_withheld b r) h)
+free : (b : BundlePlace) (r : ℕ) → not (is_withheld b r) ≡ true → (is_reserved r ≡ false) × (is_stack b.format r ≡ false)
+free b r h = or_parts (is_reserved r) (is_stack b.format r) (not_is (is_withheld b r) h)
 
 -- an instruction that is clean there breaks no rule, where the bundle is not the region's last
 clean_one : (b : BundlePlace) (at : ℕ) (earlier : List Instr) (i : Instr) (later : List Piece) (whole : Bool) → is_last_bundle b ≡ false → is_clean b at earlier (outline i) ≡ true
@@ -88,8 +88,8 @@ clean_one b at earlier (Load kind rd rs1 imm) later whole last clean =
     let both = and_parts (not (is_withheld b rd)) (may_access b rs1 earlier) clean in
     let f = free b rd both.0 in
     rw (f.0, f.1, both.1, last) refl
-clean_one b at earlier (Store width rs1 rs2 imm) later whole last clean = rw (clean, last) refl
-clean_one b at earlier (Branch cond rs1 rs2 offset) later whole last clean = rw (clean, last) refl
+clean_one b at earlier (Store width rs1 rs2 imm) later whole last clean = rw (clean, last, and_right (has_stack b.format) false refl) refl
+clean_one b at earlier (Branch cond rs1 rs2 offset) later whole last clean = rw (clean, last, and_right (has_stack b.format) false refl) refl
 clean_one b at earlier (Jal rd offset) later whole last clean =
     let both = and_parts (not (is_withheld b rd)) (is_bundle_start b (offset_by at offset)) clean in
     let f = free b rd both.0 in
@@ -101,9 +101,9 @@ clean_one b at earlier (Jalr rd rs1 (pos n)) later whole last clean =
 clean_one b at earlier (Jalr rd rs1 (negsuc n)) later whole last clean = absurd (let both = and_parts (not (is_withheld b rd)) false clean in cc)
 clean_one b at earlier (Lui rd imm) later whole last clean = let f = free b rd clean in rw (f.0, f.1, last) refl
 clean_one b at earlier (Auipc rd imm) later whole last clean = let f = free b rd clean in rw (f.0, f.1, last) refl
-clean_one b at earlier (Fence imm rd rs1) later whole last clean = rw last refl
+clean_one b at earlier (Fence imm rd rs1) later whole last clean = rw (last, and_right (has_stack b.format) false refl) refl
 clean_one b at earlier Ecall later whole last clean = absurd cc
-clean_one b at earlier Ebreak later whole last clean = rw last refl
+clean_one b at earlier Ebreak later whole last clean = rw (last, and_right (has_stack b.format) false refl) refl
 
 pub clean_is : (x : Place) → is_last_bundle x.bundle ≡ false → is_clean x.bundle x.address x.earlier (outline x.instr) ≡ true → lowest x all_rules ≡ []
 clean_is x last clean = clean_one x.bundle x.address x.earlier x.instr x.later x.whole last clean

@@ -7,3 +7,4 @@ pub mod OneList
 pub mod Readings
 pub mod Rest
 pub mod Walk
+pub mod FirstFormat

@@ -7,12 +7,12 @@ use Rattle.rv_word.specs.declared.outline.Outline.{Outline}
 use Rattle.rv_word.specs.declared.outline.Outline.TheVariants.{Computes, Loads, Stores, Branches, Jumps, JumpsTo, Orders, Calls, Stops}
 use Rattle.rv_word.specs.Outlines.{outline}
 use Rattle.rv_word.specs.Spelling.{IsWordOf}
+use Rattle.sfi_image.specs.Formats.{is_stack}
 use Rattle.sfi_scan.specs.declared.before.Before.{Before}
 use Rattle.sfi_scan.specs.declared.bundle.BundlePlace.{BundlePlace}
 use Rattle.sfi_scan.specs.declared.clean.Words.{Words}
 use Rattle.sfi_scan.specs.Near.{near}
 use Rattle.sfi_scan.specs.Pairs.{is_reserved, follows_code_pair}
-use Rattle.sfi_scan.specs.Stack.{is_stack}
 use Rattle.sfi_scan.specs.Rules.{is_bundle_start, offset_by, may_access}
 
 -- the instruction's word, or 0; 0 where there is none
@@ -31,7 +31,7 @@ is_zero (negsuc n) = false
 
 -- the first look lets nothing write this register: it is reserved, or the stack pointer
 abbrev pub is_withheld : BundlePlace → ℕ → Bool
-is_withheld b r = is_reserved r || is_stack b r
+is_withheld b r = is_reserved r || is_stack b.format r
 
 -- an instruction that does this at the address breaks none of V3 to V7 and V10, nor does it if it is listed
 abbrev pub is_clean : BundlePlace → ℕ → List Instr → Outline → Bool

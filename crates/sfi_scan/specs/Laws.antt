@@ -1,11 +1,16 @@
 -- Laws of readings, rules and findings.
-use Rattle.std.specs.Prelude.{◌≡◌, ◌↔◌, ℕ, List, IsTrue}
+use Rattle.std.specs.Prelude.{◌≡◌, ◌≢◌, ◌↔◌, ℕ, List, IsTrue, false}
+use Rattle.std.specs.List.{All}
+use Rattle.rv_word.specs.declared.instr.Instr.{Instr}
+use Rattle.sfi_image.specs.declared.format.Format.TheVariants.{Sfi1}
 use Rattle.sfi_image.specs.Spelling.{Part}
 use Rattle.sfi_image.specs.Regions.{IsBundleStart}
 use Rattle.sfi_scan.specs.declared.bundle.BundlePlace.{BundlePlace}
 use Rattle.sfi_scan.specs.declared.finding.Finding.{Finding}
+use Rattle.sfi_scan.specs.declared.rule.Rule.TheVariants.{V10}
+use Rattle.sfi_scan.specs.Pairs.{follows_data_pair}
 use Rattle.sfi_scan.specs.Readings.{Piece, IsLongestReading}
-use Rattle.sfi_scan.specs.Rules.{is_bundle_start}
+use Rattle.sfi_scan.specs.Rules.{Place, breaks, is_bundle_start, may_access}
 use Rattle.sfi_scan.specs.Findings.{AreBundleFindings, AreFindings, AreImageFindings}
 
 -- the rules' bundle starts are those of the image's code region
@@ -27,3 +32,13 @@ OneList = (sandbox : ℕ) (p : Part) (xs ys : List Finding) → AreFindings sand
 -- an image has one list of findings
 abbrev pub OneImageList : Type 0
 OneImageList = (ps : List Part) (xs ys : List Finding) → AreImageFindings ps xs → AreImageFindings ps ys → xs ≡ ys
+
+-- In the first format x2 is a register like any other: an access on it needs the pair, and no place breaks V10.
+abbrev pub FirstFormatHasNoStack : Type 0
+FirstFormatHasNoStack =
+    (x : Place) → x.bundle.format ≡ Sfi1
+    → ((base : ℕ) (earlier : List Instr) → may_access x.bundle base earlier ≡ follows_data_pair base earlier) × (breaks x V10 ≡ false)
+
+-- so V10 is no finding of a part of that format
+abbrev pub FirstFormatFindsNoV10 : Type 0
+FirstFormatFindsNoV10 = (sandbox : ℕ) (p : Part) (found : List Finding) → p.format ≡ Sfi1 → AreFindings sandbox p found → All (λ f. f.rule ≢ V10) found

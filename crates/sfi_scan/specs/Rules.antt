@@ -4,12 +4,13 @@ use Rattle.rv_word.specs.declared.instr.Instr.{Instr}
 use Rattle.rv_word.specs.declared.instr.Instr.TheVariants.{Load, Store, Branch, Jal, Jalr, Ecall, Ebreak}
 use Rattle.rv_word.specs.Numbers.{modulo}
 use Rattle.rv_word.specs.Writes.{destination}
+use Rattle.sfi_image.specs.Formats.{is_stack}
 use Rattle.sfi_scan.specs.declared.rule.Rule.{Rule}
 use Rattle.sfi_scan.specs.declared.rule.Rule.TheVariants.{V1, V2, V3, V4, V5, V6, V7, V8, V9, V10}
 use Rattle.sfi_scan.specs.declared.bundle.BundlePlace.{BundlePlace}
 use Rattle.sfi_scan.specs.Pairs.{is_reserved, follows_data_pair, follows_code_pair}
 use Rattle.sfi_scan.specs.Readings.{Piece}
-use Rattle.sfi_scan.specs.Stack.{is_stack, writes_stack, begins_pair, ends_pair, precedes_pair, is_jump}
+use Rattle.sfi_scan.specs.Stack.{writes_stack, begins_pair, ends_pair, precedes_pair, is_jump}
 
 -- a place of a bundle's reading
 pub record Place : Type 0 where
@@ -47,7 +48,7 @@ breaks_reserved i = is_reserved_one (destination i)
 
 -- an access on this base stays in the data and the guards: the two instructions directly before are the data pair on it, or it is the stack pointer
 abbrev pub may_access : BundlePlace → ℕ → List Instr → Bool
-may_access b base earlier = is_stack b base || follows_data_pair base earlier
+may_access b base earlier = is_stack b.format base || follows_data_pair base earlier
 
 -- V5: a load or store, and the two instructions directly before it are not the data pair on its base (on the stack pointer it is never broken)
 abbrev pub breaks_access : Place → Instr → Bool

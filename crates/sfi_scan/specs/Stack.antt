@@ -1,25 +1,17 @@
 -- The stack pointer x2, of a format that has one: it lies in the data region wherever it is used, so an access on it needs no pair, and what writes it is
 -- followed by the pair that puts it back.
-use Rattle.std.specs.Prelude.{◌==◌, ◌&&◌, ℕ, List, [], ◌∷◌, Bool, true, false, Option, Some, None}
+use Rattle.std.specs.Prelude.{◌&&◌, List, [], ◌∷◌, Bool, true, false}
 use Rattle.rv_word.specs.declared.instr.Instr.{Instr}
 use Rattle.rv_word.specs.declared.instr.Instr.TheVariants.{Jal, Jalr}
-use Rattle.rv_word.specs.Writes.{destination}
+use Rattle.rv_word.specs.Writes.{writes_register}
 use Rattle.sfi_image.specs.Formats.{has_stack}
 use Rattle.sfi_scan.specs.declared.bundle.BundlePlace.{BundlePlace}
 use Rattle.sfi_scan.specs.Pairs.{is_masking, is_placing}
 use Rattle.sfi_scan.specs.Readings.{Piece}
 
--- the register is the stack pointer of the bundle's format
-abbrev pub is_stack : BundlePlace → ℕ → Bool
-is_stack b r = has_stack b.format && (r == 2)
-
-abbrev pub is_stack_one : BundlePlace → Option ℕ → Bool
-is_stack_one b None = false
-is_stack_one b (Some r) = is_stack b r
-
 -- the instruction writes it
 abbrev pub writes_stack : BundlePlace → Instr → Bool
-writes_stack b i = is_stack_one b (destination i)
+writes_stack b i = has_stack b.format && writes_register 2 i
 
 -- `and x2, a, x27`, then `or x2, x2, x26`
 abbrev pub is_stack_pair : Instr → Instr → Bool

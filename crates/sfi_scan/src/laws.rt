@@ -1,5 +1,5 @@
 //! What holds of readings, rules and findings. A call costs nothing.
-ghost use Rattle.sfi_scan.specs.Laws.{SameBundleStarts, OneLongestReading, OneBundleList, OneList, OneImageList};
+ghost use Rattle.sfi_scan.specs.Laws.{SameBundleStarts, OneLongestReading, OneBundleList, OneList, OneImageList, FirstFormatHasNoStack, FirstFormatFindsNoV10};
 
 use rv_comp::laws::one_spelling;
 
@@ -35,3 +35,13 @@ pub fn one_image_list()
 {
     one_spelling();
 }
+
+/// In the first format an access on x2 is one like any other, and no place breaks V10.
+pub fn first_format_has_no_stack()
+    ensures { FirstFormatHasNoStack }
+{}
+
+/// So V10 is no finding of a part of that format.
+pub fn first_format_finds_no_v10()
+    ensures { FirstFormatFindsNoV10 }
+{}

@@ -2,7 +2,7 @@
 ghost use Rattle.std.specs.Prelude.{◌≡◌, ◌&&◌, not, List};
 ghost use Rattle.rv_word.specs.declared.instr.Instr.{Instr};
 ghost use Rattle.sfi_scan.specs.Readings.{Piece, IsLongestReading};
-ghost use Rattle.sfi_scan.specs.Stack.{is_stack, writes_stack, is_stack_pair, begins_pair, ends_pair, precedes_pair, is_jump};
+ghost use Rattle.sfi_scan.specs.Stack.{writes_stack, is_stack_pair, begins_pair, ends_pair, precedes_pair, is_jump};
 ghost use Rattle.sfi_scan.specs.Bundles.{IsWithin};
 ghost use Rattle.sfi_scan.specs.Rules.{Place, is_empty, offset_by, is_bundle_start, is_last_bundle, breaks_ecall, breaks_reserved, breaks_access, breaks_jump, breaks_target, breaks_stack, may_write_stack, may_access, ends_region};
 ghost use Rattle.sfi_scan.specs.Findings.{lowest, all_rules};
@@ -12,7 +12,7 @@ use crate::ahead::{Ahead, read_ahead};
 use crate::before::{Before, CODE, DATA, is_masking, is_placing, is_reserved};
 use crate::bundle::BundlePlace;
 use crate::rule::Rule;
-use rv_word::{Instr, Reg};
+use rv_word::Instr;
 
 fn breaks_ecall(place: &BundlePlace, is_first: bool, instr: &Instr) -> bool
     ensures { (x : Place) → x.bundle ≡ place.now → is_empty x.earlier ≡ is_first → result ≡ breaks_ecall x instr.now }
@@ -35,19 +35,12 @@ fn breaks_reserved(instr: &Instr) -> bool
 /// The stack pointer's number.
 pub(crate) const STACK: u8 = 2;
 
-/// The register is the stack pointer of the bundle's format.
-fn is_stack(place: &BundlePlace, reg: Reg) -> bool
-    ensures { result ≡ is_stack place.now reg }
-{
-    place.format.has_stack() && reg.number() == STACK
-}
-
 fn breaks_access(place: &BundlePlace, before: &Before, instr: &Instr) -> bool
     ensures { (x : Place) → x.bundle ≡ place.now → near x.earlier ≡ before.now → result ≡ breaks_access x instr.now }
 {
     match *instr {
         Instr::Load { rs1, .. } | Instr::Store { rs1, .. } => {
-            !(is_stack(place, rs1) || before.is_pair(DATA, rs1))
+            !(place.format.is_stack(rs1.number()) || before.is_pair(DATA, rs1))
         }
         _ => false,
     }
@@ -113,10 +106,7 @@ fn is_stack_pair(first: &Instr, second: &Instr) -> bool
 fn writes_stack(place: &BundlePlace, instr: &Instr) -> bool
     ensures { result ≡ writes_stack place.now instr.now }
 {
-    match instr.writes() {
-        Some(rd) => is_stack(place, rd),
-        None => false,
-    }
+    place.format.has_stack() && instr.writes_register(STACK)
 }
 
 fn is_jump(instr: &Instr) -> bool
