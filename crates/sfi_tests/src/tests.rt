@@ -2,6 +2,8 @@ mod build;
 mod build_command;
 mod check;
 mod failing;
+mod formats;
+mod frames;
 mod image;
 mod listing;
 mod machine;

@@ -1,0 +1,384 @@
+//! Both formats of images: what differs where x2 is a stack pointer.
+use super::image::{CODE, Edit, image, put};
+use super::{Outcome, run};
+use rv_text::{TextCause, TextFault, parse_source};
+use sfi_image::{Format, parse_image, write_image_as};
+use sfi_scan::{Finding, Rule, scan_part_as};
+use std::alloc::{AllocError, Global};
+use std::process::Abort;
+use std::test::Fail;
+
+// The magic of each format.
+const FIRST: &str = "53464931";
+
+const SECOND: &str = "53464932";
+
+const ACCEPTED: &str = "accepted sandboxes=1 bundles=16\n";
+
+const ACCESS: &str = "refused findings=1 first=V5 sandbox=0 at=01000000\n";
+
+const RESERVED: &str = "refused findings=1 first=V4 sandbox=0 at=01000000\n";
+
+const STACK: &str = "refused findings=1 first=V10 sandbox=0 at=01000000\n";
+
+// Digits from a place of the smallest image's code on, and the verdict in each format.
+#[derive(Clone, Copy, Debug)]
+struct Row<'a> {
+    name: &'a str,
+    at: usize,
+    digits: &'a str,
+    first: &'a str,
+    second: &'a str,
+}
+
+fn code<'a>(name: &'a str, digits: &'a str, first: &'a str, second: &'a str) -> Row<'a> {
+    Row {
+        name,
+        at: 0,
+        digits,
+        first,
+        second,
+    }
+}
+
+// The pair is `and x2, x2, x27`, `or x2, x2, x26`.
+fn rules() -> [Row<'static>; 17] {
+    [
+        code("c.swsp", "06c60290", ACCESS, ACCEPTED),
+        code("c.addi x2", "41110290", ACCEPTED, STACK),
+        code(
+            "written before the pair",
+            "130101ff3371b1013361a101",
+            ACCEPTED,
+            ACCEPTED,
+        ),
+        Row {
+            name: "written before the next bundle's pair",
+            at: 12,
+            digits: "130101ff3371b1013361a101",
+            first: ACCEPTED,
+            second: "refused findings=1 first=V10 sandbox=0 at=0100000c\n",
+        },
+        code(
+            "a nop before the pair",
+            "130101ff130000003371b1013361a101",
+            ACCEPTED,
+            STACK,
+        ),
+        code(
+            "loaded before the pair",
+            "032101003371b1013361a101",
+            ACCESS,
+            ACCEPTED,
+        ),
+        code(
+            "c.lwsp x2 before the pair",
+            "02413371b1013361a1010290",
+            ACCESS,
+            ACCEPTED,
+        ),
+        code("c.lwsp x2", "02410290", ACCESS, STACK),
+        code(
+            "jal x2 before the pair",
+            "6f0100013371b1013361a101",
+            ACCEPTED,
+            STACK,
+        ),
+        code("half of the pair", "3371b501", ACCEPTED, STACK),
+        code(
+            "masked before the pair",
+            "3371b5013371b1013361a101",
+            ACCEPTED,
+            ACCEPTED,
+        ),
+        code(
+            "based before the pair",
+            "3361a1013371b1013361a101",
+            ACCEPTED,
+            ACCEPTED,
+        ),
+        code(
+            "based twice",
+            "3371b5013361a1013361a101",
+            ACCEPTED,
+            "refused findings=1 first=V10 sandbox=0 at=01000008\n",
+        ),
+        code("c.lwsp x24", "024c0290", RESERVED, RESERVED),
+        code("c.lwsp x25", "824c0290", RESERVED, RESERVED),
+        code("c.lwsp x26", "024d0290", RESERVED, RESERVED),
+        code("c.lwsp x27", "824d0290", RESERVED, RESERVED),
+    ]
+}
+
+// The status that goes with a verdict or a fault.
+fn status_of(line: &str) -> u8 {
+    if line.starts_with("accepted") {
+        0
+    } else if line.starts_with("layout") {
+        2
+    } else {
+        1
+    }
+}
+
+// What the command says of the image after the edits.
+fn answer(alloc: Global, line: &str, edits: &[Edit<'_>]) -> Result<Outcome, AllocError> {
+    let digits = image(alloc, edits)?;
+    run(alloc, line, digits.as_slice())
+}
+
+// The verdict or the fault of the image after the edits is this line.
+fn is_judged(
+    rt: &impl Abort,
+    alloc: Global,
+    name: &str,
+    edits: &[Edit<'_>],
+    wanted: &str,
+) -> Result<(), AllocError> {
+    let Outcome { status, text } = answer(alloc, "sfi check", edits)?;
+    assert_eq!(rt; text.as_slice(), wanted.as_bytes(), "{name}");
+    assert_eq!(rt; status, status_of(wanted), "{name}");
+    Ok(())
+}
+
+#[test]
+fn verdicts(rt: HostRuntime) -> Result<(), Fail> {
+    for row in rules() {
+        for (magic, wanted) in [(FIRST, row.first), (SECOND, row.second)] {
+            let edits = [put(0, magic), put(CODE.saturating_add(row.at), row.digits)];
+            is_judged(&rt, rt.alloc(), row.name, &edits, wanted)?;
+        }
+    }
+    Ok(())
+}
+
+// Code sizes of 65536, 1048576 and 2097152 bytes, of which 256 are there.
+#[test]
+fn code_sizes(rt: HostRuntime) -> Result<(), Fail> {
+    let short = "layout fault 3 Short\n";
+    let wrong = "layout fault 4 Code\n";
+    for (magic, size, wanted) in [
+        (FIRST, "00000100", short),
+        (FIRST, "00001000", wrong),
+        (FIRST, "00002000", wrong),
+        (SECOND, "00000100", short),
+        (SECOND, "00001000", short),
+        (SECOND, "00002000", wrong),
+    ] {
+        is_judged(
+            &rt,
+            rt.alloc(),
+            size,
+            &[put(0, magic), put(12, size)],
+            wanted,
+        )?;
+    }
+    Ok(())
+}
+
+// `and x2, x10, x27`
+const MASKED: &str = "3371b501";
+
+#[test]
+fn texts(rt: HostRuntime) -> Result<(), Fail> {
+    let edits = [put(0, SECOND), put(CODE, MASKED)];
+    let report =
+        "0 01000000 V10 stack and x2, x10, x27\nrefused findings=1 first=V10 sandbox=0 at=01000000\n";
+    let Outcome { status, text } = answer(rt.alloc(), "sfi check --report", &edits)?;
+    assert_eq!(rt; text.as_slice(), report.as_bytes());
+    assert_eq!(rt; status, 1);
+    let Outcome { status, text } = answer(rt.alloc(), "sfi dis", &edits)?;
+    let front = "format SFI2
+sandbox 0 code 01000000 256 data 01800000 256 start 01000000 gates 0 init 0
+01000000 01b57133 and x2, x10, x27
+01000004 00100073 ebreak
+";
+    assert!(rt; text.as_slice().starts_with(front.as_bytes()));
+    assert_eq!(rt; status, 0);
+    Ok(())
+}
+
+#[test]
+fn parts_are_written_and_scanned_by_format(rt: HostRuntime) -> Result<(), Fail> {
+    let alloc = rt.alloc();
+    let smallest = hex::decode(alloc, image(alloc, &[])?.as_slice())?;
+    let second = hex::decode(alloc, image(alloc, &[put(0, SECOND)])?.as_slice())?;
+    let read = parse_image(alloc, smallest.as_slice())?;
+    assert!(rt; read.format() == Format::Sfi1);
+    let written = write_image_as(alloc, Format::Sfi2, read.parts())?;
+    assert!(rt; written.as_slice() == second.as_slice());
+    assert!(rt; parse_image(alloc, written.as_slice())?.format() == Format::Sfi2);
+
+    let lowered = hex::decode(alloc, image(alloc, &[put(CODE, "41110290")])?.as_slice())?;
+    let read = parse_image(alloc, lowered.as_slice())?;
+    let [part] = read.parts() else {
+        return Err(Fail::new("one sandbox"));
+    };
+    let written = Finding {
+        sandbox: 0,
+        address: 0x0100_0000,
+        rule: Rule::V10,
+    };
+    assert!(rt; scan_part_as(alloc, Format::Sfi1, 0, part)?.is_empty());
+    assert!(rt; scan_part_as(alloc, Format::Sfi2, 0, part)?.as_slice() == [written].as_slice());
+    Ok(())
+}
+
+// A program that keeps a number on its stack.
+const STACKED: &str =
+    ".sandbox 256\n.gate quit 0\nli a0, 5\naddi sp, sp, -16\nsw a0, 12(sp)\nlw a0, 12(sp)\ncall quit\n";
+
+// Its image in the second format up to the fill, which is 104 c.ebreaks.
+const STACKED_HEAD: &str =
+    "534649320100000000000001000100000000800100010000100000010100000000000000\
+    0000000100000000\
+    73000000b3ff9001b3ef8f0167800f0013055000130101ff3371b1013361a101\
+    2326a1000325c10001000100eff05ffd";
+
+// Short forms, and a write of the stack pointer after them, whose bundle is full.
+const SHORT: &str =
+    ".format 2\n.sandbox 256\n.option rvc\nsw a0, 12(sp)\nlw a0, 12(sp)\nlw sp, 0(sp)\n";
+
+const SHORT_HEAD: &str = "534649320100000000000001000100000000800100010000000000010000000000000000\
+    2ac63245032101003371b1013361a101";
+
+// Two writes of the stack pointer.
+const ADDRESS: &str = ".format 2\n.sandbox 256\nla sp, there\n.data\nthere: .zero 1\n";
+
+const ADDRESS_HEAD: &str =
+    "534649320100000000000001000100000000800100010000000000010000000001000000\
+    370180013371b1013361a10101000100130101003371b1013361a101";
+
+// A line in hexadecimal digits: a front, so many c.ebreaks, and an end.
+fn filled(alloc: Global, front: &str, fill: usize, end: &str) -> Result<String, AllocError> {
+    let mut line = String::from_str(alloc, front)?;
+    for _ in 0..fill {
+        line.push_str("0290")?;
+    }
+    line.push_str(end)?;
+    Ok(line)
+}
+
+#[test]
+fn images_are_built_to_the_letter(rt: HostRuntime) -> Result<(), Fail> {
+    let alloc = rt.alloc();
+    let stacked = format!(in alloc; ".format 2\n{STACKED}")?;
+    for (source, front, fill, end) in [
+        (stacked.as_str(), STACKED_HEAD, 104, "\n"),
+        (SHORT, SHORT_HEAD, 120, "\n"),
+        (ADDRESS, ADDRESS_HEAD, 114, "00\n"),
+    ] {
+        let Outcome { status, text } = run(alloc, "sfi build", source.as_bytes())?;
+        let line = filled(alloc, front, fill, end)?;
+        assert_eq!(rt; text.as_slice(), line.as_bytes(), "{source}");
+        assert_eq!(rt; status, 0, "{source}");
+    }
+    Ok(())
+}
+
+// What a run of the text's image says.
+fn run_of(alloc: Global, source: &str, command: &str) -> Result<Outcome, AllocError> {
+    let Outcome {
+        status: _built,
+        text,
+    } = run(alloc, "sfi build", source.as_bytes())?;
+    run(alloc, command, text.as_slice())
+}
+
+#[test]
+fn a_stack_takes_fewer_steps(rt: HostRuntime) -> Result<(), Fail> {
+    let alloc = rt.alloc();
+    for (format, said) in [
+        ("", "sandbox=0 exit=5 steps=16 out=\n"),
+        (".format 1\n", "sandbox=0 exit=5 steps=16 out=\n"),
+        (".format 2\n", "sandbox=0 exit=5 steps=10 out=\n"),
+    ] {
+        let source = format!(in alloc; "{format}{STACKED}")?;
+        let Outcome { status, text } = run_of(alloc, source.as_str(), "sfi run")?;
+        assert_eq!(rt; text.as_slice(), said.as_bytes(), "{format}");
+        assert_eq!(rt; status, 0, "{format}");
+    }
+    Ok(())
+}
+
+#[test]
+fn code_is_as_large_as_the_format_allows(rt: HostRuntime) -> Result<(), Fail> {
+    let alloc = rt.alloc();
+    let mut source = String::from_str(alloc, ".format 2\n.sandbox 256\n")?;
+    for _ in 0..4097 {
+        source.push_str("sw a1, 0(a2)\n")?;
+    }
+    let Outcome { status, text } = run_of(alloc, source.as_str(), "sfi check")?;
+    assert_eq!(rt;
+        text.as_slice(),
+        b"accepted sandboxes=1 bundles=8192\n".as_slice()
+    );
+    assert_eq!(rt; status, 0);
+    Ok(())
+}
+
+#[test]
+fn writes_that_are_refused(rt: HostRuntime) -> Result<(), Fail> {
+    let alloc = rt.alloc();
+    for (statement, said) in [
+        ("lw sp, 0(a0)", "rewrite fault 5 StackWrite line 3\n"),
+        ("jalr sp, 0(a0)", "rewrite fault 5 StackWrite line 3\n"),
+        ("x: jal sp, x", "rewrite fault 5 StackWrite line 3\n"),
+        ("lw sp, 0(t6)", "rewrite fault 1 ReservedRegister line 3\n"),
+        ("jal sp, away", "rewrite fault 5 StackWrite line 3\n"),
+    ] {
+        let source = format!(in alloc; ".format 2\n.sandbox 256\n{statement}\n")?;
+        let Outcome { status, text } = run(alloc, "sfi build", source.as_bytes())?;
+        assert_eq!(rt; text.as_slice(), said.as_bytes(), "{statement}");
+        assert_eq!(rt; status, 2, "{statement}");
+    }
+    for statement in ["lw sp, 0(a0)", "jalr sp, 0(a0)", "x: jal sp, x"] {
+        let source = format!(in alloc; ".sandbox 256\n{statement}\n")?;
+        let Outcome { status, text: _ } = run(alloc, "sfi build", source.as_bytes())?;
+        assert_eq!(rt; status, 0, "{statement}");
+    }
+    Ok(())
+}
+
+// Whole texts, and the line and cause of their fault.
+fn faults() -> [(&'static str, u32, TextCause); 10] {
+    [
+        (".format 3", 1, TextCause::Number),
+        (".format 0", 1, TextCause::Number),
+        (".format -1", 1, TextCause::Number),
+        (".format", 1, TextCause::Operands),
+        (".format x", 1, TextCause::Number),
+        (".format 2 2", 1, TextCause::Operands),
+        (".format 2", 1, TextCause::Directive),
+        (".format 1\n.format 2", 2, TextCause::Directive),
+        (".sandbox 256\n.format 2", 2, TextCause::Directive),
+        (
+            ".format 2\n.sandbox 256\n.format 2",
+            3,
+            TextCause::Directive,
+        ),
+    ]
+}
+
+#[test]
+fn directives(rt: HostRuntime) -> Result<(), Fail> {
+    let alloc = rt.alloc();
+    for (text, format) in [
+        (".sandbox 256", Format::Sfi1),
+        (".format 1\n.sandbox 256", Format::Sfi1),
+        (
+            "# text\n\n.format 0x2 # two\n.sandbox 256\n.sandbox 256",
+            Format::Sfi2,
+        ),
+    ] {
+        assert!(rt; parse_source(alloc, text)?.format() == format, "{text}");
+    }
+    for (text, line, cause) in faults() {
+        assert_eq!(rt;
+            parse_source(alloc, text).err(),
+            Some(TextFault { line, cause }),
+            "{text}"
+        );
+    }
+    Ok(())
+}
