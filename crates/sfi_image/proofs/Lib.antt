@@ -22,3 +22,4 @@ pub mod Steps
 pub mod Places
 pub mod Ending
 pub mod Parsing
+pub mod Second

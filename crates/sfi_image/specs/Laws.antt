@@ -2,10 +2,12 @@
 use Rattle.std.specs.Prelude.{◌≡◌, ℕ, ◌+◌, ◌*◌, ◌^◌, ◌<◌, ◌≤◌, ◌⊎◌, List, length}
 use Rattle.std.specs.List.{All}
 use Rattle.sfi_image.specs.declared.format.Format.{Format}
+use Rattle.sfi_image.specs.declared.format.Format.TheVariants.{Sfi2}
 use Rattle.sfi_image.specs.declared.fault.LayoutFault.{LayoutFault}
 use Rattle.sfi_image.specs.Spelling.{Part, IsWord}
+use Rattle.sfi_image.specs.InFormat.{all_in_format}
 use Rattle.sfi_image.specs.Regions.{IsCodeRegion}
-use Rattle.sfi_image.specs.Parts.{IsRightPart}
+use Rattle.sfi_image.specs.Parts.{IsRightPart, IsRightLayout}
 use Rattle.sfi_image.specs.Images.{IsImage}
 use Rattle.sfi_image.specs.Faults.{IsFault}
 
@@ -34,3 +36,7 @@ WholeBundles =
 -- a code region ends within the addresses
 abbrev pub CodeEnds : Type 0
 CodeEnds = (p : Part) → IsRightPart p → p.code_base + length p.code ≤ 2 ^ 32
+
+-- a right layout is one in the second format too
+abbrev pub RightInSecond : Type 0
+RightInSecond = (ps : List Part) → IsRightLayout ps → IsRightLayout (all_in_format Sfi2 ps)

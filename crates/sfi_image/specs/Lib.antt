@@ -1,5 +1,6 @@
 pub mod Formats
 pub mod Spelling
+pub mod InFormat
 pub mod Spans
 pub mod Regions
 pub mod Registers

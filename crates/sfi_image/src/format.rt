@@ -1,5 +1,5 @@
 //! The formats of images.
-ghost use Rattle.std.specs.Prelude.{◌≡◌};
+ghost use Rattle.std.specs.Prelude.{◌≡◌, ◌↔◌, IsTrue, take};
 ghost use Rattle.sfi_image.specs.Formats.{magic, code_most, has_stack, is_stack};
 
 /// A format of images.
@@ -48,5 +48,12 @@ impl Format {
         ensures { result ≡ is_stack self register }
     {
         self.has_stack() && register == 2
+    }
+
+    /// Whether the bytes begin as an image of this format does, whatever follows.
+    pub fn begins(self, bytes: &[u8]) -> bool
+        ensures { IsTrue result ↔ (take 4 bytes.now ≡ magic self) }
+    {
+        bytes.len() >= 4 && &bytes[..4] == self.magic().as_slice()
     }
 }

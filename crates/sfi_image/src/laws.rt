@@ -1,5 +1,5 @@
 //! What holds of the definitions themselves.
-ghost use Rattle.sfi_image.specs.Laws.{OneImage, NeverBoth, OneFault, SomeReading, WholeBundles, CodeEnds};
+ghost use Rattle.sfi_image.specs.Laws.{OneImage, NeverBoth, OneFault, SomeReading, WholeBundles, CodeEnds, RightInSecond};
 ghost use Rattle.sfi_image.specs.Fronts.{CutShort, Trails, WholeIsImage};
 
 /// Bytes are the image of one list of sandboxes at most, or have one fault at most, and never both.
@@ -22,6 +22,11 @@ pub fn whole_bundles()
 /// A code region ends within the addresses, as its base is a multiple of its size.
 pub fn code_ends()
     ensures { CodeEnds }
+{}
+
+/// A right layout is one in the second format too.
+pub fn right_in_second()
+    ensures { RightInSecond }
 {}
 
 /// Where bytes end behind the front of an image, or go on behind the whole.

@@ -29,7 +29,7 @@ mod writing;
 pub use fault::{ImageFault, LayoutFault};
 pub use format::Format;
 pub use image::Image;
-pub use laws::{code_ends, front_ends, one_reading, some_reading, whole_bundles};
+pub use laws::{code_ends, front_ends, one_reading, right_in_second, some_reading, whole_bundles};
 pub use layout_reader::LayoutReader;
 pub use part::{Gate, SandboxPart};
 pub use reading::parse_image;

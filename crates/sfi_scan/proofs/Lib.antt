@@ -8,3 +8,4 @@ pub mod Readings
 pub mod Rest
 pub mod Walk
 pub mod FirstFormat
+pub mod Second

@@ -1,9 +1,10 @@
 -- Laws of readings, rules and findings.
-use Rattle.std.specs.Prelude.{◌≡◌, ◌≢◌, ◌↔◌, ℕ, List, IsTrue, false}
+use Rattle.std.specs.Prelude.{◌≡◌, ◌≢◌, ◌↔◌, ℕ, List, [], IsTrue, false}
 use Rattle.std.specs.List.{All}
 use Rattle.rv_word.specs.declared.instr.Instr.{Instr}
-use Rattle.sfi_image.specs.declared.format.Format.TheVariants.{Sfi1}
+use Rattle.sfi_image.specs.declared.format.Format.TheVariants.{Sfi1, Sfi2}
 use Rattle.sfi_image.specs.Spelling.{Part}
+use Rattle.sfi_image.specs.InFormat.{all_in_format}
 use Rattle.sfi_image.specs.Regions.{IsBundleStart}
 use Rattle.sfi_scan.specs.declared.bundle.BundlePlace.{BundlePlace}
 use Rattle.sfi_scan.specs.declared.finding.Finding.{Finding}
@@ -42,3 +43,7 @@ FirstFormatHasNoStack =
 -- so V10 is no finding of a part of that format
 abbrev pub FirstFormatFindsNoV10 : Type 0
 FirstFormatFindsNoV10 = (sandbox : ℕ) (p : Part) (found : List Finding) → p.format ≡ Sfi1 → AreFindings sandbox p found → All (λ f. f.rule ≢ V10) found
+
+-- where no rule is broken, the second format's findings of the same sandboxes are V10 alone
+abbrev pub CleanBreaksStackAlone : Type 0
+CleanBreaksStackAlone = (ps : List Part) (found : List Finding) → AreImageFindings ps [] → AreImageFindings (all_in_format Sfi2 ps) found → All (λ f. f.rule ≡ V10) found

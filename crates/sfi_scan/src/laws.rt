@@ -1,5 +1,5 @@
 //! What holds of readings, rules and findings. A call costs nothing.
-ghost use Rattle.sfi_scan.specs.Laws.{SameBundleStarts, OneLongestReading, OneBundleList, OneList, OneImageList, FirstFormatHasNoStack, FirstFormatFindsNoV10};
+ghost use Rattle.sfi_scan.specs.Laws.{SameBundleStarts, OneLongestReading, OneBundleList, OneList, OneImageList, FirstFormatHasNoStack, FirstFormatFindsNoV10, CleanBreaksStackAlone};
 
 use rv_comp::laws::one_spelling;
 
@@ -45,3 +45,10 @@ pub fn first_format_has_no_stack()
 pub fn first_format_finds_no_v10()
     ensures { FirstFormatFindsNoV10 }
 {}
+
+/// Where no rule is broken, the second format's findings of the same sandboxes are V10 alone.
+pub fn clean_breaks_stack_alone()
+    ensures { CleanBreaksStackAlone }
+{
+    one_spelling();
+}

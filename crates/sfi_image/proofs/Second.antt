@@ -1,0 +1,77 @@
+-- A right layout is one in the second format too: its code regions may be larger.
+use Rattle.std.proofs.Common.{◌≡◌, zero, suc, List, [], ◌∷◌, ◌++◌, length, refl, ap, subst, arith}
+use Rattle.std.specs.List.{All, AllPairs}
+use Rattle.std.proofs.lemmas.List.{length-map}
+use Rattle.std.proofs.lemmas.List.Elements.{All-map, All-weaker}
+use Rattle.sfi_image.specs.declared.format.Format.TheVariants.{Sfi2}
+use Rattle.sfi_image.specs.declared.span.Span.{Span}
+use Rattle.sfi_image.specs.Spelling.{Part, format_of, fields_of}
+use Rattle.sfi_image.specs.InFormat.{in_format, all_in_format}
+use Rattle.sfi_image.specs.Spans.{AreApart, spans_of, spans}
+use Rattle.sfi_image.specs.Parts.{IsRightPart, AreOf, IsRightLayout}
+use Rattle.sfi_image.proofs.Formats.{code_at_most}
+
+part_in_second : (p : Part) → IsRightPart p → IsRightPart (in_format Sfi2 p)
+part_in_second p right =
+    let most = code_at_most p.format in
+    let small = right.code_placed.at_most in
+    record {
+      words = record {
+        fields = record {
+          code_base = right.words.fields.code_base;
+          code_size = right.words.fields.code_size;
+          data_base = right.words.fields.data_base;
+          data_size = right.words.fields.data_size;
+          start = right.words.fields.start;
+          gate_count = right.words.fields.gate_count;
+          init_len = right.words.fields.init_len;
+        };
+        gates = right.words.gates;
+      };
+      code_placed = record {
+        power = right.code_placed.power;
+        size_is = right.code_placed.size_is;
+        at_least = right.code_placed.at_least;
+        at_most = omega arith;
+        multiple = right.code_placed.multiple;
+        base_is = right.code_placed.base_is;
+      };
+      data_placed = right.data_placed;
+      guard_room = right.guard_room;
+      start = right.start;
+      gate_count = right.gate_count;
+      init_len = right.init_len;
+      gates = right.gates;
+    }
+
+each_in_second : (ps : List Part) → All IsRightPart ps → All IsRightPart (all_in_format Sfi2 ps)
+each_in_second ps right = All-map IsRightPart (in_format Sfi2) ps (All-weaker IsRightPart (λ (p : Part). IsRightPart (in_format Sfi2 p)) part_in_second ps right)
+
+have_second : (ps : List Part) → AreOf Sfi2 (all_in_format Sfi2 ps)
+have_second [] k d below = absurd (omega arith)
+have_second (p ∷ ps) zero d below = refl
+have_second (p ∷ ps) (suc k) d below = have_second ps k d (omega (arith, below))
+
+are_of_second : (ps : List Part) → AreOf (format_of (all_in_format Sfi2 ps)) (all_in_format Sfi2 ps)
+are_of_second [] = λ k d below. absurd (omega arith)
+are_of_second (p ∷ ps) = have_second (p ∷ ps)
+
+-- spans know no format
+same_spans : (ps : List Part) → spans ps ≡ spans (all_in_format Sfi2 ps)
+same_spans [] = refl
+same_spans (p ∷ ps) = ap (λ (l : List Span). spans_of (fields_of p) ++ l) (same_spans ps)
+
+pub right_in_second : (ps : List Part) → IsRightLayout ps → IsRightLayout (all_in_format Sfi2 ps)
+right_in_second ps layout =
+    let count : length (all_in_format Sfi2 ps) ≡ length ps = length-map ps (in_format Sfi2) in
+    let low = layout.at_least_one in
+    let high = layout.at_most in
+    record {
+      at_least_one = omega arith;
+      at_most = omega arith;
+      one_format = are_of_second ps;
+      right = record {
+        each = each_in_second ps layout.right.each;
+        apart = subst (λ (l : List Span). AllPairs AreApart l) (same_spans ps) layout.right.apart;
+      };
+    }
