@@ -21,3 +21,4 @@ pub mod Tallying
 pub mod Leading
 pub mod Chains
 pub mod Judging
+pub mod Converted

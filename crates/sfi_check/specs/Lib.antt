@@ -10,3 +10,4 @@ pub mod Samples
 pub mod Verdict
 pub mod Tallies
 pub mod Streams
+pub mod Converting

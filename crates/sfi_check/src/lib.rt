@@ -6,6 +6,7 @@
 #![tactic(auto)]
 
 mod accepted;
+mod conversion;
 pub mod laws;
 pub mod needs;
 mod progress;
@@ -16,6 +17,7 @@ mod tally;
 mod verdict;
 
 pub use accepted::Accepted;
+pub use conversion::{ConvertFault, convert};
 pub use refusal::Refusal;
 pub use stream::check_stream;
 pub use stream_answer::StreamAnswer;

@@ -1,7 +1,8 @@
 //! The verdict on an image's bytes.
 ghost use Rattle.std.specs.Prelude.{List, IfOk, IfErr};
 ghost use Rattle.sfi_image.specs.declared.fault.LayoutFault.{LayoutFault};
-ghost use Rattle.sfi_image.specs.Spelling.{Part};
+ghost use Rattle.sfi_image.specs.Spelling.{Part, views};
+ghost use Rattle.sfi_image.specs.Parts.{IsRightLayout};
 ghost use Rattle.sfi_image.specs.Faults.{IsFault};
 ghost use Rattle.sfi_scan.specs.declared.finding.Finding.{Finding};
 ghost use Rattle.sfi_scan.specs.Findings.{AreImageFindings};
@@ -11,22 +12,33 @@ ghost use Rattle.sfi_check.specs.Verdict.{Judges, IsAccepted, HasFindings, Answe
 
 use crate::accepted::Accepted;
 use crate::refusal::Refusal;
-use sfi_image::{Image, one_reading, parse_image};
+use sfi_image::{Format, Image, SandboxPart, one_reading, parse_image};
 use sfi_scan::laws::one_image_list;
 use sfi_scan::{Finding, scan_part_as};
 use std::alloc::{AllocError, Global};
 
-/// The findings of all sandboxes, by sandbox and then by address.
-fn findings_of(alloc: Global, image: &Image<'_>) -> Result<Vec<Finding>, AllocError>
-    ensures { IfOk result (λ found. AreImageFindings image.now found.items) }
+/// The findings of the sandboxes of an image of this format, by sandbox and then by address.
+pub(crate) fn findings_as(
+    alloc: Global,
+    format: Format,
+    parts: &[SandboxPart<'_>],
+) -> Result<Vec<Finding>, AllocError>
+    requires { IsRightLayout (views format parts.now) }
+    ensures { IfOk result (λ found. AreImageFindings (views format parts.now) found.items) }
 {
-    let format = image.format();
     let mut found = Vec::new(alloc);
-    for (sandbox, part) in image.parts().iter().enumerate() {
+    for (sandbox, part) in parts.iter().enumerate() {
         let of_part = scan_part_as(alloc, format, sandbox as u32, part)?;
         found.extend_from_slice(&of_part)?;
     }
     Ok(found)
+}
+
+/// The findings of an image.
+fn findings_of(alloc: Global, image: &Image<'_>) -> Result<Vec<Finding>, AllocError>
+    ensures { IfOk result (λ found. AreImageFindings image.now found.items) }
+{
+    findings_as(alloc, image.format(), image.parts())
 }
 
 /// Accepts the image, or gives its findings.

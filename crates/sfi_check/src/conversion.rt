@@ -1,0 +1,110 @@
+//! From the first format to the second.
+ghost use Rattle.std.specs.Prelude.{◌≡◌, ℕ, List, IfOk, IfErr};
+ghost use Rattle.sfi_image.specs.declared.fault.LayoutFault.{LayoutFault};
+ghost use Rattle.sfi_image.specs.Faults.{IsFault};
+ghost use Rattle.sfi_scan.specs.declared.finding.Finding.{Finding};
+ghost use Rattle.sfi_check.specs.Verdict.{HasFindings};
+ghost use Rattle.sfi_check.specs.Converting.{number_of, IsSecond, HasStackFindings, IsConversion, AreOfStack, IfStack, IsConvertFault, Converts, AnswersNotOld, AnswersLayout, AnswersFindings, AnswersStack, AnswersConversion};
+
+use crate::accepted::Accepted;
+use crate::refusal::Refusal;
+use crate::verdict::{check, findings_as};
+use sfi_image::{Format, right_in_second, write_image_as};
+use sfi_scan::Finding;
+use sfi_scan::laws::{clean_breaks_stack_alone, one_image_list};
+use std::alloc::Global;
+use thiserror::Error;
+
+/// Why an image isn't converted.
+#[derive(Debug, Drop, Error)]
+pub enum ConvertFault {
+    /// The bytes are no accepted image: what `check` says of them.
+    #[error("{0}")]
+    Refused(Refusal),
+    /// They begin as an image of the second format does. This goes before all else.
+    #[error("NotOld")]
+    NotOld,
+    /// The image is accepted, but the same sandboxes break a rule of the second format: all these places, by sandbox and then by address.
+    #[error("broken rules of the second format")]
+    Stack(Vec<Finding>),
+    /// Memory ran out.
+    #[error("out of memory")]
+    Memory,
+}
+
+impl ConvertFault {
+    /// The fault's number, 1 to 4.
+    pub fn number(&self) -> u32
+        ensures { result ≡ number_of self.now }
+    {
+        match self {
+            ConvertFault::Refused(_) => 1,
+            ConvertFault::NotOld => 2,
+            ConvertFault::Stack(_) => 3,
+            ConvertFault::Memory => 4,
+        }
+    }
+}
+
+impl From<Refusal> for ConvertFault {
+    ghost use Rattle.sfi_check.specs.Converting.{fault_of};
+
+    ghost from_gives = { λ refusal fault. fault ≡ fault_of refusal };
+
+    fn from(refusal: Refusal) -> ConvertFault {
+        match refusal {
+            Refusal::Layout(fault) => ConvertFault::Refused(Refusal::Layout(fault)),
+            Refusal::Findings(found) => ConvertFault::Refused(Refusal::Findings(found)),
+            Refusal::Memory => ConvertFault::Memory,
+        }
+    }
+}
+
+/// The conversion of an accepted image, or its findings under the second format's rules.
+fn convert_accepted(alloc: Global, accepted: &Accepted<'_>) -> Result<Vec<u8>, ConvertFault>
+    ensures { Converts accepted.now result }
+{
+    // The law that the contract rests on: this call does nothing.
+    right_in_second();
+
+    let parts = accepted.image().parts();
+    let Ok(found) = findings_as(alloc, Format::Sfi2, parts) else {
+        return Err(ConvertFault::Memory);
+    };
+    if !found.is_empty() {
+        return Err(ConvertFault::Stack(found));
+    }
+    let Ok(bytes) = write_image_as(alloc, Format::Sfi2, parts) else {
+        return Err(ConvertFault::Memory);
+    };
+    Ok(bytes)
+}
+
+/// Makes of an accepted image of the first format that of the same sandboxes in the second, unless they break one of its rules.
+///
+/// What it makes is an accepted image: `check` refuses it for want of memory alone.
+pub fn convert(alloc: Global, bytes: &[u8]) -> Result<Vec<u8>, ConvertFault>
+    // What each answer means.
+    ensures converted { IfOk result (λ new. IsConversion bytes.now new.items) }
+    ensures fault { IfErr result (IsConvertFault bytes.now) }
+    ensures stack_alone { IfErr result (IfStack AreOfStack) }
+
+    // Which bytes get it, want of memory aside.
+    ensures only_not_old { IsSecond bytes.now → AnswersNotOld result }
+    ensures only_layout { (k : LayoutFault) → (¬ IsSecond bytes.now) → IsFault bytes.now k → AnswersLayout k result }
+    ensures only_findings { (found : List Finding) → (¬ IsSecond bytes.now) → HasFindings bytes.now found → AnswersFindings found result }
+    ensures only_stack { (found : List Finding) → HasStackFindings bytes.now found → AnswersStack found result }
+    ensures only_converted { (new : List ℕ) → IsConversion bytes.now new → AnswersConversion new result }
+{
+    // The laws that the contract rests on: these calls do nothing.
+    one_image_list();
+    clean_breaks_stack_alone();
+
+    if Format::Sfi2.begins(bytes) {
+        return Err(ConvertFault::NotOld);
+    }
+    match check(alloc, bytes) {
+        Ok(accepted) => convert_accepted(alloc, &accepted),
+        Err(refusal) => Err(ConvertFault::from(refusal)),
+    }
+}
