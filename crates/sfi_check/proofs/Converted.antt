@@ -1,6 +1,7 @@
 -- What a refusal is to a conversion, and which format an image begins with.
-use Rattle.std.proofs.Common.{◌≡◌, ℕ, List, [], ◌∷◌, ◌++◌, length, take, get_or, refl, sym, ap, ◌∙◌, arith}
+use Rattle.std.proofs.Common.{◌≡◌, ℕ, List, [], ◌∷◌, ◌++◌, take, get_or, refl, sym, ap, ◌∙◌, subst, arith}
 use Rattle.std.specs.Prelude.{Result, Ok, Err, Vec, IfOk, IfErr}
+use Rattle.std.specs.Result.{IsErrAnd}
 use Rattle.std.specs.Global.{Global}
 use Rattle.sfi_image.specs.declared.format.Format.{Format}
 use Rattle.sfi_image.specs.declared.format.Format.TheVariants.{Sfi1, Sfi2}
@@ -19,7 +20,7 @@ use Rattle.sfi_check.specs.Verdict.{IsAccepted, HasFindings}
 use Rattle.sfi_check.specs.declared.conversion.ConvertFault.{ConvertFault}
 use Rattle.sfi_check.specs.declared.conversion.ConvertFault.TheVariants as convert
 use Rattle.sfi_check.specs.declared.conversion.ConvertFault.TheVariants.{Refused, NotOld, Stack}
-use Rattle.sfi_check.specs.Converting.{IsSecond, IsConversion, IsConvertFault, IsStackOf, fault_of, AnswersLayout, AnswersFindings, AnswersStack, AnswersConversion}
+use Rattle.sfi_check.specs.Converting.{IsSecond, IsConversion, IsConvertFault, IsStackOf, Converts, fault_of, AnswersLayout, AnswersFindings, AnswersStack, AnswersConversion}
 
 -- ---- formats
 
@@ -91,13 +92,13 @@ converted_means bytes ps (Ok new) not is h = record { parts = ps; first = not_se
 converted_means bytes ps (Err e) not is h = tt
 
 pub stack_means : (bytes : List ℕ) (ps : List Part) (answer : Result (Vec ℕ Global) ConvertFault) → (IsSecond bytes → ⊥) → IsAccepted bytes ps
-    → IfErr answer (IsStackOf ps) → IfErr answer (IsConvertFault bytes)
+    → IfErr answer (IsStackOf (all_in_format Sfi2 ps)) → IfErr answer (IsConvertFault bytes)
 stack_means bytes ps (Ok new) not is h = tt
 stack_means bytes ps (Err (Refused r)) not is h = absurd h
 stack_means bytes ps (Err NotOld) not is h = absurd h
 stack_means bytes ps (Err (Stack found)) not is h = record { parts = ps; first = not_second_first bytes ps is not; accepted = is; found_are = h.0; some = h.1 }
 stack_means bytes ps (Err convert.Memory) not is h = tt
 
-pub none_there : (l : List Finding) → length l ≡ 0 → l ≡ []
-none_there [] e = refl
-none_there (x ∷ l) e = absurd (omega arith)
+pub fault_converts : (ps : List Part) (fault : ConvertFault) (answer : Result (Vec ℕ Global) ConvertFault) → IsErrAnd answer (λ e. e ≡ fault) → IsStackOf (all_in_format Sfi2 ps) fault → Converts ps answer
+fault_converts ps fault (Ok new) h is = absurd h
+fault_converts ps fault (Err e) h is = record { converted = tt; fault = subst (IsStackOf (all_in_format Sfi2 ps)) (sym h) is }

@@ -121,14 +121,19 @@ AnswersConversion new (Err Memory) = Unit {0}
 
 -- ---- for private contracts
 
--- the fault is that of these sandboxes' findings in the second format, or want of memory
+-- the fault is the findings of these sandboxes, of which there is at least one, or want of memory
 abbrev pub IsStackOf : List Part → ConvertFault → Type 0
 IsStackOf ps (Refused r) = ⊥
 IsStackOf ps NotOld = ⊥
-IsStackOf ps (Stack found) = AreImageFindings (all_in_format Sfi2 ps) found.items × (found.items ≢ [])
+IsStackOf ps (Stack found) = AreImageFindings ps found.items × (found.items ≢ [])
 IsStackOf ps Memory = Unit {0}
+
+-- these sandboxes break no rule, or the fault says which
+pub record ChecksStack (ps : List Part) (answer : Result (Unit {0}) ConvertFault) : Type 0 where
+  pub clean : IfOk answer (λ done. AreImageFindings ps [])
+  pub fault : IfErr answer (IsStackOf ps)
 
 -- the answer on the accepted image of these sandboxes
 pub record Converts (ps : List Part) (answer : Result (Vec ℕ Global) ConvertFault) : Type 0 where
   pub converted : IfOk answer (λ new. IsAccepted new.items (all_in_format Sfi2 ps))
-  pub fault : IfErr answer (IsStackOf ps)
+  pub fault : IfErr answer (IsStackOf (all_in_format Sfi2 ps))

@@ -1,15 +1,18 @@
 //! From the first format to the second.
 ghost use Rattle.std.specs.Prelude.{◌≡◌, ℕ, List, IfOk, IfErr};
 ghost use Rattle.sfi_image.specs.declared.fault.LayoutFault.{LayoutFault};
+ghost use Rattle.sfi_image.specs.declared.format.Format.TheVariants.{Sfi2};
+ghost use Rattle.sfi_image.specs.Spelling.{views};
+ghost use Rattle.sfi_image.specs.Parts.{IsRightLayout};
 ghost use Rattle.sfi_image.specs.Faults.{IsFault};
 ghost use Rattle.sfi_scan.specs.declared.finding.Finding.{Finding};
 ghost use Rattle.sfi_check.specs.Verdict.{HasFindings};
-ghost use Rattle.sfi_check.specs.Converting.{number_of, IsSecond, HasStackFindings, IsConversion, AreOfStack, IfStack, IsConvertFault, Converts, AnswersNotOld, AnswersLayout, AnswersFindings, AnswersStack, AnswersConversion};
+ghost use Rattle.sfi_check.specs.Converting.{number_of, IsSecond, HasStackFindings, IsConversion, AreOfStack, IfStack, IsConvertFault, ChecksStack, Converts, AnswersNotOld, AnswersLayout, AnswersFindings, AnswersStack, AnswersConversion};
 
 use crate::accepted::Accepted;
 use crate::refusal::Refusal;
 use crate::verdict::{check, findings_as};
-use sfi_image::{Format, right_in_second, write_image_as};
+use sfi_image::{Format, SandboxPart, right_in_second, write_image_as};
 use sfi_scan::Finding;
 use sfi_scan::laws::{clean_breaks_stack_alone, one_image_list};
 use std::alloc::Global;
@@ -60,6 +63,21 @@ impl From<Refusal> for ConvertFault {
     }
 }
 
+/// Refuses sandboxes that break a rule of the second format.
+fn check_stack(alloc: Global, parts: &[SandboxPart<'_>]) -> Result<(), ConvertFault>
+    requires { IsRightLayout (views Sfi2 parts.now) }
+    ensures { ChecksStack (views Sfi2 parts.now) result }
+{
+    let Ok(found) = findings_as(alloc, Format::Sfi2, parts) else {
+        return Err(ConvertFault::Memory);
+    };
+    if found.is_empty() {
+        Ok(())
+    } else {
+        Err(ConvertFault::Stack(found))
+    }
+}
+
 /// The conversion of an accepted image, or its findings under the second format's rules.
 fn convert_accepted(alloc: Global, accepted: &Accepted<'_>) -> Result<Vec<u8>, ConvertFault>
     ensures { Converts accepted.now result }
@@ -68,12 +86,7 @@ fn convert_accepted(alloc: Global, accepted: &Accepted<'_>) -> Result<Vec<u8>, C
     right_in_second();
 
     let parts = accepted.image().parts();
-    let Ok(found) = findings_as(alloc, Format::Sfi2, parts) else {
-        return Err(ConvertFault::Memory);
-    };
-    if !found.is_empty() {
-        return Err(ConvertFault::Stack(found));
-    }
+    check_stack(alloc, parts)?;
     let Ok(bytes) = write_image_as(alloc, Format::Sfi2, parts) else {
         return Err(ConvertFault::Memory);
     };
