@@ -16,7 +16,7 @@ use Rattle.sfi_host.specs.Regions.{IsWhole}
 use Rattle.sfi_host.specs.Slots.{Bounds, bounds_of}
 use Rattle.sfi_host.specs.Hosts.{Way, Replied, Yield, Exit}
 use Rattle.sfi_host.specs.Joint.{with_arguments, after_way, status_after}
-use Rattle.sfi_host.specs.Laws.{AnswersAreReplies}
+use Rattle.sfi_host.specs.Laws.{CallsHaveStack, AnswersAreReplies}
 use Rattle.sfi_host.specs.Worlds.{Seat, machine_of, IsSafeSeat, StaysOutside, with_guards}
 
 -- ---- the regions of one sandbox
@@ -71,13 +71,17 @@ module _ (m : Bytes) (s : Seat) (seat : IsSafeSeat m s) where
     is_reply size stands n h stays state pc reserved stack =
         record { size = size; asked = stands; state = state; pc = pc; reserved = reserved; stack = stack; bytes = own_kept n stays }
 
-    -- where a stack pointer lies at a call it lies behind it
-    pub stack_kept : s.status ≡ Ready → (size : ℕ) → Stands (machine_of m s) Ecall size → (h : Hart) → slice_index h.registers 2 ≡ slice_index s.hart.registers 2 → HasStack p h.registers
-    stack_kept ready size stands h same has =
+    -- a ready sandbox that stands at an ecall has its stack pointer in its data
+    pub stack_lies : s.status ≡ Ready → (size : ℕ) → Stands (machine_of m s) Ecall size → HasStack p s.hart.registers
+    stack_lies ready size stands has =
         let same_bounds : bounds_of seat.part ≡ bounds_of p = sym seat.bounds ∙ is in
         let has' : has_stack seat.part.format ≡ true = ap (λ (b : Bounds). has_stack b.format) same_bounds ∙ has in
         let inside : InData seat.part (slice_index s.hart.registers 2) = (seat.safe ready).calls.lies [] (machine_of m s) size tt refl stands has' in
-        subst (λ (a : ℕ). InData p a) (sym same) (subst (λ (b : Bounds). Holds b.data (slice_index s.hart.registers 2)) same_bounds inside)
+        subst (λ (b : Bounds). Holds b.data (slice_index s.hart.registers 2)) same_bounds inside
+
+    -- where a stack pointer lies at a call it lies after it
+    pub stack_kept : HasStack p s.hart.registers → (h : Hart) → slice_index h.registers 2 ≡ slice_index s.hart.registers 2 → HasStack p h.registers
+    stack_kept lies h same has = subst (λ (a : ℕ). InData p a) (sym same) (lies has)
 
   -- ---- a change by others
 
@@ -111,7 +115,7 @@ module _ (m : Bytes) (s : Seat) (seat : IsSafeSeat m s) where
     guards = λ a guard. (own_kept seat.part seat.bounds n stays).guards a guard (seat.guards a guard);
     has_data = whole;
     safe = λ still. on seat.part (machine_of m s) (record { hart = h; memory = n }) (Replies (record { hart = h; memory = n })) (seat.safe ready)
-        (is_reply seat.part seat.bounds size stands n h stays (record { hart = hart; memory = memory }) pc reserved (stack_kept seat.part seat.bounds ready size stands h stack)) refl;
+        (is_reply seat.part seat.bounds size stands n h stays (record { hart = hart; memory = memory }) pc reserved (stack_kept seat.part seat.bounds (stack_lies seat.part seat.bounds ready size stands) h stack)) refl;
   }
 
   -- one that has stopped is safe, whatever its registers hold
@@ -159,8 +163,11 @@ way_pc Yield h a0 a1 goes_on = refl
 way_pc (Exit n) h a0 a1 goes_on = absurd (cc)
 
 pub answers_are : AnswersAreReplies
-answers_are m s r after size p seat is ready stands goes_on state hart stays =
+answers_are m s r after size p seat is stack stands goes_on state hart stays =
     is_reply m s seat p is size stands after.memory after.hart stays state
     (ap (λ (h : Hart). h.pc) hart ∙ way_pc r.way s.hart r.a0 r.a1 goes_on)
     (subst (λ (h : Hart). KeepsReserved s.hart h) (sym hart) (way_keeps r.way s.hart r.a0 r.a1 goes_on))
-    (stack_kept m s seat p is ready size stands after.hart (ap (λ (h : Hart). slice_index h.registers 2) hart ∙ way_stack r.way s.hart r.a0 r.a1 goes_on))
+    (stack_kept m s seat p is stack after.hart (ap (λ (h : Hart). slice_index h.registers 2) hart ∙ way_stack r.way s.hart r.a0 r.a1 goes_on))
+
+pub calls_have : CallsHaveStack
+calls_have m s size p seat is ready stands = stack_lies m s seat p is ready size stands

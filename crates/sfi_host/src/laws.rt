@@ -1,5 +1,5 @@
 //! What holds of the definitions and of every run. A call costs nothing.
-ghost use Rattle.sfi_host.specs.Laws.{SomeMachine, OneMachine, NeighboursAreChanges, AnswersAreReplies};
+ghost use Rattle.sfi_host.specs.Laws.{SomeMachine, OneMachine, NeighboursAreChanges, CallsHaveStack, AnswersAreReplies};
 ghost use Rattle.sfi_host.specs.Solo.{JointIsSolo};
 ghost use Rattle.sfi_host.specs.Steps.{StepsAreOwn};
 
@@ -42,8 +42,13 @@ pub fn neighbours_are_changes()
     ensures { NeighboursAreChanges }
 {}
 
-/// A host's reply to a sandbox that goes on, where the memory outside its data stays, keeps its x24 to x27, code and empty guard zones,
-/// and goes on behind the ecall.
+/// A sandbox of a safe world that is ready and stands at an ecall has its stack pointer in its data, where its format has one.
+pub fn calls_have_stack()
+    ensures { CallsHaveStack }
+{}
+
+/// A host's reply to a sandbox that goes on, where the memory outside its data stays, keeps its x24 to x27, its stack pointer in its
+/// data, its code and empty guard zones, and goes on after the ecall.
 pub fn answers_are_replies()
     ensures { AnswersAreReplies }
 {}

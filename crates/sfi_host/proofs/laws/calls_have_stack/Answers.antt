@@ -1,0 +1,5 @@
+use Rattle.sfi_host.proofs.Keeping.{calls_have}
+use Rattle.sfi_host.proofs.laws.calls_have_stack.Goals as goal
+
+pub returns : goal.returns
+returns c = calls_have
