@@ -57,9 +57,13 @@ impl<M: Memory> World<M> {
         ensures seats { IfOk result (λ w. w.seats ≡ map first_seat accepted.now) }
         ensures bytes { IfOk result (λ w. w.bytes ≡ with_parts empty accepted.now) }
 
-        // What that comes to: each sandbox is where it may be entered, so its code is the image's and its guard zones are empty.
+        // What that comes to: each sandbox is where it may be entered, so its code is the image's, its guard zones are empty, and where
+        // its format has a stack pointer, that lies in its data.
         ensures entered { IfOk result (λ w. AreEntered accepted.now w.bytes) }
         ensures first_data { IfOk result (λ w. HaveFirstData accepted.now w.bytes) }
+
+        // Each sandbox is safe, and its data lie outside each other one: the premise of the laws on steps and neighbours.
+        ensures safe { IfOk result (λ w. IsSafeWorld w) }
     {
         // The laws that the contract rests on: these calls do nothing.
         addresses_are_these();
@@ -86,6 +90,9 @@ impl<M: Memory> World<M> {
             → IsJoint machine G.answer plan.now (slots_of self.old) gates.old (slots_of self.new) gates.new }
         ensures memory { (turn : ℕ) → result ≡ RunAnswer.Memory turn → (machine : Machine) → IsMachine machine
             → IsCutJoint machine G.answer G.may_refuse plan.now (slots_of self.old) gates.old turn (slots_of self.new) gates.new }
+
+        // Each sandbox is safe as before, and its data lie outside each other one.
+        ensures safe { IsSafeWorld self.new }
     {
         take_turns(
             &mut self.memory,

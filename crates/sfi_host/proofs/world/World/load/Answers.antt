@@ -60,3 +60,17 @@ returns-clause-first_data g c =
     let memory : IsMemory (with_parts empty ps) = subst (λ (m : Bytes). IsMemory m) bytes (g.met.M.Memory.in_range c.load_parts.new.memory) in
     let laws : Laws = record { these = c.addresses_are_these.ensures; stay = c.others_stay.ensures; written = c.written_is_there.ensures; ends = c.code_ends.ensures } in
     subst (λ (m : Bytes). HaveFirstData ps m) (sym bytes) (first_data_there laws ps c.image-image.ensures.clean.layout memory)
+
+pub returns-clause-safe : goal.returns-clause-safe
+returns-clause-safe g c =
+    let ps = c.args.accepted.now in
+    let parts : views c.format.result c.parts.result.now ≡ ps = ap (λ (f : Format). views f c.parts.result.now) c.format.ensures ∙ c.parts.ensures.parts ∙ c.image-image.ensures.image in
+    let n = g.M.Memory.bytes c.load_parts.new.memory in
+    let bytes : n ≡ with_parts empty ps =
+    c.in_ok-sandboxes.ensures.bytes ∙ ap (λ (m : Bytes). with_parts m (views c.format.result c.parts.result.now)) c.requires ∙ ap (λ (qs : List Part). with_parts empty qs) parts in
+    let memory : IsMemory (with_parts empty ps) = subst (λ (m : Bytes). IsMemory m) bytes (g.met.M.Memory.in_range c.load_parts.new.memory) in
+    let laws : Laws = record { these = c.addresses_are_these.ensures; stay = c.others_stay.ensures; written = c.written_is_there.ensures; ends = c.code_ends.ensures } in
+    let seats : seats_of c.in_ok-sandboxes.sandboxes.items ≡ map first_seat ps = c.in_ok-sandboxes.ensures.seats ∙ ap (λ (qs : List Part). map first_seat qs) parts in
+    subst (λ (m : Bytes). IsSafeWorld (record { bytes = m; seats = seats_of c.in_ok-sandboxes.sandboxes.items })) (sym bytes)
+    (subst (λ (all : List Seat). IsSafeWorld (record { bytes = with_parts empty ps; seats = all })) (sym seats)
+    (world_safe laws ps c.image-image.ensures.clean.layout memory c.image-image.ensures.safe c.image-image.ensures.calls))
