@@ -1,0 +1,63 @@
+"""How the benchmarks run and measure programs."""
+import os
+import re
+import subprocess
+import sys
+
+HERE = os.path.dirname(os.path.abspath(__file__))
+PROGRAM = os.path.join(os.path.dirname(HERE), "crates", "sfi", "out", "sfi")
+
+
+def program_at(path):
+    """That program, where it is built."""
+    if not os.access(path, os.X_OK):
+        sys.exit(f"bench: no program {path}: run ./sfi check <examples/smallest.hex first")
+    return os.path.abspath(path)
+
+
+def compiled(source, target, *options):
+    """The path of what gcc -O2 makes of a C source, of this folder if no other is named."""
+    subprocess.run(["gcc", "-O2", *options, "-o", target, os.path.join(HERE, source)], check=True)
+    return target
+
+
+def written(path, data):
+    """The path of a new file with these bytes."""
+    with open(path, "wb") as file:
+        file.write(data)
+    return path
+
+
+def run(words, path):
+    """What a program prints when it reads that file, and the seconds of processor time that it takes."""
+    with open(path, "rb") as file:
+        process = subprocess.Popen(words, stdin=file, stdout=subprocess.PIPE, stderr=subprocess.DEVNULL)
+        output = process.stdout.read()
+        _, status, usage = os.wait4(process.pid, 0)
+        process.returncode = os.waitstatus_to_exitcode(status)
+    return output.decode(), usage.ru_utime + usage.ru_stime
+
+
+def medians(commands, rounds):
+    """For each name of a command, words and a file, the median time: the commands are run one after another, so many rounds."""
+    times = {name: [] for name in commands}
+    for _ in range(rounds):
+        for name, (words, path) in commands.items():
+            times[name].append(run(words, path)[1])
+    return {name: sorted(taken)[rounds // 2] for name, taken in times.items()}
+
+
+def instructions(words, path):
+    """How many x86 instructions a program executes when it reads that file."""
+    tool = ["valgrind", "--tool=callgrind", "--callgrind-out-file=/dev/null"]
+    with open(path, "rb") as file:
+        done = subprocess.run(tool + words, stdin=file, stdout=subprocess.DEVNULL, stderr=subprocess.PIPE, check=False)
+    return int(re.search(rb"Collected : (\d+)", done.stderr).group(1))
+
+
+def peak(words, path):
+    """The most KiB of memory that a program has resident when it reads that file, by GNU time: Python's own would be counted in its child's."""
+    with open(path, "rb") as file:
+        tool = ["/usr/bin/time", "-f", "%M"]
+        done = subprocess.run(tool + words, stdin=file, stdout=subprocess.DEVNULL, stderr=subprocess.PIPE, check=False)
+    return int(done.stderr.split()[-1])
