@@ -1,5 +1,7 @@
 mod halfwords;
+mod machine;
 mod memories;
+mod sources;
 mod steps;
 mod texts;
 mod words;

@@ -21,8 +21,6 @@ mod reading;
 mod reserved;
 mod source;
 mod span;
-#[cfg(test)]
-mod tests;
 mod want;
 mod writing;
 

@@ -1,4 +1,5 @@
-use super::*;
+//! Images as bytes and as parts, and the names of their faults.
+use sfi_image::{Format, Gate, ImageFault, LayoutFault, parse_image, write_image, write_image_as};
 use std::alloc::Global;
 use std::test::Fail;
 
