@@ -7,7 +7,7 @@ ghost use Rattle.sfi_host.specs.Regions.{span_of, is_in, bytes_in, IsWhole};
 use rv_mem::{Memory, Width};
 
 /// So many addresses from a first one on.
-#[derive(Clone, Copy, Debug)]
+#[derive(Clone, Copy)]
 pub struct Region {
     pub base: u32,
     pub size: u32,

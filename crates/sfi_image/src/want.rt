@@ -30,7 +30,7 @@ pub enum Want {
 }
 
 /// What a reader reads next.
-#[derive(Clone, Copy, Debug, PartialEq, Eq)]
+#[derive(Clone, Copy, Debug)]
 pub(crate) enum Next {
     Magic,
     Count,

@@ -17,7 +17,7 @@ const STRIDE: u32 = 0x0100_0000;
 const DATA_OFFSET: u32 = 0x0080_0000;
 
 /// Where the regions of a sandbox begin.
-#[derive(Clone, Copy, Debug)]
+#[derive(Clone, Copy)]
 pub struct Bases {
     /// The first address of the code, at which the gates' stubs lie.
     pub code: u32,
