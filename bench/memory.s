@@ -16,8 +16,8 @@ loop:   lw   a1, 0(s0)
         lb   a5, 1(s0)
         sb   a4, 12(s0)
         sb   a5, 13(s0)
-        lw   a6, 8(s0)
-        xor  a1, a1, a6
+        lw   a6, 12(s0)
+        add  a1, a1, a6
         sw   a1, 16(s0)
         addi s0, s0, 16
         addi t0, t0, -1

@@ -5,12 +5,14 @@
 
 Builds compute.s, memory.s and mixed.s by `sfi build`, each as one sandbox and as 16, and runs them in turns of 100000 steps;
 it ends where the programs' lines differ. It prints million steps a second, by the medians of N alternated runs of 96 million
-steps, and x86 instructions for a step.
+steps, and x86 instructions for a step. Then it prints what `sfi run` takes to load larger and larger images, for one step a
+sandbox: million x86 instructions, seconds, and the peak of resident memory.
 """
 import argparse
 import os
 import tempfile
 
+import images
 import measure
 
 NAMES = ["compute", "memory", "mixed"]
@@ -20,12 +22,13 @@ TIMED = 96_000_000
 COUNTED = 1_600_000
 
 
-def commands(program, interpreter, turns):
-    """By name, the words that give each sandbox so many turns."""
+def commands(program, interpreter, steps, sandboxes=1):
+    """By name, the words that run an image of so many sandboxes for so many steps in all."""
+    rounds = str(steps // QUANTUM // sandboxes)
     return {
-        "`sfi run`": [program, "run", "--rounds", str(turns), "--quantum", str(QUANTUM)],
-        "C, each step": [interpreter, "each", str(turns), str(QUANTUM)],
-        "C, once": [interpreter, "once", str(turns), str(QUANTUM)],
+        "`sfi run`": [program, "run", "--rounds", rounds, "--quantum", str(QUANTUM)],
+        "C, each step": [interpreter, "each", rounds, str(QUANTUM)],
+        "C, once": [interpreter, "once", rounds, str(QUANTUM)],
     }
 
 
@@ -34,26 +37,31 @@ def build(program, name, sandboxes, folder):
     with open(os.path.join(measure.HERE, name + ".s"), "rb") as source:
         text = measure.written(os.path.join(folder, name + ".s"), source.read() * sandboxes)
     image, _ = measure.run([program, "build"], text)
-    return measure.written(os.path.join(folder, f"{name}{sandboxes}.hex"), image.encode())
+    return measure.written(os.path.join(folder, name + ".hex"), image.encode())
 
 
-def per_step(few, more, image):
-    """x86 instructions for a step, by two runs whose steps differ by COUNTED."""
-    return (measure.instructions(more, image) - measure.instructions(few, image)) / COUNTED
-
-
-def print_row(title, image, steps_of, rounds):
-    """steps_of: the commands for so many steps in all."""
-    timed, few, more = steps_of(TIMED), steps_of(COUNTED), steps_of(2 * COUNTED)
+def print_speed(program, interpreter, name, sandboxes, rounds, folder):
+    image = build(program, name, sandboxes, folder)
+    timed, few, more = (commands(program, interpreter, steps, sandboxes) for steps in [TIMED, COUNTED, 2 * COUNTED])
     if len({measure.run(words, image)[0] for words in timed.values()}) != 1:
-        raise SystemExit(f"bench: {title}: the lines differ")
-    times = measure.medians({name: (words, image) for name, words in timed.items()}, rounds)
-    ours = times["`sfi run`"]
-    cells = [title]
-    for name, taken in times.items():
-        cells.append(f"{TIMED / taken / 1e6:.0f}, {per_step(few[name], more[name], image):.0f}")
-    cells += [f"{ours / taken:.2f}" for name, taken in times.items() if taken is not ours]
+        raise SystemExit(f"bench: {name}, {sandboxes}: the lines differ")
+    times = measure.medians({way: (words, image) for way, words in timed.items()}, rounds)
+    cells = [f"{name}, {sandboxes}"]
+    for way, seconds in times.items():
+        per_step = (measure.instructions(more[way], image) - measure.instructions(few[way], image)) / COUNTED
+        cells.append(f"{TIMED / seconds / 1e6:.0f}, {per_step:.0f}")
+    ours, *others = times.values()
+    cells += [f"{ours / other:.2f}" for other in others]
     print("|", " | ".join(cells), "|", flush=True)
+
+
+def print_load(program, shape, rounds, folder):
+    data = images.image("pairs", *shape)
+    text = measure.written(os.path.join(folder, "text"), images.as_text(data))
+    words = [program, "run", "--quantum", "1"]
+    seconds = measure.medians({"run": (words, text)}, rounds)["run"]
+    millions = measure.instructions(words, text) / 1e6
+    print(f"| {len(data):,} | {millions:.1f} | {seconds:.3f} | {measure.peak(words, text):,} |", flush=True)
 
 
 def main():
@@ -62,14 +70,15 @@ def main():
     parser.add_argument("--rounds", type=int, default=5)
     options = parser.parse_args()
     program = measure.program_at(options.program)
-    print("| source, sandboxes |", " | ".join(commands("", "", 0)), "| to each step | to once |")
     with tempfile.TemporaryDirectory() as folder:
         interpreter = measure.compiled("interpreter.c", os.path.join(folder, "interpreter"))
+        print("| source, sandboxes |", " | ".join(commands(program, interpreter, 0)), "| to each step | to once |")
         for name in NAMES:
             for sandboxes in SANDBOXES:
-                image = build(program, name, sandboxes, folder)
-                turn = QUANTUM * sandboxes
-                print_row(f"{name}, {sandboxes}", image, lambda steps: commands(program, interpreter, steps // turn), options.rounds)
+                print_speed(program, interpreter, name, sandboxes, options.rounds, folder)
+        print("| bytes of image | million instructions | seconds | KiB |")
+        for shape in images.SIZES:
+            print_load(program, shape, options.rounds, folder)
 
 
 if __name__ == "__main__":

@@ -1,27 +1,13 @@
-#!/usr/bin/env python3
-"""How fast `sfi check` is, beside one linear pass over the same bytes.
-
-    bench/bench.py [ROUNDS]        (the program must be built: run ./sfi once)
-
-It makes an image of 16 sandboxes with 64 KiB of accepted code each, of each kind of code below, repeats nothing of it, and
-runs the program and bench/pass.c (by gcc -O2) on its text in turn, ROUNDS times each, 5 if left out. It prints the medians
-in megabytes of image a second (10^6 bytes), and the ratio: how many times as long the program takes.
-"""
-import os
+"""Accepted images for measuring: sandboxes full of random code of one kind."""
 import random
 import struct
-import subprocess
-import sys
-import tempfile
-import time
 
-TOP = os.path.dirname(os.path.dirname(os.path.abspath(__file__)))
-CODE_SIZE = 65536
-DATA_SIZE = 1048576
-SANDBOXES = 16
+# mixed: accesses and indirect jumps after their pairs, branches, jumps, computations of both lengths; wide: 32-bit computations
+# alone; short: 16-bit forms alone; pairs: in each bundle one access after its pair, and one computation.
+KINDS = ["mixed", "wide", "short", "pairs"]
 
-# Registers that no rule reserves, and that are not x0.
-FREE = [r for r in range(1, 32) if not 24 <= r <= 27]
+# From the smallest image to the largest: how many sandboxes, the bytes of code and the first bytes of data of each, and the format.
+SIZES = [(1, 256, 0, 1), (1, 65536, 0, 1), (16, 65536, 0, 1), (16, 65536, 1048576, 1), (16, 1048576, 1048576, 2)]
 
 
 def r_word(funct7, rs2, rs1, funct3, rd):
@@ -35,11 +21,14 @@ def i_word(imm, rs1, funct3, rd, opcode):
 class Code:
     """Makes bundles: each method gives whole bytes of accepted code."""
 
-    def __init__(self, seed):
+    def __init__(self, seed, size, format):
         self.random = random.Random(seed)
+        self.size = size
+        # Registers that no rule reserves, and that are not x0.
+        self.free = [r for r in range(1, 32) if not 24 <= r <= 27 and (format, r) != (2, 2)]
 
     def register(self):
-        return self.random.choice(FREE)
+        return self.random.choice(self.free)
 
     def computation(self):
         pick = self.random
@@ -76,12 +65,19 @@ class Code:
         target, pair = self.pair(25, 24)
         return pair + i_word(0, target, 0, self.random.choice([0, 1]), 0x67)
 
+    def offset(self, at):
+        """from at to a bundle start at most 100 bundles away"""
+        return min(max(at // 16 + self.random.randrange(-100, 100), 0), self.size // 16 - 1) * 16 - at
+
     def branch(self, at):
-        """beq to a bundle start at most 100 bundles away"""
-        to = min(max(at // 16 + self.random.randrange(-100, 100), 0), CODE_SIZE // 16 - 1) * 16
-        o = (to - at) & 0x1FFF
+        o = self.offset(at) & 0x1FFF
         word = (o >> 12) << 31 | (o >> 5 & 63) << 25 | (o >> 1 & 15) << 8 | (o >> 11 & 1) << 7 | 0x63
         return struct.pack("<I", self.register() << 20 | self.register() << 15 | word)
+
+    def jump(self, at):
+        o = self.offset(at) & 0x1FFFFF
+        word = (o >> 20) << 31 | (o >> 1 & 0x3FF) << 21 | (o >> 11 & 1) << 20 | (o >> 12 & 0xFF) << 12 | 0x6F
+        return struct.pack("<I", self.random.choice([0, 1]) << 7 | word)
 
     def bundle(self, kind, at):
         if kind == "wide":
@@ -95,62 +91,27 @@ class Code:
             return self.access() + self.short() + self.short()
         if pick < 0.5:
             return self.indirect_jump() + self.computation()
-        if pick < 0.7:
+        if pick < 0.65:
             return self.computation() + self.short() + self.short() + self.computation() + self.branch(at + 12)
+        if pick < 0.75:
+            return self.computation() + self.computation() + self.short() + self.short() + self.jump(at + 12)
         return self.short() + self.computation() + self.computation() + self.computation() + self.short()
 
 
-def image(kind):
-    out = [b"SFI1", struct.pack("<I", SANDBOXES)]
-    for n in range(SANDBOXES):
-        code = Code(n)
+def image(kind, sandboxes=16, code_size=65536, init=0, format=1):
+    """The bytes of an image with that many sandboxes, each with that much code, 1 MiB of data, and that many first data bytes."""
+    out = [b"SFI%d" % format, struct.pack("<I", sandboxes)]
+    for n in range(sandboxes):
+        code = Code(n, code_size, format)
         code_base = 0x01000000 * (n + 1)
-        bundles = [code.bundle(kind, 16 * k) for k in range(CODE_SIZE // 16 - 1)]
+        bundles = [code.bundle(kind, at) for at in range(0, code_size - 16, 16)]
         bundles.append(struct.pack("<H", 0x9002) * 8)  # c.ebreak: control can't run off the end
-        text = b"".join(bundles)
-        assert len(text) == CODE_SIZE
-        out.append(struct.pack("<7I", code_base, CODE_SIZE, code_base + 0x800000, DATA_SIZE, code_base, 0, 0) + text)
+        out.append(struct.pack("<7I", code_base, code_size, code_base + 0x800000, 1048576, code_base, 0, init))
+        out += bundles
+        out.append(bytes(init))
     return b"".join(out)
 
 
-def seconds(words, path):
-    with open(path, "rb") as text:
-        start = time.perf_counter()
-        done = subprocess.run(words, stdin=text, capture_output=True, check=False)
-        return time.perf_counter() - start, done.stdout.decode().strip()
-
-
-def median(xs):
-    return sorted(xs)[len(xs) // 2]
-
-
-def main():
-    rounds = int(sys.argv[1]) if len(sys.argv) > 1 else 5
-    program = os.path.join(TOP, "crates", "sfi", "out", "sfi")
-    if not os.access(program, os.X_OK):
-        sys.exit("bench: no program: run ./sfi check <examples/smallest.hex first")
-    with tempfile.TemporaryDirectory() as folder:
-        linear = os.path.join(folder, "pass")
-        subprocess.run(["gcc", "-O2", "-o", linear, os.path.join(TOP, "bench", "pass.c")], check=True)
-        for kind in ["mixed", "wide", "short", "pairs"]:
-            data = image(kind)
-            path = os.path.join(folder, kind + ".hex")
-            with open(path, "w") as text:
-                text.writelines(data[k : k + 32].hex() + "\n" for k in range(0, len(data), 32))
-            times = {"sfi": [], "pass": []}
-            for _ in range(rounds):
-                taken, verdict = seconds([program, "check"], path)
-                if not verdict.startswith("accepted"):
-                    sys.exit(f"bench: {kind}: {verdict}")
-                times["sfi"].append(taken)
-                times["pass"].append(seconds([linear], path)[0])
-            check, linear_pass = median(times["sfi"]), median(times["pass"])
-            size = len(data) / 1e6
-            print(
-                f"{kind}: sfi check {size / check:.1f} MB/s, linear pass {size / linear_pass:.1f} MB/s, "
-                f"ratio {check / linear_pass:.2f}"
-            )
-
-
-if __name__ == "__main__":
-    main()
+def as_text(data):
+    """The image as hexadecimal digits, in lines of 64."""
+    return "".join(data[k : k + 32].hex() + "\n" for k in range(0, len(data), 32)).encode()

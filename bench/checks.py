@@ -1,0 +1,84 @@
+#!/usr/bin/env python3
+"""How fast `sfi check` is and how much memory it takes, on an image's text and on a stream of its bytes.
+
+    bench/checks.py [--program PATH] [--rounds N] [--checker FILE]
+
+Makes an image of 16 sandboxes with 64 KiB of accepted code each, of each kind of images.py. It prints megabytes (10^6) of image a
+second, by the medians of N alternated runs, and x86 instructions for a bundle. Beside `check` and `check --raw` stands one linear
+pass over the same text (pass.c); and, with --checker, a checker of the first format in one C file, which is no part of this
+repository: as it is, and with -DFAST. Then it prints the peak of resident memory over larger and larger images.
+"""
+import argparse
+import os
+import tempfile
+
+import images
+import measure
+
+
+def commands_of(program, folder, checker):
+    """By name, a command's words and which file it reads: raw, the bytes of an image, or text."""
+    commands = {
+        "`check`": ([program, "check"], "text"),
+        "`check --raw`": ([program, "check", "--raw"], "raw"),
+        "linear pass": ([measure.compiled("pass.c", os.path.join(folder, "pass"))], "text"),
+    }
+    for name, options in [("C, switches", []), ("C, class table", ["-DFAST"])] if checker else []:
+        built = measure.compiled(os.path.abspath(checker), os.path.join(folder, name), "-w", *options)
+        commands[name] = ([built, os.path.join(folder, "raw")], "raw")
+    return {name: (words, os.path.join(folder, form)) for name, (words, form) in commands.items()}
+
+
+def write_image(folder, *what):
+    """Writes the two files of an image, and says how many bytes it has."""
+    data = images.image(*what)
+    measure.written(os.path.join(folder, "raw"), data)
+    measure.written(os.path.join(folder, "text"), images.as_text(data))
+    return len(data)
+
+
+def expect_verdicts(commands):
+    for name, command in commands.items():
+        printed, _ = measure.run(*command)
+        if name != "linear pass" and printed != "accepted sandboxes=16 bundles=65536\n":
+            raise SystemExit(f"bench: {name}: {printed}")
+
+
+def print_speeds(commands, folder, rounds):
+    print("| image |", " | ".join(commands), "|")
+    for kind in images.KINDS:
+        write_image(folder, kind, 8)
+        half = {name: measure.instructions(*command) for name, command in commands.items()}
+        size = write_image(folder, kind, 16)
+        expect_verdicts(commands)
+        times = measure.medians(commands, rounds)
+        cells = [kind]
+        for name, command in commands.items():
+            per_bundle = (measure.instructions(*command) - half[name]) / (8 * 65536 / 16)
+            cells.append(f"{size / times[name] / 1e6:.0f}, {per_bundle:.0f}")
+        print("|", " | ".join(cells), "|", flush=True)
+
+
+def print_peaks(commands, folder):
+    print("| bytes of image | bytes of text | `check` | `check --raw` |")
+    for shape in images.SIZES:
+        size = write_image(folder, "pairs", *shape)
+        peaks = [measure.peak(*commands[name]) for name in ["`check`", "`check --raw`"]]
+        text_size = os.path.getsize(os.path.join(folder, "text"))
+        print("|", " | ".join(f"{n:,}" for n in [size, text_size] + peaks), "|", flush=True)
+
+
+def main():
+    parser = argparse.ArgumentParser()
+    parser.add_argument("--program", default=measure.PROGRAM)
+    parser.add_argument("--rounds", type=int, default=15)
+    parser.add_argument("--checker")
+    options = parser.parse_args()
+    with tempfile.TemporaryDirectory() as folder:
+        commands = commands_of(measure.program_at(options.program), folder, options.checker)
+        print_speeds(commands, folder, options.rounds)
+        print_peaks(commands, folder)
+
+
+if __name__ == "__main__":
+    main()
