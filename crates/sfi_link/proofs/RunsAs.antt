@@ -1,7 +1,7 @@
 -- Each item of a source does in the image what its instruction does.
-use Rattle.std.proofs.Common.{◌≡◌, ℕ, ◌+◌, ◌*◌, ◌^◌, ◌<◌, ◌≤◌, List, [], ◌∷◌, ◌++◌, length, length-append, replicate, Some, Bool, true, false, refl, sym, ap, ◌∙◌, subst, arith, append_assoc, inl, inr}
-use Rattle.std.specs.Prelude.{slice_index, pos, ℤ, negsuc, zero, suc, ◌-ℤ◌, MatchBool}
-use Rattle.std.specs.List.{repeat}
+use Rattle.std.proofs.Common.{◌≡◌, Vec, Global, ℕ, ◌+◌, ◌*◌, ◌^◌, ◌<◌, ◌≤◌, List, [], ◌∷◌, ◌++◌, length, length-append, replicate, Some, Bool, true, false, refl, sym, ap, ◌∙◌, subst, arith, append_assoc, inl, inr}
+use Rattle.std.specs.Prelude.{slice_index, pos, ℤ, negsuc, zero, suc, ◌-ℤ◌, MatchBool, Result, Ok, Err, IfOk, slice_get}
+use Rattle.std.specs.List.{repeat, All}
 use Rattle.std.proofs.lemmas.List.{get_or_append_left, get_or-append-add}
 use Rattle.rv_word.specs.declared.instr.Instr.{Instr}
 use Rattle.rv_word.specs.declared.instr.Instr.TheVariants.{Op, OpImm, Load, Store, Branch, Jal, Jalr, Lui, Auipc, Fence, Ecall, Ebreak}
@@ -11,9 +11,14 @@ use Rattle.rv_mem.specs.Laws.{Holds}
 use Rattle.rv_text.specs.Constants.{upper, lower}
 use Rattle.rv_text.specs.declared.item.Body.{Body}
 use Rattle.rv_text.specs.declared.item.Body.TheVariants.{Plain, To, High, Low}
-use Rattle.rv_text.specs.Source.{IsBody}
+use Rattle.rv_text.specs.declared.item.Item.{Item}
+use Rattle.rv_text.specs.Source.{Sandbox, IsSandbox, IsBody}
+use Rattle.rv_text.specs.Texts.{MeansSource}
+use Rattle.rv_text.specs.Laws.{OneSource, SourcesAreRight}
 use Rattle.sfi_image.specs.declared.format.Format.{Format}
+use Rattle.sfi_image.specs.Spelling.{Part}
 use Rattle.sfi_image.specs.Spans.{code_region, data_region}
+use Rattle.sfi_image.specs.Parts.{IsRightPart}
 use Rattle.sfi_scan.specs.Bundles.{stub}
 use Rattle.sfi_rewrite.specs.Laws.{RewrittenIsTransparent}
 use Rattle.sfi_rewrite.specs.declared.slot.Slot.{Slot}
@@ -23,27 +28,32 @@ use Rattle.sfi_rewrite.specs.Slots.{slot_size, size_of, slots_of, c_nop}
 use Rattle.sfi_image.specs.Formats.{is_stack}
 use Rattle.sfi_rewrite.specs.Stack.{writes_stack, is_on_stack, stack_pair, put_back}
 use Rattle.sfi_rewrite.specs.Expansion.{jump_slots, IsAlone, IsMasked, IsExpansionOf}
+use Rattle.sfi_rewrite.specs.Placement.{Placement}
+use Rattle.sfi_rewrite.specs.Rewriting.{IsRewritten, AreRewritten}
 use Rattle.sfi_rewrite.specs.Transparency.{IsAimed, MayBe}
 use Rattle.sfi_link.specs.declared.bases.Bases.{Bases}
 use Rattle.sfi_link.specs.Addresses.{bases_of, with_offset, target_at, address_at}
 use Rattle.sfi_link.specs.Code.{AreSlots}
-use Rattle.sfi_link.specs.Linked.{c_ebreak}
-use Rattle.sfi_link.specs.Standing.{AreFor, LinkedSlotsStand, LinkedRunsAs}
+use Rattle.sfi_link.specs.Linked.{c_ebreak, IsLinked, AreLinkedFrom}
+use Rattle.sfi_link.specs.Standing.{AreResolvedTo, LinkedSlotsStand, RunsAs, LinkedRunsAs, SandboxesRunAs, ImageRunsAs}
+use Rattle.sfi_link.specs.declared.fault.BuildFault.{BuildFault}
+use Rattle.sfi_link.specs.Texts.{IsTextBuild, Builds}
 use Rattle.sfi_link.proofs.Clean.{made}
 use Rattle.sfi_link.proofs.Region.{AreCut, cut, length_stubs}
 use Rattle.sfi_link.proofs.Sizes.{size_of-append}
-use Rattle.sfi_link.proofs.Parts.{slots_length, linked_lies}
+use Rattle.sfi_link.proofs.Parts.{slots_length, code_at_most, linked_lies}
 use Rattle.std.proofs.lemmas.List.Folds.{sum_by-replicate}
+use Rattle.std.proofs.lemmas.List.Elements.{All-head, All-tail}
 
 -- ---- which instruction an item becomes
 
 record Becomes (at : Bases) (names : List PlacedName) (here : ℕ) (body : Body) (slots : List Slot) : Type 0 where
   instr : Instr
   may_be : MayBe body instr
-  goes : AreFor at names here instr slots
+  goes : AreResolvedTo at names here instr slots
 
-plainly : (at : Bases) (names : List PlacedName) (here : ℕ) (i : Instr) (slots expanded : List Slot) → slots ≡ expanded → AreFor at names here i expanded → Becomes at names here (Plain i) slots
-plainly at names here i slots expanded e h = record { instr = i; may_be = refl; goes = subst (λ (l : List Slot). AreFor at names here i l) (sym e) h }
+plainly : (at : Bases) (names : List PlacedName) (here : ℕ) (i : Instr) (slots expanded : List Slot) → slots ≡ expanded → AreResolvedTo at names here i expanded → Becomes at names here (Plain i) slots
+plainly at names here i slots expanded e h = record { instr = i; may_be = refl; goes = subst (λ (l : List Slot). AreResolvedTo at names here i l) (sym e) h }
 
 alone : (at : Bases) (names : List PlacedName) (here : ℕ) (rvc : Bool) (i : Instr) (slots : List Slot) → IsAlone rvc i slots → Becomes at names here (Plain i) slots
 alone at names here false i slots e = plainly at names here i slots (Wide i ∷ []) e (tt, tt)
@@ -70,7 +80,7 @@ aimed Ecall i z count name b e = absurd b.1
 aimed Ebreak i z count name b e = absurd b.1
 
 -- the pair that puts the stack pointer back waits for no name
-pair_for : (at : Bases) (names : List PlacedName) (here : ℕ) (i : Instr) (writes : Bool) → AreFor at names here i (put_back writes)
+pair_for : (at : Bases) (names : List PlacedName) (here : ℕ) (i : Instr) (writes : Bool) → AreResolvedTo at names here i (put_back writes)
 pair_for at names here i false = tt
 pair_for at names here i true = (tt, (tt, tt))
 
@@ -100,15 +110,15 @@ becomes f at names here line count rvc (Plain i) slots bytes b e h = plain at na
 becomes f at names here line count rvc (To j name) slots bytes b e h =
     let g = subst (λ (l : List Slot). AreSlots at names here l bytes) e h in
     let m = made (λ to. with_offset (pos to -ℤ pos here) j) (target_at at names name) g.2.instr g.2.resolves in
-    record { instr = g.2.instr; may_be = aimed j g.2.instr (pos m.0 -ℤ pos here) count name b m.2; goes = subst (λ (l : List Slot). AreFor at names here g.2.instr l) (sym e) (g.2.resolves, tt) }
+    record { instr = g.2.instr; may_be = aimed j g.2.instr (pos m.0 -ℤ pos here) count name b m.2; goes = subst (λ (l : List Slot). AreResolvedTo at names here g.2.instr l) (sym e) (g.2.resolves, tt) }
 becomes f at names here line count rvc (High rd name) slots bytes b e h =
     let g = subst (λ (l : List Slot). AreSlots at names here l bytes) e h in
     let m = made (λ address. Lui rd (upper (pos address))) (address_at at names name) g.2.instr g.2.resolves in
-    record { instr = g.2.instr; may_be = (upper (pos m.0), m.2); goes = subst (λ (l : List Slot). AreFor at names here g.2.instr l) (sym e) (g.2.resolves, pair_for at names (here + 4) g.2.instr (is_stack f rd)) }
+    record { instr = g.2.instr; may_be = (upper (pos m.0), m.2); goes = subst (λ (l : List Slot). AreResolvedTo at names here g.2.instr l) (sym e) (g.2.resolves, pair_for at names (here + 4) g.2.instr (is_stack f rd)) }
 becomes f at names here line count rvc (Low rd name) slots bytes b e h =
     let g = subst (λ (l : List Slot). AreSlots at names here l bytes) e h in
     let m = made (λ address. OpImm Addi rd rd (lower (pos address))) (address_at at names name) g.2.instr g.2.resolves in
-    record { instr = g.2.instr; may_be = (lower (pos m.0), m.2); goes = subst (λ (l : List Slot). AreFor at names here g.2.instr l) (sym e) (g.2.resolves, pair_for at names (here + 4) g.2.instr (is_stack f rd)) }
+    record { instr = g.2.instr; may_be = (lower (pos m.0), m.2); goes = subst (λ (l : List Slot). AreResolvedTo at names here g.2.instr l) (sym e) (g.2.resolves, pair_for at names (here + 4) g.2.instr (is_stack f rd)) }
 
 -- ---- where it stands in the code
 
@@ -137,10 +147,10 @@ regroup before nops expanded behind fill =
 regroup_bytes : (stubs front mid rest bytes more : List ℕ) → bytes ≡ front ++ more → more ≡ mid ++ rest → stubs ++ bytes ≡ (stubs ++ front) ++ (mid ++ rest)
 regroup_bytes stubs front mid rest bytes more e f = ap (λ v. stubs ++ v) (e ∙ ap (λ v. front ++ v) f) ∙ sym (append_assoc stubs front (mid ++ rest))
 
-pub runs_as : RewrittenIsTransparent → LinkedSlotsStand → LinkedRunsAs
-runs_as law stand number s p q k x sandbox r placed few linked at =
+item_runs_as : RewrittenIsTransparent → LinkedSlotsStand → (number : ℕ) (s : Sandbox) (p : Placement) (q : Part) (k : ℕ) (x : Item) → IsSandbox s → IsRewritten s p → IsRightPart q → number < 16
+    → IsLinked number p q → slice_get s.items k ≡ Some x → RunsAs number s.format s.items p q k x
+item_runs_as law stand number s p q k x sandbox r right few linked at =
     let st = law s p r k x at in
-    let lies = linked_lies number p q placed few linked in
     let b = bases_of number p in
     let lead = st.before ++ replicate st.nops c_nop in
     let fill = replicate linked.code.fill c_ebreak in
@@ -162,16 +172,60 @@ runs_as law stand number s p q k x sandbox r placed few linked at =
     let e = nops_size st.nops in
     omega arith) in
     let mid_size : length two.front ≡ size_of st.expanded = slots_length b p.names here st.expanded two.front two.first in
-    let fits : q.code_base + length q.code ≤ 2 ^ 32 = (let a = lies.code_end in let c = lies.high in omega arith) in
+    let fits : q.code_base + length q.code ≤ 2 ^ 32 = (let a = linked.code.size.has_room.at_most in let most = code_at_most p.format in let c = linked.code_base in omega arith) in
+    let place : here ≡ q.start + (size_of st.before + 2 * st.nops) =
+    (let a = linked.start in
+    let d = size_of-append st.before (replicate st.nops c_nop) in
+    let e = nops_size st.nops in
+    omega arith) in
     let start : q.start ≡ q.code_base + 16 * length p.gates = (let a = linked.start in let c = linked.code_base in omega arith) in
     record {
       placed = st;
       instr = is.instr;
       may_be = is.may_be;
-      regions = record { format = q.format; code_placed = lies.right.code_placed; data_placed = lies.right.data_placed };
+      resolves = subst (λ (n : ℕ). AreResolvedTo b p.names n is.instr st.expanded) place is.goes;
+      regions = record { format = q.format; code_placed = right.code_placed; data_placed = right.data_placed };
       stands = λ t code pc.
           let there : t.hart.pc ≡ q.code_base + length (stubs ++ one.front) = omega arith in
           let held : Holds t.memory t.hart.pc (size_of st.expanded) two.front =
           subst (λ (n : ℕ). Holds t.memory t.hart.pc n two.front) mid_size (held_inside t.memory q.code_base t.hart.pc (stubs ++ one.front) two.front two.rest q.code code all fits there) in
           stand b p.names here is.instr st.expanded two.front t two.first is.goes held;
     }
+
+pub runs_as : RewrittenIsTransparent → LinkedSlotsStand → LinkedRunsAs
+runs_as law stand number s p q k x sandbox r placed few linked at =
+    item_runs_as law stand number s p q k x sandbox r (linked_lies number p q placed few linked).right few linked at
+
+-- ---- a build
+
+sandboxes_run_as : RewrittenIsTransparent → LinkedSlotsStand → (number : ℕ) (source : List Sandbox) (placed : List Placement) (parts : List Part) → All IsSandbox source → AreRewritten source placed
+    → All IsRightPart parts → number + length parts ≤ 16 → AreLinkedFrom number placed parts → SandboxesRunAs number source parts
+sandboxes_run_as law stand number [] [] parts sandboxes rewritten right few linked = linked
+sandboxes_run_as law stand number [] (p ∷ placed) parts sandboxes rewritten right few linked = absurd rewritten
+sandboxes_run_as law stand number (s ∷ source) [] parts sandboxes rewritten right few linked = absurd rewritten
+sandboxes_run_as law stand number (s ∷ source) (p ∷ placed) [] sandboxes rewritten right few linked = absurd linked
+sandboxes_run_as law stand number (s ∷ source) (p ∷ placed) (q ∷ parts) sandboxes rewritten right few linked = (
+  record {
+    placed = p;
+    placement = rewritten.0.placement;
+    linked = linked.0;
+    each = λ k x at. item_runs_as law stand number s p q k x (All-head IsSandbox s source sandboxes) rewritten.0 (All-head IsRightPart q parts right) (omega arith) linked.0 at;
+  },
+  sandboxes_run_as law stand (number + 1) source placed parts (All-tail IsSandbox s source sandboxes) rewritten.1 (All-tail IsRightPart q parts right) (omega arith) linked.1,
+)
+
+module _ (law : RewrittenIsTransparent) (stand : LinkedSlotsStand) (one : OneSource) (sources : SourcesAreRight) (text : List ℕ) where
+  text_runs_as : (bytes : List ℕ) → IsTextBuild text bytes → (source : List Sandbox) → MeansSource text source → ImageRunsAs source bytes
+  text_runs_as bytes h source means =
+      let same : h.source ≡ source = one text h.source source h.means means in
+      let layout = h.image.image.layout in
+      record {
+        parts = h.image.parts;
+        image = h.image.image;
+        each = sandboxes_run_as law stand 0 source h.placed h.image.parts (sources text source means).each (subst (λ (u : List Sandbox). AreRewritten u h.placed) same h.rewritten)
+            layout.right.each (let few = layout.at_most in omega arith) h.image.linked;
+      }
+
+  pub build_runs_as : (r : Result (Vec ℕ Global) BuildFault) → Builds text r → (source : List Sandbox) → MeansSource text source → IfOk r (λ v. ImageRunsAs source v.items)
+  build_runs_as (Ok v) h source means = text_runs_as v.items h source means
+  build_runs_as (Err f) h source means = tt

@@ -18,7 +18,7 @@ use Rattle.sfi_rewrite.specs.Slots.{slot_size, size_of}
 use Rattle.sfi_rewrite.specs.Transparency.{SlotStands}
 use Rattle.sfi_link.specs.declared.bases.Bases.{Bases}
 use Rattle.sfi_link.specs.Code.{IsSlot}
-use Rattle.sfi_link.specs.Standing.{IsFor, LinkedSlotsStand}
+use Rattle.sfi_link.specs.Standing.{IsResolvedTo, LinkedSlotsStand}
 use Rattle.sfi_link.proofs.Written.{spelled_length}
 use Rattle.sfi_link.proofs.Clean.{slot_spells}
 use Rattle.sfi_link.proofs.Sizes.{size_cons}
@@ -51,7 +51,7 @@ held_rest m at n more front rest count others h = record {
 stands_one : ReadIsHeld → (s : State) (i : Instr) (n : ℕ) (bytes : List ℕ) → Holds s.memory s.hart.pc n bytes → Spells bytes i n → Stands s i n
 stands_one law s i n bytes h spelled = record { bytes = bytes; there = (law s.memory s.hart.pc n bytes).1 h; spelled = spelled }
 
-slot_there : (at : Bases) (names : List PlacedName) (here : ℕ) (i : Instr) (x : Slot) (bytes : List ℕ) (s : State) (is : IsSlot at names here x bytes) → IsFor at names here i x
+slot_there : (at : Bases) (names : List PlacedName) (here : ℕ) (i : Instr) (x : Slot) (bytes : List ℕ) (s : State) (is : IsSlot at names here x bytes) → IsResolvedTo at names here i x
     → Stands s is.instr (slot_size x) → SlotStands i s x
 slot_there at names here i (Wide j) bytes s is goes st = subst (λ (k : Instr). Stands s k 4) (sym (same j is.instr is.resolves)) st
 slot_there at names here i (Short f) bytes s is goes st = subst (λ (k : Instr). Stands s k 2) (sym (same (expansion f) is.instr is.resolves)) st

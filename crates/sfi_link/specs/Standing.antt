@@ -9,37 +9,39 @@ use Rattle.rv_text.specs.Source.{Sandbox, IsSandbox}
 use Rattle.sfi_image.specs.declared.format.Format.{Format}
 use Rattle.sfi_image.specs.Spelling.{Part}
 use Rattle.sfi_image.specs.Spans.{code_region, data_region}
+use Rattle.sfi_image.specs.Images.{IsImage}
 use Rattle.sfi_rewrite.specs.declared.slot.Slot.{Slot}
 use Rattle.sfi_rewrite.specs.declared.slot.Slot.TheVariants.{Wide, Short, Jump, Upper, Lower}
 use Rattle.sfi_rewrite.specs.declared.placed.PlacedName.{PlacedName}
 use Rattle.sfi_rewrite.specs.Slots.{slot_size, size_of}
-use Rattle.sfi_rewrite.specs.Placement.{Placement}
+use Rattle.sfi_rewrite.specs.Placement.{Placement, IsPlacement}
 use Rattle.sfi_rewrite.specs.Placed.{IsPlacedPart}
 use Rattle.sfi_rewrite.specs.Rewriting.{IsRewritten}
 use Rattle.sfi_rewrite.specs.Transparency.{AreRegions, SlotsStand, MayBe, StandsTransparent}
 use Rattle.sfi_link.specs.declared.bases.Bases.{Bases}
+use Rattle.sfi_link.specs.Addresses.{bases_of}
 use Rattle.sfi_link.specs.Code.{resolved, AreSlots}
 use Rattle.sfi_link.specs.Linked.{IsLinked}
 use Rattle.sfi_link.specs.Faults.{sandboxes_most}
 
 -- the slot at `here` becomes i, if it waits for a name
-abbrev pub IsFor : Bases → List PlacedName → ℕ → Instr → Slot → Type 0
-IsFor at names here i (Wide j) = Unit {0}
-IsFor at names here i (Short f) = Unit {0}
-IsFor at names here i (Jump j name line) = resolved at names here (Jump j name line) ≡ Some i
-IsFor at names here i (Upper rd name line) = resolved at names here (Upper rd name line) ≡ Some i
-IsFor at names here i (Lower rd name line) = resolved at names here (Lower rd name line) ≡ Some i
+abbrev pub IsResolvedTo : Bases → List PlacedName → ℕ → Instr → Slot → Type 0
+IsResolvedTo at names here i (Wide j) = Unit {0}
+IsResolvedTo at names here i (Short f) = Unit {0}
+IsResolvedTo at names here i (Jump j name line) = resolved at names here (Jump j name line) ≡ Some i
+IsResolvedTo at names here i (Upper rd name line) = resolved at names here (Upper rd name line) ≡ Some i
+IsResolvedTo at names here i (Lower rd name line) = resolved at names here (Lower rd name line) ≡ Some i
 
--- the same of slots that stand one behind another, from `here` on
-abbrev pub AreFor : Bases → List PlacedName → ℕ → Instr → List Slot → Type 0
-AreFor at names here i [] = Unit {0}
-AreFor at names here i (x ∷ slots) = IsFor at names here i x × AreFor at names (here + slot_size x) i slots
+-- the same of slots that stand one after another, from `here` on
+abbrev pub AreResolvedTo : Bases → List PlacedName → ℕ → Instr → List Slot → Type 0
+AreResolvedTo at names here i [] = Unit {0}
+AreResolvedTo at names here i (x ∷ slots) = IsResolvedTo at names here i x × AreResolvedTo at names (here + slot_size x) i slots
 
 -- where a memory holds the bytes of slots from pc on, the slots stand there
 abbrev pub LinkedSlotsStand : Type 0
 LinkedSlotsStand =
     (at : Bases) (names : List PlacedName) (here : ℕ) (i : Instr) (slots : List Slot) (bytes : List ℕ) (s : State)
-    → AreSlots at names here slots bytes → AreFor at names here i slots → Holds s.memory s.hart.pc (size_of slots) bytes → SlotsStand i s slots
+    → AreSlots at names here slots bytes → AreResolvedTo at names here i slots → Holds s.memory s.hart.pc (size_of slots) bytes → SlotsStand i s slots
 
 -- ---- the source in the image
 
@@ -47,19 +49,43 @@ LinkedSlotsStand =
 abbrev pub HoldsCode : Part → Bytes → Type 0
 HoldsCode q m = (k : ℕ) → k < length q.code → byte_at m (q.code_base + k) ≡ Some (slice_index q.code k)
 
--- Item k is an instruction of the image: wherever a memory holds the sandbox's code, its expansion stands at its place for that instruction, in regions in which
--- expansions act as their instructions do (`placed.transparent`).
-pub record RunsAs (f : Format) (items : List Item) (p : Placement) (q : Part) (k : ℕ) (x : Item) : Type 0 where
+-- the address in the image of what stands after these slots of the code and so many c.nops
+abbrev pub place_after : Part → List Slot → ℕ → ℕ
+place_after q before nops = q.start + (size_of before + 2 * nops)
+
+-- Item k is an instruction of the image, with the address of its name, if it has one: wherever a memory holds the sandbox's code, its expansion stands at its
+-- place for that instruction, in regions in which expansions act as their instructions do (`placed.transparent`).
+pub record RunsAs (number : ℕ) (f : Format) (items : List Item) (p : Placement) (q : Part) (k : ℕ) (x : Item) : Type 0 where
   pub placed : StandsTransparent f items p k x
   pub instr : Instr
   pub may_be : MayBe x.body instr
+  pub resolves : AreResolvedTo (bases_of number p) p.names (place_after q placed.before placed.nops) instr placed.expanded
   pub regions : AreRegions (code_region q) (data_region q)
-  pub stands :
-      (s : State) → HoldsCode q s.memory → s.hart.pc ≡ q.start + (size_of placed.before + 2 * placed.nops)
-      → SlotsStand instr s placed.expanded
+  pub stands : (s : State) → HoldsCode q s.memory → s.hart.pc ≡ place_after q placed.before placed.nops → SlotsStand instr s placed.expanded
 
 -- each item of a source's sandbox is, in what is linked of it
 abbrev pub LinkedRunsAs : Type 0
 LinkedRunsAs =
     (number : ℕ) (s : Sandbox) (p : Placement) (q : Part) (k : ℕ) (x : Item) → IsSandbox s → IsRewritten s p → IsPlacedPart p → number < sandboxes_most
-    → IsLinked number p q → slice_get s.items k ≡ Some x → RunsAs s.format s.items p q k x
+    → IsLinked number p q → slice_get s.items k ≡ Some x → RunsAs number s.format s.items p q k x
+
+-- ---- a build
+
+-- each item of the sandbox is an instruction of that one of the image, which is made of its placement
+pub record SandboxRunsAs (number : ℕ) (s : Sandbox) (q : Part) : Type 0 where
+  pub placed : Placement
+  pub placement : IsPlacement s placed
+  pub linked : IsLinked number placed q
+  pub each : (k : ℕ) (x : Item) → slice_get s.items k ≡ Some x → RunsAs number s.format s.items placed q k x
+
+-- the same of sandboxes in order, the first of which has that number
+abbrev pub SandboxesRunAs : ℕ → List Sandbox → List Part → Type 0
+SandboxesRunAs number [] parts = parts ≡ []
+SandboxesRunAs number (s ∷ source) [] = ⊥
+SandboxesRunAs number (s ∷ source) (q ∷ parts) = SandboxRunsAs number s q × SandboxesRunAs (number + 1) source parts
+
+-- the bytes are an image of the source's sandboxes, in which each item of each has its instruction and its place
+pub record ImageRunsAs (source : List Sandbox) (bytes : List ℕ) : Type 0 where
+  pub parts : List Part
+  pub image : IsImage bytes parts
+  pub each : SandboxesRunAs 0 source parts

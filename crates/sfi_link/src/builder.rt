@@ -6,14 +6,19 @@ ghost use Rattle.rv_text.specs.declared.cause.TextCause.TheVariants.{Limit};
 ghost use Rattle.sfi_link.specs.declared.fault.BuildFault.{BuildFault};
 ghost use Rattle.sfi_link.specs.declared.fault.BuildFault.TheVariants.{Text};
 ghost use Rattle.sfi_link.specs.Building.{IsBuild};
+ghost use Rattle.sfi_link.specs.Standing.{ImageRunsAs};
 ghost use Rattle.sfi_link.specs.Texts.{IsTextBuild, IsCleanImage, IsBuildFault, IsWantOfMemory, Builds, AnswersBuild, AnswersBuildFault};
 
 use crate::fault::BuildFault;
-use crate::laws::one_linking;
+use crate::laws::{linked_slots_stand, one_linking};
 use crate::linker::link;
-use rv_text::laws::{meant_has_no_fault, one_fault as one_text_fault, one_source};
+use rv_text::laws::{
+    meant_has_no_fault, one_fault as one_text_fault, one_source, sources_are_right,
+};
 use rv_text::parse_source;
-use sfi_rewrite::laws::{never_both, one_fault as one_source_fault, one_rewriting};
+use sfi_rewrite::laws::{
+    never_both, one_fault as one_source_fault, one_rewriting, rewritten_is_transparent,
+};
 use sfi_rewrite::rewrite;
 use std::alloc::Global;
 
@@ -33,6 +38,7 @@ pub fn build(alloc: Global, text: &str) -> Result<Vec<u8>, BuildFault>
     // What each answer means.
     ensures built { IfOk result (λ bytes. IsTextBuild text.now bytes.items) }
     ensures build { (source : List Sandbox) → MeansSource text.now source → IfOk result (λ bytes. IsBuild source bytes.items) }
+    ensures runs_as { (source : List Sandbox) → MeansSource text.now source → IfOk result (λ bytes. ImageRunsAs source bytes.items) }
     ensures clean { IfOk result (λ bytes. IsCleanImage bytes.items) }
     ensures fault { IfErr result (λ f. IsWantOfMemory f ⊎ IsBuildFault text.now f) }
 
@@ -45,12 +51,15 @@ pub fn build(alloc: Global, text: &str) -> Result<Vec<u8>, BuildFault>
 {
     // The laws that the contract rests on: these calls do nothing.
     one_source();
+    sources_are_right();
     one_text_fault();
     meant_has_no_fault();
     one_rewriting();
     one_source_fault();
     never_both();
     one_linking();
+    rewritten_is_transparent();
+    linked_slots_stand();
 
     built(alloc, text)
 }

@@ -1,4 +1,5 @@
 use Rattle.sfi_link.proofs.Building.{only_built, only_fault, is_build, means_built, means_clean, means_fault}
+use Rattle.sfi_link.proofs.RunsAs.{build_runs_as}
 use Rattle.sfi_link.proofs.builder.build.Goals as goal
 
 pub returns-clause-built : goal.returns-clause-built
@@ -21,3 +22,7 @@ returns-clause-only_built c =
 pub returns-clause-only_fault : goal.returns-clause-only_fault
 returns-clause-only_fault c =
     only_fault c.one_source.ensures c.one_fault.ensures c.meant_has_no_fault.ensures c.one_rewriting.ensures c.one_fault-2.ensures c.never_both.ensures _ _ c.built.ensures.builds
+
+pub returns-clause-runs_as : goal.returns-clause-runs_as
+returns-clause-runs_as c =
+    build_runs_as c.rewritten_is_transparent.ensures c.linked_slots_stand.ensures c.one_source.ensures c.sources_are_right.ensures _ _ c.built.ensures.builds
