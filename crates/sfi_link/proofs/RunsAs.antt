@@ -123,16 +123,16 @@ becomes f at names here line count rvc (Low rd name) slots bytes b e h =
 -- ---- where it stands in the code
 
 -- bytes behind others, in a memory that holds all of them from a base on
-held_inside : (m : Bytes) (base pc : ℕ) (front mid rest all : List ℕ) → ((k : ℕ) → k < length all → byte_at m (base + k) ≡ Some (slice_index all k))
+held_inside : (m : Bytes) (base pc : ℕ) (front mid rest all : List ℕ) → Holds m base (length all) all
     → all ≡ front ++ (mid ++ rest) → base + length all ≤ 2 ^ 32 → pc ≡ base + length front → Holds m pc (length mid) mid
 held_inside m base pc front mid rest all holds e fits at = record {
   count = refl;
   each = λ k below.
       let size : length all ≡ length front + (length mid + length rest) = ap (λ (l : List ℕ). length l) e ∙ length-append front (mid ++ rest) ∙ ap (λ n. length front + n) (length-append mid rest) in
-      let a : address_after pc k ≡ base + (length front + k) = omega arith in
+      let a : address_after pc k ≡ address_after base (length front + k) = omega arith in
       let b : slice_index all (length front + k) ≡ slice_index mid k =
       ap (λ (l : List ℕ). slice_index l (length front + k)) e ∙ get_or-append-add front (mid ++ rest) k 0 ∙ get_or_append_left mid rest 0 k below in
-      ap (byte_at m) a ∙ holds (length front + k) (omega arith) ∙ ap Some b;
+      ap (byte_at m) a ∙ holds.each (length front + k) (omega arith) ∙ ap Some b;
 }
 
 nops_size : (n : ℕ) → size_of (replicate n c_nop) ≡ 2 * n

@@ -1,7 +1,6 @@
 -- What the linker writes stands for what was placed, in a machine: so each item of a source does in the image what its instruction does.
 use Rattle.std.specs.Prelude.{◌≡◌, ℕ, ◌+◌, ◌*◌, ◌<◌, List, [], ◌∷◌, length, slice_get, slice_index, Some}
 use Rattle.rv_word.specs.declared.instr.Instr.{Instr}
-use Rattle.rv_mem.specs.Bytes.{Bytes, byte_at}
 use Rattle.rv_mem.specs.Laws.{Holds}
 use Rattle.rv_step.specs.State.{State}
 use Rattle.rv_text.specs.declared.item.Item.{Item}
@@ -45,10 +44,6 @@ LinkedSlotsStand =
 
 -- ---- the source in the image
 
--- at each address of the code region is the sandbox's byte
-abbrev pub HoldsCode : Part → Bytes → Type 0
-HoldsCode q m = (k : ℕ) → k < length q.code → byte_at m (q.code_base + k) ≡ Some (slice_index q.code k)
-
 -- the address in the image of what stands after these slots of the code and so many c.nops
 abbrev pub place_after : Part → List Slot → ℕ → ℕ
 place_after q before nops = q.start + (size_of before + 2 * nops)
@@ -61,7 +56,7 @@ pub record RunsAs (number : ℕ) (f : Format) (items : List Item) (p : Placement
   pub may_be : MayBe x.body instr
   pub resolves : AreResolvedTo (bases_of number p) p.names (place_after q placed.before placed.nops) instr placed.expanded
   pub regions : AreRegions (code_region q) (data_region q)
-  pub stands : (s : State) → HoldsCode q s.memory → s.hart.pc ≡ place_after q placed.before placed.nops → SlotsStand instr s placed.expanded
+  pub stands : (s : State) → Holds s.memory q.code_base (length q.code) q.code → s.hart.pc ≡ place_after q placed.before placed.nops → SlotsStand instr s placed.expanded
 
 -- each item of a source's sandbox is, in what is linked of it
 abbrev pub LinkedRunsAs : Type 0
