@@ -47,8 +47,8 @@ pub fn calls_have_stack()
     ensures { CallsHaveStack }
 {}
 
-/// A host's reply to a sandbox that goes on, where the memory outside its data stays, keeps its x24 to x27, its stack pointer in its
-/// data, its code and empty guard zones, and goes on after the ecall.
+/// A host's reply to a sandbox that goes on, where the memory outside its data stays, keeps its x24 to x27, code and empty guard zones,
+/// and goes on after the ecall; a stack pointer in its data stays there.
 pub fn answers_are_replies()
     ensures { AnswersAreReplies }
 {}

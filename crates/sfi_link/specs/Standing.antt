@@ -1,5 +1,5 @@
 -- What the linker writes stands for what was placed, in a machine: so each item of a source does in the image what its instruction does.
-use Rattle.std.specs.Prelude.{◌≡◌, ℕ, ◌+◌, ◌*◌, ◌<◌, List, [], ◌∷◌, length, slice_get, slice_index, Some}
+use Rattle.std.specs.Prelude.{◌≡◌, ℕ, ◌+◌, ◌*◌, ◌<◌, List, [], ◌∷◌, length, slice_get, Some}
 use Rattle.rv_word.specs.declared.instr.Instr.{Instr}
 use Rattle.rv_mem.specs.Laws.{Holds}
 use Rattle.rv_step.specs.State.{State}
