@@ -19,7 +19,7 @@ use Rattle.sfi_check.specs.Stack.{GoesSafelyFrom, CallsWithStack}
 use Rattle.sfi_check.specs.Leaving.{Leaves, WritesResult}
 use Rattle.sfi_check.specs.Places.{IsCleanPart, IsGood, IsGoodIf}
 
--- from what the instructions before a place have left, an instruction there makes what stands behind it, whatever it is and whatever else it writes
+-- from what the instructions before a place have left, an instruction there makes what stands after it, whatever it is and whatever else it writes
 abbrev pub InstructionLeaves : Type 0
 InstructionLeaves =
     (p : Part) (before after : Hart) (i : Instr) (earlier : List Instr) → IsRightPart p
@@ -44,7 +44,7 @@ CleanRunsSafely = (sandbox : ℕ) (p : Part) → IsCleanPart sandbox p → RunsS
 abbrev pub SafeTurns : Type 0
 SafeTurns = (p : Part) (s : State) (turn : Turn) → RunsSafelyFrom p s → IsTurn p s turn → IsSafeState p s × IsSafeTurn p s turn
 
--- and every run is safe behind that turn too
+-- and every run is safe after that turn too
 abbrev pub SafeStaysSafe : Type 0
 SafeStaysSafe =
     (p : Part) (s after : State) (turn : Turn) → RunsSafelyFrom p s → IsTurn p s turn → after_turn turn ≡ Some after
@@ -71,7 +71,7 @@ FirstFormatAsksNoStack = (p : Part) (registers : List ℕ) → p.format ≡ Sfi1
 abbrev pub CleanCallsWithStack : Type 0
 CleanCallsWithStack = (sandbox : ℕ) (p : Part) → IsCleanPart sandbox p → CallsWithStack p
 
--- from where every run is safe and calls so, it goes on so behind each turn
+-- from where every run is safe and calls so, it goes on so after each turn
 abbrev pub GoesOnSafely : Type 0
 GoesOnSafely =
     (p : Part) (s after : State) (turn : Turn) → GoesSafelyFrom p s → IsTurn p s turn → after_turn turn ≡ Some after

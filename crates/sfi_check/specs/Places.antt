@@ -27,7 +27,7 @@ pub record KeepsAll (p : Part) (s : State) : Type 0 where
   pub guards : HasEmptyGuards p s.memory
 
 -- A stack pointer lies in the data region at each bundle's end. Before, it lies there, or the pair that puts it there stands here, or has begun directly
--- before. (`later` has the instruction here and those behind it.)
+-- before. (`later` has the instruction here and those after it.)
 abbrev pub HasStackBefore : Part → List Instr → List Piece → List ℕ → Type 0
 HasStackBefore p earlier [] registers = HasStack p registers
 HasStackBefore p earlier (here ∷ later) registers =

@@ -9,7 +9,7 @@ use Rattle.sfi_check.specs.Regions.{HasStack}
 use Rattle.sfi_check.specs.Safety.{RunsSafelyFrom}
 use Rattle.sfi_check.specs.Runs.{Turn, IsEntry, IsRun, after_turn}
 
--- the state behind the last of the turns, if the run goes on there
+-- the state after the last of the turns, if the run goes on there
 abbrev pub after_turns : Option State → List Turn → Option State
 after_turns o [] = o
 after_turns None (turn ∷ turns) = None

@@ -43,7 +43,7 @@ pub fn safe_turns()
     ensures { SafeTurns }
 {}
 
-/// From where every run is safe, it is so behind each turn.
+/// From where every run is safe, it is so after each turn.
 pub fn safe_stays_safe()
     ensures { SafeStaysSafe }
 {}
@@ -74,7 +74,7 @@ pub fn clean_calls_with_stack()
     turn_keeps();
 }
 
-/// From where every run is safe and calls so, it goes on so behind each turn.
+/// From where every run is safe and calls so, it goes on so after each turn.
 pub fn goes_on_safely()
     ensures { GoesOnSafely }
 {}

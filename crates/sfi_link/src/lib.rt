@@ -16,6 +16,3 @@ mod linker;
 pub use builder::build;
 pub use fault::{BuildFault, LinkFault};
 pub use linker::link;
-
-#[cfg(test)]
-mod tests;

@@ -13,6 +13,3 @@ mod report;
 pub use digits::push_eight_digits;
 pub use listing::listing_text;
 pub use report::report_text;
-
-#[cfg(test)]
-mod tests;

@@ -20,7 +20,7 @@ pub enum RewriteFault {
     /// format may have, its gates' stubs not counted.
     #[error("TooLarge sandbox {sandbox}")]
     TooLarge { sandbox: u32 },
-    /// The instruction on the line, counted from 1, writes the stack pointer, which is to be put back behind it: it is a jal
+    /// The instruction on the line, counted from 1, writes the stack pointer, which is to be put back after it: it is a jal
     /// or jalr, or a load on another register. Only a format with a stack pointer has this fault.
     #[error("StackWrite line {line}")]
     StackWrite { line: u32 },

@@ -45,7 +45,7 @@ is_clean b at earlier Orders = true
 is_clean b at earlier Calls = false
 is_clean b at earlier Stops = true
 
--- what is spelled is an instruction that breaks none of them behind these words
+-- what is spelled is an instruction that breaks none of them after these words
 pub record IsCleanOne (b : BundlePlace) (at : ℕ) (words : Words) (spell : Instr → Type 0) : Type 0 where
   pub instr : Instr
   pub spelled : spell instr

@@ -16,7 +16,7 @@ near [] = record { first = None; second = None }
 near (b ∷ []) = record { first = None; second = Some b }
 near (b ∷ a ∷ earlier) = record { first = Some a; second = Some b }
 
--- the two nearest of those behind it
+-- the two nearest of those after it
 abbrev pub ahead : List Piece → Ahead
 ahead [] = record { first = None; second = None }
 ahead (x ∷ []) = record { first = Some x.instr; second = None }

@@ -18,7 +18,7 @@ pub record Place : Type 0 where
   pub address : ℕ  -- that of the instruction
   pub earlier : List Instr  -- the instructions before it in the bundle, the nearest first
   pub instr : Instr
-  pub later : List Piece  -- those behind it
+  pub later : List Piece  -- those after it
   pub whole : Bool  -- the reading leaves nothing of the bundle
 
 abbrev pub is_empty : {A : Type 0} → List A → Bool
@@ -68,7 +68,7 @@ breaks_target x (Jal rd offset) = not (is_bundle_start x.bundle (offset_by x.add
 breaks_target x (Branch condition rs1 rs2 offset) = not (is_bundle_start x.bundle (offset_by x.address offset))
 breaks_target x _ = false
 
--- an ebreak, jal or jalr, behind which control never runs on
+-- an ebreak, jal or jalr, after which control never runs on
 abbrev pub ends_region : Instr → Bool
 ends_region (Jal rd offset) = true
 ends_region (Jalr rd rs1 imm) = true

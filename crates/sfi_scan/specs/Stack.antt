@@ -17,7 +17,7 @@ writes_stack b i = has_stack b.format && writes_register 2 i
 abbrev pub is_stack_pair : Instr → Instr → Bool
 is_stack_pair first second = is_masking 27 2 first && is_placing 26 2 second
 
--- the instruction and the one directly behind it are this pair
+-- the instruction and the one directly after it are this pair
 abbrev pub begins_pair : Instr → List Piece → Bool
 begins_pair i [] = false
 begins_pair i (next ∷ later) = is_stack_pair i next.instr
@@ -27,7 +27,7 @@ abbrev pub ends_pair : List Instr → Instr → Bool
 ends_pair [] i = false
 ends_pair (before ∷ earlier) i = is_stack_pair before i
 
--- the two directly behind it are
+-- the two directly after it are
 abbrev pub precedes_pair : List Piece → Bool
 precedes_pair [] = false
 precedes_pair (next ∷ later) = begins_pair next.instr later

@@ -1,4 +1,4 @@
-//! The instructions directly behind a place.
+//! The instructions directly after a place.
 ghost use Rattle.std.specs.Prelude.{◌≡◌, ◌+◌, ◌≤◌, length, List, []};
 ghost use Rattle.sfi_scan.specs.Near.{ahead};
 ghost use Rattle.sfi_scan.specs.Readings.{Piece, IsLongestReading};
@@ -6,7 +6,7 @@ ghost use Rattle.sfi_scan.specs.Readings.{Piece, IsLongestReading};
 use rv_comp::{Front, read_front};
 use rv_word::Instr;
 
-/// The two instructions directly behind a place in its bundle, as far as there are.
+/// The two instructions directly after a place in its bundle, as far as there are.
 #[derive(Clone, Copy)]
 pub(crate) struct Ahead {
     pub(crate) first: Option<Instr>,

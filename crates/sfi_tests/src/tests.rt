@@ -6,6 +6,7 @@ mod formats;
 mod frames;
 mod image;
 mod image_reading;
+mod link;
 mod listing;
 mod report;
 mod runs;
