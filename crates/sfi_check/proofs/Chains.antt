@@ -4,65 +4,65 @@ use Rattle.std.specs.Prelude.{◌||◌}
 use Rattle.std.proofs.lemmas.Bool.{lt-ltb}
 use Rattle.std.proofs.lemmas.List.{append-nil}
 use Rattle.std.proofs.lemmas.List.Elements.{All-push}
-use Rattle.sfi_image.specs.Sources.{OneRead, IsChain, is_end, bytes_of, handed, ended, Streams}
+use Rattle.sfi_image.specs.Sources.{OneRead, IsChain, is_end, bytes_of, bytes_handed_out, finds_end, Streams}
 
 module _ {S : Type 0} (reads : S → ℕ → Option (List ℕ) → S → Type 0) where
-  chain_push : (s : S) (rs : List (OneRead S)) (t : S) (r : OneRead S) → IsChain reads s rs t → reads t r.asked r.answer r.after → IsChain reads s (rs ++ r ∷ []) r.after
-  chain_push s [] t r h one = (subst (λ (u : S). reads u r.asked r.answer r.after) h one, refl)
+  chain_push : (s : S) (rs : List (OneRead S)) (t : S) (r : OneRead S) → IsChain reads s rs t → reads t r.buffer_length r.answer r.after → IsChain reads s (rs ++ r ∷ []) r.after
+  chain_push s [] t r h one = (subst (λ (u : S). reads u r.buffer_length r.answer r.after) h one, refl)
   chain_push s (q ∷ rs) t r h one = (h.0, chain_push q.after rs t r h.1 one)
 
-  handed_by : (q : OneRead S) (rs : List (OneRead S)) (r : OneRead S) (b : Bool) → is_end q.asked q.answer ≡ b → ended (q ∷ rs) ≡ false
-      → (ended rs ≡ false → handed (rs ++ r ∷ []) ≡ handed rs ++ cond (is_end r.asked r.answer) [] (bytes_of r.answer))
-      → handed (q ∷ (rs ++ r ∷ [])) ≡ handed (q ∷ rs) ++ cond (is_end r.asked r.answer) [] (bytes_of r.answer)
-  handed_by q rs r true is e ih = let t : ended (q ∷ rs) ≡ true = rw is refl in absurd cc
+  handed_by : (q : OneRead S) (rs : List (OneRead S)) (r : OneRead S) (b : Bool) → is_end q.buffer_length q.answer ≡ b → finds_end (q ∷ rs) ≡ false
+      → (finds_end rs ≡ false → bytes_handed_out (rs ++ r ∷ []) ≡ bytes_handed_out rs ++ cond (is_end r.buffer_length r.answer) [] (bytes_of r.answer))
+      → bytes_handed_out (q ∷ (rs ++ r ∷ [])) ≡ bytes_handed_out (q ∷ rs) ++ cond (is_end r.buffer_length r.answer) [] (bytes_of r.answer)
+  handed_by q rs r true is e ih = let t : finds_end (q ∷ rs) ≡ true = rw is refl in absurd cc
   handed_by q rs r false is e ih =
-      let f : ended rs ≡ false = rw is at e in
-      rw is (ap (λ (l : List ℕ). bytes_of q.answer ++ l) (ih f) ∙ sym (append_assoc (bytes_of q.answer) (handed rs) (cond (is_end r.asked r.answer) [] (bytes_of r.answer))))
+      let f : finds_end rs ≡ false = rw is at e in
+      rw is (ap (λ (l : List ℕ). bytes_of q.answer ++ l) (ih f) ∙ sym (append_assoc (bytes_of q.answer) (bytes_handed_out rs) (cond (is_end r.buffer_length r.answer) [] (bytes_of r.answer))))
 
-  handed_push : (rs : List (OneRead S)) (r : OneRead S) → ended rs ≡ false → handed (rs ++ r ∷ []) ≡ handed rs ++ cond (is_end r.asked r.answer) [] (bytes_of r.answer)
-  handed_push [] r e = ap (λ (l : List ℕ). cond (is_end r.asked r.answer) [] l) (append-nil (bytes_of r.answer))
-  handed_push (q ∷ rs) r e = handed_by q rs r (is_end q.asked q.answer) refl e (λ f. handed_push rs r f)
+  handed_push : (rs : List (OneRead S)) (r : OneRead S) → finds_end rs ≡ false → bytes_handed_out (rs ++ r ∷ []) ≡ bytes_handed_out rs ++ cond (is_end r.buffer_length r.answer) [] (bytes_of r.answer)
+  handed_push [] r e = ap (λ (l : List ℕ). cond (is_end r.buffer_length r.answer) [] l) (append-nil (bytes_of r.answer))
+  handed_push (q ∷ rs) r e = handed_by q rs r (is_end q.buffer_length q.answer) refl e (λ f. handed_push rs r f)
 
   or_false : (b : Bool) → (b || false) ≡ b
   or_false true = refl
   or_false false = refl
 
-  ended_by : (q : OneRead S) (rs : List (OneRead S)) (r : OneRead S) (b : Bool) → is_end q.asked q.answer ≡ b → ended (q ∷ rs) ≡ false
-      → (ended rs ≡ false → ended (rs ++ r ∷ []) ≡ is_end r.asked r.answer) → ended (q ∷ (rs ++ r ∷ [])) ≡ is_end r.asked r.answer
-  ended_by q rs r true is e ih = let t : ended (q ∷ rs) ≡ true = rw is refl in absurd cc
-  ended_by q rs r false is e ih = let f : ended rs ≡ false = rw is at e in rw is (ih f)
+  ended_by : (q : OneRead S) (rs : List (OneRead S)) (r : OneRead S) (b : Bool) → is_end q.buffer_length q.answer ≡ b → finds_end (q ∷ rs) ≡ false
+      → (finds_end rs ≡ false → finds_end (rs ++ r ∷ []) ≡ is_end r.buffer_length r.answer) → finds_end (q ∷ (rs ++ r ∷ [])) ≡ is_end r.buffer_length r.answer
+  ended_by q rs r true is e ih = let t : finds_end (q ∷ rs) ≡ true = rw is refl in absurd cc
+  ended_by q rs r false is e ih = let f : finds_end rs ≡ false = rw is at e in rw is (ih f)
 
-  ended_push : (rs : List (OneRead S)) (r : OneRead S) → ended rs ≡ false → ended (rs ++ r ∷ []) ≡ is_end r.asked r.answer
-  ended_push [] r e = or_false (is_end r.asked r.answer)
-  ended_push (q ∷ rs) r e = ended_by q rs r (is_end q.asked q.answer) refl e (λ f. ended_push rs r f)
+  ended_push : (rs : List (OneRead S)) (r : OneRead S) → finds_end rs ≡ false → finds_end (rs ++ r ∷ []) ≡ is_end r.buffer_length r.answer
+  ended_push [] r e = or_false (is_end r.buffer_length r.answer)
+  ended_push (q ∷ rs) r e = ended_by q rs r (is_end q.buffer_length q.answer) refl e (λ f. ended_push rs r f)
 
-  pub no_reads : (s : S) → Streams reads s s [] false
-  no_reads s = record { chain = []; is_chain = refl; bytes_are = refl; ends_is = refl; short = λ k d h. absurd (omega arith) }
+  pub no_reads : (s : S) → Streams reads 4096 s s [] false
+  no_reads s = record { chain = []; is_chain = refl; bytes_are = refl; ends_is = refl; pieces = λ k d h. absurd (omega arith) }
 
-  one_more : (s t u : S) (bytes new : List ℕ) (asked : ℕ) (answer : Option (List ℕ)) → Streams reads s t bytes false → reads t asked answer u → asked ≤ 4096
-      → new ≡ bytes ++ cond (is_end asked answer) [] (bytes_of answer) → Streams reads s u new (is_end asked answer)
-  one_more s t u bytes new asked answer h one le e =
-      let r : OneRead S = record { asked = asked; answer = answer; after = u } in
+  one_more : (s t u : S) (bytes new : List ℕ) (buffer_length : ℕ) (answer : Option (List ℕ)) → Streams reads 4096 s t bytes false → reads t buffer_length answer u → buffer_length ≤ 4096
+      → new ≡ bytes ++ cond (is_end buffer_length answer) [] (bytes_of answer) → Streams reads 4096 s u new (is_end buffer_length answer)
+  one_more s t u bytes new buffer_length answer h one le e =
+      let r : OneRead S = record { buffer_length = buffer_length; answer = answer; after = u } in
       let goes = sym h.ends_is in
       record {
         chain = h.chain ++ r ∷ [];
         is_chain = chain_push s h.chain t r h.is_chain one;
-        bytes_are = e ∙ ap (λ (l : List ℕ). l ++ cond (is_end asked answer) [] (bytes_of answer)) h.bytes_are ∙ sym (handed_push h.chain r goes);
+        bytes_are = e ∙ ap (λ (l : List ℕ). l ++ cond (is_end buffer_length answer) [] (bytes_of answer)) h.bytes_are ∙ sym (handed_push h.chain r goes);
         ends_is = sym (ended_push h.chain r goes);
-        short = All-push (λ (q : OneRead S). q.asked ≤ 4096) h.chain r h.short le;
+        pieces = All-push (λ (q : OneRead S). q.buffer_length ≤ 4096) h.chain r h.pieces le;
       }
 
   -- after a read that hands out bytes
-  pub some_read : (s t u : S) (bytes more : List ℕ) (asked : ℕ) → Streams reads s t bytes false → reads t asked (Some more) u → asked ≤ 4096 → 0 < length more → Streams reads s u (bytes ++ more) false
-  some_read s t u bytes [] asked h one le some = absurd (omega arith)
-  some_read s t u bytes (b ∷ more) asked h one le some = one_more s t u bytes (bytes ++ b ∷ more) asked (Some (b ∷ more)) h one le refl
+  pub some_read : (s t u : S) (bytes more : List ℕ) (buffer_length : ℕ) → Streams reads 4096 s t bytes false → reads t buffer_length (Some more) u → buffer_length ≤ 4096 → 0 < length more → Streams reads 4096 s u (bytes ++ more) false
+  some_read s t u bytes [] buffer_length h one le some = absurd (omega arith)
+  some_read s t u bytes (b ∷ more) buffer_length h one le some = one_more s t u bytes (bytes ++ b ∷ more) buffer_length (Some (b ∷ more)) h one le refl
 
   -- after one that finds the end
-  pub end_read : (s t u : S) (bytes : List ℕ) (asked : ℕ) → Streams reads s t bytes false → reads t asked (Some []) u → asked ≤ 4096 → 0 < asked → Streams reads s u bytes true
-  end_read s t u bytes asked h one le some =
-      let ends : is_end asked (Some []) ≡ true = lt-ltb 0 asked some in
-      subst (λ (b : Bool). Streams reads s u bytes b) ends (one_more s t u bytes bytes asked (Some []) h one le (sym (rw (ends) (append-nil bytes))))
+  pub end_read : (s t u : S) (bytes : List ℕ) (buffer_length : ℕ) → Streams reads 4096 s t bytes false → reads t buffer_length (Some []) u → buffer_length ≤ 4096 → 0 < buffer_length → Streams reads 4096 s u bytes true
+  end_read s t u bytes buffer_length h one le some =
+      let ends : is_end buffer_length (Some []) ≡ true = lt-ltb 0 buffer_length some in
+      subst (λ (b : Bool). Streams reads 4096 s u bytes b) ends (one_more s t u bytes bytes buffer_length (Some []) h one le (sym (rw (ends) (append-nil bytes))))
 
   -- after one that fails
-  pub failed_read : (s t u : S) (bytes : List ℕ) (asked : ℕ) → Streams reads s t bytes false → reads t asked None u → asked ≤ 4096 → Streams reads s u bytes false
-  failed_read s t u bytes asked h one le = one_more s t u bytes bytes asked None h one le (sym (append-nil bytes))
+  pub failed_read : (s t u : S) (bytes : List ℕ) (buffer_length : ℕ) → Streams reads 4096 s t bytes false → reads t buffer_length None u → buffer_length ≤ 4096 → Streams reads 4096 s u bytes false
+  failed_read s t u bytes buffer_length h one le = one_more s t u bytes bytes buffer_length None h one le (sym (append-nil bytes))

@@ -5,14 +5,15 @@ use Rattle.std.proofs.Math.Seq.{take-append-add}
 use Rattle.sfi_image.specs.declared.format.Format.{Format}
 use Rattle.sfi_image.specs.declared.fields.Fields.{Fields}
 use Rattle.sfi_image.specs.declared.span.Span.{Span}
+use Rattle.sfi_image.specs.declared.want.Want.{Want}
 use Rattle.sfi_image.specs.declared.want.Want.TheVariants as wants
 use Rattle.sfi_image.specs.Spans.{spans}
 use Rattle.sfi_image.specs.Regions.{IsCodeRegion}
 use Rattle.sfi_image.specs.Tests.{IsFirstFault, field_tests}
 use Rattle.sfi_image.specs.Laws.{WholeBundles}
-use Rattle.sfi_image.specs.Fronts.{Front, front, IsRightFront, want_of, IsFaultOnwardsOf}
-use Rattle.sfi_image.specs.Fronts.Front.{Empty, Named, Counted, InGates, InCode, InInit, Whole}
-use Rattle.sfi_image.specs.Keeping.{Kept, StandsFor, Leads, left}
+use Rattle.sfi_image.specs.Fronts.{Front, front, IsRightFront, want_of, IsLengthOf, HasFaultNumberWhateverFollows}
+use Rattle.sfi_image.specs.Fronts.Front.{Empty, AfterMagic, AfterCount, InGates, InCode, InInit, Whole}
+use Rattle.sfi_image.specs.Keeping.{ReaderState, StandsFor, Leads, left}
 use Rattle.sfi_scan.specs.declared.finding.Finding.{Finding}
 use Rattle.sfi_scan.specs.Bundles.{IsWithin}
 use Rattle.sfi_scan.specs.Findings.{AreBundleFindings}
@@ -27,8 +28,8 @@ code_test before f (inr h) = let e = h.1 in absurd cc
 pub bundle_within : WholeBundles → (x : Front) (sandbox address : ℕ) (format : Format) (base size : ℕ) (listed : Bool) → IsRightFront x → wants.Bundle sandbox address format base size listed ≡ want_of x
     → IsWithin (record { sandbox = sandbox; address = address; format = format; code_base = base; code_size = size; listed = listed })
 bundle_within law Empty sandbox address format base size listed right w = absurd cc
-bundle_within law (Named kind) sandbox address format base size listed right w = absurd cc
-bundle_within law (Counted kind n ps) sandbox address format base size listed right w = absurd cc
+bundle_within law (AfterMagic kind) sandbox address format base size listed right w = absurd cc
+bundle_within law (AfterCount kind n ps) sandbox address format base size listed right w = absurd cc
 bundle_within law (InGates n ps f gs) sandbox address format base size listed right w = absurd cc
 bundle_within law (InCode n ps f gs code) sandbox address format base size listed right w =
     let at : address ≡ f.code_base + length code = cc in
@@ -44,8 +45,8 @@ bundle_within law (Whole ps) sandbox address format base size listed right w = a
 
 pub bundle_sandbox : (x : Front) (sandbox address : ℕ) (format : Format) (base size : ℕ) (listed : Bool) → IsRightFront x → wants.Bundle sandbox address format base size listed ≡ want_of x → sandbox < 16
 bundle_sandbox Empty sandbox address format base size listed right w = absurd cc
-bundle_sandbox (Named kind) sandbox address format base size listed right w = absurd cc
-bundle_sandbox (Counted kind n ps) sandbox address format base size listed right w = absurd cc
+bundle_sandbox (AfterMagic kind) sandbox address format base size listed right w = absurd cc
+bundle_sandbox (AfterCount kind n ps) sandbox address format base size listed right w = absurd cc
 bundle_sandbox (InGates n ps f gs) sandbox address format base size listed right w = absurd cc
 bundle_sandbox (InCode n ps f gs code) sandbox address format base size listed right w =
     let number : sandbox ≡ length ps = cc in
@@ -55,8 +56,8 @@ bundle_sandbox (Whole ps) sandbox address format base size listed right w = absu
 
 pub field_len : (x : Front) (len : ℕ) → wants.Field len ≡ want_of x → (1 ≤ len) × (len ≤ 28)
 field_len Empty len w = let e : len ≡ 4 = cc in (omega arith, omega arith)
-field_len (Named kind) len w = let e : len ≡ 4 = cc in (omega arith, omega arith)
-field_len (Counted kind n ps) len w = let e : len ≡ 28 = cc in (omega arith, omega arith)
+field_len (AfterMagic kind) len w = let e : len ≡ 4 = cc in (omega arith, omega arith)
+field_len (AfterCount kind n ps) len w = let e : len ≡ 28 = cc in (omega arith, omega arith)
 field_len (InGates n ps f gs) len w = let e : len ≡ 8 = cc in (omega arith, omega arith)
 field_len (InCode n ps f gs code) len w = absurd cc
 field_len (InInit n ps f gs code init) len w = absurd cc
@@ -64,19 +65,35 @@ field_len (Whole ps) len w = absurd cc
 
 pub init_some : (x : Front) (len : ℕ) → wants.Init len ≡ want_of x → IsRightFront x → 1 ≤ len
 init_some Empty len w right = absurd cc
-init_some (Named kind) len w right = absurd cc
-init_some (Counted kind n ps) len w right = absurd cc
+init_some (AfterMagic kind) len w right = absurd cc
+init_some (AfterCount kind n ps) len w right = absurd cc
 init_some (InGates n ps f gs) len w right = absurd cc
 init_some (InCode n ps f gs code) len w right = absurd cc
 init_some (InInit n ps f gs code init) len w right = let e : len ≡ f.init_len - length init = cc in let less = right.3 in omega arith
 init_some (Whole ps) len w right = absurd cc
+
+-- ---- as many bytes as are wanted
+
+pub field_taken : (x : Front) (len : ℕ) (xs : List ℕ) → wants.Field len ≡ want_of x → len ≤ length xs → IsLengthOf (length (take len xs)) (want_of x)
+field_taken x len xs w le = let same : length (take len xs) ≡ len = omega (arith, length-take len xs) in subst (λ (v : Want). IsLengthOf (length (take len xs)) v) w same
+
+pub bundle_taken : (x : Front) (sandbox address : ℕ) (format : Format) (base size : ℕ) (listed : Bool) (s : List ℕ)
+    → wants.Bundle sandbox address format base size listed ≡ want_of x → length s ≡ 16 → IsLengthOf (length s) (want_of x)
+bundle_taken x sandbox address format base size listed s w same = subst (λ (v : Want). IsLengthOf (length s) v) w same
+
+pub init_taken : (x : Front) (most len : ℕ) (xs : List ℕ) → wants.Init most ≡ want_of x → 1 ≤ len → len ≤ most → len ≤ length xs → IsLengthOf (length (take len xs)) (want_of x)
+init_taken x most len xs w some le room =
+    let same : length (take len xs) ≡ len = omega (arith, length-take len xs) in
+    let least : 1 ≤ length (take len xs) = omega arith in
+    let few : length (take len xs) ≤ most = omega arith in
+    subst (λ (v : Want). IsLengthOf (length (take len xs)) v) w (least, few)
 
 -- ---- steps
 
 joined : (so_far : List ℕ) (x : Front) (s : List ℕ) (y : Front) → so_far ≡ front x → front y ≡ front x ++ s → so_far ++ s ≡ front y
 joined so_far x s y a b = ap (λ (l : List ℕ). l ++ s) a ∙ sym b
 
-pub field_step : (old new : Kept) (t : Tally) (so_far s : List ℕ) (len : ℕ) → ((x : Front) → StandsFor old x → wants.Field len ≡ want_of x)
+pub field_step : (old new : ReaderState) (t : Tally) (so_far s : List ℕ) (len : ℕ) → ((x : Front) → StandsFor old x → wants.Field len ≡ want_of x)
     → ((x : Front) → StandsFor old x → Leads x s new) → left new < left old → IsSoFar old t so_far → IsSoFar new t (so_far ++ s)
 field_step old new t so_far s len wanted leads falls h =
     let l = leads h.at h.stands in
@@ -88,7 +105,7 @@ field_step old new t so_far s len wanted leads falls h =
       few = omega (arith, h.few);
     }
 
-pub init_step : (old new : Kept) (t : Tally) (so_far s : List ℕ) (len : ℕ) → ((x : Front) → StandsFor old x → wants.Init len ≡ want_of x)
+pub init_step : (old new : ReaderState) (t : Tally) (so_far s : List ℕ) (len : ℕ) → ((x : Front) → StandsFor old x → wants.Init len ≡ want_of x)
     → ((x : Front) → StandsFor old x → Leads x s new) → left new < left old → IsSoFar old t so_far → IsSoFar new t (so_far ++ s)
 init_step old new t so_far s len wanted leads falls h =
     let l = leads h.at h.stands in
@@ -100,7 +117,7 @@ init_step old new t so_far s len wanted leads falls h =
       few = omega (arith, h.few);
     }
 
-pub bundle_step : (old new : Kept) (t u : Tally) (so_far s : List ℕ) (sandbox address : ℕ) (format : Format) (base size : ℕ) (listed : Bool) (found : List Finding)
+pub bundle_step : (old new : ReaderState) (t u : Tally) (so_far s : List ℕ) (sandbox address : ℕ) (format : Format) (base size : ℕ) (listed : Bool) (found : List Finding)
     → ((x : Front) → StandsFor old x → wants.Bundle sandbox address format base size listed ≡ want_of x) → length s ≡ 16
     → AreBundleFindings (record { sandbox = sandbox; address = address; format = format; code_base = base; code_size = size; listed = listed }) s found → Adds t u sandbox found
     → ((x : Front) → StandsFor old x → Leads x s new) → left new < left old → IsSoFar old t so_far → IsSoFar new u (so_far ++ s)
@@ -114,10 +131,10 @@ bundle_step old new t u so_far s sandbox address format base size listed found w
       few = omega (arith, h.few, adds.bundles);
     }
 
-pub step_fault : (old : Kept) (t : Tally) (so_far s rest : List ℕ) (len number : ℕ) → s ≡ take len rest
-    → ((x : Front) → StandsFor old x → IsFaultOnwardsOf (front x ++ s) number) → IsSoFar old t so_far → IsFaultOnwardsOf (so_far ++ rest) number
+pub step_fault : (old : ReaderState) (t : Tally) (so_far s rest : List ℕ) (len number : ℕ) → s ≡ take len rest
+    → ((x : Front) → StandsFor old x → HasFaultNumberWhateverFollows (front x ++ s) number) → IsSoFar old t so_far → HasFaultNumberWhateverFollows (so_far ++ rest) number
 step_fault old t so_far s rest len number e wrong h =
-    let here = subst (λ (l : List ℕ). IsFaultOnwardsOf (l ++ s) number) (sym h.bytes_are) (wrong h.at h.stands) in
+    let here = subst (λ (l : List ℕ). HasFaultNumberWhateverFollows (l ++ s) number) (sym h.bytes_are) (wrong h.at h.stands) in
     fault_onwards so_far s rest (drop len rest) number (sym (take-append-drop len rest) ∙ ap (λ (l : List ℕ). l ++ drop len rest) (sym e)) here
 
 -- ---- pieces
@@ -128,14 +145,14 @@ take_on at n xs le =
     let len : length (take at xs) ≡ at = omega (arith, length-take at xs) in
     sym (ap (λ (l : List ℕ). take (at + n) l) (take-append-drop at xs)) ∙ ap (λ (k : ℕ). take (k + n) (take at xs ++ drop at xs)) (sym len) ∙ take-append-add (take at xs) (drop at xs) n
 
-pub so_far_on : (r : Kept) (t : Tally) (so_far : List ℕ) (at n : ℕ) (xs : List ℕ) → at ≤ length xs → IsSoFar r t ((so_far ++ take at xs) ++ take n (drop at xs)) → IsSoFar r t (so_far ++ take (at + n) xs)
+pub so_far_on : (r : ReaderState) (t : Tally) (so_far : List ℕ) (at n : ℕ) (xs : List ℕ) → at ≤ length xs → IsSoFar r t ((so_far ++ take at xs) ++ take n (drop at xs)) → IsSoFar r t (so_far ++ take (at + n) xs)
 so_far_on r t so_far at n xs le h =
     subst (λ (l : List ℕ). IsSoFar r t l) (append_assoc so_far (take at xs) (take n (drop at xs)) ∙ ap (λ (l : List ℕ). so_far ++ l) (sym (take_on at n xs le))) h
 
--- a fault behind so many bytes of a piece is one of all of them
-pub fault_on : (so_far : List ℕ) (at number : ℕ) (xs : List ℕ) → IsFaultOnwardsOf ((so_far ++ take at xs) ++ drop at xs) number → IsFaultOnwardsOf (so_far ++ xs) number
+-- a fault after so many bytes of a piece is one of all of them
+pub fault_on : (so_far : List ℕ) (at number : ℕ) (xs : List ℕ) → HasFaultNumberWhateverFollows ((so_far ++ take at xs) ++ drop at xs) number → HasFaultNumberWhateverFollows (so_far ++ xs) number
 fault_on so_far at number xs h =
-    subst (λ (l : List ℕ). IsFaultOnwardsOf l number) (append_assoc so_far (take at xs) (drop at xs) ∙ ap (λ (l : List ℕ). so_far ++ l) (take-append-drop at xs)) h
+    subst (λ (l : List ℕ). HasFaultNumberWhateverFollows l number) (append_assoc so_far (take at xs) (drop at xs) ∙ ap (λ (l : List ℕ). so_far ++ l) (take-append-drop at xs)) h
 
 -- the rest of a piece, as a slice
 pub tail_is : (at : ℕ) (xs : List ℕ) → take (length xs - at) (drop at xs) ≡ drop at xs

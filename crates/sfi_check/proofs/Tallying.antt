@@ -11,8 +11,8 @@ use Rattle.sfi_image.specs.declared.fields.Fields.{Fields}
 use Rattle.sfi_image.specs.declared.want.Want.TheVariants as wants
 use Rattle.sfi_image.specs.Spelling.{Part}
 use Rattle.sfi_image.specs.Gates.{is_gate_of}
-use Rattle.sfi_image.specs.Fronts.{Front, IsRightFront, want_of, part_of, behind_parts, behind_init, behind_code, behind_gates, Follows, IsFaultOnwardsOf}
-use Rattle.sfi_image.specs.Fronts.Front.{Empty, Named, Counted, InGates, InCode, InInit, Whole}
+use Rattle.sfi_image.specs.Fronts.{Front, IsRightFront, want_of, part_of, after_parts, after_init, after_code, after_gates, Follows, HasFaultNumberWhateverFollows}
+use Rattle.sfi_image.specs.Fronts.Front.{Empty, AfterMagic, AfterCount, InGates, InCode, InInit, Whole}
 use Rattle.sfi_scan.specs.declared.bundle.BundlePlace.{BundlePlace}
 use Rattle.sfi_scan.specs.declared.finding.Finding.{Finding}
 use Rattle.sfi_scan.specs.Bundles.{place_of, bundle_bytes}
@@ -70,7 +70,7 @@ count_push : (ps : List Part) (p : Part) → bundle_count (ps ++ p ∷ []) ≡ b
 count_push ps p = let e = sum_by-append (λ (q : Part). length q.code / 16) ps (p ∷ []) in omega (arith, e)
 
 parts_tally : (t : Tally) (n : ℕ) (ps : List Part) (f : Fields) (gs : List Gate) (code init : List ℕ) → CodeTally t ps f gs code → length code ≡ f.code_size
-    → Tallies t (behind_parts f.format n (ps ++ part_of f gs code init ∷ []))
+    → Tallies t (after_parts f.format n (ps ++ part_of f gs code init ∷ []))
 parts_tally t n ps f gs code init c all =
     let p = part_of f gs code init in
     let w = c.within in
@@ -86,7 +86,7 @@ parts_tally t n ps f gs code init c all =
     ]
 
 pub init_tally : (t : Tally) (n : ℕ) (ps : List Part) (f : Fields) (gs : List Gate) (code init : List ℕ) → CodeTally t ps f gs code → length code ≡ f.code_size
-    → Tallies t (behind_init n ps f gs code init)
+    → Tallies t (after_init n ps f gs code init)
 init_tally t n ps f gs code init c all =
     elim (same_or_not (length init) f.init_len) [
       | inl e ↦ rw (e.0) (parts_tally t n ps f gs code init c all)
@@ -94,7 +94,7 @@ init_tally t n ps f gs code init c all =
     ]
 
 pub code_tally : (t : Tally) (n : ℕ) (ps : List Part) (f : Fields) (gs : List Gate) (code : List ℕ) → CodeTally t ps f gs code → 0 < length code
-    → Tallies t (behind_code n ps f gs code)
+    → Tallies t (after_code n ps f gs code)
 code_tally t n ps f gs code c some =
     elim (same_or_not (length code) f.code_size) [
       | inl e ↦ rw (e.0) (init_tally t n ps f gs code [] c e.1)
@@ -113,7 +113,7 @@ code_tally t n ps f gs code c some =
     ]
 
 gates_tally : (t : Tally) (n : ℕ) (ps : List Part) (f : Fields) (gs : List Gate) (found : List Finding) → AreImageFindings ps found → t.count ≡ length found → t.first ≡ slice_get found 0
-    → t.bundles ≡ bundle_count ps → t.sandboxes ≡ length ps → t.count ≤ 8 * t.bundles → Tallies t (behind_gates n ps f gs)
+    → t.bundles ≡ bundle_count ps → t.sandboxes ≡ length ps → t.count ≤ 8 * t.bundles → Tallies t (after_gates n ps f gs)
 gates_tally t n ps f gs found are count first bundles sandboxes few =
     elim (same_or_not (length gs) f.gate_count) [
       | inl e ↦ rw (e.0) (record {
@@ -138,8 +138,8 @@ gates_tally t n ps f gs found are count first bundles sandboxes few =
 
 pub field_tallies : (t : Tally) (x : Front) (s : List ℕ) (y : Front) (len : ℕ) → wants.Field len ≡ want_of x → Follows x s y → Tallies t x → Tallies t y
 field_tallies t Empty s y len w h k = rw (h.2) (record { found = k.found; found_are = k.found_are; count = k.count; first = k.first; bundles = k.bundles; sandboxes = k.sandboxes; few = k.few })
-field_tallies t (Named kind) s y len w h k = rw (h.2) (record { found = k.found; found_are = k.found_are; count = k.count; first = k.first; bundles = k.bundles; sandboxes = k.sandboxes; few = k.few })
-field_tallies t (Counted kind n ps) s y len w h k = rw (h.3) (gates_tally t n ps h.0 [] k.found k.found_are k.count k.first k.bundles k.sandboxes k.few)
+field_tallies t (AfterMagic kind) s y len w h k = rw (h.2) (record { found = k.found; found_are = k.found_are; count = k.count; first = k.first; bundles = k.bundles; sandboxes = k.sandboxes; few = k.few })
+field_tallies t (AfterCount kind n ps) s y len w h k = rw (h.3) (gates_tally t n ps h.0 [] k.found k.found_are k.count k.first k.bundles k.sandboxes k.few)
 field_tallies t (InGates n ps f gs) s y len w h k = rw (h.2) (gates_tally t n ps f (gs ++ h.0 ∷ []) k.found k.found_are k.count k.first k.bundles k.sandboxes k.few)
 field_tallies t (InCode n ps f gs code) s y len w h k = absurd cc
 field_tallies t (InInit n ps f gs code init) s y len w h k = absurd cc
@@ -147,8 +147,8 @@ field_tallies t (Whole ps) s y len w h k = absurd cc
 
 pub init_tallies : (t : Tally) (x : Front) (s : List ℕ) (y : Front) (len : ℕ) → wants.Init len ≡ want_of x → IsRightFront x → Follows x s y → Tallies t x → Tallies t y
 init_tallies t Empty s y len w right h k = absurd cc
-init_tallies t (Named kind) s y len w right h k = absurd cc
-init_tallies t (Counted kind n ps) s y len w right h k = absurd cc
+init_tallies t (AfterMagic kind) s y len w right h k = absurd cc
+init_tallies t (AfterCount kind n ps) s y len w right h k = absurd cc
 init_tallies t (InGates n ps f gs) s y len w right h k = absurd cc
 init_tallies t (InCode n ps f gs code) s y len w right h k = absurd cc
 init_tallies t (InInit n ps f gs code init) s y len w right h k =
@@ -168,8 +168,8 @@ pub bundle_tallies : (old new : Tally) (x : Front) (s : List ℕ) (y : Front) (s
     → AreBundleFindings (record { sandbox = sandbox; address = address; format = format; code_base = base; code_size = size; listed = listed }) s found
     → Adds old new sandbox found → Tallies old x → Tallies new y
 bundle_tallies old new Empty s y sandbox address format base size listed found w len h are adds k = absurd cc
-bundle_tallies old new (Named kind) s y sandbox address format base size listed found w len h are adds k = absurd cc
-bundle_tallies old new (Counted kind n ps) s y sandbox address format base size listed found w len h are adds k = absurd cc
+bundle_tallies old new (AfterMagic kind) s y sandbox address format base size listed found w len h are adds k = absurd cc
+bundle_tallies old new (AfterCount kind n ps) s y sandbox address format base size listed found w len h are adds k = absurd cc
 bundle_tallies old new (InGates n ps f gs) s y sandbox address format base size listed found w len h are adds k = absurd cc
 bundle_tallies old new (InCode n ps f gs code) s y sandbox address format base size listed found w len h are adds k =
     let number : sandbox ≡ length ps = cc in
@@ -206,7 +206,7 @@ bundle_tallies old new (Whole ps) s y sandbox address format base size listed fo
 -- ---- faults
 
 -- a fault of the bytes is one of more bytes
-pub fault_onwards : (bytes s rest : List ℕ) (more : List ℕ) (number : ℕ) → rest ≡ s ++ more → IsFaultOnwardsOf (bytes ++ s) number → IsFaultOnwardsOf (bytes ++ rest) number
+pub fault_onwards : (bytes s rest : List ℕ) (more : List ℕ) (number : ℕ) → rest ≡ s ++ more → HasFaultNumberWhateverFollows (bytes ++ s) number → HasFaultNumberWhateverFollows (bytes ++ rest) number
 fault_onwards bytes s rest more number e h = (
   h.0,
   h.1,

@@ -3,7 +3,7 @@ use Rattle.std.specs.Prelude.{◌≡◌, ◌⊎◌, ℕ, List, Bool, true, lengt
 use Rattle.sfi_image.specs.declared.fault.LayoutFault.{LayoutFault}
 use Rattle.sfi_image.specs.Spelling.{Part}
 use Rattle.sfi_image.specs.Faults.{IsFault, number_of}
-use Rattle.sfi_image.specs.Fronts.{IsFaultOnwardsOf}
+use Rattle.sfi_image.specs.Fronts.{HasFaultNumberWhateverFollows}
 use Rattle.sfi_scan.specs.declared.finding.Finding.{Finding}
 use Rattle.sfi_check.specs.declared.stream_answer.StreamAnswer.{StreamAnswer}
 use Rattle.sfi_check.specs.declared.stream_answer.StreamAnswer.TheVariants as answers
@@ -41,12 +41,14 @@ pub record AreCounted (count : ℕ) (first : Finding) (found : List Finding) : T
   pub count_is : count ≡ length found
   pub first_is : slice_get found 0 ≡ Some first
 
--- The answer on the bytes of a stream, and whether it ended: what each answer means; which bytes get it, where the stream ended; and what acceptance is worth
-pub record Judged (bytes : List ℕ) (ends : Bool) (answer : StreamAnswer) : Type 0 where
-  pub layout : IfLayout (λ number. ((ends ≡ true) × IsFaultOf bytes number) ⊎ IsFaultOnwardsOf bytes number) answer
+-- The answer on the bytes of a stream, and whether it ended: what each answer means, and which bytes get it, where the stream ended. Accepted
+-- means that the bytes are an image without findings, each of whose runs is safe.
+pub record IsVerdictOn (bytes : List ℕ) (ends : Bool) (answer : StreamAnswer) : Type 0 where
+  pub layout : IfLayout (λ number. ((ends ≡ true) × IsFaultOf bytes number) ⊎ HasFaultNumberWhateverFollows bytes number) answer
   pub findings : IfFindings (λ count first. (ends ≡ true) × (found : List Finding) × HasFindings bytes found × AreCounted count first found) answer
-  pub accepted : IfAccepted (λ sandboxes bundles. (ends ≡ true) × (ps : List Part) × IsAccepted bytes ps × (sandboxes ≡ length ps) × (bundles ≡ bundle_count ps)) answer
+  pub accepted : IfAccepted (λ sandboxes bundles. (ends ≡ true) × (ps : List Part) × IsAccepted bytes ps × (sandboxes ≡ length ps)
+      × (bundles ≡ bundle_count ps) × AllRunSafely ps) answer
   pub only_layout : ends ≡ true → (k : LayoutFault) → IsFault bytes k → answer ≡ answers.Layout (number_of k)
-  pub only_findings : ends ≡ true → (found : List Finding) → HasFindings bytes found → (first : Finding) → slice_get found 0 ≡ Some first → answer ≡ answers.Findings (length found) first
+  pub only_findings : ends ≡ true → (found : List Finding) → HasFindings bytes found → (first : Finding) → slice_get found 0 ≡ Some first
+      → answer ≡ answers.Findings (length found) first
   pub only_accepted : ends ≡ true → (ps : List Part) → IsAccepted bytes ps → answer ≡ answers.Accepted (length ps) (bundle_count ps)
-  pub safe : IfAccepted (λ sandboxes bundles. (ps : List Part) → IsAccepted bytes ps → AllRunSafely ps) answer

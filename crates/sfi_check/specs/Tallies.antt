@@ -4,9 +4,9 @@ use Rattle.sfi_image.specs.declared.part.Gate.{Gate}
 use Rattle.sfi_image.specs.declared.fields.Fields.{Fields}
 use Rattle.sfi_image.specs.declared.want.Next.TheVariants as next
 use Rattle.sfi_image.specs.Spelling.{Part}
-use Rattle.sfi_image.specs.Fronts.{Front, front, want_of, IsLess, part_of, IsFaultOnwardsOf}
-use Rattle.sfi_image.specs.Fronts.Front.{Empty, Named, Counted, InGates, InCode, InInit, Whole}
-use Rattle.sfi_image.specs.Keeping.{Kept, StandsFor, left}
+use Rattle.sfi_image.specs.Fronts.{Front, front, want_of, IsLess, part_of, HasFaultNumberWhateverFollows}
+use Rattle.sfi_image.specs.Fronts.Front.{Empty, AfterMagic, AfterCount, InGates, InCode, InInit, Whole}
+use Rattle.sfi_image.specs.Keeping.{ReaderState, StandsFor, left, left_most}
 use Rattle.sfi_scan.specs.declared.finding.Finding.{Finding}
 use Rattle.sfi_scan.specs.Findings.{AreFindingsOfFirst, AreImageFindings}
 use Rattle.sfi_check.specs.declared.tally.Tally.{Tally}
@@ -22,7 +22,8 @@ use Rattle.sfi_check.specs.Verdict.{bundle_count}
 pub record AreFindingsSoFar (sandbox : ℕ) (f : Fields) (gs : List Gate) (code : List ℕ) (found : List Finding) : Type 0 where
   pub bundles : ℕ
   pub len : length code ≡ 16 * bundles
-  pub found_are : (more init : List ℕ) → length (code ++ more) ≡ f.code_size → AreFindingsOfFirst sandbox (part_of f gs (code ++ more) init) bundles found
+  pub found_are : (more init : List ℕ) → length (code ++ more) ≡ f.code_size
+      → AreFindingsOfFirst sandbox (part_of f gs (code ++ more) init) bundles found
 
 -- the findings of whole sandboxes and of the code so far of the next
 pub record AreFindingsWithin (ps : List Part) (f : Fields) (gs : List Gate) (code : List ℕ) (found : List Finding) : Type 0 where
@@ -34,8 +35,8 @@ pub record AreFindingsWithin (ps : List Part) (f : Fields) (gs : List Gate) (cod
 
 abbrev pub AreFrontFindings : Front → List Finding → Type 0
 AreFrontFindings Empty found = found ≡ []
-AreFrontFindings (Named format) found = found ≡ []
-AreFrontFindings (Counted format n ps) found = AreImageFindings ps found
+AreFrontFindings (AfterMagic format) found = found ≡ []
+AreFrontFindings (AfterCount format n ps) found = AreImageFindings ps found
 AreFrontFindings (InGates n ps f gs) found = AreImageFindings ps found
 AreFrontFindings (InCode n ps f gs code) found = AreFindingsWithin ps f gs code found
 AreFrontFindings (InInit n ps f gs code init) found = AreFindingsWithin ps f gs code found
@@ -44,8 +45,8 @@ AreFrontFindings (Whole ps) found = AreImageFindings ps found
 -- how many bundles it has
 abbrev pub front_bundles : Front → ℕ
 front_bundles Empty = 0
-front_bundles (Named format) = 0
-front_bundles (Counted format n ps) = bundle_count ps
+front_bundles (AfterMagic format) = 0
+front_bundles (AfterCount format n ps) = bundle_count ps
 front_bundles (InGates n ps f gs) = bundle_count ps
 front_bundles (InCode n ps f gs code) = bundle_count ps + length code / 16
 front_bundles (InInit n ps f gs code init) = bundle_count ps + length code / 16
@@ -54,8 +55,8 @@ front_bundles (Whole ps) = bundle_count ps
 -- how many sandboxes have a bundle in it
 abbrev pub front_sandboxes : Front → ℕ
 front_sandboxes Empty = 0
-front_sandboxes (Named format) = 0
-front_sandboxes (Counted format n ps) = length ps
+front_sandboxes (AfterMagic format) = 0
+front_sandboxes (AfterCount format n ps) = length ps
 front_sandboxes (InGates n ps f gs) = length ps
 front_sandboxes (InCode n ps f gs code) = cond (length code == 0) (length ps) (length ps + 1)
 front_sandboxes (InInit n ps f gs code init) = length ps + 1
@@ -72,31 +73,32 @@ pub record Tallies (t : Tally) (x : Front) : Type 0 where
   pub few : t.count ≤ 8 * t.bundles
 
 -- the reader and the tally are those of the bytes so far
-pub record IsSoFar (r : Kept) (t : Tally) (bytes : List ℕ) : Type 0 where
+pub record IsSoFar (r : ReaderState) (t : Tally) (bytes : List ℕ) : Type 0 where
   pub at : Front
   pub stands : StandsFor r at
   pub bytes_are : bytes ≡ front at
   pub tallies : Tallies t at
-  pub few : t.bundles + left r ≤ 33555490
+  pub few : t.bundles + left r ≤ left_most
 
 -- the bytes end before what comes next is whole, and are fewer than 28
-pub record IsCut (r : Kept) (len : ℕ) : Type 0 where
+pub record IsCut (r : ReaderState) (len : ℕ) : Type 0 where
   pub less : (x : Front) → StandsFor r x → IsLess len (want_of x)
   pub few : len < 28
 
 -- one step on the bytes that follow those so far
-abbrev pub Steps : Kept → Kept → Tally → List ℕ → List ℕ → Step → Type 0
+abbrev pub Steps : ReaderState → ReaderState → Tally → List ℕ → List ℕ → Step → Type 0
 Steps old new t so_far rest (steps.Took n) = (1 ≤ n) × (n ≤ length rest) × IsSoFar new t (so_far ++ take n rest) × (left new < left old)
 Steps old new t so_far rest steps.Short = IsSoFar new t so_far × IsCut new (length rest) × (left new ≤ left old)
 Steps old new t so_far rest steps.Whole = IsSoFar new t so_far × (new.next ≡ next.End)
-Steps old new t so_far rest (steps.Fault k) = IsFaultOnwardsOf (so_far ++ rest) k
+Steps old new t so_far rest (steps.Fault k) = HasFaultNumberWhateverFollows (so_far ++ rest) k
 
 -- all steps on a piece that follows the bytes so far
-abbrev pub Goes : Kept → Kept → Tally → List ℕ → List ℕ → Progress → Type 0
+abbrev pub Goes : ReaderState → ReaderState → Tally → List ℕ → List ℕ → Progress → Type 0
 Goes old new t so_far rest (ways.More n) =
-    (n ≤ length rest) × IsSoFar new t (so_far ++ take n rest) × IsCut new (length rest - n) × ((left new < left old) ⊎ ((n ≡ 0) × (left new ≤ left old)))
+    (n ≤ length rest) × IsSoFar new t (so_far ++ take n rest) × IsCut new (length rest - n)
+    × ((left new < left old) ⊎ ((n ≡ 0) × (left new ≤ left old)))
 Goes old new t so_far rest (ways.Whole n) = (n ≤ length rest) × IsSoFar new t (so_far ++ take n rest) × (new.next ≡ next.End)
-Goes old new t so_far rest (ways.Fault k) = IsFaultOnwardsOf (so_far ++ rest) k
+Goes old new t so_far rest (ways.Fault k) = HasFaultNumberWhateverFollows (so_far ++ rest) k
 
 -- the answer on a whole image with that tally
 abbrev pub verdict_by : Option Finding → Tally → StreamAnswer

@@ -1,12 +1,12 @@
 //! The verdict on a stream of bytes, without taking memory.
 ghost use Rattle.std.specs.Prelude.{◌≡◌, ◌↔◌, ℕ, ◌+◌, ◌-◌, ◌*◌, ◌<◌, ◌≤◌, List, [], ◌++◌, Bool, true, false, length, take, drop, slice_get, cond, ◌==◌, Some, None, IfOk, OnErr, is_some};
 ghost use Rattle.sfi_image.specs.Fronts.{Front, want_of};
-ghost use Rattle.sfi_image.specs.Keeping.{StandsFor};
+ghost use Rattle.sfi_image.specs.Keeping.{StandsFor, left_most};
 ghost use Rattle.sfi_image.specs.Sources.{Streams};
 ghost use Rattle.sfi_scan.specs.Bundles.{IsWithin};
 ghost use Rattle.sfi_scan.specs.declared.finding.Finding.{Finding};
 ghost use Rattle.sfi_check.specs.Tallies.{IsSoFar, Steps, Goes, verdict_of};
-ghost use Rattle.sfi_check.specs.Streams.{Judged};
+ghost use Rattle.sfi_check.specs.Streams.{IsVerdictOn};
 
 use crate::laws::clean_runs_safely;
 use crate::progress::{Progress, Step};
@@ -33,7 +33,7 @@ fn first_of(first: Option<Finding>, found: &BundleFindings) -> Option<Finding>
 
 /// The tally with a bundle of that sandbox more.
 fn with_bundle(tally: Tally, sandbox: u32, found: &BundleFindings) -> Tally
-    requires bundles { tally.bundles < 33555490 }
+    requires bundles { tally.bundles < left_most }
     requires count { tally.count ≤ 8 * tally.bundles }
     requires sandbox { sandbox < 16 }
     ensures sandboxes { result.sandboxes ≡ sandbox + 1 }
@@ -184,7 +184,8 @@ fn read_more<S: ByteSource>(
 /// the layout or to the end.
 pub fn check_stream<S: ByteSource>(source: &mut S) -> StreamAnswer
     requires { S.has_failed source.old ≡ false }
-    ensures judged { (bytes : List ℕ) × (ends : Bool) × Streams S.reads source.old source.new bytes ends × Judged bytes ends result }
+    ensures judged { (bytes : List ℕ) × (ends : Bool) × Streams S.reads 4096 source.old source.new bytes ends
+        × IsVerdictOn bytes ends result }
     ensures failed { (result ≡ StreamAnswer.ReadFault) ↔ (S.has_failed source.new ≡ true) }
 {
     // The laws that the contract rests on: these calls do nothing.

@@ -1,4 +1,4 @@
--- Where bytes end behind a front.
+-- Where bytes end after a front.
 use Rattle.std.proofs.Common.{◌≡◌, ◌++◌, length, refl, arith, append_assoc, inl, inr}
 use Rattle.std.specs.List.{flat_map}
 use Rattle.std.proofs.lemmas.List.{length-append}
@@ -6,14 +6,14 @@ use Rattle.sfi_image.specs.declared.fault.LayoutFault.TheVariants as faults
 use Rattle.sfi_image.specs.Spelling.{format_of, number, fields, gate, part, spelling}
 use Rattle.sfi_image.specs.Spans.{spans}
 use Rattle.sfi_image.specs.Fronts.{head, CutShort, Trails, WholeIsImage}
-use Rattle.sfi_image.specs.Fronts.Front.{Empty, Named, Counted, InGates, InCode, InInit, Whole}
+use Rattle.sfi_image.specs.Fronts.Front.{Empty, AfterMagic, AfterCount, InGates, InCode, InInit, Whole}
 use Rattle.sfi_image.proofs.Standing.{region}
 use Rattle.sfi_image.proofs.Steps.{head_fault}
 
 pub cut_short : CutShort
 cut_short Empty rest right less = inl (less, refl)
-cut_short (Named format) rest right less = inr (inr (format, rest, refl, inl (less, refl)))
-cut_short (Counted format n ps) rest right less = head_fault format n ps rest faults.Short right.0 right.1 (inl (less, refl))
+cut_short (AfterMagic format) rest right less = inr (inr (format, rest, refl, inl (less, refl)))
+cut_short (AfterCount format n ps) rest right less = head_fault format n ps rest faults.Short right.0 right.1 (inl (less, refl))
 cut_short (InGates n ps f gs) rest right less =
     let opened = right.0 in
     let regroup : (head f.format n ps ++ (fields f ++ flat_map gate gs)) ++ rest ≡ head f.format n ps ++ (fields f ++ (flat_map gate gs ++ rest)) = simp append_assoc in

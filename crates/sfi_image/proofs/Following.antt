@@ -12,8 +12,8 @@ use Rattle.sfi_image.specs.Formats.{magic}
 use Rattle.sfi_image.specs.Spelling.{Part, number, fields, fields_of, gate, part}
 use Rattle.sfi_image.specs.Spans.{AreApart, spans, spans_of}
 use Rattle.sfi_image.specs.Parts.{IsRightPart, AreOf}
-use Rattle.sfi_image.specs.Fronts.{Front, front, head, IsHead, IsOpened, IsRightFront, part_of, behind_parts, behind_init, behind_code, behind_gates, Follows}
-use Rattle.sfi_image.specs.Fronts.Front.{Empty, Named, Counted, InGates, InCode, InInit, Whole}
+use Rattle.sfi_image.specs.Fronts.{Front, front, head, IsHead, IsOpened, IsRightFront, part_of, after_parts, after_init, after_code, after_gates, Follows}
+use Rattle.sfi_image.specs.Fronts.Front.{Empty, AfterMagic, AfterCount, InGates, InCode, InInit, Whole}
 use Rattle.sfi_image.proofs.FieldTests.{right_part}
 use Rattle.sfi_image.proofs.Views.{same_format}
 use Rattle.sfi_image.proofs.PartLists.{spans_push}
@@ -28,7 +28,7 @@ same_or_not a b = by (eqb a b) refl
 
 -- ---- bytes
 
-pub parts_bytes : (format : Format) (n : ℕ) (ps : List Part) → 1 ≤ n → AreOf format ps → front (behind_parts format n ps) ≡ head format n ps
+pub parts_bytes : (format : Format) (n : ℕ) (ps : List Part) → 1 ≤ n → AreOf format ps → front (after_parts format n ps) ≡ head format n ps
 parts_bytes format n ps some are =
     elim (same_or_not (length ps) n) [
       | inl h ↦ rw (h.0) (ap (λ (g : Format). head g (length ps) ps) (same_format ps are (omega (arith, h.1))) ∙ ap (λ (k : ℕ). head format k ps) h.1)
@@ -51,7 +51,7 @@ unfolding part
 part_bytes f gs code init g c i = ap (λ (h : Fields). fields h ++ (flat_map gate gs ++ (code ++ init))) (fields_again f gs code init g c i)
 
 pub init_bytes : (n : ℕ) (ps : List Part) (f : Fields) (gs : List Gate) (code init : List ℕ) → IsHead f.format n ps → length gs ≡ f.gate_count → length code ≡ f.code_size
-    → front (behind_init n ps f gs code init) ≡ head f.format n ps ++ (fields f ++ (flat_map gate gs ++ (code ++ init)))
+    → front (after_init n ps f gs code init) ≡ head f.format n ps ++ (fields f ++ (flat_map gate gs ++ (code ++ init)))
 init_bytes n ps f gs code init before g c =
     elim (same_or_not (length init) f.init_len) [
       | inl h ↦ rw (h.0) (
@@ -61,14 +61,14 @@ init_bytes n ps f gs code init before g c =
     ]
 
 pub code_bytes : (n : ℕ) (ps : List Part) (f : Fields) (gs : List Gate) (code : List ℕ) → IsHead f.format n ps → length gs ≡ f.gate_count
-    → front (behind_code n ps f gs code) ≡ head f.format n ps ++ (fields f ++ (flat_map gate gs ++ code))
+    → front (after_code n ps f gs code) ≡ head f.format n ps ++ (fields f ++ (flat_map gate gs ++ code))
 code_bytes n ps f gs code before g =
     elim (same_or_not (length code) f.code_size) [
       | inl h ↦ rw (h.0) (init_bytes n ps f gs code [] before g h.1 ∙ ap (λ (t : List ℕ). head f.format n ps ++ (fields f ++ (flat_map gate gs ++ t))) (append-nil code))
       | inr h ↦ rw (h.0) refl
     ]
 
-pub gates_bytes : (n : ℕ) (ps : List Part) (f : Fields) (gs : List Gate) → front (behind_gates n ps f gs) ≡ head f.format n ps ++ (fields f ++ flat_map gate gs)
+pub gates_bytes : (n : ℕ) (ps : List Part) (f : Fields) (gs : List Gate) → front (after_gates n ps f gs) ≡ head f.format n ps ++ (fields f ++ flat_map gate gs)
 gates_bytes n ps f gs =
     elim (same_or_not (length gs) f.gate_count) [
       | inl h ↦ rw (h.0) (ap (λ (t : List ℕ). head f.format n ps ++ (fields f ++ t)) (append-nil (flat_map gate gs)))
@@ -81,8 +81,8 @@ flat_gate gs g = flat_map-append gate gs (g ∷ []) ∙ ap (λ (t : List ℕ). f
 -- a front that follows another is that with the bytes
 pub following_bytes : (x : Front) (s : List ℕ) (y : Front) → IsRightFront x → Follows x s y → front y ≡ front x ++ s
 following_bytes Empty s y right h = rw (h.2) (sym h.1)
-following_bytes (Named format) s y right h = rw (h.2, h.1) (ap (λ (t : List ℕ). magic format ++ t) (append-nil (number h.0)))
-following_bytes (Counted format n ps) s y right h =
+following_bytes (AfterMagic format) s y right h = rw (h.2, h.1) (ap (λ (t : List ℕ). magic format ++ t) (append-nil (number h.0)))
+following_bytes (AfterCount format n ps) s y right h =
     rw (h.3, h.2, ← h.1) (gates_bytes n ps h.0 [] ∙ ap (λ (t : List ℕ). head h.0.format n ps ++ t) (append-nil (fields h.0)))
 following_bytes (InGates n ps f gs) s y right h =
     rw (h.2, h.1) (gates_bytes n ps f (gs ++ h.0 ∷ []) ∙ ap (λ (t : List ℕ). head f.format n ps ++ (fields f ++ t)) (flat_gate gs h.0) ∙ simp append_assoc)

@@ -12,9 +12,9 @@ use Rattle.sfi_image.specs.declared.want.Next.TheVariants as next
 use Rattle.sfi_image.specs.Formats.{magic}
 use Rattle.sfi_image.specs.Spelling.{Part, number, fields, gate, part, IsWord, AreFieldWords, AreGateWords}
 use Rattle.sfi_image.specs.Faults.{IsFault}
-use Rattle.sfi_image.specs.Fronts.{Front, front, head, IsRightFront, want_of, IsLess, part_of, behind_parts, behind_init, behind_code, behind_gates, IsFaultOnwards}
-use Rattle.sfi_image.specs.Fronts.Front.{Empty, Named, Counted, InGates, InCode, InInit, Whole}
-use Rattle.sfi_image.specs.Keeping.{Kept, StandsFor, Leads, next_code}
+use Rattle.sfi_image.specs.Fronts.{Front, front, head, IsRightFront, want_of, IsLess, part_of, after_parts, after_init, after_code, after_gates, HasFaultWhateverFollows}
+use Rattle.sfi_image.specs.Fronts.Front.{Empty, AfterMagic, AfterCount, InGates, InCode, InInit, Whole}
+use Rattle.sfi_image.specs.Keeping.{ReaderState, StandsFor, Leads, next_code}
 use Rattle.sfi_image.proofs.Steps.{head_fault}
 use Rattle.sfi_image.proofs.Following.{same_or_not, head_push}
 use Rattle.sfi_image.proofs.Cancelling.{same_gate, same_fields, same_number}
@@ -25,7 +25,7 @@ use Rattle.std.proofs.lemmas.List.Elements.{All-head, All-tail}
 use Rattle.sfi_image.proofs.Standing.{leads, init_stand}
 
 -- a fault of the bytes taken is one of all of them
-pub fault_of_front : (x : Front) (s rest bytes : List ℕ) (k : LayoutFault) → bytes ≡ s ++ rest → IsFaultOnwards (front x ++ s) k → IsFault (front x ++ bytes) k
+pub fault_of_front : (x : Front) (s rest bytes : List ℕ) (k : LayoutFault) → bytes ≡ s ++ rest → HasFaultWhateverFollows (front x ++ s) k → IsFault (front x ++ bytes) k
 fault_of_front x s rest bytes k e h = subst (λ (l : List ℕ). IsFault l k) (append_assoc (front x) s rest ∙ ap (λ (l : List ℕ). front x ++ l) (sym e)) (h rest)
 
 -- the code is cut short
@@ -54,13 +54,13 @@ code_short n ps f gs code rest right less =
       ),
     )))
 
--- behind all that is left of the code
-pub whole_code_leads : (old new : Kept) (x : Front) (s : List ℕ) → StandsFor old x → old.next ≡ next.Code → old.code_read + length s ≡ old.fields.code_size
+-- after all that is left of the code
+pub whole_code_leads : (old new : ReaderState) (x : Front) (s : List ℕ) → StandsFor old x → old.next ≡ next.Code → old.code_read + length s ≡ old.fields.code_size
     → new.count ≡ old.count → new.begun ≡ old.begun → new.spans ≡ old.spans → new.fields ≡ old.fields → new.gates ≡ old.gates → new.init_read ≡ old.init_read
     → new.next ≡ next_code old.fields.code_size old.fields.code_size old.fields.init_len old.begun old.count → Leads x s new
 whole_code_leads old new Empty s h is len count begun spans_are fields_are gates i to = let k = h.kept.0 in absurd cc
-whole_code_leads old new (Named format) s h is len count begun spans_are fields_are gates i to = let k = h.kept.0 in absurd cc
-whole_code_leads old new (Counted format n ps) s h is len count begun spans_are fields_are gates i to = let k = h.kept.0 in absurd cc
+whole_code_leads old new (AfterMagic format) s h is len count begun spans_are fields_are gates i to = let k = h.kept.0 in absurd cc
+whole_code_leads old new (AfterCount format n ps) s h is len count begun spans_are fields_are gates i to = let k = h.kept.0 in absurd cc
 whole_code_leads old new (InGates n ps f gs) s h is len count begun spans_are fields_are gates i to = let k = h.kept.0 in absurd cc
 whole_code_leads old new (InCode n ps f gs code) s h is len count begun spans_are fields_are gates i to =
     let k = h.kept.1 in
@@ -69,55 +69,55 @@ whole_code_leads old new (InCode n ps f gs code) s h is len count begun spans_ar
     let test' : eqb (length (code ++ s)) f.code_size ≡ true = eq-eqb (length (code ++ s)) f.code_size all in
     let where_to : new.next ≡ cond (eqb 0 f.init_len) (cond (eqb (length ps + 1) n) next.End next.Fields) next.Init =
     to ∙ rw (k.head.fields, k.head.begun, k.head.count, test) refl in
-    let stands : StandsFor new (behind_init n ps f gs (code ++ s) []) = init_stand new n ps f gs (code ++ s) [] h.right.0 h.right.1 all (omega arith) (record {
+    let stands : StandsFor new (after_init n ps f gs (code ++ s) []) = init_stand new n ps f gs (code ++ s) [] h.right.0 h.right.1 all (omega arith) (record {
       count = count ∙ k.head.count;
       begun = begun ∙ k.head.begun;
       spans = spans_are ∙ k.head.spans;
       fields = fields_are ∙ k.head.fields;
       gates = gates ∙ k.head.gates;
     }) (i ∙ k.init_read) where_to in
-    leads (InCode n ps f gs code) s new (behind_code n ps f gs (code ++ s)) h.right refl (rw (test') stands)
+    leads (InCode n ps f gs code) s new (after_code n ps f gs (code ++ s)) h.right refl (rw (test') stands)
 whole_code_leads old new (InInit n ps f gs code init) s h is len count begun spans_are fields_are gates i to = let k = h.kept.0 in absurd cc
 whole_code_leads old new (Whole ps) s h is len count begun spans_are fields_are gates i to = let k = h.kept.0 in absurd cc
 
-pub less_of_gate : (r : Kept) (x : Front) (m : ℕ) → StandsFor r x → r.next ≡ next.Gate → m < 8 → IsLess m (want_of x)
+pub less_of_gate : (r : ReaderState) (x : Front) (m : ℕ) → StandsFor r x → r.next ≡ next.Gate → m < 8 → IsLess m (want_of x)
 less_of_gate r Empty m h is lt = let k = h.kept.0 in absurd cc
-less_of_gate r (Named format) m h is lt = let k = h.kept.0 in absurd cc
-less_of_gate r (Counted format n ps) m h is lt = let k = h.kept.0 in absurd cc
+less_of_gate r (AfterMagic format) m h is lt = let k = h.kept.0 in absurd cc
+less_of_gate r (AfterCount format n ps) m h is lt = let k = h.kept.0 in absurd cc
 less_of_gate r (InGates n ps f gs) m h is lt = lt
 less_of_gate r (InCode n ps f gs code) m h is lt = let k = h.kept.0 in absurd cc
 less_of_gate r (InInit n ps f gs code init) m h is lt = let k = h.kept.0 in absurd cc
 less_of_gate r (Whole ps) m h is lt = let k = h.kept.0 in absurd cc
 
-pub less_of_fields : (r : Kept) (x : Front) (m : ℕ) → StandsFor r x → r.next ≡ next.Fields → m < 28 → IsLess m (want_of x)
+pub less_of_fields : (r : ReaderState) (x : Front) (m : ℕ) → StandsFor r x → r.next ≡ next.Fields → m < 28 → IsLess m (want_of x)
 less_of_fields r Empty m h is lt = let k = h.kept.0 in absurd cc
-less_of_fields r (Named format) m h is lt = let k = h.kept.0 in absurd cc
-less_of_fields r (Counted format n ps) m h is lt = lt
+less_of_fields r (AfterMagic format) m h is lt = let k = h.kept.0 in absurd cc
+less_of_fields r (AfterCount format n ps) m h is lt = lt
 less_of_fields r (InGates n ps f gs) m h is lt = let k = h.kept.0 in absurd cc
 less_of_fields r (InCode n ps f gs code) m h is lt = let k = h.kept.0 in absurd cc
 less_of_fields r (InInit n ps f gs code init) m h is lt = let k = h.kept.0 in absurd cc
 less_of_fields r (Whole ps) m h is lt = let k = h.kept.0 in absurd cc
 
-pub less_of_magic : (r : Kept) (x : Front) (m : ℕ) → StandsFor r x → r.next ≡ next.Magic → m < 4 → IsLess m (want_of x)
+pub less_of_magic : (r : ReaderState) (x : Front) (m : ℕ) → StandsFor r x → r.next ≡ next.Magic → m < 4 → IsLess m (want_of x)
 less_of_magic r Empty m h is lt = lt
-less_of_magic r (Named format) m h is lt = let k = h.kept.0 in absurd cc
-less_of_magic r (Counted format n ps) m h is lt = let k = h.kept.0 in absurd cc
+less_of_magic r (AfterMagic format) m h is lt = let k = h.kept.0 in absurd cc
+less_of_magic r (AfterCount format n ps) m h is lt = let k = h.kept.0 in absurd cc
 less_of_magic r (InGates n ps f gs) m h is lt = let k = h.kept.0 in absurd cc
 less_of_magic r (InCode n ps f gs code) m h is lt = let k = h.kept.0 in absurd cc
 less_of_magic r (InInit n ps f gs code init) m h is lt = let k = h.kept.0 in absurd cc
 less_of_magic r (Whole ps) m h is lt = let k = h.kept.0 in absurd cc
 
-pub less_of_count : (r : Kept) (x : Front) (m : ℕ) → StandsFor r x → r.next ≡ next.Count → m < 4 → IsLess m (want_of x)
+pub less_of_count : (r : ReaderState) (x : Front) (m : ℕ) → StandsFor r x → r.next ≡ next.Count → m < 4 → IsLess m (want_of x)
 less_of_count r Empty m h is lt = let k = h.kept.0 in absurd cc
-less_of_count r (Named format) m h is lt = lt
-less_of_count r (Counted format n ps) m h is lt = let k = h.kept.0 in absurd cc
+less_of_count r (AfterMagic format) m h is lt = lt
+less_of_count r (AfterCount format n ps) m h is lt = let k = h.kept.0 in absurd cc
 less_of_count r (InGates n ps f gs) m h is lt = let k = h.kept.0 in absurd cc
 less_of_count r (InCode n ps f gs code) m h is lt = let k = h.kept.0 in absurd cc
 less_of_count r (InInit n ps f gs code init) m h is lt = let k = h.kept.0 in absurd cc
 less_of_count r (Whole ps) m h is lt = let k = h.kept.0 in absurd cc
 
 -- there is a gate to read
-pub at_gate : (r : Kept) (n : ℕ) (ps : List Part) (f : Fields) (gs : List Gate) → StandsFor r (behind_gates n ps f gs) → length gs < f.gate_count → StandsFor r (InGates n ps f gs)
+pub at_gate : (r : ReaderState) (n : ℕ) (ps : List Part) (f : Fields) (gs : List Gate) → StandsFor r (after_gates n ps f gs) → length gs < f.gate_count → StandsFor r (InGates n ps f gs)
 at_gate r n ps f gs h lt =
     elim (same_or_not (length gs) f.gate_count) [
       | inl e ↦ absurd (omega (arith, e.1))
@@ -125,7 +125,7 @@ at_gate r n ps f gs h lt =
     ]
 
 -- there is none
-pub at_code : (r : Kept) (n : ℕ) (ps : List Part) (f : Fields) (gs : List Gate) → StandsFor r (behind_gates n ps f gs) → length gs ≡ f.gate_count → StandsFor r (InCode n ps f gs [])
+pub at_code : (r : ReaderState) (n : ℕ) (ps : List Part) (f : Fields) (gs : List Gate) → StandsFor r (after_gates n ps f gs) → length gs ≡ f.gate_count → StandsFor r (InCode n ps f gs [])
 at_code r n ps f gs h all =
     elim (same_or_not (length gs) f.gate_count) [
       | inl e ↦ rw (e.0) at h
@@ -133,20 +133,20 @@ at_code r n ps f gs h all =
     ]
 
 -- a gate is taken
-pub gate_taken : (old new : Kept) (n : ℕ) (ps : List Part) (f : Fields) (gs : List Gate) (g : Gate) (s : List ℕ) → StandsFor old (InGates n ps f gs) → Leads (InGates n ps f gs) s new
-    → s ≡ gate g → AreGateWords g → StandsFor new (behind_gates n ps f (gs ++ g ∷ []))
+pub gate_taken : (old new : ReaderState) (n : ℕ) (ps : List Part) (f : Fields) (gs : List Gate) (g : Gate) (s : List ℕ) → StandsFor old (InGates n ps f gs) → Leads (InGates n ps f gs) s new
+    → s ≡ gate g → AreGateWords g → StandsFor new (after_gates n ps f (gs ++ g ∷ []))
 gate_taken old new n ps f gs g s h l e words =
     let there = l.follows in
-    let right = behind_words n ps f gs there.0 (subst (λ (y : Front). StandsFor new y) there.2 l.stands) in
+    let right = after_words n ps f gs there.0 (subst (λ (y : Front). StandsFor new y) there.2 l.stands) in
     let same = same_gate there.0 g [] [] right words (ap (λ (t : List ℕ). t ++ []) (sym there.1 ∙ e)) in
-    subst (λ (y : Front). StandsFor new y) (there.2 ∙ ap (λ (q : Gate). behind_gates n ps f (gs ++ q ∷ [])) same.0) l.stands
+    subst (λ (y : Front). StandsFor new y) (there.2 ∙ ap (λ (q : Gate). after_gates n ps f (gs ++ q ∷ [])) same.0) l.stands
   where
     last_words : (gs : List Gate) (g : Gate) → All AreGateWords (gs ++ g ∷ []) → AreGateWords g
     last_words [] g all = All-head AreGateWords g [] all
     last_words (q ∷ gs) g all = last_words gs g (All-tail AreGateWords q (gs ++ g ∷ []) all)
 
-    behind_words : (n : ℕ) (ps : List Part) (f : Fields) (gs : List Gate) (g : Gate) → StandsFor new (behind_gates n ps f (gs ++ g ∷ [])) → AreGateWords g
-    behind_words n ps f gs g h =
+    after_words : (n : ℕ) (ps : List Part) (f : Fields) (gs : List Gate) (g : Gate) → StandsFor new (after_gates n ps f (gs ++ g ∷ [])) → AreGateWords g
+    after_words n ps f gs g h =
         elim (same_or_not (length (gs ++ g ∷ [])) f.gate_count) [
           | inl e ↦ last_words gs g (rw (e.0) at h).right.0.gate_words
           | inr e ↦ last_words gs g (rw (e.0) at h).right.0.gate_words
@@ -163,25 +163,25 @@ gates_fault n ps f gs bytes rest (errors.Layout k) is h = subst (λ (l : List �
 -- ---- first data bytes
 
 -- there are some to read
-pub at_init : (r : Kept) (n : ℕ) (ps : List Part) (f : Fields) (gs : List Gate) (code : List ℕ) → StandsFor r (behind_init n ps f gs code []) → (f.init_len ≡ 0 → ⊥) → StandsFor r (InInit n ps f gs code [])
+pub at_init : (r : ReaderState) (n : ℕ) (ps : List Part) (f : Fields) (gs : List Gate) (code : List ℕ) → StandsFor r (after_init n ps f gs code []) → (f.init_len ≡ 0 → ⊥) → StandsFor r (InInit n ps f gs code [])
 at_init r n ps f gs code h some =
     elim (same_or_not 0 f.init_len) [
       | inl e ↦ absurd (some (sym e.1))
       | inr e ↦ rw (e.0) at h
     ]
 
-pub at_part : (r : Kept) (n : ℕ) (ps : List Part) (f : Fields) (gs : List Gate) (code init : List ℕ) → StandsFor r (behind_init n ps f gs code init) → length init ≡ f.init_len
-    → StandsFor r (behind_parts f.format n (ps ++ part_of f gs code init ∷ []))
+pub at_part : (r : ReaderState) (n : ℕ) (ps : List Part) (f : Fields) (gs : List Gate) (code init : List ℕ) → StandsFor r (after_init n ps f gs code init) → length init ≡ f.init_len
+    → StandsFor r (after_parts f.format n (ps ++ part_of f gs code init ∷ []))
 at_part r n ps f gs code init h all =
     elim (same_or_not (length init) f.init_len) [
       | inl e ↦ rw (e.0) at h
       | inr e ↦ absurd (e.1 all)
     ]
 
-pub less_of_init : (r : Kept) (x : Front) (m : ℕ) → StandsFor r x → r.next ≡ next.Init → r.init_read ≡ 0 → m < r.fields.init_len → IsLess m (want_of x)
+pub less_of_init : (r : ReaderState) (x : Front) (m : ℕ) → StandsFor r x → r.next ≡ next.Init → r.init_read ≡ 0 → m < r.fields.init_len → IsLess m (want_of x)
 less_of_init r Empty m h is none lt = let k = h.kept.0 in absurd cc
-less_of_init r (Named format) m h is none lt = let k = h.kept.0 in absurd cc
-less_of_init r (Counted format n ps) m h is none lt = let k = h.kept.0 in absurd cc
+less_of_init r (AfterMagic format) m h is none lt = let k = h.kept.0 in absurd cc
+less_of_init r (AfterCount format n ps) m h is none lt = let k = h.kept.0 in absurd cc
 less_of_init r (InGates n ps f gs) m h is none lt = let k = h.kept.0 in absurd cc
 less_of_init r (InCode n ps f gs code) m h is none lt = let k = h.kept.0 in absurd cc
 less_of_init r (InInit n ps f gs code init) m h is none lt =
@@ -198,61 +198,61 @@ reads_weaker (Err errors.Memory) P Q F G h p f = tt
 
 -- ---- a sandbox
 
-front_words : (r : Kept) (n : ℕ) (ps : List Part) (f : Fields) → StandsFor r (behind_gates n ps f []) → AreFieldWords f
+front_words : (r : ReaderState) (n : ℕ) (ps : List Part) (f : Fields) → StandsFor r (after_gates n ps f []) → AreFieldWords f
 front_words r n ps f h =
     elim (same_or_not 0 f.gate_count) [
       | inl e ↦ (rw (e.0) at h).right.0.words
       | inr e ↦ (rw (e.0) at h).right.0.words
     ]
 
-pub fields_taken : (new : Kept) (format : Format) (n : ℕ) (ps : List Part) (f : Fields) (s : List ℕ) → Leads (Counted format n ps) s new → s ≡ fields f → AreFieldWords f → f.format ≡ format
-    → StandsFor new (behind_gates n ps f [])
+pub fields_taken : (new : ReaderState) (format : Format) (n : ℕ) (ps : List Part) (f : Fields) (s : List ℕ) → Leads (AfterCount format n ps) s new → s ≡ fields f → AreFieldWords f → f.format ≡ format
+    → StandsFor new (after_gates n ps f [])
 fields_taken new format n ps f s l e words kind =
     let there = l.follows in
     let stands = subst (λ (y : Front). StandsFor new y) there.3 l.stands in
     let same = same_fields there.0 f [] [] (front_words new n ps there.0 stands) words (there.1 ∙ sym kind) (ap (λ (t : List ℕ). t ++ []) (sym there.2 ∙ e)) in
-    subst (λ (g : Fields). StandsFor new (behind_gates n ps g [])) same.0 stands
+    subst (λ (g : Fields). StandsFor new (after_gates n ps g [])) same.0 stands
 
-pub whole_code : (r : Kept) (n : ℕ) (ps : List Part) (f : Fields) (gs : List Gate) (code : List ℕ) → StandsFor r (behind_code n ps f gs code) → length code ≡ f.code_size
-    → StandsFor r (behind_init n ps f gs code [])
+pub whole_code : (r : ReaderState) (n : ℕ) (ps : List Part) (f : Fields) (gs : List Gate) (code : List ℕ) → StandsFor r (after_code n ps f gs code) → length code ≡ f.code_size
+    → StandsFor r (after_init n ps f gs code [])
 whole_code r n ps f gs code h all =
     elim (same_or_not (length code) f.code_size) [
       | inl e ↦ rw (e.0) at h
       | inr e ↦ absurd (e.1 all)
     ]
 
-pub behind_two : (a b c d bytes rest : List ℕ) → bytes ≡ b ++ rest → rest ≡ c ++ d → (a ++ (b ++ (c ++ []))) ++ d ≡ a ++ bytes
-behind_two a b c d bytes rest e f = rw (e, f, append-nil c) (simp append_assoc)
+pub after_two : (a b c d bytes rest : List ℕ) → bytes ≡ b ++ rest → rest ≡ c ++ d → (a ++ (b ++ (c ++ []))) ++ d ≡ a ++ bytes
+after_two a b c d bytes rest e f = rw (e, f, append-nil c) (simp append_assoc)
 
-pub behind_three : (a b c d e bytes rest more : List ℕ) → bytes ≡ b ++ rest → rest ≡ c ++ more → more ≡ d ++ e → (a ++ (b ++ (c ++ d))) ++ e ≡ a ++ bytes
-behind_three a b c d e bytes rest more p q r = rw (p, q, r) (simp append_assoc)
+pub after_three : (a b c d e bytes rest more : List ℕ) → bytes ≡ b ++ rest → rest ≡ c ++ more → more ≡ d ++ e → (a ++ (b ++ (c ++ d))) ++ e ≡ a ++ bytes
+after_three a b c d e bytes rest more p q r = rw (p, q, r) (simp append_assoc)
 
 pub all_four : (b c d e last bytes rest more end : List ℕ) → bytes ≡ b ++ rest → rest ≡ c ++ more → more ≡ d ++ end → end ≡ e ++ last → bytes ≡ (b ++ (c ++ (d ++ e))) ++ last
 all_four b c d e last bytes rest more end p q r s = rw (p, q, r, s) (simp append_assoc)
 
 -- ---- the whole
 
-pub count_taken : (new : Kept) (format : Format) (n : ℕ) (s : List ℕ) → Leads (Named format) s new → s ≡ number n → IsWord n → StandsFor new (behind_parts format n [])
+pub count_taken : (new : ReaderState) (format : Format) (n : ℕ) (s : List ℕ) → Leads (AfterMagic format) s new → s ≡ number n → IsWord n → StandsFor new (after_parts format n [])
 count_taken new format n s l e word =
     let there = l.follows in
     let stands = subst (λ (y : Front). StandsFor new y) there.2 l.stands in
     let most = stands.right.0.at_most in
     let same = same_number there.0 n [] [] (omega arith) word (ap (λ (t : List ℕ). t ++ []) (sym there.1 ∙ e)) in
-    let here = subst (λ (m : ℕ). StandsFor new (Counted format m [])) same.0 stands in
+    let here = subst (λ (m : ℕ). StandsFor new (AfterCount format m [])) same.0 stands in
     let some = here.right.1 in
     elim (same_or_not 0 n) [
       | inl z ↦ absurd (omega (arith, z.1))
       | inr z ↦ rw (z.0) here
     ]
 
-pub at_more : (r : Kept) (format : Format) (n : ℕ) (ps : List Part) → StandsFor r (behind_parts format n ps) → length ps < n → StandsFor r (Counted format n ps)
+pub at_more : (r : ReaderState) (format : Format) (n : ℕ) (ps : List Part) → StandsFor r (after_parts format n ps) → length ps < n → StandsFor r (AfterCount format n ps)
 at_more r format n ps h lt =
     elim (same_or_not (length ps) n) [
       | inl e ↦ absurd (omega (arith, e.1))
       | inr e ↦ rw (e.0) at h
     ]
 
-pub at_all : (r : Kept) (format : Format) (n : ℕ) (ps : List Part) → StandsFor r (behind_parts format n ps) → length ps ≡ n → StandsFor r (Whole ps)
+pub at_all : (r : ReaderState) (format : Format) (n : ℕ) (ps : List Part) → StandsFor r (after_parts format n ps) → length ps ≡ n → StandsFor r (Whole ps)
 at_all r format n ps h all =
     elim (same_or_not (length ps) n) [
       | inl e ↦ rw (e.0) at h

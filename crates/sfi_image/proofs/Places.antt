@@ -11,61 +11,61 @@ use Rattle.sfi_image.specs.declared.want.Want.TheVariants as wants
 use Rattle.sfi_image.specs.Spelling.{Part, fields_of}
 use Rattle.sfi_image.specs.Spans.{AreApart, IsBounded, spans, spans_of}
 use Rattle.sfi_image.specs.Parts.{IsRightPart}
-use Rattle.sfi_image.specs.Fronts.{Front, want_of}
-use Rattle.sfi_image.specs.Fronts.Front.{Empty, Named, Counted, InGates, InCode, InInit, Whole}
-use Rattle.sfi_image.specs.Keeping.{Kept, StandsFor, IsReader, is_first}
+use Rattle.sfi_image.specs.Fronts.{Front, want_of, IsLengthOf}
+use Rattle.sfi_image.specs.Fronts.Front.{Empty, AfterMagic, AfterCount, InGates, InCode, InInit, Whole}
+use Rattle.sfi_image.specs.Keeping.{ReaderState, StandsFor, IsReader, MayTake, is_first}
 use Rattle.sfi_image.proofs.PartLists.{right_bounded}
 use Rattle.sfi_image.proofs.Standing.{region, first_is}
 
-by_fields : (r : Kept) (x : Front) → StandsFor r x → r.next ≡ next.Fields → (format : Format) × (n : ℕ) × (ps : List Part) × StandsFor r (Counted format n ps)
+by_fields : (r : ReaderState) (x : Front) → StandsFor r x → r.next ≡ next.Fields → (format : Format) × (n : ℕ) × (ps : List Part) × StandsFor r (AfterCount format n ps)
 by_fields r Empty h is = let k = h.kept.0 in absurd cc
-by_fields r (Named format) h is = let k = h.kept.0 in absurd cc
-by_fields r (Counted format n ps) h is = (format, n, ps, h)
+by_fields r (AfterMagic format) h is = let k = h.kept.0 in absurd cc
+by_fields r (AfterCount format n ps) h is = (format, n, ps, h)
 by_fields r (InGates n ps f gs) h is = let k = h.kept.0 in absurd cc
 by_fields r (InCode n ps f gs code) h is = let k = h.kept.0 in absurd cc
 by_fields r (InInit n ps f gs code init) h is = let k = h.kept.0 in absurd cc
 by_fields r (Whole ps) h is = let k = h.kept.0 in absurd cc
 
-pub at_fields : (r : Kept) → IsReader r → r.next ≡ next.Fields → (format : Format) × (n : ℕ) × (ps : List Part) × StandsFor r (Counted format n ps)
+pub at_fields : (r : ReaderState) → IsReader r → r.next ≡ next.Fields → (format : Format) × (n : ℕ) × (ps : List Part) × StandsFor r (AfterCount format n ps)
 at_fields r (inl stopped) is = absurd cc
 at_fields r (inr x) is = by_fields r x.0 x.1 is
 
-by_gates : (r : Kept) (x : Front) → StandsFor r x → r.next ≡ next.Gate → (n : ℕ) × (ps : List Part) × (f : Fields) × (gs : List Gate) × StandsFor r (InGates n ps f gs)
+by_gates : (r : ReaderState) (x : Front) → StandsFor r x → r.next ≡ next.Gate → (n : ℕ) × (ps : List Part) × (f : Fields) × (gs : List Gate) × StandsFor r (InGates n ps f gs)
 by_gates r Empty h is = let k = h.kept.0 in absurd cc
-by_gates r (Named format) h is = let k = h.kept.0 in absurd cc
-by_gates r (Counted format n ps) h is = let k = h.kept.0 in absurd cc
+by_gates r (AfterMagic format) h is = let k = h.kept.0 in absurd cc
+by_gates r (AfterCount format n ps) h is = let k = h.kept.0 in absurd cc
 by_gates r (InGates n ps f gs) h is = (n, ps, f, gs, h)
 by_gates r (InCode n ps f gs code) h is = let k = h.kept.0 in absurd cc
 by_gates r (InInit n ps f gs code init) h is = let k = h.kept.0 in absurd cc
 by_gates r (Whole ps) h is = let k = h.kept.0 in absurd cc
 
-pub at_gates : (r : Kept) → IsReader r → r.next ≡ next.Gate → (n : ℕ) × (ps : List Part) × (f : Fields) × (gs : List Gate) × StandsFor r (InGates n ps f gs)
+pub at_gates : (r : ReaderState) → IsReader r → r.next ≡ next.Gate → (n : ℕ) × (ps : List Part) × (f : Fields) × (gs : List Gate) × StandsFor r (InGates n ps f gs)
 at_gates r (inl stopped) is = absurd cc
 at_gates r (inr x) is = by_gates r x.0 x.1 is
 
-by_code : (r : Kept) (x : Front) → StandsFor r x → r.next ≡ next.Code → (n : ℕ) × (ps : List Part) × (f : Fields) × (gs : List Gate) × (code : List ℕ) × StandsFor r (InCode n ps f gs code)
+by_code : (r : ReaderState) (x : Front) → StandsFor r x → r.next ≡ next.Code → (n : ℕ) × (ps : List Part) × (f : Fields) × (gs : List Gate) × (code : List ℕ) × StandsFor r (InCode n ps f gs code)
 by_code r Empty h is = let k = h.kept.0 in absurd cc
-by_code r (Named format) h is = let k = h.kept.0 in absurd cc
-by_code r (Counted format n ps) h is = let k = h.kept.0 in absurd cc
+by_code r (AfterMagic format) h is = let k = h.kept.0 in absurd cc
+by_code r (AfterCount format n ps) h is = let k = h.kept.0 in absurd cc
 by_code r (InGates n ps f gs) h is = let k = h.kept.0 in absurd cc
 by_code r (InCode n ps f gs code) h is = (n, ps, f, gs, code, h)
 by_code r (InInit n ps f gs code init) h is = let k = h.kept.0 in absurd cc
 by_code r (Whole ps) h is = let k = h.kept.0 in absurd cc
 
-pub at_code : (r : Kept) → IsReader r → r.next ≡ next.Code → (n : ℕ) × (ps : List Part) × (f : Fields) × (gs : List Gate) × (code : List ℕ) × StandsFor r (InCode n ps f gs code)
+pub at_code : (r : ReaderState) → IsReader r → r.next ≡ next.Code → (n : ℕ) × (ps : List Part) × (f : Fields) × (gs : List Gate) × (code : List ℕ) × StandsFor r (InCode n ps f gs code)
 at_code r (inl stopped) is = absurd cc
 at_code r (inr x) is = by_code r x.0 x.1 is
 
-by_init : (r : Kept) (x : Front) → StandsFor r x → r.next ≡ next.Init → (n : ℕ) × (ps : List Part) × (f : Fields) × (gs : List Gate) × (code : List ℕ) × (init : List ℕ) × StandsFor r (InInit n ps f gs code init)
+by_init : (r : ReaderState) (x : Front) → StandsFor r x → r.next ≡ next.Init → (n : ℕ) × (ps : List Part) × (f : Fields) × (gs : List Gate) × (code : List ℕ) × (init : List ℕ) × StandsFor r (InInit n ps f gs code init)
 by_init r Empty h is = let k = h.kept.0 in absurd cc
-by_init r (Named format) h is = let k = h.kept.0 in absurd cc
-by_init r (Counted format n ps) h is = let k = h.kept.0 in absurd cc
+by_init r (AfterMagic format) h is = let k = h.kept.0 in absurd cc
+by_init r (AfterCount format n ps) h is = let k = h.kept.0 in absurd cc
 by_init r (InGates n ps f gs) h is = let k = h.kept.0 in absurd cc
 by_init r (InCode n ps f gs code) h is = let k = h.kept.0 in absurd cc
 by_init r (InInit n ps f gs code init) h is = (n, ps, f, gs, code, init, h)
 by_init r (Whole ps) h is = let k = h.kept.0 in absurd cc
 
-pub at_init : (r : Kept) → IsReader r → r.next ≡ next.Init → (n : ℕ) × (ps : List Part) × (f : Fields) × (gs : List Gate) × (code : List ℕ) × (init : List ℕ) × StandsFor r (InInit n ps f gs code init)
+pub at_init : (r : ReaderState) → IsReader r → r.next ≡ next.Init → (n : ℕ) × (ps : List Part) × (f : Fields) × (gs : List Gate) × (code : List ℕ) × (init : List ℕ) × StandsFor r (InInit n ps f gs code init)
 at_init r (inl stopped) is = absurd cc
 at_init r (inr x) is = by_init r x.0 x.1 is
 
@@ -80,14 +80,14 @@ length_spans [] = refl
 length_spans (p ∷ ps) = omega (arith, length_spans ps)
 
 -- before the fields of a sandbox
-pub record FieldsNext (r : Kept) : Type 0 where
+pub record FieldsNext (r : ReaderState) : Type 0 where
   pub bounded : All IsBounded r.spans
   pub apart : AllPairs AreApart r.spans
   pub room : length r.spans + 2 ≤ 32
   pub more : r.begun < r.count
   pub few : r.count ≤ 16
 
-pub fields_next : (r : Kept) → IsReader r → r.next ≡ next.Fields → FieldsNext r
+pub fields_next : (r : ReaderState) → IsReader r → r.next ≡ next.Fields → FieldsNext r
 fields_next r reader is =
     let at = at_fields r reader is in
     let right = at.3.right in
@@ -101,7 +101,7 @@ fields_next r reader is =
     }
 
 -- before a bundle
-pub record CodeNext (r : Kept) : Type 0 where
+pub record CodeNext (r : ReaderState) : Type 0 where
   pub begun : 1 ≤ r.begun
   pub inside : r.code_read + 16 ≤ r.fields.code_size
   pub address : r.fields.code_base + r.code_read < 2 ^ 32
@@ -110,7 +110,7 @@ pub record CodeNext (r : Kept) : Type 0 where
   pub size : r.fields.code_size ≤ 1048576
   pub not_more : r.begun ≤ r.count
 
-pub code_next : (r : Kept) → IsReader r → r.next ≡ next.Code → CodeNext r
+pub code_next : (r : ReaderState) → IsReader r → r.next ≡ next.Code → CodeNext r
 code_next r reader is =
     let at = at_code r reader is in
     let f = at.2 in
@@ -134,11 +134,11 @@ code_next r reader is =
     }
 
 -- before a gate
-pub record GateNext (r : Kept) : Type 0 where
+pub record GateNext (r : ReaderState) : Type 0 where
   pub more : length r.gates < r.fields.gate_count
   pub few : r.fields.gate_count ≤ 64
 
-pub gate_next : (r : Kept) → IsReader r → r.next ≡ next.Gate → GateNext r
+pub gate_next : (r : ReaderState) → IsReader r → r.next ≡ next.Gate → GateNext r
 gate_next r reader is =
     let at = at_gates r reader is in
     let right = at.4.right in
@@ -151,11 +151,11 @@ gate_next r reader is =
     }
 
 -- before first data bytes
-pub record InitNext (r : Kept) : Type 0 where
+pub record InitNext (r : ReaderState) : Type 0 where
   pub less : r.init_read < r.fields.init_len
   pub few : r.fields.init_len ≤ 1048576
 
-pub init_next : (r : Kept) → IsReader r → r.next ≡ next.Init → InitNext r
+pub init_next : (r : ReaderState) → IsReader r → r.next ≡ next.Init → InitNext r
 init_next r reader is =
     let at = at_init r reader is in
     let right = at.6.right in
@@ -166,11 +166,11 @@ init_next r reader is =
 
 -- ---- what is wanted
 
-pub wants_bundle : (r : Kept) (x : Front) → StandsFor r x → r.next ≡ next.Code
+pub wants_bundle : (r : ReaderState) (x : Front) → StandsFor r x → r.next ≡ next.Code
     → wants.Bundle (r.begun - 1) (r.fields.code_base + r.code_read) r.fields.format r.fields.code_base r.fields.code_size (is_first (drop r.passed r.gates) (r.fields.code_base + r.code_read)) ≡ want_of x
 wants_bundle r Empty h is = let k = h.kept.0 in absurd cc
-wants_bundle r (Named format) h is = let k = h.kept.0 in absurd cc
-wants_bundle r (Counted format n ps) h is = let k = h.kept.0 in absurd cc
+wants_bundle r (AfterMagic format) h is = let k = h.kept.0 in absurd cc
+wants_bundle r (AfterCount format n ps) h is = let k = h.kept.0 in absurd cc
 wants_bundle r (InGates n ps f gs) h is = let k = h.kept.0 in absurd cc
 wants_bundle r (InCode n ps f gs code) h is =
     let k = h.kept.1 in
@@ -179,3 +179,15 @@ wants_bundle r (InCode n ps f gs code) h is =
     rw (k.head.fields, k.head.begun, k.code_read, begun, first) refl
 wants_bundle r (InInit n ps f gs code init) h is = let k = h.kept.0 in absurd cc
 wants_bundle r (Whole ps) h is = let k = h.kept.0 in absurd cc
+
+-- as many bytes as come next may be taken
+pub may_take : (r : ReaderState) (x : Front) (len : ℕ) → StandsFor r x → IsLengthOf len (want_of x) → MayTake r len
+may_take r Empty len h e = rw (h.kept.0) e
+may_take r (AfterMagic format) len h e = rw (h.kept.0) e
+may_take r (AfterCount format n ps) len h e = rw (h.kept.0) e
+may_take r (InGates n ps f gs) len h e = rw (h.kept.0) e
+may_take r (InCode n ps f gs code) len h e = rw (h.kept.0) e
+may_take r (InInit n ps f gs code init) len h e =
+    let room : len + length init ≤ f.init_len = omega (arith, e.0, e.1) in
+    rw (h.kept.0, h.kept.1.fields, h.kept.2) (e.0, room)
+may_take r (Whole ps) len h e = absurd e

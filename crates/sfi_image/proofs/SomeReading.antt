@@ -23,7 +23,7 @@ use Rattle.sfi_image.proofs.Numbers.{IsBytes}
 use Rattle.sfi_image.proofs.GateLists.{GatesRead, GatesRead-push}
 use Rattle.sfi_image.proofs.FieldTests.{right_part}
 use Rattle.sfi_image.proofs.PartLists.{PartsRead, PartsRead-push, part_read, parts_right, trailing, all_read}
-use Rattle.sfi_image.proofs.Whole.{magic_wrong, behind_magic, whole}
+use Rattle.sfi_image.proofs.Whole.{magic_wrong, after_magic, whole}
 use Rattle.sfi_image.proofs.Deciding.{decided_le, decided_both, decided_same, decided_gates, some_first_fault}
 use Rattle.sfi_image.proofs.Fronts.{Front, IsBytes-from_all, IsBytes-drop, number_front, gate_front, fields_front}
 
@@ -194,7 +194,7 @@ behind_front format bytes is small =
     elim (count_or_fault format (drop 4 bytes) (IsBytes-drop 4 bytes small)) [
       | inl read ↦
           inl (read.parts.0, whole format bytes (take 4 bytes) (drop 4 bytes) read.rest read.count read.parts.0 refl refl is read.bytes_are read.least read.most read.parts.1 read.parts.2 read.parts.3 read.parts.4)
-      | inr fault ↦ inr (fault.0, behind_magic format bytes (take 4 bytes) (drop 4 bytes) fault.0 refl refl is fault.1)
+      | inr fault ↦ inr (fault.0, after_magic format bytes (take 4 bytes) (drop 4 bytes) fault.0 refl refl is fault.1)
     ]
 
 neither : (bytes : List ℕ) → (take 4 bytes ≡ magic Sfi1 → ⊥) → (take 4 bytes ≡ magic Sfi2 → ⊥) → (format : Format) → take 4 bytes ≡ magic format → ⊥

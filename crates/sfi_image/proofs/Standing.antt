@@ -1,4 +1,4 @@
--- What a reader stands for behind each step.
+-- What a reader stands for after each step.
 use Rattle.std.proofs.Common.{◌≡◌, ℕ, zero, suc, ◌+◌, ◌*◌, ◌%◌, ◌<◌, ◌≤◌, ◌==◌, Bool, true, false, ◌^◌, List, [], ◌∷◌, ◌++◌, length, map, drop, cond, refl, sym, ap, ◌∙◌, subst, arith, inl, inr, None}
 use Rattle.std.specs.List.{All, AllPairs}
 use Rattle.std.specs.Prelude.{◌||◌}
@@ -15,9 +15,9 @@ use Rattle.sfi_image.specs.Spans.{code_span, spans, spans_of}
 use Rattle.sfi_image.specs.Gates.{AreGates, is_gate_of}
 use Rattle.sfi_image.specs.Parts.{AreOf, AreRight}
 use Rattle.sfi_image.specs.Tests.{IsFirstFault, field_tests}
-use Rattle.sfi_image.specs.Fronts.{Front, IsHead, IsOpened, IsRightFront, part_of, behind_parts, behind_init, behind_code, behind_gates, Follows}
-use Rattle.sfi_image.specs.Fronts.Front.{Empty, Named, Counted, InGates, InCode, InInit, Whole}
-use Rattle.sfi_image.specs.Keeping.{Kept, KeepsHead, KeepsFields, StandsFor, KeepsCode, IsReader, Leads, next_part, next_init, next_code, next_gate, AreAhead, AreRest, is_first, is_one_of}
+use Rattle.sfi_image.specs.Fronts.{Front, IsHead, IsOpened, IsRightFront, part_of, after_parts, after_init, after_code, after_gates, Follows}
+use Rattle.sfi_image.specs.Fronts.Front.{Empty, AfterMagic, AfterCount, InGates, InCode, InInit, Whole}
+use Rattle.sfi_image.specs.Keeping.{ReaderState, KeepsHead, KeepsFields, StandsFor, KeepsCode, IsReader, Leads, next_part, next_init, next_code, next_gate, AreAhead, AreRest, is_first, is_one_of}
 use Rattle.sfi_image.proofs.FieldTests.{all_pass}
 use Rattle.sfi_image.proofs.PartLists.{spans_push}
 use Rattle.sfi_image.proofs.Bundles.{whole_bundles}
@@ -26,21 +26,21 @@ use Rattle.sfi_image.proofs.Following.{same_or_not, fields_again, finished, foll
 use Rattle.sfi_image.proofs.Views.{same_format}
 
 -- one step, from where it leads
-pub leads : (x : Front) (s : List ℕ) (r : Kept) (y : Front) → IsRightFront x → Follows x s y → StandsFor r y → Leads x s r
+pub leads : (x : Front) (s : List ℕ) (r : ReaderState) (y : Front) → IsRightFront x → Follows x s y → StandsFor r y → Leads x s r
 leads x s r y right follows stands = record { to = y; stands = stands; follows = follows; bytes = following_bytes x s y right follows }
 
--- a reader behind a step is one
-pub still_reader : (x : Front) (s : List ℕ) (r : Kept) → Leads x s r → IsReader r
+-- a reader after a step is one
+pub still_reader : (x : Front) (s : List ℕ) (r : ReaderState) → Leads x s r → IsReader r
 still_reader x s r l = inr (l.to, l.stands)
 
 -- ---- magic and count
 
-pub magic_leads : (old new : Kept) (x : Front) (s : List ℕ) (format : Format) → StandsFor old x → old.next ≡ next.Magic → s ≡ magic format
+pub magic_leads : (old new : ReaderState) (x : Front) (s : List ℕ) (format : Format) → StandsFor old x → old.next ≡ next.Magic → s ≡ magic format
     → new.next ≡ next.Count → new.spans ≡ old.spans → new.fields.format ≡ format → Leads x s new
 magic_leads old new Empty s format h is e to spans_are kind =
-    leads Empty s new (Named format) tt (format, e, refl) (record { right = tt; kept = (to, spans_are ∙ h.kept.1, kind) })
-magic_leads old new (Named k') s format h is e to spans_are kind = let k = h.kept.0 in absurd cc
-magic_leads old new (Counted k' n ps) s format h is e to spans_are kind = let k = h.kept.0 in absurd cc
+    leads Empty s new (AfterMagic format) tt (format, e, refl) (record { right = tt; kept = (to, spans_are ∙ h.kept.1, kind) })
+magic_leads old new (AfterMagic k') s format h is e to spans_are kind = let k = h.kept.0 in absurd cc
+magic_leads old new (AfterCount k' n ps) s format h is e to spans_are kind = let k = h.kept.0 in absurd cc
 magic_leads old new (InGates n ps f gs) s format h is e to spans_are kind = let k = h.kept.0 in absurd cc
 magic_leads old new (InCode n ps f gs code) s format h is e to spans_are kind = let k = h.kept.0 in absurd cc
 magic_leads old new (InInit n ps f gs code init) s format h is e to spans_are kind = let k = h.kept.0 in absurd cc
@@ -52,15 +52,15 @@ none_of format = λ k d h. absurd (omega arith)
 none_right : AreRight []
 none_right = record { each = λ k d h. absurd (omega arith); apart = λ i j d h e. absurd (omega arith) }
 
-pub count_leads : (old : Kept) (x : Front) (s : List ℕ) (n : ℕ) → StandsFor old x → old.next ≡ next.Count → s ≡ number n → 1 ≤ n → n ≤ 16
+pub count_leads : (old : ReaderState) (x : Front) (s : List ℕ) (n : ℕ) → StandsFor old x → old.next ≡ next.Count → s ≡ number n → 1 ≤ n → n ≤ 16
     → Leads x s (record old { next = next.Fields; count = n; begun = 0 })
 count_leads old Empty s n h is e low high = let k = h.kept.0 in absurd cc
-count_leads old (Named format) s n h is e low high =
-    leads (Named format) s _ (Counted format n []) tt (n, e, refl) (record {
+count_leads old (AfterMagic format) s n h is e low high =
+    leads (AfterMagic format) s _ (AfterCount format n []) tt (n, e, refl) (record {
       right = (record { at_least = low; at_most = high; one_format = none_of format; right = none_right }, omega arith);
       kept = (refl, record { of = h.kept.2; count = refl; begun = refl; spans = h.kept.1 });
     })
-count_leads old (Counted format n' ps) s n h is e low high = let k = h.kept.0 in absurd cc
+count_leads old (AfterCount format n' ps) s n h is e low high = let k = h.kept.0 in absurd cc
 count_leads old (InGates n' ps f gs) s n h is e low high = let k = h.kept.0 in absurd cc
 count_leads old (InCode n' ps f gs code) s n h is e low high = let k = h.kept.0 in absurd cc
 count_leads old (InInit n' ps f gs code init) s n h is e low high = let k = h.kept.0 in absurd cc
@@ -107,10 +107,10 @@ some_first zero (g ∷ more) at e = omega arith
 some_first (suc k) [] at e = absurd cc
 some_first (suc k) (g ∷ more) at e = omega (arith, some_first k more at e)
 
--- behind the bundle at that address
-pub rest_behind : (at : ℕ) (gs : List Gate) (as' : List ℕ) (k : ℕ) → at % 16 ≡ 0 → k ≤ length as' → AreRest at gs (drop k as')
+-- after the bundle at that address
+pub rest_after : (at : ℕ) (gs : List Gate) (as' : List ℕ) (k : ℕ) → at % 16 ≡ 0 → k ≤ length as' → AreRest at gs (drop k as')
     → (cond (is_first (drop k as') at) (k + 1) k ≤ length as') × AreRest (at + 16) gs (drop (cond (is_first (drop k as') at) (k + 1) k) as')
-rest_behind at gs as' k even le rest = by (is_first (drop k as') at) refl
+rest_after at gs as' k even le rest = by (is_first (drop k as') at) refl
   where
     by : (b : Bool) → is_first (drop k as') at ≡ b → (cond b (k + 1) k ≤ length as') × AreRest (at + 16) gs (drop (cond b (k + 1) k) as')
     by true e =
@@ -181,8 +181,8 @@ region before f words passed =
 
 -- ---- where whole sandboxes, first data bytes, code and gates lead
 
-pub parts_stand : (r : Kept) (format : Format) (n : ℕ) (ps : List Part) → IsHead format n ps → length ps ≤ n → KeepsHead r format n ps → r.next ≡ next_part (length ps) n
-    → StandsFor r (behind_parts format n ps)
+pub parts_stand : (r : ReaderState) (format : Format) (n : ℕ) (ps : List Part) → IsHead format n ps → length ps ≤ n → KeepsHead r format n ps → r.next ≡ next_part (length ps) n
+    → StandsFor r (after_parts format n ps)
 parts_stand r format n ps h le k is =
     elim (same_or_not (length ps) n) [
       | inl e ↦
@@ -194,9 +194,9 @@ parts_stand r format n ps h le k is =
       | inr e ↦ rw (e.0) (record { right = (h, omega (arith, e.1)); kept = (rw (e.0) at is, k) })
     ]
 
-pub init_stand : (r : Kept) (n : ℕ) (ps : List Part) (f : Fields) (gs : List Gate) (code init : List ℕ) → IsOpened n ps f gs → length gs ≡ f.gate_count
+pub init_stand : (r : ReaderState) (n : ℕ) (ps : List Part) (f : Fields) (gs : List Gate) (code init : List ℕ) → IsOpened n ps f gs → length gs ≡ f.gate_count
     → length code ≡ f.code_size → length init ≤ f.init_len → KeepsFields r n ps f gs → r.init_read ≡ length init
-    → r.next ≡ next_init (length init) f.init_len (length ps + 1) n → StandsFor r (behind_init n ps f gs code init)
+    → r.next ≡ next_init (length init) f.init_len (length ps + 1) n → StandsFor r (after_init n ps f gs code init)
 init_stand r n ps f gs code init opened g c le k read is =
     elim (same_or_not (length init) f.init_len) [
       | inl e ↦
@@ -215,17 +215,17 @@ init_stand r n ps f gs code init opened g c le k read is =
       | inr e ↦ rw (e.0) (record { right = (opened, g, c, omega (arith, e.1)); kept = (rw (e.0) at is, k, read) })
     ]
 
-pub code_stand : (r : Kept) (n : ℕ) (ps : List Part) (f : Fields) (gs : List Gate) (code : List ℕ) → IsOpened n ps f gs → length gs ≡ f.gate_count
+pub code_stand : (r : ReaderState) (n : ℕ) (ps : List Part) (f : Fields) (gs : List Gate) (code : List ℕ) → IsOpened n ps f gs → length gs ≡ f.gate_count
     → length code % 16 ≡ 0 → length code ≤ f.code_size → KeepsCode r n ps f gs code
-    → r.next ≡ next_code (length code) f.code_size f.init_len (length ps + 1) n → StandsFor r (behind_code n ps f gs code)
+    → r.next ≡ next_code (length code) f.code_size f.init_len (length ps + 1) n → StandsFor r (after_code n ps f gs code)
 code_stand r n ps f gs code opened g even le k is =
     elim (same_or_not (length code) f.code_size) [
       | inl e ↦ rw (e.0) (init_stand r n ps f gs code [] opened g e.1 (omega arith) k.head k.init_read (rw (e.0) at is))
       | inr e ↦ rw (e.0) (record { right = (opened, g, even, omega (arith, e.1)); kept = (rw (e.0) at is, k) })
     ]
 
-pub gates_stand : (r : Kept) (n : ℕ) (ps : List Part) (f : Fields) (gs : List Gate) → IsOpened n ps f gs → length gs ≤ f.gate_count → KeepsFields r n ps f gs
-    → r.passed ≡ 0 → r.code_read ≡ 0 → r.init_read ≡ 0 → r.next ≡ next_gate (length gs) f.gate_count → StandsFor r (behind_gates n ps f gs)
+pub gates_stand : (r : ReaderState) (n : ℕ) (ps : List Part) (f : Fields) (gs : List Gate) → IsOpened n ps f gs → length gs ≤ f.gate_count → KeepsFields r n ps f gs
+    → r.passed ≡ 0 → r.code_read ≡ 0 → r.init_read ≡ 0 → r.next ≡ next_gate (length gs) f.gate_count → StandsFor r (after_gates n ps f gs)
 gates_stand r n ps f gs opened le k passed code_read init_read is =
     elim (same_or_not (length gs) f.gate_count) [
       | inl e ↦

@@ -17,10 +17,10 @@ use Rattle.sfi_image.specs.Spans.{code_span, spans, spans_of}
 use Rattle.sfi_image.specs.Gates.{AreGates}
 use Rattle.sfi_image.specs.Tests.{IsFirstFault, field_tests}
 use Rattle.sfi_image.specs.Faults.{IsFault, IsPartFault}
-use Rattle.sfi_image.specs.Fronts.{Front, front, head, IsHead, IsOpened, behind_init, behind_code, behind_gates, IsFaultOnwards}
-use Rattle.sfi_image.specs.Fronts.Front.{Empty, Named, Counted, InGates, InCode, InInit, Whole}
-use Rattle.sfi_image.specs.Keeping.{Kept, StandsFor, Leads, next_init, next_code, next_gate, is_first}
-use Rattle.sfi_image.proofs.Standing.{leads, gates_stand, code_stand, init_stand, region, rest_behind}
+use Rattle.sfi_image.specs.Fronts.{Front, front, head, IsHead, IsOpened, after_init, after_code, after_gates, HasFaultWhateverFollows}
+use Rattle.sfi_image.specs.Fronts.Front.{Empty, AfterMagic, AfterCount, InGates, InCode, InInit, Whole}
+use Rattle.sfi_image.specs.Keeping.{ReaderState, StandsFor, Leads, next_init, next_code, next_gate, is_first}
+use Rattle.sfi_image.proofs.Standing.{leads, gates_stand, code_stand, init_stand, region, rest_after}
 
 none_gates : (region : Span) → AreGates region []
 none_gates region = record { starts = λ k d h. absurd (omega arith); services = λ k d h. absurd (omega arith); ascending = λ i j d h e. absurd (omega arith) }
@@ -28,12 +28,12 @@ none_gates region = record { starts = λ k d h. absurd (omega arith); services =
 none_words : All AreGateWords []
 none_words = λ k d h. absurd (omega arith)
 
-pub fields_leads : (old new : Kept) (x : Front) (s : List ℕ) (f : Fields) → StandsFor old x → old.next ≡ next.Fields → s ≡ fields f → AreFieldWords f
+pub fields_leads : (old new : ReaderState) (x : Front) (s : List ℕ) (f : Fields) → StandsFor old x → old.next ≡ next.Fields → s ≡ fields f → AreFieldWords f
     → f.format ≡ old.fields.format → IsFirstFault old.spans f field_tests None → new.count ≡ old.count → new.begun ≡ old.begun + 1 → new.spans ≡ old.spans ++ spans_of f → new.fields ≡ f → new.gates ≡ []
     → new.passed ≡ 0 → new.code_read ≡ 0 → new.init_read ≡ 0 → new.next ≡ next_gate 0 f.gate_count → Leads x s new
 fields_leads old new Empty s f' h is e words kind passed count begun spans_are fields_are gates p c i to = let k = h.kept.0 in absurd cc
-fields_leads old new (Named format) s f' h is e words kind passed count begun spans_are fields_are gates p c i to = let k = h.kept.0 in absurd cc
-fields_leads old new (Counted format n ps) s f' h is e words kind passed count begun spans_are fields_are gates p c i to =
+fields_leads old new (AfterMagic format) s f' h is e words kind passed count begun spans_are fields_are gates p c i to = let k = h.kept.0 in absurd cc
+fields_leads old new (AfterCount format n ps) s f' h is e words kind passed count begun spans_are fields_are gates p c i to =
     let k = h.kept.1 in
     let of : f'.format ≡ format = kind ∙ k.of in
     let opened : IsOpened n ps f' [] = record {
@@ -44,7 +44,7 @@ fields_leads old new (Counted format n ps) s f' h is e words kind passed count b
       gate_words = none_words;
       gates = none_gates (code_span f');
     } in
-    leads (Counted format n ps) s new (behind_gates n ps f' []) h.right (f', of, e, refl) (gates_stand new n ps f' [] opened (omega arith) (record {
+    leads (AfterCount format n ps) s new (after_gates n ps f' []) h.right (f', of, e, refl) (gates_stand new n ps f' [] opened (omega arith) (record {
       count = count ∙ k.count;
       begun = begun ∙ ap (λ (j : ℕ). j + 1) k.begun;
       spans = spans_are ∙ ap (λ (b : List Span). b ++ spans_of f') k.spans;
@@ -56,13 +56,13 @@ fields_leads old new (InCode n ps f gs code) s f' h is e words kind passed count
 fields_leads old new (InInit n ps f gs code init) s f' h is e words kind passed count begun spans_are fields_are gates p c i to = let k = h.kept.0 in absurd cc
 fields_leads old new (Whole ps) s f' h is e words kind passed count begun spans_are fields_are gates p c i to = let k = h.kept.0 in absurd cc
 
-pub gate_leads : (old new : Kept) (x : Front) (s : List ℕ) (g : Gate) → StandsFor old x → old.next ≡ next.Gate → s ≡ gate g → AreGateWords g
+pub gate_leads : (old new : ReaderState) (x : Front) (s : List ℕ) (g : Gate) → StandsFor old x → old.next ≡ next.Gate → s ≡ gate g → AreGateWords g
     → ((gs : List Gate) → map (λ h. h.address) gs ≡ old.gates → AreGates (code_span old.fields) gs → AreGates (code_span old.fields) (gs ++ g ∷ []))
     → new.count ≡ old.count → new.begun ≡ old.begun → new.spans ≡ old.spans → new.fields ≡ old.fields → new.gates ≡ old.gates ++ g.address ∷ []
     → new.passed ≡ old.passed → new.code_read ≡ old.code_read → new.init_read ≡ old.init_read → new.next ≡ next_gate (length new.gates) old.fields.gate_count → Leads x s new
 gate_leads old new Empty s g h is e words may count begun spans_are fields_are gates p c i to = let k = h.kept.0 in absurd cc
-gate_leads old new (Named format) s g h is e words may count begun spans_are fields_are gates p c i to = let k = h.kept.0 in absurd cc
-gate_leads old new (Counted format n ps) s g h is e words may count begun spans_are fields_are gates p c i to = let k = h.kept.0 in absurd cc
+gate_leads old new (AfterMagic format) s g h is e words may count begun spans_are fields_are gates p c i to = let k = h.kept.0 in absurd cc
+gate_leads old new (AfterCount format n ps) s g h is e words may count begun spans_are fields_are gates p c i to = let k = h.kept.0 in absurd cc
 gate_leads old new (InGates n ps f gs) s g h is e words may count begun spans_are fields_are gates p c i to =
     let k = h.kept.1 in
     let was = h.right.0 in
@@ -79,7 +79,7 @@ gate_leads old new (InGates n ps f gs) s g h is e words may count begun spans_ar
     let lt = h.right.1 in
     let addresses : new.gates ≡ map (λ (y : Gate). y.address) (gs ++ g ∷ []) = gates ∙ ap (λ (as' : List ℕ). as' ++ g.address ∷ []) k.gates ∙ sym (map_push (λ (y : Gate). y.address) gs g) in
     let same_len : length new.gates ≡ length (gs ++ g ∷ []) = ap length addresses ∙ length-map (gs ++ g ∷ []) (λ (y : Gate). y.address) in
-    leads (InGates n ps f gs) s new (behind_gates n ps f (gs ++ g ∷ [])) h.right (g, e, refl) (gates_stand new n ps f (gs ++ g ∷ []) opened (omega (arith, len, lt)) (record {
+    leads (InGates n ps f gs) s new (after_gates n ps f (gs ++ g ∷ [])) h.right (g, e, refl) (gates_stand new n ps f (gs ++ g ∷ []) opened (omega (arith, len, lt)) (record {
       count = count ∙ k.count;
       begun = begun ∙ k.begun;
       spans = spans_are ∙ k.spans;
@@ -90,14 +90,14 @@ gate_leads old new (InCode n ps f gs code) s g h is e words may count begun span
 gate_leads old new (InInit n ps f gs code init) s g h is e words may count begun spans_are fields_are gates p c i to = let k = h.kept.0 in absurd cc
 gate_leads old new (Whole ps) s g h is e words may count begun spans_are fields_are gates p c i to = let k = h.kept.0 in absurd cc
 
-pub code_leads : (old new : Kept) (x : Front) (s : List ℕ) → StandsFor old x → old.next ≡ next.Code → length s ≡ 16
+pub code_leads : (old new : ReaderState) (x : Front) (s : List ℕ) → StandsFor old x → old.next ≡ next.Code → length s ≡ 16
     → new.count ≡ old.count → new.begun ≡ old.begun → new.spans ≡ old.spans → new.fields ≡ old.fields → new.gates ≡ old.gates
     → new.passed ≡ cond (is_first (drop old.passed old.gates) (old.fields.code_base + old.code_read)) (old.passed + 1) old.passed
     → new.code_read ≡ old.code_read + 16 → new.init_read ≡ old.init_read
     → new.next ≡ next_code (old.code_read + 16) old.fields.code_size old.fields.init_len old.begun old.count → Leads x s new
 code_leads old new Empty s h is len count begun spans_are fields_are gates p c i to = let k = h.kept.0 in absurd cc
-code_leads old new (Named format) s h is len count begun spans_are fields_are gates p c i to = let k = h.kept.0 in absurd cc
-code_leads old new (Counted format n ps) s h is len count begun spans_are fields_are gates p c i to = let k = h.kept.0 in absurd cc
+code_leads old new (AfterMagic format) s h is len count begun spans_are fields_are gates p c i to = let k = h.kept.0 in absurd cc
+code_leads old new (AfterCount format n ps) s h is len count begun spans_are fields_are gates p c i to = let k = h.kept.0 in absurd cc
 code_leads old new (InGates n ps f gs) s h is len count begun spans_are fields_are gates p c i to = let k = h.kept.0 in absurd cc
 code_leads old new (InCode n ps f gs code) s h is len count begun spans_are fields_are gates p c i to =
     let k = h.kept.1 in
@@ -110,13 +110,13 @@ code_leads old new (InCode n ps f gs code) s h is len count begun spans_are fiel
     let more : length (code ++ s) ≡ length code + 16 = omega (arith, length-append code s) in
     let at : f.code_base + length code + 16 ≡ f.code_base + length (code ++ s) = omega (arith, more) in
     let here : old.fields.code_base + old.code_read ≡ f.code_base + length code = rw (k.head.fields, k.code_read) refl in
-    let behind = rest_behind (f.code_base + length code) gs old.gates old.passed (omega arith) k.passed k.rest in
+    let after = rest_after (f.code_base + length code) gs old.gates old.passed (omega arith) k.passed k.rest in
     let passed_is : new.passed ≡ cond (is_first (drop old.passed old.gates) (f.code_base + length code)) (old.passed + 1) old.passed =
     p ∙ ap (λ (a : ℕ). cond (is_first (drop old.passed old.gates) a) (old.passed + 1) old.passed) here in
     let read : new.code_read ≡ length (code ++ s) = c ∙ ap (λ (j : ℕ). j + 16) k.code_read ∙ sym more in
     let where_to : new.next ≡ next_code (length (code ++ s)) f.code_size f.init_len (length ps + 1) n =
     to ∙ rw (k.head.fields, k.head.begun, k.head.count, k.code_read, ← more) refl in
-    leads (InCode n ps f gs code) s new (behind_code n ps f gs (code ++ s)) h.right refl (code_stand new n ps f gs (code ++ s) opened h.right.1 (omega (arith, more)) (omega (arith, more)) (record {
+    leads (InCode n ps f gs code) s new (after_code n ps f gs (code ++ s)) h.right refl (code_stand new n ps f gs (code ++ s) opened h.right.1 (omega (arith, more)) (omega (arith, more)) (record {
       head = record {
         count = count ∙ k.head.count;
         begun = begun ∙ k.head.begun;
@@ -126,19 +126,19 @@ code_leads old new (InCode n ps f gs code) s h is len count begun spans_are fiel
       };
       code_read = read;
       init_read = i ∙ k.init_read;
-      passed = rw (passed_is, gates) behind.0;
-      rest = rw (passed_is, gates, ← at) behind.1;
+      passed = rw (passed_is, gates) after.0;
+      rest = rw (passed_is, gates, ← at) after.1;
     }) where_to)
 code_leads old new (InInit n ps f gs code init) s h is len count begun spans_are fields_are gates p c i to = let k = h.kept.0 in absurd cc
 code_leads old new (Whole ps) s h is len count begun spans_are fields_are gates p c i to = let k = h.kept.0 in absurd cc
 
-pub init_leads : (old new : Kept) (x : Front) (s : List ℕ) → StandsFor old x → old.next ≡ next.Init → 1 ≤ length s → length s + old.init_read ≤ old.fields.init_len
+pub init_leads : (old new : ReaderState) (x : Front) (s : List ℕ) → StandsFor old x → old.next ≡ next.Init → 1 ≤ length s → length s + old.init_read ≤ old.fields.init_len
     → new.count ≡ old.count → new.begun ≡ old.begun → new.spans ≡ old.spans → new.fields ≡ old.fields → new.gates ≡ old.gates
     → new.init_read ≡ old.init_read + length s
     → new.next ≡ next_init (old.init_read + length s) old.fields.init_len old.begun old.count → Leads x s new
 init_leads old new Empty s h is some room count begun spans_are fields_are gates i to = let k = h.kept.0 in absurd cc
-init_leads old new (Named format) s h is some room count begun spans_are fields_are gates i to = let k = h.kept.0 in absurd cc
-init_leads old new (Counted format n ps) s h is some room count begun spans_are fields_are gates i to = let k = h.kept.0 in absurd cc
+init_leads old new (AfterMagic format) s h is some room count begun spans_are fields_are gates i to = let k = h.kept.0 in absurd cc
+init_leads old new (AfterCount format n ps) s h is some room count begun spans_are fields_are gates i to = let k = h.kept.0 in absurd cc
 init_leads old new (InGates n ps f gs) s h is some room count begun spans_are fields_are gates i to = let k = h.kept.0 in absurd cc
 init_leads old new (InCode n ps f gs code) s h is some room count begun spans_are fields_are gates i to = let k = h.kept.0 in absurd cc
 init_leads old new (InInit n ps f gs code init) s h is some room count begun spans_are fields_are gates i to =
@@ -148,7 +148,7 @@ init_leads old new (InInit n ps f gs code init) s h is some room count begun spa
     let room' : length s + length init ≤ f.init_len = rw (read, k.fields) at room in
     let where_to : new.next ≡ next_init (length (init ++ s)) f.init_len (length ps + 1) n =
     to ∙ rw (k.fields, k.begun, k.count, read, ← more) refl in
-    leads (InInit n ps f gs code init) s new (behind_init n ps f gs code (init ++ s)) h.right refl (init_stand new n ps f gs code (init ++ s) h.right.0 h.right.1 h.right.2 (omega (arith, more)) (record {
+    leads (InInit n ps f gs code init) s new (after_init n ps f gs code (init ++ s)) h.right refl (init_stand new n ps f gs code (init ++ s) h.right.0 h.right.1 h.right.2 (omega (arith, more)) (record {
       count = count ∙ k.count;
       begun = begun ∙ k.begun;
       spans = spans_are ∙ k.spans;
@@ -169,32 +169,32 @@ head_fault format n ps rest k h lt wrong =
       inr (n, flat_map part ps ++ rest, refl, (let most = h.at_most in omega arith), inr (h.at_least, h.at_most, (ps, rest, refl, h.right, h.one_format, inl (lt, wrong)))),
     ))
 
-pub magic_fault : (old : Kept) (x : Front) (s : List ℕ) → StandsFor old x → old.next ≡ next.Magic → length s ≡ 4 → ((format : Format) → s ≡ magic format → ⊥) → IsFaultOnwards (front x ++ s) faults.Magic
+pub magic_fault : (old : ReaderState) (x : Front) (s : List ℕ) → StandsFor old x → old.next ≡ next.Magic → length s ≡ 4 → ((format : Format) → s ≡ magic format → ⊥) → HasFaultWhateverFollows (front x ++ s) faults.Magic
 magic_fault old Empty s h is len wrong =
     λ more. let first : take 4 (s ++ more) ≡ s = ap (λ (j : ℕ). take j (s ++ more)) (sym len) ∙ take-append_seam s more in
     inr (inl (omega (arith, length-append s more), λ format e. wrong format (sym first ∙ e), refl))
-magic_fault old (Named format) s h is len wrong = let k = h.kept.0 in absurd cc
-magic_fault old (Counted format n ps) s h is len wrong = let k = h.kept.0 in absurd cc
+magic_fault old (AfterMagic format) s h is len wrong = let k = h.kept.0 in absurd cc
+magic_fault old (AfterCount format n ps) s h is len wrong = let k = h.kept.0 in absurd cc
 magic_fault old (InGates n ps f gs) s h is len wrong = let k = h.kept.0 in absurd cc
 magic_fault old (InCode n ps f gs code) s h is len wrong = let k = h.kept.0 in absurd cc
 magic_fault old (InInit n ps f gs code init) s h is len wrong = let k = h.kept.0 in absurd cc
 magic_fault old (Whole ps) s h is len wrong = let k = h.kept.0 in absurd cc
 
-pub count_fault : (old : Kept) (x : Front) (s : List ℕ) (m : ℕ) → StandsFor old x → old.next ≡ next.Count → s ≡ number m → IsWord m → (1 ≤ m → m ≤ 16 → ⊥) → IsFaultOnwards (front x ++ s) faults.Count
+pub count_fault : (old : ReaderState) (x : Front) (s : List ℕ) (m : ℕ) → StandsFor old x → old.next ≡ next.Count → s ≡ number m → IsWord m → (1 ≤ m → m ≤ 16 → ⊥) → HasFaultWhateverFollows (front x ++ s) faults.Count
 count_fault old Empty s m h is e word wrong = let k = h.kept.0 in absurd cc
-count_fault old (Named format) s m h is e word wrong =
+count_fault old (AfterMagic format) s m h is e word wrong =
     λ more. inr (inr (format, s ++ more, append_assoc (magic format) s more, inr (m, more, ap (λ (t : List ℕ). t ++ more) e, word, inl (λ r. wrong r.0 r.1, refl))))
-count_fault old (Counted format n ps) s m h is e word wrong = let k = h.kept.0 in absurd cc
+count_fault old (AfterCount format n ps) s m h is e word wrong = let k = h.kept.0 in absurd cc
 count_fault old (InGates n ps f gs) s m h is e word wrong = let k = h.kept.0 in absurd cc
 count_fault old (InCode n ps f gs code) s m h is e word wrong = let k = h.kept.0 in absurd cc
 count_fault old (InInit n ps f gs code init) s m h is e word wrong = let k = h.kept.0 in absurd cc
 count_fault old (Whole ps) s m h is e word wrong = let k = h.kept.0 in absurd cc
 
-pub fields_fault : (old : Kept) (x : Front) (s : List ℕ) (f : Fields) (k : LayoutFault) → StandsFor old x → old.next ≡ next.Fields → s ≡ fields f → AreFieldWords f
-    → f.format ≡ old.fields.format → IsFirstFault old.spans f field_tests (Some k) → IsFaultOnwards (front x ++ s) k
+pub fields_fault : (old : ReaderState) (x : Front) (s : List ℕ) (f : Fields) (k : LayoutFault) → StandsFor old x → old.next ≡ next.Fields → s ≡ fields f → AreFieldWords f
+    → f.format ≡ old.fields.format → IsFirstFault old.spans f field_tests (Some k) → HasFaultWhateverFollows (front x ++ s) k
 fields_fault old Empty s f' k' h is e words kind wrong = let k = h.kept.0 in absurd cc
-fields_fault old (Named format) s f' k' h is e words kind wrong = let k = h.kept.0 in absurd cc
-fields_fault old (Counted format n ps) s f' k' h is e words kind wrong =
+fields_fault old (AfterMagic format) s f' k' h is e words kind wrong = let k = h.kept.0 in absurd cc
+fields_fault old (AfterCount format n ps) s f' k' h is e words kind wrong =
     λ more. rw (append_assoc (head format n ps) s more) (head_fault format n ps (s ++ more) k' h.right.0 h.right.1
     (inr (f', more, ap (λ (t : List ℕ). t ++ more) e, words, kind ∙ h.kept.1.of, inl (subst (λ (b : List Span). IsFirstFault b f' field_tests (Some k')) h.kept.1.spans wrong))))
 fields_fault old (InGates n ps f gs) s f' k' h is e words kind wrong = let k = h.kept.0 in absurd cc
@@ -202,12 +202,12 @@ fields_fault old (InCode n ps f gs code) s f' k' h is e words kind wrong = let k
 fields_fault old (InInit n ps f gs code init) s f' k' h is e words kind wrong = let k = h.kept.0 in absurd cc
 fields_fault old (Whole ps) s f' k' h is e words kind wrong = let k = h.kept.0 in absurd cc
 
-pub gate_fault : (old : Kept) (x : Front) (s : List ℕ) (g : Gate) → StandsFor old x → old.next ≡ next.Gate → s ≡ gate g → AreGateWords g
+pub gate_fault : (old : ReaderState) (x : Front) (s : List ℕ) (g : Gate) → StandsFor old x → old.next ≡ next.Gate → s ≡ gate g → AreGateWords g
     → ((gs : List Gate) → map (λ h. h.address) gs ≡ old.gates → AreGates (code_span old.fields) gs → AreGates (code_span old.fields) (gs ++ g ∷ []) → ⊥)
-    → IsFaultOnwards (front x ++ s) faults.Gates
+    → HasFaultWhateverFollows (front x ++ s) faults.Gates
 gate_fault old Empty s g h is e words wrong = let k = h.kept.0 in absurd cc
-gate_fault old (Named format) s g h is e words wrong = let k = h.kept.0 in absurd cc
-gate_fault old (Counted format n ps) s g h is e words wrong = let k = h.kept.0 in absurd cc
+gate_fault old (AfterMagic format) s g h is e words wrong = let k = h.kept.0 in absurd cc
+gate_fault old (AfterCount format n ps) s g h is e words wrong = let k = h.kept.0 in absurd cc
 gate_fault old (InGates n ps f gs) s g h is e words wrong =
     λ more.
     let opened = h.right.0 in

@@ -15,8 +15,8 @@ use Rattle.sfi_image.proofs.Views.{same_format}
 pub magic_wrong : (bytes front : List ℕ) → 4 ≤ length bytes → front ≡ take 4 bytes → ((format : Format) → front ≡ magic format → ⊥) → IsFault bytes Magic
 magic_wrong bytes front long e wrong = inr (inl (long, λ format is. wrong format (e ∙ is), refl))
 
-pub behind_magic : (format : Format) (bytes front rest : List ℕ) (k : LayoutFault) → front ≡ take 4 bytes → rest ≡ drop 4 bytes → front ≡ magic format → IsCountFault format rest k → IsFault bytes k
-behind_magic format bytes front rest k e0 e1 is h = inr (inr (format, rest, sym (take-append-drop 4 bytes) ∙ rw (← e1, ← e0, is) refl, h))
+pub after_magic : (format : Format) (bytes front rest : List ℕ) (k : LayoutFault) → front ≡ take 4 bytes → rest ≡ drop 4 bytes → front ≡ magic format → IsCountFault format rest k → IsFault bytes k
+after_magic format bytes front rest k e0 e1 is h = inr (inr (format, rest, sym (take-append-drop 4 bytes) ∙ rw (← e1, ← e0, is) refl, h))
 
 pub whole : (format : Format) (bytes front rest after : List ℕ) (n : ℕ) (ps : List Part) → front ≡ take 4 bytes → rest ≡ drop 4 bytes → front ≡ magic format → rest ≡ number n ++ after → 1 ≤ n → n ≤ 16
     → after ≡ flat_map part ps → AreOf format ps → AreRight ps → length ps ≡ n → IsImage bytes ps

@@ -17,12 +17,12 @@ use Rattle.sfi_image.specs.declared.fault.LayoutFault.TheVariants.{Short, Traili
 use Rattle.sfi_image.specs.Faults.{IsFault, number_of}
 use Rattle.sfi_image.specs.Images.{IsImage}
 
--- Nothing, or the magic of a format; with the count and so many whole sandboxes, of which there is one more; behind these the fields of the next and its gates so far;
--- all its gates, and its code so far; all its code, and its first data bytes so far; or the whole image.
+-- Nothing, or the magic of a format; with the count and so many whole sandboxes, of which there is one more; after these the fields of the
+-- next and its gates so far; all its gates, and its code so far; all its code, and its first data bytes so far; or the whole image.
 pub data Front : Type 0 where
   Empty : Front
-  Named : Format → Front
-  Counted : Format → ℕ → List Part → Front
+  AfterMagic : Format → Front
+  AfterCount : Format → ℕ → List Part → Front
   InGates : ℕ → List Part → Fields → List Gate → Front
   InCode : ℕ → List Part → Fields → List Gate → List ℕ → Front
   InInit : ℕ → List Part → Fields → List Gate → List ℕ → List ℕ → Front
@@ -37,8 +37,8 @@ head format n ps = magic format ++ (number n ++ flat_map part ps)
 -- the bytes of a front
 abbrev pub front : Front → List ℕ
 front Empty = []
-front (Named format) = magic format
-front (Counted format n ps) = head format n ps
+front (AfterMagic format) = magic format
+front (AfterCount format n ps) = head format n ps
 front (InGates n ps f gs) = head f.format n ps ++ (fields f ++ flat_map gate gs)
 front (InCode n ps f gs code) = head f.format n ps ++ (fields f ++ (flat_map gate gs ++ code))
 front (InInit n ps f gs code init) = head f.format n ps ++ (fields f ++ (flat_map gate gs ++ (code ++ init)))
@@ -53,7 +53,7 @@ pub record IsHead (format : Format) (n : ℕ) (ps : List Part) : Type 0 where
   pub one_format : AreOf format ps
   pub right : AreRight ps
 
--- behind them the fields and the gates of one more pass theirs
+-- after them the fields and the gates of one more pass theirs
 pub record IsOpened (n : ℕ) (ps : List Part) (f : Fields) (gs : List Gate) : Type 0 where
   pub before : IsHead f.format n ps
   pub more : length ps < n
@@ -65,20 +65,21 @@ pub record IsOpened (n : ℕ) (ps : List Part) (f : Fields) (gs : List Gate) : T
 -- all that was read passes its tests, and each stage isn't over
 abbrev pub IsRightFront : Front → Type 0
 IsRightFront Empty = Unit {0}
-IsRightFront (Named format) = Unit {0}
-IsRightFront (Counted format n ps) = IsHead format n ps × (length ps < n)
+IsRightFront (AfterMagic format) = Unit {0}
+IsRightFront (AfterCount format n ps) = IsHead format n ps × (length ps < n)
 IsRightFront (InGates n ps f gs) = IsOpened n ps f gs × (length gs < f.gate_count)
 IsRightFront (InCode n ps f gs code) = IsOpened n ps f gs × (length gs ≡ f.gate_count) × (length code % 16 ≡ 0) × (length code < f.code_size)
-IsRightFront (InInit n ps f gs code init) = IsOpened n ps f gs × (length gs ≡ f.gate_count) × (length code ≡ f.code_size) × (length init < f.init_len)
+IsRightFront (InInit n ps f gs code init) =
+    IsOpened n ps f gs × (length gs ≡ f.gate_count) × (length code ≡ f.code_size) × (length init < f.init_len)
 IsRightFront (Whole ps) = IsHead (format_of ps) (length ps) ps
 
 -- ---- what comes next
 
--- what is read next behind a front
+-- what is read next after a front
 abbrev pub want_of : Front → Want
 want_of Empty = wants.Field 4
-want_of (Named format) = wants.Field 4
-want_of (Counted format n ps) = wants.Field 28
+want_of (AfterMagic format) = wants.Field 4
+want_of (AfterCount format n ps) = wants.Field 28
 want_of (InGates n ps f gs) = wants.Field 8
 want_of (InCode n ps f gs code) =
     let at = f.code_base + length code in
@@ -86,47 +87,57 @@ want_of (InCode n ps f gs code) =
 want_of (InInit n ps f gs code init) = wants.Init (f.init_len - length init)
 want_of (Whole ps) = wants.End
 
+-- ---- how a front goes on: `Follows`, and its parts, which only private contracts name themselves
+
 -- a sandbox of these
 abbrev pub part_of : Fields → List Gate → List ℕ → List ℕ → Part
-part_of f gs code init =
-    record { format = f.format; code_base = f.code_base; data_base = f.data_base; data_size = f.data_size; start = f.start; gates = gs; code = code; init = init }
+part_of f gs code init = record {
+  format = f.format;
+  code_base = f.code_base;
+  data_base = f.data_base;
+  data_size = f.data_size;
+  start = f.start;
+  gates = gs;
+  code = code;
+  init = init;
+}
 
--- behind so many whole sandboxes
-abbrev pub behind_parts : Format → ℕ → List Part → Front
-behind_parts format n ps = cond (length ps == n) (Whole ps) (Counted format n ps)
+-- after so many whole sandboxes
+abbrev pub after_parts : Format → ℕ → List Part → Front
+after_parts format n ps = cond (length ps == n) (Whole ps) (AfterCount format n ps)
 
--- behind so many first data bytes of the next
-abbrev pub behind_init : ℕ → List Part → Fields → List Gate → List ℕ → List ℕ → Front
-behind_init n ps f gs code init =
-    cond (length init == f.init_len) (behind_parts f.format n (ps ++ part_of f gs code init ∷ [])) (InInit n ps f gs code init)
+-- after so many first data bytes of the next
+abbrev pub after_init : ℕ → List Part → Fields → List Gate → List ℕ → List ℕ → Front
+after_init n ps f gs code init =
+    cond (length init == f.init_len) (after_parts f.format n (ps ++ part_of f gs code init ∷ [])) (InInit n ps f gs code init)
 
--- behind so much of its code
-abbrev pub behind_code : ℕ → List Part → Fields → List Gate → List ℕ → Front
-behind_code n ps f gs code = cond (length code == f.code_size) (behind_init n ps f gs code []) (InCode n ps f gs code)
+-- after so much of its code
+abbrev pub after_code : ℕ → List Part → Fields → List Gate → List ℕ → Front
+after_code n ps f gs code = cond (length code == f.code_size) (after_init n ps f gs code []) (InCode n ps f gs code)
 
--- behind so many of its gates
-abbrev pub behind_gates : ℕ → List Part → Fields → List Gate → Front
-behind_gates n ps f gs = cond (length gs == f.gate_count) (InCode n ps f gs []) (InGates n ps f gs)
+-- after so many of its gates
+abbrev pub after_gates : ℕ → List Part → Fields → List Gate → Front
+after_gates n ps f gs = cond (length gs == f.gate_count) (InCode n ps f gs []) (InGates n ps f gs)
 
 -- the second front is the first with these bytes, as many as come next
 abbrev pub Follows : Front → List ℕ → Front → Type 0
-Follows Empty s y = (format : Format) × (s ≡ magic format) × (y ≡ Named format)
-Follows (Named format) s y = (n : ℕ) × (s ≡ number n) × (y ≡ Counted format n [])
-Follows (Counted format n ps) s y = (f : Fields) × (f.format ≡ format) × (s ≡ fields f) × (y ≡ behind_gates n ps f [])
-Follows (InGates n ps f gs) s y = (g : Gate) × (s ≡ gate g) × (y ≡ behind_gates n ps f (gs ++ g ∷ []))
-Follows (InCode n ps f gs code) s y = y ≡ behind_code n ps f gs (code ++ s)
-Follows (InInit n ps f gs code init) s y = y ≡ behind_init n ps f gs code (init ++ s)
+Follows Empty s y = (format : Format) × (s ≡ magic format) × (y ≡ AfterMagic format)
+Follows (AfterMagic format) s y = (n : ℕ) × (s ≡ number n) × (y ≡ AfterCount format n [])
+Follows (AfterCount format n ps) s y = (f : Fields) × (f.format ≡ format) × (s ≡ fields f) × (y ≡ after_gates n ps f [])
+Follows (InGates n ps f gs) s y = (g : Gate) × (s ≡ gate g) × (y ≡ after_gates n ps f (gs ++ g ∷ []))
+Follows (InCode n ps f gs code) s y = y ≡ after_code n ps f gs (code ++ s)
+Follows (InInit n ps f gs code init) s y = y ≡ after_init n ps f gs code (init ++ s)
 Follows (Whole ps) s y = ⊥
 
 -- ---- faults
 
--- the bytes have that fault, whatever follows them
-abbrev pub IsFaultOnwards : List ℕ → LayoutFault → Type 0
-IsFaultOnwards bytes k = (more : List ℕ) → IsFault (bytes ++ more) k
+-- the bytes have that fault, and have it whatever follows them
+abbrev pub HasFaultWhateverFollows : List ℕ → LayoutFault → Type 0
+HasFaultWhateverFollows bytes k = (more : List ℕ) → IsFault (bytes ++ more) k
 
--- the bytes have the fault of that number, whatever follows them
-abbrev pub IsFaultOnwardsOf : List ℕ → ℕ → Type 0
-IsFaultOnwardsOf bytes n = (k : LayoutFault) × (number_of k ≡ n) × IsFaultOnwards bytes k
+-- the same, of the fault of that number
+abbrev pub HasFaultNumberWhateverFollows : List ℕ → ℕ → Type 0
+HasFaultNumberWhateverFollows bytes n = (k : LayoutFault) × (number_of k ≡ n) × HasFaultWhateverFollows bytes k
 
 -- fewer bytes than come next
 abbrev pub IsLess : ℕ → Want → Type 0

@@ -10,12 +10,13 @@ use Rattle.sfi_image.specs.declared.want.Next.TheVariants as next
 use Rattle.sfi_image.specs.Spelling.{Part}
 use Rattle.sfi_image.specs.Spans.{spans, spans_of}
 use Rattle.sfi_image.specs.Gates.{is_gate_of}
-use Rattle.sfi_image.specs.Fronts.{Front, front, IsRightFront, Follows, IsFaultOnwards}
-use Rattle.sfi_image.specs.Fronts.Front.{Empty, Named, Counted, InGates, InCode, InInit, Whole}
+use Rattle.sfi_image.specs.Fronts.{Front, front, IsRightFront, Follows, HasFaultWhateverFollows}
+use Rattle.sfi_image.specs.Fronts.Front.{Empty, AfterMagic, AfterCount, InGates, InCode, InInit, Whole}
 
--- what is kept: what comes next, the count, how many sandboxes are begun, their spans, and of the last of these the fields, the gates' addresses, how many
--- of them lie before the next bundle, and how many bytes were read of its code and of its first data bytes; the format of the fields is kept from the magic on
-pub record Kept : Type 0 where
+-- what is kept: what comes next, the count, how many sandboxes are begun, their spans, and of the last of these the fields, the gates'
+-- addresses, how many of them lie before the next bundle, and how many bytes were read of its code and of its first data bytes; the format of
+-- the fields is kept from the magic on
+pub record ReaderState : Type 0 where
   pub next : Next
   pub count : ℕ
   pub begun : ℕ
@@ -28,13 +29,13 @@ pub record Kept : Type 0 where
 
 -- ---- of which fronts
 
-pub record KeepsHead (r : Kept) (format : Format) (n : ℕ) (ps : List Part) : Type 0 where
+pub record KeepsHead (r : ReaderState) (format : Format) (n : ℕ) (ps : List Part) : Type 0 where
   pub of : r.fields.format ≡ format
   pub count : r.count ≡ n
   pub begun : r.begun ≡ length ps
   pub spans : r.spans ≡ spans ps
 
-pub record KeepsFields (r : Kept) (n : ℕ) (ps : List Part) (f : Fields) (gs : List Gate) : Type 0 where
+pub record KeepsFields (r : ReaderState) (n : ℕ) (ps : List Part) (f : Fields) (gs : List Gate) : Type 0 where
   pub count : r.count ≡ n
   pub begun : r.begun ≡ length ps + 1
   pub spans : r.spans ≡ spans ps ++ spans_of f
@@ -61,92 +62,100 @@ pub record AreRest (at : ℕ) (gs : List Gate) (ahead : List ℕ) : Type 0 where
   pub ahead_are : AreAhead at ahead
   pub same : (a : ℕ) → at ≤ a → is_one_of ahead a ≡ is_gate_of gs a
 
-pub record KeepsCode (r : Kept) (n : ℕ) (ps : List Part) (f : Fields) (gs : List Gate) (code : List ℕ) : Type 0 where
+pub record KeepsCode (r : ReaderState) (n : ℕ) (ps : List Part) (f : Fields) (gs : List Gate) (code : List ℕ) : Type 0 where
   pub head : KeepsFields r n ps f gs
   pub code_read : r.code_read ≡ length code
   pub init_read : r.init_read ≡ 0
   pub passed : r.passed ≤ length r.gates
   pub rest : AreRest (f.code_base + length code) gs (drop r.passed r.gates)
 
-abbrev pub Keeps : Kept → Front → Type 0
+abbrev pub Keeps : ReaderState → Front → Type 0
 Keeps r Empty = (r.next ≡ next.Magic) × (r.spans ≡ [])
-Keeps r (Named format) = (r.next ≡ next.Count) × (r.spans ≡ []) × (r.fields.format ≡ format)
-Keeps r (Counted format n ps) = (r.next ≡ next.Fields) × KeepsHead r format n ps
+Keeps r (AfterMagic format) = (r.next ≡ next.Count) × (r.spans ≡ []) × (r.fields.format ≡ format)
+Keeps r (AfterCount format n ps) = (r.next ≡ next.Fields) × KeepsHead r format n ps
 Keeps r (InGates n ps f gs) = (r.next ≡ next.Gate) × KeepsFields r n ps f gs × (r.passed ≡ 0) × (r.code_read ≡ 0) × (r.init_read ≡ 0)
 Keeps r (InCode n ps f gs code) = (r.next ≡ next.Code) × KeepsCode r n ps f gs code
 Keeps r (InInit n ps f gs code init) = (r.next ≡ next.Init) × KeepsFields r n ps f gs × (r.init_read ≡ length init)
 Keeps r (Whole ps) = (r.next ≡ next.End) × Unit {0}
 
 -- the reader has read that front, and all of it passed its tests
-pub record StandsFor (r : Kept) (x : Front) : Type 0 where
+pub record StandsFor (r : ReaderState) (x : Front) : Type 0 where
   pub right : IsRightFront x
   pub kept : Keeps r x
 
 -- each reader stands for a front, or has met a fault
-abbrev pub IsReader : Kept → Type 0
+abbrev pub IsReader : ReaderState → Type 0
 IsReader r = (r.next ≡ next.Nothing) ⊎ ((x : Front) × StandsFor r x)
-
--- ---- what comes next, by the numbers kept
-
--- behind so many sandboxes of that count
-abbrev pub next_part : ℕ → ℕ → Next
-next_part begun count = cond (begun == count) next.End next.Fields
-
--- behind so many first data bytes of so many
-abbrev pub next_init : ℕ → ℕ → ℕ → ℕ → Next
-next_init read len begun count = cond (read == len) (next_part begun count) next.Init
-
--- behind so many bytes of code of so many
-abbrev pub next_code : ℕ → ℕ → ℕ → ℕ → ℕ → Next
-next_code read size len begun count = cond (read == size) (next_init 0 len begun count) next.Code
-
--- behind so many gates of so many
-abbrev pub next_gate : ℕ → ℕ → Next
-next_gate read gate_count = cond (read == gate_count) next.Code next.Gate
 
 -- ---- one step
 
--- so many bytes may be taken
-abbrev pub asked : Next → Fields → ℕ → ℕ → Type 0
-asked next.Magic f read len = len ≡ 4
-asked next.Count f read len = len ≡ 4
-asked next.Fields f read len = len ≡ 28
-asked next.Gate f read len = len ≡ 8
-asked next.Code f read len = len ≡ 16
-asked next.Init f read len = (1 ≤ len) × (len + read ≤ f.init_len)
-asked next.End f read len = ⊥
-asked next.Nothing f read len = ⊥
-
-abbrev pub IsAsked : Kept → ℕ → Type 0
-IsAsked r len = asked r.next r.fields r.init_read len
-
--- behind the bytes the reader stands for the front that they make of that one
-pub record Leads (x : Front) (s : List ℕ) (r : Kept) : Type 0 where
+-- after the bytes the reader stands for the front that they make of that one
+pub record Leads (x : Front) (s : List ℕ) (r : ReaderState) : Type 0 where
   pub to : Front
   pub stands : StandsFor r to
   pub follows : Follows x s to
   pub bytes : front to ≡ front x ++ s
 
--- no fault, and it goes on from each front that it stands for; or a fault of each of them with these bytes
-abbrev pub Takes : Kept → List ℕ → Kept → Option LayoutFault → Type 0
-Takes old s new None = (x : Front) → StandsFor old x → Leads x s new
-Takes old s new (Some k) = (new.next ≡ next.Nothing) × ((x : Front) → StandsFor old x → IsFaultOnwards (front x ++ s) k)
-
 -- ---- how much is left
 
+-- the most that one sandbox adds: 1 for its fields, 64 for its gates, 1048576 for the bytes of its code and as many for its first data bytes,
+-- and 1 by which what is left within it stays above what is left after it
 abbrev pub part_most : ℕ
-part_most = 2097218
+part_most = 1 + 64 + 1048576 + 1048576 + 1
 
-abbrev pub left_by : Next → Kept → ℕ
-left_by next.Magic r = 16 * part_most + 2
+-- what is left at first: 16 sandboxes at most, and 1 each for the magic and the count
+abbrev pub left_most : ℕ
+left_most = 16 * part_most + 2
+
+abbrev pub left_by : Next → ReaderState → ℕ
+left_by next.Magic r = left_most
 left_by next.Count r = 16 * part_most + 1
 left_by next.Fields r = (r.count - r.begun) * part_most
-left_by next.Gate r = (r.count - r.begun) * part_most + (r.fields.gate_count - length r.gates) + r.fields.code_size + r.fields.init_len + 1
+left_by next.Gate r =
+    (r.count - r.begun) * part_most + (r.fields.gate_count - length r.gates) + r.fields.code_size + r.fields.init_len + 1
 left_by next.Code r = (r.count - r.begun) * part_most + (r.fields.code_size - r.code_read) + r.fields.init_len + 1
 left_by next.Init r = (r.count - r.begun) * part_most + (r.fields.init_len - r.init_read) + 1
 left_by next.End r = 0
 left_by next.Nothing r = 0
 
 -- a number that falls with each step
-abbrev pub left : Kept → ℕ
+abbrev pub left : ReaderState → ℕ
 left r = left_by r.next r
+
+-- ---- words of private contracts
+
+-- what comes next after so many sandboxes of that count
+abbrev pub next_part : ℕ → ℕ → Next
+next_part begun count = cond (begun == count) next.End next.Fields
+
+-- what comes next after so many first data bytes of so many
+abbrev pub next_init : ℕ → ℕ → ℕ → ℕ → Next
+next_init read len begun count = cond (read == len) (next_part begun count) next.Init
+
+-- what comes next after so many bytes of code of so many
+abbrev pub next_code : ℕ → ℕ → ℕ → ℕ → ℕ → Next
+next_code read size len begun count = cond (read == size) (next_init 0 len begun count) next.Code
+
+-- what comes next after so many gates of so many
+abbrev pub next_gate : ℕ → ℕ → Next
+next_gate read gate_count = cond (read == gate_count) next.Code next.Gate
+
+-- that comes next, for a sandbox with these fields of which so many first data bytes are read: so many bytes may be taken
+abbrev pub TakesLength : Next → Fields → ℕ → ℕ → Type 0
+TakesLength next.Magic f read len = len ≡ 4
+TakesLength next.Count f read len = len ≡ 4
+TakesLength next.Fields f read len = len ≡ 28
+TakesLength next.Gate f read len = len ≡ 8
+TakesLength next.Code f read len = len ≡ 16
+TakesLength next.Init f read len = (1 ≤ len) × (len + read ≤ f.init_len)
+TakesLength next.End f read len = ⊥
+TakesLength next.Nothing f read len = ⊥
+
+-- so many bytes are as long as what comes next, told by what is kept
+abbrev pub MayTake : ReaderState → ℕ → Type 0
+MayTake r len = TakesLength r.next r.fields r.init_read len
+
+-- no fault, and it goes on from each front that it stands for; or a fault of each of them with these bytes
+abbrev pub Takes : ReaderState → List ℕ → ReaderState → Option LayoutFault → Type 0
+Takes old s new None = (x : Front) → StandsFor old x → Leads x s new
+Takes old s new (Some k) = (new.next ≡ next.Nothing) × ((x : Front) → StandsFor old x → HasFaultWhateverFollows (front x ++ s) k)

@@ -1,8 +1,8 @@
 -- The fields of a reader as what it keeps.
 use Rattle.sfi_image.specs.declared.layout_reader.LayoutReader.TheInside.{Inside}
-use Rattle.sfi_image.specs.Keeping.{Kept}
+use Rattle.sfi_image.specs.Keeping.{ReaderState}
 
-abbrev pub kept : Inside → Kept
+abbrev pub kept : Inside → ReaderState
 kept a = record {
   next = a.next;
   count = a.count;

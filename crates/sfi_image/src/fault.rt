@@ -9,7 +9,7 @@ use thiserror::Error;
 /// What is wrong with the bytes: the first test that fails, in the order of reading. Its text is its bare name.
 #[derive(Clone, Copy, Debug, PartialEq, Eq, Error)]
 pub enum LayoutFault {
-    /// The first four bytes aren't `SFI1`.
+    /// The first four bytes are neither `SFI1` nor `SFI2`.
     #[error("Magic")]
     Magic,
     /// The number of sandboxes isn't from 1 to 16.
@@ -18,7 +18,8 @@ pub enum LayoutFault {
     /// What is read next isn't there whole.
     #[error("Short")]
     Short,
-    /// The code size is no power of two from 256 to 65536, or the code base no multiple of it.
+    /// The code size is no power of two from 256 to the format's largest, 65536 or 1048576, or the code base no multiple
+    /// of it.
     #[error("Code")]
     Code,
     /// The data size is no power of two from 256 to 1048576, or the data base no multiple of it.

@@ -7,7 +7,8 @@ ghost use Rattle.sfi_image.specs.Formats.{magic, code_most, has_stack, is_stack}
 pub enum Format {
     /// The first one.
     Sfi1,
-    /// That in which x2 is a stack pointer, which always lies in the data region.
+    /// That in which x2 is a stack pointer: it lies in the data region wherever a sandbox is entered or replied to, an
+    /// access on it needs no pair, and what writes it is confined.
     Sfi2,
 }
 

@@ -1,9 +1,9 @@
 //! Reading an image's layout piece by piece, without taking memory.
 ghost use Rattle.std.specs.Prelude.{◌≡◌, ℕ, ◌+◌, ◌<◌, ◌≤◌, ◌↔◌, ◌++◌, ◌∷◌, [], List, length, map, drop, cond, ◌==◌, IsTrue, IfSome, IfNone};
 ghost use Rattle.sfi_image.specs.declared.fault.LayoutFault.{LayoutFault};
-ghost use Rattle.sfi_image.specs.Fronts.{Front, front, want_of, IsLengthOf, IsFaultOnwardsOf};
+ghost use Rattle.sfi_image.specs.Fronts.{Front, front, want_of, IsLengthOf, HasFaultNumberWhateverFollows};
 ghost use Rattle.sfi_image.specs.Fronts.Front.{Empty};
-ghost use Rattle.sfi_image.specs.Keeping.{StandsFor, IsAsked, Leads, Takes, left, is_first, next_part, next_init, next_code, next_gate};
+ghost use Rattle.sfi_image.specs.Keeping.{StandsFor, MayTake, Leads, Takes, left, is_first, next_part, next_init, next_code, next_gate};
 
 use crate::fault::LayoutFault;
 use crate::fields::{Fields, code_span, field_fault, guarded_span};
@@ -29,9 +29,9 @@ pub struct LayoutReader {
 }
 
 impl Model for LayoutReader {
-    ghost use Rattle.sfi_image.specs.Keeping.{Kept, IsReader};
+    ghost use Rattle.sfi_image.specs.Keeping.{ReaderState, IsReader};
 
-    ghost Value = { Kept };
+    ghost Value = { ReaderState };
 
     ghost use Rattle.sfi_image.specs.Reader.{kept};
 
@@ -40,7 +40,7 @@ impl Model for LayoutReader {
     ghost invariant = { λ a. IsReader (kept a) };
 }
 
-// What comes behind so many sandboxes.
+// What comes after so many sandboxes.
 fn next_part(begun: u32, count: u32) -> Next
     ensures { result ≡ next_part begun count }
 {
@@ -51,7 +51,7 @@ fn next_part(begun: u32, count: u32) -> Next
     }
 }
 
-// What comes behind so many first data bytes.
+// What comes after so many first data bytes.
 fn next_init(read: u32, len: u32, begun: u32, count: u32) -> Next
     ensures { result ≡ next_init read len begun count }
 {
@@ -62,7 +62,7 @@ fn next_init(read: u32, len: u32, begun: u32, count: u32) -> Next
     }
 }
 
-// What comes behind so many bytes of code.
+// What comes after so many bytes of code.
 #[inline]
 fn next_code(read: u32, size: u32, len: u32, begun: u32, count: u32) -> Next
     ensures { result ≡ next_code read size len begun count }
@@ -74,7 +74,7 @@ fn next_code(read: u32, size: u32, len: u32, begun: u32, count: u32) -> Next
     }
 }
 
-// What comes behind so many gates.
+// What comes after so many gates.
 fn next_gate(read: u32, gate_count: u32) -> Next
     ensures { result ≡ next_gate read gate_count }
 {
@@ -85,9 +85,9 @@ fn next_gate(read: u32, gate_count: u32) -> Next
     }
 }
 
-// Whether the first of the addresses behind so many is that one.
+// Whether the first of the addresses after so many is that one.
 #[inline]
-fn is_first_behind(addresses: &[u32], passed: usize, address: u32) -> bool
+fn is_first_after(addresses: &[u32], passed: usize, address: u32) -> bool
     ensures { result ≡ is_first (drop passed addresses.now) address }
 {
     match addresses.get(passed) {
@@ -96,13 +96,13 @@ fn is_first_behind(addresses: &[u32], passed: usize, address: u32) -> bool
     }
 }
 
-// How many addresses lie behind that one, where so many lie before it.
+// How many addresses lie after that one, where so many lie before it.
 #[inline]
 fn passed_by(addresses: &[u32], passed: usize, address: u32) -> usize
     requires { passed ≤ length addresses.now }
     ensures { result ≡ cond (is_first (drop passed addresses.now) address) (passed + 1) passed }
 {
-    if is_first_behind(addresses, passed, address) {
+    if is_first_after(addresses, passed, address) {
         passed + 1
     } else {
         passed
@@ -136,7 +136,7 @@ impl LayoutReader {
         }
     }
 
-    // The image's format, behind its magic.
+    // The image's format, after its magic.
     pub(crate) fn format(&self) -> Format
         ensures { result ≡ self.now.fields.format }
     {
@@ -147,7 +147,6 @@ impl LayoutReader {
     #[inline]
     pub fn wants(&self) -> Want
         ensures want { (x : Front) → StandsFor self.now x → result ≡ want_of x }
-        ensures asked { (n : ℕ) → IsLengthOf n result → IsAsked self.now n }
         ensures stopped { self.now.next ≡ Next.Nothing → result ≡ Want.Nothing }
     {
         match self.next {
@@ -162,7 +161,7 @@ impl LayoutReader {
                     format: self.fields.format,
                     code_base: self.fields.code_base,
                     code_size: self.fields.code_size,
-                    listed: is_first_behind(self.gates.as_slice(), self.passed, address),
+                    listed: is_first_after(self.gates.as_slice(), self.passed, address),
                 }
             }
             Next::Init => Want::Init((self.fields.init_len - self.init_read) as usize),
@@ -171,13 +170,13 @@ impl LayoutReader {
         }
     }
 
-    /// Takes the bytes that come next. The answer is the number of the first test that fails, if one does; then nothing
-    /// is wanted any more.
+    /// Takes the bytes that come next, as many as are wanted. The answer is the number of the first test that fails, if
+    /// one does; then nothing is wanted any more.
     #[inline]
     pub fn take(&mut self, bytes: &[u8]) -> Option<u32>
-        requires { IsAsked self.old (length bytes.now) }
+        requires { (x : Front) × StandsFor self.old x × IsLengthOf (length bytes.now) (want_of x) }
         ensures goes_on { IfNone result ((x : Front) → StandsFor self.old x → Leads x bytes.now self.new) }
-        ensures fault { IfSome result (λ n. (x : Front) → StandsFor self.old x → IsFaultOnwardsOf (front x ++ bytes.now) n) }
+        ensures fault { IfSome result (λ n. (x : Front) → StandsFor self.old x → HasFaultNumberWhateverFollows (front x ++ bytes.now) n) }
         ensures stopped { IfSome result (λ n. self.new.next ≡ Next.Nothing) }
         ensures falls { left self.new < left self.old }
     {
@@ -190,7 +189,7 @@ impl LayoutReader {
     // The same, with the fault itself.
     #[inline]
     pub(crate) fn advance(&mut self, bytes: &[u8]) -> Option<LayoutFault>
-        requires { IsAsked self.old (length bytes.now) }
+        requires { MayTake self.old (length bytes.now) }
         ensures takes { Takes self.old bytes.now self.new result }
         ensures falls { left self.new < left self.old }
     {

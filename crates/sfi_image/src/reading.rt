@@ -10,9 +10,9 @@ ghost use Rattle.sfi_image.specs.Parts.{IsRightPart, AreRight};
 ghost use Rattle.sfi_image.specs.Images.{IsImage};
 ghost use Rattle.sfi_image.specs.Faults.{IsBodyFault, IsPartFault, ArePartsFault, IsFault};
 ghost use Rattle.sfi_image.specs.Outcome.{IfLayout, Reads};
-ghost use Rattle.sfi_image.specs.Fronts.{Front, front, head, want_of, IsLess, part_of, behind_parts, behind_init, behind_code, behind_gates};
-ghost use Rattle.sfi_image.specs.Fronts.Front.{Counted, InCode};
-ghost use Rattle.sfi_image.specs.Keeping.{StandsFor, IsAsked, Leads};
+ghost use Rattle.sfi_image.specs.Fronts.{Front, front, head, want_of, IsLess, part_of, after_parts, after_init, after_code, after_gates};
+ghost use Rattle.sfi_image.specs.Fronts.Front.{AfterCount, InCode};
+ghost use Rattle.sfi_image.specs.Keeping.{StandsFor, MayTake, Leads};
 
 use crate::fault::{ImageFault, LayoutFault};
 use crate::fields::Fields;
@@ -86,9 +86,10 @@ fn take_front<'a>(
     len: usize,
     bytes: &'a [u8],
 ) -> Result<(&'a [u8], &'a [u8]), ImageFault>
-    requires asked { IsAsked reader.old len }
+    requires length { MayTake reader.old len }
     requires whole { (x : Front) → StandsFor reader.old x → (n : ℕ) → n < len → IsLess n (want_of x) }
-    ensures { (x : Front) → StandsFor reader.old x → Reads (λ r. (bytes.entry.now ≡ r.0.now ++ r.1.now) × (length r.0.now ≡ len) × Leads x r.0.now reader.new)
+    ensures { (x : Front) → StandsFor reader.old x
+        → Reads (λ r. (bytes.entry.now ≡ r.0.now ++ r.1.now) × (length r.0.now ≡ len) × Leads x r.0.now reader.new)
         (IsFault (front x ++ bytes.entry.now)) result }
 {
     if bytes.len() < len {
@@ -108,9 +109,10 @@ fn gates_at<'a>(
     seven: &Fields,
     bytes: &'a [u8],
 ) -> Result<(Vec<Gate>, &'a [u8]), ImageFault>
-    requires { (n : ℕ) × (ps : List Part) × StandsFor reader.old (behind_gates n ps seven.now []) }
-    ensures { (n : ℕ) (ps : List Part) → StandsFor reader.old (behind_gates n ps seven.now []) → Reads (λ r. (bytes.entry.now ≡ flat_map gate r.0.items ++ r.1.now)
-        × StandsFor reader.new (InCode n ps seven.now r.0.items [])) (IsFault (head seven.now.format n ps ++ (fields seven.now ++ bytes.entry.now))) result }
+    requires { (n : ℕ) × (ps : List Part) × StandsFor reader.old (after_gates n ps seven.now []) }
+    ensures { (n : ℕ) (ps : List Part) → StandsFor reader.old (after_gates n ps seven.now [])
+        → Reads (λ r. (bytes.entry.now ≡ flat_map gate r.0.items ++ r.1.now) × StandsFor reader.new (InCode n ps seven.now r.0.items []))
+        (IsFault (head seven.now.format n ps ++ (fields seven.now ++ bytes.entry.now))) result }
 {
     let mut gates = Vec::new(alloc);
     let mut rest = bytes;
@@ -132,7 +134,8 @@ fn code_at<'a>(
     requires { (n : ℕ) × (ps : List Part) × (gs : List Gate) × StandsFor reader.old (InCode n ps seven.now gs []) }
     ensures { (n : ℕ) (ps : List Part) (gs : List Gate) → StandsFor reader.old (InCode n ps seven.now gs [])
         → Reads (λ r. (bytes.entry.now ≡ r.0.now ++ r.1.now) × (length r.0.now ≡ seven.now.code_size)
-        × StandsFor reader.new (behind_code n ps seven.now gs r.0.now)) (IsFault (front (InCode n ps seven.now gs []) ++ bytes.entry.now)) result }
+        × StandsFor reader.new (after_code n ps seven.now gs r.0.now))
+        (IsFault (front (InCode n ps seven.now gs []) ++ bytes.entry.now)) result }
 {
     let len = seven.code_size as usize;
     if bytes.len() < len {
@@ -149,11 +152,11 @@ fn init_at<'a>(
     seven: &Fields,
     bytes: &'a [u8],
 ) -> Result<(&'a [u8], &'a [u8]), ImageFault>
-    requires { (n : ℕ) × (ps : List Part) × (gs : List Gate) × (code : List ℕ) × StandsFor reader.old (behind_init n ps seven.now gs code []) }
+    requires { (n : ℕ) × (ps : List Part) × (gs : List Gate) × (code : List ℕ) × StandsFor reader.old (after_init n ps seven.now gs code []) }
     ensures { (n : ℕ) (ps : List Part) (gs : List Gate) (code : List ℕ) → length gs ≡ seven.now.gate_count → length code ≡ seven.now.code_size
-        → StandsFor reader.old (behind_init n ps seven.now gs code [])
+        → StandsFor reader.old (after_init n ps seven.now gs code [])
         → Reads (λ r. (bytes.entry.now ≡ r.0.now ++ r.1.now) × (length r.0.now ≡ seven.now.init_len)
-        × StandsFor reader.new (behind_parts seven.now.format n (ps ++ part_of seven.now gs code r.0.now ∷ [])))
+        × StandsFor reader.new (after_parts seven.now.format n (ps ++ part_of seven.now gs code r.0.now ∷ [])))
         (IsFault (front (InCode n ps seven.now gs code) ++ bytes.entry.now)) result }
 {
     if seven.init_len == 0 {
@@ -169,9 +172,10 @@ fn part_at<'a>(
     reader: &mut LayoutReader,
     bytes: &'a [u8],
 ) -> Result<(SandboxPart<'a>, &'a [u8]), ImageFault>
-    requires { (n : ℕ) × (ps : List Part) × StandsFor reader.old (Counted format n ps) }
-    ensures { (n : ℕ) (ps : List Part) → StandsFor reader.old (Counted format n ps) → Reads (λ r. (bytes.entry.now ≡ part (view format r.0) ++ r.1.now)
-        × StandsFor reader.new (behind_parts format n (ps ++ view format r.0 ∷ []))) (IsFault (head format n ps ++ bytes.entry.now)) result }
+    requires { (n : ℕ) × (ps : List Part) × StandsFor reader.old (AfterCount format n ps) }
+    ensures { (n : ℕ) (ps : List Part) → StandsFor reader.old (AfterCount format n ps)
+        → Reads (λ r. (bytes.entry.now ≡ part (view format r.0) ++ r.1.now)
+        × StandsFor reader.new (after_parts format n (ps ++ view format r.0 ∷ []))) (IsFault (head format n ps ++ bytes.entry.now)) result }
 {
     let (front, rest) = take_front(reader, FIELDS_BYTES, bytes)?;
     let (fields, _) = fields_at(format, front);

@@ -4,7 +4,7 @@ use Rattle.sfi_image.specs.Sources.{Streams}
 use Rattle.sfi_check.specs.declared.stream_answer.StreamAnswer.{StreamAnswer}
 use Rattle.sfi_check.specs.declared.stream_answer.StreamAnswer.TheVariants as answers
 use Rattle.sfi_check.specs.Tallies.{IsSoFar, IsCut}
-use Rattle.sfi_check.specs.Streams.{Judged}
+use Rattle.sfi_check.specs.Streams.{IsVerdictOn}
 use Rattle.sfi_check.proofs.Leading.{take_on, fault_on}
 use Rattle.sfi_check.proofs.Judging.{TheLaws, judged_onwards, judged_failed, ended_whole, trailing, ended_short, nothing_yet}
 use Rattle.sfi_check.proofs.Chains.{no_reads, some_read, end_read, failed_read}
@@ -58,8 +58,8 @@ returns-in-Ok-eq0-clause-judged g c =
       i.so_far ++ p,
       true,
       end_read reads c.args.source.now c.pieces.source c.read_more.new.source (i.so_far ++ p) 4096 i.streams read (omega arith) (omega arith),
-      subst (λ (l : List ℕ). Judged (i.so_far ++ l) true c.verdict.result) all
-          (subst (λ (a : StreamAnswer). Judged (i.so_far ++ take at p) true a) (sym c.verdict.ensures) judged),
+      subst (λ (l : List ℕ). IsVerdictOn (i.so_far ++ l) true c.verdict.result) all
+          (subst (λ (a : StreamAnswer). IsVerdictOn (i.so_far ++ take at p) true a) (sym c.verdict.ensures) judged),
     )
 
 pub returns-in-Ok-clause-judged : goal.returns-in-Ok-clause-judged
@@ -110,16 +110,16 @@ returns-in-Ok-eq0-read_more-clause-judged g c =
     let n = c.pieces.held - at in
     let inside = m.0 in
     let few = m.2.few in
-    let asked = length (drop n c.move_to_front.new.piece) in
-    let room : (0 < asked) × (asked ≤ 4096) = (omega (arith, length-drop n c.move_to_front.new.piece, c.move_to_front.array_long), omega (arith, length-drop n c.move_to_front.new.piece, c.move_to_front.array_long)) in
-    let read : reads c.pieces.source asked (Some []) c.read_more-in-More.new.source =
-    subst (λ (k : ℕ). reads c.pieces.source asked (Some (take k (drop n c.read_more-in-More.new.piece))) c.read_more-in-More.new.source) c.in-Ok-eq0-read_more.field-0-test c.in-Ok-eq0-read_more.ensures.some in
+    let buffer_length = length (drop n c.move_to_front.new.piece) in
+    let room : (0 < buffer_length) × (buffer_length ≤ 4096) = (omega (arith, length-drop n c.move_to_front.new.piece, c.move_to_front.array_long), omega (arith, length-drop n c.move_to_front.new.piece, c.move_to_front.array_long)) in
+    let read : reads c.pieces.source buffer_length (Some []) c.read_more-in-More.new.source =
+    subst (λ (k : ℕ). reads c.pieces.source buffer_length (Some (take k (drop n c.read_more-in-More.new.piece))) c.read_more-in-More.new.source) c.in-Ok-eq0-read_more.field-0-test c.in-Ok-eq0-read_more.ensures.some in
     let cut = subst (λ (k : ℕ). IsCut c.take_piece.new.reader k) (sym (length-drop at p)) m.2 in
     let whole : (i.so_far ++ take at p) ++ drop at p ≡ i.so_far ++ p = append_assoc i.so_far (take at p) (drop at p) ∙ ap (λ (l : List ℕ). i.so_far ++ l) (take-append-drop at p) in (
       i.so_far ++ p,
       true,
-      end_read reads c.args.source.now c.pieces.source c.read_more-in-More.new.source (i.so_far ++ p) asked i.streams read room.1 room.0,
-      subst (λ (l : List ℕ). Judged l true (answers.Layout 3)) whole (ended_short laws c.take_piece.new.reader c.take_piece.new.tally (i.so_far ++ take at p) (drop at p) m.1 cut),
+      end_read reads c.args.source.now c.pieces.source c.read_more-in-More.new.source (i.so_far ++ p) buffer_length i.streams read room.1 room.0,
+      subst (λ (l : List ℕ). IsVerdictOn l true (answers.Layout 3)) whole (ended_short laws c.take_piece.new.reader c.take_piece.new.tally (i.so_far ++ take at p) (drop at p) m.1 cut),
     )
 
 pub returns-in-Err-read_more-clause-judged : goal.returns-in-Err-read_more-clause-judged
@@ -134,9 +134,9 @@ returns-in-Err-read_more-clause-judged g c =
     let n = c.pieces.held - at in
     let inside = m.0 in
     let few = m.2.few in
-    let asked = length (drop n c.move_to_front.new.piece) in
-    let room : asked ≤ 4096 = omega (arith, length-drop n c.move_to_front.new.piece, c.move_to_front.array_long) in
-    (i.so_far ++ p, false, failed_read reads c.args.source.now c.pieces.source c.read_more-in-More.new.source (i.so_far ++ p) asked i.streams c.in-Err-read_more.ensures.fault room, judged_failed (i.so_far ++ p))
+    let buffer_length = length (drop n c.move_to_front.new.piece) in
+    let room : buffer_length ≤ 4096 = omega (arith, length-drop n c.move_to_front.new.piece, c.move_to_front.array_long) in
+    (i.so_far ++ p, false, failed_read reads c.args.source.now c.pieces.source c.read_more-in-More.new.source (i.so_far ++ p) buffer_length i.streams c.in-Err-read_more.ensures.fault room, judged_failed (i.so_far ++ p))
 
 pub pieces-smaller : goal.pieces-smaller
 pieces-smaller g c =
@@ -174,8 +174,8 @@ pieces-preserved g c =
     let bound = c.in-Ok-read_more.ensures.bound in
     let not_zero = c.in-Ok-read_more.count-test.1 in
     let long = c.read_more-in-More.array_long in
-    let asked = length (drop n c.move_to_front.new.piece) in
-    let room : asked ≤ 4096 = omega (arith, length-drop n c.move_to_front.new.piece, c.move_to_front.array_long) in
+    let buffer_length = length (drop n c.move_to_front.new.piece) in
+    let room : buffer_length ≤ 4096 = omega (arith, length-drop n c.move_to_front.new.piece, c.move_to_front.array_long) in
     let some : 0 < length more = omega (arith, length-take c.in-Ok-read_more.count (drop n new), length-drop n new) in
     let read = c.in-Ok-read_more.ensures.some in
     let front : take n new ≡ drop at p = c.in-Ok-read_more.ensures.kept ∙ c.move_to_front.ensures in
@@ -185,11 +185,11 @@ pieces-preserved g c =
     record {
       so_far = i.so_far ++ take at p;
       at = m.1;
-      streams = subst (λ (l : List ℕ). Streams reads c.args.source.now c.read_more-in-More.new.source l false) bytes
-          (some_read reads c.args.source.now c.pieces.source c.read_more-in-More.new.source (i.so_far ++ p) more asked i.streams read room some);
+      streams = subst (λ (l : List ℕ). Streams reads 4096 c.args.source.now c.read_more-in-More.new.source l false) bytes
+          (some_read reads c.args.source.now c.pieces.source c.read_more-in-More.new.source (i.so_far ++ p) more buffer_length i.streams read room some);
       held = bound;
       long = long;
-      live = g.met.S.ByteSource.stays c.pieces.source c.read_more-in-More.new.source asked more read ∙ i.live;
+      live = g.met.S.ByteSource.stays c.pieces.source c.read_more-in-More.new.source buffer_length more read ∙ i.live;
     }
   where
     regroup : (a b d e : List ℕ) → (a ++ (b ++ d)) ++ e ≡ (a ++ b) ++ (d ++ e)

@@ -3,17 +3,49 @@ use Rattle.std.proofs.lemmas.Bool.{eq-eqb}
 use Rattle.std.proofs.lemmas.List.{length-take}
 use Rattle.sfi_check.specs.Tallies.{IsSoFar}
 use Rattle.sfi_check.proofs.Tallying.{Adds}
-use Rattle.sfi_check.proofs.Leading.{bundle_within, field_len, init_some, field_step, init_step, bundle_step, step_fault}
+use Rattle.sfi_check.proofs.Leading.{bundle_within, field_len, init_some, field_taken, bundle_taken, init_taken, field_step, init_step, bundle_step, step_fault}
 use Rattle.sfi_check.proofs.stream.step.Goals as goal
 use Rattle.sfi_check.proofs.stream.step.Goals.{then-rest-most, else-rest-most}
 
 not_empty : (xs : List ℕ) → eqb (length xs) 0 ≡ false → 1 ≤ length xs
 not_empty xs e = grind (arith, eq-eqb (length xs) 0, e)
 
+taken : (n : ℕ) (xs : List ℕ) → n ≤ length xs → length (take n xs) ≡ n
+taken n xs le = omega (arith, length-take n xs)
+
 pub scan_bundle-requires : goal.scan_bundle-requires
 scan_bundle-requires c =
     let h = c.requires.1 in
     bundle_within c.whole_bundles.ensures h.at c.in-Bundle.sandbox c.in-Bundle.address c.in-Bundle.format c.in-Bundle.code_base c.in-Bundle.code_size c.in-Bundle.listed h.stands.right (c.in-Bundle.ensures.want h.at h.stands)
+
+pub take-requires : goal.take-requires
+take-requires c =
+    let h = c.requires.1 in
+    (h.at, h.stands, field_taken h.at c.in-Field.len c.args.rest.now (c.in-Field.ensures.want h.at h.stands) c.if-rest-len.false)
+
+pub take-requires-in-Bundle : goal.take-requires-in-Bundle
+take-requires-in-Bundle c =
+    let h = c.requires.1 in
+    let chunk = c.in-Some-first_chunk.ensures.cases in
+    let enough : 16 ≤ length c.args.rest.now = chunk.enough in
+    let len : length c.in-Some-first_chunk.bundle.now ≡ 16 = ap length chunk.same ∙ taken 16 c.args.rest.now enough in (
+      h.at,
+      h.stands,
+      bundle_taken h.at c.in-Bundle.sandbox c.in-Bundle.address c.in-Bundle.format c.in-Bundle.code_base c.in-Bundle.code_size c.in-Bundle.listed
+          c.in-Some-first_chunk.bundle.now (c.in-Bundle.ensures.want h.at h.stands) len,
+    )
+
+pub take-requires-in-Init : goal.take-requires-in-Init
+take-requires-in-Init c =
+    let h = c.requires.1 in
+    let want = c.in-Init.ensures.want h.at h.stands in
+    let some = init_some h.at c.in-Init.most want h.stands.right in
+    let len = c.if-rest-most.len in
+    let not_zero = not_empty c.args.rest.now (sym c.is_empty.ensures ∙ c.if-is_empty.false) in
+    let least : 1 ≤ len = elim c.if-rest-most.branch [ then-rest-most w ↦ (let e = w.len-is in omega arith) | else-rest-most w ↦ (let e = w.len-is in omega arith) ] in
+    let few : len ≤ c.in-Init.most = elim c.if-rest-most.branch [ then-rest-most w ↦ (let e = w.len-is in let b = w.if-rest-most.true in omega arith) | else-rest-most w ↦ (let e = w.len-is in omega arith) ] in
+    let room : len ≤ length c.args.rest.now = elim c.if-rest-most.branch [ then-rest-most w ↦ (let e = w.len-is in omega arith) | else-rest-most w ↦ (let e = w.len-is in let b = w.if-rest-most.false in omega arith) ] in
+    (h.at, h.stands, init_taken h.at c.in-Init.most len c.args.rest.now want least few room)
 
 pub returns-in-Some : goal.returns-in-Some
 returns-in-Some c = λ so_far h. step_fault c.args.reader.now c.args.tally.now so_far (take c.in-Field.len c.args.rest.now) c.args.rest.now c.in-Field.len c.in-Some.number refl c.in-Some.ensures.fault h
@@ -55,6 +87,3 @@ returns-in-None-take c = λ so_far h.
           c.in-Bundle.ensures.want len c.scan_bundle.ensures adds c.in-None-take.ensures.goes_on c.in-None-take.ensures.falls h),
       c.in-None-take.ensures.falls,
     )
-  where
-    taken : (n : ℕ) (xs : List ℕ) → n ≤ length xs → length (take n xs) ≡ n
-    taken n xs le = omega (arith, length-take n xs)

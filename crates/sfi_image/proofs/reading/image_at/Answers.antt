@@ -10,7 +10,7 @@ use Rattle.sfi_image.specs.Faults.{IsFault}
 use Rattle.sfi_image.specs.Images.{IsImage}
 use Rattle.sfi_image.specs.Outcome.{IfLayout}
 use Rattle.sfi_image.specs.Fronts.{Front, head}
-use Rattle.sfi_image.specs.Fronts.Front.{Empty, Named}
+use Rattle.sfi_image.specs.Fronts.Front.{Empty, AfterMagic}
 use Rattle.sfi_image.specs.Keeping.{StandsFor}
 use Rattle.sfi_image.proofs.Views.{same_format, views_have}
 use Rattle.sfi_image.proofs.Steps.{no_rest}
@@ -26,8 +26,8 @@ loop-init c =
     let t1 = c.in_ok-rest.ensures Empty c.new-reader.ensures in
     let first = subst (λ (y : Front). StandsFor c.take_front.new.reader y) t1.2.follows.2 t1.2.stands in
     let kind : t1.2.follows.0 ≡ c.format-format.result = sym first.kept.2 ∙ sym c.format-format.ensures in
-    let named = subst (λ (f : Format). StandsFor c.take_front.new.reader (Named f)) kind first in
-    let t2 = c.in_ok-front.ensures (Named c.format-format.result) named in
+    let named = subst (λ (f : Format). StandsFor c.take_front.new.reader (AfterMagic f)) kind first in
+    let t2 = c.in_ok-front.ensures (AfterMagic c.format-format.result) named in
     let n = c.number_at-count.result.0 in
     let is : c.in_ok-front.front.now ≡ number n = no_rest c.in_ok-front.front.now (number n) _ c.number_at-count.ensures.front (let len = c.number_at-count.ensures.len in let l = t2.1 in omega arith) in
     rw (c.new-parts.ensures.items) (record {

@@ -1,12 +1,12 @@
 use Rattle.std.proofs.Common.{◌≡◌, ◌++◌, length}
 use Rattle.sfi_image.specs.Spelling.{views}
-use Rattle.sfi_image.specs.Fronts.{head, behind_parts}
+use Rattle.sfi_image.specs.Fronts.{head, after_parts}
 use Rattle.sfi_image.specs.Keeping.{StandsFor}
 use Rattle.sfi_image.proofs.reading.image_at.Given as goal
 
 abbrev pub invariant-loop : goal.invariant-loop
 invariant-loop l = record {
   bytes : l.bytes ≡ head l.format l.count (views l.format l.parts.items) ++ l.rest;
-  stands : StandsFor l.reader (behind_parts l.format l.count (views l.format l.parts.items));
+  stands : StandsFor l.reader (after_parts l.format l.count (views l.format l.parts.items));
   len : length l.parts.items ≡ l.counter;
 }

@@ -3,7 +3,7 @@ use Rattle.std.specs.List.{flat_map}
 use Rattle.std.proofs.lemmas.List.{append-nil}
 use Rattle.sfi_image.specs.Spelling.{fields, gate}
 use Rattle.sfi_image.specs.Faults.{IsFault}
-use Rattle.sfi_image.specs.Fronts.{Front, front, head, part_of, behind_parts}
+use Rattle.sfi_image.specs.Fronts.{Front, front, head, part_of, after_parts}
 use Rattle.sfi_image.specs.Fronts.Front.{InInit, InCode}
 use Rattle.sfi_image.specs.Keeping.{StandsFor, Leads}
 use Rattle.sfi_image.proofs.Parsing.{at_init, at_part, reads_weaker}
@@ -15,7 +15,7 @@ returns c = λ n ps gs code g l h.
     let at = at_init c.args.reader.now n ps f gs code h (λ z. let no = c.if-seven-eq0.false in absurd (omega arith)) in
     reads_weaker c.take_front.result
     (λ r. (c.args.bytes.now ≡ r.0.now ++ r.1.now) × (length r.0.now ≡ f.init_len) × Leads (InInit n ps f gs code []) r.0.now c.take_front.new.reader)
-    (λ r. (c.args.bytes.now ≡ r.0.now ++ r.1.now) × (length r.0.now ≡ f.init_len) × StandsFor c.take_front.new.reader (behind_parts f.format n (ps ++ part_of f gs code r.0.now ∷ [])))
+    (λ r. (c.args.bytes.now ≡ r.0.now ++ r.1.now) × (length r.0.now ≡ f.init_len) × StandsFor c.take_front.new.reader (after_parts f.format n (ps ++ part_of f gs code r.0.now ∷ [])))
     (λ k. IsFault (front (InInit n ps f gs code []) ++ c.args.bytes.now) k)
     (λ k. IsFault (front (InCode n ps f gs code) ++ c.args.bytes.now) k)
     (c.take_front.ensures (InInit n ps f gs code []) at)

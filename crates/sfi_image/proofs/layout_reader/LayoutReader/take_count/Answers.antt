@@ -1,7 +1,7 @@
 use Rattle.std.proofs.Common.{◌≡◌, refl, sym, subst, inl, inr, arith}
 use Rattle.sfi_image.specs.declared.want.Next.TheVariants as next
 use Rattle.sfi_image.specs.Spelling.{number}
-use Rattle.sfi_image.specs.Keeping.{Kept, StandsFor}
+use Rattle.sfi_image.specs.Keeping.{ReaderState, StandsFor}
 use Rattle.sfi_image.specs.Reader.{kept}
 use Rattle.sfi_image.proofs.Standing.{count_leads, still_reader}
 use Rattle.sfi_image.proofs.Steps.{count_fault, no_rest}
@@ -20,7 +20,7 @@ pub invariant_of-self-2 : goal.invariant_of-self-2
 invariant_of-self-2 c =
     let old = kept c.self.inside in
     let e = no_rest c.args.bytes.now (number c.number_at-count.result.0) _ c.number_at-count.ensures.front (omega (arith, c.number_at-count.ensures.len, c.requires.len)) in
-    let is : old.next ≡ next.Count = subst (λ (r : Kept). r.next ≡ next.Count) (sym c.self.view_is) c.requires.next in
+    let is : old.next ≡ next.Count = subst (λ (r : ReaderState). r.next ≡ next.Count) (sym c.self.view_is) c.requires.next in
     elim c.self.invariant [
       | inl stopped ↦ absurd cc
       | inr x ↦ still_reader x.0 c.args.bytes.now _ (count_leads old x.0 c.args.bytes.now c.number_at-count.result.0 x.1 is e (omega arith) (omega arith))
@@ -30,5 +30,5 @@ pub returns-clause-takes : goal.returns-clause-takes
 returns-clause-takes c =
     let old = kept c.self.inside in
     let e = no_rest c.args.bytes.now (number c.number_at-count.result.0) _ c.number_at-count.ensures.front (omega (arith, c.number_at-count.ensures.len, c.requires.len)) in
-    let is : old.next ≡ next.Count = subst (λ (r : Kept). r.next ≡ next.Count) (sym c.self.view_is) c.requires.next in
-    λ x h. count_leads old x c.args.bytes.now c.number_at-count.result.0 (subst (λ (r : Kept). StandsFor r x) (sym c.self.view_is) h) is e (omega arith) (omega arith)
+    let is : old.next ≡ next.Count = subst (λ (r : ReaderState). r.next ≡ next.Count) (sym c.self.view_is) c.requires.next in
+    λ x h. count_leads old x c.args.bytes.now c.number_at-count.result.0 (subst (λ (r : ReaderState). StandsFor r x) (sym c.self.view_is) h) is e (omega arith) (omega arith)

@@ -5,7 +5,7 @@ use Rattle.sfi_image.specs.declared.span.Span.{Span}
 use Rattle.sfi_image.specs.Spelling.{fields}
 use Rattle.sfi_image.specs.Spans.{AreApart, IsBounded, code_span}
 use Rattle.sfi_image.specs.Tests.{IsFirstFault, field_tests}
-use Rattle.sfi_image.specs.Keeping.{Kept, StandsFor}
+use Rattle.sfi_image.specs.Keeping.{ReaderState, StandsFor}
 use Rattle.sfi_image.specs.Reader.{kept}
 use Rattle.sfi_image.proofs.Standing.{still_reader}
 use Rattle.std.proofs.lemmas.List.{length_push}
@@ -16,48 +16,48 @@ use Rattle.sfi_image.proofs.layout_reader.LayoutReader.take_fields.Goals as goal
 pub field_fault-requires-clause-bounded : goal.field_fault-requires-clause-bounded
 field_fault-requires-clause-bounded c =
     let old = kept c.self.inside in
-    let is : old.next ≡ next.Fields = subst (λ (r : Kept). r.next ≡ next.Fields) (sym c.self.view_is) c.requires.next in
+    let is : old.next ≡ next.Fields = subst (λ (r : ReaderState). r.next ≡ next.Fields) (sym c.self.view_is) c.requires.next in
     subst (All IsBounded) (sym c.as_slice.ensures) (fields_next old c.self.invariant is).bounded
 
 pub field_fault-requires-clause-apart : goal.field_fault-requires-clause-apart
 field_fault-requires-clause-apart c =
     let old = kept c.self.inside in
-    let is : old.next ≡ next.Fields = subst (λ (r : Kept). r.next ≡ next.Fields) (sym c.self.view_is) c.requires.next in
+    let is : old.next ≡ next.Fields = subst (λ (r : ReaderState). r.next ≡ next.Fields) (sym c.self.view_is) c.requires.next in
     subst (AllPairs AreApart) (sym c.as_slice.ensures) (fields_next old c.self.invariant is).apart
 
 pub returns-in-Some-clause-takes : goal.returns-in-Some-clause-takes
 returns-in-Some-clause-takes c =
     let old = kept c.self.inside in
-    let is : old.next ≡ next.Fields = subst (λ (r : Kept). r.next ≡ next.Fields) (sym c.self.view_is) c.requires.next in
+    let is : old.next ≡ next.Fields = subst (λ (r : ReaderState). r.next ≡ next.Fields) (sym c.self.view_is) c.requires.next in
     let e = no_rest c.args.bytes.now (fields c.fields_at.result.0) _ c.fields_at.ensures.front (omega (arith, c.fields_at.ensures.len, c.requires.len)) in
     let wrong = subst (λ (b : List Span). IsFirstFault b c.fields_at.result.0 field_tests (Some c.in-Some.fault)) c.as_slice.ensures c.in-Some.ensures in
-    (refl, λ x h. fields_fault old x c.args.bytes.now c.fields_at.result.0 c.in-Some.fault (subst (λ (r : Kept). StandsFor r x) (sym c.self.view_is) h) is e c.fields_at.ensures.words c.fields_at.ensures.format wrong)
+    (refl, λ x h. fields_fault old x c.args.bytes.now c.fields_at.result.0 c.in-Some.fault (subst (λ (r : ReaderState). StandsFor r x) (sym c.self.view_is) h) is e c.fields_at.ensures.words c.fields_at.ensures.format wrong)
 
 pub push-requires : goal.push-requires
 push-requires c =
     let old = kept c.self.inside in
-    let is : old.next ≡ next.Fields = subst (λ (r : Kept). r.next ≡ next.Fields) (sym c.self.view_is) c.requires.next in
+    let is : old.next ≡ next.Fields = subst (λ (r : ReaderState). r.next ≡ next.Fields) (sym c.self.view_is) c.requires.next in
     let room = (fields_next old c.self.invariant is).room in
     omega arith
 
 pub push-requires-2 : goal.push-requires-2
 push-requires-2 c =
     let old = kept c.self.inside in
-    let is : old.next ≡ next.Fields = subst (λ (r : Kept). r.next ≡ next.Fields) (sym c.self.view_is) c.requires.next in
+    let is : old.next ≡ next.Fields = subst (λ (r : ReaderState). r.next ≡ next.Fields) (sym c.self.view_is) c.requires.next in
     let room = (fields_next old c.self.invariant is).room in
     omega (arith, ap length c.push.ensures, length_push old.spans c.code_span.result)
 
 pub overflow_add-self : goal.overflow_add-self
 overflow_add-self c =
     let old = kept c.self.inside in
-    let is : old.next ≡ next.Fields = subst (λ (r : Kept). r.next ≡ next.Fields) (sym c.self.view_is) c.requires.next in
+    let is : old.next ≡ next.Fields = subst (λ (r : ReaderState). r.next ≡ next.Fields) (sym c.self.view_is) c.requires.next in
     let at = fields_next old c.self.invariant is in
     omega (arith, at.more, at.few)
 
 pub invariant_of-self-2 : goal.invariant_of-self-2
 invariant_of-self-2 c =
     let old = kept c.self.inside in
-    let is : old.next ≡ next.Fields = subst (λ (r : Kept). r.next ≡ next.Fields) (sym c.self.view_is) c.requires.next in
+    let is : old.next ≡ next.Fields = subst (λ (r : ReaderState). r.next ≡ next.Fields) (sym c.self.view_is) c.requires.next in
     let e = no_rest c.args.bytes.now (fields c.fields_at.result.0) _ c.fields_at.ensures.front (omega (arith, c.fields_at.ensures.len, c.requires.len)) in
     let passed : IsFirstFault old.spans c.fields_at.result.0 field_tests None = subst (λ (b : List Span). IsFirstFault b c.fields_at.result.0 field_tests None) c.as_slice.ensures c.in_default.ensures in
     let spans_are = c.push-2.ensures ∙ ap (λ (b : List Span). b ++ c.guarded_span.result ∷ []) c.push.ensures ∙ append_assoc old.spans (c.code_span.result ∷ []) (c.guarded_span.result ∷ [])
@@ -70,9 +70,9 @@ invariant_of-self-2 c =
 pub returns-clause-takes : goal.returns-clause-takes
 returns-clause-takes c =
     let old = kept c.self.inside in
-    let is : old.next ≡ next.Fields = subst (λ (r : Kept). r.next ≡ next.Fields) (sym c.self.view_is) c.requires.next in
+    let is : old.next ≡ next.Fields = subst (λ (r : ReaderState). r.next ≡ next.Fields) (sym c.self.view_is) c.requires.next in
     let e = no_rest c.args.bytes.now (fields c.fields_at.result.0) _ c.fields_at.ensures.front (omega (arith, c.fields_at.ensures.len, c.requires.len)) in
     let passed : IsFirstFault old.spans c.fields_at.result.0 field_tests None = subst (λ (b : List Span). IsFirstFault b c.fields_at.result.0 field_tests None) c.as_slice.ensures c.in_default.ensures in
     let spans_are = c.push-2.ensures ∙ ap (λ (b : List Span). b ++ c.guarded_span.result ∷ []) c.push.ensures ∙ append_assoc old.spans (c.code_span.result ∷ []) (c.guarded_span.result ∷ [])
     ∙ ap (λ (b : Span). old.spans ++ b ∷ c.guarded_span.result ∷ []) c.code_span.ensures ∙ ap (λ (b : Span). old.spans ++ code_span c.fields_at.result.0 ∷ b ∷ []) c.guarded_span.ensures in
-    λ x h. fields_leads old _ x c.args.bytes.now c.fields_at.result.0 (subst (λ (r : Kept). StandsFor r x) (sym c.self.view_is) h) is e c.fields_at.ensures.words c.fields_at.ensures.format passed refl refl spans_are refl c.clear.ensures refl refl refl c.next_gate-self-inside.ensures
+    λ x h. fields_leads old _ x c.args.bytes.now c.fields_at.result.0 (subst (λ (r : ReaderState). StandsFor r x) (sym c.self.view_is) h) is e c.fields_at.ensures.words c.fields_at.ensures.format passed refl refl spans_are refl c.clear.ensures refl refl refl c.next_gate-self-inside.ensures

@@ -1,6 +1,6 @@
 use Rattle.std.proofs.Common.{◌≡◌, ◌+◌, ◌≤◌, length, refl, sym, subst, arith, inl, inr}
 use Rattle.sfi_image.specs.declared.want.Next.TheVariants as next
-use Rattle.sfi_image.specs.Keeping.{Kept, StandsFor}
+use Rattle.sfi_image.specs.Keeping.{ReaderState, StandsFor}
 use Rattle.sfi_image.specs.Reader.{kept}
 use Rattle.sfi_image.proofs.Standing.{still_reader}
 use Rattle.sfi_image.proofs.Places.{init_next}
@@ -10,16 +10,16 @@ use Rattle.sfi_image.proofs.layout_reader.LayoutReader.take_init.Goals as goal
 pub overflow_cast-self : goal.overflow_cast-self
 overflow_cast-self c =
     let old = kept c.self.inside in
-    let is : old.next ≡ next.Init = subst (λ (r : Kept). r.next ≡ next.Init) (sym c.self.view_is) c.requires.next in
+    let is : old.next ≡ next.Init = subst (λ (r : ReaderState). r.next ≡ next.Init) (sym c.self.view_is) c.requires.next in
     let at = init_next old c.self.invariant is in
-    let room = subst (λ (r : Kept). length c.args.bytes.now + r.init_read ≤ r.fields.init_len) (sym c.self.view_is) c.requires.room in
+    let room = subst (λ (r : ReaderState). length c.args.bytes.now + r.init_read ≤ r.fields.init_len) (sym c.self.view_is) c.requires.room in
     omega (arith, at.few)
 
 pub invariant_of-self : goal.invariant_of-self
 invariant_of-self c =
     let old = kept c.self.inside in
-    let is : old.next ≡ next.Init = subst (λ (r : Kept). r.next ≡ next.Init) (sym c.self.view_is) c.requires.next in
-    let room = subst (λ (r : Kept). length c.args.bytes.now + r.init_read ≤ r.fields.init_len) (sym c.self.view_is) c.requires.room in
+    let is : old.next ≡ next.Init = subst (λ (r : ReaderState). r.next ≡ next.Init) (sym c.self.view_is) c.requires.next in
+    let room = subst (λ (r : ReaderState). length c.args.bytes.now + r.init_read ≤ r.fields.init_len) (sym c.self.view_is) c.requires.room in
     elim c.self.invariant [
       | inl stopped ↦ absurd cc
       | inr x ↦ still_reader x.0 c.args.bytes.now _ (init_leads old _ x.0 c.args.bytes.now x.1 is c.requires.len room refl refl refl refl refl refl c.next_init-self-inside.ensures)
@@ -28,6 +28,6 @@ invariant_of-self c =
 pub returns-clause-takes : goal.returns-clause-takes
 returns-clause-takes c =
     let old = kept c.self.inside in
-    let is : old.next ≡ next.Init = subst (λ (r : Kept). r.next ≡ next.Init) (sym c.self.view_is) c.requires.next in
-    let room = subst (λ (r : Kept). length c.args.bytes.now + r.init_read ≤ r.fields.init_len) (sym c.self.view_is) c.requires.room in
-    λ x h. init_leads old _ x c.args.bytes.now (subst (λ (r : Kept). StandsFor r x) (sym c.self.view_is) h) is c.requires.len room refl refl refl refl refl refl c.next_init-self-inside.ensures
+    let is : old.next ≡ next.Init = subst (λ (r : ReaderState). r.next ≡ next.Init) (sym c.self.view_is) c.requires.next in
+    let room = subst (λ (r : ReaderState). length c.args.bytes.now + r.init_read ≤ r.fields.init_len) (sym c.self.view_is) c.requires.room in
+    λ x h. init_leads old _ x c.args.bytes.now (subst (λ (r : ReaderState). StandsFor r x) (sym c.self.view_is) h) is c.requires.len room refl refl refl refl refl refl c.next_init-self-inside.ensures

@@ -1,6 +1,6 @@
 use Rattle.std.proofs.Common.{◌≡◌, refl, sym, subst, inl, inr}
 use Rattle.sfi_image.specs.declared.want.Next.TheVariants as next
-use Rattle.sfi_image.specs.Keeping.{Kept, StandsFor}
+use Rattle.sfi_image.specs.Keeping.{ReaderState, StandsFor}
 use Rattle.sfi_image.specs.Reader.{kept}
 use Rattle.sfi_image.proofs.Standing.{magic_leads, still_reader}
 use Rattle.sfi_image.proofs.Steps.{magic_fault}
@@ -12,7 +12,7 @@ returns-in_default-clause-takes c = (refl, λ x h. magic_fault c.args.self.now x
 pub invariant_of-self-2 : goal.invariant_of-self-2
 invariant_of-self-2 c =
     let old = kept c.self.inside in
-    let is : old.next ≡ next.Magic = subst (λ (r : Kept). r.next ≡ next.Magic) (sym c.self.view_is) c.requires.next in
+    let is : old.next ≡ next.Magic = subst (λ (r : ReaderState). r.next ≡ next.Magic) (sym c.self.view_is) c.requires.next in
     elim c.self.invariant [
       | inl stopped ↦ absurd cc
       | inr x ↦ still_reader x.0 c.args.bytes.now _ (magic_leads old _ x.0 c.args.bytes.now c.in-Some.format x.1 is c.in-Some.ensures.found refl refl refl)
@@ -21,5 +21,5 @@ invariant_of-self-2 c =
 pub returns-clause-takes : goal.returns-clause-takes
 returns-clause-takes c =
     let old = kept c.self.inside in
-    let is : old.next ≡ next.Magic = subst (λ (r : Kept). r.next ≡ next.Magic) (sym c.self.view_is) c.requires.next in
-    λ x h. magic_leads old _ x c.args.bytes.now c.in-Some.format (subst (λ (r : Kept). StandsFor r x) (sym c.self.view_is) h) is c.in-Some.ensures.found refl refl refl
+    let is : old.next ≡ next.Magic = subst (λ (r : ReaderState). r.next ≡ next.Magic) (sym c.self.view_is) c.requires.next in
+    λ x h. magic_leads old _ x c.args.bytes.now c.in-Some.format (subst (λ (r : ReaderState). StandsFor r x) (sym c.self.view_is) h) is c.in-Some.ensures.found refl refl refl

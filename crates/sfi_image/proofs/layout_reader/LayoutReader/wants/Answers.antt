@@ -1,6 +1,6 @@
 use Rattle.std.proofs.Common.{◌≡◌, ◌∙◌, ◌-◌, ◌+◌, ap, drop, sym, subst, arith, Bool, List, ℕ}
 use Rattle.sfi_image.specs.declared.want.Want.TheVariants as wants
-use Rattle.sfi_image.specs.Keeping.{Kept, StandsFor, is_first}
+use Rattle.sfi_image.specs.Keeping.{ReaderState, StandsFor, is_first}
 use Rattle.sfi_image.specs.Reader.{kept}
 use Rattle.sfi_image.proofs.Places.{wants_bundle, code_next}
 use Rattle.sfi_image.proofs.layout_reader.LayoutReader.wants.Goals as goal
@@ -11,7 +11,7 @@ overflow_add-address c = let at = code_next (kept c.self.inside) c.self.invarian
 pub returns-in-Code-clause-want : goal.returns-in-Code-clause-want
 returns-in-Code-clause-want c =
     let r = kept c.self.inside in
-    let listed : c.is_first_behind.result ≡ is_first (drop r.passed r.gates) (r.fields.code_base + r.code_read) =
-    c.is_first_behind.ensures ∙ ap (λ (l : List ℕ). is_first (drop r.passed l) (r.fields.code_base + r.code_read)) c.as_slice.ensures in
+    let listed : c.is_first_after.result ≡ is_first (drop r.passed r.gates) (r.fields.code_base + r.code_read) =
+    c.is_first_after.ensures ∙ ap (λ (l : List ℕ). is_first (drop r.passed l) (r.fields.code_base + r.code_read)) c.as_slice.ensures in
     λ x h. ap (λ (b : Bool). wants.Bundle (r.begun - 1) (r.fields.code_base + r.code_read) r.fields.format r.fields.code_base r.fields.code_size b) listed
-    ∙ wants_bundle r x (subst (λ (r : Kept). StandsFor r x) (sym c.self.view_is) h) c.in-Code.is
+    ∙ wants_bundle r x (subst (λ (r : ReaderState). StandsFor r x) (sym c.self.view_is) h) c.in-Code.is
