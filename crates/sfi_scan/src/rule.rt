@@ -12,17 +12,18 @@ pub enum Rule {
     V3,
     /// A reserved register, x24 to x27, is written.
     V4,
-    /// A load or store without the data pair on its base directly before it.
+    /// A load or store without the data pair on its base directly before it. In the second format one on x2 needs no pair.
     V5,
     /// An indirect jump with an offset, or without the code pair on its base directly before it.
     V6,
     /// A jump or branch to what is no bundle start of its own code region.
     V7,
-    /// The region's last instruction lets control run on behind the region.
+    /// The region's last instruction lets control run on after the region.
     V8,
     /// A listed gate's bundle isn't the gate stub.
     V9,
-    /// The stack pointer of the second format is written, and the pair that puts it into the data isn't directly behind.
+    /// The stack pointer x2 of the second format is written, by neither instruction of the pair `and x2, a, x27`,
+    /// `or x2, x2, x26`, nor by one other than jal and jalr that this pair directly follows in its bundle.
     V10,
 }
 
