@@ -5,13 +5,13 @@ use Rattle.std.proofs.lemmas.Bool.{ltb-true}
 use Rattle.std.proofs.lemmas.List.{append-nil}
 use Rattle.sfi_image.specs.declared.fault.LayoutFault.{LayoutFault}
 use Rattle.sfi_image.specs.Faults.{IsFault, number_of}
-use Rattle.sfi_image.specs.Fronts.{IsFaultOnwardsOf}
+use Rattle.sfi_image.specs.Fronts.{HasFaultNumberWhateverFollows}
 use Rattle.sfi_image.specs.Reading.{ReadsOf}
-use Rattle.sfi_image.specs.Sources.{OneRead, IsChain, handed, ended, Streams}
+use Rattle.sfi_image.specs.Sources.{OneRead, IsChain, bytes_handed_out, finds_end, Streams}
 use Rattle.sfi_scan.specs.declared.finding.Finding.{Finding}
 use Rattle.sfi_check.specs.declared.stream_answer.StreamAnswer.{StreamAnswer}
 use Rattle.sfi_check.specs.declared.stream_answer.StreamAnswer.TheVariants as answers
-use Rattle.sfi_check.specs.Streams.{AreCounted, IsFaultOf, Judged}
+use Rattle.sfi_check.specs.Streams.{AreCounted, IsFaultOf, IsVerdictOn}
 use Rattle.sfi_tool.specs.Says.{HasSomeFault, SaysVerdict}
 use Rattle.sfi_tool.specs.Verdict.{accepted_text, refused_line, refused_text}
 
@@ -28,7 +28,7 @@ counted_line count first (x ∷ found) h =
     rw (h.count_is, same) refl
 
 -- a fault of that number is one
-pub some_fault : (bytes : List ℕ) (ends : Bool) (number : ℕ) → ((ends ≡ true) × IsFaultOf bytes number) ⊎ IsFaultOnwardsOf bytes number
+pub some_fault : (bytes : List ℕ) (ends : Bool) (number : ℕ) → ((ends ≡ true) × IsFaultOf bytes number) ⊎ HasFaultNumberWhateverFollows bytes number
     → (k : LayoutFault) × (number_of k ≡ number)
 some_fault bytes ends number (inl ended) = (ended.1.0, ended.1.1)
 some_fault bytes ends number (inr onwards) = (onwards.0, onwards.1)
@@ -37,8 +37,8 @@ some_fault bytes ends number (inr onwards) = (onwards.0, onwards.1)
 pub record Answers {S : Type 0} (reads : S → ℕ → Option (List ℕ) → S → Type 0) (s t : S) (answer : StreamAnswer) : Type 0 where
   pub bytes : List ℕ
   pub ends : Bool
-  pub streams : Streams reads s t bytes ends
-  pub judged : Judged bytes ends answer
+  pub streams : Streams reads 4096 s t bytes ends
+  pub judged : IsVerdictOn bytes ends answer
 
 module _ {S : Type 0} (known : S → Option (List ℕ)) (failed : S → Bool) where
   abbrev reads_known : S → ℕ → Option (List ℕ) → S → Type 0
@@ -46,35 +46,35 @@ module _ {S : Type 0} (known : S → Option (List ℕ)) (failed : S → Bool) wh
 
   -- what a chain of reads hands out is the front of the reader's bytes, and all of them where it found the end
   known_front : (rs : List (OneRead S)) (s t : S) (all : List ℕ) → IsChain reads_known s rs t → known s ≡ Some all
-      → (rest : List ℕ) × (all ≡ handed rs ++ rest) × (ended rs ≡ true → rest ≡ [])
+      → (rest : List ℕ) × (all ≡ bytes_handed_out rs ++ rest) × (finds_end rs ≡ true → rest ≡ [])
   known_front [] s t all h e = (all, refl, λ f. absurd cc)
-  known_front (r ∷ rs) s t all h e = by r.answer (known r.after) refl refl (subst (λ (o : Option (List ℕ)). ReadsOf o (failed s) r.asked r.answer (known r.after) (failed r.after)) e h.0)
+  known_front (r ∷ rs) s t all h e = by r.answer (known r.after) refl refl (subst (λ (o : Option (List ℕ)). ReadsOf o (failed s) r.buffer_length r.answer (known r.after) (failed r.after)) e h.0)
       (λ left is. known_front rs r.after t left h.1 is)
     where
-      by : (answer new : Option (List ℕ)) → r.answer ≡ answer → known r.after ≡ new → ReadsOf (Some all) (failed s) r.asked r.answer (known r.after) (failed r.after)
-          → ((left : List ℕ) → known r.after ≡ Some left → (rest : List ℕ) × (left ≡ handed rs ++ rest) × (ended rs ≡ true → rest ≡ []))
-          → (rest : List ℕ) × (all ≡ handed (r ∷ rs) ++ rest) × (ended (r ∷ rs) ≡ true → rest ≡ [])
-      by None None a n one ih = let k = (subst (λ (o : Option (List ℕ)). ReadsOf (Some all) (failed s) r.asked None o (failed r.after)) n (subst (λ (o : Option (List ℕ)). ReadsOf (Some all) (failed s) r.asked o (known r.after) (failed r.after)) a one)).1 in absurd k
+      by : (answer new : Option (List ℕ)) → r.answer ≡ answer → known r.after ≡ new → ReadsOf (Some all) (failed s) r.buffer_length r.answer (known r.after) (failed r.after)
+          → ((left : List ℕ) → known r.after ≡ Some left → (rest : List ℕ) × (left ≡ bytes_handed_out rs ++ rest) × (finds_end rs ≡ true → rest ≡ []))
+          → (rest : List ℕ) × (all ≡ bytes_handed_out (r ∷ rs) ++ rest) × (finds_end (r ∷ rs) ≡ true → rest ≡ [])
+      by None None a n one ih = let k = (subst (λ (o : Option (List ℕ)). ReadsOf (Some all) (failed s) r.buffer_length None o (failed r.after)) n (subst (λ (o : Option (List ℕ)). ReadsOf (Some all) (failed s) r.buffer_length o (known r.after) (failed r.after)) a one)).1 in absurd k
       by None (Some left) a n one ih =
-          let k = (subst (λ (o : Option (List ℕ)). ReadsOf (Some all) (failed s) r.asked None o (failed r.after)) n (subst (λ (o : Option (List ℕ)). ReadsOf (Some all) (failed s) r.asked o (known r.after) (failed r.after)) a one)).1 in
+          let k = (subst (λ (o : Option (List ℕ)). ReadsOf (Some all) (failed s) r.buffer_length None o (failed r.after)) n (subst (λ (o : Option (List ℕ)). ReadsOf (Some all) (failed s) r.buffer_length o (known r.after) (failed r.after)) a one)).1 in
           let rest = ih left n in
           rw (a) (rest.0, sym k ∙ rest.1, rest.2)
-      by (Some bytes) None a n one ih = let k = (subst (λ (o : Option (List ℕ)). ReadsOf (Some all) (failed s) r.asked (Some bytes) o (failed r.after)) n (subst (λ (o : Option (List ℕ)). ReadsOf (Some all) (failed s) r.asked o (known r.after) (failed r.after)) a one)).1 in absurd k
+      by (Some bytes) None a n one ih = let k = (subst (λ (o : Option (List ℕ)). ReadsOf (Some all) (failed s) r.buffer_length (Some bytes) o (failed r.after)) n (subst (λ (o : Option (List ℕ)). ReadsOf (Some all) (failed s) r.buffer_length o (known r.after) (failed r.after)) a one)).1 in absurd k
       by (Some []) (Some left) a n one ih =
-          let k = subst (λ (o : Option (List ℕ)). ReadsOf (Some all) (failed s) r.asked (Some []) o (failed r.after)) n (subst (λ (o : Option (List ℕ)). ReadsOf (Some all) (failed s) r.asked o (known r.after) (failed r.after)) a one) in
+          let k = subst (λ (o : Option (List ℕ)). ReadsOf (Some all) (failed s) r.buffer_length (Some []) o (failed r.after)) n (subst (λ (o : Option (List ℕ)). ReadsOf (Some all) (failed s) r.buffer_length o (known r.after) (failed r.after)) a one) in
           let rest = ih left n in
           let same : all ≡ left = k.1 in
-          elim (which (nat_lt 0 r.asked)) [
-            | inl holds ↦ (let none : left ≡ [] = k.3 refl (ltb-true 0 r.asked holds) in rw (a, holds) ([], same ∙ none, λ _. refl))
+          elim (which (nat_lt 0 r.buffer_length)) [
+            | inl holds ↦ (let none : left ≡ [] = k.3 refl (ltb-true 0 r.buffer_length holds) in rw (a, holds) ([], same ∙ none, λ _. refl))
             | inr fails ↦ rw (a, fails) (rest.0, same ∙ rest.1, rest.2)
           ]
       by (Some (b ∷ bs)) (Some left) a n one ih =
-          let k = subst (λ (o : Option (List ℕ)). ReadsOf (Some all) (failed s) r.asked (Some (b ∷ bs)) o (failed r.after)) n (subst (λ (o : Option (List ℕ)). ReadsOf (Some all) (failed s) r.asked o (known r.after) (failed r.after)) a one) in
+          let k = subst (λ (o : Option (List ℕ)). ReadsOf (Some all) (failed s) r.buffer_length (Some (b ∷ bs)) o (failed r.after)) n (subst (λ (o : Option (List ℕ)). ReadsOf (Some all) (failed s) r.buffer_length o (known r.after) (failed r.after)) a one) in
           let rest = ih left n in
-          rw (a) (rest.0, k.1 ∙ ap (λ (l : List ℕ). (b ∷ bs) ++ l) rest.1 ∙ sym (append_assoc (b ∷ bs) (handed rs) rest.0), rest.2)
+          rw (a) (rest.0, k.1 ∙ ap (λ (l : List ℕ). (b ∷ bs) ++ l) rest.1 ∙ sym (append_assoc (b ∷ bs) (bytes_handed_out rs) rest.0), rest.2)
 
   -- the bytes of a stream are the front of the reader's
-  front_told : (s t : S) (bytes all : List ℕ) (ends : Bool) → Streams reads_known s t bytes ends → known s ≡ Some all
+  front_told : (s t : S) (bytes all : List ℕ) (ends : Bool) → Streams reads_known 4096 s t bytes ends → known s ≡ Some all
       → (rest : List ℕ) × (all ≡ bytes ++ rest) × (ends ≡ true → all ≡ bytes)
   front_told s t bytes all ends h e =
       let front = known_front h.chain s t all h.is_chain e in
@@ -82,7 +82,7 @@ module _ {S : Type 0} (known : S → Option (List ℕ)) (failed : S → Bool) wh
       (front.0, whole, λ is. whole ∙ ap (λ (l : List ℕ). bytes ++ l) (front.2 (sym h.ends_is ∙ is)) ∙ append-nil bytes)
 
   -- and where it ended, what holds of them holds of all that the reader told
-  all_told : (P : List ℕ → Type 0) (s t : S) (bytes : List ℕ) (ends : Bool) (told : Option (List ℕ)) → known s ≡ told → Streams reads_known s t bytes ends → ends ≡ true → P bytes
+  all_told : (P : List ℕ → Type 0) (s t : S) (bytes : List ℕ) (ends : Bool) (told : Option (List ℕ)) → known s ≡ told → Streams reads_known 4096 s t bytes ends → ends ≡ true → P bytes
       → IfSome told P
   all_told P s t bytes ends None e h is holds = tt
   all_told P s t bytes ends (Some all) e h is holds = subst P (sym ((front_told s t bytes all ends h e).2 is)) holds
@@ -109,7 +109,7 @@ module _ {S : Type 0} (known : S → Option (List ℕ)) (failed : S → Bool) wh
   pub fault_told : (s t : S) (told : Option (List ℕ)) (number : ℕ) → known s ≡ told → Answers reads_known s t (answers.Layout number) → IfSome told HasSomeFault
   fault_told s t told number e h = by told e h.judged.layout
     where
-      by : (told : Option (List ℕ)) → known s ≡ told → ((h.ends ≡ true) × IsFaultOf h.bytes number) ⊎ IsFaultOnwardsOf h.bytes number → IfSome told HasSomeFault
+      by : (told : Option (List ℕ)) → known s ≡ told → ((h.ends ≡ true) × IsFaultOf h.bytes number) ⊎ HasFaultNumberWhateverFollows h.bytes number → IfSome told HasSomeFault
       by None e fault = tt
       by (Some all) e (inl at_end) =
           (at_end.1.0, subst (λ (l : List ℕ). IsFault l at_end.1.0) (sym ((front_told s t h.bytes all h.ends h.streams e).2 at_end.0)) at_end.1.2)
