@@ -11,6 +11,7 @@ mod listing;
 mod report;
 mod runs;
 mod scan;
+mod stream;
 mod tour;
 mod usage;
 mod worlds;

@@ -1,6 +1,8 @@
 //! The command `check`.
-use super::image::{CODE, EBREAK, Edit, end_in, image, insert, put, same};
+use super::image::{CODE, EBREAK, END, Edit, end_in, image, image_bytes, insert, put, same};
 use super::{Outcome, run};
+use std::alloc::Global;
+use std::process::Abort;
 use std::test::Fail;
 
 // An image, and what the command says of it.
@@ -45,9 +47,7 @@ fn second<'a>(name: &'a str, head: &'a str, status: u8, line: &'a str) -> Row<'a
     )
 }
 
-// Where the smallest image ends, and how long the head of a sandbox is.
-const END: usize = 292;
-
+// How long the head of a sandbox is.
 const HEAD_SIZE: usize = 28;
 
 const ACCEPTED: &str = "accepted sandboxes=1 bundles=16";
@@ -181,7 +181,7 @@ fn rules() -> [Row<'static>; 23] {
             "refused findings=1 first=V5 sandbox=0 at=01000008",
         ),
         code(
-            "jump back behind a pair",
+            "jump back after a pair",
             "b37fb501b3efaf0123a0bf00730010006ff09fff",
             1,
             "refused findings=1 first=V7 sandbox=0 at=01000010",
@@ -296,17 +296,98 @@ fn gate<'a>(name: &'a str, digits: &'a str, status: u8, line: &'a str) -> Row<'a
     )
 }
 
+// Digits in place of the code's, in an image of the second format that is accepted.
+fn keeps_stack<'a>(name: &'a str, at: usize, digits: &'a str) -> Row<'a> {
+    edited_row(
+        name,
+        [put(0, "53464932"), put(at, digits), same()],
+        0,
+        ACCEPTED,
+    )
+}
+
+// And in one that is refused.
+fn moves_stack<'a>(name: &'a str, at: usize, digits: &'a str, line: &'a str) -> Row<'a> {
+    edited_row(name, [put(0, "53464932"), put(at, digits), same()], 1, line)
+}
+
+// What writes x2 in the second format. A pair is and x2, x2, x27; or x2, x2, x26.
+fn stacks() -> [Row<'static>; 11] {
+    [
+        keeps_stack("c.swsp", CODE, "06c60290"),
+        moves_stack(
+            "c.addi x2, -16",
+            CODE,
+            "41110290",
+            "refused findings=1 first=V10 sandbox=0 at=01000000",
+        ),
+        keeps_stack("addi and a pair", CODE, "130101ff3371b1013361a101"),
+        moves_stack(
+            "addi and a pair in the next bundle",
+            CODE + 12,
+            "130101ff3371b1013361a101",
+            "refused findings=1 first=V10 sandbox=0 at=0100000c",
+        ),
+        moves_stack(
+            "addi, nop and a pair",
+            CODE,
+            "130101ff130000003371b1013361a101",
+            "refused findings=1 first=V10 sandbox=0 at=01000000",
+        ),
+        keeps_stack("lw and a pair", CODE, "032101003371b1013361a101"),
+        moves_stack(
+            "jal and a pair",
+            CODE,
+            "6f0100013371b1013361a101",
+            "refused findings=1 first=V10 sandbox=0 at=01000000",
+        ),
+        moves_stack(
+            "half a pair",
+            CODE,
+            "3371b501",
+            "refused findings=1 first=V10 sandbox=0 at=01000000",
+        ),
+        keeps_stack("and before a pair", CODE, "3371b5013371b1013361a101"),
+        keeps_stack("or before a pair", CODE, "3361a1013371b1013361a101"),
+        moves_stack(
+            "or after a pair",
+            CODE,
+            "3371b5013361a1013361a101",
+            "refused findings=1 first=V10 sandbox=0 at=01000008",
+        ),
+    ]
+}
+
+// The command prints the row's line of the input, and ends in its status.
+fn expect_line(
+    rt: &impl Abort,
+    alloc: Global,
+    row: &Row<'_>,
+    command: &str,
+    input: &[u8],
+) -> Result<(), Fail> {
+    let Outcome { status, text } = run(alloc, command, input)?;
+    let name = row.name;
+    let line = row.line;
+    let wanted = format!(in alloc; "{line}\n")?;
+    assert_eq!(rt; text.as_slice(), wanted.as_bytes(), "{command}: {name}");
+    assert_eq!(rt; status, row.status, "{command}: {name}");
+    Ok(())
+}
+
+// Each image as hexadecimal text, and as its own bytes.
 #[test]
 fn images(rt: HostRuntime) -> Result<(), Fail> {
     let alloc = rt.alloc();
-    for row in layouts().iter().chain(rules().iter()) {
+    for row in layouts()
+        .iter()
+        .chain(rules().iter())
+        .chain(stacks().iter())
+    {
         let text = image(alloc, &row.edits)?;
-        let Outcome { status, text } = run(alloc, "sfi check", text.as_slice())?;
-        let name = row.name;
-        let line = row.line;
-        let wanted = format!(in alloc; "{line}\n")?;
-        assert_eq!(rt; text.as_slice(), wanted.as_bytes(), "{name}");
-        assert_eq!(rt; status, row.status, "{name}");
+        expect_line(&rt, alloc, row, "sfi check", text.as_slice())?;
+        let bytes = image_bytes(alloc, &row.edits)?;
+        expect_line(&rt, alloc, row, "sfi check --raw", bytes.as_slice())?;
     }
     Ok(())
 }

@@ -6,20 +6,38 @@ use std::alloc::{AllocError, Global};
 use std::io::{self, ErrorKind, Read, Write};
 use std::test::Fail;
 
-// Gives at most 64 bytes at a call, and fails after so many calls.
+/// Gives at most so many bytes at a call, fails after so many calls, and notes the longest buffer that it was to fill.
 #[derive(Drop)]
-struct Pieces<'a> {
+pub(super) struct Pieces<'a> {
     rest: &'a [u8],
+    step: usize,
     calls: usize,
+    longest: usize,
+}
+
+impl<'a> Pieces<'a> {
+    pub(super) fn new(rest: &'a [u8], step: usize, calls: usize) -> Pieces<'a> {
+        Pieces {
+            rest,
+            step,
+            calls,
+            longest: 0,
+        }
+    }
+
+    pub(super) fn longest(&self) -> usize {
+        self.longest
+    }
 }
 
 impl<'a> Read for Pieces<'a> {
     fn read(&mut self, buf: &mut [u8]) -> io::Result<usize> {
+        self.longest = self.longest.max(buf.len());
         if self.calls == 0 {
             return Err(io::Error::from(ErrorKind::Interrupted));
         }
         self.calls -= 1;
-        let len = buf.len().min(64);
+        let len = buf.len().min(self.step);
         self.rest.read(&mut buf[..len])
     }
 }
@@ -58,10 +76,7 @@ fn run(
 ) -> Result<(u8, Vec<u8>), AllocError> {
     let words = words_of(alloc, line)?;
     let text = image(alloc, &[])?;
-    let mut reader = Pieces {
-        rest: text.as_slice(),
-        calls: reads,
-    };
+    let mut reader = Pieces::new(text.as_slice(), 64, reads);
     let mut writer = Slow {
         taken: Vec::new(alloc),
         step,

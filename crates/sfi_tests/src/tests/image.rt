@@ -1,5 +1,6 @@
 //! The smallest image, and images made of it by edits.
 use std::alloc::{AllocError, Global};
+use std::test::Fail;
 
 // The head of one sandbox: code 256 bytes at 01000000, data 256 at 01800000, start at the code's first byte, no gates, no
 // first data bytes.
@@ -8,10 +9,13 @@ const HEAD: &str = "534649310100000000000001000100000000800100010000000000010000
 /// The instruction `ebreak` in its 32-bit form. The smallest image's code is 64 of them.
 pub(super) const EBREAK: &str = "73001000";
 
+/// The smallest image's end.
+pub(super) const END: usize = 292;
+
 /// The place of the code in the smallest image.
 pub(super) const CODE: usize = 36;
 
-/// Digits, so many times, in place of the bytes from one place to another. Places behind the end stand for the end.
+/// Digits, so many times, in place of the bytes from one place to another. Places after the end stand for the end.
 #[derive(Clone, Copy, Debug)]
 pub(super) struct Edit<'a> {
     from: usize,
@@ -74,4 +78,10 @@ pub(super) fn image(alloc: Global, edits: &[Edit<'_>]) -> Result<Vec<u8>, AllocE
         text = edited(alloc, text.as_slice(), edit)?;
     }
     Ok(text)
+}
+
+/// The bytes of that image.
+pub(super) fn image_bytes(alloc: Global, edits: &[Edit<'_>]) -> Result<Vec<u8>, Fail> {
+    let text = image(alloc, edits)?;
+    Ok(hex::decode(alloc, text.as_slice())?)
 }

@@ -1,14 +1,16 @@
 //! The findings of a sandbox, as a list.
-use super::image::{CODE, end_in, image};
-use sfi_image::parse_image;
+use super::image::{CODE, end_in, image_bytes};
+use sfi_image::{Format, parse_image};
 use sfi_scan::{Finding, Rule, scan_part};
 use std::test::Fail;
 
 #[test]
 fn zero_code_has_a_finding_in_each_bundle(rt: HostRuntime) -> Result<(), Fail> {
-    let text = image(rt.alloc(), &[end_in(CODE, "00", 256)])?;
-    let bytes = hex::decode(rt.alloc(), text.as_slice())?;
+    let bytes = image_bytes(rt.alloc(), &[end_in(CODE, "00", 256)])?;
     let image = parse_image(rt.alloc(), bytes.as_slice())?;
+    let Format::Sfi1 = image.format() else {
+        return Err(Fail::new("another format"));
+    };
     for part in image.parts() {
         let found = scan_part(rt.alloc(), 0, part)?;
         assert_eq!(rt; found.len(), 16);

@@ -49,6 +49,8 @@ gate 01000010 0
 01000050 9002 ebreak
 ";
 
+const ACCEPTED: &str = "accepted sandboxes=1 bundles=16\n";
+
 const REPORT: &str = "0 01000048 V5 access lbu x10, 1(x31)
 refused findings=1 first=V5 sandbox=0 at=01000048
 ";
@@ -60,7 +62,7 @@ fn tour(rt: HostRuntime) -> Result<(), Fail> {
     assert_eq!(rt; status, 0);
     let image = text.as_slice();
     let rows = [
-        ("sfi check", "accepted sandboxes=1 bundles=16\n"),
+        ("sfi check", ACCEPTED),
         ("sfi run", "sandbox=0 exit=105 steps=19 out=4869\n"),
     ];
     for (command, wanted) in rows {
@@ -68,6 +70,10 @@ fn tour(rt: HostRuntime) -> Result<(), Fail> {
         assert_eq!(rt; text.as_slice(), wanted.as_bytes(), "{command}");
         assert_eq!(rt; status, 0, "{command}");
     }
+    let bytes = hex::decode(alloc, image.trim_ascii())?;
+    let Outcome { status, text } = run(alloc, "sfi check --raw", bytes.as_slice())?;
+    assert_eq!(rt; text.as_slice(), ACCEPTED.as_bytes());
+    assert_eq!(rt; status, 0);
     let Outcome { status, text } = run(alloc, "sfi dis", image)?;
     assert!(rt; text.as_slice().starts_with(LISTING.as_bytes()));
     assert_eq!(rt; status, 0);

@@ -3,6 +3,8 @@ use super::{Outcome, run, words_of};
 use sfi_tool::{Job, job_of, run_tool};
 use std::test::Fail;
 
+const RAW_REPORT: &str = "error: '--raw' and '--report' cannot be used together\n";
+
 #[test]
 fn usage(rt: HostRuntime) -> Result<(), Fail> {
     let alloc = rt.alloc();
@@ -10,15 +12,21 @@ fn usage(rt: HostRuntime) -> Result<(), Fail> {
         ("sfi", "error: "),
         ("sfi frob", "error: "),
         ("sfi check image", "error: "),
-        ("sfi check --raw", "error: "),
+        ("sfi check --raw --raw", "error: "),
+        ("sfi check --raw=yes", "error: "),
+        ("sfi check --raw image", "error: "),
+        ("sfi check --raw --report", RAW_REPORT),
+        ("sfi check --report --raw", RAW_REPORT),
         ("sfi check --report=yes", "error: "),
         ("sfi check --report --report", "error: "),
         ("sfi check --report image", "error: "),
         ("sfi check --rounds 1", "error: "),
         ("sfi build --report", "error: "),
+        ("sfi build --raw", "error: "),
         ("sfi build source", "error: "),
         ("sfi dis image", "error: "),
         ("sfi dis --report", "error: "),
+        ("sfi dis --raw", "error: "),
         ("sfi run image", "error: "),
         ("sfi run --raw", "error: "),
         ("sfi run --report", "error: "),

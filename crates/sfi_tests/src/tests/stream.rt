@@ -1,0 +1,156 @@
+//! Images as streams of bytes, and the command `check --raw`.
+use super::failing::Pieces;
+use super::image::{CODE, END, Edit, end_in, image_bytes, put, same};
+use super::{Outcome, words_of};
+use sfi_check::{StreamAnswer, check_stream};
+use sfi_image::Reading;
+use sfi_scan::{Finding, Rule};
+use sfi_tool::run_tool;
+use std::alloc::{AllocError, Global};
+use std::test::Fail;
+
+const ACCEPTED: StreamAnswer = StreamAnswer::Accepted {
+    sandboxes: 1,
+    bundles: 16,
+};
+
+// So many findings, the first of them at the first address of the code.
+fn first_breaks(rule: Rule, count: u32) -> StreamAnswer {
+    StreamAnswer::Findings {
+        count,
+        first: Finding {
+            sandbox: 0,
+            address: 0x0100_0000,
+            rule,
+        },
+    }
+}
+
+// An image, and the verdict on its stream.
+#[derive(Clone, Copy, Debug)]
+struct Row<'a> {
+    name: &'a str,
+    edits: [Edit<'a>; 2],
+    answer: StreamAnswer,
+}
+
+fn row_of<'a>(name: &'a str, edits: [Edit<'a>; 2], answer: StreamAnswer) -> Row<'a> {
+    Row {
+        name,
+        edits,
+        answer,
+    }
+}
+
+fn rows() -> [Row<'static>; 12] {
+    let second_format = put(0, "53464932");
+    let first_data = put(32, "00010000");
+    // sw x11, 0(x10), and c.addi x2, -16
+    let bare_store = put(CODE, "2320b500");
+    let lowered = put(CODE, "41110290");
+    let less_a_byte = end_in(END - 1, "", 0);
+    let one_more = end_in(END, "00", 1);
+    [
+        row_of("smallest", [same(), same()], ACCEPTED),
+        row_of("second format", [second_format, same()], ACCEPTED),
+        row_of("with data", [first_data, end_in(END, "07", 256)], ACCEPTED),
+        row_of("x2 moves", [lowered, same()], ACCEPTED),
+        row_of(
+            "x2 moves in the second format",
+            [second_format, lowered],
+            first_breaks(Rule::V10, 1),
+        ),
+        row_of(
+            "zeros",
+            [end_in(CODE, "00", 256), same()],
+            first_breaks(Rule::V1, 16),
+        ),
+        row_of(
+            "bare store",
+            [bare_store, same()],
+            first_breaks(Rule::V5, 1),
+        ),
+        row_of(
+            "bare store less the last byte",
+            [bare_store, less_a_byte],
+            StreamAnswer::Layout(3),
+        ),
+        row_of("empty", [end_in(0, "", 0), same()], StreamAnswer::Layout(3)),
+        row_of(
+            "no format",
+            [put(0, "53464933"), same()],
+            StreamAnswer::Layout(1),
+        ),
+        row_of(
+            "less its last byte",
+            [less_a_byte, same()],
+            StreamAnswer::Layout(3),
+        ),
+        row_of(
+            "one byte more",
+            [one_more, same()],
+            StreamAnswer::Layout(11),
+        ),
+    ]
+}
+
+// A stream is judged alike however it is cut into pieces, and no read is to fill more than 4096 bytes.
+#[test]
+fn pieces(rt: HostRuntime) -> Result<(), Fail> {
+    for step in [1usize, 7, 16, 4096] {
+        for row in rows() {
+            let name = row.name;
+            let bytes = image_bytes(rt.alloc(), &row.edits)?;
+            let mut reader = Pieces::new(bytes.as_slice(), step, 1000);
+            let mut source = Reading::new(&mut reader);
+            assert_eq!(rt; check_stream(&mut source), row.answer, "{name} by {step}");
+            assert!(rt; reader.longest() <= 4096, "{name} by {step}");
+        }
+    }
+    Ok(())
+}
+
+// The smallest image has 292 bytes, so 42 reads of 7 take it and one more finds its end.
+#[test]
+fn failing_streams(rt: HostRuntime) -> Result<(), Fail> {
+    let bytes = image_bytes(rt.alloc(), &[])?;
+    for calls in 0..44usize {
+        let mut reader = Pieces::new(bytes.as_slice(), 7, calls);
+        let mut source = Reading::new(&mut reader);
+        let answer = if calls < 43 {
+            StreamAnswer::ReadFault
+        } else {
+            ACCEPTED
+        };
+        assert_eq!(rt; check_stream(&mut source), answer, "{calls}");
+    }
+    Ok(())
+}
+
+// Runs the command over the bytes, of which a read gives 50, with so many reads.
+fn run_by_fifty(alloc: Global, bytes: &[u8], calls: usize) -> Result<Outcome, AllocError> {
+    let words = words_of(alloc, "sfi check --raw")?;
+    let mut reader = Pieces::new(bytes, 50, calls);
+    let mut text = Vec::new(alloc);
+    let status = run_tool(alloc, words.as_slice(), &mut reader, &mut text);
+    Ok(Outcome { status, text })
+}
+
+// 6 reads of 50 take the image and one more finds its end. The third fails after 100 bytes.
+#[test]
+fn failing_runs(rt: HostRuntime) -> Result<(), Fail> {
+    let alloc = rt.alloc();
+    let bytes = image_bytes(alloc, &[])?;
+    for calls in 0..7 {
+        let Outcome { status, text } = run_by_fifty(alloc, bytes.as_slice(), calls)?;
+        assert_eq!(rt; status, 5, "{calls}");
+        assert!(rt; text.is_empty(), "{calls}");
+    }
+    let Outcome { status, text } = run_by_fifty(alloc, bytes.as_slice(), 7)?;
+    assert_eq!(rt; status, 0);
+    assert_eq!(rt;
+        text.as_slice(),
+        b"accepted sandboxes=1 bundles=16\n".as_slice()
+    );
+    Ok(())
+}
