@@ -27,7 +27,7 @@ pub record ReaderState : Type 0 where
   pub code_read : ℕ
   pub init_read : ℕ
 
--- ---- of which fronts
+-- ---- of which fronts: `StandsFor`, and its parts, which only private contracts name themselves
 
 pub record KeepsHead (r : ReaderState) (format : Format) (n : ℕ) (ps : List Part) : Type 0 where
   pub of : r.fields.format ≡ format
