@@ -21,8 +21,7 @@ use Rattle.clap.specs.Simple.{App, is_simple, subcommand_of, subcommand_rows, Ha
 use Rattle.clap.specs.declared.parser.matches.ArgMatches.{ArgMatches}
 use Rattle.clap.specs.declared.parser.matches.ArgMatches.TheViews.{out-ArgMatches}
 use Rattle.clap.proofs.OnLiterals.{clap_on_literals}
-use Rattle.sfi_tool.specs.Command.{sfi, quantum_most, rounds_most, Names, NamesNoInput, NamesNothing, Asks, IsCount, IsGiven, IsFaultOf, IsFaultOfNamed, IsInputFault, IsInputOf, IsNoInput}
-use Rattle.sfi_tool.specs.Jobs.{is_raw}
+use Rattle.sfi_tool.specs.Command.{sfi, quantum_most, rounds_most, Names, NamesNoInput, NamesNothing, Asks, IsCount, IsFaultOf, IsFaultOfNamed, IsInputFault, IsInputOf, IsNoInput}
 use Rattle.sfi_tool.specs.Numbers.{number_of}
 use Rattle.sfi_tool.specs.declared.job.Job.{Job}
 use Rattle.sfi_tool.specs.declared.job.Job.TheVariants.{Check, Dis, Build, Run}
@@ -213,39 +212,6 @@ no_quantum rows bytes spells none = record { no_job = no_job; no_run = λ names.
     no_job Dis names = not_run _ 100 names refl (λ e. absurd (omega (arith, e)))
     no_job Build names = not_run _ 98 names refl (λ e. absurd (omega (arith, e)))
     no_job (Run rounds quantum input) names = none quantum names.2
-
--- ---- the options of a check
-
--- a name that begins with c is no other command's
-not_check : (t : Text) (first : ℕ) → codes "check" ≡ t → slice_index t 0 ≡ first → first ≢ 99 → ⊥
-not_check t first e is differs = differs (sym is ∙ ap (λ (u : Text). slice_index u 0) (sym e))
-
--- a check of an image's own bytes with a report names nothing
-pub raw_with_report : (rows : List Row) (raw report : Bool) → IsGiven (codes "raw") rows raw → IsGiven (codes "report") rows report
-    → raw ≡ true → report ≡ true → NamesNothing (Some (codes "check", rows))
-raw_with_report rows raw report raw_given report_given is_raw is_report = record {
-  no_job = no_job;
-  no_run = λ names. not_check _ 114 names.0 refl (λ e. absurd (omega (arith, e)));
-}
-  where
-    no_job : (job : Job) → ¬ Names (Some (codes "check", rows)) job
-    no_job (Check other another) names = names.3 (names.1.1 (raw_given.0 is_raw), names.2.1 (report_given.0 is_report))
-    no_job Dis names = not_check _ 100 names refl (λ e. absurd (omega (arith, e)))
-    no_job Build names = not_check _ 98 names refl (λ e. absurd (omega (arith, e)))
-    no_job (Run rounds quantum input) names = not_check _ 114 names.0 refl (λ e. absurd (omega (arith, e)))
-
--- a job that reads an image's own bytes is a check without a report
-raw_named : (named : Option (Text × List Row)) (job : Job) → Names named job → is_raw job ≡ true → Names named (Check true false)
-raw_named None job names raw = names
-raw_named (Some p) (Check true true) names raw = absurd (names.3 (refl, refl))
-raw_named (Some p) (Check true false) names raw = names
-raw_named (Some p) (Check false report) names raw = absurd (cc)
-raw_named (Some p) Dis names raw = absurd (cc)
-raw_named (Some p) Build names raw = absurd (cc)
-raw_named (Some p) (Run rounds quantum input) names raw = absurd (cc)
-
-pub raw_asked : (words : List Text) (job : Job) → Asks words job → is_raw job ≡ true → Asks words (Check true false)
-raw_asked words job asks raw = record { parses = asks.parses; names = raw_named (subcommand_of sfi words) job asks.names raw }
 
 -- ---- words that don't parse
 
