@@ -106,6 +106,13 @@ bounds_after gate.Yield s t = refl
 bounds_after (gate.Exit n) s t = refl
 bounds_after gate.Memory s t = refl
 
+-- where its turn goes on, a sandbox is ready as before
+pub still_ready : (a : GateAnswer) (s : Sandbox) (t : Told) (goes : Going) → goes ≡ going_after a → goes ≡ going.More → s.status ≡ Ready → (after_told a s t).status ≡ Ready
+still_ready gate.Replied s t goes e more ready = ready
+still_ready gate.Yield s t goes e more ready = absurd (cc)
+still_ready (gate.Exit n) s t goes e more ready = absurd (cc)
+still_ready gate.Memory s t goes e more ready = absurd (cc)
+
 pub safe_after : GoesOnSafely → (m n : Bytes) (s : Sandbox) (t : Told) (a : GateAnswer) (size : ℕ) → IsSafeSeat m (seat_of s) → s.status ≡ Ready → Stands (machine_of m (seat_of s)) Ecall size
     → IsMemory n → StaysOutside (seat_of s).bounds.data m n → IsWhole (seat_of s).bounds.data n → (a ≢ gate.Memory → IsHart (after_told a s t).cpu)
     → IsSafeSeat n (seat_of (after_told a s t))

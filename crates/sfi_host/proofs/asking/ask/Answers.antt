@@ -7,11 +7,16 @@ use Rattle.sfi_host.specs.Regions.{bytes_in}
 use Rattle.sfi_host.specs.Sandboxes.{seat_of, call_by, IsReplied, IsNotReplied}
 use Rattle.sfi_host.specs.Worlds.{slot_of, IsSafeSeat}
 use Rattle.sfi_host.proofs.Leaving.{whole_in, whole_of, stays_outside}
-use Rattle.sfi_host.proofs.Replying.{asked_is, bounds_after, safe_after, replies, refuses}
+use Rattle.sfi_host.proofs.Replying.{asked_is, still_ready, bounds_after, safe_after, replies, refuses}
 use Rattle.sfi_host.proofs.asking.ask.Goals as goal
 
 pub call_gate-told-requires : goal.call_gate-told-requires
 call_gate-told-requires g c = whole_in (seat_of c.args.sandbox.now).bounds.data (g.M.Memory.bytes c.args.memory.now) c.requires.safe.has_data
+
+pub returns-clause-ready : goal.returns-clause-ready
+returns-clause-ready g c more =
+    let told = c.call_gate-told.result in
+    ap (λ (s : Sandbox). s.status) c.put_answer.ensures.after ∙ still_ready told.answer c.args.sandbox.now told c.put_answer.result c.put_answer.ensures.goes more c.requires.ready
 
 pub returns-clause-bounds : goal.returns-clause-bounds
 returns-clause-bounds g c = ap (λ (s : Sandbox). (seat_of s).bounds) c.put_answer.ensures.after ∙ bounds_after c.call_gate-told.result.answer c.args.sandbox.now c.call_gate-told.result
