@@ -59,7 +59,7 @@ module _ (m : Bytes) (s : Seat) (seat : IsSafeSeat m s) where
         apart = subst (λ (b : Bounds). AreApart b.code (with_guards b.data)) (sym seat.bounds) seat.apart
 
     -- its own data alone may have changed
-    own_kept : (n : Bytes) → StaysOutside s.bounds.data m n → KeepsBytes p m n
+    pub own_kept : (n : Bytes) → StaysOutside s.bounds.data m n → KeepsBytes p m n
     own_kept n stays = record {
       code = λ a inside. stays a (code_not_data a inside);
       guards = λ a guard empty. stays a (guard_not_data a guard) ∙ empty;

@@ -6,6 +6,7 @@ pub mod Keeping
 pub mod Kept
 pub mod Leaving
 pub mod Loaded
+pub mod Moves
 pub mod Moving
 pub mod Neighbours
 pub mod Owning

@@ -15,3 +15,4 @@ pub mod Sandboxes
 pub mod Programs
 pub mod Steps
 pub mod Laws
+pub mod Moves

@@ -1,5 +1,6 @@
 //! What holds of the definitions and of every run. A call costs nothing.
 ghost use Rattle.sfi_host.specs.Laws.{SomeMachine, OneMachine, NeighboursAreChanges, CallsHaveStack, AnswersAreReplies};
+ghost use Rattle.sfi_host.specs.Moves.{MovesAreRuns};
 ghost use Rattle.sfi_host.specs.Solo.{JointIsSolo};
 ghost use Rattle.sfi_host.specs.Steps.{StepsAreOwn};
 
@@ -52,3 +53,12 @@ pub fn calls_have_stack()
 pub fn answers_are_replies()
     ensures { AnswersAreReplies }
 {}
+
+/// What the sandboxes of a safe world do in the one memory, in any order, is to each of them a run: its own steps and the replies that it
+/// gets, and changes by others. The world stays safe.
+pub fn moves_are_runs()
+    ensures { MovesAreRuns }
+{
+    steps_are_own();
+    sfi_check::laws::goes_on_safely();
+}
