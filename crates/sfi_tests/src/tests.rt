@@ -1,6 +1,7 @@
 mod build;
 mod build_command;
 mod check;
+mod convert;
 mod failing;
 mod formats;
 mod frames;

@@ -4,3 +4,4 @@ pub mod Words
 pub mod Texts
 pub mod Streamed
 pub mod TooLarge
+pub mod Conversions

@@ -5,7 +5,7 @@ use Rattle.sfi_tool.specs.Input.{IsInput, limit}
 use Rattle.sfi_tool.specs.Says.{HasInputFault}
 use Rattle.sfi_tool.specs.declared.input.Input.TheVariants.{TooLarge}
 use Rattle.sfi_tool.specs.declared.job.Job.{Job}
-use Rattle.sfi_tool.specs.declared.job.Job.TheVariants.{Check, Dis, Build, Run}
+use Rattle.sfi_tool.specs.declared.job.Job.TheVariants.{Check, Dis, Build, Run, Convert}
 
 -- is a fault to each job that reads a text
 too_large : (job : Job) (text : List ℕ) → is_raw job ≡ false → limit < length text → HasInputFault job text
@@ -14,6 +14,7 @@ too_large (Check false report) text read over = inl (inl over)
 too_large Dis text read over = inl (inl over)
 too_large Build text read over = inl (inl over)
 too_large (Run rounds quantum given) text read over = inl (inl over)
+too_large Convert text read over = inl (inl over)
 
 -- where the reader told its bytes
 pub told_too_large : (job : Job) (told : Option (List ℕ)) → is_raw job ≡ false → IsInput told TooLarge → IfSome told (HasInputFault job)

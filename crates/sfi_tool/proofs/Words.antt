@@ -24,7 +24,7 @@ use Rattle.clap.proofs.OnLiterals.{clap_on_literals}
 use Rattle.sfi_tool.specs.Command.{sfi, quantum_most, rounds_most, Names, NamesNoInput, NamesNothing, Asks, IsCount, IsFaultOf, IsFaultOfNamed, IsInputFault, IsInputOf, IsNoInput}
 use Rattle.sfi_tool.specs.Numbers.{number_of}
 use Rattle.sfi_tool.specs.declared.job.Job.{Job}
-use Rattle.sfi_tool.specs.declared.job.Job.TheVariants.{Check, Dis, Build, Run}
+use Rattle.sfi_tool.specs.declared.job.Job.TheVariants.{Check, Dis, Build, Run, Convert}
 use Rattle.sfi_tool.specs.declared.job.JobFault.{JobFault}
 use Rattle.sfi_tool.specs.declared.job.JobFault.TheVariants.{Usage, Hex, Memory}
 
@@ -202,6 +202,7 @@ no_rounds rows bytes spells none = record { no_job = no_job; no_run = λ names. 
     no_job Dis names = not_run _ 100 names refl (λ e. absurd (omega (arith, e)))
     no_job Build names = not_run _ 98 names refl (λ e. absurd (omega (arith, e)))
     no_job (Run rounds quantum input) names = none rounds names.1
+    no_job Convert names = not_run _ 99 names refl (λ e. absurd (omega (arith, e)))
 
 pub no_quantum : (rows : List Row) (bytes : List ℕ) → IsInputOf (first_of (codes "input") rows) bytes
     → ((n : ℕ) → ¬ IsCount (codes "quantum") quantum_most rows n) → NamesNothing (Some (codes "run", rows))
@@ -212,6 +213,7 @@ no_quantum rows bytes spells none = record { no_job = no_job; no_run = λ names.
     no_job Dis names = not_run _ 100 names refl (λ e. absurd (omega (arith, e)))
     no_job Build names = not_run _ 98 names refl (λ e. absurd (omega (arith, e)))
     no_job (Run rounds quantum input) names = none quantum names.2
+    no_job Convert names = not_run _ 99 names refl (λ e. absurd (omega (arith, e)))
 
 -- ---- words that don't parse
 

@@ -10,7 +10,7 @@ use Rattle.clap.specs.declared.builder.command.Command.TheViews.{out-Command}
 use Rattle.clap.specs.declared.builder.action.ArgAction.TheVariants.{SetTrue}
 use Rattle.clap.specs.declared.builder.value_parser.ValueParser.TheVariants.{Signed}
 use Rattle.sfi_tool.specs.declared.job.Job.{Job}
-use Rattle.sfi_tool.specs.declared.job.Job.TheVariants.{Check, Dis, Build, Run}
+use Rattle.sfi_tool.specs.declared.job.Job.TheVariants.{Check, Dis, Build, Run, Convert}
 use Rattle.sfi_tool.specs.declared.job.JobFault.{JobFault}
 use Rattle.sfi_tool.specs.declared.job.JobFault.TheVariants.{Usage, Hex, Memory}
 
@@ -58,9 +58,13 @@ run = record (new_shape (codes "run")) {
   rules = count_rule (codes "rounds") (codes "1") rounds_most ∷ count_rule (codes "quantum") (codes "1000") quantum_most ∷ input_rule ∷ [];
 }
 
+-- `convert`, without options
+abbrev pub convert : Shape
+convert = new_shape (codes "convert")
+
 -- the command line: the program with its subcommands
 abbrev pub sfi : App
-sfi = with_subcommand (with_subcommand (with_subcommand (with_subcommand program check) dis) build) run
+sfi = with_subcommand (with_subcommand (with_subcommand (with_subcommand (with_subcommand program check) dis) build) run) convert
 
 -- the command has this shape, and no argument that its subcommands share (a word of private contracts)
 pub record IsCommandOf (s : Shape) (c : Command) : Type 0 where
@@ -102,6 +106,7 @@ Names (Some p) Build = p.0 ≡ codes "build"
 Names (Some p) (Run rounds quantum input) =
     (p.0 ≡ codes "run") × IsCount (codes "rounds") rounds_most p.1 rounds × IsCount (codes "quantum") quantum_most p.1 quantum
     × IsInputOf (first_of (codes "input") p.1) input.items
+Names (Some p) Convert = p.0 ≡ codes "convert"
 
 -- the words parse by the command line, and their subcommand asks for the job; the first word is the program's name
 pub record Asks (words : List Text) (job : Job) : Type 0 where

@@ -1,7 +1,7 @@
 -- What a job reads.
 use Rattle.std.specs.Prelude.{Bool, false}
 use Rattle.sfi_tool.specs.declared.job.Job.{Job}
-use Rattle.sfi_tool.specs.declared.job.Job.TheVariants.{Check, Dis, Build, Run}
+use Rattle.sfi_tool.specs.declared.job.Job.TheVariants.{Check, Dis, Build, Run, Convert}
 
 -- whether the job reads an image's own bytes, and no text
 abbrev pub is_raw : Job → Bool
@@ -9,3 +9,4 @@ is_raw (Check raw report) = raw
 is_raw Dis = false
 is_raw Build = false
 is_raw (Run rounds quantum given) = false
+is_raw Convert = false

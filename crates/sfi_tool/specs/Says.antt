@@ -7,6 +7,7 @@ use Rattle.sfi_image.specs.Faults.{IsFault}
 use Rattle.sfi_image.specs.declared.fault.LayoutFault.{LayoutFault}
 use Rattle.sfi_check.specs.declared.refusal.Refusal.{Refusal}
 use Rattle.sfi_check.specs.Refusals.{IfLayoutFault, IfFindings}
+use Rattle.sfi_check.specs.Converting.{IsSecond, IsConversion, HasStackFindings}
 use Rattle.sfi_check.specs.Verdict.{IsAccepted, HasFindings, AnswersLayout, AnswersFindings, AnswersAccepted}
 use Rattle.sfi_link.specs.declared.fault.BuildFault.{BuildFault}
 use Rattle.sfi_link.specs.Texts.{IsTextBuild, IsBuildFault, IsWantOfMemory}
@@ -21,7 +22,7 @@ use Rattle.sfi_tool.specs.Verdict.{accepted_line, refused_line}
 use Rattle.sfi_tool.specs.declared.fault.Stop.{Stop}
 use Rattle.sfi_tool.specs.declared.fault.Stop.TheVariants as stop
 use Rattle.sfi_tool.specs.declared.job.Job.{Job}
-use Rattle.sfi_tool.specs.declared.job.Job.TheVariants.{Check, Dis, Build, Run}
+use Rattle.sfi_tool.specs.declared.job.Job.TheVariants.{Check, Dis, Build, Run, Convert}
 use Rattle.sfi_tool.specs.declared.verdict.Answer.{Answer}
 
 -- ---- status 0 and 1, with the text that is printed
@@ -86,6 +87,24 @@ pub record SaysRan (rounds quantum : ℕ) (given bytes : List ℕ) (status : ℕ
 abbrev pub SaysRun : ℕ → ℕ → List ℕ → List ℕ → ℕ → List ℕ → Type 0
 SaysRun rounds quantum given bytes status text = SaysRan rounds quantum given bytes status text ⊎ SaysRefused false bytes status text
 
+-- the image has a conversion: status 0 and one line, the lower-case digits of its bytes
+pub record SaysConverted (bytes : List ℕ) (status : ℕ) (text : List ℕ) : Type 0 where
+  pub new : List ℕ
+  pub conversion : IsConversion bytes new
+  pub status_is : status ≡ 0
+  pub text_is : text ≡ encode_lower new ++ line_end
+
+-- the image has no findings in the first format, and its sandboxes have some in the second: status 1 and the line of the first
+pub record SaysStack (bytes : List ℕ) (status : ℕ) (text : List ℕ) : Type 0 where
+  pub found : List Finding
+  pub refused : HasStackFindings bytes found
+  pub status_is : status ≡ 1
+  pub text_is : text ≡ refused_line found
+
+-- the conversion, or the verdict on an image with findings in either format
+abbrev pub SaysConversion : List ℕ → ℕ → List ℕ → Type 0
+SaysConversion bytes status text = SaysConverted bytes status text ⊎ (SaysRefused false bytes status text ⊎ SaysStack bytes status text)
+
 -- the job's answer, with status 0 or 1, on what was read: an image's own bytes, or a text
 abbrev pub Says : Job → List ℕ → ℕ → List ℕ → Type 0
 Says (Check true report) input status text = SaysVerdict report input status text
@@ -93,6 +112,7 @@ Says (Check false report) input status text = (bytes : List ℕ) × SpellsBytes 
 Says Dis input status text = (bytes : List ℕ) × SpellsBytes input bytes × SaysListing bytes status text
 Says Build input status text = SaysBuild input status text
 Says (Run rounds quantum given) input status text = (bytes : List ℕ) × SpellsBytes input bytes × SaysRun rounds quantum given.items bytes status text
+Says Convert input status text = (bytes : List ℕ) × SpellsBytes input bytes × SaysConversion bytes status text
 
 -- ---- which status what was read has
 
@@ -124,6 +144,19 @@ SpellsFindings input = (bytes : List ℕ) × (found : List Finding) × SpellsByt
 abbrev pub SpellsFault : List ℕ → Type 0
 SpellsFault input = (bytes : List ℕ) × (k : LayoutFault) × SpellsBytes input bytes × IsFault bytes k
 
+-- it spells an image that has a conversion
+abbrev pub SpellsConverted : List ℕ → Type 0
+SpellsConverted input = (bytes : List ℕ) × (new : List ℕ) × SpellsBytes input bytes × IsConversion bytes new
+
+-- it spells an image of the first format with findings, or one whose sandboxes have findings in the second alone
+abbrev pub SpellsUnconverted : List ℕ → Type 0
+SpellsUnconverted input = (bytes : List ℕ) × (found : List Finding) × SpellsBytes input bytes
+    × (((¬ IsSecond bytes) × HasFindings bytes found) ⊎ HasStackFindings bytes found)
+
+-- it spells bytes that begin as an image of the second format does
+abbrev pub SpellsSecond : List ℕ → Type 0
+SpellsSecond input = (bytes : List ℕ) × SpellsBytes input bytes × IsSecond bytes
+
 -- it is a source text with a build
 abbrev pub MeansBuild : List ℕ → Type 0
 MeansBuild input = (bytes : List ℕ) × IsSourceText input × IsTextBuild input bytes
@@ -143,6 +176,7 @@ IsDone (Check false report) input = SpellsAccepted input
 IsDone Dis input = SpellsImage input
 IsDone Build input = MeansBuild input
 IsDone (Run rounds quantum given) input = SpellsAccepted input
+IsDone Convert input = SpellsConverted input
 
 -- status 1: the job refuses it for its findings
 abbrev pub IsRefused : Job → List ℕ → Type 0
@@ -151,15 +185,17 @@ IsRefused (Check false report) input = SpellsFindings input
 IsRefused Dis input = ⊥
 IsRefused Build input = ⊥
 IsRefused (Run rounds quantum given) input = SpellsFindings input
+IsRefused Convert input = SpellsUnconverted input
 
 -- status 2: it is above its limit, isn't the text that the job reads, spells an image with a fault, or is a source with one; or it is
--- itself an image with a fault, where the job reads an image's own bytes, which have no limit
+-- itself an image with a fault, where the job reads an image's own bytes, which have no limit; or it is of the second format already
 abbrev pub HasInputFault : Job → List ℕ → Type 0
 HasInputFault (Check true report) input = HasSomeFault input
 HasInputFault (Check false report) input = IsUnreadable input ⊎ SpellsFault input
 HasInputFault Dis input = IsUnreadable input ⊎ SpellsFault input
 HasInputFault Build input = IsNoSourceText input ⊎ MeansFault input
 HasInputFault (Run rounds quantum given) input = IsUnreadable input ⊎ SpellsFault input
+HasInputFault Convert input = IsUnreadable input ⊎ (SpellsFault input ⊎ SpellsSecond input)
 
 -- ---- for private contracts
 

@@ -6,6 +6,7 @@ ghost use Rattle.sfi_tool.specs.Says.{HasInputFault, IsDone, IsRefused, Says};
 
 use crate::building::built;
 use crate::checking::checked;
+use crate::converting::conversion_answer;
 use crate::fault::{Stop, build_line, input_line, layout_line};
 use crate::job::Job;
 use crate::listing::listed;
@@ -41,6 +42,7 @@ pub fn answer(alloc: Global, job: &Job, text: &[u8]) -> Result<Answer, AllocErro
             quantum,
             input,
         } => ran(alloc, *rounds, *quantum, input, text),
+        Job::Convert => conversion_answer(alloc, text),
     };
     match answered {
         Ok(answer) => Ok(answer),

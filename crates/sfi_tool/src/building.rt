@@ -27,7 +27,7 @@ fn source_text(text: &[u8]) -> Result<&str, Stop>
 }
 
 /// The bytes in lower-case hexadecimal digits, on one line.
-fn digits_line(alloc: Global, bytes: &[u8]) -> Result<String, AllocError>
+pub(crate) fn digits_line(alloc: Global, bytes: &[u8]) -> Result<String, AllocError>
     ensures { IfOk result (λ line. string_bytes line ≡ encode_lower bytes.now ++ line_end) }
 {
     let mut line = hex::encode(alloc, bytes)?;

@@ -80,8 +80,10 @@ fn command<'a>(alloc: Global) -> Result<Command<'a>, AllocError>
     let build = Command::new(alloc, "build");
     let run = run_command(alloc)?;
     let program = Command::new(alloc, "sfi").subcommand_required(true);
+    let convert = Command::new(alloc, "convert");
     let program = program.subcommand(check)?.subcommand(dis)?;
-    program.subcommand(build)?.subcommand(run)
+    let running = program.subcommand(build)?.subcommand(run)?;
+    running.subcommand(convert)
 }
 
 /// What is printed for words that don't parse, or ask for help.
@@ -212,6 +214,9 @@ fn job_named(alloc: Global, name: &str, found: &ArgMatches<'_>) -> Result<Job, J
     }
     if name == "run" {
         return run_of(alloc, found);
+    }
+    if name == "convert" {
+        return Ok(Job::Convert);
     }
     Err(no_command(alloc))
 }

@@ -28,6 +28,9 @@ pub(crate) enum InputFault {
     HexDigit(usize),
     #[error("input fault utf8")]
     Utf8,
+    /// It spells an image of the second format, which `convert` makes.
+    #[error("convert fault 2 NotOld")]
+    NotOld,
 }
 
 /// Why a command gives no verdict: a fault of the text, of the image that it spells or of the source that it means, or an

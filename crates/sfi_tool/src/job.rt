@@ -31,6 +31,8 @@ pub enum Job {
         /// What each sandbox reads.
         input: Vec<u8>,
     },
+    /// The image in the second format, as hexadecimal text. Its bytes come as hexadecimal text.
+    Convert,
 }
 
 impl Job {
@@ -40,7 +42,7 @@ impl Job {
     {
         match self {
             Job::Check { raw, .. } => *raw,
-            Job::Dis | Job::Build | Job::Run { .. } => false,
+            Job::Dis | Job::Build | Job::Run { .. } | Job::Convert => false,
         }
     }
 }

@@ -5,6 +5,7 @@ mod answering;
 mod building;
 mod checking;
 mod command_line;
+mod converting;
 mod fault;
 mod hexadecimal;
 mod input;

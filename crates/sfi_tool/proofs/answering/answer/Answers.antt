@@ -5,7 +5,7 @@ use Rattle.sfi_tool.specs.Jobs.{is_raw}
 use Rattle.sfi_tool.specs.declared.job.Job.{Job}
 use Rattle.sfi_tool.specs.declared.job.Job.TheVariants.{Check}
 use Rattle.sfi_tool.specs.declared.verdict.Answer.{Answer}
-use Rattle.sfi_tool.proofs.answering.answer.Goals.{in-Check, in-Dis, in-Build, in-Run}
+use Rattle.sfi_tool.proofs.answering.answer.Goals.{in-Check, in-Dis, in-Build, in-Run, in-Convert}
 use Rattle.sfi_tool.proofs.answering.answer.Goals as goal
 
 -- what a command says is the job's answer, where that job was asked for
@@ -28,4 +28,5 @@ returns-in-Ok-clause-says c less =
       | in-Dis w ↦ said _ _ _ _ _ c.in-Ok.answer w.in-Dis.is w.answered-is c.in-Ok.is w.listed-answered.ensures.says
       | in-Build w ↦ said _ _ _ _ _ c.in-Ok.answer w.in-Build.is w.answered-is c.in-Ok.is w.built-answered.ensures.says
       | in-Run w ↦ said _ _ _ _ _ c.in-Ok.answer w.in-Run.is w.answered-is c.in-Ok.is w.ran-answered.ensures.says
+      | in-Convert w ↦ said _ _ _ _ _ c.in-Ok.answer w.in-Convert.is w.answered-is c.in-Ok.is w.conversion_answer-answered.ensures.says
     ]

@@ -13,6 +13,8 @@ returns c =
     ∙ ap₂ with_subcommand with_check (ap (λ (a : App). a.top) c.new-dis.ensures.app) in
     let with_build = c.in_ok-subcommand-2.ensures.shape c.new-build.ensures.local
     ∙ ap₂ with_subcommand with_dis (ap (λ (a : App). a.top) c.new-build.ensures.app) in
-    IfOk-weaker c.subcommand-4.result _ _
-    (λ r h. h.shape c.in_ok-run.ensures.local ∙ ap₂ with_subcommand with_build (ap (λ (a : App). a.top) c.in_ok-run.ensures.shape_is))
-    c.subcommand-4.ensures
+    let with_run = c.in_ok-running.ensures.shape c.in_ok-run.ensures.local
+    ∙ ap₂ with_subcommand with_build (ap (λ (a : App). a.top) c.in_ok-run.ensures.shape_is) in
+    IfOk-weaker c.subcommand-5.result _ _
+    (λ r h. h.shape c.new-convert.ensures.local ∙ ap₂ with_subcommand with_run (ap (λ (a : App). a.top) c.new-convert.ensures.app))
+    c.subcommand-5.ensures

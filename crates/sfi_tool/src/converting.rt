@@ -1,0 +1,73 @@
+//! The command `convert`.
+
+ghost use Rattle.std.specs.Prelude.{◌≡◌, ◌≢◌, [], IfOk, IfErr, IsErr, string_bytes};
+ghost use Rattle.sfi_check.specs.declared.conversion.ConvertFault.TheVariants.{Refused};
+ghost use Rattle.sfi_tool.specs.Converting.{AnswersConvertFault, HoldsSome};
+ghost use Rattle.sfi_tool.specs.Says.{AnswersStatus, HasInputFault, IsDone, IsRefused, IsStop, Says};
+ghost use Rattle.sfi_tool.specs.Verdict.{refused_line};
+ghost use Rattle.sfi_tool.specs.declared.job.Job.TheVariants.{Convert};
+
+use crate::building::digits_line;
+use crate::fault::{InputFault, Stop};
+use crate::hexadecimal::bytes_of;
+use crate::verdict::{Answer, refused_line};
+use sfi_check::{ConvertFault, Refusal, convert};
+use sfi_scan::Finding;
+use std::alloc::{AllocError, Global};
+
+/// The line of the first of these findings.
+fn findings_line(alloc: Global, findings: &[Finding]) -> Result<String, AllocError>
+    requires { findings.now ≢ [] }
+    ensures { IfOk result (λ line. string_bytes line ≡ refused_line findings.now) }
+{
+    refused_line(alloc, findings.len(), findings[0])
+}
+
+/// What the command answers on an image that is refused.
+fn refused_answer(alloc: Global, refusal: Refusal) -> Result<Answer, Stop>
+    requires { HoldsSome (Refused refusal) }
+    ensures { AnswersConvertFault (Refused refusal) result }
+{
+    match refusal {
+        Refusal::Layout(fault) => Err(Stop::Layout(fault)),
+        Refusal::Findings(found) => Ok(Answer {
+            status: 1,
+            text: findings_line(alloc, found.as_slice())?,
+        }),
+        Refusal::Memory => Err(Stop::Memory),
+    }
+}
+
+/// What the command answers on bytes that are not converted.
+fn fault_answer(alloc: Global, fault: ConvertFault) -> Result<Answer, Stop>
+    requires { HoldsSome fault }
+    ensures { AnswersConvertFault fault result }
+{
+    match fault {
+        ConvertFault::Refused(refusal) => refused_answer(alloc, refusal),
+        ConvertFault::NotOld => Err(Stop::Input(InputFault::NotOld)),
+        ConvertFault::Stack(found) => Ok(Answer {
+            status: 1,
+            text: findings_line(alloc, found.as_slice())?,
+        }),
+        ConvertFault::Memory => Err(Stop::Memory),
+    }
+}
+
+/// The image that the text spells, in the second format, in hexadecimal digits; or the verdict where it breaks a rule of either format.
+pub(crate) fn conversion_answer(alloc: Global, text: &[u8]) -> Result<Answer, Stop>
+    ensures says { IfOk result (λ a. Says Convert text.now a.status (string_bytes a.text)) }
+    ensures stop { IfErr result (IsStop Convert text.now) }
+    ensures only_done { IsDone Convert text.now → AnswersStatus 0 result }
+    ensures only_refused { IsRefused Convert text.now → AnswersStatus 1 result }
+    ensures only_fault { HasInputFault Convert text.now → IsErr result }
+{
+    let bytes = bytes_of(alloc, text)?;
+    match convert(alloc, bytes.as_slice()) {
+        Ok(new) => Ok(Answer {
+            status: 0,
+            text: digits_line(alloc, new.as_slice())?,
+        }),
+        Err(fault) => fault_answer(alloc, fault),
+    }
+}
