@@ -1,5 +1,5 @@
 -- Pages: what they have at an address, and what a write makes of it.
-use Rattle.std.proofs.Common.{is_some, ◌^◌, ◌≡◌, ◌≢◌, ℕ, ◌+◌, ◌-◌, ◌*◌, ◌/◌, ◌%◌, ◌<◌, ◌≤◌, ◌==◌, ◌⊎◌, inl, inr, ⊎_elim, Bool, true, false, cond, zero, suc, nat_lt, get_or, length, set, IsSome, List, [], ◌∷◌, ◌++◌, Option, Some, None, refl, sym, ap, ◌∙◌, subst, arith, get_or-set_other, get_or-set_same}
+use Rattle.std.proofs.Common.{is_some, ◌^◌, ◌≡◌, ◌≢◌, ℕ, ◌+◌, ◌-◌, ◌*◌, ◌/◌, ◌%◌, ◌<◌, ◌≤◌, ◌==◌, ◌⊎◌, inl, inr, ⊎_elim, Bool, true, false, cond, zero, suc, nat_lt, get_or, length, take, drop, set, IsSome, List, [], ◌∷◌, ◌++◌, Option, Some, None, refl, sym, ap, ◌∙◌, subst, arith, get_or-set_other, get_or-set_same}
 use Rattle.std.specs.Prelude.{slice_index, replicate}
 use Rattle.std.proofs.lemmas.Grind.{common_steps}
 use Rattle.std.specs.Option.{option_or}
@@ -8,11 +8,11 @@ use Rattle.std.specs.Cmp.{nat_cmp_total}
 use Rattle.std.specs.FinMap.{get, empty, insert, get-empty, same_map, nat_cmp-IsAntisymmetric}
 use Rattle.std.specs.Option.{option_map}
 use Rattle.rv_mem.specs.Bytes.{Bytes, byte_at, bytes_at, in_front, number_of, address_after, addresses, loaded, IsMemory}
-use Rattle.rv_mem.specs.Frames.{run_of, MarksRun, frame_of, cell, cell_at, ArePages, with_entry, values_below, values_of}
+use Rattle.rv_mem.specs.Frames.{run_of, Puts, MarksRun, frame_of, cell, cell_at, ArePages, with_entry, values_below, values_of}
 use Rattle.std.specs.Prelude.{slice_get}
 use Rattle.std.proofs.lemmas.Option.{slice_get-get_or, slice_get_past}
 use Rattle.std.proofs.lemmas.List.{length-replicate}
-use Rattle.std.proofs.Common.{add-zero, length-append}
+use Rattle.std.proofs.Common.{add-zero, length-append, length-take, length-drop, get_or-take, get_or-drop}
 use Rattle.rv_mem.specs.Bytes.{with_bytes, added}
 use Rattle.rv_mem.specs.Segment.{byte_in}
 use Rattle.rv_mem.proofs.Lookups.{get_with}
@@ -72,7 +72,7 @@ get_values f past q = get_below (2 ^ 32) f q ∙ elim (nat_lt q (2 ^ 32)) as (λ
 
 -- ---- look-ups
 
-slice_past : (xs : List ℕ) (k : ℕ) → length xs ≤ k → slice_index xs k ≡ 0
+pub slice_past : (xs : List ℕ) (k : ℕ) → length xs ≤ k → slice_index xs k ≡ 0
 slice_past [] k h = refl
 slice_past (x ∷ xs) zero h = absurd (omega arith)
 slice_past (x ∷ xs) (suc k) h = slice_past xs k (omega arith)
@@ -235,19 +235,6 @@ sets_byte c p b m =
       byte = get_or-set_same c p b 0 near;
       mark = get_or-set_other c p (p + 4096) b 0 up ∙ m;
       others = λ k n o. get_or-set_other c p k b 0 n;
-    }
-
--- a byte is written, and its mark
-pub sets_both : (c : List ℕ) (p b : ℕ) → p + 4096 < length c → Sets c (set (set c p b) (p + 4096) 1) p b
-sets_both c p b far =
-    let near : p < length c = omega arith in
-    let far' : p + 4096 < length (set c p b) = omega (arith, far, length_set c p b) in
-    let down : p ≢ p + 4096 = λ e. omega arith in
-    record {
-      size = length_set (set c p b) (p + 4096) 1 ∙ length_set c p b;
-      byte = get_or-set_other (set c p b) (p + 4096) p 1 0 down ∙ get_or-set_same c p b 0 near;
-      mark = get_or-set_same (set c p b) (p + 4096) 1 0 far';
-      others = λ k n o. get_or-set_other (set c p b) (p + 4096) k 1 0 o ∙ get_or-set_other c p k b 0 n;
     }
 
 pub mark_of : (t c : List ℕ) (q : ℕ) → IsSome (cell_at t c q) → slice_index c (frame_of t q + q % 4096 + 4096) ≡ 1
@@ -676,44 +663,182 @@ none_in_page t c are at n room e j below =
     let p : (at + j) / 4096 ≡ at / 4096 = omega arith in
     get_pages t c are (at + j) ∙ no_frame t c are (at + j) (ap (slice_index t) p ∙ e)
 
-run_none : (at : ℕ) (f : List ℕ) (k q : ℕ) (o : Option ℕ) → o ≡ run_of at 0 f k q o
-run_none at f k q o = grind (arith, common_steps)
+-- cells that are put one after another
+pub puts_none : (c : List ℕ) (p : ℕ) (value : ℕ → ℕ) → Puts c c p 0 value
+puts_none c p value = record { size = refl; inside = λ j h. absurd (omega arith); below = λ j h. refl; past = λ j h. refl }
 
-pub marks_none : (c : List ℕ) (p : ℕ) (f : List ℕ) (k : ℕ) → MarksRun c c p 0 f k
-marks_none c p f k t at are frame is room = (are, λ q. run_none at f k q (cell_at t c q))
+pub puts_one : (c d : List ℕ) (p n b : ℕ) (value : ℕ → ℕ) → Puts c d p n value → p + n < length d → b ≡ value n → Puts c (set d (p + n) b) p (n + 1) value
+puts_one c d p n b value so_far room e = record {
+  size = length_set d (p + n) b ∙ so_far.size;
+  inside = λ j h. elim (j == n) as (λ r. (j == n) ≡ r → slice_index (set d (p + n) b) (p + j) ≡ value j) [
+    | true ↦ λ r.
+        let same : j ≡ n = eq_from_test j n r in
+        ap (λ (x : ℕ). slice_index (set d (p + n) b) (p + x)) same ∙ get_or-set_same d (p + n) b 0 room ∙ e ∙ ap value (sym same)
+    | false ↦ λ r.
+        let other : j ≢ n = not_same j n r in
+        let elsewhere : p + j ≢ p + n = λ z. other (omega (arith, z)) in
+        let less : j < n = omega (arith, h, other) in
+        get_or-set_other d (p + n) (p + j) b 0 elsewhere ∙ so_far.inside j less
+  ] refl;
+  below = λ j h. let elsewhere : j ≢ p + n = λ z. omega (arith, z, h) in get_or-set_other d (p + n) j b 0 elsewhere ∙ so_far.below j h;
+  past = λ j h. let elsewhere : j ≢ p + n = λ z. omega (arith, z, h) in get_or-set_other d (p + n) j b 0 elsewhere ∙ so_far.past j (omega (arith, h));
+}
 
-run_one : (at n : ℕ) (f : List ℕ) (k q : ℕ) (o p : Option ℕ) → p ≡ run_of at n f k q o → cond (q == at + n) (Some (slice_index f (k + n))) p ≡ run_of at (n + 1) f k q o
-run_one at n f k q o p e = elim (q == at + n) as (λ r. (q == at + n) ≡ r → cond r (Some (slice_index f (k + n))) p ≡ run_of at (n + 1) f k q o) [
-  | true ↦ λ r.
-      let here : q ≡ at + n = eq_from_test q (at + n) r in
-      let x : nat_lt q at ≡ false = grind arith in
-      let y : nat_lt q (at + (n + 1)) ≡ true = grind arith in
-      let z : k + n ≡ k + (q - at) = omega arith in
-      ap (λ (j : ℕ). Some (slice_index f j)) z
-      ∙ ap (λ (b : Bool). cond b (Some (slice_index f (k + (q - at)))) o) (sym y)
-      ∙ ap (λ (b : Bool). cond b o (cond (nat_lt q (at + (n + 1))) (Some (slice_index f (k + (q - at)))) o)) (sym x)
-  | false ↦ λ r.
-      let other : q ≢ at + n = not_same q (at + n) r in
-      let y : nat_lt q (at + n) ≡ nat_lt q (at + (n + 1)) = grind arith in
-      e ∙ ap (λ (b : Bool). cond (nat_lt q at) o (cond b (Some (slice_index f (k + (q - at)))) o)) y
-] refl
+-- a part of the cells is overwritten
+in_first : (xs ys : List ℕ) (j : ℕ) → j < length xs → slice_index (xs ++ ys) j ≡ slice_index xs j
+in_first [] ys j h = absurd (omega arith)
+in_first (x ∷ xs) ys zero h = refl
+in_first (x ∷ xs) ys (suc j) h = in_first xs ys j (omega arith)
 
-pub marks_more : (c0 c : List ℕ) (p n : ℕ) (f : List ℕ) (k b : ℕ) → MarksRun c0 c p n f k → b ≡ slice_index f (k + n) → b < 256 → MarksRun c0 (set (set c (p + n) b) (p + n + 4096) 1) p (n + 1) f k
-marks_more c0 c p n f k b so_far e small t at are0 frame is room =
-    let before = so_far t at are0 frame is (omega arith) in
-    let are = before.0 in
-    let page : (at + n) / 4096 ≡ at / 4096 = omega arith in
-    let o : (at + n) % 4096 ≡ at % 4096 + n = omega arith in
-    let frame' : slice_index t ((at + n) / 4096) ≢ 0 = λ z. frame (sym (ap (slice_index t) page) ∙ z) in
-    let same : frame_of t (at + n) ≡ frame_of t at = ap (λ (x : ℕ). slice_index t x * 8192) page in
-    let place : p + n ≡ frame_of t (at + n) + (at + n) % 4096 = omega (arith, same, o, is) in
-    let far = in_frame t c are (at + n) frame' in
-    let low : (at + n) % 4096 < 4096 = omega arith in
-    let sets : Sets c (set (set c (p + n) b) (p + n + 4096) 1) (frame_of t (at + n) + (at + n) % 4096) b =
-    subst (λ (x : ℕ). Sets c (set (set c (p + n) b) (p + n + 4096) 1) x b) place (sets_both c (p + n) b (omega (arith, far, place, low))) in (
-      are_set t c _ are (at + n) b frame' small sets,
-      λ q. cell_set t c _ are (at + n) b frame' small sets q ∙ ap (λ (x : ℕ). cond (q == at + n) (Some x) (cell_at t c q)) e ∙ run_one at n f k q (cell_at t c0 q) (cell_at t c q) (before.1 q),
-    )
+in_second : (xs ys : List ℕ) (n j : ℕ) → n ≡ length xs → slice_index (xs ++ ys) (n + j) ≡ slice_index ys j
+in_second [] ys n j e = let z : n + j ≡ j = omega arith in ap (slice_index ys) z
+in_second (x ∷ xs) ys n j e =
+    let z : n + j ≡ suc (length xs + j) = omega arith in
+    ap (slice_index (x ∷ xs ++ ys)) z ∙ in_second xs ys (length xs) j refl
+
+pub puts_part : (c ys : List ℕ) (p n : ℕ) (value : ℕ → ℕ) → p + n ≤ length c → length ys ≡ n → ((j : ℕ) → j < n → slice_index ys j ≡ value j) → Puts c (take p c ++ (ys ++ drop n (drop p c))) p n value
+puts_part c ys p n value room count is =
+    let front : length (take p c) ≡ p = let t = length-take p c in omega (arith, t, room) in
+    let left = length-drop n (drop p c) in
+    let right = length-drop p c in
+    record {
+      size = length-append (take p c) (ys ++ drop n (drop p c)) ∙ ap (λ (k : ℕ). length (take p c) + k) (length-append ys (drop n (drop p c)))
+          ∙ (omega (arith, front, left, right, count, room));
+      inside = λ j h. in_second (take p c) (ys ++ drop n (drop p c)) p j (sym front) ∙ in_first ys (drop n (drop p c)) j (omega (arith, h, count)) ∙ is j h;
+      below = λ j h. in_first (take p c) (ys ++ drop n (drop p c)) j (omega (arith, h, front)) ∙ get_or-take p c j 0 h;
+      past = λ j h.
+          let z : j ≡ p + (n + (j - p - n)) = omega arith in
+          ap (slice_index (take p c ++ (ys ++ drop n (drop p c)))) z
+          ∙ in_second (take p c) (ys ++ drop n (drop p c)) p (n + (j - p - n)) (sym front)
+          ∙ in_second ys (drop n (drop p c)) n (j - p - n) (sym count)
+          ∙ get_or-drop n (drop p c) (j - p - n) 0
+          ∙ get_or-drop p c (n + (j - p - n)) 0
+          ∙ ap (slice_index c) (sym z);
+    }
+
+-- bytes, zeros after them, and their marks
+pub marks_run : (c d e g : List ℕ) (p n given : ℕ) (f ys : List ℕ) (k : ℕ) → n ≤ 4096 → given ≤ n
+    → Puts c d p given (slice_index ys) → Puts d e (p + given) (n - given) (λ j. 0) → Puts e g (p + 4096) n (λ j. 1)
+    → ((j : ℕ) → j < given → slice_index ys j ≡ slice_index f (k + j)) → ((j : ℕ) → slice_index ys j < 256) → ((j : ℕ) → given ≤ j → j < n → slice_index f (k + j) ≡ 0)
+    → MarksRun c g p n f k
+marks_run c d e g p n given f ys k page some first zeros marks is small none = record {
+  size = marks.size ∙ zeros.size ∙ first.size;
+  written = λ j h. marks.below (p + j) (omega (arith, h, page)) ∙ elim (nat_lt j given) as (λ r. nat_lt j given ≡ r → slice_index e (p + j) ≡ slice_index f (k + j)) [
+    | true ↦ λ r.
+        let less : j < given = grind arith in
+        zeros.below (p + j) (omega (arith, less)) ∙ first.inside j less ∙ is j less
+    | false ↦ λ r.
+        let more : given ≤ j = grind arith in
+        let z : p + j ≡ p + given + (j - given) = omega (arith, more) in
+        ap (slice_index e) z ∙ zeros.inside (j - given) (omega (arith, more, h)) ∙ sym (none j more h)
+  ] refl;
+  small = λ j h. elim (nat_lt j given) as (λ r. nat_lt j given ≡ r → slice_index f (k + j) < 256) [
+    | true ↦ λ r. let less : j < given = grind arith in subst (λ (x : ℕ). x < 256) (is j less) (small j)
+    | false ↦ λ r. let more : given ≤ j = grind arith in let z : slice_index f (k + j) ≡ 0 = none j more h in omega (arith, z)
+  ] refl;
+  marks = marks.inside;
+  below = λ j h. marks.below j (omega (arith, h)) ∙ zeros.below j (omega (arith, h)) ∙ first.below j h;
+  between = λ j h l. marks.below j l ∙ zeros.past j (omega (arith, h, some)) ∙ first.past j (omega (arith, h, some));
+  past = λ j h. marks.past j h ∙ zeros.past j (omega (arith, h, some)) ∙ first.past j (omega (arith, h, some));
+}
+
+-- what such cells are in a table in which they lie in one page
+module _ (t c d : List ℕ) (are : ArePages t c) (at n : ℕ) (f : List ℕ) (k : ℕ) (frame : slice_index t (at / 4096) ≢ 0) (room : at % 4096 + n ≤ 4096)
+    (run : MarksRun c d (frame_of t at + at % 4096) n f k) where
+  frame_above : 8192 ≤ frame_of t at
+  frame_above = let h : 0 < slice_index t (at / 4096) = omega (arith, frame) in omega (arith, h)
+
+  small_run : (x : ℕ) → slice_index d x < 256
+  small_run x = elim (nat_lt x p) as (λ r. nat_lt x p ≡ r → slice_index d x < 256) [
+    | true ↦ λ r. let h : x < p = grind arith in as_before x (run.below x h)
+    | false ↦ λ r. elim (nat_lt x (p + n)) as (λ s. nat_lt x (p + n) ≡ s → slice_index d x < 256) [
+      | true ↦ λ s.
+          let h : p ≤ x = grind arith in
+          let l : x < p + n = grind arith in
+          let z : x ≡ p + (x - p) = omega (arith, h) in
+          let less : x - p < n = omega (arith, h, l) in
+          subst (λ (y : ℕ). y < 256) (sym (ap (slice_index d) z ∙ run.written (x - p) less)) (run.small (x - p) less)
+      | false ↦ λ s. elim (nat_lt x (p + 4096)) as (λ u. nat_lt x (p + 4096) ≡ u → slice_index d x < 256) [
+        | true ↦ λ u. let h : p + n ≤ x = grind arith in let l : x < p + 4096 = grind arith in as_before x (run.between x h l)
+        | false ↦ λ u. elim (nat_lt x (p + 4096 + n)) as (λ v. nat_lt x (p + 4096 + n) ≡ v → slice_index d x < 256) [
+          | true ↦ λ v.
+              let h : p + 4096 ≤ x = grind arith in
+              let l : x < p + 4096 + n = grind arith in
+              let z : x ≡ p + 4096 + (x - (p + 4096)) = omega (arith, h) in
+              let one : slice_index d x ≡ 1 = ap (slice_index d) z ∙ run.marks (x - (p + 4096)) (omega (arith, h, l)) in
+              omega (arith, one)
+          | false ↦ λ v. let h : p + 4096 + n ≤ x = grind arith in as_before x (run.past x h)
+        ] refl
+      ] refl
+    ] refl
+  ] refl
+    where
+      p : ℕ
+      p = frame_of t at + at % 4096
+
+      as_before : (x : ℕ) → slice_index d x ≡ slice_index c x → slice_index d x < 256
+      as_before x e = subst (λ (y : ℕ). y < 256) (sym e) (are.bytes x)
+
+  pub are_run : ArePages t d
+  are_run = record {
+    count = are.count;
+    whole = ap (λ (x : ℕ). x % 8192) run.size ∙ are.whole;
+    frames = λ p h. subst (λ (x : ℕ). (slice_index t p + 1) * 8192 ≤ x) (sym run.size) (are.frames p h);
+    none = λ j h. run.below (4096 + j) (let a = frame_above in omega (arith, a, h)) ∙ are.none j h;
+    apart = are.apart;
+    bytes = small_run;
+  }
+
+  -- in the run
+  inside_run : (j : ℕ) → j < n → cell_at t d (at + j) ≡ Some (slice_index f (k + j))
+  inside_run j h =
+      let page : (at + j) / 4096 ≡ at / 4096 = omega (arith, h, room) in
+      let rest : (at + j) % 4096 ≡ at % 4096 + j = omega (arith, h, room) in
+      let same : frame_of t (at + j) ≡ frame_of t at = ap (λ (x : ℕ). slice_index t x * 8192) page in
+      let place : frame_of t (at + j) + (at + j) % 4096 ≡ frame_of t at + at % 4096 + j = omega (arith, same, rest) in
+      let mark : frame_of t at + at % 4096 + j + 4096 ≡ frame_of t at + at % 4096 + 4096 + j = omega arith in
+      ap (cell d) place ∙ is_marked d (frame_of t at + at % 4096 + j) (ap (slice_index d) mark ∙ run.marks j h) ∙ ap Some (run.written j h)
+
+  -- elsewhere all stays
+  other_place : (q : ℕ) → ((q < at) ⊎ (at + n ≤ q)) → cell_at t d q ≡ cell_at t c q
+  other_place q out = elim (slice_index t (q / 4096) == slice_index t (at / 4096)) as (λ r. (slice_index t (q / 4096) == slice_index t (at / 4096)) ≡ r → cell_at t d q ≡ cell_at t c q) [
+    | true ↦ λ r.
+        let s : slice_index t (q / 4096) ≡ slice_index t (at / 4096) = eq_from_test (slice_index t (q / 4096)) (slice_index t (at / 4096)) r in
+        let page : at / 4096 ≡ q / 4096 = are.apart (at / 4096) (q / 4096) (sym s) frame in
+        ⊎_elim
+        (λ (h : q < at). stays q (run.below (frame_of t q + q % 4096) (omega (arith, h, page, s))) (run.between (frame_of t q + q % 4096 + 4096) (omega (arith, page, s, room)) (omega (arith, h, page, s))))
+        (λ (h : at + n ≤ q). stays q (run.between (frame_of t q + q % 4096) (omega (arith, h, page, s)) (omega (arith, page, s))) (run.past (frame_of t q + q % 4096 + 4096) (omega (arith, h, page, s))))
+        out
+    | false ↦ λ r.
+        let other : slice_index t (q / 4096) ≢ slice_index t (at / 4096) = not_same (slice_index t (q / 4096)) (slice_index t (at / 4096)) r in
+        elim (nat_lt (slice_index t (q / 4096)) (slice_index t (at / 4096))) as (λ s. nat_lt (slice_index t (q / 4096)) (slice_index t (at / 4096)) ≡ s → cell_at t d q ≡ cell_at t c q) [
+          | true ↦ λ s.
+              let less : slice_index t (q / 4096) < slice_index t (at / 4096) = grind arith in
+              stays q (run.below (frame_of t q + q % 4096) (omega (arith, less))) (run.below (frame_of t q + q % 4096 + 4096) (omega (arith, less)))
+          | false ↦ λ s.
+              let above : slice_index t (at / 4096) ≤ slice_index t (q / 4096) = grind arith in
+              let more : slice_index t (at / 4096) < slice_index t (q / 4096) = omega (arith, above, other) in
+              stays q (run.past (frame_of t q + q % 4096) (omega (arith, more, room))) (run.past (frame_of t q + q % 4096 + 4096) (omega (arith, more, room)))
+        ] refl
+  ] refl
+    where
+      stays : (q : ℕ) → slice_index d (frame_of t q + q % 4096) ≡ slice_index c (frame_of t q + q % 4096) → slice_index d (frame_of t q + q % 4096 + 4096) ≡ slice_index c (frame_of t q + q % 4096 + 4096) → cell_at t d q ≡ cell_at t c q
+      stays q byte mark =
+          let p = frame_of t q + q % 4096 in
+          ap (λ (x : ℕ). cond (x == 1) (Some (slice_index d p)) None) mark ∙ ap (λ (x : ℕ). cond (slice_index c (p + 4096) == 1) (Some x) None) byte
+
+  pub run_written : (q : ℕ) → cell_at t d q ≡ run_of at n f k q (cell_at t c q)
+  run_written q = elim (nat_lt q at) as (λ r. nat_lt q at ≡ r → cell_at t d q ≡ cond r (cell_at t c q) (cond (nat_lt q (at + n)) (Some (slice_index f (k + (q - at)))) (cell_at t c q))) [
+    | true ↦ λ r. let h : q < at = grind arith in other_place q (inl h)
+    | false ↦ λ r. elim (nat_lt q (at + n)) as (λ s. nat_lt q (at + n) ≡ s → cell_at t d q ≡ cond s (Some (slice_index f (k + (q - at)))) (cell_at t c q)) [
+      | true ↦ λ s.
+          let h : at ≤ q = grind arith in
+          let l : q < at + n = grind arith in
+          let z : q ≡ at + (q - at) = omega (arith, h) in
+          ap (cell_at t d) z ∙ inside_run (q - at) (omega (arith, h, l))
+      | false ↦ λ s. let h : at + n ≤ q = grind arith in other_place q (inr h)
+    ] refl
+  ] refl
 
 run_joins : (base d n : ℕ) (f : List ℕ) (q : ℕ) (o p : Option ℕ) → p ≡ run_at base d f q o → run_of (base + d) n f d q p ≡ run_at base (d + n) f q o
 run_joins base d n f q o p e = elim (nat_lt q (base + d)) as (λ r. nat_lt q (base + d) ≡ r → cond r p (cond (nat_lt q (base + d + n)) (Some (slice_index f (d + (q - (base + d))))) p) ≡ run_at base (d + n) f q o) [

@@ -4,7 +4,7 @@ ghost use Rattle.std.specs.Bool.{OnTrue, OnFalse};
 ghost use Rattle.std.specs.FinMap.{empty, insert};
 ghost use Rattle.std.specs.Int.{bytes_low_first};
 ghost use Rattle.rv_mem.specs.Bytes.{IsMemory, count_of, byte_at, loaded, stored, IsThere, Overlaps, IsFree, added};
-ghost use Rattle.rv_mem.specs.Frames.{ArePages, frame_of, cell_at, values_of, with_four, run_of, MarksRun};
+ghost use Rattle.rv_mem.specs.Frames.{ArePages, frame_of, cell_at, values_of, with_four, run_of, Puts, MarksRun};
 
 use crate::fault::AddFault;
 use crate::memory::{Memory, Width};
@@ -16,7 +16,7 @@ const ADDRESSES: u64 = 1 << 32;
 /// How many bytes a page has.
 const PAGE: u32 = 4096;
 
-/// A page's bytes, and behind them their marks.
+/// A page's bytes, and after them their marks.
 const FRAME: usize = 8192;
 
 /// Where the last word begins that lies in one page.
@@ -92,7 +92,7 @@ fn make_frame(table: &mut Vec<u32>, cells: &mut Vec<u8>, page: u32) -> Result<()
 }
 
 /// A memory as pages of 4096 bytes. As in a machine's page table, each page's number leads to a frame, in which its bytes stand;
-/// behind them is a mark for each byte that is there. Pages without a byte share frame 0, which has no mark.
+/// after them is a mark for each byte that is there. Pages without a byte share frame 0, which has no mark.
 #[derive(Drop)]
 pub struct Pages {
     table: Vec<u32>,
@@ -243,8 +243,8 @@ impl Pages {
         make_frame(&mut self.table, &mut self.cells, page)
     }
 
-    /// Writes bytes of front, from one of its places on, and zeros behind its end: so many from an address on, in one page that
-    /// has a frame. It marks them.
+    /// Writes so many bytes of front, from one of its places on and with zeros past its end, to an address and those after it, in one
+    /// page that has a frame. It marks them.
     fn mark_run(&mut self, at: u32, count: u32, front: &[u8], from: u32)
         requires page { at % 4096 + count ≤ 4096 }
         requires made { slice_index self.old.table.items (at / 4096) ≢ 0 }
@@ -392,23 +392,36 @@ fn write_word(cells: &mut [u8], place: usize, value: u32)
     cells[place + 3] = byte3;
 }
 
-/// Writes so many bytes and their marks.
-fn mark_cells(cells: &mut [u8], place: usize, count: usize, front: &[u8], from: usize)
-    requires room { place + count + 4096 ≤ length cells.old }
-    requires small { from + count < 2 ^ 64 }
-    ensures { MarksRun cells.old cells.new place count front.now from }
+/// Writes bytes from a place on.
+fn put_bytes(cells: &mut [u8], place: usize, bytes: &[u8])
+    requires { place + length bytes.now ≤ length cells.old }
+    ensures put { Puts cells.old cells.new place (length bytes.now) (slice_index bytes.now) }
+    ensures small { (j : ℕ) → slice_index bytes.now j < 256 }
 {
-    for j in 0..count {
-        cells[place + j] = byte_or_zero(front, from + j);
-        cells[place + j + PAGE as usize] = 1;
+    for j in 0..bytes.len() {
+        cells[place + j] = bytes[j];
     }
 }
 
-/// The byte of that place, or 0 past the end.
-fn byte_or_zero(bytes: &[u8], place: usize) -> u8
-    ensures { result ≡ slice_index bytes.now place }
+/// Writes one value so many times from a place on.
+fn put_same(cells: &mut [u8], place: usize, count: usize, value: u8)
+    requires { place + count ≤ length cells.old }
+    ensures { Puts cells.old cells.new place count (λ j. value) }
 {
-    if place < bytes.len() { bytes[place] } else { 0 }
+    cells[place..place + count].fill(value);
+}
+
+/// Writes so many bytes of front, from one of its places on and with zeros past its end, and their marks.
+fn mark_cells(cells: &mut [u8], place: usize, count: usize, front: &[u8], from: usize)
+    requires room { place + count + 4096 ≤ length cells.old }
+    requires page { count ≤ 4096 }
+    ensures { MarksRun cells.old cells.new place count front.now from }
+{
+    let start = from.min(front.len());
+    let given = count.min(front.len() - start);
+    put_bytes(cells, place, &front[start..start + given]);
+    put_same(cells, place + given, count - given, 0);
+    put_same(cells, place + PAGE as usize, count, 1);
 }
 
 impl Memory for Pages {

@@ -3,7 +3,7 @@ use Rattle.std.specs.Prelude.{slice_index}
 use Rattle.std.specs.Vec.{with_items}
 use Rattle.std.proofs.lemmas.List.{with_items_is}
 use Rattle.rv_mem.specs.Frames.{ArePages, MarksRun, frame_of, cell_at, run_of}
-use Rattle.rv_mem.proofs.Paging.{table_value, get_pages, memory_is}
+use Rattle.rv_mem.proofs.Paging.{table_value, get_pages, memory_is, are_run, run_written}
 use Rattle.rv_mem.proofs.pages.Pages.mark_run.Goals as goal
 
 pub invariant_of-self : goal.invariant_of-self
@@ -13,11 +13,12 @@ invariant_of-self c =
     let at = c.args.at in
     let f : slice_index t (at / 4096) ≡ c.index.result.now = table_value t (at / 4096) c.index.result.now c.requires.made c.index.ensures in
     let p : c.index.result.now * 8192 + at % 4096 ≡ frame_of t at + at % 4096 = omega (arith, f) in
-    let all : MarksRun d c.mark_cells.new.cells (c.index.result.now * 8192 + at % 4096) c.args.count c.args.front.now c.args.from =
-    subst (λ (l : List ℕ). MarksRun l c.mark_cells.new.cells (c.index.result.now * 8192 + at % 4096) c.args.count c.args.front.now c.args.from) c.deref_mut.ensures.value c.mark_cells.ensures in
-    let run = all t at c.args.self.now.are_pages c.requires.made p c.requires.page in
+    let run : MarksRun d c.mark_cells.new.cells (frame_of t at + at % 4096) c.args.count c.args.front.now c.args.from =
+    subst (λ (x : ℕ). MarksRun d c.mark_cells.new.cells x c.args.count c.args.front.now c.args.from) p
+    (subst (λ (l : List ℕ). MarksRun l c.mark_cells.new.cells (c.index.result.now * 8192 + at % 4096) c.args.count c.args.front.now c.args.from) c.deref_mut.ensures.value c.mark_cells.ensures) in
     let items : c.mark_cells.new.cells ≡ (with_items c.args.self.now.cells c.mark_cells.new.cells).items = sym (with_items_is c.args.self.now.cells c.mark_cells.new.cells (search rules)) in
-    let are : ArePages t (with_items c.args.self.now.cells c.mark_cells.new.cells).items = subst (λ (l : List ℕ). ArePages t l) items run.0 in
+    let are : ArePages t (with_items c.args.self.now.cells c.mark_cells.new.cells).items =
+    subst (λ (l : List ℕ). ArePages t l) items (are_run t d c.mark_cells.new.cells c.args.self.now.are_pages at c.args.count c.args.front.now c.args.from c.requires.made c.requires.page run) in
     record { are_pages = are; in_range = memory_is t (with_items c.args.self.now.cells c.mark_cells.new.cells).items are }
 
 pub returns-clause-written : goal.returns-clause-written
@@ -27,11 +28,13 @@ returns-clause-written c q =
     let at = c.args.at in
     let f : slice_index t (at / 4096) ≡ c.index.result.now = table_value t (at / 4096) c.index.result.now c.requires.made c.index.ensures in
     let p : c.index.result.now * 8192 + at % 4096 ≡ frame_of t at + at % 4096 = omega (arith, f) in
-    let all : MarksRun d c.mark_cells.new.cells (c.index.result.now * 8192 + at % 4096) c.args.count c.args.front.now c.args.from =
-    subst (λ (l : List ℕ). MarksRun l c.mark_cells.new.cells (c.index.result.now * 8192 + at % 4096) c.args.count c.args.front.now c.args.from) c.deref_mut.ensures.value c.mark_cells.ensures in
-    let run = all t at c.args.self.now.are_pages c.requires.made p c.requires.page in
+    let run : MarksRun d c.mark_cells.new.cells (frame_of t at + at % 4096) c.args.count c.args.front.now c.args.from =
+    subst (λ (x : ℕ). MarksRun d c.mark_cells.new.cells x c.args.count c.args.front.now c.args.from) p
+    (subst (λ (l : List ℕ). MarksRun l c.mark_cells.new.cells (c.index.result.now * 8192 + at % 4096) c.args.count c.args.front.now c.args.from) c.deref_mut.ensures.value c.mark_cells.ensures) in
     let items : c.mark_cells.new.cells ≡ (with_items c.args.self.now.cells c.mark_cells.new.cells).items = sym (with_items_is c.args.self.now.cells c.mark_cells.new.cells (search rules)) in
-    let are : ArePages t (with_items c.args.self.now.cells c.mark_cells.new.cells).items = subst (λ (l : List ℕ). ArePages t l) items run.0 in
+    let are : ArePages t (with_items c.args.self.now.cells c.mark_cells.new.cells).items =
+    subst (λ (l : List ℕ). ArePages t l) items (are_run t d c.mark_cells.new.cells c.args.self.now.are_pages at c.args.count c.args.front.now c.args.from c.requires.made c.requires.page run) in
     get_pages t (with_items c.args.self.now.cells c.mark_cells.new.cells).items are q
-    ∙ ap (λ (l : List ℕ). cell_at t l q) (sym items) ∙ run.1 q
+    ∙ ap (λ (l : List ℕ). cell_at t l q) (sym items)
+    ∙ run_written t d c.mark_cells.new.cells c.args.self.now.are_pages at c.args.count c.args.front.now c.args.from c.requires.made c.requires.page run q
     ∙ ap (λ (o : Option ℕ). run_of at c.args.count c.args.front.now c.args.from q o) (sym (get_pages t d c.args.self.now.are_pages q))
