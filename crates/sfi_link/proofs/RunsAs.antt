@@ -17,7 +17,6 @@ use Rattle.rv_text.specs.Texts.{MeansSource}
 use Rattle.rv_text.specs.Laws.{OneSource, SourcesAreRight}
 use Rattle.sfi_image.specs.declared.format.Format.{Format}
 use Rattle.sfi_image.specs.Spelling.{Part}
-use Rattle.sfi_image.specs.Spans.{code_region, data_region}
 use Rattle.sfi_image.specs.Parts.{IsRightPart}
 use Rattle.sfi_scan.specs.Bundles.{stub}
 use Rattle.sfi_rewrite.specs.Laws.{RewrittenIsTransparent}
