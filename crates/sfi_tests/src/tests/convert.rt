@@ -65,7 +65,11 @@ fn no_conversion(rt: HostRuntime) -> Result<(), Fail> {
         assert!(rt; says(alloc, &text, status, line)?, "{line}");
     }
     assert!(rt; says(alloc, b"5", 2, "input fault hex odd\n")?);
-    assert_eq!(rt; run(alloc, "sfi convert --report", b"")?.status, 3);
+    let Outcome {
+        status,
+        text: _usage,
+    } = run(alloc, "sfi convert --report", b"")?;
+    assert_eq!(rt; status, 3);
     Ok(())
 }
 
