@@ -1,12 +1,11 @@
 -- The first format has no stack pointer: no place breaks V10.
-use Rattle.std.proofs.Common.{◌≡◌, ◌≢◌, ◌∷◌, ◌++◌, ℕ, zero, suc, ◌+◌, Bool, true, false, List, [], refl, sym, ap, ◌∙◌, subst, inl, inr}
-use Rattle.std.specs.Prelude.{cond, ◌||◌}
+use Rattle.std.proofs.Common.{◌≡◌, ◌≢◌, ◌∷◌, ◌++◌, ℕ, zero, suc, ◌+◌, Bool, true, false, List, [], refl, sym, ap, subst, inl, inr}
+use Rattle.std.specs.Prelude.{cond}
 use Rattle.std.specs.List.{All}
 use Rattle.std.proofs.lemmas.List.Elements.{All-append, All-cons, All-nil}
 use Rattle.rv_word.specs.declared.instr.Instr.{Instr}
 use Rattle.rv_word.specs.declared.length.Length.{Length}
 use Rattle.rv_word.specs.declared.length.Length.TheVariants.{Short, Wide, Longer}
-use Rattle.rv_word.specs.Writes.{writes_register}
 use Rattle.sfi_image.specs.declared.format.Format.{Format}
 use Rattle.sfi_image.specs.declared.format.Format.TheVariants.{Sfi1}
 use Rattle.sfi_image.specs.Spelling.{Part}
@@ -19,7 +18,7 @@ use Rattle.sfi_scan.specs.Bundles.{place_of, bundle_bytes}
 use Rattle.sfi_scan.specs.Laws.{FirstFormatHasNoStack, FirstFormatFindsNoV10}
 use Rattle.sfi_scan.specs.Pairs.{follows_data_pair}
 use Rattle.sfi_scan.specs.Readings.{Piece}
-use Rattle.sfi_scan.specs.Rules.{Place, breaks, breaks_stack, may_write_stack, may_access}
+use Rattle.sfi_scan.specs.Rules.{Place, breaks, breaks_stack, may_access}
 use Rattle.sfi_scan.specs.Findings.{broken, lowest, all_rules, rule_of_length, findings_from, rest_finding, AreReadingFindings, AreBundleFindings, AreFindingsOfFirst}
 
 no_stack : (f : Format) → f ≡ Sfi1 → has_stack f ≡ false
