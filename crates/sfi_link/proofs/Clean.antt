@@ -12,7 +12,6 @@ use Rattle.rv_word.specs.Writes.{destination, is_register, writes_register}
 use Rattle.rv_comp.specs.declared.form.Form16.TheVariants.{CEbreak}
 use Rattle.rv_comp.specs.Fronts.{Spells}
 use Rattle.rv_comp.specs.Table.{expansion}
-use Rattle.rv_text.specs.declared.item.Item.{Item}
 use Rattle.rv_text.specs.declared.item.Body.{Body}
 use Rattle.rv_text.specs.declared.item.Body.TheVariants.{Plain, To, High, Low}
 use Rattle.rv_text.specs.Source.{IsBody}
@@ -30,8 +29,7 @@ use Rattle.sfi_rewrite.specs.declared.placed.PlacedName.{PlacedName}
 use Rattle.sfi_rewrite.specs.Registers.{is_withheld, names_withheld, item_names_withheld, is_ecall}
 use Rattle.sfi_rewrite.specs.Stack as stack
 use Rattle.sfi_rewrite.specs.Slots.{slot_size, size_of, c_nop}
-use Rattle.sfi_rewrite.specs.Expansion.{jump_to_x31, jump_slots, IsAlone, IsMasked, IsExpansionOf, IsExpansion}
-use Rattle.sfi_rewrite.specs.Faults.{IsPermitted}
+use Rattle.sfi_rewrite.specs.Expansion.{jump_to_x31, jump_slots, IsAlone, IsMasked, IsExpansionOf}
 use Rattle.sfi_rewrite.specs.Placed.{AreWhole, nothing, padding, expansion as whole_expansion}
 use Rattle.sfi_link.specs.declared.bases.Bases.{Bases}
 use Rattle.sfi_link.specs.Addresses.{target_at, address_at, with_offset}

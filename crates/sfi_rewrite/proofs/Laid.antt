@@ -12,7 +12,7 @@ use Rattle.sfi_image.specs.declared.format.Format.{Format}
 use Rattle.sfi_rewrite.specs.declared.slot.Slot.{Slot}
 use Rattle.sfi_rewrite.specs.declared.slot.Slot.TheVariants.{Short, Wide}
 use Rattle.sfi_rewrite.specs.Slots.{size_of, c_nop}
-use Rattle.sfi_rewrite.specs.Stack.{writes_stack, is_on_stack, stack_pair, put_back}
+use Rattle.sfi_rewrite.specs.Stack.{writes_stack, is_on_stack, stack_pair}
 use Rattle.sfi_rewrite.specs.Expansion.{IsAlone, IsMasked, IsExpansionOf, IsExpansion, is_call}
 use Rattle.sfi_rewrite.specs.Places.{FillsGap, IsNext, AreLaidFrom}
 use Rattle.sfi_rewrite.proofs.Sizes.{size_of-append, size_nops}

@@ -28,7 +28,6 @@ use Rattle.sfi_rewrite.specs.Registers.{names_withheld, item_names_withheld}
 use Rattle.sfi_rewrite.specs.Slots.{slot_size}
 use Rattle.sfi_rewrite.specs.Expansion.{IsAlone, IsMasked, IsExpansionOf}
 use Rattle.sfi_rewrite.specs.Stack.{writes_stack, is_on_stack, is_stack_write, jumps_or_loads_x2, stack_pair, put_back}
-use Rattle.sfi_rewrite.specs.Faults.{IsPermitted}
 use Rattle.sfi_rewrite.specs.Laws.{ExpansionsAreTransparent}
 use Rattle.sfi_rewrite.specs.Transparency.{AreRegions, HasReserved, SlotStands, IsTransparent, at_pc, KeepsStack, ActsAs, IsAimed, MayBe}
 use Rattle.sfi_rewrite.proofs.Aside.{written_elsewhere}

@@ -11,7 +11,7 @@ use Rattle.sfi_rewrite.specs.Places.{AreLaidFrom}
 use Rattle.sfi_rewrite.specs.Placement.{AreBundles}
 use Rattle.sfi_rewrite.specs.Faults.{IsPermitted}
 use Rattle.sfi_rewrite.specs.Placed.{AreWhole, nothing, padding, expansion}
-use Rattle.sfi_rewrite.proofs.Sizes.{size_of-append, size_of-cons, size_even, size_at_least, size_nops}
+use Rattle.sfi_rewrite.proofs.Sizes.{size_of-append, size_of-cons, size_even, size_at_least}
 use Rattle.sfi_rewrite.proofs.Expansions.{expansion_one}
 use Rattle.sfi_rewrite.proofs.Laid.{size_next}
 

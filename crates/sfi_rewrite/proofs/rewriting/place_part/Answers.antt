@@ -1,5 +1,5 @@
 use Rattle.std.proofs.Common.{◌∙◌, sym, ap, subst}
-use Rattle.std.specs.List.{All, AllZip}
+use Rattle.std.specs.List.{AllZip}
 use Rattle.rv_text.specs.Source.{named}
 use Rattle.sfi_rewrite.specs.Slots.{slots_of}
 use Rattle.sfi_rewrite.specs.Placement.{IsPlacedName, AreBundles}
