@@ -127,7 +127,7 @@ reading_of_stack b bytes reading h =
     let e = two_empty (findings_from b (is_empty (rest_of bytes reading)) b.address [] reading) _ h in
     let rest = judged_rest b _ (rest_of bytes reading) e.1 in
     let none_left : OfStack (rest_finding (second_bundle b) (b.address + (length bytes - length (rest_of bytes reading))) (rest_of bytes reading))
-        = subst (λ (l : List ℕ). OfStack (rest_finding (second_bundle b) (b.address + (length bytes - length (rest_of bytes reading))) l)) (sym rest) none in
+    = subst (λ (l : List ℕ). OfStack (rest_finding (second_bundle b) (b.address + (length bytes - length (rest_of bytes reading))) l)) (sym rest) none in
     both _ _ (pieces_of_stack b (is_empty (rest_of bytes reading)) b.address [] reading e.0) none_left
 
 is_judged : (b : BundlePlace) (bytes : List ℕ) (found : List Finding) (x : AreReadingFindings b bytes found) → found ≡ judged b bytes x.reading
