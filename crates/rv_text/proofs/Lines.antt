@@ -30,7 +30,7 @@ use Rattle.rv_text.specs.Keywords.{format_numbered, directive_form, directive_st
 use Rattle.rv_text.specs.Constants.{constant, data_bytes}
 use Rattle.rv_text.specs.Lines.{Writes, AreMore, IsRow, IsData, StatesBehind, InstrDeparts, RefusedWith}
 use Rattle.rv_text.specs.Lists.{ReadsRow, ReadsInstr, ReadsBehind, ReadsList}
-use Rattle.rv_text.specs.Stated.{Stated, stated, IsRightStatement, format, sandbox, gate, compressed, bytes, plain, jump, address}
+use Rattle.rv_text.specs.Stated.{Stated, stated, IsRightStatement, format, sandbox, within, gate, compressed, bytes, plain, jump, address}
 use Rattle.rv_text.proofs.Names.{name_unique}
 use Rattle.rv_text.proofs.Meaning.{tokens_of, from_tokens, agree}
 use Rattle.rv_text.proofs.OneMeaning.{follows_one}
@@ -40,10 +40,10 @@ use Rattle.rv_text.proofs.Lists.{departs_list_one, more_tokens, more_leads, list
 
 -- an instruction that goes to no name, by itself
 abbrev ReadsPlain : Mnemonic → List ℕ → Stated → Type 0
-ReadsPlain name text s = (i : Instr) × FollowsName text name i × (s ≡ plain (i ∷ []))
+ReadsPlain name text s = (i : Instr) × FollowsName text name i × (s ≡ within (plain (i ∷ [])))
 
 abbrev IsPlain : Mnemonic → List (List ℕ) → Stated → Type 0
-IsPlain name tokens s = (i : Instr) × Spells i (name_of name ∷ tokens) × (s ≡ plain (i ∷ []))
+IsPlain name tokens s = (i : Instr) × Spells i (name_of name ∷ tokens) × (s ≡ within (plain (i ∷ [])))
 
 module _ (name : Mnemonic) (no_branch : (cond : Cond) → name ≡ mnemonic.Branch cond → ⊥) (no_jal : name ≡ mnemonic.Jal → ⊥) where
   pub plain_reads : (text : List ℕ) (s : Stated) → ReadsPlain name text s → ReadsInstr name text s
@@ -101,17 +101,17 @@ module _ (name : Mnemonic) (text : List ℕ) (s : Stated) where
       let ends : text ≡ last = subst (λ ts. LeadsTo text ts last) none leads in
       (i, (name_unique (mnemonic_of i) name (sym named), inr (fence, subst IsBlank (sym ends) blank)), e)
 
-list_states : (width : DataWidth) (text b : List ℕ) → ReadsList width text b → (tokens : List (List ℕ)) × AreTokens text tokens × IsData width tokens (bytes b)
+list_states : (width : DataWidth) (text b : List ℕ) → ReadsList width text b → (tokens : List (List ℕ)) × AreTokens text tokens × IsData width tokens (within (bytes b))
 list_states width text b (z, rest, (t, takes, writes), (ns, last, leads, blank, e)) =
     let more = more_tokens (data_kind width) ns rest last leads blank in
-    (t ∷ more.0, (more.1.0, (rest, takes, more.1.1), more.1.2), (z ∷ ns, (writes, more.2), ap bytes e))
+    (t ∷ more.0, (more.1.0, (rest, takes, more.1.1), more.1.2), (z ∷ ns, (writes, more.2), ap (λ v. within (bytes v)) e))
 
-list_read : (width : DataWidth) (t : List ℕ) (tokens : List (List ℕ)) (text : List ℕ) (s : Stated) (z : ℤ) (ns : List ℤ) → AreTokens text (t ∷ tokens) → Writes (data_kind width) t z → AreMore (data_kind width) ns tokens → s ≡ bytes (flat_map (data_bytes width) (z ∷ ns)) → (b : List ℕ) × ReadsList width text b × (s ≡ bytes b)
+list_read : (width : DataWidth) (t : List ℕ) (tokens : List (List ℕ)) (text : List ℕ) (s : Stated) (z : ℤ) (ns : List ℤ) → AreTokens text (t ∷ tokens) → Writes (data_kind width) t z → AreMore (data_kind width) ns tokens → s ≡ within (bytes (flat_map (data_bytes width) (z ∷ ns))) → (b : List ℕ) × ReadsList width text b × (s ≡ within (bytes b))
 list_read width t tokens text s z ns (last, (rest, takes, leads), blank) writes more e =
     let m = more_leads (data_kind width) ns tokens rest (last, leads, blank) more in
     (flat_map (data_bytes width) (z ∷ ns), (z, rest, (t, takes, writes), (ns, m.0, m.1, m.2, refl)), e)
 
-list_reads : (width : DataWidth) (tokens : List (List ℕ)) (text : List ℕ) (s : Stated) → AreTokens text tokens → IsData width tokens s → (b : List ℕ) × ReadsList width text b × (s ≡ bytes b)
+list_reads : (width : DataWidth) (tokens : List (List ℕ)) (text : List ℕ) (s : Stated) → AreTokens text tokens → IsData width tokens s → (b : List ℕ) × ReadsList width text b × (s ≡ within (bytes b))
 list_reads width [] text s are ([], none, e) = absurd none
 list_reads width [] text s are (z ∷ ns, none, e) = absurd none
 list_reads width (t ∷ tokens) text s are ([], none, e) = absurd none
@@ -157,34 +157,34 @@ states_reads (keyword.Numbers width) text s (ts, are, h) = list_reads width ts t
 directive_agrees : (d : Directive) (a b : OperandValues) → AgreesOn (directive_form d) a b → directive_states d a ≡ directive_states d b
 directive_agrees directive.Format a b h = λ i. format (format_numbered (unsigned_abs (h.0 i)))
 directive_agrees directive.Sandbox a b h = λ i. sandbox (unsigned_abs (h.0 i))
-directive_agrees directive.Gate a b h = λ i. gate (h.0 i) (unsigned_abs (h.1.0 i))
-directive_agrees directive.Option a b h = λ i. compressed (h.0 i)
+directive_agrees directive.Gate a b h = λ i. within (gate (h.0 i) (unsigned_abs (h.1.0 i)))
+directive_agrees directive.Option a b h = λ i. within (compressed (h.0 i))
 directive_agrees directive.Data a b h = refl
-directive_agrees directive.Zero a b h = λ i. bytes (replicate (unsigned_abs (h.0 i)) 0)
+directive_agrees directive.Zero a b h = λ i. within (bytes (replicate (unsigned_abs (h.0 i)) 0))
 
 pseudo_agrees : (p : Pseudo) (a b : OperandValues) → AgreesOn (pseudo_form p) a b → pseudo_states p a ≡ pseudo_states p b
 pseudo_agrees Nop a b h = refl
 pseudo_agrees Ret a b h = refl
-pseudo_agrees Li a b h = λ i. plain (constant (h.0 i) (h.1.1.0 i))
-pseudo_agrees Mv a b h = λ i. plain (instr.OpImm Addi (h.0 i) (h.1.1.0 i) (pos 0) ∷ [])
-pseudo_agrees Jr a b h = λ i. plain (instr.Jalr 0 (h.0 i) (pos 0) ∷ [])
-pseudo_agrees J a b h = λ i. jump (instr.Jal 0 (pos 0)) (h.0 i)
-pseudo_agrees Call a b h = λ i. jump (instr.Jal 1 (pos 0)) (h.0 i)
-pseudo_agrees Beqz a b h = λ i. jump (instr.Branch Beq (h.0 i) 0 (pos 0)) (h.1.1.0 i)
-pseudo_agrees Bnez a b h = λ i. jump (instr.Branch Bne (h.0 i) 0 (pos 0)) (h.1.1.0 i)
-pseudo_agrees La a b h = λ i. address (h.0 i) (h.1.1.0 i)
+pseudo_agrees Li a b h = λ i. within (plain (constant (h.0 i) (h.1.1.0 i)))
+pseudo_agrees Mv a b h = λ i. within (plain (instr.OpImm Addi (h.0 i) (h.1.1.0 i) (pos 0) ∷ []))
+pseudo_agrees Jr a b h = λ i. within (plain (instr.Jalr 0 (h.0 i) (pos 0) ∷ []))
+pseudo_agrees J a b h = λ i. within (jump (instr.Jal 0 (pos 0)) (h.0 i))
+pseudo_agrees Call a b h = λ i. within (jump (instr.Jal 1 (pos 0)) (h.0 i))
+pseudo_agrees Beqz a b h = λ i. within (jump (instr.Branch Beq (h.0 i) 0 (pos 0)) (h.1.1.0 i))
+pseudo_agrees Bnez a b h = λ i. within (jump (instr.Branch Bne (h.0 i) 0 (pos 0)) (h.1.1.0 i))
+pseudo_agrees La a b h = λ i. within (address (h.0 i) (h.1.1.0 i))
 
 branch_agrees : (cond : Cond) (a b : OperandValues) → AgreesOn branch_form a b → branch_states cond a ≡ branch_states cond b
-branch_agrees cond a b h = λ i. jump (instr.Branch cond (h.0 i) (h.1.1.0 i) (pos 0)) (h.1.1.1.1.0 i)
+branch_agrees cond a b h = λ i. within (jump (instr.Branch cond (h.0 i) (h.1.1.0 i) (pos 0)) (h.1.1.1.1.0 i))
 
 jal_agrees : (a b : OperandValues) → AgreesOn jal_form a b → jal_states a ≡ jal_states b
-jal_agrees a b h = λ i. jump (instr.Jal (h.0 i) (pos 0)) (h.1.1.0 i)
+jal_agrees a b h = λ i. within (jump (instr.Jal (h.0 i) (pos 0)) (h.1.1.0 i))
 
 row_one : (form : List Part) (states : OperandValues → Stated) → ((a b : OperandValues) → AgreesOn form a b → states a ≡ states b) → (text : List ℕ) (s t : Stated) → ReadsRow form states text s → ReadsRow form states text t → s ≡ t
 row_one form states agrees text s t (o, reads, e) (p, read, f) = e ∙ agrees o p (agree o p form text reads read) ∙ sym f
 
 plain_one : (name : Mnemonic) (text : List ℕ) (s t : Stated) → ReadsPlain name text s → ReadsPlain name text t → s ≡ t
-plain_one name text s t (i, h, e) (j, k, f) = e ∙ ap (λ x. plain (x ∷ [])) (follows_one text i j (k.0 ∙ sym h.0) h.1 k.1) ∙ sym f
+plain_one name text s t (i, h, e) (j, k, f) = e ∙ ap (λ x. within (plain (x ∷ []))) (follows_one text i j (k.0 ∙ sym h.0) h.1 k.1) ∙ sym f
 
 -- a text behind a keyword states one thing
 pub reads_one : (k : Keyword) (text : List ℕ) (s t : Stated) → ReadsBehind k text s → ReadsBehind k text t → s ≡ t
@@ -202,7 +202,7 @@ reads_one (keyword.Instr mnemonic.Ecall) text s t h j = plain_one mnemonic.Ecall
 reads_one (keyword.Instr mnemonic.Ebreak) text s t h j = plain_one mnemonic.Ebreak text s t h j
 reads_one (keyword.Pseudo name) text s t h j = row_one (pseudo_form name) (pseudo_states name) (pseudo_agrees name) text s t h j
 reads_one (keyword.Directive name) text s t h j = row_one (directive_form name) (directive_states name) (directive_agrees name) text s t h j
-reads_one (keyword.Numbers width) text s t (b, h, e) (c, j, f) = e ∙ ap bytes (list_one width text b c h j) ∙ sym f
+reads_one (keyword.Numbers width) text s t (b, h, e) (c, j, f) = e ∙ ap (λ v. within (bytes v)) (list_one width text b c h j) ∙ sym f
 
 row_not : (form : List Part) (states : OperandValues → Stated) (text : List ℕ) (s : Stated) (e : TextCause) → ReadsRow form states text s → Departs form text e → ⊥
 row_not form states text s e (o, reads, is) departs = departs_reads form text e o departs reads

@@ -7,7 +7,7 @@ use Rattle.rv_text.specs.declared.keyword.Keyword.{Keyword}
 use Rattle.rv_text.specs.Tokens.{Takes, IsName}
 use Rattle.rv_text.specs.Keywords.{keyword_name}
 use Rattle.rv_text.specs.Lines.{NameRefused}
-use Rattle.rv_text.specs.Stated.{Stated, format, sandbox, gate, compressed, data_part, bytes, plain, jump, address}
+use Rattle.rv_text.specs.Stated.{Stated, format, sandbox, within, StatedWithin}
 use Rattle.rv_text.specs.SoFar.{SoFar, with_label, nothing, sandboxes}
 use Rattle.rv_text.specs.Effects.{IsFree, Fits, Labels, RefusesLabel, GoesOn, Does, with_stated, HasNoRoom}
 use Rattle.rv_text.specs.Leads.{BeginsWithLabel, HasNoLabel, LabelsLead, LeadsBehind, RestLeads, RefusedBehind, RefusedFrom, StatementRefused}
@@ -95,35 +95,23 @@ label_refused_one (k ∷ ns) (l ∷ ms) old a b text r q n m after then e f (nex
 
 -- Statements.
 
-goes_one : (line : ℕ) (s : Stated) (old a b : SoFar) → GoesOn line s old a → GoesOn line s old b → a ≡ b
+goes_one : (line : ℕ) (s : StatedWithin) (old a b : SoFar) → GoesOn line s old a → GoesOn line s old b → a ≡ b
 goes_one line s old a b (x, is, fits, a_is) (y, other, _, b_is) =
     a_is ∙ ap (λ c. record old { begun = Some (with_stated line s c) }) (same_Some x y (sym is ∙ other)) ∙ sym b_is
 
 does_one : (line : ℕ) (s : Stated) (old a b : SoFar) → Does line s old a → Does line s old b → a ≡ b
 does_one line (format value) old a b h k = h ∙ sym k
 does_one line (sandbox size) old a b h k = h ∙ sym k
-does_one line (gate name service) old a b h k = goes_one line (gate name service) old a b h k
-does_one line (compressed rvc) old a b h k = goes_one line (compressed rvc) old a b h k
-does_one line data_part old a b h k = goes_one line data_part old a b h k
-does_one line (bytes values) old a b h k = goes_one line (bytes values) old a b h k
-does_one line (plain instrs) old a b h k = goes_one line (plain instrs) old a b h k
-does_one line (jump i name) old a b h k = goes_one line (jump i name) old a b h k
-does_one line (address rd name) old a b h k = goes_one line (address rd name) old a b h k
+does_one line (within what) old a b h k = goes_one line what old a b h k
 
-goes_fits : (line : ℕ) (s : Stated) (old new : SoFar) → GoesOn line s old new → HasNoRoom s old → ⊥
+goes_fits : (line : ℕ) (s : StatedWithin) (old new : SoFar) → GoesOn line s old new → HasNoRoom (within s) old → ⊥
 goes_fits line s old new (x, is, fits, new_is) (y, other, none) =
     none (subst (λ c. Fits s c) (same_Some x y (sym is ∙ other)) fits)
 
 does_fit : (line : ℕ) (s : Stated) (old new : SoFar) → Does line s old new → HasNoRoom s old → ⊥
-does_fit line (format value) old new h (y, is, none) = none tt
-does_fit line (sandbox size) old new h (y, is, none) = none tt
-does_fit line (gate name service) old new h none = goes_fits line (gate name service) old new h none
-does_fit line (compressed rvc) old new h none = goes_fits line (compressed rvc) old new h none
-does_fit line data_part old new h none = goes_fits line data_part old new h none
-does_fit line (bytes values) old new h none = goes_fits line (bytes values) old new h none
-does_fit line (plain instrs) old new h none = goes_fits line (plain instrs) old new h none
-does_fit line (jump i name) old new h none = goes_fits line (jump i name) old new h none
-does_fit line (address rd name) old new h none = goes_fits line (address rd name) old new h none
+does_fit line (format value) old new h none = absurd none
+does_fit line (sandbox size) old new h none = absurd none
+does_fit line (within what) old new h none = goes_fits line what old new h none
 
 behind_one : (k : Keyword) (line : ℕ) (old a b : SoFar) (text : List ℕ) → LeadsBehind k line old text a → LeadsBehind k line old text b → a ≡ b
 behind_one k line old a b text (stands, once, (s, states, does)) (_, _, (t, stated_too, did)) =

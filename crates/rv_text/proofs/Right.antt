@@ -32,7 +32,7 @@ use Rattle.rv_text.specs.Statement.{mnemonic_of, operands_of, Spells}
 use Rattle.rv_text.specs.Constants.{is_small, upper, lower, add_lower, constant, data_bytes}
 use Rattle.rv_text.specs.Keywords.{directive_form, directive_states, pseudo_form, pseudo_states, branch_form, branch_states, jal_form, jal_states, place_of_keyword}
 use Rattle.rv_text.specs.Lines.{IsRow, Behind}
-use Rattle.rv_text.specs.Stated.{Stated, IsRightStatement, place_of_stated, plain}
+use Rattle.rv_text.specs.Stated.{Stated, IsRightStatement, place_of_stated, within, plain}
 use Rattle.rv_text.proofs.Names.{name_unique}
 use Rattle.rv_text.proofs.Forms.{stands_suits}
 use Rattle.rv_text.proofs.Ranges.{fits_in_range, full_fence_in_range}
@@ -174,7 +174,7 @@ spells_in_range : (i : Instr) (name : List ℕ) (tokens : List (List ℕ)) → S
 spells_in_range i name tokens (named, inl form) = fits_in_range i (form_fits (operands_of i) (form_of (mnemonic_of i)) tokens form)
 spells_in_range i name tokens (named, inr (fence, none)) = subst InRange (sym fence) full_fence_in_range
 
-plain_right : (name : Mnemonic) → is_target name ≡ false → (tokens : List (List ℕ)) (s : Stated) → ((i : Instr) × Spells i (name_of name ∷ tokens) × (s ≡ plain (i ∷ []))) → IsRightStatement s
+plain_right : (name : Mnemonic) → is_target name ≡ false → (tokens : List (List ℕ)) (s : Stated) → ((i : Instr) × Spells i (name_of name ∷ tokens) × (s ≡ within (plain (i ∷ [])))) → IsRightStatement s
 plain_right name h tokens s (i, spells, e) =
     let same : mnemonic_of i ≡ name = name_unique (mnemonic_of i) name (sym spells.0) in
     subst IsRightStatement (sym e) (one_right i (spells_in_range i (name_of name) tokens spells) (straight i (ap is_target same ∙ h)))

@@ -18,7 +18,7 @@ use Rattle.rv_text.specs.declared.statement.Place.TheVariants as place
 use Rattle.rv_text.specs.Tokens.{IsLabel, Takes}
 use Rattle.rv_text.specs.Keywords.{place_of_keyword}
 use Rattle.rv_text.specs.Lines.{StatesBehind}
-use Rattle.rv_text.specs.Stated.{Stated, format, sandbox, gate, compressed, data_part, bytes, plain, jump, address, place_of_stated, IsRightStatement}
+use Rattle.rv_text.specs.Stated.{Stated, format, sandbox, within, StatedWithin, gate, compressed, data_part, bytes, plain, jump, address, place_of_stated, IsRightWithin, IsRightStatement}
 use Rattle.rv_text.specs.NameTable.{meaning, place_of, met}
 use Rattle.rv_text.specs.Source.{IsStraight, Sandbox, IsBody, IsSandbox, AreOf, format_of}
 use Rattle.rv_text.specs.SoFar.{Begun, SoFar, format_or_first, with_label, with_names, nothing, last_sandbox, sandboxes}
@@ -75,10 +75,8 @@ plain_bodies n [] h = tt
 plain_bodies n (i ∷ instrs) h = (h.0, plain_bodies n instrs h.1)
 
 -- each sandbox behind a statement is right
-goes_right : (line : ℕ) (s : Stated) (b : Begun) → IsRightStatement s → ((name : List ℕ) (service : ℕ) → s ≡ gate name service → IsFree name b)
+goes_right : (line : ℕ) (s : StatedWithin) (b : Begun) → IsRightWithin s → ((name : List ℕ) (service : ℕ) → s ≡ gate name service → IsFree name b)
     → Fits s b → IsDraft b → IsDraft (with_stated line s b)
-goes_right line (format value) b right free fits d = d
-goes_right line (sandbox size) b right free fits d = begun_right b.sandbox.format size right
 goes_right line (gate name service) b right free fits d =
     gate_right name service b d (free name service refl) (label_some name right.0.0) right.0.1 right.1 fits
 goes_right line (compressed rvc) b right free fits d =
@@ -98,9 +96,7 @@ goes_right line (address rd name) b right free fits d =
     ((right.0, among), ((right.0, among), tt)) (omega arith) fits
 
 -- a statement leaves the sandbox's format
-stays_of : (line : ℕ) (s : Stated) (b : Begun) (said : Option Format) → IsOf said b.sandbox → IsOf said (with_stated line s b).sandbox
-stays_of line (format value) b said h = h
-stays_of line (sandbox size) b said h = h
+stays_of : (line : ℕ) (s : StatedWithin) (b : Begun) (said : Option Format) → IsOf said b.sandbox → IsOf said (with_stated line s b).sandbox
 stays_of line (gate name service) b said h = h
 stays_of line (compressed rvc) b said h = h
 stays_of line data_part b said h = h
@@ -109,7 +105,7 @@ stays_of line (plain instrs) b said h = h
 stays_of line (jump i name) b said h = h
 stays_of line (address rd name) b said h = h
 
-goes_on : (line : ℕ) (s : Stated) (old new : SoFar) → IsRightStatement s
+goes_on : (line : ℕ) (s : StatedWithin) (old new : SoFar) → IsRightWithin s
     → ((b : Begun) (name : List ℕ) (service : ℕ) → old.begun ≡ Some b → s ≡ gate name service → IsFree name b)
     → GoesOn line s old new → IsRightSoFar old → IsRightSoFar new
 goes_on line s old new right free (b, is, fits, new_is) so_far =
@@ -140,7 +136,7 @@ format_said value old none right = record {
 }
 
 does_right : (line : ℕ) (s : Stated) (old new : SoFar) → IsRightStatement s
-    → ((b : Begun) (name : List ℕ) (service : ℕ) → old.begun ≡ Some b → s ≡ gate name service → IsFree name b)
+    → ((b : Begun) (name : List ℕ) (service : ℕ) → old.begun ≡ Some b → s ≡ within (gate name service) → IsFree name b)
     → MayCome (place_of_stated s) old → Does line s old new → IsRightSoFar old → IsRightSoFar new
 does_right line (format value) old new right free may does so_far = subst IsRightSoFar (sym does) (format_said value old may.1 so_far)
 does_right line (sandbox size) old new right free may does so_far =
@@ -151,13 +147,8 @@ does_right line (sandbox size) old new right free may does so_far =
       begun_format = λ b e. subst (λ x. IsOf old.format x.sandbox) (same_Some _ _ e) refl;
       first = λ e. absurd (none-some _ (sym e));
     })
-does_right line (gate name service) old new right free may does so_far = goes_on line (gate name service) old new right free does so_far
-does_right line (compressed rvc) old new right free may does so_far = goes_on line (compressed rvc) old new right free does so_far
-does_right line data_part old new right free may does so_far = goes_on line data_part old new right free does so_far
-does_right line (bytes values) old new right free may does so_far = goes_on line (bytes values) old new right free does so_far
-does_right line (plain instrs) old new right free may does so_far = goes_on line (plain instrs) old new right free does so_far
-does_right line (jump i name) old new right free may does so_far = goes_on line (jump i name) old new right free does so_far
-does_right line (address rd name) old new right free may does so_far = goes_on line (address rd name) old new right free does so_far
+does_right line (within what) old new right free may does so_far =
+    goes_on line what old new right (λ b name service is e. free b name service is (ap within e)) does so_far
 
 -- a keyword that stands where gates do is that of a gate
 abbrev place_number : Place → ℕ
@@ -179,18 +170,11 @@ gate_keyword (keyword.Directive directive.Zero) h = absurd (omega (arith, h))
 gate_keyword (keyword.Numbers width) h = absurd (omega (arith, h))
 
 abbrev gate_name_of : Stated → List ℕ
-gate_name_of (gate name service) = name
-gate_name_of (format value) = []
-gate_name_of (sandbox size) = []
-gate_name_of (compressed rvc) = []
-gate_name_of data_part = []
-gate_name_of (bytes values) = []
-gate_name_of (plain instrs) = []
-gate_name_of (jump i name) = []
-gate_name_of (address rd name) = []
+gate_name_of (within (gate name service)) = name
+gate_name_of _ = []
 
 -- the tokens behind a gate's keyword begin with its name
-gate_begins : (text : List ℕ) (name : List ℕ) (service : ℕ) → StatesBehind (keyword.Directive directive.Gate) text (gate name service)
+gate_begins : (text : List ℕ) (name : List ℕ) (service : ℕ) → StatesBehind (keyword.Directive directive.Gate) text (within (gate name service))
     → (rest : List ℕ) × BeginsWithName text name rest
 gate_begins text name service ([], are, (o, form, is)) = absurd form
 gate_begins text name service (token ∷ tokens, (last, (after, takes, leads), blank), (o, form, is)) =
@@ -211,11 +195,11 @@ behind_leads : (k : Keyword) (line : ℕ) (old new : SoFar) (text : List ℕ) �
 behind_leads k line old new text (stands, once, (s, (tokens, are, behind_k), does)) so_far =
     does_right line s old new (behind_right k tokens s behind_k) free (subst (λ p. MayCome p old) (behind_place k tokens s behind_k) stands) does so_far
   where
-    free : (b : Begun) (name : List ℕ) (service : ℕ) → old.begun ≡ Some b → s ≡ gate name service → IsFree name b
+    free : (b : Begun) (name : List ℕ) (service : ℕ) → old.begun ≡ Some b → s ≡ within (gate name service) → IsFree name b
     free b name service is gate_is =
         let at : place_of_keyword k ≡ place.Gates = behind_place k tokens s behind_k ∙ ap place_of_stated gate_is in
         let key = gate_keyword k (ap place_number at) in
-        let states : StatesBehind (keyword.Directive directive.Gate) text (gate name service) =
+        let states : StatesBehind (keyword.Directive directive.Gate) text (within (gate name service)) =
         subst (λ t. StatesBehind (keyword.Directive directive.Gate) text t) gate_is (subst (λ q. StatesBehind q text s) key (tokens, are, behind_k)) in
         let begins = gate_begins text name service states in
         not_taken b text name begins.0 begins.1 (λ t. once (key, (b, is, t)))

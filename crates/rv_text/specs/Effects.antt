@@ -9,7 +9,7 @@ use Rattle.rv_text.specs.declared.statement.Place.{Place}
 use Rattle.rv_text.specs.declared.statement.Place.TheVariants as place
 use Rattle.rv_text.specs.NameTable.{meaning, place_of, met}
 use Rattle.rv_text.specs.SoFar.{Begun, SoFar, begin, format_or_first, sandboxes, with_names, with_label, with_gate, with_bodies, with_bytes}
-use Rattle.rv_text.specs.Stated.{Stated, format, sandbox, gate, compressed, data_part, bytes, plain, jump, address}
+use Rattle.rv_text.specs.Stated.{Stated, format, sandbox, within, StatedWithin, gate, compressed, data_part, bytes, plain, jump, address}
 
 -- the name may still be given to a label or a gate: it names nothing yet
 abbrev pub IsFree : List ℕ → Begun → Type 0
@@ -39,9 +39,7 @@ MayCome place.Code s = IsSomeAnd s.begun (λ b. b.in_data ≡ false)
 MayCome place.Data s = IsSomeAnd s.begun (λ b. b.in_data ≡ true)
 
 -- how many gates, instructions and data bytes a sandbox may have: 64, 65536 and those that it was begun with
-abbrev pub Fits : Stated → Begun → Type 0
-Fits (format value) b = Unit {0}
-Fits (sandbox size) b = Unit {0}
+abbrev pub Fits : StatedWithin → Begun → Type 0
 Fits (gate name service) b = length b.sandbox.gates + 1 ≤ 64
 Fits (compressed rvc) b = Unit {0}
 Fits data_part b = Unit {0}
@@ -51,9 +49,7 @@ Fits (jump instr name) b = length b.sandbox.items + 1 ≤ 65536
 Fits (address rd name) b = length b.sandbox.items + 2 ≤ 65536
 
 -- the sandbox behind a statement of a line; a name that an instruction goes to is met
-abbrev pub with_stated : ℕ → Stated → Begun → Begun
-with_stated line (format value) b = b
-with_stated line (sandbox size) b = begin b.sandbox.format size
+abbrev pub with_stated : ℕ → StatedWithin → Begun → Begun
 with_stated line (gate name service) b = with_gate name service b
 with_stated line (compressed rvc) b = record b { rvc = rvc }
 with_stated line data_part b = record b { in_data = true }
@@ -66,7 +62,7 @@ with_stated line (address rd name) b =
     (with_names (met b.sandbox.names name) b)
 
 -- a statement of a line goes on with the sandbox begun last, and fits there
-abbrev pub GoesOn : ℕ → Stated → SoFar → SoFar → Type 0
+abbrev pub GoesOn : ℕ → StatedWithin → SoFar → SoFar → Type 0
 GoesOn line s old new =
     (b : Begun) × (old.begun ≡ Some b) × Fits s b × (new ≡ record old { begun = Some (with_stated line s b) })
 
@@ -75,14 +71,10 @@ abbrev pub Does : ℕ → Stated → SoFar → SoFar → Type 0
 Does line (format value) old new = new ≡ record old { format = Some value }
 Does line (sandbox size) old new =
     new ≡ record { format = old.format; finished = sandboxes old; begun = Some (begin (format_or_first old.format) size) }
-Does line (gate name service) old new = GoesOn line (gate name service) old new
-Does line (compressed rvc) old new = GoesOn line (compressed rvc) old new
-Does line data_part old new = GoesOn line data_part old new
-Does line (bytes values) old new = GoesOn line (bytes values) old new
-Does line (plain instrs) old new = GoesOn line (plain instrs) old new
-Does line (jump instr name) old new = GoesOn line (jump instr name) old new
-Does line (address rd name) old new = GoesOn line (address rd name) old new
+Does line (within what) old new = GoesOn line what old new
 
--- the sandbox begun last has no room for what is stated
+-- the sandbox begun last has no room for what is stated within it
 abbrev pub HasNoRoom : Stated → SoFar → Type 0
-HasNoRoom s old = (b : Begun) × (old.begun ≡ Some b) × (Fits s b → ⊥)
+HasNoRoom (format value) old = ⊥
+HasNoRoom (sandbox size) old = ⊥
+HasNoRoom (within what) old = (b : Begun) × (old.begun ≡ Some b) × (Fits what b → ⊥)

@@ -24,7 +24,7 @@ use Rattle.rv_text.specs.declared.form.Part.TheVariants.{Rd, Rs1, Rs2, Number, N
 use Rattle.rv_text.specs.Mnemonics.{name_of}
 use Rattle.rv_text.specs.Operands.{OperandValues}
 use Rattle.rv_text.specs.Constants.{constant}
-use Rattle.rv_text.specs.Stated.{Stated, format, sandbox, gate, compressed, data_part, bytes, plain, jump, address}
+use Rattle.rv_text.specs.Stated.{Stated, format, sandbox, within, gate, compressed, data_part, bytes, plain, jump, address}
 
 -- the format of a number, 1 or 2
 abbrev pub format_numbered : ℕ → Format
@@ -50,10 +50,10 @@ directive_form directive.Zero = Number ZeroCount ∷ []
 abbrev pub directive_states : Directive → OperandValues → Stated
 directive_states directive.Format o = format (format_numbered (unsigned_abs o.number))
 directive_states directive.Sandbox o = sandbox (unsigned_abs o.number)
-directive_states directive.Gate o = gate o.name (unsigned_abs o.number)
-directive_states directive.Option o = compressed o.compressed
-directive_states directive.Data o = data_part
-directive_states directive.Zero o = bytes (replicate (unsigned_abs o.number) 0)
+directive_states directive.Gate o = within (gate o.name (unsigned_abs o.number))
+directive_states directive.Option o = within (compressed o.compressed)
+directive_states directive.Data o = within data_part
+directive_states directive.Zero o = within (bytes (replicate (unsigned_abs o.number) 0))
 
 -- pseudo-instructions
 abbrev pub pseudo_name : Pseudo → List ℕ
@@ -81,29 +81,29 @@ pseudo_form Bnez = Rs1 ∷ Comma ∷ Name ∷ []
 pseudo_form La = Rd ∷ Comma ∷ Name ∷ []
 
 abbrev pub pseudo_states : Pseudo → OperandValues → Stated
-pseudo_states Nop o = plain (instr.OpImm Addi 0 0 (pos 0) ∷ [])
-pseudo_states Ret o = plain (instr.Jalr 0 1 (pos 0) ∷ [])
-pseudo_states Li o = plain (constant o.rd o.number)
-pseudo_states Mv o = plain (instr.OpImm Addi o.rd o.rs1 (pos 0) ∷ [])
-pseudo_states Jr o = plain (instr.Jalr 0 o.rs1 (pos 0) ∷ [])
-pseudo_states J o = jump (instr.Jal 0 (pos 0)) o.name
-pseudo_states Call o = jump (instr.Jal 1 (pos 0)) o.name
-pseudo_states Beqz o = jump (instr.Branch Beq o.rs1 0 (pos 0)) o.name
-pseudo_states Bnez o = jump (instr.Branch Bne o.rs1 0 (pos 0)) o.name
-pseudo_states La o = address o.rd o.name
+pseudo_states Nop o = within (plain (instr.OpImm Addi 0 0 (pos 0) ∷ []))
+pseudo_states Ret o = within (plain (instr.Jalr 0 1 (pos 0) ∷ []))
+pseudo_states Li o = within (plain (constant o.rd o.number))
+pseudo_states Mv o = within (plain (instr.OpImm Addi o.rd o.rs1 (pos 0) ∷ []))
+pseudo_states Jr o = within (plain (instr.Jalr 0 o.rs1 (pos 0) ∷ []))
+pseudo_states J o = within (jump (instr.Jal 0 (pos 0)) o.name)
+pseudo_states Call o = within (jump (instr.Jal 1 (pos 0)) o.name)
+pseudo_states Beqz o = within (jump (instr.Branch Beq o.rs1 0 (pos 0)) o.name)
+pseudo_states Bnez o = within (jump (instr.Branch Bne o.rs1 0 (pos 0)) o.name)
+pseudo_states La o = within (address o.rd o.name)
 
 -- the instructions that go to a name in a source
 abbrev pub branch_form : List Part
 branch_form = Rs1 ∷ Comma ∷ Rs2 ∷ Comma ∷ Name ∷ []
 
 abbrev pub branch_states : Cond → OperandValues → Stated
-branch_states cond o = jump (instr.Branch cond o.rs1 o.rs2 (pos 0)) o.name
+branch_states cond o = within (jump (instr.Branch cond o.rs1 o.rs2 (pos 0)) o.name)
 
 abbrev pub jal_form : List Part
 jal_form = Rd ∷ Comma ∷ Name ∷ []
 
 abbrev pub jal_states : OperandValues → Stated
-jal_states o = jump (instr.Jal o.rd (pos 0)) o.name
+jal_states o = within (jump (instr.Jal o.rd (pos 0)) o.name)
 
 -- lists of data
 abbrev pub data_name : DataWidth → List ℕ

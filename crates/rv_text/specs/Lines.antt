@@ -19,7 +19,7 @@ use Rattle.rv_text.specs.Operands.{OperandValues, HasForm, Unformed, Missing, Di
 use Rattle.rv_text.specs.Statement.{Spells, OperandsDepart}
 use Rattle.rv_text.specs.Constants.{data_bytes}
 use Rattle.rv_text.specs.Keywords.{directive_form, directive_states, pseudo_form, pseudo_states, branch_form, branch_states, jal_form, jal_states, data_kind, keyword_name}
-use Rattle.rv_text.specs.Stated.{Stated, bytes, plain}
+use Rattle.rv_text.specs.Stated.{Stated, within, bytes, plain}
 
 -- the tokens stand at the parts of the form, and with these operands state this
 abbrev pub IsRow : List Part → (OperandValues → Stated) → List (List ℕ) → Stated → Type 0
@@ -30,7 +30,7 @@ IsRow form states tokens s = (o : OperandValues) × HasForm o form tokens × (s 
 abbrev pub IsInstr : Mnemonic → List (List ℕ) → Stated → Type 0
 IsInstr (mnemonic.Branch cond) tokens s = IsRow branch_form (branch_states cond) tokens s
 IsInstr mnemonic.Jal tokens s = IsRow jal_form jal_states tokens s
-IsInstr name tokens s = (i : Instr) × Spells i (name_of name ∷ tokens) × (s ≡ plain (i ∷ []))
+IsInstr name tokens s = (i : Instr) × Spells i (name_of name ∷ tokens) × (s ≡ within (plain (i ∷ [])))
 
 -- the token writes a number of this kind
 abbrev pub Writes : NumberKind → List ℕ → ℤ → Type 0
@@ -55,7 +55,7 @@ AreNumbers kind (z ∷ numbers) (token ∷ tokens) = Writes kind token z × AreM
 abbrev pub IsData : DataWidth → List (List ℕ) → Stated → Type 0
 IsData width tokens s =
     (numbers : List ℤ) × AreNumbers (data_kind width) numbers tokens
-    × (s ≡ bytes (flat_map (data_bytes width) numbers))
+    × (s ≡ within (bytes (flat_map (data_bytes width) numbers)))
 
 -- the tokens behind this keyword make it a statement, and this is what it states
 abbrev pub Behind : Keyword → List (List ℕ) → Stated → Type 0

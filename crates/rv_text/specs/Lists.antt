@@ -16,7 +16,7 @@ use Rattle.rv_text.specs.Constants.{data_bytes}
 use Rattle.rv_text.specs.Lines.{Writes, LeadsByMore, MoreDeparts}
 use Rattle.rv_text.specs.Operands.{OperandValues}
 use Rattle.rv_text.specs.Reading.{Reads, FollowsName}
-use Rattle.rv_text.specs.Stated.{Stated, bytes, plain}
+use Rattle.rv_text.specs.Stated.{Stated, within, bytes, plain}
 
 -- the text's first token writes this number, and this follows
 abbrev pub ReadsNumber : NumberKind → List ℕ → ℤ → List ℕ → Type 0
@@ -61,11 +61,11 @@ ReadsRow form states text s = (o : OperandValues) × Reads o form text × (s ≡
 abbrev pub ReadsInstr : Mnemonic → List ℕ → Stated → Type 0
 ReadsInstr (mnemonic.Branch cond) text s = ReadsRow branch_form (branch_states cond) text s
 ReadsInstr mnemonic.Jal text s = ReadsRow jal_form jal_states text s
-ReadsInstr name text s = (i : Instr) × FollowsName text name i × (s ≡ plain (i ∷ []))
+ReadsInstr name text s = (i : Instr) × FollowsName text name i × (s ≡ within (plain (i ∷ [])))
 
 -- the text behind the keyword states this with it
 abbrev pub ReadsBehind : Keyword → List ℕ → Stated → Type 0
 ReadsBehind (keyword.Instr name) text s = ReadsInstr name text s
 ReadsBehind (keyword.Pseudo name) text s = ReadsRow (pseudo_form name) (pseudo_states name) text s
 ReadsBehind (keyword.Directive name) text s = ReadsRow (directive_form name) (directive_states name) text s
-ReadsBehind (keyword.Numbers width) text s = (b : List ℕ) × ReadsList width text b × (s ≡ bytes b)
+ReadsBehind (keyword.Numbers width) text s = (b : List ℕ) × ReadsList width text b × (s ≡ within (bytes b))

@@ -3,12 +3,12 @@ ghost use Rattle.std.specs.Prelude.{◌≡◌, ◌++◌, OnOk};
 ghost use Rattle.rv_word.specs.Numbers.{modulo};
 ghost use Rattle.rv_text.specs.Forms.{IsNumberOf};
 ghost use Rattle.rv_text.specs.Constants.{rounded, upper, lower, constant, data_bytes};
-ghost use Rattle.rv_text.specs.Stated.{stated, plain};
+ghost use Rattle.rv_text.specs.Stated.{stated_within, plain};
 
 use crate::form::NumberKind;
 use crate::keyword::DataWidth;
 use crate::operands::x0;
-use crate::statement::Statement;
+use crate::statement::SandboxStatement;
 use rv_word::{ImmOp, Instr, Reg};
 use std::alloc::AllocError;
 
@@ -59,14 +59,14 @@ fn lower(number: i64) -> i32
 
 /// The instructions of `li rd, number`: an addi where its 12 bits hold the number, otherwise a
 /// lui, and an addi behind it unless it would add 0.
-pub fn constant<'a>(rd: Reg, number: i64) -> Statement<'a>
+pub fn constant<'a>(rd: Reg, number: i64) -> SandboxStatement<'a>
     requires { IsNumberOf NumberKind.Word number }
-    ensures { stated result ≡ plain (constant rd number) }
+    ensures { stated_within result ≡ plain (constant rd number) }
 {
     let op = ImmOp::Addi;
     if -2048 <= number && number <= 2047 {
         let imm = number as i32;
-        return Statement::One(Instr::OpImm {
+        return SandboxStatement::One(Instr::OpImm {
             op,
             rd,
             rs1: x0(),
@@ -79,9 +79,9 @@ pub fn constant<'a>(rd: Reg, number: i64) -> Statement<'a>
     };
     let imm = lower(number);
     if imm == 0 {
-        Statement::One(lui)
+        SandboxStatement::One(lui)
     } else {
-        Statement::Two(
+        SandboxStatement::Two(
             lui,
             Instr::OpImm {
                 op,

@@ -4,14 +4,14 @@ ghost use Rattle.rv_text.specs.declared.cause.TextCause.TheVariants as cause;
 ghost use Rattle.rv_text.specs.declared.item.Body.TheVariants.{Plain, To, High, Low};
 ghost use Rattle.rv_text.specs.Effects.{IsFree, Fits, with_stated};
 ghost use Rattle.rv_text.specs.NameTable.{place_of, met};
-ghost use Rattle.rv_text.specs.Stated.{stated};
+ghost use Rattle.rv_text.specs.Stated.{stated_within};
 ghost use Rattle.rv_text.specs.SoFar.{begin, here, with_names, with_label, with_gate, with_bodies, with_bytes};
 
 use crate::cause::TextCause;
 use crate::item::{Body, Item, Named, SourceGate};
 use crate::name_table::Names;
 use crate::source::SourcePart;
-use crate::statement::Statement;
+use crate::statement::SandboxStatement;
 use sfi_image::Format;
 use std::alloc::Global;
 use std::marker::Model;
@@ -39,7 +39,6 @@ pub struct Draft {
 
 impl Model for Draft {
     ghost use Rattle.std.specs.Prelude.{◌≤◌, ◌<◌, ◌^◌, length};
-    ghost use Rattle.rv_text.specs.Stated.{stated};
     ghost use Rattle.rv_text.specs.SoFar.{Begun};
 
     ghost Value = { Begun };
@@ -220,38 +219,33 @@ impl Draft {
         &mut self,
         alloc: Global,
         line: u32,
-        statement: Statement<'_>,
+        statement: SandboxStatement<'_>,
     ) -> Result<(), TextCause>
-        ensures fits { OnOk result (Fits (stated statement.entry) self.old) }
-        ensures behind { OnOk result (self.new ≡ with_stated line (stated statement.entry) self.old) }
-        ensures cause { IfErr result (λ e. (e ≡ cause.Memory) ⊎ ((Fits (stated statement.entry) self.old → ⊥) × (e ≡ cause.Limit))) }
+        ensures fits { OnOk result (Fits (stated_within statement.entry) self.old) }
+        ensures behind { OnOk result (self.new ≡ with_stated line (stated_within statement.entry) self.old) }
+        ensures cause { IfErr result (λ e. (e ≡ cause.Memory) ⊎ ((Fits (stated_within statement.entry) self.old → ⊥) × (e ≡ cause.Limit))) }
     {
         match statement {
-            Statement::Format(_) => Ok(()),
-            Statement::Sandbox { data_size } => {
-                *self = Draft::new(alloc, self.format, data_size);
-                Ok(())
-            }
-            Statement::Gate { name, service } => self.gate(alloc, name, service),
-            Statement::Compressed(rvc) => {
+            SandboxStatement::Gate { name, service } => self.gate(alloc, name, service),
+            SandboxStatement::Compressed(rvc) => {
                 self.set_rvc(rvc);
                 Ok(())
             }
-            Statement::Data => {
+            SandboxStatement::Data => {
                 self.begin_data();
                 Ok(())
             }
-            Statement::Bytes(bytes) => self.push_bytes(&bytes),
-            Statement::Zeros(count) => self.push_zeros(count),
-            Statement::One(instr) => self.push(line, Body::Plain(instr)),
-            Statement::Two(first, second) => {
+            SandboxStatement::Bytes(bytes) => self.push_bytes(&bytes),
+            SandboxStatement::Zeros(count) => self.push_zeros(count),
+            SandboxStatement::One(instr) => self.push(line, Body::Plain(instr)),
+            SandboxStatement::Two(first, second) => {
                 self.push_two(line, Body::Plain(first), Body::Plain(second))
             }
-            Statement::Jump { instr, name } => {
+            SandboxStatement::Jump { instr, name } => {
                 let place = self.meet(alloc, name)?;
                 self.push(line, Body::To(instr, place))
             }
-            Statement::Address { rd, name } => {
+            SandboxStatement::Address { rd, name } => {
                 let place = self.meet(alloc, name)?;
                 self.push_two(line, Body::High(rd, place), Body::Low(rd, place))
             }

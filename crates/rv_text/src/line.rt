@@ -18,7 +18,7 @@ use crate::operands::Operands;
 use crate::parse::{behind_name, name_cause};
 use crate::read::read_operands;
 use crate::rows::{branch_to, jal_to};
-use crate::statement::Statement;
+use crate::statement::{SandboxStatement, Statement};
 use rv_word::Cond;
 use std::alloc::Global;
 
@@ -98,7 +98,7 @@ fn read_instr<'a>(name: Mnemonic, rest: &'a str) -> Result<Statement<'a>, TextCa
         Mnemonic::Branch(cond) => read_branch(cond, rest),
         Mnemonic::Jal => read_jal(rest),
         _ => match behind_name(name, rest) {
-            Ok(instr) => Ok(Statement::One(instr)),
+            Ok(instr) => Ok(Statement::Within(SandboxStatement::One(instr))),
             Err(e) => Err(e),
         },
     }
@@ -118,7 +118,7 @@ fn read_behind<'a>(
         Keyword::Pseudo(name) => read_pseudo(name, rest),
         Keyword::Directive(name) => read_directive(name, rest),
         Keyword::Numbers(width) => match read_list(alloc, width, rest) {
-            Ok(bytes) => Ok(Statement::Bytes(bytes)),
+            Ok(bytes) => Ok(Statement::Within(SandboxStatement::Bytes(bytes))),
             Err(e) => Err(e),
         },
     }

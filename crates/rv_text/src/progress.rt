@@ -189,22 +189,14 @@ impl Progress {
         ensures does { OnOk result (Does line (stated statement.entry) self.old self.new) }
         ensures cause { IfErr result (λ e. (e ≡ cause.Memory) ⊎ (HasNoRoom (stated statement.entry) self.old × (e ≡ cause.Limit))) }
     {
-        match &statement {
+        match statement {
             Statement::Format(format) => {
-                self.format = Some(*format);
+                self.format = Some(format);
                 Ok(())
             }
-            Statement::Sandbox { data_size } => self.begin(alloc, *data_size),
-            Statement::Gate { .. }
-            | Statement::Compressed(_)
-            | Statement::Data
-            | Statement::Bytes(_)
-            | Statement::Zeros(_)
-            | Statement::One(_)
-            | Statement::Two(..)
-            | Statement::Jump { .. }
-            | Statement::Address { .. } => match &mut self.begun {
-                Some(draft) => draft.state(alloc, line, statement),
+            Statement::Sandbox { data_size } => self.begin(alloc, data_size),
+            Statement::Within(what) => match &mut self.begun {
+                Some(draft) => draft.state(alloc, line, what),
                 None => Err(TextCause::Directive),
             },
         }

@@ -5,12 +5,12 @@ ghost use Rattle.rv_word.specs.declared.instr.ImmOp.TheVariants.{Addi};
 ghost use Rattle.rv_text.specs.Operands.{values_of};
 ghost use Rattle.rv_text.specs.Reading.{AllSuit};
 ghost use Rattle.rv_text.specs.Keywords.{format_numbered, directive_form, directive_states, pseudo_form, pseudo_states};
-ghost use Rattle.rv_text.specs.Stated.{stated, jump};
+ghost use Rattle.rv_text.specs.Stated.{stated, within, jump};
 
 use crate::constant::constant;
 use crate::keyword::{Directive, Pseudo};
 use crate::operands::{Operands, x0};
-use crate::statement::Statement;
+use crate::statement::{SandboxStatement, Statement};
 use rv_word::{Cond, ImmOp, Instr, Reg};
 use sfi_image::Format;
 
@@ -36,13 +36,13 @@ impl Directive {
             Directive::Sandbox => Statement::Sandbox {
                 data_size: o.number as u32,
             },
-            Directive::Gate => Statement::Gate {
+            Directive::Gate => Statement::Within(SandboxStatement::Gate {
                 name: o.name,
                 service: o.number as u32,
-            },
-            Directive::Option => Statement::Compressed(o.compressed),
-            Directive::Data => Statement::Data,
-            Directive::Zero => Statement::Zeros(o.number as u32),
+            }),
+            Directive::Option => Statement::Within(SandboxStatement::Compressed(o.compressed)),
+            Directive::Data => Statement::Within(SandboxStatement::Data),
+            Directive::Zero => Statement::Within(SandboxStatement::Zeros(o.number as u32)),
         }
     }
 }
@@ -72,15 +72,15 @@ fn jump_to(rs1: Reg) -> Instr
 
 /// A jal to a name.
 pub fn jal_to<'a>(rd: Reg, name: &'a str) -> Statement<'a>
-    ensures { stated result ≡ jump (instr.Jal rd (pos 0)) name.now }
+    ensures { stated result ≡ within (jump (instr.Jal rd (pos 0)) name.now) }
 {
     let instr = Instr::Jal { rd, offset: 0 };
-    Statement::Jump { instr, name }
+    Statement::Within(SandboxStatement::Jump { instr, name })
 }
 
 /// A branch to a name.
 pub fn branch_to<'a>(cond: Cond, rs1: Reg, rs2: Reg, name: &'a str) -> Statement<'a>
-    ensures { stated result ≡ jump (instr.Branch cond rs1 rs2 (pos 0)) name.now }
+    ensures { stated result ≡ within (jump (instr.Branch cond rs1 rs2 (pos 0)) name.now) }
 {
     let instr = Instr::Branch {
         cond,
@@ -88,7 +88,7 @@ pub fn branch_to<'a>(cond: Cond, rs1: Reg, rs2: Reg, name: &'a str) -> Statement
         rs2,
         offset: 0,
     };
-    Statement::Jump { instr, name }
+    Statement::Within(SandboxStatement::Jump { instr, name })
 }
 
 /// The register of the return address, x1.
@@ -105,19 +105,19 @@ impl Pseudo {
         ensures { stated result ≡ pseudo_states self (values_of o.now) }
     {
         match self {
-            Pseudo::Nop => Statement::One(add_zero(x0(), x0())),
-            Pseudo::Ret => Statement::One(jump_to(ra())),
-            Pseudo::Li => constant(o.rd, o.number),
-            Pseudo::Mv => Statement::One(add_zero(o.rd, o.rs1)),
-            Pseudo::Jr => Statement::One(jump_to(o.rs1)),
+            Pseudo::Nop => Statement::Within(SandboxStatement::One(add_zero(x0(), x0()))),
+            Pseudo::Ret => Statement::Within(SandboxStatement::One(jump_to(ra()))),
+            Pseudo::Li => Statement::Within(constant(o.rd, o.number)),
+            Pseudo::Mv => Statement::Within(SandboxStatement::One(add_zero(o.rd, o.rs1))),
+            Pseudo::Jr => Statement::Within(SandboxStatement::One(jump_to(o.rs1))),
             Pseudo::J => jal_to(x0(), o.name),
             Pseudo::Call => jal_to(ra(), o.name),
             Pseudo::Beqz => branch_to(Cond::Beq, o.rs1, x0(), o.name),
             Pseudo::Bnez => branch_to(Cond::Bne, o.rs1, x0(), o.name),
-            Pseudo::La => Statement::Address {
+            Pseudo::La => Statement::Within(SandboxStatement::Address {
                 rd: o.rd,
                 name: o.name,
-            },
+            }),
         }
     }
 }

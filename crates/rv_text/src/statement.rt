@@ -4,15 +4,22 @@ use rv_word::{Instr, Reg};
 use sfi_image::Format;
 
 /// What a line of source states.
-///
-/// Pseudo-instructions stand as what they mean: `nop`, `ret`, `mv` and `jr` are one instruction,
-/// `li` is one or two, and `j`, `call`, `beqz` and `bnez` are a jump or branch to a name.
 #[derive(Drop)]
 pub enum Statement<'a> {
     /// `.format N`: the format of the source is this one.
     Format(Format),
     /// `.sandbox N`: a sandbox begins, with so many bytes of data.
     Sandbox { data_size: u32 },
+    /// What goes on within a sandbox.
+    Within(SandboxStatement<'a>),
+}
+
+/// What a line states within a sandbox.
+///
+/// Pseudo-instructions stand as what they mean: `nop`, `ret`, `mv` and `jr` are one instruction,
+/// `li` is one or two, and `j`, `call`, `beqz` and `bnez` are a jump or branch to a name.
+#[derive(Drop)]
+pub enum SandboxStatement<'a> {
     /// `.gate L N`: the name is that of a gate of this service.
     Gate { name: &'a str, service: u32 },
     /// `.option rvc`, where true, or `.option norvc`: whether 16-bit forms are taken from here on.
