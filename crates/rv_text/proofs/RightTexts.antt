@@ -21,7 +21,7 @@ use Rattle.rv_text.specs.Lines.{StatesBehind}
 use Rattle.rv_text.specs.Stated.{Stated, format, sandbox, within, StatedWithin, gate, compressed, data_part, bytes, plain, jump, address, place_of_stated, IsRightWithin, IsRightStatement}
 use Rattle.rv_text.specs.NameTable.{meaning, place_of, met}
 use Rattle.rv_text.specs.Source.{IsStraight, Sandbox, IsBody, IsSandbox, AreOf, format_of}
-use Rattle.rv_text.specs.SoFar.{Begun, SoFar, format_or_first, with_label, with_names, nothing, last_sandbox, sandboxes}
+use Rattle.rv_text.specs.SoFar.{Begun, SoFar, format_or_sfi1, with_label, with_names, nothing, last_sandbox, sandboxes}
 use Rattle.rv_text.specs.Effects.{IsFree, Labels, Fits, MayCome, GoesOn, Does, with_stated}
 use Rattle.rv_text.specs.Leads.{BeginsWithName, LabelsLead, IsTaken, LeadsBehind, RestLeads, Leads}
 use Rattle.rv_text.specs.Texts.{uncommented, lines, LinesLead}
@@ -30,9 +30,9 @@ use Rattle.rv_text.proofs.Placing.{place_among}
 use Rattle.rv_text.proofs.Right.{behind_right, behind_place}
 use Rattle.rv_text.proofs.RightSources.{IsDraft, known, all_of, all_append, finished, begun_right, label_right, met_right, bodies_right, bytes_right, gate_right}
 
--- the sandbox is of the format that the text has said, or of the first
+-- the sandbox is of the format that the text has said, or of SFI1
 abbrev IsOf : Option Format → Sandbox → Type 0
-IsOf said s = s.format ≡ format_or_first said
+IsOf said s = s.format ≡ format_or_sfi1 said
 
 -- each sandbox so far is right and of the format, and before the first one begins none is finished
 record IsRightSoFar (s : SoFar) : Type 0 where
@@ -142,7 +142,7 @@ does_right line (format value) old new right free may does so_far = subst IsRigh
 does_right line (sandbox size) old new right free may does so_far =
     subst IsRightSoFar (sym does) (record {
       finished = sandboxes_right old so_far;
-      begun = λ b e. subst IsDraft (same_Some _ _ e) (begun_right (format_or_first old.format) size right);
+      begun = λ b e. subst IsDraft (same_Some _ _ e) (begun_right (format_or_sfi1 old.format) size right);
       finished_format = sandboxes_format old so_far;
       begun_format = λ b e. subst (λ x. IsOf old.format x.sandbox) (same_Some _ _ e) refl;
       first = λ e. absurd (none-some _ (sym e));
@@ -230,5 +230,5 @@ sources_are_right text parts (new, last, leads, begun, parts_are) =
     record {
       at_least_one = omega (arith, ap length shape, length-append new.finished (last.sandbox ∷ []));
       each = subst (λ ps. All IsSandbox ps) (sym parts_are) (all_of IsSandbox (sandboxes new) (sandboxes_right new right));
-      one_format = all_one parts (format_or_first new.format) (subst (λ ps. AreOf (format_or_first new.format) ps) (sym parts_are) (all_of (IsOf new.format) (sandboxes new) (sandboxes_format new right)));
+      one_format = all_one parts (format_or_sfi1 new.format) (subst (λ ps. AreOf (format_or_sfi1 new.format) ps) (sym parts_are) (all_of (IsOf new.format) (sandboxes new) (sandboxes_format new right)));
     }

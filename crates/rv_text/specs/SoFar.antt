@@ -32,10 +32,10 @@ pub record SoFar : Type 0 where
 abbrev pub nothing : SoFar
 nothing = record { format = None; finished = []; begun = None }
 
--- the format: the first one where the text says none
-abbrev pub format_or_first : Option Format → Format
-format_or_first None = Sfi1
-format_or_first (Some format) = format
+-- the format: SFI1 where the text says none
+abbrev pub format_or_sfi1 : Option Format → Format
+format_or_sfi1 None = Sfi1
+format_or_sfi1 (Some format) = format
 
 -- a sandbox at its beginning: it has a format and data bytes, and nothing else
 abbrev pub begin : Format → ℕ → Begun

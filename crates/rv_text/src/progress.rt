@@ -3,7 +3,7 @@ ghost use Rattle.std.specs.Prelude.{◌≡◌, ◌⊎◌, ◌↔◌, List, ℕ, 
 ghost use Rattle.rv_text.specs.declared.cause.TextCause.TheVariants as cause;
 ghost use Rattle.rv_text.specs.Effects.{Labels, RefusesLabel, MayCome, Does, HasNoRoom};
 ghost use Rattle.rv_text.specs.Leads.{BeginsWithName, IsTaken, BeginsWithLabel, HasNoLabel, PassesLabels, IsGateTwice, LeadsBehind, RestLeads, Leads, LabelRefused, RefusedBehind, StatementRefused, LineRefused};
-ghost use Rattle.rv_text.specs.SoFar.{begin, format_or_first, nothing, sandboxes};
+ghost use Rattle.rv_text.specs.SoFar.{begin, format_or_sfi1, nothing, sandboxes};
 ghost use Rattle.rv_text.specs.Stated.{stated, place_of_stated};
 ghost use Rattle.rv_text.specs.Texts.{LeadsFromNothing, MeansSource, IsFault};
 ghost use Rattle.rv_text.specs.Causes.{memory};
@@ -161,9 +161,9 @@ impl Progress {
         }
     }
 
-    /// The format: the first one where the text says none.
+    /// The format: SFI1 where the text says none.
     fn format(&self) -> Format
-        ensures { result ≡ format_or_first self.now.format }
+        ensures { result ≡ format_or_sfi1 self.now.format }
     {
         match self.format {
             Some(format) => format,
@@ -173,7 +173,7 @@ impl Progress {
 
     /// Begins a sandbox behind those so far.
     fn begin(&mut self, alloc: Global, data_size: u32) -> Result<(), TextCause>
-        ensures begins { OnOk result (self.new ≡ record { format = self.old.format; finished = sandboxes self.old; begun = Some (begin (format_or_first self.old.format) data_size) }) }
+        ensures begins { OnOk result (self.new ≡ record { format = self.old.format; finished = sandboxes self.old; begun = Some (begin (format_or_sfi1 self.old.format) data_size) }) }
         ensures memory { IfErr result (λ e. e ≡ cause.Memory) }
     {
         if let Some(draft) = self.begun.take() {
