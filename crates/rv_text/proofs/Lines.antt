@@ -26,7 +26,7 @@ use Rattle.rv_text.specs.Forms.{form_of}
 use Rattle.rv_text.specs.Operands.{OperandValues, Departs}
 use Rattle.rv_text.specs.Statement.{mnemonic_of, operands_of, Spells, OperandsDepart}
 use Rattle.rv_text.specs.Reading.{Reads, AgreesOn, FollowsName}
-use Rattle.rv_text.specs.Keywords.{format_numbered, directive_form, directive_states, pseudo_form, pseudo_states, branch_form, branch_states, jal_form, jal_states, data_kind}
+use Rattle.rv_text.specs.Keywords.{directive_form, directive_states, pseudo_form, pseudo_states, branch_form, branch_states, jal_form, jal_states, data_kind}
 use Rattle.rv_text.specs.Constants.{constant, data_bytes}
 use Rattle.rv_text.specs.Lines.{Writes, AreMore, IsRow, IsData, StatesBehind, InstrDeparts, RefusedWith}
 use Rattle.rv_text.specs.Lists.{ReadsRow, ReadsInstr, ReadsBehind, ReadsList}
@@ -155,7 +155,7 @@ states_reads (keyword.Numbers width) text s (ts, are, h) = list_reads width ts t
 
 -- what a row states is by the operands of its form alone
 directive_agrees : (d : Directive) (a b : OperandValues) → AgreesOn (directive_form d) a b → directive_states d a ≡ directive_states d b
-directive_agrees directive.Format a b h = λ i. format (format_numbered (unsigned_abs (h.0 i)))
+directive_agrees directive.Format a b h = λ i. format (unsigned_abs (h.0 i))
 directive_agrees directive.Sandbox a b h = λ i. sandbox (unsigned_abs (h.0 i))
 directive_agrees directive.Gate a b h = λ i. within (gate (h.0 i) (unsigned_abs (h.1.0 i)))
 directive_agrees directive.Option a b h = λ i. within (compressed (h.0 i))

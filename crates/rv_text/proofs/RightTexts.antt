@@ -138,7 +138,7 @@ format_said value old none right = record {
 does_right : (line : ℕ) (s : Stated) (old new : SoFar) → IsRightStatement s
     → ((b : Begun) (name : List ℕ) (service : ℕ) → old.begun ≡ Some b → s ≡ within (gate name service) → IsFree name b)
     → MayCome (place_of_stated s) old → Does line s old new → IsRightSoFar old → IsRightSoFar new
-does_right line (format value) old new right free may does so_far = subst IsRightSoFar (sym does) (format_said value old may.1 so_far)
+does_right line (format number) old new right free may (value, is, does) so_far = subst IsRightSoFar (sym does) (format_said value old may.1 so_far)
 does_right line (sandbox size) old new right free may does so_far =
     subst IsRightSoFar (sym does) (record {
       finished = sandboxes_right old so_far;

@@ -1,12 +1,10 @@
 -- The statements of source: the name of each, what stands behind it, and what it states.
 -- RISC-V ISA manual, "RISC-V Assembly Programmer's Handbook", has the pseudo-instructions.
-use Rattle.std.specs.Prelude.{ℕ, List, [], ◌∷◌, pos, unsigned_abs, replicate, codes, ◌==◌, if◌then◌else◌}
+use Rattle.std.specs.Prelude.{ℕ, List, [], ◌∷◌, pos, unsigned_abs, replicate, codes}
 use Rattle.rv_word.specs.declared.instr.Instr.TheVariants as instr
 use Rattle.rv_word.specs.declared.instr.ImmOp.TheVariants.{Addi}
 use Rattle.rv_word.specs.declared.instr.Cond.{Cond}
 use Rattle.rv_word.specs.declared.instr.Cond.TheVariants.{Beq, Bne}
-use Rattle.sfi_image.specs.declared.format.Format.{Format}
-use Rattle.sfi_image.specs.declared.format.Format.TheVariants.{Sfi1, Sfi2}
 use Rattle.rv_text.specs.declared.statement.Place.{Place}
 use Rattle.rv_text.specs.declared.statement.Place.TheVariants as place
 use Rattle.rv_text.specs.declared.keyword.Directive.{Directive}
@@ -26,10 +24,6 @@ use Rattle.rv_text.specs.Operands.{OperandValues}
 use Rattle.rv_text.specs.Constants.{constant}
 use Rattle.rv_text.specs.Stated.{Stated, format, sandbox, within, gate, compressed, data_part, bytes, plain, jump, address}
 
--- the format of a number, 1 or 2
-abbrev pub format_numbered : ℕ → Format
-format_numbered n = if n == 2 then Sfi2 else Sfi1
-
 -- directives
 abbrev pub directive_name : Directive → List ℕ
 directive_name directive.Format = codes ".format"
@@ -48,7 +42,7 @@ directive_form directive.Data = []
 directive_form directive.Zero = Number ZeroCount ∷ []
 
 abbrev pub directive_states : Directive → OperandValues → Stated
-directive_states directive.Format o = format (format_numbered (unsigned_abs o.number))
+directive_states directive.Format o = format (unsigned_abs o.number)
 directive_states directive.Sandbox o = sandbox (unsigned_abs o.number)
 directive_states directive.Gate o = within (gate o.name (unsigned_abs o.number))
 directive_states directive.Option o = within (compressed o.compressed)

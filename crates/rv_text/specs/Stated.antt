@@ -4,6 +4,7 @@ use Rattle.rv_word.specs.declared.instr.Instr.{Instr}
 use Rattle.std.specs.List.{All}
 use Rattle.rv_word.specs.Spelling.{IsReg, InRange}
 use Rattle.sfi_image.specs.declared.format.Format.{Format}
+use Rattle.sfi_image.specs.declared.format.Format.TheVariants.{Sfi1, Sfi2}
 use Rattle.rv_text.specs.Source.{IsDataSize, IsStraight, IsOpen}
 use Rattle.rv_text.specs.Tokens.{IsLabel}
 use Rattle.rv_text.specs.declared.statement.Statement.{Statement}
@@ -30,10 +31,15 @@ pub data StatedWithin : Type 0 where
   -- the register takes the address of the place of this name
   address : (rd : ℕ) (name : List ℕ) → StatedWithin
 
+-- the number of a format
+abbrev pub number_of_format : Format → ℕ
+number_of_format Sfi1 = 1
+number_of_format Sfi2 = 2
+
 -- what a line states
 pub data Stated : Type 0 where
-  -- the format of the source is this one
-  format : (value : Format) → Stated
+  -- the format of the source is the one of this number
+  format : (number : ℕ) → Stated
   -- a sandbox begins, with so many bytes of data
   sandbox : (size : ℕ) → Stated
   -- what goes on within a sandbox
@@ -53,7 +59,7 @@ stated_within (within_sandbox.Address rd name) = address rd name.now
 
 -- what a statement states
 abbrev pub stated : Statement → Stated
-stated (statement.Format value) = format value
+stated (statement.Format value) = format (number_of_format value)
 stated (statement.Sandbox size) = sandbox size
 stated (statement.Within what) = within (stated_within what)
 
@@ -69,7 +75,7 @@ place_within (address rd name) = place.Code
 
 -- where each statement may come
 abbrev pub place_of_stated : Stated → Place
-place_of_stated (format value) = place.Head
+place_of_stated (format number) = place.Head
 place_of_stated (sandbox size) = place.Outside
 place_of_stated (within what) = place_within what
 
@@ -87,8 +93,8 @@ IsRightWithin (plain instrs) = (1 ≤ length instrs) × All (λ i. InRange i × 
 IsRightWithin (jump i name) = InRange i × IsOpen i × IsShortLabel name
 IsRightWithin (address rd name) = IsReg rd × IsShortLabel name
 
--- a sandbox begins with a number of data bytes that it may have
+-- a format has the number, and a sandbox begins with a number of data bytes that it may have
 abbrev pub IsRightStatement : Stated → Type 0
-IsRightStatement (format value) = Unit {0}
+IsRightStatement (format number) = (1 ≤ number) × (number ≤ 2)
 IsRightStatement (sandbox size) = IsDataSize size
 IsRightStatement (within what) = IsRightWithin what

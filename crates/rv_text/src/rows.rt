@@ -1,13 +1,15 @@
 //! What each statement with operands states.
-ghost use Rattle.std.specs.Prelude.{◌≡◌, pos};
+ghost use Rattle.std.specs.Prelude.{◌≡◌, pos, unsigned_abs};
 ghost use Rattle.rv_word.specs.declared.instr.Instr.TheVariants as instr;
 ghost use Rattle.rv_word.specs.declared.instr.ImmOp.TheVariants.{Addi};
+ghost use Rattle.rv_text.specs.Forms.{IsNumberOf};
 ghost use Rattle.rv_text.specs.Operands.{values_of};
 ghost use Rattle.rv_text.specs.Reading.{AllSuit};
-ghost use Rattle.rv_text.specs.Keywords.{format_numbered, directive_form, directive_states, pseudo_form, pseudo_states};
-ghost use Rattle.rv_text.specs.Stated.{stated, within, jump};
+ghost use Rattle.rv_text.specs.Keywords.{directive_form, directive_states, pseudo_form, pseudo_states};
+ghost use Rattle.rv_text.specs.Stated.{stated, number_of_format, within, jump};
 
 use crate::constant::constant;
+use crate::form::NumberKind;
 use crate::keyword::{Directive, Pseudo};
 use crate::operands::{Operands, x0};
 use crate::statement::{SandboxStatement, Statement};
@@ -15,8 +17,9 @@ use rv_word::{Cond, ImmOp, Instr, Reg};
 use sfi_image::Format;
 
 /// The format of a number, 1 or 2.
-fn format_numbered(number: u32) -> Format
-    ensures { result ≡ format_numbered number }
+fn format_numbered(number: i64) -> Format
+    requires { IsNumberOf NumberKind.FormatNumber number }
+    ensures { number_of_format result ≡ unsigned_abs number }
 {
     if number == 2 {
         Format::Sfi2
@@ -32,7 +35,7 @@ impl Directive {
         ensures { stated result ≡ directive_states self (values_of o.now) }
     {
         match self {
-            Directive::Format => Statement::Format(format_numbered(o.number as u32)),
+            Directive::Format => Statement::Format(format_numbered(o.number)),
             Directive::Sandbox => Statement::Sandbox {
                 data_size: o.number as u32,
             },
