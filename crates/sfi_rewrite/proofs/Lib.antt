@@ -15,3 +15,4 @@ pub mod Aside
 pub mod Transparent
 pub mod StackKept
 pub mod Standing
+pub mod Samples

@@ -4,6 +4,7 @@ use Rattle.rv_word.specs.declared.instr.Instr.{Instr}
 use Rattle.rv_text.specs.declared.item.Item.{Item}
 use Rattle.rv_text.specs.Source.{Sandbox}
 use Rattle.sfi_image.specs.declared.format.Format.{Format}
+use Rattle.sfi_image.specs.declared.format.Format.TheVariants.{Sfi2}
 use Rattle.sfi_rewrite.specs.declared.slot.Slot.{Slot}
 use Rattle.sfi_rewrite.specs.declared.fault.RewriteFault.{RewriteFault}
 use Rattle.sfi_rewrite.specs.Expansion.{IsExpansion}
@@ -11,6 +12,7 @@ use Rattle.sfi_rewrite.specs.Placement.{Placement, IsPlacement}
 use Rattle.sfi_rewrite.specs.Faults.{IsPermitted, IsSourceFault}
 use Rattle.sfi_rewrite.specs.Rewriting.{IsRewritten, AreRewritten}
 use Rattle.sfi_rewrite.specs.Transparency.{MayBe, ActsAs, StandTransparent}
+use Rattle.sfi_rewrite.specs.Samples.{MeetsTransparent, MeetsKeepsStack, sample_load, sample_push}
 
 -- an item has one expansion in each format
 abbrev pub OneExpansion : Type 0
@@ -42,3 +44,8 @@ ExpansionsAreTransparent =
 -- so each item of a source stands transparent in what is placed
 abbrev pub RewrittenIsTransparent : Type 0
 RewrittenIsTransparent = (s : Sandbox) (p : Placement) → IsRewritten s p → StandTransparent s p
+
+-- What transparency asks can be met: in some state the expansion of a load stands, and the load keeps to its sandbox; in some state that of a write
+-- of the stack pointer stands, and the write leaves it in the data region.
+abbrev pub TransparencyCanBeMet : Type 0
+TransparencyCanBeMet = MeetsTransparent Sfi2 sample_load × MeetsKeepsStack Sfi2 sample_push

@@ -9,4 +9,5 @@ pub mod Faults
 pub mod Placed
 pub mod Rewriting
 pub mod Transparency
+pub mod Samples
 pub mod Laws

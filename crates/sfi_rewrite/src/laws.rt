@@ -1,7 +1,8 @@
 //! What holds of every source. A call costs nothing: it has the statement at hand.
-ghost use Rattle.sfi_rewrite.specs.Laws.{OneExpansion, OnePlacement, OneRewriting, OneFault, NeverBoth, ExpansionsAreTransparent, RewrittenIsTransparent};
+ghost use Rattle.sfi_rewrite.specs.Laws.{OneExpansion, OnePlacement, OneRewriting, OneFault, NeverBoth, ExpansionsAreTransparent, RewrittenIsTransparent, TransparencyCanBeMet};
 
 use rv_comp::laws::one_first_form;
+use rv_mem::laws::{addresses_are_these, others_stay, read_is_held, written_is_there};
 use rv_step::laws::{pair_leaves, step_keeps_state};
 
 /// An item has one expansion.
@@ -53,4 +54,14 @@ pub fn rewritten_is_transparent()
     ensures { RewrittenIsTransparent }
 {
     expansions_are_transparent();
+}
+
+/// What transparency asks of a sandbox and its state can be met.
+pub fn transparency_can_be_met()
+    ensures { TransparencyCanBeMet }
+{
+    addresses_are_these();
+    others_stay();
+    read_is_held();
+    written_is_there();
 }

@@ -1,0 +1,220 @@
+-- Two states in which the expansions of a load and of a write of the stack pointer stand.
+use Rattle.std.proofs.Common.{◌≡◌, ℕ, zero, suc, ◌+◌, ◌-◌, ◌%◌, ◌^◌, ◌<◌, ◌≤◌, List, [], ◌∷◌, ◌++◌, length, take, drop, replicate, true, Some, None, inr, refl, sym, ap, subst, ◌∙◌, ⊎_elim, arith, get_or-drop, get_or-take}
+use Rattle.std.specs.Prelude.{slice_index, nat_lt, Contains, pos}
+use Rattle.std.specs.FinMap.{empty, get-empty}
+use Rattle.std.specs.Int.{w32, to_le_bytes}
+use Rattle.std.specs.List.{flat_map, list_all}
+use Rattle.std.specs.Ordering.{nat_cmp}
+use Rattle.std.proofs.lemmas.Bool.{and_parts, ltb-true, cases_lt}
+use Rattle.std.proofs.lemmas.Int.{ints}
+use Rattle.rv_word.specs.declared.instr.RegOp.TheVariants.{And, Or}
+use Rattle.rv_word.specs.declared.instr.LoadKind.TheVariants.{Lw}
+use Rattle.rv_word.specs.declared.instr.Instr.{Instr}
+use Rattle.rv_word.specs.declared.instr.Instr.TheVariants.{Op, Load}
+use Rattle.rv_word.specs.Spelling.{spelling, InRange}
+use Rattle.rv_comp.specs.Fronts.{Spells}
+use Rattle.rv_mem.specs.Bytes.{Bytes, IsMemory, byte_at, addresses, address_after, with_bytes}
+use Rattle.rv_mem.specs.Laws.{AddressesAreThese, OthersStay, ReadIsHeld, WrittenIsThere}
+use Rattle.rv_step.specs.State.{Hart, IsHart}
+use Rattle.rv_step.specs.Step.{Stands}
+use Rattle.sfi_image.specs.declared.format.Format.TheVariants.{Sfi2}
+use Rattle.sfi_image.specs.declared.span.Span.{Span}
+use Rattle.sfi_rewrite.specs.declared.slot.Slot.TheVariants.{Wide}
+use Rattle.sfi_rewrite.specs.Transparency.{AreRegions, HasReserved}
+use Rattle.sfi_rewrite.specs.Samples.{MeetsTransparent, MeetsKeepsStack, sample_load, sample_push}
+use Rattle.sfi_rewrite.specs.Laws.{TransparencyCanBeMet}
+
+-- ---- the regions and the registers
+
+abbrev code_at : Span
+code_at = record { base = 0x01000000; size = 256 }
+
+abbrev data_at : Span
+data_at = record { base = 0x01800000; size = 256 }
+
+regions : AreRegions code_at data_at
+regions = record {
+  format = Sfi2;
+  code_placed = record { power = 8; size_is = refl; at_least = omega arith; at_most = omega arith; multiple = 65536; base_is = refl };
+  data_placed = record { power = 8; size_is = refl; at_least = omega arith; at_most = omega arith; multiple = 98304; base_is = refl };
+}
+
+-- x2 and x11 point into the data, the reserved registers have their values, and all others are 0
+abbrev hart : ℕ → Hart
+hart pc = record {
+  pc = pc;
+  registers = 0 ∷ 0 ∷ 0x01800080 ∷ replicate 8 0 ++ (0x01800010 ∷ (replicate 12 0 ++ (0x01000000 ∷ 240 ∷ 0x01800000 ∷ 255 ∷ 0 ∷ 0 ∷ 0 ∷ 0 ∷ [])));
+}
+
+each_below : (n : ℕ) (xs : List ℕ) → 0 < n → list_all (λ x. nat_lt x n) xs ≡ true → (k : ℕ) → slice_index xs k < n
+each_below n [] some h k = some
+each_below n (x ∷ xs) some h zero = ltb-true x n (and_parts (nat_lt x n) (list_all (λ y. nat_lt y n) xs) h).0
+each_below n (x ∷ xs) some h (suc k) = each_below n xs some (and_parts (nat_lt x n) (list_all (λ y. nat_lt y n) xs) h).1 k
+
+is_hart : IsHart (hart 0x01000000)
+is_hart = record {
+  even = refl;
+  address = omega arith;
+  count = refl;
+  words = each_below (2 ^ 32) (hart 0x01000000).registers (omega arith) refl;
+  zero = refl;
+}
+
+reserved : HasReserved code_at data_at (hart 0x01000000)
+reserved = record { x24 = refl; x25 = refl; x26 = refl; x27 = refl }
+
+-- ---- the words
+
+abbrev IsSpelled : Instr → Type 0
+IsSpelled i = Spells (to_le_bytes w32 (spelling i)) i 4
+
+abbrev words_of : List Instr → List ℕ
+words_of is = flat_map (λ i. to_le_bytes w32 (spelling i)) is
+
+and_data : IsSpelled (Op And 31 11 27)
+unfolding spelling InRange
+and_data = inr (record { size = refl; all = refl; spelled = ((omega arith, omega arith, omega arith), refl) })
+
+or_data : IsSpelled (Op Or 31 31 26)
+unfolding spelling InRange
+or_data = inr (record { size = refl; all = refl; spelled = ((omega arith, omega arith, omega arith), refl) })
+
+load_x31 : IsSpelled (Load Lw 10 31 (pos 0))
+unfolding spelling InRange
+load_x31 = inr (record { size = refl; all = refl; spelled = ((omega arith, omega arith, (omega (arith, ints), omega (arith, ints))), refl) })
+
+push : IsSpelled sample_push
+unfolding spelling InRange
+push = inr (record { size = refl; all = refl; spelled = ((omega arith, omega arith, (omega (arith, ints), omega (arith, ints))), refl) })
+
+and_stack : IsSpelled (Op And 2 2 27)
+unfolding spelling InRange
+and_stack = inr (record { size = refl; all = refl; spelled = ((omega arith, omega arith, omega arith), refl) })
+
+or_stack : IsSpelled (Op Or 2 2 26)
+unfolding spelling InRange
+or_stack = inr (record { size = refl; all = refl; spelled = ((omega arith, omega arith, omega arith), refl) })
+
+abbrev load_words : List ℕ
+load_words = words_of (Op And 31 11 27 ∷ Op Or 31 31 26 ∷ Load Lw 10 31 (pos 0) ∷ [])
+
+abbrev push_words : List ℕ
+push_words = words_of (sample_push ∷ Op And 2 2 27 ∷ Op Or 2 2 26 ∷ [])
+
+load_small : (k : ℕ) → slice_index load_words k < 256
+unfolding spelling
+load_small = each_below 256 load_words (omega arith) refl
+
+push_small : (k : ℕ) → slice_index push_words k < 256
+unfolding spelling
+push_small = each_below 256 push_words (omega arith) refl
+
+-- ---- the memory
+
+pub record Laws : Type 0 where
+  pub these : AddressesAreThese
+  pub stay : OthersStay
+  pub held : ReadIsHeld
+  pub written : WrittenIsThere
+
+-- the bytes from the code base on, and nothing else
+with_code : List ℕ → Bytes
+with_code bytes = with_bytes empty (addresses 0x01000000 (length bytes)) bytes
+
+module _ (laws : Laws) (bytes : List ℕ) (size : length bytes ≡ 12) where
+  there : (k : ℕ) → k < 12 → byte_at (with_code bytes) (0x01000000 + k) ≡ Some (slice_index bytes k)
+  unfolding with_code
+  there k below = laws.written empty 0x01000000 bytes k (omega (arith, size)) (omega (arith, size))
+
+  nowhere_else : (a : ℕ) → (0x01000000 ≤ a → a < 0x0100000c → ⊥) → byte_at (with_code bytes) a ≡ None
+  unfolding with_code
+  nowhere_else a out = laws.stay empty (addresses 0x01000000 (length bytes)) bytes a not_there ∙ get-empty nat_cmp a
+    where
+      not_there : Contains (addresses 0x01000000 (length bytes)) a → ⊥
+      not_there c =
+          let x = (laws.these 0x01000000 (length bytes) a).0 c in
+          let k = x.0 in
+          let below : k < length bytes = x.1 in
+          let is : a ≡ (0x01000000 + k) % 2 ^ 32 = x.2 in
+          let few = size in
+          out (omega arith) (omega arith)
+
+  found : ((k : ℕ) → slice_index bytes k < 256) → (a b : ℕ) → byte_at (with_code bytes) a ≡ Some b → (a < 2 ^ 32) × (b < 256)
+  found small a b e =
+      ⊎_elim
+      (λ (less : a < 0x01000000). absurd (let none : None ≡ Some b = sym (nowhere_else a (λ from below. omega arith)) ∙ e in cc))
+      (λ (more : 0x01000000 ≤ a).
+      ⊎_elim
+      (λ (less : a < 0x0100000c). inside more less)
+      (λ (past : 0x0100000c ≤ a). absurd (let none : None ≡ Some b = sym (nowhere_else a (λ from below. omega arith)) ∙ e in cc))
+      (cases_lt a 0x0100000c))
+      (cases_lt a 0x01000000)
+    where
+      inside : 0x01000000 ≤ a → a < 0x0100000c → (a < 2 ^ 32) × (b < 256)
+      inside more less =
+          let k = a - 0x01000000 in
+          let at : 0x01000000 + k ≡ a = omega arith in
+          let same : Some (slice_index bytes k) ≡ Some b = sym (there k (omega arith)) ∙ ap (byte_at (with_code bytes)) at ∙ e in
+          let is : slice_index bytes k ≡ b = cc in
+          (omega arith, subst (λ (n : ℕ). n < 256) is (small k))
+
+  is_memory : ((k : ℕ) → slice_index bytes k < 256) → IsMemory (with_code bytes)
+  is_memory small = record { addresses = λ a b e. (found small a b e).0; bytes = λ a b e. (found small a b e).1 }
+
+  stands : (at : ℕ) (i : Instr) → at + 4 ≤ 12 → length (take 4 (drop at bytes)) ≡ 4 → Spells (take 4 (drop at bytes)) i 4
+      → Stands (record { hart = hart (0x01000000 + at); memory = with_code bytes }) i 4
+  stands at i within four spelled = record {
+    bytes = take 4 (drop at bytes);
+    there = (laws.held (with_code bytes) (0x01000000 + at) 4 (take 4 (drop at bytes))).1 (record { count = four; each = each });
+    spelled = spelled;
+  }
+    where
+      each : (k : ℕ) → k < 4 → byte_at (with_code bytes) (address_after (0x01000000 + at) k) ≡ Some (slice_index (take 4 (drop at bytes)) k)
+      each k few =
+          let e : (0x01000000 + at + k) % 2 ^ 32 ≡ 0x01000000 + (at + k) = omega arith in
+          ap (byte_at (with_code bytes)) e ∙ there (at + k) (omega arith) ∙ ap Some (sym (get_or-take 4 (drop at bytes) k 0 few ∙ get_or-drop at bytes k 0))
+
+-- ---- the two
+
+load_met : Laws → MeetsTransparent Sfi2 sample_load
+load_met laws = record {
+  writes = refl;
+  slots = Wide (Op And 31 11 27) ∷ Wide (Op Or 31 31 26) ∷ Wide (Load Lw 10 31 (pos 0)) ∷ [];
+  expansion = refl;
+  code_at = code_at;
+  data_at = data_at;
+  state = record { hart = hart 0x01000000; memory = with_code load_words };
+  regions = regions;
+  is_state = record { hart = is_hart; memory = is_memory laws load_words refl load_small };
+  reserved = reserved;
+  stand =
+      let first = stands laws load_words refl 0 (Op And 31 11 27) (omega arith) refl and_data in
+      let second = stands laws load_words refl 4 (Op Or 31 31 26) (omega arith) refl or_data in
+      let third = stands laws load_words refl 8 (Load Lw 10 31 (pos 0)) (omega arith) refl load_x31 in
+      (first, (second, (third, tt)));
+  keeps = (omega arith, omega arith);
+}
+
+push_met : Laws → MeetsKeepsStack Sfi2 sample_push
+push_met laws = record {
+  writes = refl;
+  slots = Wide sample_push ∷ Wide (Op And 2 2 27) ∷ Wide (Op Or 2 2 26) ∷ [];
+  expansion = refl;
+  code_at = code_at;
+  data_at = data_at;
+  state = record { hart = hart 0x01000000; memory = with_code push_words };
+  regions = regions;
+  is_state = record { hart = is_hart; memory = is_memory laws push_words refl push_small };
+  reserved = reserved;
+  stack = (omega arith, omega arith);
+  stand =
+      let first = stands laws push_words refl 0 sample_push (omega arith) refl push in
+      let second = stands laws push_words refl 4 (Op And 2 2 27) (omega arith) refl and_stack in
+      let third = stands laws push_words refl 8 (Op Or 2 2 26) (omega arith) refl or_stack in
+      (first, (second, (third, tt)));
+  done = refl;
+  stays = (omega arith, omega arith);
+}
+
+pub met : Laws → TransparencyCanBeMet
+met laws = (load_met laws, push_met laws)
