@@ -1,9 +1,10 @@
 -- Two states in which the expansions of a load and of a write of the stack pointer stand.
-use Rattle.std.proofs.Common.{◌≡◌, ℕ, zero, suc, ◌+◌, ◌-◌, ◌%◌, ◌^◌, ◌<◌, ◌≤◌, List, [], ◌∷◌, ◌++◌, length, take, drop, replicate, true, Some, None, inr, refl, sym, ap, subst, ◌∙◌, ⊎_elim, arith, get_or-drop, get_or-take}
+use Rattle.std.proofs.Common.{◌≡◌, ℕ, zero, suc, ◌+◌, ◌-◌, ◌%◌, ◌^◌, ◌<◌, ◌≤◌, List, [], ◌∷◌, ◌++◌, length, take, drop, replicate, true, Option, Some, None, inr, refl, sym, ap, subst, ◌∙◌, ⊎_elim, arith, get_or-drop, get_or-take}
 use Rattle.std.specs.Prelude.{slice_index, nat_lt, Contains, pos}
 use Rattle.std.specs.FinMap.{empty, get-empty}
 use Rattle.std.specs.Int.{w32, to_le_bytes}
 use Rattle.std.specs.List.{flat_map, list_all}
+use Rattle.std.specs.Option.{option_map}
 use Rattle.std.specs.Ordering.{nat_cmp}
 use Rattle.std.proofs.lemmas.Bool.{and_parts, ltb-true, cases_lt}
 use Rattle.std.proofs.lemmas.Int.{ints}
@@ -13,10 +14,11 @@ use Rattle.rv_word.specs.declared.instr.Instr.{Instr}
 use Rattle.rv_word.specs.declared.instr.Instr.TheVariants.{Op, Load}
 use Rattle.rv_word.specs.Spelling.{spelling, InRange}
 use Rattle.rv_comp.specs.Fronts.{Spells}
-use Rattle.rv_mem.specs.Bytes.{Bytes, IsMemory, byte_at, addresses, address_after, with_bytes}
+use Rattle.rv_mem.specs.Bytes.{Bytes, IsMemory, byte_at, bytes_at, addresses, address_after, with_bytes, number_of}
 use Rattle.rv_mem.specs.Laws.{AddressesAreThese, OthersStay, ReadIsHeld, WrittenIsThere}
+use Rattle.rv_step.specs.declared.outcome.Outcome.TheVariants.{Next}
 use Rattle.rv_step.specs.State.{Hart, IsHart}
-use Rattle.rv_step.specs.Step.{Stands}
+use Rattle.rv_step.specs.Step.{Stands, effect, after_load}
 use Rattle.sfi_image.specs.declared.format.Format.TheVariants.{Sfi2}
 use Rattle.sfi_image.specs.declared.span.Span.{Span}
 use Rattle.sfi_rewrite.specs.declared.slot.Slot.TheVariants.{Wide}
@@ -117,49 +119,75 @@ pub record Laws : Type 0 where
   pub held : ReadIsHeld
   pub written : WrittenIsThere
 
--- the bytes from the code base on, and nothing else
-with_code : List ℕ → Bytes
-with_code bytes = with_bytes empty (addresses 0x01000000 (length bytes)) bytes
+-- the memory with more bytes, from base on
+placed : Bytes → ℕ → List ℕ → Bytes
+placed m base bytes = with_bytes m (addresses base (length bytes)) bytes
 
-module _ (laws : Laws) (bytes : List ℕ) (size : length bytes ≡ 12) where
-  there : (k : ℕ) → k < 12 → byte_at (with_code bytes) (0x01000000 + k) ≡ Some (slice_index bytes k)
-  unfolding with_code
-  there k below = laws.written empty 0x01000000 bytes k (omega (arith, size)) (omega (arith, size))
+module _ (laws : Laws) (m : Bytes) (base : ℕ) (bytes : List ℕ) (fits : base + length bytes ≤ 2 ^ 32) where
+  there : (k : ℕ) → k < length bytes → byte_at (placed m base bytes) (base + k) ≡ Some (slice_index bytes k)
+  unfolding placed
+  there k below = laws.written m base bytes k fits below
 
-  nowhere_else : (a : ℕ) → (0x01000000 ≤ a → a < 0x0100000c → ⊥) → byte_at (with_code bytes) a ≡ None
-  unfolding with_code
-  nowhere_else a out = laws.stay empty (addresses 0x01000000 (length bytes)) bytes a not_there ∙ get-empty nat_cmp a
+  elsewhere : (a : ℕ) → (base ≤ a → a < base + length bytes → ⊥) → byte_at (placed m base bytes) a ≡ byte_at m a
+  unfolding placed
+  elsewhere a out = laws.stay m (addresses base (length bytes)) bytes a not_there
     where
-      not_there : Contains (addresses 0x01000000 (length bytes)) a → ⊥
+      not_there : Contains (addresses base (length bytes)) a → ⊥
       not_there c =
-          let x = (laws.these 0x01000000 (length bytes) a).0 c in
+          let x = (laws.these base (length bytes) a).0 c in
           let k = x.0 in
           let below : k < length bytes = x.1 in
-          let is : a ≡ (0x01000000 + k) % 2 ^ 32 = x.2 in
-          let few = size in
+          let is : a ≡ (base + k) % 2 ^ 32 = x.2 in
+          let end = fits in
           out (omega arith) (omega arith)
 
-  found : ((k : ℕ) → slice_index bytes k < 256) → (a b : ℕ) → byte_at (with_code bytes) a ≡ Some b → (a < 2 ^ 32) × (b < 256)
-  found small a b e =
+  found : IsMemory m → ((k : ℕ) → slice_index bytes k < 256) → (a b : ℕ) → byte_at (placed m base bytes) a ≡ Some b → (a < 2 ^ 32) × (b < 256)
+  found is small a b e =
       ⊎_elim
-      (λ (less : a < 0x01000000). absurd (let none : None ≡ Some b = sym (nowhere_else a (λ from below. omega arith)) ∙ e in cc))
-      (λ (more : 0x01000000 ≤ a).
-      ⊎_elim
-      (λ (less : a < 0x0100000c). inside more less)
-      (λ (past : 0x0100000c ≤ a). absurd (let none : None ≡ Some b = sym (nowhere_else a (λ from below. omega arith)) ∙ e in cc))
-      (cases_lt a 0x0100000c))
-      (cases_lt a 0x01000000)
+      (λ (less : a < base). outside (λ from below. omega arith))
+      (λ (more : base ≤ a). ⊎_elim (λ (less : a < base + length bytes). inside more less) (λ (past : base + length bytes ≤ a). outside (λ from below. omega arith)) (cases_lt a (base + length bytes)))
+      (cases_lt a base)
     where
-      inside : 0x01000000 ≤ a → a < 0x0100000c → (a < 2 ^ 32) × (b < 256)
+      outside : (base ≤ a → a < base + length bytes → ⊥) → (a < 2 ^ 32) × (b < 256)
+      outside out = let before : byte_at m a ≡ Some b = sym (elsewhere a out) ∙ e in (is.addresses a b before, is.bytes a b before)
+
+      inside : base ≤ a → a < base + length bytes → (a < 2 ^ 32) × (b < 256)
       inside more less =
-          let k = a - 0x01000000 in
-          let at : 0x01000000 + k ≡ a = omega arith in
-          let same : Some (slice_index bytes k) ≡ Some b = sym (there k (omega arith)) ∙ ap (byte_at (with_code bytes)) at ∙ e in
-          let is : slice_index bytes k ≡ b = cc in
-          (omega arith, subst (λ (n : ℕ). n < 256) is (small k))
+          let k = a - base in
+          let end = fits in
+          let at : base + k ≡ a = omega arith in
+          let same : Some (slice_index bytes k) ≡ Some b = sym (there k (omega arith)) ∙ ap (byte_at (placed m base bytes)) at ∙ e in
+          let value : slice_index bytes k ≡ b = cc in
+          (omega arith, subst (λ (n : ℕ). n < 256) value (small k))
+
+  placed_is : IsMemory m → ((k : ℕ) → slice_index bytes k < 256) → IsMemory (placed m base bytes)
+  placed_is is small = record { addresses = λ a b e. (found is small a b e).0; bytes = λ a b e. (found is small a b e).1 }
+
+empty_is : IsMemory empty
+empty_is = record {
+  addresses = λ a b e. absurd (let none : None ≡ Some b = sym (get-empty nat_cmp a) ∙ e in cc);
+  bytes = λ a b e. absurd (let none : None ≡ Some b = sym (get-empty nat_cmp a) ∙ e in cc);
+}
+
+-- four bytes of data where x11 points, and the bytes of code from the code base on
+abbrev four_zeros : List ℕ
+four_zeros = 0 ∷ 0 ∷ 0 ∷ 0 ∷ []
+
+abbrev with_data : Bytes
+with_data = placed empty 0x01800010 four_zeros
+
+abbrev with_code : List ℕ → Bytes
+with_code bytes = placed with_data 0x01000000 bytes
+
+module _ (laws : Laws) (bytes : List ℕ) (size : length bytes ≡ 12) where
+  fits : 0x01000000 + length bytes ≤ 2 ^ 32
+  fits = omega (arith, size)
 
   is_memory : ((k : ℕ) → slice_index bytes k < 256) → IsMemory (with_code bytes)
-  is_memory small = record { addresses = λ a b e. (found small a b e).0; bytes = λ a b e. (found small a b e).1 }
+  is_memory small =
+      placed_is laws with_data 0x01000000 bytes fits
+      (placed_is laws empty 0x01800010 four_zeros (omega arith) empty_is (each_below 256 four_zeros (omega arith) refl))
+      small
 
   stands : (at : ℕ) (i : Instr) → at + 4 ≤ 12 → length (take 4 (drop at bytes)) ≡ 4 → Spells (take 4 (drop at bytes)) i 4
       → Stands (record { hart = hart (0x01000000 + at); memory = with_code bytes }) i 4
@@ -172,7 +200,22 @@ module _ (laws : Laws) (bytes : List ℕ) (size : length bytes ≡ 12) where
       each : (k : ℕ) → k < 4 → byte_at (with_code bytes) (address_after (0x01000000 + at) k) ≡ Some (slice_index (take 4 (drop at bytes)) k)
       each k few =
           let e : (0x01000000 + at + k) % 2 ^ 32 ≡ 0x01000000 + (at + k) = omega arith in
-          ap (byte_at (with_code bytes)) e ∙ there (at + k) (omega arith) ∙ ap Some (sym (get_or-take 4 (drop at bytes) k 0 few ∙ get_or-drop at bytes k 0))
+          ap (byte_at (with_code bytes)) e ∙ there laws with_data 0x01000000 bytes fits (at + k) (omega (arith, size))
+          ∙ ap Some (sym (get_or-take 4 (drop at bytes) k 0 few ∙ get_or-drop at bytes k 0))
+
+  -- the four bytes of data are there
+  has_data : bytes_at (with_code bytes) (addresses 0x01800010 4) ≡ Some four_zeros
+  has_data = (laws.held (with_code bytes) 0x01800010 4 four_zeros).1 (record { count = refl; each = each })
+    where
+      each : (k : ℕ) → k < 4 → byte_at (with_code bytes) (address_after 0x01800010 k) ≡ Some (slice_index four_zeros k)
+      each k few =
+          let e : (0x01800010 + k) % 2 ^ 32 ≡ 0x01800010 + k = omega arith in
+          ap (byte_at (with_code bytes)) e
+          ∙ elsewhere laws with_data 0x01000000 bytes fits (0x01800010 + k) (λ from below. omega (arith, size))
+          ∙ there laws empty 0x01800010 four_zeros (omega arith) k few
+
+  load_done : (effect sample_load 4 (hart 0x01000000) (with_code bytes)).outcome ≡ Next
+  load_done = ap (λ (o : Option (List ℕ)). (after_load (option_map number_of o) Lw 10 0x01800010 4 (hart 0x01000000) (with_code bytes)).outcome) has_data
 
 -- ---- the two
 
@@ -193,6 +236,7 @@ load_met laws = record {
       let third = stands laws load_words refl 8 (Load Lw 10 31 (pos 0)) (omega arith) refl load_x31 in
       (first, (second, (third, tt)));
   keeps = (omega arith, omega arith);
+  done = load_done laws load_words refl;
 }
 
 push_met : Laws → MeetsKeepsStack Sfi2 sample_push

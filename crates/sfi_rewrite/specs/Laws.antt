@@ -45,7 +45,7 @@ ExpansionsAreTransparent =
 abbrev pub RewrittenIsTransparent : Type 0
 RewrittenIsTransparent = (s : Sandbox) (p : Placement) → IsRewritten s p → StandTransparent s p
 
--- What transparency asks can be met: in some state the expansion of a load stands, and the load keeps to its sandbox; in some state that of a write
+-- What transparency asks can be met: in some state the expansion of a load stands, and the load keeps to its sandbox and is done; in some state that of a write
 -- of the stack pointer stands, and the write leaves it in the data region.
 abbrev pub TransparencyCanBeMet : Type 0
 TransparencyCanBeMet = MeetsTransparent Sfi2 sample_load × MeetsKeepsStack Sfi2 sample_push

@@ -16,7 +16,7 @@ use Rattle.sfi_rewrite.specs.Stack.{writes_stack}
 use Rattle.sfi_rewrite.specs.Expansion.{IsPlainExpansion}
 use Rattle.sfi_rewrite.specs.Transparency.{AreRegions, HasReserved, KeepsTo, SlotsStand}
 
--- the expansion of i in 32-bit slots, and all that IsTransparent asks of its regions and its state
+-- the expansion of i in 32-bit slots, and all that IsTransparent asks of its regions and its state, in which i is done
 pub record MeetsTransparent (f : Format) (i : Instr) : Type 0 where
   pub writes : writes_stack f i ≡ false
   pub slots : List Slot
@@ -29,6 +29,7 @@ pub record MeetsTransparent (f : Format) (i : Instr) : Type 0 where
   pub reserved : HasReserved code_at data_at state.hart
   pub stand : SlotsStand i state slots
   pub keeps : KeepsTo code_at data_at state.hart i
+  pub done : (effect i 4 state.hart state.memory).outcome ≡ Next
 
 -- the same of an instruction that writes the stack pointer, and all that KeepsStack asks
 pub record MeetsKeepsStack (f : Format) (i : Instr) : Type 0 where
