@@ -7,5 +7,6 @@ pub mod Harts
 pub mod Memories
 pub mod Numbers
 pub mod Reading
+pub mod Registers
 pub mod Steps
 pub mod Pairs

@@ -1,8 +1,9 @@
 -- What holds of every step.
-use Rattle.std.specs.Prelude.{◌≡◌, ◌≢◌, ℕ, ◌<◌, IsSome, [], ◌∷◌, bit_and, bit_or}
+use Rattle.std.specs.Prelude.{◌≡◌, ◌≢◌, ℕ, ◌<◌, Some, IsSome, [], ◌∷◌, bit_and, bit_or}
 use Rattle.rv_word.specs.declared.instr.Instr.{Instr}
 use Rattle.rv_word.specs.declared.instr.RegOp.TheVariants.{And, Or}
 use Rattle.rv_word.specs.declared.instr.Instr.TheVariants.{Op, Ecall}
+use Rattle.rv_word.specs.Writes.{written}
 use Rattle.rv_mem.specs.Bytes.{byte_at, address_after}
 use Rattle.rv_step.specs.declared.outcome.Outcome.TheVariants.{Next, Call}
 use Rattle.rv_step.specs.Access.{Accesses}
@@ -41,6 +42,12 @@ abbrev pub OtherBytesStay : Type 0
 OtherBytesStay =
     (s : State) (i : Instr) (n : ℕ) (r : Stepped) (a : ℕ) → Stands s i n → IsStep s r
     → (Accesses i s.hart a → ⊥) → byte_at r.state.memory a ≡ byte_at s.memory a
+
+-- a step changes no register but the one that its instruction writes
+abbrev pub OtherRegistersStay : Type 0
+OtherRegistersStay =
+    (s : State) (i : Instr) (n : ℕ) (r : Stepped) (x : ℕ) → Stands s i n → IsStep s r
+    → written i ≢ Some x → register r.state.hart x ≡ register s.hart x
 
 -- a step that is done found every byte that its instruction accesses
 abbrev pub AccessedIsThere : Type 0

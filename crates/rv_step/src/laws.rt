@@ -1,5 +1,5 @@
 //! What holds of every step. A call costs nothing.
-ghost use Rattle.rv_step.specs.Laws.{OneInstruction, OneStep, SomeStep, StepIsEffect, StepKeepsState, StoppedStays, OtherBytesStay, AccessedIsThere, NoByteGoes, CallsAreEcalls, AgreeingStandsToo, AgreeingStepsAreSame, PairLeaves};
+ghost use Rattle.rv_step.specs.Laws.{OneInstruction, OneStep, SomeStep, StepIsEffect, StepKeepsState, StoppedStays, OtherBytesStay, OtherRegistersStay, AccessedIsThere, NoByteGoes, CallsAreEcalls, AgreeingStandsToo, AgreeingStepsAreSame, PairLeaves};
 
 use rv_comp::laws::{one_front, one_spelling, some_front, spelled_in_range, two_lengths};
 
@@ -50,6 +50,13 @@ pub fn stopped_stays()
 /// A step changes no byte that its instruction doesn't access.
 pub fn other_bytes_stay()
     ensures { OtherBytesStay }
+{
+    step_is_effect();
+}
+
+/// A step changes no register but the one that its instruction writes.
+pub fn other_registers_stay()
+    ensures { OtherRegistersStay }
 {
     step_is_effect();
 }
