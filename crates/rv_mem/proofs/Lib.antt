@@ -1,4 +1,7 @@
 pub mod Accesses
 pub mod Lookups
+pub mod PageReads
+pub mod PageRuns
+pub mod PageWrites
 pub mod Paging
 pub mod Ranges

@@ -1,6 +1,7 @@
 use Rattle.std.proofs.Common.{◌≡◌, ◌/◌, ◌∙◌, length, arith}
 use Rattle.std.specs.Prelude.{slice_index}
-use Rattle.rv_mem.proofs.Paging.{frame_made, read_is}
+use Rattle.rv_mem.proofs.Paging.{read_is}
+use Rattle.rv_mem.proofs.PageWrites.{frame_made}
 use Rattle.rv_mem.proofs.pages.make_frame.Goals as goal
 
 pub returns-clause-same : goal.returns-clause-same

@@ -1,7 +1,7 @@
 use Rattle.std.proofs.Common.{◌≡◌, ℕ, subst, arith}
 use Rattle.rv_mem.specs.Bytes.{byte_at}
 use Rattle.rv_mem.specs.Pages.{bytes_of}
-use Rattle.rv_mem.proofs.Paging.{run_at, filled}
+use Rattle.rv_mem.proofs.PageRuns.{run_at, filled}
 use Rattle.rv_mem.proofs.pages.Pages.fill.Goals as goal
 
 pub returns : goal.returns

@@ -1,7 +1,7 @@
 use Rattle.std.proofs.Common.{◌≡◌, ◌-◌, ◌≤◌, ℕ}
 use Rattle.rv_mem.specs.Bytes.{byte_at}
 use Rattle.rv_mem.specs.Pages.{bytes_of}
-use Rattle.rv_mem.proofs.Paging.{run_at}
+use Rattle.rv_mem.proofs.PageRuns.{run_at}
 use Rattle.rv_mem.proofs.pages.Pages.fill.Given as goal
 
 abbrev pub invariant-loop-done : goal.invariant-loop-done

@@ -1,5 +1,5 @@
 use Rattle.std.proofs.Common.{◌≡◌, ◌≢◌, ◌+◌, ◌*◌, sym, ◌∙◌, refl, arith}
-use Rattle.rv_mem.proofs.Paging.{no_halfword, halfword_none, halfword_some}
+use Rattle.rv_mem.proofs.PageReads.{no_halfword, halfword_none, halfword_some}
 use Rattle.rv_mem.proofs.pages.Pages.halfword_at.Goals as goal
 
 pub returns-in_err-place : goal.returns-in_err-place

@@ -1,7 +1,7 @@
 use Rattle.std.proofs.Common.{◌+◌, ◌%◌, ◌^◌, ◌≤◌, ℕ, IsSome, subst, sym, refl, arith}
 use Rattle.rv_mem.specs.Bytes.{byte_at}
 use Rattle.rv_mem.specs.Pages.{bytes_of}
-use Rattle.rv_mem.proofs.Paging.{behind_run, none_further}
+use Rattle.rv_mem.proofs.PageRuns.{behind_run, none_further}
 use Rattle.rv_mem.proofs.pages.Pages.overlaps.Goals as goal
 
 pub returns-then-run_has-clause-found : goal.returns-then-run_has-clause-found

@@ -1,7 +1,8 @@
 use Rattle.std.proofs.Common.{◌+◌, ◌%◌, set, arith, ◌≡◌, Option, ℕ, subst, IsSome}
 use Rattle.std.specs.Prelude.{IfSome}
 use Rattle.rv_mem.specs.Frames.{ArePages, cell_at, frame_of}
-use Rattle.rv_mem.proofs.Paging.{Sets, get_pages, some_if, insert_set, are_set, memory_is, sets_byte, has_frame, mark_of}
+use Rattle.rv_mem.proofs.Paging.{get_pages, some_if, memory_is, has_frame}
+use Rattle.rv_mem.proofs.PageWrites.{Sets, insert_set, are_set, sets_byte, mark_of}
 use Rattle.rv_mem.proofs.pages.Pages.put_byte.Goals as goal
 
 pub unwrap-requires : goal.unwrap-requires

@@ -1,5 +1,5 @@
 use Rattle.std.proofs.Common.{sym, ◌∙◌}
-use Rattle.rv_mem.proofs.Paging.{none_in_page}
+use Rattle.rv_mem.proofs.PageRuns.{none_in_page}
 use Rattle.rv_mem.proofs.pages.Pages.run_has.Goals as goal
 
 pub returns-then-frame_number-eq0-clause-none : goal.returns-then-frame_number-eq0-clause-none

@@ -1,5 +1,5 @@
 use Rattle.std.proofs.Common.{◌≡◌, ◌≢◌, ◌+◌, ◌*◌, sym, ◌∙◌, refl, arith}
-use Rattle.rv_mem.proofs.Paging.{no_word, word_none, word_some}
+use Rattle.rv_mem.proofs.PageReads.{no_word, word_none, word_some}
 use Rattle.rv_mem.proofs.pages.Pages.word_at.Goals as goal
 
 pub returns-in_err-place : goal.returns-in_err-place

@@ -1,0 +1,308 @@
+-- Pages: runs of bytes, and their marks.
+use Rattle.std.proofs.Common.{◌^◌, ◌≡◌, ◌≢◌, ℕ, ◌+◌, ◌-◌, ◌*◌, ◌/◌, ◌%◌, ◌<◌, ◌≤◌, ◌==◌, ◌⊎◌, inl, inr, ⊎_elim, Bool, true, false, cond, zero, suc, nat_lt, length, take, drop, set, List, [], ◌∷◌, ◌++◌, Option, Some, None, refl, sym, ap, ◌∙◌, subst, arith, get_or-set_other, get_or-set_same}
+use Rattle.std.specs.Prelude.{slice_index, replicate}
+use Rattle.std.proofs.lemmas.Grind.{common_steps}
+use Rattle.std.specs.Option.{option_or}
+use Rattle.std.specs.Cmp.{nat_cmp_total}
+use Rattle.std.specs.FinMap.{get, insert, same_map, nat_cmp-IsAntisymmetric}
+use Rattle.rv_mem.specs.Bytes.{Bytes, byte_at, address_after, addresses}
+use Rattle.rv_mem.specs.Frames.{run_of, Puts, MarksRun, frame_of, cell, cell_at, ArePages, values_of}
+use Rattle.std.specs.Prelude.{slice_get}
+use Rattle.std.proofs.lemmas.Option.{slice_get-get_or, slice_get_past}
+use Rattle.std.proofs.lemmas.List.{length-replicate}
+use Rattle.std.proofs.Common.{add-zero, length-append, length-take, length-drop, get_or-take, get_or-drop}
+use Rattle.rv_mem.specs.Bytes.{with_bytes, added}
+use Rattle.rv_mem.specs.Segment.{byte_in}
+use Rattle.rv_mem.proofs.Lookups.{get_with}
+use Rattle.rv_mem.proofs.Accesses.{byte_at-insert}
+use Rattle.rv_mem.proofs.Paging.{eq_from_test, not_same, is_marked, no_frame, get_pages}
+use Rattle.rv_mem.proofs.PageWrites.{length_set}
+
+-- ---- a run of bytes
+
+-- what is at q where k bytes of a list, and zeros past its end, stand from base on
+abbrev pub run_at : ℕ → ℕ → List ℕ → ℕ → Option ℕ → Option ℕ
+run_at base k f q o = cond (nat_lt q base) o (cond (nat_lt q (base + k)) (Some (slice_index f (q - base))) o)
+
+run_start : (base : ℕ) (f : List ℕ) (q : ℕ) (o : Option ℕ) → o ≡ run_at base 0 f q o
+run_start base f q o = grind (arith, common_steps)
+
+pub starts : (base : ℕ) (f : List ℕ) (m : Bytes) (q : ℕ) → byte_at m q ≡ run_at base 0 f q (byte_at m q)
+starts base f m q = run_start base f q (byte_at m q)
+
+run_more : (base k : ℕ) (f : List ℕ) (q : ℕ) (o p : Option ℕ) → p ≡ run_at base k f q o → cond (q == base + k) (Some (slice_index f k)) p ≡ run_at base (k + 1) f q o
+run_more base k f q o p e = elim (q == base + k) as (λ r. (q == base + k) ≡ r → cond r (Some (slice_index f k)) p ≡ run_at base (k + 1) f q o) [
+  | true ↦ λ r.
+      let here : q ≡ base + k = eq_from_test q (base + k) r in
+      let x : nat_lt q base ≡ false = grind arith in
+      let y : nat_lt q (base + (k + 1)) ≡ true = grind arith in
+      let z : k ≡ q - base = omega arith in
+      ap (λ (j : ℕ). Some (slice_index f j)) z
+      ∙ ap (λ (b : Bool). cond b (Some (slice_index f (q - base))) o) (sym y)
+      ∙ ap (λ (b : Bool). cond b o (cond (nat_lt q (base + (k + 1))) (Some (slice_index f (q - base))) o)) (sym x)
+  | false ↦ λ r.
+      let other : q ≢ base + k = not_same q (base + k) r in
+      let y : nat_lt q (base + k) ≡ nat_lt q (base + (k + 1)) = grind arith in
+      e ∙ ap (λ (b : Bool). cond (nat_lt q base) o (cond b (Some (slice_index f (q - base))) o)) y
+] refl
+
+pub goes_on : (base k : ℕ) (f : List ℕ) (m m0 : Bytes) (b at : ℕ) → at ≡ base + k → b ≡ slice_index f k → (q : ℕ) → byte_at m q ≡ run_at base k f q (byte_at m0 q)
+    → byte_at (insert m at b) q ≡ run_at base (k + 1) f q (byte_at m0 q)
+goes_on base k f m m0 b at e g q h =
+    byte_at-insert m at b q
+    ∙ ap (λ (x : ℕ). cond (q == x) (Some b) (byte_at m q)) e
+    ∙ ap (λ (x : ℕ). cond (q == base + k) (Some x) (byte_at m q)) g
+    ∙ run_more base k f q (byte_at m0 q) (byte_at m q) h
+
+zeros_behind : (f : List ℕ) (n k : ℕ) → slice_index (f ++ replicate n 0) k ≡ slice_index f k
+zeros_behind [] zero k = refl
+zeros_behind [] (suc n) zero = refl
+zeros_behind [] (suc n) (suc k) = zeros_behind [] n k
+zeros_behind (x ∷ f) n zero = refl
+zeros_behind (x ∷ f) n (suc k) = zeros_behind f n k
+
+run_is : (base size : ℕ) (f bs : List ℕ) (q : ℕ) (o : Option ℕ) → length bs ≡ size → ((k : ℕ) → slice_index bs k ≡ slice_index f k) → run_at base size f q o ≡ option_or (byte_in base bs q) o
+run_is base size f bs q o many same = elim (nat_lt q base) as (λ r. nat_lt q base ≡ r → cond r o (cond (nat_lt q (base + size)) (Some (slice_index f (q - base))) o) ≡ option_or (cond r None (slice_get bs (q - base))) o) [
+  | true ↦ λ r. refl
+  | false ↦ λ r. elim (nat_lt q (base + size)) as (λ s. nat_lt q (base + size) ≡ s → cond s (Some (slice_index f (q - base))) o ≡ option_or (slice_get bs (q - base)) o) [
+    | true ↦ λ s.
+        let above : base ≤ q = grind arith in
+        let below : q < base + size = grind arith in
+        let in_bs : q - base < length bs = omega arith in
+        ap Some (sym (same (q - base))) ∙ ap (λ (x : Option ℕ). option_or x o) (sym (slice_get-get_or bs (q - base) 0 in_bs))
+    | false ↦ λ s.
+        let above : base ≤ q = grind arith in
+        let past : base + size ≤ q = grind arith in
+        let out : length bs ≤ q - base = omega arith in
+        ap (λ (x : Option ℕ). option_or x o) (sym (slice_get_past bs (q - base) out))
+  ] refl
+] refl
+
+pub filled : (base size : ℕ) (f : List ℕ) (m m0 : Bytes) → length f ≤ size → base + size ≤ 2 ^ 32 → ((q : ℕ) → byte_at m q ≡ run_at base size f q (byte_at m0 q)) → m ≡ added m0 base size f
+filled base size f m m0 few fits run =
+    let bs : List ℕ = f ++ replicate (size - length f) 0 in
+    let many : length bs ≡ size = rw (length-append, length-replicate) (omega arith) in
+    same_map nat_cmp_total nat_cmp-IsAntisymmetric _ _ (λ q.
+    run q ∙ run_is base size f bs q (byte_at m0 q) many (zeros_behind f (size - length f))
+    ∙ ap (λ (x : ℕ). option_or (byte_in x bs q) (byte_at m0 q)) (sym (add-zero base))
+    ∙ sym (get_with m0 base 0 bs q (omega (arith, many)))
+    ∙ ap (λ (n : ℕ). get (with_bytes m0 (addresses base n) bs) q) many)
+
+-- ---- runs in one page
+
+pub none_in_page : (t c : List ℕ) → ArePages t c → (at n : ℕ) → at % 4096 + n ≤ 4096 → slice_index t (at / 4096) ≡ 0 → (j : ℕ) → j < n → byte_at (values_of (cell_at t c)) (at + j) ≡ None
+none_in_page t c are at n room e j below =
+    let p : (at + j) / 4096 ≡ at / 4096 = omega arith in
+    get_pages t c are (at + j) ∙ no_frame t c are (at + j) (ap (slice_index t) p ∙ e)
+
+-- cells that are put one after another
+pub puts_none : (c : List ℕ) (p : ℕ) (value : ℕ → ℕ) → Puts c c p 0 value
+puts_none c p value = record { size = refl; inside = λ j h. absurd (omega arith); below = λ j h. refl; past = λ j h. refl }
+
+pub puts_one : (c d : List ℕ) (p n b : ℕ) (value : ℕ → ℕ) → Puts c d p n value → p + n < length d → b ≡ value n → Puts c (set d (p + n) b) p (n + 1) value
+puts_one c d p n b value so_far room e = record {
+  size = length_set d (p + n) b ∙ so_far.size;
+  inside = λ j h. elim (j == n) as (λ r. (j == n) ≡ r → slice_index (set d (p + n) b) (p + j) ≡ value j) [
+    | true ↦ λ r.
+        let same : j ≡ n = eq_from_test j n r in
+        ap (λ (x : ℕ). slice_index (set d (p + n) b) (p + x)) same ∙ get_or-set_same d (p + n) b 0 room ∙ e ∙ ap value (sym same)
+    | false ↦ λ r.
+        let other : j ≢ n = not_same j n r in
+        let elsewhere : p + j ≢ p + n = λ z. other (omega (arith, z)) in
+        let less : j < n = omega (arith, h, other) in
+        get_or-set_other d (p + n) (p + j) b 0 elsewhere ∙ so_far.inside j less
+  ] refl;
+  below = λ j h. let elsewhere : j ≢ p + n = λ z. omega (arith, z, h) in get_or-set_other d (p + n) j b 0 elsewhere ∙ so_far.below j h;
+  past = λ j h. let elsewhere : j ≢ p + n = λ z. omega (arith, z, h) in get_or-set_other d (p + n) j b 0 elsewhere ∙ so_far.past j (omega (arith, h));
+}
+
+-- a part of the cells is overwritten
+in_first : (xs ys : List ℕ) (j : ℕ) → j < length xs → slice_index (xs ++ ys) j ≡ slice_index xs j
+in_first [] ys j h = absurd (omega arith)
+in_first (x ∷ xs) ys zero h = refl
+in_first (x ∷ xs) ys (suc j) h = in_first xs ys j (omega arith)
+
+in_second : (xs ys : List ℕ) (n j : ℕ) → n ≡ length xs → slice_index (xs ++ ys) (n + j) ≡ slice_index ys j
+in_second [] ys n j e = let z : n + j ≡ j = omega arith in ap (slice_index ys) z
+in_second (x ∷ xs) ys n j e =
+    let z : n + j ≡ suc (length xs + j) = omega arith in
+    ap (slice_index (x ∷ xs ++ ys)) z ∙ in_second xs ys (length xs) j refl
+
+pub puts_part : (c ys : List ℕ) (p n : ℕ) (value : ℕ → ℕ) → p + n ≤ length c → length ys ≡ n → ((j : ℕ) → j < n → slice_index ys j ≡ value j) → Puts c (take p c ++ (ys ++ drop n (drop p c))) p n value
+puts_part c ys p n value room count is =
+    let front : length (take p c) ≡ p = let t = length-take p c in omega (arith, t, room) in
+    let left = length-drop n (drop p c) in
+    let right = length-drop p c in
+    record {
+      size = length-append (take p c) (ys ++ drop n (drop p c)) ∙ ap (λ (k : ℕ). length (take p c) + k) (length-append ys (drop n (drop p c)))
+          ∙ (omega (arith, front, left, right, count, room));
+      inside = λ j h. in_second (take p c) (ys ++ drop n (drop p c)) p j (sym front) ∙ in_first ys (drop n (drop p c)) j (omega (arith, h, count)) ∙ is j h;
+      below = λ j h. in_first (take p c) (ys ++ drop n (drop p c)) j (omega (arith, h, front)) ∙ get_or-take p c j 0 h;
+      past = λ j h.
+          let z : j ≡ p + (n + (j - p - n)) = omega arith in
+          ap (slice_index (take p c ++ (ys ++ drop n (drop p c)))) z
+          ∙ in_second (take p c) (ys ++ drop n (drop p c)) p (n + (j - p - n)) (sym front)
+          ∙ in_second ys (drop n (drop p c)) n (j - p - n) (sym count)
+          ∙ get_or-drop n (drop p c) (j - p - n) 0
+          ∙ get_or-drop p c (n + (j - p - n)) 0
+          ∙ ap (slice_index c) (sym z);
+    }
+
+-- bytes, zeros after them, and their marks
+pub marks_run : (c d e g : List ℕ) (p n given : ℕ) (f ys : List ℕ) (k : ℕ) → n ≤ 4096 → given ≤ n
+    → Puts c d p given (slice_index ys) → Puts d e (p + given) (n - given) (λ j. 0) → Puts e g (p + 4096) n (λ j. 1)
+    → ((j : ℕ) → j < given → slice_index ys j ≡ slice_index f (k + j)) → ((j : ℕ) → slice_index ys j < 256) → ((j : ℕ) → given ≤ j → j < n → slice_index f (k + j) ≡ 0)
+    → MarksRun c g p n f k
+marks_run c d e g p n given f ys k page some first zeros marks is small none = record {
+  size = marks.size ∙ zeros.size ∙ first.size;
+  written = λ j h. marks.below (p + j) (omega (arith, h, page)) ∙ elim (nat_lt j given) as (λ r. nat_lt j given ≡ r → slice_index e (p + j) ≡ slice_index f (k + j)) [
+    | true ↦ λ r.
+        let less : j < given = grind arith in
+        zeros.below (p + j) (omega (arith, less)) ∙ first.inside j less ∙ is j less
+    | false ↦ λ r.
+        let more : given ≤ j = grind arith in
+        let z : p + j ≡ p + given + (j - given) = omega (arith, more) in
+        ap (slice_index e) z ∙ zeros.inside (j - given) (omega (arith, more, h)) ∙ sym (none j more h)
+  ] refl;
+  small = λ j h. elim (nat_lt j given) as (λ r. nat_lt j given ≡ r → slice_index f (k + j) < 256) [
+    | true ↦ λ r. let less : j < given = grind arith in subst (λ (x : ℕ). x < 256) (is j less) (small j)
+    | false ↦ λ r. let more : given ≤ j = grind arith in let z : slice_index f (k + j) ≡ 0 = none j more h in omega (arith, z)
+  ] refl;
+  marks = marks.inside;
+  below = λ j h. marks.below j (omega (arith, h)) ∙ zeros.below j (omega (arith, h)) ∙ first.below j h;
+  between = λ j h l. marks.below j l ∙ zeros.past j (omega (arith, h, some)) ∙ first.past j (omega (arith, h, some));
+  past = λ j h. marks.past j h ∙ zeros.past j (omega (arith, h, some)) ∙ first.past j (omega (arith, h, some));
+}
+
+-- what such cells are in a table in which they lie in one page
+module _ (t c d : List ℕ) (are : ArePages t c) (at n : ℕ) (f : List ℕ) (k : ℕ) (frame : slice_index t (at / 4096) ≢ 0) (room : at % 4096 + n ≤ 4096)
+    (run : MarksRun c d (frame_of t at + at % 4096) n f k) where
+  frame_above : 8192 ≤ frame_of t at
+  frame_above = let h : 0 < slice_index t (at / 4096) = omega (arith, frame) in omega (arith, h)
+
+  small_run : (x : ℕ) → slice_index d x < 256
+  small_run x = elim (nat_lt x p) as (λ r. nat_lt x p ≡ r → slice_index d x < 256) [
+    | true ↦ λ r. let h : x < p = grind arith in as_before x (run.below x h)
+    | false ↦ λ r. elim (nat_lt x (p + n)) as (λ s. nat_lt x (p + n) ≡ s → slice_index d x < 256) [
+      | true ↦ λ s.
+          let h : p ≤ x = grind arith in
+          let l : x < p + n = grind arith in
+          let z : x ≡ p + (x - p) = omega (arith, h) in
+          let less : x - p < n = omega (arith, h, l) in
+          subst (λ (y : ℕ). y < 256) (sym (ap (slice_index d) z ∙ run.written (x - p) less)) (run.small (x - p) less)
+      | false ↦ λ s. elim (nat_lt x (p + 4096)) as (λ u. nat_lt x (p + 4096) ≡ u → slice_index d x < 256) [
+        | true ↦ λ u. let h : p + n ≤ x = grind arith in let l : x < p + 4096 = grind arith in as_before x (run.between x h l)
+        | false ↦ λ u. elim (nat_lt x (p + 4096 + n)) as (λ v. nat_lt x (p + 4096 + n) ≡ v → slice_index d x < 256) [
+          | true ↦ λ v.
+              let h : p + 4096 ≤ x = grind arith in
+              let l : x < p + 4096 + n = grind arith in
+              let z : x ≡ p + 4096 + (x - (p + 4096)) = omega (arith, h) in
+              let one : slice_index d x ≡ 1 = ap (slice_index d) z ∙ run.marks (x - (p + 4096)) (omega (arith, h, l)) in
+              omega (arith, one)
+          | false ↦ λ v. let h : p + 4096 + n ≤ x = grind arith in as_before x (run.past x h)
+        ] refl
+      ] refl
+    ] refl
+  ] refl
+    where
+      p : ℕ
+      p = frame_of t at + at % 4096
+
+      as_before : (x : ℕ) → slice_index d x ≡ slice_index c x → slice_index d x < 256
+      as_before x e = subst (λ (y : ℕ). y < 256) (sym e) (are.bytes x)
+
+  pub are_run : ArePages t d
+  are_run = record {
+    count = are.count;
+    whole = ap (λ (x : ℕ). x % 8192) run.size ∙ are.whole;
+    frames = λ p h. subst (λ (x : ℕ). (slice_index t p + 1) * 8192 ≤ x) (sym run.size) (are.frames p h);
+    none = λ j h. run.below (4096 + j) (let a = frame_above in omega (arith, a, h)) ∙ are.none j h;
+    apart = are.apart;
+    bytes = small_run;
+  }
+
+  -- in the run
+  inside_run : (j : ℕ) → j < n → cell_at t d (at + j) ≡ Some (slice_index f (k + j))
+  inside_run j h =
+      let page : (at + j) / 4096 ≡ at / 4096 = omega (arith, h, room) in
+      let rest : (at + j) % 4096 ≡ at % 4096 + j = omega (arith, h, room) in
+      let same : frame_of t (at + j) ≡ frame_of t at = ap (λ (x : ℕ). slice_index t x * 8192) page in
+      let place : frame_of t (at + j) + (at + j) % 4096 ≡ frame_of t at + at % 4096 + j = omega (arith, same, rest) in
+      let mark : frame_of t at + at % 4096 + j + 4096 ≡ frame_of t at + at % 4096 + 4096 + j = omega arith in
+      ap (cell d) place ∙ is_marked d (frame_of t at + at % 4096 + j) (ap (slice_index d) mark ∙ run.marks j h) ∙ ap Some (run.written j h)
+
+  -- elsewhere all stays
+  other_place : (q : ℕ) → ((q < at) ⊎ (at + n ≤ q)) → cell_at t d q ≡ cell_at t c q
+  other_place q out = elim (slice_index t (q / 4096) == slice_index t (at / 4096)) as (λ r. (slice_index t (q / 4096) == slice_index t (at / 4096)) ≡ r → cell_at t d q ≡ cell_at t c q) [
+    | true ↦ λ r.
+        let s : slice_index t (q / 4096) ≡ slice_index t (at / 4096) = eq_from_test (slice_index t (q / 4096)) (slice_index t (at / 4096)) r in
+        let page : at / 4096 ≡ q / 4096 = are.apart (at / 4096) (q / 4096) (sym s) frame in
+        ⊎_elim
+        (λ (h : q < at). stays q (run.below (frame_of t q + q % 4096) (omega (arith, h, page, s))) (run.between (frame_of t q + q % 4096 + 4096) (omega (arith, page, s, room)) (omega (arith, h, page, s))))
+        (λ (h : at + n ≤ q). stays q (run.between (frame_of t q + q % 4096) (omega (arith, h, page, s)) (omega (arith, page, s))) (run.past (frame_of t q + q % 4096 + 4096) (omega (arith, h, page, s))))
+        out
+    | false ↦ λ r.
+        let other : slice_index t (q / 4096) ≢ slice_index t (at / 4096) = not_same (slice_index t (q / 4096)) (slice_index t (at / 4096)) r in
+        elim (nat_lt (slice_index t (q / 4096)) (slice_index t (at / 4096))) as (λ s. nat_lt (slice_index t (q / 4096)) (slice_index t (at / 4096)) ≡ s → cell_at t d q ≡ cell_at t c q) [
+          | true ↦ λ s.
+              let less : slice_index t (q / 4096) < slice_index t (at / 4096) = grind arith in
+              stays q (run.below (frame_of t q + q % 4096) (omega (arith, less))) (run.below (frame_of t q + q % 4096 + 4096) (omega (arith, less)))
+          | false ↦ λ s.
+              let above : slice_index t (at / 4096) ≤ slice_index t (q / 4096) = grind arith in
+              let more : slice_index t (at / 4096) < slice_index t (q / 4096) = omega (arith, above, other) in
+              stays q (run.past (frame_of t q + q % 4096) (omega (arith, more, room))) (run.past (frame_of t q + q % 4096 + 4096) (omega (arith, more, room)))
+        ] refl
+  ] refl
+    where
+      stays : (q : ℕ) → slice_index d (frame_of t q + q % 4096) ≡ slice_index c (frame_of t q + q % 4096) → slice_index d (frame_of t q + q % 4096 + 4096) ≡ slice_index c (frame_of t q + q % 4096 + 4096) → cell_at t d q ≡ cell_at t c q
+      stays q byte mark =
+          let p = frame_of t q + q % 4096 in
+          ap (λ (x : ℕ). cond (x == 1) (Some (slice_index d p)) None) mark ∙ ap (λ (x : ℕ). cond (slice_index c (p + 4096) == 1) (Some x) None) byte
+
+  pub run_written : (q : ℕ) → cell_at t d q ≡ run_of at n f k q (cell_at t c q)
+  run_written q = elim (nat_lt q at) as (λ r. nat_lt q at ≡ r → cell_at t d q ≡ cond r (cell_at t c q) (cond (nat_lt q (at + n)) (Some (slice_index f (k + (q - at)))) (cell_at t c q))) [
+    | true ↦ λ r. let h : q < at = grind arith in other_place q (inl h)
+    | false ↦ λ r. elim (nat_lt q (at + n)) as (λ s. nat_lt q (at + n) ≡ s → cell_at t d q ≡ cond s (Some (slice_index f (k + (q - at)))) (cell_at t c q)) [
+      | true ↦ λ s.
+          let h : at ≤ q = grind arith in
+          let l : q < at + n = grind arith in
+          let z : q ≡ at + (q - at) = omega (arith, h) in
+          ap (cell_at t d) z ∙ inside_run (q - at) (omega (arith, h, l))
+      | false ↦ λ s. let h : at + n ≤ q = grind arith in other_place q (inr h)
+    ] refl
+  ] refl
+
+run_joins : (base d n : ℕ) (f : List ℕ) (q : ℕ) (o p : Option ℕ) → p ≡ run_at base d f q o → run_of (base + d) n f d q p ≡ run_at base (d + n) f q o
+run_joins base d n f q o p e = elim (nat_lt q (base + d)) as (λ r. nat_lt q (base + d) ≡ r → cond r p (cond (nat_lt q (base + d + n)) (Some (slice_index f (d + (q - (base + d))))) p) ≡ run_at base (d + n) f q o) [
+  | true ↦ λ r.
+      let y : nat_lt q (base + (d + n)) ≡ true = grind arith in
+      e ∙ ap (λ (b : Bool). cond (nat_lt q base) o (cond b (Some (slice_index f (q - base))) o)) (r ∙ sym y)
+  | false ↦ λ r.
+      let above : base + d ≤ q = grind arith in
+      let x : nat_lt q base ≡ false = grind arith in
+      let z : d + (q - (base + d)) ≡ q - base = omega arith in
+      let w : nat_lt q (base + d + n) ≡ nat_lt q (base + (d + n)) = let v : base + d + n ≡ base + (d + n) = omega arith in ap (nat_lt q) v in
+      let none : p ≡ o = e ∙ ap (λ (b : Bool). cond b o (cond (nat_lt q (base + d)) (Some (slice_index f (q - base))) o)) x ∙ ap (λ (b : Bool). cond b (Some (slice_index f (q - base))) o) r in
+      ap (λ (j : ℕ). cond (nat_lt q (base + d + n)) (Some (slice_index f j)) p) z
+      ∙ ap (λ (b : Bool). cond b (Some (slice_index f (q - base))) p) w
+      ∙ ap (λ (y : Option ℕ). cond (nat_lt q (base + (d + n))) (Some (slice_index f (q - base))) y) none
+      ∙ ap (λ (b : Bool). cond b o (cond (nat_lt q (base + (d + n))) (Some (slice_index f (q - base))) o)) (sym x)
+] refl
+
+pub goes_on_run : (base d n at : ℕ) (f : List ℕ) (q : ℕ) (o p r : Option ℕ) → at ≡ base + d → r ≡ run_of at n f d q p → p ≡ run_at base d f q o → r ≡ run_at base (d + n) f q o
+goes_on_run base d n at f q o p r e g h = g ∙ ap (λ (x : ℕ). run_of x n f d q p) e ∙ run_joins base d n f q o p h
+
+-- a run in the round of all addresses
+pub behind_run : (base d n at j : ℕ) → at ≡ (base + d) % 2 ^ 32 → at % 4096 + n ≤ 4096 → j < n → address_after base (d + j) ≡ at + j
+behind_run base d n at j e room below = omega arith
+
+pub none_further : (m : Bytes) (base d n at : ℕ) → at ≡ (base + d) % 2 ^ 32 → at % 4096 + n ≤ 4096 → ((j : ℕ) → j < d → byte_at m (address_after base j) ≡ None) → ((j : ℕ) → j < n → byte_at m (at + j) ≡ None)
+    → (j : ℕ) → j < d + n → byte_at m (address_after base j) ≡ None
+none_further m base d n at e room before more j below = elim (nat_lt j d) as (λ r. nat_lt j d ≡ r → byte_at m (address_after base j) ≡ None) [
+  | true ↦ λ r. let h : j < d = grind arith in before j h
+  | false ↦ λ r.
+      let above : d ≤ j = grind arith in
+      let k : d + (j - d) ≡ j = omega arith in
+      let small : j - d < n = omega arith in
+      ap (λ (x : ℕ). byte_at m (address_after base x)) (sym k) ∙ ap (byte_at m) (behind_run base d n at (j - d) e room small) ∙ more (j - d) small
+] refl
