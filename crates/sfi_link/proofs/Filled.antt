@@ -10,7 +10,7 @@ use Rattle.sfi_image.specs.declared.format.Format.{Format}
 use Rattle.sfi_rewrite.specs.Placed.{AreWhole, nothing}
 use Rattle.sfi_link.specs.Linked.{c_ebreak}
 use Rattle.sfi_link.proofs.Sizes.{size_of-append, size_even, size_fill}
-use Rattle.sfi_link.proofs.Clean.{ends_slots}
+use Rattle.sfi_link.proofs.CleanPlaces.{ends_slots}
 use Rattle.sfi_link.proofs.Region.{IsFull}
 
 -- ---- c.ebreaks

@@ -1,6 +1,7 @@
 pub mod Written
 pub mod Stuck
 pub mod Sizes
+pub mod CleanPlaces
 pub mod Clean
 pub mod Region
 pub mod Filled

@@ -23,7 +23,7 @@ use Rattle.sfi_link.specs.Addresses.{bases_of, of_name, target_of}
 use Rattle.sfi_link.specs.Code.{AreSlots}
 use Rattle.sfi_link.specs.Linked.{c_ebreak, needed, gates_from, IsLinked, AreLinkedFrom}
 use Rattle.sfi_link.proofs.Sizes.{size_of-append, size_fill}
-use Rattle.sfi_link.proofs.Clean.{AreStarts}
+use Rattle.sfi_link.proofs.CleanPlaces.{AreStarts}
 use Rattle.sfi_link.proofs.Region.{IsClosed, closed_is_clean, length_stubs}
 use Rattle.sfi_link.proofs.Filled.{filled}
 use Rattle.sfi_link.proofs.Parts.{code_at_most, sixteens, slots_length, listed_at, listed_only}

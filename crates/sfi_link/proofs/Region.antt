@@ -32,7 +32,8 @@ use Rattle.sfi_link.specs.Code.{AreSlots}
 use Rattle.sfi_link.proofs.Written.{wide_spells}
 use Rattle.sfi_link.proofs.Stuck.{whole_is_longest}
 use Rattle.sfi_link.proofs.Sizes.{size_cons}
-use Rattle.sfi_link.proofs.Clean.{AreStarts, ends_slots, ends_well, IsEndFine, IsCleanFrom, IsCleanly, clean, clean_fill, and_false}
+use Rattle.sfi_link.proofs.CleanPlaces.{AreStarts, ends_slots, ends_well, IsEndFine, IsCleanFrom, and_false}
+use Rattle.sfi_link.proofs.Clean.{IsCleanly, clean, clean_fill}
 
 -- ---- bundles by their number
 

@@ -37,7 +37,7 @@ use Rattle.sfi_link.specs.Linked.{c_ebreak, IsLinked, AreLinkedFrom}
 use Rattle.sfi_link.specs.Standing.{AreResolvedTo, LinkedSlotsStand, RunsAs, LinkedRunsAs, SandboxesRunAs, ImageRunsAs}
 use Rattle.sfi_link.specs.declared.fault.BuildFault.{BuildFault}
 use Rattle.sfi_link.specs.Texts.{IsTextBuild, Builds}
-use Rattle.sfi_link.proofs.Clean.{made}
+use Rattle.sfi_link.proofs.CleanPlaces.{made}
 use Rattle.sfi_link.proofs.Region.{AreCut, cut, length_stubs}
 use Rattle.sfi_link.proofs.Sizes.{size_of-append}
 use Rattle.sfi_link.proofs.Parts.{slots_length, code_at_most, linked_lies}

@@ -20,7 +20,7 @@ use Rattle.sfi_link.specs.declared.bases.Bases.{Bases}
 use Rattle.sfi_link.specs.Code.{IsSlot}
 use Rattle.sfi_link.specs.Standing.{IsResolvedTo, LinkedSlotsStand}
 use Rattle.sfi_link.proofs.Written.{spelled_length}
-use Rattle.sfi_link.proofs.Clean.{slot_spells}
+use Rattle.sfi_link.proofs.CleanPlaces.{slot_spells}
 use Rattle.sfi_link.proofs.Sizes.{size_cons}
 use Rattle.sfi_link.proofs.Parts.{slots_length}
 
