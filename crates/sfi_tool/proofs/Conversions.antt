@@ -19,7 +19,7 @@ use Rattle.sfi_tool.specs.Verdict.{refused_line}
 use Rattle.sfi_tool.specs.Says.{Says, IsStop, IsDone, IsRefused, HasInputFault, AnswersStatus, SaysConversion}
 use Rattle.sfi_tool.specs.declared.fault.Stop.{Stop}
 use Rattle.sfi_tool.specs.declared.fault.Stop.TheVariants as stop
-use Rattle.sfi_tool.specs.declared.job.Job.TheVariants.{Convert}
+use Rattle.sfi_command.specs.declared.job.Job.TheVariants.{Convert}
 use Rattle.sfi_tool.specs.declared.verdict.Answer.{Answer}
 
 -- ---- the text's bytes

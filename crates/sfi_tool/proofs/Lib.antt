@@ -1,6 +1,5 @@
 pub mod Digits
 pub mod KnownBytes
-pub mod Words
 pub mod Texts
 pub mod Streamed
 pub mod TooLarge

@@ -1,11 +1,11 @@
 -- A text above its limit.
 use Rattle.std.proofs.Common.{◌≡◌, ◌<◌, ℕ, true, false, List, Option, Some, None, length, inl, IfSome}
-use Rattle.sfi_tool.specs.Jobs.{is_raw}
+use Rattle.sfi_command.specs.Jobs.{is_raw}
 use Rattle.sfi_tool.specs.Input.{IsInput, limit}
 use Rattle.sfi_tool.specs.Says.{HasInputFault}
 use Rattle.sfi_tool.specs.declared.input.Input.TheVariants.{TooLarge}
-use Rattle.sfi_tool.specs.declared.job.Job.{Job}
-use Rattle.sfi_tool.specs.declared.job.Job.TheVariants.{Check, Dis, Build, Run, Convert}
+use Rattle.sfi_command.specs.declared.job.Job.{Job}
+use Rattle.sfi_command.specs.declared.job.Job.TheVariants.{Check, Dis, Build, Run, Convert}
 
 -- is a fault to each job that reads a text
 too_large : (job : Job) (text : List ℕ) → is_raw job ≡ false → limit < length text → HasInputFault job text

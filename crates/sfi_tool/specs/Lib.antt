@@ -1,6 +1,3 @@
-pub mod Numbers
-pub mod Jobs
-pub mod Command
 pub mod Input
 pub mod Hexadecimal
 pub mod Verdict

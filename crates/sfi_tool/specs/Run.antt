@@ -2,9 +2,9 @@
 use Rattle.std.specs.Prelude.{ℕ, ◌⊎◌, List, Option, IfSome}
 use Rattle.std.specs.Io.KnownBytes.{Appends}
 use Rattle.clap.specs.Walk.{Text}
-use Rattle.sfi_tool.specs.Command.{Asks, AsksNoInput}
+use Rattle.sfi_command.specs.Command.{Asks, AsksNoInput}
 use Rattle.sfi_tool.specs.Says.{Says, HasInputFault}
-use Rattle.sfi_tool.specs.declared.job.Job.{Job}
+use Rattle.sfi_command.specs.declared.job.Job.{Job}
 
 -- the words ask for a job, and its answer on the bytes read, with this status, was written
 pub record WritesAnswer (words : List Text) (input old new : Option (List ℕ)) (status : ℕ) : Type 0 where

@@ -21,8 +21,8 @@ use Rattle.sfi_tool.specs.RunLines.{IsRunText}
 use Rattle.sfi_tool.specs.Verdict.{accepted_line, refused_line}
 use Rattle.sfi_tool.specs.declared.fault.Stop.{Stop}
 use Rattle.sfi_tool.specs.declared.fault.Stop.TheVariants as stop
-use Rattle.sfi_tool.specs.declared.job.Job.{Job}
-use Rattle.sfi_tool.specs.declared.job.Job.TheVariants.{Check, Dis, Build, Run, Convert}
+use Rattle.sfi_command.specs.declared.job.Job.{Job}
+use Rattle.sfi_command.specs.declared.job.Job.TheVariants.{Check, Dis, Build, Run, Convert}
 use Rattle.sfi_tool.specs.declared.verdict.Answer.{Answer}
 
 -- ---- status 0 and 1, with the text that is printed

@@ -1,17 +1,17 @@
 //! What a job answers on the text that was read.
 
 ghost use Rattle.std.specs.Prelude.{◌≡◌, ◌≤◌, ◌<◌, false, IfOk, string_bytes};
-ghost use Rattle.sfi_tool.specs.Jobs.{is_raw};
+ghost use Rattle.sfi_command.specs.Jobs.{is_raw};
 ghost use Rattle.sfi_tool.specs.Says.{HasInputFault, IsDone, IsRefused, Says};
 
 use crate::building::built;
 use crate::checking::checked;
 use crate::converting::conversion_answer;
 use crate::fault::{Stop, build_line, input_line, layout_line};
-use crate::job::Job;
 use crate::listing::listed;
 use crate::ran::ran;
 use crate::verdict::Answer;
+use sfi_command::Job;
 use std::alloc::{AllocError, Global};
 
 /// What the job answers on the text that was read: what it was to print, or the line of a fault. A job that reads an image's

@@ -4,7 +4,7 @@ ghost use Rattle.std.specs.Prelude.{◌≡◌, ◌++◌, IfOk, IfErr, IsErr, str
 ghost use Rattle.hex.specs.Hex.{encode_lower};
 ghost use Rattle.sfi_report.specs.Digits.{line_end};
 ghost use Rattle.sfi_tool.specs.Says.{AnswersStatus, HasInputFault, IsDone, IsSourceStop, IsSourceText, IsStop, Says};
-ghost use Rattle.sfi_tool.specs.declared.job.Job.TheVariants.{Build};
+ghost use Rattle.sfi_command.specs.declared.job.Job.TheVariants.{Build};
 
 use crate::fault::{InputFault, Stop, build_stop};
 use crate::input::INPUT_LIMIT;

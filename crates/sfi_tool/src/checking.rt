@@ -7,7 +7,7 @@ ghost use Rattle.sfi_image.specs.Faults.{IsFault};
 ghost use Rattle.sfi_check.specs.Verdict.{IsAccepted, HasFindings};
 ghost use Rattle.sfi_scan.specs.declared.finding.Finding.{Finding};
 ghost use Rattle.sfi_tool.specs.Says.{AnswersStatus, HasInputFault, IsDone, IsRefusalStop, IsRefusalText, IsRefused, IsReportOf, IsStop, Refuses, Says, SaysRefused};
-ghost use Rattle.sfi_tool.specs.declared.job.Job.TheVariants.{Check};
+ghost use Rattle.sfi_command.specs.declared.job.Job.TheVariants.{Check};
 
 use crate::fault::Stop;
 use crate::hexadecimal::bytes_of;

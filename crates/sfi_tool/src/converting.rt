@@ -5,7 +5,7 @@ ghost use Rattle.sfi_check.specs.declared.conversion.ConvertFault.TheVariants.{R
 ghost use Rattle.sfi_tool.specs.Converting.{AnswersConvertFault, HoldsSome};
 ghost use Rattle.sfi_tool.specs.Says.{AnswersStatus, HasInputFault, IsDone, IsRefused, IsStop, Says};
 ghost use Rattle.sfi_tool.specs.Verdict.{refused_line};
-ghost use Rattle.sfi_tool.specs.declared.job.Job.TheVariants.{Convert};
+ghost use Rattle.sfi_command.specs.declared.job.Job.TheVariants.{Convert};
 
 use crate::building::digits_line;
 use crate::fault::{InputFault, Stop};

@@ -4,12 +4,10 @@
 mod answering;
 mod building;
 mod checking;
-mod command_line;
 mod converting;
 mod fault;
 mod hexadecimal;
 mod input;
-mod job;
 mod listing;
 mod output;
 mod plan;
@@ -20,8 +18,7 @@ mod running;
 mod verdict;
 
 pub use answering::answer;
-pub use command_line::job_of;
-pub use job::{Job, JobFault};
 pub use output::write_out;
 pub use running::run_tool;
+pub use sfi_command::{Job, JobFault, job_of};
 pub use verdict::Answer;

@@ -2,7 +2,7 @@
 
 ghost use Rattle.std.specs.Prelude.{IfOk, IfErr, IsErr, string_bytes};
 ghost use Rattle.sfi_tool.specs.Says.{AnswersStatus, HasInputFault, IsDone, IsStop, Says};
-ghost use Rattle.sfi_tool.specs.declared.job.Job.TheVariants.{Dis};
+ghost use Rattle.sfi_command.specs.declared.job.Job.TheVariants.{Dis};
 
 use crate::fault::Stop;
 use crate::hexadecimal::bytes_of;

@@ -2,7 +2,7 @@
 
 ghost use Rattle.std.specs.Prelude.{◌≡◌, ◌<◌, ◌≤◌, true, false, IfOk, IfSome, string_bytes};
 ghost use Rattle.sfi_tool.specs.Says.{HasInputFault, Says};
-ghost use Rattle.sfi_tool.specs.declared.job.Job.TheVariants.{Check};
+ghost use Rattle.sfi_command.specs.declared.job.Job.TheVariants.{Check};
 
 use crate::fault::{fault_numbered, layout_line};
 use crate::input::ReadStop;

@@ -2,18 +2,17 @@
 
 ghost use Rattle.std.specs.Prelude.{◌≡◌, ◌<◌, ◌≤◌, ◌≢◌, ℕ, List, true, false, IfSome, map, string_bytes};
 ghost use Rattle.std.specs.Io.KnownBytes.{Appends};
-ghost use Rattle.sfi_tool.specs.Command.{AsksNothing};
+ghost use Rattle.sfi_command.specs.Command.{AsksNothing};
 ghost use Rattle.sfi_tool.specs.Run.{WritesAnswer, MeetsFault};
 ghost use Rattle.sfi_tool.specs.Says.{HasInputFault, Says};
-ghost use Rattle.sfi_tool.specs.declared.job.Job.TheVariants.{Check};
+ghost use Rattle.sfi_command.specs.declared.job.Job.TheVariants.{Check};
 
 use crate::answering::answer;
-use crate::command_line::job_of;
 use crate::fault::TOO_LARGE_LINE;
 use crate::input::{Input, ReadStop, read_input};
-use crate::job::JobFault;
 use crate::output::write_out;
 use crate::raw::raw_answer;
+use sfi_command::{JobFault, job_of};
 use std::alloc::Global;
 use std::io::{Read, Write};
 

@@ -1,9 +1,9 @@
 use Rattle.std.proofs.Common.{◌≡◌, ◌∙◌, ℕ, Bool, false, List, Result, Ok, IfOk, string_bytes, ap, sym, subst}
 use Rattle.sfi_tool.specs.Says.{Says}
 use Rattle.sfi_tool.specs.declared.fault.Stop.{Stop}
-use Rattle.sfi_tool.specs.Jobs.{is_raw}
-use Rattle.sfi_tool.specs.declared.job.Job.{Job}
-use Rattle.sfi_tool.specs.declared.job.Job.TheVariants.{Check}
+use Rattle.sfi_command.specs.Jobs.{is_raw}
+use Rattle.sfi_command.specs.declared.job.Job.{Job}
+use Rattle.sfi_command.specs.declared.job.Job.TheVariants.{Check}
 use Rattle.sfi_tool.specs.declared.verdict.Answer.{Answer}
 use Rattle.sfi_tool.proofs.answering.answer.Goals.{in-Check, in-Dis, in-Build, in-Run, in-Convert}
 use Rattle.sfi_tool.proofs.answering.answer.Goals as goal

@@ -21,12 +21,12 @@ use Rattle.clap.specs.Simple.{App, is_simple, subcommand_of, subcommand_rows, Ha
 use Rattle.clap.specs.declared.parser.matches.ArgMatches.{ArgMatches}
 use Rattle.clap.specs.declared.parser.matches.ArgMatches.TheViews.{out-ArgMatches}
 use Rattle.clap.proofs.OnLiterals.{clap_on_literals}
-use Rattle.sfi_tool.specs.Command.{sfi, quantum_most, rounds_most, Names, NamesNoInput, NamesNothing, Asks, IsCount, IsFaultOf, IsFaultOfNamed, IsInputFault, IsInputOf, IsNoInput}
-use Rattle.sfi_tool.specs.Numbers.{number_of}
-use Rattle.sfi_tool.specs.declared.job.Job.{Job}
-use Rattle.sfi_tool.specs.declared.job.Job.TheVariants.{Check, Dis, Build, Run, Convert}
-use Rattle.sfi_tool.specs.declared.job.JobFault.{JobFault}
-use Rattle.sfi_tool.specs.declared.job.JobFault.TheVariants.{Usage, Hex, Memory}
+use Rattle.sfi_command.specs.Command.{sfi, quantum_most, rounds_most, Names, NamesNoInput, NamesNothing, Asks, IsCount, IsFaultOf, IsFaultOfNamed, IsInputFault, IsInputOf, IsNoInput}
+use Rattle.sfi_command.specs.Numbers.{number_of}
+use Rattle.sfi_command.specs.declared.job.Job.{Job}
+use Rattle.sfi_command.specs.declared.job.Job.TheVariants.{Check, Dis, Build, Run, Convert}
+use Rattle.sfi_command.specs.declared.job.JobFault.{JobFault}
+use Rattle.sfi_command.specs.declared.job.JobFault.TheVariants.{Usage, Hex, Memory}
 
 -- the crate's definitions give the matches of the command line, and its faults
 pub simple : is_simple sfi ≡ true

@@ -1,7 +1,7 @@
 use Rattle.std.proofs.Common.{arith}
 use Rattle.clap.specs.Matches.{found_of}
-use Rattle.sfi_tool.proofs.Words.{counted, out_of_range, no_number, unfound}
-use Rattle.sfi_tool.proofs.command_line.count_of.Goals as goal
+use Rattle.sfi_command.proofs.Words.{counted, out_of_range, no_number, unfound}
+use Rattle.sfi_command.proofs.command_line.count_of.Goals as goal
 
 pub returns-in_err-text-clause-none : goal.returns-in_err-text-clause-none
 returns-in_err-text-clause-none c none = unfound (found_of c.args.found.now) c.args.option.now c.args.most c.in_err-text.ensures

@@ -1,7 +1,7 @@
 use Rattle.std.proofs.Common.{codes}
 use Rattle.clap.specs.Matches.{found_of}
-use Rattle.sfi_tool.proofs.Words.{no_input, decoded_input, undecoded}
-use Rattle.sfi_tool.proofs.command_line.input_of.Goals as goal
+use Rattle.sfi_command.proofs.Words.{no_input, decoded_input, undecoded}
+use Rattle.sfi_command.proofs.command_line.input_of.Goals as goal
 
 pub returns-in_default-clause-bytes : goal.returns-in_default-clause-bytes
 returns-in_default-clause-bytes c = no_input (found_of c.args.found.now) (codes "input") c.new.result.items c.in_default.ensures c.new.ensures.items

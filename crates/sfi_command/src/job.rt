@@ -1,9 +1,9 @@
 //! What the words of a command line ask for.
 
 ghost use Rattle.std.specs.Prelude.{◌≡◌};
-ghost use Rattle.sfi_tool.specs.Jobs.{is_raw};
-ghost use Rattle.sfi_tool.specs.Numbers.{number_of};
-ghost use Rattle.sfi_tool.specs.declared.job.JobFault.TheVariants.{Memory};
+ghost use Rattle.sfi_command.specs.Jobs.{is_raw};
+ghost use Rattle.sfi_command.specs.Numbers.{number_of};
+ghost use Rattle.sfi_command.specs.declared.job.JobFault.TheVariants.{Memory};
 
 use std::alloc::AllocError;
 use thiserror::Error;

@@ -1,8 +1,8 @@
 use Rattle.std.proofs.Common.{Some, codes}
 use Rattle.clap.specs.Matches.{found_of}
 use Rattle.clap.specs.Walk.{rows_of}
-use Rattle.sfi_tool.proofs.Words.{no_rounds, no_quantum, usage_of_named}
-use Rattle.sfi_tool.proofs.command_line.run_of.Goals as goal
+use Rattle.sfi_command.proofs.Words.{no_rounds, no_quantum, usage_of_named}
+use Rattle.sfi_command.proofs.command_line.run_of.Goals as goal
 
 pub returns-in_default-clause-fault : goal.returns-in_default-clause-fault
 returns-in_default-clause-fault c =

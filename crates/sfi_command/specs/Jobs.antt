@@ -1,7 +1,7 @@
 -- What a job reads.
 use Rattle.std.specs.Prelude.{Bool, false}
-use Rattle.sfi_tool.specs.declared.job.Job.{Job}
-use Rattle.sfi_tool.specs.declared.job.Job.TheVariants.{Check, Dis, Build, Run, Convert}
+use Rattle.sfi_command.specs.declared.job.Job.{Job}
+use Rattle.sfi_command.specs.declared.job.Job.TheVariants.{Check, Dis, Build, Run, Convert}
 
 -- whether the job reads an image's own bytes, and no text
 abbrev pub is_raw : Job → Bool

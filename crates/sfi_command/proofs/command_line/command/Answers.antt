@@ -1,8 +1,8 @@
 use Rattle.std.proofs.Common.{◌≡◌, ◌∙◌, ap, ap₂, rules}
 use Rattle.std.proofs.lemmas.Result.{IfOk-weaker}
 use Rattle.clap.specs.Simple.{App, app_of, with_subcommand}
-use Rattle.sfi_tool.specs.Command.{program}
-use Rattle.sfi_tool.proofs.command_line.command.Goals as goal
+use Rattle.sfi_command.specs.Command.{program}
+use Rattle.sfi_command.proofs.command_line.command.Goals as goal
 
 pub returns : goal.returns
 returns c =

@@ -5,8 +5,8 @@ ghost use Rattle.clap.specs.Matches.{found_of};
 ghost use Rattle.clap.specs.Simple.{app_of};
 ghost use Rattle.clap.specs.Values.{kind_of};
 ghost use Rattle.clap.specs.Walk.{first_of, rows_of, rule_of};
-ghost use Rattle.sfi_tool.specs.Command.{check, count_rule, flag_rule, quantum_most, rounds_most, run, sfi, Asks, IsFaultOf, IsCommandOf, IsCount, IsFaultOfNamed, IsGiven, IsInputFault, IsInputOf, Names};
-ghost use Rattle.sfi_tool.specs.Numbers.{number_of};
+ghost use Rattle.sfi_command.specs.Command.{check, count_rule, flag_rule, quantum_most, rounds_most, run, sfi, Asks, IsFaultOf, IsCommandOf, IsCount, IsFaultOfNamed, IsGiven, IsInputFault, IsInputOf, Names};
+ghost use Rattle.sfi_command.specs.Numbers.{number_of};
 
 use crate::job::{Job, JobFault};
 use clap::error::ErrorKind;

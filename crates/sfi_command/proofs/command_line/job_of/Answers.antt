@@ -1,6 +1,6 @@
 use Rattle.std.proofs.Common.{None, map, string_bytes}
-use Rattle.sfi_tool.proofs.Words.{parsed, met, unmet, asked, unasked, unparsed, fault_asked, none_asked}
-use Rattle.sfi_tool.proofs.command_line.job_of.Goals as goal
+use Rattle.sfi_command.proofs.Words.{parsed, met, unmet, asked, unasked, unparsed, fault_asked, none_asked}
+use Rattle.sfi_command.proofs.command_line.job_of.Goals as goal
 
 pub returns-in-Some-clause-job : goal.returns-in-Some-clause-job
 returns-in-Some-clause-job c =
