@@ -75,15 +75,12 @@ fn run_command<'a>(alloc: Global) -> Result<Command<'a>, AllocError>
 fn command<'a>(alloc: Global) -> Result<Command<'a>, AllocError>
     ensures { IfOk result (λ c. app_of c ≡ sfi) }
 {
-    let check = check_command(alloc)?;
-    let dis = Command::new(alloc, "dis");
-    let build = Command::new(alloc, "build");
-    let run = run_command(alloc)?;
     let program = Command::new(alloc, "sfi").subcommand_required(true);
-    let convert = Command::new(alloc, "convert");
-    let program = program.subcommand(check)?.subcommand(dis)?;
-    let running = program.subcommand(build)?.subcommand(run)?;
-    running.subcommand(convert)
+    let program = program.subcommand(check_command(alloc)?)?;
+    let program = program.subcommand(Command::new(alloc, "dis"))?;
+    let program = program.subcommand(Command::new(alloc, "build"))?;
+    let program = program.subcommand(run_command(alloc)?)?;
+    program.subcommand(Command::new(alloc, "convert"))
 }
 
 /// What is printed for words that don't parse, or ask for help.

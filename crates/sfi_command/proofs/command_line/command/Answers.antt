@@ -7,14 +7,14 @@ use Rattle.sfi_command.proofs.command_line.command.Goals as goal
 pub returns : goal.returns
 returns c =
     let program_is : app_of c.subcommand_required-program.result ≡ program = search rules in
-    let with_check = c.in_ok-subcommand.ensures.shape c.in_ok-check.ensures.local
-    ∙ ap₂ with_subcommand program_is (ap (λ (a : App). a.top) c.in_ok-check.ensures.shape_is) in
-    let with_dis = c.in_ok-program.ensures.shape c.new-dis.ensures.local
-    ∙ ap₂ with_subcommand with_check (ap (λ (a : App). a.top) c.new-dis.ensures.app) in
-    let with_build = c.in_ok-subcommand-2.ensures.shape c.new-build.ensures.local
-    ∙ ap₂ with_subcommand with_dis (ap (λ (a : App). a.top) c.new-build.ensures.app) in
-    let with_run = c.in_ok-running.ensures.shape c.in_ok-run.ensures.local
-    ∙ ap₂ with_subcommand with_build (ap (λ (a : App). a.top) c.in_ok-run.ensures.shape_is) in
+    let with_check = c.in_ok-program.ensures.shape c.in_ok-check_command.ensures.local
+    ∙ ap₂ with_subcommand program_is (ap (λ (a : App). a.top) c.in_ok-check_command.ensures.shape_is) in
+    let with_dis = c.in_ok-program-2.ensures.shape c.new-2.ensures.local
+    ∙ ap₂ with_subcommand with_check (ap (λ (a : App). a.top) c.new-2.ensures.app) in
+    let with_build = c.in_ok-program-3.ensures.shape c.new-3.ensures.local
+    ∙ ap₂ with_subcommand with_dis (ap (λ (a : App). a.top) c.new-3.ensures.app) in
+    let with_run = c.in_ok-program-4.ensures.shape c.in_ok-run_command.ensures.local
+    ∙ ap₂ with_subcommand with_build (ap (λ (a : App). a.top) c.in_ok-run_command.ensures.shape_is) in
     IfOk-weaker c.subcommand-5.result _ _
-    (λ r h. h.shape c.new-convert.ensures.local ∙ ap₂ with_subcommand with_run (ap (λ (a : App). a.top) c.new-convert.ensures.app))
+    (λ r h. h.shape c.new-4.ensures.local ∙ ap₂ with_subcommand with_run (ap (λ (a : App). a.top) c.new-4.ensures.app))
     c.subcommand-5.ensures
