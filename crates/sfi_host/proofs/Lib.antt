@@ -11,6 +11,7 @@ pub mod Moving
 pub mod Neighbours
 pub mod Owning
 pub mod Plans
+pub mod Posting
 pub mod Replying
 pub mod Runs
 pub mod Serving

@@ -1,26 +1,32 @@
--- What a console answers: a function of the outputs and of the places in the input, and of a call.
-use Rattle.std.specs.Prelude.{ℕ, ◌+◌, ◌-◌, ◌^◌, ◌==◌, nat_le, ◌&&◌, Bool, true, false, List, [], ◌∷◌, ◌++◌, length, take, drop, replicate, Option, Some, None, slice_get, slice_set, if◌then◌else◌}
+-- What a console answers: a function of what it keeps of each sandbox, and of a call.
+use Rattle.std.specs.Prelude.{ℕ, ◌+◌, ◌-◌, ◌^◌, ◌==◌, nat_le, nat_lt, ◌&&◌, Bool, true, false, List, [], ◌∷◌, ◌++◌, length, take, drop, replicate, Option, Some, None, slice_get, slice_set, if◌then◌else◌}
 use Rattle.std.specs.List.{range_with_len}
 use Rattle.std.specs.Option.{option_map}
 use Rattle.rv_mem.specs.Bytes.{with_bytes}
 use Rattle.sfi_host.specs.Guests.{data_from}
 use Rattle.sfi_host.specs.Hosts.{Call, Replied, Yield, Exit, Answer}
+use Rattle.sfi_host.specs.Messages.{Message}
 
 -- ---- what a console keeps
 
--- of a sandbox: its output, and how many bytes of the input it has read
+-- of a sandbox: its output, how many bytes of the input it has read, and the messages in its mailbox, the oldest first
 pub record SessionState : Type 0 where
   pub output : List ℕ
   pub place : ℕ
+  pub mailbox : List Message
 
 -- the input, and of each sandbox, by number, what is kept
 pub record ConsoleState : Type 0 where
   pub input : List ℕ
   pub sessions : List SessionState
 
--- at first each sandbox has an empty output and has read nothing
+-- nothing is written, read or posted
+abbrev pub new_session : SessionState
+new_session = record { output = []; place = 0; mailbox = [] }
+
+-- at first that holds of each sandbox
 abbrev pub new_console : ℕ → List ℕ → ConsoleState
-new_console sandboxes input = record { input = input; sessions = replicate sandboxes (record { output = []; place = 0 }) }
+new_console sandboxes input = record { input = input; sessions = replicate sandboxes new_session }
 
 -- the output of a sandbox; None where there is none of that number
 abbrev pub output_of : ConsoleState → ℕ → Option (List ℕ)
@@ -55,7 +61,7 @@ appended x c = if nat_le (length x.output + c.a1) most_output then handed c else
 
 abbrev pub put_bytes : SessionState → Call → Option (List ℕ) → Answer SessionState
 put_bytes x c None = replied c failed x
-put_bytes x c (Some bytes) = replied c c.a1 (record { output = x.output ++ bytes; place = x.place })
+put_bytes x c (Some bytes) = replied c c.a1 (record x { output = x.output ++ bytes })
 
 abbrev pub put : SessionState → Call → Answer SessionState
 put x c = put_bytes x c (appended x c)
@@ -76,7 +82,7 @@ get_bytes x c next = record {
     a1 = c.a1;
     bytes = with_bytes c.bytes (range_with_len c.a0 (length next)) next;
   };
-  host = record { output = x.output; place = x.place + length next };
+  host = record x { place = x.place + length next };
 }
 
 -- it is refused where the bytes at those a1 addresses couldn't be handed over
@@ -87,21 +93,66 @@ get_if input x c (Some old) = get_bytes x c (take c.a1 (drop x.place input))
 abbrev pub get : List ℕ → SessionState → Call → Answer SessionState
 get input x c = get_if input x c (handed c)
 
+-- ---- post: the caller's word goes to the end of the mailbox of the sandbox that a0 names
+
+-- how many messages a mailbox may have
+abbrev pub most_messages : ℕ
+most_messages = 16
+
+-- a1 and the caller's number
+abbrev pub message_of : Call → Message
+message_of c = record { sender = c.caller; word = c.a1 }
+
+-- the session with one message more in its mailbox
+abbrev pub with_message : SessionState → Message → SessionState
+with_message x m = record x { mailbox = x.mailbox ++ m ∷ [] }
+
+-- the console with another session of a sandbox
+abbrev pub with_session : ConsoleState → ℕ → SessionState → ConsoleState
+with_session s i x = record s { sessions = slice_set s.sessions i x }
+
+-- a0 becomes 0, or 1 where the mailbox is full; where there is no such sandbox the call is refused
+abbrev pub post_to : ConsoleState → Call → Option SessionState → Answer ConsoleState
+post_to s c None = replied c failed s
+post_to s c (Some x) =
+    if nat_lt (length x.mailbox) most_messages
+    then replied c 0 (with_session s c.a0 (with_message x (message_of c)))
+    else replied c 1 s
+
+abbrev pub post : ConsoleState → Call → Answer ConsoleState
+post s c = post_to s c (slice_get s.sessions c.a0)
+
+-- ---- take: the oldest message leaves the caller's mailbox
+
+-- a0 becomes its word and a1 its sender plus 1, or both 0 where the mailbox is empty
+abbrev pub take_oldest : SessionState → Call → List Message → Answer SessionState
+take_oldest x c [] = record { reply = record { way = Replied; a0 = 0; a1 = 0; bytes = c.bytes }; host = x }
+take_oldest x c (m ∷ ms) = record {
+  reply = record { way = Replied; a0 = m.word; a1 = m.sender + 1; bytes = c.bytes };
+  host = record x { mailbox = ms };
+}
+
+abbrev pub take_message : SessionState → Call → Answer SessionState
+take_message x c = take_oldest x c x.mailbox
+
 -- ---- all services
 
--- what a caller is answered that has a session: 1 is put, 2 is get, and no other is served
+-- what needs the caller's session alone: 1 is put, 2 is get, 5 is take, and no other is served
 abbrev pub serve : List ℕ → SessionState → Call → Answer SessionState
 serve input x c =
     if c.service == 1 then put x c
     else if c.service == 2 then get input x c
+    else if c.service == 5 then take_message x c
     else replied c failed x
 
 -- its session goes on in the console
+abbrev pub serve_own : ConsoleState → Call → SessionState → Answer ConsoleState
+serve_own s c x = let a = serve s.input x c in record { reply = a.reply; host = with_session s c.caller a.host }
+
+-- 4 is post; a caller that has no session is refused
 abbrev pub serve_if : ConsoleState → Call → Option SessionState → Answer ConsoleState
 serve_if s c None = replied c failed s
-serve_if s c (Some x) =
-    let a = serve s.input x c in
-    record { reply = a.reply; host = record { input = s.input; sessions = slice_set s.sessions c.caller a.host } }
+serve_if s c (Some x) = if c.service == 4 then post s c else serve_own s c x
 
 -- the caller has stopped, with a0 as its number
 abbrev pub exits : ConsoleState → Call → Answer ConsoleState

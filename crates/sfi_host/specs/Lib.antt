@@ -3,6 +3,7 @@ pub mod Slots
 pub mod Hosts
 pub mod Guests
 pub mod Answering
+pub mod Messages
 pub mod Consoles
 pub mod Joint
 pub mod Solo

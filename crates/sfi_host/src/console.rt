@@ -1,18 +1,25 @@
 //! The host of `sfi run`.
-ghost use Rattle.std.specs.Prelude.{◌≡◌, IfOk, length};
+ghost use Rattle.std.specs.Prelude.{◌≡◌, ◌<◌, IfOk, length};
 ghost use Rattle.std.specs.Option.{option_map};
-ghost use Rattle.sfi_host.specs.Consoles.{new_console, output_of};
+ghost use Rattle.sfi_host.specs.Answering.{IsAnswered, LeavesOthers};
+ghost use Rattle.sfi_host.specs.Consoles.{new_console, output_of, post};
+ghost use Rattle.sfi_host.specs.Guests.{asked, HasData, SameMemory};
 
 use crate::gates::{GateAnswer, Gates};
 use crate::guest::Guest;
 use crate::handing::refuse;
-use crate::services::{EXIT, YIELD};
+use crate::message::Message;
+use crate::services::{EXIT, POST, YIELD};
 use crate::session::Session;
 use rv_mem::Memory;
 use std::alloc::{AllocError, Global};
 use std::marker::Model;
 
-/// A host that keeps what each sandbox writes, and lets each read the same input from its beginning, at its own pace.
+/// a0 of a post to a mailbox that is full.
+const FULL: u32 = 1;
+
+/// A host that keeps what each sandbox writes, lets each read the same input from its beginning, at its own pace, and keeps
+/// a mailbox of at most 16 messages for each.
 ///
 /// | service | what it does |
 /// |---|---|
@@ -20,10 +27,15 @@ use std::marker::Model;
 /// | 1 put | the a1 bytes from a0 on are appended to the caller's output; a0 becomes a1 |
 /// | 2 get | the next bytes of the input, a1 at most, are written from a0 on; a0 becomes their count |
 /// | 3 yield | the caller goes on in its next turn |
+/// | 4 post | a1, with the caller's number, goes to the end of the mailbox of sandbox a0; a0 becomes 0, or 1 where that mailbox is full |
+/// | 5 take | the first message leaves the caller's mailbox: a0 becomes its word and a1 its sender plus 1, or both 0 where there is none |
 ///
-/// Put and get are refused, with a0 as ffffffff and nothing else done, where a1 is above 65536 or one of the a1 addresses from
-/// a0 on isn't one of the caller's data region; put also where the output would have more than 1048576 bytes. So are all
-/// other services, and put and get of a caller whose number isn't below the count of sandboxes.
+/// A refused call sets a0 to ffffffff and does nothing else. Put and get are refused where a1 is above 65536 or one of the a1
+/// addresses from a0 on isn't one of the caller's data region; put also where the output would have more than 1048576 bytes;
+/// post where there is no sandbox a0. A sandbox may post to itself, and to one that has stopped. All other services are refused,
+/// and all but exit and yield of a caller whose number isn't below the count of sandboxes.
+///
+/// Only a put that appends bytes takes memory: the mailboxes' room is made with the console.
 #[derive(Drop)]
 pub struct Console {
     input: Vec<u8>,
@@ -31,11 +43,14 @@ pub struct Console {
 }
 
 impl Model for Console {
+    ghost use Rattle.std.specs.Prelude.{◌<◌, ◌^◌, length};
     ghost use Rattle.sfi_host.specs.Consoles.{ConsoleState};
 
     ghost Value = { ConsoleState };
 
     ghost view = { λ c. record { input = c.input.items; sessions = c.sessions.items } };
+
+    ghost invariant = { λ c. length c.sessions.items < 2 ^ 32 };
 }
 
 impl Console {
@@ -58,6 +73,26 @@ impl Console {
         let session = self.sessions.get(sandbox as usize)?;
         Some(session.output())
     }
+
+    // The caller's word goes to the end of the mailbox of the sandbox that a0 names.
+    fn post<M: Memory>(&mut self, guest: &mut Guest<'_, M>) -> GateAnswer
+        requires has_data { HasData M.bytes guest.old }
+        requires known { (asked M.bytes guest.old).caller < length self.old.sessions }
+        ensures same_reference { SameMemory guest.old guest.new }
+        ensures others { LeavesOthers M.bytes guest.old guest.new }
+        ensures replied { result ≡ GateAnswer.Replied }
+        ensures answered { IsAnswered (post self.old) M.bytes guest.old guest.new self.new result }
+    {
+        let Some(session) = self.sessions.get_mut(guest.arg0() as usize) else {
+            return refuse(guest);
+        };
+        let message = Message {
+            sender: guest.sandbox(),
+            word: guest.arg1(),
+        };
+        guest.set0(if session.deliver(message) { 0 } else { FULL });
+        GateAnswer::Replied
+    }
 }
 
 impl Gates for Console {
@@ -73,9 +108,13 @@ impl Gates for Console {
             YIELD => return GateAnswer::Yield,
             _ => {}
         }
-        let Some(session) = self.sessions.get_mut(guest.sandbox() as usize) else {
+        let caller = guest.sandbox() as usize;
+        if caller >= self.sessions.len() {
             return refuse(guest);
-        };
-        session.serve(&self.input, guest)
+        }
+        if guest.service() == POST {
+            return self.post(guest);
+        }
+        self.sessions[caller].serve(&self.input, guest)
     }
 }

@@ -15,6 +15,7 @@ mod guest;
 mod handing;
 pub mod laws;
 mod loading;
+mod message;
 mod plan;
 mod program;
 mod region;

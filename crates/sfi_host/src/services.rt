@@ -7,3 +7,7 @@ pub const PUT: u32 = 1;
 pub const GET: u32 = 2;
 
 pub const YIELD: u32 = 3;
+
+pub const POST: u32 = 4;
+
+pub const TAKE: u32 = 5;

@@ -1,13 +1,16 @@
 //! What a console keeps of one sandbox.
-ghost use Rattle.std.specs.Prelude.{◌≡◌, take, drop, []};
+ghost use Rattle.std.specs.Prelude.{◌≡◌, ◌<◌, ◌↔◌, IsTrue, length, take, drop};
+ghost use Rattle.std.specs.Bool.{OnTrue, OnFalse};
 ghost use Rattle.sfi_host.specs.Answering.{IsAnswered, IsRefused, LeavesOthers};
 ghost use Rattle.sfi_host.specs.Guests.{HasData, SameMemory};
-ghost use Rattle.sfi_host.specs.Consoles.{appended, put, get, has_bytes, serve, may_want};
+ghost use Rattle.sfi_host.specs.Consoles.{new_session, appended, put, get, has_bytes, most_messages, with_message, take_message, serve, may_want};
 
 use crate::gates::GateAnswer;
 use crate::guest::Guest;
 use crate::handing::{append, may_hand, refuse, write};
-use crate::services::{GET, PUT};
+use crate::message::Message;
+use crate::services::{GET, PUT, TAKE};
+use arrayvec::ArrayVec;
 use rv_mem::Memory;
 use std::alloc::Global;
 use std::marker::Model;
@@ -15,11 +18,16 @@ use std::marker::Model;
 /// How many bytes an output may have.
 const MOST_OUTPUT: usize = 1_048_576;
 
-/// The output of a sandbox, and how many bytes of the input it has read.
+/// How many messages a mailbox may have.
+const MOST_MESSAGES: usize = 16;
+
+/// The output of a sandbox, how many bytes of the input it has read, and the messages in its mailbox, which lie in the
+/// session itself.
 #[derive(Drop)]
 pub struct Session {
     output: Vec<u8>,
     place: usize,
+    mailbox: ArrayVec<Message, MOST_MESSAGES>,
 }
 
 impl Model for Session {
@@ -27,7 +35,7 @@ impl Model for Session {
 
     ghost Value = { SessionState };
 
-    ghost view = { λ s. record { output = s.output.items; place = s.place } };
+    ghost view = { λ s. record { output = s.output.items; place = s.place; mailbox = s.mailbox.items } };
 }
 
 /// At most so many bytes of the input, from a place on.
@@ -39,13 +47,14 @@ fn next_bytes(input: &[u8], place: usize, most: usize) -> &[u8]
 }
 
 impl Session {
-    /// Nothing is written, and nothing read.
+    /// Nothing is written, read or posted.
     pub fn new(alloc: Global) -> Session
-        ensures { result ≡ record { output = []; place = 0 } }
+        ensures { result ≡ new_session }
     {
         Session {
             output: Vec::new(alloc),
             place: 0,
+            mailbox: ArrayVec::new(),
         }
     }
 
@@ -93,7 +102,33 @@ impl Session {
         GateAnswer::Replied
     }
 
-    /// Serves put and get, and refuses all other services.
+    // The oldest message leaves the mailbox.
+    fn take<M: Memory>(&mut self, guest: &mut Guest<'_, M>) -> GateAnswer
+        requires has_data { HasData M.bytes guest.old }
+        ensures same_reference { SameMemory guest.old guest.new }
+        ensures others { LeavesOthers M.bytes guest.old guest.new }
+        ensures replied { result ≡ GateAnswer.Replied }
+        ensures answered { IsAnswered (take_message self.old) M.bytes guest.old guest.new self.new result }
+    {
+        let (word, from) = match self.mailbox.pop_at(0) {
+            Some(message) => (message.word, message.sender + 1),
+            None => (0, 0),
+        };
+        guest.set0(word);
+        guest.set1(from);
+        GateAnswer::Replied
+    }
+
+    /// Appends a message to the mailbox; `false` where that is full, and then nothing changed.
+    pub fn deliver(&mut self, message: Message) -> bool
+        ensures room { IsTrue result ↔ length self.old.mailbox < most_messages }
+        ensures delivered { OnTrue result (self.new ≡ with_message self.old message) }
+        ensures full { OnFalse result (self.new ≡ self.old) }
+    {
+        self.mailbox.try_push(message).is_ok()
+    }
+
+    /// Serves put, get and take, and refuses all other services.
     pub fn serve<M: Memory>(&mut self, input: &[u8], guest: &mut Guest<'_, M>) -> GateAnswer
         requires has_data { HasData M.bytes guest.old }
         ensures same_reference { SameMemory guest.old guest.new }
@@ -104,6 +139,7 @@ impl Session {
         match guest.service() {
             PUT => self.put(guest),
             GET => self.get(input, guest),
+            TAKE => self.take(guest),
             _ => refuse(guest),
         }
     }

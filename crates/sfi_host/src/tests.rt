@@ -150,11 +150,11 @@ fn a_console_serves(rt: HostRuntime) {
         (request(0, 2, DATA + 8, 9), GateAnswer::Replied, 0),
         (request(0, 2, 0, 0), GateAnswer::Replied, 0),
         // No other service is served, and no caller without a session.
-        (request(0, 4, 1, 8), GateAnswer::Replied, FAILED),
-        (request(0, 5, 1, 8), GateAnswer::Replied, FAILED),
         (request(0, 6, 1, 8), GateAnswer::Replied, FAILED),
         (request(2, 1, DATA, 1), GateAnswer::Replied, FAILED),
         (request(2, 2, DATA, 1), GateAnswer::Replied, FAILED),
+        (request(2, 4, 1, 8), GateAnswer::Replied, FAILED),
+        (request(2, 5, 1, 8), GateAnswer::Replied, FAILED),
     ];
     for (request, answer, a0) in cases {
         let told = call(&mut console, &mut memory, request);
@@ -167,6 +167,40 @@ fn a_console_serves(rt: HostRuntime) {
     assert_eq!(rt; memory.load(DATA + 4, Width::Two), Some(0x0061));
     assert_eq!(rt; memory.load(DATA + 8, Width::Two), Some(0x0063));
     assert_eq!(rt; memory.load(DATA + 256, Width::One), Some(2));
+}
+
+#[test]
+fn a_console_passes_words_on(rt: HostRuntime) {
+    let mut memory = memory(&rt, rt.alloc(), &[72, 105]);
+    let mut console = Console::new(rt.alloc(), 2, &[]).expect(&rt, "memory");
+    let cases = [
+        // Post: to the other, to itself, and to none.
+        (request(0, 4, 1, 7), 0, 7),
+        (request(1, 4, 1, FAILED), 0, FAILED),
+        (request(0, 4, 2, 9), FAILED, 9),
+        (request(0, 4, FAILED, 9), FAILED, 9),
+        // Take: each has a mailbox of its own.
+        (request(0, 5, 3, 4), 0, 0),
+        (request(1, 5, 3, 4), 7, 1),
+        (request(1, 5, 3, 4), FAILED, 2),
+        (request(1, 5, 3, 4), 0, 0),
+    ];
+    for (request, a0, a1) in cases {
+        let told = call(&mut console, &mut memory, request);
+        assert_eq!(rt; told, (GateAnswer::Replied, a0, a1), "{request:?}");
+    }
+    // A mailbox holds 16 words, and gives them back in their order.
+    for word in 100..117 {
+        let told = call(&mut console, &mut memory, request(1, 4, 0, word));
+        let a0 = if word < 116 { 0 } else { 1 };
+        assert_eq!(rt; told, (GateAnswer::Replied, a0, word));
+    }
+    for word in 100..116 {
+        let told = call(&mut console, &mut memory, request(0, 5, 0, 0));
+        assert_eq!(rt; told, (GateAnswer::Replied, word, 2));
+    }
+    let told = call(&mut console, &mut memory, request(0, 5, 0, 0));
+    assert_eq!(rt; told, (GateAnswer::Replied, 0, 0));
 }
 
 /// The head of an image with one sandbox: code 256 at 01000000, data 256 at 01800000, start 01000000, no gates, no first data bytes.

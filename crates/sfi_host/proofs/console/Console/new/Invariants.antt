@@ -1,5 +1,6 @@
-use Rattle.std.proofs.Common.{◌≡◌, [], replicate}
+use Rattle.std.proofs.Common.{◌≡◌, replicate}
+use Rattle.sfi_host.specs.Consoles.{new_session}
 use Rattle.sfi_host.proofs.console.Console.new.Given as goal
 
 abbrev pub invariant-loop : goal.invariant-loop
-invariant-loop l = l.sessions.items ≡ replicate l.counter (record { output = []; place = 0 })
+invariant-loop l = l.sessions.items ≡ replicate l.counter new_session

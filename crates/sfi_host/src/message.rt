@@ -1,0 +1,24 @@
+//! What one sandbox posts to another.
+
+use std::marker::Model;
+
+/// A word and the number of the sandbox that posted it.
+#[derive(Clone, Copy, Debug, Default, PartialEq, Eq)]
+pub struct Message {
+    pub sender: u32,
+    pub word: u32,
+}
+
+impl Model for Message {
+    ghost use Rattle.std.specs.Prelude.{◌-◌, ◌^◌, ◌<◌};
+    ghost use Rattle.sfi_host.specs.Messages.{Message as Posted};
+
+    ghost Value = { Posted };
+
+    ghost view = { λ m. record { sender = m.sender; word = m.word } };
+
+    // So that the sender plus 1 is a word.
+    ghost invariant = { λ m. m.sender < 2 ^ 32 - 1 };
+
+    ghost inverse = { λ m. record { sender = m.sender; word = m.word } };
+}
