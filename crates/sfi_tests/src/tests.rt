@@ -9,6 +9,7 @@ mod image;
 mod image_reading;
 mod link;
 mod listing;
+mod neighbours;
 mod report;
 mod runs;
 mod scan;

@@ -15,24 +15,14 @@ pub(super) const READS: &str =
 pub(super) const WRITES: &str =
     "5346493101000000000000010001000000008001000100002000000102000000020000000000000101000000100000010000000073000000b3ff9001b3ef8f0167800f0073000000b3ff9001b3ef8f0167800f00370580011305050093052000eff05ffd37058001130505000100010001000100b37fb501b3efaf0103c51f00eff05ffc";
 
-// The same as a second sandbox, with its code at 02000000 and its data at 02800000.
-const WRITES_SECOND: &str =
-    "000000020001000000008002000100002000000202000000020000000000000201000000100000020000000073000000b3ff9001b3ef8f0167800f0073000000b3ff9001b3ef8f0167800f00370580021305050093052000eff05ffd37058002130505000100010001000100b37fb501b3efaf0103c51f00eff05ffc";
-
 // One sandbox: code 256 bytes at 01000000, data 256 at 01800000, start at the code's first byte, no gates, no first data bytes.
 const ONE: &str = "534649310100000000000001000100000000800100010000000000010000000000000000";
-
-// The same as the first of two.
-const TWO: &str = "534649310200000000000001000100000000800100010000000000010000000000000000";
-
-// A store through a pair, and ebreak.
-const STORES: &str = "b37fb501b3efaf0123a0bf0073001000";
 
 // A store on a pair's first half.
 const STORES_LOOSELY: &str = "b37fb50123a0bf00";
 
 // ebreak.
-const EBREAK: &str = "73001000";
+pub(super) const EBREAK: &str = "73001000";
 
 // c.ebreak, which fills up a code region.
 pub(super) const FILL: &str = "0290";
@@ -113,37 +103,6 @@ fn one_sandbox_runs(rt: HostRuntime) -> Result<(), Fail> {
         } = run(alloc, line, &input)?;
         assert_eq!(rt; text.as_slice(), said.as_bytes(), "{line}");
         assert_eq!(rt; given, status, "{line}");
-    }
-    Ok(())
-}
-
-#[test]
-fn two_sandboxes_run(rt: HostRuntime) -> Result<(), Fail> {
-    let alloc = rt.alloc();
-    let input = text_of(
-        alloc,
-        &[
-            (TWO, 1),
-            (STORES, 1),
-            (EBREAK, 60),
-            (WRITES_SECOND, 1),
-            (FILL, 88),
-            ("4869", 1),
-        ],
-    )?;
-    let said =
-        "sandbox=0 trap=Break at=0100000c steps=3 out=\nsandbox=1 exit=105 steps=19 out=4869\n";
-    for line in [
-        "sfi run --rounds 1000 --quantum 1",
-        "sfi run --rounds 1000 --quantum 3",
-        "sfi run --rounds 1000 --quantum 1000",
-    ] {
-        let Outcome {
-            status: given,
-            text,
-        } = run(alloc, line, &input)?;
-        assert_eq!(rt; text.as_slice(), said.as_bytes(), "{line}");
-        assert_eq!(rt; given, 0, "{line}");
     }
     Ok(())
 }
