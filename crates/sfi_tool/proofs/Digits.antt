@@ -60,6 +60,16 @@ decodes_low digits rest bytes c h v e d = record {
   leads = more bytes (h * 16 + v) (decode_pairs (d.index + 2) rest) ∙ ap (prepend bytes) (sym (rw (pair_ok d.index d.digit c h v d.is_digit e) refl)) ∙ d.leads;
 }
 
+-- both digits are met at once
+pub decodes_pair : (digits rest bytes : List ℕ) (a b byte : ℕ) → ((i : ℕ) → pair_value a b i ≡ Ok byte) → Decodes digits (a ∷ b ∷ rest) bytes None → Decodes digits rest (bytes ++ byte ∷ []) None
+unfolding decode_pairs
+decodes_pair digits rest bytes a b byte pair d = record {
+  index = d.index + 2;
+  digit = 0;
+  is_digit = tt;
+  leads = more bytes byte (decode_pairs (d.index + 2) rest) ∙ ap (prepend bytes) (sym (rw (pair d.index) refl)) ∙ d.leads;
+}
+
 -- ---- the ends
 
 err_of : (digits : List ℕ) → IsErr (decode_pairs 0 digits) → IsErr (decode_of digits)

@@ -4,3 +4,5 @@ pub mod Texts
 pub mod Streamed
 pub mod TooLarge
 pub mod Conversions
+pub mod Classes
+pub mod Reading

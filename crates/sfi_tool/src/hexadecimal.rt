@@ -1,29 +1,58 @@
 //! Hexadecimal text with white space in it.
 
-ghost use Rattle.std.specs.Prelude.{◌≡◌, ◌≤◌, ℕ, List, not, IfOk, IfErr, IsErr, Ok, filter, length};
-ghost use Rattle.hex.specs.Hex.{decode_of, hex_digit_value};
+ghost use Rattle.std.specs.Prelude.{◌≡◌, ◌≤◌, ℕ, List, not, IfOk, IfErr, IfSome, IsErr, Ok, filter, length, slice_index, true};
+ghost use Rattle.sfi_tool.specs.declared.hexadecimal.TheConstants.{CLASSES};
+ghost use Rattle.hex.specs.Hex.{decode_of, hex_digit_value, pair_value};
 ghost use Rattle.sfi_tool.specs.Hexadecimal.{is_kept, GivesBytes, IsInputStop, IsNoHexadecimal, IsUnreadable, SpellsBytes};
 
 use crate::fault::{InputFault, Stop};
 use crate::input::INPUT_LIMIT;
-use std::alloc::{AllocError, Global};
+use std::alloc::Global;
 
+// The class of white space. The class of a digit is its value.
+const WHITE: u8 = 16;
+
+/// The class of each byte: a digit's value, [`WHITE`], or 32 for what is neither.
+const CLASSES: [u8; 256] = [
+    32, 32, 32, 32, 32, 32, 32, 32, 32, 16, 16, 32, 32, 16, 32, 32, // 0x00
+    32, 32, 32, 32, 32, 32, 32, 32, 32, 32, 32, 32, 32, 32, 32, 32, // 0x10
+    16, 32, 32, 32, 32, 32, 32, 32, 32, 32, 32, 32, 32, 32, 32, 32, // 0x20
+    0, 1, 2, 3, 4, 5, 6, 7, 8, 9, 32, 32, 32, 32, 32, 32, // 0x30
+    32, 10, 11, 12, 13, 14, 15, 32, 32, 32, 32, 32, 32, 32, 32, 32, // 0x40
+    32, 32, 32, 32, 32, 32, 32, 32, 32, 32, 32, 32, 32, 32, 32, 32, // 0x50
+    32, 10, 11, 12, 13, 14, 15, 32, 32, 32, 32, 32, 32, 32, 32, 32, // 0x60
+    32, 32, 32, 32, 32, 32, 32, 32, 32, 32, 32, 32, 32, 32, 32, 32, // 0x70
+    32, 32, 32, 32, 32, 32, 32, 32, 32, 32, 32, 32, 32, 32, 32, 32, // 0x80
+    32, 32, 32, 32, 32, 32, 32, 32, 32, 32, 32, 32, 32, 32, 32, 32, // 0x90
+    32, 32, 32, 32, 32, 32, 32, 32, 32, 32, 32, 32, 32, 32, 32, 32, // 0xa0
+    32, 32, 32, 32, 32, 32, 32, 32, 32, 32, 32, 32, 32, 32, 32, 32, // 0xb0
+    32, 32, 32, 32, 32, 32, 32, 32, 32, 32, 32, 32, 32, 32, 32, 32, // 0xc0
+    32, 32, 32, 32, 32, 32, 32, 32, 32, 32, 32, 32, 32, 32, 32, 32, // 0xd0
+    32, 32, 32, 32, 32, 32, 32, 32, 32, 32, 32, 32, 32, 32, 32, 32, // 0xe0
+    32, 32, 32, 32, 32, 32, 32, 32, 32, 32, 32, 32, 32, 32, 32, 32, // 0xf0
+];
+
+#[inline(always)]
+fn class_of(byte: u8) -> u8
+    ensures { result ≡ slice_index CLASSES byte }
+{
+    CLASSES[byte as usize]
+}
+
+#[tactic(auto, using(crate::proofs::Classes::class_white))]
 fn is_white(byte: u8) -> bool
     ensures { result ≡ not (is_kept byte) }
 {
-    matches!(byte, b' ' | b'\t' | b'\r' | b'\n')
+    class_of(byte) == WHITE
 }
 
 /// The number of a digit of either case.
+#[tactic(auto, using(crate::proofs::Classes::class_digit_some, crate::proofs::Classes::class_digit_none))]
 fn digit_value(digit: u8) -> Option<u8>
     ensures { result ≡ hex_digit_value digit }
 {
-    match digit {
-        b'A'..=b'F' => Some(digit - b'A' + 10),
-        b'a'..=b'f' => Some(digit - b'a' + 10),
-        b'0'..=b'9' => Some(digit - b'0'),
-        _ => None,
-    }
+    let value = class_of(digit);
+    if value < WHITE { Some(value) } else { None }
 }
 
 /// How many bytes aren't white space.
@@ -43,6 +72,21 @@ fn digit_fault(text: &[u8], at: usize) -> InputFault
     }
 }
 
+/// The byte of two digits. No branch tells figures from letters.
+#[inline(always)]
+fn byte_of(high: u8, low: u8) -> Option<u8>
+    ensures pair { IfSome result (λ byte. (i : ℕ) → pair_value high low i ≡ Ok byte) }
+    ensures kept { IfSome result (λ byte. (is_kept high ≡ true) × (is_kept low ≡ true)) }
+{
+    let first = class_of(high);
+    let second = class_of(low);
+    if first | second < WHITE {
+        Some(first * 16 + second)
+    } else {
+        None
+    }
+}
+
 /// The bytes that the text's digits spell, each made as its second digit is met.
 fn decoded(alloc: Global, text: &[u8]) -> Result<Vec<u8>, Stop>
     ensures bytes { IfOk result (λ v. decode_of (filter is_kept text.now) ≡ Ok v.items) }
@@ -50,22 +94,31 @@ fn decoded(alloc: Global, text: &[u8]) -> Result<Vec<u8>, Stop>
 {
     let mut bytes = Vec::with_capacity(alloc, text.len() / 2)?;
     let mut high = None;
-    for (k, byte) in text.iter().enumerate() {
-        if is_white(*byte) {
+    let mut at: usize = 0;
+    while at < text.len() {
+        if high.is_none()
+            && at + 1 < text.len()
+            && let Some(byte) = byte_of(text[at], text[at + 1])
+        {
+            bytes.push_reserved(byte);
+            at += 2;
             continue;
         }
-        let Some(value) = digit_value(*byte) else {
-            return Err(Stop::Input(digit_fault(text, k)));
+        if is_white(text[at]) {
+            at += 1;
+            continue;
+        }
+        let Some(value) = digit_value(text[at]) else {
+            return Err(Stop::Input(digit_fault(text, at)));
         };
         high = match high {
             None => Some(value),
             Some(first) => {
-                if let Err(refused) = bytes.push(first * 16 + value) {
-                    return Err(AllocError::from(refused).into());
-                }
+                bytes.push_reserved(first * 16 + value);
                 None
             }
         };
+        at += 1;
     }
     match high {
         None => Ok(bytes),

@@ -1,9 +1,10 @@
-use Rattle.std.proofs.Common.{drop}
-use Rattle.std.specs.Prelude.{filter}
-use Rattle.sfi_tool.specs.Hexadecimal.{is_kept}
-use Rattle.sfi_tool.proofs.Digits.{Decodes}
+use Rattle.std.proofs.Common.{length, ◌-◌}
+use Rattle.sfi_tool.proofs.Reading.{Reads}
 use Rattle.sfi_tool.proofs.hexadecimal.decoded.Given as goal
 
 -- the bytes so far, with what waits, lead to those of the text
-abbrev pub invariant-loop-k : goal.invariant-loop-k
-invariant-loop-k l = Decodes (filter is_kept l.text) (filter is_kept (drop l.k l.text)) l.bytes.items l.high
+abbrev pub invariant-loop-at : goal.invariant-loop-at
+invariant-loop-at l = Reads l.text l.at l.bytes l.high
+
+abbrev pub decreases-loop-at : goal.decreases-loop-at
+decreases-loop-at l = length l.text - l.at

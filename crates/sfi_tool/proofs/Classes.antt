@@ -1,0 +1,78 @@
+-- The table of the bytes' classes, seen right at each byte.
+use Rattle.std.proofs.Common.{◌≡◌, ℕ, ◌<◌, ◌+◌, ◌*◌, ◌==◌, ◌≤◌, Bool, true, false, refl, sym, ap, ◌∙◌, subst, arith, zero-add, Option, Some, None, Ok}
+use Rattle.std.specs.Prelude.{not, slice_index, nat_lt, if◌then◌else◌}
+use Rattle.std.specs.List.{list_all, range_with_len}
+use Rattle.std.proofs.lemmas.List.FromFn.{length-range_with_len, get_or-range_with_len}
+use Rattle.std.proofs.lemmas.List.Sums.{AllPass-from_list_all}
+use Rattle.std.proofs.lemmas.Bool.Decides.{nat_tests}
+use Rattle.std.specs.Int.Bits.{bit_or}
+use Rattle.std.proofs.lemmas.Nat.{le_or_l, le_or_r}
+use Rattle.hex.specs.Hex.{hex_digit_value, pair_value, digit_or_error, value_at}
+use Rattle.sfi_tool.specs.Hexadecimal.{is_kept}
+use Rattle.sfi_tool.specs.declared.hexadecimal.TheConstants.{CLASSES}
+
+-- a test that passes at each byte by computation
+below_256 : (test : ℕ → Bool) → list_all test (range_with_len 0 256) ≡ true → (r : ℕ) → r < 256 → test r ≡ true
+below_256 test h r lt = subst (λ k. test k ≡ true) (get_or-range_with_len 0 256 r 0 lt ∙ zero-add r) (AllPass-from_list_all test (range_with_len 0 256) h r 0 (omega (arith, length-range_with_len 0 256)))
+
+abbrev same : Option ℕ → Option ℕ → Bool
+same None None = true
+same None (Some b) = false
+same (Some a) None = false
+same (Some a) (Some b) = a == b
+
+same_is : (a b : Option ℕ) → same a b ≡ true → a ≡ b
+same_is None None h = refl
+same_is None (Some b) h = cc h
+same_is (Some a) None h = cc h
+same_is (Some a) (Some b) h = ap Some (grind (arith, nat_tests))
+
+-- the digit's value of a class
+abbrev pub of_class : ℕ → Option ℕ
+of_class k = if nat_lt k 16 then Some k else None
+
+pub class_digit : (c : ℕ) → c < 256 → of_class (slice_index CLASSES c) ≡ hex_digit_value c
+class_digit c lt = same_is _ _ (below_256 (λ b. same (of_class (slice_index CLASSES b)) (hex_digit_value b)) refl c lt)
+
+abbrev alike : Bool → Bool → Bool
+alike true b = b
+alike false b = not b
+
+alike_is : (a b : Bool) → alike a b ≡ true → a ≡ b
+alike_is true b h = sym h
+alike_is false true h = cc h
+alike_is false false h = refl
+
+pub class_white : (c : ℕ) → c < 256 → (slice_index CLASSES c == 16) ≡ not (is_kept c)
+class_white c lt = alike_is _ _ (below_256 (λ b. alike (slice_index CLASSES b == 16) (not (is_kept b))) refl c lt)
+
+pub class_digit_some : (c k : ℕ) → c < 256 → k ≡ slice_index CLASSES c → k < 16 → hex_digit_value c ≡ Some k
+class_digit_some c k lt is small =
+    let e : nat_lt (slice_index CLASSES c) 16 ≡ true = grind (arith, nat_tests, is, small) in
+    sym (class_digit c lt) ∙ rw (e, is) refl
+
+pub class_digit_none : (c : ℕ) → c < 256 → 16 ≤ slice_index CLASSES c → None ≡ hex_digit_value c
+class_digit_none c lt large =
+    let e : nat_lt (slice_index CLASSES c) 16 ≡ false = grind (arith, nat_tests, large) in
+    rw (← class_digit c lt, e) refl
+
+-- a digit isn't white
+kept_or : ℕ → Option ℕ → Bool
+kept_or c None = true
+kept_or c (Some v) = is_kept c
+
+pub digit_kept : (c v : ℕ) → c < 256 → hex_digit_value c ≡ Some v → is_kept c ≡ true
+unfolding kept_or
+digit_kept c v lt e = sym (ap (kept_or c) e) ∙ below_256 (λ b. kept_or b (hex_digit_value b)) refl c lt
+
+pub both_small : (a b : ℕ) → bit_or a b < 16 → (a < 16) × (b < 16)
+both_small a b h = (omega (arith, h, le_or_l a b), omega (arith, h, le_or_r a b))
+
+pub pair_is : (a b h v : ℕ) → hex_digit_value a ≡ Some h → hex_digit_value b ≡ Some v → (i : ℕ) → pair_value a b i ≡ Ok (h * 16 + v)
+pair_is a b h v e f i =
+    let high : value_at a i ≡ Ok h = ap (digit_or_error a i) e in
+    let low : value_at b (i + 1) ≡ Ok v = ap (digit_or_error b (i + 1)) f in
+    rw (high, low) refl
+
+pub digit_small : (c v : ℕ) → hex_digit_value c ≡ Some v → v < 16
+digit_small c v e = grind (arith, nat_tests, e)
