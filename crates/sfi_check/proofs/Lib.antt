@@ -7,6 +7,9 @@ pub mod Going
 pub mod Leaving
 pub mod Masks
 pub mod Needed
+pub mod OneVerdict
+pub mod NeededBundles
+pub mod Undecodable
 pub mod Places
 pub mod Readings
 pub mod Running

@@ -1,91 +1,170 @@
--- The samples: their layout, how they are entered, and their steps.
-use Rattle.std.proofs.Common.{◌≡◌, ℕ, zero, suc, ◌+◌, ◌-◌, ◌*◌, ◌%◌, ◌^◌, ◌<◌, ◌≤◌, ◌⊎◌, List, [], ◌∷◌, ◌++◌, length, replicate, take, drop, true, Some, inl, inr, refl, sym, ap, subst, ◌∙◌, arith, get_or-drop, get_or-take}
-use Rattle.std.specs.Prelude.{slice_index, nat_lt}
-use Rattle.std.specs.List.{list_all}
+-- The samples: their layout, their image, where they are entered, and their steps.
+use Rattle.std.proofs.Common.{◌≡◌, ℕ, zero, suc, ◌+◌, ◌-◌, ◌*◌, ◌%◌, ◌^◌, ◌<◌, ◌≤◌, ◌⊎◌, List, [], ◌∷◌, ◌++◌, length, replicate, take, drop, Option, Some, inl, inr, refl, sym, ap, subst, ◌∙◌, arith, get_or, get_or-drop, get_or-take, length-append, length-take, length-drop}
+use Rattle.std.specs.Prelude.{slice_index, true, nat_lt}
+use Rattle.std.specs.List.{All, list_all}
 use Rattle.std.proofs.lemmas.Bool.{and_parts, ltb-true}
 use Rattle.rv_word.specs.declared.instr.Instr.{Instr}
+use Rattle.rv_word.specs.declared.instr.Instr.TheVariants.{Ecall, Ebreak}
 use Rattle.rv_comp.specs.Fronts.{Spells}
 use Rattle.rv_comp.specs.declared.front.Front.TheVariants.{Read}
 use Rattle.rv_mem.specs.Bytes.{Bytes, byte_at, bytes_at, addresses, address_after}
 use Rattle.rv_step.specs.Access.{Accesses}
-use Rattle.rv_step.specs.State.{Hart, IsHart}
-use Rattle.rv_step.specs.Step.{Stepped, Stands, IsStep, effect, next}
+use Rattle.rv_step.specs.State.{Hart, IsHart, State}
+use Rattle.rv_step.specs.Step.{Stepped, Stands, NothingStands, IsStep, effect, next, unchanged}
+use Rattle.rv_step.specs.declared.outcome.Outcome.TheVariants.{Call}
 use Rattle.sfi_image.specs.declared.format.Format.{Format}
 use Rattle.sfi_image.specs.declared.format.Format.TheVariants.{Sfi1, Sfi2}
+use Rattle.sfi_image.specs.declared.span.Span.{Span}
 use Rattle.sfi_image.specs.Formats.{code_most}
-use Rattle.sfi_image.specs.Spelling.{Part}
+use Rattle.sfi_image.specs.Gates.{AreGates, gates_most}
+use Rattle.sfi_image.specs.Spelling.{Part, AreGateWords}
+use Rattle.sfi_image.specs.Spelling as image
 use Rattle.sfi_image.specs.Spans.{AreApart, code_region, guarded_region}
 use Rattle.sfi_image.specs.Regions.{IsBundleStart}
-use Rattle.sfi_image.specs.Parts.{IsRightPart}
-use Rattle.sfi_check.specs.Regions.{InData, InGuard, HasReserved, HasCode}
-use Rattle.sfi_check.specs.Runs.{Steps, after_step}
-use Rattle.sfi_check.specs.Safety.{RunsSafelyFrom, RunsSafely}
-use Rattle.sfi_check.specs.Samples.{sample, sample_as}
-use Rattle.sfi_check.proofs.Places.{spelled_length, read_all}
-use Rattle.sfi_check.proofs.Safe.{stays_safe}
+use Rattle.sfi_image.specs.Parts.{IsRightPart, IsRightLayout, AreOf}
+use Rattle.sfi_scan.specs.declared.finding.Finding.{Finding}
+use Rattle.sfi_scan.specs.Findings.{AreFindings}
+use Rattle.sfi_check.specs.Regions.{InCode, InData, InGuard, IsGate, HasReserved, HasCode}
+use Rattle.sfi_check.specs.Runs.{Turn, Steps, IsEntry, IsRun, IsTurn, after_turn, after_step}
+use Rattle.sfi_check.specs.Safety.{IsSafeRun}
+use Rattle.sfi_check.specs.Verdict.{HasFindings}
+use Rattle.sfi_check.specs.Samples.{Sample, sandbox, bytes_of, words_of}
+use Rattle.sfi_check.specs.Needed.{HasUnsafeRun}
+use Rattle.sfi_check.proofs.Places.{read_all}
 use Rattle.sfi_check.proofs.Entering.{entered}
 
 -- ---- the samples' layout
 
-pub each_below : (n : ℕ) (xs : List ℕ) → 0 < n → list_all (λ x. nat_lt x n) xs ≡ true → (k : ℕ) → slice_index xs k < n
-each_below n [] some h k = some
-each_below n (x ∷ xs) some h zero = ltb-true x n (and_parts (nat_lt x n) (list_all (λ y. nat_lt y n) xs) h).0
-each_below n (x ∷ xs) some h (suc k) = each_below n xs some (and_parts (nat_lt x n) (list_all (λ y. nat_lt y n) xs) h).1 k
+-- what is asked of a sample
+pub record IsSample (s : Sample) : Type 0 where
+  pub first_words : length s.first_words ≡ 8
+  pub last_words : length s.last_words ≡ 4
+  pub words : All AreGateWords s.gates
+  pub few : length s.gates ≤ gates_most
+  pub gates : AreGates (record { base = 0x01000000; size = 256 }) s.gates
 
--- what is asked of the code
-pub record IsSample (is : List Instr) : Type 0 where
-  pub size : length (sample is).code ≡ 256
-  pub bytes : (k : ℕ) → slice_index (sample is).code k < 256
+-- a sample without gates
+pub without_gates : (s : Sample) → s.gates ≡ [] → length s.first_words ≡ 8 → length s.last_words ≡ 4 → IsSample s
+without_gates s none first last =
+    let empty : length s.gates ≡ 0 = ap length none in
+    record {
+      first_words = first;
+      last_words = last;
+      words = λ k d below. absurd (omega (arith, empty, below));
+      few = omega (arith, empty);
+      gates = record {
+        starts = λ k d below. absurd (omega (arith, empty, below));
+        services = λ k d below. absurd (omega (arith, empty, below));
+        ascending = λ i j d less below. absurd (omega (arith, empty, below));
+      };
+    }
+
+bytes_length : (words : List ℕ) → length (bytes_of words) ≡ 4 * length words
+bytes_length [] = refl
+bytes_length (w ∷ words) = let rest = bytes_length words in omega (arith, rest)
+
+pub size : (s : Sample) → IsSample s → length (sandbox s).code ≡ 256
+size s is =
+    let words = s.first_words ++ (words_of (replicate 52 Ebreak) ++ s.last_words) in
+    let all = length-append s.first_words (words_of (replicate 52 Ebreak) ++ s.last_words) in
+    let bytes = bytes_length words in
+    let first = is.first_words in
+    let last = is.last_words in
+    omega (arith, all, bytes, first, last)
+
+pub bytes_small : (words : List ℕ) (k : ℕ) → slice_index (bytes_of words) k < 256
+bytes_small [] k = omega arith
+bytes_small (w ∷ words) zero = omega arith
+bytes_small (w ∷ words) (suc zero) = omega arith
+bytes_small (w ∷ words) (suc (suc zero)) = omega arith
+bytes_small (w ∷ words) (suc (suc (suc zero))) = omega arith
+bytes_small (w ∷ words) (suc (suc (suc (suc k)))) = bytes_small words k
 
 -- no code region need be larger than this
 code_at_least : (f : Format) → 256 ≤ code_most f
 code_at_least Sfi1 = omega arith
 code_at_least Sfi2 = omega arith
 
-pub right_part : (f : Format) (is : List Instr) → IsSample is → IsRightPart (sample_as f is)
-right_part f is of =
-    let size = of.size in
-    record {
-      words = record {
-        fields = record {
-          code_base = omega arith;
-          code_size = omega (arith, size);
-          data_base = omega arith;
-          data_size = omega arith;
-          start = omega arith;
-          gate_count = omega arith;
-          init_len = omega arith;
+module _ (s : Sample) (is : IsSample s) where
+  pub right_part : IsRightPart (sandbox s)
+  right_part =
+      let size = size s is in
+      let few = is.few in
+      record {
+        words = record {
+          fields = record {
+            code_base = omega arith;
+            code_size = omega (arith, size);
+            data_base = omega arith;
+            data_size = omega arith;
+            start = omega arith;
+            gate_count = omega (arith, few);
+            init_len = omega arith;
+          };
+          gates = is.words;
         };
-        gates = λ k d below. absurd (omega arith);
-      };
-      code_placed = record { power = 8; size_is = size; at_least = omega (arith, size); at_most = omega (arith, size, code_at_least f); multiple = 65536; base_is = sym (ap (λ (n : ℕ). 65536 * n) size) };
-      data_placed = record { power = 8; size_is = refl; at_least = omega arith; at_most = omega arith; multiple = 98304; base_is = refl };
-      guard_room = record { below = omega arith; above = omega arith };
-      start = record { held = (omega arith, omega (arith, size)); aligned = refl };
-      gate_count = omega arith;
-      init_len = omega arith;
-      gates = record {
-        starts = λ k d below. absurd (omega arith);
-        services = λ k d below. absurd (omega arith);
-        ascending = λ i j d less below. absurd (omega arith);
-      };
-    }
+        code_placed = record { power = 8; size_is = size; at_least = omega (arith, size); at_most = omega (arith, size, code_at_least s.format); multiple = 65536; base_is = sym (ap (λ (n : ℕ). 65536 * n) size) };
+        data_placed = record { power = 8; size_is = refl; at_least = omega arith; at_most = omega arith; multiple = 98304; base_is = refl };
+        guard_room = record { below = omega arith; above = omega arith };
+        start = record { held = (omega arith, omega (arith, size)); aligned = refl };
+        gate_count = few;
+        init_len = omega arith;
+        gates = subst (λ (n : ℕ). AreGates (record { base = 0x01000000; size = n }) s.gates) (sym size) is.gates;
+      }
 
-pub apart : (f : Format) (is : List Instr) → IsSample is → AreApart (code_region (sample_as f is)) (guarded_region (sample_as f is))
-apart f is of a (low, high) (from, below) = let size = of.size in omega arith
+  pub apart : AreApart (code_region (sandbox s)) (guarded_region (sandbox s))
+  apart a (low, high) (from, below) = let size = size s is in omega arith
+
+  pairs_apart : (i j : ℕ) (d : Span) → i < j → j < 2 → AreApart (get_or (code_region (sandbox s) ∷ guarded_region (sandbox s) ∷ []) i d) (get_or (code_region (sandbox s) ∷ guarded_region (sandbox s) ∷ []) j d)
+  pairs_apart zero (suc zero) d less below = apart
+  pairs_apart zero zero d less below = absurd (omega arith)
+  pairs_apart zero (suc (suc j)) d less below = absurd (omega arith)
+  pairs_apart (suc i) zero d less below = absurd (omega arith)
+  pairs_apart (suc i) (suc j) d less below = absurd (omega arith)
+
+  -- the layout of an image of it alone
+  pub right_layout : IsRightLayout (sandbox s ∷ [])
+  right_layout = record {
+    at_least_one = omega arith;
+    at_most = omega arith;
+    one_format = one;
+    right = record { each = only; apart = pairs_apart };
+  }
+    where
+      one : AreOf s.format (sandbox s ∷ [])
+      one zero d below = refl
+      one (suc k) d below = absurd (omega arith)
+
+      only : All IsRightPart (sandbox s ∷ [])
+      only zero d below = right_part
+      only (suc k) d below = absurd (omega arith)
+
+  -- the bytes of that image have the sandbox's one finding
+  pub refused : (x : Finding) → AreFindings 0 (sandbox s) (x ∷ []) → HasFindings (image.spelling (sandbox s ∷ [])) (x ∷ [])
+  refused x found = record {
+    parts = sandbox s ∷ [];
+    image = record { bytes_are = refl; layout = right_layout };
+    found_are = (x ∷ [], [], found, refl, refl);
+    some = λ e. absurd cc;
+  }
 
 -- ---- entries
 
--- x10 is 240, the reserved registers but x26 have their values, and all others but x2 and x31 are 0
+-- x1 and x10 are 240, the reserved registers but x26 have their values, and all others but x2 and x31 are 0
 abbrev pub stack_hart : ℕ → ℕ → ℕ → ℕ → Hart
 stack_hart x2 pc x26 x31 = record {
   pc = pc;
-  registers = 0 ∷ 0 ∷ x2 ∷ replicate 7 0 ++ (240 ∷ (replicate 13 0 ++ (0x01000000 ∷ 240 ∷ x26 ∷ 255 ∷ 0 ∷ 0 ∷ 0 ∷ x31 ∷ [])));
+  registers = 0 ∷ 240 ∷ x2 ∷ replicate 7 0 ++ (240 ∷ (replicate 13 0 ++ (0x01000000 ∷ 240 ∷ x26 ∷ 255 ∷ 0 ∷ 0 ∷ 0 ∷ x31 ∷ [])));
 }
 
 -- x2 points to the data
 abbrev pub hart : ℕ → ℕ → ℕ → Hart
 hart pc x26 x31 = stack_hart 0x01800000 pc x26 x31
+
+each_below : (n : ℕ) (xs : List ℕ) → 0 < n → list_all (λ x. nat_lt x n) xs ≡ true → (k : ℕ) → slice_index xs k < n
+each_below n [] some h k = some
+each_below n (x ∷ xs) some h zero = ltb-true x n (and_parts (nat_lt x n) (list_all (λ y. nat_lt y n) xs) h).0
+each_below n (x ∷ xs) some h (suc k) = each_below n xs some (and_parts (nat_lt x n) (list_all (λ y. nat_lt y n) xs) h).1 k
 
 pub is_hart : (pc : ℕ) → pc % 2 ≡ 0 → pc < 2 ^ 32 → IsHart (hart pc 0x01800000 0)
 is_hart pc even fits = record {
@@ -96,55 +175,85 @@ is_hart pc even fits = record {
   zero = refl;
 }
 
-pub reserved : (f : Format) (is : List Instr) → IsSample is → (pc : ℕ) → HasReserved (sample_as f is) (hart pc 0x01800000 0).registers
-reserved f is of pc = let size = of.size in record { x24 = refl; x25 = sym (ap (λ (n : ℕ). n - 16) size); x26 = refl; x27 = refl }
+-- where a run begins
+abbrev pub first : ℕ → Bytes → State
+first pc m = record { hart = hart pc 0x01800000 0; memory = m }
 
 -- a run may begin at the bundle of that number
-pub record Begins (f : Format) (is : List Instr) (pc : ℕ) : Type 0 where
-  pub memory : Bytes
-  pub code : HasCode (sample_as f is) memory
-  pub safe : RunsSafelyFrom (sample_as f is) (record { hart = hart pc 0x01800000 0; memory = memory })
+pub enters : (s : Sample) → IsSample s → (n : ℕ) → n < 16 → (m : Bytes) × IsEntry (sandbox s) (first (0x01000000 + 16 * n) m)
+enters s is n few =
+    let size = size s is in
+    let at = 0x01000000 + 16 * n in
+    let start : IsBundleStart (code_region (sandbox s)) at = record { held = (omega arith, omega (arith, size)); aligned = omega arith } in
+    let reserved : HasReserved (sandbox s) (hart at 0x01800000 0).registers = record { x24 = refl; x25 = sym (ap (λ (n : ℕ). n - 16) size); x26 = refl; x27 = refl } in
+    entered (sandbox s) (hart at 0x01800000 0) (right_part s is) (apart s is) (bytes_small (s.first_words ++ (words_of (replicate 52 Ebreak) ++ s.last_words))) (is_hart at (omega arith) (omega arith)) start reserved (λ has. (omega arith, omega arith))
 
-pub begins : (f : Format) (is : List Instr) → IsSample is → RunsSafely (sample_as f is) → (n : ℕ) → n < 16 → Begins f is (0x01000000 + 16 * n)
-begins f is of safe n few =
-    let size = of.size in
-    let start : IsBundleStart (code_region (sample_as f is)) (0x01000000 + 16 * n) = record { held = (omega arith, omega (arith, size)); aligned = omega arith } in
-    let m = entered (sample_as f is) (hart (0x01000000 + 16 * n) 0x01800000 0) (right_part f is of) (apart f is of) of.bytes (is_hart (0x01000000 + 16 * n) (omega arith) (omega arith)) start (reserved f is of (0x01000000 + 16 * n)) (λ has. (omega arith, omega arith)) in
-    record { memory = m.0; code = m.1.code; safe = safe.from (record { hart = hart (0x01000000 + 16 * n) 0x01800000 0; memory = m.0 }) m.1 }
+-- ---- what stands there
 
--- ---- steps
-
-module _ (p : Part) (m : Bytes) (code : HasCode p m) where
-  pub stands_at : (h : Hart) (at : ℕ) (i : Instr) → h.pc ≡ p.code_base + at → at + 4 ≤ length p.code → p.code_base + length p.code ≤ 2 ^ 32 → Spells (take 4 (drop at p.code)) i 4 → Stands (record { hart = h; memory = m }) i 4
-  stands_at h at i pc within end spelled =
-      let bytes = take 4 (drop at p.code) in
-      let four : length bytes ≡ 4 = spelled_length bytes i 4 spelled in
-      record {
-        bytes = bytes;
-        there = subst (λ (n : ℕ). bytes_at m (addresses h.pc n) ≡ Some bytes) four (read_all m (address_after h.pc) 0 bytes each);
-        spelled = spelled;
-      }
+module _ (s : Sample) (is : IsSample s) (m : Bytes) (code : HasCode (sandbox s) m) where
+  pub bytes_there : (h : Hart) (at n : ℕ) → h.pc ≡ 0x01000000 + at → at + n ≤ 256 → bytes_at m (addresses h.pc n) ≡ Some (take n (drop at (sandbox s).code))
+  bytes_there h at n pc within =
+      let bytes = take n (drop at (sandbox s).code) in
+      let size = size s is in
+      let long : length bytes ≡ n = (let a = length-take n (drop at (sandbox s).code) in let b = length-drop at (sandbox s).code in omega (arith, a, b, size, within)) in
+      subst (λ (k : ℕ). bytes_at m (addresses h.pc k) ≡ Some bytes) long (read_all m (address_after h.pc) 0 bytes (λ k below. each k (omega (arith, long, below))))
     where
-      each : (k : ℕ) → k < length (take 4 (drop at p.code)) → byte_at m (address_after h.pc (0 + k)) ≡ Some (slice_index (take 4 (drop at p.code)) k)
-      each k below =
-          let four : length (take 4 (drop at p.code)) ≡ 4 = spelled_length (take 4 (drop at p.code)) i 4 spelled in
-          let few : k < 4 = omega (arith, four, below) in
-          let e : address_after h.pc (0 + k) ≡ p.code_base + (at + k) = omega (arith, pc, within, end, few) in
-          ap (byte_at m) e ∙ code (at + k) (omega (arith, within, few)) ∙ ap Some (sym (get_or-take 4 (drop at p.code) k 0 few ∙ get_or-drop at p.code k 0))
+      each : (k : ℕ) → k < n → byte_at m (address_after h.pc (0 + k)) ≡ Some (slice_index (take n (drop at (sandbox s).code)) k)
+      each k few =
+          let size = size s is in
+          let e : address_after h.pc (0 + k) ≡ 0x01000000 + (at + k) = omega (arith, pc, within, few) in
+          ap (byte_at m) e ∙ code (at + k) (omega (arith, within, few, size)) ∙ ap Some (sym (get_or-take n (drop at (sandbox s).code) k 0 few ∙ get_or-drop at (sandbox s).code k 0))
 
-  pub step_here : (h : Hart) (i : Instr) → Stands (record { hart = h; memory = m }) i 4 → IsStep (record { hart = h; memory = m }) (effect i 4 h m)
-  step_here h i stands = record { front = Read i 4; at_pc = stands; result = refl }
+  -- an instruction of n bytes at that offset of the code
+  pub stands : (h : Hart) (at n : ℕ) (i : Instr) → h.pc ≡ 0x01000000 + at → at + n ≤ 256 → Spells (take n (drop at (sandbox s).code)) i n → Stands (record { hart = h; memory = m }) i n
+  stands h at n i pc within spelled = record { bytes = take n (drop at (sandbox s).code); there = bytes_there h at n pc within; spelled = spelled }
+
+-- ---- runs that are not safe
+
+pub then_turn : (p : Part) (s after : State) (turn : Turn) → IsTurn p s turn → after_turn turn ≡ Some after → HasUnsafeRun p after → HasUnsafeRun p s
+then_turn p s after turn is e rest = record {
+  turns = turn ∷ rest.turns;
+  run = (is, subst (λ (o : Option State). IsRun p o rest.turns) (sym e) rest.run);
+  unsafe = λ safe. rest.unsafe (subst (λ (o : Option State). IsSafeRun p o rest.turns) e safe.2);
+}
+
+module _ (p : Part) (m : Bytes) where
+  pub step_here : (h : Hart) (i : Instr) (n : ℕ) → Stands (record { hart = h; memory = m }) i n → IsStep (record { hart = h; memory = m }) (effect i n h m)
+  step_here h i n stands = record { front = Read i n; at_pc = stands; result = refl }
 
   -- the step is done
-  pub goes_to : (h h' : Hart) (i : Instr) → RunsSafelyFrom p (record { hart = h; memory = m }) → Stands (record { hart = h; memory = m }) i 4 → effect i 4 h m ≡ next h' m → RunsSafelyFrom p (record { hart = h'; memory = m })
-  goes_to h h' i from stands e =
-      stays_safe p (record { hart = h; memory = m }) (record { hart = h'; memory = m }) (Steps (effect i 4 h m)) from (step_here h i stands) (ap (λ (r : Stepped). after_step r.outcome r.state) e)
+  pub then_step : (h h' : Hart) (i : Instr) (n : ℕ) → Stands (record { hart = h; memory = m }) i n → effect i n h m ≡ next h' m → HasUnsafeRun p (record { hart = h'; memory = m }) → HasUnsafeRun p (record { hart = h; memory = m })
+  then_step h h' i n stands e rest =
+      then_turn p (record { hart = h; memory = m }) (record { hart = h'; memory = m }) (Steps (effect i n h m)) (step_here h i n stands) (ap (λ (r : Stepped). after_step r.outcome r.state) e) rest
 
-  -- what it accesses is near the data
-  pub reaches : (h : Hart) (i : Instr) (a : ℕ) → RunsSafelyFrom p (record { hart = h; memory = m }) → Stands (record { hart = h; memory = m }) i 4 → Accesses i h a → InData p a ⊎ InGuard p a
-  reaches h i a from stands has = (from.safe (Steps (effect i 4 h m) ∷ []) (step_here h i stands, tt)).1.within i 4 stands a has
+  -- it accesses an address far from the data
+  pub accesses_far : (h : Hart) (i : Instr) (n a : ℕ) → Stands (record { hart = h; memory = m }) i n → Accesses i h a → (InData p a ⊎ InGuard p a → ⊥) → HasUnsafeRun p (record { hart = h; memory = m })
+  accesses_far h i n a stands has far = record {
+    turns = Steps (effect i n h m) ∷ [];
+    run = (step_here h i n stands, tt);
+    unsafe = λ safe. far (safe.1.within i n stands a has);
+  }
 
-pub far : (f : Format) (is : List Instr) (a : ℕ) → a + 4096 < 0x01800000 → InData (sample_as f is) a ⊎ InGuard (sample_as f is) a → ⊥
-far f is a h (inl (from, below)) = omega arith
-far f is a h (inr (inl (from, below))) = omega arith
-far f is a h (inr (inr (from, below))) = omega arith
+  -- it is a call, and there is no gate
+  pub calls_elsewhere : (h : Hart) (n : ℕ) → Stands (record { hart = h; memory = m }) Ecall n → (IsGate p h.pc → ⊥) → HasUnsafeRun p (record { hart = h; memory = m })
+  calls_elsewhere h n stands nowhere = record {
+    turns = Steps (unchanged Call h m) ∷ [];
+    run = (step_here h Ecall n stands, tt);
+    unsafe = λ safe. nowhere (safe.1.called refl);
+  }
+
+  -- no instruction stands there
+  pub nothing_here : (h : Hart) → NothingStands (record { hart = h; memory = m }) → HasUnsafeRun p (record { hart = h; memory = m })
+  nothing_here h none = record { turns = []; run = tt; unsafe = λ safe. none safe.present.instr safe.present.size safe.present.stands }
+
+  -- it has left the code
+  pub has_left : (h : Hart) → (InCode p h.pc → ⊥) → HasUnsafeRun p (record { hart = h; memory = m })
+  has_left h out = record { turns = []; run = tt; unsafe = λ safe. out safe.pc }
+
+pub far : (s : Sample) (a : ℕ) → a + 4096 < 0x01800000 → InData (sandbox s) a ⊎ InGuard (sandbox s) a → ⊥
+far s a h (inl (from, below)) = omega arith
+far s a h (inr (inl (from, below))) = omega arith
+far s a h (inr (inr (from, below))) = omega arith
+
+pub past_end : (s : Sample) → IsSample s → InCode (sandbox s) 0x01000100 → ⊥
+past_end s is (from, below) = let size = size s is in omega arith

@@ -7,6 +7,8 @@ pub mod Runs
 pub mod Safety
 pub mod Stack
 pub mod Samples
+pub mod Needed
+pub mod OneVerdict
 pub mod Verdict
 pub mod Tallies
 pub mod Streams

@@ -1,10 +1,13 @@
-//! What holds of every sandbox without a finding. A call costs nothing.
+//! What holds of every sandbox without a finding, and of every verdict. A call costs nothing.
 ghost use Rattle.sfi_check.specs.Laws.{InstructionLeaves, TurnKeeps, EntryIsGood, CanBeEntered, FirstFormatAsksNoStack, CleanRunsSafely, SafeTurns, SafeStaysSafe, SafeFetches, CleanCallsWithStack, GoesOnSafely};
+ghost use Rattle.sfi_check.specs.OneVerdict.{OneVerdict, StreamSaysSame};
 
 use rv_comp::laws::{ecall_is_wide, spelled_in_range};
 use rv_step::laws::{
     accessed_is_there, one_instruction, other_bytes_stay, step_is_effect, stopped_stays,
 };
+use sfi_image::one_reading;
+use sfi_scan::laws::one_image_list;
 
 /// What an instruction and the one before it leave in the registers. It is said of every instruction and of whatever stands
 /// before it, so it holds at each place of a bundle's reading.
@@ -78,3 +81,19 @@ pub fn clean_calls_with_stack()
 pub fn goes_on_safely()
     ensures { GoesOnSafely }
 {}
+
+/// Two streams of the same bytes have one answer, whatever the pieces, if no read failed.
+pub fn one_verdict()
+    ensures { OneVerdict }
+{
+    one_reading();
+    one_image_list();
+}
+
+/// A stream's answer says what [`check`](crate::check) says of the same bytes, if no read failed and memory didn't run out.
+pub fn stream_says_same()
+    ensures { StreamSaysSame }
+{
+    one_reading();
+    one_image_list();
+}

@@ -1,56 +1,110 @@
-//! That the rules are needed, since code that breaks one of them alone does what is not safe; and that they leave code that does
-//! something. A call costs nothing.
-ghost use Rattle.sfi_image.specs.declared.format.Format.TheVariants.{Sfi2};
-ghost use Rattle.sfi_scan.specs.declared.rule.Rule.TheVariants.{V4, V5, V6, V7, V10};
-ghost use Rattle.sfi_check.specs.Samples.{IsNeeded, IsAcceptedAndRuns, sample, sample_as, stack_not_put_back, sandboxed_store, pair_on_x0, pair_across_bundles, jump_to_any_start, jalr_offset_ignored, written_rd_forgotten};
+//! That each rule is needed, since code whose one finding is of that rule does what is not safe; and that the rules leave code
+//! that does something. A call costs nothing.
+ghost use Rattle.sfi_scan.specs.declared.rule.Rule.TheVariants.{V1, V2, V3, V4, V5, V6, V7, V8, V9, V10};
+ghost use Rattle.sfi_check.specs.Needed.{IsNeeded, EachRuleIsNeeded, IsAcceptedAndRuns};
+ghost use Rattle.sfi_check.specs.Samples.{sandbox, undecodable, crossing_store, ecall_at_no_gate, written_rd_forgotten, pair_on_x0, pair_across_bundles, jalr_offset_ignored, jump_to_any_start, running_off_the_end, gate_comes_back_elsewhere, stack_not_put_back, sandboxed_store};
 
 use rv_comp::laws::one_spelling;
+use rv_word::laws::spellings_are_wide;
 
-/// V5 is needed: a store behind a pair on x0 reaches address 0.
+/// V1 is needed: where the bytes do not decode, a run stands at no instruction.
+pub fn undecodable_is_unsafe()
+    ensures { IsNeeded V1 0x01000000 (sandbox undecodable) }
+{
+    one_spelling();
+    spellings_are_wide();
+}
+
+/// V2 is needed: a store that begins in one bundle and ends in the next reaches address 0, and no reading of a bundle has it.
+pub fn crossing_store_is_unsafe()
+    ensures { IsNeeded V2 0x0100000e (sandbox crossing_store) }
+{
+    one_spelling();
+}
+
+/// V3 is needed: an ecall calls the host where no gate is listed.
+pub fn ecall_at_no_gate_is_unsafe()
+    ensures { IsNeeded V3 0x01000000 (sandbox ecall_at_no_gate) }
+{
+    one_spelling();
+}
+
+/// V4 is needed: after a jal that writes x26 a store reaches the code.
+pub fn written_rd_forgotten_is_unsafe()
+    ensures { IsNeeded V4 0x01000000 (sandbox written_rd_forgotten) }
+{
+    one_spelling();
+}
+
+/// V5 is needed: a store after a pair on x0 reaches address 0.
 pub fn pair_on_x0_is_unsafe()
-    ensures { IsNeeded V5 0x01000008 (sample pair_on_x0) }
+    ensures { IsNeeded V5 0x01000008 (sandbox pair_on_x0) }
 {
     one_spelling();
 }
 
 /// V5 is needed: a store at the start of a bundle reaches what a run is entered with, whatever stands in the bundle before.
 pub fn pair_across_bundles_is_unsafe()
-    ensures { IsNeeded V5 0x01000010 (sample pair_across_bundles) }
+    ensures { IsNeeded V5 0x01000010 (sandbox pair_across_bundles) }
+{
+    one_spelling();
+}
+
+/// V6 is needed: a jalr with an offset leaves the code region after its last bundle.
+pub fn jalr_offset_ignored_is_unsafe()
+    ensures { IsNeeded V6 0x01000008 (sandbox jalr_offset_ignored) }
 {
     one_spelling();
 }
 
 /// V7 is needed: a jump onto a store skips the pair before it.
 pub fn jump_to_any_start_is_unsafe()
-    ensures { IsNeeded V7 0x01000010 (sample jump_to_any_start) }
+    ensures { IsNeeded V7 0x01000010 (sandbox jump_to_any_start) }
 {
     one_spelling();
 }
 
-/// V6 is needed: a jalr with an offset leaves the code region behind its last bundle.
-pub fn jalr_offset_ignored_is_unsafe()
-    ensures { IsNeeded V6 0x01000008 (sample jalr_offset_ignored) }
+/// V8 is needed: nops up to the region's end lead out of it.
+pub fn running_off_the_end_is_unsafe()
+    ensures { IsNeeded V8 0x010000fc (sandbox running_off_the_end) }
 {
     one_spelling();
 }
 
-/// V4 is needed: behind a jal that writes x26 a store reaches the code.
-pub fn written_rd_forgotten_is_unsafe()
-    ensures { IsNeeded V4 0x01000000 (sample written_rd_forgotten) }
+/// A finding of V9 may not be passed over: a listed gate whose jalr has an offset leaves the code region after the host's reply.
+/// (V9 stands in place of the other findings of a gate's bundle. Here V6 would be one.)
+pub fn gate_comes_back_elsewhere_is_unsafe()
+    ensures { IsNeeded V9 0x01000000 (sandbox gate_comes_back_elsewhere) }
 {
     one_spelling();
 }
 
 /// V10 is needed: a store on a stack pointer that was made 0 reaches address 0.
 pub fn stack_not_put_back_is_unsafe()
-    ensures { IsNeeded V10 0x01000000 (sample_as Sfi2 stack_not_put_back) }
+    ensures { IsNeeded V10 0x01000000 (sandbox stack_not_put_back) }
 {
     one_spelling();
 }
 
+/// No rule can be left out.
+pub fn each_rule_is_needed()
+    ensures { EachRuleIsNeeded }
+{
+    undecodable_is_unsafe();
+    crossing_store_is_unsafe();
+    ecall_at_no_gate_is_unsafe();
+    written_rd_forgotten_is_unsafe();
+    pair_on_x0_is_unsafe();
+    jalr_offset_ignored_is_unsafe();
+    jump_to_any_start_is_unsafe();
+    running_off_the_end_is_unsafe();
+    gate_comes_back_elsewhere_is_unsafe();
+    stack_not_put_back_is_unsafe();
+}
+
 /// An accepted sandbox stores a byte.
 pub fn sandboxed_store_is_accepted()
-    ensures { IsAcceptedAndRuns (sample sandboxed_store) }
+    ensures { IsAcceptedAndRuns (sandbox sandboxed_store) }
 {
     one_spelling();
 }

@@ -1,0 +1,44 @@
+-- That bytes have one verdict, however they are read.
+use Rattle.std.specs.Prelude.{◌≡◌, ◌≢◌, ℕ, List, [], ◌++◌, Bool, true, length, slice_get, Some, Result, Ok, Err, IfOk, IfErr}
+use Rattle.sfi_image.specs.Spelling.{Part}
+use Rattle.sfi_image.specs.Faults.{IsFault, number_of}
+use Rattle.sfi_scan.specs.declared.finding.Finding.{Finding}
+use Rattle.sfi_check.specs.declared.refusal.Refusal.{Refusal}
+use Rattle.sfi_check.specs.declared.refusal.Refusal.TheVariants.{Layout, Findings, Memory}
+use Rattle.sfi_check.specs.declared.stream_answer.StreamAnswer.{StreamAnswer}
+use Rattle.sfi_check.specs.declared.stream_answer.StreamAnswer.TheVariants as answers
+use Rattle.sfi_check.specs.Refusals.{IfLayoutFault, IfFindings}
+use Rattle.sfi_check.specs.Verdict.{IsAccepted, HasFindings, bundle_count}
+use Rattle.sfi_check.specs.Streams.{IsVerdictOn}
+
+-- what `check` promises of its answer on the bytes: its clauses `layout`, `findings` and `accepted`
+pub record Answers (bytes : List ℕ) (answer : Result (List Part) Refusal) : Type 0 where
+  pub layout : IfErr answer (IfLayoutFault (IsFault bytes))
+  pub findings : IfErr answer (IfFindings (HasFindings bytes))
+  pub accepted : IfOk answer (IsAccepted bytes)
+
+-- `read` is what was read of the bytes: a beginning of them, and all of them where the stream ended
+pub record IsReadOf (bytes read : List ℕ) (ends : Bool) : Type 0 where
+  pub unread : List ℕ
+  pub bytes_are : bytes ≡ read ++ unread
+  pub all_read : ends ≡ true → unread ≡ []
+
+-- `check_stream` says what `check` says; where memory ran out, `check` says nothing
+abbrev pub SaysSame : Result (List Part) Refusal → StreamAnswer → Type 0
+SaysSame (Ok ps) said = said ≡ answers.Accepted (length ps) (bundle_count ps)
+SaysSame (Err (Layout k)) said = said ≡ answers.Layout (number_of k)
+SaysSame (Err (Findings found)) said =
+    (first : Finding) × (slice_get found.items 0 ≡ Some first) × (said ≡ answers.Findings (length found.items) first)
+SaysSame (Err Memory) said = Unit {0}
+
+-- two streams that hand out the same bytes have one answer, whatever the pieces and however much of a refused image each read
+abbrev pub OneVerdict : Type 0
+OneVerdict =
+    (bytes read others : List ℕ) (ends stops : Bool) (said told : StreamAnswer) → IsReadOf bytes read ends → IsReadOf bytes others stops
+    → IsVerdictOn read ends said → IsVerdictOn others stops told → said ≢ answers.ReadFault → told ≢ answers.ReadFault → said ≡ told
+
+-- and it is what `check` says of these bytes
+abbrev pub StreamSaysSame : Type 0
+StreamSaysSame =
+    (bytes read : List ℕ) (ends : Bool) (answer : Result (List Part) Refusal) (said : StreamAnswer) → Answers bytes answer
+    → IsReadOf bytes read ends → IsVerdictOn read ends said → said ≢ answers.ReadFault → SaysSame answer said
