@@ -11,11 +11,12 @@ use Rattle.rv_word.specs.Spelling.{spelling, InRange}
 use Rattle.rv_comp.specs.Laws.{OneSpelling}
 use Rattle.sfi_image.specs.declared.format.Format.TheVariants.{Sfi1, Sfi2}
 use Rattle.sfi_scan.specs.declared.rule.Rule.TheVariants.{V3, V4, V5, V6, V7, V10}
+use Rattle.sfi_scan.specs.Bundles.{bundle_bytes}
 use Rattle.sfi_scan.specs.Findings.{AreFindings}
 use Rattle.sfi_check.specs.Regions.{IsGate}
 use Rattle.sfi_check.specs.Samples.{sandbox, ecall_at_no_gate, written_rd_forgotten, pair_on_x0, pair_across_bundles, jalr_offset_ignored, jump_to_any_start, stack_not_put_back}
 use Rattle.sfi_check.specs.Needed.{IsNeeded}
-use Rattle.sfi_check.proofs.Readings.{IsSpelled, ebreak_spelled, code_findings}
+use Rattle.sfi_check.proofs.Readings.{IsSpelled, ebreak_spelled, code_findings, four_longest, wide}
 use Rattle.sfi_check.proofs.Samples.{IsSample, without_gates, refused, hart, stack_hart, first, enters, stands, then_step, accesses_far, calls_elsewhere, has_left, far, past_end}
 
 -- ---- the words
@@ -86,6 +87,15 @@ ecall_at_no_gate_unsafe law =
     let at0 = here (hart 0x01000000 0x01800000 0) 0 4 (Ecall) refl (omega arith) ecall_spelled in
     record {
       refused = refused ecall_at_no_gate ecall_sample (record { sandbox = 0; address = 0x01000000; rule = V3 }) (ecall_alone law);
+      no_other = record {
+        number = 0;
+        earlier = [];
+        here = wide Ecall;
+        later = wide Ebreak ∷ wide Ebreak ∷ wide Ebreak ∷ [];
+        longest = four_longest law (bundle_bytes (sandbox ecall_at_no_gate) 0) Ecall Ebreak Ebreak Ebreak refl ecall_spelled ebreak_spelled ebreak_spelled ebreak_spelled;
+        address_is = refl;
+        broken = refl;
+      };
       entry = first 0x01000000 e.0;
       is_entry = e.1;
       runs_unsafely = calls_elsewhere p e.0 (hart 0x01000000 0x01800000 0) 4 at0 (λ (gate : IsGate p 0x01000000). let none = gate.2 in absurd cc);
@@ -112,6 +122,15 @@ written_rd_forgotten_unsafe law =
     let at3 = here (hart 0x01000018 0x01000004 0x010000f4) 24 4 (Store Sw 31 11 (pos 0)) refl (omega arith) store_x31 in
     record {
       refused = refused written_rd_forgotten written_sample (record { sandbox = 0; address = 0x01000000; rule = V4 }) (written_alone law);
+      no_other = record {
+        number = 0;
+        earlier = [];
+        here = wide (Jal 26 (pos 16));
+        later = wide Ebreak ∷ wide Ebreak ∷ wide Ebreak ∷ [];
+        longest = four_longest law (bundle_bytes (sandbox written_rd_forgotten) 0) (Jal 26 (pos 16)) Ebreak Ebreak Ebreak refl jal_x26 ebreak_spelled ebreak_spelled ebreak_spelled;
+        address_is = refl;
+        broken = refl;
+      };
       entry = first 0x01000000 e.0;
       is_entry = e.1;
       runs_unsafely = then_step p e.0 (hart 0x01000000 0x01800000 0) (hart 0x01000010 0x01000004 0) (Jal 26 (pos 16)) 4 at0 refl (
@@ -140,6 +159,15 @@ pair_on_x0_unsafe law =
     let at2 = here (hart 0x01000008 0x01800000 0) 8 4 (Store Sw 0 11 (pos 0)) refl (omega arith) store_x0 in
     record {
       refused = refused pair_on_x0 x0_sample (record { sandbox = 0; address = 0x01000008; rule = V5 }) (x0_alone law);
+      no_other = record {
+        number = 0;
+        earlier = wide (Op Or 0 0 26) ∷ wide (Op And 0 10 27) ∷ [];
+        here = wide (Store Sw 0 11 (pos 0));
+        later = wide Ebreak ∷ [];
+        longest = four_longest law (bundle_bytes (sandbox pair_on_x0) 0) (Op And 0 10 27) (Op Or 0 0 26) (Store Sw 0 11 (pos 0)) Ebreak refl and_x0 or_x0 store_x0 ebreak_spelled;
+        address_is = refl;
+        broken = refl;
+      };
       entry = first 0x01000000 e.0;
       is_entry = e.1;
       runs_unsafely = then_step p e.0 (hart 0x01000000 0x01800000 0) (hart 0x01000004 0x01800000 0) (Op And 0 10 27) 4 at0 refl (
@@ -165,6 +193,15 @@ pair_across_bundles_unsafe law =
     let at0 = here (hart 0x01000010 0x01800000 0) 16 4 (Store Sw 31 11 (pos 0)) refl (omega arith) store_x31 in
     record {
       refused = refused pair_across_bundles across_sample (record { sandbox = 0; address = 0x01000010; rule = V5 }) (across_alone law);
+      no_other = record {
+        number = 1;
+        earlier = [];
+        here = wide (Store Sw 31 11 (pos 0));
+        later = wide Ebreak ∷ wide Ebreak ∷ wide Ebreak ∷ [];
+        longest = four_longest law (bundle_bytes (sandbox pair_across_bundles) 1) (Store Sw 31 11 (pos 0)) Ebreak Ebreak Ebreak refl store_x31 ebreak_spelled ebreak_spelled ebreak_spelled;
+        address_is = refl;
+        broken = refl;
+      };
       entry = first 0x01000010 e.0;
       is_entry = e.1;
       runs_unsafely = accesses_far p e.0 (hart 0x01000010 0x01800000 0) (Store Sw 31 11 (pos 0)) 4 0 at0 (0, omega arith, refl) (far pair_across_bundles 0 (omega arith));
@@ -190,6 +227,15 @@ jalr_offset_ignored_unsafe law =
     let at2 = here (hart 0x01000008 0x01800000 0x010000f0) 8 4 (Jalr 0 31 (pos 16)) refl (omega arith) jalr_past in
     record {
       refused = refused jalr_offset_ignored jalr_sample (record { sandbox = 0; address = 0x01000008; rule = V6 }) (jalr_alone law);
+      no_other = record {
+        number = 0;
+        earlier = wide (Op Or 31 31 24) ∷ wide (Op And 31 10 25) ∷ [];
+        here = wide (Jalr 0 31 (pos 16));
+        later = wide Ebreak ∷ [];
+        longest = four_longest law (bundle_bytes (sandbox jalr_offset_ignored) 0) (Op And 31 10 25) (Op Or 31 31 24) (Jalr 0 31 (pos 16)) Ebreak refl and_code or_code jalr_past ebreak_spelled;
+        address_is = refl;
+        broken = refl;
+      };
       entry = first 0x01000000 e.0;
       is_entry = e.1;
       runs_unsafely = then_step p e.0 (hart 0x01000000 0x01800000 0) (hart 0x01000004 0x01800000 240) (Op And 31 10 25) 4 at0 refl (
@@ -217,6 +263,15 @@ jump_to_any_start_unsafe law =
     let at1 = here (hart 0x01000008 0x01800000 0) 8 4 (Store Sw 31 11 (pos 0)) refl (omega arith) store_x31 in
     record {
       refused = refused jump_to_any_start jump_sample (record { sandbox = 0; address = 0x01000010; rule = V7 }) (jump_alone law);
+      no_other = record {
+        number = 1;
+        earlier = [];
+        here = wide (Jal 0 (minus 8));
+        later = wide Ebreak ∷ wide Ebreak ∷ wide Ebreak ∷ [];
+        longest = four_longest law (bundle_bytes (sandbox jump_to_any_start) 1) (Jal 0 (minus 8)) Ebreak Ebreak Ebreak refl jal_back ebreak_spelled ebreak_spelled ebreak_spelled;
+        address_is = refl;
+        broken = refl;
+      };
       entry = first 0x01000010 e.0;
       is_entry = e.1;
       runs_unsafely = then_step p e.0 (hart 0x01000010 0x01800000 0) (hart 0x01000008 0x01800000 0) (Jal 0 (minus 8)) 4 at0 refl (
@@ -250,6 +305,15 @@ stack_not_put_back_unsafe law =
     let at1 = here (stack_hart 0 0x01000004 0x01800000 0) 4 4 (Store Sw 2 11 (pos 0)) refl (omega arith) store_x2 in
     record {
       refused = refused stack_not_put_back stack_sample (record { sandbox = 0; address = 0x01000000; rule = V10 }) (stack_alone law);
+      no_other = record {
+        number = 0;
+        earlier = [];
+        here = wide (OpImm Addi 2 0 (pos 0));
+        later = wide (Store Sw 2 11 (pos 0)) ∷ wide Ebreak ∷ wide Ebreak ∷ [];
+        longest = four_longest law (bundle_bytes (sandbox stack_not_put_back) 0) (OpImm Addi 2 0 (pos 0)) (Store Sw 2 11 (pos 0)) Ebreak Ebreak refl addi_x2 store_x2 ebreak_spelled ebreak_spelled;
+        address_is = refl;
+        broken = refl;
+      };
       entry = first 0x01000000 e.0;
       is_entry = e.1;
       runs_unsafely = then_step p e.0 (hart 0x01000000 0x01800000 0) (stack_hart 0 0x01000004 0x01800000 0) (OpImm Addi 2 0 (pos 0)) 4 at0 refl (

@@ -26,7 +26,7 @@ use Rattle.sfi_check.specs.Regions.{HasCode}
 use Rattle.sfi_check.specs.Runs.{Steps, Replies, IsReply, IsEntry}
 use Rattle.sfi_check.specs.Samples.{sandbox, nop, undecodable, crossing_store, ecall_at_no_gate, written_rd_forgotten, pair_on_x0, jalr_offset_ignored, jump_to_any_start, running_off_the_end, gate_comes_back_elsewhere, stack_not_put_back}
 use Rattle.sfi_check.specs.Needed.{IsNeeded, EachRuleIsNeeded}
-use Rattle.sfi_check.proofs.Readings.{IsSpelled, BeginsNothing, nothing_begins, ebreak_spelled, four, read_bundle, four_words, all_findings, quiet, none_listed}
+use Rattle.sfi_check.proofs.Readings.{IsSpelled, BeginsNothing, nothing_begins, ebreak_spelled, four, read_bundle, four_words, four_longest, wide, all_findings, quiet, none_listed}
 use Rattle.sfi_check.proofs.Samples.{IsSample, without_gates, refused, hart, is_hart, first, enters, bytes_there, stands, then_turn, then_step, step_here, accesses_far, nothing_here, has_left, far, past_end}
 use Rattle.sfi_check.proofs.Undecodable.{ones_begin_nothing}
 use Rattle.sfi_check.proofs.Needed.{ecall_spelled, or_code, jalr_past}
@@ -71,6 +71,7 @@ undecodable_unsafe law wide =
     let e = enters undecodable ones_sample 0 (omega arith) in
     record {
       refused = refused undecodable ones_sample (record { sandbox = 0; address = 0x01000000; rule = V1 }) (ones_alone law wide);
+      no_other = tt;
       entry = first 0x01000000 e.0;
       is_entry = e.1;
       runs_unsafely = nothing_here (sandbox undecodable) e.0 (hart 0x01000000 0x01800000 0) (ones_stand wide e.0 e.1.code);
@@ -136,6 +137,7 @@ crossing_store_unsafe law =
     let at4 = here (hart 0x0100000e 0x01800000 0) 14 4 (Store Sw 6 1 (pos 0)) refl (omega arith) store_across in
     record {
       refused = refused crossing_store crossing_sample (record { sandbox = 0; address = 0x0100000e; rule = V2 }) (crossing_alone law);
+      no_other = tt;
       entry = first 0x01000000 e.0;
       is_entry = e.1;
       runs_unsafely = then_step p e.0 (hart 0x01000000 0x01800000 0) (hart 0x01000004 0x01800000 0) nop 4 at0 refl (
@@ -171,6 +173,15 @@ running_off_the_end_unsafe law =
     let at3 = here (hart 0x010000fc 0x01800000 0) 252 4 nop refl (omega arith) nop_spelled in
     record {
       refused = refused running_off_the_end end_sample (record { sandbox = 0; address = 0x010000fc; rule = V8 }) (end_alone law);
+      no_other = record {
+        number = 15;
+        earlier = wide nop ∷ wide nop ∷ wide nop ∷ [];
+        here = wide nop;
+        later = [];
+        longest = four_longest law (bundle_bytes (sandbox running_off_the_end) 15) nop nop nop nop refl nop_spelled nop_spelled nop_spelled nop_spelled;
+        address_is = refl;
+        broken = refl;
+      };
       entry = first 0x010000f0 e.0;
       is_entry = e.1;
       runs_unsafely = then_step p e.0 (hart 0x010000f0 0x01800000 0) (hart 0x010000f4 0x01800000 0) nop 4 at0 refl (
@@ -246,6 +257,7 @@ gate_comes_back_elsewhere_unsafe law =
     let at3 = here (hart 0x0100000c 0x01800000 0x010000f0) 12 4 (Jalr 0 31 (pos 16)) refl (omega arith) jalr_past in
     record {
       refused = refused gate_comes_back_elsewhere gate_sample (record { sandbox = 0; address = 0x01000000; rule = V9 }) (gate_alone law);
+      no_other = tt;
       entry = first 0x01000000 e.0;
       is_entry = e.1;
       runs_unsafely =

@@ -15,7 +15,7 @@ use Rattle.sfi_image.specs.declared.format.Format.TheVariants.{Sfi1, Sfi2}
 use Rattle.sfi_scan.specs.declared.bundle.BundlePlace.{BundlePlace}
 use Rattle.sfi_scan.specs.declared.finding.Finding.{Finding}
 use Rattle.sfi_scan.specs.Bundles.{place_of, bundle_bytes}
-use Rattle.sfi_scan.specs.Readings.{Piece, IsReading, rest_of}
+use Rattle.sfi_scan.specs.Readings.{Piece, IsReading, IsLongestReading, rest_of}
 use Rattle.sfi_scan.specs.Rules.{is_empty}
 use Rattle.sfi_scan.specs.Findings.{findings_from, rest_finding, AreBundleFindings, AreFindingsOfFirst, AreFindings}
 use Rattle.sfi_check.specs.Samples.{Sample, sandbox, words_of, bytes_of, code_as}
@@ -78,6 +78,17 @@ pub four_words : OneSpelling → (place : BundlePlace) (bytes : List ℕ) (a b c
 four_words law place bytes a b c d found unlisted is sa sb sc sd e =
     subst (λ (l : List ℕ). AreBundleFindings place l found) is
     (read_bundle law place (bytes_of (words_of (a ∷ b ∷ c ∷ d ∷ []))) (four a b c d) [] found unlisted (sa, (sb, (sc, (sd, tt)))) refl (nothing_begins [] refl) (append-nil (findings_from place true place.address [] (four a b c d)) ∙ e))
+
+-- such a bundle is read as these four
+pub four_longest : OneSpelling → (bytes : List ℕ) (a b c d : Instr) → bytes_of (words_of (a ∷ b ∷ c ∷ d ∷ [])) ≡ bytes → IsSpelled a → IsSpelled b → IsSpelled c → IsSpelled d → IsLongestReading bytes (four a b c d)
+four_longest law bytes a b c d is sa sb sc sd =
+    subst (λ (l : List ℕ). IsLongestReading l (four a b c d)) is (record {
+      is_reading = (sa, (sb, (sc, (sd, tt))));
+      longest = λ other h. most law (bytes_of (words_of (a ∷ b ∷ c ∷ d ∷ []))) (four a b c d) other (sa, (sb, (sc, (sd, tt)))) (nothing_begins [] refl) h;
+    })
+
+abbrev pub wide : Instr → Piece
+wide i = record { instr = i; size = 4 }
 
 -- ---- samples
 

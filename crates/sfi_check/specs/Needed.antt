@@ -1,11 +1,16 @@
 -- That a rule is needed, and that the rules leave code that does something.
-use Rattle.std.specs.Prelude.{◌≡◌, Some, ℕ, List, [], ◌∷◌}
+use Rattle.std.specs.Prelude.{◌≡◌, ◌+◌, ◌*◌, Some, ℕ, List, [], ◌∷◌, map, filter, sum_by}
 use Rattle.rv_mem.specs.Bytes.{byte_at}
 use Rattle.rv_step.specs.declared.outcome.Outcome.TheVariants.{Next}
 use Rattle.rv_step.specs.State.{State}
 use Rattle.rv_step.specs.Step.{Stepped}
 use Rattle.sfi_image.specs.Spelling.{Part, spelling}
 use Rattle.sfi_scan.specs.declared.rule.Rule.{Rule}
+use Rattle.sfi_scan.specs.declared.rule.Rule.TheVariants.{V1, V2, V9}
+use Rattle.sfi_scan.specs.Bundles.{place_of, bundle_bytes}
+use Rattle.sfi_scan.specs.Readings.{Piece, IsLongestReading, rest_of}
+use Rattle.sfi_scan.specs.Rules.{breaks, is_empty}
+use Rattle.sfi_scan.specs.Findings.{all_rules}
 use Rattle.sfi_check.specs.Regions.{InData}
 use Rattle.sfi_check.specs.Runs.{Turn, Steps, Changes, IsEntry, IsRun}
 use Rattle.sfi_check.specs.Safety.{IsSafeRun}
@@ -17,10 +22,42 @@ pub record HasUnsafeRun (p : Part) (s : State) : Type 0 where
   pub run : IsRun p (Some s) turns
   pub unsafe : IsSafeRun p (Some s) turns → ⊥
 
--- The rule is needed: the image of this sandbox has a right layout and one finding, that rule at this address, and from an entry it has a run that is not
--- safe.
+-- the pieces of the first list, the nearest first, stand before those of the second
+abbrev pub stand_before : List Piece → List Piece → List Piece
+stand_before [] later = later
+stand_before (x ∷ earlier) later = stand_before earlier (x ∷ later)
+
+-- The instruction at this address is one of its bundle's longest reading, and of all rules it breaks this one.
+pub record BreaksAlone (rule : Rule) (address : ℕ) (p : Part) : Type 0 where
+  pub number : ℕ  -- the bundle's
+  pub earlier : List Piece  -- the pieces before it, the nearest first
+  pub here : Piece
+  pub later : List Piece
+  pub longest : IsLongestReading (bundle_bytes p number) (stand_before earlier (here ∷ later))
+  pub address_is : address ≡ p.code_base + 16 * number + sum_by (λ x. x.size) earlier
+  pub broken :
+      filter (λ r. breaks (record {
+        bundle = place_of 0 p number;
+        address = address;
+        earlier = map (λ x. x.instr) earlier;
+        instr = here.instr;
+        later = later;
+        whole = is_empty (rest_of (bundle_bytes p number) (stand_before earlier (here ∷ later)));
+      }) r) all_rules ≡ rule ∷ []
+
+-- No other rule is broken where that rule's finding is. V1 and V2 are found where no instruction stands, so there is none. V9 stands in place of all
+-- findings of its bundle, and of these nothing is said.
+abbrev pub BreaksNoOther : Rule → ℕ → Part → Type 0
+BreaksNoOther V1 address p = Unit {0}
+BreaksNoOther V2 address p = Unit {0}
+BreaksNoOther V9 address p = Unit {0}
+BreaksNoOther rule address p = BreaksAlone rule address p
+
+-- The rule is needed: the image of this sandbox has a right layout and one finding, that rule at this address, where no other is broken, and
+-- from an entry it has a run that is not safe.
 pub record IsNeeded (rule : Rule) (address : ℕ) (p : Part) : Type 0 where
   pub refused : HasFindings (spelling (p ∷ [])) (record { sandbox = 0; address = address; rule = rule } ∷ [])
+  pub no_other : BreaksNoOther rule address p
   pub entry : State
   pub is_entry : IsEntry p entry
   pub runs_unsafely : HasUnsafeRun p entry
