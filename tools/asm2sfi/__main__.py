@@ -1,0 +1,66 @@
+"""Turns the assembly that a RISC-V compiler makes of a C program into a source text for `sfi build`.
+
+    python3 tools/asm2sfi [--format N] [--data BYTES] [--stack BYTES] [--gate NAME=SERVICE] [--no-runtime] FILE ..
+
+Reads the files together with the runtime beside this tool, of which the program gets what it calls, and prints the
+source of one sandbox. It begins with a call of main, and exits with main's answer. What the source language can't say
+is told on standard error, each with its file and line, and the status is 1; it is 2 where a file can't be read or an
+option is wrong. docs/C.md has the compiler's options.
+"""
+import argparse
+import os
+import sys
+
+from conversion import Options, convert
+
+RUNTIME = os.path.join(os.path.dirname(os.path.abspath(__file__)), "runtime.asm")
+DEFAULT_STACK = 8192
+MOST_TOLD = 20
+
+
+def gate(text):
+    name, mark, service = text.partition("=")
+    if not mark or not service.isdigit() or int(service) > 5:
+        raise argparse.ArgumentTypeError(f"{text!r} isn't NAME=SERVICE with a service from 0 to 5")
+    return name, int(service)
+
+
+def parsed(words):
+    parser = argparse.ArgumentParser(prog="asm2sfi", description=__doc__.split("\n")[0])
+    parser.add_argument("files", nargs="+", metavar="FILE", help="assembly of gcc or clang")
+    parser.add_argument("--format", type=int, choices=[1, 2], default=2, help="the image's format; 2 if absent")
+    parser.add_argument("--data", type=int, metavar="BYTES", help="the size of the data region, a power of two")
+    parser.add_argument("--stack", type=int, default=DEFAULT_STACK, metavar="BYTES",
+                        help="room for the stack at least; 8192 if absent")
+    parser.add_argument("--gate", type=gate, action="append", default=[], metavar="NAME=SERVICE",
+                        help="a function that is a gate, beside get, put, exit_with and yield_turn")
+    parser.add_argument("--no-runtime", action="store_true", help="without memcpy, __udivdi3 and the like")
+    return parser.parse_args(words)
+
+
+def read_file(path):
+    with open(path, encoding="utf-8") as file:
+        return os.path.basename(path), file.read()
+
+
+def main():
+    arguments = parsed(sys.argv[1:])
+    options = Options(arguments.format, arguments.data, arguments.stack, dict(arguments.gate))
+    try:
+        texts = [read_file(path) for path in arguments.files]
+        library = [] if arguments.no_runtime else [read_file(RUNTIME)]
+    except (OSError, UnicodeDecodeError) as error:
+        print(f"asm2sfi: {error}", file=sys.stderr)
+        return 2
+    source, refusals = convert(texts, library, options)
+    for refusal in refusals[:MOST_TOLD]:
+        print(f"asm2sfi: {refusal}", file=sys.stderr)
+    if len(refusals) > MOST_TOLD:
+        print(f"asm2sfi: and {len(refusals) - MOST_TOLD} more", file=sys.stderr)
+    if not refusals:
+        sys.stdout.write(source)
+    return 1 if refusals else 0
+
+
+if __name__ == "__main__":
+    sys.exit(main())

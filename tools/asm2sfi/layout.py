@@ -1,0 +1,89 @@
+"""Where each object lies in the sandbox's data region, and which labels it needs there.
+
+A load or store at `N(a)` becomes one on the masked a. Where a lies in the data region the mask changes nothing; but
+compilers also reach an object from a base that lies outside it, by an offset that leads back. So there is room at both
+ends of the region, as much as the offsets of the program can bridge, and every base that leads to an object lies in
+the region."""
+from dataclasses import dataclass
+
+from assembly import Refused
+from instructions import is_access, offset_and_base
+from sections import LARGEST_DATA
+
+SMALLEST_DATA = 256
+FRAME_ALIGNMENT = 16
+
+
+@dataclass(frozen=True)
+class Margins:
+    """How far below and above an object a base may lie."""
+    below: int = 0
+    above: int = 0
+
+
+def margins(ops):
+    """The room that the loads and stores of a program need. The stack pointer always lies in the region."""
+    offsets = [offset for op in ops if is_access(op) for offset, base in [offset_and_base(op)] if base != "sp"]
+    below, above = max([0, *offsets]), max([0, *(-offset for offset in offsets)])
+    return Margins(rounded(below), rounded(above))
+
+
+def rounded(count):
+    return count + -count % FRAME_ALIGNMENT
+
+
+class DataLayout:
+    """The data sections one after another, after the room below them: first those with content, and then those of
+    zeros, the largest last, so that the most zeros are left to the region's own."""
+
+    def __init__(self, sections, below=0):
+        filled = [section for section in sections if not section.is_zero()]
+        zeros = sorted((section for section in sections if section.is_zero()), key=lambda section: len(section.content))
+        self.starts = {}
+        self.chunks = []
+        self.labels = {}  # by offset, the labels that code and addresses speak of
+        self.end = below if sections else 0
+        for section in filled + zeros:
+            self.end += -self.end % section.alignment
+            self.starts[id(section)] = self.end
+            self.chunks.append((self.end, section))
+            self.end += len(section.content)
+
+    def offset(self, section, name):
+        return self.starts[id(section)] + section.labels[name]
+
+    def label(self, section, symbol, addend, text, place):
+        """Puts a label where the symbol plus the addend lies."""
+        offset = self.offset(section, symbol) + addend
+        if not 0 <= offset <= self.end:
+            raise Refused(place, f"{symbol}{addend:+} lies outside the data")
+        texts = self.labels.setdefault(offset, [])
+        if text not in texts:
+            texts.append(text)
+
+    def content(self):
+        """The first bytes of the region: up to the last label or the last word that isn't zero."""
+        content = bytearray(self.end)
+        for start, section in self.chunks:
+            content[start:start + len(section.content)] = section.content
+        filled = len(content.rstrip(b"\0"))
+        last = max([filled + -filled % 4, *self.labels])
+        return bytes(content[:last])
+
+
+def region_size(used, stack):
+    """The least data region that has room for the data and the stack."""
+    size = SMALLEST_DATA
+    while size < used + stack:
+        size *= 2
+    return size
+
+
+def checked_size(layout, stack, wanted, place):
+    """The size of the data region: the one that is wanted, or the least that does."""
+    size = region_size(layout.end, stack)
+    if wanted is None and size <= LARGEST_DATA:
+        return size
+    if wanted is not None and size <= wanted <= LARGEST_DATA:
+        return wanted
+    raise Refused(place, f"{layout.end} bytes of data and {stack} of stack don't fit in {wanted or LARGEST_DATA}")

@@ -1,0 +1,317 @@
+#!/usr/bin/env python3
+"""Tests of asm2sfi: `python3 tools/asm2sfi/test_asm2sfi.py`. The assembly is what gcc 12 and clang 14 write."""
+import unittest
+
+from assembly import Label, Place, Refused, Statement, read_assembly
+from conversion import Options, convert
+from instructions import Converter, Op
+from naming import Names
+from operands import Symbol
+from reading import read_unit, string_bytes
+from reach import FARTHEST, far_branches, with_far_branches
+from program import Mark
+
+HERE = Place("a.s", 1)
+
+
+def converted(line):
+    """One line of assembly in the source language."""
+    statement = next(read_assembly("a.s", line))
+    return [f"{op.word} {', '.join(map(str, op.operands))}".strip() for op in Converter().convert(statement)]
+
+
+def source(text, library="", **options):
+    """The source of a program of one file; it must not be refused."""
+    result, refusals = convert([("a.s", text)], [("lib.s", library)], Options(**options))
+    assert not refusals, refusals
+    return result
+
+
+def refusals_of(text, **options):
+    _, refusals = convert([("a.s", text)], [], Options(**options))
+    return [str(refusal) for refusal in refusals]
+
+
+def lines_after(text, line):
+    lines = [line.strip() for line in text.splitlines()]
+    return lines[lines.index(line) + 1:]
+
+
+MAIN = "\t.text\n\t.globl\tmain\nmain:\n"
+
+
+class Reading(unittest.TestCase):
+    def test_pieces(self):
+        pieces = list(read_assembly("a.s", 'a: b:\tlw\ta0, 4(sp) # x\n\n.ascii "#;,\\"", "b"; ret'))
+        self.assertEqual(pieces, [
+            Label("a", Place("a.s", 1)), Label("b", Place("a.s", 1)), Statement("lw", ("a0", "4(sp)"), Place("a.s", 1)),
+            Statement(".ascii", ('"#;,\\""', '"b"'), Place("a.s", 3)), Statement("ret", (), Place("a.s", 3))])
+
+    def test_labels_that_are_numbers(self):
+        pieces = list(read_assembly("a.s", "1:\nbeqz a0, 1f\nj 1b\n1:\nj 1b"))
+        names = [piece.name if isinstance(piece, Label) else piece.operands[-1] for piece in pieces]
+        self.assertEqual(names, [".N1.1", ".N1.2", ".N1.1", ".N1.2", ".N1.2"])
+
+    def test_strings(self):
+        rows = [(r'"Hi\n"', b"Hi\n"), (r'"\000\1777\303\251"', b"\0\x7f7\xc3\xa9"), (r'"a\\\"\t"', b'a\\"\t'),
+                (r'"\x41\b"', b"A\b"), ('"é"', b"\xc3\xa9")]
+        for text, wanted in rows:
+            self.assertEqual(string_bytes(text, HERE), wanted, text)
+
+    def test_data(self):
+        rows = [
+            ("\t.word\t-1,305419896\n", b"\xff\xff\xff\xff\x78\x56\x34\x12"),
+            ("\t.byte 1\n\t.align\t2\n\t.half\t-2\n", b"\1\0\0\0\xfe\xff"),
+            ("\t.byte 1\n\t.balign\t2\n\t.p2align 2\n\t.short 258", b"\1\0\0\0\2\1"),
+            ("\t.dword\t-2\n", b"\xfe" + b"\xff" * 7),
+            ('\t.string\t"a"\n\t.ascii "b"\n\t.asciz "c"', b"a\0bc\0"),
+            ("\t.zero\t3\n\t.space 2,7\n\t.byte 0x10, 010", b"\0\0\0\7\7\x10\x08"),
+        ]
+        for text, wanted in rows:
+            unit, refusals = read_unit("a.s", "\t.data\n" + text)
+            self.assertEqual(refusals, [])
+            self.assertEqual(bytes(unit.sections[-1].content), wanted, text)
+
+    def test_sections(self):
+        text = '''\t.section\t.rodata.str1.4,"aMS",@progbits,1
+a:\t.word 1
+\t.section\t.text.startup.main,"ax",@progbits
+\tret
+\t.section\t.debug_info,"",@progbits
+\t.4byte .L5-.L4
+\t.uleb128 0x5
+\t.section .rodata.str1.4
+\t.word 2
+\t.section mine,"aw"
+\t.byte 3
+\t.comm b,12,4
+\t.local c
+\t.comm c,5,1
+'''
+        unit, refusals = read_unit("a.s", text)
+        self.assertEqual(refusals, [])
+        sizes = [(section.name, len(getattr(section, "content", getattr(section, "ops", None))))
+                 for section in unit.sections]
+        self.assertEqual(sizes, [(".text", 0), (".rodata.str1.4", 8), (".text.startup.main", 1), ("mine", 1),
+                                 (".bss.b", 12), (".bss.c", 5)])
+        self.assertEqual(unit.globals, {"b"})
+
+
+class Instructions(unittest.TestCase):
+    def test_rows(self):
+        rows = [
+            ("add a0,a1,a2", ["add a0, a1, a2"]),
+            ("add a0,a1,-4", ["addi a0, a1, -4"]),
+            ("addi x10,x11,0x7ff", ["addi a0, a1, 2047"]),
+            ("sll a0,a0,3", ["slli a0, a0, 3"]),
+            ("sltu a0,a0,1", ["sltiu a0, a0, 1"]),
+            ("remu t3,s0,fp", ["remu t3, s0, s0"]),
+            ("lw a5,%lo(x)(a4)", ["lw a5, 0(a4)"]),
+            ("lbu a5,(a4)", ["lbu a5, 0(a4)"]),
+            ("sw zero,12(sp)", ["sw zero, 12(sp)"]),
+            ("lw a5,x", ["la a5, x", "lw a5, 0(a5)"]),
+            ("lhu a5,x+6", ["la a5, x+6", "lhu a5, 0(a5)"]),
+            ("sb a5,x,t0", ["la t0, x", "sb a5, 0(t0)"]),
+            ("lla a5,x-8", ["la a5, x-8"]),
+            ("lui a5,%hi(x)", ["la a5, x"]),
+            ("lui a5,%hi(x+12)", ["la a5, x"]),
+            ("addi a5,a5,%lo(x+12)", ["addi a5, a5, 12"]),
+            ("addi a5,a5,%lo(x)", []),
+            ("addi a5,a4,%lo(x)", ["mv a5, a4"]),
+            ("lui a5,%hi(x+2052)", ["la a5, x+2048"]),
+            ("lw a5,%lo(x+2052)(a5)", ["lw a5, 4(a5)"]),
+            ("lui a5,%hi(x-4)", ["la a5, x-2048"]),
+            ("sw a5,%lo(x-4)(a4)", ["sw a5, 2044(a4)"]),
+            ("lui a5,1048575", ["lui a5, 1048575"]),
+            ("li a5,-2147483648", ["li a5, -2147483648"]),
+            ("mv a0,a1", ["mv a0, a1"]),
+            ("not a0,a1", ["xori a0, a1, -1"]),
+            ("neg a0,a1", ["sub a0, zero, a1"]),
+            ("seqz a0,a1", ["sltiu a0, a1, 1"]),
+            ("snez a0,a1", ["sltu a0, zero, a1"]),
+            ("sltz a0,a1", ["slt a0, a1, zero"]),
+            ("sgtz a0,a1", ["slt a0, zero, a1"]),
+            ("sgtu a0,a1,a2", ["sltu a0, a2, a1"]),
+            ("sext.b a0,a1", ["slli a0, a1, 24", "srai a0, a0, 24"]),
+            ("zext.h a0,a1", ["slli a0, a1, 16", "srli a0, a0, 16"]),
+            ("zext.b a0,a1", ["andi a0, a1, 255"]),
+            ("beq a0,a1,.L3", ["beq a0, a1, .L3"]),
+            ("ble a0,a1,.L3", ["bge a1, a0, .L3"]),
+            ("bgtu a0,a1,.L3", ["bltu a1, a0, .L3"]),
+            ("bltz a0,.L3", ["blt a0, zero, .L3"]),
+            ("blez a0,.L3", ["bge zero, a0, .L3"]),
+            ("bnez a0,.L3", ["bnez a0, .L3"]),
+            ("j .L3", ["j .L3"]),
+            ("jal f", ["call f"]),
+            ("jal t0,f", ["jal t0, f"]),
+            ("call f@plt", ["call f"]),
+            ("call t0,__riscv_save_0", ["jal t0, __riscv_save_0"]),
+            ("tail f", ["j f"]),
+            ("jump .L3,ra", ["j .L3"]),
+            ("jr a5", ["jr a5"]),
+            ("jalr a5", ["jalr ra, 0(a5)"]),
+            ("jalr ra,a5", ["jalr ra, 0(a5)"]),
+            ("jalr ra,8(a5)", ["jalr ra, 8(a5)"]),
+            ("jalr zero,a5,4", ["jalr zero, 4(a5)"]),
+            ("ret", ["ret"]),
+            ("unimp", ["ebreak"]),
+            ("fence rw,rw", ["fence"]),
+            ("nop", ["nop"]),
+        ]
+        for line, wanted in rows:
+            self.assertEqual(converted(line), wanted, line)
+
+    def test_refusals(self):
+        rows = [
+            ("add s8,a0,a0", "s8 is the sandbox's own register: compile with -ffixed-x24"),
+            ("mv a0,t6", "t6 is the sandbox's own register: compile with -ffixed-x31"),
+            ("fadd.s fa0,fa0,fa1", "fadd.s: there is no floating point"),
+            ("csrr a0,mstatus", "csrr: the sandbox has no control registers"),
+            ("rdcycle a0", "rdcycle: the sandbox has no counters"),
+            ("ecall", "ecall: a sandbox calls its host through gates alone"),
+            ("amoadd.w a0,a1,(a2)", "amoadd.w: there are no atomic instructions"),
+            ("fence.i", "fence.i: code can't change"),
+            ("ld a0,0(a1)", "ld: it is no instruction of RV32IM"),
+            ("addi a0,a0,2048", "2048 is outside -2048 to 2047"),
+            ("slli a0,a0,32", "32 is outside 0 to 31"),
+            ("add a0,a0", "add has 3 operands"),
+            ("not a0", "not has 2 operands"),
+            ("lw a0,4(fa0)", "'fa0' is no register of RV32I"),
+            ("j .L3+4", "a jump to .L3+4, which is no label"),
+            ("addi a5,a5,%pcrel_lo(.L0)", ".L0 is no label of an auipc"),
+            ("li a5,%hi(x)", "%hi(x) in li"),
+            ("ori a5,a5,%lo(x)", "%lo(x) in ori"),
+            ("addi a5,a5,%tprel_lo(x)", "'%tprel_lo(x)' is no number"),
+            ("la a0,a-b", "'a-b' is no symbol plus a number"),
+        ]
+        for line, wanted in rows:
+            with self.assertRaises(Refused) as caught:
+                converted(line)
+            self.assertEqual(str(caught.exception), f"a.s:1: {wanted}", line)
+
+
+class Programs(unittest.TestCase):
+    def test_smallest(self):
+        self.assertEqual(source(MAIN + "\tli\ta0,7\n\tret\n"), """\
+# Made by tools/asm2sfi from a.s. Change the program, and not this text.
+.format 2
+.sandbox 8192
+.gate exit_with 0
+.option rvc
+        call main
+        call exit_with
+main:
+        li a0, 7
+        ret
+""")
+
+    def test_only_labels_that_are_used(self):
+        text = source(MAIN + ".LFB0:\n.L2:\n\tnop\n.L3:\n\tbnez\ta0,.L2\n\tret\n")
+        self.assertEqual(lines_after(text, "main:"), ["_.L2:", "nop", "bnez a0, _.L2", "ret"])
+
+    def test_gates(self):
+        text = source(MAIN + "\tcall\tget\n\ttail\tsend\n", gates={"send": 4})
+        self.assertIn(".gate exit_with 0\n.gate get 2\n.gate send 4\n", text)
+        self.assertEqual(lines_after(text, "main:"), ["call get", "j send"])
+
+    def test_only_what_is_needed(self):
+        library = "\t.section .text.f\n\t.globl f\nf:\tret\n\t.section .text.g\n\t.globl g\ng:\tcall unknown\n"
+        text = source(MAIN + "\tcall f\n\tret\n\t.section .text.idle\nidle:\tret\n", library)
+        self.assertEqual(lines_after(text, "main:"), ["call f", "ret", "f:", "ret"])
+
+    def test_own_definition_goes_before_the_library(self):
+        text = source(MAIN + "\ttail f\n\t.globl f\nf:\tnop\n", "\t.globl f\nf:\tret\n")
+        self.assertEqual(lines_after(text, "main:"), ["j f", "f:", "nop"])
+
+    def test_local_names_of_two_files(self):
+        other = "\t.globl f\nf:\n.L2:\tbnez a0,.L2\n\tret\n"
+        text = source(MAIN + ".L2:\tbeqz a0,.L2\n\ttail f\n", other)
+        self.assertEqual(lines_after(text, "main:"),
+                         ["_.L2:", "beqz a0, _.L2", "j f", "f:", "_.L2..1:", "bnez a0, _.L2..1", "ret"])
+
+    def test_weak_and_alias(self):
+        text = source(MAIN + "\tcall a\n\tcall w\n\tret\n\t.set a,b\nb:\tnop\n\t.weak w\nw:\tret\n")
+        self.assertEqual(lines_after(text, "main:"), ["call b", "call w", "ret", "b:", "nop", "w:", "ret"])
+
+    def test_data(self):
+        text = source(MAIN + "\tla a0,s\n\tla a1,t+4\n\tla a2,z\n\tla a3,big\n\tret\n\t.comm big,4000,4\n\t.bss\n\t.align 2\nz:\t.zero 8\n"
+                      "\t.data\ns:\t.ascii \"Hi\"\n\t.align 2\nt:\t.word 1,258,0,0,0\n")
+        self.assertEqual(lines_after(text, "ret"), [
+            ".data", "s:", ".word 0x6948, 0x1", "t..plus4:", ".word 0x102", ".zero 12", "z:", ".zero 8", "big:"])
+        self.assertIn("        la a1, t..plus4\n", text)
+        self.assertIn(".sandbox 16384\n", text)
+
+    def test_addresses_in_data(self):
+        text = source(MAIN + "\tla a0,t\n\tret\nf:\tret\n\t.data\nt:\t.word 5,f,t+8\n")
+        self.assertEqual(lines_after(text, ".option rvc")[:7], [
+            "la t0, address..4", "la t1, f", "sw t1, 0(t0)", "la t1, t..plus8", "sw t1, 4(t0)", "call main",
+            "call exit_with"])
+        self.assertEqual(lines_after(text, ".data"), ["t:", ".word 0x5", "address..4:", ".zero 4", "t..plus8:"])
+
+    def test_room_at_both_ends(self):
+        """A base that an offset leads back from lies in the region, too."""
+        text = source(MAIN + "\tla a0,x\n\tlw a1,20(a0)\n\tsb a1,-1(a0)\n\tlw ra,2000(sp)\n\tret\n\t.data\nx:\t.word 5\n")
+        self.assertEqual(lines_after(text, ".option rvc")[0], "addi sp, sp, -16")
+        self.assertEqual(lines_after(text, ".data"), [".zero 32", "x:", ".word 0x5"])
+
+    def test_anchor(self):
+        text = source(MAIN + "\tla a0,.LANCHOR0\n\tla a1,.LANCHOR0+4\n\tret\n\t.data\n\t.set\t.LANCHOR0,. + 4\nx:\t.word 1,2,3\n")
+        self.assertEqual(lines_after(text, ".data"), [
+            ".word 0x1", "_.LANCHOR0:", ".word 0x2", "_.LANCHOR0..plus4:", ".word 0x3"])
+
+    def test_parts_by_auipc(self):
+        text = source(MAIN + ".Lpcrel_hi0:\n\tauipc a0,%pcrel_hi(x)\n\tlw a0,%pcrel_lo(.Lpcrel_hi0)(a0)\n\tret\n"
+                      "\t.data\nx:\t.word 9\n")
+        self.assertEqual(lines_after(text, "main:")[:3], ["la a0, x", "lw a0, 0(a0)", "ret"])
+
+    def test_refusals(self):
+        rows = [
+            ("\tcall\tnothere\n", "undefined symbol nothere"),
+            ("\tcall\t__adddf3\n", "undefined symbol __adddf3, of floating point"),
+            ("\tla a0,main+4\n", "main+4 lies inside code"),
+            ("\tnop\nmain:\n", None),
+            ("\t.word 5\n", ".word in the code section .text"),
+            ("\t.incbin \"x\"\n", "the directive .incbin"),
+            ("\t.section .init_array,\"aw\"\n", "section .init_array: nothing runs before main and after it"),
+            ("\t.section .tbss,\"awT\",@nobits\n", "section .tbss: there is one thread"),
+            ("\t.data\n\tret\n", None),
+            ("\t.set a,5\n", ".set to what is no symbol"),
+        ]
+        for text, wanted in rows:
+            if wanted is not None:
+                self.assertEqual(refusals_of(MAIN + text), [f"a.s:4: {wanted}"], text)
+        self.assertEqual(refusals_of(MAIN + "main:\n"), ["a.s:4: main is defined twice, first at a.s:3"])
+        self.assertEqual(refusals_of(MAIN + "\t.data\n\tret\n"), ["a.s:5: the instruction ret in the data section .data"])
+        self.assertEqual(refusals_of(MAIN + "\tecall\n\tmret\n"), [
+            "a.s:4: ecall: a sandbox calls its host through gates alone", "a.s:5: mret: it is no instruction of RV32IM"])
+        self.assertEqual(refusals_of("\tnop\n"), ["a.s: undefined symbol main"])
+        self.assertEqual(refusals_of(MAIN + "\tret\n", data=256),
+                         ["start:0: 0 bytes of data and 8192 of stack don't fit in 256"])
+
+
+class Naming(unittest.TestCase):
+    def test_long_names_stay_apart(self):
+        names = Names({"put"})
+        first, second = names.fresh("a" * 70), names.fresh("a" * 71)
+        self.assertEqual((len(first), len(second), first == second), (64, 64, False))
+        self.assertEqual(names.fresh("put"), "put..n2")
+
+
+class Reach(unittest.TestCase):
+    @staticmethod
+    def loop(count):
+        """A loop of so many loads, which take 12 of the 16 bytes of a bundle each."""
+        loads = [Op("lw", ("a0", "0(a0)"), HERE)] * count
+        return [Mark("top"), *loads, Op("bnez", ("a0", "top"), HERE)]
+
+    def test_near(self):
+        self.assertEqual(far_branches(self.loop(FARTHEST // 16)), set())
+
+    def test_far(self):
+        code = with_far_branches(self.loop(FARTHEST // 16 + 1), Names([]))
+        self.assertEqual(code[-3:], [
+            Op("beqz", ("a0", "over..1"), HERE), Op("j", ("top",), HERE), Mark("over..1")])
+
+
+if __name__ == "__main__":
+    unittest.main()
