@@ -1,0 +1,14 @@
+#!/usr/bin/env bash
+# Runs the natively compiled programs that are named, on each of their inputs, and prints a line for each:
+# program, input, exit code, and the output in hexadecimal.
+set -uo pipefail
+cd "$(dirname "${BASH_SOURCE[0]}")"
+source ./cases.sh
+
+for program in "$@"; do
+    for input in $(inputs_of "$program"); do
+        output=$(build/"$program" <"$input" | xxd -p | tr -d '\n'; exit "${PIPESTATUS[0]}")
+        status=$?
+        echo "$program $(basename "$input") exit=$status out=$output"
+    done
+done

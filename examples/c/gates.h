@@ -1,0 +1,25 @@
+/* The gates that a sandboxed C program calls. docs/GATES.md says what the console answers. */
+#ifndef GATES_H
+#define GATES_H
+
+#ifdef __cplusplus
+extern "C" {
+#endif
+
+/* Ends the program with a code. Returning from main does the same. */
+_Noreturn void exit_with(int code);
+
+/* Appends length bytes to the output. Answers length, or -1 where length is above 65536 or the output is full. */
+long put(const void *bytes, unsigned length);
+
+/* Reads the next bytes of the input, at most length, and answers how many: 0 at its end, -1 where length is above 65536. */
+long get(void *bytes, unsigned length);
+
+/* Ends the turn; the other sandboxes run before this call returns. */
+void yield_turn(void);
+
+#ifdef __cplusplus
+}
+#endif
+
+#endif

@@ -1,0 +1,56 @@
+#!/usr/bin/env bash
+# Builds, checks and runs the C examples in both formats, on each input of expected.txt, and compares what they do with
+# what the native programs did. Needs no compiler.
+#
+#     examples/c/test.sh [SFI]      # SFI is the program; ./sfi at the top if absent
+set -uo pipefail
+here=$(cd "$(dirname "${BASH_SOURCE[0]}")" && pwd)
+sfi=$(realpath "${1:-$here/../../sfi}")
+cd "$here"
+room=$(mktemp -d)
+trap 'rm -rf "$room"' EXIT
+failed=0
+passed=0
+
+report() { # what failed, and what was wanted and found
+    failed=$((failed + 1))
+    printf 'FAILED %s\n  wanted %s\n  found  %s\n' "$1" "$2" "$3"
+}
+
+make_image() { # program, format
+    grep -v '^\.format' "$1.s" | sed "1i .format $2" | "$sfi" build >"$room/$1.$2"
+}
+
+check_image() { # program, format
+    local verdict
+    verdict=$("$sfi" check <"$room/$1.$2")
+    case $verdict in
+    accepted*) passed=$((passed + 1)) ;;
+    *) report "$1, format $2: check" accepted "$verdict" ;;
+    esac
+}
+
+run_case() { # program, format, input, what is wanted
+    local found
+    found=$("$sfi" run --rounds 10000 --quantum 1000000 --input "$(xxd -p "inputs/$3" | tr -d '\n')" <"$room/$1.$2")
+    if [ "$(sed 's/^sandbox=0 //; s/ steps=[0-9]*//' <<<"$found")" = "$4" ]; then
+        passed=$((passed + 1))
+    else
+        report "$1, format $2, $3" "$4" "$found"
+    fi
+}
+
+for format in 1 2; do
+    for program in $(cut -d' ' -f1 expected.txt | uniq); do
+        if ! make_image "$program" "$format"; then
+            report "$program, format $format: build" image "$(cat "$room/$program.$format")"
+            continue
+        fi
+        check_image "$program" "$format"
+        while read -r name input wanted; do
+            [ "$name" = "$program" ] && run_case "$program" "$format" "$input" "$wanted"
+        done <expected.txt
+    done
+done
+echo "$passed passed, $failed failed"
+[ "$failed" = 0 ]
