@@ -1,79 +1,93 @@
--- The tables of names find just the keywords that the definitions give.
-use Rattle.std.proofs.Common.{◌≡◌, ℕ, List, sym, ap, ◌∙◌, Option, Some, None, IfSome, IfNone, refl}
-use Rattle.std.specs.Str.{bytes_eq}
-use Rattle.std.proofs.lemmas.Slice.Eq.{bytes_eq-Decides}
+-- The table of keywords finds just those that the definitions give.
+use Rattle.std.proofs.Common.{◌≡◌, ℕ, ◌<◌, ◌≤◌, List, sym, ap, ◌∙◌, Option, Some, None, IfSome, IfNone, refl, slice_index_or}
+use Rattle.std.specs.Prelude.{slice_get, slice_index}
+use Rattle.std.proofs.lemmas.Option.{slice_get-get_or, slice_get_past}
+use Rattle.rv_word.specs.declared.instr.RegOp.TheVariants.{Add}
+use Rattle.rv_word.specs.declared.instr.ImmOp.TheVariants.{Addi}
+use Rattle.rv_word.specs.declared.instr.LoadKind.TheVariants.{Lb}
+use Rattle.rv_word.specs.declared.instr.StoreWidth.TheVariants.{Sb}
+use Rattle.rv_word.specs.declared.instr.Cond.TheVariants.{Beq}
 use Rattle.rv_text.specs.declared.mnemonic.Mnemonic.{Mnemonic}
+use Rattle.rv_text.specs.declared.mnemonic.Mnemonic.TheVariants.{Op, OpImm, Load, Store, Branch}
 use Rattle.rv_text.specs.declared.keyword.Keyword.{Keyword}
 use Rattle.rv_text.specs.declared.keyword.Keyword.TheVariants as keyword
-use Rattle.rv_text.specs.declared.keyword.Pseudo.{Pseudo}
 use Rattle.rv_text.specs.declared.keyword.Pseudo.TheVariants.{Nop}
-use Rattle.rv_text.specs.declared.keyword.Directive.{Directive}
 use Rattle.rv_text.specs.declared.keyword.Directive.TheVariants.{Sandbox}
-use Rattle.rv_text.specs.declared.keyword.DataWidth.{DataWidth}
 use Rattle.rv_text.specs.declared.keyword.DataWidth.TheVariants.{Word}
-use Rattle.rv_text.specs.declared.keyword.TheConstants.{OTHERS}
+use Rattle.rv_text.specs.declared.keyword.TheConstants.{ALL, PLACES}
 use Rattle.rv_text.specs.Mnemonics.{name_of}
-use Rattle.rv_text.specs.Keywords.{keyword_name, pseudo_name, directive_name, data_name}
-use Rattle.rv_text.specs.Lookup.{find_mnemonic, find_other}
-use Rattle.rv_text.proofs.Names.{mnemonic_own, found_passes}
+use Rattle.rv_text.specs.Keywords.{keyword_name}
+use Rattle.rv_text.specs.Lookup.{hash, candidate, mnemonic_in}
 
--- each keyword that isn't the name of an instruction is the first of its name in the table
-pseudo_own : (p : Pseudo) → find_other (pseudo_name p) ≡ Some (keyword.Pseudo p)
-unfolding find_other
-pseudo_own Nop = refl
-pseudo_own _ = refl
-
-directive_own : (d : Directive) → find_other (directive_name d) ≡ Some (keyword.Directive d)
-unfolding find_other
-directive_own Sandbox = refl
-directive_own _ = refl
-
-numbers_own : (w : DataWidth) → find_other (data_name w) ≡ Some (keyword.Numbers w)
-unfolding find_other
-numbers_own Word = refl
-numbers_own _ = refl
-
--- the keyword of a name: an instruction's, or one of the others
-abbrev among : Option Mnemonic → List ℕ → Option Keyword
-among None text = find_other text
-among (Some m) text = Some (keyword.Instr m)
-
-abbrev found : List ℕ → Option Keyword
-found text = among (find_mnemonic text) text
-
-keyword_own : (k : Keyword) → found (keyword_name k) ≡ Some k
-unfolding find_mnemonic find_other
-keyword_own (keyword.Instr m) = ap (λ o. among o (name_of m)) (mnemonic_own m)
-keyword_own (keyword.Pseudo Nop) = refl
-keyword_own (keyword.Pseudo _) = refl
-keyword_own (keyword.Directive Sandbox) = refl
-keyword_own (keyword.Directive _) = refl
-keyword_own (keyword.Numbers Word) = refl
-keyword_own (keyword.Numbers _) = refl
+-- each keyword is the candidate of its name, by computation
+candidate_own : (k : Keyword) → candidate (keyword_name k) ≡ Some k
+unfolding candidate hash
+candidate_own (keyword.Instr (Op Add)) = refl
+candidate_own (keyword.Instr (Op _)) = refl
+candidate_own (keyword.Instr (OpImm Addi)) = refl
+candidate_own (keyword.Instr (OpImm _)) = refl
+candidate_own (keyword.Instr (Load Lb)) = refl
+candidate_own (keyword.Instr (Load _)) = refl
+candidate_own (keyword.Instr (Store Sb)) = refl
+candidate_own (keyword.Instr (Store _)) = refl
+candidate_own (keyword.Instr (Branch Beq)) = refl
+candidate_own (keyword.Instr (Branch _)) = refl
+candidate_own (keyword.Instr _) = refl
+candidate_own (keyword.Pseudo Nop) = refl
+candidate_own (keyword.Pseudo _) = refl
+candidate_own (keyword.Directive Sandbox) = refl
+candidate_own (keyword.Directive _) = refl
+candidate_own (keyword.Numbers Word) = refl
+candidate_own (keyword.Numbers _) = refl
 
 -- a name has one keyword
 pub keyword_unique : (j k : Keyword) → keyword_name j ≡ keyword_name k → j ≡ k
 keyword_unique j k e =
-    let s : found (keyword_name j) ≡ found (keyword_name k) = ap found e in
-    let t : Some j ≡ Some k = sym (keyword_own j) ∙ s ∙ keyword_own k in
+    let t : Some j ≡ Some k = sym (candidate_own j) ∙ ap candidate e ∙ candidate_own k in
     cc
 
-other_found : (text : List ℕ) (k : Keyword) → find_other text ≡ Some k → keyword_name k ≡ text
-unfolding find_other
-other_found text k e = (bytes_eq-Decides (keyword_name k) text).0 (found_passes (λ x. bytes_eq (keyword_name x) text) OTHERS k e)
+-- and one mnemonic
+pub name_unique : (m n : Mnemonic) → name_of m ≡ name_of n → m ≡ n
+name_unique m n e =
+    let same : keyword.Instr m ≡ keyword.Instr n = keyword_unique (keyword.Instr m) (keyword.Instr n) e in
+    cc
 
-pub other_if_some : (text : List ℕ) (o : Option Keyword) → o ≡ find_other text → IfSome o (λ k. keyword_name k ≡ text)
-other_if_some text None e = tt
-other_if_some text (Some k) e = other_found text k (sym e)
+-- a text of which there is no candidate is no keyword
+pub none_of_none : (text : List ℕ) (o : Option Keyword) → o ≡ candidate text → o ≡ None → (k : Keyword) → keyword_name k ≡ text → ⊥
+none_of_none text o e none k named =
+    let t : None ≡ Some k = sym none ∙ e ∙ ap candidate (sym named) ∙ candidate_own k in
+    cc
 
--- a text that is no instruction's name, and not in the table, is no keyword
-none_found : (text : List ℕ) → None ≡ find_other text → ((m : Mnemonic) → name_of m ≡ text → ⊥) → (k : Keyword) → keyword_name k ≡ text → ⊥
-none_found text e none (keyword.Instr m) h = none m h
-none_found text e none (keyword.Pseudo p) h = let t : None ≡ Some (keyword.Pseudo p) = e ∙ ap find_other (sym h) ∙ pseudo_own p in cc
-none_found text e none (keyword.Directive d) h = let t : None ≡ Some (keyword.Directive d) = e ∙ ap find_other (sym h) ∙ directive_own d in cc
-none_found text e none (keyword.Numbers w) h = let t : None ≡ Some (keyword.Numbers w) = e ∙ ap find_other (sym h) ∙ numbers_own w in cc
+-- nor is one whose candidate has another name
+pub none_of_other : (text : List ℕ) (o : Option Keyword) (found : Keyword) → o ≡ candidate text → o ≡ Some found → (keyword_name found ≡ text → ⊥)
+    → (k : Keyword) → keyword_name k ≡ text → ⊥
+none_of_other text o found e is other k named =
+    let t : Some found ≡ Some k = sym is ∙ e ∙ ap candidate (sym named) ∙ candidate_own k in
+    let same : found ≡ k = cc in
+    other (ap keyword_name same ∙ named)
 
-pub other_if_none : (text : List ℕ) (o : Option Keyword) → o ≡ find_other text → ((m : Mnemonic) → name_of m ≡ text → ⊥)
-    → IfNone o ((k : Keyword) → keyword_name k ≡ text → ⊥)
-other_if_none text None e none = none_found text e none
-other_if_none text (Some k) e none = tt
+-- what the tables give at the hash
+at_hash : (text : List ℕ) (h : ℕ) → h ≡ hash text → slice_get ALL (slice_index PLACES h) ≡ candidate text
+unfolding candidate
+at_hash text h e = ap (λ n. slice_get ALL (slice_index PLACES n)) e
+
+pub inside : (text : List ℕ) (h : ℕ) (d : Keyword) → h ≡ hash text → slice_index PLACES h < 67 → Some (slice_index_or ALL (slice_index PLACES h) d) ≡ candidate text
+inside text h d e lt = sym (slice_get-get_or ALL (slice_index PLACES h) d lt) ∙ at_hash text h e
+
+pub outside : (text : List ℕ) (h : ℕ) → h ≡ hash text → 67 ≤ slice_index PLACES h → None ≡ candidate text
+outside text h e ge = sym (slice_get_past ALL (slice_index PLACES h) ge) ∙ at_hash text h e
+
+-- the mnemonic of this name is the keyword of this name, if that is one
+pub mnemonic_of_name : (text : List ℕ) (k : Keyword) (r : Option Mnemonic) → r ≡ mnemonic_in k → keyword_name k ≡ text → IfSome r (λ m. name_of m ≡ text)
+mnemonic_of_name text k None e named = tt
+mnemonic_of_name text (keyword.Instr n) (Some m) e named = let same : m ≡ n = cc in ap name_of same ∙ named
+mnemonic_of_name text (keyword.Pseudo p) (Some m) e named = cc
+mnemonic_of_name text (keyword.Directive d) (Some m) e named = cc
+mnemonic_of_name text (keyword.Numbers w) (Some m) e named = cc
+
+pub no_mnemonic_of_name : (text : List ℕ) (k : Keyword) (r : Option Mnemonic) → r ≡ mnemonic_in k → keyword_name k ≡ text → IfNone r ((m : Mnemonic) → name_of m ≡ text → ⊥)
+no_mnemonic_of_name text k (Some m) e named = tt
+no_mnemonic_of_name text (keyword.Instr n) None e named = λ m h. cc
+no_mnemonic_of_name text (keyword.Pseudo p) None e named = λ m h. let same : keyword.Instr m ≡ keyword.Pseudo p = keyword_unique (keyword.Instr m) (keyword.Pseudo p) (h ∙ sym named) in cc
+no_mnemonic_of_name text (keyword.Directive d) None e named = λ m h. let same : keyword.Instr m ≡ keyword.Directive d = keyword_unique (keyword.Instr m) (keyword.Directive d) (h ∙ sym named) in cc
+no_mnemonic_of_name text (keyword.Numbers w) None e named = λ m h. let same : keyword.Instr m ≡ keyword.Numbers w = keyword_unique (keyword.Instr m) (keyword.Numbers w) (h ∙ sym named) in cc

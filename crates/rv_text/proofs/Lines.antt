@@ -31,7 +31,7 @@ use Rattle.rv_text.specs.Constants.{constant, data_bytes}
 use Rattle.rv_text.specs.Lines.{Writes, AreMore, IsRow, IsData, StatesBehind, InstrDeparts, RefusedWith}
 use Rattle.rv_text.specs.Lists.{ReadsRow, ReadsInstr, ReadsBehind, ReadsList}
 use Rattle.rv_text.specs.Stated.{Stated, stated, IsRightStatement, format, sandbox, within, gate, compressed, bytes, plain, jump, address}
-use Rattle.rv_text.proofs.Names.{name_unique}
+use Rattle.rv_text.proofs.Keywords.{name_unique}
 use Rattle.rv_text.proofs.Meaning.{tokens_of, from_tokens, agree}
 use Rattle.rv_text.proofs.OneMeaning.{follows_one}
 use Rattle.rv_text.proofs.Refusals.{departs_one, departs_reads}

@@ -11,7 +11,7 @@ use Rattle.rv_text.specs.Forms.{form_of}
 use Rattle.rv_text.specs.Reading.{Reads, AgreesOn, Follows}
 use Rattle.rv_text.specs.Statement.{mnemonic_of, operands_of}
 use Rattle.rv_text.specs.Laws.{OneMeaning, MeaningsAreInRange}
-use Rattle.rv_text.proofs.Names.{name_unique}
+use Rattle.rv_text.proofs.Keywords.{name_unique}
 use Rattle.rv_text.proofs.Taking.{blank_takes_none}
 use Rattle.rv_text.proofs.Forms.{reads_fit}
 use Rattle.rv_text.proofs.Ranges.{fits_in_range, full_fence_in_range}

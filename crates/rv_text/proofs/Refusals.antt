@@ -11,7 +11,7 @@ use Rattle.rv_text.specs.Operands.{OperandValues, Stands, Departs, part_cause}
 use Rattle.rv_text.specs.Reading.{Reads, FollowsToken}
 use Rattle.rv_text.specs.Statement.{mnemonic_of, operands_of, Refused, RefusedAt}
 use Rattle.rv_text.specs.Laws.{OneCause, MeantIsNotRefused}
-use Rattle.rv_text.proofs.Names.{name_unique}
+use Rattle.rv_text.proofs.Keywords.{name_unique}
 use Rattle.rv_text.proofs.Taking.{takes_unique, blank_takes_none}
 use Rattle.rv_text.proofs.Meaning.{meant, first_token}
 use Rattle.rv_text.proofs.Printing.{name_is_name}

@@ -33,7 +33,7 @@ use Rattle.rv_text.specs.Constants.{is_small, upper, lower, add_lower, constant,
 use Rattle.rv_text.specs.Keywords.{directive_form, directive_states, pseudo_form, pseudo_states, branch_form, branch_states, jal_form, jal_states, place_of_keyword}
 use Rattle.rv_text.specs.Lines.{IsRow, Behind}
 use Rattle.rv_text.specs.Stated.{Stated, IsRightStatement, place_of_stated, within, plain}
-use Rattle.rv_text.proofs.Names.{name_unique}
+use Rattle.rv_text.proofs.Keywords.{name_unique}
 use Rattle.rv_text.proofs.Forms.{stands_suits}
 use Rattle.rv_text.proofs.Ranges.{fits_in_range, full_fence_in_range}
 

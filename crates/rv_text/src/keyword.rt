@@ -1,11 +1,13 @@
 //! The first words of statements: directives, pseudo-instructions and the names of instructions.
-ghost use Rattle.std.specs.Prelude.{◌≡◌, IfSome, IfNone};
+ghost use Rattle.std.specs.Prelude.{◌≡◌, ◌<◌, IfSome, IfNone};
 ghost use Rattle.rv_text.specs.Keywords.{directive_name, directive_form, pseudo_name, pseudo_form, data_name, data_kind, keyword_name, place_of_keyword};
-ghost use Rattle.rv_text.specs.Lookup.{find_other};
+ghost use Rattle.rv_text.specs.Lookup.{hash, candidate, mnemonic_in};
+ghost use Rattle.rv_text.specs.Mnemonics.{name_of};
 
 use crate::form::{NumberKind, Part};
 use crate::mnemonic::Mnemonic;
 use crate::statement::Place;
+use rv_word::{Cond, ImmOp, LoadKind, RegOp, StoreWidth};
 
 /// A directive, but for those of lists of data.
 #[derive(Clone, Copy)]
@@ -49,29 +51,6 @@ pub enum Keyword {
     Directive(Directive),
     Numbers(DataWidth),
 }
-
-/// Every keyword that isn't the name of an instruction.
-const OTHERS: [Keyword; 19] = [
-    Keyword::Pseudo(Pseudo::Nop),
-    Keyword::Pseudo(Pseudo::Ret),
-    Keyword::Pseudo(Pseudo::Li),
-    Keyword::Pseudo(Pseudo::Mv),
-    Keyword::Pseudo(Pseudo::Jr),
-    Keyword::Pseudo(Pseudo::J),
-    Keyword::Pseudo(Pseudo::Call),
-    Keyword::Pseudo(Pseudo::Beqz),
-    Keyword::Pseudo(Pseudo::Bnez),
-    Keyword::Pseudo(Pseudo::La),
-    Keyword::Directive(Directive::Format),
-    Keyword::Directive(Directive::Sandbox),
-    Keyword::Directive(Directive::Gate),
-    Keyword::Directive(Directive::Option),
-    Keyword::Directive(Directive::Data),
-    Keyword::Directive(Directive::Zero),
-    Keyword::Numbers(DataWidth::Word),
-    Keyword::Numbers(DataWidth::Half),
-    Keyword::Numbers(DataWidth::Byte),
-];
 
 impl Directive {
     /// The name as source writes it.
@@ -162,11 +141,113 @@ impl DataWidth {
     }
 }
 
-#[tactic(auto, unfolding(crate::specs::Lookup::find_other))]
-fn find_other(name: &str) -> Option<Keyword>
-    ensures { result ≡ find_other name.now }
+/// Every keyword.
+const ALL: [Keyword; 67] = [
+    Keyword::Instr(Mnemonic::Op(RegOp::Add)),
+    Keyword::Instr(Mnemonic::Op(RegOp::Sub)),
+    Keyword::Instr(Mnemonic::Op(RegOp::Sll)),
+    Keyword::Instr(Mnemonic::Op(RegOp::Slt)),
+    Keyword::Instr(Mnemonic::Op(RegOp::Sltu)),
+    Keyword::Instr(Mnemonic::Op(RegOp::Xor)),
+    Keyword::Instr(Mnemonic::Op(RegOp::Srl)),
+    Keyword::Instr(Mnemonic::Op(RegOp::Sra)),
+    Keyword::Instr(Mnemonic::Op(RegOp::Or)),
+    Keyword::Instr(Mnemonic::Op(RegOp::And)),
+    Keyword::Instr(Mnemonic::Op(RegOp::Mul)),
+    Keyword::Instr(Mnemonic::Op(RegOp::Mulh)),
+    Keyword::Instr(Mnemonic::Op(RegOp::Mulhsu)),
+    Keyword::Instr(Mnemonic::Op(RegOp::Mulhu)),
+    Keyword::Instr(Mnemonic::Op(RegOp::Div)),
+    Keyword::Instr(Mnemonic::Op(RegOp::Divu)),
+    Keyword::Instr(Mnemonic::Op(RegOp::Rem)),
+    Keyword::Instr(Mnemonic::Op(RegOp::Remu)),
+    Keyword::Instr(Mnemonic::OpImm(ImmOp::Addi)),
+    Keyword::Instr(Mnemonic::OpImm(ImmOp::Slti)),
+    Keyword::Instr(Mnemonic::OpImm(ImmOp::Sltiu)),
+    Keyword::Instr(Mnemonic::OpImm(ImmOp::Xori)),
+    Keyword::Instr(Mnemonic::OpImm(ImmOp::Ori)),
+    Keyword::Instr(Mnemonic::OpImm(ImmOp::Andi)),
+    Keyword::Instr(Mnemonic::OpImm(ImmOp::Slli)),
+    Keyword::Instr(Mnemonic::OpImm(ImmOp::Srli)),
+    Keyword::Instr(Mnemonic::OpImm(ImmOp::Srai)),
+    Keyword::Instr(Mnemonic::Load(LoadKind::Lb)),
+    Keyword::Instr(Mnemonic::Load(LoadKind::Lh)),
+    Keyword::Instr(Mnemonic::Load(LoadKind::Lw)),
+    Keyword::Instr(Mnemonic::Load(LoadKind::Lbu)),
+    Keyword::Instr(Mnemonic::Load(LoadKind::Lhu)),
+    Keyword::Instr(Mnemonic::Store(StoreWidth::Sb)),
+    Keyword::Instr(Mnemonic::Store(StoreWidth::Sh)),
+    Keyword::Instr(Mnemonic::Store(StoreWidth::Sw)),
+    Keyword::Instr(Mnemonic::Branch(Cond::Beq)),
+    Keyword::Instr(Mnemonic::Branch(Cond::Bne)),
+    Keyword::Instr(Mnemonic::Branch(Cond::Blt)),
+    Keyword::Instr(Mnemonic::Branch(Cond::Bge)),
+    Keyword::Instr(Mnemonic::Branch(Cond::Bltu)),
+    Keyword::Instr(Mnemonic::Branch(Cond::Bgeu)),
+    Keyword::Instr(Mnemonic::Jal),
+    Keyword::Instr(Mnemonic::Jalr),
+    Keyword::Instr(Mnemonic::Lui),
+    Keyword::Instr(Mnemonic::Auipc),
+    Keyword::Instr(Mnemonic::Fence),
+    Keyword::Instr(Mnemonic::Ecall),
+    Keyword::Instr(Mnemonic::Ebreak),
+    Keyword::Pseudo(Pseudo::Nop),
+    Keyword::Pseudo(Pseudo::Ret),
+    Keyword::Pseudo(Pseudo::Li),
+    Keyword::Pseudo(Pseudo::Mv),
+    Keyword::Pseudo(Pseudo::Jr),
+    Keyword::Pseudo(Pseudo::J),
+    Keyword::Pseudo(Pseudo::Call),
+    Keyword::Pseudo(Pseudo::Beqz),
+    Keyword::Pseudo(Pseudo::Bnez),
+    Keyword::Pseudo(Pseudo::La),
+    Keyword::Directive(Directive::Format),
+    Keyword::Directive(Directive::Sandbox),
+    Keyword::Directive(Directive::Gate),
+    Keyword::Directive(Directive::Option),
+    Keyword::Directive(Directive::Data),
+    Keyword::Directive(Directive::Zero),
+    Keyword::Numbers(DataWidth::Word),
+    Keyword::Numbers(DataWidth::Half),
+    Keyword::Numbers(DataWidth::Byte),
+];
+
+/// By the hash of a name, the place in [`ALL`] of the keyword that alone can have the name; 67 where none can.
+const PLACES: [u8; 256] = [
+    67, 67, 67, 67, 67, 28, 50, 67, 67, 67, 67, 67, 67, 67, 30, 64, 67, 67, 67, 67, 29, 63, 42, 24,
+    67, 67, 67, 10, 58, 67, 67, 67, 67, 67, 2, 67, 67, 67, 48, 21, 67, 67, 3, 67, 67, 55, 67, 12,
+    67, 67, 59, 67, 67, 67, 40, 67, 13, 67, 67, 67, 67, 67, 20, 67, 60, 52, 67, 67, 8, 11, 67, 67,
+    67, 67, 67, 67, 67, 67, 67, 19, 26, 67, 56, 67, 67, 67, 67, 67, 14, 53, 67, 4, 67, 67, 67, 67,
+    67, 67, 67, 23, 67, 67, 67, 67, 36, 67, 67, 67, 67, 67, 67, 67, 45, 67, 67, 47, 39, 67, 67, 67,
+    31, 67, 51, 67, 67, 67, 67, 44, 65, 7, 61, 67, 67, 66, 67, 67, 67, 67, 46, 67, 6, 67, 67, 67,
+    67, 67, 5, 67, 67, 67, 67, 38, 67, 67, 67, 67, 67, 67, 67, 67, 67, 67, 67, 67, 67, 67, 67, 43,
+    67, 37, 67, 67, 67, 67, 67, 67, 67, 67, 67, 67, 67, 67, 67, 1, 67, 67, 67, 67, 41, 25, 67, 67,
+    67, 67, 67, 67, 67, 22, 67, 67, 67, 67, 67, 67, 67, 67, 67, 54, 32, 67, 67, 67, 67, 35, 33, 62,
+    67, 67, 67, 67, 67, 15, 67, 67, 67, 16, 67, 67, 67, 34, 67, 67, 49, 67, 67, 67, 67, 67, 67, 67,
+    0, 67, 67, 67, 67, 67, 9, 67, 67, 18, 67, 67, 17, 67, 57, 27,
+];
+
+/// The hash of a name: 57, and then for each byte 103 times what was there before and the byte, modulo 256. The two
+/// numbers were found by trial: by them no two keywords have one hash.
+#[tactic(auto, using(std::proofs::lemmas::List::Sums::fold_more), unfolding(crate::specs::Lookup::hash))]
+fn hash(name: &str) -> usize
+    ensures value { result ≡ hash name.now }
+    ensures small { result < 256 }
 {
-    OTHERS.iter().copied().find(|k| k.name() == name)
+    let mut hash = 57;
+    for byte in name.as_bytes() {
+        hash = (hash * 103 + usize::from(*byte)) % 256;
+    }
+    hash
+}
+
+/// The keyword that alone can have this name.
+#[tactic(auto, using(crate::proofs::Keywords::inside, crate::proofs::Keywords::outside))]
+fn candidate(name: &str) -> Option<Keyword>
+    ensures { result ≡ candidate name.now }
+{
+    let place = PLACES[hash(name)] as usize;
+    if place < 67 { Some(ALL[place]) } else { None }
 }
 
 impl Keyword {
@@ -187,9 +268,25 @@ impl Keyword {
         ensures some { IfSome result (λ k. keyword_name k ≡ name.now) }
         ensures none { IfNone result ((k : Keyword) → keyword_name k ≡ name.now → ⊥) }
     {
-        match Mnemonic::of(name) {
-            Some(name) => Some(Keyword::Instr(name)),
-            None => find_other(name),
+        match candidate(name) {
+            Some(keyword) => {
+                if keyword.name() == name {
+                    Some(keyword)
+                } else {
+                    None
+                }
+            }
+            None => None,
+        }
+    }
+
+    /// The mnemonic, where it is one.
+    fn mnemonic(self) -> Option<Mnemonic>
+        ensures { result ≡ mnemonic_in self }
+    {
+        match self {
+            Keyword::Instr(mnemonic) => Some(mnemonic),
+            Keyword::Pseudo(_) | Keyword::Directive(_) | Keyword::Numbers(_) => None,
         }
     }
 
@@ -205,6 +302,19 @@ impl Keyword {
             Keyword::Directive(Directive::Gate) => Place::Gates,
             Keyword::Directive(Directive::Option | Directive::Data) => Place::Code,
             Keyword::Directive(Directive::Zero) => Place::Data,
+        }
+    }
+}
+
+impl Mnemonic {
+    /// The mnemonic of this name; `None` for any other text, a pseudo-instruction's name too.
+    pub fn of(name: &str) -> Option<Mnemonic>
+        ensures some { IfSome result (λ m. name_of m ≡ name.now) }
+        ensures none { IfNone result ((m : Mnemonic) → name_of m ≡ name.now → ⊥) }
+    {
+        match Keyword::of(name) {
+            Some(keyword) => keyword.mnemonic(),
+            None => None,
         }
     }
 }

@@ -1,7 +1,6 @@
 //! The names of the instructions.
-ghost use Rattle.std.specs.Prelude.{◌≡◌, IfSome, IfNone};
+ghost use Rattle.std.specs.Prelude.{◌≡◌};
 ghost use Rattle.rv_text.specs.Mnemonics.{name_of, op_name, immediate_name, load_name, store_name, branch_name};
-ghost use Rattle.rv_text.specs.Lookup.{find_mnemonic};
 
 use rv_word::{Cond, ImmOp, LoadKind, RegOp, StoreWidth};
 
@@ -21,58 +20,6 @@ pub enum Mnemonic {
     Ecall,
     Ebreak,
 }
-
-/// Every mnemonic.
-const ALL: [Mnemonic; 48] = [
-    Mnemonic::Op(RegOp::Add),
-    Mnemonic::Op(RegOp::Sub),
-    Mnemonic::Op(RegOp::Sll),
-    Mnemonic::Op(RegOp::Slt),
-    Mnemonic::Op(RegOp::Sltu),
-    Mnemonic::Op(RegOp::Xor),
-    Mnemonic::Op(RegOp::Srl),
-    Mnemonic::Op(RegOp::Sra),
-    Mnemonic::Op(RegOp::Or),
-    Mnemonic::Op(RegOp::And),
-    Mnemonic::Op(RegOp::Mul),
-    Mnemonic::Op(RegOp::Mulh),
-    Mnemonic::Op(RegOp::Mulhsu),
-    Mnemonic::Op(RegOp::Mulhu),
-    Mnemonic::Op(RegOp::Div),
-    Mnemonic::Op(RegOp::Divu),
-    Mnemonic::Op(RegOp::Rem),
-    Mnemonic::Op(RegOp::Remu),
-    Mnemonic::OpImm(ImmOp::Addi),
-    Mnemonic::OpImm(ImmOp::Slti),
-    Mnemonic::OpImm(ImmOp::Sltiu),
-    Mnemonic::OpImm(ImmOp::Xori),
-    Mnemonic::OpImm(ImmOp::Ori),
-    Mnemonic::OpImm(ImmOp::Andi),
-    Mnemonic::OpImm(ImmOp::Slli),
-    Mnemonic::OpImm(ImmOp::Srli),
-    Mnemonic::OpImm(ImmOp::Srai),
-    Mnemonic::Load(LoadKind::Lb),
-    Mnemonic::Load(LoadKind::Lh),
-    Mnemonic::Load(LoadKind::Lw),
-    Mnemonic::Load(LoadKind::Lbu),
-    Mnemonic::Load(LoadKind::Lhu),
-    Mnemonic::Store(StoreWidth::Sb),
-    Mnemonic::Store(StoreWidth::Sh),
-    Mnemonic::Store(StoreWidth::Sw),
-    Mnemonic::Branch(Cond::Beq),
-    Mnemonic::Branch(Cond::Bne),
-    Mnemonic::Branch(Cond::Blt),
-    Mnemonic::Branch(Cond::Bge),
-    Mnemonic::Branch(Cond::Bltu),
-    Mnemonic::Branch(Cond::Bgeu),
-    Mnemonic::Jal,
-    Mnemonic::Jalr,
-    Mnemonic::Lui,
-    Mnemonic::Auipc,
-    Mnemonic::Fence,
-    Mnemonic::Ecall,
-    Mnemonic::Ebreak,
-];
 
 fn op_name(op: RegOp) -> &'static str
     ensures { result.now ≡ op_name op }
@@ -150,13 +97,6 @@ fn branch_name(cond: Cond) -> &'static str
     }
 }
 
-#[tactic(auto, unfolding(crate::specs::Lookup::find_mnemonic))]
-fn find(name: &str) -> Option<Mnemonic>
-    ensures { result ≡ find_mnemonic name.now }
-{
-    ALL.iter().copied().find(|m| m.name() == name)
-}
-
 impl Mnemonic {
     /// The name as source writes it, in lower case.
     pub fn name(self) -> &'static str
@@ -176,13 +116,5 @@ impl Mnemonic {
             Mnemonic::Ecall => "ecall",
             Mnemonic::Ebreak => "ebreak",
         }
-    }
-
-    /// The mnemonic of this name; `None` for any other text, a pseudo-instruction's name too.
-    pub fn of(name: &str) -> Option<Mnemonic>
-        ensures some { IfSome result (λ m. name_of m ≡ name.now) }
-        ensures none { IfNone result ((m : Mnemonic) → name_of m ≡ name.now → ⊥) }
-    {
-        find(name)
     }
 }

@@ -1,54 +1,73 @@
 //! The names of the registers: x0 to x31, and those of the ABI.
 ghost use Rattle.std.specs.Prelude.{◌≡◌, ◌<◌, ℕ, IfSome, IfNone};
-ghost use Rattle.std.specs.List.{position};
-ghost use Rattle.std.specs.Str.{bytes_eq};
-ghost use Rattle.rv_text.specs.Registers.{IsRegister, abi_names};
-ghost use Rattle.rv_text.specs.Lookup.{place, find_register, numbered_names};
+ghost use Rattle.rv_text.specs.Registers.{IsRegister};
+ghost use Rattle.rv_text.specs.Lookup.{of_number, pointer, of_two, of_three, find_register};
 
 use rv_word::Reg;
 
-/// x0 to x31.
-const NUMBERED: [&str; 32] = [
-    "x0", "x1", "x2", "x3", "x4", "x5", "x6", "x7", "x8", "x9", "x10", "x11", "x12", "x13", "x14",
-    "x15", "x16", "x17", "x18", "x19", "x20", "x21", "x22", "x23", "x24", "x25", "x26", "x27",
-    "x28", "x29", "x30", "x31",
-];
-
-/// Their names in the ABI, in order.
-const NAMED: [&str; 32] = [
-    "zero", "ra", "sp", "gp", "tp", "t0", "t1", "t2", "s0", "s1", "a0", "a1", "a2", "a3", "a4",
-    "a5", "a6", "a7", "s2", "s3", "s4", "s5", "s6", "s7", "s8", "s9", "s10", "s11", "t3", "t4",
-    "t5", "t6",
-];
-
-fn place_of(names: &[&str], name: &str) -> Option<usize>
-    ensures { result ≡ position (λ n. bytes_eq n.now name.now) names.now }
+/// The register of a letter and a number: x0 to x31, a0 to a7, s0 to s11, t0 to t6.
+fn of_number(letter: u8, number: u8) -> Option<u8>
+    ensures { result ≡ of_number letter number }
 {
-    names.iter().position(|n| *n == name)
+    match letter {
+        b'x' if number < 32 => Some(number),
+        b'a' if number < 8 => Some(number + 10),
+        b's' if number < 2 => Some(number + 8),
+        b's' if number < 12 => Some(number + 16),
+        b't' if number < 3 => Some(number + 5),
+        b't' if number < 7 => Some(number + 25),
+        _ => None,
+    }
 }
 
-fn numbered(name: &str) -> Option<usize>
-    ensures { result ≡ place numbered_names name.now }
+/// The register of the pointer of this letter: sp, gp, tp, and fp, a third name of x8.
+fn pointer(letter: u8) -> Option<u8>
+    ensures { result ≡ pointer letter }
 {
-    place_of(&NUMBERED, name)
+    match letter {
+        b's' => Some(2),
+        b'g' => Some(3),
+        b't' => Some(4),
+        b'f' => Some(8),
+        _ => None,
+    }
 }
 
-fn named(name: &str) -> Option<usize>
-    ensures { result ≡ place abi_names name.now }
+/// The register of a name of two bytes.
+fn of_two(letter: u8, last: u8) -> Option<u8>
+    ensures { result ≡ of_two letter last }
 {
-    place_of(&NAMED, name)
+    if last.is_ascii_digit() {
+        of_number(letter, last - b'0')
+    } else if last == b'p' {
+        pointer(letter)
+    } else if letter == b'r' && last == b'a' {
+        Some(1)
+    } else {
+        None
+    }
 }
 
+/// The register of a name of three bytes: of a letter and a number from 10 on.
+fn of_three(letter: u8, tens: u8, units: u8) -> Option<u8>
+    ensures { result ≡ of_three letter tens units }
+{
+    if tens.is_ascii_digit() && tens != b'0' && units.is_ascii_digit() {
+        of_number(letter, 10 * (tens - b'0') + (units - b'0'))
+    } else {
+        None
+    }
+}
+
+/// The number of the register of this name.
 #[tactic(auto, unfolding(crate::specs::Lookup::find_register))]
-fn number_of(name: &str) -> Option<usize>
+fn number_of(name: &str) -> Option<u8>
     ensures { result ≡ find_register name.now }
 {
-    if name == "fp" {
-        return Some(8);
-    }
-    match numbered(name) {
-        Some(k) => Some(k),
-        None => named(name),
+    match name.as_bytes() {
+        [letter, last] => of_two(*letter, *last),
+        [letter, tens, units] => of_three(*letter, *tens, *units),
+        _ => { if name == "zero" { Some(0) } else { None } }
     }
 }
 
@@ -58,7 +77,7 @@ pub fn register(name: &str) -> Option<Reg>
     ensures none { IfNone result ((r : ℕ) → IsRegister name.now r → ⊥) }
 {
     match number_of(name) {
-        Some(k) => Reg::new(k as u8),
+        Some(k) => Reg::new(k),
         None => None,
     }
 }

@@ -1,9 +1,6 @@
-use Rattle.std.proofs.Common.{arith, sym, ◌∙◌}
+use Rattle.std.proofs.Common.{sym, ◌∙◌}
 use Rattle.rv_text.proofs.Names.{register_found, register_if, register_if_none, register_none}
 use Rattle.rv_text.proofs.register.register.Goals as goal
-
-pub overflow_cast-k : goal.overflow_cast-k
-overflow_cast-k c = let found = register_found c.args.name.now c.in-Some.k (sym c.number_of.ensures ∙ c.in-Some.is) in omega arith
 
 pub returns-in-Some-clause-some : goal.returns-in-Some-clause-some
 returns-in-Some-clause-some c = register_if _ _ _ (register_found c.args.name.now c.in-Some.k (sym c.number_of.ensures ∙ c.in-Some.is)) c.new.ensures

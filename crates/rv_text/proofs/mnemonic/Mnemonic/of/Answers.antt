@@ -1,8 +1,12 @@
-use Rattle.rv_text.proofs.Names.{mnemonic_if_some, mnemonic_if_none}
+use Rattle.rv_text.specs.declared.keyword.Keyword.TheVariants.{Instr}
+use Rattle.rv_text.proofs.Keywords.{mnemonic_of_name, no_mnemonic_of_name}
 use Rattle.rv_text.proofs.mnemonic.Mnemonic.of.Goals as goal
 
-pub returns-clause-some : goal.returns-clause-some
-returns-clause-some c = mnemonic_if_some c.args.name.now c.find.result c.find.ensures
+pub returns-in-Some-clause-some : goal.returns-in-Some-clause-some
+returns-in-Some-clause-some c = mnemonic_of_name c.args.name.now c.in-Some.keyword c.mnemonic.result c.mnemonic.ensures c.in-Some.ensures.some
 
-pub returns-clause-none : goal.returns-clause-none
-returns-clause-none c = mnemonic_if_none c.args.name.now c.find.result c.find.ensures
+pub returns-in-Some-clause-none : goal.returns-in-Some-clause-none
+returns-in-Some-clause-none c = no_mnemonic_of_name c.args.name.now c.in-Some.keyword c.mnemonic.result c.mnemonic.ensures c.in-Some.ensures.some
+
+pub returns-in-None-clause-none : goal.returns-in-None-clause-none
+returns-in-None-clause-none c = λ m named. c.in-None.ensures.none (Instr m) named
