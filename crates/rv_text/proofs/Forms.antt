@@ -1,16 +1,15 @@
 -- How operands are read, part by part.
-use Rattle.std.proofs.Common.{◌≡◌, ℕ, Bool, true, false, ◌||◌, ◌&&◌, not, List, [], ◌∷◌, length, ◌⊎◌, inl, inr, ◌≤◌, refl, sym, ap, ◌∙◌, subst, arith, ℤ, nat_lt, Result, Ok, Err, IfOk, IfErr}
+use Rattle.std.proofs.Common.{◌≡◌, ℕ, Bool, true, false, ◌||◌, ◌&&◌, not, List, [], ◌∷◌, length, ◌⊎◌, inl, inr, ◌≤◌, refl, sym, ap, ◌∙◌, subst, arith, ℤ, nat_lt, Result, Ok, Err, OnOk, IfErr}
 use Rattle.std.specs.Prelude.{IsTrue, ◌==◌}
 use Rattle.std.proofs.lemmas.Bool.Decides.{nat_tests}
 use Rattle.rv_text.specs.declared.form.Part.{Part}
 use Rattle.rv_text.specs.declared.form.Part.TheVariants.{Rd, Rs1, Rs2, Number, Name, Mode, Comma, Open, Close}
-use Rattle.rv_text.specs.declared.operands.Operands.{Operands}
 use Rattle.rv_text.specs.declared.cause.TextCause.{TextCause}
 use Rattle.rv_text.specs.declared.cause.TextCause.TheVariants as cause
 use Rattle.rv_text.specs.Registers.{IsRegister}
 use Rattle.rv_text.specs.Tokens.{Takes, IsBlank, IsStuck, IsNumber, IsLabel}
 use Rattle.rv_text.specs.Forms.{IsNumberOf}
-use Rattle.rv_text.specs.Operands.{OperandValues, values_of, Stands, Departs, part_cause, mode_name}
+use Rattle.rv_text.specs.Operands.{OperandValues, Stands, Departs, part_cause, mode_name}
 use Rattle.rv_text.specs.Reading.{Reads, SameAt, KeepsOthers, Suits, AllSuit, slot, is_fresh, has_no_repeat}
 
 -- a token stands at a part by the operand there
@@ -79,17 +78,22 @@ keeps_part old first all part form others keeps p fresh =
     let parts = and_parts _ _ fresh in
     same_through p all first old (keeps p parts.1) (others p (slot_differs p part (not_true _ parts.0)))
 
-pub reads_result : (r : Result Operands TextCause) (whole : List Part) (first : OperandValues) (part : Part) (form : List Part) (text token rest : List ℕ) → whole ≡ part ∷ form → has_no_repeat whole ≡ true → Takes text token rest → Stands first part token
-    → IfOk r (λ o. Reads (values_of o) form rest) → IfOk r (λ o. (p : Part) → IsTrue (is_fresh p form) → SameAt p (values_of o) first) → IfOk r (λ o. Reads (values_of o) whole text)
-reads_result (Ok all) whole first part form text token rest e fresh takes stands reads keeps =
-    subst (λ f. Reads (values_of all) f text) (sym e) (reads_part first (values_of all) part form text token rest (subst (λ f. has_no_repeat f ≡ true) e fresh) takes stands reads keeps)
-reads_result (Err e) whole first part form text token rest same fresh takes stands reads keeps = tt
+module _ {A : Type 0} (r : Result A TextCause) (whole : List Part) (part : Part) (form : List Part) (same : whole ≡ part ∷ form) (all first : OperandValues) where
+  pub reads_result : (text token rest : List ℕ) → has_no_repeat whole ≡ true → Takes text token rest → Stands first part token
+      → OnOk r (Reads all form rest) → OnOk r ((p : Part) → IsTrue (is_fresh p form) → SameAt p all first) → OnOk r (Reads all whole text)
+  reads_result text token rest fresh takes stands reads keeps =
+      elim r as (λ o. OnOk o (Reads all form rest) → OnOk o ((p : Part) → IsTrue (is_fresh p form) → SameAt p all first) → OnOk o (Reads all whole text)) [
+        | Ok u ↦ λ h k. subst (λ f. Reads all f text) (sym same) (reads_part first all part form text token rest (subst (λ f. has_no_repeat f ≡ true) same fresh) takes stands h k)
+        | Err e ↦ λ h k. tt
+      ] reads keeps
 
-pub keeps_result : (r : Result Operands TextCause) (whole : List Part) (old first : OperandValues) (part : Part) (form : List Part) → whole ≡ part ∷ form → KeepsOthers part old first
-    → IfOk r (λ o. (p : Part) → IsTrue (is_fresh p form) → SameAt p (values_of o) first) → IfOk r (λ o. (p : Part) → IsTrue (is_fresh p whole) → SameAt p (values_of o) old)
-keeps_result (Ok all) whole old first part form e others keeps =
-    subst (λ f. (p : Part) → IsTrue (is_fresh p f) → SameAt p (values_of all) old) (sym e) (keeps_part old first (values_of all) part form others keeps)
-keeps_result (Err e) whole old first part form same others keeps = tt
+  pub keeps_result : (old : OperandValues) → KeepsOthers part old first
+      → OnOk r ((p : Part) → IsTrue (is_fresh p form) → SameAt p all first) → OnOk r ((p : Part) → IsTrue (is_fresh p whole) → SameAt p all old)
+  keeps_result old others keeps =
+      elim r as (λ o. OnOk o ((p : Part) → IsTrue (is_fresh p form) → SameAt p all first) → OnOk o ((p : Part) → IsTrue (is_fresh p whole) → SameAt p all old)) [
+        | Ok u ↦ λ k. subst (λ f. (p : Part) → IsTrue (is_fresh p f) → SameAt p all old) (sym same) (keeps_part old first all part form others k)
+        | Err e ↦ λ k. tt
+      ] keeps
 
 -- the causes for which a text departs from a form
 pub departs_stuck : (form : List Part) (text : List ℕ) → IsStuck text → Departs form text cause.Word
@@ -107,8 +111,8 @@ module _ (whole : List Part) (part : Part) (form : List Part) (same : whole ≡ 
   pub departs_other : (token rest : List ℕ) (e : TextCause) → Takes text token rest → ((o : OperandValues) → Stands o part token → ⊥) → e ≡ part_cause part token → Departs whole text e
   departs_other token rest e takes none is = subst (λ f. Departs f text e) (sym same) (inr (inr (token, rest, takes, inl (none, is))))
 
-  pub departs_later : (r : Result Operands TextCause) (first : OperandValues) (token rest : List ℕ) → Takes text token rest → Stands first part token → IfErr r (λ e. Departs form rest e) → IfErr r (λ e. Departs whole text e)
-  departs_later (Ok all) first token rest takes stands h = tt
+  pub departs_later : {A : Type 0} (r : Result A TextCause) (first : OperandValues) (token rest : List ℕ) → Takes text token rest → Stands first part token → IfErr r (λ e. Departs form rest e) → IfErr r (λ e. Departs whole text e)
+  departs_later (Ok u) first token rest takes stands h = tt
   departs_later (Err e) first token rest takes stands h = subst (λ f. Departs f text e) (sym same) (inr (inr (token, rest, takes, inr (first, stands, h))))
 
 -- what is read fits its form

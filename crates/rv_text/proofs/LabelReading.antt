@@ -1,23 +1,33 @@
 -- What is read of labels at the front of a line.
-use Rattle.std.proofs.Common.{◌≡◌, ◌↔◌, refl, sym, ap, subst, ℕ, Bool, true, false, not, IsTrue, List, [], ◌∷◌, ◌++◌, true≢false, codes, length, length-append, arith, ◌<◌, ◌⊎◌, inl, inr}
+use Rattle.std.proofs.Common.{◌≡◌, ◌↔◌, refl, sym, ap, subst, ℕ, Bool, true, false, not, IsTrue, List, [], ◌∷◌, ◌++◌, true≢false, codes, length, length-append, arith, ◌<◌, ◌⊎◌, inl, inr, ◌∙◌, take, drop, Option, Some, None, Bor, MatchOption}
 use Rattle.rv_text.specs.Tokens.{Takes, IsToken, IsLabel}
 use Rattle.rv_text.specs.SoFar.{Begun, SoFar}
 use Rattle.rv_text.specs.Effects.{IsFree, Labels, RefusesLabel}
 use Rattle.rv_text.specs.Leads.{BeginsWithName, BeginsWithLabel, HasNoLabel, LabelsLead, IsTaken, LabelRefused}
 use Rattle.rv_text.specs.declared.cause.TextCause.{TextCause}
 use Rattle.rv_text.specs.declared.cause.TextCause.TheVariants as cause
-use Rattle.rv_text.proofs.Taking.{takes_unique}
-use Rattle.rv_text.proofs.Lexing.{token_within}
+use Rattle.rv_text.specs.Scan.{body_of, token_len}
+use Rattle.rv_text.proofs.Taking.{takes_unique, takes_body, takes_found}
+use Rattle.rv_text.proofs.Lexing.{token_within, token_at_mark}
 
 -- a token isn't empty
 token_some : (token : List ℕ) → IsToken token → 0 < length token
 token_some [] h = omega (arith, (token_within [] [] h))
 token_some (c ∷ cs) h = omega arith
 
--- another token stands there
-pub other_token : (text token after : List ℕ) → Takes text token after → (token ≡ codes ":" → ⊥)
-    → (rest : List ℕ) → Takes text (codes ":") rest → ⊥
-other_token text token after takes other rest colon = other (takes_unique takes colon).0
+-- a colon behind the spaces is the first token, and no other token is one
+colon_found : (text rest : List ℕ) → body_of text ≡ 58 ∷ rest → Takes text (codes ":") rest
+colon_found text rest e =
+    let one : token_len (body_of text) ≡ 1 = ap token_len e ∙ token_at_mark 58 rest refl in
+    takes_found text (codes ":") rest (omega (arith, one))
+    (sym (ap (λ k. take k (body_of text)) one ∙ ap (λ t. take 1 t) e))
+    (sym (ap (λ k. drop k (body_of text)) one ∙ ap (λ t. drop 1 t) e))
+
+pub colon : (text body : List ℕ) (r : Option (Bor (List ℕ))) → body ≡ body_of text
+    → MatchOption r ((rest : List ℕ) → body ≡ codes ":" ++ rest → ⊥) (λ rest. body ≡ codes ":" ++ rest.now)
+    → MatchOption r ((rest : List ℕ) → Takes text (codes ":") rest → ⊥) (λ rest. Takes text (codes ":") rest.now)
+colon text body None is none = λ rest takes. none rest (is ∙ takes_body takes)
+colon text body (Some rest) is found = colon_found text rest.now (sym is ∙ found)
 
 -- a text begins with one name at most
 pub one_name : (text a x b y : List ℕ) → BeginsWithName text a x → BeginsWithName text b y → (a ≡ b) × (x ≡ y)

@@ -1,5 +1,5 @@
 -- The register that the code finds for a name is the one that the definitions give.
-use Rattle.std.proofs.Common.{◌≡◌, ℕ, ◌+◌, ◌-◌, ◌*◌, ◌/◌, ◌%◌, ◌<◌, ◌≤◌, Bool, true, false, cond, not, ◌&&◌, ◌||◌, List, [], ◌∷◌, length, get_or, slice_index, ◌⊎◌, inl, inr, ⊎_elim, true≢false, refl, sym, ap, ◌∙◌, subst, arith, zero-add, Option, Some, None, IfSome, IfNone, bytes_eq, nat_lt}
+use Rattle.std.proofs.Common.{◌≡◌, ℕ, ◌+◌, ◌-◌, ◌*◌, ◌/◌, ◌%◌, ◌<◌, ◌≤◌, Bool, true, false, cond, not, ◌&&◌, List, [], ◌∷◌, length, get_or, slice_index, ◌⊎◌, inl, inr, ⊎_elim, true≢false, refl, sym, ap, ◌∙◌, subst, arith, zero-add, Option, Some, None, IfSome, IfNone, bytes_eq, nat_lt}
 use Rattle.std.specs.Prelude.{codes, ◌==◌}
 use Rattle.std.specs.Fmt.{decimal, digits}
 use Rattle.std.specs.Option.{SomeIff}

@@ -14,7 +14,7 @@ skips [] c cs h e = rw e refl
 skips (g ∷ gs) c cs h e = rw h.0 (omega (arith, skips gs c cs h.1 e))
 
 -- what follows the spaces is the token and the rest
-takes_body : {text token rest : List ℕ} → Takes text token rest → body_of text ≡ token ++ rest
+pub takes_body : {text token rest : List ℕ} → Takes text token rest → body_of text ≡ token ++ rest
 unfolding body_of
 takes_body {text} {token} {rest} t =
     let first = token_begins token t.is_token in

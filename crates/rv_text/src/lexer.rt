@@ -126,7 +126,7 @@ fn token_len(text: &[u8]) -> usize
 }
 
 /// The text behind its leading spaces.
-fn body(text: &str) -> &str
+pub fn body(text: &str) -> &str
     ensures { result.now ≡ body_of text.now }
 {
     &text[gap_len(text.as_bytes())..]

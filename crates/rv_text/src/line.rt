@@ -14,7 +14,6 @@ use crate::data::read_list;
 use crate::form::Part;
 use crate::keyword::{Directive, Keyword, Pseudo};
 use crate::mnemonic::Mnemonic;
-use crate::operands::Operands;
 use crate::parse::{behind_name, name_cause};
 use crate::read::read_operands;
 use crate::rows::{branch_to, jal_to};
@@ -53,7 +52,7 @@ fn read_branch<'a>(cond: Cond, rest: &'a str) -> Result<Statement<'a>, TextCause
     ensures ok { IfOk result (λ s. ReadsRow branch_form (branch_states cond) rest.now (stated s)) }
     ensures cause { IfErr result (λ e. Departs branch_form rest.now e) }
 {
-    match read_operands(branch_form(), rest, &Operands::none()) {
+    match read_operands(branch_form(), rest) {
         Ok(o) => Ok(branch_to(cond, o.rs1, o.rs2, o.name)),
         Err(e) => Err(e),
     }
@@ -63,7 +62,7 @@ fn read_jal<'a>(rest: &'a str) -> Result<Statement<'a>, TextCause>
     ensures ok { IfOk result (λ s. ReadsRow jal_form jal_states rest.now (stated s)) }
     ensures cause { IfErr result (λ e. Departs jal_form rest.now e) }
 {
-    match read_operands(jal_form(), rest, &Operands::none()) {
+    match read_operands(jal_form(), rest) {
         Ok(o) => Ok(jal_to(o.rd, o.name)),
         Err(e) => Err(e),
     }
@@ -73,7 +72,7 @@ fn read_pseudo<'a>(name: Pseudo, rest: &'a str) -> Result<Statement<'a>, TextCau
     ensures ok { IfOk result (λ s. ReadsRow (pseudo_form name) (pseudo_states name) rest.now (stated s)) }
     ensures cause { IfErr result (λ e. Departs (pseudo_form name) rest.now e) }
 {
-    match read_operands(name.form(), rest, &Operands::none()) {
+    match read_operands(name.form(), rest) {
         Ok(o) => Ok(name.statement(&o)),
         Err(e) => Err(e),
     }
@@ -84,7 +83,7 @@ fn read_directive<'a>(name: Directive, rest: &'a str) -> Result<Statement<'a>, T
         ReadsRow (directive_form name) (directive_states name) rest.now (stated s)) }
     ensures cause { IfErr result (λ e. Departs (directive_form name) rest.now e) }
 {
-    match read_operands(name.form(), rest, &Operands::none()) {
+    match read_operands(name.form(), rest) {
         Ok(o) => Ok(name.statement(&o)),
         Err(e) => Err(e),
     }

@@ -11,7 +11,7 @@ ghost use Rattle.rv_text.specs.Statement.{Means, Refused, RefusedAt, IsBareFence
 use crate::cause::TextCause;
 use crate::lexer::{Next, begins_name, next_token};
 use crate::mnemonic::Mnemonic;
-use crate::operands::{Operands, x0};
+use crate::operands::x0;
 use crate::read::read_operands;
 use rv_word::Instr;
 
@@ -64,7 +64,7 @@ pub fn behind_name(name: Mnemonic, rest: &str) -> Result<Instr, TextCause>
             rs1: x0(),
         });
     }
-    match read_operands(name.form(), rest, &Operands::none()) {
+    match read_operands(name.form(), rest) {
         Ok(o) => Ok(o.instr(name)),
         Err(e) => Err(e),
     }

@@ -1,5 +1,5 @@
 //! The source so far, and how the lines of a text lead it on.
-ghost use Rattle.std.specs.Prelude.{◌≡◌, ◌⊎◌, ◌↔◌, List, ℕ, None, Some, IsTrue, IfOk, IfErr, OnOk, MatchOption, codes};
+ghost use Rattle.std.specs.Prelude.{◌≡◌, ◌⊎◌, ◌↔◌, ◌++◌, List, ℕ, None, Some, IsTrue, IfOk, IfErr, OnOk, MatchOption, codes};
 ghost use Rattle.rv_text.specs.declared.cause.TextCause.TheVariants as cause;
 ghost use Rattle.rv_text.specs.Effects.{Labels, RefusesLabel, MayCome, Does, HasNoRoom};
 ghost use Rattle.rv_text.specs.Leads.{BeginsWithName, IsTaken, BeginsWithLabel, HasNoLabel, PassesLabels, IsGateTwice, LeadsBehind, RestLeads, Leads, LabelRefused, RefusedBehind, StatementRefused, LineRefused};
@@ -13,7 +13,7 @@ use crate::cause::TextCause;
 use crate::draft::Draft;
 use crate::fault::TextFault;
 use crate::keyword::{Directive, Keyword};
-use crate::lexer::{Next, next_token};
+use crate::lexer::{Next, body, next_token};
 use crate::line::{read_keyword, read_statement};
 use crate::read::{MOST_NAME, is_label};
 use crate::source::{Source, SourcePart};
@@ -38,15 +38,18 @@ impl Model for Progress {
     ghost view = { λ p. record { format = p.format; finished = p.finished.items; begun = p.begun } };
 }
 
-/// What follows a colon at the front of a text.
+/// What follows a colon that a text begins with.
+fn without_colon(text: &str) -> Option<&str>
+    ensures { MatchOption result ((rest : List ℕ) → text.now ≡ codes ":" ++ rest → ⊥) (λ rest. text.now ≡ codes ":" ++ rest.now) }
+{
+    text.strip_prefix(':')
+}
+
+/// What follows a colon that is the first token of a text.
 fn behind_colon(text: &str) -> Option<&str>
     ensures { MatchOption result ((rest : List ℕ) → Takes text.now (codes ":") rest → ⊥) (λ rest. Takes text.now (codes ":") rest.now) }
 {
-    match next_token(text) {
-        Next::Token(token, rest) => { if token == ":" { Some(rest) } else { None } }
-        Next::End => None,
-        Next::Stuck => None,
-    }
+    without_colon(body(text))
 }
 
 /// The name at the front of a text that a label may have, and what follows it.

@@ -1,5 +1,5 @@
 //! Reading the operands of a statement off its text.
-ghost use Rattle.std.specs.Prelude.{◌≡◌, ◌≤◌, ◌↔◌, IfOk, OnErr, IfErr, IsTrue, Bool, length, ℕ, ℤ};
+ghost use Rattle.std.specs.Prelude.{◌≡◌, ◌≤◌, ◌↔◌, IfOk, OnOk, OnErr, IfErr, IsTrue, Bool, length, ℕ, ℤ};
 ghost use Rattle.rv_text.specs.declared.cause.TextCause.{TextCause};
 ghost use Rattle.rv_text.specs.declared.cause.TextCause.TheVariants as cause;
 ghost use Rattle.rv_text.specs.Tokens.{IsNumber, IsLabel, IsToken, begins_label, is_too_long};
@@ -119,84 +119,107 @@ fn read_mode(token: &str) -> Result<bool, TextCause>
 }
 
 impl<'a> Operands<'a> {
-    /// The operands with the one that the token gives at this part.
-    fn with(&self, part: Part, token: &'a str) -> Result<Operands<'a>, TextCause>
+    /// Puts in the operand that the token gives at this part.
+    fn put(&mut self, part: Part, token: &'a str) -> Result<(), TextCause>
         requires { IsToken token.now }
-        ensures stands { IfOk result (λ o. Stands (values_of o) part token.now) }
-        ensures others { IfOk result (λ o. KeepsOthers part (values_of self.now) (values_of o)) }
+        ensures stands { OnOk result (Stands (values_of self.new) part token.now) }
+        ensures others { OnOk result (KeepsOthers part (values_of self.old) (values_of self.new)) }
         ensures err { OnErr result ((o : OperandValues) → Stands o part token.now → ⊥) }
         ensures cause { IfErr result (λ e. e ≡ part_cause part token.now) }
     {
         match part {
             Part::Rd => match read_register(token) {
-                Ok(rd) => Ok(Operands { rd, ..*self }),
+                Ok(rd) => {
+                    self.rd = rd;
+                    Ok(())
+                }
                 Err(e) => Err(e),
             },
             Part::Rs1 => match read_register(token) {
-                Ok(rs1) => Ok(Operands { rs1, ..*self }),
+                Ok(rs1) => {
+                    self.rs1 = rs1;
+                    Ok(())
+                }
                 Err(e) => Err(e),
             },
             Part::Rs2 => match read_register(token) {
-                Ok(rs2) => Ok(Operands { rs2, ..*self }),
+                Ok(rs2) => {
+                    self.rs2 = rs2;
+                    Ok(())
+                }
                 Err(e) => Err(e),
             },
             Part::Number(kind) => match read_number(token, kind) {
-                Ok(number) => Ok(Operands { number, ..*self }),
+                Ok(number) => {
+                    self.number = number;
+                    Ok(())
+                }
                 Err(e) => Err(e),
             },
             Part::Name => match read_label(token) {
-                Ok(name) => Ok(Operands { name, ..*self }),
+                Ok(name) => {
+                    self.name = name;
+                    Ok(())
+                }
                 Err(e) => Err(e),
             },
             Part::Mode => match read_mode(token) {
-                Ok(compressed) => Ok(Operands {
-                    compressed,
-                    ..*self
-                }),
+                Ok(compressed) => {
+                    self.compressed = compressed;
+                    Ok(())
+                }
                 Err(e) => Err(e),
             },
             Part::Comma => {
                 read_mark(token, ",")?;
-                Ok(self.copied())
+                Ok(())
             }
             Part::Open => {
                 read_mark(token, "(")?;
-                Ok(self.copied())
+                Ok(())
             }
             Part::Close => {
                 read_mark(token, ")")?;
-                Ok(self.copied())
+                Ok(())
             }
         }
     }
 }
 
-/// Reads the operands of this form, which are all of the text; an operand's range is tested where
-/// it stands.
-pub fn read_operands<'a>(
-    form: &[Part],
-    text: &'a str,
-    operands: &Operands<'a>,
-) -> Result<Operands<'a>, TextCause>
+/// Puts in the operands of this form, which are all of the text; an operand's range is tested where it stands.
+fn fill<'a>(form: &[Part], text: &'a str, operands: &mut Operands<'a>) -> Result<(), TextCause>
     requires { IsTrue (has_no_repeat form.now) }
-    ensures reads { IfOk result (λ o. Reads (values_of o) form.now text.now) }
-    ensures others { IfOk result (λ o. (p : Part) → IsTrue (is_fresh p form.now)
-        → SameAt p (values_of o) (values_of operands.now)) }
+    ensures reads { OnOk result (Reads (values_of operands.new) form.now text.now) }
+    ensures others { OnOk result ((p : Part) → IsTrue (is_fresh p form.now)
+        → SameAt p (values_of operands.new) (values_of operands.old)) }
     ensures cause { IfErr result (λ e. Departs form.now text.now e) }
 {
     match form.split_first() {
         None => match next_token(text) {
-            Next::End => Ok(operands.copied()),
+            Next::End => Ok(()),
             Next::Stuck => Err(TextCause::Word),
             Next::Token(..) => Err(TextCause::Operands),
         },
         Some((part, more)) => match next_token(text) {
             Next::End => Err(TextCause::Operands),
             Next::Stuck => Err(TextCause::Word),
-            Next::Token(token, rest) => match operands.with(*part, token) {
-                Ok(operands) => read_operands(more, rest, &operands),
+            Next::Token(token, rest) => match operands.put(*part, token) {
+                Ok(()) => fill(more, rest, operands),
                 Err(e) => Err(e),
             },
         },
+    }
+}
+
+/// Reads the operands of this form, which are all of the text.
+pub fn read_operands<'a>(form: &[Part], text: &'a str) -> Result<Operands<'a>, TextCause>
+    requires { IsTrue (has_no_repeat form.now) }
+    ensures reads { IfOk result (λ o. Reads (values_of o) form.now text.now) }
+    ensures cause { IfErr result (λ e. Departs form.now text.now e) }
+{
+    let mut operands = Operands::none();
+    match fill(form, text, &mut operands) {
+        Ok(()) => Ok(operands),
+        Err(e) => Err(e),
     }
 }

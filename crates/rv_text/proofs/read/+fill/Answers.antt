@@ -1,6 +1,6 @@
 use Rattle.rv_text.proofs.Forms.{reads_result, keeps_result, departs_stuck, departs_beyond, departs_missing, departs_other, departs_later}
 use Rattle.rv_text.specs.Operands.{values_of}
-use Rattle.rv_text.proofs.read.+read_operands.Goals as goal
+use Rattle.rv_text.proofs.read.+fill.Goals as goal
 
 pub returns-in-Stuck-clause-cause : goal.returns-in-Stuck-clause-cause
 returns-in-Stuck-clause-cause t c = departs_stuck _ _ c.in-Stuck.ensures
@@ -15,13 +15,17 @@ pub returns-in-Stuck-next_token-clause-cause : goal.returns-in-Stuck-next_token-
 returns-in-Stuck-next_token-clause-cause t c = departs_stuck _ _ c.in-Stuck-next_token.ensures
 
 pub returns-in-Ok-clause-reads : goal.returns-in-Ok-clause-reads
-returns-in-Ok-clause-reads t c = reads_result c.read_operands.result c.args.form.now (values_of c.in-Ok.operands) c.in-Some.part.now c.in-Some.more.now c.args.text.now _ _ c.in-Some.ensures.cases.0 c.requires.1.1 c.in-Token-next_token.ensures c.in-Ok.ensures.stands c.read_operands.ensures.reads c.read_operands.ensures.others
+returns-in-Ok-clause-reads t c =
+    reads_result c.fill.result c.args.form.now c.in-Some.part.now c.in-Some.more.now c.in-Some.ensures.cases.0 (values_of c.fill.new.operands) (values_of c.put.new.self)
+    c.args.text.now _ _ c.requires.1.1 c.in-Token-next_token.ensures c.in-Ok.ensures.stands c.fill.ensures.reads c.fill.ensures.others
 
 pub returns-in-Ok-clause-others : goal.returns-in-Ok-clause-others
-returns-in-Ok-clause-others t c = keeps_result c.read_operands.result c.args.form.now (values_of c.args.operands.now) (values_of c.in-Ok.operands) c.in-Some.part.now c.in-Some.more.now c.in-Some.ensures.cases.0 c.in-Ok.ensures.others c.read_operands.ensures.others
+returns-in-Ok-clause-others t c =
+    keeps_result c.fill.result c.args.form.now c.in-Some.part.now c.in-Some.more.now c.in-Some.ensures.cases.0 (values_of c.fill.new.operands) (values_of c.put.new.self)
+    (values_of c.args.operands.now) c.in-Ok.ensures.others c.fill.ensures.others
 
 pub returns-in-Ok-clause-cause : goal.returns-in-Ok-clause-cause
-returns-in-Ok-clause-cause t c = departs_later _ _ _ c.in-Some.ensures.cases.0 _ c.read_operands.result _ _ _ c.in-Token-next_token.ensures c.in-Ok.ensures.stands c.read_operands.ensures.cause
+returns-in-Ok-clause-cause t c = departs_later _ _ _ c.in-Some.ensures.cases.0 _ c.fill.result _ _ _ c.in-Token-next_token.ensures c.in-Ok.ensures.stands c.fill.ensures.cause
 
 pub returns-in-Err-clause-cause : goal.returns-in-Err-clause-cause
 returns-in-Err-clause-cause t c = departs_other _ _ _ c.in-Some.ensures.cases.0 _ _ _ _ c.in-Token-next_token.ensures c.in-Err.ensures.err c.in-Err.ensures.cause

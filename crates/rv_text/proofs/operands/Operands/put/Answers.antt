@@ -1,4 +1,4 @@
-use Rattle.rv_text.proofs.operands.Operands.with.Goals as goal
+use Rattle.rv_text.proofs.operands.Operands.put.Goals as goal
 
 pub returns-in-Err-clause-err : goal.returns-in-Err-clause-err
 returns-in-Err-clause-err c = λ o h. c.in-Err.ensures.err o.rd (rw c.in-Rd.is at h)
