@@ -52,21 +52,30 @@ says_converted text read bytes new line spells same is e =
 
 -- ---- a fault
 
-found_says : (bytes : List ℕ) (fault : ConvertFault) (found : List Finding) (status : ℕ) (line : List ℕ) → IsConvertFault bytes fault → status ≡ 1 → HasFound fault found
-    → line ≡ refused_line found → SaysConversion bytes status line
-found_says bytes (Refused (refusal.Layout k)) found status line is one h e = absurd h
-found_says bytes (Refused (refusal.Findings others)) found status line is one h e =
-    inr (inl (record { found = found; refused = subst (HasFindings bytes) h is.1; status_is = one; text_is = e }))
-found_says bytes (Refused refusal.Memory) found status line is one h e = absurd h
-found_says bytes NotOld found status line is one h e = absurd h
-found_says bytes (Stack others) found status line is one h e = inr (inr (record { found = found; refused = subst (HasStackFindings bytes) h is; status_is = one; text_is = e }))
-found_says bytes Memory found status line is one h e = absurd h
+not_old_one : (fault : ConvertFault) → AnswersNotOld (Err fault) → fault ≡ NotOld
+not_old_one fault e = let h : ◌≡◌ {A = Result (Vec ℕ Global) ConvertFault} (Err fault) (Err NotOld) = e in cc
 
-pub fault_says : (text read bytes : List ℕ) (fault : ConvertFault) (answer : Result Answer Stop) → SpellsBytes text bytes → read ≡ bytes → IsConvertFault read fault
-    → AnswersConvertFault fault answer → IfOk answer (λ a. Says Convert text a.status (string_bytes a.text))
-fault_says text read bytes fault (Ok a) spells same is h =
-    (bytes, spells, found_says bytes fault h.1.0 a.status (string_bytes a.text) (subst (λ (b : List ℕ). IsConvertFault b fault) same is) h.0 h.1.1 h.1.2)
-fault_says text read bytes fault (Err s) spells same is h = tt
+-- findings are those of an image of the first format without a fault
+not_second : (read : List ℕ) (fault : ConvertFault) (found : List Finding) → (IsSecond read → AnswersNotOld (Err fault)) → HasFound fault found → IsSecond read → ⊥
+not_second read fault found only f second =
+    subst (λ (x : ConvertFault). HasFound x found) (not_old_one fault (only second)) f
+
+found_says : (bytes : List ℕ) (fault : ConvertFault) (found : List Finding) (status : ℕ) (line : List ℕ) → (¬ IsSecond bytes) → IsConvertFault bytes fault → status ≡ 1 → HasFound fault found
+    → line ≡ refused_line found → SaysConversion bytes status line
+found_says bytes (Refused (refusal.Layout k)) found status line first is one h e = absurd h
+found_says bytes (Refused (refusal.Findings others)) found status line first is one h e =
+    inr (inl (first, record { found = found; refused = subst (HasFindings bytes) h is.1; status_is = one; text_is = e }))
+found_says bytes (Refused refusal.Memory) found status line first is one h e = absurd h
+found_says bytes NotOld found status line first is one h e = absurd h
+found_says bytes (Stack others) found status line first is one h e = inr (inr (record { found = found; refused = subst (HasStackFindings bytes) h is; status_is = one; text_is = e }))
+found_says bytes Memory found status line first is one h e = absurd h
+
+pub fault_says : (text read bytes : List ℕ) (fault : ConvertFault) (answer : Result Answer Stop) → SpellsBytes text bytes → read ≡ bytes → (IsSecond read → AnswersNotOld (Err fault))
+    → IsConvertFault read fault → AnswersConvertFault fault answer → IfOk answer (λ a. Says Convert text a.status (string_bytes a.text))
+fault_says text read bytes fault (Ok a) spells same only is h =
+    let first : ¬ IsSecond read = not_second read fault h.1.0 only h.1.1 in
+    (bytes, spells, found_says bytes fault h.1.0 a.status (string_bytes a.text) (λ s. first (subst IsSecond (sym same) s)) (subst (λ (b : List ℕ). IsConvertFault b fault) same is) h.0 h.1.1 h.1.2)
+fault_says text read bytes fault (Err s) spells same only is h = tt
 
 second_fault : (text bytes : List ℕ) → SpellsBytes text bytes → IsSecond bytes → HasInputFault Convert text
 second_fault text bytes spells is = inr (inr (bytes, spells, is))
@@ -128,14 +137,6 @@ pub fault_refused : (text read : List ℕ) (fault : ConvertFault) (answer : Resu
     → AnswersConvertFault fault answer → IsRefused Convert text → AnswersStatus 1 answer
 fault_refused text read fault answer one only_findings only_stack h refused =
     on_refusal text read one (λ found first is. first_after found fault answer (only_findings found first is) h) (λ found is. second_after found fault answer (only_stack found is) h) refused
-
-not_old_one : (fault : ConvertFault) → AnswersNotOld (Err fault) → fault ≡ NotOld
-not_old_one fault e = let h : ◌≡◌ {A = Result (Vec ℕ Global) ConvertFault} (Err fault) (Err NotOld) = e in cc
-
--- findings are those of an image of the first format without a fault
-not_second : (read : List ℕ) (fault : ConvertFault) (found : List Finding) → (IsSecond read → AnswersNotOld (Err fault)) → HasFound fault found → IsSecond read → ⊥
-not_second read fault found only f second =
-    subst (λ (x : ConvertFault). HasFound x found) (not_old_one fault (only second)) f
 
 no_layout : (fault : ConvertFault) (found : List Finding) (k : LayoutFault) → HasFound fault found → converting.AnswersLayout k (Err fault) → ⊥
 no_layout (Refused (refusal.Layout j)) found k f h = f

@@ -9,8 +9,8 @@ use Rattle.sfi_check.specs.declared.refusal.Refusal.{Refusal}
 use Rattle.sfi_check.specs.Refusals.{IfLayoutFault, IfFindings}
 use Rattle.sfi_check.specs.Converting.{IsSecond, IsConversion, HasStackFindings}
 use Rattle.sfi_check.specs.Verdict.{IsAccepted, HasFindings, AnswersLayout, AnswersFindings, AnswersAccepted}
-use Rattle.sfi_link.specs.declared.fault.BuildFault.{BuildFault}
-use Rattle.sfi_link.specs.Texts.{IsTextBuild, IsBuildFault, IsWantOfMemory}
+use Rattle.sfi_build.specs.declared.fault.BuildFault.{BuildFault}
+use Rattle.sfi_build.specs.Texts.{IsTextBuild, IsBuildFault, IsWantOfMemory}
 use Rattle.sfi_report.specs.Digits.{line_end}
 use Rattle.sfi_report.specs.Report.{IsReport}
 use Rattle.sfi_report.specs.Listing.{IsListing}
@@ -101,9 +101,10 @@ pub record SaysStack (bytes : List ℕ) (status : ℕ) (text : List ℕ) : Type 
   pub status_is : status ≡ 1
   pub text_is : text ≡ refused_line found
 
--- the conversion, or the verdict on an image with findings in either format
+-- the conversion, or the verdict on an image of the first format with findings, or on one whose sandboxes have findings in the second alone
 abbrev pub SaysConversion : List ℕ → ℕ → List ℕ → Type 0
-SaysConversion bytes status text = SaysConverted bytes status text ⊎ (SaysRefused false bytes status text ⊎ SaysStack bytes status text)
+SaysConversion bytes status text =
+    SaysConverted bytes status text ⊎ (((¬ IsSecond bytes) × SaysRefused false bytes status text) ⊎ SaysStack bytes status text)
 
 -- the job's answer, with status 0 or 1, on what was read: an image's own bytes, or a text
 abbrev pub Says : Job → List ℕ → ℕ → List ℕ → Type 0

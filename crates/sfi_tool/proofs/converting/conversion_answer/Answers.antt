@@ -16,7 +16,7 @@ returns-in-Ok-clause-only_fault c wrong =
 pub returns-clause-says : goal.returns-clause-says
 returns-clause-says c =
     fault_says c.args.text.now c.as_slice.result.now c.in_ok-bytes.bytes.items c.in-Err.fault c.fault_answer.result c.in_ok-bytes.ensures.bytes c.as_slice.ensures.value
-    c.in-Err.ensures.fault c.fault_answer.ensures
+    c.in-Err.ensures.only_not_old c.in-Err.ensures.fault c.fault_answer.ensures
 
 pub returns-clause-only_done : goal.returns-clause-only_done
 returns-clause-only_done c =
