@@ -3,7 +3,7 @@ use Rattle.std.proofs.Common.{◌≡◌, ℕ, ◌+◌, ◌-◌, ◌*◌, ◌/◌
 use Rattle.std.proofs.lemmas.Int.{ints}
 use Rattle.std.proofs.lemmas.Bool.{cases_lt}
 use Rattle.rv_word.specs.Numbers.{modulo}
-use Rattle.rv_text.specs.Constants.{rounded}
+use Rattle.rv_source.specs.Halves.{rounded}
 use Rattle.rv_text.specs.Laws.{ConstantsAddUp}
 
 -- 2048 less

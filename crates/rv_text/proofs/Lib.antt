@@ -1,4 +1,3 @@
-pub mod NameTable
 pub mod LabelReading
 pub mod Placing
 pub mod TextLines

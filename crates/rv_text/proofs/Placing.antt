@@ -4,10 +4,9 @@ use Rattle.std.specs.List.{IsDistinct, AllByRecursion}
 use Rattle.std.specs.Str.{bytes_eq}
 use Rattle.std.proofs.lemmas.Option.{same_Some, none-some}
 use Rattle.std.proofs.lemmas.Slice.Eq.{bytes_eq-Decides}
-use Rattle.rv_text.specs.declared.item.Named.{Named}
-use Rattle.rv_text.specs.declared.item.Named.TheVariants.{Unknown}
-use Rattle.rv_text.specs.NameTable.{meaning, place_of, placed}
-use Rattle.rv_text.proofs.NameTable.{same_text}
+use Rattle.rv_source.specs.declared.item.Named.{Named}
+use Rattle.rv_source.specs.declared.item.Named.TheVariants.{Unknown}
+use Rattle.rv_source.specs.NameTable.{meaning, place_of, placed}
 
 -- the next number
 next : (n : ℕ) → suc n ≡ 1 + n
@@ -146,7 +145,7 @@ flipped : (x y : List ℕ) → bytes_eq x y ≡ false → bytes_eq y x ≡ false
 flipped x y h = by (bytes_eq y x) refl
   where
     by : (b : Bool) → bytes_eq y x ≡ b → b ≡ false
-    by true is = sym ((bytes_eq-Decides x y).1 (sym (same_text y x is))) ∙ h
+    by true is = sym ((bytes_eq-Decides x y).1 (sym ((bytes_eq-Decides y x).0 is))) ∙ h
     by false is = refl
 
 -- the names still differ
@@ -158,5 +157,5 @@ placed_differ (e ∷ es) name what h = by (bytes_eq name e.0) refl (placed_diffe
   where
     by : (b : Bool) → bytes_eq name e.0 ≡ b → IsDistinct bytes_eq (map (λ e. e.0) (placed es name what))
         → IsDistinct bytes_eq (map (λ e. e.0) (if b then (name, what) ∷ es else e ∷ placed es name what))
-    by true is more = (subst (λ t. AllByRecursion (λ y. bytes_eq t y ≡ false) (map (λ e. e.0) es)) (sym (same_text name e.0 is)) h.0, h.1)
+    by true is more = (subst (λ t. AllByRecursion (λ y. bytes_eq t y ≡ false) (map (λ e. e.0) es)) (sym ((bytes_eq-Decides name e.0).0 is)) h.0, h.1)
     by false is more = (placed_apart e.0 es name what h.0 (flipped name e.0 is), more)

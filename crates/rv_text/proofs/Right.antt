@@ -22,14 +22,15 @@ use Rattle.rv_text.specs.declared.keyword.DataWidth.TheVariants.{Word, Half, Byt
 use Rattle.rv_text.specs.declared.keyword.Keyword.{Keyword}
 use Rattle.rv_text.specs.declared.keyword.Keyword.TheVariants as keyword
 use Rattle.rv_text.specs.declared.form.NumberKind.TheVariants as kind
-use Rattle.rv_text.specs.Source.{IsDataSize, IsStraight}
+use Rattle.rv_source.specs.Source.{IsDataSize, IsStraight}
 use Rattle.rv_text.specs.declared.statement.Place.{Place}
 use Rattle.rv_text.specs.Mnemonics.{name_of}
 use Rattle.rv_text.specs.Forms.{form_of, IsNumberOf}
 use Rattle.rv_text.specs.Operands.{OperandValues, HasForm}
 use Rattle.rv_text.specs.Reading.{AllSuit}
 use Rattle.rv_text.specs.Statement.{mnemonic_of, operands_of, Spells}
-use Rattle.rv_text.specs.Constants.{is_small, upper, lower, add_lower, constant, data_bytes}
+use Rattle.rv_source.specs.Halves.{upper, lower}
+use Rattle.rv_text.specs.Constants.{is_small, add_lower, constant, data_bytes}
 use Rattle.rv_text.specs.Keywords.{directive_form, directive_states, pseudo_form, pseudo_states, branch_form, branch_states, jal_form, jal_states, place_of_keyword}
 use Rattle.rv_text.specs.Lines.{IsRow, Behind}
 use Rattle.rv_text.specs.Stated.{Stated, IsRightStatement, place_of_stated, within, plain}

@@ -6,16 +6,16 @@ use Rattle.std.proofs.lemmas.Option.{same_Some, none-some, slice_get_within}
 use Rattle.std.proofs.lemmas.Bool.Decides.{nat_tests}
 use Rattle.std.proofs.lemmas.Map.Made.{AllPairs-from_IsDistinct}
 use Rattle.std.proofs.lemmas.Slice.Eq.{bytes_eq-Decides}
-use Rattle.rv_text.proofs.NameTable.{met_there, meaning_new}
-use Rattle.rv_text.specs.declared.item.Named.{Named}
-use Rattle.rv_text.specs.declared.item.Named.TheVariants.{Gate, Code, Data, Unknown}
-use Rattle.rv_text.specs.declared.item.Body.{Body}
-use Rattle.rv_text.specs.declared.item.Body.TheVariants.{Plain, To, High, Low}
-use Rattle.rv_text.specs.declared.item.Item.{Item}
-use Rattle.rv_text.specs.declared.item.SourceGate.{SourceGate}
-use Rattle.rv_text.specs.NameTable.{place_of, placed, met}
+use Rattle.rv_source.specs.Laws.{MetNamesStay, NewNamesNameNothing}
+use Rattle.rv_source.specs.declared.item.Named.{Named}
+use Rattle.rv_source.specs.declared.item.Named.TheVariants.{Gate, Code, Data, Unknown}
+use Rattle.rv_source.specs.declared.item.Body.{Body}
+use Rattle.rv_source.specs.declared.item.Body.TheVariants.{Plain, To, High, Low}
+use Rattle.rv_source.specs.declared.item.Item.{Item}
+use Rattle.rv_source.specs.declared.item.SourceGate.{SourceGate}
+use Rattle.rv_source.specs.NameTable.{place_of, placed, met}
 use Rattle.sfi_image.specs.declared.format.Format.{Format}
-use Rattle.rv_text.specs.Source.{Sandbox, IsDataSize, IsBody, IsThere, IsEntry, IsGate, IsSandbox}
+use Rattle.rv_source.specs.Source.{Sandbox, IsDataSize, IsBody, IsThere, IsEntry, IsGate, IsSandbox}
 use Rattle.rv_text.specs.SoFar.{Begun, begin, with_names, with_label, with_gate, items_of, with_bodies, with_bytes}
 use Rattle.rv_text.specs.Effects.{IsFree}
 use Rattle.rv_text.proofs.Placing.{Has, has_contained, contained_has, placed_has, placed_keeps, placed_only, placed_at, placed_stays, placed_all, placed_grows, placed_differ}
@@ -229,13 +229,13 @@ label_right b d name free not_empty at_most = by b.in_data
         (λ h. placed_has b.sandbox.names name (Code (length b.sandbox.items)), λ h. or_true b.labelled)
 
 -- a name that an instruction goes to
-pub met_right : (b : Begun) (d : IsDraft b) (name : List ℕ) → 1 ≤ length name → length name ≤ 64 → IsDraft (with_names (met b.sandbox.names name) b)
-met_right b d name not_empty at_most = by (nat_lt (place_of b.sandbox.names name) (length b.sandbox.names)) refl
+pub met_right : MetNamesStay → NewNamesNameNothing → (b : Begun) (d : IsDraft b) (name : List ℕ) → 1 ≤ length name → length name ≤ 64 → IsDraft (with_names (met b.sandbox.names name) b)
+met_right met_law new_law b d name not_empty at_most = by (nat_lt (place_of b.sandbox.names name) (length b.sandbox.names)) refl
   where
     by : (there : Bool) → nat_lt (place_of b.sandbox.names name) (length b.sandbox.names) ≡ there → IsDraft (with_names (met b.sandbox.names name) b)
-    by true is = subst (λ names. IsDraft (with_names names b)) (met_there b.sandbox.names name (grind (arith, nat_tests, is))) d
+    by true is = subst (λ names. IsDraft (with_names names b)) (met_law b.sandbox.names name (grind (arith, nat_tests, is))) d
     by false is =
-        let free : IsFree name b = meaning_new b.sandbox.names name (grind (arith, nat_tests, is)) in
+        let free : IsFree name b = new_law b.sandbox.names name (grind (arith, nat_tests, is)) in
         subst (λ what. IsDraft (with_names (placed b.sandbox.names name what) b)) (sym free)
         (placed_right b d name Unknown b.labelled b.opened free not_empty at_most tt (λ k within. no_code Unknown k refl) (flag_stays b d name Unknown free refl))
 

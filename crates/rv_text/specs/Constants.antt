@@ -1,28 +1,17 @@
 -- The instructions that put a number into a register, and the bytes of a number in data.
-use Rattle.std.specs.Prelude.{ℕ, ◌/◌, ◌%◌, List, [], ◌∷◌, Bool, ◌&&◌, ◌==◌, ℤ, pos, negsuc, ◌+ℤ◌, ◌-ℤ◌, int_le, unsigned_abs, if◌then◌else◌}
+use Rattle.std.specs.Prelude.{ℕ, List, [], ◌∷◌, Bool, ◌&&◌, ◌==◌, ℤ, pos, negsuc, int_le, unsigned_abs, if◌then◌else◌}
 use Rattle.std.specs.Int.{w16, w32, to_le_bytes}
 use Rattle.rv_word.specs.declared.instr.Instr.{Instr}
 use Rattle.rv_word.specs.declared.instr.Instr.TheVariants as instr
 use Rattle.rv_word.specs.declared.instr.ImmOp.TheVariants.{Addi}
 use Rattle.rv_word.specs.Numbers.{modulo}
+use Rattle.rv_source.specs.Halves.{upper, lower}
 use Rattle.rv_text.specs.declared.keyword.DataWidth.{DataWidth}
 use Rattle.rv_text.specs.declared.keyword.DataWidth.TheVariants.{Word, Half, Byte}
 
 -- one addi can put the number into a register
 abbrev pub is_small : ℤ → Bool
 is_small z = int_le (negsuc 2047) z && int_le z (pos 2047)
-
--- z + 2048 as 32 bits hold it: the nearest multiple of 4096 is its bits 31:12
-abbrev pub rounded : ℤ → ℕ
-rounded z = modulo 32 (z +ℤ pos 2048)
-
--- the number of lui: (z + 2048) div 4096, rounded down, modulo 1048576
-abbrev pub upper : ℤ → ℕ
-upper z = rounded z / 4096
-
--- the number of addi: the low 12 bits of z, signed
-abbrev pub lower : ℤ → ℤ
-lower z = pos (rounded z % 4096) -ℤ pos 2048
 
 -- an addi to the register itself, unless it adds 0
 abbrev pub add_lower : ℕ → ℤ → List Instr

@@ -4,11 +4,11 @@ use Rattle.std.specs.Option.{IsSomeAnd}
 use Rattle.sfi_image.specs.declared.format.Format.{Format}
 use Rattle.rv_text.specs.declared.cause.TextCause.{TextCause}
 use Rattle.rv_text.specs.declared.cause.TextCause.TheVariants as cause
-use Rattle.rv_text.specs.declared.item.Body.TheVariants.{Plain, To, High, Low}
-use Rattle.rv_text.specs.declared.item.Named.TheVariants.{Unknown}
+use Rattle.rv_source.specs.declared.item.Body.TheVariants.{Plain, To, High, Low}
+use Rattle.rv_source.specs.declared.item.Named.TheVariants.{Unknown}
 use Rattle.rv_text.specs.declared.statement.Place.{Place}
 use Rattle.rv_text.specs.declared.statement.Place.TheVariants as place
-use Rattle.rv_text.specs.NameTable.{meaning, place_of, met}
+use Rattle.rv_source.specs.NameTable.{meaning, place_of, met}
 use Rattle.rv_text.specs.SoFar.{Begun, SoFar, begin, format_or_sfi1, sandboxes, with_names, with_label, with_gate, with_bodies, with_bytes}
 use Rattle.rv_text.specs.Stated.{Stated, number_of_format, format, sandbox, within, StatedWithin, gate, compressed, data_part, bytes, plain, jump, address}
 

@@ -4,7 +4,7 @@ use Rattle.rv_word.specs.declared.instr.ImmOp.{ImmOp}
 use Rattle.rv_word.specs.Numbers.{IsBetween}
 use Rattle.rv_word.specs.Functs.{is_shift}
 use Rattle.rv_word.specs.Spelling.{IsImm12, IsBranchOffset, IsJumpOffset}
-use Rattle.rv_text.specs.Source.{IsDataSize}
+use Rattle.rv_source.specs.Source.{IsDataSize}
 use Rattle.rv_text.specs.declared.mnemonic.Mnemonic.{Mnemonic}
 use Rattle.rv_text.specs.declared.mnemonic.Mnemonic.TheVariants as mnemonic
 use Rattle.rv_text.specs.declared.form.NumberKind.{NumberKind}

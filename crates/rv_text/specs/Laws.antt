@@ -7,11 +7,11 @@ use Rattle.rv_text.specs.declared.cause.TextCause.{TextCause}
 use Rattle.rv_text.specs.Statement.{Means, Refused}
 use Rattle.rv_text.specs.Printed.{printed}
 use Rattle.rv_text.specs.declared.fault.TextFault.{TextFault}
-use Rattle.rv_text.specs.Source.{Sandbox, IsSource}
+use Rattle.rv_source.specs.Source.{Sandbox, IsSource}
 use Rattle.rv_text.specs.SoFar.{SoFar}
 use Rattle.rv_text.specs.Leads.{Leads, LineRefused}
 use Rattle.rv_text.specs.Texts.{MeansSource, IsFault}
-use Rattle.rv_text.specs.Constants.{upper, lower}
+use Rattle.rv_source.specs.Halves.{upper, lower}
 
 -- a text means one instruction at most
 abbrev pub OneMeaning : Type 0

@@ -16,8 +16,6 @@ pub mod Next
 pub mod Lookup
 pub mod Reading
 pub mod Lists
-pub mod NameTable
-pub mod Source
 pub mod SoFar
 pub mod Effects
 pub mod Leads

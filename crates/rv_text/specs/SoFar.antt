@@ -2,12 +2,12 @@
 use Rattle.std.specs.Prelude.{ℕ, Bool, true, false, ◌||◌, not, List, [], ◌∷◌, ◌++◌, Option, None, Some, length, if◌then◌else◌}
 use Rattle.sfi_image.specs.declared.format.Format.{Format}
 use Rattle.sfi_image.specs.declared.format.Format.TheVariants.{Sfi1}
-use Rattle.rv_text.specs.declared.item.Body.{Body}
-use Rattle.rv_text.specs.declared.item.Item.{Item}
-use Rattle.rv_text.specs.declared.item.Named.{Named}
-use Rattle.rv_text.specs.declared.item.Named.TheVariants.{Gate, Code, Data}
-use Rattle.rv_text.specs.NameTable.{place_of, placed}
-use Rattle.rv_text.specs.Source.{Sandbox}
+use Rattle.rv_source.specs.declared.item.Body.{Body}
+use Rattle.rv_source.specs.declared.item.Item.{Item}
+use Rattle.rv_source.specs.declared.item.Named.{Named}
+use Rattle.rv_source.specs.declared.item.Named.TheVariants.{Gate, Code, Data}
+use Rattle.rv_source.specs.NameTable.{place_of, placed}
+use Rattle.rv_source.specs.Source.{Sandbox}
 
 -- the sandbox begun last
 pub record Begun : Type 0 where

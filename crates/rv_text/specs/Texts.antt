@@ -4,7 +4,7 @@ use Rattle.std.specs.List.{slice_split, before_first}
 use Rattle.rv_text.specs.declared.cause.TextCause.{TextCause}
 use Rattle.rv_text.specs.declared.cause.TextCause.TheVariants as cause
 use Rattle.rv_text.specs.declared.fault.TextFault.{TextFault}
-use Rattle.rv_text.specs.Source.{Sandbox}
+use Rattle.rv_source.specs.Source.{Sandbox}
 use Rattle.rv_text.specs.SoFar.{Begun, SoFar, nothing, sandboxes}
 use Rattle.rv_text.specs.Leads.{Leads, LineRefused}
 

@@ -2,7 +2,8 @@
 ghost use Rattle.std.specs.Prelude.{◌≡◌, ◌++◌, OnOk};
 ghost use Rattle.rv_word.specs.Numbers.{modulo};
 ghost use Rattle.rv_text.specs.Forms.{IsNumberOf};
-ghost use Rattle.rv_text.specs.Constants.{rounded, upper, lower, constant, data_bytes};
+ghost use Rattle.rv_source.specs.Halves.{rounded, upper, lower};
+ghost use Rattle.rv_text.specs.Constants.{constant, data_bytes};
 ghost use Rattle.rv_text.specs.Stated.{stated_within, plain};
 
 use crate::form::NumberKind;

@@ -1,17 +1,15 @@
 //! The sandbox begun last, as far as the lines have come.
 ghost use Rattle.std.specs.Prelude.{◌≡◌, ◌≤◌, ◌+◌, ◌<◌, ◌⊎◌, ◌∷◌, [], length, replicate, IfOk, IfErr, OnOk, IsTrue, ◌↔◌, true};
 ghost use Rattle.rv_text.specs.declared.cause.TextCause.TheVariants as cause;
-ghost use Rattle.rv_text.specs.declared.item.Body.TheVariants.{Plain, To, High, Low};
+ghost use Rattle.rv_source.specs.declared.item.Body.TheVariants.{Plain, To, High, Low};
 ghost use Rattle.rv_text.specs.Effects.{IsFree, Fits, with_stated};
-ghost use Rattle.rv_text.specs.NameTable.{place_of, met};
+ghost use Rattle.rv_source.specs.NameTable.{place_of, met};
 ghost use Rattle.rv_text.specs.Stated.{stated_within};
 ghost use Rattle.rv_text.specs.SoFar.{begin, here, with_names, with_label, with_gate, with_bodies, with_bytes};
 
 use crate::cause::TextCause;
-use crate::item::{Body, Item, Named, SourceGate};
-use crate::name_table::Names;
-use crate::source::SourcePart;
 use crate::statement::SandboxStatement;
+use rv_source::{Body, Item, Named, Names, SourceGate, SourcePart};
 use sfi_image::Format;
 use std::alloc::Global;
 use std::marker::Model;
@@ -202,7 +200,7 @@ impl Draft {
         ensures place { IfOk result (λ place. place ≡ place_of self.old.sandbox.names name.now) }
         ensures memory { IfErr result (λ e. e ≡ cause.Memory) }
     {
-        self.names.meet(alloc, name)
+        Ok(self.names.meet(alloc, name)?)
     }
 
     /// Adds two instructions of this line.

@@ -2,7 +2,7 @@
 ghost use Rattle.std.specs.Prelude.{◌≡◌, ◌↔◌, IsTrue};
 ghost use Rattle.std.specs.Int.{IsPowerOfTwo};
 ghost use Rattle.rv_text.specs.Forms.{form_of, IsNumberOf};
-ghost use Rattle.rv_text.specs.Source.{IsDataSize};
+ghost use Rattle.rv_source.specs.Source.{IsDataSize};
 
 use crate::mnemonic::Mnemonic;
 use rv_word::ImmOp;

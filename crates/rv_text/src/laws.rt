@@ -59,7 +59,9 @@ pub fn meant_has_no_fault()
 /// What a text means is within its limits, and its names, gates and instructions fit each other.
 pub fn sources_are_right()
     ensures { SourcesAreRight }
-{}
+{
+    rv_source::laws::names_are_met();
+}
 
 /// The lui and the addi that `li` stands for add up to its number.
 pub fn constants_add_up()

@@ -13,11 +13,12 @@ use crate::cause::TextCause;
 use crate::draft::Draft;
 use crate::fault::TextFault;
 use crate::keyword::{Directive, Keyword};
+use crate::laws::sources_are_right;
 use crate::lexer::{Next, body, next_token};
 use crate::line::{read_keyword, read_statement};
 use crate::read::{MOST_NAME, is_label};
-use crate::source::{Source, SourcePart};
 use crate::statement::{Place, Statement};
+use rv_source::{Source, SourcePart};
 use sfi_image::Format;
 use std::alloc::Global;
 use std::marker::Model;
@@ -260,7 +261,8 @@ impl Progress {
         match self.begun {
             Some(draft) => {
                 parts.push(draft.finish())?;
-                Ok(Source::new(text, parts))
+                sources_are_right();
+                Ok(Source::new(parts))
             }
             None => Err(TextFault {
                 line: 1,

@@ -4,13 +4,13 @@ ghost use Rattle.rv_text.specs.declared.fault.TextFault.{TextFault};
 ghost use Rattle.rv_text.specs.declared.cause.TextCause.TheVariants as causes;
 ghost use Rattle.rv_text.specs.Causes.{memory};
 ghost use Rattle.rv_text.specs.Leads.{Leads};
-ghost use Rattle.rv_text.specs.Source.{Sandbox};
+ghost use Rattle.rv_source.specs.Source.{Sandbox};
 ghost use Rattle.rv_text.specs.Texts.{most_bytes, first_line, uncommented, lines, LinesLead, FirstRefused, LineFault, BeginsWithLine, MeansSource, IsFault};
 
 use crate::cause::TextCause;
 use crate::fault::TextFault;
 use crate::progress::Progress;
-use crate::source::Source;
+use rv_source::Source;
 use std::alloc::Global;
 
 /// The most bytes of a text.

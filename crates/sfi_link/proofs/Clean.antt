@@ -7,16 +7,16 @@ use Rattle.rv_word.specs.declared.instr.Instr.{Instr}
 use Rattle.rv_word.specs.declared.instr.Instr.TheVariants.{Op, OpImm, Load, Store, Branch, Jal, Jalr, Lui, Auipc, Fence, Ecall, Ebreak}
 use Rattle.rv_word.specs.Laws.{SpellingsAreWide}
 use Rattle.rv_word.specs.Writes.{destination, is_register, writes_register}
-use Rattle.rv_text.specs.declared.item.Body.{Body}
-use Rattle.rv_text.specs.declared.item.Body.TheVariants.{Plain, To, High, Low}
-use Rattle.rv_text.specs.Source.{IsBody}
+use Rattle.rv_source.specs.declared.item.Body.{Body}
+use Rattle.rv_source.specs.declared.item.Body.TheVariants.{Plain, To, High, Low}
+use Rattle.rv_source.specs.Source.{IsBody}
 use Rattle.sfi_image.specs.Formats.{has_stack, is_stack}
 use Rattle.sfi_scan.specs.declared.bundle.BundlePlace.{BundlePlace}
 use Rattle.sfi_scan.specs.Readings.{Piece}
 use Rattle.sfi_scan.specs.Pairs.{is_reserved, follows_data_pair}
 use Rattle.sfi_scan.specs.Stack.{writes_stack, begins_pair, precedes_pair, is_jump}
 use Rattle.sfi_scan.specs.Rules.{offset_by, is_bundle_start, breaks_reserved, breaks_stack}
-use Rattle.rv_text.specs.Constants.{upper, lower}
+use Rattle.rv_source.specs.Halves.{upper, lower}
 use Rattle.sfi_rewrite.specs.declared.slot.Slot.{Slot}
 use Rattle.sfi_rewrite.specs.declared.slot.Slot.TheVariants.{Wide, Short, Jump, Upper, Lower}
 use Rattle.sfi_rewrite.specs.declared.placed.PlacedName.{PlacedName}

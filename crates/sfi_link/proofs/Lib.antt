@@ -12,4 +12,3 @@ pub mod RunsAs
 pub mod OneLinking
 pub mod Pushed
 pub mod Linking
-pub mod Building

@@ -7,8 +7,8 @@ use Rattle.std.proofs.Math.Pow.{pow_mono}
 use Rattle.std.proofs.lemmas.Bool.{cases_lt}
 use Rattle.std.proofs.lemmas.List.{take_more}
 use Rattle.std.proofs.lemmas.Option.{slice_get-get_or}
-use Rattle.rv_text.specs.declared.item.SourceGate.{SourceGate}
-use Rattle.rv_text.specs.Source.{Sandbox}
+use Rattle.rv_source.specs.declared.item.SourceGate.{SourceGate}
+use Rattle.rv_source.specs.Source.{Sandbox}
 use Rattle.sfi_image.specs.declared.format.Format.{Format}
 use Rattle.sfi_image.specs.declared.format.Format.TheVariants.{Sfi1, Sfi2}
 use Rattle.sfi_image.specs.Formats.{code_most}

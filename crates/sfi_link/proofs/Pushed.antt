@@ -13,7 +13,7 @@ use Rattle.rv_word.specs.declared.instr.ImmOp.TheVariants.{Addi}
 use Rattle.rv_word.specs.Spelling.{InRange, IsReg, IsImm12, spelling}
 use Rattle.rv_comp.specs.declared.form.Form16.TheVariants.{CEbreak}
 use Rattle.rv_comp.specs.Table.{expansion}
-use Rattle.rv_text.specs.Constants.{lower}
+use Rattle.rv_source.specs.Halves.{lower}
 use Rattle.sfi_rewrite.specs.declared.slot.Slot.{Slot}
 use Rattle.sfi_rewrite.specs.declared.slot.Slot.TheVariants.{Lower}
 use Rattle.sfi_rewrite.specs.declared.placed.PlacedName.{PlacedName}

@@ -1,6 +1,6 @@
 -- Each item of a source does in the image what its instruction does.
-use Rattle.std.proofs.Common.{◌≡◌, Vec, Global, ℕ, ◌+◌, ◌*◌, ◌^◌, ◌<◌, ◌≤◌, List, [], ◌∷◌, ◌++◌, length, length-append, replicate, Some, Bool, true, false, refl, sym, ap, ◌∙◌, subst, arith, append_assoc, inl, inr}
-use Rattle.std.specs.Prelude.{slice_index, pos, ℤ, negsuc, zero, suc, ◌-ℤ◌, MatchBool, Result, Ok, Err, IfOk, slice_get}
+use Rattle.std.proofs.Common.{◌≡◌, ℕ, ◌+◌, ◌*◌, ◌^◌, ◌<◌, ◌≤◌, List, [], ◌∷◌, ◌++◌, length, length-append, replicate, Some, Bool, true, false, refl, sym, ap, ◌∙◌, subst, arith, append_assoc, inl, inr}
+use Rattle.std.specs.Prelude.{slice_index, pos, ℤ, negsuc, zero, suc, ◌-ℤ◌, MatchBool, slice_get}
 use Rattle.std.specs.List.{repeat, All}
 use Rattle.std.proofs.lemmas.List.{get_or_append_left, get_or-append-add}
 use Rattle.rv_word.specs.declared.instr.Instr.{Instr}
@@ -8,13 +8,11 @@ use Rattle.rv_word.specs.declared.instr.Instr.TheVariants.{Op, OpImm, Load, Stor
 use Rattle.rv_word.specs.declared.instr.ImmOp.TheVariants.{Addi}
 use Rattle.rv_mem.specs.Bytes.{Bytes, byte_at, address_after}
 use Rattle.rv_mem.specs.Laws.{Holds}
-use Rattle.rv_text.specs.Constants.{upper, lower}
-use Rattle.rv_text.specs.declared.item.Body.{Body}
-use Rattle.rv_text.specs.declared.item.Body.TheVariants.{Plain, To, High, Low}
-use Rattle.rv_text.specs.declared.item.Item.{Item}
-use Rattle.rv_text.specs.Source.{Sandbox, IsSandbox, IsBody}
-use Rattle.rv_text.specs.Texts.{MeansSource}
-use Rattle.rv_text.specs.Laws.{OneSource, SourcesAreRight}
+use Rattle.rv_source.specs.Halves.{upper, lower}
+use Rattle.rv_source.specs.declared.item.Body.{Body}
+use Rattle.rv_source.specs.declared.item.Body.TheVariants.{Plain, To, High, Low}
+use Rattle.rv_source.specs.declared.item.Item.{Item}
+use Rattle.rv_source.specs.Source.{Sandbox, IsSandbox, IsBody}
 use Rattle.sfi_image.specs.declared.format.Format.{Format}
 use Rattle.sfi_image.specs.Spelling.{Part}
 use Rattle.sfi_image.specs.Parts.{IsRightPart}
@@ -34,9 +32,7 @@ use Rattle.sfi_link.specs.declared.bases.Bases.{Bases}
 use Rattle.sfi_link.specs.Addresses.{bases_of, with_offset, target_at, address_at}
 use Rattle.sfi_link.specs.Code.{AreSlots}
 use Rattle.sfi_link.specs.Linked.{c_ebreak, IsLinked, AreLinkedFrom}
-use Rattle.sfi_link.specs.Standing.{AreResolvedTo, LinkedSlotsStand, RunsAs, LinkedRunsAs, SandboxesRunAs, ImageRunsAs}
-use Rattle.sfi_link.specs.declared.fault.BuildFault.{BuildFault}
-use Rattle.sfi_link.specs.Texts.{IsTextBuild, Builds}
+use Rattle.sfi_link.specs.Standing.{AreResolvedTo, LinkedSlotsStand, RunsAs, LinkedRunsAs, LinkedImagesRunAs, SandboxesRunAs}
 use Rattle.sfi_link.proofs.CleanPlaces.{made}
 use Rattle.sfi_link.proofs.Region.{AreCut, cut, length_stubs}
 use Rattle.sfi_link.proofs.Sizes.{size_of-append}
@@ -213,18 +209,11 @@ sandboxes_run_as law stand number (s ∷ source) (p ∷ placed) (q ∷ parts) sa
   sandboxes_run_as law stand (number + 1) source placed parts (All-tail IsSandbox s source sandboxes) rewritten.1 (All-tail IsRightPart q parts right) (omega arith) linked.1,
 )
 
-module _ (law : RewrittenIsTransparent) (stand : LinkedSlotsStand) (one : OneSource) (sources : SourcesAreRight) (text : List ℕ) where
-  text_runs_as : (bytes : List ℕ) → IsTextBuild text bytes → (source : List Sandbox) → MeansSource text source → ImageRunsAs source bytes
-  text_runs_as bytes h source means =
-      let same : h.source ≡ source = one text h.source source h.means means in
-      let layout = h.image.image.layout in
-      record {
-        parts = h.image.parts;
-        image = h.image.image;
-        each = sandboxes_run_as law stand 0 source h.placed h.image.parts (sources text source means).each (subst (λ (u : List Sandbox). AreRewritten u h.placed) same h.rewritten)
-            layout.right.each (let few = layout.at_most in omega arith) h.image.linked;
-      }
-
-  pub build_runs_as : (r : Result (Vec ℕ Global) BuildFault) → Builds text r → (source : List Sandbox) → MeansSource text source → IfOk r (λ v. ImageRunsAs source v.items)
-  build_runs_as (Ok v) h source means = text_runs_as v.items h source means
-  build_runs_as (Err f) h source means = tt
+pub images_run_as : RewrittenIsTransparent → LinkedSlotsStand → LinkedImagesRunAs
+images_run_as law stand source placed bytes right rewritten image =
+    let layout = image.image.layout in
+    record {
+      parts = image.parts;
+      image = image.image;
+      each = sandboxes_run_as law stand 0 source placed image.parts right.each rewritten layout.right.each (let few = layout.at_most in omega arith) image.linked;
+    }

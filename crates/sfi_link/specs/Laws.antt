@@ -7,6 +7,7 @@ use Rattle.sfi_rewrite.specs.Placement.{Placement}
 use Rattle.sfi_rewrite.specs.Placed.{IsPlacedPart, IsPlaced}
 use Rattle.sfi_link.specs.declared.fault.LinkFault.{LinkFault}
 use Rattle.sfi_link.specs.Linked.{IsLinked, AreLinked}
+use Rattle.sfi_link.specs.Building.{IsLinkedImage}
 use Rattle.sfi_link.specs.Faults.{IsLinkFault, sandboxes_most}
 
 -- what is made of a placed sandbox breaks no rule
@@ -21,9 +22,17 @@ LinkedIsRight = (placed : List Placement) (parts : List Part) → IsPlaced place
 abbrev pub OneLinking : Type 0
 OneLinking = (placed : List Placement) (parts others : List Part) → AreLinked placed parts → AreLinked placed others → parts ≡ others
 
+-- what is placed has one image
+abbrev pub OneImage : Type 0
+OneImage = (placed : List Placement) (bytes others : List ℕ) → IsLinkedImage placed bytes → IsLinkedImage placed others → bytes ≡ others
+
 -- what is placed has one fault
 abbrev pub OneFault : Type 0
 OneFault = (placed : List Placement) (f g : LinkFault) → IsLinkFault placed f → IsLinkFault placed g → f ≡ g
+
+-- what has an image has no fault
+abbrev pub ImageOrFault : Type 0
+ImageOrFault = (placed : List Placement) (bytes : List ℕ) (f : LinkFault) → IsLinkedImage placed bytes → IsLinkFault placed f → ⊥
 
 -- of at most 16 placed sandboxes with a fault no image is made
 abbrev pub NeverBoth : Type 0

@@ -4,7 +4,6 @@ pub mod Linked
 pub mod Faults
 pub mod Building
 pub mod Answers
-pub mod Texts
 pub mod Near
 pub mod Standing
 pub mod Laws

@@ -3,8 +3,8 @@ use Rattle.std.specs.Prelude.{◌≡◌, ℕ, ◌+◌, ◌*◌, ◌<◌, List, [
 use Rattle.rv_word.specs.declared.instr.Instr.{Instr}
 use Rattle.rv_mem.specs.Laws.{Holds}
 use Rattle.rv_step.specs.State.{State}
-use Rattle.rv_text.specs.declared.item.Item.{Item}
-use Rattle.rv_text.specs.Source.{Sandbox, IsSandbox}
+use Rattle.rv_source.specs.declared.item.Item.{Item}
+use Rattle.rv_source.specs.Source.{Sandbox, IsSandbox, IsSource}
 use Rattle.sfi_image.specs.declared.format.Format.{Format}
 use Rattle.sfi_image.specs.Spelling.{Part}
 use Rattle.sfi_image.specs.Spans.{code_region, data_region}
@@ -15,13 +15,14 @@ use Rattle.sfi_rewrite.specs.declared.placed.PlacedName.{PlacedName}
 use Rattle.sfi_rewrite.specs.Slots.{slot_size, size_of}
 use Rattle.sfi_rewrite.specs.Placement.{Placement, IsPlacement}
 use Rattle.sfi_rewrite.specs.Placed.{IsPlacedPart}
-use Rattle.sfi_rewrite.specs.Rewriting.{IsRewritten}
+use Rattle.sfi_rewrite.specs.Rewriting.{IsRewritten, AreRewritten}
 use Rattle.sfi_rewrite.specs.Transparency.{AreRegions, SlotsStand, MayBe, StandsTransparent}
 use Rattle.sfi_link.specs.declared.bases.Bases.{Bases}
 use Rattle.sfi_link.specs.Addresses.{bases_of}
 use Rattle.sfi_link.specs.Code.{resolved, AreSlots}
 use Rattle.sfi_link.specs.Linked.{IsLinked}
 use Rattle.sfi_link.specs.Faults.{sandboxes_most}
+use Rattle.sfi_link.specs.Building.{IsLinkedImage}
 
 -- the slot at `here` becomes i, if it waits for a name
 abbrev pub IsResolvedTo : Bases → List PlacedName → ℕ → Instr → Slot → Type 0
@@ -84,3 +85,9 @@ pub record ImageRunsAs (source : List Sandbox) (bytes : List ℕ) : Type 0 where
   pub parts : List Part
   pub image : IsImage bytes parts
   pub each : SandboxesRunAs 0 source parts
+
+-- so does the image of a source's placement
+abbrev pub LinkedImagesRunAs : Type 0
+LinkedImagesRunAs =
+    (source : List Sandbox) (placed : List Placement) (bytes : List ℕ)
+    → IsSource source → AreRewritten source placed → IsLinkedImage placed bytes → ImageRunsAs source bytes

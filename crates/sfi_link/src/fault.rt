@@ -1,11 +1,8 @@
-//! Why nothing is linked, or nothing is built.
+//! Why nothing is linked.
 ghost use Rattle.std.specs.Prelude.{◌≡◌};
 ghost use Rattle.sfi_link.specs.declared.fault.LinkFault.TheVariants.{Memory};
-ghost use Rattle.sfi_link.specs.declared.fault.BuildFault.TheVariants.{Text, Rewrite, Link};
 ghost use Rattle.sfi_link.specs.Faults.{number_of};
 
-use rv_text::TextFault;
-use sfi_rewrite::RewriteFault;
 use std::alloc::{AllocError, AllocFailed};
 use thiserror::Error;
 
@@ -60,43 +57,5 @@ impl<T: Drop> From<AllocFailed<T>> for LinkFault {
 
     fn from(_e: AllocFailed<T>) -> LinkFault {
         LinkFault::Memory
-    }
-}
-
-/// Why a text isn't built: the first of its reading, its rewriting and its linking that fails.
-#[derive(Clone, Copy, Debug, PartialEq, Eq, Error)]
-pub enum BuildFault {
-    /// The text is no source.
-    #[error("{0}")]
-    Text(TextFault),
-    /// The source can't be rewritten.
-    #[error("rewrite fault {0}")]
-    Rewrite(RewriteFault),
-    /// What is placed can't be linked.
-    #[error("link fault {0}")]
-    Link(LinkFault),
-}
-
-impl From<TextFault> for BuildFault {
-    ghost from_gives = { λ f e. e ≡ Text f };
-
-    fn from(fault: TextFault) -> BuildFault {
-        BuildFault::Text(fault)
-    }
-}
-
-impl From<RewriteFault> for BuildFault {
-    ghost from_gives = { λ f e. e ≡ Rewrite f };
-
-    fn from(fault: RewriteFault) -> BuildFault {
-        BuildFault::Rewrite(fault)
-    }
-}
-
-impl From<LinkFault> for BuildFault {
-    ghost from_gives = { λ f e. e ≡ Link f };
-
-    fn from(fault: LinkFault) -> BuildFault {
-        BuildFault::Link(fault)
     }
 }

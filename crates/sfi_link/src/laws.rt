@@ -1,6 +1,6 @@
 //! What holds of all that is placed. A call costs nothing.
-ghost use Rattle.sfi_link.specs.Laws.{LinkedIsClean, LinkedIsRight, OneLinking, OneFault, NeverBoth};
-ghost use Rattle.sfi_link.specs.Standing.{LinkedSlotsStand, LinkedRunsAs};
+ghost use Rattle.sfi_link.specs.Laws.{LinkedIsClean, LinkedIsRight, OneLinking, OneImage, OneFault, NeverBoth, ImageOrFault};
+ghost use Rattle.sfi_link.specs.Standing.{LinkedSlotsStand, LinkedRunsAs, LinkedImagesRunAs};
 
 use rv_comp::laws::{one_spelling, two_lengths};
 use rv_mem::laws::read_is_held;
@@ -23,11 +23,13 @@ pub fn linked_is_right()
     ensures { LinkedIsRight }
 {}
 
-/// One list of sandboxes is made of what is placed, or it has one fault, and never both.
+/// One list of sandboxes is made of what is placed, and one image, or it has one fault, and never both.
 pub fn one_linking()
-    ensures images { OneLinking }
+    ensures parts { OneLinking }
+    ensures images { OneImage }
     ensures faults { OneFault }
     ensures either { NeverBoth }
+    ensures image_or_fault { ImageOrFault }
 {}
 
 /// Where a memory holds the bytes that are linked for slots, the slots stand.
@@ -40,7 +42,8 @@ pub fn linked_slots_stand()
 
 /// Each item of a source stands in the image as its instruction, with an expansion that acts as the instruction.
 pub fn linked_runs_as()
-    ensures { LinkedRunsAs }
+    ensures items { LinkedRunsAs }
+    ensures images { LinkedImagesRunAs }
 {
     rewritten_is_transparent();
     linked_slots_stand();

@@ -1,4 +1,4 @@
-//! From what is placed to an image, and from a text to one.
+//! From what is placed to an image.
 //!
 //! Names become addresses, gates become stubs, and the rest of each code region is filled with c.ebreaks. What is linked has a
 //! right layout and breaks no rule, so the checker accepts it: this is proved of the bytes, and no scan is run.
@@ -6,13 +6,11 @@
 
 mod address;
 mod bases;
-mod builder;
 mod code;
 mod code_region;
 mod fault;
 pub mod laws;
 mod linker;
 
-pub use builder::build;
-pub use fault::{BuildFault, LinkFault};
+pub use fault::LinkFault;
 pub use linker::link;

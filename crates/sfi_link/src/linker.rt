@@ -1,7 +1,7 @@
 //! From what is placed to an image.
 ghost use Rattle.std.specs.Prelude.{◌≡◌, ◌<◌, ◌≤◌, ◌^◌, ℕ, List, length, Err, IfOk, IfErr};
 ghost use Rattle.std.specs.List.{All};
-ghost use Rattle.rv_text.specs.Source.{Sandbox};
+ghost use Rattle.rv_source.specs.Source.{Sandbox};
 ghost use Rattle.sfi_image.specs.Spelling.{view, views};
 ghost use Rattle.sfi_rewrite.specs.Placed.{IsPlacedPart, AreOf};
 ghost use Rattle.sfi_link.specs.declared.fault.LinkFault.{LinkFault};
@@ -16,7 +16,7 @@ use crate::bases::{STUB_BYTES, bases_of};
 use crate::code_region::linked_code;
 use crate::fault::LinkFault;
 use crate::laws::{linked_is_clean, linked_is_right, one_linking};
-use rv_text::SourceGate;
+use rv_source::SourceGate;
 use sfi_image::{Format, Gate, ImageFault, SandboxPart, write_image_as};
 use sfi_rewrite::{Placed, PlacedPart};
 use std::alloc::{AllocError, Global};

@@ -11,10 +11,10 @@ use Rattle.rv_word.specs.declared.instr.LoadKind.{LoadKind}
 use Rattle.rv_word.specs.declared.instr.StoreWidth.{StoreWidth}
 use Rattle.rv_word.specs.declared.instr.Instr.TheVariants.{Op, OpImm, Load, Store, Branch, Jal, Jalr, Lui, Auipc, Fence, Ecall, Ebreak}
 use Rattle.rv_word.specs.Spelling.{InRange, IsImm12}
-use Rattle.rv_text.specs.declared.item.Item.{Item}
-use Rattle.rv_text.specs.declared.item.Body.{Body}
-use Rattle.rv_text.specs.declared.item.Body.TheVariants.{Plain, To, High, Low}
-use Rattle.rv_text.specs.Source.{IsBody}
+use Rattle.rv_source.specs.declared.item.Item.{Item}
+use Rattle.rv_source.specs.declared.item.Body.{Body}
+use Rattle.rv_source.specs.declared.item.Body.TheVariants.{Plain, To, High, Low}
+use Rattle.rv_source.specs.Source.{IsBody}
 use Rattle.sfi_image.specs.declared.format.Format.{Format}
 use Rattle.sfi_rewrite.specs.declared.slot.Slot.{Slot}
 use Rattle.sfi_rewrite.specs.declared.slot.Slot.TheVariants.{Wide, Short, Jump, Upper, Lower}

@@ -5,8 +5,8 @@ use Rattle.std.proofs.lemmas.List.{take_more, take_all, get_or_append_left, get_
 use Rattle.std.proofs.lemmas.List.Elements.{All-push, All-nil}
 use Rattle.std.proofs.lemmas.Bool.{cases_lt}
 use Rattle.std.proofs.lemmas.Option.{slice_get-get_or}
-use Rattle.rv_text.specs.declared.item.Item.{Item}
-use Rattle.rv_text.specs.Source.{IsBody}
+use Rattle.rv_source.specs.declared.item.Item.{Item}
+use Rattle.rv_source.specs.Source.{IsBody}
 use Rattle.sfi_image.specs.declared.format.Format.{Format}
 use Rattle.sfi_image.specs.declared.format.Format.TheVariants.{Sfi1, Sfi2}
 use Rattle.sfi_image.specs.Formats.{code_most}

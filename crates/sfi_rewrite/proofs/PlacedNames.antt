@@ -5,9 +5,9 @@ use Rattle.std.specs.List.{All, AllZip}
 use Rattle.std.proofs.lemmas.List.{take_more}
 use Rattle.std.proofs.lemmas.List.Elements.{All-map}
 use Rattle.std.proofs.lemmas.Option.{slice_get-get_or}
-use Rattle.rv_text.specs.declared.item.Named.{Named}
-use Rattle.rv_text.specs.declared.item.Named.TheVariants.{Gate, Code, Data, Unknown}
-use Rattle.rv_text.specs.Source.{Sandbox, IsSandbox, IsThere, named}
+use Rattle.rv_source.specs.declared.item.Named.{Named}
+use Rattle.rv_source.specs.declared.item.Named.TheVariants.{Gate, Code, Data, Unknown}
+use Rattle.rv_source.specs.Source.{Sandbox, IsSandbox, IsThere, named}
 use Rattle.sfi_rewrite.specs.declared.placed.PlacedName.{PlacedName}
 use Rattle.sfi_rewrite.specs.Placement.{IsPlacedName}
 use Rattle.sfi_rewrite.specs.Filling.{AreLabels, HasLabel, placed_of}

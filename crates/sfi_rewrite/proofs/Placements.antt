@@ -11,12 +11,12 @@ use Rattle.std.proofs.lemmas.Option.{slice_get-get_or}
 use Rattle.std.proofs.lemmas.Slice.Zip.{AllZip-left, AllZip-long}
 use Rattle.rv_word.specs.declared.instr.Instr.TheVariants.{Ecall}
 use Rattle.rv_comp.specs.Laws.{OneFirstForm}
-use Rattle.rv_text.specs.declared.item.Item.{Item}
-use Rattle.rv_text.specs.declared.item.Body.TheVariants.{Plain}
-use Rattle.rv_text.specs.declared.item.Named.{Named}
-use Rattle.rv_text.specs.declared.item.Named.TheVariants.{Gate, Code, Data, Unknown}
-use Rattle.rv_text.specs.declared.item.SourceGate.{SourceGate}
-use Rattle.rv_text.specs.Source.{Sandbox, IsSandbox, IsThere, IsBody, named}
+use Rattle.rv_source.specs.declared.item.Item.{Item}
+use Rattle.rv_source.specs.declared.item.Body.TheVariants.{Plain}
+use Rattle.rv_source.specs.declared.item.Named.{Named}
+use Rattle.rv_source.specs.declared.item.Named.TheVariants.{Gate, Code, Data, Unknown}
+use Rattle.rv_source.specs.declared.item.SourceGate.{SourceGate}
+use Rattle.rv_source.specs.Source.{Sandbox, IsSandbox, IsThere, IsBody, named}
 use Rattle.sfi_image.specs.declared.format.Format.{Format}
 use Rattle.sfi_image.specs.Formats.{code_most}
 use Rattle.sfi_rewrite.specs.declared.slot.Slot.{Slot}

@@ -16,8 +16,8 @@ use Rattle.rv_step.specs.State.{Hart, State, IsState, register, with_register, w
 use Rattle.rv_step.specs.Step.{Stepped, Stands, after_load, effect, IsStep}
 use Rattle.rv_step.specs.Steps.{further, StandInRow, LeadsTo, LeadTo}
 use Rattle.rv_step.specs.Values.{plus, load_size}
-use Rattle.rv_text.specs.declared.item.Body.{Body}
-use Rattle.rv_text.specs.declared.item.Body.TheVariants.{Plain, To, High, Low}
+use Rattle.rv_source.specs.declared.item.Body.{Body}
+use Rattle.rv_source.specs.declared.item.Body.TheVariants.{Plain, To, High, Low}
 use Rattle.sfi_image.specs.declared.format.Format.{Format}
 use Rattle.sfi_image.specs.Formats.{has_stack, is_stack}
 use Rattle.sfi_image.specs.declared.span.Span.{Span}

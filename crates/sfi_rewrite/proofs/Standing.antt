@@ -4,8 +4,8 @@ use Rattle.std.specs.List.{AllZip}
 use Rattle.std.proofs.lemmas.List.{drop_more}
 use Rattle.std.proofs.lemmas.List.Elements.{All-get_or}
 use Rattle.std.proofs.lemmas.Option.{get_or_from_slice_get, slice_get_within}
-use Rattle.rv_text.specs.declared.item.Item.{Item}
-use Rattle.rv_text.specs.Source.{Sandbox}
+use Rattle.rv_source.specs.declared.item.Item.{Item}
+use Rattle.rv_source.specs.Source.{Sandbox}
 use Rattle.sfi_rewrite.specs.declared.slot.Slot.{Slot}
 use Rattle.sfi_rewrite.specs.Slots.{size_of, c_nop}
 use Rattle.sfi_rewrite.specs.Places.{AreLaidFrom}

@@ -1,8 +1,8 @@
 -- What holds of every source.
 use Rattle.std.specs.Prelude.{◌≡◌, List}
 use Rattle.rv_word.specs.declared.instr.Instr.{Instr}
-use Rattle.rv_text.specs.declared.item.Item.{Item}
-use Rattle.rv_text.specs.Source.{Sandbox}
+use Rattle.rv_source.specs.declared.item.Item.{Item}
+use Rattle.rv_source.specs.Source.{Sandbox}
 use Rattle.sfi_image.specs.declared.format.Format.{Format}
 use Rattle.sfi_image.specs.declared.format.Format.TheVariants.{Sfi2}
 use Rattle.sfi_rewrite.specs.declared.slot.Slot.{Slot}

@@ -2,8 +2,8 @@
 use Rattle.std.specs.Prelude.{◌==◌, ◌||◌, ℕ, Bool, true, false}
 use Rattle.rv_word.specs.declared.instr.Instr.{Instr}
 use Rattle.rv_word.specs.declared.instr.Instr.TheVariants.{Op, OpImm, Load, Store, Branch, Jal, Jalr, Lui, Auipc, Fence, Ecall, Ebreak}
-use Rattle.rv_text.specs.declared.item.Body.{Body}
-use Rattle.rv_text.specs.declared.item.Body.TheVariants.{Plain, To, High, Low}
+use Rattle.rv_source.specs.declared.item.Body.{Body}
+use Rattle.rv_source.specs.declared.item.Body.TheVariants.{Plain, To, High, Low}
 
 -- x24 to x27, which hold the bounds of the regions, and x31, in which the expansions make addresses
 abbrev pub is_withheld : ℕ → Bool

@@ -5,8 +5,8 @@ use Rattle.rv_word.specs.declared.instr.RegOp.TheVariants.{And, Or}
 use Rattle.rv_word.specs.declared.instr.Instr.{Instr}
 use Rattle.rv_word.specs.declared.instr.Instr.TheVariants.{Op, Load, Store, Jal, Jalr}
 use Rattle.rv_word.specs.Writes.{writes_register}
-use Rattle.rv_text.specs.declared.item.Body.{Body}
-use Rattle.rv_text.specs.declared.item.Body.TheVariants.{Plain, To}
+use Rattle.rv_source.specs.declared.item.Body.{Body}
+use Rattle.rv_source.specs.declared.item.Body.TheVariants.{Plain, To}
 use Rattle.sfi_image.specs.declared.format.Format.{Format}
 use Rattle.sfi_image.specs.Formats.{has_stack}
 use Rattle.sfi_rewrite.specs.declared.slot.Slot.{Slot}

@@ -11,10 +11,10 @@ use Rattle.rv_step.specs.State.{Hart, State, IsState, register, with_pc}
 use Rattle.rv_step.specs.Step.{Stepped, Stands, effect, IsStep}
 use Rattle.rv_step.specs.Steps.{further, LeadTo}
 use Rattle.rv_step.specs.Values.{plus}
-use Rattle.rv_text.specs.declared.item.Body.{Body}
-use Rattle.rv_text.specs.declared.item.Body.TheVariants.{Plain, To, High, Low}
-use Rattle.rv_text.specs.declared.item.Item.{Item}
-use Rattle.rv_text.specs.Source.{Sandbox}
+use Rattle.rv_source.specs.declared.item.Body.{Body}
+use Rattle.rv_source.specs.declared.item.Body.TheVariants.{Plain, To, High, Low}
+use Rattle.rv_source.specs.declared.item.Item.{Item}
+use Rattle.rv_source.specs.Source.{Sandbox}
 use Rattle.sfi_image.specs.declared.format.Format.{Format}
 use Rattle.sfi_image.specs.declared.span.Span.{Span}
 use Rattle.sfi_image.specs.Spans.{Holds}

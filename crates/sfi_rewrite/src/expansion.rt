@@ -8,7 +8,7 @@ ghost use Rattle.rv_word.specs.declared.instr.Instr.TheVariants.{Op};
 use crate::register::register;
 use crate::slot::Slot;
 use rv_comp::form_of;
-use rv_text::{Body, Item};
+use rv_source::{Body, Item};
 use rv_word::{ImmOp, Instr, Reg, RegOp};
 use sfi_image::Format;
 use std::marker::Model;

@@ -7,7 +7,7 @@ ghost use Rattle.sfi_rewrite.specs.Faults.{IsPermitted, HasItemFault};
 
 use crate::fault::RewriteFault;
 use crate::register::is_withheld;
-use rv_text::{Body, Item};
+use rv_source::{Body, Item};
 use rv_word::Instr;
 use sfi_image::Format;
 

@@ -1,6 +1,6 @@
 //! The items of a sandbox, laid one after another.
 ghost use Rattle.std.specs.Prelude.{◌≡◌, ◌<◌, ◌≤◌, ◌+◌, ◌*◌, ℕ, IfOk, IfErr, length, slice_index};
-ghost use Rattle.rv_text.specs.Source.{IsBody};
+ghost use Rattle.rv_source.specs.Source.{IsBody};
 ghost use Rattle.sfi_image.specs.Formats.{code_most};
 ghost use Rattle.sfi_rewrite.specs.Slots.{size_of};
 ghost use Rattle.sfi_rewrite.specs.Filling.{HasNext, HaveBodies, AreLabels};
@@ -11,7 +11,7 @@ use crate::fault::RewriteFault;
 use crate::filling::{Filling, size_of};
 use crate::item::{is_call, permit};
 use crate::place::{next_bundle, nops_before};
-use rv_text::Item;
+use rv_source::Item;
 use sfi_image::Format;
 use std::alloc::Global;
 

@@ -1,12 +1,12 @@
 //! What the names of a sandbox name, once its items are placed.
 ghost use Rattle.std.specs.Prelude.{◌≡◌, ◌<◌, ◌↔◌, IfOk, IsTrue, length};
 ghost use Rattle.std.specs.List.{AllZip};
-ghost use Rattle.rv_text.specs.Source.{named, IsSandbox};
+ghost use Rattle.rv_source.specs.Source.{named, IsSandbox};
 ghost use Rattle.sfi_rewrite.specs.Placement.{IsPlacedName, HasEndLabel};
 ghost use Rattle.sfi_rewrite.specs.Filling.{AreLabels, HasLabel, placed_of};
 
 use crate::placed::PlacedName;
-use rv_text::{Named, SourcePart};
+use rv_source::{Named, SourcePart};
 use std::alloc::{AllocError, Global};
 
 /// What the name names, by the places that labels name.

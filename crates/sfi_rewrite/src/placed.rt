@@ -3,7 +3,7 @@ ghost use Rattle.std.specs.Prelude.{◌≡◌};
 ghost use Rattle.sfi_rewrite.specs.Placed.{format_of, IsPlaced};
 
 use crate::bundle::Bundle;
-use rv_text::SourceGate;
+use rv_source::SourceGate;
 use sfi_image::Format;
 use std::marker::Model;
 

@@ -1,7 +1,7 @@
 //! From a source to what is placed.
 ghost use Rattle.std.specs.Prelude.{◌≡◌, ◌<◌, ◌≤◌, ◌^◌, ℕ, List, IfOk, IfErr, IsTrue, Ok, Err};
 ghost use Rattle.std.specs.List.{All, AllZip};
-ghost use Rattle.rv_text.specs.Source.{IsSandbox, IsSource};
+ghost use Rattle.rv_source.specs.Source.{IsSandbox, IsSource};
 ghost use Rattle.sfi_rewrite.specs.Slots.{size_of};
 ghost use Rattle.sfi_rewrite.specs.Placement.{Placement};
 ghost use Rattle.sfi_rewrite.specs.Placed.{IsPlacedPart};
@@ -19,7 +19,7 @@ use crate::names::{has_end_label, place_names};
 use crate::place::nops_at_end;
 use crate::placed::{Placed, PlacedPart};
 use rv_comp::laws::one_first_form;
-use rv_text::{Source, SourcePart};
+use rv_source::{Source, SourcePart};
 use std::alloc::{AllocError, Global};
 
 /// Fills the code up to the bundle start of a label at its end.

@@ -9,7 +9,7 @@ ghost use Rattle.sfi_command.specs.declared.job.Job.TheVariants.{Build};
 use crate::fault::{InputFault, Stop, build_stop};
 use crate::input::INPUT_LIMIT;
 use crate::verdict::Answer;
-use sfi_link::build;
+use sfi_build::build;
 use std::alloc::{AllocError, Global};
 
 /// The source text that was read. A text above its limit goes first.

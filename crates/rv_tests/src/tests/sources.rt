@@ -1,5 +1,6 @@
 //! What texts of the assembler mean, and where and why they are refused.
-use rv_text::{Body, Item, SourcePart, TextCause, TextFault, parse_source, print_instr};
+use rv_source::{Body, Item, SourcePart};
+use rv_text::{TextCause, TextFault, parse_source, print_instr};
 use std::alloc::{AllocError, Global};
 use std::process::Abort;
 use std::test::Fail;

@@ -2,7 +2,8 @@
 use rv_text::{TextCause, TextFault};
 use sfi_check::check;
 use sfi_image::{parse_image, write_image};
-use sfi_link::{BuildFault, LinkFault, build};
+use sfi_build::{BuildFault, build};
+use sfi_link::LinkFault;
 use sfi_rewrite::RewriteFault;
 use std::alloc::{AllocError, Global};
 use std::test::Fail;

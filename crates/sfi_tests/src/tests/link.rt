@@ -1,6 +1,7 @@
 //! Linking what is placed, and what is said of a text that can't be built.
 use rv_text::parse_source;
-use sfi_link::{build, link};
+use sfi_build::build;
+use sfi_link::link;
 use sfi_rewrite::rewrite;
 use std::test::Fail;
 

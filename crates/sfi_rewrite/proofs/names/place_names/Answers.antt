@@ -1,5 +1,5 @@
 use Rattle.sfi_rewrite.proofs.PlacedNames.{label_at, none_at, names_push}
-use Rattle.rv_text.specs.Source.{named}
+use Rattle.rv_source.specs.Source.{named}
 use Rattle.std.proofs.Common.{arith}
 use Rattle.sfi_rewrite.proofs.names.place_names.Goals as goal
 

@@ -1,6 +1,6 @@
 use Rattle.std.specs.List.{AllZip}
 use Rattle.std.proofs.Common.{take}
-use Rattle.rv_text.specs.Source.{named}
+use Rattle.rv_source.specs.Source.{named}
 use Rattle.sfi_rewrite.specs.Placement.{IsPlacedName}
 use Rattle.sfi_rewrite.proofs.names.place_names.Given as goal
 

@@ -1,6 +1,6 @@
 use Rattle.std.proofs.Common.{◌∙◌, sym, ap, subst}
 use Rattle.std.specs.List.{AllZip}
-use Rattle.rv_text.specs.Source.{named}
+use Rattle.rv_source.specs.Source.{named}
 use Rattle.sfi_rewrite.specs.Slots.{slots_of}
 use Rattle.sfi_rewrite.specs.Placement.{IsPlacedName, AreBundles}
 use Rattle.sfi_rewrite.specs.Faults.{AreFaultless}

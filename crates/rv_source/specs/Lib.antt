@@ -1,0 +1,4 @@
+pub mod NameTable
+pub mod Source
+pub mod Halves
+pub mod Laws

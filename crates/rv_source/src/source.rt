@@ -1,0 +1,145 @@
+//! Sources: what a text of the assembler means.
+ghost use Rattle.std.specs.Prelude.{◌≡◌, length, slice_get};
+ghost use Rattle.rv_source.specs.Source.{sandbox, named, format_of, IsSource};
+
+use crate::item::{Item, Named, SourceGate};
+use crate::names::Names;
+use sfi_image::Format;
+use std::marker::Model;
+
+/// A sandbox of a source.
+#[derive(Debug, Drop)]
+pub struct SourcePart {
+    format: Format,
+    data_size: u32,
+    gates: Vec<SourceGate>,
+    names: Names,
+    items: Vec<Item>,
+    bytes: Vec<u8>,
+}
+
+impl Model for SourcePart {
+    ghost use Rattle.rv_source.specs.Source.{Sandbox};
+
+    ghost Value = { Sandbox };
+
+    ghost view = { λ p. record { format = p.format; data_size = p.data_size; gates = p.gates.items; names = p.names; items = p.items.items; bytes = p.bytes.items } };
+}
+
+impl SourcePart {
+    /// The sandbox of these. What fits what is asked for where it goes into a source.
+    pub fn new(
+        format: Format,
+        data_size: u32,
+        gates: Vec<SourceGate>,
+        names: Names,
+        items: Vec<Item>,
+        bytes: Vec<u8>,
+    ) -> SourcePart
+        ensures { result ≡ sandbox format data_size gates.items names items.items bytes.items }
+    {
+        SourcePart {
+            format,
+            data_size,
+            gates,
+            names,
+            items,
+            bytes,
+        }
+    }
+
+    /// The format of its source.
+    pub fn format(&self) -> Format
+        ensures { result ≡ self.now.format }
+    {
+        self.format
+    }
+
+    /// How many bytes the data region has, a power of two from 256 to 1048576.
+    pub fn data_size(&self) -> u32
+        ensures { result ≡ self.now.data_size }
+    {
+        self.data_size
+    }
+
+    /// The gates, at most 64, in the order of the text.
+    pub fn gates(&self) -> &[SourceGate]
+        ensures { result.now ≡ self.now.gates }
+    {
+        &self.gates
+    }
+
+    /// How many names there are.
+    pub fn name_count(&self) -> usize
+        ensures { result ≡ length (named self.now) }
+    {
+        self.names.len()
+    }
+
+    /// What the name at this place names; `None` where there is none. The places are those of the order in which the
+    /// names are first seen, from 0.
+    pub fn named(&self, place: usize) -> Option<Named>
+        ensures { result ≡ slice_get (named self.now) place }
+    {
+        self.names.named(place)
+    }
+
+    /// The instructions, at most 65536, in the order of the text.
+    pub fn items(&self) -> &[Item]
+        ensures { result.now ≡ self.now.items }
+    {
+        &self.items
+    }
+
+    /// The first bytes of the data region, at most `data_size`.
+    pub fn bytes(&self) -> &[u8]
+        ensures { result.now ≡ self.now.bytes }
+    {
+        &self.bytes
+    }
+}
+
+/// What a text means: one sandbox at least, all of one format.
+#[derive(Debug, Drop)]
+pub struct Source {
+    parts: Vec<SourcePart>,
+}
+
+impl Model for Source {
+    ghost use Rattle.std.specs.Prelude.{List};
+    ghost use Rattle.rv_source.specs.Source.{Sandbox, IsSource};
+
+    ghost Value = { List Sandbox };
+
+    ghost view = { λ s. s.parts.items };
+
+    ghost invariant = { λ s. IsSource s.parts.items };
+}
+
+impl Source {
+    /// The source of these sandboxes.
+    pub fn new(parts: Vec<SourcePart>) -> Source
+        requires { IsSource parts.items }
+        ensures { result ≡ parts.items }
+    {
+        Source { parts }
+    }
+
+    /// The format of the image to be made.
+    pub fn format(&self) -> Format
+        ensures { result ≡ format_of self.now }
+    {
+        match self.parts.first() {
+            Some(part) => part.format(),
+            None => Format::Sfi1,
+        }
+    }
+
+    /// The sandboxes, in the order of the text.
+    pub fn parts(&self) -> &[SourcePart]
+        ensures parts { result.now ≡ self.now }
+        ensures right { IsSource self.now }
+    {
+        &self.parts
+    }
+}
