@@ -1,5 +1,5 @@
 -- What leaves a sandbox safe.
-use Rattle.std.proofs.Common.{◌≡◌, ◌≢◌, ℕ, ◌≤◌, inl, inr, List, [], true, refl, sym, ap, ◌∙◌, subst, arith, get_or-set_other}
+use Rattle.std.proofs.Common.{◌≡◌, ◌≢◌, ℕ, ◌+◌, ◌<◌, ◌≤◌, inl, inr, List, [], length, true, refl, sym, ap, ◌∙◌, subst, arith, get_or-set_other}
 use Rattle.std.specs.Prelude.{slice_index, slice_set}
 use Rattle.rv_word.specs.declared.instr.Instr.TheVariants.{Ecall}
 use Rattle.rv_mem.specs.Bytes.{Bytes, IsMemory, address_after}
@@ -8,7 +8,7 @@ use Rattle.rv_step.specs.Step.{Stands}
 use Rattle.sfi_image.specs.Formats.{has_stack}
 use Rattle.sfi_image.specs.Spelling.{Part}
 use Rattle.sfi_image.specs.Spans.{Holds, AreApart}
-use Rattle.sfi_check.specs.Regions.{InCode, InData, InGuard, HasStack}
+use Rattle.sfi_check.specs.Regions.{InCode, InData, InGuard, HasCode, HasStack}
 use Rattle.sfi_check.specs.Runs.{Replies, Changes, KeepsBytes, KeepsReserved, IsReply}
 use Rattle.sfi_check.specs.Laws.{GoesOnSafely}
 use Rattle.sfi_host.specs.declared.status.Status.TheVariants.{Ready}
@@ -18,6 +18,15 @@ use Rattle.sfi_host.specs.Hosts.{Way, Replied, Yield, Exit}
 use Rattle.sfi_host.specs.Joint.{with_arguments, after_way, status_after}
 use Rattle.sfi_host.specs.Laws.{CallsHaveStack, AnswersAreReplies}
 use Rattle.sfi_host.specs.Worlds.{Seat, machine_of, IsSafeSeat, StaysOutside, with_guards}
+
+-- ---- the code of a part
+
+pub code_at : (p : Part) (k : ℕ) → k < length p.code → InCode p (p.code_base + k)
+code_at p k below = (omega arith, omega arith)
+
+-- where its bytes stay the code is there as before
+pub code_stays : (p : Part) (m n : Bytes) → KeepsBytes p m n → HasCode p m → HasCode p n
+code_stays p m n keeps code k below = keeps.code (p.code_base + k) (code_at p k below) ∙ code k below
 
 -- ---- the regions of one sandbox
 
@@ -91,6 +100,7 @@ module _ (m : Bytes) (s : Seat) (seat : IsSafeSeat m s) where
     bounds = seat.bounds;
     right = seat.right;
     apart = seat.apart;
+    code = code_stays seat.part m n keeps seat.code;
     guards = λ a guard. keeps.guards a guard (seat.guards a guard);
     has_data = whole;
     safe = λ ready. on seat.part (machine_of m s) (machine_of n s) (Changes (machine_of n s)) (seat.safe ready)
@@ -112,6 +122,7 @@ module _ (m : Bytes) (s : Seat) (seat : IsSafeSeat m s) where
     bounds = seat.bounds;
     right = seat.right;
     apart = seat.apart;
+    code = code_stays seat.part m n (own_kept seat.part seat.bounds n stays) seat.code;
     guards = λ a guard. (own_kept seat.part seat.bounds n stays).guards a guard (seat.guards a guard);
     has_data = whole;
     safe = λ still. on seat.part (machine_of m s) (record { hart = h; memory = n }) (Replies (record { hart = h; memory = n })) (seat.safe ready)
@@ -125,6 +136,7 @@ module _ (m : Bytes) (s : Seat) (seat : IsSafeSeat m s) where
     bounds = same ∙ seat.bounds;
     right = seat.right;
     apart = seat.apart;
+    code = code_stays seat.part m n (own_kept seat.part seat.bounds n stays) seat.code;
     guards = λ a guard. (own_kept seat.part seat.bounds n stays).guards a guard (seat.guards a guard);
     has_data = subst (λ (b : Bounds). IsWhole b.data n) (sym same) whole;
     safe = λ ready. absurd (not_ready ready);

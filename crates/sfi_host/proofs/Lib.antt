@@ -7,6 +7,7 @@ pub mod Kept
 pub mod Leaving
 pub mod Loaded
 pub mod Moves
+pub mod Moved
 pub mod Moving
 pub mod Neighbours
 pub mod Owning
@@ -14,6 +15,7 @@ pub mod Plans
 pub mod Posting
 pub mod Replying
 pub mod Runs
+pub mod SamePart
 pub mod Serving
 pub mod Turning
 pub mod Worlds

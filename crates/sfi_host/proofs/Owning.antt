@@ -1,5 +1,5 @@
 -- A step in the one memory, and the same step in the sandbox's own.
-use Rattle.std.proofs.Common.{◌≡◌, ◌≢◌, ℕ, ◌≤◌, ◌⊎◌, inl, inr, ⊎_elim, ◌||◌, Bool, true, false, cond, None, refl, sym, ap, ◌∙◌, subst, arith}
+use Rattle.std.proofs.Common.{◌≡◌, ◌≢◌, ℕ, ◌+◌, ◌≤◌, ◌⊎◌, inl, inr, ⊎_elim, ◌||◌, Bool, true, false, cond, None, refl, sym, ap, ◌∙◌, subst, arith}
 use Rattle.rv_mem.specs.Bytes.{Bytes, byte_at}
 use Rattle.rv_step.specs.declared.outcome.Outcome.{Outcome}
 use Rattle.rv_step.specs.declared.outcome.Outcome.TheVariants.{Next, Call, Trap}
@@ -18,6 +18,7 @@ use Rattle.sfi_host.specs.Slots.{Bounds, is_own, own, state_of}
 use Rattle.sfi_host.specs.Joint.{Machine, IsMachine}
 use Rattle.sfi_host.specs.Worlds.{Seat, slot_of, machine_of, IsSafeSeat, StaysOutside}
 use Rattle.sfi_host.specs.Steps.{own_step, stepped_seat, IsOwnStep, StepsAreOwn}
+use Rattle.sfi_host.proofs.Keeping.{code_at}
 use Rattle.sfi_host.proofs.Kept.{get_kept, same_bytes, is_in-true, is_in-Holds}
 
 -- ---- a sandbox's own bytes
@@ -172,6 +173,9 @@ module _ (laws : Laws) (m : Bytes) (s : Seat) (r : Stepped) (seat : IsSafeSeat m
     bounds = seat.bounds;
     right = seat.right;
     apart = seat.apart;
+    code = λ k below.
+        let there = code_at seat.part k below in
+        stays_outside (seat.part.code_base + k) (λ inside. data_not_code _ (data_in _ inside) there) ∙ seat.code k below;
     guards = λ a guard. stays_outside a (λ inside. guard_not_data a guard (data_in a inside)) ∙ seat.guards a guard;
     has_data = λ a inside. laws.none_goes (machine_of m s) r a step (seat.has_data a inside);
     safe = λ e. laws.on seat.part (machine_of m s) r.state (Steps r) (seat.safe ready) step (ap (λ (o : Outcome). after_step o r.state) done);

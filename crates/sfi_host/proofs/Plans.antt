@@ -130,15 +130,16 @@ module _ {S : Type 0} (machine : Machine) (answer : S → Call → Answer S) whe
           });
     }
 
-    pub plan_ends : (done : ℕ) (now : List Slot) (host : S) → IsPlanOnItsWay machine answer plan old before done [] now host → IsJoint machine answer plan old before now host
-    plan_ends done now host way =
+    pub plan_ends : (done : ℕ) (now : List Slot) (host : S) → done ≡ length plan → IsPlanOnItsWay machine answer plan old before done [] now host → IsJoint machine answer plan old before now host
+    plan_ends done now host all way =
         let nil = joined_nil machine (limited answer) now (with_left host None) in
         let e : SamePlan done (joined machine (limited answer) plan old (with_left before None)) (joined machine (limited answer) [] now (with_left host None)) =
         subst (λ (x : Option ℕ). SamePlan done (joined machine (limited answer) plan old (with_left before x)) (joined machine (limited answer) [] now (with_left host None))) (no_limit way.answers) (way.is None) in
         record {
           slots = sym (e.slots_are ∙ ap (λ (j : Joined _). j.slots) nil);
           host = sym (ap (λ (x : Limited S). x.host) (e.host_is ∙ ap (λ (j : Joined _). j.host) nil));
-          whole = e.ended_is ∙ ap (λ (j : Joined _). j.is_ended) nil;
+          turns = let f : (joined machine (limited answer) [] now (with_left host None)).turns ≡ 0 = ap (λ (j : Joined _). j.turns) nil in
+              let g = e.turns_are in omega (arith, f, g, all);
         }
 
     pub plan_cuts : (may_refuse : S → Call → Bool) (done : ℕ) (t : Turn) (rest : List Turn) (now new : List Slot) (host after : S) → slice_get plan done ≡ Some t

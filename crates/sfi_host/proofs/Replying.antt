@@ -2,8 +2,11 @@
 use Rattle.std.proofs.Common.{◌≡◌, ◌≢◌, ℕ, Bool, refl, sym, ap, ◌∙◌}
 use Rattle.rv_mem.specs.Bytes.{Bytes, IsMemory}
 use Rattle.rv_word.specs.declared.instr.Instr.TheVariants.{Ecall}
-use Rattle.rv_step.specs.State.{Hart, IsHart, register, behind}
+use Rattle.rv_comp.specs.declared.front.Front.TheVariants.{Read}
+use Rattle.rv_step.specs.declared.outcome.Outcome.TheVariants.{Call as Calls}
+use Rattle.rv_step.specs.State.{Hart, State, IsHart, register, behind}
 use Rattle.rv_step.specs.Step.{Stands}
+use Rattle.sfi_check.specs.Runs.{Steps, Replies}
 use Rattle.sfi_check.specs.Laws.{GoesOnSafely}
 use Rattle.sfi_host.specs.declared.status.Status.{Status}
 use Rattle.sfi_host.specs.declared.status.Status.TheVariants.{Ready}
@@ -19,6 +22,7 @@ use Rattle.sfi_host.specs.Hosts.{Call, Way, Replied, Yield, Exit, Reply, Answer}
 use Rattle.sfi_host.specs.Regions.{bytes_in, bytes_outside, IsWhole}
 use Rattle.sfi_host.specs.Slots.{Bounds, Slot, one_more, own}
 use Rattle.sfi_host.specs.Joint.{service_at, call_of, with_arguments, with_data, replied, then_of}
+use Rattle.sfi_host.specs.Moves.{ChangesOwn, TakesSome}
 use Rattle.sfi_host.specs.Sandboxes.{seat_of, call_by, IsTold, IsNotTold, after_told, going_after, next_of, IsReplied, IsNotReplied}
 use Rattle.sfi_host.specs.Worlds.{slot_of, machine_of, IsSafeSeat, StaysOutside}
 use Rattle.sfi_host.proofs.Leaving.{data_of_own, put_back}
@@ -124,3 +128,43 @@ safe_after on m n s t (gate.Exit k) size seat ready stands memory stays whole ha
     keep.halted m (seat_of s) seat n _ refl (λ e. cc) stays whole
 safe_after on m n s t gate.Memory size seat ready stands memory stays whole hart =
     keep.own_changed m (seat_of s) seat on n stays whole
+
+-- ---- as a turn of its own
+
+module _ (m n : Bytes) (s : Sandbox) (t : Told) (size : ℕ) (ready : s.status ≡ Ready) (stands : Stands (machine_of m (seat_of s)) Ecall size) (memory : IsMemory n)
+    (changes : ChangesOwn (seat_of s) m n) where
+  -- it goes on behind the ecall
+  goes_on_after : (a : GateAnswer) → (after_told a s t).status ≡ Ready → (after_told a s t).cpu ≡ behind (with_arguments s.cpu t.a0 t.a1) 4 → IsHart (after_told a s t).cpu
+      → TakesSome m (seat_of s) n (seat_of (after_told a s t))
+  goes_on_after a still same hart =
+      let after : State = machine_of n (seat_of (after_told a s t)) in (
+        Replies after,
+        record {
+          own = record {
+            size = size;
+            asked = stands;
+            a0 = t.a0;
+            a1 = t.a1;
+            state = record { hart = hart; memory = memory };
+            hart = same;
+            bytes = changes;
+          };
+          leads = λ e. refl;
+          last = λ stopped. absurd (stopped still);
+          bytes = changes;
+        },
+      )
+
+  pub takes_after : (a : GateAnswer) → a ≢ gate.Memory → (a ≢ gate.Memory → IsHart (after_told a s t).cpu) → TakesSome m (seat_of s) n (seat_of (after_told a s t))
+  takes_after gate.Replied some hart = goes_on_after gate.Replied ready refl (hart some)
+  takes_after gate.Yield some hart = goes_on_after gate.Yield ready refl (hart some)
+  takes_after (gate.Exit k) some hart = (
+    Steps (record { outcome = Calls; state = machine_of m (seat_of s) }),
+    record {
+      own = record { front = Read Ecall size; at_pc = stands; result = refl };
+      leads = λ e. absurd (cc);
+      last = λ stopped e. cc;
+      bytes = changes;
+    },
+  )
+  takes_after gate.Memory some hart = absurd (some refl)

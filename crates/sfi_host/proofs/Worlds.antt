@@ -92,6 +92,7 @@ module _ (laws : Laws) (ps : List Part) (layout : IsRightLayout ps) (memory : Is
         bounds = refl;
         right = lie.each i p e;
         apart = lie.own i p e;
+        code = has_code laws ps empty i p lie e;
         guards = has_empty_guards laws ps i p lie e;
         has_data = λ a h.
             let z : p.data_base + (a - p.data_base) ≡ a = omega arith in

@@ -7,7 +7,7 @@ use Rattle.sfi_image.specs.declared.span.Span.{Span}
 use Rattle.sfi_image.specs.Spelling.{Part}
 use Rattle.sfi_image.specs.Spans.{Holds, AreApart, guard, code_region, guarded_region}
 use Rattle.sfi_image.specs.Parts.{IsRightPart}
-use Rattle.sfi_check.specs.Regions.{HasEmptyGuards}
+use Rattle.sfi_check.specs.Regions.{HasCode, HasEmptyGuards}
 use Rattle.sfi_check.specs.Stack.{GoesSafelyFrom}
 use Rattle.sfi_host.specs.declared.status.Status.{Status}
 use Rattle.sfi_host.specs.declared.status.Status.TheVariants.{Ready}
@@ -55,13 +55,15 @@ data_byte_of (Some s) at = byte_at (bytes_in s.bounds.data s.bytes) at
 
 -- ---- what is kept of a world
 
--- The sandbox is a part of an image that passes each test of its own. Its guard zones are empty and its data whole, and if it may
--- still run, every run from its state is safe, and calls with a stack pointer in the data.
+-- The sandbox is a part of an image that passes each test of its own. It has the part's code, its
+-- guard zones are empty and its data whole, and if it may still run, every run from its state is
+-- safe, and calls with a stack pointer in the data.
 pub record IsSafeSeat (m : Bytes) (s : Seat) : Type 0 where
   pub part : Part
   pub bounds : s.bounds ≡ bounds_of part
   pub right : IsRightPart part
   pub apart : AreApart (code_region part) (guarded_region part)
+  pub code : HasCode part m
   pub guards : HasEmptyGuards part m
   pub has_data : IsWhole s.bounds.data m
   pub safe : s.status ≡ Ready → GoesSafelyFrom part (machine_of m s)
@@ -83,3 +85,9 @@ pub record IsSafeWorld (w : Sandboxes) : Type 0 where
 -- a memory keeps its bytes, or their absence, outside a region
 abbrev pub StaysOutside : Span → Bytes → Bytes → Type 0
 StaysOutside region old new = (a : ℕ) → (Holds region a → ⊥) → byte_at new a ≡ byte_at old a
+
+-- it keeps them wherever no sandbox of the world has its data
+abbrev pub StaysOutsideData : Sandboxes → Bytes → Type 0
+StaysOutsideData w new =
+    (a : ℕ) → ((i : ℕ) (s : Seat) → slice_get w.seats i ≡ Some s → Holds s.bounds.data a → ⊥)
+    → byte_at new a ≡ byte_at w.bytes a

@@ -1,6 +1,6 @@
 //! What holds of the definitions and of every run. A call costs nothing.
 ghost use Rattle.sfi_host.specs.Laws.{SomeMachine, OneMachine, NeighboursAreChanges, CallsHaveStack, AnswersAreReplies};
-ghost use Rattle.sfi_host.specs.Moves.{MovesAreRuns};
+ghost use Rattle.sfi_host.specs.Moves.{MovesAreRuns, OthersLeaveSlots};
 ghost use Rattle.sfi_host.specs.Solo.{JointIsSolo};
 ghost use Rattle.sfi_host.specs.Steps.{StepsAreOwn};
 
@@ -55,10 +55,17 @@ pub fn answers_are_replies()
 {}
 
 /// What the sandboxes of a safe world do in the one memory, in any order, is to each of them a run: its own steps and the replies that it
-/// gets, and changes by others. The world stays safe.
+/// gets, and changes by others. Each of these runs is safe, and the world stays safe.
 pub fn moves_are_runs()
     ensures { MovesAreRuns }
 {
-    steps_are_own();
+    sfi_check::laws::goes_on_safely();
+}
+
+/// What the sandboxes of a safe world do, in one step, one turn or a plan, leaves each other one as it is: its pc, registers, status and
+/// count, and the bytes of its code and data.
+pub fn others_leave_slots()
+    ensures { OthersLeaveSlots }
+{
     sfi_check::laws::goes_on_safely();
 }

@@ -1,7 +1,8 @@
 //! A plan of turns.
-ghost use Rattle.std.specs.Prelude.{◌≡◌, ℕ};
+ghost use Rattle.std.specs.Prelude.{◌≡◌, ◌∷◌, [], ℕ};
 ghost use Rattle.sfi_host.specs.Joint.{Machine, IsMachine};
 ghost use Rattle.sfi_host.specs.Limits.{IsPlanStep, IsPlanCut};
+ghost use Rattle.sfi_host.specs.Moves.{HaveMoved};
 ghost use Rattle.sfi_host.specs.Programs.{AreDecoded};
 ghost use Rattle.sfi_host.specs.Plans.{IsJoint, IsCutJoint};
 ghost use Rattle.sfi_host.specs.Sandboxes.{world_of};
@@ -28,6 +29,7 @@ fn take_turn<M: Memory, G: Gates>(
     requires decoded { AreDecoded (world_of (M.bytes memory.old) sandboxes.old) programs.now }
     ensures safe { IsSafeWorld (world_of (M.bytes memory.new) sandboxes.new) }
     ensures decoded { AreDecoded (world_of (M.bytes memory.new) sandboxes.new) programs.now }
+    ensures moves { HaveMoved (turn ∷ []) (world_of (M.bytes memory.old) sandboxes.old) (world_of (M.bytes memory.new) sandboxes.new) }
     ensures whole { result ≡ Ended.Whole → (machine : Machine) → IsMachine machine
         → IsPlanStep machine G.answer turn (slots_of (world_of (M.bytes memory.old) sandboxes.old)) gates.old (slots_of (world_of (M.bytes memory.new) sandboxes.new)) gates.new }
     ensures refused { result ≡ Ended.Refused → (machine : Machine) → IsMachine machine
@@ -63,6 +65,7 @@ pub fn take_turns<M: Memory, G: Gates>(
     requires decoded { AreDecoded (world_of (M.bytes memory.old) sandboxes.old) programs.now }
     ensures safe { IsSafeWorld (world_of (M.bytes memory.new) sandboxes.new) }
     ensures decoded { AreDecoded (world_of (M.bytes memory.new) sandboxes.new) programs.now }
+    ensures moves { HaveMoved plan.now (world_of (M.bytes memory.old) sandboxes.old) (world_of (M.bytes memory.new) sandboxes.new) }
     ensures done { result ≡ RunAnswer.Done → (machine : Machine) → IsMachine machine
         → IsJoint machine G.answer plan.now (slots_of (world_of (M.bytes memory.old) sandboxes.old)) gates.old (slots_of (world_of (M.bytes memory.new) sandboxes.new)) gates.new }
     ensures refused { (place : ℕ) → result ≡ RunAnswer.Memory place → (machine : Machine) → IsMachine machine

@@ -3,12 +3,14 @@ ghost use Rattle.std.specs.Prelude.{◌≡◌, ◌↔◌, ℕ, map, slice_get, I
 ghost use Rattle.std.specs.FinMap.{empty};
 ghost use Rattle.sfi_image.specs.Spans.{Holds};
 ghost use Rattle.sfi_host.specs.Joint.{Machine, IsMachine};
+ghost use Rattle.sfi_host.specs.Moves.{HaveRun};
 ghost use Rattle.sfi_host.specs.Plans.{IsJoint, IsCutJoint};
 ghost use Rattle.sfi_host.specs.Slots.{Slot};
 ghost use Rattle.sfi_host.specs.Loading.{first_seat, with_parts, AreEntered, HaveFirstData};
-ghost use Rattle.sfi_host.specs.Worlds.{slots_of, status_at, steps_at, data_byte_of, IsSafeWorld};
+ghost use Rattle.sfi_host.specs.Worlds.{slots_of, status_at, steps_at, data_byte_of, IsSafeWorld, StaysOutsideData};
 
 use crate::gates::Gates;
+use crate::laws::moves_are_runs;
 use crate::loading::load_parts;
 use crate::plan::take_turns;
 use crate::program::{Program, decode_all};
@@ -91,9 +93,19 @@ impl<M: Memory> World<M> {
         ensures memory { (turn : ℕ) → result ≡ RunAnswer.Memory turn → (machine : Machine) → IsMachine machine
             → IsCutJoint machine G.answer G.may_refuse plan.now (slots_of self.old) gates.old turn (slots_of self.new) gates.new }
 
+        // What was done, however the plan ended, are moves of the sandboxes that it names, one after
+        // another in the one memory, and to each sandbox they are a run, and a safe one.
+        ensures runs { HaveRun plan.now self.old self.new }
+
         // Each sandbox is safe as before, and its data lie outside each other one.
         ensures safe { IsSafeWorld self.new }
+
+        // No byte has changed that lies in no sandbox's data.
+        ensures outside { StaysOutsideData self.old self.new.bytes }
     {
+        // The law that the contract rests on: this call does nothing.
+        moves_are_runs();
+
         take_turns(
             &mut self.memory,
             &self.programs,
@@ -101,6 +113,14 @@ impl<M: Memory> World<M> {
             plan,
             gates,
         )
+    }
+
+    /// Each sandbox is safe, and its data lie outside each other one: so it is in every world, at
+    /// any time. A call costs nothing.
+    pub fn stays_safe(&self)
+        ensures { IsSafeWorld self.now }
+    {
+        let _ = &self.memory;
     }
 
     /// What the sandbox of that number may still do; `None` where there is none.

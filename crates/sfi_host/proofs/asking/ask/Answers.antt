@@ -3,11 +3,12 @@ use Rattle.rv_step.specs.State.{register}
 use Rattle.sfi_host.specs.declared.guest.Request.{Request}
 use Rattle.sfi_host.specs.declared.sandbox.Sandbox.{Sandbox}
 use Rattle.sfi_host.specs.Joint.{service_at}
+use Rattle.sfi_host.specs.Moves.{TakesSome}
 use Rattle.sfi_host.specs.Regions.{bytes_in}
-use Rattle.sfi_host.specs.Sandboxes.{seat_of, call_by, IsReplied, IsNotReplied}
+use Rattle.sfi_host.specs.Sandboxes.{seat_of, call_by, going_after, IsReplied, IsNotReplied}
 use Rattle.sfi_host.specs.Worlds.{slot_of, IsSafeSeat}
 use Rattle.sfi_host.proofs.Leaving.{whole_in, whole_of, stays_outside}
-use Rattle.sfi_host.proofs.Replying.{asked_is, still_ready, bounds_after, safe_after, replies, refuses}
+use Rattle.sfi_host.proofs.Replying.{asked_is, still_ready, bounds_after, safe_after, replies, refuses, takes_after}
 use Rattle.sfi_host.proofs.asking.ask.Goals as goal
 
 pub call_gate-told-requires : goal.call_gate-told-requires
@@ -36,6 +37,21 @@ returns-clause-safe g c =
 pub returns-clause-others : goal.returns-clause-others
 returns-clause-others g c =
     stays_outside (seat_of c.args.sandbox.now).bounds.data (g.M.Memory.bytes c.args.memory.now) (g.M.Memory.bytes c.call_gate-told.new.memory) c.call_gate-told.ensures.outside
+
+pub returns-clause-moves : goal.returns-clause-moves
+returns-clause-moves g c goes_on =
+    let s = c.args.sandbox.now in
+    let m = g.M.Memory.bytes c.args.memory.now in
+    let n = g.M.Memory.bytes c.call_gate-told.new.memory in
+    let told = c.call_gate-told.result in
+    subst (λ (x : Sandbox). TakesSome m (seat_of s) n (seat_of x)) (sym c.put_answer.ensures.after)
+    (takes_after m n s told c.requires.called.0 c.requires.ready c.requires.called.1 (g.met.M.Memory.in_range c.call_gate-told.new.memory)
+    (record {
+      others = stays_outside (seat_of s).bounds.data m n c.call_gate-told.ensures.outside;
+      whole = whole_of (seat_of s).bounds.data n c.call_gate-told.ensures.has_data;
+    })
+    told.answer (λ e. goes_on (c.put_answer.ensures.goes ∙ ap going_after e))
+    (λ e. subst (λ (x : Sandbox). Rattle.rv_step.specs.State.IsHart x.cpu) c.put_answer.ensures.after (c.put_answer.ensures.hart e)))
 
 pub returns-clause-replied : goal.returns-clause-replied
 returns-clause-replied g c goes_on =

@@ -1,9 +1,10 @@
-use Rattle.std.proofs.Common.{◌≡◌, ◌+◌, ℕ, List, drop, get_or, refl, subst}
+use Rattle.std.proofs.Common.{◌≡◌, ◌+◌, ℕ, List, drop, get_or, refl, subst, arith}
 use Rattle.sfi_host.specs.declared.turn.Turn.{Turn}
 use Rattle.sfi_host.specs.Limits.{IsPlanOnItsWay}
 use Rattle.sfi_host.specs.Plans.{IsCutJoint}
 use Rattle.sfi_host.specs.Sandboxes.{world_of}
 use Rattle.sfi_host.specs.Worlds.{slots_of}
+use Rattle.sfi_host.proofs.Moved.{none_moved, turn_moved}
 use Rattle.sfi_host.proofs.Plans.{plan_starts, plan_goes_on, plan_ends, plan_cuts, next_turn, none_left, turn_at}
 use Rattle.sfi_host.proofs.plan.take_turns.Goals as goal
 
@@ -11,6 +12,7 @@ pub loop-place-init : goal.loop-place-init
 loop-place-init g c = record {
   safe = c.requires.safe;
   decoded = c.requires.decoded;
+  moves = none_moved c.args.plan.now (world_of (g.M.Memory.bytes c.args.memory.now) c.args.sandboxes.now);
   way = λ machine is. plan_starts machine g.G.Gates.answer c.args.plan.now (slots_of (world_of (g.M.Memory.bytes c.args.memory.now) c.args.sandboxes.now)) c.args.gates.now;
 }
 
@@ -18,6 +20,12 @@ pub loop-place-preserved : goal.loop-place-preserved
 loop-place-preserved g c = record {
   safe = c.in-Whole.ensures.safe;
   decoded = c.in-Whole.ensures.decoded;
+  moves =
+      let plan = c.args.plan.now in
+      let k = c.loop-place.place in
+      let d : Turn = record { sandbox = 0; steps = 0 } in
+      turn_moved plan k (get_or plan k d) (world_of (g.M.Memory.bytes c.args.memory.now) c.args.sandboxes.now) (world_of (g.M.Memory.bytes c.loop-place.memory) c.loop-place.sandboxes)
+      (world_of (g.M.Memory.bytes c.take_turn.new.memory) c.take_turn.new.sandboxes) (turn_at plan k d c.loop-place-test.true) c.loop-place.invariant.moves c.take_turn.ensures.moves;
   way = λ machine is.
       let plan = c.args.plan.now in
       let k = c.loop-place.place in
@@ -36,6 +44,7 @@ returns-clause-done g c done machine is =
     let old = slots_of (world_of (g.M.Memory.bytes c.args.memory.now) c.args.sandboxes.now) in
     let now = slots_of (world_of (g.M.Memory.bytes c.loop-place.memory) c.loop-place.sandboxes) in
     plan_ends machine g.G.Gates.answer plan old c.args.gates.now k now c.loop-place.gates
+    (omega (arith, c.loop-place-test.false))
     (subst (λ (l : List Turn). IsPlanOnItsWay machine g.G.Gates.answer plan old c.args.gates.now k l now c.loop-place.gates) (none_left plan k c.loop-place-test.false) (c.loop-place.invariant.way machine is))
 
 pub returns-in-Refused-clause-refused : goal.returns-in-Refused-clause-refused
@@ -50,3 +59,11 @@ returns-in-Refused-clause-refused g c place is_place machine is =
     (plan_cuts machine g.G.Gates.answer plan old c.args.gates.now g.G.Gates.may_refuse k (get_or plan k d) (drop (k + 1) plan) now _ c.loop-place.gates _ (turn_at plan k d c.loop-place-test.true)
     (subst (λ (l : List Turn). IsPlanOnItsWay machine g.G.Gates.answer plan old c.args.gates.now k l now c.loop-place.gates) (next_turn plan k d c.loop-place-test.true) (c.loop-place.invariant.way machine is))
     (c.in-Refused.ensures.refused refl machine is))
+
+pub returns-in-Refused-clause-moves : goal.returns-in-Refused-clause-moves
+returns-in-Refused-clause-moves g c =
+    let plan = c.args.plan.now in
+    let k = c.loop-place.place in
+    let d : Turn = record { sandbox = 0; steps = 0 } in
+    turn_moved plan k (get_or plan k d) (world_of (g.M.Memory.bytes c.args.memory.now) c.args.sandboxes.now) (world_of (g.M.Memory.bytes c.loop-place.memory) c.loop-place.sandboxes)
+    (world_of (g.M.Memory.bytes c.take_turn.new.memory) c.take_turn.new.sandboxes) (turn_at plan k d c.loop-place-test.true) c.loop-place.invariant.moves c.take_turn.ensures.moves
