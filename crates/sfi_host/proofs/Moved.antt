@@ -1,5 +1,5 @@
 -- Moves that follow moves: those of a turn, and those of a plan.
-use Rattle.std.proofs.Common.{◌≡◌, ℕ, zero, suc, Bool, true, false, List, [], ◌∷◌, ◌++◌, Some, slice_get, set, refl, sym, ap, ◌∙◌, subst}
+use Rattle.std.proofs.Common.{◌≡◌, ℕ, zero, suc, true, false, List, [], ◌∷◌, ◌++◌, Some, slice_get, set, refl, sym, ap, ◌∙◌, subst}
 use Rattle.std.specs.List.{All}
 use Rattle.std.proofs.lemmas.List.Elements.{All-append, All-cons, All-head, All-nil, All-tail}
 use Rattle.rv_mem.specs.Bytes.{Bytes, byte_at}
@@ -11,7 +11,7 @@ use Rattle.sfi_host.specs.Worlds.{Seat, Sandboxes, slot_of, IsSafeWorld, StaysOu
 use Rattle.sfi_host.specs.Moves.{Move, after_move, IsMove, AreMoves, MovesAreRuns, IsNamed, HaveMoved, HaveRun, TakesSome, MovesAlone}
 use Rattle.sfi_host.proofs.Kept.{same_bytes, is_in-true, is_in-Holds}
 use Rattle.sfi_host.proofs.Neighbours.{get_set_same}
-use Rattle.sfi_host.proofs.Owning.{own_data, own_there}
+use Rattle.sfi_host.proofs.Owning.{own_data, own_there, true_false}
 
 -- ---- lists
 
@@ -83,9 +83,6 @@ same_memory m n s t same stays = same_bytes n m (λ a.
           sym (own_there t.bounds n a too) ∙ ap (λ (x : Slot). byte_at x.bytes a) same ∙ own_there s.bounds m a mine
       | false ↦ λ b. stays a (λ h. true_false (is_in s.bounds.data a) (is_in-Holds s.bounds.data a h) b)
     ] refl)
-  where
-    true_false : (b : Bool) → b ≡ true → b ≡ false → ⊥
-    true_false b t f = cc
 
 pub same_seat : (m n : Bytes) (s t : Seat) → slot_of n t ≡ slot_of m s → t ≡ s
 same_seat m n s t same = ap (λ (x : Slot). seat_in x) same

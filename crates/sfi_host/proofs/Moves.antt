@@ -1,5 +1,5 @@
 -- What the sandboxes of a safe world do is a run to each of them.
-use Rattle.std.proofs.Common.{◌≡◌, ◌≢◌, ℕ, ◌==◌, cond, true, false, List, [], ◌∷◌, Option, Some, slice_get, set, refl, sym, ap, ◌∙◌, subst, arith}
+use Rattle.std.proofs.Common.{◌≡◌, ◌≢◌, ℕ, ◌==◌, cond, true, false, List, [], ◌∷◌, Option, Some, slice_get, set, refl, sym, ap, ◌∙◌, subst}
 use Rattle.std.proofs.lemmas.List.Elements.{All-head, All-tail}
 use Rattle.rv_mem.specs.Bytes.{Bytes, byte_at}
 use Rattle.rv_step.specs.State.{State}
@@ -16,17 +16,8 @@ use Rattle.sfi_host.specs.Hosts.{Reply, Replied}
 use Rattle.sfi_host.specs.Worlds.{Seat, Sandboxes, slot_of, slots_of, machine_of, IsSafeSeat, IsSafeWorld, StaysOutside, StaysOutsideData}
 use Rattle.sfi_host.specs.Moves.{IsOwnTurn, TakesTurn, Move, after_move, IsMove, AreMoves, own_turns, turns_to, IsRunBetween, MovesAreRuns, OthersLeaveSlots}
 use Rattle.sfi_host.proofs.Keeping as keep
-use Rattle.sfi_host.proofs.Neighbours.{get_set_same, get_set_other, slots_are, world_safe, neighbours_are}
-use Rattle.sfi_host.proofs.SamePart.{safe_run}
-
-eq_from_test : (a b : ℕ) → (a == b) ≡ true → a ≡ b
-eq_from_test a b t = grind arith
-
-not_same : (a b : ℕ) → (a == b) ≡ false → a ≢ b
-not_same a b t e = grind arith
-
-same_some : {A : Type 0} (x y : A) → Some x ≡ Some y → x ≡ y
-same_some x y e = cc
+use Rattle.sfi_host.proofs.Neighbours.{eq_from_test, not_same, get_set_same, get_set_other, slots_are, world_safe, neighbours_are}
+use Rattle.sfi_host.proofs.SamePart.{same_some, safe_run}
 
 both_keep : (p : Part) (m n w : Bytes) → KeepsBytes p m n → KeepsBytes p n w → KeepsBytes p m w
 both_keep p m n w f g = record {

@@ -25,10 +25,10 @@ get_set_other (z ∷ xs) zero (suc j) y n = refl
 get_set_other (z ∷ xs) (suc i) zero y n = refl
 get_set_other (z ∷ xs) (suc i) (suc j) y n = get_set_other xs i j y (λ e. n (ap suc e))
 
-eq_from_test : (a b : ℕ) → (a == b) ≡ true → a ≡ b
+pub eq_from_test : (a b : ℕ) → (a == b) ≡ true → a ≡ b
 eq_from_test a b t = grind arith
 
-not_same : (a b : ℕ) → (a == b) ≡ false → a ≢ b
+pub not_same : (a b : ℕ) → (a == b) ≡ false → a ≢ b
 not_same a b t e = grind arith
 
 -- ---- one of the others

@@ -70,7 +70,7 @@ pub record Laws : Type 0 where
   pub turns : SafeTurns
   pub on : GoesOnSafely
 
-true_false : (b : Bool) → b ≡ true → b ≡ false → ⊥
+pub true_false : (b : Bool) → b ≡ true → b ≡ false → ⊥
 true_false b t f = cc
 
 abbrev stepped_of : Outcome → Hart → Bytes → Stepped

@@ -11,7 +11,7 @@ use Rattle.sfi_check.specs.Runs.{Turn, Steps, Replies, Changes, after_turn}
 use Rattle.sfi_check.specs.Safety.{IsSafeState, IsSafeTurn, IsSafeRun}
 use Rattle.sfi_host.specs.Slots.{Bounds, bounds_of}
 
-same_some : {A : Type 0} (x y : A) → Some x ≡ Some y → x ≡ y
+pub same_some : {A : Type 0} (x y : A) → Some x ≡ Some y → x ≡ y
 same_some x y e = cc
 
 module _ (q p : Part) (same : bounds_of q ≡ bounds_of p) (m : Bytes) (there : HasCode q m) (code : HasCode p m) where
