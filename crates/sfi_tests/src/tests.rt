@@ -9,6 +9,7 @@ mod image;
 mod image_reading;
 mod link;
 mod listing;
+mod needs;
 mod neighbours;
 mod report;
 mod runs;
