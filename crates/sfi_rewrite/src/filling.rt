@@ -12,6 +12,9 @@ use std::alloc::{AllocError, Global};
 use std::marker::Model;
 use std::mem;
 
+/// The most slots of a bundle: eight 16-bit forms.
+const SLOTS_MOST: usize = 8;
+
 /// How many bytes slots take.
 pub(crate) fn size_of(slots: &[Slot]) -> usize
     requires { length slots.now ≤ 4 }
@@ -93,7 +96,8 @@ impl Filling {
             self.end += size;
             return Ok(());
         }
-        let mut bundle = mem::replace(&mut self.last, Vec::new(alloc));
+        let next = Vec::with_capacity(alloc, SLOTS_MOST)?;
+        let mut bundle = mem::replace(&mut self.last, next);
         self.end -= used;
         bundle.extend_from_slice(slots)?;
         self.full.push(Bundle::new(bundle))?;
