@@ -188,9 +188,6 @@ bundle_size bundles k b lt is =
     let g = size_of-append b (slots_of (drop (k + 1) bundles)) in
     omega arith
 
-pub bundle_sum : (bundles : List (List Slot)) (k : ℕ) (b : List Slot) → k < length bundles → b ≡ get_or bundles k b → size_of (slots_of (take (k + 1) bundles)) ≡ size_of (slots_of (take k bundles)) + size_of b
-bundle_sum bundles k b lt is = ap size_of (bundles_more bundles k b lt is) ∙ size_of-append (slots_of (take k bundles)) b
-
 pub bundle_room : (at : Bases) (names : List PlacedName) (bundles : List (List Slot)) (k limit : ℕ) (b : List Slot) (old now : List ℕ) → k < length bundles → b ≡ get_or bundles k b
     → AreWritten at names (slots_of (take k bundles)) old now → at.code + length old + size_of (slots_of bundles) < limit → at.code + length now + size_of b < limit
 bundle_room at names bundles k limit b old now lt is w room =

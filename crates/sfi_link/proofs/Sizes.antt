@@ -1,11 +1,12 @@
 -- How many bytes slots take.
-use Rattle.std.proofs.Common.{◌≡◌, ℕ, ◌+◌, ◌*◌, ◌%◌, ◌<◌, ◌≤◌, List, [], ◌∷◌, ◌++◌, length, take, get_or, replicate, refl, ap, ◌∙◌, arith}
+use Rattle.std.proofs.Common.{◌≡◌, ℕ, ◌+◌, ◌*◌, ◌%◌, ◌<◌, ◌≤◌, List, [], ◌∷◌, ◌++◌, length, take, get_or, replicate, refl, subst, ap, ◌∙◌, arith}
 use Rattle.std.proofs.lemmas.List.{take_more}
 use Rattle.std.proofs.lemmas.List.Sums.{sum_by-cons, sum_by-append}
 use Rattle.std.proofs.lemmas.List.Folds.{sum_by-replicate}
 use Rattle.sfi_rewrite.specs.declared.slot.Slot.{Slot}
 use Rattle.sfi_rewrite.specs.declared.slot.Slot.TheVariants.{Wide, Short, Jump, Upper, Lower}
-use Rattle.sfi_rewrite.specs.Slots.{slot_size, size_of}
+use Rattle.sfi_rewrite.specs.Slots.{slot_size, size_of, slots_of}
+use Rattle.sfi_rewrite.specs.Placement.{AreBundles}
 use Rattle.sfi_link.specs.Linked.{c_ebreak}
 
 pub size_cons : (x : Slot) (xs : List Slot) → size_of (x ∷ xs) ≡ slot_size x + size_of xs
@@ -13,6 +14,23 @@ size_cons x xs = sum_by-cons slot_size x xs
 
 pub size_of-append : (xs ys : List Slot) → size_of (xs ++ ys) ≡ size_of xs + size_of ys
 size_of-append xs ys = sum_by-append slot_size xs ys
+
+-- bundles that are full, and a last one
+full_and_last : (full : List (List Slot)) (last : List Slot) → AreBundles (full ++ last ∷ []) → size_of (slots_of (full ++ last ∷ [])) ≡ 16 * length full + size_of last
+full_and_last [] last h = let e = size_of-append last [] in omega arith
+full_and_last (b ∷ []) last h =
+    let e = size_of-append b (slots_of (last ∷ [])) in
+    let f = size_of-append last [] in
+    let g = h.0 in
+    omega arith
+full_and_last (b ∷ c ∷ full) last h =
+    let e = size_of-append b (slots_of (c ∷ full ++ last ∷ [])) in
+    let f = full_and_last (c ∷ full) last h.1 in
+    let g = h.0 in
+    omega arith
+
+pub all_but_last : (bundles full : List (List Slot)) (last : List Slot) → AreBundles bundles → bundles ≡ full ++ last ∷ [] → size_of (slots_of bundles) ≡ 16 * length full + size_of last
+all_but_last bundles full last h e = ap (λ bs. size_of (slots_of bs)) e ∙ full_and_last full last (subst AreBundles e h)
 
 slot_even : (s : Slot) → slot_size s % 2 ≡ 0
 slot_even (Short f) = refl

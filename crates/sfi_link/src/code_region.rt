@@ -1,7 +1,8 @@
 //! The code region of a sandbox: its gates' stubs, its code, and c.ebreaks up to its end.
 ghost use Rattle.std.specs.Prelude.{◌≡◌, ◌++◌, ◌<◌, ◌≤◌, ℕ, IfSome, IfNone, OnOk};
 ghost use Rattle.std.specs.List.{repeat};
-ghost use Rattle.sfi_rewrite.specs.Slots.{size_of};
+ghost use Rattle.sfi_rewrite.specs.Slots.{size_of, slots_of};
+ghost use Rattle.sfi_rewrite.specs.Placement.{AreBundles};
 ghost use Rattle.sfi_rewrite.specs.Placed.{IsPlacedPart};
 ghost use Rattle.sfi_link.specs.Linked.{needed, HasRoom, IsCodeSize, IsLinkedCode};
 ghost use Rattle.sfi_link.specs.Faults.{HasPartFault, sandboxes_most};
@@ -11,13 +12,16 @@ use crate::bases::bases_of;
 use crate::code::push_bundles;
 use crate::fault::LinkFault;
 use sfi_image::Format;
-use sfi_rewrite::{PlacedPart, Slot};
+use sfi_rewrite::{Bundle, PlacedPart, Slot};
 use std::alloc::{AllocError, Global};
 
 // A gate's bundle: `ecall`, `and x31, x1, x25`, `or x31, x31, x24`, `jalr x0, 0(x31)`.
 const STUB: [u8; 16] = [
     0x73, 0x00, 0x00, 0x00, 0xb3, 0xff, 0x90, 0x01, 0xb3, 0xef, 0x8f, 0x01, 0x67, 0x80, 0x0f, 0x00,
 ];
+
+// How many bytes a full bundle has.
+const BUNDLE: usize = 16;
 
 const C_EBREAK: [u8; 2] = [0x02, 0x90];
 
@@ -36,17 +40,27 @@ fn size_of(slots: &[Slot]) -> usize
     size
 }
 
+// How many bytes the slots of bundles take. Each bundle but the last is full.
+fn size_of_bundles(bundles: &[Bundle]) -> usize
+    requires full { AreBundles bundles.now }
+    requires fits { size_of (slots_of bundles.now) ≤ 1048576 }
+    ensures { result ≡ size_of (slots_of bundles.now) }
+{
+    match bundles.split_last() {
+        Some((last, full)) => {
+            let size = size_of(last.slots());
+            BUNDLE * full.len() + size
+        }
+        None => 0,
+    }
+}
+
 // How many bytes the stubs, the code and one c.ebreak take.
 fn needed(part: &PlacedPart) -> usize
     requires { IsPlacedPart part.now }
     ensures { result ≡ needed part.now }
 {
-    let bundles = part.bundles();
-    let mut code = 0;
-    for bundle in bundles {
-        code += size_of(bundle.slots());
-    }
-    STUB.len() * part.gates().len() + code + C_EBREAK.len()
+    STUB.len() * part.gates().len() + size_of_bundles(part.bundles()) + C_EBREAK.len()
 }
 
 // The least size of a code region of the format in which so many bytes have room, if there is one.
