@@ -2,8 +2,8 @@
 from dataclasses import dataclass
 
 from assembly import Refused, Statement
-from operands import (MEMORY, PART, Symbol, is_register, is_symbol, lower, number, number_or_none, register, symbol,
-                      upper)
+from operands import (MEMORY, PART, Symbol, is_register, is_stack_pointer, is_symbol, lower, number, number_or_none,
+                      register, symbol, upper)
 
 
 @dataclass(frozen=True)
@@ -110,7 +110,8 @@ class Converter:
 
     def rewritten(self, statement):
         """The instructions that this one is short for, or None where it stands for itself."""
-        for way in (self.pseudo, self.with_number, self.jump, self.address_part, self.symbolic_access):
+        for way in (self.pseudo, self.with_number, self.jump, self.address_part, self.symbolic_access,
+                    self.stack_pointer_load):
             texts = way(statement)
             if texts is not None:
                 return [self.statement(text, statement.place) for text in texts]
@@ -196,6 +197,16 @@ class Converter:
         if word in STORES and len(operands) == 3:
             return ["la {2}, {1}".format(*operands), "{3} {0}, 0({2})".format(*operands, word)]
         return None
+
+    @staticmethod
+    def stack_pointer_load(statement):
+        """A load of the stack pointer: the second format has it on the stack pointer itself alone."""
+        if statement.word != "lw" or len(statement.operands) != 2 or not is_stack_pointer(statement.operands[0]):
+            return None
+        memory = MEMORY.fullmatch(statement.operands[1])
+        if memory is None or is_stack_pointer(memory.group(2)):
+            return None
+        return [f"mv sp, {memory.group(2)}", f"lw sp, {memory.group(1)}(sp)"]
 
     def plain(self, statement):
         shape = SHAPES[statement.word]

@@ -111,6 +111,8 @@ class Instructions(unittest.TestCase):
             ("sw zero,12(sp)", ["sw zero, 12(sp)"]),
             ("lw a5,x", ["la a5, x", "lw a5, 0(a5)"]),
             ("lhu a5,x+6", ["la a5, x+6", "lhu a5, 0(a5)"]),
+            ("lw sp,-20(s0)", ["mv sp, s0", "lw sp, -20(sp)"]),
+            ("lw sp,4(sp)", ["lw sp, 4(sp)"]),
             ("sb a5,x,t0", ["la t0, x", "sb a5, 0(t0)"]),
             ("lla a5,x-8", ["la a5, x-8"]),
             ("lui a5,%hi(x)", ["la a5, x"]),
