@@ -1,0 +1,93 @@
+#!/usr/bin/env python3
+"""What the program does where an allocation is refused: each in turn.
+
+    bench/refusals.py [--program PATH]
+
+Loads refuse.c before the C library, and lets the Nth allocation of a run fail, for N from 1 on, until there is none left to fail.
+Each run has to end in status 4 with nothing printed, or as it does with ample memory. It prints a line for each command, and ends
+in status 1 where a run ended otherwise.
+"""
+import argparse
+import os
+import subprocess
+import sys
+import tempfile
+
+import measure
+
+EXAMPLES = os.path.join(os.path.dirname(measure.HERE), "examples")
+
+
+def done(words, text, library=None, number=0):
+    """Status, output and errors of a run with that input, in which the allocation of that number is refused."""
+    environment = {**os.environ, "LD_PRELOAD": library, "REFUSE": str(number)} if library else None
+    ended = subprocess.run(words, input=text, capture_output=True, check=False, env=environment)
+    return ended.returncode, ended.stdout, ended.stderr
+
+
+def refused_in_turn(words, text, library):
+    """How the run ends with ample memory, and how it ends with each of its allocations refused."""
+    ample = done(words, text)[:2]
+    ends = []
+    while True:
+        status, output, errors = done(words, text, library, len(ends) + 1)
+        if b"refused\n" not in errors:
+            return ample, ends
+        ends.append((status, output))
+
+
+def read(path):
+    with open(path, "rb") as file:
+        return file.read()
+
+
+def commands(program):
+    """Command lines, and what they read."""
+    source = read(os.path.join(EXAMPLES, "hi.s"))
+    image = done([program, "build"], source)[1]
+    smallest = read(os.path.join(EXAMPLES, "smallest.hex"))
+    bare = image.replace(b"b37fb501", b"13000000")
+    two = done([program, "build"], b".sandbox 256\nebreak\n" + source)[1]
+    # The first code of the first sandbox: sw x11, 0(x10).
+    reaching = two[:72] + b"2320b500" + two[80:]
+    return [
+        (["check"], image),
+        (["check", "--report"], bare),
+        (["check", "--report"], reaching),
+        (["check", "--raw"], bytes.fromhex(image.decode())),
+        (["check"], smallest[:40]),
+        (["build"], source),
+        (["build"], source + b"frob\n"),
+        (["dis"], image),
+        (["run"], image),
+        (["run", "--rounds", "3", "--quantum", "8", "--input", "616263"], image),
+        (["run", "--rounds", "1000", "--quantum", "1"], two),
+        (["run"], reaching),
+        (["convert"], image),
+        (["convert"], bare),
+        (["frob"], b""),
+        (["--help"], b""),
+    ]
+
+
+def main():
+    options = argparse.ArgumentParser(description="Refuses each allocation in turn.")
+    options.add_argument("--program", default=measure.PROGRAM)
+    given = options.parse_args()
+    program = measure.program_at(given.program)
+    failed = False
+    with tempfile.TemporaryDirectory() as folder:
+        library = measure.compiled("refuse.c", os.path.join(folder, "refuse.so"), "-shared", "-fPIC")
+        for words, text in commands(program):
+            ample, ends = refused_in_turn([program, *words], text, library)
+            without_memory = ends.count((4, b""))
+            wrong = [(number, *end) for number, end in enumerate(ends, 1) if end not in (ample, (4, b""))]
+            print(f"sfi {' '.join(words)}: status {ample[0]}; {len(ends)} refusals, {without_memory} end in 4, {len(wrong)} wrong")
+            for end in wrong:
+                print("   ", end)
+            failed |= bool(wrong)
+    sys.exit(failed)
+
+
+if __name__ == "__main__":
+    main()
