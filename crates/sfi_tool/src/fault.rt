@@ -7,8 +7,8 @@ ghost use Rattle.sfi_tool.specs.Says.{StopsBuild};
 ghost use Rattle.sfi_tool.specs.declared.fault.Stop.TheVariants.{Memory};
 
 use rv_text::{TextCause, TextFault};
-use sfi_image::LayoutFault;
 use sfi_build::BuildFault;
+use sfi_image::LayoutFault;
 use sfi_link::LinkFault;
 use sfi_rewrite::RewriteFault;
 use std::alloc::{AllocError, Global};

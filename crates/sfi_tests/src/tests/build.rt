@@ -1,8 +1,8 @@
 //! Building: texts, and the images or the faults that they give.
 use rv_text::{TextCause, TextFault};
+use sfi_build::{BuildFault, build};
 use sfi_check::check;
 use sfi_image::{parse_image, write_image};
-use sfi_build::{BuildFault, build};
 use sfi_link::LinkFault;
 use sfi_rewrite::RewriteFault;
 use std::alloc::{AllocError, Global};
