@@ -247,6 +247,7 @@ fn the_smallest_image_traps(rt: HostRuntime) -> Result<(), Fail> {
         },
     ];
     assert_eq!(rt; world.run_plan(&plan, &mut console), RunAnswer::Done);
+    world.stays_safe();
     let trapped = Status::Trapped(Cause::Break, 0x0100_0000);
     assert_eq!(rt; (world.status(0), world.steps(0)), (Some(trapped), Some(0)));
     assert_eq!(rt; (world.status(1), world.steps(1)), (None, None));
