@@ -9,6 +9,7 @@ pub mod Masks
 pub mod Needed
 pub mod OneVerdict
 pub mod NeededBundles
+pub mod Stricter
 pub mod Undecodable
 pub mod Places
 pub mod Readings

@@ -35,7 +35,7 @@ use Rattle.sfi_check.proofs.Needed.{ecall_spelled, or_code, jalr_past}
 abbrev brk : ℕ
 brk = spelling Ebreak
 
-nop_spelled : IsSpelled nop
+pub nop_spelled : IsSpelled nop
 unfolding spelling InRange
 nop_spelled = inr (record { size = refl; all = refl; spelled = ((omega arith, omega arith, (omega (arith, ints), omega (arith, ints))), refl) })
 
@@ -82,7 +82,7 @@ undecodable_unsafe law wide =
 crossing_sample : IsSample crossing_store
 crossing_sample = without_gates crossing_store refl refl refl
 
-short_nop : Spells (0x01 ∷ 0x00 ∷ []) nop 2
+pub short_nop : Spells (0x01 ∷ 0x00 ∷ []) nop 2
 short_nop = inl (record { size = refl; all = refl; spelled = record { form = CAddi 0 (pos 0); gives = record { meets = refl; spelled = refl }; expands = refl } })
 
 -- the store's bytes, in both bundles
@@ -95,7 +95,7 @@ unfolding spelling InRange
 nop_next = inr (record { size = refl; all = refl; spelled = ((omega arith, omega arith, (omega (arith, ints), omega (arith, ints))), refl) })
 
 -- its first two alone begin no instruction, since the four spell one of four bytes
-half_begins_nothing : OneSpelling → BeginsNothing (0x23 ∷ 0x20 ∷ [])
+pub half_begins_nothing : OneSpelling → BeginsNothing (0x23 ∷ 0x20 ∷ [])
 half_begins_nothing law y (inl s) =
     let two = s.size in
     let one = law (take y.size (0x23 ∷ 0x20 ∷ [])) (0x23 ∷ 0x20 ∷ 0x13 ∷ 0x00 ∷ []) y.instr (Store Sw 6 1 (pos 0)) y.size 4 (inl s) store_across (λ k h g. get_or-take y.size (0x23 ∷ 0x20 ∷ []) k 0 h ∙ agree k (omega (arith, two, h))) in

@@ -13,7 +13,7 @@ use Rattle.sfi_scan.specs.Rules.{breaks, is_empty}
 use Rattle.sfi_scan.specs.Findings.{all_rules}
 use Rattle.sfi_check.specs.Regions.{InData}
 use Rattle.sfi_check.specs.Runs.{Turn, Steps, Changes, IsEntry, IsRun}
-use Rattle.sfi_check.specs.Safety.{IsSafeRun}
+use Rattle.sfi_check.specs.Safety.{IsSafeRun, RunsSafely}
 use Rattle.sfi_check.specs.Verdict.{IsAccepted, HasFindings}
 
 -- a run from this state is not safe
@@ -65,6 +65,12 @@ pub record IsNeeded (rule : Rule) (address : ℕ) (p : Part) : Type 0 where
 -- each of the ten rules is
 abbrev pub EachRuleIsNeeded : Type 0
 EachRuleIsNeeded = (rule : Rule) → (address : ℕ) × (p : Part) × IsNeeded rule address p
+
+-- The rule is stricter than safety asks: the image of this sandbox has a right layout and one finding, that rule at this address, and every run from
+-- every entry is safe.
+pub record IsStricter (rule : Rule) (address : ℕ) (p : Part) : Type 0 where
+  pub refused : HasFindings (spelling (p ∷ [])) (record { sandbox = 0; address = address; rule = rule } ∷ [])
+  pub safe : RunsSafely p
 
 -- ---- an accepted one
 

@@ -1,4 +1,4 @@
--- Small sandboxes as data: for each rule one whose code breaks it (for V5 two), and one that is accepted.
+-- Small sandboxes as data: for each rule one whose code breaks it (for V5 two), some that break one and are safe, and one that is accepted.
 use Rattle.std.specs.Prelude.{pos, ℕ, List, [], ◌∷◌, ◌++◌, map, replicate}
 use Rattle.std.specs.List.{flat_map}
 use Rattle.std.specs.Int.{w32, to_le_bytes}
@@ -132,6 +132,29 @@ abbrev pub stack_not_put_back : Sample
 stack_not_put_back = code_as Sfi2 (
     OpImm Addi 2 0 (pos 0) ∷ Store Sw 2 11 (pos 0) ∷ Ebreak ∷ Ebreak ∷ Ebreak ∷ Ebreak ∷ Ebreak ∷ Ebreak ∷ []
     )
+
+-- ---- refused, and safe: an ebreak stands before what the rule is broken by, and at each other bundle's start
+
+-- V1
+abbrev pub undecodable_after_ebreak : Sample
+undecodable_after_ebreak = record { format = Sfi1; gates = []; first_words = spelling Ebreak ∷ 0xffffffff ∷ words_of (replicate 6 Ebreak); last_words = ebreaks }
+
+-- V2: as above, but for `sw x7, 0(x6)`, of which two bytes (73 00) begin an ebreak
+abbrev pub crossing_after_ebreak : Sample
+crossing_after_ebreak = record {
+  format = Sfi1;
+  gates = [];
+  first_words = words_of (Ebreak ∷ nop ∷ nop ∷ []) ++ (0x20230001 ∷ words_of (replicate 4 Ebreak));
+  last_words = ebreaks;
+}
+
+-- V3
+abbrev pub ecall_after_ebreak : Sample
+ecall_after_ebreak = code (Ebreak ∷ Ecall ∷ Ebreak ∷ Ebreak ∷ Ebreak ∷ Ebreak ∷ Ebreak ∷ Ebreak ∷ [])
+
+-- V8
+abbrev pub nops_after_ebreak : Sample
+nops_after_ebreak = record { format = Sfi1; gates = []; first_words = words_of (replicate 8 Ebreak); last_words = words_of (Ebreak ∷ nop ∷ nop ∷ nop ∷ []) }
 
 -- ---- none
 

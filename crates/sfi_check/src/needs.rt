@@ -1,10 +1,11 @@
 //! That each rule is needed, since there is code whose one finding is of that rule and which does what is not safe; and that the
 //! rules leave code that does something. A call costs nothing.
 ghost use Rattle.sfi_scan.specs.declared.rule.Rule.TheVariants.{V1, V2, V3, V4, V5, V6, V7, V8, V9, V10};
-ghost use Rattle.sfi_check.specs.Needed.{IsNeeded, EachRuleIsNeeded, IsAcceptedAndRuns};
-ghost use Rattle.sfi_check.specs.Samples.{sandbox, undecodable, crossing_store, ecall_at_no_gate, written_rd_forgotten, pair_on_x0, pair_across_bundles, jalr_offset_ignored, jump_to_any_start, running_off_the_end, gate_comes_back_elsewhere, stack_not_put_back, sandboxed_store};
+ghost use Rattle.sfi_check.specs.Needed.{IsNeeded, EachRuleIsNeeded, IsStricter, IsAcceptedAndRuns};
+ghost use Rattle.sfi_check.specs.Samples.{sandbox, undecodable, crossing_store, ecall_at_no_gate, written_rd_forgotten, pair_on_x0, pair_across_bundles, jalr_offset_ignored, jump_to_any_start, running_off_the_end, gate_comes_back_elsewhere, stack_not_put_back, undecodable_after_ebreak, crossing_after_ebreak, ecall_after_ebreak, nops_after_ebreak, sandboxed_store};
 
 use rv_comp::laws::one_spelling;
+use rv_step::laws::{one_instruction, step_is_effect};
 use rv_word::laws::spellings_are_wide;
 
 /// V1 is needed: where the bytes do not decode, a run stands at no instruction.
@@ -100,6 +101,20 @@ pub fn each_rule_is_needed()
     running_off_the_end_is_unsafe();
     gate_comes_back_elsewhere_is_unsafe();
     stack_not_put_back_is_unsafe();
+}
+
+/// Rules are stricter than safety asks, since they look at what no run comes to: bytes that do not decode, a store across a
+/// bundle's end, an ecall and a region's end, each after an ebreak that stands at its bundle's start.
+pub fn unreached_code_is_safe()
+    ensures undecodable { IsStricter V1 0x01000004 (sandbox undecodable_after_ebreak) }
+    ensures crossing { IsStricter V2 0x0100000e (sandbox crossing_after_ebreak) }
+    ensures ecall { IsStricter V3 0x01000004 (sandbox ecall_after_ebreak) }
+    ensures end { IsStricter V8 0x010000fc (sandbox nops_after_ebreak) }
+{
+    one_spelling();
+    spellings_are_wide();
+    one_instruction();
+    step_is_effect();
 }
 
 /// An accepted sandbox stores a byte.

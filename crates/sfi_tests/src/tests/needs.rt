@@ -144,11 +144,11 @@ fn safe_samples() -> [Row<'static>; 10] {
             Rule::V1,
             0x0100_0004,
         ),
-        // ebreak; nop; nop; c.nop; sw x1, 0(x6), whose last two bytes begin a nop
+        // ebreak; nop; nop; c.nop; sw x7, 0(x6), whose last two bytes begin an ebreak
         code(
             "a store across a bundle's end after an ebreak",
             CODE,
-            "730010001300000013000000010023201300000073001000",
+            "73001000130000001300000001002320",
             Rule::V2,
             0x0100_000e,
         ),
