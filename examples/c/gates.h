@@ -9,13 +9,15 @@ extern "C" {
 /* Ends the program with a code. Returning from main does the same. */
 _Noreturn void exit_with(int code);
 
-/* Appends length bytes to the output. Answers length, or -1 where length is above 65536 or the output is full. */
+/* Appends length bytes to the output. Answers length, or -1 where length is above 65536, a byte lies outside the
+   data region, or the output would pass 1048576 bytes. */
 long put(const void *bytes, unsigned length);
 
-/* Reads the next bytes of the input, at most length, and answers how many: 0 at its end, -1 where length is above 65536. */
+/* Reads the next bytes of the input, at most length, and answers how many: 0 at its end, -1 where length is above 65536 or a byte
+   lies outside the data region. */
 long get(void *bytes, unsigned length);
 
-/* Ends the turn; the other sandboxes run before this call returns. */
+/* Ends the turn; the call returns in this sandbox's next turn. */
 void yield_turn(void);
 
 #ifdef __cplusplus

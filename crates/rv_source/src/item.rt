@@ -8,7 +8,7 @@ pub enum Named {
     Gate(usize),
     /// The place before the item of that number, from 0; it may be the number of items.
     Code(usize),
-    /// The place that many bytes behind the data base.
+    /// The place that many bytes after the data base.
     Data(u32),
     /// Nothing: it is met in a statement and stands at no place.
     Unknown,

@@ -1,5 +1,5 @@
 //! The names of a sandbox, in the order in which they are first seen.
-ghost use Rattle.std.specs.Prelude.{◌≡◌, ◌<◌, ◌^◌, [], length, map, slice_get, IfOk, OnOk};
+ghost use Rattle.std.specs.Prelude.{◌≡◌, ◌<◌, ◌^◌, [], length, map, slice_get, IfOk, OnOk, OnErr};
 ghost use Rattle.std.specs.List.{IsDistinct};
 ghost use Rattle.std.specs.Str.{bytes_eq};
 ghost use Rattle.rv_source.specs.NameTable.{meaning, place_of, placed, met};
@@ -76,7 +76,8 @@ impl Names {
 
     /// Has this name name that. It keeps its place, or goes last where it is new.
     pub fn place(&mut self, alloc: Global, name: &str, what: Named) -> Result<(), AllocError>
-        ensures { OnOk result (self.new ≡ placed self.old name.now what) }
+        ensures placed { OnOk result (self.new ≡ placed self.old name.now what) }
+        ensures unchanged { OnErr result (self.new ≡ self.old) }
     {
         self.named.insert(String::from_str(alloc, name)?, what)?;
         Ok(())
@@ -86,6 +87,7 @@ impl Names {
     pub fn meet(&mut self, alloc: Global, name: &str) -> Result<usize, AllocError>
         ensures met { OnOk result (self.new ≡ met self.old name.now) }
         ensures place { IfOk result (λ place. place ≡ place_of self.old name.now) }
+        ensures unchanged { OnErr result (self.new ≡ self.old) }
     {
         match self.named.get_index_of(name) {
             Some(place) => Ok(place),

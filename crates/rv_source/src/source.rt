@@ -27,7 +27,7 @@ impl Model for SourcePart {
 }
 
 impl SourcePart {
-    /// The sandbox of these. What fits what is asked for where it goes into a source.
+    /// The sandbox of these. That they fit each other is asked by [`Source::new`].
     pub fn new(
         format: Format,
         data_size: u32,

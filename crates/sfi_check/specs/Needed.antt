@@ -62,7 +62,7 @@ pub record IsNeeded (rule : Rule) (address : ℕ) (p : Part) : Type 0 where
   pub is_entry : IsEntry p entry
   pub runs_unsafely : HasUnsafeRun p entry
 
--- each of the ten rules is
+-- each of the ten rules is (of V9 this says that its finding may not be passed over, not that no other rule would refuse the image)
 abbrev pub EachRuleIsNeeded : Type 0
 EachRuleIsNeeded = (rule : Rule) → (address : ℕ) × (p : Part) × IsNeeded rule address p
 

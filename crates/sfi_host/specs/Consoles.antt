@@ -49,7 +49,7 @@ most_output = 1048576
 abbrev pub handed : Call → Option (List ℕ)
 handed c = if nat_le c.a1 most_handed then data_from c c.a0 c.a1 else None
 
--- the answer behind which the caller goes on with this a0; a1 and its data bytes stay
+-- the answer after which the caller goes on with this a0; a1 and its data bytes stay
 abbrev pub replied : {S : Type 0} → Call → ℕ → S → Answer S
 replied c a0 s = record { reply = record { way = Replied; a0 = a0; a1 = c.a1; bytes = c.bytes }; host = s }
 

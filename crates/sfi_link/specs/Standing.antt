@@ -86,7 +86,7 @@ pub record ImageRunsAs (source : List Sandbox) (bytes : List ℕ) : Type 0 where
   pub image : IsImage bytes parts
   pub each : SandboxesRunAs 0 source parts
 
--- so does the image of a source's placement
+-- the bytes that a source's placement is linked to are such an image
 abbrev pub LinkedImagesRunAs : Type 0
 LinkedImagesRunAs =
     (source : List Sandbox) (placed : List Placement) (bytes : List ℕ)
