@@ -1,0 +1,258 @@
+//! Code that tries to get out of its sandbox.
+use super::images::{C_EBREAK, EBREAK, HEAD, SECOND_HEAD, bytes_of};
+use sfi_check::{Refusal, StreamAnswer, check, check_stream};
+use sfi_image::{Format, Reading};
+use sfi_scan::{Finding, Rule};
+use std::alloc::Global;
+use std::test::Fail;
+
+/// Where an attack breaks its rule.
+enum Harm {
+    Anywhere,
+    /// In the first format alone: in the second an access on x2 needs no pair.
+    FirstFormat,
+    /// Unless so many bytes after its first one a bundle of the region begins.
+    Jump(u32),
+    /// As the region's last instruction alone.
+    AtEnd,
+}
+
+use Harm::{Anywhere, AtEnd, FirstFormat, Jump};
+
+/// Code, the rule that it breaks, the place of the instruction that does, counted from its first byte, and where it does.
+struct Attack(&'static str, &'static str, Rule, u32, Harm);
+
+/// Where it stands: in which bundle of the region, after how many bytes of that, and whether these are filled by `nop` or by
+/// `c.nop`.
+#[derive(Drop)]
+struct Spot {
+    format: Format,
+    bundle: u32,
+    place: u32,
+    is_wide: bool,
+}
+
+const BUNDLES: u32 = 16;
+
+/// x27 or x26 is the second operand of a pair's first or second instruction, x25 or x24 that of a pair for jumps.
+const ATTACKS: [Attack; 31] = [
+    Attack(
+        "operands of and exchanged",
+        "b3ffad00b3efaf0123a0bf00",
+        Rule::V5,
+        8,
+        Anywhere,
+    ),
+    Attack(
+        "operands of or exchanged",
+        "b37fb501b36ffd0123a0bf00",
+        Rule::V5,
+        8,
+        Anywhere,
+    ),
+    Attack(
+        "x31 changed after the pair",
+        "b37fb501b3efaf01938f0f0123a0bf00",
+        Rule::V5,
+        12,
+        Anywhere,
+    ),
+    Attack(
+        "store on x30",
+        "b37fb501b3efaf012320bf00",
+        Rule::V5,
+        8,
+        Anywhere,
+    ),
+    Attack(
+        "two stores on one pair",
+        "b37fb501b3efaf0123a0bf0023a2bf00",
+        Rule::V5,
+        12,
+        Anywhere,
+    ),
+    Attack(
+        "pair for jumps before a store",
+        "b37f9501b3ef8f0123a0bf00",
+        Rule::V5,
+        8,
+        Anywhere,
+    ),
+    Attack(
+        "pair on x0",
+        "3370b5013360a0012320b000",
+        Rule::V5,
+        8,
+        Anywhere,
+    ),
+    Attack("c.swsp", "06c60290", Rule::V5, 0, FirstFormat),
+    Attack("store", "2320b500", Rule::V5, 0, Anywhere),
+    Attack("half a pair", "b37fb50123a0bf00", Rule::V5, 4, Anywhere),
+    Attack(
+        "pair for data before a jump",
+        "b37fb501b3efaf0167800f00",
+        Rule::V6,
+        8,
+        Anywhere,
+    ),
+    Attack(
+        "jump 4 bytes further",
+        "b37f9501b3ef8f0167804f00",
+        Rule::V6,
+        8,
+        Anywhere,
+    ),
+    Attack("jump without a pair", "67800000", Rule::V6, 0, Anywhere),
+    Attack("c.jr", "8280", Rule::V6, 0, Anywhere),
+    Attack("c.j -2", "fdbf0290", Rule::V7, 0, Jump(0xffff_fffe)),
+    Attack("beq x0, x0, 8", "63040000", Rule::V7, 0, Jump(8)),
+    Attack("jal x0, 4", "6f004000", Rule::V7, 0, Jump(4)),
+    Attack("c.jal 16", "0128", Rule::V7, 0, Jump(16)),
+    Attack("lw x26", "b37fb501b3efaf0103ad0f00", Rule::V4, 8, Anywhere),
+    Attack(
+        "jalr links x27",
+        "b37f9501b3ef8f01e78d0f00",
+        Rule::V4,
+        8,
+        Anywhere,
+    ),
+    Attack("c.li x24", "014c0290", Rule::V4, 0, Anywhere),
+    // These are accesses without a pair, too: the lowest rule is told.
+    Attack("c.lwsp x24", "024c", Rule::V4, 0, Anywhere),
+    Attack("c.lwsp x25", "824c", Rule::V4, 0, Anywhere),
+    Attack("c.lwsp x26", "024d", Rule::V4, 0, Anywhere),
+    Attack("c.lwsp x27", "824d", Rule::V4, 0, Anywhere),
+    Attack(
+        "ecall after a nop",
+        "1300000073000000",
+        Rule::V3,
+        4,
+        Anywhere,
+    ),
+    Attack("ecall", "73000000", Rule::V3, 0, Anywhere),
+    Attack("longer than 32 bits", "1f000000", Rule::V1, 0, Anywhere),
+    Attack("fence.i", "0f100000", Rule::V1, 0, Anywhere),
+    Attack("no instruction", "00000000", Rule::V1, 0, Anywhere),
+    Attack("addi at the end", "13000000", Rule::V8, 0, AtEnd),
+];
+
+impl Attack {
+    /// How many bytes it has, at most those of a bundle.
+    fn len(&self) -> u32 {
+        (self.1.len() / 2).min(16) as u32
+    }
+
+    /// Whether it breaks its rule from this place of the region on.
+    fn harms(&self, format: Format, from: u32) -> bool {
+        match self.4 {
+            Anywhere => true,
+            FirstFormat => format == Format::Sfi1,
+            Jump(offset) => {
+                let target = from.wrapping_add(offset);
+                target % 16 != 0 || target >= 16 * BUNDLES
+            }
+            AtEnd => from.wrapping_add(self.len()) == 16 * BUNDLES,
+        }
+    }
+
+    /// What it gives there: its one finding, or none.
+    fn finding(&self, spot: &Spot) -> Option<Finding> {
+        let from = spot.bundle.wrapping_mul(16).wrapping_add(spot.place);
+        if !self.harms(spot.format, from) {
+            return None;
+        }
+        Some(Finding {
+            sandbox: 0,
+            address: 0x0100_0000u32.wrapping_add(from).wrapping_add(self.3),
+            rule: self.2,
+        })
+    }
+
+    /// The smallest image with it there, and `c.ebreak` after it to its bundle's end; none where it doesn't fit.
+    fn image(&self, alloc: Global, spot: &Spot) -> Result<Option<Vec<u8>>, Fail> {
+        let Some(after) = 16u32.saturating_sub(spot.place).checked_sub(self.len()) else {
+            return Ok(None);
+        };
+        let head = match spot.format {
+            Format::Sfi1 => HEAD,
+            Format::Sfi2 => SECOND_HEAD,
+        };
+        let wide = if spot.is_wide { spot.place / 4 } else { 0 };
+        let short = (spot.place / 2).saturating_sub(wide.saturating_mul(2));
+        let words = spot.bundle.saturating_mul(4);
+        let pieces = [
+            (head, 1),
+            (EBREAK, words as usize),
+            ("13000000", wide as usize),
+            ("0100", short as usize),
+            (self.1, 1),
+            (C_EBREAK, after as usize / 2),
+            (EBREAK, 60u32.saturating_sub(words) as usize),
+        ];
+        Ok(Some(bytes_of(alloc, &pieces)?))
+    }
+}
+
+// Both checks find this in an image of one sandbox and 16 bundles, and nothing else.
+fn is_found(alloc: Global, bytes: &[u8], finding: Option<Finding>) -> bool {
+    let mut reader = bytes;
+    let mut source = Reading::new(&mut reader);
+    let streamed = check_stream(&mut source);
+    match (check(alloc, bytes), finding) {
+        (Ok(_accepted), None) => {
+            streamed
+                == StreamAnswer::Accepted {
+                    sandboxes: 1,
+                    bundles: BUNDLES,
+                }
+        }
+        (Err(Refusal::Findings(found)), Some(first)) => {
+            found.as_slice() == [first].as_slice()
+                && streamed == StreamAnswer::Findings { count: 1, first }
+        }
+        _ => false,
+    }
+}
+
+// The attack is found at each place of the bundle where it fits.
+fn is_found_in(
+    alloc: Global,
+    attack: &Attack,
+    format: Format,
+    bundle: u32,
+    is_wide: bool,
+) -> Result<bool, Fail> {
+    for half in 0..8u32 {
+        let spot = Spot {
+            format,
+            bundle,
+            place: 2 * half,
+            is_wide,
+        };
+        if let Some(bytes) = attack.image(alloc, &spot)? {
+            if !is_found(alloc, &bytes, attack.finding(&spot)) {
+                return Ok(false);
+            }
+        }
+    }
+    Ok(true)
+}
+
+// In either format, after either filler, in the first bundle, in one in the middle and in the last.
+#[test]
+fn attacks_are_found(rt: HostRuntime) -> Result<(), Fail> {
+    for attack in &ATTACKS {
+        for format in [Format::Sfi1, Format::Sfi2] {
+            for bundle in [0u32, 7, 15] {
+                for is_wide in [false, true] {
+                    assert!(rt;
+                        is_found_in(rt.alloc(), attack, format, bundle, is_wide)?,
+                        "{}",
+                        attack.0
+                    );
+                }
+            }
+        }
+    }
+    Ok(())
+}
