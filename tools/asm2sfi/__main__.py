@@ -12,6 +12,8 @@ import os
 import sys
 
 from conversion import Options, convert
+from layout import SMALLEST_DATA
+from sections import LARGEST_DATA
 
 RUNTIME = os.path.join(os.path.dirname(os.path.abspath(__file__)), "runtime.asm")
 DEFAULT_STACK = 8192
@@ -25,12 +27,25 @@ def gate(text):
     return name, int(service)
 
 
+def region(text):
+    size = int(text) if text.isdigit() else 0
+    if not SMALLEST_DATA <= size <= LARGEST_DATA or size & (size - 1):
+        raise argparse.ArgumentTypeError(f"{text!r} is no power of two from {SMALLEST_DATA} to {LARGEST_DATA}")
+    return size
+
+
+def count(text):
+    if not text.isdigit():
+        raise argparse.ArgumentTypeError(f"{text!r} is no number of bytes")
+    return int(text)
+
+
 def parsed(words):
     parser = argparse.ArgumentParser(prog="asm2sfi", description=__doc__.split("\n")[0])
     parser.add_argument("files", nargs="+", metavar="FILE", help="assembly of gcc or clang")
     parser.add_argument("--format", type=int, choices=[1, 2], default=2, help="the image's format; 2 if absent")
-    parser.add_argument("--data", type=int, metavar="BYTES", help="the size of the data region, a power of two")
-    parser.add_argument("--stack", type=int, default=DEFAULT_STACK, metavar="BYTES",
+    parser.add_argument("--data", type=region, metavar="BYTES", help="the size of the data region, a power of two")
+    parser.add_argument("--stack", type=count, default=DEFAULT_STACK, metavar="BYTES",
                         help="room for the stack at least; 8192 if absent")
     parser.add_argument("--gate", type=gate, action="append", default=[], metavar="NAME=SERVICE",
                         help="a function that is a gate, beside get, put, exit_with and yield_turn")

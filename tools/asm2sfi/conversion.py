@@ -39,14 +39,15 @@ def with_exit(gates, names):
 
 
 def header(texts):
-    return [f"Made by tools/asm2sfi from {', '.join(name for name, _ in texts)}. Change the program, and not this text."]
+    names = ", ".join(name for name, _ in texts)
+    return [f"Made by tools/asm2sfi from {names}. Change the program, and not this text."]
 
 
 def written(linked, options, texts):
     """The source text of a linked program, and what of it is refused."""
     names = Names(gate.name for gate in linked.gates)
     gates, leave = with_exit(linked.gates, names)
-    room = margins(op for _, section in linked.code() for op in section.ops)
+    room = margins([op for _, section in linked.code() for op in section.ops], linked.references())
     layout = DataLayout([section for _, section in linked.data()], room.below)
     writer = CodeWriter(linked, layout, names)
     code = writer.program(MAIN, leave, room.above)

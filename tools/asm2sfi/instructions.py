@@ -78,9 +78,10 @@ WHY_REFUSED = {
     "auipc": "an address is taken by la, or by %pcrel_hi",
 }
 REFUSED_BEGINNINGS = {
-    "csr": "the sandbox has no control registers", "rd": "the sandbox has no counters", "f": "there is no floating point",
-    "amo": "there are no atomic instructions", "lr.": "there are no atomic instructions",
-    "sc.": "there are no atomic instructions", "c.": "16-bit forms are chosen by the option rvc",
+    "csr": "the sandbox has no control registers", "rd": "the sandbox has no counters",
+    "f": "there is no floating point", "amo": "there are no atomic instructions",
+    "lr.": "there are no atomic instructions", "sc.": "there are no atomic instructions",
+    "c.": "16-bit forms are chosen by the option rvc",
 }
 
 
@@ -150,7 +151,7 @@ class Converter:
             return [f"jalr ra, 0({operands[0]})"]
         if word == "jalr" and len(operands) == 3:
             return ["jalr {0}, {2}({1})".format(*operands)]
-        if word == "jalr" and is_register(operands[-1]):
+        if word == "jalr" and len(operands) == 2 and is_register(operands[1]):
             return ["jalr {0}, 0({1})".format(*operands)]
         return None
 
@@ -164,7 +165,9 @@ class Converter:
         if part is None:
             return None
         whole = self.whole(part, statement.place)
-        first, *middle = statement.operands[:-1]
+        first, *middle = statement.operands[:-1] or [None]
+        if first is None:
+            raise Refused(statement.place, f"{last} alone in {statement.word}")
         if part.group(1).endswith("lo") and base:
             return [f"{statement.word} {first}, {lower(whole)}({base})"]
         if part.group(1).endswith("lo") and statement.word == "addi" and len(middle) == 1:

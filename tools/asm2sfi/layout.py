@@ -21,10 +21,12 @@ class Margins:
     above: int = 0
 
 
-def margins(ops):
-    """The room that the loads and stores of a program need. The stack pointer always lies in the region."""
+def margins(ops, symbols):
+    """The room that the loads and stores of a program need, and the symbols that it speaks of: a loop may begin before
+    its first object. The stack pointer always lies in the region."""
     offsets = [offset for op in ops if is_access(op) for offset, base in [offset_and_base(op)] if base != "sp"]
-    below, above = max([0, *offsets]), max([0, *(-offset for offset in offsets)])
+    below = max([0, *offsets, *(-symbol.addend for symbol in symbols)])
+    above = max([0, *(-offset for offset in offsets)])
     return Margins(rounded(below), rounded(above))
 
 
@@ -53,10 +55,11 @@ class DataLayout:
         return self.starts[id(section)] + section.labels[name]
 
     def label(self, section, symbol, addend, text, place):
-        """Puts a label where the symbol plus the addend lies."""
+        """Puts a label where the symbol plus the addend lies. A loop may end after the last object."""
         offset = self.offset(section, symbol) + addend
-        if not 0 <= offset <= self.end:
+        if not 0 <= offset <= LARGEST_DATA:
             raise Refused(place, f"{symbol}{addend:+} lies outside the data")
+        self.end = max(self.end, offset)
         texts = self.labels.setdefault(offset, [])
         if text not in texts:
             texts.append(text)

@@ -45,16 +45,19 @@ class Symbols:
                 place, first = unit.places.get(name, unit.name), self.units[other].name
                 self.refusals.append(Refused(place, f"{name} is defined twice, first in {first}"))
 
-    def find(self, index, name, place):
-        """The definition or the gate that a symbol of a unit stands for, and its section."""
+    def find(self, index, name, place, passed=()):
+        """The definition or the gate that a symbol of a unit stands for, and its section. It goes from name to name
+        where one is set to another; `passed` has those that it went by."""
         unit = self.units[index]
         if name in unit.globals or name not in unit.homes and name not in unit.aliases:
             index = self.owners.get(name)
             if index is None:
                 return self.gate(name, place)
             unit = self.units[index]
+        if name in passed:
+            raise Refused(place, f"{name} is set to itself")
         if name in unit.aliases:
-            return self.find(index, unit.aliases[name], place)
+            return self.find(index, unit.aliases[name], place, (*passed, name))
         return Definition.of(index, unit, name), unit.homes[name]
 
     def gate(self, name, place):
@@ -70,6 +73,10 @@ class Linked:
     symbols: Symbols
     sections: list
     gates: list
+
+    def references(self):
+        """The symbols that its sections speak of."""
+        return [symbol for _, section in self.sections for symbol, _ in section.references()]
 
     def code(self):
         return [(index, section) for index, section in self.sections if isinstance(section, CodeSection)]

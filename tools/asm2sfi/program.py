@@ -1,13 +1,13 @@
 """The program's code in the source language: the start, and then each function, with every name in its final form."""
 from dataclasses import dataclass, replace
 
-from assembly import Place, Refused
+from assembly import Refused
 from instructions import Op
 from linking import Gate
 from operands import Symbol
 from sections import CodeSection
 
-START = Place("start", 0)
+START = "start"  # the place of what no line of assembly says
 REACH = 2047
 
 
@@ -65,7 +65,8 @@ class CodeWriter:
                 yield self.named(index, section.ops[position])
 
     def start(self, main, leave, above):
-        """Leaves room above the stack, stores the addresses that the data hold, calls main, and exits with its answer."""
+        """Leaves room above the stack, stores the addresses that the data hold, calls main, and exits with what it
+        answers."""
         if above:
             yield Op("addi", ("sp", "sp", str(-above)), START)
         for index, section in self.linked.data():

@@ -181,6 +181,8 @@ class Instructions(unittest.TestCase):
             ("lw a0,4(fa0)", "'fa0' is no register of RV32I"),
             ("j .L3+4", "a jump to .L3+4, which is no label"),
             ("addi a5,a5,%pcrel_lo(.L0)", ".L0 is no label of an auipc"),
+            ("lui %hi(x)", "%hi(x) alone in lui"),
+            ("jalr", "jalr has 2 operands"),
             ("li a5,%hi(x)", "%hi(x) in li"),
             ("ori a5,a5,%lo(x)", "%lo(x) in ori"),
             ("addi a5,a5,%tprel_lo(x)", "'%tprel_lo(x)' is no number"),
@@ -232,12 +234,13 @@ main:
                          ["_.L2:", "beqz a0, _.L2", "j f", "f:", "_.L2..1:", "bnez a0, _.L2..1", "ret"])
 
     def test_weak_and_alias(self):
-        text = source(MAIN + "\tcall a\n\tcall w\n\tret\n\t.set a,b\nb:\tnop\n\t.weak w\nw:\tret\n")
+        text = source(MAIN + "\tcall a\n\tcall w\n\tret\n"
+                      "\t.set a,b\nb:\tnop\n\t.weak w\nw:\tret\n")
         self.assertEqual(lines_after(text, "main:"), ["call b", "call w", "ret", "b:", "nop", "w:", "ret"])
 
     def test_data(self):
-        text = source(MAIN + "\tla a0,s\n\tla a1,t+4\n\tla a2,z\n\tla a3,big\n\tret\n\t.comm big,4000,4\n\t.bss\n\t.align 2\nz:\t.zero 8\n"
-                      "\t.data\ns:\t.ascii \"Hi\"\n\t.align 2\nt:\t.word 1,258,0,0,0\n")
+        text = source(MAIN + "\tla a0,s\n\tla a1,t+4\n\tla a2,z\n\tla a3,big\n\tret\n"
+                      "\t.comm big,4000,4\n\t.bss\n\t.align 2\nz:\t.zero 8\n\t.data\ns:\t.ascii \"Hi\"\n\t.align 2\nt:\t.word 1,258,0,0,0\n")
         self.assertEqual(lines_after(text, "ret"), [
             ".data", "s:", ".word 0x6948, 0x1", "t..plus4:", ".word 0x102", ".zero 12", "z:", ".zero 8", "big:"])
         self.assertIn("        la a1, t..plus4\n", text)
@@ -252,12 +255,21 @@ main:
 
     def test_room_at_both_ends(self):
         """A base that an offset leads back from lies in the region, too."""
-        text = source(MAIN + "\tla a0,x\n\tlw a1,20(a0)\n\tsb a1,-1(a0)\n\tlw ra,2000(sp)\n\tret\n\t.data\nx:\t.word 5\n")
+        text = source(MAIN + "\tla a0,x\n\tlw a1,20(a0)\n\tsb a1,-1(a0)\n\tlw ra,2000(sp)\n\tret\n"
+                      "\t.data\nx:\t.word 5\n")
         self.assertEqual(lines_after(text, ".option rvc")[0], "addi sp, sp, -16")
         self.assertEqual(lines_after(text, ".data"), [".zero 32", "x:", ".word 0x5"])
 
+    def test_addresses_before_and_after_the_data(self):
+        text = source(MAIN + "\tla a0,x-20\n\tla a1,x+12\n\tret\n\t.data\nx:\t.word 5\n")
+        self.assertEqual(lines_after(text, ".data"),
+                         [".zero 12", "x..minus20:", ".word 0x0, 0x0, 0x0, 0x0, 0x0, 0x5", ".zero 8", "x..plus12:"])
+        self.assertEqual(refusals_of(MAIN + "\tla a0,x+2000000\n\tret\n\t.data\nx:\t.word 5\n"),
+                         ["a.s:4: x+2000000 lies outside the data"])
+
     def test_anchor(self):
-        text = source(MAIN + "\tla a0,.LANCHOR0\n\tla a1,.LANCHOR0+4\n\tret\n\t.data\n\t.set\t.LANCHOR0,. + 4\nx:\t.word 1,2,3\n")
+        text = source(MAIN + "\tla a0,.LANCHOR0\n\tla a1,.LANCHOR0+4\n\tret\n"
+                      "\t.data\n\t.set\t.LANCHOR0,. + 4\nx:\t.word 1,2,3\n")
         self.assertEqual(lines_after(text, ".data"), [
             ".word 0x1", "_.LANCHOR0:", ".word 0x2", "_.LANCHOR0..plus4:", ".word 0x3"])
 
@@ -271,24 +283,25 @@ main:
             ("\tcall\tnothere\n", "undefined symbol nothere"),
             ("\tcall\t__adddf3\n", "undefined symbol __adddf3, of floating point"),
             ("\tla a0,main+4\n", "main+4 lies inside code"),
-            ("\tnop\nmain:\n", None),
             ("\t.word 5\n", ".word in the code section .text"),
             ("\t.incbin \"x\"\n", "the directive .incbin"),
-            ("\t.section .init_array,\"aw\"\n", "section .init_array: nothing runs before main and after it"),
+            ("\t.section .init_array,\"aw\"\n\t.word main+3\n", "section .init_array: nothing runs before main and after it"),
             ("\t.section .tbss,\"awT\",@nobits\n", "section .tbss: there is one thread"),
-            ("\t.data\n\tret\n", None),
+            ("\tcall a\n\t.set a,b\n\t.set b,a\n", "a is set to itself"),
             ("\t.set a,5\n", ".set to what is no symbol"),
+            ("\t.align\n", ".align has 1 operands at least"),
         ]
         for text, wanted in rows:
-            if wanted is not None:
-                self.assertEqual(refusals_of(MAIN + text), [f"a.s:4: {wanted}"], text)
+            self.assertEqual(refusals_of(MAIN + text), [f"a.s:4: {wanted}"], text)
         self.assertEqual(refusals_of(MAIN + "main:\n"), ["a.s:4: main is defined twice, first at a.s:3"])
-        self.assertEqual(refusals_of(MAIN + "\t.data\n\tret\n"), ["a.s:5: the instruction ret in the data section .data"])
-        self.assertEqual(refusals_of(MAIN + "\tecall\n\tmret\n"), [
-            "a.s:4: ecall: a sandbox calls its host through gates alone", "a.s:5: mret: it is no instruction of RV32IM"])
+        self.assertEqual(refusals_of(MAIN + "\t.data\n\tret\n"),
+                         ["a.s:5: the instruction ret in the data section .data"])
+        self.assertEqual(refusals_of(MAIN + "\tecall\n\tmret\n"),
+                         ["a.s:4: ecall: a sandbox calls its host through gates alone",
+                          "a.s:5: mret: it is no instruction of RV32IM"])
         self.assertEqual(refusals_of("\tnop\n"), ["a.s: undefined symbol main"])
         self.assertEqual(refusals_of(MAIN + "\tret\n", data=256),
-                         ["start:0: 0 bytes of data and 8192 of stack don't fit in 256"])
+                         ["start: 0 bytes of data and 8192 of stack don't fit in 256"])
 
 
 class Naming(unittest.TestCase):
