@@ -5,3 +5,4 @@ mod NoWord
 mod Wide
 mod OneSpelling
 mod Outlined
+mod Tables

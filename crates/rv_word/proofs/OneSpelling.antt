@@ -47,16 +47,16 @@ store_at funct3 = find (λ w. store_funct3 w == funct3) stores
 abbrev ops : List RegOp
 ops = Add ∷ Sub ∷ Sll ∷ Slt ∷ Sltu ∷ Xor ∷ Srl ∷ Sra ∷ Or ∷ And ∷ Mul ∷ Mulh ∷ Mulhsu ∷ Mulhu ∷ Div ∷ Divu ∷ Rem ∷ Remu ∷ []
 
-abbrev op_at : ℕ → ℕ → Option RegOp
+abbrev pub op_at : ℕ → ℕ → Option RegOp
 op_at funct7 funct3 = find (λ op. (op_funct7 op == funct7) && (op_funct3 op == funct3)) ops
 
 abbrev imm_ops : List ImmOp
 imm_ops = Addi ∷ Slti ∷ Sltiu ∷ Xori ∷ Ori ∷ Andi ∷ []
 
-abbrev imm_op_at : ℕ → Option ImmOp
+abbrev pub imm_op_at : ℕ → Option ImmOp
 imm_op_at funct3 = find (λ op. imm_funct3 op == funct3) imm_ops
 
-abbrev shift_at : ℕ → ℕ → Option ImmOp
+abbrev pub shift_at : ℕ → ℕ → Option ImmOp
 shift_at funct7 funct3 =
     if (funct7 == 0) && (funct3 == 1) then Some Slli
     else if (funct7 == 0) && (funct3 == 5) then Some Srli

@@ -8,6 +8,7 @@
 #![tactic(auto)]
 
 mod bits;
+mod computing;
 mod decode;
 mod encode;
 mod format;
@@ -21,6 +22,7 @@ pub mod outline;
 mod parts;
 pub mod reg;
 
+pub use computing::computes32;
 pub use decode::decode32;
 pub use encode::{encode32, op_word};
 pub use instr::{Cond, ImmOp, Instr, LoadKind, RegOp, StoreWidth};
