@@ -1,5 +1,5 @@
 //! What holds of every spelling. A caller calls one to have its statement at hand.
-ghost use Rattle.rv_comp.specs.Laws.{OneSpelling, TwoLengths, EcallIsWide, SpelledInRange, OneFront, SomeFront, OneFirstForm};
+ghost use Rattle.rv_comp.specs.Laws.{OneSpelling, TwoLengths, EcallIsWide, SpelledInRange, OneFront, SomeFront, OneFirstForm, HalfwordsAreOutlined};
 
 /// Two lists of bytes that agree as far as both spellings go spell one instruction, with one
 /// length.
@@ -43,4 +43,9 @@ pub fn some_front()
 /// An instruction has one first form at most.
 pub fn one_first_form()
     ensures { OneFirstForm }
+{}
+
+/// The outline of each halfword is one that computes: so a table of outlines can be proved by computation.
+pub fn halfwords_are_outlined()
+    ensures { HalfwordsAreOutlined }
 {}

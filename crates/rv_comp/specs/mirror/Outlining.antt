@@ -1,6 +1,5 @@
 -- What the code computes, step by step: what the form of a halfword does, from the halfword's fields.
--- Private contracts alone cite it. Nothing has its meaning from here: proofs/ shows that it agrees
--- with the table.
+-- Private contracts cite it, and one law, which says that it agrees with the table. Nothing has its meaning from here.
 use Rattle.std.specs.Prelude.{ℕ, ◌+◌, ◌*◌, pos, ◌==◌, if◌then◌else◌, Option, Some, None}
 use Rattle.rv_word.specs.Numbers.{bits}
 use Rattle.rv_word.specs.declared.outline.Outline.{Outline}
