@@ -9,3 +9,4 @@ pub mod Rest
 pub mod Walk
 pub mod FirstFormat
 pub mod Second
+pub mod Table16

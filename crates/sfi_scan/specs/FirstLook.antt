@@ -7,6 +7,7 @@ use Rattle.rv_word.specs.declared.outline.Outline.{Outline}
 use Rattle.rv_word.specs.declared.outline.Outline.TheVariants.{Computes, Loads, Stores, Branches, Jumps, JumpsTo, Orders, Calls, Stops}
 use Rattle.rv_word.specs.Outlines.{outline}
 use Rattle.rv_word.specs.Spelling.{IsWordOf}
+use Rattle.rv_comp.specs.Halfwords.{IsHalfwordThat}
 use Rattle.sfi_image.specs.Formats.{is_stack}
 use Rattle.sfi_scan.specs.declared.before.Before.{Before}
 use Rattle.sfi_scan.specs.declared.bundle.BundlePlace.{BundlePlace}
@@ -50,6 +51,12 @@ pub record IsCleanOne (b : BundlePlace) (at : ℕ) (words : Words) (spell : Inst
   pub instr : Instr
   pub spelled : spell instr
   pub clean : (earlier : List Instr) → AreBefore words (near earlier) → is_clean b at earlier (outline instr) ≡ true
+
+-- the halfword is that of an instruction that computes into a register that is not withheld
+pub record IsFreeHalf (b : BundlePlace) (h : ℕ) : Type 0 where
+  pub rd : ℕ
+  pub does : IsHalfwordThat h (Computes rd)
+  pub free : is_withheld b rd ≡ false
 
 -- the word is an instruction that writes the stack pointer: it computes into it, or loads into it from near it
 pub record IsStackWrite (word : ℕ) : Type 0 where

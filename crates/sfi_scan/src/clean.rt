@@ -15,9 +15,10 @@ ghost use Rattle.sfi_scan.specs.FirstLook.{AreBefore, is_zero, is_withheld, is_c
 
 use crate::before::{CODE, DATA, Pair, is_reserved, may_be_target};
 use crate::bundle::BundlePlace;
+use crate::computing::is_free_half;
 use crate::rules::{STACK, is_bundle_start, is_last_bundle, offset_by};
 use rv_comp::outline16;
-use rv_word::{Outline, Reg, RegOp, op_word, outline32};
+use rv_word::{Outline, Reg, RegOp, computes32, op_word, outline32};
 
 /// The words of the two instructions directly before a place in its bundle. 0 stands for a 16-bit form, and where there
 /// is none: neither is one of a pair.
@@ -133,6 +134,7 @@ fn is_clean(place: &BundlePlace, stack: bool, address: u32, words: Words, outlin
 }
 
 /// Whether the halfword is a form that breaks no rule there.
+#[tactic(auto, using(crate::proofs::Table16::clean_free))]
 #[inline(always)]
 fn is_clean_half(
     place: &BundlePlace,
@@ -145,6 +147,9 @@ fn is_clean_half(
     requires stack { stack ≡ has_stack place.now.format }
     ensures { OnTrue result (IsCleanOne place.now address words (IsShortSpelling halfword)) }
 {
+    if is_free_half(stack, halfword) {
+        return true;
+    }
     match outline16(halfword) {
         Some(outline) => is_clean(place, stack, address, words, outline),
         None => false,
@@ -152,12 +157,16 @@ fn is_clean_half(
 }
 
 /// Whether the word is an instruction that breaks no rule there.
+#[tactic(auto, using(crate::proofs::Table16::clean_computing))]
 #[inline(always)]
 fn is_clean_word(place: &BundlePlace, stack: bool, address: u32, words: Words, word: u32) -> bool
     requires within { IsWithin place.now }
     requires stack { stack ≡ has_stack place.now.format }
     ensures { OnTrue result (IsCleanOne place.now address words (IsWordOf word)) }
 {
+    if computes32(word) {
+        return !is_withheld(stack, register((word >> 7 & 0b11111) as u8));
+    }
     match outline32(word) {
         Some(outline) => is_clean(place, stack, address, words, outline),
         None => false,

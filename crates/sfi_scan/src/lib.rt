@@ -10,6 +10,7 @@ mod ahead;
 mod before;
 mod bundle;
 mod clean;
+mod computing;
 mod finding;
 mod findings;
 pub mod laws;

@@ -1,0 +1,138 @@
+-- The table of halfwords that compute, seen right at each halfword.
+use Rattle.std.proofs.Common.{◌≡◌, ℕ, zero, suc, ◌+◌, ◌*◌, ◌/◌, ◌%◌, ◌<◌, Bool, true, false, ◌&&◌, ◌==◌, refl, ap, sym, ◌∙◌, subst, arith, inl, inr, Option, Some, IfSome, bit_and, ◌^◌, ◌≢◌}
+use Rattle.std.specs.Prelude.{slice_index, ◌||◌, not}
+use Rattle.std.specs.Bool.{OnTrue}
+use Rattle.std.proofs.lemmas.Nat.{and_mask}
+use Rattle.std.proofs.lemmas.Bool.{and_parts, cases_eq, ne_eqb}
+use Rattle.rv_word.specs.declared.outline.Outline.{Outline}
+use Rattle.rv_word.specs.declared.outline.Outline.TheVariants.{Computes}
+use Rattle.rv_word.specs.Numbers.{bits}
+use Rattle.rv_word.specs.Outlines.{IsWordThat}
+use Rattle.rv_word.specs.Spelling.{IsWordOf}
+use Rattle.rv_comp.specs.Halfwords.{IsHalfwordThat, IsShortSpelling}
+use Rattle.rv_comp.specs.Laws.{HalfwordsAreOutlined}
+use Rattle.rv_comp.specs.mirror.Decoding.{extended, jump_offset, branch_offset}
+use Rattle.rv_comp.specs.mirror.Outlining.{row_of, jump, jump_or_stop, outlined}
+use Rattle.sfi_image.specs.Formats.{has_stack}
+use Rattle.sfi_scan.specs.Pairs.{is_reserved}
+use Rattle.sfi_scan.specs.FirstLook.{IsFreeHalf, IsCleanOne, is_clean, is_withheld}
+use Rattle.sfi_scan.specs.declared.bundle.BundlePlace.{BundlePlace}
+use Rattle.sfi_scan.specs.declared.clean.Words.{Words}
+use Rattle.sfi_scan.specs.declared.computing.TheConstants.{COMPUTING}
+
+-- each number below n passes
+unfoldable all_below : (ℕ → Bool) → ℕ → Bool
+all_below p zero = true
+all_below p (suc n) = p n && all_below p n
+
+all_below_at : (p : ℕ → Bool) (n k : ℕ) → all_below p n ≡ true → k < n → p k ≡ true
+unfolding all_below
+all_below_at p zero k h lt = absurd (omega arith)
+all_below_at p (suc n) k h lt =
+    let parts = and_parts (p n) (all_below p n) h in elim (cases_eq k n) [ inl e ↦ ap p e ∙ parts.0 | inr ne ↦ all_below_at p n k parts.1 (below k n lt ne) ]
+  where
+    below : (k n : ℕ) → k < suc n → (k ≡ n → ⊥) → k < n
+    below k n lt ne = omega arith
+
+-- it computes into a register that is not reserved, and into x2 only where the halfword names it in bits 11:7
+abbrev is_free : Bool → Option Outline → Bool
+is_free two (Some (Computes rd)) = not (is_reserved rd) && (not (rd == 2) || two)
+is_free two _ = false
+
+unfoldable passes : ℕ → ℕ → Bool
+passes mask h = (bit_and h mask == 0) || is_free (h / 128 % 32 == 2) (outlined h)
+
+abbrev halfword : ℕ → ℕ → ℕ
+halfword p j = (p / 4) * 512 + j * 4 + p % 4
+
+unfoldable row_passes : ℕ → ℕ → Bool
+row_passes p mask = all_below (λ j. passes mask (halfword p j)) 128
+
+unfoldable tables : Unit {0}
+unfolding all_below passes row_passes row_of jump jump_or_stop outlined extended jump_offset branch_offset
+tables = tt
+
+all_rows : all_below (λ p. row_passes p (slice_index COMPUTING p)) 512 ≡ true
+unfolding tables
+all_rows = refl
+
+row_at : (p j : ℕ) → p < 512 → j < 128 → passes (slice_index COMPUTING p) (halfword p j) ≡ true
+unfolding row_passes
+row_at p j ps js = all_below_at _ 128 j (all_below_at (λ q. row_passes q (slice_index COMPUTING q)) 512 p all_rows ps) js
+
+whole : (h : ℕ) → halfword (h / 512 * 4 + h % 4) (h / 4 % 128) ≡ h
+whole h = omega arith
+
+not_true : (b : Bool) → not b ≡ true → b ≡ false
+not_true true e = cc
+not_true false e = refl
+
+second : (a b : Bool) → a ≡ false → (a || b) ≡ true → b ≡ true
+second true b e h = cc
+second false b e h = h
+
+-- a register that is not reserved, and not x2 where that is a stack pointer, is not withheld
+not_withheld : (b : BundlePlace) (rd : ℕ) (two : Bool) → not (is_reserved rd) ≡ true → (not (rd == 2) || two) ≡ true → (has_stack b.format && two) ≡ false → is_withheld b rd ≡ false
+not_withheld b rd two free or none = by (is_reserved rd) (has_stack b.format) (rd == 2) two (not_true (is_reserved rd) free) or none
+  where
+    by : (r s x t : Bool) → r ≡ false → (not x || t) ≡ true → (s && t) ≡ false → (r || (s && x)) ≡ false
+    by true s x t e f g = e
+    by false false x t e f g = refl
+    by false true false t e f g = refl
+    by false true true true e f g = g
+    by false true true false e f g = sym f
+
+free_of : (b : BundlePlace) (h : ℕ) (o : Option Outline) → IfSome o (IsHalfwordThat h) → is_free (h / 128 % 32 == 2) o ≡ true
+    → (has_stack b.format && (h / 128 % 32 == 2)) ≡ false → IsFreeHalf b h
+free_of b h (Some (Computes rd)) is e none =
+    let both = and_parts (not (is_reserved rd)) (not (rd == 2) || (h / 128 % 32 == 2)) e in
+    record { rd = rd; does = is; free = not_withheld b rd (h / 128 % 32 == 2) both.0 both.1 none }
+free_of b h _ is e none = cc
+
+pub free_half : HalfwordsAreOutlined → (b : BundlePlace) (h : ℕ) → h < 2 ^ 16 → (bit_and h (slice_index COMPUTING (h / 512 * 4 + h % 4)) == 0) ≡ false
+    → (has_stack b.format && (h / 128 % 32 == 2)) ≡ false → IsFreeHalf b h
+unfolding passes
+free_half law b h lt some none =
+    let p = h / 512 * 4 + h % 4 in
+    let at : passes (slice_index COMPUTING p) h ≡ true = subst (λ k. passes (slice_index COMPUTING p) k ≡ true) (whole h) (row_at p (h / 4 % 128) (omega (arith, lt)) (omega arith)) in
+    free_of b h (outlined h) (law h lt).0 (second _ _ some at) none
+
+low_two : (h : ℕ) → bit_and h 3 ≡ h % 4
+low_two h = and_mask h 2
+
+-- what the code tells, where it tells it under r
+pub free_told : HalfwordsAreOutlined → (h : ℕ) → h < 2 ^ 16 → bit_and h (slice_index COMPUTING (h / 512 * 4 + bit_and h 3)) ≢ 0
+    → (b : BundlePlace) (stack : Bool) → stack ≡ has_stack b.format → (r : Bool) → (r ≡ true → (stack && (h / 128 % 32 == 2)) ≡ false) → OnTrue r (IsFreeHalf b h)
+free_told law h lt some b stack is false none = tt
+free_told law h lt some b stack is true none =
+    free_half law b h lt (ap (λ k. bit_and h (slice_index COMPUTING (h / 512 * 4 + k)) == 0) (sym (low_two h)) ∙ ne_eqb _ 0 some)
+    (ap (λ s. s && (h / 128 % 32 == 2)) (sym is) ∙ none refl)
+
+pub no_stack : (s t : Bool) → not s ≡ true → (s && t) ≡ false
+no_stack true t e = cc
+no_stack false t e = refl
+
+pub other_register : (s : Bool) (h : ℕ) → not (bit_and (h / 128) 31 == 2) ≡ true → (s && (h / 128 % 32 == 2)) ≡ false
+other_register false h e = refl
+other_register true h e = ap (λ r. r == 2) (sym (and_mask (h / 128) 5)) ∙ not_true (bit_and (h / 128) 31 == 2) e
+
+pub clean_free : (b : BundlePlace) (at : ℕ) (words : Words) (h : ℕ) → IsFreeHalf b h → IsCleanOne b at words (IsShortSpelling h)
+clean_free b at words h f = record {
+  instr = f.does.instr;
+  spelled = f.does.spelled;
+  clean = λ earlier before. ap (is_clean b at earlier) f.does.does ∙ ap not f.free;
+}
+
+-- ---- words
+
+pub clean_computing : (b : BundlePlace) (at : ℕ) (words : Words) (word rd : ℕ) → IsWordThat word (Computes rd) → (w : Bool) → w ≡ is_withheld b rd → OnTrue (not w) (IsCleanOne b at words (IsWordOf word))
+clean_computing b at words word rd that true e = tt
+clean_computing b at words word rd that false e = record {
+  instr = that.instr;
+  spelled = that.spelled;
+  clean = λ earlier before. ap (is_clean b at earlier) that.does ∙ ap not (sym e);
+}
+
+-- bits 11:7, as the code takes them
+pub rd_is : (word r : ℕ) → r ≡ bit_and (word / 128) 31 → r ≡ bits word 11 7
+rd_is word r e = e ∙ and_mask (word / 128) 5
