@@ -43,20 +43,6 @@ impl<'a> Operands<'a> {
         }
     }
 
-    /// The same operands.
-    pub fn copied(&self) -> Self
-        ensures { values_of result ≡ values_of self.now }
-    {
-        Operands {
-            rd: self.rd,
-            rs1: self.rs1,
-            rs2: self.rs2,
-            number: self.number,
-            name: self.name,
-            compressed: self.compressed,
-        }
-    }
-
     /// The instruction's operands.
     pub fn of(instr: &Instr) -> Self
         ensures { values_of result ≡ operands_of instr.now }
