@@ -1,4 +1,4 @@
-//! Which forms and words compute into a register that may be written, by tables: most code needs no more.
+//! Which forms compute into a register that may be written, by a table: most forms do.
 ghost use Rattle.std.specs.Prelude.{◌≡◌, not};
 ghost use Rattle.std.specs.Bool.{OnTrue};
 ghost use Rattle.sfi_image.specs.Formats.{has_stack};
@@ -7,8 +7,8 @@ ghost use Rattle.sfi_scan.specs.FirstLook.{IsFreeHalf};
 
 use crate::rules::STACK;
 
-/// By bits 15:9 of a halfword and its bits 1:0: bits of which each that is set shows that the halfword is a form that computes into
-/// a register that isn't reserved. Each line has the bits 15:11 of its four places of four.
+/// By bits 15:9 of a halfword and its bits 1:0: a mask. A halfword with any of these bits set is a form that computes into a register
+/// that isn't reserved. Beside each line stand bits 15:11; its 16 entries go by bits 10:9, and then by bits 1:0.
 const COMPUTING: [u16; 512] = [
     8160, 3, 3, 0, 8160, 3, 3, 0, 8160, 3, 3, 0, 8160, 3, 3, 0, // 00000
     8160, 3, 3, 0, 8160, 3, 3, 0, 8160, 0, 0, 0, 8160, 3, 3, 0, // 00001
