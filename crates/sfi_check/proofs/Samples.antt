@@ -18,7 +18,6 @@ use Rattle.sfi_image.specs.declared.span.Span.{Span}
 use Rattle.sfi_image.specs.Formats.{code_most}
 use Rattle.sfi_image.specs.Gates.{AreGates, gates_most}
 use Rattle.sfi_image.specs.Spelling.{Part, AreGateWords}
-use Rattle.sfi_image.specs.Spelling as image
 use Rattle.sfi_image.specs.Spans.{AreApart, code_region, guarded_region}
 use Rattle.sfi_image.specs.Regions.{IsBundleStart}
 use Rattle.sfi_image.specs.Parts.{IsRightPart, IsRightLayout, AreOf}
@@ -27,9 +26,8 @@ use Rattle.sfi_scan.specs.Findings.{AreFindings}
 use Rattle.sfi_check.specs.Regions.{InCode, InData, InGuard, IsGate, HasReserved, HasCode}
 use Rattle.sfi_check.specs.Runs.{Turn, Steps, IsEntry, IsRun, IsTurn, after_turn, after_step}
 use Rattle.sfi_check.specs.Safety.{IsSafeRun}
-use Rattle.sfi_check.specs.Verdict.{HasFindings}
 use Rattle.sfi_check.specs.Samples.{Sample, sandbox, bytes_of, words_of}
-use Rattle.sfi_check.specs.Needed.{HasUnsafeRun}
+use Rattle.sfi_check.specs.Needed.{HasOneFinding, HasUnsafeRun}
 use Rattle.sfi_check.proofs.Places.{read_all}
 use Rattle.sfi_check.proofs.Entering.{entered}
 
@@ -139,13 +137,11 @@ module _ (s : Sample) (is : IsSample s) where
       only zero d below = right_part
       only (suc k) d below = absurd (omega arith)
 
-  -- the bytes of that image have the sandbox's one finding
-  pub refused : (x : Finding) → AreFindings 0 (sandbox s) (x ∷ []) → HasFindings (image.spelling (sandbox s ∷ [])) (x ∷ [])
+  -- that image has the sandbox's one finding
+  pub refused : (x : Finding) → AreFindings 0 (sandbox s) (x ∷ []) → HasOneFinding (sandbox s) x
   refused x found = record {
-    parts = sandbox s ∷ [];
     image = record { bytes_are = refl; layout = right_layout };
     found_are = (x ∷ [], [], found, refl, refl);
-    some = λ e. absurd cc;
   }
 
 -- ---- entries

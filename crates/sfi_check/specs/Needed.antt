@@ -4,17 +4,19 @@ use Rattle.rv_mem.specs.Bytes.{byte_at}
 use Rattle.rv_step.specs.declared.outcome.Outcome.TheVariants.{Next}
 use Rattle.rv_step.specs.State.{State}
 use Rattle.rv_step.specs.Step.{Stepped}
+use Rattle.sfi_image.specs.Images.{IsImage}
 use Rattle.sfi_image.specs.Spelling.{Part, spelling}
 use Rattle.sfi_scan.specs.declared.rule.Rule.{Rule}
 use Rattle.sfi_scan.specs.declared.rule.Rule.TheVariants.{V1, V2, V9}
 use Rattle.sfi_scan.specs.Bundles.{place_of, bundle_bytes}
 use Rattle.sfi_scan.specs.Readings.{Piece, IsLongestReading, rest_of}
 use Rattle.sfi_scan.specs.Rules.{breaks, is_empty}
-use Rattle.sfi_scan.specs.Findings.{all_rules}
+use Rattle.sfi_scan.specs.declared.finding.Finding.{Finding}
+use Rattle.sfi_scan.specs.Findings.{AreImageFindings, all_rules}
 use Rattle.sfi_check.specs.Regions.{InData}
 use Rattle.sfi_check.specs.Runs.{Turn, Steps, Changes, IsEntry, IsRun}
 use Rattle.sfi_check.specs.Safety.{IsSafeRun, RunsSafely}
-use Rattle.sfi_check.specs.Verdict.{IsAccepted, HasFindings}
+use Rattle.sfi_check.specs.Verdict.{IsAccepted}
 
 -- a run from this state is not safe
 pub record HasUnsafeRun (p : Part) (s : State) : Type 0 where
@@ -27,7 +29,7 @@ abbrev pub stand_before : List Piece → List Piece → List Piece
 stand_before [] later = later
 stand_before (x ∷ earlier) later = stand_before earlier (x ∷ later)
 
--- The instruction at this address is one of its bundle's longest reading, and of all rules it breaks this one.
+-- The instruction at this address is one of its bundle's longest reading, and it breaks this rule and no other.
 pub record BreaksAlone (rule : Rule) (address : ℕ) (p : Part) : Type 0 where
   pub number : ℕ  -- the bundle's
   pub earlier : List Piece  -- the pieces before it, the nearest first
@@ -53,10 +55,15 @@ BreaksNoOther V2 address p = Unit {0}
 BreaksNoOther V9 address p = Unit {0}
 BreaksNoOther rule address p = BreaksAlone rule address p
 
+-- the image of this sandbox has a right layout, and this one finding
+pub record HasOneFinding (p : Part) (found : Finding) : Type 0 where
+  pub image : IsImage (spelling (p ∷ [])) (p ∷ [])
+  pub found_are : AreImageFindings (p ∷ []) (found ∷ [])
+
 -- The rule is needed: the image of this sandbox has a right layout and one finding, that rule at this address, where no other is broken, and
 -- from an entry it has a run that is not safe.
 pub record IsNeeded (rule : Rule) (address : ℕ) (p : Part) : Type 0 where
-  pub refused : HasFindings (spelling (p ∷ [])) (record { sandbox = 0; address = address; rule = rule } ∷ [])
+  pub refused : HasOneFinding p (record { sandbox = 0; address = address; rule = rule })
   pub no_other : BreaksNoOther rule address p
   pub entry : State
   pub is_entry : IsEntry p entry
@@ -69,7 +76,7 @@ EachRuleIsNeeded = (rule : Rule) → (address : ℕ) × (p : Part) × IsNeeded r
 -- The rule is stricter than safety asks: the image of this sandbox has a right layout and one finding, that rule at this address, and every run from
 -- every entry is safe.
 pub record IsStricter (rule : Rule) (address : ℕ) (p : Part) : Type 0 where
-  pub refused : HasFindings (spelling (p ∷ [])) (record { sandbox = 0; address = address; rule = rule } ∷ [])
+  pub refused : HasOneFinding p (record { sandbox = 0; address = address; rule = rule })
   pub safe : RunsSafely p
 
 -- ---- an accepted one

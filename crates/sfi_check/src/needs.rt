@@ -1,5 +1,5 @@
-//! That each rule is needed, since there is code whose one finding is of that rule and which does what is not safe; and that the
-//! rules leave code that does something. A call costs nothing.
+//! That each rule but V9 is needed, and that no finding may be passed over: there is code whose one finding is of that rule and
+//! which does what is not safe; and that the rules leave code that does something. A call costs nothing.
 ghost use Rattle.sfi_scan.specs.declared.rule.Rule.TheVariants.{V1, V2, V3, V4, V5, V6, V7, V8, V9, V10};
 ghost use Rattle.sfi_check.specs.Needed.{IsNeeded, EachRuleIsNeeded, IsStricter, IsAcceptedAndRuns};
 ghost use Rattle.sfi_check.specs.Samples.{sandbox, undecodable, crossing_store, ecall_at_no_gate, written_rd_forgotten, pair_on_x0, pair_across_bundles, jalr_offset_ignored, jump_to_any_start, running_off_the_end, gate_comes_back_elsewhere, stack_not_put_back, undecodable_after_ebreak, crossing_after_ebreak, ecall_after_ebreak, nops_after_ebreak, sandboxed_store};

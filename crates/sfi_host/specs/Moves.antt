@@ -99,7 +99,7 @@ turns_to i s (v ∷ moves) =
     (own_turns v.seat.status v.turn (turns_to i v.seat moves))
     (Changes (machine_of v.bytes s) ∷ turns_to i s moves)
 
--- The turns are a run of the sandbox from the first world, and a safe run of the part whose code
+-- The turns are a run of the sandbox from the first world, and where it was ready a safe run of the part whose code
 -- it has. Its code and its empty guard zones are kept, it lies where it lay, and if it is ready in
 -- the second world the turns lead it to where it is there.
 pub record IsRunBetween (p : Part) (w n : Sandboxes) (i : ℕ) (s : Seat) (turns : List Turn) : Type 0 where

@@ -55,7 +55,7 @@ pub fn answers_are_replies()
 {}
 
 /// What the sandboxes of a safe world do in the one memory, in any order, is to each of them a run: its own steps and the replies that it
-/// gets, and changes by others. Each of these runs is safe, and the world stays safe.
+/// gets, and changes by others. Each of these runs is safe where the sandbox was ready, and the world stays safe.
 pub fn moves_are_runs()
     ensures { MovesAreRuns }
 {
