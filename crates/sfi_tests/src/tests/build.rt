@@ -39,7 +39,7 @@ fn calls_image(alloc: Global) -> Result<Vec<u8>, AllocError> {
 }
 
 // A head, a line so many times, and an end.
-fn repeated(
+pub(super) fn repeated(
     alloc: Global,
     head: &str,
     line: &str,

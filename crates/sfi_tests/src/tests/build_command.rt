@@ -1,4 +1,5 @@
 //! The command `build`.
+use super::build::repeated;
 use super::{Outcome, run};
 use std::alloc::{AllocError, Global};
 use std::test::Fail;
@@ -7,22 +8,6 @@ use std::test::Fail;
 fn expect(alloc: Global, source: &[u8], wanted: u8, line: &str) -> Result<bool, AllocError> {
     let Outcome { status, text } = run(alloc, "sfi build", source)?;
     Ok(status == wanted && text.as_slice() == line.as_bytes())
-}
-
-// A head, a line so many times, and an end.
-fn repeated(
-    alloc: Global,
-    head: &str,
-    line: &str,
-    times: usize,
-    end: &str,
-) -> Result<String, AllocError> {
-    let mut text = String::from_str(alloc, head)?;
-    for _ in 0..times {
-        text.push_str(line)?;
-    }
-    text.push_str(end)?;
-    Ok(text)
 }
 
 // Two gates, the address of data, calls, and a load.

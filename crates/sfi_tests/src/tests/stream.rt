@@ -1,5 +1,5 @@
 //! Images as streams of bytes, and the command `check --raw`.
-use super::failing::Pieces;
+use super::pieces::Pieces;
 use super::image::{CODE, END, Edit, end_in, image_bytes, put, same};
 use super::{Outcome, words_of};
 use sfi_check::{StreamAnswer, check_stream};
