@@ -1,5 +1,5 @@
 -- The first form of an instruction is a form of it, and no earlier row has one.
-use Rattle.std.proofs.Common.{◌≡◌, ℕ, zero, ◌*◌, ◌/◌, ◌^◌, ◌<◌, ℤ, pos, Bool, true, false, not, cond, ◌&&◌, ◌==◌, refl, ap, ap₂, subst, sym, ◌∙◌, Option, Some, None, arith, eqb-true}
+use Rattle.std.proofs.Common.{◌≡◌, ℕ, zero, ◌*◌, ◌/◌, ◌^◌, ◌<◌, ℤ, pos, Bool, true, false, not, cond, ◌&&◌, ◌==◌, refl, ap, ap₂, subst, sym, ◌∙◌, Option, Some, None, arith, eqb-true, ◌⊎◌, inl, inr}
 use Rattle.std.proofs.lemmas.Bool.{and_parts, ltb-true, leb-true}
 use Rattle.std.proofs.lemmas.Int.{of_z-to_z}
 use Rattle.std.specs.Prelude.{IfSome, IfNone, IsTrue, nat_lt}
@@ -174,3 +174,12 @@ form_only i o e f s = at o (form_found i o e) (form_none i o e)
     at : (p : Option Form16) → IfSome p (λ g. IsFirst i g) → IfNone p ((g : Form16) → IsTrue (allowed g) → expansion g ≡ i → ⊥) → p ≡ Some f
     at None found none = absurd (none f s.meets s.expands)
     at (Some g) found none = ap Some (first_one i g f found s)
+
+-- there is a first form, or none
+pub some_first : (i : Instr) → ((f : Form16) × IsFirst i f) ⊎ ((f : Form16) → IsTrue (allowed f) → expansion f ≡ i → ⊥)
+some_first i = at (first_form i) (form_found i (first_form i) refl) (form_none i (first_form i) refl)
+  where
+    at : (o : Option Form16) → IfSome o (λ f. IsFirst i f) → IfNone o ((f : Form16) → IsTrue (allowed f) → expansion f ≡ i → ⊥)
+        → ((f : Form16) × IsFirst i f) ⊎ ((f : Form16) → IsTrue (allowed f) → expansion f ≡ i → ⊥)
+    at None found none = inr none
+    at (Some f) found none = inl (f, found)

@@ -1,11 +1,12 @@
 -- What holds of every spelling.
-use Rattle.std.specs.Prelude.{◌≡◌, ℕ, ◌<◌, ◌^◌, ◌⊎◌, List, slice_index, IfSome, Some}
+use Rattle.std.specs.Prelude.{◌≡◌, ◌≢◌, ℕ, ◌<◌, ◌^◌, ◌⊎◌, List, slice_index, IfSome, Some, IsTrue}
 use Rattle.rv_word.specs.declared.instr.Instr.{Instr}
 use Rattle.rv_word.specs.declared.instr.Instr.TheVariants.{Ecall}
 use Rattle.rv_word.specs.Outlines.{outline}
 use Rattle.rv_word.specs.Spelling.{InRange}
 use Rattle.rv_comp.specs.Fronts.{Spells, IsFront}
 use Rattle.rv_comp.specs.Halfwords.{IsFirst, IsShortSpelling, IsHalfwordThat}
+use Rattle.rv_comp.specs.Table.{allowed, expansion}
 use Rattle.rv_comp.specs.mirror.Outlining.{outlined}
 use Rattle.rv_comp.specs.declared.form.Form16.{Form16}
 use Rattle.rv_comp.specs.declared.front.Front.{Front}
@@ -41,6 +42,10 @@ SomeFront = (bytes : List ℕ) → (front : Front) × IsFront bytes front
 -- an instruction has one first form at most
 abbrev pub OneFirstForm : Type 0
 OneFirstForm = (i : Instr) (form other : Form16) → IsFirst i form → IsFirst i other → form ≡ other
+
+-- an instruction has a first form, or no form expands to it
+abbrev pub SomeFirstForm : Type 0
+SomeFirstForm = (i : Instr) → ((form : Form16) × IsFirst i form) ⊎ ((form : Form16) → IsTrue (allowed form) → expansion form ≢ i)
 
 -- `outlined` is the outline of each halfword that spells an instruction, and of no other halfword
 abbrev pub HalfwordsAreOutlined : Type 0

@@ -1,5 +1,5 @@
 //! What holds of every spelling. A caller calls one to have its statement at hand.
-ghost use Rattle.rv_comp.specs.Laws.{OneSpelling, TwoLengths, EcallIsWide, SpelledInRange, OneFront, SomeFront, OneFirstForm, HalfwordsAreOutlined};
+ghost use Rattle.rv_comp.specs.Laws.{OneSpelling, TwoLengths, EcallIsWide, SpelledInRange, OneFront, SomeFront, OneFirstForm, SomeFirstForm, HalfwordsAreOutlined};
 
 /// Two lists of bytes that agree as far as both spellings go spell one instruction, with one
 /// length.
@@ -43,6 +43,11 @@ pub fn some_front()
 /// An instruction has one first form at most.
 pub fn one_first_form()
     ensures { OneFirstForm }
+{}
+
+/// An instruction has a first form, or no form at all.
+pub fn some_first_form()
+    ensures { SomeFirstForm }
 {}
 
 /// The outline of each halfword is one that computes: so a table of outlines can be proved by computation.

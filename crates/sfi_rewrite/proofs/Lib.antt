@@ -16,3 +16,4 @@ pub mod Transparent
 pub mod StackKept
 pub mod Standing
 pub mod Samples
+pub mod SomeRewriting

@@ -19,7 +19,7 @@ use Rattle.sfi_rewrite.specs.Rewriting.{IsRewritten, AnswersFault}
 use Rattle.sfi_rewrite.proofs.OneFault.{each_faultless}
 use Rattle.sfi_rewrite.proofs.PlacedNames.{zip_push}
 
-faulty : (source : List Sandbox) (k n : ℕ) (s : Sandbox) (placed : List Placement) (f : RewriteFault)
+pub faulty : (source : List Sandbox) (k n : ℕ) (s : Sandbox) (placed : List Placement) (f : RewriteFault)
     → k < length source → s ≡ get_or source k s → AllZip IsRewritten (take k source) placed → n ≡ k → IsItemFault s.format n s.items f → IsSourceFault source f
 faulty source k n s placed f h e z m is = record {
   number = k;

@@ -1,5 +1,5 @@
 -- What holds of every source.
-use Rattle.std.specs.Prelude.{◌≡◌, List}
+use Rattle.std.specs.Prelude.{◌≡◌, ◌⊎◌, List}
 use Rattle.rv_word.specs.declared.instr.Instr.{Instr}
 use Rattle.rv_source.specs.declared.item.Item.{Item}
 use Rattle.rv_source.specs.Source.{Sandbox}
@@ -35,6 +35,10 @@ OneFault = (source : List Sandbox) (f g : RewriteFault) → IsSourceFault source
 -- a source with a fault isn't rewritten
 abbrev pub NeverBoth : Type 0
 NeverBoth = (source : List Sandbox) (placed : List Placement) (f : RewriteFault) → AreRewritten source placed → IsSourceFault source f → ⊥
+
+-- each source is rewritten or has a fault
+abbrev pub SomeRewriting : Type 0
+SomeRewriting = (source : List Sandbox) → ((placed : List Placement) × AreRewritten source placed) ⊎ ((f : RewriteFault) × IsSourceFault source f)
 
 -- the expansion of a permitted item acts as the item's instruction
 abbrev pub ExpansionsAreTransparent : Type 0

@@ -1,7 +1,7 @@
 //! What holds of every source. A call costs nothing: it has the statement at hand.
-ghost use Rattle.sfi_rewrite.specs.Laws.{OneExpansion, OnePlacement, OneRewriting, OneFault, NeverBoth, ExpansionsAreTransparent, RewrittenIsTransparent, TransparencyCanBeMet};
+ghost use Rattle.sfi_rewrite.specs.Laws.{OneExpansion, OnePlacement, OneRewriting, OneFault, NeverBoth, SomeRewriting, ExpansionsAreTransparent, RewrittenIsTransparent, TransparencyCanBeMet};
 
-use rv_comp::laws::one_first_form;
+use rv_comp::laws::{one_first_form, some_first_form};
 use rv_mem::laws::{addresses_are_these, others_stay, read_is_held, written_is_there};
 use rv_step::laws::{pair_leaves, step_keeps_state};
 
@@ -38,6 +38,13 @@ pub fn never_both()
     ensures { NeverBoth }
 {
     one_first_form();
+}
+
+/// A source is rewritten, or has a fault. So where a call of `rewrite` runs out of memory, more memory would bring an answer.
+pub fn some_rewriting()
+    ensures { SomeRewriting }
+{
+    some_first_form();
 }
 
 /// The expansion of an instruction does what the instruction does, x31 aside; behind an instruction that writes the stack pointer

@@ -1,0 +1,379 @@
+-- A source is rewritten, or has a fault.
+use Rattle.std.proofs.Common.{◌≡◌, ℕ, zero, suc, ◌+◌, ◌-◌, ◌*◌, ◌/◌, ◌%◌, ◌<◌, ◌≤◌, List, [], ◌∷◌, ◌++◌, length, take, get_or, replicate, Some, refl, sym, ap, ◌∙◌, subst, arith, append_assoc, append-nil, inl, inr, ◌⊎◌}
+use Rattle.std.specs.Prelude.{ℤ, Bool, true, false, MatchBool, IsTrue, Contains, slice_get}
+use Rattle.std.specs.List.{All, AllZip}
+use Rattle.std.proofs.lemmas.Bool.{cases_lt, cases_eq}
+use Rattle.std.proofs.lemmas.List.{take_all}
+use Rattle.std.proofs.lemmas.List.Elements.{Contains-append_right}
+use Rattle.std.proofs.lemmas.Map.Made.{Contains-tail}
+use Rattle.std.proofs.lemmas.Option.{slice_get-get_or}
+use Rattle.rv_word.specs.declared.instr.Instr.{Instr}
+use Rattle.rv_word.specs.declared.instr.Instr.TheVariants.{Op, OpImm, Load, Store, Branch, Jal, Jalr, Lui, Auipc, Fence, Ecall, Ebreak}
+use Rattle.rv_comp.specs.Laws.{SomeFirstForm}
+use Rattle.rv_source.specs.declared.item.Item.{Item}
+use Rattle.rv_source.specs.declared.item.Body.{Body}
+use Rattle.rv_source.specs.declared.item.Body.TheVariants.{Plain, To, High, Low}
+use Rattle.rv_source.specs.declared.item.Named.{Named}
+use Rattle.rv_source.specs.declared.item.Named.TheVariants.{Gate, Code, Data, Unknown}
+use Rattle.rv_source.specs.Source.{Sandbox, named}
+use Rattle.sfi_image.specs.declared.format.Format.{Format}
+use Rattle.sfi_image.specs.declared.format.Format.TheVariants.{Sfi1}
+use Rattle.sfi_image.specs.Formats.{code_most, is_stack}
+use Rattle.sfi_rewrite.specs.declared.slot.Slot.{Slot}
+use Rattle.sfi_rewrite.specs.declared.slot.Slot.TheVariants.{Wide, Short, Jump, Upper, Lower}
+use Rattle.sfi_rewrite.specs.declared.fault.RewriteFault.{RewriteFault}
+use Rattle.sfi_rewrite.specs.declared.fault.RewriteFault.TheVariants as fault
+use Rattle.sfi_rewrite.specs.declared.placed.PlacedName.{PlacedName}
+use Rattle.sfi_rewrite.specs.declared.placed.PlacedName.TheVariants as placed
+use Rattle.sfi_rewrite.specs.Slots.{size_of, slots_of, c_nop}
+use Rattle.sfi_rewrite.specs.Stack.{writes_stack, is_on_stack, is_stack_write, stack_pair, put_back}
+use Rattle.sfi_rewrite.specs.Registers.{item_names_withheld, is_ecall}
+use Rattle.sfi_rewrite.specs.Expansion.{data_pair, jump_slots, IsAlone, IsMasked, IsExpansionOf, IsExpansion, is_call}
+use Rattle.sfi_rewrite.specs.Places.{next_bundle, FillsGap, AreLaid}
+use Rattle.sfi_rewrite.specs.Placement.{Placement, IsPlacedName, HasEndLabel, FillsEnd, AreBundles, IsPlacement}
+use Rattle.sfi_rewrite.specs.Filling.{IsFilled, HasNext}
+use Rattle.sfi_rewrite.specs.Faults.{IsPermitted, AreFaultless, HasFault, IsItemFault, IsFaultless, IsSourceFault}
+use Rattle.sfi_rewrite.specs.Rewriting.{IsRewritten, AreRewritten}
+use Rattle.sfi_rewrite.specs.Laws.{SomeRewriting}
+use Rattle.sfi_rewrite.proofs.Sizes.{size_even}
+use Rattle.sfi_rewrite.proofs.Expansions.{IsOne, expansion_one}
+use Rattle.sfi_rewrite.proofs.Bundles.{slots_of-push, filled_in, filled_up, none_filled, fits_at, full_are_bundles, finished, nop_fits}
+use Rattle.sfi_rewrite.proofs.Laid.{laid_split}
+use Rattle.sfi_rewrite.proofs.OneByOne.{too_large, fits_bundle, has_next, none_faultless, one_more}
+use Rattle.sfi_rewrite.proofs.Sources.{faulty, parts_push}
+
+-- ---- the expansion of an item
+
+some_alone : SomeFirstForm → (rvc : Bool) (i : Instr) → (slots : List Slot) × IsAlone rvc i slots
+some_alone law false i = (Wide i ∷ [], refl)
+some_alone law true i =
+    elim (law i) [
+      | inl form ↦ (Short form.0 ∷ [], inl (form.0, form.1, refl))
+      | inr none ↦ (Wide i ∷ [], inr (none, refl))
+    ]
+
+some_masked : SomeFirstForm → (rvc : Bool) (i : Instr) → (slots : List Slot) × IsMasked rvc i slots
+some_masked law rvc (Load kind rd a imm) = (data_pair a ++ Wide (Load kind rd 31 imm) ∷ [], refl)
+some_masked law rvc (Store width a rs2 imm) = (data_pair a ++ Wide (Store width 31 rs2 imm) ∷ [], refl)
+some_masked law rvc (Jalr rd a imm) = (jump_slots rd a imm, refl)
+some_masked law rvc (Op op rd rs1 rs2) = some_alone law rvc (Op op rd rs1 rs2)
+some_masked law rvc (OpImm op rd rs1 imm) = some_alone law rvc (OpImm op rd rs1 imm)
+some_masked law rvc (Branch cond rs1 rs2 offset) = some_alone law rvc (Branch cond rs1 rs2 offset)
+some_masked law rvc (Jal rd offset) = some_alone law rvc (Jal rd offset)
+some_masked law rvc (Lui rd imm) = some_alone law rvc (Lui rd imm)
+some_masked law rvc (Auipc rd imm) = some_alone law rvc (Auipc rd imm)
+some_masked law rvc (Fence imm rd rs1) = some_alone law rvc (Fence imm rd rs1)
+some_masked law rvc Ecall = some_alone law rvc Ecall
+some_masked law rvc Ebreak = some_alone law rvc Ebreak
+
+some_plain : SomeFirstForm → (writes on rvc : Bool) (i : Instr)
+    → (slots : List Slot) × MatchBool writes (slots ≡ Wide i ∷ stack_pair) (MatchBool on (IsAlone rvc i slots) (IsMasked rvc i slots))
+some_plain law true on rvc i = (Wide i ∷ stack_pair, refl)
+some_plain law false true rvc i = some_alone law rvc i
+some_plain law false false rvc i = some_masked law rvc i
+
+some_expansion_of : SomeFirstForm → (f : Format) (line : ℕ) (rvc : Bool) (body : Body) → (slots : List Slot) × IsExpansionOf f line rvc body slots
+some_expansion_of law f line rvc (Plain i) = some_plain law (writes_stack f i) (is_on_stack f i) rvc i
+some_expansion_of law f line rvc (To i name) = (Jump i name line ∷ [], refl)
+some_expansion_of law f line rvc (High rd name) = (Upper rd name line ∷ put_back (is_stack f rd), refl)
+some_expansion_of law f line rvc (Low rd name) = (Lower rd name line ∷ put_back (is_stack f rd), refl)
+
+some_expansion : SomeFirstForm → (f : Format) (x : Item) → (slots : List Slot) × IsExpansion f x slots
+some_expansion law f x = some_expansion_of law f x.line x.rvc x.body
+
+-- ---- its place
+
+-- where neither a label nor a call asks for more
+gap_free : (end size : ℕ) → end % 2 ≡ 0 → size ≤ 16 → (nops : ℕ) × FillsGap end false false size nops
+gap_free end size even few =
+    elim (cases_lt 16 (end % 16 + size)) [
+      | inl over ↦
+          let nops = (16 - end % 16) / 2 in
+          let at : end + 2 * ((16 - end % 16) / 2) ≡ end - end % 16 + 16 = omega arith in
+          (nops, record {
+            stands = record { behind = omega arith; at_label = λ t. absurd t; in_bundle = omega arith; returns = λ t. absurd t };
+            first = λ here m. let a = m.behind in let b = m.in_bundle in omega arith;
+          })
+      | inr within ↦
+          (0, record {
+            stands = record { behind = omega arith; at_label = λ t. absurd t; in_bundle = omega arith; returns = λ t. absurd t };
+            first = λ here m. let a = m.behind in omega arith;
+          })
+    ]
+
+gap_labelled : (end size : ℕ) → end % 2 ≡ 0 → size ≤ 16 → (nops : ℕ) × FillsGap end true false size nops
+gap_labelled end size even few =
+    let at : end + 2 * ((next_bundle end - end) / 2) ≡ next_bundle end = omega arith in
+    ((next_bundle end - end) / 2, record {
+      stands = record { behind = omega arith; at_label = λ t. omega arith; in_bundle = omega arith; returns = λ t. absurd t };
+      first = λ here m. let a = m.at_label tt in omega arith;
+    })
+
+gap_call : (end size : ℕ) → end % 2 ≡ 0 → size % 2 ≡ 0 → 0 < size → size ≤ 16 → (nops : ℕ) × FillsGap end false true size nops
+gap_call end size even even_size some few =
+    elim (cases_lt 16 (end % 16 + size)) [
+      | inl over ↦
+          let at : end + 2 * ((32 - size - end % 16) / 2) ≡ end - end % 16 + (32 - size) = omega arith in
+          ((32 - size - end % 16) / 2, record {
+            stands = record { behind = omega arith; at_label = λ t. absurd t; in_bundle = omega arith; returns = λ t. omega arith };
+            first = λ here m. let a = m.behind in let b = m.in_bundle in let c = m.returns tt in omega arith;
+          })
+      | inr within ↦
+          let at : end + 2 * ((16 - size - end % 16) / 2) ≡ end - end % 16 + (16 - size) = omega arith in
+          ((16 - size - end % 16) / 2, record {
+            stands = record { behind = omega arith; at_label = λ t. absurd t; in_bundle = omega arith; returns = λ t. omega arith };
+            first = λ here m. let a = m.behind in let b = m.in_bundle in let c = m.returns tt in omega arith;
+          })
+    ]
+
+gap_both : (end size : ℕ) → end % 2 ≡ 0 → size % 2 ≡ 0 → 0 < size → size ≤ 16 → (nops : ℕ) × FillsGap end true true size nops
+gap_both end size even even_size some few =
+    let at : end + 2 * ((next_bundle end + (16 - size) - end) / 2) ≡ next_bundle end + (16 - size) = omega arith in
+    ((next_bundle end + (16 - size) - end) / 2, record {
+      stands = record { behind = omega arith; at_label = λ t. omega arith; in_bundle = omega arith; returns = λ t. omega arith };
+      first = λ here m. let a = m.at_label tt in let b = m.in_bundle in let c = m.returns tt in omega arith;
+    })
+
+some_gap : (end : ℕ) (labelled call : Bool) (size : ℕ) → end % 2 ≡ 0 → size % 2 ≡ 0 → 0 < size → size ≤ 16 → (nops : ℕ) × FillsGap end labelled call size nops
+some_gap end false false size even even_size some few = gap_free end size even few
+some_gap end true false size even even_size some few = gap_labelled end size even few
+some_gap end false true size even even_size some few = gap_call end size even even_size some few
+some_gap end true true size even even_size some few = gap_both end size even even_size some few
+
+-- ---- bundles
+
+-- the slots, in full bundles and a last one that isn't
+record InBundles (code : List Slot) : Type 0 where
+  full : List (List Slot)
+  last : List Slot
+  end : ℕ
+  filled : IsFilled full last end
+  whole : slots_of full ++ last ≡ code
+
+none_in_bundles : InBundles []
+none_in_bundles = record { full = []; last = []; end = 0; filled = none_filled [] [] refl refl; whole = refl }
+
+push : (code more : List Slot) → InBundles code → size_of code % 16 + size_of more ≤ 16 → InBundles (code ++ more)
+push code more b fits =
+    let within = fits_at b.full b.last code b.end (size_of more) b.filled b.whole fits in
+    let whole : slots_of b.full ++ (b.last ++ more) ≡ code ++ more = sym (append_assoc (slots_of b.full) b.last more) ∙ ap (λ l. l ++ more) b.whole in
+    elim (cases_lt (b.end % 16 + size_of more) 16) [
+      | inl less ↦
+          record {
+            full = b.full;
+            last = b.last ++ more;
+            end = b.end + size_of more;
+            filled = filled_in b.full b.last more (b.last ++ more) b.end (size_of more) b.filled refl refl less;
+            whole = whole;
+          }
+      | inr full ↦
+          record {
+            full = b.full ++ (b.last ++ more) ∷ [];
+            last = [];
+            end = b.end - b.end % 16 + 16;
+            filled = filled_up b.full (b.full ++ (b.last ++ more) ∷ []) b.last more (b.last ++ more) [] b.end (size_of more) b.filled refl refl refl refl full within;
+            whole = append-nil (slots_of (b.full ++ (b.last ++ more) ∷ [])) ∙ slots_of-push b.full (b.last ++ more) ∙ whole;
+          }
+    ]
+
+push_nops : (nops : ℕ) (code : List Slot) → InBundles code → InBundles (code ++ replicate nops c_nop)
+push_nops zero code b = subst InBundles (sym (append-nil code)) b
+push_nops (suc n) code b =
+    let one = push code (c_nop ∷ []) b (nop_fits code) in
+    subst InBundles (append_assoc code (c_nop ∷ []) (replicate n c_nop)) (push_nops n (code ++ c_nop ∷ []) one)
+
+-- the bundles of all
+record Bundled (code : List Slot) : Type 0 where
+  bundles : List (List Slot)
+  whole : slots_of bundles ≡ code
+  right : AreBundles bundles
+
+finish : (code : List Slot) → InBundles code → Bundled code
+finish code b = at b.last refl
+  where
+    at : (last : List Slot) → b.last ≡ last → Bundled code
+    at [] none =
+        record {
+          bundles = b.full;
+          whole = sym (append-nil (slots_of b.full)) ∙ ap (λ l. slots_of b.full ++ l) (sym none) ∙ b.whole;
+          right = full_are_bundles b.full b.filled.each_full;
+        }
+    at (x ∷ xs) some =
+        record {
+          bundles = b.full ++ b.last ∷ [];
+          whole = slots_of-push b.full b.last ∙ b.whole;
+          right = finished b.full (b.full ++ b.last ∷ []) b.last b.last b.end b.filled refl refl (λ none. let e : x ∷ xs ≡ [] = sym some ∙ none in cc);
+        }
+
+-- ---- an item behind others
+
+two_ways : (b : Bool) → (b ≡ true) ⊎ (b ≡ false)
+two_ways true = inl refl
+two_ways false = inr refl
+
+permitted_or_not : (f : Format) (sandbox end : ℕ) (x : Item) → IsPermitted f x ⊎ ((e : RewriteFault) × HasFault f sandbox end x e)
+permitted_or_not f sandbox end x =
+    elim (two_ways (item_names_withheld x.body)) [
+      | inl names ↦ inr (fault.ReservedRegister x.line, (names, refl))
+      | inr none ↦ elim (two_ways (is_ecall x.body)) [
+        | inl calls ↦ inr (fault.Ecall x.line, (none, calls, refl))
+        | inr no ↦ elim (two_ways (is_stack_write f x.body)) [
+          | inl writes ↦ inr (fault.StackWrite x.line, (none, no, writes, refl))
+          | inr not ↦ inl (record { operands = none; no_ecall = no; no_stack_write = not })
+        ]
+      ]
+    ]
+
+-- the slots with the item's behind them
+record Longer (f : Format) (code : List Slot) (x : Item) : Type 0 where
+  now : List Slot
+  next : HasNext f code x now
+  bundled : InBundles now
+
+next_or_large : SomeFirstForm → (f : Format) (sandbox : ℕ) (code : List Slot) (x : Item) → InBundles code → IsPermitted f x
+    → Longer f code x ⊎ ((e : RewriteFault) × HasFault f sandbox (size_of code) x e)
+next_or_large law f sandbox code x b p =
+    let made = some_expansion law f x in
+    let slots = made.0 in
+    let one = expansion_one f x slots made.1 in
+    let gap = some_gap (size_of code) x.labelled (is_call x.body) (size_of slots) (size_even code) (size_even slots) one.some one.few in
+    let nops = gap.0 in
+    let then = code ++ replicate nops c_nop in
+    elim (cases_lt (size_of code + 2 * nops) (code_most f)) [
+      | inl within ↦
+          inl (record {
+            now = then ++ slots;
+            next = has_next f x code then (then ++ slots) slots slots (is_call x.body) (size_of code) (size_of slots) nops made.1 refl refl refl refl gap.1 refl refl within;
+            bundled = push then slots (push_nops nops code b) (fits_bundle code then x.labelled (is_call x.body) (size_of code) (size_of slots) nops refl gap.1 refl);
+          })
+      | inr beyond ↦
+          inr (fault.TooLarge sandbox,
+          (p, too_large f x code slots slots (is_call x.body) (size_of code) (size_of slots) nops made.1 refl refl refl refl gap.1 beyond, refl))
+    ]
+
+-- ---- all items
+
+-- the items have no fault, and their slots are in bundles
+record Laid (f : Format) (items : List Item) : Type 0 where
+  code : List Slot
+  faultless : AreFaultless f items code
+  bundled : InBundles code
+
+any_item : Item
+any_item = record { line = 0; labelled = false; rvc = false; body = Plain Ecall }
+
+same_there : {X : Type 0} (xs : List X) (k : ℕ) (d : X) → k < length xs → get_or xs k d ≡ get_or xs k (get_or xs k d)
+same_there xs k d lt = let e : Some (get_or xs k d) ≡ Some (get_or xs k (get_or xs k d)) = sym (slice_get-get_or xs k d lt) ∙ slice_get-get_or xs k (get_or xs k d) lt in cc
+
+items_on : SomeFirstForm → (f : Format) (sandbox : ℕ) (items : List Item) (d k : ℕ) → k + d ≡ length items → Laid f (take k items)
+    → Laid f items ⊎ ((e : RewriteFault) × IsItemFault f sandbox items e)
+items_on law f sandbox items zero k all l = inl (subst (Laid f) (take_all k items (omega arith)) l)
+items_on law f sandbox items (suc d) k all l =
+    let lt : k < length items = omega arith in
+    let x = get_or items k any_item in
+    let there = slice_get-get_or items k any_item lt in
+    elim (permitted_or_not f sandbox (size_of l.code) x) [
+      | inr wrong ↦ inr (wrong.0, record { index = k; item = x; at = there; before = l.code; faultless = l.faultless; has = wrong.1 })
+      | inl right ↦ elim (next_or_large law f sandbox l.code x l.bundled right) [
+        | inr wrong ↦ inr (wrong.0, record { index = k; item = x; at = there; before = l.code; faultless = l.faultless; has = wrong.1 })
+        | inl longer ↦
+            items_on law f sandbox items d (k + 1) (omega arith)
+            (record {
+              code = longer.now;
+              faultless = one_more f items k x l.code longer.now lt (same_there items k any_item lt) l.faultless right longer.next;
+              bundled = longer.bundled;
+            })
+      ]
+    ]
+
+laid_or_fault : SomeFirstForm → (f : Format) (sandbox : ℕ) (items : List Item) → Laid f items ⊎ ((e : RewriteFault) × IsItemFault f sandbox items e)
+laid_or_fault law f sandbox items =
+    items_on law f sandbox items (length items) 0 (omega arith) (record { code = []; faultless = none_faultless f items [] refl; bundled = none_in_bundles })
+
+-- ---- a sandbox
+
+some_name : (f : Format) (items : List Item) (slots : List Slot) → AreLaid f items slots → (n : Named) → (name : PlacedName) × IsPlacedName f items n name
+some_name f items slots l (Gate k) = (placed.Gate k, refl)
+some_name f items slots l (Code k) =
+    let s = laid_split f 0 items k slots l in
+    (placed.Code (next_bundle (size_of s.front)), (next_bundle (size_of s.front), (s.front, s.before, refl), refl))
+some_name f items slots l (Data offset) = (placed.Data offset, refl)
+some_name f items slots l Unknown = (placed.Unknown, refl)
+
+some_names : (f : Format) (items : List Item) (slots : List Slot) → AreLaid f items slots → (names : List Named) → (found : List PlacedName) × AllZip (IsPlacedName f items) names found
+some_names f items slots l [] = ([], tt)
+some_names f items slots l (n ∷ names) =
+    let one = some_name f items slots l n in
+    let rest = some_names f items slots l names in
+    (one.0 ∷ rest.0, (one.1, rest.1))
+
+is_label : (n : Named) (k : ℕ) → (n ≡ Code k) ⊎ (n ≡ Code k → ⊥)
+is_label (Code j) k = elim (cases_eq j k) [ inl e ↦ inl (ap Code e) | inr differ ↦ inr (λ e. differ cc) ]
+is_label (Gate j) k = inr (λ e. absurd cc)
+is_label (Data offset) k = inr (λ e. absurd cc)
+is_label Unknown k = inr (λ e. absurd cc)
+
+label_or_none : (names : List Named) (k : ℕ) → Contains names (Code k) ⊎ (Contains names (Code k) → ⊥)
+label_or_none [] k = inr (λ c. let lt = c.1 in omega arith)
+label_or_none (n ∷ names) k =
+    elim (is_label n k) [
+      | inl is ↦ inl (0, omega arith, is)
+      | inr other ↦ elim (label_or_none names k) [
+        | inl later ↦ inl (Contains-append_right (n ∷ []) names (Code k) later)
+        | inr none ↦ inr (λ c. none (Contains-tail n names (Code k) other c))
+      ]
+    ]
+
+some_end : (end : ℕ) (labelled : Type 0) → end % 2 ≡ 0 → labelled ⊎ (labelled → ⊥) → (nops : ℕ) × FillsEnd end labelled nops
+some_end end labelled even (inl is) =
+    let at : end + 2 * ((next_bundle end - end) / 2) ≡ next_bundle end = omega arith in
+    ((next_bundle end - end) / 2, record { enough = λ h. omega arith; fewest = λ n enough. let far = enough is in omega arith })
+some_end end labelled even (inr not) = (0, record { enough = λ h. absurd (not h); fewest = λ n enough. omega arith })
+
+part_made : (s : Sandbox) → Laid s.format s.items → (p : Placement) × IsRewritten s p
+part_made s l =
+    let laid = l.faultless.laid in
+    let end = some_end (size_of l.code) (HasEndLabel s) (size_even l.code) (label_or_none (named s) (length s.items)) in
+    let whole = finish (l.code ++ replicate end.0 c_nop) (push_nops end.0 l.code l.bundled) in
+    let names = some_names s.format s.items l.code laid (named s) in
+    (
+      record { format = s.format; data_size = s.data_size; gates = s.gates; names = names.0; bytes = s.bytes; bundles = whole.bundles },
+      record {
+        faultless = record { slots = l.code; items = l.faultless };
+        placement = record {
+          format = refl;
+          data_size = refl;
+          gates = refl;
+          bytes = refl;
+          names = names.1;
+          slots = l.code;
+          laid = laid;
+          nops = end.0;
+          end = end.1;
+          code = whole.whole;
+          bundles = whole.right;
+        };
+      },
+    )
+
+-- ---- all sandboxes
+
+any_sandbox : Sandbox
+any_sandbox = record { format = Sfi1; data_size = 0; gates = []; names = []; items = []; bytes = [] }
+
+sandboxes_on : SomeFirstForm → (source : List Sandbox) (d k : ℕ) (placed : List Placement) → k + d ≡ length source → AllZip IsRewritten (take k source) placed
+    → ((all : List Placement) × AreRewritten source all) ⊎ ((e : RewriteFault) × IsSourceFault source e)
+sandboxes_on law source zero k placed all z = inl (placed, subst (λ (v : List Sandbox). AllZip IsRewritten v placed) (take_all k source (omega arith)) z)
+sandboxes_on law source (suc d) k placed all z =
+    let lt : k < length source = omega arith in
+    let s = get_or source k any_sandbox in
+    let same = same_there source k any_sandbox lt in
+    elim (laid_or_fault law s.format k s.items) [
+      | inr wrong ↦ inr (wrong.0, faulty source k k s placed wrong.0 lt same z refl wrong.1)
+      | inl laid ↦
+          let made = part_made s laid in
+          sandboxes_on law source d (k + 1) (placed ++ made.0 ∷ []) (omega arith) (parts_push source k s placed (placed ++ made.0 ∷ []) made.0 lt same z made.1 refl)
+    ]
+
+pub some_rewriting : SomeFirstForm → SomeRewriting
+some_rewriting law source = sandboxes_on law source (length source) 0 [] (omega arith) tt
