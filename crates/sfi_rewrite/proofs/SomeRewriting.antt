@@ -1,7 +1,7 @@
 -- A source is rewritten, or has a fault.
 use Rattle.std.proofs.Common.{◌≡◌, ℕ, zero, suc, ◌+◌, ◌-◌, ◌*◌, ◌/◌, ◌%◌, ◌<◌, ◌≤◌, List, [], ◌∷◌, ◌++◌, length, take, get_or, replicate, Some, refl, sym, ap, ◌∙◌, subst, arith, append_assoc, append-nil, inl, inr, ◌⊎◌}
-use Rattle.std.specs.Prelude.{ℤ, Bool, true, false, MatchBool, IsTrue, Contains, slice_get}
-use Rattle.std.specs.List.{All, AllZip}
+use Rattle.std.specs.Prelude.{Bool, true, false, MatchBool, Contains}
+use Rattle.std.specs.List.{AllZip}
 use Rattle.std.proofs.lemmas.Bool.{cases_lt, cases_eq}
 use Rattle.std.proofs.lemmas.List.{take_all}
 use Rattle.std.proofs.lemmas.List.Elements.{Contains-append_right}
@@ -30,13 +30,13 @@ use Rattle.sfi_rewrite.specs.Stack.{writes_stack, is_on_stack, is_stack_write, s
 use Rattle.sfi_rewrite.specs.Registers.{item_names_withheld, is_ecall}
 use Rattle.sfi_rewrite.specs.Expansion.{data_pair, jump_slots, IsAlone, IsMasked, IsExpansionOf, IsExpansion, is_call}
 use Rattle.sfi_rewrite.specs.Places.{next_bundle, FillsGap, AreLaid}
-use Rattle.sfi_rewrite.specs.Placement.{Placement, IsPlacedName, HasEndLabel, FillsEnd, AreBundles, IsPlacement}
+use Rattle.sfi_rewrite.specs.Placement.{Placement, IsPlacedName, HasEndLabel, FillsEnd, AreBundles}
 use Rattle.sfi_rewrite.specs.Filling.{IsFilled, HasNext}
-use Rattle.sfi_rewrite.specs.Faults.{IsPermitted, AreFaultless, HasFault, IsItemFault, IsFaultless, IsSourceFault}
+use Rattle.sfi_rewrite.specs.Faults.{IsPermitted, AreFaultless, HasFault, IsItemFault, IsSourceFault}
 use Rattle.sfi_rewrite.specs.Rewriting.{IsRewritten, AreRewritten}
 use Rattle.sfi_rewrite.specs.Laws.{SomeRewriting}
 use Rattle.sfi_rewrite.proofs.Sizes.{size_even}
-use Rattle.sfi_rewrite.proofs.Expansions.{IsOne, expansion_one}
+use Rattle.sfi_rewrite.proofs.Expansions.{expansion_one}
 use Rattle.sfi_rewrite.proofs.Bundles.{slots_of-push, filled_in, filled_up, none_filled, fits_at, full_are_bundles, finished, nop_fits}
 use Rattle.sfi_rewrite.proofs.Laid.{laid_split}
 use Rattle.sfi_rewrite.proofs.OneByOne.{too_large, fits_bundle, has_next, none_faultless, one_more}
@@ -83,56 +83,71 @@ some_expansion law f x = some_expansion_of law f x.line x.rvc x.body
 
 -- ---- its place
 
+not_so : false ≡ true → ⊥
+not_so e = cc
+
 -- where neither a label nor a call asks for more
 gap_free : (end size : ℕ) → end % 2 ≡ 0 → size ≤ 16 → (nops : ℕ) × FillsGap end false false size nops
 gap_free end size even few =
     elim (cases_lt 16 (end % 16 + size)) [
       | inl over ↦
           let nops = (16 - end % 16) / 2 in
-          let at : end + 2 * ((16 - end % 16) / 2) ≡ end - end % 16 + 16 = omega arith in
-          (nops, record {
-            stands = record { behind = omega arith; at_label = λ t. absurd t; in_bundle = omega arith; returns = λ t. absurd t };
-            first = λ here m. let a = m.behind in let b = m.in_bundle in omega arith;
-          })
-      | inr within ↦
-          (0, record {
-            stands = record { behind = omega arith; at_label = λ t. absurd t; in_bundle = omega arith; returns = λ t. absurd t };
-            first = λ here m. let a = m.behind in omega arith;
-          })
+          let at : end + 2 * ((16 - end % 16) / 2) ≡ end - end % 16 + 16 = omega arith in (
+            nops,
+            record {
+              stands = record { behind = omega arith; at_label = λ t. absurd (not_so t); in_bundle = omega arith; returns = λ t. absurd (not_so t) };
+              first = λ here m. let a = m.behind in let b = m.in_bundle in omega arith;
+            },
+          )
+      | inr within ↦ (
+        0,
+        record {
+          stands = record { behind = omega arith; at_label = λ t. absurd (not_so t); in_bundle = omega arith; returns = λ t. absurd (not_so t) };
+          first = λ here m. let a = m.behind in omega arith;
+        },
+      )
     ]
 
 gap_labelled : (end size : ℕ) → end % 2 ≡ 0 → size ≤ 16 → (nops : ℕ) × FillsGap end true false size nops
 gap_labelled end size even few =
-    let at : end + 2 * ((next_bundle end - end) / 2) ≡ next_bundle end = omega arith in
-    ((next_bundle end - end) / 2, record {
-      stands = record { behind = omega arith; at_label = λ t. omega arith; in_bundle = omega arith; returns = λ t. absurd t };
-      first = λ here m. let a = m.at_label tt in omega arith;
-    })
+    let at : end + 2 * ((next_bundle end - end) / 2) ≡ next_bundle end = omega arith in (
+      (next_bundle end - end) / 2,
+      record {
+        stands = record { behind = omega arith; at_label = λ t. omega arith; in_bundle = omega arith; returns = λ t. absurd (not_so t) };
+        first = λ here m. let a = m.at_label refl in omega arith;
+      },
+    )
 
 gap_call : (end size : ℕ) → end % 2 ≡ 0 → size % 2 ≡ 0 → 0 < size → size ≤ 16 → (nops : ℕ) × FillsGap end false true size nops
 gap_call end size even even_size some few =
     elim (cases_lt 16 (end % 16 + size)) [
       | inl over ↦
-          let at : end + 2 * ((32 - size - end % 16) / 2) ≡ end - end % 16 + (32 - size) = omega arith in
-          ((32 - size - end % 16) / 2, record {
-            stands = record { behind = omega arith; at_label = λ t. absurd t; in_bundle = omega arith; returns = λ t. omega arith };
-            first = λ here m. let a = m.behind in let b = m.in_bundle in let c = m.returns tt in omega arith;
-          })
+          let at : end + 2 * ((32 - size - end % 16) / 2) ≡ end - end % 16 + (32 - size) = omega arith in (
+            (32 - size - end % 16) / 2,
+            record {
+              stands = record { behind = omega arith; at_label = λ t. absurd (not_so t); in_bundle = omega arith; returns = λ t. omega arith };
+              first = λ here m. let a = m.behind in let b = m.in_bundle in let c = m.returns refl in omega arith;
+            },
+          )
       | inr within ↦
-          let at : end + 2 * ((16 - size - end % 16) / 2) ≡ end - end % 16 + (16 - size) = omega arith in
-          ((16 - size - end % 16) / 2, record {
-            stands = record { behind = omega arith; at_label = λ t. absurd t; in_bundle = omega arith; returns = λ t. omega arith };
-            first = λ here m. let a = m.behind in let b = m.in_bundle in let c = m.returns tt in omega arith;
-          })
+          let at : end + 2 * ((16 - size - end % 16) / 2) ≡ end - end % 16 + (16 - size) = omega arith in (
+            (16 - size - end % 16) / 2,
+            record {
+              stands = record { behind = omega arith; at_label = λ t. absurd (not_so t); in_bundle = omega arith; returns = λ t. omega arith };
+              first = λ here m. let a = m.behind in let b = m.in_bundle in let c = m.returns refl in omega arith;
+            },
+          )
     ]
 
 gap_both : (end size : ℕ) → end % 2 ≡ 0 → size % 2 ≡ 0 → 0 < size → size ≤ 16 → (nops : ℕ) × FillsGap end true true size nops
 gap_both end size even even_size some few =
-    let at : end + 2 * ((next_bundle end + (16 - size) - end) / 2) ≡ next_bundle end + (16 - size) = omega arith in
-    ((next_bundle end + (16 - size) - end) / 2, record {
-      stands = record { behind = omega arith; at_label = λ t. omega arith; in_bundle = omega arith; returns = λ t. omega arith };
-      first = λ here m. let a = m.at_label tt in let b = m.in_bundle in let c = m.returns tt in omega arith;
-    })
+    let at : end + 2 * ((next_bundle end + (16 - size) - end) / 2) ≡ next_bundle end + (16 - size) = omega arith in (
+      (next_bundle end + (16 - size) - end) / 2,
+      record {
+        stands = record { behind = omega arith; at_label = λ t. omega arith; in_bundle = omega arith; returns = λ t. omega arith };
+        first = λ here m. let a = m.at_label refl in let b = m.in_bundle in let c = m.returns refl in omega arith;
+      },
+    )
 
 some_gap : (end : ℕ) (labelled call : Bool) (size : ℕ) → end % 2 ≡ 0 → size % 2 ≡ 0 → 0 < size → size ≤ 16 → (nops : ℕ) × FillsGap end labelled call size nops
 some_gap end false false size even even_size some few = gap_free end size even few
@@ -217,9 +232,9 @@ permitted_or_not f sandbox end x =
       | inl names ↦ inr (fault.ReservedRegister x.line, (names, refl))
       | inr none ↦ elim (two_ways (is_ecall x.body)) [
         | inl calls ↦ inr (fault.Ecall x.line, (none, calls, refl))
-        | inr no ↦ elim (two_ways (is_stack_write f x.body)) [
-          | inl writes ↦ inr (fault.StackWrite x.line, (none, no, writes, refl))
-          | inr not ↦ inl (record { operands = none; no_ecall = no; no_stack_write = not })
+        | inr quiet ↦ elim (two_ways (is_stack_write f x.body)) [
+          | inl writes ↦ inr (fault.StackWrite x.line, (none, quiet, writes, refl))
+          | inr not ↦ inl (record { operands = none; no_ecall = quiet; no_stack_write = not })
         ]
       ]
     ]
@@ -247,8 +262,10 @@ next_or_large law f sandbox code x b p =
             bundled = push then slots (push_nops nops code b) (fits_bundle code then x.labelled (is_call x.body) (size_of code) (size_of slots) nops refl gap.1 refl);
           })
       | inr beyond ↦
-          inr (fault.TooLarge sandbox,
-          (p, too_large f x code slots slots (is_call x.body) (size_of code) (size_of slots) nops made.1 refl refl refl refl gap.1 beyond, refl))
+          inr (
+            fault.TooLarge sandbox,
+            (p, too_large f x code slots slots (is_call x.body) (size_of code) (size_of slots) nops made.1 refl refl refl refl gap.1 beyond, refl),
+          )
     ]
 
 -- ---- all items
@@ -335,8 +352,7 @@ part_made s l =
     let laid = l.faultless.laid in
     let end = some_end (size_of l.code) (HasEndLabel s) (size_even l.code) (label_or_none (named s) (length s.items)) in
     let whole = finish (l.code ++ replicate end.0 c_nop) (push_nops end.0 l.code l.bundled) in
-    let names = some_names s.format s.items l.code laid (named s) in
-    (
+    let names = some_names s.format s.items l.code laid (named s) in (
       record { format = s.format; data_size = s.data_size; gates = s.gates; names = names.0; bytes = s.bytes; bundles = whole.bundles },
       record {
         faultless = record { slots = l.code; items = l.faultless };
