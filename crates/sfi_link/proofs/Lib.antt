@@ -12,3 +12,4 @@ pub mod RunsAs
 pub mod OneLinking
 pub mod Pushed
 pub mod Linking
+pub mod SomeLinking

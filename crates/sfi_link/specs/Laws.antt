@@ -1,5 +1,5 @@
 -- What holds of all that is placed.
-use Rattle.std.specs.Prelude.{◌≡◌, ℕ, ◌<◌, ◌≤◌, List, [], length}
+use Rattle.std.specs.Prelude.{◌≡◌, ◌⊎◌, ℕ, ◌<◌, ◌≤◌, List, [], length}
 use Rattle.sfi_image.specs.Spelling.{Part}
 use Rattle.sfi_image.specs.Parts.{IsRightLayout}
 use Rattle.sfi_scan.specs.Findings.{AreFindings}
@@ -39,3 +39,7 @@ abbrev pub NeverBoth : Type 0
 NeverBoth =
     (placed : List Placement) (parts : List Part) (f : LinkFault)
     → length placed ≤ sandboxes_most → AreLinked placed parts → IsLinkFault placed f → ⊥
+
+-- what is placed has an image or a fault
+abbrev pub SomeLinking : Type 0
+SomeLinking = (placed : List Placement) → IsPlaced placed → ((bytes : List ℕ) × IsLinkedImage placed bytes) ⊎ ((f : LinkFault) × IsLinkFault placed f)

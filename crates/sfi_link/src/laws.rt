@@ -1,5 +1,5 @@
 //! What holds of all that is placed. A call costs nothing.
-ghost use Rattle.sfi_link.specs.Laws.{LinkedIsClean, LinkedIsRight, OneLinking, OneImage, OneFault, NeverBoth, ImageOrFault};
+ghost use Rattle.sfi_link.specs.Laws.{LinkedIsClean, LinkedIsRight, OneLinking, OneImage, OneFault, NeverBoth, ImageOrFault, SomeLinking};
 ghost use Rattle.sfi_link.specs.Standing.{LinkedSlotsStand, LinkedRunsAs, LinkedImagesRunAs};
 
 use rv_comp::laws::{one_spelling, two_lengths};
@@ -31,6 +31,14 @@ pub fn one_linking()
     ensures either { NeverBoth }
     ensures image_or_fault { ImageOrFault }
 {}
+
+/// What is placed has an image, or a fault. So where a call of `link` runs out of memory, more memory would bring an answer.
+pub fn some_linking()
+    ensures { SomeLinking }
+{
+    linked_is_clean();
+    linked_is_right();
+}
 
 /// Where a memory holds the bytes that are linked for slots, the slots stand.
 pub fn linked_slots_stand()
