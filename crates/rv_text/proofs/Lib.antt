@@ -24,3 +24,6 @@ pub mod Lines
 pub mod Longest
 pub mod Printing
 pub mod RoundTrip
+pub mod Deciding
+pub mod SomeStatement
+pub mod SomeSource

@@ -1,5 +1,5 @@
 -- Laws of the text of an instruction, and of the text of a source.
-use Rattle.std.specs.Prelude.{◌≡◌, ℕ, ◌*◌, List, ℤ, pos, ◌+ℤ◌}
+use Rattle.std.specs.Prelude.{◌≡◌, ◌⊎◌, ℕ, ◌*◌, List, ℤ, pos, ◌+ℤ◌}
 use Rattle.rv_word.specs.declared.instr.Instr.{Instr}
 use Rattle.rv_word.specs.Numbers.{modulo}
 use Rattle.rv_word.specs.Spelling.{InRange}
@@ -24,6 +24,10 @@ OneCause = (text : List ℕ) (e f : TextCause) → Refused text e → Refused te
 -- a text that means an instruction is refused for no cause
 abbrev pub MeantIsNotRefused : Type 0
 MeantIsNotRefused = (text : List ℕ) (i : Instr) (e : TextCause) → Means text i → Refused text e → ⊥
+
+-- each text means an instruction or is refused
+abbrev pub SomeMeaning : Type 0
+SomeMeaning = (text : List ℕ) → ((i : Instr) × Means text i) ⊎ ((e : TextCause) × Refused text e)
 
 -- what a text means is in range, so that a word spells it
 abbrev pub MeaningsAreInRange : Type 0
@@ -53,6 +57,10 @@ OneSource = (text : List ℕ) (p q : List Sandbox) → MeansSource text p → Me
 -- a text has one fault at most
 abbrev pub OneFault : Type 0
 OneFault = (text : List ℕ) (f g : TextFault) → IsFault text f → IsFault text g → f ≡ g
+
+-- each text means a source or has a fault
+abbrev pub SomeSource : Type 0
+SomeSource = (text : List ℕ) → ((parts : List Sandbox) × MeansSource text parts) ⊎ ((f : TextFault) × IsFault text f)
 
 -- a text that means a source has no fault
 abbrev pub MeantHasNoFault : Type 0

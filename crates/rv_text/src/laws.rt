@@ -1,5 +1,5 @@
 //! Laws of the text of instructions and of sources. A caller calls one to have its statement at hand.
-ghost use Rattle.rv_text.specs.Laws.{OneMeaning, OneCause, MeantIsNotRefused, MeaningsAreInRange, PrintedReadsBack, LeadsOnce, LeadingIsNotRefused, RefusedOnce, OneSource, OneFault, MeantHasNoFault, SourcesAreRight, ConstantsAddUp};
+ghost use Rattle.rv_text.specs.Laws.{OneMeaning, OneCause, MeantIsNotRefused, SomeMeaning, MeaningsAreInRange, PrintedReadsBack, LeadsOnce, LeadingIsNotRefused, RefusedOnce, OneSource, OneFault, MeantHasNoFault, SomeSource, SourcesAreRight, ConstantsAddUp};
 
 /// A text means one instruction at most.
 pub fn one_meaning()
@@ -14,6 +14,11 @@ pub fn one_cause()
 /// A text that means an instruction is refused for no cause.
 pub fn meant_is_not_refused()
     ensures { MeantIsNotRefused }
+{}
+
+/// A text means an instruction, or is refused.
+pub fn some_meaning()
+    ensures { SomeMeaning }
 {}
 
 /// What a text means is in range, so that a word spells it.
@@ -54,6 +59,11 @@ pub fn one_fault()
 /// A text that means a source has no fault.
 pub fn meant_has_no_fault()
     ensures { MeantHasNoFault }
+{}
+
+/// A text means a source, or has a fault. So where a call of `parse_source` runs out of memory, more memory would bring an answer.
+pub fn some_source()
+    ensures { SomeSource }
 {}
 
 /// What a text means is within its limits, and its names, gates and instructions fit each other.

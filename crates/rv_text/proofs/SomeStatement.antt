@@ -1,0 +1,321 @@
+-- The text behind a keyword states something, or is refused.
+use Rattle.std.proofs.Common.{◌≡◌, ◌≢◌, ℕ, zero, suc, ◌≤◌, true, List, [], ◌∷◌, length, ◌⊎◌, inl, inr, refl, sym, arith, ℤ, pos, negsuc}
+use Rattle.std.specs.Prelude.{IsTrue, codes}
+use Rattle.std.specs.List.{flat_map}
+use Rattle.std.proofs.lemmas.Int.{ints}
+use Rattle.rv_word.specs.declared.instr.Instr.{Instr}
+use Rattle.rv_word.specs.declared.instr.Instr.TheVariants as instr
+use Rattle.rv_word.specs.Numbers.{IsBetween}
+use Rattle.rv_text.specs.declared.cause.TextCause.{TextCause}
+use Rattle.rv_text.specs.declared.cause.TextCause.TheVariants as cause
+use Rattle.rv_text.specs.declared.mnemonic.Mnemonic.{Mnemonic}
+use Rattle.rv_text.specs.declared.mnemonic.Mnemonic.TheVariants as mnemonic
+use Rattle.rv_text.specs.declared.form.NumberKind.{NumberKind}
+use Rattle.rv_text.specs.declared.form.Part.{Part}
+use Rattle.rv_text.specs.declared.form.Part.TheVariants.{Rd, Rs1, Rs2, Number, Name, Mode, Comma, Open, Close}
+use Rattle.rv_text.specs.declared.keyword.Directive.{Directive}
+use Rattle.rv_text.specs.declared.keyword.Directive.TheVariants as directive
+use Rattle.rv_text.specs.declared.keyword.Pseudo.{Pseudo}
+use Rattle.rv_text.specs.declared.keyword.Pseudo.TheVariants.{Nop, Ret, Li, Mv, Jr, J, Call, Beqz, Bnez, La}
+use Rattle.rv_text.specs.declared.keyword.DataWidth.{DataWidth}
+use Rattle.rv_text.specs.declared.keyword.Keyword.{Keyword}
+use Rattle.rv_text.specs.declared.keyword.Keyword.TheVariants as keyword
+use Rattle.rv_text.specs.Tokens.{IsBlank}
+use Rattle.rv_text.specs.Forms.{form_of}
+use Rattle.rv_text.specs.Constants.{data_bytes}
+use Rattle.rv_text.specs.Operands.{OperandValues, Departs, part_cause}
+use Rattle.rv_text.specs.Statement.{mnemonic_of, operands, operands_of, full_fence, IsBareFence, OperandsDepart}
+use Rattle.rv_text.specs.Reading.{Reads, SameAt, AgreesOn, AllSuit, FollowsName, slot, is_fresh, has_no_repeat}
+use Rattle.rv_text.specs.Keywords.{directive_form, directive_states, pseudo_form, pseudo_states, branch_form, branch_states, jal_form, jal_states, data_kind}
+use Rattle.rv_text.specs.Lines.{StatesBehind, LeadsByMore, NumberDeparts, ListDeparts, InstrDeparts, RefusedWith}
+use Rattle.rv_text.specs.Lists.{ReadsNumber, MoreDepartsBehind, ReadsRow, ReadsInstr, ReadsList, ReadsBehind}
+use Rattle.rv_text.specs.Stated.{Stated, within, plain, bytes}
+use Rattle.rv_text.proofs.Forms.{stands_by_operand, reads_part, more_has_no_repeat, keeps_part, reads_fit}
+use Rattle.rv_text.proofs.Lines.{reads_states}
+use Rattle.rv_text.proofs.Meaning.{follows}
+use Rattle.rv_text.proofs.Taking.{takes_shorter}
+use Rattle.rv_text.proofs.Deciding.{Decided, decided_both, decided_same, next, blank_or_not, written_or_not, stands_or_not}
+
+-- ---- the operands of a form
+
+-- the operands, with the first's at this part
+abbrev put : Part → OperandValues → OperandValues → OperandValues
+put Rd first o = record o { rd = first.rd }
+put Rs1 first o = record o { rs1 = first.rs1 }
+put Rs2 first o = record o { rs2 = first.rs2 }
+put (Number kind) first o = record o { number = first.number }
+put Name first o = record o { name = first.name }
+put Mode first o = record o { compressed = first.compressed }
+put Comma first o = o
+put Open first o = o
+put Close first o = o
+
+put_same : (part : Part) (first o : OperandValues) → SameAt part (put part first o) first
+put_same Rd first o = refl
+put_same Rs1 first o = refl
+put_same Rs2 first o = refl
+put_same (Number kind) first o = refl
+put_same Name first o = refl
+put_same Mode first o = refl
+put_same Comma first o = tt
+put_same Open first o = tt
+put_same Close first o = tt
+
+put_others : (part p : Part) (first o : OperandValues) → slot p ≢ slot part → SameAt p (put part first o) o
+put_others part Comma first o h = tt
+put_others part Open first o h = tt
+put_others part Close first o h = tt
+put_others Rd Rd first o h = absurd (h refl)
+put_others part Rd first o h = refl
+put_others Rs1 Rs1 first o h = absurd (h refl)
+put_others part Rs1 first o h = refl
+put_others Rs2 Rs2 first o h = absurd (h refl)
+put_others part Rs2 first o h = refl
+put_others (Number kind) (Number other) first o h = absurd (h refl)
+put_others part (Number other) first o h = refl
+put_others Name Name first o h = absurd (h refl)
+put_others part Name first o h = refl
+put_others Mode Mode first o h = absurd (h refl)
+put_others part Mode first o h = refl
+
+same_self : (part : Part) (o : OperandValues) → SameAt part o o
+same_self Rd o = refl
+same_self Rs1 o = refl
+same_self Rs2 o = refl
+same_self (Number kind) o = refl
+same_self Name o = refl
+same_self Mode o = refl
+same_self Comma o = tt
+same_self Open o = tt
+same_self Close o = tt
+
+-- the operands that the text gives at the form, which keep the old ones elsewhere
+record Filled (old : OperandValues) (form : List Part) (text : List ℕ) : Type 0 where
+  all : OperandValues
+  reads : Reads all form text
+  keeps : (p : Part) → IsTrue (is_fresh p form) → SameAt p all old
+
+fill_or_depart : (old : OperandValues) (form : List Part) (text : List ℕ) → has_no_repeat form ≡ true → Filled old form text ⊎ ((e : TextCause) × Departs form text e)
+fill_or_depart old [] text fresh =
+    elim (next text) [
+      | inl (token, rest, takes) ↦ inr (cause.Operands, inr (token, rest, takes, refl))
+      | inr (inl blank) ↦ inl (record { all = old; reads = blank; keeps = λ p f. same_self p old })
+      | inr (inr stuck) ↦ inr (cause.Word, inl (stuck, refl))
+    ]
+fill_or_depart old (part ∷ form) text fresh =
+    elim (next text) [
+      | inr (inl blank) ↦ inr (cause.Operands, inr (inl (blank, refl)))
+      | inr (inr stuck) ↦ inr (cause.Word, inl (stuck, refl))
+      | inl (token, rest, takes) ↦ elim (stands_or_not part token) [
+        | inr none ↦ inr (part_cause part token, inr (inr (token, rest, takes, inl (none, refl))))
+        | inl (one, stands) ↦
+            let first = put part one old in
+            elim (fill_or_depart first form rest (more_has_no_repeat part form fresh)) [
+              | inr (e, departs) ↦ inr (e, inr (inr (token, rest, takes, inr (one, stands, departs))))
+              | inl filled ↦
+                  inl (record {
+                    all = filled.all;
+                    reads = reads_part first filled.all part form text token rest fresh takes (stands_by_operand first one part token (put_same part one old) stands) filled.reads filled.keeps;
+                    keeps = keeps_part old first filled.all part form (λ p differs. put_others part p one old differs) filled.keeps;
+                  })
+            ]
+      ]
+    ]
+
+read_or_depart : (form : List Part) (text : List ℕ) → has_no_repeat form ≡ true → ((o : OperandValues) × Reads o form text) ⊎ ((e : TextCause) × Departs form text e)
+read_or_depart form text fresh =
+    elim (fill_or_depart (operands 0 0 0 (pos 0)) form text fresh) [
+      | inl filled ↦ inl (filled.all, filled.reads)
+      | inr departs ↦ inr departs
+    ]
+
+row_or_depart : (form : List Part) (states : OperandValues → Stated) (text : List ℕ) → has_no_repeat form ≡ true → ((s : Stated) × ReadsRow form states text s) ⊎ ((e : TextCause) × Departs form text e)
+row_or_depart form states text fresh =
+    elim (read_or_depart form text fresh) [
+      | inl (o, reads) ↦ inl (states o, (o, reads, refl))
+      | inr departs ↦ inr departs
+    ]
+
+-- ---- an instruction
+
+-- the instruction of a name with operands that fit its form
+record Made (name : Mnemonic) (o : OperandValues) : Type 0 where
+  instr : Instr
+  named : mnemonic_of instr ≡ name
+  agrees : AgreesOn (form_of name) (operands_of instr) o
+
+upper_made : (z : ℤ) → IsBetween (pos 0) (pos 1048575) z → (n : ℕ) × (pos n ≡ z)
+upper_made (pos n) h = (n, refl)
+upper_made (negsuc n) h = let low = h.0 in absurd (omega (arith, ints))
+
+fence_made : (z : ℤ) → IsBetween (pos 0) (pos 4095) z → (n : ℕ) × (pos n ≡ z)
+fence_made (pos n) h = (n, refl)
+fence_made (negsuc n) h = let low = h.0 in absurd (omega (arith, ints))
+
+made : (name : Mnemonic) (o : OperandValues) → AllSuit o (form_of name) → Made name o
+made (mnemonic.Op op) o h = record { instr = instr.Op op o.rd o.rs1 o.rs2; named = refl; agrees = (refl, (tt, (refl, (tt, (refl, tt))))) }
+made (mnemonic.OpImm op) o h = record { instr = instr.OpImm op o.rd o.rs1 o.number; named = refl; agrees = (refl, (tt, (refl, (tt, (refl, tt))))) }
+made (mnemonic.Load kind) o h = record { instr = instr.Load kind o.rd o.rs1 o.number; named = refl; agrees = (refl, (tt, (refl, (tt, (refl, (tt, tt)))))) }
+made (mnemonic.Store width) o h = record { instr = instr.Store width o.rs1 o.rs2 o.number; named = refl; agrees = (refl, (tt, (refl, (tt, (refl, (tt, tt)))))) }
+made (mnemonic.Branch cond) o h = record { instr = instr.Branch cond o.rs1 o.rs2 o.number; named = refl; agrees = (refl, (tt, (refl, (tt, (refl, tt))))) }
+made mnemonic.Jal o h = record { instr = instr.Jal o.rd o.number; named = refl; agrees = (refl, (tt, (refl, tt))) }
+made mnemonic.Jalr o h = record { instr = instr.Jalr o.rd o.rs1 o.number; named = refl; agrees = (refl, (tt, (refl, (tt, (refl, (tt, tt)))))) }
+made mnemonic.Lui o h = let u = upper_made o.number h.1.1.0 in record { instr = instr.Lui o.rd u.0; named = refl; agrees = (refl, (tt, (u.1, tt))) }
+made mnemonic.Auipc o h = let u = upper_made o.number h.1.1.0 in record { instr = instr.Auipc o.rd u.0; named = refl; agrees = (refl, (tt, (u.1, tt))) }
+made mnemonic.Fence o h = let u = fence_made o.number h.0 in record { instr = instr.Fence u.0 o.rd o.rs1; named = refl; agrees = (u.1, (tt, (refl, (tt, (refl, tt))))) }
+made mnemonic.Ecall o h = record { instr = instr.Ecall; named = refl; agrees = tt }
+made mnemonic.Ebreak o h = record { instr = instr.Ebreak; named = refl; agrees = tt }
+
+no_repeat : (name : Mnemonic) → has_no_repeat (form_of name) ≡ true
+no_repeat (mnemonic.Op op) = refl
+no_repeat (mnemonic.OpImm op) = refl
+no_repeat (mnemonic.Load kind) = refl
+no_repeat (mnemonic.Store width) = refl
+no_repeat (mnemonic.Branch cond) = refl
+no_repeat mnemonic.Jal = refl
+no_repeat mnemonic.Jalr = refl
+no_repeat mnemonic.Lui = refl
+no_repeat mnemonic.Auipc = refl
+no_repeat mnemonic.Fence = refl
+no_repeat mnemonic.Ecall = refl
+no_repeat mnemonic.Ebreak = refl
+
+fence_or_not : (name : Mnemonic) → Decided (name ≡ mnemonic.Fence)
+fence_or_not mnemonic.Fence = inl refl
+fence_or_not (mnemonic.Op op) = inr (λ e. cc)
+fence_or_not (mnemonic.OpImm op) = inr (λ e. cc)
+fence_or_not (mnemonic.Load kind) = inr (λ e. cc)
+fence_or_not (mnemonic.Store width) = inr (λ e. cc)
+fence_or_not (mnemonic.Branch cond) = inr (λ e. cc)
+fence_or_not mnemonic.Jal = inr (λ e. cc)
+fence_or_not mnemonic.Jalr = inr (λ e. cc)
+fence_or_not mnemonic.Lui = inr (λ e. cc)
+fence_or_not mnemonic.Auipc = inr (λ e. cc)
+fence_or_not mnemonic.Ecall = inr (λ e. cc)
+fence_or_not mnemonic.Ebreak = inr (λ e. cc)
+
+bare_or_not : (name : Mnemonic) (text : List ℕ) → Decided (IsBareFence name text)
+bare_or_not name text = decided_both (fence_or_not name) (blank_or_not text)
+
+-- the text behind a name gives its operands, or departs from them
+pub follows_or_departs : (name : Mnemonic) (text : List ℕ) → ((i : Instr) × FollowsName text name i) ⊎ ((e : TextCause) × OperandsDepart name text e)
+follows_or_departs name text =
+    elim (bare_or_not name text) [
+      | inl bare ↦ inl (full_fence, (sym bare.0, inr (refl, bare.1)))
+      | inr other ↦ elim (read_or_depart (form_of name) text (no_repeat name)) [
+        | inr (e, departs) ↦ inr (e, (other, departs))
+        | inl (o, reads) ↦ let m = made name o (reads_fit o (form_of name) text reads) in inl (m.instr, follows text name o m.instr reads m.named m.agrees)
+      ]
+    ]
+
+-- an instruction that goes to no name
+plain_or_departs : (name : Mnemonic) (text : List ℕ) → ((s : Stated) × ((i : Instr) × FollowsName text name i × (s ≡ within (plain (i ∷ []))))) ⊎ ((e : TextCause) × OperandsDepart name text e)
+plain_or_departs name text =
+    elim (follows_or_departs name text) [
+      | inl (i, behind) ↦ inl (within (plain (i ∷ [])), (i, behind, refl))
+      | inr departs ↦ inr departs
+    ]
+
+instr_or_departs : (name : Mnemonic) (text : List ℕ) → ((s : Stated) × ReadsInstr name text s) ⊎ ((e : TextCause) × InstrDeparts name text e)
+instr_or_departs (mnemonic.Branch cond) text = row_or_depart branch_form (branch_states cond) text refl
+instr_or_departs mnemonic.Jal text = row_or_depart jal_form jal_states text refl
+instr_or_departs (mnemonic.Op op) text = plain_or_departs (mnemonic.Op op) text
+instr_or_departs (mnemonic.OpImm op) text = plain_or_departs (mnemonic.OpImm op) text
+instr_or_departs (mnemonic.Load kind) text = plain_or_departs (mnemonic.Load kind) text
+instr_or_departs (mnemonic.Store width) text = plain_or_departs (mnemonic.Store width) text
+instr_or_departs mnemonic.Jalr text = plain_or_departs mnemonic.Jalr text
+instr_or_departs mnemonic.Lui text = plain_or_departs mnemonic.Lui text
+instr_or_departs mnemonic.Auipc text = plain_or_departs mnemonic.Auipc text
+instr_or_departs mnemonic.Fence text = plain_or_departs mnemonic.Fence text
+instr_or_departs mnemonic.Ecall text = plain_or_departs mnemonic.Ecall text
+instr_or_departs mnemonic.Ebreak text = plain_or_departs mnemonic.Ebreak text
+
+-- ---- a list of data
+
+number_or_departs : (kind : NumberKind) (text : List ℕ) → ((z : ℤ) × (rest : List ℕ) × ReadsNumber kind text z rest) ⊎ ((e : TextCause) × NumberDeparts kind text e)
+number_or_departs kind text =
+    elim (next text) [
+      | inr (inl blank) ↦ inr (cause.Operands, inr (inl (blank, refl)))
+      | inr (inr stuck) ↦ inr (cause.Word, inl (stuck, refl))
+      | inl (token, rest, takes) ↦ elim (written_or_not kind token) [
+        | inl (z, writes) ↦ inl (z, rest, (token, takes, writes))
+        | inr none ↦ inr (cause.Number, inr (inr (token, rest, takes, (λ o h. none o.number h.0 h.1, refl))))
+      ]
+    ]
+
+-- numbers, each behind a comma, up to the text's end
+abbrev MoreRead : NumberKind → List ℕ → Type 0
+MoreRead kind text = (numbers : List ℤ) × (last : List ℕ) × LeadsByMore kind numbers text last × IsBlank last
+
+more_or_departs : (n : ℕ) (kind : NumberKind) (text : List ℕ) → length text ≤ n → MoreRead kind text ⊎ ((e : TextCause) × MoreDepartsBehind kind text e)
+more_or_departs zero kind [] short = inl ([], [], refl, tt)
+more_or_departs zero kind (c ∷ cs) short = absurd (omega arith)
+more_or_departs (suc n) kind text short =
+    elim (next text) [
+      | inr (inl blank) ↦ inl ([], text, refl, blank)
+      | inr (inr stuck) ↦ inr (cause.Word, ([], text, refl, inl (stuck, refl)))
+      | inl (comma, after, takes) ↦ elim (decided_same comma (codes ",")) [
+        | inr other ↦ inr (cause.Operands, ([], text, refl, inr (comma, after, takes, inl (λ o h. other h, refl))))
+        | inl is ↦ elim (number_or_departs kind after) [
+          | inr (e, departs) ↦ inr (e, ([], text, refl, inr (comma, after, takes, inr (is, departs))))
+          | inl (z, rest, (token, taken, writes)) ↦
+              let one = takes_shorter takes in
+              let two = takes_shorter taken in
+              elim (more_or_departs n kind rest (omega arith)) [
+                | inl (numbers, last, leads, blank) ↦ inl (z ∷ numbers, last, (comma, after, token, rest, takes, is, taken, writes, leads), blank)
+                | inr (e, (numbers, last, leads, departs)) ↦ inr (e, (z ∷ numbers, last, (comma, after, token, rest, takes, is, taken, writes, leads), departs))
+              ]
+        ]
+      ]
+    ]
+
+list_or_departs : (width : DataWidth) (text : List ℕ) → ((b : List ℕ) × ReadsList width text b) ⊎ ((e : TextCause) × ListDeparts (data_kind width) text e)
+list_or_departs width text =
+    elim (number_or_departs (data_kind width) text) [
+      | inr (e, departs) ↦ inr (e, inl departs)
+      | inl (z, rest, (token, takes, writes)) ↦ elim (more_or_departs (length rest) (data_kind width) rest (omega arith)) [
+        | inr (e, more) ↦ inr (e, inr (token, rest, z, takes, writes, more))
+        | inl (numbers, last, leads, blank) ↦
+            inl (flat_map (data_bytes width) (z ∷ numbers), (z, rest, (token, takes, writes), (numbers, last, leads, blank, refl)))
+      ]
+    ]
+
+-- ---- a keyword
+
+pseudo_no_repeat : (name : Pseudo) → has_no_repeat (pseudo_form name) ≡ true
+pseudo_no_repeat Nop = refl
+pseudo_no_repeat Ret = refl
+pseudo_no_repeat Li = refl
+pseudo_no_repeat Mv = refl
+pseudo_no_repeat Jr = refl
+pseudo_no_repeat J = refl
+pseudo_no_repeat Call = refl
+pseudo_no_repeat Beqz = refl
+pseudo_no_repeat Bnez = refl
+pseudo_no_repeat La = refl
+
+directive_no_repeat : (name : Directive) → has_no_repeat (directive_form name) ≡ true
+directive_no_repeat directive.Format = refl
+directive_no_repeat directive.Sandbox = refl
+directive_no_repeat directive.Gate = refl
+directive_no_repeat directive.Option = refl
+directive_no_repeat directive.Data = refl
+directive_no_repeat directive.Zero = refl
+
+reads_or_refused : (k : Keyword) (text : List ℕ) → ((s : Stated) × ReadsBehind k text s) ⊎ ((e : TextCause) × RefusedWith k text e)
+reads_or_refused (keyword.Instr name) text = instr_or_departs name text
+reads_or_refused (keyword.Pseudo name) text = row_or_depart (pseudo_form name) (pseudo_states name) text (pseudo_no_repeat name)
+reads_or_refused (keyword.Directive name) text = row_or_depart (directive_form name) (directive_states name) text (directive_no_repeat name)
+reads_or_refused (keyword.Numbers width) text =
+    elim (list_or_departs width text) [
+      | inl (b, reads) ↦ inl (within (bytes b), (b, reads, refl))
+      | inr departs ↦ inr departs
+    ]
+
+-- the text behind a keyword states something with it, or is refused
+pub states_or_refused : (k : Keyword) (text : List ℕ) → ((s : Stated) × StatesBehind k text s) ⊎ ((e : TextCause) × RefusedWith k text e)
+states_or_refused k text =
+    elim (reads_or_refused k text) [
+      | inl (s, reads) ↦ inl (s, reads_states k text s reads)
+      | inr refused ↦ inr refused
+    ]
