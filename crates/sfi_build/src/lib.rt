@@ -6,6 +6,7 @@
 
 mod builder;
 mod fault;
+pub mod laws;
 
 pub use builder::build;
 pub use fault::BuildFault;

@@ -184,6 +184,9 @@ placed_part law s p h r =
       names_known = λ k d l. (known k d l).name;
     }
 
+pub placed_parts : OneFirstForm → (source : List Sandbox) (placed : List Placement) → All IsSandbox source → AllZip IsRewritten source placed → All IsPlacedPart placed
+placed_parts law source placed right z = zip_all IsRewritten IsSandbox IsPlacedPart source placed z right (λ s p h r. placed_part law s p h r)
+
 -- ---- from the fields of what was placed
 
 pub end_of : (s : Sandbox) (labelled : Bool) (slots all : List Slot) → IsTrue labelled ↔ HasEndLabel s → HasEnd slots (IsTrue labelled) all → HasEnd slots (HasEndLabel s) all

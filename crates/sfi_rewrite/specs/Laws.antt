@@ -2,13 +2,14 @@
 use Rattle.std.specs.Prelude.{◌≡◌, ◌⊎◌, List}
 use Rattle.rv_word.specs.declared.instr.Instr.{Instr}
 use Rattle.rv_source.specs.declared.item.Item.{Item}
-use Rattle.rv_source.specs.Source.{Sandbox}
+use Rattle.rv_source.specs.Source.{Sandbox, IsSource}
 use Rattle.sfi_image.specs.declared.format.Format.{Format}
 use Rattle.sfi_image.specs.declared.format.Format.TheVariants.{Sfi2}
 use Rattle.sfi_rewrite.specs.declared.slot.Slot.{Slot}
 use Rattle.sfi_rewrite.specs.declared.fault.RewriteFault.{RewriteFault}
 use Rattle.sfi_rewrite.specs.Expansion.{IsExpansion}
 use Rattle.sfi_rewrite.specs.Placement.{Placement, IsPlacement}
+use Rattle.sfi_rewrite.specs.Placed.{IsPlaced}
 use Rattle.sfi_rewrite.specs.Faults.{IsPermitted, IsSourceFault}
 use Rattle.sfi_rewrite.specs.Rewriting.{IsRewritten, AreRewritten}
 use Rattle.sfi_rewrite.specs.Transparency.{MayBe, ActsAs, StandTransparent}
@@ -39,6 +40,10 @@ NeverBoth = (source : List Sandbox) (placed : List Placement) (f : RewriteFault)
 -- each source is rewritten or has a fault
 abbrev pub SomeRewriting : Type 0
 SomeRewriting = (source : List Sandbox) → ((placed : List Placement) × AreRewritten source placed) ⊎ ((f : RewriteFault) × IsSourceFault source f)
+
+-- what a source is rewritten to keeps what the type of what is placed keeps
+abbrev pub RewrittenIsPlaced : Type 0
+RewrittenIsPlaced = (source : List Sandbox) (placed : List Placement) → IsSource source → AreRewritten source placed → IsPlaced placed
 
 -- the expansion of a permitted item acts as the item's instruction
 abbrev pub ExpansionsAreTransparent : Type 0

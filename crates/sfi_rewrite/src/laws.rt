@@ -1,5 +1,5 @@
 //! What holds of every source. A call costs nothing: it has the statement at hand.
-ghost use Rattle.sfi_rewrite.specs.Laws.{OneExpansion, OnePlacement, OneRewriting, OneFault, NeverBoth, SomeRewriting, ExpansionsAreTransparent, RewrittenIsTransparent, TransparencyCanBeMet};
+ghost use Rattle.sfi_rewrite.specs.Laws.{OneExpansion, OnePlacement, OneRewriting, OneFault, NeverBoth, SomeRewriting, RewrittenIsPlaced, ExpansionsAreTransparent, RewrittenIsTransparent, TransparencyCanBeMet};
 
 use rv_comp::laws::{one_first_form, some_first_form};
 use rv_mem::laws::{addresses_are_these, others_stay, read_is_held, written_is_there};
@@ -45,6 +45,13 @@ pub fn some_rewriting()
     ensures { SomeRewriting }
 {
     some_first_form();
+}
+
+/// What a source is rewritten to is placed as a linker asks for.
+pub fn rewritten_is_placed()
+    ensures { RewrittenIsPlaced }
+{
+    one_first_form();
 }
 
 /// The expansion of an instruction does what the instruction does, x31 aside; behind an instruction that writes the stack pointer

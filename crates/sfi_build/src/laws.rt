@@ -1,0 +1,17 @@
+//! What holds of every text. A call costs nothing: it has the statement at hand.
+ghost use Rattle.sfi_build.specs.Laws.{SomeBuilding};
+
+use rv_text::laws::{some_source, sources_are_right};
+use sfi_link::laws::some_linking;
+use sfi_rewrite::laws::{rewritten_is_placed, some_rewriting};
+
+/// A text has a build, or a fault. So where a call of [`build`](crate::build) runs out of memory, more memory would bring an answer.
+pub fn some_building()
+    ensures { SomeBuilding }
+{
+    some_source();
+    sources_are_right();
+    some_rewriting();
+    rewritten_is_placed();
+    some_linking();
+}
