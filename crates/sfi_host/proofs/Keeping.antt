@@ -2,7 +2,7 @@
 use Rattle.std.proofs.Common.{◌≡◌, ◌≢◌, ℕ, ◌+◌, ◌<◌, ◌≤◌, inl, inr, List, [], length, true, refl, sym, ap, ◌∙◌, subst, arith, get_or-set_other}
 use Rattle.std.specs.Prelude.{slice_index, slice_set}
 use Rattle.rv_word.specs.declared.instr.Instr.TheVariants.{Ecall}
-use Rattle.rv_mem.specs.Bytes.{Bytes, IsMemory, address_after}
+use Rattle.rv_mem.specs.Bytes.{Bytes, IsMemory, byte_at, address_after}
 use Rattle.rv_step.specs.State.{Hart, IsHart, IsState, behind}
 use Rattle.rv_step.specs.Step.{Stands}
 use Rattle.sfi_image.specs.Formats.{has_stack}
@@ -11,13 +11,16 @@ use Rattle.sfi_image.specs.Spans.{Holds, AreApart}
 use Rattle.sfi_check.specs.Regions.{InCode, InData, InGuard, HasCode, HasStack}
 use Rattle.sfi_check.specs.Runs.{Replies, Changes, KeepsBytes, KeepsReserved, IsReply}
 use Rattle.sfi_check.specs.Laws.{GoesOnSafely}
+use Rattle.sfi_host.specs.declared.status.Status.{Status}
 use Rattle.sfi_host.specs.declared.status.Status.TheVariants.{Ready}
 use Rattle.sfi_host.specs.Regions.{IsWhole}
 use Rattle.sfi_host.specs.Slots.{Bounds, bounds_of}
 use Rattle.sfi_host.specs.Hosts.{Way, Replied, Yield, Exit}
 use Rattle.sfi_host.specs.Joint.{with_arguments, after_way, status_after}
 use Rattle.sfi_host.specs.Laws.{CallsHaveStack, AnswersAreReplies}
+use Rattle.sfi_host.specs.Stops.{StoppedItself}
 use Rattle.sfi_host.specs.Worlds.{Seat, machine_of, IsSafeSeat, StaysOutside, with_guards}
+use Rattle.sfi_host.proofs.Stops.{stopped_still}
 
 -- ---- the code of a part
 
@@ -105,7 +108,11 @@ module _ (m : Bytes) (s : Seat) (seat : IsSafeSeat m s) where
     has_data = whole;
     safe = λ ready. on seat.part (machine_of m s) (machine_of n s) (Changes (machine_of n s)) (seat.safe ready)
         (record { pc = refl; registers = refl; bytes = keeps }) refl;
+    stopped = stopped_still s.bounds m n (λ a inside. keeps.code a (in_part a inside)) s.hart s.status seat.stopped;
   }
+    where
+      in_part : (a : ℕ) → Holds s.bounds.code a → InCode seat.part a
+      in_part a inside = subst (λ (b : Bounds). Holds b.code a) seat.bounds inside
 
   -- the same, where all but its own data is left
   pub own_changed : GoesOnSafely → (n : Bytes) → StaysOutside s.bounds.data m n → IsWhole s.bounds.data n → IsSafeSeat n s
@@ -127,11 +134,16 @@ module _ (m : Bytes) (s : Seat) (seat : IsSafeSeat m s) where
     has_data = whole;
     safe = λ still. on seat.part (machine_of m s) (record { hart = h; memory = n }) (Replies (record { hart = h; memory = n })) (seat.safe ready)
         (is_reply seat.part seat.bounds size stands n h stays (record { hart = hart; memory = memory }) pc reserved (stack_kept seat.part seat.bounds (stack_lies seat.part seat.bounds ready size stands) h stack)) refl;
+    stopped = subst (λ (x : Status). StoppedItself s.bounds (record { hart = h; memory = n }) x) (sym ready) tt;
   }
 
-  -- one that has stopped is safe, whatever its registers hold
-  pub halted : (n : Bytes) (t : Seat) → t.bounds ≡ s.bounds → t.status ≢ Ready → StaysOutside s.bounds.data m n → IsWhole s.bounds.data n → IsSafeSeat n t
-  halted n t same not_ready stays whole = record {
+  -- the code where its own data alone may have changed
+  pub code_same : (n : Bytes) → StaysOutside s.bounds.data m n → (a : ℕ) → Holds s.bounds.code a → byte_at n a ≡ byte_at m a
+  code_same n stays a inside = (own_kept seat.part seat.bounds n stays).code a (subst (λ (b : Bounds). Holds b.code a) seat.bounds inside)
+
+  -- one that has stopped itself is safe, whatever its registers hold
+  pub halted : (n : Bytes) (t : Seat) → t.bounds ≡ s.bounds → t.status ≢ Ready → StoppedItself s.bounds (machine_of n t) t.status → StaysOutside s.bounds.data m n → IsWhole s.bounds.data n → IsSafeSeat n t
+  halted n t same not_ready stopped stays whole = record {
     part = seat.part;
     bounds = same ∙ seat.bounds;
     right = seat.right;
@@ -140,6 +152,7 @@ module _ (m : Bytes) (s : Seat) (seat : IsSafeSeat m s) where
     guards = λ a guard. (own_kept seat.part seat.bounds n stays).guards a guard (seat.guards a guard);
     has_data = subst (λ (b : Bounds). IsWhole b.data n) (sym same) whole;
     safe = λ ready. absurd (not_ready ready);
+    stopped = subst (λ (b : Bounds). StoppedItself b (machine_of n t) t.status) (sym same) stopped;
   }
 
 -- a0 and a1 are none of the reserved registers

@@ -17,6 +17,7 @@ pub mod Replying
 pub mod Runs
 pub mod SamePart
 pub mod Serving
+pub mod Stops
 pub mod Turning
 pub mod Worlds
 pub mod Writing

@@ -2,10 +2,14 @@
 use Rattle.std.proofs.Common.{◌≡◌, ◌≢◌, ℕ, ◌==◌, cond, true, false, List, [], ◌∷◌, Option, Some, slice_get, set, refl, sym, ap, ◌∙◌, subst}
 use Rattle.std.proofs.lemmas.List.Elements.{All-head, All-tail}
 use Rattle.rv_mem.specs.Bytes.{Bytes, byte_at}
+use Rattle.rv_word.specs.declared.instr.Instr.TheVariants.{Ecall}
+use Rattle.rv_step.specs.declared.outcome.Outcome.{Outcome}
+use Rattle.rv_step.specs.declared.outcome.Outcome.TheVariants.{Next, Call, Trap}
 use Rattle.rv_step.specs.State.{State}
+use Rattle.rv_step.specs.Step.{Stepped}
 use Rattle.sfi_image.specs.Spelling.{Part}
 use Rattle.sfi_image.specs.Spans.{Holds}
-use Rattle.sfi_check.specs.Runs.{Turn, Steps, Replies, Changes, KeepsBytes, IsTurn, IsRun, after_turn}
+use Rattle.sfi_check.specs.Runs.{Turn, Steps, Replies, Changes, KeepsBytes, IsTurn, IsRun, after_step, after_turn}
 use Rattle.sfi_check.specs.Stack.{after_turns}
 use Rattle.sfi_check.specs.Laws.{GoesOnSafely}
 use Rattle.sfi_host.specs.declared.status.Status.{Status}
@@ -14,7 +18,10 @@ use Rattle.sfi_host.specs.Regions.{IsWhole}
 use Rattle.sfi_host.specs.Slots.{Bounds, Slot, bounds_of}
 use Rattle.sfi_host.specs.Hosts.{Reply, Replied}
 use Rattle.sfi_host.specs.Worlds.{Seat, Sandboxes, slot_of, slots_of, machine_of, IsSafeSeat, IsSafeWorld, StaysOutside, StaysOutsideData}
-use Rattle.sfi_host.specs.Moves.{IsOwnTurn, TakesTurn, Move, after_move, IsMove, AreMoves, own_turns, turns_to, IsRunBetween, MovesAreRuns, OthersLeaveSlots}
+use Rattle.sfi_host.specs.Moves.{IsOwnTurn, StepLeads, Leads, TakesTurn, Move, after_move, IsMove, AreMoves, own_turns, turns_to, IsRunBetween, MovesAreRuns, OthersLeaveSlots}
+use Rattle.sfi_host.specs.Steps.{IsOwnStep, StepsAreOwn}
+use Rattle.sfi_host.specs.Stops.{StoppedItself}
+use Rattle.sfi_host.proofs.Stops.{at_still, at_pc}
 use Rattle.sfi_host.proofs.Keeping as keep
 use Rattle.sfi_host.proofs.Neighbours.{eq_from_test, not_same, get_set_same, get_set_other, slots_are, world_safe, neighbours_are}
 use Rattle.sfi_host.proofs.SamePart.{same_some, safe_run}
@@ -25,7 +32,18 @@ both_keep p m n w f g = record {
   guards = λ a guard empty. g.guards a guard (f.guards a guard empty);
 }
 
-module _ (on : GoesOnSafely) where
+-- where it is ready after a turn, it is where that leads
+step_leads : (o : Outcome) (after now : State) (status : Status) → StepLeads o after now status → status ≡ Ready → after_step o after ≡ Some now
+step_leads Next after now status leads ready = ap (λ (x : State). Some x) (sym leads.0)
+step_leads (Trap cause at) after now status leads ready = absurd (let e : Ready ≡ Trapped cause at = sym ready ∙ leads.1 in cc)
+step_leads Call after now status leads ready = absurd (let e : Ready ≡ Exited leads.1 = sym ready ∙ leads.2 in cc)
+
+leads_there : (turn : Turn) (now : State) (status : Status) → Leads turn now status → status ≡ Ready → after_turn turn ≡ Some now
+leads_there (Steps r) now status leads ready = step_leads r.outcome r.state now status leads ready
+leads_there (Replies after) now status leads ready = ap (λ (x : State). Some x) (sym leads.0)
+leads_there (Changes after) now status leads ready = absurd leads
+
+module _ (on : GoesOnSafely) (own : StepsAreOwn) where
   -- ---- one turn
 
   module _ (m : Bytes) (s : Seat) (seat : IsSafeSeat m s) (ready : s.status ≡ Ready) where
@@ -35,6 +53,26 @@ module _ (on : GoesOnSafely) where
         let reply : Reply = record { way = Replied; a0 = own.a0; a1 = own.a1; bytes = after.memory } in
         keep.answers_are m s reply after own.size p seat is (keep.stack_lies m s seat p is ready own.size own.asked) own.asked refl own.state own.hart own.bytes.others
     is_turn (Changes after) own p is = absurd own
+
+    -- what stopped it, if that turn did
+    step_stopped : (r : Stepped) → IsOwnStep m s r → (n : Bytes) (t : Seat) → StaysOutside s.bounds.data m n
+        → (o : Outcome) → r.outcome ≡ o → StepLeads o r.state (machine_of n t) t.status → StoppedItself s.bounds (machine_of n t) t.status
+    step_stopped r is n t stays Next e leads = subst (λ (x : Status). StoppedItself s.bounds (machine_of n t) x) (sym leads.1) tt
+    step_stopped r is n t stays (Trap cause at) e leads =
+        let same : machine_of n t ≡ machine_of m s = leads.0 ∙ is.stopped (λ f. cc) in
+        subst (λ (x : Status). StoppedItself s.bounds (machine_of n t) x) (sym leads.1)
+        (subst (λ (x : State). StoppedItself s.bounds x (Trapped cause at)) (sym same) (is.trapped cause at e))
+    step_stopped r is n t stays Call e leads =
+        let called = is.called e in
+        let pc : t.hart.pc ≡ s.hart.pc = leads.0 ∙ ap (λ (x : State). x.hart.pc) (is.stopped (λ f. cc)) in
+        subst (λ (x : Status). StoppedItself s.bounds (machine_of n t) x) (sym leads.2)
+        (at_still s.bounds m n (keep.code_same m s seat n stays) s.hart t.hart Ecall pc (at_pc m s seat ready Ecall called.0 called.1))
+
+    turn_stopped : (turn : Turn) → IsOwnTurn m s turn → (n : Bytes) (t : Seat) → StaysOutside s.bounds.data m n
+        → Leads turn (machine_of n t) t.status → StoppedItself s.bounds (machine_of n t) t.status
+    turn_stopped (Steps r) step n t stays leads = step_stopped r (own m s r seat ready step) n t stays r.outcome refl leads
+    turn_stopped (Replies after) answered n t stays leads = subst (λ (x : Status). StoppedItself s.bounds (machine_of n t) x) (sym leads.1) tt
+    turn_stopped (Changes after) none n t stays leads = absurd none
 
     pub takes_safe : (turn : Turn) (n : Bytes) (t : Seat) → t.bounds ≡ s.bounds → TakesTurn m s turn n t → IsSafeSeat n t
     takes_safe turn n t same takes =
@@ -47,7 +85,8 @@ module _ (on : GoesOnSafely) where
           code = keep.code_stays seat.part m n keeps seat.code;
           guards = λ a guard. keeps.guards a guard (seat.guards a guard);
           has_data = subst (λ (b : Bounds). IsWhole b.data n) (sym same) takes.bytes.whole;
-          safe = λ still. on seat.part (machine_of m s) (machine_of n t) turn (seat.safe ready) (is_turn turn takes.own seat.part seat.bounds) (takes.leads still);
+          safe = λ still. on seat.part (machine_of m s) (machine_of n t) turn (seat.safe ready) (is_turn turn takes.own seat.part seat.bounds) (leads_there turn (machine_of n t) t.status takes.leads still);
+          stopped = subst (λ (b : Bounds). StoppedItself b (machine_of n t) t.status) (sym same) (turn_stopped turn takes.own n t takes.bytes.others takes.leads);
         }
 
   -- ---- one move
@@ -138,7 +177,7 @@ module _ (on : GoesOnSafely) where
     own_move : v.number ≡ i → are.0.seat.bounds ≡ bounds_of p → v.seat.status ≡ Ready → Between p w n i are.0.seat (v.turn ∷ turns_to i v.seat moves)
     own_move at is still =
         let later = rest i v.seat p (there_at at) (are.0.bounds ∙ is) in
-        let leads = are.0.takes.leads still in
+        let leads = leads_there v.turn (machine_of v.bytes v.seat) v.seat.status are.0.takes.leads still in
         record {
           run = (turn_is w v world are.0 p is, run_from p (after_turn v.turn) (machine_of v.bytes v.seat) (turns_to i v.seat moves) leads later.run);
           kept = both_keep p w.bytes v.bytes n.bytes (own_keeps w v world are.0 p is) later.kept;

@@ -4,7 +4,7 @@ use Rattle.rv_mem.specs.Bytes.{Bytes, byte_at}
 use Rattle.rv_step.specs.declared.outcome.Outcome.{Outcome}
 use Rattle.rv_step.specs.declared.outcome.Outcome.TheVariants.{Next, Call, Trap}
 use Rattle.rv_step.specs.Access.{Accesses}
-use Rattle.rv_step.specs.Laws.{AgreeHere, IsSameStep, AgreeingStandsToo, AgreeingStepsAreSame, OtherBytesStay, StoppedStays, NoByteGoes, CallsAreEcalls}
+use Rattle.rv_step.specs.Laws.{AgreeHere, IsSameStep, AgreeingStandsToo, AgreeingStepsAreSame, OtherBytesStay, StoppedStays, NoByteGoes, CallsAreEcalls, StepIsEffect}
 use Rattle.rv_step.specs.State.{Hart, State}
 use Rattle.rv_step.specs.Step.{Stepped, Stands, IsStep}
 use Rattle.sfi_image.specs.Spans.{Holds}
@@ -19,6 +19,7 @@ use Rattle.sfi_host.specs.Joint.{Machine, IsMachine}
 use Rattle.sfi_host.specs.Worlds.{Seat, slot_of, machine_of, IsSafeSeat, StaysOutside}
 use Rattle.sfi_host.specs.Steps.{own_step, stepped_seat, IsOwnStep, StepsAreOwn}
 use Rattle.sfi_host.proofs.Keeping.{code_at}
+use Rattle.sfi_host.proofs.Stops.{trap_itself}
 use Rattle.sfi_host.proofs.Kept.{get_kept, same_bytes, is_in-true, is_in-Holds}
 
 -- ---- a sandbox's own bytes
@@ -67,6 +68,7 @@ pub record Laws : Type 0 where
   pub stops : StoppedStays
   pub none_goes : NoByteGoes
   pub ecalls : CallsAreEcalls
+  pub effect : StepIsEffect
   pub turns : SafeTurns
   pub on : GoesOnSafely
 
@@ -179,6 +181,7 @@ module _ (laws : Laws) (m : Bytes) (s : Seat) (r : Stepped) (seat : IsSafeSeat m
     guards = λ a guard. stays_outside a (λ inside. guard_not_data a guard (data_in a inside)) ∙ seat.guards a guard;
     has_data = λ a inside. laws.none_goes (machine_of m s) r a step (seat.has_data a inside);
     safe = λ e. laws.on seat.part (machine_of m s) r.state (Steps r) (seat.safe ready) step (ap (λ (o : Outcome). after_step o r.state) done);
+    stopped = tt;
   }
 
   -- ---- alone
@@ -208,6 +211,7 @@ module _ (laws : Laws) (m : Bytes) (s : Seat) (r : Stepped) (seat : IsSafeSeat m
     safe = safe_next;
     stopped = laws.stops (machine_of m s) r step;
     called = laws.ecalls (machine_of m s) r step;
+    trapped = trap_itself m s seat ready r both.1 laws.effect step;
   }
 
 pub steps_own : Laws → StepsAreOwn

@@ -27,6 +27,7 @@ use Rattle.sfi_host.specs.Sandboxes.{seat_of, call_by, IsTold, IsNotTold, after_
 use Rattle.sfi_host.specs.Worlds.{slot_of, machine_of, IsSafeSeat, StaysOutside}
 use Rattle.sfi_host.proofs.Leaving.{data_of_own, put_back}
 use Rattle.sfi_host.proofs.Keeping as keep
+use Rattle.sfi_host.proofs.Stops.{at_still, at_pc}
 
 abbrev slot_with : Bounds → Hart → Status → ℕ → Bytes → Slot
 slot_with b h status n bytes = record { bounds = b; hart = h; status = status; steps = n; bytes = bytes }
@@ -125,7 +126,9 @@ safe_after on m n s t gate.Replied size seat ready stands memory stays whole har
 safe_after on m n s t gate.Yield size seat ready stands memory stays whole hart =
     keep.replied m (seat_of s) seat on ready size stands n _ _ memory stays whole (hart (λ e. cc)) refl (keep.arguments_keep s.cpu t.a0 t.a1) (keep.stack_argument s.cpu t.a0 t.a1)
 safe_after on m n s t (gate.Exit k) size seat ready stands memory stays whole hart =
-    keep.halted m (seat_of s) seat n _ refl (λ e. cc) stays whole
+    keep.halted m (seat_of s) seat n _ refl (λ e. cc)
+    (at_still (seat_of s).bounds m n (keep.code_same m (seat_of s) seat n stays) s.cpu (after_told (gate.Exit k) s t).cpu Ecall refl (at_pc m (seat_of s) seat ready Ecall size stands))
+    stays whole
 safe_after on m n s t gate.Memory size seat ready stands memory stays whole hart =
     keep.own_changed m (seat_of s) seat on n stays whole
 
@@ -149,8 +152,7 @@ module _ (m n : Bytes) (s : Sandbox) (t : Told) (size : ℕ) (ready : s.status �
             hart = same;
             bytes = changes;
           };
-          leads = λ e. refl;
-          last = λ stopped. absurd (stopped still);
+          leads = (refl, still);
           bytes = changes;
         },
       )
@@ -162,8 +164,7 @@ module _ (m n : Bytes) (s : Sandbox) (t : Told) (size : ℕ) (ready : s.status �
     Steps (record { outcome = Calls; state = machine_of m (seat_of s) }),
     record {
       own = record { front = Read Ecall size; at_pc = stands; result = refl };
-      leads = λ e. absurd (cc);
-      last = λ stopped e. cc;
+      leads = (refl, k, refl);
       bytes = changes;
     },
   )

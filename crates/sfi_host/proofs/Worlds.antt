@@ -101,6 +101,7 @@ module _ (laws : Laws) (ps : List Part) (layout : IsRightLayout ps) (memory : Is
           safe = runs.from (machine_of (with_parts empty ps) (first_seat p)) (entered i p e);
           calls = (subst (λ (q : Part). CallsWithStack q) (get_is ps i p p e) (calls.each i p (get_below ps i p e))).from (machine_of (with_parts empty ps) (first_seat p)) (entered i p e);
         };
+        stopped = tt;
       }
 
   outside : (i j : ℕ) (p q : Part) → i ≢ j → slice_get ps i ≡ Some p → slice_get ps j ≡ Some q → LiesOutside (bounds_of p) (bounds_of q)

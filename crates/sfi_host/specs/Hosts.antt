@@ -31,10 +31,6 @@ pub record Answer (S : Type 0) : Type 0 where
 abbrev pub Host : Type 0 → Type 0
 Host S = S → Call → Option (Answer S)
 
--- the host that answers each call by a function
-abbrev pub always : {S : Type 0} → (S → Call → Answer S) → Host S
-always answer s call = Some (answer s call)
-
 -- ---- the host that answers so many calls
 
 -- a host's state, and how many calls it will still answer: None is no limit

@@ -10,6 +10,7 @@ pub mod Solo
 pub mod Calls
 pub mod Limits
 pub mod Plans
+pub mod Stops
 pub mod Worlds
 pub mod Loading
 pub mod Sandboxes

@@ -3,12 +3,13 @@ use Rattle.std.specs.Prelude.{◌≡◌, ◌≢◌, ℕ, ◌==◌, cond, List, [
 use Rattle.std.specs.List.{All}
 use Rattle.rv_word.specs.declared.instr.Instr.TheVariants.{Ecall}
 use Rattle.rv_mem.specs.Bytes.{Bytes}
-use Rattle.rv_step.specs.declared.outcome.Outcome.TheVariants.{Next}
+use Rattle.rv_step.specs.declared.outcome.Outcome.{Outcome}
+use Rattle.rv_step.specs.declared.outcome.Outcome.TheVariants.{Next, Call, Trap}
 use Rattle.rv_step.specs.State.{State, IsState, behind}
 use Rattle.rv_step.specs.Step.{Stands, IsStep}
 use Rattle.sfi_image.specs.Spelling.{Part}
 use Rattle.sfi_check.specs.Regions.{HasCode}
-use Rattle.sfi_check.specs.Runs.{Turn, Steps, Replies, Changes, KeepsBytes, IsRun, after_turn}
+use Rattle.sfi_check.specs.Runs.{Turn, Steps, Replies, Changes, KeepsBytes, IsRun}
 use Rattle.sfi_check.specs.Safety.{IsSafeRun}
 use Rattle.sfi_check.specs.Stack.{after_turns}
 use Rattle.sfi_host.specs.declared.status.Status.{Status}
@@ -27,7 +28,7 @@ pub record ChangesOwn (s : Seat) (old new : Bytes) : Type 0 where
   pub whole : IsWhole s.bounds.data new
 
 -- it stands at an ecall, and goes on after it with a host's a0 and a1
-pub record IsAnswered (m : Bytes) (s : Seat) (after : State) : Type 0 where
+pub record GetsReply (m : Bytes) (s : Seat) (after : State) : Type 0 where
   pub size : ℕ
   pub asked : Stands (machine_of m s) Ecall size
   pub a0 : ℕ
@@ -39,21 +40,26 @@ pub record IsAnswered (m : Bytes) (s : Seat) (after : State) : Type 0 where
 -- a turn of its own is a step of the machine, in the one memory, or a host's reply
 abbrev pub IsOwnTurn : Bytes → Seat → Turn → Type 0
 IsOwnTurn m s (Steps r) = IsStep (machine_of m s) r
-IsOwnTurn m s (Replies after) = IsAnswered m s after
+IsOwnTurn m s (Replies after) = GetsReply m s after
 IsOwnTurn m s (Changes after) = ⊥
 
--- a step that traps, or a call: after these alone it may be ready no more
-abbrev pub IsLast : Turn → Type 0
-IsLast (Steps r) = r.outcome ≢ Next
-IsLast (Replies after) = ⊥
-IsLast (Changes after) = ⊥
+-- Where a step leads, and with which status. One that is done leads to the state after it, ready; a trap
+-- leads there too, and that is where it was, trapped. A call was answered by an exit: it stays at that pc, exited.
+abbrev pub StepLeads : Outcome → State → State → Status → Type 0
+StepLeads Next after now status = (now ≡ after) × (status ≡ Ready)
+StepLeads (Trap cause at) after now status = (now ≡ after) × (status ≡ Trapped cause at)
+StepLeads Call after now status = (now.hart.pc ≡ after.hart.pc) × (code : ℕ) × (status ≡ Exited code)
 
--- It takes a turn, and changes its own data alone. Where it is ready after that, the turn leads
--- to the seat t in the memory n; else it was its last, a trap or a call answered by an exit.
+-- a reply leads to the state after it, ready
+abbrev pub Leads : Turn → State → Status → Type 0
+Leads (Steps r) now status = StepLeads r.outcome r.state now status
+Leads (Replies after) now status = (now ≡ after) × (status ≡ Ready)
+Leads (Changes after) now status = ⊥
+
+-- it takes a turn that leads to the seat t in the memory n, and changes its own data alone
 pub record TakesTurn (m : Bytes) (s : Seat) (turn : Turn) (n : Bytes) (t : Seat) : Type 0 where
   pub own : IsOwnTurn m s turn
-  pub leads : t.status ≡ Ready → after_turn turn ≡ Some (machine_of n t)
-  pub last : t.status ≢ Ready → IsLast turn
+  pub leads : Leads turn (machine_of n t) t.status
   pub bytes : ChangesOwn s m n
 
 -- ---- moves

@@ -13,6 +13,7 @@ use Rattle.sfi_host.specs.declared.status.Status.{Status}
 use Rattle.sfi_host.specs.declared.status.Status.TheVariants.{Ready}
 use Rattle.sfi_host.specs.Regions.{bytes_in, IsWhole}
 use Rattle.sfi_host.specs.Slots.{Bounds, bounds_of, own, Slot}
+use Rattle.sfi_host.specs.Stops.{StoppedItself}
 
 -- what there is of a sandbox beside the memory: where it lies, its pc and registers, what it may still do, and how many steps it did
 pub record Seat : Type 0 where
@@ -56,8 +57,8 @@ data_byte_of (Some s) at = byte_at (bytes_in s.bounds.data s.bytes) at
 -- ---- what is kept of a world
 
 -- The sandbox is a part of an image that passes each test of its own. It has the part's code, its
--- guard zones are empty and its data whole, and if it may still run, every run from its state is
--- safe, and calls with a stack pointer in the data.
+-- guard zones are empty and its data whole. If it may still run, every run from its state is safe, and
+-- calls with a stack pointer in the data; if it has stopped, it has stopped itself.
 pub record IsSafeSeat (m : Bytes) (s : Seat) : Type 0 where
   pub part : Part
   pub bounds : s.bounds ≡ bounds_of part
@@ -67,6 +68,7 @@ pub record IsSafeSeat (m : Bytes) (s : Seat) : Type 0 where
   pub guards : HasEmptyGuards part m
   pub has_data : IsWhole s.bounds.data m
   pub safe : s.status ≡ Ready → GoesSafelyFrom part (machine_of m s)
+  pub stopped : StoppedItself s.bounds (machine_of m s) s.status
 
 -- data with the guard zones on both sides
 abbrev pub with_guards : Span → Span
@@ -91,3 +93,14 @@ abbrev pub StaysOutsideData : Sandboxes → Bytes → Type 0
 StaysOutsideData w new =
     (a : ℕ) → ((i : ℕ) (s : Seat) → slice_get w.seats i ≡ Some s → Holds s.bounds.data a → ⊥)
     → byte_at new a ≡ byte_at w.bytes a
+
+-- the sandbox of that number has that status, and has stopped itself, if it has stopped
+pub record IsStopOf (w : Sandboxes) (i : ℕ) (status : Status) : Type 0 where
+  pub seat : Seat
+  pub there : slice_get w.seats i ≡ Some seat
+  pub status_is : seat.status ≡ status
+  pub itself : StoppedItself seat.bounds (machine_of w.bytes seat) status
+
+-- so it is of each sandbox, whatever status may be asked of it
+abbrev pub HaveStoppedThemselves : Sandboxes → Type 0
+HaveStoppedThemselves w = (i : ℕ) (status : Status) → status_at (slots_of w) i ≡ Some status → IsStopOf w i status

@@ -33,6 +33,7 @@ pub fn steps_are_own()
     rv_step::laws::stopped_stays();
     rv_step::laws::no_byte_goes();
     rv_step::laws::calls_are_ecalls();
+    rv_step::laws::step_is_effect();
     sfi_check::laws::safe_turns();
     sfi_check::laws::goes_on_safely();
 }
@@ -59,6 +60,7 @@ pub fn answers_are_replies()
 pub fn moves_are_runs()
     ensures { MovesAreRuns }
 {
+    steps_are_own();
     sfi_check::laws::goes_on_safely();
 }
 
@@ -67,5 +69,6 @@ pub fn moves_are_runs()
 pub fn others_leave_slots()
     ensures { OthersLeaveSlots }
 {
+    steps_are_own();
     sfi_check::laws::goes_on_safely();
 }

@@ -7,7 +7,7 @@ ghost use Rattle.sfi_host.specs.Moves.{HaveRun};
 ghost use Rattle.sfi_host.specs.Plans.{IsJoint, IsCutJoint};
 ghost use Rattle.sfi_host.specs.Slots.{Slot};
 ghost use Rattle.sfi_host.specs.Loading.{first_seat, with_parts, AreEntered, HaveFirstData};
-ghost use Rattle.sfi_host.specs.Worlds.{slots_of, status_at, steps_at, data_byte_of, IsSafeWorld, StaysOutsideData};
+ghost use Rattle.sfi_host.specs.Worlds.{slots_of, status_at, steps_at, data_byte_of, HaveStoppedThemselves, IsSafeWorld, StaysOutsideData};
 
 use crate::gates::Gates;
 use crate::laws::moves_are_runs;
@@ -99,6 +99,10 @@ impl<M: Memory> World<M> {
 
         // Each sandbox is safe as before, and its data lie outside each other one.
         ensures safe { IsSafeWorld self.new }
+
+        // Each one that has stopped is at its own instruction that stopped it: an ecall that the host answered by an exit, an ebreak, or a
+        // load or store that touches its guard zones. No other trap stops a sandbox.
+        ensures stops { HaveStoppedThemselves self.new }
 
         // No byte has changed that lies in no sandbox's data.
         ensures outside { StaysOutsideData self.old self.new.bytes }

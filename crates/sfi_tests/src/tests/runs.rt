@@ -21,6 +21,12 @@ const ONE: &str = "5346493101000000000000010001000000008001000100000000000100000
 // A store on a pair's first half.
 const STORES_LOOSELY: &str = "b37fb50123a0bf00";
 
+// `and x31, x10, x27`, `or x31, x31, x26`, `lw x10, 253(x31)`, ebreak: the word's last byte lies past the data.
+const LOADS_ABOVE: &str = "b37fb501b3efaf0103a5df0f73001000";
+
+// The same pair, `sb x10, -1(x31)`, ebreak: the byte lies below the data.
+const STORES_BELOW: &str = "b37fb501b3efaf01a38faffe73001000";
+
 // ebreak.
 pub(super) const EBREAK: &str = "73001000";
 
@@ -42,6 +48,8 @@ pub(super) fn text_of(alloc: Global, pieces: &[(&str, usize)]) -> Result<Vec<u8>
 fn one_sandbox_runs(rt: HostRuntime) -> Result<(), Fail> {
     let alloc = rt.alloc();
     let smallest = [(ONE, 1), (EBREAK, 64), ("", 0)];
+    let above = [(ONE, 1), (LOADS_ABOVE, 1), (EBREAK, 60)];
+    let below = [(ONE, 1), (STORES_BELOW, 1), (EBREAK, 60)];
     let refused = [(ONE, 1), (STORES_LOOSELY, 1), (EBREAK, 62)];
     let short = [(ONE, 1), (EBREAK, 63), ("", 0)];
     let odd = [(ONE, 1), ("7", 1), ("", 0)];
@@ -54,6 +62,18 @@ fn one_sandbox_runs(rt: HostRuntime) -> Result<(), Fail> {
             smallest,
             0,
             "sandbox=0 trap=Break at=01000000 steps=0 out=\n",
+        ),
+        (
+            "sfi run",
+            above,
+            0,
+            "sandbox=0 trap=Load at=018000fd steps=2 out=\n",
+        ),
+        (
+            "sfi run",
+            below,
+            0,
+            "sandbox=0 trap=Store at=017fffff steps=2 out=\n",
         ),
         (
             "sfi run",

@@ -9,6 +9,7 @@ returns c = steps_own (record {
   stops = c.stopped_stays.ensures;
   none_goes = c.no_byte_goes.ensures;
   ecalls = c.calls_are_ecalls.ensures;
+  effect = c.step_is_effect.ensures;
   turns = c.safe_turns.ensures;
   on = c.goes_on_safely.ensures;
 })

@@ -1,0 +1,214 @@
+-- What stops a safe sandbox is its own instruction, and it stays at that.
+use Rattle.std.proofs.Common.{◌≡◌, ◌≢◌, ℕ, zero, suc, ◌<◌, ◌⊎◌, ⊎_elim, inl, inr, List, [], ◌∷◌, length, get_or, Bool, true, false, cond, Option, Some, None, is_some, IsSome, slice_get, refl, sym, ap, ◌∙◌, subst, arith}
+use Rattle.std.specs.Prelude.{ℤ}
+use Rattle.std.specs.List.{Contains, range_with_len}
+use Rattle.std.specs.Option.{option_map}
+use Rattle.std.proofs.lemmas.List.FromFn.{get_or-map-range_with_len, length-map-range_with_len}
+use Rattle.rv_word.specs.declared.instr.Instr.{Instr}
+use Rattle.rv_word.specs.declared.instr.Instr.TheVariants.{Op, OpImm, Load, Store, Branch, Jal, Jalr, Lui, Auipc, Fence, Ecall, Ebreak}
+use Rattle.rv_word.specs.declared.instr.LoadKind.{LoadKind}
+use Rattle.rv_word.specs.declared.instr.StoreWidth.{StoreWidth}
+use Rattle.rv_mem.specs.Bytes.{Bytes, byte_at, bytes_at, address_after, addresses, in_front, number_of, loaded}
+use Rattle.rv_step.specs.declared.outcome.Outcome.TheVariants.{Next, Call, Trap}
+use Rattle.rv_step.specs.declared.outcome.Cause.{Cause}
+use Rattle.rv_step.specs.declared.outcome.Cause.TheVariants as cause
+use Rattle.rv_step.specs.Access.{accessed, Accesses}
+use Rattle.rv_step.specs.Laws.{StepIsEffect}
+use Rattle.rv_step.specs.State.{Hart, State, register}
+use Rattle.rv_step.specs.Step.{Stepped, Stands, IsStep, next, unchanged, after_load, effect}
+use Rattle.rv_step.specs.Values.{plus, load_size, store_size}
+use Rattle.sfi_image.specs.Spans.{Holds}
+use Rattle.sfi_check.specs.Regions.{InData, InGuard}
+use Rattle.sfi_check.specs.Safety.{IsSafeState, IsSafeStep}
+use Rattle.sfi_host.specs.declared.status.Status.{Status}
+use Rattle.sfi_host.specs.declared.status.Status.TheVariants.{Ready, Exited, Trapped}
+use Rattle.sfi_host.specs.Regions.{IsWhole}
+use Rattle.sfi_host.specs.Slots.{Bounds, Slot, bounds_of}
+use Rattle.sfi_host.specs.Stops.{InGuards, IsAt, TouchesGuard, StoppedItself}
+use Rattle.sfi_host.specs.Worlds.{Seat, Sandboxes, slot_of, slots_of, status_at, machine_of, IsSafeSeat, IsSafeWorld, IsStopOf, HaveStoppedThemselves}
+
+-- ---- where the code stays, the instruction does
+
+-- one of the addresses of an access lies some places from the first
+one_address : (at n a : ℕ) → Contains (addresses at n) a → (k : ℕ) × (k < n) × (a ≡ address_after at k)
+one_address at n a (k, below, is) =
+    let many = length-map-range_with_len (address_after at) 0 n in
+    let small : k < n = omega arith in
+    (k, small, sym is ∙ get_or-map-range_with_len (address_after at) 0 n k k a small (omega arith))
+
+first_of : (x : ℕ) (xs : List ℕ) → Contains (x ∷ xs) x
+first_of x xs = (0, omega arith, refl)
+
+later_of : (x : ℕ) (xs : List ℕ) (a : ℕ) → Contains xs a → Contains (x ∷ xs) a
+later_of x xs a (k, below, is) = (suc k, omega arith, is)
+
+same_at : (m n : Bytes) (at : List ℕ) → ((a : ℕ) → Contains at a → byte_at n a ≡ byte_at m a) → bytes_at n at ≡ bytes_at m at
+same_at m n [] same = refl
+same_at m n (x ∷ xs) same =
+    ap (λ (o : Option ℕ). in_front o (bytes_at n xs)) (same x (first_of x xs))
+    ∙ ap (λ (o : Option (List ℕ)). in_front (byte_at m x) o) (same_at m n xs (λ a h. same a (later_of x xs a h)))
+
+module _ (b : Bounds) (m n : Bytes) (same : (a : ℕ) → Holds b.code a → byte_at n a ≡ byte_at m a) where
+  -- at the same pc
+  pub at_still : (h k : Hart) (i : Instr) → k.pc ≡ h.pc → IsAt b (record { hart = h; memory = m }) i → IsAt b (record { hart = k; memory = n }) i
+  at_still h k i pc is =
+      subst (λ (p : ℕ). IsAt b (record { hart = record { pc = p; registers = k.registers }; memory = n }) i) (sym pc)
+      (record {
+        size = is.size;
+        stands = record {
+          bytes = is.stands.bytes;
+          there = same_at m n (addresses h.pc is.size) (λ a c.
+              let x = one_address h.pc is.size a c in
+              same a (subst (λ (y : ℕ). Holds b.code y) (sym x.2) (is.within x.0 x.1)))
+              ∙ is.stands.there;
+          spelled = is.stands.spelled;
+        };
+        within = is.within;
+      })
+
+  touches_still : (h : Hart) (at : ℕ) → TouchesGuard b (record { hart = h; memory = m }) at → TouchesGuard b (record { hart = h; memory = n }) at
+  touches_still h at t = record {
+    instr = t.instr;
+    is_at = at_still h h t.instr refl t.is_at;
+    count = t.count;
+    accesses = t.accesses;
+    address = t.address;
+    among = t.among;
+    guard = t.guard;
+  }
+
+  pub stopped_still : (h : Hart) (status : Status) → StoppedItself b (record { hart = h; memory = m }) status → StoppedItself b (record { hart = h; memory = n }) status
+  stopped_still h Ready x = x
+  stopped_still h (Exited code) x = at_still h h Ecall refl x
+  stopped_still h (Trapped cause.Break at) x = (at_still h h Ebreak refl x.0, x.1)
+  stopped_still h (Trapped cause.Load at) x = touches_still h at x
+  stopped_still h (Trapped cause.Store at) x = touches_still h at x
+  stopped_still h (Trapped cause.Fetch at) x = x
+  stopped_still h (Trapped cause.Illegal at) x = x
+
+-- ---- a byte that is missing
+
+missing_in : (m : Bytes) (at : List ℕ) → bytes_at m at ≡ None → (a : ℕ) × Contains at a × (byte_at m a ≡ None)
+missing_in m [] e = absurd (cc)
+missing_in m (x ∷ xs) e =
+    elim (byte_at m x) as (λ o. byte_at m x ≡ o → (a : ℕ) × Contains (x ∷ xs) a × (byte_at m a ≡ None)) [
+      | None ↦ λ f. (x, first_of x xs, f)
+      | Some b ↦ λ f.
+          elim (bytes_at m xs) as (λ o. bytes_at m xs ≡ o → (a : ℕ) × Contains (x ∷ xs) a × (byte_at m a ≡ None)) [
+            | None ↦ λ g.
+                let rest = missing_in m xs g in
+                (rest.0, later_of x xs rest.0 rest.1, rest.2)
+            | Some bs ↦ λ g.
+                let h : in_front (byte_at m x) (bytes_at m xs) ≡ Some (b ∷ bs) = ap (λ (o : Option ℕ). in_front o (bytes_at m xs)) f ∙ ap (λ (o : Option (List ℕ)). in_front (Some b) o) g in
+                absurd (let z : Some (b ∷ bs) ≡ None = sym h ∙ e in cc)
+          ] refl
+    ] refl
+
+none_there : (o : Option ℕ) → o ≡ None → IsSome o → ⊥
+none_there None e some = cc
+none_there (Some b) e some = cc
+
+-- ---- a safe sandbox that is ready
+
+module _ (m : Bytes) (s : Seat) (seat : IsSafeSeat m s) (ready : s.status ≡ Ready) where
+  here : IsSafeState seat.part (machine_of m s)
+  here = (seat.safe ready).safe.safe [] tt
+
+  -- each instruction at its pc lies in its code
+  pub at_pc : (i : Instr) (size : ℕ) → Stands (machine_of m s) i size → IsAt s.bounds (machine_of m s) i
+  at_pc i size stands = record {
+    size = size;
+    stands = stands;
+    within = λ k below. subst (λ (b : Bounds). Holds b.code (address_after s.hart.pc k)) (sym seat.bounds) (here.instruction i size stands k below);
+  }
+
+  module _ (r : Stepped) (safe : IsSafeStep seat.part (machine_of m s) r) where
+    guards_of : (a : ℕ) → InGuard seat.part a → InGuards s.bounds.data a
+    guards_of a h = subst (λ (b : Bounds). InGuards b.data a) (sym seat.bounds) h
+
+    -- an access at which a byte is missing
+    touches : (i : Instr) (size : ℕ) → Stands (machine_of m s) i size → (at count : ℕ) → accessed i s.hart ≡ addresses at count → bytes_at m (addresses at count) ≡ None
+        → TouchesGuard s.bounds (machine_of m s) at
+    touches i size stands at count are none =
+        let x = missing_in m (addresses at count) none in
+        let accesses : Accesses i s.hart x.0 = subst (λ (l : List ℕ). Contains l x.0) (sym are) x.1 in
+        record {
+          instr = i;
+          is_at = at_pc i size stands;
+          count = count;
+          accesses = are;
+          address = x.0;
+          among = x.1;
+          guard = ⊎_elim
+              (λ (d : InData seat.part x.0).
+              absurd (none_there (byte_at m x.0) x.2 (seat.has_data x.0 (subst (λ (b : Bounds). Holds b.data x.0) (sym seat.bounds) d))))
+              (λ (g : InGuard seat.part x.0). guards_of x.0 g)
+              (safe.within i size stands x.0 accesses);
+        }
+
+    abbrev Stops : Cause → ℕ → Type 0
+    Stops c at = StoppedItself s.bounds (machine_of m s) (Trapped c at)
+
+    by_load : (kind : LoadKind) (rd rs1 : ℕ) (imm : ℤ) (n : ℕ) → Stands (machine_of m s) (Load kind rd rs1 imm) n → (c : Cause) (at : ℕ) (o : Option (List ℕ))
+        → bytes_at m (addresses (plus (register s.hart rs1) imm) (load_size kind)) ≡ o
+        → (after_load (option_map number_of o) kind rd (plus (register s.hart rs1) imm) n s.hart m).outcome ≡ Trap c at → Stops c at
+    by_load kind rd rs1 imm n stands c at None none e =
+        let from = plus (register s.hart rs1) imm in
+        let x : cause.Load ≡ c = cc in
+        let y : from ≡ at = cc in
+        subst (λ (q : Cause). Stops q at) x
+        (subst (λ (a : ℕ). TouchesGuard s.bounds (machine_of m s) a) y (touches (Load kind rd rs1 imm) n stands from (load_size kind) refl none))
+    by_load kind rd rs1 imm n stands c at (Some bs) some e = absurd (cc)
+
+    by_store : (width : StoreWidth) (rs1 rs2 : ℕ) (imm : ℤ) (n : ℕ) (k : Hart) (w : Bytes) → Stands (machine_of m s) (Store width rs1 rs2 imm) n → (c : Cause) (at : ℕ) (o : Option (List ℕ))
+        → bytes_at m (addresses (plus (register s.hart rs1) imm) (store_size width)) ≡ o
+        → (cond (is_some o) (next k w) (unchanged (Trap cause.Store (plus (register s.hart rs1) imm)) s.hart m)).outcome ≡ Trap c at → Stops c at
+    by_store width rs1 rs2 imm n k w stands c at None none e =
+        let from = plus (register s.hart rs1) imm in
+        let x : cause.Store ≡ c = cc in
+        let y : from ≡ at = cc in
+        subst (λ (q : Cause). Stops q at) x
+        (subst (λ (a : ℕ). TouchesGuard s.bounds (machine_of m s) a) y (touches (Store width rs1 rs2 imm) n stands from (store_size width) refl none))
+    by_store width rs1 rs2 imm n k w stands c at (Some bs) some e = absurd (cc)
+
+    by_instr : (i : Instr) (n : ℕ) → Stands (machine_of m s) i n → (c : Cause) (at : ℕ) → (effect i n s.hart m).outcome ≡ Trap c at → Stops c at
+    by_instr (Op op rd rs1 rs2) n stands c at e = absurd (cc)
+    by_instr (OpImm op rd rs1 imm) n stands c at e = absurd (cc)
+    by_instr (Load kind rd rs1 imm) n stands c at e = by_load kind rd rs1 imm n stands c at (bytes_at m (addresses (plus (register s.hart rs1) imm) (load_size kind))) refl e
+    by_instr (Store width rs1 rs2 imm) n stands c at e =
+        by_store width rs1 rs2 imm n _ _ stands c at (bytes_at m (addresses (plus (register s.hart rs1) imm) (store_size width))) refl e
+    by_instr (Branch condition rs1 rs2 offset) n stands c at e = absurd (cc)
+    by_instr (Jal rd offset) n stands c at e = absurd (cc)
+    by_instr (Jalr rd rs1 imm) n stands c at e = absurd (cc)
+    by_instr (Lui rd imm) n stands c at e = absurd (cc)
+    by_instr (Auipc rd imm) n stands c at e = absurd (cc)
+    by_instr (Fence imm rd rs1) n stands c at e = absurd (cc)
+    by_instr Ecall n stands c at e = absurd (cc)
+    by_instr Ebreak n stands c at e =
+        let x : cause.Break ≡ c = cc in
+        let y : s.hart.pc ≡ at = cc in
+        subst (λ (q : Cause). Stops q at) x (at_pc Ebreak n stands, sym y)
+
+    pub trap_itself : StepIsEffect → IsStep (machine_of m s) r → (c : Cause) (at : ℕ) → r.outcome ≡ Trap c at → StoppedItself s.bounds (machine_of m s) (Trapped c at)
+    trap_itself is step c at e =
+        let present = here.present in
+        by_instr present.instr present.size present.stands c at
+        (ap (λ (x : Stepped). x.outcome) (sym (is (machine_of m s) present.instr present.size r present.stands step)) ∙ e)
+
+-- ---- a safe world
+
+seat_there : (m : Bytes) (seats : List Seat) (i : ℕ) (status : Status) → status_at (slots_of (record { bytes = m; seats = seats })) i ≡ Some status
+    → (s : Seat) × (slice_get seats i ≡ Some s) × (s.status ≡ status)
+seat_there m [] i status e = absurd (cc)
+seat_there m (x ∷ xs) zero status e = (x, refl, (let f : Some x.status ≡ Some status = e in cc))
+seat_there m (x ∷ xs) (suc i) status e = seat_there m xs i status e
+
+pub have_stopped : (w : Sandboxes) → IsSafeWorld w → HaveStoppedThemselves w
+have_stopped w world i status e =
+    let x = seat_there w.bytes w.seats i status e in
+    record {
+      seat = x.0;
+      there = x.1;
+      status_is = x.2;
+      itself = subst (λ (q : Status). StoppedItself x.0.bounds (machine_of w.bytes x.0) q) x.2 (world.each i x.0 x.1).stopped;
+    }

@@ -1,0 +1,45 @@
+-- What stopped a sandbox. It stays on the instruction that did.
+use Rattle.std.specs.Prelude.{◌≡◌, ℕ, ◌+◌, ◌-◌, ◌<◌, ◌⊎◌, Contains}
+use Rattle.rv_word.specs.declared.instr.Instr.{Instr}
+use Rattle.rv_word.specs.declared.instr.Instr.TheVariants.{Ecall, Ebreak}
+use Rattle.rv_mem.specs.Bytes.{address_after, addresses}
+use Rattle.rv_step.specs.declared.outcome.Cause.TheVariants.{Fetch, Illegal, Break, Load, Store}
+use Rattle.rv_step.specs.Access.{accessed}
+use Rattle.rv_step.specs.State.{State}
+use Rattle.rv_step.specs.Step.{Stands}
+use Rattle.sfi_image.specs.declared.span.Span.{Span}
+use Rattle.sfi_image.specs.Spans.{Holds, guard}
+use Rattle.sfi_host.specs.declared.status.Status.{Status}
+use Rattle.sfi_host.specs.declared.status.Status.TheVariants.{Ready, Exited, Trapped}
+use Rattle.sfi_host.specs.Slots.{Bounds}
+
+-- the address is one of the 4096 on each side of the data
+abbrev pub InGuards : Span → ℕ → Type 0
+InGuards d a = Holds (record { base = d.base - guard; size = guard }) a ⊎ Holds (record { base = d.base + d.size; size = guard }) a
+
+-- the instruction stands at pc, and each of its bytes lies in the sandbox's code
+pub record IsAt (b : Bounds) (s : State) (i : Instr) : Type 0 where
+  pub size : ℕ
+  pub stands : Stands s i size
+  pub within : (k : ℕ) → k < size → Holds b.code (address_after s.hart.pc k)
+
+-- a load or store is at pc: it accesses some addresses from `at` on, and one of them lies in a guard zone
+pub record TouchesGuard (b : Bounds) (s : State) (at : ℕ) : Type 0 where
+  pub instr : Instr
+  pub is_at : IsAt b s instr
+  pub count : ℕ
+  pub accesses : accessed instr s.hart ≡ addresses at count
+  pub address : ℕ
+  pub among : Contains (addresses at count) address
+  pub guard : InGuards b.data address
+
+-- A sandbox with this status has stopped itself, if it has stopped: it is at its ecall, at its ebreak,
+-- or at its load or store that touches a guard zone. No other trap stops it.
+abbrev pub StoppedItself : Bounds → State → Status → Type 0
+StoppedItself b s Ready = Unit {0}
+StoppedItself b s (Exited code) = IsAt b s Ecall
+StoppedItself b s (Trapped Break at) = IsAt b s Ebreak × (at ≡ s.hart.pc)
+StoppedItself b s (Trapped Load at) = TouchesGuard b s at
+StoppedItself b s (Trapped Store at) = TouchesGuard b s at
+StoppedItself b s (Trapped Fetch at) = ⊥
+StoppedItself b s (Trapped Illegal at) = ⊥
