@@ -72,6 +72,7 @@ module _ (b : Bounds) (m n : Bytes) (same : (a : ℕ) → Holds b.code a → byt
     is_at = at_still h h t.instr refl t.is_at;
     count = t.count;
     accesses = t.accesses;
+    within = t.within;
     address = t.address;
     among = t.among;
     guard = t.guard;
@@ -123,6 +124,9 @@ module _ (m : Bytes) (s : Seat) (seat : IsSafeSeat m s) (ready : s.status ≡ Re
   }
 
   module _ (r : Stepped) (safe : IsSafeStep seat.part (machine_of m s) r) where
+    data_of : (a : ℕ) → InData seat.part a → Holds s.bounds.data a
+    data_of a h = subst (λ (b : Bounds). Holds b.data a) (sym seat.bounds) h
+
     guards_of : (a : ℕ) → InGuard seat.part a → InGuards s.bounds.data a
     guards_of a h = subst (λ (b : Bounds). InGuards b.data a) (sym seat.bounds) h
 
@@ -131,19 +135,20 @@ module _ (m : Bytes) (s : Seat) (seat : IsSafeSeat m s) (ready : s.status ≡ Re
         → TouchesGuard s.bounds (machine_of m s) at
     touches i size stands at count are none =
         let x = missing_in m (addresses at count) none in
-        let accesses : Accesses i s.hart x.0 = subst (λ (l : List ℕ). Contains l x.0) (sym are) x.1 in
+        let accesses : (a : ℕ) → Contains (addresses at count) a → Accesses i s.hart a = λ a c. subst (λ (l : List ℕ). Contains l a) (sym are) c in
         record {
           instr = i;
           is_at = at_pc i size stands;
           count = count;
           accesses = are;
+          within = λ a c. ⊎_elim (λ (d : InData seat.part a). inl (data_of a d)) (λ (g : InGuard seat.part a). inr (guards_of a g)) (safe.within i size stands a (accesses a c));
           address = x.0;
           among = x.1;
           guard = ⊎_elim
               (λ (d : InData seat.part x.0).
-              absurd (none_there (byte_at m x.0) x.2 (seat.has_data x.0 (subst (λ (b : Bounds). Holds b.data x.0) (sym seat.bounds) d))))
+              absurd (none_there (byte_at m x.0) x.2 (seat.has_data x.0 (data_of x.0 d))))
               (λ (g : InGuard seat.part x.0). guards_of x.0 g)
-              (safe.within i size stands x.0 accesses);
+              (safe.within i size stands x.0 (accesses x.0 x.1));
         }
 
     abbrev Stops : Cause → ℕ → Type 0

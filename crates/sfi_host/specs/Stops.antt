@@ -23,12 +23,14 @@ pub record IsAt (b : Bounds) (s : State) (i : Instr) : Type 0 where
   pub stands : Stands s i size
   pub within : (k : ℕ) → k < size → Holds b.code (address_after s.hart.pc k)
 
--- a load or store is at pc: it accesses some addresses from `at` on, and one of them lies in a guard zone
+-- A load or store is at pc. It accesses some addresses from `at` on, which lie in the data and the guard zones,
+-- and one of them in a guard zone.
 pub record TouchesGuard (b : Bounds) (s : State) (at : ℕ) : Type 0 where
   pub instr : Instr
   pub is_at : IsAt b s instr
   pub count : ℕ
   pub accesses : accessed instr s.hart ≡ addresses at count
+  pub within : (a : ℕ) → Contains (addresses at count) a → Holds b.data a ⊎ InGuards b.data a
   pub address : ℕ
   pub among : Contains (addresses at count) address
   pub guard : InGuards b.data address
