@@ -4,7 +4,8 @@ use Rattle.std.specs.Option.{option_map}
 use Rattle.rv_mem.specs.Bytes.{Bytes, byte_at}
 use Rattle.sfi_image.specs.Spans.{Holds}
 use Rattle.sfi_host.specs.declared.sandbox.Sandbox.{Sandbox}
-use Rattle.sfi_host.specs.Regions.{bytes_in}
+use Rattle.sfi_host.specs.Regions.{span_of, bytes_in}
+use Rattle.sfi_host.specs.Reading.{hart_at, data_region_at}
 use Rattle.sfi_host.specs.Slots.{Slot}
 use Rattle.sfi_host.specs.Sandboxes.{seat_of, world_of}
 use Rattle.sfi_host.specs.Worlds.{Sandboxes, slot_of, slots_of, status_at, steps_at, data_byte_of}
@@ -34,6 +35,14 @@ module _ (w : Sandboxes) (m : Bytes) (all : List Sandbox) (is : world_of m all �
   pub steps_is : (s : Sandbox) → slice_get all i ≡ Some s → Some s.steps ≡ steps_at (slots_of w) i
   steps_is s e =
       sym (ap (λ (x : Sandboxes). steps_at (slots_of x) i) (sym is) ∙ ap (λ (o : Option Slot). option_map (λ (y : Slot). y.steps) o) (slot_at m all i s e))
+
+  pub hart_is : (s : Sandbox) → slice_get all i ≡ Some s → Some s.cpu ≡ hart_at (slots_of w) i
+  hart_is s e =
+      sym (ap (λ (x : Sandboxes). hart_at (slots_of x) i) (sym is) ∙ ap (λ (o : Option Slot). option_map (λ (y : Slot). y.hart) o) (slot_at m all i s e))
+
+  pub data_region_is : (s : Sandbox) → slice_get all i ≡ Some s → Some (span_of s.data) ≡ data_region_at (slots_of w) i
+  data_region_is s e =
+      sym (ap (λ (x : Sandboxes). data_region_at (slots_of x) i) (sym is) ∙ ap (λ (o : Option Slot). option_map (λ (y : Slot). y.bounds.data) o) (slot_at m all i s e))
 
   pub slot_is : (s : Sandbox) → slice_get all i ≡ Some s → slice_get (slots_of w) i ≡ Some (slot_of m (seat_of s))
   slot_is s e = ap (λ (x : Sandboxes). slice_get (slots_of x) i) (sym is) ∙ slot_at m all i s e

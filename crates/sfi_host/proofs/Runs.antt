@@ -104,15 +104,15 @@ last_there : (m : Bytes) (a n : ℕ) → IsSome (bytes_at m (range_with_len a n)
 last_there m a n h l = each_there m a n (n - 1) h (omega arith)
 
 -- n addresses that don't begin below the region: all are there exactly where they don't end above it
-pub covered : (s : Span) (m : Bytes) (a n p q : ℕ) → IsWhole s (bytes_in s m) → s.base ≤ a → 0 < n → p ≡ a + n → q ≡ s.base + s.size
-    → (IsTrue (nat_le p q) ↔ IsSome (bytes_at (bytes_in s m) (range_with_len a n)))
-covered s m a n p q w h l e f = (forth, back)
+pub covered : (s : Span) (m : Bytes) (a n q : ℕ) → IsWhole s (bytes_in s m) → s.base ≤ a → 0 < n → q ≡ s.base + s.size - a
+    → (IsTrue (nat_le n q) ↔ IsSome (bytes_at (bytes_in s m) (range_with_len a n)))
+covered s m a n q w h l f = (forth, back)
   where
-    forth : IsTrue (nat_le p q) → IsSome (bytes_at (bytes_in s m) (range_with_len a n))
-    forth t = let le : p ≤ q = grind arith in all_there (bytes_in s m) a n (λ k below. w (a + k) (omega arith, omega arith))
+    forth : IsTrue (nat_le n q) → IsSome (bytes_at (bytes_in s m) (range_with_len a n))
+    forth t = let le : n ≤ q = grind arith in all_there (bytes_in s m) a n (λ k below. w (a + k) (omega arith, omega arith))
 
-    back : IsSome (bytes_at (bytes_in s m) (range_with_len a n)) → IsTrue (nat_le p q)
-    back t = let x = held s m (a + (n - 1)) (last_there (bytes_in s m) a n t l) in let y = x.1 in grind (arith, y, e, f, l)
+    back : IsSome (bytes_at (bytes_in s m) (range_with_len a n)) → IsTrue (nat_le n q)
+    back t = let x = held s m (a + (n - 1)) (last_there (bytes_in s m) a n t l) in let y = x.1 in grind (arith, y, f, l)
 
 -- those that begin below it aren't all there
 pub not_covered : (s : Span) (m : Bytes) (a n : ℕ) → a < s.base → 0 < n
@@ -137,9 +137,9 @@ ends_within s m a n r l t =
     below None h e = absurd (cc)
     below (Some b) h e = r.addresses (a + (n - 1)) b e
 
-pub covered_end : (s : Span) (m : Bytes) (a n p q : ℕ) → IsMemory m → IsWhole s (bytes_in s m) → s.base ≤ a → 0 < n → p ≡ a + n → q ≡ s.base + s.size
-    → OnTrue (nat_le p q) (a + n ≤ 2 ^ 32)
-covered_end s m a n p q r w h l e f = on (nat_le p q) (λ t. ends_within s m a n r l ((covered s m a n p q w h l e f).0 t))
+pub covered_end : (s : Span) (m : Bytes) (a n q : ℕ) → IsMemory m → IsWhole s (bytes_in s m) → s.base ≤ a → 0 < n → q ≡ s.base + s.size - a
+    → OnTrue (nat_le n q) (a + n ≤ 2 ^ 32)
+covered_end s m a n q r w h l f = on (nat_le n q) (λ t. ends_within s m a n r l ((covered s m a n q w h l f).0 t))
   where
     on : (b : Bool) → (IsTrue b → a + n ≤ 2 ^ 32) → OnTrue b (a + n ≤ 2 ^ 32)
     on true g = g refl

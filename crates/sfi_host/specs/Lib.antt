@@ -12,6 +12,7 @@ pub mod Limits
 pub mod Plans
 pub mod Stops
 pub mod Worlds
+pub mod Reading
 pub mod Loading
 pub mod Sandboxes
 pub mod Programs

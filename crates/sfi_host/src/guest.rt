@@ -3,6 +3,7 @@ ghost use Rattle.std.specs.Prelude.{◌≡◌, ◌+◌, ◌^◌, ◌≤◌, ◌�
 ghost use Rattle.std.specs.Bool.{OnTrue, OnFalse};
 ghost use Rattle.rv_mem.specs.Bytes.{byte_at};
 ghost use Rattle.sfi_image.specs.Spans.{Holds};
+ghost use Rattle.sfi_host.specs.Regions.{span_of};
 
 use crate::region::Region;
 use rv_mem::{Memory, Width};
@@ -44,7 +45,7 @@ impl<'a, M: Memory> Guest<'a, M> {
 
     /// Whether each of the `count` addresses from `at` on is one of its data region. No address is asked for where `count`
     /// is 0.
-    pub(crate) fn covers(&self, at: u32, count: u32) -> bool
+    pub(crate) fn covers(&self, at: u32, count: u64) -> bool
         requires has_data { HasData M.bytes self.now }
         ensures there { IsTrue result ↔ IsSome (data_from (asked M.bytes self.now) at count) }
         ensures end { OnTrue result (at + count ≤ 2 ^ 32) }
@@ -53,7 +54,7 @@ impl<'a, M: Memory> Guest<'a, M> {
             return true;
         }
         let end = u64::from(self.region.base) + u64::from(self.region.size);
-        self.region.base <= at && u64::from(at) + u64::from(count) <= end
+        self.region.base <= at && count <= end.saturating_sub(u64::from(at))
     }
 
     /// The caller's number among the sandboxes.
@@ -82,6 +83,13 @@ impl<'a, M: Memory> Guest<'a, M> {
         ensures { result ≡ (asked M.bytes self.now).a1 }
     {
         self.request.a1
+    }
+
+    /// Its data region.
+    pub fn data_region(&self) -> Region
+        ensures { span_of result ≡ data_of self.now }
+    {
+        self.region
     }
 
     /// The byte at an address of its data region; `None` for every other address.

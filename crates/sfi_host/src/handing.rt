@@ -23,7 +23,7 @@ pub fn may_hand<M: Memory>(guest: &Guest<'_, M>) -> bool
     ensures there { OnTrue result (IsSome (data_from (asked M.bytes guest.now) (asked M.bytes guest.now).a0 (asked M.bytes guest.now).a1)) }
     ensures end { OnTrue result ((asked M.bytes guest.now).a0 + (asked M.bytes guest.now).a1 ≤ 2 ^ 32) }
 {
-    guest.arg1() <= MOST_HANDED && guest.covers(guest.arg0(), guest.arg1())
+    guest.arg1() <= MOST_HANDED && guest.covers(guest.arg0(), u64::from(guest.arg1()))
 }
 
 /// Appends the `count` data bytes from `at` on. It takes no memory for none.

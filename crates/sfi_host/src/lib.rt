@@ -10,6 +10,7 @@
 
 mod asking;
 mod console;
+mod copying;
 mod gates;
 mod guest;
 mod handing;
@@ -30,6 +31,7 @@ mod world;
 pub use console::Console;
 pub use gates::{GateAnswer, Gates};
 pub use guest::Guest;
+pub use region::Region;
 pub use status::Status;
 pub use turn::{RunAnswer, Turn};
 pub use world::World;

@@ -1,5 +1,5 @@
 //! A plan of turns.
-ghost use Rattle.std.specs.Prelude.{◌≡◌, ◌∷◌, [], ℕ};
+ghost use Rattle.std.specs.Prelude.{◌≡◌, ◌∷◌, ◌<◌, [], length, ℕ};
 ghost use Rattle.sfi_host.specs.Joint.{Machine, IsMachine};
 ghost use Rattle.sfi_host.specs.Limits.{IsPlanStep, IsPlanCut};
 ghost use Rattle.sfi_host.specs.Moves.{HaveMoved};
@@ -70,6 +70,7 @@ pub fn take_turns<M: Memory, G: Gates>(
         → IsJoint machine G.answer plan.now (slots_of (world_of (M.bytes memory.old) sandboxes.old)) gates.old (slots_of (world_of (M.bytes memory.new) sandboxes.new)) gates.new }
     ensures refused { (place : ℕ) → result ≡ RunAnswer.Memory place → (machine : Machine) → IsMachine machine
         → IsCutJoint machine G.answer G.may_refuse plan.now (slots_of (world_of (M.bytes memory.old) sandboxes.old)) gates.old place (slots_of (world_of (M.bytes memory.new) sandboxes.new)) gates.new }
+    ensures place { (place : ℕ) → result ≡ RunAnswer.Memory place → place < length plan.now }
 {
     for place in 0..plan.len() {
         match take_turn(memory, programs, sandboxes, plan[place], gates) {

@@ -8,6 +8,7 @@ use crate::console::Console;
 use crate::gates::{GateAnswer, Gates};
 use crate::guest::{Guest, Request};
 use crate::region::Region;
+use crate::sandbox::register;
 use crate::status::Status;
 use crate::turn::{RunAnswer, Turn};
 use crate::world::World;
@@ -111,6 +112,24 @@ fn a_guest_reaches_its_data_alone(rt: HostRuntime) {
     guest.set1(6);
     assert_eq!(rt; (guest.arg0(), guest.arg1()), (5, 6));
     assert_eq!(rt; guest.byte(DATA + 255), Some(9));
+}
+
+#[test]
+fn a_guest_copies_its_data(rt: HostRuntime) {
+    let mut memory = memory(&rt, rt.alloc(), &[72, 105]);
+    let mut guest = Guest::new(&mut memory, REGION, request(3, 1, DATA, 2));
+    assert_eq!(rt; guest.data_region(), REGION);
+    let mut bytes = [9, 9, 9];
+    assert!(rt; !guest.read(DATA - 1, &mut bytes));
+    assert!(rt; !guest.read(DATA + 254, &mut bytes));
+    assert_eq!(rt; bytes, [9, 9, 9]);
+    assert!(rt; guest.read(DATA, &mut bytes));
+    assert_eq!(rt; bytes, [72, 105, 0]);
+    assert!(rt; guest.write(DATA + 253, &[1, 2, 3]));
+    assert!(rt; !guest.write(DATA + 254, &[4, 5, 6]));
+    assert!(rt; guest.read(DATA + 253, &mut bytes));
+    assert_eq!(rt; bytes, [1, 2, 3]);
+    assert!(rt; guest.read(0, &mut []));
 }
 
 #[test]
@@ -231,6 +250,13 @@ fn the_smallest_image_traps(rt: HostRuntime) -> Result<(), Fail> {
         (world.data_byte(0, DATA - 1), world.data_byte(0, DATA + 256)),
         (None, None)
     );
+    assert_eq!(rt; world.len(), 1);
+    assert_eq!(rt;
+        (world.data_region(0), world.data_region(1)),
+        (Some(REGION), None)
+    );
+    let cpu = world.cpu(0).expect(&rt, "a sandbox");
+    assert_eq!(rt; (cpu.pc(), cpu.reg(register(27))), (0x0100_0000, 255));
     let mut console = Console::new(alloc, 1, &[])?;
     let plan = [
         Turn {
@@ -252,5 +278,9 @@ fn the_smallest_image_traps(rt: HostRuntime) -> Result<(), Fail> {
     assert_eq!(rt; (world.status(0), world.steps(0)), (Some(trapped), Some(0)));
     assert_eq!(rt; (world.status(1), world.steps(1)), (None, None));
     assert_eq!(rt; world.data_byte(1, DATA), None);
+    assert!(rt; world.cpu(1).is_none());
+    let memory = world.into_memory();
+    assert_eq!(rt; memory.load(0x0100_0000, Width::Four), Some(0x0010_0073));
+    assert_eq!(rt; memory.load(DATA - 1, Width::One), None);
     Ok(())
 }

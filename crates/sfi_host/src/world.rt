@@ -1,10 +1,13 @@
 //! Worlds.
-ghost use Rattle.std.specs.Prelude.{◌≡◌, ◌↔◌, ℕ, map, slice_get, IfOk, IsSome, Some};
+ghost use Rattle.std.specs.Prelude.{◌≡◌, ◌↔◌, ◌<◌, ℕ, length, map, slice_get, IfOk, IsSome, Some};
 ghost use Rattle.std.specs.FinMap.{empty};
+ghost use Rattle.std.specs.Option.{option_map};
 ghost use Rattle.sfi_image.specs.Spans.{Holds};
 ghost use Rattle.sfi_host.specs.Joint.{Machine, IsMachine};
 ghost use Rattle.sfi_host.specs.Moves.{HaveRun};
 ghost use Rattle.sfi_host.specs.Plans.{IsJoint, IsCutJoint};
+ghost use Rattle.sfi_host.specs.Reading.{hart_at, data_region_at};
+ghost use Rattle.sfi_host.specs.Regions.{span_of};
 ghost use Rattle.sfi_host.specs.Slots.{Slot};
 ghost use Rattle.sfi_host.specs.Loading.{first_seat, with_parts, AreEntered, HaveFirstData};
 ghost use Rattle.sfi_host.specs.Worlds.{slots_of, status_at, steps_at, data_byte_of, HaveStoppedThemselves, IsSafeWorld, StaysOutsideData};
@@ -14,11 +17,13 @@ use crate::laws::moves_are_runs;
 use crate::loading::load_parts;
 use crate::plan::take_turns;
 use crate::program::{Program, decode_all};
+use crate::region::Region;
 use crate::sandbox::Sandbox;
 use crate::status::Status;
 use crate::turn::{RunAnswer, Turn};
 use rv_mem::Memory;
 use rv_mem::laws::{addresses_are_these, others_stay, written_is_there};
+use rv_step::Cpu;
 use sfi_check::Accepted;
 use sfi_image::code_ends;
 use std::alloc::{AllocError, Global};
@@ -106,6 +111,9 @@ impl<M: Memory> World<M> {
 
         // No byte has changed that lies in no sandbox's data.
         ensures outside { StaysOutsideData self.old self.new.bytes }
+
+        // The turn that ended so is one of the plan.
+        ensures place { (turn : ℕ) → result ≡ RunAnswer.Memory turn → turn < length plan.now }
     {
         // The law that the contract rests on: this call does nothing.
         moves_are_runs();
@@ -150,5 +158,35 @@ impl<M: Memory> World<M> {
     {
         let sandbox = self.sandboxes.get(i as usize)?;
         sandbox.data.byte(&self.memory, at)
+    }
+
+    /// How many sandboxes there are.
+    pub fn len(&self) -> usize
+        ensures { result ≡ length (slots_of self.now) }
+    {
+        self.sandboxes.len()
+    }
+
+    /// The pc and registers of the sandbox of that number; `None` where there is none.
+    pub fn cpu(&self, i: u32) -> Option<&Cpu>
+        ensures { option_map (λ cpu. cpu.now) result ≡ hart_at (slots_of self.now) i }
+    {
+        let sandbox = self.sandboxes.get(i as usize)?;
+        Some(&sandbox.cpu)
+    }
+
+    /// Its data region; `None` where there is none.
+    pub fn data_region(&self, i: u32) -> Option<Region>
+        ensures { option_map span_of result ≡ data_region_at (slots_of self.now) i }
+    {
+        let sandbox = self.sandboxes.get(i as usize)?;
+        Some(sandbox.data)
+    }
+
+    /// The memory of all, as it is.
+    pub fn into_memory(self) -> M
+        ensures { M.bytes result ≡ self.bytes }
+    {
+        self.memory
     }
 }
