@@ -1,0 +1,3 @@
+mod Answering
+mod Handing
+mod Writing

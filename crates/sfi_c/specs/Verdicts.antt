@@ -1,0 +1,79 @@
+-- What C is told of an image's bytes.
+use Rattle.std.specs.Prelude.{◌≡◌, ℕ, List, ◌∷◌, ◌++◌, length, map, take, drop}
+use Rattle.sfi_image.specs.declared.fault.LayoutFault.{LayoutFault}
+use Rattle.sfi_image.specs.Spelling.{Part}
+use Rattle.sfi_image.specs.Faults.{IsFault, number_of as fault_number}
+use Rattle.sfi_scan.specs.declared.finding.Finding.{Finding}
+use Rattle.sfi_scan.specs.Numbers.{number_of as rule_number}
+use Rattle.sfi_check.specs.Safety.{AllRunSafely}
+use Rattle.sfi_check.specs.Verdict.{IsAccepted, HasFindings, bundle_count}
+use Rattle.sfi_c.specs.declared.finding.SfiFinding.{SfiFinding}
+use Rattle.sfi_c.specs.declared.verdict.SfiVerdict.{SfiVerdict}
+use Rattle.sfi_c.specs.declared.status.Status.TheVariants.{Accepted, Refused, NoImage, NoMemory}
+use Rattle.sfi_c.specs.Statuses.{number_of}
+
+-- ---- findings
+
+-- a finding, with its rule by number
+abbrev pub told : Finding → SfiFinding
+told f = record { sandbox = f.sandbox; address = f.address; rule = rule_number f.rule }
+
+-- where there is none
+abbrev pub no_finding : SfiFinding
+no_finding = record { sandbox = 0; address = 0; rule = 0 }
+
+-- an array after findings were written to it: at its front those that it has room for, and then what it held there before
+abbrev pub with_findings : List Finding → List SfiFinding → List SfiFinding
+with_findings found array = map told (take (length array) found) ++ drop (length found) array
+
+-- ---- verdicts: what a status doesn't speak of is 0
+
+-- accepted, with so many sandboxes and bundles
+abbrev pub acceptance : ℕ → ℕ → SfiVerdict
+acceptance sandboxes bundles = record {
+  status = number_of Accepted;
+  layout_fault = 0;
+  sandboxes = sandboxes;
+  bundles = bundles;
+  findings = 0;
+  first = no_finding;
+}
+
+-- refused for so many findings, of which this is the first
+abbrev pub refusal : ℕ → Finding → SfiVerdict
+refusal count first = record {
+  status = number_of Refused;
+  layout_fault = 0;
+  sandboxes = 0;
+  bundles = 0;
+  findings = count;
+  first = told first;
+}
+
+-- no image, by the number of the layout's fault
+abbrev pub no_image : ℕ → SfiVerdict
+no_image fault = record { status = number_of NoImage; layout_fault = fault; sandboxes = 0; bundles = 0; findings = 0; first = no_finding }
+
+-- memory ran out
+abbrev pub no_memory : SfiVerdict
+no_memory = record { status = number_of NoMemory; layout_fault = 0; sandboxes = 0; bundles = 0; findings = 0; first = no_finding }
+
+-- ---- what verdicts say of bytes
+
+-- the bytes are an image in which no rule is broken, and every run of each of its sandboxes is safe
+pub record IsAcceptance (bytes : List ℕ) (v : SfiVerdict) : Type 0 where
+  pub parts : List Part
+  pub accepted : IsAccepted bytes parts
+  pub safe : AllRunSafely parts
+  pub verdict_is : v ≡ acceptance (length parts) (bundle_count parts)
+
+-- the bytes are an image with findings: this one, and then these
+pub record IsRefusal (bytes : List ℕ) (first : Finding) (rest : List Finding) (v : SfiVerdict) : Type 0 where
+  pub found : HasFindings bytes (first ∷ rest)
+  pub verdict_is : v ≡ refusal (length (first ∷ rest)) first
+
+-- the bytes are no image
+pub record IsLayoutFault (bytes : List ℕ) (v : SfiVerdict) : Type 0 where
+  pub fault : LayoutFault
+  pub is : IsFault bytes fault
+  pub verdict_is : v ≡ no_image (fault_number fault)

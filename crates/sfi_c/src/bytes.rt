@@ -1,0 +1,33 @@
+//! A list of bytes as a source of bytes.
+use sfi_image::{ByteSource, ReadFault};
+
+/// The bytes that are left to be read. No read of them fails.
+#[derive(Drop)]
+pub(crate) struct Bytes<'a> {
+    pub(crate) rest: &'a [u8],
+}
+
+impl<'a> ByteSource for Bytes<'a> {
+    ghost use Rattle.std.specs.Prelude.{false};
+    ghost use Rattle.std.proofs.Common.{refl};
+    ghost use Rattle.sfi_c.specs.Reads.{HandsOut};
+
+    ghost reads = { λ s most answer t. HandsOut s.rest.now most answer t.rest.now };
+
+    ghost has_failed = { λ s. false };
+
+    fn read_some(&mut self, buf: &mut [u8]) -> Result<usize, ReadFault> {
+        let count = self.rest.len().min(buf.len());
+        buf[..count].copy_from_slice(&self.rest[..count]);
+        self.rest = &self.rest[count..];
+        Ok(count)
+    }
+
+    fn failed(&self) -> bool {
+        false
+    }
+
+    ghost fails = { λ s t n h. absurd h };
+
+    ghost stays = { λ s t n bytes h. refl };
+}

@@ -1,0 +1,49 @@
+//! Findings as C sees them.
+ghost use Rattle.std.specs.Prelude.{◌≡◌};
+ghost use Rattle.sfi_c.specs.Verdicts.{told, no_finding, with_findings};
+
+use sfi_scan::Finding;
+
+/// A rule that is broken, and where: `struct sfi_finding`.
+#[repr(C)]
+#[derive(Clone, Copy, PartialEq, Eq, Debug)]
+pub struct SfiFinding {
+    /// The sandbox's place in the image, counted from 0.
+    pub sandbox: u32,
+    /// That of the first byte of the instruction, or of what is none.
+    pub address: u32,
+    /// The rule's number, 1 for V1 to 10 for V10.
+    pub rule: u32,
+}
+
+/// The finding for C.
+pub(crate) fn told(finding: Finding) -> SfiFinding
+    ensures { result ≡ told finding }
+{
+    SfiFinding {
+        sandbox: finding.sandbox,
+        address: finding.address,
+        rule: finding.rule.number(),
+    }
+}
+
+/// Where there is none.
+pub(crate) fn no_finding() -> SfiFinding
+    ensures { result ≡ no_finding }
+{
+    SfiFinding {
+        sandbox: 0,
+        address: 0,
+        rule: 0,
+    }
+}
+
+/// Writes the findings to the front of the array, as many as it holds.
+pub(crate) fn write_findings(found: &[Finding], array: &mut [SfiFinding])
+    ensures { array.new ≡ with_findings found.now array.old }
+{
+    let count = found.len().min(array.len());
+    for i in 0..count {
+        array[i] = told(found[i]);
+    }
+}

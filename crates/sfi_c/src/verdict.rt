@@ -1,0 +1,74 @@
+//! The verdict as C sees it.
+ghost use Rattle.std.specs.Prelude.{◌≡◌};
+ghost use Rattle.sfi_c.specs.Verdicts.{acceptance, refusal, no_image, no_memory};
+
+use crate::finding::{SfiFinding, no_finding, told};
+use crate::status::Status;
+use sfi_scan::Finding;
+
+/// The verdict on an image: `struct sfi_verdict`. What its status doesn't speak of is 0.
+#[repr(C)]
+#[derive(Clone, Copy, PartialEq, Eq, Debug)]
+pub struct SfiVerdict {
+    /// The number of a [`Status`].
+    pub status: u32,
+    /// No image: the number of the layout's fault, 1 to 11.
+    pub layout_fault: u32,
+    /// Accepted: how many sandboxes the image has, 1 to 16.
+    pub sandboxes: u32,
+    /// Accepted: how many bundles of code they have together.
+    pub bundles: u32,
+    /// Refused: how often rules are broken, at least 1.
+    pub findings: u32,
+    /// Refused: the first finding, by sandbox and then by address.
+    pub first: SfiFinding,
+}
+
+/// Memory ran out.
+pub(crate) fn no_memory() -> SfiVerdict
+    ensures { result ≡ no_memory }
+{
+    SfiVerdict {
+        status: Status::NoMemory.number(),
+        layout_fault: 0,
+        sandboxes: 0,
+        bundles: 0,
+        findings: 0,
+        first: no_finding(),
+    }
+}
+
+/// The image is accepted, with so many sandboxes and bundles.
+pub(crate) fn acceptance(sandboxes: u32, bundles: u32) -> SfiVerdict
+    ensures { result ≡ acceptance sandboxes bundles }
+{
+    SfiVerdict {
+        status: Status::Accepted.number(),
+        sandboxes,
+        bundles,
+        ..no_memory()
+    }
+}
+
+/// Rules are broken so often, the first time there.
+pub(crate) fn refusal(findings: u32, first: Finding) -> SfiVerdict
+    ensures { result ≡ refusal findings first }
+{
+    SfiVerdict {
+        status: Status::Refused.number(),
+        findings,
+        first: told(first),
+        ..no_memory()
+    }
+}
+
+/// The bytes are no image, by the fault of that number.
+pub(crate) fn no_image(layout_fault: u32) -> SfiVerdict
+    ensures { result ≡ no_image layout_fault }
+{
+    SfiVerdict {
+        status: Status::NoImage.number(),
+        layout_fault,
+        ..no_memory()
+    }
+}
