@@ -8,6 +8,8 @@ mod bytes;
 mod checking;
 mod finding;
 mod status;
+#[cfg(test)]
+mod tests;
 mod verdict;
 
 pub use checking::{sfi_c_check, sfi_c_findings};

@@ -1,0 +1,101 @@
+/*
+ * The checker of Suygapid for C and C++: whether the bytes of an image are accepted, and if not, why.
+ *
+ * Accepted means: from any entry of any of the image's sandboxes, with the four reserved registers set and every
+ * other register and data byte arbitrary, after any number of turns every load and store fell in that sandbox's data
+ * region or its guard zones, where it trapped, no code byte changed, and control left only through a listed gate.
+ * This is proved of the calls below (README.md has the theorem with its premises).
+ *
+ * The calls read nothing but their arguments, keep nothing from one to the next, start no thread, read no file and
+ * write none. Any number of threads may call them at once. They return whatever the bytes of the image are; the time
+ * grows in proportion to the bytes, and the stack that a call needs stays below 64 KiB.
+ *
+ * What a caller owes, since nothing checks it: each pointer is not NULL and is aligned, also where its length is 0;
+ * the memory of `image` isn't written during the call, by any thread; `verdict` and `array` overlap neither each
+ * other nor the image.
+ *
+ * Link libsfi_c.a, which `rt lib` builds in crates/sfi_c/out, and the toolchain's liblibc_c.a, which allocates by
+ * malloc, realloc and free: examples/embed/test.sh has the command lines.
+ */
+#ifndef SFI_H
+#define SFI_H
+
+#include <stddef.h>
+#include <stdint.h>
+
+#ifdef __cplusplus
+extern "C" {
+#endif
+
+/* What a verdict says of the bytes. */
+enum sfi_status {
+    SFI_ACCEPTED = 0, /* they are an image in which no rule is broken */
+    SFI_REFUSED = 1,  /* they are an image in which rules are broken */
+    SFI_NO_IMAGE = 2, /* they are no image: the layout has a fault */
+    SFI_NO_MEMORY = 3 /* nothing: memory ran out, in sfi_c_findings alone */
+};
+
+/* What is wrong with bytes that are no image: the first test that fails, in the order of reading (docs/IMAGE.md). */
+enum sfi_layout_fault {
+    SFI_FAULT_MAGIC = 1,
+    SFI_FAULT_COUNT = 2,
+    SFI_FAULT_SHORT = 3,
+    SFI_FAULT_CODE = 4,
+    SFI_FAULT_DATA = 5,
+    SFI_FAULT_GUARD_ROOM = 6,
+    SFI_FAULT_START = 7,
+    SFI_FAULT_GATES = 8,
+    SFI_FAULT_INIT = 9,
+    SFI_FAULT_OVERLAP = 10,
+    SFI_FAULT_TRAILING = 11
+};
+
+/* A rule that is broken, and where. */
+struct sfi_finding {
+    uint32_t sandbox; /* the sandbox's place in the image, counted from 0 */
+    uint32_t address; /* that of the first byte of the instruction, or of what is none */
+    uint32_t rule;    /* 1 for V1 to 10 for V10 (README.md, "Rules") */
+};
+
+/* The verdict on an image. What its status doesn't speak of is 0. */
+struct sfi_verdict {
+    uint32_t status;          /* one of enum sfi_status */
+    uint32_t layout_fault;    /* SFI_NO_IMAGE: one of enum sfi_layout_fault */
+    uint32_t sandboxes;       /* SFI_ACCEPTED: how many sandboxes the image has, 1 to 16 .. */
+    uint32_t bundles;         /* .. and how many bundles of code they have together */
+    uint32_t findings;        /* SFI_REFUSED: how many findings there are, at least 1 .. */
+    struct sfi_finding first; /* .. and the first of them, by sandbox and then by address */
+};
+
+/* Whoever calls by another language writes these structs anew: they have no padding. */
+#if defined(__cplusplus) && __cplusplus >= 201103L
+static_assert(sizeof(struct sfi_finding) == 12 && sizeof(struct sfi_verdict) == 32, "the structs have no padding");
+#elif defined(__STDC_VERSION__) && __STDC_VERSION__ >= 201112L
+_Static_assert(sizeof(struct sfi_finding) == 12 && sizeof(struct sfi_verdict) == 32, "the structs have no padding");
+#else
+typedef char sfi_structs_have_no_padding[sizeof(struct sfi_finding) == 12 && sizeof(struct sfi_verdict) == 32 ? 1 : -1];
+#endif
+
+/*
+ * Writes the verdict on the `length` bytes at `image` to *verdict, and returns its status. It takes no memory, and
+ * never answers SFI_NO_MEMORY.
+ */
+uint32_t sfi_c_check(const uint8_t *image, size_t length, struct sfi_verdict *verdict);
+
+/*
+ * The same, and where the status is SFI_REFUSED writes the findings to `array`, from its front on and by sandbox and
+ * then by address: all of them, or the first `capacity` where there are more. verdict->findings tells how many there
+ * are in all. No other element of the array is written, and with another status none is.
+ *
+ * An image with findings is read twice, and the list of all its findings is kept in memory for the time of the call:
+ * 12 bytes for each, and at most 8 findings for each 16 bytes of image, and as much again while the list grows.
+ * Where there is no such memory the status is SFI_NO_MEMORY. sfi_c_check tells the first finding without memory.
+ */
+uint32_t sfi_c_findings(const uint8_t *image, size_t length, struct sfi_finding *array, size_t capacity,
+                        struct sfi_verdict *verdict);
+
+#ifdef __cplusplus
+}
+#endif
+
+#endif

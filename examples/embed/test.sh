@@ -1,0 +1,128 @@
+#!/usr/bin/env bash
+# Builds the C library and the hosts beside this file, runs each on images that are accepted, refused, or no images, and compares
+# what it prints with what is wanted. Says what it skips for want of a compiler. gcc, xxd and rt have to be there.
+#
+#     examples/embed/test.sh
+set -uo pipefail
+here=$(cd "$(dirname "${BASH_SOURCE[0]}")" && pwd)
+top=$(cd "$here/../.." && pwd)
+library=$top/crates/sfi_c/out/libsfi_c.a
+heap=$(dirname "$(rt doc)")/c/liblibc_c.a
+# The most bytes of code and constants that the checker may add to a program.
+most=32768
+room=$(mktemp -d)
+trap 'rm -rf "$room"' EXIT
+passed=0
+failed=0
+
+report() { # whether it passed, its name, what was wanted, what was found
+    if [ "$1" = 0 ]; then
+        passed=$((passed + 1))
+    else
+        failed=$((failed + 1))
+        printf 'FAILED %s\n  wanted %s\n  found  %s\n' "$2" "$3" "$4"
+    fi
+}
+
+skip() { echo "skipped: $1"; }
+
+has() { command -v "$1" >"$room/which" 2>&1; }
+
+compile() { # a program's name, and the command line that builds it
+    local name=$1
+    shift
+    "$@" >"$room/log" 2>&1
+    report $? "$name is built" "$*" "$(cat "$room/log")"
+}
+
+# ---- images, by hand: the smallest one is 64 times ebreak in one sandbox at 01000000
+smallest=$(tr -d ' \n' <"$here/../smallest.hex")
+head=${smallest:0:72}
+code=${smallest:72}
+put() { xxd -r -p <<<"$2" >"$room/$1.image"; }
+put first_format "$smallest"
+put second_format "53464932${smallest:8}"
+# sw x11, 0(x10); ebreak; addi x24, x24, 1; ebreak; and in the next bundle 16 bytes that do not decode
+put three "${head}2320b50073001000130c1c007300100000000000000000000000000000000000${code:64}"
+# c.addi x2, -16; c.ebreak
+put stack "53464932${head:8}41110290${code:8}"
+put cut "${smallest:0:200}"
+put empty ""
+put other_format "53464933${smallest:8}"
+put longer "${smallest}00"
+
+# ---- what is wanted: image, room for findings, exit status, lines
+cases=(
+    "first_format|2|0|accepted sandboxes=1 bundles=16"
+    "second_format|0|0|accepted sandboxes=1 bundles=16"
+    "three|0|1|refused findings=3 first=V5 sandbox=0 at=01000000"
+    "three|2|1|0 01000000 V5;0 01000008 V4;refused findings=3 first=V5 sandbox=0 at=01000000"
+    "three|9|1|0 01000000 V5;0 01000008 V4;0 01000010 V1;refused findings=3 first=V5 sandbox=0 at=01000000"
+    "stack|1|1|0 01000000 V10;refused findings=1 first=V10 sandbox=0 at=01000000"
+    "cut|2|2|layout fault 3"
+    "empty|2|2|layout fault 3"
+    "other_format|2|2|layout fault 1"
+    "longer|2|2|layout fault 11"
+)
+
+run_cases() { # a host's name, and its command line
+    local name=$1 one image capacity status lines found
+    shift
+    for one in "${cases[@]}"; do
+        IFS='|' read -r image capacity status lines <<<"$one"
+        found=$("$@" "$capacity" <"$room/$image.image" 2>&1)
+        found="$?|$(tr '\n' ';' <<<"$found" | sed 's/;$//')"
+        [ "$found" = "$status|$lines" ]
+        report $? "$name on $image with room for $capacity" "$status|$lines" "$found"
+    done
+}
+
+# ---- the library
+(cd "$top/crates/sfi_c" && rt lib) >"$room/log" 2>&1 || { tail -n 3 "$room/log" && echo "the library can't be built" && exit 1; }
+warnings=(-O2 -Wall -Wextra -pedantic -Werror -I"$top/crates/sfi_c/include")
+
+# ---- C, and the header under C++
+compile host.c gcc -std=c99 "${warnings[@]}" "$here/host.c" "$library" "$heap" -o "$room/host"
+run_cases host.c "$room/host"
+compile edges.c gcc -std=c11 "${warnings[@]}" "$here/edges.c" "$library" "$heap" -o "$room/edges"
+for one in "first_format 0" "second_format 0" "three 3" "stack 1"; do
+    read -r image count <<<"$one"
+    found=$("$room/edges" "$count" <"$room/$image.image" 2>&1)
+    report $? "edges.c on $image" "edges: passed" "$found"
+done
+if has valgrind; then
+    found=$(valgrind -q --error-exitcode=9 --leak-check=full "$room/edges" 3 <"$room/three.image" 2>&1)
+    report $? "edges.c under valgrind" "edges: passed" "$found"
+else
+    skip "valgrind isn't there"
+fi
+if has g++; then
+    compile "the header in C++98" g++ -std=c++98 "${warnings[@]}" -x c++ -fsyntax-only "$top/crates/sfi_c/include/sfi.h"
+    compile "the header in C++17" g++ -std=c++17 "${warnings[@]}" -x c++ -fsyntax-only "$top/crates/sfi_c/include/sfi.h"
+else
+    skip "the header in C++: g++ isn't there"
+fi
+
+# ---- its size: that of the shared library less that of one without it
+compile "the shared library" gcc -shared -o "$room/libsfi.so" -Wl,--whole-archive "$library" -Wl,--no-whole-archive "$heap"
+compile "a shared library without it" gcc -shared -o "$room/libnone.so" -x c /dev/null
+total() { size "$1" | awk 'NR == 2 { print $1 + $2 + $3 }'; }
+added=$(($(total "$room/libsfi.so") - $(total "$room/libnone.so")))
+[ "$added" -gt 0 ] && [ "$added" -le "$most" ]
+report $? "the size of the library" "at most $most bytes" "$added bytes"
+
+# ---- Python and Rust
+if has python3; then
+    run_cases host.py python3 "$here/host.py" "$room/libsfi.so"
+else
+    skip "host.py: python3 isn't there"
+fi
+if has rustc; then
+    compile host.rs rustc --edition 2021 -O -D warnings -o "$room/host_rs" "$here/host.rs" -C link-arg="$library" -C link-arg="$heap"
+    run_cases host.rs "$room/host_rs"
+else
+    skip "host.rs: rustc isn't there"
+fi
+
+echo "$passed passed, $failed failed; the library has $added bytes"
+[ "$failed" = 0 ]
