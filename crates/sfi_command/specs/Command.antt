@@ -24,9 +24,9 @@ rounds_most = 10000
 abbrev pub quantum_most : ℕ
 quantum_most = 1000000
 
--- the program, which wants a subcommand
+-- the program, which has a version and wants a subcommand
 abbrev pub program : App
-program = on_top (λ s. record s { subcommand_required = true }) (new_app (codes "sfi"))
+program = on_top (λ s. record s { has_version = true; subcommand_required = true }) (new_app (codes "sfi"))
 
 -- an option that takes no value
 abbrev pub flag_rule : Text → Rule
@@ -44,13 +44,17 @@ dis = new_shape (codes "dis")
 abbrev pub build : Shape
 build = new_shape (codes "build")
 
+-- an option that takes a value, which its help names
+abbrev pub value_rule : Text → Rule
+value_rule name = record (new_rule name) { long = Some name; value_names = 1 }
+
 -- an option that takes a number from 1 to the most, with its default
 abbrev pub count_rule : Text → Text → ℕ → Rule
-count_rule name usual most = record (new_rule name) { long = Some name; defaults = usual ∷ []; parser = Some (Signed (pos 1) (pos most)) }
+count_rule name usual most = record (value_rule name) { defaults = usual ∷ []; parser = Some (Signed (pos 1) (pos most)) }
 
 -- the option `--input`, which takes a text
 abbrev pub input_rule : Rule
-input_rule = record (new_rule (codes "input")) { long = Some (codes "input") }
+input_rule = value_rule (codes "input")
 
 -- `run [--rounds N] [--quantum Q] [--input HEX]`
 abbrev pub run : Shape

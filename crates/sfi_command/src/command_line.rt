@@ -2,12 +2,14 @@
 
 ghost use Rattle.std.specs.Prelude.{◌≡◌, ◌≢◌, ℕ, false, IfOk, IfErr, IfSome, codes, map, string_bytes};
 ghost use Rattle.clap.specs.Matches.{found_of};
-ghost use Rattle.clap.specs.Simple.{app_of};
+ghost use Rattle.clap.specs.Simple.{app_of, new_app};
 ghost use Rattle.clap.specs.Values.{kind_of};
 ghost use Rattle.clap.specs.Walk.{first_of, rows_of, rule_of};
-ghost use Rattle.sfi_command.specs.Command.{check, count_rule, flag_rule, quantum_most, rounds_most, run, sfi, Asks, IsFaultOf, IsCommandOf, IsCount, IsFaultOfNamed, IsGiven, IsInputFault, IsInputOf, Names};
+ghost use Rattle.clap.specs.declared.builder.command.Command.TheViews.{out-Command};
+ghost use Rattle.sfi_command.specs.Command.{check, count_rule, flag_rule, input_rule, program, quantum_most, rounds_most, run, sfi, Asks, IsFaultOf, IsCommandOf, IsCount, IsFaultOfNamed, IsGiven, IsInputFault, IsInputOf, Names};
 ghost use Rattle.sfi_command.specs.Numbers.{number_of};
 
+use crate::help;
 use crate::job::{Job, JobFault};
 use clap::error::ErrorKind;
 use clap::{Arg, ArgAction, ArgMatches, Command, Error, value_parser};
@@ -20,21 +22,32 @@ const QUANTUM_MOST: u32 = 1000000;
 
 const RAW_REPORT: &str = "error: '--raw' and '--report' cannot be used together\n";
 
+/// A command without options, with the line that says what it does and the notes at the end of its help.
+fn command_named<'a>(alloc: Global, name: &'a str, about: &'a str, notes: &'a str) -> Command<'a>
+    ensures app { app_of result ≡ new_app name.now }
+    ensures local { (out-Command result).has_globals ≡ false }
+{
+    Command::new(alloc, name).about(about).after_help(notes)
+}
+
 /// An option of this name that takes no value.
-fn flag<'a>(alloc: Global, name: &'a str) -> Arg<'a>
+fn flag<'a>(alloc: Global, name: &'a str, about: &'a str) -> Arg<'a>
     ensures rule { rule_of result ≡ flag_rule name.now }
     ensures local { result.global ≡ false }
 {
-    Arg::new(alloc, name).long(name).action(ArgAction::SetTrue)
+    Arg::new(alloc, name)
+        .long(name)
+        .action(ArgAction::SetTrue)
+        .help(about)
 }
 
 /// `check [--raw] [--report]`.
 fn check_command<'a>(alloc: Global) -> Result<Command<'a>, AllocError>
     ensures { IfOk result (IsCommandOf check) }
 {
-    let raw = flag(alloc, "raw");
-    let report = flag(alloc, "report");
-    let check = Command::new(alloc, "check");
+    let raw = flag(alloc, "raw", help::CHECK_RAW);
+    let report = flag(alloc, "report", help::CHECK_REPORT);
+    let check = command_named(alloc, "check", help::CHECK, help::CHECK_NOTES);
     check.arg(raw)?.arg(report)
 }
 
@@ -47,6 +60,8 @@ fn rounds_arg<'a>(alloc: Global) -> Arg<'a>
         .long("rounds")
         .default_value("1")
         .value_parser(value_parser!(u32).range(1..=10000))
+        .value_name("N")
+        .help(help::RUN_ROUNDS)
 }
 
 /// `--quantum Q`.
@@ -58,6 +73,19 @@ fn quantum_arg<'a>(alloc: Global) -> Arg<'a>
         .long("quantum")
         .default_value("1000")
         .value_parser(value_parser!(u32).range(1..=1000000))
+        .value_name("Q")
+        .help(help::RUN_QUANTUM)
+}
+
+/// `--input HEX`.
+fn input_arg<'a>(alloc: Global) -> Arg<'a>
+    ensures rule { rule_of result ≡ input_rule }
+    ensures local { result.global ≡ false }
+{
+    Arg::new(alloc, "input")
+        .long("input")
+        .value_name("HEX")
+        .help(help::RUN_INPUT)
 }
 
 /// `run [--rounds N] [--quantum Q] [--input HEX]`.
@@ -66,24 +94,36 @@ fn run_command<'a>(alloc: Global) -> Result<Command<'a>, AllocError>
 {
     let rounds = rounds_arg(alloc);
     let quantum = quantum_arg(alloc);
-    let input = Arg::new(alloc, "input").long("input");
-    let run = Command::new(alloc, "run");
+    let input = input_arg(alloc);
+    let run = command_named(alloc, "run", help::RUN, help::RUN_NOTES);
     run.arg(rounds)?.arg(quantum)?.arg(input)
+}
+
+/// The program without its subcommands.
+fn program_command<'a>(alloc: Global) -> Command<'a>
+    ensures { app_of result ≡ program }
+{
+    command_named(alloc, "sfi", help::PROGRAM, help::PROGRAM_NOTES)
+        .version(help::VERSION)
+        .subcommand_required(true)
 }
 
 /// The program with its subcommands.
 fn command<'a>(alloc: Global) -> Result<Command<'a>, AllocError>
     ensures { IfOk result (λ c. app_of c ≡ sfi) }
 {
-    let program = Command::new(alloc, "sfi").subcommand_required(true);
+    let program = program_command(alloc);
+    let dis = command_named(alloc, "dis", help::DIS, help::DIS_NOTES);
+    let build = command_named(alloc, "build", help::BUILD, help::BUILD_NOTES);
+    let convert = command_named(alloc, "convert", help::CONVERT, help::CONVERT_NOTES);
     let program = program.subcommand(check_command(alloc)?)?;
-    let program = program.subcommand(Command::new(alloc, "dis"))?;
-    let program = program.subcommand(Command::new(alloc, "build"))?;
+    let program = program.subcommand(dis)?;
+    let program = program.subcommand(build)?;
     let program = program.subcommand(run_command(alloc)?)?;
-    program.subcommand(Command::new(alloc, "convert"))
+    program.subcommand(convert)
 }
 
-/// What is printed for words that don't parse, or ask for help.
+/// What is printed for words that don't parse, or ask for help or the version.
 fn usage(alloc: Global, error: Error) -> JobFault
     ensures refused { number_of result ≡ 1 → kind_of error ≢ ErrorKind.OutOfMemory }
     ensures other { number_of result ≢ 2 }
@@ -220,7 +260,7 @@ fn job_named(alloc: Global, name: &str, found: &ArgMatches<'_>) -> Result<Job, J
 
 /// The job that the words ask for. The first word is the program's name, as `env::args` gives it.
 ///
-/// Words that don't parse, and those that ask for help, are a `Usage`, with the text to print. `Hex` comes of words that
+/// Words that don't parse, and those that ask for help or the version, are a `Usage`, with the text to print. `Hex` comes of words that
 /// parse, where the text of `--input` has an odd number of digits or something that is no digit.
 pub fn job_of(alloc: Global, words: &[String]) -> Result<Job, JobFault>
     ensures job { IfOk result (Asks (map string_bytes words.now)) }

@@ -50,7 +50,7 @@ impl Job {
 /// Why the words ask for no job.
 #[derive(Debug, Drop, Error)]
 pub enum JobFault {
-    /// The words don't parse, or ask for help: the text to print.
+    /// The words don't parse, or ask for help or the version: the text to print.
     #[error("{0}")]
     Usage(String),
     /// The words parse, and the text of `--input` spells no bytes.

@@ -2,7 +2,9 @@
 #![tactic(auto)]
 
 mod command_line;
+mod help;
 mod job;
 
 pub use command_line::job_of;
+pub use help::VERSION;
 pub use job::{Job, JobFault};

@@ -1,8 +1,8 @@
 -- Bytes that a reader tells, read piece by piece.
-use Rattle.std.proofs.Common.{◌≡◌, ℕ, ◌+◌, ◌<◌, ◌≤◌, List, [], ◌++◌, length, Option, Some, None, refl, sym, ap, ◌∙◌, arith, append_assoc, length-append, Vec, Global}
+use Rattle.std.proofs.Common.{◌≡◌, ℕ, ◌+◌, ◌<◌, ◌≤◌, List, [], ◌++◌, length, Option, Some, None, refl, sym, subst, ap, ◌∙◌, arith, append_assoc, length-append, Vec, Global}
 use Rattle.std.specs.Io.KnownBytes.{Consumes, Appends, IsAtEnd}
 use Rattle.std.proofs.lemmas.List.{append-nil}
-use Rattle.sfi_tool.specs.Input.{IsInput, limit}
+use Rattle.sfi_tool.specs.Input.{IsInput, OnlyAppends, WritesPart, limit}
 use Rattle.sfi_tool.specs.declared.input.Input.TheVariants.{Whole, TooLarge}
 
 pub consumes_more : (a b d : Option (List ℕ)) (xs ys : List ℕ) → Consumes a b xs → Consumes b d ys → Consumes a d (xs ++ ys)
@@ -31,3 +31,14 @@ past_limit None b d xs got h k lt = tt
 past_limit (Some x) None d xs got h k lt = absurd h
 past_limit (Some x) (Some y) None xs got h k lt = absurd k
 past_limit (Some x) (Some y) (Some z) xs got h k lt = omega (arith, ap length h, ap length k, length-append xs y, length-append got z)
+
+-- a writer that is as it was, and one that took a text or its beginning, only append
+pub keeps_all : {W : Type 0} (contents : W → Option (List ℕ)) (old new : W) → new ≡ old → OnlyAppends (contents old) (contents new)
+keeps_all contents old new same = ([], subst (λ w. Appends (contents old) (contents w) []) (sym same) (nothing (contents old)))
+  where
+    nothing : (o : Option (List ℕ)) → Appends o o []
+    nothing None = tt
+    nothing (Some xs) = sym (append-nil xs)
+
+pub of_part : (old new : Option (List ℕ)) (text : List ℕ) → WritesPart old new text → OnlyAppends old new
+of_part old new text (front, rest, is, some, wrote) = (front, wrote)

@@ -6,3 +6,4 @@ pub mod TooLarge
 pub mod Conversions
 pub mod Classes
 pub mod Reading
+pub mod RawJobs

@@ -117,14 +117,6 @@ Says Convert input status text = (bytes : List ℕ) × SpellsBytes input bytes �
 
 -- ---- which status what was read has
 
--- it is an image without findings
-abbrev pub IsSomeAccepted : List ℕ → Type 0
-IsSomeAccepted input = (parts : List Part) × IsAccepted input parts
-
--- it is an image with findings
-abbrev pub HasSomeFindings : List ℕ → Type 0
-HasSomeFindings input = (found : List Finding) × HasFindings input found
-
 -- it is an image with a fault
 abbrev pub HasSomeFault : List ℕ → Type 0
 HasSomeFault input = (k : LayoutFault) × IsFault input k
@@ -170,19 +162,17 @@ IsNoSourceText input = (limit < length input) ⊎ ¬ IsUtf8 input
 abbrev pub MeansFault : List ℕ → Type 0
 MeansFault input = (f : BuildFault) × IsBuildFault input f
 
--- status 0: the job can be done on it
+-- status 0: the job, which reads a text, can be done on it
 abbrev pub IsDone : Job → List ℕ → Type 0
-IsDone (Check true report) input = IsSomeAccepted input
-IsDone (Check false report) input = SpellsAccepted input
+IsDone (Check raw report) input = SpellsAccepted input
 IsDone Dis input = SpellsImage input
 IsDone Build input = MeansBuild input
 IsDone (Run rounds quantum given) input = SpellsAccepted input
 IsDone Convert input = SpellsConverted input
 
--- status 1: the job refuses it for its findings
+-- status 1: the job, which reads a text, refuses it for its findings
 abbrev pub IsRefused : Job → List ℕ → Type 0
-IsRefused (Check true report) input = HasSomeFindings input
-IsRefused (Check false report) input = SpellsFindings input
+IsRefused (Check raw report) input = SpellsFindings input
 IsRefused Dis input = ⊥
 IsRefused Build input = ⊥
 IsRefused (Run rounds quantum given) input = SpellsFindings input

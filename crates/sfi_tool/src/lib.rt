@@ -20,5 +20,5 @@ mod verdict;
 pub use answering::answer;
 pub use output::write_out;
 pub use running::run_tool;
-pub use sfi_command::{Job, JobFault, job_of};
+pub use sfi_command::{Job, JobFault, VERSION, job_of};
 pub use verdict::Answer;

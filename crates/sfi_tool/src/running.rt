@@ -3,6 +3,7 @@
 ghost use Rattle.std.specs.Prelude.{◌≡◌, ◌<◌, ◌≤◌, ◌≢◌, ℕ, List, true, false, IfSome, map, string_bytes};
 ghost use Rattle.std.specs.Io.KnownBytes.{Appends};
 ghost use Rattle.sfi_command.specs.Command.{AsksNothing};
+ghost use Rattle.sfi_tool.specs.Input.{OnlyAppends};
 ghost use Rattle.sfi_tool.specs.Run.{WritesAnswer, MeetsFault};
 ghost use Rattle.sfi_tool.specs.Says.{HasInputFault, Says};
 ghost use Rattle.sfi_command.specs.declared.job.Job.TheVariants.{Check};
@@ -20,6 +21,7 @@ use std::io::{Read, Write};
 fn printed<W: Write>(writer: &mut W, status: u8, text: &str) -> u8
     ensures status { result ≢ 5 → result ≡ status }
     ensures whole { result ≢ 5 → Appends (W.contents writer.old) (W.contents writer.new) text.now }
+    ensures appends { OnlyAppends (W.contents writer.old) (W.contents writer.new) }
 {
     if write_out(writer, text.as_bytes()) {
         status
@@ -36,6 +38,7 @@ fn run_raw<R: Read, W: Write>(alloc: Global, reader: &mut R, writer: &mut W) -> 
     ensures fault { result ≡ 2 → IfSome (R.remaining reader.old) (HasInputFault (Check true false)) }
     ensures usage { result ≢ 3 }
     ensures memory { result ≡ 4 → writer.new ≡ writer.old }
+    ensures appends { OnlyAppends (W.contents writer.old) (W.contents writer.new) }
 {
     match raw_answer(alloc, reader) {
         Ok(answer) => printed(writer, answer.status, &answer.text),
@@ -49,7 +52,7 @@ fn run_raw<R: Read, W: Write>(alloc: Global, reader: &mut R, writer: &mut W) -> 
 /// - 0: accepted, built, listed or run; 1: findings;
 /// - 2: a fault of the input, or a text of `--input` that spells no bytes, which the text names. The latter is
 ///   answered before anything is read;
-/// - 3: the words don't parse, or ask for help: what to print for them was written;
+/// - 3: the words don't parse, or ask for help or the version: what to print for them was written;
 /// - 4: an allocation was refused, and nothing was written;
 /// - 5: a read or a write failed. After a failed read nothing was written; after a failed write a
 ///   beginning of the text.
@@ -66,7 +69,9 @@ pub fn run_tool<R: Read, W: Write>(
         (W.contents writer.old) (W.contents writer.new) result }
     ensures fault { result ≡ 2 → MeetsFault (map string_bytes words.now) (R.remaining reader.old) }
     ensures usage { result ≡ 3 → AsksNothing (map string_bytes words.now) }
+    ensures unread { result ≡ 3 → reader.new ≡ reader.old }
     ensures memory { result ≡ 4 → writer.new ≡ writer.old }
+    ensures appends { OnlyAppends (W.contents writer.old) (W.contents writer.new) }
 {
     let job = match job_of(alloc, words) {
         Ok(job) => job,

@@ -1,6 +1,7 @@
 //! The options of a run, words that don't parse, and those that ask for help.
 use super::{Outcome, run, words_of};
-use sfi_tool::{Job, job_of, run_tool};
+use sfi_tool::{Job, VERSION, job_of, run_tool};
+use std::alloc::{AllocError, Global};
 use std::test::Fail;
 
 const RAW_REPORT: &str = "error: '--raw' and '--report' cannot be used together\n";
@@ -41,17 +42,118 @@ fn usage(rt: HostRuntime) -> Result<(), Fail> {
         ("sfi run --quantum 0x10", "error: "),
         ("sfi run --input", "error: "),
         ("sfi run --rounds 0 --input 0", "error: "),
-        ("sfi --help", "Usage: sfi "),
-        ("sfi help", "Usage: sfi "),
-        ("sfi check --help", "Usage: sfi check"),
-        ("sfi dis --help", "Usage: sfi dis"),
-        ("sfi build --help", "Usage: sfi build"),
-        ("sfi run --help", "Usage: sfi run"),
+        ("sfi check --version", "error: "),
+        ("sfi help frob", "error: "),
     ];
     for (line, front) in rows {
         let Outcome { status, text } = run(alloc, line, b"")?;
         assert!(rt; text.as_slice().starts_with(front.as_bytes()), "{line}");
         assert_eq!(rt; status, 3, "{line}");
+    }
+    Ok(())
+}
+
+// What is printed for words that don't parse, as the Rust crate prints it.
+#[test]
+fn usage_texts(rt: HostRuntime) -> Result<(), Fail> {
+    let alloc = rt.alloc();
+    let rows = [
+        (
+            "sfi check --frob",
+            "error: unexpected argument '--frob' found\n\nUsage: sfi check [OPTIONS]\n",
+        ),
+        (
+            "sfi frob",
+            "error: unrecognized subcommand 'frob'\n\nUsage: sfi <COMMAND>\n",
+        ),
+    ];
+    for (line, text) in rows {
+        let printed = printed_help(alloc, line)?;
+        let whole = format!(in alloc; "{text}\nFor more information, try '--help'.\n")?;
+        assert_eq!(rt; printed.as_str(), whole.as_str(), "{line}");
+    }
+    let version = format!(in alloc; "sfi {VERSION}\n")?;
+    for line in ["sfi --version", "sfi -V"] {
+        assert_eq!(rt;
+            printed_help(alloc, line)?.as_str(),
+            version.as_str(),
+            "{line}"
+        );
+    }
+    Ok(())
+}
+
+// What a run prints with status 3.
+fn printed_help(alloc: Global, line: &str) -> Result<String, AllocError> {
+    let Outcome { status, text } = run(alloc, line, b"")?;
+    match std::str::from_utf8(text.as_slice()) {
+        Ok(text) if status == 3 => String::from_str(alloc, text),
+        _ => format!(in alloc; "status {status}"),
+    }
+}
+
+// Each help says what its command does, how it is called, which options it has, which statuses, and an example.
+#[test]
+fn help(rt: HostRuntime) -> Result<(), Fail> {
+    let alloc = rt.alloc();
+    let rows = [
+        (
+            ["--help", "-h", "help"],
+            [
+                "<COMMAND>\n",
+                "  check    Accept an image, or",
+                "-V, --version",
+            ],
+            "build < ",
+        ),
+        (
+            ["check --help", "check -h", "help check"],
+            ["check [OPTIONS]\n", "--raw ", "--report "],
+            "check --",
+        ),
+        (
+            ["dis --help", "dis -h", "help dis"],
+            ["dis\n", "List an image", "-h, --help"],
+            "dis < ",
+        ),
+        (
+            ["build --help", "build -h", "help build"],
+            ["build\n", "source text", "-h, --help"],
+            "build < ",
+        ),
+        (
+            ["run --help", "run -h", "help run"],
+            ["--rounds <N> ", "--quantum <Q> ", "--input <HEX> "],
+            "run --",
+        ),
+        (
+            ["convert --help", "convert -h", "help convert"],
+            ["convert\n", "second format", "-h, --help"],
+            "convert < ",
+        ),
+    ];
+    for (lines, parts, example) in rows {
+        let [first, ..] = lines;
+        let text = printed_help(alloc, format!(in alloc; "sfi {first}")?.as_str())?;
+        for line in lines {
+            let same = printed_help(alloc, format!(in alloc; "sfi {line}")?.as_str())?;
+            assert_eq!(rt; same.as_str(), text.as_str(), "{line}");
+        }
+        for part in parts {
+            assert!(rt; text.contains(part), "{first}: {part}");
+        }
+        for part in [
+            "\n\nUsage: sfi ",
+            "\n\nExit status:\n  0  ",
+            "\n  2  ",
+            "\n\nExample:\n  sfi ",
+        ] {
+            assert!(rt; text.contains(part), "{first}: {part}");
+        }
+        assert!(rt;
+            text.contains(format!(in alloc; "\n  sfi {example}")?.as_str()),
+            "{first}: {example}"
+        );
     }
     Ok(())
 }

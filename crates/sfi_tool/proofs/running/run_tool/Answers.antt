@@ -3,6 +3,7 @@ use Rattle.sfi_tool.specs.Input.{IsInput}
 use Rattle.sfi_tool.specs.Says.{Says}
 use Rattle.sfi_tool.specs.declared.input.Input.TheVariants.{Whole}
 use Rattle.sfi_tool.proofs.TooLarge.{told_too_large}
+use Rattle.sfi_tool.proofs.RawJobs.{raw_check}
 use Rattle.sfi_tool.proofs.running.run_tool.Goals as goal
 
 -- what holds of the text that was read holds of the bytes that the reader told
@@ -10,6 +11,13 @@ of_told : (P : List ℕ → Type 0) (told : Option (List ℕ)) (whole : Vec ℕ 
     → read ≡ whole.items → P read → IfSome told P
 of_told P None whole read is same holds = tt
 of_told P (Some bytes) whole read is same holds = subst P (same ∙ is.0) holds
+
+-- what a raw check says is the answer of the job that was asked for
+pub returns-then-is_raw-clause-says : goal.returns-then-is_raw-clause-says
+returns-then-is_raw-clause-says g c less =
+    let asked = c.in-Ok.ensures.job in
+    let check = raw_check _ c.in-Ok.job (sym c.if-is_raw.true ∙ c.is_raw.ensures) asked in
+    record { job = c.in-Ok.job; asked = asked; wrote = rw check (c.run_raw.ensures.says less) }
 
 pub returns-in-Ok-answer-clause-says : goal.returns-in-Ok-answer-clause-says
 returns-in-Ok-answer-clause-says g c below =

@@ -1,0 +1,116 @@
+//! What the program says of itself: a line for each command and option, and what follows the options in a command's help.
+
+/// The version of the program and of its crates.
+pub const VERSION: &str = "0.1.0";
+
+pub(crate) const PROGRAM: &str =
+    "Build, check, list, convert and run images of sandboxed RISC-V code (RV32IMC)";
+
+pub(crate) const PROGRAM_NOTES: &str = "\
+Each command reads standard input and writes standard output, lines about
+faults too. Images are hexadecimal text: digits of either case, with white
+space between them. `sfi help COMMAND` says more of a command.
+
+Exit status:
+  0  done: the image is accepted, built, listed, run or converted
+  1  refused: the image breaks rules, and the verdict is printed
+  2  the input or the text of --input has a fault, which one line names
+  3  a usage error, or a help or version text
+  4  memory ran out, and nothing is printed
+  5  a read or a write failed, and what is printed may be cut short
+
+Example:
+  sfi build < examples/hi.s > hi.hex
+  sfi check < hi.hex
+  sfi run < hi.hex";
+
+pub(crate) const CHECK: &str = "Accept an image, or refuse it for the rules that its code breaks";
+
+pub(crate) const CHECK_RAW: &str =
+    "Read the image's own bytes, of any number, and not their digits";
+
+pub(crate) const CHECK_REPORT: &str =
+    "Before the verdict print a line for each finding; not with --raw";
+
+pub(crate) const CHECK_NOTES: &str = "\
+Reads an image, and prints one of
+  accepted sandboxes=C bundles=B
+  refused findings=N first=Vk sandbox=S at=AAAAAAAA
+  layout fault K Name, or another line that names a fault of the input
+
+Exit status:
+  0  accepted: C sandboxes with B bundles of code, and no finding
+  1  refused: N findings, the first in sandbox S at address AAAAAAAA, where
+     rule Vk is broken
+  2  the input is no image
+  3, 4, 5  as `sfi help` says
+
+Example:
+  sfi check --report < hi.hex
+  xxd -r -p hi.hex | sfi check --raw";
+
+pub(crate) const DIS: &str = "List an image's regions, gates and instructions";
+
+pub(crate) const DIS_NOTES: &str = "\
+Reads an image, and prints for each sandbox a line of its regions, a line for
+each gate, and a line for each instruction. The code may break rules.
+
+Exit status:
+  0  listed
+  2  the input is no image
+  3, 4, 5  as `sfi help` says
+
+Example:
+  sfi dis < hi.hex";
+
+pub(crate) const BUILD: &str = "Make the image of a source text";
+
+pub(crate) const BUILD_NOTES: &str = "\
+Reads a source text, in UTF-8, and prints the image on one line of hexadecimal
+digits. `sfi check` accepts what is built.
+
+Exit status:
+  0  built
+  2  the source has a fault, and the line says where
+  3, 4, 5  as `sfi help` says
+
+Example:
+  sfi build < examples/hi.s > hi.hex";
+
+pub(crate) const RUN: &str = "Check an image and, if it is accepted, run its sandboxes by turns";
+
+pub(crate) const RUN_ROUNDS: &str = "Turns of each sandbox, from 1 to 10000";
+
+pub(crate) const RUN_QUANTUM: &str = "Steps of a turn at most, from 1 to 1000000";
+
+pub(crate) const RUN_INPUT: &str = "What each sandbox reads, as hexadecimal digits";
+
+pub(crate) const RUN_NOTES: &str = "\
+Reads an image, and prints for each sandbox a line of its state (ready, an exit
+code or a trap), its steps and its output in hexadecimal digits:
+  sandbox=S exit=D steps=N out=HEX
+
+Exit status:
+  0  run, whatever the sandboxes did
+  1  refused: the image breaks rules, and the verdict is printed
+  2  the input is no image, or --input spells no bytes
+  3, 4, 5  as `sfi help` says
+
+Example:
+  sfi run < hi.hex
+  sfi run --rounds 10 --quantum 5000 --input 4869 < hi.hex";
+
+pub(crate) const CONVERT: &str = "Write an image of the first format in the second format";
+
+pub(crate) const CONVERT_NOTES: &str = "\
+Reads an image of the first format, and prints the same sandboxes in the second
+format, in which x2 is a stack pointer, on one line of hexadecimal digits.
+
+Exit status:
+  0  converted
+  1  refused: the code breaks a rule of either format; the verdict is printed
+  2  the input is no image, or is of the second format already
+  3, 4, 5  as `sfi help` says
+
+Example:
+  sfi convert < old.hex > new.hex";
