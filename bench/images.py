@@ -98,11 +98,12 @@ class Code:
         return self.short() + self.computation() + self.computation() + self.computation() + self.short()
 
 
-def image(kind, sandboxes=16, code_size=65536, init=0, format=1):
-    """The bytes of an image with that many sandboxes, each with that much code, 1 MiB of data, and that many first data bytes."""
+def image(kind, sandboxes=16, code_size=65536, init=0, format=1, seed=0):
+    """The bytes of an image with that many sandboxes, each with that much code, 1 MiB of data, and that many first data bytes. Another
+    seed makes other code."""
     out = [b"SFI%d" % format, struct.pack("<I", sandboxes)]
     for n in range(sandboxes):
-        code = Code(n, code_size, format)
+        code = Code(seed + n, code_size, format)
         code_base = 0x01000000 * (n + 1)
         bundles = [code.bundle(kind, at) for at in range(0, code_size - 16, 16)]
         bundles.append(struct.pack("<H", 0x9002) * 8)  # c.ebreak: control can't run off the end
