@@ -1,7 +1,7 @@
 -- The gates that are still ahead of a bundle, and the findings of one bundle more.
-use Rattle.std.proofs.Common.{◌≡◌, ℕ, zero, suc, ◌+◌, ◌*◌, ◌%◌, ◌<◌, ◌≤◌, ◌==◌, Bool, true, false, List, [], ◌∷◌, ◌++◌, take, drop, get_or, refl, ap, ◌∙◌, subst, arith}
+use Rattle.std.proofs.Common.{◌≡◌, ℕ, zero, suc, ◌+◌, ◌*◌, ◌%◌, ◌<◌, ◌≤◌, ◌==◌, Bool, true, false, List, [], ◌∷◌, ◌++◌, length, take, drop, get_or, refl, sym, ap, ◌∙◌, subst, arith}
 use Rattle.std.specs.Prelude.{◌||◌, if◌then◌else◌}
-use Rattle.std.proofs.lemmas.List.{drop-drop}
+use Rattle.std.proofs.lemmas.List.{append-nil, drop-drop}
 use Rattle.std.specs.Simd.{first_chunks}
 use Rattle.std.proofs.lemmas.Bool.{ne_eqb, eqb-true, eqb-false}
 use Rattle.sfi_image.specs.declared.part.Gate.{Gate}
@@ -83,6 +83,11 @@ chunk_at (suc count) (suc k) xs h =
 
 pub if_true : (b : Bool) (xs ys zs : List Finding) → zs ≡ (if b then xs else ys) → b ≡ true → zs ≡ xs
 if_true b xs ys zs e h = e ∙ ap (λ (v : Bool). if v then xs else ys) h
+
+-- a bundle without findings adds none
+pub none_more : (xs ys : List Finding) → length ys ≤ 0 → xs ≡ xs ++ ys
+none_more xs [] h = sym (append-nil xs)
+none_more xs (y ∷ ys) h = absurd (omega arith)
 
 -- ---- one bundle more
 

@@ -62,7 +62,10 @@ pub fn scan_part_as(
             listed,
         };
         scan_bundle(&place, bytes, &mut findings);
-        found.extend_from_slice(findings.as_slice())?;
+        // Most bundles have none, and this test is less than a call.
+        if findings.count() > 0 {
+            found.extend_from_slice(findings.as_slice())?;
+        }
     }
     Ok(found)
 }

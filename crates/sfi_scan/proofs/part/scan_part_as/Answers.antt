@@ -6,9 +6,9 @@ use Rattle.sfi_image.specs.Spans.{code_region}
 use Rattle.sfi_image.specs.Gates.{is_gate_of}
 use Rattle.sfi_scan.specs.Findings.{AreFindingsOfFirst}
 use Rattle.sfi_scan.proofs.Bounds.{region_end, bundles_of}
-use Rattle.sfi_scan.proofs.Gates.{Ahead, all_ahead, one_more, first_is, ahead_taken, ahead_kept, same_taken, chunk_at, if_true}
+use Rattle.sfi_scan.proofs.Gates.{Ahead, all_ahead, one_more, first_is, ahead_taken, ahead_kept, same_taken, chunk_at, if_true, none_more}
 use Rattle.sfi_scan.proofs.part.scan_part_as.Goals as goal
-use Rattle.sfi_scan.proofs.part.scan_part_as.Goals.{then-listed, else-listed}
+use Rattle.sfi_scan.proofs.part.scan_part_as.Goals.{then-listed, else-listed, then-count-gt0+in_ok-extend_from_slice, else-count-gt0}
 
 pub loop-k-init : goal.loop-k-init
 loop-k-init c = record {
@@ -42,9 +42,16 @@ loop-k-preserved c =
     let listed = c.is_first_at-listed.ensures ∙ first_is at c.loop-k.gates.now old.ahead ∙ old.same at (omega arith) in
     let place_with : Bool → BundlePlace = λ l. record { sandbox = c.args.sandbox; address = at; format = c.args.format; code_base = c.args.part.now.code_base; code_size = length c.args.part.now.code.now; listed = l } in
     let place = ap place_with listed in
+    let grown : c.if-count-gt0.found.items ≡ c.loop-k.found.items ++ c.scan_bundle.new.findings =
+    elim c.if-count-gt0.branch [
+      | then-count-gt0+in_ok-extend_from_slice w ↦
+        ap (λ v. v.items) w.found-is ∙ if_true (is_ok w.extend_from_slice.result) _ _ w.extend_from_slice.new.self.items w.extend_from_slice.ensures.items (ap is_ok w.in_ok-extend_from_slice.was) ∙ ap (λ l. c.loop-k.found.items ++ l) w.as_slice.ensures
+      | else-count-gt0 w ↦
+        ap (λ v. v.items) w.found-is ∙ none_more c.loop-k.found.items c.scan_bundle.new.findings (let none = w.if-count-gt0.false in let count = c.count.ensures.value in omega arith)
+    ] in
     record {
-      so_far = one_more c.args.sandbox (view c.args.format c.args.part.now) c.loop-k.k _ _ c.loop-k.found.items c.scan_bundle.new.findings c.extend_from_slice.new.self.items old.so_far c.scan_bundle.ensures place (ap (λ (l : List (List ℕ)). get_or l c.loop-k.k []) c.as_chunks.ensures.front ∙ chunk_at (length c.args.part.now.code.now / 16) c.loop-k.k c.args.part.now.code.now (let below = c.loop-k-test.true in let count = c.as_chunks.ensures.front_len in omega arith))
-          (if_true (is_ok c.extend_from_slice.result) _ _ c.extend_from_slice.new.self.items c.extend_from_slice.ensures.items (ap is_ok c.in_ok-extend_from_slice.was) ∙ ap (λ l. c.loop-k.found.items ++ l) c.as_slice.ensures);
+      so_far = one_more c.args.sandbox (view c.args.format c.args.part.now) c.loop-k.k _ _ c.loop-k.found.items c.scan_bundle.new.findings c.if-count-gt0.found.items old.so_far c.scan_bundle.ensures place (ap (λ (l : List (List ℕ)). get_or l c.loop-k.k []) c.as_chunks.ensures.front ∙ chunk_at (length c.args.part.now.code.now / 16) c.loop-k.k c.args.part.now.code.now (let below = c.loop-k-test.true in let count = c.as_chunks.ensures.front_len in omega arith))
+          grown;
       ahead = subst (λ a. Ahead a c.if-listed.gates.now) next (elim c.if-listed.branch [
         | then-listed w ↦ subst (λ l. Ahead (at + 16) l) (sym (ap (λ b. b.now) w.gates-is ∙ w.behind_first-gates.ensures)) (ahead_taken at c.loop-k.gates.now (sym c.is_first_at-listed.ensures ∙ w.if-listed.true) even old.ahead)
         | else-listed w ↦ subst (λ l. Ahead (at + 16) l) (sym (ap (λ b. b.now) w.gates-is)) (ahead_kept at c.loop-k.gates.now (sym c.is_first_at-listed.ensures ∙ w.if-listed.false) even old.ahead)
