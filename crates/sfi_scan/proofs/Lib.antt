@@ -5,7 +5,7 @@ pub mod Gates
 pub mod Look
 pub mod OneList
 pub mod Readings
-pub mod Rest
+pub mod WordsAt
 pub mod Walk
 pub mod FirstFormat
 pub mod Second

@@ -1,5 +1,5 @@
 -- The table of halfwords that compute, seen right at each halfword.
-use Rattle.std.proofs.Common.{◌≡◌, ℕ, zero, suc, ◌+◌, ◌*◌, ◌/◌, ◌%◌, ◌<◌, Bool, true, false, ◌&&◌, ◌==◌, refl, ap, sym, ◌∙◌, subst, arith, inl, inr, Option, Some, IfSome, bit_and, ◌^◌, ◌≢◌}
+use Rattle.std.proofs.Common.{List, ◌≡◌, ℕ, zero, suc, ◌+◌, ◌*◌, ◌/◌, ◌%◌, ◌<◌, Bool, true, false, ◌&&◌, ◌==◌, refl, ap, sym, ◌∙◌, subst, arith, inl, inr, Option, Some, IfSome, bit_and, ◌^◌, ◌≢◌}
 use Rattle.std.specs.Prelude.{slice_index, ◌||◌, not}
 use Rattle.std.specs.Bool.{OnTrue}
 use Rattle.std.proofs.lemmas.Nat.{and_mask}
@@ -7,7 +7,7 @@ use Rattle.std.proofs.lemmas.Bool.{and_parts, cases_eq, ne_eqb}
 use Rattle.rv_word.specs.declared.outline.Outline.{Outline}
 use Rattle.rv_word.specs.declared.outline.Outline.TheVariants.{Computes}
 use Rattle.rv_word.specs.Numbers.{bits}
-use Rattle.rv_word.specs.Outlines.{IsWordThat}
+use Rattle.rv_word.specs.Outlines.{outline, IsWordThat}
 use Rattle.rv_word.specs.Spelling.{IsWordOf}
 use Rattle.rv_comp.specs.Halfwords.{IsHalfwordThat, IsShortSpelling}
 use Rattle.rv_comp.specs.Laws.{HalfwordsAreOutlined}
@@ -15,9 +15,12 @@ use Rattle.rv_comp.specs.mirror.Decoding.{extended, jump_offset, branch_offset}
 use Rattle.rv_comp.specs.mirror.Outlining.{row_of, jump, jump_or_stop, outlined}
 use Rattle.sfi_image.specs.Formats.{has_stack}
 use Rattle.sfi_scan.specs.Pairs.{is_reserved}
-use Rattle.sfi_scan.specs.FirstLook.{IsFreeHalf, IsCleanOne, is_clean, is_withheld}
+use Rattle.sfi_scan.specs.FirstLook.{AreBefore, IsFreeHalf, IsCleanOne, is_clean, is_withheld}
 use Rattle.sfi_scan.specs.declared.bundle.BundlePlace.{BundlePlace}
 use Rattle.sfi_scan.specs.declared.clean.Words.{Words}
+use Rattle.sfi_scan.specs.declared.before.Before.{Before}
+use Rattle.sfi_scan.specs.Near.{near}
+use Rattle.rv_word.specs.declared.instr.Instr.{Instr}
 use Rattle.sfi_scan.specs.declared.computing.TheConstants.{COMPUTING}
 
 -- each number below n passes
@@ -116,8 +119,8 @@ pub other_register : (s : Bool) (h : ℕ) → not (bit_and (h / 128) 31 == 2) �
 other_register false h e = refl
 other_register true h e = ap (λ r. r == 2) (sym (and_mask (h / 128) 5)) ∙ not_true (bit_and (h / 128) 31 == 2) e
 
-pub clean_free : (b : BundlePlace) (at : ℕ) (words : Words) (h : ℕ) → IsFreeHalf b h → IsCleanOne b at words (IsShortSpelling h)
-clean_free b at words h f = record {
+pub clean_free : (b : BundlePlace) (at : ℕ) (are : Before → Type 0) (h : ℕ) → IsFreeHalf b h → IsCleanOne b at are (IsShortSpelling h)
+clean_free b at are h f = record {
   instr = f.does.instr;
   spelled = f.does.spelled;
   clean = λ earlier before. ap (is_clean b at earlier) f.does.does ∙ ap not f.free;
@@ -125,13 +128,36 @@ clean_free b at words h f = record {
 
 -- ---- words
 
-pub clean_computing : (b : BundlePlace) (at : ℕ) (words : Words) (word rd : ℕ) → IsWordThat word (Computes rd) → (w : Bool) → w ≡ is_withheld b rd → OnTrue (not w) (IsCleanOne b at words (IsWordOf word))
-clean_computing b at words word rd that true e = tt
-clean_computing b at words word rd that false e = record {
+pub clean_computing : (b : BundlePlace) (at : ℕ) (are : Before → Type 0) (word rd : ℕ) → IsWordThat word (Computes rd) → (w : Bool) → w ≡ is_withheld b rd → OnTrue (not w) (IsCleanOne b at are (IsWordOf word))
+clean_computing b at are word rd that true e = tt
+clean_computing b at are word rd that false e = record {
   instr = that.instr;
   spelled = that.spelled;
   clean = λ earlier before. ap (is_clean b at earlier) that.does ∙ ap not (sym e);
 }
+
+-- ---- what an outline tells
+
+-- where the words before a place are told, so is what is clean there
+clean_told : (b : BundlePlace) (at : ℕ) (are : Before → Type 0) (words : Words) (spell : Instr → Type 0) (o : Outline) (i : Instr) → spell i → outline i ≡ o
+    → ((before : Before) → are before → AreBefore words before)
+    → (r : Bool) → ((earlier : List Instr) → AreBefore words (near earlier) → OnTrue r (is_clean b at earlier o ≡ true)) → OnTrue r (IsCleanOne b at are spell)
+clean_told b at are words spell o i spelled does told false clean = tt
+clean_told b at are words spell o i spelled does told true clean = record {
+  instr = i;
+  spelled = spelled;
+  clean = λ earlier before. ap (is_clean b at earlier) does ∙ clean earlier (told (near earlier) before);
+}
+
+pub clean_short : (b : BundlePlace) (at : ℕ) (are : Before → Type 0) (words : Words) (h : ℕ) (o : Outline) → IsHalfwordThat h o
+    → ((before : Before) → are before → AreBefore words before)
+    → (r : Bool) → ((earlier : List Instr) → AreBefore words (near earlier) → OnTrue r (is_clean b at earlier o ≡ true)) → OnTrue r (IsCleanOne b at are (IsShortSpelling h))
+clean_short b at are words h o that told r clean = clean_told b at are words (IsShortSpelling h) o that.instr that.spelled that.does told r clean
+
+pub clean_wide : (b : BundlePlace) (at : ℕ) (are : Before → Type 0) (words : Words) (word : ℕ) (o : Outline) → IsWordThat word o
+    → ((before : Before) → are before → AreBefore words before)
+    → (r : Bool) → ((earlier : List Instr) → AreBefore words (near earlier) → OnTrue r (is_clean b at earlier o ≡ true)) → OnTrue r (IsCleanOne b at are (IsWordOf word))
+clean_wide b at are words word o that told r clean = clean_told b at are words (IsWordOf word) o that.instr that.spelled that.does told r clean
 
 -- bits 11:7, as the code takes them
 pub rd_is : (word r : ℕ) → r ≡ bit_and (word / 128) 31 → r ≡ bits word 11 7

@@ -1,5 +1,6 @@
 -- Words of private contracts: the first look at a bundle.
-use Rattle.std.specs.Prelude.{◌≡◌, ◌⊎◌, ◌&&◌, ◌||◌, ◌==◌, not, ℕ, ℤ, pos, negsuc, List, Bool, true, false, Option, Some, None}
+use Rattle.std.specs.Int.{w16, w32, from_le_bytes}
+use Rattle.std.specs.Prelude.{◌≡◌, ◌+◌, ◌≤◌, take, drop, ◌⊎◌, ◌&&◌, ◌||◌, ◌==◌, not, ℕ, ℤ, pos, negsuc, List, Bool, true, false, Option, Some, None}
 use Rattle.rv_word.specs.declared.instr.Instr.{Instr}
 use Rattle.rv_word.specs.declared.instr.Instr.TheVariants.{Op}
 use Rattle.rv_word.specs.declared.instr.RegOp.TheVariants.{And, Or}
@@ -26,6 +27,19 @@ pub record AreBefore (words : Words) (before : Before) : Type 0 where
   pub first : IsWordOr0 words.first before.first
   pub second : IsWordOr0 words.second before.second
 
+-- the halfword at a place of the bytes, and the word
+abbrev pub half_at : List ℕ → ℕ → ℕ
+half_at bytes at = from_le_bytes w16 (take 2 (drop at bytes))
+
+abbrev pub word_at : List ℕ → ℕ → ℕ
+word_at bytes at = from_le_bytes w32 (take 4 (drop at bytes))
+
+-- The words of the two nearest instructions, or 0, where the bytes that end at a place are words from another place on: a word that stands
+-- four bytes before the place is that of the nearest, and one eight bytes before it that of the other.
+pub record AreWordsFrom (bytes : List ℕ) (at from : ℕ) (before : Before) : Type 0 where
+  pub first : (k : ℕ) → from ≤ k → k + 8 ≡ at → IsWordOr0 (word_at bytes k) before.first
+  pub second : (k : ℕ) → from ≤ k → k + 4 ≡ at → IsWordOr0 (word_at bytes k) before.second
+
 abbrev pub is_zero : ℤ → Bool
 is_zero (pos n) = n == 0
 is_zero (negsuc n) = false
@@ -46,11 +60,11 @@ is_clean b at earlier Orders = true
 is_clean b at earlier Calls = false
 is_clean b at earlier Stops = true
 
--- what is spelled is an instruction that breaks none of them after these words
-pub record IsCleanOne (b : BundlePlace) (at : ℕ) (words : Words) (spell : Instr → Type 0) : Type 0 where
+-- what is spelled is an instruction that breaks none of them where this is so of the two nearest instructions before it
+pub record IsCleanOne (b : BundlePlace) (at : ℕ) (are : Before → Type 0) (spell : Instr → Type 0) : Type 0 where
   pub instr : Instr
   pub spelled : spell instr
-  pub clean : (earlier : List Instr) → AreBefore words (near earlier) → is_clean b at earlier (outline instr) ≡ true
+  pub clean : (earlier : List Instr) → are (near earlier) → is_clean b at earlier (outline instr) ≡ true
 
 -- the halfword is that of an instruction that computes into a register that is not withheld
 pub record IsFreeHalf (b : BundlePlace) (h : ℕ) : Type 0 where

@@ -1,17 +1,18 @@
 //! A first look at a bundle: whether it breaks no rule. It makes no instruction, so it is quick; what it doesn't let pass
 //! may still be clean.
-ghost use Rattle.std.specs.Prelude.{◌≡◌, ◌+◌, ◌<◌, ◌&&◌, not, List, [], false, true};
+ghost use Rattle.std.specs.Prelude.{◌≡◌, ◌+◌, ◌<◌, ◌≤◌, ◌&&◌, not, List, [], false, true};
 ghost use Rattle.std.specs.Bool.{OnTrue};
 ghost use Rattle.rv_comp.specs.Halfwords.{IsShortSpelling};
 ghost use Rattle.rv_word.specs.declared.instr.Instr.{Instr};
 ghost use Rattle.rv_word.specs.Spelling.{IsWordOf};
 ghost use Rattle.sfi_image.specs.Formats.{has_stack};
+ghost use Rattle.sfi_scan.specs.declared.before.Before.{Before};
 ghost use Rattle.sfi_scan.specs.Bundles.{IsWithin};
 ghost use Rattle.sfi_scan.specs.Findings.{AreReadingFindings};
 ghost use Rattle.sfi_scan.specs.Near.{near};
 ghost use Rattle.sfi_scan.specs.Pairs.{is_reserved, follows_pair, follows_code_pair};
 ghost use Rattle.sfi_scan.specs.Rules.{is_last_bundle, may_access};
-ghost use Rattle.sfi_scan.specs.FirstLook.{AreBefore, is_zero, is_withheld, is_clean, IsCleanOne, IsStackWrite, AreStackPair};
+ghost use Rattle.sfi_scan.specs.FirstLook.{half_at, word_at, AreWordsFrom, AreBefore, is_zero, is_withheld, is_clean, IsCleanOne, IsStackWrite, AreStackPair};
 
 use crate::before::{CODE, DATA, Pair, is_reserved, may_be_target};
 use crate::bundle::BundlePlace;
@@ -28,6 +29,43 @@ pub(crate) struct Words {
     pub(crate) second: u32,
 }
 
+/// The halfword at this place of the bundle.
+#[inline(always)]
+fn half_at(bytes: &[u8; 16], at: usize) -> u16
+    requires { at + 2 ≤ 16 }
+    ensures { result ≡ half_at bytes.now at }
+{
+    u16::from_le_bytes([bytes[at], bytes[at + 1]])
+}
+
+/// The word at this place of the bundle.
+#[inline(always)]
+fn word_at(bytes: &[u8; 16], at: usize) -> u32
+    requires { at + 4 ≤ 16 }
+    ensures { result ≡ word_at bytes.now at }
+{
+    u32::from_le_bytes([bytes[at], bytes[at + 1], bytes[at + 2], bytes[at + 3]])
+}
+
+/// The words before a place, where the instructions that end there have 32 bits each from another place on.
+#[inline(always)]
+fn words_before(bytes: &[u8; 16], at: usize, from: usize) -> Words
+    requires order { from ≤ at }
+    requires end { at ≤ 16 }
+    ensures { (before : Before) → AreWordsFrom bytes.now at from before → AreBefore result before }
+{
+    if at - from < 8 {
+        return Words {
+            first: 0,
+            second: 0,
+        };
+    }
+    Words {
+        first: word_at(bytes, at - 8),
+        second: word_at(bytes, at - 4),
+    }
+}
+
 /// The register of a number below 32.
 fn register(number: u8) -> Reg
     requires { number < 32 }
@@ -40,16 +78,6 @@ fn register(number: u8) -> Reg
 }
 
 impl Words {
-    /// Behind this word, too.
-    fn and_then(self, word: u32) -> Self
-        ensures { result ≡ record { first = self.second; second = word } }
-    {
-        Words {
-            first: self.second,
-            second: word,
-        }
-    }
-
     /// Whether the two are the pair on this register.
     #[inline(always)]
     fn is_pair(self, pair: Pair, target: Reg) -> bool
@@ -134,41 +162,57 @@ fn is_clean(place: &BundlePlace, stack: bool, address: u32, words: Words, outlin
 }
 
 /// Whether the halfword is a form that breaks no rule there.
-#[tactic(auto, using(crate::proofs::Table16::clean_free))]
 #[inline(always)]
 fn is_clean_half(
     place: &BundlePlace,
     stack: bool,
-    address: u32,
-    words: Words,
+    bytes: &[u8; 16],
+    at: usize,
+    from: usize,
     halfword: u16,
 ) -> bool
     requires within { IsWithin place.now }
     requires stack { stack ≡ has_stack place.now.format }
-    ensures { OnTrue result (IsCleanOne place.now address words (IsShortSpelling halfword)) }
+    requires order { from ≤ at }
+    requires end { at < 16 }
+    ensures { OnTrue result (IsCleanOne place.now (place.now.address + at) (AreWordsFrom bytes.now at from) (IsShortSpelling halfword)) }
 {
     if is_free_half(stack, halfword) {
         return true;
     }
     match outline16(halfword) {
-        Some(outline) => is_clean(place, stack, address, words, outline),
+        Some(outline) => {
+            let words = words_before(bytes, at, from);
+            is_clean(place, stack, place.address + at as u32, words, outline)
+        }
         None => false,
     }
 }
 
-/// Whether the word is an instruction that breaks no rule there.
-#[tactic(auto, using(crate::proofs::Table16::clean_computing))]
+/// Whether the word at this place of the bundle is an instruction that breaks no rule there.
 #[inline(always)]
-fn is_clean_word(place: &BundlePlace, stack: bool, address: u32, words: Words, word: u32) -> bool
+fn is_clean_word(
+    place: &BundlePlace,
+    stack: bool,
+    bytes: &[u8; 16],
+    at: usize,
+    from: usize,
+    word: u32,
+) -> bool
     requires within { IsWithin place.now }
     requires stack { stack ≡ has_stack place.now.format }
-    ensures { OnTrue result (IsCleanOne place.now address words (IsWordOf word)) }
+    requires order { from ≤ at }
+    requires end { at < 16 }
+    ensures { OnTrue result (IsCleanOne place.now (place.now.address + at) (AreWordsFrom bytes.now at from) (IsWordOf word)) }
 {
     if computes32(word) {
         return !is_withheld(stack, register((word >> 7 & 0b11111) as u8));
     }
     match outline32(word) {
-        Some(outline) => is_clean(place, stack, address, words, outline),
+        Some(outline) => {
+            let words = words_before(bytes, at, from);
+            is_clean(place, stack, place.address + at as u32, words, outline)
+        }
         None => false,
     }
 }
@@ -202,6 +246,19 @@ fn is_stack_pair(first: u32, second: u32) -> bool
     masking == first
 }
 
+/// Whether at this place of the bundle the stack pointer is written, and put back into the data.
+#[inline(always)]
+fn is_stack_written(bytes: &[u8; 16], at: usize) -> bool
+    requires { at + 12 ≤ 16 }
+    ensures write { OnTrue result (IsStackWrite (word_at bytes.now at)) }
+    ensures pair { OnTrue result (AreStackPair (word_at bytes.now (at + 4)) (word_at bytes.now (at + 8))) }
+{
+    if !is_stack_pair(word_at(bytes, at + 4), word_at(bytes, at + 8)) {
+        return false;
+    }
+    is_stack_write(word_at(bytes, at))
+}
+
 /// Whether the bundle is seen to break no rule but perhaps that of a gate's bundle. It is compiled once for a format with a stack
 /// pointer and once for one without.
 #[inline(always)]
@@ -217,43 +274,24 @@ fn looks_clean(place: &BundlePlace, stack: bool, bytes: &[u8; 16]) -> bool
     if is_last_bundle(place) {
         return false;
     }
-    let mut rest = u128::from_le_bytes(*bytes);
-    let mut words = Words {
-        first: 0,
-        second: 0,
-    };
     let mut at: usize = 0;
+    // Where the 32-bit instructions begin that are read up to here.
+    let mut from: usize = 0;
     while at < 16 {
-        let word = (rest & 0xffff_ffff) as u32;
-        let address = place.address + at as u32;
-        if word & 0b11 != 0b11 {
-            if !is_clean_half(place, stack, address, words, (word & 0xffff) as u16) {
+        let halfword = half_at(bytes, at);
+        if halfword & 0b11 != 0b11 {
+            if !is_clean_half(place, stack, bytes, at, from, halfword) {
                 return false;
             }
-            words = words.and_then(0);
-            rest >>= 16;
             at += 2;
-        } else if stack
-            && at <= 4
-            && is_stack_pair(
-                (rest >> 32 & 0xffff_ffff) as u32,
-                (rest >> 64 & 0xffff_ffff) as u32,
-            )
-            && is_stack_write(word)
-        {
-            // The stack pointer is written, and put back into the data.
-            words = Words {
-                first: (rest >> 32 & 0xffff_ffff) as u32,
-                second: (rest >> 64 & 0xffff_ffff) as u32,
-            };
-            rest >>= 96;
+            from = at;
+        } else if stack && at <= 4 && is_stack_written(bytes, at) {
+            from = at + 4;
             at += 12;
         } else {
-            if at > 12 || !is_clean_word(place, stack, address, words, word) {
+            if at > 12 || !is_clean_word(place, stack, bytes, at, from, word_at(bytes, at)) {
                 return false;
             }
-            words = words.and_then(word);
-            rest >>= 32;
             at += 4;
         }
     }

@@ -45,9 +45,9 @@ loop-k-preserved c =
     let grown : c.if-count-gt0.found.items ≡ c.loop-k.found.items ++ c.scan_bundle.new.findings =
     elim c.if-count-gt0.branch [
       | then-count-gt0+in_ok-extend_from_slice w ↦
-        ap (λ v. v.items) w.found-is ∙ if_true (is_ok w.extend_from_slice.result) _ _ w.extend_from_slice.new.self.items w.extend_from_slice.ensures.items (ap is_ok w.in_ok-extend_from_slice.was) ∙ ap (λ l. c.loop-k.found.items ++ l) w.as_slice.ensures
+          ap (λ v. v.items) w.found-is ∙ if_true (is_ok w.extend_from_slice.result) _ _ w.extend_from_slice.new.self.items w.extend_from_slice.ensures.items (ap is_ok w.in_ok-extend_from_slice.was) ∙ ap (λ l. c.loop-k.found.items ++ l) w.as_slice.ensures
       | else-count-gt0 w ↦
-        ap (λ v. v.items) w.found-is ∙ none_more c.loop-k.found.items c.scan_bundle.new.findings (let none = w.if-count-gt0.false in let count = c.count.ensures.value in omega arith)
+          ap (λ v. v.items) w.found-is ∙ none_more c.loop-k.found.items c.scan_bundle.new.findings (let none = w.if-count-gt0.false in let count = c.count.ensures.value in omega arith)
     ] in
     record {
       so_far = one_more c.args.sandbox (view c.args.format c.args.part.now) c.loop-k.k _ _ c.loop-k.found.items c.scan_bundle.new.findings c.if-count-gt0.found.items old.so_far c.scan_bundle.ensures place (ap (λ (l : List (List ℕ)). get_or l c.loop-k.k []) c.as_chunks.ensures.front ∙ chunk_at (length c.args.part.now.code.now / 16) c.loop-k.k c.args.part.now.code.now (let below = c.loop-k-test.true in let count = c.as_chunks.ensures.front_len in omega arith))

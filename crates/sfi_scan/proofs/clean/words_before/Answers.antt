@@ -1,0 +1,16 @@
+use Rattle.std.proofs.Common.{◌≡◌, ◌+◌, ◌-◌, ◌≤◌, sym, subst, arith}
+use Rattle.sfi_scan.specs.FirstLook.{IsWordOr0}
+use Rattle.sfi_scan.proofs.WordsAt.{no_words}
+use Rattle.sfi_scan.proofs.clean.words_before.Goals as goal
+
+pub returns-then-at-from-lt8 : goal.returns-then-at-from-lt8
+returns-then-at-from-lt8 c = λ before are. no_words before
+
+pub returns : goal.returns
+returns c = λ before are.
+    let order = c.requires.order in
+    let far = c.if-at-from-lt8.false in
+    record {
+      first = subst (λ w. IsWordOr0 w before.first) (sym c.word_at.ensures) (are.first (c.args.at - 8) (omega arith) (omega arith));
+      second = subst (λ w. IsWordOr0 w before.second) (sym c.word_at-2.ensures) (are.second (c.args.at - 4) (omega arith) (omega arith));
+    }
