@@ -1,20 +1,20 @@
 -- What stops a safe sandbox is its own instruction, and it stays at that.
-use Rattle.std.proofs.Common.{◌≡◌, ◌≢◌, ℕ, zero, suc, ◌<◌, ◌⊎◌, ⊎_elim, inl, inr, List, [], ◌∷◌, length, get_or, Bool, true, false, cond, Option, Some, None, is_some, IsSome, slice_get, refl, sym, ap, ◌∙◌, subst, arith}
+use Rattle.std.proofs.Common.{◌≡◌, ℕ, zero, suc, ◌<◌, ⊎_elim, inl, inr, List, [], ◌∷◌, cond, Option, Some, None, is_some, IsSome, slice_get, refl, sym, ap, ◌∙◌, subst, arith}
 use Rattle.std.specs.Prelude.{ℤ}
-use Rattle.std.specs.List.{Contains, range_with_len}
+use Rattle.std.specs.List.{Contains}
 use Rattle.std.specs.Option.{option_map}
 use Rattle.std.proofs.lemmas.List.FromFn.{get_or-map-range_with_len, length-map-range_with_len}
 use Rattle.rv_word.specs.declared.instr.Instr.{Instr}
 use Rattle.rv_word.specs.declared.instr.Instr.TheVariants.{Op, OpImm, Load, Store, Branch, Jal, Jalr, Lui, Auipc, Fence, Ecall, Ebreak}
 use Rattle.rv_word.specs.declared.instr.LoadKind.{LoadKind}
 use Rattle.rv_word.specs.declared.instr.StoreWidth.{StoreWidth}
-use Rattle.rv_mem.specs.Bytes.{Bytes, byte_at, bytes_at, address_after, addresses, in_front, number_of, loaded}
-use Rattle.rv_step.specs.declared.outcome.Outcome.TheVariants.{Next, Call, Trap}
+use Rattle.rv_mem.specs.Bytes.{Bytes, byte_at, bytes_at, address_after, addresses, in_front, number_of}
+use Rattle.rv_step.specs.declared.outcome.Outcome.TheVariants.{Trap}
 use Rattle.rv_step.specs.declared.outcome.Cause.{Cause}
 use Rattle.rv_step.specs.declared.outcome.Cause.TheVariants as cause
 use Rattle.rv_step.specs.Access.{accessed, Accesses}
 use Rattle.rv_step.specs.Laws.{StepIsEffect}
-use Rattle.rv_step.specs.State.{Hart, State, register}
+use Rattle.rv_step.specs.State.{Hart, register}
 use Rattle.rv_step.specs.Step.{Stepped, Stands, IsStep, next, unchanged, after_load, effect}
 use Rattle.rv_step.specs.Values.{plus, load_size, store_size}
 use Rattle.sfi_image.specs.Spans.{Holds}
@@ -22,10 +22,9 @@ use Rattle.sfi_check.specs.Regions.{InData, InGuard}
 use Rattle.sfi_check.specs.Safety.{IsSafeState, IsSafeStep}
 use Rattle.sfi_host.specs.declared.status.Status.{Status}
 use Rattle.sfi_host.specs.declared.status.Status.TheVariants.{Ready, Exited, Trapped}
-use Rattle.sfi_host.specs.Regions.{IsWhole}
-use Rattle.sfi_host.specs.Slots.{Bounds, Slot, bounds_of}
+use Rattle.sfi_host.specs.Slots.{Bounds}
 use Rattle.sfi_host.specs.Stops.{InGuards, IsAt, TouchesGuard, StoppedItself}
-use Rattle.sfi_host.specs.Worlds.{Seat, Sandboxes, slot_of, slots_of, status_at, machine_of, IsSafeSeat, IsSafeWorld, IsStopOf, HaveStoppedThemselves}
+use Rattle.sfi_host.specs.Worlds.{Seat, Sandboxes, slots_of, status_at, machine_of, IsSafeSeat, IsSafeWorld, HaveStoppedThemselves}
 
 -- ---- where the code stays, the instruction does
 

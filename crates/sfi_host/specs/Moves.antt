@@ -43,8 +43,8 @@ IsOwnTurn m s (Steps r) = IsStep (machine_of m s) r
 IsOwnTurn m s (Replies after) = GetsReply m s after
 IsOwnTurn m s (Changes after) = ⊥
 
--- Where a step leads, and with which status. One that is done leads to the state after it, ready; a trap
--- leads there too, and that is where it was, trapped. A call was answered by an exit: it stays at that pc, exited.
+-- Where a step leads, and with which status: ready in the state after it, if it is done; trapped in the state after it,
+-- which is the one before, if it traps; and a call, if the host answered it by an exit, to its own pc, exited.
 abbrev pub StepLeads : Outcome → State → State → Status → Type 0
 StepLeads Next after now status = (now ≡ after) × (status ≡ Ready)
 StepLeads (Trap cause at) after now status = (now ≡ after) × (status ≡ Trapped cause at)

@@ -24,6 +24,7 @@ pub fn joint_is_solo<S>()
 {}
 
 /// A step of a sandbox that is safe is, alone, the same step in its own memory; it leaves all but its data, and leaves it safe.
+/// If it traps, it does so at an ebreak, or at a load or store that touches a guard zone.
 pub fn steps_are_own()
     ensures { StepsAreOwn }
 {
