@@ -84,6 +84,12 @@ warnings=(-O2 -Wall -Wextra -pedantic -Werror -I"$top/crates/sfi_c/include")
 # ---- C, and the header under C++
 compile host.c gcc -std=c99 "${warnings[@]}" "$here/host.c" "$library" "$heap" -o "$room/host"
 run_cases host.c "$room/host"
+# the host in README.md
+sed -n '/^## Embedding/,/^## Rules/p' "$top/README.md" | sed -n '/^```c$/,/^```$/p' | sed '/^```/d' >"$room/readme.c"
+compile "the host of README.md" gcc "${warnings[@]}" "$room/readme.c" "$library" "$heap" -o "$room/readme"
+found=$("$room/readme" <"$room/first_format.image"; echo "$?"; "$room/readme" <"$room/three.image"; echo "$?")
+[ "$found" = $'accepted sandboxes=1 bundles=16\n0\n1' ]
+report $? "the host of README.md" "a line and 0, and then 1" "$found"
 compile edges.c gcc -std=c11 "${warnings[@]}" "$here/edges.c" "$library" "$heap" -o "$room/edges"
 for one in "first_format 0" "second_format 0" "three 3" "stack 1"; do
     read -r image count <<<"$one"
