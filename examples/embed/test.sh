@@ -84,6 +84,23 @@ warnings=(-O2 -Wall -Wextra -pedantic -Werror -I"$top/crates/sfi_c/include")
 # ---- C, and the header under C++
 compile host.c gcc -std=c99 "${warnings[@]}" "$here/host.c" "$library" "$heap" -o "$room/host"
 run_cases host.c "$room/host"
+# each allocation refused in turn: the array of host.c has what it would have, or nothing was written
+compile refuse.so gcc -O2 -shared -fPIC "$top/bench/refuse.c" -o "$room/refuse.so"
+ample=$("$room/host" 9 <"$room/three.image")
+without=0
+for ((number = 1; number < 100; number++)); do
+    found=$(REFUSE=$number LD_PRELOAD=$room/refuse.so "$room/host" 9 <"$room/three.image" 2>"$room/said")
+    status=$?
+    grep -q refused "$room/said" || break
+    case "$status|$found" in
+    "1|$ample" | "4|") ;;
+    "3|out of memory") without=$((without + 1)) ;;
+    *) report 1 "host.c with allocation $number refused" "what it says else, or out of memory" "$status|$found" ;;
+    esac
+done
+[ "$number" -lt 100 ] && [ "$without" -gt 0 ]
+report $? "host.c with each allocation refused" "some out of memory" "$without of $((number - 1))"
+
 # the host in README.md
 sed -n '/^## Embedding/,/^## Rules/p' "$top/README.md" | sed -n '/^```c$/,/^```$/p' | sed '/^```/d' >"$room/readme.c"
 compile "the host of README.md" gcc "${warnings[@]}" "$room/readme.c" "$library" "$heap" -o "$room/readme"
