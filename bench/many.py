@@ -5,10 +5,12 @@
 
 Makes N images (1000) of one sandbox with 64 KiB of accepted code, as mixed in images.py, and checks each by `sfi check --raw` as
 `find` and `xargs -P` start it, so many at a time (as many as there are processors). It prints images a second and megabytes (10^6) of
-image a second, by the median of the rounds' wall times, and the machine's load before: other work takes its share of this rate.
+image a second, by the median of the rounds' wall times, the processor time of an image with its processes' starts, and the machine's
+load before: other work takes its share of the rate.
 """
 import argparse
 import os
+import resource
 import subprocess
 import tempfile
 import time
@@ -38,6 +40,12 @@ def seconds(program, folder, count, jobs):
     return taken
 
 
+def processor_seconds():
+    """The processor time, user and system, of all processes that were started and have ended."""
+    used = resource.getrusage(resource.RUSAGE_CHILDREN)
+    return used.ru_utime + used.ru_stime
+
+
 def main():
     parser = argparse.ArgumentParser()
     parser.add_argument("--program", default=measure.PROGRAM)
@@ -50,9 +58,10 @@ def main():
     with tempfile.TemporaryDirectory() as folder:
         size = write_images(folder, options.images)
         taken = sorted(seconds(program, folder, options.images, options.jobs) for _ in range(options.rounds))
-    rate = options.images / taken[options.rounds // 2]
-    print("| images | bytes of each | at a time | load before | images a second | MB/s | best round |")
-    cells = [options.images, size, options.jobs, f"{load:.1f}", f"{rate:.0f}", f"{rate * size / 1e6:.0f}", f"{options.images / taken[0]:.0f}"]
+    rate, best = options.images / taken[options.rounds // 2], options.images / taken[0]
+    each = processor_seconds() / (options.rounds * options.images)
+    print("| images | bytes of each | at a time | load before | images a second | in the best round | MB/s | processor time of each |")
+    cells = [options.images, f"{size:,}", options.jobs, f"{load:.1f}", f"{rate:.0f}", f"{best:.0f}", f"{rate * size / 1e6:.0f}", f"{each * 1000:.1f} ms"]
     print("|", " | ".join(str(cell) for cell in cells), "|")
 
 
