@@ -1,4 +1,4 @@
--- Two states in which the expansions of a load and of a write of the stack pointer stand.
+-- States in which the expansions of a load, of an indirect jump and of a write of the stack pointer stand.
 use Rattle.std.proofs.Common.{◌≡◌, ℕ, zero, suc, ◌+◌, ◌-◌, ◌%◌, ◌^◌, ◌<◌, ◌≤◌, List, [], ◌∷◌, ◌++◌, length, take, drop, replicate, true, Option, Some, None, inr, refl, sym, ap, subst, ◌∙◌, ⊎_elim, arith, get_or-drop, get_or-take}
 use Rattle.std.specs.Prelude.{slice_index, nat_lt, Contains, pos}
 use Rattle.std.specs.FinMap.{empty, get-empty}
@@ -11,7 +11,7 @@ use Rattle.std.proofs.lemmas.Int.{ints}
 use Rattle.rv_word.specs.declared.instr.RegOp.TheVariants.{And, Or}
 use Rattle.rv_word.specs.declared.instr.LoadKind.TheVariants.{Lw}
 use Rattle.rv_word.specs.declared.instr.Instr.{Instr}
-use Rattle.rv_word.specs.declared.instr.Instr.TheVariants.{Op, Load}
+use Rattle.rv_word.specs.declared.instr.Instr.TheVariants.{Op, Load, Jalr}
 use Rattle.rv_word.specs.Spelling.{spelling, InRange}
 use Rattle.rv_comp.specs.Fronts.{Spells}
 use Rattle.rv_mem.specs.Bytes.{Bytes, IsMemory, byte_at, bytes_at, addresses, address_after, with_bytes, number_of}
@@ -23,7 +23,7 @@ use Rattle.sfi_image.specs.declared.format.Format.TheVariants.{Sfi2}
 use Rattle.sfi_image.specs.declared.span.Span.{Span}
 use Rattle.sfi_rewrite.specs.declared.slot.Slot.TheVariants.{Wide}
 use Rattle.sfi_rewrite.specs.Transparency.{AreRegions, HasReserved}
-use Rattle.sfi_rewrite.specs.Samples.{MeetsTransparent, MeetsKeepsStack, sample_load, sample_push}
+use Rattle.sfi_rewrite.specs.Samples.{MeetsTransparent, MeetsKeepsStack, sample_load, sample_jump, sample_push}
 use Rattle.sfi_rewrite.specs.Laws.{TransparencyCanBeMet}
 
 -- ---- the regions and the registers
@@ -41,11 +41,11 @@ regions = record {
   data_placed = record { power = 8; size_is = refl; at_least = omega arith; at_most = omega arith; multiple = 98304; base_is = refl };
 }
 
--- x2 and x11 point into the data, the reserved registers have their values, and all others are 0
+-- x2 and x11 point into the data, x12 to a bundle start of the code, the reserved registers have their values, and all others are 0
 abbrev hart : ℕ → Hart
 hart pc = record {
   pc = pc;
-  registers = 0 ∷ 0 ∷ 0x01800080 ∷ replicate 8 0 ++ (0x01800010 ∷ (replicate 12 0 ++ (0x01000000 ∷ 240 ∷ 0x01800000 ∷ 255 ∷ 0 ∷ 0 ∷ 0 ∷ 0 ∷ [])));
+  registers = 0 ∷ 0 ∷ 0x01800080 ∷ replicate 8 0 ++ (0x01800010 ∷ 0x01000010 ∷ (replicate 11 0 ++ (0x01000000 ∷ 240 ∷ 0x01800000 ∷ 255 ∷ 0 ∷ 0 ∷ 0 ∷ 0 ∷ [])));
 }
 
 each_below : (n : ℕ) (xs : List ℕ) → 0 < n → list_all (λ x. nat_lt x n) xs ≡ true → (k : ℕ) → slice_index xs k < n
@@ -85,6 +85,18 @@ load_x31 : IsSpelled (Load Lw 10 31 (pos 0))
 unfolding spelling InRange
 load_x31 = inr (record { size = refl; all = refl; spelled = ((omega arith, omega arith, (omega (arith, ints), omega (arith, ints))), refl) })
 
+and_code : IsSpelled (Op And 31 12 25)
+unfolding spelling InRange
+and_code = inr (record { size = refl; all = refl; spelled = ((omega arith, omega arith, omega arith), refl) })
+
+or_code : IsSpelled (Op Or 31 31 24)
+unfolding spelling InRange
+or_code = inr (record { size = refl; all = refl; spelled = ((omega arith, omega arith, omega arith), refl) })
+
+jump_x31 : IsSpelled (Jalr 1 31 (pos 0))
+unfolding spelling InRange
+jump_x31 = inr (record { size = refl; all = refl; spelled = ((omega arith, omega arith, (omega (arith, ints), omega (arith, ints))), refl) })
+
 push : IsSpelled sample_push
 unfolding spelling InRange
 push = inr (record { size = refl; all = refl; spelled = ((omega arith, omega arith, (omega (arith, ints), omega (arith, ints))), refl) })
@@ -100,12 +112,19 @@ or_stack = inr (record { size = refl; all = refl; spelled = ((omega arith, omega
 abbrev load_words : List ℕ
 load_words = words_of (Op And 31 11 27 ∷ Op Or 31 31 26 ∷ Load Lw 10 31 (pos 0) ∷ [])
 
+abbrev jump_words : List ℕ
+jump_words = words_of (Op And 31 12 25 ∷ Op Or 31 31 24 ∷ Jalr 1 31 (pos 0) ∷ [])
+
 abbrev push_words : List ℕ
 push_words = words_of (sample_push ∷ Op And 2 2 27 ∷ Op Or 2 2 26 ∷ [])
 
 load_small : (k : ℕ) → slice_index load_words k < 256
 unfolding spelling
 load_small = each_below 256 load_words (omega arith) refl
+
+jump_small : (k : ℕ) → slice_index jump_words k < 256
+unfolding spelling
+jump_small = each_below 256 jump_words (omega arith) refl
 
 push_small : (k : ℕ) → slice_index push_words k < 256
 unfolding spelling
@@ -217,7 +236,7 @@ module _ (laws : Laws) (bytes : List ℕ) (size : length bytes ≡ 12) where
   load_done : (effect sample_load 4 (hart 0x01000000) (with_code bytes)).outcome ≡ Next
   load_done = ap (λ (o : Option (List ℕ)). (after_load (option_map number_of o) Lw 10 0x01800010 4 (hart 0x01000000) (with_code bytes)).outcome) has_data
 
--- ---- the two
+-- ---- the three
 
 load_met : Laws → MeetsTransparent Sfi2 sample_load
 load_met laws = record {
@@ -227,16 +246,40 @@ load_met laws = record {
   code_at = code_at;
   data_at = data_at;
   state = record { hart = hart 0x01000000; memory = with_code load_words };
-  regions = regions;
-  is_state = record { hart = is_hart; memory = is_memory laws load_words refl load_small };
-  reserved = reserved;
-  stand =
+  asked =
       let first = stands laws load_words refl 0 (Op And 31 11 27) (omega arith) refl and_data in
       let second = stands laws load_words refl 4 (Op Or 31 31 26) (omega arith) refl or_data in
       let third = stands laws load_words refl 8 (Load Lw 10 31 (pos 0)) (omega arith) refl load_x31 in
-      (first, (second, (third, tt)));
+      record {
+        regions = regions;
+        is_state = record { hart = is_hart; memory = is_memory laws load_words refl load_small };
+        reserved = reserved;
+        stand = (first, (second, (third, tt)));
+      };
   keeps = (omega arith, omega arith);
   done = load_done laws load_words refl;
+}
+
+jump_met : Laws → MeetsTransparent Sfi2 sample_jump
+jump_met laws = record {
+  writes = refl;
+  slots = Wide (Op And 31 12 25) ∷ Wide (Op Or 31 31 24) ∷ Wide (Jalr 1 31 (pos 0)) ∷ [];
+  expansion = refl;
+  code_at = code_at;
+  data_at = data_at;
+  state = record { hart = hart 0x01000000; memory = with_code jump_words };
+  asked =
+      let first = stands laws jump_words refl 0 (Op And 31 12 25) (omega arith) refl and_code in
+      let second = stands laws jump_words refl 4 (Op Or 31 31 24) (omega arith) refl or_code in
+      let third = stands laws jump_words refl 8 (Jalr 1 31 (pos 0)) (omega arith) refl jump_x31 in
+      record {
+        regions = regions;
+        is_state = record { hart = is_hart; memory = is_memory laws jump_words refl jump_small };
+        reserved = reserved;
+        stand = (first, (second, (third, tt)));
+      };
+  keeps = record { held = (omega arith, omega arith); aligned = refl };
+  done = refl;
 }
 
 push_met : Laws → MeetsKeepsStack Sfi2 sample_push
@@ -247,18 +290,19 @@ push_met laws = record {
   code_at = code_at;
   data_at = data_at;
   state = record { hart = hart 0x01000000; memory = with_code push_words };
-  regions = regions;
-  is_state = record { hart = is_hart; memory = is_memory laws push_words refl push_small };
-  reserved = reserved;
-  stack = (omega arith, omega arith);
-  stand =
+  asked =
       let first = stands laws push_words refl 0 sample_push (omega arith) refl push in
       let second = stands laws push_words refl 4 (Op And 2 2 27) (omega arith) refl and_stack in
       let third = stands laws push_words refl 8 (Op Or 2 2 26) (omega arith) refl or_stack in
-      (first, (second, (third, tt)));
+      record {
+        regions = regions;
+        is_state = record { hart = is_hart; memory = is_memory laws push_words refl push_small };
+        reserved = reserved;
+        stand = (first, (second, (third, tt)));
+      };
   done = refl;
   stays = (omega arith, omega arith);
 }
 
 pub met : Laws → TransparencyCanBeMet
-met laws = (load_met laws, push_met laws)
+met laws = (load_met laws, jump_met laws, push_met laws)

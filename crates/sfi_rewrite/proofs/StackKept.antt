@@ -116,7 +116,8 @@ done_is x e = ap (λ o. let y : Stepped = record { outcome = o; state = x.state 
 keeps_stack : PairLeaves → StepKeepsState → (i : Instr) (x : Slot) → writes_register 2 i ≡ true → is_jump i ≡ false → slot_size x ≡ 4 → ((s : State) → SlotStands i s x → Stands s i 4)
     → KeepsStack i (x ∷ stack_pair)
 keeps_stack pair keeps i x writes no_jump size stands = record {
-  does = λ c d s regions is reserved before stand done after.
+  does = λ c d s asked done after.
+      let regions = asked.regions in let is = asked.is_state in let reserved = asked.reserved in let stand = asked.stand in
       let r = effect i 4 s.hart s.memory in
       let step : LeadsTo s r.state = subst (λ (y : Stepped). IsStep s y) (done_is r done) (does s i 4 (stands s stand.0)) in
       let only = writes_alone i s.hart s.memory writes no_jump done in

@@ -143,7 +143,8 @@ load_transparent pair kind rd a imm = record {
   before = data_pair a;
   last = Wide (Load kind rd 31 imm);
   slots_are = refl;
-  does = λ c d s regions is reserved stand keeps.
+  does = λ c d s asked keeps.
+      let regions = asked.regions in let is = asked.is_state in let reserved = asked.reserved in let stand = asked.stand in
       behind_pair pair s (Load kind rd a imm) (Load kind rd 31 imm) a 27 26 (register s.hart a) is (λ z. omega arith) stand.0 stand.1.0 stand.1.1.0
       (unmasked_data c d s.hart (register s.hart a) regions reserved keeps)
       (λ h aside e. loads_same kind rd a imm h (with_pc s.hart h.pc) s.memory aside e);
@@ -154,7 +155,8 @@ store_transparent pair width a rs2 imm ne = record {
   before = data_pair a;
   last = Wide (Store width 31 rs2 imm);
   slots_are = refl;
-  does = λ c d s regions is reserved stand keeps.
+  does = λ c d s asked keeps.
+      let regions = asked.regions in let is = asked.is_state in let reserved = asked.reserved in let stand = asked.stand in
       behind_pair pair s (Store width a rs2 imm) (Store width 31 rs2 imm) a 27 26 (register s.hart a) is (λ z. omega arith) stand.0 stand.1.0 stand.1.1.0
       (unmasked_data c d s.hart (register s.hart a) regions reserved keeps)
       (λ h aside e. stores_same width a rs2 imm h (with_pc s.hart h.pc) s.memory aside e ne);
@@ -166,7 +168,8 @@ jump_transparent pair rd a = record {
   before = code_pair a;
   last = jump_to_x31 rd;
   slots_are = refl;
-  does = λ c d s regions is reserved stand keeps.
+  does = λ c d s asked keeps.
+      let regions = asked.regions in let is = asked.is_state in let reserved = asked.reserved in let stand = asked.stand in
       let v = register s.hart a in
       let to = plus_zero v (is.hart.words a) in
       behind_pair pair s (Jalr rd a (pos 0)) (Jalr rd 31 (pos 0)) a 25 24 v is (λ z. omega arith) stand.0 stand.1.0 stand.1.1.0
@@ -180,7 +183,8 @@ sum_transparent pair keeps rd a imm = record {
   before = Wide (OpImm Addi 31 a imm) ∷ code_pair 31;
   last = jump_to_x31 rd;
   slots_are = refl;
-  does = λ c d s regions is reserved stand keep.
+  does = λ c d s asked keep.
+      let regions = asked.regions in let is = asked.is_state in let reserved = asked.reserved in let stand = asked.stand in
       let v = plus (register s.hart a) imm in
       behind_sum pair keeps s (Jalr rd a imm) (Jalr rd 31 (pos 0)) a 25 24 imm is (λ z. omega arith) (λ z. omega arith) stand.0 stand.1.0 stand.1.1.0 stand.1.1.1.0
       (unmasked_code c d s.hart v regions reserved keep)
@@ -205,7 +209,8 @@ wide_transparent i = record {
   before = [];
   last = Wide i;
   slots_are = refl;
-  does = λ c d s regions is reserved stand keeps.
+  does = λ c d s asked keeps.
+      let regions = asked.regions in let is = asked.is_state in let reserved = asked.reserved in let stand = asked.stand in
       record {
         there = s;
         leads = refl;
@@ -221,7 +226,8 @@ short_transparent i f e = record {
   before = [];
   last = Short f;
   slots_are = refl;
-  does = λ c d s regions is reserved stand keeps.
+  does = λ c d s asked keeps.
+      let regions = asked.regions in let is = asked.is_state in let reserved = asked.reserved in let stand = asked.stand in
       record {
         there = s;
         leads = refl;
@@ -243,7 +249,8 @@ named_transparent i x size stands = record {
   before = [];
   last = x;
   slots_are = refl;
-  does = λ c d s regions is reserved stand keeps.
+  does = λ c d s asked keeps.
+      let regions = asked.regions in let is = asked.is_state in let reserved = asked.reserved in let stand = asked.stand in
       record {
         there = s;
         leads = refl;

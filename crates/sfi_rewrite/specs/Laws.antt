@@ -13,7 +13,7 @@ use Rattle.sfi_rewrite.specs.Placed.{IsPlaced}
 use Rattle.sfi_rewrite.specs.Faults.{IsPermitted, IsSourceFault}
 use Rattle.sfi_rewrite.specs.Rewriting.{IsRewritten, AreRewritten}
 use Rattle.sfi_rewrite.specs.Transparency.{MayBe, ActsAs, StandTransparent}
-use Rattle.sfi_rewrite.specs.Samples.{MeetsTransparent, MeetsKeepsStack, sample_load, sample_push}
+use Rattle.sfi_rewrite.specs.Samples.{MeetsTransparent, MeetsKeepsStack, sample_load, sample_jump, sample_push}
 
 -- an item has one expansion in each format
 abbrev pub OneExpansion : Type 0
@@ -54,7 +54,7 @@ ExpansionsAreTransparent =
 abbrev pub RewrittenIsTransparent : Type 0
 RewrittenIsTransparent = (s : Sandbox) (p : Placement) → IsRewritten s p → StandTransparent s p
 
--- What transparency asks can be met: in some state the expansion of a load stands, and the load keeps to its sandbox and is done; in some state that of a write
--- of the stack pointer stands, and the write leaves it in the data region.
+-- What transparency asks can be met: in some state the expansion of a load stands, and the load keeps to its sandbox and is done; in some state the same
+-- is so of an indirect jump; in some state that of a write of the stack pointer stands, and the write leaves it in the data region.
 abbrev pub TransparencyCanBeMet : Type 0
-TransparencyCanBeMet = MeetsTransparent Sfi2 sample_load × MeetsKeepsStack Sfi2 sample_push
+TransparencyCanBeMet = MeetsTransparent Sfi2 sample_load × MeetsTransparent Sfi2 sample_jump × MeetsKeepsStack Sfi2 sample_push

@@ -3,10 +3,10 @@ use Rattle.std.specs.Prelude.{◌≡◌, List, pos, true, false}
 use Rattle.rv_word.specs.declared.instr.ImmOp.TheVariants.{Addi}
 use Rattle.rv_word.specs.declared.instr.LoadKind.TheVariants.{Lw}
 use Rattle.rv_word.specs.declared.instr.Instr.{Instr}
-use Rattle.rv_word.specs.declared.instr.Instr.TheVariants.{Load, OpImm}
+use Rattle.rv_word.specs.declared.instr.Instr.TheVariants.{Load, Jalr, OpImm}
 use Rattle.rv_word.specs.Numbers.{minus}
 use Rattle.rv_step.specs.declared.outcome.Outcome.TheVariants.{Next}
-use Rattle.rv_step.specs.State.{State, IsState, register}
+use Rattle.rv_step.specs.State.{State, register}
 use Rattle.rv_step.specs.Step.{effect}
 use Rattle.sfi_image.specs.declared.format.Format.{Format}
 use Rattle.sfi_image.specs.declared.span.Span.{Span}
@@ -14,7 +14,7 @@ use Rattle.sfi_image.specs.Spans.{Holds}
 use Rattle.sfi_rewrite.specs.declared.slot.Slot.{Slot}
 use Rattle.sfi_rewrite.specs.Stack.{writes_stack}
 use Rattle.sfi_rewrite.specs.Expansion.{IsPlainExpansion}
-use Rattle.sfi_rewrite.specs.Transparency.{AreRegions, HasReserved, KeepsTo, SlotsStand}
+use Rattle.sfi_rewrite.specs.Transparency.{KeepsTo, IsAskedOf}
 
 -- the expansion of i in 32-bit slots, and all that IsTransparent asks of its regions and its state, in which i is done
 pub record MeetsTransparent (f : Format) (i : Instr) : Type 0 where
@@ -24,10 +24,7 @@ pub record MeetsTransparent (f : Format) (i : Instr) : Type 0 where
   pub code_at : Span
   pub data_at : Span
   pub state : State
-  pub regions : AreRegions code_at data_at
-  pub is_state : IsState state
-  pub reserved : HasReserved code_at data_at state.hart
-  pub stand : SlotsStand i state slots
+  pub asked : IsAskedOf i slots code_at data_at state
   pub keeps : KeepsTo code_at data_at state.hart i
   pub done : (effect i 4 state.hart state.memory).outcome ≡ Next
 
@@ -39,17 +36,17 @@ pub record MeetsKeepsStack (f : Format) (i : Instr) : Type 0 where
   pub code_at : Span
   pub data_at : Span
   pub state : State
-  pub regions : AreRegions code_at data_at
-  pub is_state : IsState state
-  pub reserved : HasReserved code_at data_at state.hart
-  pub stack : Holds data_at (register state.hart 2)
-  pub stand : SlotsStand i state slots
+  pub asked : IsAskedOf i slots code_at data_at state
   pub done : (effect i 4 state.hart state.memory).outcome ≡ Next
   pub stays : Holds data_at (register (effect i 4 state.hart state.memory).state.hart 2)
 
 -- `lw x10, 0(x11)`
 abbrev pub sample_load : Instr
 sample_load = Load Lw 10 11 (pos 0)
+
+-- `jalr x1, 0(x12)`
+abbrev pub sample_jump : Instr
+sample_jump = Jalr 1 12 (pos 0)
 
 -- `addi x2, x2, -16`
 abbrev pub sample_push : Instr

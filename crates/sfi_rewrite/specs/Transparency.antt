@@ -83,14 +83,19 @@ pub record DoesAs (s : State) (i : Instr) (before : List Slot) (last : Slot) : T
   pub step : IsStep there result
   pub same : IsSameAside result (effect i (slot_size last) (with_pc s.hart there.hart.pc) s.memory)
 
+-- What is asked wherever slots stand for i: regions of a sandbox, a state of the machine, the reserved registers, and the slots from pc on.
+pub record IsAskedOf (i : Instr) (slots : List Slot) (code_at data_at : Span) (s : State) : Type 0 where
+  pub regions : AreRegions code_at data_at
+  pub is_state : IsState s
+  pub reserved : HasReserved code_at data_at s.hart
+  pub stand : SlotsStand i s slots
+
 -- The slots are transparent to the instruction: wherever they stand, from any state in which the instruction keeps to its sandbox, they do as it does.
 pub record IsTransparent (i : Instr) (slots : List Slot) : Type 0 where
   pub before : List Slot
   pub last : Slot
   pub slots_are : slots ≡ before ++ last ∷ []
-  pub does :
-      (code_at data_at : Span) (s : State) → AreRegions code_at data_at → IsState s → HasReserved code_at data_at s.hart → SlotsStand i s slots → KeepsTo code_at data_at s.hart i
-      → DoesAs s i before last
+  pub does : (code_at data_at : Span) (s : State) → IsAskedOf i slots code_at data_at s → KeepsTo code_at data_at s.hart i → DoesAs s i before last
 
 -- ---- before the pair that puts the stack pointer back
 
@@ -98,11 +103,11 @@ pub record IsTransparent (i : Instr) (slots : List Slot) : Type 0 where
 abbrev pub at_pc : State → ℕ → State
 at_pc s pc = record { hart = with_pc s.hart pc; memory = s.memory }
 
--- The slots keep what i leaves: wherever they stand, from any state with x2 in the data region in which the line of i, there, is done and leaves x2 in the data
--- region, each of their steps is done, and they leave the registers and the memory that i leaves, and the pc behind all of them.
+-- The slots keep what i leaves: wherever they stand, from any state in which the line of i, there, is done and leaves x2 in the data region, each of their
+-- steps is done, and they leave the registers and the memory that i leaves, and the pc after all of them.
 pub record KeepsStack (i : Instr) (slots : List Slot) : Type 0 where
   pub does :
-      (code_at data_at : Span) (s : State) → AreRegions code_at data_at → IsState s → HasReserved code_at data_at s.hart → Holds data_at (register s.hart 2) → SlotsStand i s slots
+      (code_at data_at : Span) (s : State) → IsAskedOf i slots code_at data_at s
       → (effect i 4 s.hart s.memory).outcome ≡ Next → Holds data_at (register (effect i 4 s.hart s.memory).state.hart 2)
       → LeadTo (length slots) s (at_pc (effect i 4 s.hart s.memory).state (address_after s.hart.pc (size_of slots)))
 
