@@ -44,7 +44,7 @@ impl Names {
         self.named.len()
     }
 
-    /// What the name at this place names; `None` where there is none.
+    /// What the name at this place stands for; `None` where no name has the place.
     pub fn named(&self, place: usize) -> Option<Named>
         ensures { result ≡ slice_get (map (λ e. e.1) self.now) place }
     {
@@ -54,7 +54,7 @@ impl Names {
         }
     }
 
-    /// What this name names; `Unknown` where it isn't there.
+    /// What this name stands for; `Unknown` where it isn't there.
     pub fn meaning(&self, name: &str) -> Named
         ensures { result ≡ meaning self.now name.now }
     {
@@ -64,7 +64,7 @@ impl Names {
         }
     }
 
-    /// The place of this name, or that after all where it isn't there.
+    /// The place of this name, counted from 0; the number of names where it isn't there.
     pub fn place_of(&self, name: &str) -> usize
         ensures { result ≡ place_of self.now name.now }
     {
@@ -74,7 +74,7 @@ impl Names {
         }
     }
 
-    /// Has this name name that. It keeps its place, or goes last where it is new.
+    /// Lets the name stand for `what` from here on. A name that is there keeps its place; a new one goes last.
     pub fn place(&mut self, alloc: Global, name: &str, what: Named) -> Result<(), AllocError>
         ensures placed { OnOk result (self.new ≡ placed self.old name.now what) }
         ensures unchanged { OnErr result (self.new ≡ self.old) }
@@ -83,7 +83,7 @@ impl Names {
         Ok(())
     }
 
-    /// The place of this name, which goes last where it is new, and then names nothing.
+    /// The place of this name. A new name goes last, and stands for nothing yet.
     pub fn meet(&mut self, alloc: Global, name: &str) -> Result<usize, AllocError>
         ensures met { OnOk result (self.new ≡ met self.old name.now) }
         ensures place { IfOk result (λ place. place ≡ place_of self.old name.now) }

@@ -61,7 +61,7 @@ pub fn meant_has_no_fault()
     ensures { MeantHasNoFault }
 {}
 
-/// A text means a source, or has a fault. So where a call of `parse_source` runs out of memory, more memory would bring an answer.
+/// A text means a source, or has a fault: `parse_source` answers the one that it is, unless memory runs out.
 pub fn some_source()
     ensures { SomeSource }
 {}

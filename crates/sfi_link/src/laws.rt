@@ -32,7 +32,7 @@ pub fn one_linking()
     ensures image_or_fault { ImageOrFault }
 {}
 
-/// What is placed has an image, or a fault. So where a call of `link` runs out of memory, more memory would bring an answer.
+/// What is placed has an image, or a fault: `link` answers the one that it is, unless memory runs out.
 pub fn some_linking()
     ensures { SomeLinking }
 {

@@ -40,7 +40,7 @@ pub fn never_both()
     one_first_form();
 }
 
-/// A source is rewritten, or has a fault. So where a call of `rewrite` runs out of memory, more memory would bring an answer.
+/// A source is rewritten, or has a fault: `rewrite` answers the one that it is, unless memory runs out.
 pub fn some_rewriting()
     ensures { SomeRewriting }
 {
