@@ -1,4 +1,4 @@
--- The text behind a keyword states something, or is refused.
+-- The text after a keyword states something, or is refused.
 use Rattle.std.proofs.Common.{◌≡◌, ◌≢◌, ℕ, zero, suc, ◌≤◌, true, List, [], ◌∷◌, length, ◌⊎◌, inl, inr, refl, sym, arith, ℤ, pos, negsuc}
 use Rattle.std.specs.Prelude.{IsTrue, codes}
 use Rattle.std.specs.List.{flat_map}
@@ -197,7 +197,7 @@ fence_or_not mnemonic.Ebreak = inr (λ e. cc)
 bare_or_not : (name : Mnemonic) (text : List ℕ) → Decided (IsBareFence name text)
 bare_or_not name text = decided_both (fence_or_not name) (blank_or_not text)
 
--- the text behind a name gives its operands, or departs from them
+-- the text after a name gives its operands, or departs from them
 pub follows_or_departs : (name : Mnemonic) (text : List ℕ) → ((i : Instr) × FollowsName text name i) ⊎ ((e : TextCause) × OperandsDepart name text e)
 follows_or_departs name text =
     elim (bare_or_not name text) [
@@ -243,7 +243,7 @@ number_or_departs kind text =
       ]
     ]
 
--- numbers, each behind a comma, up to the text's end
+-- numbers, each after a comma, up to the text's end
 abbrev MoreRead : NumberKind → List ℕ → Type 0
 MoreRead kind text = (numbers : List ℤ) × (last : List ℕ) × LeadsByMore kind numbers text last × IsBlank last
 
@@ -312,7 +312,7 @@ reads_or_refused (keyword.Numbers width) text =
       | inr departs ↦ inr departs
     ]
 
--- the text behind a keyword states something with it, or is refused
+-- the text after a keyword states something with it, or is refused
 pub states_or_refused : (k : Keyword) (text : List ℕ) → ((s : Stated) × StatesBehind k text s) ⊎ ((e : TextCause) × RefusedWith k text e)
 states_or_refused k text =
     elim (reads_or_refused k text) [

@@ -220,7 +220,7 @@ finish code b = at b.last refl
           right = finished b.full (b.full ++ b.last ∷ []) b.last b.last b.end b.filled refl refl (λ none. let e : x ∷ xs ≡ [] = sym some ∙ none in cc);
         }
 
--- ---- an item behind others
+-- ---- an item after others
 
 two_ways : (b : Bool) → (b ≡ true) ⊎ (b ≡ false)
 two_ways true = inl refl
@@ -239,7 +239,7 @@ permitted_or_not f sandbox end x =
       ]
     ]
 
--- the slots with the item's behind them
+-- the slots with the item's after them
 record Longer (f : Format) (code : List Slot) (x : Item) : Type 0 where
   now : List Slot
   next : HasNext f code x now
