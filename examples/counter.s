@@ -1,4 +1,4 @@
-# Writes the digits 1 to 9, one a line, and yields its turn behind each.
+# Writes the digits 1 to 9, one a line, and yields its turn after each.
 .sandbox 256
 .gate put 1
 .gate yield 3

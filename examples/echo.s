@@ -28,7 +28,7 @@ capital:
         lbu  t0, 0(a2)
         li   t1, 97             # a
         bltu t0, t1, next
-        li   t1, 123            # behind z
+        li   t1, 123            # after z
         bgeu t0, t1, next
         addi t0, t0, -32
         sb   t0, 0(a2)

@@ -48,7 +48,7 @@ abbrev pub bit_value : Fields → Bit → ℕ
 bit_value v (is b) = b
 bit_value v (bit_of f k) = bit_at (field_value v f) k
 
--- the number of a list of bits, the highest first, behind the bits of n
+-- the number of a list of bits, the highest first, after the bits of n
 abbrev pub number_after : ℕ → Fields → List Bit → ℕ
 number_after n v [] = n
 number_after n v (b ∷ bs) = number_after (2 * n + bit_value v b) v bs

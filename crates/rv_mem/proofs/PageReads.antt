@@ -73,8 +73,8 @@ word_of : Option ℕ → Option ℕ → Option ℕ → Option ℕ → Option ℕ
 word_of a b d e = option_map number_of (in_front a (in_front b (in_front d (in_front e (Some [])))))
 
 module _ (t c : List ℕ) (are : ArePages t c) (at f : ℕ) (is : f ≡ frame_of t at) (room : f + 8192 ≤ length c) (fits : at < 2 ^ 32) (one_page : at % 4096 ≤ 4092) where
-  pub byte_behind : (k : ℕ) → k < 4 → byte_at (values_of (cell_at t c)) (address_after at k) ≡ cell c (f + at % 4096 + k)
-  byte_behind k small =
+  pub byte_after : (k : ℕ) → k < 4 → byte_at (values_of (cell_at t c)) (address_after at k) ≡ cell c (f + at % 4096 + k)
+  byte_after k small =
       let a : address_after at k ≡ at + k = omega arith in
       let p : (at + k) / 4096 ≡ at / 4096 = omega arith in
       let o : (at + k) % 4096 ≡ at % 4096 + k = omega arith in
@@ -85,10 +85,10 @@ module _ (t c : List ℕ) (are : ArePages t c) (at f : ℕ) (is : f ≡ frame_of
   pub word_is : loaded (values_of (cell_at t c)) at 4 ≡ option_map number_of (in_front (cell c (f + at % 4096 + 0)) (in_front (cell c (f + at % 4096 + 1)) (in_front (cell c (f + at % 4096 + 2)) (in_front (cell c (f + at % 4096 + 3)) (Some [])))))
   word_is =
       let m = values_of (cell_at t c) in
-      ap (λ (x : Option ℕ). option_map number_of (in_front x (in_front (byte_at m (address_after at 1)) (in_front (byte_at m (address_after at 2)) (in_front (byte_at m (address_after at 3)) (Some [])))))) (byte_behind 0 (omega arith))
-      ∙ ap (λ (x : Option ℕ). option_map number_of (in_front (cell c (f + at % 4096 + 0)) (in_front x (in_front (byte_at m (address_after at 2)) (in_front (byte_at m (address_after at 3)) (Some [])))))) (byte_behind 1 (omega arith))
-      ∙ ap (λ (x : Option ℕ). option_map number_of (in_front (cell c (f + at % 4096 + 0)) (in_front (cell c (f + at % 4096 + 1)) (in_front x (in_front (byte_at m (address_after at 3)) (Some [])))))) (byte_behind 2 (omega arith))
-      ∙ ap (λ (x : Option ℕ). option_map number_of (in_front (cell c (f + at % 4096 + 0)) (in_front (cell c (f + at % 4096 + 1)) (in_front (cell c (f + at % 4096 + 2)) (in_front x (Some [])))))) (byte_behind 3 (omega arith))
+      ap (λ (x : Option ℕ). option_map number_of (in_front x (in_front (byte_at m (address_after at 1)) (in_front (byte_at m (address_after at 2)) (in_front (byte_at m (address_after at 3)) (Some [])))))) (byte_after 0 (omega arith))
+      ∙ ap (λ (x : Option ℕ). option_map number_of (in_front (cell c (f + at % 4096 + 0)) (in_front x (in_front (byte_at m (address_after at 2)) (in_front (byte_at m (address_after at 3)) (Some [])))))) (byte_after 1 (omega arith))
+      ∙ ap (λ (x : Option ℕ). option_map number_of (in_front (cell c (f + at % 4096 + 0)) (in_front (cell c (f + at % 4096 + 1)) (in_front x (in_front (byte_at m (address_after at 3)) (Some [])))))) (byte_after 2 (omega arith))
+      ∙ ap (λ (x : Option ℕ). option_map number_of (in_front (cell c (f + at % 4096 + 0)) (in_front (cell c (f + at % 4096 + 1)) (in_front (cell c (f + at % 4096 + 2)) (in_front x (Some [])))))) (byte_after 3 (omega arith))
 
   module _ (m0 m1 m2 m3 : ℕ) (e0 : m0 ≡ get_or c (f + at % 4096 + 4096) m0) (e1 : m1 ≡ get_or c (f + at % 4096 + 4096 + 1) m1) (e2 : m2 ≡ get_or c (f + at % 4096 + 4096 + 2) m2) (e3 : m3 ≡ get_or c (f + at % 4096 + 4096 + 3) m3) where
     mark0 : slice_index c (f + at % 4096 + 0 + 4096) ≡ m0

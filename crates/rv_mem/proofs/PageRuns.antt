@@ -54,12 +54,12 @@ goes_on base k f m m0 b at e g q h =
     ∙ ap (λ (x : ℕ). cond (q == base + k) (Some x) (byte_at m q)) g
     ∙ run_more base k f q (byte_at m0 q) (byte_at m q) h
 
-zeros_behind : (f : List ℕ) (n k : ℕ) → slice_index (f ++ replicate n 0) k ≡ slice_index f k
-zeros_behind [] zero k = refl
-zeros_behind [] (suc n) zero = refl
-zeros_behind [] (suc n) (suc k) = zeros_behind [] n k
-zeros_behind (x ∷ f) n zero = refl
-zeros_behind (x ∷ f) n (suc k) = zeros_behind f n k
+zeros_after : (f : List ℕ) (n k : ℕ) → slice_index (f ++ replicate n 0) k ≡ slice_index f k
+zeros_after [] zero k = refl
+zeros_after [] (suc n) zero = refl
+zeros_after [] (suc n) (suc k) = zeros_after [] n k
+zeros_after (x ∷ f) n zero = refl
+zeros_after (x ∷ f) n (suc k) = zeros_after f n k
 
 run_is : (base size : ℕ) (f bs : List ℕ) (q : ℕ) (o : Option ℕ) → length bs ≡ size → ((k : ℕ) → slice_index bs k ≡ slice_index f k) → run_at base size f q o ≡ option_or (byte_in base bs q) o
 run_is base size f bs q o many same = elim (nat_lt q base) as (λ r. nat_lt q base ≡ r → cond r o (cond (nat_lt q (base + size)) (Some (slice_index f (q - base))) o) ≡ option_or (cond r None (slice_get bs (q - base))) o) [
@@ -83,7 +83,7 @@ filled base size f m m0 few fits run =
     let bs : List ℕ = f ++ replicate (size - length f) 0 in
     let many : length bs ≡ size = rw (length-append, length-replicate) (omega arith) in
     same_map nat_cmp_total nat_cmp-IsAntisymmetric _ _ (λ q.
-    run q ∙ run_is base size f bs q (byte_at m0 q) many (zeros_behind f (size - length f))
+    run q ∙ run_is base size f bs q (byte_at m0 q) many (zeros_after f (size - length f))
     ∙ ap (λ (x : ℕ). option_or (byte_in x bs q) (byte_at m0 q)) (sym (add-zero base))
     ∙ sym (get_with m0 base 0 bs q (omega (arith, many)))
     ∙ ap (λ (n : ℕ). get (with_bytes m0 (addresses base n) bs) q) many)
@@ -293,8 +293,8 @@ pub goes_on_run : (base d n at : ℕ) (f : List ℕ) (q : ℕ) (o p r : Option �
 goes_on_run base d n at f q o p r e g h = g ∙ ap (λ (x : ℕ). run_of x n f d q p) e ∙ run_joins base d n f q o p h
 
 -- a run in the round of all addresses
-pub behind_run : (base d n at j : ℕ) → at ≡ (base + d) % 2 ^ 32 → at % 4096 + n ≤ 4096 → j < n → address_after base (d + j) ≡ at + j
-behind_run base d n at j e room below = omega arith
+pub after_run : (base d n at j : ℕ) → at ≡ (base + d) % 2 ^ 32 → at % 4096 + n ≤ 4096 → j < n → address_after base (d + j) ≡ at + j
+after_run base d n at j e room below = omega arith
 
 pub none_further : (m : Bytes) (base d n at : ℕ) → at ≡ (base + d) % 2 ^ 32 → at % 4096 + n ≤ 4096 → ((j : ℕ) → j < d → byte_at m (address_after base j) ≡ None) → ((j : ℕ) → j < n → byte_at m (at + j) ≡ None)
     → (j : ℕ) → j < d + n → byte_at m (address_after base j) ≡ None
@@ -304,5 +304,5 @@ none_further m base d n at e room before more j below = elim (nat_lt j d) as (λ
       let above : d ≤ j = grind arith in
       let k : d + (j - d) ≡ j = omega arith in
       let small : j - d < n = omega arith in
-      ap (λ (x : ℕ). byte_at m (address_after base x)) (sym k) ∙ ap (byte_at m) (behind_run base d n at (j - d) e room small) ∙ more (j - d) small
+      ap (λ (x : ℕ). byte_at m (address_after base x)) (sym k) ∙ ap (byte_at m) (after_run base d n at (j - d) e room small) ∙ more (j - d) small
 ] refl

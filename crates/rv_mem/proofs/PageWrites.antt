@@ -8,7 +8,7 @@ use Rattle.rv_mem.specs.Bytes.{Bytes, byte_at, in_front, number_of, address_afte
 use Rattle.rv_mem.specs.Frames.{frame_of, cell, cell_at, ArePages, values_of}
 use Rattle.rv_mem.proofs.Accesses.{byte_at-insert}
 use Rattle.rv_mem.proofs.Paging.{eq_from_test, not_same, slice_past, within, unmarked, is_marked, marked, no_frame, get_pages, has_frame}
-use Rattle.rv_mem.proofs.PageReads.{byte_behind}
+use Rattle.rv_mem.proofs.PageReads.{byte_after}
 
 -- from c to d a cell got a byte and its mark
 pub record Sets (c d : List ℕ) (p b : ℕ) : Type 0 where
@@ -159,33 +159,33 @@ module _ (t d : List ℕ) (are : ArePages t d) (at f : ℕ) (is : f ≡ frame_of
   some0 : IsSome (byte_at (values_of (cell_at t d)) (address_after at 0))
   some0 = front_some _ _ (under_map _ there)
 
-  mark_behind : (k : ℕ) → k < 4 → IsSome (byte_at (values_of (cell_at t d)) (address_after at k)) → slice_index d (f + at % 4096 + k + 4096) ≡ 1
-  mark_behind k small s = marked d (f + at % 4096 + k) (subst (λ (o : Option ℕ). IsSome o) (byte_behind t d are at f is room fits one_page k small) s)
+  mark_after : (k : ℕ) → k < 4 → IsSome (byte_at (values_of (cell_at t d)) (address_after at k)) → slice_index d (f + at % 4096 + k + 4096) ≡ 1
+  mark_after k small s = marked d (f + at % 4096 + k) (subst (λ (o : Option ℕ). IsSome o) (byte_after t d are at f is room fits one_page k small) s)
 
   m0 : slice_index d (f + at % 4096 + 4096) ≡ 1
-  m0 = let z : f + at % 4096 + 4096 ≡ f + at % 4096 + 0 + 4096 = omega arith in ap (slice_index d) z ∙ mark_behind 0 (omega arith) some0
+  m0 = let z : f + at % 4096 + 4096 ≡ f + at % 4096 + 0 + 4096 = omega arith in ap (slice_index d) z ∙ mark_after 0 (omega arith) some0
 
   m1 : slice_index d (f + at % 4096 + 1 + 4096) ≡ 1
-  m1 = mark_behind 1 (omega arith) (front_some _ _ (rest_some _ _ (under_map _ there)))
+  m1 = mark_after 1 (omega arith) (front_some _ _ (rest_some _ _ (under_map _ there)))
 
   m2 : slice_index d (f + at % 4096 + 2 + 4096) ≡ 1
-  m2 = mark_behind 2 (omega arith) (front_some _ _ (rest_some _ _ (rest_some _ _ (under_map _ there))))
+  m2 = mark_after 2 (omega arith) (front_some _ _ (rest_some _ _ (rest_some _ _ (under_map _ there))))
 
   m3 : slice_index d (f + at % 4096 + 3 + 4096) ≡ 1
-  m3 = mark_behind 3 (omega arith) (front_some _ _ (rest_some _ _ (rest_some _ _ (rest_some _ _ (under_map _ there)))))
+  m3 = mark_after 3 (omega arith) (front_some _ _ (rest_some _ _ (rest_some _ _ (rest_some _ _ (under_map _ there)))))
 
   frame0 : slice_index t (at / 4096) ≢ 0
   frame0 =
       let z : address_after at 0 ≡ at = omega arith in
       has_frame t d are at (ap is_some (sym (get_pages t d are at)) ∙ ap (λ (x : ℕ). is_some (byte_at (values_of (cell_at t d)) x)) (sym z) ∙ some0)
 
-  frame_behind : (k : ℕ) → k < 4 → slice_index t (address_after at k / 4096) ≢ 0
-  frame_behind k small e =
+  frame_after : (k : ℕ) → k < 4 → slice_index t (address_after at k / 4096) ≢ 0
+  frame_after k small e =
       let p : address_after at k / 4096 ≡ at / 4096 = omega arith in
       frame0 (sym (ap (slice_index t) p) ∙ e)
 
-  place_behind : (k : ℕ) → k < 4 → f + at % 4096 + k ≡ frame_of t (address_after at k) + address_after at k % 4096
-  place_behind k small =
+  place_after : (k : ℕ) → k < 4 → f + at % 4096 + k ≡ frame_of t (address_after at k) + address_after at k % 4096
+  place_after k small =
       let p : address_after at k / 4096 ≡ at / 4096 = omega arith in
       let o : address_after at k % 4096 ≡ at % 4096 + k = omega arith in
       let same : frame_of t (address_after at k) ≡ f = ap (λ (x : ℕ). slice_index t x * 8192) p ∙ sym is in
@@ -207,11 +207,11 @@ module _ (t d : List ℕ) (are : ArePages t d) (at f : ℕ) (is : f ≡ frame_of
       let k1 : slice_index d1 (p + 1 + 4096) ≡ 1 = get_or-set_other d p (p + 1 + 4096) b0 0 n10 ∙ m1 in
       let k2 : slice_index d2 (p + 2 + 4096) ≡ 1 = get_or-set_other d1 (p + 1) (p + 2 + 4096) b1 0 n21 ∙ get_or-set_other d p (p + 2 + 4096) b0 0 n20 ∙ m2 in
       let k3 : slice_index d3 (p + 3 + 4096) ≡ 1 = get_or-set_other d2 (p + 2) (p + 3 + 4096) b2 0 n32 ∙ get_or-set_other d1 (p + 1) (p + 3 + 4096) b1 0 n31 ∙ get_or-set_other d p (p + 3 + 4096) b0 0 n30 ∙ m3 in
-      let p0 : p ≡ frame_of t (address_after at 0) + address_after at 0 % 4096 = let z : p ≡ p + 0 = omega arith in z ∙ place_behind 0 (omega arith) in
-      let x0 = put_one t d are (address_after at 0) p b0 p0 s0 (frame_behind 0 (omega arith)) m0 in
-      let x1 = put_one t d1 x0.0 (address_after at 1) (p + 1) b1 (place_behind 1 (omega arith)) s1 (frame_behind 1 (omega arith)) k1 in
-      let x2 = put_one t d2 x1.0 (address_after at 2) (p + 2) b2 (place_behind 2 (omega arith)) s2 (frame_behind 2 (omega arith)) k2 in
-      let x3 = put_one t d3 x2.0 (address_after at 3) (p + 3) b3 (place_behind 3 (omega arith)) s3 (frame_behind 3 (omega arith)) k3 in
+      let p0 : p ≡ frame_of t (address_after at 0) + address_after at 0 % 4096 = let z : p ≡ p + 0 = omega arith in z ∙ place_after 0 (omega arith) in
+      let x0 = put_one t d are (address_after at 0) p b0 p0 s0 (frame_after 0 (omega arith)) m0 in
+      let x1 = put_one t d1 x0.0 (address_after at 1) (p + 1) b1 (place_after 1 (omega arith)) s1 (frame_after 1 (omega arith)) k1 in
+      let x2 = put_one t d2 x1.0 (address_after at 2) (p + 2) b2 (place_after 2 (omega arith)) s2 (frame_after 2 (omega arith)) k2 in
+      let x3 = put_one t d3 x2.0 (address_after at 3) (p + 3) b3 (place_after 3 (omega arith)) s3 (frame_after 3 (omega arith)) k3 in
       record {
         are = x3.0;
         bytes = x3.1 ∙ ap (λ (m : Bytes). insert m (address_after at 3) b3) (x2.1 ∙ ap (λ (m : Bytes). insert m (address_after at 2) b2) (x1.1 ∙ ap (λ (m : Bytes). insert m (address_after at 1) b1) x0.1));

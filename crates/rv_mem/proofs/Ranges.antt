@@ -58,6 +58,6 @@ below_zeros zero k = omega arith
 below_zeros (suc n) zero = omega arith
 below_zeros (suc n) (suc k) = below_zeros n k
 
--- zeros behind bytes are bytes
+-- zeros after bytes are bytes
 pub below_filled : (front items : List ℕ) (n : ℕ) → items ≡ front ++ replicate n 0 → ((k : ℕ) → get_or front k 0 < 256) → (k : ℕ) → get_or items k 0 < 256
 below_filled front items n e p k = rw e (below_append front (replicate n 0) p (below_zeros n) k)

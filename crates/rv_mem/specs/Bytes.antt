@@ -27,7 +27,7 @@ count_of One = 1
 count_of Two = 2
 count_of Four = 4
 
--- the address that lies k behind at: behind the last comes the first
+-- the address that lies k after at: after the last comes the first
 abbrev pub address_after : ℕ → ℕ → ℕ
 address_after at k = (at + k) % 2 ^ 32
 

@@ -2,7 +2,7 @@
 use Rattle.std.specs.Prelude.{◌≡◌, ℕ, ◌+◌, ◌^◌, ◌<◌, ◌≤◌, ◌↔◌, List, length, Some, slice_index, Contains}
 use Rattle.rv_mem.specs.Bytes.{Bytes, byte_at, address_after, addresses, bytes_at, with_bytes}
 
--- the addresses of an access lie k behind its first, for k below n
+-- the addresses of an access lie k after its first, for k below n
 abbrev pub AddressesAreThese : Type 0
 AddressesAreThese = (at n a : ℕ) → Contains (addresses at n) a ↔ ((k : ℕ) × (k < n) × (a ≡ address_after at k))
 

@@ -1,7 +1,7 @@
 //! What holds of every read and write. A call costs nothing.
 ghost use Rattle.rv_mem.specs.Laws.{AddressesAreThese, ReadIsHeld, OthersStay, WrittenIsThere};
 
-/// The addresses of an access of n bytes lie k behind its first, for k below n.
+/// The addresses of an access of n bytes lie k after its first, for k below n.
 pub fn addresses_are_these()
     ensures { AddressesAreThese }
 {}

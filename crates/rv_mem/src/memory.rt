@@ -14,7 +14,7 @@ pub enum Width {
 }
 
 /// A memory: at each of the 2^32 addresses a byte, or none. Numbers stand low byte first (RISC-V Unprivileged ISA,
-/// chapter RV32I, "Load and Store Instructions"). An access may begin at any address, and the address behind the last
+/// chapter RV32I, "Load and Store Instructions"). An access may begin at any address, and the address after the last
 /// one is the first.
 pub trait Memory: Drop {
     ghost bytes: { Self → Bytes };

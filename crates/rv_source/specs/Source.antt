@@ -75,7 +75,7 @@ IsBody count (To i place) = InRange i × IsOpen i × (place < count)
 IsBody count (High rd place) = IsReg rd × (place < count)
 IsBody count (Low rd place) = IsReg rd × (place < count)
 
--- there is what the name names: that gate, the place before that item or behind the last, the place behind so many bytes
+-- there is what the name names: that gate, the place before that item or after the last, the place after so many bytes
 abbrev pub IsThere : Sandbox → Named → Type 0
 IsThere s (Gate k) = k < length s.gates
 IsThere s (Code k) = k ≤ length s.items

@@ -2,13 +2,13 @@
 use Rattle.std.proofs.Common.{◌≡◌, ◌≢◌, ℕ, zero, suc, ◌%◌, ◌^◌, ◌<◌, ◌==◌, Bool, true, false, cond, List, [], ◌∷◌, length-set, set, get_or, slice_set, refl, ◌∙◌, arith}
 use Rattle.std.proofs.lemmas.List.{get_or-set_other}
 use Rattle.rv_mem.specs.Bytes.{address_after}
-use Rattle.rv_step.specs.State.{Hart, IsHart, with_register, with_pc, behind}
+use Rattle.rv_step.specs.State.{Hart, IsHart, with_register, with_pc, past}
 
 pub pc_is : (h : Hart) (pc : ℕ) → IsHart h → pc % 2 ≡ 0 → pc < 2 ^ 32 → IsHart (with_pc h pc)
 pc_is h pc is even fits = record { even = even; address = fits; count = is.count; words = is.words; zero = is.zero }
 
-pub behind_is : (h : Hart) (n : ℕ) → IsHart h → n % 2 ≡ 0 → IsHart (behind h n)
-behind_is h n is even = let old = is.even in pc_is h (address_after h.pc n) is (omega arith) (omega arith)
+pub after_is : (h : Hart) (n : ℕ) → IsHart h → n % 2 ≡ 0 → IsHart (past h n)
+after_is h n is even = let old = is.even in pc_is h (address_after h.pc n) is (omega arith) (omega arith)
 
 set_fits : (l : List ℕ) (i v r : ℕ) → ((k : ℕ) → get_or l k 0 < 2 ^ 32) → v < 2 ^ 32 → get_or (set l i v) r 0 < 2 ^ 32
 set_fits [] i v r h f = h r

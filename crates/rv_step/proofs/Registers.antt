@@ -9,7 +9,7 @@ use Rattle.rv_mem.specs.Bytes.{Bytes, bytes_at, addresses, loaded}
 use Rattle.rv_step.specs.declared.outcome.Outcome.TheVariants.{Trap}
 use Rattle.rv_step.specs.declared.outcome.Cause.TheVariants as cause
 use Rattle.rv_step.specs.Laws.{StepIsEffect, OtherRegistersStay}
-use Rattle.rv_step.specs.State.{Hart, register, with_register, with_pc, behind}
+use Rattle.rv_step.specs.State.{Hart, register, with_register, with_pc, past}
 use Rattle.rv_step.specs.Step.{Stepped, next, unchanged, after_load, effect}
 use Rattle.rv_step.specs.Values.{plus, load_size, store_size, is_taken}
 
@@ -24,11 +24,11 @@ load_stays : (o : Option ℕ) (kind : LoadKind) (rd at n : ℕ) (h : Hart) (m : 
 load_stays None kind rd at n h m x other = refl
 load_stays (Some v) kind rd at n h m x other = wrote h rd _ x other
 
-store_stays : (b : Bool) (at n : ℕ) (h : Hart) (w m : Bytes) (x : ℕ) → register (cond b (next (behind h n) w) (unchanged (Trap cause.Store at) h m)).state.hart x ≡ register h x
+store_stays : (b : Bool) (at n : ℕ) (h : Hart) (w m : Bytes) (x : ℕ) → register (cond b (next (past h n) w) (unchanged (Trap cause.Store at) h m)).state.hart x ≡ register h x
 store_stays true at n h w m x = refl
 store_stays false at n h w m x = refl
 
-branch_stays : (b : Bool) (pc n : ℕ) (h : Hart) (x : ℕ) → register (cond b (with_pc h pc) (behind h n)) x ≡ register h x
+branch_stays : (b : Bool) (pc n : ℕ) (h : Hart) (x : ℕ) → register (cond b (with_pc h pc) (past h n)) x ≡ register h x
 branch_stays true pc n h x = refl
 branch_stays false pc n h x = refl
 

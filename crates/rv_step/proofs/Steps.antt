@@ -15,10 +15,10 @@ use Rattle.rv_step.specs.declared.outcome.Outcome.TheVariants.{Next, Trap}
 use Rattle.rv_step.specs.declared.outcome.Cause.TheVariants as cause
 use Rattle.rv_step.specs.Access.{Accesses}
 use Rattle.rv_step.specs.Laws.{OneInstruction, OneStep, StepIsEffect, StepKeepsState, StoppedStays, OtherBytesStay, AccessedIsThere}
-use Rattle.rv_step.specs.State.{Hart, State, IsHart, IsState, register, behind}
+use Rattle.rv_step.specs.State.{Hart, State, IsHart, IsState, register, past}
 use Rattle.rv_step.specs.Step.{Stepped, next, unchanged, after_load, effect, IsAtPc, after_front}
 use Rattle.rv_step.specs.Values.{plus, register_op, load_size, store_size}
-use Rattle.rv_step.proofs.Harts.{pc_is, behind_is, register_is, moved_is}
+use Rattle.rv_step.proofs.Harts.{pc_is, after_is, register_is, moved_is}
 use Rattle.rv_step.proofs.Memories.{stored_is, loaded_fits}
 use Rattle.rv_step.proofs.Numbers.{word_fits, plus_even, result_fits, extended_fits, branch_is_even, jump_is_even}
 use Rattle.rv_step.proofs.Bytes.{there, others_stay}
@@ -152,12 +152,12 @@ size_even n (inr e) = omega arith
 load_state : (o : Option ℕ) (kind : LoadKind) (rd at n : ℕ) (s : State) → IsState s → n % 2 ≡ 0 → ((v : ℕ) → o ≡ Some v → v < 256 ^ load_size kind) → IsState (after_load o kind rd at n s.hart s.memory).state
 load_state None kind rd at n s is even fits = is
 load_state (Some v) kind rd at n s is even fits = record {
-  hart = register_is _ rd _ (behind_is s.hart n is.hart even) (extended_fits kind v (fits v refl));
+  hart = register_is _ rd _ (after_is s.hart n is.hart even) (extended_fits kind v (fits v refl));
   memory = is.memory;
 }
 
-store_state : (b : Bool) (width : StoreWidth) (at v n : ℕ) (s : State) → IsState s → n % 2 ≡ 0 → IsState (cond b (next (behind s.hart n) (stored s.memory at (store_size width) v)) (unchanged (Trap cause.Store at) s.hart s.memory)).state
-store_state true width at v n s is even = record { hart = behind_is s.hart n is.hart even; memory = stored_is s.memory at v width is.memory }
+store_state : (b : Bool) (width : StoreWidth) (at v n : ℕ) (s : State) → IsState s → n % 2 ≡ 0 → IsState (cond b (next (past s.hart n) (stored s.memory at (store_size width) v)) (unchanged (Trap cause.Store at) s.hart s.memory)).state
+store_state true width at v n s is even = record { hart = after_is s.hart n is.hart even; memory = stored_is s.memory at v width is.memory }
 store_state false width at v n s is even = is
 
 either : (b : Bool) (h k : Hart) → IsHart h → IsHart k → IsHart (cond b h k)
@@ -172,17 +172,17 @@ cleared_fits n h = omega arith
 
 effect_state : (i : Instr) (n : ℕ) (s : State) → IsState s → InRange i → n % 2 ≡ 0 → IsState (effect i n s.hart s.memory).state
 effect_state (Op op rd rs1 rs2) n s is range even = record {
-  hart = register_is _ rd _ (behind_is s.hart n is.hart even) (result_fits op _ _ (is.hart.words rs1) (is.hart.words rs2));
+  hart = register_is _ rd _ (after_is s.hart n is.hart even) (result_fits op _ _ (is.hart.words rs1) (is.hart.words rs2));
   memory = is.memory;
 }
 effect_state (OpImm op rd rs1 imm) n s is range even = record {
-  hart = register_is _ rd _ (behind_is s.hart n is.hart even) (result_fits (register_op op) _ _ (is.hart.words rs1) (word_fits imm));
+  hart = register_is _ rd _ (after_is s.hart n is.hart even) (result_fits (register_op op) _ _ (is.hart.words rs1) (word_fits imm));
   memory = is.memory;
 }
 effect_state (Load kind rd rs1 imm) n s is range even = load_state _ kind rd _ n s is even (λ v. loaded_fits s.memory _ v kind is.memory)
 effect_state (Store width rs1 rs2 imm) n s is range even = store_state _ width _ _ n s is even
 effect_state (Branch cond rs1 rs2 offset) n s is range even = record {
-  hart = either _ _ _ (pc_is s.hart _ is.hart (plus_even s.hart.pc offset is.hart.even (branch_is_even _ cond rs1 rs2 offset range refl)) (word_fits _)) (behind_is s.hart n is.hart even);
+  hart = either _ _ _ (pc_is s.hart _ is.hart (plus_even s.hart.pc offset is.hart.even (branch_is_even _ cond rs1 rs2 offset range refl)) (word_fits _)) (after_is s.hart n is.hart even);
   memory = is.memory;
 }
 effect_state (Jal rd offset) n s is range even = record {
@@ -193,9 +193,9 @@ effect_state (Jalr rd rs1 imm) n s is range even = record {
   hart = moved_is s.hart rd _ _ is.hart (omega arith) (cleared_even (plus (register s.hart rs1) imm)) (cleared_fits (plus (register s.hart rs1) imm) (word_fits _));
   memory = is.memory;
 }
-effect_state (Lui rd imm) n s is range even = record { hart = register_is _ rd _ (behind_is s.hart n is.hart even) (omega arith); memory = is.memory }
-effect_state (Auipc rd imm) n s is range even = record { hart = register_is _ rd _ (behind_is s.hart n is.hart even) (omega arith); memory = is.memory }
-effect_state (Fence imm rd rs1) n s is range even = record { hart = behind_is s.hart n is.hart even; memory = is.memory }
+effect_state (Lui rd imm) n s is range even = record { hart = register_is _ rd _ (after_is s.hart n is.hart even) (omega arith); memory = is.memory }
+effect_state (Auipc rd imm) n s is range even = record { hart = register_is _ rd _ (after_is s.hart n is.hart even) (omega arith); memory = is.memory }
+effect_state (Fence imm rd rs1) n s is range even = record { hart = after_is s.hart n is.hart even; memory = is.memory }
 effect_state Ecall n s is range even = is
 effect_state Ebreak n s is range even = is
 

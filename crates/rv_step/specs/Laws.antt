@@ -7,7 +7,7 @@ use Rattle.rv_word.specs.Writes.{written}
 use Rattle.rv_mem.specs.Bytes.{byte_at, address_after}
 use Rattle.rv_step.specs.declared.outcome.Outcome.TheVariants.{Next, Call}
 use Rattle.rv_step.specs.Access.{Accesses}
-use Rattle.rv_step.specs.State.{State, IsState, register, with_register, behind}
+use Rattle.rv_step.specs.State.{State, IsState, register, with_register, past}
 use Rattle.rv_step.specs.Step.{Stepped, Stands, effect, IsStep}
 use Rattle.rv_step.specs.Steps.{StandInRow, LeadTo}
 
@@ -98,6 +98,6 @@ abbrev pub PairLeaves : Type 0
 PairLeaves =
     (s : State) (t a mask base : ℕ) → IsState s → t ≢ 0 → base ≢ t → StandInRow s (Op And t a mask ∷ Op Or t t base ∷ [])
     → LeadTo 2 s (record {
-      hart = with_register (behind s.hart 8) t (bit_or (bit_and (register s.hart a) (register s.hart mask)) (register s.hart base));
+      hart = with_register (past s.hart 8) t (bit_or (bit_and (register s.hart a) (register s.hart mask)) (register s.hart base));
       memory = s.memory;
     })

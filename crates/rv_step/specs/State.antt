@@ -36,9 +36,9 @@ with_register h rd v = record { pc = h.pc; registers = if rd == 0 then h.registe
 abbrev pub with_pc : Hart → ℕ → Hart
 with_pc h pc = record { pc = pc; registers = h.registers }
 
--- the hart behind an instruction of n bytes
-abbrev pub behind : Hart → ℕ → Hart
-behind h n = with_pc h (address_after h.pc n)
+-- the hart after an instruction of n bytes
+abbrev pub past : Hart → ℕ → Hart
+past h n = with_pc h (address_after h.pc n)
 
 -- the number with bit 0 cleared
 abbrev pub even_of : ℕ → ℕ

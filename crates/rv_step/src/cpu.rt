@@ -1,6 +1,6 @@
 //! The pc and the registers.
 ghost use Rattle.std.specs.Prelude.{◌≡◌, ◌%◌, ◌↔◌, IsSome, IfSome, replicate};
-ghost use Rattle.rv_step.specs.State.{Hart, IsHart, register, with_register, with_pc, behind};
+ghost use Rattle.rv_step.specs.State.{Hart, IsHart, register, with_register, with_pc, past};
 
 use rv_word::Reg;
 use std::marker::Model;
@@ -80,9 +80,9 @@ impl Cpu {
     }
 }
 
-/// Goes on behind an ecall.
+/// Goes on after an ecall.
 pub fn after_call(cpu: &mut Cpu)
-    ensures gone { cpu.new ≡ behind cpu.old 4 }
+    ensures gone { cpu.new ≡ past cpu.old 4 }
     ensures hart { IsHart cpu.new }
 {
     cpu.go_to(cpu.pc().wrapping_add(4));

@@ -15,7 +15,7 @@ token_some : (token : List ℕ) → IsToken token → 0 < length token
 token_some [] h = omega (arith, (token_within [] [] h))
 token_some (c ∷ cs) h = omega arith
 
--- a colon behind the spaces is the first token, and no other token is one
+-- a colon after the spaces is the first token, and no other token is one
 colon_found : (text rest : List ℕ) → body_of text ≡ 58 ∷ rest → Takes text (codes ":") rest
 colon_found text rest e =
     let one : token_len (body_of text) ≡ 1 = ap token_len e ∙ token_at_mark 58 rest refl in
@@ -39,7 +39,7 @@ pub other_name : (text token after : List ℕ) → Takes text token after → (I
 other_name text token after takes other name rest begins =
     other (subst IsLabel (sym (takes_unique takes begins.0).0) begins.1)
 
--- a name with no colon behind it is no label
+-- a name with no colon after it is no label
 pub no_colon : (text name after : List ℕ) → BeginsWithName text name after → ((rest : List ℕ) → Takes after (codes ":") rest → ⊥) → HasNoLabel text
 no_colon text name after begins none other rest (a, begun, colon) =
     none rest (subst (λ t. Takes t (codes ":") rest) (sym (takes_unique begins.0 begun.0).1) colon)
@@ -52,29 +52,29 @@ taken b text name rest true begins free =
 taken b text name rest false begins free =
     (λ h. (name, rest, begins, λ f. true≢false (sym (free.1 f))), λ t. refl)
 
--- one more label behind others
+-- one more label after others
 pub one_more : (names : List (List ℕ)) (old next new : SoFar) (text rest after name : List ℕ)
     → LabelsLead names old text next rest → BeginsWithLabel rest name after → Labels name next new
     → LabelsLead (names ++ name ∷ []) old text new after
 one_more [] old next new text rest after name (same, is) begins labels =
     (new, after, subst (λ t. BeginsWithLabel t name after) is begins, subst (λ s. Labels name s new) same labels, (refl, refl))
-one_more (n ∷ ns) old next new text rest after name (middle, behind, begun, labelled, more) begins labels =
-    (middle, behind, begun, labelled, one_more ns middle next new behind rest after name more begins labels)
+one_more (n ∷ ns) old next new text rest after name (middle, beyond, begun, labelled, more) begins labels =
+    (middle, beyond, begun, labelled, one_more ns middle next new beyond rest after name more begins labels)
 
 -- no name stands at the front, so none that is there already
 pub none_taken : (b : Begun) (text : List ℕ) → ((name rest : List ℕ) → BeginsWithName text name rest → ⊥) → IsTrue false ↔ IsTaken b text
 none_taken b text none = (λ h. absurd (true≢false (sym h)), λ t. absurd (none t.0 t.1 t.2))
 
--- the text behind a token is shorter
+-- the text after a token is shorter
 pub takes_shortens : {text token rest : List ℕ} → Takes text token rest → length rest < length text
 takes_shortens {text} {token} {rest} t =
     omega (arith, ap length t.whole, length-append t.gap (token ++ rest), length-append token rest, token_some token t.is_token)
 
--- the text behind a label is shorter
+-- the text after a label is shorter
 pub label_shortens : (text name rest : List ℕ) → BeginsWithLabel text name rest → length rest < length text
 label_shortens text name rest (after, begins, colon) = omega (arith, takes_shortens begins.0, takes_shortens colon)
 
--- a label that is refused behind others that lead on
+-- a label that is refused after others that lead on
 pub refused_label : (names : List (List ℕ)) (old next : SoFar) (text rest name after : List ℕ) (e : TextCause)
     → LabelsLead names old text next rest → BeginsWithLabel rest name after → (e ≡ cause.Memory) ⊎ RefusesLabel name next e
     → (e ≡ cause.Memory) ⊎ LabelRefused old text e

@@ -10,7 +10,7 @@ use Rattle.std.proofs.lemmas.Str.{IsCharBoundary-start, IsCharBoundary-after_asc
 use Rattle.std.proofs.lemmas.List.Folds.{length-prefix_len}
 use Rattle.std.proofs.lemmas.Bool.Decides.{nat_tests}
 use Rattle.rv_text.specs.Tokens.{is_space, IsBlank, begins_name, continues_name, IsMagnitude, is_mark, IsToken}
-use Rattle.rv_text.specs.Scan.{begins_hex, magnitude_len, behind_sign, token_len}
+use Rattle.rv_text.specs.Scan.{begins_hex, magnitude_len, after_sign, token_len}
 
 -- each byte passes the test
 abbrev pub Passes : (ℕ → Bool) → List ℕ → Type 0
@@ -153,7 +153,7 @@ module _ (c : ℕ) (cs : List ℕ) where
   unfolding token_len
   token_at_other p q r = rw (p, q, r) refl
 
-token_at_sign : (cs : List ℕ) → token_len (45 ∷ cs) ≡ behind_sign (magnitude_len cs)
+token_at_sign : (cs : List ℕ) → token_len (45 ∷ cs) ≡ after_sign (magnitude_len cs)
 unfolding token_len
 token_at_sign cs = refl
 
@@ -161,12 +161,12 @@ digit_first : (c : ℕ) (cs : List ℕ) (n : ℕ) → IsMagnitude (c ∷ cs) n �
 digit_first c cs n (inl h) = digit_is c h.0.1.0
 digit_first c cs n (inr (ds, e, h, v)) = let first : c ≡ 48 = cc in rw first refl
 
-behind_sign_more : (n : ℕ) → 0 < n → behind_sign n ≡ n + 1
-behind_sign_more n h = grind (arith, nat_tests)
+after_sign_more : (n : ℕ) → 0 < n → after_sign n ≡ n + 1
+after_sign_more n h = grind (arith, nat_tests)
 
-behind_sign_positive : (n : ℕ) → 0 < behind_sign n → 0 < n
-behind_sign_positive zero h = absurd (omega arith)
-behind_sign_positive (suc n) h = omega arith
+after_sign_positive : (n : ℕ) → 0 < after_sign n → 0 < n
+after_sign_positive zero h = absurd (omega arith)
+after_sign_positive (suc n) h = omega arith
 
 positive_within : (text more : List ℕ) (n : ℕ) → IsMagnitude text n → 0 < magnitude_len (text ++ more)
 positive_within text more n h = let p = magnitude_within text more n h in omega (arith, p.0, p.1)
@@ -185,15 +185,15 @@ token_within (c ∷ cs) more (inl name) = (omega arith, omega (arith, token_at_n
 token_within [] more (inr (inl (z, inl (n, h, e)))) = absurd (omega (arith, magnitude_within [] more n h))
 token_within (c ∷ cs) more (inr (inl (z, inl (n, h, e)))) = (omega arith, omega (arith, token_at_digit c (cs ++ more) (digit_first c cs n h), (magnitude_within (c ∷ cs) more n h).1))
 token_within token more (inr (inl (z, inr (n, digits, e, h, v)))) =
-    subst (λ (t : List ℕ). (0 < length t) × (length t ≤ token_len (t ++ more))) (sym e) (omega arith, omega (arith, token_at_sign (digits ++ more), behind_sign_more _ (positive_within digits more n h), (magnitude_within digits more n h).1))
+    subst (λ (t : List ℕ). (0 < length t) × (length t ≤ token_len (t ++ more))) (sym e) (omega arith, omega (arith, token_at_sign (digits ++ more), after_sign_more _ (positive_within digits more n h), (magnitude_within digits more n h).1))
 token_within token more (inr (inr (c, h, e))) =
     subst (λ (t : List ℕ). (0 < length t) × (length t ≤ token_len (t ++ more))) (sym e) (omega arith, omega (arith, token_at_mark c more h))
 
-sign_found : (cs : List ℕ) → 0 < behind_sign (magnitude_len cs) → IsToken (take (behind_sign (magnitude_len cs)) (45 ∷ cs))
+sign_found : (cs : List ℕ) → 0 < after_sign (magnitude_len cs) → IsToken (take (after_sign (magnitude_len cs)) (45 ∷ cs))
 sign_found cs h =
-    let positive : 0 < magnitude_len cs = behind_sign_positive _ h in
+    let positive : 0 < magnitude_len cs = after_sign_positive _ h in
     let found = magnitude_found cs positive in
-    let is_len : behind_sign (magnitude_len cs) ≡ suc (magnitude_len cs) = behind_sign_more _ positive ∙ omega arith in
+    let is_len : after_sign (magnitude_len cs) ≡ suc (magnitude_len cs) = after_sign_more _ positive ∙ omega arith in
     rw is_len (inr (inl (neg_ℤ (pos found.0), inr (found.0, take (magnitude_len cs) cs, refl, found.1, refl))))
 
 number_found : (text : List ℕ) → 0 < magnitude_len text → IsToken (take (magnitude_len text) text)
@@ -210,7 +210,7 @@ token_found (c ∷ cs) h =
     let P : ℕ → Type 0 = λ k. 0 < k → IsToken (take k (c ∷ cs)) in
     cases_cond P (begins_name c) _ _ (λ e _. name_found c cs e)
     (λ _. cases_cond P (is_mark c) _ _ (λ e _. inr (inr (c, e, refl)))
-    (λ _. cases_cond P (c == 45) _ _ (λ e. subst (λ (d : ℕ). 0 < behind_sign (magnitude_len cs) → IsToken (take (behind_sign (magnitude_len cs)) (d ∷ cs))) (sym (is_eq c e)) (sign_found cs))
+    (λ _. cases_cond P (c == 45) _ _ (λ e. subst (λ (d : ℕ). 0 < after_sign (magnitude_len cs) → IsToken (take (after_sign (magnitude_len cs)) (d ∷ cs))) (sym (is_eq c e)) (sign_found cs))
     (λ _. number_found (c ∷ cs)))) h
 
 name_begins : (c : ℕ) → begins_name c ≡ true → is_space c ≡ false
@@ -240,9 +240,9 @@ magnitude_len-le text =
     (λ e. omega (arith, magnitude_decimal text e, prefix_len-le-length is_ascii_digit text))
     (true_or_false (begins_hex text))
 
-behind_sign-le : (n m : ℕ) → n ≤ m → behind_sign n ≤ suc m
-behind_sign-le zero m h = omega arith
-behind_sign-le (suc n) m h = omega (arith, behind_sign_more (suc n) (omega arith))
+after_sign-le : (n m : ℕ) → n ≤ m → after_sign n ≤ suc m
+after_sign-le zero m h = omega arith
+after_sign-le (suc n) m h = omega (arith, after_sign_more (suc n) (omega arith))
 
 pub token_len-le : (text : List ℕ) → token_len text ≤ length text
 unfolding token_len
@@ -251,7 +251,7 @@ token_len-le (c ∷ cs) =
     let P : ℕ → Type 0 = λ k. k ≤ suc (length cs) in
     cases_cond P (begins_name c) _ _ (λ _. omega (arith, prefix_len-le-length continues_name cs))
     (λ _. cases_cond P (is_mark c) _ _ (λ _. omega arith)
-    (λ _. cases_cond P (c == 45) _ _ (λ _. behind_sign-le _ _ (magnitude_len-le cs)) (λ _. magnitude_len-le (c ∷ cs))))
+    (λ _. cases_cond P (c == 45) _ _ (λ _. after_sign-le _ _ (magnitude_len-le cs)) (λ _. magnitude_len-le (c ∷ cs))))
 
 abbrev pub AllAscii : List ℕ → Type 0
 AllAscii text = AllByRecursion (λ c. c < 128) text
@@ -297,9 +297,9 @@ last_ascii c [] rest h = h.0
 last_ascii c (d ∷ ds) rest h = last_ascii d ds rest h.1
 
 -- an ASCII front of a text may be cut off
-pub cut_behind_ascii : (front text : List ℕ) → IsUtf8 text → AllAscii front → (rest : List ℕ) → text ≡ front ++ rest → IsCharBoundary text (length front)
-cut_behind_ascii [] text u h rest e = IsCharBoundary-start text u
-cut_behind_ascii (c ∷ cs) text u h rest e =
+pub cut_after_ascii : (front text : List ℕ) → IsUtf8 text → AllAscii front → (rest : List ℕ) → text ≡ front ++ rest → IsCharBoundary text (length front)
+cut_after_ascii [] text u h rest e = IsCharBoundary-start text u
+cut_after_ascii (c ∷ cs) text u h rest e =
     let last : get_or text (length cs) 0 < 128 = rw e (last_ascii c cs rest h) in
     let within : length cs < length text = rw e (omega (arith, length-append (c ∷ cs) rest)) in
     let is_suc : length cs + 1 ≡ suc (length cs) = omega arith in

@@ -28,14 +28,14 @@ use Rattle.rv_text.specs.Statement.{mnemonic_of, operands_of, Spells, OperandsDe
 use Rattle.rv_text.specs.Reading.{Reads, AgreesOn, FollowsName}
 use Rattle.rv_text.specs.Keywords.{directive_form, directive_states, pseudo_form, pseudo_states, branch_form, branch_states, jal_form, jal_states, data_kind}
 use Rattle.rv_text.specs.Constants.{constant, data_bytes}
-use Rattle.rv_text.specs.Lines.{Writes, AreMore, IsRow, IsData, StatesBehind, InstrDeparts, RefusedWith}
-use Rattle.rv_text.specs.Lists.{ReadsRow, ReadsInstr, ReadsBehind, ReadsList}
+use Rattle.rv_text.specs.Lines.{Writes, AreMore, IsRow, IsData, StatesAfter, InstrDeparts, RefusedWith}
+use Rattle.rv_text.specs.Lists.{ReadsRow, ReadsInstr, ReadsAfter, ReadsList}
 use Rattle.rv_text.specs.Stated.{Stated, stated, IsRightStatement, format, sandbox, within, gate, compressed, bytes, plain, jump, address}
 use Rattle.rv_text.proofs.Keywords.{name_unique}
 use Rattle.rv_text.proofs.Meaning.{tokens_of, from_tokens, agree}
 use Rattle.rv_text.proofs.OneMeaning.{follows_one}
 use Rattle.rv_text.proofs.Refusals.{departs_one, departs_reads}
-use Rattle.rv_text.proofs.Right.{behind_right}
+use Rattle.rv_text.proofs.Right.{after_right}
 use Rattle.rv_text.proofs.Lists.{departs_list_one, more_tokens, more_leads, list_one, list_not_refused}
 
 -- an instruction that goes to no name, by itself
@@ -117,7 +117,7 @@ list_reads width [] text s are (z ∷ ns, none, e) = absurd none
 list_reads width (t ∷ tokens) text s are ([], none, e) = absurd none
 list_reads width (t ∷ tokens) text s are (z ∷ ns, (writes, more), e) = list_read width t tokens text s z ns are writes more e
 
-pub reads_states : (k : Keyword) (text : List ℕ) (s : Stated) → ReadsBehind k text s → StatesBehind k text s
+pub reads_states : (k : Keyword) (text : List ℕ) (s : Stated) → ReadsAfter k text s → StatesAfter k text s
 reads_states (keyword.Instr (mnemonic.Branch cond)) text s h = row_states branch_form (branch_states cond) text s h
 reads_states (keyword.Instr mnemonic.Jal) text s h = row_states jal_form jal_states text s h
 reads_states (keyword.Instr (mnemonic.Op op)) text s h = plain_states (mnemonic.Op op) text s h
@@ -136,7 +136,7 @@ reads_states (keyword.Numbers width) text s (b, reads, e) =
     let t = list_states width text b reads in
     (t.0, t.1, subst (IsData width t.0) (sym e) t.2)
 
-pub states_reads : (k : Keyword) (text : List ℕ) (s : Stated) → StatesBehind k text s → ReadsBehind k text s
+pub states_reads : (k : Keyword) (text : List ℕ) (s : Stated) → StatesAfter k text s → ReadsAfter k text s
 states_reads (keyword.Instr (mnemonic.Branch cond)) text s (ts, are, h) = row_reads branch_form (branch_states cond) text s ts are h
 states_reads (keyword.Instr mnemonic.Jal) text s (ts, are, h) = row_reads jal_form jal_states text s ts are h
 states_reads (keyword.Instr (mnemonic.Op op)) text s (ts, are, h) = plain_read (mnemonic.Op op) text s ts are h
@@ -186,8 +186,8 @@ row_one form states agrees text s t (o, reads, e) (p, read, f) = e ∙ agrees o 
 plain_one : (name : Mnemonic) (text : List ℕ) (s t : Stated) → ReadsPlain name text s → ReadsPlain name text t → s ≡ t
 plain_one name text s t (i, h, e) (j, k, f) = e ∙ ap (λ x. within (plain (x ∷ []))) (follows_one text i j (k.0 ∙ sym h.0) h.1 k.1) ∙ sym f
 
--- a text behind a keyword states one thing
-pub reads_one : (k : Keyword) (text : List ℕ) (s t : Stated) → ReadsBehind k text s → ReadsBehind k text t → s ≡ t
+-- a text after a keyword states one thing
+pub reads_one : (k : Keyword) (text : List ℕ) (s t : Stated) → ReadsAfter k text s → ReadsAfter k text t → s ≡ t
 reads_one (keyword.Instr (mnemonic.Branch cond)) text s t h j = row_one branch_form (branch_states cond) (branch_agrees cond) text s t h j
 reads_one (keyword.Instr mnemonic.Jal) text s t h j = row_one jal_form jal_states jal_agrees text s t h j
 reads_one (keyword.Instr (mnemonic.Op op)) text s t h j = plain_one (mnemonic.Op op) text s t h j
@@ -213,7 +213,7 @@ plain_not name text s e (i, (same, inl reads), is) refused =
 plain_not name text s e (i, (same, inr (fence, blank)), is) refused = refused.0 (sym same ∙ ap mnemonic_of fence, blank)
 
 -- and is refused for no cause then
-pub reads_not : (k : Keyword) (text : List ℕ) (s : Stated) (e : TextCause) → ReadsBehind k text s → RefusedWith k text e → ⊥
+pub reads_not : (k : Keyword) (text : List ℕ) (s : Stated) (e : TextCause) → ReadsAfter k text s → RefusedWith k text e → ⊥
 reads_not (keyword.Instr (mnemonic.Branch cond)) text s e h r = row_not branch_form (branch_states cond) text s e h r
 reads_not (keyword.Instr mnemonic.Jal) text s e h r = row_not jal_form jal_states text s e h r
 reads_not (keyword.Instr (mnemonic.Op op)) text s e h r = plain_not (mnemonic.Op op) text s e h r
@@ -252,28 +252,28 @@ refused_one (keyword.Directive name) text e f h j = departs_one (directive_form 
 refused_one (keyword.Numbers width) text e f h j = departs_list_one (data_kind width) text e f h j
 
 -- the same of what is stated
-pub states_one : (k : Keyword) (text : List ℕ) (s t : Stated) → StatesBehind k text s → StatesBehind k text t → s ≡ t
+pub states_one : (k : Keyword) (text : List ℕ) (s t : Stated) → StatesAfter k text s → StatesAfter k text t → s ≡ t
 states_one k text s t h j = reads_one k text s t (states_reads k text s h) (states_reads k text t j)
 
-pub states_not : (k : Keyword) (text : List ℕ) (s : Stated) (e : TextCause) → StatesBehind k text s → RefusedWith k text e → ⊥
+pub states_not : (k : Keyword) (text : List ℕ) (s : Stated) (e : TextCause) → StatesAfter k text s → RefusedWith k text e → ⊥
 states_not k text s e h r = reads_not k text s e (states_reads k text s h) r
 
--- what the code's answer says of the text behind a keyword
+-- what the code's answer says of the text after a keyword
 module _ (k : Keyword) (text : List ℕ) where
-  pub answer_states : (r : Result Statement TextCause) → IfOk r (λ s. ReadsBehind k text (stated s)) → IfOk r (λ s. StatesBehind k text (stated s))
+  pub answer_states : (r : Result Statement TextCause) → IfOk r (λ s. ReadsAfter k text (stated s)) → IfOk r (λ s. StatesAfter k text (stated s))
   answer_states (Ok s) h = reads_states k text (stated s) h
   answer_states (Err e) h = tt
 
-  pub answer_right : (r : Result Statement TextCause) → IfOk r (λ s. ReadsBehind k text (stated s)) → IfOk r (λ s. IsRightStatement (stated s))
-  answer_right (Ok s) h = let states = reads_states k text (stated s) h in behind_right k states.0 (stated s) states.2
+  pub answer_right : (r : Result Statement TextCause) → IfOk r (λ s. ReadsAfter k text (stated s)) → IfOk r (λ s. IsRightStatement (stated s))
+  answer_right (Ok s) h = let states = reads_states k text (stated s) h in after_right k states.0 (stated s) states.2
   answer_right (Err e) h = tt
 
-  pub answer_only : (r : Result Statement TextCause) → IfOk r (λ s. ReadsBehind k text (stated s)) → IfErr r (λ e. (e ≡ cause.Memory) ⊎ RefusedWith k text e) → (s : Stated) → StatesBehind k text s → MatchResult r (λ t. stated t ≡ s) (λ e. e ≡ cause.Memory)
+  pub answer_only : (r : Result Statement TextCause) → IfOk r (λ s. ReadsAfter k text (stated s)) → IfErr r (λ e. (e ≡ cause.Memory) ⊎ RefusedWith k text e) → (s : Stated) → StatesAfter k text s → MatchResult r (λ t. stated t ≡ s) (λ e. e ≡ cause.Memory)
   answer_only (Ok t) h c s states = reads_one k text (stated t) s h (states_reads k text s states)
   answer_only (Err e) h (inl memory) s states = memory
   answer_only (Err e) h (inr refused) s states = absurd (reads_not k text s e (states_reads k text s states) refused)
 
-  pub answer_cause : (r : Result Statement TextCause) → IfOk r (λ s. ReadsBehind k text (stated s)) → IfErr r (λ e. (e ≡ cause.Memory) ⊎ RefusedWith k text e) → (e : TextCause) → RefusedWith k text e → MatchResult r (λ _. ⊥) (λ f. (f ≡ e) ⊎ (f ≡ cause.Memory))
+  pub answer_cause : (r : Result Statement TextCause) → IfOk r (λ s. ReadsAfter k text (stated s)) → IfErr r (λ e. (e ≡ cause.Memory) ⊎ RefusedWith k text e) → (e : TextCause) → RefusedWith k text e → MatchResult r (λ _. ⊥) (λ f. (f ≡ e) ⊎ (f ≡ cause.Memory))
   answer_cause (Ok t) h c e refused = reads_not k text (stated t) e h refused
   answer_cause (Err f) h (inl memory) e refused = inr memory
   answer_cause (Err f) h (inr other) e refused = inl (refused_one k text f e other refused)

@@ -15,12 +15,12 @@ use Rattle.rv_text.specs.Keywords.{data_kind}
 use Rattle.rv_text.specs.Constants.{data_bytes}
 use Rattle.rv_text.specs.Statement.{operands}
 use Rattle.rv_text.specs.Lines.{Writes, AreMore, LeadsByMore, NumberDeparts, MoreDeparts, ListDeparts}
-use Rattle.rv_text.specs.Lists.{ReadsNumber, ReadsAnother, ReadsMore, MoreDepartsBehind, ReadsList}
+use Rattle.rv_text.specs.Lists.{ReadsNumber, ReadsAnother, ReadsMore, MoreDepartsAfter, ReadsList}
 use Rattle.rv_text.proofs.Numbers.{number_unique}
 use Rattle.rv_text.proofs.Taking.{takes_unique, takes_shorter, blank_takes_none}
 
 module _ (kind : NumberKind) where
-  -- another number stands there behind a comma
+  -- another number stands there after a comma
   abbrev pub Continues : List ℕ → Type 0
   Continues text =
       (comma : List ℕ) × (after : List ℕ) × (token : List ℕ) × (next : List ℕ) × (z : ℤ)
@@ -39,7 +39,7 @@ module _ (kind : NumberKind) where
       inr (inl (subst Continues h (c, after, t, next, m, takes, is, taken, writes)))
   compared (n ∷ ns) [] text a b (c, after, t, next, takes, is, taken, writes, leads) k =
       inr (inr (subst Continues k (c, after, t, next, n, takes, is, taken, writes)))
-  compared (n ∷ ns) (m ∷ ms) text a b (c, after, t, next, takes, is, taken, writes, leads) (d, behind, u, later, takes', is', taken', wrote, led) =
+  compared (n ∷ ns) (m ∷ ms) text a b (c, after, t, next, takes, is, taken, writes, leads) (d, beyond, u, later, takes', is', taken', wrote, led) =
       let first = takes_unique takes takes' in
       let second = takes_unique (subst (λ x. Takes x t next) first.1 taken) taken' in
       let number = number_unique u n m (subst (λ (x : List ℕ). IsNumber x n) second.0 writes.0) wrote.0 in
@@ -150,8 +150,8 @@ module _ (kind : NumberKind) where
   -- a way through a list, and one number more
   pub leads_on : (ns : List ℤ) (z : ℤ) (text a comma after token next : List ℕ) → LeadsByMore kind ns text a → Takes a comma after → comma ≡ codes "," → Takes after token next → Writes kind token z → LeadsByMore kind (ns ++ (z ∷ [])) text next
   leads_on [] z text a comma after token next h takes is taken writes = (comma, after, token, next, subst (λ x. Takes x comma after) (sym h) takes, is, taken, writes, refl)
-  leads_on (n ∷ ns) z text a comma after token next (c, behind, t, later, takes', is', taken', wrote, leads) takes is taken writes =
-      (c, behind, t, later, takes', is', taken', wrote, leads_on ns z later a comma after token next leads takes is taken writes)
+  leads_on (n ∷ ns) z text a comma after token next (c, beyond, t, later, takes', is', taken', wrote, leads) takes is taken writes =
+      (c, beyond, t, later, takes', is', taken', wrote, leads_on ns z later a comma after token next leads takes is taken writes)
 
 module _ (width : DataWidth) where
   pub reads_on : (old was now text rest next : List ℕ) → ((ns : List ℤ) × LeadsByMore (data_kind width) ns text rest × (was ≡ old ++ flat_map (data_bytes width) ns)) → ReadsAnother width was now rest (Some next) → (ns : List ℤ) × LeadsByMore (data_kind width) ns text next × (now ≡ old ++ flat_map (data_bytes width) ns)
@@ -164,9 +164,9 @@ module _ (width : DataWidth) where
   pub reads_none : (old was now text rest : List ℕ) → ((ns : List ℤ) × LeadsByMore (data_kind width) ns text rest × (was ≡ old ++ flat_map (data_bytes width) ns)) → ReadsAnother width was now rest None → ReadsMore width old now text
   reads_none old was now text rest (ns, leads, e) (blank, f) = (ns, rest, leads, blank, f ∙ e)
 
-  pub departs_behind : (old was text rest : List ℕ) (e : TextCause) → ((ns : List ℤ) × LeadsByMore (data_kind width) ns text rest × (was ≡ old ++ flat_map (data_bytes width) ns)) → (e ≡ cause.Memory) ⊎ MoreDeparts (data_kind width) rest e → (e ≡ cause.Memory) ⊎ MoreDepartsBehind (data_kind width) text e
-  departs_behind old was text rest e so_far (inl memory) = inl memory
-  departs_behind old was text rest e (ns, leads, is) (inr departs) = inr (ns, rest, leads, departs)
+  pub departs_after : (old was text rest : List ℕ) (e : TextCause) → ((ns : List ℤ) × LeadsByMore (data_kind width) ns text rest × (was ≡ old ++ flat_map (data_bytes width) ns)) → (e ≡ cause.Memory) ⊎ MoreDeparts (data_kind width) rest e → (e ≡ cause.Memory) ⊎ MoreDepartsAfter (data_kind width) text e
+  departs_after old was text rest e so_far (inl memory) = inl memory
+  departs_after old was text rest e (ns, leads, is) (inr departs) = inr (ns, rest, leads, departs)
 
   pub another_shorter : (was now rest next : List ℕ) → ReadsAnother width was now rest (Some next) → length next < length rest
   another_shorter was now rest next (comma, after, takes, is, (z, (token, taken, writes), f)) = omega (arith, takes_shorter takes, takes_shorter taken)

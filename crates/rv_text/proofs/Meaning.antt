@@ -1,4 +1,4 @@
--- What the text behind an instruction's name has to do with what the whole text means.
+-- What the text after an instruction's name has to do with what the whole text means.
 use Rattle.std.proofs.Common.{◌≡◌, ℕ, List, [], ◌∷◌, inl, inr, refl, sym, ap, ◌∙◌, subst, Bool, true, false, Some, Result, Ok, Err, IfOk}
 use Rattle.rv_word.specs.declared.instr.Instr.{Instr}
 use Rattle.rv_text.specs.declared.cause.TextCause.{TextCause}

@@ -23,9 +23,9 @@ within_pos z n e h = omega (arith, ints)
 within_neg : (z : ℤ) (n : ℕ) → z ≡ neg_ℤ (pos n) → IsInReach z → n < 2 ^ 64
 within_neg z n e h = omega (arith, ints)
 
-pub none_behind_minus : (text digits : List ℕ) → text ≡ codes "-" ++ digits → WritesNone digits → (z : ℤ) → IsNumber text z → IsInReach z → ⊥
-none_behind_minus text digits e none z (inl (n, h, v)) r = no_minus digits n (subst (λ t. IsMagnitude t n) e h)
-none_behind_minus text digits e none z (inr (n, ds, f, h, v)) r =
+pub none_after_minus : (text digits : List ℕ) → text ≡ codes "-" ++ digits → WritesNone digits → (z : ℤ) → IsNumber text z → IsInReach z → ⊥
+none_after_minus text digits e none z (inl (n, h, v)) r = no_minus digits n (subst (λ t. IsMagnitude t n) e h)
+none_after_minus text digits e none z (inr (n, ds, f, h, v)) r =
     let same : ds ≡ digits = cc in
     none n (subst (λ t. IsMagnitude t n) same h) (within_neg z n v r)
 

@@ -12,7 +12,7 @@ use Rattle.rv_text.specs.Lines.{NameRefused}
 use Rattle.rv_text.specs.Stated.{Stated, number_of_format, format, sandbox, within, StatedWithin}
 use Rattle.rv_text.specs.SoFar.{SoFar, with_label, nothing, sandboxes}
 use Rattle.rv_text.specs.Effects.{IsFree, Fits, Labels, RefusesLabel, GoesOn, Does, with_stated, HasNoRoom}
-use Rattle.rv_text.specs.Leads.{BeginsWithLabel, HasNoLabel, LabelsLead, LeadsBehind, RestLeads, RefusedBehind, RefusedFrom, StatementRefused}
+use Rattle.rv_text.specs.Leads.{BeginsWithLabel, HasNoLabel, LabelsLead, LeadsAfter, RestLeads, RefusedAfter, RefusedFrom, StatementRefused}
 use Rattle.rv_text.specs.Texts.{uncommented, lines, LinesLead, FirstRefused}
 use Rattle.rv_text.specs.Laws.{LeadsOnce, LeadingIsNotRefused, RefusedOnce, OneSource, OneFault, MeantHasNoFault}
 use Rattle.rv_text.proofs.Taking.{takes_unique, blank_takes_none}
@@ -55,45 +55,45 @@ same_label text n m r q old a b begins labels other labelled =
 -- all the labels at the front lead to one source so far, and to one rest
 passes_one : (ns ms : List (List ℕ)) (old a b : SoFar) (text r q : List ℕ) → LabelsLead ns old text a r → HasNoLabel r → LabelsLead ms old text b q → HasNoLabel q
     → (a ≡ b) × (r ≡ q)
-passes_one [] [] old a b text r q (is, at) none (other, behind) nothing_more = (is ∙ sym other, at ∙ sym behind)
+passes_one [] [] old a b text r q (is, at) none (other, beyond) nothing_more = (is ∙ sym other, at ∙ sym beyond)
 passes_one [] (m ∷ ms) old a b text r q (is, at) none (next, after, begins, labels, more) nothing_more =
     absurd (subst HasNoLabel at none m after begins)
-passes_one (n ∷ ns) [] old a b text r q (next, after, begins, labels, more) none (other, behind) nothing_more =
-    absurd (subst HasNoLabel behind nothing_more n after begins)
-passes_one (n ∷ ns) (m ∷ ms) old a b text r q (next, after, begins, labels, more) none (other, behind, begun, labelled, further) nothing_more =
-    let same = same_label text n m after behind old next other begins labels begun labelled in
-    passes_one ns ms other a b behind r q (subst (λ t. LabelsLead ns other t a r) same.1 (subst (λ s. LabelsLead ns s after a r) same.0 more)) none further nothing_more
+passes_one (n ∷ ns) [] old a b text r q (next, after, begins, labels, more) none (other, beyond) nothing_more =
+    absurd (subst HasNoLabel beyond nothing_more n after begins)
+passes_one (n ∷ ns) (m ∷ ms) old a b text r q (next, after, begins, labels, more) none (other, beyond, begun, labelled, further) nothing_more =
+    let same = same_label text n m after beyond old next other begins labels begun labelled in
+    passes_one ns ms other a b beyond r q (subst (λ t. LabelsLead ns other t a r) same.1 (subst (λ s. LabelsLead ns s after a r) same.0 more)) none further nothing_more
 
 -- and none of them is refused
 passes_not : (ns ms : List (List ℕ)) (old a b : SoFar) (text r q name after : List ℕ) (e : TextCause) → LabelsLead ns old text a r → HasNoLabel r
     → LabelsLead ms old text b q → BeginsWithLabel q name after → RefusesLabel name b e → ⊥
-passes_not [] [] old a b text r q name after e (is, at) none (other, behind) begins refuses =
-    subst HasNoLabel (at ∙ sym behind) none name after begins
+passes_not [] [] old a b text r q name after e (is, at) none (other, beyond) begins refuses =
+    subst HasNoLabel (at ∙ sym beyond) none name after begins
 passes_not [] (m ∷ ms) old a b text r q name after e (is, at) none (next, then, begun, labels, more) begins refuses =
     subst HasNoLabel at none m then begun
-passes_not (n ∷ ns) [] old a b text r q name after e (next, then, begun, labels, more) none (other, behind) begins refuses =
-    let same = begins_unique text n name then after begun (subst (λ t. BeginsWithLabel t name after) behind begins) in
+passes_not (n ∷ ns) [] old a b text r q name after e (next, then, begun, labels, more) none (other, beyond) begins refuses =
+    let same = begins_unique text n name then after begun (subst (λ t. BeginsWithLabel t name after) beyond begins) in
     labels_not name old next e (subst (λ t. Labels t old next) same.0 labels) (subst (λ s. RefusesLabel name s e) other refuses)
-passes_not (n ∷ ns) (m ∷ ms) old a b text r q name after e (next, then, begun, labels, more) none (other, behind, begins_too, labelled, further) begins refuses =
-    let same = same_label text n m then behind old next other begun labels begins_too labelled in
-    passes_not ns ms other a b behind r q name after e (subst (λ t. LabelsLead ns other t a r) same.1 (subst (λ s. LabelsLead ns s then a r) same.0 more)) none further begins refuses
+passes_not (n ∷ ns) (m ∷ ms) old a b text r q name after e (next, then, begun, labels, more) none (other, beyond, begins_too, labelled, further) begins refuses =
+    let same = same_label text n m then beyond old next other begun labels begins_too labelled in
+    passes_not ns ms other a b beyond r q name after e (subst (λ t. LabelsLead ns other t a r) same.1 (subst (λ s. LabelsLead ns s then a r) same.0 more)) none further begins refuses
 
 -- the first that is refused is so for one cause
 label_refused_one : (ns ms : List (List ℕ)) (old a b : SoFar) (text r q n m after then : List ℕ) (e f : TextCause)
     → LabelsLead ns old text a r → BeginsWithLabel r n after → RefusesLabel n a e
     → LabelsLead ms old text b q → BeginsWithLabel q m then → RefusesLabel m b f → e ≡ f
-label_refused_one [] [] old a b text r q n m after then e f (is, at) begins refuses (other, behind) begun refused =
-    let same = begins_unique text n m after then (subst (λ t. BeginsWithLabel t n after) at begins) (subst (λ t. BeginsWithLabel t m then) behind begun) in
+label_refused_one [] [] old a b text r q n m after then e f (is, at) begins refuses (other, beyond) begun refused =
+    let same = begins_unique text n m after then (subst (λ t. BeginsWithLabel t n after) at begins) (subst (λ t. BeginsWithLabel t m then) beyond begun) in
     refuses_one m old e f (subst (λ t. RefusesLabel t old e) same.0 (subst (λ s. RefusesLabel n s e) is refuses)) (subst (λ s. RefusesLabel m s f) other refused)
-label_refused_one [] (l ∷ ms) old a b text r q n m after then e f (is, at) begins refuses (next, behind, begun, labels, more) begins_too refused =
-    let same = begins_unique text l n behind after begun (subst (λ t. BeginsWithLabel t n after) at begins) in
+label_refused_one [] (l ∷ ms) old a b text r q n m after then e f (is, at) begins refuses (next, beyond, begun, labels, more) begins_too refused =
+    let same = begins_unique text l n beyond after begun (subst (λ t. BeginsWithLabel t n after) at begins) in
     absurd (labels_not n old next e (subst (λ t. Labels t old next) same.0 labels) (subst (λ s. RefusesLabel n s e) is refuses))
-label_refused_one (l ∷ ns) [] old a b text r q n m after then e f (next, behind, begun, labels, more) begins refuses (other, at) begins_too refused =
-    let same = begins_unique text l m behind then begun (subst (λ t. BeginsWithLabel t m then) at begins_too) in
+label_refused_one (l ∷ ns) [] old a b text r q n m after then e f (next, beyond, begun, labels, more) begins refuses (other, at) begins_too refused =
+    let same = begins_unique text l m beyond then begun (subst (λ t. BeginsWithLabel t m then) at begins_too) in
     absurd (labels_not m old next f (subst (λ t. Labels t old next) same.0 labels) (subst (λ s. RefusesLabel m s f) other refused))
-label_refused_one (k ∷ ns) (l ∷ ms) old a b text r q n m after then e f (next, behind, begun, labels, more) begins refuses (other, at, begun_too, labelled, further) begins_too refused =
-    let same = same_label text k l behind at old next other begun labels begun_too labelled in
-    label_refused_one ns ms other a b at r q n m after then e f (subst (λ t. LabelsLead ns other t a r) same.1 (subst (λ s. LabelsLead ns s behind a r) same.0 more)) begins refuses further begins_too refused
+label_refused_one (k ∷ ns) (l ∷ ms) old a b text r q n m after then e f (next, beyond, begun, labels, more) begins refuses (other, at, begun_too, labelled, further) begins_too refused =
+    let same = same_label text k l beyond at old next other begun labels begun_too labelled in
+    label_refused_one ns ms other a b at r q n m after then e f (subst (λ t. LabelsLead ns other t a r) same.1 (subst (λ s. LabelsLead ns s beyond a r) same.0 more)) begins refuses further begins_too refused
 
 -- Statements.
 
@@ -123,28 +123,28 @@ does_fit line (format number) old new h none = absurd none
 does_fit line (sandbox size) old new h none = absurd none
 does_fit line (within what) old new h none = goes_fits line what old new h none
 
-behind_one : (k : Keyword) (line : ℕ) (old a b : SoFar) (text : List ℕ) → LeadsBehind k line old text a → LeadsBehind k line old text b → a ≡ b
-behind_one k line old a b text (stands, once, (s, states, does)) (_, _, (t, stated_too, did)) =
+after_one : (k : Keyword) (line : ℕ) (old a b : SoFar) (text : List ℕ) → LeadsAfter k line old text a → LeadsAfter k line old text b → a ≡ b
+after_one k line old a b text (stands, once, (s, states, does)) (_, _, (t, stated_too, did)) =
     does_one line t old a b (subst (λ x. Does line x old a) (states_one k text s t states stated_too) does) did
 
-behind_not : (k : Keyword) (line : ℕ) (old new : SoFar) (text : List ℕ) (e : TextCause) → LeadsBehind k line old text new → RefusedBehind k old text e → ⊥
-behind_not k line old new text e (stands, once, (s, states, does)) (inl r) = r.0 stands
-behind_not k line old new text e (stands, once, (s, states, does)) (inr (_, inl twice)) = once twice.0
-behind_not k line old new text e (stands, once, (s, states, does)) (inr (_, inr (_, inl refused))) = states_not k text s e states refused
-behind_not k line old new text e (stands, once, (s, states, does)) (inr (_, inr (_, inr ((t, stated_too, none), is)))) =
+after_not : (k : Keyword) (line : ℕ) (old new : SoFar) (text : List ℕ) (e : TextCause) → LeadsAfter k line old text new → RefusedAfter k old text e → ⊥
+after_not k line old new text e (stands, once, (s, states, does)) (inl r) = r.0 stands
+after_not k line old new text e (stands, once, (s, states, does)) (inr (_, inl twice)) = once twice.0
+after_not k line old new text e (stands, once, (s, states, does)) (inr (_, inr (_, inl refused))) = states_not k text s e states refused
+after_not k line old new text e (stands, once, (s, states, does)) (inr (_, inr (_, inr ((t, stated_too, none), is)))) =
     does_fit line t old new (subst (λ x. Does line x old new) (states_one k text s t states stated_too) does) none
 
-behind_refused_one : (k : Keyword) (old : SoFar) (text : List ℕ) (e f : TextCause) → RefusedBehind k old text e → RefusedBehind k old text f → e ≡ f
-behind_refused_one k old text e f (inl r) (inl s) = r.1 ∙ sym s.1
-behind_refused_one k old text e f (inl r) (inr s) = absurd (r.0 s.0)
-behind_refused_one k old text e f (inr r) (inl s) = absurd (s.0 r.0)
-behind_refused_one k old text e f (inr (_, inl r)) (inr (_, inl s)) = r.1 ∙ sym s.1
-behind_refused_one k old text e f (inr (_, inl r)) (inr (_, inr s)) = absurd (s.0 r.0)
-behind_refused_one k old text e f (inr (_, inr r)) (inr (_, inl s)) = absurd (r.0 s.0)
-behind_refused_one k old text e f (inr (_, inr (_, inl r))) (inr (_, inr (_, inl s))) = refused_one k text e f r s
-behind_refused_one k old text e f (inr (_, inr (_, inl r))) (inr (_, inr (_, inr ((t, states, none), is)))) = absurd (states_not k text t e states r)
-behind_refused_one k old text e f (inr (_, inr (_, inr ((t, states, none), is)))) (inr (_, inr (_, inl s))) = absurd (states_not k text t f states s)
-behind_refused_one k old text e f (inr (_, inr (_, inr (_, is)))) (inr (_, inr (_, inr (_, other)))) = is ∙ sym other
+after_refused_one : (k : Keyword) (old : SoFar) (text : List ℕ) (e f : TextCause) → RefusedAfter k old text e → RefusedAfter k old text f → e ≡ f
+after_refused_one k old text e f (inl r) (inl s) = r.1 ∙ sym s.1
+after_refused_one k old text e f (inl r) (inr s) = absurd (r.0 s.0)
+after_refused_one k old text e f (inr r) (inl s) = absurd (s.0 r.0)
+after_refused_one k old text e f (inr (_, inl r)) (inr (_, inl s)) = r.1 ∙ sym s.1
+after_refused_one k old text e f (inr (_, inl r)) (inr (_, inr s)) = absurd (s.0 r.0)
+after_refused_one k old text e f (inr (_, inr r)) (inr (_, inl s)) = absurd (r.0 s.0)
+after_refused_one k old text e f (inr (_, inr (_, inl r))) (inr (_, inr (_, inl s))) = refused_one k text e f r s
+after_refused_one k old text e f (inr (_, inr (_, inl r))) (inr (_, inr (_, inr ((t, states, none), is)))) = absurd (states_not k text t e states r)
+after_refused_one k old text e f (inr (_, inr (_, inr ((t, states, none), is)))) (inr (_, inr (_, inl s))) = absurd (states_not k text t f states s)
+after_refused_one k old text e f (inr (_, inr (_, inr (_, is)))) (inr (_, inr (_, inr (_, other)))) = is ∙ sym other
 
 name_refused_one : (token : List ℕ) (e f : TextCause) → NameRefused token e → NameRefused token f → e ≡ f
 name_refused_one token e f (inl r) (inl s) = r.1 ∙ sym s.1
@@ -161,7 +161,7 @@ from_one s token rest e f (inl r) (inl t) = name_refused_one token e f r t
 from_one s token rest e f (inl r) (inr (k, is, t)) = absurd (name_not token k e is r)
 from_one s token rest e f (inr (k, is, r)) (inl t) = absurd (name_not token k f is t)
 from_one s token rest e f (inr (k, is, r)) (inr (j, other, t)) =
-    behind_refused_one k s rest e f r (subst (λ q. RefusedBehind q s rest f) (keyword_unique j k (other ∙ sym is)) t)
+    after_refused_one k s rest e f r (subst (λ q. RefusedAfter q s rest f) (keyword_unique j k (other ∙ sym is)) t)
 
 statement_refused_one : (s : SoFar) (text : List ℕ) (e f : TextCause) → StatementRefused s text e → StatementRefused s text f → e ≡ f
 statement_refused_one s text e f (inl r) (inl t) = r.1 ∙ sym t.1
@@ -177,7 +177,7 @@ rest_one line old a b text (inl h) (inr (k, rest, takes, leads)) = absurd (blank
 rest_one line old a b text (inr (k, rest, takes, leads)) (inl h) = absurd (blank_takes_none text (keyword_name k) rest h.0 takes)
 rest_one line old a b text (inr (k, rest, takes, leads)) (inr (j, more, taken, led)) =
     let same = takes_unique taken takes in
-    behind_one k line old a b rest leads (subst (λ q. LeadsBehind q line old rest b) (keyword_unique j k same.0) (subst (λ t. LeadsBehind j line old t b) same.1 led))
+    after_one k line old a b rest leads (subst (λ q. LeadsAfter q line old rest b) (keyword_unique j k same.0) (subst (λ t. LeadsAfter j line old t b) same.1 led))
 
 rest_not : (line : ℕ) (old new : SoFar) (text : List ℕ) (e : TextCause) → RestLeads line old text new → StatementRefused old text e → ⊥
 rest_not line old new text e (inl h) (inl r) = r.0.something h.0
@@ -187,8 +187,8 @@ rest_not line old new text e (inr (k, rest, takes, leads)) (inr (token, more, ta
     name_not token k e (takes_unique takes taken).0 r
 rest_not line old new text e (inr (k, rest, takes, leads)) (inr (token, more, taken, inr (j, is, r))) =
     let same = takes_unique taken takes in
-    behind_not k line old new rest e leads
-    (subst (λ q. RefusedBehind q old rest e) (keyword_unique j k (is ∙ same.0)) (subst (λ t. RefusedBehind j old t e) same.1 r))
+    after_not k line old new rest e leads
+    (subst (λ q. RefusedAfter q old rest e) (keyword_unique j k (is ∙ same.0)) (subst (λ t. RefusedAfter j old t e) same.1 r))
 
 -- Lines.
 

@@ -32,7 +32,7 @@ use Rattle.rv_text.specs.Statement.{mnemonic_of, operands_of, Spells}
 use Rattle.rv_source.specs.Halves.{upper, lower}
 use Rattle.rv_text.specs.Constants.{is_small, add_lower, constant, data_bytes}
 use Rattle.rv_text.specs.Keywords.{directive_form, directive_states, pseudo_form, pseudo_states, branch_form, branch_states, jal_form, jal_states, place_of_keyword}
-use Rattle.rv_text.specs.Lines.{IsRow, Behind}
+use Rattle.rv_text.specs.Lines.{IsRow, After}
 use Rattle.rv_text.specs.Stated.{Stated, IsRightStatement, place_of_stated, within, plain}
 use Rattle.rv_text.proofs.Keywords.{name_unique}
 use Rattle.rv_text.proofs.Forms.{stands_suits}
@@ -184,23 +184,23 @@ plain_right name h tokens s (i, spells, e) =
     let same : mnemonic_of i ≡ name = name_unique (mnemonic_of i) name (sym spells.0) in
     subst IsRightStatement (sym e) (one_right i (spells_in_range i (name_of name) tokens spells) (straight i (ap is_target same ∙ h)))
 
--- what stands behind a keyword states what is in range
-pub behind_right : (k : Keyword) (tokens : List (List ℕ)) (s : Stated) → Behind k tokens s → IsRightStatement s
-behind_right (keyword.Instr (mnemonic.Branch cond)) ts s h = row_right branch_form (branch_states cond) (branch_right cond) ts s h
-behind_right (keyword.Instr mnemonic.Jal) ts s h = row_right jal_form jal_states jal_right ts s h
-behind_right (keyword.Instr (mnemonic.Op op)) ts s h = plain_right (mnemonic.Op op) refl ts s h
-behind_right (keyword.Instr (mnemonic.OpImm op)) ts s h = plain_right (mnemonic.OpImm op) refl ts s h
-behind_right (keyword.Instr (mnemonic.Load kind)) ts s h = plain_right (mnemonic.Load kind) refl ts s h
-behind_right (keyword.Instr (mnemonic.Store width)) ts s h = plain_right (mnemonic.Store width) refl ts s h
-behind_right (keyword.Instr mnemonic.Jalr) ts s h = plain_right mnemonic.Jalr refl ts s h
-behind_right (keyword.Instr mnemonic.Lui) ts s h = plain_right mnemonic.Lui refl ts s h
-behind_right (keyword.Instr mnemonic.Auipc) ts s h = plain_right mnemonic.Auipc refl ts s h
-behind_right (keyword.Instr mnemonic.Fence) ts s h = plain_right mnemonic.Fence refl ts s h
-behind_right (keyword.Instr mnemonic.Ecall) ts s h = plain_right mnemonic.Ecall refl ts s h
-behind_right (keyword.Instr mnemonic.Ebreak) ts s h = plain_right mnemonic.Ebreak refl ts s h
-behind_right (keyword.Pseudo name) ts s h = row_right (pseudo_form name) (pseudo_states name) (pseudo_right name) ts s h
-behind_right (keyword.Directive name) ts s h = row_right (directive_form name) (directive_states name) (directive_right name) ts s h
-behind_right (keyword.Numbers width) ts s (numbers, are, e) = subst IsRightStatement (sym e) (list_right width numbers)
+-- what stands after a keyword states what is in range
+pub after_right : (k : Keyword) (tokens : List (List ℕ)) (s : Stated) → After k tokens s → IsRightStatement s
+after_right (keyword.Instr (mnemonic.Branch cond)) ts s h = row_right branch_form (branch_states cond) (branch_right cond) ts s h
+after_right (keyword.Instr mnemonic.Jal) ts s h = row_right jal_form jal_states jal_right ts s h
+after_right (keyword.Instr (mnemonic.Op op)) ts s h = plain_right (mnemonic.Op op) refl ts s h
+after_right (keyword.Instr (mnemonic.OpImm op)) ts s h = plain_right (mnemonic.OpImm op) refl ts s h
+after_right (keyword.Instr (mnemonic.Load kind)) ts s h = plain_right (mnemonic.Load kind) refl ts s h
+after_right (keyword.Instr (mnemonic.Store width)) ts s h = plain_right (mnemonic.Store width) refl ts s h
+after_right (keyword.Instr mnemonic.Jalr) ts s h = plain_right mnemonic.Jalr refl ts s h
+after_right (keyword.Instr mnemonic.Lui) ts s h = plain_right mnemonic.Lui refl ts s h
+after_right (keyword.Instr mnemonic.Auipc) ts s h = plain_right mnemonic.Auipc refl ts s h
+after_right (keyword.Instr mnemonic.Fence) ts s h = plain_right mnemonic.Fence refl ts s h
+after_right (keyword.Instr mnemonic.Ecall) ts s h = plain_right mnemonic.Ecall refl ts s h
+after_right (keyword.Instr mnemonic.Ebreak) ts s h = plain_right mnemonic.Ebreak refl ts s h
+after_right (keyword.Pseudo name) ts s h = row_right (pseudo_form name) (pseudo_states name) (pseudo_right name) ts s h
+after_right (keyword.Directive name) ts s h = row_right (directive_form name) (directive_states name) (directive_right name) ts s h
+after_right (keyword.Numbers width) ts s (numbers, are, e) = subst IsRightStatement (sym e) (list_right width numbers)
 
 -- a statement may stand where its keyword may
 row_place : (place : Place) (form : List Part) (states : OperandValues → Stated) → ((o : OperandValues) → place ≡ place_of_stated (states o)) → (tokens : List (List ℕ)) (s : Stated) → IsRow form states tokens s → place ≡ place_of_stated s
@@ -218,19 +218,19 @@ pseudo_place : (p : Pseudo) (o : OperandValues) → place_of_keyword (keyword.Ps
 pseudo_place Nop o = refl
 pseudo_place _ o = refl
 
-pub behind_place : (k : Keyword) (tokens : List (List ℕ)) (s : Stated) → Behind k tokens s → place_of_keyword k ≡ place_of_stated s
-behind_place (keyword.Instr (mnemonic.Branch cond)) ts s (o, has, e) = ap place_of_stated (sym e)
-behind_place (keyword.Instr mnemonic.Jal) ts s (o, has, e) = ap place_of_stated (sym e)
-behind_place (keyword.Instr (mnemonic.Op op)) ts s (i, has, e) = ap place_of_stated (sym e)
-behind_place (keyword.Instr (mnemonic.OpImm op)) ts s (i, has, e) = ap place_of_stated (sym e)
-behind_place (keyword.Instr (mnemonic.Load kind)) ts s (i, has, e) = ap place_of_stated (sym e)
-behind_place (keyword.Instr (mnemonic.Store width)) ts s (i, has, e) = ap place_of_stated (sym e)
-behind_place (keyword.Instr mnemonic.Jalr) ts s (i, has, e) = ap place_of_stated (sym e)
-behind_place (keyword.Instr mnemonic.Lui) ts s (i, has, e) = ap place_of_stated (sym e)
-behind_place (keyword.Instr mnemonic.Auipc) ts s (i, has, e) = ap place_of_stated (sym e)
-behind_place (keyword.Instr mnemonic.Fence) ts s (i, has, e) = ap place_of_stated (sym e)
-behind_place (keyword.Instr mnemonic.Ecall) ts s (i, has, e) = ap place_of_stated (sym e)
-behind_place (keyword.Instr mnemonic.Ebreak) ts s (i, has, e) = ap place_of_stated (sym e)
-behind_place (keyword.Pseudo name) ts s h = row_place _ (pseudo_form name) (pseudo_states name) (pseudo_place name) ts s h
-behind_place (keyword.Directive name) ts s h = row_place _ (directive_form name) (directive_states name) (directive_place name) ts s h
-behind_place (keyword.Numbers width) ts s (numbers, are, e) = ap place_of_stated (sym e)
+pub after_place : (k : Keyword) (tokens : List (List ℕ)) (s : Stated) → After k tokens s → place_of_keyword k ≡ place_of_stated s
+after_place (keyword.Instr (mnemonic.Branch cond)) ts s (o, has, e) = ap place_of_stated (sym e)
+after_place (keyword.Instr mnemonic.Jal) ts s (o, has, e) = ap place_of_stated (sym e)
+after_place (keyword.Instr (mnemonic.Op op)) ts s (i, has, e) = ap place_of_stated (sym e)
+after_place (keyword.Instr (mnemonic.OpImm op)) ts s (i, has, e) = ap place_of_stated (sym e)
+after_place (keyword.Instr (mnemonic.Load kind)) ts s (i, has, e) = ap place_of_stated (sym e)
+after_place (keyword.Instr (mnemonic.Store width)) ts s (i, has, e) = ap place_of_stated (sym e)
+after_place (keyword.Instr mnemonic.Jalr) ts s (i, has, e) = ap place_of_stated (sym e)
+after_place (keyword.Instr mnemonic.Lui) ts s (i, has, e) = ap place_of_stated (sym e)
+after_place (keyword.Instr mnemonic.Auipc) ts s (i, has, e) = ap place_of_stated (sym e)
+after_place (keyword.Instr mnemonic.Fence) ts s (i, has, e) = ap place_of_stated (sym e)
+after_place (keyword.Instr mnemonic.Ecall) ts s (i, has, e) = ap place_of_stated (sym e)
+after_place (keyword.Instr mnemonic.Ebreak) ts s (i, has, e) = ap place_of_stated (sym e)
+after_place (keyword.Pseudo name) ts s h = row_place _ (pseudo_form name) (pseudo_states name) (pseudo_place name) ts s h
+after_place (keyword.Directive name) ts s h = row_place _ (directive_form name) (directive_states name) (directive_place name) ts s h
+after_place (keyword.Numbers width) ts s (numbers, are, e) = ap place_of_stated (sym e)

@@ -53,7 +53,7 @@ pub all_append : {X : Type 0} (P : X → Type 0) (xs ys : List X) → AllByRecur
 all_append P [] ys h k = k
 all_append P (x ∷ xs) ys h k = (h.0, all_append P xs ys h.1 k)
 
--- an element of two lists behind each other is one of the first, or one of the second behind as many
+-- an element of two lists after each other is one of the first, or one of the second after as many
 split_get : {X : Type 0} (xs ys : List X) (k : ℕ) (x : X) → slice_get (xs ++ ys) k ≡ Some x
     → (slice_get xs k ≡ Some x × (k < length xs)) ⊎ ((j : ℕ) × (k ≡ length xs + j) × (slice_get ys j ≡ Some x))
 split_get [] ys k x h = inr (k, omega arith, h)
@@ -203,7 +203,7 @@ flag_stays b d name what free other = (
     back (inl h) = h
     back (inr is) = absurd (no_code what (length b.sandbox.items) other is)
 
--- a label behind the instructions, or behind the data
+-- a label after the instructions, or after the data
 pub label_right : (b : Begun) (d : IsDraft b) (name : List ℕ) → IsFree name b → 1 ≤ length name → length name ≤ 64 → IsDraft (with_label name b)
 label_right b d name free not_empty at_most = by b.in_data
   where
@@ -258,7 +258,7 @@ length_items_of : (line : ℕ) (rvc labelled : Bool) (bodies : List Body) → le
 length_items_of line rvc labelled [] = refl
 length_items_of line rvc labelled (body ∷ bodies) = ap suc (length_items_of line rvc false bodies)
 
--- instructions behind the others
+-- instructions after the others
 pub bodies_right : (line : ℕ) (bodies : List Body) (b : Begun) (d : IsDraft b) → AllByRecursion (IsBody (length b.sandbox.names)) bodies
     → 1 ≤ length bodies → length b.sandbox.items + length bodies ≤ 65536 → IsDraft (with_bodies line bodies b)
 bodies_right line bodies b d all some fits =
@@ -299,7 +299,7 @@ bodies_right line bodies b d all some fits =
         let found = item_at (length b.sandbox.names) line b.rvc b.labelled bodies j i all is in
         record { labelled = flag k j i at found.1; body = found.0 }
 
--- bytes behind the others
+-- bytes after the others
 pub bytes_right : (values : List ℕ) (b : Begun) (d : IsDraft b) → AllByRecursion (λ v. v < 256) values
     → length b.sandbox.bytes + length values ≤ b.sandbox.data_size → IsDraft (with_bytes values b)
 bytes_right values b d all fits =

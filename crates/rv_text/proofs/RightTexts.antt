@@ -17,18 +17,18 @@ use Rattle.rv_text.specs.declared.statement.Place.{Place}
 use Rattle.rv_text.specs.declared.statement.Place.TheVariants as place
 use Rattle.rv_text.specs.Tokens.{IsLabel, Takes}
 use Rattle.rv_text.specs.Keywords.{place_of_keyword}
-use Rattle.rv_text.specs.Lines.{StatesBehind}
+use Rattle.rv_text.specs.Lines.{StatesAfter}
 use Rattle.rv_text.specs.Stated.{Stated, format, sandbox, within, StatedWithin, gate, compressed, data_part, bytes, plain, jump, address, place_of_stated, IsRightWithin, IsRightStatement}
 use Rattle.rv_source.specs.NameTable.{meaning, place_of, met}
 use Rattle.rv_source.specs.Source.{IsStraight, Sandbox, IsBody, IsSandbox, AreOf, format_of}
 use Rattle.rv_text.specs.SoFar.{Begun, SoFar, format_or_sfi1, with_label, with_names, nothing, last_sandbox, sandboxes}
 use Rattle.rv_text.specs.Effects.{IsFree, Labels, Fits, MayCome, GoesOn, Does, with_stated}
-use Rattle.rv_text.specs.Leads.{BeginsWithName, LabelsLead, IsTaken, LeadsBehind, RestLeads, Leads}
+use Rattle.rv_text.specs.Leads.{BeginsWithName, LabelsLead, IsTaken, LeadsAfter, RestLeads, Leads}
 use Rattle.rv_text.specs.Texts.{uncommented, lines, LinesLead}
 use Rattle.rv_source.specs.Laws.{MetNamesStay, NewNamesNameNothing}
 use Rattle.rv_text.specs.Laws.{SourcesAreRight}
 use Rattle.rv_text.proofs.Placing.{place_among}
-use Rattle.rv_text.proofs.Right.{behind_right, behind_place}
+use Rattle.rv_text.proofs.Right.{after_right, after_place}
 use Rattle.rv_text.proofs.RightSources.{IsDraft, known, all_of, all_append, finished, begun_right, label_right, met_right, bodies_right, bytes_right, gate_right}
 
 -- the sandbox is of the format that the text has said, or of SFI1
@@ -67,7 +67,7 @@ label_leads name old new label (b, is, short, free, new_is) right =
 
 labels_lead : (names : List (List ℕ)) (old new : SoFar) (text rest : List ℕ) → LabelsLead names old text new rest → IsRightSoFar old → IsRightSoFar new
 labels_lead [] old new text rest (same, at) right = subst IsRightSoFar (sym same) right
-labels_lead (name ∷ names) old new text rest (next, after, (behind_name, begins, colon), labels, more) right =
+labels_lead (name ∷ names) old new text rest (next, after, (after_name, begins, colon), labels, more) right =
     labels_lead names next new after rest more (label_leads name old next begins.1 labels right)
 
 -- bodies of instructions that go nowhere by a name
@@ -76,7 +76,7 @@ plain_bodies n [] h = tt
 plain_bodies n (i ∷ instrs) h = (h.0, plain_bodies n instrs h.1)
 
 module _ (met_law : MetNamesStay) (new_law : NewNamesNameNothing) where
-  -- each sandbox behind a statement is right
+  -- each sandbox after a statement is right
   goes_right : (line : ℕ) (s : StatedWithin) (b : Begun) → IsRightWithin s → ((name : List ℕ) (service : ℕ) → s ≡ gate name service → IsFree name b)
       → Fits s b → IsDraft b → IsDraft (with_stated line s b)
   goes_right line (gate name service) b right free fits d =
@@ -175,8 +175,8 @@ module _ (met_law : MetNamesStay) (new_law : NewNamesNameNothing) where
   gate_name_of (within (gate name service)) = name
   gate_name_of _ = []
 
-  -- the tokens behind a gate's keyword begin with its name
-  gate_begins : (text : List ℕ) (name : List ℕ) (service : ℕ) → StatesBehind (keyword.Directive directive.Gate) text (within (gate name service))
+  -- the tokens after a gate's keyword begin with its name
+  gate_begins : (text : List ℕ) (name : List ℕ) (service : ℕ) → StatesAfter (keyword.Directive directive.Gate) text (within (gate name service))
       → (rest : List ℕ) × BeginsWithName text name rest
   gate_begins text name service ([], are, (o, form, is)) = absurd form
   gate_begins text name service (token ∷ tokens, (last, (after, takes, leads), blank), (o, form, is)) =
@@ -193,22 +193,22 @@ module _ (met_law : MetNamesStay) (new_law : NewNamesNameNothing) where
       decide (named_as.Code k) is = absurd (none (name, rest, begins, λ free. known _ refl (sym is ∙ free)))
       decide (named_as.Data o) is = absurd (none (name, rest, begins, λ free. known _ refl (sym is ∙ free)))
 
-  behind_leads : (k : Keyword) (line : ℕ) (old new : SoFar) (text : List ℕ) → LeadsBehind k line old text new → IsRightSoFar old → IsRightSoFar new
-  behind_leads k line old new text (stands, once, (s, (tokens, are, behind_k), does)) so_far =
-      does_right line s old new (behind_right k tokens s behind_k) free (subst (λ p. MayCome p old) (behind_place k tokens s behind_k) stands) does so_far
+  after_leads : (k : Keyword) (line : ℕ) (old new : SoFar) (text : List ℕ) → LeadsAfter k line old text new → IsRightSoFar old → IsRightSoFar new
+  after_leads k line old new text (stands, once, (s, (tokens, are, after_k), does)) so_far =
+      does_right line s old new (after_right k tokens s after_k) free (subst (λ p. MayCome p old) (after_place k tokens s after_k) stands) does so_far
     where
       free : (b : Begun) (name : List ℕ) (service : ℕ) → old.begun ≡ Some b → s ≡ within (gate name service) → IsFree name b
       free b name service is gate_is =
-          let at : place_of_keyword k ≡ place.Gates = behind_place k tokens s behind_k ∙ ap place_of_stated gate_is in
+          let at : place_of_keyword k ≡ place.Gates = after_place k tokens s after_k ∙ ap place_of_stated gate_is in
           let key = gate_keyword k (ap place_number at) in
-          let states : StatesBehind (keyword.Directive directive.Gate) text (within (gate name service)) =
-          subst (λ t. StatesBehind (keyword.Directive directive.Gate) text t) gate_is (subst (λ q. StatesBehind q text s) key (tokens, are, behind_k)) in
+          let states : StatesAfter (keyword.Directive directive.Gate) text (within (gate name service)) =
+          subst (λ t. StatesAfter (keyword.Directive directive.Gate) text t) gate_is (subst (λ q. StatesAfter q text s) key (tokens, are, after_k)) in
           let begins = gate_begins text name service states in
           not_taken b text name begins.0 begins.1 (λ t. once (key, (b, is, t)))
 
   rest_leads : (line : ℕ) (old new : SoFar) (text : List ℕ) → RestLeads line old text new → IsRightSoFar old → IsRightSoFar new
   rest_leads line old new text (inl (blank, same)) so_far = subst IsRightSoFar (sym same) so_far
-  rest_leads line old new text (inr (k, rest, takes, leads)) so_far = behind_leads k line old new rest leads so_far
+  rest_leads line old new text (inr (k, rest, takes, leads)) so_far = after_leads k line old new rest leads so_far
 
   line_leads : (line : ℕ) (old new : SoFar) (text : List ℕ) → Leads line old text new → IsRightSoFar old → IsRightSoFar new
   line_leads line old new text (next, rest, passes, leads) so_far =

@@ -67,7 +67,7 @@ and_parts : (a b : Bool) → (a && b) ≡ true → (a ≡ true) × (b ≡ true)
 and_parts true b h = (refl, h)
 and_parts false b h = cc
 
--- behind blanks the printed operands of a form read as those operands
+-- after blanks the printed operands of a form read as those operands
 module _ (o : OperandValues) (form : List Part) (gap : List ℕ) (blank : IsBlank gap) where
   -- a printed word, and then what follows it
   word_reads : (part : Part) → IsToken (part_text o part) → Stands o part (part_text o part) → may_follow form ≡ true → Reads o form (flat_map (part_text o) form) → Reads o (part ∷ form) (gap ++ (part_text o part ++ flat_map (part_text o) form))
@@ -106,21 +106,21 @@ reads_printed o (Mode ∷ form) gap blank spaced fits =
     let parts = and_parts _ _ spaced in
     word_reads o form gap blank Mode (mode_token o.compressed) refl parts.0 (reads_printed o form [] tt parts.1 fits.1)
 
--- behind the name stand nothing, or a space and the operands
-behind_name_ends : (o : OperandValues) (form : List Part) → Ends (operands_text o form)
-behind_name_ends o [] = tt
-behind_name_ends o (part ∷ form) = refl
+-- after the name stand nothing, or a space and the operands
+after_name_ends : (o : OperandValues) (form : List Part) → Ends (operands_text o form)
+after_name_ends o [] = tt
+after_name_ends o (part ∷ form) = refl
 
-behind_name_reads : (o : OperandValues) (form : List Part) → is_spaced form ≡ true → AllSuit o form → Reads o form (operands_text o form)
-behind_name_reads o [] spaced fits = tt
-behind_name_reads o (part ∷ form) spaced fits = reads_printed o (part ∷ form) (codes " ") (refl, tt) spaced fits
+after_name_reads : (o : OperandValues) (form : List Part) → is_spaced form ≡ true → AllSuit o form → Reads o form (operands_text o form)
+after_name_reads o [] spaced fits = tt
+after_name_reads o (part ∷ form) spaced fits = reads_printed o (part ∷ form) (codes " ") (refl, tt) spaced fits
 
 pub reads_back : PrintedReadsBack
 reads_back i h =
     let name = mnemonic_of i in
     let o = operands_of i in
-    let takes : Takes (printed i) (name_of name) (operands_text o (form_of name)) = takes_word [] (name_of name) _ tt (name_token name) (behind_name_ends o (form_of name)) in
-    means (printed i) (name_of name) (operands_text o (form_of name)) i takes (refl, inl (behind_name_reads o (form_of name) (form_is_spaced name) (in_range_fits i h)))
+    let takes : Takes (printed i) (name_of name) (operands_text o (form_of name)) = takes_word [] (name_of name) _ tt (name_token name) (after_name_ends o (form_of name)) in
+    means (printed i) (name_of name) (operands_text o (form_of name)) i takes (refl, inl (after_name_reads o (form_of name) (form_is_spaced name) (in_range_fits i h)))
 
 -- a text that is printed means its instruction
 pub printed_means : (text : List ℕ) (i : Instr) → text ≡ printed i → InRange i → Means text i

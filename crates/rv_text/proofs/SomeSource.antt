@@ -22,13 +22,13 @@ use Rattle.rv_text.specs.Keywords.{keyword_name, place_of_keyword}
 use Rattle.rv_text.specs.Stated.{Stated, StatedWithin, format, sandbox, within, gate, compressed, data_part, bytes, plain, jump, address, IsRightStatement, place_within, place_of_stated}
 use Rattle.rv_text.specs.SoFar.{Begun, SoFar, nothing, sandboxes, begin, format_or_sfi1, with_label}
 use Rattle.rv_text.specs.Effects.{IsFree, Labels, RefusesLabel, MayCome, Fits, with_stated, Does, HasNoRoom}
-use Rattle.rv_text.specs.Leads.{BeginsWithName, BeginsWithLabel, HasNoLabel, LabelsLead, PassesLabels, IsTaken, IsGateTwice, LeadsBehind, RestLeads, Leads, LabelRefused, RefusedBehind, StatementRefused, LineRefused}
+use Rattle.rv_text.specs.Leads.{BeginsWithName, BeginsWithLabel, HasNoLabel, LabelsLead, PassesLabels, IsTaken, IsGateTwice, LeadsAfter, RestLeads, Leads, LabelRefused, RefusedAfter, StatementRefused, LineRefused}
 use Rattle.rv_text.specs.Texts.{most_bytes, lines, uncommented, LinesLead, FirstRefused, first_line}
 use Rattle.rv_text.specs.Laws.{SomeMeaning, SomeSource}
 use Rattle.rv_text.proofs.Keywords.{no_mnemonic_of_name}
 use Rattle.rv_text.proofs.LabelReading.{other_name, no_colon, one_more, label_shortens}
 use Rattle.rv_text.proofs.Meaning.{means}
-use Rattle.rv_text.proofs.Right.{behind_right, behind_place}
+use Rattle.rv_text.proofs.Right.{after_right, after_place}
 use Rattle.rv_text.proofs.Taking.{takes_unique, blank_takes_none}
 use Rattle.rv_text.proofs.Deciding.{Decided, decided_both, decided_le, decided_bit, decided_same, next, name_or_not, label_or_not, keyword_or_not}
 use Rattle.rv_text.proofs.SomeStatement.{follows_or_departs, states_or_refused}
@@ -60,7 +60,7 @@ some_meaning text =
         ]
         | inl (m, named) ↦ elim (follows_or_departs m rest) [
           | inr (e, departs) ↦ inr (e, inr (inr (token, rest, takes, inr (inr (m, named, departs)))))
-          | inl (i, behind) ↦ inl (i, means text token rest i takes (subst (λ n. name_of n ≡ token) (sym behind.0) named, behind.1))
+          | inl (i, beyond) ↦ inl (i, means text token rest i takes (subst (λ n. name_of n ≡ token) (sym beyond.0) named, beyond.1))
         ]
       ]
     ]
@@ -245,15 +245,15 @@ does_or_full line (within what) s right may =
       | inr not ↦ inr (begun.0, begun.1, not)
     ]
 
-behind_or_refused : (k : Keyword) (line : ℕ) (s : SoFar) (text : List ℕ) → ((new : SoFar) × LeadsBehind k line s text new) ⊎ ((e : TextCause) × RefusedBehind k s text e)
-behind_or_refused k line s text =
+after_or_refused : (k : Keyword) (line : ℕ) (s : SoFar) (text : List ℕ) → ((new : SoFar) × LeadsAfter k line s text new) ⊎ ((e : TextCause) × RefusedAfter k s text e)
+after_or_refused k line s text =
     elim (may_or_not (place_of_keyword k) s) [
       | inr not ↦ inr (cause.Directive, inl (not, refl))
       | inl may ↦ elim (twice_or_not k s text) [
         | inl twice ↦ inr (cause.LabelTwice, inr (may, inl (twice, refl)))
         | inr once ↦ elim (states_or_refused k text) [
           | inr (e, refused) ↦ inr (e, inr (may, inr (once, inl refused)))
-          | inl (st, states) ↦ elim (does_or_full line st s (behind_right k states.0 st states.2) (subst (λ p. MayCome p s) (behind_place k states.0 st states.2) may)) [
+          | inl (st, states) ↦ elim (does_or_full line st s (after_right k states.0 st states.2) (subst (λ p. MayCome p s) (after_place k states.0 st states.2) may)) [
             | inl (new, does) ↦ inl (new, (may, once, (st, states, does)))
             | inr full ↦ inr (cause.Limit, inr (may, inr (once, inr ((st, states, full), refl))))
           ]
@@ -271,7 +271,7 @@ rest_or_refused line s text =
           | inl is ↦ inr (cause.Word, inr (token, rest, takes, inl (inr ((is, none), refl))))
           | inr not ↦ inr (cause.Operands, inr (token, rest, takes, inl (inl (not, refl))))
         ]
-        | inl (k, named) ↦ elim (behind_or_refused k line s rest) [
+        | inl (k, named) ↦ elim (after_or_refused k line s rest) [
           | inl (new, leads) ↦ inl (new, inr (k, rest, subst (λ t. Takes text t rest) (sym named) takes, leads))
           | inr (e, refused) ↦ inr (e, inr (token, rest, takes, inr (k, named, refused)))
         ]

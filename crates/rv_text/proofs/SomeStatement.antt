@@ -27,8 +27,8 @@ use Rattle.rv_text.specs.Operands.{OperandValues, Departs, part_cause}
 use Rattle.rv_text.specs.Statement.{mnemonic_of, operands, operands_of, full_fence, IsBareFence, OperandsDepart}
 use Rattle.rv_text.specs.Reading.{Reads, SameAt, AgreesOn, AllSuit, FollowsName, slot, is_fresh, has_no_repeat}
 use Rattle.rv_text.specs.Keywords.{directive_form, directive_states, pseudo_form, pseudo_states, branch_form, branch_states, jal_form, jal_states, data_kind}
-use Rattle.rv_text.specs.Lines.{StatesBehind, LeadsByMore, NumberDeparts, ListDeparts, InstrDeparts, RefusedWith}
-use Rattle.rv_text.specs.Lists.{ReadsNumber, MoreDepartsBehind, ReadsRow, ReadsInstr, ReadsList, ReadsBehind}
+use Rattle.rv_text.specs.Lines.{StatesAfter, LeadsByMore, NumberDeparts, ListDeparts, InstrDeparts, RefusedWith}
+use Rattle.rv_text.specs.Lists.{ReadsNumber, MoreDepartsAfter, ReadsRow, ReadsInstr, ReadsList, ReadsAfter}
 use Rattle.rv_text.specs.Stated.{Stated, within, plain, bytes}
 use Rattle.rv_text.proofs.Forms.{stands_by_operand, reads_part, more_has_no_repeat, keeps_part, reads_fit}
 use Rattle.rv_text.proofs.Lines.{reads_states}
@@ -212,7 +212,7 @@ follows_or_departs name text =
 plain_or_departs : (name : Mnemonic) (text : List ℕ) → ((s : Stated) × ((i : Instr) × FollowsName text name i × (s ≡ within (plain (i ∷ []))))) ⊎ ((e : TextCause) × OperandsDepart name text e)
 plain_or_departs name text =
     elim (follows_or_departs name text) [
-      | inl (i, behind) ↦ inl (within (plain (i ∷ [])), (i, behind, refl))
+      | inl (i, beyond) ↦ inl (within (plain (i ∷ [])), (i, beyond, refl))
       | inr departs ↦ inr departs
     ]
 
@@ -247,7 +247,7 @@ number_or_departs kind text =
 abbrev MoreRead : NumberKind → List ℕ → Type 0
 MoreRead kind text = (numbers : List ℤ) × (last : List ℕ) × LeadsByMore kind numbers text last × IsBlank last
 
-more_or_departs : (n : ℕ) (kind : NumberKind) (text : List ℕ) → length text ≤ n → MoreRead kind text ⊎ ((e : TextCause) × MoreDepartsBehind kind text e)
+more_or_departs : (n : ℕ) (kind : NumberKind) (text : List ℕ) → length text ≤ n → MoreRead kind text ⊎ ((e : TextCause) × MoreDepartsAfter kind text e)
 more_or_departs zero kind [] short = inl ([], [], refl, tt)
 more_or_departs zero kind (c ∷ cs) short = absurd (omega arith)
 more_or_departs (suc n) kind text short =
@@ -302,7 +302,7 @@ directive_no_repeat directive.Option = refl
 directive_no_repeat directive.Data = refl
 directive_no_repeat directive.Zero = refl
 
-reads_or_refused : (k : Keyword) (text : List ℕ) → ((s : Stated) × ReadsBehind k text s) ⊎ ((e : TextCause) × RefusedWith k text e)
+reads_or_refused : (k : Keyword) (text : List ℕ) → ((s : Stated) × ReadsAfter k text s) ⊎ ((e : TextCause) × RefusedWith k text e)
 reads_or_refused (keyword.Instr name) text = instr_or_departs name text
 reads_or_refused (keyword.Pseudo name) text = row_or_depart (pseudo_form name) (pseudo_states name) text (pseudo_no_repeat name)
 reads_or_refused (keyword.Directive name) text = row_or_depart (directive_form name) (directive_states name) text (directive_no_repeat name)
@@ -313,7 +313,7 @@ reads_or_refused (keyword.Numbers width) text =
     ]
 
 -- the text after a keyword states something with it, or is refused
-pub states_or_refused : (k : Keyword) (text : List ℕ) → ((s : Stated) × StatesBehind k text s) ⊎ ((e : TextCause) × RefusedWith k text e)
+pub states_or_refused : (k : Keyword) (text : List ℕ) → ((s : Stated) × StatesAfter k text s) ⊎ ((e : TextCause) × RefusedWith k text e)
 states_or_refused k text =
     elim (reads_or_refused k text) [
       | inl (s, reads) ↦ inl (s, reads_states k text s reads)

@@ -6,7 +6,7 @@ use Rattle.std.proofs.Math.Seq.{take-append_seam, drop-append_seam}
 use Rattle.std.proofs.lemmas.List.Folds.{length-prefix_len}
 use Rattle.rv_text.specs.Tokens.{is_space, IsBlank, IsToken, Takes, IsStuck}
 use Rattle.rv_text.specs.Scan.{body_of, token_len}
-use Rattle.rv_text.proofs.Lexing.{front_passes, token_within, token_found, token_begins, token_len-le, cut_behind_ascii, blank_ascii, token_ascii}
+use Rattle.rv_text.proofs.Lexing.{front_passes, token_within, token_found, token_begins, token_len-le, cut_after_ascii, blank_ascii, token_ascii}
 use Rattle.std.specs.Str.{IsUtf8, IsCharBoundary}
 
 skips : (gap : List ℕ) (c : ℕ) (cs : List ℕ) → IsBlank gap → is_space c ≡ false → prefix_len is_space (gap ++ (c ∷ cs)) ≡ length gap
@@ -80,7 +80,7 @@ blank_len : (text : List ℕ) → IsBlank text → prefix_len is_space text ≡ 
 blank_len [] h = refl
 blank_len (c ∷ cs) h = rw h.0 (omega (arith, blank_len cs h.1))
 
--- a blank text has nothing behind its spaces
+-- a blank text has nothing after its spaces
 pub blank_body : (text : List ℕ) → IsBlank text → body_of text ≡ []
 unfolding body_of
 blank_body text h = drop_of_length-le text (omega (arith, blank_len text h))
@@ -101,13 +101,13 @@ blank_takes_none text token rest h t = no_token text (ap token_len (blank_body t
 pub stuck : (text : List ℕ) → token_len (body_of text) ≡ 0 → 0 < length (body_of text) → IsStuck text
 stuck text e h = record { nothing = no_token text e; something = λ b. omega (arith, ap length (blank_body text b)) }
 
--- a text may be cut behind its leading spaces, and its body behind its first token
+-- a text may be cut after its leading spaces, and its body after its first token
 pub gap_boundary : (text : List ℕ) → IsUtf8 text → IsCharBoundary text (prefix_len is_space text)
 gap_boundary text u =
     subst (IsCharBoundary text) (length-prefix_len is_space text)
-    (cut_behind_ascii (take (prefix_len is_space text) text) text u (blank_ascii _ (front_passes is_space text)) (drop (prefix_len is_space text) text) (sym (take-append-drop (prefix_len is_space text) text)))
+    (cut_after_ascii (take (prefix_len is_space text) text) text u (blank_ascii _ (front_passes is_space text)) (drop (prefix_len is_space text) text) (sym (take-append-drop (prefix_len is_space text) text)))
 
 pub token_boundary : (body : List ℕ) → IsUtf8 body → 0 < token_len body → IsCharBoundary body (token_len body)
 token_boundary body u h =
     subst (IsCharBoundary body) (length-take-le (token_len body) body (token_len-le body))
-    (cut_behind_ascii (take (token_len body) body) body u (token_ascii _ (token_found body h)) (drop (token_len body) body) (sym (take-append-drop (token_len body) body)))
+    (cut_after_ascii (take (token_len body) body) body u (token_ascii _ (token_found body h)) (drop (token_len body) body) (sym (take-append-drop (token_len body) body)))

@@ -23,7 +23,7 @@ pub record Carries (first : SoFar) (all : List ℕ) (number : ℕ) (now : SoFar)
 pub carries_all : (first : SoFar) (all : List ℕ) → Carries first all 1 first all
 carries_all first all = record { leads = λ new h. h; faults = λ f h. h }
 
--- behind one more line
+-- after one more line
 pub carries_on : {first now next : SoFar} {all line rest after : List ℕ} {number : ℕ} → Carries first all number now rest → lines rest ≡ line ∷ lines after
     → Leads number now (uncommented line) next → Carries first all (number + 1) next after
 carries_on {first} {now} {next} {all} {line} {rest} {after} {number} c split leads = record {
@@ -38,7 +38,7 @@ carries_fault {first} {now} {all} {line} {rest} {texts} {number} {f} c split (in
 carries_fault {first} {now} {all} {line} {rest} {texts} {number} {f} c split (inr refused) =
     inr (c.faults f (subst (λ ls. FirstRefused number now ls f) (sym split) (inl refused)))
 
--- behind the last line
+-- after the last line
 pub carries_last : {first now new : SoFar} {all rest : List ℕ} {number : ℕ} → Carries first all number now rest → lines rest ≡ rest ∷ []
     → Leads number now (uncommented rest) new → LinesLead 1 first (lines all) new
 carries_last {first} {now} {new} {all} {rest} {number} c split leads =

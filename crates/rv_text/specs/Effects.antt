@@ -49,7 +49,7 @@ Fits (plain instrs) b = length b.sandbox.items + length instrs ≤ 65536
 Fits (jump instr name) b = length b.sandbox.items + 1 ≤ 65536
 Fits (address rd name) b = length b.sandbox.items + 2 ≤ 65536
 
--- the sandbox behind a statement of a line; a name that an instruction goes to is met
+-- the sandbox after a statement of a line; a name that an instruction goes to is met
 abbrev pub with_stated : ℕ → StatedWithin → Begun → Begun
 with_stated line (gate name service) b = with_gate name service b
 with_stated line (compressed rvc) b = record b { rvc = rvc }

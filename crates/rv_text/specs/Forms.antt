@@ -1,4 +1,4 @@
--- What stands behind the name of each instruction, and which numbers may stand in a statement.
+-- What stands after the name of each instruction, and which numbers may stand in a statement.
 use Rattle.std.specs.Prelude.{◌≡◌, ℕ, List, [], ◌∷◌, ℤ, pos, negsuc, if◌then◌else◌}
 use Rattle.rv_word.specs.declared.instr.ImmOp.{ImmOp}
 use Rattle.rv_word.specs.Numbers.{IsBetween}
@@ -32,7 +32,7 @@ IsNumberOf FormatNumber z = IsBetween (pos 1) (pos 2) z
 abbrev pub immediate_kind : ImmOp → NumberKind
 immediate_kind op = if is_shift op then ShiftAmount else Immediate
 
--- the operands behind the name, and the marks between them
+-- the operands after the name, and the marks between them
 abbrev pub form_of : Mnemonic → List Part
 form_of (mnemonic.Op op) = Rd ∷ Comma ∷ Rs1 ∷ Comma ∷ Rs2 ∷ []
 form_of (mnemonic.OpImm op) = Rd ∷ Comma ∷ Rs1 ∷ Comma ∷ Number (immediate_kind op) ∷ []

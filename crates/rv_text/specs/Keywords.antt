@@ -1,4 +1,4 @@
--- The statements of source: the name of each, what stands behind it, and what it states.
+-- The statements of source: the name of each, what stands after it, and what it states.
 -- RISC-V ISA manual, "RISC-V Assembly Programmer's Handbook", has the pseudo-instructions.
 use Rattle.std.specs.Prelude.{ℕ, List, [], ◌∷◌, pos, unsigned_abs, replicate, codes}
 use Rattle.rv_word.specs.declared.instr.Instr.TheVariants as instr

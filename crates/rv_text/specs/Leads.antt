@@ -8,7 +8,7 @@ use Rattle.rv_text.specs.declared.keyword.Keyword.TheVariants as keyword
 use Rattle.rv_text.specs.Tokens.{IsLabel, Takes, IsBlank}
 use Rattle.rv_text.specs.Operands.{Unformed}
 use Rattle.rv_text.specs.Keywords.{keyword_name, place_of_keyword}
-use Rattle.rv_text.specs.Lines.{StatesBehind, RefusedWith, NameRefused}
+use Rattle.rv_text.specs.Lines.{StatesAfter, RefusedWith, NameRefused}
 use Rattle.rv_text.specs.Stated.{Stated}
 use Rattle.rv_text.specs.SoFar.{Begun, SoFar}
 use Rattle.rv_text.specs.Effects.{IsFree, Labels, RefusesLabel, MayCome, Does, HasNoRoom}
@@ -27,14 +27,14 @@ abbrev pub HasNoLabel : List ℕ → Type 0
 HasNoLabel text = (name rest : List ℕ) → BeginsWithLabel text name rest → ⊥
 
 -- the labels of these names stand at the front of the text, and lead from the source so far to the next one, and to the
--- text behind them
+-- text after them
 abbrev pub LabelsLead : List (List ℕ) → SoFar → List ℕ → SoFar → List ℕ → Type 0
 LabelsLead [] old text new rest = (new ≡ old) × (rest ≡ text)
 LabelsLead (name ∷ names) old text new rest =
     (next : SoFar) × (after : List ℕ) × BeginsWithLabel text name after × Labels name old next
     × LabelsLead names next after new rest
 
--- all the labels at the front of the text lead from the source so far to the next one, and to the text behind them
+-- all the labels at the front of the text lead from the source so far to the next one, and to the text after them
 pub record PassesLabels (old : SoFar) (text : List ℕ) (new : SoFar) (rest : List ℕ) : Type 0 where
   pub names : List (List ℕ)
   pub lead : LabelsLead names old text new rest
@@ -44,22 +44,22 @@ pub record PassesLabels (old : SoFar) (text : List ℕ) (new : SoFar) (rest : Li
 abbrev pub IsTaken : Begun → List ℕ → Type 0
 IsTaken b text = (name : List ℕ) × (rest : List ℕ) × BeginsWithName text name rest × (IsFree name b → ⊥)
 
--- it is a gate, and behind its keyword stands a name that is there already
+-- it is a gate, and after its keyword stands a name that is there already
 abbrev pub IsGateTwice : Keyword → SoFar → List ℕ → Type 0
 IsGateTwice k s text =
     (k ≡ keyword.Directive directive.Gate) × ((b : Begun) × (s.begun ≡ Some b) × IsTaken b text)
 
--- a statement of this keyword and line, with this text behind it, may come there, and leads from the source so far to
+-- a statement of this keyword and line, with this text after it, may come there, and leads from the source so far to
 -- the next one
-abbrev pub LeadsBehind : Keyword → ℕ → SoFar → List ℕ → SoFar → Type 0
-LeadsBehind k line old text new =
+abbrev pub LeadsAfter : Keyword → ℕ → SoFar → List ℕ → SoFar → Type 0
+LeadsAfter k line old text new =
     MayCome (place_of_keyword k) old × (IsGateTwice k old text → ⊥)
-    × ((s : Stated) × StatesBehind k text s × Does line s old new)
+    × ((s : Stated) × StatesAfter k text s × Does line s old new)
 
 -- the text is a statement of this line, which leads from the source so far to the next one
 abbrev pub StatementLeads : ℕ → SoFar → List ℕ → SoFar → Type 0
 StatementLeads line old text new =
-    (k : Keyword) × (rest : List ℕ) × Takes text (keyword_name k) rest × LeadsBehind k line old rest new
+    (k : Keyword) × (rest : List ℕ) × Takes text (keyword_name k) rest × LeadsAfter k line old rest new
 
 -- nothing is left of the line, or a statement leads on
 abbrev pub RestLeads : ℕ → SoFar → List ℕ → SoFar → Type 0
@@ -70,7 +70,7 @@ abbrev pub Leads : ℕ → SoFar → List ℕ → SoFar → Type 0
 Leads line old text new =
     (next : SoFar) × (rest : List ℕ) × PassesLabels old text next rest × RestLeads line next rest new
 
--- one of the labels at the front of the text, behind others that lead on, is refused for this cause
+-- one of the labels at the front of the text, after others that lead on, is refused for this cause
 abbrev pub LabelRefused : SoFar → List ℕ → TextCause → Type 0
 LabelRefused old text e =
     (names : List (List ℕ)) × (next : SoFar) × (rest : List ℕ) × (name : List ℕ) × (after : List ℕ)
@@ -79,18 +79,18 @@ LabelRefused old text e =
 -- the text states with this keyword what the sandbox begun last has no room for
 abbrev pub PassesLimit : Keyword → SoFar → List ℕ → Type 0
 PassesLimit k s text =
-    (st : Stated) × StatesBehind k text st × HasNoRoom st s
+    (st : Stated) × StatesAfter k text st × HasNoRoom st s
 
--- the text behind a keyword that may come there is refused for this cause
+-- the text after a keyword that may come there is refused for this cause
 abbrev pub OperandsRefused : Keyword → SoFar → List ℕ → TextCause → Type 0
 OperandsRefused k s text e =
     (IsGateTwice k s text × (e ≡ cause.LabelTwice))
     ⊎ ((IsGateTwice k s text → ⊥)
     × (RefusedWith k text e ⊎ (PassesLimit k s text × (e ≡ cause.Limit))))
 
--- a statement of this keyword, with this text behind it, is refused for this cause
-abbrev pub RefusedBehind : Keyword → SoFar → List ℕ → TextCause → Type 0
-RefusedBehind k s text e =
+-- a statement of this keyword, with this text after it, is refused for this cause
+abbrev pub RefusedAfter : Keyword → SoFar → List ℕ → TextCause → Type 0
+RefusedAfter k s text e =
     ((MayCome (place_of_keyword k) s → ⊥) × (e ≡ cause.Directive))
     ⊎ (MayCome (place_of_keyword k) s × OperandsRefused k s text e)
 
@@ -98,16 +98,16 @@ RefusedBehind k s text e =
 abbrev pub RefusedFrom : SoFar → List ℕ → List ℕ → TextCause → Type 0
 RefusedFrom s token rest e =
     NameRefused token e
-    ⊎ ((k : Keyword) × (keyword_name k ≡ token) × RefusedBehind k s rest e)
+    ⊎ ((k : Keyword) × (keyword_name k ≡ token) × RefusedAfter k s rest e)
 
--- the text behind the labels is no statement that may come there: its first token that departs from one does so for
+-- the text after the labels is no statement that may come there: its first token that departs from one does so for
 -- this cause
 abbrev pub StatementRefused : SoFar → List ℕ → TextCause → Type 0
 StatementRefused s text e =
     Unformed text e
     ⊎ ((token : List ℕ) × (rest : List ℕ) × Takes text token rest × RefusedFrom s token rest e)
 
--- a line is refused behind the source so far: its first token that departs does so for this cause
+-- a line is refused after the source so far: its first token that departs does so for this cause
 abbrev pub LineRefused : SoFar → List ℕ → TextCause → Type 0
 LineRefused old text e =
     LabelRefused old text e

@@ -1,4 +1,4 @@
--- What the tokens of a line behind its labels state, and for what cause they state nothing.
+-- What the tokens of a line after its labels state, and for what cause they state nothing.
 use Rattle.std.specs.Prelude.{◌≡◌, ℕ, ◌⊎◌, List, [], ◌∷◌, ℤ, codes}
 use Rattle.std.specs.List.{flat_map}
 use Rattle.rv_word.specs.declared.instr.Instr.{Instr}
@@ -25,7 +25,7 @@ use Rattle.rv_text.specs.Stated.{Stated, within, bytes, plain}
 abbrev pub IsRow : List Part → (OperandValues → Stated) → List (List ℕ) → Stated → Type 0
 IsRow form states tokens s = (o : OperandValues) × HasForm o form tokens × (s ≡ states o)
 
--- the tokens behind the name are those of an instruction: a branch and a jal go to a name, and each of the others has the
+-- the tokens after the name are those of an instruction: a branch and a jal go to a name, and each of the others has the
 -- operands that it has in the text of one instruction
 abbrev pub IsInstr : Mnemonic → List (List ℕ) → Stated → Type 0
 IsInstr (mnemonic.Branch cond) tokens s = IsRow branch_form (branch_states cond) tokens s
@@ -36,7 +36,7 @@ IsInstr name tokens s = (i : Instr) × Spells i (name_of name ∷ tokens) × (s 
 abbrev pub Writes : NumberKind → List ℕ → ℤ → Type 0
 Writes kind token z = IsNumber token z × IsNumberOf kind z
 
--- the tokens are such numbers, each behind a comma
+-- the tokens are such numbers, each after a comma
 abbrev pub AreMore : NumberKind → List ℤ → List (List ℕ) → Type 0
 AreMore kind [] [] = Unit {0}
 AreMore kind [] (token ∷ tokens) = ⊥
@@ -57,16 +57,16 @@ IsData width tokens s =
     (numbers : List ℤ) × AreNumbers (data_kind width) numbers tokens
     × (s ≡ within (bytes (flat_map (data_bytes width) numbers)))
 
--- the tokens behind this keyword make it a statement, and this is what it states
-abbrev pub Behind : Keyword → List (List ℕ) → Stated → Type 0
-Behind (keyword.Instr name) tokens s = IsInstr name tokens s
-Behind (keyword.Pseudo name) tokens s = IsRow (pseudo_form name) (pseudo_states name) tokens s
-Behind (keyword.Directive name) tokens s = IsRow (directive_form name) (directive_states name) tokens s
-Behind (keyword.Numbers width) tokens s = IsData width tokens s
+-- the tokens after this keyword make it a statement, and this is what it states
+abbrev pub After : Keyword → List (List ℕ) → Stated → Type 0
+After (keyword.Instr name) tokens s = IsInstr name tokens s
+After (keyword.Pseudo name) tokens s = IsRow (pseudo_form name) (pseudo_states name) tokens s
+After (keyword.Directive name) tokens s = IsRow (directive_form name) (directive_states name) tokens s
+After (keyword.Numbers width) tokens s = IsData width tokens s
 
--- the text behind this keyword states this with it
-abbrev pub StatesBehind : Keyword → List ℕ → Stated → Type 0
-StatesBehind k text s = (tokens : List (List ℕ)) × AreTokens text tokens × Behind k tokens s
+-- the text after this keyword states this with it
+abbrev pub StatesAfter : Keyword → List ℕ → Stated → Type 0
+StatesAfter k text s = (tokens : List (List ℕ)) × AreTokens text tokens × After k tokens s
 
 -- no number of this kind stands at the front of the text, for this cause
 abbrev pub NumberDeparts : NumberKind → List ℕ → TextCause → Type 0
@@ -82,7 +82,7 @@ MoreDeparts kind text e =
     ⊎ ((token : List ℕ) × (rest : List ℕ) × Takes text token rest
     × (Differs Comma token e ⊎ ((token ≡ codes ",") × NumberDeparts kind rest e)))
 
--- such numbers, each behind a comma, lead from the text to the rest
+-- such numbers, each after a comma, lead from the text to the rest
 abbrev pub LeadsByMore : NumberKind → List ℤ → List ℕ → List ℕ → Type 0
 LeadsByMore kind [] text rest = text ≡ rest
 LeadsByMore kind (z ∷ numbers) text rest =
@@ -97,14 +97,14 @@ ListDeparts kind text e =
     ⊎ ((token : List ℕ) × (rest : List ℕ) × (z : ℤ) × Takes text token rest × Writes kind token z
     × ((numbers : List ℤ) × (last : List ℕ) × LeadsByMore kind numbers rest last × MoreDeparts kind last e))
 
--- the first token behind an instruction's name that departs from it does so for this cause: from a branch or a jal to a
+-- the first token after an instruction's name that departs from it does so for this cause: from a branch or a jal to a
 -- name, or from any other instruction
 abbrev pub InstrDeparts : Mnemonic → List ℕ → TextCause → Type 0
 InstrDeparts (mnemonic.Branch cond) text e = Departs branch_form text e
 InstrDeparts mnemonic.Jal text e = Departs jal_form text e
 InstrDeparts name text e = OperandsDepart name text e
 
--- the text behind this keyword states nothing with it, for the cause of the first token that departs
+-- the text after this keyword states nothing with it, for the cause of the first token that departs
 abbrev pub RefusedWith : Keyword → List ℕ → TextCause → Type 0
 RefusedWith (keyword.Instr name) text e = InstrDeparts name text e
 RefusedWith (keyword.Pseudo name) text e = Departs (pseudo_form name) text e

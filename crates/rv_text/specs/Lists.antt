@@ -22,27 +22,27 @@ use Rattle.rv_text.specs.Stated.{Stated, within, bytes, plain}
 abbrev pub ReadsNumber : NumberKind → List ℕ → ℤ → List ℕ → Type 0
 ReadsNumber kind text z rest = (token : List ℕ) × Takes text token rest × Writes kind token z
 
--- the text's first token writes a number, whose bytes stand behind the others, and this follows
+-- the text's first token writes a number, whose bytes stand after the others, and this follows
 abbrev pub ReadsOne : DataWidth → List ℕ → List ℕ → List ℕ → List ℕ → Type 0
 ReadsOne width old new text rest =
     (z : ℤ) × ReadsNumber (data_kind width) text z rest × (new ≡ old ++ data_bytes width z)
 
--- the same behind a comma; nothing at the text's end
+-- the same after a comma; nothing at the text's end
 abbrev pub ReadsAnother : DataWidth → List ℕ → List ℕ → List ℕ → Option (List ℕ) → Type 0
 ReadsAnother width old new text None = IsBlank text × (new ≡ old)
 ReadsAnother width old new text (Some rest) =
     (comma : List ℕ) × (after : List ℕ) × Takes text comma after × (comma ≡ codes ",")
     × ReadsOne width old new after rest
 
--- the text's numbers, each behind a comma, and their bytes behind the others
+-- the text's numbers, each after a comma, and their bytes after the others
 abbrev pub ReadsMore : DataWidth → List ℕ → List ℕ → List ℕ → Type 0
 ReadsMore width old new text =
     (numbers : List ℤ) × (last : List ℕ) × LeadsByMore (data_kind width) numbers text last
     × IsBlank last × (new ≡ old ++ flat_map (data_bytes width) numbers)
 
--- behind some numbers the text departs from a list, for this cause
-abbrev pub MoreDepartsBehind : NumberKind → List ℕ → TextCause → Type 0
-MoreDepartsBehind kind text e =
+-- after some numbers the text departs from a list, for this cause
+abbrev pub MoreDepartsAfter : NumberKind → List ℕ → TextCause → Type 0
+MoreDepartsAfter kind text e =
     (numbers : List ℤ) × (last : List ℕ) × LeadsByMore kind numbers text last
     × MoreDeparts kind last e
 
@@ -56,16 +56,16 @@ ReadsList width text values =
 abbrev pub ReadsRow : List Part → (OperandValues → Stated) → List ℕ → Stated → Type 0
 ReadsRow form states text s = (o : OperandValues) × Reads o form text × (s ≡ states o)
 
--- the text behind the instruction's name gives its operands: for a branch and a jal a name, for any other those that it
+-- the text after the instruction's name gives its operands: for a branch and a jal a name, for any other those that it
 -- has in the text of one instruction
 abbrev pub ReadsInstr : Mnemonic → List ℕ → Stated → Type 0
 ReadsInstr (mnemonic.Branch cond) text s = ReadsRow branch_form (branch_states cond) text s
 ReadsInstr mnemonic.Jal text s = ReadsRow jal_form jal_states text s
 ReadsInstr name text s = (i : Instr) × FollowsName text name i × (s ≡ within (plain (i ∷ [])))
 
--- the text behind the keyword states this with it
-abbrev pub ReadsBehind : Keyword → List ℕ → Stated → Type 0
-ReadsBehind (keyword.Instr name) text s = ReadsInstr name text s
-ReadsBehind (keyword.Pseudo name) text s = ReadsRow (pseudo_form name) (pseudo_states name) text s
-ReadsBehind (keyword.Directive name) text s = ReadsRow (directive_form name) (directive_states name) text s
-ReadsBehind (keyword.Numbers width) text s = (b : List ℕ) × ReadsList width text b × (s ≡ within (bytes b))
+-- the text after the keyword states this with it
+abbrev pub ReadsAfter : Keyword → List ℕ → Stated → Type 0
+ReadsAfter (keyword.Instr name) text s = ReadsInstr name text s
+ReadsAfter (keyword.Pseudo name) text s = ReadsRow (pseudo_form name) (pseudo_states name) text s
+ReadsAfter (keyword.Directive name) text s = ReadsRow (directive_form name) (directive_states name) text s
+ReadsAfter (keyword.Numbers width) text s = (b : List ℕ) × ReadsList width text b × (s ≡ within (bytes b))

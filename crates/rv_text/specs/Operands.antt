@@ -30,7 +30,7 @@ values_of o =
       compressed = o.compressed;
     }
 
--- the words behind `.option`
+-- the words after `.option`
 abbrev pub mode_name : Bool → List ℕ
 mode_name true = codes "rvc"
 mode_name false = codes "norvc"

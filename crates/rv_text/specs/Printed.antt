@@ -32,7 +32,7 @@ part_text o Comma = codes ", "
 part_text o Open = codes "("
 part_text o Close = codes ")"
 
--- the operands behind a space, or nothing where there are none
+-- the operands after a space, or nothing where there are none
 abbrev pub operands_text : OperandValues → List Part → List ℕ
 operands_text o [] = []
 operands_text o (part ∷ form) = codes " " ++ flat_map (part_text o) (part ∷ form)

@@ -75,15 +75,15 @@ abbrev pub has_no_repeat : List Part → Bool
 has_no_repeat [] = true
 has_no_repeat (part ∷ form) = (nat_lt 5 (slot part) || is_fresh part form) && has_no_repeat form
 
--- the text behind the instruction's name gives its operands, or nothing for a fence alone
+-- the text after the instruction's name gives its operands, or nothing for a fence alone
 abbrev pub Follows : List ℕ → Instr → Type 0
 Follows rest i =
     Reads (operands_of i) (form_of (mnemonic_of i)) rest ⊎ ((i ≡ full_fence) × IsBlank rest)
 
--- the instruction has this name, and the text behind it gives its operands
+-- the instruction has this name, and the text after it gives its operands
 abbrev pub FollowsName : List ℕ → Mnemonic → Instr → Type 0
 FollowsName rest name i = (mnemonic_of i ≡ name) × Follows rest i
 
--- the instruction has this token as its name, and the text behind it gives its operands
+-- the instruction has this token as its name, and the text after it gives its operands
 abbrev pub FollowsToken : List ℕ → List ℕ → Instr → Type 0
 FollowsToken token rest i = (name_of (mnemonic_of i) ≡ token) × Follows rest i

@@ -15,9 +15,9 @@ magnitude_len text =
     if begins_hex text then 2 + prefix_len is_ascii_hexdigit (drop 2 text)
     else prefix_len is_ascii_digit text
 
--- the length of a number whose magnitude, behind its minus, has this length
-abbrev pub behind_sign : ℕ → ℕ
-behind_sign n = if n == 0 then 0 else n + 1
+-- the length of a number whose magnitude, after its minus, has this length
+abbrev pub after_sign : ℕ → ℕ
+after_sign n = if n == 0 then 0 else n + 1
 
 -- the length of the longest token, 0 where none stands there
 unfoldable pub token_len : List ℕ → ℕ
@@ -25,9 +25,9 @@ token_len [] = 0
 token_len (c ∷ cs) =
     if begins_name c then 1 + prefix_len continues_name cs
     else (if is_mark c then 1
-    else (if c == 45 then behind_sign (magnitude_len cs)
+    else (if c == 45 then after_sign (magnitude_len cs)
     else magnitude_len (c ∷ cs)))
 
--- the text behind its leading spaces
+-- the text after its leading spaces
 unfoldable pub body_of : List ℕ → List ℕ
 body_of text = drop (prefix_len is_space text) text

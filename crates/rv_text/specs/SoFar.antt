@@ -17,7 +17,7 @@ pub record Begun : Type 0 where
   pub in_data : Bool
   -- 16-bit forms may stand for the instructions from here on
   pub rvc : Bool
-  -- a label stands behind its last instruction
+  -- a label stands after its last instruction
   pub labelled : Bool
   -- it has a label or an instruction
   pub opened : Bool
@@ -61,11 +61,11 @@ sandboxes s = s.finished ++ last_sandbox s.begun
 abbrev pub with_names : List (List ℕ × Named) → Begun → Begun
 with_names names b = record b { sandbox = record b.sandbox { names = names } }
 
--- what a label names there: the place before the next instruction or, in the data part, behind the bytes so far
+-- what a label names there: the place before the next instruction or, in the data part, after the bytes so far
 abbrev pub here : Begun → Named
 here b = if b.in_data then Data (length b.sandbox.bytes) else Code (length b.sandbox.items)
 
--- the sandbox behind a label
+-- the sandbox after a label
 abbrev pub with_label : List ℕ → Begun → Begun
 with_label name b =
     record (with_names (placed b.sandbox.names name (here b)) b) {
@@ -89,7 +89,7 @@ items_of line rvc labelled [] = []
 items_of line rvc labelled (body ∷ bodies) =
     record { line = line; labelled = labelled; rvc = rvc; body = body } ∷ items_of line rvc false bodies
 
--- the sandbox with these instructions of a line behind the others, one at least
+-- the sandbox with these instructions of a line after the others, one at least
 abbrev pub with_bodies : ℕ → List Body → Begun → Begun
 with_bodies line bodies b =
     record b {
@@ -98,6 +98,6 @@ with_bodies line bodies b =
       opened = true;
     }
 
--- the sandbox with these data bytes behind the others
+-- the sandbox with these data bytes after the others
 abbrev pub with_bytes : List ℕ → Begun → Begun
 with_bytes bytes b = record b { sandbox = record b.sandbox { bytes = b.sandbox.bytes ++ bytes } }

@@ -1,4 +1,4 @@
--- What one line of source states, behind its labels: the meaning of a `Statement`.
+-- What one line of source states, after its labels: the meaning of a `Statement`.
 use Rattle.std.specs.Prelude.{◌<◌, ◌≤◌, length, ℕ, List, [], ◌∷◌, Bool, replicate}
 use Rattle.rv_word.specs.declared.instr.Instr.{Instr}
 use Rattle.std.specs.List.{All}

@@ -62,11 +62,11 @@ Spells i (name ∷ tokens) =
 abbrev pub Means : List ℕ → Instr → Type 0
 Means text i = (tokens : List (List ℕ)) × AreTokens text tokens × Spells i tokens
 
--- the text behind the name is that of a fence without operands
+-- the text after the name is that of a fence without operands
 abbrev pub IsBareFence : Mnemonic → List ℕ → Type 0
 IsBareFence name rest = (name ≡ mnemonic.Fence) × IsBlank rest
 
--- the first token behind an instruction's name that departs from its operands does so for this cause; none departs from a
+-- the first token after an instruction's name that departs from its operands does so for this cause; none departs from a
 -- fence without operands
 abbrev pub OperandsDepart : Mnemonic → List ℕ → TextCause → Type 0
 OperandsDepart name rest e = (IsBareFence name rest → ⊥) × Departs (form_of name) rest e

@@ -12,7 +12,7 @@ use Rattle.rv_text.specs.Leads.{Leads, LineRefused}
 abbrev pub most_bytes : ℕ
 most_bytes = 1048576
 
--- the lines of a text, between its line feeds; behind the last one stands an empty line
+-- the lines of a text, between its line feeds; after the last one stands an empty line
 abbrev pub lines : List ℕ → List (List ℕ)
 lines text = slice_split (λ c. c == 10) text
 

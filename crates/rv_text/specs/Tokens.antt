@@ -45,7 +45,7 @@ IsMagnitude text n =
     ⊎ ((digits : List ℕ) × (text ≡ codes "0x" ++ digits)
     × IsNumeral 16 digits × (n ≡ digits_value 16 digits))
 
--- a magnitude, perhaps behind a minus, writes z
+-- a magnitude, perhaps after a minus, writes z
 abbrev pub IsNumber : List ℕ → ℤ → Type 0
 IsNumber text z =
     ((n : ℕ) × IsMagnitude text n × (z ≡ pos n))

@@ -50,7 +50,7 @@ fn upper(number: i64) -> u32
     rounded(number) / 4096
 }
 
-/// What the addi behind it adds: -2048 to 2047.
+/// What the addi after it adds: -2048 to 2047.
 fn lower(number: i64) -> i32
     requires { IsNumberOf NumberKind.Word number }
     ensures { result ≡ lower number }
@@ -59,7 +59,7 @@ fn lower(number: i64) -> i32
 }
 
 /// The instructions of `li rd, number`: an addi where its 12 bits hold the number, otherwise a
-/// lui, and an addi behind it unless it would add 0.
+/// lui, and an addi after it unless it would add 0.
 pub fn constant<'a>(rd: Reg, number: i64) -> SandboxStatement<'a>
     requires { IsNumberOf NumberKind.Word number }
     ensures { stated_within result ≡ plain (constant rd number) }
@@ -94,7 +94,7 @@ pub fn constant<'a>(rd: Reg, number: i64) -> SandboxStatement<'a>
     }
 }
 
-/// Puts the bytes of a number behind the others, the lowest first.
+/// Puts the bytes of a number after the others, the lowest first.
 pub fn push_number(bytes: &mut Vec<u8>, width: DataWidth, number: i64) -> Result<(), AllocError>
     ensures { OnOk result (bytes.new.items ≡ bytes.old.items ++ data_bytes width number) }
 {

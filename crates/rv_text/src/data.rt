@@ -4,7 +4,7 @@ ghost use Rattle.std.specs.Option.{option_map};
 ghost use Rattle.rv_text.specs.declared.cause.TextCause.TheVariants as cause;
 ghost use Rattle.rv_text.specs.Keywords.{data_kind};
 ghost use Rattle.rv_text.specs.Lines.{NumberDeparts, MoreDeparts, ListDeparts};
-ghost use Rattle.rv_text.specs.Lists.{ReadsNumber, ReadsOne, ReadsAnother, ReadsMore, MoreDepartsBehind, ReadsList};
+ghost use Rattle.rv_text.specs.Lists.{ReadsNumber, ReadsOne, ReadsAnother, ReadsMore, MoreDepartsAfter, ReadsList};
 
 use crate::cause::TextCause;
 use crate::constant::push_number;
@@ -29,7 +29,7 @@ fn read_first(kind: NumberKind, text: &str) -> Result<(i64, &str), TextCause>
     }
 }
 
-/// Reads the number at the front of the text, whose bytes go behind the others, and answers what
+/// Reads the number at the front of the text, whose bytes go after the others, and answers what
 /// follows it.
 fn read_one<'a>(bytes: &mut Vec<u8>, width: DataWidth, text: &'a str) -> Result<&'a str, TextCause>
     ensures ok { IfOk result (λ rest. ReadsOne width bytes.old.items bytes.new.items text.now rest.now) }
@@ -44,7 +44,7 @@ fn read_one<'a>(bytes: &mut Vec<u8>, width: DataWidth, text: &'a str) -> Result<
     }
 }
 
-/// Reads the number behind the comma at the front of the text, as `read_one`; `None` at the
+/// Reads the number after the comma at the front of the text, as `read_one`; `None` at the
 /// text's end.
 fn read_another<'a>(
     bytes: &mut Vec<u8>,
@@ -67,10 +67,10 @@ fn read_another<'a>(
     }
 }
 
-/// Reads the numbers of the text, each behind a comma.
+/// Reads the numbers of the text, each after a comma.
 fn read_more(bytes: &mut Vec<u8>, width: DataWidth, text: &str) -> Result<(), TextCause>
     ensures ok { OnOk result (ReadsMore width bytes.old.items bytes.new.items text.now) }
-    ensures cause { IfErr result (λ e. (e ≡ cause.Memory) ⊎ MoreDepartsBehind (data_kind width) text.now e) }
+    ensures cause { IfErr result (λ e. (e ≡ cause.Memory) ⊎ MoreDepartsAfter (data_kind width) text.now e) }
 {
     let mut rest = text;
     loop {

@@ -220,7 +220,7 @@ impl Draft {
         statement: SandboxStatement<'_>,
     ) -> Result<(), TextCause>
         ensures fits { OnOk result (Fits (stated_within statement.entry) self.old) }
-        ensures behind { OnOk result (self.new ≡ with_stated line (stated_within statement.entry) self.old) }
+        ensures after { OnOk result (self.new ≡ with_stated line (stated_within statement.entry) self.old) }
         ensures cause { IfErr result (λ e. (e ≡ cause.Memory) ⊎ ((Fits (stated_within statement.entry) self.old → ⊥) × (e ≡ cause.Limit))) }
     {
         match statement {

@@ -1,4 +1,4 @@
-//! What stands behind the name of a statement: its operands and the marks between them.
+//! What stands after the name of a statement: its operands and the marks between them.
 ghost use Rattle.std.specs.Prelude.{◌≡◌, ◌↔◌, IsTrue};
 ghost use Rattle.std.specs.Int.{IsPowerOfTwo};
 ghost use Rattle.rv_text.specs.Forms.{form_of, IsNumberOf};
@@ -55,7 +55,7 @@ pub enum Part {
 }
 
 impl Mnemonic {
-    /// The operands that stand behind the name, and the marks between them.
+    /// The operands that stand after the name, and the marks between them.
     pub fn form(self) -> &'static [Part]
         ensures { result.now ≡ form_of self }
     {

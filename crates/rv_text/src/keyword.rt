@@ -67,7 +67,7 @@ impl Directive {
         }
     }
 
-    /// The operands that stand behind the name.
+    /// The operands that stand after the name.
     pub fn form(self) -> &'static [Part]
         ensures { result.now ≡ directive_form self }
     {
@@ -101,7 +101,7 @@ impl Pseudo {
         }
     }
 
-    /// The operands that stand behind the name, and the marks between them.
+    /// The operands that stand after the name, and the marks between them.
     pub fn form(self) -> &'static [Part]
         ensures { result.now ≡ pseudo_form self }
     {

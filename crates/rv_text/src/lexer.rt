@@ -125,7 +125,7 @@ fn token_len(text: &[u8]) -> usize
     }
 }
 
-/// The text behind its leading spaces.
+/// The text after its leading spaces.
 pub fn body(text: &str) -> &str
     ensures { result.now ≡ body_of text.now }
 {

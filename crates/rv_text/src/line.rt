@@ -1,12 +1,12 @@
-//! Reading what a line states, behind its labels.
+//! Reading what a line states, after its labels.
 ghost use Rattle.std.specs.Prelude.{◌≡◌, ◌⊎◌, IfOk, IfErr, MatchResult};
 ghost use Rattle.rv_text.specs.declared.cause.TextCause.{TextCause};
 ghost use Rattle.rv_text.specs.declared.cause.TextCause.TheVariants as cause;
 ghost use Rattle.rv_text.specs.Tokens.{IsToken};
 ghost use Rattle.rv_text.specs.Keywords.{branch_form, jal_form, branch_states, jal_states, pseudo_form, pseudo_states, directive_form, directive_states, keyword_name};
 ghost use Rattle.rv_text.specs.Operands.{Departs};
-ghost use Rattle.rv_text.specs.Lines.{StatesBehind, InstrDeparts, RefusedWith, NameRefused};
-ghost use Rattle.rv_text.specs.Lists.{ReadsRow, ReadsInstr, ReadsBehind};
+ghost use Rattle.rv_text.specs.Lines.{StatesAfter, InstrDeparts, RefusedWith, NameRefused};
+ghost use Rattle.rv_text.specs.Lists.{ReadsRow, ReadsInstr, ReadsAfter};
 ghost use Rattle.rv_text.specs.Stated.{Stated, stated, IsRightStatement};
 
 use crate::cause::TextCause;
@@ -14,7 +14,7 @@ use crate::data::read_list;
 use crate::form::Part;
 use crate::keyword::{Directive, Keyword, Pseudo};
 use crate::mnemonic::Mnemonic;
-use crate::parse::{behind_name, name_cause};
+use crate::parse::{after_name, name_cause};
 use crate::read::read_operands;
 use crate::rows::{branch_to, jal_to};
 use crate::statement::{SandboxStatement, Statement};
@@ -34,14 +34,14 @@ pub fn read_keyword(token: &str) -> Result<Keyword, TextCause>
     }
 }
 
-/// What stands behind a branch's name in a source.
+/// What stands after a branch's name in a source.
 fn branch_form() -> &'static [Part]
     ensures { result.now ≡ branch_form }
 {
     &[Part::Rs1, Part::Comma, Part::Rs2, Part::Comma, Part::Name]
 }
 
-/// What stands behind `jal` in a source.
+/// What stands after `jal` in a source.
 fn jal_form() -> &'static [Part]
     ensures { result.now ≡ jal_form }
 {
@@ -96,20 +96,20 @@ fn read_instr<'a>(name: Mnemonic, rest: &'a str) -> Result<Statement<'a>, TextCa
     match name {
         Mnemonic::Branch(cond) => read_branch(cond, rest),
         Mnemonic::Jal => read_jal(rest),
-        _ => match behind_name(name, rest) {
+        _ => match after_name(name, rest) {
             Ok(instr) => Ok(Statement::Within(SandboxStatement::One(instr))),
             Err(e) => Err(e),
         },
     }
 }
 
-/// What the text behind a keyword states with it, read part by part.
-fn read_behind<'a>(
+/// What the text after a keyword states with it, read part by part.
+fn read_after<'a>(
     alloc: Global,
     keyword: Keyword,
     rest: &'a str,
 ) -> Result<Statement<'a>, TextCause>
-    ensures ok { IfOk result (λ s. ReadsBehind keyword rest.now (stated s)) }
+    ensures ok { IfOk result (λ s. ReadsAfter keyword rest.now (stated s)) }
     ensures cause { IfErr result (λ e. (e ≡ cause.Memory) ⊎ RefusedWith keyword rest.now e) }
 {
     match keyword {
@@ -123,7 +123,7 @@ fn read_behind<'a>(
     }
 }
 
-/// What the text behind a keyword states with it.
+/// What the text after a keyword states with it.
 ///
 /// The cause of a refusal is that of the first token that departs: `Register` and `Number` for
 /// what stands in the place of one, `Limit` for a name of more than 64 bytes, `Word` for what
@@ -134,13 +134,13 @@ pub fn read_statement<'a>(
     keyword: Keyword,
     rest: &'a str,
 ) -> Result<Statement<'a>, TextCause>
-    ensures states { IfOk result (λ s. StatesBehind keyword rest.now (stated s)) }
-    ensures only { (s : Stated) → StatesBehind keyword rest.now s
+    ensures states { IfOk result (λ s. StatesAfter keyword rest.now (stated s)) }
+    ensures only { (s : Stated) → StatesAfter keyword rest.now s
         → MatchResult result (λ t. stated t ≡ s) (λ e. e ≡ cause.Memory) }
     ensures cause { IfErr result (λ e. (e ≡ cause.Memory) ⊎ RefusedWith keyword rest.now e) }
     ensures right { IfOk result (λ s. IsRightStatement (stated s)) }
     ensures only_cause { (e : TextCause) → RefusedWith keyword rest.now e
         → MatchResult result (λ _. ⊥) (λ f. (f ≡ e) ⊎ (f ≡ cause.Memory)) }
 {
-    read_behind(alloc, keyword, rest)
+    read_after(alloc, keyword, rest)
 }

@@ -1,10 +1,10 @@
-//! Numbers of source: decimal, or hexadecimal behind `0x`.
+//! Numbers of source: decimal, or hexadecimal after `0x`.
 ghost use Rattle.std.specs.Prelude.{◌≡◌, ◌∷◌, ◌++◌, ◌<◌, ◌≤◌, ◌^◌, ℕ, ℤ, List, codes, MatchOption, IfSome, IfNone};
 ghost use Rattle.std.specs.Str.Parse.{IsNumeral, digits_value};
 ghost use Rattle.rv_text.specs.Tokens.{IsMagnitude, IsNumber, IsInReach};
 
 /// What follows a leading minus.
-fn behind_minus(text: &str) -> Option<&str>
+fn after_minus(text: &str) -> Option<&str>
     ensures { MatchOption result
         ((digits : List ℕ) → text.now ≡ codes "-" ++ digits → ⊥)
         (λ digits. text.now ≡ codes "-" ++ digits.now) }
@@ -13,7 +13,7 @@ fn behind_minus(text: &str) -> Option<&str>
 }
 
 /// What follows a leading `0x`.
-fn behind_zero_x(text: &str) -> Option<&str>
+fn after_zero_x(text: &str) -> Option<&str>
     ensures { MatchOption result
         ((digits : List ℕ) → text.now ≡ codes "0x" ++ digits → ⊥)
         (λ digits. text.now ≡ codes "0x" ++ digits.now) }
@@ -45,7 +45,7 @@ fn magnitude(text: &str) -> Option<u64>
     ensures some { IfSome result (λ n. IsMagnitude text.now n) }
     ensures none { IfNone result ((n : ℕ) → IsMagnitude text.now n → n < 2 ^ 64 → ⊥) }
 {
-    match behind_zero_x(text) {
+    match after_zero_x(text) {
         Some(hex) => digits(hex, 16),
         None => digits(text, 10),
     }
@@ -56,7 +56,7 @@ pub fn number(text: &str) -> Option<i64>
     ensures some { IfSome result (λ z. IsNumber text.now z × IsInReach z) }
     ensures none { IfNone result ((z : ℤ) → IsNumber text.now z → IsInReach z → ⊥) }
 {
-    match behind_minus(text) {
+    match after_minus(text) {
         Some(digits) => match magnitude(digits) {
             Some(n) => {
                 if n <= 2147483648 {

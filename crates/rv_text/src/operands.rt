@@ -17,7 +17,7 @@ pub struct Operands<'a> {
     pub number: i64,
     /// The name that a gate or a target has.
     pub name: &'a str,
-    /// Whether `rvc` stands behind `.option`.
+    /// Whether `rvc` stands after `.option`.
     pub compressed: bool,
 }
 

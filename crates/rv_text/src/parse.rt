@@ -53,7 +53,7 @@ fn is_bare_fence(name: Mnemonic, rest: &str) -> bool
 }
 
 /// The instruction of this name whose operands are the rest of the text.
-pub fn behind_name(name: Mnemonic, rest: &str) -> Result<Instr, TextCause>
+pub fn after_name(name: Mnemonic, rest: &str) -> Result<Instr, TextCause>
     ensures ok { IfOk result (λ i. FollowsName rest.now name i) }
     ensures cause { IfErr result (λ e. OperandsDepart name rest.now e) }
 {
@@ -71,13 +71,13 @@ pub fn behind_name(name: Mnemonic, rest: &str) -> Result<Instr, TextCause>
 }
 
 /// The instruction of the text with this first token and this rest.
-fn behind_token(token: &str, rest: &str) -> Result<Instr, TextCause>
+fn after_token(token: &str, rest: &str) -> Result<Instr, TextCause>
     requires { IsToken token.now }
     ensures ok { IfOk result (λ i. FollowsToken token.now rest.now i) }
     ensures cause { IfErr result (λ e. RefusedAt token.now rest.now e) }
 {
     match Mnemonic::of(token) {
-        Some(name) => behind_name(name, rest),
+        Some(name) => after_name(name, rest),
         None => Err(name_cause(token)),
     }
 }
@@ -86,7 +86,7 @@ fn behind_token(token: &str, rest: &str) -> Result<Instr, TextCause>
 /// pseudo-instruction, with a number for its target where it jumps or branches.
 ///
 /// Names are in lower case, registers have either of their names (x8 also fp), numbers are decimal
-/// or hexadecimal behind `0x`, and a fence may leave out its operands. The cause of a refusal is
+/// or hexadecimal after `0x`, and a fence may leave out its operands. The cause of a refusal is
 /// that of the first token that departs from this: `Word` for a first name that no instruction has
 /// and for what forms no token, `Register` and `Number` for what stands in the place of one,
 /// `Operands` for any other token, for one that is too many and for one that is missing.
@@ -100,6 +100,6 @@ pub fn parse_instr(text: &str) -> Result<Instr, TextCause>
     match next_token(text) {
         Next::End => Err(TextCause::Operands),
         Next::Stuck => Err(TextCause::Word),
-        Next::Token(token, rest) => behind_token(token, rest),
+        Next::Token(token, rest) => after_token(token, rest),
     }
 }

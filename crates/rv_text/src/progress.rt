@@ -2,7 +2,7 @@
 ghost use Rattle.std.specs.Prelude.{◌≡◌, ◌⊎◌, ◌↔◌, ◌++◌, List, ℕ, None, Some, IsTrue, IfOk, IfErr, OnOk, MatchOption, codes};
 ghost use Rattle.rv_text.specs.declared.cause.TextCause.TheVariants as cause;
 ghost use Rattle.rv_text.specs.Effects.{Labels, RefusesLabel, MayCome, Does, HasNoRoom};
-ghost use Rattle.rv_text.specs.Leads.{BeginsWithName, IsTaken, BeginsWithLabel, HasNoLabel, PassesLabels, IsGateTwice, LeadsBehind, RestLeads, Leads, LabelRefused, RefusedBehind, StatementRefused, LineRefused};
+ghost use Rattle.rv_text.specs.Leads.{BeginsWithName, IsTaken, BeginsWithLabel, HasNoLabel, PassesLabels, IsGateTwice, LeadsAfter, RestLeads, Leads, LabelRefused, RefusedAfter, StatementRefused, LineRefused};
 ghost use Rattle.rv_text.specs.SoFar.{begin, format_or_sfi1, nothing, sandboxes};
 ghost use Rattle.rv_text.specs.Stated.{stated, place_of_stated};
 ghost use Rattle.rv_text.specs.Texts.{LeadsFromNothing, MeansSource, IsFault};
@@ -47,7 +47,7 @@ fn without_colon(text: &str) -> Option<&str>
 }
 
 /// What follows a colon that is the first token of a text.
-fn behind_colon(text: &str) -> Option<&str>
+fn after_colon(text: &str) -> Option<&str>
     ensures { MatchOption result ((rest : List ℕ) → Takes text.now (codes ":") rest → ⊥) (λ rest. Takes text.now (codes ":") rest.now) }
 {
     without_colon(body(text))
@@ -76,7 +76,7 @@ fn label_of(text: &str) -> Option<(&str, &str)>
     ensures { MatchOption result (HasNoLabel text.now) (λ x. BeginsWithLabel text.now x.0.now x.1.now) }
 {
     match label_name(text) {
-        Some((name, after)) => match behind_colon(after) {
+        Some((name, after)) => match after_colon(after) {
             Some(rest) => Some((name, rest)),
             None => None,
         },
@@ -140,7 +140,7 @@ impl Progress {
         }
     }
 
-    /// Puts the labels at the front of a line, and gives the text behind them.
+    /// Puts the labels at the front of a line, and gives the text after them.
     fn labels<'a>(&mut self, alloc: Global, line: &'a str) -> Result<&'a str, TextCause>
         ensures passes { IfOk result (λ rest. PassesLabels self.old line.now self.new rest.now) }
         ensures cause { IfErr result (λ e. (e ≡ cause.Memory) ⊎ LabelRefused self.old line.now e) }
@@ -155,7 +155,7 @@ impl Progress {
         Ok(text)
     }
 
-    /// Whether it is a gate whose name, behind this keyword, is there already.
+    /// Whether it is a gate whose name, after this keyword, is there already.
     fn is_gate_twice(&self, keyword: Keyword, text: &str) -> bool
         ensures { IsTrue result ↔ IsGateTwice keyword self.now text.now }
     {
@@ -175,7 +175,7 @@ impl Progress {
         }
     }
 
-    /// Begins a sandbox behind those so far.
+    /// Begins a sandbox after those so far.
     fn begin(&mut self, alloc: Global, data_size: u32) -> Result<(), TextCause>
         ensures begins { OnOk result (self.new ≡ record { format = self.old.format; finished = sandboxes self.old; begun = Some (begin (format_or_sfi1 self.old.format) data_size) }) }
         ensures memory { IfErr result (λ e. e ≡ cause.Memory) }
@@ -206,16 +206,16 @@ impl Progress {
         }
     }
 
-    /// Does what this keyword states with the text behind it.
-    fn behind_keyword(
+    /// Does what this keyword states with the text after it.
+    fn after_keyword(
         &mut self,
         alloc: Global,
         line: u32,
         keyword: Keyword,
         text: &str,
     ) -> Result<(), TextCause>
-        ensures leads { OnOk result (LeadsBehind keyword line self.old text.now self.new) }
-        ensures cause { IfErr result (λ e. (e ≡ cause.Memory) ⊎ RefusedBehind keyword self.old text.now e) }
+        ensures leads { OnOk result (LeadsAfter keyword line self.old text.now self.new) }
+        ensures cause { IfErr result (λ e. (e ≡ cause.Memory) ⊎ RefusedAfter keyword self.old text.now e) }
     {
         if !self.may_come(keyword.place()) {
             return Err(TextCause::Directive);
@@ -227,7 +227,7 @@ impl Progress {
         self.state(alloc, line, statement)
     }
 
-    /// Does what the text behind a line's labels states.
+    /// Does what the text after a line's labels states.
     fn statement(&mut self, alloc: Global, line: u32, text: &str) -> Result<(), TextCause>
         ensures leads { OnOk result (RestLeads line self.old text.now self.new) }
         ensures cause { IfErr result (λ e. (e ≡ cause.Memory) ⊎ StatementRefused self.old text.now e) }
@@ -237,7 +237,7 @@ impl Progress {
             Next::Stuck => Err(TextCause::Word),
             Next::Token(token, rest) => {
                 let keyword = read_keyword(token)?;
-                self.behind_keyword(alloc, line, keyword, rest)
+                self.after_keyword(alloc, line, keyword, rest)
             }
         }
     }
@@ -251,7 +251,7 @@ impl Progress {
         self.statement(alloc, line, rest)
     }
 
-    /// The source behind the last line of a text, whose lines lead to it from nothing.
+    /// The source after the last line of a text, whose lines lead to it from nothing.
     pub fn finish(self, text: &str) -> Result<Source, TextFault>
         requires { LeadsFromNothing text.now self }
         ensures source { IfOk result (λ s. MeansSource text.now s) }

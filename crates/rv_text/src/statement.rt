@@ -1,4 +1,4 @@
-//! What one line of source states, behind its labels.
+//! What one line of source states, after its labels.
 
 use rv_word::{Instr, Reg};
 use sfi_image::Format;

@@ -9,7 +9,7 @@ use Rattle.sfi_image.specs.Spelling.{Part}
 use Rattle.sfi_image.specs.Parts.{AreRight}
 use Rattle.sfi_scan.specs.declared.finding.Finding.{Finding}
 use Rattle.sfi_scan.specs.Findings.{AreFindings, AreFindingsFrom}
-use Rattle.sfi_check.specs.Regions.{HasStack}
+use Rattle.sfi_check.specs.Regions.{StackInData}
 use Rattle.sfi_check.specs.Runs.{Turn, IsRun, after_turn}
 use Rattle.sfi_check.specs.Stack.{after_turns, CallsWithStack, AllCallWithStack}
 use Rattle.sfi_check.specs.Places.{IsCleanPart, IsGood, IsGoodIf}
@@ -19,7 +19,7 @@ use Rattle.sfi_check.proofs.Places.{nothing_before, present}
 use Rattle.sfi_check.proofs.Stacking.{is_of_pair, stack_here}
 use Rattle.sfi_check.proofs.Safe.{stays_safe, first_apart, others_right}
 
-good_calls : OneInstruction → (sandbox : ℕ) (p : Part) (s : State) (n : ℕ) → IsCleanPart sandbox p → IsGood sandbox p s → Stands s Ecall n → HasStack p s.hart.registers
+good_calls : OneInstruction → (sandbox : ℕ) (p : Part) (s : State) (n : ℕ) → IsCleanPart sandbox p → IsGood sandbox p s → Stands s Ecall n → StackInData p s.hart.registers
 good_calls law sandbox p s n clean good stands =
     let at = good.place in
     let e = law s Ecall at.here.instr n at.here.size stands (present sandbox p s.hart clean at s.memory good.kept.code) in

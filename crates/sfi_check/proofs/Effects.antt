@@ -12,7 +12,7 @@ use Rattle.rv_step.specs.declared.outcome.Outcome.{Outcome}
 use Rattle.rv_step.specs.declared.outcome.Outcome.TheVariants.{Next, Call, Trap}
 use Rattle.rv_step.specs.declared.outcome.Cause.TheVariants as cause
 use Rattle.rv_step.specs.Access.{Accesses}
-use Rattle.rv_step.specs.State.{Hart, register, with_register, with_pc, behind, even_of}
+use Rattle.rv_step.specs.State.{Hart, register, with_register, with_pc, past, even_of}
 use Rattle.rv_step.specs.Step.{effect, after_load, next, unchanged}
 use Rattle.rv_step.specs.Values.{plus, load_size, store_size, extended, is_taken}
 use Rattle.sfi_image.specs.Formats.{has_stack, is_stack}
@@ -24,9 +24,9 @@ use Rattle.sfi_scan.specs.declared.bundle.BundlePlace.{BundlePlace}
 use Rattle.sfi_scan.specs.Pairs.{is_reserved, follows_data_pair, follows_code_pair}
 use Rattle.sfi_scan.specs.Stack.{writes_stack, is_jump}
 use Rattle.sfi_scan.specs.Rules.{Place, is_empty, is_bundle_start, breaks_ecall, breaks_reserved, breaks_access, breaks_jump, breaks_target, breaks_stack, may_access, ends_region, offset_by}
-use Rattle.sfi_check.specs.Regions.{InData, InGuard, IsGate, HasReserved, HasStack}
+use Rattle.sfi_check.specs.Regions.{InData, InGuard, IsGate, HasReserved, StackInData}
 use Rattle.sfi_check.specs.Leaving.{Leaves, WritesResult}
-use Rattle.sfi_check.specs.Places.{HasStackBefore, IsAtPlace}
+use Rattle.sfi_check.specs.Places.{StackInDataBefore, IsAtPlace}
 use Rattle.sfi_check.proofs.Leaving.{leaves_after}
 use Rattle.sfi_check.proofs.Accessing.{same_target, near_access, load_most, store_most, load_range, store_range, kept, count_kept, reserved_kept}
 use Rattle.sfi_check.proofs.Stacking.{is_of_pair, stack_here, stack_after, jump_keeps}
@@ -46,11 +46,11 @@ pub record Here (sandbox : ℕ) (p : Part) (h : Hart) (i : Instr) (n : ℕ) : Ty
   pub target : breaks_target place i ≡ false
   pub writing : breaks_stack place i ≡ false
   pub format : has_stack place.bundle.format ≡ has_stack p.format
-  pub stack : HasStackBefore p place.earlier (record { instr = i; size = n } ∷ place.later) h.registers
+  pub stack : StackInDataBefore p place.earlier (record { instr = i; size = n } ∷ place.later) h.registers
   pub gate : is_empty place.earlier ≡ true → place.bundle.listed ≡ true → IsGate p h.pc
   pub is_start : (a : ℕ) → is_bundle_start place.bundle a ≡ true → IsBundleStart (code_region p) a
-  pub goes : (h' : Hart) → h'.pc ≡ address_after h.pc n → ends_region i ≡ false → Leaves p (i ∷ place.earlier) h'.registers → HasStackBefore p (i ∷ place.earlier) place.later h'.registers → IsAtPlace sandbox p h'
-  pub start : (h' : Hart) → IsBundleStart (code_region p) h'.pc → HasStack p h'.registers → IsAtPlace sandbox p h'
+  pub goes : (h' : Hart) → h'.pc ≡ address_after h.pc n → ends_region i ≡ false → Leaves p (i ∷ place.earlier) h'.registers → StackInDataBefore p (i ∷ place.earlier) place.later h'.registers → IsAtPlace sandbox p h'
+  pub start : (h' : Hart) → IsBundleStart (code_region p) h'.pc → StackInData p h'.registers → IsAtPlace sandbox p h'
 
 -- the registers keep what no turn changes, and pc is at a place
 pub record IsGoodHart (sandbox : ℕ) (p : Part) (h : Hart) : Type 0 where
@@ -67,7 +67,7 @@ Leads sandbox p h (Trap cause at) h' = Unit {0}
 -- ---- accesses
 
 -- the stack pointer lies in the data where an instruction stands that is not of its pair
-lies : (sandbox : ℕ) (p : Part) (h : Hart) (i : Instr) (n : ℕ) → Here sandbox p h i n → is_of_pair i ≡ false → HasStack p h.registers
+lies : (sandbox : ℕ) (p : Part) (h : Hart) (i : Instr) (n : ℕ) → Here sandbox p h i n → is_of_pair i ≡ false → StackInData p h.registers
 lies sandbox p h i n here other = stack_here p here.place.earlier (record { instr = i; size = n }) here.place.later h.registers other here.stack
 
 -- so does the base of an access that breaks no rule
@@ -145,29 +145,29 @@ module _ (sandbox : ℕ) (p : Part) (h : Hart) (m : Bytes) (right : IsRightPart 
       kept rd value 2 k (λ e. eqb-false rd 2 other (sym e))
 
   -- it writes a register and goes on
-  by_writing : (i : Instr) (n rd value : ℕ) (here : Here sandbox p h i n) → destination i ≡ Some rd → is_reserved rd ≡ false → ends_region i ≡ false → WritesResult i h (with_register (behind h n) rd value) → IsGoodHart sandbox p (with_register (behind h n) rd value)
+  by_writing : (i : Instr) (n rd value : ℕ) (here : Here sandbox p h i n) → destination i ≡ Some rd → is_reserved rd ≡ false → ends_region i ≡ false → WritesResult i h (with_register (past h n) rd value) → IsGoodHart sandbox p (with_register (past h n) rd value)
   by_writing i n rd value here dest free goes writes =
-      let h' = with_register (behind h n) rd value in
+      let h' = with_register (past h n) rd value in
       let leaves = leaves_writing h' i n here writes in
-      let stack = stack_after p here.place i n h.registers h'.registers here.format here.writing (keeps here.place.bundle i rd value (behind h n) dest) leaves here.stack in
+      let stack = stack_after p here.place i n h.registers h'.registers here.format here.writing (keeps here.place.bundle i rd value (past h n) dest) leaves here.stack in
       good_writing (address_after h.pc n) rd value free (here.goes h' refl goes leaves stack)
 
   -- it writes no register and goes on
-  by_moving : (i : Instr) (n : ℕ) (here : Here sandbox p h i n) → ends_region i ≡ false → WritesResult i h (behind h n) → IsGoodHart sandbox p (behind h n)
+  by_moving : (i : Instr) (n : ℕ) (here : Here sandbox p h i n) → ends_region i ≡ false → WritesResult i h (past h n) → IsGoodHart sandbox p (past h n)
   by_moving i n here goes writes =
-      let leaves = leaves_writing (behind h n) i n here writes in
+      let leaves = leaves_writing (past h n) i n here writes in
       let stack = stack_after p here.place i n h.registers h.registers here.format here.writing (λ has none. refl) leaves here.stack in
-      good_moving (address_after h.pc n) (here.goes (behind h n) refl goes leaves stack)
+      good_moving (address_after h.pc n) (here.goes (past h n) refl goes leaves stack)
 
   by_load : (kind : LoadKind) (rd rs1 : ℕ) (imm : ℤ) (n : ℕ) → Here sandbox p h (Load kind rd rs1 imm) n → (o : Option ℕ) (at : ℕ) → Leads sandbox p h (after_load o kind rd at n h m).outcome (after_load o kind rd at n h m).state.hart
   by_load kind rd rs1 imm n here None at = tt
   by_load kind rd rs1 imm n here (Some v) at = by_writing (Load kind rd rs1 imm) n rd (extended kind v) here refl here.reserved refl tt
 
-  by_store : (b : Bool) (w : Bytes) (at n : ℕ) → IsGoodHart sandbox p (behind h n) → Leads sandbox p h (cond b (next (behind h n) w) (unchanged (Trap cause.Store at) h m)).outcome (cond b (next (behind h n) w) (unchanged (Trap cause.Store at) h m)).state.hart
+  by_store : (b : Bool) (w : Bytes) (at n : ℕ) → IsGoodHart sandbox p (past h n) → Leads sandbox p h (cond b (next (past h n) w) (unchanged (Trap cause.Store at) h m)).outcome (cond b (next (past h n) w) (unchanged (Trap cause.Store at) h m)).state.hart
   by_store true w at n good = good
   by_store false w at n good = tt
 
-  by_branch : (taken : Bool) (i : Instr) (n target : ℕ) (here : Here sandbox p h i n) → is_of_pair i ≡ false → ends_region i ≡ false → WritesResult i h (behind h n) → IsBundleStart (code_region p) target → IsGoodHart sandbox p (cond taken (with_pc h target) (behind h n))
+  by_branch : (taken : Bool) (i : Instr) (n target : ℕ) (here : Here sandbox p h i n) → is_of_pair i ≡ false → ends_region i ≡ false → WritesResult i h (past h n) → IsBundleStart (code_region p) target → IsGoodHart sandbox p (cond taken (with_pc h target) (past h n))
   by_branch true i n target here other goes writes start = good_moving target (here.start (with_pc h target) start (lies sandbox p h i n here other))
   by_branch false i n target here other goes writes start = by_moving i n here goes writes
 
@@ -178,7 +178,7 @@ module _ (sandbox : ℕ) (p : Part) (h : Hart) (m : Bytes) (right : IsRightPart 
       subst (λ (a : ℕ). IsBundleStart (code_region p) a) (ap (λ (a : ℕ). offset_by a offset) here.address ∙ same_target h.pc offset here.pc) start
 
   -- a jump leaves the stack pointer where it lies
-  jump_lies : (i : Instr) (n rd value pc : ℕ) (here : Here sandbox p h i n) → is_of_pair i ≡ false → is_jump i ≡ true → destination i ≡ Some rd → HasStack p (with_register (with_pc h pc) rd value).registers
+  jump_lies : (i : Instr) (n rd value pc : ℕ) (here : Here sandbox p h i n) → is_of_pair i ≡ false → is_jump i ≡ true → destination i ≡ Some rd → StackInData p (with_register (with_pc h pc) rd value).registers
   jump_lies i n rd value pc here other jump dest = λ has.
       subst (λ (a : ℕ). InData p a) (sym (keeps here.place.bundle i rd value (with_pc h pc) dest (here.format ∙ has) (jump_keeps here.place i jump here.writing)))
       (lies sandbox p h i n here other has)

@@ -14,7 +14,7 @@ use Rattle.sfi_scan.specs.Readings.{Piece, IsReading, rest_of}
 use Rattle.sfi_scan.specs.Rules.{Place, breaks, breaks_ecall, breaks_reserved, breaks_access, breaks_jump, breaks_target, breaks_end, breaks_stack, ends_region, is_empty}
 use Rattle.sfi_scan.specs.Findings.{lowest, all_rules, findings_from}
 use Rattle.sfi_check.specs.Leaving.{Leaves}
-use Rattle.sfi_check.specs.Places.{IsCleanPart, HasStackBefore, IsAtPlace}
+use Rattle.sfi_check.specs.Places.{IsCleanPart, StackInDataBefore, IsAtPlace}
 use Rattle.sfi_check.proofs.Masks.{bundles_of}
 use Rattle.sfi_check.proofs.Places.{spelled_length, spelled_some, nothing_before, at_start, bundle_length, here_within, code_end}
 
@@ -54,7 +54,7 @@ place_here sandbox p h at = record {
   whole = true;
 }
 
--- what is left behind the instruction has no finding either
+-- what is left after the instruction has no finding either
 later_clean : (sandbox : ℕ) (p : Part) (h : Hart) (at : IsAtPlace sandbox p h) → List Piece → Type 0
 later_clean sandbox p h at later = findings_from (place_of sandbox p at.number) true (p.code_base + 16 * at.number + at.offset + at.here.size) (at.here.instr ∷ at.earlier) later ≡ []
 
@@ -82,8 +82,8 @@ something_left bytes x h =
     omega (arith, cut, all, some)
 
 module _ (sandbox : ℕ) (p : Part) (h h' : Hart) (clean : IsCleanPart sandbox p) (at : IsAtPlace sandbox p h) where
-  -- behind the last piece of a bundle that is not the region's last
-  over_the_end : at.later ≡ [] → h'.pc ≡ address_after h.pc at.here.size → ends_region at.here.instr ≡ false → HasStackBefore p (at.here.instr ∷ at.earlier) at.later h'.registers → IsAtPlace sandbox p h'
+  -- after the last piece of a bundle that is not the region's last
+  over_the_end : at.later ≡ [] → h'.pc ≡ address_after h.pc at.here.size → ends_region at.here.instr ≡ false → StackInDataBefore p (at.here.instr ∷ at.earlier) at.later h'.registers → IsAtPlace sandbox p h'
   over_the_end nil pc' goes stack =
       let b = at.number in
       let size = here_within sandbox p h clean at in
@@ -106,10 +106,10 @@ module _ (sandbox : ℕ) (p : Part) (h h' : Hart) (clean : IsCleanPart sandbox p
       let other : p.code_base + 16 * b + 16 ≢ p.code_base + length p.code = eqb-false _ _ not_last in
       let next : p.code_base + 16 * b + 16 < p.code_base + length p.code = omega arith in
       let to : h'.pc ≡ p.code_base + 16 * b + 16 = pc' ∙ omega arith in
-      at_start sandbox p h' clean (record { held = (omega arith, omega arith); aligned = omega arith }) (subst (λ (l : List Piece). HasStackBefore p (at.here.instr ∷ at.earlier) l h'.registers) nil stack)
+      at_start sandbox p h' clean (record { held = (omega arith, omega arith); aligned = omega arith }) (subst (λ (l : List Piece). StackInDataBefore p (at.here.instr ∷ at.earlier) l h'.registers) nil stack)
 
   -- before another piece of the same bundle
-  to_the_next : (x : Piece) (later : List Piece) → at.later ≡ x ∷ later → h'.pc ≡ address_after h.pc at.here.size → Leaves p (at.here.instr ∷ at.earlier) h'.registers → HasStackBefore p (at.here.instr ∷ at.earlier) at.later h'.registers → IsAtPlace sandbox p h'
+  to_the_next : (x : Piece) (later : List Piece) → at.later ≡ x ∷ later → h'.pc ≡ address_after h.pc at.here.size → Leaves p (at.here.instr ∷ at.earlier) h'.registers → StackInDataBefore p (at.here.instr ∷ at.earlier) at.later h'.registers → IsAtPlace sandbox p h'
   unfolding later_clean
   to_the_next x later is pc' leaves stack =
       let b = at.number in
@@ -138,11 +138,11 @@ module _ (sandbox : ℕ) (p : Part) (h h' : Hart) (clean : IsCleanPart sandbox p
         pc = pc' ∙ (let e : address_after h.pc at.here.size ≡ p.code_base + 16 * b + (at.offset + at.here.size) = omega (arith, inside, pc, within, end) in e);
         first = λ none. absurd (let e : at.here.instr ∷ at.earlier ≡ [] = none in cc);
         leaves = leaves;
-        stack = subst (λ (l : List Piece). HasStackBefore p (at.here.instr ∷ at.earlier) l h'.registers) is stack;
+        stack = subst (λ (l : List Piece). StackInDataBefore p (at.here.instr ∷ at.earlier) l h'.registers) is stack;
       }
 
-  -- to what is behind an instruction that does not end a region
-  pub goes_on : h'.pc ≡ address_after h.pc at.here.size → ends_region at.here.instr ≡ false → Leaves p (at.here.instr ∷ at.earlier) h'.registers → HasStackBefore p (at.here.instr ∷ at.earlier) at.later h'.registers → IsAtPlace sandbox p h'
+  -- to what is after an instruction that does not end a region
+  pub goes_on : h'.pc ≡ address_after h.pc at.here.size → ends_region at.here.instr ≡ false → Leaves p (at.here.instr ∷ at.earlier) h'.registers → StackInDataBefore p (at.here.instr ∷ at.earlier) at.later h'.registers → IsAtPlace sandbox p h'
   goes_on pc' goes leaves stack = by_later at.later refl
     where
       by_later : (later : List Piece) → at.later ≡ later → IsAtPlace sandbox p h'

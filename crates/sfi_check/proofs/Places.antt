@@ -18,7 +18,7 @@ use Rattle.sfi_scan.specs.Bundles.{place_of, bundle_bytes}
 use Rattle.sfi_scan.specs.Readings.{Piece, IsReading, rest_of}
 use Rattle.sfi_scan.specs.Rules.{is_empty}
 use Rattle.sfi_scan.specs.Findings.{findings_from, rest_finding, AreReadingFindings, AreBundleFindings, AreFindingsOfFirst}
-use Rattle.sfi_check.specs.Regions.{InCode, HasStack, HasCode}
+use Rattle.sfi_check.specs.Regions.{InCode, StackInData, HasCode}
 use Rattle.sfi_check.specs.Places.{IsCleanPart, IsAtPlace}
 use Rattle.sfi_check.proofs.Masks.{code_at_most, region_end, bundles_of}
 use Rattle.sfi_check.proofs.Leaving.{leaves_nothing}
@@ -76,7 +76,7 @@ code_end sandbox p clean = region_end p.code_base (length p.code) 256 (code_most
 
 -- a reading that leaves nothing has a first piece
 at_first : (sandbox : ℕ) (p : Part) (h : Hart) (b : ℕ) → 16 * b + 16 ≤ length p.code → h.pc ≡ p.code_base + 16 * b → length (bundle_bytes p b) ≡ 16
-    → HasStack p h.registers → (reading : List Piece) → IsReading (bundle_bytes p b) reading → rest_of (bundle_bytes p b) reading ≡ [] → findings_from (place_of sandbox p b) true (p.code_base + 16 * b) [] reading ≡ [] → IsAtPlace sandbox p h
+    → StackInData p h.registers → (reading : List Piece) → IsReading (bundle_bytes p b) reading → rest_of (bundle_bytes p b) reading ≡ [] → findings_from (place_of sandbox p b) true (p.code_base + 16 * b) [] reading ≡ [] → IsAtPlace sandbox p h
 at_first sandbox p h b within pc size stack [] is whole clean = absurd (let e = sym size ∙ ap length whole in omega arith)
 at_first sandbox p h b within pc size stack (here ∷ later) is whole clean = record {
   number = b;
@@ -95,7 +95,7 @@ at_first sandbox p h b within pc size stack (here ∷ later) is whole clean = re
 }
 
 -- at a bundle start
-pub at_start : (sandbox : ℕ) (p : Part) (h : Hart) → IsCleanPart sandbox p → IsBundleStart (code_region p) h.pc → HasStack p h.registers → IsAtPlace sandbox p h
+pub at_start : (sandbox : ℕ) (p : Part) (h : Hart) → IsCleanPart sandbox p → IsBundleStart (code_region p) h.pc → StackInData p h.registers → IsAtPlace sandbox p h
 at_start sandbox p h clean start stack =
     let bundles = bundles_of p.code_base (length p.code) (code_most p.format) clean.right.code_placed in
     let base_is : p.code_base ≡ 16 * bundles.1 = bundles.3 in

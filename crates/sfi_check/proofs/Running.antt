@@ -14,7 +14,7 @@ use Rattle.sfi_check.specs.Regions.{IsGate, HasCode, HasReserved, HasEmptyGuards
 use Rattle.sfi_check.specs.Runs.{KeepsBytes, IsReply, IsChange, Turn, Steps, Replies, Changes, IsTurn, IsRun, after_turn}
 use Rattle.sfi_check.specs.Safety.{IsSafeState, IsSafeTurn, IsSafeRun}
 use Rattle.sfi_check.specs.Leaving.{Leaves}
-use Rattle.sfi_check.specs.Places.{HasStackBefore, IsCleanPart, IsGood, IsGoodIf}
+use Rattle.sfi_check.specs.Places.{StackInDataBefore, IsCleanPart, IsGood, IsGoodIf}
 use Rattle.sfi_check.specs.Laws.{EntryIsGood, TurnKeeps, CleanRunsSafely}
 use Rattle.sfi_check.proofs.Leaving.{leaves_after}
 use Rattle.sfi_check.proofs.Places.{at_start, pc_in_code, byte_in_code}
@@ -90,7 +90,7 @@ module _ (laws : Machine) (sandbox : ℕ) (p : Part) (clean : IsCleanPart sandbo
             pc = c.pc ∙ at.pc;
             first = at.first;
             leaves = subst (λ (l : List ℕ). Leaves p at.earlier l) (sym c.registers) at.leaves;
-            stack = subst (λ (l : List ℕ). HasStackBefore p at.earlier (at.here ∷ at.later) l) (sym c.registers) at.stack;
+            stack = subst (λ (l : List ℕ). StackInDataBefore p at.earlier (at.here ∷ at.later) l) (sym c.registers) at.stack;
           };
         }
 

@@ -12,7 +12,7 @@ use Rattle.rv_comp.specs.Laws.{OneSpelling}
 use Rattle.rv_mem.specs.Bytes.{Bytes, byte_at, in_front, stored}
 use Rattle.rv_step.specs.declared.outcome.Outcome.TheVariants.{Trap}
 use Rattle.rv_step.specs.declared.outcome.Cause.TheVariants as cause
-use Rattle.rv_step.specs.State.{behind}
+use Rattle.rv_step.specs.State.{past}
 use Rattle.rv_step.specs.Step.{Stepped, effect, next, unchanged}
 use Rattle.sfi_image.specs.Spelling.{Part}
 use Rattle.sfi_image.specs.Spelling as image
@@ -94,8 +94,8 @@ module _ (m : Bytes) (code : HasCode p m) (guards : (a : ℕ) → InGuard p a �
   changed_code : HasCode p changed
   changed_code k below = let size = size sandboxed_store is_sample in in_data (0x01000000 + k) (λ same. omega arith) ∙ code k below
 
-  store_done : effect (Store Sb 31 10 (pos 0)) 4 (hart 0x01000008 0x01800000 0x018000f0) changed ≡ next (behind (hart 0x01000008 0x01800000 0x018000f0) 4) (stored changed 0x018000f0 1 240)
-  store_done = ap (λ o. cond (is_some (in_front o (Some []))) (next (behind (hart 0x01000008 0x01800000 0x018000f0) 4) (stored changed 0x018000f0 1 240)) (unchanged (Trap cause.Store 0x018000f0) (hart 0x01000008 0x01800000 0x018000f0) changed)) there
+  store_done : effect (Store Sb 31 10 (pos 0)) 4 (hart 0x01000008 0x01800000 0x018000f0) changed ≡ next (past (hart 0x01000008 0x01800000 0x018000f0) 4) (stored changed 0x018000f0 1 240)
+  store_done = ap (λ o. cond (is_some (in_front o (Some []))) (next (past (hart 0x01000008 0x01800000 0x018000f0) 4) (stored changed 0x018000f0 1 240)) (unchanged (Trap cause.Store 0x018000f0) (hart 0x01000008 0x01800000 0x018000f0) changed)) there
 
   store_is : byte_at (stored changed 0x018000f0 1 240) 0x018000f0 ≡ Some 240
   store_is = inserted_here changed 0x018000f0 240 0x018000f0 refl

@@ -12,9 +12,9 @@ use Rattle.sfi_scan.specs.Pairs.{is_masking, is_placing, follows_data_pair}
 use Rattle.sfi_scan.specs.Readings.{Piece}
 use Rattle.sfi_scan.specs.Stack.{writes_stack, is_stack_pair, begins_pair, ends_pair, precedes_pair, is_jump}
 use Rattle.sfi_scan.specs.Rules.{Place, may_write_stack, breaks_stack}
-use Rattle.sfi_check.specs.Regions.{InData, HasStack}
+use Rattle.sfi_check.specs.Regions.{InData, StackInData}
 use Rattle.sfi_check.specs.Leaving.{Leaves}
-use Rattle.sfi_check.specs.Places.{HasStackBefore}
+use Rattle.sfi_check.specs.Places.{StackInDataBefore}
 
 -- the instruction is one of the pair's two
 abbrev pub is_of_pair : Instr → Bool
@@ -55,7 +55,7 @@ pair_writes b _ has h = absurd (false≢true h)
 
 -- what is neither of the pair's two stands where x2 lies in the data
 pub stack_here : (p : Part) (earlier : List Instr) (here : Piece) (later : List Piece) (registers : List ℕ) → is_of_pair here.instr ≡ false
-    → HasStackBefore p earlier (here ∷ later) registers → HasStack p registers
+    → StackInDataBefore p earlier (here ∷ later) registers → StackInData p registers
 stack_here p earlier here later registers other lies = λ has.
     ⊎_elim
     (λ inside. inside)
@@ -63,20 +63,20 @@ stack_here p earlier here later registers other lies = λ has.
     (lies has)
 
 -- where x2 lies in the data it does so whatever comes
-pub stack_lies : (p : Part) (earlier : List Instr) (later : List Piece) (registers : List ℕ) → HasStack p registers → HasStackBefore p earlier later registers
+pub stack_lies : (p : Part) (earlier : List Instr) (later : List Piece) (registers : List ℕ) → StackInData p registers → StackInDataBefore p earlier later registers
 stack_lies p earlier [] registers lies = lies
 stack_lies p earlier (y ∷ later) registers lies = λ has. inl (lies has)
 
--- ---- behind an instruction
+-- ---- after an instruction
 
--- the pair behind it has begun, or begins
-behind_begun : (p : Part) (earlier : List Instr) (i : Instr) (later : List Piece) (registers : List ℕ) → begins_pair i later ≡ true → HasStackBefore p (i ∷ earlier) later registers
-behind_begun p earlier i [] registers h = absurd (false≢true h)
-behind_begun p earlier i (y ∷ later) registers h = λ has. inr (or_right (begins_pair y.instr later) (is_stack_pair i y.instr) h)
+-- the pair after it has begun, or begins
+after_begun : (p : Part) (earlier : List Instr) (i : Instr) (later : List Piece) (registers : List ℕ) → begins_pair i later ≡ true → StackInDataBefore p (i ∷ earlier) later registers
+after_begun p earlier i [] registers h = absurd (false≢true h)
+after_begun p earlier i (y ∷ later) registers h = λ has. inr (or_right (begins_pair y.instr later) (is_stack_pair i y.instr) h)
 
-behind_preceding : (p : Part) (earlier : List Instr) (later : List Piece) (registers : List ℕ) → precedes_pair later ≡ true → HasStackBefore p earlier later registers
-behind_preceding p earlier [] registers h = absurd (false≢true h)
-behind_preceding p earlier (y ∷ later) registers h = λ has. inr (or_left (begins_pair y.instr later) (ends_pair earlier y.instr) h)
+after_preceding : (p : Part) (earlier : List Instr) (later : List Piece) (registers : List ℕ) → precedes_pair later ≡ true → StackInDataBefore p earlier later registers
+after_preceding p earlier [] registers h = absurd (false≢true h)
+after_preceding p earlier (y ∷ later) registers h = λ has. inr (or_left (begins_pair y.instr later) (ends_pair earlier y.instr) h)
 
 -- the pair on x2 is a data pair
 data_pair : (earlier : List Instr) (i : Instr) → ends_pair earlier i ≡ true → follows_data_pair 2 (i ∷ earlier) ≡ true
@@ -87,34 +87,34 @@ by_kind : (b : Bool) → (b ≡ true) ⊎ (b ≡ false)
 by_kind true = inl refl
 by_kind false = inr refl
 
--- behind an instruction that breaks no rule, and from which control runs on
+-- after an instruction that breaks no rule, and from which control runs on
 pub stack_after : (p : Part) (x : Place) (i : Instr) (size : ℕ) (before after : List ℕ) → has_stack x.bundle.format ≡ has_stack p.format → breaks_stack x i ≡ false
     → (has_stack x.bundle.format ≡ true → writes_stack x.bundle i ≡ false → slice_index after 2 ≡ slice_index before 2)
     → Leaves p (i ∷ x.earlier) after
-    → HasStackBefore p x.earlier (record { instr = i; size = size } ∷ x.later) before
-    → HasStackBefore p (i ∷ x.earlier) x.later after
+    → StackInDataBefore p x.earlier (record { instr = i; size = size } ∷ x.later) before
+    → StackInDataBefore p (i ∷ x.earlier) x.later after
 stack_after p x i size before after format free keeps leaves lies =
     ⊎_elim written kept (by_kind (writes_stack x.bundle i))
   where
-    in_data : HasStack p after → HasStackBefore p (i ∷ x.earlier) x.later after
+    in_data : StackInData p after → StackInDataBefore p (i ∷ x.earlier) x.later after
     in_data inside = stack_lies p (i ∷ x.earlier) x.later after inside
 
-    kept : writes_stack x.bundle i ≡ false → HasStackBefore p (i ∷ x.earlier) x.later after
+    kept : writes_stack x.bundle i ≡ false → StackInDataBefore p (i ∷ x.earlier) x.later after
     kept none = in_data (λ has.
         ⊎_elim
         (λ (inside : InData p (slice_index before 2)). subst (λ (a : ℕ). InData p a) (sym (keeps (format ∙ has) none)) inside)
         (λ met. absurd (false≢true (sym none ∙ pair_writes x.bundle i (format ∙ has) (met_of x.earlier i x.later met))))
         (lies has))
 
-    written : writes_stack x.bundle i ≡ true → HasStackBefore p (i ∷ x.earlier) x.later after
+    written : writes_stack x.bundle i ≡ true → StackInDataBefore p (i ∷ x.earlier) x.later after
     written some =
         let may : may_write_stack x i ≡ true = not-false _ (rw some at free) in
         ⊎_elim
         (λ (pair : (begins_pair i x.later || ends_pair x.earlier i) ≡ true). ⊎_elim
-        (λ (e : begins_pair i x.later ≡ true). behind_begun p x.earlier i x.later after e)
+        (λ (e : begins_pair i x.later ≡ true). after_begun p x.earlier i x.later after e)
         (λ (e : ends_pair x.earlier i ≡ true). in_data (λ has. leaves.data_pair 2 (data_pair x.earlier i e)))
         (or_cases (begins_pair i x.later) (ends_pair x.earlier i) pair))
-        (λ (e : (not (is_jump i) && precedes_pair x.later) ≡ true). behind_preceding p (i ∷ x.earlier) x.later after (and_parts (not (is_jump i)) (precedes_pair x.later) e).1)
+        (λ (e : (not (is_jump i) && precedes_pair x.later) ≡ true). after_preceding p (i ∷ x.earlier) x.later after (and_parts (not (is_jump i)) (precedes_pair x.later) e).1)
         (or_cases (begins_pair i x.later || ends_pair x.earlier i) (not (is_jump i) && precedes_pair x.later) may)
 
 jump_other : (i : Instr) → is_jump i ≡ true → is_of_pair i ≡ false

@@ -12,7 +12,7 @@ use Rattle.sfi_image.specs.Spelling.{Part}
 use Rattle.sfi_image.specs.Spans.{AreApart, code_region, guarded_region}
 use Rattle.sfi_image.specs.Regions.{IsBundleStart}
 use Rattle.sfi_image.specs.Parts.{IsRightPart}
-use Rattle.sfi_check.specs.Regions.{HasReserved, HasStack}
+use Rattle.sfi_check.specs.Regions.{HasReserved, StackInData}
 use Rattle.sfi_check.specs.Runs.{Turn, IsTurn, IsEntry, after_turn}
 use Rattle.sfi_check.specs.Safety.{IsSafeState, IsSafeTurn, RunsSafelyFrom, RunsSafely}
 use Rattle.sfi_check.specs.Stack.{GoesSafelyFrom, CallsWithStack}
@@ -60,12 +60,12 @@ SafeFetches =
 abbrev pub CanBeEntered : Type 0
 CanBeEntered =
     (p : Part) (h : Hart) → IsRightPart p → AreApart (code_region p) (guarded_region p) → ((k : ℕ) → slice_index p.code k < 256)
-    → IsHart h → IsBundleStart (code_region p) h.pc → HasReserved p h.registers → HasStack p h.registers
+    → IsHart h → IsBundleStart (code_region p) h.pc → HasReserved p h.registers → StackInData p h.registers
     → (m : Bytes) × IsEntry p (record { hart = h; memory = m })
 
 -- in the first format nothing is asked of x2, at an entry, after a reply or at a call
 abbrev pub FirstFormatAsksNoStack : Type 0
-FirstFormatAsksNoStack = (p : Part) (registers : List ℕ) → p.format ≡ Sfi1 → HasStack p registers
+FirstFormatAsksNoStack = (p : Part) (registers : List ℕ) → p.format ≡ Sfi1 → StackInData p registers
 
 -- in every run from every entry each call is made with the stack pointer in the data region
 abbrev pub CleanCallsWithStack : Type 0

@@ -10,7 +10,7 @@ use Rattle.sfi_scan.specs.Bundles.{place_of, bundle_bytes}
 use Rattle.sfi_scan.specs.Readings.{Piece, IsReading, rest_of}
 use Rattle.sfi_scan.specs.Stack.{begins_pair, ends_pair}
 use Rattle.sfi_scan.specs.Findings.{findings_from, AreFindings}
-use Rattle.sfi_check.specs.Regions.{InData, HasReserved, HasStack, HasCode, HasEmptyGuards}
+use Rattle.sfi_check.specs.Regions.{InData, HasReserved, StackInData, HasCode, HasEmptyGuards}
 use Rattle.sfi_check.specs.Leaving.{Leaves}
 
 -- the part of the sandbox of that number has a right layout, its code lies apart from its data and guards, and no rule is broken in it
@@ -28,9 +28,9 @@ pub record KeepsAll (p : Part) (s : State) : Type 0 where
 
 -- A stack pointer lies in the data region at each bundle's end. Before, it lies there, or the pair that puts it there stands here, or has begun directly
 -- before. (`later` has the instruction here and those after it.)
-abbrev pub HasStackBefore : Part → List Instr → List Piece → List ℕ → Type 0
-HasStackBefore p earlier [] registers = HasStack p registers
-HasStackBefore p earlier (here ∷ later) registers =
+abbrev pub StackInDataBefore : Part → List Instr → List Piece → List ℕ → Type 0
+StackInDataBefore p earlier [] registers = StackInData p registers
+StackInDataBefore p earlier (here ∷ later) registers =
     has_stack p.format ≡ true → InData p (slice_index registers 2) ⊎ ((begins_pair here.instr later || ends_pair earlier here.instr) ≡ true)
 
 -- pc is at an offset of a bundle from which the rest is read whole and has no finding, if `earlier` stood before it. That is any list, the nearest first,
@@ -48,7 +48,7 @@ pub record IsAtPlace (sandbox : ℕ) (p : Part) (h : Hart) : Type 0 where
   pub pc : h.pc ≡ p.code_base + 16 * number + offset
   pub first : earlier ≡ [] → offset ≡ 0
   pub leaves : Leaves p earlier h.registers
-  pub stack : HasStackBefore p earlier (here ∷ later) h.registers
+  pub stack : StackInDataBefore p earlier (here ∷ later) h.registers
 
 -- a good state: it has what all turns keep, and stands at a good place
 pub record IsGood (sandbox : ℕ) (p : Part) (s : State) : Type 0 where

@@ -30,8 +30,8 @@ pub record HasReserved (p : Part) (registers : List ℕ) : Type 0 where
   pub x27 : slice_index registers 27 ≡ p.data_size - 1
 
 -- where its format has a stack pointer, x2 lies in the data region; else nothing is asked
-abbrev pub HasStack : Part → List ℕ → Type 0
-HasStack p registers = has_stack p.format ≡ true → InData p (slice_index registers 2)
+abbrev pub StackInData : Part → List ℕ → Type 0
+StackInData p registers = has_stack p.format ≡ true → InData p (slice_index registers 2)
 
 -- at each code address is the image's byte
 abbrev pub HasCode : Part → Bytes → Type 0

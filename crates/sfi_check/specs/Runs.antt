@@ -9,14 +9,14 @@ use Rattle.rv_step.specs.Step.{Stepped, Stands, IsStep}
 use Rattle.sfi_image.specs.Spelling.{Part}
 use Rattle.sfi_image.specs.Spans.{code_region}
 use Rattle.sfi_image.specs.Regions.{IsBundleStart}
-use Rattle.sfi_check.specs.Regions.{InCode, InGuard, HasReserved, HasStack, HasCode, HasEmptyGuards}
+use Rattle.sfi_check.specs.Regions.{InCode, InGuard, HasReserved, StackInData, HasCode, HasEmptyGuards}
 
 -- A sandbox may be entered here: at any bundle start, with the reserved registers set and a stack pointer in the data. All else is arbitrary.
 pub record IsEntry (p : Part) (s : State) : Type 0 where
   pub state : IsState s
   pub start : IsBundleStart (code_region p) s.hart.pc
   pub reserved : HasReserved p s.hart.registers
-  pub stack : HasStack p s.hart.registers
+  pub stack : StackInData p s.hart.registers
   pub code : HasCode p s.memory
   pub guards : HasEmptyGuards p s.memory
 
@@ -34,24 +34,24 @@ pub record KeepsReserved (before after : Hart) : Type 0 where
   pub x26 : register after 26 ≡ register before 26
   pub x27 : register after 27 ≡ register before 27
 
--- a reply to the ecall at pc: it goes on behind that, with a stack pointer in the data. The other registers and all other memory are arbitrary.
+-- a reply to the ecall at pc: it goes on after that, with a stack pointer in the data. The other registers and all other memory are arbitrary.
 pub record IsReply (p : Part) (before after : State) : Type 0 where
   pub size : ℕ
   pub asked : Stands before Ecall size
   pub state : IsState after
   pub pc : after.hart.pc ≡ address_after before.hart.pc 4
   pub reserved : KeepsReserved before.hart after.hart
-  pub stack : HasStack p after.hart.registers
+  pub stack : StackInData p after.hart.registers
   pub bytes : KeepsBytes p before.memory after.memory
 
--- A change of the memory alone, by others. All other memory is arbitrary: it need not even be bytes, so that the states behind it may be none of a real
+-- A change of the memory alone, by others. All other memory is arbitrary: it need not even be bytes, so that the states after it may be none of a real
 -- machine, and what is said of runs holds of them too.
 pub record IsChange (p : Part) (before after : State) : Type 0 where
   pub pc : after.hart.pc ≡ before.hart.pc
   pub registers : after.hart.registers ≡ before.hart.registers
   pub bytes : KeepsBytes p before.memory after.memory
 
--- a step of the machine, a reply, or a change by others; the last two with the state behind them
+-- a step of the machine, a reply, or a change by others; the last two with the state after them
 pub data Turn : Type 0 where
   Steps : Stepped → Turn
   Replies : State → Turn
@@ -63,19 +63,19 @@ IsTurn p s (Steps r) = IsStep s r
 IsTurn p s (Replies after) = IsReply p s after
 IsTurn p s (Changes after) = IsChange p s after
 
--- the state behind a step: a trap ends the run
+-- the state after a step: a trap ends the run
 abbrev pub after_step : Outcome → State → Option State
 after_step Next after = Some after
 after_step Call after = Some after
 after_step (Trap cause at) after = None
 
--- the state behind a turn, if the run goes on
+-- the state after a turn, if the run goes on
 abbrev pub after_turn : Turn → Option State
 after_turn (Steps r) = after_step r.outcome r.state
 after_turn (Replies after) = Some after
 after_turn (Changes after) = Some after
 
--- turns that follow one another from a state: behind a trap there are none
+-- turns that follow one another from a state: after a trap there are none
 abbrev pub IsRun : Part → Option State → List Turn → Type 0
 IsRun p s [] = Unit {0}
 IsRun p None (turn ∷ turns) = ⊥

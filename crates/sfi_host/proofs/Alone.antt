@@ -123,7 +123,7 @@ module _ (machine : Machine) where
 
   -- ---- a plan
 
-  -- the slot alone, behind the turns that were begun
+  -- the slot alone, after the turns that were begun
   abbrev IsAlone : {S : Type 0} → List Turn → Joined S → ℕ → Slot → Type 0
   IsAlone plan all i slot = slice_get all.slots i ≡ slice_get (joined machine replay (turns_of i (take all.turns plan)) (slot ∷ []) (replies_to i all.replies)).slots 0
 
@@ -136,7 +136,7 @@ module _ (machine : Machine) where
   unfolding joined
   joined_none slots l = refl
 
-  -- behind its own turn that doesn't end the run
+  -- after its own turn that doesn't end the run
   own_goes : (n : Moved (List Reply)) (t : Then) (slot x : Slot) (l : List Reply) (rest : List Slot → List Reply → Joined (List Reply)) → n.next ≡ t → t ≢ RunEnds → n.slot ≡ x → n.host ≡ l
       → slice_get (and_plan n.next 0 n (slot ∷ []) rest).slots 0 ≡ slice_get (rest (x ∷ []) l).slots 0
   own_goes n More slot x l rest e g u v = ap (λ y. slice_get (and_plan y 0 n (slot ∷ []) rest).slots 0) e ∙ ap (λ y. slice_get (rest (y ∷ []) n.host).slots 0) u ∙ ap (λ y. slice_get (rest (x ∷ []) y).slots 0) v
@@ -147,7 +147,7 @@ module _ (machine : Machine) where
       → slice_get (and_plan n.next 0 n (slot ∷ []) rest).slots 0 ≡ Some x
   own_ends n slot x rest e u = ap (λ y. slice_get (and_plan y 0 n (slot ∷ []) rest).slots 0) e ∙ ap Some u
 
-  -- its own turn, behind which the plan goes on
+  -- its own turn, after which the plan goes on
   own_more : {S : Type 0} (host : Host S) (t : Turn) (plan : List Turn) (slots : List Slot) (s : S) (i : ℕ) (slot : Slot) (then : Then) (rest : List Slot → S → Joined S)
       → (t.sandbox == i) ≡ true → t.sandbox ≡ i → slice_get slots i ≡ Some slot → (turned machine host t.sandbox t.steps slot s).next ≡ then → then ≢ RunEnds
       → ((slots : List Slot) (s : S) (slot : Slot) → slice_get slots i ≡ Some slot → IsAlone plan (rest slots s) i slot)
@@ -181,7 +181,7 @@ module _ (machine : Machine) where
       ∙ ap (λ j. slice_get j.slots 0) (joined_one t.steps slot (m.replies ++ []) [])
       ∙ own_ends (turned machine replay 0 t.steps slot (m.replies ++ [])) slot m.slot (joined machine replay []) (f.next ∙ is) f.slot)
 
-  -- another's turn, behind which the plan goes on
+  -- another's turn, after which the plan goes on
   other_more : {S : Type 0} (t : Turn) (plan : List Turn) (slots : List Slot) (i : ℕ) (slot : Slot) (gs : List Given) (rs : List Reply) → gs ≡ given t.sandbox rs → (j : Joined S)
       → (t.sandbox == i) ≡ false → IsAlone plan j i slot → IsAlone (t ∷ plan) (after_turn gs j) i slot
   other_more t plan slots i slot gs rs is j b before =

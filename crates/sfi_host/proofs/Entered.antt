@@ -201,7 +201,7 @@ module _ (laws : Laws) where
       all_outside ps (with_part m p) a (tail p ps lie) (λ i q e. out (suc i) q e)
       ∙ part_outside m p (lie.each 0 p refl) a (out 0 p refl).0 (out 0 p refl).1
 
-  -- what one sandbox has at an address, those behind it leave
+  -- what one sandbox has at an address, those after it leave
   left : (p : Part) (ps : List Part) (m : Bytes) (a : ℕ) → LieApart (p ∷ ps) → (InCode p a ⊎ InData p a) → byte_at (with_parts (with_part m p) ps) a ≡ byte_at (with_part m p) a
   left p ps m a lie h = all_outside ps (with_part m p) a (tail p ps lie) (λ i q e.
       let apart : Apart p q = lie.others 0 (suc i) p q (λ z. omega arith) refl e in

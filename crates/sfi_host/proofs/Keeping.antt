@@ -3,12 +3,12 @@ use Rattle.std.proofs.Common.{◌≡◌, ◌≢◌, ℕ, ◌+◌, ◌<◌, ◌�
 use Rattle.std.specs.Prelude.{slice_index, slice_set}
 use Rattle.rv_word.specs.declared.instr.Instr.TheVariants.{Ecall}
 use Rattle.rv_mem.specs.Bytes.{Bytes, IsMemory, byte_at, address_after}
-use Rattle.rv_step.specs.State.{Hart, IsHart, IsState, behind}
+use Rattle.rv_step.specs.State.{Hart, IsHart, IsState, past}
 use Rattle.rv_step.specs.Step.{Stands}
 use Rattle.sfi_image.specs.Formats.{has_stack}
 use Rattle.sfi_image.specs.Spelling.{Part}
 use Rattle.sfi_image.specs.Spans.{Holds, AreApart}
-use Rattle.sfi_check.specs.Regions.{InCode, InData, InGuard, HasCode, HasStack}
+use Rattle.sfi_check.specs.Regions.{InCode, InData, InGuard, HasCode, StackInData}
 use Rattle.sfi_check.specs.Runs.{Replies, Changes, KeepsBytes, KeepsReserved, IsReply}
 use Rattle.sfi_check.specs.Laws.{GoesOnSafely}
 use Rattle.sfi_host.specs.declared.status.Status.{Status}
@@ -19,7 +19,7 @@ use Rattle.sfi_host.specs.Hosts.{Way, Replied, Yield, Exit}
 use Rattle.sfi_host.specs.Joint.{with_arguments, after_way, status_after}
 use Rattle.sfi_host.specs.Laws.{CallsHaveStack, AnswersAreReplies}
 use Rattle.sfi_host.specs.Stops.{StoppedItself}
-use Rattle.sfi_host.specs.Worlds.{Seat, machine_of, IsSafeSeat, StaysOutside, with_guards}
+use Rattle.sfi_host.specs.Worlds.{Seat, state_in, IsSafeSeat, StaysOutside, with_guards}
 use Rattle.sfi_host.proofs.Stops.{stopped_still}
 
 -- ---- the code of a part
@@ -77,22 +77,22 @@ module _ (m : Bytes) (s : Seat) (seat : IsSafeSeat m s) where
       guards = λ a guard empty. stays a (guard_not_data a guard) ∙ empty;
     }
 
-    -- a hart that goes on behind the ecall
-    pub is_reply : (size : ℕ) → Stands (machine_of m s) Ecall size → (n : Bytes) (h : Hart) → StaysOutside s.bounds.data m n → IsState (record { hart = h; memory = n })
-        → h.pc ≡ address_after s.hart.pc 4 → KeepsReserved s.hart h → HasStack p h.registers → IsReply p (machine_of m s) (record { hart = h; memory = n })
+    -- a hart that goes on after the ecall
+    pub is_reply : (size : ℕ) → Stands (state_in m s) Ecall size → (n : Bytes) (h : Hart) → StaysOutside s.bounds.data m n → IsState (record { hart = h; memory = n })
+        → h.pc ≡ address_after s.hart.pc 4 → KeepsReserved s.hart h → StackInData p h.registers → IsReply p (state_in m s) (record { hart = h; memory = n })
     is_reply size stands n h stays state pc reserved stack =
         record { size = size; asked = stands; state = state; pc = pc; reserved = reserved; stack = stack; bytes = own_kept n stays }
 
     -- a ready sandbox that stands at an ecall has its stack pointer in its data
-    pub stack_lies : s.status ≡ Ready → (size : ℕ) → Stands (machine_of m s) Ecall size → HasStack p s.hart.registers
+    pub stack_lies : s.status ≡ Ready → (size : ℕ) → Stands (state_in m s) Ecall size → StackInData p s.hart.registers
     stack_lies ready size stands has =
         let same_bounds : bounds_of seat.part ≡ bounds_of p = sym seat.bounds ∙ is in
         let has' : has_stack seat.part.format ≡ true = ap (λ (b : Bounds). has_stack b.format) same_bounds ∙ has in
-        let inside : InData seat.part (slice_index s.hart.registers 2) = (seat.safe ready).calls.lies [] (machine_of m s) size tt refl stands has' in
+        let inside : InData seat.part (slice_index s.hart.registers 2) = (seat.safe ready).calls.lies [] (state_in m s) size tt refl stands has' in
         subst (λ (b : Bounds). Holds b.data (slice_index s.hart.registers 2)) same_bounds inside
 
     -- where a stack pointer lies at a call it lies after it
-    pub stack_kept : HasStack p s.hart.registers → (h : Hart) → slice_index h.registers 2 ≡ slice_index s.hart.registers 2 → HasStack p h.registers
+    pub stack_kept : StackInData p s.hart.registers → (h : Hart) → slice_index h.registers 2 ≡ slice_index s.hart.registers 2 → StackInData p h.registers
     stack_kept lies h same has = subst (λ (a : ℕ). InData p a) (sym same) (lies has)
 
   -- ---- a change by others
@@ -106,7 +106,7 @@ module _ (m : Bytes) (s : Seat) (seat : IsSafeSeat m s) where
     code = code_stays seat.part m n keeps seat.code;
     guards = λ a guard. keeps.guards a guard (seat.guards a guard);
     has_data = whole;
-    safe = λ ready. on seat.part (machine_of m s) (machine_of n s) (Changes (machine_of n s)) (seat.safe ready)
+    safe = λ ready. on seat.part (state_in m s) (state_in n s) (Changes (state_in n s)) (seat.safe ready)
         (record { pc = refl; registers = refl; bytes = keeps }) refl;
     stopped = stopped_still s.bounds m n (λ a inside. keeps.code a (in_part a inside)) s.hart s.status seat.stopped;
   }
@@ -118,9 +118,9 @@ module _ (m : Bytes) (s : Seat) (seat : IsSafeSeat m s) where
   pub own_changed : GoesOnSafely → (n : Bytes) → StaysOutside s.bounds.data m n → IsWhole s.bounds.data n → IsSafeSeat n s
   own_changed on n stays whole = changed on n (own_kept seat.part seat.bounds n stays) whole
 
-  -- ---- behind a reply
+  -- ---- after a reply
 
-  pub replied : GoesOnSafely → s.status ≡ Ready → (size : ℕ) → Stands (machine_of m s) Ecall size
+  pub replied : GoesOnSafely → s.status ≡ Ready → (size : ℕ) → Stands (state_in m s) Ecall size
       → (n : Bytes) (h : Hart) (steps : ℕ) → IsMemory n → StaysOutside s.bounds.data m n → IsWhole s.bounds.data n
       → IsHart h → h.pc ≡ address_after s.hart.pc 4 → KeepsReserved s.hart h → slice_index h.registers 2 ≡ slice_index s.hart.registers 2
       → IsSafeSeat n (record { bounds = s.bounds; hart = h; status = s.status; steps = steps })
@@ -132,7 +132,7 @@ module _ (m : Bytes) (s : Seat) (seat : IsSafeSeat m s) where
     code = code_stays seat.part m n (own_kept seat.part seat.bounds n stays) seat.code;
     guards = λ a guard. (own_kept seat.part seat.bounds n stays).guards a guard (seat.guards a guard);
     has_data = whole;
-    safe = λ still. on seat.part (machine_of m s) (record { hart = h; memory = n }) (Replies (record { hart = h; memory = n })) (seat.safe ready)
+    safe = λ still. on seat.part (state_in m s) (record { hart = h; memory = n }) (Replies (record { hart = h; memory = n })) (seat.safe ready)
         (is_reply seat.part seat.bounds size stands n h stays (record { hart = hart; memory = memory }) pc reserved (stack_kept seat.part seat.bounds (stack_lies seat.part seat.bounds ready size stands) h stack)) refl;
     stopped = subst (λ (x : Status). StoppedItself s.bounds (record { hart = h; memory = n }) x) (sym ready) tt;
   }
@@ -142,7 +142,7 @@ module _ (m : Bytes) (s : Seat) (seat : IsSafeSeat m s) where
   code_same n stays a inside = (own_kept seat.part seat.bounds n stays).code a (subst (λ (b : Bounds). Holds b.code a) seat.bounds inside)
 
   -- one that has stopped itself is safe, whatever its registers hold
-  pub halted : (n : Bytes) (t : Seat) → t.bounds ≡ s.bounds → t.status ≢ Ready → StoppedItself s.bounds (machine_of n t) t.status → StaysOutside s.bounds.data m n → IsWhole s.bounds.data n → IsSafeSeat n t
+  pub halted : (n : Bytes) (t : Seat) → t.bounds ≡ s.bounds → t.status ≢ Ready → StoppedItself s.bounds (state_in n t) t.status → StaysOutside s.bounds.data m n → IsWhole s.bounds.data n → IsSafeSeat n t
   halted n t same not_ready stopped stays whole = record {
     part = seat.part;
     bounds = same ∙ seat.bounds;
@@ -152,14 +152,14 @@ module _ (m : Bytes) (s : Seat) (seat : IsSafeSeat m s) where
     guards = λ a guard. (own_kept seat.part seat.bounds n stays).guards a guard (seat.guards a guard);
     has_data = subst (λ (b : Bounds). IsWhole b.data n) (sym same) whole;
     safe = λ ready. absurd (not_ready ready);
-    stopped = subst (λ (b : Bounds). StoppedItself b (machine_of n t) t.status) (sym same) stopped;
+    stopped = subst (λ (b : Bounds). StoppedItself b (state_in n t) t.status) (sym same) stopped;
   }
 
 -- a0 and a1 are none of the reserved registers
 kept_register : (registers : List ℕ) (a0 a1 r : ℕ) → r ≢ 10 → r ≢ 11 → slice_index (slice_set (slice_set registers 10 a0) 11 a1) r ≡ slice_index registers r
 kept_register registers a0 a1 r n k = get_or-set_other (slice_set registers 10 a0) 11 r a1 0 k ∙ get_or-set_other registers 10 r a0 0 n
 
-pub arguments_keep : (h : Hart) (a0 a1 : ℕ) → KeepsReserved h (behind (with_arguments h a0 a1) 4)
+pub arguments_keep : (h : Hart) (a0 a1 : ℕ) → KeepsReserved h (past (with_arguments h a0 a1) 4)
 arguments_keep h a0 a1 = record {
   x24 = kept_register h.registers a0 a1 24 (λ e. omega arith) (λ e. omega arith);
   x25 = kept_register h.registers a0 a1 25 (λ e. omega arith) (λ e. omega arith);
@@ -167,7 +167,7 @@ arguments_keep h a0 a1 = record {
   x27 = kept_register h.registers a0 a1 27 (λ e. omega arith) (λ e. omega arith);
 }
 
-pub stack_argument : (h : Hart) (a0 a1 : ℕ) → slice_index (behind (with_arguments h a0 a1) 4).registers 2 ≡ slice_index h.registers 2
+pub stack_argument : (h : Hart) (a0 a1 : ℕ) → slice_index (past (with_arguments h a0 a1) 4).registers 2 ≡ slice_index h.registers 2
 stack_argument h a0 a1 = kept_register h.registers a0 a1 2 (λ e. omega arith) (λ e. omega arith)
 
 -- ---- a reply in the words of runs

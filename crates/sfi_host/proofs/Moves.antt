@@ -17,7 +17,7 @@ use Rattle.sfi_host.specs.declared.status.Status.TheVariants.{Ready, Exited, Tra
 use Rattle.sfi_host.specs.Regions.{IsWhole}
 use Rattle.sfi_host.specs.Slots.{Bounds, Slot, bounds_of}
 use Rattle.sfi_host.specs.Hosts.{Reply, Replied}
-use Rattle.sfi_host.specs.Worlds.{Seat, Sandboxes, slot_of, slots_of, machine_of, IsSafeSeat, IsSafeWorld, StaysOutside, StaysOutsideData}
+use Rattle.sfi_host.specs.Worlds.{Seat, Sandboxes, slot_of, slots_of, state_in, IsSafeSeat, IsSafeWorld, StaysOutside, StaysOutsideData}
 use Rattle.sfi_host.specs.Moves.{IsOwnTurn, StepLeads, Leads, TakesTurn, Move, after_move, IsMove, AreMoves, own_turns, turns_to, IsRunBetween, MovesAreRuns, OthersLeaveSlots}
 use Rattle.sfi_host.specs.Steps.{IsOwnStep, StepsAreOwn}
 use Rattle.sfi_host.specs.Stops.{StoppedItself}
@@ -47,7 +47,7 @@ module _ (on : GoesOnSafely) (own : StepsAreOwn) where
   -- ---- one turn
 
   module _ (m : Bytes) (s : Seat) (seat : IsSafeSeat m s) (ready : s.status ≡ Ready) where
-    is_turn : (turn : Turn) → IsOwnTurn m s turn → (p : Part) → s.bounds ≡ bounds_of p → IsTurn p (machine_of m s) turn
+    is_turn : (turn : Turn) → IsOwnTurn m s turn → (p : Part) → s.bounds ≡ bounds_of p → IsTurn p (state_in m s) turn
     is_turn (Steps r) own p is = own
     is_turn (Replies after) own p is =
         let reply : Reply = record { way = Replied; a0 = own.a0; a1 = own.a1; bytes = after.memory } in
@@ -56,22 +56,22 @@ module _ (on : GoesOnSafely) (own : StepsAreOwn) where
 
     -- what stopped it, if that turn did
     step_stopped : (r : Stepped) → IsOwnStep m s r → (n : Bytes) (t : Seat) → StaysOutside s.bounds.data m n
-        → (o : Outcome) → r.outcome ≡ o → StepLeads o r.state (machine_of n t) t.status → StoppedItself s.bounds (machine_of n t) t.status
-    step_stopped r is n t stays Next e leads = subst (λ (x : Status). StoppedItself s.bounds (machine_of n t) x) (sym leads.1) tt
+        → (o : Outcome) → r.outcome ≡ o → StepLeads o r.state (state_in n t) t.status → StoppedItself s.bounds (state_in n t) t.status
+    step_stopped r is n t stays Next e leads = subst (λ (x : Status). StoppedItself s.bounds (state_in n t) x) (sym leads.1) tt
     step_stopped r is n t stays (Trap cause at) e leads =
-        let same : machine_of n t ≡ machine_of m s = leads.0 ∙ is.stopped (λ f. cc) in
-        subst (λ (x : Status). StoppedItself s.bounds (machine_of n t) x) (sym leads.1)
+        let same : state_in n t ≡ state_in m s = leads.0 ∙ is.stopped (λ f. cc) in
+        subst (λ (x : Status). StoppedItself s.bounds (state_in n t) x) (sym leads.1)
         (subst (λ (x : State). StoppedItself s.bounds x (Trapped cause at)) (sym same) (is.trapped cause at e))
     step_stopped r is n t stays Call e leads =
         let called = is.called e in
         let pc : t.hart.pc ≡ s.hart.pc = leads.0 ∙ ap (λ (x : State). x.hart.pc) (is.stopped (λ f. cc)) in
-        subst (λ (x : Status). StoppedItself s.bounds (machine_of n t) x) (sym leads.2)
+        subst (λ (x : Status). StoppedItself s.bounds (state_in n t) x) (sym leads.2)
         (at_still s.bounds m n (keep.code_same m s seat n stays) s.hart t.hart Ecall pc (at_pc m s seat ready Ecall called.0 called.1))
 
     turn_stopped : (turn : Turn) → IsOwnTurn m s turn → (n : Bytes) (t : Seat) → StaysOutside s.bounds.data m n
-        → Leads turn (machine_of n t) t.status → StoppedItself s.bounds (machine_of n t) t.status
+        → Leads turn (state_in n t) t.status → StoppedItself s.bounds (state_in n t) t.status
     turn_stopped (Steps r) step n t stays leads = step_stopped r (own m s r seat ready step) n t stays r.outcome refl leads
-    turn_stopped (Replies after) answered n t stays leads = subst (λ (x : Status). StoppedItself s.bounds (machine_of n t) x) (sym leads.1) tt
+    turn_stopped (Replies after) answered n t stays leads = subst (λ (x : Status). StoppedItself s.bounds (state_in n t) x) (sym leads.1) tt
     turn_stopped (Changes after) none n t stays leads = absurd none
 
     pub takes_safe : (turn : Turn) (n : Bytes) (t : Seat) → t.bounds ≡ s.bounds → TakesTurn m s turn n t → IsSafeSeat n t
@@ -85,8 +85,8 @@ module _ (on : GoesOnSafely) (own : StepsAreOwn) where
           code = keep.code_stays seat.part m n keeps seat.code;
           guards = λ a guard. keeps.guards a guard (seat.guards a guard);
           has_data = subst (λ (b : Bounds). IsWhole b.data n) (sym same) takes.bytes.whole;
-          safe = λ still. on seat.part (machine_of m s) (machine_of n t) turn (seat.safe ready) (is_turn turn takes.own seat.part seat.bounds) (leads_there turn (machine_of n t) t.status takes.leads still);
-          stopped = subst (λ (b : Bounds). StoppedItself b (machine_of n t) t.status) (sym same) (turn_stopped turn takes.own n t takes.bytes.others takes.leads);
+          safe = λ still. on seat.part (state_in m s) (state_in n t) turn (seat.safe ready) (is_turn turn takes.own seat.part seat.bounds) (leads_there turn (state_in n t) t.status takes.leads still);
+          stopped = subst (λ (b : Bounds). StoppedItself b (state_in n t) t.status) (sym same) (turn_stopped turn takes.own n t takes.bytes.others takes.leads);
         }
 
   -- ---- one move
@@ -102,13 +102,13 @@ module _ (on : GoesOnSafely) (own : StepsAreOwn) where
     move_safe = world_safe w.bytes v.bytes w.seats v.number move.seat v.seat world move.there others_stay on
         (takes_safe w.bytes move.seat here move.ready v.turn v.bytes v.seat move.bounds move.takes) move.bounds
 
-    pub turn_is : (p : Part) → move.seat.bounds ≡ bounds_of p → IsTurn p (machine_of w.bytes move.seat) v.turn
+    pub turn_is : (p : Part) → move.seat.bounds ≡ bounds_of p → IsTurn p (state_in w.bytes move.seat) v.turn
     turn_is p is = is_turn w.bytes move.seat here move.ready v.turn move.takes.own p is
 
     pub own_keeps : (p : Part) → move.seat.bounds ≡ bounds_of p → KeepsBytes p w.bytes v.bytes
     own_keeps p is = keep.own_kept w.bytes move.seat here p is v.bytes others_stay
 
-    pub change_is : (i : ℕ) (s : Seat) (p : Part) → v.number ≢ i → slice_get w.seats i ≡ Some s → s.bounds ≡ bounds_of p → IsTurn p (machine_of w.bytes s) (Changes (machine_of v.bytes s))
+    pub change_is : (i : ℕ) (s : Seat) (p : Part) → v.number ≢ i → slice_get w.seats i ≡ Some s → s.bounds ≡ bounds_of p → IsTurn p (state_in w.bytes s) (Changes (state_in v.bytes s))
     change_is i s p ne at is = neighbours_are w v.number i move.seat s v.bytes p world ne move.there at others_stay is
 
     pub others_there : (i : ℕ) → v.number ≢ i → slice_get (set w.seats v.number v.seat) i ≡ slice_get w.seats i
@@ -141,12 +141,12 @@ module _ (on : GoesOnSafely) (own : StepsAreOwn) where
   -- ---- all of them, without what is said of safety
 
   pub record Between (p : Part) (w n : Sandboxes) (i : ℕ) (s : Seat) (turns : List Turn) : Type 0 where
-    pub run : IsRun p (Some (machine_of w.bytes s)) turns
+    pub run : IsRun p (Some (state_in w.bytes s)) turns
     pub kept : KeepsBytes p w.bytes n.bytes
     pub seat : Seat
     pub there : slice_get n.seats i ≡ Some seat
     pub bounds : seat.bounds ≡ s.bounds
-    pub leads : seat.status ≡ Ready → after_turns (Some (machine_of w.bytes s)) turns ≡ Some (machine_of n.bytes seat)
+    pub leads : seat.status ≡ Ready → after_turns (Some (state_in w.bytes s)) turns ≡ Some (state_in n.bytes seat)
 
   abbrev Goal : Sandboxes → Sandboxes → List Move → Type 0
   Goal w n moves = (i : ℕ) (s : Seat) (p : Part) → slice_get w.seats i ≡ Some s → s.bounds ≡ bounds_of p → Between p w n i s (turns_to i s moves)
@@ -177,9 +177,9 @@ module _ (on : GoesOnSafely) (own : StepsAreOwn) where
     own_move : v.number ≡ i → are.0.seat.bounds ≡ bounds_of p → v.seat.status ≡ Ready → Between p w n i are.0.seat (v.turn ∷ turns_to i v.seat moves)
     own_move at is still =
         let later = rest i v.seat p (there_at at) (are.0.bounds ∙ is) in
-        let leads = leads_there v.turn (machine_of v.bytes v.seat) v.seat.status are.0.takes.leads still in
+        let leads = leads_there v.turn (state_in v.bytes v.seat) v.seat.status are.0.takes.leads still in
         record {
-          run = (turn_is w v world are.0 p is, run_from p (after_turn v.turn) (machine_of v.bytes v.seat) (turns_to i v.seat moves) leads later.run);
+          run = (turn_is w v world are.0 p is, run_from p (after_turn v.turn) (state_in v.bytes v.seat) (turns_to i v.seat moves) leads later.run);
           kept = both_keep p w.bytes v.bytes n.bytes (own_keeps w v world are.0 p is) later.kept;
           seat = later.seat;
           there = later.there;
@@ -194,7 +194,7 @@ module _ (on : GoesOnSafely) (own : StepsAreOwn) where
     by_status (Trapped cause a) e at is = last_move at is (λ f. absurd (cc))
 
     -- a move of another
-    other_move : (s : Seat) → v.number ≢ i → slice_get w.seats i ≡ Some s → s.bounds ≡ bounds_of p → Between p w n i s (Changes (machine_of v.bytes s) ∷ turns_to i s moves)
+    other_move : (s : Seat) → v.number ≢ i → slice_get w.seats i ≡ Some s → s.bounds ≡ bounds_of p → Between p w n i s (Changes (state_in v.bytes s) ∷ turns_to i s moves)
     other_move s ne at is =
         let later = rest i s p (others_there w v world are.0 i ne ∙ at) is in
         let change = change_is w v world are.0 i s p ne at is in
@@ -210,7 +210,7 @@ module _ (on : GoesOnSafely) (own : StepsAreOwn) where
     any_move : (s : Seat) → slice_get w.seats i ≡ Some s → s.bounds ≡ bounds_of p → Between p w n i s (turns_to i s (v ∷ moves))
     any_move s at is =
         let mine = own_turns v.seat.status v.turn (turns_to i v.seat moves) in
-        let other = Changes (machine_of v.bytes s) ∷ turns_to i s moves in
+        let other = Changes (state_in v.bytes s) ∷ turns_to i s moves in
         elim (v.number == i) as (λ b. (v.number == i) ≡ b → Between p w n i s (cond b mine other)) [
           | true ↦ λ b.
               let e = eq_from_test v.number i b in
@@ -233,7 +233,7 @@ module _ (on : GoesOnSafely) (own : StepsAreOwn) where
     seat = s;
     there = ap (λ (x : Sandboxes). slice_get x.seats i) are ∙ at;
     bounds = refl;
-    leads = λ ready. ap (λ (x : Sandboxes). Some (machine_of x.bytes s)) (sym are);
+    leads = λ ready. ap (λ (x : Sandboxes). Some (state_in x.bytes s)) (sym are);
   }
   all_run (v ∷ moves) w n world are i s p at is =
       any_move w n v moves world are (all_run moves (after_move w v) n (move_safe w v world are.0) are.1) i p s at is
@@ -262,7 +262,7 @@ module _ (on : GoesOnSafely) (own : StepsAreOwn) where
       let here = world.each i s at in
       record {
         run = b.run;
-        safe = λ ready code. safe_run here.part p (sym here.bounds ∙ is) w.bytes here.code code (Some (machine_of w.bytes s)) (turns_to i s moves)
+        safe = λ ready code. safe_run here.part p (sym here.bounds ∙ is) w.bytes here.code code (Some (state_in w.bytes s)) (turns_to i s moves)
             ((here.safe ready).safe.safe (turns_to i s moves) (all_run moves w n world are i s here.part at here.bounds).run);
         kept = b.kept;
         seat = b.seat;

@@ -16,7 +16,7 @@ use Rattle.sfi_host.specs.declared.status.Status.TheVariants.{Ready}
 use Rattle.sfi_host.specs.Regions.{is_in}
 use Rattle.sfi_host.specs.Slots.{Bounds, is_own, own, state_of}
 use Rattle.sfi_host.specs.Joint.{Machine, IsMachine}
-use Rattle.sfi_host.specs.Worlds.{Seat, slot_of, machine_of, IsSafeSeat, StaysOutside}
+use Rattle.sfi_host.specs.Worlds.{Seat, slot_of, state_in, IsSafeSeat, StaysOutside}
 use Rattle.sfi_host.specs.Steps.{own_step, stepped_seat, IsOwnStep, StepsAreOwn}
 use Rattle.sfi_host.proofs.Keeping.{code_at}
 use Rattle.sfi_host.proofs.Stops.{trap_itself}
@@ -89,12 +89,12 @@ is_trap_not Next e t = t
 is_trap_not Call e t = t
 is_trap_not (Trap cause at) e t = cc
 
-module _ (laws : Laws) (m : Bytes) (s : Seat) (r : Stepped) (seat : IsSafeSeat m s) (ready : s.status ≡ Ready) (step : IsStep (machine_of m s) r) where
-  from : RunsSafelyFrom seat.part (machine_of m s)
+module _ (laws : Laws) (m : Bytes) (s : Seat) (r : Stepped) (seat : IsSafeSeat m s) (ready : s.status ≡ Ready) (step : IsStep (state_in m s) r) where
+  from : RunsSafelyFrom seat.part (state_in m s)
   from = (seat.safe ready).safe
 
-  both : IsSafeState seat.part (machine_of m s) × IsSafeStep seat.part (machine_of m s) r
-  both = laws.turns seat.part (machine_of m s) (Steps r) from step
+  both : IsSafeState seat.part (state_in m s) × IsSafeStep seat.part (state_in m s) r
+  both = laws.turns seat.part (state_in m s) (Steps r) from step
 
   in_data : (a : ℕ) → InData seat.part a → Holds s.bounds.data a
   in_data a h = subst (λ (b : Bounds). Holds b.data a) (sym seat.bounds) h
@@ -134,7 +134,7 @@ module _ (laws : Laws) (m : Bytes) (s : Seat) (r : Stepped) (seat : IsSafeSeat m
   found a (inl inside) = own_there s.bounds m a (own_data s.bounds a (in_data a inside))
   found a (inr guard) = own_missing s.bounds m a (guard_not_own a guard) ∙ sym (seat.guards a guard)
 
-  agrees : AgreeHere (machine_of m s) (state_of (slot_of m s)) both.0.present.instr both.0.present.size
+  agrees : AgreeHere (state_in m s) (state_of (slot_of m s)) both.0.present.instr both.0.present.size
   agrees =
       let here = both.0.present in
       record {
@@ -166,8 +166,8 @@ module _ (laws : Laws) (m : Bytes) (s : Seat) (r : Stepped) (seat : IsSafeSeat m
   stays_outside a out =
       let here = both.0.present in
       by_outcome
-      (λ done. laws.others (machine_of m s) here.instr here.size r a here.stands step (λ accesses. out (data_alone done a accesses)))
-      (λ stopped. ap (λ (x : State). byte_at x.memory a) (laws.stops (machine_of m s) r step stopped))
+      (λ done. laws.others (state_in m s) here.instr here.size r a here.stands step (λ accesses. out (data_alone done a accesses)))
+      (λ stopped. ap (λ (x : State). byte_at x.memory a) (laws.stops (state_in m s) r step stopped))
 
   safe_next : r.outcome ≡ Next → (steps : ℕ) → IsSafeSeat r.state.memory (stepped_seat s r steps)
   safe_next done steps = record {
@@ -179,21 +179,21 @@ module _ (laws : Laws) (m : Bytes) (s : Seat) (r : Stepped) (seat : IsSafeSeat m
         let there = code_at seat.part k below in
         stays_outside (seat.part.code_base + k) (λ inside. data_not_code _ (data_in _ inside) there) ∙ seat.code k below;
     guards = λ a guard. stays_outside a (λ inside. guard_not_data a guard (data_in a inside)) ∙ seat.guards a guard;
-    has_data = λ a inside. laws.none_goes (machine_of m s) r a step (seat.has_data a inside);
-    safe = λ e. laws.on seat.part (machine_of m s) r.state (Steps r) (seat.safe ready) step (ap (λ (o : Outcome). after_step o r.state) done);
+    has_data = λ a inside. laws.none_goes (state_in m s) r a step (seat.has_data a inside);
+    safe = λ e. laws.on seat.part (state_in m s) r.state (Steps r) (seat.safe ready) step (ap (λ (o : Outcome). after_step o r.state) done);
     stopped = tt;
   }
 
   -- ---- alone
 
   module _ (machine : Machine) (is : IsMachine machine) where
-    same : IsSameStep (machine_of m s) (state_of (slot_of m s)) r (machine (state_of (slot_of m s)))
-    same = laws.agree (machine_of m s) (state_of (slot_of m s)) both.0.present.instr both.0.present.size r (machine (state_of (slot_of m s))) agrees step (is.steps (state_of (slot_of m s)))
+    same : IsSameStep (state_in m s) (state_of (slot_of m s)) r (machine (state_of (slot_of m s)))
+    same = laws.agree (state_in m s) (state_of (slot_of m s)) both.0.present.instr both.0.present.size r (machine (state_of (slot_of m s))) agrees step (is.steps (state_of (slot_of m s)))
 
     nothing_else : (a : ℕ) → is_own s.bounds a ≡ false → byte_at (machine (state_of (slot_of m s))).state.memory a ≡ None
     nothing_else a out =
         let here = both.0.present in
-        let stands : Stands (state_of (slot_of m s)) here.instr here.size = laws.stands (machine_of m s) (state_of (slot_of m s)) here.instr here.size agrees in
+        let stands : Stands (state_of (slot_of m s)) here.instr here.size = laws.stands (state_in m s) (state_of (slot_of m s)) here.instr here.size agrees in
         by_outcome
         (λ done. laws.others (state_of (slot_of m s)) here.instr here.size (machine (state_of (slot_of m s))) a stands (is.steps (state_of (slot_of m s)))
         (λ accesses. true_false (is_own s.bounds a) (own_data s.bounds a (data_alone done a accesses)) out) ∙ own_missing s.bounds m a out)
@@ -209,8 +209,8 @@ module _ (laws : Laws) (m : Bytes) (s : Seat) (r : Stepped) (seat : IsSafeSeat m
     alone = alone;
     others = stays_outside;
     safe = safe_next;
-    stopped = laws.stops (machine_of m s) r step;
-    called = laws.ecalls (machine_of m s) r step;
+    stopped = laws.stops (state_in m s) r step;
+    called = laws.ecalls (state_in m s) r step;
     trapped = trap_itself m s seat ready r both.1 laws.effect step;
   }
 

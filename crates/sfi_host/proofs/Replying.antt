@@ -1,10 +1,10 @@
--- A sandbox behind an answered call is the slot that the definition makes.
+-- A sandbox after an answered call is the slot that the definition makes.
 use Rattle.std.proofs.Common.{◌≡◌, ◌≢◌, ℕ, Bool, refl, sym, ap, ◌∙◌}
 use Rattle.rv_mem.specs.Bytes.{Bytes, IsMemory}
 use Rattle.rv_word.specs.declared.instr.Instr.TheVariants.{Ecall}
 use Rattle.rv_comp.specs.declared.front.Front.TheVariants.{Read}
 use Rattle.rv_step.specs.declared.outcome.Outcome.TheVariants.{Call as Calls}
-use Rattle.rv_step.specs.State.{Hart, State, IsHart, register, behind}
+use Rattle.rv_step.specs.State.{Hart, State, IsHart, register, past}
 use Rattle.rv_step.specs.Step.{Stands}
 use Rattle.sfi_check.specs.Runs.{Steps, Replies}
 use Rattle.sfi_check.specs.Laws.{GoesOnSafely}
@@ -24,7 +24,7 @@ use Rattle.sfi_host.specs.Slots.{Bounds, Slot, one_more, own}
 use Rattle.sfi_host.specs.Joint.{service_at, call_of, with_arguments, with_data, replied, then_of}
 use Rattle.sfi_host.specs.Moves.{ChangesOwn, TakesSome}
 use Rattle.sfi_host.specs.Sandboxes.{seat_of, call_by, IsTold, IsNotTold, after_told, going_after, next_of, IsReplied, IsNotReplied}
-use Rattle.sfi_host.specs.Worlds.{slot_of, machine_of, IsSafeSeat, StaysOutside}
+use Rattle.sfi_host.specs.Worlds.{slot_of, state_in, IsSafeSeat, StaysOutside}
 use Rattle.sfi_host.proofs.Leaving.{data_of_own, put_back}
 use Rattle.sfi_host.proofs.Keeping as keep
 use Rattle.sfi_host.proofs.Stops.{at_still, at_pc}
@@ -55,8 +55,8 @@ asked_is number r m s e f x y =
 
 by_way : (m n : Bytes) (s : Sandbox) (t : Told) (r : Reply) (w : Way) → s.status ≡ Ready → t.a0 ≡ r.a0 → t.a1 ≡ r.a1 → own (seat_of s).bounds n ≡ with_data (seat_of s).bounds (own (seat_of s).bounds m) r.bytes
     → slot_of n (seat_of (after_told (spoken w) s t)) ≡ replied (slot_of m (seat_of s)) (record { way = w; a0 = r.a0; a1 = r.a1; bytes = r.bytes })
-by_way m n s t r Replied ready x y b = slot_from (seat_of s).bounds _ _ _ _ (one_more s.steps) _ _ (ap (λ (h : Hart). behind h 4) (arguments s.cpu _ _ _ _ x y)) ready b
-by_way m n s t r Yield ready x y b = slot_from (seat_of s).bounds _ _ _ _ (one_more s.steps) _ _ (ap (λ (h : Hart). behind h 4) (arguments s.cpu _ _ _ _ x y)) ready b
+by_way m n s t r Replied ready x y b = slot_from (seat_of s).bounds _ _ _ _ (one_more s.steps) _ _ (ap (λ (h : Hart). past h 4) (arguments s.cpu _ _ _ _ x y)) ready b
+by_way m n s t r Yield ready x y b = slot_from (seat_of s).bounds _ _ _ _ (one_more s.steps) _ _ (ap (λ (h : Hart). past h 4) (arguments s.cpu _ _ _ _ x y)) ready b
 by_way m n s t r (Exit k) ready x y b = slot_from (seat_of s).bounds _ _ _ _ (one_more s.steps) _ _ (arguments s.cpu _ _ _ _ x y) refl b
 
 next_way : (w : Way) → next_of (going_after (spoken w)) ≡ then_of w
@@ -118,7 +118,7 @@ still_ready gate.Yield s t goes e more ready = absurd (cc)
 still_ready (gate.Exit n) s t goes e more ready = absurd (cc)
 still_ready gate.Memory s t goes e more ready = absurd (cc)
 
-pub safe_after : GoesOnSafely → (m n : Bytes) (s : Sandbox) (t : Told) (a : GateAnswer) (size : ℕ) → IsSafeSeat m (seat_of s) → s.status ≡ Ready → Stands (machine_of m (seat_of s)) Ecall size
+pub safe_after : GoesOnSafely → (m n : Bytes) (s : Sandbox) (t : Told) (a : GateAnswer) (size : ℕ) → IsSafeSeat m (seat_of s) → s.status ≡ Ready → Stands (state_in m (seat_of s)) Ecall size
     → IsMemory n → StaysOutside (seat_of s).bounds.data m n → IsWhole (seat_of s).bounds.data n → (a ≢ gate.Memory → IsHart (after_told a s t).cpu)
     → IsSafeSeat n (seat_of (after_told a s t))
 safe_after on m n s t gate.Replied size seat ready stands memory stays whole hart =
@@ -134,13 +134,13 @@ safe_after on m n s t gate.Memory size seat ready stands memory stays whole hart
 
 -- ---- as a turn of its own
 
-module _ (m n : Bytes) (s : Sandbox) (t : Told) (size : ℕ) (ready : s.status ≡ Ready) (stands : Stands (machine_of m (seat_of s)) Ecall size) (memory : IsMemory n)
+module _ (m n : Bytes) (s : Sandbox) (t : Told) (size : ℕ) (ready : s.status ≡ Ready) (stands : Stands (state_in m (seat_of s)) Ecall size) (memory : IsMemory n)
     (changes : ChangesOwn (seat_of s) m n) where
-  -- it goes on behind the ecall
-  goes_on_after : (a : GateAnswer) → (after_told a s t).status ≡ Ready → (after_told a s t).cpu ≡ behind (with_arguments s.cpu t.a0 t.a1) 4 → IsHart (after_told a s t).cpu
+  -- it goes on after the ecall
+  goes_on_after : (a : GateAnswer) → (after_told a s t).status ≡ Ready → (after_told a s t).cpu ≡ past (with_arguments s.cpu t.a0 t.a1) 4 → IsHart (after_told a s t).cpu
       → TakesSome m (seat_of s) n (seat_of (after_told a s t))
   goes_on_after a still same hart =
-      let after : State = machine_of n (seat_of (after_told a s t)) in (
+      let after : State = state_in n (seat_of (after_told a s t)) in (
         Replies after,
         record {
           own = record {
@@ -161,7 +161,7 @@ module _ (m n : Bytes) (s : Sandbox) (t : Told) (size : ℕ) (ready : s.status �
   takes_after gate.Replied some hart = goes_on_after gate.Replied ready refl (hart some)
   takes_after gate.Yield some hart = goes_on_after gate.Yield ready refl (hart some)
   takes_after (gate.Exit k) some hart = (
-    Steps (record { outcome = Calls; state = machine_of m (seat_of s) }),
+    Steps (record { outcome = Calls; state = state_in m (seat_of s) }),
     record {
       own = record { front = Read Ecall size; at_pc = stands; result = refl };
       leads = (refl, k, refl);

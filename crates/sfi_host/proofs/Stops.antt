@@ -24,7 +24,7 @@ use Rattle.sfi_host.specs.declared.status.Status.{Status}
 use Rattle.sfi_host.specs.declared.status.Status.TheVariants.{Ready, Exited, Trapped}
 use Rattle.sfi_host.specs.Slots.{Bounds}
 use Rattle.sfi_host.specs.Stops.{InGuards, IsAt, TouchesGuard, StoppedItself}
-use Rattle.sfi_host.specs.Worlds.{Seat, Sandboxes, slots_of, status_at, machine_of, IsSafeSeat, IsSafeWorld, HaveStoppedThemselves}
+use Rattle.sfi_host.specs.Worlds.{Seat, Sandboxes, slots_of, status_at, state_in, IsSafeSeat, IsSafeWorld, HaveStoppedThemselves}
 
 -- ---- where the code stays, the instruction does
 
@@ -111,18 +111,18 @@ none_there (Some b) e some = cc
 -- ---- a safe sandbox that is ready
 
 module _ (m : Bytes) (s : Seat) (seat : IsSafeSeat m s) (ready : s.status ≡ Ready) where
-  here : IsSafeState seat.part (machine_of m s)
+  here : IsSafeState seat.part (state_in m s)
   here = (seat.safe ready).safe.safe [] tt
 
   -- each instruction at its pc lies in its code
-  pub at_pc : (i : Instr) (size : ℕ) → Stands (machine_of m s) i size → IsAt s.bounds (machine_of m s) i
+  pub at_pc : (i : Instr) (size : ℕ) → Stands (state_in m s) i size → IsAt s.bounds (state_in m s) i
   at_pc i size stands = record {
     size = size;
     stands = stands;
     within = λ k below. subst (λ (b : Bounds). Holds b.code (address_after s.hart.pc k)) (sym seat.bounds) (here.instruction i size stands k below);
   }
 
-  module _ (r : Stepped) (safe : IsSafeStep seat.part (machine_of m s) r) where
+  module _ (r : Stepped) (safe : IsSafeStep seat.part (state_in m s) r) where
     data_of : (a : ℕ) → InData seat.part a → Holds s.bounds.data a
     data_of a h = subst (λ (b : Bounds). Holds b.data a) (sym seat.bounds) h
 
@@ -130,8 +130,8 @@ module _ (m : Bytes) (s : Seat) (seat : IsSafeSeat m s) (ready : s.status ≡ Re
     guards_of a h = subst (λ (b : Bounds). InGuards b.data a) (sym seat.bounds) h
 
     -- an access at which a byte is missing
-    touches : (i : Instr) (size : ℕ) → Stands (machine_of m s) i size → (at count : ℕ) → accessed i s.hart ≡ addresses at count → bytes_at m (addresses at count) ≡ None
-        → TouchesGuard s.bounds (machine_of m s) at
+    touches : (i : Instr) (size : ℕ) → Stands (state_in m s) i size → (at count : ℕ) → accessed i s.hart ≡ addresses at count → bytes_at m (addresses at count) ≡ None
+        → TouchesGuard s.bounds (state_in m s) at
     touches i size stands at count are none =
         let x = missing_in m (addresses at count) none in
         let accesses : (a : ℕ) → Contains (addresses at count) a → Accesses i s.hart a = λ a c. subst (λ (l : List ℕ). Contains l a) (sym are) c in
@@ -151,9 +151,9 @@ module _ (m : Bytes) (s : Seat) (seat : IsSafeSeat m s) (ready : s.status ≡ Re
         }
 
     abbrev Stops : Cause → ℕ → Type 0
-    Stops c at = StoppedItself s.bounds (machine_of m s) (Trapped c at)
+    Stops c at = StoppedItself s.bounds (state_in m s) (Trapped c at)
 
-    by_load : (kind : LoadKind) (rd rs1 : ℕ) (imm : ℤ) (n : ℕ) → Stands (machine_of m s) (Load kind rd rs1 imm) n → (c : Cause) (at : ℕ) (o : Option (List ℕ))
+    by_load : (kind : LoadKind) (rd rs1 : ℕ) (imm : ℤ) (n : ℕ) → Stands (state_in m s) (Load kind rd rs1 imm) n → (c : Cause) (at : ℕ) (o : Option (List ℕ))
         → bytes_at m (addresses (plus (register s.hart rs1) imm) (load_size kind)) ≡ o
         → (after_load (option_map number_of o) kind rd (plus (register s.hart rs1) imm) n s.hart m).outcome ≡ Trap c at → Stops c at
     by_load kind rd rs1 imm n stands c at None none e =
@@ -161,10 +161,10 @@ module _ (m : Bytes) (s : Seat) (seat : IsSafeSeat m s) (ready : s.status ≡ Re
         let x : cause.Load ≡ c = cc in
         let y : from ≡ at = cc in
         subst (λ (q : Cause). Stops q at) x
-        (subst (λ (a : ℕ). TouchesGuard s.bounds (machine_of m s) a) y (touches (Load kind rd rs1 imm) n stands from (load_size kind) refl none))
+        (subst (λ (a : ℕ). TouchesGuard s.bounds (state_in m s) a) y (touches (Load kind rd rs1 imm) n stands from (load_size kind) refl none))
     by_load kind rd rs1 imm n stands c at (Some bs) some e = absurd (cc)
 
-    by_store : (width : StoreWidth) (rs1 rs2 : ℕ) (imm : ℤ) (n : ℕ) (k : Hart) (w : Bytes) → Stands (machine_of m s) (Store width rs1 rs2 imm) n → (c : Cause) (at : ℕ) (o : Option (List ℕ))
+    by_store : (width : StoreWidth) (rs1 rs2 : ℕ) (imm : ℤ) (n : ℕ) (k : Hart) (w : Bytes) → Stands (state_in m s) (Store width rs1 rs2 imm) n → (c : Cause) (at : ℕ) (o : Option (List ℕ))
         → bytes_at m (addresses (plus (register s.hart rs1) imm) (store_size width)) ≡ o
         → (cond (is_some o) (next k w) (unchanged (Trap cause.Store (plus (register s.hart rs1) imm)) s.hart m)).outcome ≡ Trap c at → Stops c at
     by_store width rs1 rs2 imm n k w stands c at None none e =
@@ -172,10 +172,10 @@ module _ (m : Bytes) (s : Seat) (seat : IsSafeSeat m s) (ready : s.status ≡ Re
         let x : cause.Store ≡ c = cc in
         let y : from ≡ at = cc in
         subst (λ (q : Cause). Stops q at) x
-        (subst (λ (a : ℕ). TouchesGuard s.bounds (machine_of m s) a) y (touches (Store width rs1 rs2 imm) n stands from (store_size width) refl none))
+        (subst (λ (a : ℕ). TouchesGuard s.bounds (state_in m s) a) y (touches (Store width rs1 rs2 imm) n stands from (store_size width) refl none))
     by_store width rs1 rs2 imm n k w stands c at (Some bs) some e = absurd (cc)
 
-    by_instr : (i : Instr) (n : ℕ) → Stands (machine_of m s) i n → (c : Cause) (at : ℕ) → (effect i n s.hart m).outcome ≡ Trap c at → Stops c at
+    by_instr : (i : Instr) (n : ℕ) → Stands (state_in m s) i n → (c : Cause) (at : ℕ) → (effect i n s.hart m).outcome ≡ Trap c at → Stops c at
     by_instr (Op op rd rs1 rs2) n stands c at e = absurd (cc)
     by_instr (OpImm op rd rs1 imm) n stands c at e = absurd (cc)
     by_instr (Load kind rd rs1 imm) n stands c at e = by_load kind rd rs1 imm n stands c at (bytes_at m (addresses (plus (register s.hart rs1) imm) (load_size kind))) refl e
@@ -193,11 +193,11 @@ module _ (m : Bytes) (s : Seat) (seat : IsSafeSeat m s) (ready : s.status ≡ Re
         let y : s.hart.pc ≡ at = cc in
         subst (λ (q : Cause). Stops q at) x (at_pc Ebreak n stands, sym y)
 
-    pub trap_itself : StepIsEffect → IsStep (machine_of m s) r → (c : Cause) (at : ℕ) → r.outcome ≡ Trap c at → StoppedItself s.bounds (machine_of m s) (Trapped c at)
+    pub trap_itself : StepIsEffect → IsStep (state_in m s) r → (c : Cause) (at : ℕ) → r.outcome ≡ Trap c at → StoppedItself s.bounds (state_in m s) (Trapped c at)
     trap_itself is step c at e =
         let present = here.present in
         by_instr present.instr present.size present.stands c at
-        (ap (λ (x : Stepped). x.outcome) (sym (is (machine_of m s) present.instr present.size r present.stands step)) ∙ e)
+        (ap (λ (x : Stepped). x.outcome) (sym (is (state_in m s) present.instr present.size r present.stands step)) ∙ e)
 
 -- ---- a safe world
 
@@ -214,5 +214,5 @@ have_stopped w world i status e =
       seat = x.0;
       there = x.1;
       status_is = x.2;
-      itself = subst (λ (q : Status). StoppedItself x.0.bounds (machine_of w.bytes x.0) q) x.2 (world.each i x.0 x.1).stopped;
+      itself = subst (λ (q : Status). StoppedItself x.0.bounds (state_in w.bytes x.0) q) x.2 (world.each i x.0 x.1).stopped;
     }

@@ -11,7 +11,7 @@ use Rattle.sfi_check.specs.Safety.{RunsSafely, AllRunSafely}
 use Rattle.sfi_check.specs.Stack.{CallsWithStack, AllCallWithStack}
 use Rattle.sfi_host.specs.Slots.{bounds_of}
 use Rattle.sfi_host.specs.Loading.{first_hart, first_seat, with_parts, AreEntered, HaveFirstData}
-use Rattle.sfi_host.specs.Worlds.{Seat, machine_of, IsSafeSeat, LiesOutside, IsSafeWorld}
+use Rattle.sfi_host.specs.Worlds.{Seat, state_in, IsSafeSeat, LiesOutside, IsSafeWorld}
 use Rattle.sfi_host.proofs.Entered.{Laws, Apart, lie_apart, has_code, has_data, has_empty_guards, get_is, get_below, data_guarded}
 
 -- ---- the first hart
@@ -98,8 +98,8 @@ module _ (laws : Laws) (ps : List Part) (layout : IsRightLayout ps) (memory : Is
             let z : p.data_base + (a - p.data_base) ≡ a = omega arith in
             some_at (byte_at (with_parts empty ps) a) _ (ap (byte_at (with_parts empty ps)) (sym z) ∙ has_data laws ps empty i p lie e (a - p.data_base) (omega arith));
         safe = λ ready. record {
-          safe = runs.from (machine_of (with_parts empty ps) (first_seat p)) (entered i p e);
-          calls = (subst (λ (q : Part). CallsWithStack q) (get_is ps i p p e) (calls.each i p (get_below ps i p e))).from (machine_of (with_parts empty ps) (first_seat p)) (entered i p e);
+          safe = runs.from (state_in (with_parts empty ps) (first_seat p)) (entered i p e);
+          calls = (subst (λ (q : Part). CallsWithStack q) (get_is ps i p p e) (calls.each i p (get_below ps i p e))).from (state_in (with_parts empty ps) (first_seat p)) (entered i p e);
         };
         stopped = tt;
       }

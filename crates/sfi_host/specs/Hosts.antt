@@ -10,7 +10,7 @@ pub record Call : Type 0 where
   pub a1 : ℕ
   pub bytes : Bytes
 
--- how the caller goes on: behind the call, behind it but in its next turn, or not at all
+-- how the caller goes on: after the call, after it but in its next turn, or not at all
 pub data Way : Type 0 where
   Replied Yield : Way
   Exit : ℕ → Way
@@ -22,7 +22,7 @@ pub record Reply : Type 0 where
   pub a1 : ℕ
   pub bytes : Bytes
 
--- a reply, and the host's state behind it
+-- a reply, and the host's state after it
 pub record Answer (S : Type 0) : Type 0 where
   pub reply : Reply
   pub host : S

@@ -3,7 +3,7 @@ use Rattle.std.specs.Prelude.{ℕ, zero, suc, ◌==◌, cond, Bool, true, false,
 use Rattle.std.specs.FinMap.{from_entries, entries}
 use Rattle.std.specs.Ordering.{nat_cmp}
 use Rattle.rv_mem.specs.Bytes.{Bytes}
-use Rattle.rv_step.specs.State.{Hart, State, register, with_register, behind}
+use Rattle.rv_step.specs.State.{Hart, State, register, with_register, past}
 use Rattle.rv_step.specs.Step.{Stepped, IsStep}
 use Rattle.rv_step.specs.declared.outcome.Outcome.{Outcome}
 use Rattle.rv_step.specs.declared.outcome.Outcome.TheVariants as outcome
@@ -54,19 +54,19 @@ both m w = from_entries {R = nat_cmp} (entries m ++ entries w)
 abbrev pub with_data : Bounds → Bytes → Bytes → Bytes
 with_data b bytes others = both (bytes_in b.data others) (bytes_outside b.data bytes)
 
--- the pc goes on behind the ecall, or stays at an exit
+-- the pc goes on after the ecall, or stays at an exit
 abbrev pub after_way : Way → Hart → Hart
-after_way Replied h = behind h 4
-after_way Yield h = behind h 4
+after_way Replied h = past h 4
+after_way Yield h = past h 4
 after_way (Exit n) h = h
 
--- what a sandbox may do behind a reply
+-- what a sandbox may do after a reply
 abbrev pub status_after : Way → Status
 status_after Replied = Ready
 status_after Yield = Ready
 status_after (Exit n) = Exited n
 
--- a sandbox behind a reply, which counts as a step
+-- a sandbox after a reply, which counts as a step
 abbrev pub replied : Slot → Reply → Slot
 replied slot r = record {
   bounds = slot.bounds;
@@ -78,11 +78,11 @@ replied slot r = record {
 
 -- ---- one step
 
--- what comes behind a step: more of its turn, the turn's end, or the end of the whole run
+-- what comes after a step: more of its turn, the turn's end, or the end of the whole run
 pub data Then : Type 0 where
   More TurnEnds RunEnds : Then
 
--- a sandbox and its host behind a step or a turn, the replies that the sandbox got in it, and what comes then
+-- a sandbox and its host after a step or a turn, the replies that the sandbox got in it, and what comes then
 pub record Moved (S : Type 0) : Type 0 where
   pub slot : Slot
   pub host : S
@@ -93,7 +93,7 @@ pub record Moved (S : Type 0) : Type 0 where
 abbrev pub still : {S : Type 0} → Slot → S → Then → Moved S
 still slot s next = record { slot = slot; host = s; replies = []; next = next }
 
--- a turn goes on behind a reply, ends at a yield, and at an exit
+-- a turn goes on after a reply, ends at a yield, and at an exit
 abbrev pub then_of : Way → Then
 then_of Replied = More
 then_of Yield = TurnEnds
@@ -124,7 +124,7 @@ moved machine host i slot s = moved_if machine host i slot s slot.status
 
 -- ---- a turn
 
--- the same, behind replies that came before
+-- the same, after replies that came before
 abbrev pub after_replies : {S : Type 0} → List Reply → Moved S → Moved S
 after_replies earlier m = record { slot = m.slot; host = m.host; replies = earlier ++ m.replies; next = m.next }
 
@@ -150,7 +150,7 @@ pub record Given : Type 0 where
 abbrev pub given : ℕ → List Reply → List Given
 given i replies = map (λ r. record { to = i; reply = r }) replies
 
--- the sandboxes and the host behind a plan, the replies in their order, how many turns were begun, and whether a call ended the run
+-- the sandboxes and the host after a plan, the replies in their order, how many turns were begun, and whether a call ended the run
 pub record Joined (S : Type 0) : Type 0 where
   pub slots : List Slot
   pub host : S
@@ -158,7 +158,7 @@ pub record Joined (S : Type 0) : Type 0 where
   pub turns : ℕ
   pub is_ended : Bool
 
--- the same, behind a turn with its replies
+-- the same, after a turn with its replies
 abbrev pub after_turn : {S : Type 0} → List Given → Joined S → Joined S
 after_turn earlier j = record { slots = j.slots; host = j.host; replies = earlier ++ j.replies; turns = suc j.turns; is_ended = j.is_ended }
 

@@ -5,13 +5,13 @@ use Rattle.rv_mem.specs.Bytes.{Bytes}
 use Rattle.rv_step.specs.State.{State, IsState}
 use Rattle.rv_step.specs.Step.{Stands}
 use Rattle.sfi_image.specs.Spelling.{Part}
-use Rattle.sfi_check.specs.Regions.{HasStack}
+use Rattle.sfi_check.specs.Regions.{StackInData}
 use Rattle.sfi_check.specs.Runs.{IsReply, IsChange}
 use Rattle.sfi_host.specs.declared.status.Status.TheVariants.{Ready}
 use Rattle.sfi_host.specs.Hosts.{Reply}
 use Rattle.sfi_host.specs.Slots.{bounds_of}
 use Rattle.sfi_host.specs.Joint.{Machine, IsMachine, status_after, replied}
-use Rattle.sfi_host.specs.Worlds.{Seat, Sandboxes, slot_of, machine_of, IsSafeSeat, IsSafeWorld, StaysOutside}
+use Rattle.sfi_host.specs.Worlds.{Seat, Sandboxes, slot_of, state_in, IsSafeSeat, IsSafeWorld, StaysOutside}
 
 -- there is a machine
 abbrev pub SomeMachine : Type 0
@@ -26,19 +26,19 @@ abbrev pub NeighboursAreChanges : Type 0
 NeighboursAreChanges =
     (w : Sandboxes) (i j : ℕ) (s t : Seat) (new : Bytes) (p : Part) → IsSafeWorld w
     → i ≢ j → slice_get w.seats i ≡ Some s → slice_get w.seats j ≡ Some t → StaysOutside s.bounds.data w.bytes new → t.bounds ≡ bounds_of p
-    → IsChange p (machine_of w.bytes t) (machine_of new t)
+    → IsChange p (state_in w.bytes t) (state_in new t)
 
 -- a sandbox of a safe world that is ready and stands at an ecall has its stack pointer in its data, where its format has one
 abbrev pub CallsHaveStack : Type 0
 CallsHaveStack =
     (m : Bytes) (s : Seat) (size : ℕ) (p : Part) → IsSafeSeat m s → s.bounds ≡ bounds_of p
-    → s.status ≡ Ready → Stands (machine_of m s) Ecall size → HasStack p s.hart.registers
+    → s.status ≡ Ready → Stands (state_in m s) Ecall size → StackInData p s.hart.registers
 
 -- What a host's reply makes of a sandbox that goes on is a reply to its ecall: of the memory, its data alone may be changed. A stack pointer lies in the
 -- data already, as the law above says of a ready sandbox.
 abbrev pub AnswersAreReplies : Type 0
 AnswersAreReplies =
     (m : Bytes) (s : Seat) (r : Reply) (after : State) (size : ℕ) (p : Part) → IsSafeSeat m s → s.bounds ≡ bounds_of p
-    → HasStack p s.hart.registers → Stands (machine_of m s) Ecall size → status_after r.way ≡ Ready
+    → StackInData p s.hart.registers → Stands (state_in m s) Ecall size → status_after r.way ≡ Ready
     → IsState after → after.hart ≡ (replied (slot_of m s) r).hart → StaysOutside s.bounds.data m after.memory
-    → IsReply p (machine_of m s) after
+    → IsReply p (state_in m s) after

@@ -6,7 +6,7 @@ use Rattle.sfi_image.specs.Spelling.{Part}
 use Rattle.sfi_check.specs.Runs.{IsEntry}
 use Rattle.sfi_host.specs.declared.status.Status.TheVariants.{Ready}
 use Rattle.sfi_host.specs.Slots.{bounds_of}
-use Rattle.sfi_host.specs.Worlds.{Seat, machine_of}
+use Rattle.sfi_host.specs.Worlds.{Seat, state_in}
 
 -- pc at the start, and all registers 0
 abbrev pub bare_hart : Part → Hart
@@ -37,7 +37,7 @@ with_parts m (p ∷ ps) = with_parts (with_part m p) ps
 
 -- each sandbox is entered at its start, as it may be at any bundle
 abbrev pub AreEntered : List Part → Bytes → Type 0
-AreEntered ps m = (i : ℕ) (p : Part) → slice_get ps i ≡ Some p → IsEntry p (machine_of m (first_seat p))
+AreEntered ps m = (i : ℕ) (p : Part) → slice_get ps i ≡ Some p → IsEntry p (state_in m (first_seat p))
 
 -- each sandbox has its first data
 abbrev pub HaveFirstData : List Part → Bytes → Type 0

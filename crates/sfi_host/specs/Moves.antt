@@ -5,7 +5,7 @@ use Rattle.rv_word.specs.declared.instr.Instr.TheVariants.{Ecall}
 use Rattle.rv_mem.specs.Bytes.{Bytes}
 use Rattle.rv_step.specs.declared.outcome.Outcome.{Outcome}
 use Rattle.rv_step.specs.declared.outcome.Outcome.TheVariants.{Next, Call, Trap}
-use Rattle.rv_step.specs.State.{State, IsState, behind}
+use Rattle.rv_step.specs.State.{State, IsState, past}
 use Rattle.rv_step.specs.Step.{Stands, IsStep}
 use Rattle.sfi_image.specs.Spelling.{Part}
 use Rattle.sfi_check.specs.Regions.{HasCode}
@@ -18,7 +18,7 @@ use Rattle.sfi_host.specs.declared.turn.Turn.{Turn as PlanTurn}
 use Rattle.sfi_host.specs.Regions.{IsWhole}
 use Rattle.sfi_host.specs.Slots.{bounds_of}
 use Rattle.sfi_host.specs.Joint.{with_arguments}
-use Rattle.sfi_host.specs.Worlds.{Seat, Sandboxes, slots_of, machine_of, IsSafeWorld, StaysOutside, StaysOutsideData}
+use Rattle.sfi_host.specs.Worlds.{Seat, Sandboxes, slots_of, state_in, IsSafeWorld, StaysOutside, StaysOutsideData}
 
 -- ---- what a ready sandbox does
 
@@ -30,16 +30,16 @@ pub record ChangesOwn (s : Seat) (old new : Bytes) : Type 0 where
 -- it stands at an ecall, and goes on after it with a host's a0 and a1
 pub record GetsReply (m : Bytes) (s : Seat) (after : State) : Type 0 where
   pub size : ℕ
-  pub asked : Stands (machine_of m s) Ecall size
+  pub asked : Stands (state_in m s) Ecall size
   pub a0 : ℕ
   pub a1 : ℕ
   pub state : IsState after
-  pub hart : after.hart ≡ behind (with_arguments s.hart a0 a1) 4
+  pub hart : after.hart ≡ past (with_arguments s.hart a0 a1) 4
   pub bytes : ChangesOwn s m after.memory
 
 -- a turn of its own is a step of the machine, in the one memory, or a host's reply
 abbrev pub IsOwnTurn : Bytes → Seat → Turn → Type 0
-IsOwnTurn m s (Steps r) = IsStep (machine_of m s) r
+IsOwnTurn m s (Steps r) = IsStep (state_in m s) r
 IsOwnTurn m s (Replies after) = GetsReply m s after
 IsOwnTurn m s (Changes after) = ⊥
 
@@ -59,7 +59,7 @@ Leads (Changes after) now status = ⊥
 -- it takes a turn that leads to the seat t in the memory n, and changes its own data alone
 pub record TakesTurn (m : Bytes) (s : Seat) (turn : Turn) (n : Bytes) (t : Seat) : Type 0 where
   pub own : IsOwnTurn m s turn
-  pub leads : Leads turn (machine_of n t) t.status
+  pub leads : Leads turn (state_in n t) t.status
   pub bytes : ChangesOwn s m n
 
 -- ---- moves
@@ -103,19 +103,19 @@ turns_to i s [] = []
 turns_to i s (v ∷ moves) =
     cond (v.number == i)
     (own_turns v.seat.status v.turn (turns_to i v.seat moves))
-    (Changes (machine_of v.bytes s) ∷ turns_to i s moves)
+    (Changes (state_in v.bytes s) ∷ turns_to i s moves)
 
 -- The turns are a run of the sandbox from the first world, and where it was ready a safe run of the part whose code
 -- it has. Its code and its empty guard zones are kept, it lies where it lay, and if it is ready in
 -- the second world the turns lead it to where it is there.
 pub record IsRunBetween (p : Part) (w n : Sandboxes) (i : ℕ) (s : Seat) (turns : List Turn) : Type 0 where
-  pub run : IsRun p (Some (machine_of w.bytes s)) turns
-  pub safe : s.status ≡ Ready → HasCode p w.bytes → IsSafeRun p (Some (machine_of w.bytes s)) turns
+  pub run : IsRun p (Some (state_in w.bytes s)) turns
+  pub safe : s.status ≡ Ready → HasCode p w.bytes → IsSafeRun p (Some (state_in w.bytes s)) turns
   pub kept : KeepsBytes p w.bytes n.bytes
   pub seat : Seat
   pub there : slice_get n.seats i ≡ Some seat
   pub bounds : seat.bounds ≡ s.bounds
-  pub leads : seat.status ≡ Ready → after_turns (Some (machine_of w.bytes s)) turns ≡ Some (machine_of n.bytes seat)
+  pub leads : seat.status ≡ Ready → after_turns (Some (state_in w.bytes s)) turns ≡ Some (state_in n.bytes seat)
 
 -- The second world is safe, no byte outside the data of all has changed, and to each sandbox the
 -- moves are a run.

@@ -18,7 +18,7 @@ replies_to i all = map (λ g. g.reply) (filter (λ g. g.to == i) all)
 abbrev pub solo : Machine → ℕ → Slot → List Turn → List Reply → Joined (List Reply)
 solo machine i slot plan replies = joined machine replay (turns_of i plan) (slot ∷ []) replies
 
--- Behind a plan each sandbox is what it is alone, behind the turns that were begun and with the replies that it got.
+-- After a plan each sandbox is what it is alone, after the turns that were begun and with the replies that it got.
 abbrev pub JointIsSolo : Type 0 → Type 0
 JointIsSolo S =
     (machine : Machine) (host : Host S) (plan : List Turn) (slots : List Slot) (s : S) (i : ℕ) (slot : Slot) → slice_get slots i ≡ Some slot

@@ -9,7 +9,7 @@ use Rattle.sfi_host.specs.declared.status.Status.TheVariants.{Ready, Trapped}
 use Rattle.sfi_host.specs.Slots.{Bounds, own, state_of}
 use Rattle.sfi_host.specs.Joint.{Machine, IsMachine}
 use Rattle.sfi_host.specs.Stops.{StoppedItself}
-use Rattle.sfi_host.specs.Worlds.{Seat, slot_of, machine_of, IsSafeSeat, StaysOutside}
+use Rattle.sfi_host.specs.Worlds.{Seat, slot_of, state_in, IsSafeSeat, StaysOutside}
 
 -- the same, with the sandbox's own bytes alone
 abbrev pub own_step : Bounds → Stepped → Stepped
@@ -25,10 +25,10 @@ pub record IsOwnStep (m : Bytes) (s : Seat) (r : Stepped) : Type 0 where
   pub alone : (machine : Machine) → IsMachine machine → machine (state_of (slot_of m s)) ≡ own_step s.bounds r
   pub others : StaysOutside s.bounds.data m r.state.memory
   pub safe : r.outcome ≡ Next → (steps : ℕ) → IsSafeSeat r.state.memory (stepped_seat s r steps)
-  pub stopped : r.outcome ≢ Next → r.state ≡ machine_of m s
-  pub called : r.outcome ≡ Call → (n : ℕ) × Stands (machine_of m s) Ecall n
-  pub trapped : (cause : Cause) (at : ℕ) → r.outcome ≡ Trap cause at → StoppedItself s.bounds (machine_of m s) (Trapped cause at)
+  pub stopped : r.outcome ≢ Next → r.state ≡ state_in m s
+  pub called : r.outcome ≡ Call → (n : ℕ) × Stands (state_in m s) Ecall n
+  pub trapped : (cause : Cause) (at : ℕ) → r.outcome ≡ Trap cause at → StoppedItself s.bounds (state_in m s) (Trapped cause at)
 
 -- so is every step of a ready sandbox that is safe
 abbrev pub StepsAreOwn : Type 0
-StepsAreOwn = (m : Bytes) (s : Seat) (r : Stepped) → IsSafeSeat m s → s.status ≡ Ready → IsStep (machine_of m s) r → IsOwnStep m s r
+StepsAreOwn = (m : Bytes) (s : Seat) (r : Stepped) → IsSafeSeat m s → s.status ≡ Ready → IsStep (state_in m s) r → IsOwnStep m s r

@@ -36,8 +36,8 @@ abbrev pub slots_of : Sandboxes → List Slot
 slots_of w = map (slot_of w.bytes) w.seats
 
 -- the machine as a sandbox has it, in the one memory
-abbrev pub machine_of : Bytes → Seat → State
-machine_of m s = record { hart = s.hart; memory = m }
+abbrev pub state_in : Bytes → Seat → State
+state_in m s = record { hart = s.hart; memory = m }
 
 -- ---- what may be asked of a world
 
@@ -67,8 +67,8 @@ pub record IsSafeSeat (m : Bytes) (s : Seat) : Type 0 where
   pub code : HasCode part m
   pub guards : HasEmptyGuards part m
   pub has_data : IsWhole s.bounds.data m
-  pub safe : s.status ≡ Ready → GoesSafelyFrom part (machine_of m s)
-  pub stopped : StoppedItself s.bounds (machine_of m s) s.status
+  pub safe : s.status ≡ Ready → GoesSafelyFrom part (state_in m s)
+  pub stopped : StoppedItself s.bounds (state_in m s) s.status
 
 -- data with the guard zones on both sides
 abbrev pub with_guards : Span → Span
@@ -99,7 +99,7 @@ pub record IsStopOf (w : Sandboxes) (i : ℕ) (status : Status) : Type 0 where
   pub seat : Seat
   pub there : slice_get w.seats i ≡ Some seat
   pub status_is : seat.status ≡ status
-  pub itself : StoppedItself seat.bounds (machine_of w.bytes seat) status
+  pub itself : StoppedItself seat.bounds (state_in w.bytes seat) status
 
 -- so it is of each sandbox, whatever status may be asked of it
 abbrev pub HaveStoppedThemselves : Sandboxes → Type 0

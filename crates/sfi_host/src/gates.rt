@@ -9,9 +9,9 @@ use rv_mem::Memory;
 /// How a caller goes on.
 #[derive(Clone, Copy, Debug, PartialEq, Eq)]
 pub enum GateAnswer {
-    /// Behind the call.
+    /// After the call.
     Replied,
-    /// Behind the call, in its next turn.
+    /// After the call, in its next turn.
     Yield,
     /// It has stopped, with this number.
     Exit(u32),
@@ -20,7 +20,7 @@ pub enum GateAnswer {
 }
 
 /// A host: it answers the calls of sandboxes. Implementations write their meaning down as `answer`, a function from the
-/// host's state and what is asked to a reply and the state behind it, and as `may_refuse`, a test on the same values that
+/// host's state and what is asked to a reply and the state after it, and as `may_refuse`, a test on the same values that
 /// says whether memory may be wanting. That `call` changes nothing but the caller's a0, a1 and data region comes from the
 /// calls of [`Guest`] alone.
 pub trait Gates {

@@ -72,7 +72,7 @@ fn memory(rt: &impl Abort, alloc: Global, front: &[u8]) -> Segments
     memory
 }
 
-/// A call by a sandbox with these data: the answer, and a0 and a1 behind it.
+/// A call by a sandbox with these data: the answer, and a0 and a1 after it.
 fn call<G: Gates>(gates: &mut G, memory: &mut Segments, request: Request) -> (GateAnswer, u32, u32)
     requires { IsWhole (record { base = 25165824; size = 256 }) (bytes_in (record { base = 25165824; size = 256 }) (bytes_of memory.old)) }
     ensures { IsWhole (record { base = 25165824; size = 256 }) (bytes_in (record { base = 25165824; size = 256 }) (bytes_of memory.new)) }

@@ -82,7 +82,7 @@ length-fields f r = omega arith
 
 module _ {X : Type 0} (spell : X → List ℕ) (Fits : X → Type 0)
     (same : (x y : X) (r s : List ℕ) → Fits x → Fits y → spell x ++ r ≡ spell y ++ s → (x ≡ y) × (r ≡ s)) where
-  -- xs goes on where ys ends, with s behind it
+  -- xs goes on where ys ends, with s after it
   abbrev pub GoesOn : List X → List X → List ℕ → Type 0
   GoesOn xs ys s = (y : X) × (more : List X) × (after : List ℕ) × Fits y × (xs ≡ ys ++ y ∷ more) × (s ≡ spell y ++ after)
 

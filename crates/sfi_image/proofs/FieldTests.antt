@@ -22,7 +22,7 @@ pub none_fails : (before : List Span) (f : Fields) (ts : List FieldTest) → All
 none_fails before f [] h = refl
 none_fails before f (t ∷ ts) h = inl (h.0, none_fails before f ts h.1)
 
--- behind six tests that are passed, the seventh
+-- after six tests that are passed, the seventh
 pub at_overlap : (before : List Span) (f : Fields) (found : Option LayoutFault) → Passes before f Code → Passes before f Data → Passes before f GuardRoom
     → Passes before f Start → Passes before f Gates → Passes before f Init → IsFirstFault before f (Overlap ∷ []) found → IsFirstFault before f field_tests found
 at_overlap before f found code guarded room start gates init last = inl (code, inl (guarded, inl (room, inl (start, inl (gates, inl (init, last))))))

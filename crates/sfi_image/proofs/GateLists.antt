@@ -76,7 +76,7 @@ pub flat_push : {X : Type 0} (h : X → List ℕ) (xs : List X) (x : X) (rest : 
 flat_push h [] x rest = append_assoc (h x) [] rest
 flat_push h (y ∷ ys) x rest = append_assoc (h y) (flat_map h (ys ++ x ∷ [])) rest ∙ ap (λ (t : List ℕ). h y ++ t) (flat_push h ys x rest) ∙ sym (append_assoc (h y) (flat_map h ys) (h x ++ rest))
 
--- what stands behind the first pairs
+-- what stands after the first pairs
 pub record GatesRead (f : Fields) (bytes : List ℕ) (gs : List Gate) (rest : List ℕ) (n : ℕ) : Type 0 where
   pub bytes_are : bytes ≡ flat_map gate gs ++ rest
   pub words : All AreGateWords gs

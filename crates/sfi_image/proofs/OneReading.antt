@@ -44,22 +44,22 @@ not_some k e = absurd cc
 
 -- ---- the gates
 
--- what is wrong behind these gates
-abbrev BehindGates : Fields → List Gate → List ℕ → LayoutFault → Type 0
-BehindGates f gs rest k =
+-- what is wrong after these gates
+abbrev AfterGates : Fields → List Gate → List ℕ → LayoutFault → Type 0
+AfterGates f gs rest k =
     ((length gs < f.gate_count) × (length rest < 8) × (k ≡ Short))
     ⊎ (((length gs < f.gate_count) × (g : Gate) × (after : List ℕ) × (rest ≡ gate g ++ after) × AreGateWords g
     × (¬ AreGates (code_span f) (gs ++ g ∷ [])) × (k ≡ Gates))
     ⊎ ((length gs ≡ f.gate_count) × (length rest < f.code_size + f.init_len) × (k ≡ Short)))
 
-behind_count : (f : Fields) (gs : List Gate) (rest : List ℕ) (k : LayoutFault) → BehindGates f gs rest k → length gs ≤ f.gate_count
-behind_count f gs rest k (inl a) = omega (arith, a.0)
-behind_count f gs rest k (inr (inl a)) = omega (arith, a.0)
-behind_count f gs rest k (inr (inr a)) = omega (arith, a.0)
+after_count : (f : Fields) (gs : List Gate) (rest : List ℕ) (k : LayoutFault) → AfterGates f gs rest k → length gs ≤ f.gate_count
+after_count f gs rest k (inl a) = omega (arith, a.0)
+after_count f gs rest k (inr (inl a)) = omega (arith, a.0)
+after_count f gs rest k (inr (inr a)) = omega (arith, a.0)
 
 -- nothing is, where right gates go on there
 gates_go_on : (f : Fields) (xs gs : List Gate) (rest : List ℕ) (k : LayoutFault) → AreGates (code_span f) xs → length xs ≤ f.gate_count
-    → GoesOn gate AreGateWords same_gate xs gs rest → BehindGates f gs rest k → ⊥
+    → GoesOn gate AreGateWords same_gate xs gs rest → AfterGates f gs rest k → ⊥
 gates_go_on f xs gs rest k are le on (inl a) = omega (arith, a.1, ap length on.5, length-gate on.0 on.2)
 gates_go_on f xs gs rest k are le on (inr (inl a)) =
     let same = same_gate a.1 on.0 a.2 on.2 a.4 on.3 (sym a.3 ∙ on.5) in
@@ -68,36 +68,36 @@ gates_go_on f xs gs rest k are le on (inr (inl a)) =
     a.5 (subst (λ (g : Gate). AreGates (code_span f) (gs ++ g ∷ [])) (sym same.0) front)
 gates_go_on f xs gs rest k are le on (inr (inr a)) = omega (arith, a.0, le, ap length on.4, length-append gs (on.0 ∷ on.1))
 
-behind_gates : (f : Fields) (gs : List Gate) (rest : List ℕ) (j k : LayoutFault) → BehindGates f gs rest j → BehindGates f gs rest k → j ≡ k
-behind_gates f gs rest j k (inl a) (inl b) = a.2 ∙ sym b.2
-behind_gates f gs rest j k (inl a) (inr (inl b)) = absurd (omega (arith, a.1, ap length b.3, length-gate b.1 b.2))
-behind_gates f gs rest j k (inl a) (inr (inr b)) = absurd (omega (arith, a.0, b.0))
-behind_gates f gs rest j k (inr (inl a)) (inl b) = absurd (omega (arith, b.1, ap length a.3, length-gate a.1 a.2))
-behind_gates f gs rest j k (inr (inl a)) (inr (inl b)) = a.6 ∙ sym b.6
-behind_gates f gs rest j k (inr (inl a)) (inr (inr b)) = absurd (omega (arith, a.0, b.0))
-behind_gates f gs rest j k (inr (inr a)) (inl b) = absurd (omega (arith, a.0, b.0))
-behind_gates f gs rest j k (inr (inr a)) (inr (inl b)) = absurd (omega (arith, a.0, b.0))
-behind_gates f gs rest j k (inr (inr a)) (inr (inr b)) = a.2 ∙ sym b.2
+after_gates : (f : Fields) (gs : List Gate) (rest : List ℕ) (j k : LayoutFault) → AfterGates f gs rest j → AfterGates f gs rest k → j ≡ k
+after_gates f gs rest j k (inl a) (inl b) = a.2 ∙ sym b.2
+after_gates f gs rest j k (inl a) (inr (inl b)) = absurd (omega (arith, a.1, ap length b.3, length-gate b.1 b.2))
+after_gates f gs rest j k (inl a) (inr (inr b)) = absurd (omega (arith, a.0, b.0))
+after_gates f gs rest j k (inr (inl a)) (inl b) = absurd (omega (arith, b.1, ap length a.3, length-gate a.1 a.2))
+after_gates f gs rest j k (inr (inl a)) (inr (inl b)) = a.6 ∙ sym b.6
+after_gates f gs rest j k (inr (inl a)) (inr (inr b)) = absurd (omega (arith, a.0, b.0))
+after_gates f gs rest j k (inr (inr a)) (inl b) = absurd (omega (arith, a.0, b.0))
+after_gates f gs rest j k (inr (inr a)) (inr (inl b)) = absurd (omega (arith, a.0, b.0))
+after_gates f gs rest j k (inr (inr a)) (inr (inr b)) = a.2 ∙ sym b.2
 
 one_body_fault : (f : Fields) (bytes : List ℕ) (j k : LayoutFault) → IsBodyFault f bytes j → IsBodyFault f bytes k → j ≡ k
 one_body_fault f bytes j k (gs, rest, ea, wa, ra, a) (hs, more, eb, wb, rb, b) =
     elim (fronts gate AreGateWords same_gate gs hs rest more wa wb (sym ea ∙ eb)) [
-      | inl both ↦ behind_gates f hs more j k (subst (λ (t : List ℕ). BehindGates f hs t j) both.1 (subst (λ (g : List Gate). BehindGates f g rest j) both.0 a)) b
-      | inr (inl on) ↦ absurd (gates_go_on f gs hs more k ra (behind_count f gs rest j a) on b)
-      | inr (inr on) ↦ absurd (gates_go_on f hs gs rest j rb (behind_count f hs more k b) on a)
+      | inl both ↦ after_gates f hs more j k (subst (λ (t : List ℕ). AfterGates f hs t j) both.1 (subst (λ (g : List Gate). AfterGates f g rest j) both.0 a)) b
+      | inr (inl on) ↦ absurd (gates_go_on f gs hs more k ra (after_count f gs rest j a) on b)
+      | inr (inr on) ↦ absurd (gates_go_on f hs gs rest j rb (after_count f hs more k b) on a)
     ]
 
--- right gates with the code and the data behind them have no fault
+-- right gates with the code and the data after them have no fault
 no_body_fault : (f : Fields) (gs : List Gate) (rest : List ℕ) (k : LayoutFault) → All AreGateWords gs → AreGates (code_span f) gs → length gs ≡ f.gate_count
     → f.code_size + f.init_len ≤ length rest → IsBodyFault f (flat_map gate gs ++ rest) k → ⊥
 no_body_fault f gs rest k wa ra all long (hs, more, eb, wb, rb, b) =
     elim (fronts gate AreGateWords same_gate gs hs rest more wa wb eb) [
-      | inl both ↦ at_end (subst (λ (t : List ℕ). BehindGates f gs t k) (sym both.1) (subst (λ (g : List Gate). BehindGates f g more k) (sym both.0) b))
+      | inl both ↦ at_end (subst (λ (t : List ℕ). AfterGates f gs t k) (sym both.1) (subst (λ (g : List Gate). AfterGates f g more k) (sym both.0) b))
       | inr (inl on) ↦ gates_go_on f gs hs more k ra (omega (arith, all)) on b
-      | inr (inr on) ↦ omega (arith, all, behind_count f hs more k b, ap length on.4, length-append gs (on.0 ∷ on.1))
+      | inr (inr on) ↦ omega (arith, all, after_count f hs more k b, ap length on.4, length-append gs (on.0 ∷ on.1))
     ]
   where
-    at_end : BehindGates f gs rest k → ⊥
+    at_end : AfterGates f gs rest k → ⊥
     at_end (inl a) = omega (arith, a.0, all)
     at_end (inr (inl a)) = omega (arith, a.0, all)
     at_end (inr (inr a)) = omega (arith, a.1, long)
@@ -105,14 +105,14 @@ no_body_fault f gs rest k wa ra all long (hs, more, eb, wb, rb, b) =
 -- ---- a sandbox
 
 -- what is wrong of these fields and what follows them
-abbrev BehindFields : List Span → Fields → List ℕ → LayoutFault → Type 0
-BehindFields before f rest k = IsFirstFault before f field_tests (Some k) ⊎ (IsFirstFault before f field_tests None × IsBodyFault f rest k)
+abbrev AfterFields : List Span → Fields → List ℕ → LayoutFault → Type 0
+AfterFields before f rest k = IsFirstFault before f field_tests (Some k) ⊎ (IsFirstFault before f field_tests None × IsBodyFault f rest k)
 
-behind_fields : (before : List Span) (f : Fields) (rest : List ℕ) (j k : LayoutFault) → BehindFields before f rest j → BehindFields before f rest k → j ≡ k
-behind_fields before f rest j k (inl a) (inl b) = same_some j k (one_field_fault before f field_tests (Some j) (Some k) a b)
-behind_fields before f rest j k (inl a) (inr b) = absurd (not_some j (one_field_fault before f field_tests None (Some j) b.0 a))
-behind_fields before f rest j k (inr a) (inl b) = absurd (not_some k (one_field_fault before f field_tests None (Some k) a.0 b))
-behind_fields before f rest j k (inr a) (inr b) = one_body_fault f rest j k a.1 b.1
+after_fields : (before : List Span) (f : Fields) (rest : List ℕ) (j k : LayoutFault) → AfterFields before f rest j → AfterFields before f rest k → j ≡ k
+after_fields before f rest j k (inl a) (inl b) = same_some j k (one_field_fault before f field_tests (Some j) (Some k) a b)
+after_fields before f rest j k (inl a) (inr b) = absurd (not_some j (one_field_fault before f field_tests None (Some j) b.0 a))
+after_fields before f rest j k (inr a) (inl b) = absurd (not_some k (one_field_fault before f field_tests None (Some k) a.0 b))
+after_fields before f rest j k (inr a) (inr b) = one_body_fault f rest j k a.1 b.1
 
 one_part_fault : (format : Format) (before : List Span) (bytes : List ℕ) (j k : LayoutFault) → IsPartFault format before bytes j → IsPartFault format before bytes k → j ≡ k
 one_part_fault format before bytes j k (inl a) (inl b) = a.1 ∙ sym b.1
@@ -120,7 +120,7 @@ one_part_fault format before bytes j k (inl a) (inr (g, more, eb, wb, fb, b)) = 
 one_part_fault format before bytes j k (inr (f, rest, ea, wa, fa, a)) (inl b) = absurd (omega (arith, b.0, ap length ea, length-fields f rest))
 one_part_fault format before bytes j k (inr (f, rest, ea, wa, fa, a)) (inr (g, more, eb, wb, fb, b)) =
     let same = same_fields f g rest more wa wb (fa ∙ sym fb) (sym ea ∙ eb) in
-    behind_fields before g more j k (subst (λ (t : List ℕ). BehindFields before g t j) same.1 (subst (λ (h : Fields). BehindFields before h rest j) same.0 a)) b
+    after_fields before g more j k (subst (λ (t : List ℕ). AfterFields before g t j) same.1 (subst (λ (h : Fields). AfterFields before h rest j) same.0 a)) b
 
 -- a right sandbox that lies apart from those before has no fault
 no_part_fault : (format : Format) (before : List Span) (p : Part) (after : List ℕ) (k : LayoutFault) → p.format ≡ format → IsRightPart p → AllPairs AreApart (before ++ spans_of (fields_of p))
@@ -128,20 +128,20 @@ no_part_fault : (format : Format) (before : List Span) (p : Part) (after : List 
 no_part_fault format before p after k kind right apart (inl b) = omega (arith, b.0, ap length (part_split p after), length-fields (fields_of p) (flat_map gate p.gates ++ (p.code ++ (p.init ++ after))))
 no_part_fault format before p after k kind right apart (inr (g, more, eb, wb, fb, b)) =
     let same = same_fields (fields_of p) g (flat_map gate p.gates ++ (p.code ++ (p.init ++ after))) more right.words.fields wb (kind ∙ sym fb) (sym (part_split p after) ∙ eb) in
-    behind (subst (λ (t : List ℕ). BehindFields before (fields_of p) t k) (sym same.1) (subst (λ (h : Fields). BehindFields before h more k) (sym same.0) b))
+    beyond (subst (λ (t : List ℕ). AfterFields before (fields_of p) t k) (sym same.1) (subst (λ (h : Fields). AfterFields before h more k) (sym same.0) b))
   where
     long : length p.code + length p.init ≤ length (p.code ++ (p.init ++ after))
     long = omega (arith, length-append p.code (p.init ++ after), length-append p.init after)
 
-    behind : BehindFields before (fields_of p) (flat_map gate p.gates ++ (p.code ++ (p.init ++ after))) k → ⊥
-    behind (inl h) = not_some k (one_field_fault before (fields_of p) field_tests None (Some k) (part_passes before p right apart) h)
-    behind (inr h) = no_body_fault (fields_of p) p.gates (p.code ++ (p.init ++ after)) k right.words.gates right.gates refl long h.1
+    beyond : AfterFields before (fields_of p) (flat_map gate p.gates ++ (p.code ++ (p.init ++ after))) k → ⊥
+    beyond (inl h) = not_some k (one_field_fault before (fields_of p) field_tests None (Some k) (part_passes before p right apart) h)
+    beyond (inr h) = no_body_fault (fields_of p) p.gates (p.code ++ (p.init ++ after)) k right.words.gates right.gates refl long h.1
 
 -- ---- the sandboxes
 
--- what is wrong behind these sandboxes
-abbrev BehindParts : Format → ℕ → List Part → List ℕ → LayoutFault → Type 0
-BehindParts format n ps rest k =
+-- what is wrong after these sandboxes
+abbrev AfterParts : Format → ℕ → List Part → List ℕ → LayoutFault → Type 0
+AfterParts format n ps rest k =
     ((length ps < n) × IsPartFault format (spans ps) rest k)
     ⊎ ((length ps ≡ n) × (0 < length rest) × (k ≡ Trailing))
 
@@ -164,12 +164,12 @@ format_is format p a = a.0
 same_right : (format : Format) (p q : Part) (r s : List ℕ) → RightOf format p → RightOf format q → part p ++ r ≡ part q ++ s → (p ≡ q) × (r ≡ s)
 same_right format p q r s a b e = same_part p q r s (right_of format p a).words (right_of format q b).words (format_is format p a ∙ sym (format_is format q b)) e
 
-behind_parts_count : (format : Format) (n : ℕ) (ps : List Part) (rest : List ℕ) (k : LayoutFault) → BehindParts format n ps rest k → length ps ≤ n
-behind_parts_count format n ps rest k (inl a) = omega (arith, a.0)
-behind_parts_count format n ps rest k (inr a) = omega (arith, a.0)
+after_parts_count : (format : Format) (n : ℕ) (ps : List Part) (rest : List ℕ) (k : LayoutFault) → AfterParts format n ps rest k → length ps ≤ n
+after_parts_count format n ps rest k (inl a) = omega (arith, a.0)
+after_parts_count format n ps rest k (inr a) = omega (arith, a.0)
 
 parts_go_on : (format : Format) (n : ℕ) (xs ps : List Part) (rest : List ℕ) (k : LayoutFault) → AreRight xs → length xs ≤ n
-    → GoesOn part (RightOf format) (same_right format) xs ps rest → BehindParts format n ps rest k → ⊥
+    → GoesOn part (RightOf format) (same_right format) xs ps rest → AfterParts format n ps rest k → ⊥
 parts_go_on format n xs ps rest k right le on (inl a) =
     let spelled : spans xs ≡ (spans ps ++ spans_of (fields_of on.0)) ++ spans on.1 =
     ap spans on.4 ∙ flat_map-append (λ q. spans_of (fields_of q)) ps (on.0 ∷ on.1) ∙ sym (append_assoc (spans ps) (spans_of (fields_of on.0)) (spans on.1)) in
@@ -177,44 +177,44 @@ parts_go_on format n xs ps rest k right le on (inl a) =
     no_part_fault format (spans ps) on.0 on.2 k (format_is format on.0 on.3) (right_of format on.0 on.3) apart (subst (λ (t : List ℕ). IsPartFault format (spans ps) t k) on.5 a.1)
 parts_go_on format n xs ps rest k right le on (inr a) = omega (arith, a.0, le, ap length on.4, length-append ps (on.0 ∷ on.1))
 
-behind_parts : (format : Format) (n : ℕ) (ps : List Part) (rest : List ℕ) (j k : LayoutFault) → BehindParts format n ps rest j → BehindParts format n ps rest k → j ≡ k
-behind_parts format n ps rest j k (inl a) (inl b) = one_part_fault format (spans ps) rest j k a.1 b.1
-behind_parts format n ps rest j k (inl a) (inr b) = absurd (omega (arith, a.0, b.0))
-behind_parts format n ps rest j k (inr a) (inl b) = absurd (omega (arith, a.0, b.0))
-behind_parts format n ps rest j k (inr a) (inr b) = a.2 ∙ sym b.2
+after_parts : (format : Format) (n : ℕ) (ps : List Part) (rest : List ℕ) (j k : LayoutFault) → AfterParts format n ps rest j → AfterParts format n ps rest k → j ≡ k
+after_parts format n ps rest j k (inl a) (inl b) = one_part_fault format (spans ps) rest j k a.1 b.1
+after_parts format n ps rest j k (inl a) (inr b) = absurd (omega (arith, a.0, b.0))
+after_parts format n ps rest j k (inr a) (inl b) = absurd (omega (arith, a.0, b.0))
+after_parts format n ps rest j k (inr a) (inr b) = a.2 ∙ sym b.2
 
 one_parts_fault : (format : Format) (n : ℕ) (bytes : List ℕ) (j k : LayoutFault) → ArePartsFault format n bytes j → ArePartsFault format n bytes k → j ≡ k
 one_parts_fault format n bytes j k (ps, rest, ea, ra, oa, a) (qs, more, eb, rb, ob, b) =
     elim (fronts part (RightOf format) (same_right format) ps qs rest more (are_right_of format ps oa ra) (are_right_of format qs ob rb) (sym ea ∙ eb)) [
-      | inl both ↦ behind_parts format n qs more j k (subst (λ (t : List ℕ). BehindParts format n qs t j) both.1 (subst (λ (p : List Part). BehindParts format n p rest j) both.0 a)) b
-      | inr (inl on) ↦ absurd (parts_go_on format n ps qs more k ra (behind_parts_count format n ps rest j a) on b)
-      | inr (inr on) ↦ absurd (parts_go_on format n qs ps rest j rb (behind_parts_count format n qs more k b) on a)
+      | inl both ↦ after_parts format n qs more j k (subst (λ (t : List ℕ). AfterParts format n qs t j) both.1 (subst (λ (p : List Part). AfterParts format n p rest j) both.0 a)) b
+      | inr (inl on) ↦ absurd (parts_go_on format n ps qs more k ra (after_parts_count format n ps rest j a) on b)
+      | inr (inr on) ↦ absurd (parts_go_on format n qs ps rest j rb (after_parts_count format n qs more k b) on a)
     ]
 
--- right sandboxes with nothing behind them have no fault
+-- right sandboxes with nothing after them have no fault
 no_parts_fault : (format : Format) (ps : List Part) (bytes : List ℕ) (k : LayoutFault) → AreOf format ps → AreRight ps → bytes ≡ flat_map part ps → ArePartsFault format (length ps) bytes k → ⊥
 no_parts_fault format ps bytes k oa ra ea (qs, more, eb, rb, ob, b) =
     elim (fronts part (RightOf format) (same_right format) ps qs [] more (are_right_of format ps oa ra) (are_right_of format qs ob rb) (append-nil (flat_map part ps) ∙ sym ea ∙ eb)) [
-      | inl both ↦ at_end (subst (λ (t : List ℕ). BehindParts format (length ps) ps t k) (sym both.1) (subst (λ (p : List Part). BehindParts format (length ps) p more k) (sym both.0) b))
+      | inl both ↦ at_end (subst (λ (t : List ℕ). AfterParts format (length ps) ps t k) (sym both.1) (subst (λ (p : List Part). AfterParts format (length ps) p more k) (sym both.0) b))
       | inr (inl on) ↦ parts_go_on format (length ps) ps qs more k ra (omega arith) on b
-      | inr (inr on) ↦ omega (arith, behind_parts_count format (length ps) qs more k b, ap length on.4, length-append ps (on.0 ∷ on.1))
+      | inr (inr on) ↦ omega (arith, after_parts_count format (length ps) qs more k b, ap length on.4, length-append ps (on.0 ∷ on.1))
     ]
   where
-    at_end : BehindParts format (length ps) ps [] k → ⊥
+    at_end : AfterParts format (length ps) ps [] k → ⊥
     at_end (inl a) = omega (arith, a.0)
     at_end (inr a) = omega (arith, a.1)
 
 -- ---- the whole
 
 -- what is wrong of this count and what follows it
-abbrev BehindCount : Format → ℕ → List ℕ → LayoutFault → Type 0
-BehindCount format n rest k = ((¬ ((1 ≤ n) × (n ≤ 16))) × (k ≡ Count)) ⊎ ((1 ≤ n) × (n ≤ 16) × ArePartsFault format n rest k)
+abbrev AfterCount : Format → ℕ → List ℕ → LayoutFault → Type 0
+AfterCount format n rest k = ((¬ ((1 ≤ n) × (n ≤ 16))) × (k ≡ Count)) ⊎ ((1 ≤ n) × (n ≤ 16) × ArePartsFault format n rest k)
 
-behind_number : (format : Format) (n : ℕ) (rest : List ℕ) (j k : LayoutFault) → BehindCount format n rest j → BehindCount format n rest k → j ≡ k
-behind_number format n rest j k (inl a) (inl b) = a.1 ∙ sym b.1
-behind_number format n rest j k (inl a) (inr b) = absurd (a.0 (b.0, b.1))
-behind_number format n rest j k (inr a) (inl b) = absurd (b.0 (a.0, a.1))
-behind_number format n rest j k (inr a) (inr b) = one_parts_fault format n rest j k a.2 b.2
+after_number : (format : Format) (n : ℕ) (rest : List ℕ) (j k : LayoutFault) → AfterCount format n rest j → AfterCount format n rest k → j ≡ k
+after_number format n rest j k (inl a) (inl b) = a.1 ∙ sym b.1
+after_number format n rest j k (inl a) (inr b) = absurd (a.0 (b.0, b.1))
+after_number format n rest j k (inr a) (inl b) = absurd (b.0 (a.0, a.1))
+after_number format n rest j k (inr a) (inr b) = one_parts_fault format n rest j k a.2 b.2
 
 length-numbered : (n : ℕ) (r : List ℕ) → length (number n ++ r) ≡ 4 + length r
 unfolding number
@@ -226,19 +226,19 @@ one_count_fault format bytes j k (inl a) (inr (n, rest, e, w, b)) = absurd (omeg
 one_count_fault format bytes j k (inr (n, rest, e, w, a)) (inl b) = absurd (omega (arith, b.0, ap length e, length-numbered n rest))
 one_count_fault format bytes j k (inr (n, rest, ea, wa, a)) (inr (m, more, eb, wb, b)) =
     let same = same_number n m rest more wa wb (sym ea ∙ eb) in
-    behind_number format m more j k (subst (λ (t : List ℕ). BehindCount format m t j) same.1 (subst (λ (c : ℕ). BehindCount format c rest j) same.0 a)) b
+    after_number format m more j k (subst (λ (t : List ℕ). AfterCount format m t j) same.1 (subst (λ (c : ℕ). AfterCount format c rest j) same.0 a)) b
 
 no_count_fault : (format : Format) (ps : List Part) (bytes : List ℕ) (k : LayoutFault) → AreOf format ps → AreRight ps → 1 ≤ length ps → length ps ≤ 16 → bytes ≡ number (length ps) ++ flat_map part ps → IsCountFault format bytes k → ⊥
 no_count_fault format ps bytes k are right least most e (inl a) = omega (arith, a.0, ap length e, length-numbered (length ps) (flat_map part ps))
 no_count_fault format ps bytes k are right least most e (inr (m, more, eb, wb, b)) =
     let same = same_number (length ps) m (flat_map part ps) more (omega arith) wb (sym e ∙ eb) in
-    behind (subst (λ (t : List ℕ). BehindCount format (length ps) t k) (sym same.1) (subst (λ (c : ℕ). BehindCount format c more k) (sym same.0) b))
+    beyond (subst (λ (t : List ℕ). AfterCount format (length ps) t k) (sym same.1) (subst (λ (c : ℕ). AfterCount format c more k) (sym same.0) b))
   where
-    behind : BehindCount format (length ps) (flat_map part ps) k → ⊥
-    behind (inl h) = h.0 (least, most)
-    behind (inr h) = no_parts_fault format ps (flat_map part ps) k are right refl h.2
+    beyond : AfterCount format (length ps) (flat_map part ps) k → ⊥
+    beyond (inl h) = h.0 (least, most)
+    beyond (inr h) = no_parts_fault format ps (flat_map part ps) k are right refl h.2
 
--- the same magic, and what is behind it
+-- the same magic, and what is after it
 same_magic : (f g : Format) (r s : List ℕ) → magic f ++ r ≡ magic g ++ s → (f ≡ g) × (r ≡ s)
 same_magic f g r s e =
     let same = same_front (magic f) (magic g) r s (length_of_magic f ∙ sym (length_of_magic g)) e in
@@ -268,10 +268,10 @@ no_fault bytes ps k image (inr (inr b)) =
 pub one_image : (bytes : List ℕ) (ps qs : List Part) → IsImage bytes ps → IsImage bytes qs → ps ≡ qs
 unfolding spelling
 one_image bytes ps qs a b =
-    let behind = same_magic (format_of ps) (format_of qs) (number (length ps) ++ flat_map part ps) (number (length qs) ++ flat_map part qs) (sym a.bytes_are ∙ b.bytes_are) in
-    let count = same_number (length ps) (length qs) (flat_map part ps) (flat_map part qs) (omega (arith, a.layout.at_most)) (omega (arith, b.layout.at_most)) behind.1 in
+    let beyond = same_magic (format_of ps) (format_of qs) (number (length ps) ++ flat_map part ps) (number (length qs) ++ flat_map part qs) (sym a.bytes_are ∙ b.bytes_are) in
+    let count = same_number (length ps) (length qs) (flat_map part ps) (flat_map part qs) (omega (arith, a.layout.at_most)) (omega (arith, b.layout.at_most)) beyond.1 in
     let format = format_of qs in
-    (same_list part (RightOf format) (same_right format) ps qs [] [] (are_right_of format ps (subst (λ (f : Format). AreOf f ps) behind.0 a.layout.one_format) a.layout.right) (are_right_of format qs b.layout.one_format b.layout.right) count.0
+    (same_list part (RightOf format) (same_right format) ps qs [] [] (are_right_of format ps (subst (λ (f : Format). AreOf f ps) beyond.0 a.layout.one_format) a.layout.right) (are_right_of format qs b.layout.one_format b.layout.right) count.0
     (append-nil (flat_map part ps) ∙ count.1 ∙ sym (append-nil (flat_map part qs)))).0
 
 -- ---- what a reader answers that way

@@ -32,7 +32,7 @@ part_read bytes f rest gs after code init last e0 e1 len e2 code_len init_len k 
     let whole : bytes ≡ fields (fields_of p) ++ (flat_map gate gs ++ (code ++ (init ++ last))) = e0 ∙ rw (same, e1, e2) refl in
     (whole ∙ part_is p last gs code init (rw is refl) (rw is refl) (rw is refl), same)
 
--- what stands behind the first sandboxes
+-- what stands after the first sandboxes
 pub record PartsRead (format : Format) (bytes : List ℕ) (ps : List Part) (before : List Span) (rest : List ℕ) (n : ℕ) : Type 0 where
   pub bytes_are : bytes ≡ flat_map part ps ++ rest
   pub of : AreOf format ps
@@ -73,12 +73,12 @@ PartsRead-push format bytes ps before rest after n p f so_far next is kind right
 pub parts_right : (format : Format) (bytes : List ℕ) (ps : List Part) (before : List Span) (rest : List ℕ) (n : ℕ) → PartsRead format bytes ps before rest n → AreRight ps
 parts_right format bytes ps before rest n so_far = record { each = so_far.each; apart = subst (AllPairs AreApart) so_far.spans_are so_far.apart }
 
--- bytes behind the last sandbox
+-- bytes after the last sandbox
 pub trailing : (format : Format) (bytes : List ℕ) (ps : List Part) (before : List Span) (rest : List ℕ) (n count : ℕ) → PartsRead format bytes ps before rest n → n ≡ count → 0 < length rest
     → ArePartsFault format count bytes Trailing
 trailing format bytes ps before rest n count so_far all some = (ps, rest, so_far.bytes_are, parts_right format bytes ps before rest n so_far, so_far.of, inr (so_far.len ∙ all, some, refl))
 
--- none behind it
+-- none after it
 pub all_read : (format : Format) (bytes : List ℕ) (ps : List Part) (before : List Span) (rest : List ℕ) (n count : ℕ) → PartsRead format bytes ps before rest n → n ≡ count → length rest ≡ 0
     → (bytes ≡ flat_map part ps) × AreRight ps × (length ps ≡ count)
 all_read format bytes ps before [] n count so_far all none = (so_far.bytes_are ∙ append-nil (flat_map part ps), parts_right format bytes ps before [] n so_far, so_far.len ∙ all)

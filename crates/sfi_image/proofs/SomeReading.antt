@@ -29,7 +29,7 @@ use Rattle.sfi_image.proofs.Fronts.{Front, IsBytes-from_all, IsBytes-drop, numbe
 
 -- ---- the gates
 
--- all gates that the fields count, with the code and the first data behind them
+-- all gates that the fields count, with the code and the first data after them
 record BodyRead (f : Fields) (bytes : List ℕ) : Type 0 where
   pub gates : List Gate
   pub rest : List ℕ
@@ -37,9 +37,9 @@ record BodyRead (f : Fields) (bytes : List ℕ) : Type 0 where
   pub long : f.code_size + f.init_len ≤ length rest
   pub small : IsBytes rest
 
-behind_gates : (f : Fields) (bytes rest : List ℕ) (gs : List Gate) (n : ℕ) → GatesRead f bytes gs rest n → n ≡ f.gate_count → IsBytes rest
+after_gates : (f : Fields) (bytes rest : List ℕ) (gs : List Gate) (n : ℕ) → GatesRead f bytes gs rest n → n ≡ f.gate_count → IsBytes rest
     → BodyRead f bytes ⊎ ((k : LayoutFault) × IsBodyFault f bytes k)
-behind_gates f bytes rest gs n so_far all small =
+after_gates f bytes rest gs n so_far all small =
     elim (cases_lt (length rest) (f.code_size + f.init_len)) [
       | inl short ↦ inr (Short, (gs, rest, so_far.bytes_are, so_far.words, so_far.right, inr (inr (so_far.len ∙ all, short, refl))))
       | inr long ↦ inl (record { gates = gs; rest = rest; read = subst (GatesRead f bytes gs rest) all so_far; long = long; small = small })
@@ -48,7 +48,7 @@ behind_gates f bytes rest gs n so_far all small =
 -- with so many gates to come
 gates_on : (d : ℕ) (f : Fields) (bytes rest : List ℕ) (gs : List Gate) (n : ℕ) → GatesRead f bytes gs rest n → n + d ≡ f.gate_count → IsBytes rest
     → BodyRead f bytes ⊎ ((k : LayoutFault) × IsBodyFault f bytes k)
-gates_on zero f bytes rest gs n so_far all small = behind_gates f bytes rest gs n so_far (omega arith) small
+gates_on zero f bytes rest gs n so_far all small = after_gates f bytes rest gs n so_far (omega arith) small
 gates_on (suc d) f bytes rest gs n so_far all small =
     let more : length gs < f.gate_count = omega (arith, so_far.len) in
     elim (cases_lt (length rest) 8) [
@@ -91,13 +91,13 @@ part_made : (format : Format) (before : List Span) (bytes after : List ℕ) (f :
     → BodyRead f after → PartFront format before bytes
 part_made format before bytes after f bytes_are words kind passed body =
     let code = take f.code_size body.rest in
-    let behind = drop f.code_size body.rest in
-    let init = take f.init_len behind in
-    let last = drop f.init_len behind in
+    let beyond = drop f.code_size body.rest in
+    let init = take f.init_len beyond in
+    let last = drop f.init_len beyond in
     let p : Part = record { format = f.format; code_base = f.code_base; data_base = f.data_base; data_size = f.data_size; start = f.start; gates = body.gates; code = code; init = init } in
-    let cut : body.rest ≡ code ++ (init ++ last) = sym (take-append-drop f.code_size body.rest) ∙ ap (λ (t : List ℕ). code ++ t) (sym (take-append-drop f.init_len behind)) in
+    let cut : body.rest ≡ code ++ (init ++ last) = sym (take-append-drop f.code_size body.rest) ∙ ap (λ (t : List ℕ). code ++ t) (sym (take-append-drop f.init_len beyond)) in
     let code_long : length code ≡ f.code_size = omega (arith, body.long, length-take f.code_size body.rest) in
-    let init_long : length init ≡ f.init_len = omega (arith, body.long, length-drop f.code_size body.rest, length-take f.init_len behind) in
+    let init_long : length init ≡ f.init_len = omega (arith, body.long, length-drop f.code_size body.rest, length-take f.init_len beyond) in
     let read = part_read bytes f after body.gates body.rest code init last bytes_are body.read.bytes_are body.read.len cut code_long init_long f.format refl p refl in
     let right = right_part before p f read.1 words passed body.read.words body.read.right in
     record {
@@ -107,13 +107,13 @@ part_made format before bytes after f bytes_are words kind passed body =
       bytes_are = read.0;
       right = right.0;
       apart = subst (λ (g : Fields). AllPairs AreApart (before ++ spans_of g)) (sym read.1) right.1;
-      small = IsBytes-drop f.init_len behind (IsBytes-drop f.code_size body.rest body.small);
+      small = IsBytes-drop f.init_len beyond (IsBytes-drop f.code_size body.rest body.small);
     }
 
-behind_fields : (format : Format) (before : List Span) (bytes : List ℕ) (front : Front fields AreFieldWords 28 bytes) → front.item.format ≡ format → (found : Option LayoutFault)
+after_fields : (format : Format) (before : List Span) (bytes : List ℕ) (front : Front fields AreFieldWords 28 bytes) → front.item.format ≡ format → (found : Option LayoutFault)
     → IsFirstFault before front.item field_tests found → PartFront format before bytes ⊎ ((k : LayoutFault) × IsPartFault format before bytes k)
-behind_fields format before bytes front kind (Some k) failed = inr (k, inr (front.item, front.rest, front.bytes_are, front.fits, kind, inl failed))
-behind_fields format before bytes front kind None passed =
+after_fields format before bytes front kind (Some k) failed = inr (k, inr (front.item, front.rest, front.bytes_are, front.fits, kind, inl failed))
+after_fields format before bytes front kind None passed =
     elim (body_or_fault front.item front.rest front.small) [
       | inl body ↦ inl (part_made format before bytes front.rest front.item front.bytes_are front.fits kind passed body)
       | inr fault ↦ inr (fault.0, inr (front.item, front.rest, front.bytes_are, front.fits, kind, inr (passed, fault.1)))
@@ -126,7 +126,7 @@ part_or_fault format before bytes small =
       | inr long ↦
           let read = fields_front format bytes long small in
           let found = some_first_fault before read.0.item field_tests in
-          behind_fields format before bytes read.0 read.1 found.0 found.1
+          after_fields format before bytes read.0 read.1 found.0 found.1
     ]
 
 -- ---- the sandboxes
@@ -135,9 +135,9 @@ part_or_fault format before bytes small =
 abbrev PartsWhole : Format → ℕ → List ℕ → Type 0
 PartsWhole format count bytes = (ps : List Part) × (bytes ≡ flat_map part ps) × AreOf format ps × AreRight ps × (length ps ≡ count)
 
-behind_parts : (format : Format) (count : ℕ) (bytes rest : List ℕ) (ps : List Part) (before : List Span) (n : ℕ) → PartsRead format bytes ps before rest n → n ≡ count
+after_parts : (format : Format) (count : ℕ) (bytes rest : List ℕ) (ps : List Part) (before : List Span) (n : ℕ) → PartsRead format bytes ps before rest n → n ≡ count
     → PartsWhole format count bytes ⊎ ((k : LayoutFault) × ArePartsFault format count bytes k)
-behind_parts format count bytes rest ps before n so_far all =
+after_parts format count bytes rest ps before n so_far all =
     elim (cases_lt 0 (length rest)) [
       | inl some ↦ inr (Trailing, trailing format bytes ps before rest n count so_far all some)
       | inr none ↦ let whole = all_read format bytes ps before rest n count so_far all (omega arith) in inl (ps, whole.0, so_far.of, whole.1, whole.2)
@@ -146,7 +146,7 @@ behind_parts format count bytes rest ps before n so_far all =
 -- with so many sandboxes to come
 parts_on : (format : Format) (d count : ℕ) (bytes rest : List ℕ) (ps : List Part) (before : List Span) (n : ℕ) → PartsRead format bytes ps before rest n → n + d ≡ count → IsBytes rest
     → PartsWhole format count bytes ⊎ ((k : LayoutFault) × ArePartsFault format count bytes k)
-parts_on format zero count bytes rest ps before n so_far all small = behind_parts format count bytes rest ps before n so_far (omega arith)
+parts_on format zero count bytes rest ps before n so_far all small = after_parts format count bytes rest ps before n so_far (omega arith)
 parts_on format (suc d) count bytes rest ps before n so_far all small =
     elim (part_or_fault format before rest small) [
       | inl next ↦
@@ -165,7 +165,7 @@ parts_or_fault format count bytes small = parts_on format count count bytes byte
 
 -- ---- the whole
 
--- behind the magic, a count from 1 to 16 and so many right sandboxes
+-- after the magic, a count from 1 to 16 and so many right sandboxes
 record CountRead (format : Format) (bytes : List ℕ) : Type 0 where
   pub count : ℕ
   pub rest : List ℕ
@@ -189,8 +189,8 @@ count_or_fault format bytes small =
           ]
     ]
 
-behind_front : (format : Format) (bytes : List ℕ) → take 4 bytes ≡ magic format → IsBytes bytes → ((ps : List Part) × IsImage bytes ps) ⊎ ((k : LayoutFault) × IsFault bytes k)
-behind_front format bytes is small =
+after_front : (format : Format) (bytes : List ℕ) → take 4 bytes ≡ magic format → IsBytes bytes → ((ps : List Part) × IsImage bytes ps) ⊎ ((k : LayoutFault) × IsFault bytes k)
+after_front format bytes is small =
     elim (count_or_fault format (drop 4 bytes) (IsBytes-drop 4 bytes small)) [
       | inl read ↦
           inl (read.parts.0, whole format bytes (take 4 bytes) (drop 4 bytes) read.rest read.count read.parts.0 refl refl is read.bytes_are read.least read.most read.parts.1 read.parts.2 read.parts.3 read.parts.4)
@@ -206,9 +206,9 @@ some_reading bytes all =
     elim (cases_lt (length bytes) 4) [
       | inl short ↦ inr (Short, inl (short, refl))
       | inr long ↦ elim (decided_same (take 4 bytes) (magic Sfi1)) [
-        | inl is ↦ behind_front Sfi1 bytes is (IsBytes-from_all bytes all)
+        | inl is ↦ after_front Sfi1 bytes is (IsBytes-from_all bytes all)
         | inr other ↦ elim (decided_same (take 4 bytes) (magic Sfi2)) [
-          | inl is ↦ behind_front Sfi2 bytes is (IsBytes-from_all bytes all)
+          | inl is ↦ after_front Sfi2 bytes is (IsBytes-from_all bytes all)
           | inr others ↦ inr (Magic, magic_wrong bytes (take 4 bytes) long refl (neither bytes other others))
         ]
       ]

@@ -1,4 +1,4 @@
--- The fault of bytes that are no image: a right front, and then what is wrong behind it.
+-- The fault of bytes that are no image: a right front, and then what is wrong after it.
 use Rattle.std.specs.Prelude.{◌≡◌, ◌≢◌, ℕ, ◌+◌, ◌<◌, ◌≤◌, ◌⊎◌, List, [], ◌∷◌, ◌++◌, length, take, Some, None}
 use Rattle.std.specs.List.{All, flat_map}
 use Rattle.sfi_image.specs.declared.format.Format.{Format}
@@ -28,21 +28,21 @@ number_of Init = 9
 number_of Overlap = 10
 number_of Trailing = 11
 
--- behind these gates the next pair is cut short
+-- after these gates the next pair is cut short
 abbrev pub IsGateShort : Fields → List Gate → List ℕ → LayoutFault → Type 0
 IsGateShort f gs rest k = (length gs < f.gate_count) × (length rest < 8) × (k ≡ Short)
 
--- the next pair is no gate behind these
+-- the next pair is no gate after these
 abbrev pub IsGateWrong : Fields → List Gate → List ℕ → LayoutFault → Type 0
 IsGateWrong f gs rest k =
     (length gs < f.gate_count) × (g : Gate) × (after : List ℕ) × (rest ≡ gate g ++ after) × AreGateWords g
     × (¬ AreGates (code_span f) (gs ++ g ∷ [])) × (k ≡ Gates)
 
--- behind the last gate the code and the data are cut short
+-- after the last gate the code and the data are cut short
 abbrev pub AreContentsShort : Fields → List Gate → List ℕ → LayoutFault → Type 0
 AreContentsShort f gs rest k = (length gs ≡ f.gate_count) × (length rest < f.code_size + f.init_len) × (k ≡ Short)
 
--- behind right gates one of these is so
+-- after right gates one of these is so
 abbrev pub IsBodyFault : Fields → List ℕ → LayoutFault → Type 0
 IsBodyFault f bytes k = (gs : List Gate) × (rest : List ℕ)
     × (bytes ≡ flat_map gate gs ++ rest) × All AreGateWords gs × AreGates (code_span f) gs
@@ -56,13 +56,13 @@ IsPartFault format before bytes k =
     IsFirstFault before f field_tests (Some k)
     ⊎ (IsFirstFault before f field_tests None × IsBodyFault f rest k)))
 
--- behind right sandboxes the next one is wrong, or bytes follow the last
+-- after right sandboxes the next one is wrong, or bytes follow the last
 abbrev pub ArePartsFault : Format → ℕ → List ℕ → LayoutFault → Type 0
 ArePartsFault format n bytes k = (ps : List Part) × (rest : List ℕ) × (bytes ≡ flat_map part ps ++ rest) × AreRight ps × AreOf format ps × (
     ((length ps < n) × IsPartFault format (spans ps) rest k)
     ⊎ ((length ps ≡ n) × (0 < length rest) × (k ≡ Trailing)))
 
--- the count is cut short, or not from 1 to 16, or the sandboxes behind it are wrong
+-- the count is cut short, or not from 1 to 16, or the sandboxes after it are wrong
 abbrev pub IsCountFault : Format → List ℕ → LayoutFault → Type 0
 IsCountFault format bytes k =
     ((length bytes < 4) × (k ≡ Short))

@@ -19,7 +19,7 @@ pub data FieldTest : Type 0 where
   Init : FieldTest
   Overlap : FieldTest
 
--- what each test asks of the fields, behind sandboxes with these spans
+-- what each test asks of the fields, after sandboxes with these spans
 abbrev pub Passes : List Span → Fields → FieldTest → Type 0
 Passes before f Code = IsCodeRegion f.format f.code_base f.code_size
 Passes before f Data = IsDataRegion f.data_base f.data_size

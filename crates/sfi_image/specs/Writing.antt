@@ -11,18 +11,18 @@ use Rattle.sfi_image.specs.Gates.{AreGates}
 use Rattle.sfi_image.specs.Parts.{AreRight}
 use Rattle.sfi_image.specs.Tests.{IsFirstFault, field_tests}
 
--- behind right gates the next one is none
+-- after right gates the next one is none
 abbrev pub HasWrongGate : Span → List Gate → Type 0
 HasWrongGate region gs = (front : List Gate) × (g : Gate) × (more : List Gate)
     × (gs ≡ front ++ g ∷ more) × AreGates region front × (¬ AreGates region (front ++ g ∷ []))
 
--- behind sandboxes with these spans its fields fail a test, or pass them all and a gate is wrong
+-- after sandboxes with these spans its fields fail a test, or pass them all and a gate is wrong
 abbrev pub HasFault : List Span → Part → LayoutFault → Type 0
 HasFault before p k =
     IsFirstFault before (fields_of p) field_tests (Some k)
     ⊎ (IsFirstFault before (fields_of p) field_tests None × HasWrongGate (code_region p) p.gates × (k ≡ Gates))
 
--- behind right sandboxes the next one has the fault
+-- after right sandboxes the next one has the fault
 abbrev pub HasWrongPart : List Part → LayoutFault → Type 0
 HasWrongPart ps k = (front : List Part) × (p : Part) × (more : List Part)
     × (ps ≡ front ++ p ∷ more) × AreRight front × HasFault (spans front) p k

@@ -82,7 +82,7 @@ pub(crate) fn guarded_span(fields: &Fields) -> Span
     }
 }
 
-// The sandbox's two spans come behind those of the sandboxes before it.
+// The sandbox's two spans come after those of the sandboxes before it.
 pub(crate) fn add_spans(before: &mut Vec<Span>, fields: &Fields) -> Result<(), AllocError>
     requires { GUARD ≤ fields.now.data_base }
     ensures { OnOk result (before.new.items ≡ before.old.items ++ spans_of fields.now) }
@@ -92,7 +92,7 @@ pub(crate) fn add_spans(before: &mut Vec<Span>, fields: &Fields) -> Result<(), A
     Ok(())
 }
 
-// The first test that the fields fail, behind sandboxes with these spans.
+// The first test that the fields fail, after sandboxes with these spans.
 pub(crate) fn field_fault(before: &[Span], fields: &Fields) -> Option<LayoutFault>
     requires bounded { All IsBounded before.now }
     requires apart { AllPairs AreApart before.now }

@@ -22,7 +22,7 @@ fn is_above_all(gates: &[Gate], address: u32) -> bool
     }
 }
 
-// The gate may come next behind these.
+// The gate may come next after these.
 pub(crate) fn is_next_gate(fields: &Fields, gates: &[Gate], gate: Gate) -> bool
     requires { AreGates (code_span fields.now) gates.now }
     ensures next { IsTrue result ↔ AreGates (code_span fields.now) (gates.now ++ gate ∷ []) }
@@ -48,7 +48,7 @@ fn is_above_last(addresses: &[u32], address: u32) -> bool
     }
 }
 
-// The gate may come next behind gates with these addresses.
+// The gate may come next after gates with these addresses.
 pub(crate) fn is_next_address(fields: &Fields, addresses: &[u32], gate: Gate) -> bool
     ensures next { (gs : List Gate) → map (λ g. g.address) gs ≡ addresses.now → AreGates (code_span fields.now) gs
         → IsTrue result ↔ AreGates (code_span fields.now) (gs ++ gate ∷ []) }

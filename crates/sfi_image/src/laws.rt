@@ -29,7 +29,7 @@ pub fn right_in_second()
     ensures { RightInSecond }
 {}
 
-/// Where bytes end behind the front of an image, or go on behind the whole.
+/// Where bytes end after the front of an image, or go on after the whole.
 pub fn front_ends()
     ensures cut_short { CutShort }
     ensures trails { Trails }

@@ -31,7 +31,7 @@ fn capped(len: usize) -> u32
     }
 }
 
-// The number, of which a contract behind a reference doesn't know that it has 32 bits.
+// The number, of which a contract after a reference doesn't know that it has 32 bits.
 fn word(number: u32) -> u32
     ensures value { result ≡ number }
     ensures word { IsWord result }
@@ -56,7 +56,7 @@ fn fields_of_part(format: Format, part: &SandboxPart<'_>) -> Fields
     }
 }
 
-// Each gate may come next behind those before it.
+// Each gate may come next after those before it.
 fn are_gates(fields: &Fields, gates: &[Gate]) -> bool
     ensures right { OnTrue result (AreGates (code_span fields.now) gates.now) }
     ensures words { OnTrue result (All AreGateWords gates.now) }
@@ -70,7 +70,7 @@ fn are_gates(fields: &Fields, gates: &[Gate]) -> bool
     true
 }
 
-// What is wrong with a sandbox behind others with these spans.
+// What is wrong with a sandbox after others with these spans.
 fn part_fault(format: Format, before: &[Span], part: &SandboxPart<'_>) -> Option<LayoutFault>
     requires bounded { All IsBounded before.now }
     requires apart { AllPairs AreApart before.now }

@@ -18,7 +18,7 @@ use byteorder::{ByteOrder, LittleEndian};
 use std::alloc::{AllocError, Global};
 
 #[tactic(auto, unfolding(crate::specs::Spelling::number))]
-// The number in four bytes comes behind the bytes so far.
+// The number in four bytes comes after the bytes so far.
 fn push_number(bytes: &mut Vec<u8>, n: u32) -> Result<(), AllocError>
     ensures { OnOk result (bytes.new.items ≡ bytes.old.items ++ number n) }
 {
@@ -29,7 +29,7 @@ fn push_number(bytes: &mut Vec<u8>, n: u32) -> Result<(), AllocError>
 }
 
 #[tactic(auto, using(std::proofs::Common::append_assoc), unfolding(crate::specs::Spelling::gate))]
-// The gate comes behind the bytes so far.
+// The gate comes after the bytes so far.
 fn push_gate(bytes: &mut Vec<u8>, one: Gate) -> Result<(), AllocError>
     ensures { OnOk result (bytes.new.items ≡ bytes.old.items ++ gate one) }
 {
@@ -38,7 +38,7 @@ fn push_gate(bytes: &mut Vec<u8>, one: Gate) -> Result<(), AllocError>
     Ok(())
 }
 
-// The gates come behind the bytes so far.
+// The gates come after the bytes so far.
 fn push_gates(bytes: &mut Vec<u8>, gates: &[Gate]) -> Result<(), AllocError>
     ensures { OnOk result (bytes.new.items ≡ bytes.old.items ++ flat_map gate gates.now) }
 {
@@ -49,7 +49,7 @@ fn push_gates(bytes: &mut Vec<u8>, gates: &[Gate]) -> Result<(), AllocError>
 }
 
 #[tactic(auto, using(std::proofs::Common::append_assoc), unfolding(crate::specs::Spelling::fields))]
-// The seven fields of a sandbox come behind the bytes so far.
+// The seven fields of a sandbox come after the bytes so far.
 fn push_fields(bytes: &mut Vec<u8>, one: &SandboxPart<'_>) -> Result<(), AllocError>
     requires { (format : Format) × IsRightPart (view format one.now) }
     ensures { (format : Format) → OnOk result (bytes.new.items ≡ bytes.old.items ++ fields (fields_of (view format one.now))) }
@@ -65,7 +65,7 @@ fn push_fields(bytes: &mut Vec<u8>, one: &SandboxPart<'_>) -> Result<(), AllocEr
 }
 
 #[tactic(auto, using(std::proofs::Common::append_assoc), unfolding(crate::specs::Spelling::part))]
-// The sandbox comes behind the bytes so far.
+// The sandbox comes after the bytes so far.
 fn push_part(bytes: &mut Vec<u8>, one: &SandboxPart<'_>) -> Result<(), AllocError>
     requires { (format : Format) × IsRightPart (view format one.now) }
     ensures { (format : Format) → OnOk result (bytes.new.items ≡ bytes.old.items ++ part (view format one.now)) }

@@ -30,7 +30,7 @@ use Rattle.sfi_link.specs.Addresses.{target_at, address_at, with_offset}
 use Rattle.sfi_link.specs.Linked.{c_ebreak}
 use Rattle.sfi_link.specs.Code.{resolved, made_of, AreSlots}
 use Rattle.sfi_link.proofs.Sizes.{slot_some, size_cons}
-use Rattle.sfi_link.proofs.CleanPlaces.{AreStarts, IsReadAs, IsCleanFrom, and_false, place, or_left, unreserved, is_calm, writes_unreserved, calm, no_write, well_written, by_first, by_second, by_third, pair_read, or_read, both_true, second_false, not_false, on_stack, behind_pair, lands, direct, PassesBefore, step, some_same, made, slot_spells, lone_ends}
+use Rattle.sfi_link.proofs.CleanPlaces.{AreStarts, IsReadAs, IsCleanFrom, and_false, place, or_left, unreserved, is_calm, writes_unreserved, calm, no_write, well_written, by_first, by_second, by_third, pair_read, or_read, both_true, second_false, not_false, on_stack, after_pair, lands, direct, PassesBefore, step, some_same, made, slot_spells, lone_ends}
 
 -- ---- slot by slot
 
@@ -39,7 +39,7 @@ abbrev pub IsCleanly : BundlePlace → Bases → List PlacedName → ℕ → Lis
 IsCleanly b at names here earlier slots =
     here + size_of slots ≤ 2 ^ 32 → (bytes : List ℕ) → AreSlots at names here slots bytes → IsCleanFrom b here earlier slots bytes
 
--- the slot's instruction breaks no rule there, and what stands behind it none either
+-- the slot's instruction breaks no rule there, and what stands after it none either
 record CanStep (b : BundlePlace) (at : Bases) (names : List PlacedName) (here : ℕ) (earlier : List Instr) (x : Slot) (more : List Slot) (i : Instr) : Type 0 where
   own : IsReadAs x (record { instr = i; size = slot_size x })
   passes : PassesBefore b here earlier i more
@@ -66,13 +66,13 @@ wide : SpellingsAreWide → (b : BundlePlace) (at : Bases) (names : List PlacedN
     → PassesBefore b here earlier i more → IsCleanly b at names (here + 4) (i ∷ earlier) more → IsCleanly b at names here earlier (Wide i ∷ more)
 wide law b at names here earlier i more passes rest = known law b at names here earlier (Wide i) i more refl refl passes rest
 
--- what stands behind is clean wherever it stands
-abbrev IsCleanBehind : BundlePlace → Bases → List PlacedName → List Slot → Type 0
-IsCleanBehind b at names more = (here : ℕ) (earlier : List Instr) → IsCleanly b at names here earlier more
+-- what stands after is clean wherever it stands
+abbrev IsCleanAfter : BundlePlace → Bases → List PlacedName → List Slot → Type 0
+IsCleanAfter b at names more = (here : ℕ) (earlier : List Instr) → IsCleanly b at names here earlier more
 
 -- an instruction as it is
 alone : SpellingsAreWide → (b : BundlePlace) (at : Bases) (names : List PlacedName) (here : ℕ) (earlier : List Instr) (rvc : Bool) (i : Instr) (expanded more : List Slot)
-    → IsAlone rvc i expanded → PassesBefore b here earlier i more → IsCleanBehind b at names more → IsCleanly b at names here earlier (expanded ++ more)
+    → IsAlone rvc i expanded → PassesBefore b here earlier i more → IsCleanAfter b at names more → IsCleanly b at names here earlier (expanded ++ more)
 alone law b at names here earlier false i expanded more a passes rest =
     subst (λ v. IsCleanly b at names here earlier (v ++ more)) (sym a) (wide law b at names here earlier i more passes (rest (here + 4) (i ∷ earlier)))
 alone law b at names here earlier true i expanded more a passes rest =
@@ -95,7 +95,7 @@ into_x31 b here earlier i more c d later read e =
 
 -- a pair on x31, and what uses it
 pair_then : SpellingsAreWide → (b : BundlePlace) (at : Bases) (names : List PlacedName) (here : ℕ) (earlier : List Instr) (a mask base : ℕ) (i : Instr) (more : List Slot)
-    → PassesBefore b (here + 4 + 4) (Op Or 31 31 base ∷ Op And 31 a mask ∷ earlier) i more → IsCleanBehind b at names more
+    → PassesBefore b (here + 4 + 4) (Op Or 31 31 base ∷ Op And 31 a mask ∷ earlier) i more → IsCleanAfter b at names more
     → IsCleanly b at names here earlier (Wide (Op And 31 a mask) ∷ Wide (Op Or 31 31 base) ∷ Wide i ∷ more)
 pair_then law b at names here earlier a mask base i more passes rest =
     wide law b at names here earlier (Op And 31 a mask) (Wide (Op Or 31 31 base) ∷ Wide i ∷ more)
@@ -107,7 +107,7 @@ pair_then law b at names here earlier a mask base i more passes rest =
 
 -- the pair that puts the stack pointer back
 stack_pair_then : SpellingsAreWide → (b : BundlePlace) (at : Bases) (names : List PlacedName) (here : ℕ) (earlier : List Instr) (more : List Slot)
-    → IsCleanBehind b at names more → IsCleanly b at names here earlier (stack.stack_pair ++ more)
+    → IsCleanAfter b at names more → IsCleanly b at names here earlier (stack.stack_pair ++ more)
 stack_pair_then law b at names here earlier more rest =
     wide law b at names here earlier (Op And 2 2 27) (Wide (Op Or 2 2 26) ∷ more)
     (λ later read e.
@@ -192,7 +192,7 @@ jump_passes b here earlier a rd more h w later read e =
     }
 
 with_sum : SpellingsAreWide → (b : BundlePlace) (at : Bases) (names : List PlacedName) (here : ℕ) (earlier : List Instr) (rd a : ℕ) (imm : ℤ) (more : List Slot)
-    → is_withheld rd ≡ false → is_stack b.format rd ≡ false → IsCleanBehind b at names more
+    → is_withheld rd ≡ false → is_stack b.format rd ≡ false → IsCleanAfter b at names more
     → IsCleanly b at names here earlier (Wide (OpImm Addi 31 a imm) ∷ Wide (Op And 31 31 25) ∷ Wide (Op Or 31 31 24) ∷ jump_to_x31 rd ∷ more)
 with_sum law b at names here earlier rd a imm more h w rest =
     wide law b at names here earlier (OpImm Addi 31 a imm) (Wide (Op And 31 31 25) ∷ Wide (Op Or 31 31 24) ∷ jump_to_x31 rd ∷ more)
@@ -201,14 +201,14 @@ with_sum law b at names here earlier rd a imm more h w rest =
     (jump_passes b (here + 4 + 4 + 4) (OpImm Addi 31 a imm ∷ earlier) 31 rd more h w) rest)
 
 jump_clean : SpellingsAreWide → (b : BundlePlace) (at : Bases) (names : List PlacedName) (here : ℕ) (earlier : List Instr) (rd a : ℕ) (imm : ℤ) (more : List Slot)
-    → is_withheld rd ≡ false → is_stack b.format rd ≡ false → IsCleanBehind b at names more → IsCleanly b at names here earlier (jump_slots rd a imm ++ more)
+    → is_withheld rd ≡ false → is_stack b.format rd ≡ false → IsCleanAfter b at names more → IsCleanly b at names here earlier (jump_slots rd a imm ++ more)
 jump_clean law b at names here earlier rd a (pos zero) more h w rest =
     pair_then law b at names here earlier a 25 24 (Jalr rd 31 (pos 0)) more (jump_passes b (here + 4 + 4) earlier a rd more h w) rest
 jump_clean law b at names here earlier rd a (pos (suc n)) more h w rest = with_sum law b at names here earlier rd a (pos (suc n)) more h w rest
 jump_clean law b at names here earlier rd a (negsuc n) more h w rest = with_sum law b at names here earlier rd a (negsuc n) more h w rest
 
 masked_clean : SpellingsAreWide → (b : BundlePlace) (at : Bases) (names : List PlacedName) (here : ℕ) (earlier : List Instr) (rvc : Bool) (i : Instr) (count : ℕ) (expanded more : List Slot)
-    → IsMasked rvc i expanded → IsBody count (Plain i) → names_withheld i ≡ false → is_ecall (Plain i) ≡ false → writes_stack b i ≡ false → IsCleanBehind b at names more
+    → IsMasked rvc i expanded → IsBody count (Plain i) → names_withheld i ≡ false → is_ecall (Plain i) ≡ false → writes_stack b i ≡ false → IsCleanAfter b at names more
     → IsCleanly b at names here earlier (expanded ++ more)
 masked_clean law b at names here earlier rvc (Load kind rd a imm) count expanded more x body h c w rest =
     subst (λ v. IsCleanly b at names here earlier (v ++ more)) (sym x)
@@ -216,7 +216,7 @@ masked_clean law b at names here earlier rvc (Load kind rd a imm) count expanded
     (λ later read e. record {
       v3 = refl;
       v4 = writes_unreserved (Load kind rd a imm) h;
-      v5 = behind_pair (is_stack b.format 31);
+      v5 = after_pair (is_stack b.format 31);
       v6 = refl;
       v7 = refl;
       v8 = e;
@@ -229,7 +229,7 @@ masked_clean law b at names here earlier rvc (Store width a rs2 imm) count expan
     (λ later read e. record {
       v3 = refl;
       v4 = refl;
-      v5 = behind_pair (is_stack b.format 31);
+      v5 = after_pair (is_stack b.format 31);
       v6 = refl;
       v7 = refl;
       v8 = e;
@@ -259,7 +259,7 @@ masked_clean law b at names here earlier rvc (Jal rd offset) count expanded more
 plain_clean : SpellingsAreWide → (b : BundlePlace) (at : Bases) (names : List PlacedName) (here : ℕ) (earlier : List Instr) (writes on rvc : Bool) (i : Instr) (count : ℕ) (expanded more : List Slot)
     → stack.writes_stack b.format i ≡ writes → stack.is_on_stack b.format i ≡ on
     → MatchBool writes (expanded ≡ Wide i ∷ stack.stack_pair) (MatchBool on (IsAlone rvc i expanded) (IsMasked rvc i expanded))
-    → IsBody count (Plain i) → names_withheld i ≡ false → is_ecall (Plain i) ≡ false → stack.is_stack_write b.format (Plain i) ≡ false → IsCleanBehind b at names more
+    → IsBody count (Plain i) → names_withheld i ≡ false → is_ecall (Plain i) ≡ false → stack.is_stack_write b.format (Plain i) ≡ false → IsCleanAfter b at names more
     → IsCleanly b at names here earlier (expanded ++ more)
 plain_clean law b at names here earlier true on rvc i count expanded more w o x body h c s rest =
     let both = both_true (has_stack b.format) (writes_register 2 i) w in
@@ -276,7 +276,7 @@ plain_clean law b at names here earlier false false rvc i count expanded more w 
 -- an instruction made of a name's address, before the pair if it writes the stack pointer
 made_clean : SpellingsAreWide → (b : BundlePlace) (at : Bases) (names : List PlacedName) (here : ℕ) (earlier : List Instr) (writes : Bool) (rd : ℕ) (x : Slot) (f : ℕ → Instr) (o : Option ℕ) (more : List Slot)
     → is_stack b.format rd ≡ writes → resolved at names here x ≡ made_of f o → ((a : ℕ) → (is_calm (f a) ≡ true) × (is_jump (f a) ≡ false) × (destination (f a) ≡ Some rd) × (breaks_reserved (f a) ≡ false))
-    → ((i : Instr) → IsReadAs x (record { instr = i; size = slot_size x })) → IsCleanBehind b at names more
+    → ((i : Instr) → IsReadAs x (record { instr = i; size = slot_size x })) → IsCleanAfter b at names more
     → IsCleanly b at names here earlier (x ∷ (stack.put_back writes ++ more))
 made_clean law b at names here earlier true rd x f o more w r calmly own rest =
     slot_step law b at names here earlier x (stack.stack_pair ++ more) (λ i q.
@@ -301,14 +301,14 @@ made_clean law b at names here earlier false rd x f o more w r calmly own rest =
 
 body_clean : SpellingsAreWide → (b : BundlePlace) (at : Bases) (names : List PlacedName) → AreStarts b at names → (here : ℕ) (earlier : List Instr) (line : ℕ) (rvc : Bool) (body : Body) (count : ℕ)
     (expanded more : List Slot) → item_names_withheld body ≡ false → is_ecall body ≡ false → stack.is_stack_write b.format body ≡ false → IsBody count body → IsExpansionOf b.format line rvc body expanded
-    → IsCleanBehind b at names more → IsCleanly b at names here earlier (expanded ++ more)
+    → IsCleanAfter b at names more → IsCleanly b at names here earlier (expanded ++ more)
 body_clean law b at names starts here earlier line rvc (Plain i) count expanded more h c s is x rest =
     plain_clean law b at names here earlier (stack.writes_stack b.format i) (stack.is_on_stack b.format i) rvc i count expanded more refl refl x is h c s rest
 body_clean law b at names starts here earlier line rvc (To j k) count expanded more h c s is x rest =
     subst (λ v. IsCleanly b at names here earlier (v ++ more)) (sym x) (jump_to law b at names starts here earlier j k line count more h s is rest)
   where
     jump_to : SpellingsAreWide → (b : BundlePlace) (at : Bases) (names : List PlacedName) → AreStarts b at names → (here : ℕ) (earlier : List Instr) (j : Instr) (k line count : ℕ) (more : List Slot)
-        → names_withheld j ≡ false → stack.is_stack_write b.format (To j k) ≡ false → IsBody count (To j k) → IsCleanBehind b at names more → IsCleanly b at names here earlier (Jump j k line ∷ more)
+        → names_withheld j ≡ false → stack.is_stack_write b.format (To j k) ≡ false → IsBody count (To j k) → IsCleanAfter b at names more → IsCleanly b at names here earlier (Jump j k line ∷ more)
     jump_to law b at names starts here earlier j k line count more h s is rest room bytes =
         let sized = size_cons (Jump j k line) more in
         let low : here < 2 ^ 32 = omega arith in
@@ -334,9 +334,9 @@ body_clean law b at names starts here earlier line rvc (Low rd k) count expanded
 
 -- ---- whole expansions
 
--- slots that are whole expansions, with what is clean behind them, are read whole, without a finding
+-- slots that are whole expansions, with what is clean after them, are read whole, without a finding
 pub clean : SpellingsAreWide → (b : BundlePlace) (at : Bases) (names : List PlacedName) → AreStarts b at names → (count : ℕ) (slots more : List Slot)
-    → AreWhole b.format count slots → IsCleanBehind b at names more → IsCleanBehind b at names (slots ++ more)
+    → AreWhole b.format count slots → IsCleanAfter b at names more → IsCleanAfter b at names (slots ++ more)
 clean law b at names starts count _ more nothing rest here earlier = rest here earlier
 clean law b at names starts count _ more (padding slots w) rest here earlier =
     known law b at names here earlier c_nop (OpImm Addi 0 0 (pos 0)) (slots ++ more) refl tt
@@ -348,7 +348,7 @@ clean law b at names starts count _ more (whole_expansion x expanded slots p is 
     (clean law b at names starts count slots more w rest))
 
 -- c.ebreaks are
-pub clean_fill : SpellingsAreWide → (b : BundlePlace) (at : Bases) (names : List PlacedName) (n : ℕ) → IsCleanBehind b at names (replicate n c_ebreak)
+pub clean_fill : SpellingsAreWide → (b : BundlePlace) (at : Bases) (names : List PlacedName) (n : ℕ) → IsCleanAfter b at names (replicate n c_ebreak)
 clean_fill law b at names zero here earlier room bytes s =
     record { reading = []; is_reading = tt; nothing_left = s; count = refl; read = tt; ending = λ _. refl; length_is = ap length s; found = λ _. refl }
 clean_fill law b at names (suc n) here earlier room bytes s =

@@ -119,7 +119,7 @@ or_left true b h = cc
 pub unreserved : (r : ℕ) → is_withheld r ≡ false → is_reserved r ≡ false
 unreserved r h = or_left (is_reserved r) (r == 31) h
 
--- an instruction that neither accesses memory nor leads anywhere but behind itself, or stops
+-- an instruction that neither accesses memory nor leads anywhere but after itself, or stops
 abbrev pub is_calm : Instr → Bool
 is_calm (Op op rd rs1 rs2) = true
 is_calm (OpImm op rd rs1 imm) = true
@@ -182,7 +182,7 @@ by_third true q r h = refl
 by_third false true r h = refl
 by_third false false r h = h
 
--- the pair directly behind is read
+-- the pair directly after is read
 pub pair_read : (more : List Slot) (later : List Piece) → AreReadAs (stack.stack_pair ++ more) later → precedes_pair later ≡ true
 pair_read more [] h = absurd h
 pair_read more (x ∷ []) h = absurd h.1
@@ -209,10 +209,10 @@ not_false false h = cc
 pub on_stack : (b : BundlePlace) (a : ℕ) (p : Bool) → is_stack b.format a ≡ true → not (is_stack b.format a || p) ≡ false
 on_stack b a p h = ap (λ v. not (v || p)) h
 
--- an access behind the pair
-pub behind_pair : (v : Bool) → not (v || true) ≡ false
-behind_pair true = refl
-behind_pair false = refl
+-- an access after the pair
+pub after_pair : (v : Bool) → not (v || true) ≡ false
+after_pair true = refl
+after_pair false = refl
 
 -- the distance from here to an address leads there
 pub lands : (z : ℤ) (here a : ℕ) → z ≡ pos a -ℤ pos here → here < 2 ^ 32 → a < 2 ^ 32 → offset_by here z ≡ a
@@ -253,7 +253,7 @@ ending_step x (y ∷ reading) s (t ∷ slots) n one others h = others h
 ending_step x [] s (t ∷ slots) n one others h = absurd (omega arith)
 ending_step x (y ∷ reading) s [] n one others h = absurd (omega arith)
 
--- no rule is broken at the place of an instruction behind which these slots are read
+-- no rule is broken at the place of an instruction after which these slots are read
 abbrev pub PassesBefore : BundlePlace → ℕ → List Instr → Instr → List Slot → Type 0
 PassesBefore b here earlier i slots =
     (later : List Piece) → AreReadAs slots later → breaks_end (place b here earlier i later) i ≡ false → Passes (place b here earlier i later)

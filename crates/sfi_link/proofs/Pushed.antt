@@ -1,4 +1,4 @@
--- Slots written one behind another.
+-- Slots written one after another.
 use Rattle.std.proofs.Common.{◌≡◌, ℕ, zero, suc, ◌+◌, ◌^◌, ◌<◌, ◌≤◌, List, [], ◌∷◌, ◌++◌, length, take, drop, get_or, replicate, Some, refl, sym, ap, ◌∙◌, subst, arith, append_assoc, append-nil, length-append, drop-cons, add-one, Fits, w64, rules}
 use Rattle.std.specs.Prelude.{ℤ, pos, slice_get}
 use Rattle.std.specs.List.{All, repeat}
@@ -49,7 +49,7 @@ low_pushed at names rd place line a i old new there is reg e = (
   },
 )
 
--- ---- one list behind another
+-- ---- one list after another
 
 pub slots-append : (at : Bases) (names : List PlacedName) (here : ℕ) (xs ys : List Slot) (f r : List ℕ) → AreSlots at names here xs f → AreSlots at names (here + size_of xs) ys r → AreSlots at names here (xs ++ ys) (f ++ r)
 slots-append at names here [] ys f r a b =
@@ -82,15 +82,15 @@ written-append at names xs ys old now new v w =
 pub one_written : (at : Bases) (names : List PlacedName) (s : Slot) (old new : List ℕ) → IsPushed at names s old new → AreWritten at names (s ∷ []) old new
 one_written at names s old new (bytes, e, one) = record { bytes = bytes; appended = e; spelled = (bytes, [], one, refl, sym (append-nil bytes)) }
 
--- ---- the first fault behind what is written
+-- ---- the first fault after what is written
 
-get_behind : {X : Type 0} (xs ys : List X) (k : ℕ) → slice_get (xs ++ ys) (length xs + k) ≡ slice_get ys k
-get_behind [] ys k = ap (slice_get ys) (let e : 0 + k ≡ k = omega arith in e)
-get_behind (x ∷ xs) ys k = ap (slice_get (x ∷ (xs ++ ys))) (let e : suc (length xs) + k ≡ suc (length xs + k) = omega arith in e) ∙ get_behind xs ys k
+get_after : {X : Type 0} (xs ys : List X) (k : ℕ) → slice_get (xs ++ ys) (length xs + k) ≡ slice_get ys k
+get_after [] ys k = ap (slice_get ys) (let e : 0 + k ≡ k = omega arith in e)
+get_after (x ∷ xs) ys k = ap (slice_get (x ∷ (xs ++ ys))) (let e : suc (length xs) + k ≡ suc (length xs + k) = omega arith in e) ∙ get_after xs ys k
 
-take_behind : {X : Type 0} (xs ys : List X) (k : ℕ) → take (length xs + k) (xs ++ ys) ≡ xs ++ take k ys
-take_behind [] ys k = ap (λ n. take n ys) (let e : 0 + k ≡ k = omega arith in e)
-take_behind (x ∷ xs) ys k = ap (λ n. take n (x ∷ (xs ++ ys))) (let e : suc (length xs) + k ≡ suc (length xs + k) = omega arith in e) ∙ ap (λ l. x ∷ l) (take_behind xs ys k)
+take_after : {X : Type 0} (xs ys : List X) (k : ℕ) → take (length xs + k) (xs ++ ys) ≡ xs ++ take k ys
+take_after [] ys k = ap (λ n. take n ys) (let e : 0 + k ≡ k = omega arith in e)
+take_after (x ∷ xs) ys k = ap (λ n. take n (x ∷ (xs ++ ys))) (let e : suc (length xs) + k ≡ suc (length xs + k) = omega arith in e) ∙ ap (λ l. x ∷ l) (take_after xs ys k)
 
 get_append : {X : Type 0} (xs ys : List X) (k : ℕ) (x : X) → slice_get xs k ≡ Some x → slice_get (xs ++ ys) k ≡ Some x
 get_append [] ys zero x e = cc
@@ -104,18 +104,18 @@ take_within [] ys (suc k) x e = cc
 take_within (y ∷ xs) ys zero x e = refl
 take_within (y ∷ xs) ys (suc k) x e = ap (λ l. y ∷ l) (take_within xs ys k x e)
 
-pub fault_behind : (at : Bases) (names : List PlacedName) (xs ys zs : List Slot) (old now : List ℕ) (f : LinkFault) → AreWritten at names xs old now → IsSlotFault at names (at.code + length now) ys f
+pub fault_after : (at : Bases) (names : List PlacedName) (xs ys zs : List Slot) (old now : List ℕ) (f : LinkFault) → AreWritten at names xs old now → IsSlotFault at names (at.code + length now) ys f
     → IsSlotFault at names (at.code + length old) (xs ++ (ys ++ zs)) f
-fault_behind at names xs ys zs old now f w x =
+fault_after at names xs ys zs old now f w x =
     let long = written_length at names xs old now w in
     let n : at.code + length now ≡ at.code + length old + size_of xs = omega arith in
-    let front : take (length xs + x.index) (xs ++ (ys ++ zs)) ≡ xs ++ take x.index ys = take_behind xs (ys ++ zs) x.index ∙ ap (λ l. xs ++ l) (take_within ys zs x.index x.slot x.there) in
+    let front : take (length xs + x.index) (xs ++ (ys ++ zs)) ≡ xs ++ take x.index ys = take_after xs (ys ++ zs) x.index ∙ ap (λ l. xs ++ l) (take_within ys zs x.index x.slot x.there) in
     let sized = size_of-append xs (take x.index ys) in
     let here : at.code + length now + size_of (take x.index ys) ≡ at.code + length old + size_of (xs ++ take x.index ys) = omega arith in
     record {
       index = length xs + x.index;
       slot = x.slot;
-      there = get_behind xs (ys ++ zs) x.index ∙ get_append ys zs x.index x.slot x.there;
+      there = get_after xs (ys ++ zs) x.index ∙ get_append ys zs x.index x.slot x.there;
       before = w.bytes ++ x.before;
       linked =
           subst (λ l. AreSlots at names (at.code + length old) l (w.bytes ++ x.before)) (sym front)
@@ -152,7 +152,7 @@ slot_fault : (at : Bases) (names : List PlacedName) (slots : List Slot) (k : ℕ
     → AreWritten at names (take k slots) old now → HasSlotFault at names (at.code + length now) s f → IsSlotFault at names (at.code + length old) slots f
 slot_fault at names slots k s old now f lt is w h =
     subst (λ l. IsSlotFault at names (at.code + length old) l f) (sym (split_at slots k s lt is))
-    (fault_behind at names (take k slots) (s ∷ []) (drop (k + 1) slots) old now f w (one_fault at names (at.code + length now) s f h))
+    (fault_after at names (take k slots) (s ∷ []) (drop (k + 1) slots) old now f w (one_fault at names (at.code + length now) s f h))
 
 pub slot_refused : (at : Bases) (names : List PlacedName) (slots : List Slot) (k : ℕ) (s : Slot) (old now : List ℕ) (f : LinkFault) → k < length slots → s ≡ get_or slots k s
     → AreWritten at names (take k slots) old now → UnlessMemory (HasSlotFault at names (at.code + length now) s) f → UnlessMemory (IsSlotFault at names (at.code + length old) slots) f
@@ -204,7 +204,7 @@ bundle_fault : (at : Bases) (names : List PlacedName) (bundles : List (List Slot
     → AreWritten at names (slots_of (take k bundles)) old now → IsSlotFault at names (at.code + length now) b f → IsSlotFault at names (at.code + length old) (slots_of bundles) f
 bundle_fault at names bundles k b old now f lt is w h =
     subst (λ l. IsSlotFault at names (at.code + length old) l f) (sym (bundles_split bundles k b lt is))
-    (fault_behind at names (slots_of (take k bundles)) b (slots_of (drop (k + 1) bundles)) old now f w h)
+    (fault_after at names (slots_of (take k bundles)) b (slots_of (drop (k + 1) bundles)) old now f w h)
 
 pub bundle_refused : (at : Bases) (names : List PlacedName) (bundles : List (List Slot)) (k : ℕ) (b : List Slot) (old now : List ℕ) (f : LinkFault) → k < length bundles → b ≡ get_or bundles k b
     → AreWritten at names (slots_of (take k bundles)) old now → UnlessMemory (IsSlotFault at names (at.code + length now) b) f → UnlessMemory (IsSlotFault at names (at.code + length old) (slots_of bundles)) f

@@ -108,7 +108,7 @@ cut at names here (x ∷ xs) ys bytes (f, r, one, others, e) =
 
 -- ---- full bundles
 
--- 16 bytes of whole expansions, and of c.ebreaks behind them
+-- 16 bytes of whole expansions, and of c.ebreaks after them
 pub record IsFull (f : Format) (count : ℕ) (slots : List Slot) : Type 0 where
   pub size : size_of slots ≡ 16
   pub front : List Slot

@@ -117,7 +117,7 @@ becomes f at names here line count rvc (Low rd name) slots bytes b e h =
 
 -- ---- where it stands in the code
 
--- bytes behind others, in a memory that holds all of them from a base on
+-- bytes after others, in a memory that holds all of them from a base on
 held_inside : (m : Bytes) (base pc : ℕ) (front mid rest all : List ℕ) → Holds m base (length all) all
     → all ≡ front ++ (mid ++ rest) → base + length all ≤ 2 ^ 32 → pc ≡ base + length front → Holds m pc (length mid) mid
 held_inside m base pc front mid rest all holds e fits at = record {
@@ -133,11 +133,11 @@ held_inside m base pc front mid rest all holds e fits at = record {
 nops_size : (n : ℕ) → size_of (replicate n c_nop) ≡ 2 * n
 nops_size n = let e = sum_by-replicate slot_size n c_nop in omega arith
 
-regroup : (before nops expanded behind fill : List Slot) → (before ++ (nops ++ (expanded ++ behind))) ++ fill ≡ (before ++ nops) ++ (expanded ++ (behind ++ fill))
-regroup before nops expanded behind fill =
-    append_assoc before (nops ++ (expanded ++ behind)) fill
-    ∙ ap (λ v. before ++ v) (append_assoc nops (expanded ++ behind) fill ∙ ap (λ v. nops ++ v) (append_assoc expanded behind fill))
-    ∙ sym (append_assoc before nops (expanded ++ (behind ++ fill)))
+regroup : (before nops expanded after fill : List Slot) → (before ++ (nops ++ (expanded ++ after))) ++ fill ≡ (before ++ nops) ++ (expanded ++ (after ++ fill))
+regroup before nops expanded after fill =
+    append_assoc before (nops ++ (expanded ++ after)) fill
+    ∙ ap (λ v. before ++ v) (append_assoc nops (expanded ++ after) fill ∙ ap (λ v. nops ++ v) (append_assoc expanded after fill))
+    ∙ sym (append_assoc before nops (expanded ++ (after ++ fill)))
 
 regroup_bytes : (stubs front mid rest bytes more : List ℕ) → bytes ≡ front ++ more → more ≡ mid ++ rest → stubs ++ bytes ≡ (stubs ++ front) ++ (mid ++ rest)
 regroup_bytes stubs front mid rest bytes more e f = ap (λ v. stubs ++ v) (e ∙ ap (λ v. front ++ v) f) ∙ sym (append_assoc stubs front (mid ++ rest))
@@ -151,12 +151,12 @@ item_runs_as law stand number s p q k x sandbox r right few linked at =
     let fill = replicate linked.code.fill c_ebreak in
     let stubs = repeat (length p.gates) stub in
     let here = b.start + size_of lead in
-    let grouped : slots_of p.bundles ++ fill ≡ lead ++ (st.expanded ++ (st.behind ++ fill)) =
-    ap (λ v. v ++ fill) st.placed ∙ regroup st.before (replicate st.nops c_nop) st.expanded st.behind fill in
-    let one : AreCut b p.names b.start lead (st.expanded ++ (st.behind ++ fill)) linked.code.bytes =
-    cut b p.names b.start lead (st.expanded ++ (st.behind ++ fill)) linked.code.bytes
+    let grouped : slots_of p.bundles ++ fill ≡ lead ++ (st.expanded ++ (st.after ++ fill)) =
+    ap (λ v. v ++ fill) st.placed ∙ regroup st.before (replicate st.nops c_nop) st.expanded st.after fill in
+    let one : AreCut b p.names b.start lead (st.expanded ++ (st.after ++ fill)) linked.code.bytes =
+    cut b p.names b.start lead (st.expanded ++ (st.after ++ fill)) linked.code.bytes
     (subst (λ (l : List Slot). AreSlots b p.names b.start l linked.code.bytes) grouped linked.code.slots) in
-    let two : AreCut b p.names here st.expanded (st.behind ++ fill) one.rest = cut b p.names here st.expanded (st.behind ++ fill) one.rest one.second in
+    let two : AreCut b p.names here st.expanded (st.after ++ fill) one.rest = cut b p.names here st.expanded (st.after ++ fill) one.rest one.second in
     let is = becomes s.format b p.names here x.line (length s.names) x.rvc x.body st.expanded two.front (sandbox.items k x at).body st.next.expansion two.first in
     let all : q.code ≡ (stubs ++ one.front) ++ (two.front ++ two.rest) = linked.code.code_is ∙ regroup_bytes stubs one.front two.front two.rest linked.code.bytes one.rest one.whole two.whole in
     let front_size : length (stubs ++ one.front) ≡ 16 * length p.gates + (size_of st.before + 2 * st.nops) =

@@ -36,7 +36,7 @@ held_front m at n more front rest count h = record {
   each = λ k below. h.each k (omega arith) ∙ ap Some (get_or_append_left front rest 0 k (omega arith));
 }
 
--- those behind them
+-- those after them
 held_rest : (m : Bytes) (at n more : ℕ) (front rest : List ℕ) → length front ≡ n → length rest ≡ more → Holds m at (n + more) (front ++ rest) → Holds m (address_after at n) more rest
 held_rest m at n more front rest count others h = record {
   count = others;

@@ -13,7 +13,7 @@ use Rattle.sfi_link.specs.declared.bases.Bases.{Bases}
 abbrev pub stub_size : ℕ
 stub_size = 16
 
--- the sandbox of that number: its code, the first byte behind its gates' stubs, its data
+-- the sandbox of that number: its code, the first byte after its gates' stubs, its data
 abbrev pub bases_of : ℕ → Placement → Bases
 bases_of number p =
     let code = 0x01000000 * (number + 1) in

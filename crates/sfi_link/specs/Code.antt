@@ -46,7 +46,7 @@ pub record IsSlot (at : Bases) (names : List PlacedName) (here : ℕ) (s : Slot)
   pub resolves : resolved at names here s ≡ Some instr
   pub spelled : AreSlotBytes bytes s instr
 
--- the bytes of slots that stand one behind another, from `here` on
+-- the bytes of slots that stand one after another, from `here` on
 abbrev pub AreSlots : Bases → List PlacedName → ℕ → List Slot → List ℕ → Type 0
 AreSlots at names here [] bytes = bytes ≡ []
 AreSlots at names here (s ∷ slots) bytes =

@@ -17,7 +17,7 @@ use Rattle.sfi_link.specs.Code.{AreSlots}
 
 -- ---- how large the code region is
 
--- c.ebreak, with which the region is filled: what runs on behind the code stops there
+-- c.ebreak, with which the region is filled: what runs on after the code stops there
 abbrev pub c_ebreak : Slot
 c_ebreak = Short CEbreak
 
@@ -40,7 +40,7 @@ pub record IsCodeSize (f : Format) (bytes size : ℕ) : Type 0 where
 
 -- ---- a sandbox
 
--- the gates' stubs lie one behind another from the address on
+-- the gates' stubs lie one after another from the address on
 abbrev pub gates_from : ℕ → List SourceGate → List Gate
 gates_from address [] = []
 gates_from address (g ∷ gates) = record { address = address; service = g.service } ∷ gates_from (address + stub_size) gates

@@ -32,11 +32,11 @@ pub record AreNear (at : Bases) (names : List PlacedName) : Type 0 where
   pub regions : AreLow at
   pub each : All IsNear names
 
--- behind the old bytes, which lie from the code base on, stand those of the slot
+-- after the old bytes, which lie from the code base on, stand those of the slot
 abbrev pub IsPushed : Bases → List PlacedName → Slot → List ℕ → List ℕ → Type 0
 IsPushed at names s old new = (bytes : List ℕ) × (new ≡ old ++ bytes) × IsSlot at names (at.code + length old) s bytes
 
--- behind the old bytes, which lie from the code base on, stand those of the slots
+-- after the old bytes, which lie from the code base on, stand those of the slots
 pub record AreWritten (at : Bases) (names : List PlacedName) (slots : List Slot) (old new : List ℕ) : Type 0 where
   pub bytes : List ℕ
   pub appended : new ≡ old ++ bytes

@@ -21,7 +21,7 @@ const DATA_OFFSET: u32 = 0x0080_0000;
 pub struct Bases {
     /// The first address of the code, at which the gates' stubs lie.
     pub code: u32,
-    /// The first address behind the stubs, at which the sandbox starts.
+    /// The first address after the stubs, at which the sandbox starts.
     pub start: u32,
     /// The first address of the data.
     pub data: u32,

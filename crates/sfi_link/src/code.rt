@@ -23,7 +23,7 @@ use rv_word::{ImmOp, Instr, Reg};
 use sfi_rewrite::{Bundle, PlacedName, Slot};
 use std::alloc::AllocError;
 
-// A 32-bit instruction comes behind the bytes so far.
+// A 32-bit instruction comes after the bytes so far.
 fn push_wide(code: &mut Vec<u8>, instr: Instr) -> Result<(), AllocError>
     requires { InRange instr }
     ensures { OnOk result (code.new.items ≡ code.old.items ++ to_le_bytes w32 (spelling instr)) }
@@ -34,7 +34,7 @@ fn push_wide(code: &mut Vec<u8>, instr: Instr) -> Result<(), AllocError>
     Ok(())
 }
 
-// A 16-bit form comes behind the bytes so far.
+// A 16-bit form comes after the bytes so far.
 fn push_short(code: &mut Vec<u8>, form: Form16) -> Result<(), AllocError>
     requires { IsTrue (allowed form) }
     ensures { OnOk result (code.new.items ≡ code.old.items ++ to_le_bytes w16 (halfword_of form)) }
@@ -45,7 +45,7 @@ fn push_short(code: &mut Vec<u8>, form: Form16) -> Result<(), AllocError>
     Ok(())
 }
 
-// The jal or branch to the name comes behind the bytes so far.
+// The jal or branch to the name comes after the bytes so far.
 fn push_jump(
     code: &mut Vec<u8>,
     at: Bases,
@@ -71,7 +71,7 @@ fn push_jump(
     Ok(())
 }
 
-// The lui of the name's address comes behind the bytes so far.
+// The lui of the name's address comes after the bytes so far.
 #[tactic(auto, unfolding(rv_word::specs::Spelling::InRange))]
 fn push_upper(
     code: &mut Vec<u8>,
@@ -107,7 +107,7 @@ fn add_lower(rd: Reg, address: u32) -> Instr
     }
 }
 
-// The addi of what the lui leaves comes behind the bytes so far.
+// The addi of what the lui leaves comes after the bytes so far.
 fn push_lower(
     code: &mut Vec<u8>,
     at: Bases,
@@ -128,7 +128,7 @@ fn push_lower(
     Ok(())
 }
 
-// A slot comes behind the bytes so far.
+// A slot comes after the bytes so far.
 fn push_slot(
     code: &mut Vec<u8>,
     at: Bases,
@@ -151,7 +151,7 @@ fn push_slot(
     Ok(())
 }
 
-// Slots come behind the bytes so far, one behind another.
+// Slots come after the bytes so far, one after another.
 fn push_slots(
     code: &mut Vec<u8>,
     at: Bases,
@@ -170,7 +170,7 @@ fn push_slots(
     Ok(())
 }
 
-// The slots of bundles come behind the bytes so far, one behind another.
+// The slots of bundles come after the bytes so far, one after another.
 pub(crate) fn push_bundles(
     code: &mut Vec<u8>,
     at: Bases,

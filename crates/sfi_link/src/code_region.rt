@@ -77,7 +77,7 @@ fn code_size(format: Format, needed: usize) -> Option<usize>
     Some(needed.next_power_of_two())
 }
 
-// So many copies of some bytes come behind the bytes so far.
+// So many copies of some bytes come after the bytes so far.
 fn push_copies(code: &mut Vec<u8>, copied: &[u8], count: usize) -> Result<(), AllocError>
     ensures { OnOk result (code.new.items ≡ code.old.items ++ repeat count copied.now) }
 {

@@ -23,7 +23,7 @@ use std::alloc::{AllocError, Global};
 
 const SANDBOXES_MOST: usize = 16;
 
-// The gates, whose stubs lie one behind another from the address on.
+// The gates, whose stubs lie one after another from the address on.
 fn gates_from(alloc: Global, address: u32, gates: &[SourceGate]) -> Result<Vec<Gate>, AllocError>
     requires low { address < 2 ^ 30 }
     requires few { length gates.now ≤ 64 }
@@ -122,7 +122,7 @@ fn image_of(alloc: Global, placed: &Placed) -> Result<Vec<u8>, LinkFault>
     }
 }
 
-/// Gives the names their addresses, and writes the image: sandbox after sandbox its stubs, its code and c.ebreaks behind it.
+/// Gives the names their addresses, and writes the image: sandbox after sandbox its stubs, its code and c.ebreaks after it.
 pub fn link(alloc: Global, placed: &Placed) -> Result<Vec<u8>, LinkFault>
     // What each answer means: the image has a right layout and breaks no rule.
     ensures image { IfOk result (λ bytes. IsLinkedImage placed.now bytes.items) }

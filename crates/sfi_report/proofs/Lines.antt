@@ -1,4 +1,4 @@
--- The lines of a bundle: each instruction goes before the lines of what is behind it.
+-- The lines of a bundle: each instruction goes before the lines of what is after it.
 use Rattle.std.proofs.Common.{◌≡◌, ℕ, ◌+◌, ◌-◌, ◌%◌, ◌≤◌, List, [], ◌∷◌, ◌++◌, length, take, drop, refl, sym, ap, ◌∙◌, subst, inl, inr, arith, append_assoc, length-drop}
 use Rattle.std.proofs.lemmas.List.{length-take, append-nil, drop-drop, take_all, drop_all}
 use Rattle.rv_word.specs.declared.instr.Instr.{Instr}
@@ -28,7 +28,7 @@ spell_fits bytes i n s = let size = spell_size (take n bytes) i n s in let cut =
 same_piece : (i j : Instr) (m n : ℕ) → Read i n ≡ Read j m → (i ≡ j) × (n ≡ m)
 same_piece i j m n e = (cc, cc)
 
--- the only piece that can stand at the front, and a longest reading behind it
+-- the only piece that can stand at the front, and a longest reading after it
 longer : (bytes : List ℕ) (i : Instr) (n : ℕ) (later : List Piece) → Spells (take n bytes) i n
     → ((j : Instr) (m : ℕ) → Spells (take m bytes) j m → Read i n ≡ Read j m)
     → IsLongestReading (drop n bytes) later → IsLongestReading bytes (record { instr = i; size = n } ∷ later)
@@ -121,7 +121,7 @@ at_rest address bytes at rest old new more is so_far stuck e =
       new_is = e ∙ ap (λ t. t ++ line) so_far.new_is ∙ append_assoc old so_far.lines line;
     }
 
--- behind the last byte
+-- after the last byte
 pub at_last : (address : ℕ) (bytes : List ℕ) (at : ℕ) (old new : List ℕ) → length bytes ≡ 16 → 16 ≤ at
     → Leads address bytes at old new → Adds old new (IsBundleListing address bytes)
 at_last address bytes at old new count over so_far =

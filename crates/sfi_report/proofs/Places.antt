@@ -22,7 +22,7 @@ use Rattle.sfi_scan.specs.Findings.{broken, lowest, all_rules, findings_from, re
 use Rattle.sfi_report.specs.Added.{SpellsFirst, IsPlace, Stands}
 use Rattle.sfi_report.proofs.Lines.{spell_even, spell_fits}
 
--- the finding is one of the sandbox, so many bytes behind the address, where these bytes are
+-- the finding is one of the sandbox, so many bytes after the address, where these bytes are
 pub record StandsIn (sandbox at : ℕ) (bytes : List ℕ) (f : Finding) : Type 0 where
   pub offset : ℕ
   pub sandbox_is : f.sandbox ≡ sandbox
@@ -59,7 +59,7 @@ reading_stands b whole at earlier rest (x ∷ later) h =
     All-append (StandsIn b.sandbox at rest) (lowest (record { bundle = b; address = at; earlier = earlier; instr = x.instr; later = later; whole = whole }) all_rules) (findings_from b whole (at + x.size) (x.instr ∷ earlier) later)
     (lowest_stands (StandsIn b.sandbox at rest) (record { bundle = b; address = at; earlier = earlier; instr = x.instr; later = later; whole = whole })
     (here V3 first) (here V4 first) (here V5 first) (here V6 first) (here V7 first) (here V8 first) (here V10 first))
-    (λ k d g. behind _ (reading_stands b whole (at + x.size) (x.instr ∷ earlier) (drop x.size rest) later h.1 k d g))
+    (λ k d g. after _ (reading_stands b whole (at + x.size) (x.instr ∷ earlier) (drop x.size rest) later h.1 k d g))
   where
     first : SpellsFirst rest
     first = record { instr = x.instr; size = x.size; spelled = h.0 }
@@ -67,8 +67,8 @@ reading_stands b whole at earlier rest (x ∷ later) h =
     here : (rule : Rule) → IsPlace rule rest → StandsIn b.sandbox at rest (broken b at rule)
     here rule place = record { offset = 0; sandbox_is = refl; address_is = omega arith; within = omega arith; place = place }
 
-    behind : (f : Finding) → StandsIn b.sandbox (at + x.size) (drop x.size rest) f → StandsIn b.sandbox at rest f
-    behind f s =
+    after : (f : Finding) → StandsIn b.sandbox (at + x.size) (drop x.size rest) f → StandsIn b.sandbox at rest f
+    after f s =
         let fits = spell_fits rest x.instr x.size h.0 in
         record {
           offset = x.size + s.offset;
@@ -207,13 +207,13 @@ from_stand first (p ∷ ps) found h =
     subst (λ (l : List Finding). All (StandsFrom first (p ∷ ps)) l) (sym h.4)
     (All-append (StandsFrom first (p ∷ ps)) h.0 h.1
     (λ k d g. here _ (part_stands first p h.0 h.2 k d g))
-    (λ k d g. behind _ (from_stand (first + 1) ps h.1 h.3 k d g)))
+    (λ k d g. after _ (from_stand (first + 1) ps h.1 h.3 k d g)))
   where
     here : (f : Finding) → StandsIn first p.code_base p.code f → StandsFrom first (p ∷ ps) f
     here f s = record { part = p; place = 0; part_is = refl; stands = subst (λ n. StandsIn n p.code_base p.code f) (let e : first ≡ first + 0 = omega arith in e) s }
 
-    behind : (f : Finding) → StandsFrom (first + 1) ps f → StandsFrom first (p ∷ ps) f
-    behind f s = record {
+    after : (f : Finding) → StandsFrom (first + 1) ps f → StandsFrom first (p ∷ ps) f
+    after f s = record {
       part = s.part;
       place = suc s.place;
       part_is = s.part_is;

@@ -19,7 +19,7 @@ chunk_at (suc count) (suc k) xs h =
     chunk_at count k (drop 16 xs) (omega arith)
     ∙ ap (take 16) (drop-drop (16 * k) 16 xs ∙ ap (λ n. drop n xs) (let e : 16 + 16 * k ≡ 16 * suc k = omega arith in e))
 
--- the listing of the first bundles behind the text
+-- the listing of the first bundles after the text
 pub record IsListedTo (p : Part) (n : ℕ) (old new : List ℕ) : Type 0 where
   pub text : List ℕ
   pub text_is : IsListingOfFirst p n text
@@ -75,7 +75,7 @@ right_at format image items i d e right h =
     let within : i < length (views format items) = omega (arith, length-map items (view format)) in
     subst (λ (p : Part). IsRightPart p) (get_or-map (view format) items i d (view format d) h) (each i (view format d) within)
 
--- the listing of the first sandboxes behind the text
+-- the listing of the first sandboxes after the text
 abbrev pub AreListedTo : List Part → ℕ → List ℕ → List ℕ → Type 0
 AreListedTo image i old new = Adds old new (IsListingFrom 0 (take i image))
 

@@ -1,4 +1,4 @@
--- Words of private contracts: what a call adds behind a text, and where a finding stands.
+-- Words of private contracts: what a call adds after a text, and where a finding stands.
 use Rattle.std.specs.Prelude.{◌≡◌, ◌≤◌, ℕ, ◌+◌, List, ◌++◌, Some, length, take, drop, slice_get}
 use Rattle.rv_word.specs.declared.instr.Instr.{Instr}
 use Rattle.rv_comp.specs.Fronts.{Spells}

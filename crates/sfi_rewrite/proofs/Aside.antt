@@ -9,7 +9,7 @@ use Rattle.rv_word.specs.declared.instr.Instr.TheVariants.{Load, Store, Jalr}
 use Rattle.rv_mem.specs.Bytes.{Bytes, bytes_at, addresses, address_after, loaded, stored}
 use Rattle.rv_step.specs.declared.outcome.Outcome.TheVariants.{Trap}
 use Rattle.rv_step.specs.declared.outcome.Cause.TheVariants as cause
-use Rattle.rv_step.specs.State.{Hart, register, with_register, with_pc, behind, even_of}
+use Rattle.rv_step.specs.State.{Hart, register, with_register, with_pc, past, even_of}
 use Rattle.rv_step.specs.Step.{next, unchanged, after_load, effect}
 use Rattle.rv_step.specs.Values.{word, plus, load_size, store_size}
 use Rattle.sfi_rewrite.specs.Transparency.{IsSameAside}
@@ -81,7 +81,7 @@ next_same h k m w a e = record { outcome = refl; pc = a.pc; registers = a.regist
 load_same : (o : Option ℕ) (kind : LoadKind) (rd at : ℕ) (h k : Hart) (m : Bytes) → Aside h k → IsSameAside (after_load o kind rd at 4 h m) (after_load o kind rd at 4 k m)
 load_same None kind rd at h k m a = record { outcome = refl; pc = a.pc; registers = a.registers; memory = refl }
 load_same (Some v) kind rd at h k m a =
-    let z = aside_written (behind h 4) (behind k 4) rd _ (aside_at h k _ _ (ap (λ p. address_after p 4) a.pc) a) in
+    let z = aside_written (past h 4) (past k 4) rd _ (aside_at h k _ _ (ap (λ p. address_after p 4) a.pc) a) in
     next_same _ _ m m z refl
 
 pub loads_same : (kind : LoadKind) (rd a : ℕ) (imm : ℤ) (h k : Hart) (m : Bytes) → Aside h k → register h 31 ≡ register k a
@@ -91,24 +91,24 @@ loads_same kind rd a imm h k m aside e =
     (sym e) (load_same _ kind rd _ h k m aside)
 
 store_same : (b : Bool) (at size v : ℕ) (h k : Hart) (m : Bytes) → Aside h k
-    → IsSameAside (cond b (next (behind h 4) (stored m at size v)) (unchanged (Trap cause.Store at) h m)) (cond b (next (behind k 4) (stored m at size v)) (unchanged (Trap cause.Store at) k m))
+    → IsSameAside (cond b (next (past h 4) (stored m at size v)) (unchanged (Trap cause.Store at) h m)) (cond b (next (past k 4) (stored m at size v)) (unchanged (Trap cause.Store at) k m))
 store_same true at size v h k m a = next_same _ _ _ _ (aside_at h k _ _ (ap (λ p. address_after p 4) a.pc) a) refl
 store_same false at size v h k m a = record { outcome = refl; pc = a.pc; registers = a.registers; memory = refl }
 
 stored_from : (width : StoreWidth) (base v : ℕ) (imm : ℤ) (h k : Hart) (m : Bytes) → Aside h k
     → IsSameAside
-    (cond (is_some (bytes_at m (addresses (plus base imm) (store_size width)))) (next (behind h 4) (stored m (plus base imm) (store_size width) v)) (unchanged (Trap cause.Store (plus base imm)) h m))
-    (cond (is_some (bytes_at m (addresses (plus base imm) (store_size width)))) (next (behind k 4) (stored m (plus base imm) (store_size width) v)) (unchanged (Trap cause.Store (plus base imm)) k m))
+    (cond (is_some (bytes_at m (addresses (plus base imm) (store_size width)))) (next (past h 4) (stored m (plus base imm) (store_size width) v)) (unchanged (Trap cause.Store (plus base imm)) h m))
+    (cond (is_some (bytes_at m (addresses (plus base imm) (store_size width)))) (next (past k 4) (stored m (plus base imm) (store_size width) v)) (unchanged (Trap cause.Store (plus base imm)) k m))
 stored_from width base v imm h k m a = store_same (is_some (bytes_at m (addresses (plus base imm) (store_size width)))) (plus base imm) (store_size width) v h k m a
 
 pub stores_same : (width : StoreWidth) (a rs2 : ℕ) (imm : ℤ) (h k : Hart) (m : Bytes) → Aside h k → register h 31 ≡ register k a → rs2 ≢ 31
     → IsSameAside (effect (Store width 31 rs2 imm) 4 h m) (effect (Store width a rs2 imm) 4 k m)
 stores_same width a rs2 imm h k m aside e ne =
     subst
-    (λ (z : ℕ). IsSameAside (cond (is_some (bytes_at m (addresses (plus z imm) (store_size width)))) (next (behind h 4) (stored m (plus z imm) (store_size width) (register h rs2))) (unchanged (Trap cause.Store (plus z imm)) h m)) (effect (Store width a rs2 imm) 4 k m))
+    (λ (z : ℕ). IsSameAside (cond (is_some (bytes_at m (addresses (plus z imm) (store_size width)))) (next (past h 4) (stored m (plus z imm) (store_size width) (register h rs2))) (unchanged (Trap cause.Store (plus z imm)) h m)) (effect (Store width a rs2 imm) 4 k m))
     (sym e)
     (subst
-    (λ (v : ℕ). IsSameAside (cond (is_some (bytes_at m (addresses (plus (register k a) imm) (store_size width)))) (next (behind h 4) (stored m (plus (register k a) imm) (store_size width) v)) (unchanged (Trap cause.Store (plus (register k a) imm)) h m)) (effect (Store width a rs2 imm) 4 k m))
+    (λ (v : ℕ). IsSameAside (cond (is_some (bytes_at m (addresses (plus (register k a) imm) (store_size width)))) (next (past h 4) (stored m (plus (register k a) imm) (store_size width) v)) (unchanged (Trap cause.Store (plus (register k a) imm)) h m)) (effect (Store width a rs2 imm) 4 k m))
     (sym (aside.registers rs2 ne))
     (stored_from width (register k a) (register k rs2) imm h k m aside))
 

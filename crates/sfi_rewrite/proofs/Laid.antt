@@ -17,7 +17,7 @@ use Rattle.sfi_rewrite.specs.Expansion.{IsAlone, IsMasked, IsExpansionOf, IsExpa
 use Rattle.sfi_rewrite.specs.Places.{FillsGap, IsNext, AreLaidFrom}
 use Rattle.sfi_rewrite.proofs.Sizes.{size_of-append, size_nops}
 
--- the c.nops and the expansion, and what stands behind them
+-- the c.nops and the expansion, and what stands after them
 pub size_next : (nops : ℕ) (expanded rest : List Slot) → size_of (replicate nops c_nop ++ (expanded ++ rest)) ≡ 2 * nops + size_of expanded + size_of rest
 size_next nops expanded rest =
     let a = size_of-append (replicate nops c_nop) (expanded ++ rest) in
@@ -54,7 +54,7 @@ pub record Split (f : Format) (end : ℕ) (items : List Item) (k : ℕ) (slots :
   pub back : List Slot
   pub both : slots ≡ front ++ back
   pub before : AreLaidFrom f end (take k items) front
-  pub behind : AreLaidFrom f (end + size_of front) (drop k items) back
+  pub after : AreLaidFrom f (end + size_of front) (drop k items) back
 
 pub laid_split : (f : Format) (end : ℕ) (items : List Item) (k : ℕ) (slots : List Slot) → AreLaidFrom f end items slots → Split f end items k slots
 laid_split f end items zero slots l =
@@ -63,9 +63,9 @@ laid_split f end items zero slots l =
       back = slots;
       both = refl;
       before = refl;
-      behind = subst (λ (m : ℕ). AreLaidFrom f m items slots) (let z : end ≡ end + size_of [] = omega arith in z) l;
+      after = subst (λ (m : ℕ). AreLaidFrom f m items slots) (let z : end ≡ end + size_of [] = omega arith in z) l;
     }
-laid_split f end [] (suc k) slots l = record { front = []; back = slots; both = refl; before = refl; behind = l }
+laid_split f end [] (suc k) slots l = record { front = []; back = slots; both = refl; before = refl; after = l }
 laid_split f end (x ∷ items) (suc k) slots l =
     let s = laid_split f (end + 2 * l.0 + size_of l.1) items k l.2 l.5 in
     let front = replicate l.0 c_nop ++ (l.1 ++ s.front) in
@@ -78,7 +78,7 @@ laid_split f end (x ∷ items) (suc k) slots l =
           ∙ ap (λ t. replicate l.0 c_nop ++ t) (sym (append_assoc l.1 s.front s.back))
           ∙ sym (append_assoc (replicate l.0 c_nop) (l.1 ++ s.front) s.back);
       before = (l.0, l.1, s.front, l.3, refl, s.before);
-      behind = subst (λ (m : ℕ). AreLaidFrom f m (drop k items) s.back) e s.behind;
+      after = subst (λ (m : ℕ). AreLaidFrom f m (drop k items) s.back) e s.after;
     }
 
 -- ---- one way

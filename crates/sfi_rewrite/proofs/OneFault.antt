@@ -58,14 +58,14 @@ fits_at law format items slots before k x f h at b t =
     let s = laid_split format 0 items k slots f.laid in
     let same : s.front ≡ before = laid_one_way law format 0 (take k items) s.front before s.before b in
     let from : drop k items ≡ x ∷ drop (suc k) items = drop-cons items k x h ∙ ap (λ y. y ∷ drop (suc k) items) at in
-    let behind : AreLaidFrom format (size_of before) (x ∷ drop (suc k) items) s.back =
+    let after : AreLaidFrom format (size_of before) (x ∷ drop (suc k) items) s.back =
     subst (λ (n : ℕ). AreLaidFrom format n (x ∷ drop (suc k) items) s.back) (let z = ap size_of same in let g : 0 + size_of s.front ≡ size_of before = omega arith in g)
-    (subst (λ (v : List Item). AreLaidFrom format (0 + size_of s.front) v s.back) from s.behind) in
-    let next = next_one_way law format (size_of before) x behind.0 t.nops behind.1 t.expanded behind.3 t.next in
+    (subst (λ (v : List Item). AreLaidFrom format (0 + size_of s.front) v s.back) from s.after) in
+    let next = next_one_way law format (size_of before) x after.0 t.nops after.1 t.expanded after.3 t.next in
     let nops = next.nops in
-    let some = (expansion_one format x behind.1 behind.3.expansion).some in
+    let some = (expansion_one format x after.1 after.3.expansion).some in
     let all = ap size_of s.both ∙ size_of-append s.front s.back in
-    let rest = ap size_of behind.4 ∙ size_next behind.0 behind.1 behind.2 in
+    let rest = ap size_of after.4 ∙ size_next after.0 after.1 after.2 in
     let e = ap size_of same in
     let fits = f.fits in
     let beyond = t.beyond in

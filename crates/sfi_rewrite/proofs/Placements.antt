@@ -66,10 +66,10 @@ label_before law f items slots before k place l h labelled b p =
     let s = laid_split f 0 items k slots l in
     let same : s.front ≡ before = laid_one_way law f 0 (take k items) s.front before s.before b in
     let x = get_or items k other_item in
-    let behind : AreLaidFrom f (0 + size_of s.front) (x ∷ drop (suc k) items) s.back = subst (λ (v : List Item). AreLaidFrom f (0 + size_of s.front) v s.back) (drop-cons items k other_item h) s.behind in
-    let starts = behind.3.gap.stands.at_label labelled in
+    let after : AreLaidFrom f (0 + size_of s.front) (x ∷ drop (suc k) items) s.back = subst (λ (v : List Item). AreLaidFrom f (0 + size_of s.front) v s.back) (drop-cons items k other_item h) s.after in
+    let starts = after.3.gap.stands.at_label labelled in
     let all = ap size_of s.both ∙ size_of-append s.front s.back in
-    let rest = ap size_of behind.4 ∙ size_next behind.0 behind.1 behind.2 in
+    let rest = ap size_of after.4 ∙ size_next after.0 after.1 after.2 in
     let g = ap size_of same in
     record { aligned = omega arith; below = omega arith }
 

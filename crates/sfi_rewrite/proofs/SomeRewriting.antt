@@ -95,15 +95,15 @@ gap_free end size even few =
           let at : end + 2 * ((16 - end % 16) / 2) ≡ end - end % 16 + 16 = omega arith in (
             nops,
             record {
-              stands = record { behind = omega arith; at_label = λ t. absurd (not_so t); in_bundle = omega arith; returns = λ t. absurd (not_so t) };
-              first = λ here m. let a = m.behind in let b = m.in_bundle in omega arith;
+              stands = record { after = omega arith; at_label = λ t. absurd (not_so t); in_bundle = omega arith; returns = λ t. absurd (not_so t) };
+              first = λ here m. let a = m.after in let b = m.in_bundle in omega arith;
             },
           )
       | inr within ↦ (
         0,
         record {
-          stands = record { behind = omega arith; at_label = λ t. absurd (not_so t); in_bundle = omega arith; returns = λ t. absurd (not_so t) };
-          first = λ here m. let a = m.behind in omega arith;
+          stands = record { after = omega arith; at_label = λ t. absurd (not_so t); in_bundle = omega arith; returns = λ t. absurd (not_so t) };
+          first = λ here m. let a = m.after in omega arith;
         },
       )
     ]
@@ -113,7 +113,7 @@ gap_labelled end size even few =
     let at : end + 2 * ((next_bundle end - end) / 2) ≡ next_bundle end = omega arith in (
       (next_bundle end - end) / 2,
       record {
-        stands = record { behind = omega arith; at_label = λ t. omega arith; in_bundle = omega arith; returns = λ t. absurd (not_so t) };
+        stands = record { after = omega arith; at_label = λ t. omega arith; in_bundle = omega arith; returns = λ t. absurd (not_so t) };
         first = λ here m. let a = m.at_label refl in omega arith;
       },
     )
@@ -125,16 +125,16 @@ gap_call end size even even_size some few =
           let at : end + 2 * ((32 - size - end % 16) / 2) ≡ end - end % 16 + (32 - size) = omega arith in (
             (32 - size - end % 16) / 2,
             record {
-              stands = record { behind = omega arith; at_label = λ t. absurd (not_so t); in_bundle = omega arith; returns = λ t. omega arith };
-              first = λ here m. let a = m.behind in let b = m.in_bundle in let c = m.returns refl in omega arith;
+              stands = record { after = omega arith; at_label = λ t. absurd (not_so t); in_bundle = omega arith; returns = λ t. omega arith };
+              first = λ here m. let a = m.after in let b = m.in_bundle in let c = m.returns refl in omega arith;
             },
           )
       | inr within ↦
           let at : end + 2 * ((16 - size - end % 16) / 2) ≡ end - end % 16 + (16 - size) = omega arith in (
             (16 - size - end % 16) / 2,
             record {
-              stands = record { behind = omega arith; at_label = λ t. absurd (not_so t); in_bundle = omega arith; returns = λ t. omega arith };
-              first = λ here m. let a = m.behind in let b = m.in_bundle in let c = m.returns refl in omega arith;
+              stands = record { after = omega arith; at_label = λ t. absurd (not_so t); in_bundle = omega arith; returns = λ t. omega arith };
+              first = λ here m. let a = m.after in let b = m.in_bundle in let c = m.returns refl in omega arith;
             },
           )
     ]
@@ -144,7 +144,7 @@ gap_both end size even even_size some few =
     let at : end + 2 * ((next_bundle end + (16 - size) - end) / 2) ≡ next_bundle end + (16 - size) = omega arith in (
       (next_bundle end + (16 - size) - end) / 2,
       record {
-        stands = record { behind = omega arith; at_label = λ t. omega arith; in_bundle = omega arith; returns = λ t. omega arith };
+        stands = record { after = omega arith; at_label = λ t. omega arith; in_bundle = omega arith; returns = λ t. omega arith };
         first = λ here m. let a = m.at_label refl in let b = m.in_bundle in let c = m.returns refl in omega arith;
       },
     )

@@ -12,7 +12,7 @@ use Rattle.rv_word.specs.declared.instr.Instr.TheVariants.{Op, OpImm, Load, Stor
 use Rattle.rv_mem.specs.Bytes.{Bytes, address_after, loaded}
 use Rattle.rv_step.specs.declared.outcome.Outcome.TheVariants.{Next}
 use Rattle.rv_step.specs.Laws.{PairLeaves, StepKeepsState}
-use Rattle.rv_step.specs.State.{Hart, State, IsState, register, with_register, with_pc, behind}
+use Rattle.rv_step.specs.State.{Hart, State, IsState, register, with_register, with_pc, past}
 use Rattle.rv_step.specs.Step.{Stepped, Stands, after_load, effect, IsStep}
 use Rattle.rv_step.specs.Steps.{further, StandInRow, LeadsTo, LeadTo}
 use Rattle.rv_step.specs.Values.{plus, load_size}
@@ -43,11 +43,11 @@ is_jump _ = false
 -- the step has written x2 and nothing else
 record WritesX2 (x : Stepped) (h : Hart) (m : Bytes) : Type 0 where
   value : ℕ
-  state : x.state ≡ record { hart = with_register (behind h 4) 2 value; memory = m }
+  state : x.state ≡ record { hart = with_register (past h 4) 2 value; memory = m }
 
-here : (x : Stepped) (h : Hart) (m : Bytes) (rd v : ℕ) → (rd == 2) ≡ true → x.state ≡ record { hart = with_register (behind h 4) rd v; memory = m } → WritesX2 x h m
+here : (x : Stepped) (h : Hart) (m : Bytes) (rd v : ℕ) → (rd == 2) ≡ true → x.state ≡ record { hart = with_register (past h 4) rd v; memory = m } → WritesX2 x h m
 here x h m rd v e is =
-    record { value = v; state = subst (λ (k : ℕ). x.state ≡ record { hart = with_register (behind h 4) k v; memory = m }) (eqb-true rd 2 e) is }
+    record { value = v; state = subst (λ (k : ℕ). x.state ≡ record { hart = with_register (past h 4) k v; memory = m }) (eqb-true rd 2 e) is }
 
 load_writes : (o : Option ℕ) (kind : LoadKind) (rd at : ℕ) (h : Hart) (m : Bytes) → (rd == 2) ≡ true → (after_load o kind rd at 4 h m).outcome ≡ Next → WritesX2 (after_load o kind rd at 4 h m) h m
 load_writes None kind rd at h m e done = absurd (cc)
@@ -67,7 +67,7 @@ writes_alone (Fence imm rd rs1) h m e j done = absurd (cc)
 writes_alone Ecall h m e j done = absurd (cc)
 writes_alone Ebreak h m e j done = absurd (cc)
 
--- ---- the pair behind it
+-- ---- the pair after it
 
 kept : (b : Bool) (l : List ℕ) (t : ℕ) → cond b l (set l t (get_or l t 0)) ≡ l
 kept true l t = refl
@@ -80,9 +80,9 @@ written_same h t pc = ap (λ (l : List ℕ). let k : Hart = record { pc = pc; re
 twelve : (pc : ℕ) → address_after (address_after pc 4) 8 ≡ address_after pc 12
 twelve pc = omega arith
 
--- from the state behind i, of which we know that it is s with x2 written
+-- from the state after i, of which we know that it is s with x2 written
 from_there : PairLeaves → (c d : Span) (s one : State) (v : ℕ) → AreRegions c d → IsState one → HasReserved c d s.hart
-    → one ≡ record { hart = with_register (behind s.hart 4) 2 v; memory = s.memory }
+    → one ≡ record { hart = with_register (past s.hart 4) 2 v; memory = s.memory }
     → Stands (further s 4) (Op And 2 2 27) 4 → Stands (further (further s 4) 4) (Op Or 2 2 26) 4
     → Holds d (register one.hart 2) → LeadTo 2 one (at_pc one (address_after s.hart.pc 12))
 from_there pair c d s one v regions is reserved e second third held =
@@ -90,7 +90,7 @@ from_there pair c d s one v regions is reserved e second third held =
     let pc : h.pc ≡ address_after s.hart.pc 4 = ap (λ (x : State). x.hart.pc) e in
     let memory : one.memory ≡ s.memory = ap (λ (x : State). x.memory) e in
     let other : (r : ℕ) → r ≢ 2 → register h r ≡ register s.hart r =
-    λ r ne. ap (λ (x : State). register x.hart r) e ∙ written_elsewhere (behind s.hart 4) 2 v r (λ z. omega arith) ne in
+    λ r ne. ap (λ (x : State). register x.hart r) e ∙ written_elsewhere (past s.hart 4) 2 v r (λ z. omega arith) ne in
     let now : HasReserved c d h =
     record {
       x24 = other 24 (λ z. omega arith) ∙ reserved.x24;
@@ -105,8 +105,8 @@ from_there pair c d s one v regions is reserved e second third held =
     let left = pair one 2 2 27 26 is (λ z. omega arith) (λ z. omega arith) row in
     let value = unmasked_data c d h (register h 2) regions now held in
     let end : address_after h.pc 8 ≡ address_after s.hart.pc 12 = ap (λ p. address_after p 8) pc ∙ twelve s.hart.pc in
-    let state : with_register (behind h 8) 2 (bit_or (bit_and (register h 2) (register h 27)) (register h 26)) ≡ with_pc h (address_after s.hart.pc 12) =
-    ap (λ n. with_register (behind h 8) 2 n) value ∙ written_same h 2 (address_after h.pc 8) ∙ ap (λ p. with_pc h p) end in
+    let state : with_register (past h 8) 2 (bit_or (bit_and (register h 2) (register h 27)) (register h 26)) ≡ with_pc h (address_after s.hart.pc 12) =
+    ap (λ n. with_register (past h 8) 2 n) value ∙ written_same h 2 (address_after h.pc 8) ∙ ap (λ p. with_pc h p) end in
     subst (λ (k : Hart). LeadTo 2 one (record { hart = k; memory = one.memory })) state left
 
 done_is : (x : Stepped) → x.outcome ≡ Next → x ≡ record { outcome = Next; state = x.state }

@@ -29,20 +29,20 @@ stand_transparent law s p r k x at =
     let here : drop k s.items ≡ x ∷ drop (k + 1) s.items =
     drop_more s.items k x within ∙ ap (λ (y : Item). y ∷ drop (k + 1) s.items) (get_or_from_slice_get s.items k x x at) in
     let from : 0 + size_of split.front ≡ size_of split.front = omega arith in
-    let behind : AreLaidFrom s.format (size_of split.front) (x ∷ drop (k + 1) s.items) split.back =
-    subst (λ (l : List Item). AreLaidFrom s.format (size_of split.front) l split.back) here (subst (λ (n : ℕ). AreLaidFrom s.format n (drop k s.items) split.back) from split.behind) in
+    let after : AreLaidFrom s.format (size_of split.front) (x ∷ drop (k + 1) s.items) split.back =
+    subst (λ (l : List Item). AreLaidFrom s.format (size_of split.front) l split.back) here (subst (λ (n : ℕ). AreLaidFrom s.format n (drop k s.items) split.back) from split.after) in
     let is : IsPermitted s.format x = subst (IsPermitted s.format) (get_or_from_slice_get s.items k x x at) (All-get_or (IsPermitted s.format) s.items k x within r.faultless.items.permitted) in
     record {
       before = split.front;
       laid = split.before;
-      nops = behind.0;
-      expanded = behind.1;
-      next = behind.3;
-      behind = behind.2 ++ replicate q.nops c_nop;
+      nops = after.0;
+      expanded = after.1;
+      next = after.3;
+      after = after.2 ++ replicate q.nops c_nop;
       placed =
-          q.code ∙ ap (λ v. v ++ replicate q.nops c_nop) (split.both ∙ ap (λ v. split.front ++ v) behind.4)
-          ∙ apart split.front (replicate behind.0 c_nop) behind.1 behind.2 (replicate q.nops c_nop);
-      transparent = λ i be. law s.format x i behind.1 be is behind.3.expansion;
+          q.code ∙ ap (λ v. v ++ replicate q.nops c_nop) (split.both ∙ ap (λ v. split.front ++ v) after.4)
+          ∙ apart split.front (replicate after.0 c_nop) after.1 after.2 (replicate q.nops c_nop);
+      transparent = λ i be. law s.format x i after.1 be is after.3.expansion;
     }
 
 -- so does each of all sandboxes

@@ -48,7 +48,7 @@ not_withheld r h = λ e. cc
 
 -- ---- a pair at pc
 
--- behind a pair on x31 whose masked value is v
+-- after a pair on x31 whose masked value is v
 pair_to : PairLeaves → (s : State) (a mask base v : ℕ) → IsState s → base ≢ 31 → StandInRow s (Op And 31 a mask ∷ Op Or 31 31 base ∷ [])
     → bit_or (bit_and (register s.hart a) (register s.hart mask)) (register s.hart base) ≡ v → LeadTo 2 s (scratched s (address_after s.hart.pc 8) v)
 pair_to pair s a mask base v is apart stand e =
@@ -73,20 +73,20 @@ twelve pc = omega arith
 scratch_is : (s : State) (pc v : ℕ) → IsState s → register (scratched s pc v).hart 31 ≡ v
 scratch_is s pc v is = let n = is.hart.count in written_here (with_pc s.hart pc) 31 v (λ e. omega arith) (omega arith)
 
--- ---- a pair and what stands behind it
+-- ---- a pair and what stands after it
 
 -- from harts with v in x31, and else the registers of s, j does what i does from these
 abbrev DoesFor : State → Instr → Instr → ℕ → Type 0
 DoesFor s i j v =
     (h : Hart) → Aside h (with_pc s.hart h.pc) → register h 31 ≡ v → IsSameAside (effect j 4 h s.memory) (effect i 4 (with_pc s.hart h.pc) s.memory)
 
--- three slots: the last does from behind the pair what i does
-behind_pair : PairLeaves → (s : State) (i j : Instr) (a mask base v : ℕ) → IsState s → base ≢ 31
+-- three slots: the last does from after the pair what i does
+after_pair : PairLeaves → (s : State) (i j : Instr) (a mask base v : ℕ) → IsState s → base ≢ 31
     → Stands s (Op And 31 a mask) 4 → Stands (further s 4) (Op Or 31 31 base) 4 → Stands (further (further s 4) 4) j 4
     → bit_or (bit_and (register s.hart a) (register s.hart mask)) (register s.hart base) ≡ v
     → DoesFor s i j v
     → DoesAs s i (Wide (Op And 31 a mask) ∷ Wide (Op Or 31 31 base) ∷ []) (Wide j)
-behind_pair pair s i j a mask base v is apart first second third e same =
+after_pair pair s i j a mask base v is apart first second third e same =
     let pc = address_after s.hart.pc 8 in
     let there = scratched s pc v in
     record {
@@ -106,12 +106,12 @@ aside_twice s p q v w =
     record { pc = refl; count = two.count ∙ one.count; registers = λ x ne. two.registers x ne ∙ one.registers x ne }
 
 -- four slots: the sum goes before the pair
-behind_sum : PairLeaves → StepKeepsState → (s : State) (i j : Instr) (a mask base : ℕ) (imm : ℤ) → IsState s → mask ≢ 31 → base ≢ 31
+after_sum : PairLeaves → StepKeepsState → (s : State) (i j : Instr) (a mask base : ℕ) (imm : ℤ) → IsState s → mask ≢ 31 → base ≢ 31
     → Stands s (OpImm Addi 31 a imm) 4 → Stands (further s 4) (Op And 31 31 mask) 4 → Stands (further (further s 4) 4) (Op Or 31 31 base) 4 → Stands (further (further (further s 4) 4) 4) j 4
     → bit_or (bit_and (plus (register s.hart a) imm) (register s.hart mask)) (register s.hart base) ≡ plus (register s.hart a) imm
     → DoesFor s i j (plus (register s.hart a) imm)
     → DoesAs s i (Wide (OpImm Addi 31 a imm) ∷ Wide (Op And 31 31 mask) ∷ Wide (Op Or 31 31 base) ∷ []) (Wide j)
-behind_sum pair keeps s i j a mask base imm is ne apart first second third fourth e same =
+after_sum pair keeps s i j a mask base imm is ne apart first second third fourth e same =
     let v = plus (register s.hart a) imm in
     let p = address_after s.hart.pc 4 in
     let q = address_after p 8 in
@@ -145,7 +145,7 @@ load_transparent pair kind rd a imm = record {
   slots_are = refl;
   does = λ c d s asked keeps.
       let regions = asked.regions in let is = asked.is_state in let reserved = asked.reserved in let stand = asked.stand in
-      behind_pair pair s (Load kind rd a imm) (Load kind rd 31 imm) a 27 26 (register s.hart a) is (λ z. omega arith) stand.0 stand.1.0 stand.1.1.0
+      after_pair pair s (Load kind rd a imm) (Load kind rd 31 imm) a 27 26 (register s.hart a) is (λ z. omega arith) stand.0 stand.1.0 stand.1.1.0
       (unmasked_data c d s.hart (register s.hart a) regions reserved keeps)
       (λ h aside e. loads_same kind rd a imm h (with_pc s.hart h.pc) s.memory aside e);
 }
@@ -157,7 +157,7 @@ store_transparent pair width a rs2 imm ne = record {
   slots_are = refl;
   does = λ c d s asked keeps.
       let regions = asked.regions in let is = asked.is_state in let reserved = asked.reserved in let stand = asked.stand in
-      behind_pair pair s (Store width a rs2 imm) (Store width 31 rs2 imm) a 27 26 (register s.hart a) is (λ z. omega arith) stand.0 stand.1.0 stand.1.1.0
+      after_pair pair s (Store width a rs2 imm) (Store width 31 rs2 imm) a 27 26 (register s.hart a) is (λ z. omega arith) stand.0 stand.1.0 stand.1.1.0
       (unmasked_data c d s.hart (register s.hart a) regions reserved keeps)
       (λ h aside e. stores_same width a rs2 imm h (with_pc s.hart h.pc) s.memory aside e ne);
 }
@@ -172,7 +172,7 @@ jump_transparent pair rd a = record {
       let regions = asked.regions in let is = asked.is_state in let reserved = asked.reserved in let stand = asked.stand in
       let v = register s.hart a in
       let to = plus_zero v (is.hart.words a) in
-      behind_pair pair s (Jalr rd a (pos 0)) (Jalr rd 31 (pos 0)) a 25 24 v is (λ z. omega arith) stand.0 stand.1.0 stand.1.1.0
+      after_pair pair s (Jalr rd a (pos 0)) (Jalr rd 31 (pos 0)) a 25 24 v is (λ z. omega arith) stand.0 stand.1.0 stand.1.1.0
       (unmasked_code c d s.hart v regions reserved (subst (λ (n : ℕ). IsBundleStart c n) to keeps))
       (λ h aside e. jumps_same rd a (pos 0) h (with_pc s.hart h.pc) s.memory aside (ap (λ n. plus n (pos 0)) e));
 }
@@ -186,7 +186,7 @@ sum_transparent pair keeps rd a imm = record {
   does = λ c d s asked keep.
       let regions = asked.regions in let is = asked.is_state in let reserved = asked.reserved in let stand = asked.stand in
       let v = plus (register s.hart a) imm in
-      behind_sum pair keeps s (Jalr rd a imm) (Jalr rd 31 (pos 0)) a 25 24 imm is (λ z. omega arith) (λ z. omega arith) stand.0 stand.1.0 stand.1.1.0 stand.1.1.1.0
+      after_sum pair keeps s (Jalr rd a imm) (Jalr rd 31 (pos 0)) a 25 24 imm is (λ z. omega arith) (λ z. omega arith) stand.0 stand.1.0 stand.1.1.0 stand.1.1.1.0
       (unmasked_code c d s.hart v regions reserved keep)
       (λ h aside e. jumps_same rd a imm h (with_pc s.hart h.pc) s.memory aside (ap (λ n. plus n (pos 0)) e ∙ plus_zero v (plus_fits (register s.hart a) imm)));
 }

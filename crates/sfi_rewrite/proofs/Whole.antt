@@ -62,15 +62,15 @@ begins_with (y ∷ b) (x ∷ p) us rest e h =
     let r = begins_with b p us rest tails (omega arith) in
     record { more = r.more; front = ap (λ z. z ∷ b) (sym first) ∙ ap (λ v. x ∷ v) r.front; back = r.back }
 
--- what stands up to the bundle's end is whole, and pieces stand behind it
+-- what stands up to the bundle's end is whole, and pieces stand after it
 record IsCut (f : Format) (count end : ℕ) (b rest : List Slot) : Type 0 where
   whole : AreWhole f count b
-  behind : InPieces f count (end + size_of b) rest
+  after : InPieces f count (end + size_of b) rest
 
 cut : (f : Format) (count end : ℕ) (pieces : List (List Slot)) (b rest : List Slot)
     → ArePieces f count end pieces → slots_of pieces ≡ b ++ rest → end % 16 + size_of b ≤ 16 → (end + size_of b) % 16 ≡ 0 → IsCut f count end b rest
 cut f count end pieces [] rest h e room up =
-    record { whole = nothing; behind = subst (λ (n : ℕ). InPieces f count n rest) (let z : size_of [] ≡ 0 = refl in omega arith) (record { pieces = pieces; are = h; flat = e }) }
+    record { whole = nothing; after = subst (λ (n : ℕ). InPieces f count n rest) (let z : size_of [] ≡ 0 = refl in omega arith) (record { pieces = pieces; are = h; flat = e }) }
 cut f count end [] (x ∷ b) rest h e room up = cc
 cut f count end (p ∷ pieces) (x ∷ b) rest h e room up =
     let s = size_at_least x b in
@@ -81,7 +81,7 @@ cut f count end (p ∷ pieces) (x ∷ b) rest h e room up =
     let r = cut f count (end + size_of p) pieces g.more rest h.1 g.back (omega arith) (omega arith) in
     record {
       whole = subst (AreWhole f count) (sym g.front) (whole-append f count p g.more h.0.whole r.whole);
-      behind = subst (λ (m : ℕ). InPieces f count m rest) (omega arith) r.behind;
+      after = subst (λ (m : ℕ). InPieces f count m rest) (omega arith) r.after;
     }
 
 bundles_whole : (f : Format) (count end : ℕ) (bundles pieces : List (List Slot))
@@ -93,7 +93,7 @@ bundles_whole f count end (one ∷ two ∷ bundles) pieces b z h e =
     let full = b.0 in
     let c = cut f count end pieces one (slots_of (two ∷ bundles)) h e (omega arith) (omega arith) in
     All-cons (AreWhole f count) one (two ∷ bundles) c.whole
-    (bundles_whole f count (end + size_of one) (two ∷ bundles) c.behind.pieces b.1 (omega arith) c.behind.are c.behind.flat)
+    (bundles_whole f count (end + size_of one) (two ∷ bundles) c.after.pieces b.1 (omega arith) c.after.are c.after.flat)
 
 -- ---- what is laid is pieces
 
@@ -140,7 +140,7 @@ laid_pieces f count end (x ∷ items) slots more even l p b m =
     ap (λ v. v ++ more) l.4 ∙ append_assoc (replicate nops c_nop) (one ++ rest) more ∙ ap (λ v. replicate nops c_nop ++ v) (append_assoc one rest more) in
     subst (InPieces f count end) (sym shape) all
 
--- the bundles of what is laid, with c.nops behind it
+-- the bundles of what is laid, with c.nops after it
 pub laid_whole : (f : Format) (count : ℕ) (items : List Item) (slots : List Slot) (nops : ℕ) (bundles : List (List Slot))
     → AreLaidFrom f 0 items slots → All (IsPermitted f) items → All (λ x. IsBody count x.body) items → slots_of bundles ≡ slots ++ replicate nops c_nop → AreBundles bundles
     → All (AreWhole f count) bundles

@@ -33,7 +33,7 @@ pub record AreFaultless (f : Format) (items : List Item) (slots : List Slot) : T
   pub permitted : All (IsPermitted f) items
   pub fits : size_of slots ≤ code_most f
 
--- behind that end the item's expansion would begin a bundle beyond the last
+-- after that end the item's expansion would begin a bundle beyond the last
 pub record IsTooLarge (f : Format) (end : ℕ) (x : Item) : Type 0 where
   pub nops : ℕ
   pub expanded : List Slot
@@ -49,7 +49,7 @@ HasItemFault f x (StackWrite line) =
 HasItemFault f x (TooLarge sandbox) = ⊥
 HasItemFault f x Memory = ⊥
 
--- the first fault of the item, which stands behind that end in the sandbox of that number
+-- the first fault of the item, which stands after that end in the sandbox of that number
 abbrev pub HasFault : Format → ℕ → ℕ → Item → RewriteFault → Type 0
 HasFault f sandbox end x (ReservedRegister line) = HasItemFault f x (ReservedRegister line)
 HasFault f sandbox end x (Ecall line) = HasItemFault f x (Ecall line)

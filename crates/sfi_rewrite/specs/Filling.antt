@@ -28,7 +28,7 @@ pub record IsFilled (full : List (List Slot)) (last : List Slot) (end : ℕ) : T
   pub room : size_of last < bundle_size
   pub end_is : end ≡ bundle_size * length full + size_of last
 
--- the slots with the item's c.nops and expansion behind them, within the most that a sandbox may have
+-- the slots with the item's c.nops and expansion after them, within the most that a sandbox may have
 pub record HasNext (f : Format) (old : List Slot) (x : Item) (new : List Slot) : Type 0 where
   pub nops : ℕ
   pub expanded : List Slot
@@ -59,7 +59,7 @@ placed_of labels (Code k) = placed.Code (slice_index labels k)
 placed_of labels (Data offset) = placed.Data offset
 placed_of labels Unknown = placed.Unknown
 
--- the slots with c.nops behind them, up to the bundle start of a label at the end
+-- the slots with c.nops after them, up to the bundle start of a label at the end
 pub record HasEnd (old : List Slot) (labelled : Type 0) (new : List Slot) : Type 0 where
   pub nops : ℕ
   pub end : FillsEnd (size_of old) labelled nops

@@ -47,7 +47,7 @@ IsNamedBelow count (Lower rd name line) = name < count
 
 -- ---- sandboxes
 
--- there is what the name names: that gate, a bundle start of the code or its end, the place behind so many data bytes
+-- there is what the name names: that gate, a bundle start of the code or its end, the place after so many data bytes
 abbrev pub IsPlacedThere : Placement → PlacedName → Type 0
 IsPlacedThere p (placed.Gate k) = k < length p.gates
 IsPlacedThere p (placed.Code place) = (place % bundle_size ≡ 0) × (place ≤ size_of (slots_of p.bundles))

@@ -13,7 +13,7 @@ next_bundle n = (n + 15) / 16 * 16
 -- An expansion of this size may stand here, where what stands before it ends at `end`: not before that end, nor before
 -- its label's bundle start; within one bundle; and a call up to its bundle's end, so that it returns to a bundle start.
 pub record MayStand (end : ℕ) (labelled call : Bool) (size here : ℕ) : Type 0 where
-  pub behind : end ≤ here
+  pub after : end ≤ here
   pub at_label : IsTrue labelled → next_bundle end ≤ here
   pub in_bundle : here % bundle_size + size ≤ bundle_size
   pub returns : IsTrue call → (here + size) % bundle_size ≡ 0
@@ -23,7 +23,7 @@ pub record FillsGap (end : ℕ) (labelled call : Bool) (size nops : ℕ) : Type 
   pub stands : MayStand end labelled call size (end + 2 * nops)
   pub first : (here : ℕ) → MayStand end labelled call size here → end + 2 * nops ≤ here
 
--- behind that end the item's expansion stands next, behind so many c.nops
+-- after that end the item's expansion stands next, after so many c.nops
 pub record IsNext (f : Format) (end : ℕ) (x : Item) (nops : ℕ) (expanded : List Slot) : Type 0 where
   pub expansion : IsExpansion f x expanded
   pub gap : FillsGap end x.labelled (is_call x.body) (size_of expanded) nops

@@ -17,7 +17,7 @@ slot_size (Lower rd name line) = 4
 abbrev pub size_of : List Slot → ℕ
 size_of slots = sum_by slot_size slots
 
--- the slots of bundles, one bundle behind another
+-- the slots of bundles, one bundle after another
 abbrev pub slots_of : List (List Slot) → List Slot
 slots_of bundles = flat_map (λ slots. slots) bundles
 

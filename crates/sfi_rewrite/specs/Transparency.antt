@@ -59,7 +59,7 @@ SlotStands i s (Jump j name line) = Stands s i 4
 SlotStands i s (Upper rd name line) = Stands s i 4
 SlotStands i s (Lower rd name line) = Stands s i 4
 
--- the slots stand one behind another from pc on, wherever that is
+-- the slots stand one after another from pc on, wherever that is
 abbrev pub SlotsStand : Instr → State → List Slot → Type 0
 SlotsStand i s [] = Unit {0}
 SlotsStand i s (x ∷ slots) = SlotStands i s x × SlotsStand i (further s (slot_size x)) slots
@@ -139,8 +139,8 @@ pub record StandsTransparent (f : Format) (items : List Item) (p : Placement) (k
   pub nops : ℕ
   pub expanded : List Slot
   pub next : IsNext f (size_of before) x nops expanded
-  pub behind : List Slot
-  pub placed : slots_of p.bundles ≡ before ++ (replicate nops c_nop ++ (expanded ++ behind))
+  pub after : List Slot
+  pub placed : slots_of p.bundles ≡ before ++ (replicate nops c_nop ++ (expanded ++ after))
   pub transparent : (i : Instr) → MayBe x.body i → ActsAs f i expanded
 
 -- each item of the sandbox stands so

@@ -41,7 +41,7 @@ impl Expansion {
         }
     }
 
-    /// A pair, and what stands behind it.
+    /// A pair, and what stands after it.
     fn of_three(pair: [Slot; 2], last: Slot) -> Expansion
         ensures { result ≡ pair ++ last ∷ [] }
     {
@@ -73,7 +73,7 @@ impl Expansion {
         }
     }
 
-    /// A sum, a pair, and what stands behind it.
+    /// A sum, a pair, and what stands after it.
     fn of_four(sum: Slot, pair: [Slot; 2], last: Slot) -> Expansion
         ensures { result ≡ sum ∷ (pair ++ last ∷ []) }
     {

@@ -54,7 +54,7 @@ pub fn rewritten_is_placed()
     one_first_form();
 }
 
-/// The expansion of an instruction does what the instruction does, x31 aside; behind an instruction that writes the stack pointer
+/// The expansion of an instruction does what the instruction does, x31 aside; after an instruction that writes the stack pointer
 /// it keeps what that leaves.
 pub fn expansions_are_transparent()
     ensures { ExpansionsAreTransparent }

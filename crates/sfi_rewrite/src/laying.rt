@@ -23,7 +23,7 @@ pub(crate) struct Laid {
     pub(crate) labels: Vec<u32>,
 }
 
-/// Adds an item, behind its c.nops, to the code of the sandbox of that number.
+/// Adds an item, after its c.nops, to the code of the sandbox of that number.
 fn lay_item(
     alloc: Global,
     format: Format,

@@ -38,7 +38,7 @@ pub(crate) fn nops_before(end: usize, labelled: bool, call: bool, size: usize) -
     (at - used) / 2
 }
 
-/// How many c.nops stand between the end of the last expansion and the bundle start behind it.
+/// How many c.nops stand between the end of the last expansion and the bundle start after it.
 pub(crate) fn nops_at_end(end: usize) -> usize
     requires end { end ≤ largest }
     requires even { end % 2 ≡ 0 }

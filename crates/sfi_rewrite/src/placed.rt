@@ -12,9 +12,9 @@ use std::marker::Model;
 pub enum PlacedName {
     /// The gate of that number, counted from 0.
     Gate(usize),
-    /// A place in the code: so many bytes behind the gates' stubs.
+    /// A place in the code: so many bytes after the gates' stubs.
     Code(u32),
-    /// A place in the data: so many bytes behind the data base.
+    /// A place in the data: so many bytes after the data base.
     Data(u32),
     /// Nothing: the text never says what it names.
     Unknown,
@@ -100,7 +100,7 @@ impl PlacedPart {
         &self.bytes
     }
 
-    /// The bundles that stand behind the gates' stubs, at most 4096, or 65536 in the second format. Each has 16 bytes, but for the last, which may have fewer.
+    /// The bundles that stand after the gates' stubs, at most 4096, or 65536 in the second format. Each has 16 bytes, but for the last, which may have fewer.
     pub fn bundles(&self) -> &[Bundle]
         ensures { result.now ≡ self.now.bundles }
     {

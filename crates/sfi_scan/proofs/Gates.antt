@@ -58,7 +58,7 @@ first_is at (g ∷ gates) ahead = rw (none_before (g.address + 16) at gates (let
     or_false true = refl
     or_false false = refl
 
--- behind a gate at the address
+-- after a gate at the address
 pub ahead_taken : (at : ℕ) (gates : List Gate) → is_first_at gates at ≡ true → at % 16 ≡ 0 → Ahead at gates → Ahead (at + 16) (drop 1 gates)
 ahead_taken at [] e even ahead = tt
 ahead_taken at (g ∷ gates) e even ahead = subst (λ a. Ahead (a + 16) gates) (eqb-true g.address at e) ahead.2

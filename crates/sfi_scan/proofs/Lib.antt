@@ -1,4 +1,4 @@
-pub mod Behind
+pub mod After
 pub mod Bounds
 pub mod FirstLook
 pub mod Gates

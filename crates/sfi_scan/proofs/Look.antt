@@ -19,7 +19,7 @@ use Rattle.rv_word.specs.declared.instr.RegOp.TheVariants.{And, Or}
 use Rattle.sfi_scan.specs.Stack.{begins_pair, precedes_pair}
 use Rattle.sfi_scan.specs.Readings.{Piece, IsLongestReading}
 use Rattle.sfi_scan.specs.FirstLook.{half_at, word_at, AreWordsFrom, IsCleanOne, is_clean, IsStackWrite, AreStackPair}
-use Rattle.sfi_scan.proofs.Behind.{IsOnly, begins}
+use Rattle.sfi_scan.proofs.After.{IsOnly, begins}
 use Rattle.sfi_scan.proofs.FirstLook.{clean_is, kind_of, write_quiet, masking_quiet, placing_quiet}
 use Rattle.sfi_scan.proofs.Readings.{front_one}
 use Rattle.sfi_scan.proofs.Walk.{Leads, next, at_first}
@@ -140,9 +140,9 @@ looks_written law b bytes at from count below last has l write pair =
     let placed : IsWordOf (word_at bytes (at + 4 + 4)) placing = subst (λ k. IsWordOf (word_at bytes k) placing) eight pair.placing in
     let here = spelled_at bytes at i count (omega arith) write.spelled in
     let there = spelled_at bytes (at + 4) masking count (omega arith) pair.masking in
-    let behind = spelled_at bytes (at + 4 + 4) placing count (omega arith) placed in
+    let after = spelled_at bytes (at + 4 + 4) placing count (omega arith) placed in
     let ends : (later : List Piece) → IsLongestReading (drop (at + 4 + 4) bytes) later → begins_pair masking later ≡ true =
-    λ later longest. let x = begins (drop (at + 4 + 4) bytes) placing 4 behind (only_here law (drop (at + 4 + 4) bytes) placing 4 behind) later longest in ap (begins_pair masking) x.is in
+    λ later longest. let x = begins (drop (at + 4 + 4) bytes) placing 4 after (only_here law (drop (at + 4 + 4) bytes) placing 4 after) later longest in ap (begins_pair masking) x.is in
     let precedes : (later : List Piece) → IsLongestReading (drop (at + 4) bytes) later → precedes_pair later ≡ true =
     λ later longest.
     let x = begins (drop (at + 4) bytes) masking 4 there (only_here law (drop (at + 4) bytes) masking 4 there) later longest in
@@ -153,7 +153,7 @@ looks_written law b bytes at from count below last has l write pair =
     let two = looks_quiet law b bytes (at + 4) 4 (at + 4) (at + 4) masking count one.0 there
     (λ x place address near_is instr longest. masking_quiet x pair.any (ap is_last_bundle place ∙ last) (ap (λ (y : BundlePlace). has_stack y.format) place ∙ has) instr (ends x.later longest))
     (word_more bytes (at + 4) (at + 4) one.0.before masking one.0.words_are pair.masking) (omega arith) in
-    let three = looks_quiet law b bytes (at + 4 + 4) 4 (at + 4) (at + 4) placing count two.0 behind
+    let three = looks_quiet law b bytes (at + 4 + 4) 4 (at + 4) (at + 4) placing count two.0 after
     (λ x place address near_is instr longest. placing_quiet x pair.any (ap is_last_bundle place ∙ last) (ap (λ (y : BundlePlace). has_stack y.format) place ∙ has) instr (ap (λ (y : Before). y.second) near_is ∙ two.1))
     (word_more bytes (at + 4 + 4) (at + 4) two.0.before placing two.0.words_are placed) (omega arith) in
     subst (λ k. Looks b bytes k (at + 4)) twelve three.0

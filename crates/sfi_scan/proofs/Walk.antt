@@ -87,7 +87,7 @@ drop_drop n at xs = drop-drop n at xs
 same_piece : (i j : Instr) (m n : ℕ) → Read i n ≡ Read j m → (i ≡ j) × (n ≡ m)
 same_piece i j m n e = (cc, cc)
 
--- a longest reading behind the only piece that can stand at the front
+-- a longest reading after the only piece that can stand at the front
 longer : (rest : List ℕ) (i : Instr) (n : ℕ) (later : List Piece) → Spells (take n rest) i n → ((j : Instr) (m : ℕ) → Spells (take m rest) j m → Read i n ≡ Read j m) → IsLongestReading (drop n rest) later → IsLongestReading rest (record { instr = i; size = n } ∷ later)
 longer rest i n later s only h = record { is_reading = (s, h.is_reading); longest = most }
   where
@@ -134,18 +134,18 @@ next b bytes at n before after found i o count so_far s only rule go =
         let size = spell_size (take n (drop at bytes)) i n s in
         rw (length-append found (broken b (b.address + at) r ∷ [])) (omega (arith, size.1))
 
-    behind : drop n (drop at bytes) ≡ drop (at + n) bytes
-    behind = drop_drop n at bytes
+    beyond : drop n (drop at bytes) ≡ drop (at + n) bytes
+    beyond = drop_drop n at bytes
 
     leads : (later : List Piece) → IsLongestReading (drop (at + n) bytes) later → AreReadingFindings b bytes ((found ++ finding_of b (b.address + at) o) ++ tail_findings b (length bytes) (b.address + (at + n)) (i ∷ so_far.earlier) (drop (at + n) bytes) later)
     leads later longest =
-        let longest' = subst (λ (r : List ℕ). IsLongestReading r later) (sym behind) longest in
+        let longest' = subst (λ (r : List ℕ). IsLongestReading r later) (sym beyond) longest in
         let old = so_far.leads (record { instr = i; size = n } ∷ later) (longer (drop at bytes) i n later s only longest') in
         let place : Place = record { bundle = b; address = b.address + at; earlier = so_far.earlier; instr = i; later = later; whole = is_empty (rest_of (drop n (drop at bytes)) later) } in
-        let last = is_last (drop n (drop at bytes)) later longest'.is_reading ∙ ap (λ (r : List ℕ). is_empty r) behind in
+        let last = is_last (drop n (drop at bytes)) later longest'.is_reading ∙ ap (λ (r : List ℕ). is_empty r) beyond in
         let here = rule place refl refl so_far.near_is refl last longest in
         let joined = regroup found (lowest place all_rules) (finding_of b (b.address + at) o) (findings_from b (is_empty (rest_of (drop n (drop at bytes)) later)) (b.address + at + n) (i ∷ so_far.earlier) later) (rest_finding b (b.address + (length bytes - length (rest_of (drop n (drop at bytes)) later))) (rest_of (drop n (drop at bytes)) later)) here in
-        let moved = ap (λ (r : List ℕ). (found ++ finding_of b (b.address + at) o) ++ tail_findings b (length bytes) (b.address + at + n) (i ∷ so_far.earlier) r later) behind in
+        let moved = ap (λ (r : List ℕ). (found ++ finding_of b (b.address + at) o) ++ tail_findings b (length bytes) (b.address + at + n) (i ∷ so_far.earlier) r later) beyond in
         let placed = ap (λ k. (found ++ finding_of b (b.address + at) o) ++ tail_findings b (length bytes) k (i ∷ so_far.earlier) (drop (at + n) bytes) later) (sums b.address at n) in
         subst (λ (l : List Finding). AreReadingFindings b bytes l) (joined ∙ moved ∙ placed) old
 
@@ -154,7 +154,7 @@ next b bytes at n before after found i o count so_far s only rule go =
 longest_of_none : IsLongestReading [] []
 longest_of_none = record { is_reading = tt; longest = λ other h. let e = nothing_there other h in rw e (omega arith) }
 
--- behind the last byte
+-- after the last byte
 pub at_last : (b : BundlePlace) (bytes : List ℕ) (at : ℕ) (before : Before) (found : List Finding) → length bytes ≡ 16 → 16 ≤ at → Leads b bytes at before found → AreReadingFindings b bytes found
 at_last b bytes at before found count over so_far =
     let none : drop at bytes ≡ [] = drop_all at bytes (omega arith) in

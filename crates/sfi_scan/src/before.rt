@@ -81,7 +81,7 @@ impl Before {
         }
     }
 
-    /// Behind this instruction too.
+    /// After this instruction too.
     pub(crate) fn and_then(self, instr: Instr) -> Self
         ensures { (earlier : List Instr) → near earlier ≡ self → result ≡ near (instr ∷ earlier) }
     {

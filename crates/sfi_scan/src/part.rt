@@ -23,8 +23,8 @@ fn is_first_at(gates: &[Gate], address: u32) -> bool
     }
 }
 
-/// The gates behind the first.
-fn behind_first(gates: &[Gate]) -> &[Gate]
+/// The gates after the first.
+fn after_first(gates: &[Gate]) -> &[Gate]
     ensures { result.now ≡ drop 1 gates.now }
 {
     match gates {
@@ -51,7 +51,7 @@ pub fn scan_part_as(
         let address = part.code_base + 16 * k as u32;
         let listed = is_first_at(gates, address);
         if listed {
-            gates = behind_first(gates);
+            gates = after_first(gates);
         }
         let place = BundlePlace {
             sandbox,

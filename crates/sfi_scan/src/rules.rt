@@ -142,28 +142,28 @@ fn precedes_pair(two: &Ahead) -> bool
     }
 }
 
-fn breaks_stack(place: &BundlePlace, before: &Before, instr: &Instr, behind: &[u8]) -> bool
-    ensures { (x : Place) → x.bundle ≡ place.now → near x.earlier ≡ before.now → IsLongestReading behind.now x.later → result ≡ breaks_stack x instr.now }
+fn breaks_stack(place: &BundlePlace, before: &Before, instr: &Instr, after: &[u8]) -> bool
+    ensures { (x : Place) → x.bundle ≡ place.now → near x.earlier ≡ before.now → IsLongestReading after.now x.later → result ≡ breaks_stack x instr.now }
 {
     if !writes_stack(place, instr) {
         return false;
     }
-    let two = read_ahead(behind);
+    let two = read_ahead(after);
     !(begins_pair(instr, &two)
         || ends_pair(before, instr)
         || (!is_jump(instr) && precedes_pair(&two)))
 }
 
-/// The lowest rule that the instruction breaks, if any. These bytes of its bundle stand behind it.
+/// The lowest rule that the instruction breaks, if any. These bytes of its bundle stand after it.
 pub(crate) fn lowest_rule(
     place: &BundlePlace,
     address: u32,
     before: &Before,
     instr: &Instr,
-    behind: &[u8],
+    after: &[u8],
 ) -> Option<Rule>
     requires { IsWithin place.now }
-    ensures { (x : Place) → x.bundle ≡ place.now → x.address ≡ address → near x.earlier ≡ before.now → x.instr ≡ instr.now → (x.whole && is_empty x.later) ≡ is_empty behind.now → IsLongestReading behind.now x.later → lowest x all_rules ≡ finding_of place.now address result }
+    ensures { (x : Place) → x.bundle ≡ place.now → x.address ≡ address → near x.earlier ≡ before.now → x.instr ≡ instr.now → (x.whole && is_empty x.later) ≡ is_empty after.now → IsLongestReading after.now x.later → lowest x all_rules ≡ finding_of place.now address result }
 {
     let is_first = before.second.is_none();
     if breaks_ecall(place, is_first, instr) {
@@ -176,9 +176,9 @@ pub(crate) fn lowest_rule(
         Some(Rule::V6)
     } else if breaks_target(place, address, instr) {
         Some(Rule::V7)
-    } else if behind.is_empty() && is_last_bundle(place) && !ends_region(instr) {
+    } else if after.is_empty() && is_last_bundle(place) && !ends_region(instr) {
         Some(Rule::V8)
-    } else if breaks_stack(place, before, instr, behind) {
+    } else if breaks_stack(place, before, instr, after) {
         Some(Rule::V10)
     } else {
         None

@@ -69,7 +69,7 @@ plan_of (suc rounds) quantum count = plan_of rounds quantum count ++ round_of qu
 abbrev pub first_slots : List Part → List Slot
 first_slots ps = slots_of (record { bytes = with_parts empty ps; seats = map first_seat ps })
 
--- the sandboxes and their host, which answers each call, behind that plan
+-- the sandboxes and their host, which answers each call, after that plan
 abbrev pub run_of : Machine → ℕ → ℕ → List ℕ → List Part → Joined (Limited ConsoleState)
 run_of machine rounds quantum given ps =
     joint machine console (plan_of rounds quantum (length ps)) (first_slots ps) (new_console (length ps) given) None

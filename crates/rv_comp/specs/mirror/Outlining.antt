@@ -6,7 +6,7 @@ use Rattle.rv_word.specs.declared.outline.Outline.{Outline}
 use Rattle.rv_word.specs.declared.outline.Outline.TheVariants.{Computes, Loads, Stores, Branches, Jumps, JumpsTo, Stops}
 use Rattle.rv_comp.specs.mirror.Decoding.{extended, jump_offset, branch_offset, short, long}
 
--- bits 15:13, and behind them bits 1:0
+-- bits 15:13, and after them bits 1:0
 unfoldable pub row_of : ℕ → ℕ
 row_of h = 4 * bits h 15 13 + bits h 1 0
 

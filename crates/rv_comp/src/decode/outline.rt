@@ -10,7 +10,7 @@ use crate::bits::bits;
 use crate::register::register;
 use rv_word::Outline;
 
-/// Bits 15:13, and behind them bits 1:0.
+/// Bits 15:13, and after them bits 1:0.
 #[tactic(auto, unfolding(crate::specs::mirror::Outlining::row_of))]
 fn row_of(h: u16) -> u16
     ensures { result ≡ row_of h }

@@ -74,12 +74,12 @@ fn meaning(alloc: Global, text: &str) -> Result<String, AllocError> {
     }
 }
 
-// The text behind a first line that begins a sandbox of 256 bytes.
-fn behind_sandbox(alloc: Global, text: &str) -> Result<String, AllocError> {
+// The text after a first line that begins a sandbox of 256 bytes.
+fn after_sandbox(alloc: Global, text: &str) -> Result<String, AllocError> {
     format!(in alloc; ".sandbox 256\n{text}")
 }
 
-// Each statement once, behind `.sandbox 256`.
+// Each statement once, after `.sandbox 256`.
 fn statements() -> [(&'static str, &'static str); 36] {
     [
         ("", "256 | | | |"),
@@ -166,7 +166,7 @@ fn statements() -> [(&'static str, &'static str); 36] {
     ]
 }
 
-// Texts behind `.sandbox 256` with a fault on line 2.
+// Texts after `.sandbox 256` with a fault on line 2.
 fn faults() -> [(&'static str, TextCause); 77] {
     [
         ("frob a0", TextCause::Word),
@@ -298,7 +298,7 @@ fn whole_faults() -> [(&'static str, u32, TextCause); 27] {
 fn sources(rt: HostRuntime) -> Result<(), Fail> {
     let alloc = rt.alloc();
     for (text, wanted) in statements() {
-        let whole = behind_sandbox(alloc, text)?;
+        let whole = after_sandbox(alloc, text)?;
         let meant = meaning(alloc, whole.as_str())?;
         let wanted = format!(in alloc; "{wanted}\n")?;
         assert_eq!(rt; meant.as_str(), wanted.as_str(), "{text}");
@@ -318,7 +318,7 @@ fn is_refused(rt: &impl Abort, alloc: Global, text: &str, line: u32, cause: Text
 fn source_faults(rt: HostRuntime) -> Result<(), Fail> {
     let alloc = rt.alloc();
     for (text, cause) in faults() {
-        let whole = behind_sandbox(alloc, text)?;
+        let whole = after_sandbox(alloc, text)?;
         is_refused(&rt, alloc, whole.as_str(), 2, cause);
     }
     for (text, line, cause) in whole_faults() {
@@ -348,10 +348,10 @@ fn limits(rt: HostRuntime) -> Result<(), Fail> {
         format!(in alloc; "la a0, {name}")?,
     ];
     for text in long.iter() {
-        let whole = behind_sandbox(alloc, text.as_str())?;
+        let whole = after_sandbox(alloc, text.as_str())?;
         is_refused(&rt, alloc, whole.as_str(), 2, TextCause::Limit);
     }
-    let full = behind_sandbox(alloc, doubled(alloc, "nop\n", 16)?.as_str())?;
+    let full = after_sandbox(alloc, doubled(alloc, "nop\n", 16)?.as_str())?;
     assert!(rt; parse_source(alloc, full.as_str()).is_ok());
     let more = format!(in alloc; "{full}nop")?;
     is_refused(&rt, alloc, more.as_str(), 65538, TextCause::Limit);

@@ -22,7 +22,7 @@ call quit
 msg: .byte 72, 105
 ";
 
-// Its image up to the fill, which is 88 c.ebreaks, and behind these the two data bytes.
+// Its image up to the fill, which is 88 c.ebreaks, and after these the two data bytes.
 const CALLS_HEAD: &str = "534649310100000000000001000100000000800100010000200000010200000002000000\
     00000001010000001000000100000000\
     73000000b3ff9001b3ef8f0167800f0073000000b3ff9001b3ef8f0167800f00\
@@ -196,7 +196,7 @@ capital:
         lbu  t0, 0(a2)
         li   t1, 97             # a
         bltu t0, t1, next
-        li   t1, 123            # behind z
+        li   t1, 123            # after z
         bgeu t0, t1, next
         addi t0, t0, -32
         sb   t0, 0(a2)
@@ -266,7 +266,7 @@ buffer: .zero 256
 ";
 
 // The text of examples/counter.s.
-const COUNTER: &str = "# Writes the digits 1 to 9, one a line, and yields its turn behind each.
+const COUNTER: &str = "# Writes the digits 1 to 9, one a line, and yields its turn after each.
 .sandbox 256
 .gate put 1
 .gate yield 3

@@ -41,7 +41,7 @@ const EXAMPLE: &str = "# Prints \"Hi\" and exits with the code of its last lette
 text:   .byte 72, 105
 ";
 
-// The image of both up to the fill, which is 88 c.ebreaks, and behind these the two data bytes.
+// The image of both up to the fill, which is 88 c.ebreaks, and after these the two data bytes.
 const CALLS_HEAD: &str = "534649310100000000000001000100000000800100010000200000010200000002000000\
     00000001010000001000000100000000\
     73000000b3ff9001b3ef8f0167800f0073000000b3ff9001b3ef8f0167800f00\

@@ -22,18 +22,18 @@ pub returns-in-Stuck-clause-only_cause : goal.returns-in-Stuck-clause-only_cause
 returns-in-Stuck-clause-only_cause c = only_cause c.args.text.now (Err Word) tt (inl (c.in-Stuck.ensures, refl))
 
 pub returns-in-Token-clause-means : goal.returns-in-Token-clause-means
-returns-in-Token-clause-means c = token_means _ _ _ c.in-Token.ensures c.behind_token.result c.behind_token.ensures.ok
+returns-in-Token-clause-means c = token_means _ _ _ c.in-Token.ensures c.after_token.result c.after_token.ensures.ok
 
 pub returns-in-Token-clause-only : goal.returns-in-Token-clause-only
 returns-in-Token-clause-only c =
-    only c.args.text.now c.behind_token.result (token_means _ _ _ c.in-Token.ensures c.behind_token.result c.behind_token.ensures.ok) (token_cause _ _ _ c.in-Token.ensures c.behind_token.result c.behind_token.ensures.cause)
+    only c.args.text.now c.after_token.result (token_means _ _ _ c.in-Token.ensures c.after_token.result c.after_token.ensures.ok) (token_cause _ _ _ c.in-Token.ensures c.after_token.result c.after_token.ensures.cause)
 
 pub returns-in-Token-clause-in_range : goal.returns-in-Token-clause-in_range
-returns-in-Token-clause-in_range c = means_in_range c.args.text.now c.behind_token.result (token_means _ _ _ c.in-Token.ensures c.behind_token.result c.behind_token.ensures.ok)
+returns-in-Token-clause-in_range c = means_in_range c.args.text.now c.after_token.result (token_means _ _ _ c.in-Token.ensures c.after_token.result c.after_token.ensures.ok)
 
 pub returns-in-Token-clause-cause : goal.returns-in-Token-clause-cause
-returns-in-Token-clause-cause c = token_cause _ _ _ c.in-Token.ensures c.behind_token.result c.behind_token.ensures.cause
+returns-in-Token-clause-cause c = token_cause _ _ _ c.in-Token.ensures c.after_token.result c.after_token.ensures.cause
 
 pub returns-in-Token-clause-only_cause : goal.returns-in-Token-clause-only_cause
 returns-in-Token-clause-only_cause c =
-    only_cause c.args.text.now c.behind_token.result (token_means _ _ _ c.in-Token.ensures c.behind_token.result c.behind_token.ensures.ok) (token_cause _ _ _ c.in-Token.ensures c.behind_token.result c.behind_token.ensures.cause)
+    only_cause c.args.text.now c.after_token.result (token_means _ _ _ c.in-Token.ensures c.after_token.result c.after_token.ensures.ok) (token_cause _ _ _ c.in-Token.ensures c.after_token.result c.after_token.ensures.cause)

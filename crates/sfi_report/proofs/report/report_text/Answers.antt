@@ -10,7 +10,7 @@ use Rattle.sfi_report.proofs.Places.{findings_stand}
 use Rattle.sfi_report.proofs.Reports.{one_finding_more}
 use Rattle.sfi_report.proofs.report.report_text.Goals as goal
 
--- what the list has behind its end
+-- what the list has after its end
 none : Finding
 none = record { sandbox = 0; address = 0; rule = V1 }
 

@@ -53,11 +53,11 @@ loop-k-preserved c =
       so_far = one_more c.args.sandbox (view c.args.format c.args.part.now) c.loop-k.k _ _ c.loop-k.found.items c.scan_bundle.new.findings c.if-count-gt0.found.items old.so_far c.scan_bundle.ensures place (ap (λ (l : List (List ℕ)). get_or l c.loop-k.k []) c.as_chunks.ensures.front ∙ chunk_at (length c.args.part.now.code.now / 16) c.loop-k.k c.args.part.now.code.now (let below = c.loop-k-test.true in let count = c.as_chunks.ensures.front_len in omega arith))
           grown;
       ahead = subst (λ a. Ahead a c.if-listed.gates.now) next (elim c.if-listed.branch [
-        | then-listed w ↦ subst (λ l. Ahead (at + 16) l) (sym (ap (λ b. b.now) w.gates-is ∙ w.behind_first-gates.ensures)) (ahead_taken at c.loop-k.gates.now (sym c.is_first_at-listed.ensures ∙ w.if-listed.true) even old.ahead)
+        | then-listed w ↦ subst (λ l. Ahead (at + 16) l) (sym (ap (λ b. b.now) w.gates-is ∙ w.after_first-gates.ensures)) (ahead_taken at c.loop-k.gates.now (sym c.is_first_at-listed.ensures ∙ w.if-listed.true) even old.ahead)
         | else-listed w ↦ subst (λ l. Ahead (at + 16) l) (sym (ap (λ b. b.now) w.gates-is)) (ahead_kept at c.loop-k.gates.now (sym c.is_first_at-listed.ensures ∙ w.if-listed.false) even old.ahead)
       ]);
       same = λ a h. elim c.if-listed.branch [
-        | then-listed w ↦ ap (λ l. is_gate_of l a) (ap (λ b. b.now) w.gates-is ∙ w.behind_first-gates.ensures) ∙ same_taken at a c.loop-k.gates.now (sym c.is_first_at-listed.ensures ∙ w.if-listed.true) (omega arith) ∙ old.same a (omega arith)
+        | then-listed w ↦ ap (λ l. is_gate_of l a) (ap (λ b. b.now) w.gates-is ∙ w.after_first-gates.ensures) ∙ same_taken at a c.loop-k.gates.now (sym c.is_first_at-listed.ensures ∙ w.if-listed.true) (omega arith) ∙ old.same a (omega arith)
         | else-listed w ↦ ap (λ l. is_gate_of l a) (ap (λ b. b.now) w.gates-is) ∙ old.same a (omega arith)
       ];
     }

@@ -1,7 +1,7 @@
 use Rattle.std.proofs.Common.{◌+◌, ◌%◌, ◌^◌, ◌≤◌, ℕ, IsSome, subst, sym, refl, arith}
 use Rattle.rv_mem.specs.Bytes.{byte_at}
 use Rattle.rv_mem.specs.Pages.{bytes_of}
-use Rattle.rv_mem.proofs.PageRuns.{behind_run, none_further}
+use Rattle.rv_mem.proofs.PageRuns.{after_run, none_further}
 use Rattle.rv_mem.proofs.pages.Pages.overlaps.Goals as goal
 
 pub returns-then-run_has-clause-found : goal.returns-then-run_has-clause-found
@@ -13,7 +13,7 @@ returns-then-run_has-clause-found c =
     let at : ℕ = (c.args.base + d) % 2 ^ 32 in
     let room : at % 4096 + n ≤ 4096 = omega (arith, e) in
     let most : d + n ≤ c.args.size = omega (arith, e, c.loop-done.invariant.most) in
-    (d + f.0, omega (arith, most, f.1), subst (λ (x : ℕ). IsSome (byte_at (bytes_of c.args.self.now) x)) (sym (behind_run c.args.base d n at f.0 refl room f.1)) f.2)
+    (d + f.0, omega (arith, most, f.1), subst (λ (x : ℕ). IsSome (byte_at (bytes_of c.args.self.now) x)) (sym (after_run c.args.base d n at f.0 refl room f.1)) f.2)
 
 pub loop-done-preserved : goal.loop-done-preserved
 loop-done-preserved c =

@@ -3,7 +3,7 @@ use Rattle.rv_text.specs.Forms.{form_of}
 use Rattle.rv_text.specs.Operands.{values_of}
 use Rattle.rv_text.specs.Reading.{Reads}
 use Rattle.rv_text.proofs.Meaning.{follows}
-use Rattle.rv_text.proofs.parse.behind_name.Goals as goal
+use Rattle.rv_text.proofs.parse.after_name.Goals as goal
 
 pub returns-in-Ok-clause-ok : goal.returns-in-Ok-clause-ok
 returns-in-Ok-clause-ok c =

@@ -1,4 +1,4 @@
--- The pieces behind a place are those that are read there.
+-- The pieces after a place are those that are read there.
 use Rattle.std.proofs.Common.{◌≡◌, ℕ, suc, ◌≤◌, List, [], ◌∷◌, length, take, drop, Option, Some, refl, sym, ap, ◌∙◌, subst, arith}
 use Rattle.rv_word.specs.declared.instr.Instr.{Instr}
 use Rattle.rv_comp.specs.Fronts.{Spells}
@@ -54,7 +54,7 @@ first_read bytes i n s only later h =
     let b = begins bytes i n s only later h in
     sym (ap (λ (l : List Piece). (ahead l).first) b.is ∙ first_ahead (record { instr = i; size = n }) b.rest)
 
--- and both, where the second is known of what is behind the first
+-- and both, where the second is known of what is after the first
 pub both_read : (bytes : List ℕ) (i : Instr) (n : ℕ) (o : Option Instr) → Spells (take n bytes) i n → IsOnly bytes i n
     → ((later : List Piece) → IsLongestReading (drop n bytes) later → o ≡ (ahead later).first)
     → (later : List Piece) → IsLongestReading bytes later → record { first = Some i; second = o } ≡ ahead later

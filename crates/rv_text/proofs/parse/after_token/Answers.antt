@@ -1,0 +1,5 @@
+use Rattle.rv_text.proofs.Meaning.{token_follows}
+use Rattle.rv_text.proofs.parse.after_token.Goals as goal
+
+pub returns-in-Some-clause-ok : goal.returns-in-Some-clause-ok
+returns-in-Some-clause-ok c = token_follows c.after_name.result _ _ _ c.in-Some.ensures.some c.after_name.ensures.ok

@@ -1,5 +1,0 @@
-use Rattle.rv_text.proofs.Meaning.{token_follows}
-use Rattle.rv_text.proofs.parse.behind_token.Goals as goal
-
-pub returns-in-Some-clause-ok : goal.returns-in-Some-clause-ok
-returns-in-Some-clause-ok c = token_follows c.behind_name.result _ _ _ c.in-Some.ensures.some c.behind_name.ensures.ok
