@@ -1,0 +1,4 @@
+pub mod Limits
+pub mod Registers
+pub mod Pairs
+pub mod Laws

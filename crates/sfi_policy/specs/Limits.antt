@@ -1,0 +1,42 @@
+-- The limits of a sandbox and of an image.
+use Rattle.std.specs.Prelude.{ℕ}
+
+-- the bytes of a bundle
+abbrev pub bundle_size : ℕ
+bundle_size = 16
+
+-- how many addresses a guard zone has
+abbrev pub guard : ℕ
+guard = 4096
+
+-- the least bytes of a region, of code or of data
+abbrev pub region_least : ℕ
+region_least = 256
+
+-- the most bytes of a data region
+abbrev pub data_most : ℕ
+data_most = 1048576
+
+-- the most sandboxes that an image has
+abbrev pub sandboxes_most : ℕ
+sandboxes_most = 16
+
+-- the most gates that a sandbox may have
+abbrev pub gates_most : ℕ
+gates_most = 64
+
+-- the highest number of a service that a gate may ask for; the lowest is 0
+abbrev pub service_most : ℕ
+service_most = 5
+
+-- the most instructions of a sandbox of a source
+abbrev pub items_most : ℕ
+items_most = 65536
+
+-- the most bytes of a name of a source
+abbrev pub name_most : ℕ
+name_most = 64
+
+-- how far below its data region's end a sandbox's stack pointer lies at first
+abbrev pub first_frame : ℕ
+first_frame = 16

@@ -1,0 +1,58 @@
+-- The masked pairs (Wahbe and others, "Efficient Software-Based Fault Isolation", 1993): an `and` keeps an address's offset in the region, of a
+-- code address that of its bundle, and an `or` sets the region's bits.
+use Rattle.std.specs.Prelude.{◌==◌, ◌&&◌, ℕ, pos, List, [], ◌∷◌, Bool, false}
+use Rattle.rv_word.specs.declared.instr.RegOp.TheVariants.{And, Or}
+use Rattle.rv_word.specs.declared.instr.Instr.{Instr}
+use Rattle.rv_word.specs.declared.instr.Instr.TheVariants.{Op, Jalr, Ecall}
+use Rattle.sfi_policy.specs.Registers.{code_base_register, code_mask_register, data_base_register, data_mask_register, scratch, return_register}
+
+-- ---- the pairs
+
+-- `and target, a, mask`
+abbrev pub masking : ℕ → ℕ → ℕ → Instr
+masking mask target a = Op And target a mask
+
+-- `or target, target, base`
+abbrev pub placing : ℕ → ℕ → Instr
+placing base target = Op Or target target base
+
+-- the one, then the other
+abbrev pub pair : ℕ → ℕ → ℕ → ℕ → List Instr
+pair mask base target a = masking mask target a ∷ placing base target ∷ []
+
+-- `and target, a, x27`, `or target, target, x26`: the target becomes an address of the data region
+abbrev pub data_pair : ℕ → ℕ → List Instr
+data_pair target a = pair data_mask_register data_base_register target a
+
+-- `and target, a, x25`, `or target, target, x24`: the target becomes a bundle start of the code region
+abbrev pub code_pair : ℕ → ℕ → List Instr
+code_pair target a = pair code_mask_register code_base_register target a
+
+-- ---- the same as tests
+
+-- `and target, a, mask`, where a is any register
+abbrev pub is_masking : ℕ → ℕ → Instr → Bool
+is_masking mask target (Op And rd rs1 rs2) = (rd == target) && (rs2 == mask)
+is_masking mask target _ = false
+
+-- `or target, target, base`
+abbrev pub is_placing : ℕ → ℕ → Instr → Bool
+is_placing base target (Op Or rd rs1 rs2) = (rd == target) && (rs1 == target) && (rs2 == base)
+is_placing base target _ = false
+
+-- the two are a pair on the target, of any register
+abbrev pub is_pair : ℕ → ℕ → ℕ → Instr → Instr → Bool
+is_pair mask base target first second = is_masking mask target first && is_placing base target second
+
+-- ---- a gate
+
+-- a gate's bundle: it asks the host, and then goes to the bundle start that x1 leads to
+abbrev pub gate_stub : List Instr
+gate_stub =
+    Ecall ∷ masking code_mask_register scratch return_register ∷ placing code_base_register scratch ∷ Jalr 0 scratch (pos 0) ∷ []
+
+-- its bytes
+abbrev pub stub : List ℕ
+stub =
+    0x73 ∷ 0x00 ∷ 0x00 ∷ 0x00 ∷ 0xb3 ∷ 0xff ∷ 0x90 ∷ 0x01
+    ∷ 0xb3 ∷ 0xef ∷ 0x8f ∷ 0x01 ∷ 0x67 ∷ 0x80 ∷ 0x0f ∷ 0x00 ∷ []

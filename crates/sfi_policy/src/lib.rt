@@ -1,0 +1,22 @@
+//! What a sandbox is confined by: its limits, the registers that have a part in that, the masked pairs (Wahbe, Lucco,
+//! Anderson and Graham, "Efficient Software-Based Fault Isolation", 1993) and a gate's stub.
+//!
+//! Each has its name here, and nothing above this crate repeats its number. The definitions in `specs/` decide; the
+//! constants are proved to agree with them ([`limits_agree`], [`registers_agree`], [`stub_agrees`]).
+#![tactic(auto)]
+
+mod laws;
+mod limits;
+mod registers;
+mod stub;
+
+pub use laws::{limits_agree, pairs_are_found, registers_agree, stub_agrees, stub_is_spelled};
+pub use limits::{
+    BUNDLE_SIZE, DATA_MOST, FIRST_FRAME, GATES_MOST, GUARD, ITEMS_MOST, NAME_MOST, REGION_LEAST,
+    SANDBOXES_MOST, SERVICE_MOST,
+};
+pub use registers::{
+    CODE_BASE_REGISTER, CODE_MASK_REGISTER, DATA_BASE_REGISTER, DATA_MASK_REGISTER, SCRATCH,
+    STACK_POINTER, is_reserved, is_withheld,
+};
+pub use stub::STUB;

@@ -1,0 +1,31 @@
+//! The limits of a sandbox and of an image.
+
+/// How many bytes a bundle has.
+pub const BUNDLE_SIZE: u32 = 16;
+
+/// How many addresses a guard zone has.
+pub const GUARD: u32 = 4096;
+
+/// The least bytes of a region, of code or of data.
+pub const REGION_LEAST: u32 = 256;
+
+/// The most bytes of a data region.
+pub const DATA_MOST: u32 = 1_048_576;
+
+/// The most sandboxes that an image has.
+pub const SANDBOXES_MOST: u32 = 16;
+
+/// The most gates that a sandbox may have.
+pub const GATES_MOST: u32 = 64;
+
+/// The highest number of a service that a gate may ask for; the lowest is 0.
+pub const SERVICE_MOST: u32 = 5;
+
+/// The most instructions of a sandbox of a source.
+pub const ITEMS_MOST: u32 = 65536;
+
+/// The most bytes of a name of a source.
+pub const NAME_MOST: u32 = 64;
+
+/// How far below its data region's end a sandbox's stack pointer lies at first.
+pub const FIRST_FRAME: u32 = 16;

@@ -1,0 +1,38 @@
+//! The registers that have a part in a sandbox's confinement, by their parts.
+ghost use Rattle.std.specs.Prelude.{◌≡◌};
+ghost use Rattle.sfi_policy.specs.Registers.{is_reserved, is_withheld};
+
+/// x24, which holds the code base.
+pub const CODE_BASE_REGISTER: u8 = 24;
+
+/// x25, which holds the code size less that of a bundle: the mask of a code address.
+pub const CODE_MASK_REGISTER: u8 = 25;
+
+/// x26, which holds the data base.
+pub const DATA_BASE_REGISTER: u8 = 26;
+
+/// x27, which holds the data size less 1: the mask of a data address.
+pub const DATA_MASK_REGISTER: u8 = 27;
+
+/// x31, in which the expansions make addresses.
+pub const SCRATCH: u8 = 31;
+
+/// x2, the stack pointer of a format that has one.
+pub const STACK_POINTER: u8 = 2;
+
+/// Whether the register of this number holds a bound of the regions, so that nothing in a sandbox may write it.
+pub fn is_reserved(register: u8) -> bool
+    ensures { result ≡ is_reserved register }
+{
+    register == CODE_BASE_REGISTER
+        || register == CODE_MASK_REGISTER
+        || register == DATA_BASE_REGISTER
+        || register == DATA_MASK_REGISTER
+}
+
+/// Whether a source may not name the register of this number: it is reserved, or the one of the expansions.
+pub fn is_withheld(register: u8) -> bool
+    ensures { result ≡ is_withheld register }
+{
+    is_reserved(register) || register == SCRATCH
+}
