@@ -12,7 +12,8 @@ use Rattle.sfi_image.specs.declared.fault.LayoutFault.{LayoutFault}
 use Rattle.sfi_image.specs.Spans.{Holds, AreApart, code_span, spans_of}
 use Rattle.sfi_image.specs.Regions.{IsRegion, HasGuardRoom, IsBundleStart}
 use Rattle.sfi_image.specs.Formats.{code_most}
-use Rattle.sfi_image.specs.Gates.{AreGates, gates_most}
+use Rattle.sfi_policy.specs.Limits.{gates_most}
+use Rattle.sfi_image.specs.Gates.{AreGates}
 use Rattle.sfi_image.specs.Tests.{FieldTest, Passes, IsFirstFault, fault_of}
 use Rattle.sfi_image.specs.Tests.FieldTest.{Code, Data, GuardRoom, Start, Gates, Init, Overlap}
 use Rattle.sfi_image.proofs.Regions.{region_test, not_region}

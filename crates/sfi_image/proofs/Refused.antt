@@ -16,7 +16,8 @@ use Rattle.sfi_image.specs.declared.fault.LayoutFault.TheVariants as faults
 use Rattle.sfi_image.specs.Spelling.{Part, fields_of, AreFieldWords, AreGateWords}
 use Rattle.sfi_image.specs.Spans.{AreApart, IsBounded, code_span, code_region, spans_of, spans}
 use Rattle.sfi_image.specs.Formats.{code_most}
-use Rattle.sfi_image.specs.Gates.{AreGates, gates_most}
+use Rattle.sfi_policy.specs.Limits.{gates_most}
+use Rattle.sfi_image.specs.Gates.{AreGates}
 use Rattle.sfi_image.specs.Parts.{IsRightPart, AreRight}
 use Rattle.sfi_image.specs.Tests.{IsFirstFault, field_tests}
 use Rattle.sfi_image.specs.Writing.{HasWrongGate, HasFault, HaveFault, capped, capped_fields}

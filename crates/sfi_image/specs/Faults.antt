@@ -1,6 +1,7 @@
 -- The fault of bytes that are no image: a right front, and then what is wrong after it.
 use Rattle.std.specs.Prelude.{◌≡◌, ◌≢◌, ℕ, ◌+◌, ◌<◌, ◌≤◌, ◌⊎◌, List, [], ◌∷◌, ◌++◌, length, take, Some, None}
 use Rattle.std.specs.List.{All, flat_map}
+use Rattle.sfi_policy.specs.Limits.{sandboxes_most}
 use Rattle.sfi_image.specs.declared.format.Format.{Format}
 use Rattle.sfi_image.specs.declared.part.Gate.{Gate}
 use Rattle.sfi_image.specs.declared.fields.Fields.{Fields}
@@ -62,13 +63,13 @@ ArePartsFault format n bytes k = (ps : List Part) × (rest : List ℕ) × (bytes
     ((length ps < n) × IsPartFault format (spans ps) rest k)
     ⊎ ((length ps ≡ n) × (0 < length rest) × (k ≡ Trailing)))
 
--- the count is cut short, or not from 1 to 16, or the sandboxes after it are wrong
+-- the count is cut short, or not from 1 to the most, or the sandboxes after it are wrong
 abbrev pub IsCountFault : Format → List ℕ → LayoutFault → Type 0
 IsCountFault format bytes k =
     ((length bytes < 4) × (k ≡ Short))
     ⊎ ((n : ℕ) × (rest : List ℕ) × (bytes ≡ number n ++ rest) × IsWord n × (
-    ((¬ ((1 ≤ n) × (n ≤ 16))) × (k ≡ Count))
-    ⊎ ((1 ≤ n) × (n ≤ 16) × ArePartsFault format n rest k)))
+    ((¬ ((1 ≤ n) × (n ≤ sandboxes_most))) × (k ≡ Count))
+    ⊎ ((1 ≤ n) × (n ≤ sandboxes_most) × ArePartsFault format n rest k)))
 
 -- the magic is cut short, or that of no format, or what follows it is wrong
 abbrev pub IsFault : List ℕ → LayoutFault → Type 0

@@ -1,5 +1,6 @@
 -- The formats of images, and all that they differ in.
 use Rattle.std.specs.Prelude.{◌&&◌, ◌==◌, ℕ, List, Bool, true, false, codes}
+use Rattle.sfi_policy.specs.Registers.{stack_pointer}
 use Rattle.sfi_image.specs.declared.format.Format.{Format}
 use Rattle.sfi_image.specs.declared.format.Format.TheVariants.{Sfi1, Sfi2}
 
@@ -21,4 +22,4 @@ has_stack Sfi2 = true
 
 -- the register of that number is the stack pointer
 abbrev pub is_stack : Format → ℕ → Bool
-is_stack f r = has_stack f && (r == 2)
+is_stack f r = has_stack f && (r == stack_pointer)

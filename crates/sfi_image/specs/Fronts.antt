@@ -1,6 +1,7 @@
 -- The front of an image: as much of it as has been read, from its first byte on.
 use Rattle.std.specs.Prelude.{◌≡◌, ℕ, ◌+◌, ◌-◌, ◌%◌, ◌<◌, ◌≤◌, ◌==◌, List, [], ◌∷◌, ◌++◌, length, cond, None}
 use Rattle.std.specs.List.{All, flat_map}
+use Rattle.sfi_policy.specs.Limits.{bundle_size, sandboxes_most}
 use Rattle.sfi_image.specs.declared.format.Format.{Format}
 use Rattle.sfi_image.specs.declared.part.Gate.{Gate}
 use Rattle.sfi_image.specs.declared.fields.Fields.{Fields}
@@ -46,10 +47,10 @@ front (Whole ps) = head (format_of ps) (length ps) ps
 
 -- ---- what passed its tests
 
--- the count is from 1 to 16, and the sandboxes are of the format and right
+-- the count is from 1 to the most, and the sandboxes are of the format and right
 pub record IsHead (format : Format) (n : ℕ) (ps : List Part) : Type 0 where
   pub at_least : 1 ≤ n
-  pub at_most : n ≤ 16
+  pub at_most : n ≤ sandboxes_most
   pub one_format : AreOf format ps
   pub right : AreRight ps
 
@@ -68,7 +69,7 @@ IsRightFront Empty = Unit {0}
 IsRightFront (AfterMagic format) = Unit {0}
 IsRightFront (AfterCount format n ps) = IsHead format n ps × (length ps < n)
 IsRightFront (InGates n ps f gs) = IsOpened n ps f gs × (length gs < f.gate_count)
-IsRightFront (InCode n ps f gs code) = IsOpened n ps f gs × (length gs ≡ f.gate_count) × (length code % 16 ≡ 0) × (length code < f.code_size)
+IsRightFront (InCode n ps f gs code) = IsOpened n ps f gs × (length gs ≡ f.gate_count) × (length code % bundle_size ≡ 0) × (length code < f.code_size)
 IsRightFront (InInit n ps f gs code init) =
     IsOpened n ps f gs × (length gs ≡ f.gate_count) × (length code ≡ f.code_size) × (length init < f.init_len)
 IsRightFront (Whole ps) = IsHead (format_of ps) (length ps) ps
@@ -142,7 +143,7 @@ HasFaultNumberWhateverFollows bytes n = (k : LayoutFault) × (number_of k ≡ n)
 -- fewer bytes than come next
 abbrev pub IsLess : ℕ → Want → Type 0
 IsLess len (wants.Field n) = len < n
-IsLess len (wants.Bundle sandbox address format base size listed) = len < 16
+IsLess len (wants.Bundle sandbox address format base size listed) = len < bundle_size
 IsLess len (wants.Init n) = len < n
 IsLess len wants.End = ⊥
 IsLess len wants.Nothing = ⊥
@@ -150,7 +151,7 @@ IsLess len wants.Nothing = ⊥
 -- so many bytes are what comes next
 abbrev pub IsLengthOf : ℕ → Want → Type 0
 IsLengthOf len (wants.Field n) = len ≡ n
-IsLengthOf len (wants.Bundle sandbox address format base size listed) = len ≡ 16
+IsLengthOf len (wants.Bundle sandbox address format base size listed) = len ≡ bundle_size
 IsLengthOf len (wants.Init n) = (1 ≤ len) × (len ≤ n)
 IsLengthOf len wants.End = ⊥
 IsLengthOf len wants.Nothing = ⊥

@@ -1,19 +1,16 @@
 -- The gates of a sandbox.
 use Rattle.std.specs.Prelude.{ℕ, ◌<◌, ◌≤◌, ◌==◌, ◌||◌, Bool, false, List, [], ◌∷◌}
 use Rattle.std.specs.List.{All, AllPairs}
+use Rattle.sfi_policy.specs.Limits.{service_most}
 use Rattle.sfi_image.specs.declared.part.Gate.{Gate}
 use Rattle.sfi_image.specs.declared.span.Span.{Span}
 use Rattle.sfi_image.specs.Regions.{IsBundleStart}
 
--- each lies at a bundle start of the code region and names a service from 0 to 5, and each lies below those after it
+-- each lies at a bundle start of the code region and names a service that there is, and each lies below those after it
 pub record AreGates (region : Span) (gs : List Gate) : Type 0 where
   pub starts : All (λ g. IsBundleStart region g.address) gs
-  pub services : All (λ g. g.service ≤ 5) gs
+  pub services : All (λ g. g.service ≤ service_most) gs
   pub ascending : AllPairs (λ g h. g.address < h.address) gs
-
--- the most gates that a sandbox may have
-abbrev pub gates_most : ℕ
-gates_most = 64
 
 -- the address is that of one of the gates
 abbrev pub is_gate_of : List Gate → ℕ → Bool

@@ -1,12 +1,15 @@
 -- What a reader in fixed arrays keeps of the front that it has read.
 use Rattle.std.specs.Prelude.{◌≡◌, ℕ, ◌+◌, ◌-◌, ◌*◌, ◌%◌, ◌≤◌, ◌==◌, ◌||◌, ◌⊎◌, Bool, false, List, [], ◌∷◌, ◌++◌, length, map, drop, cond, Option, Some, None}
+use Rattle.sfi_policy.specs.Limits.{bundle_size, data_most, gates_most, sandboxes_most}
 use Rattle.sfi_image.specs.declared.format.Format.{Format}
+use Rattle.sfi_image.specs.declared.format.Format.TheVariants.{Sfi2}
 use Rattle.sfi_image.specs.declared.part.Gate.{Gate}
 use Rattle.sfi_image.specs.declared.fields.Fields.{Fields}
 use Rattle.sfi_image.specs.declared.span.Span.{Span}
 use Rattle.sfi_image.specs.declared.fault.LayoutFault.{LayoutFault}
 use Rattle.sfi_image.specs.declared.want.Next.{Next}
 use Rattle.sfi_image.specs.declared.want.Next.TheVariants as next
+use Rattle.sfi_image.specs.Formats.{code_most}
 use Rattle.sfi_image.specs.Spelling.{Part}
 use Rattle.sfi_image.specs.Spans.{spans, spans_of}
 use Rattle.sfi_image.specs.Gates.{is_gate_of}
@@ -50,7 +53,7 @@ is_first (a ∷ more) at = a == at
 -- addresses of bundles from that one on, in ascending order
 abbrev pub AreAhead : ℕ → List ℕ → Type 0
 AreAhead at [] = Unit {0}
-AreAhead at (a ∷ more) = (at ≤ a) × (a % 16 ≡ 0) × AreAhead (a + 16) more
+AreAhead at (a ∷ more) = (at ≤ a) × (a % bundle_size ≡ 0) × AreAhead (a + bundle_size) more
 
 -- the address is one of these
 abbrev pub is_one_of : List ℕ → ℕ → Bool
@@ -98,18 +101,18 @@ pub record Leads (x : Front) (s : List ℕ) (r : ReaderState) : Type 0 where
 
 -- ---- how much is left
 
--- the most that one sandbox adds: 1 for its fields, 64 for its gates, 1048576 for the bytes of its code and as many for its first data bytes,
+-- the most that one sandbox adds: 1 for its fields, so many for its gates, for the bytes of its code and for its first data bytes,
 -- and 1 by which what is left within it stays above what is left after it
 abbrev pub part_most : ℕ
-part_most = 1 + 64 + 1048576 + 1048576 + 1
+part_most = 1 + gates_most + code_most Sfi2 + data_most + 1
 
--- what is left at first: 16 sandboxes at most, and 1 each for the magic and the count
+-- what is left at first: so many sandboxes at most, and 1 each for the magic and the count
 abbrev pub left_most : ℕ
-left_most = 16 * part_most + 2
+left_most = sandboxes_most * part_most + 2
 
 abbrev pub left_by : Next → ReaderState → ℕ
 left_by next.Magic r = left_most
-left_by next.Count r = 16 * part_most + 1
+left_by next.Count r = sandboxes_most * part_most + 1
 left_by next.Fields r = (r.count - r.begun) * part_most
 left_by next.Gate r =
     (r.count - r.begun) * part_most + (r.fields.gate_count - length r.gates) + r.fields.code_size + r.fields.init_len + 1
@@ -146,7 +149,7 @@ TakesLength next.Magic f read len = len ≡ 4
 TakesLength next.Count f read len = len ≡ 4
 TakesLength next.Fields f read len = len ≡ 28
 TakesLength next.Gate f read len = len ≡ 8
-TakesLength next.Code f read len = len ≡ 16
+TakesLength next.Code f read len = len ≡ bundle_size
 TakesLength next.Init f read len = (1 ≤ len) × (len + read ≤ f.init_len)
 TakesLength next.End f read len = ⊥
 TakesLength next.Nothing f read len = ⊥

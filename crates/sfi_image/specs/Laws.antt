@@ -1,6 +1,7 @@
 -- What holds of the definitions themselves.
 use Rattle.std.specs.Prelude.{◌≡◌, ℕ, ◌+◌, ◌*◌, ◌^◌, ◌<◌, ◌≤◌, ◌⊎◌, List, length}
 use Rattle.std.specs.List.{All}
+use Rattle.sfi_policy.specs.Limits.{bundle_size}
 use Rattle.sfi_image.specs.declared.format.Format.{Format}
 use Rattle.sfi_image.specs.declared.format.Format.TheVariants.{Sfi2}
 use Rattle.sfi_image.specs.declared.fault.LayoutFault.{LayoutFault}
@@ -27,11 +28,11 @@ OneFault = (b : List ℕ) (j k : LayoutFault) → IsFault b j → IsFault b k �
 abbrev pub SomeReading : Type 0
 SomeReading = (b : List ℕ) → All (λ x. x < 256) b → ((ps : List Part) × IsImage b ps) ⊎ ((k : LayoutFault) × IsFault b k)
 
--- a code region is whole bundles of 16 bytes, at a multiple of 16, and ends at or below 2 ^ 32
+-- a code region is whole bundles, at a multiple of a bundle's size, and ends at or below 2 ^ 32
 abbrev pub WholeBundles : Type 0
 WholeBundles =
     (format : Format) (base size : ℕ) → IsWord base → IsCodeRegion format base size
-    → (n : ℕ) × (m : ℕ) × (size ≡ 16 * n) × (base ≡ 16 * m) × (base + size ≤ 2 ^ 32)
+    → (n : ℕ) × (m : ℕ) × (size ≡ bundle_size * n) × (base ≡ bundle_size * m) × (base + size ≤ 2 ^ 32)
 
 -- a code region ends within the addresses
 abbrev pub CodeEnds : Type 0

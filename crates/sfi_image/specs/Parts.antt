@@ -1,11 +1,12 @@
 -- Sandboxes that pass each test but Overlap, and that lie apart.
 use Rattle.std.specs.Prelude.{◌≡◌, ◌≤◌, List, length}
 use Rattle.std.specs.List.{All, AllPairs}
+use Rattle.sfi_policy.specs.Limits.{gates_most, sandboxes_most}
 use Rattle.sfi_image.specs.declared.format.Format.{Format}
 use Rattle.sfi_image.specs.Spelling.{Part, format_of, AreWords}
 use Rattle.sfi_image.specs.Spans.{AreApart, code_region, spans}
 use Rattle.sfi_image.specs.Regions.{IsCodeRegion, IsDataRegion, HasGuardRoom, IsBundleStart}
-use Rattle.sfi_image.specs.Gates.{AreGates, gates_most}
+use Rattle.sfi_image.specs.Gates.{AreGates}
 
 -- each number has 32 bits, and the sandbox passes each test but Overlap: its own code and guard zones may still meet
 pub record IsRightPart (p : Part) : Type 0 where
@@ -27,9 +28,9 @@ pub record AreRight (ps : List Part) : Type 0 where
 abbrev pub AreOf : Format → List Part → Type 0
 AreOf format ps = All (λ p. p.format ≡ format) ps
 
--- 1 to 16 such sandboxes, of one format
+-- one such sandbox at least and as many as an image may have, of one format
 pub record IsRightLayout (ps : List Part) : Type 0 where
   pub at_least_one : 1 ≤ length ps
-  pub at_most : length ps ≤ 16
+  pub at_most : length ps ≤ sandboxes_most
   pub one_format : AreOf (format_of ps) ps
   pub right : AreRight ps

@@ -1,9 +1,10 @@
 -- Where the regions of a sandbox may lie.
 use Rattle.std.specs.Prelude.{◌≡◌, ℕ, ◌+◌, ◌*◌, ◌%◌, ◌^◌, ◌≤◌}
+use Rattle.sfi_policy.specs.Limits.{bundle_size, guard, region_least, data_most}
 use Rattle.sfi_image.specs.declared.format.Format.{Format}
 use Rattle.sfi_image.specs.declared.span.Span.{Span}
 use Rattle.sfi_image.specs.Formats.{code_most}
-use Rattle.sfi_image.specs.Spans.{Holds, guard}
+use Rattle.sfi_image.specs.Spans.{Holds}
 
 -- the size is a power of two within the bounds, the base a multiple of it
 pub record IsRegion (base size least most : ℕ) : Type 0 where
@@ -16,18 +17,18 @@ pub record IsRegion (base size least most : ℕ) : Type 0 where
 
 -- code may lie here, in this format
 abbrev pub IsCodeRegion : Format → ℕ → ℕ → Type 0
-IsCodeRegion format base size = IsRegion base size 256 (code_most format)
+IsCodeRegion format base size = IsRegion base size region_least (code_most format)
 
 -- data may lie here
 abbrev pub IsDataRegion : ℕ → ℕ → Type 0
-IsDataRegion base size = IsRegion base size 256 1048576
+IsDataRegion base size = IsRegion base size region_least data_most
 
 -- a guard zone has room below the data, and another between its end and 2 ^ 32
 pub record HasGuardRoom (base size : ℕ) : Type 0 where
   pub below : guard ≤ base
   pub above : base + size + guard ≤ 2 ^ 32
 
--- a multiple of 16 in the region
+-- a multiple of a bundle's size in the region
 pub record IsBundleStart (region : Span) (at : ℕ) : Type 0 where
   pub held : Holds region at
-  pub aligned : at % 16 ≡ 0
+  pub aligned : at % bundle_size ≡ 0

@@ -1,6 +1,7 @@
 -- Spans of addresses, and those of a sandbox.
 use Rattle.std.specs.Prelude.{ℕ, ◌+◌, ◌-◌, ◌^◌, ◌<◌, ◌≤◌, List, [], ◌∷◌}
 use Rattle.std.specs.List.{flat_map}
+use Rattle.sfi_policy.specs.Limits.{guard}
 use Rattle.sfi_image.specs.declared.fields.Fields.{Fields}
 use Rattle.sfi_image.specs.declared.span.Span.{Span}
 use Rattle.sfi_image.specs.Spelling.{Part, fields_of}
@@ -12,10 +13,6 @@ Holds s at = (s.base ≤ at) × (at < s.base + s.size)
 -- no address lies in both
 abbrev pub AreApart : Span → Span → Type 0
 AreApart s t = (at : ℕ) → Holds s at → Holds t at → ⊥
-
--- how many addresses a guard zone has
-abbrev pub guard : ℕ
-guard = 4096
 
 -- ---- by the fields
 

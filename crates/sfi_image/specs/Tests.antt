@@ -1,13 +1,13 @@
 -- The tests of the seven fields, in their order.
 use Rattle.std.specs.Prelude.{◌≡◌, ◌≤◌, ◌⊎◌, List, [], ◌∷◌, ◌++◌, Option, Some, None}
 use Rattle.std.specs.List.{AllPairs}
+use Rattle.sfi_policy.specs.Limits.{gates_most}
 use Rattle.sfi_image.specs.declared.fields.Fields.{Fields}
 use Rattle.sfi_image.specs.declared.span.Span.{Span}
 use Rattle.sfi_image.specs.declared.fault.LayoutFault.{LayoutFault}
 use Rattle.sfi_image.specs.declared.fault.LayoutFault.TheVariants as faults
 use Rattle.sfi_image.specs.Spans.{AreApart, code_span, spans_of}
 use Rattle.sfi_image.specs.Regions.{IsCodeRegion, IsDataRegion, HasGuardRoom, IsBundleStart}
-use Rattle.sfi_image.specs.Gates.{gates_most}
 
 -- what is tested of the fields
 pub data FieldTest : Type 0 where

@@ -1,5 +1,6 @@
 -- What is wrong with sandboxes that are to be written: what reading their bytes would find first.
 use Rattle.std.specs.Prelude.{◌≡◌, ◌≤◌, ◌⊎◌, ℕ, List, [], ◌∷◌, ◌++◌, length, Some, None, nat_le, if◌then◌else◌}
+use Rattle.sfi_policy.specs.Limits.{sandboxes_most}
 use Rattle.sfi_image.specs.declared.fields.Fields.{Fields}
 use Rattle.sfi_image.specs.declared.part.Gate.{Gate}
 use Rattle.sfi_image.specs.declared.span.Span.{Span}
@@ -27,11 +28,11 @@ abbrev pub HasWrongPart : List Part → LayoutFault → Type 0
 HasWrongPart ps k = (front : List Part) × (p : Part) × (more : List Part)
     × (ps ≡ front ++ p ∷ more) × AreRight front × HasFault (spans front) p k
 
--- there are not 1 to 16 of them, or the first wrong one has the fault
+-- there are none or too many of them, or the first wrong one has the fault
 abbrev pub HaveFault : List Part → LayoutFault → Type 0
 HaveFault ps k =
-    ((¬ ((1 ≤ length ps) × (length ps ≤ 16))) × (k ≡ Count))
-    ⊎ ((1 ≤ length ps) × (length ps ≤ 16) × HasWrongPart ps k)
+    ((¬ ((1 ≤ length ps) × (length ps ≤ sandboxes_most))) × (k ≡ Count))
+    ⊎ ((1 ≤ length ps) × (length ps ≤ sandboxes_most) × HasWrongPart ps k)
 
 -- ---- for private contracts
 

@@ -8,6 +8,7 @@ ghost use Rattle.sfi_image.specs.Tests.{IsFirstFault, field_tests};
 use crate::fault::LayoutFault;
 use crate::format::Format;
 use crate::span::{Span, are_all_apart};
+use sfi_policy::{BUNDLE_SIZE, DATA_MOST, GATES_MOST, REGION_LEAST};
 use std::alloc::AllocError;
 
 /// The seven numbers at the head of a sandbox, and its image's format.
@@ -23,11 +24,7 @@ pub struct Fields {
     pub init_len: u32,
 }
 
-const BUNDLE: u32 = 16;
-
-const GUARD: u64 = 4096;
-
-const GATES_MOST: u32 = 64;
+const GUARD: u64 = sfi_policy::GUARD as u64;
 
 const TOP: u64 = 1 << 32;
 
@@ -52,11 +49,11 @@ fn has_guard_room(base: u32, size: u32) -> bool
     base + u64::from(size) + GUARD <= TOP
 }
 
-// The address is a multiple of 16 in the code region.
+// The address is a bundle start of the code region.
 pub(crate) fn is_bundle_start(fields: &Fields, at: u32) -> bool
     ensures { IsTrue result ↔ IsBundleStart (code_span fields.now) at }
 {
-    if at % BUNDLE != 0 || at < fields.code_base {
+    if at % BUNDLE_SIZE != 0 || at < fields.code_base {
         return false;
     }
     at - fields.code_base < fields.code_size
@@ -101,12 +98,12 @@ pub(crate) fn field_fault(before: &[Span], fields: &Fields) -> Option<LayoutFaul
     if !is_region(
         fields.code_base,
         fields.code_size,
-        256,
+        REGION_LEAST,
         fields.format.code_most(),
     ) {
         return Some(LayoutFault::Code);
     }
-    if !is_region(fields.data_base, fields.data_size, 256, 1048576) {
+    if !is_region(fields.data_base, fields.data_size, REGION_LEAST, DATA_MOST) {
         return Some(LayoutFault::Data);
     }
     if !has_guard_room(fields.data_base, fields.data_size) {

@@ -2,6 +2,8 @@
 ghost use Rattle.std.specs.Prelude.{◌≡◌, ◌↔◌, IsTrue, take};
 ghost use Rattle.sfi_image.specs.Formats.{magic, code_most, has_stack, is_stack};
 
+use sfi_policy::STACK_POINTER;
+
 /// A format of images.
 #[derive(Clone, Copy, PartialEq, Eq, Debug)]
 pub enum Format {
@@ -48,7 +50,7 @@ impl Format {
     pub fn is_stack(self, register: u8) -> bool
         ensures { result ≡ is_stack self register }
     {
-        self.has_stack() && register == 2
+        self.has_stack() && register == STACK_POINTER
     }
 
     /// Whether the bytes begin as an image of this format does, whatever follows.

@@ -8,8 +8,7 @@ ghost use Rattle.sfi_image.specs.Gates.{AreGates};
 
 use crate::fields::{Fields, is_bundle_start};
 use crate::part::Gate;
-
-const SERVICE_MOST: u32 = 5;
+use sfi_policy::SERVICE_MOST;
 
 // The address is above those of all gates so far: above that of the last one.
 fn is_above_all(gates: &[Gate], address: u32) -> bool

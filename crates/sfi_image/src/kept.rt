@@ -1,14 +1,20 @@
 //! Lists of bounded length, in arrays.
-ghost use Rattle.std.specs.Prelude.{◌≡◌, ◌<◌, ◌≤◌, ◌++◌, ◌∷◌, [], List, ℕ, length, take};
+ghost use Rattle.std.specs.Prelude.{◌≡◌, ◌<◌, ◌≤◌, ◌++◌, ◌∷◌, ◌*◌, [], List, ℕ, length, take};
+ghost use Rattle.sfi_policy.specs.Limits.{gates_most, sandboxes_most};
 ghost use Rattle.sfi_image.specs.declared.span.Span.{Span};
 
 use crate::span::Span;
+use sfi_policy::{GATES_MOST, SANDBOXES_MOST};
 use std::marker::Model;
 
-/// At most 32 spans, two for each of 16 sandboxes. Contracts see them as a list.
+const SPANS_MOST: usize = 2 * SANDBOXES_MOST as usize;
+
+const GATES: usize = GATES_MOST as usize;
+
+/// Spans, two for each of as many sandboxes as an image may have. Contracts see them as a list.
 #[derive(Debug, Drop)]
 pub(crate) struct KeptSpans {
-    spans: [Span; 32],
+    spans: [Span; SPANS_MOST],
     count: usize,
 }
 
@@ -17,7 +23,7 @@ impl Model for KeptSpans {
 
     ghost view = { λ a. take a.count a.spans };
 
-    ghost invariant = { λ a. (a.count ≤ 32) × (length a.spans ≡ 32) };
+    ghost invariant = { λ a. (a.count ≤ 2 * sandboxes_most) × (length a.spans ≡ 2 * sandboxes_most) };
 }
 
 impl KeptSpans {
@@ -25,7 +31,7 @@ impl KeptSpans {
         ensures { result ≡ [] }
     {
         KeptSpans {
-            spans: [Span { base: 0, size: 1 }; 32],
+            spans: [Span { base: 0, size: 1 }; SPANS_MOST],
             count: 0,
         }
     }
@@ -37,7 +43,7 @@ impl KeptSpans {
     }
 
     pub(crate) fn push(&mut self, span: Span)
-        requires { length self.old < 32 }
+        requires { length self.old < 2 * sandboxes_most }
         ensures { self.new ≡ self.old ++ span ∷ [] }
     {
         self.spans[self.count] = span;
@@ -45,10 +51,10 @@ impl KeptSpans {
     }
 }
 
-/// The addresses of at most 64 gates. Contracts see them as a list.
+/// The addresses of as many gates as a sandbox may have. Contracts see them as a list.
 #[derive(Debug, Drop)]
 pub(crate) struct KeptGates {
-    addresses: [u32; 64],
+    addresses: [u32; GATES],
     count: usize,
 }
 
@@ -57,7 +63,7 @@ impl Model for KeptGates {
 
     ghost view = { λ a. take a.count a.addresses };
 
-    ghost invariant = { λ a. (a.count ≤ 64) × (length a.addresses ≡ 64) };
+    ghost invariant = { λ a. (a.count ≤ gates_most) × (length a.addresses ≡ gates_most) };
 }
 
 impl KeptGates {
@@ -65,7 +71,7 @@ impl KeptGates {
         ensures { result ≡ [] }
     {
         KeptGates {
-            addresses: [0; 64],
+            addresses: [0; GATES],
             count: 0,
         }
     }
@@ -78,7 +84,7 @@ impl KeptGates {
 
     pub(crate) fn len(&self) -> usize
         ensures value { result ≡ length self.now }
-        ensures few { result ≤ 64 }
+        ensures few { result ≤ gates_most }
     {
         self.count
     }
@@ -90,7 +96,7 @@ impl KeptGates {
     }
 
     pub(crate) fn push(&mut self, address: u32)
-        requires { length self.old < 64 }
+        requires { length self.old < gates_most }
         ensures { self.new ≡ self.old ++ address ∷ [] }
     {
         self.addresses[self.count] = address;

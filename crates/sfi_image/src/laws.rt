@@ -14,7 +14,7 @@ pub fn some_reading()
     ensures { SomeReading }
 {}
 
-/// A code region is whole bundles of 16 bytes, at a multiple of 16, and ends at or below 2^32.
+/// A code region is whole bundles, at a multiple of a bundle's size, and ends at or below 2^32.
 pub fn whole_bundles()
     ensures { WholeBundles }
 {}

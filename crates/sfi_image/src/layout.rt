@@ -17,7 +17,7 @@ use crate::part::{Gate, SandboxPart};
 use crate::span::Span;
 use std::alloc::Global;
 
-const SANDBOXES_MOST: usize = 16;
+const SANDBOXES_MOST: usize = sfi_policy::SANDBOXES_MOST as usize;
 
 // The length, or the greatest number where it has more than 32 bits.
 fn capped(len: usize) -> u32

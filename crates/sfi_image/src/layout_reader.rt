@@ -1,5 +1,6 @@
 //! Reading an image's layout piece by piece, without taking memory.
 ghost use Rattle.std.specs.Prelude.{◌≡◌, ℕ, ◌+◌, ◌<◌, ◌≤◌, ◌↔◌, ◌++◌, ◌∷◌, [], List, length, map, drop, cond, ◌==◌, IsTrue, IfSome, IfNone};
+ghost use Rattle.sfi_policy.specs.Limits.{bundle_size};
 ghost use Rattle.sfi_image.specs.declared.fault.LayoutFault.{LayoutFault};
 ghost use Rattle.sfi_image.specs.Fronts.{Front, front, want_of, IsLengthOf, HasFaultNumberWhateverFollows};
 ghost use Rattle.sfi_image.specs.Fronts.Front.{Empty};
@@ -12,6 +13,7 @@ use crate::gates::is_next_address;
 use crate::kept::{KeptGates, KeptSpans};
 use crate::reading::{fields_at, format_at, gate_at, number_at};
 use crate::want::{Next, Want};
+use sfi_policy::{BUNDLE_SIZE, SANDBOXES_MOST};
 use std::marker::Model;
 
 /// Reads an image's bytes in order, as they come, and keeps of them only what its tests need.
@@ -234,7 +236,7 @@ impl LayoutReader {
         ensures falls { left self.new < left self.old }
     {
         let (count, _) = number_at(bytes);
-        if count < 1 || count > 16 {
+        if count < 1 || count > SANDBOXES_MOST {
             self.next = Next::Nothing;
             return Some(LayoutFault::Count);
         }
@@ -288,13 +290,13 @@ impl LayoutReader {
     #[inline]
     fn take_bundle(&mut self, bytes: &[u8])
         requires next { self.old.next ≡ Next.Code }
-        requires len { length bytes.now ≡ 16 }
+        requires len { length bytes.now ≡ bundle_size }
         ensures takes { Takes self.old bytes.now self.new None }
         ensures falls { left self.new < left self.old }
     {
         let address = self.fields.code_base + self.code_read;
         self.passed = passed_by(self.gates.as_slice(), self.passed, address);
-        self.code_read += 16;
+        self.code_read += BUNDLE_SIZE;
         self.next = next_code(
             self.code_read,
             self.fields.code_size,

@@ -7,6 +7,7 @@ ghost use Rattle.sfi_image.specs.Parts.{IsRightPart};
 ghost use Rattle.sfi_image.specs.Registers.{reserved_of};
 
 use crate::part::SandboxPart;
+use sfi_policy::BUNDLE_SIZE;
 
 /// The values of the four reserved registers while a sandbox runs. A mask keeps an address's offset in a region, and a
 /// base sets the region's own bits (Wahbe and others, 1993).
@@ -14,7 +15,7 @@ use crate::part::SandboxPart;
 pub struct Reserved {
     /// x24: the first address of the code region.
     pub code_base: u32,
-    /// x25: the code size less 16, so that a masked offset is that of a bundle.
+    /// x25: the code size less that of a bundle, so that a masked offset is that of a bundle.
     pub code_mask: u32,
     /// x26: the first address of the data region.
     pub data_base: u32,
@@ -30,7 +31,7 @@ impl Reserved {
     {
         Reserved {
             code_base: part.code_base,
-            code_mask: part.code.len() as u32 - 16,
+            code_mask: part.code.len() as u32 - BUNDLE_SIZE,
             data_base: part.data_base,
             data_mask: part.data_size - 1,
         }

@@ -1,6 +1,7 @@
 //! Writing an image from left to right.
 ghost use Rattle.std.specs.Prelude.{◌≡◌, ◌++◌, ◌⊎◌, ◌≤◌, ◌<◌, List, length, OnOk, IfOk, IfErr};
 ghost use Rattle.std.specs.List.{All, flat_map};
+ghost use Rattle.sfi_policy.specs.Limits.{sandboxes_most};
 ghost use Rattle.sfi_image.specs.declared.fault.LayoutFault.{LayoutFault};
 ghost use Rattle.sfi_image.specs.declared.format.Format.TheVariants.{Sfi1};
 ghost use Rattle.sfi_image.specs.Spelling.{view, views, number, fields, fields_of, gate, part, spelling, AreWords};
@@ -119,8 +120,8 @@ pub fn write_image_as(
     ensures only_fault { (k : LayoutFault) → HaveFault (views format parts.now) k
         → (result ≡ Err (ImageFault.Layout k)) ⊎ (result ≡ Err ImageFault.Memory) }
 
-    // Of at most 16 sandboxes whose numbers all have 32 bits, the fault is that of their bytes.
-    ensures as_read { length parts.now ≤ 16 → All AreWords (views format parts.now)
+    // Of no more sandboxes than an image may have, whose numbers all have 32 bits, the fault is that of their bytes.
+    ensures as_read { length parts.now ≤ sandboxes_most → All AreWords (views format parts.now)
         → IfErr result (λ e. IfLayout e (λ k. IsFault (spelling (views format parts.now)) k)) }
 {
     image_of(alloc, format, parts)
@@ -138,8 +139,8 @@ pub fn write_image(alloc: Global, parts: &[SandboxPart<'_>]) -> Result<Vec<u8>, 
     ensures only_fault { (k : LayoutFault) → HaveFault (views Sfi1 parts.now) k
         → (result ≡ Err (ImageFault.Layout k)) ⊎ (result ≡ Err ImageFault.Memory) }
 
-    // Of at most 16 sandboxes whose numbers all have 32 bits, the fault is that of their bytes.
-    ensures as_read { length parts.now ≤ 16 → All AreWords (views Sfi1 parts.now)
+    // Of no more sandboxes than an image may have, whose numbers all have 32 bits, the fault is that of their bytes.
+    ensures as_read { length parts.now ≤ sandboxes_most → All AreWords (views Sfi1 parts.now)
         → IfErr result (λ e. IfLayout e (λ k. IsFault (spelling (views Sfi1 parts.now)) k)) }
 {
     write_image_as(alloc, Format::Sfi1, parts)
