@@ -4,6 +4,7 @@ use Rattle.std.specs.List.{All, AllPairs}
 use Rattle.rv_word.specs.declared.instr.Instr.{Instr}
 use Rattle.rv_word.specs.declared.instr.Instr.TheVariants as instr
 use Rattle.rv_word.specs.Spelling.{IsReg, InRange}
+use Rattle.sfi_policy.specs.Limits.{data_most, gates_most, items_most, name_most, region_least, service_most}
 use Rattle.sfi_image.specs.declared.format.Format.{Format}
 use Rattle.sfi_image.specs.declared.format.Format.TheVariants.{Sfi1}
 use Rattle.rv_source.specs.declared.item.Named.{Named}
@@ -31,12 +32,12 @@ sandbox format data_size gates names items bytes =
 abbrev pub named : Sandbox → List Named
 named s = map (λ e. e.1) s.names
 
--- a power of two from 256 to 1048576
+-- a power of two, and as many bytes as a data region may have
 pub record IsDataSize (size : ℕ) : Type 0 where
   pub power : ℕ
   pub size_is : size ≡ 2 ^ power
-  pub at_least : 256 ≤ size
-  pub at_most : size ≤ 1048576
+  pub at_least : region_least ≤ size
+  pub at_most : size ≤ data_most
 
 -- neither a jal nor a branch
 abbrev pub IsStraight : Instr → Type 0
@@ -82,15 +83,15 @@ IsThere s (Code k) = k ≤ length s.items
 IsThere s (Data offset) = offset ≤ length s.bytes
 IsThere s Unknown = Unit {0}
 
--- a name of 1 to 64 bytes, and what it names is there
+-- a name that isn't empty nor too long, and what it names is there
 pub record IsEntry (s : Sandbox) (e : List ℕ × Named) : Type 0 where
   pub not_empty : 1 ≤ length e.0
-  pub at_most : length e.0 ≤ 64
+  pub at_most : length e.0 ≤ name_most
   pub there : IsThere s e.1
 
--- the gate of this number asks for a service from 0 to 5, and its name names it
+-- the gate of this number asks for a service that there is, and its name names it
 pub record IsGate (s : Sandbox) (k : ℕ) (g : SourceGate) : Type 0 where
-  pub service : g.service ≤ 5
+  pub service : g.service ≤ service_most
   pub name : slice_get (named s) g.name ≡ Some (Gate k)
 
 -- the item of this number: it is labelled exactly where a name names the place before it
@@ -101,11 +102,11 @@ pub record IsItem (s : Sandbox) (k : ℕ) (i : Item) : Type 0 where
 -- a sandbox within its limits, whose names, gates and items fit each other
 pub record IsSandbox (s : Sandbox) : Type 0 where
   pub data_size : IsDataSize s.data_size
-  pub gate_count : length s.gates ≤ 64
+  pub gate_count : length s.gates ≤ gates_most
   pub gates : (k : ℕ) (g : SourceGate) → slice_get s.gates k ≡ Some g → IsGate s k g
   pub names : All (IsEntry s) s.names
   pub differ : AllPairs (λ x y. x ≢ y) (map (λ e. e.0) s.names)
-  pub item_count : length s.items ≤ 65536
+  pub item_count : length s.items ≤ items_most
   pub items : (k : ℕ) (i : Item) → slice_get s.items k ≡ Some i → IsItem s k i
   pub byte_count : length s.bytes ≤ s.data_size
   pub bytes : All (λ b. b < 256) s.bytes

@@ -44,6 +44,6 @@ pub struct Item {
 pub struct SourceGate {
     /// The place of its name among the sandbox's names.
     pub name: usize,
-    /// What the host is asked for, from 0 to 5.
+    /// What the host is asked for, at most `SERVICE_MOST` of `sfi_policy`.
     pub service: u32,
 }

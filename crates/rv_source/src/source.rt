@@ -55,14 +55,14 @@ impl SourcePart {
         self.format
     }
 
-    /// How many bytes the data region has, a power of two from 256 to 1048576.
+    /// How many bytes the data region has, a power of two from `REGION_LEAST` to `DATA_MOST` of `sfi_policy`.
     pub fn data_size(&self) -> u32
         ensures { result ≡ self.now.data_size }
     {
         self.data_size
     }
 
-    /// The gates, at most 64, in the order of the text.
+    /// The gates, at most `GATES_MOST`, in the order of the text.
     pub fn gates(&self) -> &[SourceGate]
         ensures { result.now ≡ self.now.gates }
     {
@@ -84,7 +84,7 @@ impl SourcePart {
         self.names.named(place)
     }
 
-    /// The instructions, at most 65536, in the order of the text.
+    /// The instructions, at most `ITEMS_MOST`, in the order of the text.
     pub fn items(&self) -> &[Item]
         ensures { result.now ≡ self.now.items }
     {
