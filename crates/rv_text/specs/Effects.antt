@@ -1,6 +1,7 @@
 -- What a label and a statement do to the source so far, and what keeps them from it.
 use Rattle.std.specs.Prelude.{◌≡◌, ℕ, ◌+◌, ◌<◌, ◌≤◌, ◌⊎◌, true, false, List, [], ◌∷◌, length, map, None, Some}
 use Rattle.std.specs.Option.{IsSomeAnd}
+use Rattle.sfi_policy.specs.Limits.{gates_most, items_most, name_most}
 use Rattle.sfi_image.specs.declared.format.Format.{Format}
 use Rattle.rv_text.specs.declared.cause.TextCause.{TextCause}
 use Rattle.rv_text.specs.declared.cause.TextCause.TheVariants as cause
@@ -19,7 +20,7 @@ IsFree name b = meaning b.sandbox.names name ≡ Unknown
 -- a label of this name may come in the sandbox begun last, and leads to the next source so far
 abbrev pub Labels : List ℕ → SoFar → SoFar → Type 0
 Labels name old new =
-    (b : Begun) × (old.begun ≡ Some b) × (length name ≤ 64) × IsFree name b
+    (b : Begun) × (old.begun ≡ Some b) × (length name ≤ name_most) × IsFree name b
     × (new ≡ record old { begun = Some (with_label name b) })
 
 -- a label of this name is refused: no sandbox was begun, the name is too long, or it is there already
@@ -27,8 +28,8 @@ abbrev pub RefusesLabel : List ℕ → SoFar → TextCause → Type 0
 RefusesLabel name old e =
     ((old.begun ≡ None) × (e ≡ cause.Directive))
     ⊎ ((b : Begun) × (old.begun ≡ Some b)
-    × (((64 < length name) × (e ≡ cause.Limit))
-    ⊎ ((length name ≤ 64) × (IsFree name b → ⊥) × (e ≡ cause.LabelTwice))))
+    × (((name_most < length name) × (e ≡ cause.Limit))
+    ⊎ ((length name ≤ name_most) × (IsFree name b → ⊥) × (e ≡ cause.LabelTwice))))
 
 -- a statement of this kind may come there: the format once, before the first sandbox, gates before the sandbox's first
 -- label and instruction, instructions in the code part, data in the data part
@@ -39,15 +40,15 @@ MayCome place.Gates s = IsSomeAnd s.begun (λ b. b.opened ≡ false)
 MayCome place.Code s = IsSomeAnd s.begun (λ b. b.in_data ≡ false)
 MayCome place.Data s = IsSomeAnd s.begun (λ b. b.in_data ≡ true)
 
--- how many gates, instructions and data bytes a sandbox may have: 64, 65536 and those that it was begun with
+-- how many gates, instructions and data bytes a sandbox may have: of bytes those that it was begun with
 abbrev pub Fits : StatedWithin → Begun → Type 0
-Fits (gate name service) b = length b.sandbox.gates + 1 ≤ 64
+Fits (gate name service) b = length b.sandbox.gates + 1 ≤ gates_most
 Fits (compressed rvc) b = Unit {0}
 Fits data_part b = Unit {0}
 Fits (bytes values) b = length b.sandbox.bytes + length values ≤ b.sandbox.data_size
-Fits (plain instrs) b = length b.sandbox.items + length instrs ≤ 65536
-Fits (jump instr name) b = length b.sandbox.items + 1 ≤ 65536
-Fits (address rd name) b = length b.sandbox.items + 2 ≤ 65536
+Fits (plain instrs) b = length b.sandbox.items + length instrs ≤ items_most
+Fits (jump instr name) b = length b.sandbox.items + 1 ≤ items_most
+Fits (address rd name) b = length b.sandbox.items + 2 ≤ items_most
 
 -- the sandbox after a statement of a line; a name that an instruction goes to is met
 abbrev pub with_stated : ℕ → StatedWithin → Begun → Begun

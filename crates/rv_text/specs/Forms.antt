@@ -4,6 +4,7 @@ use Rattle.rv_word.specs.declared.instr.ImmOp.{ImmOp}
 use Rattle.rv_word.specs.Numbers.{IsBetween}
 use Rattle.rv_word.specs.Functs.{is_shift}
 use Rattle.rv_word.specs.Spelling.{IsImm12, IsBranchOffset, IsJumpOffset}
+use Rattle.sfi_policy.specs.Limits.{data_most, service_most}
 use Rattle.rv_source.specs.Source.{IsDataSize}
 use Rattle.rv_text.specs.declared.mnemonic.Mnemonic.{Mnemonic}
 use Rattle.rv_text.specs.declared.mnemonic.Mnemonic.TheVariants as mnemonic
@@ -21,11 +22,11 @@ IsNumberOf JumpOffset z = IsJumpOffset z
 IsNumberOf Upper z = IsBetween (pos 0) (pos 1048575) z
 IsNumberOf FenceFields z = IsBetween (pos 0) (pos 4095) z
 IsNumberOf DataSize z = (size : ℕ) × (z ≡ pos size) × IsDataSize size
-IsNumberOf Service z = IsBetween (pos 0) (pos 5) z
+IsNumberOf Service z = IsBetween (pos 0) (pos service_most) z
 IsNumberOf Word z = IsBetween (negsuc 2147483647) (pos 4294967295) z
 IsNumberOf Half z = IsBetween (negsuc 32767) (pos 65535) z
 IsNumberOf Byte z = IsBetween (negsuc 127) (pos 255) z
-IsNumberOf ZeroCount z = IsBetween (pos 0) (pos 1048576) z
+IsNumberOf ZeroCount z = IsBetween (pos 0) (pos data_most) z
 IsNumberOf FormatNumber z = IsBetween (pos 1) (pos 2) z
 
 -- a shift's amount, or an immediate of 12 bits

@@ -1,5 +1,6 @@
 -- The operands of a statement, and the tokens that give them.
 use Rattle.std.specs.Prelude.{◌≡◌, ℕ, ◌≤◌, ◌⊎◌, Bool, true, false, List, [], ◌∷◌, length, ℤ, if◌then◌else◌, codes}
+use Rattle.sfi_policy.specs.Limits.{name_most}
 use Rattle.rv_text.specs.declared.cause.TextCause.{TextCause}
 use Rattle.rv_text.specs.declared.cause.TextCause.TheVariants as cause
 use Rattle.rv_text.specs.declared.form.Part.{Part}
@@ -41,7 +42,7 @@ Stands o Rd token = IsRegister token o.rd
 Stands o Rs1 token = IsRegister token o.rs1
 Stands o Rs2 token = IsRegister token o.rs2
 Stands o (Number kind) token = IsNumber token o.number × IsNumberOf kind o.number
-Stands o Name token = IsLabel token × (length token ≤ 64) × (token ≡ o.name)
+Stands o Name token = IsLabel token × (length token ≤ name_most) × (token ≡ o.name)
 Stands o Mode token = token ≡ mode_name o.compressed
 Stands o Comma token = token ≡ codes ","
 Stands o Open token = token ≡ codes "("

@@ -1,6 +1,7 @@
 -- How the parser reads a statement part by part, for the contracts inside it.
 use Rattle.std.specs.Prelude.{◌≡◌, ◌≢◌, ℕ, ◌<◌, ◌≤◌, ◌⊎◌, Bool, ◌&&◌, ◌||◌, nat_lt, ◌==◌, not, true, List, [], ◌∷◌, length}
 use Rattle.std.specs.List.{AllByRecursion, list_all}
+use Rattle.sfi_policy.specs.Limits.{name_most}
 use Rattle.rv_word.specs.declared.instr.Instr.{Instr}
 use Rattle.rv_text.specs.declared.form.Part.{Part}
 use Rattle.rv_text.specs.declared.form.Part.TheVariants.{Rd, Rs1, Rs2, Number, Name, Mode, Comma, Open, Close}
@@ -56,7 +57,7 @@ Suits o Rd = o.rd < 32
 Suits o Rs1 = o.rs1 < 32
 Suits o Rs2 = o.rs2 < 32
 Suits o (Number kind) = IsNumberOf kind o.number
-Suits o Name = IsLabel o.name × (length o.name ≤ 64)
+Suits o Name = IsLabel o.name × (length o.name ≤ name_most)
 Suits o Mode = Unit {0}
 Suits o Comma = Unit {0}
 Suits o Open = Unit {0}

@@ -1,5 +1,6 @@
 -- What one line of source states, after its labels: the meaning of a `Statement`.
 use Rattle.std.specs.Prelude.{◌<◌, ◌≤◌, length, ℕ, List, [], ◌∷◌, Bool, replicate}
+use Rattle.sfi_policy.specs.Limits.{name_most, service_most}
 use Rattle.rv_word.specs.declared.instr.Instr.{Instr}
 use Rattle.std.specs.List.{All}
 use Rattle.rv_word.specs.Spelling.{IsReg, InRange}
@@ -79,13 +80,13 @@ place_of_stated (format number) = place.Head
 place_of_stated (sandbox size) = place.Outside
 place_of_stated (within what) = place_within what
 
--- the name of a label, a gate or a target: 1 to 64 bytes
+-- the name of a label, a gate or a target: not too long
 abbrev pub IsShortLabel : List ℕ → Type 0
-IsShortLabel name = IsLabel name × (length name ≤ 64)
+IsShortLabel name = IsLabel name × (length name ≤ name_most)
 
 -- each number, name and instruction is in range; a jump or a branch by name has offset 0, and none stands among the others
 abbrev pub IsRightWithin : StatedWithin → Type 0
-IsRightWithin (gate name service) = IsShortLabel name × (service ≤ 5)
+IsRightWithin (gate name service) = IsShortLabel name × (service ≤ service_most)
 IsRightWithin (compressed rvc) = Unit {0}
 IsRightWithin data_part = Unit {0}
 IsRightWithin (bytes values) = All (λ b. b < 256) values

@@ -3,6 +3,7 @@ use Rattle.std.specs.Prelude.{◌≡◌, ℕ, ◌≤◌, ◌⊎◌, Bool, ◌||�
 use Rattle.std.specs.List.{AllByRecursion}
 use Rattle.std.specs.Char.{is_ascii_alphabetic, is_ascii_digit}
 use Rattle.std.specs.Str.Parse.{IsNumeral, digits_value}
+use Rattle.sfi_policy.specs.Limits.{name_most}
 
 -- space, tab and carriage return stand between tokens
 abbrev pub is_space : ℕ → Bool
@@ -34,9 +35,9 @@ begins_label (c ∷ cs) = is_ascii_alphabetic c || (c == 95)
 abbrev pub IsLabel : List ℕ → Type 0
 IsLabel text = IsName text × IsTrue (begins_label text)
 
--- it begins as such a name, and has more than 64 bytes
+-- it begins as such a name, and has more bytes than a name may have
 abbrev pub is_too_long : List ℕ → Bool
-is_too_long text = begins_label text && nat_lt 64 (length text)
+is_too_long text = begins_label text && nat_lt name_most (length text)
 
 -- decimal digits, or `0x` and hexadecimal digits, write n
 abbrev pub IsMagnitude : List ℕ → ℕ → Type 0

@@ -1,5 +1,6 @@
 //! The sandbox begun last, as far as the lines have come.
 ghost use Rattle.std.specs.Prelude.{◌≡◌, ◌≤◌, ◌+◌, ◌<◌, ◌⊎◌, ◌∷◌, [], length, replicate, IfOk, IfErr, OnOk, IsTrue, ◌↔◌, true};
+ghost use Rattle.sfi_policy.specs.Limits.{gates_most, items_most};
 ghost use Rattle.rv_text.specs.declared.cause.TextCause.TheVariants as cause;
 ghost use Rattle.rv_source.specs.declared.item.Body.TheVariants.{Plain, To, High, Low};
 ghost use Rattle.rv_text.specs.Effects.{IsFree, Fits, with_stated};
@@ -15,10 +16,10 @@ use std::alloc::Global;
 use std::marker::Model;
 
 /// The most gates of a sandbox.
-const MOST_GATES: usize = 64;
+const MOST_GATES: usize = sfi_policy::GATES_MOST as usize;
 
 /// The most instructions of a sandbox.
-const MOST_ITEMS: usize = 65536;
+const MOST_ITEMS: usize = sfi_policy::ITEMS_MOST as usize;
 
 /// The sandbox begun last.
 #[derive(Drop)]
@@ -120,8 +121,8 @@ impl Draft {
 
     /// Adds a gate of this service.
     fn gate(&mut self, alloc: Global, name: &str, service: u32) -> Result<(), TextCause>
-        ensures ok { OnOk result ((length self.old.sandbox.gates + 1 ≤ 64) × (self.new ≡ with_gate name.now service self.old)) }
-        ensures cause { IfErr result (λ e. (e ≡ cause.Memory) ⊎ ((64 < length self.old.sandbox.gates + 1) × (e ≡ cause.Limit))) }
+        ensures ok { OnOk result ((length self.old.sandbox.gates + 1 ≤ gates_most) × (self.new ≡ with_gate name.now service self.old)) }
+        ensures cause { IfErr result (λ e. (e ≡ cause.Memory) ⊎ ((gates_most < length self.old.sandbox.gates + 1) × (e ≡ cause.Limit))) }
     {
         if self.gates.len() >= MOST_GATES {
             return Err(TextCause::Limit);
@@ -177,8 +178,8 @@ impl Draft {
 
     /// Adds an instruction of this line.
     fn push(&mut self, line: u32, body: Body) -> Result<(), TextCause>
-        ensures ok { OnOk result ((length self.old.sandbox.items + 1 ≤ 65536) × (self.new ≡ with_bodies line (body ∷ []) self.old)) }
-        ensures cause { IfErr result (λ e. (e ≡ cause.Memory) ⊎ ((65536 < length self.old.sandbox.items + 1) × (e ≡ cause.Limit))) }
+        ensures ok { OnOk result ((length self.old.sandbox.items + 1 ≤ items_most) × (self.new ≡ with_bodies line (body ∷ []) self.old)) }
+        ensures cause { IfErr result (λ e. (e ≡ cause.Memory) ⊎ ((items_most < length self.old.sandbox.items + 1) × (e ≡ cause.Limit))) }
     {
         if self.items.len() >= MOST_ITEMS {
             return Err(TextCause::Limit);
@@ -205,8 +206,8 @@ impl Draft {
 
     /// Adds two instructions of this line.
     fn push_two(&mut self, line: u32, first: Body, second: Body) -> Result<(), TextCause>
-        ensures ok { OnOk result ((length self.old.sandbox.items + 2 ≤ 65536) × (self.new ≡ with_bodies line (first ∷ second ∷ []) self.old)) }
-        ensures cause { IfErr result (λ e. (e ≡ cause.Memory) ⊎ ((65536 < length self.old.sandbox.items + 2) × (e ≡ cause.Limit))) }
+        ensures ok { OnOk result ((length self.old.sandbox.items + 2 ≤ items_most) × (self.new ≡ with_bodies line (first ∷ second ∷ []) self.old)) }
+        ensures cause { IfErr result (λ e. (e ≡ cause.Memory) ⊎ ((items_most < length self.old.sandbox.items + 2) × (e ≡ cause.Limit))) }
     {
         self.push(line, first)?;
         self.push(line, second)

@@ -7,6 +7,12 @@ ghost use Rattle.rv_source.specs.Source.{IsDataSize};
 use crate::mnemonic::Mnemonic;
 use rv_word::ImmOp;
 
+const REGION_LEAST: u64 = sfi_policy::REGION_LEAST as u64;
+
+const DATA_MOST: i64 = sfi_policy::DATA_MOST as i64;
+
+const SERVICE_MOST: i64 = sfi_policy::SERVICE_MOST as i64;
+
 /// Which numbers may stand at a place, in bytes where they are offsets.
 #[derive(Clone, Copy)]
 pub enum NumberKind {
@@ -22,9 +28,9 @@ pub enum NumberKind {
     Upper,
     /// 0 to 4095: the fence mode, predecessors and successors.
     FenceFields,
-    /// A power of two of 256 to 1048576: the bytes of a sandbox's data.
+    /// A power of two of `REGION_LEAST` to `DATA_MOST` of `sfi_policy`: the bytes of a sandbox's data.
     DataSize,
-    /// 0 to 5: a gate's service.
+    /// 0 to `SERVICE_MOST`: a gate's service.
     Service,
     /// -2147483648 to 4294967295: what 32 bits hold, with or without a sign.
     Word,
@@ -32,7 +38,7 @@ pub enum NumberKind {
     Half,
     /// -128 to 255.
     Byte,
-    /// 0 to 1048576: how many bytes are 0.
+    /// 0 to `DATA_MOST`: how many bytes are 0.
     ZeroCount,
     /// 1 or 2: the number of a format.
     FormatNumber,
@@ -120,11 +126,11 @@ fn is_power_of_two(number: u64) -> bool
     number.is_power_of_two()
 }
 
-/// Whether the number is a power of two of 256 to 1048576.
+/// Whether a data region may have so many bytes.
 fn is_size(number: u64) -> bool
     ensures { IsTrue result ↔ IsDataSize number }
 {
-    256 <= number && number <= 1048576 && is_power_of_two(number)
+    REGION_LEAST <= number && number <= DATA_MOST as u64 && is_power_of_two(number)
 }
 
 fn is_data_size(number: i64) -> bool
@@ -149,11 +155,11 @@ impl NumberKind {
             NumberKind::Upper => (0..=1048575).contains(&number),
             NumberKind::FenceFields => (0..=4095).contains(&number),
             NumberKind::DataSize => is_data_size(number),
-            NumberKind::Service => (0..=5).contains(&number),
+            NumberKind::Service => (0..=SERVICE_MOST).contains(&number),
             NumberKind::Word => (-2147483648..=4294967295).contains(&number),
             NumberKind::Half => (-32768..=65535).contains(&number),
             NumberKind::Byte => (-128..=255).contains(&number),
-            NumberKind::ZeroCount => (0..=1048576).contains(&number),
+            NumberKind::ZeroCount => (0..=DATA_MOST).contains(&number),
             NumberKind::FormatNumber => (1..=2).contains(&number),
         }
     }

@@ -126,7 +126,7 @@ fn read_after<'a>(
 /// What the text after a keyword states with it.
 ///
 /// The cause of a refusal is that of the first token that departs: `Register` and `Number` for
-/// what stands in the place of one, `Limit` for a name of more than 64 bytes, `Word` for what
+/// what stands in the place of one, `Limit` for a name that is too long, `Word` for what
 /// forms no token, `Operands` for any other, for one that is too many and for one that is missing.
 /// Only a list of data takes memory.
 pub fn read_statement<'a>(

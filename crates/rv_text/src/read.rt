@@ -1,5 +1,6 @@
 //! Reading the operands of a statement off its text.
 ghost use Rattle.std.specs.Prelude.{◌≡◌, ◌≤◌, ◌↔◌, IfOk, OnOk, OnErr, IfErr, IsTrue, Bool, length, ℕ, ℤ};
+ghost use Rattle.sfi_policy.specs.Limits.{name_most};
 ghost use Rattle.rv_text.specs.declared.cause.TextCause.{TextCause};
 ghost use Rattle.rv_text.specs.declared.cause.TextCause.TheVariants as cause;
 ghost use Rattle.rv_text.specs.Tokens.{IsNumber, IsLabel, IsToken, begins_label, is_too_long};
@@ -17,7 +18,7 @@ use crate::register::register;
 use rv_word::Reg;
 
 /// The most bytes of a name.
-pub const MOST_NAME: usize = 64;
+pub const MOST_NAME: usize = sfi_policy::NAME_MOST as usize;
 
 /// The register that the token names.
 fn read_register(token: &str) -> Result<Reg, TextCause>
@@ -90,8 +91,8 @@ fn is_too_long(token: &str) -> bool
 /// The name that the token is: one that a label, a gate or a target may have.
 fn read_label(token: &str) -> Result<&str, TextCause>
     requires { IsToken token.now }
-    ensures ok { IfOk result (λ name. IsLabel name.now × (length name.now ≤ 64) × (name.now ≡ token.now)) }
-    ensures err { OnErr result (IsLabel token.now → length token.now ≤ 64 → ⊥) }
+    ensures ok { IfOk result (λ name. IsLabel name.now × (length name.now ≤ name_most) × (name.now ≡ token.now)) }
+    ensures err { OnErr result (IsLabel token.now → length token.now ≤ name_most → ⊥) }
     ensures cause { IfErr result (λ e. e ≡ label_cause token.now) }
 {
     if !is_label(token) {
