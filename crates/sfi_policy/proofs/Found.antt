@@ -4,9 +4,9 @@ use Rattle.std.proofs.lemmas.Bool.{and_parts, and_from, false≢true, eqb-true, 
 use Rattle.rv_word.specs.declared.instr.RegOp.TheVariants.{And, Or}
 use Rattle.rv_word.specs.declared.instr.Instr.{Instr}
 use Rattle.rv_word.specs.declared.instr.Instr.TheVariants.{Op}
-use Rattle.sfi_policy.specs.Pairs.{masking, placing, pair, is_masking, is_placing, is_pair}
+use Rattle.sfi_policy.specs.Pairs.{masking_instr, placing_instr, pair, is_masking, is_placing, is_pair}
 
-masking_is : (mask target : ℕ) (i : Instr) → is_masking mask target i ≡ true → (a : ℕ) × (i ≡ masking mask target a)
+masking_is : (mask target : ℕ) (i : Instr) → is_masking mask target i ≡ true → (a : ℕ) × (i ≡ masking_instr mask target a)
 masking_is mask target (Op And rd rs1 rs2) h =
     let both = and_parts (rd == target) (rs2 == mask) h in
     let e1 = eqb-true rd target both.0 in
@@ -14,7 +14,7 @@ masking_is mask target (Op And rd rs1 rs2) h =
     (rs1, cc)
 masking_is mask target _ h = absurd (false≢true h)
 
-placing_is : (base target : ℕ) (i : Instr) → is_placing base target i ≡ true → i ≡ placing base target
+placing_is : (base target : ℕ) (i : Instr) → is_placing base target i ≡ true → i ≡ placing_instr base target
 placing_is base target (Op Or rd rs1 rs2) h =
     let outer = and_parts ((rd == target) && (rs1 == target)) (rs2 == base) h in
     let inner = and_parts (rd == target) (rs1 == target) outer.0 in
@@ -33,9 +33,9 @@ found mask base target first second h =
     let e1 = one.1 in
     (one.0, cc)
 
-passes : (mask base target a : ℕ) → is_pair mask base target (masking mask target a) (placing base target) ≡ true
+passes : (mask base target a : ℕ) → is_pair mask base target (masking_instr mask target a) (placing_instr base target) ≡ true
 passes mask base target a =
-    and_from (is_masking mask target (masking mask target a)) (is_placing base target (placing base target))
+    and_from (is_masking mask target (masking_instr mask target a)) (is_placing base target (placing_instr base target))
     (and_from (target == target) (mask == mask) (eq-eqb target target refl) (eq-eqb mask mask refl))
     (and_from ((target == target) && (target == target)) (base == base) (and_from (target == target) (target == target) (eq-eqb target target refl) (eq-eqb target target refl)) (eq-eqb base base refl))
 
@@ -51,6 +51,6 @@ pub is_found : (mask base target : ℕ) (first second : Instr) → ((a : ℕ) ×
     → is_pair mask base target first second ≡ true
 unfolding first_of second_of
 is_found mask base target first second h =
-    let one : first ≡ masking mask target h.0 = ap (λ l. first_of l first) h.1 in
-    let other : second ≡ placing base target = ap (λ l. second_of l second) h.1 in
-    ap (λ i. is_pair mask base target i second) one ∙ ap (λ i. is_pair mask base target (masking mask target h.0) i) other ∙ passes mask base target h.0
+    let one : first ≡ masking_instr mask target h.0 = ap (λ l. first_of l first) h.1 in
+    let other : second ≡ placing_instr base target = ap (λ l. second_of l second) h.1 in
+    ap (λ i. is_pair mask base target i second) one ∙ ap (λ i. is_pair mask base target (masking_instr mask target h.0) i) other ∙ passes mask base target h.0

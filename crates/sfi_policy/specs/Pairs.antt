@@ -9,16 +9,16 @@ use Rattle.sfi_policy.specs.Registers.{code_base_register, code_mask_register, d
 -- ---- the pairs
 
 -- `and target, a, mask`
-abbrev pub masking : ℕ → ℕ → ℕ → Instr
-masking mask target a = Op And target a mask
+abbrev pub masking_instr : ℕ → ℕ → ℕ → Instr
+masking_instr mask target a = Op And target a mask
 
 -- `or target, target, base`
-abbrev pub placing : ℕ → ℕ → Instr
-placing base target = Op Or target target base
+abbrev pub placing_instr : ℕ → ℕ → Instr
+placing_instr base target = Op Or target target base
 
 -- the one, then the other
 abbrev pub pair : ℕ → ℕ → ℕ → ℕ → List Instr
-pair mask base target a = masking mask target a ∷ placing base target ∷ []
+pair mask base target a = masking_instr mask target a ∷ placing_instr base target ∷ []
 
 -- `and target, a, x27`, `or target, target, x26`: the target becomes an address of the data region
 abbrev pub data_pair : ℕ → ℕ → List Instr
@@ -49,7 +49,7 @@ is_pair mask base target first second = is_masking mask target first && is_placi
 -- a gate's bundle: it asks the host, and then goes to the bundle start that x1 leads to
 abbrev pub gate_stub : List Instr
 gate_stub =
-    Ecall ∷ masking code_mask_register scratch return_register ∷ placing code_base_register scratch ∷ Jalr 0 scratch (pos 0) ∷ []
+    Ecall ∷ masking_instr code_mask_register scratch return_register ∷ placing_instr code_base_register scratch ∷ Jalr 0 scratch (pos 0) ∷ []
 
 -- its bytes
 abbrev pub stub : List ℕ

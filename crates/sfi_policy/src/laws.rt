@@ -4,13 +4,14 @@ ghost use Rattle.sfi_policy.specs.Limits.{bundle_size, guard, region_least, data
 ghost use Rattle.sfi_policy.specs.Registers.{code_base_register, code_mask_register, data_base_register, data_mask_register, scratch, stack_pointer};
 ghost use Rattle.sfi_policy.specs.Pairs.{stub};
 ghost use Rattle.sfi_policy.specs.Laws.{PairsAreFound, StubIsSpelled};
-ghost use Rattle.sfi_policy.specs.declared.limits.TheConstants.{BUNDLE_SIZE, GUARD, REGION_LEAST, DATA_MOST, SANDBOXES_MOST, GATES_MOST, SERVICE_MOST, ITEMS_MOST, NAME_MOST, FIRST_FRAME};
+ghost use Rattle.sfi_policy.specs.declared.limits.TheConstants.{BUNDLE_SIZE, BUNDLE_BYTES, GUARD, REGION_LEAST, DATA_MOST, SANDBOXES_MOST, GATES_MOST, SERVICE_MOST, ITEMS_MOST, NAME_MOST, FIRST_FRAME};
 ghost use Rattle.sfi_policy.specs.declared.registers.TheConstants.{CODE_BASE_REGISTER, CODE_MASK_REGISTER, DATA_BASE_REGISTER, DATA_MASK_REGISTER, SCRATCH, STACK_POINTER};
 ghost use Rattle.sfi_policy.specs.declared.stub.TheConstants.{STUB};
 
 /// Each limit of the code is that of the definitions.
 pub fn limits_agree()
     ensures bundle_size { BUNDLE_SIZE ≡ bundle_size }
+    ensures bundle_bytes { BUNDLE_BYTES ≡ bundle_size }
     ensures guard { GUARD ≡ guard }
     ensures region_least { REGION_LEAST ≡ region_least }
     ensures data_most { DATA_MOST ≡ data_most }

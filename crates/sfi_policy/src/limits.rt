@@ -3,6 +3,9 @@
 /// How many bytes a bundle has.
 pub const BUNDLE_SIZE: u32 = 16;
 
+/// The same, as a length of bytes.
+pub const BUNDLE_BYTES: usize = BUNDLE_SIZE as usize;
+
 /// How many addresses a guard zone has.
 pub const GUARD: u32 = 4096;
 
