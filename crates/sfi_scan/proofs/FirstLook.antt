@@ -15,7 +15,8 @@ use Rattle.rv_word.specs.Laws.{OneSpelling}
 use Rattle.sfi_scan.specs.declared.bundle.BundlePlace.{BundlePlace}
 use Rattle.sfi_scan.specs.declared.clean.Words.{Words}
 use Rattle.sfi_image.specs.Formats.{has_stack, is_stack}
-use Rattle.sfi_scan.specs.Pairs.{is_reserved, follows_pair, follows_code_pair}
+use Rattle.sfi_policy.specs.Registers.{is_reserved}
+use Rattle.sfi_scan.specs.Pairs.{follows_pair, follows_code_pair}
 use Rattle.sfi_scan.specs.Readings.{Piece}
 use Rattle.sfi_scan.specs.Stack.{begins_pair, ends_pair, precedes_pair, is_jump}
 use Rattle.sfi_scan.specs.Rules.{Place, is_last_bundle, is_bundle_start, offset_by, may_access}

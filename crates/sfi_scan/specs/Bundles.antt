@@ -1,27 +1,22 @@
--- Bundles: the aligned blocks of 16 bytes that a code region is made of (Yee and others, "Native Client", 2009).
-use Rattle.std.specs.Prelude.{ℕ, ◌+◌, ◌*◌, ◌^◌, ◌≤◌, List, [], ◌∷◌, length, take, drop}
+-- Bundles: the aligned blocks that a code region is made of (Yee and others, "Native Client", 2009).
+use Rattle.std.specs.Prelude.{ℕ, ◌+◌, ◌*◌, ◌^◌, ◌≤◌, List, length, take, drop}
+use Rattle.sfi_policy.specs.Limits.{bundle_size}
 use Rattle.sfi_image.specs.Spelling.{Part}
 use Rattle.sfi_image.specs.Gates.{is_gate_of}
 use Rattle.sfi_scan.specs.declared.bundle.BundlePlace.{BundlePlace}
 
--- The bundle's 16 bytes lie in its code region, whose end is at most 2 ^ 32. (So it is at each bundle start of a code region.)
+-- The bundle's bytes lie in its code region, whose end is at most 2 ^ 32. (So it is at each bundle start of a code region.)
 pub record IsWithin (b : BundlePlace) : Type 0 where
   pub base : b.code_base ≤ b.address
-  pub end : b.address + 16 ≤ b.code_base + b.code_size
+  pub end : b.address + bundle_size ≤ b.code_base + b.code_size
   pub addresses : b.code_base + b.code_size ≤ 2 ^ 32
 
 -- the place of a part's bundle of that number
 abbrev pub place_of : ℕ → Part → ℕ → BundlePlace
 place_of sandbox p n =
-    let at = p.code_base + 16 * n in
+    let at = p.code_base + bundle_size * n in
     record { sandbox = sandbox; address = at; format = p.format; code_base = p.code_base; code_size = length p.code; listed = is_gate_of p.gates at }
 
 -- its bytes
 abbrev pub bundle_bytes : Part → ℕ → List ℕ
-bundle_bytes p n = take 16 (drop (16 * n) p.code)
-
--- a gate's bundle: `ecall`, `and x31, x1, x25`, `or x31, x31, x24`, `jalr x0, 0(x31)`
-abbrev pub stub : List ℕ
-stub =
-    0x73 ∷ 0x00 ∷ 0x00 ∷ 0x00 ∷ 0xb3 ∷ 0xff ∷ 0x90 ∷ 0x01
-    ∷ 0xb3 ∷ 0xef ∷ 0x8f ∷ 0x01 ∷ 0x67 ∷ 0x80 ∷ 0x0f ∷ 0x00 ∷ []
+bundle_bytes p n = take bundle_size (drop (bundle_size * n) p.code)

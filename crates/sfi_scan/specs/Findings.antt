@@ -10,7 +10,9 @@ use Rattle.sfi_scan.specs.declared.rule.Rule.{Rule}
 use Rattle.sfi_scan.specs.declared.rule.Rule.TheVariants.{V1, V2, V3, V4, V5, V6, V7, V8, V9, V10}
 use Rattle.sfi_scan.specs.declared.finding.Finding.{Finding}
 use Rattle.sfi_scan.specs.declared.bundle.BundlePlace.{BundlePlace}
-use Rattle.sfi_scan.specs.Bundles.{place_of, bundle_bytes, stub}
+use Rattle.sfi_policy.specs.Limits.{bundle_size}
+use Rattle.sfi_policy.specs.Pairs.{stub}
+use Rattle.sfi_scan.specs.Bundles.{place_of, bundle_bytes}
 use Rattle.sfi_scan.specs.Readings.{Piece, IsLongestReading, rest_of}
 use Rattle.sfi_scan.specs.Rules.{Place, breaks, is_empty}
 
@@ -73,7 +75,7 @@ AreFindingsOfFirst sandbox p (suc n) found =
 
 -- the findings of the part of the sandbox of that number: those of all its bundles
 abbrev pub AreFindings : ℕ → Part → List Finding → Type 0
-AreFindings sandbox p found = (bundles : ℕ) × (length p.code ≡ 16 * bundles) × AreFindingsOfFirst sandbox p bundles found
+AreFindings sandbox p found = (bundles : ℕ) × (length p.code ≡ bundle_size * bundles) × AreFindingsOfFirst sandbox p bundles found
 
 -- ---- of an image
 

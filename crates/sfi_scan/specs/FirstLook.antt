@@ -2,8 +2,6 @@
 use Rattle.std.specs.Int.{w16, w32, from_le_bytes}
 use Rattle.std.specs.Prelude.{◌≡◌, ◌+◌, ◌≤◌, take, drop, ◌⊎◌, ◌&&◌, ◌||◌, ◌==◌, not, ℕ, ℤ, pos, negsuc, List, Bool, true, false, Option, Some, None}
 use Rattle.rv_word.specs.declared.instr.Instr.{Instr}
-use Rattle.rv_word.specs.declared.instr.Instr.TheVariants.{Op}
-use Rattle.rv_word.specs.declared.instr.RegOp.TheVariants.{And, Or}
 use Rattle.rv_word.specs.declared.outline.Outline.{Outline}
 use Rattle.rv_word.specs.declared.outline.Outline.TheVariants.{Computes, Loads, Stores, Branches, Jumps, JumpsTo, Orders, Calls, Stops}
 use Rattle.rv_word.specs.Outlines.{outline}
@@ -14,7 +12,9 @@ use Rattle.sfi_scan.specs.declared.before.Before.{Before}
 use Rattle.sfi_scan.specs.declared.bundle.BundlePlace.{BundlePlace}
 use Rattle.sfi_scan.specs.declared.clean.Words.{Words}
 use Rattle.sfi_scan.specs.Near.{near}
-use Rattle.sfi_scan.specs.Pairs.{is_reserved, follows_code_pair}
+use Rattle.sfi_policy.specs.Registers.{data_base_register, data_mask_register, is_reserved, stack_pointer}
+use Rattle.sfi_policy.specs.Pairs.{masking_instr, placing_instr}
+use Rattle.sfi_scan.specs.Pairs.{follows_code_pair}
 use Rattle.sfi_scan.specs.Rules.{is_bundle_start, offset_by, may_access}
 
 -- the instruction's word, or 0; 0 where there is none
@@ -76,10 +76,10 @@ pub record IsFreeHalf (b : BundlePlace) (h : ℕ) : Type 0 where
 pub record IsStackWrite (word : ℕ) : Type 0 where
   pub instr : Instr
   pub spelled : IsWordOf word instr
-  pub kind : (outline instr ≡ Computes 2) ⊎ (outline instr ≡ Loads 2 2)
+  pub kind : (outline instr ≡ Computes stack_pointer) ⊎ (outline instr ≡ Loads stack_pointer stack_pointer)
 
 -- the words are the pair on the stack pointer
 pub record AreStackPair (first second : ℕ) : Type 0 where
   pub any : ℕ
-  pub masking : IsWordOf first (Op And 2 any 27)
-  pub placing : IsWordOf second (Op Or 2 2 26)
+  pub masking : IsWordOf first (masking_instr data_mask_register stack_pointer any)
+  pub placing : IsWordOf second (placing_instr data_base_register stack_pointer)

@@ -8,7 +8,9 @@ use Rattle.sfi_image.specs.Formats.{is_stack}
 use Rattle.sfi_scan.specs.declared.rule.Rule.{Rule}
 use Rattle.sfi_scan.specs.declared.rule.Rule.TheVariants.{V1, V2, V3, V4, V5, V6, V7, V8, V9, V10}
 use Rattle.sfi_scan.specs.declared.bundle.BundlePlace.{BundlePlace}
-use Rattle.sfi_scan.specs.Pairs.{is_reserved, follows_data_pair, follows_code_pair}
+use Rattle.sfi_policy.specs.Limits.{bundle_size}
+use Rattle.sfi_policy.specs.Registers.{is_reserved}
+use Rattle.sfi_scan.specs.Pairs.{follows_data_pair, follows_code_pair}
 use Rattle.sfi_scan.specs.Readings.{Piece}
 use Rattle.sfi_scan.specs.Stack.{writes_stack, begins_pair, ends_pair, precedes_pair, is_jump}
 
@@ -29,9 +31,9 @@ is_empty (x ∷ xs) = false
 abbrev pub offset_by : ℕ → ℤ → ℕ
 offset_by a z = (a + modulo 32 z) % 2 ^ 32
 
--- a multiple of 16 in the bundle's code region
+-- a multiple of a bundle's size in the bundle's code region
 abbrev pub is_bundle_start : BundlePlace → ℕ → Bool
-is_bundle_start b a = nat_le b.code_base a && nat_lt a (b.code_base + b.code_size) && (a % 16 == 0)
+is_bundle_start b a = nat_le b.code_base a && nat_lt a (b.code_base + b.code_size) && (a % bundle_size == 0)
 
 -- V3: an ecall that is not the first instruction of a listed gate
 abbrev pub breaks_ecall : Place → Instr → Bool
@@ -76,7 +78,7 @@ ends_region Ebreak = true
 ends_region _ = false
 
 abbrev pub is_last_bundle : BundlePlace → Bool
-is_last_bundle b = b.address + 16 == b.code_base + b.code_size
+is_last_bundle b = b.address + bundle_size == b.code_base + b.code_size
 
 -- V8: the region's last bundle is read whole and this, its last instruction, is not ebreak, jal or jalr
 abbrev pub breaks_end : Place → Instr → Bool

@@ -6,16 +6,17 @@ use Rattle.rv_word.specs.declared.instr.Instr.TheVariants.{Jal, Jalr}
 use Rattle.rv_word.specs.Writes.{writes_register}
 use Rattle.sfi_image.specs.Formats.{has_stack}
 use Rattle.sfi_scan.specs.declared.bundle.BundlePlace.{BundlePlace}
-use Rattle.sfi_scan.specs.Pairs.{is_masking, is_placing}
+use Rattle.sfi_policy.specs.Registers.{data_base_register, data_mask_register, stack_pointer}
+use Rattle.sfi_policy.specs.Pairs.{is_pair}
 use Rattle.sfi_scan.specs.Readings.{Piece}
 
 -- the instruction writes it
 abbrev pub writes_stack : BundlePlace → Instr → Bool
-writes_stack b i = has_stack b.format && writes_register 2 i
+writes_stack b i = has_stack b.format && writes_register stack_pointer i
 
 -- `and x2, a, x27`, then `or x2, x2, x26`
 abbrev pub is_stack_pair : Instr → Instr → Bool
-is_stack_pair first second = is_masking 27 2 first && is_placing 26 2 second
+is_stack_pair first second = is_pair data_mask_register data_base_register stack_pointer first second
 
 -- the instruction and the one directly after it are this pair
 abbrev pub begins_pair : Instr → List Piece → Bool

@@ -1,10 +1,15 @@
 //! The instructions directly before a place, and the masked pairs that they may be.
 ghost use Rattle.std.specs.Prelude.{◌≡◌, ◌==◌, ◌&&◌, not, List, [], ◌∷◌};
 ghost use Rattle.rv_word.specs.declared.instr.Instr.{Instr};
-ghost use Rattle.sfi_scan.specs.Pairs.{is_reserved, is_masking, is_placing, follows_pair};
+ghost use Rattle.sfi_policy.specs.Pairs.{is_masking, is_placing};
+ghost use Rattle.sfi_policy.specs.Registers.{is_reserved};
+ghost use Rattle.sfi_scan.specs.Pairs.{follows_pair};
 ghost use Rattle.sfi_scan.specs.Near.{near};
 
 use rv_word::{Instr, Reg, RegOp};
+use sfi_policy::{
+    CODE_BASE_REGISTER, CODE_MASK_REGISTER, DATA_BASE_REGISTER, DATA_MASK_REGISTER, is_reserved,
+};
 
 /// The two instructions directly before a place in its bundle, as far as there are.
 #[derive(Clone, Copy)]
@@ -21,17 +26,15 @@ pub(crate) struct Pair {
 }
 
 /// `and target, a, x27`, `or target, target, x26`.
-pub(crate) const DATA: Pair = Pair { mask: 27, base: 26 };
+pub(crate) const DATA: Pair = Pair {
+    mask: DATA_MASK_REGISTER,
+    base: DATA_BASE_REGISTER,
+};
 /// `and target, a, x25`, `or target, target, x24`.
-pub(crate) const CODE: Pair = Pair { mask: 25, base: 24 };
-
-/// x24 to x27.
-pub(crate) fn is_reserved(reg: Reg) -> bool
-    ensures { result ≡ is_reserved reg }
-{
-    let number = reg.number();
-    number == 24 || number == 25 || number == 26 || number == 27
-}
+pub(crate) const CODE: Pair = Pair {
+    mask: CODE_MASK_REGISTER,
+    base: CODE_BASE_REGISTER,
+};
 
 /// Whether a pair on this register counts: it is neither x0 nor reserved.
 pub(crate) fn may_be_target(reg: Reg) -> bool

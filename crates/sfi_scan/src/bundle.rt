@@ -7,7 +7,7 @@ use sfi_image::Format;
 pub struct BundlePlace {
     /// The sandbox's place in the image, counted from 0.
     pub sandbox: u32,
-    /// The bundle's first address, a multiple of 16.
+    /// The bundle's first address, a multiple of a bundle's size.
     pub address: u32,
     /// The image's format.
     pub format: Format,

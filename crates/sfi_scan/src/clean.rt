@@ -10,16 +10,19 @@ ghost use Rattle.sfi_scan.specs.declared.before.Before.{Before};
 ghost use Rattle.sfi_scan.specs.Bundles.{IsWithin};
 ghost use Rattle.sfi_scan.specs.Findings.{AreReadingFindings};
 ghost use Rattle.sfi_scan.specs.Near.{near};
-ghost use Rattle.sfi_scan.specs.Pairs.{is_reserved, follows_pair, follows_code_pair};
+ghost use Rattle.sfi_policy.specs.Limits.{bundle_size};
+ghost use Rattle.sfi_policy.specs.Registers.{is_reserved};
+ghost use Rattle.sfi_scan.specs.Pairs.{follows_pair, follows_code_pair};
 ghost use Rattle.sfi_scan.specs.Rules.{is_last_bundle, may_access};
 ghost use Rattle.sfi_scan.specs.FirstLook.{half_at, word_at, AreWordsFrom, AreBefore, is_zero, is_withheld, is_clean, IsCleanOne, IsStackWrite, AreStackPair};
 
-use crate::before::{CODE, DATA, Pair, is_reserved, may_be_target};
+use crate::before::{CODE, DATA, Pair, may_be_target};
 use crate::bundle::BundlePlace;
 use crate::computing::is_free_half;
 use crate::rules::{STACK, is_bundle_start, is_last_bundle, offset_by};
 use rv_comp::outline16;
 use rv_word::{Outline, Reg, RegOp, computes32, op_word, outline32};
+use sfi_policy::{BUNDLE_BYTES, is_reserved};
 
 /// The words of the two instructions directly before a place in its bundle. 0 stands for a 16-bit form, and where there
 /// is none: neither is one of a pair.
@@ -31,8 +34,8 @@ pub(crate) struct Words {
 
 /// The halfword at this place of the bundle.
 #[inline(always)]
-fn half_at(bytes: &[u8; 16], at: usize) -> u16
-    requires { at + 2 ≤ 16 }
+fn half_at(bytes: &[u8; BUNDLE_BYTES], at: usize) -> u16
+    requires { at + 2 ≤ bundle_size }
     ensures { result ≡ half_at bytes.now at }
 {
     u16::from_le_bytes([bytes[at], bytes[at + 1]])
@@ -40,8 +43,8 @@ fn half_at(bytes: &[u8; 16], at: usize) -> u16
 
 /// The word at this place of the bundle.
 #[inline(always)]
-fn word_at(bytes: &[u8; 16], at: usize) -> u32
-    requires { at + 4 ≤ 16 }
+fn word_at(bytes: &[u8; BUNDLE_BYTES], at: usize) -> u32
+    requires { at + 4 ≤ bundle_size }
     ensures { result ≡ word_at bytes.now at }
 {
     u32::from_le_bytes([bytes[at], bytes[at + 1], bytes[at + 2], bytes[at + 3]])
@@ -49,9 +52,9 @@ fn word_at(bytes: &[u8; 16], at: usize) -> u32
 
 /// The words before a place, where the instructions that end there have 32 bits each from another place on.
 #[inline(always)]
-fn words_before(bytes: &[u8; 16], at: usize, from: usize) -> Words
+fn words_before(bytes: &[u8; BUNDLE_BYTES], at: usize, from: usize) -> Words
     requires order { from ≤ at }
-    requires end { at ≤ 16 }
+    requires end { at ≤ bundle_size }
     ensures { (before : Before) → AreWordsFrom bytes.now at from before → AreBefore result before }
 {
     if at - from < 8 {
@@ -166,7 +169,7 @@ fn is_clean(place: &BundlePlace, stack: bool, address: u32, words: Words, outlin
 fn is_clean_half(
     place: &BundlePlace,
     stack: bool,
-    bytes: &[u8; 16],
+    bytes: &[u8; BUNDLE_BYTES],
     at: usize,
     from: usize,
     halfword: u16,
@@ -174,7 +177,7 @@ fn is_clean_half(
     requires within { IsWithin place.now }
     requires stack { stack ≡ has_stack place.now.format }
     requires order { from ≤ at }
-    requires end { at < 16 }
+    requires end { at < bundle_size }
     ensures { OnTrue result (IsCleanOne place.now (place.now.address + at) (AreWordsFrom bytes.now at from) (IsShortSpelling halfword)) }
 {
     if is_free_half(stack, halfword) {
@@ -194,7 +197,7 @@ fn is_clean_half(
 fn is_clean_word(
     place: &BundlePlace,
     stack: bool,
-    bytes: &[u8; 16],
+    bytes: &[u8; BUNDLE_BYTES],
     at: usize,
     from: usize,
     word: u32,
@@ -202,7 +205,7 @@ fn is_clean_word(
     requires within { IsWithin place.now }
     requires stack { stack ≡ has_stack place.now.format }
     requires order { from ≤ at }
-    requires end { at < 16 }
+    requires end { at < bundle_size }
     ensures { OnTrue result (IsCleanOne place.now (place.now.address + at) (AreWordsFrom bytes.now at from) (IsWordOf word)) }
 {
     if computes32(word) {
@@ -237,19 +240,19 @@ fn is_stack_pair(first: u32, second: u32) -> bool
     ensures { OnTrue result (AreStackPair first second) }
 {
     let stack = register(STACK);
-    let placing = op_word(RegOp::Or, stack, stack, register(26));
+    let placing = op_word(RegOp::Or, stack, stack, register(DATA.base));
     if placing != second {
         return false;
     }
     let any = register((first >> 15 & 0b11111) as u8);
-    let masking = op_word(RegOp::And, stack, any, register(27));
+    let masking = op_word(RegOp::And, stack, any, register(DATA.mask));
     masking == first
 }
 
 /// Whether at this place of the bundle the stack pointer is written, and put back into the data.
 #[inline(always)]
-fn is_stack_written(bytes: &[u8; 16], at: usize) -> bool
-    requires { at + 12 ≤ 16 }
+fn is_stack_written(bytes: &[u8; BUNDLE_BYTES], at: usize) -> bool
+    requires { at + 12 ≤ bundle_size }
     ensures write { OnTrue result (IsStackWrite (word_at bytes.now at)) }
     ensures pair { OnTrue result (AreStackPair (word_at bytes.now (at + 4)) (word_at bytes.now (at + 8))) }
 {
@@ -262,7 +265,7 @@ fn is_stack_written(bytes: &[u8; 16], at: usize) -> bool
 /// Whether the bundle is seen to break no rule but perhaps that of a gate's bundle. It is compiled once for a format with a stack
 /// pointer and once for one without.
 #[inline(always)]
-fn looks_clean(place: &BundlePlace, stack: bool, bytes: &[u8; 16]) -> bool
+fn looks_clean(place: &BundlePlace, stack: bool, bytes: &[u8; BUNDLE_BYTES]) -> bool
     requires within { IsWithin place.now }
     requires stack { stack ≡ has_stack place.now.format }
     ensures { OnTrue result (AreReadingFindings place.now bytes.now []) }
@@ -277,7 +280,7 @@ fn looks_clean(place: &BundlePlace, stack: bool, bytes: &[u8; 16]) -> bool
     let mut at: usize = 0;
     // Where the 32-bit instructions begin that are read up to here.
     let mut from: usize = 0;
-    while at < 16 {
+    while at < BUNDLE_BYTES {
         let halfword = half_at(bytes, at);
         if halfword & 0b11 != 0b11 {
             if !is_clean_half(place, stack, bytes, at, from, halfword) {
@@ -299,7 +302,7 @@ fn looks_clean(place: &BundlePlace, stack: bool, bytes: &[u8; 16]) -> bool
 }
 
 /// The same. What it has to say of the first format is as quick as if there were no second.
-pub(crate) fn is_seen_clean(place: &BundlePlace, bytes: &[u8; 16]) -> bool
+pub(crate) fn is_seen_clean(place: &BundlePlace, bytes: &[u8; BUNDLE_BYTES]) -> bool
     requires { IsWithin place.now }
     ensures { OnTrue result (AreReadingFindings place.now bytes.now []) }
 {

@@ -11,6 +11,7 @@ use crate::finding::Finding;
 use crate::findings::BundleFindings;
 use crate::scan::scan_bundle;
 use sfi_image::{Format, Gate, SandboxPart};
+use sfi_policy::{BUNDLE_BYTES, BUNDLE_SIZE};
 use std::alloc::{AllocError, Global};
 
 /// Whether the first of the gates is at the address.
@@ -47,8 +48,8 @@ pub fn scan_part_as(
     let mut found = Vec::new(alloc);
     let mut findings = BundleFindings::new();
     let mut gates = part.gates.as_slice();
-    for (k, bytes) in part.code.as_chunks::<16>().0.iter().enumerate() {
-        let address = part.code_base + 16 * k as u32;
+    for (k, bytes) in part.code.as_chunks::<BUNDLE_BYTES>().0.iter().enumerate() {
+        let address = part.code_base + BUNDLE_SIZE * k as u32;
         let listed = is_first_at(gates, address);
         if listed {
             gates = after_first(gates);

@@ -9,10 +9,11 @@ ghost use Rattle.sfi_scan.specs.Findings.{lowest, all_rules};
 ghost use Rattle.sfi_scan.specs.Near.{near, ahead, finding_of};
 
 use crate::ahead::{Ahead, read_ahead};
-use crate::before::{Before, CODE, DATA, is_masking, is_placing, is_reserved};
+use crate::before::{Before, CODE, DATA, is_masking, is_placing};
 use crate::bundle::BundlePlace;
 use crate::rule::Rule;
 use rv_word::Instr;
+use sfi_policy::{BUNDLE_SIZE, STACK_POINTER, is_reserved};
 
 fn breaks_ecall(place: &BundlePlace, is_first: bool, instr: &Instr) -> bool
     ensures { (x : Place) → x.bundle ≡ place.now → is_empty x.earlier ≡ is_first → result ≡ breaks_ecall x instr.now }
@@ -33,7 +34,7 @@ fn breaks_reserved(instr: &Instr) -> bool
 }
 
 /// The stack pointer's number.
-pub(crate) const STACK: u8 = 2;
+pub(crate) const STACK: u8 = STACK_POINTER;
 
 fn breaks_access(place: &BundlePlace, before: &Before, instr: &Instr) -> bool
     ensures { (x : Place) → x.bundle ≡ place.now → near x.earlier ≡ before.now → result ≡ breaks_access x instr.now }
@@ -65,7 +66,7 @@ pub(crate) fn is_bundle_start(place: &BundlePlace, address: u32) -> bool
     requires { IsWithin place.now }
     ensures { result ≡ is_bundle_start place.now address }
 {
-    place.code_base <= address && address - place.code_base < place.code_size && address % 16 == 0
+    place.code_base <= address && address - place.code_base < place.code_size && address % BUNDLE_SIZE == 0
 }
 
 fn breaks_target(place: &BundlePlace, address: u32, instr: &Instr) -> bool
@@ -93,7 +94,7 @@ pub(crate) fn is_last_bundle(place: &BundlePlace) -> bool
     requires { IsWithin place.now }
     ensures { result ≡ is_last_bundle place.now }
 {
-    place.address - place.code_base == place.code_size - 16
+    place.address - place.code_base == place.code_size - BUNDLE_SIZE
 }
 
 /// The two are the pair on the stack pointer.

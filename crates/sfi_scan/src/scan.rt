@@ -1,5 +1,6 @@
 //! The scan of a bundle.
 ghost use Rattle.std.specs.Prelude.{◌≡◌, ◌+◌, ◌<◌};
+ghost use Rattle.sfi_policy.specs.Limits.{bundle_size};
 ghost use Rattle.sfi_scan.specs.Bundles.{IsWithin};
 ghost use Rattle.sfi_scan.specs.Findings.{AreBundleFindings, AreReadingFindings};
 
@@ -11,15 +12,11 @@ use crate::findings::BundleFindings;
 use crate::rule::Rule;
 use crate::rules::lowest_rule;
 use rv_comp::{Front, read_front};
-
-/// `ecall; and x31, x1, x25; or x31, x31, x24; jalr x0, 0(x31)`.
-const STUB: [u8; 16] = [
-    0x73, 0x00, 0x00, 0x00, 0xb3, 0xff, 0x90, 0x01, 0xb3, 0xef, 0x8f, 0x01, 0x67, 0x80, 0x0f, 0x00,
-];
+use sfi_policy::{BUNDLE_BYTES, STUB};
 
 fn finding(place: &BundlePlace, offset: usize, rule: Rule) -> Finding
     requires within { IsWithin place.now }
-    requires inside { offset < 16 }
+    requires inside { offset < bundle_size }
     ensures { result ≡ record { sandbox = place.now.sandbox; address = place.now.address + offset; rule = rule } }
 {
     Finding {
@@ -31,14 +28,14 @@ fn finding(place: &BundlePlace, offset: usize, rule: Rule) -> Finding
 
 /// Reads the bundle, and replaces the findings by those of its instructions.
 #[inline(never)]
-fn scan_instructions(place: &BundlePlace, bytes: &[u8; 16], findings: &mut BundleFindings)
+fn scan_instructions(place: &BundlePlace, bytes: &[u8; BUNDLE_BYTES], findings: &mut BundleFindings)
     requires within { IsWithin place.now }
     ensures { AreReadingFindings place.now bytes.now findings.new }
 {
     findings.clear();
     let mut before = Before::nothing();
     let mut at = 0;
-    while at < 16 {
+    while at < BUNDLE_BYTES {
         match read_front(&bytes[at..]) {
             Front::Read(instr, size) => {
                 let next = at + size as usize;
@@ -62,7 +59,7 @@ fn scan_instructions(place: &BundlePlace, bytes: &[u8; 16], findings: &mut Bundl
 }
 
 /// Replaces the findings by those of the bundle with these bytes, in the order of their addresses.
-pub fn scan_bundle(place: &BundlePlace, bytes: &[u8; 16], findings: &mut BundleFindings)
+pub fn scan_bundle(place: &BundlePlace, bytes: &[u8; BUNDLE_BYTES], findings: &mut BundleFindings)
     requires { IsWithin place.now }
     ensures { AreBundleFindings place.now bytes.now findings.new }
 {
