@@ -66,7 +66,9 @@ pub(crate) fn is_bundle_start(place: &BundlePlace, address: u32) -> bool
     requires { IsWithin place.now }
     ensures { result ≡ is_bundle_start place.now address }
 {
-    place.code_base <= address && address - place.code_base < place.code_size && address % BUNDLE_SIZE == 0
+    place.code_base <= address
+        && address - place.code_base < place.code_size
+        && address % BUNDLE_SIZE == 0
 }
 
 fn breaks_target(place: &BundlePlace, address: u32, instr: &Instr) -> bool
