@@ -17,7 +17,7 @@ use Rattle.rv_step.specs.State.{Hart, with_register}
 use Rattle.rv_step.specs.Values.{word, plus, load_size, store_size}
 use Rattle.sfi_image.specs.Spelling.{Part}
 use Rattle.sfi_image.specs.Parts.{IsRightPart}
-use Rattle.sfi_scan.specs.Pairs.{is_reserved}
+use Rattle.sfi_policy.specs.Registers.{is_reserved}
 use Rattle.sfi_scan.specs.Rules.{offset_by}
 use Rattle.sfi_check.specs.Regions.{InData, InGuard, HasReserved}
 
@@ -126,8 +126,8 @@ reserved_kept p r value h free has =
     let b = or_parts ((r == 24) || (r == 25)) (r == 26) a.0 in
     let c = or_parts (r == 24) (r == 25) b.0 in
     record {
-      x24 = kept r value 24 h (λ e. eqb-false r 24 c.0 (sym e)) ∙ has.x24;
-      x25 = kept r value 25 h (λ e. eqb-false r 25 c.1 (sym e)) ∙ has.x25;
-      x26 = kept r value 26 h (λ e. eqb-false r 26 b.1 (sym e)) ∙ has.x26;
-      x27 = kept r value 27 h (λ e. eqb-false r 27 a.1 (sym e)) ∙ has.x27;
+      code_base = kept r value 24 h (λ e. eqb-false r 24 c.0 (sym e)) ∙ has.code_base;
+      code_mask = kept r value 25 h (λ e. eqb-false r 25 c.1 (sym e)) ∙ has.code_mask;
+      data_base = kept r value 26 h (λ e. eqb-false r 26 b.1 (sym e)) ∙ has.data_base;
+      data_mask = kept r value 27 h (λ e. eqb-false r 27 a.1 (sym e)) ∙ has.data_mask;
     }

@@ -21,7 +21,8 @@ use Rattle.sfi_image.specs.Spans.{code_region}
 use Rattle.sfi_image.specs.Regions.{IsBundleStart}
 use Rattle.sfi_image.specs.Parts.{IsRightPart}
 use Rattle.sfi_scan.specs.declared.bundle.BundlePlace.{BundlePlace}
-use Rattle.sfi_scan.specs.Pairs.{is_reserved, follows_data_pair, follows_code_pair}
+use Rattle.sfi_policy.specs.Registers.{is_reserved}
+use Rattle.sfi_scan.specs.Pairs.{follows_data_pair, follows_code_pair}
 use Rattle.sfi_scan.specs.Stack.{writes_stack, is_jump}
 use Rattle.sfi_scan.specs.Rules.{Place, is_empty, is_bundle_start, breaks_ecall, breaks_reserved, breaks_access, breaks_jump, breaks_target, breaks_stack, may_access, ends_region, offset_by}
 use Rattle.sfi_check.specs.Regions.{InData, InGuard, IsGate, HasReserved, StackInData}

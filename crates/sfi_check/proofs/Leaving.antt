@@ -14,7 +14,9 @@ use Rattle.sfi_image.specs.Formats.{code_most}
 use Rattle.sfi_image.specs.Spelling.{Part}
 use Rattle.sfi_image.specs.Spans.{code_region}
 use Rattle.sfi_image.specs.Regions.{IsBundleStart}
-use Rattle.sfi_scan.specs.Pairs.{is_masking, is_placing, is_reserved, follows_pair}
+use Rattle.sfi_policy.specs.Pairs.{is_masking, is_placing}
+use Rattle.sfi_policy.specs.Registers.{is_reserved}
+use Rattle.sfi_scan.specs.Pairs.{follows_pair}
 use Rattle.sfi_check.specs.Regions.{InData}
 use Rattle.sfi_check.specs.Leaving.{Leaves, follows_mask, WritesResult}
 use Rattle.sfi_check.specs.Laws.{InstructionLeaves}
@@ -104,22 +106,22 @@ leaves_after p before after i earlier right count reserved range writes had = re
       let pair = pair_parts 27 26 t i earlier h in
       let x = had.data_mask t pair.mask_before in
       let value = after_placing 26 t i before after pair.placing pair.target count range writes in
-      let value' : register after t ≡ bit_or (bit_and x.0 (p.data_size - 1)) p.data_base = value ∙ ap (λ n. bit_or n (register before 26)) x.1 ∙ ap (λ n. bit_or (bit_and x.0 (p.data_size - 1)) n) reserved.x26 in
+      let value' : register after t ≡ bit_or (bit_and x.0 (p.data_size - 1)) p.data_base = value ∙ ap (λ n. bit_or n (register before 26)) x.1 ∙ ap (λ n. bit_or (bit_and x.0 (p.data_size - 1)) n) reserved.data_base in
       let placed = masked_data p.data_base p.data_size 256 1048576 x.0 right.data_placed in
       subst (λ n. InData p n) (sym value') (placed.from, placed.below);
   code_pair = λ t h.
       let pair = pair_parts 25 24 t i earlier h in
       let x = had.code_mask t pair.mask_before in
       let value = after_placing 24 t i before after pair.placing pair.target count range writes in
-      let value' : register after t ≡ bit_or (bit_and x.0 (length p.code - 16)) p.code_base = value ∙ ap (λ n. bit_or n (register before 24)) x.1 ∙ ap (λ n. bit_or (bit_and x.0 (length p.code - 16)) n) reserved.x24 in
+      let value' : register after t ≡ bit_or (bit_and x.0 (length p.code - 16)) p.code_base = value ∙ ap (λ n. bit_or n (register before 24)) x.1 ∙ ap (λ n. bit_or (bit_and x.0 (length p.code - 16)) n) reserved.code_base in
       let placed = masked_code p.code_base (length p.code) (code_most p.format) x.0 right.code_placed in
       subst (λ n. IsBundleStart (code_region p) n) (sym value') (record { held = (placed.0.from, placed.0.below); aligned = placed.1 });
   data_mask = λ t h.
       let parts = mask_parts 27 t i earlier h in
       let x = after_mask 27 t i before after parts.0 parts.1 count range writes in
-      (x.0, x.1 ∙ ap (λ n. bit_and x.0 n) reserved.x27);
+      (x.0, x.1 ∙ ap (λ n. bit_and x.0 n) reserved.data_mask);
   code_mask = λ t h.
       let parts = mask_parts 25 t i earlier h in
       let x = after_mask 25 t i before after parts.0 parts.1 count range writes in
-      (x.0, x.1 ∙ ap (λ n. bit_and x.0 n) reserved.x25);
+      (x.0, x.1 ∙ ap (λ n. bit_and x.0 n) reserved.code_mask);
 }

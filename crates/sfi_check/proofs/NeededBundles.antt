@@ -19,7 +19,8 @@ use Rattle.sfi_image.specs.Gates.{is_gate_of}
 use Rattle.sfi_image.specs.Regions.{IsBundleStart}
 use Rattle.sfi_image.specs.Spelling.{AreGateWords}
 use Rattle.sfi_scan.specs.declared.rule.Rule.TheVariants.{V1, V2, V3, V4, V5, V6, V7, V8, V9, V10}
-use Rattle.sfi_scan.specs.Bundles.{place_of, bundle_bytes, stub}
+use Rattle.sfi_policy.specs.Pairs.{stub}
+use Rattle.sfi_scan.specs.Bundles.{place_of, bundle_bytes}
 use Rattle.sfi_scan.specs.Readings.{Piece}
 use Rattle.sfi_scan.specs.Findings.{AreFindings}
 use Rattle.sfi_check.specs.Regions.{HasCode}
@@ -241,7 +242,7 @@ silent_reply m entry = record {
   asked = stands gate_comes_back_elsewhere gate_sample m entry.code (hart 0x01000000 0x01800000 0) 0 4 Ecall refl (omega arith) ecall_spelled;
   state = record { hart = is_hart 0x01000004 refl (omega arith); memory = entry.state.memory };
   pc = refl;
-  reserved = record { x24 = refl; x25 = refl; x26 = refl; x27 = refl };
+  reserved = record { code_base = refl; code_mask = refl; data_base = refl; data_mask = refl };
   stack = λ has. (omega arith, omega arith);
   bytes = record { code = λ a inside. refl; guards = λ a guard none. none };
 }

@@ -56,10 +56,10 @@ module _ (laws : Machine) (sandbox : ℕ) (p : Part) (clean : IsCleanPart sandbo
           kept = record {
             count = r.state.hart.count;
             reserved = record {
-              x24 = r.reserved.x24 ∙ good.kept.reserved.x24;
-              x25 = r.reserved.x25 ∙ good.kept.reserved.x25;
-              x26 = r.reserved.x26 ∙ good.kept.reserved.x26;
-              x27 = r.reserved.x27 ∙ good.kept.reserved.x27;
+              code_base = r.reserved.code_base ∙ good.kept.reserved.code_base;
+              code_mask = r.reserved.code_mask ∙ good.kept.reserved.code_mask;
+              data_base = r.reserved.data_base ∙ good.kept.reserved.data_base;
+              data_mask = r.reserved.data_mask ∙ good.kept.reserved.data_mask;
             };
             code = code_kept p s.memory after.memory r.bytes good.kept.code;
             guards = guards_kept p s.memory after.memory r.bytes good.kept.guards;

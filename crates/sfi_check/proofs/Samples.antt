@@ -16,7 +16,8 @@ use Rattle.sfi_image.specs.declared.format.Format.{Format}
 use Rattle.sfi_image.specs.declared.format.Format.TheVariants.{Sfi1, Sfi2}
 use Rattle.sfi_image.specs.declared.span.Span.{Span}
 use Rattle.sfi_image.specs.Formats.{code_most}
-use Rattle.sfi_image.specs.Gates.{AreGates, gates_most}
+use Rattle.sfi_policy.specs.Limits.{gates_most}
+use Rattle.sfi_image.specs.Gates.{AreGates}
 use Rattle.sfi_image.specs.Spelling.{Part, AreGateWords}
 use Rattle.sfi_image.specs.Spans.{AreApart, code_region, guarded_region}
 use Rattle.sfi_image.specs.Regions.{IsBundleStart}
@@ -181,7 +182,7 @@ enters s is n few =
     let size = size s is in
     let at = 0x01000000 + 16 * n in
     let start : IsBundleStart (code_region (sandbox s)) at = record { held = (omega arith, omega (arith, size)); aligned = omega arith } in
-    let reserved : HasReserved (sandbox s) (hart at 0x01800000 0).registers = record { x24 = refl; x25 = sym (ap (λ (n : ℕ). n - 16) size); x26 = refl; x27 = refl } in
+    let reserved : HasReserved (sandbox s) (hart at 0x01800000 0).registers = record { code_base = refl; code_mask = sym (ap (λ (n : ℕ). n - 16) size); data_base = refl; data_mask = refl } in
     entered (sandbox s) (hart at 0x01800000 0) (right_part s is) (apart s is) (bytes_small (s.first_words ++ (words_of (replicate 52 Ebreak) ++ s.last_words))) (is_hart at (omega arith) (omega arith)) start reserved (λ has. (omega arith, omega arith))
 
 -- ---- what stands there

@@ -4,10 +4,13 @@ use Rattle.rv_word.specs.declared.instr.Instr.{Instr}
 use Rattle.rv_word.specs.declared.instr.Instr.TheVariants.{Op}
 use Rattle.rv_step.specs.State.{Hart, register, with_register}
 use Rattle.rv_step.specs.Values.{result_of}
+use Rattle.sfi_policy.specs.Registers.{code_mask_register, data_mask_register}
 use Rattle.sfi_image.specs.Spelling.{Part}
+use Rattle.sfi_image.specs.Registers.{reserved_of}
 use Rattle.sfi_image.specs.Spans.{code_region}
 use Rattle.sfi_image.specs.Regions.{IsBundleStart}
-use Rattle.sfi_scan.specs.Pairs.{is_masking, follows_data_pair, follows_code_pair}
+use Rattle.sfi_policy.specs.Pairs.{is_masking}
+use Rattle.sfi_scan.specs.Pairs.{follows_data_pair, follows_code_pair}
 use Rattle.sfi_check.specs.Regions.{InData}
 
 -- The instruction directly before is `and target, a, mask`, and the target is not x0.
@@ -20,8 +23,8 @@ follows_mask mask target [] = false
 pub record Leaves (p : Part) (earlier : List Instr) (registers : List ℕ) : Type 0 where
   pub data_pair : (t : ℕ) → follows_data_pair t earlier ≡ true → InData p (slice_index registers t)
   pub code_pair : (t : ℕ) → follows_code_pair t earlier ≡ true → IsBundleStart (code_region p) (slice_index registers t)
-  pub data_mask : (t : ℕ) → follows_mask 27 t earlier ≡ true → (x : ℕ) × (slice_index registers t ≡ bit_and x (p.data_size - 1))
-  pub code_mask : (t : ℕ) → follows_mask 25 t earlier ≡ true → (x : ℕ) × (slice_index registers t ≡ bit_and x (length p.code - 16))
+  pub data_mask : (t : ℕ) → follows_mask data_mask_register t earlier ≡ true → (x : ℕ) × (slice_index registers t ≡ bit_and x (reserved_of p).data_mask)
+  pub code_mask : (t : ℕ) → follows_mask code_mask_register t earlier ≡ true → (x : ℕ) × (slice_index registers t ≡ bit_and x (reserved_of p).code_mask)
 
 -- an operation on registers leaves its result in its register, and the others as they were; of any other instruction nothing is asked, and the registers
 -- after it are arbitrary

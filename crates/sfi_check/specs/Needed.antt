@@ -4,6 +4,7 @@ use Rattle.rv_mem.specs.Bytes.{byte_at}
 use Rattle.rv_step.specs.declared.outcome.Outcome.TheVariants.{Next}
 use Rattle.rv_step.specs.State.{State}
 use Rattle.rv_step.specs.Step.{Stepped}
+use Rattle.sfi_policy.specs.Limits.{bundle_size}
 use Rattle.sfi_image.specs.Images.{IsImage}
 use Rattle.sfi_image.specs.Spelling.{Part, spelling}
 use Rattle.sfi_scan.specs.declared.rule.Rule.{Rule}
@@ -36,7 +37,7 @@ pub record BreaksAlone (rule : Rule) (address : ℕ) (p : Part) : Type 0 where
   pub here : Piece
   pub later : List Piece
   pub longest : IsLongestReading (bundle_bytes p number) (stand_before earlier (here ∷ later))
-  pub address_is : address ≡ p.code_base + 16 * number + sum_by (λ x. x.size) earlier
+  pub address_is : address ≡ p.code_base + bundle_size * number + sum_by (λ x. x.size) earlier
   pub broken :
       filter (λ r. breaks (record {
         bundle = place_of 0 p number;

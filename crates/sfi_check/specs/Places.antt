@@ -2,6 +2,8 @@
 use Rattle.std.specs.Prelude.{◌≡◌, ◌+◌, ◌*◌, ◌≤◌, ◌⊎◌, ◌||◌, ℕ, List, [], ◌∷◌, true, Option, Some, None, length, drop, slice_index}
 use Rattle.rv_word.specs.declared.instr.Instr.{Instr}
 use Rattle.rv_step.specs.State.{Hart, State}
+use Rattle.sfi_policy.specs.Registers.{stack_pointer}
+use Rattle.sfi_policy.specs.Limits.{bundle_size}
 use Rattle.sfi_image.specs.Formats.{has_stack}
 use Rattle.sfi_image.specs.Spelling.{Part}
 use Rattle.sfi_image.specs.Spans.{AreApart, code_region, guarded_region}
@@ -31,21 +33,21 @@ pub record KeepsAll (p : Part) (s : State) : Type 0 where
 abbrev pub StackInDataBefore : Part → List Instr → List Piece → List ℕ → Type 0
 StackInDataBefore p earlier [] registers = StackInData p registers
 StackInDataBefore p earlier (here ∷ later) registers =
-    has_stack p.format ≡ true → InData p (slice_index registers 2) ⊎ ((begins_pair here.instr later || ends_pair earlier here.instr) ≡ true)
+    has_stack p.format ≡ true → InData p (slice_index registers stack_pointer) ⊎ ((begins_pair here.instr later || ends_pair earlier here.instr) ≡ true)
 
 -- pc is at an offset of a bundle from which the rest is read whole and has no finding, if `earlier` stood before it. That is any list, the nearest first,
 -- whose marks the registers bear, and it is empty at the bundle's start alone. So there are more such places than a run reaches.
 pub record IsAtPlace (sandbox : ℕ) (p : Part) (h : Hart) : Type 0 where
   pub number : ℕ
-  pub within : 16 * number + 16 ≤ length p.code
+  pub within : bundle_size * number + bundle_size ≤ length p.code
   pub offset : ℕ
   pub earlier : List Instr
   pub here : Piece
   pub later : List Piece
   pub reading : IsReading (drop offset (bundle_bytes p number)) (here ∷ later)
   pub whole : rest_of (drop offset (bundle_bytes p number)) (here ∷ later) ≡ []
-  pub clean : findings_from (place_of sandbox p number) true (p.code_base + 16 * number + offset) earlier (here ∷ later) ≡ []
-  pub pc : h.pc ≡ p.code_base + 16 * number + offset
+  pub clean : findings_from (place_of sandbox p number) true (p.code_base + bundle_size * number + offset) earlier (here ∷ later) ≡ []
+  pub pc : h.pc ≡ p.code_base + bundle_size * number + offset
   pub first : earlier ≡ [] → offset ≡ 0
   pub leaves : Leaves p earlier h.registers
   pub stack : StackInDataBefore p earlier (here ∷ later) h.registers

@@ -1,8 +1,10 @@
 -- The addresses of a sandbox, and what of them a machine holds.
-use Rattle.std.specs.Prelude.{◌≡◌, ◌+◌, ◌-◌, ◌<◌, ◌⊎◌, ℕ, List, length, slice_get, slice_index, true, Some, None}
+use Rattle.std.specs.Prelude.{◌≡◌, ◌+◌, ◌<◌, ◌⊎◌, ℕ, List, length, slice_get, slice_index, true, Some, None}
+use Rattle.sfi_policy.specs.Registers.{code_base_register, code_mask_register, data_base_register, data_mask_register, stack_pointer}
 use Rattle.sfi_image.specs.declared.part.Gate.{Gate}
 use Rattle.sfi_image.specs.Formats.{has_stack}
 use Rattle.sfi_image.specs.Spelling.{Part}
+use Rattle.sfi_image.specs.Registers.{reserved_of}
 use Rattle.sfi_image.specs.Spans.{Holds, code_region, data_region, lower_guard, upper_guard}
 use Rattle.rv_mem.specs.Bytes.{Bytes, byte_at}
 
@@ -14,7 +16,7 @@ InCode p a = Holds (code_region p) a
 abbrev pub InData : Part → ℕ → Type 0
 InData p a = Holds (data_region p) a
 
--- the address is one of the 4096 on each side of the data
+-- the address is one of the guard zones, on each side of the data
 abbrev pub InGuard : Part → ℕ → Type 0
 InGuard p a = Holds (lower_guard p) a ⊎ Holds (upper_guard p) a
 
@@ -22,16 +24,16 @@ InGuard p a = Holds (lower_guard p) a ⊎ Holds (upper_guard p) a
 abbrev pub IsGate : Part → ℕ → Type 0
 IsGate p a = (k : ℕ) × (g : Gate) × (slice_get p.gates k ≡ Some g) × (g.address ≡ a)
 
--- x24 to x27 hold the code base, the code size less 16, the data base and the data size less 1
+-- the reserved registers hold what is theirs
 pub record HasReserved (p : Part) (registers : List ℕ) : Type 0 where
-  pub x24 : slice_index registers 24 ≡ p.code_base
-  pub x25 : slice_index registers 25 ≡ length p.code - 16
-  pub x26 : slice_index registers 26 ≡ p.data_base
-  pub x27 : slice_index registers 27 ≡ p.data_size - 1
+  pub code_base : slice_index registers code_base_register ≡ (reserved_of p).code_base
+  pub code_mask : slice_index registers code_mask_register ≡ (reserved_of p).code_mask
+  pub data_base : slice_index registers data_base_register ≡ (reserved_of p).data_base
+  pub data_mask : slice_index registers data_mask_register ≡ (reserved_of p).data_mask
 
 -- where its format has a stack pointer, x2 lies in the data region; else nothing is asked
 abbrev pub StackInData : Part → List ℕ → Type 0
-StackInData p registers = has_stack p.format ≡ true → InData p (slice_index registers 2)
+StackInData p registers = has_stack p.format ≡ true → InData p (slice_index registers stack_pointer)
 
 -- at each code address is the image's byte
 abbrev pub HasCode : Part → Bytes → Type 0

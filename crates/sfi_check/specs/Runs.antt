@@ -6,6 +6,7 @@ use Rattle.rv_step.specs.declared.outcome.Outcome.{Outcome}
 use Rattle.rv_step.specs.declared.outcome.Outcome.TheVariants.{Next, Call, Trap}
 use Rattle.rv_step.specs.State.{Hart, State, IsState, register}
 use Rattle.rv_step.specs.Step.{Stepped, Stands, IsStep}
+use Rattle.sfi_policy.specs.Registers.{code_base_register, code_mask_register, data_base_register, data_mask_register}
 use Rattle.sfi_image.specs.Spelling.{Part}
 use Rattle.sfi_image.specs.Spans.{code_region}
 use Rattle.sfi_image.specs.Regions.{IsBundleStart}
@@ -27,12 +28,12 @@ pub record KeepsBytes (p : Part) (before after : Bytes) : Type 0 where
   pub code : (a : ℕ) → InCode p a → byte_at after a ≡ byte_at before a
   pub guards : (a : ℕ) → InGuard p a → byte_at before a ≡ None → byte_at after a ≡ None
 
--- x24 to x27 stay
+-- the reserved registers stay
 pub record KeepsReserved (before after : Hart) : Type 0 where
-  pub x24 : register after 24 ≡ register before 24
-  pub x25 : register after 25 ≡ register before 25
-  pub x26 : register after 26 ≡ register before 26
-  pub x27 : register after 27 ≡ register before 27
+  pub code_base : register after code_base_register ≡ register before code_base_register
+  pub code_mask : register after code_mask_register ≡ register before code_mask_register
+  pub data_base : register after data_base_register ≡ register before data_base_register
+  pub data_mask : register after data_mask_register ≡ register before data_mask_register
 
 -- a reply to the ecall at pc: it goes on after that, with a stack pointer in the data. The other registers and all other memory are arbitrary.
 pub record IsReply (p : Part) (before after : State) : Type 0 where

@@ -1,5 +1,6 @@
 -- What was found in the front of an image: words of private contracts.
 use Rattle.std.specs.Prelude.{◌≡◌, ℕ, ◌+◌, ◌*◌, ◌/◌, ◌-◌, ◌<◌, ◌≤◌, ◌==◌, ◌⊎◌, List, [], ◌++◌, length, take, cond, slice_get, Option, Some, None}
+use Rattle.sfi_policy.specs.Limits.{bundle_size}
 use Rattle.sfi_image.specs.declared.part.Gate.{Gate}
 use Rattle.sfi_image.specs.declared.fields.Fields.{Fields}
 use Rattle.sfi_image.specs.declared.want.Next.TheVariants as next
@@ -21,7 +22,7 @@ use Rattle.sfi_check.specs.Verdict.{bundle_count}
 -- the findings of the code so far of the sandbox of that number, whatever its other code and its data are
 pub record AreFindingsSoFar (sandbox : ℕ) (f : Fields) (gs : List Gate) (code : List ℕ) (found : List Finding) : Type 0 where
   pub bundles : ℕ
-  pub len : length code ≡ 16 * bundles
+  pub len : length code ≡ bundle_size * bundles
   pub found_are : (more init : List ℕ) → length (code ++ more) ≡ f.code_size
       → AreFindingsOfFirst sandbox (part_of f gs (code ++ more) init) bundles found
 
@@ -48,8 +49,8 @@ front_bundles Empty = 0
 front_bundles (AfterMagic format) = 0
 front_bundles (AfterCount format n ps) = bundle_count ps
 front_bundles (InGates n ps f gs) = bundle_count ps
-front_bundles (InCode n ps f gs code) = bundle_count ps + length code / 16
-front_bundles (InInit n ps f gs code init) = bundle_count ps + length code / 16
+front_bundles (InCode n ps f gs code) = bundle_count ps + length code / bundle_size
+front_bundles (InInit n ps f gs code init) = bundle_count ps + length code / bundle_size
 front_bundles (Whole ps) = bundle_count ps
 
 -- how many sandboxes have a bundle in it

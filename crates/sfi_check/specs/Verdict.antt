@@ -1,5 +1,6 @@
 -- What `check` says of an image's bytes.
 use Rattle.std.specs.Prelude.{◌≡◌, ◌≢◌, ◌/◌, ℕ, List, [], length, sum_by, Result, Ok, Err, IfOk, IfErr}
+use Rattle.sfi_policy.specs.Limits.{bundle_size}
 use Rattle.sfi_image.specs.declared.fault.LayoutFault.{LayoutFault}
 use Rattle.sfi_image.specs.Spelling.{Part}
 use Rattle.sfi_image.specs.Parts.{IsRightLayout}
@@ -14,9 +15,9 @@ use Rattle.sfi_check.specs.Refusals.{IfLayoutFault, IfFindings}
 
 -- ---- images
 
--- the bundles of 16 bytes that the code regions have together
+-- the bundles that the code regions have together
 abbrev pub bundle_count : List Part → ℕ
-bundle_count ps = sum_by (λ p. length p.code / 16) ps
+bundle_count ps = sum_by (λ p. length p.code / bundle_size) ps
 
 -- the layout is right, and no rule is broken
 pub record IsClean (ps : List Part) : Type 0 where

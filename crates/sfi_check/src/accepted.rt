@@ -9,6 +9,7 @@ ghost use Rattle.sfi_check.specs.Verdict.{IsClean, bundle_count};
 
 use crate::laws::{clean_calls_with_stack, clean_runs_safely};
 use sfi_image::{Image, SandboxPart};
+use sfi_policy::BUNDLE_BYTES;
 use std::marker::Model;
 
 /// An accepted image: its layout is right, no rule is broken in it, and so every run from every entry of each sandbox is safe.
@@ -52,7 +53,7 @@ impl<'a> Accepted<'a> {
         &self.image
     }
 
-    /// How many sandboxes the image has, 1 to 16.
+    /// How many sandboxes the image has, one at least.
     pub fn sandboxes(&self) -> usize
         ensures count { result ≡ length self.now }
         ensures clean { IsClean self.now }
@@ -77,7 +78,7 @@ fn bundle_count(parts: &[SandboxPart]) -> usize
 {
     let mut bundles = 0;
     for part in parts {
-        bundles += part.code.len() / 16;
+        bundles += part.code.len() / BUNDLE_BYTES;
     }
     bundles
 }

@@ -1,5 +1,6 @@
 //! The verdict on a stream of bytes, without taking memory.
 ghost use Rattle.std.specs.Prelude.{◌≡◌, ◌↔◌, ℕ, ◌+◌, ◌-◌, ◌*◌, ◌<◌, ◌≤◌, List, [], ◌++◌, Bool, true, false, length, take, drop, slice_get, cond, ◌==◌, Some, None, IfOk, OnErr, is_some};
+ghost use Rattle.sfi_policy.specs.Limits.{sandboxes_most};
 ghost use Rattle.sfi_image.specs.Fronts.{Front, want_of};
 ghost use Rattle.sfi_image.specs.Keeping.{StandsFor, left_most};
 ghost use Rattle.sfi_image.specs.Sources.{Streams};
@@ -15,6 +16,7 @@ use crate::tally::Tally;
 use sfi_image::{
     ByteSource, LayoutReader, ReadFault, Want, front_ends, one_reading, whole_bundles,
 };
+use sfi_policy::BUNDLE_BYTES;
 use sfi_scan::laws::one_image_list;
 use sfi_scan::{BundleFindings, BundlePlace, Finding, scan_bundle};
 
@@ -35,7 +37,7 @@ fn first_of(first: Option<Finding>, found: &BundleFindings) -> Option<Finding>
 fn with_bundle(tally: Tally, sandbox: u32, found: &BundleFindings) -> Tally
     requires bundles { tally.bundles < left_most }
     requires count { tally.count ≤ 8 * tally.bundles }
-    requires sandbox { sandbox < 16 }
+    requires sandbox { sandbox < sandboxes_most }
     ensures sandboxes { result.sandboxes ≡ sandbox + 1 }
     ensures bundles { result.bundles ≡ tally.bundles + 1 }
     ensures count { result.count ≡ tally.count + length found.now }
@@ -88,7 +90,7 @@ fn step(
             code_size,
             listed,
         } => {
-            let Some(bundle) = rest.first_chunk::<16>() else {
+            let Some(bundle) = rest.first_chunk::<BUNDLE_BYTES>() else {
                 return Step::Short;
             };
             let place = BundlePlace {
@@ -104,7 +106,7 @@ fn step(
                 Some(number) => Step::Fault(number),
                 None => {
                     *tally = with_bundle(*tally, sandbox, findings);
-                    Step::Took(16)
+                    Step::Took(BUNDLE_BYTES)
                 }
             }
         }
