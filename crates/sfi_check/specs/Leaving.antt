@@ -1,5 +1,5 @@
 -- What the one or two instructions directly before a place leave in the registers.
-use Rattle.std.specs.Prelude.{◌≡◌, ◌-◌, ◌==◌, ◌&&◌, not, ℕ, List, [], ◌∷◌, Bool, true, false, length, slice_index, bit_and}
+use Rattle.std.specs.Prelude.{◌≡◌, ◌==◌, ◌&&◌, not, ℕ, List, [], ◌∷◌, Bool, true, false, slice_index, bit_and}
 use Rattle.rv_word.specs.declared.instr.Instr.{Instr}
 use Rattle.rv_word.specs.declared.instr.Instr.TheVariants.{Op}
 use Rattle.rv_step.specs.State.{Hart, register, with_register}
