@@ -161,10 +161,10 @@ kept_register registers a0 a1 r n k = get_or-set_other (slice_set registers 10 a
 
 pub arguments_keep : (h : Hart) (a0 a1 : ℕ) → KeepsReserved h (past (with_arguments h a0 a1) 4)
 arguments_keep h a0 a1 = record {
-  x24 = kept_register h.registers a0 a1 24 (λ e. omega arith) (λ e. omega arith);
-  x25 = kept_register h.registers a0 a1 25 (λ e. omega arith) (λ e. omega arith);
-  x26 = kept_register h.registers a0 a1 26 (λ e. omega arith) (λ e. omega arith);
-  x27 = kept_register h.registers a0 a1 27 (λ e. omega arith) (λ e. omega arith);
+  code_base = kept_register h.registers a0 a1 24 (λ e. omega arith) (λ e. omega arith);
+  code_mask = kept_register h.registers a0 a1 25 (λ e. omega arith) (λ e. omega arith);
+  data_base = kept_register h.registers a0 a1 26 (λ e. omega arith) (λ e. omega arith);
+  data_mask = kept_register h.registers a0 a1 27 (λ e. omega arith) (λ e. omega arith);
 }
 
 pub stack_argument : (h : Hart) (a0 a1 : ℕ) → slice_index (past (with_arguments h a0 a1) 4).registers 2 ≡ slice_index h.registers 2

@@ -5,7 +5,8 @@ use Rattle.rv_mem.specs.Bytes.{Bytes, byte_at}
 use Rattle.rv_step.specs.State.{State}
 use Rattle.sfi_image.specs.declared.part.Gate.{Gate}
 use Rattle.sfi_image.specs.Spelling.{Part}
-use Rattle.sfi_image.specs.Spans.{Holds, guard}
+use Rattle.sfi_policy.specs.Limits.{guard}
+use Rattle.sfi_image.specs.Spans.{Holds}
 use Rattle.sfi_check.specs.Regions.{InCode, InData, InGuard, IsGate, HasCode}
 use Rattle.sfi_check.specs.Runs.{Turn, Steps, Replies, Changes, after_turn}
 use Rattle.sfi_check.specs.Safety.{IsSafeState, IsSafeTurn, IsSafeRun}

@@ -74,7 +74,7 @@ module _ (laws : Laws) (ps : List Part) (layout : IsRightLayout ps) (memory : Is
       record {
         state = record { hart = first_is p (lie.each i p e); memory = memory };
         start = (lie.each i p e).start;
-        reserved = record { x24 = refl; x25 = refl; x26 = refl; x27 = refl };
+        reserved = record { code_base = refl; code_mask = refl; data_base = refl; data_mask = refl };
         stack = λ has. first_stack p (lie.each i p e);
         code = has_code laws ps empty i p lie e;
         guards = has_empty_guards laws ps i p lie e;

@@ -2,7 +2,10 @@
 use Rattle.std.specs.Prelude.{◌≡◌, ℕ, ◌+◌, ◌-◌, ◌<◌, List, [], ◌∷◌, ◌++◌, length, replicate, Some, slice_get, slice_index}
 use Rattle.rv_mem.specs.Bytes.{Bytes, byte_at, added}
 use Rattle.rv_step.specs.State.{Hart, with_register}
+use Rattle.sfi_policy.specs.Registers.{code_base_register, code_mask_register, data_base_register, data_mask_register, stack_pointer}
+use Rattle.sfi_policy.specs.Limits.{first_frame}
 use Rattle.sfi_image.specs.Spelling.{Part}
+use Rattle.sfi_image.specs.Registers.{reserved_of}
 use Rattle.sfi_check.specs.Runs.{IsEntry}
 use Rattle.sfi_host.specs.declared.status.Status.TheVariants.{Ready}
 use Rattle.sfi_host.specs.Slots.{bounds_of}
@@ -12,11 +15,12 @@ use Rattle.sfi_host.specs.Worlds.{Seat, state_in}
 abbrev pub bare_hart : Part → Hart
 bare_hart p = record { pc = p.start; registers = replicate 32 0 }
 
--- the stack pointer x2 lies 16 below the data's end; x24 to x27 hold the code base, the code size less 16, the data base and the data size less 1
+-- the stack pointer lies a first frame below the data's end; the reserved registers hold what is theirs
 abbrev pub first_hart : Part → Hart
 first_hart p =
     with_register (with_register (with_register (with_register (with_register (bare_hart p)
-    2 (p.data_base + p.data_size - 16)) 24 p.code_base) 25 (length p.code - 16)) 26 p.data_base) 27 (p.data_size - 1)
+    stack_pointer (p.data_base + p.data_size - first_frame)) code_base_register (reserved_of p).code_base) code_mask_register (reserved_of p).code_mask)
+    data_base_register (reserved_of p).data_base) data_mask_register (reserved_of p).data_mask
 
 -- ready, with no step done
 abbrev pub first_seat : Part → Seat

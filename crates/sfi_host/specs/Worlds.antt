@@ -5,7 +5,8 @@ use Rattle.rv_mem.specs.Bytes.{Bytes, byte_at}
 use Rattle.rv_step.specs.State.{Hart, State}
 use Rattle.sfi_image.specs.declared.span.Span.{Span}
 use Rattle.sfi_image.specs.Spelling.{Part}
-use Rattle.sfi_image.specs.Spans.{Holds, AreApart, guard, code_region, guarded_region}
+use Rattle.sfi_policy.specs.Limits.{guard}
+use Rattle.sfi_image.specs.Spans.{Holds, AreApart, code_region, guarded_region}
 use Rattle.sfi_image.specs.Parts.{IsRightPart}
 use Rattle.sfi_check.specs.Regions.{HasCode, HasEmptyGuards}
 use Rattle.sfi_check.specs.Stack.{GoesSafelyFrom}

@@ -11,6 +11,10 @@ use crate::status::Status;
 use rv_mem::Memory;
 use rv_step::Cpu;
 use sfi_image::{Format, Reserved, SandboxPart};
+use sfi_policy::{
+    CODE_BASE_REGISTER, CODE_MASK_REGISTER, DATA_BASE_REGISTER, DATA_MASK_REGISTER, FIRST_FRAME,
+    STACK_POINTER,
+};
 use std::alloc::{AllocError, Global};
 
 // Adds a sandbox's code and data. All regions lie apart and end within the addresses, so memory alone may be wanting.
@@ -40,11 +44,14 @@ fn first_cpu(format: Format, part: &SandboxPart<'_>) -> Cpu
 {
     let reserved = Reserved::of(part);
     let mut cpu = Cpu::at(part.start).unwrap();
-    cpu.set_reg(register(2), part.data_base + part.data_size - 16);
-    cpu.set_reg(register(24), reserved.code_base);
-    cpu.set_reg(register(25), reserved.code_mask);
-    cpu.set_reg(register(26), reserved.data_base);
-    cpu.set_reg(register(27), reserved.data_mask);
+    cpu.set_reg(
+        register(STACK_POINTER),
+        part.data_base + part.data_size - FIRST_FRAME,
+    );
+    cpu.set_reg(register(CODE_BASE_REGISTER), reserved.code_base);
+    cpu.set_reg(register(CODE_MASK_REGISTER), reserved.code_mask);
+    cpu.set_reg(register(DATA_BASE_REGISTER), reserved.data_base);
+    cpu.set_reg(register(DATA_MASK_REGISTER), reserved.data_mask);
     cpu
 }
 
