@@ -3,6 +3,7 @@ use Rattle.std.specs.Prelude.{◌≡◌, ℕ, zero, suc, ◌+◌, ◌*◌, List,
 use Rattle.std.specs.List.{flat_map}
 use Rattle.rv_word.specs.declared.instr.Instr.{Instr}
 use Rattle.rv_text.specs.Printed.{printed}
+use Rattle.sfi_policy.specs.Limits.{bundle_size}
 use Rattle.sfi_image.specs.declared.format.Format.{Format}
 use Rattle.sfi_image.specs.declared.format.Format.TheVariants.{Sfi1, Sfi2}
 use Rattle.sfi_image.specs.Spelling.{Part, format_of}
@@ -59,12 +60,12 @@ abbrev pub IsListingOfFirst : Part → ℕ → List ℕ → Type 0
 IsListingOfFirst p zero text = text ≡ []
 IsListingOfFirst p (suc n) text =
     (front : List ℕ) × (last : List ℕ) × IsListingOfFirst p n front
-    × IsBundleListing (p.code_base + 16 * n) (bundle_bytes p n) last × (text ≡ front ++ last)
+    × IsBundleListing (p.code_base + bundle_size * n) (bundle_bytes p n) last × (text ≡ front ++ last)
 
 -- all bundles of its code
 pub record IsCodeListing (p : Part) (text : List ℕ) : Type 0 where
   pub bundles : ℕ
-  pub whole : length p.code ≡ 16 * bundles
+  pub whole : length p.code ≡ bundle_size * bundles
   pub text_is : IsListingOfFirst p bundles text
 
 -- its fields, its gates, and its code

@@ -1,5 +1,6 @@
 //! The listing of an image.
 ghost use Rattle.std.specs.Prelude.{◌≡◌, ◌+◌, ◌^◌, ◌<◌, ◌≤◌, ◌++◌, ◌⊎◌, OnOk, IfOk, length, string_bytes};
+ghost use Rattle.sfi_policy.specs.Limits.{bundle_size};
 ghost use Rattle.sfi_image.specs.Spelling.{view};
 ghost use Rattle.sfi_image.specs.Parts.{IsRightPart};
 ghost use Rattle.sfi_report.specs.Listing.{instruction_line, rest_line, sandbox_line, region_text, gate_line, format_line, IsBundleListing, IsCodeListing, IsSandboxListing, IsListing};
@@ -10,6 +11,7 @@ use rv_comp::{Front, read_front};
 use rv_text::push_instr;
 use rv_word::Instr;
 use sfi_image::{Format, Gate, Image, SandboxPart, whole_bundles};
+use sfi_policy::{BUNDLE_BYTES, BUNDLE_SIZE};
 use std::alloc::{AllocError, Global};
 
 /// Writes the line of an instruction with these bytes.
@@ -45,13 +47,13 @@ fn push_rest(out: &mut String, address: u32, bytes: &[u8]) -> Result<(), AllocEr
 }
 
 /// Writes the lines of the bundle at the address.
-fn push_bundle(out: &mut String, address: u32, bytes: &[u8; 16]) -> Result<(), AllocError>
-    requires { address + 16 ≤ 2 ^ 32 }
+fn push_bundle(out: &mut String, address: u32, bytes: &[u8; BUNDLE_BYTES]) -> Result<(), AllocError>
+    requires { address + bundle_size ≤ 2 ^ 32 }
     ensures { OnOk result (Adds (string_bytes out.old) (string_bytes out.new)
         (IsBundleListing address bytes.now)) }
 {
     let mut at = 0;
-    while at < 16 {
+    while at < BUNDLE_BYTES {
         let rest = &bytes[at..];
         let here = address + at as u32;
         match read_front(rest) {
@@ -123,8 +125,8 @@ fn push_code(out: &mut String, part: &SandboxPart) -> Result<(), AllocError>
     // The law that the bounds rest on: this call does nothing.
     whole_bundles();
 
-    for (k, bytes) in part.code.as_chunks::<16>().0.iter().enumerate() {
-        push_bundle(out, part.code_base + 16 * k as u32, bytes)?;
+    for (k, bytes) in part.code.as_chunks::<BUNDLE_BYTES>().0.iter().enumerate() {
+        push_bundle(out, part.code_base + BUNDLE_SIZE * k as u32, bytes)?;
     }
     Ok(())
 }
