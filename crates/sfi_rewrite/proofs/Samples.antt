@@ -63,7 +63,7 @@ is_hart = record {
 }
 
 reserved : HasReserved code_at data_at (hart 0x01000000)
-reserved = record { x24 = refl; x25 = refl; x26 = refl; x27 = refl }
+reserved = record { code_base = refl; code_mask = refl; data_base = refl; data_mask = refl }
 
 -- ---- the words
 

@@ -93,10 +93,10 @@ from_there pair c d s one v regions is reserved e second third held =
     λ r ne. ap (λ (x : State). register x.hart r) e ∙ written_elsewhere (past s.hart 4) 2 v r (λ z. omega arith) ne in
     let now : HasReserved c d h =
     record {
-      x24 = other 24 (λ z. omega arith) ∙ reserved.x24;
-      x25 = other 25 (λ z. omega arith) ∙ reserved.x25;
-      x26 = other 26 (λ z. omega arith) ∙ reserved.x26;
-      x27 = other 27 (λ z. omega arith) ∙ reserved.x27;
+      code_base = other 24 (λ z. omega arith) ∙ reserved.code_base;
+      code_mask = other 25 (λ z. omega arith) ∙ reserved.code_mask;
+      data_base = other 26 (λ z. omega arith) ∙ reserved.data_base;
+      data_mask = other 27 (λ z. omega arith) ∙ reserved.data_mask;
     } in
     let row : StandInRow one (Op And 2 2 27 ∷ Op Or 2 2 26 ∷ []) = (
       stands_at (further s 4) one (Op And 2 2 27) 4 pc memory second,

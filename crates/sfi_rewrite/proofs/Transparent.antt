@@ -23,7 +23,8 @@ use Rattle.sfi_image.specs.Spans.{Holds}
 use Rattle.sfi_image.specs.Regions.{IsBundleStart}
 use Rattle.sfi_rewrite.specs.declared.slot.Slot.{Slot}
 use Rattle.sfi_rewrite.specs.declared.slot.Slot.TheVariants.{Wide, Short}
-use Rattle.sfi_rewrite.specs.Registers.{is_withheld, names_withheld}
+use Rattle.sfi_policy.specs.Registers.{is_withheld}
+use Rattle.sfi_rewrite.specs.Registers.{names_withheld}
 use Rattle.sfi_rewrite.specs.Slots.{slot_size}
 use Rattle.sfi_rewrite.specs.Expansion.{data_pair, code_pair, jump_to_x31, jump_slots, IsAlone, IsMasked}
 use Rattle.sfi_rewrite.specs.Transparency.{AreRegions, HasReserved, SlotStands, IsSameAside, DoesAs, IsTransparent}
@@ -56,12 +57,12 @@ pair_to pair s a mask base v is apart stand e =
 
 pub unmasked_data : (c d : Span) (h : Hart) (x : ℕ) → AreRegions c d → HasReserved c d h → Holds d x → bit_or (bit_and x (register h 27)) (register h 26) ≡ x
 unmasked_data c d h x regions reserved held =
-    ap (λ n. bit_or (bit_and x n) (register h 26)) reserved.x27 ∙ ap (λ n. bit_or (bit_and x (d.size - 1)) n) reserved.x26
+    ap (λ n. bit_or (bit_and x n) (register h 26)) reserved.data_mask ∙ ap (λ n. bit_or (bit_and x (d.size - 1)) n) reserved.data_base
     ∙ unmoved_data d.base d.size 256 1048576 x regions.data_placed held.0 held.1
 
 unmasked_code : (c d : Span) (h : Hart) (x : ℕ) → AreRegions c d → HasReserved c d h → IsBundleStart c x → bit_or (bit_and x (register h 25)) (register h 24) ≡ x
 unmasked_code c d h x regions reserved start =
-    ap (λ n. bit_or (bit_and x n) (register h 24)) reserved.x25 ∙ ap (λ n. bit_or (bit_and x (c.size - 16)) n) reserved.x24
+    ap (λ n. bit_or (bit_and x n) (register h 24)) reserved.code_mask ∙ ap (λ n. bit_or (bit_and x (c.size - 16)) n) reserved.code_base
     ∙ unmoved_code c.base c.size (code_most regions.format) x regions.code_placed start.held.0 start.held.1 start.aligned
 
 eight : (pc : ℕ) → address_after (address_after pc 4) 4 ≡ address_after pc 8

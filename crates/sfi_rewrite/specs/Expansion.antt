@@ -1,40 +1,39 @@
 -- The expansion of an item of the source: what stands in its place, so that its accesses and jumps stay in the sandbox,
 -- and the stack pointer of a format that has one in its data region.
--- x24 holds the code base, x25 the code size less 16, x26 the data base, x27 the data size less 1. (Wahbe and others,
--- "Efficient Software-Based Fault Isolation", 1993: an `and` keeps an address's offset, an `or` sets the region's bits.)
 use Rattle.std.specs.Prelude.{◌≡◌, ◌≢◌, ◌⊎◌, ◌==◌, not, IsTrue, ℕ, ℤ, zero, pos, List, [], ◌∷◌, ◌++◌, Bool, true, false, MatchBool}
-use Rattle.rv_word.specs.declared.instr.RegOp.TheVariants.{And, Or}
 use Rattle.rv_word.specs.declared.instr.ImmOp.TheVariants.{Addi}
 use Rattle.rv_word.specs.declared.instr.Instr.{Instr}
-use Rattle.rv_word.specs.declared.instr.Instr.TheVariants.{Op, OpImm, Load, Store, Jal, Jalr}
+use Rattle.rv_word.specs.declared.instr.Instr.TheVariants.{OpImm, Load, Store, Jal, Jalr}
 use Rattle.rv_comp.specs.Table.{allowed, expansion}
 use Rattle.rv_comp.specs.Halfwords.{IsFirst}
 use Rattle.rv_comp.specs.declared.form.Form16.{Form16}
 use Rattle.rv_source.specs.declared.item.Body.{Body}
 use Rattle.rv_source.specs.declared.item.Body.TheVariants.{Plain, To, High, Low}
 use Rattle.rv_source.specs.declared.item.Item.{Item}
+use Rattle.sfi_policy.specs.Pairs.{masking_instr, placing_instr}
+use Rattle.sfi_policy.specs.Registers.{code_base_register, code_mask_register, data_base_register, data_mask_register, scratch}
 use Rattle.sfi_image.specs.declared.format.Format.{Format}
 use Rattle.sfi_image.specs.Formats.{is_stack}
 use Rattle.sfi_rewrite.specs.declared.slot.Slot.{Slot}
 use Rattle.sfi_rewrite.specs.declared.slot.Slot.TheVariants.{Wide, Short, Jump, Upper, Lower}
 use Rattle.sfi_rewrite.specs.Stack.{writes_stack, is_on_stack, stack_pair, put_back}
 
--- `and x31, a, x27`, `or x31, x31, x26`: x31 becomes an address of the data region
+-- the pair by which x31 becomes an address of the data region
 abbrev pub data_pair : ℕ → List Slot
-data_pair a = Wide (Op And 31 a 27) ∷ Wide (Op Or 31 31 26) ∷ []
+data_pair a = Wide (masking_instr data_mask_register scratch a) ∷ Wide (placing_instr data_base_register scratch) ∷ []
 
--- `and x31, a, x25`, `or x31, x31, x24`: x31 becomes a bundle start of the code region
+-- the pair by which x31 becomes a bundle start of the code region
 abbrev pub code_pair : ℕ → List Slot
-code_pair a = Wide (Op And 31 a 25) ∷ Wide (Op Or 31 31 24) ∷ []
+code_pair a = Wide (masking_instr code_mask_register scratch a) ∷ Wide (placing_instr code_base_register scratch) ∷ []
 
 -- `jalr rd, 0(x31)`
 abbrev pub jump_to_x31 : ℕ → Slot
-jump_to_x31 rd = Wide (Jalr rd 31 (pos 0))
+jump_to_x31 rd = Wide (Jalr rd scratch (pos 0))
 
 -- `jalr rd, imm(a)`; an offset other than 0 is added before the pair
 abbrev pub jump_slots : ℕ → ℕ → ℤ → List Slot
 jump_slots rd a (pos zero) = code_pair a ++ jump_to_x31 rd ∷ []
-jump_slots rd a imm = Wide (OpImm Addi 31 a imm) ∷ (code_pair 31 ++ jump_to_x31 rd ∷ [])
+jump_slots rd a imm = Wide (OpImm Addi scratch a imm) ∷ (code_pair scratch ++ jump_to_x31 rd ∷ [])
 
 -- no 16-bit form expands to the instruction
 abbrev pub HasNoForm : Instr → Type 0
@@ -48,8 +47,8 @@ IsAlone true i slots =
 
 -- the expansion of an instruction that has nothing to do with a stack pointer
 abbrev pub IsMasked : Bool → Instr → List Slot → Type 0
-IsMasked rvc (Load kind rd a imm) slots = slots ≡ data_pair a ++ Wide (Load kind rd 31 imm) ∷ []
-IsMasked rvc (Store width a rs2 imm) slots = slots ≡ data_pair a ++ Wide (Store width 31 rs2 imm) ∷ []
+IsMasked rvc (Load kind rd a imm) slots = slots ≡ data_pair a ++ Wide (Load kind rd scratch imm) ∷ []
+IsMasked rvc (Store width a rs2 imm) slots = slots ≡ data_pair a ++ Wide (Store width scratch rs2 imm) ∷ []
 IsMasked rvc (Jalr rd a imm) slots = slots ≡ jump_slots rd a imm
 IsMasked rvc i slots = IsAlone rvc i slots
 

@@ -2,13 +2,15 @@
 use Rattle.std.specs.Prelude.{◌≡◌, ◌+◌, ◌*◌, ◌<◌, ◌≤◌, ◌++◌, ℕ, List, length, replicate, slice_index}
 use Rattle.std.specs.List.{All}
 use Rattle.sfi_image.specs.declared.format.Format.{Format}
+use Rattle.sfi_image.specs.declared.format.Format.TheVariants.{Sfi2}
 use Rattle.sfi_image.specs.Formats.{code_most}
 use Rattle.rv_source.specs.declared.item.Item.{Item}
 use Rattle.rv_source.specs.declared.item.Named.{Named}
 use Rattle.rv_source.specs.declared.item.Named.TheVariants.{Gate, Code, Data, Unknown}
 use Rattle.rv_source.specs.Source.{IsBody}
 use Rattle.sfi_rewrite.specs.declared.slot.Slot.{Slot}
-use Rattle.sfi_rewrite.specs.Slots.{size_of, bundle_size, c_nop}
+use Rattle.sfi_policy.specs.Limits.{bundle_size}
+use Rattle.sfi_rewrite.specs.Slots.{size_of, c_nop}
 use Rattle.sfi_rewrite.specs.declared.placed.PlacedName.{PlacedName}
 use Rattle.sfi_rewrite.specs.declared.placed.PlacedName.TheVariants as placed
 use Rattle.sfi_rewrite.specs.Places.{IsNext, IsLabelAt}
@@ -16,9 +18,9 @@ use Rattle.sfi_rewrite.specs.Placement.{FillsEnd}
 
 -- the most bytes of a sandbox's code in any format, its gates' stubs not counted
 abbrev pub largest : ℕ
-largest = 1048576
+largest = code_most Sfi2
 
--- 16 bytes of slots
+-- a bundle's bytes of slots
 abbrev pub IsFull : List Slot → Type 0
 IsFull bundle = size_of bundle ≡ bundle_size
 

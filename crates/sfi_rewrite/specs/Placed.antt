@@ -15,7 +15,8 @@ use Rattle.sfi_rewrite.specs.declared.placed.PlacedName.{PlacedName}
 use Rattle.sfi_rewrite.specs.declared.placed.PlacedName.TheVariants as placed
 use Rattle.sfi_rewrite.specs.Expansion.{IsExpansion}
 use Rattle.sfi_rewrite.specs.Faults.{IsPermitted}
-use Rattle.sfi_rewrite.specs.Slots.{size_of, slots_of, bundle_size, c_nop}
+use Rattle.sfi_policy.specs.Limits.{bundle_size, gates_most, service_most}
+use Rattle.sfi_rewrite.specs.Slots.{size_of, slots_of, c_nop}
 use Rattle.sfi_rewrite.specs.Placement.{Placement, AreBundles}
 
 -- ---- slots
@@ -54,15 +55,15 @@ IsPlacedThere p (placed.Code place) = (place % bundle_size ≡ 0) × (place ≤ 
 IsPlacedThere p (placed.Data offset) = offset ≤ length p.bytes
 IsPlacedThere p placed.Unknown = Unit {0}
 
--- the gate of this number asks for a service from 0 to 5, and its name names it
+-- the gate of this number asks for a service that there is, and its name names it
 pub record IsPlacedGate (p : Placement) (k : ℕ) (g : SourceGate) : Type 0 where
-  pub service : g.service ≤ 5
+  pub service : g.service ≤ service_most
   pub name : slice_get p.names g.name ≡ Some (placed.Gate k)
 
 -- a sandbox within its limits: its bundles are whole expansions, its names and gates fit each other
 pub record IsPlacedPart (p : Placement) : Type 0 where
   pub data_size : IsDataSize p.data_size
-  pub gate_count : length p.gates ≤ 64
+  pub gate_count : length p.gates ≤ gates_most
   pub gates : (k : ℕ) (g : SourceGate) → slice_get p.gates k ≡ Some g → IsPlacedGate p k g
   pub names : All (IsPlacedThere p) p.names
   pub byte_count : length p.bytes ≤ p.data_size

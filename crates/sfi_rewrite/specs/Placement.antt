@@ -10,7 +10,8 @@ use Rattle.sfi_image.specs.declared.format.Format.{Format}
 use Rattle.sfi_rewrite.specs.declared.slot.Slot.{Slot}
 use Rattle.sfi_rewrite.specs.declared.placed.PlacedName.{PlacedName}
 use Rattle.sfi_rewrite.specs.declared.placed.PlacedName.TheVariants as placed
-use Rattle.sfi_rewrite.specs.Slots.{size_of, slots_of, bundle_size, c_nop}
+use Rattle.sfi_policy.specs.Limits.{bundle_size}
+use Rattle.sfi_rewrite.specs.Slots.{size_of, slots_of, c_nop}
 use Rattle.sfi_rewrite.specs.Places.{next_bundle, AreLaid, IsLabelAt}
 
 -- one sandbox, placed
@@ -38,7 +39,7 @@ pub record FillsEnd (end : ℕ) (labelled : Type 0) (nops : ℕ) : Type 0 where
   pub enough : labelled → next_bundle end ≤ end + 2 * nops
   pub fewest : (n : ℕ) → (labelled → next_bundle end ≤ end + 2 * n) → nops ≤ n
 
--- each bundle has 16 bytes, but for the last, which has some
+-- each bundle is full, but for the last, which has some bytes
 abbrev pub AreBundles : List (List Slot) → Type 0
 AreBundles [] = Unit {0}
 AreBundles (b ∷ []) = (0 < size_of b) × (size_of b ≤ bundle_size)

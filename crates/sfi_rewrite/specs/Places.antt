@@ -1,14 +1,15 @@
 -- Where each expansion stands. A place is a number of bytes from the end of the gates' stubs.
-use Rattle.std.specs.Prelude.{◌≡◌, ◌+◌, ◌*◌, ◌/◌, ◌%◌, ◌≤◌, ◌++◌, IsTrue, ℕ, List, [], ◌∷◌, Bool, replicate, take}
+use Rattle.std.specs.Prelude.{◌≡◌, ◌+◌, ◌-◌, ◌*◌, ◌/◌, ◌%◌, ◌≤◌, ◌++◌, IsTrue, ℕ, List, [], ◌∷◌, Bool, replicate, take}
 use Rattle.rv_source.specs.declared.item.Item.{Item}
 use Rattle.sfi_image.specs.declared.format.Format.{Format}
 use Rattle.sfi_rewrite.specs.declared.slot.Slot.{Slot}
-use Rattle.sfi_rewrite.specs.Slots.{size_of, bundle_size, c_nop}
+use Rattle.sfi_policy.specs.Limits.{bundle_size}
+use Rattle.sfi_rewrite.specs.Slots.{size_of, c_nop}
 use Rattle.sfi_rewrite.specs.Expansion.{IsExpansion, is_call}
 
 -- the first bundle start not before n
 abbrev pub next_bundle : ℕ → ℕ
-next_bundle n = (n + 15) / 16 * 16
+next_bundle n = (n + (bundle_size - 1)) / bundle_size * bundle_size
 
 -- An expansion of this size may stand here, where what stands before it ends at `end`: not before that end, nor before
 -- its label's bundle start; within one bundle; and a call up to its bundle's end, so that it returns to a bundle start.

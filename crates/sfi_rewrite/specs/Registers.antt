@@ -1,13 +1,10 @@
 -- The registers that a source may not name.
-use Rattle.std.specs.Prelude.{◌==◌, ◌||◌, ℕ, Bool, true, false}
+use Rattle.std.specs.Prelude.{◌||◌, Bool, true, false}
 use Rattle.rv_word.specs.declared.instr.Instr.{Instr}
 use Rattle.rv_word.specs.declared.instr.Instr.TheVariants.{Op, OpImm, Load, Store, Branch, Jal, Jalr, Lui, Auipc, Fence, Ecall, Ebreak}
 use Rattle.rv_source.specs.declared.item.Body.{Body}
 use Rattle.rv_source.specs.declared.item.Body.TheVariants.{Plain, To, High, Low}
-
--- x24 to x27, which hold the bounds of the regions, and x31, in which the expansions make addresses
-abbrev pub is_withheld : ℕ → Bool
-is_withheld r = (r == 24) || (r == 25) || (r == 26) || (r == 27) || (r == 31)
+use Rattle.sfi_policy.specs.Registers.{is_withheld}
 
 -- one of an instruction's register operands is such a register, also one that the instruction doesn't use
 abbrev pub names_withheld : Instr → Bool

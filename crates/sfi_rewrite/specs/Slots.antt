@@ -24,7 +24,3 @@ slots_of bundles = flat_map (λ slots. slots) bundles
 -- c.nop, which is c.addi of x0 and 0
 abbrev pub c_nop : Slot
 c_nop = Short (CAddi 0 (pos 0))
-
--- the bytes of a bundle
-abbrev pub bundle_size : ℕ
-bundle_size = 16

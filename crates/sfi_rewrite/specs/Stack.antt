@@ -1,12 +1,13 @@
 -- The stack pointer x2, of a format that has one: an access on it stands as it is, and what writes it stands before the pair that puts it back into the
 -- data region.
 use Rattle.std.specs.Prelude.{◌==◌, ◌&&◌, not, Bool, true, false, List, [], ◌∷◌}
-use Rattle.rv_word.specs.declared.instr.RegOp.TheVariants.{And, Or}
 use Rattle.rv_word.specs.declared.instr.Instr.{Instr}
-use Rattle.rv_word.specs.declared.instr.Instr.TheVariants.{Op, Load, Store, Jal, Jalr}
+use Rattle.rv_word.specs.declared.instr.Instr.TheVariants.{Load, Store, Jal, Jalr}
 use Rattle.rv_word.specs.Writes.{writes_register}
 use Rattle.rv_source.specs.declared.item.Body.{Body}
 use Rattle.rv_source.specs.declared.item.Body.TheVariants.{Plain, To}
+use Rattle.sfi_policy.specs.Pairs.{masking_instr, placing_instr}
+use Rattle.sfi_policy.specs.Registers.{data_base_register, data_mask_register, stack_pointer}
 use Rattle.sfi_image.specs.declared.format.Format.{Format}
 use Rattle.sfi_image.specs.Formats.{has_stack}
 use Rattle.sfi_rewrite.specs.declared.slot.Slot.{Slot}
@@ -16,22 +17,22 @@ use Rattle.sfi_rewrite.specs.declared.slot.Slot.TheVariants.{Wide}
 
 -- a load or store on x2
 abbrev pub is_on_x2 : Instr → Bool
-is_on_x2 (Load kind rd a imm) = a == 2
-is_on_x2 (Store width a rs2 imm) = a == 2
+is_on_x2 (Load kind rd a imm) = a == stack_pointer
+is_on_x2 (Store width a rs2 imm) = a == stack_pointer
 is_on_x2 _ = false
 
 -- x2 is written by what can't stand before the pair: by a jump, or by a load on another register, which has its own pair
 abbrev pub jumps_or_loads_x2 : Body → Bool
-jumps_or_loads_x2 (Plain (Load kind rd a imm)) = (rd == 2) && not (a == 2)
-jumps_or_loads_x2 (Plain (Jal rd offset)) = rd == 2
-jumps_or_loads_x2 (Plain (Jalr rd a imm)) = rd == 2
-jumps_or_loads_x2 (To (Jal rd offset) name) = rd == 2
+jumps_or_loads_x2 (Plain (Load kind rd a imm)) = (rd == stack_pointer) && not (a == stack_pointer)
+jumps_or_loads_x2 (Plain (Jal rd offset)) = rd == stack_pointer
+jumps_or_loads_x2 (Plain (Jalr rd a imm)) = rd == stack_pointer
+jumps_or_loads_x2 (To (Jal rd offset) name) = rd == stack_pointer
 jumps_or_loads_x2 _ = false
 
 -- ---- the same, where x2 is a stack pointer
 
 abbrev pub writes_stack : Format → Instr → Bool
-writes_stack f i = has_stack f && writes_register 2 i
+writes_stack f i = has_stack f && writes_register stack_pointer i
 
 abbrev pub is_on_stack : Format → Instr → Bool
 is_on_stack f i = has_stack f && is_on_x2 i
@@ -41,9 +42,9 @@ is_stack_write f x = has_stack f && jumps_or_loads_x2 x
 
 -- ---- the pair
 
--- `and x2, x2, x27`, `or x2, x2, x26`
+-- the pair by which x2 becomes an address of the data region again
 abbrev pub stack_pair : List Slot
-stack_pair = Wide (Op And 2 2 27) ∷ Wide (Op Or 2 2 26) ∷ []
+stack_pair = Wide (masking_instr data_mask_register stack_pointer stack_pointer) ∷ Wide (placing_instr data_base_register stack_pointer) ∷ []
 
 -- the pair, where there is something to put back
 abbrev pub put_back : Bool → List Slot

@@ -15,6 +15,8 @@ use Rattle.rv_source.specs.declared.item.Body.{Body}
 use Rattle.rv_source.specs.declared.item.Body.TheVariants.{Plain, To, High, Low}
 use Rattle.rv_source.specs.declared.item.Item.{Item}
 use Rattle.rv_source.specs.Source.{Sandbox}
+use Rattle.sfi_policy.specs.Limits.{bundle_size}
+use Rattle.sfi_policy.specs.Registers.{code_base_register, code_mask_register, data_base_register, data_mask_register, scratch}
 use Rattle.sfi_image.specs.declared.format.Format.{Format}
 use Rattle.sfi_image.specs.declared.span.Span.{Span}
 use Rattle.sfi_image.specs.Spans.{Holds}
@@ -34,12 +36,12 @@ pub record AreRegions (code_at data_at : Span) : Type 0 where
   pub code_placed : IsCodeRegion format code_at.base code_at.size
   pub data_placed : IsDataRegion data_at.base data_at.size
 
--- x24 to x27 hold the code base, the code size less 16, the data base and the data size less 1
+-- the reserved registers hold the code base, the code size less that of a bundle, the data base and the data size less 1
 pub record HasReserved (code_at data_at : Span) (h : Hart) : Type 0 where
-  pub x24 : register h 24 ≡ code_at.base
-  pub x25 : register h 25 ≡ code_at.size - 16
-  pub x26 : register h 26 ≡ data_at.base
-  pub x27 : register h 27 ≡ data_at.size - 1
+  pub code_base : register h code_base_register ≡ code_at.base
+  pub code_mask : register h code_mask_register ≡ code_at.size - bundle_size
+  pub data_base : register h data_base_register ≡ data_at.base
+  pub data_mask : register h data_mask_register ≡ data_at.size - 1
 
 -- The instruction keeps to the sandbox: a load's or store's base register lies in the data region, whatever its offset adds, and a jalr goes to a
 -- bundle start of the code region. Of any other instruction nothing is asked.
@@ -70,7 +72,7 @@ SlotsStand i s (x ∷ slots) = SlotStands i s x × SlotsStand i (further s (slot
 pub record IsSameAside (r q : Stepped) : Type 0 where
   pub outcome : r.outcome ≡ q.outcome
   pub pc : r.state.hart.pc ≡ q.state.hart.pc
-  pub registers : (x : ℕ) → x ≢ 31 → register r.state.hart x ≡ register q.state.hart x
+  pub registers : (x : ℕ) → x ≢ scratch → register r.state.hart x ≡ register q.state.hart x
   pub memory : r.state.memory ≡ q.state.memory
 
 -- From this state the steps of the slots before the last are done, and lead to the last one's place. The step there comes to what the line of i does, if i stood

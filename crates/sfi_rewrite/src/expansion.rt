@@ -11,6 +11,10 @@ use rv_comp::form_of;
 use rv_source::{Body, Item};
 use rv_word::{ImmOp, Instr, Reg, RegOp};
 use sfi_image::Format;
+use sfi_policy::{
+    CODE_BASE_REGISTER, CODE_MASK_REGISTER, DATA_BASE_REGISTER, DATA_MASK_REGISTER, SCRATCH,
+    STACK_POINTER,
+};
 use std::marker::Model;
 
 /// An expansion: at most four slots, in an array. Contracts see the list of them.
@@ -111,8 +115,18 @@ fn stack_pair() -> [Slot; 2]
     ensures { result ≡ stack_pair }
 {
     [
-        masked(RegOp::And, 2, register(2), 27),
-        masked(RegOp::Or, 2, register(2), 26),
+        masked(
+            RegOp::And,
+            STACK_POINTER,
+            register(STACK_POINTER),
+            DATA_MASK_REGISTER,
+        ),
+        masked(
+            RegOp::Or,
+            STACK_POINTER,
+            register(STACK_POINTER),
+            DATA_BASE_REGISTER,
+        ),
     ]
 }
 
@@ -121,8 +135,8 @@ fn data_pair(a: Reg) -> [Slot; 2]
     ensures { result ≡ data_pair a }
 {
     [
-        masked(RegOp::And, 31, a, 27),
-        masked(RegOp::Or, 31, register(31), 26),
+        masked(RegOp::And, SCRATCH, a, DATA_MASK_REGISTER),
+        masked(RegOp::Or, SCRATCH, register(SCRATCH), DATA_BASE_REGISTER),
     ]
 }
 
@@ -131,8 +145,8 @@ fn code_pair(a: Reg) -> [Slot; 2]
     ensures { result ≡ code_pair a }
 {
     [
-        masked(RegOp::And, 31, a, 25),
-        masked(RegOp::Or, 31, register(31), 24),
+        masked(RegOp::And, SCRATCH, a, CODE_MASK_REGISTER),
+        masked(RegOp::Or, SCRATCH, register(SCRATCH), CODE_BASE_REGISTER),
     ]
 }
 
@@ -140,7 +154,7 @@ fn code_pair(a: Reg) -> [Slot; 2]
 fn of_jump(rd: Reg, a: Reg, imm: i32) -> Expansion
     ensures { result ≡ jump_slots rd a imm }
 {
-    let scratch = register(31);
+    let scratch = register(SCRATCH);
     let last = Slot::Wide(Instr::Jalr {
         rd,
         rs1: scratch,
@@ -174,7 +188,7 @@ fn alone(rvc: bool, instr: &Instr) -> Expansion
 fn of_masked(rvc: bool, instr: &Instr) -> Expansion
     ensures { IsMasked rvc instr.now result }
 {
-    let scratch = register(31);
+    let scratch = register(SCRATCH);
     match *instr {
         Instr::Load { kind, rd, rs1, imm } => {
             let access = Instr::Load {
@@ -217,7 +231,7 @@ fn is_on_x2(instr: &Instr) -> bool
     ensures { result ≡ is_on_x2 instr.now }
 {
     match *instr {
-        Instr::Load { rs1, .. } | Instr::Store { rs1, .. } => rs1.number() == 2,
+        Instr::Load { rs1, .. } | Instr::Store { rs1, .. } => rs1.number() == STACK_POINTER,
         _ => false,
     }
 }
@@ -226,7 +240,7 @@ fn is_on_x2(instr: &Instr) -> bool
 fn of_plain(format: Format, rvc: bool, instr: &Instr) -> Expansion
     ensures { IsPlainExpansion format rvc instr.now result }
 {
-    if format.has_stack() && instr.writes_register(2) {
+    if format.has_stack() && instr.writes_register(STACK_POINTER) {
         Expansion::with_stack_pair(Slot::Wide(*instr))
     } else if format.has_stack() && is_on_x2(instr) {
         alone(rvc, instr)

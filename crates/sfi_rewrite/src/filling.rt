@@ -1,5 +1,6 @@
 //! Bundles that are filled one after another.
 ghost use Rattle.std.specs.Prelude.{◌≡◌, ◌%◌, ◌+◌, ◌*◌, ◌<◌, ◌≤◌, ◌++◌, [], IfOk, length, replicate};
+ghost use Rattle.sfi_policy.specs.Limits.{bundle_size};
 ghost use Rattle.sfi_rewrite.specs.Slots.{size_of, slots_of, c_nop};
 ghost use Rattle.sfi_rewrite.specs.Filling.{largest};
 ghost use Rattle.sfi_rewrite.specs.Placement.{AreBundles};
@@ -8,6 +9,7 @@ use crate::bundle::Bundle;
 use crate::register::register;
 use crate::slot::Slot;
 use rv_comp::Form16;
+use sfi_policy::BUNDLE_BYTES;
 use std::alloc::{AllocError, Global};
 use std::marker::Model;
 use std::mem;
@@ -86,12 +88,12 @@ impl Filling {
         size: usize,
     ) -> Result<(), AllocError>
         requires size { size ≡ size_of slots.now }
-        requires fits { size_of self.old % 16 + size ≤ 16 }
+        requires fits { size_of self.old % bundle_size + size ≤ bundle_size }
         requires room { size_of self.old + size ≤ largest }
         ensures { IfOk result (λ _. self.new ≡ self.old ++ slots.now) }
     {
-        let used = self.end % 16;
-        if used + size < 16 {
+        let used = self.end % BUNDLE_BYTES;
+        if used + size < BUNDLE_BYTES {
             self.last.extend_from_slice(slots)?;
             self.end += size;
             return Ok(());
@@ -101,7 +103,7 @@ impl Filling {
         self.end -= used;
         bundle.extend_from_slice(slots)?;
         self.full.push(Bundle::new(bundle))?;
-        self.end += 16;
+        self.end += BUNDLE_BYTES;
         Ok(())
     }
 

@@ -6,10 +6,10 @@ ghost use Rattle.sfi_rewrite.specs.Stack.{is_stack_write};
 ghost use Rattle.sfi_rewrite.specs.Faults.{IsPermitted, HasItemFault};
 
 use crate::fault::RewriteFault;
-use crate::register::is_withheld;
 use rv_source::{Body, Item};
 use rv_word::Instr;
 use sfi_image::Format;
+use sfi_policy::is_withheld;
 
 /// Whether one of the instruction's register operands is x24 to x27 or x31.
 fn names_withheld(instr: &Instr) -> bool

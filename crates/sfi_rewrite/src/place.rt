@@ -1,10 +1,11 @@
 //! Where an expansion stands.
 ghost use Rattle.std.specs.Prelude.{◌≡◌, ◌%◌, ◌+◌, ◌*◌, ◌<◌, ◌≤◌, IsTrue};
+ghost use Rattle.sfi_policy.specs.Limits.{bundle_size};
 ghost use Rattle.sfi_rewrite.specs.Filling.{largest};
 ghost use Rattle.sfi_rewrite.specs.Places.{next_bundle, FillsGap};
 
 /// How many bytes a bundle has.
-const BUNDLE: usize = 16;
+const BUNDLE: usize = sfi_policy::BUNDLE_BYTES;
 
 /// The first bundle start not before a place of the code.
 pub(crate) fn next_bundle(end: usize) -> u32
@@ -21,9 +22,9 @@ pub(crate) fn nops_before(end: usize, labelled: bool, call: bool, size: usize) -
     requires even { end % 2 ≡ 0 }
     requires even_size { size % 2 ≡ 0 }
     requires some { 0 < size }
-    requires few { size ≤ 16 }
+    requires few { size ≤ bundle_size }
     ensures gap { FillsGap end labelled call size result }
-    ensures few { result < 16 }
+    ensures few { result < bundle_size }
 {
     let used = end % BUNDLE;
     let first = if labelled && used > 0 { BUNDLE } else { used };

@@ -72,14 +72,14 @@ impl PlacedPart {
         self.format
     }
 
-    /// How many bytes the data region has, a power of two from 256 to 1048576.
+    /// How many bytes the data region has, a power of two from `REGION_LEAST` to `DATA_MOST` of `sfi_policy`.
     pub fn data_size(&self) -> u32
         ensures { result ≡ self.now.data_size }
     {
         self.data_size
     }
 
-    /// The gates, at most 64, in the order of their stubs.
+    /// The gates, at most `GATES_MOST`, in the order of their stubs.
     pub fn gates(&self) -> &[SourceGate]
         ensures { result.now ≡ self.now.gates }
     {
@@ -100,7 +100,7 @@ impl PlacedPart {
         &self.bytes
     }
 
-    /// The bundles that stand after the gates' stubs, at most 4096, or 65536 in the second format. Each has 16 bytes, but for the last, which may have fewer.
+    /// The bundles that stand after the gates' stubs, as many as a code region of the format has at most. Each is full, but for the last, which may have fewer bytes.
     pub fn bundles(&self) -> &[Bundle]
         ensures { result.now ≡ self.now.bundles }
     {

@@ -1,6 +1,5 @@
 //! Registers.
 ghost use Rattle.std.specs.Prelude.{◌≡◌, ◌<◌};
-ghost use Rattle.sfi_rewrite.specs.Registers.{is_withheld};
 
 use rv_word::Reg;
 
@@ -13,12 +12,4 @@ pub(crate) fn register(number: u8) -> Reg
         Some(reg) => reg,
         None => unreachable!(),
     }
-}
-
-/// Whether it is one of those that a source may not name: x24 to x27 and x31.
-pub(crate) fn is_withheld(reg: Reg) -> bool
-    ensures { result ≡ is_withheld reg }
-{
-    let number = reg.number();
-    number == 24 || number == 25 || number == 26 || number == 27 || number == 31
 }
