@@ -13,14 +13,15 @@ use Rattle.rv_source.specs.Source.{IsBody}
 use Rattle.sfi_image.specs.Formats.{has_stack, is_stack}
 use Rattle.sfi_scan.specs.declared.bundle.BundlePlace.{BundlePlace}
 use Rattle.sfi_scan.specs.Readings.{Piece}
-use Rattle.sfi_scan.specs.Pairs.{is_reserved, follows_data_pair}
+use Rattle.sfi_policy.specs.Registers.{is_reserved, is_withheld}
+use Rattle.sfi_scan.specs.Pairs.{follows_data_pair}
 use Rattle.sfi_scan.specs.Stack.{writes_stack, begins_pair, precedes_pair, is_jump}
 use Rattle.sfi_scan.specs.Rules.{offset_by, is_bundle_start, breaks_reserved, breaks_stack}
 use Rattle.rv_source.specs.Halves.{upper, lower}
 use Rattle.sfi_rewrite.specs.declared.slot.Slot.{Slot}
 use Rattle.sfi_rewrite.specs.declared.slot.Slot.TheVariants.{Wide, Short, Jump, Upper, Lower}
 use Rattle.sfi_rewrite.specs.declared.placed.PlacedName.{PlacedName}
-use Rattle.sfi_rewrite.specs.Registers.{is_withheld, names_withheld, item_names_withheld, is_ecall}
+use Rattle.sfi_rewrite.specs.Registers.{names_withheld, item_names_withheld, is_ecall}
 use Rattle.sfi_rewrite.specs.Stack as stack
 use Rattle.sfi_rewrite.specs.Slots.{slot_size, size_of, c_nop}
 use Rattle.sfi_rewrite.specs.Expansion.{jump_to_x31, jump_slots, IsAlone, IsMasked, IsExpansionOf}

@@ -16,14 +16,15 @@ use Rattle.rv_source.specs.Source.{IsBody}
 use Rattle.sfi_image.specs.Formats.{has_stack, is_stack}
 use Rattle.sfi_scan.specs.declared.bundle.BundlePlace.{BundlePlace}
 use Rattle.sfi_scan.specs.Readings.{Piece, IsReading, rest_of}
-use Rattle.sfi_scan.specs.Pairs.{is_reserved, is_masking, is_placing}
+use Rattle.sfi_policy.specs.Pairs.{is_masking, is_placing}
+use Rattle.sfi_policy.specs.Registers.{is_reserved, is_withheld}
 use Rattle.sfi_scan.specs.Stack.{writes_stack, begins_pair, precedes_pair}
 use Rattle.sfi_scan.specs.Rules.{Place, is_empty, offset_by, is_bundle_start, breaks_ecall, breaks_reserved, breaks_access, breaks_jump, breaks_target, breaks_end, breaks_stack, may_write_stack, ends_region, is_last_bundle}
 use Rattle.sfi_scan.specs.Findings.{lowest, all_rules, findings_from}
 use Rattle.sfi_rewrite.specs.declared.slot.Slot.{Slot}
 use Rattle.sfi_rewrite.specs.declared.slot.Slot.TheVariants.{Wide, Short, Jump, Upper, Lower}
 use Rattle.sfi_rewrite.specs.declared.placed.PlacedName.{PlacedName}
-use Rattle.sfi_rewrite.specs.Registers.{is_withheld, names_withheld}
+use Rattle.sfi_rewrite.specs.Registers.{names_withheld}
 use Rattle.sfi_rewrite.specs.Stack as stack
 use Rattle.sfi_rewrite.specs.Slots.{slot_size, size_of}
 use Rattle.sfi_link.specs.declared.bases.Bases.{Bases}

@@ -10,7 +10,8 @@ use Rattle.sfi_image.specs.declared.format.Format.{Format}
 use Rattle.sfi_image.specs.Spelling.{Part}
 use Rattle.sfi_image.specs.Gates.{is_gate_of}
 use Rattle.sfi_image.specs.Regions.{IsBundleStart}
-use Rattle.sfi_scan.specs.Bundles.{place_of, stub}
+use Rattle.sfi_policy.specs.Pairs.{stub}
+use Rattle.sfi_scan.specs.Bundles.{place_of}
 use Rattle.sfi_scan.specs.Findings.{AreFindings, AreFindingsFrom}
 use Rattle.sfi_scan.specs.Laws.{SameBundleStarts}
 use Rattle.sfi_rewrite.specs.declared.slot.Slot.{Slot}

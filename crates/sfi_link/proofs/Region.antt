@@ -19,7 +19,8 @@ use Rattle.sfi_image.specs.Formats.{has_stack}
 use Rattle.sfi_image.specs.Spelling.{Part}
 use Rattle.sfi_image.specs.Gates.{is_gate_of}
 use Rattle.sfi_scan.specs.declared.bundle.BundlePlace.{BundlePlace}
-use Rattle.sfi_scan.specs.Bundles.{place_of, bundle_bytes, stub}
+use Rattle.sfi_policy.specs.Pairs.{stub}
+use Rattle.sfi_scan.specs.Bundles.{place_of, bundle_bytes}
 use Rattle.sfi_scan.specs.Readings.{Piece, IsReading}
 use Rattle.sfi_scan.specs.Rules.{is_empty, is_last_bundle}
 use Rattle.sfi_scan.specs.Findings.{AreBundleFindings, AreFindingsOfFirst, AreFindings, findings_from, rest_finding}

@@ -16,7 +16,7 @@ use Rattle.rv_source.specs.Source.{Sandbox, IsSandbox, IsBody}
 use Rattle.sfi_image.specs.declared.format.Format.{Format}
 use Rattle.sfi_image.specs.Spelling.{Part}
 use Rattle.sfi_image.specs.Parts.{IsRightPart}
-use Rattle.sfi_scan.specs.Bundles.{stub}
+use Rattle.sfi_policy.specs.Pairs.{stub}
 use Rattle.sfi_rewrite.specs.Laws.{RewrittenIsTransparent}
 use Rattle.sfi_rewrite.specs.declared.slot.Slot.{Slot}
 use Rattle.sfi_rewrite.specs.declared.slot.Slot.TheVariants.{Wide, Short}

@@ -2,6 +2,7 @@
 use Rattle.std.specs.Prelude.{ℕ, ◌+◌, ◌*◌, ℤ, List, length, slice_get, Option, Some, None}
 use Rattle.rv_word.specs.declared.instr.Instr.{Instr}
 use Rattle.rv_word.specs.declared.instr.Instr.TheVariants.{Op, OpImm, Load, Store, Branch, Jal, Jalr, Lui, Auipc, Fence, Ecall, Ebreak}
+use Rattle.sfi_policy.specs.Limits.{bundle_size}
 use Rattle.sfi_rewrite.specs.declared.placed.PlacedName.{PlacedName}
 use Rattle.sfi_rewrite.specs.declared.placed.PlacedName.TheVariants.{Gate, Code, Data, Unknown}
 use Rattle.sfi_rewrite.specs.Placement.{Placement}
@@ -11,7 +12,7 @@ use Rattle.sfi_link.specs.declared.bases.Bases.{Bases}
 
 -- each gate's stub is one bundle
 abbrev pub stub_size : ℕ
-stub_size = 16
+stub_size = bundle_size
 
 -- the sandbox of that number: its code, the first byte after its gates' stubs, its data
 abbrev pub bases_of : ℕ → Placement → Bases

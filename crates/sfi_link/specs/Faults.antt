@@ -1,6 +1,7 @@
 -- Why what is placed can't be linked.
 use Rattle.std.specs.Prelude.{◌≡◌, ◌⊎◌, ℕ, ◌+◌, ◌<◌, ◌≤◌, pos, ◌-ℤ◌, List, length, take, slice_get, Some, None}
 use Rattle.rv_word.specs.Spelling.{InRange}
+use Rattle.sfi_policy.specs.Limits.{sandboxes_most}
 use Rattle.sfi_image.specs.Spelling.{Part}
 use Rattle.sfi_rewrite.specs.declared.slot.Slot.{Slot}
 use Rattle.sfi_rewrite.specs.declared.slot.Slot.TheVariants.{Wide, Short, Jump, Upper, Lower}
@@ -80,10 +81,6 @@ pub record IsPartFault (placed : List Placement) (f : LinkFault) : Type 0 where
   pub has : HasPartFault number part f
 
 -- ---- of all
-
--- the most sandboxes that an image has
-abbrev pub sandboxes_most : ℕ
-sandboxes_most = 16
 
 -- the fault of what is placed: too many sandboxes, or the first one's in the order of the text
 abbrev pub IsLinkFault : List Placement → LinkFault → Type 0

@@ -8,13 +8,14 @@ use Rattle.sfi_rewrite.specs.Placed.{IsPlacedPart, IsPlaced}
 use Rattle.sfi_link.specs.declared.fault.LinkFault.{LinkFault}
 use Rattle.sfi_link.specs.Linked.{IsLinked, AreLinked}
 use Rattle.sfi_link.specs.Building.{IsLinkedImage}
-use Rattle.sfi_link.specs.Faults.{IsLinkFault, sandboxes_most}
+use Rattle.sfi_policy.specs.Limits.{sandboxes_most}
+use Rattle.sfi_link.specs.Faults.{IsLinkFault}
 
 -- what is made of a placed sandbox breaks no rule
 abbrev pub LinkedIsClean : Type 0
 LinkedIsClean = (number : ℕ) (p : Placement) (q : Part) → IsPlacedPart p → number < sandboxes_most → IsLinked number p q → AreFindings number q []
 
--- what is made of at most 16 placed sandboxes has a right layout
+-- what is made of as many placed sandboxes as an image may have has a right layout
 abbrev pub LinkedIsRight : Type 0
 LinkedIsRight = (placed : List Placement) (parts : List Part) → IsPlaced placed → length placed ≤ sandboxes_most → AreLinked placed parts → IsRightLayout parts
 
@@ -34,7 +35,7 @@ OneFault = (placed : List Placement) (f g : LinkFault) → IsLinkFault placed f 
 abbrev pub ImageOrFault : Type 0
 ImageOrFault = (placed : List Placement) (bytes : List ℕ) (f : LinkFault) → IsLinkedImage placed bytes → IsLinkFault placed f → ⊥
 
--- of at most 16 placed sandboxes with a fault no image is made
+-- of as many placed sandboxes as an image may have, with a fault no image is made
 abbrev pub NeverBoth : Type 0
 NeverBoth =
     (placed : List Placement) (parts : List Part) (f : LinkFault)

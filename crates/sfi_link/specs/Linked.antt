@@ -3,11 +3,12 @@ use Rattle.std.specs.Prelude.{◌≡◌, ℕ, ◌+◌, ◌*◌, ◌^◌, ◌≤�
 use Rattle.std.specs.List.{repeat}
 use Rattle.rv_comp.specs.declared.form.Form16.TheVariants.{CEbreak}
 use Rattle.rv_source.specs.declared.item.SourceGate.{SourceGate}
+use Rattle.sfi_policy.specs.Limits.{region_least}
 use Rattle.sfi_image.specs.declared.format.Format.{Format}
 use Rattle.sfi_image.specs.Formats.{code_most}
 use Rattle.sfi_image.specs.declared.part.Gate.{Gate}
 use Rattle.sfi_image.specs.Spelling.{Part}
-use Rattle.sfi_scan.specs.Bundles.{stub}
+use Rattle.sfi_policy.specs.Pairs.{stub}
 use Rattle.sfi_rewrite.specs.declared.slot.Slot.{Slot}
 use Rattle.sfi_rewrite.specs.declared.slot.Slot.TheVariants.{Short}
 use Rattle.sfi_rewrite.specs.Slots.{size_of, slots_of}
@@ -29,7 +30,7 @@ needed p = stub_size * length p.gates + size_of (slots_of p.bundles) + 2
 pub record HasRoom (f : Format) (bytes size : ℕ) : Type 0 where
   pub power : ℕ
   pub size_is : size ≡ 2 ^ power
-  pub at_least : 256 ≤ size
+  pub at_least : region_least ≤ size
   pub at_most : size ≤ code_most f
   pub room : bytes ≤ size
 

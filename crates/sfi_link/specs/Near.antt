@@ -2,6 +2,9 @@
 use Rattle.std.specs.Prelude.{◌≡◌, ℕ, ◌+◌, ◌^◌, ◌<◌, ◌≤◌, List, [], ◌∷◌, ◌++◌, length, map, Vec}
 use Rattle.std.specs.List.{All}
 use Rattle.std.specs.Global.{Global}
+use Rattle.sfi_policy.specs.Limits.{data_most, gates_most}
+use Rattle.sfi_image.specs.declared.format.Format.TheVariants.{Sfi2}
+use Rattle.sfi_image.specs.Formats.{code_most}
 use Rattle.sfi_rewrite.specs.declared.slot.Slot.{Slot}
 use Rattle.sfi_rewrite.specs.declared.placed.PlacedName.{PlacedName}
 use Rattle.sfi_rewrite.specs.declared.placed.PlacedName.TheVariants.{Gate, Code, Data, Unknown}
@@ -22,9 +25,9 @@ pub record AreLow (at : Bases) : Type 0 where
 
 -- what the name names lies within the limits
 abbrev pub IsNear : PlacedName → Type 0
-IsNear (Gate k) = k < 64
-IsNear (Code place) = place ≤ 1048576
-IsNear (Data offset) = offset ≤ 1048576
+IsNear (Gate k) = k < gates_most
+IsNear (Code place) = place ≤ code_most Sfi2
+IsNear (Data offset) = offset ≤ data_most
 IsNear Unknown = Unit {0}
 
 -- names and regions whose addresses fit

@@ -21,7 +21,7 @@ use Rattle.sfi_link.specs.declared.bases.Bases.{Bases}
 use Rattle.sfi_link.specs.Addresses.{bases_of}
 use Rattle.sfi_link.specs.Code.{resolved, AreSlots}
 use Rattle.sfi_link.specs.Linked.{IsLinked}
-use Rattle.sfi_link.specs.Faults.{sandboxes_most}
+use Rattle.sfi_policy.specs.Limits.{sandboxes_most}
 use Rattle.sfi_link.specs.Building.{IsLinkedImage}
 
 -- the slot at `here` becomes i, if it waits for a name

@@ -2,13 +2,13 @@
 ghost use Rattle.std.specs.Prelude.{◌≡◌, ◌<◌};
 ghost use Rattle.sfi_rewrite.specs.Placed.{IsPlacedPart};
 ghost use Rattle.sfi_link.specs.Addresses.{bases_of};
-ghost use Rattle.sfi_link.specs.Faults.{sandboxes_most};
+ghost use Rattle.sfi_policy.specs.Limits.{sandboxes_most};
 ghost use Rattle.sfi_link.specs.Near.{AreLow};
 
 use sfi_rewrite::PlacedPart;
 
 // How far the stub of one gate lies from the next: each is one bundle.
-pub(crate) const STUB_BYTES: u32 = 16;
+pub(crate) const STUB_BYTES: u32 = sfi_policy::BUNDLE_SIZE;
 
 // The first code base, and how far one sandbox lies from the next.
 const STRIDE: u32 = 0x0100_0000;

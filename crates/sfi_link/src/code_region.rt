@@ -1,36 +1,35 @@
 //! The code region of a sandbox: its gates' stubs, its code, and c.ebreaks up to its end.
 ghost use Rattle.std.specs.Prelude.{◌≡◌, ◌++◌, ◌<◌, ◌≤◌, ℕ, IfSome, IfNone, OnOk};
 ghost use Rattle.std.specs.List.{repeat};
+ghost use Rattle.sfi_image.specs.declared.format.Format.TheVariants.{Sfi2};
+ghost use Rattle.sfi_image.specs.Formats.{code_most};
 ghost use Rattle.sfi_rewrite.specs.Slots.{size_of, slots_of};
 ghost use Rattle.sfi_rewrite.specs.Placement.{AreBundles};
 ghost use Rattle.sfi_rewrite.specs.Placed.{IsPlacedPart};
 ghost use Rattle.sfi_link.specs.Linked.{needed, HasRoom, IsCodeSize, IsLinkedCode};
-ghost use Rattle.sfi_link.specs.Faults.{HasPartFault, sandboxes_most};
+ghost use Rattle.sfi_policy.specs.Limits.{sandboxes_most};
+ghost use Rattle.sfi_link.specs.Faults.{HasPartFault};
 ghost use Rattle.sfi_link.specs.Answers.{Links};
 
 use crate::bases::bases_of;
 use crate::code::push_bundles;
 use crate::fault::LinkFault;
 use sfi_image::Format;
+use sfi_policy::STUB;
 use sfi_rewrite::{Bundle, PlacedPart, Slot};
 use std::alloc::{AllocError, Global};
 
-// A gate's bundle: `ecall`, `and x31, x1, x25`, `or x31, x31, x24`, `jalr x0, 0(x31)`.
-const STUB: [u8; 16] = [
-    0x73, 0x00, 0x00, 0x00, 0xb3, 0xff, 0x90, 0x01, 0xb3, 0xef, 0x8f, 0x01, 0x67, 0x80, 0x0f, 0x00,
-];
-
 // How many bytes a full bundle has.
-const BUNDLE: usize = 16;
+const BUNDLE: usize = sfi_policy::BUNDLE_BYTES;
 
 const C_EBREAK: [u8; 2] = [0x02, 0x90];
 
 // The sizes that a code region may have go from this one to the most of its format.
-const REGION_LEAST: usize = 256;
+const REGION_LEAST: usize = sfi_policy::REGION_LEAST as usize;
 
 // How many bytes the slots take.
 fn size_of(slots: &[Slot]) -> usize
-    requires { size_of slots.now ≤ 1048576 }
+    requires { size_of slots.now ≤ code_most Sfi2 }
     ensures { result ≡ size_of slots.now }
 {
     let mut size = 0;
@@ -43,7 +42,7 @@ fn size_of(slots: &[Slot]) -> usize
 // How many bytes the slots of bundles take. Each bundle but the last is full.
 fn size_of_bundles(bundles: &[Bundle]) -> usize
     requires full { AreBundles bundles.now }
-    requires fits { size_of (slots_of bundles.now) ≤ 1048576 }
+    requires fits { size_of (slots_of bundles.now) ≤ code_most Sfi2 }
     ensures { result ≡ size_of (slots_of bundles.now) }
 {
     match bundles.split_last() {

@@ -21,7 +21,7 @@ pub enum LinkFault {
     /// The code of the sandbox, counted from 0, has no room in a code region of its format with its gates' stubs and one c.ebreak.
     #[error("TooLarge sandbox {sandbox}")]
     TooLarge { sandbox: u32 },
-    /// There are more than 16 sandboxes.
+    /// There are more sandboxes than an image may have.
     #[error("TooManySandboxes")]
     TooManySandboxes,
     /// Memory ran out; nothing is known of what is placed.

@@ -18,7 +18,7 @@ pub fn linked_is_clean()
     same_bundle_starts();
 }
 
-/// What is made of at most 16 placed sandboxes has a right layout.
+/// What is made of as many placed sandboxes as an image may have has a right layout.
 pub fn linked_is_right()
     ensures { LinkedIsRight }
 {}

@@ -8,7 +8,8 @@ ghost use Rattle.sfi_link.specs.declared.fault.LinkFault.{LinkFault};
 ghost use Rattle.sfi_link.specs.declared.fault.LinkFault.TheVariants.{TooManySandboxes};
 ghost use Rattle.sfi_link.specs.Linked.{gates_from, IsLinkedCode, IsLinked, AreLinkedFrom};
 ghost use Rattle.sfi_link.specs.Building.{IsLinkedImage, ArePlacements, IsBuild};
-ghost use Rattle.sfi_link.specs.Faults.{IsPartFault, IsLinkFault, sandboxes_most};
+ghost use Rattle.sfi_policy.specs.Limits.{gates_most, sandboxes_most};
+ghost use Rattle.sfi_link.specs.Faults.{IsPartFault, IsLinkFault};
 ghost use Rattle.sfi_link.specs.Near.{AreCodesFrom, contents};
 ghost use Rattle.sfi_link.specs.Answers.{Links, UnlessMemory, AnswersBytes, AnswersFault};
 
@@ -21,12 +22,12 @@ use sfi_image::{Format, Gate, ImageFault, SandboxPart, write_image_as};
 use sfi_rewrite::{Placed, PlacedPart};
 use std::alloc::{AllocError, Global};
 
-const SANDBOXES_MOST: usize = 16;
+const SANDBOXES_MOST: usize = sfi_policy::SANDBOXES_MOST as usize;
 
 // The gates, whose stubs lie one after another from the address on.
 fn gates_from(alloc: Global, address: u32, gates: &[SourceGate]) -> Result<Vec<Gate>, AllocError>
     requires low { address < 2 ^ 30 }
-    requires few { length gates.now ≤ 64 }
+    requires few { length gates.now ≤ gates_most }
     ensures { IfOk result (λ listed. listed.items ≡ gates_from address gates.now) }
 {
     let mut listed = Vec::new(alloc);

@@ -1,7 +1,7 @@
 use Rattle.std.proofs.Common.{◌≡◌, ◌++◌, ◌∙◌, length, inl, refl, sym, subst, ap, arith}
 use Rattle.std.specs.List.{repeat}
 use Rattle.std.proofs.lemmas.Result.{err_from_is_err_and}
-use Rattle.sfi_scan.specs.Bundles.{stub}
+use Rattle.sfi_policy.specs.Pairs.{stub}
 use Rattle.sfi_link.specs.Linked.{HasRoom}
 use Rattle.sfi_link.proofs.Linking.{code_room, part_refused, written_within, linked_code}
 use Rattle.sfi_link.proofs.code_region.linked_code.Goals as goal
