@@ -6,7 +6,8 @@ use Rattle.std.specs.Option.{option_or}
 use Rattle.std.specs.Cmp.{nat_cmp_total}
 use Rattle.std.specs.FinMap.{get, insert, same_map, nat_cmp-IsAntisymmetric}
 use Rattle.rv_mem.specs.Bytes.{Bytes, byte_at, address_after, addresses}
-use Rattle.rv_mem.specs.Frames.{run_of, Puts, MarksRun, frame_of, cell, cell_at, ArePages, values_of}
+use Rattle.rv_mem.specs.private.Frames.{run_of, Puts, MarksRun}
+use Rattle.rv_mem.specs.Frames.{frame_of, cell, cell_at, ArePages, values_of}
 use Rattle.std.specs.Prelude.{slice_get}
 use Rattle.std.proofs.lemmas.Option.{slice_get-get_or, slice_get_past}
 use Rattle.std.proofs.lemmas.List.{length-replicate}

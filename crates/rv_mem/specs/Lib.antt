@@ -6,3 +6,4 @@ pub mod Pages
 pub mod Ranges
 pub mod Segment
 pub mod Segments
+pub mod private

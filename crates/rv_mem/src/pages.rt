@@ -4,7 +4,8 @@ ghost use Rattle.std.specs.Bool.{OnTrue, OnFalse};
 ghost use Rattle.std.specs.FinMap.{empty, insert};
 ghost use Rattle.std.specs.Int.{bytes_low_first};
 ghost use Rattle.rv_mem.specs.Bytes.{IsMemory, count_of, byte_at, loaded, stored, IsThere, Overlaps, IsFree, added};
-ghost use Rattle.rv_mem.specs.Frames.{ArePages, frame_of, cell_at, values_of, with_four, run_of, Puts, MarksRun};
+ghost use Rattle.rv_mem.specs.Frames.{ArePages, frame_of, cell_at, values_of};
+ghost use Rattle.rv_mem.specs.private.Frames.{with_four, run_of, Puts, MarksRun};
 
 use crate::fault::AddFault;
 use crate::memory::{Memory, Width};

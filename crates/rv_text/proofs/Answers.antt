@@ -5,7 +5,7 @@ use Rattle.rv_word.specs.declared.instr.Instr.{Instr}
 use Rattle.rv_word.specs.Spelling.{InRange}
 use Rattle.rv_text.specs.declared.cause.TextCause.{TextCause}
 use Rattle.rv_text.specs.Tokens.{Takes}
-use Rattle.rv_text.specs.Reading.{FollowsToken}
+use Rattle.rv_text.specs.private.Reading.{FollowsToken}
 use Rattle.rv_text.specs.Statement.{Means, Refused, RefusedAt}
 use Rattle.rv_text.proofs.Meaning.{means}
 use Rattle.rv_text.proofs.OneMeaning.{one_meaning, in_range}

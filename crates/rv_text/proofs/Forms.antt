@@ -10,7 +10,8 @@ use Rattle.rv_text.specs.Registers.{IsRegister}
 use Rattle.rv_text.specs.Tokens.{Takes, IsBlank, IsStuck, IsNumber, IsLabel}
 use Rattle.rv_text.specs.Forms.{IsNumberOf}
 use Rattle.rv_text.specs.Operands.{OperandValues, Stands, Departs, part_cause, mode_name}
-use Rattle.rv_text.specs.Reading.{Reads, SameAt, KeepsOthers, Suits, AllSuit, slot, is_fresh, has_no_repeat}
+use Rattle.rv_text.specs.Reading.{Reads, SameAt, Suits, AllSuit, slot, is_fresh, has_no_repeat}
+use Rattle.rv_text.specs.private.Reading.{KeepsOthers}
 
 -- a token stands at a part by the operand there
 pub stands_by_operand : (a b : OperandValues) (part : Part) (token : List ℕ) → SameAt part a b → Stands b part token → Stands a part token

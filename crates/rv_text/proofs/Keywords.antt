@@ -17,7 +17,7 @@ use Rattle.rv_text.specs.declared.keyword.DataWidth.TheVariants.{Word}
 use Rattle.rv_text.specs.declared.keyword.TheConstants.{ALL, PLACES}
 use Rattle.rv_text.specs.Mnemonics.{name_of}
 use Rattle.rv_text.specs.Keywords.{keyword_name}
-use Rattle.rv_text.specs.Lookup.{hash, candidate, mnemonic_in}
+use Rattle.rv_text.specs.private.Lookup.{hash, candidate, mnemonic_in}
 
 -- each keyword is the candidate of its name, by computation
 candidate_own : (k : Keyword) → candidate (keyword_name k) ≡ Some k

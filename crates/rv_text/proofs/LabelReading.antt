@@ -6,7 +6,8 @@ use Rattle.rv_text.specs.Effects.{IsFree, Labels, RefusesLabel}
 use Rattle.rv_text.specs.Leads.{BeginsWithName, BeginsWithLabel, HasNoLabel, LabelsLead, IsTaken, LabelRefused}
 use Rattle.rv_text.specs.declared.cause.TextCause.{TextCause}
 use Rattle.rv_text.specs.declared.cause.TextCause.TheVariants as cause
-use Rattle.rv_text.specs.Scan.{body_of, token_len}
+use Rattle.rv_text.specs.Scan.{body_of}
+use Rattle.rv_text.specs.private.Scan.{token_len}
 use Rattle.rv_text.proofs.Taking.{takes_unique, takes_body, takes_found}
 use Rattle.rv_text.proofs.Lexing.{token_within, token_at_mark}
 

@@ -10,7 +10,7 @@ use Rattle.std.proofs.lemmas.Str.{IsCharBoundary-start, IsCharBoundary-after_asc
 use Rattle.std.proofs.lemmas.List.Folds.{length-prefix_len}
 use Rattle.std.proofs.lemmas.Bool.Decides.{nat_tests}
 use Rattle.rv_text.specs.Tokens.{is_space, IsBlank, begins_name, continues_name, IsMagnitude, is_mark, IsToken}
-use Rattle.rv_text.specs.Scan.{begins_hex, magnitude_len, after_sign, token_len}
+use Rattle.rv_text.specs.private.Scan.{begins_hex, magnitude_len, after_sign, token_len}
 
 -- each byte passes the test
 abbrev pub Passes : (ℕ → Bool) → List ℕ → Type 0

@@ -29,7 +29,8 @@ use Rattle.rv_text.specs.Reading.{Reads, AgreesOn, FollowsName}
 use Rattle.rv_text.specs.Keywords.{directive_form, directive_states, pseudo_form, pseudo_states, branch_form, branch_states, jal_form, jal_states, data_kind}
 use Rattle.rv_text.specs.Constants.{constant, data_bytes}
 use Rattle.rv_text.specs.Lines.{Writes, AreMore, IsRow, IsData, StatesAfter, InstrDeparts, RefusedWith}
-use Rattle.rv_text.specs.Lists.{ReadsRow, ReadsInstr, ReadsAfter, ReadsList}
+use Rattle.rv_text.specs.private.Lists.{ReadsRow, ReadsInstr, ReadsAfter}
+use Rattle.rv_text.specs.Lists.{ReadsList}
 use Rattle.rv_text.specs.Stated.{Stated, stated, IsRightStatement, format, sandbox, within, gate, compressed, bytes, plain, jump, address}
 use Rattle.rv_text.proofs.Keywords.{name_unique}
 use Rattle.rv_text.proofs.Meaning.{tokens_of, from_tokens, agree}

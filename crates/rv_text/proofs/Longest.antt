@@ -5,7 +5,7 @@ use Rattle.std.specs.Char.{is_ascii_digit, is_ascii_hexdigit}
 use Rattle.std.proofs.lemmas.Bool.Decides.{nat_tests}
 use Rattle.std.proofs.lemmas.Bool.{false≢true}
 use Rattle.rv_text.specs.Tokens.{is_space, IsBlank, begins_name, continues_name, IsMagnitude, is_mark, IsToken, Takes}
-use Rattle.rv_text.specs.Scan.{token_len}
+use Rattle.rv_text.specs.private.Scan.{token_len}
 use Rattle.rv_text.proofs.Lexing.{Passes, numeral_passes, hex_passes, token_within, token_at_mark}
 
 -- a mark or a space ends the token before it

@@ -11,7 +11,7 @@ use Rattle.std.proofs.lemmas.List.Sums.{AllPass-from_list_all}
 use Rattle.std.proofs.lemmas.Option.{get_or_from_slice_get, slice_get-get_or}
 use Rattle.std.proofs.lemmas.Bool.Decides.{nat_tests}
 use Rattle.rv_text.specs.Registers.{abi_names, x_name, IsRegister}
-use Rattle.rv_text.specs.Lookup.{of_number, pointer, of_two, of_three, find_register}
+use Rattle.rv_text.specs.private.Lookup.{of_number, pointer, of_two, of_three, find_register}
 
 -- a test that passes at each number below a bound by computation
 below : (n : ℕ) (test : ℕ → Bool) → list_all test (range_with_len 0 n) ≡ true → (r : ℕ) → r < n → test r ≡ true

@@ -8,7 +8,8 @@ use Rattle.rv_text.specs.Tokens.{Takes, IsName}
 use Rattle.rv_text.specs.Mnemonics.{name_of}
 use Rattle.rv_text.specs.Forms.{form_of}
 use Rattle.rv_text.specs.Operands.{OperandValues, Stands, Departs, part_cause}
-use Rattle.rv_text.specs.Reading.{Reads, FollowsToken}
+use Rattle.rv_text.specs.Reading.{Reads}
+use Rattle.rv_text.specs.private.Reading.{FollowsToken}
 use Rattle.rv_text.specs.Statement.{mnemonic_of, operands_of, Refused, RefusedAt}
 use Rattle.rv_text.specs.Laws.{OneCause, MeantIsNotRefused}
 use Rattle.rv_text.proofs.Keywords.{name_unique}

@@ -18,7 +18,8 @@ use Rattle.rv_text.specs.declared.statement.Place.TheVariants as place
 use Rattle.rv_text.specs.Tokens.{IsLabel, Takes}
 use Rattle.rv_text.specs.Keywords.{place_of_keyword}
 use Rattle.rv_text.specs.Lines.{StatesAfter}
-use Rattle.rv_text.specs.Stated.{Stated, format, sandbox, within, StatedWithin, gate, compressed, data_part, bytes, plain, jump, address, place_of_stated, IsRightWithin, IsRightStatement}
+use Rattle.rv_text.specs.Stated.{Stated, format, sandbox, within, StatedWithin, gate, compressed, data_part, bytes, plain, jump, address, IsRightWithin, IsRightStatement}
+use Rattle.rv_text.specs.private.Stated.{place_of_stated}
 use Rattle.rv_source.specs.NameTable.{meaning, place_of, met}
 use Rattle.rv_source.specs.Source.{IsStraight, Sandbox, IsBody, IsSandbox, AreOf, format_of}
 use Rattle.rv_text.specs.SoFar.{Begun, SoFar, format_or_sfi1, with_label, with_names, nothing, last_sandbox, sandboxes}

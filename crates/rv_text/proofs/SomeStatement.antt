@@ -28,7 +28,8 @@ use Rattle.rv_text.specs.Statement.{mnemonic_of, operands, operands_of, full_fen
 use Rattle.rv_text.specs.Reading.{Reads, SameAt, AgreesOn, AllSuit, FollowsName, slot, is_fresh, has_no_repeat}
 use Rattle.rv_text.specs.Keywords.{directive_form, directive_states, pseudo_form, pseudo_states, branch_form, branch_states, jal_form, jal_states, data_kind}
 use Rattle.rv_text.specs.Lines.{StatesAfter, LeadsByMore, NumberDeparts, ListDeparts, InstrDeparts, RefusedWith}
-use Rattle.rv_text.specs.Lists.{ReadsNumber, MoreDepartsAfter, ReadsRow, ReadsInstr, ReadsList, ReadsAfter}
+use Rattle.rv_text.specs.Lists.{ReadsNumber, ReadsList}
+use Rattle.rv_text.specs.private.Lists.{MoreDepartsAfter, ReadsRow, ReadsInstr, ReadsAfter}
 use Rattle.rv_text.specs.Stated.{Stated, within, plain, bytes}
 use Rattle.rv_text.proofs.Forms.{stands_by_operand, reads_part, more_has_no_repeat, keeps_part, reads_fit}
 use Rattle.rv_text.proofs.Lines.{reads_states}

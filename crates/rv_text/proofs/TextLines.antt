@@ -12,7 +12,8 @@ use Rattle.rv_text.specs.declared.fault.TextFault.{TextFault}
 use Rattle.rv_text.specs.Causes.{memory}
 use Rattle.rv_text.specs.SoFar.{SoFar}
 use Rattle.rv_text.specs.Leads.{Leads, LineRefused}
-use Rattle.rv_text.specs.Texts.{lines, uncommented, LinesLead, LineFault, FirstRefused, BeginsWithLine, MeansSource, IsFault}
+use Rattle.rv_text.specs.Texts.{lines, uncommented, LinesLead, LineFault, FirstRefused, MeansSource, IsFault}
+use Rattle.rv_text.specs.private.Texts.{BeginsWithLine}
 use Rattle.rv_text.proofs.OneSource.{one_source, one_fault, meant_has_no_fault}
 
 -- what the lines that are left lead to, all lines lead to from the first source so far; and so with their fault

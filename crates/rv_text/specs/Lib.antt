@@ -13,10 +13,10 @@ pub mod Lines
 pub mod Laws
 pub mod Scan
 pub mod Next
-pub mod Lookup
 pub mod Reading
 pub mod Lists
 pub mod SoFar
 pub mod Effects
 pub mod Leads
 pub mod Texts
+pub mod private

@@ -1,5 +1,5 @@
 -- How the parser reads a statement part by part, for the contracts inside it.
-use Rattle.std.specs.Prelude.{◌≡◌, ◌≢◌, ℕ, ◌<◌, ◌≤◌, ◌⊎◌, Bool, ◌&&◌, ◌||◌, nat_lt, ◌==◌, not, true, List, [], ◌∷◌, length}
+use Rattle.std.specs.Prelude.{◌≡◌, ℕ, ◌<◌, ◌≤◌, ◌⊎◌, Bool, ◌&&◌, ◌||◌, nat_lt, ◌==◌, not, true, List, [], ◌∷◌, length}
 use Rattle.std.specs.List.{AllByRecursion, list_all}
 use Rattle.sfi_policy.specs.Limits.{name_most}
 use Rattle.rv_word.specs.declared.instr.Instr.{Instr}
@@ -7,7 +7,6 @@ use Rattle.rv_text.specs.declared.form.Part.{Part}
 use Rattle.rv_text.specs.declared.form.Part.TheVariants.{Rd, Rs1, Rs2, Number, Name, Mode, Comma, Open, Close}
 use Rattle.rv_text.specs.declared.mnemonic.Mnemonic.{Mnemonic}
 use Rattle.rv_text.specs.Tokens.{Takes, IsBlank, IsLabel}
-use Rattle.rv_text.specs.Mnemonics.{name_of}
 use Rattle.rv_text.specs.Forms.{IsNumberOf, form_of}
 use Rattle.rv_text.specs.Operands.{OperandValues, Stands}
 use Rattle.rv_text.specs.Statement.{mnemonic_of, operands_of, full_fence}
@@ -47,10 +46,6 @@ slot Comma = 6
 slot Open = 7
 slot Close = 8
 
--- each operand but the one at this part is as it was
-abbrev pub KeepsOthers : Part → OperandValues → OperandValues → Type 0
-KeepsOthers part old new = (p : Part) → slot p ≢ slot part → SameAt p new old
-
 -- the operand is one that can stand at this part
 abbrev pub Suits : OperandValues → Part → Type 0
 Suits o Rd = o.rd < 32
@@ -84,7 +79,3 @@ Follows rest i =
 -- the instruction has this name, and the text after it gives its operands
 abbrev pub FollowsName : List ℕ → Mnemonic → Instr → Type 0
 FollowsName rest name i = (mnemonic_of i ≡ name) × Follows rest i
-
--- the instruction has this token as its name, and the text after it gives its operands
-abbrev pub FollowsToken : List ℕ → List ℕ → Instr → Type 0
-FollowsToken token rest i = (name_of (mnemonic_of i) ≡ token) × Follows rest i

@@ -1,32 +1,7 @@
 -- How long the token at the front of a text is, for the contracts inside the lexer.
-use Rattle.std.specs.Prelude.{ℕ, ◌+◌, Bool, ◌&&◌, ◌==◌, List, [], ◌∷◌, drop, slice_index, if◌then◌else◌}
+use Rattle.std.specs.Prelude.{ℕ, List, [], drop}
 use Rattle.std.specs.List.{prefix_len}
-use Rattle.std.specs.Char.{is_ascii_digit, is_ascii_hexdigit}
-use Rattle.rv_text.specs.Tokens.{is_space, begins_name, continues_name, is_mark}
-
--- `0x` and a hexadecimal digit stand there
-abbrev pub begins_hex : List ℕ → Bool
-begins_hex text =
-    (slice_index text 0 == 48) && ((slice_index text 1 == 120) && is_ascii_hexdigit (slice_index text 2))
-
--- the length of the longest magnitude, 0 where none stands there
-unfoldable pub magnitude_len : List ℕ → ℕ
-magnitude_len text =
-    if begins_hex text then 2 + prefix_len is_ascii_hexdigit (drop 2 text)
-    else prefix_len is_ascii_digit text
-
--- the length of a number whose magnitude, after its minus, has this length
-abbrev pub after_sign : ℕ → ℕ
-after_sign n = if n == 0 then 0 else n + 1
-
--- the length of the longest token, 0 where none stands there
-unfoldable pub token_len : List ℕ → ℕ
-token_len [] = 0
-token_len (c ∷ cs) =
-    if begins_name c then 1 + prefix_len continues_name cs
-    else (if is_mark c then 1
-    else (if c == 45 then after_sign (magnitude_len cs)
-    else magnitude_len (c ∷ cs)))
+use Rattle.rv_text.specs.Tokens.{is_space}
 
 -- the text after its leading spaces
 unfoldable pub body_of : List ℕ → List ℕ

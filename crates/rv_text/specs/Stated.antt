@@ -12,7 +12,6 @@ use Rattle.rv_text.specs.declared.statement.Statement.{Statement}
 use Rattle.rv_text.specs.declared.statement.Statement.TheVariants as statement
 use Rattle.rv_text.specs.declared.statement.SandboxStatement.{SandboxStatement}
 use Rattle.rv_text.specs.declared.statement.SandboxStatement.TheVariants as within_sandbox
-use Rattle.rv_text.specs.declared.statement.Place.{Place}
 use Rattle.rv_text.specs.declared.statement.Place.TheVariants as place
 
 -- what a line states within the sandbox begun last; a name is its text
@@ -63,22 +62,6 @@ abbrev pub stated : Statement → Stated
 stated (statement.Format value) = format (number_of_format value)
 stated (statement.Sandbox size) = sandbox size
 stated (statement.Within what) = within (stated_within what)
-
--- where each statement within a sandbox may come
-abbrev pub place_within : StatedWithin → Place
-place_within (gate name service) = place.Gates
-place_within (compressed rvc) = place.Code
-place_within data_part = place.Code
-place_within (bytes values) = place.Data
-place_within (plain instrs) = place.Code
-place_within (jump instr name) = place.Code
-place_within (address rd name) = place.Code
-
--- where each statement may come
-abbrev pub place_of_stated : Stated → Place
-place_of_stated (format number) = place.Head
-place_of_stated (sandbox size) = place.Outside
-place_of_stated (within what) = place_within what
 
 -- the name of a label, a gate or a target: not too long
 abbrev pub IsShortLabel : List ℕ → Type 0

@@ -16,11 +16,6 @@ most_bytes = 1048576
 abbrev pub lines : List ℕ → List (List ℕ)
 lines text = slice_split (λ c. c == 10) text
 
--- the text begins with this line and a line feed, and then this
-pub record BeginsWithLine (text line rest : List ℕ) : Type 0 where
-  pub first : lines text ≡ line ∷ lines rest
-  pub shorter : length rest < length text
-
 -- a line without its comment, which begins with `#`
 abbrev pub uncommented : List ℕ → List ℕ
 uncommented line = before_first (λ c. c == 35) line

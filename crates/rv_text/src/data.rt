@@ -4,7 +4,8 @@ ghost use Rattle.std.specs.Option.{option_map};
 ghost use Rattle.rv_text.specs.declared.cause.TextCause.TheVariants as cause;
 ghost use Rattle.rv_text.specs.Keywords.{data_kind};
 ghost use Rattle.rv_text.specs.Lines.{NumberDeparts, MoreDeparts, ListDeparts};
-ghost use Rattle.rv_text.specs.Lists.{ReadsNumber, ReadsOne, ReadsAnother, ReadsMore, MoreDepartsAfter, ReadsList};
+ghost use Rattle.rv_text.specs.Lists.{ReadsNumber, ReadsMore, ReadsList};
+ghost use Rattle.rv_text.specs.private.Lists.{ReadsOne, ReadsAnother, MoreDepartsAfter};
 
 use crate::cause::TextCause;
 use crate::constant::push_number;

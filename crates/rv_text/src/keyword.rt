@@ -1,7 +1,7 @@
 //! The first words of statements: directives, pseudo-instructions and the names of instructions.
 ghost use Rattle.std.specs.Prelude.{◌≡◌, ◌<◌, IfSome, IfNone};
 ghost use Rattle.rv_text.specs.Keywords.{directive_name, directive_form, pseudo_name, pseudo_form, data_name, data_kind, keyword_name, place_of_keyword};
-ghost use Rattle.rv_text.specs.Lookup.{hash, candidate, mnemonic_in};
+ghost use Rattle.rv_text.specs.private.Lookup.{hash, candidate, mnemonic_in};
 ghost use Rattle.rv_text.specs.Mnemonics.{name_of};
 
 use crate::form::{NumberKind, Part};
@@ -229,7 +229,7 @@ const PLACES: [u8; 256] = [
 
 /// The hash of a name: 57, and then for each byte 103 times what was there before and the byte, modulo 256. The two
 /// numbers were found by trial: by them no two keywords have one hash.
-#[tactic(auto, using(std::proofs::lemmas::List::Sums::fold_more), unfolding(crate::specs::Lookup::hash))]
+#[tactic(auto, using(std::proofs::lemmas::List::Sums::fold_more), unfolding(crate::specs::private::Lookup::hash))]
 fn hash(name: &str) -> usize
     ensures value { result ≡ hash name.now }
     ensures small { result < 256 }

@@ -3,7 +3,8 @@ ghost use Rattle.std.specs.Prelude.{◌≡◌, ◌≤◌, length, IsTrue};
 ghost use Rattle.std.specs.List.{prefix_len};
 ghost use Rattle.std.specs.Char.{is_ascii_digit, is_ascii_hexdigit};
 ghost use Rattle.rv_text.specs.Tokens.{is_space, begins_name, continues_name, is_mark};
-ghost use Rattle.rv_text.specs.Scan.{magnitude_len, token_len, begins_hex, body_of};
+ghost use Rattle.rv_text.specs.private.Scan.{magnitude_len, token_len, begins_hex};
+ghost use Rattle.rv_text.specs.Scan.{body_of};
 ghost use Rattle.rv_text.specs.Next.{IsNext};
 
 /// What stands at the front of a text.
@@ -88,7 +89,7 @@ fn begins_hex(text: &[u8]) -> bool
 }
 
 /// The length of the longest number without a sign that stands at the front, 0 where none does.
-#[tactic(auto, unfolding(crate::specs::Scan::magnitude_len))]
+#[tactic(auto, unfolding(crate::specs::private::Scan::magnitude_len))]
 fn magnitude_len(text: &[u8]) -> usize
     ensures value { result ≡ magnitude_len text.now }
     ensures within { result ≤ length text.now }
@@ -101,7 +102,7 @@ fn magnitude_len(text: &[u8]) -> usize
 }
 
 /// The length of the longest token that stands at the front, 0 where none does.
-#[tactic(auto, unfolding(crate::specs::Scan::token_len))]
+#[tactic(auto, unfolding(crate::specs::private::Scan::token_len))]
 fn token_len(text: &[u8]) -> usize
     ensures value { result ≡ token_len text.now }
     ensures within { result ≤ length text.now }

@@ -6,7 +6,7 @@ ghost use Rattle.rv_text.specs.Tokens.{IsToken};
 ghost use Rattle.rv_text.specs.Keywords.{branch_form, jal_form, branch_states, jal_states, pseudo_form, pseudo_states, directive_form, directive_states, keyword_name};
 ghost use Rattle.rv_text.specs.Operands.{Departs};
 ghost use Rattle.rv_text.specs.Lines.{StatesAfter, InstrDeparts, RefusedWith, NameRefused};
-ghost use Rattle.rv_text.specs.Lists.{ReadsRow, ReadsInstr, ReadsAfter};
+ghost use Rattle.rv_text.specs.private.Lists.{ReadsRow, ReadsInstr, ReadsAfter};
 ghost use Rattle.rv_text.specs.Stated.{Stated, stated, IsRightStatement};
 
 use crate::cause::TextCause;

@@ -2,7 +2,8 @@
 ghost use Rattle.std.specs.Prelude.{◌≡◌, ◌⊎◌, ◌↔◌, IfOk, IfErr, IsTrue, Ok, Err};
 ghost use Rattle.rv_text.specs.declared.cause.TextCause.{TextCause};
 ghost use Rattle.rv_text.specs.declared.cause.TextCause.TheVariants as cause;
-ghost use Rattle.rv_text.specs.Reading.{FollowsName, FollowsToken};
+ghost use Rattle.rv_text.specs.Reading.{FollowsName};
+ghost use Rattle.rv_text.specs.private.Reading.{FollowsToken};
 ghost use Rattle.rv_word.specs.declared.instr.Instr.{Instr};
 ghost use Rattle.rv_word.specs.Spelling.{InRange};
 ghost use Rattle.rv_text.specs.Tokens.{IsName, IsToken};

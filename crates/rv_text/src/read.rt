@@ -7,7 +7,8 @@ ghost use Rattle.rv_text.specs.Tokens.{IsNumber, IsLabel, IsToken, begins_label,
 ghost use Rattle.rv_text.specs.Registers.{IsRegister};
 ghost use Rattle.rv_text.specs.Forms.{IsNumberOf};
 ghost use Rattle.rv_text.specs.Operands.{OperandValues, values_of, Stands, Departs, part_cause, label_cause, mode_name};
-ghost use Rattle.rv_text.specs.Reading.{Reads, KeepsOthers, SameAt, has_no_repeat, is_fresh};
+ghost use Rattle.rv_text.specs.Reading.{Reads, SameAt, has_no_repeat, is_fresh};
+ghost use Rattle.rv_text.specs.private.Reading.{KeepsOthers};
 
 use crate::cause::TextCause;
 use crate::form::{NumberKind, Part};

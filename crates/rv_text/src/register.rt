@@ -1,7 +1,7 @@
 //! The names of the registers: x0 to x31, and those of the ABI.
 ghost use Rattle.std.specs.Prelude.{◌≡◌, ◌<◌, ℕ, IfSome, IfNone};
 ghost use Rattle.rv_text.specs.Registers.{IsRegister};
-ghost use Rattle.rv_text.specs.Lookup.{of_number, pointer, of_two, of_three, find_register};
+ghost use Rattle.rv_text.specs.private.Lookup.{of_number, pointer, of_two, of_three, find_register};
 
 use rv_word::Reg;
 
@@ -60,7 +60,7 @@ fn of_three(letter: u8, tens: u8, units: u8) -> Option<u8>
 }
 
 /// The number of the register of this name.
-#[tactic(auto, unfolding(crate::specs::Lookup::find_register))]
+#[tactic(auto, unfolding(crate::specs::private::Lookup::find_register))]
 fn number_of(name: &str) -> Option<u8>
     ensures { result ≡ find_register name.now }
 {

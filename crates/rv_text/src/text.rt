@@ -5,7 +5,8 @@ ghost use Rattle.rv_text.specs.declared.cause.TextCause.TheVariants as causes;
 ghost use Rattle.rv_text.specs.Causes.{memory};
 ghost use Rattle.rv_text.specs.Leads.{Leads};
 ghost use Rattle.rv_source.specs.Source.{Sandbox};
-ghost use Rattle.rv_text.specs.Texts.{most_bytes, first_line, uncommented, lines, LinesLead, FirstRefused, LineFault, BeginsWithLine, MeansSource, IsFault};
+ghost use Rattle.rv_text.specs.Texts.{most_bytes, first_line, uncommented, lines, LinesLead, FirstRefused, LineFault, MeansSource, IsFault};
+ghost use Rattle.rv_text.specs.private.Texts.{BeginsWithLine};
 
 use crate::cause::TextCause;
 use crate::fault::TextFault;

@@ -17,7 +17,7 @@ use Rattle.rv_word.specs.Numbers.{modulo, bits}
 use Rattle.rv_word.specs.Formats.{r_format}
 use Rattle.rv_word.specs.Functs.{op_funct3, op_funct7, imm_funct3, load_funct3, store_funct3, cond_funct3}
 use Rattle.rv_word.specs.Spelling.{spelling, InRange, IsWordOf}
-use Rattle.rv_word.specs.Parts.{word_of, Fits}
+use Rattle.rv_word.specs.private.Parts.{word_of, Fits}
 
 -- the parts of a word are determined by it
 same_parts : (a7 a2 a1 a3 ad ao b7 b2 b1 b3 bd bo : ℕ) →

@@ -11,7 +11,7 @@ use Rattle.rv_word.specs.Numbers.{modulo, minus, IsBetween, IsEven}
 use Rattle.rv_word.specs.Functs.{is_shift}
 use Rattle.rv_word.specs.Spelling.{spelling, InRange, IsWordOf, IsImm12, IsImmOf, IsBranchOffset, IsJumpOffset}
 use Rattle.rv_word.specs.Laws.{WordIsDecided}
-use Rattle.rv_word.specs.Parts.{word_of, Fits, SpellsNone}
+use Rattle.rv_word.specs.private.Parts.{word_of, Fits, SpellsNone}
 use Rattle.rv_word.proofs.Cut.{parts, cut_is}
 use Rattle.rv_word.proofs.OneSpelling.{read, cut_read}
 use Rattle.rv_word.proofs.Wide.{are_wide}

@@ -10,7 +10,7 @@ use Rattle.rv_word.specs.declared.instr.Cond.{Cond}
 use Rattle.rv_word.specs.declared.instr.Instr.TheVariants.{Op, OpImm, Load, Store, Branch, Jal, Jalr, Lui, Auipc, Fence, Ecall, Ebreak}
 use Rattle.rv_word.specs.Functs.{op_funct3, op_funct7, imm_funct3, is_shift, shift_funct7, load_funct3, store_funct3, cond_funct3}
 use Rattle.rv_word.specs.Spelling.{spelling}
-use Rattle.rv_word.specs.Parts.{word_of, Fits, SpellsNone}
+use Rattle.rv_word.specs.private.Parts.{word_of, Fits, SpellsNone}
 use Rattle.rv_word.proofs.Cut.{parts, cut, imm_cut, cut_is, opcode_of, opcode_is}
 
 -- the fields of two equal cuts are equal

@@ -18,7 +18,7 @@ use Rattle.rv_word.specs.Numbers.{modulo, bits, minus, IsBetween, IsEven}
 use Rattle.rv_word.specs.Functs.{op_funct3, op_funct7, imm_funct3, load_funct3, store_funct3, cond_funct3}
 use Rattle.rv_word.specs.Spelling.{spelling, InRange, IsImm12, IsImmOf}
 use Rattle.rv_word.specs.Laws.{OneSpelling}
-use Rattle.rv_word.specs.Parts.{word_of}
+use Rattle.rv_word.specs.private.Parts.{word_of}
 use Rattle.std.specs.List.{find}
 use Rattle.rv_word.proofs.Cut.{parts, cut, imm_cut, cut_fits, cut_sum, cut_is}
 

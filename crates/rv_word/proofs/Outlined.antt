@@ -4,7 +4,7 @@ use Rattle.std.specs.Option.{option_map}
 use Rattle.rv_word.specs.declared.instr.Instr.{Instr}
 use Rattle.rv_word.specs.declared.outline.Outline.{Outline}
 use Rattle.rv_word.specs.Outlines.{outline, IsWordThat}
-use Rattle.rv_word.specs.Parts.{SpellsNone}
+use Rattle.rv_word.specs.private.Parts.{SpellsNone}
 use Rattle.rv_word.specs.Spelling.{IsWordOf}
 
 mapped_found : (word : ℕ) (o : Option Instr) → IfSome o (IsWordOf word) → IfSome (option_map outline o) (IsWordThat word)

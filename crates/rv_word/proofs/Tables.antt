@@ -18,7 +18,7 @@ use Rattle.rv_word.specs.Numbers.{modulo, bits}
 use Rattle.rv_word.specs.Functs.{op_funct3, op_funct7, imm_funct3, is_shift, shift_funct7}
 use Rattle.rv_word.specs.Outlines.{outline, IsWordThat}
 use Rattle.rv_word.specs.Spelling.{spelling, InRange, IsWordOf, IsImm12}
-use Rattle.rv_word.specs.Parts.{word_of, Fits}
+use Rattle.rv_word.specs.private.Parts.{word_of, Fits}
 use Rattle.rv_word.proofs.Cut.{cut, imm_cut, cut_is}
 use Rattle.rv_word.proofs.OneSpelling.{op_at, imm_op_at, shift_at}
 

@@ -4,7 +4,7 @@ use Rattle.rv_word.specs.declared.parts.Parts.{Parts}
 use Rattle.rv_word.specs.declared.instr.Instr.{Instr}
 use Rattle.rv_word.specs.declared.instr.Instr.TheVariants.{Op, OpImm, Load, Store, Branch, Jal, Jalr, Lui, Auipc, Fence, Ecall, Ebreak}
 use Rattle.rv_word.specs.Numbers.{bits}
-use Rattle.rv_word.specs.Parts.{word_of, Fits}
+use Rattle.rv_word.specs.private.Parts.{word_of, Fits}
 use Rattle.std.proofs.lemmas.Bool.{ne_eqb}
 use Rattle.std.proofs.Common.{eq-eqb}
 use Rattle.rv_word.specs.declared.length.Length.TheVariants.{Wide}

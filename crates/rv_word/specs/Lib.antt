@@ -6,4 +6,4 @@ pub mod Lengths
 pub mod Writes
 pub mod Outlines
 pub mod Laws
-pub mod Parts
+pub mod private

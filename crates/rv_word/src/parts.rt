@@ -2,7 +2,7 @@
 ghost use Rattle.std.specs.Prelude.{◌≡◌, ◌^◌, ◌<◌};
 ghost use Rattle.rv_word.specs.Numbers.{modulo};
 ghost use Rattle.rv_word.specs.Formats.{i_format, s_format, b_format, u_format, j_format};
-ghost use Rattle.rv_word.specs.Parts.{word_of, Fits};
+ghost use Rattle.rv_word.specs.private.Parts.{word_of, Fits};
 ghost use Rattle.rv_word.specs.Spelling.{IsImm12, IsBranchOffset, IsJumpOffset};
 
 use crate::bits::side_by_side;

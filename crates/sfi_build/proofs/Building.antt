@@ -20,7 +20,8 @@ use Rattle.sfi_link.specs.Answers as link
 use Rattle.sfi_link.specs.Laws as links
 use Rattle.sfi_link.specs.Standing as links_stand
 use Rattle.sfi_link.specs.Standing.{ImageRunsAs}
-use Rattle.sfi_build.specs.Texts.{IsTextBuild, IsCleanImage, IsBuildFault, IsWantOfMemory, Builds, AnswersBuild, AnswersBuildFault}
+use Rattle.sfi_build.specs.Texts.{IsTextBuild, IsCleanImage, IsBuildFault, IsWantOfMemory, AnswersBuild, AnswersBuildFault}
+use Rattle.sfi_build.specs.private.Texts.{Builds}
 
 -- ---- what each call answered
 

@@ -44,11 +44,6 @@ IsWantOfMemory (Text f) = f ≡ memory
 IsWantOfMemory (Rewrite f) = f ≡ rewriter.Memory
 IsWantOfMemory (Link f) = f ≡ linker.Memory
 
--- the bytes that were made are the text's build, or it has the fault, or memory ran out: a word of a private contract
-abbrev pub Builds : List ℕ → Result (Vec ℕ Global) BuildFault → Type 0
-Builds text (Ok bytes) = IsTextBuild text bytes.items
-Builds text (Err f) = IsWantOfMemory f ⊎ IsBuildFault text f
-
 -- the answer is these bytes, or memory ran out
 abbrev pub AnswersBuild : List ℕ → Result (Vec ℕ Global) BuildFault → Type 0
 AnswersBuild bytes (Ok v) = v.items ≡ bytes

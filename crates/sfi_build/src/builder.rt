@@ -7,7 +7,8 @@ ghost use Rattle.sfi_build.specs.declared.fault.BuildFault.{BuildFault};
 ghost use Rattle.sfi_build.specs.declared.fault.BuildFault.TheVariants.{Text};
 ghost use Rattle.sfi_link.specs.Building.{IsBuild};
 ghost use Rattle.sfi_link.specs.Standing.{ImageRunsAs};
-ghost use Rattle.sfi_build.specs.Texts.{IsTextBuild, IsCleanImage, IsBuildFault, IsWantOfMemory, Builds, AnswersBuild, AnswersBuildFault};
+ghost use Rattle.sfi_build.specs.Texts.{IsTextBuild, IsCleanImage, IsBuildFault, IsWantOfMemory, AnswersBuild, AnswersBuildFault};
+ghost use Rattle.sfi_build.specs.private.Texts.{Builds};
 
 use crate::fault::BuildFault;
 use rv_text::laws::{

@@ -18,7 +18,7 @@ use Rattle.sfi_check.specs.Laws.{CleanRunsSafely}
 use Rattle.sfi_check.specs.Verdict.{bundle_count}
 use Rattle.sfi_check.specs.declared.stream_answer.StreamAnswer.TheVariants as answers
 use Rattle.sfi_check.specs.declared.tally.Tally.{Tally}
-use Rattle.sfi_check.specs.Tallies.{Tallies, IsSoFar, IsCut, verdict_by, verdict_of}
+use Rattle.sfi_check.specs.private.Tallies.{Tallies, IsSoFar, IsCut, verdict_by, verdict_of}
 use Rattle.sfi_check.specs.Streams.{IsVerdictOn}
 use Rattle.sfi_check.proofs.Safe.{all_safe}
 

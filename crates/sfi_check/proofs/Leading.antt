@@ -18,7 +18,7 @@ use Rattle.sfi_scan.specs.declared.finding.Finding.{Finding}
 use Rattle.sfi_scan.specs.Bundles.{IsWithin}
 use Rattle.sfi_scan.specs.Findings.{AreBundleFindings}
 use Rattle.sfi_check.specs.declared.tally.Tally.{Tally}
-use Rattle.sfi_check.specs.Tallies.{IsSoFar}
+use Rattle.sfi_check.specs.private.Tallies.{IsSoFar}
 use Rattle.sfi_check.proofs.Tallying.{field_tallies, bundle_tallies, init_tallies, fault_onwards, Adds}
 
 code_test : (before : List Span) (f : Fields) → IsFirstFault before f field_tests None → IsCodeRegion f.format f.code_base f.code_size

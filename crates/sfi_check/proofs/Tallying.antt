@@ -19,7 +19,7 @@ use Rattle.sfi_scan.specs.Bundles.{place_of, bundle_bytes}
 use Rattle.sfi_scan.specs.Findings.{AreBundleFindings, AreFindings, AreFindingsOfFirst, AreImageFindings}
 use Rattle.sfi_check.specs.declared.tally.Tally.{Tally}
 use Rattle.sfi_check.specs.Verdict.{bundle_count}
-use Rattle.sfi_check.specs.Tallies.{AreFindingsSoFar, AreFindingsWithin, Tallies}
+use Rattle.sfi_check.specs.private.Tallies.{AreFindingsSoFar, AreFindingsWithin, Tallies}
 use Rattle.sfi_check.proofs.Findings.{findings_append}
 
 -- a test on two numbers went one way

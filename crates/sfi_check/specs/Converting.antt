@@ -1,5 +1,5 @@
 -- What `convert` answers: an accepted image of the first format becomes that of the same sandboxes in the second.
-use Rattle.std.specs.Prelude.{◌≡◌, ◌≢◌, ℕ, List, [], take, Result, Ok, Err, Vec, IfOk, IfErr}
+use Rattle.std.specs.Prelude.{◌≡◌, ◌≢◌, ℕ, List, [], take, Result, Ok, Err, Vec}
 use Rattle.std.specs.Global.{Global}
 use Rattle.std.specs.List.{All}
 use Rattle.sfi_image.specs.declared.format.Format.TheVariants.{Sfi1, Sfi2}
@@ -118,22 +118,3 @@ AnswersConversion new (Err (Refused r)) = ⊥
 AnswersConversion new (Err NotOld) = ⊥
 AnswersConversion new (Err (Stack found)) = ⊥
 AnswersConversion new (Err Memory) = Unit {0}
-
--- ---- for private contracts
-
--- the fault is the findings of these sandboxes, of which there is at least one, or want of memory
-abbrev pub IsStackOf : List Part → ConvertFault → Type 0
-IsStackOf ps (Refused r) = ⊥
-IsStackOf ps NotOld = ⊥
-IsStackOf ps (Stack found) = AreImageFindings ps found.items × (found.items ≢ [])
-IsStackOf ps Memory = Unit {0}
-
--- these sandboxes break no rule, or the fault says which
-pub record ChecksStack (ps : List Part) (answer : Result (Unit {0}) ConvertFault) : Type 0 where
-  pub clean : IfOk answer (λ done. AreImageFindings ps [])
-  pub fault : IfErr answer (IsStackOf ps)
-
--- the answer on the accepted image of these sandboxes
-pub record Converts (ps : List Part) (answer : Result (Vec ℕ Global) ConvertFault) : Type 0 where
-  pub converted : IfOk answer (λ new. IsAccepted new.items (all_in_format Sfi2 ps))
-  pub fault : IfErr answer (IsStackOf (all_in_format Sfi2 ps))

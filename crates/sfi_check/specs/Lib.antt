@@ -10,6 +10,6 @@ pub mod Samples
 pub mod Needed
 pub mod OneVerdict
 pub mod Verdict
-pub mod Tallies
 pub mod Streams
 pub mod Converting
+pub mod private

@@ -1,5 +1,5 @@
 -- What `check` says of an image's bytes.
-use Rattle.std.specs.Prelude.{◌≡◌, ◌≢◌, ◌/◌, ℕ, List, [], length, sum_by, Result, Ok, Err, IfOk, IfErr}
+use Rattle.std.specs.Prelude.{◌≡◌, ◌≢◌, ◌/◌, ℕ, List, [], length, sum_by, Result, Ok, Err}
 use Rattle.sfi_policy.specs.Limits.{bundle_size}
 use Rattle.sfi_image.specs.declared.fault.LayoutFault.{LayoutFault}
 use Rattle.sfi_image.specs.Spelling.{Part}
@@ -11,7 +11,6 @@ use Rattle.sfi_check.specs.declared.refusal.Refusal.{Refusal}
 use Rattle.sfi_check.specs.declared.refusal.Refusal.TheVariants.{Layout, Findings, Memory}
 use Rattle.sfi_check.specs.Safety.{AllRunSafely}
 use Rattle.sfi_check.specs.Stack.{AllCallWithStack}
-use Rattle.sfi_check.specs.Refusals.{IfLayoutFault, IfFindings}
 
 -- ---- images
 
@@ -43,12 +42,6 @@ pub record HasFindings (bytes : List ℕ) (found : List Finding) : Type 0 where
   pub image : IsImage bytes parts
   pub found_are : AreImageFindings parts found
   pub some : found ≢ []
-
--- the answer on an image with these parts, want of memory aside
-pub record Judges (ps : List Part) (answer : Result (List Part) Refusal) : Type 0 where
-  pub accepted : IfOk answer (λ qs. (qs ≡ ps) × AreImageFindings ps [])
-  pub findings : IfErr answer (IfFindings (λ found. AreImageFindings ps found × (found ≢ [])))
-  pub layout : IfErr answer (IfLayoutFault (λ k. ⊥))
 
 -- ---- answers, want of memory aside
 

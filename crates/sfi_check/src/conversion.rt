@@ -7,7 +7,8 @@ ghost use Rattle.sfi_image.specs.Parts.{IsRightLayout};
 ghost use Rattle.sfi_image.specs.Faults.{IsFault};
 ghost use Rattle.sfi_scan.specs.declared.finding.Finding.{Finding};
 ghost use Rattle.sfi_check.specs.Verdict.{HasFindings};
-ghost use Rattle.sfi_check.specs.Converting.{number_of, IsSecond, HasStackFindings, IsConversion, AreOfStack, IfStack, IsConvertFault, ChecksStack, Converts, AnswersNotOld, AnswersLayout, AnswersFindings, AnswersStack, AnswersConversion};
+ghost use Rattle.sfi_check.specs.Converting.{number_of, IsSecond, HasStackFindings, IsConversion, AreOfStack, IfStack, IsConvertFault, AnswersNotOld, AnswersLayout, AnswersFindings, AnswersStack, AnswersConversion};
+ghost use Rattle.sfi_check.specs.private.Converting.{ChecksStack, Converts};
 
 use crate::accepted::Accepted;
 use crate::refusal::Refusal;

@@ -6,7 +6,7 @@ ghost use Rattle.sfi_image.specs.Keeping.{StandsFor, left_most};
 ghost use Rattle.sfi_image.specs.Sources.{Streams};
 ghost use Rattle.sfi_scan.specs.Bundles.{IsWithin};
 ghost use Rattle.sfi_scan.specs.declared.finding.Finding.{Finding};
-ghost use Rattle.sfi_check.specs.Tallies.{IsSoFar, Steps, Goes, verdict_of};
+ghost use Rattle.sfi_check.specs.private.Tallies.{IsSoFar, Steps, Goes, verdict_of};
 ghost use Rattle.sfi_check.specs.Streams.{IsVerdictOn};
 
 use crate::laws::clean_runs_safely;

@@ -8,7 +8,8 @@ ghost use Rattle.sfi_scan.specs.declared.finding.Finding.{Finding};
 ghost use Rattle.sfi_scan.specs.Findings.{AreImageFindings};
 ghost use Rattle.sfi_check.specs.Refusals.{IfLayoutFault, IfFindings};
 ghost use Rattle.sfi_check.specs.Safety.{AllRunSafely};
-ghost use Rattle.sfi_check.specs.Verdict.{Judges, IsAccepted, HasFindings, AnswersLayout, AnswersFindings, AnswersAccepted};
+ghost use Rattle.sfi_check.specs.private.Verdict.{Judges};
+ghost use Rattle.sfi_check.specs.Verdict.{IsAccepted, HasFindings, AnswersLayout, AnswersFindings, AnswersAccepted};
 
 use crate::accepted::Accepted;
 use crate::refusal::Refusal;

@@ -1,12 +1,10 @@
 -- The command line of `sfi`, and the job that its words ask for.
-use Rattle.std.specs.Prelude.{◌≡◌, ◌↔◌, ◌≤◌, IsTrue, IsErr, ℕ, pos, Ok, List, [], ◌∷◌, Bool, false, Option, Some, None, codes, true}
+use Rattle.std.specs.Prelude.{◌≡◌, ◌↔◌, ◌≤◌, IsTrue, IsErr, ℕ, pos, Ok, List, [], ◌∷◌, Bool, Option, Some, None, codes, true}
 use Rattle.std.specs.Str.Parse.{IsNumeral, digits_value, without_leading_plus}
 use Rattle.hex.specs.Hex.{decode_of}
 use Rattle.clap.specs.Faults.{fault_of}
-use Rattle.clap.specs.Simple.{App, Shape, app_of, new_app, new_rule, new_shape, on_top, subcommand_of, with_subcommand}
+use Rattle.clap.specs.Simple.{App, Shape, new_app, new_rule, new_shape, on_top, subcommand_of, with_subcommand}
 use Rattle.clap.specs.Walk.{Row, Rule, Text, first_of}
-use Rattle.clap.specs.declared.builder.command.Command.{Command}
-use Rattle.clap.specs.declared.builder.command.Command.TheViews.{out-Command}
 use Rattle.clap.specs.declared.builder.action.ArgAction.TheVariants.{SetTrue}
 use Rattle.clap.specs.declared.builder.value_parser.ValueParser.TheVariants.{Signed}
 use Rattle.sfi_command.specs.declared.job.Job.{Job}
@@ -69,11 +67,6 @@ convert = new_shape (codes "convert")
 -- the command line: the program with its subcommands
 abbrev pub sfi : App
 sfi = with_subcommand (with_subcommand (with_subcommand (with_subcommand (with_subcommand program check) dis) build) run) convert
-
--- the command has this shape, and no argument that its subcommands share (a word of private contracts)
-pub record IsCommandOf (s : Shape) (c : Command) : Type 0 where
-  pub shape_is : app_of c ≡ record { top = s; subs = [] }
-  pub local : (out-Command c).has_globals ≡ false
 
 -- ---- jobs
 
@@ -139,22 +132,3 @@ abbrev pub IsFaultOf : List Text → JobFault → Type 0
 IsFaultOf words (Usage text) = AsksNothing words
 IsFaultOf words Hex = AsksNoInput words
 IsFaultOf words Memory = Unit {0}
-
--- ---- for private contracts
-
--- the subcommand is neither a job nor a run whose input spells no bytes
-pub record NamesNothing (named : Option (Text × List Row)) : Type 0 where
-  pub no_job : (job : Job) → ¬ Names named job
-  pub no_run : ¬ NamesNoInput named
-
--- the fault of a subcommand, with what was found for its options
-abbrev pub IsFaultOfNamed : Option (Text × List Row) → JobFault → Type 0
-IsFaultOfNamed named (Usage text) = NamesNothing named
-IsFaultOfNamed named Hex = NamesNoInput named
-IsFaultOfNamed named Memory = Unit {0}
-
--- the fault of the text of a run's input
-abbrev pub IsInputFault : Option Text → JobFault → Type 0
-IsInputFault input (Usage text) = ⊥
-IsInputFault input Hex = IsNoInput input
-IsInputFault input Memory = Unit {0}

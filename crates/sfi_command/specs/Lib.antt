@@ -1,3 +1,4 @@
 pub mod Numbers
 pub mod Jobs
 pub mod Command
+pub mod private

@@ -6,7 +6,8 @@ ghost use Rattle.clap.specs.Simple.{app_of, new_app};
 ghost use Rattle.clap.specs.Values.{kind_of};
 ghost use Rattle.clap.specs.Walk.{first_of, rows_of, rule_of};
 ghost use Rattle.clap.specs.declared.builder.command.Command.TheViews.{out-Command};
-ghost use Rattle.sfi_command.specs.Command.{check, count_rule, flag_rule, input_rule, program, quantum_most, rounds_most, run, sfi, Asks, IsFaultOf, IsCommandOf, IsCount, IsFaultOfNamed, IsGiven, IsInputFault, IsInputOf, Names};
+ghost use Rattle.sfi_command.specs.Command.{check, count_rule, flag_rule, input_rule, program, quantum_most, rounds_most, run, sfi, Asks, IsFaultOf, IsCount, IsGiven, IsInputOf, Names};
+ghost use Rattle.sfi_command.specs.private.Command.{IsCommandOf, IsFaultOfNamed, IsInputFault};
 ghost use Rattle.sfi_command.specs.Numbers.{number_of};
 
 use crate::help;

@@ -7,7 +7,8 @@ use Rattle.sfi_host.specs.Hosts.{Call, Answer, Host, Limited, limited}
 use Rattle.sfi_host.specs.Slots.{Slot}
 use Rattle.sfi_host.specs.Joint.{Machine, IsMachine, Then, TurnEnds, RunEnds, Moved, turned, Joined, joined, given, and_plan, turn_and, after_turn}
 use Rattle.sfi_host.specs.Plans.{IsJoint, IsCutJoint}
-use Rattle.sfi_host.specs.Limits.{allow, allows, with_left, Comes, IsTurnOf, IsCutTurnOf, SamePlan, IsPlanOnItsWay, IsPlanStep, IsPlanCut}
+use Rattle.sfi_host.specs.Limits.{allow, allows, with_left, Comes, IsTurnOf, IsCutTurnOf}
+use Rattle.sfi_host.specs.private.Limits.{SamePlan, IsPlanOnItsWay, IsPlanStep, IsPlanCut}
 use Rattle.sfi_host.specs.Worlds.{Sandboxes, slots_of, IsSafeWorld}
 use Rattle.sfi_host.proofs.Turning.{allows_both}
 

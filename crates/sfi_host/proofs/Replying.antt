@@ -23,7 +23,8 @@ use Rattle.sfi_host.specs.Regions.{bytes_in, bytes_outside, IsWhole}
 use Rattle.sfi_host.specs.Slots.{Bounds, Slot, one_more, own}
 use Rattle.sfi_host.specs.Joint.{service_at, call_of, with_arguments, with_data, replied, then_of}
 use Rattle.sfi_host.specs.Moves.{ChangesOwn, TakesSome}
-use Rattle.sfi_host.specs.Sandboxes.{seat_of, call_by, IsTold, IsNotTold, after_told, going_after, next_of, IsReplied, IsNotReplied}
+use Rattle.sfi_host.specs.Sandboxes.{seat_of, next_of, IsReplied, IsNotReplied}
+use Rattle.sfi_host.specs.private.Sandboxes.{call_by, IsTold, IsNotTold, after_told, going_after}
 use Rattle.sfi_host.specs.Worlds.{slot_of, state_in, IsSafeSeat, StaysOutside}
 use Rattle.sfi_host.proofs.Leaving.{data_of_own, put_back}
 use Rattle.sfi_host.proofs.Keeping as keep

@@ -19,3 +19,4 @@ pub mod Programs
 pub mod Steps
 pub mod Laws
 pub mod Moves
+pub mod private

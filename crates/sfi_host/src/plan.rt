@@ -1,7 +1,7 @@
 //! A plan of turns.
 ghost use Rattle.std.specs.Prelude.{◌≡◌, ◌∷◌, ◌<◌, [], length, ℕ};
 ghost use Rattle.sfi_host.specs.Joint.{Machine, IsMachine};
-ghost use Rattle.sfi_host.specs.Limits.{IsPlanStep, IsPlanCut};
+ghost use Rattle.sfi_host.specs.private.Limits.{IsPlanStep, IsPlanCut};
 ghost use Rattle.sfi_host.specs.Moves.{HaveMoved};
 ghost use Rattle.sfi_host.specs.Programs.{AreDecoded};
 ghost use Rattle.sfi_host.specs.Plans.{IsJoint, IsCutJoint};

@@ -5,7 +5,8 @@ use Rattle.sfi_image.specs.declared.fields.Fields.{Fields}
 use Rattle.sfi_image.specs.declared.span.Span.{Span}
 use Rattle.sfi_image.specs.declared.fault.LayoutFault.{LayoutFault}
 use Rattle.sfi_image.specs.Spelling.{Part, fields_of, AreFieldWords, AreGateWords}
-use Rattle.sfi_image.specs.Spans.{AreApart, IsBounded, code_span, guarded_span, spans_of}
+use Rattle.sfi_image.specs.Spans.{AreApart, code_span, guarded_span, spans_of}
+use Rattle.sfi_image.specs.private.Spans.{IsBounded}
 use Rattle.sfi_image.specs.Gates.{AreGates}
 use Rattle.sfi_image.specs.Parts.{IsRightPart}
 use Rattle.sfi_image.specs.Tests.{FieldTest, Passes, IsFirstFault, field_tests}

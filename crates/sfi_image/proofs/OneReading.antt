@@ -11,7 +11,7 @@ use Rattle.sfi_image.specs.declared.fault.LayoutFault.{LayoutFault}
 use Rattle.sfi_image.specs.declared.fault.LayoutFault.TheVariants.{Count, Short, Gates, Trailing}
 use Rattle.sfi_image.specs.declared.fault.ImageFault.{ImageFault}
 use Rattle.sfi_image.specs.declared.fault.ImageFault.TheVariants as errors
-use Rattle.sfi_image.specs.Outcome.{Reads}
+use Rattle.sfi_image.specs.private.Outcome.{Reads}
 use Rattle.sfi_image.specs.Spelling.{Part, fields_of, format_of, number, gate, part, spelling, AreGateWords}
 use Rattle.sfi_image.specs.Formats.{magic}
 use Rattle.sfi_image.specs.Spans.{AreApart, code_span, spans_of, spans}

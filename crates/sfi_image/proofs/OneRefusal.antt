@@ -18,7 +18,8 @@ use Rattle.sfi_image.specs.Parts.{IsRightPart, AreOf, AreRight, IsRightLayout}
 use Rattle.sfi_image.specs.Tests.{field_tests}
 use Rattle.sfi_image.specs.Faults.{IsBodyFault, IsPartFault, ArePartsFault, IsFault}
 use Rattle.sfi_image.specs.Writing.{HasWrongGate, HasFault, HasWrongPart, HaveFault}
-use Rattle.sfi_image.specs.Outcome.{IfLayout, Reads}
+use Rattle.sfi_image.specs.Outcome.{IfLayout}
+use Rattle.sfi_image.specs.private.Outcome.{Reads}
 use Rattle.sfi_image.proofs.GateLists.{front_gates}
 use Rattle.sfi_image.proofs.SpanLists.{front_apart}
 use Rattle.sfi_image.proofs.FieldTests.{part_passes}

@@ -14,13 +14,15 @@ use Rattle.sfi_image.specs.Spelling.{Part, number, fields, gate, part, IsWord, A
 use Rattle.sfi_image.specs.Faults.{IsFault}
 use Rattle.sfi_image.specs.Fronts.{Front, front, head, IsRightFront, want_of, IsLess, part_of, after_parts, after_init, after_code, after_gates, HasFaultWhateverFollows}
 use Rattle.sfi_image.specs.Fronts.Front.{Empty, AfterMagic, AfterCount, InGates, InCode, InInit, Whole}
-use Rattle.sfi_image.specs.Keeping.{ReaderState, StandsFor, Leads, next_code}
+use Rattle.sfi_image.specs.Keeping.{ReaderState, StandsFor, Leads}
+use Rattle.sfi_image.specs.private.Keeping.{next_code}
 use Rattle.sfi_image.proofs.Steps.{head_fault}
 use Rattle.sfi_image.proofs.Following.{same_or_not, head_push}
 use Rattle.sfi_image.proofs.Cancelling.{same_gate, same_fields, same_number}
 use Rattle.sfi_image.specs.declared.fault.ImageFault.{ImageFault}
 use Rattle.sfi_image.specs.declared.fault.ImageFault.TheVariants as errors
-use Rattle.sfi_image.specs.Outcome.{IfLayout, Reads}
+use Rattle.sfi_image.specs.Outcome.{IfLayout}
+use Rattle.sfi_image.specs.private.Outcome.{Reads}
 use Rattle.std.proofs.lemmas.List.Elements.{All-head, All-tail}
 use Rattle.sfi_image.proofs.Standing.{leads, init_stand}
 

@@ -9,11 +9,13 @@ use Rattle.sfi_image.specs.declared.fields.Fields.{Fields}
 use Rattle.sfi_image.specs.declared.want.Next.TheVariants as next
 use Rattle.sfi_image.specs.declared.want.Want.TheVariants as wants
 use Rattle.sfi_image.specs.Spelling.{Part, fields_of}
-use Rattle.sfi_image.specs.Spans.{AreApart, IsBounded, spans, spans_of}
+use Rattle.sfi_image.specs.Spans.{AreApart, spans, spans_of}
+use Rattle.sfi_image.specs.private.Spans.{IsBounded}
 use Rattle.sfi_image.specs.Parts.{IsRightPart}
 use Rattle.sfi_image.specs.Fronts.{Front, want_of, IsLengthOf}
 use Rattle.sfi_image.specs.Fronts.Front.{Empty, AfterMagic, AfterCount, InGates, InCode, InInit, Whole}
-use Rattle.sfi_image.specs.Keeping.{ReaderState, StandsFor, IsReader, MayTake, is_first}
+use Rattle.sfi_image.specs.Keeping.{ReaderState, StandsFor, IsReader}
+use Rattle.sfi_image.specs.private.Keeping.{MayTake, is_first}
 use Rattle.sfi_image.proofs.PartLists.{right_bounded}
 use Rattle.sfi_image.proofs.Standing.{region, first_is}
 

@@ -14,13 +14,15 @@ use Rattle.sfi_image.specs.declared.span.Span.{Span}
 use Rattle.sfi_image.specs.declared.fault.LayoutFault.{LayoutFault}
 use Rattle.sfi_image.specs.declared.fault.LayoutFault.TheVariants as faults
 use Rattle.sfi_image.specs.Spelling.{Part, fields_of, AreFieldWords, AreGateWords}
-use Rattle.sfi_image.specs.Spans.{AreApart, IsBounded, code_span, code_region, spans_of, spans}
+use Rattle.sfi_image.specs.Spans.{AreApart, code_span, code_region, spans_of, spans}
+use Rattle.sfi_image.specs.private.Spans.{IsBounded}
 use Rattle.sfi_image.specs.Formats.{code_most}
 use Rattle.sfi_policy.specs.Limits.{gates_most}
 use Rattle.sfi_image.specs.Gates.{AreGates}
 use Rattle.sfi_image.specs.Parts.{IsRightPart, AreRight}
 use Rattle.sfi_image.specs.Tests.{IsFirstFault, field_tests}
-use Rattle.sfi_image.specs.Writing.{HasWrongGate, HasFault, HaveFault, capped, capped_fields}
+use Rattle.sfi_image.specs.Writing.{HasWrongGate, HasFault, HaveFault}
+use Rattle.sfi_image.specs.private.Writing.{capped, capped_fields}
 use Rattle.sfi_image.proofs.Formats.{code_at_most}
 use Rattle.sfi_image.proofs.Regions.{not_region}
 use Rattle.sfi_image.proofs.FieldTests.{right_part, all_pass}

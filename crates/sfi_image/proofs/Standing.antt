@@ -17,7 +17,8 @@ use Rattle.sfi_image.specs.Parts.{AreOf, AreRight}
 use Rattle.sfi_image.specs.Tests.{IsFirstFault, field_tests}
 use Rattle.sfi_image.specs.Fronts.{Front, IsHead, IsOpened, IsRightFront, part_of, after_parts, after_init, after_code, after_gates, Follows}
 use Rattle.sfi_image.specs.Fronts.Front.{Empty, AfterMagic, AfterCount, InGates, InCode, InInit, Whole}
-use Rattle.sfi_image.specs.Keeping.{ReaderState, KeepsHead, KeepsFields, StandsFor, KeepsCode, IsReader, Leads, next_part, next_init, next_code, next_gate, AreAhead, AreRest, is_first, is_one_of}
+use Rattle.sfi_image.specs.Keeping.{ReaderState, KeepsHead, KeepsFields, StandsFor, KeepsCode, IsReader, Leads, AreAhead, AreRest, is_one_of}
+use Rattle.sfi_image.specs.private.Keeping.{next_part, next_init, next_code, next_gate, is_first}
 use Rattle.sfi_image.proofs.FieldTests.{all_pass}
 use Rattle.sfi_image.proofs.PartLists.{spans_push}
 use Rattle.sfi_image.proofs.Bundles.{whole_bundles}

@@ -17,3 +17,4 @@ pub mod Keeping
 pub mod Reader
 pub mod Sources
 pub mod Reading
+pub mod private

@@ -53,10 +53,3 @@ upper_guard p = record { base = p.data_base + p.data_size; size = guard }
 -- the spans of all
 abbrev pub spans : List Part → List Span
 spans ps = flat_map (λ p. spans_of (fields_of p)) ps
-
--- ---- in 64 bits, for private contracts
-
--- it holds an address, and its end has 64 bits
-pub record IsBounded (s : Span) : Type 0 where
-  pub some : 0 < s.size
-  pub end : s.base + s.size < 2 ^ 64

@@ -1,7 +1,6 @@
 -- What is wrong with sandboxes that are to be written: what reading their bytes would find first.
-use Rattle.std.specs.Prelude.{◌≡◌, ◌≤◌, ◌⊎◌, ℕ, List, [], ◌∷◌, ◌++◌, length, Some, None, nat_le, if◌then◌else◌}
+use Rattle.std.specs.Prelude.{◌≡◌, ◌≤◌, ◌⊎◌, ℕ, List, [], ◌∷◌, ◌++◌, length, Some, None}
 use Rattle.sfi_policy.specs.Limits.{sandboxes_most}
-use Rattle.sfi_image.specs.declared.fields.Fields.{Fields}
 use Rattle.sfi_image.specs.declared.part.Gate.{Gate}
 use Rattle.sfi_image.specs.declared.span.Span.{Span}
 use Rattle.sfi_image.specs.declared.fault.LayoutFault.{LayoutFault}
@@ -33,17 +32,3 @@ abbrev pub HaveFault : List Part → LayoutFault → Type 0
 HaveFault ps k =
     ((¬ ((1 ≤ length ps) × (length ps ≤ sandboxes_most))) × (k ≡ Count))
     ⊎ ((1 ≤ length ps) × (length ps ≤ sandboxes_most) × HasWrongPart ps k)
-
--- ---- for private contracts
-
--- the number, or the greatest of 32 bits where it has more
-abbrev pub capped : ℕ → ℕ
-capped n = if nat_le n 0xffffffff then n else 0xffffffff
-
--- the seven fields, with lengths that fit
-abbrev pub capped_fields : Part → Fields
-capped_fields p = record (fields_of p) {
-  code_size = capped (length p.code);
-  gate_count = capped (length p.gates);
-  init_len = capped (length p.init);
-}

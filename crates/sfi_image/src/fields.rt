@@ -1,7 +1,8 @@
 //! The seven fields of a sandbox and their tests.
 ghost use Rattle.std.specs.Prelude.{◌≡◌, ◌≤◌, ◌↔◌, ◌++◌, IsTrue, OnOk};
 ghost use Rattle.std.specs.List.{All, AllPairs};
-ghost use Rattle.sfi_image.specs.Spans.{AreApart, IsBounded, code_span, guarded_span, spans_of};
+ghost use Rattle.sfi_image.specs.Spans.{AreApart, code_span, guarded_span, spans_of};
+ghost use Rattle.sfi_image.specs.private.Spans.{IsBounded};
 ghost use Rattle.sfi_image.specs.Regions.{IsRegion, IsBundleStart, HasGuardRoom};
 ghost use Rattle.sfi_image.specs.Tests.{IsFirstFault, field_tests};
 

@@ -4,7 +4,8 @@ ghost use Rattle.sfi_policy.specs.Limits.{bundle_size};
 ghost use Rattle.sfi_image.specs.declared.fault.LayoutFault.{LayoutFault};
 ghost use Rattle.sfi_image.specs.Fronts.{Front, front, want_of, IsLengthOf, HasFaultNumberWhateverFollows};
 ghost use Rattle.sfi_image.specs.Fronts.Front.{Empty};
-ghost use Rattle.sfi_image.specs.Keeping.{StandsFor, MayTake, Leads, Takes, left, is_first, next_part, next_init, next_code, next_gate};
+ghost use Rattle.sfi_image.specs.Keeping.{StandsFor, Leads, left};
+ghost use Rattle.sfi_image.specs.private.Keeping.{MayTake, Takes, is_first, next_part, next_init, next_code, next_gate};
 
 use crate::fault::LayoutFault;
 use crate::fields::{Fields, code_span, field_fault, guarded_span};

@@ -1,7 +1,8 @@
 //! Spans of addresses.
 ghost use Rattle.std.specs.Prelude.{◌++◌, ◌↔◌, ◌∷◌, [], IsTrue};
 ghost use Rattle.std.specs.List.{All, AllPairs};
-ghost use Rattle.sfi_image.specs.Spans.{AreApart, IsBounded};
+ghost use Rattle.sfi_image.specs.Spans.{AreApart};
+ghost use Rattle.sfi_image.specs.private.Spans.{IsBounded};
 
 /// So many addresses from a first one on. The end may be 2 ^ 32, so both numbers have 64 bits.
 #[derive(Clone, Copy, Debug)]

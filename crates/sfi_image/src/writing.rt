@@ -9,7 +9,8 @@ ghost use Rattle.sfi_image.specs.Parts.{IsRightPart, IsRightLayout};
 ghost use Rattle.sfi_image.specs.Faults.{IsFault};
 ghost use Rattle.sfi_image.specs.Writing.{HaveFault};
 ghost use Rattle.sfi_image.specs.Images.{IsImage};
-ghost use Rattle.sfi_image.specs.Outcome.{IfLayout, Reads};
+ghost use Rattle.sfi_image.specs.Outcome.{IfLayout};
+ghost use Rattle.sfi_image.specs.private.Outcome.{Reads};
 
 use crate::fault::ImageFault;
 use crate::format::Format;

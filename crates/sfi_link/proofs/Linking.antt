@@ -27,8 +27,9 @@ use Rattle.sfi_link.specs.Code.{AreSlots}
 use Rattle.sfi_link.specs.Linked.{c_ebreak, needed, HasRoom, IsCodeSize, gates_from, IsLinkedCode, IsLinked, AreLinkedFrom}
 use Rattle.sfi_link.specs.Building.{IsLinkedImage, ArePlacements, IsBuild}
 use Rattle.sfi_link.specs.Faults.{IsSlotFault, HasPartFault, IsPartFault, IsLinkFault}
-use Rattle.sfi_link.specs.Near.{IsNear, AreLow, AreNear, AreWritten, AreCodesFrom}
-use Rattle.sfi_link.specs.Answers.{UnlessMemory, Links, AnswersBytes, AnswersFault}
+use Rattle.sfi_link.specs.private.Near.{IsNear, AreLow, AreNear, AreWritten, AreCodesFrom}
+use Rattle.sfi_link.specs.Answers.{UnlessMemory, AnswersBytes, AnswersFault}
+use Rattle.sfi_link.specs.private.Answers.{Links}
 use Rattle.sfi_link.proofs.Sizes.{size_even}
 use Rattle.sfi_link.proofs.Region.{length_stubs}
 use Rattle.sfi_link.proofs.Parts.{sixteens, code_at_most}

@@ -24,7 +24,7 @@ use Rattle.sfi_link.specs.declared.fault.LinkFault.TheVariants.{UnknownName, Bra
 use Rattle.sfi_link.specs.Addresses.{address_at}
 use Rattle.sfi_link.specs.Code.{AreSlots, made_of}
 use Rattle.sfi_link.specs.Linked.{c_ebreak}
-use Rattle.sfi_link.specs.Near.{IsPushed, AreWritten}
+use Rattle.sfi_link.specs.private.Near.{IsPushed, AreWritten}
 use Rattle.sfi_link.specs.Faults.{HasSlotFault, IsSlotFault}
 use Rattle.sfi_link.specs.Answers.{UnlessMemory}
 use Rattle.sfi_link.proofs.Sizes.{size_cons, size_of-append}

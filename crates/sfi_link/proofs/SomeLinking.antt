@@ -34,7 +34,7 @@ use Rattle.sfi_link.specs.declared.fault.LinkFault.TheVariants.{UnknownName, Bra
 use Rattle.sfi_link.specs.Addresses.{bases_of, address_at, target_at, with_offset}
 use Rattle.sfi_link.specs.Code.{made_of, IsSlot, AreSlots}
 use Rattle.sfi_link.specs.Linked.{needed, HasRoom, IsCodeSize, gates_from, IsLinked, AreLinkedFrom}
-use Rattle.sfi_link.specs.Near.{AreWritten}
+use Rattle.sfi_link.specs.private.Near.{AreWritten}
 use Rattle.sfi_link.specs.Faults.{HasSlotFault, IsSlotFault, HasPartFault, IsPartFault}
 use Rattle.sfi_link.specs.Laws.{LinkedIsClean, LinkedIsRight, SomeLinking}
 use Rattle.sfi_link.proofs.Sizes.{size_cons}

@@ -12,11 +12,6 @@ UnlessMemory P (TooLarge sandbox) = P (TooLarge sandbox)
 UnlessMemory P TooManySandboxes = P TooManySandboxes
 UnlessMemory P Memory = Unit {0}
 
--- the value that was made meets Made, or the fault meets Faulty, or memory ran out: a word of private contracts
-abbrev pub Links : {X : Type 0} → (X → Type 0) → (LinkFault → Type 0) → Result X LinkFault → Type 0
-Links Made Faulty (Ok x) = Made x
-Links Made Faulty (Err f) = UnlessMemory Faulty f
-
 -- the answer is these bytes, or memory ran out
 abbrev pub AnswersBytes : List ℕ → Result (Vec ℕ Global) LinkFault → Type 0
 AnswersBytes bytes (Ok v) = v.items ≡ bytes

@@ -4,6 +4,6 @@ pub mod Linked
 pub mod Faults
 pub mod Building
 pub mod Answers
-pub mod Near
 pub mod Standing
 pub mod Laws
+pub mod private

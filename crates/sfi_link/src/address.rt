@@ -2,7 +2,7 @@
 ghost use Rattle.std.specs.Prelude.{◌≡◌, ◌<◌, ◌^◌, pos, ◌-ℤ◌, IfSome};
 ghost use Rattle.rv_source.specs.Halves.{upper, lower};
 ghost use Rattle.sfi_link.specs.Addresses.{address_of, target_of, address_at, target_at, with_offset};
-ghost use Rattle.sfi_link.specs.Near.{AreLow, IsNear, AreNear};
+ghost use Rattle.sfi_link.specs.private.Near.{AreLow, IsNear, AreNear};
 
 use crate::bases::{Bases, STUB_BYTES};
 use rv_word::Instr;

@@ -3,7 +3,7 @@ ghost use Rattle.std.specs.Prelude.{◌≡◌, ◌<◌};
 ghost use Rattle.sfi_rewrite.specs.Placed.{IsPlacedPart};
 ghost use Rattle.sfi_link.specs.Addresses.{bases_of};
 ghost use Rattle.sfi_policy.specs.Limits.{sandboxes_most};
-ghost use Rattle.sfi_link.specs.Near.{AreLow};
+ghost use Rattle.sfi_link.specs.private.Near.{AreLow};
 
 use sfi_rewrite::PlacedPart;
 

@@ -9,7 +9,7 @@ ghost use Rattle.sfi_rewrite.specs.Placed.{IsPlacedPart};
 ghost use Rattle.sfi_link.specs.Linked.{needed, HasRoom, IsCodeSize, IsLinkedCode};
 ghost use Rattle.sfi_policy.specs.Limits.{sandboxes_most};
 ghost use Rattle.sfi_link.specs.Faults.{HasPartFault};
-ghost use Rattle.sfi_link.specs.Answers.{Links};
+ghost use Rattle.sfi_link.specs.private.Answers.{Links};
 
 use crate::bases::bases_of;
 use crate::code::push_bundles;

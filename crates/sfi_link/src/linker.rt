@@ -10,8 +10,9 @@ ghost use Rattle.sfi_link.specs.Linked.{gates_from, IsLinkedCode, IsLinked, AreL
 ghost use Rattle.sfi_link.specs.Building.{IsLinkedImage, ArePlacements, IsBuild};
 ghost use Rattle.sfi_policy.specs.Limits.{gates_most, sandboxes_most};
 ghost use Rattle.sfi_link.specs.Faults.{IsPartFault, IsLinkFault};
-ghost use Rattle.sfi_link.specs.Near.{AreCodesFrom, contents};
-ghost use Rattle.sfi_link.specs.Answers.{Links, UnlessMemory, AnswersBytes, AnswersFault};
+ghost use Rattle.sfi_link.specs.private.Near.{AreCodesFrom, contents};
+ghost use Rattle.sfi_link.specs.private.Answers.{Links};
+ghost use Rattle.sfi_link.specs.Answers.{UnlessMemory, AnswersBytes, AnswersFault};
 
 use crate::bases::{STUB_BYTES, bases_of};
 use crate::code_region::linked_code;

@@ -6,7 +6,7 @@ use Rattle.rv_comp.specs.Fronts.{Spells}
 use Rattle.rv_comp.specs.declared.front.Front.TheVariants.{Read}
 use Rattle.sfi_scan.specs.Readings.{Piece, IsReading, IsLongestReading}
 use Rattle.sfi_report.specs.Listing.{instruction_line, rest_line, IsBundleListing}
-use Rattle.sfi_report.specs.Added.{Adds}
+use Rattle.sfi_report.specs.private.Added.{Adds}
 
 -- ---- spellings
 

@@ -19,7 +19,7 @@ use Rattle.sfi_scan.specs.Bundles.{place_of, bundle_bytes}
 use Rattle.sfi_scan.specs.Readings.{Piece, IsReading, rest_of}
 use Rattle.sfi_scan.specs.Rules.{Place, breaks}
 use Rattle.sfi_scan.specs.Findings.{broken, lowest, all_rules, findings_from, rest_finding, rule_of_length, AreBundleFindings, AreFindingsOfFirst, AreFindings, AreFindingsFrom, AreImageFindings}
-use Rattle.sfi_report.specs.Added.{SpellsFirst, IsPlace, Stands}
+use Rattle.sfi_report.specs.private.Added.{SpellsFirst, IsPlace, Stands}
 use Rattle.sfi_report.proofs.Lines.{spell_even, spell_fits}
 
 -- the finding is one of the sandbox, so many bytes after the address, where these bytes are

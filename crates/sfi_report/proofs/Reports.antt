@@ -9,7 +9,7 @@ use Rattle.sfi_image.specs.Spelling.{Part, view, views}
 use Rattle.sfi_scan.specs.declared.finding.Finding.{Finding}
 use Rattle.sfi_report.specs.Digits.{line_end}
 use Rattle.sfi_report.specs.Report.{IsPlaceText, line_front, IsFindingLine, IsReport}
-use Rattle.sfi_report.specs.Added.{Adds, Stands}
+use Rattle.sfi_report.specs.private.Added.{Adds, Stands}
 
 -- the part of that number
 part_at : (format : Format) (items : List SandboxPart) (k : ℕ) (d : SandboxPart) (p : Part) → slice_get (views format items) k ≡ Some p → view format (get_or items k d) ≡ p

@@ -2,4 +2,4 @@ pub mod Digits
 pub mod Report
 pub mod Listing
 pub mod Laws
-pub mod Added
+pub mod private

@@ -5,7 +5,8 @@ use Rattle.std.proofs.lemmas.List.Elements.{All-push, All-nil, All-head, All-tai
 use Rattle.sfi_rewrite.specs.declared.slot.Slot.{Slot}
 use Rattle.sfi_rewrite.specs.Slots.{size_of, slots_of, c_nop}
 use Rattle.sfi_rewrite.specs.Placement.{AreBundles}
-use Rattle.sfi_rewrite.specs.Filling.{IsFull, IsFilled, largest}
+use Rattle.sfi_rewrite.specs.Filling.{IsFull, IsFilled}
+use Rattle.sfi_rewrite.specs.private.Filling.{largest}
 use Rattle.sfi_rewrite.proofs.Sizes.{size_of-append, size_even, size_at_least, size_nops}
 
 pub slots_of-push : (full : List (List Slot)) (b : List Slot) → slots_of (full ++ b ∷ []) ≡ slots_of full ++ b

@@ -16,7 +16,7 @@ use Rattle.sfi_rewrite.specs.declared.fault.RewriteFault.TheVariants.{ReservedRe
 use Rattle.sfi_rewrite.specs.Slots.{size_of, c_nop}
 use Rattle.sfi_rewrite.specs.Expansion.{IsExpansion, is_call}
 use Rattle.sfi_rewrite.specs.Places.{next_bundle, FillsGap, IsNext, IsLabelAt}
-use Rattle.sfi_rewrite.specs.Filling.{HasNext, HaveBodies, AreLabels, largest}
+use Rattle.sfi_rewrite.specs.private.Filling.{HasNext, HaveBodies, AreLabels, largest}
 use Rattle.sfi_rewrite.specs.Faults.{IsPermitted, AreFaultless, IsTooLarge, HasItemFault, HasFault, UnlessMemory, IsItemFault}
 use Rattle.sfi_rewrite.proofs.Sizes.{size_of-append, size_even, size_nops}
 use Rattle.sfi_rewrite.proofs.Expansions.{IsOne, expansion_one}

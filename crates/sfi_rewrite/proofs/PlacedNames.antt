@@ -10,7 +10,7 @@ use Rattle.rv_source.specs.declared.item.Named.TheVariants.{Gate, Code, Data, Un
 use Rattle.rv_source.specs.Source.{Sandbox, IsSandbox, IsThere, named}
 use Rattle.sfi_rewrite.specs.declared.placed.PlacedName.{PlacedName}
 use Rattle.sfi_rewrite.specs.Placement.{IsPlacedName}
-use Rattle.sfi_rewrite.specs.Filling.{AreLabels, HasLabel, placed_of}
+use Rattle.sfi_rewrite.specs.private.Filling.{AreLabels, HasLabel, placed_of}
 
 pub zip_push : {A B : Type 0} (R : A → B → Type 0) (xs : List A) (ys : List B) (x : A) (y : B) → AllZip R xs ys → R x y → AllZip R (xs ++ x ∷ []) (ys ++ y ∷ [])
 zip_push R [] [] x y z r = (r, tt)

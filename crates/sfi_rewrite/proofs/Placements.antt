@@ -25,7 +25,7 @@ use Rattle.sfi_rewrite.specs.Slots.{size_of, slots_of, c_nop}
 use Rattle.sfi_rewrite.specs.Places.{next_bundle, AreLaid, AreLaidFrom, IsLabelAt}
 use Rattle.sfi_rewrite.specs.Placement.{Placement, IsPlacedName, HasEndLabel, FillsEnd, AreBundles}
 use Rattle.sfi_rewrite.specs.Placed.{AreWhole, IsPlacedThere, IsPlacedGate, IsPlacedPart}
-use Rattle.sfi_rewrite.specs.Filling.{HaveBodies, HasEnd}
+use Rattle.sfi_rewrite.specs.private.Filling.{HaveBodies, HasEnd}
 use Rattle.sfi_rewrite.specs.Faults.{AreFaultless}
 use Rattle.sfi_rewrite.specs.Rewriting.{IsRewritten}
 use Rattle.sfi_rewrite.proofs.Sizes.{size_of-append, size_nops, size_even}

@@ -31,7 +31,8 @@ use Rattle.sfi_rewrite.specs.Registers.{item_names_withheld, is_ecall}
 use Rattle.sfi_rewrite.specs.Expansion.{data_pair, jump_slots, IsAlone, IsMasked, IsExpansionOf, IsExpansion, is_call}
 use Rattle.sfi_rewrite.specs.Places.{next_bundle, FillsGap, AreLaid}
 use Rattle.sfi_rewrite.specs.Placement.{Placement, IsPlacedName, HasEndLabel, FillsEnd, AreBundles}
-use Rattle.sfi_rewrite.specs.Filling.{IsFilled, HasNext}
+use Rattle.sfi_rewrite.specs.Filling.{IsFilled}
+use Rattle.sfi_rewrite.specs.private.Filling.{HasNext}
 use Rattle.sfi_rewrite.specs.Faults.{IsPermitted, AreFaultless, HasFault, IsItemFault, IsSourceFault}
 use Rattle.sfi_rewrite.specs.Rewriting.{IsRewritten, AreRewritten}
 use Rattle.sfi_rewrite.specs.Laws.{SomeRewriting}

@@ -1,24 +1,10 @@
 -- Bundles while they are filled: cited by private contracts.
-use Rattle.std.specs.Prelude.{◌≡◌, ◌+◌, ◌*◌, ◌<◌, ◌≤◌, ◌++◌, ℕ, List, length, replicate, slice_index}
+use Rattle.std.specs.Prelude.{◌≡◌, ◌+◌, ◌*◌, ◌<◌, ℕ, List, length}
 use Rattle.std.specs.List.{All}
-use Rattle.sfi_image.specs.declared.format.Format.{Format}
-use Rattle.sfi_image.specs.declared.format.Format.TheVariants.{Sfi2}
-use Rattle.sfi_image.specs.Formats.{code_most}
-use Rattle.rv_source.specs.declared.item.Item.{Item}
-use Rattle.rv_source.specs.declared.item.Named.{Named}
-use Rattle.rv_source.specs.declared.item.Named.TheVariants.{Gate, Code, Data, Unknown}
-use Rattle.rv_source.specs.Source.{IsBody}
 use Rattle.sfi_rewrite.specs.declared.slot.Slot.{Slot}
 use Rattle.sfi_policy.specs.Limits.{bundle_size}
-use Rattle.sfi_rewrite.specs.Slots.{size_of, c_nop}
-use Rattle.sfi_rewrite.specs.declared.placed.PlacedName.{PlacedName}
+use Rattle.sfi_rewrite.specs.Slots.{size_of}
 use Rattle.sfi_rewrite.specs.declared.placed.PlacedName.TheVariants as placed
-use Rattle.sfi_rewrite.specs.Places.{IsNext, IsLabelAt}
-use Rattle.sfi_rewrite.specs.Placement.{FillsEnd}
-
--- the most bytes of a sandbox's code in any format, its gates' stubs not counted
-abbrev pub largest : ℕ
-largest = code_most Sfi2
 
 -- a bundle's bytes of slots
 abbrev pub IsFull : List Slot → Type 0
@@ -29,40 +15,3 @@ pub record IsFilled (full : List (List Slot)) (last : List Slot) (end : ℕ) : T
   pub each_full : All IsFull full
   pub room : size_of last < bundle_size
   pub end_is : end ≡ bundle_size * length full + size_of last
-
--- the slots with the item's c.nops and expansion after them, within the most that a sandbox may have
-pub record HasNext (f : Format) (old : List Slot) (x : Item) (new : List Slot) : Type 0 where
-  pub nops : ℕ
-  pub expanded : List Slot
-  pub next : IsNext f (size_of old) x nops expanded
-  pub slots : new ≡ old ++ (replicate nops c_nop ++ expanded)
-  pub fits : size_of new ≤ code_most f
-
--- the body of each item is one of a source
-abbrev pub HaveBodies : List Item → Type 0
-HaveBodies items = All (λ x. (count : ℕ) × IsBody count x.body) items
-
--- of each item, and last of the end of the code, the place that a label before it names
-pub record AreLabels (f : Format) (items : List Item) (labels : List ℕ) : Type 0 where
-  pub count : length labels ≡ length items + 1
-  pub each : (k : ℕ) → k ≤ length items → IsLabelAt f items k (slice_index labels k)
-
--- where a label stands before an item, there is a place of it among so many
-abbrev pub HasLabel : ℕ → Named → Type 0
-HasLabel count (Gate k) = Unit {0}
-HasLabel count (Code k) = k < count
-HasLabel count (Data offset) = Unit {0}
-HasLabel count Unknown = Unit {0}
-
--- what the name names, by the places of the labels
-abbrev pub placed_of : List ℕ → Named → PlacedName
-placed_of labels (Gate k) = placed.Gate k
-placed_of labels (Code k) = placed.Code (slice_index labels k)
-placed_of labels (Data offset) = placed.Data offset
-placed_of labels Unknown = placed.Unknown
-
--- the slots with c.nops after them, up to the bundle start of a label at the end
-pub record HasEnd (old : List Slot) (labelled : Type 0) (new : List Slot) : Type 0 where
-  pub nops : ℕ
-  pub end : FillsEnd (size_of old) labelled nops
-  pub slots : new ≡ old ++ replicate nops c_nop

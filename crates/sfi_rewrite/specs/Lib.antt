@@ -11,3 +11,4 @@ pub mod Rewriting
 pub mod Transparency
 pub mod Samples
 pub mod Laws
+pub mod private

@@ -3,7 +3,7 @@ ghost use Rattle.std.specs.Prelude.{◌≡◌, ◌<◌, ◌≤◌, ◌+◌, ◌*
 ghost use Rattle.rv_source.specs.Source.{IsBody};
 ghost use Rattle.sfi_image.specs.Formats.{code_most};
 ghost use Rattle.sfi_rewrite.specs.Slots.{size_of};
-ghost use Rattle.sfi_rewrite.specs.Filling.{HasNext, HaveBodies, AreLabels};
+ghost use Rattle.sfi_rewrite.specs.private.Filling.{HasNext, HaveBodies, AreLabels};
 ghost use Rattle.sfi_rewrite.specs.Faults.{IsPermitted, AreFaultless, HasFault, UnlessMemory, IsItemFault};
 
 use crate::expansion::expand;

@@ -3,7 +3,7 @@ ghost use Rattle.std.specs.Prelude.{◌≡◌, ◌<◌, ◌↔◌, IfOk, IsTrue,
 ghost use Rattle.std.specs.List.{AllZip};
 ghost use Rattle.rv_source.specs.Source.{named, IsSandbox};
 ghost use Rattle.sfi_rewrite.specs.Placement.{IsPlacedName, HasEndLabel};
-ghost use Rattle.sfi_rewrite.specs.Filling.{AreLabels, HasLabel, placed_of};
+ghost use Rattle.sfi_rewrite.specs.private.Filling.{AreLabels, HasLabel, placed_of};
 
 use crate::placed::PlacedName;
 use rv_source::{Named, SourcePart};

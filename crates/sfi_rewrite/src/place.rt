@@ -1,7 +1,7 @@
 //! Where an expansion stands.
 ghost use Rattle.std.specs.Prelude.{◌≡◌, ◌%◌, ◌+◌, ◌*◌, ◌<◌, ◌≤◌, IsTrue};
 ghost use Rattle.sfi_policy.specs.Limits.{bundle_size};
-ghost use Rattle.sfi_rewrite.specs.Filling.{largest};
+ghost use Rattle.sfi_rewrite.specs.private.Filling.{largest};
 ghost use Rattle.sfi_rewrite.specs.Places.{next_bundle, FillsGap};
 
 /// How many bytes a bundle has.

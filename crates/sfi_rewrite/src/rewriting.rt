@@ -5,7 +5,7 @@ ghost use Rattle.rv_source.specs.Source.{IsSandbox, IsSource};
 ghost use Rattle.sfi_rewrite.specs.Slots.{size_of};
 ghost use Rattle.sfi_rewrite.specs.Placement.{Placement};
 ghost use Rattle.sfi_rewrite.specs.Placed.{IsPlacedPart};
-ghost use Rattle.sfi_rewrite.specs.Filling.{HasEnd, largest};
+ghost use Rattle.sfi_rewrite.specs.private.Filling.{HasEnd, largest};
 ghost use Rattle.sfi_rewrite.specs.declared.fault.RewriteFault.{RewriteFault};
 ghost use Rattle.sfi_rewrite.specs.Faults.{UnlessMemory, IsItemFault, IsSourceFault};
 ghost use Rattle.sfi_rewrite.specs.Transparency.{StandTransparent};

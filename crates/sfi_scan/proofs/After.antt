@@ -4,7 +4,7 @@ use Rattle.rv_word.specs.declared.instr.Instr.{Instr}
 use Rattle.rv_comp.specs.Fronts.{Spells}
 use Rattle.rv_comp.specs.declared.front.Front.TheVariants.{Read}
 use Rattle.sfi_scan.specs.Readings.{Piece, IsReading, IsLongestReading}
-use Rattle.sfi_scan.specs.Near.{ahead}
+use Rattle.sfi_scan.specs.private.Near.{ahead}
 
 -- only this piece can stand at the front
 abbrev pub IsOnly : List ℕ → Instr → ℕ → Type 0

@@ -21,8 +21,8 @@ use Rattle.sfi_scan.specs.Readings.{Piece}
 use Rattle.sfi_scan.specs.Stack.{begins_pair, ends_pair, precedes_pair, is_jump}
 use Rattle.sfi_scan.specs.Rules.{Place, is_last_bundle, is_bundle_start, offset_by, may_access}
 use Rattle.sfi_scan.specs.Findings.{lowest, all_rules}
-use Rattle.sfi_scan.specs.FirstLook.{IsWordOr0, AreBefore, is_withheld, is_clean, is_zero}
-use Rattle.sfi_scan.specs.Near.{near}
+use Rattle.sfi_scan.specs.private.FirstLook.{IsWordOr0, AreBefore, is_withheld, is_clean, is_zero}
+use Rattle.sfi_scan.specs.private.Near.{near}
 
 -- ---- pairs
 

@@ -12,7 +12,7 @@ use Rattle.sfi_image.specs.Gates.{is_gate_of}
 use Rattle.std.specs.List.{All, AllPairs}
 use Rattle.sfi_scan.specs.declared.bundle.BundlePlace.{BundlePlace}
 use Rattle.sfi_scan.specs.declared.finding.Finding.{Finding}
-use Rattle.sfi_scan.specs.Near.{is_first_at}
+use Rattle.sfi_scan.specs.private.Near.{is_first_at}
 use Rattle.sfi_scan.specs.Bundles.{place_of, bundle_bytes}
 use Rattle.sfi_scan.specs.Findings.{AreBundleFindings, AreFindingsOfFirst}
 

@@ -10,7 +10,7 @@ use Rattle.rv_comp.specs.Laws.{OneSpelling}
 use Rattle.rv_comp.specs.declared.front.Front.TheVariants.{Read}
 use Rattle.sfi_scan.specs.declared.before.Before.{Before}
 use Rattle.sfi_scan.specs.declared.bundle.BundlePlace.{BundlePlace}
-use Rattle.sfi_scan.specs.Near.{near}
+use Rattle.sfi_scan.specs.private.Near.{near}
 use Rattle.sfi_scan.specs.Rules.{Place, is_last_bundle}
 use Rattle.sfi_scan.specs.Findings.{lowest, all_rules}
 use Rattle.sfi_image.specs.Formats.{has_stack}
@@ -18,7 +18,7 @@ use Rattle.rv_word.specs.declared.instr.Instr.TheVariants.{Op}
 use Rattle.rv_word.specs.declared.instr.RegOp.TheVariants.{And, Or}
 use Rattle.sfi_scan.specs.Stack.{begins_pair, precedes_pair}
 use Rattle.sfi_scan.specs.Readings.{Piece, IsLongestReading}
-use Rattle.sfi_scan.specs.FirstLook.{half_at, word_at, AreWordsFrom, IsCleanOne, is_clean, IsStackWrite, AreStackPair}
+use Rattle.sfi_scan.specs.private.FirstLook.{half_at, word_at, AreWordsFrom, IsCleanOne, is_clean, IsStackWrite, AreStackPair}
 use Rattle.sfi_scan.proofs.After.{IsOnly, begins}
 use Rattle.sfi_scan.proofs.FirstLook.{clean_is, kind_of, write_quiet, masking_quiet, placing_quiet}
 use Rattle.sfi_scan.proofs.Readings.{front_one}

@@ -15,11 +15,11 @@ use Rattle.rv_comp.specs.mirror.Decoding.{extended, jump_offset, branch_offset}
 use Rattle.rv_comp.specs.mirror.Outlining.{row_of, jump, jump_or_stop, outlined}
 use Rattle.sfi_image.specs.Formats.{has_stack}
 use Rattle.sfi_policy.specs.Registers.{is_reserved}
-use Rattle.sfi_scan.specs.FirstLook.{AreBefore, IsFreeHalf, IsCleanOne, is_clean, is_withheld}
+use Rattle.sfi_scan.specs.private.FirstLook.{AreBefore, IsFreeHalf, IsCleanOne, is_clean, is_withheld}
 use Rattle.sfi_scan.specs.declared.bundle.BundlePlace.{BundlePlace}
 use Rattle.sfi_scan.specs.declared.clean.Words.{Words}
 use Rattle.sfi_scan.specs.declared.before.Before.{Before}
-use Rattle.sfi_scan.specs.Near.{near}
+use Rattle.sfi_scan.specs.private.Near.{near}
 use Rattle.rv_word.specs.declared.instr.Instr.{Instr}
 use Rattle.sfi_scan.specs.declared.computing.TheConstants.{COMPUTING}
 

@@ -19,7 +19,7 @@ use Rattle.sfi_scan.specs.declared.finding.Finding.{Finding}
 use Rattle.sfi_scan.specs.Readings.{Piece, IsReading, IsLongestReading, rest_of}
 use Rattle.sfi_scan.specs.Rules.{Place, is_empty}
 use Rattle.sfi_scan.specs.Findings.{broken, lowest, all_rules, findings_from, rest_finding, rule_of_length, AreReadingFindings}
-use Rattle.sfi_scan.specs.Near.{near, finding_of}
+use Rattle.sfi_scan.specs.private.Near.{near, finding_of}
 
 -- ---- spellings
 

@@ -2,7 +2,7 @@
 use Rattle.std.proofs.Common.{◌≡◌, ℕ, Option, Some, None, refl, inl}
 use Rattle.rv_word.specs.declared.instr.Instr.{Instr}
 use Rattle.sfi_scan.specs.declared.before.Before.{Before}
-use Rattle.sfi_scan.specs.FirstLook.{IsWordOr0, AreBefore}
+use Rattle.sfi_scan.specs.private.FirstLook.{IsWordOr0, AreBefore}
 
 -- 0 stands for every instruction, and for none
 zero_for : (o : Option Instr) → IsWordOr0 0 o

@@ -4,7 +4,6 @@ pub mod Pairs
 pub mod Stack
 pub mod Rules
 pub mod Findings
-pub mod Near
-pub mod FirstLook
 pub mod Numbers
 pub mod Laws
+pub mod private

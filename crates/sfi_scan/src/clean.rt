@@ -9,12 +9,12 @@ ghost use Rattle.sfi_image.specs.Formats.{has_stack};
 ghost use Rattle.sfi_scan.specs.declared.before.Before.{Before};
 ghost use Rattle.sfi_scan.specs.Bundles.{IsWithin};
 ghost use Rattle.sfi_scan.specs.Findings.{AreReadingFindings};
-ghost use Rattle.sfi_scan.specs.Near.{near};
+ghost use Rattle.sfi_scan.specs.private.Near.{near};
 ghost use Rattle.sfi_policy.specs.Limits.{bundle_size};
 ghost use Rattle.sfi_policy.specs.Registers.{is_reserved};
 ghost use Rattle.sfi_scan.specs.Pairs.{follows_pair, follows_code_pair};
 ghost use Rattle.sfi_scan.specs.Rules.{is_last_bundle, may_access};
-ghost use Rattle.sfi_scan.specs.FirstLook.{half_at, word_at, AreWordsFrom, AreBefore, is_zero, is_withheld, is_clean, IsCleanOne, IsStackWrite, AreStackPair};
+ghost use Rattle.sfi_scan.specs.private.FirstLook.{half_at, word_at, AreWordsFrom, AreBefore, is_zero, is_withheld, is_clean, IsCleanOne, IsStackWrite, AreStackPair};
 
 use crate::before::{CODE, DATA, Pair, may_be_target};
 use crate::bundle::BundlePlace;

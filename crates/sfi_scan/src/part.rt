@@ -4,7 +4,7 @@ ghost use Rattle.sfi_image.specs.declared.format.Format.TheVariants.{Sfi1};
 ghost use Rattle.sfi_image.specs.Spelling.{view};
 ghost use Rattle.sfi_image.specs.Parts.{IsRightPart};
 ghost use Rattle.sfi_scan.specs.Findings.{AreFindings};
-ghost use Rattle.sfi_scan.specs.Near.{is_first_at};
+ghost use Rattle.sfi_scan.specs.private.Near.{is_first_at};
 
 use crate::bundle::BundlePlace;
 use crate::finding::Finding;

@@ -6,7 +6,7 @@ ghost use Rattle.sfi_scan.specs.Stack.{writes_stack, is_stack_pair, begins_pair,
 ghost use Rattle.sfi_scan.specs.Bundles.{IsWithin};
 ghost use Rattle.sfi_scan.specs.Rules.{Place, is_empty, offset_by, is_bundle_start, is_last_bundle, breaks_ecall, breaks_reserved, breaks_access, breaks_jump, breaks_target, breaks_stack, may_write_stack, may_access, ends_region};
 ghost use Rattle.sfi_scan.specs.Findings.{lowest, all_rules};
-ghost use Rattle.sfi_scan.specs.Near.{near, ahead, finding_of};
+ghost use Rattle.sfi_scan.specs.private.Near.{near, ahead, finding_of};
 
 use crate::ahead::{Ahead, read_ahead};
 use crate::before::{Before, CODE, DATA, is_masking, is_placing};

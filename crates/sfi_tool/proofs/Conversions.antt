@@ -13,10 +13,11 @@ use Rattle.sfi_check.specs.Verdict.{HasFindings}
 use Rattle.sfi_check.specs.declared.conversion.ConvertFault.{ConvertFault}
 use Rattle.sfi_check.specs.declared.conversion.ConvertFault.TheVariants.{Refused, NotOld, Stack, Memory}
 use Rattle.sfi_check.specs.declared.refusal.Refusal.TheVariants as refusal
-use Rattle.sfi_tool.specs.Converting.{HasFound, AnswersConvertFault}
+use Rattle.sfi_tool.specs.private.Converting.{HasFound, AnswersConvertFault}
 use Rattle.sfi_tool.specs.Hexadecimal.{SpellsBytes, IsUnreadable}
 use Rattle.sfi_tool.specs.Verdict.{refused_line}
-use Rattle.sfi_tool.specs.Says.{Says, IsStop, IsDone, IsRefused, HasInputFault, AnswersStatus, SaysConversion}
+use Rattle.sfi_tool.specs.Says.{Says, IsDone, IsRefused, HasInputFault, SaysConversion}
+use Rattle.sfi_tool.specs.private.Says.{IsStop, AnswersStatus}
 use Rattle.sfi_tool.specs.declared.fault.Stop.{Stop}
 use Rattle.sfi_tool.specs.declared.fault.Stop.TheVariants as stop
 use Rattle.sfi_command.specs.declared.job.Job.TheVariants.{Convert}

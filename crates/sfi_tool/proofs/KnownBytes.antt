@@ -2,7 +2,8 @@
 use Rattle.std.proofs.Common.{◌≡◌, ℕ, ◌+◌, ◌<◌, ◌≤◌, List, [], ◌++◌, length, Option, Some, None, refl, sym, subst, ap, ◌∙◌, arith, append_assoc, length-append, Vec, Global}
 use Rattle.std.specs.Io.KnownBytes.{Consumes, Appends, IsAtEnd}
 use Rattle.std.proofs.lemmas.List.{append-nil}
-use Rattle.sfi_tool.specs.Input.{IsInput, OnlyAppends, WritesPart, limit}
+use Rattle.sfi_tool.specs.private.Input.{IsInput}
+use Rattle.sfi_tool.specs.Input.{OnlyAppends, WritesPart, limit}
 use Rattle.sfi_tool.specs.declared.input.Input.TheVariants.{Whole, TooLarge}
 
 pub consumes_more : (a b d : Option (List ℕ)) (xs ys : List ℕ) → Consumes a b xs → Consumes b d ys → Consumes a d (xs ++ ys)

@@ -1,18 +1,10 @@
 -- What is read and written, where the reader and the writer tell their bytes.
-use Rattle.std.specs.Prelude.{◌≡◌, ℕ, ◌<◌, ◌≤◌, List, ◌++◌, length, Option, Some, None}
+use Rattle.std.specs.Prelude.{◌≡◌, ℕ, ◌<◌, List, ◌++◌, length, Option}
 use Rattle.std.specs.Io.KnownBytes.{Appends}
-use Rattle.sfi_tool.specs.declared.input.Input.{Input}
-use Rattle.sfi_tool.specs.declared.input.Input.TheVariants.{Whole, TooLarge}
 
 -- the most bytes of input text
 abbrev pub limit : ℕ
 limit = 134217728
-
--- what was read of a reader that held these bytes: all of them, where they keep the limit (a word of private contracts)
-abbrev pub IsInput : Option (List ℕ) → Input → Type 0
-IsInput None input = Unit {0}
-IsInput (Some bytes) (Whole text) = (text.items ≡ bytes) × (length bytes ≤ limit)
-IsInput (Some bytes) TooLarge = limit < length bytes
 
 -- a beginning of the text was written, and not all of it
 abbrev pub WritesPart : Option (List ℕ) → Option (List ℕ) → List ℕ → Type 0

@@ -3,5 +3,5 @@ pub mod Hexadecimal
 pub mod Verdict
 pub mod RunLines
 pub mod Says
-pub mod Converting
 pub mod Run
+pub mod private

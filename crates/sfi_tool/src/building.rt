@@ -3,7 +3,8 @@
 ghost use Rattle.std.specs.Prelude.{◌≡◌, ◌++◌, IfOk, IfErr, IsErr, string_bytes};
 ghost use Rattle.hex.specs.Hex.{encode_lower};
 ghost use Rattle.sfi_report.specs.Digits.{line_end};
-ghost use Rattle.sfi_tool.specs.Says.{AnswersStatus, HasInputFault, IsDone, IsSourceStop, IsSourceText, IsStop, Says};
+ghost use Rattle.sfi_tool.specs.private.Says.{AnswersStatus, IsSourceStop, IsStop};
+ghost use Rattle.sfi_tool.specs.Says.{HasInputFault, IsDone, IsSourceText, Says};
 ghost use Rattle.sfi_command.specs.declared.job.Job.TheVariants.{Build};
 
 use crate::fault::{InputFault, Stop, build_stop};

@@ -6,7 +6,8 @@ ghost use Rattle.sfi_image.specs.Spelling.{Part};
 ghost use Rattle.sfi_image.specs.Faults.{IsFault};
 ghost use Rattle.sfi_check.specs.Verdict.{IsAccepted, HasFindings};
 ghost use Rattle.sfi_scan.specs.declared.finding.Finding.{Finding};
-ghost use Rattle.sfi_tool.specs.Says.{AnswersStatus, HasInputFault, IsDone, IsRefusalStop, IsRefusalText, IsRefused, IsReportOf, IsStop, Refuses, Says, SaysRefused};
+ghost use Rattle.sfi_tool.specs.private.Says.{AnswersStatus, IsRefusalStop, IsStop, Refuses};
+ghost use Rattle.sfi_tool.specs.Says.{HasInputFault, IsDone, IsRefusalText, IsRefused, IsReportOf, Says, SaysRefused};
 ghost use Rattle.sfi_command.specs.declared.job.Job.TheVariants.{Check};
 
 use crate::fault::Stop;

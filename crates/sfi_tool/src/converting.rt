@@ -2,8 +2,9 @@
 
 ghost use Rattle.std.specs.Prelude.{◌≡◌, ◌≢◌, [], IfOk, IfErr, IsErr, string_bytes};
 ghost use Rattle.sfi_check.specs.declared.conversion.ConvertFault.TheVariants.{Refused};
-ghost use Rattle.sfi_tool.specs.Converting.{AnswersConvertFault, HoldsSome};
-ghost use Rattle.sfi_tool.specs.Says.{AnswersStatus, HasInputFault, IsDone, IsRefused, IsStop, Says};
+ghost use Rattle.sfi_tool.specs.private.Converting.{AnswersConvertFault, HoldsSome};
+ghost use Rattle.sfi_tool.specs.private.Says.{AnswersStatus, IsStop};
+ghost use Rattle.sfi_tool.specs.Says.{HasInputFault, IsDone, IsRefused, Says};
 ghost use Rattle.sfi_tool.specs.Verdict.{refused_line};
 ghost use Rattle.sfi_command.specs.declared.job.Job.TheVariants.{Convert};
 

@@ -3,7 +3,7 @@
 ghost use Rattle.std.specs.Prelude.{◌≡◌};
 ghost use Rattle.sfi_image.specs.declared.fault.LayoutFault.{LayoutFault};
 ghost use Rattle.sfi_image.specs.Faults.{number_of};
-ghost use Rattle.sfi_tool.specs.Says.{StopsBuild};
+ghost use Rattle.sfi_tool.specs.private.Says.{StopsBuild};
 ghost use Rattle.sfi_tool.specs.declared.fault.Stop.TheVariants.{Memory};
 
 use rv_text::{TextCause, TextFault};

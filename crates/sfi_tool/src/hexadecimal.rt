@@ -3,7 +3,8 @@
 ghost use Rattle.std.specs.Prelude.{◌≡◌, ◌≤◌, ℕ, List, not, IfOk, IfErr, IfSome, IsErr, Ok, filter, length, slice_index, true};
 ghost use Rattle.sfi_tool.specs.declared.hexadecimal.TheConstants.{CLASSES};
 ghost use Rattle.hex.specs.Hex.{decode_of, hex_digit_value, pair_value};
-ghost use Rattle.sfi_tool.specs.Hexadecimal.{is_kept, GivesBytes, IsInputStop, IsNoHexadecimal, IsUnreadable, SpellsBytes};
+ghost use Rattle.sfi_tool.specs.Hexadecimal.{is_kept, IsNoHexadecimal, IsUnreadable, SpellsBytes};
+ghost use Rattle.sfi_tool.specs.private.Hexadecimal.{GivesBytes, IsInputStop};
 
 use crate::fault::{InputFault, Stop};
 use crate::input::INPUT_LIMIT;

@@ -1,7 +1,7 @@
 //! Reading the input to its end.
 
 ghost use Rattle.std.specs.Prelude.{◌≡◌, IfOk};
-ghost use Rattle.sfi_tool.specs.Input.{IsInput};
+ghost use Rattle.sfi_tool.specs.private.Input.{IsInput};
 ghost use Rattle.sfi_tool.specs.declared.input.ReadStop.TheVariants.{Memory};
 
 use std::alloc::{AllocError, Global};

@@ -1,7 +1,8 @@
 //! The command `dis`.
 
 ghost use Rattle.std.specs.Prelude.{IfOk, IfErr, IsErr, string_bytes};
-ghost use Rattle.sfi_tool.specs.Says.{AnswersStatus, HasInputFault, IsDone, IsStop, Says};
+ghost use Rattle.sfi_tool.specs.private.Says.{AnswersStatus, IsStop};
+ghost use Rattle.sfi_tool.specs.Says.{HasInputFault, IsDone, Says};
 ghost use Rattle.sfi_command.specs.declared.job.Job.TheVariants.{Dis};
 
 use crate::fault::Stop;

@@ -2,7 +2,8 @@
 
 ghost use Rattle.std.specs.Prelude.{IfOk, IfErr, IsErr, string_bytes};
 ghost use Rattle.sfi_tool.specs.RunLines.{IsRunText};
-ghost use Rattle.sfi_tool.specs.Says.{AnswersStatus, HasInputFault, IsDone, IsRefused, IsStop, Says};
+ghost use Rattle.sfi_tool.specs.private.Says.{AnswersStatus, IsStop};
+ghost use Rattle.sfi_tool.specs.Says.{HasInputFault, IsDone, IsRefused, Says};
 ghost use Rattle.sfi_command.specs.declared.job.Job.TheVariants.{Run};
 
 use crate::checking::refusal_answer;

@@ -5,7 +5,7 @@ use Rattle.sfi_image.specs.InFormat.{all_in_format}
 use Rattle.sfi_image.specs.Parts.{IsRightLayout}
 use Rattle.sfi_image.specs.Images.{IsImage}
 use Rattle.sfi_scan.specs.Findings.{AreImageFindings}
-use Rattle.sfi_check.specs.Converting.{IsStackOf}
+use Rattle.sfi_check.specs.private.Converting.{IsStackOf}
 use Rattle.sfi_check.proofs.Converted.{seen_as, fault_converts}
 use Rattle.sfi_check.proofs.conversion.convert_accepted.Goals as goal
 

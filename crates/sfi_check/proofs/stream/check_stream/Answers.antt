@@ -3,7 +3,7 @@ use Rattle.std.proofs.lemmas.List.{length-drop, length-take, take-append-drop, t
 use Rattle.sfi_image.specs.Sources.{Streams}
 use Rattle.sfi_check.specs.declared.stream_answer.StreamAnswer.{StreamAnswer}
 use Rattle.sfi_check.specs.declared.stream_answer.StreamAnswer.TheVariants as answers
-use Rattle.sfi_check.specs.Tallies.{IsSoFar, IsCut}
+use Rattle.sfi_check.specs.private.Tallies.{IsSoFar, IsCut}
 use Rattle.sfi_check.specs.Streams.{IsVerdictOn}
 use Rattle.sfi_check.proofs.Leading.{take_on, fault_on}
 use Rattle.sfi_check.proofs.Judging.{TheLaws, judged_onwards, judged_failed, ended_whole, trailing, ended_short, nothing_yet}

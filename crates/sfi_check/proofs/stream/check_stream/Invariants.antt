@@ -1,7 +1,7 @@
 use Rattle.std.proofs.Common.{◌≡◌, ◌+◌, ◌-◌, ◌*◌, ◌≤◌, false, List, ℕ, ◌++◌, length, take}
 use Rattle.sfi_image.specs.Keeping.{left}
 use Rattle.sfi_image.specs.Sources.{Streams}
-use Rattle.sfi_check.specs.Tallies.{IsSoFar}
+use Rattle.sfi_check.specs.private.Tallies.{IsSoFar}
 use Rattle.sfi_check.proofs.stream.check_stream.Given as goal
 
 -- the bytes that led the reader here, and those that are held after them, are the stream's so far

@@ -1,7 +1,7 @@
 use Rattle.std.proofs.Common.{◌≡◌, ◌∙◌, ◌≤◌, ℕ, eqb, false, ◌++◌, List, take, length, refl, sym, ap, subst, arith}
 use Rattle.std.proofs.lemmas.Bool.{eq-eqb}
 use Rattle.std.proofs.lemmas.List.{length-take}
-use Rattle.sfi_check.specs.Tallies.{IsSoFar}
+use Rattle.sfi_check.specs.private.Tallies.{IsSoFar}
 use Rattle.sfi_check.proofs.Tallying.{Adds}
 use Rattle.sfi_check.proofs.Leading.{bundle_within, field_len, init_some, field_taken, bundle_taken, init_taken, field_step, init_step, bundle_step, step_fault}
 use Rattle.sfi_check.proofs.stream.step.Goals as goal

@@ -1,6 +1,6 @@
 use Rattle.std.proofs.Common.{◌≡◌, ◌⊎◌, ◌<◌, ◌≤◌, List, ℕ, ◌++◌, length, take}
 use Rattle.sfi_image.specs.Keeping.{left}
-use Rattle.sfi_check.specs.Tallies.{IsSoFar}
+use Rattle.sfi_check.specs.private.Tallies.{IsSoFar}
 use Rattle.sfi_check.proofs.stream.take_piece.Given as goal
 
 abbrev pub invariant-loop-len : goal.invariant-loop-len

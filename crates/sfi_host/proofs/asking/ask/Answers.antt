@@ -5,7 +5,8 @@ use Rattle.sfi_host.specs.declared.sandbox.Sandbox.{Sandbox}
 use Rattle.sfi_host.specs.Joint.{service_at}
 use Rattle.sfi_host.specs.Moves.{TakesSome}
 use Rattle.sfi_host.specs.Regions.{bytes_in}
-use Rattle.sfi_host.specs.Sandboxes.{seat_of, call_by, going_after, IsReplied, IsNotReplied}
+use Rattle.sfi_host.specs.Sandboxes.{seat_of, IsReplied, IsNotReplied}
+use Rattle.sfi_host.specs.private.Sandboxes.{call_by, going_after}
 use Rattle.sfi_host.specs.Worlds.{slot_of, IsSafeSeat}
 use Rattle.sfi_host.proofs.Leaving.{whole_in, whole_of, stays_outside}
 use Rattle.sfi_host.proofs.Replying.{asked_is, still_ready, bounds_after, safe_after, replies, refuses, takes_after}

@@ -2,7 +2,7 @@ use Rattle.std.proofs.Common.{arith, length, ◌<◌, ◌≡◌, List, [], ◌�
 use Rattle.std.proofs.lemmas.List.{map-set, length-map}
 use Rattle.std.proofs.lemmas.Option.{slice_get-get_or, slice_get_past}
 use Rattle.sfi_host.specs.Slots.{Slot}
-use Rattle.sfi_host.specs.Limits.{IsPlanStep, IsPlanCut}
+use Rattle.sfi_host.specs.private.Limits.{IsPlanStep, IsPlanCut}
 use Rattle.sfi_host.specs.Moves.{HaveMoved}
 use Rattle.sfi_host.specs.Sandboxes.{seat_of, seats_of, world_of}
 use Rattle.sfi_host.specs.Worlds.{Seat, slot_of, slots_of, IsSafeWorld}

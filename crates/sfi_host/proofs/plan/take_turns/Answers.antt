@@ -1,6 +1,6 @@
 use Rattle.std.proofs.Common.{◌≡◌, ◌+◌, ℕ, List, drop, get_or, refl, subst, arith}
 use Rattle.sfi_host.specs.declared.turn.Turn.{Turn}
-use Rattle.sfi_host.specs.Limits.{IsPlanOnItsWay}
+use Rattle.sfi_host.specs.private.Limits.{IsPlanOnItsWay}
 use Rattle.sfi_host.specs.Plans.{IsCutJoint}
 use Rattle.sfi_host.specs.Sandboxes.{world_of}
 use Rattle.sfi_host.specs.Worlds.{slots_of}

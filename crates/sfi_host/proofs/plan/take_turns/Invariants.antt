@@ -1,6 +1,6 @@
 use Rattle.std.proofs.Common.{drop}
 use Rattle.sfi_host.specs.Joint.{Machine, IsMachine}
-use Rattle.sfi_host.specs.Limits.{IsPlanOnItsWay}
+use Rattle.sfi_host.specs.private.Limits.{IsPlanOnItsWay}
 use Rattle.sfi_host.specs.Moves.{HaveMoved}
 use Rattle.sfi_host.specs.Programs.{AreDecoded}
 use Rattle.sfi_host.specs.Sandboxes.{world_of}

@@ -2,7 +2,7 @@ use Rattle.std.proofs.Common.{◌≡◌, ◌<◌, ◌++◌, [], ◌∷◌, List,
 use Rattle.std.proofs.lemmas.Result.{err_from_is_err_and}
 use Rattle.std.proofs.lemmas.List.{map_push, length-take-le}
 use Rattle.sfi_rewrite.specs.Placement.{Placement}
-use Rattle.sfi_link.specs.Near.{AreCodesFrom, contents}
+use Rattle.sfi_link.specs.private.Near.{AreCodesFrom, contents}
 use Rattle.sfi_link.proofs.Linking.{codes_push, code_refused, take_one_more}
 use Rattle.sfi_link.proofs.linker.codes_of.Goals as goal
 

@@ -1,5 +1,5 @@
 use Rattle.std.proofs.Common.{take}
-use Rattle.sfi_link.specs.Near.{AreCodesFrom, contents}
+use Rattle.sfi_link.specs.private.Near.{AreCodesFrom, contents}
 use Rattle.sfi_link.proofs.linker.codes_of.Given as goal
 
 abbrev pub invariant-loop-number : goal.invariant-loop-number

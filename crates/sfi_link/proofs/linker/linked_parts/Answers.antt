@@ -5,7 +5,7 @@ use Rattle.sfi_image.specs.declared.format.Format.{Format}
 use Rattle.sfi_image.specs.Spelling.{Part, view, views}
 use Rattle.sfi_rewrite.specs.Placement.{Placement}
 use Rattle.sfi_link.specs.Linked.{IsLinked, AreLinkedFrom}
-use Rattle.sfi_link.specs.Near.{contents}
+use Rattle.sfi_link.specs.private.Near.{contents}
 use Rattle.sfi_link.proofs.Linking.{linked_push, codes_length, code_at, take_one_more}
 use Rattle.sfi_link.proofs.linker.linked_parts.Goals as goal
 

@@ -3,7 +3,7 @@ use Rattle.std.specs.Prelude.{string_bytes}
 use Rattle.sfi_image.specs.declared.part.SandboxPart.{SandboxPart}
 use Rattle.sfi_image.specs.Spelling.{view, format_of}
 use Rattle.sfi_image.specs.Parts.{IsRightPart}
-use Rattle.sfi_report.specs.Added.{Adds}
+use Rattle.sfi_report.specs.private.Added.{Adds}
 use Rattle.sfi_report.specs.Listing.{format_line, IsSandboxListing}
 use Rattle.sfi_report.proofs.Sandboxes.{right_at, AreListedTo, no_sandboxes, one_sandbox_more, all_sandboxes}
 use Rattle.sfi_report.proofs.listing.listing_text.Goals as goal

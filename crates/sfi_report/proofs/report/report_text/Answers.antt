@@ -4,7 +4,7 @@ use Rattle.std.proofs.lemmas.List.{take_all}
 use Rattle.sfi_image.specs.Spelling.{Part, format_of}
 use Rattle.sfi_scan.specs.declared.finding.Finding.{Finding}
 use Rattle.sfi_scan.specs.declared.rule.Rule.TheVariants.{V1}
-use Rattle.sfi_report.specs.Added.{Adds, Stands}
+use Rattle.sfi_report.specs.private.Added.{Adds, Stands}
 use Rattle.sfi_report.specs.Report.{IsFindingLine, IsReport}
 use Rattle.sfi_report.proofs.Places.{findings_stand}
 use Rattle.sfi_report.proofs.Reports.{one_finding_more}

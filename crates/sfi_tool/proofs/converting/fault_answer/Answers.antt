@@ -1,6 +1,6 @@
 use Rattle.std.proofs.Common.{◌∙◌, refl, sym, subst}
 use Rattle.sfi_check.specs.declared.conversion.ConvertFault.{ConvertFault}
-use Rattle.sfi_tool.specs.Converting.{HasFound, HoldsSome}
+use Rattle.sfi_tool.specs.private.Converting.{HasFound, HoldsSome}
 use Rattle.sfi_tool.proofs.converting.fault_answer.Goals as goal
 
 pub refused_answer-requires : goal.refused_answer-requires

@@ -1,5 +1,5 @@
 use Rattle.std.proofs.Common.{◌∙◌, List, ℕ, sym, subst}
-use Rattle.sfi_tool.specs.Says.{Refuses}
+use Rattle.sfi_tool.specs.private.Says.{Refuses}
 use Rattle.sfi_tool.proofs.Texts.{on_findings, on_fault}
 use Rattle.sfi_tool.proofs.ran.ran.Goals as goal
 

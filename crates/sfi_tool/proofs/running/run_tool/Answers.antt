@@ -1,5 +1,5 @@
 use Rattle.std.proofs.Common.{◌≡◌, ◌≢◌, ◌<◌, ◌∙◌, ℕ, List, Option, Some, None, Vec, Global, sym, subst, arith, inl, IfSome}
-use Rattle.sfi_tool.specs.Input.{IsInput}
+use Rattle.sfi_tool.specs.private.Input.{IsInput}
 use Rattle.sfi_tool.specs.Says.{Says}
 use Rattle.sfi_tool.specs.declared.input.Input.TheVariants.{Whole}
 use Rattle.sfi_tool.proofs.TooLarge.{told_too_large}

@@ -2,7 +2,8 @@ use Rattle.std.proofs.Common.{rules, ◌≡◌, ◌+◌, ◌*◌, ◌%◌, ◌/�
 use Rattle.std.specs.Prelude.{slice_index}
 use Rattle.std.specs.Vec.{with_items}
 use Rattle.std.proofs.lemmas.List.{with_items_is}
-use Rattle.rv_mem.specs.Frames.{ArePages, MarksRun, frame_of, cell_at, run_of}
+use Rattle.rv_mem.specs.Frames.{ArePages, frame_of, cell_at}
+use Rattle.rv_mem.specs.private.Frames.{MarksRun, run_of}
 use Rattle.rv_mem.proofs.Paging.{table_value, get_pages, memory_is}
 use Rattle.rv_mem.proofs.PageRuns.{are_run, run_written}
 use Rattle.rv_mem.proofs.pages.Pages.mark_run.Goals as goal

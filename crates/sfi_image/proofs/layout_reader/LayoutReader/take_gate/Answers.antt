@@ -4,7 +4,8 @@ use Rattle.sfi_image.specs.declared.part.Gate.{Gate}
 use Rattle.sfi_image.specs.Spelling.{gate}
 use Rattle.sfi_image.specs.Spans.{code_span}
 use Rattle.sfi_image.specs.Gates.{AreGates}
-use Rattle.sfi_image.specs.Keeping.{ReaderState, StandsFor, next_gate}
+use Rattle.sfi_image.specs.Keeping.{ReaderState, StandsFor}
+use Rattle.sfi_image.specs.private.Keeping.{next_gate}
 use Rattle.sfi_image.specs.Reader.{kept}
 use Rattle.sfi_image.proofs.Standing.{still_reader}
 use Rattle.sfi_image.proofs.Places.{gate_next}

@@ -11,7 +11,7 @@ use Rattle.sfi_image.specs.Formats.{is_stack}
 use Rattle.sfi_scan.specs.declared.before.Before.{Before}
 use Rattle.sfi_scan.specs.declared.bundle.BundlePlace.{BundlePlace}
 use Rattle.sfi_scan.specs.declared.clean.Words.{Words}
-use Rattle.sfi_scan.specs.Near.{near}
+use Rattle.sfi_scan.specs.private.Near.{near}
 use Rattle.sfi_policy.specs.Registers.{data_base_register, data_mask_register, is_reserved, stack_pointer}
 use Rattle.sfi_policy.specs.Pairs.{masking_instr, placing_instr}
 use Rattle.sfi_scan.specs.Pairs.{follows_code_pair}

@@ -1,0 +1,9 @@
+-- Words of private contracts and proofs, beside those of Texts.antt.
+use Rattle.std.specs.Prelude.{◌≡◌, ℕ, ◌<◌, List, [], ◌∷◌, length}
+use Rattle.rv_text.specs.declared.cause.TextCause.TheVariants as cause
+use Rattle.rv_text.specs.Texts.{lines}
+
+-- the text begins with this line and a line feed, and then this
+pub record BeginsWithLine (text line rest : List ℕ) : Type 0 where
+  pub first : lines text ≡ line ∷ lines rest
+  pub shorter : length rest < length text

@@ -1,0 +1,5 @@
+-- Words that private contracts and proofs alone cite: no public statement rests on them.
+pub mod Keeping
+pub mod Outcome
+pub mod Spans
+pub mod Writing

@@ -1,0 +1,51 @@
+-- Words of private contracts and proofs, beside those of Keeping.antt.
+use Rattle.std.specs.Prelude.{◌≡◌, ℕ, ◌+◌, ◌-◌, ◌≤◌, ◌==◌, Bool, false, List, [], ◌∷◌, ◌++◌, cond, Option, Some, None}
+use Rattle.sfi_policy.specs.Limits.{bundle_size}
+use Rattle.sfi_image.specs.declared.part.Gate.{Gate}
+use Rattle.sfi_image.specs.declared.fields.Fields.{Fields}
+use Rattle.sfi_image.specs.declared.fault.LayoutFault.{LayoutFault}
+use Rattle.sfi_image.specs.declared.want.Next.{Next}
+use Rattle.sfi_image.specs.declared.want.Next.TheVariants as next
+use Rattle.sfi_image.specs.Fronts.{Front, front, HasFaultWhateverFollows}
+use Rattle.sfi_image.specs.Keeping.{Leads, ReaderState, StandsFor}
+
+-- the first of the addresses is that one
+abbrev pub is_first : List ℕ → ℕ → Bool
+is_first [] at = false
+is_first (a ∷ more) at = a == at
+
+-- what comes next after so many sandboxes of that count
+abbrev pub next_part : ℕ → ℕ → Next
+next_part begun count = cond (begun == count) next.End next.Fields
+
+-- what comes next after so many first data bytes of so many
+abbrev pub next_init : ℕ → ℕ → ℕ → ℕ → Next
+next_init read len begun count = cond (read == len) (next_part begun count) next.Init
+
+-- what comes next after so many bytes of code of so many
+abbrev pub next_code : ℕ → ℕ → ℕ → ℕ → ℕ → Next
+next_code read size len begun count = cond (read == size) (next_init 0 len begun count) next.Code
+
+-- what comes next after so many gates of so many
+abbrev pub next_gate : ℕ → ℕ → Next
+next_gate read gate_count = cond (read == gate_count) next.Code next.Gate
+
+-- that comes next, for a sandbox with these fields of which so many first data bytes are read: so many bytes may be taken
+abbrev pub TakesLength : Next → Fields → ℕ → ℕ → Type 0
+TakesLength next.Magic f read len = len ≡ 4
+TakesLength next.Count f read len = len ≡ 4
+TakesLength next.Fields f read len = len ≡ 28
+TakesLength next.Gate f read len = len ≡ 8
+TakesLength next.Code f read len = len ≡ bundle_size
+TakesLength next.Init f read len = (1 ≤ len) × (len + read ≤ f.init_len)
+TakesLength next.End f read len = ⊥
+TakesLength next.Nothing f read len = ⊥
+
+-- so many bytes are as long as what comes next, told by what is kept
+abbrev pub MayTake : ReaderState → ℕ → Type 0
+MayTake r len = TakesLength r.next r.fields r.init_read len
+
+-- no fault, and it goes on from each front that it stands for; or a fault of each of them with these bytes
+abbrev pub Takes : ReaderState → List ℕ → ReaderState → Option LayoutFault → Type 0
+Takes old s new None = (x : Front) → StandsFor old x → Leads x s new
+Takes old s new (Some k) = (new.next ≡ next.Nothing) × ((x : Front) → StandsFor old x → HasFaultWhateverFollows (front x ++ s) k)

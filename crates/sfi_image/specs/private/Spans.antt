@@ -1,0 +1,8 @@
+-- Words of private contracts and proofs, beside those of Spans.antt.
+use Rattle.std.specs.Prelude.{ℕ, ◌+◌, ◌-◌, ◌^◌, ◌<◌, []}
+use Rattle.sfi_image.specs.declared.span.Span.{Span}
+
+-- it holds an address, and its end has 64 bits
+pub record IsBounded (s : Span) : Type 0 where
+  pub some : 0 < s.size
+  pub end : s.base + s.size < 2 ^ 64
