@@ -1,5 +1,5 @@
 -- The table of the bytes' classes, seen right at each byte.
-use Rattle.std.proofs.Common.{◌≡◌, ℕ, ◌<◌, ◌+◌, ◌*◌, ◌==◌, ◌≤◌, Bool, true, false, refl, sym, ap, ◌∙◌, subst, arith, zero-add, Option, Some, None, Ok}
+use Rattle.std.proofs.Common.{◌≡◌, ℕ, ◌<◌, ◌+◌, ◌*◌, ◌==◌, ◌≤◌, ◌%◌, Bool, true, false, refl, sym, ap, ◌∙◌, subst, arith, zero-add, Option, Some, None, Ok}
 use Rattle.std.specs.Prelude.{not, slice_index, nat_lt, if◌then◌else◌}
 use Rattle.std.specs.List.{list_all, range_with_len}
 use Rattle.std.proofs.lemmas.List.FromFn.{length-range_with_len, get_or-range_with_len}
@@ -9,6 +9,7 @@ use Rattle.std.specs.Int.Bits.{bit_or}
 use Rattle.std.proofs.lemmas.Nat.{le_or_l, le_or_r}
 use Rattle.hex.specs.Hex.{hex_digit_value, pair_value, digit_or_error, value_at}
 use Rattle.sfi_tool.specs.Hexadecimal.{is_kept}
+use Rattle.sfi_tool.specs.private.Hexadecimal.{IsByteOf}
 use Rattle.sfi_tool.specs.declared.hexadecimal.TheConstants.{CLASSES}
 
 -- a test that passes at each byte by computation
@@ -76,3 +77,39 @@ pair_is a b h v e f i =
 
 pub digit_small : (c v : ℕ) → hex_digit_value c ≡ Some v → v < 16
 digit_small c v e = grind (arith, nat_tests, e)
+
+-- ---- a digit's value by arithmetic
+
+implies : Bool → Bool → Bool
+implies true b = b
+implies false b = true
+
+then_true : (a b : Bool) → a ≡ true → implies a b ≡ true → b ≡ true
+unfolding implies
+then_true true b e h = h
+then_true false b e h = cc e
+
+abbrev letter : ℕ → ℕ
+letter b = (bit_or ((b + 255) % 256) 32 + 170) % 256
+
+pub letter_is : (c : ℕ) → c < 256 → 57 < c → letter c < 16 → hex_digit_value c ≡ Some (letter c)
+unfolding implies
+letter_is c lt large small =
+    let far : nat_lt 57 c ≡ true = grind (arith, nat_tests, large) in
+    let near : nat_lt (letter c) 16 ≡ true = grind (arith, nat_tests, small) in
+    let all = below_256 (λ b. implies (nat_lt 57 b) (implies (nat_lt (letter b) 16) (same (Some (letter b)) (hex_digit_value b)))) refl c lt in
+    sym (same_is _ _ (then_true _ _ near (then_true _ _ far all)))
+
+pub or_small_l : (a b : ℕ) → bit_or a b < 16 → a < 16
+or_small_l a b h = omega (arith, h, le_or_l a b)
+
+pub or_small_r : (a b : ℕ) → bit_or a b < 16 → b < 16
+or_small_r a b h = omega (arith, h, le_or_r a b)
+
+-- the byte of two values that are digits'
+pub byte_of_values : (a b h v : ℕ) → a < 256 → b < 256 → hex_digit_value a ≡ Some h → hex_digit_value b ≡ Some v → IsByteOf a b (h * 16 + v)
+byte_of_values a b h v la lb e f = record {
+  pair = pair_is a b h v e f;
+  high_kept = digit_kept a h la e;
+  low_kept = digit_kept b v lb f;
+}

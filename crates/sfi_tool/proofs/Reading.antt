@@ -1,10 +1,14 @@
 -- Reading the text from place to place, with room for each byte.
-use Rattle.std.proofs.Common.{◌≡◌, ℕ, ◌+◌, ◌*◌, ◌/◌, ◌<◌, ◌≤◌, Bool, true, false, List, [], ◌∷◌, ◌++◌, length, drop, Option, Some, None, IfSome, Ok, refl, sym, ap, ◌∙◌, subst, arith, Vec, Global}
+use Rattle.std.proofs.lemmas.Bool.Decides.{nat_tests}
+use Rattle.std.proofs.lemmas.Grind.{get_or-set_at}
+use Rattle.std.proofs.lemmas.List.{get_or-set_other, get_or-take, get_or-drop, length-take-le, take_more, append_assoc, append-nil}
+use Rattle.std.proofs.Common.{◌≡◌, ◌≢◌, ◌==◌, slice_set, ℕ, ◌+◌, ◌-◌, ◌*◌, ◌/◌, ◌<◌, ◌≤◌, Bool, true, false, zero, suc, List, [], ◌∷◌, ◌++◌, length, drop, take, Option, Some, None, IfSome, Ok, refl, sym, ap, ◌∙◌, subst, arith, Vec, Global}
 use Rattle.std.specs.Prelude.{not, filter, slice_index}
 use Rattle.std.specs.Option.{is_some}
 use Rattle.std.specs.Vec.{vec_len, vec_capacity}
 use Rattle.hex.specs.Hex.{hex_digit_value, pair_value}
 use Rattle.sfi_tool.specs.Hexadecimal.{is_kept}
+use Rattle.sfi_tool.specs.private.Hexadecimal.{IsByteOf}
 use Rattle.sfi_tool.proofs.Classes.{digit_small}
 use Rattle.sfi_tool.proofs.Digits.{Decodes, decodes_first, decodes_pair, decodes_high, decodes_low, at_white, at_kept}
 
@@ -92,3 +96,67 @@ reads_low text at bytes new h v e d f g k r = record {
 
 pub reads_as : (text : List ℕ) (at : ℕ) (bytes new : Vec ℕ Global) (high other : Option ℕ) → new ≡ bytes → other ≡ high → Reads text at bytes high → Reads text at new other
 reads_as text at bytes new high other e f r = subst (λ (h : Option ℕ). Reads text at new h) (sym f) (subst (λ (b : Vec ℕ Global). Reads text at b high) (sym e) r)
+
+-- ---- a block
+
+-- the digits from a place on lead to these bytes in front
+two_digits : (text front : List ℕ) (at byte : ℕ) → at + 1 < length text → IsByteOf (slice_index text at) (slice_index text (at + 1)) byte
+    → Decodes (filter is_kept text) (filter is_kept (drop at text)) front None
+    → Decodes (filter is_kept text) (filter is_kept (drop (at + 2) text)) (front ++ byte ∷ []) None
+two_digits text front at byte h is d =
+    let low : filter is_kept (drop (at + 1) text) ≡ slice_index text (at + 1) ∷ filter is_kept (drop (at + 2) text) = at_kept text (at + 1) h is.low_kept ∙ ap (λ (n : ℕ). slice_index text (at + 1) ∷ filter is_kept (drop n text)) (two at) in
+    let both : filter is_kept (drop at text) ≡ slice_index text at ∷ slice_index text (at + 1) ∷ filter is_kept (drop (at + 2) text) =
+    at_kept text at (omega (arith, h)) is.high_kept ∙ ap (λ (t : List ℕ). slice_index text at ∷ t) low in
+    decodes_pair _ _ _ _ _ byte is.pair (subst (λ (rest : List ℕ). Decodes (filter is_kept text) rest front None) both d)
+
+pub many_digits : (text front block : List ℕ) (at n : ℕ) → n ≤ length block → at + 2 * n ≤ length text
+    → ((k : ℕ) → k < n → IsByteOf (slice_index text (at + 2 * k)) (slice_index text (at + (2 * k + 1))) (slice_index block k))
+    → Decodes (filter is_kept text) (filter is_kept (drop at text)) front None
+    → Decodes (filter is_kept text) (filter is_kept (drop (at + 2 * n) text)) (front ++ take n block) None
+many_digits text front block at zero h l each d =
+    let here : at ≡ at + 2 * 0 = omega arith in
+    let there = subst (λ (m : ℕ). Decodes (filter is_kept text) (filter is_kept (drop m text)) front None) here d in
+    subst (λ (b : List ℕ). Decodes (filter is_kept text) (filter is_kept (drop (at + 2 * 0) text)) b None) (sym (append-nil front)) there
+many_digits text front block at (suc n) h l each d =
+    let before = many_digits text front block at n (omega (arith, h)) (omega (arith, l)) (λ k lt. each k (omega (arith, lt))) d in
+    let place : at + (2 * n + 1) ≡ at + 2 * n + 1 = omega arith in
+    let is = subst (λ (m : ℕ). IsByteOf (slice_index text (at + 2 * n)) (slice_index text m) (slice_index block n)) place (each n (omega arith)) in
+    let after = two_digits text (front ++ take n block) (at + 2 * n) (slice_index block n) (omega (arith, l)) is before in
+    let next : at + 2 * n + 2 ≡ at + 2 * suc n = omega arith in
+    let more : n + 1 ≡ suc n = omega arith in
+    let items : (front ++ take n block) ++ slice_index block n ∷ [] ≡ front ++ take (suc n) block =
+    append_assoc front (take n block) (slice_index block n ∷ []) ∙ ap (λ (t : List ℕ). front ++ t) (sym (take_more block n 0 (omega (arith, h)))) ∙ ap (λ (m : ℕ). front ++ take m block) more in
+    subst (λ (b : List ℕ). Decodes (filter is_kept text) (filter is_kept (drop (at + 2 * suc n) text)) b None) items
+    (subst (λ (m : ℕ). Decodes (filter is_kept text) (filter is_kept (drop m text)) ((front ++ take n block) ++ slice_index block n ∷ []) None) next after)
+
+-- an array whose elements below a place are right, after the one at that place is written
+pub set_next : (P : ℕ → ℕ → Type 0) (xs : List ℕ) (n y : ℕ) → n < length xs → ((k : ℕ) → k < n → P k (slice_index xs k)) → P n y → (k : ℕ) → k < n + 1 → P k (slice_index (slice_set xs n y) k)
+set_next P xs n y h all here k lt = by_test (k == n) refl
+  where
+    by_test : (b : Bool) → (k == n) ≡ b → P k (slice_index (slice_set xs n y) k)
+    by_test true e =
+        let same : k ≡ n = grind (arith, nat_tests, e) in
+        subst (λ (v : ℕ). P k v) (sym (get_or-set_at xs n k y 0 same h)) (subst (λ (m : ℕ). P m y) (sym same) here)
+    by_test false e =
+        let other : k ≢ n = grind (arith, nat_tests, e) in
+        subst (λ (v : ℕ). P k v) (sym (get_or-set_other xs n k y 0 other)) (all k (omega (arith, lt, other)))
+
+pub reads_block : (text : List ℕ) (at pairs : ℕ) (bytes new : Vec ℕ Global) (high : Option ℕ) (block : List ℕ) → false ≡ is_some high → 64 ≤ length text - at → pairs ≤ 32 → length block ≡ 32
+    → ((k : ℕ) → k < pairs → IsByteOf (slice_index (take (at + 64 - at) (drop at text)) (2 * k)) (slice_index (take (at + 64 - at) (drop at text)) (2 * k + 1)) (slice_index block k))
+    → new.items ≡ bytes.items ++ take pairs block → vec_len new ≡ vec_len bytes + length (take pairs block) → vec_capacity bytes ≤ vec_capacity new
+    → Reads text at bytes high → Reads text (at + 2 * pairs) new high
+reads_block text at pairs bytes new (Some v) block none h most size each e f g r = cc
+reads_block text at pairs bytes new None block none h most size each e f g r =
+    let in_text : (i : ℕ) → i < 64 → slice_index (take (at + 64 - at) (drop at text)) i ≡ slice_index text (at + i) =
+    λ i lt. get_or-take (at + 64 - at) (drop at text) i 0 (omega (arith, lt)) ∙ get_or-drop at text i 0 in
+    let there : (k : ℕ) → k < pairs → IsByteOf (slice_index text (at + 2 * k)) (slice_index text (at + (2 * k + 1))) (slice_index block k) =
+    λ k lt. subst (λ (x : ℕ). IsByteOf x (slice_index text (at + (2 * k + 1))) (slice_index block k)) (in_text (2 * k) (omega (arith, lt, most)))
+    (subst (λ (y : ℕ). IsByteOf (slice_index (take (at + 64 - at) (drop at text)) (2 * k)) y (slice_index block k)) (in_text (2 * k + 1) (omega (arith, lt, most))) (each k lt)) in
+    let taken : length (take pairs block) ≡ pairs = length-take-le pairs block (omega (arith, most, size)) in
+    record {
+      so_far = subst (λ (l : List ℕ). Decodes (filter is_kept text) (filter is_kept (drop (at + 2 * pairs) text)) l None) (sym e)
+          (many_digits text bytes.items block at pairs (omega (arith, most, size)) (omega (arith, h, most)) there r.so_far);
+      small = tt;
+      room = omega (arith, f, taken, r.room);
+      fits = omega (arith, g, r.fits);
+    }

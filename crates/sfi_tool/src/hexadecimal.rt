@@ -1,10 +1,10 @@
 //! Hexadecimal text with white space in it.
 
-ghost use Rattle.std.specs.Prelude.{◌≡◌, ◌≤◌, ℕ, List, not, IfOk, IfErr, IfSome, IsErr, Ok, filter, length, slice_index, true};
+ghost use Rattle.std.specs.Prelude.{◌≡◌, ◌<◌, ◌≤◌, ◌+◌, ◌*◌, ℕ, List, not, IfOk, IfErr, IfSome, IsErr, Ok, Some, filter, length, slice_index, true};
 ghost use Rattle.sfi_tool.specs.declared.hexadecimal.TheConstants.{CLASSES};
 ghost use Rattle.hex.specs.Hex.{decode_of, hex_digit_value, pair_value};
 ghost use Rattle.sfi_tool.specs.Hexadecimal.{is_kept, IsNoHexadecimal, IsUnreadable, SpellsBytes};
-ghost use Rattle.sfi_tool.specs.private.Hexadecimal.{GivesBytes, IsInputStop};
+ghost use Rattle.sfi_tool.specs.private.Hexadecimal.{GivesBytes, IsByteOf, IsInputStop};
 
 use crate::fault::{InputFault, Stop};
 use crate::input::INPUT_LIMIT;
@@ -88,7 +88,107 @@ fn byte_of(high: u8, low: u8) -> Option<u8>
     }
 }
 
-/// The bytes that the text's digits spell, each made as its second digit is met.
+/// How many digits are read at a time, where so many stand there.
+const BLOCK: usize = 64;
+
+/// A digit's value, found by arithmetic, so that a block's digits are read side by side; 16 or more for any other byte.
+#[inline(always)]
+#[tactic(auto, using(crate::proofs::Classes::letter_is))]
+fn value_of(byte: u8) -> u8
+    ensures { result < 16 → hex_digit_value byte ≡ Some result }
+{
+    if byte > b'9' {
+        (byte.wrapping_sub(1) | 32).wrapping_sub(86)
+    } else {
+        byte.wrapping_sub(b'0')
+    }
+}
+
+/// The values of a block's bytes. It isn't inlined: LLVM finds its vector instructions where arrays lie in memory.
+#[inline(never)]
+fn values_of(digits: &[u8]) -> [u8; BLOCK]
+    requires { length digits.now ≡ 64 }
+    ensures { (k : ℕ) → k < 64 → slice_index result k < 16 → hex_digit_value (slice_index digits.now k) ≡ Some (slice_index result k) }
+{
+    let mut values = [0u8; BLOCK];
+    for place in 0..BLOCK {
+        values[place] = value_of(digits[place]);
+    }
+    values
+}
+
+/// Whether all of a block's bytes are digits, by their values.
+#[tactic(auto, using(crate::proofs::Classes::or_small_l, crate::proofs::Classes::or_small_r))]
+fn are_digits(values: &[u8; BLOCK]) -> bool
+    ensures { result ≡ true → (k : ℕ) → k < 64 → slice_index values.now k < 16 }
+{
+    let mut bits = 0u8;
+    for place in 0..BLOCK {
+        bits |= values[place];
+    }
+    bits < WHITE
+}
+
+/// How many pairs of digits a block begins with.
+fn digit_pairs(values: &[u8; BLOCK]) -> usize
+    ensures most { result ≤ 32 }
+    ensures digits { (k : ℕ) → k < result → (slice_index values.now (2 * k) < 16) × (slice_index values.now (2 * k + 1) < 16) }
+{
+    if are_digits(values) {
+        return BLOCK / 2;
+    }
+    for pair in 0..BLOCK / 2 {
+        if values[2 * pair] >= WHITE || values[2 * pair + 1] >= WHITE {
+            return pair;
+        }
+    }
+    BLOCK / 2
+}
+
+/// The byte of two digits' values, by arithmetic on both at once.
+#[inline(always)]
+fn byte_of_pair(values: [u8; 2]) -> u8
+    ensures { slice_index values 0 < 16 → slice_index values 1 < 16 → result ≡ slice_index values 0 * 16 + slice_index values 1 }
+{
+    let both = u16::from_le_bytes(values);
+    (both.wrapping_mul(16).wrapping_add(both / 256) % 256) as u8
+}
+
+/// The byte of each pair of a block's values that are digits.
+#[inline(never)]
+fn joined(values: &[u8; BLOCK]) -> [u8; BLOCK / 2]
+    ensures size { length result ≡ 32 }
+    ensures each { (k : ℕ) → k < 32 → slice_index values.now (2 * k) < 16 → slice_index values.now (2 * k + 1) < 16 → slice_index result k ≡ slice_index values.now (2 * k) * 16 + slice_index values.now (2 * k + 1) }
+{
+    let mut bytes = [0u8; BLOCK / 2];
+    for pair in 0..BLOCK / 2 {
+        bytes[pair] = byte_of_pair([values[2 * pair], values[2 * pair + 1]]);
+    }
+    bytes
+}
+
+/// The bytes of the pairs of digits that a block begins with: the first `pairs` of `bytes`.
+#[derive(Debug, Drop)]
+struct Front {
+    bytes: [u8; BLOCK / 2],
+    pairs: usize,
+}
+
+/// What a block begins with.
+fn front_of(block: &[u8]) -> Front
+    requires { length block.now ≡ 64 }
+    ensures most { result.pairs ≤ 32 }
+    ensures size { length result.bytes ≡ 32 }
+    ensures each { (k : ℕ) → k < result.pairs → IsByteOf (slice_index block.now (2 * k)) (slice_index block.now (2 * k + 1)) (slice_index result.bytes k) }
+{
+    let values = values_of(block);
+    Front {
+        bytes: joined(&values),
+        pairs: digit_pairs(&values),
+    }
+}
+
+/// The bytes that the text's digits spell, in blocks where a try gives 16 bytes or more in the mean, or else each made as its second digit is met.
 fn decoded(alloc: Global, text: &[u8]) -> Result<Vec<u8>, Stop>
     ensures bytes { IfOk result (λ v. decode_of (filter is_kept text.now) ≡ Ok v.items) }
     ensures stop { IfErr result (IsInputStop (IsNoHexadecimal text.now)) }
@@ -96,17 +196,27 @@ fn decoded(alloc: Global, text: &[u8]) -> Result<Vec<u8>, Stop>
     let mut bytes = Vec::with_capacity(alloc, text.len() / 2)?;
     let mut high = None;
     let mut at: usize = 0;
+    let mut tries: usize = 0;
     while at < text.len() {
+        if is_white(text[at]) {
+            at += 1;
+            continue;
+        }
+        if high.is_none() && tries <= bytes.len() / 16 && text.len() - at >= BLOCK {
+            tries += 1;
+            let front = front_of(&text[at..at + BLOCK]);
+            if front.pairs > 0 {
+                bytes.extend_from_slice(&front.bytes[..front.pairs])?;
+                at += 2 * front.pairs;
+                continue;
+            }
+        }
         if high.is_none()
             && at + 1 < text.len()
             && let Some(byte) = byte_of(text[at], text[at + 1])
         {
             bytes.push_reserved(byte);
             at += 2;
-            continue;
-        }
-        if is_white(text[at]) {
-            at += 1;
             continue;
         }
         let Some(value) = digit_value(text[at]) else {

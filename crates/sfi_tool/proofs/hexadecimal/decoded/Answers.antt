@@ -2,7 +2,7 @@ use Rattle.std.proofs.Common.{refl, sym, ◌∙◌, arith}
 use Rattle.std.specs.Prelude.{slice_index}
 use Rattle.sfi_tool.proofs.Classes.{digit_small}
 use Rattle.sfi_tool.proofs.Digits.{decodes_last, decodes_odd, decodes_bad, decodes_at, moved, at_end}
-use Rattle.sfi_tool.proofs.Reading.{reads_first, reads_pair, reads_white, reads_high, reads_low, reads_as, room_pair, room_low}
+use Rattle.sfi_tool.proofs.Reading.{reads_first, reads_pair, reads_white, reads_high, reads_low, reads_as, reads_block, room_pair, room_low}
 use Rattle.sfi_tool.proofs.hexadecimal.decoded.Goals as goal
 use Rattle.sfi_tool.proofs.hexadecimal.decoded.Goals.{in-None, in-Some-high}
 
@@ -14,9 +14,16 @@ push_reserved-requires c = room_pair c.args.text.now c.loop-at.at c.loop-at.byte
 
 pub loop-at-preserved-in-loop-at : goal.loop-at-preserved-in-loop-at
 loop-at-preserved-in-loop-at c =
-    reads_pair c.args.text.now c.loop-at.at c.loop-at.bytes _ c.loop-at.high c.in-Some.byte (sym c.if-is_none.ensures) c.if-at-text.true
+    reads_pair c.args.text.now c.loop-at.at c.loop-at.bytes _ c.loop-at.high c.in-Some.byte (sym c.if-is_none-2.ensures) c.if-at-text.true
     c.in-Some.ensures.pair c.in-Some.ensures.kept.0 c.in-Some.ensures.kept.1
     c.push_reserved.ensures.items c.push_reserved.ensures.len c.push_reserved.ensures.capacity c.loop-at.invariant
+
+pub loop-at-preserved-then-front-gt0 : goal.loop-at-preserved-then-front-gt0
+loop-at-preserved-then-front-gt0 c =
+    let front = c.front_of-front in
+    let pushed = c.in_ok-extend_from_slice.ensures in
+    reads_block c.args.text.now c.loop-at.at front.result.pairs c.loop-at.bytes _ c.loop-at.high front.result.bytes (sym c.if-is_none.ensures) c.if-text-at-ge-BLOCK.true
+    front.ensures.most front.ensures.size front.ensures.each pushed.items pushed.len pushed.capacity c.loop-at.invariant
 
 pub loop-at-preserved-then-is_white : goal.loop-at-preserved-then-is_white
 loop-at-preserved-then-is_white c = reads_white _ _ _ _ c.loop-at-test.true c.if-is_white.ensures c.loop-at.invariant
