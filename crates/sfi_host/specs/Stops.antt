@@ -8,7 +8,8 @@ use Rattle.rv_step.specs.Access.{accessed}
 use Rattle.rv_step.specs.State.{State}
 use Rattle.rv_step.specs.Step.{Stands}
 use Rattle.sfi_image.specs.declared.span.Span.{Span}
-use Rattle.sfi_image.specs.Spans.{Holds, guard}
+use Rattle.sfi_policy.specs.Limits.{guard}
+use Rattle.sfi_image.specs.Spans.{Holds}
 use Rattle.sfi_host.specs.declared.status.Status.{Status}
 use Rattle.sfi_host.specs.declared.status.Status.TheVariants.{Ready, Exited, Trapped}
 use Rattle.sfi_host.specs.Slots.{Bounds}

@@ -21,7 +21,7 @@ use Rattle.sfi_image.specs.declared.format.Format.{Format}
 use Rattle.sfi_image.specs.declared.format.Format.TheVariants.{Sfi1}
 use Rattle.sfi_image.specs.Formats.{code_most}
 use Rattle.sfi_image.specs.Spelling as image
-use Rattle.sfi_scan.specs.Bundles.{stub}
+use Rattle.sfi_policy.specs.Pairs.{stub}
 use Rattle.sfi_rewrite.specs.declared.slot.Slot.{Slot}
 use Rattle.sfi_rewrite.specs.declared.slot.Slot.TheVariants.{Wide, Short, Jump, Upper, Lower}
 use Rattle.sfi_rewrite.specs.declared.placed.PlacedName.{PlacedName}
