@@ -43,7 +43,7 @@ link_failed text source placed linker.Memory means rewritten h = inl refl
 -- ---- one build, one fault
 
 module _ (source_law : texts.OneSource) (fault_law : texts.OneFault) (meant_law : texts.MeantHasNoFault) (rewriting_law : sources.OneRewriting) (rewrite_law : sources.OneFault) (never_law : sources.NeverBoth)
-    (image_law : links.OneImage) (link_law : links.OneFault) (image_or_fault : links.ImageOrFault) where
+    (image_law : links.OneImage) (link_law : links.OneFault) (image_has_no_fault : links.ImageHasNoFault) where
   same_placed : (text : List ℕ) (s t : List Sandbox) (p q : List Placement) → MeansSource text s → MeansSource text t → AreRewritten s p → AreRewritten t q → p ≡ q
   same_placed text s t p q a b x y = rewriting_law t p q (subst (λ u. AreRewritten u p) (source_law text s t a b) x) y
 
@@ -58,7 +58,7 @@ module _ (source_law : texts.OneSource) (fault_law : texts.OneFault) (meant_law 
   never_built text bytes (Text f) a h = meant_law text a.source f a.means h
   never_built text bytes (Rewrite f) a (t, means, h) = not_rewritten text a.source t a.placed f a.means means a.rewritten h
   never_built text bytes (Link f) a (t, q, means, rewritten, h) =
-      image_or_fault q bytes f (subst (λ p. IsLinkedImage p bytes) (same_placed text a.source t a.placed q a.means means a.rewritten rewritten) a.image) h
+      image_has_no_fault q bytes f (subst (λ p. IsLinkedImage p bytes) (same_placed text a.source t a.placed q a.means means a.rewritten rewritten) a.image) h
 
   one_build_fault : (text : List ℕ) (f g : BuildFault) → IsBuildFault text f → IsBuildFault text g → f ≡ g
   one_build_fault text (Text f) (Text g) a b = ap (λ x. Text x) (fault_law text f g a b)

@@ -4,11 +4,13 @@
  * Accepted means: from any entry of any of the image's sandboxes, with the four reserved registers set and every
  * other register and data byte arbitrary, after any number of turns every load and store fell in that sandbox's data
  * region or its guard zones, where it trapped, no code byte changed, and control left only through a listed gate.
- * This is proved of the calls below (README.md has the theorem with its premises).
+ * In the second format x2, the stack pointer, isn't arbitrary: at an entry and after a reply it lies in the data
+ * region. This is proved of the calls below. The library loads and runs nothing: the caller sees to it that memory,
+ * host and neighbours are as the theorem asks (README.md has it with its premises).
  *
  * The calls read nothing but their arguments, keep nothing from one to the next, start no thread, read no file and
  * write none. Any number of threads may call them at once. They return whatever the bytes of the image are; the time
- * grows in proportion to the bytes, and the stack that a call needs stays below 64 KiB.
+ * grows in proportion to the bytes. A thread with 64 KiB of stack had room for them where that was measured.
  *
  * What a caller owes, since nothing checks it: each pointer is not NULL and is aligned, also where its length is 0;
  * the memory of `image` isn't written during the call, by any thread; `verdict` and `array` overlap neither each
@@ -27,7 +29,8 @@
 extern "C" {
 #endif
 
-/* What a verdict says of the bytes. */
+/* What a verdict says of the bytes. Test the status that the call returned: a verdict of zeros that no call wrote
+ * looks accepted, though with 0 sandboxes. */
 enum sfi_status {
     SFI_ACCEPTED = 0, /* they are an image in which no rule is broken */
     SFI_REFUSED = 1,  /* they are an image in which rules are broken */
@@ -53,7 +56,7 @@ enum sfi_layout_fault {
 /* A rule that is broken, and where. */
 struct sfi_finding {
     uint32_t sandbox; /* the sandbox's place in the image, counted from 0 */
-    uint32_t address; /* that of the first byte of the instruction, or of what is none */
+    uint32_t address; /* that of the instruction's first byte, or of the bytes that are none; for V9 the gate's */
     uint32_t rule;    /* 1 for V1 to 10 for V10 (README.md, "Rules") */
 };
 

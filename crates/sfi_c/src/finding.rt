@@ -10,7 +10,7 @@ use sfi_scan::Finding;
 pub struct SfiFinding {
     /// The sandbox's place in the image, counted from 0.
     pub sandbox: u32,
-    /// That of the first byte of the instruction, or of what is none.
+    /// That of the instruction's first byte, or of the bytes that are none; for V9 the gate's.
     pub address: u32,
     /// The rule's number, 1 for V1 to 10 for V10.
     pub rule: u32,

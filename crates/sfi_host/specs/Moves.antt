@@ -44,7 +44,7 @@ IsOwnTurn m s (Replies after) = GetsReply m s after
 IsOwnTurn m s (Changes after) = ⊥
 
 -- Where a step leads, and with which status: ready in the state after it, if it is done; trapped in the state after it,
--- which is the one before, if it traps; and a call, if the host answered it by an exit, to its own pc, exited.
+-- which is the one before, if it traps; and a call to its own pc, exited: a call that goes on is a reply, and no step.
 abbrev pub StepLeads : Outcome → State → State → Status → Type 0
 StepLeads Next after now status = (now ≡ after) × (status ≡ Ready)
 StepLeads (Trap cause at) after now status = (now ≡ after) × (status ≡ Trapped cause at)

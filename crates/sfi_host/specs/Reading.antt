@@ -1,4 +1,4 @@
--- What may be asked of a world's sandboxes beside their states.
+-- What else may be asked of a world: a sandbox's pc and registers, and its data region.
 use Rattle.std.specs.Prelude.{ℕ, List, Option, slice_get}
 use Rattle.std.specs.Option.{option_map}
 use Rattle.rv_step.specs.State.{Hart}

@@ -102,6 +102,6 @@ pub record IsStopOf (w : Sandboxes) (i : ℕ) (status : Status) : Type 0 where
   pub status_is : seat.status ≡ status
   pub itself : StoppedItself seat.bounds (state_in w.bytes seat) status
 
--- so it is of each sandbox, whatever status may be asked of it
+-- so it is of each sandbox, with the status that `World::status` answers
 abbrev pub HaveStoppedThemselves : Sandboxes → Type 0
 HaveStoppedThemselves w = (i : ℕ) (status : Status) → status_at (slots_of w) i ≡ Some status → IsStopOf w i status

@@ -105,8 +105,8 @@ impl<M: Memory> World<M> {
         // Each sandbox is safe as before, and its data lie outside each other one.
         ensures safe { IsSafeWorld self.new }
 
-        // Each one that has stopped is at its own instruction that stopped it: an ecall that the host answered by an exit, an ebreak, or a
-        // load or store that touches its guard zones. No other trap stops a sandbox.
+        // Each one that has stopped is at its own instruction that stopped it: an ecall if it exited (`done` and `memory` say that the host
+        // answered so), an ebreak, or a load or store that touches its guard zones. No other trap stops a sandbox.
         ensures stops { HaveStoppedThemselves self.new }
 
         // No byte has changed that lies in no sandbox's data.
@@ -143,7 +143,7 @@ impl<M: Memory> World<M> {
         Some(sandbox.status)
     }
 
-    /// How many steps it did, at most 2^64 - 1; `None` where there is none.
+    /// How many steps the sandbox of that number did, at most 2^64 - 1; `None` where there is none.
     pub fn steps(&self, i: u32) -> Option<u64>
         ensures { result ≡ steps_at (slots_of self.now) i }
     {
@@ -175,7 +175,7 @@ impl<M: Memory> World<M> {
         Some(&sandbox.cpu)
     }
 
-    /// Its data region; `None` where there is none.
+    /// The data region of the sandbox of that number; `None` where there is none.
     pub fn data_region(&self, i: u32) -> Option<Region>
         ensures { option_map span_of result ≡ data_region_at (slots_of self.now) i }
     {
@@ -183,7 +183,7 @@ impl<M: Memory> World<M> {
         Some(sandbox.data)
     }
 
-    /// The memory of all, as it is.
+    /// The memory with the code and data of all sandboxes.
     pub fn into_memory(self) -> M
         ensures { M.bytes result ≡ self.bytes }
     {

@@ -23,17 +23,17 @@ LinkedIsRight = (placed : List Placement) (parts : List Part) → IsPlaced place
 abbrev pub OneLinking : Type 0
 OneLinking = (placed : List Placement) (parts others : List Part) → AreLinked placed parts → AreLinked placed others → parts ≡ others
 
--- what is placed has one image
+-- what is placed has at most one image
 abbrev pub OneImage : Type 0
 OneImage = (placed : List Placement) (bytes others : List ℕ) → IsLinkedImage placed bytes → IsLinkedImage placed others → bytes ≡ others
 
--- what is placed has one fault
+-- what is placed has at most one fault
 abbrev pub OneFault : Type 0
 OneFault = (placed : List Placement) (f g : LinkFault) → IsLinkFault placed f → IsLinkFault placed g → f ≡ g
 
 -- what has an image has no fault
-abbrev pub ImageOrFault : Type 0
-ImageOrFault = (placed : List Placement) (bytes : List ℕ) (f : LinkFault) → IsLinkedImage placed bytes → IsLinkFault placed f → ⊥
+abbrev pub ImageHasNoFault : Type 0
+ImageHasNoFault = (placed : List Placement) (bytes : List ℕ) (f : LinkFault) → IsLinkedImage placed bytes → IsLinkFault placed f → ⊥
 
 -- of as many placed sandboxes as an image may have, with a fault no image is made
 abbrev pub NeverBoth : Type 0

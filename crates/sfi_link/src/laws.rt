@@ -1,5 +1,5 @@
 //! What holds of all that is placed. A call costs nothing.
-ghost use Rattle.sfi_link.specs.Laws.{LinkedIsClean, LinkedIsRight, OneLinking, OneImage, OneFault, NeverBoth, ImageOrFault, SomeLinking};
+ghost use Rattle.sfi_link.specs.Laws.{LinkedIsClean, LinkedIsRight, OneLinking, OneImage, OneFault, NeverBoth, ImageHasNoFault, SomeLinking};
 ghost use Rattle.sfi_link.specs.Standing.{LinkedSlotsStand, LinkedRunsAs, LinkedImagesRunAs};
 
 use rv_comp::laws::{one_spelling, two_lengths};
@@ -23,13 +23,13 @@ pub fn linked_is_right()
     ensures { LinkedIsRight }
 {}
 
-/// One list of sandboxes is made of what is placed, and one image, or it has one fault, and never both.
+/// At most one list of sandboxes is made of what is placed, and at most one image; it has at most one fault, and never both.
 pub fn one_linking()
     ensures parts { OneLinking }
     ensures images { OneImage }
     ensures faults { OneFault }
     ensures either { NeverBoth }
-    ensures image_or_fault { ImageOrFault }
+    ensures image_has_no_fault { ImageHasNoFault }
 {}
 
 /// What is placed has an image, or a fault: `link` answers the one that it is, unless memory runs out.

@@ -11,7 +11,7 @@ pub fn one_report()
     one_spelling();
 }
 
-/// An image has one listing.
+/// An image has at most one listing.
 pub fn one_listing()
     ensures { OneListing }
 {

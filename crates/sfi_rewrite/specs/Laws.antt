@@ -15,11 +15,11 @@ use Rattle.sfi_rewrite.specs.Rewriting.{IsRewritten, AreRewritten}
 use Rattle.sfi_rewrite.specs.Transparency.{MayBe, ActsAs, StandTransparent}
 use Rattle.sfi_rewrite.specs.Samples.{MeetsTransparent, MeetsKeepsStack, sample_load, sample_jump, sample_push}
 
--- an item has one expansion in each format
+-- an item has at most one expansion in each format
 abbrev pub OneExpansion : Type 0
 OneExpansion = (f : Format) (x : Item) (slots others : List Slot) → IsExpansion f x slots → IsExpansion f x others → slots ≡ others
 
--- a sandbox has one placement
+-- a sandbox has at most one placement
 abbrev pub OnePlacement : Type 0
 OnePlacement = (s : Sandbox) (p q : Placement) → IsPlacement s p → IsPlacement s q → p ≡ q
 
@@ -29,7 +29,7 @@ OneRewriting =
     (source : List Sandbox) (placed others : List Placement)
     → AreRewritten source placed → AreRewritten source others → placed ≡ others
 
--- a source has one fault
+-- a source has at most one fault
 abbrev pub OneFault : Type 0
 OneFault = (source : List Sandbox) (f g : RewriteFault) → IsSourceFault source f → IsSourceFault source g → f ≡ g
 

@@ -5,14 +5,14 @@ use rv_comp::laws::{one_first_form, some_first_form};
 use rv_mem::laws::{addresses_are_these, others_stay, read_is_held, written_is_there};
 use rv_step::laws::{pair_leaves, step_keeps_state};
 
-/// An item has one expansion.
+/// An item has at most one expansion.
 pub fn one_expansion()
     ensures { OneExpansion }
 {
     one_first_form();
 }
 
-/// A sandbox has one placement.
+/// A sandbox has at most one placement.
 pub fn one_placement()
     ensures { OnePlacement }
 {
@@ -26,7 +26,7 @@ pub fn one_rewriting()
     one_first_form();
 }
 
-/// A source has one fault.
+/// A source has at most one fault.
 pub fn one_fault()
     ensures { OneFault }
 {

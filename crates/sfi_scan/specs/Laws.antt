@@ -18,19 +18,19 @@ use Rattle.sfi_scan.specs.Findings.{AreBundleFindings, AreFindings, AreImageFind
 abbrev pub SameBundleStarts : Type 0
 SameBundleStarts = (b : BundlePlace) (at : ℕ) → IsTrue (is_bundle_start b at) ↔ IsBundleStart (record { base = b.code_base; size = b.code_size }) at
 
--- a list of bytes has one longest reading
+-- a list of bytes has at most one longest reading
 abbrev pub OneLongestReading : Type 0
 OneLongestReading = (bytes : List ℕ) (xs ys : List Piece) → IsLongestReading bytes xs → IsLongestReading bytes ys → xs ≡ ys
 
--- a bundle has one list of findings
+-- a bundle has at most one list of findings
 abbrev pub OneBundleList : Type 0
 OneBundleList = (b : BundlePlace) (bytes : List ℕ) (xs ys : List Finding) → AreBundleFindings b bytes xs → AreBundleFindings b bytes ys → xs ≡ ys
 
--- a part has one list of findings
+-- a part has at most one list of findings
 abbrev pub OneList : Type 0
 OneList = (sandbox : ℕ) (p : Part) (xs ys : List Finding) → AreFindings sandbox p xs → AreFindings sandbox p ys → xs ≡ ys
 
--- an image has one list of findings
+-- an image has at most one list of findings
 abbrev pub OneImageList : Type 0
 OneImageList = (ps : List Part) (xs ys : List Finding) → AreImageFindings ps xs → AreImageFindings ps ys → xs ≡ ys
 

@@ -8,28 +8,28 @@ pub fn same_bundle_starts()
     ensures { SameBundleStarts }
 {}
 
-/// A list of bytes has one longest reading.
+/// A list of bytes has at most one longest reading.
 pub fn one_longest_reading()
     ensures { OneLongestReading }
 {
     one_spelling();
 }
 
-/// A bundle has one list of findings.
+/// A bundle has at most one list of findings.
 pub fn one_bundle_list()
     ensures { OneBundleList }
 {
     one_spelling();
 }
 
-/// A part has one list of findings.
+/// A part has at most one list of findings.
 pub fn one_list()
     ensures { OneList }
 {
     one_spelling();
 }
 
-/// An image has one list of findings.
+/// An image has at most one list of findings.
 pub fn one_image_list()
     ensures { OneImageList }
 {

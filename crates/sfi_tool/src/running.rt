@@ -52,7 +52,7 @@ fn run_raw<R: Read, W: Write>(alloc: Global, reader: &mut R, writer: &mut W) -> 
 /// - 0: accepted, built, listed or run; 1: findings;
 /// - 2: a fault of the input, or a text of `--input` that spells no bytes, which the text names. The latter is
 ///   answered before anything is read;
-/// - 3: the words don't parse, or ask for help or the version: what to print for them was written;
+/// - 3: the words don't parse, ask for both `--raw` and `--report`, or for help or the version: what to print for them was written;
 /// - 4: an allocation was refused, and nothing was written;
 /// - 5: a read or a write failed. After a failed read nothing was written; after a failed write a
 ///   beginning of the text.

@@ -6,7 +6,7 @@ returns-clause-built c = means_built _ _ c.built.ensures.builds
 
 pub returns-clause-build : goal.returns-clause-build
 returns-clause-build c =
-    is_build c.one_source.ensures c.one_fault.ensures c.meant_has_no_fault.ensures c.one_rewriting.ensures c.one_fault-2.ensures c.never_both.ensures c.one_linking.ensures.images c.one_linking.ensures.faults c.one_linking.ensures.image_or_fault _ _ c.built.ensures.builds
+    is_build c.one_source.ensures c.one_fault.ensures c.meant_has_no_fault.ensures c.one_rewriting.ensures c.one_fault-2.ensures c.never_both.ensures c.one_linking.ensures.images c.one_linking.ensures.faults c.one_linking.ensures.image_has_no_fault _ _ c.built.ensures.builds
 
 pub returns-clause-clean : goal.returns-clause-clean
 returns-clause-clean c = means_clean _ _ c.built.ensures.builds
@@ -16,11 +16,11 @@ returns-clause-fault c = means_fault _ _ c.built.ensures.builds
 
 pub returns-clause-only_built : goal.returns-clause-only_built
 returns-clause-only_built c =
-    only_built c.one_source.ensures c.one_fault.ensures c.meant_has_no_fault.ensures c.one_rewriting.ensures c.one_fault-2.ensures c.never_both.ensures c.one_linking.ensures.images c.one_linking.ensures.faults c.one_linking.ensures.image_or_fault _ _ c.built.ensures.builds
+    only_built c.one_source.ensures c.one_fault.ensures c.meant_has_no_fault.ensures c.one_rewriting.ensures c.one_fault-2.ensures c.never_both.ensures c.one_linking.ensures.images c.one_linking.ensures.faults c.one_linking.ensures.image_has_no_fault _ _ c.built.ensures.builds
 
 pub returns-clause-only_fault : goal.returns-clause-only_fault
 returns-clause-only_fault c =
-    only_fault c.one_source.ensures c.one_fault.ensures c.meant_has_no_fault.ensures c.one_rewriting.ensures c.one_fault-2.ensures c.never_both.ensures c.one_linking.ensures.images c.one_linking.ensures.faults c.one_linking.ensures.image_or_fault _ _ c.built.ensures.builds
+    only_fault c.one_source.ensures c.one_fault.ensures c.meant_has_no_fault.ensures c.one_rewriting.ensures c.one_fault-2.ensures c.never_both.ensures c.one_linking.ensures.images c.one_linking.ensures.faults c.one_linking.ensures.image_has_no_fault _ _ c.built.ensures.builds
 
 pub returns-clause-runs_as : goal.returns-clause-runs_as
 returns-clause-runs_as c =

@@ -14,5 +14,5 @@ returns-clause-faults c = one_fault
 pub returns-clause-either : goal.returns-clause-either
 returns-clause-either c = never_both
 
-pub returns-clause-image_or_fault : goal.returns-clause-image_or_fault
-returns-clause-image_or_fault c = never
+pub returns-clause-image_has_no_fault : goal.returns-clause-image_has_no_fault
+returns-clause-image_has_no_fault c = never
