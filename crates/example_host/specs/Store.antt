@@ -7,7 +7,7 @@ use Rattle.sfi_host.specs.Hosts.{Call, Replied, Yield, Exit, Answer}
 
 -- ---- what is kept
 
--- keys and values, in the order of the keys
+-- keys and their values
 pub record StoreState : Type 0 where
   pub values : List (ℕ × ℕ)
 
