@@ -2,7 +2,6 @@
 use Rattle.std.proofs.Common.{◌≡◌, ◌≢◌, ℕ, ◌==◌, cond, true, false, List, [], ◌∷◌, Option, Some, slice_get, set, refl, sym, ap, ◌∙◌, subst}
 use Rattle.std.proofs.lemmas.List.Elements.{All-head, All-tail}
 use Rattle.rv_mem.specs.Bytes.{Bytes, byte_at}
-use Rattle.rv_word.specs.declared.instr.Instr.TheVariants.{Ecall}
 use Rattle.rv_step.specs.declared.outcome.Outcome.{Outcome}
 use Rattle.rv_step.specs.declared.outcome.Outcome.TheVariants.{Next, Call, Trap}
 use Rattle.rv_step.specs.State.{State}
@@ -21,7 +20,7 @@ use Rattle.sfi_host.specs.Worlds.{Seat, Sandboxes, slot_of, slots_of, state_in, 
 use Rattle.sfi_host.specs.Moves.{IsOwnTurn, StepLeads, Leads, TakesTurn, Move, after_move, IsMove, AreMoves, own_turns, turns_to, IsRunBetween, MovesAreRuns, OthersLeaveSlots}
 use Rattle.sfi_host.specs.Steps.{IsOwnStep, StepsAreOwn}
 use Rattle.sfi_host.specs.Stops.{StoppedItself}
-use Rattle.sfi_host.proofs.Stops.{at_still, at_pc}
+use Rattle.sfi_host.proofs.Stops.{at_gate_still, at_gate}
 use Rattle.sfi_host.proofs.Keeping as keep
 use Rattle.sfi_host.proofs.Neighbours.{eq_from_test, not_same, get_set_same, get_set_other, slots_are, world_safe, neighbours_are}
 use Rattle.sfi_host.proofs.SamePart.{same_some, safe_run}
@@ -66,7 +65,7 @@ module _ (on : GoesOnSafely) (own : StepsAreOwn) where
         let called = is.called e in
         let pc : t.hart.pc ≡ s.hart.pc = leads.0 ∙ ap (λ (x : State). x.hart.pc) (is.stopped (λ f. cc)) in
         subst (λ (x : Status). StoppedItself s.bounds (state_in n t) x) (sym leads.2)
-        (at_still s.bounds m n (keep.code_same m s seat n stays) s.hart t.hart Ecall pc (at_pc m s seat ready Ecall called.0 called.1))
+        (at_gate_still s.bounds m n (keep.code_same m s seat n stays) s.hart t.hart pc (at_gate m s seat ready called.0 called.1))
 
     turn_stopped : (turn : Turn) → IsOwnTurn m s turn → (n : Bytes) (t : Seat) → StaysOutside s.bounds.data m n
         → Leads turn (state_in n t) t.status → StoppedItself s.bounds (state_in n t) t.status

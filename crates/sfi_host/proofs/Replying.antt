@@ -28,7 +28,7 @@ use Rattle.sfi_host.specs.private.Sandboxes.{call_by, IsTold, IsNotTold, after_t
 use Rattle.sfi_host.specs.Worlds.{slot_of, state_in, IsSafeSeat, StaysOutside}
 use Rattle.sfi_host.proofs.Leaving.{data_of_own, put_back}
 use Rattle.sfi_host.proofs.Keeping as keep
-use Rattle.sfi_host.proofs.Stops.{at_still, at_pc}
+use Rattle.sfi_host.proofs.Stops.{at_gate_still, at_gate}
 
 abbrev slot_with : Bounds → Hart → Status → ℕ → Bytes → Slot
 slot_with b h status n bytes = record { bounds = b; hart = h; status = status; steps = n; bytes = bytes }
@@ -128,7 +128,7 @@ safe_after on m n s t gate.Yield size seat ready stands memory stays whole hart 
     keep.replied m (seat_of s) seat on ready size stands n _ _ memory stays whole (hart (λ e. cc)) refl (keep.arguments_keep s.cpu t.a0 t.a1) (keep.stack_argument s.cpu t.a0 t.a1)
 safe_after on m n s t (gate.Exit k) size seat ready stands memory stays whole hart =
     keep.halted m (seat_of s) seat n _ refl (λ e. cc)
-    (at_still (seat_of s).bounds m n (keep.code_same m (seat_of s) seat n stays) s.cpu (after_told (gate.Exit k) s t).cpu Ecall refl (at_pc m (seat_of s) seat ready Ecall size stands))
+    (at_gate_still (seat_of s).bounds m n (keep.code_same m (seat_of s) seat n stays) s.cpu (after_told (gate.Exit k) s t).cpu refl (at_gate m (seat_of s) seat ready size stands))
     stays whole
 safe_after on m n s t gate.Memory size seat ready stands memory stays whole hart =
     keep.own_changed m (seat_of s) seat on n stays whole

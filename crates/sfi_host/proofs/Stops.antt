@@ -4,12 +4,14 @@ use Rattle.std.specs.Prelude.{ℤ}
 use Rattle.std.specs.List.{Contains}
 use Rattle.std.specs.Option.{option_map}
 use Rattle.std.proofs.lemmas.List.FromFn.{get_or-map-range_with_len, length-map-range_with_len}
+use Rattle.std.proofs.lemmas.Option.{slice_get_within, get_or_from_slice_get}
 use Rattle.rv_word.specs.declared.instr.Instr.{Instr}
 use Rattle.rv_word.specs.declared.instr.Instr.TheVariants.{Op, OpImm, Load, Store, Branch, Jal, Jalr, Lui, Auipc, Fence, Ecall, Ebreak}
 use Rattle.rv_word.specs.declared.instr.LoadKind.{LoadKind}
 use Rattle.rv_word.specs.declared.instr.StoreWidth.{StoreWidth}
+use Rattle.rv_comp.specs.declared.front.Front.TheVariants.{Read}
 use Rattle.rv_mem.specs.Bytes.{Bytes, byte_at, bytes_at, address_after, addresses, in_front, number_of}
-use Rattle.rv_step.specs.declared.outcome.Outcome.TheVariants.{Trap}
+use Rattle.rv_step.specs.declared.outcome.Outcome.TheVariants.{Call, Trap}
 use Rattle.rv_step.specs.declared.outcome.Cause.{Cause}
 use Rattle.rv_step.specs.declared.outcome.Cause.TheVariants as cause
 use Rattle.rv_step.specs.Access.{accessed, Accesses}
@@ -17,13 +19,15 @@ use Rattle.rv_step.specs.Laws.{StepIsEffect}
 use Rattle.rv_step.specs.State.{Hart, register}
 use Rattle.rv_step.specs.Step.{Stepped, Stands, IsStep, next, unchanged, after_load, effect}
 use Rattle.rv_step.specs.Values.{plus, load_size, store_size}
+use Rattle.sfi_image.specs.declared.part.Gate.{Gate}
 use Rattle.sfi_image.specs.Spans.{Holds}
-use Rattle.sfi_check.specs.Regions.{InData, InGuard}
+use Rattle.sfi_check.specs.Regions.{InData, InGuard, IsGate}
+use Rattle.sfi_check.specs.Runs.{Steps}
 use Rattle.sfi_check.specs.Safety.{IsSafeState, IsSafeStep}
 use Rattle.sfi_host.specs.declared.status.Status.{Status}
 use Rattle.sfi_host.specs.declared.status.Status.TheVariants.{Ready, Exited, Trapped}
 use Rattle.sfi_host.specs.Slots.{Bounds}
-use Rattle.sfi_host.specs.Stops.{InGuards, IsAt, TouchesGuard, StoppedItself}
+use Rattle.sfi_host.specs.Stops.{InGuards, IsAt, IsAtGate, TouchesGuard, StoppedItself}
 use Rattle.sfi_host.specs.Worlds.{Seat, Sandboxes, slots_of, status_at, state_in, IsSafeSeat, IsSafeWorld, HaveStoppedThemselves}
 
 -- ---- where the code stays, the instruction does
@@ -65,10 +69,17 @@ module _ (b : Bounds) (m n : Bytes) (same : (a : ℕ) → Holds b.code a → byt
         within = is.within;
       })
 
-  touches_still : (h : Hart) (at : ℕ) → TouchesGuard b (record { hart = h; memory = m }) at → TouchesGuard b (record { hart = h; memory = n }) at
-  touches_still h at t = record {
-    instr = t.instr;
-    is_at = at_still h h t.instr refl t.is_at;
+  pub at_gate_still : (h k : Hart) → k.pc ≡ h.pc → IsAtGate b (record { hart = h; memory = m }) → IsAtGate b (record { hart = k; memory = n })
+  at_gate_still h k pc is = record {
+    is_at = at_still h k Ecall pc is.is_at;
+    gate = is.gate;
+    among = is.among;
+    address = is.address ∙ sym pc;
+  }
+
+  touches_still : (h : Hart) (i : Instr) (at : ℕ) → TouchesGuard b (record { hart = h; memory = m }) i at → TouchesGuard b (record { hart = h; memory = n }) i at
+  touches_still h i at t = record {
+    is_at = at_still h h i refl t.is_at;
     count = t.count;
     accesses = t.accesses;
     within = t.within;
@@ -79,10 +90,10 @@ module _ (b : Bounds) (m n : Bytes) (same : (a : ℕ) → Holds b.code a → byt
 
   pub stopped_still : (h : Hart) (status : Status) → StoppedItself b (record { hart = h; memory = m }) status → StoppedItself b (record { hart = h; memory = n }) status
   stopped_still h Ready x = x
-  stopped_still h (Exited code) x = at_still h h Ecall refl x
+  stopped_still h (Exited code) x = at_gate_still h h refl x
   stopped_still h (Trapped cause.Break at) x = (at_still h h Ebreak refl x.0, x.1)
-  stopped_still h (Trapped cause.Load at) x = touches_still h at x
-  stopped_still h (Trapped cause.Store at) x = touches_still h at x
+  stopped_still h (Trapped cause.Load at) (kind, rd, rs1, imm, x) = (kind, rd, rs1, imm, touches_still h (Load kind rd rs1 imm) at x)
+  stopped_still h (Trapped cause.Store at) (width, rs1, rs2, imm, x) = (width, rs1, rs2, imm, touches_still h (Store width rs1 rs2 imm) at x)
   stopped_still h (Trapped cause.Fetch at) x = x
   stopped_still h (Trapped cause.Illegal at) x = x
 
@@ -122,6 +133,34 @@ module _ (m : Bytes) (s : Seat) (seat : IsSafeSeat m s) (ready : s.status ≡ Re
     within = λ k below. subst (λ (b : Bounds). Holds b.code (address_after s.hart.pc k)) (sym seat.bounds) (here.instruction i size stands k below);
   }
 
+  -- an ecall at its pc is at one of its gates: its step is a call
+  pub at_gate : (size : ℕ) → Stands (state_in m s) Ecall size → IsAtGate s.bounds (state_in m s)
+  at_gate size stands = record {
+    is_at = at_pc Ecall size stands;
+    gate = gate;
+    among = subst (λ (b : Bounds). Contains b.gates gate) (sym seat.bounds)
+        (number, slice_get_within seat.part.gates number gate there, get_or_from_slice_get seat.part.gates number gate gate there);
+    address = listed.3;
+  }
+    where
+      call : Stepped
+      call = record { outcome = Call; state = state_in m s }
+
+      step : IsStep (state_in m s) call
+      step = record { front = Read Ecall size; at_pc = stands; result = refl }
+
+      listed : IsGate seat.part s.hart.pc
+      listed = ((seat.safe ready).safe.safe (Steps call ∷ []) (step, tt)).1.called refl
+
+      number : ℕ
+      number = listed.0
+
+      gate : Gate
+      gate = listed.1
+
+      there : slice_get seat.part.gates number ≡ Some gate
+      there = listed.2
+
   module _ (r : Stepped) (safe : IsSafeStep seat.part (state_in m s) r) where
     data_of : (a : ℕ) → InData seat.part a → Holds s.bounds.data a
     data_of a h = subst (λ (b : Bounds). Holds b.data a) (sym seat.bounds) h
@@ -131,12 +170,11 @@ module _ (m : Bytes) (s : Seat) (seat : IsSafeSeat m s) (ready : s.status ≡ Re
 
     -- an access at which a byte is missing
     touches : (i : Instr) (size : ℕ) → Stands (state_in m s) i size → (at count : ℕ) → accessed i s.hart ≡ addresses at count → bytes_at m (addresses at count) ≡ None
-        → TouchesGuard s.bounds (state_in m s) at
+        → TouchesGuard s.bounds (state_in m s) i at
     touches i size stands at count are none =
         let x = missing_in m (addresses at count) none in
         let accesses : (a : ℕ) → Contains (addresses at count) a → Accesses i s.hart a = λ a c. subst (λ (l : List ℕ). Contains l a) (sym are) c in
         record {
-          instr = i;
           is_at = at_pc i size stands;
           count = count;
           accesses = are;
@@ -161,7 +199,8 @@ module _ (m : Bytes) (s : Seat) (seat : IsSafeSeat m s) (ready : s.status ≡ Re
         let x : cause.Load ≡ c = cc in
         let y : from ≡ at = cc in
         subst (λ (q : Cause). Stops q at) x
-        (subst (λ (a : ℕ). TouchesGuard s.bounds (state_in m s) a) y (touches (Load kind rd rs1 imm) n stands from (load_size kind) refl none))
+        (kind, rd, rs1, imm,
+        subst (λ (a : ℕ). TouchesGuard s.bounds (state_in m s) (Load kind rd rs1 imm) a) y (touches (Load kind rd rs1 imm) n stands from (load_size kind) refl none))
     by_load kind rd rs1 imm n stands c at (Some bs) some e = absurd (cc)
 
     by_store : (width : StoreWidth) (rs1 rs2 : ℕ) (imm : ℤ) (n : ℕ) (k : Hart) (w : Bytes) → Stands (state_in m s) (Store width rs1 rs2 imm) n → (c : Cause) (at : ℕ) (o : Option (List ℕ))
@@ -172,7 +211,8 @@ module _ (m : Bytes) (s : Seat) (seat : IsSafeSeat m s) (ready : s.status ≡ Re
         let x : cause.Store ≡ c = cc in
         let y : from ≡ at = cc in
         subst (λ (q : Cause). Stops q at) x
-        (subst (λ (a : ℕ). TouchesGuard s.bounds (state_in m s) a) y (touches (Store width rs1 rs2 imm) n stands from (store_size width) refl none))
+        (width, rs1, rs2, imm,
+        subst (λ (a : ℕ). TouchesGuard s.bounds (state_in m s) (Store width rs1 rs2 imm) a) y (touches (Store width rs1 rs2 imm) n stands from (store_size width) refl none))
     by_store width rs1 rs2 imm n k w stands c at (Some bs) some e = absurd (cc)
 
     by_instr : (i : Instr) (n : ℕ) → Stands (state_in m s) i n → (c : Cause) (at : ℕ) → (effect i n s.hart m).outcome ≡ Trap c at → Stops c at

@@ -1,12 +1,15 @@
 -- What stopped a sandbox. It stays on the instruction that did.
-use Rattle.std.specs.Prelude.{◌≡◌, ℕ, ◌+◌, ◌-◌, ◌<◌, ◌⊎◌, Contains}
+use Rattle.std.specs.Prelude.{◌≡◌, ℕ, ℤ, ◌+◌, ◌-◌, ◌<◌, ◌⊎◌, Contains}
 use Rattle.rv_word.specs.declared.instr.Instr.{Instr}
-use Rattle.rv_word.specs.declared.instr.Instr.TheVariants.{Ecall, Ebreak}
+use Rattle.rv_word.specs.declared.instr.Instr.TheVariants.{Load, Store, Ecall, Ebreak}
+use Rattle.rv_word.specs.declared.instr.LoadKind.{LoadKind}
+use Rattle.rv_word.specs.declared.instr.StoreWidth.{StoreWidth}
 use Rattle.rv_mem.specs.Bytes.{address_after, addresses}
-use Rattle.rv_step.specs.declared.outcome.Cause.TheVariants.{Fetch, Illegal, Break, Load, Store}
+use Rattle.rv_step.specs.declared.outcome.Cause.TheVariants as cause
 use Rattle.rv_step.specs.Access.{accessed}
 use Rattle.rv_step.specs.State.{State}
 use Rattle.rv_step.specs.Step.{Stands}
+use Rattle.sfi_image.specs.declared.part.Gate.{Gate}
 use Rattle.sfi_image.specs.declared.span.Span.{Span}
 use Rattle.sfi_policy.specs.Limits.{guard}
 use Rattle.sfi_image.specs.Spans.{Holds}
@@ -24,25 +27,33 @@ pub record IsAt (b : Bounds) (s : State) (i : Instr) : Type 0 where
   pub stands : Stands s i size
   pub within : (k : ℕ) → k < size → Holds b.code (address_after s.hart.pc k)
 
--- A load or store is at pc. It accesses some addresses from `at` on, which lie in the data and the guard zones,
--- and one of them in a guard zone.
-pub record TouchesGuard (b : Bounds) (s : State) (at : ℕ) : Type 0 where
-  pub instr : Instr
-  pub is_at : IsAt b s instr
+-- an ecall is at pc, and that is the address of one of the sandbox's gates
+pub record IsAtGate (b : Bounds) (s : State) : Type 0 where
+  pub is_at : IsAt b s Ecall
+  pub gate : Gate
+  pub among : Contains b.gates gate
+  pub address : gate.address ≡ s.hart.pc
+
+-- The instruction, a load or store, is at pc. It accesses some addresses from `at` on, which lie in the data and
+-- the guard zones, and one of them in a guard zone.
+pub record TouchesGuard (b : Bounds) (s : State) (i : Instr) (at : ℕ) : Type 0 where
+  pub is_at : IsAt b s i
   pub count : ℕ
-  pub accesses : accessed instr s.hart ≡ addresses at count
+  pub accesses : accessed i s.hart ≡ addresses at count
   pub within : (a : ℕ) → Contains (addresses at count) a → Holds b.data a ⊎ InGuards b.data a
   pub address : ℕ
   pub among : Contains (addresses at count) address
   pub guard : InGuards b.data address
 
--- A sandbox with this status has stopped itself, if it has stopped: it is at its ecall, at its ebreak,
--- or at its load or store that touches a guard zone. No other trap stops it.
+-- A sandbox with this status has stopped itself, if it has stopped: it is at the ecall of one of its gates,
+-- at its ebreak, or at its load or store that touches a guard zone. No other trap stops it.
 abbrev pub StoppedItself : Bounds → State → Status → Type 0
 StoppedItself b s Ready = Unit {0}
-StoppedItself b s (Exited code) = IsAt b s Ecall
-StoppedItself b s (Trapped Break at) = IsAt b s Ebreak × (at ≡ s.hart.pc)
-StoppedItself b s (Trapped Load at) = TouchesGuard b s at
-StoppedItself b s (Trapped Store at) = TouchesGuard b s at
-StoppedItself b s (Trapped Fetch at) = ⊥
-StoppedItself b s (Trapped Illegal at) = ⊥
+StoppedItself b s (Exited code) = IsAtGate b s
+StoppedItself b s (Trapped cause.Break at) = IsAt b s Ebreak × (at ≡ s.hart.pc)
+StoppedItself b s (Trapped cause.Load at) =
+    (kind : LoadKind) × (rd rs1 : ℕ) × (imm : ℤ) × TouchesGuard b s (Load kind rd rs1 imm) at
+StoppedItself b s (Trapped cause.Store at) =
+    (width : StoreWidth) × (rs1 rs2 : ℕ) × (imm : ℤ) × TouchesGuard b s (Store width rs1 rs2 imm) at
+StoppedItself b s (Trapped cause.Fetch at) = ⊥
+StoppedItself b s (Trapped cause.Illegal at) = ⊥

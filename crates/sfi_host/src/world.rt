@@ -105,8 +105,8 @@ impl<M: Memory> World<M> {
         // Each sandbox is safe as before, and its data lie outside each other one.
         ensures safe { IsSafeWorld self.new }
 
-        // Each one that has stopped is at its own instruction that stopped it: an ecall if it exited (`done` and `memory` say that the host
-        // answered so), an ebreak, or a load or store that touches its guard zones. No other trap stops a sandbox.
+        // Each one that has stopped is at its own instruction that stopped it: the ecall of one of its gates if it exited (`done` and
+        // `memory` say that the host answered so), an ebreak, or a load or store that touches its guard zones. No other trap stops a sandbox.
         ensures stops { HaveStoppedThemselves self.new }
 
         // No byte has changed that lies in no sandbox's data.
