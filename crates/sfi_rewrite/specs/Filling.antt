@@ -4,7 +4,6 @@ use Rattle.std.specs.List.{All}
 use Rattle.sfi_rewrite.specs.declared.slot.Slot.{Slot}
 use Rattle.sfi_policy.specs.Limits.{bundle_size}
 use Rattle.sfi_rewrite.specs.Slots.{size_of}
-use Rattle.sfi_rewrite.specs.declared.placed.PlacedName.TheVariants as placed
 
 -- a bundle's bytes of slots
 abbrev pub IsFull : List Slot → Type 0

@@ -1,5 +1,5 @@
 -- The words before a place.
-use Rattle.std.proofs.Common.{◌≡◌, ℕ, Option, Some, None, refl, inl}
+use Rattle.std.proofs.Common.{Option, Some, None, refl, inl}
 use Rattle.rv_word.specs.declared.instr.Instr.{Instr}
 use Rattle.sfi_scan.specs.declared.before.Before.{Before}
 use Rattle.sfi_scan.specs.private.FirstLook.{IsWordOr0, AreBefore}

@@ -1,8 +1,6 @@
 -- Words of private contracts and proofs, beside those of Texts.antt.
-use Rattle.std.specs.Prelude.{◌⊎◌, ℕ, List, [], Result, Ok, Err, Vec}
+use Rattle.std.specs.Prelude.{◌⊎◌, ℕ, List, Result, Ok, Err, Vec}
 use Rattle.std.specs.Global.{Global}
-use Rattle.sfi_rewrite.specs.declared.fault.RewriteFault.TheVariants as rewriter
-use Rattle.sfi_link.specs.declared.fault.LinkFault.TheVariants as linker
 use Rattle.sfi_build.specs.declared.fault.BuildFault.{BuildFault}
 use Rattle.sfi_build.specs.Texts.{IsBuildFault, IsTextBuild, IsWantOfMemory}
 

@@ -5,7 +5,6 @@ use Rattle.sfi_image.specs.declared.format.Format.TheVariants.{Sfi2}
 use Rattle.sfi_image.specs.Spelling.{Part}
 use Rattle.sfi_image.specs.InFormat.{all_in_format}
 use Rattle.sfi_scan.specs.Findings.{AreImageFindings}
-use Rattle.sfi_check.specs.declared.refusal.Refusal.TheVariants as refusal
 use Rattle.sfi_check.specs.declared.conversion.ConvertFault.{ConvertFault}
 use Rattle.sfi_check.specs.declared.conversion.ConvertFault.TheVariants.{Refused, NotOld, Stack, Memory}
 use Rattle.sfi_check.specs.Verdict.{IsAccepted}

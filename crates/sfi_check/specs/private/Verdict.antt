@@ -1,5 +1,5 @@
 -- Words of private contracts and proofs, beside those of Verdict.antt.
-use Rattle.std.specs.Prelude.{◌≡◌, ◌≢◌, ℕ, List, [], Result, IfOk, IfErr}
+use Rattle.std.specs.Prelude.{◌≡◌, ◌≢◌, List, [], Result, IfOk, IfErr}
 use Rattle.sfi_image.specs.Spelling.{Part}
 use Rattle.sfi_scan.specs.Findings.{AreImageFindings}
 use Rattle.sfi_check.specs.declared.refusal.Refusal.{Refusal}

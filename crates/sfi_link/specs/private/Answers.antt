@@ -1,5 +1,5 @@
 -- Words of private contracts and proofs, beside those of Answers.antt.
-use Rattle.std.specs.Prelude.{ℕ, Result, Ok, Err}
+use Rattle.std.specs.Prelude.{Result, Ok, Err}
 use Rattle.sfi_link.specs.declared.fault.LinkFault.{LinkFault}
 use Rattle.sfi_link.specs.Answers.{UnlessMemory}
 
