@@ -17,7 +17,6 @@ use Rattle.sfi_tool.specs.Hexadecimal.{SpellsBytes, IsUnreadable}
 use Rattle.sfi_tool.specs.Input.{limit}
 use Rattle.sfi_tool.specs.RunLines.{IsRunText}
 use Rattle.sfi_tool.specs.Verdict.{accepted_line, refused_line}
-use Rattle.sfi_tool.specs.declared.fault.Stop.TheVariants as stop
 use Rattle.sfi_command.specs.declared.job.Job.{Job}
 use Rattle.sfi_command.specs.declared.job.Job.TheVariants.{Check, Dis, Build, Run, Convert}
 

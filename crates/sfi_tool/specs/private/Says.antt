@@ -12,7 +12,6 @@ use Rattle.sfi_scan.specs.declared.finding.Finding.{Finding}
 use Rattle.sfi_tool.specs.declared.fault.Stop.{Stop}
 use Rattle.sfi_tool.specs.declared.fault.Stop.TheVariants as stop
 use Rattle.sfi_command.specs.declared.job.Job.{Job}
-use Rattle.sfi_command.specs.declared.job.Job.TheVariants.{Build}
 use Rattle.sfi_tool.specs.declared.verdict.Answer.{Answer}
 use Rattle.sfi_tool.specs.Says.{HasInputFault, IsNoSourceText}
 

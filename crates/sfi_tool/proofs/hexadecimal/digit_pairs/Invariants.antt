@@ -1,4 +1,4 @@
-use Rattle.std.proofs.Common.{◌≡◌, ◌<◌, ◌+◌, ◌*◌, ℕ, Some, slice_index}
+use Rattle.std.proofs.Common.{◌<◌, ◌+◌, ◌*◌, ℕ, slice_index}
 use Rattle.sfi_tool.proofs.hexadecimal.digit_pairs.Given as goal
 
 abbrev pub invariant-loop-pair : goal.invariant-loop-pair

@@ -1,4 +1,4 @@
-use Rattle.std.proofs.Common.{◌≡◌, ◌<◌, ◌+◌, ◌*◌, ℕ, Some, slice_index, length}
+use Rattle.std.proofs.Common.{◌≡◌, ◌<◌, ◌+◌, ◌*◌, ℕ, slice_index, length}
 use Rattle.sfi_tool.proofs.hexadecimal.joined.Given as goal
 
 abbrev pub invariant-loop-pair : goal.invariant-loop-pair

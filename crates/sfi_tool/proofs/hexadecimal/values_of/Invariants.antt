@@ -1,4 +1,4 @@
-use Rattle.std.proofs.Common.{◌≡◌, ◌<◌, ◌+◌, ◌*◌, ℕ, Some, slice_index, length}
+use Rattle.std.proofs.Common.{◌≡◌, ◌<◌, ℕ, Some, slice_index, length}
 use Rattle.hex.specs.Hex.{hex_digit_value}
 use Rattle.sfi_tool.proofs.hexadecimal.values_of.Given as goal
 
