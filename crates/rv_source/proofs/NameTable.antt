@@ -84,7 +84,7 @@ module _ {A : Type 0} where
       by true same more = ap (λ t. (t, what) ∷ map entry_of es) (sym (same refl))
       by false same more = ap (λ l. entry_of e ∷ l) more
 
--- the place of a name is that of one of them, or after all
+-- the place of a name is that of one of them, or the one after the last
 pub place_within : (names : List (List ℕ × Named)) (name : List ℕ) → place_of names name ≤ length names
 place_within [] name = omega arith
 place_within (e ∷ es) name = by (bytes_eq name e.0) (place_within es name)

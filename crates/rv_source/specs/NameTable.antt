@@ -15,7 +15,7 @@ abbrev pub meaning : List (List ℕ × Named) → List ℕ → Named
 meaning [] name = Unknown
 meaning (e ∷ es) name = if bytes_eq name e.0 then e.1 else meaning es name
 
--- the place of the name; after all where it isn't there
+-- the place of the name; where it isn't there, the place after the last
 abbrev pub place_of : List (List ℕ × Named) → List ℕ → ℕ
 place_of [] name = 0
 place_of (e ∷ es) name = if bytes_eq name e.0 then 0 else 1 + place_of es name

@@ -86,7 +86,7 @@ pub record IsSameStep (s t : State) (r q : Stepped) : Type 0 where
   pub hart : q.state.hart ≡ r.state.hart
   pub bytes : (a : ℕ) → AgreeAt s t a → AgreeAt r.state q.state a
 
--- what a step does is told by its hart, and by the bytes of its instruction and of that one's access alone
+-- what a step does depends only on its hart, and on the bytes of its instruction and of that one's access
 abbrev pub AgreeingStepsAreSame : Type 0
 AgreeingStepsAreSame =
     (s t : State) (i : Instr) (n : ℕ) (r q : Stepped) → AgreeHere s t i n → IsStep s r → IsStep t q → IsSameStep s t r q

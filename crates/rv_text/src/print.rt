@@ -35,7 +35,7 @@ impl Mnemonic {
     }
 }
 
-/// Writes a register after the text.
+/// Appends a register to the text.
 fn push_register(out: &mut String, register: Reg) -> Result<(), AllocError>
     ensures { OnOk result (string_bytes out.new ≡ string_bytes out.old ++ x_name register) }
 {
@@ -43,7 +43,7 @@ fn push_register(out: &mut String, register: Reg) -> Result<(), AllocError>
     write!(out, "x{number}")
 }
 
-/// Writes a number of this kind after the text.
+/// Appends a number of this kind to the text.
 fn push_number(out: &mut String, kind: NumberKind, number: i64) -> Result<(), AllocError>
     ensures { OnOk result (string_bytes out.new ≡ string_bytes out.old ++ number_text kind number) }
 {
@@ -56,7 +56,7 @@ fn push_number(out: &mut String, kind: NumberKind, number: i64) -> Result<(), Al
     }
 }
 
-/// Writes one of the operands, or a mark, after the text.
+/// Appends one of the operands, or a mark, to the text.
 fn push_part(out: &mut String, o: &Operands, part: Part) -> Result<(), AllocError>
     ensures { OnOk result (string_bytes out.new ≡ string_bytes out.old ++ part_text (values_of o.now) part) }
 {
@@ -73,7 +73,7 @@ fn push_part(out: &mut String, o: &Operands, part: Part) -> Result<(), AllocErro
     }
 }
 
-/// Writes the operands of this form after the text.
+/// Appends the operands of this form to the text.
 fn push_operands(out: &mut String, o: &Operands, form: &[Part]) -> Result<(), AllocError>
     ensures { OnOk result (string_bytes out.new
         ≡ string_bytes out.old ++ flat_map (part_text (values_of o.now)) form.now) }
@@ -84,7 +84,7 @@ fn push_operands(out: &mut String, o: &Operands, form: &[Part]) -> Result<(), Al
     Ok(())
 }
 
-/// Writes a name and its operands after the text.
+/// Appends a name and its operands to the text.
 fn push_statement(out: &mut String, name: Mnemonic, o: &Operands) -> Result<(), AllocError>
     ensures { OnOk result (string_bytes out.new
         ≡ string_bytes out.old ++ statement_text name (values_of o.now)) }
@@ -97,7 +97,7 @@ fn push_statement(out: &mut String, name: Mnemonic, o: &Operands) -> Result<(), 
     push_operands(out, o, form)
 }
 
-/// Writes the text of an instruction, as [`print_instr`] gives it, after the text.
+/// Appends the text of an instruction, as [`print_instr`] gives it, to the text.
 pub fn push_instr(out: &mut String, instr: &Instr) -> Result<(), AllocError>
     ensures { OnOk result (string_bytes out.new ≡ string_bytes out.old ++ printed instr.now) }
 {

@@ -51,7 +51,7 @@ pub fn pair_across_bundles_is_unsafe()
     one_spelling();
 }
 
-/// V6 is needed: a jalr with an offset leaves the code region after its last bundle.
+/// V6 is needed: a jalr with an offset leaves the code region past its last bundle.
 pub fn jalr_offset_ignored_is_unsafe()
     ensures { IsNeeded V6 0x01000008 (sandbox jalr_offset_ignored) }
 {

@@ -198,9 +198,13 @@ module _ (m : Bytes) (s : Seat) (seat : IsSafeSeat m s) (ready : s.status ≡ Re
         let from = plus (register s.hart rs1) imm in
         let x : cause.Load ≡ c = cc in
         let y : from ≡ at = cc in
-        subst (λ (q : Cause). Stops q at) x
-        (kind, rd, rs1, imm,
-        subst (λ (a : ℕ). TouchesGuard s.bounds (state_in m s) (Load kind rd rs1 imm) a) y (touches (Load kind rd rs1 imm) n stands from (load_size kind) refl none))
+        subst (λ (q : Cause). Stops q at) x (
+          kind,
+          rd,
+          rs1,
+          imm,
+          subst (λ (a : ℕ). TouchesGuard s.bounds (state_in m s) (Load kind rd rs1 imm) a) y (touches (Load kind rd rs1 imm) n stands from (load_size kind) refl none),
+        )
     by_load kind rd rs1 imm n stands c at (Some bs) some e = absurd (cc)
 
     by_store : (width : StoreWidth) (rs1 rs2 : ℕ) (imm : ℤ) (n : ℕ) (k : Hart) (w : Bytes) → Stands (state_in m s) (Store width rs1 rs2 imm) n → (c : Cause) (at : ℕ) (o : Option (List ℕ))
@@ -210,9 +214,13 @@ module _ (m : Bytes) (s : Seat) (seat : IsSafeSeat m s) (ready : s.status ≡ Re
         let from = plus (register s.hart rs1) imm in
         let x : cause.Store ≡ c = cc in
         let y : from ≡ at = cc in
-        subst (λ (q : Cause). Stops q at) x
-        (width, rs1, rs2, imm,
-        subst (λ (a : ℕ). TouchesGuard s.bounds (state_in m s) (Store width rs1 rs2 imm) a) y (touches (Store width rs1 rs2 imm) n stands from (store_size width) refl none))
+        subst (λ (q : Cause). Stops q at) x (
+          width,
+          rs1,
+          rs2,
+          imm,
+          subst (λ (a : ℕ). TouchesGuard s.bounds (state_in m s) (Store width rs1 rs2 imm) a) y (touches (Store width rs1 rs2 imm) n stands from (store_size width) refl none),
+        )
     by_store width rs1 rs2 imm n k w stands c at (Some bs) some e = absurd (cc)
 
     by_instr : (i : Instr) (n : ℕ) → Stands (state_in m s) i n → (c : Cause) (at : ℕ) → (effect i n s.hart m).outcome ≡ Trap c at → Stops c at

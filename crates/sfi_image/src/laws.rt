@@ -29,7 +29,7 @@ pub fn right_in_second()
     ensures { RightInSecond }
 {}
 
-/// Where bytes end after the front of an image, or go on after the whole.
+/// What holds where bytes end within an image, or go on past a whole one.
 pub fn front_ends()
     ensures cut_short { CutShort }
     ensures trails { Trails }

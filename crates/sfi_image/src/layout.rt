@@ -33,7 +33,7 @@ fn capped(len: usize) -> u32
     }
 }
 
-// The number, of which a contract after a reference doesn't know that it has 32 bits.
+// The number; a contract that sees it by a reference doesn't know that it has 32 bits.
 fn word(number: u32) -> u32
     ensures value { result ≡ number }
     ensures word { IsWord result }

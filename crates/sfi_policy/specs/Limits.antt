@@ -1,4 +1,4 @@
--- The limits of a sandbox and of an image.
+-- The limits of a source, of a sandbox and of an image.
 use Rattle.std.specs.Prelude.{ℕ}
 
 -- the bytes of a bundle

@@ -1,4 +1,4 @@
-//! The limits of a sandbox and of an image.
+//! The limits of a source, of a sandbox and of an image.
 
 /// How many bytes a bundle has.
 pub const BUNDLE_SIZE: u32 = 16;

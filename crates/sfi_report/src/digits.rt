@@ -4,7 +4,7 @@ ghost use Rattle.sfi_report.specs.Digits.{hex_digits, word_digits};
 
 use std::alloc::AllocError;
 
-/// Writes the number in eight hexadecimal digits, in lower case, after the text. The one error is that an allocation was
+/// Appends the number in eight hexadecimal digits, in lower case, to the text. The one error is that an allocation was
 /// refused.
 pub fn push_eight_digits(out: &mut String, number: u32) -> Result<(), AllocError>
     ensures { OnOk result (string_bytes out.new ≡ string_bytes out.old ++ hex_digits 8 number) }
@@ -12,21 +12,21 @@ pub fn push_eight_digits(out: &mut String, number: u32) -> Result<(), AllocError
     write!(out, "{number:08x}")
 }
 
-/// Writes four digits after the text.
+/// Appends four digits to the text.
 pub(crate) fn push_four_digits(out: &mut String, number: u16) -> Result<(), AllocError>
     ensures { OnOk result (string_bytes out.new ≡ string_bytes out.old ++ hex_digits 4 number) }
 {
     write!(out, "{number:04x}")
 }
 
-/// Writes two digits after the text.
+/// Appends two digits to the text.
 pub(crate) fn push_two_digits(out: &mut String, number: u8) -> Result<(), AllocError>
     ensures { OnOk result (string_bytes out.new ≡ string_bytes out.old ++ hex_digits 2 number) }
 {
     write!(out, "{number:02x}")
 }
 
-/// Writes the number of two bytes, the lowest first, after the text.
+/// Appends the number of two bytes, the lowest first, to the text.
 pub(crate) fn push_half(out: &mut String, bytes: &[u8]) -> Result<(), AllocError>
     requires { length bytes.now ≡ 2 }
     ensures { OnOk result (string_bytes out.new ≡ string_bytes out.old ++ word_digits bytes.now) }
@@ -34,7 +34,7 @@ pub(crate) fn push_half(out: &mut String, bytes: &[u8]) -> Result<(), AllocError
     push_four_digits(out, u16::from_le_bytes([bytes[0], bytes[1]]))
 }
 
-/// Writes the number of two bytes or four, the lowest first, after the text.
+/// Appends the number of two bytes or four, the lowest first, to the text.
 pub(crate) fn push_word(out: &mut String, bytes: &[u8]) -> Result<(), AllocError>
     requires { (length bytes.now ≡ 2) ⊎ (length bytes.now ≡ 4) }
     ensures { OnOk result (string_bytes out.new ≡ string_bytes out.old ++ word_digits bytes.now) }

@@ -100,7 +100,7 @@ impl PlacedPart {
         &self.bytes
     }
 
-    /// The bundles that stand after the gates' stubs, as many as a code region of the format has at most. Each is full, but for the last, which may have fewer bytes.
+    /// The bundles that stand after the gates' stubs, at most as many as a code region of the format has. Each is full, but for the last, which may have fewer bytes.
     pub fn bundles(&self) -> &[Bundle]
         ensures { result.now ≡ self.now.bundles }
     {

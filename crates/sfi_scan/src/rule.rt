@@ -18,7 +18,7 @@ pub enum Rule {
     V6,
     /// A jump or branch to what is no bundle start of its own code region.
     V7,
-    /// The region's last instruction lets control run on after the region.
+    /// The region's last instruction lets control run past the region's end.
     V8,
     /// A listed gate's bundle isn't the gate stub.
     V9,

@@ -1,6 +1,6 @@
 //! Images as streams of bytes, and the command `check --raw`.
-use super::pieces::Pieces;
 use super::image::{CODE, END, Edit, end_in, image_bytes, put, same};
+use super::pieces::Pieces;
 use super::{Outcome, words_of};
 use sfi_check::{StreamAnswer, check_stream};
 use sfi_image::Reading;
