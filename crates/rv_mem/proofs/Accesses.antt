@@ -1,5 +1,5 @@
 -- Bytes that are read from addresses and written to them.
-use Rattle.std.proofs.Common.{◌≡◌, ◌≢◌, ℕ, zero, suc, ◌+◌, ◌-◌, ◌<◌, ◌==◌, Bool, cond, List, [], ◌∷◌, length, map, Option, Some, None, IsSome, is_some, slice_index, add-zero, refl, sym, ap, ◌∙◌, arith}
+use Rattle.std.proofs.Common.{◌≡◌, ◌≢◌, ℕ, zero, suc, ◌+◌, ◌-◌, ◌^◌, ◌<◌, ◌==◌, Bool, true, false, cond, eqb-true, subst, List, [], ◌∷◌, length, map, Option, Some, None, IsSome, is_some, slice_index, add-zero, refl, sym, ap, ◌∙◌, arith}
 use Rattle.std.proofs.lemmas.Grind.{common_steps}
 use Rattle.std.proofs.lemmas.List.FromFn.{length-map-range_with_len, get_or-map-range_with_len}
 use Rattle.std.proofs.lemmas.Option.{slice_get-get_or}
@@ -8,8 +8,8 @@ use Rattle.std.specs.FinMap.{insert, get-insert}
 use Rattle.std.specs.List.{range_with_len, Contains}
 use Rattle.std.specs.Option.{option_or}
 use Rattle.rv_mem.specs.Bytes.{Bytes, byte_at, bytes_at, address_after, addresses, in_front}
-use Rattle.rv_mem.specs.Laws.{AddressesAreThese, Holds, ReadIsHeld, OthersStay, WrittenIsThere}
-use Rattle.rv_mem.specs.Segment.{byte_in}
+use Rattle.rv_mem.specs.Laws.{AddressesAreThese, Holds, ReadIsHeld, OthersStay, WrittenIsThere, WriteKeepsMemory}
+use Rattle.rv_mem.specs.private.Segment.{byte_in}
 use Rattle.rv_mem.proofs.Lookups.{get_with}
 
 -- ---- reading
@@ -104,6 +104,18 @@ others_stay m (a ∷ more) (b ∷ bs) q h =
     others_stay (insert m a b) more bs q (λ (k, below, is). h (suc k, omega arith, is))
     ∙ byte_at-insert m a b q ∙ other q a b (byte_at m q) (λ e. h (0, omega arith, sym e))
 
+one_of : (P : ℕ → ℕ → Type 0) (q a b c : ℕ) (t : Bool) (o : Option ℕ) → (t ≡ true → q ≡ a) → P a b → ((d : ℕ) → o ≡ Some d → P q d) → cond t (Some b) o ≡ Some c → P q c
+one_of P q a b c true o at here others e =
+    let same : b ≡ c = cc in
+    subst (λ (x : ℕ). P x c) (sym (at refl)) (subst (λ (x : ℕ). P a x) same here)
+one_of P q a b c false o at here others e = others c e
+
+pub written_is : WriteKeepsMemory
+written_is m a b is f g = record {
+  addresses = λ q c e. one_of (λ x y. x < 2 ^ 32) q a b c (q == a) (byte_at m q) (eqb-true q a) f (is.addresses q) (sym (byte_at-insert m a b q) ∙ e);
+  bytes = λ q c e. one_of (λ x y. y < 256) q a b c (q == a) (byte_at m q) (eqb-true q a) g (is.bytes q) (sym (byte_at-insert m a b q) ∙ e);
+}
+
 byte_in_run : (at : ℕ) (bs : List ℕ) (k : ℕ) → k < length bs → byte_in at bs (at + k) ≡ Some (slice_index bs k)
 byte_in_run at bs k h =
     let z : at + k - at ≡ k = omega arith in
@@ -117,8 +129,8 @@ written_there m at bs k room h =
 
 -- ---- the addresses of an access
 
-one_of : (at n a : ℕ) → Contains (addresses at n) a → (k : ℕ) × (k < n) × (a ≡ address_after at k)
-one_of at n a (k, below, is) =
+address_of : (at n a : ℕ) → Contains (addresses at n) a → (k : ℕ) × (k < n) × (a ≡ address_after at k)
+address_of at n a (k, below, is) =
     let many = length-map-range_with_len (address_after at) 0 n in
     let small : k < n = omega arith in
     (k, small, sym is ∙ get_or-map-range_with_len (address_after at) 0 n k k a small (omega arith))
@@ -129,4 +141,4 @@ has_one at n a (k, below, is) =
     (k, omega arith, get_or-map-range_with_len (address_after at) 0 n k k a below (omega arith) ∙ sym is)
 
 pub addresses_these : AddressesAreThese
-addresses_these at n a = (one_of at n a, has_one at n a)
+addresses_these at n a = (address_of at n a, has_one at n a)

@@ -1,5 +1,5 @@
 -- A look-up in the entries of segments.
-use Rattle.std.proofs.Common.{is_some, add-zero, min, max, ◌^◌, ◌≡◌, ℕ, ◌+◌, ◌-◌, ◌<◌, ◌≤◌, ◌==◌, Bool, true, false, cond, zero, suc, add-one, take, get_or, length, map, set, IsSome, IsTrue, ◌↔◌, subst, List, [], ◌∷◌, ◌++◌, Option, Some, None, refl, sym, ap, ◌∙◌, arith, nat_lt, slice_get}
+use Rattle.std.proofs.Common.{eqb-true, is_some, add-zero, min, max, ◌^◌, ◌≡◌, ℕ, ◌+◌, ◌-◌, ◌<◌, ◌≤◌, ◌==◌, Bool, true, false, cond, zero, suc, add-one, take, get_or, length, map, set, IsSome, IsTrue, ◌↔◌, subst, List, [], ◌∷◌, ◌++◌, Option, Some, None, refl, sym, ap, ◌∙◌, arith, nat_lt, slice_get}
 use Rattle.std.proofs.lemmas.Grind.{common_steps}
 use Rattle.std.specs.List.{range_with_len}
 use Rattle.std.specs.Option.{option_or}
@@ -10,8 +10,9 @@ use Rattle.std.specs.FinMap.{get, find, insert, get-from_entries, get-insert, sa
 use Rattle.rv_mem.specs.declared.segment.Segment.{Segment}
 use Rattle.std.proofs.lemmas.Option.{get_or_from_slice_get, slice_get_past, slice_get-get_or}
 use Rattle.rv_mem.specs.Bytes.{Bytes, byte_at, IsMemory, address_after, addresses, with_bytes}
-use Rattle.rv_mem.specs.Segment.{entries_from, all_entries, bytes_among, byte_in, byte_among, Puts}
-use Rattle.rv_mem.specs.Ranges.{HasIn, HasNone}
+use Rattle.rv_mem.specs.Segment.{entries_from, all_entries, bytes_among}
+use Rattle.rv_mem.specs.private.Segment.{byte_in, byte_among, Puts}
+use Rattle.rv_mem.specs.private.Ranges.{HasIn, HasNone}
 
 slice_get_first : (b : ℕ) (bs : List ℕ) (q base : ℕ) → q ≡ base → slice_get (b ∷ bs) (q - base) ≡ Some b
 slice_get_first b bs q base e = let z : q - base ≡ 0 = omega arith in rw z refl
@@ -57,9 +58,6 @@ not_some : (o : Option ℕ) → ¬ (IsSome o) → o ≡ None
 not_some None h = refl
 not_some (Some x) h = absurd (h refl)
 
-eq_from_test : (q at : ℕ) → q == at ≡ true → q ≡ at
-eq_from_test q at t = grind arith
-
 or_each : (P : ℕ → Type 0) (o p : Option ℕ) (b : ℕ) → (o ≡ Some b → P b) → (p ≡ Some b → P b) → option_or o p ≡ Some b → P b
 or_each P None p b f g e = g e
 or_each P (Some x) p b f g e = f e
@@ -71,7 +69,7 @@ or_put_left false b o o' p e = ap (λ x. option_or x p) e
 or_put_right : (q at b : ℕ) (f : ℕ → Option ℕ) (o o' : Option ℕ) → f at ≡ None → o' ≡ cond (q == at) (Some b) o → option_or (f q) o' ≡ cond (q == at) (Some b) (option_or (f q) o)
 or_put_right q at b f o o' n e =
     elim (q == at) as (λ t. q == at ≡ t → o' ≡ cond t (Some b) o → option_or (f q) o' ≡ cond t (Some b) (option_or (f q) o)) [
-      | true ↦ λ t w. rw (eq_from_test q at t, n) w
+      | true ↦ λ t w. rw (eqb-true q at t, n) w
       | false ↦ λ t w. ap (option_or (f q)) w
     ] refl e
 
@@ -223,7 +221,7 @@ get_with m at k (b ∷ bs) q h =
     get_with (insert m (address_after at k) b) at (k + 1) bs q (omega arith)
     ∙ ap (λ x. option_or (byte_in x bs q) (get (insert m (address_after at k) b) q)) e
     ∙ ap (option_or (byte_in (at + k + 1) bs q)) (get-insert nat_cmp_total m (address_after at k) b q ∙ ap (λ t. cond t (Some b) (byte_at m q)) (unsigned_tied q (address_after at k) ∙ ap (λ x. q == x) a))
-    ∙ or_cond (q == at + k) b _ _ (λ t. before (at + k) bs q (eq_from_test q (at + k) t))
+    ∙ or_cond (q == at + k) b _ _ (λ t. before (at + k) bs q (eqb-true q (at + k) t))
     ∙ ap (λ o. option_or o (byte_at m q)) (sym (byte_in-cons (at + k) b bs q))
 
 -- a segment at addresses where nothing is

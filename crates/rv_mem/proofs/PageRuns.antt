@@ -1,5 +1,6 @@
 -- Pages: runs of bytes, and their marks.
-use Rattle.std.proofs.Common.{◌^◌, ◌≡◌, ◌≢◌, ℕ, ◌+◌, ◌-◌, ◌*◌, ◌/◌, ◌%◌, ◌<◌, ◌≤◌, ◌==◌, ◌⊎◌, inl, inr, ⊎_elim, Bool, true, false, cond, zero, suc, nat_lt, length, take, drop, set, List, [], ◌∷◌, ◌++◌, Option, Some, None, refl, sym, ap, ◌∙◌, subst, arith, get_or-set_other, get_or-set_same}
+use Rattle.std.proofs.Common.{eqb-true, ◌^◌, ◌≡◌, ◌≢◌, ℕ, ◌+◌, ◌-◌, ◌*◌, ◌/◌, ◌%◌, ◌<◌, ◌≤◌, ◌==◌, ◌⊎◌, inl, inr, ⊎_elim, Bool, true, false, cond, zero, suc, nat_lt, length, take, drop, set, List, [], ◌∷◌, ◌++◌, Option, Some, None, refl, sym, ap, ◌∙◌, subst, arith, get_or-set_other, get_or-set_same}
+use Rattle.std.proofs.lemmas.Bool.{eqb-false}
 use Rattle.std.specs.Prelude.{slice_index, replicate}
 use Rattle.std.proofs.lemmas.Grind.{common_steps}
 use Rattle.std.specs.Option.{option_or}
@@ -13,10 +14,10 @@ use Rattle.std.proofs.lemmas.Option.{slice_get-get_or, slice_get_past}
 use Rattle.std.proofs.lemmas.List.{length-replicate}
 use Rattle.std.proofs.Common.{add-zero, length-append, length-take, length-drop, get_or-take, get_or-drop}
 use Rattle.rv_mem.specs.Bytes.{with_bytes, added}
-use Rattle.rv_mem.specs.Segment.{byte_in}
+use Rattle.rv_mem.specs.private.Segment.{byte_in}
 use Rattle.rv_mem.proofs.Lookups.{get_with}
 use Rattle.rv_mem.proofs.Accesses.{byte_at-insert}
-use Rattle.rv_mem.proofs.Paging.{eq_from_test, not_same, is_marked, no_frame, get_pages}
+use Rattle.rv_mem.proofs.Paging.{is_marked, no_frame, get_pages}
 use Rattle.rv_mem.proofs.PageWrites.{length_set}
 
 -- ---- a run of bytes
@@ -34,7 +35,7 @@ starts base f m q = run_start base f q (byte_at m q)
 run_more : (base k : ℕ) (f : List ℕ) (q : ℕ) (o p : Option ℕ) → p ≡ run_at base k f q o → cond (q == base + k) (Some (slice_index f k)) p ≡ run_at base (k + 1) f q o
 run_more base k f q o p e = elim (q == base + k) as (λ r. (q == base + k) ≡ r → cond r (Some (slice_index f k)) p ≡ run_at base (k + 1) f q o) [
   | true ↦ λ r.
-      let here : q ≡ base + k = eq_from_test q (base + k) r in
+      let here : q ≡ base + k = eqb-true q (base + k) r in
       let x : nat_lt q base ≡ false = grind arith in
       let y : nat_lt q (base + (k + 1)) ≡ true = grind arith in
       let z : k ≡ q - base = omega arith in
@@ -42,7 +43,7 @@ run_more base k f q o p e = elim (q == base + k) as (λ r. (q == base + k) ≡ r
       ∙ ap (λ (b : Bool). cond b (Some (slice_index f (q - base))) o) (sym y)
       ∙ ap (λ (b : Bool). cond b o (cond (nat_lt q (base + (k + 1))) (Some (slice_index f (q - base))) o)) (sym x)
   | false ↦ λ r.
-      let other : q ≢ base + k = not_same q (base + k) r in
+      let other : q ≢ base + k = eqb-false q (base + k) r in
       let y : nat_lt q (base + k) ≡ nat_lt q (base + (k + 1)) = grind arith in
       e ∙ ap (λ (b : Bool). cond (nat_lt q base) o (cond b (Some (slice_index f (q - base))) o)) y
 ] refl
@@ -105,10 +106,10 @@ puts_one c d p n b value so_far room e = record {
   size = length_set d (p + n) b ∙ so_far.size;
   inside = λ j h. elim (j == n) as (λ r. (j == n) ≡ r → slice_index (set d (p + n) b) (p + j) ≡ value j) [
     | true ↦ λ r.
-        let same : j ≡ n = eq_from_test j n r in
+        let same : j ≡ n = eqb-true j n r in
         ap (λ (x : ℕ). slice_index (set d (p + n) b) (p + x)) same ∙ get_or-set_same d (p + n) b 0 room ∙ e ∙ ap value (sym same)
     | false ↦ λ r.
-        let other : j ≢ n = not_same j n r in
+        let other : j ≢ n = eqb-false j n r in
         let elsewhere : p + j ≢ p + n = λ z. other (omega (arith, z)) in
         let less : j < n = omega (arith, h, other) in
         get_or-set_other d (p + n) (p + j) b 0 elsewhere ∙ so_far.inside j less
@@ -236,14 +237,14 @@ module _ (t c d : List ℕ) (are : ArePages t c) (at n : ℕ) (f : List ℕ) (k 
   other_place : (q : ℕ) → ((q < at) ⊎ (at + n ≤ q)) → cell_at t d q ≡ cell_at t c q
   other_place q out = elim (slice_index t (q / 4096) == slice_index t (at / 4096)) as (λ r. (slice_index t (q / 4096) == slice_index t (at / 4096)) ≡ r → cell_at t d q ≡ cell_at t c q) [
     | true ↦ λ r.
-        let s : slice_index t (q / 4096) ≡ slice_index t (at / 4096) = eq_from_test (slice_index t (q / 4096)) (slice_index t (at / 4096)) r in
+        let s : slice_index t (q / 4096) ≡ slice_index t (at / 4096) = eqb-true (slice_index t (q / 4096)) (slice_index t (at / 4096)) r in
         let page : at / 4096 ≡ q / 4096 = are.apart (at / 4096) (q / 4096) (sym s) frame in
         ⊎_elim
         (λ (h : q < at). stays q (run.below (frame_of t q + q % 4096) (omega (arith, h, page, s))) (run.between (frame_of t q + q % 4096 + 4096) (omega (arith, page, s, room)) (omega (arith, h, page, s))))
         (λ (h : at + n ≤ q). stays q (run.between (frame_of t q + q % 4096) (omega (arith, h, page, s)) (omega (arith, page, s))) (run.past (frame_of t q + q % 4096 + 4096) (omega (arith, h, page, s))))
         out
     | false ↦ λ r.
-        let other : slice_index t (q / 4096) ≢ slice_index t (at / 4096) = not_same (slice_index t (q / 4096)) (slice_index t (at / 4096)) r in
+        let other : slice_index t (q / 4096) ≢ slice_index t (at / 4096) = eqb-false (slice_index t (q / 4096)) (slice_index t (at / 4096)) r in
         elim (nat_lt (slice_index t (q / 4096)) (slice_index t (at / 4096))) as (λ s. nat_lt (slice_index t (q / 4096)) (slice_index t (at / 4096)) ≡ s → cell_at t d q ≡ cell_at t c q) [
           | true ↦ λ s.
               let less : slice_index t (q / 4096) < slice_index t (at / 4096) = grind arith in

@@ -1,5 +1,6 @@
 -- Pages: what the write of a byte or a word makes of them, and a new frame.
-use Rattle.std.proofs.Common.{is_some, ◌^◌, ◌≡◌, ◌≢◌, ℕ, ◌+◌, ◌*◌, ◌/◌, ◌%◌, ◌<◌, ◌≤◌, ◌==◌, true, false, cond, zero, suc, get_or, length, set, IsSome, List, [], ◌∷◌, Option, Some, None, refl, sym, ap, ◌∙◌, subst, arith, get_or-set_other, get_or-set_same}
+use Rattle.std.proofs.Common.{eqb-true, is_some, ◌^◌, ◌≡◌, ◌≢◌, ℕ, ◌+◌, ◌*◌, ◌/◌, ◌%◌, ◌<◌, ◌≤◌, ◌==◌, true, false, cond, zero, suc, get_or, length, set, IsSome, List, [], ◌∷◌, Option, Some, None, refl, sym, ap, ◌∙◌, subst, arith, get_or-set_other, get_or-set_same}
+use Rattle.std.proofs.lemmas.Bool.{eqb-false}
 use Rattle.std.specs.Prelude.{slice_index}
 use Rattle.std.specs.Cmp.{nat_cmp_total}
 use Rattle.std.specs.FinMap.{insert, same_map, nat_cmp-IsAntisymmetric}
@@ -7,7 +8,7 @@ use Rattle.std.specs.Option.{option_map}
 use Rattle.rv_mem.specs.Bytes.{Bytes, byte_at, in_front, number_of, address_after, loaded}
 use Rattle.rv_mem.specs.Frames.{frame_of, cell, cell_at, ArePages, values_of}
 use Rattle.rv_mem.proofs.Accesses.{byte_at-insert}
-use Rattle.rv_mem.proofs.Paging.{eq_from_test, not_same, slice_past, within, unmarked, is_marked, marked, no_frame, get_pages, has_frame}
+use Rattle.rv_mem.proofs.Paging.{slice_past, within, unmarked, is_marked, marked, no_frame, get_pages, has_frame}
 use Rattle.rv_mem.proofs.PageReads.{byte_after}
 
 -- from c to d a cell got a byte and its mark
@@ -44,13 +45,13 @@ module _ (t c d : List ℕ) (are : ArePages t c) (at b : ℕ) (frame : slice_ind
       each : (k : ℕ) → slice_index d k < 256
       each k = elim (k == frame_of t at + at % 4096) as (λ r. (k == frame_of t at + at % 4096) ≡ r → slice_index d k < 256) [
         | true ↦ λ r.
-            let e : slice_index d k ≡ b = ap (slice_index d) (eq_from_test k (frame_of t at + at % 4096) r) ∙ sets.byte in
+            let e : slice_index d k ≡ b = ap (slice_index d) (eqb-true k (frame_of t at + at % 4096) r) ∙ sets.byte in
             subst (λ (x : ℕ). x < 256) (sym e) small
         | false ↦ λ r. elim (k == frame_of t at + at % 4096 + 4096) as (λ s. (k == frame_of t at + at % 4096 + 4096) ≡ s → slice_index d k < 256) [
           | true ↦ λ s.
-              let e : slice_index d k ≡ 1 = ap (slice_index d) (eq_from_test k (frame_of t at + at % 4096 + 4096) s) ∙ sets.mark in
+              let e : slice_index d k ≡ 1 = ap (slice_index d) (eqb-true k (frame_of t at + at % 4096 + 4096) s) ∙ sets.mark in
               omega (arith, e)
-          | false ↦ λ s. subst (λ (x : ℕ). x < 256) (sym (sets.others k (not_same k (frame_of t at + at % 4096) r) (not_same k (frame_of t at + at % 4096 + 4096) s))) (are.bytes k)
+          | false ↦ λ s. subst (λ (x : ℕ). x < 256) (sym (sets.others k (eqb-false k (frame_of t at + at % 4096) r) (eqb-false k (frame_of t at + at % 4096 + 4096) s))) (are.bytes k)
         ] refl
       ] refl
 
@@ -75,9 +76,9 @@ module _ (t c d : List ℕ) (are : ArePages t c) (at b : ℕ) (frame : slice_ind
   pub cell_set : (q : ℕ) → cell_at t d q ≡ cond (q == at) (Some b) (cell_at t c q)
   cell_set q = elim (q == at) as (λ r. (q == at) ≡ r → cell_at t d q ≡ cond r (Some b) (cell_at t c q)) [
     | true ↦ λ r.
-        let e : q ≡ at = eq_from_test q at r in
+        let e : q ≡ at = eqb-true q at r in
         ap (cell_at t d) e ∙ is_marked d (frame_of t at + at % 4096) sets.mark ∙ ap Some sets.byte
-    | false ↦ λ r. same_cell q (not_same q at r)
+    | false ↦ λ r. same_cell q (eqb-false q at r)
   ] refl
 
   pub insert_set : values_of (cell_at t d) ≡ insert (values_of (cell_at t c)) at b
@@ -113,7 +114,7 @@ pub frame_made : (t c t0 c0 d : List ℕ) (page number : ℕ) → ArePages t0 c0
     → ((k : ℕ) → slice_index d k ≡ slice_index c k) → page < length t → slice_index t page ≡ 0 → number ≡ length c / 8192 → (q : ℕ) → cell_at (set t page number) d q ≡ cell_at t0 c0 q
 frame_made t c t0 c0 d page number are0 are cells table longer room none is q = elim (q / 4096 == page) as (λ r. (q / 4096 == page) ≡ r → cell_at (set t page number) d q ≡ cell_at t0 c0 q) [
   | true ↦ λ r.
-      let here : q / 4096 ≡ page = eq_from_test (q / 4096) page r in
+      let here : q / 4096 ≡ page = eqb-true (q / 4096) page r in
       let f : slice_index (set t page number) (q / 4096) ≡ number = ap (slice_index (set t page number)) here ∙ get_or-set_same t page number 0 room in
       let whole : length c % 8192 ≡ 0 = are.whole in
       let past : length c ≤ frame_of (set t page number) q + q % 4096 + 4096 = omega (arith, f, is, whole) in
@@ -122,7 +123,7 @@ frame_made t c t0 c0 d page number are0 are cells table longer room none is q = 
       unmarked d (frame_of (set t page number) q + q % 4096) (λ o. let w : 0 ≡ 1 = sym mark ∙ o in absurd (omega arith))
       ∙ sym (no_frame t0 c0 are0 q before)
   | false ↦ λ r.
-      let other : q / 4096 ≢ page = not_same (q / 4096) page r in
+      let other : q / 4096 ≢ page = eqb-false (q / 4096) page r in
       let f : slice_index (set t page number) (q / 4096) ≡ slice_index t0 (q / 4096) = get_or-set_other t page (q / 4096) number 0 other ∙ table (q / 4096) in
       let p = frame_of t0 q + q % 4096 in
       ap (λ (x : ℕ). cell d (x * 8192 + q % 4096)) f

@@ -1,5 +1,6 @@
 -- Pages: what they have at an address.
-use Rattle.std.proofs.Common.{is_some, ◌^◌, ◌≡◌, ◌≢◌, ℕ, ◌+◌, ◌/◌, ◌%◌, ◌<◌, ◌≤◌, ◌==◌, ◌⊎◌, inl, inr, Bool, true, false, cond, zero, suc, nat_lt, get_or, length, IsSome, List, [], ◌∷◌, Option, Some, None, refl, sym, ap, ◌∙◌, subst, arith}
+use Rattle.std.proofs.Common.{eqb-true, is_some, ◌^◌, ◌≡◌, ◌≢◌, ℕ, ◌+◌, ◌/◌, ◌%◌, ◌<◌, ◌≤◌, ◌==◌, ◌⊎◌, inl, inr, Bool, true, false, cond, zero, suc, nat_lt, get_or, length, IsSome, List, [], ◌∷◌, Option, Some, None, refl, sym, ap, ◌∙◌, subst, arith}
+use Rattle.std.proofs.lemmas.Bool.{eqb-false}
 use Rattle.std.specs.Prelude.{slice_index}
 use Rattle.std.specs.Option.{option_or}
 use Rattle.std.specs.Ordering.{nat_cmp}
@@ -10,12 +11,6 @@ use Rattle.rv_mem.specs.Frames.{frame_of, cell, cell_at, ArePages, with_entry, v
 use Rattle.rv_mem.proofs.Accesses.{byte_at-insert}
 
 -- ---- a map from a function
-
-pub eq_from_test : (a b : ℕ) → (a == b) ≡ true → a ≡ b
-eq_from_test a b t = grind arith
-
-pub not_same : (a b : ℕ) → (a == b) ≡ false → a ≢ b
-not_same a b t e = grind arith
 
 cond_same : (t : Bool) (o : Option ℕ) → o ≡ cond t o o
 cond_same true o = refl
@@ -32,13 +27,13 @@ entry_get m a (Some b) q = byte_at-insert m a b q
 one_further : (n : ℕ) (f : ℕ → Option ℕ) (q : ℕ) (o : Option ℕ) → o ≡ cond (nat_lt q n) (f q) None → cond (q == n) (option_or (f n) o) o ≡ cond (nat_lt q (suc n)) (f q) None
 one_further n f q o e = elim (q == n) as (λ t. (q == n) ≡ t → cond t (option_or (f n) o) o ≡ cond (nat_lt q (suc n)) (f q) None) [
   | true ↦ λ t.
-      let same : q ≡ n = eq_from_test q n t in
+      let same : q ≡ n = eqb-true q n t in
       let no : nat_lt q n ≡ false = grind arith in
       let yes : nat_lt q (suc n) ≡ true = grind arith in
       let none : o ≡ None = e ∙ ap (λ (b : Bool). cond b (f q) None) no in
       ap (option_or (f n)) none ∙ or_none (f n) ∙ ap f (sym same) ∙ ap (λ (b : Bool). cond b (f q) None) (sym yes)
   | false ↦ λ t.
-      let other : q ≢ n = not_same q n t in
+      let other : q ≢ n = eqb-false q n t in
       let as_before : nat_lt q n ≡ nat_lt q (suc n) = grind arith in
       e ∙ ap (λ (b : Bool). cond b (f q) None) as_before
 ] refl
@@ -75,7 +70,7 @@ within (x ∷ xs) (suc k) h = let b : k < length xs = within xs k h in omega ari
 
 pub unmarked : (c : List ℕ) (p : ℕ) → slice_index c (p + 4096) ≢ 1 → cell c p ≡ None
 unmarked c p h = elim (slice_index c (p + 4096) == 1) as (λ t. (slice_index c (p + 4096) == 1) ≡ t → cond t (Some (slice_index c p)) None ≡ None) [
-  | true ↦ λ t. absurd (h (eq_from_test (slice_index c (p + 4096)) 1 t))
+  | true ↦ λ t. absurd (h (eqb-true (slice_index c (p + 4096)) 1 t))
   | false ↦ λ t. refl
 ] refl
 
@@ -84,7 +79,7 @@ is_marked c p h = ap (λ (k : ℕ). cond (k == 1) (Some (slice_index c p)) None)
 
 pub marked : (c : List ℕ) (p : ℕ) → IsSome (cell c p) → slice_index c (p + 4096) ≡ 1
 marked c p h = elim (slice_index c (p + 4096) == 1) as (λ t. (slice_index c (p + 4096) == 1) ≡ t → IsSome (cond t (Some (slice_index c p)) None) → slice_index c (p + 4096) ≡ 1) [
-  | true ↦ λ t s. eq_from_test (slice_index c (p + 4096)) 1 t
+  | true ↦ λ t s. eqb-true (slice_index c (p + 4096)) 1 t
   | false ↦ λ t s. absurd (cc)
 ] refl h
 
@@ -175,7 +170,7 @@ module _ (t c : List ℕ) (are : ArePages t c) (at f : ℕ) (is : f ≡ frame_of
 -- ---- marks side by side
 
 pub one_or_not : (n : ℕ) → (n ≡ 1) ⊎ (n ≢ 1)
-one_or_not n = elim (n == 1) as (λ r. (n == 1) ≡ r → (n ≡ 1) ⊎ (n ≢ 1)) [ true ↦ λ r. inl (eq_from_test n 1 r) | false ↦ λ r. inr (not_same n 1 r) ] refl
+one_or_not n = elim (n == 1) as (λ r. (n == 1) ≡ r → (n ≡ 1) ⊎ (n ≢ 1)) [ true ↦ λ r. inl (eqb-true n 1 r) | false ↦ λ r. inr (eqb-false n 1 r) ] refl
 
 pub missing : (c : List ℕ) (k x : ℕ) → slice_index c (k + 4096) ≡ x → x ≢ 1 → cell c k ≡ None
 missing c k x e n = unmarked c k (λ o. n (sym e ∙ o))

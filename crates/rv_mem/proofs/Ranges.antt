@@ -4,8 +4,9 @@ use Rattle.std.proofs.lemmas.List.{length-replicate}
 use Rattle.std.specs.Bool.{OnTrue, OnFalse}
 use Rattle.rv_mem.specs.declared.segment.Segment.{Segment}
 use Rattle.rv_mem.specs.Bytes.{Bytes, byte_at, Overlaps, IsFree, added, addresses, with_bytes}
-use Rattle.rv_mem.specs.Segment.{bytes_among, byte_among}
-use Rattle.rv_mem.specs.Ranges.{HasIn, HasNone}
+use Rattle.rv_mem.specs.Segment.{bytes_among}
+use Rattle.rv_mem.specs.private.Segment.{byte_among}
+use Rattle.rv_mem.specs.private.Ranges.{HasIn, HasNone}
 use Rattle.rv_mem.proofs.Lookups.{get_among, push_free}
 
 pub found_in : (r : Bool) (ss : List Segment) (from to : ℕ) → OnTrue r (HasIn (byte_among ss) from to) → OnTrue r (HasIn (byte_at (bytes_among ss)) from to)

@@ -1,6 +1,7 @@
 -- What holds of every read and write.
 use Rattle.std.specs.Prelude.{◌≡◌, ℕ, ◌+◌, ◌^◌, ◌<◌, ◌≤◌, ◌↔◌, List, length, Some, slice_index, Contains}
-use Rattle.rv_mem.specs.Bytes.{Bytes, byte_at, address_after, addresses, bytes_at, with_bytes}
+use Rattle.std.specs.FinMap.{insert}
+use Rattle.rv_mem.specs.Bytes.{Bytes, IsMemory, byte_at, address_after, addresses, bytes_at, with_bytes}
 
 -- the addresses of an access lie k after its first, for k below n
 abbrev pub AddressesAreThese : Type 0
@@ -24,3 +25,7 @@ abbrev pub WrittenIsThere : Type 0
 WrittenIsThere =
     (m : Bytes) (at : ℕ) (bytes : List ℕ) (k : ℕ) → at + length bytes ≤ 2 ^ 32 → k < length bytes
     → byte_at (with_bytes m (addresses at (length bytes)) bytes) (at + k) ≡ Some (slice_index bytes k)
+
+-- a byte that is written at an address leaves a memory
+abbrev pub WriteKeepsMemory : Type 0
+WriteKeepsMemory = (m : Bytes) (a b : ℕ) → IsMemory m → a < 2 ^ 32 → b < 256 → IsMemory (insert m a b)

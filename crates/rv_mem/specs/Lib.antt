@@ -3,7 +3,6 @@ pub mod Faults
 pub mod Frames
 pub mod Laws
 pub mod Pages
-pub mod Ranges
 pub mod Segment
 pub mod Segments
 pub mod private

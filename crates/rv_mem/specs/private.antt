@@ -1,2 +1,4 @@
 -- Words that private contracts and proofs alone cite: no public statement rests on them.
 pub mod Frames
+pub mod Ranges
+pub mod Segment

@@ -1,5 +1,5 @@
 //! What holds of every read and write. A call costs nothing.
-ghost use Rattle.rv_mem.specs.Laws.{AddressesAreThese, ReadIsHeld, OthersStay, WrittenIsThere};
+ghost use Rattle.rv_mem.specs.Laws.{AddressesAreThese, ReadIsHeld, OthersStay, WrittenIsThere, WriteKeepsMemory};
 
 /// The addresses of an access of n bytes lie k after its first, for k below n.
 pub fn addresses_are_these()
@@ -19,4 +19,9 @@ pub fn others_stay()
 /// Bytes that are written from an address on, up to the last one at most, are there.
 pub fn written_is_there()
     ensures { WrittenIsThere }
+{}
+
+/// A byte that is written at an address leaves a memory.
+pub fn write_keeps_memory()
+    ensures { WriteKeepsMemory }
 {}

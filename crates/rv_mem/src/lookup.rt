@@ -1,8 +1,8 @@
 //! What a list of segments has at an address.
 ghost use Rattle.std.specs.Prelude.{◌≡◌, ◌↔◌, IsTrue, IsSome};
 ghost use Rattle.std.specs.Bool.{OnTrue, OnFalse};
-ghost use Rattle.rv_mem.specs.Ranges.{HasIn, HasNone};
-ghost use Rattle.rv_mem.specs.Segment.{byte_among, Puts};
+ghost use Rattle.rv_mem.specs.private.Ranges.{HasIn, HasNone};
+ghost use Rattle.rv_mem.specs.private.Segment.{byte_among, Puts};
 
 use crate::segment::Segment;
 
@@ -21,7 +21,8 @@ pub fn find_byte(segments: &[Segment], at: u32) -> Option<u8>
 /// Writes the byte of an address; false where none of them has it.
 pub fn put_byte(segments: &mut [Segment], at: u32, byte: u8) -> bool
     ensures there { IsTrue result ↔ IsSome (byte_among segments.old at) }
-    ensures done { OnTrue result (Puts (byte_among segments.old) (byte_among segments.new) at byte) }
+    ensures done { OnTrue result
+        (Puts (byte_among segments.old) (byte_among segments.new) at byte) }
     ensures refused { OnFalse result (segments.new ≡ segments.old) }
 {
     for i in 0..segments.len() {

@@ -33,7 +33,8 @@ pub trait Memory: Drop {
     /// Writes the low bytes of the value; false exactly where one of the bytes is missing, and then nothing changed.
     fn store(&mut self, at: u32, width: Width, value: u32) -> bool
         ensures there { IsTrue result ↔ IsThere (bytes self.old) at (count_of width) }
-        ensures done { OnTrue result (bytes self.new ≡ stored (bytes self.old) at (count_of width) value) }
+        ensures done { OnTrue result
+            (bytes self.new ≡ stored (bytes self.old) at (count_of width) value) }
         ensures refused { OnFalse result (bytes self.new ≡ bytes self.old) };
 
     /// Adds `size` bytes from `base` on: those of `front`, and then zeros.
@@ -45,7 +46,8 @@ pub trait Memory: Drop {
         // An address that is there already is reported as such, even where the addresses reach past the last one.
         ensures overlap { (result ≡ Err AddFault.Overlap) ↔ Overlaps (bytes self.old) base size }
         ensures free { result ≢ Err AddFault.Overlap → IsFree (bytes self.old) base size }
-        ensures end { (result ≡ Err AddFault.End) ↔ (IsFree (bytes self.old) base size × (2 ^ 32 < base + size)) };
+        ensures end { (result ≡ Err AddFault.End)
+            ↔ (IsFree (bytes self.old) base size × (2 ^ 32 < base + size)) };
 
     ghost in_range: { (m : Self) → IsMemory (bytes m) };
 }

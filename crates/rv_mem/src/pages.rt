@@ -5,7 +5,7 @@ ghost use Rattle.std.specs.FinMap.{empty, insert};
 ghost use Rattle.std.specs.Int.{bytes_low_first};
 ghost use Rattle.rv_mem.specs.Bytes.{IsMemory, count_of, byte_at, loaded, stored, IsThere, Overlaps, IsFree, added};
 ghost use Rattle.rv_mem.specs.Frames.{ArePages, frame_of, cell_at, values_of};
-ghost use Rattle.rv_mem.specs.private.Frames.{with_four, run_of, Puts, MarksRun};
+ghost use Rattle.rv_mem.specs.private.Frames.{KeepsFrames, HaveFrames, with_four, run_of, Puts, MarksRun};
 
 use crate::fault::AddFault;
 use crate::memory::{Memory, Width};
@@ -75,9 +75,10 @@ fn make_frame(table: &mut Vec<u32>, cells: &mut Vec<u8>, page: u32) -> Result<()
     requires are { ArePages table.old.items cells.old.items }
     requires page { page < 2 ^ 20 }
     ensures are { ArePages table.new.items cells.new.items }
-    ensures same { (q : ℕ) → cell_at table.new.items cells.new.items q ≡ cell_at table.old.items cells.old.items q }
+    ensures same { (q : ℕ) →
+        cell_at table.new.items cells.new.items q ≡ cell_at table.old.items cells.old.items q }
     ensures made { OnOk result (slice_index table.new.items page ≢ 0) }
-    ensures kept { (p : ℕ) → slice_index table.old.items p ≢ 0 → slice_index table.new.items p ≢ 0 }
+    ensures kept { KeepsFrames table.old.items table.new.items }
 {
     make_room(table, cells, page)?;
     if table[page as usize] != 0 {
@@ -191,8 +192,10 @@ impl Pages {
     /// Whether one of so many addresses from one on, in one page, is there.
     fn run_has(&self, at: u32, count: u32) -> bool
         requires { at % 4096 + count ≤ 4096 }
-        ensures found { OnTrue result ((j : ℕ) × (j < count) × IsSome (byte_at (bytes_of self.now) (at + j))) }
-        ensures none { OnFalse result ((j : ℕ) → j < count → byte_at (bytes_of self.now) (at + j) ≡ None) }
+        ensures found { OnTrue result ((j : ℕ) × (j < count) ×
+            IsSome (byte_at (bytes_of self.now) (at + j))) }
+        ensures none { OnFalse result ((j : ℕ) → j < count →
+            byte_at (bytes_of self.now) (at + j) ≡ None) }
     {
         if self.frame_number(at) == 0 {
             return false;
@@ -239,7 +242,7 @@ impl Pages {
         requires { page < 2 ^ 20 }
         ensures same { bytes_of self.new ≡ bytes_of self.old }
         ensures made { OnOk result (slice_index self.new.table.items page ≢ 0) }
-        ensures kept { (p : ℕ) → slice_index self.old.table.items p ≢ 0 → slice_index self.new.table.items p ≢ 0 }
+        ensures kept { KeepsFrames self.old.table.items self.new.table.items }
     {
         make_frame(&mut self.table, &mut self.cells, page)
     }
@@ -249,7 +252,8 @@ impl Pages {
     fn mark_run(&mut self, at: u32, count: u32, front: &[u8], from: u32)
         requires page { at % 4096 + count ≤ 4096 }
         requires made { slice_index self.old.table.items (at / 4096) ≢ 0 }
-        ensures written { (q : ℕ) → byte_at (bytes_of self.new) q ≡ run_of at count front.now from q (byte_at (bytes_of self.old) q) }
+        ensures written { (q : ℕ) → byte_at (bytes_of self.new) q ≡
+            run_of at count front.now from q (byte_at (bytes_of self.old) q) }
         ensures table { self.new.table.items ≡ self.old.table.items }
     {
         let place = self.table[(at / PAGE) as usize] as usize * FRAME + (at % PAGE) as usize;
@@ -327,7 +331,8 @@ impl Pages {
     #[tactic(auto, using(crate::proofs::Lookups::stays))]
     fn store_bytes(&mut self, at: u32, width: Width, value: u32) -> bool
         ensures there { IsTrue result ↔ IsThere (bytes_of self.old) at (count_of width) }
-        ensures done { OnTrue result (bytes_of self.new ≡ stored (bytes_of self.old) at (count_of width) value) }
+        ensures done { OnTrue result
+            (bytes_of self.new ≡ stored (bytes_of self.old) at (count_of width) value) }
         ensures refused { OnFalse result (bytes_of self.new ≡ bytes_of self.old) }
     {
         if self.load_bytes(at, width).is_none() {
@@ -351,7 +356,7 @@ impl Pages {
     fn make_pages(&mut self, base: u32, size: u32) -> Result<(), AllocError>
         requires { base + size ≤ 2 ^ 32 }
         ensures same { bytes_of self.new ≡ bytes_of self.old }
-        ensures made { OnOk result ((k : ℕ) → k < size → slice_index self.new.table.items ((base + k) / 4096) ≢ 0) }
+        ensures made { OnOk result (HaveFrames self.new.table.items base size) }
     {
         if size == 0 {
             return Ok(());
@@ -367,7 +372,7 @@ impl Pages {
     fn fill(&mut self, base: u32, size: u32, front: &[u8])
         requires end { base + size ≤ 2 ^ 32 }
         requires room { length front.now ≤ size }
-        requires made { (k : ℕ) → k < size → slice_index self.old.table.items ((base + k) / 4096) ≢ 0 }
+        requires made { HaveFrames self.old.table.items base size }
         ensures { bytes_of self.new ≡ added (bytes_of self.old) base size front.now }
     {
         let mut done = 0;

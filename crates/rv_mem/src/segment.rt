@@ -14,15 +14,16 @@ pub struct Segment {
 }
 
 impl Segment {
-    ghost use Rattle.rv_mem.specs.Segment.{byte_in, Puts};
-    ghost use Rattle.rv_mem.specs.Ranges.{HasIn, HasNone};
+    ghost use Rattle.rv_mem.specs.private.Segment.{byte_in, Puts};
+    ghost use Rattle.rv_mem.specs.private.Ranges.{HasIn, HasNone};
 
     /// The bytes of front and then zeros.
     pub fn new(alloc: Global, base: u32, size: u32, front: &[u8]) -> Result<Segment, AllocError>
         requires end { base + size ≤ 2 ^ 32 }
         requires room { length front.now ≤ size }
         ensures base { IfOk result (λ s. s.base ≡ base) }
-        ensures bytes { IfOk result (λ s. s.bytes.items ≡ front.now ++ replicate (size - length front.now) 0) }
+        ensures bytes { IfOk result (λ s.
+            s.bytes.items ≡ front.now ++ replicate (size - length front.now) 0) }
     {
         let mut bytes = Vec::with_capacity(alloc, size as usize)?;
         bytes.extend_from_slice(front)?;
@@ -33,7 +34,8 @@ impl Segment {
     /// Whether it has an address from the first up to the second.
     pub fn has_in(&self, from: u64, to: u64) -> bool
         ensures found { OnTrue result (HasIn (byte_in self.now.base self.now.bytes.items) from to) }
-        ensures none { OnFalse result (HasNone (byte_in self.now.base self.now.bytes.items) from to) }
+        ensures none { OnFalse result
+            (HasNone (byte_in self.now.base self.now.bytes.items) from to) }
     {
         let start = u64::from(self.base);
         let end = start + self.bytes.len() as u64;
@@ -60,7 +62,8 @@ impl Segment {
     /// Writes the byte of an address that it has.
     pub fn put(&mut self, at: u32, byte: u8)
         requires { IsSome (byte_in self.old.base self.old.bytes.items at) }
-        ensures { Puts (byte_in self.old.base self.old.bytes.items) (byte_in self.new.base self.new.bytes.items) at byte }
+        ensures { Puts (byte_in self.old.base self.old.bytes.items)
+            (byte_in self.new.base self.new.bytes.items) at byte }
     {
         let place = (at - self.base) as usize;
         self.bytes[place] = byte;

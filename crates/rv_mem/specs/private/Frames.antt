@@ -1,5 +1,13 @@
 -- Words of private contracts and proofs, beside those of Frames.antt.
-use Rattle.std.specs.Prelude.{◌≡◌, ℕ, ◌+◌, ◌<◌, ◌≤◌, List, length, Option, Some, nat_lt, ◌-◌, slice_index, slice_set, if◌then◌else◌}
+use Rattle.std.specs.Prelude.{◌≡◌, ◌≢◌, ℕ, ◌+◌, ◌/◌, ◌<◌, ◌≤◌, List, length, Option, Some, nat_lt, ◌-◌, slice_index, slice_set, if◌then◌else◌}
+
+-- each page that had a frame has one still
+abbrev pub KeepsFrames : List ℕ → List ℕ → Type 0
+KeepsFrames before after = (page : ℕ) → slice_index before page ≢ 0 → slice_index after page ≢ 0
+
+-- the pages of the size addresses from base on have frames
+abbrev pub HaveFrames : List ℕ → ℕ → ℕ → Type 0
+HaveFrames table base size = (k : ℕ) → k < size → slice_index table ((base + k) / 4096) ≢ 0
 
 -- cells with the first four bytes of a list from a place on
 abbrev pub with_four : List ℕ → ℕ → List ℕ → List ℕ
