@@ -10,7 +10,8 @@ use Rattle.rv_word.specs.Laws.{SpellingsAreWide, WordIsDecided}
 use Rattle.rv_word.specs.Spelling.{IsWordOf}
 use Rattle.rv_comp.specs.Table.{allowed, expansion}
 use Rattle.rv_comp.specs.Halfwords.{halfword_of, IsHalfwordOf, IsShortSpelling}
-use Rattle.rv_comp.specs.Fronts.{IsFront, IsOnlyFront}
+use Rattle.rv_comp.specs.Fronts.{IsFront}
+use Rattle.rv_comp.specs.private.Fronts.{IsOnlyFront}
 use Rattle.rv_comp.specs.Laws.{SomeFront}
 use Rattle.rv_comp.specs.mirror.Decoding.{decoded}
 use Rattle.rv_comp.specs.declared.form.Form16.{Form16}

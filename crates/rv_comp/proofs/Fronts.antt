@@ -9,7 +9,8 @@ use Rattle.rv_word.specs.Lengths.{length_of}
 use Rattle.rv_word.specs.Laws.{SpellingsAreWide}
 use Rattle.rv_word.specs.Spelling.{IsWordOf}
 use Rattle.rv_comp.specs.Halfwords.{IsShortSpelling}
-use Rattle.rv_comp.specs.Fronts.{Spells, IsCutShort, SpellsNothing, IsFront, IsOnlyFront}
+use Rattle.rv_comp.specs.Fronts.{Spells, IsCutShort, SpellsNothing, IsFront}
+use Rattle.rv_comp.specs.private.Fronts.{IsOnlyFront}
 use Rattle.rv_comp.specs.Laws.{OneSpelling, OneFront}
 use Rattle.rv_comp.specs.declared.front.Front.{Front}
 use Rattle.rv_comp.specs.declared.front.Front.TheVariants.{Read, Short, Bad}

@@ -40,9 +40,3 @@ abbrev pub IsFront : List ℕ → Front → Type 0
 IsFront bytes (Read i n) = Spells (take n bytes) i n
 IsFront bytes Short = IsCutShort bytes
 IsFront bytes Bad = SpellsNothing bytes
-
--- cited by private contracts: what the n bytes of a halfword or a word alone spell
-abbrev pub IsOnlyFront : (Instr → Type 0) → ℕ → Front → Type 0
-IsOnlyFront spell n (Read i m) = (m ≡ n) × spell i
-IsOnlyFront spell n Short = ⊥
-IsOnlyFront spell n Bad = (i : Instr) → spell i → ⊥

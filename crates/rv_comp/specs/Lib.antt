@@ -4,3 +4,4 @@ pub mod Halfwords
 pub mod Laws
 pub mod Table
 pub mod mirror
+pub mod private

@@ -37,7 +37,8 @@ fn stack_address(rd: Reg, imm: i32) -> Option<u16>
 /// C.LW and C.SW.
 #[tactic(auto, unfolding(crate::specs::mirror::Encoding::word_at))]
 fn load_or_store(fixed: u16, first: Reg, second: Reg, imm: i32) -> Option<u16>
-    ensures { SomeIff result (IsTrue (is_short_reg first && is_short_reg second && is_unsigned 7 4 imm))
+    ensures { SomeIff result
+        (IsTrue (is_short_reg first && is_short_reg second && is_unsigned 7 4 imm))
         (word_at fixed (low 7 imm) ∣ up (first - 8) 7 ∣ up (second - 8) 2) }
 {
     let first = short_number(first)?;

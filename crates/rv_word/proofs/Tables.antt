@@ -1,8 +1,8 @@
 -- The tables of what computes, seen right at each opcode, funct3 and funct7.
-use Rattle.std.proofs.Common.{◌≡◌, ℕ, zero, suc, ◌+◌, ◌-◌, ◌*◌, ◌/◌, ◌%◌, ◌<◌, ◌^◌, Bool, true, false, ◌&&◌, ◌==◌, ℤ, pos, negsuc, refl, sym, ap, ◌∙◌, subst, inl, inr, arith, eqb-true, eq-eqb, Option, Some, None, bit_and}
+use Rattle.std.proofs.Common.{◌≡◌, ℕ, ◌+◌, ◌-◌, ◌*◌, ◌/◌, ◌%◌, ◌<◌, ◌^◌, Bool, true, false, ◌&&◌, ◌==◌, ℤ, pos, negsuc, refl, sym, ap, ◌∙◌, subst, inl, inr, arith, eqb-true, eq-eqb, Option, Some, None, bit_and}
 use Rattle.std.specs.Prelude.{slice_index, not, if◌then◌else◌}
 use Rattle.std.specs.Bool.{OnTrue}
-use Rattle.std.proofs.lemmas.Bool.{and_parts, cases_lt, cases_eq}
+use Rattle.std.proofs.lemmas.Bool.{agree_below, agree_below_at, and_parts, cases_lt}
 use Rattle.std.proofs.lemmas.Int.{ints}
 use Rattle.std.proofs.lemmas.Nat.{and_mask}
 use Rattle.rv_word.specs.declared.parts.Parts.{Parts}
@@ -52,52 +52,28 @@ computes row funct3 funct7 =
 
 -- ---- the tables, by computation
 
--- each number below n passes
-unfoldable all_below : (ℕ → Bool) → ℕ → Bool
-all_below p zero = true
-all_below p (suc n) = p n && all_below p n
-
-all_below_at : (p : ℕ → Bool) (n k : ℕ) → all_below p n ≡ true → k < n → p k ≡ true
-unfolding all_below
-all_below_at p zero k h lt = absurd (omega arith)
-all_below_at p (suc n) k h lt =
-    let parts = and_parts (p n) (all_below p n) h in elim (cases_eq k n) [ inl e ↦ ap p e ∙ parts.0 | inr ne ↦ all_below_at p n k parts.1 (below k n lt ne) ]
-  where
-    below : (k n : ℕ) → k < suc n → (k ≡ n → ⊥) → k < n
-    below k n lt ne = omega arith
-
-abbrev alike : Bool → Bool → Bool
-alike true b = b
-alike false b = not b
-
-alike_is : (a b : Bool) → alike a b ≡ true → a ≡ b
-alike_is true b h = sym h
-alike_is false true h = cc h
-alike_is false false h = refl
-
-unfoldable tells : ℕ → ℕ → ℕ → Bool
-tells mask place funct7 = alike (not (bit_and mask (slice_index CLASSES funct7) == 0)) (computes (place / 8) (place % 8) funct7)
-
 unfoldable row_tells : ℕ → ℕ → Bool
-row_tells place mask = all_below (tells mask place) 128
+row_tells place mask =
+    agree_below (λ funct7. not (bit_and mask (slice_index CLASSES funct7) == 0)) (λ funct7. computes (place / 8) (place % 8) funct7) 128
 
 unfoldable tables : Unit {0}
-unfolding all_below tells row_tells computes
+unfolding row_tells computes
 tables = tt
 
-all_rows : all_below (λ place. row_tells place (slice_index COMPUTING place)) 256 ≡ true
+all_rows : agree_below (λ place. row_tells place (slice_index COMPUTING place)) (λ place. true) 256 ≡ true
 unfolding tables
 all_rows = refl
 
 table_at : (row funct3 funct7 : ℕ) → row < 32 → funct3 < 8 → funct7 < 128
     → not (bit_and (slice_index COMPUTING (row * 8 + funct3)) (slice_index CLASSES funct7) == 0) ≡ computes row funct3 funct7
-unfolding row_tells tells
+unfolding row_tells
 table_at row funct3 funct7 row_fits funct3_fits funct7_fits =
     let place = row * 8 + funct3 in
+    let mask = slice_index COMPUTING place in
     let high : place / 8 ≡ row = omega arith in
     let low : place % 8 ≡ funct3 = omega arith in
-    let told = alike_is _ _ (all_below_at (tells (slice_index COMPUTING place) place) 128 funct7
-    (all_below_at (λ p. row_tells p (slice_index COMPUTING p)) 256 place all_rows (omega arith)) funct7_fits) in
+    let told = agree_below_at (λ f. not (bit_and mask (slice_index CLASSES f) == 0)) (λ f. computes (place / 8) (place % 8) f) 128 funct7
+    (agree_below_at (λ p. row_tells p (slice_index COMPUTING p)) (λ p. true) 256 place all_rows (omega arith)) funct7_fits in
     told ∙ ap (λ r. computes r (place % 8) funct7) high ∙ ap (λ f. computes row f funct7) low
 
 -- ---- the instruction of what computes
