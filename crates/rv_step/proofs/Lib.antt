@@ -2,11 +2,11 @@ pub mod Agreeing
 pub mod Bytes
 pub mod Calls
 pub mod Fetching
-pub mod Found
 pub mod Harts
 pub mod Memories
 pub mod Numbers
 pub mod Reading
 pub mod Registers
+pub mod Standing
 pub mod Steps
 pub mod Pairs

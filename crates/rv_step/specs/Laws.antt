@@ -1,20 +1,26 @@
 -- What holds of every step.
-use Rattle.std.specs.Prelude.{◌≡◌, ◌≢◌, ℕ, ◌<◌, Some, IsSome, [], ◌∷◌, bit_and, bit_or}
+use Rattle.std.specs.Prelude.{◌≡◌, ◌≢◌, ◌↔◌, ℕ, ◌<◌, Some, IsSome, [], ◌∷◌, bit_and, bit_or}
 use Rattle.rv_word.specs.declared.instr.Instr.{Instr}
 use Rattle.rv_word.specs.declared.instr.RegOp.TheVariants.{And, Or}
 use Rattle.rv_word.specs.declared.instr.Instr.TheVariants.{Op, Ecall}
 use Rattle.rv_word.specs.Writes.{written}
+use Rattle.rv_comp.specs.declared.front.Front.{Front}
+use Rattle.rv_comp.specs.Fronts.{IsFront}
 use Rattle.rv_mem.specs.Bytes.{byte_at, address_after}
 use Rattle.rv_step.specs.declared.outcome.Outcome.TheVariants.{Next, Call}
 use Rattle.rv_step.specs.Access.{Accesses}
 use Rattle.rv_step.specs.State.{State, IsState, register, with_register, past}
-use Rattle.rv_step.specs.Step.{Stepped, Stands, effect, IsStep}
+use Rattle.rv_step.specs.Step.{Stepped, Stands, effect, bytes_at_pc, IsAtPc, IsStep}
 use Rattle.rv_step.specs.Steps.{StandInRow, LeadTo}
 
 -- one instruction at most stands at pc
 abbrev pub OneInstruction : Type 0
 OneInstruction =
     (s : State) (i j : Instr) (m n : ℕ) → Stands s i m → Stands s j n → (i ≡ j) × (m ≡ n)
+
+-- what is at pc is the front of the bytes from pc on
+abbrev pub AtPcIsFront : Type 0
+AtPcIsFront = (s : State) (front : Front) → (IsAtPc s front ↔ IsFront (bytes_at_pc s) front)
 
 -- from a state a step comes to one thing at most
 abbrev pub OneStep : Type 0

@@ -1,13 +1,21 @@
 //! What holds of every step. A call costs nothing.
-ghost use Rattle.rv_step.specs.Laws.{OneInstruction, OneStep, SomeStep, StepIsEffect, StepKeepsState, StoppedStays, OtherBytesStay, OtherRegistersStay, AccessedIsThere, NoByteGoes, CallsAreEcalls, AgreeingStandsToo, AgreeingStepsAreSame, PairLeaves};
+ghost use Rattle.rv_step.specs.Laws.{OneInstruction, AtPcIsFront, OneStep, SomeStep, StepIsEffect, StepKeepsState, StoppedStays, OtherBytesStay, OtherRegistersStay, AccessedIsThere, NoByteGoes, CallsAreEcalls, AgreeingStandsToo, AgreeingStepsAreSame, PairLeaves};
 
 use rv_comp::laws::{one_front, one_spelling, some_front, spelled_in_range, two_lengths};
+use rv_mem::laws::{addresses_are_these, others_stay, read_is_held, write_keeps_memory};
 
 /// One instruction at most stands at pc.
 pub fn one_instruction()
     ensures { OneInstruction }
 {
     one_spelling();
+    read_is_held();
+}
+
+/// What is at pc is the front of the bytes from pc on.
+pub fn at_pc_is_front()
+    ensures { AtPcIsFront }
+{
     two_lengths();
 }
 
@@ -15,15 +23,15 @@ pub fn one_instruction()
 pub fn one_step()
     ensures { OneStep }
 {
-    one_instruction();
+    at_pc_is_front();
+    one_front();
 }
 
 /// From each state a step comes to something.
 pub fn some_step()
     ensures { SomeStep }
 {
-    two_lengths();
-    one_front();
+    at_pc_is_front();
     some_front();
 }
 
@@ -31,13 +39,16 @@ pub fn some_step()
 pub fn step_is_effect()
     ensures { StepIsEffect }
 {
-    one_instruction();
+    at_pc_is_front();
+    one_front();
 }
 
 /// A step leads from a state to a state.
 pub fn step_keeps_state()
     ensures { StepKeepsState }
 {
+    read_is_held();
+    write_keeps_memory();
     spelled_in_range();
     two_lengths();
 }
@@ -51,6 +62,7 @@ pub fn stopped_stays()
 pub fn other_bytes_stay()
     ensures { OtherBytesStay }
 {
+    others_stay();
     step_is_effect();
 }
 
@@ -65,6 +77,8 @@ pub fn other_registers_stay()
 pub fn accessed_is_there()
     ensures { AccessedIsThere }
 {
+    addresses_are_these();
+    read_is_held();
     step_is_effect();
 }
 

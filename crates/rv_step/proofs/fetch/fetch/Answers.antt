@@ -5,7 +5,7 @@ use Rattle.rv_step.proofs.fetch.fetch.Goals as goal
 pub returns-in_default : goal.returns-in_default
 returns-in_default g c =
     let s : State = record { hart = c.args.cpu.now; memory = g.M.Memory.bytes c.args.memory.now } in
-    no_parcel c.two_lengths.ensures s (rw c.pc-pc.ensures.value at c.in_default.ensures.value)
+    no_parcel s (rw c.pc-pc.ensures.value at c.in_default.ensures.value)
 
 pub returns-in_default-first : goal.returns-in_default-first
 returns-in_default-first g c =
@@ -16,9 +16,9 @@ returns-in_default-first g c =
 pub returns-in_default-fetch16 : goal.returns-in_default-fetch16
 returns-in_default-fetch16 g c =
     let s : State = record { hart = c.args.cpu.now; memory = g.M.Memory.bytes c.args.memory.now } in
-    cut_short c.two_lengths.ensures s c.in-Some.low c.read_front-first.result (g.met.M.Memory.in_range c.args.memory.now)
+    cut_short s c.in-Some.low c.read_front-first.result (g.met.M.Memory.in_range c.args.memory.now)
     (rw c.pc-pc.ensures.value at c.in-Some.ensures.value) c.in-Short.is (rw c.to_le_bytes.ensures at c.read_front-first.ensures.front)
-    (rw c.to_le_bytes.ensures at c.read_front-first.ensures.only) (rw c.pc-pc.ensures.value at c.in_default-fetch16.ensures.value)
+    (rw c.pc-pc.ensures.value at c.in_default-fetch16.ensures.value)
 
 pub returns : goal.returns
 returns g c =
