@@ -4,6 +4,7 @@ use Rattle.std.specs.FinMap.{insert}
 use Rattle.rv_word.specs.declared.instr.Instr.{Instr}
 use Rattle.rv_word.specs.declared.instr.Instr.TheVariants.{Op, OpImm, Load, Store, Branch, Jal, Jalr, Lui, Auipc, Fence, Ecall, Ebreak}
 use Rattle.rv_word.specs.declared.instr.LoadKind.{LoadKind}
+use Rattle.rv_word.specs.Numbers.{offset_by}
 use Rattle.rv_comp.specs.declared.front.Front.{Front}
 use Rattle.rv_comp.specs.declared.front.Front.TheVariants.{Read, Short, Bad}
 use Rattle.rv_mem.specs.Bytes.{Bytes, byte_at, bytes_at, addresses, with_bytes, loaded, stored}
@@ -12,7 +13,7 @@ use Rattle.rv_step.specs.declared.outcome.Cause.TheVariants as cause
 use Rattle.rv_step.specs.Laws.{NoByteGoes, CallsAreEcalls}
 use Rattle.rv_step.specs.State.{Hart, State, register}
 use Rattle.rv_step.specs.Step.{Stepped, Stands, next, unchanged, after_load, effect, IsAtPc, after_front}
-use Rattle.rv_step.specs.Values.{plus, load_size, store_size}
+use Rattle.rv_step.specs.Values.{load_size, store_size}
 use Rattle.rv_step.proofs.Bytes.{byte_at-insert}
 
 -- ---- no byte goes
@@ -36,8 +37,8 @@ store_some true at size v k h m q e = written_some m (addresses at size) _ q e
 store_some false at size v k h m q e = e
 
 effect_some : (i : Instr) (n : ℕ) (h : Hart) (m : Bytes) (q : ℕ) → IsSome (byte_at m q) → IsSome (byte_at (effect i n h m).state.memory q)
-effect_some (Load kind rd rs1 imm) n h m q e = load_some (loaded m (plus (register h rs1) imm) (load_size kind)) kind rd _ n h m q e
-effect_some (Store width rs1 rs2 imm) n h m q e = store_some (is_some (bytes_at m (addresses (plus (register h rs1) imm) (store_size width)))) _ (store_size width) _ _ h m q e
+effect_some (Load kind rd rs1 imm) n h m q e = load_some (loaded m (offset_by (register h rs1) imm) (load_size kind)) kind rd _ n h m q e
+effect_some (Store width rs1 rs2 imm) n h m q e = store_some (is_some (bytes_at m (addresses (offset_by (register h rs1) imm) (store_size width)))) _ (store_size width) _ _ h m q e
 effect_some (Op op rd rs1 rs2) n h m q e = e
 effect_some (OpImm op rd rs1 imm) n h m q e = e
 effect_some (Branch condition rs1 rs2 offset) n h m q e = e
@@ -68,8 +69,8 @@ store_calls true at k w h m e = cc
 store_calls false at k w h m e = cc
 
 effect_calls : (i : Instr) (n : ℕ) (h : Hart) (m : Bytes) → (effect i n h m).outcome ≡ Call → i ≡ Ecall
-effect_calls (Load kind rd rs1 imm) n h m e = absurd (load_calls (loaded m (plus (register h rs1) imm) (load_size kind)) kind rd _ n h m e)
-effect_calls (Store width rs1 rs2 imm) n h m e = absurd (store_calls (is_some (bytes_at m (addresses (plus (register h rs1) imm) (store_size width)))) _ _ _ h m e)
+effect_calls (Load kind rd rs1 imm) n h m e = absurd (load_calls (loaded m (offset_by (register h rs1) imm) (load_size kind)) kind rd _ n h m e)
+effect_calls (Store width rs1 rs2 imm) n h m e = absurd (store_calls (is_some (bytes_at m (addresses (offset_by (register h rs1) imm) (store_size width)))) _ _ _ h m e)
 effect_calls (Op op rd rs1 rs2) n h m e = absurd (cc)
 effect_calls (OpImm op rd rs1 imm) n h m e = absurd (cc)
 effect_calls (Branch condition rs1 rs2 offset) n h m e = absurd (cc)

@@ -12,10 +12,10 @@ use Rattle.rv_word.specs.declared.instr.LoadKind.TheVariants.{Lb, Lh, Lw, Lbu, L
 use Rattle.rv_word.specs.declared.instr.Cond.{Cond}
 use Rattle.rv_word.specs.declared.instr.Instr.{Instr}
 use Rattle.rv_word.specs.declared.instr.Instr.TheVariants.{Branch, Jal}
-use Rattle.rv_word.specs.Numbers.{IsEven}
+use Rattle.rv_word.specs.Numbers.{IsEven, offset_by}
 use Rattle.rv_word.specs.Spelling.{InRange}
 use Rattle.rv_step.specs.State.{IsHart}
-use Rattle.rv_step.specs.Values.{word, plus, result_of, load_size, extended}
+use Rattle.rv_step.specs.Values.{word, result_of, load_size, extended}
 
 pub word_fits : (z : ℤ) → word z < 2 ^ 32
 word_fits (pos n) = omega arith
@@ -27,8 +27,8 @@ even_sum a (pos n) (negsuc k) h e is = absurd (omega (arith, ints))
 even_sum a (negsuc n) (pos k) h e is = omega (arith, ints)
 even_sum a (negsuc n) (negsuc k) h e is = omega (arith, ints)
 
-pub plus_even : (a : ℕ) (z : ℤ) → a % 2 ≡ 0 → IsEven z → plus a z % 2 ≡ 0
-plus_even a z h e = even_sum a z (pos a +ℤ z) h e refl
+pub offset_even : (a : ℕ) (z : ℤ) → a % 2 ≡ 0 → IsEven z → offset_by a z % 2 ≡ 0
+offset_even a z h e = even_sum a z (pos a +ℤ z) h e refl
 
 bool_fits : (b : Bool) → from_bool b < 2 ^ 32
 bool_fits true = omega arith

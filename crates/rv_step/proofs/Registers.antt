@@ -5,13 +5,14 @@ use Rattle.rv_word.specs.declared.instr.Instr.{Instr}
 use Rattle.rv_word.specs.declared.instr.Instr.TheVariants.{Op, OpImm, Load, Store, Branch, Jal, Jalr, Lui, Auipc, Fence, Ecall, Ebreak}
 use Rattle.rv_word.specs.declared.instr.LoadKind.{LoadKind}
 use Rattle.rv_word.specs.Writes.{unless_x0, written}
+use Rattle.rv_word.specs.Numbers.{offset_by}
 use Rattle.rv_mem.specs.Bytes.{Bytes, bytes_at, addresses, loaded}
 use Rattle.rv_step.specs.declared.outcome.Outcome.TheVariants.{Trap}
 use Rattle.rv_step.specs.declared.outcome.Cause.TheVariants as cause
 use Rattle.rv_step.specs.Laws.{StepIsEffect, OtherRegistersStay}
 use Rattle.rv_step.specs.State.{Hart, register, with_register, with_pc, past}
 use Rattle.rv_step.specs.Step.{Stepped, next, unchanged, after_load, effect}
-use Rattle.rv_step.specs.Values.{plus, load_size, store_size, is_taken}
+use Rattle.rv_step.specs.Values.{load_size, store_size, is_taken}
 
 chosen : (b : Bool) (l : List ℕ) (rd v x : ℕ) → cond b None (Some rd) ≢ Some x → get_or (cond b l (set l rd v)) x 0 ≡ get_or l x 0
 chosen true l rd v x other = refl
@@ -35,8 +36,8 @@ branch_stays false pc n h x = refl
 effect_stays : (i : Instr) (n : ℕ) (h : Hart) (m : Bytes) (x : ℕ) → written i ≢ Some x → register (effect i n h m).state.hart x ≡ register h x
 effect_stays (Op op rd rs1 rs2) n h m x other = wrote h rd _ x other
 effect_stays (OpImm op rd rs1 imm) n h m x other = wrote h rd _ x other
-effect_stays (Load kind rd rs1 imm) n h m x other = load_stays (loaded m (plus (register h rs1) imm) (load_size kind)) kind rd _ n h m x other
-effect_stays (Store width rs1 rs2 imm) n h m x other = store_stays (is_some (bytes_at m (addresses (plus (register h rs1) imm) (store_size width)))) _ n h _ m x
+effect_stays (Load kind rd rs1 imm) n h m x other = load_stays (loaded m (offset_by (register h rs1) imm) (load_size kind)) kind rd _ n h m x other
+effect_stays (Store width rs1 rs2 imm) n h m x other = store_stays (is_some (bytes_at m (addresses (offset_by (register h rs1) imm) (store_size width)))) _ n h _ m x
 effect_stays (Branch condition rs1 rs2 offset) n h m x other = branch_stays (is_taken condition (register h rs1) (register h rs2)) _ n h x
 effect_stays (Jal rd offset) n h m x other = wrote h rd _ x other
 effect_stays (Jalr rd rs1 imm) n h m x other = wrote h rd _ x other

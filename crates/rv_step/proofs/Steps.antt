@@ -7,6 +7,7 @@ use Rattle.rv_word.specs.declared.instr.Instr.TheVariants.{Op, OpImm, Load, Stor
 use Rattle.rv_word.specs.declared.instr.LoadKind.{LoadKind}
 use Rattle.rv_word.specs.declared.instr.StoreWidth.{StoreWidth}
 use Rattle.rv_word.specs.Spelling.{InRange}
+use Rattle.rv_word.specs.Numbers.{offset_by}
 use Rattle.rv_comp.specs.declared.front.Front.{Front}
 use Rattle.rv_comp.specs.declared.front.Front.TheVariants.{Read, Short, Bad}
 use Rattle.rv_comp.specs.Laws.{TwoLengths, SpelledInRange, OneFront, SomeFront}
@@ -18,10 +19,10 @@ use Rattle.rv_step.specs.Access.{Accesses}
 use Rattle.rv_step.specs.Laws.{AtPcIsFront, OneStep, SomeStep, StepIsEffect, StepKeepsState, StoppedStays, OtherBytesStay, AccessedIsThere}
 use Rattle.rv_step.specs.State.{Hart, State, IsHart, IsState, register, past}
 use Rattle.rv_step.specs.Step.{Stepped, next, unchanged, after_load, effect, bytes_at_pc, IsAtPc, after_front}
-use Rattle.rv_step.specs.Values.{plus, register_op, load_size, store_size}
+use Rattle.rv_step.specs.Values.{register_op, load_size, store_size}
 use Rattle.rv_step.proofs.Harts.{pc_is, after_is, register_is, moved_is}
 use Rattle.rv_step.proofs.Memories.{stored_is, loaded_fits}
-use Rattle.rv_step.proofs.Numbers.{word_fits, plus_even, result_fits, extended_fits, branch_is_even, jump_is_even}
+use Rattle.rv_step.proofs.Numbers.{word_fits, offset_even, result_fits, extended_fits, branch_is_even, jump_is_even}
 
 -- ---- one step
 
@@ -54,8 +55,8 @@ store_stays false at k w h m stopped = refl
 effect_stays : (i : Instr) (n : ℕ) (h : Hart) (m : Bytes) → (effect i n h m).outcome ≢ Next → (effect i n h m).state ≡ record { hart = h; memory = m }
 effect_stays (Op op rd rs1 rs2) n h m stopped = absurd (stopped refl)
 effect_stays (OpImm op rd rs1 imm) n h m stopped = absurd (stopped refl)
-effect_stays (Load kind rd rs1 imm) n h m stopped = load_stays (loaded m (plus (register h rs1) imm) (load_size kind)) kind rd _ n h m stopped
-effect_stays (Store width rs1 rs2 imm) n h m stopped = store_stays (is_some (bytes_at m (addresses (plus (register h rs1) imm) (store_size width)))) _ _ _ h m stopped
+effect_stays (Load kind rd rs1 imm) n h m stopped = load_stays (loaded m (offset_by (register h rs1) imm) (load_size kind)) kind rd _ n h m stopped
+effect_stays (Store width rs1 rs2 imm) n h m stopped = store_stays (is_some (bytes_at m (addresses (offset_by (register h rs1) imm) (store_size width)))) _ _ _ h m stopped
 effect_stays (Branch cond rs1 rs2 offset) n h m stopped = absurd (stopped refl)
 effect_stays (Jal rd offset) n h m stopped = absurd (stopped refl)
 effect_stays (Jalr rd rs1 imm) n h m stopped = absurd (stopped refl)
@@ -88,8 +89,8 @@ store_keeps others false at size v k h m q apart = refl
 effect_keeps : OthersStay → (i : Instr) (n : ℕ) (h : Hart) (m : Bytes) (q : ℕ) → (Accesses i h q → ⊥) → byte_at (effect i n h m).state.memory q ≡ byte_at m q
 effect_keeps others (Op op rd rs1 rs2) n h m q apart = refl
 effect_keeps others (OpImm op rd rs1 imm) n h m q apart = refl
-effect_keeps others (Load kind rd rs1 imm) n h m q apart = ap (λ (w : Bytes). byte_at w q) (load_keeps (loaded m (plus (register h rs1) imm) (load_size kind)) kind rd _ n h m)
-effect_keeps others (Store width rs1 rs2 imm) n h m q apart = store_keeps others (is_some (bytes_at m (addresses (plus (register h rs1) imm) (store_size width)))) _ (store_size width) _ _ h m q apart
+effect_keeps others (Load kind rd rs1 imm) n h m q apart = ap (λ (w : Bytes). byte_at w q) (load_keeps (loaded m (offset_by (register h rs1) imm) (load_size kind)) kind rd _ n h m)
+effect_keeps others (Store width rs1 rs2 imm) n h m q apart = store_keeps others (is_some (bytes_at m (addresses (offset_by (register h rs1) imm) (store_size width)))) _ (store_size width) _ _ h m q apart
 effect_keeps others (Branch cond rs1 rs2 offset) n h m q apart = refl
 effect_keeps others (Jal rd offset) n h m q apart = refl
 effect_keeps others (Jalr rd rs1 imm) n h m q apart = refl
@@ -121,9 +122,9 @@ found these held m at n (Some bs) q e some has =
 
 effect_found : AddressesAreThese → ReadIsHeld → (i : Instr) (n : ℕ) (h : Hart) (m : Bytes) (q : ℕ) → (effect i n h m).outcome ≡ Next → Accesses i h q → IsSome (byte_at m q)
 effect_found these held (Load kind rd rs1 imm) n h m q done has =
-    found these held m (plus (register h rs1) imm) (load_size kind) (bytes_at m (addresses (plus (register h rs1) imm) (load_size kind))) q refl (load_found _ kind rd _ n h m done) has
+    found these held m (offset_by (register h rs1) imm) (load_size kind) (bytes_at m (addresses (offset_by (register h rs1) imm) (load_size kind))) q refl (load_found _ kind rd _ n h m done) has
 effect_found these held (Store width rs1 rs2 imm) n h m q done has =
-    found these held m (plus (register h rs1) imm) (store_size width) (bytes_at m (addresses (plus (register h rs1) imm) (store_size width))) q refl (store_found _ _ _ _ h m done) has
+    found these held m (offset_by (register h rs1) imm) (store_size width) (bytes_at m (addresses (offset_by (register h rs1) imm) (store_size width))) q refl (store_found _ _ _ _ h m done) has
 effect_found these held (Op op rd rs1 rs2) n h m q done (k, below, is) = absurd (omega arith)
 effect_found these held (OpImm op rd rs1 imm) n h m q done (k, below, is) = absurd (omega arith)
 effect_found these held (Branch cond rs1 rs2 offset) n h m q done (k, below, is) = absurd (omega arith)
@@ -178,15 +179,15 @@ effect_state held kept (OpImm op rd rs1 imm) n s is range even = record {
 effect_state held kept (Load kind rd rs1 imm) n s is range even = load_state _ kind rd _ n s is even (λ v. loaded_fits held s.memory _ v kind is.memory)
 effect_state held kept (Store width rs1 rs2 imm) n s is range even = store_state kept _ width _ _ n s is even
 effect_state held kept (Branch cond rs1 rs2 offset) n s is range even = record {
-  hart = either _ _ _ (pc_is s.hart _ is.hart (plus_even s.hart.pc offset is.hart.even (branch_is_even _ cond rs1 rs2 offset range refl)) (word_fits _)) (after_is s.hart n is.hart even);
+  hart = either _ _ _ (pc_is s.hart _ is.hart (offset_even s.hart.pc offset is.hart.even (branch_is_even _ cond rs1 rs2 offset range refl)) (word_fits _)) (after_is s.hart n is.hart even);
   memory = is.memory;
 }
 effect_state held kept (Jal rd offset) n s is range even = record {
-  hart = moved_is s.hart rd _ _ is.hart (omega arith) (plus_even s.hart.pc offset is.hart.even (jump_is_even _ rd offset range refl)) (word_fits _);
+  hart = moved_is s.hart rd _ _ is.hart (omega arith) (offset_even s.hart.pc offset is.hart.even (jump_is_even _ rd offset range refl)) (word_fits _);
   memory = is.memory;
 }
 effect_state held kept (Jalr rd rs1 imm) n s is range even = record {
-  hart = moved_is s.hart rd _ _ is.hart (omega arith) (cleared_even (plus (register s.hart rs1) imm)) (cleared_fits (plus (register s.hart rs1) imm) (word_fits _));
+  hart = moved_is s.hart rd _ _ is.hart (omega arith) (cleared_even (offset_by (register s.hart rs1) imm)) (cleared_fits (offset_by (register s.hart rs1) imm) (word_fits _));
   memory = is.memory;
 }
 effect_state held kept (Lui rd imm) n s is range even = record { hart = register_is _ rd _ (after_is s.hart n is.hart even) (omega arith); memory = is.memory }

@@ -1,7 +1,7 @@
 //! What the instructions compute.
 ghost use Rattle.std.specs.Prelude.{◌≡◌, ◌%◌, ◌^◌, ◌<◌};
-ghost use Rattle.rv_word.specs.Numbers.{IsEven};
-ghost use Rattle.rv_step.specs.Values.{extended, is_taken, load_size, plus, register_op, result_of as op_result, shifted_right, word};
+ghost use Rattle.rv_word.specs.Numbers.{IsEven, offset_by};
+ghost use Rattle.rv_step.specs.Values.{extended, is_taken, load_size, register_op, result_of as op_result, shifted_right, word};
 
 use rv_word::{Cond, ImmOp, LoadKind, RegOp};
 
@@ -97,10 +97,10 @@ pub fn takes(cond: Cond, a: u32, b: u32) -> bool
 }
 
 /// The address that lies an offset away.
-#[tactic(auto, using(crate::proofs::Numbers::plus_even))]
+#[tactic(auto, using(crate::proofs::Numbers::offset_even))]
 #[inline(always)]
 pub fn offset_from(a: u32, offset: i32) -> u32
-    ensures value { result ≡ plus a offset }
+    ensures value { result ≡ offset_by a offset }
     ensures even { a % 2 ≡ 0 → IsEven offset → result % 2 ≡ 0 }
 {
     a.wrapping_add_signed(offset)

@@ -1,5 +1,5 @@
 -- Numbers as bits hold them.
-use Rattle.std.specs.Prelude.{◌≡◌, ℕ, ◌+◌, ◌-◌, ◌/◌, ◌%◌, ◌^◌, ℤ, pos, negsuc, neg_ℤ, ◌≤ℤ◌}
+use Rattle.std.specs.Prelude.{◌≡◌, ℕ, ◌+◌, ◌-◌, ◌/◌, ◌%◌, ◌^◌, ℤ, pos, negsuc, neg_ℤ, ◌+ℤ◌, ◌≤ℤ◌}
 
 -- n[high:low], the number that these bits of n make
 abbrev pub bits : ℕ → ℕ → ℕ → ℕ
@@ -9,6 +9,10 @@ bits n high low = n / 2 ^ low % 2 ^ (high + 1 - low)
 abbrev pub modulo : ℕ → ℤ → ℕ
 modulo k (pos n) = n % 2 ^ k
 modulo k (negsuc n) = 2 ^ k - 1 - n % 2 ^ k
+
+-- a number and a signed one, modulo 2 ^ 32: the address that lies an offset from another
+abbrev pub offset_by : ℕ → ℤ → ℕ
+offset_by a z = modulo 32 (pos a +ℤ z)
 
 -- bit 0 of z is 0
 abbrev pub IsEven : ℤ → Type 0
