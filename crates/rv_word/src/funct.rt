@@ -47,7 +47,8 @@ impl RegOp {
     /// The computation with these functs.
     pub(crate) fn of(funct7: u32, funct3: u32) -> Option<Self>
         ensures found { IfSome result (λ op. (op_funct7 op ≡ funct7) × (op_funct3 op ≡ funct3)) }
-        ensures none { IfNone result ((op : RegOp) → op_funct7 op ≡ funct7 → op_funct3 op ≢ funct3) }
+        ensures none { IfNone result ((op : RegOp) →
+            op_funct7 op ≡ funct7 → op_funct3 op ≢ funct3) }
     {
         match (funct7, funct3) {
             (0b0000000, 0b000) => Some(RegOp::Add),
@@ -92,7 +93,8 @@ impl ImmOp {
 
     /// funct7 of a shift; `None` of any other operation.
     pub(crate) fn shift_funct7(self) -> Option<u32>
-        ensures shift { IfSome result (λ funct7. (is_shift self ≡ true) × (funct7 ≡ shift_funct7 self)) }
+        ensures shift { IfSome result (λ funct7.
+            (is_shift self ≡ true) × (funct7 ≡ shift_funct7 self)) }
         ensures small { IfSome result (λ funct7. funct7 < 128) }
         ensures other { IfNone result (is_shift self ≡ false) }
     {
