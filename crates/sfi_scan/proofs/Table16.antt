@@ -1,9 +1,9 @@
 -- The table of halfwords that compute, seen right at each halfword.
-use Rattle.std.proofs.Common.{List, ◌≡◌, ℕ, zero, suc, ◌+◌, ◌*◌, ◌/◌, ◌%◌, ◌<◌, Bool, true, false, ◌&&◌, ◌==◌, refl, ap, sym, ◌∙◌, subst, arith, inl, inr, Option, Some, IfSome, bit_and, ◌^◌, ◌≢◌}
+use Rattle.std.proofs.Common.{List, ◌≡◌, ℕ, ◌+◌, ◌*◌, ◌/◌, ◌%◌, ◌<◌, Bool, true, false, ◌&&◌, ◌==◌, refl, ap, sym, ◌∙◌, subst, arith, Option, Some, IfSome, bit_and, ◌^◌, ◌≢◌}
 use Rattle.std.specs.Prelude.{slice_index, ◌||◌, not}
 use Rattle.std.specs.Bool.{OnTrue}
 use Rattle.std.proofs.lemmas.Nat.{and_mask}
-use Rattle.std.proofs.lemmas.Bool.{and_parts, cases_eq, ne_eqb}
+use Rattle.std.proofs.lemmas.Bool.{agree_below, agree_below_at, and_parts, ne_eqb}
 use Rattle.rv_word.specs.declared.outline.Outline.{Outline}
 use Rattle.rv_word.specs.declared.outline.Outline.TheVariants.{Computes}
 use Rattle.rv_word.specs.Numbers.{bits}
@@ -23,20 +23,6 @@ use Rattle.sfi_scan.specs.private.Near.{near}
 use Rattle.rv_word.specs.declared.instr.Instr.{Instr}
 use Rattle.sfi_scan.specs.declared.computing.TheConstants.{COMPUTING}
 
--- each number below n passes
-unfoldable all_below : (ℕ → Bool) → ℕ → Bool
-all_below p zero = true
-all_below p (suc n) = p n && all_below p n
-
-all_below_at : (p : ℕ → Bool) (n k : ℕ) → all_below p n ≡ true → k < n → p k ≡ true
-unfolding all_below
-all_below_at p zero k h lt = absurd (omega arith)
-all_below_at p (suc n) k h lt =
-    let parts = and_parts (p n) (all_below p n) h in elim (cases_eq k n) [ inl e ↦ ap p e ∙ parts.0 | inr ne ↦ all_below_at p n k parts.1 (below k n lt ne) ]
-  where
-    below : (k n : ℕ) → k < suc n → (k ≡ n → ⊥) → k < n
-    below k n lt ne = omega arith
-
 -- it computes into a register that is not reserved, and into x2 only where the halfword names it in bits 11:7
 abbrev is_free : Bool → Option Outline → Bool
 is_free two (Some (Computes rd)) = not (is_reserved rd) && (not (rd == 2) || two)
@@ -49,19 +35,21 @@ abbrev halfword : ℕ → ℕ → ℕ
 halfword p j = (p / 4) * 512 + j * 4 + p % 4
 
 unfoldable row_passes : ℕ → ℕ → Bool
-row_passes p mask = all_below (λ j. passes mask (halfword p j)) 128
+row_passes p mask = agree_below (λ j. passes mask (halfword p j)) (λ j. true) 128
 
 unfoldable tables : Unit {0}
-unfolding all_below passes row_passes row_of jump jump_or_stop outlined extended jump_offset branch_offset
+unfolding passes row_passes row_of jump jump_or_stop outlined extended jump_offset branch_offset
 tables = tt
 
-all_rows : all_below (λ p. row_passes p (slice_index COMPUTING p)) 512 ≡ true
+all_rows : agree_below (λ p. row_passes p (slice_index COMPUTING p)) (λ p. true) 512 ≡ true
 unfolding tables
 all_rows = refl
 
 row_at : (p j : ℕ) → p < 512 → j < 128 → passes (slice_index COMPUTING p) (halfword p j) ≡ true
 unfolding row_passes
-row_at p j ps js = all_below_at _ 128 j (all_below_at (λ q. row_passes q (slice_index COMPUTING q)) 512 p all_rows ps) js
+row_at p j ps js =
+    agree_below_at (λ k. passes (slice_index COMPUTING p) (halfword p k)) (λ k. true) 128 j
+    (agree_below_at (λ q. row_passes q (slice_index COMPUTING q)) (λ q. true) 512 p all_rows ps) js
 
 whole : (h : ℕ) → halfword (h / 512 * 4 + h % 4) (h / 4 % 128) ≡ h
 whole h = omega arith
