@@ -1,9 +1,7 @@
 -- The table of the bytes' classes, seen right at each byte.
-use Rattle.std.proofs.Common.{◌≡◌, ℕ, ◌<◌, ◌+◌, ◌*◌, ◌==◌, ◌≤◌, ◌%◌, Bool, true, false, refl, sym, ap, ◌∙◌, subst, arith, zero-add, Option, Some, None, Ok}
+use Rattle.std.proofs.Common.{◌≡◌, ℕ, ◌<◌, ◌+◌, ◌*◌, ◌==◌, ◌≤◌, ◌%◌, Bool, true, false, refl, sym, ap, ◌∙◌, arith, Option, Some, None, Ok}
 use Rattle.std.specs.Prelude.{not, slice_index, nat_lt, if◌then◌else◌}
-use Rattle.std.specs.List.{list_all, range_with_len}
-use Rattle.std.proofs.lemmas.List.FromFn.{length-range_with_len, get_or-range_with_len}
-use Rattle.std.proofs.lemmas.List.Sums.{AllPass-from_list_all}
+use Rattle.std.proofs.lemmas.Bool.{agree_below, agree_below_at}
 use Rattle.std.proofs.lemmas.Bool.Decides.{nat_tests}
 use Rattle.std.specs.Int.Bits.{bit_or}
 use Rattle.std.proofs.lemmas.Nat.{le_or_l, le_or_r}
@@ -13,8 +11,8 @@ use Rattle.sfi_tool.specs.private.Hexadecimal.{IsByteOf}
 use Rattle.sfi_tool.specs.declared.hexadecimal.TheConstants.{CLASSES}
 
 -- a test that passes at each byte by computation
-below_256 : (test : ℕ → Bool) → list_all test (range_with_len 0 256) ≡ true → (r : ℕ) → r < 256 → test r ≡ true
-below_256 test h r lt = subst (λ k. test k ≡ true) (get_or-range_with_len 0 256 r 0 lt ∙ zero-add r) (AllPass-from_list_all test (range_with_len 0 256) h r 0 (omega (arith, length-range_with_len 0 256)))
+below_256 : (test : ℕ → Bool) → agree_below test (λ b. true) 256 ≡ true → (r : ℕ) → r < 256 → test r ≡ true
+below_256 test h r lt = agree_below_at test (λ b. true) 256 r h lt
 
 abbrev same : Option ℕ → Option ℕ → Bool
 same None None = true
@@ -35,17 +33,8 @@ of_class k = if nat_lt k 16 then Some k else None
 pub class_digit : (c : ℕ) → c < 256 → of_class (slice_index CLASSES c) ≡ hex_digit_value c
 class_digit c lt = same_is _ _ (below_256 (λ b. same (of_class (slice_index CLASSES b)) (hex_digit_value b)) refl c lt)
 
-abbrev alike : Bool → Bool → Bool
-alike true b = b
-alike false b = not b
-
-alike_is : (a b : Bool) → alike a b ≡ true → a ≡ b
-alike_is true b h = sym h
-alike_is false true h = cc h
-alike_is false false h = refl
-
 pub class_white : (c : ℕ) → c < 256 → (slice_index CLASSES c == 16) ≡ not (is_kept c)
-class_white c lt = alike_is _ _ (below_256 (λ b. alike (slice_index CLASSES b == 16) (not (is_kept b))) refl c lt)
+class_white c lt = agree_below_at (λ b. slice_index CLASSES b == 16) (λ b. not (is_kept b)) 256 c refl lt
 
 pub class_digit_some : (c k : ℕ) → c < 256 → k ≡ slice_index CLASSES c → k < 16 → hex_digit_value c ≡ Some k
 class_digit_some c k lt is small =
