@@ -48,22 +48,12 @@ each_there m a (suc n) (suc k) h l =
 
 -- ---- reading
 
-joined : (o : Option ℕ) (p : Option (List ℕ)) (b : ℕ) (bs : List ℕ) → o ≡ Some b → p ≡ Some bs → in_front o p ≡ Some (b ∷ bs)
-joined None p b bs e f = absurd (cc)
-joined (Some c) None b bs e f = absurd (cc)
-joined (Some c) (Some cs) b bs e f = cc
-
-pub record Splits (o : Option ℕ) (p : Option (List ℕ)) (bs : List ℕ) : Type 0 where
-  pub byte : ℕ
-  pub rest : List ℕ
-  pub first : o ≡ Some byte
-  pub others : p ≡ Some rest
-  pub all : bs ≡ byte ∷ rest
-
-split : (o : Option ℕ) (p : Option (List ℕ)) (bs : List ℕ) → in_front o p ≡ Some bs → Splits o p bs
-split None p bs e = absurd (cc)
-split (Some b) None bs e = absurd (cc)
-split (Some b) (Some rest) bs e = record { byte = b; rest = rest; first = refl; others = refl; all = cc }
+one_more : (o : Option ℕ) (p q : Option (List ℕ)) (b : ℕ) (bs : List ℕ) → in_front o p ≡ Some bs → ((cs : List ℕ) → p ≡ Some cs → q ≡ Some (cs ++ b ∷ [])) → in_front o q ≡ Some (bs ++ b ∷ [])
+one_more None p q b bs e longer = absurd (cc)
+one_more (Some a) None q b bs e longer = absurd (cc)
+one_more (Some a) (Some cs) q b bs e longer =
+    let all : a ∷ cs ≡ bs = cc in
+    ap (λ (r : Option (List ℕ)). in_front (Some a) r) (longer cs refl) ∙ ap (λ (l : List ℕ). Some (l ++ b ∷ [])) all
 
 -- one byte more
 read_more : (m : Bytes) (a n b : ℕ) (bs : List ℕ) → bytes_at m (range_with_len a n) ≡ Some bs → byte_at m (a + n) ≡ Some b
@@ -71,12 +61,11 @@ read_more : (m : Bytes) (a n b : ℕ) (bs : List ℕ) → bytes_at m (range_with
 read_more m a zero b bs e f =
     let z : a ≡ a + 0 = omega arith in
     let none : bs ≡ [] = cc in
-    rw none (joined (byte_at m a) (Some []) b [] (ap (byte_at m) z ∙ f) refl)
+    rw none (ap (λ (o : Option ℕ). in_front o (Some [])) (ap (byte_at m) z ∙ f))
 read_more m a (suc n) b bs e f =
-    let x = split (byte_at m a) (bytes_at m (range_with_len (a + 1) n)) bs e in
     let z : a + 1 + n ≡ a + suc n = omega arith in
-    rw x.all (joined (byte_at m a) (bytes_at m (range_with_len (a + 1) (suc n))) x.byte (x.rest ++ b ∷ []) x.first
-    (read_more m (a + 1) n b x.rest x.others (ap (byte_at m) z ∙ f)))
+    one_more (byte_at m a) (bytes_at m (range_with_len (a + 1) n)) (bytes_at m (range_with_len (a + 1) (suc n))) b bs e
+    (λ cs others. read_more m (a + 1) n b cs others (ap (byte_at m) z ∙ f))
 
 pub bytes_more : (m : Bytes) (a n b : ℕ) (bs : List ℕ) → bytes_at m (range_with_len a n) ≡ Some bs → byte_at m (a + n) ≡ Some b
     → bytes_at m (range_with_len a (n + 1)) ≡ Some (bs ++ b ∷ [])
