@@ -1,5 +1,5 @@
 -- The page table, the frames of its pages, and what stands at an address.
-use Rattle.std.specs.Prelude.{◌≡◌, ◌≢◌, ℕ, zero, suc, ◌+◌, ◌*◌, ◌/◌, ◌%◌, ◌^◌, ◌<◌, ◌≤◌, ◌==◌, List, length, Option, None, Some, ◌-◌, slice_index, if◌then◌else◌}
+use Rattle.std.specs.Prelude.{◌≡◌, ◌≢◌, ℕ, zero, suc, ◌+◌, ◌*◌, ◌/◌, ◌%◌, ◌^◌, ◌<◌, ◌≤◌, ◌==◌, List, length, Option, None, Some, slice_index, if◌then◌else◌}
 use Rattle.std.specs.FinMap.{empty, insert}
 use Rattle.rv_mem.specs.Bytes.{Bytes}
 

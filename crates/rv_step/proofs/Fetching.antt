@@ -13,7 +13,7 @@ use Rattle.rv_comp.specs.Fronts.{Spells, SpellsNothing, IsCutShort, IsFront}
 use Rattle.rv_comp.specs.Laws.{TwoLengths}
 use Rattle.rv_mem.specs.Bytes.{Bytes, IsMemory, byte_at, address_after, addresses, in_front, number_of, loaded}
 use Rattle.rv_step.specs.State.{State}
-use Rattle.rv_step.specs.Step.{in_run, run_at, bytes_at_pc, IsAtPc}
+use Rattle.rv_step.specs.Step.{in_run, run_at, IsAtPc}
 use Rattle.rv_step.proofs.Standing.{from_front}
 
 -- the two bytes of a parcel
