@@ -6,6 +6,7 @@ use Rattle.std.proofs.lemmas.Int.{ints}
 use Rattle.std.proofs.lemmas.Bool.{cases_lt, or_parts, eqb-false, cond_both}
 use Rattle.std.proofs.lemmas.List.{get_or-set_other, length-set, length-map}
 use Rattle.std.proofs.lemmas.List.FromFn.{length-range_with_len, get_or-map-range_with_len}
+use Rattle.rv_word.specs.Numbers.{offset_by}
 use Rattle.rv_word.specs.declared.instr.Instr.TheVariants.{Load, Store}
 use Rattle.rv_word.specs.declared.instr.LoadKind.{LoadKind}
 use Rattle.rv_word.specs.declared.instr.LoadKind.TheVariants.{Lb, Lh, Lw, Lbu, Lhu}
@@ -14,11 +15,10 @@ use Rattle.rv_word.specs.declared.instr.StoreWidth.TheVariants.{Sb, Sh, Sw}
 use Rattle.rv_word.specs.Spelling.{InRange, IsImm12}
 use Rattle.rv_mem.specs.Bytes.{address_after, addresses}
 use Rattle.rv_step.specs.State.{Hart, with_register}
-use Rattle.rv_step.specs.Values.{word, plus, load_size, store_size}
+use Rattle.rv_step.specs.Values.{word, load_size, store_size}
 use Rattle.sfi_image.specs.Spelling.{Part}
 use Rattle.sfi_image.specs.Parts.{IsRightPart}
 use Rattle.sfi_policy.specs.Registers.{is_reserved}
-use Rattle.sfi_scan.specs.Rules.{offset_by}
 use Rattle.sfi_check.specs.Regions.{InData, InGuard, HasReserved}
 
 -- ---- sums
@@ -27,20 +27,11 @@ back : (v n : ℕ) (w : ℤ) → w ≡ pos v +ℤ negsuc n → suc n ≤ v → v
 back v n (pos k) e h fits = omega (arith, ints)
 back v n (negsuc k) e h fits = absurd (omega (arith, ints))
 
-plus_pos : (v n : ℕ) → plus v (pos n) ≡ (v + n) % 2 ^ 32
+plus_pos : (v n : ℕ) → offset_by v (pos n) ≡ (v + n) % 2 ^ 32
 plus_pos v n = refl
 
-plus_neg : (v n : ℕ) → suc n ≤ v → v < 2 ^ 32 → plus v (negsuc n) ≡ v - suc n
+plus_neg : (v n : ℕ) → suc n ≤ v → v < 2 ^ 32 → offset_by v (negsuc n) ≡ v - suc n
 plus_neg v n h fits = back v n (pos v +ℤ negsuc n) refl h fits
-
-same_sum : (a n : ℕ) (w : ℤ) → a < 2 ^ 32 → w ≡ pos a +ℤ negsuc n → (a + (2 ^ 32 - 1 - n % 2 ^ 32)) % 2 ^ 32 ≡ word w
-same_sum a n (pos k) fits e = omega (arith, ints)
-same_sum a n (negsuc k) fits e = omega (arith, ints)
-
--- the rules and the machine mean one target
-pub same_target : (a : ℕ) (z : ℤ) → a < 2 ^ 32 → offset_by a z ≡ plus a z
-same_target a (pos n) fits = let e : (a + n % 2 ^ 32) % 2 ^ 32 ≡ (a + n) % 2 ^ 32 = omega arith in e
-same_target a (negsuc n) fits = same_sum a n (pos a +ℤ negsuc n) fits refl
 
 -- ---- accesses
 
@@ -63,19 +54,19 @@ near p a right low high =
     (cases_lt a p.data_base)
 
 -- a pointer into the data, a small offset and up to four bytes
-near_data : (p : Part) (v : ℕ) (imm : ℤ) (k : ℕ) → IsRightPart p → InData p v → IsImm12 imm → k < 4 → InData p (address_after (plus v imm) k) ⊎ InGuard p (address_after (plus v imm) k)
+near_data : (p : Part) (v : ℕ) (imm : ℤ) (k : ℕ) → IsRightPart p → InData p v → IsImm12 imm → k < 4 → InData p (address_after (offset_by v imm) k) ⊎ InGuard p (address_after (offset_by v imm) k)
 near_data p v (pos n) k right (from, below) small few =
     let above : p.data_base + p.data_size + 4096 ≤ 2 ^ 32 = right.guard_room.above in
     let bound = small_pos n small in
-    let e : address_after (plus v (pos n)) k ≡ v + n + k = omega (arith, plus_pos v n) in
-    near p (address_after (plus v (pos n)) k) right (omega arith) (omega arith)
+    let e : address_after (offset_by v (pos n)) k ≡ v + n + k = omega (arith, plus_pos v n) in
+    near p (address_after (offset_by v (pos n)) k) right (omega arith) (omega arith)
 near_data p v (negsuc n) k right (from, below) small few =
     let above : p.data_base + p.data_size + 4096 ≤ 2 ^ 32 = right.guard_room.above in
     let room : 4096 ≤ p.data_base = right.guard_room.below in
     let bound = small_neg n small in
     let back' = plus_neg v n (omega arith) (omega arith) in
-    let e : address_after (plus v (negsuc n)) k ≡ v - suc n + k = omega (arith, back') in
-    near p (address_after (plus v (negsuc n)) k) right (omega arith) (omega arith)
+    let e : address_after (offset_by v (negsuc n)) k ≡ v - suc n + k = omega (arith, back') in
+    near p (address_after (offset_by v (negsuc n)) k) right (omega arith) (omega arith)
 
 -- one of the addresses of an access lies some places from the first
 one_address : (at n a : ℕ) → Contains (addresses at n) a → (k : ℕ) × (k < n) × (a ≡ address_after at k)
@@ -83,9 +74,9 @@ one_address at n a (k, below, is) =
     let within : k < n = omega (arith, below, length-map (range_with_len 0 n) (address_after at), length-range_with_len 0 n) in
     (k, within, sym is ∙ get_or-map-range_with_len (address_after at) 0 n k k _ within (omega arith))
 
-pub near_access : (p : Part) (v : ℕ) (imm : ℤ) (n a : ℕ) → IsRightPart p → InData p v → IsImm12 imm → n ≤ 4 → Contains (addresses (plus v imm) n) a → InData p a ⊎ InGuard p a
+pub near_access : (p : Part) (v : ℕ) (imm : ℤ) (n a : ℕ) → IsRightPart p → InData p v → IsImm12 imm → n ≤ 4 → Contains (addresses (offset_by v imm) n) a → InData p a ⊎ InGuard p a
 near_access p v imm n a right inside small few has =
-    let one = one_address (plus v imm) n a has in
+    let one = one_address (offset_by v imm) n a has in
     subst (λ (x : ℕ). InData p x ⊎ InGuard p x) (sym one.2) (near_data p v imm one.0 right inside small (omega (arith, one.1)))
 
 pub load_most : (kind : LoadKind) → load_size kind ≤ 4

@@ -2,6 +2,7 @@
 use Rattle.std.proofs.Common.{◌≡◌, ℕ, ◌+◌, ◌%◌, ◌^◌, ◌<◌, ◌≤◌, ◌⊎◌, ◌∷◌, length, Option, Some, None, Bool, true, false, cond, not, ◌==◌, refl, sym, ap, ◌∙◌, subst, ⊎_elim, arith}
 use Rattle.std.specs.Prelude.{◌&&◌, ℤ, pos, negsuc, is_some, slice_index}
 use Rattle.std.proofs.lemmas.Bool.{and_parts, or_cases, eqb-true, eqb-false, not-false}
+use Rattle.rv_word.specs.Numbers.{offset_by}
 use Rattle.rv_word.specs.declared.instr.Instr.{Instr}
 use Rattle.rv_word.specs.declared.instr.Instr.TheVariants.{Op, OpImm, Load, Store, Branch, Jal, Jalr, Lui, Auipc, Fence, Ecall, Ebreak}
 use Rattle.rv_word.specs.declared.instr.LoadKind.{LoadKind}
@@ -14,7 +15,7 @@ use Rattle.rv_step.specs.declared.outcome.Cause.TheVariants as cause
 use Rattle.rv_step.specs.Access.{Accesses}
 use Rattle.rv_step.specs.State.{Hart, register, with_register, with_pc, past, even_of}
 use Rattle.rv_step.specs.Step.{effect, after_load, next, unchanged}
-use Rattle.rv_step.specs.Values.{plus, load_size, store_size, extended, is_taken}
+use Rattle.rv_step.specs.Values.{load_size, store_size, extended, is_taken}
 use Rattle.sfi_image.specs.Formats.{has_stack, is_stack}
 use Rattle.sfi_image.specs.Spelling.{Part}
 use Rattle.sfi_image.specs.Spans.{code_region}
@@ -24,12 +25,12 @@ use Rattle.sfi_scan.specs.declared.bundle.BundlePlace.{BundlePlace}
 use Rattle.sfi_policy.specs.Registers.{is_reserved}
 use Rattle.sfi_scan.specs.Pairs.{follows_data_pair, follows_code_pair}
 use Rattle.sfi_scan.specs.Stack.{writes_stack, is_jump}
-use Rattle.sfi_scan.specs.Rules.{Place, is_empty, is_bundle_start, breaks_ecall, breaks_reserved, breaks_access, breaks_jump, breaks_target, breaks_stack, may_access, ends_region, offset_by}
+use Rattle.sfi_scan.specs.Rules.{Place, is_empty, is_bundle_start, breaks_ecall, breaks_reserved, breaks_access, breaks_jump, breaks_target, breaks_stack, may_access, ends_region}
 use Rattle.sfi_check.specs.Regions.{InData, InGuard, IsGate, HasReserved, StackInData}
 use Rattle.sfi_check.specs.Leaving.{Leaves, WritesResult}
 use Rattle.sfi_check.specs.Places.{StackInDataBefore, IsAtPlace}
 use Rattle.sfi_check.proofs.Leaving.{leaves_after}
-use Rattle.sfi_check.proofs.Accessing.{same_target, near_access, load_most, store_most, load_range, store_range, kept, count_kept, reserved_kept}
+use Rattle.sfi_check.proofs.Accessing.{near_access, load_most, store_most, load_range, store_range, kept, count_kept, reserved_kept}
 use Rattle.sfi_check.proofs.Stacking.{is_of_pair, stack_here, stack_after, jump_keeps}
 
 -- what is used of the place where a step begins, for the instruction there
@@ -108,8 +109,8 @@ store_no_call false at k w h m e = cc
 
 -- what accesses anything does not call
 pub no_call : (i : Instr) (n : ℕ) (h : Hart) (m : Bytes) (a : ℕ) → Accesses i h a → (effect i n h m).outcome ≡ Call → ⊥
-no_call (Load kind rd rs1 imm) n h m a has e = load_no_call (loaded m (plus (register h rs1) imm) (load_size kind)) kind rd _ n h m e
-no_call (Store width rs1 rs2 imm) n h m a has e = store_no_call (is_some (bytes_at m (addresses (plus (register h rs1) imm) (store_size width)))) _ _ _ h m e
+no_call (Load kind rd rs1 imm) n h m a has e = load_no_call (loaded m (offset_by (register h rs1) imm) (load_size kind)) kind rd _ n h m e
+no_call (Store width rs1 rs2 imm) n h m a has e = store_no_call (is_some (bytes_at m (addresses (offset_by (register h rs1) imm) (store_size width)))) _ _ _ h m e
 no_call (Op op rd rs1 rs2) n h m a (k, below, is) e = omega arith
 no_call (OpImm op rd rs1 imm) n h m a (k, below, is) e = omega arith
 no_call (Branch condition rs1 rs2 offset) n h m a (k, below, is) e = omega arith
@@ -173,10 +174,10 @@ module _ (sandbox : ℕ) (p : Part) (h : Hart) (m : Bytes) (right : IsRightPart 
   by_branch false i n target here other goes writes start = by_moving i n here goes writes
 
   -- the target that the rules allow is where the machine goes
-  target_start : (i : Instr) (n : ℕ) (offset : ℤ) (here : Here sandbox p h i n) → not (is_bundle_start here.place.bundle (offset_by here.place.address offset)) ≡ false → IsBundleStart (code_region p) (plus h.pc offset)
+  target_start : (i : Instr) (n : ℕ) (offset : ℤ) (here : Here sandbox p h i n) → not (is_bundle_start here.place.bundle (offset_by here.place.address offset)) ≡ false → IsBundleStart (code_region p) (offset_by h.pc offset)
   target_start i n offset here kept =
       let start = here.is_start (offset_by here.place.address offset) (not-false _ kept) in
-      subst (λ (a : ℕ). IsBundleStart (code_region p) a) (ap (λ (a : ℕ). offset_by a offset) here.address ∙ same_target h.pc offset here.pc) start
+      subst (λ (a : ℕ). IsBundleStart (code_region p) a) (ap (λ (a : ℕ). offset_by a offset) here.address) start
 
   -- a jump leaves the stack pointer where it lies
   jump_lies : (i : Instr) (n rd value pc : ℕ) (here : Here sandbox p h i n) → is_of_pair i ≡ false → is_jump i ≡ true → destination i ≡ Some rd → StackInData p (with_register (with_pc h pc) rd value).registers
@@ -184,7 +185,7 @@ module _ (sandbox : ℕ) (p : Part) (h : Hart) (m : Bytes) (right : IsRightPart 
       subst (λ (a : ℕ). InData p a) (sym (keeps here.place.bundle i rd value (with_pc h pc) dest (here.format ∙ has) (jump_keeps here.place i jump here.writing)))
       (lies sandbox p h i n here other has)
 
-  by_jalr : (rd rs1 n : ℕ) (imm : ℤ) → Here sandbox p h (Jalr rd rs1 imm) n → IsGoodHart sandbox p (with_register (with_pc h (even_of (plus (register h rs1) imm))) rd (address_after h.pc n))
+  by_jalr : (rd rs1 n : ℕ) (imm : ℤ) → Here sandbox p h (Jalr rd rs1 imm) n → IsGoodHart sandbox p (with_register (with_pc h (even_of (offset_by (register h rs1) imm))) rd (address_after h.pc n))
   by_jalr rd rs1 n (pos k) here =
       let parts = and_parts (k == 0) (follows_code_pair rs1 here.place.earlier) (not-false _ here.jump) in
       let none : k ≡ 0 = eqb-true k 0 parts.0 in
@@ -193,7 +194,7 @@ module _ (sandbox : ℕ) (p : Part) (h : Hart) (m : Bytes) (right : IsRightPart 
       let aligned : register h rs1 % 16 ≡ 0 = start.aligned in
       let end : p.code_base + length p.code ≤ 2 ^ 32 = here.end in
       let same : register h rs1 ≡ even_of ((register h rs1 + k) % 2 ^ 32) = omega arith in
-      let pc = even_of (plus (register h rs1) (pos k)) in
+      let pc = even_of (offset_by (register h rs1) (pos k)) in
       let h' = with_register (with_pc h pc) rd (address_after h.pc n) in
       good_writing pc rd (address_after h.pc n) here.reserved (here.start h' (subst (λ (a : ℕ). IsBundleStart (code_region p) a) same start) (jump_lies (Jalr rd rs1 (pos k)) n rd (address_after h.pc n) pc here refl refl refl))
   by_jalr rd rs1 n (negsuc k) here = absurd (let e = here.jump in cc)
@@ -206,14 +207,14 @@ module _ (sandbox : ℕ) (p : Part) (h : Hart) (m : Bytes) (right : IsRightPart 
   pub leads : (i : Instr) (n : ℕ) → Here sandbox p h i n → Leads sandbox p h (effect i n h m).outcome (effect i n h m).state.hart
   leads (Op op rd rs1 rs2) n here = by_writing (Op op rd rs1 rs2) n rd _ here refl here.reserved refl refl
   leads (OpImm op rd rs1 imm) n here = by_writing (OpImm op rd rs1 imm) n rd _ here refl here.reserved refl tt
-  leads (Load kind rd rs1 imm) n here = by_load kind rd rs1 imm n here (loaded m (plus (register h rs1) imm) (load_size kind)) (plus (register h rs1) imm)
+  leads (Load kind rd rs1 imm) n here = by_load kind rd rs1 imm n here (loaded m (offset_by (register h rs1) imm) (load_size kind)) (offset_by (register h rs1) imm)
   leads (Store width rs1 rs2 imm) n here =
-      by_store (is_some (bytes_at m (addresses (plus (register h rs1) imm) (store_size width)))) (stored m (plus (register h rs1) imm) (store_size width) (register h rs2)) (plus (register h rs1) imm) n (by_moving (Store width rs1 rs2 imm) n here refl tt)
+      by_store (is_some (bytes_at m (addresses (offset_by (register h rs1) imm) (store_size width)))) (stored m (offset_by (register h rs1) imm) (store_size width) (register h rs2)) (offset_by (register h rs1) imm) n (by_moving (Store width rs1 rs2 imm) n here refl tt)
   leads (Branch condition rs1 rs2 offset) n here =
-      by_branch (is_taken condition (register h rs1) (register h rs2)) (Branch condition rs1 rs2 offset) n (plus h.pc offset) here refl refl tt (target_start (Branch condition rs1 rs2 offset) n offset here here.target)
+      by_branch (is_taken condition (register h rs1) (register h rs2)) (Branch condition rs1 rs2 offset) n (offset_by h.pc offset) here refl refl tt (target_start (Branch condition rs1 rs2 offset) n offset here here.target)
   leads (Jal rd offset) n here =
-      let h' = with_register (with_pc h (plus h.pc offset)) rd (address_after h.pc n) in
-      good_writing (plus h.pc offset) rd (address_after h.pc n) here.reserved (here.start h' (target_start (Jal rd offset) n offset here here.target) (jump_lies (Jal rd offset) n rd (address_after h.pc n) (plus h.pc offset) here refl refl refl))
+      let h' = with_register (with_pc h (offset_by h.pc offset)) rd (address_after h.pc n) in
+      good_writing (offset_by h.pc offset) rd (address_after h.pc n) here.reserved (here.start h' (target_start (Jal rd offset) n offset here here.target) (jump_lies (Jal rd offset) n rd (address_after h.pc n) (offset_by h.pc offset) here refl refl refl))
   leads (Jalr rd rs1 imm) n here = by_jalr rd rs1 n imm here
   leads (Lui rd imm) n here = by_writing (Lui rd imm) n rd _ here refl here.reserved refl tt
   leads (Auipc rd imm) n here = by_writing (Auipc rd imm) n rd _ here refl here.reserved refl tt

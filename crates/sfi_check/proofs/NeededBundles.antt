@@ -3,6 +3,7 @@ use Rattle.std.proofs.Common.{◌≡◌, ◌≢◌, ℕ, zero, suc, ◌+◌, ◌
 use Rattle.std.specs.Prelude.{pos, slice_index}
 use Rattle.std.specs.List.{All}
 use Rattle.std.proofs.lemmas.Int.{ints}
+use Rattle.rv_word.specs.declared.instr.Instr.{Instr}
 use Rattle.rv_word.specs.declared.instr.RegOp.TheVariants.{And, Or}
 use Rattle.rv_word.specs.declared.instr.StoreWidth.TheVariants.{Sw}
 use Rattle.rv_word.specs.declared.instr.Instr.TheVariants.{Op, Store, Jalr, Ecall, Ebreak}
@@ -12,7 +13,7 @@ use Rattle.rv_comp.specs.Laws.{OneSpelling}
 use Rattle.rv_comp.specs.Fronts.{Spells}
 use Rattle.rv_comp.specs.declared.form.Form16.TheVariants.{CAddi}
 use Rattle.rv_mem.specs.Bytes.{Bytes}
-use Rattle.rv_step.specs.Step.{NothingStands, unchanged}
+use Rattle.rv_step.specs.Step.{Stands, unchanged}
 use Rattle.rv_step.specs.declared.outcome.Outcome.TheVariants.{Call}
 use Rattle.sfi_image.specs.declared.format.Format.TheVariants.{Sfi1}
 use Rattle.sfi_image.specs.Gates.{is_gate_of}
@@ -53,7 +54,7 @@ ones_alone law wide =
     (quiet law Sfi1 [] 0xffffffff brk brk brk brk brk brk brk brk brk brk brk none_listed 0 refl refl refl)
     (quiet law Sfi1 [] 0xffffffff brk brk brk brk brk brk brk brk brk brk brk none_listed 14 refl refl refl)
 
-ones_stand : SpellingsAreWide → (m : Bytes) → HasCode (sandbox undecodable) m → NothingStands (first 0x01000000 m)
+ones_stand : SpellingsAreWide → (m : Bytes) → HasCode (sandbox undecodable) m → (i : Instr) (n : ℕ) → Stands (first 0x01000000 m) i n → ⊥
 ones_stand wide m code i n st = by st.spelled
   where
     here : n ≤ 256 → ⊥

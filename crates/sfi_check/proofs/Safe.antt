@@ -2,6 +2,7 @@
 use Rattle.std.proofs.Common.{◌≡◌, ℕ, zero, suc, ◌+◌, List, [], ◌∷◌, Option, Some, None, Bool, true, false, cond, refl, sym, ◌∙◌, subst, arith}
 use Rattle.std.specs.Prelude.{is_some}
 use Rattle.std.specs.List.{All}
+use Rattle.rv_word.specs.Numbers.{offset_by}
 use Rattle.rv_word.specs.declared.instr.Instr.{Instr}
 use Rattle.rv_word.specs.declared.instr.Instr.TheVariants.{Op, OpImm, Load, Store, Branch, Jal, Jalr, Lui, Auipc, Fence, Ecall, Ebreak}
 use Rattle.rv_word.specs.declared.instr.LoadKind.{LoadKind}
@@ -12,7 +13,7 @@ use Rattle.rv_step.specs.declared.outcome.Cause.TheVariants as cause
 use Rattle.rv_step.specs.Laws.{StepIsEffect}
 use Rattle.rv_step.specs.State.{Hart, State, register}
 use Rattle.rv_step.specs.Step.{Stepped, IsStep, effect, after_load, next, unchanged}
-use Rattle.rv_step.specs.Values.{plus, load_size, store_size}
+use Rattle.rv_step.specs.Values.{load_size, store_size}
 use Rattle.sfi_image.specs.Spelling.{Part}
 use Rattle.sfi_image.specs.Spans.{AreApart, code_region, guarded_region}
 use Rattle.sfi_image.specs.Parts.{AreRight}
@@ -58,8 +59,8 @@ store_fetch false at k w h m f = f
 effect_fetch : (i : Instr) (n : ℕ) (h : Hart) (m : Bytes) → IsFetch (effect i n h m).outcome → ⊥
 effect_fetch (Op op rd rs1 rs2) n h m f = f
 effect_fetch (OpImm op rd rs1 imm) n h m f = f
-effect_fetch (Load kind rd rs1 imm) n h m f = load_fetch (loaded m (plus (register h rs1) imm) (load_size kind)) kind rd _ n h m f
-effect_fetch (Store width rs1 rs2 imm) n h m f = store_fetch (is_some (bytes_at m (addresses (plus (register h rs1) imm) (store_size width)))) _ _ _ h m f
+effect_fetch (Load kind rd rs1 imm) n h m f = load_fetch (loaded m (offset_by (register h rs1) imm) (load_size kind)) kind rd _ n h m f
+effect_fetch (Store width rs1 rs2 imm) n h m f = store_fetch (is_some (bytes_at m (addresses (offset_by (register h rs1) imm) (store_size width)))) _ _ _ h m f
 effect_fetch (Branch condition rs1 rs2 offset) n h m f = f
 effect_fetch (Jal rd offset) n h m f = f
 effect_fetch (Jalr rd rs1 imm) n h m f = f

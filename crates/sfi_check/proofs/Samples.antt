@@ -10,7 +10,7 @@ use Rattle.rv_comp.specs.declared.front.Front.TheVariants.{Read}
 use Rattle.rv_mem.specs.Bytes.{Bytes, byte_at, bytes_at, addresses, address_after}
 use Rattle.rv_step.specs.Access.{Accesses}
 use Rattle.rv_step.specs.State.{Hart, IsHart, State}
-use Rattle.rv_step.specs.Step.{Stepped, Stands, NothingStands, IsStep, effect, next, unchanged}
+use Rattle.rv_step.specs.Step.{Stepped, Stands, IsStep, effect, next, unchanged}
 use Rattle.rv_step.specs.declared.outcome.Outcome.TheVariants.{Call}
 use Rattle.sfi_image.specs.declared.format.Format.{Format}
 use Rattle.sfi_image.specs.declared.format.Format.TheVariants.{Sfi1, Sfi2}
@@ -240,7 +240,7 @@ module _ (p : Part) (m : Bytes) where
   }
 
   -- no instruction stands there
-  pub nothing_here : (h : Hart) → NothingStands (record { hart = h; memory = m }) → HasUnsafeRun p (record { hart = h; memory = m })
+  pub nothing_here : (h : Hart) → ((i : Instr) (n : ℕ) → Stands (record { hart = h; memory = m }) i n → ⊥) → HasUnsafeRun p (record { hart = h; memory = m })
   nothing_here h none = record { turns = []; run = tt; unsafe = λ safe. none safe.present.instr safe.present.size safe.present.stands }
 
   -- it has left the code

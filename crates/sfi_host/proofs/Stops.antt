@@ -5,6 +5,7 @@ use Rattle.std.specs.List.{Contains}
 use Rattle.std.specs.Option.{option_map}
 use Rattle.std.proofs.lemmas.List.FromFn.{get_or-map-range_with_len, length-map-range_with_len}
 use Rattle.std.proofs.lemmas.Option.{slice_get_within, get_or_from_slice_get}
+use Rattle.rv_word.specs.Numbers.{offset_by}
 use Rattle.rv_word.specs.declared.instr.Instr.{Instr}
 use Rattle.rv_word.specs.declared.instr.Instr.TheVariants.{Op, OpImm, Load, Store, Branch, Jal, Jalr, Lui, Auipc, Fence, Ecall, Ebreak}
 use Rattle.rv_word.specs.declared.instr.LoadKind.{LoadKind}
@@ -18,7 +19,7 @@ use Rattle.rv_step.specs.Access.{accessed, Accesses}
 use Rattle.rv_step.specs.Laws.{StepIsEffect}
 use Rattle.rv_step.specs.State.{Hart, register}
 use Rattle.rv_step.specs.Step.{Stepped, Stands, IsStep, next, unchanged, after_load, effect}
-use Rattle.rv_step.specs.Values.{plus, load_size, store_size}
+use Rattle.rv_step.specs.Values.{load_size, store_size}
 use Rattle.sfi_image.specs.declared.part.Gate.{Gate}
 use Rattle.sfi_image.specs.Spans.{Holds}
 use Rattle.sfi_check.specs.Regions.{InData, InGuard, IsGate}
@@ -192,10 +193,10 @@ module _ (m : Bytes) (s : Seat) (seat : IsSafeSeat m s) (ready : s.status ≡ Re
     Stops c at = StoppedItself s.bounds (state_in m s) (Trapped c at)
 
     by_load : (kind : LoadKind) (rd rs1 : ℕ) (imm : ℤ) (n : ℕ) → Stands (state_in m s) (Load kind rd rs1 imm) n → (c : Cause) (at : ℕ) (o : Option (List ℕ))
-        → bytes_at m (addresses (plus (register s.hart rs1) imm) (load_size kind)) ≡ o
-        → (after_load (option_map number_of o) kind rd (plus (register s.hart rs1) imm) n s.hart m).outcome ≡ Trap c at → Stops c at
+        → bytes_at m (addresses (offset_by (register s.hart rs1) imm) (load_size kind)) ≡ o
+        → (after_load (option_map number_of o) kind rd (offset_by (register s.hart rs1) imm) n s.hart m).outcome ≡ Trap c at → Stops c at
     by_load kind rd rs1 imm n stands c at None none e =
-        let from = plus (register s.hart rs1) imm in
+        let from = offset_by (register s.hart rs1) imm in
         let x : cause.Load ≡ c = cc in
         let y : from ≡ at = cc in
         subst (λ (q : Cause). Stops q at) x (
@@ -208,10 +209,10 @@ module _ (m : Bytes) (s : Seat) (seat : IsSafeSeat m s) (ready : s.status ≡ Re
     by_load kind rd rs1 imm n stands c at (Some bs) some e = absurd (cc)
 
     by_store : (width : StoreWidth) (rs1 rs2 : ℕ) (imm : ℤ) (n : ℕ) (k : Hart) (w : Bytes) → Stands (state_in m s) (Store width rs1 rs2 imm) n → (c : Cause) (at : ℕ) (o : Option (List ℕ))
-        → bytes_at m (addresses (plus (register s.hart rs1) imm) (store_size width)) ≡ o
-        → (cond (is_some o) (next k w) (unchanged (Trap cause.Store (plus (register s.hart rs1) imm)) s.hart m)).outcome ≡ Trap c at → Stops c at
+        → bytes_at m (addresses (offset_by (register s.hart rs1) imm) (store_size width)) ≡ o
+        → (cond (is_some o) (next k w) (unchanged (Trap cause.Store (offset_by (register s.hart rs1) imm)) s.hart m)).outcome ≡ Trap c at → Stops c at
     by_store width rs1 rs2 imm n k w stands c at None none e =
-        let from = plus (register s.hart rs1) imm in
+        let from = offset_by (register s.hart rs1) imm in
         let x : cause.Store ≡ c = cc in
         let y : from ≡ at = cc in
         subst (λ (q : Cause). Stops q at) x (
@@ -226,9 +227,9 @@ module _ (m : Bytes) (s : Seat) (seat : IsSafeSeat m s) (ready : s.status ≡ Re
     by_instr : (i : Instr) (n : ℕ) → Stands (state_in m s) i n → (c : Cause) (at : ℕ) → (effect i n s.hart m).outcome ≡ Trap c at → Stops c at
     by_instr (Op op rd rs1 rs2) n stands c at e = absurd (cc)
     by_instr (OpImm op rd rs1 imm) n stands c at e = absurd (cc)
-    by_instr (Load kind rd rs1 imm) n stands c at e = by_load kind rd rs1 imm n stands c at (bytes_at m (addresses (plus (register s.hart rs1) imm) (load_size kind))) refl e
+    by_instr (Load kind rd rs1 imm) n stands c at e = by_load kind rd rs1 imm n stands c at (bytes_at m (addresses (offset_by (register s.hart rs1) imm) (load_size kind))) refl e
     by_instr (Store width rs1 rs2 imm) n stands c at e =
-        by_store width rs1 rs2 imm n _ _ stands c at (bytes_at m (addresses (plus (register s.hart rs1) imm) (store_size width))) refl e
+        by_store width rs1 rs2 imm n _ _ stands c at (bytes_at m (addresses (offset_by (register s.hart rs1) imm) (store_size width))) refl e
     by_instr (Branch condition rs1 rs2 offset) n stands c at e = absurd (cc)
     by_instr (Jal rd offset) n stands c at e = absurd (cc)
     by_instr (Jalr rd rs1 imm) n stands c at e = absurd (cc)

@@ -1,6 +1,7 @@
 -- A bundle of whole expansions breaks no rule.
 use Rattle.std.proofs.Common.{◌≡◌, ℕ, zero, suc, ◌+◌, ◌^◌, ◌<◌, ◌≤◌, List, [], ◌∷◌, ◌++◌, length, Option, Some, None, Bool, true, false, refl, sym, ap, ◌∙◌, subst, arith, append_assoc, inl, inr, replicate}
 use Rattle.std.specs.Prelude.{ℤ, pos, negsuc, ◌-ℤ◌, ◌==◌, ◌&&◌, not, MatchBool}
+use Rattle.rv_word.specs.Numbers.{offset_by}
 use Rattle.rv_word.specs.declared.instr.RegOp.TheVariants.{And, Or}
 use Rattle.rv_word.specs.declared.instr.ImmOp.TheVariants.{Addi}
 use Rattle.rv_word.specs.declared.instr.Instr.{Instr}
@@ -16,7 +17,7 @@ use Rattle.sfi_scan.specs.Readings.{Piece}
 use Rattle.sfi_policy.specs.Registers.{is_reserved, is_withheld}
 use Rattle.sfi_scan.specs.Pairs.{follows_data_pair}
 use Rattle.sfi_scan.specs.Stack.{writes_stack, begins_pair, precedes_pair, is_jump}
-use Rattle.sfi_scan.specs.Rules.{offset_by, is_bundle_start, breaks_reserved, breaks_stack}
+use Rattle.sfi_scan.specs.Rules.{is_bundle_start, breaks_reserved, breaks_stack}
 use Rattle.rv_source.specs.Halves.{upper, lower}
 use Rattle.sfi_rewrite.specs.declared.slot.Slot.{Slot}
 use Rattle.sfi_rewrite.specs.declared.slot.Slot.TheVariants.{Wide, Short, Jump, Upper, Lower}

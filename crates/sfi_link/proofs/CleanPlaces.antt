@@ -1,8 +1,9 @@
 -- No rule is broken at the place of an instruction.
 use Rattle.std.proofs.Common.{◌≡◌, ℕ, ◌+◌, ◌^◌, ◌<◌, List, [], ◌∷◌, ◌++◌, length, take, drop, Option, Some, None, Bool, true, false, refl, sym, ap, ◌∙◌, subst, arith, length-append}
-use Rattle.std.specs.Prelude.{ℤ, pos, negsuc, ◌-ℤ◌, ◌==◌, ◌&&◌, ◌||◌, not}
+use Rattle.std.specs.Prelude.{ℤ, pos, negsuc, ◌+ℤ◌, ◌-ℤ◌, ◌==◌, ◌&&◌, ◌||◌, not}
 use Rattle.std.proofs.Math.Seq.{take-append_seam, drop-append_seam}
 use Rattle.std.proofs.lemmas.Int.{ints}
+use Rattle.rv_word.specs.Numbers.{modulo, offset_by}
 use Rattle.rv_word.specs.declared.instr.RegOp.TheVariants.{And, Or}
 use Rattle.rv_word.specs.declared.instr.Instr.{Instr}
 use Rattle.rv_word.specs.declared.instr.Instr.TheVariants.{Op, OpImm, Load, Store, Branch, Jal, Jalr, Lui, Auipc, Fence, Ecall, Ebreak}
@@ -19,7 +20,7 @@ use Rattle.sfi_scan.specs.Readings.{Piece, IsReading, rest_of}
 use Rattle.sfi_policy.specs.Pairs.{is_masking, is_placing}
 use Rattle.sfi_policy.specs.Registers.{is_reserved, is_withheld}
 use Rattle.sfi_scan.specs.Stack.{writes_stack, begins_pair, precedes_pair}
-use Rattle.sfi_scan.specs.Rules.{Place, is_empty, offset_by, is_bundle_start, breaks_ecall, breaks_reserved, breaks_access, breaks_jump, breaks_target, breaks_end, breaks_stack, may_write_stack, ends_region, is_last_bundle}
+use Rattle.sfi_scan.specs.Rules.{Place, is_empty, is_bundle_start, breaks_ecall, breaks_reserved, breaks_access, breaks_jump, breaks_target, breaks_end, breaks_stack, may_write_stack, ends_region, is_last_bundle}
 use Rattle.sfi_scan.specs.Findings.{lowest, all_rules, findings_from}
 use Rattle.sfi_rewrite.specs.declared.slot.Slot.{Slot}
 use Rattle.sfi_rewrite.specs.declared.slot.Slot.TheVariants.{Wide, Short, Jump, Upper, Lower}
@@ -215,10 +216,14 @@ pub after_pair : (v : Bool) → not (v || true) ≡ false
 after_pair true = refl
 after_pair false = refl
 
+back_to : (n here a : ℕ) (w : ℤ) → negsuc n ≡ pos a -ℤ pos here → w ≡ pos here +ℤ negsuc n → here < 2 ^ 32 → a < 2 ^ 32 → modulo 32 w ≡ a
+back_to n here a (pos k) e f h g = omega (arith, ints)
+back_to n here a (negsuc k) e f h g = absurd (omega (arith, ints))
+
 -- the distance from here to an address leads there
 pub lands : (z : ℤ) (here a : ℕ) → z ≡ pos a -ℤ pos here → here < 2 ^ 32 → a < 2 ^ 32 → offset_by here z ≡ a
 lands (pos n) here a e h g = omega (arith, ints)
-lands (negsuc n) here a e h g = omega (arith, ints)
+lands (negsuc n) here a e h g = back_to n here a (pos here +ℤ negsuc n) e refl h g
 
 pub direct : (b : BundlePlace) (here : ℕ) (earlier : List Instr) (j : Instr) (z : ℤ) (later : List Piece) (names : ℕ) (name : ℕ) → IsBody names (To j name)
     → names_withheld j ≡ false → stack.is_stack_write b.format (To j name) ≡ false → is_bundle_start b (offset_by here z) ≡ true

@@ -3,6 +3,7 @@ use Rattle.std.proofs.Common.{◌≡◌, ◌≢◌, ℕ, ◌+◌, ◌%◌, ◌^�
 use Rattle.std.proofs.lemmas.Bool.{cond-false, ne_eqb, cases_lt, eqb-true, eqb-false}
 use Rattle.std.proofs.lemmas.Int.{ints}
 use Rattle.std.proofs.lemmas.List.{get_or-set_same, get_or-set_other, get_or_past}
+use Rattle.rv_word.specs.Numbers.{offset_by}
 use Rattle.rv_word.specs.declared.instr.LoadKind.{LoadKind}
 use Rattle.rv_word.specs.declared.instr.StoreWidth.{StoreWidth}
 use Rattle.rv_word.specs.declared.instr.Instr.TheVariants.{Load, Store, Jalr}
@@ -11,7 +12,7 @@ use Rattle.rv_step.specs.declared.outcome.Outcome.TheVariants.{Trap}
 use Rattle.rv_step.specs.declared.outcome.Cause.TheVariants as cause
 use Rattle.rv_step.specs.State.{Hart, register, with_register, with_pc, past, even_of}
 use Rattle.rv_step.specs.Step.{next, unchanged, after_load, effect}
-use Rattle.rv_step.specs.Values.{word, plus, load_size, store_size}
+use Rattle.rv_step.specs.Values.{word, load_size, store_size}
 use Rattle.sfi_rewrite.specs.Transparency.{IsSameAside}
 
 -- ---- registers
@@ -87,7 +88,7 @@ load_same (Some v) kind rd at h k m a =
 pub loads_same : (kind : LoadKind) (rd a : ℕ) (imm : ℤ) (h k : Hart) (m : Bytes) → Aside h k → register h 31 ≡ register k a
     → IsSameAside (effect (Load kind rd 31 imm) 4 h m) (effect (Load kind rd a imm) 4 k m)
 loads_same kind rd a imm h k m aside e =
-    subst (λ (z : ℕ). IsSameAside (after_load (loaded m (plus z imm) (load_size kind)) kind rd (plus z imm) 4 h m) (effect (Load kind rd a imm) 4 k m))
+    subst (λ (z : ℕ). IsSameAside (after_load (loaded m (offset_by z imm) (load_size kind)) kind rd (offset_by z imm) 4 h m) (effect (Load kind rd a imm) 4 k m))
     (sym e) (load_same _ kind rd _ h k m aside)
 
 store_same : (b : Bool) (at size v : ℕ) (h k : Hart) (m : Bytes) → Aside h k
@@ -97,27 +98,27 @@ store_same false at size v h k m a = record { outcome = refl; pc = a.pc; registe
 
 stored_from : (width : StoreWidth) (base v : ℕ) (imm : ℤ) (h k : Hart) (m : Bytes) → Aside h k
     → IsSameAside
-    (cond (is_some (bytes_at m (addresses (plus base imm) (store_size width)))) (next (past h 4) (stored m (plus base imm) (store_size width) v)) (unchanged (Trap cause.Store (plus base imm)) h m))
-    (cond (is_some (bytes_at m (addresses (plus base imm) (store_size width)))) (next (past k 4) (stored m (plus base imm) (store_size width) v)) (unchanged (Trap cause.Store (plus base imm)) k m))
-stored_from width base v imm h k m a = store_same (is_some (bytes_at m (addresses (plus base imm) (store_size width)))) (plus base imm) (store_size width) v h k m a
+    (cond (is_some (bytes_at m (addresses (offset_by base imm) (store_size width)))) (next (past h 4) (stored m (offset_by base imm) (store_size width) v)) (unchanged (Trap cause.Store (offset_by base imm)) h m))
+    (cond (is_some (bytes_at m (addresses (offset_by base imm) (store_size width)))) (next (past k 4) (stored m (offset_by base imm) (store_size width) v)) (unchanged (Trap cause.Store (offset_by base imm)) k m))
+stored_from width base v imm h k m a = store_same (is_some (bytes_at m (addresses (offset_by base imm) (store_size width)))) (offset_by base imm) (store_size width) v h k m a
 
 pub stores_same : (width : StoreWidth) (a rs2 : ℕ) (imm : ℤ) (h k : Hart) (m : Bytes) → Aside h k → register h 31 ≡ register k a → rs2 ≢ 31
     → IsSameAside (effect (Store width 31 rs2 imm) 4 h m) (effect (Store width a rs2 imm) 4 k m)
 stores_same width a rs2 imm h k m aside e ne =
     subst
-    (λ (z : ℕ). IsSameAside (cond (is_some (bytes_at m (addresses (plus z imm) (store_size width)))) (next (past h 4) (stored m (plus z imm) (store_size width) (register h rs2))) (unchanged (Trap cause.Store (plus z imm)) h m)) (effect (Store width a rs2 imm) 4 k m))
+    (λ (z : ℕ). IsSameAside (cond (is_some (bytes_at m (addresses (offset_by z imm) (store_size width)))) (next (past h 4) (stored m (offset_by z imm) (store_size width) (register h rs2))) (unchanged (Trap cause.Store (offset_by z imm)) h m)) (effect (Store width a rs2 imm) 4 k m))
     (sym e)
     (subst
-    (λ (v : ℕ). IsSameAside (cond (is_some (bytes_at m (addresses (plus (register k a) imm) (store_size width)))) (next (past h 4) (stored m (plus (register k a) imm) (store_size width) v)) (unchanged (Trap cause.Store (plus (register k a) imm)) h m)) (effect (Store width a rs2 imm) 4 k m))
+    (λ (v : ℕ). IsSameAside (cond (is_some (bytes_at m (addresses (offset_by (register k a) imm) (store_size width)))) (next (past h 4) (stored m (offset_by (register k a) imm) (store_size width) v)) (unchanged (Trap cause.Store (offset_by (register k a) imm)) h m)) (effect (Store width a rs2 imm) 4 k m))
     (sym (aside.registers rs2 ne))
     (stored_from width (register k a) (register k rs2) imm h k m aside))
 
-pub jumps_same : (rd a : ℕ) (imm : ℤ) (h k : Hart) (m : Bytes) → Aside h k → plus (register h 31) (pos 0) ≡ plus (register k a) imm
+pub jumps_same : (rd a : ℕ) (imm : ℤ) (h k : Hart) (m : Bytes) → Aside h k → offset_by (register h 31) (pos 0) ≡ offset_by (register k a) imm
     → IsSameAside (effect (Jalr rd 31 (pos 0)) 4 h m) (effect (Jalr rd a imm) 4 k m)
 jumps_same rd a imm h k m aside e =
     let to = aside_at h k _ _ (ap even_of e) aside in
     let z = aside_written (with_pc h _) (with_pc k _) rd (address_after k.pc 4) to in
-    subst (λ (p : ℕ). IsSameAside (next (with_register (with_pc h (even_of (plus (register h 31) (pos 0)))) rd (address_after p 4)) m) (effect (Jalr rd a imm) 4 k m))
+    subst (λ (p : ℕ). IsSameAside (next (with_register (with_pc h (even_of (offset_by (register h 31) (pos 0)))) rd (address_after p 4)) m) (effect (Jalr rd a imm) 4 k m))
     (sym aside.pc) (next_same _ _ m m z refl)
 
 -- ---- sums
@@ -126,7 +127,7 @@ sum_is : (n : ℕ) → n < 2 ^ 32 → (z : ℤ) → z ≡ pos n +ℤ pos 0 → w
 sum_is n h (pos k) e = omega (arith, ints)
 sum_is n h (negsuc k) e = absurd (omega (arith, ints))
 
-pub plus_zero : (n : ℕ) → n < 2 ^ 32 → plus n (pos 0) ≡ n
+pub plus_zero : (n : ℕ) → n < 2 ^ 32 → offset_by n (pos 0) ≡ n
 plus_zero n h = sum_is n h _ refl
 
 add_is : (n : ℕ) (imm z : ℤ) → z ≡ pos n +ℤ imm → (n + word imm) % 2 ^ 32 ≡ word z
@@ -136,8 +137,8 @@ add_is n (negsuc j) (pos k) e = omega (arith, ints)
 add_is n (negsuc j) (negsuc k) e = omega (arith, ints)
 
 -- an addi is a sum
-pub added : (n : ℕ) (imm : ℤ) → (n + word imm) % 2 ^ 32 ≡ plus n imm
+pub added : (n : ℕ) (imm : ℤ) → (n + word imm) % 2 ^ 32 ≡ offset_by n imm
 added n imm = add_is n imm _ refl
 
-pub plus_fits : (n : ℕ) (imm : ℤ) → plus n imm < 2 ^ 32
+pub plus_fits : (n : ℕ) (imm : ℤ) → offset_by n imm < 2 ^ 32
 plus_fits n imm = (let e = added n imm in omega arith)

@@ -3,6 +3,7 @@ use Rattle.std.proofs.Common.{◌≡◌, ◌≢◌, ℕ, ◌+◌, ◌==◌, ◌&
 use Rattle.std.specs.Prelude.{bit_and, bit_or, MatchBool}
 use Rattle.std.proofs.lemmas.Bool.{eqb-true, true≢false}
 use Rattle.std.proofs.lemmas.List.{set-get_or}
+use Rattle.rv_word.specs.Numbers.{offset_by}
 use Rattle.rv_word.specs.Writes.{writes_register}
 use Rattle.rv_word.specs.declared.instr.RegOp.TheVariants.{And, Or}
 use Rattle.rv_word.specs.declared.instr.ImmOp.TheVariants.{Addi}
@@ -15,7 +16,7 @@ use Rattle.rv_step.specs.Laws.{PairLeaves, StepKeepsState}
 use Rattle.rv_step.specs.State.{Hart, State, IsState, register, with_register, with_pc, past}
 use Rattle.rv_step.specs.Step.{Stepped, Stands, after_load, effect, IsStep}
 use Rattle.rv_step.specs.Steps.{further, StandInRow, LeadsTo, LeadTo}
-use Rattle.rv_step.specs.Values.{plus, load_size}
+use Rattle.rv_step.specs.Values.{load_size}
 use Rattle.rv_source.specs.declared.item.Body.{Body}
 use Rattle.rv_source.specs.declared.item.Body.TheVariants.{Plain, To, High, Low}
 use Rattle.sfi_image.specs.declared.format.Format.{Format}
@@ -56,7 +57,7 @@ load_writes (Some v) kind rd at h m e done = here _ h m rd _ e refl
 writes_alone : (i : Instr) (h : Hart) (m : Bytes) → writes_register 2 i ≡ true → is_jump i ≡ false → (effect i 4 h m).outcome ≡ Next → WritesX2 (effect i 4 h m) h m
 writes_alone (Op op rd rs1 rs2) h m e j done = here _ h m rd _ e refl
 writes_alone (OpImm op rd rs1 imm) h m e j done = here _ h m rd _ e refl
-writes_alone (Load kind rd rs1 imm) h m e j done = load_writes (loaded m (plus (register h rs1) imm) (load_size kind)) kind rd (plus (register h rs1) imm) h m e done
+writes_alone (Load kind rd rs1 imm) h m e j done = load_writes (loaded m (offset_by (register h rs1) imm) (load_size kind)) kind rd (offset_by (register h rs1) imm) h m e done
 writes_alone (Lui rd imm) h m e j done = here _ h m rd _ e refl
 writes_alone (Auipc rd imm) h m e j done = here _ h m rd _ e refl
 writes_alone (Jal rd offset) h m e j done = absurd (cc)

@@ -2,6 +2,7 @@
 use Rattle.std.proofs.Common.{◌≡◌, ◌≢◌, ℕ, zero, suc, ◌-◌, ◌^◌, ◌<◌, List, [], ◌∷◌, ◌++◌, Bool, true, false, refl, sym, ap, ◌∙◌, subst, arith, inl, inr, ℤ, pos, negsuc}
 use Rattle.std.specs.Prelude.{bit_and, bit_or}
 use Rattle.std.proofs.lemmas.Bool.{or_parts}
+use Rattle.rv_word.specs.Numbers.{offset_by}
 use Rattle.rv_word.specs.declared.instr.RegOp.TheVariants.{And, Or}
 use Rattle.rv_word.specs.declared.instr.ImmOp.TheVariants.{Addi}
 use Rattle.rv_word.specs.declared.instr.LoadKind.{LoadKind}
@@ -16,7 +17,6 @@ use Rattle.rv_step.specs.Laws.{PairLeaves, StepKeepsState}
 use Rattle.rv_step.specs.State.{Hart, State, IsState, register, with_register, with_pc}
 use Rattle.rv_step.specs.Step.{Stands, effect, IsStep}
 use Rattle.rv_step.specs.Steps.{further, StandInRow, LeadsTo, LeadTo}
-use Rattle.rv_step.specs.Values.{plus}
 use Rattle.sfi_image.specs.Formats.{code_most}
 use Rattle.sfi_image.specs.declared.span.Span.{Span}
 use Rattle.sfi_image.specs.Spans.{Holds}
@@ -109,11 +109,11 @@ aside_twice s p q v w =
 -- four slots: the sum goes before the pair
 after_sum : PairLeaves → StepKeepsState → (s : State) (i j : Instr) (a mask base : ℕ) (imm : ℤ) → IsState s → mask ≢ 31 → base ≢ 31
     → Stands s (OpImm Addi 31 a imm) 4 → Stands (further s 4) (Op And 31 31 mask) 4 → Stands (further (further s 4) 4) (Op Or 31 31 base) 4 → Stands (further (further (further s 4) 4) 4) j 4
-    → bit_or (bit_and (plus (register s.hart a) imm) (register s.hart mask)) (register s.hart base) ≡ plus (register s.hart a) imm
-    → DoesFor s i j (plus (register s.hart a) imm)
+    → bit_or (bit_and (offset_by (register s.hart a) imm) (register s.hart mask)) (register s.hart base) ≡ offset_by (register s.hart a) imm
+    → DoesFor s i j (offset_by (register s.hart a) imm)
     → DoesAs s i (Wide (OpImm Addi 31 a imm) ∷ Wide (Op And 31 31 mask) ∷ Wide (Op Or 31 31 base) ∷ []) (Wide j)
 after_sum pair keeps s i j a mask base imm is ne apart first second third fourth e same =
-    let v = plus (register s.hart a) imm in
+    let v = offset_by (register s.hart a) imm in
     let p = address_after s.hart.pc 4 in
     let q = address_after p 8 in
     let one = scratched s p v in
@@ -175,7 +175,7 @@ jump_transparent pair rd a = record {
       let to = plus_zero v (is.hart.words a) in
       after_pair pair s (Jalr rd a (pos 0)) (Jalr rd 31 (pos 0)) a 25 24 v is (λ z. omega arith) stand.0 stand.1.0 stand.1.1.0
       (unmasked_code c d s.hart v regions reserved (subst (λ (n : ℕ). IsBundleStart c n) to keeps))
-      (λ h aside e. jumps_same rd a (pos 0) h (with_pc s.hart h.pc) s.memory aside (ap (λ n. plus n (pos 0)) e));
+      (λ h aside e. jumps_same rd a (pos 0) h (with_pc s.hart h.pc) s.memory aside (ap (λ n. offset_by n (pos 0)) e));
 }
 
 -- it isn't
@@ -186,10 +186,10 @@ sum_transparent pair keeps rd a imm = record {
   slots_are = refl;
   does = λ c d s asked keep.
       let regions = asked.regions in let is = asked.is_state in let reserved = asked.reserved in let stand = asked.stand in
-      let v = plus (register s.hart a) imm in
+      let v = offset_by (register s.hart a) imm in
       after_sum pair keeps s (Jalr rd a imm) (Jalr rd 31 (pos 0)) a 25 24 imm is (λ z. omega arith) (λ z. omega arith) stand.0 stand.1.0 stand.1.1.0 stand.1.1.1.0
       (unmasked_code c d s.hart v regions reserved keep)
-      (λ h aside e. jumps_same rd a imm h (with_pc s.hart h.pc) s.memory aside (ap (λ n. plus n (pos 0)) e ∙ plus_zero v (plus_fits (register s.hart a) imm)));
+      (λ h aside e. jumps_same rd a imm h (with_pc s.hart h.pc) s.memory aside (ap (λ n. offset_by n (pos 0)) e ∙ plus_zero v (plus_fits (register s.hart a) imm)));
 }
 
 jumps_transparent : PairLeaves → StepKeepsState → (rd a : ℕ) (imm : ℤ) → IsTransparent (Jalr rd a imm) (jump_slots rd a imm)

@@ -1,6 +1,7 @@
 -- What an expansion does: within its sandbox it does what its instruction does, x31 aside; before the pair that puts the stack pointer back, what
 -- its instruction leaves stays.
 use Rattle.std.specs.Prelude.{◌≡◌, ◌≢◌, ◌-◌, ◌++◌, ℕ, ℤ, MatchBool, List, [], ◌∷◌, length, take, replicate, slice_get, Some}
+use Rattle.rv_word.specs.Numbers.{offset_by}
 use Rattle.rv_word.specs.declared.instr.Instr.{Instr}
 use Rattle.rv_word.specs.declared.instr.ImmOp.TheVariants.{Addi}
 use Rattle.rv_word.specs.declared.instr.Instr.TheVariants.{OpImm, Load, Store, Branch, Jal, Jalr, Lui}
@@ -10,7 +11,6 @@ use Rattle.rv_step.specs.declared.outcome.Outcome.TheVariants.{Next}
 use Rattle.rv_step.specs.State.{Hart, State, IsState, register, with_pc}
 use Rattle.rv_step.specs.Step.{Stepped, Stands, effect, IsStep}
 use Rattle.rv_step.specs.Steps.{further, LeadTo}
-use Rattle.rv_step.specs.Values.{plus}
 use Rattle.rv_source.specs.declared.item.Body.{Body}
 use Rattle.rv_source.specs.declared.item.Body.TheVariants.{Plain, To, High, Low}
 use Rattle.rv_source.specs.declared.item.Item.{Item}
@@ -48,7 +48,7 @@ pub record HasReserved (code_at data_at : Span) (h : Hart) : Type 0 where
 abbrev pub KeepsTo : Span → Span → Hart → Instr → Type 0
 KeepsTo code_at data_at h (Load kind rd a imm) = Holds data_at (register h a)
 KeepsTo code_at data_at h (Store width a rs2 imm) = Holds data_at (register h a)
-KeepsTo code_at data_at h (Jalr rd a imm) = IsBundleStart code_at (plus (register h a) imm)
+KeepsTo code_at data_at h (Jalr rd a imm) = IsBundleStart code_at (offset_by (register h a) imm)
 KeepsTo code_at data_at h _ = Unit {0}
 
 -- ---- what stands there

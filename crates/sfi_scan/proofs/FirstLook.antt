@@ -4,6 +4,7 @@ use Rattle.std.specs.Prelude.{◌&&◌, ◌||◌, not}
 use Rattle.std.proofs.lemmas.Bool.{and_parts, and_right, or_parts}
 use Rattle.std.specs.Bool.{OnTrue}
 use Rattle.std.proofs.lemmas.Int.{to_z-of_z}
+use Rattle.rv_word.specs.Numbers.{offset_by}
 use Rattle.rv_word.specs.declared.instr.Instr.{Instr}
 use Rattle.rv_word.specs.declared.instr.Instr.TheVariants.{Op, OpImm, Load, Store, Branch, Jal, Jalr, Lui, Auipc, Fence, Ecall, Ebreak}
 use Rattle.rv_word.specs.declared.instr.RegOp.TheVariants.{And, Or}
@@ -19,7 +20,7 @@ use Rattle.sfi_policy.specs.Registers.{is_reserved}
 use Rattle.sfi_scan.specs.Pairs.{follows_pair, follows_code_pair}
 use Rattle.sfi_scan.specs.Readings.{Piece}
 use Rattle.sfi_scan.specs.Stack.{begins_pair, ends_pair, precedes_pair, is_jump}
-use Rattle.sfi_scan.specs.Rules.{Place, is_last_bundle, is_bundle_start, offset_by, may_access}
+use Rattle.sfi_scan.specs.Rules.{Place, is_last_bundle, is_bundle_start, may_access}
 use Rattle.sfi_scan.specs.Findings.{lowest, all_rules}
 use Rattle.sfi_scan.specs.private.FirstLook.{IsWordOr0, AreBefore, is_withheld, is_clean, is_zero}
 use Rattle.sfi_scan.specs.private.Near.{near}

@@ -1,8 +1,8 @@
 -- Which rules are broken at a place of a bundle's reading.
-use Rattle.std.specs.Prelude.{◌+◌, ◌%◌, ◌^◌, ◌==◌, ◌&&◌, ◌||◌, not, ℕ, ℤ, pos, negsuc, List, [], ◌∷◌, Bool, true, false, Option, Some, None, nat_lt, nat_le}
+use Rattle.std.specs.Prelude.{◌+◌, ◌%◌, ◌==◌, ◌&&◌, ◌||◌, not, ℕ, pos, negsuc, List, [], ◌∷◌, Bool, true, false, Option, Some, None, nat_lt, nat_le}
 use Rattle.rv_word.specs.declared.instr.Instr.{Instr}
 use Rattle.rv_word.specs.declared.instr.Instr.TheVariants.{Load, Store, Branch, Jal, Jalr, Ecall, Ebreak}
-use Rattle.rv_word.specs.Numbers.{modulo}
+use Rattle.rv_word.specs.Numbers.{offset_by}
 use Rattle.rv_word.specs.Writes.{destination}
 use Rattle.sfi_image.specs.Formats.{is_stack}
 use Rattle.sfi_scan.specs.declared.rule.Rule.{Rule}
@@ -26,10 +26,6 @@ pub record Place : Type 0 where
 abbrev pub is_empty : {A : Type 0} → List A → Bool
 is_empty [] = true
 is_empty (x ∷ xs) = false
-
--- an address further on by a signed number, modulo 2 ^ 32
-abbrev pub offset_by : ℕ → ℤ → ℕ
-offset_by a z = (a + modulo 32 z) % 2 ^ 32
 
 -- a multiple of a bundle's size in the bundle's code region
 abbrev pub is_bundle_start : BundlePlace → ℕ → Bool

@@ -1,10 +1,11 @@
 //! The rules, each as a test on an instruction and what stands around it.
 ghost use Rattle.std.specs.Prelude.{◌≡◌, ◌&&◌, not, List};
+ghost use Rattle.rv_word.specs.Numbers.{offset_by};
 ghost use Rattle.rv_word.specs.declared.instr.Instr.{Instr};
 ghost use Rattle.sfi_scan.specs.Readings.{Piece, IsLongestReading};
 ghost use Rattle.sfi_scan.specs.Stack.{writes_stack, is_stack_pair, begins_pair, ends_pair, precedes_pair, is_jump};
 ghost use Rattle.sfi_scan.specs.Bundles.{IsWithin};
-ghost use Rattle.sfi_scan.specs.Rules.{Place, is_empty, offset_by, is_bundle_start, is_last_bundle, breaks_ecall, breaks_reserved, breaks_access, breaks_jump, breaks_target, breaks_stack, may_write_stack, may_access, ends_region};
+ghost use Rattle.sfi_scan.specs.Rules.{Place, is_empty, is_bundle_start, is_last_bundle, breaks_ecall, breaks_reserved, breaks_access, breaks_jump, breaks_target, breaks_stack, may_write_stack, may_access, ends_region};
 ghost use Rattle.sfi_scan.specs.Findings.{lowest, all_rules};
 ghost use Rattle.sfi_scan.specs.private.Near.{near, ahead, finding_of};
 

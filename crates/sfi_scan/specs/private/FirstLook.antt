@@ -1,6 +1,7 @@
 -- Words of private contracts: the first look at a bundle.
 use Rattle.std.specs.Int.{w16, w32, from_le_bytes}
 use Rattle.std.specs.Prelude.{◌≡◌, ◌+◌, ◌≤◌, take, drop, ◌⊎◌, ◌&&◌, ◌||◌, ◌==◌, not, ℕ, ℤ, pos, negsuc, List, Bool, true, false, Option, Some, None}
+use Rattle.rv_word.specs.Numbers.{offset_by}
 use Rattle.rv_word.specs.declared.instr.Instr.{Instr}
 use Rattle.rv_word.specs.declared.outline.Outline.{Outline}
 use Rattle.rv_word.specs.declared.outline.Outline.TheVariants.{Computes, Loads, Stores, Branches, Jumps, JumpsTo, Orders, Calls, Stops}
@@ -15,7 +16,7 @@ use Rattle.sfi_scan.specs.private.Near.{near}
 use Rattle.sfi_policy.specs.Registers.{data_base_register, data_mask_register, is_reserved, stack_pointer}
 use Rattle.sfi_policy.specs.Pairs.{masking_instr, placing_instr}
 use Rattle.sfi_scan.specs.Pairs.{follows_code_pair}
-use Rattle.sfi_scan.specs.Rules.{is_bundle_start, offset_by, may_access}
+use Rattle.sfi_scan.specs.Rules.{is_bundle_start, may_access}
 
 -- the instruction's word, or 0; 0 where there is none
 abbrev pub IsWordOr0 : ℕ → Option Instr → Type 0
