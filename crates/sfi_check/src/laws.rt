@@ -7,18 +7,22 @@ use rv_step::laws::{
     accessed_is_there, one_instruction, other_bytes_stay, step_is_effect, stopped_stays,
 };
 use sfi_image::one_reading;
+use sfi_policy::pairs_are_found;
 use sfi_scan::laws::one_image_list;
 
 /// What an instruction and the one before it leave in the registers. It is said of every instruction and of whatever stands
 /// before it, so it holds at each place of a bundle's reading.
 pub fn instruction_leaves()
     ensures { InstructionLeaves }
-{}
+{
+    pairs_are_found();
+}
 
 /// A turn from a good state is safe, and leads to a good state.
 pub fn turn_keeps()
     ensures { TurnKeeps }
 {
+    instruction_leaves();
     one_instruction();
     step_is_effect();
     stopped_stays();
