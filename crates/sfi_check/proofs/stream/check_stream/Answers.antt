@@ -6,7 +6,7 @@ use Rattle.sfi_check.specs.declared.stream_answer.StreamAnswer.TheVariants as an
 use Rattle.sfi_check.specs.private.Tallies.{IsSoFar, IsCut}
 use Rattle.sfi_check.specs.Streams.{IsVerdictOn}
 use Rattle.sfi_check.proofs.Leading.{take_on, fault_on}
-use Rattle.sfi_check.proofs.Judging.{TheLaws, judged_onwards, judged_failed, ended_whole, trailing, ended_short, nothing_yet}
+use Rattle.sfi_check.proofs.Judging.{judged_onwards, judged_failed, ended_whole, trailing, ended_short, nothing_yet}
 use Rattle.sfi_check.proofs.Chains.{no_reads, some_read, end_read, failed_read}
 use Rattle.sfi_check.proofs.stream.check_stream.Goals as goal
 
@@ -22,7 +22,7 @@ pieces-init g c = record {
 
 pub returns-then-at-held-clause-judged : goal.returns-then-at-held-clause-judged
 returns-then-at-held-clause-judged g c =
-    let laws : TheLaws = record { images = c.one_reading.ensures.images; either = c.one_reading.ensures.either; faults = c.one_reading.ensures.faults; lists = c.one_image_list.ensures; safe = c.clean_runs_safely.ensures; cut = c.front_ends.ensures.cut_short; trails = c.front_ends.ensures.trails; whole = c.front_ends.ensures.whole } in
+    let laws = c.stream_laws.ensures in
     let i = c.pieces.invariant in
     let p = take c.pieces.held c.pieces.piece in
     let reads = g.S.ByteSource.reads in
@@ -41,7 +41,7 @@ returns-then-at-held-clause-judged g c =
 
 pub returns-in-Ok-eq0-clause-judged : goal.returns-in-Ok-eq0-clause-judged
 returns-in-Ok-eq0-clause-judged g c =
-    let laws : TheLaws = record { images = c.one_reading.ensures.images; either = c.one_reading.ensures.either; faults = c.one_reading.ensures.faults; lists = c.one_image_list.ensures; safe = c.clean_runs_safely.ensures; cut = c.front_ends.ensures.cut_short; trails = c.front_ends.ensures.trails; whole = c.front_ends.ensures.whole } in
+    let laws = c.stream_laws.ensures in
     let i = c.pieces.invariant in
     let p = take c.pieces.held c.pieces.piece in
     let reads = g.S.ByteSource.reads in
@@ -64,7 +64,7 @@ returns-in-Ok-eq0-clause-judged g c =
 
 pub returns-in-Ok-clause-judged : goal.returns-in-Ok-clause-judged
 returns-in-Ok-clause-judged g c =
-    let laws : TheLaws = record { images = c.one_reading.ensures.images; either = c.one_reading.ensures.either; faults = c.one_reading.ensures.faults; lists = c.one_image_list.ensures; safe = c.clean_runs_safely.ensures; cut = c.front_ends.ensures.cut_short; trails = c.front_ends.ensures.trails; whole = c.front_ends.ensures.whole } in
+    let laws = c.stream_laws.ensures in
     let i = c.pieces.invariant in
     let p = take c.pieces.held c.pieces.piece in
     let reads = g.S.ByteSource.reads in
@@ -99,7 +99,7 @@ returns-in-Err-clause-judged g c =
 
 pub returns-in-Ok-eq0-read_more-clause-judged : goal.returns-in-Ok-eq0-read_more-clause-judged
 returns-in-Ok-eq0-read_more-clause-judged g c =
-    let laws : TheLaws = record { images = c.one_reading.ensures.images; either = c.one_reading.ensures.either; faults = c.one_reading.ensures.faults; lists = c.one_image_list.ensures; safe = c.clean_runs_safely.ensures; cut = c.front_ends.ensures.cut_short; trails = c.front_ends.ensures.trails; whole = c.front_ends.ensures.whole } in
+    let laws = c.stream_laws.ensures in
     let i = c.pieces.invariant in
     let p = take c.pieces.held c.pieces.piece in
     let reads = g.S.ByteSource.reads in
