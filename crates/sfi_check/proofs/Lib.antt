@@ -25,4 +25,5 @@ pub mod Tallying
 pub mod Leading
 pub mod Chains
 pub mod Judging
+pub mod Pieces
 pub mod Converted
