@@ -1,3 +1,3 @@
-pub mod Reads
 pub mod Statuses
 pub mod Verdicts
+pub mod private

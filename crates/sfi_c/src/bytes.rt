@@ -10,7 +10,7 @@ pub(crate) struct Bytes<'a> {
 impl<'a> ByteSource for Bytes<'a> {
     ghost use Rattle.std.specs.Prelude.{false};
     ghost use Rattle.std.proofs.Common.{refl};
-    ghost use Rattle.sfi_c.specs.Reads.{HandsOut};
+    ghost use Rattle.sfi_c.specs.private.Reads.{HandsOut};
 
     ghost reads = { λ s most answer t. HandsOut s.rest.now most answer t.rest.now };
 

@@ -1,36 +1,23 @@
 -- The answer on a stream.
-use Rattle.std.proofs.Common.{◌≡◌, ℕ, ◌<◌, true, false, List, [], ◌∷◌, ◌++◌, length, Option, Some, None, refl, sym, ap, ◌∙◌, subst, arith, append_assoc, inl, inr}
+use Rattle.std.proofs.Common.{◌≡◌, ℕ, ◌<◌, true, false, List, [], ◌∷◌, ◌++◌, length, Option, None, refl, sym, ap, ◌∙◌, subst, arith, append_assoc, inr}
 use Rattle.std.specs.Prelude.{slice_get}
-use Rattle.sfi_image.specs.declared.fault.LayoutFault.{LayoutFault}
 use Rattle.sfi_image.specs.declared.fault.LayoutFault.TheVariants as faults
 use Rattle.sfi_image.specs.declared.want.Next.TheVariants as next
 use Rattle.sfi_image.specs.Spelling.{Part}
-use Rattle.sfi_image.specs.Faults.{IsFault, number_of}
+use Rattle.sfi_image.specs.Faults.{IsFault}
 use Rattle.sfi_image.specs.Images.{IsImage}
-use Rattle.sfi_image.specs.Laws.{OneImage, NeverBoth, OneFault}
-use Rattle.sfi_image.specs.Fronts.{Front, front, HasFaultNumberWhateverFollows, CutShort, Trails, WholeIsImage}
+use Rattle.sfi_image.specs.Fronts.{Front, front, HasFaultNumberWhateverFollows}
 use Rattle.sfi_image.specs.Fronts.Front.{Empty, AfterMagic, AfterCount, InGates, InCode, InInit, Whole}
 use Rattle.sfi_image.specs.Keeping.{ReaderState, StandsFor, left, left_most}
 use Rattle.sfi_scan.specs.declared.finding.Finding.{Finding}
 use Rattle.sfi_scan.specs.Findings.{AreImageFindings}
-use Rattle.sfi_scan.specs.Laws.{OneImageList}
-use Rattle.sfi_check.specs.Laws.{CleanRunsSafely}
-use Rattle.sfi_check.specs.Verdict.{bundle_count}
 use Rattle.sfi_check.specs.declared.stream_answer.StreamAnswer.TheVariants as answers
 use Rattle.sfi_check.specs.declared.tally.Tally.{Tally}
+use Rattle.sfi_check.specs.private.Laws.{StreamLaws}
 use Rattle.sfi_check.specs.private.Tallies.{Tallies, IsSoFar, IsCut, verdict_by, verdict_of}
 use Rattle.sfi_check.specs.Streams.{IsVerdictOn}
+use Rattle.sfi_check.proofs.OneVerdict.{on_fault, on_accepted, on_findings}
 use Rattle.sfi_check.proofs.Safe.{all_safe}
-
-pub record TheLaws : Type 0 where
-  pub images : OneImage
-  pub either : NeverBoth
-  pub faults : OneFault
-  pub lists : OneImageList
-  pub safe : CleanRunsSafely
-  pub cut : CutShort
-  pub trails : Trails
-  pub whole : WholeIsImage
 
 -- ---- before the end
 
@@ -56,56 +43,16 @@ judged_failed bytes = record {
 
 -- ---- at the end
 
-pub judged_fault : TheLaws → (bytes : List ℕ) (k : LayoutFault) (number : ℕ) → number_of k ≡ number → IsFault bytes k → IsVerdictOn bytes true (answers.Layout number)
-judged_fault laws bytes k number e h = record {
-  layout = inl (refl, (k, e, h));
-  findings = tt;
-  accepted = tt;
-  only_layout = λ _ j wrong. ap (λ (n : ℕ). answers.Layout n) (sym e ∙ ap number_of (laws.faults bytes k j h wrong));
-  only_findings = λ _ found has first is. absurd (laws.either bytes has.parts k has.image h);
-  only_accepted = λ _ ps ok. absurd (laws.either bytes ps k ok.image h);
-}
-
-judged_clean : TheLaws → (bytes : List ℕ) (ps : List Part) (sandboxes bundles : ℕ) → IsImage bytes ps → AreImageFindings ps [] → sandboxes ≡ length ps → bundles ≡ bundle_count ps
-    → IsVerdictOn bytes true (answers.Accepted sandboxes bundles)
-judged_clean laws bytes ps sandboxes bundles image none s b = record {
-  layout = tt;
-  findings = tt;
-  accepted = (refl, ps, record { image = image; none_found = none }, s, b, all_safe laws.safe ps (record { layout = image.layout; none_found = none }));
-  only_layout = λ _ k wrong. absurd (laws.either bytes ps k image wrong);
-  only_findings = λ _ found has first is.
-      let same = laws.images bytes has.parts ps has.image image in
-      absurd (has.some (laws.lists ps found [] (subst (λ (qs : List Part). AreImageFindings qs found) same has.found_are) none));
-  only_accepted = λ _ qs ok.
-      let same = laws.images bytes ps qs image ok.image in
-      rw (s, b, same) refl;
-}
-
-judged_findings : TheLaws → (bytes : List ℕ) (ps : List Part) (count : ℕ) (x : Finding) (xs : List Finding) → IsImage bytes ps → AreImageFindings ps (x ∷ xs) → count ≡ length (x ∷ xs)
-    → IsVerdictOn bytes true (answers.Findings count x)
-judged_findings laws bytes ps count x xs image found_are c = record {
-  layout = tt;
-  findings = (refl, x ∷ xs, record { parts = ps; image = image; found_are = found_are; some = λ e. absurd cc }, record { count_is = c; first_is = refl });
-  accepted = tt;
-  only_layout = λ _ k wrong. absurd (laws.either bytes ps k image wrong);
-  only_findings = λ _ found has first is.
-      let same = laws.images bytes has.parts ps has.image image in
-      let list : x ∷ xs ≡ found = laws.lists ps (x ∷ xs) found found_are (subst (λ (qs : List Part). AreImageFindings qs found) same has.found_are) in
-      let here : Some x ≡ Some first = ap (λ (l : List Finding). slice_get l 0) list ∙ is in
-      let head : x ≡ first = cc in
-      rw (c, head, ap length list) refl;
-  only_accepted = λ _ qs ok.
-      let same = laws.images bytes qs ps ok.image image in
-      let list : x ∷ xs ≡ [] = laws.lists ps (x ∷ xs) [] found_are (subst (λ (rs : List Part). AreImageFindings rs []) same ok.none_found) in
-      absurd cc;
-}
-
-pub judged_whole : TheLaws → (bytes : List ℕ) (ps : List Part) (t : Tally) → IsImage bytes ps → Tallies t (Whole ps) → IsVerdictOn bytes true (verdict_of t)
+pub judged_whole : StreamLaws → (bytes : List ℕ) (ps : List Part) (t : Tally) → IsImage bytes ps → Tallies t (Whole ps) → IsVerdictOn bytes true (verdict_of t)
 judged_whole laws bytes ps t image k = by k.found k.found_are k.count k.first
   where
     by : (found : List Finding) → AreImageFindings ps found → t.count ≡ length found → t.first ≡ slice_get found 0 → IsVerdictOn bytes true (verdict_of t)
-    by [] are count first = subst (λ (o : Option Finding). IsVerdictOn bytes true (verdict_by o t)) (sym first) (judged_clean laws bytes ps t.sandboxes t.bundles image are k.sandboxes k.bundles)
-    by (x ∷ xs) are count first = subst (λ (o : Option Finding). IsVerdictOn bytes true (verdict_by o t)) (sym first) (judged_findings laws bytes ps t.count x xs image are count)
+    by [] are count first =
+        subst (λ (o : Option Finding). IsVerdictOn bytes true (verdict_by o t)) (sym first)
+        (on_accepted laws.reading bytes ps t.sandboxes t.bundles (record { image = image; none_found = are }) k.sandboxes k.bundles (all_safe laws.safe ps (record { layout = image.layout; none_found = are })))
+    by (x ∷ xs) are count first =
+        subst (λ (o : Option Finding). IsVerdictOn bytes true (verdict_by o t)) (sym first)
+        (on_findings laws.reading bytes (x ∷ xs) t.count x (record { parts = ps; image = image; found_are = are; some = λ e. absurd cc }) (record { count_is = count; first_is = refl }))
 
 -- ---- the reader's end
 
@@ -120,13 +67,13 @@ at_whole r t bytes (InInit n ps f gs code init) h e k is = let n = h.kept.0 in a
 at_whole r t bytes (Whole ps) h e k is = (ps, e, h, k)
 
 -- the stream ends where the image does
-pub ended_whole : TheLaws → (r : ReaderState) (t : Tally) (bytes : List ℕ) → IsSoFar r t bytes → r.next ≡ next.End → IsVerdictOn bytes true (verdict_of t)
+pub ended_whole : StreamLaws → (r : ReaderState) (t : Tally) (bytes : List ℕ) → IsSoFar r t bytes → r.next ≡ next.End → IsVerdictOn bytes true (verdict_of t)
 ended_whole laws r t bytes h is =
     let w = at_whole r t bytes h.at h.stands h.bytes_are h.tallies is in
     judged_whole laws bytes w.0 t (subst (λ (l : List ℕ). IsImage l w.0) (sym w.1) (laws.whole w.0 w.2.right)) w.3
 
 -- it goes on after the image
-pub trailing : TheLaws → (r : ReaderState) (t : Tally) (bytes rest : List ℕ) → IsSoFar r t bytes → r.next ≡ next.End → 0 < length rest → HasFaultNumberWhateverFollows (bytes ++ rest) 11
+pub trailing : StreamLaws → (r : ReaderState) (t : Tally) (bytes rest : List ℕ) → IsSoFar r t bytes → r.next ≡ next.End → 0 < length rest → HasFaultNumberWhateverFollows (bytes ++ rest) 11
 trailing laws r t bytes rest h is some =
     let w = at_whole r t bytes h.at h.stands h.bytes_are h.tallies is in (
       faults.Trailing,
@@ -141,9 +88,9 @@ trailing laws r t bytes rest h is some =
     longer (x ∷ xs) ys s = omega arith
 
 -- it ends before what comes next is whole
-pub ended_short : TheLaws → (r : ReaderState) (t : Tally) (bytes rest : List ℕ) → IsSoFar r t bytes → IsCut r (length rest) → IsVerdictOn (bytes ++ rest) true (answers.Layout 3)
+pub ended_short : StreamLaws → (r : ReaderState) (t : Tally) (bytes rest : List ℕ) → IsSoFar r t bytes → IsCut r (length rest) → IsVerdictOn (bytes ++ rest) true (answers.Layout 3)
 ended_short laws r t bytes rest h cut =
-    judged_fault laws (bytes ++ rest) faults.Short 3 refl (subst (λ (l : List ℕ). IsFault (l ++ rest) faults.Short) (sym h.bytes_are) (laws.cut h.at rest h.stands.right (cut.less h.at h.stands)))
+    on_fault laws.reading (bytes ++ rest) faults.Short 3 refl (subst (λ (l : List ℕ). IsFault (l ++ rest) faults.Short) (sym h.bytes_are) (laws.cut h.at rest h.stands.right (cut.less h.at h.stands)))
 
 -- before the first byte
 pub nothing_yet : (r : ReaderState) (t : Tally) → StandsFor r Empty → t.sandboxes ≡ 0 → t.bundles ≡ 0 → t.count ≡ 0 → t.first ≡ None → IsSoFar r t []

@@ -3,8 +3,8 @@ pub mod Counts
 pub mod Effects
 pub mod Entering
 pub mod Findings
-pub mod Going
-pub mod Leaving
+pub mod NextPlace
+pub mod PairResult
 pub mod Masks
 pub mod Needed
 pub mod OneVerdict
@@ -13,7 +13,7 @@ pub mod Stricter
 pub mod Undecodable
 pub mod Places
 pub mod Readings
-pub mod Running
+pub mod TurnInvariant
 pub mod Safe
 pub mod Samples
 pub mod Sandboxed
@@ -25,4 +25,5 @@ pub mod Tallying
 pub mod Leading
 pub mod Chains
 pub mod Judging
+pub mod Pieces
 pub mod Converted

@@ -1,22 +1,26 @@
 -- The rules that the samples of instructions break are needed.
-use Rattle.std.proofs.Common.{[], ◌∷◌, refl, inr, arith}
-use Rattle.std.specs.Prelude.{pos}
+use Rattle.std.proofs.Common.{◌≡◌, ℕ, ◌+◌, ◌*◌, List, [], ◌∷◌, refl, sym, inr, arith, add-zero}
+use Rattle.std.specs.Prelude.{pos, filter}
 use Rattle.std.proofs.lemmas.Int.{ints}
 use Rattle.rv_word.specs.declared.instr.RegOp.TheVariants.{And, Or}
 use Rattle.rv_word.specs.declared.instr.ImmOp.TheVariants.{Addi}
 use Rattle.rv_word.specs.declared.instr.StoreWidth.TheVariants.{Sw}
+use Rattle.rv_word.specs.declared.instr.Instr.{Instr}
 use Rattle.rv_word.specs.declared.instr.Instr.TheVariants.{Op, OpImm, Store, Jal, Jalr, Ecall, Ebreak}
 use Rattle.rv_word.specs.Numbers.{minus}
 use Rattle.rv_word.specs.Spelling.{spelling, InRange}
 use Rattle.rv_comp.specs.Laws.{OneSpelling}
 use Rattle.sfi_image.specs.declared.format.Format.TheVariants.{Sfi1, Sfi2}
+use Rattle.sfi_scan.specs.declared.rule.Rule.{Rule}
 use Rattle.sfi_scan.specs.declared.rule.Rule.TheVariants.{V3, V4, V5, V6, V7, V10}
-use Rattle.sfi_scan.specs.Bundles.{bundle_bytes}
-use Rattle.sfi_scan.specs.Findings.{AreFindings}
+use Rattle.sfi_scan.specs.Bundles.{place_of, bundle_bytes}
+use Rattle.sfi_scan.specs.Readings.{Piece, rest_of}
+use Rattle.sfi_scan.specs.Rules.{breaks, is_empty}
+use Rattle.sfi_scan.specs.Findings.{AreFindings, all_rules}
 use Rattle.sfi_check.specs.Regions.{IsGate}
-use Rattle.sfi_check.specs.Samples.{sandbox, ecall_at_no_gate, written_rd_forgotten, pair_on_x0, pair_across_bundles, jalr_offset_ignored, jump_to_any_start, stack_not_put_back}
-use Rattle.sfi_check.specs.Needed.{IsNeeded}
-use Rattle.sfi_check.proofs.Readings.{IsSpelled, ebreak_spelled, code_findings, four_longest, wide}
+use Rattle.sfi_check.specs.Samples.{Sample, sandbox, words_of, bytes_of, ecall_at_no_gate, written_rd_forgotten, pair_on_x0, pair_across_bundles, jalr_offset_ignored, jump_to_any_start, stack_not_put_back}
+use Rattle.sfi_check.specs.Needed.{BreaksAlone, IsNeeded}
+use Rattle.sfi_check.proofs.Readings.{IsSpelled, ebreak_spelled, code_findings, four, four_longest, wide}
 use Rattle.sfi_check.proofs.Samples.{IsSample, without_gates, refused, hart, stack_hart, first, enters, stands, then_step, accesses_far, calls_elsewhere, has_left, far, past_end}
 
 -- ---- the words
@@ -37,11 +41,11 @@ store_x0 : IsSpelled (Store Sw 0 11 (pos 0))
 unfolding spelling InRange
 store_x0 = inr (record { size = refl; all = refl; spelled = ((omega arith, omega arith, (omega (arith, ints), omega (arith, ints))), refl) })
 
-and_data : IsSpelled (Op And 31 10 27)
+pub and_data : IsSpelled (Op And 31 10 27)
 unfolding spelling InRange
 and_data = inr (record { size = refl; all = refl; spelled = ((omega arith, omega arith, omega arith), refl) })
 
-or_data : IsSpelled (Op Or 31 31 26)
+pub or_data : IsSpelled (Op Or 31 31 26)
 unfolding spelling InRange
 or_data = inr (record { size = refl; all = refl; spelled = ((omega arith, omega arith, omega arith), refl) })
 
@@ -69,6 +73,46 @@ jal_x26 : IsSpelled (Jal 26 (pos 16))
 unfolding spelling InRange
 jal_x26 = inr (record { size = refl; all = refl; spelled = ((omega arith, ((omega (arith, ints), omega (arith, ints)), refl)), refl) })
 
+-- ---- the one rule that is broken in a bundle of four words
+
+module _ (law : OneSpelling) (s : Sample) (rule : Rule) (number : ℕ) (a b c d : Instr) (bytes : bytes_of (words_of (a ∷ b ∷ c ∷ d ∷ [])) ≡ bundle_bytes (sandbox s) number)
+    (sa : IsSpelled a) (sb : IsSpelled b) (sc : IsSpelled c) (sd : IsSpelled d) where
+  -- the rules that are broken at one of the four
+  abbrev broken_at : ℕ → List Instr → Instr → List Piece → List Rule
+  broken_at address earlier i later =
+      filter (λ r. breaks (record {
+        bundle = place_of 0 (sandbox s) number;
+        address = address;
+        earlier = earlier;
+        instr = i;
+        later = later;
+        whole = is_empty (rest_of (bundle_bytes (sandbox s) number) (four a b c d));
+      }) r) all_rules
+
+  -- at the first of them
+  pub first_alone : broken_at (0x01000000 + 16 * number) [] a (wide b ∷ wide c ∷ wide d ∷ []) ≡ rule ∷ [] → BreaksAlone rule (0x01000000 + 16 * number) (sandbox s)
+  first_alone broken = record {
+    number = number;
+    earlier = [];
+    here = wide a;
+    later = wide b ∷ wide c ∷ wide d ∷ [];
+    longest = four_longest law (bundle_bytes (sandbox s) number) a b c d bytes sa sb sc sd;
+    address_is = sym (add-zero (0x01000000 + 16 * number));
+    broken = broken;
+  }
+
+  -- at the third
+  pub third_alone : broken_at (0x01000000 + 16 * number + 8) (b ∷ a ∷ []) c (wide d ∷ []) ≡ rule ∷ [] → BreaksAlone rule (0x01000000 + 16 * number + 8) (sandbox s)
+  third_alone broken = record {
+    number = number;
+    earlier = wide b ∷ wide a ∷ [];
+    here = wide c;
+    later = wide d ∷ [];
+    longest = four_longest law (bundle_bytes (sandbox s) number) a b c d bytes sa sb sc sd;
+    address_is = refl;
+    broken = broken;
+  }
+
 -- ---- an ecall at no gate
 
 ecall_sample : IsSample ecall_at_no_gate
@@ -87,15 +131,7 @@ ecall_at_no_gate_unsafe law =
     let at0 = here (hart 0x01000000 0x01800000 0) 0 4 (Ecall) refl (omega arith) ecall_spelled in
     record {
       refused = refused ecall_at_no_gate ecall_sample (record { sandbox = 0; address = 0x01000000; rule = V3 }) (ecall_alone law);
-      no_other = record {
-        number = 0;
-        earlier = [];
-        here = wide Ecall;
-        later = wide Ebreak ∷ wide Ebreak ∷ wide Ebreak ∷ [];
-        longest = four_longest law (bundle_bytes (sandbox ecall_at_no_gate) 0) Ecall Ebreak Ebreak Ebreak refl ecall_spelled ebreak_spelled ebreak_spelled ebreak_spelled;
-        address_is = refl;
-        broken = refl;
-      };
+      no_other = first_alone law ecall_at_no_gate V3 0 Ecall Ebreak Ebreak Ebreak refl ecall_spelled ebreak_spelled ebreak_spelled ebreak_spelled refl;
       entry = first 0x01000000 e.0;
       is_entry = e.1;
       runs_unsafely = calls_elsewhere p e.0 (hart 0x01000000 0x01800000 0) 4 at0 (λ (gate : IsGate p 0x01000000). let none = gate.2 in absurd cc);
@@ -122,15 +158,7 @@ written_rd_forgotten_unsafe law =
     let at3 = here (hart 0x01000018 0x01000004 0x010000f4) 24 4 (Store Sw 31 11 (pos 0)) refl (omega arith) store_x31 in
     record {
       refused = refused written_rd_forgotten written_sample (record { sandbox = 0; address = 0x01000000; rule = V4 }) (written_alone law);
-      no_other = record {
-        number = 0;
-        earlier = [];
-        here = wide (Jal 26 (pos 16));
-        later = wide Ebreak ∷ wide Ebreak ∷ wide Ebreak ∷ [];
-        longest = four_longest law (bundle_bytes (sandbox written_rd_forgotten) 0) (Jal 26 (pos 16)) Ebreak Ebreak Ebreak refl jal_x26 ebreak_spelled ebreak_spelled ebreak_spelled;
-        address_is = refl;
-        broken = refl;
-      };
+      no_other = first_alone law written_rd_forgotten V4 0 (Jal 26 (pos 16)) Ebreak Ebreak Ebreak refl jal_x26 ebreak_spelled ebreak_spelled ebreak_spelled refl;
       entry = first 0x01000000 e.0;
       is_entry = e.1;
       runs_unsafely = then_step p e.0 (hart 0x01000000 0x01800000 0) (hart 0x01000010 0x01000004 0) (Jal 26 (pos 16)) 4 at0 refl (
@@ -159,15 +187,7 @@ pair_on_x0_unsafe law =
     let at2 = here (hart 0x01000008 0x01800000 0) 8 4 (Store Sw 0 11 (pos 0)) refl (omega arith) store_x0 in
     record {
       refused = refused pair_on_x0 x0_sample (record { sandbox = 0; address = 0x01000008; rule = V5 }) (x0_alone law);
-      no_other = record {
-        number = 0;
-        earlier = wide (Op Or 0 0 26) ∷ wide (Op And 0 10 27) ∷ [];
-        here = wide (Store Sw 0 11 (pos 0));
-        later = wide Ebreak ∷ [];
-        longest = four_longest law (bundle_bytes (sandbox pair_on_x0) 0) (Op And 0 10 27) (Op Or 0 0 26) (Store Sw 0 11 (pos 0)) Ebreak refl and_x0 or_x0 store_x0 ebreak_spelled;
-        address_is = refl;
-        broken = refl;
-      };
+      no_other = third_alone law pair_on_x0 V5 0 (Op And 0 10 27) (Op Or 0 0 26) (Store Sw 0 11 (pos 0)) Ebreak refl and_x0 or_x0 store_x0 ebreak_spelled refl;
       entry = first 0x01000000 e.0;
       is_entry = e.1;
       runs_unsafely = then_step p e.0 (hart 0x01000000 0x01800000 0) (hart 0x01000004 0x01800000 0) (Op And 0 10 27) 4 at0 refl (
@@ -193,15 +213,7 @@ pair_across_bundles_unsafe law =
     let at0 = here (hart 0x01000010 0x01800000 0) 16 4 (Store Sw 31 11 (pos 0)) refl (omega arith) store_x31 in
     record {
       refused = refused pair_across_bundles across_sample (record { sandbox = 0; address = 0x01000010; rule = V5 }) (across_alone law);
-      no_other = record {
-        number = 1;
-        earlier = [];
-        here = wide (Store Sw 31 11 (pos 0));
-        later = wide Ebreak ∷ wide Ebreak ∷ wide Ebreak ∷ [];
-        longest = four_longest law (bundle_bytes (sandbox pair_across_bundles) 1) (Store Sw 31 11 (pos 0)) Ebreak Ebreak Ebreak refl store_x31 ebreak_spelled ebreak_spelled ebreak_spelled;
-        address_is = refl;
-        broken = refl;
-      };
+      no_other = first_alone law pair_across_bundles V5 1 (Store Sw 31 11 (pos 0)) Ebreak Ebreak Ebreak refl store_x31 ebreak_spelled ebreak_spelled ebreak_spelled refl;
       entry = first 0x01000010 e.0;
       is_entry = e.1;
       runs_unsafely = accesses_far p e.0 (hart 0x01000010 0x01800000 0) (Store Sw 31 11 (pos 0)) 4 0 at0 (0, omega arith, refl) (far pair_across_bundles 0 (omega arith));
@@ -227,15 +239,7 @@ jalr_offset_ignored_unsafe law =
     let at2 = here (hart 0x01000008 0x01800000 0x010000f0) 8 4 (Jalr 0 31 (pos 16)) refl (omega arith) jalr_past in
     record {
       refused = refused jalr_offset_ignored jalr_sample (record { sandbox = 0; address = 0x01000008; rule = V6 }) (jalr_alone law);
-      no_other = record {
-        number = 0;
-        earlier = wide (Op Or 31 31 24) ∷ wide (Op And 31 10 25) ∷ [];
-        here = wide (Jalr 0 31 (pos 16));
-        later = wide Ebreak ∷ [];
-        longest = four_longest law (bundle_bytes (sandbox jalr_offset_ignored) 0) (Op And 31 10 25) (Op Or 31 31 24) (Jalr 0 31 (pos 16)) Ebreak refl and_code or_code jalr_past ebreak_spelled;
-        address_is = refl;
-        broken = refl;
-      };
+      no_other = third_alone law jalr_offset_ignored V6 0 (Op And 31 10 25) (Op Or 31 31 24) (Jalr 0 31 (pos 16)) Ebreak refl and_code or_code jalr_past ebreak_spelled refl;
       entry = first 0x01000000 e.0;
       is_entry = e.1;
       runs_unsafely = then_step p e.0 (hart 0x01000000 0x01800000 0) (hart 0x01000004 0x01800000 240) (Op And 31 10 25) 4 at0 refl (
@@ -263,15 +267,7 @@ jump_to_any_start_unsafe law =
     let at1 = here (hart 0x01000008 0x01800000 0) 8 4 (Store Sw 31 11 (pos 0)) refl (omega arith) store_x31 in
     record {
       refused = refused jump_to_any_start jump_sample (record { sandbox = 0; address = 0x01000010; rule = V7 }) (jump_alone law);
-      no_other = record {
-        number = 1;
-        earlier = [];
-        here = wide (Jal 0 (minus 8));
-        later = wide Ebreak ∷ wide Ebreak ∷ wide Ebreak ∷ [];
-        longest = four_longest law (bundle_bytes (sandbox jump_to_any_start) 1) (Jal 0 (minus 8)) Ebreak Ebreak Ebreak refl jal_back ebreak_spelled ebreak_spelled ebreak_spelled;
-        address_is = refl;
-        broken = refl;
-      };
+      no_other = first_alone law jump_to_any_start V7 1 (Jal 0 (minus 8)) Ebreak Ebreak Ebreak refl jal_back ebreak_spelled ebreak_spelled ebreak_spelled refl;
       entry = first 0x01000010 e.0;
       is_entry = e.1;
       runs_unsafely = then_step p e.0 (hart 0x01000010 0x01800000 0) (hart 0x01000008 0x01800000 0) (Jal 0 (minus 8)) 4 at0 refl (
@@ -305,15 +301,7 @@ stack_not_put_back_unsafe law =
     let at1 = here (stack_hart 0 0x01000004 0x01800000 0) 4 4 (Store Sw 2 11 (pos 0)) refl (omega arith) store_x2 in
     record {
       refused = refused stack_not_put_back stack_sample (record { sandbox = 0; address = 0x01000000; rule = V10 }) (stack_alone law);
-      no_other = record {
-        number = 0;
-        earlier = [];
-        here = wide (OpImm Addi 2 0 (pos 0));
-        later = wide (Store Sw 2 11 (pos 0)) ∷ wide Ebreak ∷ wide Ebreak ∷ [];
-        longest = four_longest law (bundle_bytes (sandbox stack_not_put_back) 0) (OpImm Addi 2 0 (pos 0)) (Store Sw 2 11 (pos 0)) Ebreak Ebreak refl addi_x2 store_x2 ebreak_spelled ebreak_spelled;
-        address_is = refl;
-        broken = refl;
-      };
+      no_other = first_alone law stack_not_put_back V10 0 (OpImm Addi 2 0 (pos 0)) (Store Sw 2 11 (pos 0)) Ebreak Ebreak refl addi_x2 store_x2 ebreak_spelled ebreak_spelled refl;
       entry = first 0x01000000 e.0;
       is_entry = e.1;
       runs_unsafely = then_step p e.0 (hart 0x01000000 0x01800000 0) (stack_hart 0 0x01000004 0x01800000 0) (OpImm Addi 2 0 (pos 0)) 4 at0 refl (

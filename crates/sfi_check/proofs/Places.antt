@@ -21,7 +21,7 @@ use Rattle.sfi_scan.specs.Findings.{findings_from, rest_finding, AreReadingFindi
 use Rattle.sfi_check.specs.Regions.{InCode, StackInData, HasCode}
 use Rattle.sfi_check.specs.Places.{IsCleanPart, IsAtPlace}
 use Rattle.sfi_check.proofs.Masks.{code_at_most, region_end, bundles_of}
-use Rattle.sfi_check.proofs.Leaving.{leaves_nothing}
+use Rattle.sfi_check.proofs.PairResult.{leaves_nothing}
 
 -- ---- spellings
 

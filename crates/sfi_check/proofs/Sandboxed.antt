@@ -25,6 +25,7 @@ use Rattle.sfi_check.specs.Samples.{sandbox, sandboxed_store}
 use Rattle.sfi_check.specs.Verdict.{IsAccepted}
 use Rattle.sfi_check.proofs.Entering.{inserted_here, inserted_elsewhere}
 use Rattle.sfi_check.proofs.Readings.{IsSpelled, ebreak_spelled, code_findings}
+use Rattle.sfi_check.proofs.Needed.{and_data, or_data}
 use Rattle.sfi_check.proofs.Samples.{IsSample, without_gates, size, right_layout, hart, first, enters, stands, step_here}
 
 -- ---- the sample
@@ -34,14 +35,6 @@ p = sandbox sandboxed_store
 
 is_sample : IsSample sandboxed_store
 is_sample = without_gates sandboxed_store refl refl refl
-
-and_there : IsSpelled (Op And 31 10 27)
-unfolding spelling InRange
-and_there = inr (record { size = refl; all = refl; spelled = ((omega arith, omega arith, omega arith), refl) })
-
-or_there : IsSpelled (Op Or 31 31 26)
-unfolding spelling InRange
-or_there = inr (record { size = refl; all = refl; spelled = ((omega arith, omega arith, omega arith), refl) })
 
 store_there : IsSpelled (Store Sb 31 10 (pos 0))
 unfolding spelling InRange
@@ -54,7 +47,7 @@ jump_there = inr (record { size = refl; all = refl; spelled = ((omega arith, ((o
 no_finding : OneSpelling → AreFindings 0 p []
 no_finding law =
     code_findings law Sfi1 (Op And 31 10 27) (Op Or 31 31 26) (Store Sb 31 10 (pos 0)) (Jal 0 (minus 12)) Ebreak Ebreak Ebreak Ebreak [] []
-    and_there or_there store_there jump_there ebreak_spelled ebreak_spelled ebreak_spelled ebreak_spelled refl refl
+    and_data or_data store_there jump_there ebreak_spelled ebreak_spelled ebreak_spelled ebreak_spelled refl refl
 
 -- ---- the image
 
@@ -105,8 +98,8 @@ stores =
     let e = enters sandboxed_store is_sample 0 (omega arith) in
     let w = changed e.0 e.1.code e.1.guards in
     let here = stands sandboxed_store is_sample w (changed_code e.0 e.1.code e.1.guards) in
-    let at0 = here (hart 0x01000000 0x01800000 0) 0 4 (Op And 31 10 27) refl (omega arith) and_there in
-    let at1 = here (hart 0x01000004 0x01800000 240) 4 4 (Op Or 31 31 26) refl (omega arith) or_there in
+    let at0 = here (hart 0x01000000 0x01800000 0) 0 4 (Op And 31 10 27) refl (omega arith) and_data in
+    let at1 = here (hart 0x01000004 0x01800000 240) 4 4 (Op Or 31 31 26) refl (omega arith) or_data in
     let at2 = here (hart 0x01000008 0x01800000 0x018000f0) 8 4 (Store Sb 31 10 (pos 0)) refl (omega arith) store_there in
     let done = store_done e.0 e.1.code e.1.guards in
     record {

@@ -1,7 +1,7 @@
 -- Where a format has a stack pointer, it lies in the data region, or is put there.
-use Rattle.std.proofs.Common.{◌≡◌, ℕ, List, [], ◌∷◌, true, false, Bool, not, ◌&&◌, ◌||◌, ◌==◌, refl, sym, ◌∙◌, subst, inl, inr, ⊎_elim, ◌⊎◌}
+use Rattle.std.proofs.Common.{◌≡◌, ℕ, List, [], ◌∷◌, true, false, Bool, not, ◌&&◌, ◌||◌, ◌==◌, refl, sym, ◌∙◌, subst, inl, inr, ⊎_elim}
 use Rattle.std.specs.Prelude.{slice_index}
-use Rattle.std.proofs.lemmas.Bool.{and_parts, and_from, or_cases, not-false, false≢true}
+use Rattle.std.proofs.lemmas.Bool.{cases_Bool, and_parts, and_from, or_cases, or_left, or_right, not-false, false≢true}
 use Rattle.rv_word.specs.declared.instr.Instr.{Instr}
 use Rattle.rv_word.specs.declared.instr.Instr.TheVariants.{Op, OpImm, Load, Store, Branch, Jal, Jalr, Lui, Auipc, Fence, Ecall, Ebreak}
 use Rattle.rv_word.specs.declared.instr.RegOp.TheVariants.{And, Or}
@@ -20,14 +20,6 @@ use Rattle.sfi_check.specs.Places.{StackInDataBefore}
 -- the instruction is one of the pair's two
 abbrev pub is_of_pair : Instr → Bool
 is_of_pair i = is_masking 27 2 i || is_placing 26 2 i
-
-or_left : (p q : Bool) → p ≡ true → (p || q) ≡ true
-or_left true q h = refl
-or_left false q h = absurd (false≢true h)
-
-or_right : (p q : Bool) → q ≡ true → (p || q) ≡ true
-or_right true q h = refl
-or_right false q h = h
 
 begins_of : (i : Instr) (later : List Piece) → begins_pair i later ≡ true → is_of_pair i ≡ true
 begins_of i [] h = absurd (false≢true h)
@@ -84,10 +76,6 @@ data_pair : (earlier : List Instr) (i : Instr) → ends_pair earlier i ≡ true 
 data_pair [] i h = absurd (false≢true h)
 data_pair (b ∷ earlier) i h = rw h refl
 
-by_kind : (b : Bool) → (b ≡ true) ⊎ (b ≡ false)
-by_kind true = inl refl
-by_kind false = inr refl
-
 -- after an instruction that breaks no rule, and from which control runs on
 pub stack_after : (p : Part) (x : Place) (i : Instr) (size : ℕ) (before after : List ℕ) → has_stack x.bundle.format ≡ has_stack p.format → breaks_stack x i ≡ false
     → (has_stack x.bundle.format ≡ true → writes_stack x.bundle i ≡ false → slice_index after 2 ≡ slice_index before 2)
@@ -95,7 +83,7 @@ pub stack_after : (p : Part) (x : Place) (i : Instr) (size : ℕ) (before after 
     → StackInDataBefore p x.earlier (record { instr = i; size = size } ∷ x.later) before
     → StackInDataBefore p (i ∷ x.earlier) x.later after
 stack_after p x i size before after format free keeps leaves lies =
-    ⊎_elim written kept (by_kind (writes_stack x.bundle i))
+    ⊎_elim written kept (cases_Bool (writes_stack x.bundle i))
   where
     in_data : StackInData p after → StackInDataBefore p (i ∷ x.earlier) x.later after
     in_data inside = stack_lies p (i ∷ x.earlier) x.later after inside
@@ -134,7 +122,7 @@ jump_other Ebreak jump = absurd (false≢true jump)
 
 -- a jump that breaks no rule does not write it
 pub jump_keeps : (x : Place) (i : Instr) → is_jump i ≡ true → breaks_stack x i ≡ false → writes_stack x.bundle i ≡ false
-jump_keeps x i jump free = ⊎_elim (λ some. absurd (none_may (not-false _ (rw some at free)))) (λ none. none) (by_kind (writes_stack x.bundle i))
+jump_keeps x i jump free = ⊎_elim (λ some. absurd (none_may (not-false _ (rw some at free)))) (λ none. none) (cases_Bool (writes_stack x.bundle i))
   where
     none_may : may_write_stack x i ≡ true → ⊥
     none_may may =

@@ -22,13 +22,14 @@ use Rattle.sfi_scan.specs.Rules.{is_empty, is_bundle_start}
 use Rattle.sfi_check.specs.Regions.{InData, InGuard, IsGate, HasCode, HasEmptyGuards}
 use Rattle.sfi_check.specs.Runs.{after_step}
 use Rattle.sfi_check.specs.Safety.{IsSafeStep, IsTrap}
+use Rattle.sfi_check.specs.Laws.{InstructionLeaves}
 use Rattle.sfi_check.specs.Places.{IsCleanPart, IsGood, IsGoodIf}
 use Rattle.sfi_check.proofs.Places.{code_end, pc_in_code, present}
-use Rattle.sfi_check.proofs.Going.{place_here, rules_kept, goes_on}
+use Rattle.sfi_check.proofs.NextPlace.{place_here, rules_kept, goes_on}
 use Rattle.sfi_check.proofs.Effects.{Here, Leads, accesses_near, no_call, leads}
 use Rattle.sfi_check.proofs.Places.{at_start}
 
--- the laws of spellings and of the machine that are used
+-- the laws of spellings, of the machine and of pairs that are used
 pub record Machine : Type 0 where
   pub one : OneInstruction
   pub effect_is : StepIsEffect
@@ -37,6 +38,7 @@ pub record Machine : Type 0 where
   pub found : AccessedIsThere
   pub range : SpelledInRange
   pub wide : EcallIsWide
+  pub leaves : InstructionLeaves
 
 -- ---- regions
 
@@ -117,7 +119,7 @@ module _ (laws : Machine) (sandbox : ℕ) (p : Part) (s : State) (clean : IsClea
     step_leads : Leads sandbox p s.hart r.outcome r.state.hart
     step_leads =
         subst (λ (x : Stepped). Leads sandbox p s.hart x.outcome x.state.hart) (sym step_is)
-        (leads sandbox p s.hart s.memory clean.right good.kept.count good.kept.reserved good.place.here.instr good.place.here.size here)
+        (leads laws.leaves sandbox p s.hart s.memory clean.right good.kept.count good.kept.reserved good.place.here.instr good.place.here.size here)
 
     -- what a step that is done found is in no guard
     not_in_guard : r.outcome ≡ Next → (a : ℕ) → Accesses good.place.here.instr s.hart a → InGuard p a → ⊥

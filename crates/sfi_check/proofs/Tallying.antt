@@ -1,8 +1,8 @@
 -- The tally of a front and of the one that follows it.
-use Rattle.std.proofs.Common.{◌≡◌, ◌≢◌, ℕ, suc, ◌+◌, ◌*◌, ◌/◌, ◌<◌, ◌≤◌, eqb, Bool, true, false, List, [], ◌∷◌, ◌++◌, length, take, drop, refl, sym, ap, ◌∙◌, subst, arith, append_assoc, inl, inr, ◌⊎◌}
+use Rattle.std.proofs.Common.{◌≡◌, ℕ, suc, ◌+◌, ◌*◌, ◌/◌, ◌<◌, ◌≤◌, eqb, Bool, List, [], ◌∷◌, ◌++◌, length, take, drop, refl, sym, ap, ◌∙◌, subst, arith, append_assoc, inl, inr}
 use Rattle.std.specs.Prelude.{slice_get}
 use Rattle.std.proofs.Math.Seq.{take-append_seam}
-use Rattle.std.proofs.lemmas.Bool.{eqb-true, eqb-false}
+use Rattle.std.proofs.lemmas.Bool.{cases_Bool, eqb-true}
 use Rattle.std.proofs.lemmas.List.{length-append, length_push, append-nil}
 use Rattle.std.proofs.lemmas.List.Sums.{sum_by-append}
 use Rattle.sfi_image.specs.declared.format.Format.{Format}
@@ -19,16 +19,8 @@ use Rattle.sfi_scan.specs.Bundles.{place_of, bundle_bytes}
 use Rattle.sfi_scan.specs.Findings.{AreBundleFindings, AreFindings, AreFindingsOfFirst, AreImageFindings}
 use Rattle.sfi_check.specs.declared.tally.Tally.{Tally}
 use Rattle.sfi_check.specs.Verdict.{bundle_count}
-use Rattle.sfi_check.specs.private.Tallies.{AreFindingsSoFar, AreFindingsWithin, Tallies}
+use Rattle.sfi_check.specs.private.Tallies.{AreFindingsSoFar, AreFindingsWithin, findings_most, Tallies}
 use Rattle.sfi_check.proofs.Findings.{findings_append}
-
--- a test on two numbers went one way
-pub same_or_not : (a b : ℕ) → ((eqb a b ≡ true) × (a ≡ b)) ⊎ ((eqb a b ≡ false) × (a ≢ b))
-same_or_not a b = by (eqb a b) refl
-  where
-    by : (v : Bool) → eqb a b ≡ v → ((eqb a b ≡ true) × (a ≡ b)) ⊎ ((eqb a b ≡ false) × (a ≢ b))
-    by true e = inl (e, eqb-true a b e)
-    by false e = inr (e, eqb-false a b e)
 
 -- ---- one bundle more
 
@@ -64,7 +56,7 @@ pub record CodeTally (t : Tally) (ps : List Part) (f : Fields) (gs : List Gate) 
   pub first : t.first ≡ slice_get found 0
   pub bundles : t.bundles ≡ bundle_count ps + length code / 16
   pub sandboxes : t.sandboxes ≡ length ps + 1
-  pub few : t.count ≤ 8 * t.bundles
+  pub few : t.count ≤ findings_most * t.bundles
 
 count_push : (ps : List Part) (p : Part) → bundle_count (ps ++ p ∷ []) ≡ bundle_count ps + length p.code / 16
 count_push ps p = let e = sum_by-append (λ (q : Part). length q.code / 16) ps (p ∷ []) in omega (arith, e)
@@ -80,43 +72,43 @@ parts_tally t n ps f gs code init c all =
     subst (λ (l : List Finding). AreImageFindings (ps ++ p ∷ []) l) (sym w.found_is) (findings_append 0 (length ps) ps p w.before w.here w.before_are of_part (omega arith)) in
     let bundles = c.bundles ∙ sym (count_push ps p) in
     let sandboxes = c.sandboxes ∙ sym (length_push ps p) in
-    elim (same_or_not (length (ps ++ p ∷ [])) n) [
-      | inl e ↦ rw (e.0) (record { found = c.found; found_are = found; count = c.count; first = c.first; bundles = bundles; sandboxes = sandboxes; few = c.few })
-      | inr e ↦ rw (e.0) (record { found = c.found; found_are = found; count = c.count; first = c.first; bundles = bundles; sandboxes = sandboxes; few = c.few })
+    elim (cases_Bool (eqb (length (ps ++ p ∷ [])) n)) [
+      | inl e ↦ rw (e) (record { found = c.found; found_are = found; count = c.count; first = c.first; bundles = bundles; sandboxes = sandboxes; few = c.few })
+      | inr e ↦ rw (e) (record { found = c.found; found_are = found; count = c.count; first = c.first; bundles = bundles; sandboxes = sandboxes; few = c.few })
     ]
 
 pub init_tally : (t : Tally) (n : ℕ) (ps : List Part) (f : Fields) (gs : List Gate) (code init : List ℕ) → CodeTally t ps f gs code → length code ≡ f.code_size
     → Tallies t (after_init n ps f gs code init)
 init_tally t n ps f gs code init c all =
-    elim (same_or_not (length init) f.init_len) [
-      | inl e ↦ rw (e.0) (parts_tally t n ps f gs code init c all)
-      | inr e ↦ rw (e.0) (record { found = c.found; found_are = c.within; count = c.count; first = c.first; bundles = c.bundles; sandboxes = c.sandboxes; few = c.few })
+    elim (cases_Bool (eqb (length init) f.init_len)) [
+      | inl e ↦ rw (e) (parts_tally t n ps f gs code init c all)
+      | inr e ↦ rw (e) (record { found = c.found; found_are = c.within; count = c.count; first = c.first; bundles = c.bundles; sandboxes = c.sandboxes; few = c.few })
     ]
 
 pub code_tally : (t : Tally) (n : ℕ) (ps : List Part) (f : Fields) (gs : List Gate) (code : List ℕ) → CodeTally t ps f gs code → 0 < length code
     → Tallies t (after_code n ps f gs code)
 code_tally t n ps f gs code c some =
-    elim (same_or_not (length code) f.code_size) [
-      | inl e ↦ rw (e.0) (init_tally t n ps f gs code [] c e.1)
-      | inr e ↦ rw (e.0) (record {
+    elim (cases_Bool (eqb (length code) f.code_size)) [
+      | inl e ↦ rw (e) (init_tally t n ps f gs code [] c (eqb-true (length code) f.code_size e))
+      | inr e ↦ rw (e) (record {
         found = c.found;
         found_are = c.within;
         count = c.count;
         first = c.first;
         bundles = c.bundles;
-        sandboxes = c.sandboxes ∙ elim (same_or_not (length code) 0) [
-          | inl z ↦ absurd (omega (arith, z.1))
-          | inr z ↦ rw (z.0) refl
+        sandboxes = c.sandboxes ∙ elim (cases_Bool (eqb (length code) 0)) [
+          | inl z ↦ absurd (omega (arith, eqb-true (length code) 0 z))
+          | inr z ↦ rw (z) refl
         ];
         few = c.few;
       })
     ]
 
 gates_tally : (t : Tally) (n : ℕ) (ps : List Part) (f : Fields) (gs : List Gate) (found : List Finding) → AreImageFindings ps found → t.count ≡ length found → t.first ≡ slice_get found 0
-    → t.bundles ≡ bundle_count ps → t.sandboxes ≡ length ps → t.count ≤ 8 * t.bundles → Tallies t (after_gates n ps f gs)
+    → t.bundles ≡ bundle_count ps → t.sandboxes ≡ length ps → t.count ≤ findings_most * t.bundles → Tallies t (after_gates n ps f gs)
 gates_tally t n ps f gs found are count first bundles sandboxes few =
-    elim (same_or_not (length gs) f.gate_count) [
-      | inl e ↦ rw (e.0) (record {
+    elim (cases_Bool (eqb (length gs) f.gate_count)) [
+      | inl e ↦ rw (e) (record {
         found = found;
         found_are = record {
           before = found;
@@ -131,7 +123,7 @@ gates_tally t n ps f gs found are count first bundles sandboxes few =
         sandboxes = sandboxes;
         few = few;
       })
-      | inr e ↦ rw (e.0) (record { found = found; found_are = are; count = count; first = first; bundles = bundles; sandboxes = sandboxes; few = few })
+      | inr e ↦ rw (e) (record { found = found; found_are = are; count = count; first = first; bundles = bundles; sandboxes = sandboxes; few = few })
     ]
 
 -- ---- steps
@@ -160,7 +152,7 @@ pub record Adds (old new : Tally) (sandbox : ℕ) (found : List Finding) : Type 
   pub sandboxes : new.sandboxes ≡ sandbox + 1
   pub bundles : new.bundles ≡ old.bundles + 1
   pub count : new.count ≡ old.count + length found
-  pub few : length found ≤ 8
+  pub few : length found ≤ findings_most
   pub first : (before : List Finding) → old.first ≡ slice_get before 0 → new.first ≡ slice_get (before ++ found) 0
 
 pub bundle_tallies : (old new : Tally) (x : Front) (s : List ℕ) (y : Front) (sandbox address : ℕ) (format : Format) (base size : ℕ) (listed : Bool) (found : List Finding)

@@ -1,5 +1,5 @@
 -- That a rule is needed, and that the rules leave code that does something.
-use Rattle.std.specs.Prelude.{◌≡◌, ◌+◌, ◌*◌, Some, ℕ, List, [], ◌∷◌, map, filter, sum_by}
+use Rattle.std.specs.Prelude.{◌≡◌, ◌+◌, ◌*◌, Some, ℕ, List, [], ◌∷◌, ◌++◌, map, filter, reverse, sum_by}
 use Rattle.rv_mem.specs.Bytes.{byte_at}
 use Rattle.rv_step.specs.declared.outcome.Outcome.TheVariants.{Next}
 use Rattle.rv_step.specs.State.{State}
@@ -25,18 +25,13 @@ pub record HasUnsafeRun (p : Part) (s : State) : Type 0 where
   pub run : IsRun p (Some s) turns
   pub unsafe : IsSafeRun p (Some s) turns → ⊥
 
--- the pieces of the first list, the nearest first, stand before those of the second
-abbrev pub stand_before : List Piece → List Piece → List Piece
-stand_before [] later = later
-stand_before (x ∷ earlier) later = stand_before earlier (x ∷ later)
-
 -- The instruction at this address is one of its bundle's longest reading, and it breaks this rule and no other.
 pub record BreaksAlone (rule : Rule) (address : ℕ) (p : Part) : Type 0 where
   pub number : ℕ  -- the bundle's
   pub earlier : List Piece  -- the pieces before it, the nearest first
   pub here : Piece
   pub later : List Piece
-  pub longest : IsLongestReading (bundle_bytes p number) (stand_before earlier (here ∷ later))
+  pub longest : IsLongestReading (bundle_bytes p number) (reverse earlier ++ here ∷ later)
   pub address_is : address ≡ p.code_base + bundle_size * number + sum_by (λ x. x.size) earlier
   pub broken :
       filter (λ r. breaks (record {
@@ -45,7 +40,7 @@ pub record BreaksAlone (rule : Rule) (address : ℕ) (p : Part) : Type 0 where
         earlier = map (λ x. x.instr) earlier;
         instr = here.instr;
         later = later;
-        whole = is_empty (rest_of (bundle_bytes p number) (stand_before earlier (here ∷ later)));
+        whole = is_empty (rest_of (bundle_bytes p number) (reverse earlier ++ here ∷ later));
       }) r) all_rules ≡ rule ∷ []
 
 -- No other rule is broken where that rule's finding is. V1 and V2 are found where no instruction stands, so there is none. V9 stands in place of all

@@ -31,6 +31,20 @@ SaysSame (Err (Findings found)) said =
     (first : Finding) × (slice_get found.items 0 ≡ Some first) × (said ≡ answers.Findings (length found.items) first)
 SaysSame (Err Memory) said = Unit {0}
 
+-- bytes have one list of findings at most
+abbrev pub OneListOfFindings : Type 0
+OneListOfFindings = (bytes : List ℕ) (found others : List Finding) → HasFindings bytes found → HasFindings bytes others → found ≡ others
+
+-- and none where they are accepted
+abbrev pub NeverAcceptedWithFindings : Type 0
+NeverAcceptedWithFindings = (bytes : List ℕ) (ps : List Part) (found : List Finding) → IsAccepted bytes ps → HasFindings bytes found → ⊥
+
+-- what `check_stream` answers after a beginning of the bytes is the verdict on all of them
+abbrev pub VerdictIsOnAll : Type 0
+VerdictIsOnAll =
+    (bytes read : List ℕ) (ends : Bool) (said : StreamAnswer) → IsReadOf bytes read ends → IsVerdictOn read ends said
+    → said ≢ answers.ReadFault → IsVerdictOn bytes true said
+
 -- two streams that hand out the same bytes have one answer, whatever the pieces and however much of a refused image each read
 abbrev pub OneVerdict : Type 0
 OneVerdict =

@@ -2,13 +2,15 @@
 use Rattle.std.specs.Prelude.{pos, ℕ, List, [], ◌∷◌, ◌++◌, map, replicate}
 use Rattle.std.specs.List.{flat_map}
 use Rattle.std.specs.Int.{w32, to_le_bytes}
-use Rattle.rv_word.specs.declared.instr.RegOp.TheVariants.{And, Or}
 use Rattle.rv_word.specs.declared.instr.ImmOp.TheVariants.{Addi}
 use Rattle.rv_word.specs.declared.instr.StoreWidth.TheVariants.{Sb, Sw}
 use Rattle.rv_word.specs.declared.instr.Instr.{Instr}
-use Rattle.rv_word.specs.declared.instr.Instr.TheVariants.{Op, OpImm, Store, Jal, Jalr, Ecall, Ebreak}
+use Rattle.rv_word.specs.declared.instr.Instr.TheVariants.{OpImm, Store, Jal, Jalr, Ecall, Ebreak}
 use Rattle.rv_word.specs.Numbers.{minus}
 use Rattle.rv_word.specs.Spelling.{spelling}
+use Rattle.sfi_policy.specs.Limits.{region_least}
+use Rattle.sfi_policy.specs.Registers.{data_base_register, scratch, stack_pointer, return_register}
+use Rattle.sfi_policy.specs.Pairs.{data_pair, code_pair}
 use Rattle.sfi_image.specs.declared.format.Format.{Format}
 use Rattle.sfi_image.specs.declared.format.Format.TheVariants.{Sfi1, Sfi2}
 use Rattle.sfi_image.specs.declared.part.Gate.{Gate}
@@ -36,7 +38,7 @@ sandbox s = record {
   format = s.format;
   code_base = 0x01000000;
   data_base = 0x01800000;
-  data_size = 256;
+  data_size = region_least;
   start = 0x01000000;
   gates = s.gates;
   code = bytes_of (s.first_words ++ (words_of (replicate 52 Ebreak) ++ s.last_words));
@@ -80,35 +82,35 @@ ecall_at_no_gate = code (Ecall ∷ Ebreak ∷ Ebreak ∷ Ebreak ∷ Ebreak ∷ E
 -- V4: a jal that writes x26, and a store after a pair
 abbrev pub written_rd_forgotten : Sample
 written_rd_forgotten = code (
-    Jal 26 (pos 16) ∷ Ebreak ∷ Ebreak ∷ Ebreak
-    ∷ Op And 31 10 27 ∷ Op Or 31 31 26 ∷ Store Sw 31 11 (pos 0) ∷ Ebreak ∷ []
+    Jal data_base_register (pos 16) ∷ Ebreak ∷ Ebreak ∷ Ebreak
+    ∷ (data_pair scratch 10 ++ (Store Sw scratch 11 (pos 0) ∷ Ebreak ∷ []))
     )
 
 -- V5: a pair and a store on x0, which stays 0
 abbrev pub pair_on_x0 : Sample
 pair_on_x0 = code (
-    Op And 0 10 27 ∷ Op Or 0 0 26 ∷ Store Sw 0 11 (pos 0) ∷ Ebreak ∷ Ebreak ∷ Ebreak ∷ Ebreak ∷ Ebreak ∷ []
+    data_pair 0 10 ++ (Store Sw 0 11 (pos 0) ∷ Ebreak ∷ Ebreak ∷ Ebreak ∷ Ebreak ∷ Ebreak ∷ [])
     )
 
 -- V5: a pair at the end of a bundle, and the store at the start of the next, where a run may be entered
 abbrev pub pair_across_bundles : Sample
 pair_across_bundles = code (
-    Ebreak ∷ Ebreak ∷ Op And 31 10 27 ∷ Op Or 31 31 26
-    ∷ Store Sw 31 11 (pos 0) ∷ Ebreak ∷ Ebreak ∷ Ebreak ∷ []
+    Ebreak ∷ Ebreak ∷ (data_pair scratch 10
+    ++ (Store Sw scratch 11 (pos 0) ∷ Ebreak ∷ Ebreak ∷ Ebreak ∷ []))
     )
 
 -- V6: a jalr after its pair, to 16 bytes past a bundle start, and after the region's last bundle there is no code
 abbrev pub jalr_offset_ignored : Sample
 jalr_offset_ignored = code (
-    Op And 31 10 25 ∷ Op Or 31 31 24 ∷ Jalr 0 31 (pos 16) ∷ Ebreak
-    ∷ Ebreak ∷ Ebreak ∷ Ebreak ∷ Ebreak ∷ []
+    code_pair scratch 10 ++ (Jalr 0 scratch (pos 16) ∷ Ebreak
+    ∷ Ebreak ∷ Ebreak ∷ Ebreak ∷ Ebreak ∷ [])
     )
 
 -- V7: a jump back onto the store after a pair
 abbrev pub jump_to_any_start : Sample
 jump_to_any_start = code (
-    Op And 31 10 27 ∷ Op Or 31 31 26 ∷ Store Sw 31 11 (pos 0) ∷ Ebreak
-    ∷ Jal 0 (minus 8) ∷ Ebreak ∷ Ebreak ∷ Ebreak ∷ []
+    data_pair scratch 10 ++ (Store Sw scratch 11 (pos 0) ∷ Ebreak
+    ∷ Jal 0 (minus 8) ∷ Ebreak ∷ Ebreak ∷ Ebreak ∷ [])
     )
 
 -- V8: nops up to the region's end
@@ -121,8 +123,8 @@ gate_comes_back_elsewhere = record {
   format = Sfi1;
   gates = record { address = 0x01000000; service = 0 } ∷ [];
   first_words = words_of (
-      Ecall ∷ Op And 31 1 25 ∷ Op Or 31 31 24 ∷ Jalr 0 31 (pos 16)
-      ∷ Ebreak ∷ Ebreak ∷ Ebreak ∷ Ebreak ∷ []
+      Ecall ∷ (code_pair scratch return_register ++ (Jalr 0 scratch (pos 16)
+      ∷ Ebreak ∷ Ebreak ∷ Ebreak ∷ Ebreak ∷ []))
       );
   last_words = ebreaks;
 }
@@ -130,7 +132,7 @@ gate_comes_back_elsewhere = record {
 -- V10: x2 becomes 0, and a store on it
 abbrev pub stack_not_put_back : Sample
 stack_not_put_back = code_as Sfi2 (
-    OpImm Addi 2 0 (pos 0) ∷ Store Sw 2 11 (pos 0) ∷ Ebreak ∷ Ebreak ∷ Ebreak ∷ Ebreak ∷ Ebreak ∷ Ebreak ∷ []
+    OpImm Addi stack_pointer 0 (pos 0) ∷ Store Sw stack_pointer 11 (pos 0) ∷ Ebreak ∷ Ebreak ∷ Ebreak ∷ Ebreak ∷ Ebreak ∷ Ebreak ∷ []
     )
 
 -- ---- refused, and safe: an ebreak stands before what the rule is broken by, and at each other bundle's start
@@ -161,6 +163,6 @@ nops_after_ebreak = record { format = Sfi1; gates = []; first_words = words_of (
 -- a store after its pair, and a jump back
 abbrev pub sandboxed_store : Sample
 sandboxed_store = code (
-    Op And 31 10 27 ∷ Op Or 31 31 26 ∷ Store Sb 31 10 (pos 0) ∷ Jal 0 (minus 12)
-    ∷ Ebreak ∷ Ebreak ∷ Ebreak ∷ Ebreak ∷ []
+    data_pair scratch 10 ++ (Store Sb scratch 10 (pos 0) ∷ Jal 0 (minus 12)
+    ∷ Ebreak ∷ Ebreak ∷ Ebreak ∷ Ebreak ∷ [])
     )

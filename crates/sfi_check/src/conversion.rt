@@ -105,10 +105,14 @@ pub fn convert(alloc: Global, bytes: &[u8]) -> Result<Vec<u8>, ConvertFault>
 
     // Which bytes get it, want of memory aside.
     ensures only_not_old { IsSecond bytes.now → AnswersNotOld result }
-    ensures only_layout { (k : LayoutFault) → (¬ IsSecond bytes.now) → IsFault bytes.now k → AnswersLayout k result }
-    ensures only_findings { (found : List Finding) → (¬ IsSecond bytes.now) → HasFindings bytes.now found → AnswersFindings found result }
-    ensures only_stack { (found : List Finding) → HasStackFindings bytes.now found → AnswersStack found result }
-    ensures only_converted { (new : List ℕ) → IsConversion bytes.now new → AnswersConversion new result }
+    ensures only_layout { (k : LayoutFault) → (¬ IsSecond bytes.now) → IsFault bytes.now k
+        → AnswersLayout k result }
+    ensures only_findings { (found : List Finding) → (¬ IsSecond bytes.now)
+        → HasFindings bytes.now found → AnswersFindings found result }
+    ensures only_stack { (found : List Finding) → HasStackFindings bytes.now found
+        → AnswersStack found result }
+    ensures only_converted { (new : List ℕ) → IsConversion bytes.now new
+        → AnswersConversion new result }
 {
     // The laws that the contract rests on: these calls do nothing.
     one_image_list();

@@ -1,24 +1,28 @@
 //! What holds of every sandbox without a finding, and of every verdict. A call costs nothing.
 ghost use Rattle.sfi_check.specs.Laws.{InstructionLeaves, TurnKeeps, EntryIsGood, CanBeEntered, FirstFormatAsksNoStack, CleanRunsSafely, SafeTurns, SafeStaysSafe, SafeFetches, CleanCallsWithStack, GoesOnSafely};
-ghost use Rattle.sfi_check.specs.OneVerdict.{OneVerdict, StreamSaysSame};
+ghost use Rattle.sfi_check.specs.OneVerdict.{OneListOfFindings, NeverAcceptedWithFindings, VerdictIsOnAll, OneVerdict, StreamSaysSame};
 
 use rv_comp::laws::{ecall_is_wide, spelled_in_range};
 use rv_step::laws::{
     accessed_is_there, one_instruction, other_bytes_stay, step_is_effect, stopped_stays,
 };
 use sfi_image::one_reading;
+use sfi_policy::pairs_are_found;
 use sfi_scan::laws::one_image_list;
 
 /// What an instruction and the one before it leave in the registers. It is said of every instruction and of whatever stands
 /// before it, so it holds at each place of a bundle's reading.
 pub fn instruction_leaves()
     ensures { InstructionLeaves }
-{}
+{
+    pairs_are_found();
+}
 
 /// A turn from a good state is safe, and leads to a good state.
 pub fn turn_keeps()
     ensures { TurnKeeps }
 {
+    instruction_leaves();
     one_instruction();
     step_is_effect();
     stopped_stays();
@@ -82,18 +86,33 @@ pub fn goes_on_safely()
     ensures { GoesOnSafely }
 {}
 
+/// Bytes have one list of findings at most, and none where they are accepted.
+pub fn one_list_of_findings()
+    ensures one { OneListOfFindings }
+    ensures never_both { NeverAcceptedWithFindings }
+{
+    one_reading();
+    one_image_list();
+}
+
+/// What is answered after a beginning of the bytes is the verdict on all of them, if no read failed.
+pub fn verdict_is_on_all()
+    ensures { VerdictIsOnAll }
+{
+    one_reading();
+    one_list_of_findings();
+}
+
 /// Two streams of the same bytes have one answer, whatever the pieces, if no read failed.
 pub fn one_verdict()
     ensures { OneVerdict }
 {
-    one_reading();
-    one_image_list();
+    verdict_is_on_all();
 }
 
 /// A stream's answer says what [`check`](crate::check) says of the same bytes, if no read failed and memory didn't run out.
 pub fn stream_says_same()
     ensures { StreamSaysSame }
 {
-    one_reading();
-    one_image_list();
+    verdict_is_on_all();
 }

@@ -6,10 +6,11 @@ ghost use Rattle.sfi_image.specs.Keeping.{StandsFor, left_most};
 ghost use Rattle.sfi_image.specs.Sources.{Streams};
 ghost use Rattle.sfi_scan.specs.Bundles.{IsWithin};
 ghost use Rattle.sfi_scan.specs.declared.finding.Finding.{Finding};
-ghost use Rattle.sfi_check.specs.private.Tallies.{IsSoFar, Steps, Goes, verdict_of};
+ghost use Rattle.sfi_check.specs.private.Laws.{StreamLaws};
+ghost use Rattle.sfi_check.specs.private.Tallies.{findings_most, IsSoFar, Steps, Goes, verdict_of};
 ghost use Rattle.sfi_check.specs.Streams.{IsVerdictOn};
 
-use crate::laws::clean_runs_safely;
+use crate::laws::{clean_runs_safely, one_list_of_findings};
 use crate::progress::{Progress, Step};
 use crate::stream_answer::StreamAnswer;
 use crate::tally::Tally;
@@ -17,7 +18,6 @@ use sfi_image::{
     ByteSource, LayoutReader, ReadFault, Want, front_ends, one_reading, whole_bundles,
 };
 use sfi_policy::BUNDLE_BYTES;
-use sfi_scan::laws::one_image_list;
 use sfi_scan::{BundleFindings, BundlePlace, Finding, scan_bundle};
 
 /// How many bytes are read at a time, at most.
@@ -25,7 +25,8 @@ const PIECE: usize = 4096;
 
 /// The first finding of both.
 fn first_of(first: Option<Finding>, found: &BundleFindings) -> Option<Finding>
-    ensures { (before : List Finding) → first ≡ slice_get before 0 → result ≡ slice_get (before ++ found.now) 0 }
+    ensures { (before : List Finding) → first ≡ slice_get before 0
+        → result ≡ slice_get (before ++ found.now) 0 }
 {
     match first {
         Some(finding) => Some(finding),
@@ -36,13 +37,14 @@ fn first_of(first: Option<Finding>, found: &BundleFindings) -> Option<Finding>
 /// The tally with a bundle of that sandbox more.
 fn with_bundle(tally: Tally, sandbox: u32, found: &BundleFindings) -> Tally
     requires bundles { tally.bundles < left_most }
-    requires count { tally.count ≤ 8 * tally.bundles }
+    requires count { tally.count ≤ findings_most * tally.bundles }
     requires sandbox { sandbox < sandboxes_most }
     ensures sandboxes { result.sandboxes ≡ sandbox + 1 }
     ensures bundles { result.bundles ≡ tally.bundles + 1 }
     ensures count { result.count ≡ tally.count + length found.now }
-    ensures few { length found.now ≤ 8 }
-    ensures first { (before : List Finding) → tally.first ≡ slice_get before 0 → result.first ≡ slice_get (before ++ found.now) 0 }
+    ensures few { length found.now ≤ findings_most }
+    ensures first { (before : List Finding) → tally.first ≡ slice_get before 0
+        → result.first ≡ slice_get (before ++ found.now) 0 }
 {
     let count = found.count() as u32;
     let first = if count == 0 {
@@ -67,7 +69,8 @@ fn step(
     rest: &[u8],
 ) -> Step
     requires { (so_far : List ℕ) × IsSoFar reader.old tally.old so_far }
-    ensures { (so_far : List ℕ) → IsSoFar reader.old tally.old so_far → Steps reader.old reader.new tally.new so_far rest.now result }
+    ensures { (so_far : List ℕ) → IsSoFar reader.old tally.old so_far
+        → Steps reader.old reader.new tally.new so_far rest.now result }
 {
     // The law that the contract rests on: the call does nothing.
     whole_bundles();
@@ -128,7 +131,8 @@ fn step(
 /// Takes as many bytes of a piece as lead on.
 fn take_piece(reader: &mut LayoutReader, tally: &mut Tally, piece: &[u8]) -> Progress
     requires { (so_far : List ℕ) × IsSoFar reader.old tally.old so_far }
-    ensures { (so_far : List ℕ) → IsSoFar reader.old tally.old so_far → Goes reader.old reader.new tally.new so_far piece.now result }
+    ensures { (so_far : List ℕ) → IsSoFar reader.old tally.old so_far
+        → Goes reader.old reader.new tally.new so_far piece.now result }
 {
     let mut findings = BundleFindings::new();
     let mut at = 0;
@@ -176,25 +180,34 @@ fn read_more<S: ByteSource>(
     requires { held < 4096 }
     ensures bound { IfOk result (λ n. held + n ≤ 4096) }
     ensures kept { take held piece.new ≡ take held piece.old }
-    ensures some { IfOk result (λ n. S.reads source.old (length (drop held piece.old)) (Some (take n (drop held piece.new))) source.new) }
-    ensures fault { OnErr result (S.reads source.old (length (drop held piece.old)) None source.new) }
+    ensures some { IfOk result (λ n. S.reads source.old (length (drop held piece.old))
+        (Some (take n (drop held piece.new))) source.new) }
+    ensures fault { OnErr result
+        (S.reads source.old (length (drop held piece.old)) None source.new) }
 {
     source.read_some(&mut piece[held..])
+}
+
+/// The laws that the verdict on a stream rests on. The call does nothing.
+fn stream_laws()
+    ensures { StreamLaws }
+{
+    one_reading();
+    one_list_of_findings();
+    clean_runs_safely();
+    front_ends();
 }
 
 /// Accepts the bytes of the stream, or says why not. It takes no memory, and reads at most 4096 bytes at a time, to a fault of
 /// the layout or to the end.
 pub fn check_stream<S: ByteSource>(source: &mut S) -> StreamAnswer
     requires { S.has_failed source.old ≡ false }
-    ensures judged { (bytes : List ℕ) × (ends : Bool) × Streams S.reads 4096 source.old source.new bytes ends
-        × IsVerdictOn bytes ends result }
+    ensures judged { (bytes : List ℕ) × (ends : Bool)
+        × Streams S.reads 4096 source.old source.new bytes ends × IsVerdictOn bytes ends result }
     ensures failed { (result ≡ StreamAnswer.ReadFault) ↔ (S.has_failed source.new ≡ true) }
 {
-    // The laws that the contract rests on: these calls do nothing.
-    one_reading();
-    one_image_list();
-    clean_runs_safely();
-    front_ends();
+    // The laws that the contract rests on: the call does nothing.
+    stream_laws();
 
     let mut reader = LayoutReader::new();
     let mut tally = Tally {

@@ -67,8 +67,10 @@ pub fn check<'a>(alloc: Global, bytes: &'a [u8]) -> Result<Accepted<'a>, Refusal
 
     // Which bytes get it, want of memory aside.
     ensures only_layout { (k : LayoutFault) → IsFault bytes.entry.now k → AnswersLayout k result }
-    ensures only_findings { (found : List Finding) → HasFindings bytes.entry.now found → AnswersFindings found result }
-    ensures only_accepted { (parts : List Part) → IsAccepted bytes.entry.now parts → AnswersAccepted parts result }
+    ensures only_findings { (found : List Finding) → HasFindings bytes.entry.now found
+        → AnswersFindings found result }
+    ensures only_accepted { (parts : List Part) → IsAccepted bytes.entry.now parts
+        → AnswersAccepted parts result }
 
     // What acceptance is worth: every run from every entry of every sandbox is safe.
     ensures safe { IfOk result (λ ps. AllRunSafely ps) }

@@ -63,6 +63,10 @@ front_sandboxes (InCode n ps f gs code) = cond (length code == 0) (length ps) (l
 front_sandboxes (InInit n ps f gs code init) = length ps + 1
 front_sandboxes (Whole ps) = length ps
 
+-- the most findings of a bundle, one at each instruction, of two bytes at least
+abbrev pub findings_most : ℕ
+findings_most = bundle_size / 2
+
 -- the tally is that of the front
 pub record Tallies (t : Tally) (x : Front) : Type 0 where
   pub found : List Finding
@@ -71,7 +75,7 @@ pub record Tallies (t : Tally) (x : Front) : Type 0 where
   pub first : t.first ≡ slice_get found 0
   pub bundles : t.bundles ≡ front_bundles x
   pub sandboxes : t.sandboxes ≡ front_sandboxes x
-  pub few : t.count ≤ 8 * t.bundles
+  pub few : t.count ≤ findings_most * t.bundles
 
 -- the reader and the tally are those of the bytes so far
 pub record IsSoFar (r : ReaderState) (t : Tally) (bytes : List ℕ) : Type 0 where

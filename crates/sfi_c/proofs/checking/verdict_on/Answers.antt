@@ -1,43 +1,22 @@
-use Rattle.std.proofs.Common.{◌∙◌}
+use Rattle.std.proofs.Common.{◌∙◌, ap, ◌∷◌, refl}
+use Rattle.sfi_c.specs.private.Reads.{verdict_of}
 use Rattle.sfi_c.proofs.Answering as by
-use Rattle.sfi_c.proofs.Answering.{ReadingLaws}
 use Rattle.sfi_c.proofs.checking.verdict_on.Goals as goal
 
 pub returns-clause-accepted : goal.returns-clause-accepted
-returns-clause-accepted c = rw c.verdict_of.ensures (by.accepted c.args.image.now c.answer_on.result c.answer_on.ensures)
+returns-clause-accepted c = rw c.verdict_of.ensures (by.accepted c.args.image.now c.answer_on.result c.answer_on.ensures.judged)
 
 pub returns-clause-refused : goal.returns-clause-refused
-returns-clause-refused c = rw c.verdict_of.ensures (by.refused c.args.image.now c.answer_on.result c.answer_on.ensures)
+returns-clause-refused c = rw c.verdict_of.ensures (by.refused c.args.image.now c.answer_on.result c.answer_on.ensures.judged)
 
 pub returns-clause-layout : goal.returns-clause-layout
-returns-clause-layout c = rw c.verdict_of.ensures (by.layout c.args.image.now c.answer_on.result c.answer_on.ensures)
+returns-clause-layout c = rw c.verdict_of.ensures (by.layout c.args.image.now c.answer_on.result c.answer_on.ensures.judged)
 
 pub returns-clause-only_accepted : goal.returns-clause-only_accepted
-returns-clause-only_accepted c =
-    let laws : ReadingLaws = record {
-      images = c.one_reading.ensures.images;
-      either = c.one_reading.ensures.either;
-      faults = c.one_reading.ensures.faults;
-      lists = c.one_image_list.ensures;
-    } in
-    λ ps ok. c.verdict_of.ensures ∙ by.only_accepted laws c.args.image.now c.answer_on.result c.answer_on.ensures ps ok
+returns-clause-only_accepted c = λ ps ok. c.verdict_of.ensures ∙ ap verdict_of (c.answer_on.ensures.judged.only_accepted refl ps ok)
 
 pub returns-clause-only_refused : goal.returns-clause-only_refused
-returns-clause-only_refused c =
-    let laws : ReadingLaws = record {
-      images = c.one_reading.ensures.images;
-      either = c.one_reading.ensures.either;
-      faults = c.one_reading.ensures.faults;
-      lists = c.one_image_list.ensures;
-    } in
-    λ first rest h. c.verdict_of.ensures ∙ by.only_refused laws c.args.image.now c.answer_on.result c.answer_on.ensures first rest h
+returns-clause-only_refused c = λ first rest h. c.verdict_of.ensures ∙ ap verdict_of (c.answer_on.ensures.judged.only_findings refl (first ∷ rest) h first refl)
 
 pub returns-clause-only_layout : goal.returns-clause-only_layout
-returns-clause-only_layout c =
-    let laws : ReadingLaws = record {
-      images = c.one_reading.ensures.images;
-      either = c.one_reading.ensures.either;
-      faults = c.one_reading.ensures.faults;
-      lists = c.one_image_list.ensures;
-    } in
-    λ k wrong. c.verdict_of.ensures ∙ by.only_layout laws c.args.image.now c.answer_on.result c.answer_on.ensures k wrong
+returns-clause-only_layout c = λ k wrong. c.verdict_of.ensures ∙ ap verdict_of (c.answer_on.ensures.judged.only_layout refl k wrong)

@@ -1,4 +1,4 @@
-use Rattle.sfi_check.proofs.Running.{runs_safely}
+use Rattle.sfi_check.proofs.TurnInvariant.{runs_safely}
 use Rattle.sfi_check.proofs.laws.clean_runs_safely.Goals as goal
 
 pub returns : goal.returns

@@ -1,4 +1,4 @@
-use Rattle.sfi_check.proofs.Running.{entry_good}
+use Rattle.sfi_check.proofs.TurnInvariant.{entry_good}
 use Rattle.sfi_check.proofs.laws.entry_is_good.Goals as goal
 
 pub returns : goal.returns

@@ -1,4 +1,4 @@
-use Rattle.sfi_check.proofs.Running.{turn_keeps}
+use Rattle.sfi_check.proofs.TurnInvariant.{turn_keeps}
 use Rattle.sfi_check.proofs.laws.turn_keeps.Goals as goal
 
 pub returns : goal.returns
@@ -10,4 +10,5 @@ returns c = turn_keeps (record {
   found = c.accessed_is_there.ensures;
   range = c.spelled_in_range.ensures;
   wide = c.ecall_is_wide.ensures;
+  leaves = c.instruction_leaves.ensures;
 })

@@ -16,9 +16,8 @@ use Rattle.sfi_check.specs.Safety.{IsSafeState, IsSafeTurn, IsSafeRun}
 use Rattle.sfi_check.specs.Leaving.{Leaves}
 use Rattle.sfi_check.specs.Places.{StackInDataBefore, IsCleanPart, IsGood, IsGoodIf}
 use Rattle.sfi_check.specs.Laws.{EntryIsGood, TurnKeeps, CleanRunsSafely}
-use Rattle.sfi_check.proofs.Leaving.{leaves_after}
 use Rattle.sfi_check.proofs.Places.{at_start, pc_in_code, byte_in_code}
-use Rattle.sfi_check.proofs.Going.{goes_on}
+use Rattle.sfi_check.proofs.NextPlace.{goes_on}
 use Rattle.sfi_check.proofs.Stacking.{stack_lies}
 use Rattle.sfi_check.proofs.Stepping.{Machine, only, stands_here, step_good, step_safe}
 
@@ -51,7 +50,7 @@ module _ (laws : Machine) (sandbox : ℕ) (p : Part) (clean : IsCleanPart sandbo
         let pc : after.hart.pc ≡ address_after s.hart.pc at.here.size = r.pc ∙ ap (λ (n : ℕ). address_after s.hart.pc n) (sym four ∙ e.1) in
         let goes : ends_region at.here.instr ≡ false = ap ends_region (sym e.0) in
         let left : Leaves p (Ecall ∷ at.earlier) after.hart.registers =
-        leaves_after p s.hart after.hart Ecall at.earlier clean.right good.kept.count good.kept.reserved ecall_in_range tt at.leaves in
+        laws.leaves p s.hart after.hart Ecall at.earlier clean.right good.kept.count good.kept.reserved ecall_in_range tt at.leaves in
         record {
           kept = record {
             count = r.state.hart.count;

@@ -1,12 +1,7 @@
--- Reads of a list of bytes, and what the checker answers on it: words of private contracts.
+-- Reads of a list of bytes, and the verdict by what the checker answers on it.
 use Rattle.std.specs.Prelude.{◌≡◌, ℕ, ◌<◌, ◌≤◌, List, [], ◌++◌, length, Option, Some, None}
-use Rattle.sfi_image.specs.Spelling.{Part}
-use Rattle.sfi_scan.specs.declared.finding.Finding.{Finding}
 use Rattle.sfi_check.specs.declared.stream_answer.StreamAnswer.{StreamAnswer}
 use Rattle.sfi_check.specs.declared.stream_answer.StreamAnswer.TheVariants.{Accepted, Layout, Findings, ReadFault}
-use Rattle.sfi_check.specs.Safety.{AllRunSafely}
-use Rattle.sfi_check.specs.Verdict.{IsAccepted, HasFindings, bundle_count}
-use Rattle.sfi_check.specs.Streams.{IsFaultOf, AreCounted}
 use Rattle.sfi_c.specs.declared.verdict.SfiVerdict.{SfiVerdict}
 use Rattle.sfi_c.specs.Verdicts.{acceptance, refusal, no_image, no_memory}
 
@@ -14,14 +9,6 @@ use Rattle.sfi_c.specs.Verdicts.{acceptance, refusal, no_image, no_memory}
 abbrev pub HandsOut : List ℕ → ℕ → Option (List ℕ) → List ℕ → Type 0
 HandsOut rest most None after = ⊥
 HandsOut rest most (Some bytes) after = (rest ≡ bytes ++ after) × (length bytes ≤ most) × (bytes ≡ [] → 0 < most → rest ≡ [])
-
--- the answer is right of the bytes, and says something of them
-abbrev pub IsAnswerOn : List ℕ → StreamAnswer → Type 0
-IsAnswerOn bytes (Accepted sandboxes bundles) =
-    (ps : List Part) × IsAccepted bytes ps × (sandboxes ≡ length ps) × (bundles ≡ bundle_count ps) × AllRunSafely ps
-IsAnswerOn bytes (Layout number) = IsFaultOf bytes number
-IsAnswerOn bytes (Findings count first) = (found : List Finding) × HasFindings bytes found × AreCounted count first found
-IsAnswerOn bytes ReadFault = ⊥
 
 -- the verdict by an answer; no read fails
 abbrev pub verdict_of : StreamAnswer → SfiVerdict
