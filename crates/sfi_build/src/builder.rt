@@ -36,8 +36,10 @@ fn built(alloc: Global, text: &str) -> Result<Vec<u8>, BuildFault>
 pub fn build(alloc: Global, text: &str) -> Result<Vec<u8>, BuildFault>
     // What each answer means.
     ensures built { IfOk result (λ bytes. IsTextBuild text.now bytes.items) }
-    ensures build { (source : List Sandbox) → MeansSource text.now source → IfOk result (λ bytes. IsBuild source bytes.items) }
-    ensures runs_as { (source : List Sandbox) → MeansSource text.now source → IfOk result (λ bytes. ImageRunsAs source bytes.items) }
+    ensures build { (source : List Sandbox)
+        → MeansSource text.now source → IfOk result (λ bytes. IsBuild source bytes.items) }
+    ensures runs_as { (source : List Sandbox)
+        → MeansSource text.now source → IfOk result (λ bytes. ImageRunsAs source bytes.items) }
     ensures clean { IfOk result (λ bytes. IsCleanImage bytes.items) }
     ensures fault { IfErr result (λ f. IsWantOfMemory f ⊎ IsBuildFault text.now f) }
 

@@ -1,5 +1,5 @@
 -- Slots written one after another.
-use Rattle.std.proofs.Common.{◌≡◌, ℕ, zero, suc, ◌+◌, ◌^◌, ◌<◌, ◌≤◌, List, [], ◌∷◌, ◌++◌, length, take, drop, get_or, replicate, Some, refl, sym, ap, ◌∙◌, subst, arith, append_assoc, append-nil, length-append, drop-cons, add-one, Fits, w64, rules}
+use Rattle.std.proofs.Common.{◌≡◌, ℕ, zero, suc, ◌+◌, ◌<◌, ◌≤◌, List, [], ◌∷◌, ◌++◌, length, take, drop, get_or, replicate, Some, refl, sym, ap, ◌∙◌, subst, arith, append_assoc, append-nil, length-append, drop-cons, add-one}
 use Rattle.std.specs.Prelude.{ℤ, pos, slice_get}
 use Rattle.std.specs.List.{All, repeat}
 use Rattle.std.specs.Int.{w32, to_le_bytes}
@@ -226,14 +226,3 @@ pub fill_slots : (at : Bases) (names : List PlacedName) (here n : ℕ) → AreSl
 fill_slots at names here zero = refl
 fill_slots at names here (suc n) =
     (0x02 ∷ 0x90 ∷ [], repeat n (0x02 ∷ 0x90 ∷ []), record { instr = expansion CEbreak; resolves = refl; spelled = (refl, refl) }, fill_slots at names (here + 2) n, refl)
-
--- ---- sizes
-
-pub size_step : (slots : List Slot) (k : ℕ) (s : Slot) → k < length slots → s ≡ get_or slots k s → size_of (take (k + 1) slots) ≡ size_of (take k slots) + slot_size s
-size_step slots k s lt is = ap size_of (take_one_more slots k s lt is) ∙ size_of-append (take k slots) (s ∷ []) ∙ ap (λ n. size_of (take k slots) + n) (let e = size_cons s [] in let f : size_of (s ∷ []) ≡ slot_size s = omega arith in f)
-
-pub size_within : (slots : List Slot) (k : ℕ) (s : Slot) → k < length slots → s ≡ get_or slots k s → size_of (take k slots) + slot_size s ≤ size_of slots
-size_within slots k s lt is = let e = size_step slots k s lt is in let f = sum_by-take-le slot_size slots (k + 1) in omega arith
-
-pub small_fits : (n : ℕ) → n ≤ 1048576 → Fits w64 n
-small_fits n le = let h : n < 2 ^ 64 = omega arith in search (rules, h)

@@ -14,11 +14,19 @@ use Rattle.sfi_link.specs.declared.bases.Bases.{Bases}
 abbrev pub stub_size : ℕ
 stub_size = bundle_size
 
+-- the first code base, and how far the code of one sandbox lies from that of the next
+abbrev pub sandbox_stride : ℕ
+sandbox_stride = 0x01000000
+
+-- how far the data lies from the code
+abbrev pub data_offset : ℕ
+data_offset = 0x00800000
+
 -- the sandbox of that number: its code, the first byte after its gates' stubs, its data
 abbrev pub bases_of : ℕ → Placement → Bases
 bases_of number p =
-    let code = 0x01000000 * (number + 1) in
-    record { code = code; start = code + stub_size * length p.gates; «data» = code + 0x00800000 }
+    let code = sandbox_stride * (number + 1) in
+    record { code = code; start = code + stub_size * length p.gates; «data» = code + data_offset }
 
 -- ---- names
 

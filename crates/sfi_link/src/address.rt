@@ -4,8 +4,9 @@ ghost use Rattle.rv_source.specs.Halves.{upper, lower};
 ghost use Rattle.sfi_link.specs.Addresses.{address_of, target_of, address_at, target_at, with_offset};
 ghost use Rattle.sfi_link.specs.private.Near.{AreLow, IsNear, AreNear};
 
-use crate::bases::{Bases, STUB_BYTES};
+use crate::bases::Bases;
 use rv_word::Instr;
+use sfi_policy::BUNDLE_SIZE;
 use sfi_rewrite::PlacedName;
 
 fn address_of(at: Bases, name: PlacedName) -> Option<u32>
@@ -15,7 +16,7 @@ fn address_of(at: Bases, name: PlacedName) -> Option<u32>
     ensures low { IfSome result (λ a. a < 2 ^ 31) }
 {
     match name {
-        PlacedName::Gate(k) => Some(at.code + STUB_BYTES * k as u32),
+        PlacedName::Gate(k) => Some(at.code + BUNDLE_SIZE * k as u32),
         PlacedName::Code(place) => Some(at.start + place),
         PlacedName::Data(offset) => Some(at.data + offset),
         PlacedName::Unknown => None,

@@ -5,13 +5,11 @@ ghost use Rattle.sfi_link.specs.Addresses.{bases_of};
 ghost use Rattle.sfi_policy.specs.Limits.{sandboxes_most};
 ghost use Rattle.sfi_link.specs.private.Near.{AreLow};
 
+use sfi_policy::BUNDLE_SIZE;
 use sfi_rewrite::PlacedPart;
 
-// How far the stub of one gate lies from the next: each is one bundle.
-pub(crate) const STUB_BYTES: u32 = sfi_policy::BUNDLE_SIZE;
-
-// The first code base, and how far one sandbox lies from the next.
-const STRIDE: u32 = 0x0100_0000;
+// The first code base, and how far the code of one sandbox lies from that of the next.
+const SANDBOX_STRIDE: u32 = 0x0100_0000;
 
 // How far the data lies from the code.
 const DATA_OFFSET: u32 = 0x0080_0000;
@@ -34,10 +32,11 @@ pub(crate) fn bases_of(number: u32, part: &PlacedPart) -> Bases
     ensures is { result ≡ bases_of number part.now }
     ensures low { AreLow result }
 {
-    let code = STRIDE * (number + 1);
+    let code = SANDBOX_STRIDE * (number + 1);
     Bases {
         code,
-        start: code + STUB_BYTES * part.gates().len() as u32,
+        // Each gate's stub is one bundle.
+        start: code + BUNDLE_SIZE * part.gates().len() as u32,
         data: code + DATA_OFFSET,
     }
 }

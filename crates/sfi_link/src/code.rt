@@ -56,8 +56,10 @@ fn push_jump(
 ) -> Result<(), LinkFault>
     requires near { AreNear at names.now }
     requires room { IsLow (at.code + length code.old.items) }
-    ensures { Links (λ _. IsPushed at names.now (Jump instr place line) code.old.items code.new.items)
-        (HasSlotFault at names.now (at.code + length code.old.items) (Jump instr place line)) result }
+    ensures { Links
+        (λ _. IsPushed at names.now (Jump instr place line) code.old.items code.new.items)
+        (HasSlotFault at names.now
+        (at.code + length code.old.items) (Jump instr place line)) result }
 {
     let here = at.code + code.len() as u32;
     let Some(to) = target_at(at, names, place) else {
@@ -180,7 +182,8 @@ pub(crate) fn push_bundles(
     requires near { AreNear at names.now }
     requires encodes { All Encodes (slots_of bundles.now) }
     requires room { IsLow (at.code + length code.old.items + size_of (slots_of bundles.now)) }
-    ensures { Links (λ _. AreWritten at names.now (slots_of bundles.now) code.old.items code.new.items)
+    ensures { Links
+        (λ _. AreWritten at names.now (slots_of bundles.now) code.old.items code.new.items)
         (IsSlotFault at names.now (at.code + length code.old.items) (slots_of bundles.now)) result }
 {
     for bundle in bundles {

@@ -15,29 +15,11 @@ use crate::bases::bases_of;
 use crate::code::push_bundles;
 use crate::fault::LinkFault;
 use sfi_image::Format;
-use sfi_policy::STUB;
-use sfi_rewrite::{Bundle, PlacedPart, Slot};
+use sfi_policy::{BUNDLE_BYTES, REGION_LEAST_BYTES, STUB};
+use sfi_rewrite::{Bundle, PlacedPart};
 use std::alloc::{AllocError, Global};
 
-// How many bytes a full bundle has.
-const BUNDLE: usize = sfi_policy::BUNDLE_BYTES;
-
 const C_EBREAK: [u8; 2] = [0x02, 0x90];
-
-// The sizes that a code region may have go from this one to the most of its format.
-const REGION_LEAST: usize = sfi_policy::REGION_LEAST as usize;
-
-// How many bytes the slots take.
-fn size_of(slots: &[Slot]) -> usize
-    requires { size_of slots.now ≤ code_most Sfi2 }
-    ensures { result ≡ size_of slots.now }
-{
-    let mut size = 0;
-    for slot in slots {
-        size += slot.size();
-    }
-    size
-}
 
 // How many bytes the slots of bundles take. Each bundle but the last is full.
 fn size_of_bundles(bundles: &[Bundle]) -> usize
@@ -47,8 +29,8 @@ fn size_of_bundles(bundles: &[Bundle]) -> usize
 {
     match bundles.split_last() {
         Some((last, full)) => {
-            let size = size_of(last.slots());
-            BUNDLE * full.len() + size
+            let size = last.size();
+            BUNDLE_BYTES * full.len() + size
         }
         None => 0,
     }
@@ -70,8 +52,8 @@ fn code_size(format: Format, needed: usize) -> Option<usize>
     if needed > format.code_most() as usize {
         return None;
     }
-    if needed <= REGION_LEAST {
-        return Some(REGION_LEAST);
+    if needed <= REGION_LEAST_BYTES {
+        return Some(REGION_LEAST_BYTES);
     }
     Some(needed.next_power_of_two())
 }
@@ -94,7 +76,8 @@ pub(crate) fn linked_code(
 ) -> Result<Vec<u8>, LinkFault>
     requires few { number < sandboxes_most }
     requires right { IsPlacedPart part.now }
-    ensures { Links (λ code. IsLinkedCode number part.now code.items) (HasPartFault number part.now) result }
+    ensures { Links (λ code. IsLinkedCode number part.now code.items)
+        (HasPartFault number part.now) result }
 {
     let Some(size) = code_size(part.format(), needed(part)) else {
         return Err(LinkFault::TooLarge { sandbox: number });

@@ -10,31 +10,30 @@ ghost use Rattle.sfi_link.specs.Linked.{gates_from, IsLinkedCode, IsLinked, AreL
 ghost use Rattle.sfi_link.specs.Building.{IsLinkedImage, ArePlacements, IsBuild};
 ghost use Rattle.sfi_policy.specs.Limits.{gates_most, sandboxes_most};
 ghost use Rattle.sfi_link.specs.Faults.{IsPartFault, IsLinkFault};
-ghost use Rattle.sfi_link.specs.private.Near.{AreCodesFrom, contents};
+ghost use Rattle.sfi_link.specs.private.Near.{IsLow, AreCodesFrom, contents};
 ghost use Rattle.sfi_link.specs.private.Answers.{Links};
 ghost use Rattle.sfi_link.specs.Answers.{UnlessMemory, AnswersBytes, AnswersFault};
 
-use crate::bases::{STUB_BYTES, bases_of};
+use crate::bases::bases_of;
 use crate::code_region::linked_code;
 use crate::fault::LinkFault;
 use crate::laws::{linked_is_clean, linked_is_right, one_linking};
 use rv_source::SourceGate;
 use sfi_image::{Format, Gate, ImageFault, SandboxPart, write_image_as};
+use sfi_policy::{BUNDLE_SIZE, SANDBOX_COUNT_MOST};
 use sfi_rewrite::{Placed, PlacedPart};
 use std::alloc::{AllocError, Global};
 
-const SANDBOXES_MOST: usize = sfi_policy::SANDBOXES_MOST as usize;
-
 // The gates, whose stubs lie one after another from the address on.
 fn gates_from(alloc: Global, address: u32, gates: &[SourceGate]) -> Result<Vec<Gate>, AllocError>
-    requires low { address < 2 ^ 30 }
+    requires low { IsLow address }
     requires few { length gates.now ≤ gates_most }
     ensures { IfOk result (λ listed. listed.items ≡ gates_from address gates.now) }
 {
     let mut listed = Vec::new(alloc);
     for (k, gate) in gates.iter().enumerate() {
         listed.push(Gate {
-            address: address + STUB_BYTES * k as u32,
+            address: address + BUNDLE_SIZE * k as u32,
             service: gate.service,
         })?;
     }
@@ -51,7 +50,8 @@ fn linked_part<'a>(
     requires few { number < sandboxes_most }
     requires right { IsPlacedPart placed.now }
     requires code { IsLinkedCode number placed.now code.now }
-    ensures { IfOk result (λ part. IsLinked number placed.entry.now (view placed.entry.now.format part)) }
+    ensures { IfOk result
+        (λ part. IsLinked number placed.entry.now (view placed.entry.now.format part)) }
 {
     let at = bases_of(number, placed);
     let gates = gates_from(alloc, at.code, placed.gates())?;
@@ -70,7 +70,8 @@ fn linked_part<'a>(
 fn codes_of(alloc: Global, placed: &[PlacedPart]) -> Result<Vec<Vec<u8>>, LinkFault>
     requires right { All IsPlacedPart placed.now }
     requires few { length placed.now ≤ sandboxes_most }
-    ensures { Links (λ codes. AreCodesFrom 0 placed.now (contents codes.items)) (IsPartFault placed.now) result }
+    ensures { Links (λ codes. AreCodesFrom 0 placed.now (contents codes.items))
+        (IsPartFault placed.now) result }
 {
     let mut codes = Vec::new(alloc);
     for (number, part) in placed.iter().enumerate() {
@@ -103,7 +104,8 @@ fn linked_parts<'a>(
 
 // The image of what is placed, or its fault.
 fn image_of(alloc: Global, placed: &Placed) -> Result<Vec<u8>, LinkFault>
-    ensures links { Links (λ bytes. IsLinkedImage placed.now bytes.items) (IsLinkFault placed.now) result }
+    ensures links { Links (λ bytes. IsLinkedImage placed.now bytes.items)
+        (IsLinkFault placed.now) result }
     ensures too_many { sandboxes_most < length placed.now → result ≡ Err TooManySandboxes }
 {
     // The laws that the contract rests on: these calls do nothing.
@@ -112,7 +114,7 @@ fn image_of(alloc: Global, placed: &Placed) -> Result<Vec<u8>, LinkFault>
 
     let format = placed.format();
     let placed = placed.parts();
-    if placed.len() > SANDBOXES_MOST {
+    if placed.len() > SANDBOX_COUNT_MOST {
         return Err(LinkFault::TooManySandboxes);
     }
     let codes = codes_of(alloc, placed)?;
@@ -131,14 +133,16 @@ pub fn link(alloc: Global, placed: &Placed) -> Result<Vec<u8>, LinkFault>
     ensures fault { IfErr result (UnlessMemory (IsLinkFault placed.now)) }
 
     // What is placed gets it, want of memory aside.
-    ensures only_image { (bytes : List ℕ) → IsLinkedImage placed.now bytes → AnswersBytes bytes result }
+    ensures only_image { (bytes : List ℕ)
+        → IsLinkedImage placed.now bytes → AnswersBytes bytes result }
     ensures only_fault { (f : LinkFault) → IsLinkFault placed.now f → AnswersFault f result }
 
     // Of too many sandboxes, whatever memory there is.
     ensures too_many { sandboxes_most < length placed.now → result ≡ Err TooManySandboxes }
 
     // The image is the build of each source that is placed so.
-    ensures build { (source : List Sandbox) → ArePlacements source placed.now → IfOk result (λ bytes. IsBuild source bytes.items) }
+    ensures build { (source : List Sandbox)
+        → ArePlacements source placed.now → IfOk result (λ bytes. IsBuild source bytes.items) }
 {
     // The laws that the contract rests on: this call does nothing.
     one_linking();

@@ -1,6 +1,6 @@
 -- The masked pairs (Wahbe and others, "Efficient Software-Based Fault Isolation", 1993): an `and` keeps an address's offset in the region, of a
 -- code address that of its bundle, and an `or` sets the region's bits.
-use Rattle.std.specs.Prelude.{◌==◌, ◌&&◌, ℕ, pos, List, [], ◌∷◌, Bool, false}
+use Rattle.std.specs.Prelude.{◌==◌, ◌&&◌, ℕ, pos, List, [], ◌∷◌, ◌++◌, Bool, false}
 use Rattle.rv_word.specs.declared.instr.RegOp.TheVariants.{And, Or}
 use Rattle.rv_word.specs.declared.instr.Instr.{Instr}
 use Rattle.rv_word.specs.declared.instr.Instr.TheVariants.{Op, Jalr, Ecall}
@@ -46,10 +46,9 @@ is_pair mask base target first second = is_masking mask target first && is_placi
 
 -- ---- a gate
 
--- a gate's bundle: it asks the host, and then goes to the bundle start that x1 leads to
+-- a gate's bundle: it asks the host, and then goes by a code pair to the bundle start that x1 leads to
 abbrev pub gate_stub : List Instr
-gate_stub =
-    Ecall ∷ masking_instr code_mask_register scratch return_register ∷ placing_instr code_base_register scratch ∷ Jalr 0 scratch (pos 0) ∷ []
+gate_stub = Ecall ∷ (code_pair scratch return_register ++ Jalr 0 scratch (pos 0) ∷ [])
 
 -- its bytes
 abbrev pub stub : List ℕ

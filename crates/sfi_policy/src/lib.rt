@@ -8,16 +8,18 @@
 
 mod laws;
 mod limits;
+mod pairs;
 mod registers;
 mod stub;
 
 pub use laws::{limits_agree, pairs_are_found, registers_agree, stub_agrees, stub_is_spelled};
 pub use limits::{
     BUNDLE_BYTES, BUNDLE_SIZE, DATA_MOST, FIRST_FRAME, GATES_MOST, GUARD, ITEMS_MOST, NAME_MOST,
-    REGION_LEAST, SANDBOXES_MOST, SERVICE_MOST,
+    REGION_LEAST, REGION_LEAST_BYTES, SANDBOX_COUNT_MOST, SANDBOXES_MOST, SERVICE_MOST,
 };
+pub use pairs::{code_pair, data_pair};
 pub use registers::{
     CODE_BASE_REGISTER, CODE_MASK_REGISTER, DATA_BASE_REGISTER, DATA_MASK_REGISTER, SCRATCH,
-    STACK_POINTER, is_reserved, is_withheld,
+    STACK_POINTER, is_reserved, is_withheld, register,
 };
 pub use stub::STUB;

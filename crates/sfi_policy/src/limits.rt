@@ -32,3 +32,9 @@ pub const NAME_MOST: u32 = 64;
 
 /// How far below its data region's end a sandbox's stack pointer lies at first.
 pub const FIRST_FRAME: u32 = 16;
+
+/// `REGION_LEAST`, as a length of bytes.
+pub const REGION_LEAST_BYTES: usize = REGION_LEAST as usize;
+
+/// `SANDBOXES_MOST`, as a length of a list.
+pub const SANDBOX_COUNT_MOST: usize = SANDBOXES_MOST as usize;

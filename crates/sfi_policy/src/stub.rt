@@ -1,6 +1,7 @@
 //! A gate's bundle.
+use crate::limits::BUNDLE_BYTES;
 
 /// `ecall`, `and x31, x1, x25`, `or x31, x31, x24`, `jalr x0, 0(x31)`.
-pub const STUB: [u8; 16] = [
+pub const STUB: [u8; BUNDLE_BYTES] = [
     0x73, 0x00, 0x00, 0x00, 0xb3, 0xff, 0x90, 0x01, 0xb3, 0xef, 0x8f, 0x01, 0x67, 0x80, 0x0f, 0x00,
 ];

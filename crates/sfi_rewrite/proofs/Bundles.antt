@@ -1,20 +1,22 @@
 -- Bundles of whole expansions.
-use Rattle.std.proofs.Common.{◌≡◌, ◌≢◌, ◌==◌, true, false, replicate, ℕ, ◌+◌, ◌-◌, ◌<◌, ◌≤◌, ◌*◌, ◌%◌, List, [], ◌∷◌, ◌++◌, length, refl, sym, ap, ◌∙◌, subst, arith, append_assoc, append-nil, length-append}
+use Rattle.std.proofs.Common.{◌≡◌, replicate, ℕ, ◌+◌, ◌-◌, ◌<◌, ◌≤◌, ◌*◌, ◌%◌, List, [], ◌∷◌, ◌++◌, length, refl, sym, ap, ◌∙◌, subst, arith, append_assoc, append-nil, length-append, get_or, set}
 use Rattle.std.specs.List.{All}
-use Rattle.std.proofs.lemmas.List.Elements.{All-push, All-nil, All-head, All-tail}
+use Rattle.std.proofs.Math.Seq.{set-append_seam}
+use Rattle.std.proofs.lemmas.List.{get_or_push}
+use Rattle.std.proofs.lemmas.List.Elements.{All-push, All-nil, All-cons, All-head, All-tail}
 use Rattle.sfi_rewrite.specs.declared.slot.Slot.{Slot}
+use Rattle.sfi_policy.specs.Limits.{bundle_size}
 use Rattle.sfi_rewrite.specs.Slots.{size_of, slots_of, c_nop}
 use Rattle.sfi_rewrite.specs.Placement.{AreBundles}
-use Rattle.sfi_rewrite.specs.Filling.{IsFull, IsFilled}
-use Rattle.sfi_rewrite.specs.private.Filling.{largest}
-use Rattle.sfi_rewrite.proofs.Sizes.{size_of-append, size_even, size_at_least, size_nops}
+use Rattle.sfi_rewrite.specs.private.Filling.{IsFull, IsFilled, largest}
+use Rattle.sfi_rewrite.proofs.Sizes.{size_of-append, size_even, size_at_least_two, size_nops}
 
 pub slots_of-push : (full : List (List Slot)) (b : List Slot) → slots_of (full ++ b ∷ []) ≡ slots_of full ++ b
 slots_of-push [] b = append-nil b
 slots_of-push (x ∷ full) b = rw (slots_of-push full b) (sym (append_assoc x (slots_of full) b))
 
 -- the bytes of full bundles
-pub full_size : (full : List (List Slot)) → All IsFull full → size_of (slots_of full) ≡ 16 * length full
+pub full_size : (full : List (List Slot)) → All IsFull full → size_of (slots_of full) ≡ bundle_size * length full
 full_size [] h = refl
 full_size (x ∷ full) h =
     let e = size_of-append x (slots_of full) in
@@ -22,69 +24,134 @@ full_size (x ∷ full) h =
     let f = (All-head IsFull x full h) in
     omega (arith, e, g, f)
 
-pub all_size : (full : List (List Slot)) (last : List Slot) (end : ℕ) → IsFilled full last end → end ≡ size_of (slots_of full ++ last)
-all_size full last end f =
-    let e = size_of-append (slots_of full) last in
-    let g = full_size full f.each_full in
-    let h = f.end_is in
+-- ---- the last bundle and those before it
+
+-- all but the last are full
+record Split (bundles : List (List Slot)) : Type 0 where
+  front : List (List Slot)
+  last : List Slot
+  are : bundles ≡ front ++ last ∷ []
+  full : All IsFull front
+  some : 0 < size_of last
+  few : size_of last ≤ bundle_size
+
+split : (b : List Slot) (bundles : List (List Slot)) → AreBundles (b ∷ bundles) → Split (b ∷ bundles)
+split b [] h = record { front = []; last = b; are = refl; full = All-nil IsFull; some = h.0; few = h.1 }
+split b (c ∷ bundles) h =
+    let r = split c bundles h.1 in
+    record { front = b ∷ r.front; last = r.last; are = ap (λ v. b ∷ v) r.are; full = All-cons IsFull b r.front h.0 r.full; some = r.some; few = r.few }
+
+split_size : (bundles : List (List Slot)) (s : Split bundles) → size_of (slots_of bundles) ≡ bundle_size * length s.front + size_of s.last
+split_size bundles s =
+    let a = ap (λ v. size_of (slots_of v)) s.are ∙ ap size_of (slots_of-push s.front s.last) ∙ size_of-append (slots_of s.front) s.last in
+    let b = full_size s.front s.full in
     omega arith
-
--- ---- at the fields of the code
-
-pub fits_at : (full : List (List Slot)) (last slots : List Slot) (end size : ℕ)
-    → IsFilled full last end → slots_of full ++ last ≡ slots → size_of slots % 16 + size ≤ 16 → end % 16 + size ≤ 16
-fits_at full last slots end size f e h =
-    let a = all_size full last end f in
-    let b = ap size_of e in
-    omega arith
-
-pub none_filled : (full : List (List Slot)) (last : List Slot) → full ≡ [] → last ≡ [] → IsFilled full last 0
-none_filled full last e g = rw (e, g) (record { each_full = All-nil IsFull; room = omega arith; end_is = refl })
-
--- more in the last bundle
-pub filled_in : (full : List (List Slot)) (last more now : List Slot) (end size : ℕ)
-    → IsFilled full last end → now ≡ last ++ more → size ≡ size_of more → end % 16 + size < 16 → IsFilled full now (end + size)
-filled_in full last more now end size f e s h =
-    let a = size_of-append last more in
-    let r = f.room in
-    let i = f.end_is in
-    rw e (record { each_full = f.each_full; room = omega arith; end_is = omega arith })
-
--- the full bundles alone
-pub emptied : (full now : List (List Slot)) (last other : List Slot) (end : ℕ) → IsFilled full last end → now ≡ full → other ≡ [] → IsFilled now other (end - end % 16)
-emptied full now last other end f e g =
-    let r = f.room in
-    let i = f.end_is in
-    rw (e, g) (record { each_full = f.each_full; room = omega arith; end_is = omega arith })
-
--- one more full bundle
-pub filled_up : (full now : List (List Slot)) (last more bundle other : List Slot) (end size : ℕ)
-    → IsFilled full last end → now ≡ full ++ bundle ∷ [] → bundle ≡ last ++ more → other ≡ []
-    → size ≡ size_of more → 16 ≤ end % 16 + size → end % 16 + size ≤ 16 → IsFilled now other (end - end % 16 + 16)
-filled_up full now last more bundle other end size f e b o s low high =
-    let a = size_of-append last more in
-    let r = f.room in
-    let i = f.end_is in
-    let l = length-append full ((last ++ more) ∷ []) in
-    rw (e, o, b) (record {
-      each_full = All-push IsFull full (last ++ more) f.each_full (omega arith);
-      room = omega arith;
-      end_is = omega arith;
-    })
-
--- ---- all bundles
 
 bundles_push : (full : List (List Slot)) (last : List Slot) → All IsFull full → 0 < size_of last → size_of last ≤ 16 → AreBundles (full ++ last ∷ [])
 bundles_push [] last h low high = (low, high)
 bundles_push (x ∷ []) last h low high = ((All-head IsFull x [] h), (low, high))
 bundles_push (x ∷ y ∷ full) last h low high = ((All-head IsFull x (y ∷ full) h), bundles_push (y ∷ full) last (All-tail IsFull x (y ∷ full) h) low high)
 
-pub full_are_bundles : (full : List (List Slot)) → All IsFull full → AreBundles full
-full_are_bundles [] h = tt
-full_are_bundles (x ∷ []) h = let e = (All-head IsFull x [] h) in (omega arith, omega arith)
-full_are_bundles (x ∷ y ∷ full) h = ((All-head IsFull x (y ∷ full) h), full_are_bundles (y ∷ full) (All-tail IsFull x (y ∷ full) h))
+-- ---- one more bundle
 
-pub nop_fits : (slots : List Slot) → size_of slots % 16 + 2 ≤ 16
+all_full : (bundles : List (List Slot)) → AreBundles bundles → size_of (slots_of bundles) % bundle_size ≡ 0 → All IsFull bundles
+all_full [] h e = All-nil IsFull
+all_full (b ∷ bundles) h e =
+    let s = split b bundles h in
+    let n = split_size (b ∷ bundles) s in
+    let low = s.some in
+    let high = s.few in
+    subst (All IsFull) (sym s.are) (All-push IsFull s.front s.last s.full (omega arith))
+
+-- where the last one has no room
+pub begun : (bundles : List (List Slot)) (more : List Slot) → AreBundles bundles → size_of (slots_of bundles) % bundle_size ≡ 0
+    → 0 < size_of more → size_of more ≤ bundle_size → AreBundles (bundles ++ more ∷ [])
+begun bundles more are e low high = bundles_push bundles more (all_full bundles are e) low high
+
+-- ---- more in the last bundle
+
+-- the bundles with more after the last one's slots
+pub record Grown (bundles : List (List Slot)) (more : List Slot) : Type 0 where
+  pub front : List (List Slot)
+  pub last : List Slot
+  pub were : bundles ≡ front ++ last ∷ []
+  pub room : size_of last + size_of more ≤ bundle_size
+  pub are : AreBundles (front ++ (last ++ more) ∷ [])
+  pub slots : slots_of (front ++ (last ++ more) ∷ []) ≡ slots_of bundles ++ more
+
+-- where it has room
+pub grown : (bundles : List (List Slot)) (more : List Slot) → AreBundles bundles → 0 < size_of (slots_of bundles) % bundle_size
+    → size_of (slots_of bundles) % bundle_size + size_of more ≤ bundle_size → Grown bundles more
+grown [] more are some fits = absurd (let z : size_of (slots_of []) ≡ 0 = refl in omega arith)
+grown (b ∷ bundles) more are some fits =
+    let s = split b bundles are in
+    let n = split_size (b ∷ bundles) s in
+    let low = s.some in
+    let high = s.few in
+    let a = size_of-append s.last more in
+    record {
+      front = s.front;
+      last = s.last;
+      were = s.are;
+      room = omega arith;
+      are = bundles_push s.front (s.last ++ more) s.full (omega arith) (omega arith);
+      slots =
+          slots_of-push s.front (s.last ++ more) ∙ sym (append_assoc (slots_of s.front) s.last more)
+          ∙ ap (λ v. v ++ more) (sym (ap slots_of s.are ∙ slots_of-push s.front s.last));
+    }
+
+-- ---- at the fields of the code
+
+pub slots_fit : (old more now : List Slot) → now ≡ old → size_of old + size_of more ≤ bundle_size → length now + length more ≤ 8
+slots_fit old more now e h =
+    let a = size_at_least_two old in
+    let b = size_at_least_two more in
+    let c = ap length e in
+    omega arith
+
+pub filled_begun : (bundles : List (List Slot)) (bundle more : List Slot) (now : List (List Slot)) (end size : ℕ)
+    → IsFilled bundles end → end % bundle_size ≡ 0 → now ≡ bundles ++ bundle ∷ [] → bundle ≡ more → size ≡ size_of more → 0 < size
+    → end % bundle_size + size ≤ bundle_size → IsFilled now (end + size)
+filled_begun bundles bundle more now end size f none n b s some fits =
+    let a = f.end_is in
+    let c = ap size_of (slots_of-push bundles more) ∙ size_of-append (slots_of bundles) more in
+    rw (n, b) (record { are_bundles = begun bundles more f.are_bundles (omega arith) (omega arith) (omega arith); end_is = omega arith })
+
+-- what is grown at the last bundle's index
+pub filled_grown : (bundles : List (List Slot)) (end size : ℕ) (more : List Slot) → IsFilled bundles end → ((end % bundle_size ≡ 0) → ⊥) → size ≡ size_of more
+    → end % bundle_size + size ≤ bundle_size → Grown bundles more
+filled_grown bundles end size more f some s fits =
+    let a = f.end_is in
+    grown bundles more f.are_bundles (let not_zero : 0 < end % bundle_size = omega (arith, some) in omega arith) (omega arith)
+
+pub grown_last : (bundles : List (List Slot)) (more : List Slot) (g : Grown bundles more) (count : ℕ) (d : List Slot) → count ≡ length bundles → get_or bundles (count - 1) d ≡ g.last
+grown_last bundles more g count d c =
+    let long = ap length g.were ∙ length-append g.front (g.last ∷ []) in
+    ap (λ v. get_or v (count - 1) d) g.were ∙ get_or_push g.front g.last d (count - 1) (omega arith)
+
+pub grown_set : (bundles : List (List Slot)) (more new : List Slot) (g : Grown bundles more) (count : ℕ) → count ≡ length bundles → new ≡ g.last ++ more
+    → set bundles (count - 1) new ≡ g.front ++ (g.last ++ more) ∷ []
+grown_set bundles more new g count c n =
+    let long = ap length g.were ∙ length-append g.front (g.last ∷ []) in
+    let at : count - 1 ≡ length g.front = omega arith in
+    ap (λ v. set v (count - 1) new) g.were ∙ ap (λ k. set (g.front ++ g.last ∷ []) k new) at ∙ set-append_seam g.front g.last [] new
+    ∙ ap (λ v. g.front ++ v ∷ []) n
+
+pub filled_more : (bundles now : List (List Slot)) (more : List Slot) (end size : ℕ) → IsFilled bundles end → (g : Grown bundles more)
+    → now ≡ g.front ++ (g.last ++ more) ∷ [] → size ≡ size_of more → IsFilled now (end + size)
+filled_more bundles now more end size f g n s =
+    let a = f.end_is in
+    let c = ap size_of g.slots ∙ size_of-append (slots_of bundles) more in
+    rw n (record { are_bundles = g.are; end_is = omega arith })
+
+pub fits_at : (bundles : List (List Slot)) (slots : List Slot) (end size : ℕ)
+    → IsFilled bundles end → slots_of bundles ≡ slots → size_of slots % bundle_size + size ≤ bundle_size → end % bundle_size + size ≤ bundle_size
+fits_at bundles slots end size f e h =
+    let a = f.end_is in
+    let b = ap size_of e in
+    omega arith
+
+pub nop_fits : (slots : List Slot) → size_of slots % bundle_size + 2 ≤ bundle_size
 nop_fits slots = let g = size_even slots in omega arith
 
 pub nops_room : (old now : List Slot) (k nops : ℕ) → now ≡ old ++ replicate k c_nop → k < nops → size_of old + 2 * nops ≤ largest → size_of now + 2 ≤ largest
@@ -92,16 +159,3 @@ nops_room old now k nops e h r =
     let a = ap size_of e ∙ size_of-append old (replicate k c_nop) in
     let b = size_nops k in
     omega arith
-
--- the last bundle too, where something stands in it
-pub finished : (full now : List (List Slot)) (last bundle : List Slot) (end : ℕ)
-    → IsFilled full last end → now ≡ full ++ bundle ∷ [] → bundle ≡ last → last ≢ [] → AreBundles now
-finished full now last bundle end f e b n = rw (e, b) (bundles_push full last f.each_full (some last n) (omega (arith, f.room)))
-  where
-    some : (slots : List Slot) → slots ≢ [] → 0 < size_of slots
-    some [] n = absurd (n refl)
-    some (x ∷ xs) n = size_at_least x xs
-
-pub not_empty : (slots : List Slot) (n : ℕ) → false ≡ (n == 0) → n ≡ length slots → slots ≢ []
-not_empty [] n h l e = let f : false ≡ true = subst (λ (m : ℕ). false ≡ (m == 0)) l h in cc
-not_empty (x ∷ xs) n h l e = cc

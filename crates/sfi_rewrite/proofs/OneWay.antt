@@ -1,5 +1,5 @@
 -- A sandbox has one placement.
-use Rattle.std.proofs.Common.{◌≡◌, ℕ, ◌<◌, ◌≤◌, List, [], ◌∷◌, ◌++◌, take, replicate, refl, sym, ap, ◌∙◌, subst, arith}
+use Rattle.std.proofs.Common.{◌≡◌, ℕ, ◌<◌, ◌≤◌, List, [], ◌∷◌, ◌++◌, take, replicate, refl, sym, ap, ◌∙◌, subst, arith, append-nil}
 use Rattle.std.specs.List.{AllZip}
 use Rattle.rv_comp.specs.Laws.{OneFirstForm}
 use Rattle.rv_source.specs.declared.item.Item.{Item}
@@ -11,11 +11,11 @@ use Rattle.sfi_image.specs.declared.format.Format.{Format}
 use Rattle.sfi_rewrite.specs.declared.slot.Slot.{Slot}
 use Rattle.sfi_rewrite.specs.declared.placed.PlacedName.{PlacedName}
 use Rattle.sfi_rewrite.specs.declared.placed.PlacedName.TheVariants as placed
-use Rattle.sfi_rewrite.specs.Slots.{size_of, slots_of, c_nop, slot_size}
+use Rattle.sfi_rewrite.specs.Slots.{size_of, slots_of, c_nop}
 use Rattle.sfi_rewrite.specs.Places.{next_bundle}
 use Rattle.sfi_rewrite.specs.Placement.{Placement, IsPlacedName, HasEndLabel, FillsEnd, AreBundles, IsPlacement}
 use Rattle.sfi_rewrite.specs.Rewriting.{IsRewritten}
-use Rattle.sfi_rewrite.proofs.Sizes.{size_of-append, size_of-cons, size_at_least}
+use Rattle.sfi_rewrite.proofs.Sizes.{size_of-append, size_at_least, begins_with}
 use Rattle.sfi_rewrite.proofs.Laid.{laid_one_way}
 
 -- ---- bundles
@@ -24,18 +24,16 @@ record SameParts (xs ys us vs : List Slot) : Type 0 where
   front : xs ≡ ys
   back : us ≡ vs
 
+none : (slots : List Slot) → size_of slots ≡ 0 → slots ≡ []
+none [] e = refl
+none (x ∷ slots) e = absurd (let h = size_at_least x slots in omega arith)
+
 same_front : (xs ys us vs : List Slot) → xs ++ us ≡ ys ++ vs → size_of xs ≡ size_of ys → SameParts xs ys us vs
-same_front [] [] us vs e s = record { front = refl; back = e }
-same_front [] (y ∷ ys) us vs e s = absurd (let h = size_at_least y ys in let z : size_of [] ≡ 0 = refl in omega arith)
-same_front (x ∷ xs) [] us vs e s = absurd (let h = size_at_least x xs in let z : size_of [] ≡ 0 = refl in omega arith)
-same_front (x ∷ xs) (y ∷ ys) us vs e s =
-    let first : x ≡ y = cc in
-    let tails : xs ++ us ≡ ys ++ vs = cc in
-    let a = size_of-cons x xs in
-    let b = size_of-cons y ys in
-    let f = ap slot_size first in
-    let rest = same_front xs ys us vs tails (omega arith) in
-    record { front = ap (λ v. v ∷ xs) first ∙ ap (λ v. y ∷ v) rest.front; back = rest.back }
+same_front xs ys us vs e s =
+    let r = begins_with ys xs us vs e (omega arith) in
+    let size = ap size_of r.front ∙ size_of-append xs r.more in
+    let empty = none r.more (omega arith) in
+    record { front = sym (r.front ∙ ap (λ v. xs ++ v) empty ∙ append-nil xs); back = r.back ∙ ap (λ v. v ++ vs) empty }
 
 -- what is known of the first of some bundles
 record IsFirstBundle (b : List Slot) (rest : List (List Slot)) : Type 0 where
@@ -50,13 +48,9 @@ rest_bundles : (b : List Slot) (rest : List (List Slot)) → AreBundles (b ∷ r
 rest_bundles b [] h = tt
 rest_bundles b (c ∷ rest) h = h.1
 
-first_size : (b c : List Slot) (bs cs : List (List Slot)) → AreBundles (b ∷ bs) → AreBundles (c ∷ cs) → slots_of (b ∷ bs) ≡ slots_of (c ∷ cs) → size_of b ≡ size_of c
-first_size b c [] [] h g e =
-    let a = ap size_of e in
-    let x = size_of-append b [] in
-    let y = size_of-append c [] in
-    omega arith
-first_size b c [] (d ∷ cs) h g e =
+-- one bundle has fewer slots than two
+not_alone : (b c d : List Slot) (cs : List (List Slot)) → AreBundles (b ∷ []) → AreBundles (c ∷ d ∷ cs) → slots_of (b ∷ []) ≡ slots_of (c ∷ d ∷ cs) → ⊥
+not_alone b c d cs h g e =
     let a = ap size_of e in
     let x = size_of-append b [] in
     let y = size_of-append c (d ++ slots_of cs) in
@@ -65,33 +59,31 @@ first_size b c [] (d ∷ cs) h g e =
     let i = (first_bundle b [] h).few in
     let j = (first_bundle d cs (rest_bundles c (d ∷ cs) g)).some in
     let k = g.0 in
-    absurd (omega arith)
-first_size b c (d ∷ bs) [] h g e =
+    omega arith
+
+first_size : (b c : List Slot) (bs cs : List (List Slot)) → AreBundles (b ∷ bs) → AreBundles (c ∷ cs) → slots_of (b ∷ bs) ≡ slots_of (c ∷ cs) → size_of b ≡ size_of c
+first_size b c [] [] h g e =
     let a = ap size_of e in
-    let x = size_of-append c [] in
-    let y = size_of-append b (d ++ slots_of bs) in
-    let z = size_of-append d (slots_of bs) in
-    let n : size_of [] ≡ 0 = refl in
-    let i = (first_bundle c [] g).few in
-    let j = (first_bundle d bs (rest_bundles b (d ∷ bs) h)).some in
-    let k = h.0 in
-    absurd (omega arith)
+    let x = size_of-append b [] in
+    let y = size_of-append c [] in
+    omega arith
+first_size b c [] (d ∷ cs) h g e = absurd (not_alone b c d cs h g e)
+first_size b c (d ∷ bs) [] h g e = absurd (not_alone c b d bs g h (sym e))
 first_size b c (d ∷ bs) (f ∷ cs) h g e = h.0 ∙ sym g.0
 
-bundles_one_way : (bs cs : List (List Slot)) → AreBundles bs → AreBundles cs → slots_of bs ≡ slots_of cs → bs ≡ cs
-bundles_one_way [] [] h g e = refl
-bundles_one_way [] (c ∷ cs) h g e =
-    let a = ap size_of e in
-    let x = size_of-append c (slots_of cs) in
-    let n : size_of [] ≡ 0 = refl in
-    let j = (first_bundle c cs g).some in
-    absurd (omega arith)
-bundles_one_way (b ∷ bs) [] h g e =
+-- bundles have slots
+not_none : (b : List Slot) (bs : List (List Slot)) → AreBundles (b ∷ bs) → [] ≡ slots_of (b ∷ bs) → ⊥
+not_none b bs h e =
     let a = ap size_of e in
     let x = size_of-append b (slots_of bs) in
     let n : size_of [] ≡ 0 = refl in
     let j = (first_bundle b bs h).some in
-    absurd (omega arith)
+    omega arith
+
+bundles_one_way : (bs cs : List (List Slot)) → AreBundles bs → AreBundles cs → slots_of bs ≡ slots_of cs → bs ≡ cs
+bundles_one_way [] [] h g e = refl
+bundles_one_way [] (c ∷ cs) h g e = absurd (not_none c cs g e)
+bundles_one_way (b ∷ bs) [] h g e = absurd (not_none b bs h (sym e))
 bundles_one_way (b ∷ bs) (c ∷ cs) h g e =
     let same = same_front b c (slots_of bs) (slots_of cs) e (first_size b c bs cs h g e) in
     let rest = bundles_one_way bs cs (rest_bundles b bs h) (rest_bundles c cs g) same.back in

@@ -1,9 +1,10 @@
 -- How many bytes slots take.
-use Rattle.std.proofs.Common.{◌≡◌, ℕ, zero, suc, ◌+◌, ◌*◌, ◌%◌, ◌<◌, ◌≤◌, List, [], ◌∷◌, ◌++◌, length, take, get_or, replicate, refl, ap, ◌∙◌, arith, length-take, ◌^◌, Fits, w64, rules}
+use Rattle.std.proofs.Common.{◌≡◌, ℕ, zero, suc, ◌+◌, ◌*◌, ◌%◌, ◌<◌, ◌≤◌, List, [], ◌∷◌, ◌++◌, length, take, get_or, replicate, refl, sym, ap, ◌∙◌, arith, length-take, ◌^◌, Fits, w64, rules}
 use Rattle.std.proofs.lemmas.List.{take_more}
 use Rattle.std.proofs.lemmas.List.Sums.{sum_by-append, sum_by-cons}
 use Rattle.sfi_rewrite.specs.declared.slot.Slot.{Slot}
 use Rattle.sfi_rewrite.specs.declared.slot.Slot.TheVariants.{Wide, Short, Jump, Upper, Lower}
+use Rattle.sfi_policy.specs.Limits.{bundle_size}
 use Rattle.sfi_rewrite.specs.Slots.{slot_size, size_of, c_nop}
 
 pub size_of-append : (xs ys : List Slot) → size_of (xs ++ ys) ≡ size_of xs + size_of ys
@@ -41,6 +42,14 @@ size_at_most (x ∷ xs) =
     let e = size_of-cons x xs in
     omega (arith, h, g, e)
 
+pub size_at_least_two : (xs : List Slot) → 2 * length xs ≤ size_of xs
+size_at_least_two [] = omega arith
+size_at_least_two (x ∷ xs) =
+    let h = size_at_least_two xs in
+    let g = (slot_is_size x).least in
+    let e = size_of-cons x xs in
+    omega (arith, h, g, e)
+
 pub size_at_least : (x : Slot) (xs : List Slot) → 0 < size_of (x ∷ xs)
 size_at_least x xs =
     let g = (slot_is_size x).least in
@@ -65,10 +74,30 @@ size_more xs k d h =
 pub size_step : (xs : List Slot) (k : ℕ) (d : Slot) (n r : ℕ) → k < length xs → n ≡ size_of (take k xs) → r ≡ slot_size (get_or xs k d) → n + r ≡ size_of (take (k + 1) xs)
 size_step xs k d n r h e f = let g = size_more xs k d h in omega arith
 
-pub size_fits : (xs : List Slot) (k : ℕ) (d : Slot) (n r : ℕ) → k < length xs → length xs ≤ 4 → n ≡ size_of (take k xs) → r ≡ slot_size (get_or xs k d) → Fits w64 (n + r)
+pub size_fits : (xs : List Slot) (k : ℕ) (d : Slot) (n r : ℕ) → k < length xs → length xs ≤ bundle_size → n ≡ size_of (take k xs) → r ≡ slot_size (get_or xs k d) → Fits w64 (n + r)
 size_fits xs k d n r h l e f =
     let g = size_step xs k d n r h e f in
     let a = size_at_most (take (k + 1) xs) in
     let b = length-take (k + 1) xs in
     let h : n + r < 2 ^ 64 = omega arith in
     search (rules, h)
+
+-- ---- slots that begin with others
+
+-- b is p with more after it, and that more stands before the rest in us
+pub record BeginsWith (b p us rest : List Slot) : Type 0 where
+  pub more : List Slot
+  pub front : b ≡ p ++ more
+  pub back : us ≡ more ++ rest
+
+pub begins_with : (b p us rest : List Slot) → p ++ us ≡ b ++ rest → size_of p ≤ size_of b → BeginsWith b p us rest
+begins_with b [] us rest e h = record { more = b; front = refl; back = e }
+begins_with [] (x ∷ p) us rest e h = absurd (let s = size_at_least x p in let z : size_of [] ≡ 0 = refl in omega arith)
+begins_with (y ∷ b) (x ∷ p) us rest e h =
+    let first : x ≡ y = cc in
+    let tails : p ++ us ≡ b ++ rest = cc in
+    let s = size_of-cons x p in
+    let t = size_of-cons y b in
+    let g = ap slot_size first in
+    let r = begins_with b p us rest tails (omega arith) in
+    record { more = r.more; front = ap (λ z. z ∷ b) (sym first) ∙ ap (λ v. x ∷ v) r.front; back = r.back }

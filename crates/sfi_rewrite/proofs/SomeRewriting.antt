@@ -25,20 +25,20 @@ use Rattle.sfi_rewrite.specs.declared.fault.RewriteFault.{RewriteFault}
 use Rattle.sfi_rewrite.specs.declared.fault.RewriteFault.TheVariants as fault
 use Rattle.sfi_rewrite.specs.declared.placed.PlacedName.{PlacedName}
 use Rattle.sfi_rewrite.specs.declared.placed.PlacedName.TheVariants as placed
+use Rattle.sfi_policy.specs.Limits.{bundle_size}
 use Rattle.sfi_rewrite.specs.Slots.{size_of, slots_of, c_nop}
 use Rattle.sfi_rewrite.specs.Stack.{writes_stack, is_on_stack, is_stack_write, stack_pair, put_back}
 use Rattle.sfi_rewrite.specs.Registers.{item_names_withheld, is_ecall}
 use Rattle.sfi_rewrite.specs.Expansion.{data_pair, jump_slots, IsAlone, IsMasked, IsExpansionOf, IsExpansion, is_call}
 use Rattle.sfi_rewrite.specs.Places.{next_bundle, FillsGap, AreLaid}
 use Rattle.sfi_rewrite.specs.Placement.{Placement, IsPlacedName, HasEndLabel, FillsEnd, AreBundles}
-use Rattle.sfi_rewrite.specs.Filling.{IsFilled}
 use Rattle.sfi_rewrite.specs.private.Filling.{HasNext}
 use Rattle.sfi_rewrite.specs.Faults.{IsPermitted, AreFaultless, HasFault, IsItemFault, IsSourceFault}
 use Rattle.sfi_rewrite.specs.Rewriting.{IsRewritten, AreRewritten}
 use Rattle.sfi_rewrite.specs.Laws.{SomeRewriting}
 use Rattle.sfi_rewrite.proofs.Sizes.{size_even}
 use Rattle.sfi_rewrite.proofs.Expansions.{expansion_one}
-use Rattle.sfi_rewrite.proofs.Bundles.{slots_of-push, filled_in, filled_up, none_filled, fits_at, full_are_bundles, finished, nop_fits}
+use Rattle.sfi_rewrite.proofs.Bundles.{slots_of-push, begun, grown, nop_fits}
 use Rattle.sfi_rewrite.proofs.Laid.{laid_split}
 use Rattle.sfi_rewrite.proofs.OneByOne.{too_large, fits_bundle, has_next, none_faultless, one_more}
 use Rattle.sfi_rewrite.proofs.Sources.{faulty, parts_push}
@@ -158,68 +158,32 @@ some_gap end true true size even even_size some few = gap_both end size even eve
 
 -- ---- bundles
 
--- the slots, in full bundles and a last one that isn't
+-- the slots, in bundles
 record InBundles (code : List Slot) : Type 0 where
-  full : List (List Slot)
-  last : List Slot
-  end : ℕ
-  filled : IsFilled full last end
-  whole : slots_of full ++ last ≡ code
+  bundles : List (List Slot)
+  whole : slots_of bundles ≡ code
+  right : AreBundles bundles
 
-none_in_bundles : InBundles []
-none_in_bundles = record { full = []; last = []; end = 0; filled = none_filled [] [] refl refl; whole = refl }
-
-push : (code more : List Slot) → InBundles code → size_of code % 16 + size_of more ≤ 16 → InBundles (code ++ more)
-push code more b fits =
-    let within = fits_at b.full b.last code b.end (size_of more) b.filled b.whole fits in
-    let whole : slots_of b.full ++ (b.last ++ more) ≡ code ++ more = sym (append_assoc (slots_of b.full) b.last more) ∙ ap (λ l. l ++ more) b.whole in
-    elim (cases_lt (b.end % 16 + size_of more) 16) [
-      | inl less ↦
+push : (code more : List Slot) → InBundles code → 0 < size_of more → size_of code % bundle_size + size_of more ≤ bundle_size → InBundles (code ++ more)
+push code more b some fits =
+    let same : size_of (slots_of b.bundles) ≡ size_of code = ap size_of b.whole in
+    elim (cases_lt 0 (size_of (slots_of b.bundles) % bundle_size)) [
+      | inl used ↦
+          let g = grown b.bundles more b.right used (omega arith) in
+          record { bundles = g.front ++ (g.last ++ more) ∷ []; whole = g.slots ∙ ap (λ v. v ++ more) b.whole; right = g.are }
+      | inr none ↦
           record {
-            full = b.full;
-            last = b.last ++ more;
-            end = b.end + size_of more;
-            filled = filled_in b.full b.last more (b.last ++ more) b.end (size_of more) b.filled refl refl less;
-            whole = whole;
-          }
-      | inr full ↦
-          record {
-            full = b.full ++ (b.last ++ more) ∷ [];
-            last = [];
-            end = b.end - b.end % 16 + 16;
-            filled = filled_up b.full (b.full ++ (b.last ++ more) ∷ []) b.last more (b.last ++ more) [] b.end (size_of more) b.filled refl refl refl refl full within;
-            whole = append-nil (slots_of (b.full ++ (b.last ++ more) ∷ [])) ∙ slots_of-push b.full (b.last ++ more) ∙ whole;
+            bundles = b.bundles ++ more ∷ [];
+            whole = slots_of-push b.bundles more ∙ ap (λ v. v ++ more) b.whole;
+            right = begun b.bundles more b.right (omega arith) some (omega arith);
           }
     ]
 
 push_nops : (nops : ℕ) (code : List Slot) → InBundles code → InBundles (code ++ replicate nops c_nop)
 push_nops zero code b = subst InBundles (sym (append-nil code)) b
 push_nops (suc n) code b =
-    let one = push code (c_nop ∷ []) b (nop_fits code) in
+    let one = push code (c_nop ∷ []) b (omega arith) (nop_fits code) in
     subst InBundles (append_assoc code (c_nop ∷ []) (replicate n c_nop)) (push_nops n (code ++ c_nop ∷ []) one)
-
--- the bundles of all
-record Bundled (code : List Slot) : Type 0 where
-  bundles : List (List Slot)
-  whole : slots_of bundles ≡ code
-  right : AreBundles bundles
-
-finish : (code : List Slot) → InBundles code → Bundled code
-finish code b = at b.last refl
-  where
-    at : (last : List Slot) → b.last ≡ last → Bundled code
-    at [] none =
-        record {
-          bundles = b.full;
-          whole = sym (append-nil (slots_of b.full)) ∙ ap (λ l. slots_of b.full ++ l) (sym none) ∙ b.whole;
-          right = full_are_bundles b.full b.filled.each_full;
-        }
-    at (x ∷ xs) some =
-        record {
-          bundles = b.full ++ b.last ∷ [];
-          whole = slots_of-push b.full b.last ∙ b.whole;
-          right = finished b.full (b.full ++ b.last ∷ []) b.last b.last b.end b.filled refl refl (λ none. let e : x ∷ xs ≡ [] = sym some ∙ none in cc);
-        }
 
 -- ---- an item after others
 
@@ -260,7 +224,7 @@ next_or_large law f sandbox code x b p =
           inl (record {
             now = then ++ slots;
             next = has_next f x code then (then ++ slots) slots slots (is_call x.body) (size_of code) (size_of slots) nops made.1 refl refl refl refl gap.1 refl refl within;
-            bundled = push then slots (push_nops nops code b) (fits_bundle code then x.labelled (is_call x.body) (size_of code) (size_of slots) nops refl gap.1 refl);
+            bundled = push then slots (push_nops nops code b) one.some (fits_bundle code then x.labelled (is_call x.body) (size_of code) (size_of slots) nops refl gap.1 refl);
           })
       | inr beyond ↦
           inr (
@@ -306,7 +270,7 @@ items_on law f sandbox items (suc d) k all l =
 
 laid_or_fault : SomeFirstForm → (f : Format) (sandbox : ℕ) (items : List Item) → Laid f items ⊎ ((e : RewriteFault) × IsItemFault f sandbox items e)
 laid_or_fault law f sandbox items =
-    items_on law f sandbox items (length items) 0 (omega arith) (record { code = []; faultless = none_faultless f items [] refl; bundled = none_in_bundles })
+    items_on law f sandbox items (length items) 0 (omega arith) (record { code = []; faultless = none_faultless f items [] refl; bundled = record { bundles = []; whole = refl; right = tt } })
 
 -- ---- a sandbox
 
@@ -352,7 +316,7 @@ part_made : (s : Sandbox) → Laid s.format s.items → (p : Placement) × IsRew
 part_made s l =
     let laid = l.faultless.laid in
     let end = some_end (size_of l.code) (HasEndLabel s) (size_even l.code) (label_or_none (named s) (length s.items)) in
-    let whole = finish (l.code ++ replicate end.0 c_nop) (push_nops end.0 l.code l.bundled) in
+    let whole = push_nops end.0 l.code l.bundled in
     let names = some_names s.format s.items l.code laid (named s) in (
       record { format = s.format; data_size = s.data_size; gates = s.gates; names = names.0; bytes = s.bytes; bundles = whole.bundles },
       record {

@@ -205,39 +205,27 @@ stays_there pc h = omega arith
 same_alone : (i : Instr) (n : ℕ) (s : State) → IsSameAside (effect i n s.hart s.memory) (effect i n (with_pc s.hart s.hart.pc) s.memory)
 same_alone i n s = record { outcome = refl; pc = refl; registers = λ x ne. refl; memory = refl }
 
-wide_transparent : (i : Instr) → IsTransparent i (Wide i ∷ [])
-wide_transparent i = record {
+-- one slot, which stands for the instruction
+one_transparent : (i : Instr) (x : Slot) → ((s : State) → SlotStands i s x → Stands s i (slot_size x)) → IsTransparent i (x ∷ [])
+one_transparent i x stands = record {
   before = [];
-  last = Wide i;
+  last = x;
   slots_are = refl;
-  does = λ c d s asked keeps.
-      let regions = asked.regions in let is = asked.is_state in let reserved = asked.reserved in let stand = asked.stand in
-      record {
-        there = s;
-        leads = refl;
-        place = stays_there s.hart.pc is.hart.address;
-        result = effect i 4 s.hart s.memory;
-        step = does s i 4 stand.0;
-        same = same_alone i 4 s;
-      };
+  does = λ c d s asked keeps. record {
+    there = s;
+    leads = refl;
+    place = stays_there s.hart.pc asked.is_state.hart.address;
+    result = effect i (slot_size x) s.hart s.memory;
+    step = does s i (slot_size x) (stands s asked.stand.0);
+    same = same_alone i (slot_size x) s;
+  };
 }
 
+wide_transparent : (i : Instr) → IsTransparent i (Wide i ∷ [])
+wide_transparent i = one_transparent i (Wide i) (λ s stand. stand)
+
 short_transparent : (i : Instr) (f : Form16) → expansion f ≡ i → IsTransparent i (Short f ∷ [])
-short_transparent i f e = record {
-  before = [];
-  last = Short f;
-  slots_are = refl;
-  does = λ c d s asked keeps.
-      let regions = asked.regions in let is = asked.is_state in let reserved = asked.reserved in let stand = asked.stand in
-      record {
-        there = s;
-        leads = refl;
-        place = stays_there s.hart.pc is.hart.address;
-        result = effect i 2 s.hart s.memory;
-        step = does s i 2 (subst (λ (j : Instr). Stands s j 2) e stand.0);
-        same = same_alone i 2 s;
-      };
-}
+short_transparent i f e = one_transparent i (Short f) (λ s stand. subst (λ (j : Instr). Stands s j 2) e stand)
 
 pub alone_transparent : (rvc : Bool) (i : Instr) (slots : List Slot) → IsAlone rvc i slots → IsTransparent i slots
 alone_transparent false i slots e = subst (λ (l : List Slot). IsTransparent i l) (sym e) (wide_transparent i)
@@ -246,21 +234,7 @@ alone_transparent true i slots (inr w) = subst (λ (l : List Slot). IsTransparen
 
 -- a slot that waits for its name
 pub named_transparent : (i : Instr) (x : Slot) → slot_size x ≡ 4 → ((s : State) → SlotStands i s x → Stands s i 4) → IsTransparent i (x ∷ [])
-named_transparent i x size stands = record {
-  before = [];
-  last = x;
-  slots_are = refl;
-  does = λ c d s asked keeps.
-      let regions = asked.regions in let is = asked.is_state in let reserved = asked.reserved in let stand = asked.stand in
-      record {
-        there = s;
-        leads = refl;
-        place = stays_there s.hart.pc is.hart.address;
-        result = effect i 4 s.hart s.memory;
-        step = does s i 4 (stands s stand.0);
-        same = subst (λ (n : ℕ). IsSameAside (effect i 4 s.hart s.memory) (effect i n (with_pc s.hart s.hart.pc) s.memory)) (sym size) (same_alone i 4 s);
-      };
-}
+named_transparent i x size stands = one_transparent i x (λ s stand. subst (λ (n : ℕ). Stands s i n) (sym size) (stands s stand))
 
 -- ---- any expansion
 

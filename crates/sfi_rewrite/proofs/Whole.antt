@@ -6,12 +6,12 @@ use Rattle.rv_source.specs.declared.item.Item.{Item}
 use Rattle.rv_source.specs.Source.{IsBody}
 use Rattle.sfi_image.specs.declared.format.Format.{Format}
 use Rattle.sfi_rewrite.specs.declared.slot.Slot.{Slot}
-use Rattle.sfi_rewrite.specs.Slots.{slot_size, size_of, slots_of, c_nop}
+use Rattle.sfi_rewrite.specs.Slots.{size_of, slots_of, c_nop}
 use Rattle.sfi_rewrite.specs.Places.{AreLaidFrom}
 use Rattle.sfi_rewrite.specs.Placement.{AreBundles}
 use Rattle.sfi_rewrite.specs.Faults.{IsPermitted}
 use Rattle.sfi_rewrite.specs.Placed.{AreWhole, nothing, padding, expansion}
-use Rattle.sfi_rewrite.proofs.Sizes.{size_of-append, size_of-cons, size_even, size_at_least}
+use Rattle.sfi_rewrite.proofs.Sizes.{size_of-append, size_even, size_at_least, begins_with}
 use Rattle.sfi_rewrite.proofs.Expansions.{expansion_one}
 use Rattle.sfi_rewrite.proofs.Laid.{size_next}
 
@@ -44,23 +44,6 @@ all_whole f count end [] h = nothing
 all_whole f count end (p ∷ pieces) h = whole-append f count p (slots_of pieces) h.0.whole (all_whole f count (end + size_of p) pieces h.1)
 
 -- ---- cut at a bundle's end
-
-record BeginsWith (b p us rest : List Slot) : Type 0 where
-  more : List Slot
-  front : b ≡ p ++ more
-  back : us ≡ more ++ rest
-
-begins_with : (b p us rest : List Slot) → p ++ us ≡ b ++ rest → size_of p ≤ size_of b → BeginsWith b p us rest
-begins_with b [] us rest e h = record { more = b; front = refl; back = e }
-begins_with [] (x ∷ p) us rest e h = absurd (let s = size_at_least x p in let z : size_of [] ≡ 0 = refl in omega arith)
-begins_with (y ∷ b) (x ∷ p) us rest e h =
-    let first : x ≡ y = cc in
-    let tails : p ++ us ≡ b ++ rest = cc in
-    let s = size_of-cons x p in
-    let t = size_of-cons y b in
-    let g = ap slot_size first in
-    let r = begins_with b p us rest tails (omega arith) in
-    record { more = r.more; front = ap (λ z. z ∷ b) (sym first) ∙ ap (λ v. x ∷ v) r.front; back = r.back }
 
 -- what stands up to the bundle's end is whole, and pieces stand after it
 record IsCut (f : Format) (count end : ℕ) (b rest : List Slot) : Type 0 where

@@ -1,6 +1,6 @@
 -- The expansion of an item of the source: what stands in its place, so that its accesses and jumps stay in the sandbox,
 -- and the stack pointer of a format that has one in its data region.
-use Rattle.std.specs.Prelude.{◌≡◌, ◌≢◌, ◌⊎◌, ◌==◌, not, IsTrue, ℕ, ℤ, zero, pos, List, [], ◌∷◌, ◌++◌, Bool, true, false, MatchBool}
+use Rattle.std.specs.Prelude.{◌≡◌, ◌≢◌, ◌⊎◌, ◌==◌, not, IsTrue, ℕ, ℤ, zero, pos, List, [], ◌∷◌, ◌++◌, map, Bool, true, false, MatchBool}
 use Rattle.rv_word.specs.declared.instr.ImmOp.TheVariants.{Addi}
 use Rattle.rv_word.specs.declared.instr.Instr.{Instr}
 use Rattle.rv_word.specs.declared.instr.Instr.TheVariants.{OpImm, Load, Store, Jal, Jalr}
@@ -10,8 +10,8 @@ use Rattle.rv_comp.specs.declared.form.Form16.{Form16}
 use Rattle.rv_source.specs.declared.item.Body.{Body}
 use Rattle.rv_source.specs.declared.item.Body.TheVariants.{Plain, To, High, Low}
 use Rattle.rv_source.specs.declared.item.Item.{Item}
-use Rattle.sfi_policy.specs.Pairs.{masking_instr, placing_instr}
-use Rattle.sfi_policy.specs.Registers.{code_base_register, code_mask_register, data_base_register, data_mask_register, scratch}
+use Rattle.sfi_policy.specs.Pairs as policy
+use Rattle.sfi_policy.specs.Registers.{scratch}
 use Rattle.sfi_image.specs.declared.format.Format.{Format}
 use Rattle.sfi_image.specs.Formats.{is_stack}
 use Rattle.sfi_rewrite.specs.declared.slot.Slot.{Slot}
@@ -20,11 +20,11 @@ use Rattle.sfi_rewrite.specs.Stack.{writes_stack, is_on_stack, stack_pair, put_b
 
 -- the pair by which x31 becomes an address of the data region
 abbrev pub data_pair : ℕ → List Slot
-data_pair a = Wide (masking_instr data_mask_register scratch a) ∷ Wide (placing_instr data_base_register scratch) ∷ []
+data_pair a = map Wide (policy.data_pair scratch a)
 
 -- the pair by which x31 becomes a bundle start of the code region
 abbrev pub code_pair : ℕ → List Slot
-code_pair a = Wide (masking_instr code_mask_register scratch a) ∷ Wide (placing_instr code_base_register scratch) ∷ []
+code_pair a = map Wide (policy.code_pair scratch a)
 
 -- `jalr rd, 0(x31)`
 abbrev pub jump_to_x31 : ℕ → Slot

@@ -4,7 +4,6 @@ pub mod Stack
 pub mod Expansion
 pub mod Places
 pub mod Placement
-pub mod Filling
 pub mod Faults
 pub mod Placed
 pub mod Rewriting

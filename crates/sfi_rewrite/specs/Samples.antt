@@ -8,6 +8,7 @@ use Rattle.rv_word.specs.Numbers.{minus}
 use Rattle.rv_step.specs.declared.outcome.Outcome.TheVariants.{Next}
 use Rattle.rv_step.specs.State.{State, register}
 use Rattle.rv_step.specs.Step.{effect}
+use Rattle.sfi_policy.specs.Registers.{stack_pointer}
 use Rattle.sfi_image.specs.declared.format.Format.{Format}
 use Rattle.sfi_image.specs.declared.span.Span.{Span}
 use Rattle.sfi_image.specs.Spans.{Holds}
@@ -38,7 +39,7 @@ pub record MeetsKeepsStack (f : Format) (i : Instr) : Type 0 where
   pub state : State
   pub asked : IsAskedOf i slots code_at data_at state
   pub done : (effect i 4 state.hart state.memory).outcome ≡ Next
-  pub stays : Holds data_at (register (effect i 4 state.hart state.memory).state.hart 2)
+  pub stays : Holds data_at (register (effect i 4 state.hart state.memory).state.hart stack_pointer)
 
 -- `lw x10, 0(x11)`
 abbrev pub sample_load : Instr
@@ -50,4 +51,4 @@ sample_jump = Jalr 1 12 (pos 0)
 
 -- `addi x2, x2, -16`
 abbrev pub sample_push : Instr
-sample_push = OpImm Addi 2 2 (minus 16)
+sample_push = OpImm Addi stack_pointer stack_pointer (minus 16)

@@ -1,13 +1,13 @@
 -- The stack pointer x2, of a format that has one: an access on it stands as it is, and what writes it stands before the pair that puts it back into the
 -- data region.
-use Rattle.std.specs.Prelude.{◌==◌, ◌&&◌, not, Bool, true, false, List, [], ◌∷◌}
+use Rattle.std.specs.Prelude.{◌==◌, ◌&&◌, not, Bool, true, false, List, [], map}
 use Rattle.rv_word.specs.declared.instr.Instr.{Instr}
 use Rattle.rv_word.specs.declared.instr.Instr.TheVariants.{Load, Store, Jal, Jalr}
 use Rattle.rv_word.specs.Writes.{writes_register}
 use Rattle.rv_source.specs.declared.item.Body.{Body}
 use Rattle.rv_source.specs.declared.item.Body.TheVariants.{Plain, To}
-use Rattle.sfi_policy.specs.Pairs.{masking_instr, placing_instr}
-use Rattle.sfi_policy.specs.Registers.{data_base_register, data_mask_register, stack_pointer}
+use Rattle.sfi_policy.specs.Pairs.{data_pair}
+use Rattle.sfi_policy.specs.Registers.{stack_pointer}
 use Rattle.sfi_image.specs.declared.format.Format.{Format}
 use Rattle.sfi_image.specs.Formats.{has_stack}
 use Rattle.sfi_rewrite.specs.declared.slot.Slot.{Slot}
@@ -44,7 +44,7 @@ is_stack_write f x = has_stack f && jumps_or_loads_x2 x
 
 -- the pair by which x2 becomes an address of the data region again
 abbrev pub stack_pair : List Slot
-stack_pair = Wide (masking_instr data_mask_register stack_pointer stack_pointer) ∷ Wide (placing_instr data_base_register stack_pointer) ∷ []
+stack_pair = map Wide (data_pair stack_pointer stack_pointer)
 
 -- the pair, where there is something to put back
 abbrev pub put_back : Bool → List Slot

@@ -1,6 +1,6 @@
 -- What an expansion does: within its sandbox it does what its instruction does, x31 aside; before the pair that puts the stack pointer back, what
 -- its instruction leaves stays.
-use Rattle.std.specs.Prelude.{◌≡◌, ◌≢◌, ◌-◌, ◌++◌, ℕ, ℤ, MatchBool, List, [], ◌∷◌, length, take, replicate, slice_get, Some}
+use Rattle.std.specs.Prelude.{◌≡◌, ◌≢◌, ◌++◌, ℕ, ℤ, MatchBool, List, [], ◌∷◌, length, take, replicate, slice_get, Some}
 use Rattle.rv_word.specs.Numbers.{offset_by}
 use Rattle.rv_word.specs.declared.instr.Instr.{Instr}
 use Rattle.rv_word.specs.declared.instr.ImmOp.TheVariants.{Addi}
@@ -15,12 +15,12 @@ use Rattle.rv_source.specs.declared.item.Body.{Body}
 use Rattle.rv_source.specs.declared.item.Body.TheVariants.{Plain, To, High, Low}
 use Rattle.rv_source.specs.declared.item.Item.{Item}
 use Rattle.rv_source.specs.Source.{Sandbox}
-use Rattle.sfi_policy.specs.Limits.{bundle_size}
-use Rattle.sfi_policy.specs.Registers.{code_base_register, code_mask_register, data_base_register, data_mask_register, scratch}
+use Rattle.sfi_policy.specs.Registers.{code_base_register, code_mask_register, data_base_register, data_mask_register, scratch, stack_pointer}
 use Rattle.sfi_image.specs.declared.format.Format.{Format}
 use Rattle.sfi_image.specs.declared.span.Span.{Span}
 use Rattle.sfi_image.specs.Spans.{Holds}
 use Rattle.sfi_image.specs.Regions.{IsCodeRegion, IsDataRegion, IsBundleStart}
+use Rattle.sfi_image.specs.Registers.{reserved_for}
 use Rattle.sfi_rewrite.specs.declared.slot.Slot.{Slot}
 use Rattle.sfi_rewrite.specs.declared.slot.Slot.TheVariants.{Wide, Short, Jump, Upper, Lower}
 use Rattle.sfi_rewrite.specs.Stack.{writes_stack}
@@ -36,12 +36,12 @@ pub record AreRegions (code_at data_at : Span) : Type 0 where
   pub code_placed : IsCodeRegion format code_at.base code_at.size
   pub data_placed : IsDataRegion data_at.base data_at.size
 
--- the reserved registers hold the code base, the code size less that of a bundle, the data base and the data size less 1
+-- the reserved registers hold what they do while a sandbox of these regions runs
 pub record HasReserved (code_at data_at : Span) (h : Hart) : Type 0 where
-  pub code_base : register h code_base_register ≡ code_at.base
-  pub code_mask : register h code_mask_register ≡ code_at.size - bundle_size
-  pub data_base : register h data_base_register ≡ data_at.base
-  pub data_mask : register h data_mask_register ≡ data_at.size - 1
+  pub code_base : register h code_base_register ≡ (reserved_for code_at data_at).code_base
+  pub code_mask : register h code_mask_register ≡ (reserved_for code_at data_at).code_mask
+  pub data_base : register h data_base_register ≡ (reserved_for code_at data_at).data_base
+  pub data_mask : register h data_mask_register ≡ (reserved_for code_at data_at).data_mask
 
 -- The instruction keeps to the sandbox: a load's or store's base register lies in the data region, whatever its offset adds, and a jalr goes to a
 -- bundle start of the code region. Of any other instruction nothing is asked.
@@ -105,12 +105,12 @@ pub record IsTransparent (i : Instr) (slots : List Slot) : Type 0 where
 abbrev pub at_pc : State → ℕ → State
 at_pc s pc = record { hart = with_pc s.hart pc; memory = s.memory }
 
--- The slots keep what i leaves: wherever they stand, from any state in which the line of i, there, is done and leaves x2 in the data region, each of their
+-- The slots keep what i leaves: wherever they stand, from any state in which the line of i, there, is done and leaves the stack pointer in the data region, each of their
 -- steps is done, and they leave the registers and the memory that i leaves, and the pc after all of them.
 pub record KeepsStack (i : Instr) (slots : List Slot) : Type 0 where
   pub does :
       (code_at data_at : Span) (s : State) → IsAskedOf i slots code_at data_at s
-      → (effect i 4 s.hart s.memory).outcome ≡ Next → Holds data_at (register (effect i 4 s.hart s.memory).state.hart 2)
+      → (effect i 4 s.hart s.memory).outcome ≡ Next → Holds data_at (register (effect i 4 s.hart s.memory).state.hart stack_pointer)
       → LeadTo (length slots) s (at_pc (effect i 4 s.hart s.memory).state (address_after s.hart.pc (size_of slots)))
 
 -- what an expansion of the format is to its instruction

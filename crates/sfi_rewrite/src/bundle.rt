@@ -1,13 +1,20 @@
 //! Bundles.
-ghost use Rattle.std.specs.Prelude.{◌≡◌};
+ghost use Rattle.std.specs.Prelude.{◌≡◌, ◌+◌, ◌++◌, ◌≤◌};
+ghost use Rattle.sfi_policy.specs.Limits.{bundle_size};
+ghost use Rattle.sfi_rewrite.specs.Slots.{size_of};
 
-use crate::slot::Slot;
+use crate::slot::{Slot, size_of};
+use arrayvec::ArrayVec;
+use sfi_policy::BUNDLE_BYTES;
 use std::marker::Model;
+
+/// The most slots of a bundle: 16-bit forms alone.
+const SLOTS_MOST: usize = BUNDLE_BYTES / 2;
 
 /// What stands in one bundle, in order. Contracts see the list of its slots.
 #[derive(Debug, Drop)]
 pub struct Bundle {
-    slots: Vec<Slot>,
+    slots: ArrayVec<Slot, SLOTS_MOST>,
 }
 
 impl Model for Bundle {
@@ -20,10 +27,34 @@ impl Model for Bundle {
 }
 
 impl Bundle {
-    pub(crate) fn new(slots: Vec<Slot>) -> Bundle
-        ensures { result ≡ slots.items }
+    /// The one of these slots.
+    pub(crate) fn new(slots: &[Slot]) -> Bundle
+        requires { size_of slots.now ≤ bundle_size }
+        ensures { result ≡ slots.now }
     {
-        Bundle { slots }
+        let mut bundle = Bundle {
+            slots: ArrayVec::new(),
+        };
+        bundle.push(slots);
+        bundle
+    }
+
+    /// Adds slots, for which there is room.
+    pub(crate) fn push(&mut self, slots: &[Slot])
+        requires { size_of self.old + size_of slots.now ≤ bundle_size }
+        ensures { self.new ≡ self.old ++ slots.now }
+    {
+        match self.slots.try_extend_from_slice(slots) {
+            Ok(()) => {}
+            Err(_) => unreachable!(),
+        }
+    }
+
+    /// How many bytes its slots take.
+    pub fn size(&self) -> usize
+        ensures { result ≡ size_of self.now }
+    {
+        size_of(self.slots.as_slice())
     }
 
     /// What stands in it, in order.

@@ -1,21 +1,19 @@
 //! What an item of the source becomes in a format.
-ghost use Rattle.std.specs.Prelude.{◌≡◌, ◌<◌, ℕ, ◌++◌, ◌∷◌, ◌≤◌, [], length};
-ghost use Rattle.sfi_rewrite.specs.Expansion.{data_pair, code_pair, jump_slots, IsAlone, IsMasked, IsPlainExpansion, IsExpansion};
+ghost use Rattle.std.specs.Prelude.{◌≡◌, ◌++◌, ◌∷◌, ◌≤◌, [], length, map};
+ghost use Rattle.sfi_rewrite.specs.Expansion.{jump_slots, IsAlone, IsMasked, IsPlainExpansion, IsExpansion};
 ghost use Rattle.sfi_rewrite.specs.Stack.{stack_pair, put_back, is_on_x2};
 ghost use Rattle.sfi_rewrite.specs.declared.slot.Slot.TheVariants.{Wide};
-ghost use Rattle.rv_word.specs.declared.instr.Instr.TheVariants.{Op};
 
-use crate::register::register;
 use crate::slot::Slot;
 use rv_comp::form_of;
 use rv_source::{Body, Item};
-use rv_word::{ImmOp, Instr, Reg, RegOp};
+use rv_word::{ImmOp, Instr, Reg};
 use sfi_image::Format;
-use sfi_policy::{
-    CODE_BASE_REGISTER, CODE_MASK_REGISTER, DATA_BASE_REGISTER, DATA_MASK_REGISTER, SCRATCH,
-    STACK_POINTER,
-};
+use sfi_policy::{SCRATCH, STACK_POINTER, code_pair, data_pair, register};
 use std::marker::Model;
+
+/// What stands in the array where an expansion has no slot.
+const BLANK: Slot = Slot::Wide(Instr::Ebreak);
 
 /// An expansion: at most four slots, in an array. Contracts see the list of them.
 #[derive(Drop)]
@@ -46,11 +44,12 @@ impl Expansion {
     }
 
     /// A pair, and what stands after it.
-    fn of_three(pair: [Slot; 2], last: Slot) -> Expansion
-        ensures { result ≡ pair ++ last ∷ [] }
+    fn of_three(pair: [Instr; 2], last: Slot) -> Expansion
+        ensures { result ≡ map Wide pair ++ last ∷ [] }
     {
+        let [first, second] = pair;
         Expansion {
-            slots: [pair[0], pair[1], last, Slot::Wide(Instr::Ebreak)],
+            slots: [Slot::Wide(first), Slot::Wide(second), last, BLANK],
             count: 3,
         }
     }
@@ -59,9 +58,10 @@ impl Expansion {
     fn with_stack_pair(first: Slot) -> Expansion
         ensures { result ≡ first ∷ stack_pair }
     {
-        let pair = stack_pair();
+        let stack_pointer = register(STACK_POINTER);
+        let [mask, place] = data_pair(stack_pointer, stack_pointer);
         Expansion {
-            slots: [first, pair[0], pair[1], Slot::Wide(Instr::Ebreak)],
+            slots: [first, Slot::Wide(mask), Slot::Wide(place), BLANK],
             count: 3,
         }
     }
@@ -78,11 +78,12 @@ impl Expansion {
     }
 
     /// A sum, a pair, and what stands after it.
-    fn of_four(sum: Slot, pair: [Slot; 2], last: Slot) -> Expansion
-        ensures { result ≡ sum ∷ (pair ++ last ∷ []) }
+    fn of_four(sum: Slot, pair: [Instr; 2], last: Slot) -> Expansion
+        ensures { result ≡ sum ∷ (map Wide pair ++ last ∷ []) }
     {
+        let [first, second] = pair;
         Expansion {
-            slots: [sum, pair[0], pair[1], last],
+            slots: [sum, Slot::Wide(first), Slot::Wide(second), last],
             count: 4,
         }
     }
@@ -96,60 +97,6 @@ impl Expansion {
     }
 }
 
-/// `op rd, a, b`.
-fn masked(op: RegOp, rd: u8, a: Reg, b: u8) -> Slot
-    requires rd { rd < 32 }
-    requires b { b < 32 }
-    ensures { result ≡ Wide (Op op rd a b) }
-{
-    Slot::Wide(Instr::Op {
-        op,
-        rd: register(rd),
-        rs1: a,
-        rs2: register(b),
-    })
-}
-
-/// The masked pair that puts x2 back into the data region.
-fn stack_pair() -> [Slot; 2]
-    ensures { result ≡ stack_pair }
-{
-    [
-        masked(
-            RegOp::And,
-            STACK_POINTER,
-            register(STACK_POINTER),
-            DATA_MASK_REGISTER,
-        ),
-        masked(
-            RegOp::Or,
-            STACK_POINTER,
-            register(STACK_POINTER),
-            DATA_BASE_REGISTER,
-        ),
-    ]
-}
-
-/// The masked pair that makes an address of the data region of a register.
-fn data_pair(a: Reg) -> [Slot; 2]
-    ensures { result ≡ data_pair a }
-{
-    [
-        masked(RegOp::And, SCRATCH, a, DATA_MASK_REGISTER),
-        masked(RegOp::Or, SCRATCH, register(SCRATCH), DATA_BASE_REGISTER),
-    ]
-}
-
-/// The masked pair that makes a bundle start of the code region of a register.
-fn code_pair(a: Reg) -> [Slot; 2]
-    ensures { result ≡ code_pair a }
-{
-    [
-        masked(RegOp::And, SCRATCH, a, CODE_MASK_REGISTER),
-        masked(RegOp::Or, SCRATCH, register(SCRATCH), CODE_BASE_REGISTER),
-    ]
-}
-
 /// The expansion of `jalr rd, imm(a)`.
 fn of_jump(rd: Reg, a: Reg, imm: i32) -> Expansion
     ensures { result ≡ jump_slots rd a imm }
@@ -161,7 +108,7 @@ fn of_jump(rd: Reg, a: Reg, imm: i32) -> Expansion
         imm: 0,
     });
     if imm == 0 {
-        return Expansion::of_three(code_pair(a), last);
+        return Expansion::of_three(code_pair(scratch, a), last);
     }
     let sum = Slot::Wide(Instr::OpImm {
         op: ImmOp::Addi,
@@ -169,7 +116,7 @@ fn of_jump(rd: Reg, a: Reg, imm: i32) -> Expansion
         rs1: a,
         imm,
     });
-    Expansion::of_four(sum, code_pair(scratch), last)
+    Expansion::of_four(sum, code_pair(scratch, scratch), last)
 }
 
 /// The expansion of an instruction that stays as it is, in a 16-bit form where these are asked for and there is one.
@@ -197,7 +144,7 @@ fn of_masked(rvc: bool, instr: &Instr) -> Expansion
                 rs1: scratch,
                 imm,
             };
-            Expansion::of_three(data_pair(rs1), Slot::Wide(access))
+            Expansion::of_three(data_pair(scratch, rs1), Slot::Wide(access))
         }
         Instr::Store {
             width,
@@ -211,7 +158,7 @@ fn of_masked(rvc: bool, instr: &Instr) -> Expansion
                 rs2,
                 imm,
             };
-            Expansion::of_three(data_pair(rs1), Slot::Wide(access))
+            Expansion::of_three(data_pair(scratch, rs1), Slot::Wide(access))
         }
         Instr::Jalr { rd, rs1, imm } => of_jump(rd, rs1, imm),
         Instr::Op { .. }

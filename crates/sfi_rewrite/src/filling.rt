@@ -6,59 +6,30 @@ ghost use Rattle.sfi_rewrite.specs.private.Filling.{largest};
 ghost use Rattle.sfi_rewrite.specs.Placement.{AreBundles};
 
 use crate::bundle::Bundle;
-use crate::register::register;
 use crate::slot::Slot;
-use rv_comp::Form16;
 use sfi_policy::BUNDLE_BYTES;
 use std::alloc::{AllocError, Global};
 use std::marker::Model;
-use std::mem;
 
-/// The most slots of a bundle: eight 16-bit forms.
-const SLOTS_MOST: usize = 8;
-
-/// How many bytes slots take.
-pub(crate) fn size_of(slots: &[Slot]) -> usize
-    requires { length slots.now ≤ 4 }
-    ensures { result ≡ size_of slots.now }
-{
-    let mut size = 0;
-    for slot in slots {
-        size += slot.size();
-    }
-    size
-}
-
-/// c.nop.
-fn c_nop() -> Slot
-    ensures { result ≡ c_nop }
-{
-    Slot::Short(Form16::CAddi {
-        rd: register(0),
-        imm: 0,
-    })
-}
-
-/// Bundles that are full, and a last one that isn't. Contracts see the slots of all.
+/// Bundles, of which the last may have room. Contracts see the slots of all.
 #[derive(Drop)]
 pub(crate) struct Filling {
-    full: Vec<Bundle>,
-    last: Vec<Slot>,
+    bundles: Vec<Bundle>,
     /// How many bytes all slots take.
     end: usize,
 }
 
 impl Model for Filling {
-    ghost use Rattle.std.specs.Prelude.{List, ◌++◌};
+    ghost use Rattle.std.specs.Prelude.{List};
     ghost use Rattle.sfi_rewrite.specs.declared.slot.Slot.{Slot};
     ghost use Rattle.sfi_rewrite.specs.Slots.{slots_of};
-    ghost use Rattle.sfi_rewrite.specs.Filling.{IsFilled};
+    ghost use Rattle.sfi_rewrite.specs.private.Filling.{IsFilled};
 
     ghost Value = { List Slot };
 
-    ghost view = { λ f. slots_of f.full.items ++ f.last.items };
+    ghost view = { λ f. slots_of f.bundles.items };
 
-    ghost invariant = { λ f. IsFilled f.full.items f.last.items f.end };
+    ghost invariant = { λ f. IsFilled f.bundles.items f.end };
 }
 
 impl Filling {
@@ -67,8 +38,7 @@ impl Filling {
         ensures { result ≡ [] }
     {
         Filling {
-            full: Vec::new(alloc),
-            last: Vec::new(alloc),
+            bundles: Vec::new(alloc),
             end: 0,
         }
     }
@@ -80,54 +50,42 @@ impl Filling {
         self.end
     }
 
-    /// Adds slots of so many bytes, which fit into the last bundle.
-    pub(crate) fn push(
-        &mut self,
-        alloc: Global,
-        slots: &[Slot],
-        size: usize,
-    ) -> Result<(), AllocError>
+    /// Adds slots of so many bytes: to the last bundle if it has room, and else as the first of another.
+    pub(crate) fn push(&mut self, slots: &[Slot], size: usize) -> Result<(), AllocError>
         requires size { size ≡ size_of slots.now }
+        requires some { 0 < size }
         requires fits { size_of self.old % bundle_size + size ≤ bundle_size }
         requires room { size_of self.old + size ≤ largest }
         ensures { IfOk result (λ _. self.new ≡ self.old ++ slots.now) }
     {
-        let used = self.end % BUNDLE_BYTES;
-        if used + size < BUNDLE_BYTES {
-            self.last.extend_from_slice(slots)?;
+        if self.end % BUNDLE_BYTES == 0 {
+            self.bundles.push(Bundle::new(slots))?;
             self.end += size;
             return Ok(());
         }
-        let next = Vec::with_capacity(alloc, SLOTS_MOST)?;
-        let mut bundle = mem::replace(&mut self.last, next);
-        self.end -= used;
-        bundle.extend_from_slice(slots)?;
-        self.full.push(Bundle::new(bundle))?;
-        self.end += BUNDLE_BYTES;
+        let last = self.bundles.len() - 1;
+        self.bundles[last].push(slots);
+        self.end += size;
         Ok(())
     }
 
     /// Adds so many c.nops.
-    pub(crate) fn push_nops(&mut self, alloc: Global, nops: usize) -> Result<(), AllocError>
+    pub(crate) fn push_nops(&mut self, nops: usize) -> Result<(), AllocError>
         requires { size_of self.old + 2 * nops ≤ largest }
         ensures { IfOk result (λ _. self.new ≡ self.old ++ replicate nops c_nop) }
     {
         for _ in 0..nops {
-            self.push(alloc, &[c_nop()], 2)?;
+            self.push(&[Slot::default()], 2)?;
         }
         Ok(())
     }
 
-    /// The bundles: the last one too, unless nothing stands in it.
-    pub(crate) fn finish(self) -> Result<Vec<Bundle>, AllocError>
-        ensures code { IfOk result (λ v. slots_of v.items ≡ self) }
-        ensures bundles { IfOk result (λ v. AreBundles v.items) }
+    /// The bundles.
+    pub(crate) fn finish(self) -> Vec<Bundle>
+        ensures code { slots_of result.items ≡ self }
+        ensures bundles { AreBundles result.items }
     {
-        let Filling { mut full, last, .. } = self;
-        if last.is_empty() {
-            return Ok(full);
-        }
-        full.push(Bundle::new(last))?;
-        Ok(full)
+        let Filling { bundles, .. } = self;
+        bundles
     }
 }

@@ -8,9 +8,10 @@ ghost use Rattle.sfi_rewrite.specs.Faults.{IsPermitted, AreFaultless, HasFault, 
 
 use crate::expansion::expand;
 use crate::fault::RewriteFault;
-use crate::filling::{Filling, size_of};
+use crate::filling::Filling;
 use crate::item::{is_call, permit};
 use crate::place::{next_bundle, nops_before};
+use crate::slot::size_of;
 use rv_source::Item;
 use sfi_image::Format;
 use std::alloc::Global;
@@ -25,9 +26,8 @@ pub(crate) struct Laid {
 
 /// Adds an item, after its c.nops, to the code of the sandbox of that number.
 fn lay_item(
-    alloc: Global,
     format: Format,
-    sandbox: u32,
+    sandbox: usize,
     item: &Item,
     code: &mut Filling,
 ) -> Result<(), RewriteFault>
@@ -35,7 +35,8 @@ fn lay_item(
     requires body { (count : ℕ) × IsBody count item.now.body }
     requires room { size_of code.old ≤ code_most format }
     ensures laid { IfOk result (λ _. HasNext format code.old item.now code.new) }
-    ensures refused { IfErr result (UnlessMemory (HasFault format sandbox (size_of code.old) item.now)) }
+    ensures refused { IfErr result
+        (UnlessMemory (HasFault format sandbox (size_of code.old) item.now)) }
 {
     let expansion = expand(format, item);
     let slots = expansion.slots();
@@ -45,8 +46,8 @@ fn lay_item(
     if end + 2 * nops >= format.code_most() as usize {
         return Err(RewriteFault::TooLarge { sandbox });
     }
-    code.push_nops(alloc, nops)?;
-    code.push(alloc, slots, size)?;
+    code.push_nops(nops)?;
+    code.push(slots, size)?;
     Ok(())
 }
 
@@ -54,7 +55,7 @@ fn lay_item(
 pub(crate) fn lay_items(
     alloc: Global,
     format: Format,
-    sandbox: u32,
+    sandbox: usize,
     items: &[Item],
 ) -> Result<Laid, RewriteFault>
     requires { HaveBodies items.now }
@@ -67,7 +68,7 @@ pub(crate) fn lay_items(
     for item in items {
         labels.push(next_bundle(code.end()))?;
         permit(format, item)?;
-        lay_item(alloc, format, sandbox, item, &mut code)?;
+        lay_item(format, sandbox, item, &mut code)?;
     }
     labels.push(next_bundle(code.end()))?;
     Ok(Laid { code, labels })

@@ -17,7 +17,6 @@ mod laying;
 mod names;
 mod place;
 mod placed;
-mod register;
 mod rewriting;
 mod slot;
 

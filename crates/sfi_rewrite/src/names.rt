@@ -30,7 +30,8 @@ pub(crate) fn place_names(
 ) -> Result<Vec<PlacedName>, AllocError>
     requires sandbox { IsSandbox part.now }
     requires labels { AreLabels part.now.format part.now.items labels.now }
-    ensures { IfOk result (λ v. AllZip (IsPlacedName part.now.format part.now.items) (named part.now) v.items) }
+    ensures { IfOk result
+        (λ v. AllZip (IsPlacedName part.now.format part.now.items) (named part.now) v.items) }
 {
     let mut names = Vec::new(alloc);
     for place in 0..part.name_count() {

@@ -4,15 +4,14 @@ ghost use Rattle.sfi_policy.specs.Limits.{bundle_size};
 ghost use Rattle.sfi_rewrite.specs.private.Filling.{largest};
 ghost use Rattle.sfi_rewrite.specs.Places.{next_bundle, FillsGap};
 
-/// How many bytes a bundle has.
-const BUNDLE: usize = sfi_policy::BUNDLE_BYTES;
+use sfi_policy::BUNDLE_BYTES;
 
 /// The first bundle start not before a place of the code.
 pub(crate) fn next_bundle(end: usize) -> u32
     requires { end ≤ largest }
     ensures { result ≡ next_bundle end }
 {
-    (end.div_ceil(BUNDLE) * BUNDLE) as u32
+    (end.div_ceil(BUNDLE_BYTES) * BUNDLE_BYTES) as u32
 }
 
 /// How many c.nops stand between the end of what stands before an expansion of so many bytes and its place, which is the first
@@ -26,15 +25,23 @@ pub(crate) fn nops_before(end: usize, labelled: bool, call: bool, size: usize) -
     ensures gap { FillsGap end labelled call size result }
     ensures few { result < bundle_size }
 {
-    let used = end % BUNDLE;
-    let first = if labelled && used > 0 { BUNDLE } else { used };
-    let last = BUNDLE - size;
+    let used = end % BUNDLE_BYTES;
+    let first = if labelled && used > 0 {
+        BUNDLE_BYTES
+    } else {
+        used
+    };
+    let last = BUNDLE_BYTES - size;
     let at = if call {
-        if first <= last { last } else { last + BUNDLE }
+        if first <= last {
+            last
+        } else {
+            last + BUNDLE_BYTES
+        }
     } else if first <= last {
         first
     } else {
-        BUNDLE
+        BUNDLE_BYTES
     };
     (at - used) / 2
 }

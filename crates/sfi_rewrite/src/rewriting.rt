@@ -23,7 +23,7 @@ use rv_source::{Source, SourcePart};
 use std::alloc::{AllocError, Global};
 
 /// Fills the code up to the bundle start of a label at its end.
-fn fill_end(alloc: Global, labelled: bool, code: &mut Filling) -> Result<(), AllocError>
+fn fill_end(labelled: bool, code: &mut Filling) -> Result<(), AllocError>
     requires { size_of code.old ≤ largest }
     ensures { IfOk result (λ _. HasEnd code.old (IsTrue labelled) code.new) }
 {
@@ -31,16 +31,17 @@ fn fill_end(alloc: Global, labelled: bool, code: &mut Filling) -> Result<(), All
         return Ok(());
     }
     let nops = nops_at_end(code.end());
-    code.push_nops(alloc, nops)?;
+    code.push_nops(nops)?;
     Ok(())
 }
 
 /// Places the sandbox of that number.
-fn place_part(alloc: Global, sandbox: u32, part: &SourcePart) -> Result<PlacedPart, RewriteFault>
+fn place_part(alloc: Global, sandbox: usize, part: &SourcePart) -> Result<PlacedPart, RewriteFault>
     requires { IsSandbox part.now }
     ensures rewritten { IfOk result (IsRewritten part.now) }
     ensures right { IfOk result IsPlacedPart }
-    ensures refused { IfErr result (UnlessMemory (IsItemFault part.now.format sandbox part.now.items)) }
+    ensures refused { IfErr result
+        (UnlessMemory (IsItemFault part.now.format sandbox part.now.items)) }
 {
     // The law that one placement rests on: this call does nothing.
     one_first_form();
@@ -48,12 +49,12 @@ fn place_part(alloc: Global, sandbox: u32, part: &SourcePart) -> Result<PlacedPa
     let laid = lay_items(alloc, part.format(), sandbox, part.items())?;
     let names = place_names(alloc, part, &laid.labels)?;
     let mut code = laid.code;
-    fill_end(alloc, has_end_label(part), &mut code)?;
+    fill_end(has_end_label(part), &mut code)?;
     let mut gates = Vec::new(alloc);
     gates.extend_from_slice(part.gates())?;
     let mut bytes = Vec::new(alloc);
     bytes.extend_from_slice(part.bytes())?;
-    let bundles = code.finish()?;
+    let bundles = code.finish();
     Ok(PlacedPart::new(
         part.format(),
         part.data_size(),
@@ -73,11 +74,7 @@ fn place_parts(alloc: Global, parts: &[SourcePart]) -> Result<Vec<PlacedPart>, R
 {
     let mut placed = Vec::new(alloc);
     for (number, part) in parts.iter().enumerate() {
-        // No memory holds as many sandboxes as that.
-        let Ok(sandbox) = u32::try_from(number) else {
-            return Err(RewriteFault::Memory);
-        };
-        placed.push(place_part(alloc, sandbox, part)?)?;
+        placed.push(place_part(alloc, number, part)?)?;
     }
     Ok(placed)
 }
@@ -88,8 +85,10 @@ pub fn rewrite(alloc: Global, source: &Source) -> Result<Placed, RewriteFault>
     ensures placed { IfOk result (AreRewritten source.now) }
     ensures transparent { IfOk result (AllZip StandTransparent source.now) }
     ensures fault { IfErr result (UnlessMemory (IsSourceFault source.now)) }
-    ensures only_placed { (placed : List Placement) → AreRewritten source.now placed → AnswersPlaced placed result }
-    ensures only_fault { (fault : RewriteFault) → IsSourceFault source.now fault → AnswersFault fault result }
+    ensures only_placed { (placed : List Placement)
+        → AreRewritten source.now placed → AnswersPlaced placed result }
+    ensures only_fault { (fault : RewriteFault)
+        → IsSourceFault source.now fault → AnswersFault fault result }
 {
     // The laws that the clauses rest on: these calls do nothing.
     rewritten_is_transparent();

@@ -1,9 +1,11 @@
 //! What stands in a bundle.
-ghost use Rattle.std.specs.Prelude.{◌≡◌};
-ghost use Rattle.sfi_rewrite.specs.Slots.{slot_size};
+ghost use Rattle.std.specs.Prelude.{◌≡◌, ◌≤◌, length};
+ghost use Rattle.sfi_policy.specs.Limits.{bundle_size};
+ghost use Rattle.sfi_rewrite.specs.Slots.{slot_size, size_of, c_nop};
 
 use rv_comp::Form16;
 use rv_word::{Instr, Reg};
+use sfi_policy::register;
 
 /// What stands in a bundle: an instruction that is known whole, or one that waits for the address of a name. A name is given
 /// by its place among the names of its sandbox, and a line is that of the source, from 1.
@@ -43,4 +45,28 @@ impl Slot {
             Slot::Wide(_) | Slot::Jump { .. } | Slot::Upper { .. } | Slot::Lower { .. } => 4,
         }
     }
+}
+
+/// c.nop, with which code is filled up.
+impl Default for Slot {
+    fn default() -> Slot
+        ensures { result ≡ c_nop }
+    {
+        Slot::Short(Form16::CAddi {
+            rd: register(0),
+            imm: 0,
+        })
+    }
+}
+
+/// How many bytes slots take.
+pub(crate) fn size_of(slots: &[Slot]) -> usize
+    requires { length slots.now ≤ bundle_size }
+    ensures { result ≡ size_of slots.now }
+{
+    let mut size = 0;
+    for slot in slots {
+        size += slot.size();
+    }
+    size
 }

@@ -1,6 +1,7 @@
--- Words of private contracts and proofs, beside those of Filling.antt.
+-- Words of private contracts: bundles while they are filled, and what is known of items and labels while they are laid.
 use Rattle.std.specs.Prelude.{◌≡◌, ◌+◌, ◌<◌, ◌≤◌, ◌++◌, ℕ, List, length, replicate, slice_index}
 use Rattle.std.specs.List.{All}
+use Rattle.sfi_policy.specs.Limits.{bundle_size}
 use Rattle.sfi_image.specs.declared.format.Format.{Format}
 use Rattle.sfi_image.specs.declared.format.Format.TheVariants.{Sfi2}
 use Rattle.sfi_image.specs.Formats.{code_most}
@@ -9,15 +10,24 @@ use Rattle.rv_source.specs.declared.item.Named.{Named}
 use Rattle.rv_source.specs.declared.item.Named.TheVariants.{Gate, Code, Data, Unknown}
 use Rattle.rv_source.specs.Source.{IsBody}
 use Rattle.sfi_rewrite.specs.declared.slot.Slot.{Slot}
-use Rattle.sfi_rewrite.specs.Slots.{size_of, c_nop}
+use Rattle.sfi_rewrite.specs.Slots.{size_of, slots_of, c_nop}
 use Rattle.sfi_rewrite.specs.declared.placed.PlacedName.{PlacedName}
 use Rattle.sfi_rewrite.specs.declared.placed.PlacedName.TheVariants as placed
 use Rattle.sfi_rewrite.specs.Places.{IsNext, IsLabelAt}
-use Rattle.sfi_rewrite.specs.Placement.{FillsEnd}
+use Rattle.sfi_rewrite.specs.Placement.{FillsEnd, AreBundles}
 
 -- the most bytes of a sandbox's code in any format, its gates' stubs not counted
 abbrev pub largest : ℕ
 largest = code_most Sfi2
+
+-- a bundle's bytes of slots
+abbrev pub IsFull : List Slot → Type 0
+IsFull bundle = size_of bundle ≡ bundle_size
+
+-- what the bundles keep; `end` is the bytes of all
+pub record IsFilled (bundles : List (List Slot)) (end : ℕ) : Type 0 where
+  pub are_bundles : AreBundles bundles
+  pub end_is : end ≡ size_of (slots_of bundles)
 
 -- the slots with the item's c.nops and expansion after them, within the most that a sandbox may have
 pub record HasNext (f : Format) (old : List Slot) (x : Item) (new : List Slot) : Type 0 where

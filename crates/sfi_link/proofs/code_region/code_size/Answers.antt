@@ -5,8 +5,8 @@ use Rattle.sfi_link.proofs.code_region.code_size.Goals as goal
 pub returns-then-needed-code_most-clause-none : goal.returns-then-needed-code_most-clause-none
 returns-then-needed-code_most-clause-none c = λ size h. no_room c.args.format c.args.needed size (omega (arith, c.code_most.ensures)) h
 
-pub returns-then-needed-le-REGION_LEAST-clause-least : goal.returns-then-needed-le-REGION_LEAST-clause-least
-returns-then-needed-le-REGION_LEAST-clause-least c = small_size c.args.format c.args.needed c.if-needed-le-REGION_LEAST.true
+pub returns-then-needed-le-REGION_LEAST_BYTES-clause-least : goal.returns-then-needed-le-REGION_LEAST_BYTES-clause-least
+returns-then-needed-le-REGION_LEAST_BYTES-clause-least c = small_size c.args.format c.args.needed c.if-needed-le-REGION_LEAST_BYTES.true
 
 pub returns-clause-least : goal.returns-clause-least
 returns-clause-least c =

@@ -26,6 +26,11 @@ returns-then-end-nops-clause-refused c = (
   refl,
 )
 
+pub push-requires-clause-some : goal.push-requires-clause-some
+push-requires-clause-some c =
+    is_some c.size_of-size.result c.slots-slots.result.now c.size_of-size.ensures
+    (item_one c.args.format c.args.item.now c.expand-expansion.result c.slots-slots.result.now c.expand-expansion.ensures c.slots-slots.ensures.slots)
+
 pub push-requires-clause-fits : goal.push-requires-clause-fits
 push-requires-clause-fits c =
     fits_bundle c.args.code.now c.push_nops.new.self c.args.item.now.labelled c.is_call.result c.end-end.result c.size_of-size.result c.nops_before-nops.result

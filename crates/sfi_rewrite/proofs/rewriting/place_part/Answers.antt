@@ -17,13 +17,13 @@ made c =
       faultless = subst (λ f. AreFaultless f c.args.part.now.items c.in_ok-laid.laid.code) c.format.ensures (subst (λ v. AreFaultless c.format.result v c.in_ok-laid.laid.code) c.items.ensures c.in_ok-laid.ensures.faultless);
       all = c.fill_end.new.code;
       end = end_of c.args.part.now c.has_end_label.result c.in_ok-laid.laid.code c.fill_end.new.code c.has_end_label.ensures c.in_ok-fill_end.ensures;
-      code = ap slots_of c.new.ensures.bundles ∙ c.in_ok-bundles.ensures.code;
+      code = ap slots_of c.new.ensures.bundles ∙ c.finish-bundles.ensures.code;
       format = c.new.ensures.format ∙ c.format-2.ensures;
       data_size = c.new.ensures.data_size ∙ c.data_size.ensures;
       gates = c.new.ensures.gates ∙ copied c.new-gates.result.items c.extend_from_slice.new.self.items c.gates.result.now c.args.part.now.gates c.in_ok-extend_from_slice.ensures.items c.new-gates.ensures.items c.gates.ensures;
       bytes = c.new.ensures.bytes ∙ copied c.new-bytes.result.items c.extend_from_slice-2.new.self.items c.bytes.result.now c.args.part.now.bytes c.in_ok-extend_from_slice-2.ensures.items c.new-bytes.ensures.items c.bytes.ensures;
       names = subst (λ v. AllZip (IsPlacedName c.args.part.now.format c.args.part.now.items) (named c.args.part.now) v) (sym c.new.ensures.names) c.in_ok-names.ensures;
-      bundles = subst AreBundles (sym c.new.ensures.bundles) c.in_ok-bundles.ensures.bundles;
+      bundles = subst AreBundles (sym c.new.ensures.bundles) c.finish-bundles.ensures.bundles;
     })
 
 pub returns-clause-rewritten : goal.returns-clause-rewritten

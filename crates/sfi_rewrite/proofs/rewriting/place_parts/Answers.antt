@@ -1,3 +1,4 @@
+use Rattle.std.proofs.Common.{refl}
 use Rattle.std.proofs.lemmas.List.Elements.{All-push}
 use Rattle.std.proofs.lemmas.Result.{err_from_is_err_and}
 use Rattle.sfi_rewrite.specs.Placed.{IsPlacedPart}
@@ -8,8 +9,8 @@ pub returns-in_err-place_part-clause-refused : goal.returns-in_err-place_part-cl
 returns-in_err-place_part-clause-refused c =
     let p = err_from_is_err_and c.from_residual.result c.from_residual.ensures.1 in
     rw (p.1, p.2)
-    (source_fault c.args.parts.now c.loop-number.number c.in-Ok.sandbox c.index-parts-number.result c.loop-number.placed.items c.in_err-place_part.field-0.0
-    c.loop-number-test.true c.index-parts-number.is c.loop-number.invariant.rewritten c.in-Ok.ensures.1 c.in_err-place_part.ensures.refused)
+    (source_fault c.args.parts.now c.loop-number.number c.loop-number.number c.index-parts-number.result c.loop-number.placed.items c.in_err-place_part.field-0.0
+    c.loop-number-test.true c.index-parts-number.is c.loop-number.invariant.rewritten refl c.in_err-place_part.ensures.refused)
 
 pub loop-number-preserved : goal.loop-number-preserved
 loop-number-preserved c = record {

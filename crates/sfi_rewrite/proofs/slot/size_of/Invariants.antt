@@ -1,6 +1,6 @@
 use Rattle.std.proofs.Common.{◌≡◌, take}
 use Rattle.sfi_rewrite.specs.Slots.{size_of}
-use Rattle.sfi_link.proofs.code_region.size_of.Given as goal
+use Rattle.sfi_rewrite.proofs.slot.size_of.Given as goal
 
 abbrev pub invariant-loop-slot : goal.invariant-loop-slot
 invariant-loop-slot l = l.size ≡ size_of (take l.slot-index l.slots)

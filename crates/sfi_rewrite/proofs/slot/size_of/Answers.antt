@@ -1,7 +1,7 @@
 use Rattle.std.proofs.Common.{◌∙◌, ap}
 use Rattle.sfi_rewrite.specs.Slots.{slot_size}
 use Rattle.sfi_rewrite.proofs.Sizes.{size_step, size_fits}
-use Rattle.sfi_rewrite.proofs.filling.size_of.Goals as goal
+use Rattle.sfi_rewrite.proofs.slot.size_of.Goals as goal
 
 pub overflow_add-size : goal.overflow_add-size
 overflow_add-size c =

@@ -1,0 +1,47 @@
+//! The masked pairs, as the expansions write them.
+ghost use Rattle.std.specs.Prelude.{◌≡◌};
+ghost use Rattle.sfi_policy.specs.Pairs.{pair, data_pair, code_pair};
+
+use crate::registers::{
+    CODE_BASE_REGISTER, CODE_MASK_REGISTER, DATA_BASE_REGISTER, DATA_MASK_REGISTER, register,
+};
+use rv_word::{Instr, Reg, RegOp};
+
+/// `and target, a, mask`, `or target, target, base`.
+#[inline]
+fn pair(mask: Reg, base: Reg, target: Reg, a: Reg) -> [Instr; 2]
+    ensures { result ≡ pair mask base target a }
+{
+    [
+        Instr::Op {
+            op: RegOp::And,
+            rd: target,
+            rs1: a,
+            rs2: mask,
+        },
+        Instr::Op {
+            op: RegOp::Or,
+            rd: target,
+            rs1: target,
+            rs2: base,
+        },
+    ]
+}
+
+/// The pair after which the target is an address of the data region, with the offset of `a`.
+#[inline]
+pub fn data_pair(target: Reg, a: Reg) -> [Instr; 2]
+    ensures { result ≡ data_pair target a }
+{
+    let mask = register(DATA_MASK_REGISTER);
+    pair(mask, register(DATA_BASE_REGISTER), target, a)
+}
+
+/// The pair after which the target is a bundle start of the code region, with the offset of `a`'s bundle.
+#[inline]
+pub fn code_pair(target: Reg, a: Reg) -> [Instr; 2]
+    ensures { result ≡ code_pair target a }
+{
+    let mask = register(CODE_MASK_REGISTER);
+    pair(mask, register(CODE_BASE_REGISTER), target, a)
+}
