@@ -3,9 +3,9 @@ use Rattle.std.proofs.Common.{◌≡◌, ◌≢◌, ℕ, ◌+◌, ◌*◌, ◌<�
 use Rattle.std.proofs.lemmas.Bool.{eqb-false}
 use Rattle.std.proofs.lemmas.List.{drop-drop}
 use Rattle.rv_comp.specs.Fronts.{Spells}
+use Rattle.sfi_policy.specs.Formats.{code_most}
 use Rattle.rv_mem.specs.Bytes.{address_after}
 use Rattle.rv_step.specs.State.{Hart}
-use Rattle.sfi_image.specs.Formats.{code_most}
 use Rattle.sfi_image.specs.Spelling.{Part}
 use Rattle.sfi_scan.specs.declared.rule.Rule.TheVariants.{V3, V4, V5, V6, V7, V8, V9, V10}
 use Rattle.sfi_scan.specs.declared.finding.Finding.{Finding}

@@ -5,10 +5,10 @@ use Rattle.std.specs.List.{range_with_len}
 use Rattle.std.proofs.lemmas.Bool.{cases_lt}
 use Rattle.rv_word.specs.declared.instr.Instr.{Instr}
 use Rattle.rv_comp.specs.Fronts.{Spells}
+use Rattle.sfi_policy.specs.Formats.{code_most}
 use Rattle.rv_mem.specs.Bytes.{Bytes, byte_at, bytes_at, address_after, addresses}
 use Rattle.rv_step.specs.State.{Hart}
 use Rattle.rv_step.specs.Step.{Stands}
-use Rattle.sfi_image.specs.Formats.{code_most}
 use Rattle.sfi_image.specs.Spelling.{Part}
 use Rattle.sfi_image.specs.Spans.{code_region}
 use Rattle.sfi_image.specs.Regions.{IsBundleStart}

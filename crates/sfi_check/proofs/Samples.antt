@@ -7,15 +7,15 @@ use Rattle.rv_word.specs.declared.instr.Instr.{Instr}
 use Rattle.rv_word.specs.declared.instr.Instr.TheVariants.{Ecall, Ebreak}
 use Rattle.rv_comp.specs.Fronts.{Spells}
 use Rattle.rv_comp.specs.declared.front.Front.TheVariants.{Read}
+use Rattle.sfi_policy.specs.declared.format.Format.{Format}
+use Rattle.sfi_policy.specs.declared.format.Format.TheVariants.{Sfi1, Sfi2}
+use Rattle.sfi_policy.specs.Formats.{code_most}
 use Rattle.rv_mem.specs.Bytes.{Bytes, byte_at, bytes_at, addresses, address_after}
 use Rattle.rv_step.specs.Access.{Accesses}
 use Rattle.rv_step.specs.State.{Hart, IsHart, State}
 use Rattle.rv_step.specs.Step.{Stepped, Stands, NothingStands, IsStep, effect, next, unchanged}
 use Rattle.rv_step.specs.declared.outcome.Outcome.TheVariants.{Call}
-use Rattle.sfi_image.specs.declared.format.Format.{Format}
-use Rattle.sfi_image.specs.declared.format.Format.TheVariants.{Sfi1, Sfi2}
 use Rattle.sfi_image.specs.declared.span.Span.{Span}
-use Rattle.sfi_image.specs.Formats.{code_most}
 use Rattle.sfi_policy.specs.Limits.{gates_most}
 use Rattle.sfi_image.specs.Gates.{AreGates}
 use Rattle.sfi_image.specs.Spelling.{Part, AreGateWords}

@@ -1,8 +1,8 @@
 -- The addresses of a sandbox, and what of them a machine holds.
 use Rattle.std.specs.Prelude.{◌≡◌, ◌+◌, ◌<◌, ◌⊎◌, ℕ, List, length, slice_get, slice_index, true, Some, None}
 use Rattle.sfi_policy.specs.Registers.{code_base_register, code_mask_register, data_base_register, data_mask_register, stack_pointer}
+use Rattle.sfi_policy.specs.Formats.{has_stack}
 use Rattle.sfi_image.specs.declared.part.Gate.{Gate}
-use Rattle.sfi_image.specs.Formats.{has_stack}
 use Rattle.sfi_image.specs.Spelling.{Part}
 use Rattle.sfi_image.specs.Registers.{reserved_of}
 use Rattle.sfi_image.specs.Spans.{Holds, code_region, data_region, lower_guard, upper_guard}

@@ -2,13 +2,13 @@
 use Rattle.std.specs.Prelude.{◌≡◌, ℕ, ◌+◌, ◌-◌, ◌%◌, ◌<◌, ◌≤◌, ◌==◌, List, [], ◌∷◌, ◌++◌, length, cond, None}
 use Rattle.std.specs.List.{All, flat_map}
 use Rattle.sfi_policy.specs.Limits.{bundle_size, sandboxes_most}
-use Rattle.sfi_image.specs.declared.format.Format.{Format}
+use Rattle.sfi_policy.specs.declared.format.Format.{Format}
+use Rattle.sfi_policy.specs.Formats.{magic}
 use Rattle.sfi_image.specs.declared.part.Gate.{Gate}
 use Rattle.sfi_image.specs.declared.fields.Fields.{Fields}
 use Rattle.sfi_image.specs.declared.fault.LayoutFault.{LayoutFault}
 use Rattle.sfi_image.specs.declared.want.Want.{Want}
 use Rattle.sfi_image.specs.declared.want.Want.TheVariants as wants
-use Rattle.sfi_image.specs.Formats.{magic}
 use Rattle.sfi_image.specs.Spelling.{Part, format_of, number, fields, gate, part, AreFieldWords, AreGateWords}
 use Rattle.sfi_image.specs.Spans.{code_span, spans}
 use Rattle.sfi_image.specs.Gates.{AreGates, is_gate_of}

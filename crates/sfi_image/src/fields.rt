@@ -7,9 +7,8 @@ ghost use Rattle.sfi_image.specs.Regions.{IsRegion, IsBundleStart, HasGuardRoom}
 ghost use Rattle.sfi_image.specs.Tests.{IsFirstFault, field_tests};
 
 use crate::fault::LayoutFault;
-use crate::format::Format;
 use crate::span::{Span, are_all_apart};
-use sfi_policy::{BUNDLE_SIZE, DATA_MOST, GATES_MOST, REGION_LEAST};
+use sfi_policy::{BUNDLE_SIZE, DATA_MOST, Format, GATES_MOST, REGION_LEAST};
 use std::alloc::AllocError;
 
 /// The seven numbers at the head of a sandbox, and its image's format.

@@ -13,10 +13,10 @@ ghost use Rattle.sfi_image.specs.Outcome.{IfLayout};
 
 use crate::fault::{ImageFault, LayoutFault};
 use crate::fields::{Fields, add_spans, field_fault};
-use crate::format::Format;
 use crate::gates::is_next_gate;
 use crate::part::{Gate, SandboxPart};
 use crate::span::Span;
+use sfi_policy::Format;
 use std::alloc::Global;
 
 const SANDBOXES_MOST: usize = sfi_policy::SANDBOXES_MOST as usize;

@@ -9,12 +9,11 @@ ghost use Rattle.sfi_image.specs.private.Keeping.{MayTake, Takes, is_first, next
 
 use crate::fault::LayoutFault;
 use crate::fields::{Fields, code_span, field_fault, guarded_span};
-use crate::format::Format;
 use crate::gates::is_next_address;
 use crate::kept::{KeptGates, KeptSpans};
 use crate::reading::{fields_at, format_at, gate_at, number_at};
 use crate::want::{Next, Want};
-use sfi_policy::{BUNDLE_SIZE, SANDBOXES_MOST};
+use sfi_policy::{BUNDLE_SIZE, Format, SANDBOXES_MOST};
 use std::marker::Model;
 
 /// Reads an image's bytes in order, as they come, and keeps of them only what its tests need.

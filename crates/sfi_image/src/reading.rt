@@ -1,9 +1,9 @@
 //! Reading an image from left to right.
 ghost use Rattle.std.specs.Prelude.{◌≡◌, ℕ, ◌+◌, ◌<◌, ◌≤◌, ◌++◌, ◌∷◌, [], ◌≢◌, ◌↔◌, ◌⊎◌, List, length, IsTrue, IfOk, IfErr, IfSome, IfNone};
 ghost use Rattle.std.specs.List.{All, AllPairs, flat_map};
+ghost use Rattle.sfi_policy.specs.Formats.{magic};
 ghost use Rattle.sfi_image.specs.declared.fault.LayoutFault.{LayoutFault};
 ghost use Rattle.sfi_image.specs.Spelling.{Part, view, views, number, fields, fields_of, gate, part, IsWord, AreFieldWords, AreGateWords};
-ghost use Rattle.sfi_image.specs.Formats.{magic};
 ghost use Rattle.sfi_image.specs.Spans.{AreApart, code_span, spans_of};
 ghost use Rattle.sfi_image.specs.private.Spans.{IsBounded};
 ghost use Rattle.sfi_image.specs.Gates.{AreGates};
@@ -19,11 +19,11 @@ ghost use Rattle.sfi_image.specs.private.Keeping.{MayTake};
 
 use crate::fault::{ImageFault, LayoutFault};
 use crate::fields::Fields;
-use crate::format::Format;
 use crate::image::Image;
 use crate::layout_reader::LayoutReader;
 use crate::part::{Gate, SandboxPart};
 use byteorder::{ByteOrder, LittleEndian};
+use sfi_policy::Format;
 use std::alloc::Global;
 
 const NUMBER_BYTES: usize = 4;

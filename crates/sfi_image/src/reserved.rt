@@ -1,7 +1,7 @@
 //! What the reserved registers hold.
 
 ghost use Rattle.std.specs.Prelude.{◌≡◌};
-ghost use Rattle.sfi_image.specs.declared.format.Format.{Format};
+ghost use Rattle.sfi_policy.specs.declared.format.Format.{Format};
 ghost use Rattle.sfi_image.specs.Spelling.{view};
 ghost use Rattle.sfi_image.specs.Parts.{IsRightPart};
 ghost use Rattle.sfi_image.specs.Registers.{reserved_of};

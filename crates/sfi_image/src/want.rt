@@ -1,5 +1,5 @@
 //! What comes next of an image.
-use crate::format::Format;
+use sfi_policy::Format;
 
 /// What comes next of an image.
 #[derive(Clone, Copy, Debug, PartialEq, Eq)]

@@ -2,8 +2,8 @@
 ghost use Rattle.std.specs.Prelude.{◌≡◌, ◌++◌, ◌⊎◌, ◌≤◌, ◌<◌, List, length, OnOk, IfOk, IfErr};
 ghost use Rattle.std.specs.List.{All, flat_map};
 ghost use Rattle.sfi_policy.specs.Limits.{sandboxes_most};
+ghost use Rattle.sfi_policy.specs.declared.format.Format.TheVariants.{Sfi1};
 ghost use Rattle.sfi_image.specs.declared.fault.LayoutFault.{LayoutFault};
-ghost use Rattle.sfi_image.specs.declared.format.Format.TheVariants.{Sfi1};
 ghost use Rattle.sfi_image.specs.Spelling.{view, views, number, fields, fields_of, gate, part, spelling, AreWords};
 ghost use Rattle.sfi_image.specs.Parts.{IsRightPart, IsRightLayout};
 ghost use Rattle.sfi_image.specs.Faults.{IsFault};
@@ -13,10 +13,10 @@ ghost use Rattle.sfi_image.specs.Outcome.{IfLayout};
 ghost use Rattle.sfi_image.specs.private.Outcome.{Reads};
 
 use crate::fault::ImageFault;
-use crate::format::Format;
 use crate::layout::check_layout;
 use crate::part::{Gate, SandboxPart};
 use byteorder::{ByteOrder, LittleEndian};
+use sfi_policy::Format;
 use std::alloc::{AllocError, Global};
 
 #[tactic(auto, unfolding(crate::specs::Spelling::number))]

@@ -10,10 +10,9 @@ use crate::slot::Slot;
 use rv_comp::form_of;
 use rv_source::{Body, Item};
 use rv_word::{ImmOp, Instr, Reg, RegOp};
-use sfi_image::Format;
 use sfi_policy::{
-    CODE_BASE_REGISTER, CODE_MASK_REGISTER, DATA_BASE_REGISTER, DATA_MASK_REGISTER, SCRATCH,
-    STACK_POINTER,
+    CODE_BASE_REGISTER, CODE_MASK_REGISTER, DATA_BASE_REGISTER, DATA_MASK_REGISTER, Format,
+    SCRATCH, STACK_POINTER,
 };
 use std::marker::Model;
 

@@ -1,7 +1,7 @@
 //! The items of a sandbox, laid one after another.
 ghost use Rattle.std.specs.Prelude.{◌≡◌, ◌<◌, ◌≤◌, ◌+◌, ◌*◌, ℕ, IfOk, IfErr, length, slice_index};
+ghost use Rattle.sfi_policy.specs.Formats.{code_most};
 ghost use Rattle.rv_source.specs.Source.{IsBody};
-ghost use Rattle.sfi_image.specs.Formats.{code_most};
 ghost use Rattle.sfi_rewrite.specs.Slots.{size_of};
 ghost use Rattle.sfi_rewrite.specs.private.Filling.{HasNext, HaveBodies, AreLabels};
 ghost use Rattle.sfi_rewrite.specs.Faults.{IsPermitted, AreFaultless, HasFault, UnlessMemory, IsItemFault};
@@ -12,7 +12,7 @@ use crate::filling::{Filling, size_of};
 use crate::item::{is_call, permit};
 use crate::place::{next_bundle, nops_before};
 use rv_source::Item;
-use sfi_image::Format;
+use sfi_policy::Format;
 use std::alloc::Global;
 
 /// A sandbox's items in their places.
