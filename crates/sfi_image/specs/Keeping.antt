@@ -80,9 +80,13 @@ pub record StandsFor (r : ReaderState) (x : Front) : Type 0 where
   pub right : IsRightFront x
   pub kept : Keeps r x
 
+-- it has met a fault, after which nothing is wanted
+abbrev pub HasStopped : ReaderState → Type 0
+HasStopped r = r.next ≡ next.Nothing
+
 -- each reader stands for a front, or has met a fault
 abbrev pub IsReader : ReaderState → Type 0
-IsReader r = (r.next ≡ next.Nothing) ⊎ ((x : Front) × StandsFor r x)
+IsReader r = HasStopped r ⊎ ((x : Front) × StandsFor r x)
 
 -- ---- one step
 

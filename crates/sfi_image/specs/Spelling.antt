@@ -57,6 +57,22 @@ fields_of p = record {
 
 -- ---- bytes
 
+-- how many bytes a magic has
+abbrev pub magic_bytes : ℕ
+magic_bytes = 4
+
+-- how many bytes a number has
+abbrev pub number_bytes : ℕ
+number_bytes = 4
+
+-- how many bytes the seven fields have
+abbrev pub fields_bytes : ℕ
+fields_bytes = 28
+
+-- how many bytes a gate has
+abbrev pub gate_bytes : ℕ
+gate_bytes = 8
+
 -- a number in four bytes, the lowest first
 unfoldable pub number : ℕ → List ℕ
 number n = to_le_bytes w32 n
