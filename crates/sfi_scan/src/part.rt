@@ -10,7 +10,7 @@ use crate::bundle::BundlePlace;
 use crate::finding::Finding;
 use crate::findings::BundleFindings;
 use crate::scan::scan_bundle;
-use sfi_image::{Gate, SandboxPart};
+use sfi_image::{Gate, SandboxPart, whole_bundles};
 use sfi_policy::{BUNDLE_BYTES, BUNDLE_SIZE, Format};
 use std::alloc::{AllocError, Global};
 
@@ -45,6 +45,7 @@ pub fn scan_part_as(
     requires { IsRightPart (view format part.now) }
     ensures { IfOk result (λ found. AreFindings sandbox (view format part.now) found.items) }
 {
+    whole_bundles();
     let mut found = Vec::new(alloc);
     let mut findings = BundleFindings::new();
     let mut gates = part.gates.as_slice();
