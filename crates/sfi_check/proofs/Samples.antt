@@ -30,7 +30,7 @@ use Rattle.sfi_check.specs.Safety.{IsSafeRun}
 use Rattle.sfi_check.specs.Samples.{Sample, sandbox, bytes_of, words_of}
 use Rattle.sfi_check.specs.Needed.{HasOneFinding, HasUnsafeRun}
 use Rattle.sfi_check.proofs.Places.{read_all}
-use Rattle.sfi_check.proofs.Entering.{entered}
+use Rattle.sfi_check.proofs.Entering.{entered_at}
 
 -- ---- the samples' layout
 
@@ -183,7 +183,8 @@ enters s is n few =
     let at = 0x01000000 + 16 * n in
     let start : IsBundleStart (code_region (sandbox s)) at = record { held = (omega arith, omega (arith, size)); aligned = omega arith } in
     let reserved : HasReserved (sandbox s) (hart at 0x01800000 0).registers = record { code_base = refl; code_mask = sym (ap (λ (n : ℕ). n - 16) size); data_base = refl; data_mask = refl } in
-    entered (sandbox s) (hart at 0x01800000 0) (right_part s is) (apart s is) (bytes_small (s.first_words ++ (words_of (replicate 52 Ebreak) ++ s.last_words))) (is_hart at (omega arith) (omega arith)) start reserved (λ has. (omega arith, omega arith))
+    let end : 0x01000000 + length (sandbox s).code ≤ 2 ^ 32 = omega (arith, size) in
+    entered_at (sandbox s) end (hart at 0x01800000 0) (right_part s is) (apart s is) (bytes_small (s.first_words ++ (words_of (replicate 52 Ebreak) ++ s.last_words))) (is_hart at (omega arith) (omega arith)) start reserved (λ has. (omega arith, omega arith))
 
 -- ---- what stands there
 

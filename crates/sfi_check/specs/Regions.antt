@@ -1,5 +1,5 @@
 -- The addresses of a sandbox, and what of them a machine holds.
-use Rattle.std.specs.Prelude.{◌≡◌, ◌+◌, ◌<◌, ◌⊎◌, ℕ, List, length, slice_get, slice_index, true, Some, None}
+use Rattle.std.specs.Prelude.{◌≡◌, ◌+◌, ◌<◌, ℕ, List, length, slice_get, slice_index, true, Some, None}
 use Rattle.sfi_policy.specs.Registers.{code_base_register, code_mask_register, data_base_register, data_mask_register, stack_pointer}
 use Rattle.sfi_policy.specs.Formats.{has_stack}
 use Rattle.sfi_image.specs.declared.part.Gate.{Gate}

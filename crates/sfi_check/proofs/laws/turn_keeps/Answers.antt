@@ -10,4 +10,5 @@ returns c = turn_keeps (record {
   found = c.accessed_is_there.ensures;
   range = c.spelled_in_range.ensures;
   wide = c.ecall_is_wide.ensures;
+  bundles = c.whole_bundles.ensures;
 })
