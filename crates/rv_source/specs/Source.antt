@@ -5,8 +5,8 @@ use Rattle.rv_word.specs.declared.instr.Instr.{Instr}
 use Rattle.rv_word.specs.declared.instr.Instr.TheVariants as instr
 use Rattle.rv_word.specs.Spelling.{IsReg, InRange}
 use Rattle.sfi_policy.specs.Limits.{data_most, gates_most, items_most, name_most, region_least, service_most}
-use Rattle.sfi_image.specs.declared.format.Format.{Format}
-use Rattle.sfi_image.specs.declared.format.Format.TheVariants.{Sfi1}
+use Rattle.sfi_policy.specs.declared.format.Format.{Format}
+use Rattle.sfi_policy.specs.declared.format.Format.TheVariants.{Sfi1}
 use Rattle.rv_source.specs.declared.item.Named.{Named}
 use Rattle.rv_source.specs.declared.item.Named.TheVariants.{Gate, Code, Data, Unknown}
 use Rattle.rv_source.specs.declared.item.Body.{Body}

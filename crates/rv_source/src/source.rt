@@ -4,7 +4,7 @@ ghost use Rattle.rv_source.specs.Source.{sandbox, named, format_of, IsSource};
 
 use crate::item::{Item, Named, SourceGate};
 use crate::names::Names;
-use sfi_image::Format;
+use sfi_policy::Format;
 use std::marker::Model;
 
 /// A sandbox of a source.

@@ -2,7 +2,7 @@
 use Rattle.std.specs.Prelude.{◌≡◌, ℕ, ◌+◌, ◌<◌, ◌≤◌, ◌⊎◌, true, false, List, [], ◌∷◌, length, map, None, Some}
 use Rattle.std.specs.Option.{IsSomeAnd}
 use Rattle.sfi_policy.specs.Limits.{gates_most, items_most, name_most}
-use Rattle.sfi_image.specs.declared.format.Format.{Format}
+use Rattle.sfi_policy.specs.declared.format.Format.{Format}
 use Rattle.rv_text.specs.declared.cause.TextCause.{TextCause}
 use Rattle.rv_text.specs.declared.cause.TextCause.TheVariants as cause
 use Rattle.rv_source.specs.declared.item.Body.TheVariants.{Plain, To, High, Low}

@@ -4,8 +4,8 @@ use Rattle.sfi_policy.specs.Limits.{name_most, service_most}
 use Rattle.rv_word.specs.declared.instr.Instr.{Instr}
 use Rattle.std.specs.List.{All}
 use Rattle.rv_word.specs.Spelling.{IsReg, InRange}
-use Rattle.sfi_image.specs.declared.format.Format.{Format}
-use Rattle.sfi_image.specs.declared.format.Format.TheVariants.{Sfi1, Sfi2}
+use Rattle.sfi_policy.specs.declared.format.Format.{Format}
+use Rattle.sfi_policy.specs.declared.format.Format.TheVariants.{Sfi1, Sfi2}
 use Rattle.rv_source.specs.Source.{IsDataSize, IsStraight, IsOpen}
 use Rattle.rv_text.specs.Tokens.{IsLabel}
 use Rattle.rv_text.specs.declared.statement.Statement.{Statement}

@@ -11,7 +11,7 @@ ghost use Rattle.rv_text.specs.SoFar.{begin, here, with_names, with_label, with_
 use crate::cause::TextCause;
 use crate::statement::SandboxStatement;
 use rv_source::{Body, Item, Named, Names, SourceGate, SourcePart};
-use sfi_image::Format;
+use sfi_policy::Format;
 use std::alloc::Global;
 use std::marker::Model;
 

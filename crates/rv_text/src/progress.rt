@@ -20,7 +20,7 @@ use crate::line::{read_keyword, read_statement};
 use crate::read::{MOST_NAME, is_label};
 use crate::statement::{Place, Statement};
 use rv_source::{Source, SourcePart};
-use sfi_image::Format;
+use sfi_policy::Format;
 use std::alloc::Global;
 use std::marker::Model;
 

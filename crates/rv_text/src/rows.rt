@@ -14,7 +14,7 @@ use crate::keyword::{Directive, Pseudo};
 use crate::operands::{Operands, x0};
 use crate::statement::{SandboxStatement, Statement};
 use rv_word::{Cond, ImmOp, Instr, Reg};
-use sfi_image::Format;
+use sfi_policy::Format;
 
 /// The format of a number, 1 or 2.
 fn format_numbered(number: i64) -> Format

@@ -7,6 +7,7 @@ use Rattle.rv_step.specs.State.{State}
 use Rattle.rv_step.specs.Step.{Stands}
 use Rattle.sfi_image.specs.Spelling.{Part}
 use Rattle.sfi_image.specs.Parts.{AreRight}
+use Rattle.sfi_image.specs.Laws.{WholeBundles}
 use Rattle.sfi_scan.specs.declared.finding.Finding.{Finding}
 use Rattle.sfi_scan.specs.Findings.{AreFindings, AreFindingsFrom}
 use Rattle.sfi_check.specs.Regions.{StackInData}
@@ -19,10 +20,10 @@ use Rattle.sfi_check.proofs.Places.{nothing_before, present}
 use Rattle.sfi_check.proofs.Stacking.{is_of_pair, stack_here}
 use Rattle.sfi_check.proofs.Safe.{stays_safe, first_apart, others_right}
 
-good_calls : OneInstruction → (sandbox : ℕ) (p : Part) (s : State) (n : ℕ) → IsCleanPart sandbox p → IsGood sandbox p s → Stands s Ecall n → StackInData p s.hart.registers
-good_calls law sandbox p s n clean good stands =
+good_calls : WholeBundles → OneInstruction → (sandbox : ℕ) (p : Part) (s : State) (n : ℕ) → IsCleanPart sandbox p → IsGood sandbox p s → Stands s Ecall n → StackInData p s.hart.registers
+good_calls bundles law sandbox p s n clean good stands =
     let at = good.place in
-    let e = law s Ecall at.here.instr n at.here.size stands (present sandbox p s.hart clean at s.memory good.kept.code) in
+    let e = law s Ecall at.here.instr n at.here.size stands (present sandbox p s.hart clean at bundles s.memory good.kept.code) in
     stack_here p at.earlier at.here at.later s.hart.registers (sym (ap is_of_pair e.0)) at.stack
 
 module _ (keeps : TurnKeeps) (sandbox : ℕ) (p : Part) (clean : IsCleanPart sandbox p) where
@@ -31,11 +32,11 @@ module _ (keeps : TurnKeeps) (sandbox : ℕ) (p : Part) (clean : IsCleanPart san
   run_good (turn ∷ turns) None good run = tt
   run_good (turn ∷ turns) (Some s) good run = run_good turns (after_turn turn) (keeps sandbox p s turn clean good run.0).2 run.1
 
-pub clean_calls : OneInstruction → TurnKeeps → EntryIsGood → CleanCallsWithStack
-clean_calls one keeps entries sandbox p clean = record {
+pub clean_calls : WholeBundles → OneInstruction → TurnKeeps → EntryIsGood → CleanCallsWithStack
+clean_calls bundles one keeps entries sandbox p clean = record {
   from = λ s entry. record {
     lies = λ turns at n run after stands.
-        good_calls one sandbox p at n clean
+        good_calls bundles one sandbox p at n clean
         (subst (λ (o : Option State). IsGoodIf sandbox p o) after (run_good keeps sandbox p clean turns (Some s) (entries sandbox p s clean entry) run)) stands;
   };
 }

@@ -2,8 +2,8 @@
 use Rattle.std.proofs.Common.{◌≡◌, ℕ, ◌+◌, ◌/◌, ◌<◌, ◌≤◌, List, [], ◌∷◌, ◌++◌, length, get_or, take, sym, ap, ◌∙◌, subst, arith}
 use Rattle.std.proofs.lemmas.List.{take_more, take_all, length-map, get_or-map}
 use Rattle.std.proofs.lemmas.List.Sums.{sum_by-append}
-use Rattle.sfi_image.specs.declared.format.Format.{Format}
-use Rattle.sfi_image.specs.Formats.{code_most}
+use Rattle.sfi_policy.specs.declared.format.Format.{Format}
+use Rattle.sfi_policy.specs.Formats.{code_most}
 use Rattle.sfi_image.specs.declared.part.SandboxPart.{SandboxPart}
 use Rattle.sfi_image.specs.Spelling.{Part, view, views}
 use Rattle.sfi_image.specs.Parts.{IsRightLayout}

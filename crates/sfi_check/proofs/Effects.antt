@@ -8,6 +8,7 @@ use Rattle.rv_word.specs.declared.instr.Instr.TheVariants.{Op, OpImm, Load, Stor
 use Rattle.rv_word.specs.declared.instr.LoadKind.{LoadKind}
 use Rattle.rv_word.specs.Spelling.{InRange}
 use Rattle.rv_word.specs.Writes.{destination, is_register}
+use Rattle.sfi_policy.specs.Formats.{has_stack, is_stack}
 use Rattle.rv_mem.specs.Bytes.{Bytes, bytes_at, address_after, addresses, loaded, stored}
 use Rattle.rv_step.specs.declared.outcome.Outcome.{Outcome}
 use Rattle.rv_step.specs.declared.outcome.Outcome.TheVariants.{Next, Call, Trap}
@@ -16,7 +17,6 @@ use Rattle.rv_step.specs.Access.{Accesses}
 use Rattle.rv_step.specs.State.{Hart, register, with_register, with_pc, past, even_of}
 use Rattle.rv_step.specs.Step.{effect, after_load, next, unchanged}
 use Rattle.rv_step.specs.Values.{load_size, store_size, extended, is_taken}
-use Rattle.sfi_image.specs.Formats.{has_stack, is_stack}
 use Rattle.sfi_image.specs.Spelling.{Part}
 use Rattle.sfi_image.specs.Spans.{code_region}
 use Rattle.sfi_image.specs.Regions.{IsBundleStart}

@@ -5,13 +5,15 @@ use Rattle.std.specs.Cmp.{nat_cmp_total, unsigned_tied}
 use Rattle.std.specs.Ordering.{nat_cmp}
 use Rattle.std.specs.FinMap.{empty, get-empty, insert, get-insert}
 use Rattle.rv_mem.specs.Bytes.{Bytes, IsMemory, byte_at}
-use Rattle.sfi_image.specs.Formats.{code_most}
 use Rattle.sfi_image.specs.Spelling.{Part}
 use Rattle.sfi_image.specs.Spans.{AreApart, code_region, guarded_region}
 use Rattle.sfi_image.specs.Parts.{IsRightPart}
-use Rattle.sfi_check.specs.Regions.{InGuard}
+use Rattle.sfi_image.specs.Laws.{WholeBundles}
+use Rattle.rv_step.specs.State.{Hart, IsHart}
+use Rattle.sfi_image.specs.Regions.{IsBundleStart}
+use Rattle.sfi_check.specs.Regions.{InGuard, HasReserved, StackInData}
+use Rattle.sfi_check.specs.Runs.{IsEntry}
 use Rattle.sfi_check.specs.Laws.{CanBeEntered}
-use Rattle.sfi_check.proofs.Masks.{code_at_most, region_end}
 
 -- bytes from an address on, and nothing else
 bytes_from : ℕ → List ℕ → Bytes
@@ -84,13 +86,15 @@ outside p a right apart guard = by_order guard
     by_order (inl (from, below)) = let room' = room in not_in from (omega arith)
     by_order (inr (from, below)) = not_in (omega arith) below
 
-pub entered : CanBeEntered
-entered p h right apart small hart start reserved stack = (
+-- where the code is known to end within the addresses
+pub entered_at : (p : Part) → p.code_base + length p.code ≤ 2 ^ 32 → (h : Hart) → IsRightPart p → AreApart (code_region p) (guarded_region p) → ((k : ℕ) → slice_index p.code k < 256)
+    → IsHart h → IsBundleStart (code_region p) h.pc → HasReserved p h.registers → StackInData p h.registers → (m : Bytes) × IsEntry p (record { hart = h; memory = m })
+entered_at p end h right apart small hart start reserved stack = (
   bytes_from p.code_base p.code,
   record {
     state = record {
       hart = hart;
-      memory = bytes_are p.code_base p.code (region_end p.code_base (length p.code) 256 (code_most p.format) (omega (arith, code_at_most p.format)) right.words.fields.code_base right.code_placed) small;
+      memory = bytes_are p.code_base p.code end small;
     };
     start = start;
     reserved = reserved;
@@ -99,3 +103,6 @@ entered p h right apart small hart start reserved stack = (
     guards = λ a guard. nowhere_else p.code_base p.code a (outside p a right apart guard);
   },
 )
+
+pub entered : WholeBundles → CanBeEntered
+entered law p h right = entered_at p (law p.format p.code_base (length p.code) right.words.fields.code_base right.code_placed).4 h right

@@ -2,7 +2,7 @@
 use Rattle.std.proofs.Common.{◌≡◌, ℕ, ◌+◌, ◌<◌, ◌≤◌, List, [], ◌∷◌, ◌++◌, length, get_or, take, refl, sym, ap, ◌∙◌, subst, arith, append_assoc, add-zero}
 use Rattle.std.specs.List.{All}
 use Rattle.std.proofs.lemmas.List.{take_more, append-nil, take_all, length-map, length-take, get_or-map}
-use Rattle.sfi_image.specs.declared.format.Format.{Format}
+use Rattle.sfi_policy.specs.declared.format.Format.{Format}
 use Rattle.sfi_image.specs.declared.part.SandboxPart.{SandboxPart}
 use Rattle.sfi_image.specs.Spelling.{Part, view, views}
 use Rattle.sfi_image.specs.Parts.{IsRightPart, IsRightLayout}

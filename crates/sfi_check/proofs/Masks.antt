@@ -4,9 +4,9 @@ use Rattle.std.specs.Int.Bits.{bit_and, bit_or}
 use Rattle.std.proofs.lemmas.Nat.{and_mask, or_shifted, or_comm, mod_below, pow_pos, pow-add, pow_below}
 use Rattle.std.proofs.lemmas.Nat.Bits.{and_high}
 use Rattle.std.proofs.lemmas.Bool.{cases_lt}
-use Rattle.sfi_image.specs.declared.format.Format.{Format}
-use Rattle.sfi_image.specs.declared.format.Format.TheVariants.{Sfi1, Sfi2}
-use Rattle.sfi_image.specs.Formats.{code_most}
+use Rattle.sfi_policy.specs.declared.format.Format.{Format}
+use Rattle.sfi_policy.specs.declared.format.Format.TheVariants.{Sfi1, Sfi2}
+use Rattle.sfi_policy.specs.Formats.{code_most}
 use Rattle.sfi_image.specs.Regions.{IsRegion}
 
 -- no code region is larger than this
@@ -63,37 +63,3 @@ masked_code base size most x region =
     let block : q * 2 ^ k ≡ (q * 2 ^ j) * 16 = ap (λ n. q * n) power ∙ omega arith in
     let value' : bit_or (bit_and x (size - 16)) base ≡ (q * 2 ^ j + y) * 16 = omega arith in
     (record { from = omega arith; below = omega arith }, omega arith)
-
--- a region ends at or below 2 ^ 32
-pub region_end : (base size least most : ℕ) → most ≤ 2 ^ 32 → base < 2 ^ 32 → IsRegion base size least most → base + size ≤ 2 ^ 32
-region_end base size least most limit address region =
-    let k = region.power in
-    let q = region.multiple in
-    let size_is : size ≡ 2 ^ k = region.size_is in
-    let at_most : size ≤ most = region.at_most in
-    let narrow : k ≤ 32 = power_at_most k 32 (omega arith) in
-    let j = 32 - k in
-    let j_is : 32 ≡ j + k = omega arith in
-    let power : 2 ^ 32 ≡ 2 ^ j * 2 ^ k = ap (λ n. 2 ^ n) j_is ∙ pow-add 2 j k in
-    let base_is : base ≡ q * 2 ^ k = region.base_is ∙ ap (λ n. q * n) region.size_is in
-    ⊎_elim
-    (λ less. let grown : (q + 1) * 2 ^ k ≤ 2 ^ j * 2 ^ k = le_times (q + 1) (2 ^ j) (2 ^ k) (omega arith) in omega arith)
-    (λ more. let grown : 2 ^ j * 2 ^ k ≤ q * 2 ^ k = le_times (2 ^ j) q (2 ^ k) more in omega arith)
-    (cases_lt q (2 ^ j))
-  where
-    le_times : (a b c : ℕ) → a ≤ b → a * c ≤ b * c
-    le_times a b c h = grind arith
-
--- the code region is whole bundles
-pub bundles_of : (base size most : ℕ) → IsRegion base size 256 most → (n : ℕ) × (m : ℕ) × (size ≡ 16 * n) × (base ≡ 16 * m)
-bundles_of base size most region =
-    let k = region.power in
-    let q = region.multiple in
-    let size_is : size ≡ 2 ^ k = region.size_is in
-    let at_least : 256 ≤ size = region.at_least in
-    let wide : 8 ≤ k = power_at_least k 8 (omega arith) in
-    let j = k - 4 in
-    let k_is : k ≡ j + 4 = omega arith in
-    let power : 2 ^ k ≡ 2 ^ j * 16 = ap (λ n. 2 ^ n) k_is ∙ pow-add 2 j 4 in
-    let base_is : base ≡ q * (16 * 2 ^ j) = region.base_is ∙ ap (λ n. q * n) (let e : size ≡ 16 * 2 ^ j = omega arith in e) in
-    (2 ^ j, q * 2 ^ j, omega arith, omega arith)

@@ -10,8 +10,8 @@ use Rattle.rv_word.specs.declared.instr.Instr.TheVariants.{Op, OpImm, Store, Jal
 use Rattle.rv_word.specs.Numbers.{minus}
 use Rattle.rv_word.specs.Spelling.{spelling, InRange}
 use Rattle.rv_comp.specs.Laws.{OneSpelling}
-use Rattle.sfi_image.specs.declared.format.Format.TheVariants.{Sfi1, Sfi2}
 use Rattle.sfi_scan.specs.declared.rule.Rule.{Rule}
+use Rattle.sfi_policy.specs.declared.format.Format.TheVariants.{Sfi1, Sfi2}
 use Rattle.sfi_scan.specs.declared.rule.Rule.TheVariants.{V3, V4, V5, V6, V7, V10}
 use Rattle.sfi_scan.specs.Bundles.{place_of, bundle_bytes}
 use Rattle.sfi_scan.specs.Readings.{Piece, rest_of}

@@ -12,10 +12,10 @@ use Rattle.rv_word.specs.Spelling.{spelling, InRange}
 use Rattle.rv_comp.specs.Laws.{OneSpelling}
 use Rattle.rv_comp.specs.Fronts.{Spells}
 use Rattle.rv_comp.specs.declared.form.Form16.TheVariants.{CAddi}
+use Rattle.sfi_policy.specs.declared.format.Format.TheVariants.{Sfi1}
 use Rattle.rv_mem.specs.Bytes.{Bytes}
 use Rattle.rv_step.specs.Step.{Stands, unchanged}
 use Rattle.rv_step.specs.declared.outcome.Outcome.TheVariants.{Call}
-use Rattle.sfi_image.specs.declared.format.Format.TheVariants.{Sfi1}
 use Rattle.sfi_image.specs.Gates.{is_gate_of}
 use Rattle.sfi_image.specs.Regions.{IsBundleStart}
 use Rattle.sfi_image.specs.Spelling.{AreGateWords}

@@ -8,9 +8,9 @@ use Rattle.rv_word.specs.declared.instr.RegOp.{RegOp}
 use Rattle.rv_word.specs.declared.instr.Instr.{Instr}
 use Rattle.rv_word.specs.declared.instr.Instr.TheVariants.{Op}
 use Rattle.rv_word.specs.Spelling.{InRange}
+use Rattle.sfi_policy.specs.Formats.{code_most}
 use Rattle.rv_step.specs.State.{Hart, register, with_register}
 use Rattle.rv_step.specs.Values.{result_of}
-use Rattle.sfi_image.specs.Formats.{code_most}
 use Rattle.sfi_image.specs.Spelling.{Part}
 use Rattle.sfi_image.specs.Spans.{code_region}
 use Rattle.sfi_image.specs.Regions.{IsBundleStart}

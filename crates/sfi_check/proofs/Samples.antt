@@ -7,15 +7,15 @@ use Rattle.rv_word.specs.declared.instr.Instr.{Instr}
 use Rattle.rv_word.specs.declared.instr.Instr.TheVariants.{Ecall, Ebreak}
 use Rattle.rv_comp.specs.Fronts.{Spells}
 use Rattle.rv_comp.specs.declared.front.Front.TheVariants.{Read}
+use Rattle.sfi_policy.specs.declared.format.Format.{Format}
+use Rattle.sfi_policy.specs.declared.format.Format.TheVariants.{Sfi1, Sfi2}
+use Rattle.sfi_policy.specs.Formats.{code_most}
 use Rattle.rv_mem.specs.Bytes.{Bytes, byte_at, bytes_at, addresses, address_after}
 use Rattle.rv_step.specs.Access.{Accesses}
 use Rattle.rv_step.specs.State.{Hart, IsHart, State}
 use Rattle.rv_step.specs.Step.{Stepped, Stands, IsStep, effect, next, unchanged}
 use Rattle.rv_step.specs.declared.outcome.Outcome.TheVariants.{Call}
-use Rattle.sfi_image.specs.declared.format.Format.{Format}
-use Rattle.sfi_image.specs.declared.format.Format.TheVariants.{Sfi1, Sfi2}
 use Rattle.sfi_image.specs.declared.span.Span.{Span}
-use Rattle.sfi_image.specs.Formats.{code_most}
 use Rattle.sfi_policy.specs.Limits.{gates_most}
 use Rattle.sfi_image.specs.Gates.{AreGates}
 use Rattle.sfi_image.specs.Spelling.{Part, AreGateWords}
@@ -30,7 +30,7 @@ use Rattle.sfi_check.specs.Safety.{IsSafeRun}
 use Rattle.sfi_check.specs.Samples.{Sample, sandbox, bytes_of, words_of}
 use Rattle.sfi_check.specs.Needed.{HasOneFinding, HasUnsafeRun}
 use Rattle.sfi_check.proofs.Places.{read_all}
-use Rattle.sfi_check.proofs.Entering.{entered}
+use Rattle.sfi_check.proofs.Entering.{entered_at}
 
 -- ---- the samples' layout
 
@@ -183,7 +183,8 @@ enters s is n few =
     let at = 0x01000000 + 16 * n in
     let start : IsBundleStart (code_region (sandbox s)) at = record { held = (omega arith, omega (arith, size)); aligned = omega arith } in
     let reserved : HasReserved (sandbox s) (hart at 0x01800000 0).registers = record { code_base = refl; code_mask = sym (ap (λ (n : ℕ). n - 16) size); data_base = refl; data_mask = refl } in
-    entered (sandbox s) (hart at 0x01800000 0) (right_part s is) (apart s is) (bytes_small (s.first_words ++ (words_of (replicate 52 Ebreak) ++ s.last_words))) (is_hart at (omega arith) (omega arith)) start reserved (λ has. (omega arith, omega arith))
+    let end : 0x01000000 + length (sandbox s).code ≤ 2 ^ 32 = omega (arith, size) in
+    entered_at (sandbox s) end (hart at 0x01800000 0) (right_part s is) (apart s is) (bytes_small (s.first_words ++ (words_of (replicate 52 Ebreak) ++ s.last_words))) (is_hart at (omega arith) (omega arith)) start reserved (λ has. (omega arith, omega arith))
 
 -- ---- what stands there
 

@@ -9,6 +9,7 @@ use Rattle.rv_word.specs.declared.instr.Instr.TheVariants.{Op, Store, Jal, Ebrea
 use Rattle.rv_word.specs.Numbers.{minus}
 use Rattle.rv_word.specs.Spelling.{spelling, InRange}
 use Rattle.rv_comp.specs.Laws.{OneSpelling}
+use Rattle.sfi_policy.specs.declared.format.Format.TheVariants.{Sfi1}
 use Rattle.rv_mem.specs.Bytes.{Bytes, byte_at, in_front, stored}
 use Rattle.rv_step.specs.declared.outcome.Outcome.TheVariants.{Trap}
 use Rattle.rv_step.specs.declared.outcome.Cause.TheVariants as cause
@@ -16,7 +17,6 @@ use Rattle.rv_step.specs.State.{past}
 use Rattle.rv_step.specs.Step.{Stepped, effect, next, unchanged}
 use Rattle.sfi_image.specs.Spelling.{Part}
 use Rattle.sfi_image.specs.Spelling as image
-use Rattle.sfi_image.specs.declared.format.Format.TheVariants.{Sfi1}
 use Rattle.sfi_scan.specs.Findings.{AreFindings}
 use Rattle.sfi_check.specs.Regions.{InGuard, HasCode}
 use Rattle.sfi_check.specs.Runs.{KeepsBytes}

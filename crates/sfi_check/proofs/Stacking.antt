@@ -5,7 +5,7 @@ use Rattle.std.proofs.lemmas.Bool.{cases_Bool, and_parts, and_from, or_cases, or
 use Rattle.rv_word.specs.declared.instr.Instr.{Instr}
 use Rattle.rv_word.specs.declared.instr.Instr.TheVariants.{Op, OpImm, Load, Store, Branch, Jal, Jalr, Lui, Auipc, Fence, Ecall, Ebreak}
 use Rattle.rv_word.specs.declared.instr.RegOp.TheVariants.{And, Or}
-use Rattle.sfi_image.specs.Formats.{has_stack}
+use Rattle.sfi_policy.specs.Formats.{has_stack}
 use Rattle.sfi_image.specs.Spelling.{Part}
 use Rattle.sfi_scan.specs.declared.bundle.BundlePlace.{BundlePlace}
 use Rattle.sfi_policy.specs.Pairs.{is_masking, is_placing}

@@ -15,6 +15,7 @@ use Rattle.sfi_image.specs.declared.part.Gate.{Gate}
 use Rattle.sfi_image.specs.Spelling.{Part}
 use Rattle.sfi_image.specs.Spans.{Holds, code_region, guarded_region}
 use Rattle.sfi_image.specs.Regions.{IsBundleStart}
+use Rattle.sfi_image.specs.Laws.{WholeBundles}
 use Rattle.sfi_image.specs.Parts.{IsRightPart}
 use Rattle.sfi_image.specs.Gates.{is_gate_of}
 use Rattle.sfi_scan.specs.Bundles.{place_of}
@@ -39,6 +40,7 @@ pub record Machine : Type 0 where
   pub range : SpelledInRange
   pub wide : EcallIsWide
   pub leaves : InstructionLeaves
+  pub bundles : WholeBundles
 
 -- ---- regions
 
@@ -73,7 +75,7 @@ none_there (Some b) some e = cc
 
 module _ (laws : Machine) (sandbox : ℕ) (p : Part) (s : State) (clean : IsCleanPart sandbox p) (good : IsGood sandbox p s) where
   pub stands_here : Stands s good.place.here.instr good.place.here.size
-  stands_here = present sandbox p s.hart clean good.place s.memory good.kept.code
+  stands_here = present sandbox p s.hart clean good.place laws.bundles s.memory good.kept.code
 
   pub only : (i : Instr) (n : ℕ) → Stands s i n → (i ≡ good.place.here.instr) × (n ≡ good.place.here.size)
   only i n stands = laws.one s i good.place.here.instr n good.place.here.size stands stands_here
@@ -83,7 +85,7 @@ module _ (laws : Machine) (sandbox : ℕ) (p : Part) (s : State) (clean : IsClea
       let at = good.place in
       let rules = rules_kept sandbox p s.hart at in
       let inside = pc_in_code sandbox p s.hart clean at in
-      let end : p.code_base + length p.code ≤ 2 ^ 32 = code_end sandbox p clean in
+      let end : p.code_base + length p.code ≤ 2 ^ 32 = code_end laws.bundles sandbox p clean in
       let below : s.hart.pc < p.code_base + length p.code = inside.1 in
       record {
         place = place_here sandbox p s.hart at;
@@ -104,8 +106,8 @@ module _ (laws : Machine) (sandbox : ℕ) (p : Part) (s : State) (clean : IsClea
             let first : p.code_base + 16 * at.number ≡ s.hart.pc = sym (at.pc ∙ ap (λ (n : ℕ). p.code_base + 16 * at.number + n) (at.first (no_earlier at.earlier e)) ∙ add-zero (p.code_base + 16 * at.number)) in
             subst (λ (a : ℕ). IsGate p a) first (gate_of p.gates (p.code_base + 16 * at.number) listed);
         is_start = bundle_start sandbox p at.number;
-        goes = λ h' pc goes leaves stack. goes_on sandbox p s.hart h' clean at pc goes leaves stack;
-        start = λ h' start stack. at_start sandbox p h' clean start stack;
+        goes = λ h' pc goes leaves stack. goes_on sandbox p s.hart h' clean at laws.bundles pc goes leaves stack;
+        start = λ h' start stack. at_start laws.bundles sandbox p h' clean start stack;
       }
 
   near_here : (a : ℕ) → Accesses good.place.here.instr s.hart a → InData p a ⊎ InGuard p a

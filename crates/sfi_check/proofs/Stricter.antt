@@ -6,6 +6,7 @@ use Rattle.rv_word.specs.Laws.{SpellingsAreWide}
 use Rattle.rv_word.specs.Spelling.{spelling}
 use Rattle.rv_comp.specs.Fronts.{Spells}
 use Rattle.rv_comp.specs.Laws.{OneSpelling}
+use Rattle.sfi_policy.specs.declared.format.Format.TheVariants.{Sfi1}
 use Rattle.rv_step.specs.Access.{Accesses}
 use Rattle.rv_step.specs.Laws.{OneInstruction, StepIsEffect}
 use Rattle.rv_step.specs.State.{State}
@@ -13,7 +14,6 @@ use Rattle.rv_step.specs.Step.{Stepped, Stands, IsStep, effect}
 use Rattle.rv_step.specs.declared.outcome.Outcome.TheVariants.{Call, Trap}
 use Rattle.rv_step.specs.declared.outcome.Cause.TheVariants as cause
 use Rattle.sfi_scan.specs.declared.finding.Finding.{Finding}
-use Rattle.sfi_image.specs.declared.format.Format.TheVariants.{Sfi1}
 use Rattle.sfi_scan.specs.declared.rule.Rule.TheVariants.{V1, V2, V3, V8}
 use Rattle.sfi_scan.specs.Bundles.{place_of, bundle_bytes}
 use Rattle.sfi_check.specs.Regions.{HasCode}

@@ -9,6 +9,7 @@ use Rattle.rv_comp.specs.declared.front.Front.TheVariants.{Read}
 use Rattle.rv_step.specs.State.{State}
 use Rattle.rv_step.specs.Step.{Stands, IsStep, unchanged}
 use Rattle.sfi_image.specs.Spelling.{Part}
+use Rattle.sfi_image.specs.Laws.{WholeBundles}
 use Rattle.sfi_scan.specs.Rules.{ends_region}
 use Rattle.sfi_check.specs.Regions.{IsGate, HasCode, HasReserved, HasEmptyGuards}
 use Rattle.sfi_check.specs.Runs.{KeepsBytes, IsReply, IsChange, Turn, Steps, Replies, Changes, IsTurn, IsRun, after_turn}
@@ -63,7 +64,7 @@ module _ (laws : Machine) (sandbox : ℕ) (p : Part) (clean : IsCleanPart sandbo
             code = code_kept p s.memory after.memory r.bytes good.kept.code;
             guards = guards_kept p s.memory after.memory r.bytes good.kept.guards;
           };
-          place = goes_on sandbox p s.hart after.hart clean at pc goes (subst (λ (i : Instr). Leaves p (i ∷ at.earlier) after.hart.registers) e.0 left) (stack_lies p (at.here.instr ∷ at.earlier) at.later after.hart.registers r.stack);
+          place = goes_on sandbox p s.hart after.hart clean at laws.bundles pc goes (subst (λ (i : Instr). Leaves p (i ∷ at.earlier) after.hart.registers) e.0 left) (stack_lies p (at.here.instr ∷ at.earlier) at.later after.hart.registers r.stack);
         }
 
     change_good : (after : State) → IsChange p s after → IsGood sandbox p after
@@ -108,7 +109,7 @@ module _ (laws : Machine) (sandbox : ℕ) (p : Part) (clean : IsCleanPart sandbo
       code = good.kept.code;
       present = record { instr = good.place.here.instr; size = good.place.here.size; stands = stands_here laws sandbox p s clean good };
       pc = pc_in_code sandbox p s.hart clean good.place;
-      instruction = λ i n stands k below. byte_in_code sandbox p s.hart clean good.place k (subst (λ (m : ℕ). k < m) (only laws sandbox p s clean good i n stands).1 below);
+      instruction = λ i n stands k below. byte_in_code sandbox p s.hart clean good.place laws.bundles k (subst (λ (m : ℕ). k < m) (only laws sandbox p s clean good i n stands).1 below);
     }
 
 pub turn_keeps : Machine → TurnKeeps
@@ -117,15 +118,15 @@ turn_keeps laws sandbox p s turn clean good h =
 
 -- ---- runs
 
-pub entry_good : EntryIsGood
-entry_good sandbox p s clean entry = record {
+pub entry_good : WholeBundles → EntryIsGood
+entry_good law sandbox p s clean entry = record {
   kept = record {
     count = entry.state.hart.count;
     reserved = entry.reserved;
     code = entry.code;
     guards = entry.guards;
   };
-  place = at_start sandbox p s.hart clean entry.start entry.stack;
+  place = at_start law sandbox p s.hart clean entry.start entry.stack;
 }
 
 -- a change that changes nothing

@@ -1,7 +1,7 @@
 -- What holds of every sandbox without a finding.
 use Rattle.std.specs.Prelude.{◌≡◌, ◌≢◌, ◌<◌, slice_index, ℕ, List, ◌∷◌, Some, length}
 use Rattle.rv_word.specs.declared.instr.Instr.{Instr}
-use Rattle.sfi_image.specs.declared.format.Format.TheVariants.{Sfi1}
+use Rattle.sfi_policy.specs.declared.format.Format.TheVariants.{Sfi1}
 use Rattle.rv_word.specs.Spelling.{InRange}
 use Rattle.rv_step.specs.declared.outcome.Outcome.TheVariants.{Trap}
 use Rattle.rv_step.specs.declared.outcome.Cause.TheVariants.{Fetch, Illegal}

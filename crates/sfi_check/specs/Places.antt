@@ -1,10 +1,10 @@
 -- Where a run stands: the place of a bundle's reading, and what the registers hold there.
 use Rattle.std.specs.Prelude.{◌≡◌, ◌+◌, ◌*◌, ◌≤◌, ◌⊎◌, ◌||◌, ℕ, List, [], ◌∷◌, true, Option, Some, None, length, drop, slice_index}
 use Rattle.rv_word.specs.declared.instr.Instr.{Instr}
+use Rattle.sfi_policy.specs.Formats.{has_stack}
 use Rattle.rv_step.specs.State.{Hart, State}
 use Rattle.sfi_policy.specs.Registers.{stack_pointer}
 use Rattle.sfi_policy.specs.Limits.{bundle_size}
-use Rattle.sfi_image.specs.Formats.{has_stack}
 use Rattle.sfi_image.specs.Spelling.{Part}
 use Rattle.sfi_image.specs.Spans.{AreApart, code_region, guarded_region}
 use Rattle.sfi_image.specs.Parts.{IsRightPart}

@@ -1,11 +1,11 @@
 -- The addresses of a sandbox, and what of them a machine holds.
-use Rattle.std.specs.Prelude.{◌≡◌, ◌+◌, ◌<◌, ◌⊎◌, ℕ, List, length, slice_get, slice_index, true, Some, None}
+use Rattle.std.specs.Prelude.{◌≡◌, ◌+◌, ◌<◌, ℕ, List, length, slice_get, slice_index, true, Some, None}
 use Rattle.sfi_policy.specs.Registers.{code_base_register, code_mask_register, data_base_register, data_mask_register, stack_pointer}
+use Rattle.sfi_policy.specs.Formats.{has_stack}
 use Rattle.sfi_image.specs.declared.part.Gate.{Gate}
-use Rattle.sfi_image.specs.Formats.{has_stack}
 use Rattle.sfi_image.specs.Spelling.{Part}
 use Rattle.sfi_image.specs.Registers.{reserved_of}
-use Rattle.sfi_image.specs.Spans.{Holds, code_region, data_region, lower_guard, upper_guard}
+use Rattle.sfi_image.specs.Spans.{Holds, InGuards, code_region, data_region}
 use Rattle.rv_mem.specs.Bytes.{Bytes, byte_at}
 
 -- the address is one of the code's
@@ -18,7 +18,7 @@ InData p a = Holds (data_region p) a
 
 -- the address is one of the guard zones, on each side of the data
 abbrev pub InGuard : Part → ℕ → Type 0
-InGuard p a = Holds (lower_guard p) a ⊎ Holds (upper_guard p) a
+InGuard p a = InGuards (data_region p) a
 
 -- the address is that of a listed gate
 abbrev pub IsGate : Part → ℕ → Type 0

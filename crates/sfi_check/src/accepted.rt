@@ -1,6 +1,6 @@
 //! An image that was accepted.
 ghost use Rattle.std.specs.Prelude.{◌≡◌, length};
-ghost use Rattle.sfi_image.specs.declared.format.Format.{Format};
+ghost use Rattle.sfi_policy.specs.declared.format.Format.{Format};
 ghost use Rattle.sfi_image.specs.Spelling.{views};
 ghost use Rattle.sfi_image.specs.Parts.{IsRightLayout};
 ghost use Rattle.sfi_check.specs.Safety.{AllRunSafely};

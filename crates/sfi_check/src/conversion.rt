@@ -1,7 +1,7 @@
 //! From the first format to the second.
 ghost use Rattle.std.specs.Prelude.{◌≡◌, ℕ, List, IfOk, IfErr};
+ghost use Rattle.sfi_policy.specs.declared.format.Format.TheVariants.{Sfi2};
 ghost use Rattle.sfi_image.specs.declared.fault.LayoutFault.{LayoutFault};
-ghost use Rattle.sfi_image.specs.declared.format.Format.TheVariants.{Sfi2};
 ghost use Rattle.sfi_image.specs.Spelling.{views};
 ghost use Rattle.sfi_image.specs.Parts.{IsRightLayout};
 ghost use Rattle.sfi_image.specs.Faults.{IsFault};
@@ -13,7 +13,8 @@ ghost use Rattle.sfi_check.specs.private.Converting.{ChecksStack, Converts};
 use crate::accepted::Accepted;
 use crate::refusal::Refusal;
 use crate::verdict::{check, findings_as};
-use sfi_image::{Format, SandboxPart, right_in_second, write_image_as};
+use sfi_image::{SandboxPart, right_in_second, write_image_as};
+use sfi_policy::Format;
 use sfi_scan::Finding;
 use sfi_scan::laws::{clean_breaks_stack_alone, one_image_list};
 use std::alloc::Global;

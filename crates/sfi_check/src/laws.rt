@@ -6,7 +6,7 @@ use rv_comp::laws::{ecall_is_wide, spelled_in_range};
 use rv_step::laws::{
     accessed_is_there, one_instruction, other_bytes_stay, step_is_effect, stopped_stays,
 };
-use sfi_image::one_reading;
+use sfi_image::{one_reading, whole_bundles};
 use sfi_policy::pairs_are_found;
 use sfi_scan::laws::one_image_list;
 
@@ -30,12 +30,15 @@ pub fn turn_keeps()
     accessed_is_there();
     spelled_in_range();
     ecall_is_wide();
+    whole_bundles();
 }
 
 /// An entry is a good state.
 pub fn entry_is_good()
     ensures { EntryIsGood }
-{}
+{
+    whole_bundles();
+}
 
 /// A sandbox without a finding runs safely from every entry.
 pub fn clean_runs_safely()
@@ -65,7 +68,9 @@ pub fn safe_fetches()
 /// A sandbox with a right layout can be entered.
 pub fn can_be_entered()
     ensures { CanBeEntered }
-{}
+{
+    whole_bundles();
+}
 
 /// In the first format nothing is asked of x2.
 pub fn first_format_asks_no_stack()
@@ -77,6 +82,7 @@ pub fn clean_calls_with_stack()
     ensures { CleanCallsWithStack }
 {
     one_instruction();
+    whole_bundles();
     entry_is_good();
     turn_keeps();
 }

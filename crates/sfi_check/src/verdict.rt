@@ -13,7 +13,8 @@ ghost use Rattle.sfi_check.specs.Verdict.{IsAccepted, HasFindings, AnswersLayout
 
 use crate::accepted::Accepted;
 use crate::refusal::Refusal;
-use sfi_image::{Format, Image, SandboxPart, one_reading, parse_image};
+use sfi_image::{Image, SandboxPart, one_reading, parse_image};
+use sfi_policy::Format;
 use sfi_scan::laws::one_image_list;
 use sfi_scan::{Finding, scan_part_as};
 use std::alloc::{AllocError, Global};

@@ -2,10 +2,10 @@
 use Rattle.std.proofs.Common.{◌≡◌, ◌≢◌, ℕ, ◌+◌, ◌<◌, ◌≤◌, inl, inr, List, [], length, true, refl, sym, ap, ◌∙◌, subst, arith, get_or-set_other}
 use Rattle.std.specs.Prelude.{slice_index, slice_set}
 use Rattle.rv_word.specs.declared.instr.Instr.TheVariants.{Ecall}
+use Rattle.sfi_policy.specs.Formats.{has_stack}
 use Rattle.rv_mem.specs.Bytes.{Bytes, IsMemory, byte_at, address_after}
 use Rattle.rv_step.specs.State.{Hart, IsHart, IsState, past}
 use Rattle.rv_step.specs.Step.{Stands}
-use Rattle.sfi_image.specs.Formats.{has_stack}
 use Rattle.sfi_image.specs.Spelling.{Part}
 use Rattle.sfi_image.specs.Spans.{Holds, AreApart}
 use Rattle.sfi_check.specs.Regions.{InCode, InData, InGuard, HasCode, StackInData}

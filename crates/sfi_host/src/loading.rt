@@ -10,10 +10,10 @@ use crate::sandbox::{Sandbox, register};
 use crate::status::Status;
 use rv_mem::Memory;
 use rv_step::Cpu;
-use sfi_image::{Format, Reserved, SandboxPart};
+use sfi_image::{Reserved, SandboxPart};
 use sfi_policy::{
     CODE_BASE_REGISTER, CODE_MASK_REGISTER, DATA_BASE_REGISTER, DATA_MASK_REGISTER, FIRST_FRAME,
-    STACK_POINTER,
+    Format, STACK_POINTER,
 };
 use std::alloc::{AllocError, Global};
 

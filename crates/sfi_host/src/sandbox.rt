@@ -5,7 +5,8 @@ use crate::region::Region;
 use crate::status::Status;
 use rv_step::Cpu;
 use rv_word::Reg;
-use sfi_image::{Format, Gate};
+use sfi_image::Gate;
+use sfi_policy::Format;
 
 /// Where a sandbox lies, its pc and registers, what it may still do, and how many steps it did. Its bytes lie in the world's
 /// memory.

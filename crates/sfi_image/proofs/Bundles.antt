@@ -2,10 +2,11 @@
 use Rattle.std.proofs.Common.{◌≡◌, ℕ, ◌+◌, ◌-◌, ◌*◌, ◌^◌, ◌<◌, ◌≤◌, ap, ◌∙◌, ⊎_elim, arith}
 use Rattle.std.proofs.lemmas.Nat.{pow-add, pow_below}
 use Rattle.std.proofs.lemmas.Bool.{cases_lt}
-use Rattle.sfi_image.specs.declared.format.Format.{Format}
-use Rattle.sfi_image.specs.Formats.{code_most}
+use Rattle.sfi_policy.specs.declared.format.Format.{Format}
+use Rattle.sfi_policy.specs.Formats.{code_most}
+use Rattle.sfi_policy.specs.Limits.{bundle_size}
 use Rattle.sfi_image.specs.Regions.{IsCodeRegion}
-use Rattle.sfi_image.specs.Laws.{WholeBundles}
+use Rattle.sfi_image.specs.Laws.{WholeBundles, CodeEnds}
 use Rattle.sfi_image.proofs.Formats.{code_at_most}
 
 -- powers of two in the order of their exponents
@@ -34,7 +35,7 @@ region_end format base size address region =
     le_times a b c h = grind arith
 
 -- its size and its base are whole bundles
-bundles_of : (format : Format) (base size : ℕ) → IsCodeRegion format base size → (n : ℕ) × (m : ℕ) × (size ≡ 16 * n) × (base ≡ 16 * m)
+bundles_of : (format : Format) (base size : ℕ) → IsCodeRegion format base size → (n : ℕ) × (m : ℕ) × (size ≡ bundle_size * n) × (base ≡ bundle_size * m)
 bundles_of format base size region =
     let k = region.power in
     let q = region.multiple in
@@ -51,3 +52,6 @@ pub whole_bundles : WholeBundles
 whole_bundles format base size address region =
     let whole = bundles_of format base size region in
     (whole.0, whole.1, whole.2, whole.3, region_end format base size address region)
+
+pub code_end : CodeEnds
+code_end p right = region_end p.format p.code_base _ right.words.fields.code_base right.code_placed

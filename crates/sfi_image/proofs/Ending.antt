@@ -1,74 +1,43 @@
 -- Where bytes end after a front.
-use Rattle.std.proofs.Common.{◌≡◌, ◌++◌, length, refl, arith, append_assoc, inl, inr}
+use Rattle.std.proofs.Common.{◌≡◌, ℕ, ◌+◌, ◌<◌, List, ◌++◌, length, refl, arith, append_assoc, inl, inr}
 use Rattle.std.specs.List.{flat_map}
 use Rattle.std.proofs.lemmas.List.{length-append}
+use Rattle.sfi_image.specs.declared.part.Gate.{Gate}
+use Rattle.sfi_image.specs.declared.fields.Fields.{Fields}
 use Rattle.sfi_image.specs.declared.fault.LayoutFault.TheVariants as faults
-use Rattle.sfi_image.specs.Spelling.{format_of, number, fields, gate, part, spelling}
+use Rattle.sfi_image.specs.Faults.{IsFault}
+use Rattle.sfi_image.specs.Spelling.{Part, format_of, number, fields, gate, part, spelling}
 use Rattle.sfi_image.specs.Spans.{spans}
-use Rattle.sfi_image.specs.Fronts.{head, CutShort, Trails, WholeIsImage}
+use Rattle.sfi_image.specs.Fronts.{front, head, IsRightFront, CutShort, Trails, WholeIsImage}
 use Rattle.sfi_image.specs.Fronts.Front.{Empty, AfterMagic, AfterCount, InGates, InCode, InInit, Whole}
 use Rattle.sfi_image.proofs.Standing.{region}
-use Rattle.sfi_image.proofs.Steps.{head_fault}
+use Rattle.sfi_image.proofs.Steps.{head_fault, body_fault}
+
+-- the code is cut short
+pub code_short : (n : ℕ) (ps : List Part) (f : Fields) (gs : List Gate) (code rest : List ℕ) → IsRightFront (InCode n ps f gs code) → length code + length rest < f.code_size
+    → IsFault (front (InCode n ps f gs code) ++ rest) faults.Short
+code_short n ps f gs code rest right less =
+    let regroup : (head f.format n ps ++ (fields f ++ (flat_map gate gs ++ code))) ++ rest ≡ head f.format n ps ++ (fields f ++ (flat_map gate gs ++ (code ++ rest))) = simp append_assoc in
+    rw (regroup) (body_fault n ps f gs (code ++ rest) faults.Short right.0 (inr (inr (right.1, omega (arith, length-append code rest), refl))))
 
 pub cut_short : CutShort
 cut_short Empty rest right less = inl (less, refl)
 cut_short (AfterMagic format) rest right less = inr (inr (format, rest, refl, inl (less, refl)))
 cut_short (AfterCount format n ps) rest right less = head_fault format n ps rest faults.Short right.0 right.1 (inl (less, refl))
 cut_short (InGates n ps f gs) rest right less =
-    let opened = right.0 in
     let regroup : (head f.format n ps ++ (fields f ++ flat_map gate gs)) ++ rest ≡ head f.format n ps ++ (fields f ++ (flat_map gate gs ++ rest)) = simp append_assoc in
-    rw (regroup) (head_fault f.format n ps (fields f ++ (flat_map gate gs ++ rest)) faults.Short opened.before opened.more
-    (inr (f, flat_map gate gs ++ rest, refl, opened.words, refl, inr (opened.passed, (gs, rest, refl, opened.gate_words, opened.gates, inl (right.1, less, refl))))))
+    rw (regroup) (body_fault n ps f gs rest faults.Short right.0 (inl (right.1, less, refl)))
 cut_short (InCode n ps f gs code) rest right less =
-    let opened = right.0 in
-    let reg = region (spans ps) f opened.words opened.passed in
+    let reg = region (spans ps) f right.0.words right.0.passed in
     let size = reg.size_is in
     let even = right.2 in
     let inside = right.3 in
-    let regroup : (head f.format n ps ++ (fields f ++ (flat_map gate gs ++ code))) ++ rest ≡ head f.format n ps ++ (fields f ++ (flat_map gate gs ++ (code ++ rest))) = simp append_assoc in
-    rw (regroup) (head_fault f.format n ps (fields f ++ (flat_map gate gs ++ (code ++ rest))) faults.Short opened.before opened.more
-    (inr (
-      f,
-      flat_map gate gs ++ (code ++ rest),
-      refl,
-      opened.words,
-      refl,
-      inr (
-        opened.passed,
-        (
-          gs,
-          code ++ rest,
-          refl,
-          opened.gate_words,
-          opened.gates,
-          inr (inr (right.1, omega (arith, length-append code rest), refl)),
-        ),
-      ),
-    )))
+    code_short n ps f gs code rest right (omega arith)
 cut_short (InInit n ps f gs code init) rest right less =
-    let opened = right.0 in
     let all = right.2 in
     let inside = right.3 in
     let regroup : (head f.format n ps ++ (fields f ++ (flat_map gate gs ++ (code ++ init)))) ++ rest ≡ head f.format n ps ++ (fields f ++ (flat_map gate gs ++ (code ++ (init ++ rest)))) = simp append_assoc in
-    rw (regroup) (head_fault f.format n ps (fields f ++ (flat_map gate gs ++ (code ++ (init ++ rest)))) faults.Short opened.before opened.more
-    (inr (
-      f,
-      flat_map gate gs ++ (code ++ (init ++ rest)),
-      refl,
-      opened.words,
-      refl,
-      inr (
-        opened.passed,
-        (
-          gs,
-          code ++ (init ++ rest),
-          refl,
-          opened.gate_words,
-          opened.gates,
-          inr (inr (right.1, omega (arith, length-append code (init ++ rest), length-append init rest), refl)),
-        ),
-      ),
-    )))
+    rw (regroup) (body_fault n ps f gs (code ++ (init ++ rest)) faults.Short right.0 (inr (inr (right.1, omega (arith, length-append code (init ++ rest), length-append init rest), refl))))
 cut_short (Whole ps) rest right less = absurd less
 
 pub trails : Trails

@@ -15,7 +15,6 @@ pub mod SomeReading
 pub mod Refused
 pub mod OneRefusal
 pub mod Bundles
-pub mod Ends
 pub mod Following
 pub mod Standing
 pub mod Steps

@@ -3,20 +3,18 @@ use Rattle.std.proofs.Common.{◌≡◌, ℕ, ◌+◌, ◌<◌, eqb, true, List,
 use Rattle.std.specs.List.{All, flat_map}
 use Rattle.std.proofs.lemmas.Bool.{eq-eqb}
 use Rattle.std.proofs.lemmas.List.{length-append, append-nil}
-use Rattle.sfi_image.specs.declared.format.Format.{Format}
+use Rattle.sfi_policy.specs.declared.format.Format.{Format}
+use Rattle.sfi_policy.specs.Formats.{magic}
 use Rattle.sfi_image.specs.declared.part.Gate.{Gate}
 use Rattle.sfi_image.specs.declared.fields.Fields.{Fields}
 use Rattle.sfi_image.specs.declared.fault.LayoutFault.{LayoutFault}
-use Rattle.sfi_image.specs.declared.fault.LayoutFault.TheVariants as faults
 use Rattle.sfi_image.specs.declared.want.Next.TheVariants as next
-use Rattle.sfi_image.specs.Formats.{magic}
 use Rattle.sfi_image.specs.Spelling.{Part, number, fields, gate, part, IsWord, AreFieldWords, AreGateWords}
 use Rattle.sfi_image.specs.Faults.{IsFault}
-use Rattle.sfi_image.specs.Fronts.{Front, front, head, IsRightFront, want_of, IsLess, part_of, after_parts, after_init, after_code, after_gates, HasFaultWhateverFollows}
+use Rattle.sfi_image.specs.Fronts.{Front, front, head, want_of, IsLess, part_of, after_parts, after_init, after_code, after_gates, HasFaultWhateverFollows}
 use Rattle.sfi_image.specs.Fronts.Front.{Empty, AfterMagic, AfterCount, InGates, InCode, InInit, Whole}
 use Rattle.sfi_image.specs.Keeping.{ReaderState, StandsFor, Leads}
 use Rattle.sfi_image.specs.private.Keeping.{next_code}
-use Rattle.sfi_image.proofs.Steps.{head_fault}
 use Rattle.sfi_image.proofs.Following.{same_or_not, head_push}
 use Rattle.sfi_image.proofs.Cancelling.{same_gate, same_fields, same_number}
 use Rattle.sfi_image.specs.declared.fault.ImageFault.{ImageFault}
@@ -29,32 +27,6 @@ use Rattle.sfi_image.proofs.Standing.{leads, init_stand}
 -- a fault of the bytes taken is one of all of them
 pub fault_of_front : (x : Front) (s rest bytes : List ℕ) (k : LayoutFault) → bytes ≡ s ++ rest → HasFaultWhateverFollows (front x ++ s) k → IsFault (front x ++ bytes) k
 fault_of_front x s rest bytes k e h = subst (λ (l : List ℕ). IsFault l k) (append_assoc (front x) s rest ∙ ap (λ (l : List ℕ). front x ++ l) (sym e)) (h rest)
-
--- the code is cut short
-pub code_short : (n : ℕ) (ps : List Part) (f : Fields) (gs : List Gate) (code rest : List ℕ) → IsRightFront (InCode n ps f gs code) → length code + length rest < f.code_size
-    → IsFault (front (InCode n ps f gs code) ++ rest) faults.Short
-code_short n ps f gs code rest right less =
-    let opened = right.0 in
-    let regroup : (head f.format n ps ++ (fields f ++ (flat_map gate gs ++ code))) ++ rest ≡ head f.format n ps ++ (fields f ++ (flat_map gate gs ++ (code ++ rest))) = simp append_assoc in
-    rw (regroup) (head_fault f.format n ps (fields f ++ (flat_map gate gs ++ (code ++ rest))) faults.Short opened.before opened.more
-    (inr (
-      f,
-      flat_map gate gs ++ (code ++ rest),
-      refl,
-      opened.words,
-      refl,
-      inr (
-        opened.passed,
-        (
-          gs,
-          code ++ rest,
-          refl,
-          opened.gate_words,
-          opened.gates,
-          inr (inr (right.1, omega (arith, length-append code rest), refl)),
-        ),
-      ),
-    )))
 
 -- after all that is left of the code
 pub whole_code_leads : (old new : ReaderState) (x : Front) (s : List ℕ) → StandsFor old x → old.next ≡ next.Code → old.code_read + length s ≡ old.fields.code_size

@@ -4,15 +4,15 @@ use Rattle.std.specs.List.{AllPairs, flat_map}
 use Rattle.std.proofs.lemmas.Bool.{cases_lt}
 use Rattle.std.proofs.lemmas.List.{take-append-drop, length-take, length-drop}
 use Rattle.std.proofs.lemmas.List.Elements.{All-nil}
-use Rattle.sfi_image.specs.declared.format.Format.{Format}
-use Rattle.sfi_image.specs.declared.format.Format.TheVariants.{Sfi1, Sfi2}
+use Rattle.sfi_policy.specs.declared.format.Format.{Format}
+use Rattle.sfi_policy.specs.declared.format.Format.TheVariants.{Sfi1, Sfi2}
+use Rattle.sfi_policy.specs.Formats.{magic}
 use Rattle.sfi_image.specs.declared.part.Gate.{Gate}
 use Rattle.sfi_image.specs.declared.fields.Fields.{Fields}
 use Rattle.sfi_image.specs.declared.span.Span.{Span}
 use Rattle.sfi_image.specs.declared.fault.LayoutFault.{LayoutFault}
 use Rattle.sfi_image.specs.declared.fault.LayoutFault.TheVariants.{Magic, Count, Short, Gates, Trailing}
 use Rattle.sfi_image.specs.Spelling.{Part, fields_of, number, fields, part, AreFieldWords}
-use Rattle.sfi_image.specs.Formats.{magic}
 use Rattle.sfi_image.specs.Spans.{AreApart, code_span, spans_of}
 use Rattle.sfi_image.specs.Parts.{IsRightPart, AreOf, AreRight}
 use Rattle.sfi_image.specs.Tests.{IsFirstFault, field_tests}

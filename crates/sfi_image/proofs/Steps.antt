@@ -1,10 +1,11 @@
 -- Where each step leads, and which faults it meets.
-use Rattle.std.proofs.Common.{◌≡◌, ℕ, ◌+◌, ◌<◌, ◌≤◌, List, [], ◌∷◌, ◌++◌, length, map, take, drop, cond, refl, sym, ap, ◌∙◌, subst, arith, append_assoc, inl, inr, None, Some}
+use Rattle.std.proofs.Common.{◌≡◌, ℕ, ◌+◌, ◌<◌, ◌≤◌, ◌⊎◌, List, [], ◌∷◌, ◌++◌, length, map, take, drop, cond, refl, sym, ap, ◌∙◌, subst, arith, append_assoc, inl, inr, None, Some}
 use Rattle.std.specs.List.{All, flat_map}
 use Rattle.std.proofs.Math.Seq.{take-append_seam}
 use Rattle.std.proofs.lemmas.List.{length-append, length_push, append-nil, map_push, length-map}
 use Rattle.std.proofs.lemmas.List.Elements.{All-push}
-use Rattle.sfi_image.specs.declared.format.Format.{Format}
+use Rattle.sfi_policy.specs.declared.format.Format.{Format}
+use Rattle.sfi_policy.specs.Formats.{magic}
 use Rattle.sfi_image.specs.declared.part.Gate.{Gate}
 use Rattle.sfi_image.specs.declared.fields.Fields.{Fields}
 use Rattle.sfi_image.specs.declared.span.Span.{Span}
@@ -12,11 +13,10 @@ use Rattle.sfi_image.specs.declared.fault.LayoutFault.{LayoutFault}
 use Rattle.sfi_image.specs.declared.fault.LayoutFault.TheVariants as faults
 use Rattle.sfi_image.specs.declared.want.Next.TheVariants as next
 use Rattle.sfi_image.specs.Spelling.{Part, number, fields, gate, part, IsWord, AreFieldWords, AreGateWords}
-use Rattle.sfi_image.specs.Formats.{magic}
 use Rattle.sfi_image.specs.Spans.{code_span, spans, spans_of}
 use Rattle.sfi_image.specs.Gates.{AreGates}
 use Rattle.sfi_image.specs.Tests.{IsFirstFault, field_tests}
-use Rattle.sfi_image.specs.Faults.{IsFault, IsPartFault}
+use Rattle.sfi_image.specs.Faults.{IsFault, IsPartFault, IsGateShort, IsGateWrong, AreContentsShort}
 use Rattle.sfi_image.specs.Fronts.{Front, front, head, IsHead, IsOpened, after_init, after_code, after_gates, HasFaultWhateverFollows}
 use Rattle.sfi_image.specs.Fronts.Front.{Empty, AfterMagic, AfterCount, InGates, InCode, InInit, Whole}
 use Rattle.sfi_image.specs.Keeping.{ReaderState, StandsFor, Leads}
@@ -170,6 +170,13 @@ head_fault format n ps rest k h lt wrong =
       inr (n, flat_map part ps ++ rest, refl, (let most = h.at_most in omega arith), inr (h.at_least, h.at_most, (ps, rest, refl, h.right, h.one_format, inl (lt, wrong)))),
     ))
 
+-- what is wrong after right fields and gates
+pub body_fault : (n : ℕ) (ps : List Part) (f : Fields) (gs : List Gate) (rest : List ℕ) (k : LayoutFault) → IsOpened n ps f gs
+    → IsGateShort f gs rest k ⊎ (IsGateWrong f gs rest k ⊎ AreContentsShort f gs rest k) → IsFault (head f.format n ps ++ (fields f ++ (flat_map gate gs ++ rest))) k
+body_fault n ps f gs rest k opened wrong =
+    head_fault f.format n ps (fields f ++ (flat_map gate gs ++ rest)) k opened.before opened.more
+    (inr (f, flat_map gate gs ++ rest, refl, opened.words, refl, inr (opened.passed, (gs, rest, refl, opened.gate_words, opened.gates, wrong))))
+
 pub magic_fault : (old : ReaderState) (x : Front) (s : List ℕ) → StandsFor old x → old.next ≡ next.Magic → length s ≡ 4 → ((format : Format) → s ≡ magic format → ⊥) → HasFaultWhateverFollows (front x ++ s) faults.Magic
 magic_fault old Empty s h is len wrong =
     λ more. let first : take 4 (s ++ more) ≡ s = ap (λ (j : ℕ). take j (s ++ more)) (sym len) ∙ take-append_seam s more in
@@ -215,25 +222,8 @@ gate_fault old (InGates n ps f gs) s g h is e words wrong =
     let k = h.kept.1 in
     let region_is : code_span old.fields ≡ code_span f = ap code_span k.fields in
     let regroup : (head f.format n ps ++ (fields f ++ flat_map gate gs) ++ s) ++ more ≡ head f.format n ps ++ (fields f ++ (flat_map gate gs ++ (s ++ more))) = simp append_assoc in
-    rw (regroup) (head_fault f.format n ps (fields f ++ (flat_map gate gs ++ (s ++ more))) faults.Gates opened.before opened.more
-    (inr (
-      f,
-      flat_map gate gs ++ (s ++ more),
-      refl,
-      opened.words,
-      refl,
-      inr (
-        opened.passed,
-        (
-          gs,
-          s ++ more,
-          refl,
-          opened.gate_words,
-          opened.gates,
-          inr (inl (h.right.1, g, more, ap (λ (t : List ℕ). t ++ more) e, words, (λ are. wrong gs (sym k.gates) (subst (λ (r : Span). AreGates r gs) (sym region_is) opened.gates) (subst (λ (r : Span). AreGates r (gs ++ g ∷ [])) (sym region_is) are)), refl)),
-        ),
-      ),
-    )))
+    let none : AreGates (code_span f) (gs ++ g ∷ []) → ⊥ = λ are. wrong gs (sym k.gates) (subst (λ (r : Span). AreGates r gs) (sym region_is) opened.gates) (subst (λ (r : Span). AreGates r (gs ++ g ∷ [])) (sym region_is) are) in
+    rw (regroup) (body_fault n ps f gs (s ++ more) faults.Gates opened (inr (inl (h.right.1, g, more, ap (λ (t : List ℕ). t ++ more) e, words, none, refl))))
 gate_fault old (InCode n ps f gs code) s g h is e words wrong = let k = h.kept.0 in absurd cc
 gate_fault old (InInit n ps f gs code init) s g h is e words wrong = let k = h.kept.0 in absurd cc
 gate_fault old (Whole ps) s g h is e words wrong = let k = h.kept.0 in absurd cc

@@ -2,10 +2,10 @@
 use Rattle.std.proofs.Common.{◌≡◌, ℕ, ◌≤◌, List, ◌++◌, length, take, drop, refl, sym, ◌∙◌, subst, arith, inl, inr}
 use Rattle.std.specs.List.{flat_map}
 use Rattle.std.proofs.lemmas.List.{take-append-drop}
-use Rattle.sfi_image.specs.declared.format.Format.{Format}
+use Rattle.sfi_policy.specs.declared.format.Format.{Format}
+use Rattle.sfi_policy.specs.Formats.{magic}
 use Rattle.sfi_image.specs.declared.fault.LayoutFault.{LayoutFault}
 use Rattle.sfi_image.specs.declared.fault.LayoutFault.TheVariants.{Magic}
-use Rattle.sfi_image.specs.Formats.{magic}
 use Rattle.sfi_image.specs.Spelling.{Part, number, part, spelling}
 use Rattle.sfi_image.specs.Parts.{AreOf, AreRight}
 use Rattle.sfi_image.specs.Images.{IsImage}

@@ -2,14 +2,14 @@
 use Rattle.std.specs.Prelude.{◌≡◌, ◌≢◌, ℕ, ◌+◌, ◌<◌, ◌≤◌, ◌⊎◌, List, [], ◌∷◌, ◌++◌, length, take, Some, None}
 use Rattle.std.specs.List.{All, flat_map}
 use Rattle.sfi_policy.specs.Limits.{sandboxes_most}
-use Rattle.sfi_image.specs.declared.format.Format.{Format}
+use Rattle.sfi_policy.specs.declared.format.Format.{Format}
+use Rattle.sfi_policy.specs.Formats.{magic}
 use Rattle.sfi_image.specs.declared.part.Gate.{Gate}
 use Rattle.sfi_image.specs.declared.fields.Fields.{Fields}
 use Rattle.sfi_image.specs.declared.span.Span.{Span}
 use Rattle.sfi_image.specs.declared.fault.LayoutFault.{LayoutFault}
 use Rattle.sfi_image.specs.declared.fault.LayoutFault.TheVariants.{Magic, Count, Short, Code, Data, GuardRoom, Start, Gates, Init, Overlap, Trailing}
-use Rattle.sfi_image.specs.Formats.{magic}
-use Rattle.sfi_image.specs.Spelling.{Part, number, fields, gate, part, IsWord, AreFieldWords, AreGateWords}
+use Rattle.sfi_image.specs.Spelling.{Part, magic_bytes, number_bytes, fields_bytes, gate_bytes, number, fields, gate, part, IsWord, AreFieldWords, AreGateWords}
 use Rattle.sfi_image.specs.Spans.{code_span, spans}
 use Rattle.sfi_image.specs.Gates.{AreGates}
 use Rattle.sfi_image.specs.Parts.{AreOf, AreRight}
@@ -31,7 +31,7 @@ number_of Trailing = 11
 
 -- after these gates the next pair is cut short
 abbrev pub IsGateShort : Fields → List Gate → List ℕ → LayoutFault → Type 0
-IsGateShort f gs rest k = (length gs < f.gate_count) × (length rest < 8) × (k ≡ Short)
+IsGateShort f gs rest k = (length gs < f.gate_count) × (length rest < gate_bytes) × (k ≡ Short)
 
 -- the next pair is no gate after these
 abbrev pub IsGateWrong : Fields → List Gate → List ℕ → LayoutFault → Type 0
@@ -52,7 +52,7 @@ IsBodyFault f bytes k = (gs : List Gate) × (rest : List ℕ)
 -- the fields are cut short, or fail a test, or pass them all before a wrong body
 abbrev pub IsPartFault : Format → List Span → List ℕ → LayoutFault → Type 0
 IsPartFault format before bytes k =
-    ((length bytes < 28) × (k ≡ Short))
+    ((length bytes < fields_bytes) × (k ≡ Short))
     ⊎ ((f : Fields) × (rest : List ℕ) × (bytes ≡ fields f ++ rest) × AreFieldWords f × (f.format ≡ format) × (
     IsFirstFault before f field_tests (Some k)
     ⊎ (IsFirstFault before f field_tests None × IsBodyFault f rest k)))
@@ -66,7 +66,7 @@ ArePartsFault format n bytes k = (ps : List Part) × (rest : List ℕ) × (bytes
 -- the count is cut short, or not from 1 to the most, or the sandboxes after it are wrong
 abbrev pub IsCountFault : Format → List ℕ → LayoutFault → Type 0
 IsCountFault format bytes k =
-    ((length bytes < 4) × (k ≡ Short))
+    ((length bytes < number_bytes) × (k ≡ Short))
     ⊎ ((n : ℕ) × (rest : List ℕ) × (bytes ≡ number n ++ rest) × IsWord n × (
     ((¬ ((1 ≤ n) × (n ≤ sandboxes_most))) × (k ≡ Count))
     ⊎ ((1 ≤ n) × (n ≤ sandboxes_most) × ArePartsFault format n rest k)))
@@ -74,6 +74,6 @@ IsCountFault format bytes k =
 -- the magic is cut short, or that of no format, or what follows it is wrong
 abbrev pub IsFault : List ℕ → LayoutFault → Type 0
 IsFault bytes k =
-    ((length bytes < 4) × (k ≡ Short))
-    ⊎ (((4 ≤ length bytes) × ((format : Format) → take 4 bytes ≢ magic format) × (k ≡ Magic))
+    ((length bytes < magic_bytes) × (k ≡ Short))
+    ⊎ (((magic_bytes ≤ length bytes) × ((format : Format) → take magic_bytes bytes ≢ magic format) × (k ≡ Magic))
     ⊎ ((format : Format) × (rest : List ℕ) × (bytes ≡ magic format ++ rest) × IsCountFault format rest k))

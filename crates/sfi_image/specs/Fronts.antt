@@ -2,14 +2,14 @@
 use Rattle.std.specs.Prelude.{◌≡◌, ℕ, ◌+◌, ◌-◌, ◌%◌, ◌<◌, ◌≤◌, ◌==◌, List, [], ◌∷◌, ◌++◌, length, cond, None}
 use Rattle.std.specs.List.{All, flat_map}
 use Rattle.sfi_policy.specs.Limits.{bundle_size, sandboxes_most}
-use Rattle.sfi_image.specs.declared.format.Format.{Format}
+use Rattle.sfi_policy.specs.declared.format.Format.{Format}
+use Rattle.sfi_policy.specs.Formats.{magic}
 use Rattle.sfi_image.specs.declared.part.Gate.{Gate}
 use Rattle.sfi_image.specs.declared.fields.Fields.{Fields}
 use Rattle.sfi_image.specs.declared.fault.LayoutFault.{LayoutFault}
 use Rattle.sfi_image.specs.declared.want.Want.{Want}
 use Rattle.sfi_image.specs.declared.want.Want.TheVariants as wants
-use Rattle.sfi_image.specs.Formats.{magic}
-use Rattle.sfi_image.specs.Spelling.{Part, format_of, number, fields, gate, part, AreFieldWords, AreGateWords}
+use Rattle.sfi_image.specs.Spelling.{Part, format_of, magic_bytes, number_bytes, fields_bytes, gate_bytes, number, fields, gate, part, AreFieldWords, AreGateWords}
 use Rattle.sfi_image.specs.Spans.{code_span, spans}
 use Rattle.sfi_image.specs.Gates.{AreGates, is_gate_of}
 use Rattle.sfi_image.specs.Parts.{AreOf, AreRight}
@@ -78,10 +78,10 @@ IsRightFront (Whole ps) = IsHead (format_of ps) (length ps) ps
 
 -- what is read next after a front
 abbrev pub want_of : Front → Want
-want_of Empty = wants.Field 4
-want_of (AfterMagic format) = wants.Field 4
-want_of (AfterCount format n ps) = wants.Field 28
-want_of (InGates n ps f gs) = wants.Field 8
+want_of Empty = wants.Field magic_bytes
+want_of (AfterMagic format) = wants.Field number_bytes
+want_of (AfterCount format n ps) = wants.Field fields_bytes
+want_of (InGates n ps f gs) = wants.Field gate_bytes
 want_of (InCode n ps f gs code) =
     let at = f.code_base + length code in
     wants.Bundle (length ps) at f.format f.code_base f.code_size (is_gate_of gs at)

@@ -1,6 +1,6 @@
 -- The same sandboxes in an image of another format.
 use Rattle.std.specs.Prelude.{List, map}
-use Rattle.sfi_image.specs.declared.format.Format.{Format}
+use Rattle.sfi_policy.specs.declared.format.Format.{Format}
 use Rattle.sfi_image.specs.Spelling.{Part}
 
 -- the same sandbox in an image of this format

@@ -1,14 +1,14 @@
 -- What a reader in fixed arrays keeps of the front that it has read.
 use Rattle.std.specs.Prelude.{◌≡◌, ℕ, ◌+◌, ◌-◌, ◌*◌, ◌%◌, ◌≤◌, ◌==◌, ◌||◌, ◌⊎◌, Bool, false, List, [], ◌∷◌, ◌++◌, length, map, drop}
 use Rattle.sfi_policy.specs.Limits.{bundle_size, data_most, gates_most, sandboxes_most}
-use Rattle.sfi_image.specs.declared.format.Format.{Format}
-use Rattle.sfi_image.specs.declared.format.Format.TheVariants.{Sfi2}
+use Rattle.sfi_policy.specs.declared.format.Format.{Format}
+use Rattle.sfi_policy.specs.declared.format.Format.TheVariants.{Sfi2}
+use Rattle.sfi_policy.specs.Formats.{code_most}
 use Rattle.sfi_image.specs.declared.part.Gate.{Gate}
 use Rattle.sfi_image.specs.declared.fields.Fields.{Fields}
 use Rattle.sfi_image.specs.declared.span.Span.{Span}
 use Rattle.sfi_image.specs.declared.want.Next.{Next}
 use Rattle.sfi_image.specs.declared.want.Next.TheVariants as next
-use Rattle.sfi_image.specs.Formats.{code_most}
 use Rattle.sfi_image.specs.Spelling.{Part}
 use Rattle.sfi_image.specs.Spans.{spans, spans_of}
 use Rattle.sfi_image.specs.Gates.{is_gate_of}
@@ -80,9 +80,13 @@ pub record StandsFor (r : ReaderState) (x : Front) : Type 0 where
   pub right : IsRightFront x
   pub kept : Keeps r x
 
+-- it has met a fault, after which nothing is wanted
+abbrev pub HasStopped : ReaderState → Type 0
+HasStopped r = r.next ≡ next.Nothing
+
 -- each reader stands for a front, or has met a fault
 abbrev pub IsReader : ReaderState → Type 0
-IsReader r = (r.next ≡ next.Nothing) ⊎ ((x : Front) × StandsFor r x)
+IsReader r = HasStopped r ⊎ ((x : Front) × StandsFor r x)
 
 -- ---- one step
 

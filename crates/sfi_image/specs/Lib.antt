@@ -1,4 +1,3 @@
-pub mod Formats
 pub mod Spelling
 pub mod InFormat
 pub mod Spans

@@ -2,7 +2,7 @@
 use Rattle.std.specs.Prelude.{◌≡◌, ◌≤◌, List, length}
 use Rattle.std.specs.List.{All, AllPairs}
 use Rattle.sfi_policy.specs.Limits.{gates_most, sandboxes_most}
-use Rattle.sfi_image.specs.declared.format.Format.{Format}
+use Rattle.sfi_policy.specs.declared.format.Format.{Format}
 use Rattle.sfi_image.specs.Spelling.{Part, format_of, AreWords}
 use Rattle.sfi_image.specs.Spans.{AreApart, code_region, spans}
 use Rattle.sfi_image.specs.Regions.{IsCodeRegion, IsDataRegion, HasGuardRoom, IsBundleStart}

@@ -1,9 +1,9 @@
 -- Where the regions of a sandbox may lie.
 use Rattle.std.specs.Prelude.{◌≡◌, ℕ, ◌+◌, ◌*◌, ◌%◌, ◌^◌, ◌≤◌}
 use Rattle.sfi_policy.specs.Limits.{bundle_size, guard, region_least, data_most}
-use Rattle.sfi_image.specs.declared.format.Format.{Format}
+use Rattle.sfi_policy.specs.declared.format.Format.{Format}
+use Rattle.sfi_policy.specs.Formats.{code_most}
 use Rattle.sfi_image.specs.declared.span.Span.{Span}
-use Rattle.sfi_image.specs.Formats.{code_most}
 use Rattle.sfi_image.specs.Spans.{Holds}
 
 -- the size is a power of two within the bounds, the base a multiple of it

@@ -2,12 +2,12 @@
 use Rattle.std.specs.Prelude.{ℕ, ◌^◌, ◌<◌, List, [], ◌∷◌, ◌++◌, length, map}
 use Rattle.std.specs.List.{All, flat_map}
 use Rattle.std.specs.Int.{w32, to_le_bytes}
-use Rattle.sfi_image.specs.declared.format.Format.{Format}
-use Rattle.sfi_image.specs.declared.format.Format.TheVariants.{Sfi1}
+use Rattle.sfi_policy.specs.declared.format.Format.{Format}
+use Rattle.sfi_policy.specs.declared.format.Format.TheVariants.{Sfi1}
+use Rattle.sfi_policy.specs.Formats.{magic}
 use Rattle.sfi_image.specs.declared.part.Gate.{Gate}
 use Rattle.sfi_image.specs.declared.fields.Fields.{Fields}
 use Rattle.sfi_image.specs.declared.part.SandboxPart.{SandboxPart}
-use Rattle.sfi_image.specs.Formats.{magic}
 
 -- one sandbox, without where its bytes lie in memory; the code size, the gate count and the init length are its lists' lengths
 pub record Part : Type 0 where
@@ -56,6 +56,22 @@ fields_of p = record {
 }
 
 -- ---- bytes
+
+-- how many bytes a magic has
+abbrev pub magic_bytes : ℕ
+magic_bytes = 4
+
+-- how many bytes a number has
+abbrev pub number_bytes : ℕ
+number_bytes = 4
+
+-- how many bytes the seven fields have
+abbrev pub fields_bytes : ℕ
+fields_bytes = 28
+
+-- how many bytes a gate has
+abbrev pub gate_bytes : ℕ
+gate_bytes = 8
 
 -- a number in four bytes, the lowest first
 unfoldable pub number : ℕ → List ℕ

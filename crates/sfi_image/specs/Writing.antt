@@ -1,5 +1,5 @@
 -- What is wrong with sandboxes that are to be written: what reading their bytes would find first.
-use Rattle.std.specs.Prelude.{◌≡◌, ◌≤◌, ◌⊎◌, ℕ, List, [], ◌∷◌, ◌++◌, length, Some, None}
+use Rattle.std.specs.Prelude.{◌≡◌, ◌≤◌, ◌⊎◌, List, [], ◌∷◌, ◌++◌, length, Some, None}
 use Rattle.sfi_policy.specs.Limits.{sandboxes_most}
 use Rattle.sfi_image.specs.declared.part.Gate.{Gate}
 use Rattle.sfi_image.specs.declared.span.Span.{Span}

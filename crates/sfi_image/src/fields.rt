@@ -1,19 +1,17 @@
 //! The seven fields of a sandbox and their tests.
-ghost use Rattle.std.specs.Prelude.{◌≡◌, ◌≤◌, ◌↔◌, ◌++◌, IsTrue, OnOk};
+ghost use Rattle.std.specs.Prelude.{◌≡◌, ◌≤◌, ◌↔◌, IsTrue, IfOk, IfErr, Some, None};
 ghost use Rattle.std.specs.List.{All, AllPairs};
-ghost use Rattle.sfi_image.specs.Spans.{AreApart, code_span, guarded_span, spans_of};
+ghost use Rattle.sfi_image.specs.Spans.{AreApart, code_span, guarded_span};
 ghost use Rattle.sfi_image.specs.private.Spans.{IsBounded};
 ghost use Rattle.sfi_image.specs.Regions.{IsRegion, IsBundleStart, HasGuardRoom};
 ghost use Rattle.sfi_image.specs.Tests.{IsFirstFault, field_tests};
 
 use crate::fault::LayoutFault;
-use crate::format::Format;
 use crate::span::{Span, are_all_apart};
-use sfi_policy::{BUNDLE_SIZE, DATA_MOST, GATES_MOST, REGION_LEAST};
-use std::alloc::AllocError;
+use sfi_policy::{BUNDLE_SIZE, DATA_MOST, Format, GATES_MOST, REGION_LEAST};
 
 /// The seven numbers at the head of a sandbox, and its image's format.
-#[derive(Clone, Copy, Debug)]
+#[derive(Clone, Copy)]
 pub struct Fields {
     pub format: Format,
     pub code_base: u32,
@@ -23,6 +21,15 @@ pub struct Fields {
     pub start: u32,
     pub gate_count: u32,
     pub init_len: u32,
+}
+
+/// The two spans of a sandbox.
+#[derive(Clone, Copy)]
+pub(crate) struct OwnSpans {
+    /// The code region.
+    pub(crate) code: Span,
+    /// The data region with a guard zone on each side.
+    pub(crate) guarded: Span,
 }
 
 const GUARD: u64 = sfi_policy::GUARD as u64;
@@ -60,7 +67,7 @@ pub(crate) fn is_bundle_start(fields: &Fields, at: u32) -> bool
     at - fields.code_base < fields.code_size
 }
 
-pub(crate) fn code_span(fields: &Fields) -> Span
+fn code_span(fields: &Fields) -> Span
     ensures { result ≡ code_span fields.now }
 {
     Span {
@@ -70,7 +77,7 @@ pub(crate) fn code_span(fields: &Fields) -> Span
 }
 
 // The data with a guard zone on each side.
-pub(crate) fn guarded_span(fields: &Fields) -> Span
+fn guarded_span(fields: &Fields) -> Span
     requires { GUARD ≤ fields.now.data_base }
     ensures { result ≡ guarded_span fields.now }
 {
@@ -80,21 +87,14 @@ pub(crate) fn guarded_span(fields: &Fields) -> Span
     }
 }
 
-// The sandbox's two spans come after those of the sandboxes before it.
-pub(crate) fn add_spans(before: &mut Vec<Span>, fields: &Fields) -> Result<(), AllocError>
-    requires { GUARD ≤ fields.now.data_base }
-    ensures { OnOk result (before.new.items ≡ before.old.items ++ spans_of fields.now) }
-{
-    before.push(code_span(fields))?;
-    before.push(guarded_span(fields))?;
-    Ok(())
-}
-
-// The first test that the fields fail, after sandboxes with these spans.
-pub(crate) fn field_fault(before: &[Span], fields: &Fields) -> Option<LayoutFault>
+// The spans of a sandbox with these fields, or the first test that they fail, after sandboxes with those spans.
+pub(crate) fn spans_after(before: &[Span], fields: &Fields) -> Result<OwnSpans, LayoutFault>
     requires bounded { All IsBounded before.now }
     requires apart { AllPairs AreApart before.now }
-    ensures { IsFirstFault before.now fields.now field_tests result }
+    ensures code { IfOk result (λ own. own.code ≡ code_span fields.now) }
+    ensures guarded { IfOk result (λ own. own.guarded ≡ guarded_span fields.now) }
+    ensures passed { IfOk result (λ own. IsFirstFault before.now fields.now field_tests None) }
+    ensures fault { IfErr result (λ k. IsFirstFault before.now fields.now field_tests (Some k)) }
 {
     if !is_region(
         fields.code_base,
@@ -102,25 +102,29 @@ pub(crate) fn field_fault(before: &[Span], fields: &Fields) -> Option<LayoutFaul
         REGION_LEAST,
         fields.format.code_most(),
     ) {
-        return Some(LayoutFault::Code);
+        return Err(LayoutFault::Code);
     }
     if !is_region(fields.data_base, fields.data_size, REGION_LEAST, DATA_MOST) {
-        return Some(LayoutFault::Data);
+        return Err(LayoutFault::Data);
     }
     if !has_guard_room(fields.data_base, fields.data_size) {
-        return Some(LayoutFault::GuardRoom);
+        return Err(LayoutFault::GuardRoom);
     }
     if !is_bundle_start(fields, fields.start) {
-        return Some(LayoutFault::Start);
+        return Err(LayoutFault::Start);
     }
     if fields.gate_count > GATES_MOST {
-        return Some(LayoutFault::Gates);
+        return Err(LayoutFault::Gates);
     }
     if fields.init_len > fields.data_size {
-        return Some(LayoutFault::Init);
+        return Err(LayoutFault::Init);
     }
-    if !are_all_apart(before, code_span(fields), guarded_span(fields)) {
-        return Some(LayoutFault::Overlap);
+    let own = OwnSpans {
+        code: code_span(fields),
+        guarded: guarded_span(fields),
+    };
+    if !are_all_apart(before, own.code, own.guarded) {
+        return Err(LayoutFault::Overlap);
     }
-    None
+    Ok(own)
 }

@@ -38,7 +38,8 @@ pub(crate) fn is_next_gate(fields: &Fields, gates: &[Gate], gate: Gate) -> bool
 
 // The address is above all of these, which are in ascending order: above the last one.
 fn is_above_last(addresses: &[u32], address: u32) -> bool
-    ensures { (gs : List Gate) → map (λ g. g.address) gs ≡ addresses.now → AllPairs (λ g h. g.address < h.address) gs
+    ensures { (gs : List Gate) → map (λ g. g.address) gs ≡ addresses.now
+        → AllPairs (λ g h. g.address < h.address) gs
         → IsTrue result ↔ All (λ g. g.address < address) gs }
 {
     match addresses.last() {
@@ -49,7 +50,8 @@ fn is_above_last(addresses: &[u32], address: u32) -> bool
 
 // The gate may come next after gates with these addresses.
 pub(crate) fn is_next_address(fields: &Fields, addresses: &[u32], gate: Gate) -> bool
-    ensures next { (gs : List Gate) → map (λ g. g.address) gs ≡ addresses.now → AreGates (code_span fields.now) gs
+    ensures next { (gs : List Gate) → map (λ g. g.address) gs ≡ addresses.now
+        → AreGates (code_span fields.now) gs
         → IsTrue result ↔ AreGates (code_span fields.now) (gs ++ gate ∷ []) }
     ensures words { AreGateWords gate }
 {

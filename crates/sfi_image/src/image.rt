@@ -3,8 +3,8 @@ ghost use Rattle.std.specs.Prelude.{◌≡◌};
 ghost use Rattle.sfi_image.specs.Spelling.{views, format_of};
 ghost use Rattle.sfi_image.specs.Parts.{IsRightLayout};
 
-use crate::format::Format;
 use crate::part::SandboxPart;
+use sfi_policy::Format;
 use std::marker::Model;
 
 /// The sandboxes of an image, 1 to 16 of them, with a right layout. It borrows the bytes that it was read from.

@@ -12,7 +12,7 @@ const SPANS_MOST: usize = 2 * SANDBOXES_MOST as usize;
 const GATES: usize = GATES_MOST as usize;
 
 /// Spans, two for each of as many sandboxes as an image may have. Contracts see them as a list.
-#[derive(Debug, Drop)]
+#[derive(Drop)]
 pub(crate) struct KeptSpans {
     spans: [Span; SPANS_MOST],
     count: usize,
@@ -23,7 +23,8 @@ impl Model for KeptSpans {
 
     ghost view = { λ a. take a.count a.spans };
 
-    ghost invariant = { λ a. (a.count ≤ 2 * sandboxes_most) × (length a.spans ≡ 2 * sandboxes_most) };
+    ghost invariant = { λ a. (a.count ≤ 2 * sandboxes_most)
+        × (length a.spans ≡ 2 * sandboxes_most) };
 }
 
 impl KeptSpans {
@@ -52,7 +53,7 @@ impl KeptSpans {
 }
 
 /// The addresses of as many gates as a sandbox may have. Contracts see them as a list.
-#[derive(Debug, Drop)]
+#[derive(Drop)]
 pub(crate) struct KeptGates {
     addresses: [u32; GATES],
     count: usize,

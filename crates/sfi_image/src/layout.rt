@@ -1,5 +1,5 @@
 //! Whether sandboxes have a right layout, before they are written.
-ghost use Rattle.std.specs.Prelude.{◌≡◌, ◌++◌, OnOk, IfSome, IfNone, IfErr};
+ghost use Rattle.std.specs.Prelude.{◌≡◌, ◌++◌, ◌∷◌, [], OnOk, IfOk, IfErr};
 ghost use Rattle.std.specs.Bool.{OnTrue, OnFalse};
 ghost use Rattle.std.specs.List.{All, AllPairs};
 ghost use Rattle.sfi_image.specs.Spelling.{view, views, fields_of, IsWord, AreFieldWords, AreGateWords};
@@ -12,11 +12,11 @@ ghost use Rattle.sfi_image.specs.private.Writing.{capped, capped_fields};
 ghost use Rattle.sfi_image.specs.Outcome.{IfLayout};
 
 use crate::fault::{ImageFault, LayoutFault};
-use crate::fields::{Fields, add_spans, field_fault};
-use crate::format::Format;
+use crate::fields::{Fields, OwnSpans, spans_after};
 use crate::gates::is_next_gate;
 use crate::part::{Gate, SandboxPart};
 use crate::span::Span;
+use sfi_policy::Format;
 use std::alloc::Global;
 
 const SANDBOXES_MOST: usize = sfi_policy::SANDBOXES_MOST as usize;
@@ -72,21 +72,30 @@ fn are_gates(fields: &Fields, gates: &[Gate]) -> bool
     true
 }
 
-// What is wrong with a sandbox after others with these spans.
-fn part_fault(format: Format, before: &[Span], part: &SandboxPart<'_>) -> Option<LayoutFault>
+// A sandbox's spans, or what is wrong with it, after others with those spans.
+fn part_spans(
+    format: Format,
+    before: &[Span],
+    part: &SandboxPart<'_>,
+) -> Result<OwnSpans, LayoutFault>
     requires bounded { All IsBounded before.now }
     requires apart { AllPairs AreApart before.now }
-    ensures found { IfSome result (λ k. HasFault before.now (view format part.now) k) }
-    ensures right { IfNone result (IsRightPart (view format part.now) × AllPairs AreApart (before.now ++ spans_of (fields_of (view format part.now)))) }
+    ensures spans { IfOk result (λ own.
+        (own.code ∷ own.guarded ∷ []) ≡ spans_of (fields_of (view format part.now))) }
+    ensures right { IfOk result (λ own. IsRightPart (view format part.now)) }
+    ensures apart { IfOk result (λ own.
+        AllPairs AreApart (before.now ++ spans_of (fields_of (view format part.now)))) }
+    ensures fault { IfErr result (λ k. HasFault before.now (view format part.now) k) }
 {
     let fields = fields_of_part(format, part);
-    if let Some(fault) = field_fault(before, &fields) {
-        return Some(fault);
-    }
+    let own = match spans_after(before, &fields) {
+        Ok(own) => own,
+        Err(fault) => return Err(fault),
+    };
     if !are_gates(&fields, &part.gates) {
-        return Some(LayoutFault::Gates);
+        return Err(LayoutFault::Gates);
     }
-    None
+    Ok(own)
 }
 
 // The sandboxes have a right layout, or the first of them that is wrong has a fault.
@@ -103,10 +112,12 @@ pub(crate) fn check_layout(
     }
     let mut before = Vec::new(alloc);
     for part in parts {
-        if let Some(fault) = part_fault(format, &before, part) {
-            return Err(ImageFault::Layout(fault));
-        }
-        add_spans(&mut before, &fields_of_part(format, part))?;
+        let own = match part_spans(format, &before, part) {
+            Ok(own) => own,
+            Err(fault) => return Err(ImageFault::Layout(fault)),
+        };
+        before.push(own.code)?;
+        before.push(own.guarded)?;
     }
     Ok(())
 }

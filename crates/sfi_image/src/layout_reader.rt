@@ -4,21 +4,22 @@ ghost use Rattle.sfi_policy.specs.Limits.{bundle_size};
 ghost use Rattle.sfi_image.specs.declared.fault.LayoutFault.{LayoutFault};
 ghost use Rattle.sfi_image.specs.Fronts.{Front, front, want_of, IsLengthOf, HasFaultNumberWhateverFollows};
 ghost use Rattle.sfi_image.specs.Fronts.Front.{Empty};
-ghost use Rattle.sfi_image.specs.Keeping.{StandsFor, Leads, left};
+ghost use Rattle.sfi_image.specs.Keeping.{StandsFor, HasStopped, Leads, left};
 ghost use Rattle.sfi_image.specs.private.Keeping.{MayTake, Takes, is_first, next_part, next_init, next_code, next_gate};
 
 use crate::fault::LayoutFault;
-use crate::fields::{Fields, code_span, field_fault, guarded_span};
-use crate::format::Format;
+use crate::fields::{Fields, spans_after};
 use crate::gates::is_next_address;
 use crate::kept::{KeptGates, KeptSpans};
-use crate::reading::{fields_at, format_at, gate_at, number_at};
+use crate::reading::{
+    FIELDS_BYTES, GATE_BYTES, MAGIC_BYTES, NUMBER_BYTES, fields_at, format_at, gate_at, number_at,
+};
 use crate::want::{Next, Want};
-use sfi_policy::{BUNDLE_SIZE, SANDBOXES_MOST};
+use sfi_policy::{BUNDLE_SIZE, Format, SANDBOXES_MOST};
 use std::marker::Model;
 
 /// Reads an image's bytes in order, as they come, and keeps of them only what its tests need.
-#[derive(Debug, Drop)]
+#[derive(Drop)]
 pub struct LayoutReader {
     next: Next,
     count: u32,
@@ -150,12 +151,13 @@ impl LayoutReader {
     #[inline]
     pub fn wants(&self) -> Want
         ensures want { (x : Front) → StandsFor self.now x → result ≡ want_of x }
-        ensures stopped { self.now.next ≡ Next.Nothing → result ≡ Want.Nothing }
+        ensures stopped { HasStopped self.now → result ≡ Want.Nothing }
     {
         match self.next {
-            Next::Magic | Next::Count => Want::Field(4),
-            Next::Fields => Want::Field(28),
-            Next::Gate => Want::Field(8),
+            Next::Magic => Want::Field(MAGIC_BYTES),
+            Next::Count => Want::Field(NUMBER_BYTES),
+            Next::Fields => Want::Field(FIELDS_BYTES),
+            Next::Gate => Want::Field(GATE_BYTES),
             Next::Code => {
                 let address = self.fields.code_base + self.code_read;
                 Want::Bundle {
@@ -178,9 +180,11 @@ impl LayoutReader {
     #[inline]
     pub fn take(&mut self, bytes: &[u8]) -> Option<u32>
         requires { (x : Front) × StandsFor self.old x × IsLengthOf (length bytes.now) (want_of x) }
-        ensures goes_on { IfNone result ((x : Front) → StandsFor self.old x → Leads x bytes.now self.new) }
-        ensures fault { IfSome result (λ n. (x : Front) → StandsFor self.old x → HasFaultNumberWhateverFollows (front x ++ bytes.now) n) }
-        ensures stopped { IfSome result (λ n. self.new.next ≡ Next.Nothing) }
+        ensures goes_on { IfNone result
+            ((x : Front) → StandsFor self.old x → Leads x bytes.now self.new) }
+        ensures fault { IfSome result (λ n.
+            (x : Front) → StandsFor self.old x → HasFaultNumberWhateverFollows (front x ++ bytes.now) n) }
+        ensures stopped { IfSome result (λ n. HasStopped self.new) }
         ensures falls { left self.new < left self.old }
     {
         match self.advance(bytes) {
@@ -216,7 +220,7 @@ impl LayoutReader {
     #[inline(never)]
     fn take_magic(&mut self, bytes: &[u8]) -> Option<LayoutFault>
         requires next { self.old.next ≡ Next.Magic }
-        requires len { length bytes.now ≡ 4 }
+        requires len { length bytes.now ≡ MAGIC_BYTES }
         ensures takes { Takes self.old bytes.now self.new result }
         ensures falls { left self.new < left self.old }
     {
@@ -232,7 +236,7 @@ impl LayoutReader {
     #[inline(never)]
     fn take_count(&mut self, bytes: &[u8]) -> Option<LayoutFault>
         requires next { self.old.next ≡ Next.Count }
-        requires len { length bytes.now ≡ 4 }
+        requires len { length bytes.now ≡ NUMBER_BYTES }
         ensures takes { Takes self.old bytes.now self.new result }
         ensures falls { left self.new < left self.old }
     {
@@ -250,17 +254,20 @@ impl LayoutReader {
     #[inline(never)]
     fn take_fields(&mut self, bytes: &[u8]) -> Option<LayoutFault>
         requires next { self.old.next ≡ Next.Fields }
-        requires len { length bytes.now ≡ 28 }
+        requires len { length bytes.now ≡ FIELDS_BYTES }
         ensures takes { Takes self.old bytes.now self.new result }
         ensures falls { left self.new < left self.old }
     {
         let (fields, _) = fields_at(self.fields.format, bytes);
-        if let Some(fault) = field_fault(self.spans.as_slice(), &fields) {
-            self.next = Next::Nothing;
-            return Some(fault);
-        }
-        self.spans.push(code_span(&fields));
-        self.spans.push(guarded_span(&fields));
+        let own = match spans_after(self.spans.as_slice(), &fields) {
+            Ok(own) => own,
+            Err(fault) => {
+                self.next = Next::Nothing;
+                return Some(fault);
+            }
+        };
+        self.spans.push(own.code);
+        self.spans.push(own.guarded);
         self.begun += 1;
         self.gates.clear();
         self.passed = 0;
@@ -274,7 +281,7 @@ impl LayoutReader {
     #[inline(never)]
     fn take_gate(&mut self, bytes: &[u8]) -> Option<LayoutFault>
         requires next { self.old.next ≡ Next.Gate }
-        requires len { length bytes.now ≡ 8 }
+        requires len { length bytes.now ≡ GATE_BYTES }
         ensures takes { Takes self.old bytes.now self.new result }
         ensures falls { left self.new < left self.old }
     {

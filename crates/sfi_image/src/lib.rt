@@ -12,7 +12,6 @@
 
 mod fault;
 mod fields;
-mod format;
 mod gates;
 mod image;
 mod kept;
@@ -28,7 +27,6 @@ mod want;
 mod writing;
 
 pub use fault::{ImageFault, LayoutFault};
-pub use format::Format;
 pub use image::Image;
 pub use laws::{code_ends, front_ends, one_reading, right_in_second, some_reading, whole_bundles};
 pub use layout_reader::LayoutReader;

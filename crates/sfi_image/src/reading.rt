@@ -1,9 +1,9 @@
 //! Reading an image from left to right.
 ghost use Rattle.std.specs.Prelude.{◌≡◌, ℕ, ◌+◌, ◌<◌, ◌≤◌, ◌++◌, ◌∷◌, [], ◌≢◌, ◌↔◌, ◌⊎◌, List, length, IsTrue, IfOk, IfErr, IfSome, IfNone};
 ghost use Rattle.std.specs.List.{All, AllPairs, flat_map};
+ghost use Rattle.sfi_policy.specs.Formats.{magic};
 ghost use Rattle.sfi_image.specs.declared.fault.LayoutFault.{LayoutFault};
 ghost use Rattle.sfi_image.specs.Spelling.{Part, view, views, number, fields, fields_of, gate, part, IsWord, AreFieldWords, AreGateWords};
-ghost use Rattle.sfi_image.specs.Formats.{magic};
 ghost use Rattle.sfi_image.specs.Spans.{AreApart, code_span, spans_of};
 ghost use Rattle.sfi_image.specs.private.Spans.{IsBounded};
 ghost use Rattle.sfi_image.specs.Gates.{AreGates};
@@ -19,18 +19,20 @@ ghost use Rattle.sfi_image.specs.private.Keeping.{MayTake};
 
 use crate::fault::{ImageFault, LayoutFault};
 use crate::fields::Fields;
-use crate::format::Format;
 use crate::image::Image;
 use crate::layout_reader::LayoutReader;
 use crate::part::{Gate, SandboxPart};
 use byteorder::{ByteOrder, LittleEndian};
+use sfi_policy::Format;
 use std::alloc::Global;
 
-const NUMBER_BYTES: usize = 4;
+pub(crate) const MAGIC_BYTES: usize = 4;
 
-const FIELDS_BYTES: usize = 28;
+pub(crate) const NUMBER_BYTES: usize = 4;
 
-const GATE_BYTES: usize = 8;
+pub(crate) const FIELDS_BYTES: usize = 28;
+
+pub(crate) const GATE_BYTES: usize = 8;
 
 // The number at the front, and the bytes after it.
 pub(crate) fn number_at(bytes: &[u8]) -> (u32, &[u8])
@@ -90,9 +92,11 @@ fn take_front<'a>(
     bytes: &'a [u8],
 ) -> Result<(&'a [u8], &'a [u8]), ImageFault>
     requires length { MayTake reader.old len }
-    requires whole { (x : Front) → StandsFor reader.old x → (n : ℕ) → n < len → IsLess n (want_of x) }
+    requires whole { (x : Front) → StandsFor reader.old x
+        → (n : ℕ) → n < len → IsLess n (want_of x) }
     ensures { (x : Front) → StandsFor reader.old x
-        → Reads (λ r. (bytes.entry.now ≡ r.0.now ++ r.1.now) × (length r.0.now ≡ len) × Leads x r.0.now reader.new)
+        → Reads (λ r. (bytes.entry.now ≡ r.0.now ++ r.1.now) × (length r.0.now ≡ len)
+        × Leads x r.0.now reader.new)
         (IsFault (front x ++ bytes.entry.now)) result }
 {
     if bytes.len() < len {
@@ -114,7 +118,8 @@ fn gates_at<'a>(
 ) -> Result<(Vec<Gate>, &'a [u8]), ImageFault>
     requires { (n : ℕ) × (ps : List Part) × StandsFor reader.old (after_gates n ps seven.now []) }
     ensures { (n : ℕ) (ps : List Part) → StandsFor reader.old (after_gates n ps seven.now [])
-        → Reads (λ r. (bytes.entry.now ≡ flat_map gate r.0.items ++ r.1.now) × StandsFor reader.new (InCode n ps seven.now r.0.items []))
+        → Reads (λ r. (bytes.entry.now ≡ flat_map gate r.0.items ++ r.1.now)
+        × StandsFor reader.new (InCode n ps seven.now r.0.items []))
         (IsFault (head seven.now.format n ps ++ (fields seven.now ++ bytes.entry.now))) result }
 {
     let mut gates = Vec::new(alloc);
@@ -134,9 +139,12 @@ fn code_at<'a>(
     seven: &Fields,
     bytes: &'a [u8],
 ) -> Result<(&'a [u8], &'a [u8]), ImageFault>
-    requires { (n : ℕ) × (ps : List Part) × (gs : List Gate) × StandsFor reader.old (InCode n ps seven.now gs []) }
-    ensures { (n : ℕ) (ps : List Part) (gs : List Gate) → StandsFor reader.old (InCode n ps seven.now gs [])
-        → Reads (λ r. (bytes.entry.now ≡ r.0.now ++ r.1.now) × (length r.0.now ≡ seven.now.code_size)
+    requires { (n : ℕ) × (ps : List Part) × (gs : List Gate)
+        × StandsFor reader.old (InCode n ps seven.now gs []) }
+    ensures { (n : ℕ) (ps : List Part) (gs : List Gate)
+        → StandsFor reader.old (InCode n ps seven.now gs [])
+        → Reads (λ r. (bytes.entry.now ≡ r.0.now ++ r.1.now)
+        × (length r.0.now ≡ seven.now.code_size)
         × StandsFor reader.new (after_code n ps seven.now gs r.0.now))
         (IsFault (front (InCode n ps seven.now gs []) ++ bytes.entry.now)) result }
 {
@@ -155,11 +163,15 @@ fn init_at<'a>(
     seven: &Fields,
     bytes: &'a [u8],
 ) -> Result<(&'a [u8], &'a [u8]), ImageFault>
-    requires { (n : ℕ) × (ps : List Part) × (gs : List Gate) × (code : List ℕ) × StandsFor reader.old (after_init n ps seven.now gs code []) }
-    ensures { (n : ℕ) (ps : List Part) (gs : List Gate) (code : List ℕ) → length gs ≡ seven.now.gate_count → length code ≡ seven.now.code_size
+    requires { (n : ℕ) × (ps : List Part) × (gs : List Gate) × (code : List ℕ)
+        × StandsFor reader.old (after_init n ps seven.now gs code []) }
+    ensures { (n : ℕ) (ps : List Part) (gs : List Gate) (code : List ℕ)
+        → length gs ≡ seven.now.gate_count → length code ≡ seven.now.code_size
         → StandsFor reader.old (after_init n ps seven.now gs code [])
-        → Reads (λ r. (bytes.entry.now ≡ r.0.now ++ r.1.now) × (length r.0.now ≡ seven.now.init_len)
-        × StandsFor reader.new (after_parts seven.now.format n (ps ++ part_of seven.now gs code r.0.now ∷ [])))
+        → Reads (λ r. (bytes.entry.now ≡ r.0.now ++ r.1.now)
+        × (length r.0.now ≡ seven.now.init_len)
+        × StandsFor reader.new
+        (after_parts seven.now.format n (ps ++ part_of seven.now gs code r.0.now ∷ [])))
         (IsFault (front (InCode n ps seven.now gs code) ++ bytes.entry.now)) result }
 {
     if seven.init_len == 0 {
@@ -178,7 +190,8 @@ fn part_at<'a>(
     requires { (n : ℕ) × (ps : List Part) × StandsFor reader.old (AfterCount format n ps) }
     ensures { (n : ℕ) (ps : List Part) → StandsFor reader.old (AfterCount format n ps)
         → Reads (λ r. (bytes.entry.now ≡ part (view format r.0) ++ r.1.now)
-        × StandsFor reader.new (after_parts format n (ps ++ view format r.0 ∷ []))) (IsFault (head format n ps ++ bytes.entry.now)) result }
+        × StandsFor reader.new (after_parts format n (ps ++ view format r.0 ∷ [])))
+        (IsFault (head format n ps ++ bytes.entry.now)) result }
 {
     let (front, rest) = take_front(reader, FIELDS_BYTES, bytes)?;
     let (fields, _) = fields_at(format, front);
@@ -223,7 +236,7 @@ fn image_at<'a>(alloc: Global, bytes: &'a [u8]) -> Result<Image<'a>, ImageFault>
     ensures { Reads (IsImage bytes.entry.now) (IsFault bytes.entry.now) result }
 {
     let mut reader = LayoutReader::new();
-    let (_, rest) = take_front(&mut reader, NUMBER_BYTES, bytes)?;
+    let (_, rest) = take_front(&mut reader, MAGIC_BYTES, bytes)?;
     let format = reader.format();
     let (front, rest) = take_front(&mut reader, NUMBER_BYTES, rest)?;
     let (count, _) = number_at(front);
@@ -245,7 +258,8 @@ fn image_at<'a>(alloc: Global, bytes: &'a [u8]) -> Result<Image<'a>, ImageFault>
 pub fn parse_image<'a>(alloc: Global, bytes: &'a [u8]) -> Result<Image<'a>, ImageFault>
     ensures image { IfOk result (λ ps. IsImage bytes.entry.now ps) }
     ensures fault { IfErr result (λ e. IfLayout e (λ k. IsFault bytes.entry.now k)) }
-    ensures only_image { (ps : List Part) → IsImage bytes.entry.now ps → (result ≡ Ok ps) ⊎ (result ≡ Err ImageFault.Memory) }
+    ensures only_image { (ps : List Part) → IsImage bytes.entry.now ps
+        → (result ≡ Ok ps) ⊎ (result ≡ Err ImageFault.Memory) }
     ensures only_fault { (k : LayoutFault) → IsFault bytes.entry.now k
         → (result ≡ Err (ImageFault.Layout k)) ⊎ (result ≡ Err ImageFault.Memory) }
 {

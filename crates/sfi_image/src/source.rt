@@ -6,7 +6,7 @@ ghost use Rattle.sfi_image.specs.Reading.{ReadsOf};
 use std::io::Read;
 
 /// A read failed.
-#[derive(Clone, Copy, Debug, PartialEq, Eq)]
+#[derive(Clone, Copy)]
 pub struct ReadFault;
 
 /// What hands out bytes in pieces.
@@ -21,7 +21,8 @@ pub trait ByteSource {
     /// Hands out bytes at the front of the buffer, and says how many: none is the end, unless the buffer is empty.
     fn read_some(&mut self, buf: &mut [u8]) -> Result<usize, ReadFault>
         ensures bound { IfOk result (λ n. n ≤ length buf.new) }
-        ensures some { IfOk result (λ n. reads self.old (length buf.old) (Some (take n buf.new)) self.new) }
+        ensures some { IfOk result (λ n.
+            reads self.old (length buf.old) (Some (take n buf.new)) self.new) }
         ensures fault { OnErr result (reads self.old (length buf.old) None self.new) };
 
     /// Whether a read has failed.
@@ -32,7 +33,8 @@ pub trait ByteSource {
     ghost fails: { (s t : Self) (n : ℕ) → reads s n None t → has_failed t ≡ true };
 
     // One that hands out bytes doesn't change what is said.
-    ghost stays: { (s t : Self) (n : ℕ) (bytes : List ℕ) → reads s n (Some bytes) t → has_failed t ≡ has_failed s };
+    ghost stays: { (s t : Self) (n : ℕ) (bytes : List ℕ) → reads s n (Some bytes) t
+        → has_failed t ≡ has_failed s };
 }
 
 /// A source over any reader. Each error of the reader is a fault, and none is tried again.

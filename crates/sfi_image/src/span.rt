@@ -5,7 +5,7 @@ ghost use Rattle.sfi_image.specs.Spans.{AreApart};
 ghost use Rattle.sfi_image.specs.private.Spans.{IsBounded};
 
 /// So many addresses from a first one on. The end may be 2 ^ 32, so both numbers have 64 bits.
-#[derive(Clone, Copy, Debug)]
+#[derive(Clone, Copy)]
 pub struct Span {
     pub base: u64,
     pub size: u64,

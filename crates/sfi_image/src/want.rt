@@ -1,8 +1,8 @@
 //! What comes next of an image.
-use crate::format::Format;
+use sfi_policy::Format;
 
 /// What comes next of an image.
-#[derive(Clone, Copy, Debug, PartialEq, Eq)]
+#[derive(Clone, Copy)]
 pub enum Want {
     /// So many bytes: 4 for the magic and for the count, 28 for the seven fields, 8 for a gate.
     Field(usize),
@@ -30,7 +30,7 @@ pub enum Want {
 }
 
 /// What a reader reads next.
-#[derive(Clone, Copy, Debug)]
+#[derive(Clone, Copy)]
 pub(crate) enum Next {
     Magic,
     Count,

@@ -2,8 +2,8 @@
 ghost use Rattle.std.specs.Prelude.{◌≡◌, ◌++◌, ◌⊎◌, ◌≤◌, ◌<◌, List, length, OnOk, IfOk, IfErr};
 ghost use Rattle.std.specs.List.{All, flat_map};
 ghost use Rattle.sfi_policy.specs.Limits.{sandboxes_most};
+ghost use Rattle.sfi_policy.specs.declared.format.Format.TheVariants.{Sfi1};
 ghost use Rattle.sfi_image.specs.declared.fault.LayoutFault.{LayoutFault};
-ghost use Rattle.sfi_image.specs.declared.format.Format.TheVariants.{Sfi1};
 ghost use Rattle.sfi_image.specs.Spelling.{view, views, number, fields, fields_of, gate, part, spelling, AreWords};
 ghost use Rattle.sfi_image.specs.Parts.{IsRightPart, IsRightLayout};
 ghost use Rattle.sfi_image.specs.Faults.{IsFault};
@@ -13,10 +13,10 @@ ghost use Rattle.sfi_image.specs.Outcome.{IfLayout};
 ghost use Rattle.sfi_image.specs.private.Outcome.{Reads};
 
 use crate::fault::ImageFault;
-use crate::format::Format;
 use crate::layout::check_layout;
 use crate::part::{Gate, SandboxPart};
 use byteorder::{ByteOrder, LittleEndian};
+use sfi_policy::Format;
 use std::alloc::{AllocError, Global};
 
 #[tactic(auto, unfolding(crate::specs::Spelling::number))]
@@ -54,7 +54,8 @@ fn push_gates(bytes: &mut Vec<u8>, gates: &[Gate]) -> Result<(), AllocError>
 // The seven fields of a sandbox come after the bytes so far.
 fn push_fields(bytes: &mut Vec<u8>, one: &SandboxPart<'_>) -> Result<(), AllocError>
     requires { (format : Format) × IsRightPart (view format one.now) }
-    ensures { (format : Format) → OnOk result (bytes.new.items ≡ bytes.old.items ++ fields (fields_of (view format one.now))) }
+    ensures { (format : Format) → OnOk result
+        (bytes.new.items ≡ bytes.old.items ++ fields (fields_of (view format one.now))) }
 {
     push_number(bytes, one.code_base)?;
     push_number(bytes, one.code.len() as u32)?;
@@ -70,7 +71,8 @@ fn push_fields(bytes: &mut Vec<u8>, one: &SandboxPart<'_>) -> Result<(), AllocEr
 // The sandbox comes after the bytes so far.
 fn push_part(bytes: &mut Vec<u8>, one: &SandboxPart<'_>) -> Result<(), AllocError>
     requires { (format : Format) × IsRightPart (view format one.now) }
-    ensures { (format : Format) → OnOk result (bytes.new.items ≡ bytes.old.items ++ part (view format one.now)) }
+    ensures { (format : Format) → OnOk result
+        (bytes.new.items ≡ bytes.old.items ++ part (view format one.now)) }
 {
     push_fields(bytes, one)?;
     push_gates(bytes, &one.gates)?;
@@ -99,7 +101,8 @@ fn write_right(
 
 // The image of these sandboxes, or their fault.
 fn image_of(alloc: Global, format: Format, parts: &[SandboxPart<'_>]) -> Result<Vec<u8>, ImageFault>
-    ensures { Reads (λ bytes. IsImage bytes.items (views format parts.now)) (HaveFault (views format parts.now)) result }
+    ensures { Reads (λ bytes. IsImage bytes.items (views format parts.now))
+        (HaveFault (views format parts.now)) result }
 {
     check_layout(alloc, format, parts)?;
     Ok(write_right(alloc, format, parts)?)
@@ -117,7 +120,8 @@ pub fn write_image_as(
     ensures fault { IfErr result (λ e. IfLayout e (HaveFault (views format parts.now))) }
 
     // Which sandboxes get it, want of memory aside.
-    ensures only_image { IsRightLayout (views format parts.now) → IfErr result (λ e. e ≡ ImageFault.Memory) }
+    ensures only_image { IsRightLayout (views format parts.now)
+        → IfErr result (λ e. e ≡ ImageFault.Memory) }
     ensures only_fault { (k : LayoutFault) → HaveFault (views format parts.now) k
         → (result ≡ Err (ImageFault.Layout k)) ⊎ (result ≡ Err ImageFault.Memory) }
 
@@ -136,7 +140,8 @@ pub fn write_image(alloc: Global, parts: &[SandboxPart<'_>]) -> Result<Vec<u8>, 
     ensures fault { IfErr result (λ e. IfLayout e (HaveFault (views Sfi1 parts.now))) }
 
     // Which sandboxes get it, want of memory aside.
-    ensures only_image { IsRightLayout (views Sfi1 parts.now) → IfErr result (λ e. e ≡ ImageFault.Memory) }
+    ensures only_image { IsRightLayout (views Sfi1 parts.now)
+        → IfErr result (λ e. e ≡ ImageFault.Memory) }
     ensures only_fault { (k : LayoutFault) → HaveFault (views Sfi1 parts.now) k
         → (result ≡ Err (ImageFault.Layout k)) ⊎ (result ≡ Err ImageFault.Memory) }
 

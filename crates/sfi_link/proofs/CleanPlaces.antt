@@ -12,9 +12,9 @@ use Rattle.rv_word.specs.Writes.{writes_register}
 use Rattle.rv_comp.specs.declared.form.Form16.TheVariants.{CEbreak}
 use Rattle.rv_comp.specs.Fronts.{Spells}
 use Rattle.rv_comp.specs.Table.{expansion}
+use Rattle.sfi_policy.specs.Formats.{has_stack, is_stack}
 use Rattle.rv_source.specs.declared.item.Body.TheVariants.{To}
 use Rattle.rv_source.specs.Source.{IsBody}
-use Rattle.sfi_image.specs.Formats.{has_stack, is_stack}
 use Rattle.sfi_scan.specs.declared.bundle.BundlePlace.{BundlePlace}
 use Rattle.sfi_scan.specs.Readings.{Piece, IsReading, rest_of}
 use Rattle.sfi_policy.specs.Pairs.{is_masking, is_placing}

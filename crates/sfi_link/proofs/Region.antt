@@ -12,10 +12,10 @@ use Rattle.rv_word.specs.declared.instr.Instr.TheVariants.{Op, Jalr, Ecall}
 use Rattle.rv_word.specs.Spelling.{InRange, spelling}
 use Rattle.rv_word.specs.Laws.{SpellingsAreWide}
 use Rattle.rv_comp.specs.Laws.{OneSpelling, TwoLengths}
-use Rattle.sfi_image.specs.declared.format.Format.{Format}
+use Rattle.sfi_policy.specs.declared.format.Format.{Format}
 use Rattle.rv_word.specs.declared.instr.Instr.{Instr}
+use Rattle.sfi_policy.specs.Formats.{has_stack}
 use Rattle.sfi_link.specs.Linked.{c_ebreak}
-use Rattle.sfi_image.specs.Formats.{has_stack}
 use Rattle.sfi_image.specs.Spelling.{Part}
 use Rattle.sfi_image.specs.Gates.{is_gate_of}
 use Rattle.sfi_scan.specs.declared.bundle.BundlePlace.{BundlePlace}

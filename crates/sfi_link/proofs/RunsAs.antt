@@ -6,6 +6,8 @@ use Rattle.std.proofs.lemmas.List.{get_or_append_left, get_or-append-add}
 use Rattle.rv_word.specs.declared.instr.Instr.{Instr}
 use Rattle.rv_word.specs.declared.instr.Instr.TheVariants.{Op, OpImm, Load, Store, Branch, Jal, Jalr, Lui, Auipc, Fence, Ecall, Ebreak}
 use Rattle.rv_word.specs.declared.instr.ImmOp.TheVariants.{Addi}
+use Rattle.sfi_policy.specs.declared.format.Format.{Format}
+use Rattle.sfi_policy.specs.Formats.{is_stack}
 use Rattle.rv_mem.specs.Bytes.{Bytes, byte_at, address_after}
 use Rattle.rv_mem.specs.Laws.{Holds}
 use Rattle.rv_source.specs.Halves.{upper, lower}
@@ -13,7 +15,6 @@ use Rattle.rv_source.specs.declared.item.Body.{Body}
 use Rattle.rv_source.specs.declared.item.Body.TheVariants.{Plain, To, High, Low}
 use Rattle.rv_source.specs.declared.item.Item.{Item}
 use Rattle.rv_source.specs.Source.{Sandbox, IsSandbox, IsBody}
-use Rattle.sfi_image.specs.declared.format.Format.{Format}
 use Rattle.sfi_image.specs.Spelling.{Part}
 use Rattle.sfi_image.specs.Parts.{IsRightPart}
 use Rattle.sfi_policy.specs.Pairs.{stub}
@@ -22,7 +23,6 @@ use Rattle.sfi_rewrite.specs.declared.slot.Slot.{Slot}
 use Rattle.sfi_rewrite.specs.declared.slot.Slot.TheVariants.{Wide, Short}
 use Rattle.sfi_rewrite.specs.declared.placed.PlacedName.{PlacedName}
 use Rattle.sfi_rewrite.specs.Slots.{slot_size, size_of, slots_of, c_nop}
-use Rattle.sfi_image.specs.Formats.{is_stack}
 use Rattle.sfi_rewrite.specs.Stack.{writes_stack, is_on_stack, stack_pair, put_back}
 use Rattle.sfi_rewrite.specs.Expansion.{jump_slots, IsAlone, IsMasked, IsExpansionOf}
 use Rattle.sfi_rewrite.specs.Placement.{Placement}

@@ -16,10 +16,10 @@ use Rattle.rv_word.specs.Numbers.{modulo, minus, IsBetween, IsEven}
 use Rattle.rv_word.specs.Spelling.{InRange, IsReg, IsBranchOffset, IsJumpOffset, spelling}
 use Rattle.rv_comp.specs.Table.{expansion}
 use Rattle.rv_comp.specs.Halfwords.{halfword_of}
+use Rattle.sfi_policy.specs.declared.format.Format.{Format}
+use Rattle.sfi_policy.specs.declared.format.Format.TheVariants.{Sfi1}
+use Rattle.sfi_policy.specs.Formats.{code_most}
 use Rattle.rv_source.specs.Halves.{upper, lower}
-use Rattle.sfi_image.specs.declared.format.Format.{Format}
-use Rattle.sfi_image.specs.declared.format.Format.TheVariants.{Sfi1}
-use Rattle.sfi_image.specs.Formats.{code_most}
 use Rattle.sfi_image.specs.Spelling as image
 use Rattle.sfi_policy.specs.Pairs.{stub}
 use Rattle.sfi_rewrite.specs.declared.slot.Slot.{Slot}

@@ -1,11 +1,11 @@
 -- What the linker writes stands for what was placed, in a machine: so each item of a source does in the image what its instruction does.
 use Rattle.std.specs.Prelude.{◌≡◌, ℕ, ◌+◌, ◌*◌, ◌<◌, List, [], ◌∷◌, length, slice_get, Some}
 use Rattle.rv_word.specs.declared.instr.Instr.{Instr}
+use Rattle.sfi_policy.specs.declared.format.Format.{Format}
 use Rattle.rv_mem.specs.Laws.{Holds}
 use Rattle.rv_step.specs.State.{State}
 use Rattle.rv_source.specs.declared.item.Item.{Item}
 use Rattle.rv_source.specs.Source.{Sandbox, IsSandbox, IsSource}
-use Rattle.sfi_image.specs.declared.format.Format.{Format}
 use Rattle.sfi_image.specs.Spelling.{Part}
 use Rattle.sfi_image.specs.Spans.{code_region, data_region}
 use Rattle.sfi_image.specs.Images.{IsImage}

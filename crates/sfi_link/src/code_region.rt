@@ -1,8 +1,8 @@
 //! The code region of a sandbox: its gates' stubs, its code, and c.ebreaks up to its end.
 ghost use Rattle.std.specs.Prelude.{◌≡◌, ◌++◌, ◌<◌, ◌≤◌, ℕ, IfSome, IfNone, OnOk};
 ghost use Rattle.std.specs.List.{repeat};
-ghost use Rattle.sfi_image.specs.declared.format.Format.TheVariants.{Sfi2};
-ghost use Rattle.sfi_image.specs.Formats.{code_most};
+ghost use Rattle.sfi_policy.specs.declared.format.Format.TheVariants.{Sfi2};
+ghost use Rattle.sfi_policy.specs.Formats.{code_most};
 ghost use Rattle.sfi_rewrite.specs.Slots.{size_of, slots_of};
 ghost use Rattle.sfi_rewrite.specs.Placement.{AreBundles};
 ghost use Rattle.sfi_rewrite.specs.Placed.{IsPlacedPart};
@@ -14,8 +14,7 @@ ghost use Rattle.sfi_link.specs.private.Answers.{Links};
 use crate::bases::bases_of;
 use crate::code::push_bundles;
 use crate::fault::LinkFault;
-use sfi_image::Format;
-use sfi_policy::{BUNDLE_BYTES, REGION_LEAST_BYTES, STUB};
+use sfi_policy::{BUNDLE_BYTES, Format, REGION_LEAST_BYTES, STUB};
 use sfi_rewrite::{Bundle, PlacedPart};
 use std::alloc::{AllocError, Global};
 

@@ -19,8 +19,8 @@ use crate::code_region::linked_code;
 use crate::fault::LinkFault;
 use crate::laws::{linked_is_clean, linked_is_right, one_linking};
 use rv_source::SourceGate;
-use sfi_image::{Format, Gate, ImageFault, SandboxPart, write_image_as};
-use sfi_policy::{BUNDLE_SIZE, SANDBOX_COUNT_MOST};
+use sfi_image::{Gate, ImageFault, SandboxPart, write_image_as};
+use sfi_policy::{BUNDLE_SIZE, Format, SANDBOX_COUNT_MOST};
 use sfi_rewrite::{Placed, PlacedPart};
 use std::alloc::{AllocError, Global};
 

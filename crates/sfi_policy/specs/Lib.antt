@@ -1,4 +1,5 @@
 pub mod Limits
 pub mod Registers
+pub mod Formats
 pub mod Pairs
 pub mod Laws

@@ -3,7 +3,7 @@ use Rattle.std.proofs.Common.{◌≡◌, ℕ, zero, suc, ◌+◌, ◌*◌, ◌<�
 use Rattle.std.specs.List.{All, flat_map}
 use Rattle.std.specs.Simd.{first_chunks}
 use Rattle.std.proofs.lemmas.List.{take_more, append-nil, drop-drop, take_all, length-map, length-take, get_or-map}
-use Rattle.sfi_image.specs.declared.format.Format.{Format}
+use Rattle.sfi_policy.specs.declared.format.Format.{Format}
 use Rattle.sfi_image.specs.declared.part.SandboxPart.{SandboxPart}
 use Rattle.sfi_image.specs.Spelling.{Part, view, views, format_of}
 use Rattle.sfi_image.specs.Parts.{IsRightPart, IsRightLayout}

@@ -10,8 +10,8 @@ use crate::digits::{push_eight_digits, push_two_digits, push_word};
 use rv_comp::{Front, read_front};
 use rv_text::push_instr;
 use rv_word::Instr;
-use sfi_image::{Format, Gate, Image, SandboxPart, whole_bundles};
-use sfi_policy::{BUNDLE_BYTES, BUNDLE_SIZE};
+use sfi_image::{Gate, Image, SandboxPart, whole_bundles};
+use sfi_policy::{BUNDLE_BYTES, BUNDLE_SIZE, Format};
 use std::alloc::{AllocError, Global};
 
 /// Writes the line of an instruction with these bytes.

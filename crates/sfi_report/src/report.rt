@@ -8,7 +8,8 @@ ghost use Rattle.sfi_report.specs.private.Added.{Adds, IsPlace, SpellsFirst, Sta
 use crate::digits::{push_eight_digits, push_half};
 use rv_comp::{Front, read_front};
 use rv_text::push_instr;
-use sfi_image::{Format, Image, SandboxPart};
+use sfi_image::{Image, SandboxPart};
+use sfi_policy::Format;
 use sfi_scan::{Finding, Rule};
 use std::alloc::{AllocError, Global};
 

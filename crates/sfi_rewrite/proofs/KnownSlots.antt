@@ -11,15 +11,15 @@ use Rattle.rv_word.specs.declared.instr.LoadKind.{LoadKind}
 use Rattle.rv_word.specs.declared.instr.StoreWidth.{StoreWidth}
 use Rattle.rv_word.specs.declared.instr.Instr.TheVariants.{Op, OpImm, Load, Store, Branch, Jal, Jalr, Lui, Auipc, Fence, Ecall, Ebreak}
 use Rattle.rv_word.specs.Spelling.{InRange, IsImm12}
+use Rattle.sfi_policy.specs.declared.format.Format.{Format}
+use Rattle.sfi_policy.specs.Formats.{is_stack}
 use Rattle.rv_source.specs.declared.item.Item.{Item}
 use Rattle.rv_source.specs.declared.item.Body.{Body}
 use Rattle.rv_source.specs.declared.item.Body.TheVariants.{Plain, To, High, Low}
 use Rattle.rv_source.specs.Source.{IsBody}
-use Rattle.sfi_image.specs.declared.format.Format.{Format}
 use Rattle.sfi_rewrite.specs.declared.slot.Slot.{Slot}
 use Rattle.sfi_rewrite.specs.declared.slot.Slot.TheVariants.{Wide, Short, Jump, Upper, Lower}
 use Rattle.sfi_rewrite.specs.Slots.{size_of, c_nop}
-use Rattle.sfi_image.specs.Formats.{is_stack}
 use Rattle.sfi_rewrite.specs.Stack.{writes_stack, is_on_stack, stack_pair, put_back}
 use Rattle.sfi_rewrite.specs.Expansion.{code_pair, jump_to_x31, jump_slots, IsAlone, IsMasked, IsExpansionOf}
 use Rattle.sfi_rewrite.specs.Places.{AreLaidFrom}

@@ -11,14 +11,14 @@ use Rattle.std.proofs.lemmas.Option.{slice_get-get_or}
 use Rattle.std.proofs.lemmas.Slice.Zip.{AllZip-left, AllZip-long}
 use Rattle.rv_word.specs.declared.instr.Instr.TheVariants.{Ecall}
 use Rattle.rv_comp.specs.Laws.{OneFirstForm}
+use Rattle.sfi_policy.specs.declared.format.Format.{Format}
+use Rattle.sfi_policy.specs.Formats.{code_most}
 use Rattle.rv_source.specs.declared.item.Item.{Item}
 use Rattle.rv_source.specs.declared.item.Body.TheVariants.{Plain}
 use Rattle.rv_source.specs.declared.item.Named.{Named}
 use Rattle.rv_source.specs.declared.item.Named.TheVariants.{Gate, Code, Data, Unknown}
 use Rattle.rv_source.specs.declared.item.SourceGate.{SourceGate}
 use Rattle.rv_source.specs.Source.{Sandbox, IsSandbox, IsThere, IsBody, named}
-use Rattle.sfi_image.specs.declared.format.Format.{Format}
-use Rattle.sfi_image.specs.Formats.{code_most}
 use Rattle.sfi_rewrite.specs.declared.slot.Slot.{Slot}
 use Rattle.sfi_rewrite.specs.declared.placed.PlacedName.{PlacedName}
 use Rattle.sfi_rewrite.specs.Slots.{size_of, slots_of, c_nop}

@@ -14,12 +14,12 @@ use Rattle.rv_word.specs.declared.instr.Instr.{Instr}
 use Rattle.rv_word.specs.declared.instr.Instr.TheVariants.{Op, Load, Jalr}
 use Rattle.rv_word.specs.Spelling.{spelling, InRange}
 use Rattle.rv_comp.specs.Fronts.{Spells}
+use Rattle.sfi_policy.specs.declared.format.Format.TheVariants.{Sfi2}
 use Rattle.rv_mem.specs.Bytes.{Bytes, IsMemory, byte_at, bytes_at, addresses, address_after, with_bytes, number_of}
 use Rattle.rv_mem.specs.Laws.{AddressesAreThese, OthersStay, ReadIsHeld, WrittenIsThere}
 use Rattle.rv_step.specs.declared.outcome.Outcome.TheVariants.{Next}
 use Rattle.rv_step.specs.State.{Hart, IsHart}
 use Rattle.rv_step.specs.Step.{Stands, effect, after_load}
-use Rattle.sfi_image.specs.declared.format.Format.TheVariants.{Sfi2}
 use Rattle.sfi_image.specs.declared.span.Span.{Span}
 use Rattle.sfi_rewrite.specs.declared.slot.Slot.TheVariants.{Wide}
 use Rattle.sfi_rewrite.specs.Transparency.{AreRegions, HasReserved}

@@ -1,10 +1,10 @@
 -- The faults of a source, in the order of its text.
 use Rattle.std.specs.Prelude.{◌≡◌, ◌+◌, ◌*◌, ◌≤◌, ℕ, List, true, false, take, slice_get, Some}
 use Rattle.std.specs.List.{All}
+use Rattle.sfi_policy.specs.declared.format.Format.{Format}
+use Rattle.sfi_policy.specs.Formats.{code_most}
 use Rattle.rv_source.specs.declared.item.Item.{Item}
 use Rattle.rv_source.specs.Source.{Sandbox}
-use Rattle.sfi_image.specs.declared.format.Format.{Format}
-use Rattle.sfi_image.specs.Formats.{code_most}
 use Rattle.sfi_rewrite.specs.declared.slot.Slot.{Slot}
 use Rattle.sfi_rewrite.specs.declared.fault.RewriteFault.{RewriteFault}
 use Rattle.sfi_rewrite.specs.declared.fault.RewriteFault.TheVariants.{ReservedRegister, Ecall, TooLarge, Memory, StackWrite}

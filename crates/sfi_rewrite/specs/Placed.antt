@@ -3,12 +3,12 @@ use Rattle.std.specs.Prelude.{◌≡◌, ◌%◌, ◌≤◌, ◌<◌, ◌++◌, 
 use Rattle.std.specs.List.{All}
 use Rattle.rv_word.specs.Spelling.{InRange, IsReg}
 use Rattle.rv_comp.specs.Table.{allowed}
+use Rattle.sfi_policy.specs.declared.format.Format.{Format}
+use Rattle.sfi_policy.specs.declared.format.Format.TheVariants.{Sfi1}
+use Rattle.sfi_policy.specs.Formats.{code_most}
 use Rattle.rv_source.specs.declared.item.Item.{Item}
 use Rattle.rv_source.specs.declared.item.SourceGate.{SourceGate}
 use Rattle.rv_source.specs.Source.{IsDataSize, IsBody}
-use Rattle.sfi_image.specs.declared.format.Format.{Format}
-use Rattle.sfi_image.specs.declared.format.Format.TheVariants.{Sfi1}
-use Rattle.sfi_image.specs.Formats.{code_most}
 use Rattle.sfi_rewrite.specs.declared.slot.Slot.{Slot}
 use Rattle.sfi_rewrite.specs.declared.slot.Slot.TheVariants.{Wide, Short, Jump, Upper, Lower}
 use Rattle.sfi_rewrite.specs.declared.placed.PlacedName.{PlacedName}

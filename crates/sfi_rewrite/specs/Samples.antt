@@ -5,11 +5,11 @@ use Rattle.rv_word.specs.declared.instr.LoadKind.TheVariants.{Lw}
 use Rattle.rv_word.specs.declared.instr.Instr.{Instr}
 use Rattle.rv_word.specs.declared.instr.Instr.TheVariants.{Load, Jalr, OpImm}
 use Rattle.rv_word.specs.Numbers.{minus}
+use Rattle.sfi_policy.specs.declared.format.Format.{Format}
 use Rattle.rv_step.specs.declared.outcome.Outcome.TheVariants.{Next}
 use Rattle.rv_step.specs.State.{State, register}
 use Rattle.rv_step.specs.Step.{effect}
 use Rattle.sfi_policy.specs.Registers.{stack_pointer}
-use Rattle.sfi_image.specs.declared.format.Format.{Format}
 use Rattle.sfi_image.specs.declared.span.Span.{Span}
 use Rattle.sfi_image.specs.Spans.{Holds}
 use Rattle.sfi_rewrite.specs.declared.slot.Slot.{Slot}

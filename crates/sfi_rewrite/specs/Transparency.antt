@@ -6,6 +6,7 @@ use Rattle.rv_word.specs.declared.instr.Instr.{Instr}
 use Rattle.rv_word.specs.declared.instr.ImmOp.TheVariants.{Addi}
 use Rattle.rv_word.specs.declared.instr.Instr.TheVariants.{OpImm, Load, Store, Branch, Jal, Jalr, Lui}
 use Rattle.rv_comp.specs.Table.{expansion}
+use Rattle.sfi_policy.specs.declared.format.Format.{Format}
 use Rattle.rv_mem.specs.Bytes.{address_after}
 use Rattle.rv_step.specs.declared.outcome.Outcome.TheVariants.{Next}
 use Rattle.rv_step.specs.State.{Hart, State, IsState, register, with_pc}
@@ -16,7 +17,6 @@ use Rattle.rv_source.specs.declared.item.Body.TheVariants.{Plain, To, High, Low}
 use Rattle.rv_source.specs.declared.item.Item.{Item}
 use Rattle.rv_source.specs.Source.{Sandbox}
 use Rattle.sfi_policy.specs.Registers.{code_base_register, code_mask_register, data_base_register, data_mask_register, scratch, stack_pointer}
-use Rattle.sfi_image.specs.declared.format.Format.{Format}
 use Rattle.sfi_image.specs.declared.span.Span.{Span}
 use Rattle.sfi_image.specs.Spans.{Holds}
 use Rattle.sfi_image.specs.Regions.{IsCodeRegion, IsDataRegion, IsBundleStart}

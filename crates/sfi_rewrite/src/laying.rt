@@ -1,7 +1,7 @@
 //! The items of a sandbox, laid one after another.
 ghost use Rattle.std.specs.Prelude.{◌≡◌, ◌<◌, ◌≤◌, ◌+◌, ◌*◌, ℕ, IfOk, IfErr, length, slice_index};
+ghost use Rattle.sfi_policy.specs.Formats.{code_most};
 ghost use Rattle.rv_source.specs.Source.{IsBody};
-ghost use Rattle.sfi_image.specs.Formats.{code_most};
 ghost use Rattle.sfi_rewrite.specs.Slots.{size_of};
 ghost use Rattle.sfi_rewrite.specs.private.Filling.{HasNext, HaveBodies, AreLabels};
 ghost use Rattle.sfi_rewrite.specs.Faults.{IsPermitted, AreFaultless, HasFault, UnlessMemory, IsItemFault};
@@ -13,7 +13,7 @@ use crate::item::{is_call, permit};
 use crate::place::{next_bundle, nops_before};
 use crate::slot::size_of;
 use rv_source::Item;
-use sfi_image::Format;
+use sfi_policy::Format;
 use std::alloc::Global;
 
 /// A sandbox's items in their places.

@@ -4,7 +4,7 @@ ghost use Rattle.sfi_rewrite.specs.Placed.{format_of, IsPlaced};
 
 use crate::bundle::Bundle;
 use rv_source::SourceGate;
-use sfi_image::Format;
+use sfi_policy::Format;
 use std::marker::Model;
 
 /// What a name of a sandbox names, once its code is placed.

@@ -13,9 +13,9 @@ use Rattle.rv_word.specs.declared.outline.Outline.TheVariants.{Computes, Loads}
 use Rattle.rv_word.specs.Outlines.{outline}
 use Rattle.rv_word.specs.Spelling.{spelling, IsWordOf}
 use Rattle.rv_word.specs.Laws.{OneSpelling}
+use Rattle.sfi_policy.specs.Formats.{has_stack, is_stack}
 use Rattle.sfi_scan.specs.declared.bundle.BundlePlace.{BundlePlace}
 use Rattle.sfi_scan.specs.declared.clean.Words.{Words}
-use Rattle.sfi_image.specs.Formats.{has_stack, is_stack}
 use Rattle.sfi_policy.specs.Registers.{is_reserved}
 use Rattle.sfi_scan.specs.Pairs.{follows_pair, follows_code_pair}
 use Rattle.sfi_scan.specs.Readings.{Piece}

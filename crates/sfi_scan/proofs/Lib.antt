@@ -1,5 +1,4 @@
 pub mod After
-pub mod Bounds
 pub mod FirstLook
 pub mod Gates
 pub mod Look

@@ -8,12 +8,12 @@ use Rattle.rv_comp.specs.Halfwords.{IsShortSpelling}
 use Rattle.rv_comp.specs.Fronts.{Spells}
 use Rattle.rv_comp.specs.Laws.{OneSpelling}
 use Rattle.rv_comp.specs.declared.front.Front.TheVariants.{Read}
+use Rattle.sfi_policy.specs.Formats.{has_stack}
 use Rattle.sfi_scan.specs.declared.before.Before.{Before}
 use Rattle.sfi_scan.specs.declared.bundle.BundlePlace.{BundlePlace}
 use Rattle.sfi_scan.specs.private.Near.{near}
 use Rattle.sfi_scan.specs.Rules.{Place, is_last_bundle}
 use Rattle.sfi_scan.specs.Findings.{lowest, all_rules}
-use Rattle.sfi_image.specs.Formats.{has_stack}
 use Rattle.rv_word.specs.declared.instr.Instr.TheVariants.{Op}
 use Rattle.rv_word.specs.declared.instr.RegOp.TheVariants.{And, Or}
 use Rattle.sfi_scan.specs.Stack.{begins_pair, precedes_pair}

@@ -13,7 +13,7 @@ use Rattle.rv_comp.specs.Halfwords.{IsHalfwordThat, IsShortSpelling}
 use Rattle.rv_comp.specs.Laws.{HalfwordsAreOutlined}
 use Rattle.rv_comp.specs.mirror.Decoding.{extended, jump_offset, branch_offset}
 use Rattle.rv_comp.specs.mirror.Outlining.{row_of, jump, jump_or_stop, outlined}
-use Rattle.sfi_image.specs.Formats.{has_stack}
+use Rattle.sfi_policy.specs.Formats.{has_stack}
 use Rattle.sfi_policy.specs.Registers.{is_reserved}
 use Rattle.sfi_scan.specs.private.FirstLook.{AreBefore, IsFreeHalf, IsCleanOne, is_clean, is_withheld}
 use Rattle.sfi_scan.specs.declared.bundle.BundlePlace.{BundlePlace}

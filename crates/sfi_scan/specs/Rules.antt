@@ -4,7 +4,7 @@ use Rattle.rv_word.specs.declared.instr.Instr.{Instr}
 use Rattle.rv_word.specs.declared.instr.Instr.TheVariants.{Load, Store, Branch, Jal, Jalr, Ecall, Ebreak}
 use Rattle.rv_word.specs.Numbers.{offset_by}
 use Rattle.rv_word.specs.Writes.{destination}
-use Rattle.sfi_image.specs.Formats.{is_stack}
+use Rattle.sfi_policy.specs.Formats.{is_stack}
 use Rattle.sfi_scan.specs.declared.rule.Rule.{Rule}
 use Rattle.sfi_scan.specs.declared.rule.Rule.TheVariants.{V1, V2, V3, V4, V5, V6, V7, V8, V9, V10}
 use Rattle.sfi_scan.specs.declared.bundle.BundlePlace.{BundlePlace}

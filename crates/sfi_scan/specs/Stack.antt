@@ -4,7 +4,7 @@ use Rattle.std.specs.Prelude.{◌&&◌, List, [], ◌∷◌, Bool, true, false}
 use Rattle.rv_word.specs.declared.instr.Instr.{Instr}
 use Rattle.rv_word.specs.declared.instr.Instr.TheVariants.{Jal, Jalr}
 use Rattle.rv_word.specs.Writes.{writes_register}
-use Rattle.sfi_image.specs.Formats.{has_stack}
+use Rattle.sfi_policy.specs.Formats.{has_stack}
 use Rattle.sfi_scan.specs.declared.bundle.BundlePlace.{BundlePlace}
 use Rattle.sfi_policy.specs.Registers.{data_base_register, data_mask_register, stack_pointer}
 use Rattle.sfi_policy.specs.Pairs.{is_pair}

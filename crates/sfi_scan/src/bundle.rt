@@ -1,6 +1,6 @@
 //! A bundle's place.
 
-use sfi_image::Format;
+use sfi_policy::Format;
 
 /// Where a bundle stands.
 #[derive(Clone, Copy, PartialEq, Eq, Debug)]

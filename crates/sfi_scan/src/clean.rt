@@ -5,7 +5,7 @@ ghost use Rattle.std.specs.Bool.{OnTrue};
 ghost use Rattle.rv_comp.specs.Halfwords.{IsShortSpelling};
 ghost use Rattle.rv_word.specs.declared.instr.Instr.{Instr};
 ghost use Rattle.rv_word.specs.Spelling.{IsWordOf};
-ghost use Rattle.sfi_image.specs.Formats.{has_stack};
+ghost use Rattle.sfi_policy.specs.Formats.{has_stack};
 ghost use Rattle.sfi_scan.specs.declared.before.Before.{Before};
 ghost use Rattle.sfi_scan.specs.Bundles.{IsWithin};
 ghost use Rattle.sfi_scan.specs.Findings.{AreReadingFindings};

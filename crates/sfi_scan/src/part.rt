@@ -1,6 +1,6 @@
 //! The scan of a sandbox's part of an image.
 ghost use Rattle.std.specs.Prelude.{◌≡◌, IfOk, drop};
-ghost use Rattle.sfi_image.specs.declared.format.Format.TheVariants.{Sfi1};
+ghost use Rattle.sfi_policy.specs.declared.format.Format.TheVariants.{Sfi1};
 ghost use Rattle.sfi_image.specs.Spelling.{view};
 ghost use Rattle.sfi_image.specs.Parts.{IsRightPart};
 ghost use Rattle.sfi_scan.specs.Findings.{AreFindings};
@@ -10,8 +10,8 @@ use crate::bundle::BundlePlace;
 use crate::finding::Finding;
 use crate::findings::BundleFindings;
 use crate::scan::scan_bundle;
-use sfi_image::{Format, Gate, SandboxPart};
-use sfi_policy::{BUNDLE_BYTES, BUNDLE_SIZE};
+use sfi_image::{Gate, SandboxPart, whole_bundles};
+use sfi_policy::{BUNDLE_BYTES, BUNDLE_SIZE, Format};
 use std::alloc::{AllocError, Global};
 
 /// Whether the first of the gates is at the address.
@@ -45,6 +45,7 @@ pub fn scan_part_as(
     requires { IsRightPart (view format part.now) }
     ensures { IfOk result (λ found. AreFindings sandbox (view format part.now) found.items) }
 {
+    whole_bundles();
     let mut found = Vec::new(alloc);
     let mut findings = BundleFindings::new();
     let mut gates = part.gates.as_slice();

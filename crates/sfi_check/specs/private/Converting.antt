@@ -1,7 +1,7 @@
 -- Words of private contracts and proofs, beside those of Converting.antt.
 use Rattle.std.specs.Prelude.{◌≢◌, ℕ, List, [], Result, Vec, IfOk, IfErr}
 use Rattle.std.specs.Global.{Global}
-use Rattle.sfi_image.specs.declared.format.Format.TheVariants.{Sfi2}
+use Rattle.sfi_policy.specs.declared.format.Format.TheVariants.{Sfi2}
 use Rattle.sfi_image.specs.Spelling.{Part}
 use Rattle.sfi_image.specs.InFormat.{all_in_format}
 use Rattle.sfi_scan.specs.Findings.{AreImageFindings}

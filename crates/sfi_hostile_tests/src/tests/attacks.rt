@@ -1,7 +1,8 @@
 //! Code that tries to get out of its sandbox.
 use super::images::{C_EBREAK, EBREAK, HEAD, SECOND_HEAD, bytes_of};
 use sfi_check::{Refusal, StreamAnswer, check, check_stream};
-use sfi_image::{Format, Reading};
+use sfi_image::Reading;
+use sfi_policy::Format;
 use sfi_scan::{Finding, Rule};
 use std::alloc::Global;
 use std::test::Fail;

@@ -1,13 +1,13 @@
 -- Words of private contracts and proofs, beside those of Keeping.antt.
-use Rattle.std.specs.Prelude.{◌≡◌, ℕ, ◌+◌, ◌-◌, ◌≤◌, ◌==◌, Bool, false, List, [], ◌∷◌, ◌++◌, cond, Option, Some, None}
+use Rattle.std.specs.Prelude.{◌≡◌, ℕ, ◌+◌, ◌≤◌, ◌==◌, Bool, false, List, [], ◌∷◌, ◌++◌, cond, Option, Some, None}
 use Rattle.sfi_policy.specs.Limits.{bundle_size}
-use Rattle.sfi_image.specs.declared.part.Gate.{Gate}
 use Rattle.sfi_image.specs.declared.fields.Fields.{Fields}
 use Rattle.sfi_image.specs.declared.fault.LayoutFault.{LayoutFault}
 use Rattle.sfi_image.specs.declared.want.Next.{Next}
 use Rattle.sfi_image.specs.declared.want.Next.TheVariants as next
+use Rattle.sfi_image.specs.Spelling.{magic_bytes, number_bytes, fields_bytes, gate_bytes}
 use Rattle.sfi_image.specs.Fronts.{Front, front, HasFaultWhateverFollows}
-use Rattle.sfi_image.specs.Keeping.{Leads, ReaderState, StandsFor}
+use Rattle.sfi_image.specs.Keeping.{HasStopped, Leads, ReaderState, StandsFor}
 
 -- the first of the addresses is that one
 abbrev pub is_first : List ℕ → ℕ → Bool
@@ -32,10 +32,10 @@ next_gate read gate_count = cond (read == gate_count) next.Code next.Gate
 
 -- that comes next, for a sandbox with these fields of which so many first data bytes are read: so many bytes may be taken
 abbrev pub TakesLength : Next → Fields → ℕ → ℕ → Type 0
-TakesLength next.Magic f read len = len ≡ 4
-TakesLength next.Count f read len = len ≡ 4
-TakesLength next.Fields f read len = len ≡ 28
-TakesLength next.Gate f read len = len ≡ 8
+TakesLength next.Magic f read len = len ≡ magic_bytes
+TakesLength next.Count f read len = len ≡ number_bytes
+TakesLength next.Fields f read len = len ≡ fields_bytes
+TakesLength next.Gate f read len = len ≡ gate_bytes
 TakesLength next.Code f read len = len ≡ bundle_size
 TakesLength next.Init f read len = (1 ≤ len) × (len + read ≤ f.init_len)
 TakesLength next.End f read len = ⊥
@@ -48,4 +48,4 @@ MayTake r len = TakesLength r.next r.fields r.init_read len
 -- no fault, and it goes on from each front that it stands for; or a fault of each of them with these bytes
 abbrev pub Takes : ReaderState → List ℕ → ReaderState → Option LayoutFault → Type 0
 Takes old s new None = (x : Front) → StandsFor old x → Leads x s new
-Takes old s new (Some k) = (new.next ≡ next.Nothing) × ((x : Front) → StandsFor old x → HasFaultWhateverFollows (front x ++ s) k)
+Takes old s new (Some k) = HasStopped new × ((x : Front) → StandsFor old x → HasFaultWhateverFollows (front x ++ s) k)

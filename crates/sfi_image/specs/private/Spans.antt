@@ -1,5 +1,5 @@
 -- Words of private contracts and proofs, beside those of Spans.antt.
-use Rattle.std.specs.Prelude.{ℕ, ◌+◌, ◌-◌, ◌^◌, ◌<◌, []}
+use Rattle.std.specs.Prelude.{◌+◌, ◌^◌, ◌<◌}
 use Rattle.sfi_image.specs.declared.span.Span.{Span}
 
 -- it holds an address, and its end has 64 bits

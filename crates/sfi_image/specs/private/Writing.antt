@@ -1,5 +1,5 @@
 -- Words of private contracts and proofs, beside those of Writing.antt.
-use Rattle.std.specs.Prelude.{ℕ, [], length, nat_le, if◌then◌else◌}
+use Rattle.std.specs.Prelude.{ℕ, length, nat_le, if◌then◌else◌}
 use Rattle.sfi_image.specs.declared.fields.Fields.{Fields}
 use Rattle.sfi_image.specs.Spelling.{Part, fields_of}
 

@@ -2,9 +2,9 @@
 use Rattle.std.specs.Prelude.{◌≡◌, ◌+◌, ◌<◌, ◌≤◌, ◌++◌, ℕ, List, length, replicate, slice_index}
 use Rattle.std.specs.List.{All}
 use Rattle.sfi_policy.specs.Limits.{bundle_size}
-use Rattle.sfi_image.specs.declared.format.Format.{Format}
-use Rattle.sfi_image.specs.declared.format.Format.TheVariants.{Sfi2}
-use Rattle.sfi_image.specs.Formats.{code_most}
+use Rattle.sfi_policy.specs.declared.format.Format.{Format}
+use Rattle.sfi_policy.specs.declared.format.Format.TheVariants.{Sfi2}
+use Rattle.sfi_policy.specs.Formats.{code_most}
 use Rattle.rv_source.specs.declared.item.Item.{Item}
 use Rattle.rv_source.specs.declared.item.Named.{Named}
 use Rattle.rv_source.specs.declared.item.Named.TheVariants.{Gate, Code, Data, Unknown}

@@ -8,7 +8,7 @@ use Rattle.rv_word.specs.declared.outline.Outline.TheVariants.{Computes, Loads, 
 use Rattle.rv_word.specs.Outlines.{outline}
 use Rattle.rv_word.specs.Spelling.{IsWordOf}
 use Rattle.rv_comp.specs.Halfwords.{IsHalfwordThat}
-use Rattle.sfi_image.specs.Formats.{is_stack}
+use Rattle.sfi_policy.specs.Formats.{is_stack}
 use Rattle.sfi_scan.specs.declared.before.Before.{Before}
 use Rattle.sfi_scan.specs.declared.bundle.BundlePlace.{BundlePlace}
 use Rattle.sfi_scan.specs.declared.clean.Words.{Words}

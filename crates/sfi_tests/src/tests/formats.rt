@@ -2,7 +2,8 @@
 use super::image::{CODE, Edit, image, put};
 use super::{Outcome, run};
 use rv_text::{TextCause, TextFault, parse_source};
-use sfi_image::{Format, parse_image, write_image_as};
+use sfi_image::{parse_image, write_image_as};
+use sfi_policy::Format;
 use std::alloc::{AllocError, Global};
 use std::process::Abort;
 use std::test::Fail;

@@ -1,5 +1,6 @@
 //! Images as bytes and as parts, and the names of their faults.
-use sfi_image::{Format, Gate, ImageFault, LayoutFault, parse_image, write_image, write_image_as};
+use sfi_image::{Gate, ImageFault, LayoutFault, parse_image, write_image, write_image_as};
+use sfi_policy::Format;
 use std::alloc::Global;
 use std::test::Fail;
 

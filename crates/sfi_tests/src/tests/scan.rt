@@ -1,6 +1,7 @@
 //! The findings of a sandbox, as a list.
 use super::image::{CODE, end_in, image, put};
-use sfi_image::{Format, parse_image};
+use sfi_image::parse_image;
+use sfi_policy::Format;
 use sfi_scan::{Finding, Rule, scan_part, scan_part_as};
 use std::alloc::Global;
 use std::test::Fail;

@@ -1,5 +1,5 @@
 use Rattle.std.proofs.Common.{◌≡◌, List, [], ◌∙◌, subst, sym}
-use Rattle.sfi_image.specs.declared.format.Format.TheVariants.{Sfi2}
+use Rattle.sfi_policy.specs.declared.format.Format.TheVariants.{Sfi2}
 use Rattle.sfi_image.specs.Spelling.{Part, views, format_of}
 use Rattle.sfi_image.specs.InFormat.{all_in_format}
 use Rattle.sfi_image.specs.Parts.{IsRightLayout}

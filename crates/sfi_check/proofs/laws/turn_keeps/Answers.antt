@@ -11,4 +11,5 @@ returns c = turn_keeps (record {
   range = c.spelled_in_range.ensures;
   wide = c.ecall_is_wide.ensures;
   leaves = c.instruction_leaves.ensures;
+  bundles = c.whole_bundles.ensures;
 })

@@ -1,4 +1,4 @@
-use Rattle.sfi_image.proofs.Ends.{code_end}
+use Rattle.sfi_image.proofs.Bundles.{code_end}
 use Rattle.sfi_image.proofs.laws.code_ends.Goals as goal
 
 pub returns : goal.returns

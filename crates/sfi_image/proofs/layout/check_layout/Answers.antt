@@ -1,33 +1,36 @@
-use Rattle.std.proofs.Common.{◌≡◌, ◌<◌, take, List, false, ℕ, eqb, sym, subst, arith, ◌∙◌}
+use Rattle.std.proofs.Common.{◌≡◌, ◌<◌, take, List, [], ◌∷◌, ◌++◌, false, ℕ, eqb, sym, ap, subst, arith, append_assoc, ◌∙◌}
 use Rattle.std.proofs.lemmas.List.{take-map, length-map}
 use Rattle.std.proofs.lemmas.Bool.{eq-eqb}
+use Rattle.sfi_image.specs.declared.span.Span.{Span}
 use Rattle.sfi_image.specs.Spelling.{Part, view, views}
 use Rattle.sfi_image.specs.Parts.{AreRight}
 use Rattle.sfi_image.proofs.Views.{views_of}
-use Rattle.sfi_image.proofs.Refused.{StartRight, StartRight-push, start_right, wrong_part, same_spans, map_at, map_more_at, take_whole}
+use Rattle.sfi_image.proofs.Refused.{StartRight, StartRight-push, start_right, wrong_part, map_at, map_more_at, take_whole}
 use Rattle.sfi_image.proofs.layout.check_layout.Goals as goal
 
 not_eq_zero : (n : ℕ) → eqb n 0 ≡ false → 0 < n
 not_eq_zero n e = grind (arith, eq-eqb n 0, e)
 
-pub part_fault-requires-clause-apart : goal.part_fault-requires-clause-apart
-part_fault-requires-clause-apart c = rw c.deref.ensures.value c.loop-part.invariant.apart
+pub part_spans-requires-clause-apart : goal.part_spans-requires-clause-apart
+part_spans-requires-clause-apart c = rw c.deref.ensures.value c.loop-part.invariant.apart
 
-pub returns-in-Some-clause-wrong : goal.returns-in-Some-clause-wrong
-returns-in-Some-clause-wrong c =
+pub returns-in-Err-clause-wrong : goal.returns-in-Err-clause-wrong
+returns-in-Err-clause-wrong c =
     let ps = c.args.parts.now in
     let i = c.loop-part.part-index in
     let same = length-map ps (view c.args.format) in
     let start = subst (λ (qs : List Part). StartRight qs c.loop-part.before.items) (sym (take-map (view c.args.format) i ps)) c.loop-part.invariant in
-    wrong_part (views c.args.format ps) i (view c.args.format c.part-item.result) c.loop-part.before.items c.in-Some.fault (omega arith) (omega arith) (omega arith)
-    (map_at (view c.args.format) ps i c.part-item.result c.part-item.is) start (rw c.deref.ensures.value at c.in-Some.ensures.found)
+    wrong_part (views c.args.format ps) i (view c.args.format c.part-item.result) c.loop-part.before.items c.in-Err.fault (omega arith) (omega arith) (omega arith)
+    (map_at (view c.args.format) ps i c.part-item.result c.part-item.is) start (rw c.deref.ensures.value at c.in-Err.ensures.fault)
 
 pub loop-part-preserved : goal.loop-part-preserved
 loop-part-preserved c =
-    let found = rw c.deref.ensures.value at c.in_default.ensures.right in
-    let spans = same_spans c.loop-part.before.items _ _ c.fields_of_part.ensures.value found.0 in
-    rw (map_more_at (view c.args.format) c.args.parts.now c.loop-part.part-index c.part-item.result c.loop-part-test.true c.part-item.is, c.in_ok-add_spans.ensures, spans)
-    (StartRight-push _ _ _ c.loop-part.invariant found.0 found.1)
+    let apart = rw c.deref.ensures.value at c.in-Ok.ensures.apart in
+    let old = c.loop-part.before.items in
+    let spans_are = c.in_ok-push-2.ensures.items ∙ ap (λ (b : List Span). b ++ c.in-Ok.own.guarded ∷ []) c.in_ok-push.ensures.items ∙ append_assoc old (c.in-Ok.own.code ∷ []) (c.in-Ok.own.guarded ∷ [])
+    ∙ ap (λ (t : List Span). old ++ t) c.in-Ok.ensures.spans in
+    rw (map_more_at (view c.args.format) c.args.parts.now c.loop-part.part-index c.part-item.result c.loop-part-test.true c.part-item.is, spans_are)
+    (StartRight-push _ _ _ c.loop-part.invariant c.in-Ok.ensures.right apart)
 
 pub returns-clause-right : goal.returns-clause-right
 returns-clause-right c =

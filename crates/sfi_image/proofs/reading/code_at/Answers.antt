@@ -3,7 +3,7 @@ use Rattle.std.proofs.lemmas.List.{take-append-drop, length-take}
 use Rattle.sfi_image.specs.Fronts.{Front}
 use Rattle.sfi_image.specs.Fronts.Front.{InCode}
 use Rattle.sfi_image.specs.Keeping.{StandsFor}
-use Rattle.sfi_image.proofs.Parsing.{code_short}
+use Rattle.sfi_image.proofs.Ending.{code_short}
 use Rattle.sfi_image.proofs.reading.code_at.Goals as goal
 
 pub returns-then-bytes-len : goal.returns-then-bytes-len

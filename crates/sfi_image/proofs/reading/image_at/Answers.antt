@@ -2,9 +2,9 @@ use Rattle.std.proofs.Common.{◌≡◌, ◌∙◌, ◌++◌, ◌∷◌, ◌+◌
 use Rattle.std.proofs.lemmas.Bool.{eqb-true, eq-eqb}
 use Rattle.std.proofs.lemmas.Result.{err_from_is_err_and}
 use Rattle.std.proofs.lemmas.List.{map_push, length-map, length_push}
+use Rattle.sfi_policy.specs.declared.format.Format.{Format}
+use Rattle.sfi_policy.specs.Formats.{magic}
 use Rattle.sfi_image.specs.declared.fault.LayoutFault.TheVariants.{Trailing}
-use Rattle.sfi_image.specs.declared.format.Format.{Format}
-use Rattle.sfi_image.specs.Formats.{magic}
 use Rattle.sfi_image.specs.Spelling.{view, views, format_of, number}
 use Rattle.sfi_image.specs.Faults.{IsFault}
 use Rattle.sfi_image.specs.Images.{IsImage}

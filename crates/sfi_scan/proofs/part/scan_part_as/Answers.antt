@@ -5,7 +5,6 @@ use Rattle.sfi_image.specs.Spelling.{view}
 use Rattle.sfi_image.specs.Spans.{code_region}
 use Rattle.sfi_image.specs.Gates.{is_gate_of}
 use Rattle.sfi_scan.specs.Findings.{AreFindingsOfFirst}
-use Rattle.sfi_scan.proofs.Bounds.{region_end, bundles_of}
 use Rattle.sfi_scan.proofs.Gates.{Ahead, all_ahead, one_more, first_is, ahead_taken, ahead_kept, same_taken, chunk_at, if_true, none_more}
 use Rattle.sfi_scan.proofs.part.scan_part_as.Goals as goal
 use Rattle.sfi_scan.proofs.part.scan_part_as.Goals.{then-listed, else-listed, then-count-gt0+in_ok-extend_from_slice, else-count-gt0}
@@ -20,14 +19,16 @@ loop-k-init c = record {
 
 pub overflow_add-address : goal.overflow_add-address
 overflow_add-address c =
-    let end = region_end c.args.format c.args.part.now.code_base (length c.args.part.now.code.now) c.requires.words.fields.code_base c.requires.code_placed in
+    let whole = c.whole_bundles.ensures c.args.format c.args.part.now.code_base (length c.args.part.now.code.now) c.requires.words.fields.code_base c.requires.code_placed in
+    let end = whole.4 in
     let count = c.as_chunks.ensures.front_len in
     let below = c.loop-k-test.true in
     omega arith
 
 pub scan_bundle-requires : goal.scan_bundle-requires
 scan_bundle-requires c =
-    let end = region_end c.args.format c.args.part.now.code_base (length c.args.part.now.code.now) c.requires.words.fields.code_base c.requires.code_placed in
+    let whole = c.whole_bundles.ensures c.args.format c.args.part.now.code_base (length c.args.part.now.code.now) c.requires.words.fields.code_base c.requires.code_placed in
+    let end = whole.4 in
     let count = c.as_chunks.ensures.front_len in
     let below = c.loop-k-test.true in
     record { base = omega arith; end = omega arith; addresses = end }
@@ -36,7 +37,7 @@ pub loop-k-preserved : goal.loop-k-preserved
 loop-k-preserved c =
     let at = c.args.part.now.code_base + 16 * c.loop-k.k in
     let old = c.loop-k.invariant in
-    let whole = bundles_of c.args.format c.args.part.now.code_base (length c.args.part.now.code.now) c.requires.code_placed in
+    let whole = c.whole_bundles.ensures c.args.format c.args.part.now.code_base (length c.args.part.now.code.now) c.requires.words.fields.code_base c.requires.code_placed in
     let even : at % 16 ≡ 0 = let base = whole.3 in omega arith in
     let next : at + 16 ≡ c.args.part.now.code_base + 16 * (c.loop-k.k + 1) = omega arith in
     let listed = c.is_first_at-listed.ensures ∙ first_is at c.loop-k.gates.now old.ahead ∙ old.same at (omega arith) in
@@ -64,7 +65,7 @@ loop-k-preserved c =
 
 pub returns : goal.returns
 returns c =
-    let whole = bundles_of c.args.format c.args.part.now.code_base (length c.args.part.now.code.now) c.requires.code_placed in
+    let whole = c.whole_bundles.ensures c.args.format c.args.part.now.code_base (length c.args.part.now.code.now) c.requires.words.fields.code_base c.requires.code_placed in
     let count = c.as_chunks.ensures.front_len in
     let over = c.loop-k-test.false in
     let up = c.loop-k.auto.k-end in

@@ -14,25 +14,25 @@ use Rattle.sfi_image.proofs.Places.{fields_next}
 use Rattle.sfi_image.proofs.Steps.{fields_leads, fields_fault, no_rest}
 use Rattle.sfi_image.proofs.layout_reader.LayoutReader.take_fields.Goals as goal
 
-pub field_fault-requires-clause-bounded : goal.field_fault-requires-clause-bounded
-field_fault-requires-clause-bounded c =
+pub spans_after-requires-clause-bounded : goal.spans_after-requires-clause-bounded
+spans_after-requires-clause-bounded c =
     let old = kept c.self.inside in
     let is : old.next ≡ next.Fields = subst (λ (r : ReaderState). r.next ≡ next.Fields) (sym c.self.view_is) c.requires.next in
     subst (All IsBounded) (sym c.as_slice.ensures) (fields_next old c.self.invariant is).bounded
 
-pub field_fault-requires-clause-apart : goal.field_fault-requires-clause-apart
-field_fault-requires-clause-apart c =
+pub spans_after-requires-clause-apart : goal.spans_after-requires-clause-apart
+spans_after-requires-clause-apart c =
     let old = kept c.self.inside in
     let is : old.next ≡ next.Fields = subst (λ (r : ReaderState). r.next ≡ next.Fields) (sym c.self.view_is) c.requires.next in
     subst (AllPairs AreApart) (sym c.as_slice.ensures) (fields_next old c.self.invariant is).apart
 
-pub returns-in-Some-clause-takes : goal.returns-in-Some-clause-takes
-returns-in-Some-clause-takes c =
+pub returns-in-Err-clause-takes : goal.returns-in-Err-clause-takes
+returns-in-Err-clause-takes c =
     let old = kept c.self.inside in
     let is : old.next ≡ next.Fields = subst (λ (r : ReaderState). r.next ≡ next.Fields) (sym c.self.view_is) c.requires.next in
     let e = no_rest c.args.bytes.now (fields c.fields_at.result.0) _ c.fields_at.ensures.front (omega (arith, c.fields_at.ensures.len, c.requires.len)) in
-    let wrong = subst (λ (b : List Span). IsFirstFault b c.fields_at.result.0 field_tests (Some c.in-Some.fault)) c.as_slice.ensures c.in-Some.ensures in
-    (refl, λ x h. fields_fault old x c.args.bytes.now c.fields_at.result.0 c.in-Some.fault (subst (λ (r : ReaderState). StandsFor r x) (sym c.self.view_is) h) is e c.fields_at.ensures.words c.fields_at.ensures.format wrong)
+    let wrong = subst (λ (b : List Span). IsFirstFault b c.fields_at.result.0 field_tests (Some c.in-Err.fault)) c.as_slice.ensures c.in-Err.ensures.fault in
+    (refl, λ x h. fields_fault old x c.args.bytes.now c.fields_at.result.0 c.in-Err.fault (subst (λ (r : ReaderState). StandsFor r x) (sym c.self.view_is) h) is e c.fields_at.ensures.words c.fields_at.ensures.format wrong)
 
 pub push-requires : goal.push-requires
 push-requires c =
@@ -46,7 +46,7 @@ push-requires-2 c =
     let old = kept c.self.inside in
     let is : old.next ≡ next.Fields = subst (λ (r : ReaderState). r.next ≡ next.Fields) (sym c.self.view_is) c.requires.next in
     let room = (fields_next old c.self.invariant is).room in
-    omega (arith, ap length c.push.ensures, length_push old.spans c.code_span.result)
+    omega (arith, ap length c.push.ensures, length_push old.spans c.in-Ok.own.code)
 
 pub overflow_add-self : goal.overflow_add-self
 overflow_add-self c =
@@ -60,9 +60,9 @@ invariant_of-self-2 c =
     let old = kept c.self.inside in
     let is : old.next ≡ next.Fields = subst (λ (r : ReaderState). r.next ≡ next.Fields) (sym c.self.view_is) c.requires.next in
     let e = no_rest c.args.bytes.now (fields c.fields_at.result.0) _ c.fields_at.ensures.front (omega (arith, c.fields_at.ensures.len, c.requires.len)) in
-    let passed : IsFirstFault old.spans c.fields_at.result.0 field_tests None = subst (λ (b : List Span). IsFirstFault b c.fields_at.result.0 field_tests None) c.as_slice.ensures c.in_default.ensures in
-    let spans_are = c.push-2.ensures ∙ ap (λ (b : List Span). b ++ c.guarded_span.result ∷ []) c.push.ensures ∙ append_assoc old.spans (c.code_span.result ∷ []) (c.guarded_span.result ∷ [])
-    ∙ ap (λ (b : Span). old.spans ++ b ∷ c.guarded_span.result ∷ []) c.code_span.ensures ∙ ap (λ (b : Span). old.spans ++ code_span c.fields_at.result.0 ∷ b ∷ []) c.guarded_span.ensures in
+    let passed : IsFirstFault old.spans c.fields_at.result.0 field_tests None = subst (λ (b : List Span). IsFirstFault b c.fields_at.result.0 field_tests None) c.as_slice.ensures c.in-Ok.ensures.passed in
+    let spans_are = c.push-2.ensures ∙ ap (λ (b : List Span). b ++ c.in-Ok.own.guarded ∷ []) c.push.ensures ∙ append_assoc old.spans (c.in-Ok.own.code ∷ []) (c.in-Ok.own.guarded ∷ [])
+    ∙ ap (λ (b : Span). old.spans ++ b ∷ c.in-Ok.own.guarded ∷ []) c.in-Ok.ensures.code ∙ ap (λ (b : Span). old.spans ++ code_span c.fields_at.result.0 ∷ b ∷ []) c.in-Ok.ensures.guarded in
     elim c.self.invariant [
       | inl stopped ↦ absurd cc
       | inr x ↦ still_reader x.0 c.args.bytes.now _ (fields_leads old _ x.0 c.args.bytes.now c.fields_at.result.0 x.1 is e c.fields_at.ensures.words c.fields_at.ensures.format passed refl refl spans_are refl c.clear.ensures refl refl refl c.next_gate-self-inside.ensures)
@@ -73,7 +73,7 @@ returns-clause-takes c =
     let old = kept c.self.inside in
     let is : old.next ≡ next.Fields = subst (λ (r : ReaderState). r.next ≡ next.Fields) (sym c.self.view_is) c.requires.next in
     let e = no_rest c.args.bytes.now (fields c.fields_at.result.0) _ c.fields_at.ensures.front (omega (arith, c.fields_at.ensures.len, c.requires.len)) in
-    let passed : IsFirstFault old.spans c.fields_at.result.0 field_tests None = subst (λ (b : List Span). IsFirstFault b c.fields_at.result.0 field_tests None) c.as_slice.ensures c.in_default.ensures in
-    let spans_are = c.push-2.ensures ∙ ap (λ (b : List Span). b ++ c.guarded_span.result ∷ []) c.push.ensures ∙ append_assoc old.spans (c.code_span.result ∷ []) (c.guarded_span.result ∷ [])
-    ∙ ap (λ (b : Span). old.spans ++ b ∷ c.guarded_span.result ∷ []) c.code_span.ensures ∙ ap (λ (b : Span). old.spans ++ code_span c.fields_at.result.0 ∷ b ∷ []) c.guarded_span.ensures in
+    let passed : IsFirstFault old.spans c.fields_at.result.0 field_tests None = subst (λ (b : List Span). IsFirstFault b c.fields_at.result.0 field_tests None) c.as_slice.ensures c.in-Ok.ensures.passed in
+    let spans_are = c.push-2.ensures ∙ ap (λ (b : List Span). b ++ c.in-Ok.own.guarded ∷ []) c.push.ensures ∙ append_assoc old.spans (c.in-Ok.own.code ∷ []) (c.in-Ok.own.guarded ∷ [])
+    ∙ ap (λ (b : Span). old.spans ++ b ∷ c.in-Ok.own.guarded ∷ []) c.in-Ok.ensures.code ∙ ap (λ (b : Span). old.spans ++ code_span c.fields_at.result.0 ∷ b ∷ []) c.in-Ok.ensures.guarded in
     λ x h. fields_leads old _ x c.args.bytes.now c.fields_at.result.0 (subst (λ (r : ReaderState). StandsFor r x) (sym c.self.view_is) h) is e c.fields_at.ensures.words c.fields_at.ensures.format passed refl refl spans_are refl c.clear.ensures refl refl refl c.next_gate-self-inside.ensures

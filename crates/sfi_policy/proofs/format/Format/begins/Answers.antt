@@ -2,9 +2,9 @@ use Rattle.std.proofs.Common.{◌≡◌, ◌≤◌, ◌<◌, ℕ, List, take, le
 use Rattle.std.proofs.lemmas.Slice.Eq.{slice_eq-Decides}
 use Rattle.std.proofs.lemmas.Bool.Decides.{Decides-eqb}
 use Rattle.std.proofs.lemmas.Bool.{leb-true}
-use Rattle.sfi_image.specs.Formats.{magic}
-use Rattle.sfi_image.proofs.Formats.{length_of_magic}
-use Rattle.sfi_image.proofs.format.Format.begins.Goals as goal
+use Rattle.sfi_policy.specs.Formats.{magic}
+use Rattle.sfi_policy.proofs.Formats.{length_of_magic}
+use Rattle.sfi_policy.proofs.format.Format.begins.Goals as goal
 
 pub returns-then-bytes-ge4 : goal.returns-then-bytes-ge4
 returns-then-bytes-ge4 c =

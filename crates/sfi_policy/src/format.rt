@@ -1,8 +1,8 @@
 //! The formats of images.
 ghost use Rattle.std.specs.Prelude.{◌≡◌, ◌↔◌, IsTrue, take};
-ghost use Rattle.sfi_image.specs.Formats.{magic, code_most, has_stack, is_stack};
+ghost use Rattle.sfi_policy.specs.Formats.{magic, code_most, has_stack, is_stack};
 
-use sfi_policy::STACK_POINTER;
+use crate::registers::STACK_POINTER;
 
 /// A format of images.
 #[derive(Clone, Copy, PartialEq, Eq, Debug)]
@@ -16,8 +16,8 @@ pub enum Format {
 
 impl Format {
     #[tactic(auto, unfolding(crate::specs::Formats::magic))]
-    // The bytes that an image of this format begins with.
-    pub(crate) fn magic(self) -> [u8; 4]
+    /// The bytes that an image of this format begins with.
+    pub fn magic(self) -> [u8; 4]
         ensures { result ≡ magic self }
     {
         match self {

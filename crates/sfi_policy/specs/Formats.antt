@@ -1,8 +1,8 @@
 -- The formats of images, and all that they differ in.
 use Rattle.std.specs.Prelude.{◌&&◌, ◌==◌, ℕ, List, Bool, true, false, codes}
 use Rattle.sfi_policy.specs.Registers.{stack_pointer}
-use Rattle.sfi_image.specs.declared.format.Format.{Format}
-use Rattle.sfi_image.specs.declared.format.Format.TheVariants.{Sfi1, Sfi2}
+use Rattle.sfi_policy.specs.declared.format.Format.{Format}
+use Rattle.sfi_policy.specs.declared.format.Format.TheVariants.{Sfi1, Sfi2}
 
 -- the first four bytes
 unfoldable pub magic : Format → List ℕ
