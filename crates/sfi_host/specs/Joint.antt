@@ -10,6 +10,8 @@ use Rattle.rv_step.specs.declared.outcome.Outcome.TheVariants as outcome
 use Rattle.sfi_image.specs.declared.part.Gate.{Gate}
 use Rattle.sfi_host.specs.declared.status.Status.{Status}
 use Rattle.sfi_host.specs.declared.status.Status.TheVariants.{Ready, Exited, Trapped}
+use Rattle.sfi_host.specs.declared.turn.StepResult.{StepResult}
+use Rattle.sfi_host.specs.declared.turn.StepResult.TheVariants.{Continue, TurnEnds, RunEnds}
 use Rattle.sfi_host.specs.declared.turn.Turn.{Turn}
 use Rattle.sfi_host.specs.Regions.{bytes_in, bytes_outside}
 use Rattle.sfi_host.specs.Slots.{Bounds, Slot, one_more, state_of}
@@ -78,36 +80,32 @@ replied slot r = record {
 
 -- ---- one step
 
--- what comes after a step: more of its turn, the turn's end, or the end of the whole run
-pub data Then : Type 0 where
-  More TurnEnds RunEnds : Then
-
--- a sandbox and its host after a step or a turn, the replies that the sandbox got in it, and what comes then
+-- a sandbox and its host after a step or a turn, the replies that the sandbox got in it, and what comes next
 pub record Moved (S : Type 0) : Type 0 where
   pub slot : Slot
   pub host : S
   pub replies : List Reply
-  pub next : Then
+  pub next : StepResult
 
 -- nothing happens, and then this comes
-abbrev pub still : {S : Type 0} → Slot → S → Then → Moved S
+abbrev pub still : {S : Type 0} → Slot → S → StepResult → Moved S
 still slot s next = record { slot = slot; host = s; replies = []; next = next }
 
 -- a turn goes on after a reply, ends at a yield, and at an exit
-abbrev pub then_of : Way → Then
-then_of Replied = More
-then_of Yield = TurnEnds
-then_of (Exit n) = TurnEnds
+abbrev pub next_after : Way → StepResult
+next_after Replied = Continue
+next_after Yield = TurnEnds
+next_after (Exit n) = TurnEnds
 
 -- a call that isn't answered ends the run
 abbrev pub after_answer : {S : Type 0} → Slot → S → Option (Answer S) → Moved S
 after_answer slot s None = still slot s RunEnds
-after_answer slot s (Some a) = record { slot = replied slot a.reply; host = a.host; replies = a.reply ∷ []; next = then_of a.reply.way }
+after_answer slot s (Some a) = record { slot = replied slot a.reply; host = a.host; replies = a.reply ∷ []; next = next_after a.reply.way }
 
 -- what a step's outcome makes of the sandbox: a trap isn't counted
 abbrev pub after_step : {S : Type 0} → Host S → ℕ → Slot → S → Outcome → State → Moved S
 after_step host i slot s outcome.Next state =
-    still (record { bounds = slot.bounds; hart = state.hart; status = slot.status; steps = one_more slot.steps; bytes = state.memory }) s More
+    still (record { bounds = slot.bounds; hart = state.hart; status = slot.status; steps = one_more slot.steps; bytes = state.memory }) s Continue
 after_step host i slot s (outcome.Trap cause at) state =
     still (record { bounds = slot.bounds; hart = slot.hart; status = Trapped cause at; steps = slot.steps; bytes = slot.bytes }) s TurnEnds
 after_step host i slot s outcome.Call state = after_answer slot s (host s (call_of i slot))
@@ -129,8 +127,8 @@ abbrev pub after_replies : {S : Type 0} → List Reply → Moved S → Moved S
 after_replies earlier m = record { slot = m.slot; host = m.host; replies = earlier ++ m.replies; next = m.next }
 
 -- a step, and what follows it if the turn goes on
-abbrev pub and_more : {S : Type 0} → Then → Moved S → (Slot → S → Moved S) → Moved S
-and_more More m rest = after_replies m.replies (rest m.slot m.host)
+abbrev pub and_more : {S : Type 0} → StepResult → Moved S → (Slot → S → Moved S) → Moved S
+and_more Continue m rest = after_replies m.replies (rest m.slot m.host)
 and_more TurnEnds m rest = m
 and_more RunEnds m rest = m
 
@@ -163,8 +161,8 @@ abbrev pub after_turn : {S : Type 0} → List Given → Joined S → Joined S
 after_turn earlier j = record { slots = j.slots; host = j.host; replies = earlier ++ j.replies; turns = suc j.turns; is_ended = j.is_ended }
 
 -- a turn of the sandbox of that number, and what follows it if the run goes on
-abbrev pub and_plan : {S : Type 0} → Then → ℕ → Moved S → List Slot → (List Slot → S → Joined S) → Joined S
-and_plan More i m slots rest = after_turn (given i m.replies) (rest (slice_set slots i m.slot) m.host)
+abbrev pub and_plan : {S : Type 0} → StepResult → ℕ → Moved S → List Slot → (List Slot → S → Joined S) → Joined S
+and_plan Continue i m slots rest = after_turn (given i m.replies) (rest (slice_set slots i m.slot) m.host)
 and_plan TurnEnds i m slots rest = after_turn (given i m.replies) (rest (slice_set slots i m.slot) m.host)
 and_plan RunEnds i m slots rest = record { slots = slice_set slots i m.slot; host = m.host; replies = given i m.replies; turns = 1; is_ended = true }
 
