@@ -18,6 +18,7 @@ use Rattle.sfi_host.specs.declared.asking.Told.{Told}
 use Rattle.sfi_host.specs.declared.turn.StepResult.{StepResult}
 use Rattle.sfi_host.specs.declared.turn.StepResult.TheVariants.{Continue, RunEnds}
 use Rattle.sfi_host.specs.Answering.{spoken}
+use Rattle.sfi_host.specs.Arguments.{a0_register, a1_register}
 use Rattle.sfi_host.specs.Hosts.{Call, Way, Replied, Yield, Exit, Reply, Answer}
 use Rattle.sfi_host.specs.Regions.{bytes_in, bytes_outside, IsWhole}
 use Rattle.sfi_host.specs.Slots.{Bounds, Slot, one_more, own}
@@ -41,15 +42,15 @@ arguments : (h : Hart) (a0 a1 b0 b1 : ℕ) → a0 ≡ b0 → a1 ≡ b1 → with_
 arguments h a0 a1 b0 b1 e f = ap (λ (x : ℕ). with_arguments h x a1) e ∙ ap (λ (x : ℕ). with_arguments h b0 x) f
 
 -- what is asked of the memory of all is what the sandbox asks alone
-pub asked_is : (number : ℕ) (r : Request) (m : Bytes) (s : Sandbox) → r.sandbox ≡ number → r.service ≡ service_at s.gates.items s.cpu.pc → r.a0 ≡ register s.cpu 10 → r.a1 ≡ register s.cpu 11
+pub asked_is : (number : ℕ) (r : Request) (m : Bytes) (s : Sandbox) → r.sandbox ≡ number → r.service ≡ service_at s.gates.items s.cpu.pc → r.a0 ≡ register s.cpu a0_register → r.a1 ≡ register s.cpu a1_register
     → call_by r (bytes_in (seat_of s).bounds.data m) ≡ call_of number (slot_of m (seat_of s))
 asked_is number r m s e f x y =
     let bytes : bytes_in (seat_of s).bounds.data m ≡ bytes_in (seat_of s).bounds.data (own (seat_of s).bounds m) = sym (data_of_own (seat_of s).bounds m) in
     ap (λ (i : ℕ). call_with i r.service r.a0 r.a1 (bytes_in (seat_of s).bounds.data m)) e
     ∙ ap (λ (i : ℕ). call_with number i r.a0 r.a1 (bytes_in (seat_of s).bounds.data m)) f
     ∙ ap (λ (i : ℕ). call_with number (service_at s.gates.items s.cpu.pc) i r.a1 (bytes_in (seat_of s).bounds.data m)) x
-    ∙ ap (λ (i : ℕ). call_with number (service_at s.gates.items s.cpu.pc) (register s.cpu 10) i (bytes_in (seat_of s).bounds.data m)) y
-    ∙ ap (λ (w : Bytes). call_with number (service_at s.gates.items s.cpu.pc) (register s.cpu 10) (register s.cpu 11) w) bytes
+    ∙ ap (λ (i : ℕ). call_with number (service_at s.gates.items s.cpu.pc) (register s.cpu a0_register) i (bytes_in (seat_of s).bounds.data m)) y
+    ∙ ap (λ (w : Bytes). call_with number (service_at s.gates.items s.cpu.pc) (register s.cpu a0_register) (register s.cpu a1_register) w) bytes
   where
     call_with : ℕ → ℕ → ℕ → ℕ → Bytes → Call
     call_with i service a0 a1 w = record { caller = i; service = service; a0 = a0; a1 = a1; bytes = w }

@@ -13,6 +13,7 @@ use Rattle.sfi_host.specs.declared.status.Status.TheVariants.{Ready, Exited, Tra
 use Rattle.sfi_host.specs.declared.turn.StepResult.{StepResult}
 use Rattle.sfi_host.specs.declared.turn.StepResult.TheVariants.{Continue, TurnEnds, RunEnds}
 use Rattle.sfi_host.specs.declared.turn.Turn.{Turn}
+use Rattle.sfi_host.specs.Arguments.{a0_register, a1_register}
 use Rattle.sfi_host.specs.Regions.{bytes_in, bytes_outside}
 use Rattle.sfi_host.specs.Slots.{Bounds, Slot, one_more, state_of}
 use Rattle.sfi_host.specs.Hosts.{Call, Way, Replied, Yield, Exit, Reply, Answer, Host, Limited, limited}
@@ -34,19 +35,19 @@ abbrev pub service_at : List Gate → ℕ → ℕ
 service_at [] at = 0
 service_at (g ∷ gates) at = cond (g.address == at) g.service (service_at gates at)
 
--- what the sandbox of that number asks, with a0 and a1 in x10 and x11
+-- what the sandbox of that number asks, with its a0 and a1
 abbrev pub call_of : ℕ → Slot → Call
 call_of i slot = record {
   caller = i;
   service = service_at slot.bounds.gates slot.hart.pc;
-  a0 = register slot.hart 10;
-  a1 = register slot.hart 11;
+  a0 = register slot.hart a0_register;
+  a1 = register slot.hart a1_register;
   bytes = bytes_in slot.bounds.data slot.bytes;
 }
 
 -- the hart with these values of a0 and a1
 abbrev pub with_arguments : Hart → ℕ → ℕ → Hart
-with_arguments h a0 a1 = with_register (with_register h 10 a0) 11 a1
+with_arguments h a0 a1 = with_register (with_register h a0_register a0) a1_register a1
 
 -- the bytes of two memories, those of the first where both have one
 abbrev pub both : Bytes → Bytes → Bytes

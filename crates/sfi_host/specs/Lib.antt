@@ -1,9 +1,11 @@
 pub mod Regions
 pub mod Slots
+pub mod Arguments
 pub mod Hosts
 pub mod Guests
 pub mod Answering
 pub mod Messages
+pub mod Services
 pub mod Consoles
 pub mod Joint
 pub mod Solo

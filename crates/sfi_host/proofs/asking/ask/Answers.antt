@@ -2,6 +2,7 @@ use Rattle.std.proofs.Common.{◌≡◌, ap, ◌∙◌, sym, subst, refl}
 use Rattle.rv_step.specs.State.{register}
 use Rattle.sfi_host.specs.declared.guest.Request.{Request}
 use Rattle.sfi_host.specs.declared.sandbox.Sandbox.{Sandbox}
+use Rattle.sfi_host.specs.Arguments.{a0_register, a1_register}
 use Rattle.sfi_host.specs.Joint.{service_at}
 use Rattle.sfi_host.specs.Moves.{TakesSome}
 use Rattle.sfi_host.specs.Regions.{bytes_in}
@@ -61,8 +62,8 @@ returns-clause-replied g c goes_on =
     let n = g.M.Memory.bytes c.call_gate-told.new.memory in
     let told = c.call_gate-told.result in
     let e : c.service_of.result ≡ service_at s.gates.items s.cpu.pc = cc in
-    let x : c.reg.result ≡ register s.cpu 10 = cc in
-    let y : c.reg-2.result ≡ register s.cpu 11 = cc in
+    let x : c.reg.result ≡ register s.cpu a0_register = cc in
+    let y : c.reg-2.result ≡ register s.cpu a1_register = cc in
     let r : Request = record { sandbox = c.args.number; service = c.service_of.result; a0 = c.reg.result; a1 = c.reg-2.result } in
     subst (λ (z : Sandbox). IsReplied g.G.Gates.answer c.args.number (slot_of m (seat_of s)) c.args.gates.now (slot_of n (seat_of z)) c.call_gate-told.new.gates c.put_answer.result) (sym c.put_answer.ensures.after)
     (replies m n s told (call_by r (bytes_in (seat_of s).bounds.data m)) c.args.number c.args.gates.now c.call_gate-told.new.gates c.put_answer.result
@@ -76,8 +77,8 @@ returns-clause-refused g c ends =
     let n = g.M.Memory.bytes c.call_gate-told.new.memory in
     let told = c.call_gate-told.result in
     let e : c.service_of.result ≡ service_at s.gates.items s.cpu.pc = cc in
-    let x : c.reg.result ≡ register s.cpu 10 = cc in
-    let y : c.reg-2.result ≡ register s.cpu 11 = cc in
+    let x : c.reg.result ≡ register s.cpu a0_register = cc in
+    let y : c.reg-2.result ≡ register s.cpu a1_register = cc in
     let r : Request = record { sandbox = c.args.number; service = c.service_of.result; a0 = c.reg.result; a1 = c.reg-2.result } in
     subst (λ (z : Sandbox). IsNotReplied g.G.Gates.may_refuse c.args.number (slot_of m (seat_of s)) c.args.gates.now (slot_of n (seat_of z)) c.call_gate-told.new.gates) (sym c.put_answer.ensures.after)
     (refuses m n s told (call_by r (bytes_in (seat_of s).bounds.data m)) c.args.number c.args.gates.now c.call_gate-told.new.gates c.put_answer.result
