@@ -9,8 +9,7 @@ use Rattle.sfi_host.specs.declared.turn.StepResult.{StepResult}
 use Rattle.sfi_host.specs.declared.turn.StepResult.TheVariants.{Continue, TurnEnds, RunEnds}
 use Rattle.sfi_host.specs.Joint.{Machine, IsMachine, Moved, turned, Joined, joined, given, and_plan, turn_and, after_turn}
 use Rattle.sfi_host.specs.Plans.{IsJoint, IsCutJoint}
-use Rattle.sfi_host.specs.Limits.{allow, allows, with_left, Comes, IsTurnOf, IsCutTurnOf}
-use Rattle.sfi_host.specs.private.Limits.{SamePlan, IsPlanOnItsWay, IsPlanStep, IsPlanCut}
+use Rattle.sfi_host.specs.private.Limits.{allow, allows, with_left, Comes, IsTurnOf, IsCutTurnOf, SamePlan, IsPlanOnItsWay, IsPlanStep, IsPlanCut}
 use Rattle.sfi_host.specs.Worlds.{Sandboxes, slots_of, IsSafeWorld}
 use Rattle.sfi_host.proofs.Turning.{allows_both}
 

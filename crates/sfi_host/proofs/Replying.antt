@@ -23,9 +23,10 @@ use Rattle.sfi_host.specs.Hosts.{Call, Way, Replied, Yield, Exit, Reply, Answer}
 use Rattle.sfi_host.specs.Regions.{bytes_in, bytes_outside, IsWhole}
 use Rattle.sfi_host.specs.Slots.{Bounds, Slot, one_more, own}
 use Rattle.sfi_host.specs.Joint.{service_at, call_of, with_arguments, with_data, replied, next_after}
-use Rattle.sfi_host.specs.Moves.{ChangesOwn, TakesSome}
-use Rattle.sfi_host.specs.Sandboxes.{seat_of, IsReplied, IsNotReplied}
-use Rattle.sfi_host.specs.private.Sandboxes.{call_by, IsTold, IsNotTold, after_told, next_after_answer}
+use Rattle.sfi_host.specs.Moves.{ChangesOwn}
+use Rattle.sfi_host.specs.private.Moves.{TakesSome}
+use Rattle.sfi_host.specs.Sandboxes.{seat_of}
+use Rattle.sfi_host.specs.private.Sandboxes.{IsReplied, IsNotReplied, call_by, IsTold, IsNotTold, after_told, next_after_answer}
 use Rattle.sfi_host.specs.Worlds.{slot_of, state_in, IsSafeSeat, StaysOutside}
 use Rattle.sfi_host.proofs.Leaving.{data_of_own, put_back}
 use Rattle.sfi_host.proofs.Keeping as keep

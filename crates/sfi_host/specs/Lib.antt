@@ -10,7 +10,6 @@ pub mod Consoles
 pub mod Joint
 pub mod Solo
 pub mod Calls
-pub mod Limits
 pub mod Plans
 pub mod Stops
 pub mod Worlds

@@ -4,10 +4,10 @@ use Rattle.sfi_host.specs.declared.guest.Request.{Request}
 use Rattle.sfi_host.specs.declared.sandbox.Sandbox.{Sandbox}
 use Rattle.sfi_host.specs.Arguments.{a0_register, a1_register}
 use Rattle.sfi_host.specs.Joint.{service_at}
-use Rattle.sfi_host.specs.Moves.{TakesSome}
+use Rattle.sfi_host.specs.private.Moves.{TakesSome}
 use Rattle.sfi_host.specs.Regions.{bytes_in}
-use Rattle.sfi_host.specs.Sandboxes.{seat_of, IsReplied, IsNotReplied}
-use Rattle.sfi_host.specs.private.Sandboxes.{call_by, next_after_answer}
+use Rattle.sfi_host.specs.Sandboxes.{seat_of}
+use Rattle.sfi_host.specs.private.Sandboxes.{IsReplied, IsNotReplied, call_by, next_after_answer}
 use Rattle.sfi_host.specs.Worlds.{slot_of, IsSafeSeat}
 use Rattle.sfi_host.proofs.Leaving.{whole_in, whole_of, stays_outside}
 use Rattle.sfi_host.proofs.Replying.{asked_is, still_ready, bounds_after, safe_after, replies, refuses, takes_after}
