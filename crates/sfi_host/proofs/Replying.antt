@@ -29,7 +29,7 @@ use Rattle.sfi_host.specs.Sandboxes.{seat_of}
 use Rattle.sfi_host.specs.private.Sandboxes.{IsReplied, IsNotReplied, call_by, IsTold, IsNotTold, after_told, next_after_answer}
 use Rattle.sfi_host.specs.Worlds.{slot_of, state_in, IsSafeSeat, StaysOutside}
 use Rattle.sfi_host.proofs.Leaving.{data_of_own, put_back}
-use Rattle.sfi_host.proofs.Keeping as keep
+use Rattle.sfi_host.proofs.SafeSeats as keep
 use Rattle.sfi_host.proofs.Stops.{at_gate_still, at_gate}
 
 abbrev slot_with : Bounds → Hart → Status → ℕ → Bytes → Slot

@@ -1,7 +1,7 @@
 use Rattle.std.proofs.Common.{◌≡◌, true, sym, ◌∙◌, ap, is_some}
 use Rattle.sfi_host.specs.Regions.{is_in}
 use Rattle.sfi_host.specs.Guests.{data_of}
-use Rattle.sfi_host.proofs.Kept.{byte_out, Puts, store_puts, put_there, put_kept, put_outside, put_whole, put_region}
+use Rattle.sfi_host.proofs.RegionBytes.{byte_out, Puts, store_puts, put_there, put_kept, put_outside, put_whole, put_region}
 use Rattle.sfi_host.proofs.guest.Guest.put_byte.Goals as goal
 
 pub returns-then-not-holds-clause-there : goal.returns-then-not-holds-clause-there
