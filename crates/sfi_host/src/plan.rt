@@ -6,7 +6,8 @@ ghost use Rattle.sfi_host.specs.Moves.{HaveMoved};
 ghost use Rattle.sfi_host.specs.Programs.{AreDecoded};
 ghost use Rattle.sfi_host.specs.Plans.{IsJoint, IsCutJoint};
 ghost use Rattle.sfi_host.specs.Sandboxes.{world_of};
-ghost use Rattle.sfi_host.specs.Worlds.{slots_of, IsSafeWorld};
+ghost use Rattle.sfi_host.specs.private.Sandboxes.{slots_in};
+ghost use Rattle.sfi_host.specs.Worlds.{IsSafeWorld};
 
 use crate::gates::Gates;
 use crate::program::Program;
@@ -29,11 +30,14 @@ fn take_turn<M: Memory, G: Gates>(
     requires decoded { AreDecoded (world_of (M.bytes memory.old) sandboxes.old) programs.now }
     ensures safe { IsSafeWorld (world_of (M.bytes memory.new) sandboxes.new) }
     ensures decoded { AreDecoded (world_of (M.bytes memory.new) sandboxes.new) programs.now }
-    ensures moves { HaveMoved (turn ∷ []) (world_of (M.bytes memory.old) sandboxes.old) (world_of (M.bytes memory.new) sandboxes.new) }
+    ensures moves { HaveMoved (turn ∷ []) (world_of (M.bytes memory.old) sandboxes.old)
+        (world_of (M.bytes memory.new) sandboxes.new) }
     ensures whole { result ≢ StepResult.RunEnds → (machine : Machine) → IsMachine machine
-        → IsPlanStep machine G.answer turn (slots_of (world_of (M.bytes memory.old) sandboxes.old)) gates.old (slots_of (world_of (M.bytes memory.new) sandboxes.new)) gates.new }
+        → IsPlanStep machine G.answer turn (slots_in (M.bytes memory.old) sandboxes.old) gates.old
+        (slots_in (M.bytes memory.new) sandboxes.new) gates.new }
     ensures refused { result ≡ StepResult.RunEnds → (machine : Machine) → IsMachine machine
-        → IsPlanCut machine G.answer G.may_refuse turn (slots_of (world_of (M.bytes memory.old) sandboxes.old)) gates.old (slots_of (world_of (M.bytes memory.new) sandboxes.new)) gates.new }
+        → IsPlanCut machine G.answer G.may_refuse turn (slots_in (M.bytes memory.old) sandboxes.old) gates.old
+        (slots_in (M.bytes memory.new) sandboxes.new) gates.new }
 {
     // The law that the contract rests on: this call does nothing.
     goes_on_safely();
@@ -65,11 +69,14 @@ pub fn take_turns<M: Memory, G: Gates>(
     requires decoded { AreDecoded (world_of (M.bytes memory.old) sandboxes.old) programs.now }
     ensures safe { IsSafeWorld (world_of (M.bytes memory.new) sandboxes.new) }
     ensures decoded { AreDecoded (world_of (M.bytes memory.new) sandboxes.new) programs.now }
-    ensures moves { HaveMoved plan.now (world_of (M.bytes memory.old) sandboxes.old) (world_of (M.bytes memory.new) sandboxes.new) }
+    ensures moves { HaveMoved plan.now (world_of (M.bytes memory.old) sandboxes.old)
+        (world_of (M.bytes memory.new) sandboxes.new) }
     ensures done { result ≡ RunAnswer.Done → (machine : Machine) → IsMachine machine
-        → IsJoint machine G.answer plan.now (slots_of (world_of (M.bytes memory.old) sandboxes.old)) gates.old (slots_of (world_of (M.bytes memory.new) sandboxes.new)) gates.new }
+        → IsJoint machine G.answer plan.now (slots_in (M.bytes memory.old) sandboxes.old) gates.old
+        (slots_in (M.bytes memory.new) sandboxes.new) gates.new }
     ensures refused { (place : ℕ) → result ≡ RunAnswer.Memory place → (machine : Machine) → IsMachine machine
-        → IsCutJoint machine G.answer G.may_refuse plan.now (slots_of (world_of (M.bytes memory.old) sandboxes.old)) gates.old place (slots_of (world_of (M.bytes memory.new) sandboxes.new)) gates.new }
+        → IsCutJoint machine G.answer G.may_refuse plan.now
+        (slots_in (M.bytes memory.old) sandboxes.old) gates.old place (slots_in (M.bytes memory.new) sandboxes.new) gates.new }
     ensures place { (place : ℕ) → result ≡ RunAnswer.Memory place → place < length plan.now }
 {
     for place in 0..plan.len() {
