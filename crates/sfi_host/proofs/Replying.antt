@@ -4,7 +4,7 @@ use Rattle.rv_mem.specs.Bytes.{Bytes, IsMemory}
 use Rattle.rv_word.specs.declared.instr.Instr.TheVariants.{Ecall}
 use Rattle.rv_comp.specs.declared.front.Front.TheVariants.{Read}
 use Rattle.rv_step.specs.declared.outcome.Outcome.TheVariants.{Call as Calls}
-use Rattle.rv_step.specs.State.{Hart, State, IsHart, register, past}
+use Rattle.rv_step.specs.State.{Hart, State, IsHart, past}
 use Rattle.rv_step.specs.Step.{Stands}
 use Rattle.sfi_check.specs.Runs.{Steps, Replies}
 use Rattle.sfi_check.specs.Laws.{GoesOnSafely}
@@ -18,15 +18,14 @@ use Rattle.sfi_host.specs.declared.asking.Told.{Told}
 use Rattle.sfi_host.specs.declared.turn.StepResult.{StepResult}
 use Rattle.sfi_host.specs.declared.turn.StepResult.TheVariants.{Continue, RunEnds}
 use Rattle.sfi_host.specs.Answering.{spoken}
-use Rattle.sfi_host.specs.Arguments.{a0_register, a1_register}
 use Rattle.sfi_host.specs.Hosts.{Call, Way, Replied, Yield, Exit, Reply, Answer}
 use Rattle.sfi_host.specs.Regions.{bytes_in, bytes_outside, IsWhole}
 use Rattle.sfi_host.specs.Slots.{Bounds, Slot, one_more, own}
-use Rattle.sfi_host.specs.Joint.{service_at, call_of, with_arguments, with_data, replied, next_after}
+use Rattle.sfi_host.specs.Joint.{call_of, with_arguments, with_data, replied, next_after}
 use Rattle.sfi_host.specs.Moves.{ChangesOwn}
 use Rattle.sfi_host.specs.private.Moves.{TakesSome}
 use Rattle.sfi_host.specs.Sandboxes.{seat_of}
-use Rattle.sfi_host.specs.private.Sandboxes.{IsReplied, IsNotReplied, call_by, IsTold, IsNotTold, after_told, next_after_answer}
+use Rattle.sfi_host.specs.private.Sandboxes.{IsReplied, IsNotReplied, call_by, request_by, IsTold, IsNotTold, after_told, next_after_answer}
 use Rattle.sfi_host.specs.Worlds.{slot_of, state_in, IsSafeSeat, StaysOutside}
 use Rattle.sfi_host.proofs.Leaving.{data_of_own, put_back}
 use Rattle.sfi_host.proofs.SafeSeats as keep
@@ -43,18 +42,10 @@ arguments : (h : Hart) (a0 a1 b0 b1 : ℕ) → a0 ≡ b0 → a1 ≡ b1 → with_
 arguments h a0 a1 b0 b1 e f = ap (λ (x : ℕ). with_arguments h x a1) e ∙ ap (λ (x : ℕ). with_arguments h b0 x) f
 
 -- what is asked of the memory of all is what the sandbox asks alone
-pub asked_is : (number : ℕ) (r : Request) (m : Bytes) (s : Sandbox) → r.sandbox ≡ number → r.service ≡ service_at s.gates.items s.cpu.pc → r.a0 ≡ register s.cpu a0_register → r.a1 ≡ register s.cpu a1_register
-    → call_by r (bytes_in (seat_of s).bounds.data m) ≡ call_of number (slot_of m (seat_of s))
-asked_is number r m s e f x y =
-    let bytes : bytes_in (seat_of s).bounds.data m ≡ bytes_in (seat_of s).bounds.data (own (seat_of s).bounds m) = sym (data_of_own (seat_of s).bounds m) in
-    ap (λ (i : ℕ). call_with i r.service r.a0 r.a1 (bytes_in (seat_of s).bounds.data m)) e
-    ∙ ap (λ (i : ℕ). call_with number i r.a0 r.a1 (bytes_in (seat_of s).bounds.data m)) f
-    ∙ ap (λ (i : ℕ). call_with number (service_at s.gates.items s.cpu.pc) i r.a1 (bytes_in (seat_of s).bounds.data m)) x
-    ∙ ap (λ (i : ℕ). call_with number (service_at s.gates.items s.cpu.pc) (register s.cpu a0_register) i (bytes_in (seat_of s).bounds.data m)) y
-    ∙ ap (λ (w : Bytes). call_with number (service_at s.gates.items s.cpu.pc) (register s.cpu a0_register) (register s.cpu a1_register) w) bytes
-  where
-    call_with : ℕ → ℕ → ℕ → ℕ → Bytes → Call
-    call_with i service a0 a1 w = record { caller = i; service = service; a0 = a0; a1 = a1; bytes = w }
+pub asked_is : (number : ℕ) (r : Request) (m : Bytes) (s : Sandbox) → r ≡ request_by number s → call_by r (bytes_in (seat_of s).bounds.data m) ≡ call_of number (slot_of m (seat_of s))
+asked_is number r m s e =
+    ap (λ (q : Request). call_by q (bytes_in (seat_of s).bounds.data m)) e
+    ∙ ap (λ (w : Bytes). call_by (request_by number s) w) (sym (data_of_own (seat_of s).bounds m))
 
 by_way : (m n : Bytes) (s : Sandbox) (t : Told) (r : Reply) (w : Way) → s.status ≡ Ready → t.a0 ≡ r.a0 → t.a1 ≡ r.a1 → own (seat_of s).bounds n ≡ with_data (seat_of s).bounds (own (seat_of s).bounds m) r.bytes
     → slot_of n (seat_of (after_told (spoken w) s t)) ≡ replied (slot_of m (seat_of s)) (record { way = w; a0 = r.a0; a1 = r.a1; bytes = r.bytes })

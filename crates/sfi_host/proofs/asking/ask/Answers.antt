@@ -1,9 +1,6 @@
-use Rattle.std.proofs.Common.{◌≡◌, ap, ◌∙◌, sym, subst, refl}
-use Rattle.rv_step.specs.State.{register}
-use Rattle.sfi_host.specs.declared.guest.Request.{Request}
+use Rattle.std.proofs.Common.{ap, ◌∙◌, sym, subst}
+use Rattle.rv_step.specs.State.{IsHart}
 use Rattle.sfi_host.specs.declared.sandbox.Sandbox.{Sandbox}
-use Rattle.sfi_host.specs.Arguments.{a0_register, a1_register}
-use Rattle.sfi_host.specs.Joint.{service_at}
 use Rattle.sfi_host.specs.private.Moves.{TakesSome}
 use Rattle.sfi_host.specs.Regions.{bytes_in}
 use Rattle.sfi_host.specs.Sandboxes.{seat_of}
@@ -34,7 +31,7 @@ returns-clause-safe g c =
     (g.met.M.Memory.in_range c.call_gate-told.new.memory)
     (stays_outside (seat_of s).bounds.data (g.M.Memory.bytes c.args.memory.now) n c.call_gate-told.ensures.outside)
     (whole_of (seat_of s).bounds.data n c.call_gate-told.ensures.has_data)
-    (λ e. subst (λ (x : Sandbox). Rattle.rv_step.specs.State.IsHart x.cpu) c.put_answer.ensures.after (c.put_answer.ensures.hart e)))
+    (λ e. subst (λ (x : Sandbox). IsHart x.cpu) c.put_answer.ensures.after (c.put_answer.ensures.hart e)))
 
 pub returns-clause-others : goal.returns-clause-others
 returns-clause-others g c =
@@ -53,7 +50,7 @@ returns-clause-moves g c goes_on =
       whole = whole_of (seat_of s).bounds.data n c.call_gate-told.ensures.has_data;
     })
     told.answer (λ e. goes_on (c.put_answer.ensures.next ∙ ap next_after_answer e))
-    (λ e. subst (λ (x : Sandbox). Rattle.rv_step.specs.State.IsHart x.cpu) c.put_answer.ensures.after (c.put_answer.ensures.hart e)))
+    (λ e. subst (λ (x : Sandbox). IsHart x.cpu) c.put_answer.ensures.after (c.put_answer.ensures.hart e)))
 
 pub returns-clause-replied : goal.returns-clause-replied
 returns-clause-replied g c goes_on =
@@ -61,13 +58,10 @@ returns-clause-replied g c goes_on =
     let m = g.M.Memory.bytes c.args.memory.now in
     let n = g.M.Memory.bytes c.call_gate-told.new.memory in
     let told = c.call_gate-told.result in
-    let e : c.service_of.result ≡ service_at s.gates.items s.cpu.pc = cc in
-    let x : c.reg.result ≡ register s.cpu a0_register = cc in
-    let y : c.reg-2.result ≡ register s.cpu a1_register = cc in
-    let r : Request = record { sandbox = c.args.number; service = c.service_of.result; a0 = c.reg.result; a1 = c.reg-2.result } in
+    let r = c.request_of-request.result in
     subst (λ (z : Sandbox). IsReplied g.G.Gates.answer c.args.number (slot_of m (seat_of s)) c.args.gates.now (slot_of n (seat_of z)) c.call_gate-told.new.gates c.put_answer.result) (sym c.put_answer.ensures.after)
     (replies m n s told (call_by r (bytes_in (seat_of s).bounds.data m)) c.args.number c.args.gates.now c.call_gate-told.new.gates c.put_answer.result
-    (asked_is c.args.number r m s refl e x y) c.call_gate-told.ensures.outside c.put_answer.ensures.next
+    (asked_is c.args.number r m s c.request_of-request.ensures) c.call_gate-told.ensures.outside c.put_answer.ensures.next
     g.G.Gates.answer c.requires.ready c.call_gate-told.ensures.answered goes_on)
 
 pub returns-clause-refused : goal.returns-clause-refused
@@ -76,11 +70,8 @@ returns-clause-refused g c ends =
     let m = g.M.Memory.bytes c.args.memory.now in
     let n = g.M.Memory.bytes c.call_gate-told.new.memory in
     let told = c.call_gate-told.result in
-    let e : c.service_of.result ≡ service_at s.gates.items s.cpu.pc = cc in
-    let x : c.reg.result ≡ register s.cpu a0_register = cc in
-    let y : c.reg-2.result ≡ register s.cpu a1_register = cc in
-    let r : Request = record { sandbox = c.args.number; service = c.service_of.result; a0 = c.reg.result; a1 = c.reg-2.result } in
+    let r = c.request_of-request.result in
     subst (λ (z : Sandbox). IsNotReplied g.G.Gates.may_refuse c.args.number (slot_of m (seat_of s)) c.args.gates.now (slot_of n (seat_of z)) c.call_gate-told.new.gates) (sym c.put_answer.ensures.after)
     (refuses m n s told (call_by r (bytes_in (seat_of s).bounds.data m)) c.args.number c.args.gates.now c.call_gate-told.new.gates c.put_answer.result
-    (asked_is c.args.number r m s refl e x y) c.call_gate-told.ensures.outside c.put_answer.ensures.next
+    (asked_is c.args.number r m s c.request_of-request.ensures) c.call_gate-told.ensures.outside c.put_answer.ensures.next
     g.G.Gates.may_refuse c.call_gate-told.ensures.refused ends)
