@@ -40,9 +40,16 @@ may_put s key = nat_lt (length s.values) most_keys || is_some (value_at s key)
 abbrev pub replied : Call → ℕ → ℕ → StoreState → Answer StoreState
 replied c a0 a1 s = record { reply = record { way = Replied; a0 = a0; a1 = a1; bytes = c.bytes }; host = s }
 
--- put: the key a0 gets the value a1, and a0 becomes 0; or 1 where there is no room for the key
+-- a0 after a put, and after one of a new key to a full store
+abbrev pub done : ℕ
+done = 0
+
+abbrev pub full : ℕ
+full = 1
+
+-- put: the key a0 gets the value a1; a0 says whether it has, or the store is full
 abbrev pub put : StoreState → Call → Answer StoreState
-put s c = if may_put s c.a0 then replied c 0 c.a1 (with_value s c.a0 c.a1) else replied c 1 c.a1 s
+put s c = if may_put s c.a0 then replied c done c.a1 (with_value s c.a0 c.a1) else replied c full c.a1 s
 
 -- get: a0 becomes the value of the key a0, and a1 becomes 1; or both 0 where it has none
 abbrev pub get_of : StoreState → Call → Option ℕ → Answer StoreState
@@ -59,17 +66,30 @@ exits s c = record { reply = record { way = Exit c.a0; a0 = c.a0; a1 = c.a1; byt
 abbrev pub yields : StoreState → Call → Answer StoreState
 yields s c = record { reply = record { way = Yield; a0 = c.a0; a1 = c.a1; bytes = c.bytes }; host = s }
 
--- a0 of a call of a service that isn't there
+-- a0 after a call of a service that isn't there
 abbrev pub failed : ℕ
 failed = 2 ^ 32 - 1
 
--- 0 is exit, 1 put, 2 get and 3 yield
+-- the services, by the numbers that a gate asks with
+abbrev pub exit_service : ℕ
+exit_service = 0
+
+abbrev pub put_service : ℕ
+put_service = 1
+
+abbrev pub get_service : ℕ
+get_service = 2
+
+abbrev pub yield_service : ℕ
+yield_service = 3
+
+-- what each of them answers
 abbrev pub store : StoreState → Call → Answer StoreState
 store s c =
-    if c.service == 0 then exits s c
-    else if c.service == 1 then put s c
-    else if c.service == 2 then get s c
-    else if c.service == 3 then yields s c
+    if c.service == exit_service then exits s c
+    else if c.service == put_service then put s c
+    else if c.service == get_service then get s c
+    else if c.service == yield_service then yields s c
     else replied c failed c.a1 s
 
 -- ---- want of memory: only of a put of a new key, where there is room for it
@@ -78,4 +98,4 @@ abbrev pub may_want : StoreState → Call → Bool
 may_want s c = is_new s c.a0 && may_put s c.a0
 
 abbrev pub store_may_refuse : StoreState → Call → Bool
-store_may_refuse s c = (c.service == 1) && may_want s c
+store_may_refuse s c = (c.service == put_service) && may_want s c

@@ -1,13 +1,14 @@
 -- What a world answers of a sandbox.
-use Rattle.std.proofs.Common.{◌≡◌, ℕ, zero, suc, ◌↔◌, List, [], ◌∷◌, Option, Some, None, IsSome, slice_get, refl, sym, ap, ◌∙◌, subst}
+use Rattle.std.proofs.Common.{◌≡◌, ℕ, zero, suc, ◌↔◌, ◌<◌, List, [], ◌∷◌, length, get_or, Option, Some, None, IsSome, slice_get, refl, sym, ap, ◌∙◌, subst}
 use Rattle.std.specs.Option.{option_map}
+use Rattle.std.proofs.lemmas.Option.{slice_get-get_or}
 use Rattle.rv_mem.specs.Bytes.{Bytes, byte_at}
 use Rattle.sfi_image.specs.Spans.{Holds}
 use Rattle.sfi_host.specs.declared.sandbox.Sandbox.{Sandbox}
 use Rattle.sfi_host.specs.Regions.{span_of, bytes_in}
 use Rattle.sfi_host.specs.Reading.{hart_at, data_region_at}
 use Rattle.sfi_host.specs.Slots.{Slot}
-use Rattle.sfi_host.specs.Sandboxes.{seat_of, world_of}
+use Rattle.sfi_host.specs.Sandboxes.{seat_of, seats_of, world_of}
 use Rattle.sfi_host.specs.Worlds.{Sandboxes, slot_of, slots_of, status_at, steps_at, data_byte_of}
 use Rattle.sfi_host.proofs.Leaving.{data_of_own}
 
@@ -22,10 +23,14 @@ no_slot m [] i e = refl
 no_slot m (x ∷ all) zero e = absurd (cc)
 no_slot m (x ∷ all) (suc i) e = no_slot m all i e
 
-pub seat_at : (all : List Sandbox) (i : ℕ) (s : Sandbox) → slice_get all i ≡ Some s → slice_get (Rattle.sfi_host.specs.Sandboxes.seats_of all) i ≡ Some (seat_of s)
+pub seat_at : (all : List Sandbox) (i : ℕ) (s : Sandbox) → slice_get all i ≡ Some s → slice_get (seats_of all) i ≡ Some (seat_of s)
 seat_at [] i s e = absurd (cc)
 seat_at (x ∷ all) zero s e = let same : x ≡ s = cc in ap (λ (y : Sandbox). Some (seat_of y)) same
 seat_at (x ∷ all) (suc i) s e = seat_at all i s e
+
+-- what a look-up found is there
+pub found : (all seen : List Sandbox) (i : ℕ) (s : Sandbox) → seen ≡ all → i < length seen → s ≡ get_or seen i s → slice_get all i ≡ Some s
+found all seen i s e below is = ap (λ (l : List Sandbox). slice_get l i) (sym e) ∙ slice_get-get_or seen i s below ∙ ap Some (sym is)
 
 module _ (w : Sandboxes) (m : Bytes) (all : List Sandbox) (is : world_of m all ≡ w) (i : ℕ) where
   pub status_is : (s : Sandbox) → slice_get all i ≡ Some s → Some s.status ≡ status_at (slots_of w) i

@@ -10,7 +10,7 @@ use Rattle.sfi_host.specs.Regions.{is_in, bytes_in, bytes_outside, IsWhole}
 use Rattle.sfi_host.specs.Slots.{Bounds, is_own, own}
 use Rattle.sfi_host.specs.Joint.{both, with_data}
 use Rattle.sfi_host.specs.Worlds.{StaysOutside}
-use Rattle.sfi_host.proofs.Kept.{get_kept, same_bytes, byte_in, is_in-true, is_in-Holds}
+use Rattle.sfi_host.proofs.RegionBytes.{get_kept, same_bytes, byte_in, is_in-true, is_in-Holds}
 
 -- ---- two memories in one
 

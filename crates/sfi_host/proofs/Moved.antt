@@ -8,10 +8,11 @@ use Rattle.sfi_host.specs.declared.turn.Turn.{Turn as PlanTurn}
 use Rattle.sfi_host.specs.Regions.{is_in}
 use Rattle.sfi_host.specs.Slots.{Bounds, Slot, is_own}
 use Rattle.sfi_host.specs.Worlds.{Seat, Sandboxes, slot_of, IsSafeWorld, StaysOutside}
-use Rattle.sfi_host.specs.Moves.{Move, after_move, IsMove, AreMoves, MovesAreRuns, IsNamed, HaveMoved, HaveRun, TakesSome, MovesAlone}
-use Rattle.sfi_host.proofs.Kept.{same_bytes, is_in-true, is_in-Holds}
+use Rattle.sfi_host.specs.Moves.{Move, after_move, IsMove, AreMoves, MovesAreRuns, IsNamed, HaveMoved, HaveRun}
+use Rattle.sfi_host.specs.private.Moves.{TakesSome, MovesAlone}
+use Rattle.sfi_host.proofs.RegionBytes.{same_bytes, is_in-true, is_in-Holds}
 use Rattle.sfi_host.proofs.Neighbours.{get_set_same}
-use Rattle.sfi_host.proofs.Owning.{own_data, own_there, true_false}
+use Rattle.sfi_host.proofs.OwnSteps.{own_data, own_there, true_false}
 
 -- ---- lists
 

@@ -21,7 +21,7 @@ use Rattle.sfi_host.specs.Moves.{IsOwnTurn, StepLeads, Leads, TakesTurn, Move, a
 use Rattle.sfi_host.specs.Steps.{IsOwnStep, StepsAreOwn}
 use Rattle.sfi_host.specs.Stops.{StoppedItself}
 use Rattle.sfi_host.proofs.Stops.{at_gate_still, at_gate}
-use Rattle.sfi_host.proofs.Keeping as keep
+use Rattle.sfi_host.proofs.SafeSeats as keep
 use Rattle.sfi_host.proofs.Neighbours.{eq_from_test, not_same, get_set_same, get_set_other, slots_are, world_safe, neighbours_are}
 use Rattle.sfi_host.proofs.SamePart.{same_some, safe_run}
 

@@ -8,8 +8,8 @@ use Rattle.sfi_check.specs.Laws.{GoesOnSafely}
 use Rattle.sfi_host.specs.Laws.{NeighboursAreChanges}
 use Rattle.sfi_host.specs.Slots.{Bounds, bounds_of, own, Slot}
 use Rattle.sfi_host.specs.Worlds.{Seat, slot_of, slots_of, IsSafeSeat, LiesOutside, IsSafeWorld, StaysOutside}
-use Rattle.sfi_host.proofs.Keeping as keep
-use Rattle.sfi_host.proofs.Owning.{own_is, own_there, own_missing, same_own}
+use Rattle.sfi_host.proofs.SafeSeats as keep
+use Rattle.sfi_host.proofs.OwnSteps.{own_is, own_there, own_missing, same_own}
 
 -- ---- lists
 

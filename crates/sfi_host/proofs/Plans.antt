@@ -1,14 +1,15 @@
 -- The turns of a plan, one after another.
-use Rattle.std.proofs.Common.{◌≡◌, ℕ, zero, suc, ◌+◌, ◌<◌, ◌≤◌, Bool, true, false, List, [], ◌∷◌, drop, get_or, length, Option, Some, None, slice_get, set, refl, sym, ap, ◌∙◌, subst, arith}
+use Rattle.std.proofs.Common.{◌≡◌, ◌≢◌, ◌⊎◌, inl, inr, ℕ, zero, suc, ◌+◌, ◌<◌, ◌≤◌, Bool, true, false, List, [], ◌∷◌, drop, get_or, length, Option, Some, None, slice_get, set, refl, sym, ap, ◌∙◌, subst, arith}
 use Rattle.std.proofs.Math.Seq.{drop-cons}
 use Rattle.std.proofs.lemmas.Option.{slice_get-get_or}
 use Rattle.sfi_host.specs.declared.turn.Turn.{Turn}
 use Rattle.sfi_host.specs.Hosts.{Call, Answer, Host, Limited, limited}
 use Rattle.sfi_host.specs.Slots.{Slot}
-use Rattle.sfi_host.specs.Joint.{Machine, IsMachine, Then, TurnEnds, RunEnds, Moved, turned, Joined, joined, given, and_plan, turn_and, after_turn}
+use Rattle.sfi_host.specs.declared.turn.StepResult.{StepResult}
+use Rattle.sfi_host.specs.declared.turn.StepResult.TheVariants.{Continue, TurnEnds, RunEnds}
+use Rattle.sfi_host.specs.Joint.{Machine, IsMachine, Moved, turned, Joined, joined, given, and_plan, turn_and, after_turn}
 use Rattle.sfi_host.specs.Plans.{IsJoint, IsCutJoint}
-use Rattle.sfi_host.specs.Limits.{allow, allows, with_left, Comes, IsTurnOf, IsCutTurnOf}
-use Rattle.sfi_host.specs.private.Limits.{SamePlan, IsPlanOnItsWay, IsPlanStep, IsPlanCut}
+use Rattle.sfi_host.specs.private.Limits.{allow, allows, with_left, Comes, IsTurnOf, IsCutTurnOf, SamePlan, IsPlanOnItsWay, IsPlanStep, IsPlanCut}
 use Rattle.sfi_host.specs.Worlds.{Sandboxes, slots_of, IsSafeWorld}
 use Rattle.sfi_host.proofs.Turning.{allows_both}
 
@@ -35,11 +36,11 @@ joined_nil machine host slots s = refl
 
 -- the replies of a turn don't matter
 goes_in : {S : Type 0} (i : ℕ) (m : Moved S) (slots : List Slot) (rest : List Slot → S → Joined S) → m.next ≡ TurnEnds → and_plan m.next i m slots rest ≡ after_turn (given i m.replies) (rest (set slots i m.slot) m.host)
-goes_in i m slots rest e = ap (λ (x : Then). and_plan x i m slots rest) e
+goes_in i m slots rest e = ap (λ (x : StepResult). and_plan x i m slots rest) e
 
 cut_in : {S : Type 0} (i : ℕ) (m : Moved S) (slots : List Slot) (rest : List Slot → S → Joined S) → m.next ≡ RunEnds
     → and_plan m.next i m slots rest ≡ record { slots = set slots i m.slot; host = m.host; replies = given i m.replies; turns = 1; is_ended = true }
-cut_in i m slots rest e = ap (λ (x : Then). and_plan x i m slots rest) e
+cut_in i m slots rest e = ap (λ (x : StepResult). and_plan x i m slots rest) e
 
 module _ {S : Type 0} (machine : Machine) (answer : S → Call → Answer S) where
   -- a turn that names no sandbox
@@ -167,6 +168,10 @@ module _ {S : Type 0} (machine : Machine) (answer : S → Call → Answer S) whe
 pub record InPlan {S : Type 0} (answer : S → Call → Answer S) (plan : List Turn) (old : List Slot) (before : S) (done : ℕ) (now : Sandboxes) (host : S) : Type 0 where
   pub safe : IsSafeWorld now
   pub way : (machine : Machine) → IsMachine machine → IsPlanOnItsWay machine answer plan old before done (drop done plan) (slots_of now) host
+
+pub run_goes_on : (r : StepResult) → (r ≡ Continue) ⊎ (r ≡ TurnEnds) → r ≢ RunEnds
+run_goes_on r (inl f) e = let z : Continue ≡ RunEnds = sym f ∙ e in cc
+run_goes_on r (inr f) e = let z : TurnEnds ≡ RunEnds = sym f ∙ e in cc
 
 pub next_turn : (plan : List Turn) (k : ℕ) (d : Turn) → k < length plan → drop k plan ≡ get_or plan k d ∷ drop (k + 1) plan
 next_turn plan k d below =

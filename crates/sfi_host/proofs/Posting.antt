@@ -12,7 +12,8 @@ use Rattle.sfi_host.specs.Answering.{IsGiven}
 use Rattle.sfi_host.specs.Guests.{asked, with_a0}
 use Rattle.sfi_host.specs.Hosts.{Call, Answer}
 use Rattle.sfi_host.specs.Messages.{Message}
-use Rattle.sfi_host.specs.Consoles.{SessionState, ConsoleState, new_session, failed, replied, most_messages, message_of, with_message, with_session, post_to, post, console}
+use Rattle.sfi_host.specs.Services.{exit_service, yield_service, post_service}
+use Rattle.sfi_host.specs.Consoles.{SessionState, ConsoleState, new_session, failed, replied, most_messages, posted, mailbox_full, message_of, with_message, with_session, post_to, post, console}
 use Rattle.sfi_host.proofs.Serving.{set_same}
 
 -- a reply that changes a0 alone
@@ -24,31 +25,31 @@ given_replied bytes answer old new a0 host e f =
 
 -- what a post is answered, where there is a session of that number
 by_room : (s : ConsoleState) (c : Call) (x : SessionState) (i : ℕ) (room : Bool) → i ≡ c.a0 → slice_get s.sessions i ≡ Some x → (IsTrue room ↔ (length x.mailbox < most_messages))
-    → post s c ≡ (if room then replied c 0 (with_session s c.a0 (with_message x (message_of c))) else replied c 1 s)
+    → post s c ≡ (if room then replied c posted (with_session s c.a0 (with_message x (message_of c))) else replied c mailbox_full s)
 by_room s c x i room f there r =
     ap (λ j. post_to s c (slice_get s.sessions j)) (sym f)
     ∙ ap (post_to s c) there
-    ∙ ap (λ b. if b then replied c 0 (with_session s c.a0 (with_message x (message_of c))) else replied c 1 s) (sym (ltb_from_iff r))
+    ∙ ap (λ b. if b then replied c posted (with_session s c.a0 (with_message x (message_of c))) else replied c mailbox_full s) (sym (ltb_from_iff r))
 
 post_value : (s : ConsoleState) (c : Call) (x after : SessionState) (i a0 : ℕ) (m : Message) (room : Bool)
     → i ≡ c.a0 → slice_get s.sessions i ≡ Some x → m ≡ message_of c → (IsTrue room ↔ (length x.mailbox < most_messages))
-    → OnTrue room (after ≡ with_message x m) → OnFalse room (after ≡ x) → a0 ≡ (if room then 0 else 1)
+    → OnTrue room (after ≡ with_message x m) → OnFalse room (after ≡ x) → a0 ≡ (if room then posted else mailbox_full)
     → post s c ≡ replied c a0 (with_session s i after)
 post_value s c x after i a0 m true f there n r sent full z =
     by_room s c x i true f there r
-    ∙ ap (λ j. replied c 0 (with_session s j (with_message x (message_of c)))) (sym f)
-    ∙ ap (λ k. replied c 0 (with_session s i (with_message x k))) (sym n)
-    ∙ ap (λ y. replied c 0 (with_session s i y)) (sym sent)
+    ∙ ap (λ j. replied c posted (with_session s j (with_message x (message_of c)))) (sym f)
+    ∙ ap (λ k. replied c posted (with_session s i (with_message x k))) (sym n)
+    ∙ ap (λ y. replied c posted (with_session s i y)) (sym sent)
     ∙ ap (λ v. replied c v (with_session s i after)) (sym z)
 post_value s c x after i a0 m false f there n r sent full z =
     by_room s c x i false f there r
-    ∙ ap (λ xs. replied c 1 (record s { sessions = xs })) (sym (set_same s.sessions i x there))
-    ∙ ap (λ y. replied c 1 (with_session s i y)) (sym full)
+    ∙ ap (λ xs. replied c mailbox_full (record s { sessions = xs })) (sym (set_same s.sessions i x there))
+    ∙ ap (λ y. replied c mailbox_full (with_session s i y)) (sym full)
     ∙ ap (λ v. replied c v (with_session s i after)) (sym z)
 
 pub posted_at : {M : Type 0} (bytes : M → Bytes) (s self : ConsoleState) (old new : Guest M) (x after : SessionState) (i a0 : ℕ) (m : Message) (room : Bool)
     → s ≡ self → i ≡ (asked bytes old).a0 → slice_get s.sessions i ≡ Some x → m ≡ message_of (asked bytes old)
-    → (IsTrue room ↔ (length x.mailbox < most_messages)) → OnTrue room (after ≡ with_message x m) → OnFalse room (after ≡ x) → a0 ≡ (if room then 0 else 1)
+    → (IsTrue room ↔ (length x.mailbox < most_messages)) → OnTrue room (after ≡ with_message x m) → OnFalse room (after ≡ x) → a0 ≡ (if room then posted else mailbox_full)
     → asked bytes new ≡ with_a0 (asked bytes old) a0
     → IsGiven bytes (post self (asked bytes old)) new (with_session s i after) gate.Replied
 posted_at bytes s self old new x after i a0 m room e f there n r sent full z w =
@@ -58,23 +59,23 @@ posted_at bytes s self old new x after i a0 m room e f there n r sent full z w =
 -- ---- callers
 
 -- a caller below the count that posts is answered so
-posts : (s : ConsoleState) (c : Call) → c.service ≡ 4 → c.caller < length s.sessions → post s c ≡ console s c
+posts : (s : ConsoleState) (c : Call) → c.service ≡ post_service → c.caller < length s.sessions → post s c ≡ console s c
 posts s c p l =
     let there : slice_get s.sessions c.caller ≡ Some (get_or s.sessions c.caller new_session) = slice_get-get_or s.sessions c.caller new_session l in
     grind (arith, p, there)
 
-pub posts_at : {M : Type 0} (bytes : M → Bytes) (self host : ConsoleState) (old new : Guest M) (result : GateAnswer) → (asked bytes old).service ≡ 4 → (asked bytes old).caller < length self.sessions
+pub posts_at : {M : Type 0} (bytes : M → Bytes) (self host : ConsoleState) (old new : Guest M) (result : GateAnswer) → (asked bytes old).service ≡ post_service → (asked bytes old).caller < length self.sessions
     → IsGiven bytes (post self (asked bytes old)) new host result → IsGiven bytes (console self (asked bytes old)) new host result
 posts_at bytes self host old new result p l g = subst (λ a. IsGiven bytes a new host result) (posts self (asked bytes old) p l) g
 
 -- a caller that isn't below the count is refused all but exit and yield
-unknown : (s : ConsoleState) (c : Call) → c.service ≢ 0 → c.service ≢ 3 → length s.sessions ≤ c.caller → console s c ≡ replied c failed s
+unknown : (s : ConsoleState) (c : Call) → c.service ≢ exit_service → c.service ≢ yield_service → length s.sessions ≤ c.caller → console s c ≡ replied c failed s
 unknown s c h k l =
     let none : slice_get s.sessions c.caller ≡ None = slice_get_past s.sessions c.caller l in
     grind (arith, h, k, none)
 
 pub unknown_at : {M : Type 0} (bytes : M → Bytes) (self : ConsoleState) (old new : Guest M) (result : GateAnswer)
-    → (asked bytes old).service ≢ 0 → (asked bytes old).service ≢ 3 → length self.sessions ≤ (asked bytes old).caller
+    → (asked bytes old).service ≢ exit_service → (asked bytes old).service ≢ yield_service → length self.sessions ≤ (asked bytes old).caller
     → result ≡ gate.Replied → asked bytes new ≡ with_a0 (asked bytes old) failed → IsGiven bytes (console self (asked bytes old)) new self result
 unknown_at bytes self old new result h k l e w =
     subst (λ r. IsGiven bytes (console self (asked bytes old)) new self r) (sym e)

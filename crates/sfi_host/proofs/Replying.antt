@@ -4,7 +4,7 @@ use Rattle.rv_mem.specs.Bytes.{Bytes, IsMemory}
 use Rattle.rv_word.specs.declared.instr.Instr.TheVariants.{Ecall}
 use Rattle.rv_comp.specs.declared.front.Front.TheVariants.{Read}
 use Rattle.rv_step.specs.declared.outcome.Outcome.TheVariants.{Call as Calls}
-use Rattle.rv_step.specs.State.{Hart, State, IsHart, register, past}
+use Rattle.rv_step.specs.State.{Hart, State, IsHart, past}
 use Rattle.rv_step.specs.Step.{Stands}
 use Rattle.sfi_check.specs.Runs.{Steps, Replies}
 use Rattle.sfi_check.specs.Laws.{GoesOnSafely}
@@ -15,19 +15,20 @@ use Rattle.sfi_host.specs.declared.gates.GateAnswer.TheVariants as gate
 use Rattle.sfi_host.specs.declared.guest.Request.{Request}
 use Rattle.sfi_host.specs.declared.sandbox.Sandbox.{Sandbox}
 use Rattle.sfi_host.specs.declared.asking.Told.{Told}
-use Rattle.sfi_host.specs.declared.asking.Going.{Going}
-use Rattle.sfi_host.specs.declared.asking.Going.TheVariants as going
+use Rattle.sfi_host.specs.declared.turn.StepResult.{StepResult}
+use Rattle.sfi_host.specs.declared.turn.StepResult.TheVariants.{Continue, RunEnds}
 use Rattle.sfi_host.specs.Answering.{spoken}
 use Rattle.sfi_host.specs.Hosts.{Call, Way, Replied, Yield, Exit, Reply, Answer}
 use Rattle.sfi_host.specs.Regions.{bytes_in, bytes_outside, IsWhole}
 use Rattle.sfi_host.specs.Slots.{Bounds, Slot, one_more, own}
-use Rattle.sfi_host.specs.Joint.{service_at, call_of, with_arguments, with_data, replied, then_of}
-use Rattle.sfi_host.specs.Moves.{ChangesOwn, TakesSome}
-use Rattle.sfi_host.specs.Sandboxes.{seat_of, next_of, IsReplied, IsNotReplied}
-use Rattle.sfi_host.specs.private.Sandboxes.{call_by, IsTold, IsNotTold, after_told, going_after}
+use Rattle.sfi_host.specs.Joint.{call_of, with_arguments, with_data, replied, next_after}
+use Rattle.sfi_host.specs.Moves.{ChangesOwn}
+use Rattle.sfi_host.specs.private.Moves.{TakesSome}
+use Rattle.sfi_host.specs.Sandboxes.{seat_of}
+use Rattle.sfi_host.specs.private.Sandboxes.{IsReplied, IsNotReplied, call_by, request_by, IsTold, IsNotTold, after_told, next_after_answer}
 use Rattle.sfi_host.specs.Worlds.{slot_of, state_in, IsSafeSeat, StaysOutside}
 use Rattle.sfi_host.proofs.Leaving.{data_of_own, put_back}
-use Rattle.sfi_host.proofs.Keeping as keep
+use Rattle.sfi_host.proofs.SafeSeats as keep
 use Rattle.sfi_host.proofs.Stops.{at_gate_still, at_gate}
 
 abbrev slot_with : Bounds → Hart → Status → ℕ → Bytes → Slot
@@ -41,18 +42,10 @@ arguments : (h : Hart) (a0 a1 b0 b1 : ℕ) → a0 ≡ b0 → a1 ≡ b1 → with_
 arguments h a0 a1 b0 b1 e f = ap (λ (x : ℕ). with_arguments h x a1) e ∙ ap (λ (x : ℕ). with_arguments h b0 x) f
 
 -- what is asked of the memory of all is what the sandbox asks alone
-pub asked_is : (number : ℕ) (r : Request) (m : Bytes) (s : Sandbox) → r.sandbox ≡ number → r.service ≡ service_at s.gates.items s.cpu.pc → r.a0 ≡ register s.cpu 10 → r.a1 ≡ register s.cpu 11
-    → call_by r (bytes_in (seat_of s).bounds.data m) ≡ call_of number (slot_of m (seat_of s))
-asked_is number r m s e f x y =
-    let bytes : bytes_in (seat_of s).bounds.data m ≡ bytes_in (seat_of s).bounds.data (own (seat_of s).bounds m) = sym (data_of_own (seat_of s).bounds m) in
-    ap (λ (i : ℕ). call_with i r.service r.a0 r.a1 (bytes_in (seat_of s).bounds.data m)) e
-    ∙ ap (λ (i : ℕ). call_with number i r.a0 r.a1 (bytes_in (seat_of s).bounds.data m)) f
-    ∙ ap (λ (i : ℕ). call_with number (service_at s.gates.items s.cpu.pc) i r.a1 (bytes_in (seat_of s).bounds.data m)) x
-    ∙ ap (λ (i : ℕ). call_with number (service_at s.gates.items s.cpu.pc) (register s.cpu 10) i (bytes_in (seat_of s).bounds.data m)) y
-    ∙ ap (λ (w : Bytes). call_with number (service_at s.gates.items s.cpu.pc) (register s.cpu 10) (register s.cpu 11) w) bytes
-  where
-    call_with : ℕ → ℕ → ℕ → ℕ → Bytes → Call
-    call_with i service a0 a1 w = record { caller = i; service = service; a0 = a0; a1 = a1; bytes = w }
+pub asked_is : (number : ℕ) (r : Request) (m : Bytes) (s : Sandbox) → r ≡ request_by number s → call_by r (bytes_in (seat_of s).bounds.data m) ≡ call_of number (slot_of m (seat_of s))
+asked_is number r m s e =
+    ap (λ (q : Request). call_by q (bytes_in (seat_of s).bounds.data m)) e
+    ∙ ap (λ (w : Bytes). call_by (request_by number s) w) (sym (data_of_own (seat_of s).bounds m))
 
 by_way : (m n : Bytes) (s : Sandbox) (t : Told) (r : Reply) (w : Way) → s.status ≡ Ready → t.a0 ≡ r.a0 → t.a1 ≡ r.a1 → own (seat_of s).bounds n ≡ with_data (seat_of s).bounds (own (seat_of s).bounds m) r.bytes
     → slot_of n (seat_of (after_told (spoken w) s t)) ≡ replied (slot_of m (seat_of s)) (record { way = w; a0 = r.a0; a1 = r.a1; bytes = r.bytes })
@@ -60,12 +53,12 @@ by_way m n s t r Replied ready x y b = slot_from (seat_of s).bounds _ _ _ _ (one
 by_way m n s t r Yield ready x y b = slot_from (seat_of s).bounds _ _ _ _ (one_more s.steps) _ _ (ap (λ (h : Hart). past h 4) (arguments s.cpu _ _ _ _ x y)) ready b
 by_way m n s t r (Exit k) ready x y b = slot_from (seat_of s).bounds _ _ _ _ (one_more s.steps) _ _ (arguments s.cpu _ _ _ _ x y) refl b
 
-next_way : (w : Way) → next_of (going_after (spoken w)) ≡ then_of w
+next_way : (w : Way) → next_after_answer (spoken w) ≡ next_after w
 next_way Replied = refl
 next_way Yield = refl
 next_way (Exit n) = refl
 
-refused_answer : (a : GateAnswer) → going_after a ≡ going.Refused → a ≡ gate.Memory
+refused_answer : (a : GateAnswer) → next_after_answer a ≡ RunEnds → a ≡ gate.Memory
 refused_answer gate.Replied e = absurd (cc)
 refused_answer gate.Yield e = absurd (cc)
 refused_answer (gate.Exit n) e = absurd (cc)
@@ -73,25 +66,25 @@ refused_answer gate.Memory e = refl
 
 -- ---- the two ways in which a call ends
 
-module _ {S : Type 0} (m n : Bytes) (s : Sandbox) (t : Told) (call : Call) (number : ℕ) (before after : S) (result : Going)
+module _ {S : Type 0} (m n : Bytes) (s : Sandbox) (t : Told) (call : Call) (number : ℕ) (before after : S) (result : StepResult)
     (is : call ≡ call_of number (slot_of m (seat_of s))) (out : bytes_outside (seat_of s).bounds.data n ≡ bytes_outside (seat_of s).bounds.data m)
-    (goes : result ≡ going_after t.answer) where
+    (goes : result ≡ next_after_answer t.answer) where
   pub replies : (answer : S → Call → Answer S) → s.status ≡ Ready
-      → (t.answer ≢ gate.Memory → IsTold (answer before call) (bytes_in (seat_of s).bounds.data n) after t) → result ≢ going.Refused
+      → (t.answer ≢ gate.Memory → IsTold (answer before call) (bytes_in (seat_of s).bounds.data n) after t) → result ≢ RunEnds
       → IsReplied answer number (slot_of m (seat_of s)) before (slot_of n (seat_of (after_told t.answer s t))) after result
   replies answer ready told_if goes_on =
-      let told : IsTold (answer before call) (bytes_in (seat_of s).bounds.data n) after t = told_if (λ e. goes_on (goes ∙ ap going_after e)) in
+      let told : IsTold (answer before call) (bytes_in (seat_of s).bounds.data n) after t = told_if (λ e. goes_on (goes ∙ ap next_after_answer e)) in
       let r = answer before call in
       let same : answer before call ≡ answer before (call_of number (slot_of m (seat_of s))) = ap (λ (c : Call). answer before c) is in
       let back : own (seat_of s).bounds n ≡ with_data (seat_of s).bounds (own (seat_of s).bounds m) r.reply.bytes = put_back (seat_of s).bounds m n r.reply.bytes out told.data_bytes in
       record {
         slot = ap (λ (a : GateAnswer). slot_of n (seat_of (after_told a s t))) told.way ∙ by_way m n s t r.reply r.reply.way ready told.a0 told.a1 back ∙ ap (λ (x : Answer S). replied (slot_of m (seat_of s)) x.reply) same;
         host = told.state ∙ ap (λ (x : Answer S). x.host) same;
-        next = ap next_of (goes ∙ ap going_after told.way) ∙ next_way r.reply.way ∙ ap (λ (x : Answer S). then_of x.reply.way) same;
+        next_is = goes ∙ ap next_after_answer told.way ∙ next_way r.reply.way ∙ ap (λ (x : Answer S). next_after x.reply.way) same;
       }
 
   pub refuses : (may_refuse : S → Call → Bool)
-      → (t.answer ≡ gate.Memory → IsNotTold (may_refuse before) call (bytes_in (seat_of s).bounds.data n) before after) → result ≡ going.Refused
+      → (t.answer ≡ gate.Memory → IsNotTold (may_refuse before) call (bytes_in (seat_of s).bounds.data n) before after) → result ≡ RunEnds
       → IsNotReplied may_refuse number (slot_of m (seat_of s)) before (slot_of n (seat_of (after_told t.answer s t))) after
   refuses may_refuse not_told ends =
       let e : t.answer ≡ gate.Memory = refused_answer t.answer (sym goes ∙ ends) in
@@ -113,7 +106,7 @@ bounds_after (gate.Exit n) s t = refl
 bounds_after gate.Memory s t = refl
 
 -- where its turn goes on, a sandbox is ready as before
-pub still_ready : (a : GateAnswer) (s : Sandbox) (t : Told) (goes : Going) → goes ≡ going_after a → goes ≡ going.More → s.status ≡ Ready → (after_told a s t).status ≡ Ready
+pub still_ready : (a : GateAnswer) (s : Sandbox) (t : Told) (goes : StepResult) → goes ≡ next_after_answer a → goes ≡ Continue → s.status ≡ Ready → (after_told a s t).status ≡ Ready
 still_ready gate.Replied s t goes e more ready = ready
 still_ready gate.Yield s t goes e more ready = absurd (cc)
 still_ready (gate.Exit n) s t goes e more ready = absurd (cc)

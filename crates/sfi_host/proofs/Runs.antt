@@ -8,7 +8,7 @@ use Rattle.rv_mem.specs.Bytes.{Bytes, IsMemory, byte_at, bytes_at, with_bytes, i
 use Rattle.rv_mem.specs.Laws.{WrittenIsThere}
 use Rattle.sfi_image.specs.declared.span.Span.{Span}
 use Rattle.sfi_host.specs.Regions.{bytes_in, IsWhole}
-use Rattle.sfi_host.proofs.Kept.{held, byte_in, is_in-Holds, still_there}
+use Rattle.sfi_host.proofs.RegionBytes.{held, byte_in, is_in-Holds, still_there}
 
 -- ---- which are there
 

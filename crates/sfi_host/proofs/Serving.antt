@@ -7,6 +7,7 @@ use Rattle.sfi_host.specs.declared.gates.GateAnswer.{GateAnswer}
 use Rattle.sfi_host.specs.Answering.{IsGiven, IsRefusal}
 use Rattle.sfi_host.specs.Guests.{asked}
 use Rattle.sfi_host.specs.Hosts.{Call}
+use Rattle.sfi_host.specs.Services.{exit_service, yield_service, post_service}
 use Rattle.sfi_host.specs.Consoles.{SessionState, ConsoleState, with_session, serve, serve_own, console, may_want, may_want_if, console_may_refuse}
 
 -- an element in its own place
@@ -16,13 +17,13 @@ set_same (y ∷ ys) zero x e = ap (λ z. z ∷ ys) (let same : y ≡ x = cc in s
 set_same (y ∷ ys) (suc i) x e = ap (λ zs. y ∷ zs) (set_same ys i x e)
 
 -- what a caller is answered that has a session
-pub answer_is : (s : ConsoleState) (c : Call) (x : SessionState) → c.service ≢ 0 → c.service ≢ 3 → c.service ≢ 4 → slice_get s.sessions c.caller ≡ Some x
+pub answer_is : (s : ConsoleState) (c : Call) (x : SessionState) → c.service ≢ exit_service → c.service ≢ yield_service → c.service ≢ post_service → slice_get s.sessions c.caller ≡ Some x
     → serve_own s c x ≡ console s c
 answer_is s c x h k p e = grind (arith, h, k, p, e)
 
 -- its answer is the console's
 pub given : {M : Type 0} (bytes : M → Bytes) (s : ConsoleState) (old new : Guest M) (x after : SessionState) (result : GateAnswer)
-    → (asked bytes old).service ≢ 0 → (asked bytes old).service ≢ 3 → (asked bytes old).service ≢ 4 → slice_get s.sessions (asked bytes old).caller ≡ Some x
+    → (asked bytes old).service ≢ exit_service → (asked bytes old).service ≢ yield_service → (asked bytes old).service ≢ post_service → slice_get s.sessions (asked bytes old).caller ≡ Some x
     → IsGiven bytes (serve s.input x (asked bytes old)) new after result
     → IsGiven bytes (console s (asked bytes old)) new (with_session s (asked bytes old).caller after) result
 given bytes s old new x after result h k p e g =
@@ -44,7 +45,7 @@ refusal bytes s old new x after e r = record {
 
 pub given_at : {M : Type 0} (bytes : M → Bytes) (s self : ConsoleState) (old new : Guest M) (x after : SessionState) (i : ℕ) (input : List ℕ) (result : GateAnswer)
     → s ≡ self → i ≡ (asked bytes old).caller → input ≡ s.input → slice_get s.sessions i ≡ Some x
-    → (asked bytes old).service ≢ 0 → (asked bytes old).service ≢ 3 → (asked bytes old).service ≢ 4
+    → (asked bytes old).service ≢ exit_service → (asked bytes old).service ≢ yield_service → (asked bytes old).service ≢ post_service
     → IsGiven bytes (serve input x (asked bytes old)) new after result
     → IsGiven bytes (console self (asked bytes old)) new (with_session s i after) result
 given_at bytes s self old new x after i input result e f n there h k p g =

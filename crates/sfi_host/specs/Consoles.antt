@@ -6,6 +6,7 @@ use Rattle.rv_mem.specs.Bytes.{with_bytes}
 use Rattle.sfi_host.specs.Guests.{data_from}
 use Rattle.sfi_host.specs.Hosts.{Call, Replied, Yield, Exit, Answer}
 use Rattle.sfi_host.specs.Messages.{Message}
+use Rattle.sfi_host.specs.Services.{exit_service, put_service, get_service, yield_service, post_service, take_service}
 
 -- ---- what a console keeps
 
@@ -111,13 +112,20 @@ with_message x m = record x { mailbox = x.mailbox ++ m ∷ [] }
 abbrev pub with_session : ConsoleState → ℕ → SessionState → ConsoleState
 with_session s i x = record s { sessions = slice_set s.sessions i x }
 
--- a0 becomes 0, or 1 where the mailbox is full; where there is no such sandbox the call is refused
+-- a0 after a post, and after one to a mailbox that is full
+abbrev pub posted : ℕ
+posted = 0
+
+abbrev pub mailbox_full : ℕ
+mailbox_full = 1
+
+-- a0 says whether the message is posted or the mailbox full; where there is no such sandbox the call is refused
 abbrev pub post_to : ConsoleState → Call → Option SessionState → Answer ConsoleState
 post_to s c None = replied c failed s
 post_to s c (Some x) =
     if nat_lt (length x.mailbox) most_messages
-    then replied c 0 (with_session s c.a0 (with_message x (message_of c)))
-    else replied c 1 s
+    then replied c posted (with_session s c.a0 (with_message x (message_of c)))
+    else replied c mailbox_full s
 
 abbrev pub post : ConsoleState → Call → Answer ConsoleState
 post s c = post_to s c (slice_get s.sessions c.a0)
@@ -137,22 +145,22 @@ take_message x c = take_oldest x c x.mailbox
 
 -- ---- all services
 
--- what needs the caller's session alone: 1 is put, 2 is get, 5 is take, and no other is served
+-- what needs the caller's session alone: put, get and take, and no other is served
 abbrev pub serve : List ℕ → SessionState → Call → Answer SessionState
 serve input x c =
-    if c.service == 1 then put x c
-    else if c.service == 2 then get input x c
-    else if c.service == 5 then take_message x c
+    if c.service == put_service then put x c
+    else if c.service == get_service then get input x c
+    else if c.service == take_service then take_message x c
     else replied c failed x
 
 -- its session goes on in the console
 abbrev pub serve_own : ConsoleState → Call → SessionState → Answer ConsoleState
 serve_own s c x = let a = serve s.input x c in record { reply = a.reply; host = with_session s c.caller a.host }
 
--- 4 is post; a caller that has no session is refused
+-- a post; a caller that has no session is refused
 abbrev pub serve_if : ConsoleState → Call → Option SessionState → Answer ConsoleState
 serve_if s c None = replied c failed s
-serve_if s c (Some x) = if c.service == 4 then post s c else serve_own s c x
+serve_if s c (Some x) = if c.service == post_service then post s c else serve_own s c x
 
 -- the caller has stopped, with a0 as its number
 abbrev pub exits : ConsoleState → Call → Answer ConsoleState
@@ -162,17 +170,17 @@ exits s c = record { reply = record { way = Exit c.a0; a0 = c.a0; a1 = c.a1; byt
 abbrev pub yields : ConsoleState → Call → Answer ConsoleState
 yields s c = record { reply = record { way = Yield; a0 = c.a0; a1 = c.a1; bytes = c.bytes }; host = s }
 
--- 0 is exit, 3 is yield, and the others need a session
+-- exit and yield need no session, and the others do
 abbrev pub console : ConsoleState → Call → Answer ConsoleState
 console s c =
-    if c.service == 0 then exits s c
-    else if c.service == 3 then yields s c
+    if c.service == exit_service then exits s c
+    else if c.service == yield_service then yields s c
     else serve_if s c (slice_get s.sessions c.caller)
 
 -- ---- want of memory: only of a put that appends bytes
 
 abbrev pub may_want : SessionState → Call → Bool
-may_want x c = (c.service == 1) && has_bytes (appended x c)
+may_want x c = (c.service == put_service) && has_bytes (appended x c)
 
 abbrev pub may_want_if : Call → Option SessionState → Bool
 may_want_if c None = false

@@ -10,7 +10,10 @@ use Rattle.rv_step.specs.declared.outcome.Outcome.TheVariants as outcome
 use Rattle.sfi_image.specs.declared.part.Gate.{Gate}
 use Rattle.sfi_host.specs.declared.status.Status.{Status}
 use Rattle.sfi_host.specs.declared.status.Status.TheVariants.{Ready, Exited, Trapped}
+use Rattle.sfi_host.specs.declared.turn.StepResult.{StepResult}
+use Rattle.sfi_host.specs.declared.turn.StepResult.TheVariants.{Continue, TurnEnds, RunEnds}
 use Rattle.sfi_host.specs.declared.turn.Turn.{Turn}
+use Rattle.sfi_host.specs.Arguments.{a0_register, a1_register}
 use Rattle.sfi_host.specs.Regions.{bytes_in, bytes_outside}
 use Rattle.sfi_host.specs.Slots.{Bounds, Slot, one_more, state_of}
 use Rattle.sfi_host.specs.Hosts.{Call, Way, Replied, Yield, Exit, Reply, Answer, Host, Limited, limited}
@@ -32,19 +35,19 @@ abbrev pub service_at : List Gate → ℕ → ℕ
 service_at [] at = 0
 service_at (g ∷ gates) at = cond (g.address == at) g.service (service_at gates at)
 
--- what the sandbox of that number asks, with a0 and a1 in x10 and x11
+-- what the sandbox of that number asks, with its a0 and a1
 abbrev pub call_of : ℕ → Slot → Call
 call_of i slot = record {
   caller = i;
   service = service_at slot.bounds.gates slot.hart.pc;
-  a0 = register slot.hart 10;
-  a1 = register slot.hart 11;
+  a0 = register slot.hart a0_register;
+  a1 = register slot.hart a1_register;
   bytes = bytes_in slot.bounds.data slot.bytes;
 }
 
 -- the hart with these values of a0 and a1
 abbrev pub with_arguments : Hart → ℕ → ℕ → Hart
-with_arguments h a0 a1 = with_register (with_register h 10 a0) 11 a1
+with_arguments h a0 a1 = with_register (with_register h a0_register a0) a1_register a1
 
 -- the bytes of two memories, those of the first where both have one
 abbrev pub both : Bytes → Bytes → Bytes
@@ -78,36 +81,32 @@ replied slot r = record {
 
 -- ---- one step
 
--- what comes after a step: more of its turn, the turn's end, or the end of the whole run
-pub data Then : Type 0 where
-  More TurnEnds RunEnds : Then
-
--- a sandbox and its host after a step or a turn, the replies that the sandbox got in it, and what comes then
+-- a sandbox and its host after a step or a turn, the replies that the sandbox got in it, and what comes next
 pub record Moved (S : Type 0) : Type 0 where
   pub slot : Slot
   pub host : S
   pub replies : List Reply
-  pub next : Then
+  pub next : StepResult
 
 -- nothing happens, and then this comes
-abbrev pub still : {S : Type 0} → Slot → S → Then → Moved S
+abbrev pub still : {S : Type 0} → Slot → S → StepResult → Moved S
 still slot s next = record { slot = slot; host = s; replies = []; next = next }
 
 -- a turn goes on after a reply, ends at a yield, and at an exit
-abbrev pub then_of : Way → Then
-then_of Replied = More
-then_of Yield = TurnEnds
-then_of (Exit n) = TurnEnds
+abbrev pub next_after : Way → StepResult
+next_after Replied = Continue
+next_after Yield = TurnEnds
+next_after (Exit n) = TurnEnds
 
 -- a call that isn't answered ends the run
 abbrev pub after_answer : {S : Type 0} → Slot → S → Option (Answer S) → Moved S
 after_answer slot s None = still slot s RunEnds
-after_answer slot s (Some a) = record { slot = replied slot a.reply; host = a.host; replies = a.reply ∷ []; next = then_of a.reply.way }
+after_answer slot s (Some a) = record { slot = replied slot a.reply; host = a.host; replies = a.reply ∷ []; next = next_after a.reply.way }
 
 -- what a step's outcome makes of the sandbox: a trap isn't counted
 abbrev pub after_step : {S : Type 0} → Host S → ℕ → Slot → S → Outcome → State → Moved S
 after_step host i slot s outcome.Next state =
-    still (record { bounds = slot.bounds; hart = state.hart; status = slot.status; steps = one_more slot.steps; bytes = state.memory }) s More
+    still (record { bounds = slot.bounds; hart = state.hart; status = slot.status; steps = one_more slot.steps; bytes = state.memory }) s Continue
 after_step host i slot s (outcome.Trap cause at) state =
     still (record { bounds = slot.bounds; hart = slot.hart; status = Trapped cause at; steps = slot.steps; bytes = slot.bytes }) s TurnEnds
 after_step host i slot s outcome.Call state = after_answer slot s (host s (call_of i slot))
@@ -129,8 +128,8 @@ abbrev pub after_replies : {S : Type 0} → List Reply → Moved S → Moved S
 after_replies earlier m = record { slot = m.slot; host = m.host; replies = earlier ++ m.replies; next = m.next }
 
 -- a step, and what follows it if the turn goes on
-abbrev pub and_more : {S : Type 0} → Then → Moved S → (Slot → S → Moved S) → Moved S
-and_more More m rest = after_replies m.replies (rest m.slot m.host)
+abbrev pub and_more : {S : Type 0} → StepResult → Moved S → (Slot → S → Moved S) → Moved S
+and_more Continue m rest = after_replies m.replies (rest m.slot m.host)
 and_more TurnEnds m rest = m
 and_more RunEnds m rest = m
 
@@ -163,8 +162,8 @@ abbrev pub after_turn : {S : Type 0} → List Given → Joined S → Joined S
 after_turn earlier j = record { slots = j.slots; host = j.host; replies = earlier ++ j.replies; turns = suc j.turns; is_ended = j.is_ended }
 
 -- a turn of the sandbox of that number, and what follows it if the run goes on
-abbrev pub and_plan : {S : Type 0} → Then → ℕ → Moved S → List Slot → (List Slot → S → Joined S) → Joined S
-and_plan More i m slots rest = after_turn (given i m.replies) (rest (slice_set slots i m.slot) m.host)
+abbrev pub and_plan : {S : Type 0} → StepResult → ℕ → Moved S → List Slot → (List Slot → S → Joined S) → Joined S
+and_plan Continue i m slots rest = after_turn (given i m.replies) (rest (slice_set slots i m.slot) m.host)
 and_plan TurnEnds i m slots rest = after_turn (given i m.replies) (rest (slice_set slots i m.slot) m.host)
 and_plan RunEnds i m slots rest = record { slots = slice_set slots i m.slot; host = m.host; replies = given i m.replies; turns = 1; is_ended = true }
 

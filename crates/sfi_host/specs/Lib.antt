@@ -1,14 +1,15 @@
 pub mod Regions
 pub mod Slots
+pub mod Arguments
 pub mod Hosts
 pub mod Guests
 pub mod Answering
 pub mod Messages
+pub mod Services
 pub mod Consoles
 pub mod Joint
 pub mod Solo
 pub mod Calls
-pub mod Limits
 pub mod Plans
 pub mod Stops
 pub mod Worlds

@@ -154,16 +154,3 @@ pub record HaveMoved (plan : List PlanTurn) (w n : Sandboxes) : Type 0 where
 pub record HaveRun (plan : List PlanTurn) (w n : Sandboxes) : Type 0 where
   pub moved : HaveMoved plan w n
   pub runs : AreRuns w n moved.moves
-
--- ---- cited by private contracts
-
--- a sandbox takes some turn
-abbrev pub TakesSome : Bytes → Seat → Bytes → Seat → Type 0
-TakesSome m s n t = (turn : Turn) × TakesTurn m s turn n t
-
--- Wherever the turn's sandbox has this seat in this memory, moves of it alone lead to the seat t in
--- the memory n.
-abbrev pub MovesAlone : PlanTurn → Bytes → Seat → Bytes → Seat → Type 0
-MovesAlone turn m s n t =
-    (seats : List Seat) → slice_get seats turn.sandbox ≡ Some s
-    → HaveMoved (turn ∷ []) (record { bytes = m; seats = seats }) (record { bytes = n; seats = slice_set seats turn.sandbox t })

@@ -15,7 +15,10 @@ use rv_mem::Memory;
 use std::alloc::{AllocError, Global};
 use std::marker::Model;
 
-/// a0 of a post to a mailbox that is full.
+/// a0 after a post.
+const POSTED: u32 = 0;
+
+/// a0 after a post to a mailbox that is full.
 const FULL: u32 = 1;
 
 /// A host that keeps what each sandbox writes, lets each read the same input from its beginning, at its own pace, and keeps
@@ -90,7 +93,11 @@ impl Console {
             sender: guest.sandbox(),
             word: guest.arg1(),
         };
-        guest.set0(if session.deliver(message) { 0 } else { FULL });
+        guest.set0(if session.deliver(message) {
+            POSTED
+        } else {
+            FULL
+        });
         GateAnswer::Replied
     }
 }

@@ -20,7 +20,8 @@ use std::alloc::{AllocError, Global};
 // Adds a sandbox's code and data. All regions lie apart and end within the addresses, so memory alone may be wanting.
 fn add_part<M: Memory>(memory: &mut M, part: &SandboxPart<'_>) -> Result<(), AllocError>
     requires { (format : Format) × IsRightPart (view format part.now) }
-    ensures { (format : Format) → OnOk result (M.bytes memory.new ≡ with_part (M.bytes memory.old) (view format part.now)) }
+    ensures { (format : Format)
+        → OnOk result (M.bytes memory.new ≡ with_part (M.bytes memory.old) (view format part.now)) }
 {
     if memory
         .add(part.code_base, part.code.len() as u32, part.code)

@@ -1,18 +1,19 @@
 //! A plan of turns.
-ghost use Rattle.std.specs.Prelude.{◌≡◌, ◌∷◌, ◌<◌, [], length, ℕ};
+ghost use Rattle.std.specs.Prelude.{◌≡◌, ◌≢◌, ◌∷◌, ◌<◌, [], length, ℕ};
 ghost use Rattle.sfi_host.specs.Joint.{Machine, IsMachine};
 ghost use Rattle.sfi_host.specs.private.Limits.{IsPlanStep, IsPlanCut};
 ghost use Rattle.sfi_host.specs.Moves.{HaveMoved};
 ghost use Rattle.sfi_host.specs.Programs.{AreDecoded};
 ghost use Rattle.sfi_host.specs.Plans.{IsJoint, IsCutJoint};
 ghost use Rattle.sfi_host.specs.Sandboxes.{world_of};
-ghost use Rattle.sfi_host.specs.Worlds.{slots_of, IsSafeWorld};
+ghost use Rattle.sfi_host.specs.private.Sandboxes.{slots_in};
+ghost use Rattle.sfi_host.specs.Worlds.{IsSafeWorld};
 
 use crate::gates::Gates;
 use crate::program::Program;
-use crate::running::{Ended, run_turn};
+use crate::running::run_turn;
 use crate::sandbox::Sandbox;
-use crate::turn::{RunAnswer, Turn};
+use crate::turn::{RunAnswer, StepResult, Turn};
 use rv_mem::Memory;
 use rv_mem::laws::read_is_held;
 use sfi_check::laws::goes_on_safely;
@@ -24,16 +25,19 @@ fn take_turn<M: Memory, G: Gates>(
     sandboxes: &mut [Sandbox],
     turn: Turn,
     gates: &mut G,
-) -> Ended
+) -> StepResult
     requires safe { IsSafeWorld (world_of (M.bytes memory.old) sandboxes.old) }
     requires decoded { AreDecoded (world_of (M.bytes memory.old) sandboxes.old) programs.now }
     ensures safe { IsSafeWorld (world_of (M.bytes memory.new) sandboxes.new) }
     ensures decoded { AreDecoded (world_of (M.bytes memory.new) sandboxes.new) programs.now }
-    ensures moves { HaveMoved (turn ∷ []) (world_of (M.bytes memory.old) sandboxes.old) (world_of (M.bytes memory.new) sandboxes.new) }
-    ensures whole { result ≡ Ended.Whole → (machine : Machine) → IsMachine machine
-        → IsPlanStep machine G.answer turn (slots_of (world_of (M.bytes memory.old) sandboxes.old)) gates.old (slots_of (world_of (M.bytes memory.new) sandboxes.new)) gates.new }
-    ensures refused { result ≡ Ended.Refused → (machine : Machine) → IsMachine machine
-        → IsPlanCut machine G.answer G.may_refuse turn (slots_of (world_of (M.bytes memory.old) sandboxes.old)) gates.old (slots_of (world_of (M.bytes memory.new) sandboxes.new)) gates.new }
+    ensures moves { HaveMoved (turn ∷ []) (world_of (M.bytes memory.old) sandboxes.old)
+        (world_of (M.bytes memory.new) sandboxes.new) }
+    ensures whole { result ≢ StepResult.RunEnds → (machine : Machine) → IsMachine machine
+        → IsPlanStep machine G.answer turn (slots_in (M.bytes memory.old) sandboxes.old) gates.old
+        (slots_in (M.bytes memory.new) sandboxes.new) gates.new }
+    ensures refused { result ≡ StepResult.RunEnds → (machine : Machine) → IsMachine machine
+        → IsPlanCut machine G.answer G.may_refuse turn (slots_in (M.bytes memory.old) sandboxes.old) gates.old
+        (slots_in (M.bytes memory.new) sandboxes.new) gates.new }
 {
     // The law that the contract rests on: this call does nothing.
     goes_on_safely();
@@ -41,7 +45,7 @@ fn take_turn<M: Memory, G: Gates>(
 
     let place = turn.sandbox as usize;
     if place >= sandboxes.len() {
-        return Ended::Whole;
+        return StepResult::TurnEnds;
     }
     run_turn(
         memory,
@@ -65,17 +69,20 @@ pub fn take_turns<M: Memory, G: Gates>(
     requires decoded { AreDecoded (world_of (M.bytes memory.old) sandboxes.old) programs.now }
     ensures safe { IsSafeWorld (world_of (M.bytes memory.new) sandboxes.new) }
     ensures decoded { AreDecoded (world_of (M.bytes memory.new) sandboxes.new) programs.now }
-    ensures moves { HaveMoved plan.now (world_of (M.bytes memory.old) sandboxes.old) (world_of (M.bytes memory.new) sandboxes.new) }
+    ensures moves { HaveMoved plan.now (world_of (M.bytes memory.old) sandboxes.old)
+        (world_of (M.bytes memory.new) sandboxes.new) }
     ensures done { result ≡ RunAnswer.Done → (machine : Machine) → IsMachine machine
-        → IsJoint machine G.answer plan.now (slots_of (world_of (M.bytes memory.old) sandboxes.old)) gates.old (slots_of (world_of (M.bytes memory.new) sandboxes.new)) gates.new }
+        → IsJoint machine G.answer plan.now (slots_in (M.bytes memory.old) sandboxes.old) gates.old
+        (slots_in (M.bytes memory.new) sandboxes.new) gates.new }
     ensures refused { (place : ℕ) → result ≡ RunAnswer.Memory place → (machine : Machine) → IsMachine machine
-        → IsCutJoint machine G.answer G.may_refuse plan.now (slots_of (world_of (M.bytes memory.old) sandboxes.old)) gates.old place (slots_of (world_of (M.bytes memory.new) sandboxes.new)) gates.new }
+        → IsCutJoint machine G.answer G.may_refuse plan.now
+        (slots_in (M.bytes memory.old) sandboxes.old) gates.old place (slots_in (M.bytes memory.new) sandboxes.new) gates.new }
     ensures place { (place : ℕ) → result ≡ RunAnswer.Memory place → place < length plan.now }
 {
     for place in 0..plan.len() {
         match take_turn(memory, programs, sandboxes, plan[place], gates) {
-            Ended::Whole => {}
-            Ended::Refused => return RunAnswer::Memory { turn: place },
+            StepResult::Continue | StepResult::TurnEnds => {}
+            StepResult::RunEnds => return RunAnswer::Memory { turn: place },
         }
     }
     RunAnswer::Done

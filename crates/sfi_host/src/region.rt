@@ -24,7 +24,8 @@ impl Region {
     /// The byte at an address; `None` where that is none of these.
     pub(crate) fn byte<M: Memory>(self, memory: &M, at: u32) -> Option<u8>
         ensures value { result ≡ byte_at (bytes_in (span_of self) (M.bytes memory.now)) at }
-        ensures there { IsWhole (span_of self) (bytes_in (span_of self) (M.bytes memory.now)) → (IsSome result ↔ Holds (span_of self) at) }
+        ensures there { IsWhole (span_of self) (bytes_in (span_of self) (M.bytes memory.now))
+            → (IsSome result ↔ Holds (span_of self) at) }
     {
         if !self.holds(at) {
             return None;

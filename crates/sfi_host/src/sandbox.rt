@@ -21,6 +21,13 @@ pub struct Sandbox {
     pub steps: u64,
 }
 
+/// x10, which is a0: the first argument register of the calling convention, and a result register (RISC-V ABIs Specification,
+/// the psABI, "Integer Register Convention").
+pub const A0_REGISTER: u8 = 10;
+
+/// x11, which is a1: the second of both.
+pub const A1_REGISTER: u8 = 11;
+
 /// The register of that number.
 pub fn register(number: u8) -> Reg
     requires { number < 32 }

@@ -71,7 +71,8 @@ impl Session {
         ensures same_reference { SameMemory guest.old guest.new }
         ensures others { LeavesOthers M.bytes guest.old guest.new }
         ensures answered { IsAnswered (put self.old) M.bytes guest.old guest.new self.new result }
-        ensures refused { IsRefused (λ c. has_bytes (appended self.old c)) M.bytes guest.old guest.new self.old self.new result }
+        ensures refused { IsRefused (λ call. has_bytes (appended self.old call))
+            M.bytes guest.old guest.new self.old self.new result }
     {
         let (at, count) = (guest.arg0(), guest.arg1());
         if self.output.len().saturating_add(count as usize) > MOST_OUTPUT || !may_hand(guest) {

@@ -62,7 +62,8 @@ impl Gates for Marker {
 /// A memory with 256 data bytes, of which the first are given, and one more byte on each side.
 fn memory(rt: &impl Abort, alloc: Global, front: &[u8]) -> Segments
     requires { length front.now ≤ 256 }
-    ensures { IsWhole (record { base = 25165824; size = 256 }) (bytes_in (record { base = 25165824; size = 256 }) (bytes_of result)) }
+    ensures { IsWhole (record { base = 25165824; size = 256 })
+        (bytes_in (record { base = 25165824; size = 256 }) (bytes_of result)) }
 {
     let mut memory = Segments::new(alloc);
     assert_eq!(rt; memory.add(DATA - 1, 1, &[1]), Ok(()));
@@ -74,8 +75,10 @@ fn memory(rt: &impl Abort, alloc: Global, front: &[u8]) -> Segments
 
 /// A call by a sandbox with these data: the answer, and a0 and a1 after it.
 fn call<G: Gates>(gates: &mut G, memory: &mut Segments, request: Request) -> (GateAnswer, u32, u32)
-    requires { IsWhole (record { base = 25165824; size = 256 }) (bytes_in (record { base = 25165824; size = 256 }) (bytes_of memory.old)) }
-    ensures { IsWhole (record { base = 25165824; size = 256 }) (bytes_in (record { base = 25165824; size = 256 }) (bytes_of memory.new)) }
+    requires { IsWhole (record { base = 25165824; size = 256 })
+        (bytes_in (record { base = 25165824; size = 256 }) (bytes_of memory.old)) }
+    ensures { IsWhole (record { base = 25165824; size = 256 })
+        (bytes_in (record { base = 25165824; size = 256 }) (bytes_of memory.new)) }
 {
     let mut guest = Guest::new(memory, REGION, request);
     let answer = gates.call(&mut guest);

@@ -54,7 +54,8 @@ impl<M: Memory> Model for World<M> {
 
     ghost view = { λ w. world_of (M.bytes w.memory) w.sandboxes.items };
 
-    ghost invariant = { λ w. IsSafeWorld (world_of (M.bytes w.memory) w.sandboxes.items) × AreDecoded (world_of (M.bytes w.memory) w.sandboxes.items) w.programs.items };
+    ghost invariant = { λ w. IsSafeWorld (world_of (M.bytes w.memory) w.sandboxes.items)
+        × AreDecoded (world_of (M.bytes w.memory) w.sandboxes.items) w.programs.items };
 }
 
 impl<M: Memory> World<M> {
@@ -96,7 +97,8 @@ impl<M: Memory> World<M> {
         ensures done { result ≡ RunAnswer.Done → (machine : Machine) → IsMachine machine
             → IsJoint machine G.answer plan.now (slots_of self.old) gates.old (slots_of self.new) gates.new }
         ensures memory { (turn : ℕ) → result ≡ RunAnswer.Memory turn → (machine : Machine) → IsMachine machine
-            → IsCutJoint machine G.answer G.may_refuse plan.now (slots_of self.old) gates.old turn (slots_of self.new) gates.new }
+            → IsCutJoint machine G.answer G.may_refuse plan.now (slots_of self.old) gates.old turn
+            (slots_of self.new) gates.new }
 
         // What was done, however the plan ended, are moves of the sandboxes that it names, one after
         // another in the one memory, and to each sandbox they are a run, and where it was ready a safe one.
@@ -154,7 +156,8 @@ impl<M: Memory> World<M> {
     /// The byte at an address of its data region; `None` where there is no such sandbox, or the address lies elsewhere.
     pub fn data_byte(&self, i: u32, at: u32) -> Option<u8>
         ensures value { result ≡ data_byte_of (slice_get (slots_of self.now) i) at }
-        ensures there { IsSome result ↔ ((s : Slot) × (slice_get (slots_of self.now) i ≡ Some s) × Holds s.bounds.data at) }
+        ensures there { IsSome result
+            ↔ ((s : Slot) × (slice_get (slots_of self.now) i ≡ Some s) × Holds s.bounds.data at) }
     {
         let sandbox = self.sandboxes.get(i as usize)?;
         sandbox.data.byte(&self.memory, at)

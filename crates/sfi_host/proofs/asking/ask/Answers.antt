@@ -1,12 +1,10 @@
-use Rattle.std.proofs.Common.{◌≡◌, ap, ◌∙◌, sym, subst, refl}
-use Rattle.rv_step.specs.State.{register}
-use Rattle.sfi_host.specs.declared.guest.Request.{Request}
+use Rattle.std.proofs.Common.{ap, ◌∙◌, sym, subst}
+use Rattle.rv_step.specs.State.{IsHart}
 use Rattle.sfi_host.specs.declared.sandbox.Sandbox.{Sandbox}
-use Rattle.sfi_host.specs.Joint.{service_at}
-use Rattle.sfi_host.specs.Moves.{TakesSome}
+use Rattle.sfi_host.specs.private.Moves.{TakesSome}
 use Rattle.sfi_host.specs.Regions.{bytes_in}
-use Rattle.sfi_host.specs.Sandboxes.{seat_of, IsReplied, IsNotReplied}
-use Rattle.sfi_host.specs.private.Sandboxes.{call_by, going_after}
+use Rattle.sfi_host.specs.Sandboxes.{seat_of}
+use Rattle.sfi_host.specs.private.Sandboxes.{IsReplied, IsNotReplied, call_by, next_after_answer}
 use Rattle.sfi_host.specs.Worlds.{slot_of, IsSafeSeat}
 use Rattle.sfi_host.proofs.Leaving.{whole_in, whole_of, stays_outside}
 use Rattle.sfi_host.proofs.Replying.{asked_is, still_ready, bounds_after, safe_after, replies, refuses, takes_after}
@@ -18,7 +16,7 @@ call_gate-told-requires g c = whole_in (seat_of c.args.sandbox.now).bounds.data 
 pub returns-clause-ready : goal.returns-clause-ready
 returns-clause-ready g c more =
     let told = c.call_gate-told.result in
-    ap (λ (s : Sandbox). s.status) c.put_answer.ensures.after ∙ still_ready told.answer c.args.sandbox.now told c.put_answer.result c.put_answer.ensures.goes more c.requires.ready
+    ap (λ (s : Sandbox). s.status) c.put_answer.ensures.after ∙ still_ready told.answer c.args.sandbox.now told c.put_answer.result c.put_answer.ensures.next more c.requires.ready
 
 pub returns-clause-bounds : goal.returns-clause-bounds
 returns-clause-bounds g c = ap (λ (s : Sandbox). (seat_of s).bounds) c.put_answer.ensures.after ∙ bounds_after c.call_gate-told.result.answer c.args.sandbox.now c.call_gate-told.result
@@ -33,7 +31,7 @@ returns-clause-safe g c =
     (g.met.M.Memory.in_range c.call_gate-told.new.memory)
     (stays_outside (seat_of s).bounds.data (g.M.Memory.bytes c.args.memory.now) n c.call_gate-told.ensures.outside)
     (whole_of (seat_of s).bounds.data n c.call_gate-told.ensures.has_data)
-    (λ e. subst (λ (x : Sandbox). Rattle.rv_step.specs.State.IsHart x.cpu) c.put_answer.ensures.after (c.put_answer.ensures.hart e)))
+    (λ e. subst (λ (x : Sandbox). IsHart x.cpu) c.put_answer.ensures.after (c.put_answer.ensures.hart e)))
 
 pub returns-clause-others : goal.returns-clause-others
 returns-clause-others g c =
@@ -51,8 +49,8 @@ returns-clause-moves g c goes_on =
       others = stays_outside (seat_of s).bounds.data m n c.call_gate-told.ensures.outside;
       whole = whole_of (seat_of s).bounds.data n c.call_gate-told.ensures.has_data;
     })
-    told.answer (λ e. goes_on (c.put_answer.ensures.goes ∙ ap going_after e))
-    (λ e. subst (λ (x : Sandbox). Rattle.rv_step.specs.State.IsHart x.cpu) c.put_answer.ensures.after (c.put_answer.ensures.hart e)))
+    told.answer (λ e. goes_on (c.put_answer.ensures.next ∙ ap next_after_answer e))
+    (λ e. subst (λ (x : Sandbox). IsHart x.cpu) c.put_answer.ensures.after (c.put_answer.ensures.hart e)))
 
 pub returns-clause-replied : goal.returns-clause-replied
 returns-clause-replied g c goes_on =
@@ -60,13 +58,10 @@ returns-clause-replied g c goes_on =
     let m = g.M.Memory.bytes c.args.memory.now in
     let n = g.M.Memory.bytes c.call_gate-told.new.memory in
     let told = c.call_gate-told.result in
-    let e : c.service_of.result ≡ service_at s.gates.items s.cpu.pc = cc in
-    let x : c.reg.result ≡ register s.cpu 10 = cc in
-    let y : c.reg-2.result ≡ register s.cpu 11 = cc in
-    let r : Request = record { sandbox = c.args.number; service = c.service_of.result; a0 = c.reg.result; a1 = c.reg-2.result } in
+    let r = c.request_of-request.result in
     subst (λ (z : Sandbox). IsReplied g.G.Gates.answer c.args.number (slot_of m (seat_of s)) c.args.gates.now (slot_of n (seat_of z)) c.call_gate-told.new.gates c.put_answer.result) (sym c.put_answer.ensures.after)
     (replies m n s told (call_by r (bytes_in (seat_of s).bounds.data m)) c.args.number c.args.gates.now c.call_gate-told.new.gates c.put_answer.result
-    (asked_is c.args.number r m s refl e x y) c.call_gate-told.ensures.outside c.put_answer.ensures.goes
+    (asked_is c.args.number r m s c.request_of-request.ensures) c.call_gate-told.ensures.outside c.put_answer.ensures.next
     g.G.Gates.answer c.requires.ready c.call_gate-told.ensures.answered goes_on)
 
 pub returns-clause-refused : goal.returns-clause-refused
@@ -75,11 +70,8 @@ returns-clause-refused g c ends =
     let m = g.M.Memory.bytes c.args.memory.now in
     let n = g.M.Memory.bytes c.call_gate-told.new.memory in
     let told = c.call_gate-told.result in
-    let e : c.service_of.result ≡ service_at s.gates.items s.cpu.pc = cc in
-    let x : c.reg.result ≡ register s.cpu 10 = cc in
-    let y : c.reg-2.result ≡ register s.cpu 11 = cc in
-    let r : Request = record { sandbox = c.args.number; service = c.service_of.result; a0 = c.reg.result; a1 = c.reg-2.result } in
+    let r = c.request_of-request.result in
     subst (λ (z : Sandbox). IsNotReplied g.G.Gates.may_refuse c.args.number (slot_of m (seat_of s)) c.args.gates.now (slot_of n (seat_of z)) c.call_gate-told.new.gates) (sym c.put_answer.ensures.after)
     (refuses m n s told (call_by r (bytes_in (seat_of s).bounds.data m)) c.args.number c.args.gates.now c.call_gate-told.new.gates c.put_answer.result
-    (asked_is c.args.number r m s refl e x y) c.call_gate-told.ensures.outside c.put_answer.ensures.goes
+    (asked_is c.args.number r m s c.request_of-request.ensures) c.call_gate-told.ensures.outside c.put_answer.ensures.next
     g.G.Gates.may_refuse c.call_gate-told.ensures.refused ends)

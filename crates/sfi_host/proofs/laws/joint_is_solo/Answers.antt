@@ -1,4 +1,4 @@
-use Rattle.sfi_host.proofs.Alone.{joint_alone}
+use Rattle.sfi_host.proofs.Solo.{joint_alone}
 use Rattle.sfi_host.proofs.laws.joint_is_solo.Goals as goal
 
 pub returns : goal.returns

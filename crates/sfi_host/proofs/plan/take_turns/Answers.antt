@@ -5,7 +5,7 @@ use Rattle.sfi_host.specs.Plans.{IsCutJoint}
 use Rattle.sfi_host.specs.Sandboxes.{world_of}
 use Rattle.sfi_host.specs.Worlds.{slots_of}
 use Rattle.sfi_host.proofs.Moved.{none_moved, turn_moved}
-use Rattle.sfi_host.proofs.Plans.{plan_starts, plan_goes_on, plan_ends, plan_cuts, next_turn, none_left, turn_at}
+use Rattle.sfi_host.proofs.Plans.{run_goes_on, plan_starts, plan_goes_on, plan_ends, plan_cuts, next_turn, none_left, turn_at}
 use Rattle.sfi_host.proofs.plan.take_turns.Goals as goal
 
 pub loop-place-init : goal.loop-place-init
@@ -18,8 +18,8 @@ loop-place-init g c = record {
 
 pub loop-place-preserved : goal.loop-place-preserved
 loop-place-preserved g c = record {
-  safe = c.in-Whole.ensures.safe;
-  decoded = c.in-Whole.ensures.decoded;
+  safe = c.take_turn.ensures.safe;
+  decoded = c.take_turn.ensures.decoded;
   moves =
       let plan = c.args.plan.now in
       let k = c.loop-place.place in
@@ -34,7 +34,7 @@ loop-place-preserved g c = record {
       let now = slots_of (world_of (g.M.Memory.bytes c.loop-place.memory) c.loop-place.sandboxes) in
       plan_goes_on machine g.G.Gates.answer plan old c.args.gates.now k (get_or plan k d) (drop (k + 1) plan) now _ c.loop-place.gates _
       (subst (λ (l : List Turn). IsPlanOnItsWay machine g.G.Gates.answer plan old c.args.gates.now k l now c.loop-place.gates) (next_turn plan k d c.loop-place-test.true) (c.loop-place.invariant.way machine is))
-      (c.in-Whole.ensures.whole refl machine is);
+      (c.take_turn.ensures.whole (run_goes_on _ c.in-Continue.is) machine is);
 }
 
 pub returns-clause-done : goal.returns-clause-done
@@ -47,8 +47,8 @@ returns-clause-done g c done machine is =
     (omega (arith, c.loop-place-test.false))
     (subst (λ (l : List Turn). IsPlanOnItsWay machine g.G.Gates.answer plan old c.args.gates.now k l now c.loop-place.gates) (none_left plan k c.loop-place-test.false) (c.loop-place.invariant.way machine is))
 
-pub returns-in-Refused-clause-refused : goal.returns-in-Refused-clause-refused
-returns-in-Refused-clause-refused g c place is_place machine is =
+pub returns-in-RunEnds-clause-refused : goal.returns-in-RunEnds-clause-refused
+returns-in-RunEnds-clause-refused g c place is_place machine is =
     let plan = c.args.plan.now in
     let k = c.loop-place.place in
     let d : Turn = record { sandbox = 0; steps = 0 } in
@@ -58,10 +58,10 @@ returns-in-Refused-clause-refused g c place is_place machine is =
     subst (λ (n : ℕ). IsCutJoint machine g.G.Gates.answer g.G.Gates.may_refuse plan old c.args.gates.now n (slots_of (world_of (g.M.Memory.bytes c.take_turn.new.memory) c.take_turn.new.sandboxes)) c.take_turn.new.gates) same
     (plan_cuts machine g.G.Gates.answer plan old c.args.gates.now g.G.Gates.may_refuse k (get_or plan k d) (drop (k + 1) plan) now _ c.loop-place.gates _ (turn_at plan k d c.loop-place-test.true)
     (subst (λ (l : List Turn). IsPlanOnItsWay machine g.G.Gates.answer plan old c.args.gates.now k l now c.loop-place.gates) (next_turn plan k d c.loop-place-test.true) (c.loop-place.invariant.way machine is))
-    (c.in-Refused.ensures.refused refl machine is))
+    (c.in-RunEnds.ensures.refused refl machine is))
 
-pub returns-in-Refused-clause-moves : goal.returns-in-Refused-clause-moves
-returns-in-Refused-clause-moves g c =
+pub returns-in-RunEnds-clause-moves : goal.returns-in-RunEnds-clause-moves
+returns-in-RunEnds-clause-moves g c =
     let plan = c.args.plan.now in
     let k = c.loop-place.place in
     let d : Turn = record { sandbox = 0; steps = 0 } in

@@ -1,6 +1,6 @@
 use Rattle.std.proofs.Common.{◌≡◌, true, ◌∙◌}
 use Rattle.sfi_host.specs.Regions.{span_of, is_in}
-use Rattle.sfi_host.proofs.Kept.{byte_out, load_kept, whole_there}
+use Rattle.sfi_host.proofs.RegionBytes.{byte_out, load_kept, whole_there}
 use Rattle.sfi_host.proofs.region.Region.byte.Goals as goal
 
 pub returns-then-not-holds-clause-value : goal.returns-then-not-holds-clause-value

@@ -5,7 +5,8 @@ use Rattle.rv_mem.specs.Bytes.{Bytes, IsMemory}
 use Rattle.sfi_image.specs.Parts.{IsRightLayout}
 use Rattle.sfi_image.specs.Spelling.{Part, views}
 use Rattle.sfi_host.specs.Loading.{first_seat, with_parts, AreEntered, HaveFirstData}
-use Rattle.sfi_host.specs.Programs.{AreDecoded, AreProgramsOf}
+use Rattle.sfi_host.specs.Programs.{AreDecoded}
+use Rattle.sfi_host.specs.private.Programs.{AreProgramsOf}
 use Rattle.sfi_host.specs.Sandboxes.{seats_of}
 use Rattle.sfi_host.specs.Worlds.{Seat, IsSafeWorld}
 use Rattle.sfi_host.proofs.Decoding.{first_decoded}

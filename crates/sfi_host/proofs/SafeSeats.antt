@@ -15,6 +15,7 @@ use Rattle.sfi_host.specs.declared.status.Status.{Status}
 use Rattle.sfi_host.specs.declared.status.Status.TheVariants.{Ready}
 use Rattle.sfi_host.specs.Regions.{IsWhole}
 use Rattle.sfi_host.specs.Slots.{Bounds, bounds_of}
+use Rattle.sfi_host.specs.Arguments.{a0_register, a1_register}
 use Rattle.sfi_host.specs.Hosts.{Way, Replied, Yield, Exit}
 use Rattle.sfi_host.specs.Joint.{with_arguments, after_way, status_after}
 use Rattle.sfi_host.specs.Laws.{CallsHaveStack, AnswersAreReplies}
@@ -156,8 +157,8 @@ module _ (m : Bytes) (s : Seat) (seat : IsSafeSeat m s) where
   }
 
 -- a0 and a1 are none of the reserved registers
-kept_register : (registers : List ℕ) (a0 a1 r : ℕ) → r ≢ 10 → r ≢ 11 → slice_index (slice_set (slice_set registers 10 a0) 11 a1) r ≡ slice_index registers r
-kept_register registers a0 a1 r n k = get_or-set_other (slice_set registers 10 a0) 11 r a1 0 k ∙ get_or-set_other registers 10 r a0 0 n
+kept_register : (registers : List ℕ) (a0 a1 r : ℕ) → r ≢ a0_register → r ≢ a1_register → slice_index (slice_set (slice_set registers a0_register a0) a1_register a1) r ≡ slice_index registers r
+kept_register registers a0 a1 r n k = get_or-set_other (slice_set registers a0_register a0) a1_register r a1 0 k ∙ get_or-set_other registers a0_register r a0 0 n
 
 pub arguments_keep : (h : Hart) (a0 a1 : ℕ) → KeepsReserved h (past (with_arguments h a0 a1) 4)
 arguments_keep h a0 a1 = record {

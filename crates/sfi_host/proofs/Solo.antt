@@ -9,7 +9,9 @@ use Rattle.sfi_host.specs.declared.status.Status.TheVariants.{Ready, Exited, Tra
 use Rattle.sfi_host.specs.declared.turn.Turn.{Turn}
 use Rattle.sfi_host.specs.Slots.{Slot, state_of}
 use Rattle.sfi_host.specs.Hosts.{Call, Reply, Answer, Host, replay}
-use Rattle.sfi_host.specs.Joint.{Machine, Then, More, TurnEnds, RunEnds, Moved, moved, moved_if, after_step, after_answer, call_of, and_more, turned, Given, given, Joined, joined, turn_and, and_plan, after_turn}
+use Rattle.sfi_host.specs.declared.turn.StepResult.{StepResult}
+use Rattle.sfi_host.specs.declared.turn.StepResult.TheVariants.{Continue, TurnEnds, RunEnds}
+use Rattle.sfi_host.specs.Joint.{Machine, Moved, moved, moved_if, after_step, after_answer, call_of, and_more, turned, Given, given, Joined, joined, turn_and, and_plan, after_turn}
 use Rattle.sfi_host.specs.Solo.{JointIsSolo, turns_of, replies_to}
 
 -- alone the sandbox comes to the same, and has so many replies left
@@ -19,7 +21,7 @@ pub record Follows {S : Type 0} (m : Moved S) (n : Moved (List Reply)) (left : L
   pub left_is : n.host ≡ left
 
 -- nothing is left where the run ends
-abbrev pub LeavesNone : Then → List Reply → Type 0
+abbrev pub LeavesNone : StepResult → List Reply → Type 0
 LeavesNone t more = t ≡ RunEnds → more ≡ []
 
 -- ---- a step
@@ -50,7 +52,7 @@ module _ (machine : Machine) where
 
   -- ---- a turn
 
-  goes_on : {S : Type 0} (m : Moved S) (n : Moved (List Reply)) (rest : Slot → List Reply → Moved (List Reply)) (slot : Slot) (l more : List Reply) → n.next ≡ More → n.slot ≡ slot → n.host ≡ l
+  goes_on : {S : Type 0} (m : Moved S) (n : Moved (List Reply)) (rest : Slot → List Reply → Moved (List Reply)) (slot : Slot) (l more : List Reply) → n.next ≡ Continue → n.slot ≡ slot → n.host ≡ l
       → Follows m (rest slot l) more → Follows m (and_more n.next n rest) more
   goes_on m n rest slot l more t u v f =
       record {
@@ -59,25 +61,25 @@ module _ (machine : Machine) where
         left_is = ap (λ x. (and_more x n rest).host) t ∙ ap (λ x. (rest x n.host).host) u ∙ ap (λ x. (rest slot x).host) v ∙ f.left_is;
       }
 
-  stops : {S : Type 0} (m : Moved S) (n : Moved (List Reply)) (rest : Slot → List Reply → Moved (List Reply)) (t : Then) (more : List Reply) → n.next ≡ t → (and_more t n rest ≡ n) → Follows m n more → Follows m (and_more n.next n rest) more
+  stops : {S : Type 0} (m : Moved S) (n : Moved (List Reply)) (rest : Slot → List Reply → Moved (List Reply)) (t : StepResult) (more : List Reply) → n.next ≡ t → (and_more t n rest ≡ n) → Follows m n more → Follows m (and_more n.next n rest) more
   stops m n rest t more e same f =
       let is : and_more n.next n rest ≡ n = ap (λ x. and_more x n rest) e ∙ same in
       subst (λ x. Follows m x more) (sym is) f
 
-  then_alone : {S : Type 0} (m : Moved S) (t : Then) (rest : Slot → S → Moved S) (n : List Reply → Moved (List Reply)) (rest' : Slot → List Reply → Moved (List Reply)) (more : List Reply)
+  then_alone : {S : Type 0} (m : Moved S) (t : StepResult) (rest : Slot → S → Moved S) (n : List Reply → Moved (List Reply)) (rest' : Slot → List Reply → Moved (List Reply)) (more : List Reply)
       → m.next ≡ t
       → ((more : List Reply) → LeavesNone m.next more → Follows m (n (m.replies ++ more)) more)
       → ((slot : Slot) (s : S) → LeavesNone (rest slot s).next more → Follows (rest slot s) (rest' slot ((rest slot s).replies ++ more)) more)
       → LeavesNone (and_more t m rest).next more
       → Follows (and_more t m rest) (and_more (n ((and_more t m rest).replies ++ more)).next (n ((and_more t m rest).replies ++ more)) rest') more
-  then_alone m More rest n rest' more e first later h =
+  then_alone m Continue rest n rest' more e first later h =
       let r = rest m.slot m.host in
       let f : Follows m (n (m.replies ++ (r.replies ++ more))) (r.replies ++ more) = first (r.replies ++ more) (λ w. absurd (cc)) in
       let g : Follows r (rest' m.slot (r.replies ++ more)) more = later m.slot m.host h in
       let l : (m.replies ++ r.replies) ++ more ≡ m.replies ++ (r.replies ++ more) = append_assoc m.replies r.replies more in
-      let whole : Follows (and_more More m rest) (rest' m.slot (r.replies ++ more)) more = record { slot = g.slot; next = g.next; left_is = g.left_is } in
-      subst (λ x. Follows (and_more More m rest) (and_more (n x).next (n x) rest') more) (sym l)
-      (goes_on (and_more More m rest) (n (m.replies ++ (r.replies ++ more))) rest' m.slot (r.replies ++ more) more (f.next ∙ e) f.slot f.left_is whole)
+      let whole : Follows (and_more Continue m rest) (rest' m.slot (r.replies ++ more)) more = record { slot = g.slot; next = g.next; left_is = g.left_is } in
+      subst (λ x. Follows (and_more Continue m rest) (and_more (n x).next (n x) rest') more) (sym l)
+      (goes_on (and_more Continue m rest) (n (m.replies ++ (r.replies ++ more))) rest' m.slot (r.replies ++ more) more (f.next ∙ e) f.slot f.left_is whole)
   then_alone m TurnEnds rest n rest' more e first later h =
       let f : Follows m (n (m.replies ++ more)) more = first more h in stops m (n (m.replies ++ more)) rest' TurnEnds more (f.next ∙ e) refl f
   then_alone m RunEnds rest n rest' more e first later h =
@@ -137,9 +139,9 @@ module _ (machine : Machine) where
   joined_none slots l = refl
 
   -- after its own turn that doesn't end the run
-  own_goes : (n : Moved (List Reply)) (t : Then) (slot x : Slot) (l : List Reply) (rest : List Slot → List Reply → Joined (List Reply)) → n.next ≡ t → t ≢ RunEnds → n.slot ≡ x → n.host ≡ l
+  own_goes : (n : Moved (List Reply)) (t : StepResult) (slot x : Slot) (l : List Reply) (rest : List Slot → List Reply → Joined (List Reply)) → n.next ≡ t → t ≢ RunEnds → n.slot ≡ x → n.host ≡ l
       → slice_get (and_plan n.next 0 n (slot ∷ []) rest).slots 0 ≡ slice_get (rest (x ∷ []) l).slots 0
-  own_goes n More slot x l rest e g u v = ap (λ y. slice_get (and_plan y 0 n (slot ∷ []) rest).slots 0) e ∙ ap (λ y. slice_get (rest (y ∷ []) n.host).slots 0) u ∙ ap (λ y. slice_get (rest (x ∷ []) y).slots 0) v
+  own_goes n Continue slot x l rest e g u v = ap (λ y. slice_get (and_plan y 0 n (slot ∷ []) rest).slots 0) e ∙ ap (λ y. slice_get (rest (y ∷ []) n.host).slots 0) u ∙ ap (λ y. slice_get (rest (x ∷ []) y).slots 0) v
   own_goes n TurnEnds slot x l rest e g u v = ap (λ y. slice_get (and_plan y 0 n (slot ∷ []) rest).slots 0) e ∙ ap (λ y. slice_get (rest (y ∷ []) n.host).slots 0) u ∙ ap (λ y. slice_get (rest (x ∷ []) y).slots 0) v
   own_goes n RunEnds slot x l rest e g u v = absurd (g refl)
 
@@ -148,7 +150,7 @@ module _ (machine : Machine) where
   own_ends n slot x rest e u = ap (λ y. slice_get (and_plan y 0 n (slot ∷ []) rest).slots 0) e ∙ ap Some u
 
   -- its own turn, after which the plan goes on
-  own_more : {S : Type 0} (host : Host S) (t : Turn) (plan : List Turn) (slots : List Slot) (s : S) (i : ℕ) (slot : Slot) (then : Then) (rest : List Slot → S → Joined S)
+  own_more : {S : Type 0} (host : Host S) (t : Turn) (plan : List Turn) (slots : List Slot) (s : S) (i : ℕ) (slot : Slot) (then : StepResult) (rest : List Slot → S → Joined S)
       → (t.sandbox == i) ≡ true → t.sandbox ≡ i → slice_get slots i ≡ Some slot → (turned machine host t.sandbox t.steps slot s).next ≡ then → then ≢ RunEnds
       → ((slots : List Slot) (s : S) (slot : Slot) → slice_get slots i ≡ Some slot → IsAlone plan (rest slots s) i slot)
       → let m = turned machine host t.sandbox t.steps slot s in IsAlone (t ∷ plan) (after_turn (given t.sandbox m.replies) (rest (set slots t.sandbox m.slot) m.host)) i slot
@@ -165,11 +167,11 @@ module _ (machine : Machine) where
       ∙ own_goes (turned machine replay 0 t.steps slot (m.replies ++ more)) then slot m.slot more (joined machine replay (turns_of i (take j.turns plan))) (f.next ∙ is) goes f.slot f.left_is)
 
   -- its own turn
-  own_turn : {S : Type 0} (host : Host S) (t : Turn) (plan : List Turn) (slots : List Slot) (s : S) (i : ℕ) (slot : Slot) (then : Then) (rest : List Slot → S → Joined S)
+  own_turn : {S : Type 0} (host : Host S) (t : Turn) (plan : List Turn) (slots : List Slot) (s : S) (i : ℕ) (slot : Slot) (then : StepResult) (rest : List Slot → S → Joined S)
       → (t.sandbox == i) ≡ true → t.sandbox ≡ i → slice_get slots i ≡ Some slot → (turned machine host t.sandbox t.steps slot s).next ≡ then
       → ((slots : List Slot) (s : S) (slot : Slot) → slice_get slots i ≡ Some slot → IsAlone plan (rest slots s) i slot)
       → IsAlone (t ∷ plan) (and_plan then t.sandbox (turned machine host t.sandbox t.steps slot s) slots rest) i slot
-  own_turn host t plan slots s i slot More rest b e there is later = own_more host t plan slots s i slot More rest b e there is (λ w. absurd (cc)) later
+  own_turn host t plan slots s i slot Continue rest b e there is later = own_more host t plan slots s i slot Continue rest b e there is (λ w. absurd (cc)) later
   own_turn host t plan slots s i slot TurnEnds rest b e there is later = own_more host t plan slots s i slot TurnEnds rest b e there is (λ w. absurd (cc)) later
   own_turn host t plan slots s i slot RunEnds rest b e there is later =
       let m = turned machine host t.sandbox t.steps slot s in
@@ -195,11 +197,11 @@ module _ (machine : Machine) where
   not_same a b t e = grind arith
 
   -- another's turn
-  other_turn : {S : Type 0} (t : Turn) (plan : List Turn) (m : Moved S) (then : Then) (slots : List Slot) (i : ℕ) (slot : Slot) (rest : List Slot → S → Joined S)
+  other_turn : {S : Type 0} (t : Turn) (plan : List Turn) (m : Moved S) (then : StepResult) (slots : List Slot) (i : ℕ) (slot : Slot) (rest : List Slot → S → Joined S)
       → (t.sandbox == i) ≡ false → i ≢ t.sandbox → slice_get slots i ≡ Some slot
       → ((slots : List Slot) (s : S) (slot : Slot) → slice_get slots i ≡ Some slot → IsAlone plan (rest slots s) i slot)
       → IsAlone (t ∷ plan) (and_plan then t.sandbox m slots rest) i slot
-  other_turn t plan m More slots i slot rest b n there later = other_more t plan slots i slot (given t.sandbox m.replies) m.replies refl (rest (set slots t.sandbox m.slot) m.host) b (later _ m.host slot (get_set_other slots t.sandbox i m.slot n ∙ there))
+  other_turn t plan m Continue slots i slot rest b n there later = other_more t plan slots i slot (given t.sandbox m.replies) m.replies refl (rest (set slots t.sandbox m.slot) m.host) b (later _ m.host slot (get_set_other slots t.sandbox i m.slot n ∙ there))
   other_turn t plan m TurnEnds slots i slot rest b n there later = other_more t plan slots i slot (given t.sandbox m.replies) m.replies refl (rest (set slots t.sandbox m.slot) m.host) b (later _ m.host slot (get_set_other slots t.sandbox i m.slot n ∙ there))
   other_turn t plan m RunEnds slots i slot rest b n there later =
       get_set_other slots t.sandbox i m.slot n ∙ there

@@ -18,9 +18,9 @@ use Rattle.sfi_host.specs.Slots.{Bounds, is_own, own, state_of}
 use Rattle.sfi_host.specs.Joint.{Machine, IsMachine}
 use Rattle.sfi_host.specs.Worlds.{Seat, slot_of, state_in, IsSafeSeat, StaysOutside}
 use Rattle.sfi_host.specs.Steps.{own_step, stepped_seat, IsOwnStep, StepsAreOwn}
-use Rattle.sfi_host.proofs.Keeping.{code_at}
+use Rattle.sfi_host.proofs.SafeSeats.{code_at}
 use Rattle.sfi_host.proofs.Stops.{trap_itself}
-use Rattle.sfi_host.proofs.Kept.{get_kept, same_bytes, is_in-true, is_in-Holds}
+use Rattle.sfi_host.proofs.RegionBytes.{get_kept, same_bytes, is_in-true, is_in-Holds}
 
 -- ---- a sandbox's own bytes
 
