@@ -1,3 +1,4 @@
+pub mod Names
 pub mod NameTable
 pub mod Source
 pub mod Halves

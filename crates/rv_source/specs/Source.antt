@@ -4,9 +4,10 @@ use Rattle.std.specs.List.{All, AllPairs}
 use Rattle.rv_word.specs.declared.instr.Instr.{Instr}
 use Rattle.rv_word.specs.declared.instr.Instr.TheVariants as instr
 use Rattle.rv_word.specs.Spelling.{IsReg, InRange}
-use Rattle.sfi_policy.specs.Limits.{data_most, gates_most, items_most, name_most, region_least, service_most}
+use Rattle.sfi_policy.specs.Limits.{data_most, gates_most, items_most, region_least, service_most}
 use Rattle.sfi_policy.specs.declared.format.Format.{Format}
 use Rattle.sfi_policy.specs.declared.format.Format.TheVariants.{Sfi1}
+use Rattle.rv_source.specs.Names.{IsShortLabel}
 use Rattle.rv_source.specs.declared.item.Named.{Named}
 use Rattle.rv_source.specs.declared.item.Named.TheVariants.{Gate, Code, Data, Unknown}
 use Rattle.rv_source.specs.declared.item.Body.{Body}
@@ -83,10 +84,9 @@ IsThere s (Code k) = k ≤ length s.items
 IsThere s (Data offset) = offset ≤ length s.bytes
 IsThere s Unknown = Unit {0}
 
--- a name that isn't empty nor too long, and what it names is there
+-- a name that a label, a gate or a target may have, and what it names is there
 pub record IsEntry (s : Sandbox) (e : List ℕ × Named) : Type 0 where
-  pub not_empty : 1 ≤ length e.0
-  pub at_most : length e.0 ≤ name_most
+  pub name : IsShortLabel e.0
   pub there : IsThere s e.1
 
 -- the gate of this number asks for a service that there is, and its name names it

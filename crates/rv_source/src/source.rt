@@ -19,11 +19,11 @@ pub struct SourcePart {
 }
 
 impl Model for SourcePart {
-    ghost use Rattle.rv_source.specs.Source.{Sandbox};
+    ghost use Rattle.rv_source.specs.Source.{Sandbox, sandbox};
 
     ghost Value = { Sandbox };
 
-    ghost view = { λ p. record { format = p.format; data_size = p.data_size; gates = p.gates.items; names = p.names; items = p.items.items; bytes = p.bytes.items } };
+    ghost view = { λ p. sandbox p.format p.data_size p.gates.items p.names p.items.items p.bytes.items };
 }
 
 impl SourcePart {

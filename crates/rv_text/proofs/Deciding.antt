@@ -16,13 +16,13 @@ use Rattle.rv_text.specs.declared.form.NumberKind.TheVariants.{Immediate, ShiftA
 use Rattle.rv_text.specs.declared.form.Part.{Part}
 use Rattle.rv_text.specs.declared.form.Part.TheVariants.{Rd, Rs1, Rs2, Number, Name, Mode, Comma, Open, Close}
 use Rattle.rv_text.specs.declared.keyword.Keyword.{Keyword}
-use Rattle.rv_text.specs.Tokens.{is_space, IsBlank, begins_name, continues_name, IsName, begins_label, IsLabel, IsMagnitude, IsNumber, Takes, IsStuck}
+use Rattle.rv_text.specs.Tokens.{is_space, IsBlank, IsMagnitude, IsNumber, Takes, IsStuck}
+use Rattle.rv_source.specs.Names.{begins_name, continues_name, IsName, begins_label, IsLabel}
 use Rattle.rv_text.specs.Forms.{IsNumberOf}
 use Rattle.rv_text.specs.Keywords.{keyword_name}
 use Rattle.rv_text.specs.private.Lookup.{find_register, candidate}
 use Rattle.rv_text.specs.Operands.{OperandValues, Stands, mode_name}
-use Rattle.rv_text.specs.Scan.{body_of}
-use Rattle.rv_text.specs.private.Scan.{token_len}
+use Rattle.rv_text.specs.private.Scan.{body_of, token_len}
 use Rattle.rv_text.specs.Statement.{operands}
 use Rattle.rv_text.proofs.Keywords.{none_of_none, none_of_other}
 use Rattle.rv_text.proofs.Names.{register_found, register_none}

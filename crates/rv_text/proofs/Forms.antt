@@ -1,17 +1,18 @@
 -- How operands are read, part by part.
 use Rattle.std.proofs.Common.{◌≡◌, ℕ, Bool, true, false, ◌||◌, ◌&&◌, not, List, [], ◌∷◌, length, ◌⊎◌, inl, inr, ◌≤◌, refl, sym, ap, ◌∙◌, subst, arith, ℤ, nat_lt, Result, Ok, Err, OnOk, IfErr}
 use Rattle.std.specs.Prelude.{IsTrue, ◌==◌}
+use Rattle.std.proofs.lemmas.Bool.{and_parts, or_cases}
 use Rattle.std.proofs.lemmas.Bool.Decides.{nat_tests}
 use Rattle.rv_text.specs.declared.form.Part.{Part}
 use Rattle.rv_text.specs.declared.form.Part.TheVariants.{Rd, Rs1, Rs2, Number, Name, Mode, Comma, Open, Close}
 use Rattle.rv_text.specs.declared.cause.TextCause.{TextCause}
 use Rattle.rv_text.specs.declared.cause.TextCause.TheVariants as cause
 use Rattle.rv_text.specs.Registers.{IsRegister}
-use Rattle.rv_text.specs.Tokens.{Takes, IsBlank, IsStuck, IsNumber, IsLabel}
+use Rattle.rv_text.specs.Tokens.{Takes, IsBlank, IsStuck, IsNumber}
+use Rattle.rv_source.specs.Names.{IsLabel}
 use Rattle.rv_text.specs.Forms.{IsNumberOf}
 use Rattle.rv_text.specs.Operands.{OperandValues, Stands, Departs, part_cause, mode_name}
-use Rattle.rv_text.specs.Reading.{Reads, SameAt, Suits, AllSuit, slot, is_fresh, has_no_repeat}
-use Rattle.rv_text.specs.private.Reading.{KeepsOthers}
+use Rattle.rv_text.specs.private.Reading.{Reads, SameAt, Suits, AllSuit, slot, is_fresh, has_no_repeat, KeepsOthers}
 
 -- a token stands at a part by the operand there
 pub stands_by_operand : (a b : OperandValues) (part : Part) (token : List ℕ) → SameAt part a b → Stands b part token → Stands a part token
@@ -48,17 +49,9 @@ same_through Comma a b c e f = tt
 same_through Open a b c e f = tt
 same_through Close a b c e f = tt
 
-not_true : (b : Bool) → not b ≡ true → b ≡ false
+pub not_true : (b : Bool) → not b ≡ true → b ≡ false
 not_true true h = cc
 not_true false h = refl
-
-or_cases : (a b : Bool) → (a || b) ≡ true → (a ≡ true) ⊎ (b ≡ true)
-or_cases true b h = inl refl
-or_cases false b h = inr h
-
-and_parts : (a b : Bool) → (a && b) ≡ true → (a ≡ true) × (b ≡ true)
-and_parts true b h = (refl, h)
-and_parts false b h = cc
 
 -- what is read at the part first stays while the rest is read
 pub reads_part : (first all : OperandValues) (part : Part) (form : List Part) (text token rest : List ℕ) → has_no_repeat (part ∷ form) ≡ true → Takes text token rest → Stands first part token → Reads all form rest → ((p : Part) → IsTrue (is_fresh p form) → SameAt p all first) → Reads all (part ∷ form) text

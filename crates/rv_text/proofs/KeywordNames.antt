@@ -5,7 +5,7 @@ use Rattle.rv_text.specs.declared.keyword.Pseudo.TheVariants.{Nop, Ret, Li, Mv, 
 use Rattle.rv_text.specs.declared.keyword.DataWidth.TheVariants as width
 use Rattle.rv_text.specs.declared.keyword.Keyword.{Keyword}
 use Rattle.rv_text.specs.declared.keyword.Keyword.TheVariants as keyword
-use Rattle.rv_text.specs.Tokens.{IsName}
+use Rattle.rv_source.specs.Names.{IsName}
 use Rattle.rv_text.specs.Mnemonics.{name_of}
 use Rattle.rv_text.specs.Keywords.{keyword_name}
 use Rattle.rv_text.proofs.Printing.{is_name, name_from}

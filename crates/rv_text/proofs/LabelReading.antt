@@ -1,20 +1,15 @@
 -- What is read of labels at the front of a line.
 use Rattle.std.proofs.Common.{◌≡◌, ◌↔◌, refl, sym, ap, subst, ℕ, Bool, true, false, not, IsTrue, List, [], ◌∷◌, ◌++◌, true≢false, codes, length, length-append, arith, ◌<◌, ◌⊎◌, inl, inr, ◌∙◌, take, drop, Option, Some, None, Bor, MatchOption}
-use Rattle.rv_text.specs.Tokens.{Takes, IsToken, IsLabel}
+use Rattle.rv_text.specs.Tokens.{Takes, IsToken}
+use Rattle.rv_source.specs.Names.{IsLabel}
 use Rattle.rv_text.specs.SoFar.{Begun, SoFar}
 use Rattle.rv_text.specs.Effects.{IsFree, Labels, RefusesLabel}
 use Rattle.rv_text.specs.Leads.{BeginsWithName, BeginsWithLabel, HasNoLabel, LabelsLead, IsTaken, LabelRefused}
 use Rattle.rv_text.specs.declared.cause.TextCause.{TextCause}
 use Rattle.rv_text.specs.declared.cause.TextCause.TheVariants as cause
-use Rattle.rv_text.specs.Scan.{body_of}
-use Rattle.rv_text.specs.private.Scan.{token_len}
-use Rattle.rv_text.proofs.Taking.{takes_unique, takes_body, takes_found}
-use Rattle.rv_text.proofs.Lexing.{token_within, token_at_mark}
-
--- a token isn't empty
-token_some : (token : List ℕ) → IsToken token → 0 < length token
-token_some [] h = omega (arith, (token_within [] [] h))
-token_some (c ∷ cs) h = omega arith
+use Rattle.rv_text.specs.private.Scan.{body_of, token_len}
+use Rattle.rv_text.proofs.Taking.{takes_unique, takes_body, takes_found, takes_shorter}
+use Rattle.rv_text.proofs.Lexing.{token_at_mark}
 
 -- a colon after the spaces is the first token, and no other token is one
 colon_found : (text rest : List ℕ) → body_of text ≡ 58 ∷ rest → Takes text (codes ":") rest
@@ -45,6 +40,21 @@ pub no_colon : (text name after : List ℕ) → BeginsWithName text name after �
 no_colon text name after begins none other rest (a, begun, colon) =
     none rest (subst (λ t. Takes t (codes ":") rest) (sym (takes_unique begins.0 begun.0).1) colon)
 
+-- a colon after a label's name
+pub colon_after : (token after : List ℕ) (r : Option (Bor (List ℕ))) → IsLabel token
+    → MatchOption r ((rest : List ℕ) → Takes after (codes ":") rest → ⊥) (λ rest. Takes after (codes ":") rest.now)
+    → MatchOption r ((rest : List ℕ) → IsLabel token → Takes after (codes ":") rest → ⊥)
+    (λ rest. IsLabel token × Takes after (codes ":") rest.now)
+colon_after token after None label none = λ rest again takes. none rest takes
+colon_after token after (Some rest) label found = (label, found)
+
+-- a first token that is no name, or has no colon after it, is no label
+pub no_label : (text token after : List ℕ) → Takes text token after
+    → ((rest : List ℕ) → IsLabel token → Takes after (codes ":") rest → ⊥) → HasNoLabel text
+no_label text token after takes none name rest (a, begun, colon) =
+    let same = takes_unique begun.0 takes in
+    none rest (subst IsLabel same.0 begun.1) (subst (λ t. Takes t (codes ":") rest) same.1 colon)
+
 -- whether the name at the front is there already
 pub taken : (b : Begun) (text name rest : List ℕ) (free : Bool) → BeginsWithName text name rest → (IsTrue free ↔ IsFree name b)
     → IsTrue (not free) ↔ IsTaken b text
@@ -66,14 +76,9 @@ one_more (n ∷ ns) old next new text rest after name (middle, beyond, begun, la
 pub none_taken : (b : Begun) (text : List ℕ) → ((name rest : List ℕ) → BeginsWithName text name rest → ⊥) → IsTrue false ↔ IsTaken b text
 none_taken b text none = (λ h. absurd (true≢false (sym h)), λ t. absurd (none t.0 t.1 t.2))
 
--- the text after a token is shorter
-pub takes_shortens : {text token rest : List ℕ} → Takes text token rest → length rest < length text
-takes_shortens {text} {token} {rest} t =
-    omega (arith, ap length t.whole, length-append t.gap (token ++ rest), length-append token rest, token_some token t.is_token)
-
 -- the text after a label is shorter
 pub label_shortens : (text name rest : List ℕ) → BeginsWithLabel text name rest → length rest < length text
-label_shortens text name rest (after, begins, colon) = omega (arith, takes_shortens begins.0, takes_shortens colon)
+label_shortens text name rest (after, begins, colon) = omega (arith, takes_shorter begins.0, takes_shorter colon)
 
 -- a label that is refused after others that lead on
 pub refused_label : (names : List (List ℕ)) (old next : SoFar) (text rest name after : List ℕ) (e : TextCause)

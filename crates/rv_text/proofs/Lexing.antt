@@ -8,8 +8,10 @@ use Rattle.std.proofs.lemmas.List.Sums.{prefix_len-le-length}
 use Rattle.std.specs.Str.{IsUtf8, IsCharBoundary}
 use Rattle.std.proofs.lemmas.Str.{IsCharBoundary-start, IsCharBoundary-after_ascii}
 use Rattle.std.proofs.lemmas.List.Folds.{length-prefix_len}
+use Rattle.std.proofs.lemmas.Bool.{cases_Bool, cond_both}
 use Rattle.std.proofs.lemmas.Bool.Decides.{nat_tests}
-use Rattle.rv_text.specs.Tokens.{is_space, IsBlank, begins_name, continues_name, IsMagnitude, is_mark, IsToken}
+use Rattle.rv_text.specs.Tokens.{is_space, IsBlank, IsMagnitude, is_mark, IsToken}
+use Rattle.rv_source.specs.Names.{begins_name, continues_name}
 use Rattle.rv_text.specs.private.Scan.{begins_hex, magnitude_len, after_sign, token_len}
 
 -- each byte passes the test
@@ -76,17 +78,13 @@ magnitude_decimal : (text : List ℕ) → begins_hex text ≡ false → magnitud
 unfolding magnitude_len
 magnitude_decimal text e = rw e refl
 
-true_or_false : (b : Bool) → (b ≡ true) ⊎ (b ≡ false)
-true_or_false true = inl refl
-true_or_false false = inr refl
-
 -- decimal digits are no longer than the longest magnitude
 decimal_within : (c : ℕ) (cs more : List ℕ) → Passes is_ascii_digit (c ∷ cs) → length (c ∷ cs) ≤ magnitude_len (c ∷ cs ++ more)
 decimal_within c cs more h =
     ⊎_elim
     (λ e. omega (arith, digits_before_x c cs more h e, magnitude_hex (c ∷ cs ++ more) e))
     (λ e. omega (arith, front_within is_ascii_digit (c ∷ cs) more h, magnitude_decimal (c ∷ cs ++ more) e))
-    (true_or_false (begins_hex (c ∷ cs ++ more)))
+    (cases_Bool (begins_hex (c ∷ cs ++ more)))
 
 hex_within : (d : ℕ) (ds more : List ℕ) → Passes is_ascii_hexdigit (d ∷ ds) → 2 + length (d ∷ ds) ≤ magnitude_len (48 ∷ 120 ∷ d ∷ ds ++ more)
 hex_within d ds more h = omega (arith, magnitude_hex (48 ∷ 120 ∷ d ∷ ds ++ more) h.0, front_within is_ascii_hexdigit (d ∷ ds) more h)
@@ -134,7 +132,7 @@ magnitude_found text positive =
     (λ e. let shape = begins_hex_shape text e in hex_text_found text shape.0 shape.1 shape.2 shape.3 e)
     (λ e. let same = magnitude_decimal text e in
     (digits_value 10 (take (magnitude_len text) text), inl (rw same (decimal_found text (omega arith)), refl)))
-    (true_or_false (begins_hex text))
+    (cases_Bool (begins_hex text))
 
 module _ (c : ℕ) (cs : List ℕ) where
   token_at_name : begins_name c ≡ true → token_len (c ∷ cs) ≡ 1 + prefix_len continues_name cs
@@ -174,10 +172,6 @@ positive_within text more n h = let p = magnitude_within text more n h in omega 
 is_eq : (c : ℕ) → (c == 45) ≡ true → c ≡ 45
 is_eq c h = grind (arith, nat_tests)
 
-cases_cond : (P : ℕ → Type 0) (b : Bool) (x y : ℕ) → (b ≡ true → P x) → (b ≡ false → P y) → P (cond b x y)
-cases_cond P true x y p q = p refl
-cases_cond P false x y p q = q refl
-
 -- no token that stands at the front is longer than the computed length
 pub token_within : (token more : List ℕ) → IsToken token → (0 < length token) × (length token ≤ token_len (token ++ more))
 token_within [] more (inl name) = absurd name
@@ -208,9 +202,9 @@ unfolding token_len
 token_found [] h = absurd (omega arith)
 token_found (c ∷ cs) h =
     let P : ℕ → Type 0 = λ k. 0 < k → IsToken (take k (c ∷ cs)) in
-    cases_cond P (begins_name c) _ _ (λ e _. name_found c cs e)
-    (λ _. cases_cond P (is_mark c) _ _ (λ e _. inr (inr (c, e, refl)))
-    (λ _. cases_cond P (c == 45) _ _ (λ e. subst (λ (d : ℕ). 0 < after_sign (magnitude_len cs) → IsToken (take (after_sign (magnitude_len cs)) (d ∷ cs))) (sym (is_eq c e)) (sign_found cs))
+    cond_both (begins_name c) _ _ P (λ e _. name_found c cs e)
+    (λ _. cond_both (is_mark c) _ _ P (λ e _. inr (inr (c, e, refl)))
+    (λ _. cond_both (c == 45) _ _ P (λ e. subst (λ (d : ℕ). 0 < after_sign (magnitude_len cs) → IsToken (take (after_sign (magnitude_len cs)) (d ∷ cs))) (sym (is_eq c e)) (sign_found cs))
     (λ _. number_found (c ∷ cs)))) h
 
 name_begins : (c : ℕ) → begins_name c ≡ true → is_space c ≡ false
@@ -238,7 +232,7 @@ magnitude_len-le text =
     let rest_len : length (drop 2 text) + 2 ≡ length text = rw shape.2 (omega arith) in
     omega (arith, magnitude_hex text e, prefix_len-le-length is_ascii_hexdigit (drop 2 text)))
     (λ e. omega (arith, magnitude_decimal text e, prefix_len-le-length is_ascii_digit text))
-    (true_or_false (begins_hex text))
+    (cases_Bool (begins_hex text))
 
 after_sign-le : (n m : ℕ) → n ≤ m → after_sign n ≤ suc m
 after_sign-le zero m h = omega arith
@@ -249,9 +243,9 @@ unfolding token_len
 token_len-le [] = omega arith
 token_len-le (c ∷ cs) =
     let P : ℕ → Type 0 = λ k. k ≤ suc (length cs) in
-    cases_cond P (begins_name c) _ _ (λ _. omega (arith, prefix_len-le-length continues_name cs))
-    (λ _. cases_cond P (is_mark c) _ _ (λ _. omega arith)
-    (λ _. cases_cond P (c == 45) _ _ (λ _. after_sign-le _ _ (magnitude_len-le cs)) (λ _. magnitude_len-le (c ∷ cs))))
+    cond_both (begins_name c) _ _ P (λ _. omega (arith, prefix_len-le-length continues_name cs))
+    (λ _. cond_both (is_mark c) _ _ P (λ _. omega arith)
+    (λ _. cond_both (c == 45) _ _ P (λ _. after_sign-le _ _ (magnitude_len-le cs)) (λ _. magnitude_len-le (c ∷ cs))))
 
 abbrev pub AllAscii : List ℕ → Type 0
 AllAscii text = AllByRecursion (λ c. c < 128) text

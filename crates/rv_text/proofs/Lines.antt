@@ -25,13 +25,13 @@ use Rattle.rv_text.specs.Mnemonics.{name_of}
 use Rattle.rv_text.specs.Forms.{form_of}
 use Rattle.rv_text.specs.Operands.{OperandValues, Departs}
 use Rattle.rv_text.specs.Statement.{mnemonic_of, operands_of, Spells, OperandsDepart}
-use Rattle.rv_text.specs.Reading.{Reads, AgreesOn, FollowsName}
+use Rattle.rv_text.specs.private.Reading.{Reads, AgreesOn, FollowsName}
 use Rattle.rv_text.specs.Keywords.{directive_form, directive_states, pseudo_form, pseudo_states, branch_form, branch_states, jal_form, jal_states, data_kind}
 use Rattle.rv_text.specs.Constants.{constant, data_bytes}
 use Rattle.rv_text.specs.Lines.{Writes, AreMore, IsRow, IsData, StatesAfter, InstrDeparts, RefusedWith}
-use Rattle.rv_text.specs.private.Lists.{ReadsRow, ReadsInstr, ReadsAfter}
-use Rattle.rv_text.specs.Lists.{ReadsList}
-use Rattle.rv_text.specs.Stated.{Stated, stated, IsRightStatement, format, sandbox, within, gate, compressed, bytes, plain, jump, address}
+use Rattle.rv_text.specs.private.Lists.{ReadsRow, ReadsInstr, ReadsAfter, ReadsList}
+use Rattle.rv_text.specs.Stated.{Stated, format, sandbox, within, gate, compressed, bytes, plain, jump, address}
+use Rattle.rv_text.specs.private.Stated.{stated, IsRightStatement}
 use Rattle.rv_text.proofs.Keywords.{name_unique}
 use Rattle.rv_text.proofs.Meaning.{tokens_of, from_tokens, agree}
 use Rattle.rv_text.proofs.OneMeaning.{follows_one}

@@ -15,8 +15,7 @@ use Rattle.rv_text.specs.Keywords.{data_kind}
 use Rattle.rv_text.specs.Constants.{data_bytes}
 use Rattle.rv_text.specs.Statement.{operands}
 use Rattle.rv_text.specs.Lines.{Writes, AreMore, LeadsByMore, NumberDeparts, MoreDeparts, ListDeparts}
-use Rattle.rv_text.specs.Lists.{ReadsNumber, ReadsMore, ReadsList}
-use Rattle.rv_text.specs.private.Lists.{ReadsAnother, MoreDepartsAfter}
+use Rattle.rv_text.specs.private.Lists.{ReadsNumber, ReadsMore, ReadsList, ReadsAnother, MoreDepartsAfter}
 use Rattle.rv_text.proofs.Numbers.{number_unique}
 use Rattle.rv_text.proofs.Taking.{takes_unique, takes_shorter, blank_takes_none}
 

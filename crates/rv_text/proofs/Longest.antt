@@ -4,7 +4,8 @@ use Rattle.std.specs.List.{AllByRecursion}
 use Rattle.std.specs.Char.{is_ascii_digit, is_ascii_hexdigit}
 use Rattle.std.proofs.lemmas.Bool.Decides.{nat_tests}
 use Rattle.std.proofs.lemmas.Bool.{false≢true}
-use Rattle.rv_text.specs.Tokens.{is_space, IsBlank, begins_name, continues_name, IsMagnitude, is_mark, IsToken, Takes}
+use Rattle.rv_text.specs.Tokens.{is_space, IsBlank, IsMagnitude, is_mark, IsToken, Takes}
+use Rattle.rv_source.specs.Names.{begins_name, continues_name}
 use Rattle.rv_text.specs.private.Scan.{token_len}
 use Rattle.rv_text.proofs.Lexing.{Passes, numeral_passes, hex_passes, token_within, token_at_mark}
 

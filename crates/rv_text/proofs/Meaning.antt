@@ -10,8 +10,7 @@ use Rattle.rv_text.specs.Registers.{IsRegister}
 use Rattle.rv_text.specs.Mnemonics.{name_of}
 use Rattle.rv_text.specs.Forms.{form_of}
 use Rattle.rv_text.specs.Operands.{OperandValues, Stands, HasForm, mode_name}
-use Rattle.rv_text.specs.Reading.{Reads, SameAt, AgreesOn, FollowsName}
-use Rattle.rv_text.specs.private.Reading.{FollowsToken}
+use Rattle.rv_text.specs.private.Reading.{Reads, SameAt, AgreesOn, FollowsName, FollowsToken}
 use Rattle.rv_text.specs.Statement.{mnemonic_of, operands_of, Means}
 use Rattle.rv_text.proofs.Names.{register_own}
 use Rattle.rv_text.proofs.Numbers.{number_unique}

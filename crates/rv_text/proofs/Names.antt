@@ -9,9 +9,11 @@ use Rattle.std.proofs.lemmas.Slice.Eq.{bytes_eq-Decides}
 use Rattle.std.proofs.lemmas.List.FromFn.{length-range_with_len, get_or-range_with_len}
 use Rattle.std.proofs.lemmas.List.Sums.{AllPass-from_list_all}
 use Rattle.std.proofs.lemmas.Option.{get_or_from_slice_get, slice_get-get_or}
+use Rattle.std.proofs.lemmas.Bool.{and_parts}
 use Rattle.std.proofs.lemmas.Bool.Decides.{nat_tests}
 use Rattle.rv_text.specs.Registers.{abi_names, x_name, IsRegister}
 use Rattle.rv_text.specs.private.Lookup.{of_number, pointer, of_two, of_three, find_register}
+use Rattle.rv_text.proofs.Forms.{not_true}
 
 -- a test that passes at each number below a bound by computation
 below : (n : ℕ) (test : ℕ → Bool) → list_all test (range_with_len 0 n) ≡ true → (r : ℕ) → r < n → test r ≡ true
@@ -54,10 +56,6 @@ names text r =
 both : (b x : Bool) → cond b x false ≡ true → (b ≡ true) × (x ≡ true)
 both true x h = (refl, h)
 both false x h = absurd (true≢false (sym h))
-
-and_both : (b x : Bool) → (b && x) ≡ true → (b ≡ true) × (x ≡ true)
-and_both true x h = (refl, h)
-and_both false x h = absurd (true≢false (sym h))
 
 none_is : (r : ℕ) → None ≡ Some r → ⊥
 none_is r e = cc
@@ -105,7 +103,7 @@ Small a n = (a < 128) × (n < 32)
 
 small_case : (a n l m : ℕ) → l < 128 → m ≤ 32 → ((a == l) && nat_lt n m) ≡ true → Small a n
 small_case a n l m ll lm h =
-    let p = and_both (a == l) (nat_lt n m) h in
+    let p = and_parts (a == l) (nat_lt n m) h in
     let same = is_same a l p.0 in
     let less = is_less n m p.1 in
     (omega arith, omega arith)
@@ -192,7 +190,7 @@ two_found a b r e =
     ra : (a b r : ℕ) → cond ((a == 114) && (b == 97)) (Some 1) None ≡ Some r → IsRegister (a ∷ b ∷ []) r
     ra a b r f =
         ⊎_elim
-        (λ h. let p = and_both (a == 114) (b == 97) h in
+        (λ h. let p = and_parts (a == 114) (b == 97) h in
         let one : 1 ≡ r = cc in
         let text : 114 ∷ 97 ∷ [] ≡ a ∷ b ∷ [] = (λ i. sym (is_same a 114 p.0) i ∷ sym (is_same b 97 p.1) i ∷ []) in
         subst (λ t. IsRegister t r) text (subst (λ k. IsRegister (114 ∷ 97 ∷ []) k) one (is_name (114 ∷ 97 ∷ []) 1 refl)))
@@ -210,15 +208,11 @@ three_found : (a b c r : ℕ) → of_three a b c ≡ Some r → IsRegister (a �
 three_found a b c r e =
     elim (is_ascii_digit b && (not (b == 48) && is_ascii_digit c)) as (λ d. (is_ascii_digit b && (not (b == 48) && is_ascii_digit c)) ≡ d → cond d (of_number a (10 * (b - 48) + (c - 48))) None ≡ Some r → IsRegister (a ∷ b ∷ c ∷ []) r) [
       | true ↦ λ h f.
-          let p = and_both (is_ascii_digit b) (not (b == 48) && is_ascii_digit c) h in
-          let q = and_both (not (b == 48)) (is_ascii_digit c) p.1 in
+          let p = and_parts (is_ascii_digit b) (not (b == 48) && is_ascii_digit c) h in
+          let q = and_parts (not (b == 48)) (is_ascii_digit c) p.1 in
           subst (λ t. IsRegister t r) (of_digits a b c p.0 (not_true (b == 48) q.0) q.1) (numbered a (10 * (b - 48) + (c - 48)) r f)
       | false ↦ λ h f. cc
     ] refl e
-  where
-    not_true : (b : Bool) → not b ≡ true → b ≡ false
-    not_true true h = sym h
-    not_true false h = refl
 
 -- a text of two bytes, or three
 of_length_two : (text : List ℕ) → length text ≡ 2 → text ≡ slice_index text 0 ∷ slice_index text 1 ∷ []

@@ -8,7 +8,7 @@ use Rattle.rv_text.specs.declared.mnemonic.Mnemonic.TheVariants as mnemonic
 use Rattle.rv_text.specs.Operands.{OperandValues}
 use Rattle.rv_text.specs.Tokens.{IsBlank}
 use Rattle.rv_text.specs.Forms.{form_of}
-use Rattle.rv_text.specs.Reading.{Reads, AgreesOn, Follows}
+use Rattle.rv_text.specs.private.Reading.{Reads, AgreesOn, Follows}
 use Rattle.rv_text.specs.Statement.{mnemonic_of, operands_of}
 use Rattle.rv_text.specs.Laws.{OneMeaning, MeaningsAreInRange}
 use Rattle.rv_text.proofs.Keywords.{name_unique}

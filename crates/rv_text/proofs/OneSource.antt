@@ -6,7 +6,8 @@ use Rattle.sfi_policy.specs.declared.format.Format.TheVariants.{Sfi1, Sfi2}
 use Rattle.rv_text.specs.declared.cause.TextCause.{TextCause}
 use Rattle.rv_text.specs.declared.fault.TextFault.{TextFault}
 use Rattle.rv_text.specs.declared.keyword.Keyword.{Keyword}
-use Rattle.rv_text.specs.Tokens.{Takes, IsName}
+use Rattle.rv_text.specs.Tokens.{Takes}
+use Rattle.rv_source.specs.Names.{IsName}
 use Rattle.rv_text.specs.Keywords.{keyword_name}
 use Rattle.rv_text.specs.Lines.{NameRefused}
 use Rattle.rv_text.specs.Stated.{Stated, number_of_format, format, sandbox, within, StatedWithin}

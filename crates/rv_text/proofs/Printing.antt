@@ -6,7 +6,7 @@ use Rattle.std.specs.Fmt.{decimal, signed_decimal, digits}
 use Rattle.std.specs.Char.{is_ascii_digit}
 use Rattle.std.proofs.lemmas.Fmt.{decimal_is_IsNumeral, digits_is_IsNumeral}
 use Rattle.std.proofs.lemmas.Int.{ints}
-use Rattle.std.proofs.lemmas.Bool.{false≢true}
+use Rattle.std.proofs.lemmas.Bool.{and_parts, false≢true}
 use Rattle.std.proofs.lemmas.Bool.Decides.{nat_tests}
 use Rattle.rv_word.specs.declared.instr.RegOp.TheVariants.{Add}
 use Rattle.rv_word.specs.declared.instr.ImmOp.TheVariants.{Addi}
@@ -17,7 +17,9 @@ use Rattle.rv_text.specs.declared.mnemonic.Mnemonic.{Mnemonic}
 use Rattle.rv_text.specs.declared.mnemonic.Mnemonic.TheVariants.{Op, OpImm, Load, Store, Branch}
 use Rattle.rv_text.specs.declared.form.NumberKind.{NumberKind}
 use Rattle.rv_text.specs.declared.form.NumberKind.TheVariants.{Immediate, ShiftAmount, BranchOffset, JumpOffset, Upper, FenceFields, DataSize, Service, Word, Half, Byte, ZeroCount, FormatNumber}
-use Rattle.rv_text.specs.Tokens.{begins_name, continues_name, IsName, IsNumber, IsInReach, IsToken}
+use Rattle.rv_text.specs.Tokens.{IsNumber, IsToken}
+use Rattle.rv_text.specs.private.Numbers.{IsInReach}
+use Rattle.rv_source.specs.Names.{begins_name, continues_name, IsName}
 use Rattle.rv_text.specs.Registers.{x_name}
 use Rattle.rv_text.specs.Mnemonics.{name_of}
 use Rattle.rv_text.specs.Forms.{IsNumberOf}
@@ -29,10 +31,6 @@ use Rattle.rv_text.proofs.Numbers.{kind_in_reach}
 abbrev pub is_name : List ℕ → Bool
 is_name [] = false
 is_name (c ∷ cs) = begins_name c && list_all continues_name cs
-
-and_parts : (a b : Bool) → (a && b) ≡ true → (a ≡ true) × (b ≡ true)
-and_parts true b h = (refl, h)
-and_parts false b h = cc
 
 all_pass : (p : ℕ → Bool) (text : List ℕ) → list_all p text ≡ true → Passes p text
 all_pass p [] h = tt

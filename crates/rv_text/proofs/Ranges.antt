@@ -9,7 +9,7 @@ use Rattle.rv_word.specs.Numbers.{IsBetween}
 use Rattle.rv_word.specs.Spelling.{InRange, IsImm12}
 use Rattle.rv_text.specs.declared.form.NumberKind.TheVariants.{Immediate, ShiftAmount}
 use Rattle.rv_text.specs.Forms.{IsNumberOf, form_of}
-use Rattle.rv_text.specs.Reading.{AllSuit}
+use Rattle.rv_text.specs.private.Reading.{AllSuit}
 use Rattle.rv_text.specs.Statement.{mnemonic_of, operands_of, full_fence}
 
 abbrev IsImmediate : Bool → ℤ → Type 0

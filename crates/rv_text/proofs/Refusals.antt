@@ -4,12 +4,12 @@ use Rattle.rv_word.specs.declared.instr.Instr.{Instr}
 use Rattle.rv_text.specs.declared.cause.TextCause.{TextCause}
 use Rattle.rv_text.specs.declared.mnemonic.Mnemonic.{Mnemonic}
 use Rattle.rv_text.specs.declared.form.Part.{Part}
-use Rattle.rv_text.specs.Tokens.{Takes, IsName}
+use Rattle.rv_text.specs.Tokens.{Takes}
+use Rattle.rv_source.specs.Names.{IsName}
 use Rattle.rv_text.specs.Mnemonics.{name_of}
 use Rattle.rv_text.specs.Forms.{form_of}
 use Rattle.rv_text.specs.Operands.{OperandValues, Stands, Departs, part_cause}
-use Rattle.rv_text.specs.Reading.{Reads}
-use Rattle.rv_text.specs.private.Reading.{FollowsToken}
+use Rattle.rv_text.specs.private.Reading.{Reads, FollowsToken}
 use Rattle.rv_text.specs.Statement.{mnemonic_of, operands_of, Refused, RefusedAt}
 use Rattle.rv_text.specs.Laws.{OneCause, MeantIsNotRefused}
 use Rattle.rv_text.proofs.Keywords.{name_unique}

@@ -27,14 +27,14 @@ use Rattle.rv_text.specs.declared.statement.Place.{Place}
 use Rattle.rv_text.specs.Mnemonics.{name_of}
 use Rattle.rv_text.specs.Forms.{form_of, IsNumberOf}
 use Rattle.rv_text.specs.Operands.{OperandValues, HasForm}
-use Rattle.rv_text.specs.Reading.{AllSuit}
+use Rattle.rv_text.specs.private.Reading.{AllSuit}
 use Rattle.rv_text.specs.Statement.{mnemonic_of, operands_of, Spells}
 use Rattle.rv_source.specs.Halves.{upper, lower}
 use Rattle.rv_text.specs.Constants.{is_small, add_lower, constant, data_bytes}
 use Rattle.rv_text.specs.Keywords.{directive_form, directive_states, pseudo_form, pseudo_states, branch_form, branch_states, jal_form, jal_states, place_of_keyword}
 use Rattle.rv_text.specs.Lines.{IsRow, After}
-use Rattle.rv_text.specs.Stated.{Stated, IsRightStatement, within, plain}
-use Rattle.rv_text.specs.private.Stated.{place_of_stated}
+use Rattle.rv_text.specs.Stated.{Stated, within, plain}
+use Rattle.rv_text.specs.private.Stated.{IsRightStatement, place_of_stated}
 use Rattle.rv_text.proofs.Keywords.{name_unique}
 use Rattle.rv_text.proofs.Forms.{stands_suits}
 use Rattle.rv_text.proofs.Ranges.{fits_in_range, full_fence_in_range}

@@ -14,6 +14,7 @@ use Rattle.rv_source.specs.declared.item.Body.{Body}
 use Rattle.rv_source.specs.declared.item.Body.TheVariants.{Plain, To, High, Low}
 use Rattle.rv_source.specs.declared.item.Item.{Item}
 use Rattle.rv_source.specs.declared.item.SourceGate.{SourceGate}
+use Rattle.rv_source.specs.Names.{IsShortLabel}
 use Rattle.rv_source.specs.NameTable.{place_of, placed, met}
 use Rattle.rv_source.specs.Source.{Sandbox, IsDataSize, IsBody, IsThere, IsEntry, IsGate, IsSandbox}
 use Rattle.rv_text.specs.SoFar.{Begun, begin, with_names, with_label, with_gate, items_of, with_bodies, with_bytes}
@@ -76,7 +77,7 @@ there_stays s t Unknown g i b h = tt
 entry_stays : (s t : Sandbox) → length s.gates ≤ length t.gates → length s.items ≤ length t.items → length s.bytes ≤ length t.bytes
     → (e : List ℕ × Named) → IsEntry s e → IsEntry t e
 entry_stays s t g i b e h =
-    record { not_empty = h.not_empty; at_most = h.at_most; there = there_stays s t e.1 g i b h.there }
+    record { name = h.name; there = there_stays s t e.1 g i b h.there }
 
 -- a body's name stays one of them where there are more
 body_stays : (n m : ℕ) (body : Body) → n ≤ m → IsBody n body → IsBody m body
@@ -155,11 +156,11 @@ has_there s (e ∷ es) what all (inr h) = has_there s es what all.1 h
 
 -- a name that is free is placed, where what it names is there and is no item's place
 placed_right : (b : Begun) (d : IsDraft b) (name : List ℕ) (what : Named) (labelled opened : Bool)
-    → IsFree name b → 1 ≤ length name → length name ≤ 64 → IsThere b.sandbox what
+    → IsFree name b → IsShortLabel name → IsThere b.sandbox what
     → ((k : ℕ) → k < length b.sandbox.items → what ≢ Code k)
     → (IsTrue labelled ↔ Has (placed b.sandbox.names name what) (Code (length b.sandbox.items)))
     → IsDraft (record (with_names (placed b.sandbox.names name what) b) { labelled = labelled; opened = opened })
-placed_right b d name what labelled opened free not_empty at_most there apart flag =
+placed_right b d name what labelled opened free is_label there apart flag =
     let names = placed b.sandbox.names name what in
     let s : Sandbox = record b.sandbox { names = names } in
     let keeps : (k : ℕ) → Has b.sandbox.names (Code k) → Has names (Code k) = λ k h. placed_keeps b.sandbox.names name what (Code k) free (known (Code k) refl) h in
@@ -172,7 +173,7 @@ placed_right b d name what labelled opened free not_empty at_most there apart fl
       };
       names = placed_all (IsEntry s) b.sandbox.names name what
           (all_by (IsEntry b.sandbox) (IsEntry s) (λ e h. entry_stays b.sandbox s (omega arith) (omega arith) (omega arith) e h) b.sandbox.names d.names)
-          (record { not_empty = not_empty; at_most = at_most; there = there_stays b.sandbox s what (omega arith) (omega arith) (omega arith) there });
+          (record { name = is_label; there = there_stays b.sandbox s what (omega arith) (omega arith) (omega arith) there });
       differ = placed_differ b.sandbox.names name what d.differ;
       item_count = d.item_count;
       items = λ k i at. record {
@@ -204,8 +205,8 @@ flag_stays b d name what free other = (
     back (inr is) = absurd (no_code what (length b.sandbox.items) other is)
 
 -- a label after the instructions, or after the data
-pub label_right : (b : Begun) (d : IsDraft b) (name : List ℕ) → IsFree name b → 1 ≤ length name → length name ≤ 64 → IsDraft (with_label name b)
-label_right b d name free not_empty at_most = by b.in_data
+pub label_right : (b : Begun) (d : IsDraft b) (name : List ℕ) → IsFree name b → IsShortLabel name → IsDraft (with_label name b)
+label_right b d name free is_label = by b.in_data
   where
     next : ℕ
     next = length b.sandbox.items
@@ -219,25 +220,25 @@ label_right b d name free not_empty at_most = by b.in_data
     or_false false = (λ h. h, λ h. h)
 
     by : (ended : Bool) → IsDraft (record (with_names (placed b.sandbox.names name (if ended then Data (length b.sandbox.bytes) else Code (length b.sandbox.items))) b) { labelled = b.labelled || not ended; opened = true })
-    by true = placed_right b d name (Data (length b.sandbox.bytes)) (b.labelled || false) true free not_empty at_most (omega arith)
+    by true = placed_right b d name (Data (length b.sandbox.bytes)) (b.labelled || false) true free is_label (omega arith)
         (λ k within. no_code (Data (length b.sandbox.bytes)) k refl) (
           λ h. (flag_stays b d name (Data (length b.sandbox.bytes)) free refl).0 ((or_false b.labelled).0 h),
           λ h. (or_false b.labelled).1 ((flag_stays b d name (Data (length b.sandbox.bytes)) free refl).1 h),
         )
-    by false = placed_right b d name (Code (length b.sandbox.items)) (b.labelled || true) true free not_empty at_most (omega arith)
+    by false = placed_right b d name (Code (length b.sandbox.items)) (b.labelled || true) true free is_label (omega arith)
         (λ k within e. omega (arith, within, ap code_place e))
         (λ h. placed_has b.sandbox.names name (Code (length b.sandbox.items)), λ h. or_true b.labelled)
 
 -- a name that an instruction goes to
-pub met_right : MetNamesStay → NewNamesNameNothing → (b : Begun) (d : IsDraft b) (name : List ℕ) → 1 ≤ length name → length name ≤ 64 → IsDraft (with_names (met b.sandbox.names name) b)
-met_right met_law new_law b d name not_empty at_most = by (nat_lt (place_of b.sandbox.names name) (length b.sandbox.names)) refl
+pub met_right : MetNamesStay → NewNamesNameNothing → (b : Begun) (d : IsDraft b) (name : List ℕ) → IsShortLabel name → IsDraft (with_names (met b.sandbox.names name) b)
+met_right met_law new_law b d name is_label = by (nat_lt (place_of b.sandbox.names name) (length b.sandbox.names)) refl
   where
     by : (there : Bool) → nat_lt (place_of b.sandbox.names name) (length b.sandbox.names) ≡ there → IsDraft (with_names (met b.sandbox.names name) b)
     by true is = subst (λ names. IsDraft (with_names names b)) (met_law b.sandbox.names name (grind (arith, nat_tests, is))) d
     by false is =
         let free : IsFree name b = new_law b.sandbox.names name (grind (arith, nat_tests, is)) in
         subst (λ what. IsDraft (with_names (placed b.sandbox.names name what) b)) (sym free)
-        (placed_right b d name Unknown b.labelled b.opened free not_empty at_most tt (λ k within. no_code Unknown k refl) (flag_stays b d name Unknown free refl))
+        (placed_right b d name Unknown b.labelled b.opened free is_label tt (λ k within. no_code Unknown k refl) (flag_stays b d name Unknown free refl))
 
 -- the items of a line's bodies: the first has the label, if there is one
 item_at : (n line : ℕ) (rvc labelled : Bool) (bodies : List Body) (j : ℕ) (i : Item) → AllByRecursion (IsBody n) bodies
@@ -319,9 +320,9 @@ bytes_right values b d all fits =
     }
 
 -- one more gate
-pub gate_right : (name : List ℕ) (service : ℕ) (b : Begun) (d : IsDraft b) → IsFree name b → 1 ≤ length name → length name ≤ 64 → service ≤ 5
+pub gate_right : (name : List ℕ) (service : ℕ) (b : Begun) (d : IsDraft b) → IsFree name b → IsShortLabel name → service ≤ 5
     → length b.sandbox.gates + 1 ≤ 64 → IsDraft (with_gate name service b)
-gate_right name service b d free not_empty at_most known_service fits =
+gate_right name service b d free is_label known_service fits =
     let what = Gate (length b.sandbox.gates) in
     let names = placed b.sandbox.names name what in
     let added : SourceGate = record { name = place_of b.sandbox.names name; service = service } in
@@ -335,7 +336,7 @@ gate_right name service b d free not_empty at_most known_service fits =
       gates = λ k g at. gate k g (split_get b.sandbox.gates (added ∷ []) k g at);
       names = placed_all (IsEntry s) b.sandbox.names name what
           (all_by (IsEntry b.sandbox) (IsEntry s) (λ e h. entry_stays b.sandbox s (omega (arith, long)) (omega arith) (omega arith) e h) b.sandbox.names d.names)
-          (record { not_empty = not_empty; at_most = at_most; there = omega (arith, long) });
+          (record { name = is_label; there = omega (arith, long) });
       differ = placed_differ b.sandbox.names name what d.differ;
       item_count = d.item_count;
       items = λ k i at. record {

@@ -15,11 +15,12 @@ use Rattle.rv_text.specs.declared.keyword.Keyword.{Keyword}
 use Rattle.rv_text.specs.declared.keyword.Keyword.TheVariants as keyword
 use Rattle.rv_text.specs.declared.statement.Place.{Place}
 use Rattle.rv_text.specs.declared.statement.Place.TheVariants as place
-use Rattle.rv_text.specs.Tokens.{IsLabel, Takes}
+use Rattle.rv_text.specs.Tokens.{Takes}
+use Rattle.rv_source.specs.Names.{IsLabel}
 use Rattle.rv_text.specs.Keywords.{place_of_keyword}
 use Rattle.rv_text.specs.Lines.{StatesAfter}
-use Rattle.rv_text.specs.Stated.{Stated, format, sandbox, within, StatedWithin, gate, compressed, data_part, bytes, plain, jump, address, IsRightWithin, IsRightStatement}
-use Rattle.rv_text.specs.private.Stated.{place_of_stated}
+use Rattle.rv_text.specs.Stated.{Stated, format, sandbox, within, StatedWithin, gate, compressed, data_part, bytes, plain, jump, address}
+use Rattle.rv_text.specs.private.Stated.{IsRightWithin, IsRightStatement, place_of_stated}
 use Rattle.rv_source.specs.NameTable.{meaning, place_of, met}
 use Rattle.rv_source.specs.Source.{IsStraight, Sandbox, IsBody, IsSandbox, AreOf, format_of}
 use Rattle.rv_text.specs.SoFar.{Begun, SoFar, format_or_sfi1, with_label, with_names, nothing, last_sandbox, sandboxes}
@@ -57,14 +58,9 @@ begun_is old c right draft format_is = record {
   first = λ e. absurd (none-some c (sym e));
 }
 
--- a label's name isn't empty
-label_some : (name : List ℕ) → IsLabel name → 1 ≤ length name
-label_some [] label = absurd label.0
-label_some (c ∷ cs) label = omega arith
-
 label_leads : (name : List ℕ) (old new : SoFar) → IsLabel name → Labels name old new → IsRightSoFar old → IsRightSoFar new
 label_leads name old new label (b, is, short, free, new_is) right =
-    subst IsRightSoFar (sym new_is) (begun_is old (with_label name b) right (label_right b (right.begun b is) name free (label_some name label) short) (right.begun_format b is))
+    subst IsRightSoFar (sym new_is) (begun_is old (with_label name b) right (label_right b (right.begun b is) name free (label, short)) (right.begun_format b is))
 
 labels_lead : (names : List (List ℕ)) (old new : SoFar) (text rest : List ℕ) → LabelsLead names old text new rest → IsRightSoFar old → IsRightSoFar new
 labels_lead [] old new text rest (same, at) right = subst IsRightSoFar (sym same) right
@@ -81,7 +77,7 @@ module _ (met_law : MetNamesStay) (new_law : NewNamesNameNothing) where
   goes_right : (line : ℕ) (s : StatedWithin) (b : Begun) → IsRightWithin s → ((name : List ℕ) (service : ℕ) → s ≡ gate name service → IsFree name b)
       → Fits s b → IsDraft b → IsDraft (with_stated line s b)
   goes_right line (gate name service) b right free fits d =
-      gate_right name service b d (free name service refl) (label_some name right.0.0) right.0.1 right.1 fits
+      gate_right name service b d (free name service refl) right.0 right.1 fits
   goes_right line (compressed rvc) b right free fits d =
       record { data_size = d.data_size; gate_count = d.gate_count; gates = d.gates; names = d.names; differ = d.differ; item_count = d.item_count; items = d.items; labelled = d.labelled; byte_count = d.byte_count; bytes = d.bytes }
   goes_right line data_part b right free fits d =
@@ -91,11 +87,11 @@ module _ (met_law : MetNamesStay) (new_law : NewNamesNameNothing) where
       bodies_right line (map Plain instrs) b d (plain_bodies _ instrs (all_recursively _ instrs right.1))
       (omega (arith, right.0, length-map instrs Plain)) (omega (arith, fits, length-map instrs Plain))
   goes_right line (jump i name) b right free fits d =
-      bodies_right line (To i (place_of b.sandbox.names name) ∷ []) (with_names (met b.sandbox.names name) b) (met_right met_law new_law b d name (label_some name right.2.0) right.2.1)
+      bodies_right line (To i (place_of b.sandbox.names name) ∷ []) (with_names (met b.sandbox.names name) b) (met_right met_law new_law b d name right.2)
       ((right.0, right.1, place_among b.sandbox.names name (meaning b.sandbox.names name)), tt) (omega arith) fits
   goes_right line (address rd name) b right free fits d =
       let among = place_among b.sandbox.names name (meaning b.sandbox.names name) in
-      bodies_right line (High rd (place_of b.sandbox.names name) ∷ Low rd (place_of b.sandbox.names name) ∷ []) (with_names (met b.sandbox.names name) b) (met_right met_law new_law b d name (label_some name right.1.0) right.1.1)
+      bodies_right line (High rd (place_of b.sandbox.names name) ∷ Low rd (place_of b.sandbox.names name) ∷ []) (with_names (met b.sandbox.names name) b) (met_right met_law new_law b d name right.1)
       ((right.0, among), ((right.0, among), tt)) (omega arith) fits
 
   -- a statement leaves the sandbox's format

@@ -2,6 +2,7 @@
 use Rattle.std.proofs.Common.{◌≡◌, ℕ, Bool, true, false, ◌&&◌, ◌||◌, List, [], ◌∷◌, ◌++◌, inl, inr, refl, sym, subst}
 use Rattle.std.specs.Prelude.{codes}
 use Rattle.std.specs.List.{flat_map}
+use Rattle.std.proofs.lemmas.Bool.{and_parts}
 use Rattle.std.proofs.lemmas.List.{append-nil}
 use Rattle.rv_word.specs.declared.instr.Instr.{Instr}
 use Rattle.rv_word.specs.Spelling.{InRange}
@@ -13,7 +14,7 @@ use Rattle.rv_text.specs.Tokens.{IsBlank, IsToken, Takes}
 use Rattle.rv_text.specs.Mnemonics.{name_of}
 use Rattle.rv_text.specs.Forms.{form_of}
 use Rattle.rv_text.specs.Operands.{OperandValues, Stands, mode_name}
-use Rattle.rv_text.specs.Reading.{Reads, AllSuit}
+use Rattle.rv_text.specs.private.Reading.{Reads, AllSuit}
 use Rattle.rv_text.specs.Statement.{mnemonic_of, operands_of, Means}
 use Rattle.rv_text.specs.Printed.{part_text, operands_text, printed}
 use Rattle.rv_text.specs.Laws.{PrintedReadsBack}
@@ -62,10 +63,6 @@ operands_end o (Rs2 ∷ form) h = cc
 operands_end o (Number kind ∷ form) h = cc
 operands_end o (Name ∷ form) h = cc
 operands_end o (Mode ∷ form) h = cc
-
-and_parts : (a b : Bool) → (a && b) ≡ true → (a ≡ true) × (b ≡ true)
-and_parts true b h = (refl, h)
-and_parts false b h = cc
 
 -- after blanks the printed operands of a form read as those operands
 module _ (o : OperandValues) (form : List Part) (gap : List ℕ) (blank : IsBlank gap) where

@@ -19,8 +19,8 @@ use Rattle.rv_text.specs.declared.statement.Place.TheVariants as place
 use Rattle.rv_text.specs.Tokens.{Takes}
 use Rattle.rv_text.specs.Mnemonics.{name_of}
 use Rattle.rv_text.specs.Keywords.{keyword_name, place_of_keyword}
-use Rattle.rv_text.specs.Stated.{Stated, StatedWithin, format, sandbox, within, gate, compressed, data_part, bytes, plain, jump, address, IsRightStatement}
-use Rattle.rv_text.specs.private.Stated.{place_within, place_of_stated}
+use Rattle.rv_text.specs.Stated.{Stated, StatedWithin, format, sandbox, within, gate, compressed, data_part, bytes, plain, jump, address}
+use Rattle.rv_text.specs.private.Stated.{IsRightStatement, place_within, place_of_stated}
 use Rattle.rv_text.specs.SoFar.{Begun, SoFar, nothing, sandboxes, begin, format_or_sfi1, with_label}
 use Rattle.rv_text.specs.Effects.{IsFree, Labels, RefusesLabel, MayCome, Fits, with_stated, Does, HasNoRoom}
 use Rattle.rv_text.specs.Leads.{BeginsWithName, BeginsWithLabel, HasNoLabel, LabelsLead, PassesLabels, IsTaken, IsGateTwice, LeadsAfter, RestLeads, Leads, LabelRefused, RefusedAfter, StatementRefused, LineRefused}

@@ -25,11 +25,10 @@ use Rattle.rv_text.specs.Forms.{form_of}
 use Rattle.rv_text.specs.Constants.{data_bytes}
 use Rattle.rv_text.specs.Operands.{OperandValues, Departs, part_cause}
 use Rattle.rv_text.specs.Statement.{mnemonic_of, operands, operands_of, full_fence, IsBareFence, OperandsDepart}
-use Rattle.rv_text.specs.Reading.{Reads, SameAt, AgreesOn, AllSuit, FollowsName, slot, is_fresh, has_no_repeat}
+use Rattle.rv_text.specs.private.Reading.{Reads, SameAt, AgreesOn, AllSuit, FollowsName, slot, is_fresh, has_no_repeat}
 use Rattle.rv_text.specs.Keywords.{directive_form, directive_states, pseudo_form, pseudo_states, branch_form, branch_states, jal_form, jal_states, data_kind}
 use Rattle.rv_text.specs.Lines.{StatesAfter, LeadsByMore, NumberDeparts, ListDeparts, InstrDeparts, RefusedWith}
-use Rattle.rv_text.specs.Lists.{ReadsNumber, ReadsList}
-use Rattle.rv_text.specs.private.Lists.{MoreDepartsAfter, ReadsRow, ReadsInstr, ReadsAfter}
+use Rattle.rv_text.specs.private.Lists.{ReadsNumber, ReadsList, MoreDepartsAfter, ReadsRow, ReadsInstr, ReadsAfter}
 use Rattle.rv_text.specs.Stated.{Stated, within, plain, bytes}
 use Rattle.rv_text.proofs.Forms.{stands_by_operand, reads_part, more_has_no_repeat, keeps_part, reads_fit}
 use Rattle.rv_text.proofs.Lines.{reads_states}

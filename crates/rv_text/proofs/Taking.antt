@@ -5,8 +5,7 @@ use Rattle.std.proofs.Math.ListN.{drop_of_length-le}
 use Rattle.std.proofs.Math.Seq.{take-append_seam, drop-append_seam}
 use Rattle.std.proofs.lemmas.List.Folds.{length-prefix_len}
 use Rattle.rv_text.specs.Tokens.{is_space, IsBlank, IsToken, Takes, IsStuck}
-use Rattle.rv_text.specs.Scan.{body_of}
-use Rattle.rv_text.specs.private.Scan.{token_len}
+use Rattle.rv_text.specs.private.Scan.{body_of, token_len}
 use Rattle.rv_text.proofs.Lexing.{front_passes, token_within, token_found, token_begins, token_len-le, cut_after_ascii, blank_ascii, token_ascii}
 use Rattle.std.specs.Str.{IsUtf8, IsCharBoundary}
 

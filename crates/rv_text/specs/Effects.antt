@@ -10,7 +10,7 @@ use Rattle.rv_source.specs.declared.item.Named.TheVariants.{Unknown}
 use Rattle.rv_text.specs.declared.statement.Place.{Place}
 use Rattle.rv_text.specs.declared.statement.Place.TheVariants as place
 use Rattle.rv_source.specs.NameTable.{meaning, place_of, met}
-use Rattle.rv_text.specs.SoFar.{Begun, SoFar, begin, format_or_sfi1, sandboxes, with_names, with_label, with_gate, with_bodies, with_bytes}
+use Rattle.rv_text.specs.SoFar.{Begun, SoFar, with_sandbox, with_names, with_label, with_gate, with_bodies, with_bytes}
 use Rattle.rv_text.specs.Stated.{Stated, number_of_format, format, sandbox, within, StatedWithin, gate, compressed, data_part, bytes, plain, jump, address}
 
 -- the name may still be given to a label or a gate: it names nothing yet
@@ -72,8 +72,7 @@ GoesOn line s old new =
 abbrev pub Does : ℕ → Stated → SoFar → SoFar → Type 0
 Does line (format number) old new =
     (value : Format) × (number_of_format value ≡ number) × (new ≡ record old { format = Some value })
-Does line (sandbox size) old new =
-    new ≡ record { format = old.format; finished = sandboxes old; begun = Some (begin (format_or_sfi1 old.format) size) }
+Does line (sandbox size) old new = new ≡ with_sandbox size old
 Does line (within what) old new = GoesOn line what old new
 
 -- the sandbox begun last has no room for what is stated within it

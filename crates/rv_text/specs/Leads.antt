@@ -5,7 +5,8 @@ use Rattle.rv_text.specs.declared.cause.TextCause.TheVariants as cause
 use Rattle.rv_text.specs.declared.keyword.Directive.TheVariants as directive
 use Rattle.rv_text.specs.declared.keyword.Keyword.{Keyword}
 use Rattle.rv_text.specs.declared.keyword.Keyword.TheVariants as keyword
-use Rattle.rv_text.specs.Tokens.{IsLabel, Takes, IsBlank}
+use Rattle.rv_text.specs.Tokens.{Takes, IsBlank}
+use Rattle.rv_source.specs.Names.{IsLabel}
 use Rattle.rv_text.specs.Operands.{Unformed}
 use Rattle.rv_text.specs.Keywords.{keyword_name, place_of_keyword}
 use Rattle.rv_text.specs.Lines.{StatesAfter, RefusedWith, NameRefused}

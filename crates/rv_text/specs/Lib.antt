@@ -11,10 +11,6 @@ pub mod Constants
 pub mod Keywords
 pub mod Lines
 pub mod Laws
-pub mod Scan
-pub mod Next
-pub mod Reading
-pub mod Lists
 pub mod SoFar
 pub mod Effects
 pub mod Leads

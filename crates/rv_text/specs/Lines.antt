@@ -12,7 +12,8 @@ use Rattle.rv_text.specs.declared.form.Part.TheVariants.{Number, Comma}
 use Rattle.rv_text.specs.declared.keyword.DataWidth.{DataWidth}
 use Rattle.rv_text.specs.declared.keyword.Keyword.{Keyword}
 use Rattle.rv_text.specs.declared.keyword.Keyword.TheVariants as keyword
-use Rattle.rv_text.specs.Tokens.{IsName, IsNumber, Takes, AreTokens}
+use Rattle.rv_text.specs.Tokens.{IsNumber, Takes, AreTokens}
+use Rattle.rv_source.specs.Names.{IsName}
 use Rattle.rv_text.specs.Mnemonics.{name_of}
 use Rattle.rv_text.specs.Forms.{IsNumberOf}
 use Rattle.rv_text.specs.Operands.{OperandValues, HasForm, Unformed, Missing, Differs, Departs}

@@ -5,8 +5,8 @@ use Rattle.rv_text.specs.declared.cause.TextCause.{TextCause}
 use Rattle.rv_text.specs.declared.cause.TextCause.TheVariants as cause
 use Rattle.rv_text.specs.declared.form.Part.{Part}
 use Rattle.rv_text.specs.declared.form.Part.TheVariants.{Rd, Rs1, Rs2, Number, Name, Mode, Comma, Open, Close}
-use Rattle.rv_text.specs.declared.operands.Operands.{Operands}
-use Rattle.rv_text.specs.Tokens.{IsNumber, IsLabel, is_too_long, Takes, IsBlank, IsStuck}
+use Rattle.rv_text.specs.Tokens.{IsNumber, is_too_long, Takes, IsBlank, IsStuck}
+use Rattle.rv_source.specs.Names.{IsLabel}
 use Rattle.rv_text.specs.Registers.{IsRegister}
 use Rattle.rv_text.specs.Forms.{IsNumberOf}
 
@@ -18,18 +18,6 @@ pub record OperandValues : Type 0 where
   pub number : ℤ
   pub name : List ℕ
   pub compressed : Bool
-
--- those that the code keeps
-abbrev pub values_of : Operands → OperandValues
-values_of o =
-    record {
-      rd = o.rd;
-      rs1 = o.rs1;
-      rs2 = o.rs2;
-      number = o.number;
-      name = o.name.now;
-      compressed = o.compressed;
-    }
 
 -- the words after `.option`
 abbrev pub mode_name : Bool → List ℕ

@@ -57,6 +57,15 @@ last_sandbox (Some b) = b.sandbox ∷ []
 abbrev pub sandboxes : SoFar → List Sandbox
 sandboxes s = s.finished ++ last_sandbox s.begun
 
+-- a sandbox with so many data bytes begins
+abbrev pub with_sandbox : ℕ → SoFar → SoFar
+with_sandbox size s =
+    record {
+      format = s.format;
+      finished = sandboxes s;
+      begun = Some (begin (format_or_sfi1 s.format) size);
+    }
+
 -- the sandbox with these names
 abbrev pub with_names : List (List ℕ × Named) → Begun → Begun
 with_names names b = record b { sandbox = record b.sandbox { names = names } }

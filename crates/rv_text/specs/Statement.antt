@@ -6,7 +6,8 @@ use Rattle.rv_text.specs.declared.cause.TextCause.{TextCause}
 use Rattle.rv_text.specs.declared.cause.TextCause.TheVariants as cause
 use Rattle.rv_text.specs.declared.mnemonic.Mnemonic.{Mnemonic}
 use Rattle.rv_text.specs.declared.mnemonic.Mnemonic.TheVariants as mnemonic
-use Rattle.rv_text.specs.Tokens.{IsName, Takes, IsBlank, AreTokens}
+use Rattle.rv_text.specs.Tokens.{Takes, IsBlank, AreTokens}
+use Rattle.rv_source.specs.Names.{IsName}
 use Rattle.rv_text.specs.Mnemonics.{name_of}
 use Rattle.rv_text.specs.Forms.{form_of}
 use Rattle.rv_text.specs.Operands.{OperandValues, HasForm, Unformed, Missing, Departs}

@@ -1,9 +1,9 @@
 -- The tokens of a line of source. A text is the list of its UTF-8 bytes, and a token is its text.
-use Rattle.std.specs.Prelude.{◌≡◌, ℕ, ◌≤◌, ◌⊎◌, Bool, ◌||◌, ◌==◌, List, [], ◌∷◌, ◌++◌, length, ℤ, pos, negsuc, neg_ℤ, ◌≤ℤ◌, IsTrue, codes, false, ◌&&◌, nat_lt}
+use Rattle.std.specs.Prelude.{◌≡◌, ℕ, ◌≤◌, ◌⊎◌, Bool, ◌||◌, ◌==◌, List, [], ◌∷◌, ◌++◌, length, ℤ, pos, neg_ℤ, IsTrue, codes, ◌&&◌, nat_lt}
 use Rattle.std.specs.List.{AllByRecursion}
-use Rattle.std.specs.Char.{is_ascii_alphabetic, is_ascii_digit}
 use Rattle.std.specs.Str.Parse.{IsNumeral, digits_value}
 use Rattle.sfi_policy.specs.Limits.{name_most}
+use Rattle.rv_source.specs.Names.{IsName, begins_label}
 
 -- space, tab and carriage return stand between tokens
 abbrev pub is_space : ℕ → Bool
@@ -13,29 +13,7 @@ is_space c = (c == 32) || ((c == 9) || (c == 13))
 abbrev pub IsBlank : List ℕ → Type 0
 IsBlank text = AllByRecursion (λ c. IsTrue (is_space c)) text
 
--- a letter, `_` or `.`
-abbrev pub begins_name : ℕ → Bool
-begins_name c = is_ascii_alphabetic c || ((c == 95) || (c == 46))
-
--- the same, or a digit
-abbrev pub continues_name : ℕ → Bool
-continues_name c = begins_name c || is_ascii_digit c
-
--- a letter, `_` or `.`, then letters, digits, `_` and `.`
-abbrev pub IsName : List ℕ → Type 0
-IsName [] = ⊥
-IsName (c ∷ cs) = IsTrue (begins_name c) × AllByRecursion (λ b. IsTrue (continues_name b)) cs
-
--- a letter or `_` stands at the front
-abbrev pub begins_label : List ℕ → Bool
-begins_label [] = false
-begins_label (c ∷ cs) = is_ascii_alphabetic c || (c == 95)
-
--- the name of a label, a gate or a target: a name that begins with no point
-abbrev pub IsLabel : List ℕ → Type 0
-IsLabel text = IsName text × IsTrue (begins_label text)
-
--- it begins as such a name, and has more bytes than a name may have
+-- it begins as the name of a label, and has more bytes than a name may have
 abbrev pub is_too_long : List ℕ → Bool
 is_too_long text = begins_label text && nat_lt name_most (length text)
 
@@ -52,10 +30,6 @@ IsNumber text z =
     ((n : ℕ) × IsMagnitude text n × (z ≡ pos n))
     ⊎ ((n : ℕ) × (digits : List ℕ) × (text ≡ codes "-" ++ digits)
     × IsMagnitude digits n × (z ≡ neg_ℤ (pos n)))
-
--- what 32 bits can hold, with or without a sign (a word of private contracts)
-abbrev pub IsInReach : ℤ → Type 0
-IsInReach z = (negsuc 2147483647 ≤ℤ z) × (z ≤ℤ pos 4294967295)
 
 -- `,`, `:`, `(` or `)`
 abbrev pub is_mark : ℕ → Bool

@@ -4,7 +4,8 @@ ghost use Rattle.rv_word.specs.Numbers.{modulo};
 ghost use Rattle.rv_text.specs.Forms.{IsNumberOf};
 ghost use Rattle.rv_source.specs.Halves.{rounded, upper, lower};
 ghost use Rattle.rv_text.specs.Constants.{constant, data_bytes};
-ghost use Rattle.rv_text.specs.Stated.{stated_within, plain};
+ghost use Rattle.rv_text.specs.Stated.{plain};
+ghost use Rattle.rv_text.specs.private.Stated.{stated_within};
 
 use crate::form::NumberKind;
 use crate::keyword::DataWidth;

@@ -4,8 +4,7 @@ ghost use Rattle.std.specs.Option.{option_map};
 ghost use Rattle.rv_text.specs.declared.cause.TextCause.TheVariants as cause;
 ghost use Rattle.rv_text.specs.Keywords.{data_kind};
 ghost use Rattle.rv_text.specs.Lines.{NumberDeparts, MoreDeparts, ListDeparts};
-ghost use Rattle.rv_text.specs.Lists.{ReadsNumber, ReadsMore, ReadsList};
-ghost use Rattle.rv_text.specs.private.Lists.{ReadsOne, ReadsAnother, MoreDepartsAfter};
+ghost use Rattle.rv_text.specs.private.Lists.{ReadsNumber, ReadsMore, ReadsList, ReadsOne, ReadsAnother, MoreDepartsAfter};
 
 use crate::cause::TextCause;
 use crate::constant::push_number;
@@ -33,8 +32,10 @@ fn read_first(kind: NumberKind, text: &str) -> Result<(i64, &str), TextCause>
 /// Reads the number at the front of the text, whose bytes go after the others, and answers what
 /// follows it.
 fn read_one<'a>(bytes: &mut Vec<u8>, width: DataWidth, text: &'a str) -> Result<&'a str, TextCause>
-    ensures ok { IfOk result (λ rest. ReadsOne width bytes.old.items bytes.new.items text.now rest.now) }
-    ensures cause { IfErr result (λ e. (e ≡ cause.Memory) ⊎ NumberDeparts (data_kind width) text.now e) }
+    ensures ok { IfOk result (λ rest.
+        ReadsOne width bytes.old.items bytes.new.items text.now rest.now) }
+    ensures cause { IfErr result (λ e.
+        (e ≡ cause.Memory) ⊎ NumberDeparts (data_kind width) text.now e) }
 {
     match read_first(width.kind(), text) {
         Ok((number, rest)) => match push_number(bytes, width, number) {
@@ -52,8 +53,10 @@ fn read_another<'a>(
     width: DataWidth,
     text: &'a str,
 ) -> Result<Option<&'a str>, TextCause>
-    ensures ok { IfOk result (λ next. ReadsAnother width bytes.old.items bytes.new.items text.now (option_map (λ rest. rest.now) next)) }
-    ensures cause { IfErr result (λ e. (e ≡ cause.Memory) ⊎ MoreDeparts (data_kind width) text.now e) }
+    ensures ok { IfOk result (λ next.
+        ReadsAnother width bytes.old.items bytes.new.items text.now (option_map (λ rest. rest.now) next)) }
+    ensures cause { IfErr result (λ e.
+        (e ≡ cause.Memory) ⊎ MoreDeparts (data_kind width) text.now e) }
 {
     match next_token(text) {
         Next::End => Ok(None),
@@ -71,7 +74,8 @@ fn read_another<'a>(
 /// Reads the numbers of the text, each after a comma.
 fn read_more(bytes: &mut Vec<u8>, width: DataWidth, text: &str) -> Result<(), TextCause>
     ensures ok { OnOk result (ReadsMore width bytes.old.items bytes.new.items text.now) }
-    ensures cause { IfErr result (λ e. (e ≡ cause.Memory) ⊎ MoreDepartsAfter (data_kind width) text.now e) }
+    ensures cause { IfErr result (λ e.
+        (e ≡ cause.Memory) ⊎ MoreDepartsAfter (data_kind width) text.now e) }
 {
     let mut rest = text;
     loop {
@@ -87,7 +91,8 @@ fn read_more(bytes: &mut Vec<u8>, width: DataWidth, text: &str) -> Result<(), Te
 /// between.
 pub fn read_list(alloc: Global, width: DataWidth, text: &str) -> Result<Vec<u8>, TextCause>
     ensures ok { IfOk result (λ bytes. ReadsList width text.now bytes.items) }
-    ensures cause { IfErr result (λ e. (e ≡ cause.Memory) ⊎ ListDeparts (data_kind width) text.now e) }
+    ensures cause { IfErr result (λ e.
+        (e ≡ cause.Memory) ⊎ ListDeparts (data_kind width) text.now e) }
 {
     let mut bytes = Vec::new(alloc);
     match read_one(&mut bytes, width, text) {

@@ -5,21 +5,16 @@ ghost use Rattle.rv_text.specs.declared.cause.TextCause.TheVariants as cause;
 ghost use Rattle.rv_source.specs.declared.item.Body.TheVariants.{Plain, To, High, Low};
 ghost use Rattle.rv_text.specs.Effects.{IsFree, Fits, with_stated};
 ghost use Rattle.rv_source.specs.NameTable.{place_of, met};
-ghost use Rattle.rv_text.specs.Stated.{stated_within};
+ghost use Rattle.rv_text.specs.private.Draft.{AddsUpTo};
+ghost use Rattle.rv_text.specs.private.Stated.{stated_within};
 ghost use Rattle.rv_text.specs.SoFar.{begin, here, with_names, with_label, with_gate, with_bodies, with_bytes};
 
 use crate::cause::TextCause;
 use crate::statement::SandboxStatement;
 use rv_source::{Body, Item, Named, Names, SourceGate, SourcePart};
-use sfi_policy::Format;
+use sfi_policy::{Format, GATES_MOST, ITEMS_MOST};
 use std::alloc::Global;
 use std::marker::Model;
-
-/// The most gates of a sandbox.
-const MOST_GATES: usize = sfi_policy::GATES_MOST as usize;
-
-/// The most instructions of a sandbox.
-const MOST_ITEMS: usize = sfi_policy::ITEMS_MOST as usize;
 
 /// The sandbox begun last.
 #[derive(Drop)]
@@ -38,12 +33,13 @@ pub struct Draft {
 
 impl Model for Draft {
     ghost use Rattle.std.specs.Prelude.{◌≤◌, ◌<◌, ◌^◌, length};
+    ghost use Rattle.rv_source.specs.Source.{sandbox};
     ghost use Rattle.rv_text.specs.SoFar.{Begun};
 
     ghost Value = { Begun };
 
     ghost view = { λ b. record {
-      sandbox = record { format = b.format; data_size = b.data_size; gates = b.gates.items; names = b.names; items = b.items.items; bytes = b.bytes.items };
+      sandbox = sandbox b.format b.data_size b.gates.items b.names b.items.items b.bytes.items;
       in_data = b.in_data;
       rvc = b.rvc;
       labelled = b.labelled;
@@ -121,10 +117,10 @@ impl Draft {
 
     /// Adds a gate of this service.
     fn gate(&mut self, alloc: Global, name: &str, service: u32) -> Result<(), TextCause>
-        ensures ok { OnOk result ((length self.old.sandbox.gates + 1 ≤ gates_most) × (self.new ≡ with_gate name.now service self.old)) }
-        ensures cause { IfErr result (λ e. (e ≡ cause.Memory) ⊎ ((gates_most < length self.old.sandbox.gates + 1) × (e ≡ cause.Limit))) }
+        ensures { AddsUpTo gates_most (length self.old.sandbox.gates + 1) result self.new
+            (with_gate name.now service self.old) }
     {
-        if self.gates.len() >= MOST_GATES {
+        if self.gates.len() >= GATES_MOST as usize {
             return Err(TextCause::Limit);
         }
         let place = self.names.place_of(name);
@@ -153,8 +149,9 @@ impl Draft {
 
     /// Adds bytes of data.
     fn push_bytes(&mut self, bytes: &[u8]) -> Result<(), TextCause>
-        ensures ok { OnOk result ((length self.old.sandbox.bytes + length bytes.now ≤ self.old.sandbox.data_size) × (self.new ≡ with_bytes bytes.now self.old)) }
-        ensures cause { IfErr result (λ e. (e ≡ cause.Memory) ⊎ ((self.old.sandbox.data_size < length self.old.sandbox.bytes + length bytes.now) × (e ≡ cause.Limit))) }
+        ensures { AddsUpTo self.old.sandbox.data_size
+            (length self.old.sandbox.bytes + length bytes.now) result self.new
+            (with_bytes bytes.now self.old) }
     {
         if bytes.len() > self.data_size as usize - self.bytes.len() {
             return Err(TextCause::Limit);
@@ -165,8 +162,9 @@ impl Draft {
 
     /// Adds bytes of data that are 0.
     fn push_zeros(&mut self, count: u32) -> Result<(), TextCause>
-        ensures ok { OnOk result ((length self.old.sandbox.bytes + count ≤ self.old.sandbox.data_size) × (self.new ≡ with_bytes (replicate count 0) self.old)) }
-        ensures cause { IfErr result (λ e. (e ≡ cause.Memory) ⊎ ((self.old.sandbox.data_size < length self.old.sandbox.bytes + count) × (e ≡ cause.Limit))) }
+        ensures { AddsUpTo self.old.sandbox.data_size
+            (length self.old.sandbox.bytes + count) result self.new
+            (with_bytes (replicate count 0) self.old) }
     {
         if count as usize > self.data_size as usize - self.bytes.len() {
             return Err(TextCause::Limit);
@@ -178,10 +176,10 @@ impl Draft {
 
     /// Adds an instruction of this line.
     fn push(&mut self, line: u32, body: Body) -> Result<(), TextCause>
-        ensures ok { OnOk result ((length self.old.sandbox.items + 1 ≤ items_most) × (self.new ≡ with_bodies line (body ∷ []) self.old)) }
-        ensures cause { IfErr result (λ e. (e ≡ cause.Memory) ⊎ ((items_most < length self.old.sandbox.items + 1) × (e ≡ cause.Limit))) }
+        ensures { AddsUpTo items_most (length self.old.sandbox.items + 1) result self.new
+            (with_bodies line (body ∷ []) self.old) }
     {
-        if self.items.len() >= MOST_ITEMS {
+        if self.items.len() >= ITEMS_MOST as usize {
             return Err(TextCause::Limit);
         }
         self.items.push(Item {
@@ -197,7 +195,8 @@ impl Draft {
 
     /// The place of a name that an instruction goes to, and that is met here.
     fn meet(&mut self, alloc: Global, name: &str) -> Result<usize, TextCause>
-        ensures met { OnOk result (self.new ≡ with_names (met self.old.sandbox.names name.now) self.old) }
+        ensures met { OnOk result
+            (self.new ≡ with_names (met self.old.sandbox.names name.now) self.old) }
         ensures place { IfOk result (λ place. place ≡ place_of self.old.sandbox.names name.now) }
         ensures memory { IfErr result (λ e. e ≡ cause.Memory) }
     {
@@ -206,8 +205,8 @@ impl Draft {
 
     /// Adds two instructions of this line.
     fn push_two(&mut self, line: u32, first: Body, second: Body) -> Result<(), TextCause>
-        ensures ok { OnOk result ((length self.old.sandbox.items + 2 ≤ items_most) × (self.new ≡ with_bodies line (first ∷ second ∷ []) self.old)) }
-        ensures cause { IfErr result (λ e. (e ≡ cause.Memory) ⊎ ((items_most < length self.old.sandbox.items + 2) × (e ≡ cause.Limit))) }
+        ensures { AddsUpTo items_most (length self.old.sandbox.items + 2) result self.new
+            (with_bodies line (first ∷ second ∷ []) self.old) }
     {
         self.push(line, first)?;
         self.push(line, second)
@@ -221,8 +220,10 @@ impl Draft {
         statement: SandboxStatement<'_>,
     ) -> Result<(), TextCause>
         ensures fits { OnOk result (Fits (stated_within statement.entry) self.old) }
-        ensures after { OnOk result (self.new ≡ with_stated line (stated_within statement.entry) self.old) }
-        ensures cause { IfErr result (λ e. (e ≡ cause.Memory) ⊎ ((Fits (stated_within statement.entry) self.old → ⊥) × (e ≡ cause.Limit))) }
+        ensures after { OnOk result
+            (self.new ≡ with_stated line (stated_within statement.entry) self.old) }
+        ensures cause { IfErr result (λ e. (e ≡ cause.Memory)
+            ⊎ ((Fits (stated_within statement.entry) self.old → ⊥) × (e ≡ cause.Limit))) }
     {
         match statement {
             SandboxStatement::Gate { name, service } => self.gate(alloc, name, service),

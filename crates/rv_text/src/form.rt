@@ -6,12 +6,7 @@ ghost use Rattle.rv_source.specs.Source.{IsDataSize};
 
 use crate::mnemonic::Mnemonic;
 use rv_word::ImmOp;
-
-const REGION_LEAST: u64 = sfi_policy::REGION_LEAST as u64;
-
-const DATA_MOST: i64 = sfi_policy::DATA_MOST as i64;
-
-const SERVICE_MOST: i64 = sfi_policy::SERVICE_MOST as i64;
+use sfi_policy::{DATA_MOST, REGION_LEAST, SERVICE_MOST};
 
 /// Which numbers may stand at a place, in bytes where they are offsets.
 #[derive(Clone, Copy)]
@@ -130,7 +125,7 @@ fn is_power_of_two(number: u64) -> bool
 fn is_size(number: u64) -> bool
     ensures { IsTrue result ↔ IsDataSize number }
 {
-    REGION_LEAST <= number && number <= DATA_MOST as u64 && is_power_of_two(number)
+    REGION_LEAST as u64 <= number && number <= DATA_MOST as u64 && is_power_of_two(number)
 }
 
 fn is_data_size(number: i64) -> bool
@@ -155,11 +150,11 @@ impl NumberKind {
             NumberKind::Upper => (0..=1048575).contains(&number),
             NumberKind::FenceFields => (0..=4095).contains(&number),
             NumberKind::DataSize => is_data_size(number),
-            NumberKind::Service => (0..=SERVICE_MOST).contains(&number),
+            NumberKind::Service => (0..=SERVICE_MOST as i64).contains(&number),
             NumberKind::Word => (-2147483648..=4294967295).contains(&number),
             NumberKind::Half => (-32768..=65535).contains(&number),
             NumberKind::Byte => (-128..=255).contains(&number),
-            NumberKind::ZeroCount => (0..=DATA_MOST).contains(&number),
+            NumberKind::ZeroCount => (0..=DATA_MOST as i64).contains(&number),
             NumberKind::FormatNumber => (1..=2).contains(&number),
         }
     }

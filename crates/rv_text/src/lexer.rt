@@ -2,10 +2,10 @@
 ghost use Rattle.std.specs.Prelude.{◌≡◌, ◌≤◌, length, IsTrue};
 ghost use Rattle.std.specs.List.{prefix_len};
 ghost use Rattle.std.specs.Char.{is_ascii_digit, is_ascii_hexdigit};
-ghost use Rattle.rv_text.specs.Tokens.{is_space, begins_name, continues_name, is_mark};
-ghost use Rattle.rv_text.specs.private.Scan.{magnitude_len, token_len, begins_hex};
-ghost use Rattle.rv_text.specs.Scan.{body_of};
-ghost use Rattle.rv_text.specs.Next.{IsNext};
+ghost use Rattle.rv_text.specs.Tokens.{is_space, is_mark};
+ghost use Rattle.rv_source.specs.Names.{begins_name, continues_name};
+ghost use Rattle.rv_text.specs.private.Scan.{magnitude_len, token_len, begins_hex, body_of};
+ghost use Rattle.rv_text.specs.private.Next.{IsNext};
 
 /// What stands at the front of a text.
 #[derive(Clone, Copy)]

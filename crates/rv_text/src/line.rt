@@ -7,7 +7,8 @@ ghost use Rattle.rv_text.specs.Keywords.{branch_form, jal_form, branch_states, j
 ghost use Rattle.rv_text.specs.Operands.{Departs};
 ghost use Rattle.rv_text.specs.Lines.{StatesAfter, InstrDeparts, RefusedWith, NameRefused};
 ghost use Rattle.rv_text.specs.private.Lists.{ReadsRow, ReadsInstr, ReadsAfter};
-ghost use Rattle.rv_text.specs.Stated.{Stated, stated, IsRightStatement};
+ghost use Rattle.rv_text.specs.Stated.{Stated};
+ghost use Rattle.rv_text.specs.private.Stated.{stated, IsRightStatement};
 
 use crate::cause::TextCause;
 use crate::data::read_list;
@@ -69,7 +70,8 @@ fn read_jal<'a>(rest: &'a str) -> Result<Statement<'a>, TextCause>
 }
 
 fn read_pseudo<'a>(name: Pseudo, rest: &'a str) -> Result<Statement<'a>, TextCause>
-    ensures ok { IfOk result (λ s. ReadsRow (pseudo_form name) (pseudo_states name) rest.now (stated s)) }
+    ensures ok { IfOk result (λ s.
+        ReadsRow (pseudo_form name) (pseudo_states name) rest.now (stated s)) }
     ensures cause { IfErr result (λ e. Departs (pseudo_form name) rest.now e) }
 {
     match read_operands(name.form(), rest) {

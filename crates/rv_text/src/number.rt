@@ -1,7 +1,8 @@
 //! Numbers of source: decimal, or hexadecimal after `0x`.
 ghost use Rattle.std.specs.Prelude.{◌≡◌, ◌∷◌, ◌++◌, ◌<◌, ◌≤◌, ◌^◌, ℕ, ℤ, List, codes, MatchOption, IfSome, IfNone};
 ghost use Rattle.std.specs.Str.Parse.{IsNumeral, digits_value};
-ghost use Rattle.rv_text.specs.Tokens.{IsMagnitude, IsNumber, IsInReach};
+ghost use Rattle.rv_text.specs.Tokens.{IsMagnitude, IsNumber};
+ghost use Rattle.rv_text.specs.private.Numbers.{IsInReach};
 
 /// What follows a leading minus.
 fn after_minus(text: &str) -> Option<&str>

@@ -2,11 +2,11 @@
 ghost use Rattle.std.specs.Prelude.{◌≡◌, ◌⊎◌, ◌↔◌, IfOk, IfErr, IsTrue, Ok, Err};
 ghost use Rattle.rv_text.specs.declared.cause.TextCause.{TextCause};
 ghost use Rattle.rv_text.specs.declared.cause.TextCause.TheVariants as cause;
-ghost use Rattle.rv_text.specs.Reading.{FollowsName};
-ghost use Rattle.rv_text.specs.private.Reading.{FollowsToken};
+ghost use Rattle.rv_text.specs.private.Reading.{FollowsName, FollowsToken};
 ghost use Rattle.rv_word.specs.declared.instr.Instr.{Instr};
 ghost use Rattle.rv_word.specs.Spelling.{InRange};
-ghost use Rattle.rv_text.specs.Tokens.{IsName, IsToken};
+ghost use Rattle.rv_text.specs.Tokens.{IsToken};
+ghost use Rattle.rv_source.specs.Names.{IsName};
 ghost use Rattle.rv_text.specs.Statement.{Means, Refused, RefusedAt, IsBareFence, OperandsDepart};
 
 use crate::cause::TextCause;
@@ -30,7 +30,8 @@ fn is_name(token: &str) -> bool
 /// Why a token that is no statement's name is refused in the place of one.
 pub fn name_cause(token: &str) -> TextCause
     requires { IsToken token.now }
-    ensures { (IsName token.now × (result ≡ cause.Word)) ⊎ ((IsName token.now → ⊥) × (result ≡ cause.Operands)) }
+    ensures { (IsName token.now × (result ≡ cause.Word))
+        ⊎ ((IsName token.now → ⊥) × (result ≡ cause.Operands)) }
 {
     if is_name(token) {
         TextCause::Word

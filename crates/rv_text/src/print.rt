@@ -3,7 +3,7 @@ ghost use Rattle.std.specs.Prelude.{◌≡◌, ◌++◌, OnOk, IfOk, string_byte
 ghost use Rattle.std.specs.List.{flat_map};
 ghost use Rattle.rv_word.specs.Spelling.{InRange};
 ghost use Rattle.rv_text.specs.Registers.{x_name};
-ghost use Rattle.rv_text.specs.Operands.{values_of};
+ghost use Rattle.rv_text.specs.private.Operands.{values_of};
 ghost use Rattle.rv_text.specs.Statement.{mnemonic_of, Means};
 ghost use Rattle.rv_text.specs.Printed.{part_text, number_text, printed, statement_text};
 
@@ -58,7 +58,8 @@ fn push_number(out: &mut String, kind: NumberKind, number: i64) -> Result<(), Al
 
 /// Appends one of the operands, or a mark, to the text.
 fn push_part(out: &mut String, o: &Operands, part: Part) -> Result<(), AllocError>
-    ensures { OnOk result (string_bytes out.new ≡ string_bytes out.old ++ part_text (values_of o.now) part) }
+    ensures { OnOk result
+        (string_bytes out.new ≡ string_bytes out.old ++ part_text (values_of o.now) part) }
 {
     match part {
         Part::Rd => push_register(out, o.rd),

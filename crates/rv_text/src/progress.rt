@@ -2,13 +2,14 @@
 ghost use Rattle.std.specs.Prelude.{◌≡◌, ◌⊎◌, ◌↔◌, ◌++◌, List, ℕ, None, Some, IsTrue, IfOk, IfErr, OnOk, MatchOption, codes};
 ghost use Rattle.rv_text.specs.declared.cause.TextCause.TheVariants as cause;
 ghost use Rattle.rv_text.specs.Effects.{Labels, RefusesLabel, MayCome, Does, HasNoRoom};
-ghost use Rattle.rv_text.specs.Leads.{BeginsWithName, IsTaken, BeginsWithLabel, HasNoLabel, PassesLabels, IsGateTwice, LeadsAfter, RestLeads, Leads, LabelRefused, RefusedAfter, StatementRefused, LineRefused};
-ghost use Rattle.rv_text.specs.SoFar.{begin, format_or_sfi1, nothing, sandboxes};
-ghost use Rattle.rv_text.specs.Stated.{stated};
-ghost use Rattle.rv_text.specs.private.Stated.{place_of_stated};
+ghost use Rattle.rv_text.specs.Leads.{BeginsWithName, IsTaken, IsGateTwice, LeadsAfter, Leads, LabelRefused, RefusedAfter, RefusedFrom, LineRefused};
+ghost use Rattle.rv_text.specs.private.Leads.{IsFront, PassesTo, LeadsFrom};
+ghost use Rattle.rv_text.specs.SoFar.{format_or_sfi1, nothing, with_sandbox};
+ghost use Rattle.rv_text.specs.private.Stated.{stated, place_of_stated};
 ghost use Rattle.rv_text.specs.Texts.{LeadsFromNothing, MeansSource, IsFault};
 ghost use Rattle.rv_text.specs.Causes.{memory};
-ghost use Rattle.rv_text.specs.Tokens.{Takes};
+ghost use Rattle.rv_source.specs.Names.{IsLabel};
+ghost use Rattle.rv_text.specs.Tokens.{IsToken, Takes};
 
 use crate::cause::TextCause;
 use crate::draft::Draft;
@@ -17,10 +18,10 @@ use crate::keyword::{Directive, Keyword};
 use crate::laws::sources_are_right;
 use crate::lexer::{Next, body, next_token};
 use crate::line::{read_keyword, read_statement};
-use crate::read::{MOST_NAME, is_label};
+use crate::read::is_label;
 use crate::statement::{Place, Statement};
 use rv_source::{Source, SourcePart};
-use sfi_policy::Format;
+use sfi_policy::{Format, NAME_MOST};
 use std::alloc::Global;
 use std::marker::Model;
 
@@ -37,19 +38,22 @@ impl Model for Progress {
 
     ghost Value = { SoFar };
 
-    ghost view = { λ p. record { format = p.format; finished = p.finished.items; begun = p.begun } };
+    ghost view = { λ p.
+        record { format = p.format; finished = p.finished.items; begun = p.begun } };
 }
 
 /// What follows a colon that a text begins with.
 fn without_colon(text: &str) -> Option<&str>
-    ensures { MatchOption result ((rest : List ℕ) → text.now ≡ codes ":" ++ rest → ⊥) (λ rest. text.now ≡ codes ":" ++ rest.now) }
+    ensures { MatchOption result ((rest : List ℕ) → text.now ≡ codes ":" ++ rest → ⊥)
+        (λ rest. text.now ≡ codes ":" ++ rest.now) }
 {
     text.strip_prefix(':')
 }
 
 /// What follows a colon that is the first token of a text.
 fn after_colon(text: &str) -> Option<&str>
-    ensures { MatchOption result ((rest : List ℕ) → Takes text.now (codes ":") rest → ⊥) (λ rest. Takes text.now (codes ":") rest.now) }
+    ensures { MatchOption result ((rest : List ℕ) → Takes text.now (codes ":") rest → ⊥)
+        (λ rest. Takes text.now (codes ":") rest.now) }
 {
     without_colon(body(text))
 }
@@ -72,16 +76,41 @@ fn label_name(text: &str) -> Option<(&str, &str)>
     }
 }
 
-/// The label at the front of a text: its name, and what follows its colon.
-fn label_of(text: &str) -> Option<(&str, &str)>
-    ensures { MatchOption result (HasNoLabel text.now) (λ x. BeginsWithLabel text.now x.0.now x.1.now) }
+/// What follows the colon of a label, where this token and what follows it begin with one.
+fn after_label<'a>(token: &str, after: &'a str) -> Option<&'a str>
+    requires { IsToken token.now }
+    ensures { MatchOption result
+        ((rest : List ℕ) → IsLabel token.now → Takes after.now (codes ":") rest → ⊥)
+        (λ rest. IsLabel token.now × Takes after.now (codes ":") rest.now) }
 {
-    match label_name(text) {
-        Some((name, after)) => match after_colon(after) {
-            Some(rest) => Some((name, rest)),
-            None => None,
+    if is_label(token) {
+        after_colon(after)
+    } else {
+        None
+    }
+}
+
+/// What a line, or what is left of it, begins with.
+#[derive(Clone, Copy)]
+enum Front<'a> {
+    /// A label: its name, and what follows its colon.
+    Label(&'a str, &'a str),
+    /// Something else.
+    Other(Next<'a>),
+}
+
+/// What stands at the front of a text.
+fn front_of(text: &str) -> Front<'_>
+    ensures { IsFront text.now result }
+{
+    let next = next_token(text);
+    match next {
+        Next::Token(name, after) => match after_label(name, after) {
+            Some(rest) => Front::Label(name, rest),
+            None => Front::Other(next),
         },
-        None => None,
+        Next::End => Front::Other(next),
+        Next::Stuck => Front::Other(next),
     }
 }
 
@@ -130,7 +159,7 @@ impl Progress {
         match &mut self.begun {
             None => Err(TextCause::Directive),
             Some(draft) => {
-                if name.len() > MOST_NAME {
+                if name.len() > NAME_MOST as usize {
                     Err(TextCause::Limit)
                 } else if draft.is_free(name) {
                     draft.label(alloc, name)
@@ -141,19 +170,21 @@ impl Progress {
         }
     }
 
-    /// Puts the labels at the front of a line, and gives the text after them.
-    fn labels<'a>(&mut self, alloc: Global, line: &'a str) -> Result<&'a str, TextCause>
-        ensures passes { IfOk result (λ rest. PassesLabels self.old line.now self.new rest.now) }
+    /// Puts the labels at the front of a line, and gives what stands after them.
+    fn labels<'a>(&mut self, alloc: Global, line: &'a str) -> Result<Next<'a>, TextCause>
+        ensures passes { IfOk result (λ next. PassesTo self.old line.now self.new next) }
         ensures cause { IfErr result (λ e. (e ≡ cause.Memory) ⊎ LabelRefused self.old line.now e) }
     {
         let mut text = line;
-        while let Some((name, rest)) = label_of(text) {
-            match self.label(alloc, name) {
-                Ok(()) => text = rest,
-                Err(e) => return Err(e),
+        loop {
+            match front_of(text) {
+                Front::Label(name, rest) => match self.label(alloc, name) {
+                    Ok(()) => text = rest,
+                    Err(e) => return Err(e),
+                },
+                Front::Other(next) => return Ok(next),
             }
         }
-        Ok(text)
     }
 
     /// Whether it is a gate whose name, after this keyword, is there already.
@@ -178,7 +209,7 @@ impl Progress {
 
     /// Begins a sandbox after those so far.
     fn begin(&mut self, alloc: Global, data_size: u32) -> Result<(), TextCause>
-        ensures begins { OnOk result (self.new ≡ record { format = self.old.format; finished = sandboxes self.old; begun = Some (begin (format_or_sfi1 self.old.format) data_size) }) }
+        ensures begins { OnOk result (self.new ≡ with_sandbox data_size self.old) }
         ensures memory { IfErr result (λ e. e ≡ cause.Memory) }
     {
         if let Some(draft) = self.begun.take() {
@@ -192,7 +223,8 @@ impl Progress {
     fn state(&mut self, alloc: Global, line: u32, statement: Statement<'_>) -> Result<(), TextCause>
         requires { MayCome (place_of_stated (stated statement)) self.old }
         ensures does { OnOk result (Does line (stated statement.entry) self.old self.new) }
-        ensures cause { IfErr result (λ e. (e ≡ cause.Memory) ⊎ (HasNoRoom (stated statement.entry) self.old × (e ≡ cause.Limit))) }
+        ensures cause { IfErr result (λ e. (e ≡ cause.Memory)
+            ⊎ (HasNoRoom (stated statement.entry) self.old × (e ≡ cause.Limit))) }
     {
         match statement {
             Statement::Format(format) => {
@@ -216,7 +248,8 @@ impl Progress {
         text: &str,
     ) -> Result<(), TextCause>
         ensures leads { OnOk result (LeadsAfter keyword line self.old text.now self.new) }
-        ensures cause { IfErr result (λ e. (e ≡ cause.Memory) ⊎ RefusedAfter keyword self.old text.now e) }
+        ensures cause { IfErr result (λ e.
+            (e ≡ cause.Memory) ⊎ RefusedAfter keyword self.old text.now e) }
     {
         if !self.may_come(keyword.place()) {
             return Err(TextCause::Directive);
@@ -228,19 +261,21 @@ impl Progress {
         self.state(alloc, line, statement)
     }
 
-    /// Does what the text after a line's labels states.
-    fn statement(&mut self, alloc: Global, line: u32, text: &str) -> Result<(), TextCause>
-        ensures leads { OnOk result (RestLeads line self.old text.now self.new) }
-        ensures cause { IfErr result (λ e. (e ≡ cause.Memory) ⊎ StatementRefused self.old text.now e) }
+    /// Does what a statement with this first token and this rest states.
+    fn statement(
+        &mut self,
+        alloc: Global,
+        line: u32,
+        token: &str,
+        rest: &str,
+    ) -> Result<(), TextCause>
+        requires { IsToken token.now }
+        ensures leads { OnOk result (LeadsFrom line token.now rest.now self.old self.new) }
+        ensures cause { IfErr result (λ e.
+            (e ≡ cause.Memory) ⊎ RefusedFrom self.old token.now rest.now e) }
     {
-        match next_token(text) {
-            Next::End => Ok(()),
-            Next::Stuck => Err(TextCause::Word),
-            Next::Token(token, rest) => {
-                let keyword = read_keyword(token)?;
-                self.after_keyword(alloc, line, keyword, rest)
-            }
-        }
+        let keyword = read_keyword(token)?;
+        self.after_keyword(alloc, line, keyword, rest)
     }
 
     /// Goes on by a line, which has no comment.
@@ -248,8 +283,11 @@ impl Progress {
         ensures leads { OnOk result (Leads line self.old text.now self.new) }
         ensures cause { IfErr result (λ e. (e ≡ cause.Memory) ⊎ LineRefused self.old text.now e) }
     {
-        let rest = self.labels(alloc, text)?;
-        self.statement(alloc, line, rest)
+        match self.labels(alloc, text)? {
+            Next::End => Ok(()),
+            Next::Stuck => Err(TextCause::Word),
+            Next::Token(token, rest) => self.statement(alloc, line, token, rest),
+        }
     }
 
     /// The source after the last line of a text, whose lines lead to it from nothing.

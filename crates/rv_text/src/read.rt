@@ -3,12 +3,13 @@ ghost use Rattle.std.specs.Prelude.{◌≡◌, ◌≤◌, ◌↔◌, IfOk, OnOk,
 ghost use Rattle.sfi_policy.specs.Limits.{name_most};
 ghost use Rattle.rv_text.specs.declared.cause.TextCause.{TextCause};
 ghost use Rattle.rv_text.specs.declared.cause.TextCause.TheVariants as cause;
-ghost use Rattle.rv_text.specs.Tokens.{IsNumber, IsLabel, IsToken, begins_label, is_too_long};
+ghost use Rattle.rv_text.specs.Tokens.{IsNumber, IsToken, is_too_long};
+ghost use Rattle.rv_source.specs.Names.{IsLabel, begins_label};
 ghost use Rattle.rv_text.specs.Registers.{IsRegister};
 ghost use Rattle.rv_text.specs.Forms.{IsNumberOf};
-ghost use Rattle.rv_text.specs.Operands.{OperandValues, values_of, Stands, Departs, part_cause, label_cause, mode_name};
-ghost use Rattle.rv_text.specs.Reading.{Reads, SameAt, has_no_repeat, is_fresh};
-ghost use Rattle.rv_text.specs.private.Reading.{KeepsOthers};
+ghost use Rattle.rv_text.specs.Operands.{OperandValues, Stands, Departs, part_cause, label_cause, mode_name};
+ghost use Rattle.rv_text.specs.private.Operands.{values_of};
+ghost use Rattle.rv_text.specs.private.Reading.{Reads, SameAt, has_no_repeat, is_fresh, KeepsOthers};
 
 use crate::cause::TextCause;
 use crate::form::{NumberKind, Part};
@@ -17,9 +18,7 @@ use crate::number::number;
 use crate::operands::Operands;
 use crate::register::register;
 use rv_word::Reg;
-
-/// The most bytes of a name.
-pub const MOST_NAME: usize = sfi_policy::NAME_MOST as usize;
+use sfi_policy::NAME_MOST;
 
 /// The register that the token names.
 fn read_register(token: &str) -> Result<Reg, TextCause>
@@ -86,13 +85,14 @@ pub fn is_label(token: &str) -> bool
 fn is_too_long(token: &str) -> bool
     ensures { result ≡ is_too_long token.now }
 {
-    begins_label(token) && token.len() > MOST_NAME
+    begins_label(token) && token.len() > NAME_MOST as usize
 }
 
 /// The name that the token is: one that a label, a gate or a target may have.
 fn read_label(token: &str) -> Result<&str, TextCause>
     requires { IsToken token.now }
-    ensures ok { IfOk result (λ name. IsLabel name.now × (length name.now ≤ name_most) × (name.now ≡ token.now)) }
+    ensures ok { IfOk result (λ name.
+        IsLabel name.now × (length name.now ≤ name_most) × (name.now ≡ token.now)) }
     ensures err { OnErr result (IsLabel token.now → length token.now ≤ name_most → ⊥) }
     ensures cause { IfErr result (λ e. e ≡ label_cause token.now) }
 {

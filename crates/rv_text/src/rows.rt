@@ -3,10 +3,11 @@ ghost use Rattle.std.specs.Prelude.{◌≡◌, pos, unsigned_abs};
 ghost use Rattle.rv_word.specs.declared.instr.Instr.TheVariants as instr;
 ghost use Rattle.rv_word.specs.declared.instr.ImmOp.TheVariants.{Addi};
 ghost use Rattle.rv_text.specs.Forms.{IsNumberOf};
-ghost use Rattle.rv_text.specs.Operands.{values_of};
-ghost use Rattle.rv_text.specs.Reading.{AllSuit};
+ghost use Rattle.rv_text.specs.private.Operands.{values_of};
+ghost use Rattle.rv_text.specs.private.Reading.{AllSuit};
 ghost use Rattle.rv_text.specs.Keywords.{directive_form, directive_states, pseudo_form, pseudo_states};
-ghost use Rattle.rv_text.specs.Stated.{stated, number_of_format, within, jump};
+ghost use Rattle.rv_text.specs.Stated.{number_of_format, within, jump};
+ghost use Rattle.rv_text.specs.private.Stated.{stated};
 
 use crate::constant::constant;
 use crate::form::NumberKind;

@@ -29,14 +29,16 @@ fn uncommented(line: &str) -> &str
 
 /// The first line of a text and what follows its line feed; `None` where it has none.
 fn first_line(text: &str) -> Option<(&str, &str)>
-    ensures { MatchOption result (lines text.now ≡ text.now ∷ []) (λ x. BeginsWithLine text.now x.0.now x.1.now) }
+    ensures { MatchOption result (lines text.now ≡ text.now ∷ [])
+        (λ x. BeginsWithLine text.now x.0.now x.1.now) }
 {
     text.split_once('\n')
 }
 
 /// The fault of a line that is refused for this cause.
 fn fault_at(line: u32, cause: TextCause) -> TextFault
-    ensures { ((cause ≡ causes.Memory) × (result ≡ memory)) ⊎ ((cause ≡ causes.Memory → ⊥) × (result.cause ≡ cause) × (result.line ≡ line)) }
+    ensures { ((cause ≡ causes.Memory) × (result ≡ memory))
+        ⊎ ((cause ≡ causes.Memory → ⊥) × (result.cause ≡ cause) × (result.line ≡ line)) }
 {
     match cause {
         TextCause::Memory => TextFault { line: 0, cause },
@@ -68,9 +70,10 @@ fn read_line(
 
 /// Goes on by the lines of a text.
 fn read_lines(progress: &mut Progress, alloc: Global, text: &str) -> Result<(), TextFault>
-    requires { length text.now ≤ 1048576 }
+    requires { length text.now ≤ most_bytes }
     ensures lead { OnOk result (LinesLead 1 progress.old (lines text.now) progress.new) }
-    ensures fault { IfErr result (λ f. (f ≡ memory) ⊎ FirstRefused 1 progress.old (lines text.now) f) }
+    ensures fault { IfErr result (λ f.
+        (f ≡ memory) ⊎ FirstRefused 1 progress.old (lines text.now) f) }
 {
     let mut rest = text;
     let mut number = 1;

@@ -1,22 +1,38 @@
--- Words of private contracts and proofs, beside those of Lists.antt.
-use Rattle.std.specs.Prelude.{◌≡◌, ℕ, List, [], ◌∷◌, ◌++◌, ℤ, Option, None, Some, codes}
-use Rattle.rv_text.specs.declared.cause.TextCause.{TextCause}
+-- How a list of data, and what a keyword states, is read off its text.
+use Rattle.std.specs.Prelude.{◌≡◌, ℕ, List, [], ◌++◌, ℤ, ◌∷◌, Option, None, Some, codes}
+use Rattle.std.specs.List.{flat_map}
 use Rattle.rv_text.specs.declared.form.NumberKind.{NumberKind}
-use Rattle.rv_text.specs.declared.form.Part.{Part}
 use Rattle.rv_text.specs.declared.keyword.DataWidth.{DataWidth}
-use Rattle.rv_text.specs.declared.keyword.Keyword.{Keyword}
-use Rattle.rv_text.specs.declared.keyword.Keyword.TheVariants as keyword
-use Rattle.rv_text.specs.declared.mnemonic.Mnemonic.{Mnemonic}
-use Rattle.rv_text.specs.declared.mnemonic.Mnemonic.TheVariants as mnemonic
-use Rattle.rv_word.specs.declared.instr.Instr.{Instr}
 use Rattle.rv_text.specs.Tokens.{Takes, IsBlank}
-use Rattle.rv_text.specs.Keywords.{directive_form, directive_states, pseudo_form, pseudo_states, branch_form, branch_states, jal_form, jal_states, data_kind}
+use Rattle.rv_text.specs.Keywords.{data_kind, directive_form, directive_states, pseudo_form, pseudo_states, branch_form, branch_states, jal_form, jal_states}
 use Rattle.rv_text.specs.Constants.{data_bytes}
-use Rattle.rv_text.specs.Lines.{LeadsByMore, MoreDeparts}
+use Rattle.rv_text.specs.Lines.{Writes, LeadsByMore, MoreDeparts}
+use Rattle.rv_text.specs.declared.cause.TextCause.{TextCause}
+use Rattle.rv_text.specs.declared.form.Part.{Part}
+use Rattle.rv_text.specs.declared.keyword.Keyword.{Keyword}
+use Rattle.rv_text.specs.declared.mnemonic.Mnemonic.{Mnemonic}
+use Rattle.rv_word.specs.declared.instr.Instr.{Instr}
 use Rattle.rv_text.specs.Operands.{OperandValues}
-use Rattle.rv_text.specs.Reading.{Reads, FollowsName}
+use Rattle.rv_text.specs.private.Reading.{Reads, FollowsName}
 use Rattle.rv_text.specs.Stated.{Stated, within, bytes, plain}
-use Rattle.rv_text.specs.Lists.{ReadsList, ReadsNumber}
+use Rattle.rv_text.specs.declared.keyword.Keyword.TheVariants as keyword
+use Rattle.rv_text.specs.declared.mnemonic.Mnemonic.TheVariants as mnemonic
+
+-- the text's first token writes this number, and this follows
+abbrev pub ReadsNumber : NumberKind → List ℕ → ℤ → List ℕ → Type 0
+ReadsNumber kind text z rest = (token : List ℕ) × Takes text token rest × Writes kind token z
+
+-- the text's numbers, each after a comma, and their bytes after the others
+abbrev pub ReadsMore : DataWidth → List ℕ → List ℕ → List ℕ → Type 0
+ReadsMore width old new text =
+    (numbers : List ℤ) × (last : List ℕ) × LeadsByMore (data_kind width) numbers text last
+    × IsBlank last × (new ≡ old ++ flat_map (data_bytes width) numbers)
+
+-- the text is a list of numbers with these bytes
+abbrev pub ReadsList : DataWidth → List ℕ → List ℕ → Type 0
+ReadsList width text values =
+    (z : ℤ) × (rest : List ℕ) × ReadsNumber (data_kind width) text z rest
+    × ReadsMore width (data_bytes width z) values rest
 
 -- the text's first token writes a number, whose bytes stand after the others, and this follows
 abbrev pub ReadsOne : DataWidth → List ℕ → List ℕ → List ℕ → List ℕ → Type 0

@@ -1,8 +1,13 @@
--- Words of private contracts and proofs, beside those of Scan.antt.
-use Rattle.std.specs.Prelude.{ℕ, ◌+◌, Bool, ◌&&◌, ◌==◌, List, [], ◌∷◌, drop, slice_index, if◌then◌else◌}
+-- How long the token at the front of a text is.
+use Rattle.std.specs.Prelude.{ℕ, List, [], drop, ◌+◌, Bool, ◌&&◌, ◌==◌, ◌∷◌, slice_index, if◌then◌else◌}
 use Rattle.std.specs.List.{prefix_len}
+use Rattle.rv_text.specs.Tokens.{is_space, is_mark}
 use Rattle.std.specs.Char.{is_ascii_digit, is_ascii_hexdigit}
-use Rattle.rv_text.specs.Tokens.{begins_name, continues_name, is_mark}
+use Rattle.rv_source.specs.Names.{begins_name, continues_name}
+
+-- the text after its leading spaces
+unfoldable pub body_of : List ℕ → List ℕ
+body_of text = drop (prefix_len is_space text) text
 
 -- `0x` and a hexadecimal digit stand there
 abbrev pub begins_hex : List ℕ → Bool

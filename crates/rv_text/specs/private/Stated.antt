@@ -1,10 +1,51 @@
--- Words of private contracts and proofs, beside those of Stated.antt.
-use Rattle.std.specs.Prelude.{ℕ, []}
+-- What the code's statements state, where they may come, and what holds of them.
+use Rattle.std.specs.Prelude.{◌<◌, ◌≤◌, length, ℕ, List, [], ◌∷◌, replicate}
+use Rattle.std.specs.List.{All}
+use Rattle.sfi_policy.specs.Limits.{service_most}
+use Rattle.rv_word.specs.Spelling.{IsReg, InRange}
+use Rattle.rv_source.specs.Names.{IsShortLabel}
+use Rattle.rv_source.specs.Source.{IsDataSize, IsStraight, IsOpen}
+use Rattle.rv_text.specs.declared.statement.Statement.{Statement}
 use Rattle.rv_text.specs.declared.statement.Statement.TheVariants as statement
+use Rattle.rv_text.specs.declared.statement.SandboxStatement.{SandboxStatement}
 use Rattle.rv_text.specs.declared.statement.SandboxStatement.TheVariants as within_sandbox
 use Rattle.rv_text.specs.declared.statement.Place.{Place}
 use Rattle.rv_text.specs.declared.statement.Place.TheVariants as place
-use Rattle.rv_text.specs.Stated.{Stated, StatedWithin, address, bytes, compressed, data_part, format, gate, jump, plain, sandbox, within}
+use Rattle.rv_text.specs.Stated.{Stated, StatedWithin, number_of_format, address, bytes, compressed, data_part, format, gate, jump, plain, sandbox, within}
+
+-- what a statement within a sandbox states
+abbrev pub stated_within : SandboxStatement → StatedWithin
+stated_within (within_sandbox.Gate name service) = gate name.now service
+stated_within (within_sandbox.Compressed rvc) = compressed rvc
+stated_within within_sandbox.Data = data_part
+stated_within (within_sandbox.Bytes values) = bytes values.items
+stated_within (within_sandbox.Zeros count) = bytes (replicate count 0)
+stated_within (within_sandbox.One i) = plain (i ∷ [])
+stated_within (within_sandbox.Two i j) = plain (i ∷ j ∷ [])
+stated_within (within_sandbox.Jump i name) = jump i name.now
+stated_within (within_sandbox.Address rd name) = address rd name.now
+
+-- what a statement states
+abbrev pub stated : Statement → Stated
+stated (statement.Format value) = format (number_of_format value)
+stated (statement.Sandbox size) = sandbox size
+stated (statement.Within what) = within (stated_within what)
+
+-- each number, name and instruction is in range; a jump or a branch by name has offset 0, and none stands among the others
+abbrev pub IsRightWithin : StatedWithin → Type 0
+IsRightWithin (gate name service) = IsShortLabel name × (service ≤ service_most)
+IsRightWithin (compressed rvc) = Unit {0}
+IsRightWithin data_part = Unit {0}
+IsRightWithin (bytes values) = All (λ b. b < 256) values
+IsRightWithin (plain instrs) = (1 ≤ length instrs) × All (λ i. InRange i × IsStraight i) instrs
+IsRightWithin (jump i name) = InRange i × IsOpen i × IsShortLabel name
+IsRightWithin (address rd name) = IsReg rd × IsShortLabel name
+
+-- a format has the number, and a sandbox begins with a number of data bytes that it may have
+abbrev pub IsRightStatement : Stated → Type 0
+IsRightStatement (format number) = (1 ≤ number) × (number ≤ 2)
+IsRightStatement (sandbox size) = IsDataSize size
+IsRightStatement (within what) = IsRightWithin what
 
 -- where each statement within a sandbox may come
 abbrev pub place_within : StatedWithin → Place

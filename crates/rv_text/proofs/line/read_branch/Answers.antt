@@ -1,6 +1,6 @@
 use Rattle.std.proofs.Common.{subst}
-use Rattle.rv_text.specs.Operands.{values_of}
-use Rattle.rv_text.specs.Reading.{Reads}
+use Rattle.rv_text.specs.private.Operands.{values_of}
+use Rattle.rv_text.specs.private.Reading.{Reads}
 use Rattle.rv_text.proofs.line.read_branch.Goals as goal
 
 pub returns-in-Ok-clause-ok : goal.returns-in-Ok-clause-ok

@@ -1,7 +1,7 @@
 use Rattle.std.proofs.Common.{subst}
 use Rattle.rv_text.specs.Forms.{form_of}
-use Rattle.rv_text.specs.Operands.{values_of}
-use Rattle.rv_text.specs.Reading.{Reads}
+use Rattle.rv_text.specs.private.Operands.{values_of}
+use Rattle.rv_text.specs.private.Reading.{Reads}
 use Rattle.rv_text.proofs.Meaning.{follows}
 use Rattle.rv_text.proofs.parse.after_name.Goals as goal
 

@@ -1,7 +1,7 @@
 use Rattle.std.proofs.Common.{◌≡◌, ◌++◌, take}
 use Rattle.std.specs.Prelude.{string_bytes}
 use Rattle.std.specs.List.{flat_map}
-use Rattle.rv_text.specs.Operands.{values_of}
+use Rattle.rv_text.specs.private.Operands.{values_of}
 use Rattle.rv_text.specs.Printed.{part_text}
 use Rattle.rv_text.proofs.print.push_operands.Given as goal
 

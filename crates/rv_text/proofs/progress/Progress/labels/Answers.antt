@@ -4,13 +4,13 @@ use Rattle.rv_text.proofs.progress.Progress.labels.Goals as goal
 
 pub returns-in-Err-clause-cause : goal.returns-in-Err-clause-cause
 returns-in-Err-clause-cause c =
-    refused_label _ _ _ _ _ _ _ _ c.loop-name.invariant.1.1 c.in-Some.ensures c.in-Err.ensures.cause
+    refused_label _ _ _ _ _ _ _ _ c.loop-name.invariant.1.1 c.in-Label.ensures c.in-Err.ensures.cause
 
 pub loop-name-preserved : goal.loop-name-preserved
 loop-name-preserved c = (
   search rules,
   (
-    c.loop-name.invariant.1.0 ++ c.in-Some.name.now ∷ [],
-    one_more _ _ _ _ _ _ _ _ c.loop-name.invariant.1.1 c.in-Some.ensures c.in-Ok.ensures.labels,
+    c.loop-name.invariant.1.0 ++ c.in-Label.name.now ∷ [],
+    one_more _ _ _ _ _ _ _ _ c.loop-name.invariant.1.1 c.in-Label.ensures c.in-Ok.ensures.labels,
   ),
 )

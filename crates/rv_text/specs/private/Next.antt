@@ -1,4 +1,4 @@
--- Words of private contracts: what the lexer's answer says of the front of a text.
+-- What the lexer's answer says of the front of a text.
 use Rattle.std.specs.Prelude.{ℕ, List}
 use Rattle.rv_text.specs.declared.lexer.Next.{Next}
 use Rattle.rv_text.specs.declared.lexer.Next.TheVariants.{Token, End, Stuck}
