@@ -14,14 +14,14 @@ ghost use Rattle.sfi_policy.specs.Limits.{bundle_size};
 ghost use Rattle.sfi_policy.specs.Registers.{is_reserved};
 ghost use Rattle.sfi_scan.specs.Pairs.{follows_pair, follows_code_pair};
 ghost use Rattle.sfi_scan.specs.Rules.{is_last_bundle, may_access};
-ghost use Rattle.sfi_scan.specs.private.FirstLook.{half_at, word_at, AreWordsFrom, AreBefore, is_zero, is_withheld, is_clean, IsCleanOne, IsStackWrite, AreStackPair};
+ghost use Rattle.sfi_scan.specs.private.FirstLook.{half_at, word_at, AreWordsFrom, AreBefore, is_zero, is_protected, is_clean, is_clean_access, IsCleanOne, IsStackWrite, AreStackPair};
 
 use crate::before::{CODE, DATA, Pair, may_be_target};
 use crate::bundle::BundlePlace;
 use crate::computing::is_free_half;
 use crate::rules::{STACK, is_bundle_start, is_last_bundle, offset_by};
 use rv_comp::outline16;
-use rv_word::{Outline, Reg, RegOp, computes32, op_word, outline32};
+use rv_word::{Access, Outline, Reg, RegOp, access32, computes32, op_word, outline32};
 use sfi_policy::{BUNDLE_BYTES, is_reserved};
 
 /// The words of the two instructions directly before a place in its bundle. 0 stands for a 16-bit form, and where there
@@ -107,8 +107,8 @@ impl Words {
 
 /// Whether nothing that this look lets pass writes the register.
 #[inline(always)]
-fn is_withheld(stack: bool, reg: Reg) -> bool
-    ensures { (b : BundlePlace) → stack ≡ has_stack b.format → result ≡ is_withheld b reg }
+fn is_protected(stack: bool, reg: Reg) -> bool
+    ensures { (b : BundlePlace) → stack ≡ has_stack b.format → result ≡ is_protected b reg }
 {
     is_reserved(reg) || (stack && reg.number() == STACK)
 }
@@ -119,6 +119,14 @@ fn may_access(stack: bool, words: Words, base: Reg) -> bool
     ensures { (b : BundlePlace) (earlier : List Instr) → stack ≡ has_stack b.format → AreBefore words (near earlier) → OnTrue result (may_access b base earlier ≡ true) }
 {
     (stack && base.number() == STACK) || words.is_pair(DATA, base)
+}
+
+/// Whether a load or store with these registers breaks no rule there.
+#[inline(always)]
+fn is_clean_access(stack: bool, words: Words, access: Access) -> bool
+    ensures { (b : BundlePlace) (earlier : List Instr) → stack ≡ has_stack b.format → AreBefore words (near earlier) → OnTrue result (is_clean_access b access earlier ≡ true) }
+{
+    !is_protected(stack, access.written) && may_access(stack, words, access.base)
 }
 
 /// Whether an indirect jump breaks no rule there.
@@ -132,12 +140,12 @@ fn is_clean_jump(
     imm: i32,
 ) -> bool
     requires { stack ≡ has_stack place.now.format }
-    ensures { (earlier : List Instr) → AreBefore words (near earlier) → OnTrue result ((not (is_withheld place.now rd) && (is_zero imm && follows_code_pair base earlier)) ≡ true) }
+    ensures { (earlier : List Instr) → AreBefore words (near earlier) → OnTrue result ((not (is_protected place.now rd) && (is_zero imm && follows_code_pair base earlier)) ≡ true) }
 {
     if imm != 0 {
         return false;
     }
-    if is_withheld(stack, rd) {
+    if is_protected(stack, rd) {
         return false;
     }
     words.is_pair(CODE, base)
@@ -151,12 +159,12 @@ fn is_clean(place: &BundlePlace, stack: bool, address: u32, words: Words, outlin
     ensures { (earlier : List Instr) → AreBefore words (near earlier) → OnTrue result (is_clean place.now address earlier outline ≡ true) }
 {
     match outline {
-        Outline::Computes { rd } => !is_withheld(stack, rd),
-        Outline::Loads { rd, base } => !is_withheld(stack, rd) && may_access(stack, words, base),
+        Outline::Computes { rd } => !is_protected(stack, rd),
+        Outline::Loads { rd, base } => !is_protected(stack, rd) && may_access(stack, words, base),
         Outline::Stores { base } => may_access(stack, words, base),
         Outline::Branches { offset } => is_bundle_start(place, offset_by(address, offset)),
         Outline::Jumps { rd, offset } => {
-            !is_withheld(stack, rd) && is_bundle_start(place, offset_by(address, offset))
+            !is_protected(stack, rd) && is_bundle_start(place, offset_by(address, offset))
         }
         Outline::JumpsTo { rd, base, imm } => is_clean_jump(place, stack, words, rd, base, imm),
         Outline::Orders | Outline::Stops => true,
@@ -192,7 +200,33 @@ fn is_clean_half(
     }
 }
 
-/// Whether the word at this place of the bundle is an instruction that breaks no rule there.
+/// Whether the word at this place of the bundle has an outline that breaks no rule there.
+#[inline(always)]
+fn is_clean_other(
+    place: &BundlePlace,
+    stack: bool,
+    bytes: &[u8; BUNDLE_BYTES],
+    at: usize,
+    from: usize,
+    word: u32,
+) -> bool
+    requires within { IsWithin place.now }
+    requires stack { stack ≡ has_stack place.now.format }
+    requires order { from ≤ at }
+    requires end { at < bundle_size }
+    ensures { OnTrue result (IsCleanOne place.now (place.now.address + at) (AreWordsFrom bytes.now at from) (IsWordOf word)) }
+{
+    match outline32(word) {
+        Some(outline) => {
+            let words = words_before(bytes, at, from);
+            is_clean(place, stack, place.address + at as u32, words, outline)
+        }
+        None => false,
+    }
+}
+
+/// Whether the word at this place of the bundle is an instruction that breaks no rule there. Most
+/// compute, load or store, so these are told first.
 #[inline(always)]
 fn is_clean_word(
     place: &BundlePlace,
@@ -209,14 +243,11 @@ fn is_clean_word(
     ensures { OnTrue result (IsCleanOne place.now (place.now.address + at) (AreWordsFrom bytes.now at from) (IsWordOf word)) }
 {
     if computes32(word) {
-        return !is_withheld(stack, register((word >> 7 & 0b11111) as u8));
+        return !is_protected(stack, register((word >> 7 & 0b11111) as u8));
     }
-    match outline32(word) {
-        Some(outline) => {
-            let words = words_before(bytes, at, from);
-            is_clean(place, stack, place.address + at as u32, words, outline)
-        }
-        None => false,
+    match access32(word) {
+        Some(access) => is_clean_access(stack, words_before(bytes, at, from), access),
+        None => is_clean_other(place, stack, bytes, at, from, word),
     }
 }
 
