@@ -52,8 +52,7 @@ impl Parts {
     }
 }
 
-/// The load or store that the word spells; `None` where it spells neither. No jump depends on which of
-/// the two it is.
+/// The load or store that the word spells; `None` where it spells neither.
 #[inline(always)]
 pub fn access32(word: u32) -> Option<Access>
     ensures found { IfSome result (IsAccessOf word) }
