@@ -5,4 +5,5 @@ mod NoWord
 mod Wide
 mod OneSpelling
 mod Outlined
+mod Accessed
 mod Tables

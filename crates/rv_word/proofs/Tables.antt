@@ -78,7 +78,7 @@ table_at row funct3 funct7 row_fits funct3_fits funct7_fits =
 
 -- ---- the instruction of what computes
 
-imm12_of : (n : ℕ) → n < 4096 → (z : ℤ) × IsImm12 z × (modulo 12 z ≡ n)
+pub imm12_of : (n : ℕ) → n < 4096 → (z : ℤ) × IsImm12 z × (modulo 12 z ≡ n)
 imm12_of n lt = elim (cases_lt n 2048) [
   | inl less ↦ (pos n, (omega (arith, ints), omega (arith, ints)), omega arith)
   | inr more ↦ (negsuc (4095 - n), (omega (arith, ints), omega (arith, ints)), omega arith)

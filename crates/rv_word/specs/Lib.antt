@@ -5,5 +5,6 @@ pub mod Spelling
 pub mod Lengths
 pub mod Writes
 pub mod Outlines
+pub mod Accesses
 pub mod Laws
 pub mod private

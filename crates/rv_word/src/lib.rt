@@ -7,6 +7,7 @@
 //! `specs/Spelling.antt`.
 #![tactic(auto)]
 
+mod access;
 mod bits;
 mod computing;
 mod decode;
@@ -22,6 +23,7 @@ pub mod outline;
 mod parts;
 pub mod reg;
 
+pub use access::{Access, access32};
 pub use computing::computes32;
 pub use decode::decode32;
 pub use encode::{encode32, op_word};

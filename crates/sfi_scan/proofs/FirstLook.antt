@@ -22,7 +22,7 @@ use Rattle.sfi_scan.specs.Readings.{Piece}
 use Rattle.sfi_scan.specs.Stack.{begins_pair, ends_pair, precedes_pair, is_jump}
 use Rattle.sfi_scan.specs.Rules.{Place, is_last_bundle, is_bundle_start, may_access}
 use Rattle.sfi_scan.specs.Findings.{lowest, all_rules}
-use Rattle.sfi_scan.specs.private.FirstLook.{IsWordOr0, AreBefore, is_withheld, is_clean, is_zero}
+use Rattle.sfi_scan.specs.private.FirstLook.{IsWordOr0, AreBefore, is_protected, is_clean, is_zero}
 use Rattle.sfi_scan.specs.private.Near.{near}
 
 -- ---- pairs
@@ -72,14 +72,14 @@ pair_told law words m b t a first second true e earlier are =
 pub zero_of : (z : ℤ) → of_z w32 z ≡ 0 → SFits w32 z → is_zero z ≡ true
 zero_of z e fits = ap is_zero (sym (to_z-of_z w32 z fits) ∙ ap (to_z w32) e)
 
-pub jump_told : (b : BundlePlace) (earlier : List Instr) (rd base : ℕ) (z : ℤ) → is_zero z ≡ true → is_withheld b rd ≡ false
-    → (p : Bool) → OnTrue p (follows_pair 25 24 base earlier ≡ true) → OnTrue p ((not (is_withheld b rd) && (is_zero z && follows_code_pair base earlier)) ≡ true)
+pub jump_told : (b : BundlePlace) (earlier : List Instr) (rd base : ℕ) (z : ℤ) → is_zero z ≡ true → is_protected b rd ≡ false
+    → (p : Bool) → OnTrue p (follows_pair 25 24 base earlier ≡ true) → OnTrue p ((not (is_protected b rd) && (is_zero z && follows_code_pair base earlier)) ≡ true)
 jump_told b earlier rd base z g f false h = tt
 jump_told b earlier rd base z g f true h = rw (g, f, h) refl
 
--- what is not withheld is not reserved, nor the stack pointer
-free : (b : BundlePlace) (r : ℕ) → not (is_withheld b r) ≡ true → (is_reserved r ≡ false) × (is_stack b.format r ≡ false)
-free b r h = or_parts (is_reserved r) (is_stack b.format r) (not_is (is_withheld b r) h)
+-- what is not protected is not reserved, nor the stack pointer
+free : (b : BundlePlace) (r : ℕ) → not (is_protected b r) ≡ true → (is_reserved r ≡ false) × (is_stack b.format r ≡ false)
+free b r h = or_parts (is_reserved r) (is_stack b.format r) (not_is (is_protected b r) h)
 
 -- an instruction that is clean there breaks no rule, where the bundle is not the region's last
 clean_one : (b : BundlePlace) (at : ℕ) (earlier : List Instr) (i : Instr) (later : List Piece) (whole : Bool) → is_last_bundle b ≡ false → is_clean b at earlier (outline i) ≡ true
@@ -87,20 +87,20 @@ clean_one : (b : BundlePlace) (at : ℕ) (earlier : List Instr) (i : Instr) (lat
 clean_one b at earlier (Op op rd rs1 rs2) later whole last clean = let f = free b rd clean in rw (f.0, f.1, last) refl
 clean_one b at earlier (OpImm op rd rs1 imm) later whole last clean = let f = free b rd clean in rw (f.0, f.1, last) refl
 clean_one b at earlier (Load kind rd rs1 imm) later whole last clean =
-    let both = and_parts (not (is_withheld b rd)) (may_access b rs1 earlier) clean in
+    let both = and_parts (not (is_protected b rd)) (may_access b rs1 earlier) clean in
     let f = free b rd both.0 in
     rw (f.0, f.1, both.1, last) refl
 clean_one b at earlier (Store width rs1 rs2 imm) later whole last clean = rw (clean, last, and_right (has_stack b.format) false refl) refl
 clean_one b at earlier (Branch cond rs1 rs2 offset) later whole last clean = rw (clean, last, and_right (has_stack b.format) false refl) refl
 clean_one b at earlier (Jal rd offset) later whole last clean =
-    let both = and_parts (not (is_withheld b rd)) (is_bundle_start b (offset_by at offset)) clean in
+    let both = and_parts (not (is_protected b rd)) (is_bundle_start b (offset_by at offset)) clean in
     let f = free b rd both.0 in
     rw (f.0, f.1, both.1, last) refl
 clean_one b at earlier (Jalr rd rs1 (pos n)) later whole last clean =
-    let both = and_parts (not (is_withheld b rd)) ((n == 0) && follows_code_pair rs1 earlier) clean in
+    let both = and_parts (not (is_protected b rd)) ((n == 0) && follows_code_pair rs1 earlier) clean in
     let f = free b rd both.0 in
     rw (f.0, f.1, both.1, last) refl
-clean_one b at earlier (Jalr rd rs1 (negsuc n)) later whole last clean = absurd (let both = and_parts (not (is_withheld b rd)) false clean in cc)
+clean_one b at earlier (Jalr rd rs1 (negsuc n)) later whole last clean = absurd (let both = and_parts (not (is_protected b rd)) false clean in cc)
 clean_one b at earlier (Lui rd imm) later whole last clean = let f = free b rd clean in rw (f.0, f.1, last) refl
 clean_one b at earlier (Auipc rd imm) later whole last clean = let f = free b rd clean in rw (f.0, f.1, last) refl
 clean_one b at earlier (Fence imm rd rs1) later whole last clean = rw (last, and_right (has_stack b.format) false refl) refl

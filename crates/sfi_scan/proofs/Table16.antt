@@ -7,6 +7,7 @@ use Rattle.std.proofs.lemmas.Bool.{agree_below, agree_below_at, and_parts, ne_eq
 use Rattle.rv_word.specs.declared.outline.Outline.{Outline}
 use Rattle.rv_word.specs.declared.outline.Outline.TheVariants.{Computes}
 use Rattle.rv_word.specs.Numbers.{bits}
+use Rattle.rv_word.specs.Accesses.{access, IsAccessOf}
 use Rattle.rv_word.specs.Outlines.{outline, IsWordThat}
 use Rattle.rv_word.specs.Spelling.{IsWordOf}
 use Rattle.rv_comp.specs.Halfwords.{IsHalfwordThat, IsShortSpelling}
@@ -15,12 +16,15 @@ use Rattle.rv_comp.specs.mirror.Decoding.{extended, jump_offset, branch_offset}
 use Rattle.rv_comp.specs.mirror.Outlining.{row_of, jump, jump_or_stop, outlined}
 use Rattle.sfi_policy.specs.Formats.{has_stack}
 use Rattle.sfi_policy.specs.Registers.{is_reserved}
-use Rattle.sfi_scan.specs.private.FirstLook.{AreBefore, IsFreeHalf, IsCleanOne, is_clean, is_withheld}
+use Rattle.sfi_scan.specs.Rules.{may_access}
+use Rattle.sfi_scan.specs.private.FirstLook.{AreBefore, IsFreeHalf, IsCleanOne, is_clean, is_clean_access, is_protected}
 use Rattle.sfi_scan.specs.declared.bundle.BundlePlace.{BundlePlace}
 use Rattle.sfi_scan.specs.declared.clean.Words.{Words}
 use Rattle.sfi_scan.specs.declared.before.Before.{Before}
 use Rattle.sfi_scan.specs.private.Near.{near}
+use Rattle.rv_word.specs.declared.access.Access.{Access}
 use Rattle.rv_word.specs.declared.instr.Instr.{Instr}
+use Rattle.rv_word.specs.declared.instr.Instr.TheVariants.{Load, Store}
 use Rattle.sfi_scan.specs.declared.computing.TheConstants.{COMPUTING}
 
 -- it computes into a register that is not reserved, and into x2 only where the halfword names it in bits 11:7
@@ -62,9 +66,9 @@ second : (a b : Bool) → a ≡ false → (a || b) ≡ true → b ≡ true
 second true b e h = cc
 second false b e h = h
 
--- a register that is not reserved, and not x2 where that is a stack pointer, is not withheld
-not_withheld : (b : BundlePlace) (rd : ℕ) (two : Bool) → not (is_reserved rd) ≡ true → (not (rd == 2) || two) ≡ true → (has_stack b.format && two) ≡ false → is_withheld b rd ≡ false
-not_withheld b rd two free or none = by (is_reserved rd) (has_stack b.format) (rd == 2) two (not_true (is_reserved rd) free) or none
+-- a register that is not reserved, and not x2 where that is a stack pointer, is not protected
+not_protected : (b : BundlePlace) (rd : ℕ) (two : Bool) → not (is_reserved rd) ≡ true → (not (rd == 2) || two) ≡ true → (has_stack b.format && two) ≡ false → is_protected b rd ≡ false
+not_protected b rd two free or none = by (is_reserved rd) (has_stack b.format) (rd == 2) two (not_true (is_reserved rd) free) or none
   where
     by : (r s x t : Bool) → r ≡ false → (not x || t) ≡ true → (s && t) ≡ false → (r || (s && x)) ≡ false
     by true s x t e f g = e
@@ -77,7 +81,7 @@ free_of : (b : BundlePlace) (h : ℕ) (o : Option Outline) → IfSome o (IsHalfw
     → (has_stack b.format && (h / 128 % 32 == 2)) ≡ false → IsFreeHalf b h
 free_of b h (Some (Computes rd)) is e none =
     let both = and_parts (not (is_reserved rd)) (not (rd == 2) || (h / 128 % 32 == 2)) e in
-    record { rd = rd; does = is; free = not_withheld b rd (h / 128 % 32 == 2) both.0 both.1 none }
+    record { rd = rd; does = is; free = not_protected b rd (h / 128 % 32 == 2) both.0 both.1 none }
 free_of b h _ is e none = cc
 
 pub free_half : HalfwordsAreOutlined → (b : BundlePlace) (h : ℕ) → h < 2 ^ 16 → (bit_and h (slice_index COMPUTING (h / 512 * 4 + h % 4)) == 0) ≡ false
@@ -116,7 +120,7 @@ clean_free b at are h f = record {
 
 -- ---- words
 
-pub clean_computing : (b : BundlePlace) (at : ℕ) (are : Before → Type 0) (word rd : ℕ) → IsWordThat word (Computes rd) → (w : Bool) → w ≡ is_withheld b rd → OnTrue (not w) (IsCleanOne b at are (IsWordOf word))
+pub clean_computing : (b : BundlePlace) (at : ℕ) (are : Before → Type 0) (word rd : ℕ) → IsWordThat word (Computes rd) → (w : Bool) → w ≡ is_protected b rd → OnTrue (not w) (IsCleanOne b at are (IsWordOf word))
 clean_computing b at are word rd that true e = tt
 clean_computing b at are word rd that false e = record {
   instr = that.instr;
@@ -146,6 +150,29 @@ pub clean_wide : (b : BundlePlace) (at : ℕ) (are : Before → Type 0) (words :
     → ((before : Before) → are before → AreBefore words before)
     → (r : Bool) → ((earlier : List Instr) → AreBefore words (near earlier) → OnTrue r (is_clean b at earlier o ≡ true)) → OnTrue r (IsCleanOne b at are (IsWordOf word))
 clean_wide b at are words word o that told r clean = clean_told b at are words (IsWordOf word) o that.instr that.spelled that.does told r clean
+
+abbrev registers : ℕ → ℕ → Access
+registers written base = record { written = written; base = base }
+
+-- what loads or stores breaks no rule where its registers break none
+of_access : (b : BundlePlace) (at : ℕ) (earlier : List Instr) (i : Instr) (a : Access) → access i ≡ Some a → is_clean_access b a earlier ≡ true → is_clean b at earlier (outline i) ≡ true
+of_access b at earlier (Load kind rd rs1 imm) a e clean =
+    let same : a ≡ registers rd rs1 = cc in
+    subst (λ (x : Access). is_clean_access b x earlier ≡ true) same clean
+of_access b at earlier (Store width rs1 rs2 imm) a e clean =
+    let same : a ≡ registers 0 rs1 = cc in
+    (and_parts (not (is_protected b 0)) (may_access b rs1 earlier) (subst (λ (x : Access). is_clean_access b x earlier ≡ true) same clean)).1
+of_access b at earlier i a e clean = absurd cc
+
+pub clean_access : (b : BundlePlace) (at : ℕ) (are : Before → Type 0) (words : Words) (word : ℕ) (a : Access) → IsAccessOf word a
+    → ((before : Before) → are before → AreBefore words before)
+    → (r : Bool) → ((earlier : List Instr) → AreBefore words (near earlier) → OnTrue r (is_clean_access b a earlier ≡ true)) → OnTrue r (IsCleanOne b at are (IsWordOf word))
+clean_access b at are words word a that told false clean = tt
+clean_access b at are words word a that told true clean = record {
+  instr = that.instr;
+  spelled = that.spelled;
+  clean = λ earlier before. of_access b at earlier that.instr a that.accesses (clean earlier (told (near earlier) before));
+}
 
 -- bits 11:7, as the code takes them
 pub rd_is : (word r : ℕ) → r ≡ bit_and (word / 128) 31 → r ≡ bits word 11 7

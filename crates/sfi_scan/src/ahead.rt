@@ -15,7 +15,8 @@ pub(crate) struct Ahead {
 
 /// The instruction that these bytes begin with.
 fn first_of(bytes: &[u8]) -> Option<Instr>
-    ensures { (later : List Piece) → IsLongestReading bytes.now later → result ≡ (ahead later).first }
+    ensures { (later : List Piece) → IsLongestReading bytes.now later →
+        result ≡ (ahead later).first }
 {
     match read_front(bytes) {
         Front::Read(instr, _) => Some(instr),

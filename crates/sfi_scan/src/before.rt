@@ -86,7 +86,8 @@ impl Before {
 
     /// After this instruction too.
     pub(crate) fn and_then(self, instr: Instr) -> Self
-        ensures { (earlier : List Instr) → near earlier ≡ self → result ≡ near (instr ∷ earlier) }
+        ensures { (earlier : List Instr) → near earlier ≡ self →
+            result ≡ near (instr ∷ earlier) }
     {
         Before {
             first: self.second,
@@ -96,7 +97,8 @@ impl Before {
 
     /// Whether the two are the pair on this register.
     pub(crate) fn is_pair(&self, pair: Pair, target: Reg) -> bool
-        ensures { (earlier : List Instr) → near earlier ≡ self.now → result ≡ follows_pair pair.mask pair.base target earlier }
+        ensures { (earlier : List Instr) → near earlier ≡ self.now →
+            result ≡ follows_pair pair.mask pair.base target earlier }
     {
         match (&self.first, &self.second) {
             (Some(first), Some(second)) => {

@@ -1,5 +1,5 @@
-//! A first look at a bundle: whether it breaks no rule. It makes no instruction, so it is quick; what it doesn't let pass
-//! may still be clean.
+//! A first look at a bundle: whether it breaks no rule. It makes no instruction, so it is quick; what
+//! it doesn't let pass may still be clean.
 ghost use Rattle.std.specs.Prelude.{◌≡◌, ◌+◌, ◌<◌, ◌≤◌, ◌&&◌, not, List, [], false, true};
 ghost use Rattle.std.specs.Bool.{OnTrue};
 ghost use Rattle.rv_comp.specs.Halfwords.{IsShortSpelling};
@@ -14,18 +14,18 @@ ghost use Rattle.sfi_policy.specs.Limits.{bundle_size};
 ghost use Rattle.sfi_policy.specs.Registers.{is_reserved};
 ghost use Rattle.sfi_scan.specs.Pairs.{follows_pair, follows_code_pair};
 ghost use Rattle.sfi_scan.specs.Rules.{is_last_bundle, may_access};
-ghost use Rattle.sfi_scan.specs.private.FirstLook.{half_at, word_at, AreWordsFrom, AreBefore, is_zero, is_withheld, is_clean, IsCleanOne, IsStackWrite, AreStackPair};
+ghost use Rattle.sfi_scan.specs.private.FirstLook.{half_at, word_at, AreWordsFrom, AreBefore, is_zero, is_protected, is_clean, is_clean_access, IsCleanOne, IsStackWrite, AreStackPair};
 
 use crate::before::{CODE, DATA, Pair, may_be_target};
 use crate::bundle::BundlePlace;
 use crate::computing::is_free_half;
 use crate::rules::{STACK, is_bundle_start, is_last_bundle, offset_by};
 use rv_comp::outline16;
-use rv_word::{Outline, Reg, RegOp, computes32, op_word, outline32};
+use rv_word::{Access, Outline, Reg, RegOp, access32, computes32, op_word, outline32};
 use sfi_policy::{BUNDLE_BYTES, is_reserved};
 
-/// The words of the two instructions directly before a place in its bundle. 0 stands for a 16-bit form, and where there
-/// is none: neither is one of a pair.
+/// The words of the two instructions directly before a place in its bundle. 0 stands for a 16-bit
+/// form, and where there is none: neither is one of a pair.
 #[derive(Clone, Copy)]
 pub(crate) struct Words {
     pub(crate) first: u32,
@@ -50,12 +50,14 @@ fn word_at(bytes: &[u8; BUNDLE_BYTES], at: usize) -> u32
     u32::from_le_bytes([bytes[at], bytes[at + 1], bytes[at + 2], bytes[at + 3]])
 }
 
-/// The words before a place, where the instructions that end there have 32 bits each from another place on.
+/// The words before a place, where the instructions that end there have 32 bits each from another
+/// place on.
 #[inline(always)]
 fn words_before(bytes: &[u8; BUNDLE_BYTES], at: usize, from: usize) -> Words
     requires order { from ≤ at }
     requires end { at ≤ bundle_size }
-    ensures { (before : Before) → AreWordsFrom bytes.now at from before → AreBefore result before }
+    ensures { (before : Before) →
+        AreWordsFrom bytes.now at from before → AreBefore result before }
 {
     if at - from < 8 {
         return Words {
@@ -86,7 +88,8 @@ impl Words {
     fn is_pair(self, pair: Pair, target: Reg) -> bool
         requires mask { pair.mask < 32 }
         requires base { pair.base < 32 }
-        ensures { (earlier : List Instr) → AreBefore self (near earlier) → OnTrue result (follows_pair pair.mask pair.base target earlier ≡ true) }
+        ensures { (earlier : List Instr) → AreBefore self (near earlier) →
+            OnTrue result (follows_pair pair.mask pair.base target earlier ≡ true) }
     {
         // The law that the contract rests on: the call does nothing.
         rv_word::laws::one_spelling();
@@ -107,8 +110,8 @@ impl Words {
 
 /// Whether nothing that this look lets pass writes the register.
 #[inline(always)]
-fn is_withheld(stack: bool, reg: Reg) -> bool
-    ensures { (b : BundlePlace) → stack ≡ has_stack b.format → result ≡ is_withheld b reg }
+fn is_protected(stack: bool, reg: Reg) -> bool
+    ensures { (b : BundlePlace) → stack ≡ has_stack b.format → result ≡ is_protected b reg }
 {
     is_reserved(reg) || (stack && reg.number() == STACK)
 }
@@ -116,9 +119,21 @@ fn is_withheld(stack: bool, reg: Reg) -> bool
 /// Whether an access on this base stays in the data and its guard zones.
 #[inline(always)]
 fn may_access(stack: bool, words: Words, base: Reg) -> bool
-    ensures { (b : BundlePlace) (earlier : List Instr) → stack ≡ has_stack b.format → AreBefore words (near earlier) → OnTrue result (may_access b base earlier ≡ true) }
+    ensures { (b : BundlePlace) (earlier : List Instr) →
+        stack ≡ has_stack b.format → AreBefore words (near earlier) →
+        OnTrue result (may_access b base earlier ≡ true) }
 {
     (stack && base.number() == STACK) || words.is_pair(DATA, base)
+}
+
+/// Whether a load or store with these registers breaks no rule there.
+#[inline(always)]
+fn is_clean_access(stack: bool, words: Words, access: Access) -> bool
+    ensures { (b : BundlePlace) (earlier : List Instr) →
+        stack ≡ has_stack b.format → AreBefore words (near earlier) →
+        OnTrue result (is_clean_access b access earlier ≡ true) }
+{
+    !is_protected(stack, access.written) && may_access(stack, words, access.base)
 }
 
 /// Whether an indirect jump breaks no rule there.
@@ -132,12 +147,14 @@ fn is_clean_jump(
     imm: i32,
 ) -> bool
     requires { stack ≡ has_stack place.now.format }
-    ensures { (earlier : List Instr) → AreBefore words (near earlier) → OnTrue result ((not (is_withheld place.now rd) && (is_zero imm && follows_code_pair base earlier)) ≡ true) }
+    ensures { (earlier : List Instr) → AreBefore words (near earlier) →
+        OnTrue result ((not (is_protected place.now rd)
+        && (is_zero imm && follows_code_pair base earlier)) ≡ true) }
 {
     if imm != 0 {
         return false;
     }
-    if is_withheld(stack, rd) {
+    if is_protected(stack, rd) {
         return false;
     }
     words.is_pair(CODE, base)
@@ -148,15 +165,16 @@ fn is_clean_jump(
 fn is_clean(place: &BundlePlace, stack: bool, address: u32, words: Words, outline: Outline) -> bool
     requires within { IsWithin place.now }
     requires stack { stack ≡ has_stack place.now.format }
-    ensures { (earlier : List Instr) → AreBefore words (near earlier) → OnTrue result (is_clean place.now address earlier outline ≡ true) }
+    ensures { (earlier : List Instr) → AreBefore words (near earlier) →
+        OnTrue result (is_clean place.now address earlier outline ≡ true) }
 {
     match outline {
-        Outline::Computes { rd } => !is_withheld(stack, rd),
-        Outline::Loads { rd, base } => !is_withheld(stack, rd) && may_access(stack, words, base),
+        Outline::Computes { rd } => !is_protected(stack, rd),
+        Outline::Loads { rd, base } => !is_protected(stack, rd) && may_access(stack, words, base),
         Outline::Stores { base } => may_access(stack, words, base),
         Outline::Branches { offset } => is_bundle_start(place, offset_by(address, offset)),
         Outline::Jumps { rd, offset } => {
-            !is_withheld(stack, rd) && is_bundle_start(place, offset_by(address, offset))
+            !is_protected(stack, rd) && is_bundle_start(place, offset_by(address, offset))
         }
         Outline::JumpsTo { rd, base, imm } => is_clean_jump(place, stack, words, rd, base, imm),
         Outline::Orders | Outline::Stops => true,
@@ -178,7 +196,8 @@ fn is_clean_half(
     requires stack { stack ≡ has_stack place.now.format }
     requires order { from ≤ at }
     requires end { at < bundle_size }
-    ensures { OnTrue result (IsCleanOne place.now (place.now.address + at) (AreWordsFrom bytes.now at from) (IsShortSpelling halfword)) }
+    ensures { OnTrue result (IsCleanOne place.now (place.now.address + at)
+        (AreWordsFrom bytes.now at from) (IsShortSpelling halfword)) }
 {
     if is_free_half(stack, halfword) {
         return true;
@@ -192,7 +211,34 @@ fn is_clean_half(
     }
 }
 
-/// Whether the word at this place of the bundle is an instruction that breaks no rule there.
+/// Whether the word at this place of the bundle has an outline that breaks no rule there.
+#[inline(always)]
+fn is_clean_other(
+    place: &BundlePlace,
+    stack: bool,
+    bytes: &[u8; BUNDLE_BYTES],
+    at: usize,
+    from: usize,
+    word: u32,
+) -> bool
+    requires within { IsWithin place.now }
+    requires stack { stack ≡ has_stack place.now.format }
+    requires order { from ≤ at }
+    requires end { at < bundle_size }
+    ensures { OnTrue result (IsCleanOne place.now (place.now.address + at)
+        (AreWordsFrom bytes.now at from) (IsWordOf word)) }
+{
+    match outline32(word) {
+        Some(outline) => {
+            let words = words_before(bytes, at, from);
+            is_clean(place, stack, place.address + at as u32, words, outline)
+        }
+        None => false,
+    }
+}
+
+/// Whether the word at this place of the bundle is an instruction that breaks no rule there. Most
+/// compute, load or store, so these are told first.
 #[inline(always)]
 fn is_clean_word(
     place: &BundlePlace,
@@ -206,21 +252,20 @@ fn is_clean_word(
     requires stack { stack ≡ has_stack place.now.format }
     requires order { from ≤ at }
     requires end { at < bundle_size }
-    ensures { OnTrue result (IsCleanOne place.now (place.now.address + at) (AreWordsFrom bytes.now at from) (IsWordOf word)) }
+    ensures { OnTrue result (IsCleanOne place.now (place.now.address + at)
+        (AreWordsFrom bytes.now at from) (IsWordOf word)) }
 {
     if computes32(word) {
-        return !is_withheld(stack, register((word >> 7 & 0b11111) as u8));
+        return !is_protected(stack, register((word >> 7 & 0b11111) as u8));
     }
-    match outline32(word) {
-        Some(outline) => {
-            let words = words_before(bytes, at, from);
-            is_clean(place, stack, place.address + at as u32, words, outline)
-        }
-        None => false,
+    match access32(word) {
+        Some(access) => is_clean_access(stack, words_before(bytes, at, from), access),
+        None => is_clean_other(place, stack, bytes, at, from, word),
     }
 }
 
-/// Whether the word is an instruction that computes into the stack pointer, or loads into it from near it.
+/// Whether the word is an instruction that computes into the stack pointer, or loads into it from near
+/// it.
 fn is_stack_write(word: u32) -> bool
     ensures { OnTrue result (IsStackWrite word) }
 {
@@ -254,7 +299,8 @@ fn is_stack_pair(first: u32, second: u32) -> bool
 fn is_stack_written(bytes: &[u8; BUNDLE_BYTES], at: usize) -> bool
     requires { at + 12 ≤ bundle_size }
     ensures write { OnTrue result (IsStackWrite (word_at bytes.now at)) }
-    ensures pair { OnTrue result (AreStackPair (word_at bytes.now (at + 4)) (word_at bytes.now (at + 8))) }
+    ensures pair { OnTrue result
+        (AreStackPair (word_at bytes.now (at + 4)) (word_at bytes.now (at + 8))) }
 {
     if !is_stack_pair(word_at(bytes, at + 4), word_at(bytes, at + 8)) {
         return false;
@@ -262,8 +308,8 @@ fn is_stack_written(bytes: &[u8; BUNDLE_BYTES], at: usize) -> bool
     is_stack_write(word_at(bytes, at))
 }
 
-/// Whether the bundle is seen to break no rule but perhaps that of a gate's bundle. It is compiled once for a format with a stack
-/// pointer and once for one without.
+/// Whether the bundle is seen to break no rule but perhaps that of a gate's bundle. It is compiled
+/// once for a format with a stack pointer and once for one without.
 #[inline(always)]
 fn looks_clean(place: &BundlePlace, stack: bool, bytes: &[u8; BUNDLE_BYTES]) -> bool
     requires within { IsWithin place.now }

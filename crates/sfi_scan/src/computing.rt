@@ -7,8 +7,9 @@ ghost use Rattle.sfi_scan.specs.private.FirstLook.{IsFreeHalf};
 
 use crate::rules::STACK;
 
-/// By bits 15:9 of a halfword and its bits 1:0: a mask. A halfword with any of these bits set is a form that computes into a register
-/// that isn't reserved. Beside each line stand bits 15:11; its 16 entries go by bits 10:9, and then by bits 1:0.
+/// By bits 15:9 of a halfword and its bits 1:0: a mask. A halfword with any of these bits set is a form
+/// that computes into a register that isn't reserved. Beside each line stand bits 15:11; its 16 entries
+/// go by bits 10:9, and then by bits 1:0.
 const COMPUTING: [u16; 512] = [
     8160, 3, 3, 0, 8160, 3, 3, 0, 8160, 3, 3, 0, 8160, 3, 3, 0, // 00000
     8160, 3, 3, 0, 8160, 3, 3, 0, 8160, 0, 0, 0, 8160, 3, 3, 0, // 00001
@@ -44,11 +45,12 @@ const COMPUTING: [u16; 512] = [
     0, 0, 0, 0, 0, 0, 0, 0, 0, 0, 0, 0, 0, 0, 0, 0, // 11111
 ];
 
-/// Whether the halfword is seen to compute into a register that is neither reserved nor a stack pointer. What has 2 in its bits 11:7 isn't
-/// seen where x2 is one.
+/// Whether the halfword is seen to compute into a register that is neither reserved nor a stack
+/// pointer. What has 2 in its bits 11:7 isn't seen where x2 is one.
 #[inline(always)]
 pub(crate) fn is_free_half(stack: bool, halfword: u16) -> bool
-    ensures { (b : BundlePlace) → stack ≡ has_stack b.format → OnTrue result (IsFreeHalf b halfword) }
+    ensures { (b : BundlePlace) → stack ≡ has_stack b.format →
+        OnTrue result (IsFreeHalf b halfword) }
 {
     // The law that the contract rests on: the call does nothing.
     rv_comp::laws::halfwords_are_outlined();

@@ -17,7 +17,8 @@ use rv_word::Instr;
 use sfi_policy::{BUNDLE_SIZE, STACK_POINTER, is_reserved};
 
 fn breaks_ecall(place: &BundlePlace, is_first: bool, instr: &Instr) -> bool
-    ensures { (x : Place) → x.bundle ≡ place.now → is_empty x.earlier ≡ is_first → result ≡ breaks_ecall x instr.now }
+    ensures { (x : Place) → x.bundle ≡ place.now → is_empty x.earlier ≡ is_first →
+        result ≡ breaks_ecall x instr.now }
 {
     match instr {
         Instr::Ecall => !(is_first && place.listed),
@@ -38,7 +39,8 @@ fn breaks_reserved(instr: &Instr) -> bool
 pub(crate) const STACK: u8 = STACK_POINTER;
 
 fn breaks_access(place: &BundlePlace, before: &Before, instr: &Instr) -> bool
-    ensures { (x : Place) → x.bundle ≡ place.now → near x.earlier ≡ before.now → result ≡ breaks_access x instr.now }
+    ensures { (x : Place) → x.bundle ≡ place.now → near x.earlier ≡ before.now →
+        result ≡ breaks_access x instr.now }
 {
     match *instr {
         Instr::Load { rs1, .. } | Instr::Store { rs1, .. } => {
@@ -74,7 +76,8 @@ pub(crate) fn is_bundle_start(place: &BundlePlace, address: u32) -> bool
 
 fn breaks_target(place: &BundlePlace, address: u32, instr: &Instr) -> bool
     requires { IsWithin place.now }
-    ensures { (x : Place) → x.bundle ≡ place.now → x.address ≡ address → result ≡ breaks_target x instr.now }
+    ensures { (x : Place) → x.bundle ≡ place.now → x.address ≡ address →
+        result ≡ breaks_target x instr.now }
 {
     match *instr {
         Instr::Jal { offset, .. } | Instr::Branch { offset, .. } => {
@@ -120,7 +123,8 @@ fn is_jump(instr: &Instr) -> bool
 }
 
 fn begins_pair(instr: &Instr, two: &Ahead) -> bool
-    ensures { (later : List Piece) → ahead later ≡ two.now → result ≡ begins_pair instr.now later }
+    ensures { (later : List Piece) → ahead later ≡ two.now →
+        result ≡ begins_pair instr.now later }
 {
     match &two.first {
         Some(next) => is_stack_pair(instr, next),
@@ -129,7 +133,8 @@ fn begins_pair(instr: &Instr, two: &Ahead) -> bool
 }
 
 fn ends_pair(before: &Before, instr: &Instr) -> bool
-    ensures { (earlier : List Instr) → near earlier ≡ before.now → result ≡ ends_pair earlier instr.now }
+    ensures { (earlier : List Instr) → near earlier ≡ before.now →
+        result ≡ ends_pair earlier instr.now }
 {
     match &before.second {
         Some(nearest) => is_stack_pair(nearest, instr),
@@ -147,7 +152,8 @@ fn precedes_pair(two: &Ahead) -> bool
 }
 
 fn breaks_stack(place: &BundlePlace, before: &Before, instr: &Instr, after: &[u8]) -> bool
-    ensures { (x : Place) → x.bundle ≡ place.now → near x.earlier ≡ before.now → IsLongestReading after.now x.later → result ≡ breaks_stack x instr.now }
+    ensures { (x : Place) → x.bundle ≡ place.now → near x.earlier ≡ before.now →
+        IsLongestReading after.now x.later → result ≡ breaks_stack x instr.now }
 {
     if !writes_stack(place, instr) {
         return false;
@@ -167,7 +173,10 @@ pub(crate) fn lowest_rule(
     after: &[u8],
 ) -> Option<Rule>
     requires { IsWithin place.now }
-    ensures { (x : Place) → x.bundle ≡ place.now → x.address ≡ address → near x.earlier ≡ before.now → x.instr ≡ instr.now → (x.whole && is_empty x.later) ≡ is_empty after.now → IsLongestReading after.now x.later → lowest x all_rules ≡ finding_of place.now address result }
+    ensures { (x : Place) → x.bundle ≡ place.now → x.address ≡ address →
+        near x.earlier ≡ before.now → x.instr ≡ instr.now →
+        (x.whole && is_empty x.later) ≡ is_empty after.now → IsLongestReading after.now x.later →
+        lowest x all_rules ≡ finding_of place.now address result }
 {
     let is_first = before.second.is_none();
     if breaks_ecall(place, is_first, instr) {

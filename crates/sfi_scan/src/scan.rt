@@ -17,7 +17,11 @@ use sfi_policy::{BUNDLE_BYTES, STUB};
 fn finding(place: &BundlePlace, offset: usize, rule: Rule) -> Finding
     requires within { IsWithin place.now }
     requires inside { offset < bundle_size }
-    ensures { result ≡ record { sandbox = place.now.sandbox; address = place.now.address + offset; rule = rule } }
+    ensures { result ≡ record {
+      sandbox = place.now.sandbox;
+      address = place.now.address + offset;
+      rule = rule;
+    } }
 {
     Finding {
         sandbox: place.sandbox,

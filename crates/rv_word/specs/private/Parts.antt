@@ -1,5 +1,5 @@
 -- A word cut at the borders of the R format, for the contracts inside the decoder.
-use Rattle.std.specs.Prelude.{ℕ, ◌<◌}
+use Rattle.std.specs.Prelude.{ℕ, ◌<◌, ◌==◌, ◌&&◌, ◌||◌, not, nat_lt, Bool, if◌then◌else◌}
 use Rattle.rv_word.specs.declared.parts.Parts.{Parts}
 use Rattle.rv_word.specs.declared.instr.Instr.{Instr}
 use Rattle.rv_word.specs.Formats.{r_format}
@@ -21,3 +21,9 @@ pub record Fits (p : Parts) : Type 0 where
 -- the word spells no instruction
 abbrev pub SpellsNone : ℕ → Type 0
 SpellsNone word = (i : Instr) → IsWordOf word i → ⊥
+
+-- an opcode and a funct3 are those of a load or a store
+abbrev pub is_access : ℕ → ℕ → Bool
+is_access opcode funct3 =
+    ((opcode == 0b0000011) || (opcode == 0b0100011))
+    && (nat_lt funct3 (if opcode == 0b0100011 then 3 else 6) && not (funct3 == 3))

@@ -2,6 +2,7 @@
 use Rattle.std.specs.Int.{w16, w32, from_le_bytes}
 use Rattle.std.specs.Prelude.{◌≡◌, ◌+◌, ◌≤◌, take, drop, ◌⊎◌, ◌&&◌, ◌||◌, ◌==◌, not, ℕ, ℤ, pos, negsuc, List, Bool, true, false, Option, Some, None}
 use Rattle.rv_word.specs.Numbers.{offset_by}
+use Rattle.rv_word.specs.declared.access.Access.{Access}
 use Rattle.rv_word.specs.declared.instr.Instr.{Instr}
 use Rattle.rv_word.specs.declared.outline.Outline.{Outline}
 use Rattle.rv_word.specs.declared.outline.Outline.TheVariants.{Computes, Loads, Stores, Branches, Jumps, JumpsTo, Orders, Calls, Stops}
@@ -46,17 +47,21 @@ is_zero (pos n) = n == 0
 is_zero (negsuc n) = false
 
 -- the first look lets nothing write this register: it is reserved, or the stack pointer
-abbrev pub is_withheld : BundlePlace → ℕ → Bool
-is_withheld b r = is_reserved r || is_stack b.format r
+abbrev pub is_protected : BundlePlace → ℕ → Bool
+is_protected b r = is_reserved r || is_stack b.format r
+
+-- a load or store with these registers breaks none of V4, V5 and V10: it writes none that is protected, and its access stays in the data and the guards
+abbrev pub is_clean_access : BundlePlace → Access → List Instr → Bool
+is_clean_access b a earlier = not (is_protected b a.written) && may_access b a.base earlier
 
 -- an instruction that does this at the address breaks none of V3 to V7 and V10, nor does it if it is listed
 abbrev pub is_clean : BundlePlace → ℕ → List Instr → Outline → Bool
-is_clean b at earlier (Computes rd) = not (is_withheld b rd)
-is_clean b at earlier (Loads rd base) = not (is_withheld b rd) && may_access b base earlier
+is_clean b at earlier (Computes rd) = not (is_protected b rd)
+is_clean b at earlier (Loads rd base) = not (is_protected b rd) && may_access b base earlier
 is_clean b at earlier (Stores base) = may_access b base earlier
 is_clean b at earlier (Branches offset) = is_bundle_start b (offset_by at offset)
-is_clean b at earlier (Jumps rd offset) = not (is_withheld b rd) && is_bundle_start b (offset_by at offset)
-is_clean b at earlier (JumpsTo rd base imm) = not (is_withheld b rd) && (is_zero imm && follows_code_pair base earlier)
+is_clean b at earlier (Jumps rd offset) = not (is_protected b rd) && is_bundle_start b (offset_by at offset)
+is_clean b at earlier (JumpsTo rd base imm) = not (is_protected b rd) && (is_zero imm && follows_code_pair base earlier)
 is_clean b at earlier Orders = true
 is_clean b at earlier Calls = false
 is_clean b at earlier Stops = true
@@ -67,11 +72,11 @@ pub record IsCleanOne (b : BundlePlace) (at : ℕ) (are : Before → Type 0) (sp
   pub spelled : spell instr
   pub clean : (earlier : List Instr) → are (near earlier) → is_clean b at earlier (outline instr) ≡ true
 
--- the halfword is that of an instruction that computes into a register that is not withheld
+-- the halfword is that of an instruction that computes into a register that is not protected
 pub record IsFreeHalf (b : BundlePlace) (h : ℕ) : Type 0 where
   pub rd : ℕ
   pub does : IsHalfwordThat h (Computes rd)
-  pub free : is_withheld b rd ≡ false
+  pub free : is_protected b rd ≡ false
 
 -- the word is an instruction that writes the stack pointer: it computes into it, or loads into it from near it
 pub record IsStackWrite (word : ℕ) : Type 0 where
