@@ -117,8 +117,7 @@ fn values_of(digits: &[u8]) -> [u8; BLOCK]
     values
 }
 
-/// Whether all of a block's bytes are digits, by their values. It isn't inlined, for the same reason.
-#[inline(never)]
+/// Whether all of a block's bytes are digits, by their values.
 #[tactic(auto, using(crate::proofs::Classes::or_small_l, crate::proofs::Classes::or_small_r))]
 fn are_digits(values: &[u8; BLOCK]) -> bool
     ensures { result ≡ true → (k : ℕ) → k < 64 → slice_index values.now k < 16 }
