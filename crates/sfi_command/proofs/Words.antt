@@ -52,39 +52,39 @@ none_of f None e = refl
 none_of f (Some b) e = absurd (cc)
 
 -- the words name the subcommand that the parse met
-pub met : (a : App) (words : List Text) (m : ArgMatches) (n : Text) (rows : List Row) → a ≡ sfi → HasMatchesOf a words m
+pub subcommand_is : (a : App) (words : List Text) (m : ArgMatches) (n : Text) (rows : List Row) → a ≡ sfi → HasMatchesOf a words m
     → Some n ≡ subcommand_name_of m → Some rows ≡ option_map (λ (p : Text × List Row). p.1) (subcommand_rows (out-ArgMatches m).subcommand)
     → subcommand_of sfi words ≡ Some (n, rows)
-met a words m n rows is has e h =
+subcommand_is a words m n rows is has e h =
     sym (ap (λ (x : App). subcommand_of x words) is) ∙ sym (has (ap is_simple is ∙ simple)).1 ∙ some_of _ _ n rows e h
 
-pub unmet : (a : App) (words : List Text) (m : ArgMatches) → a ≡ sfi → HasMatchesOf a words m → None ≡ subcommand_name_of m → subcommand_of sfi words ≡ None
-unmet a words m is has e = sym (ap (λ (x : App). subcommand_of x words) is) ∙ sym (has (ap is_simple is ∙ simple)).1 ∙ none_of _ _ e
+pub no_subcommand : (a : App) (words : List Text) (m : ArgMatches) → a ≡ sfi → HasMatchesOf a words m → None ≡ subcommand_name_of m → subcommand_of sfi words ≡ None
+no_subcommand a words m is has e = sym (ap (λ (x : App). subcommand_of x words) is) ∙ sym (has (ap is_simple is ∙ simple)).1 ∙ none_of _ _ e
 
 -- words of which the parse succeeds
-pub parsed : (a : App) (words : List Text) → a ≡ sfi → (is_simple_and_free a ≡ true → fault_of a words ≡ []) → fault_of sfi words ≡ []
-parsed a words is parses = sym (ap (λ (x : App). fault_of x words) is) ∙ parses (ap is_simple_and_free is ∙ free)
+pub no_parse_fault : (a : App) (words : List Text) → a ≡ sfi → (is_simple_and_free a ≡ true → fault_of a words ≡ []) → fault_of sfi words ≡ []
+no_parse_fault a words is parses = sym (ap (λ (x : App). fault_of x words) is) ∙ parses (ap is_simple_and_free is ∙ free)
 
 -- the job of the subcommand that the parse met is what the words ask for
-pub asked : (words : List Text) (named : Option (Text × List Row)) (r : Result Job JobFault) → fault_of sfi words ≡ []
+pub asks_job : (words : List Text) (named : Option (Text × List Row)) (r : Result Job JobFault) → fault_of sfi words ≡ []
     → subcommand_of sfi words ≡ named → IfOk r (Names named) → IfOk r (Asks words)
-asked words named r parses met h =
+asks_job words named r parses subcommand_is h =
     IfOk-weaker r (Names named) (Asks words)
-    (λ job names. record { parses = parses; names = subst (λ (o : Option (Text × List Row)). Names o job) (sym met) names }) h
+    (λ job names. record { parses = parses; names = subst (λ (o : Option (Text × List Row)). Names o job) (sym subcommand_is) names }) h
 
 -- and its fault is that of the words
-pub fault_asked : (words : List Text) (named : Option (Text × List Row)) (fault : JobFault) → fault_of sfi words ≡ [] → subcommand_of sfi words ≡ named
+pub fault_of_words : (words : List Text) (named : Option (Text × List Row)) (fault : JobFault) → fault_of sfi words ≡ [] → subcommand_of sfi words ≡ named
     → IsFaultOfNamed named fault → IsFaultOf words fault
-fault_asked words named (Usage text) parses met none = record {
-  no_job = λ job asks. none.no_job job (subst (λ (o : Option (Text × List Row)). Names o job) met asks.names);
-  no_run = λ asks. none.no_run (subst (λ (o : Option (Text × List Row)). NamesNoInput o) met asks.names);
+fault_of_words words named (Usage text) parses subcommand_is none = record {
+  no_job = λ job asks. none.no_job job (subst (λ (o : Option (Text × List Row)). Names o job) subcommand_is asks.names);
+  no_run = λ asks. none.no_run (subst (λ (o : Option (Text × List Row)). NamesNoInput o) subcommand_is asks.names);
 }
-fault_asked words named Hex parses met none = record { parses = parses; names = subst (λ (o : Option (Text × List Row)). NamesNoInput o) (sym met) none }
-fault_asked words named Memory parses met none = tt
+fault_of_words words named Hex parses subcommand_is none = record { parses = parses; names = subst (λ (o : Option (Text × List Row)). NamesNoInput o) (sym subcommand_is) none }
+fault_of_words words named Memory parses subcommand_is none = tt
 
-pub unasked : (words : List Text) (named : Option (Text × List Row)) (r : Result Job JobFault) → fault_of sfi words ≡ [] → subcommand_of sfi words ≡ named
+pub error_of_words : (words : List Text) (named : Option (Text × List Row)) (r : Result Job JobFault) → fault_of sfi words ≡ [] → subcommand_of sfi words ≡ named
     → IfErr r (IsFaultOfNamed named) → IfErr r (IsFaultOf words)
-unasked words named r parses met h = IfErr-weaker r (IsFaultOfNamed named) (IsFaultOf words) (λ fault. fault_asked words named fault parses met) h
+error_of_words words named r parses subcommand_is h = IfErr-weaker r (IsFaultOfNamed named) (IsFaultOf words) (λ fault. fault_of_words words named fault parses subcommand_is) h
 
 -- a subcommand that names nothing has no other fault
 pub usage_of_named : (named : Option (Text × List Row)) (fault : JobFault) → (number_of fault ≡ 2 → ⊥) → NamesNothing named → IsFaultOfNamed named fault
@@ -93,21 +93,21 @@ usage_of_named named Hex other none = absurd (other refl)
 usage_of_named named Memory other none = tt
 
 -- no subcommand asks for anything
-pub none_asked : (fault : JobFault) → (number_of fault ≡ 2 → ⊥) → IsFaultOfNamed None fault
-none_asked fault other = usage_of_named None fault other (record { no_job = λ job names. names; no_run = λ names. names })
+pub fault_of_none : (fault : JobFault) → (number_of fault ≡ 2 → ⊥) → IsFaultOfNamed None fault
+fault_of_none fault other = usage_of_named None fault other (record { no_job = λ job names. names; no_run = λ names. names })
 
 -- an option with this value, and one without
-pub given_some : (f : Found) (id v : Text) (b : Bool) → Some v ≡ first_value f id → b ≡ bytes_eq v (codes "true")
+pub flag_is : (f : Found) (id v : Text) (b : Bool) → Some v ≡ first_value f id → b ≡ bytes_eq v (codes "true")
     → IsTrue b ↔ (first_of id (rows_of f) ≡ Some (codes "true"))
-given_some f id v b e h = (
+flag_is f id v b e h = (
   λ t. sym (first_value-rows f id) ∙ sym e ∙ ap Some ((bytes_eq-Decides v (codes "true")).0 (sym h ∙ t)),
   λ g. let whole : Some v ≡ Some (codes "true") = e ∙ first_value-rows f id ∙ g in
       let same : v ≡ codes "true" = cc in
       h ∙ (bytes_eq-Decides v (codes "true")).1 same,
 )
 
-pub given_none : (f : Found) (id : Text) → None ≡ first_value f id → IsTrue false ↔ (first_of id (rows_of f) ≡ Some (codes "true"))
-given_none f id e = (λ t. absurd (cc), λ g. let none : None ≡ Some (codes "true") = e ∙ first_value-rows f id ∙ g in absurd (cc))
+pub no_flag_is : (f : Found) (id : Text) → None ≡ first_value f id → IsTrue false ↔ (first_of id (rows_of f) ≡ Some (codes "true"))
+no_flag_is f id e = (λ t. absurd (cc), λ g. let none : None ≡ Some (codes "true") = e ∙ first_value-rows f id ∙ g in absurd (cc))
 
 -- ---- the options of a run
 
@@ -118,14 +118,14 @@ text_of f id v t e is =
     cc
 
 -- an option whose text reads as a number in its range
-pub counted : (f : Found) (id v : Text) (most n : ℕ) → Some v ≡ first_value f id
+pub count_is : (f : Found) (id v : Text) (most n : ℕ) → Some v ≡ first_value f id
     → (IsNumeral 10 (without_leading_plus v) × (digits_value 10 (without_leading_plus v) < 2 ^ 32)) × (n ≡ digits_value 10 (without_leading_plus v))
     → 1 ≤ n → n ≤ most → IsCount id most (rows_of f) n
-counted f id v most n e parsed low high = record {
+count_is f id v most n e value_is low high = record {
   text = v;
   text_is = sym (first_value-rows f id) ∙ sym e;
-  numeral = parsed.0.0;
-  value = sym parsed.1;
+  numeral = value_is.0.0;
+  value = sym value_is.1;
   at_least = low;
   at_most = high;
 }
@@ -134,10 +134,10 @@ counted f id v most n e parsed low high = record {
 pub out_of_range : (f : Found) (id v : Text) (most n : ℕ) → Some v ≡ first_value f id
     → (IsNumeral 10 (without_leading_plus v) × (digits_value 10 (without_leading_plus v) < 2 ^ 32)) × (n ≡ digits_value 10 (without_leading_plus v))
     → (1 ≤ n → n ≤ most → ⊥) → (k : ℕ) → ¬ IsCount id most (rows_of f) k
-out_of_range f id v most n e parsed out k is =
+out_of_range f id v most n e value_is out k is =
     let same = text_of f id v is.text e is.text_is in
     let value : digits_value 10 (without_leading_plus v) ≡ k = ap (λ (t : Text). digits_value 10 (without_leading_plus t)) same ∙ is.value in
-    out (omega (arith, parsed.1, value, is.at_least)) (omega (arith, parsed.1, value, is.at_most))
+    out (omega (arith, value_is.1, value, is.at_least)) (omega (arith, value_is.1, value, is.at_most))
 
 -- one whose text is no number
 pub no_number : (f : Found) (id v : Text) (most : ℕ) → most < 2 ^ 32 → Some v ≡ first_value f id
@@ -150,8 +150,8 @@ no_number f id v most small e unread k is =
     unread (numeral, fits)
 
 -- and one without a text
-pub unfound : (f : Found) (id : Text) (most : ℕ) → None ≡ first_value f id → (n : ℕ) → ¬ IsCount id most (rows_of f) n
-unfound f id most e n is =
+pub no_text : (f : Found) (id : Text) (most : ℕ) → None ≡ first_value f id → (n : ℕ) → ¬ IsCount id most (rows_of f) n
+no_text f id most e n is =
     let none : None ≡ Some is.text = e ∙ first_value-rows f id ∙ is.text_is in
     absurd (cc)
 
@@ -159,16 +159,16 @@ unfound f id most e n is =
 pub no_input : (f : Found) (id : Text) (bytes : List ℕ) → None ≡ first_value f id → bytes ≡ [] → IsInputOf (first_of id (rows_of f)) bytes
 no_input f id bytes e is = subst (λ (o : Option Text). IsInputOf o bytes) (e ∙ first_value-rows f id) is
 
-pub decoded_input : (f : Found) (id v w : Text) (bytes : List ℕ) → Some v ≡ first_value f id → w ≡ v → decode_of w ≡ Ok bytes
+pub input_is : (f : Found) (id v w : Text) (bytes : List ℕ) → Some v ≡ first_value f id → w ≡ v → decode_of w ≡ Ok bytes
     → IsInputOf (first_of id (rows_of f)) bytes
-decoded_input f id v w bytes e same is =
+input_is f id v w bytes e same is =
     subst (λ (o : Option Text). IsInputOf o bytes) (e ∙ first_value-rows f id) (subst (λ (t : Text). decode_of t ≡ Ok bytes) same is)
 
 -- the fault of one that spells no bytes
-pub undecoded : (f : Found) (id v w : Text) (error : FromHexError) (fault : JobFault) → Some v ≡ first_value f id → w ≡ v
+pub input_fault : (f : Found) (id v w : Text) (error : FromHexError) (fault : JobFault) → Some v ≡ first_value f id → w ≡ v
     → (error ≡ OutOfMemory) ⊎ (decode_of w ≡ Err error) → (number_of fault ≡ 2 → error ≢ OutOfMemory) → number_of fault ≢ 1
     → IsInputFault (first_of id (rows_of f)) fault
-undecoded f id v w error fault e same kinds refused other =
+input_fault f id v w error fault e same kinds refused other =
     subst (λ (o : Option Text). IsInputFault o fault) (e ∙ first_value-rows f id) (go fault refused other)
   where
     spells_none : error ≢ OutOfMemory → IsErr (decode_of v)
@@ -189,14 +189,14 @@ not_run : (t : Text) (first : ℕ) → codes "run" ≡ t → slice_index t 0 ≡
 not_run t first e is differs = differs (sym is ∙ ap (λ (u : Text). slice_index u 0) (sym e))
 
 -- an input that spells bytes is no other
-spelled : (text : Option Text) (bytes : List ℕ) → IsInputOf text bytes → ¬ IsNoInput text
-spelled None bytes spells none = none
-spelled (Some text) bytes spells none = absurd (cc)
+not_no_input : (text : Option Text) (bytes : List ℕ) → IsInputOf text bytes → ¬ IsNoInput text
+not_no_input None bytes spells none = none
+not_no_input (Some text) bytes spells none = absurd (cc)
 
 -- a run with an input, but without rounds or without a quantum, names nothing
 pub no_rounds : (rows : List Row) (bytes : List ℕ) → IsInputOf (first_of (codes "input") rows) bytes
     → ((n : ℕ) → ¬ IsCount (codes "rounds") rounds_most rows n) → NamesNothing (Some (codes "run", rows))
-no_rounds rows bytes spells none = record { no_job = no_job; no_run = λ names. spelled (first_of (codes "input") rows) bytes spells names.1 }
+no_rounds rows bytes spells none = record { no_job = no_job; no_run = λ names. not_no_input (first_of (codes "input") rows) bytes spells names.1 }
   where
     no_job : (job : Job) → ¬ Names (Some (codes "run", rows)) job
     no_job (Check raw report) names = not_run _ 99 names.0 refl (λ e. absurd (omega (arith, e)))
@@ -207,7 +207,7 @@ no_rounds rows bytes spells none = record { no_job = no_job; no_run = λ names. 
 
 pub no_quantum : (rows : List Row) (bytes : List ℕ) → IsInputOf (first_of (codes "input") rows) bytes
     → ((n : ℕ) → ¬ IsCount (codes "quantum") quantum_most rows n) → NamesNothing (Some (codes "run", rows))
-no_quantum rows bytes spells none = record { no_job = no_job; no_run = λ names. spelled (first_of (codes "input") rows) bytes spells names.1 }
+no_quantum rows bytes spells none = record { no_job = no_job; no_run = λ names. not_no_input (first_of (codes "input") rows) bytes spells names.1 }
   where
     no_job : (job : Job) → ¬ Names (Some (codes "run", rows)) job
     no_job (Check raw report) names = not_run _ 99 names.0 refl (λ e. absurd (omega (arith, e)))
@@ -219,10 +219,10 @@ no_quantum rows bytes spells none = record { no_job = no_job; no_run = λ names.
 -- ---- words that don't parse
 
 -- the fault of words that don't parse
-pub unparsed : (a : App) (words : List Text) (error : Error) (fault : JobFault) → a ≡ sfi
+pub fault_of_no_parse : (a : App) (words : List Text) (error : Error) (fault : JobFault) → a ≡ sfi
     → (is_simple_and_free a ≡ true → HasKind (fault_of a words) error) → (number_of fault ≡ 1 → kind_of error ≢ kind.OutOfMemory) → number_of fault ≢ 2
     → IsFaultOf words fault
-unparsed a words error (Usage text) is kinds refused other = record { no_job = λ job asks. unread asks.parses; no_run = λ asks. unread asks.parses }
+fault_of_no_parse a words error (Usage text) is kinds refused other = record { no_job = λ job asks. unread asks.parses; no_run = λ asks. unread asks.parses }
   where
     unread : fault_of sfi words ≢ []
     unread parses =
@@ -231,5 +231,5 @@ unparsed a words error (Usage text) is kinds refused other = record { no_job = �
           | inl memory ↦ refused refl memory
           | inr among ↦ among
         ]
-unparsed a words error Hex is kinds refused other = absurd (other refl)
-unparsed a words error Memory is kinds refused other = tt
+fault_of_no_parse a words error Hex is kinds refused other = absurd (other refl)
+fault_of_no_parse a words error Memory is kinds refused other = tt

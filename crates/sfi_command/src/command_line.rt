@@ -139,7 +139,7 @@ fn usage(alloc: Global, error: Error) -> JobFault
 }
 
 /// The fault of words that parse and name no job, with the text to print.
-fn unnamed(alloc: Global, text: &str) -> JobFault
+fn usage_fault(alloc: Global, text: &str) -> JobFault
     ensures { number_of result ≢ 2 }
 {
     match String::from_str(alloc, text) {
@@ -152,7 +152,7 @@ fn unnamed(alloc: Global, text: &str) -> JobFault
 fn no_command(alloc: Global) -> JobFault
     ensures { number_of result ≢ 2 }
 {
-    unnamed(alloc, "error: no such command\n")
+    usage_fault(alloc, "error: no such command\n")
 }
 
 /// Whether the option was given, which takes no value.
@@ -231,7 +231,7 @@ fn check_of(alloc: Global, found: &ArgMatches<'_>) -> Result<Job, JobFault>
     let raw = is_given(found, "raw");
     let report = is_given(found, "report");
     if raw && report {
-        return Err(unnamed(alloc, RAW_REPORT));
+        return Err(usage_fault(alloc, RAW_REPORT));
     }
     Ok(Job::Check { raw, report })
 }

@@ -47,6 +47,9 @@ impl Job {
     }
 }
 
+/// The line that names a text of `--input` that spells no bytes.
+pub const HEX_LINE: &str = "option fault hex\n";
+
 /// Why the words ask for no job.
 #[derive(Debug, Drop, Error)]
 pub enum JobFault {
@@ -54,7 +57,7 @@ pub enum JobFault {
     #[error("{0}")]
     Usage(String),
     /// The words parse, and the text of `--input` spells no bytes.
-    #[error("option fault hex")]
+    #[error("{}", HEX_LINE.trim_ascii_end())]
     Hex,
     /// An allocation was refused.
     #[error("out of memory")]

@@ -7,4 +7,4 @@ mod job;
 
 pub use command_line::job_of;
 pub use help::VERSION;
-pub use job::{Job, JobFault};
+pub use job::{HEX_LINE, Job, JobFault};

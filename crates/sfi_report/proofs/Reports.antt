@@ -49,6 +49,6 @@ one_finding_more ps found i d text more h before here =
     subst (λ (t : List ℕ). IsReport ps (take (i + 1) found) t) (sym here.new_is) longer
 
 -- what was written where a write succeeds
-pub written : {A E : Type 0} (r : Result A E) (new long short : List ℕ) → new ≡ (if is_ok r then long else short) → OnOk r (new ≡ long)
-written (Ok a) new long short e = e
-written (Err x) new long short e = tt
+pub text_on_ok : {A E : Type 0} (r : Result A E) (new long short : List ℕ) → new ≡ (if is_ok r then long else short) → OnOk r (new ≡ long)
+text_on_ok (Ok a) new long short e = e
+text_on_ok (Err x) new long short e = tt

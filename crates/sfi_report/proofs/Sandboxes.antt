@@ -25,8 +25,8 @@ pub record IsListedTo (p : Part) (n : ℕ) (old new : List ℕ) : Type 0 where
   pub text_is : IsListingOfFirst p n text
   pub new_is : new ≡ old ++ text
 
-pub none_listed : (p : Part) (old : List ℕ) → IsListedTo p 0 old old
-none_listed p old = record { text = []; text_is = refl; new_is = sym (append-nil old) }
+pub empty_listing : (p : Part) (old : List ℕ) → IsListedTo p 0 old old
+empty_listing p old = record { text = []; text_is = refl; new_is = sym (append-nil old) }
 
 pub one_bundle_more : (p : Part) (n : ℕ) (bytes old new more : List ℕ) → bytes ≡ bundle_bytes p n
     → IsListedTo p n old new → Adds new more (IsBundleListing (p.code_base + 16 * n) bytes) → IsListedTo p (n + 1) old more

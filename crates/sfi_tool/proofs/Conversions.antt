@@ -47,8 +47,8 @@ on_fault text read one readable layout second (inr (inr spelt)) = second (subst 
 
 -- ---- a conversion
 
-pub says_converted : (text read bytes new line : List ℕ) → SpellsBytes text bytes → read ≡ bytes → IsConversion read new → line ≡ encode_lower new ++ line_end → Says Convert text 0 line
-says_converted text read bytes new line spells same is e =
+pub says_conversion : (text read bytes new line : List ℕ) → SpellsBytes text bytes → read ≡ bytes → IsConversion read new → line ≡ encode_lower new ++ line_end → Says Convert text 0 line
+says_conversion text read bytes new line spells same is e =
     (bytes, spells, inl (record { new = new; conversion = subst (λ (b : List ℕ). IsConversion b new) same is; status_is = refl; text_is = e }))
 
 -- ---- a fault
@@ -61,21 +61,21 @@ not_second : (read : List ℕ) (fault : ConvertFault) (found : List Finding) →
 not_second read fault found only f second =
     subst (λ (x : ConvertFault). HasFound x found) (not_old_one fault (only second)) f
 
-found_says : (bytes : List ℕ) (fault : ConvertFault) (found : List Finding) (status : ℕ) (line : List ℕ) → (¬ IsSecond bytes) → IsConvertFault bytes fault → status ≡ 1 → HasFound fault found
+findings_say : (bytes : List ℕ) (fault : ConvertFault) (found : List Finding) (status : ℕ) (line : List ℕ) → (¬ IsSecond bytes) → IsConvertFault bytes fault → status ≡ 1 → HasFound fault found
     → line ≡ refused_line found → SaysConversion bytes status line
-found_says bytes (Refused (refusal.Layout k)) found status line first is one h e = absurd h
-found_says bytes (Refused (refusal.Findings others)) found status line first is one h e =
+findings_say bytes (Refused (refusal.Layout k)) found status line first is one h e = absurd h
+findings_say bytes (Refused (refusal.Findings others)) found status line first is one h e =
     inr (inl (first, record { found = found; refused = subst (HasFindings bytes) h is.1; status_is = one; text_is = e }))
-found_says bytes (Refused refusal.Memory) found status line first is one h e = absurd h
-found_says bytes NotOld found status line first is one h e = absurd h
-found_says bytes (Stack others) found status line first is one h e = inr (inr (record { found = found; refused = subst (HasStackFindings bytes) h is; status_is = one; text_is = e }))
-found_says bytes Memory found status line first is one h e = absurd h
+findings_say bytes (Refused refusal.Memory) found status line first is one h e = absurd h
+findings_say bytes NotOld found status line first is one h e = absurd h
+findings_say bytes (Stack others) found status line first is one h e = inr (inr (record { found = found; refused = subst (HasStackFindings bytes) h is; status_is = one; text_is = e }))
+findings_say bytes Memory found status line first is one h e = absurd h
 
 pub fault_says : (text read bytes : List ℕ) (fault : ConvertFault) (answer : Result Answer Stop) → SpellsBytes text bytes → read ≡ bytes → (IsSecond read → AnswersNotOld (Err fault))
     → IsConvertFault read fault → AnswersConvertFault fault answer → IfOk answer (λ a. Says Convert text a.status (string_bytes a.text))
 fault_says text read bytes fault (Ok a) spells same only is h =
     let first : ¬ IsSecond read = not_second read fault h.1.0 only h.1.1 in
-    (bytes, spells, found_says bytes fault h.1.0 a.status (string_bytes a.text) (λ s. first (subst IsSecond (sym same) s)) (subst (λ (b : List ℕ). IsConvertFault b fault) same is) h.0 h.1.1 h.1.2)
+    (bytes, spells, findings_say bytes fault h.1.0 a.status (string_bytes a.text) (λ s. first (subst IsSecond (sym same) s)) (subst (λ (b : List ℕ). IsConvertFault b fault) same is) h.0 h.1.1 h.1.2)
 fault_says text read bytes fault (Err s) spells same only is h = tt
 
 second_fault : (text bytes : List ℕ) → SpellsBytes text bytes → IsSecond bytes → HasInputFault Convert text
@@ -111,16 +111,16 @@ pub fault_not_done : (text read : List ℕ) (fault : ConvertFault) (answer : Res
 fault_not_done text read fault answer one only h done = on_conversion text read one (λ new is. done_after new fault answer (only new is) h) done
 
 -- findings are answered by status 1
-found_answer : (fault : ConvertFault) (found : List Finding) (answer : Result Answer Stop) → HasFound fault found → AnswersConvertFault fault answer → AnswersStatus 1 answer
-found_answer fault found (Ok a) f h = h.0
-found_answer fault found (Err (stop.Input other)) f h = absurd (subst (λ (x : ConvertFault). HasFound x found) h f)
-found_answer fault found (Err (stop.Layout k)) f h = absurd (subst (λ (x : ConvertFault). HasFound x found) h f)
-found_answer fault found (Err (stop.Build other)) f h = absurd h
-found_answer fault found (Err stop.Memory) f h = tt
+findings_status : (fault : ConvertFault) (found : List Finding) (answer : Result Answer Stop) → HasFound fault found → AnswersConvertFault fault answer → AnswersStatus 1 answer
+findings_status fault found (Ok a) f h = h.0
+findings_status fault found (Err (stop.Input other)) f h = absurd (subst (λ (x : ConvertFault). HasFound x found) h f)
+findings_status fault found (Err (stop.Layout k)) f h = absurd (subst (λ (x : ConvertFault). HasFound x found) h f)
+findings_status fault found (Err (stop.Build other)) f h = absurd h
+findings_status fault found (Err stop.Memory) f h = tt
 
 first_after : (found : List Finding) (fault : ConvertFault) (answer : Result Answer Stop) → converting.AnswersFindings found (Err fault) → AnswersConvertFault fault answer → AnswersStatus 1 answer
 first_after found (Refused (refusal.Layout k)) answer only h = absurd only
-first_after found (Refused (refusal.Findings others)) answer only h = found_answer (Refused (refusal.Findings others)) found answer only h
+first_after found (Refused (refusal.Findings others)) answer only h = findings_status (Refused (refusal.Findings others)) found answer only h
 first_after found (Refused refusal.Memory) answer only h = absurd only
 first_after found NotOld answer only h = absurd only
 first_after found (Stack others) answer only h = absurd only
@@ -129,14 +129,14 @@ first_after found Memory answer only h = memory_answer 1 answer h
 second_after : (found : List Finding) (fault : ConvertFault) (answer : Result Answer Stop) → converting.AnswersStack found (Err fault) → AnswersConvertFault fault answer → AnswersStatus 1 answer
 second_after found (Refused r) answer only h = absurd only
 second_after found NotOld answer only h = absurd only
-second_after found (Stack others) answer only h = found_answer (Stack others) found answer only h
+second_after found (Stack others) answer only h = findings_status (Stack others) found answer only h
 second_after found Memory answer only h = memory_answer 1 answer h
 
-pub fault_refused : (text read : List ℕ) (fault : ConvertFault) (answer : Result Answer Stop) → ((bytes : List ℕ) → SpellsBytes text bytes → read ≡ bytes)
+pub status_of_refusal : (text read : List ℕ) (fault : ConvertFault) (answer : Result Answer Stop) → ((bytes : List ℕ) → SpellsBytes text bytes → read ≡ bytes)
     → ((found : List Finding) → (¬ IsSecond read) → HasFindings read found → converting.AnswersFindings found (Err fault))
     → ((found : List Finding) → HasStackFindings read found → converting.AnswersStack found (Err fault))
     → AnswersConvertFault fault answer → IsRefused Convert text → AnswersStatus 1 answer
-fault_refused text read fault answer one only_findings only_stack h refused =
+status_of_refusal text read fault answer one only_findings only_stack h refused =
     on_refusal text read one (λ found first is. first_after found fault answer (only_findings found first is) h) (λ found is. second_after found fault answer (only_stack found is) h) refused
 
 no_layout : (fault : ConvertFault) (found : List Finding) (k : LayoutFault) → HasFound fault found → converting.AnswersLayout k (Err fault) → ⊥

@@ -145,8 +145,8 @@ pub decodes_at : (text : List ℕ) (k : ℕ) (bytes : List ℕ) (high : Option �
     → Decodes (filter is_kept text) (slice_index text k ∷ filter is_kept (drop (k + 1) text)) bytes high
 decodes_at text k bytes high h e d = subst (λ (rest : List ℕ). Decodes (filter is_kept text) rest bytes high) (at_kept text k h (kept_is (slice_index text k) e)) d
 
-pub moved : (digits rest bytes others : List ℕ) (high other : Option ℕ) → others ≡ bytes → other ≡ high → Decodes digits rest bytes high → Decodes digits rest others other
-moved digits rest bytes others high other e f d = subst (λ (h : Option ℕ). Decodes digits rest others h) (sym f) (subst (λ (l : List ℕ). Decodes digits rest l high) (sym e) d)
+pub decodes_same : (digits rest bytes others : List ℕ) (high other : Option ℕ) → others ≡ bytes → other ≡ high → Decodes digits rest bytes high → Decodes digits rest others other
+decodes_same digits rest bytes others high other e f d = subst (λ (h : Option ℕ). Decodes digits rest others h) (sym f) (subst (λ (l : List ℕ). Decodes digits rest l high) (sym e) d)
 
 pub at_end : (text bytes : List ℕ) (k : ℕ) (high : Option ℕ) → length text ≤ k → Decodes (filter is_kept text) (filter is_kept (drop k text)) bytes high → Decodes (filter is_kept text) [] bytes high
 at_end text bytes k high h d = subst (λ (l : List ℕ). Decodes (filter is_kept text) (filter is_kept l) bytes high) (drop_all k text h) d

@@ -20,9 +20,9 @@ which true = inl refl
 which false = inr refl
 
 -- the line of counted findings is that of the findings
-counted_line : (count : ℕ) (first : Finding) (found : List Finding) → AreCounted count first found → refused_text count first ≡ refused_line found
-counted_line count first [] h = let e = h.first_is in absurd (cc)
-counted_line count first (x ∷ found) h =
+line_of_count : (count : ℕ) (first : Finding) (found : List Finding) → AreCounted count first found → refused_text count first ≡ refused_line found
+line_of_count count first [] h = let e = h.first_is in absurd (cc)
+line_of_count count first (x ∷ found) h =
     let e = h.first_is in
     let same : first ≡ x = cc in
     rw (h.count_is, same) refl
@@ -74,45 +74,45 @@ module _ {S : Type 0} (known : S → Option (List ℕ)) (failed : S → Bool) wh
           rw (a) (rest.0, k.1 ∙ ap (λ (l : List ℕ). (b ∷ bs) ++ l) rest.1 ∙ sym (append_assoc (b ∷ bs) (bytes_handed_out rs) rest.0), rest.2)
 
   -- the bytes of a stream are the front of the reader's
-  front_told : (s t : S) (bytes all : List ℕ) (ends : Bool) → Streams reads_known 4096 s t bytes ends → known s ≡ Some all
+  front_of_input : (s t : S) (bytes all : List ℕ) (ends : Bool) → Streams reads_known 4096 s t bytes ends → known s ≡ Some all
       → (rest : List ℕ) × (all ≡ bytes ++ rest) × (ends ≡ true → all ≡ bytes)
-  front_told s t bytes all ends h e =
+  front_of_input s t bytes all ends h e =
       let front = known_front h.chain s t all h.is_chain e in
       let whole : all ≡ bytes ++ front.0 = front.1 ∙ ap (λ (l : List ℕ). l ++ front.0) (sym h.bytes_are) in
       (front.0, whole, λ is. whole ∙ ap (λ (l : List ℕ). bytes ++ l) (front.2 (sym h.ends_is ∙ is)) ∙ append-nil bytes)
 
   -- and where it ended, what holds of them holds of all that the reader told
-  all_told : (P : List ℕ → Type 0) (s t : S) (bytes : List ℕ) (ends : Bool) (told : Option (List ℕ)) → known s ≡ told → Streams reads_known 4096 s t bytes ends → ends ≡ true → P bytes
+  holds_of_all : (P : List ℕ → Type 0) (s t : S) (bytes : List ℕ) (ends : Bool) (told : Option (List ℕ)) → known s ≡ told → Streams reads_known 4096 s t bytes ends → ends ≡ true → P bytes
       → IfSome told P
-  all_told P s t bytes ends None e h is holds = tt
-  all_told P s t bytes ends (Some all) e h is holds = subst P (sym ((front_told s t bytes all ends h e).2 is)) holds
+  holds_of_all P s t bytes ends None e h is holds = tt
+  holds_of_all P s t bytes ends (Some all) e h is holds = subst P (sym ((front_of_input s t bytes all ends h e).2 is)) holds
 
   -- an image without findings
-  pub accepted_told : (s t : S) (told : Option (List ℕ)) (sandboxes bundles : ℕ) (text : List ℕ) → known s ≡ told
+  pub says_accepted : (s t : S) (told : Option (List ℕ)) (sandboxes bundles : ℕ) (text : List ℕ) → known s ≡ told
       → Answers reads_known s t (answers.Accepted sandboxes bundles) → text ≡ accepted_text sandboxes bundles
       → IfSome told (λ all. SaysVerdict false all 0 text)
-  accepted_told s t told sandboxes bundles text e h is =
+  says_accepted s t told sandboxes bundles text e h is =
       let j = h.judged.accepted in
-      all_told (λ all. SaysVerdict false all 0 text) s t h.bytes h.ends told e h.streams j.0
+      holds_of_all (λ all. SaysVerdict false all 0 text) s t h.bytes h.ends told e h.streams j.0
       (inl (record { parts = j.1; accepted = j.2; status_is = refl; text_is = is ∙ rw (j.3, j.4) refl }))
 
   -- one with findings
-  pub refused_told : (s t : S) (told : Option (List ℕ)) (count : ℕ) (first : Finding) (text : List ℕ) → known s ≡ told
+  pub says_refused : (s t : S) (told : Option (List ℕ)) (count : ℕ) (first : Finding) (text : List ℕ) → known s ≡ told
       → Answers reads_known s t (answers.Findings count first) → text ≡ refused_text count first
       → IfSome told (λ all. SaysVerdict false all 1 text)
-  refused_told s t told count first text e h is =
+  says_refused s t told count first text e h is =
       let j = h.judged.findings in
-      all_told (λ all. SaysVerdict false all 1 text) s t h.bytes h.ends told e h.streams j.0
-      (inr (record { found = j.1; refused = j.2; status_is = refl; text_is = is ∙ counted_line count first j.1 j.3 }))
+      holds_of_all (λ all. SaysVerdict false all 1 text) s t h.bytes h.ends told e h.streams j.0
+      (inr (record { found = j.1; refused = j.2; status_is = refl; text_is = is ∙ line_of_count count first j.1 j.3 }))
 
   -- and one with a fault, whether the stream was read to its end or not
-  pub fault_told : (s t : S) (told : Option (List ℕ)) (number : ℕ) → known s ≡ told → Answers reads_known s t (answers.Layout number) → IfSome told HasSomeFault
-  fault_told s t told number e h = by told e h.judged.layout
+  pub has_fault : (s t : S) (told : Option (List ℕ)) (number : ℕ) → known s ≡ told → Answers reads_known s t (answers.Layout number) → IfSome told HasSomeFault
+  has_fault s t told number e h = by told e h.judged.layout
     where
       by : (told : Option (List ℕ)) → known s ≡ told → ((h.ends ≡ true) × IsFaultOf h.bytes number) ⊎ HasFaultNumberWhateverFollows h.bytes number → IfSome told HasSomeFault
       by None e fault = tt
       by (Some all) e (inl at_end) =
-          (at_end.1.0, subst (λ (l : List ℕ). IsFault l at_end.1.0) (sym ((front_told s t h.bytes all h.ends h.streams e).2 at_end.0)) at_end.1.2)
+          (at_end.1.0, subst (λ (l : List ℕ). IsFault l at_end.1.0) (sym ((front_of_input s t h.bytes all h.ends h.streams e).2 at_end.0)) at_end.1.2)
       by (Some all) e (inr onwards) =
-          let front = front_told s t h.bytes all h.ends h.streams e in
+          let front = front_of_input s t h.bytes all h.ends h.streams e in
           (onwards.0, subst (λ (l : List ℕ). IsFault l onwards.0) (sym front.1) (onwards.2 front.0))

@@ -1,15 +1,16 @@
 -- A text above its limit.
-use Rattle.std.proofs.Common.{◌≡◌, ◌<◌, ℕ, true, false, List, Option, Some, None, length, inl, IfSome}
+use Rattle.std.proofs.Common.{◌≡◌, ◌<◌, ◌≤◌, arith, ℕ, true, false, List, Option, Some, None, length, inl, IfSome}
 use Rattle.sfi_command.specs.Jobs.{is_raw}
 use Rattle.sfi_tool.specs.private.Input.{IsInput}
 use Rattle.sfi_tool.specs.Input.{limit}
-use Rattle.sfi_tool.specs.Says.{HasInputFault}
+use Rattle.sfi_tool.specs.Hexadecimal.{SpellsBytes}
+use Rattle.sfi_tool.specs.Says.{HasInputFault, IsDone, IsRefused, IsSourceText}
 use Rattle.sfi_tool.specs.declared.input.Input.TheVariants.{TooLarge}
 use Rattle.sfi_command.specs.declared.job.Job.{Job}
 use Rattle.sfi_command.specs.declared.job.Job.TheVariants.{Check, Dis, Build, Run, Convert}
 
 -- is a fault to each job that reads a text
-too_large : (job : Job) (text : List ℕ) → is_raw job ≡ false → limit < length text → HasInputFault job text
+pub too_large : (job : Job) (text : List ℕ) → is_raw job ≡ false → limit < length text → HasInputFault job text
 too_large (Check true report) text read over = absurd (cc)
 too_large (Check false report) text read over = inl (inl over)
 too_large Dis text read over = inl (inl over)
@@ -17,7 +18,23 @@ too_large Build text read over = inl (inl over)
 too_large (Run rounds quantum given) text read over = inl (inl over)
 too_large Convert text read over = inl (inl over)
 
+-- no job is done on it
+pub not_done : (job : Job) (text : List ℕ) → limit < length text → IsDone job text → ⊥
+not_done (Check raw report) text over done = absurd (omega (arith, over, done.2.short))
+not_done Dis text over done = absurd (omega (arith, over, done.2.short))
+not_done Build text over done = absurd (omega (arith, over, done.1.short))
+not_done (Run rounds quantum given) text over done = absurd (omega (arith, over, done.2.short))
+not_done Convert text over done = absurd (omega (arith, over, done.2.short))
+
+-- nor refused
+pub not_refused : (job : Job) (text : List ℕ) → limit < length text → IsRefused job text → ⊥
+not_refused (Check raw report) text over refused = absurd (omega (arith, over, refused.2.short))
+not_refused Dis text over refused = absurd refused
+not_refused Build text over refused = absurd refused
+not_refused (Run rounds quantum given) text over refused = absurd (omega (arith, over, refused.2.short))
+not_refused Convert text over refused = absurd (omega (arith, over, refused.2.short))
+
 -- where the reader told its bytes
-pub told_too_large : (job : Job) (told : Option (List ℕ)) → is_raw job ≡ false → IsInput told TooLarge → IfSome told (HasInputFault job)
-told_too_large job None read is = tt
-told_too_large job (Some text) read is = too_large job text read is
+pub too_large_input : (job : Job) (told : Option (List ℕ)) → is_raw job ≡ false → IsInput told TooLarge → IfSome told (HasInputFault job)
+too_large_input job None read is = tt
+too_large_input job (Some text) read is = too_large job text read is

@@ -1,24 +1,51 @@
 //! What a job answers on the text that was read.
 
-ghost use Rattle.std.specs.Prelude.{◌≡◌, ◌≤◌, ◌<◌, false, IfOk, string_bytes};
+ghost use Rattle.std.specs.Prelude.{◌≡◌, ◌≤◌, ◌<◌, false, length, IfOk, IfErr, IsErr, string_bytes};
 ghost use Rattle.sfi_command.specs.Jobs.{is_raw};
+ghost use Rattle.sfi_tool.specs.Input.{limit};
 ghost use Rattle.sfi_tool.specs.Says.{HasInputFault, IsDone, IsRefused, Says};
+ghost use Rattle.sfi_tool.specs.private.Says.{AnswersStatus, IsStop};
 
-use crate::building::built;
-use crate::checking::checked;
+use crate::building::build_answer;
+use crate::checking::check_answer;
 use crate::converting::conversion_answer;
-use crate::fault::{Stop, build_line, input_line, layout_line};
-use crate::listing::listed;
-use crate::ran::ran;
+use crate::fault::{InputFault, Stop, build_line, input_line, layout_line};
+use crate::input::INPUT_LIMIT;
+use crate::listing::listing_answer;
+use crate::running::run_answer;
 use crate::verdict::Answer;
 use sfi_command::Job;
 use std::alloc::{AllocError, Global};
+
+/// What the job answers on a text that keeps its limit, or why it stops.
+fn job_answer(alloc: Global, job: &Job, text: &[u8]) -> Result<Answer, Stop>
+    requires reads_text { is_raw job.now ≡ false }
+    requires within_limit { length text.now ≤ limit }
+    ensures says { IfOk result (λ a. Says job.now text.now a.status (string_bytes a.text)) }
+    ensures stop { IfErr result (IsStop job.now text.now) }
+    ensures only_done { IsDone job.now text.now → AnswersStatus 0 result }
+    ensures only_refused { IsRefused job.now text.now → AnswersStatus 1 result }
+    ensures only_fault { HasInputFault job.now text.now → IsErr result }
+{
+    match job {
+        Job::Check { report, .. } => check_answer(alloc, *report, text),
+        Job::Dis => listing_answer(alloc, text),
+        Job::Build => build_answer(alloc, text),
+        Job::Run {
+            rounds,
+            quantum,
+            input,
+        } => run_answer(alloc, *rounds, *quantum, input, text),
+        Job::Convert => conversion_answer(alloc, text),
+    }
+}
 
 /// What the job answers on the text that was read: what it was to print, or the line of a fault. A job that reads an image's
 /// own bytes has no text.
 ///
 /// A text above 134217728 bytes goes first, then an odd number of digits, then the first byte that is no
 /// digit, and then the layout of the image. The one error is that an allocation was refused.
+#[tactic(auto, using(crate::proofs::TooLarge::too_large, crate::proofs::TooLarge::not_done, crate::proofs::TooLarge::not_refused))]
 pub fn answer(alloc: Global, job: &Job, text: &[u8]) -> Result<Answer, AllocError>
     requires { is_raw job.now ≡ false }
 
@@ -33,18 +60,13 @@ pub fn answer(alloc: Global, job: &Job, text: &[u8]) -> Result<Answer, AllocErro
     ensures only_refused { IsRefused job.now text.now → IfOk result (λ a. a.status ≡ 1) }
     ensures only_fault { HasInputFault job.now text.now → IfOk result (λ a. a.status ≡ 2) }
 {
-    let answered = match job {
-        Job::Check { report, .. } => checked(alloc, *report, text),
-        Job::Dis => listed(alloc, text),
-        Job::Build => built(alloc, text),
-        Job::Run {
-            rounds,
-            quantum,
-            input,
-        } => ran(alloc, *rounds, *quantum, input, text),
-        Job::Convert => conversion_answer(alloc, text),
-    };
-    match answered {
+    if text.len() > INPUT_LIMIT {
+        return Ok(Answer {
+            status: 2,
+            text: input_line(alloc, &InputFault::TooLarge)?,
+        });
+    }
+    match job_answer(alloc, job, text) {
         Ok(answer) => Ok(answer),
         Err(Stop::Input(fault)) => Ok(Answer {
             status: 2,

@@ -1,26 +1,24 @@
 //! The command `build`.
 
-ghost use Rattle.std.specs.Prelude.{◌≡◌, ◌++◌, IfOk, IfErr, IsErr, string_bytes};
+ghost use Rattle.std.specs.Prelude.{◌≡◌, ◌++◌, ◌≤◌, IfOk, IfErr, IsErr, string_bytes, length};
 ghost use Rattle.hex.specs.Hex.{encode_lower};
 ghost use Rattle.sfi_report.specs.Digits.{line_end};
 ghost use Rattle.sfi_tool.specs.private.Says.{AnswersStatus, IsSourceStop, IsStop};
+ghost use Rattle.sfi_tool.specs.Input.{limit};
 ghost use Rattle.sfi_tool.specs.Says.{HasInputFault, IsDone, IsSourceText, Says};
 ghost use Rattle.sfi_command.specs.declared.job.Job.TheVariants.{Build};
 
 use crate::fault::{InputFault, Stop, build_stop};
-use crate::input::INPUT_LIMIT;
 use crate::verdict::Answer;
 use sfi_build::build;
 use std::alloc::{AllocError, Global};
 
-/// The source text that was read. A text above its limit goes first.
+/// The source text that was read.
 fn source_text(text: &[u8]) -> Result<&str, Stop>
+    requires { length text.now ≤ limit }
     ensures text { IfOk result (λ source. (source.now ≡ text.now) × IsSourceText text.now) }
     ensures stop { IfErr result (IsSourceStop text.now) }
 {
-    if text.len() > INPUT_LIMIT {
-        return Err(Stop::Input(InputFault::TooLarge));
-    }
     match std::str::from_utf8(text) {
         Ok(source) => Ok(source),
         Err(_) => Err(Stop::Input(InputFault::Utf8)),
@@ -37,7 +35,8 @@ pub(crate) fn digits_line(alloc: Global, bytes: &[u8]) -> Result<String, AllocEr
 }
 
 /// The image that the source text makes, in hexadecimal digits.
-pub(crate) fn built(alloc: Global, text: &[u8]) -> Result<Answer, Stop>
+pub(crate) fn build_answer(alloc: Global, text: &[u8]) -> Result<Answer, Stop>
+    requires { length text.now ≤ limit }
     ensures says { IfOk result (λ a. Says Build text.now a.status (string_bytes a.text)) }
     ensures stop { IfErr result (IsStop Build text.now) }
     ensures only_done { IsDone Build text.now → AnswersStatus 0 result }

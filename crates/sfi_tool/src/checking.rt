@@ -1,12 +1,13 @@
 //! The command `check`.
 
-ghost use Rattle.std.specs.Prelude.{List, false, IfOk, IfErr, IsErr, string_bytes};
+ghost use Rattle.std.specs.Prelude.{◌≤◌, List, false, IfOk, IfErr, IsErr, string_bytes, length};
 ghost use Rattle.sfi_image.specs.declared.fault.LayoutFault.{LayoutFault};
 ghost use Rattle.sfi_image.specs.Spelling.{Part};
 ghost use Rattle.sfi_image.specs.Faults.{IsFault};
 ghost use Rattle.sfi_check.specs.Verdict.{IsAccepted, HasFindings};
 ghost use Rattle.sfi_scan.specs.declared.finding.Finding.{Finding};
 ghost use Rattle.sfi_tool.specs.private.Says.{AnswersStatus, IsRefusalStop, IsStop, Refuses};
+ghost use Rattle.sfi_tool.specs.Input.{limit};
 ghost use Rattle.sfi_tool.specs.Says.{HasInputFault, IsDone, IsRefusalText, IsRefused, IsReportOf, Says, SaysRefused};
 ghost use Rattle.sfi_command.specs.declared.job.Job.TheVariants.{Check};
 
@@ -20,7 +21,7 @@ use sfi_scan::Finding;
 use std::alloc::{AllocError, Global};
 
 /// The report on the findings of the image with these bytes.
-fn reported(alloc: Global, bytes: &[u8], findings: &[Finding]) -> Result<String, AllocError>
+fn report_of(alloc: Global, bytes: &[u8], findings: &[Finding]) -> Result<String, AllocError>
     requires { HasFindings bytes.now findings.now }
     ensures { IfOk result (λ text. IsReportOf bytes.now findings.now (string_bytes text)) }
 {
@@ -48,7 +49,7 @@ fn refusal_text(
     if !report {
         return Ok(verdict);
     }
-    let mut text = reported(alloc, bytes, findings)?;
+    let mut text = report_of(alloc, bytes, findings)?;
     text.push_str(&verdict)?;
     Ok(text)
 }
@@ -78,7 +79,8 @@ pub(crate) fn refusal_answer(
 }
 
 /// The verdict on the image that the text spells, with a report on its findings or without.
-pub(crate) fn checked(alloc: Global, report: bool, text: &[u8]) -> Result<Answer, Stop>
+pub(crate) fn check_answer(alloc: Global, report: bool, text: &[u8]) -> Result<Answer, Stop>
+    requires { length text.now ≤ limit }
     ensures says { IfOk result (λ a. Says (Check false report) text.now a.status (string_bytes a.text)) }
     ensures stop { IfErr result (IsStop (Check false report) text.now) }
     ensures only_done { IsDone (Check false report) text.now → AnswersStatus 0 result }

@@ -1,9 +1,10 @@
 //! The command `convert`.
 
-ghost use Rattle.std.specs.Prelude.{◌≡◌, ◌≢◌, [], IfOk, IfErr, IsErr, string_bytes};
+ghost use Rattle.std.specs.Prelude.{◌≡◌, ◌≢◌, ◌≤◌, [], IfOk, IfErr, IsErr, string_bytes, length};
 ghost use Rattle.sfi_check.specs.declared.conversion.ConvertFault.TheVariants.{Refused};
 ghost use Rattle.sfi_tool.specs.private.Converting.{AnswersConvertFault, HoldsSome};
 ghost use Rattle.sfi_tool.specs.private.Says.{AnswersStatus, IsStop};
+ghost use Rattle.sfi_tool.specs.Input.{limit};
 ghost use Rattle.sfi_tool.specs.Says.{HasInputFault, IsDone, IsRefused, Says};
 ghost use Rattle.sfi_tool.specs.Verdict.{refused_line};
 ghost use Rattle.sfi_command.specs.declared.job.Job.TheVariants.{Convert};
@@ -57,6 +58,7 @@ fn fault_answer(alloc: Global, fault: ConvertFault) -> Result<Answer, Stop>
 
 /// The image that the text spells, in the second format, in hexadecimal digits; or the verdict where it breaks a rule of either format.
 pub(crate) fn conversion_answer(alloc: Global, text: &[u8]) -> Result<Answer, Stop>
+    requires { length text.now ≤ limit }
     ensures says { IfOk result (λ a. Says Convert text.now a.status (string_bytes a.text)) }
     ensures stop { IfErr result (IsStop Convert text.now) }
     ensures only_done { IsDone Convert text.now → AnswersStatus 0 result }

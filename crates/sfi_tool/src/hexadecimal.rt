@@ -4,10 +4,10 @@ ghost use Rattle.std.specs.Prelude.{◌≡◌, ◌<◌, ◌≤◌, ◌+◌, ◌*
 ghost use Rattle.sfi_tool.specs.declared.hexadecimal.TheConstants.{CLASSES};
 ghost use Rattle.hex.specs.Hex.{decode_of, hex_digit_value, pair_value};
 ghost use Rattle.sfi_tool.specs.Hexadecimal.{is_kept, IsNoHexadecimal, IsUnreadable, SpellsBytes};
+ghost use Rattle.sfi_tool.specs.Input.{limit};
 ghost use Rattle.sfi_tool.specs.private.Hexadecimal.{GivesBytes, IsByteOf, IsInputStop};
 
 use crate::fault::{InputFault, Stop};
-use crate::input::INPUT_LIMIT;
 use std::alloc::Global;
 
 // The class of white space. The class of a digit is its value.
@@ -237,15 +237,13 @@ fn decoded(alloc: Global, text: &[u8]) -> Result<Vec<u8>, Stop>
     }
 }
 
-/// The bytes that the text spells. A text above its limit goes first, and then an odd number of digits.
+/// The bytes that the text spells. An odd number of digits goes first.
 pub(crate) fn bytes_of(alloc: Global, text: &[u8]) -> Result<Vec<u8>, Stop>
+    requires { length text.now ≤ limit }
     ensures bytes { IfOk result (λ v. SpellsBytes text.now v.items) }
     ensures stop { IfErr result (IsInputStop (IsUnreadable text.now)) }
     ensures only_bytes { (bytes : List ℕ) → SpellsBytes text.now bytes → GivesBytes bytes result }
     ensures only_stop { IsUnreadable text.now → IsErr result }
 {
-    if text.len() > INPUT_LIMIT {
-        return Err(Stop::Input(InputFault::TooLarge));
-    }
     decoded(alloc, text)
 }

@@ -11,14 +11,14 @@ mod input;
 mod listing;
 mod output;
 mod plan;
-mod ran;
 mod raw;
 mod run_lines;
 mod running;
+mod tool;
 mod verdict;
 
 pub use answering::answer;
 pub use output::write_out;
-pub use running::run_tool;
 pub use sfi_command::{Job, JobFault, VERSION, job_of};
+pub use tool::run_tool;
 pub use verdict::Answer;

@@ -1,7 +1,8 @@
 //! The command `dis`.
 
-ghost use Rattle.std.specs.Prelude.{IfOk, IfErr, IsErr, string_bytes};
+ghost use Rattle.std.specs.Prelude.{◌≤◌, IfOk, IfErr, IsErr, string_bytes, length};
 ghost use Rattle.sfi_tool.specs.private.Says.{AnswersStatus, IsStop};
+ghost use Rattle.sfi_tool.specs.Input.{limit};
 ghost use Rattle.sfi_tool.specs.Says.{HasInputFault, IsDone, Says};
 ghost use Rattle.sfi_command.specs.declared.job.Job.TheVariants.{Dis};
 
@@ -13,7 +14,8 @@ use sfi_report::listing_text;
 use std::alloc::Global;
 
 /// The listing of the image that the text spells.
-pub(crate) fn listed(alloc: Global, text: &[u8]) -> Result<Answer, Stop>
+pub(crate) fn listing_answer(alloc: Global, text: &[u8]) -> Result<Answer, Stop>
+    requires { length text.now ≤ limit }
     ensures says { IfOk result (λ a. Says Dis text.now a.status (string_bytes a.text)) }
     ensures stop { IfErr result (IsStop Dis text.now) }
     ensures only_done { IsDone Dis text.now → AnswersStatus 0 result }

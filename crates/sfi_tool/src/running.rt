@@ -1,95 +1,64 @@
-//! A run of the program, over its reader and writer.
+//! The command `run`.
 
-ghost use Rattle.std.specs.Prelude.{◌≡◌, ◌<◌, ◌≤◌, ◌≢◌, ℕ, List, true, false, IfSome, map, string_bytes};
-ghost use Rattle.std.specs.Io.KnownBytes.{Appends};
-ghost use Rattle.sfi_command.specs.Command.{AsksNothing};
-ghost use Rattle.sfi_tool.specs.Input.{OnlyAppends};
-ghost use Rattle.sfi_tool.specs.Run.{WritesAnswer, MeetsFault};
-ghost use Rattle.sfi_tool.specs.Says.{HasInputFault, Says};
-ghost use Rattle.sfi_command.specs.declared.job.Job.TheVariants.{Check};
+ghost use Rattle.std.specs.Prelude.{◌≤◌, IfOk, IfErr, IsErr, string_bytes, length};
+ghost use Rattle.sfi_tool.specs.RunLines.{IsRunText};
+ghost use Rattle.sfi_tool.specs.private.Says.{AnswersStatus, IsStop};
+ghost use Rattle.sfi_tool.specs.Input.{limit};
+ghost use Rattle.sfi_tool.specs.Says.{HasInputFault, IsDone, IsRefused, Says};
+ghost use Rattle.sfi_command.specs.declared.job.Job.TheVariants.{Run};
 
-use crate::answering::answer;
-use crate::fault::TOO_LARGE_LINE;
-use crate::input::{Input, ReadStop, read_input};
-use crate::output::write_out;
-use crate::raw::raw_answer;
-use sfi_command::{JobFault, job_of};
-use std::alloc::Global;
-use std::io::{Read, Write};
+use crate::checking::refusal_answer;
+use crate::fault::Stop;
+use crate::hexadecimal::bytes_of;
+use crate::plan::plan_of;
+use crate::run_lines::run_lines;
+use crate::verdict::Answer;
+use rv_mem::Pages;
+use sfi_check::{Accepted, check};
+use sfi_host::{Console, RunAnswer, World};
+use std::alloc::{AllocError, Global};
 
-/// Writes the text, and gives the status, or 5 where a write failed.
-fn printed<W: Write>(writer: &mut W, status: u8, text: &str) -> u8
-    ensures status { result ≢ 5 → result ≡ status }
-    ensures whole { result ≢ 5 → Appends (W.contents writer.old) (W.contents writer.new) text.now }
-    ensures appends { OnlyAppends (W.contents writer.old) (W.contents writer.new) }
-{
-    if write_out(writer, text.as_bytes()) {
-        status
-    } else {
-        5
-    }
-}
-
-/// Runs `check --raw`.
-fn run_raw<R: Read, W: Write>(alloc: Global, reader: &mut R, writer: &mut W) -> u8
-    ensures statuses { result ≤ 5 }
-    ensures says { result < 2 → IfSome (R.remaining reader.old) (λ bytes. (text : List ℕ)
-        × Says (Check true false) bytes result text × Appends (W.contents writer.old) (W.contents writer.new) text) }
-    ensures fault { result ≡ 2 → IfSome (R.remaining reader.old) (HasInputFault (Check true false)) }
-    ensures usage { result ≢ 3 }
-    ensures memory { result ≡ 4 → writer.new ≡ writer.old }
-    ensures appends { OnlyAppends (W.contents writer.old) (W.contents writer.new) }
-{
-    match raw_answer(alloc, reader) {
-        Ok(answer) => printed(writer, answer.status, &answer.text),
-        Err(ReadStop::Memory) => 4,
-        Err(ReadStop::Failed) => 5,
-    }
-}
-
-/// Runs the command that the words ask for, and answers the status to end with:
-///
-/// - 0: accepted, built, listed or run; 1: findings;
-/// - 2: a fault of the input, or a text of `--input` that spells no bytes, which the text names. The latter is
-///   answered before anything is read;
-/// - 3: the words don't parse, ask for both `--raw` and `--report`, or for help or the version: what to print for them was written;
-/// - 4: an allocation was refused, and nothing was written;
-/// - 5: a read or a write failed. After a failed read nothing was written; after a failed write a
-///   beginning of the text.
-///
-/// The text is made whole before its first byte is written.
-pub fn run_tool<R: Read, W: Write>(
+/// Runs the sandboxes of an accepted image, and says what became of each.
+fn run_text(
     alloc: Global,
-    words: &[String],
-    reader: &mut R,
-    writer: &mut W,
-) -> u8
-    ensures statuses { result ≤ 5 }
-    ensures says { result < 2 → WritesAnswer (map string_bytes words.now) (R.remaining reader.old)
-        (W.contents writer.old) (W.contents writer.new) result }
-    ensures fault { result ≡ 2 → MeetsFault (map string_bytes words.now) (R.remaining reader.old) }
-    ensures usage { result ≡ 3 → AsksNothing (map string_bytes words.now) }
-    ensures unread { result ≡ 3 → reader.new ≡ reader.old }
-    ensures memory { result ≡ 4 → writer.new ≡ writer.old }
-    ensures appends { OnlyAppends (W.contents writer.old) (W.contents writer.new) }
+    accepted: &Accepted<'_>,
+    rounds: u32,
+    quantum: u32,
+    input: &[u8],
+) -> Result<String, AllocError>
+    ensures { IfOk result (λ text. IsRunText rounds quantum input.now accepted.now (string_bytes text)) }
 {
-    let job = match job_of(alloc, words) {
-        Ok(job) => job,
-        Err(JobFault::Usage(text)) => return printed(writer, 3, &text),
-        Err(JobFault::Hex) => return printed(writer, 2, "option fault hex\n"),
-        Err(JobFault::Memory) => return 4,
-    };
-    if job.is_raw() {
-        return run_raw(alloc, reader, writer);
+    let count = accepted.sandboxes() as u32;
+    let mut world = World::load(alloc, accepted, Pages::new(alloc))?;
+    let mut console = Console::new(alloc, count, input)?;
+    let plan = plan_of(alloc, rounds, quantum, count)?;
+    match world.run_plan(&plan, &mut console) {
+        RunAnswer::Done => run_lines(alloc, count, &world, &console),
+        RunAnswer::Memory { .. } => Err(AllocError),
     }
-    let text = match read_input(alloc, reader) {
-        Ok(Input::Whole(text)) => text,
-        Ok(Input::TooLarge) => return printed(writer, 2, TOO_LARGE_LINE),
-        Err(ReadStop::Memory) => return 4,
-        Err(ReadStop::Failed) => return 5,
-    };
-    match answer(alloc, &job, text.as_slice()) {
-        Ok(answer) => printed(writer, answer.status, &answer.text),
-        Err(_) => 4,
+}
+
+/// The verdict on the image that the text spells where it has findings, and else what became of its sandboxes.
+pub(crate) fn run_answer(
+    alloc: Global,
+    rounds: u32,
+    quantum: u32,
+    input: &Vec<u8>,
+    text: &[u8],
+) -> Result<Answer, Stop>
+    requires { length text.now ≤ limit }
+    ensures says { IfOk result (λ a. Says (Run rounds quantum input.now) text.now a.status (string_bytes a.text)) }
+    ensures stop { IfErr result (IsStop (Run rounds quantum input.now) text.now) }
+    ensures only_done { IsDone (Run rounds quantum input.now) text.now → AnswersStatus 0 result }
+    ensures only_refused { IsRefused (Run rounds quantum input.now) text.now → AnswersStatus 1 result }
+    ensures only_fault { HasInputFault (Run rounds quantum input.now) text.now → IsErr result }
+{
+    let bytes = bytes_of(alloc, text)?;
+    match check(alloc, bytes.as_slice()) {
+        Ok(accepted) => Ok(Answer {
+            status: 0,
+            text: run_text(alloc, &accepted, rounds, quantum, input.as_slice())?,
+        }),
+        Err(refusal) => refusal_answer(alloc, false, bytes.as_slice(), refusal),
     }
 }

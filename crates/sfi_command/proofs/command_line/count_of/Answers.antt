@@ -1,14 +1,14 @@
 use Rattle.std.proofs.Common.{arith}
 use Rattle.clap.specs.Matches.{found_of}
-use Rattle.sfi_command.proofs.Words.{counted, out_of_range, no_number, unfound}
+use Rattle.sfi_command.proofs.Words.{count_is, out_of_range, no_number, no_text}
 use Rattle.sfi_command.proofs.command_line.count_of.Goals as goal
 
 pub returns-in_err-text-clause-none : goal.returns-in_err-text-clause-none
-returns-in_err-text-clause-none c none = unfound (found_of c.args.found.now) c.args.option.now c.args.most c.in_err-text.ensures
+returns-in_err-text-clause-none c none = no_text (found_of c.args.found.now) c.args.option.now c.args.most c.in_err-text.ensures
 
 pub returns-in-Ok-clause-some : goal.returns-in-Ok-clause-some
 returns-in-Ok-clause-some c =
-    counted (found_of c.args.found.now) c.args.option.now c.in_ok-text.text.now c.args.most c.in-Ok.count c.in_ok-text.ensures c.in-Ok.ensures.value.0
+    count_is (found_of c.args.found.now) c.args.option.now c.in_ok-text.text.now c.args.most c.in-Ok.count c.in_ok-text.ensures c.in-Ok.ensures.value.0
     c.if-count-ge1.true c.if-count-most.true
 
 pub returns-in_default-clause-none : goal.returns-in_default-clause-none

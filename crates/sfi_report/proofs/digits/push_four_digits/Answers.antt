@@ -1,9 +1,9 @@
 use Rattle.std.proofs.Common.{◌∙◌, ◌++◌, ap}
 use Rattle.std.specs.Prelude.{string_bytes}
 use Rattle.std.proofs.lemmas.Result.{on_ok_weaker}
-use Rattle.sfi_report.proofs.Padding.{padded}
+use Rattle.sfi_report.proofs.Padding.{padding_is_zeros}
 use Rattle.sfi_report.proofs.digits.push_four_digits.Goals as goal
 
 pub returns : goal.returns
 returns c =
-    on_ok_weaker c.write.result (λ h. (rw (c.laid_out.ensures, c.in_radix.ensures) at h) ∙ ap (λ t. string_bytes c.args.out.now ++ t) (padded 4 c.args.number)) c.write.ensures.bytes
+    on_ok_weaker c.write.result (λ h. (rw (c.laid_out.ensures, c.in_radix.ensures) at h) ∙ ap (λ t. string_bytes c.args.out.now ++ t) (padding_is_zeros 4 c.args.number)) c.write.ensures.bytes

@@ -1,11 +1,11 @@
 use Rattle.std.proofs.Common.{ℕ, ◌/◌, List, length, get_or, [], ◌∙◌, ap, arith}
 use Rattle.std.specs.Prelude.{string_bytes}
 use Rattle.sfi_image.specs.Spelling.{view}
-use Rattle.sfi_report.proofs.Sandboxes.{none_listed, one_bundle_more, all_bundles, chunk_at}
+use Rattle.sfi_report.proofs.Sandboxes.{empty_listing, one_bundle_more, all_bundles, chunk_at}
 use Rattle.sfi_report.proofs.listing.push_code.Goals as goal
 
 pub loop-k-init : goal.loop-k-init
-loop-k-init c = λ format. none_listed (view format c.args.part.now) (string_bytes c.args.out.now)
+loop-k-init c = λ format. empty_listing (view format c.args.part.now) (string_bytes c.args.out.now)
 
 pub overflow_add-part : goal.overflow_add-part
 overflow_add-part c =

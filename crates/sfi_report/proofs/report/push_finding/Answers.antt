@@ -2,7 +2,7 @@ use Rattle.std.proofs.Common.{◌-◌}
 use Rattle.std.specs.Prelude.{string_bytes}
 use Rattle.std.proofs.lemmas.List.{take_rest}
 use Rattle.std.proofs.lemmas.Result.{on_ok_weaker}
-use Rattle.sfi_report.proofs.Reports.{line_of, written}
+use Rattle.sfi_report.proofs.Reports.{line_of, text_on_ok}
 use Rattle.sfi_report.proofs.report.push_finding.Goals as goal
 
 pub returns : goal.returns
@@ -11,4 +11,4 @@ returns c = λ format stands.
     on_ok_weaker c.push_str.result
     (λ end. line_of format c.args.parts.now c.args.finding.now part _ (string_bytes c.args.out.now) (string_bytes c.push_front.new.out) (string_bytes c.push_place.new.out) (string_bytes c.push_str.new.self)
     stands c.index-parts-finding.is (take_rest part.code.now (c.args.finding.now.address - part.code_base)) c.in_ok-push_front.ensures c.in_ok-push_place.ensures end)
-    (written c.push_str.result _ _ _ c.push_str.ensures.bytes)
+    (text_on_ok c.push_str.result _ _ _ c.push_str.ensures.bytes)

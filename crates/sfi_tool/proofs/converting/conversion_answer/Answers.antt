@@ -1,5 +1,5 @@
 use Rattle.std.proofs.Common.{◌∙◌}
-use Rattle.sfi_tool.proofs.Conversions.{on_refusal, on_fault, fault_says, fault_not_done, fault_refused, fault_is_error}
+use Rattle.sfi_tool.proofs.Conversions.{on_refusal, on_fault, fault_says, fault_not_done, status_of_refusal, fault_is_error}
 use Rattle.sfi_tool.proofs.converting.conversion_answer.Goals as goal
 
 pub returns-in-Ok-clause-only_refused : goal.returns-in-Ok-clause-only_refused
@@ -25,7 +25,7 @@ returns-clause-only_done c =
 
 pub returns-clause-only_refused : goal.returns-clause-only_refused
 returns-clause-only_refused c =
-    fault_refused c.args.text.now c.as_slice.result.now c.in-Err.fault c.fault_answer.result (λ b spells. c.as_slice.ensures.value ∙ c.in_ok-bytes.ensures.only_bytes b spells)
+    status_of_refusal c.args.text.now c.as_slice.result.now c.in-Err.fault c.fault_answer.result (λ b spells. c.as_slice.ensures.value ∙ c.in_ok-bytes.ensures.only_bytes b spells)
     c.in-Err.ensures.only_findings c.in-Err.ensures.only_stack c.fault_answer.ensures
 
 pub returns-clause-only_fault : goal.returns-clause-only_fault

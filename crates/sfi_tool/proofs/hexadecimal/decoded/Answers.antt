@@ -1,7 +1,7 @@
 use Rattle.std.proofs.Common.{refl, sym, ◌∙◌, arith}
 use Rattle.std.specs.Prelude.{slice_index}
 use Rattle.sfi_tool.proofs.Classes.{digit_small}
-use Rattle.sfi_tool.proofs.Digits.{decodes_last, decodes_odd, decodes_bad, decodes_at, moved, at_end}
+use Rattle.sfi_tool.proofs.Digits.{decodes_last, decodes_odd, decodes_bad, decodes_at, decodes_same, at_end}
 use Rattle.sfi_tool.proofs.Reading.{reads_first, reads_pair, reads_white, reads_high, reads_low, reads_as, reads_block, room_pair, room_low}
 use Rattle.sfi_tool.proofs.hexadecimal.decoded.Goals as goal
 use Rattle.sfi_tool.proofs.hexadecimal.decoded.Goals.{in-None, in-Some-high}
@@ -53,11 +53,11 @@ loop-at-preserved c =
     let value = sym c.digit_value.ensures ∙ c.in-Some-digit_value.is in
     elim c.match-high.branch [
       | in-None w ↦
-          let first = moved _ _ _ _ _ _ refl (sym w.in-None.is) there in
+          let first = decodes_same _ _ _ _ _ _ refl (sym w.in-None.is) there in
           let before = reads_as text c.loop-at.at c.loop-at.bytes c.loop-at.bytes _ _ refl (sym w.in-None.is) c.loop-at.invariant in
           reads_as _ _ _ _ _ _ w.bytes-is w.high-is (reads_high text c.loop-at.at c.loop-at.bytes _ value first before)
       | in-Some-high w ↦
-          let second = moved _ _ _ _ _ _ refl (sym w.in-Some-high.is) there in
+          let second = decodes_same _ _ _ _ _ _ refl (sym w.in-Some-high.is) there in
           let before = reads_as text c.loop-at.at c.loop-at.bytes c.loop-at.bytes _ _ refl (sym w.in-Some-high.is) c.loop-at.invariant in
           let pushed = w.push_reserved-in-Some-high in
           reads_as _ _ _ _ _ _ w.bytes-is w.high-is
@@ -67,9 +67,9 @@ loop-at-preserved c =
 pub returns-in-None-high-clause-bytes : goal.returns-in-None-high-clause-bytes
 returns-in-None-high-clause-bytes c =
     let over = c.loop-at-test.false in
-    decodes_last _ c.loop-at.bytes.items (moved _ _ _ _ _ _ refl (sym c.in-None-high.is) (at_end c.args.text.now c.loop-at.bytes.items c.loop-at.at c.loop-at.high (omega arith) c.loop-at.invariant.so_far))
+    decodes_last _ c.loop-at.bytes.items (decodes_same _ _ _ _ _ _ refl (sym c.in-None-high.is) (at_end c.args.text.now c.loop-at.bytes.items c.loop-at.at c.loop-at.high (omega arith) c.loop-at.invariant.so_far))
 
 pub returns-in-Some-high-2-clause-stop : goal.returns-in-Some-high-2-clause-stop
 returns-in-Some-high-2-clause-stop c =
     let over = c.loop-at-test.false in
-    decodes_odd _ c.loop-at.bytes.items _ (moved _ _ _ _ _ _ refl (sym c.in-Some-high-2.is) (at_end c.args.text.now c.loop-at.bytes.items c.loop-at.at c.loop-at.high (omega arith) c.loop-at.invariant.so_far))
+    decodes_odd _ c.loop-at.bytes.items _ (decodes_same _ _ _ _ _ _ refl (sym c.in-Some-high-2.is) (at_end c.args.text.now c.loop-at.bytes.items c.loop-at.at c.loop-at.high (omega arith) c.loop-at.invariant.so_far))

@@ -1,4 +1,4 @@
-use Rattle.sfi_tool.proofs.Streamed.{some_fault, accepted_told, refused_told, fault_told}
+use Rattle.sfi_tool.proofs.Streamed.{some_fault, says_accepted, says_refused, has_fault}
 use Rattle.sfi_tool.proofs.raw.raw_answer.Goals as goal
 
 pub fault_numbered-requires : goal.fault_numbered-requires
@@ -9,19 +9,19 @@ fault_numbered-requires g c =
 pub returns-in_ok-accepted_line-in-Accepted-clause-says : goal.returns-in_ok-accepted_line-in-Accepted-clause-says
 returns-in_ok-accepted_line-in-Accepted-clause-says g c _ =
     let j = c.in-Accepted.ensures.judged in
-    accepted_told (λ s. g.R.Read.remaining s.reader.now) (λ s. s.failed) c.new-source.result c.check_stream.new.source (g.R.Read.remaining c.args.reader.now)
+    says_accepted (λ s. g.R.Read.remaining s.reader.now) (λ s. s.failed) c.new-source.result c.check_stream.new.source (g.R.Read.remaining c.args.reader.now)
     c.in-Accepted.sandboxes c.in-Accepted.bundles _ c.new-source.ensures.reader
     (record { bytes = j.0; ends = j.1; streams = j.2; judged = j.3 }) c.in_ok-accepted_line-in-Accepted.ensures
 
 pub returns-in_ok-refused_line-in-Findings-clause-says : goal.returns-in_ok-refused_line-in-Findings-clause-says
 returns-in_ok-refused_line-in-Findings-clause-says g c _ =
     let j = c.in-Findings.ensures.judged in
-    refused_told (λ s. g.R.Read.remaining s.reader.now) (λ s. s.failed) c.new-source.result c.check_stream.new.source (g.R.Read.remaining c.args.reader.now)
+    says_refused (λ s. g.R.Read.remaining s.reader.now) (λ s. s.failed) c.new-source.result c.check_stream.new.source (g.R.Read.remaining c.args.reader.now)
     c.in-Findings.count c.in-Findings.first _ c.new-source.ensures.reader
     (record { bytes = j.0; ends = j.1; streams = j.2; judged = j.3 }) c.in_ok-refused_line-in-Findings.ensures
 
 pub returns-in_ok-layout_line-in-Layout-clause-fault : goal.returns-in_ok-layout_line-in-Layout-clause-fault
 returns-in_ok-layout_line-in-Layout-clause-fault g c _ =
     let j = c.in-Layout.ensures.judged in
-    fault_told (λ s. g.R.Read.remaining s.reader.now) (λ s. s.failed) c.new-source.result c.check_stream.new.source (g.R.Read.remaining c.args.reader.now)
+    has_fault (λ s. g.R.Read.remaining s.reader.now) (λ s. s.failed) c.new-source.result c.check_stream.new.source (g.R.Read.remaining c.args.reader.now)
     c.in-Layout.number c.new-source.ensures.reader (record { bytes = j.0; ends = j.1; streams = j.2; judged = j.3 })

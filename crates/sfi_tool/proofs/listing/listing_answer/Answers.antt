@@ -1,6 +1,6 @@
 use Rattle.std.proofs.Common.{◌∙◌, inl, inr}
 use Rattle.sfi_tool.proofs.Texts.{on_fault}
-use Rattle.sfi_tool.proofs.listing.listed.Goals as goal
+use Rattle.sfi_tool.proofs.listing.listing_answer.Goals as goal
 
 pub returns-in-Ok-clause-only_fault : goal.returns-in-Ok-clause-only_fault
 returns-in-Ok-clause-only_fault c fault =

@@ -1,7 +1,7 @@
 use Rattle.std.proofs.Common.{◌∙◌, List, ℕ, sym, subst}
 use Rattle.sfi_tool.specs.private.Says.{Refuses}
 use Rattle.sfi_tool.proofs.Texts.{on_findings, on_fault}
-use Rattle.sfi_tool.proofs.ran.ran.Goals as goal
+use Rattle.sfi_tool.proofs.checking.check_answer.Goals as goal
 
 pub refusal_answer-requires : goal.refusal_answer-requires
 refusal_answer-requires c =

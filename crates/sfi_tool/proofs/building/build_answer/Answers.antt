@@ -4,7 +4,7 @@ use Rattle.sfi_build.specs.Texts.{IsTextBuild, IsWantOfMemory}
 use Rattle.sfi_tool.specs.private.Says.{AnswersStatus, StopsBuild}
 use Rattle.sfi_tool.specs.declared.fault.Stop.{Stop}
 use Rattle.sfi_tool.specs.declared.fault.Stop.TheVariants as stop
-use Rattle.sfi_tool.proofs.building.built.Goals as goal
+use Rattle.sfi_tool.proofs.building.build_answer.Goals as goal
 
 -- where memory ran out, no fault is answered
 memory_stops : (f : BuildFault) (s : Stop) → StopsBuild f s → IsWantOfMemory f → AnswersStatus 0 (Err s)
