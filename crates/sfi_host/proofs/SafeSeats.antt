@@ -7,7 +7,7 @@ use Rattle.rv_mem.specs.Bytes.{Bytes, IsMemory, byte_at, address_after}
 use Rattle.rv_step.specs.State.{Hart, IsHart, IsState, past}
 use Rattle.rv_step.specs.Step.{Stands}
 use Rattle.sfi_image.specs.Spelling.{Part}
-use Rattle.sfi_image.specs.Spans.{Holds, AreApart}
+use Rattle.sfi_image.specs.Spans.{Holds, AreApart, with_guards}
 use Rattle.sfi_check.specs.Regions.{InCode, InData, InGuard, HasCode, StackInData}
 use Rattle.sfi_check.specs.Runs.{Replies, Changes, KeepsBytes, KeepsReserved, IsReply}
 use Rattle.sfi_check.specs.Laws.{GoesOnSafely}
@@ -20,7 +20,7 @@ use Rattle.sfi_host.specs.Hosts.{Way, Replied, Yield, Exit}
 use Rattle.sfi_host.specs.Joint.{with_arguments, after_way, status_after}
 use Rattle.sfi_host.specs.Laws.{CallsHaveStack, AnswersAreReplies}
 use Rattle.sfi_host.specs.Stops.{StoppedItself}
-use Rattle.sfi_host.specs.Worlds.{Seat, state_in, IsSafeSeat, StaysOutside, with_guards}
+use Rattle.sfi_host.specs.Worlds.{Seat, state_in, IsSafeSeat, StaysOutside}
 use Rattle.sfi_host.proofs.Stops.{stopped_still}
 
 -- ---- the code of a part

@@ -21,14 +21,14 @@ use Rattle.rv_step.specs.State.{Hart, register}
 use Rattle.rv_step.specs.Step.{Stepped, Stands, IsStep, next, unchanged, after_load, effect}
 use Rattle.rv_step.specs.Values.{load_size, store_size}
 use Rattle.sfi_image.specs.declared.part.Gate.{Gate}
-use Rattle.sfi_image.specs.Spans.{Holds}
+use Rattle.sfi_image.specs.Spans.{Holds, InGuards}
 use Rattle.sfi_check.specs.Regions.{InData, InGuard, IsGate}
 use Rattle.sfi_check.specs.Runs.{Steps}
 use Rattle.sfi_check.specs.Safety.{IsSafeState, IsSafeStep}
 use Rattle.sfi_host.specs.declared.status.Status.{Status}
 use Rattle.sfi_host.specs.declared.status.Status.TheVariants.{Ready, Exited, Trapped}
 use Rattle.sfi_host.specs.Slots.{Bounds}
-use Rattle.sfi_host.specs.Stops.{InGuards, IsAt, IsAtGate, TouchesGuard, StoppedItself}
+use Rattle.sfi_host.specs.Stops.{IsAt, IsAtGate, TouchesGuard, StoppedItself}
 use Rattle.sfi_host.specs.Worlds.{Seat, Sandboxes, slots_of, status_at, state_in, IsSafeSeat, IsSafeWorld, HaveStoppedThemselves}
 
 -- ---- where the code stays, the instruction does

@@ -10,16 +10,10 @@ use Rattle.rv_step.specs.Access.{accessed}
 use Rattle.rv_step.specs.State.{State}
 use Rattle.rv_step.specs.Step.{Stands}
 use Rattle.sfi_image.specs.declared.part.Gate.{Gate}
-use Rattle.sfi_image.specs.declared.span.Span.{Span}
-use Rattle.sfi_policy.specs.Limits.{guard}
-use Rattle.sfi_image.specs.Spans.{Holds}
+use Rattle.sfi_image.specs.Spans.{Holds, InGuards}
 use Rattle.sfi_host.specs.declared.status.Status.{Status}
 use Rattle.sfi_host.specs.declared.status.Status.TheVariants.{Ready, Exited, Trapped}
 use Rattle.sfi_host.specs.Slots.{Bounds}
-
--- the address is one of the 4096 on each side of the data
-abbrev pub InGuards : Span → ℕ → Type 0
-InGuards d a = Holds (record { base = d.base - guard; size = guard }) a ⊎ Holds (record { base = d.base + d.size; size = guard }) a
 
 -- the instruction stands at pc, and each of its bytes lies in the sandbox's code
 pub record IsAt (b : Bounds) (s : State) (i : Instr) : Type 0 where

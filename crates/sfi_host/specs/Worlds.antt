@@ -5,8 +5,7 @@ use Rattle.rv_mem.specs.Bytes.{Bytes, byte_at}
 use Rattle.rv_step.specs.State.{Hart, State}
 use Rattle.sfi_image.specs.declared.span.Span.{Span}
 use Rattle.sfi_image.specs.Spelling.{Part}
-use Rattle.sfi_policy.specs.Limits.{guard}
-use Rattle.sfi_image.specs.Spans.{Holds, AreApart, code_region, guarded_region}
+use Rattle.sfi_image.specs.Spans.{Holds, AreApart, with_guards, code_region, guarded_region}
 use Rattle.sfi_image.specs.Parts.{IsRightPart}
 use Rattle.sfi_check.specs.Regions.{HasCode, HasEmptyGuards}
 use Rattle.sfi_check.specs.Stack.{GoesSafelyFrom}
@@ -70,10 +69,6 @@ pub record IsSafeSeat (m : Bytes) (s : Seat) : Type 0 where
   pub has_data : IsWhole s.bounds.data m
   pub safe : s.status ≡ Ready → GoesSafelyFrom part (state_in m s)
   pub stopped : StoppedItself s.bounds (state_in m s) s.status
-
--- data with the guard zones on both sides
-abbrev pub with_guards : Span → Span
-with_guards d = record { base = d.base - guard; size = guard + d.size + guard }
 
 -- the first one's data lie outside the second one's code, data and guard zones
 pub record LiesOutside (one other : Bounds) : Type 0 where
