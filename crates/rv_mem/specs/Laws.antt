@@ -26,6 +26,6 @@ WrittenIsThere =
     (m : Bytes) (at : ℕ) (bytes : List ℕ) (k : ℕ) → at + length bytes ≤ 2 ^ 32 → k < length bytes
     → byte_at (with_bytes m (addresses at (length bytes)) bytes) (at + k) ≡ Some (slice_index bytes k)
 
--- a byte that is written at an address leaves a memory
+-- a memory stays one when a byte is written at an address
 abbrev pub WriteKeepsMemory : Type 0
 WriteKeepsMemory = (m : Bytes) (a b : ℕ) → IsMemory m → a < 2 ^ 32 → b < 256 → IsMemory (insert m a b)

@@ -21,7 +21,7 @@ pub fn written_is_there()
     ensures { WrittenIsThere }
 {}
 
-/// A byte that is written at an address leaves a memory.
+/// A memory stays one when a byte is written at an address.
 pub fn write_keeps_memory()
     ensures { WriteKeepsMemory }
 {}

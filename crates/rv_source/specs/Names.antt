@@ -1,4 +1,4 @@
--- The names that a text gives to labels and gates, and that its instructions go to.
+-- The names that a text gives to labels and gates, and that its instructions cite.
 use Rattle.std.specs.Prelude.{ℕ, ◌≤◌, Bool, false, ◌||◌, ◌==◌, List, [], ◌∷◌, length, IsTrue}
 use Rattle.std.specs.List.{AllByRecursion}
 use Rattle.std.specs.Char.{is_ascii_alphabetic, is_ascii_digit}
@@ -26,6 +26,6 @@ begins_label (c ∷ cs) = is_ascii_alphabetic c || (c == 95)
 abbrev pub IsLabel : List ℕ → Type 0
 IsLabel text = IsName text × IsTrue (begins_label text)
 
--- the same, and not too long
+-- the name of a label, a gate or a target, of as many bytes as a name may have
 abbrev pub IsShortLabel : List ℕ → Type 0
 IsShortLabel text = IsLabel text × (length text ≤ name_most)

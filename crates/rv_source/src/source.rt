@@ -117,7 +117,7 @@ impl Model for Source {
 }
 
 impl Source {
-    /// The source of these sandboxes.
+    /// The source of these sandboxes. Each name in them is one that a label may have.
     pub fn new(parts: Vec<SourcePart>) -> Source
         requires { IsSource parts.items }
         ensures { result ≡ parts.items }

@@ -13,7 +13,7 @@ use Rattle.rv_comp.specs.Fronts.{Spells, SpellsNothing, IsCutShort, IsFront}
 use Rattle.rv_comp.specs.Laws.{TwoLengths}
 use Rattle.rv_mem.specs.Bytes.{Bytes, IsMemory, byte_at, address_after, addresses, in_front, number_of, loaded}
 use Rattle.rv_step.specs.State.{State}
-use Rattle.rv_step.specs.Step.{in_run, run_at, IsAtPc}
+use Rattle.rv_step.specs.Step.{present_then, present_at, IsAtPc}
 use Rattle.rv_step.proofs.Standing.{from_front}
 
 -- the two bytes of a parcel
@@ -36,7 +36,7 @@ two (Some a) (Some b) n f g e =
     (ap Some x, ap Some y)
 
 -- where the two are not both there, the run has fewer
-few : (o p : Option ℕ) (run : List ℕ) → None ≡ option_map number_of (in_front o (in_front p (Some []))) → length (in_run o (in_run p run)) < 2
+few : (o p : Option ℕ) (run : List ℕ) → None ≡ option_map number_of (in_front o (in_front p (Some []))) → length (present_then o (present_then p run)) < 2
 few None p run e = omega arith
 few (Some a) None run e = omega arith
 few (Some a) (Some b) run e = absurd (cc)
@@ -66,13 +66,13 @@ second_none m pc e =
 
 -- the bytes after the first parcel
 abbrev second : Bytes → ℕ → List ℕ
-second m pc = run_at m (map (address_after pc) (range_with_len 2 2))
+second m pc = present_at m (map (address_after pc) (range_with_len 2 2))
 
 -- the bytes from pc on begin with the first parcel
-first_parcel : (m : Bytes) (pc n : ℕ) → HasParcel m pc n → run_at m (addresses pc 4) ≡ n % 256 ∷ n / 256 % 256 ∷ second m pc
+first_parcel : (m : Bytes) (pc n : ℕ) → HasParcel m pc n → present_at m (addresses pc 4) ≡ n % 256 ∷ n / 256 % 256 ∷ second m pc
 first_parcel m pc n h = rw (h.low, h.high) refl
 
-two_parcels : (m : Bytes) (pc n k : ℕ) → HasParcel m pc n → HasParcel m (address_after pc 2) k → run_at m (addresses pc 4) ≡ n % 256 ∷ n / 256 % 256 ∷ parcel k
+two_parcels : (m : Bytes) (pc n k : ℕ) → HasParcel m pc n → HasParcel m (address_after pc 2) k → present_at m (addresses pc 4) ≡ n % 256 ∷ n / 256 % 256 ∷ parcel k
 two_parcels m pc n k h l =
     let low : byte_at m (address_after pc 2) ≡ Some (k % 256) = ap (byte_at m) (sym (second_low pc)) ∙ l.low in
     let high : byte_at m (address_after pc 3) ≡ Some (k / 256 % 256) = ap (byte_at m) (sym (second_high pc)) ∙ l.high in

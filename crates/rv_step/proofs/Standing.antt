@@ -9,11 +9,11 @@ use Rattle.rv_comp.specs.Laws.{TwoLengths}
 use Rattle.rv_mem.specs.Bytes.{Bytes, byte_at, bytes_at, address_after, addresses, in_front}
 use Rattle.rv_step.specs.Laws.{AtPcIsFront}
 use Rattle.rv_step.specs.State.{State}
-use Rattle.rv_step.specs.Step.{Stands, in_run, run_at, bytes_at_pc, IsAtPc}
+use Rattle.rv_step.specs.Step.{Stands, present_then, present_at, bytes_at_pc, IsAtPc}
 
 -- ---- runs of bytes
 
-one_first : (o : Option ℕ) (p : Option (List ℕ)) (n : ℕ) (run bs : List ℕ) → in_front o p ≡ Some bs → ((cs : List ℕ) → p ≡ Some cs → take n run ≡ cs) → take (suc n) (in_run o run) ≡ bs
+one_first : (o : Option ℕ) (p : Option (List ℕ)) (n : ℕ) (run bs : List ℕ) → in_front o p ≡ Some bs → ((cs : List ℕ) → p ≡ Some cs → take n run ≡ cs) → take (suc n) (present_then o run) ≡ bs
 one_first None p n run bs e others = absurd (cc)
 one_first (Some b) None n run bs e others = absurd (cc)
 one_first (Some b) (Some cs) n run bs e others =
@@ -21,19 +21,19 @@ one_first (Some b) (Some cs) n run bs e others =
     ap (λ (l : List ℕ). b ∷ l) (others cs refl) ∙ all
 
 -- where the first addresses all have a byte, the run begins with these
-begins : (m : Bytes) (at more bs : List ℕ) → bytes_at m at ≡ Some bs → take (length at) (run_at m (at ++ more)) ≡ bs
+begins : (m : Bytes) (at more bs : List ℕ) → bytes_at m at ≡ Some bs → take (length at) (present_at m (at ++ more)) ≡ bs
 begins m [] more bs e = cc
-begins m (a ∷ at) more bs e = one_first (byte_at m a) (bytes_at m at) (length at) (run_at m (at ++ more)) bs e (begins m at more)
+begins m (a ∷ at) more bs e = one_first (byte_at m a) (bytes_at m at) (length at) (present_at m (at ++ more)) bs e (begins m at more)
 
-one_more : (o : Option ℕ) (p : Option (List ℕ)) (n : ℕ) (run : List ℕ) → length (take (suc n) (in_run o run)) ≡ suc n → (length (take n run) ≡ n → p ≡ Some (take n run))
-    → in_front o p ≡ Some (take (suc n) (in_run o run))
+one_more : (o : Option ℕ) (p : Option (List ℕ)) (n : ℕ) (run : List ℕ) → length (take (suc n) (present_then o run)) ≡ suc n → (length (take n run) ≡ n → p ≡ Some (take n run))
+    → in_front o p ≡ Some (take (suc n) (present_then o run))
 one_more None p n run e others = absurd (omega arith)
 one_more (Some b) p n run e others = ap (λ (q : Option (List ℕ)). in_front (Some b) q) (others (omega arith))
 
 -- where the run is as long as the first addresses, they all have a byte
-all_there : (m : Bytes) (at more : List ℕ) → length (take (length at) (run_at m (at ++ more))) ≡ length at → bytes_at m at ≡ Some (take (length at) (run_at m (at ++ more)))
+all_there : (m : Bytes) (at more : List ℕ) → length (take (length at) (present_at m (at ++ more))) ≡ length at → bytes_at m at ≡ Some (take (length at) (present_at m (at ++ more)))
 all_there m [] more e = refl
-all_there m (a ∷ at) more e = one_more (byte_at m a) (bytes_at m at) (length at) (run_at m (at ++ more)) e (all_there m at more)
+all_there m (a ∷ at) more e = one_more (byte_at m a) (bytes_at m at) (length at) (present_at m (at ++ more)) e (all_there m at more)
 
 -- ---- the instruction at pc
 

@@ -10,7 +10,7 @@ abbrev pub modulo : ℕ → ℤ → ℕ
 modulo k (pos n) = n % 2 ^ k
 modulo k (negsuc n) = 2 ^ k - 1 - n % 2 ^ k
 
--- a number and a signed one, modulo 2 ^ 32: the address that lies an offset from another
+-- a number and a signed one, modulo 2 ^ 32: the address at that offset from another
 abbrev pub offset_by : ℕ → ℤ → ℕ
 offset_by a z = modulo 32 (pos a +ℤ z)
 

@@ -14,7 +14,7 @@ use crate::reg::Reg;
 pub struct Access {
     /// What it loads into; x0 where it stores.
     pub written: Reg,
-    /// The register near whose address it accesses memory.
+    /// The register to which it adds its offset.
     pub base: Reg,
 }
 

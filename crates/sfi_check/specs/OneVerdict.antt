@@ -35,11 +35,11 @@ SaysSame (Err Memory) said = Unit {0}
 abbrev pub OneListOfFindings : Type 0
 OneListOfFindings = (bytes : List ℕ) (found others : List Finding) → HasFindings bytes found → HasFindings bytes others → found ≡ others
 
--- and none where they are accepted
+-- bytes that are accepted have no list of findings
 abbrev pub NeverAcceptedWithFindings : Type 0
 NeverAcceptedWithFindings = (bytes : List ℕ) (ps : List Part) (found : List Finding) → IsAccepted bytes ps → HasFindings bytes found → ⊥
 
--- what `check_stream` answers after a beginning of the bytes is the verdict on all of them
+-- what `check_stream` answers after a beginning of the bytes is the verdict on all of them, if no read failed
 abbrev pub VerdictIsOnAll : Type 0
 VerdictIsOnAll =
     (bytes read : List ℕ) (ends : Bool) (said : StreamAnswer) → IsReadOf bytes read ends → IsVerdictOn read ends said
@@ -51,7 +51,7 @@ OneVerdict =
     (bytes read others : List ℕ) (ends stops : Bool) (said told : StreamAnswer) → IsReadOf bytes read ends → IsReadOf bytes others stops
     → IsVerdictOn read ends said → IsVerdictOn others stops told → said ≢ answers.ReadFault → told ≢ answers.ReadFault → said ≡ told
 
--- and it is what `check` says of these bytes
+-- what a stream of the bytes is answered is what `check` says of these bytes
 abbrev pub StreamSaysSame : Type 0
 StreamSaysSame =
     (bytes read : List ℕ) (ends : Bool) (answer : Result (List Part) Refusal) (said : StreamAnswer) → Answers bytes answer

@@ -47,7 +47,7 @@ impl Job {
     }
 }
 
-/// The line that names a text of `--input` that spells no bytes.
+/// The line that is printed where the text of `--input` spells no bytes.
 pub const HEX_LINE: &str = "option fault hex\n";
 
 /// Why the words ask for no job.

@@ -1,5 +1,5 @@
 -- A world: sandboxes that run in one memory.
-use Rattle.std.specs.Prelude.{◌≡◌, ◌≢◌, ℕ, ◌+◌, ◌-◌, List, map, Option, Some, None, slice_get}
+use Rattle.std.specs.Prelude.{◌≡◌, ◌≢◌, ℕ, List, map, Option, Some, None, slice_get}
 use Rattle.std.specs.Option.{option_map}
 use Rattle.rv_mem.specs.Bytes.{Bytes, byte_at}
 use Rattle.rv_step.specs.State.{Hart, State}

@@ -25,7 +25,7 @@ pub struct Sandbox {
 /// the psABI, "Integer Register Convention").
 pub const A0_REGISTER: u8 = 10;
 
-/// x11, which is a1: the second of both.
+/// x11, which is a1: the second argument register, and the second result register.
 pub const A1_REGISTER: u8 = 11;
 
 /// The register of that number.

@@ -24,7 +24,7 @@ lower_guard s = record { base = s.base - guard; size = guard }
 abbrev pub upper_guard : Span → Span
 upper_guard s = record { base = s.base + s.size; size = guard }
 
--- the address is one of the guard zones, on each side of the span
+-- the address lies in a guard zone of the span, on one of its sides
 abbrev pub InGuards : Span → ℕ → Type 0
 InGuards s at = Holds (lower_guard s) at ⊎ Holds (upper_guard s) at
 

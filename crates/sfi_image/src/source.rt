@@ -6,7 +6,7 @@ ghost use Rattle.sfi_image.specs.Reading.{ReadsOf};
 use std::io::Read;
 
 /// A read failed.
-#[derive(Clone, Copy)]
+#[derive(Clone, Copy, Debug, PartialEq, Eq)]
 pub struct ReadFault;
 
 /// What hands out bytes in pieces.

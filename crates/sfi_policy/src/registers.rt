@@ -41,7 +41,7 @@ pub fn is_withheld(register: Reg) -> bool
     is_reserved(register) || register.number() == SCRATCH
 }
 
-/// The register of a number, such as one of these.
+/// The register of a number below 32, such as one of these.
 #[inline]
 pub fn register(number: u8) -> Reg
     requires { number < 32 }

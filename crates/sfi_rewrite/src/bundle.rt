@@ -27,7 +27,7 @@ impl Model for Bundle {
 }
 
 impl Bundle {
-    /// The one of these slots.
+    /// A bundle of these slots.
     pub(crate) fn new(slots: &[Slot]) -> Bundle
         requires { size_of slots.now ≤ bundle_size }
         ensures { result ≡ slots.now }

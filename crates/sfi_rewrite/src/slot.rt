@@ -47,7 +47,7 @@ impl Slot {
     }
 }
 
-/// c.nop, with which code is filled up.
+/// c.nop, which fills the gaps before expansions.
 impl Default for Slot {
     fn default() -> Slot
         ensures { result ≡ c_nop }

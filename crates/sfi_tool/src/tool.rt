@@ -50,7 +50,7 @@ fn run_raw<R: Read, W: Write>(alloc: Global, reader: &mut R, writer: &mut W) -> 
 
 /// Runs the command that the words ask for, and answers the status to end with:
 ///
-/// - 0: accepted, built, listed or run; 1: findings;
+/// - 0: accepted, built, listed, converted or run; 1: findings;
 /// - 2: a fault of the input, or a text of `--input` that spells no bytes, which the text names;
 /// - 3: the words don't parse, ask for both `--raw` and `--report`, or for help or the version: what to print for them was written;
 /// - 4: an allocation was refused, and nothing was written;
