@@ -4,9 +4,9 @@
     bench/checks.py [--program PATH] [--rounds N] [--checker FILE]
 
 Makes an image of 16 sandboxes with 64 KiB of accepted code each, of each kind of images.py. It prints megabytes (10^6) of image a
-second, by the medians of N alternated runs, and x86 instructions for a bundle. Beside `check` and `check --raw` stands one linear
-pass over the same text (pass.c); and, with --checker, a checker of the first format in one C file, which is no part of this
-repository: as it is, and with -DFAST. Then it prints the peak of resident memory over larger and larger images.
+second, by the medians of N alternated runs, and x86 instructions for a bundle. Beside `check`, and `check --raw` in both formats,
+stands one linear pass over the same text (pass.c); and, with --checker, a checker of the first format in one C file, which is no
+part of this repository: as it is, and with -DFAST. Then it prints the peak of resident memory over larger and larger images.
 """
 import argparse
 import os
@@ -21,6 +21,7 @@ def commands_of(program, folder, checker):
     commands = {
         "`check`": ([program, "check"], "text"),
         "`check --raw`": ([program, "check", "--raw"], "raw"),
+        "the same, second format": ([program, "check", "--raw"], "second"),
         "linear pass": ([measure.compiled("pass.c", os.path.join(folder, "pass"))], "text"),
     }
     for name, options in [("C, switches", []), ("C, class table", ["-DFAST"])] if checker else []:
@@ -37,6 +38,12 @@ def write_image(folder, *what):
     return len(data)
 
 
+def write_both_formats(folder, kind, sandboxes):
+    """Writes the image, and one of the same kind in the second format; says how many bytes each has."""
+    measure.written(os.path.join(folder, "second"), images.image(kind, sandboxes, format=2))
+    return write_image(folder, kind, sandboxes)
+
+
 def expect_verdicts(commands):
     for name, command in commands.items():
         printed, _ = measure.run(*command)
@@ -47,9 +54,9 @@ def expect_verdicts(commands):
 def print_speeds(commands, folder, rounds):
     print("| image |", " | ".join(commands), "|")
     for kind in images.KINDS:
-        write_image(folder, kind, 8)
+        write_both_formats(folder, kind, 8)
         half = {name: measure.instructions(*command) for name, command in commands.items()}
-        size = write_image(folder, kind, 16)
+        size = write_both_formats(folder, kind, 16)
         expect_verdicts(commands)
         times = measure.medians(commands, rounds)
         cells = [kind]
