@@ -88,10 +88,7 @@ fn part_spans(
     ensures fault { IfErr result (λ k. HasFault before.now (view format part.now) k) }
 {
     let fields = fields_of_part(format, part);
-    let own = match spans_after(before, &fields) {
-        Ok(own) => own,
-        Err(fault) => return Err(fault),
-    };
+    let own = spans_after(before, &fields)?;
     if !are_gates(&fields, &part.gates) {
         return Err(LayoutFault::Gates);
     }

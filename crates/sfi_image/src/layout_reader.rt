@@ -1,5 +1,5 @@
 //! Reading an image's layout piece by piece, without taking memory.
-ghost use Rattle.std.specs.Prelude.{◌≡◌, ℕ, ◌+◌, ◌<◌, ◌≤◌, ◌↔◌, ◌++◌, ◌∷◌, [], List, length, map, drop, cond, ◌==◌, IsTrue, IfSome, IfNone};
+ghost use Rattle.std.specs.Prelude.{◌≡◌, ◌≢◌, ℕ, ◌+◌, ◌<◌, ◌≤◌, ◌↔◌, ◌++◌, ◌∷◌, [], List, length, map, drop, cond, ◌==◌, IsTrue, IfSome, IfNone};
 ghost use Rattle.sfi_policy.specs.Limits.{bundle_size};
 ghost use Rattle.sfi_image.specs.declared.fault.LayoutFault.{LayoutFault};
 ghost use Rattle.sfi_image.specs.Fronts.{Front, front, want_of, IsLengthOf, HasFaultNumberWhateverFollows};
@@ -153,22 +153,34 @@ impl LayoutReader {
         ensures want { (x : Front) → StandsFor self.now x → result ≡ want_of x }
         ensures stopped { HasStopped self.now → result ≡ Want.Nothing }
     {
+        if let Next::Code = self.next {
+            let address = self.fields.code_base + self.code_read;
+            Want::Bundle {
+                sandbox: self.begun - 1,
+                address,
+                format: self.fields.format,
+                code_base: self.fields.code_base,
+                code_size: self.fields.code_size,
+                listed: is_first_after(self.gates.as_slice(), self.passed, address),
+            }
+        } else {
+            self.wants_no_bundle()
+        }
+    }
+
+    // What comes next where no bundle does: out of line, since it is asked but a few times for a sandbox.
+    #[inline(never)]
+    fn wants_no_bundle(&self) -> Want
+        requires { self.now.next ≢ Next.Code }
+        ensures want { (x : Front) → StandsFor self.now x → result ≡ want_of x }
+        ensures stopped { HasStopped self.now → result ≡ Want.Nothing }
+    {
         match self.next {
             Next::Magic => Want::Field(MAGIC_BYTES),
             Next::Count => Want::Field(NUMBER_BYTES),
             Next::Fields => Want::Field(FIELDS_BYTES),
             Next::Gate => Want::Field(GATE_BYTES),
-            Next::Code => {
-                let address = self.fields.code_base + self.code_read;
-                Want::Bundle {
-                    sandbox: self.begun - 1,
-                    address,
-                    format: self.fields.format,
-                    code_base: self.fields.code_base,
-                    code_size: self.fields.code_size,
-                    listed: is_first_after(self.gates.as_slice(), self.passed, address),
-                }
-            }
+            Next::Code => unreachable!(),
             Next::Init => Want::Init((self.fields.init_len - self.init_read) as usize),
             Next::End => Want::End,
             Next::Nothing => Want::Nothing,
@@ -200,20 +212,32 @@ impl LayoutReader {
         ensures takes { Takes self.old bytes.now self.new result }
         ensures falls { left self.new < left self.old }
     {
+        if let Next::Code = self.next {
+            self.take_bundle(bytes);
+            None
+        } else {
+            self.advance_by_no_bundle(bytes)
+        }
+    }
+
+    // The same where no bundle comes next, out of line.
+    #[inline(never)]
+    fn advance_by_no_bundle(&mut self, bytes: &[u8]) -> Option<LayoutFault>
+        requires next { self.old.next ≢ Next.Code }
+        requires may { MayTake self.old (length bytes.now) }
+        ensures takes { Takes self.old bytes.now self.new result }
+        ensures falls { left self.new < left self.old }
+    {
         match self.next {
             Next::Magic => self.take_magic(bytes),
             Next::Count => self.take_count(bytes),
             Next::Fields => self.take_fields(bytes),
             Next::Gate => self.take_gate(bytes),
-            Next::Code => {
-                self.take_bundle(bytes);
-                None
-            }
             Next::Init => {
                 self.take_init(bytes);
                 None
             }
-            Next::End | Next::Nothing => unreachable!(),
+            Next::Code | Next::End | Next::Nothing => unreachable!(),
         }
     }
 
