@@ -159,7 +159,9 @@ fn is_clean(place: &BundlePlace, stack: bool, address: u32, words: Words, outlin
 {
     match outline {
         Outline::Computes { rd } => !is_protected(stack, rd),
-        Outline::Loads { rd, base } => !is_protected(stack, rd) && may_access(stack, words, base),
+        Outline::Loads { rd, base } => {
+            is_clean_access(stack, words, Access { written: rd, base })
+        }
         Outline::Stores { base } => may_access(stack, words, base),
         Outline::Branches { offset } => is_bundle_start(place, offset_by(address, offset)),
         Outline::Jumps { rd, offset } => {
