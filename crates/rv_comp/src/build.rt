@@ -5,7 +5,6 @@ ghost use Rattle.rv_word.specs.declared.instr.Instr.TheVariants.{Op, OpImm, Load
 ghost use Rattle.rv_word.specs.declared.instr.LoadKind.TheVariants.{Lw};
 ghost use Rattle.rv_word.specs.declared.instr.StoreWidth.TheVariants.{Sw};
 
-use crate::register::register;
 use rv_word::{Cond, ImmOp, Instr, LoadKind, Reg, RegOp, StoreWidth};
 
 /// An instruction on two registers.
@@ -53,7 +52,7 @@ pub(crate) fn branch_on_zero(cond: Cond, rs1: Reg, offset: i32) -> Instr
     Instr::Branch {
         cond,
         rs1,
-        rs2: register(0),
+        rs2: Reg::numbered(0),
         offset,
     }
 }

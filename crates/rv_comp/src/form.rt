@@ -1,6 +1,5 @@
 //! The 16-bit forms, and the instructions that they stand for.
 use crate::build::{arithmetic, branch_on_zero, immediate, jump, jump_to, load, store, upper};
-use crate::register::register;
 use rv_word::{Cond, ImmOp, Instr, Reg, RegOp};
 
 /// A 16-bit instruction, by its form's name.
@@ -72,13 +71,18 @@ impl Form16 {
         ensures { result ≡ expansion self.now }
     {
         match *self {
-            Form16::CAddi4spn { rd, imm } => immediate(ImmOp::Addi, rd, register(2), imm),
+            Form16::CAddi4spn { rd, imm } => immediate(ImmOp::Addi, rd, Reg::numbered(2), imm),
             Form16::CLw { rd, rs1, imm } => load(rd, rs1, imm),
             Form16::CSw { rs1, rs2, imm } => store(rs1, rs2, imm),
             Form16::CAddi { rd, imm } => immediate(ImmOp::Addi, rd, rd, imm),
-            Form16::CJal { imm } => jump(register(1), imm),
-            Form16::CLi { rd, imm } => immediate(ImmOp::Addi, rd, register(0), imm),
-            Form16::CAddi16sp { imm } => immediate(ImmOp::Addi, register(2), register(2), imm),
+            Form16::CJal { imm } => jump(Reg::numbered(1), imm),
+            Form16::CLi { rd, imm } => immediate(ImmOp::Addi, rd, Reg::numbered(0), imm),
+            Form16::CAddi16sp { imm } => immediate(
+                ImmOp::Addi,
+                Reg::numbered(2),
+                Reg::numbered(2),
+                imm,
+            ),
             Form16::CLui { rd, imm } => upper(rd, imm),
             Form16::CSrli { rd, imm } => immediate(ImmOp::Srli, rd, rd, imm),
             Form16::CSrai { rd, imm } => immediate(ImmOp::Srai, rd, rd, imm),
@@ -87,17 +91,17 @@ impl Form16 {
             Form16::CXor { rd, rs2 } => arithmetic(RegOp::Xor, rd, rd, rs2),
             Form16::COr { rd, rs2 } => arithmetic(RegOp::Or, rd, rd, rs2),
             Form16::CAnd { rd, rs2 } => arithmetic(RegOp::And, rd, rd, rs2),
-            Form16::CJ { imm } => jump(register(0), imm),
+            Form16::CJ { imm } => jump(Reg::numbered(0), imm),
             Form16::CBeqz { rs1, imm } => branch_on_zero(Cond::Beq, rs1, imm),
             Form16::CBnez { rs1, imm } => branch_on_zero(Cond::Bne, rs1, imm),
             Form16::CSlli { rd, imm } => immediate(ImmOp::Slli, rd, rd, imm),
-            Form16::CLwsp { rd, imm } => load(rd, register(2), imm),
-            Form16::CJr { rs1 } => jump_to(register(0), rs1),
-            Form16::CJalr { rs1 } => jump_to(register(1), rs1),
-            Form16::CMv { rd, rs2 } => arithmetic(RegOp::Add, rd, register(0), rs2),
+            Form16::CLwsp { rd, imm } => load(rd, Reg::numbered(2), imm),
+            Form16::CJr { rs1 } => jump_to(Reg::numbered(0), rs1),
+            Form16::CJalr { rs1 } => jump_to(Reg::numbered(1), rs1),
+            Form16::CMv { rd, rs2 } => arithmetic(RegOp::Add, rd, Reg::numbered(0), rs2),
             Form16::CAdd { rd, rs2 } => arithmetic(RegOp::Add, rd, rd, rs2),
             Form16::CEbreak => Instr::Ebreak,
-            Form16::CSwsp { rs2, imm } => store(register(2), rs2, imm),
+            Form16::CSwsp { rs2, imm } => store(Reg::numbered(2), rs2, imm),
         }
     }
 }

@@ -14,7 +14,6 @@ mod first;
 mod form;
 mod front;
 pub mod laws;
-mod register;
 mod write;
 
 pub use decode::decode16;

@@ -32,6 +32,15 @@ impl Reg {
         }
     }
 
+    /// The register of a number that is known to name one.
+    #[inline]
+    pub fn numbered(number: u8) -> Self
+        requires { number < 32 }
+        ensures { result ≡ number }
+    {
+        Reg { number }
+    }
+
     /// 0 for x0, to 31 for x31.
     pub fn number(&self) -> u8
         ensures value { result ≡ self.now }
@@ -45,9 +54,7 @@ impl Reg {
         requires { field < 32 }
         ensures { result ≡ field }
     {
-        Reg {
-            number: field as u8,
-        }
+        Reg::numbered(field as u8)
     }
 
     /// The five bits of a word that name the register.

@@ -22,6 +22,6 @@ pub use limits::{
 pub use pairs::{code_pair, data_pair};
 pub use registers::{
     CODE_BASE_REGISTER, CODE_MASK_REGISTER, DATA_BASE_REGISTER, DATA_MASK_REGISTER, SCRATCH,
-    STACK_POINTER, is_reserved, is_withheld, register,
+    STACK_POINTER, is_reserved, is_withheld,
 };
 pub use stub::STUB;

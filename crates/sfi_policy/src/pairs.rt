@@ -3,7 +3,7 @@ ghost use Rattle.std.specs.Prelude.{◌≡◌};
 ghost use Rattle.sfi_policy.specs.Pairs.{pair, data_pair, code_pair};
 
 use crate::registers::{
-    CODE_BASE_REGISTER, CODE_MASK_REGISTER, DATA_BASE_REGISTER, DATA_MASK_REGISTER, register,
+    CODE_BASE_REGISTER, CODE_MASK_REGISTER, DATA_BASE_REGISTER, DATA_MASK_REGISTER,
 };
 use rv_word::{Instr, Reg, RegOp};
 
@@ -33,8 +33,8 @@ fn pair(mask: Reg, base: Reg, target: Reg, a: Reg) -> [Instr; 2]
 pub fn data_pair(target: Reg, a: Reg) -> [Instr; 2]
     ensures { result ≡ data_pair target a }
 {
-    let mask = register(DATA_MASK_REGISTER);
-    pair(mask, register(DATA_BASE_REGISTER), target, a)
+    let mask = Reg::numbered(DATA_MASK_REGISTER);
+    pair(mask, Reg::numbered(DATA_BASE_REGISTER), target, a)
 }
 
 /// The pair after which the target is a bundle start of the code region, with the offset of `a`'s bundle.
@@ -42,6 +42,6 @@ pub fn data_pair(target: Reg, a: Reg) -> [Instr; 2]
 pub fn code_pair(target: Reg, a: Reg) -> [Instr; 2]
     ensures { result ≡ code_pair target a }
 {
-    let mask = register(CODE_MASK_REGISTER);
-    pair(mask, register(CODE_BASE_REGISTER), target, a)
+    let mask = Reg::numbered(CODE_MASK_REGISTER);
+    pair(mask, Reg::numbered(CODE_BASE_REGISTER), target, a)
 }

@@ -1,5 +1,5 @@
 //! The registers that have a part in a sandbox's confinement, by their parts.
-ghost use Rattle.std.specs.Prelude.{◌≡◌, ◌<◌};
+ghost use Rattle.std.specs.Prelude.{◌≡◌};
 ghost use Rattle.sfi_policy.specs.Registers.{is_reserved, is_withheld};
 
 use rv_word::Reg;
@@ -39,16 +39,4 @@ pub fn is_withheld(register: Reg) -> bool
     ensures { result ≡ is_withheld register }
 {
     is_reserved(register) || register.number() == SCRATCH
-}
-
-/// The register of a number below 32, such as one of these.
-#[inline]
-pub fn register(number: u8) -> Reg
-    requires { number < 32 }
-    ensures { result ≡ number }
-{
-    match Reg::new(number) {
-        Some(reg) => reg,
-        None => unreachable!(),
-    }
 }

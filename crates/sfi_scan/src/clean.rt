@@ -71,17 +71,6 @@ fn words_before(bytes: &[u8; BUNDLE_BYTES], at: usize, from: usize) -> Words
     }
 }
 
-/// The register of a number below 32.
-fn register(number: u8) -> Reg
-    requires { number < 32 }
-    ensures { result ≡ number }
-{
-    match Reg::new(number) {
-        Some(reg) => reg,
-        None => unreachable!(),
-    }
-}
-
 impl Words {
     /// Whether the two are the pair on this register.
     #[inline(always)]
@@ -94,8 +83,8 @@ impl Words {
         // The law that the contract rests on: the call does nothing.
         rv_word::laws::one_spelling();
 
-        let (mask, base) = (register(pair.mask), register(pair.base));
-        let any = register((self.first >> 15 & 0b11111) as u8);
+        let (mask, base) = (Reg::numbered(pair.mask), Reg::numbered(pair.base));
+        let any = Reg::numbered((self.first >> 15 & 0b11111) as u8);
         let placing = op_word(RegOp::Or, target, target, base);
         if placing != self.second {
             return false;
@@ -170,7 +159,9 @@ fn is_clean(place: &BundlePlace, stack: bool, address: u32, words: Words, outlin
 {
     match outline {
         Outline::Computes { rd } => !is_protected(stack, rd),
-        Outline::Loads { rd, base } => !is_protected(stack, rd) && may_access(stack, words, base),
+        Outline::Loads { rd, base } => {
+            is_clean_access(stack, words, Access { written: rd, base })
+        }
         Outline::Stores { base } => may_access(stack, words, base),
         Outline::Branches { offset } => is_bundle_start(place, offset_by(address, offset)),
         Outline::Jumps { rd, offset } => {
@@ -256,7 +247,7 @@ fn is_clean_word(
         (AreWordsFrom bytes.now at from) (IsWordOf word)) }
 {
     if computes32(word) {
-        return !is_protected(stack, register((word >> 7 & 0b11111) as u8));
+        return !is_protected(stack, Reg::numbered((word >> 7 & 0b11111) as u8));
     }
     match access32(word) {
         Some(access) => is_clean_access(stack, words_before(bytes, at, from), access),
@@ -284,13 +275,13 @@ fn is_stack_write(word: u32) -> bool
 fn is_stack_pair(first: u32, second: u32) -> bool
     ensures { OnTrue result (AreStackPair first second) }
 {
-    let stack = register(STACK);
-    let placing = op_word(RegOp::Or, stack, stack, register(DATA.base));
+    let stack = Reg::numbered(STACK);
+    let placing = op_word(RegOp::Or, stack, stack, Reg::numbered(DATA.base));
     if placing != second {
         return false;
     }
-    let any = register((first >> 15 & 0b11111) as u8);
-    let masking = op_word(RegOp::And, stack, any, register(DATA.mask));
+    let any = Reg::numbered((first >> 15 & 0b11111) as u8);
+    let masking = op_word(RegOp::And, stack, any, Reg::numbered(DATA.mask));
     masking == first
 }
 

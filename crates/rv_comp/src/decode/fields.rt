@@ -3,7 +3,6 @@ ghost use Rattle.std.specs.Prelude.{◌≡◌, ◌<◌, ◌≤◌, pos, ◌*ℤ�
 ghost use Rattle.rv_comp.specs.mirror.Decoding.{extended, short, long, word_offset, six, jump_offset, branch_offset, stack_step, stack_address, load_offset, store_offset};
 
 use crate::bits::bits;
-use crate::register::register;
 use rv_word::Reg;
 
 /// The register x8 to x15 of the three bits from `low` on.
@@ -11,7 +10,7 @@ pub(super) fn short_reg(h: u16, low: u32) -> Reg
     requires { low < 8 }
     ensures { result ≡ short h low }
 {
-    register(8 + bits(h, low + 2, low) as u8)
+    Reg::numbered(8 + bits(h, low + 2, low) as u8)
 }
 
 /// The register of the five bits from `low` on.
@@ -19,7 +18,7 @@ pub(super) fn long_reg(h: u16, low: u32) -> Reg
     requires { low < 8 }
     ensures { result ≡ long h low }
 {
-    register(bits(h, low + 4, low) as u8)
+    Reg::numbered(bits(h, low + 4, low) as u8)
 }
 
 /// A number of `width` bits as a signed one.

@@ -7,8 +7,7 @@ ghost use Rattle.rv_comp.specs.mirror.Outlining.{row_of, jump, jump_or_stop, out
 
 use super::fields::{branch_offset, jump_offset, long_reg, short_reg};
 use crate::bits::bits;
-use crate::register::register;
-use rv_word::Outline;
+use rv_word::{Outline, Reg};
 
 /// Bits 15:13, and after them bits 1:0.
 #[tactic(auto, unfolding(crate::specs::mirror::Outlining::row_of))]
@@ -27,7 +26,7 @@ fn jump(h: u16) -> Outline
     let first = long_reg(h, 7);
     if bits(h, 6, 2) == 0 {
         Outline::JumpsTo {
-            rd: register(bits(h, 12, 12) as u8),
+            rd: Reg::numbered(bits(h, 12, 12) as u8),
             base: first,
             imm: 0,
         }
@@ -75,11 +74,11 @@ fn outline_halfword(h: u16) -> Option<Outline>
             rd: short_reg(h, 7),
         }),
         0b00101 => Some(Outline::Jumps {
-            rd: register(1),
+            rd: Reg::numbered(1),
             offset: jump_offset(h),
         }),
         0b10101 => Some(Outline::Jumps {
-            rd: register(0),
+            rd: Reg::numbered(0),
             offset: jump_offset(h),
         }),
         0b11001 | 0b11101 => Some(Outline::Branches {
@@ -88,10 +87,12 @@ fn outline_halfword(h: u16) -> Option<Outline>
         0b00010 if bits(h, 12, 12) == 0 => Some(Outline::Computes { rd: long_reg(h, 7) }),
         0b01010 if bits(h, 11, 7) != 0 => Some(Outline::Loads {
             rd: long_reg(h, 7),
-            base: register(2),
+            base: Reg::numbered(2),
         }),
         0b10010 => jump_or_stop(h),
-        0b11010 => Some(Outline::Stores { base: register(2) }),
+        0b11010 => Some(Outline::Stores {
+            base: Reg::numbered(2),
+        }),
         _ => None,
     }
 }
