@@ -12,6 +12,8 @@ pub mod SlotSteps
 pub mod Neighbours
 pub mod OwnSteps
 pub mod Plans
+pub mod Following
+pub mod Continuing
 pub mod Posting
 pub mod Replying
 pub mod Runs

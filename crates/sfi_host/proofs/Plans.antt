@@ -15,7 +15,7 @@ use Rattle.sfi_host.proofs.Turning.{allows_both}
 
 -- ---- limits
 
-no_limit : (k : ℕ) → allows k None ≡ None
+pub no_limit : (k : ℕ) → allows k None ≡ None
 no_limit zero = refl
 no_limit (suc k) = ap allow (no_limit k)
 
@@ -30,7 +30,7 @@ joined_cons : {S : Type 0} (machine : Machine) (host : Host S) (t : Turn) (rest 
 unfolding joined
 joined_cons machine host t rest slots s found e = ap (λ (o : Option Slot). turn_and machine host t slots s o (joined machine host rest)) e
 
-joined_nil : {S : Type 0} (machine : Machine) (host : Host S) (slots : List Slot) (s : S) → joined machine host [] slots s ≡ record { slots = slots; host = s; replies = []; turns = 0; is_ended = false }
+pub joined_nil : {S : Type 0} (machine : Machine) (host : Host S) (slots : List Slot) (s : S) → joined machine host [] slots s ≡ record { slots = slots; host = s; replies = []; turns = 0; is_ended = false }
 unfolding joined
 joined_nil machine host slots s = refl
 

@@ -11,6 +11,7 @@ pub mod Joint
 pub mod Solo
 pub mod Calls
 pub mod Plans
+pub mod Following
 pub mod Stops
 pub mod Worlds
 pub mod Reading

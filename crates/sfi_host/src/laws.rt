@@ -1,4 +1,5 @@
 //! What holds of the definitions and of every run. A call costs nothing.
+ghost use Rattle.sfi_host.specs.Following.{JoinedFollows, JointFollows, PlansFollow, CutFollows};
 ghost use Rattle.sfi_host.specs.Laws.{SomeMachine, OneMachine, NeighboursAreChanges, CallsHaveStack, AnswersAreReplies};
 ghost use Rattle.sfi_host.specs.Moves.{MovesAreRuns, OthersLeaveSlots};
 ghost use Rattle.sfi_host.specs.Solo.{JointIsSolo};
@@ -21,6 +22,23 @@ pub fn one_machine()
 /// What a sandbox comes to among others is what it comes to alone with the replies that it got. `S` is a host's state.
 pub fn joint_is_solo<S>()
     ensures { JointIsSolo S }
+{}
+
+/// The joint run of one plan after another is that of the second from where the first left off. `S` is a host's state.
+pub fn joined_follows<S>()
+    // With any host, a call that ends the first ends both.
+    ensures any_host { JoinedFollows S }
+
+    // A host that answers each call ends none.
+    ensures each_answered { JointFollows S }
+{}
+
+/// A plan may be run in pieces, one after another: what is said of each piece makes up what is said
+/// of the whole. So `World::run_plan` can be called for each round, and its clauses `done` and
+/// `memory` then hold of all rounds. `S` is a host's state.
+pub fn plans_follow<S>()
+    ensures done { PlansFollow S }
+    ensures memory { CutFollows S }
 {}
 
 /// A step of a sandbox that is safe is, alone, the same step in its own memory; it leaves all but its data, and leaves it safe.

@@ -1,0 +1,8 @@
+use Rattle.sfi_host.proofs.Continuing.{plans_follow, cut_follows}
+use Rattle.sfi_host.proofs.laws.plans_follow.Goals as goal
+
+pub returns-clause-done : goal.returns-clause-done
+returns-clause-done g c = plans_follow
+
+pub returns-clause-memory : goal.returns-clause-memory
+returns-clause-memory g c = cut_follows

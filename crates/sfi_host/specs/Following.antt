@@ -1,0 +1,53 @@
+-- One plan after another.
+use Rattle.std.specs.Prelude.{◌≡◌, ℕ, ◌+◌, cond, Bool, List, ◌++◌, length, None}
+use Rattle.sfi_host.specs.declared.turn.Turn.{Turn}
+use Rattle.sfi_host.specs.Slots.{Slot}
+use Rattle.sfi_host.specs.Hosts.{Call, Answer, Host}
+use Rattle.sfi_host.specs.Joint.{Machine, Joined, joined, joint}
+use Rattle.sfi_host.specs.Plans.{IsJoint, IsCutJoint}
+
+-- what a run comes to that goes on where another one left off
+abbrev pub after_run : {S : Type 0} → Joined S → Joined S → Joined S
+after_run first second = record {
+  slots = second.slots;
+  host = second.host;
+  replies = first.replies ++ second.replies;
+  turns = first.turns + second.turns;
+  is_ended = second.is_ended;
+}
+
+-- With any host, one plan after another comes to what the second comes to from where the first left
+-- off; or to what the first comes to, if a call ended that.
+abbrev pub JoinedFollows : Type 0 → Type 0
+JoinedFollows S =
+    (machine : Machine) (host : Host S) (p q : List Turn) (slots : List Slot) (s : S)
+    → let first = joined machine host p slots s in
+    joined machine host (p ++ q) slots s
+    ≡ cond first.is_ended first (after_run first (joined machine host q first.slots first.host))
+
+-- with a host that answers each call, always to what the second comes to from there
+abbrev pub JointFollows : Type 0 → Type 0
+JointFollows S =
+    (machine : Machine) (answer : S → Call → Answer S) (p q : List Turn) (slots : List Slot) (s : S)
+    → let first = joint machine answer p slots s None in
+    joint machine answer (p ++ q) slots s None
+    ≡ after_run first (joint machine answer q first.slots first.host.host None)
+
+-- each turn of one plan was taken, and then each of another: so was each of both
+abbrev pub PlansFollow : Type 0 → Type 0
+PlansFollow S =
+    (machine : Machine) (answer : S → Call → Answer S) (p q : List Turn)
+    → (old mid new : List Slot) (before between after : S)
+    → IsJoint machine answer p old before mid between
+    → IsJoint machine answer q mid between new after
+    → IsJoint machine answer (p ++ q) old before new after
+
+-- each turn of one plan was taken, and another plan ended at a call that the host may refuse: so did
+-- both, in the same turn
+abbrev pub CutFollows : Type 0 → Type 0
+CutFollows S =
+    (machine : Machine) (answer : S → Call → Answer S) (may_refuse : S → Call → Bool)
+    → (p q : List Turn) (old mid new : List Slot) (before between after : S) (place : ℕ)
+    → IsJoint machine answer p old before mid between
+    → IsCutJoint machine answer may_refuse q mid between place new after
+    → IsCutJoint machine answer may_refuse (p ++ q) old before (length p + place) new after
