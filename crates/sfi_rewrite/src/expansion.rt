@@ -8,7 +8,7 @@ use crate::slot::Slot;
 use rv_comp::form_of;
 use rv_source::{Body, Item};
 use rv_word::{ImmOp, Instr, Reg};
-use sfi_policy::{Format, SCRATCH, STACK_POINTER, code_pair, data_pair, register};
+use sfi_policy::{Format, SCRATCH, STACK_POINTER, code_pair, data_pair};
 use std::marker::Model;
 
 /// What stands in the array where an expansion has no slot.
@@ -57,7 +57,7 @@ impl Expansion {
     fn with_stack_pair(first: Slot) -> Expansion
         ensures { result ≡ first ∷ stack_pair }
     {
-        let stack_pointer = register(STACK_POINTER);
+        let stack_pointer = Reg::numbered(STACK_POINTER);
         let [mask, place] = data_pair(stack_pointer, stack_pointer);
         Expansion {
             slots: [first, Slot::Wide(mask), Slot::Wide(place), BLANK],
@@ -100,7 +100,7 @@ impl Expansion {
 fn of_jump(rd: Reg, a: Reg, imm: i32) -> Expansion
     ensures { result ≡ jump_slots rd a imm }
 {
-    let scratch = register(SCRATCH);
+    let scratch = Reg::numbered(SCRATCH);
     let last = Slot::Wide(Instr::Jalr {
         rd,
         rs1: scratch,
@@ -134,7 +134,7 @@ fn alone(rvc: bool, instr: &Instr) -> Expansion
 fn of_masked(rvc: bool, instr: &Instr) -> Expansion
     ensures { IsMasked rvc instr.now result }
 {
-    let scratch = register(SCRATCH);
+    let scratch = Reg::numbered(SCRATCH);
     match *instr {
         Instr::Load { kind, rd, rs1, imm } => {
             let access = Instr::Load {

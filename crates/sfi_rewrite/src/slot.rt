@@ -5,7 +5,6 @@ ghost use Rattle.sfi_rewrite.specs.Slots.{slot_size, size_of, c_nop};
 
 use rv_comp::Form16;
 use rv_word::{Instr, Reg};
-use sfi_policy::register;
 
 /// What stands in a bundle: an instruction that is known whole, or one that waits for the address of a name. A name is given
 /// by its place among the names of its sandbox, and a line is that of the source, from 1.
@@ -53,7 +52,7 @@ impl Default for Slot {
         ensures { result ≡ c_nop }
     {
         Slot::Short(Form16::CAddi {
-            rd: register(0),
+            rd: Reg::numbered(0),
             imm: 0,
         })
     }
