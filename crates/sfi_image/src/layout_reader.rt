@@ -55,7 +55,8 @@ fn next_part(begun: u32, count: u32) -> Next
     }
 }
 
-// What comes after so many first data bytes.
+// What comes after so many first data bytes: out of line, since few bundles are the last of their code region.
+#[inline(never)]
 fn next_init(read: u32, len: u32, begun: u32, count: u32) -> Next
     ensures { result ≡ next_init read len begun count }
 {
