@@ -5,7 +5,7 @@ ghost use Rattle.sfi_image.specs.declared.fault.LayoutFault.{LayoutFault};
 ghost use Rattle.sfi_image.specs.Fronts.{Front, front, want_of, IsLengthOf, HasFaultNumberWhateverFollows};
 ghost use Rattle.sfi_image.specs.Fronts.Front.{Empty};
 ghost use Rattle.sfi_image.specs.Keeping.{StandsFor, HasStopped, Leads, left};
-ghost use Rattle.sfi_image.specs.private.Keeping.{MayTake, Takes, is_first, next_part, next_init, next_code, next_gate};
+ghost use Rattle.sfi_image.specs.private.Keeping.{MayTake, Takes, as_want, is_first, next_part, next_init, next_code, next_gate};
 
 use crate::fault::LayoutFault;
 use crate::fields::{Fields, spans_after};
@@ -14,7 +14,7 @@ use crate::kept::{KeptGates, KeptSpans};
 use crate::reading::{
     FIELDS_BYTES, GATE_BYTES, MAGIC_BYTES, NUMBER_BYTES, fields_at, format_at, gate_at, number_at,
 };
-use crate::want::{Next, Want};
+use crate::want::{Next, OtherWant, Want};
 use sfi_policy::{BUNDLE_SIZE, Format, SANDBOXES_MOST};
 use std::marker::Model;
 
@@ -55,7 +55,8 @@ fn next_part(begun: u32, count: u32) -> Next
     }
 }
 
-// What comes after so many first data bytes.
+// What comes after so many first data bytes: out of line, since few bundles are the last of their code region.
+#[inline(never)]
 fn next_init(read: u32, len: u32, begun: u32, count: u32) -> Next
     ensures { result ≡ next_init read len begun count }
 {
@@ -164,26 +165,31 @@ impl LayoutReader {
                 listed: is_first_after(self.gates.as_slice(), self.passed, address),
             }
         } else {
-            self.wants_no_bundle()
+            match self.wants_no_bundle() {
+                OtherWant::Field(len) => Want::Field(len),
+                OtherWant::Init(most) => Want::Init(most),
+                OtherWant::End => Want::End,
+                OtherWant::Nothing => Want::Nothing,
+            }
         }
     }
 
     // What comes next where no bundle does: out of line, since it is asked but a few times for a sandbox.
     #[inline(never)]
-    fn wants_no_bundle(&self) -> Want
+    fn wants_no_bundle(&self) -> OtherWant
         requires { self.now.next ≢ Next.Code }
-        ensures want { (x : Front) → StandsFor self.now x → result ≡ want_of x }
-        ensures stopped { HasStopped self.now → result ≡ Want.Nothing }
+        ensures want { (x : Front) → StandsFor self.now x → as_want result ≡ want_of x }
+        ensures stopped { HasStopped self.now → result ≡ OtherWant.Nothing }
     {
         match self.next {
-            Next::Magic => Want::Field(MAGIC_BYTES),
-            Next::Count => Want::Field(NUMBER_BYTES),
-            Next::Fields => Want::Field(FIELDS_BYTES),
-            Next::Gate => Want::Field(GATE_BYTES),
+            Next::Magic => OtherWant::Field(MAGIC_BYTES),
+            Next::Count => OtherWant::Field(NUMBER_BYTES),
+            Next::Fields => OtherWant::Field(FIELDS_BYTES),
+            Next::Gate => OtherWant::Field(GATE_BYTES),
             Next::Code => unreachable!(),
-            Next::Init => Want::Init((self.fields.init_len - self.init_read) as usize),
-            Next::End => Want::End,
-            Next::Nothing => Want::Nothing,
+            Next::Init => OtherWant::Init((self.fields.init_len - self.init_read) as usize),
+            Next::End => OtherWant::End,
+            Next::Nothing => OtherWant::Nothing,
         }
     }
 

@@ -29,6 +29,15 @@ pub enum Want {
     Nothing,
 }
 
+/// What comes next where no bundle does: a type without bundles, so that only a bundle's own way leads to one.
+#[derive(Clone, Copy)]
+pub(crate) enum OtherWant {
+    Field(usize),
+    Init(usize),
+    End,
+    Nothing,
+}
+
 /// What a reader reads next.
 #[derive(Clone, Copy)]
 pub(crate) enum Next {

@@ -3,11 +3,22 @@ use Rattle.std.specs.Prelude.{◌≡◌, ℕ, ◌+◌, ◌≤◌, ◌==◌, Bool
 use Rattle.sfi_policy.specs.Limits.{bundle_size}
 use Rattle.sfi_image.specs.declared.fields.Fields.{Fields}
 use Rattle.sfi_image.specs.declared.fault.LayoutFault.{LayoutFault}
+use Rattle.sfi_image.specs.declared.want.Want.{Want}
+use Rattle.sfi_image.specs.declared.want.Want.TheVariants as wants
+use Rattle.sfi_image.specs.declared.want.OtherWant.{OtherWant}
+use Rattle.sfi_image.specs.declared.want.OtherWant.TheVariants as others
 use Rattle.sfi_image.specs.declared.want.Next.{Next}
 use Rattle.sfi_image.specs.declared.want.Next.TheVariants as next
 use Rattle.sfi_image.specs.Spelling.{magic_bytes, number_bytes, fields_bytes, gate_bytes}
 use Rattle.sfi_image.specs.Fronts.{Front, front, HasFaultWhateverFollows}
 use Rattle.sfi_image.specs.Keeping.{HasStopped, Leads, ReaderState, StandsFor}
+
+-- what is wanted, where that is no bundle
+abbrev pub as_want : OtherWant → Want
+as_want (others.Field n) = wants.Field n
+as_want (others.Init n) = wants.Init n
+as_want others.End = wants.End
+as_want others.Nothing = wants.Nothing
 
 -- the first of the addresses is that one
 abbrev pub is_first : List ℕ → ℕ → Bool
