@@ -38,7 +38,7 @@ fn half_at(bytes: &[u8; BUNDLE_BYTES], at: usize) -> u16
     requires { at + 2 ≤ bundle_size }
     ensures { result ≡ half_at bytes.now at }
 {
-    let Some(half) = bytes[at..].first_chunk::<2>() else {
+    let Some(half) = bytes[at..at + 2].as_array::<2>() else {
         unreachable!();
     };
     u16::from_le_bytes(*half)
@@ -50,7 +50,7 @@ fn word_at(bytes: &[u8; BUNDLE_BYTES], at: usize) -> u32
     requires { at + 4 ≤ bundle_size }
     ensures { result ≡ word_at bytes.now at }
 {
-    let Some(word) = bytes[at..].first_chunk::<4>() else {
+    let Some(word) = bytes[at..at + 4].as_array::<4>() else {
         unreachable!();
     };
     u32::from_le_bytes(*word)
