@@ -38,7 +38,10 @@ fn half_at(bytes: &[u8; BUNDLE_BYTES], at: usize) -> u16
     requires { at + 2 ≤ bundle_size }
     ensures { result ≡ half_at bytes.now at }
 {
-    u16::from_le_bytes([bytes[at], bytes[at + 1]])
+    let Some(half) = bytes[at..at + 2].as_array::<2>() else {
+        unreachable!();
+    };
+    u16::from_le_bytes(*half)
 }
 
 /// The word at this place of the bundle.
@@ -47,7 +50,10 @@ fn word_at(bytes: &[u8; BUNDLE_BYTES], at: usize) -> u32
     requires { at + 4 ≤ bundle_size }
     ensures { result ≡ word_at bytes.now at }
 {
-    u32::from_le_bytes([bytes[at], bytes[at + 1], bytes[at + 2], bytes[at + 3]])
+    let Some(word) = bytes[at..at + 4].as_array::<4>() else {
+        unreachable!();
+    };
+    u32::from_le_bytes(*word)
 }
 
 /// The words before a place, where the instructions that end there have 32 bits each from another
