@@ -7,3 +7,4 @@ pub mod Conversions
 pub mod Classes
 pub mod Reading
 pub mod RawJobs
+pub mod Rounds

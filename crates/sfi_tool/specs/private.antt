@@ -3,3 +3,4 @@ pub mod Converting
 pub mod Hexadecimal
 pub mod Input
 pub mod Says
+pub mod Rounds

@@ -1,13 +1,17 @@
 //! The turns of a run.
 
-ghost use Rattle.std.specs.Prelude.{◌≡◌, IfOk};
-ghost use Rattle.sfi_tool.specs.RunLines.{plan_of, round_of};
+ghost use Rattle.std.specs.Prelude.{◌≡◌, ℕ, IfOk, OnOk};
+ghost use Rattle.sfi_host.specs.Worlds.{slots_of};
+ghost use Rattle.sfi_tool.specs.RunLines.{round_of};
+ghost use Rattle.sfi_tool.specs.private.Rounds.{AreTaken};
 
-use sfi_host::Turn;
+use rv_mem::Memory;
+use sfi_host::laws::plans_follow;
+use sfi_host::{Console, RunAnswer, Turn, World};
 use std::alloc::{AllocError, Global};
 
 /// One turn of so many steps for each of so many sandboxes, in order.
-fn round_of(alloc: Global, quantum: u32, count: u32) -> Result<Vec<Turn>, AllocError>
+pub(crate) fn round_of(alloc: Global, quantum: u32, count: u32) -> Result<Vec<Turn>, AllocError>
     ensures { IfOk result (λ turns. turns.items ≡ round_of quantum count) }
 {
     let mut turns = Vec::with_capacity(alloc, count as usize)?;
@@ -20,19 +24,26 @@ fn round_of(alloc: Global, quantum: u32, count: u32) -> Result<Vec<Turn>, AllocE
     Ok(turns)
 }
 
-/// So many rounds, in each of which every sandbox has one turn of so many steps.
-pub(crate) fn plan_of(
-    alloc: Global,
+/// The same round, so many times. Where the console has no memory for a reply, no further turn is
+/// taken.
+pub(crate) fn take_rounds<M: Memory>(
     rounds: u32,
-    quantum: u32,
-    count: u32,
-) -> Result<Vec<Turn>, AllocError>
-    ensures { IfOk result (λ turns. turns.items ≡ plan_of rounds quantum count) }
+    round: &[Turn],
+    world: &mut World<M>,
+    console: &mut Console,
+) -> Result<(), AllocError>
+    ensures { OnOk result ((quantum count : ℕ) → round.now ≡ round_of quantum count
+        → AreTaken rounds quantum count
+        (slots_of world.old) console.old (slots_of world.new) console.new) }
 {
-    let round = round_of(alloc, quantum, count)?;
-    let mut plan = Vec::new(alloc);
+    // The law that the contract rests on: this call does nothing.
+    plans_follow::<Console>();
+
     for _ in 0..rounds {
-        plan.extend_from_slice(&round)?;
+        match world.run_plan(round, console) {
+            RunAnswer::Done => {}
+            RunAnswer::Memory { .. } => return Err(AllocError),
+        }
     }
-    Ok(plan)
+    Ok(())
 }

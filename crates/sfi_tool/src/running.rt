@@ -10,12 +10,12 @@ ghost use Rattle.sfi_command.specs.declared.job.Job.TheVariants.{Run};
 use crate::checking::refusal_answer;
 use crate::fault::Stop;
 use crate::hexadecimal::bytes_of;
-use crate::plan::plan_of;
+use crate::plan::{round_of, take_rounds};
 use crate::run_lines::run_lines;
 use crate::verdict::Answer;
 use rv_mem::Pages;
 use sfi_check::{Accepted, check};
-use sfi_host::{Console, RunAnswer, World};
+use sfi_host::{Console, World};
 use std::alloc::{AllocError, Global};
 
 /// Runs the sandboxes of an accepted image, and says what became of each.
@@ -31,11 +31,9 @@ fn run_text(
     let count = accepted.sandboxes() as u32;
     let mut world = World::load(alloc, accepted, Pages::new(alloc))?;
     let mut console = Console::new(alloc, count, input)?;
-    let plan = plan_of(alloc, rounds, quantum, count)?;
-    match world.run_plan(&plan, &mut console) {
-        RunAnswer::Done => run_lines(alloc, count, &world, &console),
-        RunAnswer::Memory { .. } => Err(AllocError),
-    }
+    let round = round_of(alloc, quantum, count)?;
+    take_rounds(rounds, &round, &mut world, &mut console)?;
+    run_lines(alloc, count, &world, &console)
 }
 
 /// The verdict on the image that the text spells where it has findings, and else what became of its sandboxes.
