@@ -6,9 +6,9 @@ use crate::cause::TextCause;
 use std::alloc::{AllocError, AllocFailed};
 use thiserror::Error;
 
-/// The first line of a text that is faulty, and why.
+/// The first line of a text that is faulty, and why. Its text is the line that the program prints.
 #[derive(Clone, Copy, Debug, PartialEq, Eq, Error)]
-#[error("source fault {cause} line {line}")]
+#[error("source fault {} {cause} line {line}", .cause.number())]
 pub struct TextFault {
     /// From 1; 0 where memory was refused.
     pub line: u32,

@@ -22,7 +22,7 @@ use sfi_rewrite::rewrite;
 use std::alloc::Global;
 
 // The build of the text, or its fault.
-fn built(alloc: Global, text: &str) -> Result<Vec<u8>, BuildFault>
+fn build_of(alloc: Global, text: &str) -> Result<Vec<u8>, BuildFault>
     ensures builds { Builds text.now result }
     ensures too_long { most_bytes < length text.now → result ≡ Err (Text (first_line Limit)) }
 {
@@ -61,5 +61,5 @@ pub fn build(alloc: Global, text: &str) -> Result<Vec<u8>, BuildFault>
     one_linking();
     linked_runs_as();
 
-    built(alloc, text)
+    build_of(alloc, text)
 }

@@ -7,17 +7,18 @@ use sfi_link::LinkFault;
 use sfi_rewrite::RewriteFault;
 use thiserror::Error;
 
-/// Why a text isn't built: the first of its reading, its rewriting and its linking that fails.
+/// Why a text isn't built: the first of its reading, its rewriting and its linking that fails. Its text is the line that
+/// the program prints.
 #[derive(Clone, Copy, Debug, PartialEq, Eq, Error)]
 pub enum BuildFault {
     /// The text is no source.
     #[error("{0}")]
     Text(TextFault),
     /// The source can't be rewritten.
-    #[error("rewrite fault {0}")]
+    #[error("rewrite fault {} {}", .0.number(), .0)]
     Rewrite(RewriteFault),
     /// What is placed can't be linked.
-    #[error("link fault {0}")]
+    #[error("link fault {} {}", .0.number(), .0)]
     Link(LinkFault),
 }
 

@@ -27,7 +27,7 @@ pub(crate) fn push_two_digits(out: &mut String, number: u8) -> Result<(), AllocE
 }
 
 /// Appends the number of two bytes, the lowest first, to the text.
-pub(crate) fn push_half(out: &mut String, bytes: &[u8]) -> Result<(), AllocError>
+pub(crate) fn push_halfword(out: &mut String, bytes: &[u8]) -> Result<(), AllocError>
     requires { length bytes.now ≡ 2 }
     ensures { OnOk result (string_bytes out.new ≡ string_bytes out.old ++ word_digits bytes.now) }
 {
@@ -40,7 +40,7 @@ pub(crate) fn push_word(out: &mut String, bytes: &[u8]) -> Result<(), AllocError
     ensures { OnOk result (string_bytes out.new ≡ string_bytes out.old ++ word_digits bytes.now) }
 {
     if bytes.len() == 2 {
-        return push_half(out, bytes);
+        return push_halfword(out, bytes);
     }
     push_eight_digits(
         out,

@@ -5,7 +5,7 @@ ghost use Rattle.sfi_scan.specs.Findings.{AreImageFindings};
 ghost use Rattle.sfi_report.specs.Report.{IsFindingLine, IsPlaceText, IsInstructionText, IsReport, line_front, half_text, rule_name};
 ghost use Rattle.sfi_report.specs.private.Added.{Adds, IsPlace, SpellsFirst, Stands};
 
-use crate::digits::{push_eight_digits, push_half};
+use crate::digits::{push_eight_digits, push_halfword};
 use rv_comp::{Front, read_front};
 use rv_text::push_instr;
 use sfi_image::{Image, SandboxPart};
@@ -32,16 +32,16 @@ fn name_of(rule: Rule) -> &'static str
 }
 
 /// Writes the halfword that the code begins with.
-fn push_data(out: &mut String, code: &[u8]) -> Result<(), AllocError>
+fn push_first_halfword(out: &mut String, code: &[u8]) -> Result<(), AllocError>
     requires { 2 ≤ length code.now }
     ensures { OnOk result (string_bytes out.new ≡ string_bytes out.old ++ half_text code.now) }
 {
     out.push_str(".half 0x")?;
-    push_half(out, &code[..2])
+    push_halfword(out, &code[..2])
 }
 
 /// Writes the instruction that the code begins with.
-fn push_first(out: &mut String, code: &[u8]) -> Result<(), AllocError>
+fn push_first_instruction(out: &mut String, code: &[u8]) -> Result<(), AllocError>
     requires { SpellsFirst code.now }
     ensures { OnOk result (Adds (string_bytes out.old) (string_bytes out.new) (IsInstructionText code.now)) }
 {
@@ -57,10 +57,9 @@ fn push_place(out: &mut String, rule: Rule, code: &[u8]) -> Result<(), AllocErro
     ensures { OnOk result (Adds (string_bytes out.old) (string_bytes out.new) (IsPlaceText rule code.now)) }
 {
     match rule {
-        Rule::V1 | Rule::V2 => push_data(out, code),
-        Rule::V3 | Rule::V4 | Rule::V5 | Rule::V6 | Rule::V7 | Rule::V8 | Rule::V10 => push_first(
-            out, code,
-        ),
+        Rule::V1 | Rule::V2 => push_first_halfword(out, code),
+        Rule::V3 | Rule::V4 | Rule::V5 | Rule::V6 | Rule::V7 | Rule::V8 | Rule::V10 =>
+            push_first_instruction(out, code),
         Rule::V9 => out.push_str("stub expected"),
     }
 }

@@ -16,7 +16,9 @@ use Rattle.sfi_check.specs.declared.refusal.Refusal.TheVariants as refusal
 use Rattle.sfi_tool.specs.private.Converting.{HasFound, AnswersConvertFault}
 use Rattle.sfi_tool.specs.Hexadecimal.{SpellsBytes, IsUnreadable}
 use Rattle.sfi_tool.specs.Verdict.{refused_line}
-use Rattle.sfi_tool.specs.Says.{Says, IsDone, IsRefused, HasInputFault, SaysConversion}
+use Rattle.sfi_tool.specs.Says.{Says, IsDone, IsRefused, HasInputFault}
+use Rattle.sfi_tool.specs.commands.Checking.{HasSomeFault}
+use Rattle.sfi_tool.specs.commands.Converting.{SaysConversion}
 use Rattle.sfi_tool.specs.private.Says.{IsStop, AnswersStatus}
 use Rattle.sfi_tool.specs.declared.fault.Stop.{Stop}
 use Rattle.sfi_tool.specs.declared.fault.Stop.TheVariants as stop
@@ -26,24 +28,27 @@ use Rattle.sfi_tool.specs.declared.verdict.Answer.{Answer}
 -- ---- the text's bytes
 
 on_conversion : {Q : Type 0} (text read : List ℕ) → ((bytes : List ℕ) → SpellsBytes text bytes → read ≡ bytes) → ((new : List ℕ) → IsConversion read new → Q) → IsDone Convert text → Q
-on_conversion text read one follows done = follows done.1 (subst (λ (b : List ℕ). IsConversion b done.1) (sym (one done.0 done.2)) done.3)
+on_conversion text read one follows done = follows done.2.0 (subst (λ (b : List ℕ). IsConversion b done.2.0) (sym (one done.0 done.1)) done.2.1)
 
 pub on_refusal : {Q : Type 0} (text read : List ℕ) → ((bytes : List ℕ) → SpellsBytes text bytes → read ≡ bytes)
     → ((found : List Finding) → (¬ IsSecond read) → HasFindings read found → Q) → ((found : List Finding) → HasStackFindings read found → Q) → IsRefused Convert text → Q
-on_refusal {Q} text read one first second refused = by refused.3
+on_refusal {Q} text read one first second refused = by refused.2.1
   where
     same : read ≡ refused.0
-    same = one refused.0 refused.2
+    same = one refused.0 refused.1
 
-    by : ((¬ IsSecond refused.0) × HasFindings refused.0 refused.1) ⊎ HasStackFindings refused.0 refused.1 → Q
-    by (inl h) = first refused.1 (λ s. h.0 (subst IsSecond same s)) (subst (λ (b : List ℕ). HasFindings b refused.1) (sym same) h.1)
-    by (inr h) = second refused.1 (subst (λ (b : List ℕ). HasStackFindings b refused.1) (sym same) h)
+    by : ((¬ IsSecond refused.0) × HasFindings refused.0 refused.2.0) ⊎ HasStackFindings refused.0 refused.2.0 → Q
+    by (inl h) = first refused.2.0 (λ s. h.0 (subst IsSecond same s)) (subst (λ (b : List ℕ). HasFindings b refused.2.0) (sym same) h.1)
+    by (inr h) = second refused.2.0 (subst (λ (b : List ℕ). HasStackFindings b refused.2.0) (sym same) h)
 
 pub on_fault : {Q : Type 0} (text read : List ℕ) → ((bytes : List ℕ) → SpellsBytes text bytes → read ≡ bytes) → (IsUnreadable text → ⊥)
     → ((k : LayoutFault) → IsFault read k → Q) → (IsSecond read → Q) → HasInputFault Convert text → Q
 on_fault text read one readable layout second (inl unreadable) = absurd (readable unreadable)
-on_fault text read one readable layout second (inr (inl spelt)) = layout spelt.1 (subst (λ (b : List ℕ). IsFault b spelt.1) (sym (one spelt.0 spelt.2)) spelt.3)
-on_fault text read one readable layout second (inr (inr spelt)) = second (subst IsSecond (sym (one spelt.0 spelt.1)) spelt.2)
+on_fault {Q} text read one readable layout second (inr spelt) = by spelt.2
+  where
+    by : HasSomeFault spelt.0 ⊎ IsSecond spelt.0 → Q
+    by (inl wrong) = layout wrong.0 (subst (λ (b : List ℕ). IsFault b wrong.0) (sym (one spelt.0 spelt.1)) wrong.1)
+    by (inr is) = second (subst IsSecond (sym (one spelt.0 spelt.1)) is)
 
 -- ---- a conversion
 
@@ -79,7 +84,7 @@ fault_says text read bytes fault (Ok a) spells same only is h =
 fault_says text read bytes fault (Err s) spells same only is h = tt
 
 second_fault : (text bytes : List ℕ) → SpellsBytes text bytes → IsSecond bytes → HasInputFault Convert text
-second_fault text bytes spells is = inr (inr (bytes, spells, is))
+second_fault text bytes spells is = inr (bytes, spells, inr is)
 
 pub fault_stops : (text read bytes : List ℕ) (fault : ConvertFault) (answer : Result Answer Stop) → SpellsBytes text bytes → read ≡ bytes → IsConvertFault read fault
     → AnswersConvertFault fault answer → IfErr answer (IsStop Convert text)
@@ -88,7 +93,7 @@ fault_stops text read bytes fault (Err (stop.Input other)) spells same is h =
     second_fault text bytes spells (subst IsSecond same (subst (IsConvertFault read) h is))
 fault_stops text read bytes fault (Err (stop.Layout k)) spells same is h =
     let wrong : IsConvertFault read (Refused (refusal.Layout k)) = subst (IsConvertFault read) h is in
-    inr (inl (bytes, k, spells, subst (λ (b : List ℕ). IsFault b k) same wrong.1))
+    inr (bytes, spells, inl (k, subst (λ (b : List ℕ). IsFault b k) same wrong.1))
 fault_stops text read bytes fault (Err (stop.Build other)) spells same is h = absurd h
 fault_stops text read bytes fault (Err stop.Memory) spells same is h = tt
 

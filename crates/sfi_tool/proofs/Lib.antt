@@ -3,6 +3,7 @@ pub mod KnownBytes
 pub mod Texts
 pub mod Streamed
 pub mod TooLarge
+pub mod Statuses
 pub mod Conversions
 pub mod Classes
 pub mod Reading

@@ -12,7 +12,7 @@ use Rattle.sfi_scan.specs.declared.finding.Finding.{Finding}
 use Rattle.sfi_check.specs.declared.stream_answer.StreamAnswer.{StreamAnswer}
 use Rattle.sfi_check.specs.declared.stream_answer.StreamAnswer.TheVariants as answers
 use Rattle.sfi_check.specs.Streams.{AreCounted, IsFaultOf, IsVerdictOn}
-use Rattle.sfi_tool.specs.Says.{HasSomeFault, SaysVerdict}
+use Rattle.sfi_tool.specs.commands.Checking.{HasSomeFault, SaysVerdict}
 use Rattle.sfi_tool.specs.Verdict.{accepted_text, refused_line, refused_text}
 
 which : (b : Bool) → (b ≡ true) ⊎ (b ≡ false)

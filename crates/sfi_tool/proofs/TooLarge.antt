@@ -1,10 +1,9 @@
 -- A text above its limit.
-use Rattle.std.proofs.Common.{◌≡◌, ◌<◌, ◌≤◌, arith, ℕ, true, false, List, Option, Some, None, length, inl, IfSome}
+use Rattle.std.proofs.Common.{◌≡◌, ◌<◌, arith, ℕ, true, false, List, Option, Some, None, length, inl, IfSome}
 use Rattle.sfi_command.specs.Jobs.{is_raw}
 use Rattle.sfi_tool.specs.private.Input.{IsInput}
 use Rattle.sfi_tool.specs.Input.{limit}
-use Rattle.sfi_tool.specs.Hexadecimal.{SpellsBytes}
-use Rattle.sfi_tool.specs.Says.{HasInputFault, IsDone, IsRefused, IsSourceText}
+use Rattle.sfi_tool.specs.Says.{HasInputFault, IsDone, IsRefused}
 use Rattle.sfi_tool.specs.declared.input.Input.TheVariants.{TooLarge}
 use Rattle.sfi_command.specs.declared.job.Job.{Job}
 use Rattle.sfi_command.specs.declared.job.Job.TheVariants.{Check, Dis, Build, Run, Convert}
@@ -18,21 +17,23 @@ too_large Build text read over = inl (inl over)
 too_large (Run rounds quantum given) text read over = inl (inl over)
 too_large Convert text read over = inl (inl over)
 
--- no job is done on it
-pub not_done : (job : Job) (text : List ℕ) → limit < length text → IsDone job text → ⊥
-not_done (Check raw report) text over done = absurd (omega (arith, over, done.2.short))
-not_done Dis text over done = absurd (omega (arith, over, done.2.short))
-not_done Build text over done = absurd (omega (arith, over, done.1.short))
-not_done (Run rounds quantum given) text over done = absurd (omega (arith, over, done.2.short))
-not_done Convert text over done = absurd (omega (arith, over, done.2.short))
+-- no such job is done on it
+pub not_done : (job : Job) (text : List ℕ) → is_raw job ≡ false → limit < length text → IsDone job text → ⊥
+not_done (Check true report) text read over done = absurd (cc)
+not_done (Check false report) text read over done = absurd (omega (arith, over, done.1.short))
+not_done Dis text read over done = absurd (omega (arith, over, done.1.short))
+not_done Build text read over done = absurd (omega (arith, over, done.1.short))
+not_done (Run rounds quantum given) text read over done = absurd (omega (arith, over, done.1.short))
+not_done Convert text read over done = absurd (omega (arith, over, done.1.short))
 
 -- nor refused
-pub not_refused : (job : Job) (text : List ℕ) → limit < length text → IsRefused job text → ⊥
-not_refused (Check raw report) text over refused = absurd (omega (arith, over, refused.2.short))
-not_refused Dis text over refused = absurd refused
-not_refused Build text over refused = absurd refused
-not_refused (Run rounds quantum given) text over refused = absurd (omega (arith, over, refused.2.short))
-not_refused Convert text over refused = absurd (omega (arith, over, refused.2.short))
+pub not_refused : (job : Job) (text : List ℕ) → is_raw job ≡ false → limit < length text → IsRefused job text → ⊥
+not_refused (Check true report) text read over refused = absurd (cc)
+not_refused (Check false report) text read over refused = absurd (omega (arith, over, refused.1.short))
+not_refused Dis text read over refused = absurd refused.2
+not_refused Build text read over refused = absurd refused
+not_refused (Run rounds quantum given) text read over refused = absurd (omega (arith, over, refused.1.short))
+not_refused Convert text read over refused = absurd (omega (arith, over, refused.1.short))
 
 -- where the reader told its bytes
 pub too_large_input : (job : Job) (told : Option (List ℕ)) → is_raw job ≡ false → IsInput told TooLarge → IfSome told (HasInputFault job)

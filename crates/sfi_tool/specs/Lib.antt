@@ -2,6 +2,8 @@ pub mod Input
 pub mod Hexadecimal
 pub mod Verdict
 pub mod RunLines
+pub mod Meaning
+pub mod commands
 pub mod Says
 pub mod Run
 pub mod private

@@ -9,7 +9,7 @@ ghost use Rattle.sfi_tool.specs.private.Says.{AnswersStatus, IsStop};
 use crate::building::build_answer;
 use crate::checking::check_answer;
 use crate::converting::conversion_answer;
-use crate::fault::{InputFault, Stop, build_line, input_line, layout_line};
+use crate::fault::{InputFault, Stop, fault_line, layout_line};
 use crate::input::INPUT_LIMIT;
 use crate::listing::listing_answer;
 use crate::running::run_answer;
@@ -63,14 +63,14 @@ pub fn answer(alloc: Global, job: &Job, text: &[u8]) -> Result<Answer, AllocErro
     if text.len() > INPUT_LIMIT {
         return Ok(Answer {
             status: 2,
-            text: input_line(alloc, &InputFault::TooLarge)?,
+            text: fault_line(alloc, &InputFault::TooLarge)?,
         });
     }
     match job_answer(alloc, job, text) {
         Ok(answer) => Ok(answer),
         Err(Stop::Input(fault)) => Ok(Answer {
             status: 2,
-            text: input_line(alloc, &fault)?,
+            text: fault_line(alloc, &fault)?,
         }),
         Err(Stop::Layout(fault)) => Ok(Answer {
             status: 2,
@@ -78,7 +78,7 @@ pub fn answer(alloc: Global, job: &Job, text: &[u8]) -> Result<Answer, AllocErro
         }),
         Err(Stop::Build(fault)) => Ok(Answer {
             status: 2,
-            text: build_line(alloc, fault)?,
+            text: fault_line(alloc, &fault)?,
         }),
         Err(Stop::Memory) => Err(AllocError),
     }

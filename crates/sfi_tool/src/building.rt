@@ -5,7 +5,8 @@ ghost use Rattle.hex.specs.Hex.{encode_lower};
 ghost use Rattle.sfi_report.specs.Digits.{line_end};
 ghost use Rattle.sfi_tool.specs.private.Says.{AnswersStatus, IsSourceStop, IsStop};
 ghost use Rattle.sfi_tool.specs.Input.{limit};
-ghost use Rattle.sfi_tool.specs.Says.{HasInputFault, IsDone, IsSourceText, Says};
+ghost use Rattle.sfi_tool.specs.Says.{HasInputFault, IsDone, Says};
+ghost use Rattle.sfi_tool.specs.commands.Building.{IsSourceText};
 ghost use Rattle.sfi_command.specs.declared.job.Job.TheVariants.{Build};
 
 use crate::fault::{InputFault, Stop, build_stop};

@@ -8,7 +8,8 @@ ghost use Rattle.sfi_check.specs.Verdict.{IsAccepted, HasFindings};
 ghost use Rattle.sfi_scan.specs.declared.finding.Finding.{Finding};
 ghost use Rattle.sfi_tool.specs.private.Says.{AnswersStatus, IsRefusalStop, IsStop, Refuses};
 ghost use Rattle.sfi_tool.specs.Input.{limit};
-ghost use Rattle.sfi_tool.specs.Says.{HasInputFault, IsDone, IsRefusalText, IsRefused, IsReportOf, Says, SaysRefused};
+ghost use Rattle.sfi_tool.specs.Says.{HasInputFault, IsDone, IsRefused, Says};
+ghost use Rattle.sfi_tool.specs.commands.Checking.{IsRefusalText, IsReportOf, SaysRefused};
 ghost use Rattle.sfi_command.specs.declared.job.Job.TheVariants.{Check};
 
 use crate::fault::Stop;

@@ -12,6 +12,7 @@ use sfi_image::LayoutFault;
 use sfi_link::LinkFault;
 use sfi_rewrite::RewriteFault;
 use std::alloc::{AllocError, Global};
+use std::fmt::Display;
 use thiserror::Error;
 
 /// The line that names a text above its limit. A run says it without an allocation.
@@ -52,8 +53,8 @@ impl From<AllocError> for Stop {
     }
 }
 
-/// The line that names a fault of the text.
-pub(crate) fn input_line(alloc: Global, fault: &InputFault) -> Result<String, AllocError> {
+/// The line that is the text of a fault: of the input's text, or of the source.
+pub(crate) fn fault_line<F: Display>(alloc: Global, fault: &F) -> Result<String, AllocError> {
     format!(in alloc; "{fault}\n")
 }
 
@@ -97,23 +98,5 @@ pub(crate) fn build_stop(fault: BuildFault) -> Stop
         | BuildFault::Rewrite(RewriteFault::Memory)
         | BuildFault::Link(LinkFault::Memory) => Stop::Memory,
         BuildFault::Text(_) | BuildFault::Rewrite(_) | BuildFault::Link(_) => Stop::Build(fault),
-    }
-}
-
-/// The line that names a fault of the source.
-pub(crate) fn build_line(alloc: Global, fault: BuildFault) -> Result<String, AllocError> {
-    match fault {
-        BuildFault::Text(TextFault { line, cause }) => {
-            let number = cause.number();
-            format!(in alloc; "source fault {number} {cause} line {line}\n")
-        }
-        BuildFault::Rewrite(fault) => {
-            let number = fault.number();
-            format!(in alloc; "rewrite fault {number} {fault}\n")
-        }
-        BuildFault::Link(fault) => {
-            let number = fault.number();
-            format!(in alloc; "link fault {number} {fault}\n")
-        }
     }
 }

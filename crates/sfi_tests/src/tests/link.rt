@@ -32,15 +32,15 @@ fn a_placed_source_is_linked(rt: HostRuntime) -> Result<(), Fail> {
 fn faults_are_said(rt: HostRuntime) -> Result<(), Fail> {
     let alloc = rt.alloc();
     for (text, said) in [
-        (".sandbox 256\nj away", "link fault UnknownName line 2"),
+        (".sandbox 256\nj away", "link fault 1 UnknownName line 2"),
         (
             ".sandbox 256\nmv t6, a0",
-            "rewrite fault ReservedRegister line 2",
+            "rewrite fault 1 ReservedRegister line 2",
         ),
-        (".sandbox 256\nli a0 5", "source fault Operands line 2"),
+        (".sandbox 256\nli a0 5", "source fault 4 Operands line 2"),
         (
             ".format 2\n.sandbox 256\nlw sp, 0(a0)",
-            "rewrite fault StackWrite line 3",
+            "rewrite fault 5 StackWrite line 3",
         ),
     ] {
         match build(alloc, text) {

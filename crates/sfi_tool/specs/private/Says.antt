@@ -13,7 +13,8 @@ use Rattle.sfi_tool.specs.declared.fault.Stop.{Stop}
 use Rattle.sfi_tool.specs.declared.fault.Stop.TheVariants as stop
 use Rattle.sfi_command.specs.declared.job.Job.{Job}
 use Rattle.sfi_tool.specs.declared.verdict.Answer.{Answer}
-use Rattle.sfi_tool.specs.Says.{HasInputFault, IsNoSourceText}
+use Rattle.sfi_tool.specs.Says.{HasInputFault}
+use Rattle.sfi_tool.specs.commands.Building.{IsNoSourceText}
 
 -- the check of these bytes refuses them so: the fault or the findings are theirs, and no other answer is
 pub record Refuses (bytes : List ℕ) (refusal : Refusal) : Type 0 where

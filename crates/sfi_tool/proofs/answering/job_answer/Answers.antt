@@ -25,3 +25,6 @@ returns-in-Check-clause-says c =
 
 pub returns-in-Run-clause-says : goal.returns-in-Run-clause-says
 returns-in-Run-clause-says c = answer_says _ _ _ c.run_answer.result c.in-Run.is c.run_answer.ensures.says
+
+pub returns-in-Build-clause-says : goal.returns-in-Build-clause-says
+returns-in-Build-clause-says c = answer_says _ _ _ c.build_answer.result c.in-Build.is c.build_answer.ensures.says

@@ -1,5 +1,5 @@
 use Rattle.std.proofs.Common.{◌∙◌}
-use Rattle.sfi_tool.proofs.Conversions.{on_refusal, on_fault, fault_says, fault_not_done, status_of_refusal, fault_is_error}
+use Rattle.sfi_tool.proofs.Conversions.{on_refusal, on_fault, fault_says, fault_stops, fault_not_done, status_of_refusal, fault_is_error}
 use Rattle.sfi_tool.proofs.converting.conversion_answer.Goals as goal
 
 pub returns-in-Ok-clause-only_refused : goal.returns-in-Ok-clause-only_refused
@@ -17,6 +17,11 @@ pub returns-clause-says : goal.returns-clause-says
 returns-clause-says c =
     fault_says c.args.text.now c.as_slice.result.now c.in_ok-bytes.bytes.items c.in-Err.fault c.fault_answer.result c.in_ok-bytes.ensures.bytes c.as_slice.ensures.value
     c.in-Err.ensures.only_not_old c.in-Err.ensures.fault c.fault_answer.ensures
+
+pub returns-clause-stop : goal.returns-clause-stop
+returns-clause-stop c =
+    fault_stops c.args.text.now c.as_slice.result.now c.in_ok-bytes.bytes.items c.in-Err.fault c.fault_answer.result c.in_ok-bytes.ensures.bytes c.as_slice.ensures.value
+    c.in-Err.ensures.fault c.fault_answer.ensures
 
 pub returns-clause-only_done : goal.returns-clause-only_done
 returns-clause-only_done c =
