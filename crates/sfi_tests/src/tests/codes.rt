@@ -1,4 +1,5 @@
-//! Code as hexadecimal digits: what keeps the rules and what breaks them, each for the tests of several commands.
+//! Code as hexadecimal digits: what keeps the rules and what breaks them, each for the tests of
+//! several commands.
 
 /// A gate's stub: `ecall`; `and x31, x1, x25`; `or x31, x31, x24`; `jalr x0, 0(x31)`.
 pub(super) const STUB: &str = "73000000b3ff9001b3ef8f0167800f00";

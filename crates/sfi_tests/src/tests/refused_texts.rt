@@ -1,4 +1,5 @@
-//! Texts that can't be built: the fault of each, how it is said, and the line that the command prints.
+//! Texts that can't be built: the fault of each, how it is said, and the line that the command
+//! prints.
 use super::{Outcome, run};
 use rv_text::{TextCause, TextFault};
 use sfi_build::{BuildFault, build};
