@@ -1,16 +1,20 @@
 mod build;
 mod build_command;
 mod check;
+mod codes;
 mod convert;
 mod formats;
 mod frames;
 mod image;
 mod image_reading;
+mod lines;
 mod link;
 mod listing;
 mod needs;
 mod neighbours;
 mod pieces;
+mod programs;
+mod refused_texts;
 mod report;
 mod runs;
 mod scan;
@@ -44,4 +48,13 @@ fn run(alloc: Global, line: &str, input: &[u8]) -> Result<Outcome, AllocError> {
     let mut text = Vec::new(alloc);
     let status = run_tool(alloc, words.as_slice(), &mut reader, &mut text);
     Ok(Outcome { status, text })
+}
+
+// What the build of a source prints where it fails, and else what the command prints of its image.
+fn built_and_run(alloc: Global, source: &str, command: &str) -> Result<Outcome, AllocError> {
+    let Outcome { status, text } = run(alloc, "sfi build", source.as_bytes())?;
+    if status != 0 {
+        return Ok(Outcome { status, text });
+    }
+    run(alloc, command, text.as_slice())
 }

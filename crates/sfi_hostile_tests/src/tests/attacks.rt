@@ -1,5 +1,5 @@
 //! Code that tries to get out of its sandbox.
-use super::images::{C_EBREAK, EBREAK, HEAD, SECOND_HEAD, bytes_of};
+use super::images::{C_EBREAK, EBREAK, HEAD, PAIR_ON_X0, SFI1, SFI2, bytes_of};
 use sfi_check::{Refusal, StreamAnswer, check, check_stream};
 use sfi_image::Reading;
 use sfi_policy::Format;
@@ -79,13 +79,7 @@ const ATTACKS: [Attack; 31] = [
         8,
         Anywhere,
     ),
-    Attack(
-        "pair on x0",
-        "3370b5013360a0012320b000",
-        Rule::V5,
-        8,
-        Anywhere,
-    ),
+    Attack("pair on x0", PAIR_ON_X0, Rule::V5, 8, Anywhere),
     Attack("c.swsp", "06c60290", Rule::V5, 0, FirstFormat),
     Attack("store", "2320b500", Rule::V5, 0, Anywhere),
     Attack("half a pair", "b37fb50123a0bf00", Rule::V5, 4, Anywhere),
@@ -174,15 +168,16 @@ impl Attack {
         let Some(after) = 16u32.saturating_sub(spot.place).checked_sub(self.len()) else {
             return Ok(None);
         };
-        let head = match spot.format {
-            Format::Sfi1 => HEAD,
-            Format::Sfi2 => SECOND_HEAD,
+        let magic = match spot.format {
+            Format::Sfi1 => SFI1,
+            Format::Sfi2 => SFI2,
         };
         let wide = if spot.is_wide { spot.place / 4 } else { 0 };
         let short = (spot.place / 2).saturating_sub(wide.saturating_mul(2));
         let words = spot.bundle.saturating_mul(4);
         let pieces = [
-            (head, 1),
+            (magic, 1),
+            (HEAD, 1),
             (EBREAK, words as usize),
             ("13000000", wide as usize),
             ("0100", short as usize),

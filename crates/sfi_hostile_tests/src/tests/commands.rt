@@ -1,5 +1,5 @@
 //! Each command with what it reads, and what it prints of that.
-use super::images::{C_EBREAK, EBREAK, HEAD, HI, SFI1, bytes_of, digits_of};
+use super::images::{C_EBREAK, EBREAK, HEAD, HI, PAIR_ON_X0, SFI1, bytes_of, digits_of};
 use std::alloc::Global;
 use std::test::Fail;
 
@@ -27,7 +27,7 @@ msg: .byte 72, 105
 
 const NONE: (&str, usize) = ("", 0);
 
-const SMALLEST: [(&str, usize); 4] = [(HEAD, 1), (EBREAK, 64), NONE, NONE];
+const SMALLEST: [(&str, usize); 4] = [(SFI1, 1), (HEAD, 1), (EBREAK, 64), NONE];
 
 const PROGRAM: [(&str, usize); 4] = [(SFI1, 1), (HI, 1), (C_EBREAK, 88), ("4869", 1)];
 
@@ -41,12 +41,7 @@ pub(super) const COMMANDS: [Command; 8] = [
     },
     Command {
         line: "sfi check --report",
-        pieces: [
-            (HEAD, 1),
-            ("3370b5013360a0012320b000", 1),
-            (EBREAK, 61),
-            NONE,
-        ],
+        pieces: [(SFI1, 1), (HEAD, 1), (PAIR_ON_X0, 1), (EBREAK, 61)],
         status: 1,
         front: "0 01000008 V5 access sw x11, 0(x0)\nrefused findings=1 first=V5 sandbox=0 at=01000008\n",
     },
@@ -82,7 +77,7 @@ pub(super) const COMMANDS: [Command; 8] = [
     },
     Command {
         line: "sfi check",
-        pieces: [(HEAD, 1), NONE, NONE, NONE],
+        pieces: [(SFI1, 1), (HEAD, 1), NONE, NONE],
         status: 2,
         front: "layout fault 3 Short\n",
     },

@@ -2,14 +2,14 @@
 use std::alloc::{AllocError, Global};
 use std::test::Fail;
 
-/// The head of one sandbox, in the first format: code 256 bytes at 01000000, data 256 at 01800000, start at the code's first
-/// byte, no gates, no first data bytes.
-pub(super) const HEAD: &str =
-    "534649310100000000000001000100000000800100010000000000010000000000000000";
+/// The magics of both formats.
+pub(super) const SFI1: &str = "53464931";
 
-/// The same in the second format.
-pub(super) const SECOND_HEAD: &str =
-    "534649320100000000000001000100000000800100010000000000010000000000000000";
+pub(super) const SFI2: &str = "53464932";
+
+/// The head of one sandbox after the magic: code 256 bytes at 01000000, data 256 at 01800000, start
+/// at the code's first byte, no gates, no first data bytes.
+pub(super) const HEAD: &str = "0100000000000001000100000000800100010000000000010000000000000000";
 
 /// `ebreak`. The smallest image's code is 64 of them.
 pub(super) const EBREAK: &str = "73001000";
@@ -17,17 +17,15 @@ pub(super) const EBREAK: &str = "73001000";
 /// `c.ebreak`, which fills up a code region.
 pub(super) const C_EBREAK: &str = "0290";
 
+/// `and x0, x10, x27`; `or x0, x0, x26`; `sw x11, 0(x0)`.
+pub(super) const PAIR_ON_X0: &str = "3370b5013360a0012320b000";
+
 /// A program that puts two letters and exits with the code of the last: its image in the first format, after the magic and up
 /// to the fill.
 pub(super) const HI: &str = "0100000000000001000100000000800100010000200000010200000002000000\
     00000001010000001000000100000000\
     73000000b3ff9001b3ef8f0167800f0073000000b3ff9001b3ef8f0167800f00\
     370580011305050093052000eff05ffd37058001130505000100010001000100b37fb501b3efaf0103c51f00eff05ffc";
-
-/// The magics of both formats.
-pub(super) const SFI1: &str = "53464931";
-
-pub(super) const SFI2: &str = "53464932";
 
 /// The whole image of that program, of 310 bytes, after this magic.
 pub(super) fn hi_pieces(magic: &str) -> [(&str, usize); 4] {

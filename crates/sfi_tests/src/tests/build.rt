@@ -1,58 +1,13 @@
 //! Building: texts, and the images or the faults that they give.
-use rv_text::{TextCause, TextFault};
+use super::image::text_of;
+use super::programs::{BRANCH, HI, HI_IMAGE, STORE, repeated};
 use sfi_build::{BuildFault, build};
 use sfi_check::check;
 use sfi_image::{parse_image, write_image};
 use sfi_link::LinkFault;
 use sfi_rewrite::RewriteFault;
-use std::alloc::{AllocError, Global};
+use std::alloc::Global;
 use std::test::Fail;
-
-// Two gates, the address of data, calls, and a load.
-const CALLS: &str = ".sandbox 256
-.gate put 1
-.gate quit 0
-la a0, msg
-li a1, 2
-call put
-la a0, msg
-lbu a0, 1(a0)
-call quit
-.data
-msg: .byte 72, 105
-";
-
-// Its image up to the fill, which is 88 c.ebreaks, and after these the two data bytes.
-const CALLS_HEAD: &str = "534649310100000000000001000100000000800100010000200000010200000002000000\
-    00000001010000001000000100000000\
-    73000000b3ff9001b3ef8f0167800f0073000000b3ff9001b3ef8f0167800f00\
-    370580011305050093052000eff05ffd37058001130505000100010001000100b37fb501b3efaf0103c51f00eff05ffc";
-
-fn calls_image(alloc: Global) -> Result<Vec<u8>, AllocError> {
-    let mut text = Vec::new(alloc);
-    text.extend_from_slice(CALLS_HEAD.as_bytes())?;
-    for _ in 0..88 {
-        text.extend_from_slice(b"0290")?;
-    }
-    text.extend_from_slice(b"4869")?;
-    Ok(text)
-}
-
-// A head, a line so many times, and an end.
-pub(super) fn repeated(
-    alloc: Global,
-    head: &str,
-    line: &str,
-    times: usize,
-    end: &str,
-) -> Result<String, AllocError> {
-    let mut text = String::from_str(alloc, head)?;
-    for _ in 0..times {
-        text.push_str(line)?;
-    }
-    text.push_str(end)?;
-    Ok(text)
-}
 
 // The build is accepted, with so many bundles.
 fn is_accepted(alloc: Global, text: &str, bundles: usize) -> Result<bool, Fail> {
@@ -64,18 +19,18 @@ fn is_accepted(alloc: Global, text: &str, bundles: usize) -> Result<bool, Fail> 
 #[test]
 fn calls_are_built_to_the_letter(rt: HostRuntime) -> Result<(), Fail> {
     let alloc = rt.alloc();
-    let bytes = build(alloc, CALLS)?;
-    let wanted = hex::decode(alloc, calls_image(alloc)?.as_slice())?;
+    let bytes = build(alloc, HI)?;
+    let wanted = hex::decode(alloc, text_of(alloc, &HI_IMAGE)?.as_slice())?;
     assert_eq!(rt; bytes.len(), 310);
     assert!(rt; bytes.as_slice() == wanted.as_slice());
-    assert!(rt; is_accepted(alloc, CALLS, 16)?);
+    assert!(rt; is_accepted(alloc, HI, 16)?);
     Ok(())
 }
 
 #[test]
 fn parts_are_written_to_the_letter(rt: HostRuntime) -> Result<(), Fail> {
     let alloc = rt.alloc();
-    let bytes = hex::decode(alloc, calls_image(alloc)?.as_slice())?;
+    let bytes = hex::decode(alloc, text_of(alloc, &HI_IMAGE)?.as_slice())?;
     let image = parse_image(alloc, bytes.as_slice())?;
     let written = write_image(alloc, image.parts())?;
     assert!(rt; written.as_slice() == bytes.as_slice());
@@ -83,40 +38,11 @@ fn parts_are_written_to_the_letter(rt: HostRuntime) -> Result<(), Fail> {
 }
 
 #[test]
-fn faults(rt: HostRuntime) -> Result<(), Fail> {
-    let alloc = rt.alloc();
-    let operands = TextFault {
-        line: 2,
-        cause: TextCause::Operands,
-    };
-    let rows = [
-        (
-            ".sandbox 256\nmv t6, a0",
-            BuildFault::Rewrite(RewriteFault::ReservedRegister { line: 2 }),
-        ),
-        (".sandbox 256\nli a0 5", BuildFault::Text(operands)),
-        (
-            ".sandbox 256\nj away",
-            BuildFault::Link(LinkFault::UnknownName { line: 2 }),
-        ),
-        (
-            ".sandbox 256\nj there\n.data\nthere: .byte 1",
-            BuildFault::Link(LinkFault::UnknownName { line: 2 }),
-        ),
-    ];
-    for (text, wanted) in rows {
-        assert_eq!(rt; build(alloc, text).err(), Some(wanted), "{text}");
-    }
-    Ok(())
-}
-
-#[test]
 fn a_branch_reaches_255_stores(rt: HostRuntime) -> Result<(), Fail> {
     let alloc = rt.alloc();
-    let head = ".sandbox 256\nbeqz a0, over\n";
-    let reached = repeated(alloc, head, "sw a1, 0(a2)\n", 255, "over:\n")?;
+    let reached = repeated(alloc, BRANCH, STORE, 255, "over:\n")?;
     assert!(rt; is_accepted(alloc, reached.as_str(), 256)?);
-    let missed = repeated(alloc, head, "sw a1, 0(a2)\n", 256, "over:\n")?;
+    let missed = repeated(alloc, BRANCH, STORE, 256, "over:\n")?;
     let fault = BuildFault::Link(LinkFault::BranchReach { line: 2 });
     assert_eq!(rt; build(alloc, missed.as_str()).err(), Some(fault));
     Ok(())
@@ -125,18 +51,12 @@ fn a_branch_reaches_255_stores(rt: HostRuntime) -> Result<(), Fail> {
 #[test]
 fn a_region_holds_4096_bundles(rt: HostRuntime) -> Result<(), Fail> {
     let alloc = rt.alloc();
-    let full = repeated(alloc, ".sandbox 256\n", "sw a1, 0(a2)\n", 4096, "")?;
+    let full = repeated(alloc, ".sandbox 256\n", STORE, 4096, "")?;
     assert!(rt; is_accepted(alloc, full.as_str(), 4096)?);
-    let more = repeated(alloc, ".sandbox 256\n", "sw a1, 0(a2)\n", 4097, "")?;
+    let more = repeated(alloc, ".sandbox 256\n", STORE, 4097, "")?;
     let fault = BuildFault::Rewrite(RewriteFault::TooLarge { sandbox: 0 });
     assert_eq!(rt; build(alloc, more.as_str()).err(), Some(fault));
-    let gated = repeated(
-        alloc,
-        ".sandbox 256\n.gate g 0\n",
-        "sw a1, 0(a2)\n",
-        4096,
-        "",
-    )?;
+    let gated = repeated(alloc, ".sandbox 256\n.gate g 0\n", STORE, 4096, "")?;
     let fault = BuildFault::Link(LinkFault::TooLarge { sandbox: 0 });
     assert_eq!(rt; build(alloc, gated.as_str()).err(), Some(fault));
     Ok(())

@@ -1,25 +1,15 @@
 //! Both formats of images: what differs where x2 is a stack pointer.
-use super::image::{CODE, Edit, image, put};
-use super::{Outcome, run};
+use super::codes::{C_LWSP_X24, MOVES_STACK, STORES_ON_STACK};
+use super::image::{CODE, Edit, FILL, SFI1, SFI2, image, image_bytes, put, text_of};
+use super::lines::{ACCEPTED, REFUSED_V4, REFUSED_V5, REFUSED_V10, SHORT};
+use super::programs::{STORE, repeated};
+use super::{Outcome, built_and_run, run};
 use rv_text::{TextCause, TextFault, parse_source};
 use sfi_image::{parse_image, write_image_as};
 use sfi_policy::Format;
 use std::alloc::{AllocError, Global};
 use std::process::Abort;
 use std::test::Fail;
-
-// The magic of each format.
-const FIRST: &str = "53464931";
-
-const SECOND: &str = "53464932";
-
-const ACCEPTED: &str = "accepted sandboxes=1 bundles=16\n";
-
-const ACCESS: &str = "refused findings=1 first=V5 sandbox=0 at=01000000\n";
-
-const RESERVED: &str = "refused findings=1 first=V4 sandbox=0 at=01000000\n";
-
-const STACK: &str = "refused findings=1 first=V10 sandbox=0 at=01000000\n";
 
 // Digits from a place of the smallest image's code on, and the verdict in each format.
 #[derive(Clone, Copy, Debug)]
@@ -41,11 +31,14 @@ fn code<'a>(name: &'a str, digits: &'a str, first: &'a str, second: &'a str) -> 
     }
 }
 
+// `and x2, x10, x27`
+const MASKED: &str = "3371b501";
+
 // The pair is `and x2, x2, x27`, `or x2, x2, x26`.
 fn rules() -> [Row<'static>; 17] {
     [
-        code("c.swsp", "06c60290", ACCESS, ACCEPTED),
-        code("c.addi x2", "41110290", ACCEPTED, STACK),
+        code("c.swsp", STORES_ON_STACK, REFUSED_V5, ACCEPTED),
+        code("c.addi x2", MOVES_STACK, ACCEPTED, REFUSED_V10),
         code(
             "written before the pair",
             "130101ff3371b1013361a101",
@@ -63,28 +56,28 @@ fn rules() -> [Row<'static>; 17] {
             "a nop before the pair",
             "130101ff130000003371b1013361a101",
             ACCEPTED,
-            STACK,
+            REFUSED_V10,
         ),
         code(
             "loaded before the pair",
             "032101003371b1013361a101",
-            ACCESS,
+            REFUSED_V5,
             ACCEPTED,
         ),
         code(
             "c.lwsp x2 before the pair",
             "02413371b1013361a1010290",
-            ACCESS,
+            REFUSED_V5,
             ACCEPTED,
         ),
-        code("c.lwsp x2", "02410290", ACCESS, STACK),
+        code("c.lwsp x2", "02410290", REFUSED_V5, REFUSED_V10),
         code(
             "jal x2 before the pair",
             "6f0100013371b1013361a101",
             ACCEPTED,
-            STACK,
+            REFUSED_V10,
         ),
-        code("half of the pair", "3371b501", ACCEPTED, STACK),
+        code("half of the pair", MASKED, ACCEPTED, REFUSED_V10),
         code(
             "masked before the pair",
             "3371b5013371b1013361a101",
@@ -103,10 +96,10 @@ fn rules() -> [Row<'static>; 17] {
             ACCEPTED,
             "refused findings=1 first=V10 sandbox=0 at=01000008\n",
         ),
-        code("c.lwsp x24", "024c0290", RESERVED, RESERVED),
-        code("c.lwsp x25", "824c0290", RESERVED, RESERVED),
-        code("c.lwsp x26", "024d0290", RESERVED, RESERVED),
-        code("c.lwsp x27", "824d0290", RESERVED, RESERVED),
+        code("c.lwsp x24", C_LWSP_X24, REFUSED_V4, REFUSED_V4),
+        code("c.lwsp x25", "824c0290", REFUSED_V4, REFUSED_V4),
+        code("c.lwsp x26", "024d0290", REFUSED_V4, REFUSED_V4),
+        code("c.lwsp x27", "824d0290", REFUSED_V4, REFUSED_V4),
     ]
 }
 
@@ -127,15 +120,20 @@ fn answer(alloc: Global, line: &str, edits: &[Edit<'_>]) -> Result<Outcome, Allo
     run(alloc, line, digits.as_slice())
 }
 
-// The verdict or the fault of the image after the edits is this line.
+// The verdict or the fault of the image after the edits is this line, of its digits and of its
+// own bytes.
 fn is_judged(
     rt: &impl Abort,
     alloc: Global,
     name: &str,
     edits: &[Edit<'_>],
     wanted: &str,
-) -> Result<(), AllocError> {
+) -> Result<(), Fail> {
     let Outcome { status, text } = answer(alloc, "sfi check", edits)?;
+    assert_eq!(rt; text.as_slice(), wanted.as_bytes(), "{name}");
+    assert_eq!(rt; status, status_of(wanted), "{name}");
+    let bytes = image_bytes(alloc, edits)?;
+    let Outcome { status, text } = run(alloc, "sfi check --raw", bytes.as_slice())?;
     assert_eq!(rt; text.as_slice(), wanted.as_bytes(), "{name}");
     assert_eq!(rt; status, status_of(wanted), "{name}");
     Ok(())
@@ -144,7 +142,7 @@ fn is_judged(
 #[test]
 fn verdicts(rt: HostRuntime) -> Result<(), Fail> {
     for row in rules() {
-        for (magic, wanted) in [(FIRST, row.first), (SECOND, row.second)] {
+        for (magic, wanted) in [(SFI1, row.first), (SFI2, row.second)] {
             let edits = [put(0, magic), put(CODE.saturating_add(row.at), row.digits)];
             is_judged(&rt, rt.alloc(), row.name, &edits, wanted)?;
         }
@@ -155,15 +153,14 @@ fn verdicts(rt: HostRuntime) -> Result<(), Fail> {
 // Code sizes of 65536, 1048576 and 2097152 bytes, of which 256 are there.
 #[test]
 fn code_sizes(rt: HostRuntime) -> Result<(), Fail> {
-    let short = "layout fault 3 Short\n";
     let wrong = "layout fault 4 Code\n";
     for (magic, size, wanted) in [
-        (FIRST, "00000100", short),
-        (FIRST, "00001000", wrong),
-        (FIRST, "00002000", wrong),
-        (SECOND, "00000100", short),
-        (SECOND, "00001000", short),
-        (SECOND, "00002000", wrong),
+        (SFI1, "00000100", SHORT),
+        (SFI1, "00001000", wrong),
+        (SFI1, "00002000", wrong),
+        (SFI2, "00000100", SHORT),
+        (SFI2, "00001000", SHORT),
+        (SFI2, "00002000", wrong),
     ] {
         is_judged(
             &rt,
@@ -176,12 +173,9 @@ fn code_sizes(rt: HostRuntime) -> Result<(), Fail> {
     Ok(())
 }
 
-// `and x2, x10, x27`
-const MASKED: &str = "3371b501";
-
 #[test]
 fn texts(rt: HostRuntime) -> Result<(), Fail> {
-    let edits = [put(0, SECOND), put(CODE, MASKED)];
+    let edits = [put(0, SFI2), put(CODE, MASKED)];
     let report =
         "0 01000000 V10 stack and x2, x10, x27\nrefused findings=1 first=V10 sandbox=0 at=01000000\n";
     let Outcome { status, text } = answer(rt.alloc(), "sfi check --report", &edits)?;
@@ -201,8 +195,8 @@ sandbox 0 code 01000000 256 data 01800000 256 start 01000000 gates 0 init 0
 #[test]
 fn parts_are_written_by_format(rt: HostRuntime) -> Result<(), Fail> {
     let alloc = rt.alloc();
-    let smallest = hex::decode(alloc, image(alloc, &[])?.as_slice())?;
-    let second = hex::decode(alloc, image(alloc, &[put(0, SECOND)])?.as_slice())?;
+    let smallest = image_bytes(alloc, &[])?;
+    let second = image_bytes(alloc, &[put(0, SFI2)])?;
     let read = parse_image(alloc, smallest.as_slice())?;
     assert!(rt; read.format() == Format::Sfi1);
     let written = write_image_as(alloc, Format::Sfi2, read.parts())?;
@@ -223,10 +217,11 @@ const STACKED_HEAD: &str =
     2326a1000325c10001000100eff05ffd";
 
 // Short forms, and a write of the stack pointer after them, whose bundle is full.
-const SHORT: &str =
+const COMPRESSED: &str =
     ".format 2\n.sandbox 256\n.option rvc\nsw a0, 12(sp)\nlw a0, 12(sp)\nlw sp, 0(sp)\n";
 
-const SHORT_HEAD: &str = "534649320100000000000001000100000000800100010000000000010000000000000000\
+const COMPRESSED_HEAD: &str =
+    "534649320100000000000001000100000000800100010000000000010000000000000000\
     2ac63245032101003371b1013361a101";
 
 // Two writes of the stack pointer.
@@ -236,40 +231,21 @@ const ADDRESS_HEAD: &str =
     "534649320100000000000001000100000000800100010000000000010000000001000000\
     370180013371b1013361a10101000100130101003371b1013361a101";
 
-// A line in hexadecimal digits: a front, so many c.ebreaks, and an end.
-fn filled(alloc: Global, front: &str, fill: usize, end: &str) -> Result<String, AllocError> {
-    let mut line = String::from_str(alloc, front)?;
-    for _ in 0..fill {
-        line.push_str("0290")?;
-    }
-    line.push_str(end)?;
-    Ok(line)
-}
-
 #[test]
 fn images_are_built_to_the_letter(rt: HostRuntime) -> Result<(), Fail> {
     let alloc = rt.alloc();
     let stacked = format!(in alloc; ".format 2\n{STACKED}")?;
     for (source, front, fill, end) in [
         (stacked.as_str(), STACKED_HEAD, 104, "\n"),
-        (SHORT, SHORT_HEAD, 120, "\n"),
+        (COMPRESSED, COMPRESSED_HEAD, 120, "\n"),
         (ADDRESS, ADDRESS_HEAD, 114, "00\n"),
     ] {
         let Outcome { status, text } = run(alloc, "sfi build", source.as_bytes())?;
-        let line = filled(alloc, front, fill, end)?;
-        assert_eq!(rt; text.as_slice(), line.as_bytes(), "{source}");
+        let line = text_of(alloc, &[(front, 1), (FILL, fill), (end, 1)])?;
+        assert_eq!(rt; text.as_slice(), line.as_slice(), "{source}");
         assert_eq!(rt; status, 0, "{source}");
     }
     Ok(())
-}
-
-// What a run of the text's image says.
-fn run_of(alloc: Global, source: &str, command: &str) -> Result<Outcome, AllocError> {
-    let Outcome {
-        status: _built,
-        text,
-    } = run(alloc, "sfi build", source.as_bytes())?;
-    run(alloc, command, text.as_slice())
 }
 
 #[test]
@@ -281,7 +257,7 @@ fn a_stack_takes_fewer_steps(rt: HostRuntime) -> Result<(), Fail> {
         (".format 2\n", "sandbox=0 exit=5 steps=10 out=\n"),
     ] {
         let source = format!(in alloc; "{format}{STACKED}")?;
-        let Outcome { status, text } = run_of(alloc, source.as_str(), "sfi run")?;
+        let Outcome { status, text } = built_and_run(alloc, source.as_str(), "sfi run")?;
         assert_eq!(rt; text.as_slice(), said.as_bytes(), "{format}");
         assert_eq!(rt; status, 0, "{format}");
     }
@@ -291,11 +267,8 @@ fn a_stack_takes_fewer_steps(rt: HostRuntime) -> Result<(), Fail> {
 #[test]
 fn code_is_as_large_as_the_format_allows(rt: HostRuntime) -> Result<(), Fail> {
     let alloc = rt.alloc();
-    let mut source = String::from_str(alloc, ".format 2\n.sandbox 256\n")?;
-    for _ in 0..4097 {
-        source.push_str("sw a1, 0(a2)\n")?;
-    }
-    let Outcome { status, text } = run_of(alloc, source.as_str(), "sfi check")?;
+    let source = repeated(alloc, ".format 2\n.sandbox 256\n", STORE, 4097, "")?;
+    let Outcome { status, text } = built_and_run(alloc, source.as_str(), "sfi check")?;
     assert_eq!(rt;
         text.as_slice(),
         b"accepted sandboxes=1 bundles=8192\n".as_slice()

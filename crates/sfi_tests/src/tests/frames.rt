@@ -1,5 +1,5 @@
 //! Examples whose functions keep their frames on the stack, in both formats. What they write was computed by a program in Python.
-use super::{Outcome, run};
+use super::{Outcome, built_and_run};
 use std::alloc::Global;
 use std::str::from_utf8;
 use std::test::Fail;
@@ -12,11 +12,7 @@ fn steps_of(
     front: &str,
     end: &str,
 ) -> Result<Option<u32>, Fail> {
-    let Outcome { status, text } = run(alloc, "sfi build", source.as_bytes())?;
-    if status != 0 {
-        return Ok(None);
-    }
-    let Outcome { status, text } = run(alloc, command, text.as_slice())?;
+    let Outcome { status, text } = built_and_run(alloc, source, command)?;
     if status != 0 {
         return Ok(None);
     }

@@ -1,5 +1,7 @@
 //! The command `dis`.
-use super::image::{CODE, image, insert, put, same};
+use super::codes::{ECALL_ACROSS_END, STUB};
+use super::image::{CODE, SFI3, image, insert, put, same};
+use super::lines::{NO_MAGIC, ODD};
 use super::{Outcome, run};
 use std::test::Fail;
 
@@ -29,11 +31,7 @@ fn lists_what_is_left(rt: HostRuntime) -> Result<(), Fail> {
     let rows = [
         (
             "half of an ecall",
-            [
-                put(CODE, "01000100010001000100010001007300"),
-                same(),
-                same(),
-            ],
+            [put(CODE, ECALL_ACROSS_END), same(), same()],
             "sandbox 0 code 01000000 256 data 01800000 256 start 01000000 gates 0 init 0
 01000000 0001 addi x0, x0, 0
 01000002 0001 addi x0, x0, 0
@@ -62,7 +60,7 @@ fn lists_what_is_left(rt: HostRuntime) -> Result<(), Fail> {
             "a gate and first data",
             [
                 put(28, "0100000000000000"),
-                put(CODE, "73000000b3ff9001b3ef8f0167800f00"),
+                put(CODE, STUB),
                 insert(CODE, "0000000105000000"),
             ],
             "sandbox 0 code 01000000 256 data 01800000 256 start 01000000 gates 1 init 0
@@ -91,12 +89,12 @@ gate 01000000 5
 #[test]
 fn names_faults(rt: HostRuntime) -> Result<(), Fail> {
     let alloc = rt.alloc();
-    let text = image(alloc, &[put(0, "53464933")])?;
+    let text = image(alloc, &[put(0, SFI3)])?;
     let Outcome { status, text } = run(alloc, "sfi dis", text.as_slice())?;
-    assert_eq!(rt; text.as_slice(), b"layout fault 1 Magic\n".as_slice());
+    assert_eq!(rt; text.as_slice(), NO_MAGIC.as_bytes());
     assert_eq!(rt; status, 2);
     let Outcome { status, text } = run(alloc, "sfi dis", b"53464")?;
-    assert_eq!(rt; text.as_slice(), b"input fault hex odd\n".as_slice());
+    assert_eq!(rt; text.as_slice(), ODD.as_bytes());
     assert_eq!(rt; status, 2);
     Ok(())
 }

@@ -1,6 +1,10 @@
 //! The images of the sandboxes by which each rule is shown to be needed, and of some that are refused although they are safe:
 //! `check` has one finding in each.
-use super::image::{CODE, Edit, image_bytes, insert, put, same};
+use super::codes::{
+    JAL_INTO_BUNDLE, JALR_WITH_OFFSET, JUMP_TO_STORE, LINK_IN_X26, MASKED_STORE, OTHER_STUB,
+    PAIR_ON_X0,
+};
+use super::image::{CODE, Edit, SFI2, image_bytes, one_gate, put, same};
 use sfi_check::{Refusal, check};
 use sfi_scan::{Finding, Rule};
 use std::alloc::Global;
@@ -29,11 +33,7 @@ fn code<'a>(name: &'a str, at: usize, digits: &'a str, rule: Rule, address: u32)
 fn gate<'a>(name: &'a str, digits: &'a str, rule: Rule, address: u32) -> Row<'a> {
     Row {
         name,
-        edits: [
-            put(28, "01000000"),
-            put(CODE, digits),
-            insert(CODE, "0000000100000000"),
-        ],
+        edits: one_gate(digits),
         rule,
         address,
     }
@@ -43,7 +43,7 @@ fn gate<'a>(name: &'a str, digits: &'a str, rule: Rule, address: u32) -> Row<'a>
 fn second<'a>(name: &'a str, digits: &'a str, rule: Rule, address: u32) -> Row<'a> {
     Row {
         name,
-        edits: [put(0, "53464932"), put(CODE, digits), same()],
+        edits: [put(0, SFI2), put(CODE, digits), same()],
         rule,
         address,
     }
@@ -68,43 +68,32 @@ fn unsafe_samples() -> [Row<'static>; 11] {
             Rule::V3,
             0x0100_0000,
         ),
-        // jal x26, 16; in the next bundle and x31, x10, x27; or x31, x31, x26; sw x11, 0(x31)
-        code(
-            "a written x26",
-            CODE,
-            "6f0d0001730010007300100073001000b37fb501b3efaf0123a0bf00",
-            Rule::V4,
-            0x0100_0000,
-        ),
-        // and x0, x10, x27; or x0, x0, x26; sw x11, 0(x0)
-        code(
-            "a pair on x0",
-            CODE,
-            "3370b5013360a0012320b000",
-            Rule::V5,
-            0x0100_0008,
-        ),
-        // and x31, x10, x27; or x31, x31, x26; in the next bundle sw x11, 0(x31)
+        Row {
+            name: "a written x26",
+            edits: [put(CODE, LINK_IN_X26), put(CODE + 16, MASKED_STORE), same()],
+            rule: Rule::V4,
+            address: 0x0100_0000,
+        },
+        code("a pair on x0", CODE, PAIR_ON_X0, Rule::V5, 0x0100_0008),
+        // the store in the next bundle
         code(
             "a pair across bundles",
             CODE + 8,
-            "b37fb501b3efaf0123a0bf00",
+            MASKED_STORE,
             Rule::V5,
             0x0100_0010,
         ),
-        // and x31, x10, x25; or x31, x31, x24; jalr x0, 16(x31)
         code(
             "a jalr with an offset",
             CODE,
-            "b37f9501b3ef8f0167800f01",
+            JALR_WITH_OFFSET,
             Rule::V6,
             0x0100_0008,
         ),
-        // and x31, x10, x27; or x31, x31, x26; sw x11, 0(x31); ebreak; jal x0, -8
         code(
             "a jump after a pair",
             CODE,
-            "b37fb501b3efaf0123a0bf00730010006ff09fff",
+            JUMP_TO_STORE,
             Rule::V7,
             0x0100_0010,
         ),
@@ -116,10 +105,9 @@ fn unsafe_samples() -> [Row<'static>; 11] {
             Rule::V8,
             0x0100_00fc,
         ),
-        // ecall; and x31, x1, x25; or x31, x31, x24; jalr x0, 16(x31)
         gate(
             "a gate that comes back elsewhere",
-            "73000000b3ff9001b3ef8f0167800f01",
+            OTHER_STUB,
             Rule::V9,
             0x0100_0000,
         ),
@@ -184,11 +172,10 @@ fn safe_samples() -> [Row<'static>; 10] {
             Rule::V6,
             0x0100_0000,
         ),
-        // jal x0, 4
         code(
             "a jump to an ebreak",
             CODE,
-            "6f004000",
+            JAL_INTO_BUNDLE,
             Rule::V7,
             0x0100_0000,
         ),

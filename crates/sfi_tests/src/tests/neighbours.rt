@@ -1,17 +1,9 @@
 //! Sandboxes of one image: the words that they post to one another, and data that only their own code reaches.
-use super::runs::{EBREAK, FILL, text_of};
-use super::{Outcome, run};
-use std::alloc::{AllocError, Global};
+use super::codes::{BARE_STORE, MASKED_STORE};
+use super::image::{EBREAK, FILL, text_of};
+use super::lines::REFUSED_V5;
+use super::{Outcome, built_and_run, run};
 use std::test::Fail;
-
-// What a source prints when it is built and run by the command.
-fn built_and_run(alloc: Global, source: &str, command: &str) -> Result<Outcome, AllocError> {
-    let Outcome { status, text } = run(alloc, "sfi build", source.as_bytes())?;
-    if status != 0 {
-        return Ok(Outcome { status, text });
-    }
-    run(alloc, command, text.as_slice())
-}
 
 // The first posts 7 to the second, which takes it.
 const FORWARD: &str = ".sandbox 256
@@ -139,25 +131,17 @@ const TWO: &str = "5346493102000000000000010001000000008001000100000000000100000
 const WRITES_SECOND: &str =
     "000000020001000000008002000100002000000202000000020000000000000201000000100000020000000073000000b3ff9001b3ef8f0167800f0073000000b3ff9001b3ef8f0167800f00370580021305050093052000eff05ffd37058002130505000100010001000100b37fb501b3efaf0103c51f00eff05ffc";
 
-// A store through a pair, and ebreak.
-const STORES: &str = "b37fb501b3efaf0123a0bf0073001000";
-
-// A store on x10, which may lead anywhere.
-const STORES_BARELY: &str = "2320b500";
-
-const REFUSED: &str = "refused findings=1 first=V5 sandbox=0 at=01000000\n";
-
 const UNHARMED: &str =
     "sandbox=0 trap=Break at=0100000c steps=3 out=\nsandbox=1 exit=105 steps=19 out=4869\n";
 
 #[test]
 fn a_store_stays_in_its_sandbox(rt: HostRuntime) -> Result<(), Fail> {
     let alloc = rt.alloc();
-    let bare = [(STORES_BARELY, 1), (EBREAK, 63)];
-    let masked = [(STORES, 1), (EBREAK, 60)];
+    let bare = [(BARE_STORE, 1), (EBREAK, 63)];
+    let masked = [(MASKED_STORE, 1), (EBREAK, 61)];
     let rows = [
-        ("sfi check", bare, 1, REFUSED),
-        ("sfi run --rounds 1000", bare, 1, REFUSED),
+        ("sfi check", bare, 1, REFUSED_V5),
+        ("sfi run --rounds 1000", bare, 1, REFUSED_V5),
         ("sfi run --rounds 1000 --quantum 1", masked, 0, UNHARMED),
         ("sfi run --rounds 1000 --quantum 3", masked, 0, UNHARMED),
         ("sfi run --rounds 1000 --quantum 1000", masked, 0, UNHARMED),

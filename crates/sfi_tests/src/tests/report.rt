@@ -1,5 +1,12 @@
 //! The command `check --report`.
-use super::image::{CODE, EBREAK, Edit, end_in, image, insert, put, same};
+use super::codes::{
+    BRANCH_BACK, C_JR, ECALL_ACROSS_END, JAL_INTO_BUNDLE, JALR, LINK_IN_X27, OTHER_STUB,
+    PAIR_ON_X0, STUB,
+};
+use super::image::{
+    APART, CODE, EBREAK, END, Edit, SECOND_CODE, SFI3, end_in, image, one_gate, put, same,
+};
+use super::lines::{ACCEPTED, NO_MAGIC};
 use super::{Outcome, run};
 use std::test::Fail;
 
@@ -27,13 +34,10 @@ fn code<'a>(name: &'a str, digits: &'a str, text: &'a str) -> Row<'a> {
     one(name, put(CODE, digits), 1, text)
 }
 
-// The head of a second sandbox: code at 02000000, data at 01802100.
-const SECOND: &str = "00000002000100000021800100010000000000020000000000000000";
-
 fn rows() -> [Row<'static>; 11] {
     [
-        one("smallest", same(), 0, "accepted sandboxes=1 bundles=16\n"),
-        one("magic", put(0, "53464933"), 2, "layout fault 1 Magic\n"),
+        one("smallest", same(), 0, ACCEPTED),
+        one("magic", put(0, SFI3), 2, NO_MAGIC),
         code(
             "no instruction",
             "00000000",
@@ -41,47 +45,43 @@ fn rows() -> [Row<'static>; 11] {
         ),
         code(
             "ecall across the end",
-            "01000100010001000100010001007300",
+            ECALL_ACROSS_END,
             "0 0100000e V2 cross .half 0x0073\nrefused findings=1 first=V2 sandbox=0 at=0100000e\n",
         ),
         code(
             "stub of no gate",
-            "73000000b3ff9001b3ef8f0167800f00",
+            STUB,
             "0 01000000 V3 ecall ecall\nrefused findings=1 first=V3 sandbox=0 at=01000000\n",
         ),
         code(
             "link in x27",
-            "ef0d0001",
+            LINK_IN_X27,
             "0 01000000 V4 reserved jal x27, 16\nrefused findings=1 first=V4 sandbox=0 at=01000000\n",
         ),
         code(
             "pair on x0",
-            "3370b5013360a0012320b000",
+            PAIR_ON_X0,
             "0 01000008 V5 access sw x11, 0(x0)\nrefused findings=1 first=V5 sandbox=0 at=01000008\n",
         ),
         code(
             "c.jr",
-            "82800290",
+            C_JR,
             "0 01000000 V6 jump jalr x0, 0(x1)\nrefused findings=1 first=V6 sandbox=0 at=01000000\n",
         ),
         code(
             "jal into a bundle",
-            "6f004000",
+            JAL_INTO_BUNDLE,
             "0 01000000 V7 target jal x0, 4\nrefused findings=1 first=V7 sandbox=0 at=01000000\n",
         ),
         one(
             "branch at the end",
-            put(CODE + 252, "e30a00fe"),
+            put(CODE + 252, BRANCH_BACK),
             1,
             "0 010000fc V8 end beq x0, x0, -12\nrefused findings=1 first=V8 sandbox=0 at=010000fc\n",
         ),
         Row {
             name: "another stub",
-            edits: [
-                put(28, "01000000"),
-                put(CODE, "73000000b3ff9001b3ef8f0167800f01"),
-                insert(CODE, "0000000100000000"),
-            ],
+            edits: one_gate(OTHER_STUB),
             status: 1,
             text: "0 01000000 V9 gate stub expected\nrefused findings=1 first=V9 sandbox=0 at=01000000\n",
         },
@@ -108,9 +108,10 @@ fn reports_by_sandbox(rt: HostRuntime) -> Result<(), Fail> {
     let edits = [
         put(4, "02000000"),
         put(CODE + 16, "00000000"),
-        end_in(292, SECOND, 1),
-        end_in(320, "67800000ef0d0001", 1),
-        end_in(328, EBREAK, 62),
+        end_in(END, APART, 1),
+        end_in(SECOND_CODE, JALR, 1),
+        end_in(SECOND_CODE + 4, LINK_IN_X27, 1),
+        end_in(SECOND_CODE + 8, EBREAK, 62),
     ];
     let text = image(alloc, &edits)?;
     let Outcome { status, text } = run(alloc, "sfi check --report", text.as_slice())?;

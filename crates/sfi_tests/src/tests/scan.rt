@@ -1,5 +1,6 @@
 //! The findings of a sandbox, as a list.
-use super::image::{CODE, end_in, image, put};
+use super::codes::MOVES_STACK;
+use super::image::{CODE, SFI2, end_in, image, put};
 use sfi_image::parse_image;
 use sfi_policy::Format;
 use sfi_scan::{Finding, Rule, scan_part, scan_part_as};
@@ -39,9 +40,9 @@ fn zero_code_has_a_finding_in_each_bundle(rt: HostRuntime) -> Result<(), Fail> {
 // `c.addi x2, -16` breaks a rule of the second format alone.
 #[test]
 fn a_part_is_scanned_by_its_format(rt: HostRuntime) -> Result<(), Fail> {
-    let text = image(rt.alloc(), &[put(CODE, "41110290")])?;
+    let text = image(rt.alloc(), &[put(CODE, MOVES_STACK)])?;
     assert!(rt; findings_of(rt.alloc(), text.as_slice())?.is_empty());
-    let text = image(rt.alloc(), &[put(0, "53464932"), put(CODE, "41110290")])?;
+    let text = image(rt.alloc(), &[put(0, SFI2), put(CODE, MOVES_STACK)])?;
     let expected = Finding {
         sandbox: 0,
         address: 0x0100_0000,

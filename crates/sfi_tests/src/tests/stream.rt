@@ -1,7 +1,8 @@
 //! Images as streams of bytes, and the command `check --raw`.
-use super::image::{CODE, END, Edit, end_in, image_bytes, put, same};
+use super::codes::{BARE_STORE, MOVES_STACK};
+use super::image::{CODE, END, Edit, SFI2, SFI3, end_in, image_bytes, put, same};
 use super::pieces::Pieces;
-use super::{Outcome, words_of};
+use super::{Outcome, lines, words_of};
 use sfi_check::{StreamAnswer, check_stream};
 use sfi_image::Reading;
 use sfi_scan::{Finding, Rule};
@@ -43,11 +44,10 @@ fn row_of<'a>(name: &'a str, edits: [Edit<'a>; 2], answer: StreamAnswer) -> Row<
 }
 
 fn rows() -> [Row<'static>; 12] {
-    let second_format = put(0, "53464932");
+    let second_format = put(0, SFI2);
     let first_data = put(32, "00010000");
-    // sw x11, 0(x10), and c.addi x2, -16
-    let bare_store = put(CODE, "2320b500");
-    let lowered = put(CODE, "41110290");
+    let bare_store = put(CODE, BARE_STORE);
+    let lowered = put(CODE, MOVES_STACK);
     let less_a_byte = end_in(END - 1, "", 0);
     let one_more = end_in(END, "00", 1);
     [
@@ -76,11 +76,7 @@ fn rows() -> [Row<'static>; 12] {
             StreamAnswer::Layout(3),
         ),
         row_of("empty", [end_in(0, "", 0), same()], StreamAnswer::Layout(3)),
-        row_of(
-            "no format",
-            [put(0, "53464933"), same()],
-            StreamAnswer::Layout(1),
-        ),
+        row_of("no format", [put(0, SFI3), same()], StreamAnswer::Layout(1)),
         row_of(
             "less its last byte",
             [less_a_byte, same()],
@@ -148,9 +144,6 @@ fn failing_runs(rt: HostRuntime) -> Result<(), Fail> {
     }
     let Outcome { status, text } = run_by_fifty(alloc, bytes.as_slice(), 7)?;
     assert_eq!(rt; status, 0);
-    assert_eq!(rt;
-        text.as_slice(),
-        b"accepted sandboxes=1 bundles=16\n".as_slice()
-    );
+    assert_eq!(rt; text.as_slice(), lines::ACCEPTED.as_bytes());
     Ok(())
 }

@@ -1,26 +1,11 @@
 //! The tour of the README: each of its commands, over what the one before it printed.
+use super::lines::ACCEPTED;
+use super::programs::{HI_EXAMPLE, HI_SAID};
 use super::{Outcome, run};
 use std::str::from_utf8;
 use std::test::Fail;
 
-// examples/hi.s
-const HI: &str = "# Prints \"Hi\" and exits with the code of its last letter.
-.sandbox 256
-.gate put 1
-.gate quit 0
-
-        la   a0, text
-        li   a1, 2
-        call put
-        la   a0, text
-        lbu  a0, 1(a0)
-        call quit
-
-.data
-text:   .byte 72, 105
-";
-
-// Its listing, up to the fill.
+// The listing of examples/hi.s, up to the fill.
 const LISTING: &str = "sandbox 0 code 01000000 256 data 01800000 256 start 01000020 gates 2 init 2
 gate 01000000 1
 gate 01000010 0
@@ -49,8 +34,6 @@ gate 01000010 0
 01000050 9002 ebreak
 ";
 
-const ACCEPTED: &str = "accepted sandboxes=1 bundles=16\n";
-
 const REPORT: &str = "0 01000048 V5 access lbu x10, 1(x31)
 refused findings=1 first=V5 sandbox=0 at=01000048
 ";
@@ -58,13 +41,10 @@ refused findings=1 first=V5 sandbox=0 at=01000048
 #[test]
 fn tour(rt: HostRuntime) -> Result<(), Fail> {
     let alloc = rt.alloc();
-    let Outcome { status, text } = run(alloc, "sfi build", HI.as_bytes())?;
+    let Outcome { status, text } = run(alloc, "sfi build", HI_EXAMPLE.as_bytes())?;
     assert_eq!(rt; status, 0);
     let image = text.as_slice();
-    let rows = [
-        ("sfi check", ACCEPTED),
-        ("sfi run", "sandbox=0 exit=105 steps=19 out=4869\n"),
-    ];
+    let rows = [("sfi check", ACCEPTED), ("sfi run", HI_SAID)];
     for (command, wanted) in rows {
         let Outcome { status, text } = run(alloc, command, image)?;
         assert_eq!(rt; text.as_slice(), wanted.as_bytes(), "{command}");

@@ -2,7 +2,8 @@
 ghost use Rattle.std.specs.Prelude.{◌≡◌};
 ghost use Rattle.std.specs.FinMap.{empty};
 
-use super::runs::{FILL, READS, WRITES, YIELDS, text_of};
+use super::image::text_of;
+use super::programs::{HI_IMAGE, READS_IMAGE, YIELDS_IMAGE};
 use rv_mem::{Memory, Pages, Segments};
 use sfi_check::check;
 use sfi_host::{Console, RunAnswer, Status, Turn, World};
@@ -23,7 +24,7 @@ struct Case {
 
 const CASES: [Case; 6] = [
     Case {
-        pieces: [(WRITES, 1), (FILL, 88), ("4869", 1)],
+        pieces: HI_IMAGE,
         input: b"",
         rounds: 1,
         quantum: 1000,
@@ -32,7 +33,7 @@ const CASES: [Case; 6] = [
         output: b"Hi",
     },
     Case {
-        pieces: [(WRITES, 1), (FILL, 88), ("4869", 1)],
+        pieces: HI_IMAGE,
         input: b"",
         rounds: 1000,
         quantum: 1,
@@ -41,7 +42,7 @@ const CASES: [Case; 6] = [
         output: b"Hi",
     },
     Case {
-        pieces: [(YIELDS, 1), (FILL, 110), ("", 0)],
+        pieces: YIELDS_IMAGE,
         input: b"",
         rounds: 3,
         quantum: 1000,
@@ -50,7 +51,7 @@ const CASES: [Case; 6] = [
         output: b"",
     },
     Case {
-        pieces: [(YIELDS, 1), (FILL, 110), ("", 0)],
+        pieces: YIELDS_IMAGE,
         input: b"",
         rounds: 3,
         quantum: 8,
@@ -59,7 +60,7 @@ const CASES: [Case; 6] = [
         output: b"",
     },
     Case {
-        pieces: [(READS, 1), (FILL, 96), ("0000", 1)],
+        pieces: READS_IMAGE,
         input: b"abc",
         rounds: 1,
         quantum: 1000,
@@ -68,7 +69,7 @@ const CASES: [Case; 6] = [
         output: b"",
     },
     Case {
-        pieces: [(READS, 1), (FILL, 96), ("0000", 1)],
+        pieces: READS_IMAGE,
         input: b"",
         rounds: 1,
         quantum: 1000,

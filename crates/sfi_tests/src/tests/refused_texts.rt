@@ -1,0 +1,75 @@
+//! Texts that can't be built: the fault of each, whose text is the line that the command prints.
+use super::{Outcome, run};
+use rv_text::{TextCause, TextFault};
+use sfi_build::{BuildFault, build};
+use sfi_link::LinkFault;
+use sfi_rewrite::RewriteFault;
+use std::test::Fail;
+
+#[derive(Clone, Copy, Debug)]
+struct Row<'a> {
+    text: &'a str,
+    fault: BuildFault,
+    line: &'a str,
+}
+
+fn rows() -> [Row<'static>; 6] {
+    let operands = TextFault {
+        line: 2,
+        cause: TextCause::Operands,
+    };
+    [
+        Row {
+            text: ".sandbox 256\nmv t6, a0",
+            fault: BuildFault::Rewrite(RewriteFault::ReservedRegister { line: 2 }),
+            line: "rewrite fault 1 ReservedRegister line 2\n",
+        },
+        Row {
+            text: ".sandbox 256\necall",
+            fault: BuildFault::Rewrite(RewriteFault::Ecall { line: 2 }),
+            line: "rewrite fault 2 Ecall line 2\n",
+        },
+        Row {
+            text: ".format 2\n.sandbox 256\nlw sp, 0(a0)",
+            fault: BuildFault::Rewrite(RewriteFault::StackWrite { line: 3 }),
+            line: "rewrite fault 5 StackWrite line 3\n",
+        },
+        Row {
+            text: ".sandbox 256\nli a0 5",
+            fault: BuildFault::Text(operands),
+            line: "source fault 4 Operands line 2\n",
+        },
+        Row {
+            text: ".sandbox 256\nj away",
+            fault: BuildFault::Link(LinkFault::UnknownName { line: 2 }),
+            line: "link fault 1 UnknownName line 2\n",
+        },
+        Row {
+            text: ".sandbox 256\nj there\n.data\nthere: .byte 1",
+            fault: BuildFault::Link(LinkFault::UnknownName { line: 2 }),
+            line: "link fault 1 UnknownName line 2\n",
+        },
+    ]
+}
+
+// Each with and without a line feed at its end.
+#[test]
+fn faults(rt: HostRuntime) -> Result<(), Fail> {
+    let alloc = rt.alloc();
+    for row in rows() {
+        let name = row.text;
+        assert_eq!(rt; format!(in alloc; "{}\n", row.fault)?.as_str(), row.line);
+        for end in ["", "\n"] {
+            let source = format!(in alloc; "{name}{end}")?;
+            assert_eq!(rt;
+                build(alloc, source.as_str()).err(),
+                Some(row.fault),
+                "{name}"
+            );
+            let Outcome { status, text } = run(alloc, "sfi build", source.as_bytes())?;
+            assert_eq!(rt; text.as_slice(), row.line.as_bytes(), "{name}");
+            assert_eq!(rt; status, 2, "{name}");
+        }
+    }
+    Ok(())
+}
