@@ -104,39 +104,39 @@ fn value_of(byte: u8) -> u8
     }
 }
 
-/// The values of a block's bytes. It isn't inlined: LLVM finds its vector instructions where arrays lie in memory.
+/// The values of a block's bytes, and whether each is a digit's.
+#[derive(Debug, Drop)]
+struct Values {
+    values: [u8; BLOCK],
+    all: bool,
+}
+
+/// What a block's bytes are. It isn't inlined: LLVM finds its vector instructions where arrays lie in memory.
 #[inline(never)]
-fn values_of(digits: &[u8]) -> [u8; BLOCK]
+fn values_of(digits: &[u8]) -> Values
     requires { length digits.now ≡ 64 }
-    ensures { (k : ℕ) → k < 64 → slice_index result k < 16 → hex_digit_value (slice_index digits.now k) ≡ Some (slice_index result k) }
+    ensures each { (k : ℕ) → k < 64 → slice_index result.values k < 16 → hex_digit_value (slice_index digits.now k) ≡ Some (slice_index result.values k) }
+    ensures all { result.all ≡ true → (k : ℕ) → k < 64 → slice_index result.values k < 16 }
 {
     let mut values = [0u8; BLOCK];
-    for place in 0..BLOCK {
-        values[place] = value_of(digits[place]);
-    }
-    values
-}
-
-/// Whether all of a block's bytes are digits, by their values.
-#[tactic(auto, using(crate::proofs::Classes::or_small_l, crate::proofs::Classes::or_small_r))]
-fn are_digits(values: &[u8; BLOCK]) -> bool
-    ensures { result ≡ true → (k : ℕ) → k < 64 → slice_index values.now k < 16 }
-{
     let mut bits = 0u8;
     for place in 0..BLOCK {
-        bits |= values[place];
+        let value = value_of(digits[place]);
+        values[place] = value;
+        bits |= value;
     }
-    bits < WHITE
+    Values {
+        values,
+        all: bits < WHITE,
+    }
 }
 
-/// How many pairs of digits a block begins with.
+/// How many pairs of digits a block begins with. Where it is inlined, LLVM moves each value by itself.
+#[inline(never)]
 fn digit_pairs(values: &[u8; BLOCK]) -> usize
     ensures most { result ≤ 32 }
     ensures digits { (k : ℕ) → k < result → (slice_index values.now (2 * k) < 16) × (slice_index values.now (2 * k + 1) < 16) }
 {
-    if are_digits(values) {
-        return BLOCK / 2;
-    }
     for pair in 0..BLOCK / 2 {
         if values[2 * pair] >= WHITE || values[2 * pair + 1] >= WHITE {
             return pair;
@@ -181,10 +181,10 @@ fn front_of(block: &[u8]) -> Front
     ensures size { length result.bytes ≡ 32 }
     ensures each { (k : ℕ) → k < result.pairs → IsByteOf (slice_index block.now (2 * k)) (slice_index block.now (2 * k + 1)) (slice_index result.bytes k) }
 {
-    let values = values_of(block);
+    let Values { values, all } = values_of(block);
     Front {
         bytes: joined(&values),
-        pairs: digit_pairs(&values),
+        pairs: if all { BLOCK / 2 } else { digit_pairs(&values) },
     }
 }
 
