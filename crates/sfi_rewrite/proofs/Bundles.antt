@@ -9,7 +9,7 @@ use Rattle.sfi_policy.specs.Limits.{bundle_size}
 use Rattle.sfi_rewrite.specs.Slots.{size_of, slots_of, c_nop}
 use Rattle.sfi_rewrite.specs.Placement.{AreBundles}
 use Rattle.sfi_rewrite.specs.private.Filling.{IsFull, IsFilled, largest}
-use Rattle.sfi_rewrite.proofs.Sizes.{size_of-append, size_even, size_at_least_two, size_nops}
+use Rattle.sfi_rewrite.proofs.Sizes.{size_of-append, sizes, size_even, size_nops}
 
 pub slots_of-push : (full : List (List Slot)) (b : List Slot) → slots_of (full ++ b ∷ []) ≡ slots_of full ++ b
 slots_of-push [] b = append-nil b
@@ -104,52 +104,46 @@ grown (b ∷ bundles) more are some fits =
 
 pub slots_fit : (old more now : List Slot) → now ≡ old → size_of old + size_of more ≤ bundle_size → length now + length more ≤ 8
 slots_fit old more now e h =
-    let a = size_at_least_two old in
-    let b = size_at_least_two more in
+    let a = (sizes old).least in
+    let b = (sizes more).least in
     let c = ap length e in
     omega arith
 
-pub filled_begun : (bundles : List (List Slot)) (bundle more : List Slot) (now : List (List Slot)) (end size : ℕ)
-    → IsFilled bundles end → end % bundle_size ≡ 0 → now ≡ bundles ++ bundle ∷ [] → bundle ≡ more → size ≡ size_of more → 0 < size
-    → end % bundle_size + size ≤ bundle_size → IsFilled now (end + size)
-filled_begun bundles bundle more now end size f none n b s some fits =
+pub filled_begun : (bundles now : List (List Slot)) (old bundle more : List Slot) (end size : ℕ) → IsFilled bundles end → slots_of bundles ≡ old
+    → end % bundle_size ≡ 0 → size ≡ size_of more → 0 < size → size_of old % bundle_size + size ≤ bundle_size
+    → now ≡ bundles ++ bundle ∷ [] → bundle ≡ more → IsFilled now (end + size)
+filled_begun bundles now old bundle more end size f view none s some fits n b =
     let a = f.end_is in
+    let v = ap size_of view in
     let c = ap size_of (slots_of-push bundles more) ∙ size_of-append (slots_of bundles) more in
     rw (n, b) (record { are_bundles = begun bundles more f.are_bundles (omega arith) (omega arith) (omega arith); end_is = omega arith })
 
--- what is grown at the last bundle's index
-pub filled_grown : (bundles : List (List Slot)) (end size : ℕ) (more : List Slot) → IsFilled bundles end → ((end % bundle_size ≡ 0) → ⊥) → size ≡ size_of more
-    → end % bundle_size + size ≤ bundle_size → Grown bundles more
-filled_grown bundles end size more f some s fits =
+-- what holds where the last bundle, at that index, gets more slots
+pub record IsGrown (bundles : List (List Slot)) (old last more : List Slot) (index end : ℕ) : Type 0 where
+  pub room : size_of last + size_of more ≤ bundle_size
+  pub filled : IsFilled (set bundles index (last ++ more)) end
+  pub slots : slots_of (set bundles index (last ++ more)) ≡ old ++ more
+
+pub filled_grown : (bundles : List (List Slot)) (old last more : List Slot) (count end size : ℕ) → IsFilled bundles end → slots_of bundles ≡ old
+    → ((end % bundle_size ≡ 0) → ⊥) → size ≡ size_of more → size_of old % bundle_size + size ≤ bundle_size
+    → count ≡ length bundles → last ≡ get_or bundles (count - 1) last → IsGrown bundles old last more (count - 1) (end + size)
+filled_grown bundles old last more count end size f view some s fits c is =
     let a = f.end_is in
-    grown bundles more f.are_bundles (let not_zero : 0 < end % bundle_size = omega (arith, some) in omega arith) (omega arith)
-
-pub grown_last : (bundles : List (List Slot)) (more : List Slot) (g : Grown bundles more) (count : ℕ) (d : List Slot) → count ≡ length bundles → get_or bundles (count - 1) d ≡ g.last
-grown_last bundles more g count d c =
-    let long = ap length g.were ∙ length-append g.front (g.last ∷ []) in
-    ap (λ v. get_or v (count - 1) d) g.were ∙ get_or_push g.front g.last d (count - 1) (omega arith)
-
-pub grown_set : (bundles : List (List Slot)) (more new : List Slot) (g : Grown bundles more) (count : ℕ) → count ≡ length bundles → new ≡ g.last ++ more
-    → set bundles (count - 1) new ≡ g.front ++ (g.last ++ more) ∷ []
-grown_set bundles more new g count c n =
+    let v = ap size_of view in
+    let g = grown bundles more f.are_bundles (let not_zero : 0 < end % bundle_size = omega (arith, some) in omega arith) (omega arith) in
     let long = ap length g.were ∙ length-append g.front (g.last ∷ []) in
     let at : count - 1 ≡ length g.front = omega arith in
-    ap (λ v. set v (count - 1) new) g.were ∙ ap (λ k. set (g.front ++ g.last ∷ []) k new) at ∙ set-append_seam g.front g.last [] new
-    ∙ ap (λ v. g.front ++ v ∷ []) n
-
-pub filled_more : (bundles now : List (List Slot)) (more : List Slot) (end size : ℕ) → IsFilled bundles end → (g : Grown bundles more)
-    → now ≡ g.front ++ (g.last ++ more) ∷ [] → size ≡ size_of more → IsFilled now (end + size)
-filled_more bundles now more end size f g n s =
-    let a = f.end_is in
-    let c = ap size_of g.slots ∙ size_of-append (slots_of bundles) more in
-    rw n (record { are_bundles = g.are; end_is = omega arith })
-
-pub fits_at : (bundles : List (List Slot)) (slots : List Slot) (end size : ℕ)
-    → IsFilled bundles end → slots_of bundles ≡ slots → size_of slots % bundle_size + size ≤ bundle_size → end % bundle_size + size ≤ bundle_size
-fits_at bundles slots end size f e h =
-    let a = f.end_is in
-    let b = ap size_of e in
-    omega arith
+    let same : last ≡ g.last = is ∙ ap (λ b. get_or b (count - 1) last) g.were ∙ get_or_push g.front g.last last (count - 1) (sym at) in
+    let now : set bundles (count - 1) (last ++ more) ≡ g.front ++ (g.last ++ more) ∷ [] =
+    ap (λ b. set b (count - 1) (last ++ more)) g.were ∙ ap (λ k. set (g.front ++ g.last ∷ []) k (last ++ more)) at
+    ∙ set-append_seam g.front g.last [] (last ++ more) ∙ ap (λ l. g.front ++ (l ++ more) ∷ []) same in
+    let d = ap size_of g.slots ∙ size_of-append (slots_of bundles) more in
+    let filled : IsFilled (g.front ++ (g.last ++ more) ∷ []) (end + size) = record { are_bundles = g.are; end_is = omega arith } in
+    record {
+      room = subst (λ (l : List Slot). size_of l + size_of more ≤ bundle_size) (sym same) g.room;
+      filled = subst (λ (b : List (List Slot)). IsFilled b (end + size)) (sym now) filled;
+      slots = ap slots_of now ∙ g.slots ∙ ap (λ (l : List Slot). l ++ more) view;
+    }
 
 pub nop_fits : (slots : List Slot) → size_of slots % bundle_size + 2 ≤ bundle_size
 nop_fits slots = let g = size_even slots in omega arith

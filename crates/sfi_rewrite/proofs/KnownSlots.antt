@@ -21,7 +21,7 @@ use Rattle.sfi_rewrite.specs.declared.slot.Slot.{Slot}
 use Rattle.sfi_rewrite.specs.declared.slot.Slot.TheVariants.{Wide, Short, Jump, Upper, Lower}
 use Rattle.sfi_rewrite.specs.Slots.{size_of, c_nop}
 use Rattle.sfi_rewrite.specs.Stack.{writes_stack, is_on_stack, stack_pair, put_back}
-use Rattle.sfi_rewrite.specs.Expansion.{code_pair, jump_to_x31, jump_slots, IsAlone, IsMasked, IsExpansionOf}
+use Rattle.sfi_rewrite.specs.Expansion.{code_pair_slots, jump_to_x31, jump_slots, IsAlone, IsMasked, IsExpansionOf}
 use Rattle.sfi_rewrite.specs.Places.{AreLaidFrom}
 use Rattle.sfi_rewrite.specs.Placed.{Encodes, IsNamedBelow}
 
@@ -76,16 +76,16 @@ stored : (count rs2 : ℕ) (width : StoreWidth) (imm : ℤ) → rs2 < 32 → IsI
 unfolding InRange
 stored count rs2 width imm d i = record { encodes = (omega arith, d, i); name = tt }
 
-code_known : (count rd a : ℕ) → rd < 32 → a < 32 → All (IsKnown count) (code_pair a ++ jump_to_x31 rd ∷ [])
+code_known : (count rd a : ℕ) → rd < 32 → a < 32 → All (IsKnown count) (code_pair_slots a ++ jump_to_x31 rd ∷ [])
 code_known count rd a d h =
     three count (Wide (Op And 31 a 25)) (Wide (Op Or 31 31 24)) (jump_to_x31 rd) (masked count a 25 h (omega arith)) (based count 24 (omega arith)) (jumped count rd d)
 
 jump_known : (count rd a : ℕ) (imm : ℤ) (slots : List Slot) → slots ≡ jump_slots rd a imm → rd < 32 → a < 32 → IsImm12 imm → All (IsKnown count) slots
 jump_known count rd a (pos zero) slots e d h i = rw e (code_known count rd a d h)
 jump_known count rd a (pos (suc n)) slots e d h i =
-    rw e (more count (Wide (OpImm Addi 31 a (pos (suc n)))) (code_pair 31 ++ jump_to_x31 rd ∷ []) (summed count a (pos (suc n)) h i) (code_known count rd 31 d (omega arith)))
+    rw e (more count (Wide (OpImm Addi 31 a (pos (suc n)))) (code_pair_slots 31 ++ jump_to_x31 rd ∷ []) (summed count a (pos (suc n)) h i) (code_known count rd 31 d (omega arith)))
 jump_known count rd a (negsuc n) slots e d h i =
-    rw e (more count (Wide (OpImm Addi 31 a (negsuc n))) (code_pair 31 ++ jump_to_x31 rd ∷ []) (summed count a (negsuc n) h i) (code_known count rd 31 d (omega arith)))
+    rw e (more count (Wide (OpImm Addi 31 a (negsuc n))) (code_pair_slots 31 ++ jump_to_x31 rd ∷ []) (summed count a (negsuc n) h i) (code_known count rd 31 d (omega arith)))
 
 masked_known : (rvc : Bool) (i : Instr) (count : ℕ) (slots : List Slot) → IsMasked rvc i slots → InRange i → All (IsKnown count) slots
 unfolding InRange

@@ -13,48 +13,36 @@ size_of-append xs ys = sum_by-append slot_size xs ys
 pub size_of-cons : (s : Slot) (xs : List Slot) → size_of (s ∷ xs) ≡ slot_size s + size_of xs
 size_of-cons s xs = sum_by-cons slot_size s xs
 
--- a slot takes 2 bytes or 4
-pub record IsSize (n : ℕ) : Type 0 where
-  pub even : n % 2 ≡ 0
-  pub least : 2 ≤ n
-  pub most : n ≤ 4
+-- so many slots take so many bytes, each 2 or 4
+pub record AreSizes (count size : ℕ) : Type 0 where
+  pub even : size % 2 ≡ 0
+  pub least : 2 * count ≤ size
+  pub most : size ≤ 4 * count
 
-pub slot_is_size : (s : Slot) → IsSize (slot_size s)
-slot_is_size (Short f) = record { even = refl; least = omega arith; most = omega arith }
-slot_is_size (Wide i) = record { even = refl; least = omega arith; most = omega arith }
-slot_is_size (Jump i p l) = record { even = refl; least = omega arith; most = omega arith }
-slot_is_size (Upper r p l) = record { even = refl; least = omega arith; most = omega arith }
-slot_is_size (Lower r p l) = record { even = refl; least = omega arith; most = omega arith }
+one_size : (s : Slot) → AreSizes 1 (slot_size s)
+one_size (Short f) = record { even = refl; least = omega arith; most = omega arith }
+one_size (Wide i) = record { even = refl; least = omega arith; most = omega arith }
+one_size (Jump i p l) = record { even = refl; least = omega arith; most = omega arith }
+one_size (Upper r p l) = record { even = refl; least = omega arith; most = omega arith }
+one_size (Lower r p l) = record { even = refl; least = omega arith; most = omega arith }
+
+pub sizes : (xs : List Slot) → AreSizes (length xs) (size_of xs)
+sizes [] = record { even = refl; least = omega arith; most = omega arith }
+sizes (x ∷ xs) =
+    let h = sizes xs in
+    let g = one_size x in
+    let e = size_of-cons x xs in
+    record {
+      even = omega (arith, h.even, g.even, e);
+      least = omega (arith, h.least, g.least, e);
+      most = omega (arith, h.most, g.most, e);
+    }
 
 pub size_even : (xs : List Slot) → size_of xs % 2 ≡ 0
-size_even [] = refl
-size_even (x ∷ xs) =
-    let h = size_even xs in
-    let g = (slot_is_size x).even in
-    let e = size_of-cons x xs in
-    omega (arith, h, g, e)
-
-pub size_at_most : (xs : List Slot) → size_of xs ≤ 4 * length xs
-size_at_most [] = omega arith
-size_at_most (x ∷ xs) =
-    let h = size_at_most xs in
-    let g = (slot_is_size x).most in
-    let e = size_of-cons x xs in
-    omega (arith, h, g, e)
-
-pub size_at_least_two : (xs : List Slot) → 2 * length xs ≤ size_of xs
-size_at_least_two [] = omega arith
-size_at_least_two (x ∷ xs) =
-    let h = size_at_least_two xs in
-    let g = (slot_is_size x).least in
-    let e = size_of-cons x xs in
-    omega (arith, h, g, e)
+size_even xs = (sizes xs).even
 
 pub size_at_least : (x : Slot) (xs : List Slot) → 0 < size_of (x ∷ xs)
-size_at_least x xs =
-    let g = (slot_is_size x).least in
-    let e = size_of-cons x xs in
-    omega (arith, g, e)
+size_at_least x xs = omega (arith, (sizes (x ∷ xs)).least)
 
 pub size_nops : (n : ℕ) → size_of (replicate n c_nop) ≡ 2 * n
 size_nops zero = refl
@@ -77,7 +65,7 @@ size_step xs k d n r h e f = let g = size_more xs k d h in omega arith
 pub size_fits : (xs : List Slot) (k : ℕ) (d : Slot) (n r : ℕ) → k < length xs → length xs ≤ bundle_size → n ≡ size_of (take k xs) → r ≡ slot_size (get_or xs k d) → Fits w64 (n + r)
 size_fits xs k d n r h l e f =
     let g = size_step xs k d n r h e f in
-    let a = size_at_most (take (k + 1) xs) in
+    let a = (sizes (take (k + 1) xs)).most in
     let b = length-take (k + 1) xs in
     let h : n + r < 2 ^ 64 = omega arith in
     search (rules, h)

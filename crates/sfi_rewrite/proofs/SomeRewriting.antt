@@ -29,7 +29,7 @@ use Rattle.sfi_policy.specs.Limits.{bundle_size}
 use Rattle.sfi_rewrite.specs.Slots.{size_of, slots_of, c_nop}
 use Rattle.sfi_rewrite.specs.Stack.{writes_stack, is_on_stack, is_stack_write, stack_pair, put_back}
 use Rattle.sfi_rewrite.specs.Registers.{item_names_withheld, is_ecall}
-use Rattle.sfi_rewrite.specs.Expansion.{data_pair, jump_slots, IsAlone, IsMasked, IsExpansionOf, IsExpansion, is_call}
+use Rattle.sfi_rewrite.specs.Expansion.{data_pair_slots, jump_slots, IsAlone, IsMasked, IsExpansionOf, IsExpansion, is_call}
 use Rattle.sfi_rewrite.specs.Places.{next_bundle, FillsGap, AreLaid}
 use Rattle.sfi_rewrite.specs.Placement.{Placement, IsPlacedName, HasEndLabel, FillsEnd, AreBundles}
 use Rattle.sfi_rewrite.specs.private.Filling.{HasNext}
@@ -54,8 +54,8 @@ some_alone law true i =
     ]
 
 some_masked : SomeFirstForm → (rvc : Bool) (i : Instr) → (slots : List Slot) × IsMasked rvc i slots
-some_masked law rvc (Load kind rd a imm) = (data_pair a ++ Wide (Load kind rd 31 imm) ∷ [], refl)
-some_masked law rvc (Store width a rs2 imm) = (data_pair a ++ Wide (Store width 31 rs2 imm) ∷ [], refl)
+some_masked law rvc (Load kind rd a imm) = (data_pair_slots a ++ Wide (Load kind rd 31 imm) ∷ [], refl)
+some_masked law rvc (Store width a rs2 imm) = (data_pair_slots a ++ Wide (Store width 31 rs2 imm) ∷ [], refl)
 some_masked law rvc (Jalr rd a imm) = (jump_slots rd a imm, refl)
 some_masked law rvc (Op op rd rs1 rs2) = some_alone law rvc (Op op rd rs1 rs2)
 some_masked law rvc (OpImm op rd rs1 imm) = some_alone law rvc (OpImm op rd rs1 imm)

@@ -26,7 +26,7 @@ use Rattle.sfi_rewrite.specs.declared.slot.Slot.TheVariants.{Wide, Short}
 use Rattle.sfi_policy.specs.Registers.{is_withheld}
 use Rattle.sfi_rewrite.specs.Registers.{names_withheld}
 use Rattle.sfi_rewrite.specs.Slots.{slot_size}
-use Rattle.sfi_rewrite.specs.Expansion.{data_pair, code_pair, jump_to_x31, jump_slots, IsAlone, IsMasked}
+use Rattle.sfi_rewrite.specs.Expansion.{data_pair_slots, code_pair_slots, jump_to_x31, jump_slots, IsAlone, IsMasked}
 use Rattle.sfi_rewrite.specs.Transparency.{AreRegions, HasReserved, SlotStands, IsSameAside, DoesAs, IsTransparent}
 use Rattle.sfi_rewrite.proofs.Unmoved.{unmoved_data, unmoved_code}
 use Rattle.sfi_rewrite.proofs.Aside.{Aside, aside_scratch, written_here, loads_same, stores_same, jumps_same, plus_zero, added, plus_fits}
@@ -139,9 +139,9 @@ after_sum pair keeps s i j a mask base imm is ne apart first second third fourth
 
 -- ---- the expansions
 
-load_transparent : PairLeaves → (kind : LoadKind) (rd a : ℕ) (imm : ℤ) → IsTransparent (Load kind rd a imm) (data_pair a ++ Wide (Load kind rd 31 imm) ∷ [])
+load_transparent : PairLeaves → (kind : LoadKind) (rd a : ℕ) (imm : ℤ) → IsTransparent (Load kind rd a imm) (data_pair_slots a ++ Wide (Load kind rd 31 imm) ∷ [])
 load_transparent pair kind rd a imm = record {
-  before = data_pair a;
+  before = data_pair_slots a;
   last = Wide (Load kind rd 31 imm);
   slots_are = refl;
   does = λ c d s asked keeps.
@@ -151,9 +151,9 @@ load_transparent pair kind rd a imm = record {
       (λ h aside e. loads_same kind rd a imm h (with_pc s.hart h.pc) s.memory aside e);
 }
 
-store_transparent : PairLeaves → (width : StoreWidth) (a rs2 : ℕ) (imm : ℤ) → rs2 ≢ 31 → IsTransparent (Store width a rs2 imm) (data_pair a ++ Wide (Store width 31 rs2 imm) ∷ [])
+store_transparent : PairLeaves → (width : StoreWidth) (a rs2 : ℕ) (imm : ℤ) → rs2 ≢ 31 → IsTransparent (Store width a rs2 imm) (data_pair_slots a ++ Wide (Store width 31 rs2 imm) ∷ [])
 store_transparent pair width a rs2 imm ne = record {
-  before = data_pair a;
+  before = data_pair_slots a;
   last = Wide (Store width 31 rs2 imm);
   slots_are = refl;
   does = λ c d s asked keeps.
@@ -164,9 +164,9 @@ store_transparent pair width a rs2 imm ne = record {
 }
 
 -- a jump's offset is 0
-jump_transparent : PairLeaves → (rd a : ℕ) → IsTransparent (Jalr rd a (pos 0)) (code_pair a ++ jump_to_x31 rd ∷ [])
+jump_transparent : PairLeaves → (rd a : ℕ) → IsTransparent (Jalr rd a (pos 0)) (code_pair_slots a ++ jump_to_x31 rd ∷ [])
 jump_transparent pair rd a = record {
-  before = code_pair a;
+  before = code_pair_slots a;
   last = jump_to_x31 rd;
   slots_are = refl;
   does = λ c d s asked keeps.
@@ -179,9 +179,9 @@ jump_transparent pair rd a = record {
 }
 
 -- it isn't
-sum_transparent : PairLeaves → StepKeepsState → (rd a : ℕ) (imm : ℤ) → IsTransparent (Jalr rd a imm) (Wide (OpImm Addi 31 a imm) ∷ (code_pair 31 ++ jump_to_x31 rd ∷ []))
+sum_transparent : PairLeaves → StepKeepsState → (rd a : ℕ) (imm : ℤ) → IsTransparent (Jalr rd a imm) (Wide (OpImm Addi 31 a imm) ∷ (code_pair_slots 31 ++ jump_to_x31 rd ∷ []))
 sum_transparent pair keeps rd a imm = record {
-  before = Wide (OpImm Addi 31 a imm) ∷ code_pair 31;
+  before = Wide (OpImm Addi 31 a imm) ∷ code_pair_slots 31;
   last = jump_to_x31 rd;
   slots_are = refl;
   does = λ c d s asked keep.

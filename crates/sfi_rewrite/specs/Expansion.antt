@@ -12,19 +12,19 @@ use Rattle.sfi_policy.specs.Formats.{is_stack}
 use Rattle.rv_source.specs.declared.item.Body.{Body}
 use Rattle.rv_source.specs.declared.item.Body.TheVariants.{Plain, To, High, Low}
 use Rattle.rv_source.specs.declared.item.Item.{Item}
-use Rattle.sfi_policy.specs.Pairs as policy
+use Rattle.sfi_policy.specs.Pairs.{data_pair, code_pair}
 use Rattle.sfi_policy.specs.Registers.{scratch}
 use Rattle.sfi_rewrite.specs.declared.slot.Slot.{Slot}
 use Rattle.sfi_rewrite.specs.declared.slot.Slot.TheVariants.{Wide, Short, Jump, Upper, Lower}
 use Rattle.sfi_rewrite.specs.Stack.{writes_stack, is_on_stack, stack_pair, put_back}
 
--- the pair by which x31 becomes an address of the data region
-abbrev pub data_pair : ℕ → List Slot
-data_pair a = map Wide (policy.data_pair scratch a)
+-- the pair by which x31 becomes an address of the data region, both instructions wide
+abbrev pub data_pair_slots : ℕ → List Slot
+data_pair_slots a = map Wide (data_pair scratch a)
 
--- the pair by which x31 becomes a bundle start of the code region
-abbrev pub code_pair : ℕ → List Slot
-code_pair a = map Wide (policy.code_pair scratch a)
+-- the pair by which x31 becomes a bundle start of the code region, likewise
+abbrev pub code_pair_slots : ℕ → List Slot
+code_pair_slots a = map Wide (code_pair scratch a)
 
 -- `jalr rd, 0(x31)`
 abbrev pub jump_to_x31 : ℕ → Slot
@@ -32,8 +32,9 @@ jump_to_x31 rd = Wide (Jalr rd scratch (pos 0))
 
 -- `jalr rd, imm(a)`; an offset other than 0 is added before the pair
 abbrev pub jump_slots : ℕ → ℕ → ℤ → List Slot
-jump_slots rd a (pos zero) = code_pair a ++ jump_to_x31 rd ∷ []
-jump_slots rd a imm = Wide (OpImm Addi scratch a imm) ∷ (code_pair scratch ++ jump_to_x31 rd ∷ [])
+jump_slots rd a (pos zero) = code_pair_slots a ++ jump_to_x31 rd ∷ []
+jump_slots rd a imm =
+    Wide (OpImm Addi scratch a imm) ∷ (code_pair_slots scratch ++ jump_to_x31 rd ∷ [])
 
 -- no 16-bit form expands to the instruction
 abbrev pub HasNoForm : Instr → Type 0
@@ -47,8 +48,10 @@ IsAlone true i slots =
 
 -- the expansion of an instruction that has nothing to do with a stack pointer
 abbrev pub IsMasked : Bool → Instr → List Slot → Type 0
-IsMasked rvc (Load kind rd a imm) slots = slots ≡ data_pair a ++ Wide (Load kind rd scratch imm) ∷ []
-IsMasked rvc (Store width a rs2 imm) slots = slots ≡ data_pair a ++ Wide (Store width scratch rs2 imm) ∷ []
+IsMasked rvc (Load kind rd a imm) slots =
+    slots ≡ data_pair_slots a ++ Wide (Load kind rd scratch imm) ∷ []
+IsMasked rvc (Store width a rs2 imm) slots =
+    slots ≡ data_pair_slots a ++ Wide (Store width scratch rs2 imm) ∷ []
 IsMasked rvc (Jalr rd a imm) slots = slots ≡ jump_slots rd a imm
 IsMasked rvc i slots = IsAlone rvc i slots
 

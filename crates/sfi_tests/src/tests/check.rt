@@ -1,14 +1,17 @@
 //! The command `check`.
 use super::codes::{
-    BARE_STORE, BRANCH_BACK, C_JR, C_LWSP_X24, ECALL_ACROSS_END, HALF_A_PAIR, JAL_INTO_BUNDLE,
-    JALR, JALR_WITH_OFFSET, JUMP_TO_STORE, LINK_IN_X26, LINK_IN_X27, MASKED_STORE, OTHER_STUB,
-    PAIR_ON_X0, STUB,
+    BARE_STORE, BASED_THEN_PAIR, BASED_TWICE, BRANCH_BACK, C_JR, C_LWSP_X24, ECALL_ACROSS_END,
+    HALF_A_PAIR, JAL_INTO_BUNDLE, JALR, JALR_WITH_OFFSET, JUMP_TO_STORE, LINK_IN_X26, LINK_IN_X27,
+    LINKED_THEN_PAIR, LOADED_THEN_PAIR, MASKED_STORE, MASKED_THEN_PAIR, MASKS_STACK,
+    MOVED_NOP_PAIR, MOVED_THEN_PAIR, MOVES_STACK, OTHER_STUB, PAIR_ON_X0, STORES_ON_STACK, STUB,
 };
 use super::image::{
     APART, CODE, EBREAK, END, Edit, SECOND_CODE, SFI2, SFI3, end_in, image, image_bytes, insert,
     one_gate, put, same,
 };
-use super::lines::{ACCEPTED, NO_MAGIC, ODD, REFUSED_V4, REFUSED_V5, REFUSED_V6, SHORT};
+use super::lines::{
+    ACCEPTED, NO_MAGIC, ODD, REFUSED_V4, REFUSED_V5, REFUSED_V6, REFUSED_V10, SHORT,
+};
 use super::{Outcome, run};
 use std::alloc::Global;
 use std::process::Abort;
@@ -252,6 +255,43 @@ fn gate<'a>(name: &'a str, digits: &'a str, status: u8, line: &'a str) -> Row<'a
     edited_row(name, one_gate(digits), status, line)
 }
 
+// Digits in place of the code's, in an image of the second format that is accepted.
+fn keeps_stack<'a>(name: &'a str, at: usize, digits: &'a str) -> Row<'a> {
+    edited_row(name, [put(0, SFI2), put(at, digits), same()], 0, ACCEPTED)
+}
+
+// And in one that is refused.
+fn moves_stack<'a>(name: &'a str, at: usize, digits: &'a str, line: &'a str) -> Row<'a> {
+    edited_row(name, [put(0, SFI2), put(at, digits), same()], 1, line)
+}
+
+// What writes x2 in the second format.
+fn stacks() -> [Row<'static>; 11] {
+    [
+        keeps_stack("c.swsp", CODE, STORES_ON_STACK),
+        moves_stack("c.addi x2, -16", CODE, MOVES_STACK, REFUSED_V10),
+        keeps_stack("addi and a pair", CODE, MOVED_THEN_PAIR),
+        moves_stack(
+            "addi and a pair in the next bundle",
+            CODE + 12,
+            MOVED_THEN_PAIR,
+            "refused findings=1 first=V10 sandbox=0 at=0100000c\n",
+        ),
+        moves_stack("addi, nop and a pair", CODE, MOVED_NOP_PAIR, REFUSED_V10),
+        keeps_stack("lw and a pair", CODE, LOADED_THEN_PAIR),
+        moves_stack("jal and a pair", CODE, LINKED_THEN_PAIR, REFUSED_V10),
+        moves_stack("half a pair", CODE, MASKS_STACK, REFUSED_V10),
+        keeps_stack("and before a pair", CODE, MASKED_THEN_PAIR),
+        keeps_stack("or before a pair", CODE, BASED_THEN_PAIR),
+        moves_stack(
+            "or after a pair",
+            CODE,
+            BASED_TWICE,
+            "refused findings=1 first=V10 sandbox=0 at=01000008\n",
+        ),
+    ]
+}
+
 // The command prints the row's line of the input, and ends in its status.
 fn expect_line(
     rt: &impl Abort,
@@ -271,7 +311,11 @@ fn expect_line(
 #[test]
 fn images(rt: HostRuntime) -> Result<(), Fail> {
     let alloc = rt.alloc();
-    for row in layouts().iter().chain(rules().iter()) {
+    for row in layouts()
+        .iter()
+        .chain(rules().iter())
+        .chain(stacks().iter())
+    {
         let text = image(alloc, &row.edits)?;
         expect_line(&rt, alloc, row, "sfi check", text.as_slice())?;
         let bytes = image_bytes(alloc, &row.edits)?;

@@ -54,3 +54,27 @@ pub(super) const MOVES_STACK: &str = "41110290";
 
 /// `c.swsp x1, 12`; `c.ebreak`.
 pub(super) const STORES_ON_STACK: &str = "06c60290";
+
+/// `addi x2, x2, -16`; the pair that puts x2 back, `and x2, x2, x27`; `or x2, x2, x26`.
+pub(super) const MOVED_THEN_PAIR: &str = "130101ff3371b1013361a101";
+
+/// `addi x2, x2, -16`; `nop`; that pair.
+pub(super) const MOVED_NOP_PAIR: &str = "130101ff130000003371b1013361a101";
+
+/// `lw x2, 0(x2)`; that pair.
+pub(super) const LOADED_THEN_PAIR: &str = "032101003371b1013361a101";
+
+/// `jal x2, 16`; that pair.
+pub(super) const LINKED_THEN_PAIR: &str = "6f0100013371b1013361a101";
+
+/// `and x2, x10, x27`.
+pub(super) const MASKS_STACK: &str = "3371b501";
+
+/// The same; that pair.
+pub(super) const MASKED_THEN_PAIR: &str = "3371b5013371b1013361a101";
+
+/// `or x2, x2, x26`; that pair.
+pub(super) const BASED_THEN_PAIR: &str = "3361a1013371b1013361a101";
+
+/// `and x2, x10, x27`; `or x2, x2, x26`; `or x2, x2, x26`.
+pub(super) const BASED_TWICE: &str = "3371b5013361a1013361a101";

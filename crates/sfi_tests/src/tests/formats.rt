@@ -1,5 +1,8 @@
 //! Both formats of images: what differs where x2 is a stack pointer.
-use super::codes::{C_LWSP_X24, MOVES_STACK, STORES_ON_STACK};
+use super::codes::{
+    BASED_THEN_PAIR, BASED_TWICE, C_LWSP_X24, LINKED_THEN_PAIR, LOADED_THEN_PAIR, MASKED_THEN_PAIR,
+    MASKS_STACK, MOVED_NOP_PAIR, MOVED_THEN_PAIR, MOVES_STACK, STORES_ON_STACK,
+};
 use super::image::{CODE, Edit, FILL, SFI1, SFI2, image, image_bytes, put, text_of};
 use super::lines::{ACCEPTED, REFUSED_V4, REFUSED_V5, REFUSED_V10, SHORT};
 use super::programs::{STORE, repeated};
@@ -31,9 +34,6 @@ fn code<'a>(name: &'a str, digits: &'a str, first: &'a str, second: &'a str) -> 
     }
 }
 
-// `and x2, x10, x27`
-const MASKED: &str = "3371b501";
-
 // The pair is `and x2, x2, x27`, `or x2, x2, x26`.
 fn rules() -> [Row<'static>; 17] {
     [
@@ -41,26 +41,26 @@ fn rules() -> [Row<'static>; 17] {
         code("c.addi x2", MOVES_STACK, ACCEPTED, REFUSED_V10),
         code(
             "written before the pair",
-            "130101ff3371b1013361a101",
+            MOVED_THEN_PAIR,
             ACCEPTED,
             ACCEPTED,
         ),
         Row {
             name: "written before the next bundle's pair",
             at: 12,
-            digits: "130101ff3371b1013361a101",
+            digits: MOVED_THEN_PAIR,
             first: ACCEPTED,
             second: "refused findings=1 first=V10 sandbox=0 at=0100000c\n",
         },
         code(
             "a nop before the pair",
-            "130101ff130000003371b1013361a101",
+            MOVED_NOP_PAIR,
             ACCEPTED,
             REFUSED_V10,
         ),
         code(
             "loaded before the pair",
-            "032101003371b1013361a101",
+            LOADED_THEN_PAIR,
             REFUSED_V5,
             ACCEPTED,
         ),
@@ -73,26 +73,21 @@ fn rules() -> [Row<'static>; 17] {
         code("c.lwsp x2", "02410290", REFUSED_V5, REFUSED_V10),
         code(
             "jal x2 before the pair",
-            "6f0100013371b1013361a101",
+            LINKED_THEN_PAIR,
             ACCEPTED,
             REFUSED_V10,
         ),
-        code("half of the pair", MASKED, ACCEPTED, REFUSED_V10),
+        code("half of the pair", MASKS_STACK, ACCEPTED, REFUSED_V10),
         code(
             "masked before the pair",
-            "3371b5013371b1013361a101",
+            MASKED_THEN_PAIR,
             ACCEPTED,
             ACCEPTED,
         ),
-        code(
-            "based before the pair",
-            "3361a1013371b1013361a101",
-            ACCEPTED,
-            ACCEPTED,
-        ),
+        code("based before the pair", BASED_THEN_PAIR, ACCEPTED, ACCEPTED),
         code(
             "based twice",
-            "3371b5013361a1013361a101",
+            BASED_TWICE,
             ACCEPTED,
             "refused findings=1 first=V10 sandbox=0 at=01000008\n",
         ),
@@ -175,7 +170,7 @@ fn code_sizes(rt: HostRuntime) -> Result<(), Fail> {
 
 #[test]
 fn texts(rt: HostRuntime) -> Result<(), Fail> {
-    let edits = [put(0, SFI2), put(CODE, MASKED)];
+    let edits = [put(0, SFI2), put(CODE, MASKS_STACK)];
     let report =
         "0 01000000 V10 stack and x2, x10, x27\nrefused findings=1 first=V10 sandbox=0 at=01000000\n";
     let Outcome { status, text } = answer(rt.alloc(), "sfi check --report", &edits)?;
