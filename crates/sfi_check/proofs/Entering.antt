@@ -105,4 +105,4 @@ entered_at p end h right apart small hart start reserved stack = (
 )
 
 pub entered : WholeBundles → CanBeEntered
-entered law p h right = entered_at p (law p.format p.code_base (length p.code) right.words.fields.code_base right.code_placed).4 h right
+entered law p h right = entered_at p (law p.format p.code_base (length p.code) right.code_base right.code_placed).4 h right

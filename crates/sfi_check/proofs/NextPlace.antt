@@ -89,7 +89,7 @@ module _ (sandbox : ℕ) (p : Part) (h h' : Hart) (clean : IsCleanPart sandbox p
       let end = code_end law sandbox p clean in
       let pc : h.pc ≡ p.code_base + 16 * b + at.offset = at.pc in
       let within : 16 * b + 16 ≤ length p.code = at.within in
-      let bundles = law p.format p.code_base (length p.code) clean.right.words.fields.code_base clean.right.code_placed in
+      let bundles = law p.format p.code_base (length p.code) clean.right.code_base clean.right.code_placed in
       let base_is : p.code_base ≡ 16 * bundles.1 = bundles.3 in
       let size_is : length p.code ≡ 16 * bundles.0 = bundles.2 in
       let gone : drop at.here.size (drop at.offset (bundle_bytes p b)) ≡ [] =

@@ -71,7 +71,7 @@ pub bundle_length : (p : Part) (b : ℕ) → 16 * b + 16 ≤ length p.code → l
 bundle_length p b within = simp (length-take, length-drop) (omega arith)
 
 pub code_end : WholeBundles → (sandbox : ℕ) (p : Part) → IsCleanPart sandbox p → p.code_base + length p.code ≤ 2 ^ 32
-code_end law sandbox p clean = (law p.format p.code_base (length p.code) clean.right.words.fields.code_base clean.right.code_placed).4
+code_end law sandbox p clean = (law p.format p.code_base (length p.code) clean.right.code_base clean.right.code_placed).4
 
 -- a reading that leaves nothing has a first piece
 at_first : (sandbox : ℕ) (p : Part) (h : Hart) (b : ℕ) → 16 * b + 16 ≤ length p.code → h.pc ≡ p.code_base + 16 * b → length (bundle_bytes p b) ≡ 16
@@ -96,7 +96,7 @@ at_first sandbox p h b within pc size stack (here ∷ later) is whole clean = re
 -- at a bundle start
 pub at_start : WholeBundles → (sandbox : ℕ) (p : Part) (h : Hart) → IsCleanPart sandbox p → IsBundleStart (code_region p) h.pc → StackInData p h.registers → IsAtPlace sandbox p h
 at_start law sandbox p h clean start stack =
-    let bundles = law p.format p.code_base (length p.code) clean.right.words.fields.code_base clean.right.code_placed in
+    let bundles = law p.format p.code_base (length p.code) clean.right.code_base clean.right.code_placed in
     let base_is : p.code_base ≡ 16 * bundles.1 = bundles.3 in
     let from : p.code_base ≤ h.pc = start.held.0 in
     let below : h.pc < p.code_base + length p.code = start.held.1 in

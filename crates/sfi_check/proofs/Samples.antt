@@ -90,18 +90,7 @@ module _ (s : Sample) (is : IsSample s) where
       let size = size s is in
       let few = is.few in
       record {
-        words = record {
-          fields = record {
-            code_base = omega arith;
-            code_size = omega (arith, size);
-            data_base = omega arith;
-            data_size = omega arith;
-            start = omega arith;
-            gate_count = omega (arith, few);
-            init_len = omega arith;
-          };
-          gates = is.words;
-        };
+        code_base = omega arith;
         code_placed = record { power = 8; size_is = size; at_least = omega (arith, size); at_most = omega (arith, size, code_at_least s.format); multiple = 65536; base_is = sym (ap (λ (n : ℕ). 65536 * n) size) };
         data_placed = record { power = 8; size_is = refl; at_least = omega arith; at_most = omega arith; multiple = 98304; base_is = refl };
         guard_room = record { below = omega arith; above = omega arith };

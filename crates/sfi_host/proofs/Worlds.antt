@@ -28,13 +28,12 @@ zero_words zero r = omega arith
 zero_words (suc n) zero = omega arith
 zero_words (suc n) (suc r) = zero_words n r
 
-pub first_is : (p : Part) → IsRightPart p → IsHart (first_hart p)
-first_is p right =
+pub first_is : (p : Part) → p.code_base + length p.code ≤ 2 ^ 32 → IsRightPart p → IsHart (first_hart p)
+first_is p end right =
     let above : p.data_base + p.data_size + 4096 ≤ 2 ^ 32 = right.guard_room.above in
     let aligned : p.start % 16 ≡ 0 = right.start.aligned in
-    let start : p.start < 2 ^ 32 = right.words.fields.start in
-    let code : p.code_base < 2 ^ 32 = right.words.fields.code_base in
-    let size : length p.code < 2 ^ 32 = right.words.fields.code_size in
+    let start : p.start < 2 ^ 32 = (let held = right.start.held.1 in omega arith) in
+    let code : p.code_base < 2 ^ 32 = right.code_base in
     let stack : p.data_base + p.data_size - 16 < 2 ^ 32 = omega arith in
     let mask : length p.code - 16 < 2 ^ 32 = omega arith in
     let base : p.data_base < 2 ^ 32 = omega arith in
@@ -72,7 +71,7 @@ module _ (laws : Laws) (ps : List Part) (layout : IsRightLayout ps) (memory : Is
   entered i p e =
       let lie = lie_apart ps layout in
       record {
-        state = record { hart = first_is p (lie.each i p e); memory = memory };
+        state = record { hart = first_is p (laws.ends p (lie.each i p e)) (lie.each i p e); memory = memory };
         start = (lie.each i p e).start;
         reserved = record { code_base = refl; code_mask = refl; data_base = refl; data_mask = refl };
         stack = λ has. first_stack p (lie.each i p e);

@@ -1,11 +1,13 @@
--- Code regions are whole bundles, and end within the addresses.
+-- Code regions are whole bundles, and end within the addresses; so each number of a right sandbox has 32 bits.
 use Rattle.std.proofs.Common.{◌≡◌, ℕ, ◌+◌, ◌-◌, ◌*◌, ◌^◌, ◌<◌, ◌≤◌, ap, ◌∙◌, ⊎_elim, arith}
 use Rattle.std.proofs.lemmas.Nat.{pow-add, pow_below}
 use Rattle.std.proofs.lemmas.Bool.{cases_lt}
 use Rattle.sfi_policy.specs.declared.format.Format.{Format}
 use Rattle.sfi_policy.specs.Formats.{code_most}
 use Rattle.sfi_policy.specs.Limits.{bundle_size}
+use Rattle.sfi_image.specs.Spelling.{Part, AreWords}
 use Rattle.sfi_image.specs.Regions.{IsCodeRegion}
+use Rattle.sfi_image.specs.Parts.{IsRightPart}
 use Rattle.sfi_image.specs.Laws.{WholeBundles, CodeEnds}
 use Rattle.sfi_image.proofs.Formats.{code_at_most}
 
@@ -54,4 +56,28 @@ whole_bundles format base size address region =
     (whole.0, whole.1, whole.2, whole.3, region_end format base size address region)
 
 pub code_end : CodeEnds
-code_end p right = region_end p.format p.code_base _ right.words.fields.code_base right.code_placed
+code_end p right = region_end p.format p.code_base _ right.code_base right.code_placed
+
+-- each number of a right sandbox has 32 bits
+pub right_words : (p : Part) → IsRightPart p → AreWords p
+right_words p right =
+    let code_end = code_end p right in
+    let code_most = right.code_placed.at_most in
+    let format_most = code_at_most p.format in
+    let data_most = right.data_placed.at_most in
+    let data_end = right.guard_room.above in
+    let start = right.start.held.1 in
+    let few_gates = right.gate_count in
+    let few_init = right.init_len in
+    record {
+      fields = record {
+        code_base = right.code_base;
+        code_size = omega arith;
+        data_base = omega arith;
+        data_size = omega arith;
+        start = omega arith;
+        gate_count = omega arith;
+        init_len = omega arith;
+      };
+      gates = λ k d within. let at = (right.gates.starts k d within).held.1 in let service = right.gates.services k d within in record { address = omega arith; service = omega arith };
+    }

@@ -42,7 +42,7 @@ pub right_part : (before : List Span) (p : Part) (f : Fields) → fields_of p �
 right_part before p f is words passed gate_words gates =
     let all = all_pass before (fields_of p) field_tests (subst (λ (g : Fields). IsFirstFault before g field_tests None) (sym is) passed) in (
       record {
-        words = record { fields = subst AreFieldWords (sym is) words; gates = gate_words };
+        code_base = (subst AreFieldWords (sym is) words).code_base;
         code_placed = all.0;
         data_placed = all.1.0;
         guard_room = all.1.1.0;

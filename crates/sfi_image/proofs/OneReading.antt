@@ -24,6 +24,7 @@ use Rattle.sfi_image.proofs.Formats.{one_magic, length-magic, length_of_magic, t
 use Rattle.sfi_image.proofs.GateLists.{front_gates}
 use Rattle.sfi_image.proofs.SpanLists.{front_apart}
 use Rattle.sfi_image.proofs.FieldTests.{part_passes}
+use Rattle.sfi_image.proofs.Bundles.{right_words}
 use Rattle.sfi_image.proofs.Cancelling.{same_front, same_number, same_gate, same_fields, same_part, same_list, fronts, GoesOn, length-gate, length-fields, part_split}
 
 -- ---- the fields
@@ -127,7 +128,7 @@ no_part_fault : (format : Format) (before : List Span) (p : Part) (after : List 
     → IsPartFault format before (part p ++ after) k → ⊥
 no_part_fault format before p after k kind right apart (inl b) = omega (arith, b.0, ap length (part_split p after), length-fields (fields_of p) (flat_map gate p.gates ++ (p.code ++ (p.init ++ after))))
 no_part_fault format before p after k kind right apart (inr (g, more, eb, wb, fb, b)) =
-    let same = same_fields (fields_of p) g (flat_map gate p.gates ++ (p.code ++ (p.init ++ after))) more right.words.fields wb (kind ∙ sym fb) (sym (part_split p after) ∙ eb) in
+    let same = same_fields (fields_of p) g (flat_map gate p.gates ++ (p.code ++ (p.init ++ after))) more (right_words p right).fields wb (kind ∙ sym fb) (sym (part_split p after) ∙ eb) in
     beyond (subst (λ (t : List ℕ). AfterFields before (fields_of p) t k) (sym same.1) (subst (λ (h : Fields). AfterFields before h more k) (sym same.0) b))
   where
     long : length p.code + length p.init ≤ length (p.code ++ (p.init ++ after))
@@ -135,7 +136,7 @@ no_part_fault format before p after k kind right apart (inr (g, more, eb, wb, fb
 
     beyond : AfterFields before (fields_of p) (flat_map gate p.gates ++ (p.code ++ (p.init ++ after))) k → ⊥
     beyond (inl h) = not_some k (one_field_fault before (fields_of p) field_tests None (Some k) (part_passes before p right apart) h)
-    beyond (inr h) = no_body_fault (fields_of p) p.gates (p.code ++ (p.init ++ after)) k right.words.gates right.gates refl long h.1
+    beyond (inr h) = no_body_fault (fields_of p) p.gates (p.code ++ (p.init ++ after)) k (right_words p right).gates right.gates refl long h.1
 
 -- ---- the sandboxes
 
@@ -162,7 +163,7 @@ unfolding RightOf
 format_is format p a = a.0
 
 same_right : (format : Format) (p q : Part) (r s : List ℕ) → RightOf format p → RightOf format q → part p ++ r ≡ part q ++ s → (p ≡ q) × (r ≡ s)
-same_right format p q r s a b e = same_part p q r s (right_of format p a).words (right_of format q b).words (format_is format p a ∙ sym (format_is format q b)) e
+same_right format p q r s a b e = same_part p q r s (right_words p (right_of format p a)) (right_words q (right_of format q b)) (format_is format p a ∙ sym (format_is format q b)) e
 
 after_parts_count : (format : Format) (n : ℕ) (ps : List Part) (rest : List ℕ) (k : LayoutFault) → AfterParts format n ps rest k → length ps ≤ n
 after_parts_count format n ps rest k (inl a) = omega (arith, a.0)

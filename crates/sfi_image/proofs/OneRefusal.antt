@@ -23,6 +23,7 @@ use Rattle.sfi_image.specs.private.Outcome.{Reads}
 use Rattle.sfi_image.proofs.GateLists.{front_gates}
 use Rattle.sfi_image.proofs.SpanLists.{front_apart}
 use Rattle.sfi_image.proofs.FieldTests.{part_passes}
+use Rattle.sfi_image.proofs.Bundles.{right_words}
 use Rattle.sfi_image.proofs.Cancelling.{part_split}
 use Rattle.sfi_image.proofs.OneReading.{one_field_fault, same_some, not_some, no_fault}
 
@@ -91,7 +92,7 @@ as_read ps k most are words (inr h) =
 -- right sandboxes have no fault
 pub none_of_right : (ps : List Part) (k : LayoutFault) → IsRightLayout ps → HaveFault ps k → ⊥
 none_of_right ps k right h =
-    let words : All AreWords ps = λ i d lt. (right.right.each i d lt).words in
+    let words : All AreWords ps = λ i d lt. right_words _ (right.right.each i d lt) in
     no_fault (spelling ps) ps k (record { bytes_are = refl; layout = right }) (as_read ps k right.at_most right.one_format words h)
 
 -- ---- one fault

@@ -52,8 +52,8 @@ pub right_bounded : (p : Part) → IsRightPart p → All IsBounded (spans_of (fi
 right_bounded p right =
     let most = code_at_most p.format in
     All-from_recursion IsBounded (spans_of (fields_of p)) (
-      record { some = omega (arith, right.code_placed.at_least); end = omega (arith, right.words.fields.code_base, right.code_placed.at_most) },
-      (record { some = omega arith; end = omega (arith, right.words.fields.data_base, right.data_placed.at_most) }, tt),
+      record { some = omega (arith, right.code_placed.at_least); end = omega (arith, right.code_base, right.code_placed.at_most) },
+      (record { some = omega arith; end = omega (arith, right.guard_room.above, right.data_placed.at_most) }, tt),
     )
 
 pub PartsRead-push : (format : Format) (bytes : List ℕ) (ps : List Part) (before : List Span) (rest after : List ℕ) (n : ℕ) (p : Part) (f : Fields)

@@ -16,18 +16,7 @@ part_in_second p right =
     let most = code_at_most p.format in
     let small = right.code_placed.at_most in
     record {
-      words = record {
-        fields = record {
-          code_base = right.words.fields.code_base;
-          code_size = right.words.fields.code_size;
-          data_base = right.words.fields.data_base;
-          data_size = right.words.fields.data_size;
-          start = right.words.fields.start;
-          gate_count = right.words.fields.gate_count;
-          init_len = right.words.fields.init_len;
-        };
-        gates = right.words.gates;
-      };
+      code_base = right.code_base;
       code_placed = record {
         power = right.code_placed.power;
         size_is = right.code_placed.size_is;

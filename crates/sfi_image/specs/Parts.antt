@@ -3,14 +3,14 @@ use Rattle.std.specs.Prelude.{◌≡◌, ◌≤◌, List, length}
 use Rattle.std.specs.List.{All, AllPairs}
 use Rattle.sfi_policy.specs.Limits.{gates_most, sandboxes_most}
 use Rattle.sfi_policy.specs.declared.format.Format.{Format}
-use Rattle.sfi_image.specs.Spelling.{Part, format_of, AreWords}
+use Rattle.sfi_image.specs.Spelling.{Part, format_of, IsWord}
 use Rattle.sfi_image.specs.Spans.{AreApart, code_region, spans}
 use Rattle.sfi_image.specs.Regions.{IsCodeRegion, IsDataRegion, HasGuardRoom, IsBundleStart}
 use Rattle.sfi_image.specs.Gates.{AreGates}
 
--- each number has 32 bits, and the sandbox passes each test but Overlap: its own code and guard zones may still meet
+-- the code's first address has 32 bits, and the sandbox passes each test but Overlap: its own code and guard zones may still meet
 pub record IsRightPart (p : Part) : Type 0 where
-  pub words : AreWords p
+  pub code_base : IsWord p.code_base
   pub code_placed : IsCodeRegion p.format p.code_base (length p.code)
   pub data_placed : IsDataRegion p.data_base p.data_size
   pub guard_room : HasGuardRoom p.data_base p.data_size

@@ -185,18 +185,7 @@ linked_lies number p q placed few linked =
     let few_init : length q.init ≡ length p.bytes = ap length init in
     record {
       right = record {
-        words = record {
-          fields = record {
-            code_base = omega arith;
-            code_size = omega arith;
-            data_base = omega arith;
-            data_size = omega arith;
-            start = omega arith;
-            gate_count = omega arith;
-            init_len = omega arith;
-          };
-          gates = λ k d lt. let h = starts k d lt in let s = serve k d lt in let held = h.held.1 in record { address = omega arith; service = omega arith };
-        };
+        code_base = omega arith;
         code_placed = record {
           power = room.power;
           size_is = room.size_is;

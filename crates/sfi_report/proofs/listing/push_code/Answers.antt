@@ -9,7 +9,7 @@ loop-k-init c = λ format. empty_listing (view format c.args.part.now) (string_b
 
 pub overflow_add-part : goal.overflow_add-part
 overflow_add-part c =
-    let whole = c.whole_bundles.ensures c.requires.0 c.args.part.now.code_base (length c.args.part.now.code.now) c.requires.1.words.fields.code_base c.requires.1.code_placed in
+    let whole = c.whole_bundles.ensures c.requires.0 c.args.part.now.code_base (length c.args.part.now.code.now) c.requires.1.code_base c.requires.1.code_placed in
     let end = whole.4 in
     let count = c.as_chunks.ensures.front_len in
     let below = c.loop-k-test.true in
@@ -17,7 +17,7 @@ overflow_add-part c =
 
 pub push_bundle-requires : goal.push_bundle-requires
 push_bundle-requires c =
-    let whole = c.whole_bundles.ensures c.requires.0 c.args.part.now.code_base (length c.args.part.now.code.now) c.requires.1.words.fields.code_base c.requires.1.code_placed in
+    let whole = c.whole_bundles.ensures c.requires.0 c.args.part.now.code_base (length c.args.part.now.code.now) c.requires.1.code_base c.requires.1.code_placed in
     let end = whole.4 in
     let count = c.as_chunks.ensures.front_len in
     let below = c.loop-k-test.true in
@@ -33,7 +33,7 @@ loop-k-preserved c = λ format.
 
 pub returns : goal.returns
 returns c = λ format.
-    let whole = c.whole_bundles.ensures c.requires.0 c.args.part.now.code_base (length c.args.part.now.code.now) c.requires.1.words.fields.code_base c.requires.1.code_placed in
+    let whole = c.whole_bundles.ensures c.requires.0 c.args.part.now.code_base (length c.args.part.now.code.now) c.requires.1.code_base c.requires.1.code_placed in
     let size = whole.2 in
     let count = c.as_chunks.ensures.front_len in
     let over = c.loop-k-test.false in

@@ -19,7 +19,7 @@ loop-k-init c = record {
 
 pub overflow_add-address : goal.overflow_add-address
 overflow_add-address c =
-    let whole = c.whole_bundles.ensures c.args.format c.args.part.now.code_base (length c.args.part.now.code.now) c.requires.words.fields.code_base c.requires.code_placed in
+    let whole = c.whole_bundles.ensures c.args.format c.args.part.now.code_base (length c.args.part.now.code.now) c.requires.code_base c.requires.code_placed in
     let end = whole.4 in
     let count = c.as_chunks.ensures.front_len in
     let below = c.loop-k-test.true in
@@ -27,7 +27,7 @@ overflow_add-address c =
 
 pub scan_bundle-requires : goal.scan_bundle-requires
 scan_bundle-requires c =
-    let whole = c.whole_bundles.ensures c.args.format c.args.part.now.code_base (length c.args.part.now.code.now) c.requires.words.fields.code_base c.requires.code_placed in
+    let whole = c.whole_bundles.ensures c.args.format c.args.part.now.code_base (length c.args.part.now.code.now) c.requires.code_base c.requires.code_placed in
     let end = whole.4 in
     let count = c.as_chunks.ensures.front_len in
     let below = c.loop-k-test.true in
@@ -37,7 +37,7 @@ pub loop-k-preserved : goal.loop-k-preserved
 loop-k-preserved c =
     let at = c.args.part.now.code_base + 16 * c.loop-k.k in
     let old = c.loop-k.invariant in
-    let whole = c.whole_bundles.ensures c.args.format c.args.part.now.code_base (length c.args.part.now.code.now) c.requires.words.fields.code_base c.requires.code_placed in
+    let whole = c.whole_bundles.ensures c.args.format c.args.part.now.code_base (length c.args.part.now.code.now) c.requires.code_base c.requires.code_placed in
     let even : at % 16 ≡ 0 = let base = whole.3 in omega arith in
     let next : at + 16 ≡ c.args.part.now.code_base + 16 * (c.loop-k.k + 1) = omega arith in
     let listed = c.is_first_at-listed.ensures ∙ first_is at c.loop-k.gates.now old.ahead ∙ old.same at (omega arith) in
@@ -65,7 +65,7 @@ loop-k-preserved c =
 
 pub returns : goal.returns
 returns c =
-    let whole = c.whole_bundles.ensures c.args.format c.args.part.now.code_base (length c.args.part.now.code.now) c.requires.words.fields.code_base c.requires.code_placed in
+    let whole = c.whole_bundles.ensures c.args.format c.args.part.now.code_base (length c.args.part.now.code.now) c.requires.code_base c.requires.code_placed in
     let count = c.as_chunks.ensures.front_len in
     let over = c.loop-k-test.false in
     let up = c.loop-k.auto.k-end in
