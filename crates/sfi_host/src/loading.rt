@@ -6,10 +6,11 @@ ghost use Rattle.sfi_host.specs.Loading.{first_hart, first_seat, with_part, with
 ghost use Rattle.sfi_host.specs.Sandboxes.{seat_of, seats_of};
 
 use crate::region::Region;
-use crate::sandbox::{Sandbox, register};
+use crate::sandbox::Sandbox;
 use crate::status::Status;
 use rv_mem::Memory;
 use rv_step::Cpu;
+use rv_word::Reg;
 use sfi_image::{Reserved, SandboxPart};
 use sfi_policy::{
     CODE_BASE_REGISTER, CODE_MASK_REGISTER, DATA_BASE_REGISTER, DATA_MASK_REGISTER, FIRST_FRAME,
@@ -46,13 +47,13 @@ fn first_cpu(format: Format, part: &SandboxPart<'_>) -> Cpu
     let reserved = Reserved::of(part);
     let mut cpu = Cpu::at(part.start).unwrap();
     cpu.set_reg(
-        register(STACK_POINTER),
+        Reg::numbered(STACK_POINTER),
         part.data_base + part.data_size - FIRST_FRAME,
     );
-    cpu.set_reg(register(CODE_BASE_REGISTER), reserved.code_base);
-    cpu.set_reg(register(CODE_MASK_REGISTER), reserved.code_mask);
-    cpu.set_reg(register(DATA_BASE_REGISTER), reserved.data_base);
-    cpu.set_reg(register(DATA_MASK_REGISTER), reserved.data_mask);
+    cpu.set_reg(Reg::numbered(CODE_BASE_REGISTER), reserved.code_base);
+    cpu.set_reg(Reg::numbered(CODE_MASK_REGISTER), reserved.code_mask);
+    cpu.set_reg(Reg::numbered(DATA_BASE_REGISTER), reserved.data_base);
+    cpu.set_reg(Reg::numbered(DATA_MASK_REGISTER), reserved.data_mask);
     cpu
 }
 

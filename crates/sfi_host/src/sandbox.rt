@@ -1,10 +1,8 @@
 //! One sandbox of a world.
-ghost use Rattle.std.specs.Prelude.{◌≡◌, ◌<◌};
 
 use crate::region::Region;
 use crate::status::Status;
 use rv_step::Cpu;
-use rv_word::Reg;
 use sfi_image::Gate;
 use sfi_policy::Format;
 
@@ -27,11 +25,3 @@ pub const A0_REGISTER: u8 = 10;
 
 /// x11, which is a1: the second argument register, and the second result register.
 pub const A1_REGISTER: u8 = 11;
-
-/// The register of that number.
-pub fn register(number: u8) -> Reg
-    requires { number < 32 }
-    ensures { result ≡ number }
-{
-    Reg::new(number).unwrap()
-}

@@ -8,13 +8,13 @@ use crate::console::Console;
 use crate::gates::{GateAnswer, Gates};
 use crate::guest::{Guest, Request};
 use crate::region::Region;
-use crate::sandbox::register;
 use crate::status::Status;
 use crate::turn::{RunAnswer, Turn};
 use crate::world::World;
 use rv_mem::laws::written_is_there;
 use rv_mem::{Memory, Segments, Width};
 use rv_step::Cause;
+use rv_word::Reg;
 use sfi_check::check;
 use std::alloc::Global;
 use std::process::Abort;
@@ -259,7 +259,7 @@ fn the_smallest_image_traps(rt: HostRuntime) -> Result<(), Fail> {
         (Some(REGION), None)
     );
     let cpu = world.cpu(0).expect(&rt, "a sandbox");
-    assert_eq!(rt; (cpu.pc(), cpu.reg(register(27))), (0x0100_0000, 255));
+    assert_eq!(rt; (cpu.pc(), cpu.reg(Reg::numbered(27))), (0x0100_0000, 255));
     let mut console = Console::new(alloc, 1, &[])?;
     let plan = [
         Turn {
