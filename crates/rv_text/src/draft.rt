@@ -12,7 +12,7 @@ ghost use Rattle.rv_text.specs.SoFar.{begin, here, with_names, with_label, with_
 use crate::cause::TextCause;
 use crate::statement::SandboxStatement;
 use rv_source::{Body, Item, Named, Names, SourceGate, SourcePart};
-use sfi_policy::{Format, GATES_MOST, ITEMS_MOST};
+use sfi_policy::{Format, GATE_COUNT_MOST, ITEM_COUNT_MOST};
 use std::alloc::Global;
 use std::marker::Model;
 
@@ -120,7 +120,7 @@ impl Draft {
         ensures { AddsUpTo gates_most (length self.old.sandbox.gates + 1) result self.new
             (with_gate name.now service self.old) }
     {
-        if self.gates.len() >= GATES_MOST as usize {
+        if self.gates.len() >= GATE_COUNT_MOST {
             return Err(TextCause::Limit);
         }
         let place = self.names.place_of(name);
@@ -179,7 +179,7 @@ impl Draft {
         ensures { AddsUpTo items_most (length self.old.sandbox.items + 1) result self.new
             (with_bodies line (body ∷ []) self.old) }
     {
-        if self.items.len() >= ITEMS_MOST as usize {
+        if self.items.len() >= ITEM_COUNT_MOST {
             return Err(TextCause::Limit);
         }
         self.items.push(Item {

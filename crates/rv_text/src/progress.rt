@@ -21,7 +21,7 @@ use crate::line::{read_keyword, read_statement};
 use crate::read::is_label;
 use crate::statement::{Place, Statement};
 use rv_source::{Source, SourcePart};
-use sfi_policy::{Format, NAME_MOST};
+use sfi_policy::{Format, NAME_MOST_BYTES};
 use std::alloc::Global;
 use std::marker::Model;
 
@@ -159,7 +159,7 @@ impl Progress {
         match &mut self.begun {
             None => Err(TextCause::Directive),
             Some(draft) => {
-                if name.len() > NAME_MOST as usize {
+                if name.len() > NAME_MOST_BYTES {
                     Err(TextCause::Limit)
                 } else if draft.is_free(name) {
                     draft.label(alloc, name)

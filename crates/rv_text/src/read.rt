@@ -18,7 +18,7 @@ use crate::number::number;
 use crate::operands::Operands;
 use crate::register::register;
 use rv_word::Reg;
-use sfi_policy::NAME_MOST;
+use sfi_policy::NAME_MOST_BYTES;
 
 /// The register that the token names.
 fn read_register(token: &str) -> Result<Reg, TextCause>
@@ -85,7 +85,7 @@ pub fn is_label(token: &str) -> bool
 fn is_too_long(token: &str) -> bool
     ensures { result ≡ is_too_long token.now }
 {
-    begins_label(token) && token.len() > NAME_MOST as usize
+    begins_label(token) && token.len() > NAME_MOST_BYTES
 }
 
 /// The name that the token is: one that a label, a gate or a target may have.

@@ -4,7 +4,7 @@ ghost use Rattle.sfi_policy.specs.Limits.{bundle_size, guard, region_least, data
 ghost use Rattle.sfi_policy.specs.Registers.{code_base_register, code_mask_register, data_base_register, data_mask_register, scratch, stack_pointer};
 ghost use Rattle.sfi_policy.specs.Pairs.{stub};
 ghost use Rattle.sfi_policy.specs.Laws.{PairsAreFound, StubIsSpelled};
-ghost use Rattle.sfi_policy.specs.declared.limits.TheConstants.{BUNDLE_SIZE, BUNDLE_BYTES, GUARD, REGION_LEAST, DATA_MOST, SANDBOXES_MOST, GATES_MOST, SERVICE_MOST, ITEMS_MOST, NAME_MOST, FIRST_FRAME, REGION_LEAST_BYTES, SANDBOX_COUNT_MOST};
+ghost use Rattle.sfi_policy.specs.declared.limits.TheConstants.{BUNDLE_SIZE, BUNDLE_BYTES, GUARD, REGION_LEAST, DATA_MOST, SANDBOXES_MOST, GATES_MOST, SERVICE_MOST, ITEMS_MOST, NAME_MOST, FIRST_FRAME, REGION_LEAST_BYTES, SANDBOX_COUNT_MOST, GATE_COUNT_MOST, ITEM_COUNT_MOST, NAME_MOST_BYTES};
 ghost use Rattle.sfi_policy.specs.declared.registers.TheConstants.{CODE_BASE_REGISTER, CODE_MASK_REGISTER, DATA_BASE_REGISTER, DATA_MASK_REGISTER, SCRATCH, STACK_POINTER};
 ghost use Rattle.sfi_policy.specs.declared.stub.TheConstants.{STUB};
 
@@ -23,6 +23,9 @@ pub fn limits_agree()
     ensures first_frame { FIRST_FRAME ≡ first_frame }
     ensures region_least_bytes { REGION_LEAST_BYTES ≡ region_least }
     ensures sandbox_count_most { SANDBOX_COUNT_MOST ≡ sandboxes_most }
+    ensures gate_count_most { GATE_COUNT_MOST ≡ gates_most }
+    ensures item_count_most { ITEM_COUNT_MOST ≡ items_most }
+    ensures name_most_bytes { NAME_MOST_BYTES ≡ name_most }
 {}
 
 /// Each register of the code is that of the definitions.

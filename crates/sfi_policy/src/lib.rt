@@ -16,8 +16,9 @@ mod stub;
 pub use format::Format;
 pub use laws::{limits_agree, pairs_are_found, registers_agree, stub_agrees, stub_is_spelled};
 pub use limits::{
-    BUNDLE_BYTES, BUNDLE_SIZE, DATA_MOST, FIRST_FRAME, GATES_MOST, GUARD, ITEMS_MOST, NAME_MOST,
-    REGION_LEAST, REGION_LEAST_BYTES, SANDBOX_COUNT_MOST, SANDBOXES_MOST, SERVICE_MOST,
+    BUNDLE_BYTES, BUNDLE_SIZE, DATA_MOST, FIRST_FRAME, GATE_COUNT_MOST, GATES_MOST, GUARD,
+    ITEM_COUNT_MOST, ITEMS_MOST, NAME_MOST, NAME_MOST_BYTES, REGION_LEAST, REGION_LEAST_BYTES,
+    SANDBOX_COUNT_MOST, SANDBOXES_MOST, SERVICE_MOST,
 };
 pub use pairs::{code_pair, data_pair};
 pub use registers::{

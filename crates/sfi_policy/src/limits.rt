@@ -38,3 +38,12 @@ pub const REGION_LEAST_BYTES: usize = REGION_LEAST as usize;
 
 /// `SANDBOXES_MOST`, as a length of a list.
 pub const SANDBOX_COUNT_MOST: usize = SANDBOXES_MOST as usize;
+
+/// `GATES_MOST`, as a length of a list.
+pub const GATE_COUNT_MOST: usize = GATES_MOST as usize;
+
+/// `ITEMS_MOST`, as a length of a list.
+pub const ITEM_COUNT_MOST: usize = ITEMS_MOST as usize;
+
+/// `NAME_MOST`, as a length of bytes.
+pub const NAME_MOST_BYTES: usize = NAME_MOST as usize;
