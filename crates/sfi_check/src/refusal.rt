@@ -9,7 +9,7 @@ use thiserror::Error;
 #[derive(Debug, Drop, Error)]
 pub enum Refusal {
     /// The bytes are no image. This goes before findings.
-    #[error("layout fault {0}")]
+    #[error("layout fault {} {}", .0.number(), .0)]
     Layout(LayoutFault),
     /// All broken rules, by sandbox and then by address. There is at least one.
     #[error("broken rules")]

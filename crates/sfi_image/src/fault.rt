@@ -71,7 +71,7 @@ impl LayoutFault {
 #[derive(Debug, Drop, Error)]
 pub enum ImageFault {
     /// The bytes are no image.
-    #[error("layout fault {0}")]
+    #[error("layout fault {} {}", .0.number(), .0)]
     Layout(LayoutFault),
     /// Memory ran out; nothing is known of the bytes.
     #[error("out of memory")]

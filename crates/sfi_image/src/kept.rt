@@ -4,12 +4,10 @@ ghost use Rattle.sfi_policy.specs.Limits.{gates_most, sandboxes_most};
 ghost use Rattle.sfi_image.specs.declared.span.Span.{Span};
 
 use crate::span::Span;
-use sfi_policy::{GATES_MOST, SANDBOXES_MOST};
+use sfi_policy::{GATE_COUNT_MOST, SANDBOX_COUNT_MOST};
 use std::marker::Model;
 
-const SPANS_MOST: usize = 2 * SANDBOXES_MOST as usize;
-
-const GATES: usize = GATES_MOST as usize;
+const SPANS_MOST: usize = 2 * SANDBOX_COUNT_MOST;
 
 /// Spans, two for each of as many sandboxes as an image may have. Contracts see them as a list.
 #[derive(Drop)]
@@ -55,7 +53,7 @@ impl KeptSpans {
 /// The addresses of as many gates as a sandbox may have. Contracts see them as a list.
 #[derive(Drop)]
 pub(crate) struct KeptGates {
-    addresses: [u32; GATES],
+    addresses: [u32; GATE_COUNT_MOST],
     count: usize,
 }
 
@@ -72,7 +70,7 @@ impl KeptGates {
         ensures { result ≡ [] }
     {
         KeptGates {
-            addresses: [0; GATES],
+            addresses: [0; GATE_COUNT_MOST],
             count: 0,
         }
     }

@@ -124,6 +124,6 @@ fn says_faults(rt: HostRuntime) -> Result<(), Fail> {
         assert_eq!(rt; said.as_str(), text);
     }
     let whole = format!(in alloc; "{}", ImageFault::Layout(LayoutFault::Magic))?;
-    assert_eq!(rt; whole.as_str(), "layout fault Magic");
+    assert_eq!(rt; whole.as_str(), "layout fault 1 Magic");
     Ok(())
 }
