@@ -25,7 +25,7 @@ pub struct Operands<'a> {
 pub fn x0() -> Reg
     ensures { result ≡ 0 }
 {
-    Reg::new(0).unwrap()
+    Reg::numbered(0)
 }
 
 impl<'a> Operands<'a> {

@@ -99,7 +99,7 @@ pub fn branch_to<'a>(cond: Cond, rs1: Reg, rs2: Reg, name: &'a str) -> Statement
 fn ra() -> Reg
     ensures { result ≡ 1 }
 {
-    Reg::new(1).unwrap()
+    Reg::numbered(1)
 }
 
 impl Pseudo {

@@ -27,7 +27,7 @@ pub enum ConvertFault {
     #[error("{0}")]
     Refused(Refusal),
     /// They begin as an image of the second format does. This goes before all else.
-    #[error("NotOld")]
+    #[error("convert fault 2 NotOld")]
     NotOld,
     /// The image is accepted, but the same sandboxes break a rule of the second format: all these places, by sandbox and then by address.
     #[error("broken rules of the second format")]

@@ -6,7 +6,7 @@ use Rattle.sfi_host.specs.Hosts.{Call, Answer, Host}
 use Rattle.sfi_host.specs.Joint.{Machine, Joined, joined, joint}
 use Rattle.sfi_host.specs.Plans.{IsJoint, IsCutJoint}
 
--- what a run comes to that goes on where another one left off
+-- two runs as one, of which the second goes on where the first left off
 abbrev pub after_run : {S : Type 0} → Joined S → Joined S → Joined S
 after_run first second = record {
   slots = second.slots;
@@ -43,7 +43,7 @@ PlansFollow S =
     → IsJoint machine answer (p ++ q) old before new after
 
 -- each turn of one plan was taken, and another plan ended at a call that the host may refuse: so did
--- both, in the same turn
+-- both, at that place after the first plan's turns
 abbrev pub CutFollows : Type 0 → Type 0
 CutFollows S =
     (machine : Machine) (answer : S → Call → Answer S) (may_refuse : S → Call → Bool)

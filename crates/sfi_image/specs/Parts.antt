@@ -8,7 +8,8 @@ use Rattle.sfi_image.specs.Spans.{AreApart, code_region, spans}
 use Rattle.sfi_image.specs.Regions.{IsCodeRegion, IsDataRegion, HasGuardRoom, IsBundleStart}
 use Rattle.sfi_image.specs.Gates.{AreGates}
 
--- the code's first address has 32 bits, and the sandbox passes each test but Overlap: its own code and guard zones may still meet
+-- the code's first address has 32 bits, and the sandbox passes each test but Overlap: its own code
+-- and guard zones may still meet. (All its other numbers have 32 bits by these tests.)
 pub record IsRightPart (p : Part) : Type 0 where
   pub code_base : IsWord p.code_base
   pub code_placed : IsCodeRegion p.format p.code_base (length p.code)

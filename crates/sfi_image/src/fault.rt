@@ -70,7 +70,7 @@ impl LayoutFault {
 /// Why no image was read.
 #[derive(Debug, Drop, Error)]
 pub enum ImageFault {
-    /// The bytes are no image.
+    /// The bytes are no image. Its text is the line that the program prints.
     #[error("layout fault {} {}", .0.number(), .0)]
     Layout(LayoutFault),
     /// Memory ran out; nothing is known of the bytes.

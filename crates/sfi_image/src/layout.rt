@@ -16,10 +16,8 @@ use crate::fields::{Fields, OwnSpans, spans_after};
 use crate::gates::is_next_gate;
 use crate::part::{Gate, SandboxPart};
 use crate::span::Span;
-use sfi_policy::Format;
+use sfi_policy::{Format, SANDBOX_COUNT_MOST};
 use std::alloc::Global;
-
-const SANDBOXES_MOST: usize = sfi_policy::SANDBOXES_MOST as usize;
 
 // The length, or the greatest number where it has more than 32 bits.
 fn capped(len: usize) -> u32
@@ -104,7 +102,7 @@ pub(crate) fn check_layout(
     ensures right { OnOk result (IsRightLayout (views format parts.now)) }
     ensures wrong { IfErr result (λ e. IfLayout e (HaveFault (views format parts.now))) }
 {
-    if parts.is_empty() || parts.len() > SANDBOXES_MOST {
+    if parts.is_empty() || parts.len() > SANDBOX_COUNT_MOST {
         return Err(ImageFault::Layout(LayoutFault::Count));
     }
     let mut before = Vec::new(alloc);

@@ -174,7 +174,7 @@ impl LayoutReader {
         }
     }
 
-    // What comes next where no bundle does: out of line, since it is asked but a few times for a sandbox.
+    // What comes next where no bundle does: out of line, since it is out of line, since most that is read is bundles.
     #[inline(never)]
     fn wants_no_bundle(&self) -> OtherWant
         requires { self.now.next ≢ Next.Code }

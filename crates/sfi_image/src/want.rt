@@ -29,7 +29,8 @@ pub enum Want {
     Nothing,
 }
 
-/// What comes next where no bundle does: a type without bundles, so that only a bundle's own way leads to one.
+/// What a reader wants where no bundle comes next: a type of its own, so that `Want::Bundle` is made
+/// in one place.
 #[derive(Clone, Copy)]
 pub(crate) enum OtherWant {
     Field(usize),

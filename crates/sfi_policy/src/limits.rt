@@ -45,5 +45,5 @@ pub const GATE_COUNT_MOST: usize = GATES_MOST as usize;
 /// `ITEMS_MOST`, as a length of a list.
 pub const ITEM_COUNT_MOST: usize = ITEMS_MOST as usize;
 
-/// `NAME_MOST`, as a length of bytes.
+/// `NAME_MOST`, as the length of a name's bytes.
 pub const NAME_MOST_BYTES: usize = NAME_MOST as usize;

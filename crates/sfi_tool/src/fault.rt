@@ -8,7 +8,7 @@ ghost use Rattle.sfi_tool.specs.declared.fault.Stop.TheVariants.{Memory};
 
 use rv_text::{TextCause, TextFault};
 use sfi_build::BuildFault;
-use sfi_image::LayoutFault;
+use sfi_image::{ImageFault, LayoutFault};
 use sfi_link::LinkFault;
 use sfi_rewrite::RewriteFault;
 use std::alloc::{AllocError, Global};
@@ -53,7 +53,7 @@ impl From<AllocError> for Stop {
     }
 }
 
-/// The line that is the text of a fault: of the input's text, or of the source.
+/// A fault's text, as a line: of the input's faults and of a build's, whose text is the whole line.
 pub(crate) fn fault_line<F: Display>(alloc: Global, fault: &F) -> Result<String, AllocError> {
     format!(in alloc; "{fault}\n")
 }
@@ -80,8 +80,7 @@ pub(crate) fn fault_numbered(number: u32) -> LayoutFault
 
 /// The line that names a fault of the image.
 pub(crate) fn layout_line(alloc: Global, fault: LayoutFault) -> Result<String, AllocError> {
-    let number = fault.number();
-    format!(in alloc; "layout fault {number} {fault}\n")
+    fault_line(alloc, &ImageFault::Layout(fault))
 }
 
 /// Why a build stops: want of memory is no fault of the text.

@@ -1,4 +1,5 @@
 //! Images as bytes and as parts, and the names of their faults.
+use sfi_check::Refusal;
 use sfi_image::{Gate, ImageFault, LayoutFault, parse_image, write_image, write_image_as};
 use sfi_policy::Format;
 use std::alloc::Global;
@@ -125,5 +126,7 @@ fn says_faults(rt: HostRuntime) -> Result<(), Fail> {
     }
     let whole = format!(in alloc; "{}", ImageFault::Layout(LayoutFault::Magic))?;
     assert_eq!(rt; whole.as_str(), "layout fault 1 Magic");
+    let refused = format!(in alloc; "{}", Refusal::Layout(LayoutFault::Trailing))?;
+    assert_eq!(rt; refused.as_str(), "layout fault 11 Trailing");
     Ok(())
 }

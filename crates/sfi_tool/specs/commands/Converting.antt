@@ -37,18 +37,18 @@ SaysConversion bytes status text =
 
 -- the bytes are an image of the first format with findings, or one whose sandboxes have findings in
 -- the second alone
-abbrev pub HasFindingsInEither : List ℕ → Type 0
-HasFindingsInEither bytes =
+abbrev pub HasFindingsForConvert : List ℕ → Type 0
+HasFindingsForConvert bytes =
     (found : List Finding)
     × (((¬ IsSecond bytes) × HasFindings bytes found) ⊎ HasStackFindings bytes found)
 
 -- ---- the command
 
--- `convert`, to which bytes that begin as an image of the second format does are a fault
+-- `convert`. Bytes that begin as an image of the second format does have a fault, whatever follows
 abbrev pub convert : Meaning
 convert = record {
   says = SaysConversion;
   is_done = λ bytes. (new : List ℕ) × IsConversion bytes new;
-  is_refused = HasFindingsInEither;
+  is_refused = HasFindingsForConvert;
   has_fault = λ bytes. HasSomeFault bytes ⊎ IsSecond bytes;
 }

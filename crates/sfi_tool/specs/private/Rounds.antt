@@ -6,7 +6,8 @@ use Rattle.sfi_host.specs.Plans.{IsJoint}
 use Rattle.sfi_host.specs.Slots.{Slot}
 use Rattle.sfi_tool.specs.RunLines.{plan_of}
 
--- sandboxes and console are those of the joint run of so many rounds, of so many steps for each of so many sandboxes
+-- sandboxes and console after so many rounds, in each of which so many sandboxes take a turn of so
+-- many steps
 abbrev pub AreTaken : ℕ → ℕ → ℕ → List Slot → ConsoleState → List Slot → ConsoleState → Type 0
 AreTaken rounds quantum count old before new after =
     (machine : Machine) → IsMachine machine

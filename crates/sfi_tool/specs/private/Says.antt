@@ -1,4 +1,4 @@
--- Words of private contracts and proofs, beside those of Says.antt.
+-- Words of private contracts and proofs, beside those of Says and of commands.
 use Rattle.std.specs.Prelude.{◌≡◌, ℕ, List, Result, Ok, Err}
 use Rattle.sfi_image.specs.Spelling.{Part}
 use Rattle.sfi_image.specs.Faults.{IsFault}
