@@ -38,7 +38,8 @@ may_put s key = nat_lt (length s.values) most_keys || is_some (value_at s key)
 
 -- the caller goes on, with these a0 and a1; its data bytes stay
 abbrev pub replied : Call → ℕ → ℕ → StoreState → Answer StoreState
-replied c a0 a1 s = record { reply = record { way = Replied; a0 = a0; a1 = a1; bytes = c.bytes }; host = s }
+replied c a0 a1 s =
+    record { reply = record { way = Replied; a0 = a0; a1 = a1; bytes = c.bytes }; host = s }
 
 -- a0 after a put, and after one of a new key to a full store
 abbrev pub done : ℕ
@@ -49,7 +50,8 @@ full = 1
 
 -- put: the key a0 gets the value a1; a0 says whether it has, or the store is full
 abbrev pub put : StoreState → Call → Answer StoreState
-put s c = if may_put s c.a0 then replied c done c.a1 (with_value s c.a0 c.a1) else replied c full c.a1 s
+put s c = if may_put s c.a0 then replied c done c.a1 (with_value s c.a0 c.a1)
+    else replied c full c.a1 s
 
 -- get: a0 becomes the value of the key a0, and a1 becomes 1; or both 0 where it has none
 abbrev pub get_of : StoreState → Call → Option ℕ → Answer StoreState
@@ -61,10 +63,12 @@ get s c = get_of s c (value_at s c.a0)
 
 -- exit and yield change nothing
 abbrev pub exits : StoreState → Call → Answer StoreState
-exits s c = record { reply = record { way = Exit c.a0; a0 = c.a0; a1 = c.a1; bytes = c.bytes }; host = s }
+exits s c =
+    record { reply = record { way = Exit c.a0; a0 = c.a0; a1 = c.a1; bytes = c.bytes }; host = s }
 
 abbrev pub yields : StoreState → Call → Answer StoreState
-yields s c = record { reply = record { way = Yield; a0 = c.a0; a1 = c.a1; bytes = c.bytes }; host = s }
+yields s c =
+    record { reply = record { way = Yield; a0 = c.a0; a1 = c.a1; bytes = c.bytes }; host = s }
 
 -- a0 after a call of a service that isn't there
 abbrev pub failed : ℕ

@@ -1,7 +1,8 @@
 //! An example of a host: two sandboxes exchange a value through a store of values by key.
 //!
-//! A host is a type that implements [`Gates`](sfi_host::Gates): its meaning is a function, `store` of `specs/Store.antt`, and
-//! `call` is proved to answer what that function says. `tests.rt` builds two sandboxes, checks their image, and runs them with it.
+//! A host is a type that implements [`Gates`](sfi_host::Gates): its meaning is a function, `store`
+//! of `specs/Store.antt`, and `call` is proved to answer what that function says. `tests.rt` builds
+//! two sandboxes, checks their image, and runs them with it.
 #![tactic(auto)]
 
 mod serving;

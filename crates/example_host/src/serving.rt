@@ -36,7 +36,8 @@ impl Store {
         ensures same_reference { SameMemory guest.old guest.new }
         ensures others { LeavesOthers M.bytes guest.old guest.new }
         ensures answered { IsAnswered (put self.old) M.bytes guest.old guest.new self.new result }
-        ensures refused { IsRefused (may_want self.old) M.bytes guest.old guest.new self.old self.new result }
+        ensures refused { IsRefused (may_want self.old) M.bytes guest.old guest.new
+            self.old self.new result }
     {
         match self.put(guest.arg0(), guest.arg1()) {
             Ok(true) => guest.set0(DONE),

@@ -40,7 +40,8 @@ impl Store {
         self.values.get(&key).copied()
     }
 
-    /// Gives a key a value; `false` where the key is new and the store is full, and then nothing changed.
+    /// Gives a key a value; `false` where the key is new and the store is full,
+    /// and then nothing changed.
     pub fn put(&mut self, key: u32, value: u32) -> Result<bool, AllocError>
         ensures done { result ≡ Ok true → self.new ≡ with_value self.old key value }
         ensures full { result ≡ Ok false → self.new ≡ self.old }

@@ -6,8 +6,8 @@ use sfi_check::check;
 use sfi_host::{RunAnswer, Status, Turn, World};
 use std::test::Fail;
 
-// The first puts 42 under the key 7, and exits with what put answers. The second asks for the key until it has a value, and
-// exits with that.
+// The first puts 42 under the key 7, and exits with what put answers. The second asks for the key
+// until it has a value, and exits with that.
 const SOURCE: &str = ".sandbox 256
 .gate exit 0
 .gate put 1
@@ -43,7 +43,8 @@ const PLAN: [Turn; 3] = [
     },
 ];
 
-// Takes the turns of a plan. Where a put finds no memory it tries the rest once more, from the turn of that put on.
+// Takes the turns of a plan. Where a put finds no memory it tries the rest once more,
+// from the turn of that put on.
 fn run<M: Memory>(world: &mut World<M>, plan: &[Turn], store: &mut Store) -> RunAnswer {
     match world.run_plan(plan, store) {
         RunAnswer::Memory { turn } => world.run_plan(&plan[turn..], store),

@@ -27,8 +27,8 @@ Spells bytes i n = SpellsShort bytes i n ⊎ SpellsWide bytes i n
 
 -- fewer than two bytes, or fewer than four where the first halfword begins a 32-bit instruction
 abbrev pub IsCutShort : List ℕ → Type 0
-IsCutShort bytes =
-    (length bytes < 2) ⊎ ((length bytes < 4) × (length_of (from_le_bytes w16 (take 2 bytes)) ≡ Wide))
+IsCutShort bytes = (length bytes < 2)
+    ⊎ ((length bytes < 4) × (length_of (from_le_bytes w16 (take 2 bytes)) ≡ Wide))
 
 -- there are enough bytes, and none of their beginnings spells an instruction
 pub record SpellsNothing (bytes : List ℕ) : Type 0 where

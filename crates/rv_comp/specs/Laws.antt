@@ -33,7 +33,8 @@ SpelledInRange = (bytes : List ℕ) (i : Instr) (n : ℕ) → Spells bytes i n �
 -- a list of bytes has one front at most
 abbrev pub OneFront : Type 0
 OneFront =
-    (bytes : List ℕ) (front other : Front) → IsFront bytes front → IsFront bytes other → front ≡ other
+    (bytes : List ℕ) (front other : Front) → IsFront bytes front
+    → IsFront bytes other → front ≡ other
 
 -- each list of bytes has a front
 abbrev pub SomeFront : Type 0
@@ -45,9 +46,11 @@ OneFirstForm = (i : Instr) (form other : Form16) → IsFirst i form → IsFirst 
 
 -- an instruction has a first form, or no form expands to it
 abbrev pub SomeFirstForm : Type 0
-SomeFirstForm = (i : Instr) → ((form : Form16) × IsFirst i form) ⊎ ((form : Form16) → IsTrue (allowed form) → expansion form ≢ i)
+SomeFirstForm = (i : Instr) → ((form : Form16) × IsFirst i form)
+    ⊎ ((form : Form16) → IsTrue (allowed form) → expansion form ≢ i)
 
 -- `outlined` is the outline of each halfword that spells an instruction, and of no other halfword
 abbrev pub HalfwordsAreOutlined : Type 0
 HalfwordsAreOutlined =
-    (h : ℕ) → h < 2 ^ 16 → IfSome (outlined h) (IsHalfwordThat h) × ((i : Instr) → IsShortSpelling h i → outlined h ≡ Some (outline i))
+    (h : ℕ) → h < 2 ^ 16 → IfSome (outlined h) (IsHalfwordThat h)
+    × ((i : Instr) → IsShortSpelling h i → outlined h ≡ Some (outline i))

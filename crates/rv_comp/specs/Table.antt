@@ -28,16 +28,20 @@ jump =
 -- bit 3 is 1, since the register is x8 to x15.
 abbrev pub row : Form16 → List Bit
 row (CAddi4spn _ _) =
-    fixed 3 0b000 ++ imm ⟦ 5 ∶ 4 ⟧ ++ imm ⟦ 9 ∶ 6 ⟧ ++ imm ⟦ 2 ∶ 2 ⟧ ++ imm ⟦ 3 ∶ 3 ⟧ ++ rd ⟦ 2 ∶ 0 ⟧ ++ fixed 2 0b00
+    fixed 3 0b000 ++ imm ⟦ 5 ∶ 4 ⟧ ++ imm ⟦ 9 ∶ 6 ⟧ ++ imm ⟦ 2 ∶ 2 ⟧ ++ imm ⟦ 3 ∶ 3 ⟧
+    ++ rd ⟦ 2 ∶ 0 ⟧ ++ fixed 2 0b00
 row (CLw _ _ _) =
-    fixed 3 0b010 ++ imm ⟦ 5 ∶ 3 ⟧ ++ rs1 ⟦ 2 ∶ 0 ⟧ ++ imm ⟦ 2 ∶ 2 ⟧ ++ imm ⟦ 6 ∶ 6 ⟧ ++ rd ⟦ 2 ∶ 0 ⟧ ++ fixed 2 0b00
+    fixed 3 0b010 ++ imm ⟦ 5 ∶ 3 ⟧ ++ rs1 ⟦ 2 ∶ 0 ⟧ ++ imm ⟦ 2 ∶ 2 ⟧ ++ imm ⟦ 6 ∶ 6 ⟧
+    ++ rd ⟦ 2 ∶ 0 ⟧ ++ fixed 2 0b00
 row (CSw _ _ _) =
-    fixed 3 0b110 ++ imm ⟦ 5 ∶ 3 ⟧ ++ rs1 ⟦ 2 ∶ 0 ⟧ ++ imm ⟦ 2 ∶ 2 ⟧ ++ imm ⟦ 6 ∶ 6 ⟧ ++ rs2 ⟦ 2 ∶ 0 ⟧ ++ fixed 2 0b00
+    fixed 3 0b110 ++ imm ⟦ 5 ∶ 3 ⟧ ++ rs1 ⟦ 2 ∶ 0 ⟧ ++ imm ⟦ 2 ∶ 2 ⟧ ++ imm ⟦ 6 ∶ 6 ⟧
+    ++ rs2 ⟦ 2 ∶ 0 ⟧ ++ fixed 2 0b00
 row (CAddi _ _) = fixed 3 0b000 ++ imm ⟦ 5 ∶ 5 ⟧ ++ rd ⟦ 4 ∶ 0 ⟧ ++ imm ⟦ 4 ∶ 0 ⟧ ++ fixed 2 0b01
 row (CJal _) = fixed 3 0b001 ++ jump ++ fixed 2 0b01
 row (CLi _ _) = fixed 3 0b010 ++ imm ⟦ 5 ∶ 5 ⟧ ++ rd ⟦ 4 ∶ 0 ⟧ ++ imm ⟦ 4 ∶ 0 ⟧ ++ fixed 2 0b01
 row (CAddi16sp _) =
-    fixed 3 0b011 ++ imm ⟦ 9 ∶ 9 ⟧ ++ fixed 5 0b00010 ++ imm ⟦ 4 ∶ 4 ⟧ ++ imm ⟦ 6 ∶ 6 ⟧ ++ imm ⟦ 8 ∶ 7 ⟧ ++ imm ⟦ 5 ∶ 5 ⟧ ++ fixed 2 0b01
+    fixed 3 0b011 ++ imm ⟦ 9 ∶ 9 ⟧ ++ fixed 5 0b00010 ++ imm ⟦ 4 ∶ 4 ⟧ ++ imm ⟦ 6 ∶ 6 ⟧
+    ++ imm ⟦ 8 ∶ 7 ⟧ ++ imm ⟦ 5 ∶ 5 ⟧ ++ fixed 2 0b01
 row (CLui _ _) = fixed 3 0b011 ++ imm ⟦ 17 ∶ 17 ⟧ ++ rd ⟦ 4 ∶ 0 ⟧ ++ imm ⟦ 16 ∶ 12 ⟧ ++ fixed 2 0b01
 row (CSrli _ _) =
     fixed 3 0b100 ++ fixed 1 0b0 ++ fixed 2 0b00 ++ rd ⟦ 2 ∶ 0 ⟧ ++ imm ⟦ 4 ∶ 0 ⟧ ++ fixed 2 0b01
@@ -55,9 +59,11 @@ row (CAnd _ _) =
     fixed 3 0b100 ++ fixed 3 0b011 ++ rd ⟦ 2 ∶ 0 ⟧ ++ fixed 2 0b11 ++ rs2 ⟦ 2 ∶ 0 ⟧ ++ fixed 2 0b01
 row (CJ _) = fixed 3 0b101 ++ jump ++ fixed 2 0b01
 row (CBeqz _ _) =
-    fixed 3 0b110 ++ imm ⟦ 8 ∶ 8 ⟧ ++ imm ⟦ 4 ∶ 3 ⟧ ++ rs1 ⟦ 2 ∶ 0 ⟧ ++ imm ⟦ 7 ∶ 6 ⟧ ++ imm ⟦ 2 ∶ 1 ⟧ ++ imm ⟦ 5 ∶ 5 ⟧ ++ fixed 2 0b01
+    fixed 3 0b110 ++ imm ⟦ 8 ∶ 8 ⟧ ++ imm ⟦ 4 ∶ 3 ⟧ ++ rs1 ⟦ 2 ∶ 0 ⟧ ++ imm ⟦ 7 ∶ 6 ⟧
+    ++ imm ⟦ 2 ∶ 1 ⟧ ++ imm ⟦ 5 ∶ 5 ⟧ ++ fixed 2 0b01
 row (CBnez _ _) =
-    fixed 3 0b111 ++ imm ⟦ 8 ∶ 8 ⟧ ++ imm ⟦ 4 ∶ 3 ⟧ ++ rs1 ⟦ 2 ∶ 0 ⟧ ++ imm ⟦ 7 ∶ 6 ⟧ ++ imm ⟦ 2 ∶ 1 ⟧ ++ imm ⟦ 5 ∶ 5 ⟧ ++ fixed 2 0b01
+    fixed 3 0b111 ++ imm ⟦ 8 ∶ 8 ⟧ ++ imm ⟦ 4 ∶ 3 ⟧ ++ rs1 ⟦ 2 ∶ 0 ⟧ ++ imm ⟦ 7 ∶ 6 ⟧
+    ++ imm ⟦ 2 ∶ 1 ⟧ ++ imm ⟦ 5 ∶ 5 ⟧ ++ fixed 2 0b01
 row (CSlli _ _) = fixed 3 0b000 ++ fixed 1 0b0 ++ rd ⟦ 4 ∶ 0 ⟧ ++ imm ⟦ 4 ∶ 0 ⟧ ++ fixed 2 0b10
 row (CLwsp _ _) =
     fixed 3 0b010 ++ imm ⟦ 5 ∶ 5 ⟧ ++ rd ⟦ 4 ∶ 0 ⟧ ++ imm ⟦ 4 ∶ 2 ⟧ ++ imm ⟦ 7 ∶ 6 ⟧ ++ fixed 2 0b10

@@ -50,7 +50,8 @@ pub fn some_first_form()
     ensures { SomeFirstForm }
 {}
 
-/// The outline of each halfword is one that computes: so a table of outlines can be proved by computation.
+/// The outline of each halfword is one that computes:
+/// so a table of outlines can be proved by computation.
 pub fn halfwords_are_outlined()
     ensures { HalfwordsAreOutlined }
 {}

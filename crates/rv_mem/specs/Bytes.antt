@@ -79,4 +79,5 @@ IsFree m base size = (k : ℕ) → k < size → byte_at m (address_after base k)
 
 -- the memory with size more bytes from base on: those of front, and then zeros
 abbrev pub added : Bytes → ℕ → ℕ → List ℕ → Bytes
-added m base size front = with_bytes m (addresses base size) (front ++ replicate (size - length front) 0)
+added m base size front =
+    with_bytes m (addresses base size) (front ++ replicate (size - length front) 0)

@@ -1,8 +1,9 @@
 //! A machine's memory: which byte stands at which address.
 //!
-//! Contracts see a [`Memory`] as one finite map from address to byte (`specs/Bytes.antt`), and say of each call what it
-//! answers and what the whole map is afterwards. [`Segments`] keeps the map as runs of bytes, and [`Pages`] as pages of 4096
-//! bytes, each with a mark for each byte that is there.
+//! Contracts see a [`Memory`] as one finite map from address to byte (`specs/Bytes.antt`), and say
+//! of each call what it answers and what the whole map is afterwards. [`Segments`] keeps the map as
+//! runs of bytes, and [`Pages`] as pages of 4096 bytes,
+//! each with a mark for each byte that is there.
 #![tactic(auto)]
 
 pub mod fault;

@@ -13,9 +13,9 @@ pub enum Width {
     Four,
 }
 
-/// A memory: at each of the 2^32 addresses a byte, or none. Numbers stand low byte first (RISC-V Unprivileged ISA,
-/// chapter RV32I, "Load and Store Instructions"). An access may begin at any address, and the address after the last
-/// one is the first.
+/// A memory: at each of the 2^32 addresses a byte, or none. Numbers stand low byte first (RISC-V
+/// Unprivileged ISA, chapter RV32I, "Load and Store Instructions"). An access may begin at any
+/// address, and the address after the last one is the first.
 pub trait Memory: Drop {
     ghost bytes: { Self → Bytes };
 
@@ -30,7 +30,8 @@ pub trait Memory: Drop {
         ensures value { result ≡ loaded (bytes self.now) at 2 }
         ensures range { IsMemory (bytes self.now) };
 
-    /// Writes the low bytes of the value; false exactly where one of the bytes is missing, and then nothing changed.
+    /// Writes the low bytes of the value; false exactly where one of the bytes is missing,
+    /// and then nothing changed.
     fn store(&mut self, at: u32, width: Width, value: u32) -> bool
         ensures there { IsTrue result ↔ IsThere (bytes self.old) at (count_of width) }
         ensures done { OnTrue result
@@ -43,7 +44,8 @@ pub trait Memory: Drop {
         ensures ok { OnOk result (bytes self.new ≡ added (bytes self.old) base size front.now) }
         ensures err { OnErr result (bytes self.new ≡ bytes self.old) }
 
-        // An address that is there already is reported as such, even where the addresses reach past the last one.
+        // An address that is there already is reported as such,
+        // even where the addresses reach past the last one.
         ensures overlap { (result ≡ Err AddFault.Overlap) ↔ Overlaps (bytes self.old) base size }
         ensures free { result ≢ Err AddFault.Overlap → IsFree (bytes self.old) base size }
         ensures end { (result ≡ Err AddFault.End)

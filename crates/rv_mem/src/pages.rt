@@ -93,8 +93,9 @@ fn make_frame(table: &mut Vec<u32>, cells: &mut Vec<u8>, page: u32) -> Result<()
     Ok(())
 }
 
-/// A memory as pages of 4096 bytes. As in a machine's page table, each page's number leads to a frame, in which its bytes stand;
-/// after them is a mark for each byte that is there. Pages without a byte share frame 0, which has no mark.
+/// A memory as pages of 4096 bytes. As in a machine's page table, each page's number leads to a
+/// frame, in which its bytes stand; after them is a mark for each byte that is there. Pages without
+/// a byte share frame 0, which has no mark.
 #[derive(Drop)]
 pub struct Pages {
     table: Vec<u32>,
@@ -247,8 +248,8 @@ impl Pages {
         make_frame(&mut self.table, &mut self.cells, page)
     }
 
-    /// Writes so many bytes of front, from one of its places on and with zeros past its end, to an address and those after it, in one
-    /// page that has a frame. It marks them.
+    /// Writes so many bytes of front, from one of its places on and with zeros past its end, to an
+    /// address and those after it, in one page that has a frame. It marks them.
     fn mark_run(&mut self, at: u32, count: u32, front: &[u8], from: u32)
         requires page { at % 4096 + count ≤ 4096 }
         requires made { slice_index self.old.table.items (at / 4096) ≢ 0 }
@@ -260,7 +261,8 @@ impl Pages {
         mark_cells(&mut self.cells, place, count as usize, front, from as usize);
     }
 
-    /// Writes the four bytes from an address on, in one page; false where one of them is missing, and then nothing changed.
+    /// Writes the four bytes from an address on, in one page; false where one of them is missing,
+    /// and then nothing changed.
     #[inline(always)]
     fn put_word(&mut self, at: u32, value: u32) -> bool
         requires { at % 4096 ≤ 4092 }
@@ -276,7 +278,8 @@ impl Pages {
         true
     }
 
-    /// Writes the two bytes from an address on, in one page; false where one of them is missing, and then nothing changed.
+    /// Writes the two bytes from an address on, in one page; false where one of them is missing,
+    /// and then nothing changed.
     #[inline(always)]
     #[tactic(auto, using(crate::proofs::Lookups::stays))]
     fn put_halfword(&mut self, at: u32, value: u32) -> bool
@@ -385,7 +388,8 @@ impl Pages {
     }
 }
 
-/// Writes the four bytes of a number from a place on: over a slice, so that it is one store of the processor.
+/// Writes the four bytes of a number from a place on: over a slice,
+/// so that it is one store of the processor.
 #[inline(always)]
 fn write_word(cells: &mut [u8], place: usize, value: u32)
     requires { place + 4 ≤ length cells.old }
@@ -417,7 +421,8 @@ fn put_same(cells: &mut [u8], place: usize, count: usize, value: u8)
     cells[place..place + count].fill(value);
 }
 
-/// Writes so many bytes of front, from one of its places on and with zeros past its end, and their marks.
+/// Writes so many bytes of front, from one of its places on and with zeros past its end,
+/// and their marks.
 fn mark_cells(cells: &mut [u8], place: usize, count: usize, front: &[u8], from: usize)
     requires room { place + count + 4096 ≤ length cells.old }
     requires page { count ≤ 4096 }

@@ -15,7 +15,8 @@ use Rattle.rv_source.specs.declared.item.Body.TheVariants.{Plain, To, High, Low}
 use Rattle.rv_source.specs.declared.item.Item.{Item}
 use Rattle.rv_source.specs.declared.item.SourceGate.{SourceGate}
 
--- a sandbox: the format of its source, how many data bytes it has, its gates, its names with what they name, its instructions and its first data bytes
+-- a sandbox: the format of its source, how many data bytes it has, its gates, its names with what
+-- they name, its instructions and its first data bytes
 pub record Sandbox : Type 0 where
   pub format : Format
   pub data_size : ℕ
@@ -25,9 +26,17 @@ pub record Sandbox : Type 0 where
   pub bytes : List ℕ
 
 -- the sandbox of these
-abbrev pub sandbox : Format → ℕ → List SourceGate → List (List ℕ × Named) → List Item → List ℕ → Sandbox
+abbrev pub sandbox :
+    Format → ℕ → List SourceGate → List (List ℕ × Named) → List Item → List ℕ → Sandbox
 sandbox format data_size gates names items bytes =
-    record { format = format; data_size = data_size; gates = gates; names = names; items = items; bytes = bytes }
+    record {
+      format = format;
+      data_size = data_size;
+      gates = gates;
+      names = names;
+      items = items;
+      bytes = bytes;
+    }
 
 -- what the names name, in the order of their places
 abbrev pub named : Sandbox → List Named
@@ -77,7 +86,8 @@ IsBody count (To i place) = InRange i × IsOpen i × (place < count)
 IsBody count (High rd place) = IsReg rd × (place < count)
 IsBody count (Low rd place) = IsReg rd × (place < count)
 
--- there is what the name names: that gate, the place before that item or after the last, the place after so many bytes
+-- there is what the name names: that gate, the place before that item or after the last,
+-- the place after so many bytes
 abbrev pub IsThere : Sandbox → Named → Type 0
 IsThere s (Gate k) = k < length s.gates
 IsThere s (Code k) = k ≤ length s.items

@@ -74,7 +74,8 @@ impl Names {
         }
     }
 
-    /// Lets the name stand for `what` from here on. A name that is there keeps its place; a new one goes last.
+    /// Lets the name stand for `what` from here on. A name that is there keeps its place;
+    /// a new one goes last.
     pub fn place(&mut self, alloc: Global, name: &str, what: Named) -> Result<(), AllocError>
         ensures placed { OnOk result (self.new ≡ placed self.old name.now what) }
         ensures unchanged { OnErr result (self.new ≡ self.old) }

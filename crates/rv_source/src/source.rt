@@ -23,7 +23,8 @@ impl Model for SourcePart {
 
     ghost Value = { Sandbox };
 
-    ghost view = { λ p. sandbox p.format p.data_size p.gates.items p.names p.items.items p.bytes.items };
+    ghost view = { λ p. sandbox p.format p.data_size p.gates.items p.names
+        p.items.items p.bytes.items };
 }
 
 impl SourcePart {
@@ -55,7 +56,8 @@ impl SourcePart {
         self.format
     }
 
-    /// How many bytes the data region has, a power of two from `REGION_LEAST` to `DATA_MOST` of `sfi_policy`.
+    /// How many bytes the data region has, a power of two from `REGION_LEAST` to `DATA_MOST` of
+    /// `sfi_policy`.
     pub fn data_size(&self) -> u32
         ensures { result ≡ self.now.data_size }
     {
@@ -76,8 +78,8 @@ impl SourcePart {
         self.names.len()
     }
 
-    /// What the name at this place names; `None` where there is none. The places are those of the order in which the
-    /// names are first seen, from 0.
+    /// What the name at this place names; `None` where there is none. The places are those of the
+    /// order in which the names are first seen, from 0.
     pub fn named(&self, place: usize) -> Option<Named>
         ensures { result ≡ slice_get (named self.now) place }
     {

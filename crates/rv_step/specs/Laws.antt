@@ -33,7 +33,8 @@ SomeStep = (s : State) → (r : Stepped) × IsStep s r
 -- a step does what the instruction at pc does
 abbrev pub StepIsEffect : Type 0
 StepIsEffect =
-    (s : State) (i : Instr) (n : ℕ) (r : Stepped) → Stands s i n → IsStep s r → r ≡ effect i n s.hart s.memory
+    (s : State) (i : Instr) (n : ℕ) (r : Stepped) → Stands s i n → IsStep s r
+    → r ≡ effect i n s.hart s.memory
 
 -- a step leads from a state to a state
 abbrev pub StepKeepsState : Type 0
@@ -63,11 +64,13 @@ AccessedIsThere =
 
 -- a step takes no byte away
 abbrev pub NoByteGoes : Type 0
-NoByteGoes = (s : State) (r : Stepped) (a : ℕ) → IsStep s r → IsSome (byte_at s.memory a) → IsSome (byte_at r.state.memory a)
+NoByteGoes = (s : State) (r : Stepped) (a : ℕ) → IsStep s r → IsSome (byte_at s.memory a)
+    → IsSome (byte_at r.state.memory a)
 
 -- a step that calls is at an ecall
 abbrev pub CallsAreEcalls : Type 0
-CallsAreEcalls = (s : State) (r : Stepped) → IsStep s r → r.outcome ≡ Call → (n : ℕ) × Stands s Ecall n
+CallsAreEcalls =
+    (s : State) (r : Stepped) → IsStep s r → r.outcome ≡ Call → (n : ℕ) × Stands s Ecall n
 
 -- ---- two memories
 
@@ -75,7 +78,8 @@ CallsAreEcalls = (s : State) (r : Stepped) → IsStep s r → r.outcome ≡ Call
 abbrev pub AgreeAt : State → State → ℕ → Type 0
 AgreeAt s t a = byte_at t.memory a ≡ byte_at s.memory a
 
--- two states of one hart, whose memories agree at each byte of the instruction at pc, and at each byte that it accesses
+-- two states of one hart, whose memories agree at each byte of the instruction at pc,
+-- and at each byte that it accesses
 pub record AgreeHere (s t : State) (i : Instr) (n : ℕ) : Type 0 where
   pub stands : Stands s i n
   pub hart : t.hart ≡ s.hart
@@ -86,24 +90,30 @@ pub record AgreeHere (s t : State) (i : Instr) (n : ℕ) : Type 0 where
 abbrev pub AgreeingStandsToo : Type 0
 AgreeingStandsToo = (s t : State) (i : Instr) (n : ℕ) → AgreeHere s t i n → Stands t i n
 
--- The steps come to one outcome and one hart, and their memories still agree wherever they did. So they wrote the same bytes.
+-- The steps come to one outcome and one hart, and their memories still agree wherever they did. So
+-- they wrote the same bytes.
 pub record IsSameStep (s t : State) (r q : Stepped) : Type 0 where
   pub outcome : q.outcome ≡ r.outcome
   pub hart : q.state.hart ≡ r.state.hart
   pub bytes : (a : ℕ) → AgreeAt s t a → AgreeAt r.state q.state a
 
--- what a step does depends only on its hart, and on the bytes of its instruction and of that one's access
+-- what a step does depends only on its hart,
+-- and on the bytes of its instruction and of that one's access
 abbrev pub AgreeingStepsAreSame : Type 0
 AgreeingStepsAreSame =
-    (s t : State) (i : Instr) (n : ℕ) (r q : Stepped) → AgreeHere s t i n → IsStep s r → IsStep t q → IsSameStep s t r q
+    (s t : State) (i : Instr) (n : ℕ) (r q : Stepped) → AgreeHere s t i n → IsStep s r
+    → IsStep t q → IsSameStep s t r q
 
 -- ---- a pair
 
--- `and t, a, mask` and `or t, t, base` are done, wherever they stand, and leave in t the value of a, masked, with the bits of base. No other register changes, nor does memory.
+-- `and t, a, mask` and `or t, t, base` are done, wherever they stand, and leave in t the value of
+-- a, masked, with the bits of base. No other register changes, nor does memory.
 abbrev pub PairLeaves : Type 0
 PairLeaves =
-    (s : State) (t a mask base : ℕ) → IsState s → t ≢ 0 → base ≢ t → StandInRow s (Op And t a mask ∷ Op Or t t base ∷ [])
+    (s : State) (t a mask base : ℕ) → IsState s → t ≢ 0 → base ≢ t
+    → StandInRow s (Op And t a mask ∷ Op Or t t base ∷ [])
     → LeadTo 2 s (record {
-      hart = with_register (past s.hart 8) t (bit_or (bit_and (register s.hart a) (register s.hart mask)) (register s.hart base));
+      hart = with_register (past s.hart 8) t
+          (bit_or (bit_and (register s.hart a) (register s.hart mask)) (register s.hart base));
       memory = s.memory;
     })

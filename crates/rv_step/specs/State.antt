@@ -30,7 +30,8 @@ pub record IsState (s : State) : Type 0 where
 
 -- the hart with this value in a register: x0 stays
 abbrev pub with_register : Hart → ℕ → ℕ → Hart
-with_register h rd v = record { pc = h.pc; registers = if rd == 0 then h.registers else slice_set h.registers rd v }
+with_register h rd v =
+    record { pc = h.pc; registers = if rd == 0 then h.registers else slice_set h.registers rd v }
 
 -- the hart at this pc
 abbrev pub with_pc : Hart → ℕ → Hart

@@ -97,7 +97,8 @@ pub fn agreeing_stands_too()
     ensures { AgreeingStandsToo }
 {}
 
-/// What a step does depends only on its hart, and on the bytes of its instruction and of that one's access.
+/// What a step does depends only on its hart,
+/// and on the bytes of its instruction and of that one's access.
 pub fn agreeing_steps_are_same()
     ensures { AgreeingStepsAreSame }
 {

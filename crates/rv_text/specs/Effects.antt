@@ -23,7 +23,8 @@ Labels name old new =
     (b : Begun) × (old.begun ≡ Some b) × (length name ≤ name_most) × IsFree name b
     × (new ≡ record old { begun = Some (with_label name b) })
 
--- a label of this name is refused: no sandbox was begun, the name is too long, or it is there already
+-- a label of this name is refused: no sandbox was begun, the name is too long,
+-- or it is there already
 abbrev pub RefusesLabel : List ℕ → SoFar → TextCause → Type 0
 RefusesLabel name old e =
     ((old.begun ≡ None) × (e ≡ cause.Directive))
@@ -31,8 +32,8 @@ RefusesLabel name old e =
     × (((name_most < length name) × (e ≡ cause.Limit))
     ⊎ ((length name ≤ name_most) × (IsFree name b → ⊥) × (e ≡ cause.LabelTwice))))
 
--- a statement of this kind may come there: the format once, before the first sandbox, gates before the sandbox's first
--- label and instruction, instructions in the code part, data in the data part
+-- a statement of this kind may come there: the format once, before the first sandbox, gates before
+-- the sandbox's first label and instruction, instructions in the code part, data in the data part
 abbrev pub MayCome : Place → SoFar → Type 0
 MayCome place.Head s = (s.format ≡ None) × (s.begun ≡ None)
 MayCome place.Outside s = Unit {0}
@@ -40,7 +41,8 @@ MayCome place.Gates s = IsSomeAnd s.begun (λ b. b.opened ≡ false)
 MayCome place.Code s = IsSomeAnd s.begun (λ b. b.in_data ≡ false)
 MayCome place.Data s = IsSomeAnd s.begun (λ b. b.in_data ≡ true)
 
--- how many gates, instructions and data bytes a sandbox may have: of bytes those that it was begun with
+-- how many gates, instructions and data bytes a sandbox may have:
+-- of bytes those that it was begun with
 abbrev pub Fits : StatedWithin → Begun → Type 0
 Fits (gate name service) b = length b.sandbox.gates + 1 ≤ gates_most
 Fits (compressed rvc) b = Unit {0}
@@ -58,20 +60,23 @@ with_stated line data_part b = record b { in_data = true }
 with_stated line (bytes values) b = with_bytes values b
 with_stated line (plain instrs) b = with_bodies line (map Plain instrs) b
 with_stated line (jump instr name) b =
-    with_bodies line (To instr (place_of b.sandbox.names name) ∷ []) (with_names (met b.sandbox.names name) b)
-with_stated line (address rd name) b =
-    with_bodies line (High rd (place_of b.sandbox.names name) ∷ Low rd (place_of b.sandbox.names name) ∷ [])
+    with_bodies line (To instr (place_of b.sandbox.names name) ∷ [])
+    (with_names (met b.sandbox.names name) b)
+with_stated line (address rd name) b = with_bodies line
+    (High rd (place_of b.sandbox.names name) ∷ Low rd (place_of b.sandbox.names name) ∷ [])
     (with_names (met b.sandbox.names name) b)
 
 -- a statement of a line goes on with the sandbox begun last, and fits there
 abbrev pub GoesOn : ℕ → StatedWithin → SoFar → SoFar → Type 0
 GoesOn line s old new =
-    (b : Begun) × (old.begun ≡ Some b) × Fits s b × (new ≡ record old { begun = Some (with_stated line s b) })
+    (b : Begun) × (old.begun ≡ Some b) × Fits s b
+    × (new ≡ record old { begun = Some (with_stated line s b) })
 
 -- a statement of a line, which may come there, leads to the next source so far
 abbrev pub Does : ℕ → Stated → SoFar → SoFar → Type 0
 Does line (format number) old new =
-    (value : Format) × (number_of_format value ≡ number) × (new ≡ record old { format = Some value })
+    (value : Format) × (number_of_format value ≡ number)
+    × (new ≡ record old { format = Some value })
 Does line (sandbox size) old new = new ≡ with_sandbox size old
 Does line (within what) old new = GoesOn line what old new
 

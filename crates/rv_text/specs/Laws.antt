@@ -39,16 +39,19 @@ PrintedReadsBack = (i : Instr) → InRange i → Means (printed i) i
 
 -- a line leads from a source so far to one next one at most
 abbrev pub LeadsOnce : Type 0
-LeadsOnce = (line : ℕ) (old a b : SoFar) (text : List ℕ) → Leads line old text a → Leads line old text b → a ≡ b
+LeadsOnce = (line : ℕ) (old a b : SoFar) (text : List ℕ) → Leads line old text a
+    → Leads line old text b → a ≡ b
 
 -- a line that leads on is refused for no cause: where it is refused it leads nowhere
 abbrev pub LeadingIsNotRefused : Type 0
 LeadingIsNotRefused =
-    (line : ℕ) (old new : SoFar) (text : List ℕ) (e : TextCause) → Leads line old text new → LineRefused old text e → ⊥
+    (line : ℕ) (old new : SoFar) (text : List ℕ) (e : TextCause) → Leads line old text new
+    → LineRefused old text e → ⊥
 
 -- a line is refused for one cause at most
 abbrev pub RefusedOnce : Type 0
-RefusedOnce = (old : SoFar) (text : List ℕ) (e f : TextCause) → LineRefused old text e → LineRefused old text f → e ≡ f
+RefusedOnce = (old : SoFar) (text : List ℕ) (e f : TextCause) → LineRefused old text e
+    → LineRefused old text f → e ≡ f
 
 -- a text means one source at most
 abbrev pub OneSource : Type 0
@@ -60,11 +63,13 @@ OneFault = (text : List ℕ) (f g : TextFault) → IsFault text f → IsFault te
 
 -- each text means a source or has a fault
 abbrev pub SomeSource : Type 0
-SomeSource = (text : List ℕ) → ((parts : List Sandbox) × MeansSource text parts) ⊎ ((f : TextFault) × IsFault text f)
+SomeSource = (text : List ℕ)
+    → ((parts : List Sandbox) × MeansSource text parts) ⊎ ((f : TextFault) × IsFault text f)
 
 -- a text that means a source has no fault
 abbrev pub MeantHasNoFault : Type 0
-MeantHasNoFault = (text : List ℕ) (p : List Sandbox) (f : TextFault) → MeansSource text p → IsFault text f → ⊥
+MeantHasNoFault =
+    (text : List ℕ) (p : List Sandbox) (f : TextFault) → MeansSource text p → IsFault text f → ⊥
 
 -- what a text means is within its limits, and its names, gates and instructions fit each other
 abbrev pub SourcesAreRight : Type 0

@@ -1,4 +1,5 @@
--- What a line of a text does to the source so far: its labels, then its statement; and for what cause it is refused.
+-- What a line of a text does to the source so far: its labels, then its statement;
+-- and for what cause it is refused.
 use Rattle.std.specs.Prelude.{◌≡◌, ℕ, ◌⊎◌, List, [], ◌∷◌, Some, codes}
 use Rattle.rv_text.specs.declared.cause.TextCause.{TextCause}
 use Rattle.rv_text.specs.declared.cause.TextCause.TheVariants as cause
@@ -27,15 +28,16 @@ BeginsWithLabel text name rest =
 abbrev pub HasNoLabel : List ℕ → Type 0
 HasNoLabel text = (name rest : List ℕ) → BeginsWithLabel text name rest → ⊥
 
--- the labels of these names stand at the front of the text, and lead from the source so far to the next one, and to the
--- text after them
+-- the labels of these names stand at the front of the text, and lead from the source so far to the
+-- next one, and to the text after them
 abbrev pub LabelsLead : List (List ℕ) → SoFar → List ℕ → SoFar → List ℕ → Type 0
 LabelsLead [] old text new rest = (new ≡ old) × (rest ≡ text)
 LabelsLead (name ∷ names) old text new rest =
     (next : SoFar) × (after : List ℕ) × BeginsWithLabel text name after × Labels name old next
     × LabelsLead names next after new rest
 
--- all the labels at the front of the text lead from the source so far to the next one, and to the text after them
+-- all the labels at the front of the text lead from the source so far to the next one,
+-- and to the text after them
 pub record PassesLabels (old : SoFar) (text : List ℕ) (new : SoFar) (rest : List ℕ) : Type 0 where
   pub names : List (List ℕ)
   pub lead : LabelsLead names old text new rest
@@ -43,15 +45,16 @@ pub record PassesLabels (old : SoFar) (text : List ℕ) (new : SoFar) (rest : Li
 
 -- the text begins with a name that is there already
 abbrev pub IsTaken : Begun → List ℕ → Type 0
-IsTaken b text = (name : List ℕ) × (rest : List ℕ) × BeginsWithName text name rest × (IsFree name b → ⊥)
+IsTaken b text =
+    (name : List ℕ) × (rest : List ℕ) × BeginsWithName text name rest × (IsFree name b → ⊥)
 
 -- it is a gate, and after its keyword stands a name that is there already
 abbrev pub IsGateTwice : Keyword → SoFar → List ℕ → Type 0
 IsGateTwice k s text =
     (k ≡ keyword.Directive directive.Gate) × ((b : Begun) × (s.begun ≡ Some b) × IsTaken b text)
 
--- a statement of this keyword and line, with this text after it, may come there, and leads from the source so far to
--- the next one
+-- a statement of this keyword and line, with this text after it, may come there, and leads from the
+-- source so far to the next one
 abbrev pub LeadsAfter : Keyword → ℕ → SoFar → List ℕ → SoFar → Type 0
 LeadsAfter k line old text new =
     MayCome (place_of_keyword k) old × (IsGateTwice k old text → ⊥)
@@ -60,22 +63,26 @@ LeadsAfter k line old text new =
 -- the text is a statement of this line, which leads from the source so far to the next one
 abbrev pub StatementLeads : ℕ → SoFar → List ℕ → SoFar → Type 0
 StatementLeads line old text new =
-    (k : Keyword) × (rest : List ℕ) × Takes text (keyword_name k) rest × LeadsAfter k line old rest new
+    (k : Keyword) × (rest : List ℕ) × Takes text (keyword_name k) rest
+    × LeadsAfter k line old rest new
 
 -- nothing is left of the line, or a statement leads on
 abbrev pub RestLeads : ℕ → SoFar → List ℕ → SoFar → Type 0
 RestLeads line old text new = (IsBlank text × (new ≡ old)) ⊎ StatementLeads line old text new
 
--- a line leads from the source so far to the next one: by its labels, each with its colon, and then by a statement or not
+-- a line leads from the source so far to the next one: by its labels, each with its colon,
+-- and then by a statement or not
 abbrev pub Leads : ℕ → SoFar → List ℕ → SoFar → Type 0
 Leads line old text new =
-    (next : SoFar) × (rest : List ℕ) × PassesLabels old text next rest × RestLeads line next rest new
+    (next : SoFar) × (rest : List ℕ) × PassesLabels old text next rest
+    × RestLeads line next rest new
 
 -- one of the labels at the front of the text, after others that lead on, is refused for this cause
 abbrev pub LabelRefused : SoFar → List ℕ → TextCause → Type 0
 LabelRefused old text e =
     (names : List (List ℕ)) × (next : SoFar) × (rest : List ℕ) × (name : List ℕ) × (after : List ℕ)
-    × LabelsLead names old text next rest × BeginsWithLabel rest name after × RefusesLabel name next e
+    × LabelsLead names old text next rest × BeginsWithLabel rest name after
+    × RefusesLabel name next e
 
 -- the text states with this keyword what the sandbox begun last has no room for
 abbrev pub PassesLimit : Keyword → SoFar → List ℕ → Type 0
@@ -101,8 +108,8 @@ RefusedFrom s token rest e =
     NameRefused token e
     ⊎ ((k : Keyword) × (keyword_name k ≡ token) × RefusedAfter k s rest e)
 
--- the text after the labels is no statement that may come there: its first token that departs from one does so for
--- this cause
+-- the text after the labels is no statement that may come there: its first token that departs from
+-- one does so for this cause
 abbrev pub StatementRefused : SoFar → List ℕ → TextCause → Type 0
 StatementRefused s text e =
     Unformed text e
@@ -112,4 +119,5 @@ StatementRefused s text e =
 abbrev pub LineRefused : SoFar → List ℕ → TextCause → Type 0
 LineRefused old text e =
     LabelRefused old text e
-    ⊎ ((next : SoFar) × (rest : List ℕ) × PassesLabels old text next rest × StatementRefused next rest e)
+    ⊎ ((next : SoFar) × (rest : List ℕ) × PassesLabels old text next rest
+    × StatementRefused next rest e)

@@ -26,12 +26,13 @@ use Rattle.rv_text.specs.Stated.{Stated, within, bytes, plain}
 abbrev pub IsRow : List Part → (OperandValues → Stated) → List (List ℕ) → Stated → Type 0
 IsRow form states tokens s = (o : OperandValues) × HasForm o form tokens × (s ≡ states o)
 
--- the tokens after the name are those of an instruction: a branch and a jal go to a name, and each of the others has the
--- operands that it has in the text of one instruction
+-- the tokens after the name are those of an instruction: a branch and a jal go to a name, and each
+-- of the others has the operands that it has in the text of one instruction
 abbrev pub IsInstr : Mnemonic → List (List ℕ) → Stated → Type 0
 IsInstr (mnemonic.Branch cond) tokens s = IsRow branch_form (branch_states cond) tokens s
 IsInstr mnemonic.Jal tokens s = IsRow jal_form jal_states tokens s
-IsInstr name tokens s = (i : Instr) × Spells i (name_of name ∷ tokens) × (s ≡ within (plain (i ∷ [])))
+IsInstr name tokens s =
+    (i : Instr) × Spells i (name_of name ∷ tokens) × (s ≡ within (plain (i ∷ [])))
 
 -- the token writes a number of this kind
 abbrev pub Writes : NumberKind → List ℕ → ℤ → Type 0
@@ -62,7 +63,8 @@ IsData width tokens s =
 abbrev pub After : Keyword → List (List ℕ) → Stated → Type 0
 After (keyword.Instr name) tokens s = IsInstr name tokens s
 After (keyword.Pseudo name) tokens s = IsRow (pseudo_form name) (pseudo_states name) tokens s
-After (keyword.Directive name) tokens s = IsRow (directive_form name) (directive_states name) tokens s
+After (keyword.Directive name) tokens s =
+    IsRow (directive_form name) (directive_states name) tokens s
 After (keyword.Numbers width) tokens s = IsData width tokens s
 
 -- the text after this keyword states this with it
@@ -96,10 +98,11 @@ abbrev pub ListDeparts : NumberKind → List ℕ → TextCause → Type 0
 ListDeparts kind text e =
     NumberDeparts kind text e
     ⊎ ((token : List ℕ) × (rest : List ℕ) × (z : ℤ) × Takes text token rest × Writes kind token z
-    × ((numbers : List ℤ) × (last : List ℕ) × LeadsByMore kind numbers rest last × MoreDeparts kind last e))
+    × ((numbers : List ℤ) × (last : List ℕ) × LeadsByMore kind numbers rest last
+    × MoreDeparts kind last e))
 
--- the first token after an instruction's name that departs from it does so for this cause: from a branch or a jal to a
--- name, or from any other instruction
+-- the first token after an instruction's name that departs from it does so for this cause: from a
+-- branch or a jal to a name, or from any other instruction
 abbrev pub InstrDeparts : Mnemonic → List ℕ → TextCause → Type 0
 InstrDeparts (mnemonic.Branch cond) text e = Departs branch_form text e
 InstrDeparts mnemonic.Jal text e = Departs jal_form text e

@@ -14,8 +14,8 @@ use Rattle.rv_text.specs.Forms.{form_of}
 use Rattle.rv_text.specs.Registers.{x_name}
 use Rattle.rv_text.specs.Statement.{mnemonic_of, operands_of}
 
--- those of lui and auipc, which are never negative, are `0x` and lower hexadecimal, without leading zeros; numbers of any
--- other kind are decimal, with `-` where negative
+-- those of lui and auipc, which are never negative, are `0x` and lower hexadecimal, without leading
+-- zeros; numbers of any other kind are decimal, with `-` where negative
 abbrev pub number_text : NumberKind → ℤ → List ℕ
 number_text Upper (pos n) = codes "0x" ++ digits 16 false n
 number_text kind z = signed_decimal z

@@ -41,7 +41,14 @@ format_or_sfi1 (Some format) = format
 abbrev pub begin : Format → ℕ → Begun
 begin format size =
     record {
-      sandbox = record { format = format; data_size = size; gates = []; names = []; items = []; bytes = [] };
+      sandbox = record {
+        format = format;
+        data_size = size;
+        gates = [];
+        names = [];
+        items = [];
+        bytes = [];
+      };
       in_data = false;
       rvc = false;
       labelled = false;
@@ -70,7 +77,8 @@ with_sandbox size s =
 abbrev pub with_names : List (List ℕ × Named) → Begun → Begun
 with_names names b = record b { sandbox = record b.sandbox { names = names } }
 
--- what a label names there: the place before the next instruction or, in the data part, after the bytes so far
+-- what a label names there: the place before the next instruction or, in the data part,
+-- after the bytes so far
 abbrev pub here : Begun → Named
 here b = if b.in_data then Data (length b.sandbox.bytes) else Code (length b.sandbox.items)
 
@@ -88,7 +96,8 @@ with_gate name service b =
     record b {
       sandbox = record b.sandbox {
         names = placed b.sandbox.names name (Gate (length b.sandbox.gates));
-        gates = b.sandbox.gates ++ (record { name = place_of b.sandbox.names name; service = service } ∷ []);
+        gates = b.sandbox.gates
+            ++ (record { name = place_of b.sandbox.names name; service = service } ∷ []);
       };
     }
 
@@ -96,13 +105,15 @@ with_gate name service b =
 abbrev pub items_of : ℕ → Bool → Bool → List Body → List Item
 items_of line rvc labelled [] = []
 items_of line rvc labelled (body ∷ bodies) =
-    record { line = line; labelled = labelled; rvc = rvc; body = body } ∷ items_of line rvc false bodies
+    record { line = line; labelled = labelled; rvc = rvc; body = body }
+    ∷ items_of line rvc false bodies
 
 -- the sandbox with these instructions of a line after the others, one at least
 abbrev pub with_bodies : ℕ → List Body → Begun → Begun
 with_bodies line bodies b =
     record b {
-      sandbox = record b.sandbox { items = b.sandbox.items ++ items_of line b.rvc b.labelled bodies };
+      sandbox =
+          record b.sandbox { items = b.sandbox.items ++ items_of line b.rvc b.labelled bodies };
       labelled = false;
       opened = true;
     }

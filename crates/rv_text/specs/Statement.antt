@@ -67,8 +67,8 @@ Means text i = (tokens : List (List ℕ)) × AreTokens text tokens × Spells i t
 abbrev pub IsBareFence : Mnemonic → List ℕ → Type 0
 IsBareFence name rest = (name ≡ mnemonic.Fence) × IsBlank rest
 
--- the first token after an instruction's name that departs from its operands does so for this cause; none departs from a
--- fence without operands
+-- the first token after an instruction's name that departs from its operands does so for this
+-- cause; none departs from a fence without operands
 abbrev pub OperandsDepart : Mnemonic → List ℕ → TextCause → Type 0
 OperandsDepart name rest e = (IsBareFence name rest → ⊥) × Departs (form_of name) rest e
 

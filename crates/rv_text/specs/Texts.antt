@@ -46,7 +46,8 @@ abbrev pub FirstRefused : ℕ → SoFar → List (List ℕ) → TextFault → Ty
 FirstRefused line old [] f = ⊥
 FirstRefused line old (text ∷ texts) f =
     LineFault line old text f
-    ⊎ ((next : SoFar) × Leads line old (uncommented text) next × FirstRefused (line + 1) next texts f)
+    ⊎ ((next : SoFar) × Leads line old (uncommented text) next
+    × FirstRefused (line + 1) next texts f)
 
 -- the fault of line 1 with this cause
 abbrev pub first_line : TextCause → TextFault
@@ -57,4 +58,5 @@ abbrev pub IsFault : List ℕ → TextFault → Type 0
 IsFault text f =
     ((most_bytes < length text) × (f ≡ first_line cause.Limit))
     ⊎ (((length text ≤ most_bytes) × FirstRefused 1 nothing (lines text) f)
-    ⊎ ((new : SoFar) × LeadsFromNothing text new × (new.begun ≡ None) × (f ≡ first_line cause.Directive)))
+    ⊎ ((new : SoFar) × LeadsFromNothing text new × (new.begun ≡ None)
+    × (f ≡ first_line cause.Directive)))

@@ -54,7 +54,8 @@ fn read_another<'a>(
     text: &'a str,
 ) -> Result<Option<&'a str>, TextCause>
     ensures ok { IfOk result (λ next.
-        ReadsAnother width bytes.old.items bytes.new.items text.now (option_map (λ rest. rest.now) next)) }
+        ReadsAnother width bytes.old.items bytes.new.items text.now
+        (option_map (λ rest. rest.now) next)) }
     ensures cause { IfErr result (λ e.
         (e ≡ cause.Memory) ⊎ MoreDeparts (data_kind width) text.now e) }
 {

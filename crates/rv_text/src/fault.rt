@@ -6,8 +6,8 @@ use crate::cause::TextCause;
 use std::alloc::{AllocError, AllocFailed};
 use thiserror::Error;
 
-/// The first line of a text that is faulty, and why. Its text is the line that the program prints, where
-/// memory was not refused.
+/// The first line of a text that is faulty, and why. Its text is the line that the program prints,
+/// where memory was not refused.
 #[derive(Clone, Copy, Debug, PartialEq, Eq, Error)]
 #[error("source fault {} {cause} line {line}", .cause.number())]
 pub struct TextFault {

@@ -23,7 +23,8 @@ pub enum NumberKind {
     Upper,
     /// 0 to 4095: the fence mode, predecessors and successors.
     FenceFields,
-    /// A power of two of `REGION_LEAST` to `DATA_MOST` of `sfi_policy`: the bytes of a sandbox's data.
+    /// A power of two of `REGION_LEAST` to `DATA_MOST` of `sfi_policy`:
+    /// the bytes of a sandbox's data.
     DataSize,
     /// 0 to `SERVICE_MOST`: a gate's service.
     Service,

@@ -212,7 +212,8 @@ const ALL: [Keyword; 67] = [
     Keyword::Numbers(DataWidth::Byte),
 ];
 
-/// By the hash of a name, the place in [`ALL`] of the keyword that alone can have the name; 67 where none can.
+/// By the hash of a name, the place in [`ALL`] of the keyword that alone can have the name;
+/// 67 where none can.
 const PLACES: [u8; 256] = [
     67, 67, 67, 67, 67, 28, 50, 67, 67, 67, 67, 67, 67, 67, 30, 64, 67, 67, 67, 67, 29, 63, 42, 24,
     67, 67, 67, 10, 58, 67, 67, 67, 67, 67, 2, 67, 67, 67, 48, 21, 67, 67, 3, 67, 67, 55, 67, 12,
@@ -227,8 +228,8 @@ const PLACES: [u8; 256] = [
     0, 67, 67, 67, 67, 67, 9, 67, 67, 18, 67, 67, 17, 67, 57, 27,
 ];
 
-/// The hash of a name: 57, and then for each byte 103 times what was there before and the byte, modulo 256. The two
-/// numbers were found by trial: by them no two keywords have one hash.
+/// The hash of a name: 57, and then for each byte 103 times what was there before and the byte,
+/// modulo 256. The two numbers were found by trial: by them no two keywords have one hash.
 #[tactic(auto, using(std::proofs::lemmas::List::Sums::fold_more), unfolding(crate::specs::private::Lookup::hash))]
 fn hash(name: &str) -> usize
     ensures value { result ≡ hash name.now }

@@ -1,4 +1,5 @@
-//! Laws of the text of instructions and of sources. A caller calls one to have its statement at hand.
+//! Laws of the text of instructions and of sources.
+//! A caller calls one to have its statement at hand.
 ghost use Rattle.rv_text.specs.Laws.{OneMeaning, OneCause, MeantIsNotRefused, SomeMeaning, MeaningsAreInRange, PrintedReadsBack, LeadsOnce, LeadingIsNotRefused, RefusedOnce, OneSource, OneFault, MeantHasNoFault, SomeSource, SourcesAreRight, ConstantsAddUp};
 
 /// A text means one instruction at most.
@@ -61,7 +62,8 @@ pub fn meant_has_no_fault()
     ensures { MeantHasNoFault }
 {}
 
-/// A text means a source, or has a fault: `parse_source` answers the one that it is, unless memory runs out.
+/// A text means a source, or has a fault: `parse_source` answers the one that it is,
+/// unless memory runs out.
 pub fn some_source()
     ensures { SomeSource }
 {}

@@ -1,10 +1,10 @@
 //! The assembler's text, of sources and of single instructions.
 //!
-//! [`parse_source`] reads a text to its sandboxes: what it means is `specs/Texts.antt`, line by line
-//! `specs/Leads.antt`, over the table of statements in `specs/Keywords.antt`.
+//! [`parse_source`] reads a text to its sandboxes: what it means is `specs/Texts.antt`, line by
+//! line `specs/Leads.antt`, over the table of statements in `specs/Keywords.antt`.
 //!
-//! [`parse_instr`] reads the text of one instruction, [`print_instr`] and [`push_instr`] write it; a printed
-//! instruction that a word spells reads back as itself. What a text means is
+//! [`parse_instr`] reads the text of one instruction, [`print_instr`] and [`push_instr`] write it;
+//! a printed instruction that a word spells reads back as itself. What a text means is
 //! `specs/Statement.antt`, over the tokens of `specs/Tokens.antt` and the operands of
 //! `specs/Forms.antt`; the printed text is `specs/Printed.antt`.
 #![tactic(auto)]

@@ -25,7 +25,8 @@ use sfi_policy::{Format, NAME_MOST_BYTES};
 use std::alloc::Global;
 use std::marker::Model;
 
-/// The source so far: its format, if the text has said it, the sandboxes that are finished, and the one begun last.
+/// The source so far: its format, if the text has said it, the sandboxes that are finished,
+/// and the one begun last.
 #[derive(Drop)]
 pub struct Progress {
     format: Option<Format>,

@@ -188,7 +188,8 @@ impl<'a> Operands<'a> {
     }
 }
 
-/// Puts in the operands of this form, which are all of the text; an operand's range is tested where it stands.
+/// Puts in the operands of this form, which are all of the text;
+/// an operand's range is tested where it stands.
 fn fill<'a>(form: &[Part], text: &'a str, operands: &mut Operands<'a>) -> Result<(), TextCause>
     requires { IsTrue (has_no_repeat form.now) }
     ensures reads { OnOk result (Reads (values_of operands.new) form.now text.now) }

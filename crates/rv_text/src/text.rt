@@ -107,10 +107,11 @@ fn read_source(alloc: Global, text: &str) -> Result<Source, TextFault>
 
 /// The source that a text means: one sandbox at least, each begun by a `.sandbox` line.
 ///
-/// A line has labels, each a name and a colon, and then a statement or nothing; `#` begins a comment. A text has at most
-/// 1048576 bytes. The fault of a text is that of the first line that is refused, and its cause that of the first token
-/// there that departs from a statement that may come there; `Limit` on line 1 for a longer text, and `Directive` on
-/// line 1 for one that begins no sandbox.
+/// A line has labels, each a name and a colon, and then a statement or nothing; `#` begins a
+/// comment. A text has at most 1048576 bytes. The fault of a text is that of the first line that is
+/// refused, and its cause that of the first token there that departs from a statement that may come
+/// there; `Limit` on line 1 for a longer text,
+/// and `Directive` on line 1 for one that begins no sandbox.
 pub fn parse_source(alloc: Global, text: &str) -> Result<Source, TextFault>
     ensures source { IfOk result (λ s. MeansSource text.now s) }
     ensures only_source { (s : List Sandbox) → MeansSource text.now s

@@ -5,7 +5,8 @@ use Rattle.rv_word.specs.declared.instr.Instr.{Instr}
 use Rattle.rv_word.specs.declared.instr.Instr.TheVariants.{Load, Store}
 use Rattle.rv_word.specs.Spelling.{IsWordOf}
 
--- what the instruction loads into, or x0 where it stores, and on which base; none where it accesses no memory
+-- what the instruction loads into, or x0 where it stores, and on which base;
+-- none where it accesses no memory
 abbrev pub access : Instr → Option Access
 access (Load kind rd rs1 imm) = Some (record { written = rd; base = rs1 })
 access (Store width rs1 rs2 imm) = Some (record { written = 0; base = rs1 })

@@ -1,4 +1,5 @@
-//! Which words compute, by two tables: what one test tells of most words, without making an outline.
+//! Which words compute, by two tables: what one test tells of most words,
+//! without making an outline.
 ghost use Rattle.std.specs.Prelude.{◌≡◌, ℕ, true};
 ghost use Rattle.std.specs.Bool.{OnTrue};
 ghost use Rattle.rv_word.specs.Numbers.{bits};
@@ -7,8 +8,8 @@ ghost use Rattle.rv_word.specs.Outlines.{IsWordThat};
 
 use crate::parts::Parts;
 
-/// By bits 6:2 of a word and its funct3: the classes of funct7 with which the word computes. 1 is every funct7, 2 is 0000000,
-/// 4 is 0000001 (extension M) and 8 is 0100000.
+/// By bits 6:2 of a word and its funct3: the classes of funct7 with which the word computes. 1 is
+/// every funct7, 2 is 0000000, 4 is 0000001 (extension M) and 8 is 0100000.
 const COMPUTING: [u8; 256] = [
     0, 0, 0, 0, 0, 0, 0, 0, // 00000, LOAD
     0, 0, 0, 0, 0, 0, 0, 0, // 00001

@@ -1,4 +1,5 @@
-//! The program `sfi`: the commands of `sfi_tool` over the arguments, standard input and standard output.
+//! The program `sfi`: the commands of `sfi_tool` over the arguments,
+//! standard input and standard output.
 #![tactic(auto)]
 
 use sfi_tool::{run_tool, write_out};

@@ -5,4 +5,5 @@ use Rattle.sfi_build.specs.Texts.{IsTextBuild, IsBuildFault}
 
 -- each text has a build or a fault
 abbrev pub SomeBuilding : Type 0
-SomeBuilding = (text : List ℕ) → ((bytes : List ℕ) × IsTextBuild text bytes) ⊎ ((f : BuildFault) × IsBuildFault text f)
+SomeBuilding = (text : List ℕ)
+    → ((bytes : List ℕ) × IsTextBuild text bytes) ⊎ ((f : BuildFault) × IsBuildFault text f)

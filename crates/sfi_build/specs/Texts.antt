@@ -31,12 +31,15 @@ pub record IsCleanImage (bytes : List ℕ) : Type 0 where
   pub image : IsImage bytes parts
   pub none_found : AreImageFindings parts []
 
--- the fault of the text: it means no source, or its source can't be rewritten, or what is placed can't be linked
+-- the fault of the text: it means no source, or its source can't be rewritten,
+-- or what is placed can't be linked
 abbrev pub IsBuildFault : List ℕ → BuildFault → Type 0
 IsBuildFault text (Text f) = IsFault text f
-IsBuildFault text (Rewrite f) = (source : List Sandbox) × MeansSource text source × IsSourceFault source f
+IsBuildFault text (Rewrite f) =
+    (source : List Sandbox) × MeansSource text source × IsSourceFault source f
 IsBuildFault text (Link f) =
-    (source : List Sandbox) × (placed : List Placement) × MeansSource text source × AreRewritten source placed × IsLinkFault placed f
+    (source : List Sandbox) × (placed : List Placement) × MeansSource text source
+    × AreRewritten source placed × IsLinkFault placed f
 
 -- memory ran out
 abbrev pub IsWantOfMemory : BuildFault → Type 0

@@ -31,8 +31,8 @@ fn build_of(alloc: Global, text: &str) -> Result<Vec<u8>, BuildFault>
     Ok(link(alloc, &placed)?)
 }
 
-/// Reads a source, places it and links it: the image of a text, or the first fault of the three in this order. The image
-/// has a right layout and breaks no rule, so the checker accepts it.
+/// Reads a source, places it and links it: the image of a text, or the first fault of the three in
+/// this order. The image has a right layout and breaks no rule, so the checker accepts it.
 pub fn build(alloc: Global, text: &str) -> Result<Vec<u8>, BuildFault>
     // What each answer means.
     ensures built { IfOk result (λ bytes. IsTextBuild text.now bytes.items) }

@@ -7,8 +7,8 @@ use sfi_link::LinkFault;
 use sfi_rewrite::RewriteFault;
 use thiserror::Error;
 
-/// Why a text isn't built: the first of its reading, its rewriting and its linking that fails. Its text is the line that
-/// the program prints, where memory was not refused.
+/// Why a text isn't built: the first of its reading, its rewriting and its linking that fails. Its
+/// text is the line that the program prints, where memory was not refused.
 #[derive(Clone, Copy, Debug, PartialEq, Eq, Error)]
 pub enum BuildFault {
     /// The text is no source.

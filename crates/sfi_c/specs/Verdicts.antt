@@ -22,7 +22,8 @@ told f = record { sandbox = f.sandbox; address = f.address; rule = rule_number f
 abbrev pub no_finding : SfiFinding
 no_finding = record { sandbox = 0; address = 0; rule = 0 }
 
--- an array after findings were written to it: at its front those that it has room for, and then what it held there before
+-- an array after findings were written to it: at its front those that it has room for, and then
+-- what it held there before
 abbrev pub with_findings : List Finding → List SfiFinding → List SfiFinding
 with_findings found array = map told (take (length array) found) ++ drop (length found) array
 
@@ -52,11 +53,25 @@ refusal count first = record {
 
 -- no image, by the number of the layout's fault
 abbrev pub no_image : ℕ → SfiVerdict
-no_image fault = record { status = number_of NoImage; layout_fault = fault; sandboxes = 0; bundles = 0; findings = 0; first = no_finding }
+no_image fault = record {
+  status = number_of NoImage;
+  layout_fault = fault;
+  sandboxes = 0;
+  bundles = 0;
+  findings = 0;
+  first = no_finding;
+}
 
 -- memory ran out
 abbrev pub no_memory : SfiVerdict
-no_memory = record { status = number_of NoMemory; layout_fault = 0; sandboxes = 0; bundles = 0; findings = 0; first = no_finding }
+no_memory = record {
+  status = number_of NoMemory;
+  layout_fault = 0;
+  sandboxes = 0;
+  bundles = 0;
+  findings = 0;
+  first = no_finding;
+}
 
 -- ---- what verdicts say of bytes
 
@@ -68,7 +83,8 @@ pub record IsAcceptance (bytes : List ℕ) (v : SfiVerdict) : Type 0 where
   pub verdict_is : v ≡ acceptance (length parts) (bundle_count parts)
 
 -- the bytes are an image with findings: this one, and then these
-pub record IsRefusal (bytes : List ℕ) (first : Finding) (rest : List Finding) (v : SfiVerdict) : Type 0 where
+pub record IsRefusal (bytes : List ℕ) (first : Finding) (rest : List Finding)
+    (v : SfiVerdict) : Type 0 where
   pub found : HasFindings bytes (first ∷ rest)
   pub verdict_is : v ≡ refusal (length (first ∷ rest)) first
 

@@ -84,7 +84,8 @@ pub extern "C" fn sfi_c_check(image: &[u8], verdict: &mut SfiVerdict) -> u32
     verdict.status
 }
 
-/// Writes the bytes' findings to the array, and says whether memory was there to find them all. Else the array is as it was.
+/// Writes the bytes' findings to the array, and says whether memory was there to find them all.
+/// Else the array is as it was.
 fn list_findings(alloc: Global, image: &[u8], array: &mut [SfiFinding]) -> bool
     ensures listed { result ≡ true → (found : List Finding) → HasFindings image.now found
         → array.new ≡ with_findings found array.old }
@@ -99,8 +100,9 @@ fn list_findings(alloc: Global, image: &[u8], array: &mut [SfiFinding]) -> bool
     }
 }
 
-/// Writes the verdict on the bytes to `verdict`, and returns its status. Where the bytes are refused, their findings are
-/// written to the array, from its front on, as many as it has room for; the verdict tells how many there are.
+/// Writes the verdict on the bytes to `verdict`, and returns its status. Where the bytes are
+/// refused, their findings are written to the array, from its front on, as many as it has room for;
+/// the verdict tells how many there are.
 #[unsafe(no_mangle)]
 pub extern "C" fn sfi_c_findings(
     alloc: Global,

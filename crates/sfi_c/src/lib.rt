@@ -1,7 +1,8 @@
-//! The checker for C, and for what calls as C does: a static library, which `include/sfi.h` declares.
+//! The checker for C, and for what calls as C does: a static library,
+//! which `include/sfi.h` declares.
 //!
-//! A call keeps nothing. Whatever the bytes are, it returns, and reads nothing but them. The contracts hold for a caller that
-//! passes what the header asks for: nothing checks it.
+//! A call keeps nothing. Whatever the bytes are, it returns, and reads nothing but them. The
+//! contracts hold for a caller that passes what the header asks for: nothing checks it.
 #![tactic(auto)]
 
 mod bytes;

@@ -3,8 +3,8 @@ use crate::{SfiFinding, SfiVerdict, Status, sfi_c_check, sfi_c_findings};
 use std::alloc::{AllocError, Global};
 use std::test::Fail;
 
-// The head of one sandbox: code 256 bytes at 01000000, data 256 at 01800000, start at the code's first byte, no gates, no
-// first data bytes; and its length.
+// The head of one sandbox: code 256 bytes at 01000000, data 256 at 01800000, start at the code's
+// first byte, no gates, no first data bytes; and its length.
 const HEAD: &[u8] =
     b"SFI1\x01\0\0\0\0\0\0\x01\0\x01\0\0\0\0\x80\x01\0\x01\0\0\0\0\0\x01\0\0\0\0\0\0\0\0";
 

@@ -1,4 +1,5 @@
--- What `convert` answers: an accepted image of the first format becomes that of the same sandboxes in the second.
+-- What `convert` answers: an accepted image of the first format becomes that of the same sandboxes
+-- in the second.
 use Rattle.std.specs.Prelude.{◌≡◌, ◌≢◌, ℕ, List, [], take, Result, Ok, Err, Vec}
 use Rattle.std.specs.Global.{Global}
 use Rattle.std.specs.List.{All}
@@ -29,7 +30,8 @@ IsRefusalOf bytes (refusal.Layout k) = (¬ IsSecond bytes) × IsFault bytes k
 IsRefusalOf bytes (refusal.Findings found) = (¬ IsSecond bytes) × HasFindings bytes found.items
 IsRefusalOf bytes refusal.Memory = ⊥
 
--- they are an accepted image of the first format, and these are the findings of the same sandboxes in the second, of which there is at least one
+-- they are an accepted image of the first format, and these are the findings of the same sandboxes
+-- in the second, of which there is at least one
 pub record HasStackFindings (bytes : List ℕ) (found : List Finding) : Type 0 where
   pub parts : List Part
   pub first : format_of parts ≡ Sfi1
@@ -37,7 +39,8 @@ pub record HasStackFindings (bytes : List ℕ) (found : List Finding) : Type 0 w
   pub found_are : AreImageFindings (all_in_format Sfi2 parts) found
   pub some : found ≢ []
 
--- they are an accepted image of the first format, and the new bytes are an accepted image of the same sandboxes in the second
+-- they are an accepted image of the first format, and the new bytes are an accepted image of the
+-- same sandboxes in the second
 pub record IsConversion (bytes new : List ℕ) : Type 0 where
   pub parts : List Part
   pub first : format_of parts ≡ Sfi1

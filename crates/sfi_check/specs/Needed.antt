@@ -25,7 +25,8 @@ pub record HasUnsafeRun (p : Part) (s : State) : Type 0 where
   pub run : IsRun p (Some s) turns
   pub unsafe : IsSafeRun p (Some s) turns → ⊥
 
--- The instruction at this address is one of its bundle's longest reading, and it breaks this rule and no other.
+-- The instruction at this address is one of its bundle's longest reading,
+-- and it breaks this rule and no other.
 pub record BreaksAlone (rule : Rule) (address : ℕ) (p : Part) : Type 0 where
   pub number : ℕ  -- the bundle's
   pub earlier : List Piece  -- the pieces before it, the nearest first
@@ -43,8 +44,9 @@ pub record BreaksAlone (rule : Rule) (address : ℕ) (p : Part) : Type 0 where
         whole = is_empty (rest_of (bundle_bytes p number) (reverse earlier ++ here ∷ later));
       }) r) all_rules ≡ rule ∷ []
 
--- No other rule is broken where that rule's finding is. V1 and V2 are found where no instruction stands, so there is none. V9 stands in place of all
--- findings of its bundle, and of these nothing is said.
+-- No other rule is broken where that rule's finding is. V1 and V2 are found where no instruction
+-- stands, so there is none. V9 stands in place of all findings of its bundle,
+-- and of these nothing is said.
 abbrev pub BreaksNoOther : Rule → ℕ → Part → Type 0
 BreaksNoOther V1 address p = Unit {0}
 BreaksNoOther V2 address p = Unit {0}
@@ -56,8 +58,8 @@ pub record HasOneFinding (p : Part) (found : Finding) : Type 0 where
   pub image : IsImage (spelling (p ∷ [])) (p ∷ [])
   pub found_are : AreImageFindings (p ∷ []) (found ∷ [])
 
--- The rule is needed: the image of this sandbox has a right layout and one finding, that rule at this address, where no other is broken, and
--- from an entry it has a run that is not safe.
+-- The rule is needed: the image of this sandbox has a right layout and one finding, that rule at
+-- this address, where no other is broken, and from an entry it has a run that is not safe.
 pub record IsNeeded (rule : Rule) (address : ℕ) (p : Part) : Type 0 where
   pub refused : HasOneFinding p (record { sandbox = 0; address = address; rule = rule })
   pub no_other : BreaksNoOther rule address p
@@ -65,19 +67,21 @@ pub record IsNeeded (rule : Rule) (address : ℕ) (p : Part) : Type 0 where
   pub is_entry : IsEntry p entry
   pub runs_unsafely : HasUnsafeRun p entry
 
--- each of the ten rules is (of V9 this says that its finding may not be passed over, not that no other rule would refuse the image)
+-- each of the ten rules is (of V9 this says that its finding may not be passed over, not that no
+-- other rule would refuse the image)
 abbrev pub EachRuleIsNeeded : Type 0
 EachRuleIsNeeded = (rule : Rule) → (address : ℕ) × (p : Part) × IsNeeded rule address p
 
--- The rule is stricter than safety asks: the image of this sandbox has a right layout and one finding, that rule at this address, and every run from
--- every entry is safe.
+-- The rule is stricter than safety asks: the image of this sandbox has a right layout and one
+-- finding, that rule at this address, and every run from every entry is safe.
 pub record IsStricter (rule : Rule) (address : ℕ) (p : Part) : Type 0 where
   pub refused : HasOneFinding p (record { sandbox = 0; address = address; rule = rule })
   pub safe : RunsSafely p
 
 -- ---- an accepted one
 
--- a run in which others change a byte of the data, and three steps later the sandbox has stored one there
+-- a run in which others change a byte of the data,
+-- and three steps later the sandbox has stored one there
 pub record StoresByte (p : Part) : Type 0 where
   pub entry : State
   pub is_entry : IsEntry p entry

@@ -28,31 +28,40 @@ abbrev pub SaysSame : Result (List Part) Refusal → StreamAnswer → Type 0
 SaysSame (Ok ps) said = said ≡ answers.Accepted (length ps) (bundle_count ps)
 SaysSame (Err (Layout k)) said = said ≡ answers.Layout (number_of k)
 SaysSame (Err (Findings found)) said =
-    (first : Finding) × (slice_get found.items 0 ≡ Some first) × (said ≡ answers.Findings (length found.items) first)
+    (first : Finding) × (slice_get found.items 0 ≡ Some first)
+    × (said ≡ answers.Findings (length found.items) first)
 SaysSame (Err Memory) said = Unit {0}
 
 -- bytes have one list of findings at most
 abbrev pub OneListOfFindings : Type 0
-OneListOfFindings = (bytes : List ℕ) (found others : List Finding) → HasFindings bytes found → HasFindings bytes others → found ≡ others
+OneListOfFindings = (bytes : List ℕ) (found others : List Finding) → HasFindings bytes found
+    → HasFindings bytes others → found ≡ others
 
 -- bytes that are accepted have no list of findings
 abbrev pub NeverAcceptedWithFindings : Type 0
-NeverAcceptedWithFindings = (bytes : List ℕ) (ps : List Part) (found : List Finding) → IsAccepted bytes ps → HasFindings bytes found → ⊥
+NeverAcceptedWithFindings = (bytes : List ℕ) (ps : List Part) (found : List Finding)
+    → IsAccepted bytes ps → HasFindings bytes found → ⊥
 
--- what `check_stream` answers after a beginning of the bytes is the verdict on all of them, if no read failed
+-- what `check_stream` answers after a beginning of the bytes is the verdict on all of them,
+-- if no read failed
 abbrev pub VerdictIsOnAll : Type 0
 VerdictIsOnAll =
-    (bytes read : List ℕ) (ends : Bool) (said : StreamAnswer) → IsReadOf bytes read ends → IsVerdictOn read ends said
+    (bytes read : List ℕ) (ends : Bool) (said : StreamAnswer) → IsReadOf bytes read ends
+    → IsVerdictOn read ends said
     → said ≢ answers.ReadFault → IsVerdictOn bytes true said
 
--- two streams that hand out the same bytes have one answer, whatever the pieces and however much of a refused image each read
+-- two streams that hand out the same bytes have one answer, whatever the pieces and however much of
+-- a refused image each read
 abbrev pub OneVerdict : Type 0
 OneVerdict =
-    (bytes read others : List ℕ) (ends stops : Bool) (said told : StreamAnswer) → IsReadOf bytes read ends → IsReadOf bytes others stops
-    → IsVerdictOn read ends said → IsVerdictOn others stops told → said ≢ answers.ReadFault → told ≢ answers.ReadFault → said ≡ told
+    (bytes read others : List ℕ) (ends stops : Bool) (said told : StreamAnswer)
+    → IsReadOf bytes read ends → IsReadOf bytes others stops
+    → IsVerdictOn read ends said → IsVerdictOn others stops told → said ≢ answers.ReadFault
+    → told ≢ answers.ReadFault → said ≡ told
 
 -- what a stream of the bytes is answered is what `check` says of these bytes
 abbrev pub StreamSaysSame : Type 0
 StreamSaysSame =
-    (bytes read : List ℕ) (ends : Bool) (answer : Result (List Part) Refusal) (said : StreamAnswer) → Answers bytes answer
-    → IsReadOf bytes read ends → IsVerdictOn read ends said → said ≢ answers.ReadFault → SaysSame answer said
+    (bytes read : List ℕ) (ends : Bool) (answer : Result (List Part) Refusal) (said : StreamAnswer)
+    → Answers bytes answer → IsReadOf bytes read ends → IsVerdictOn read ends said
+    → said ≢ answers.ReadFault → SaysSame answer said

@@ -15,28 +15,33 @@ use Rattle.sfi_scan.specs.Findings.{findings_from, AreFindings}
 use Rattle.sfi_check.specs.Regions.{InData, HasReserved, StackInData, HasCode, HasEmptyGuards}
 use Rattle.sfi_check.specs.Leaving.{Leaves}
 
--- the part of the sandbox of that number has a right layout, its code lies apart from its data and guards, and no rule is broken in it
+-- the part of the sandbox of that number has a right layout, its code lies apart from its data and
+-- guards, and no rule is broken in it
 pub record IsCleanPart (sandbox : ℕ) (p : Part) : Type 0 where
   pub right : IsRightPart p
   pub apart : AreApart (code_region p) (guarded_region p)
   pub none_found : AreFindings sandbox p []
 
--- the registers keep their count and the reserved values, the code its bytes, and the guards are empty: no turn changes that
+-- the registers keep their count and the reserved values, the code its bytes, and the guards are
+-- empty: no turn changes that
 pub record KeepsAll (p : Part) (s : State) : Type 0 where
   pub count : length s.hart.registers ≡ 32
   pub reserved : HasReserved p s.hart.registers
   pub code : HasCode p s.memory
   pub guards : HasEmptyGuards p s.memory
 
--- A stack pointer lies in the data region at each bundle's end. Before, it lies there, or the pair that puts it there stands here, or has begun directly
--- before. (`later` has the instruction here and those after it.)
+-- A stack pointer lies in the data region at each bundle's end. Before, it lies there, or the pair
+-- that puts it there stands here, or has begun directly before.
+-- (`later` has the instruction here and those after it.)
 abbrev pub StackInDataBefore : Part → List Instr → List Piece → List ℕ → Type 0
 StackInDataBefore p earlier [] registers = StackInData p registers
 StackInDataBefore p earlier (here ∷ later) registers =
-    has_stack p.format ≡ true → InData p (slice_index registers stack_pointer) ⊎ ((begins_pair here.instr later || ends_pair earlier here.instr) ≡ true)
+    has_stack p.format ≡ true → InData p (slice_index registers stack_pointer)
+    ⊎ ((begins_pair here.instr later || ends_pair earlier here.instr) ≡ true)
 
--- pc is at an offset of a bundle from which the rest is read whole and has no finding, if `earlier` stood before it. That is any list, the nearest first,
--- whose marks the registers bear, and it is empty at the bundle's start alone. So there are more such places than a run reaches.
+-- pc is at an offset of a bundle from which the rest is read whole and has no finding, if `earlier`
+-- stood before it. That is any list, the nearest first, whose marks the registers bear, and it is
+-- empty at the bundle's start alone. So there are more such places than a run reaches.
 pub record IsAtPlace (sandbox : ℕ) (p : Part) (h : Hart) : Type 0 where
   pub number : ℕ
   pub within : bundle_size * number + bundle_size ≤ length p.code
@@ -46,7 +51,8 @@ pub record IsAtPlace (sandbox : ℕ) (p : Part) (h : Hart) : Type 0 where
   pub later : List Piece
   pub reading : IsReading (drop offset (bundle_bytes p number)) (here ∷ later)
   pub whole : rest_of (drop offset (bundle_bytes p number)) (here ∷ later) ≡ []
-  pub clean : findings_from (place_of sandbox p number) true (p.code_base + bundle_size * number + offset) earlier (here ∷ later) ≡ []
+  pub clean : findings_from (place_of sandbox p number) true
+      (p.code_base + bundle_size * number + offset) earlier (here ∷ later) ≡ []
   pub pc : h.pc ≡ p.code_base + bundle_size * number + offset
   pub first : earlier ≡ [] → offset ≡ 0
   pub leaves : Leaves p earlier h.registers

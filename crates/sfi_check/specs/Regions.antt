@@ -37,7 +37,8 @@ StackInData p registers = has_stack p.format ≡ true → InData p (slice_index 
 
 -- at each code address is the image's byte
 abbrev pub HasCode : Part → Bytes → Type 0
-HasCode p m = (k : ℕ) → k < length p.code → byte_at m (p.code_base + k) ≡ Some (slice_index p.code k)
+HasCode p m =
+    (k : ℕ) → k < length p.code → byte_at m (p.code_base + k) ≡ Some (slice_index p.code k)
 
 -- at no guard address is a byte
 abbrev pub HasEmptyGuards : Part → Bytes → Type 0

@@ -12,7 +12,8 @@ use Rattle.sfi_image.specs.Spans.{code_region}
 use Rattle.sfi_image.specs.Regions.{IsBundleStart}
 use Rattle.sfi_check.specs.Regions.{InCode, InGuard, HasReserved, StackInData, HasCode, HasEmptyGuards}
 
--- A sandbox may be entered here: at any bundle start, with the reserved registers set and a stack pointer in the data. All else is arbitrary.
+-- A sandbox may be entered here: at any bundle start, with the reserved registers set and a stack
+-- pointer in the data. All else is arbitrary.
 pub record IsEntry (p : Part) (s : State) : Type 0 where
   pub state : IsState s
   pub start : IsBundleStart (code_region p) s.hart.pc
@@ -35,7 +36,8 @@ pub record KeepsReserved (before after : Hart) : Type 0 where
   pub data_base : register after data_base_register ≡ register before data_base_register
   pub data_mask : register after data_mask_register ≡ register before data_mask_register
 
--- a reply to the ecall at pc: it goes on after that, with a stack pointer in the data. The other registers and all other memory are arbitrary.
+-- a reply to the ecall at pc: it goes on after that, with a stack pointer in the data. The other
+-- registers and all other memory are arbitrary.
 pub record IsReply (p : Part) (before after : State) : Type 0 where
   pub size : ℕ
   pub asked : Stands before Ecall size
@@ -45,8 +47,9 @@ pub record IsReply (p : Part) (before after : State) : Type 0 where
   pub stack : StackInData p after.hart.registers
   pub bytes : KeepsBytes p before.memory after.memory
 
--- A change of the memory alone, by others. All other memory is arbitrary: it need not even be bytes, so that the states after it may be none of a real
--- machine, and what is said of runs holds of them too.
+-- A change of the memory alone, by others. All other memory is arbitrary: it need not even be
+-- bytes, so that the states after it may be none of a real machine,
+-- and what is said of runs holds of them too.
 pub record IsChange (p : Part) (before after : State) : Type 0 where
   pub pc : after.hart.pc ≡ before.hart.pc
   pub registers : after.hart.registers ≡ before.hart.registers

@@ -18,12 +18,14 @@ pub record HasInstruction (s : State) : Type 0 where
   pub size : ℕ
   pub stands : Stands s instr size
 
--- the code's bytes are the image's, an instruction stands at pc, and pc and each byte of it lie in the code region
+-- the code's bytes are the image's, an instruction stands at pc,
+-- and pc and each byte of it lie in the code region
 pub record IsSafeState (p : Part) (s : State) : Type 0 where
   pub code : HasCode p s.memory
   pub present : HasInstruction s
   pub pc : InCode p s.hart.pc
-  pub instruction : (i : Instr) (n : ℕ) → Stands s i n → (k : ℕ) → k < n → InCode p (address_after s.hart.pc k)
+  pub instruction :
+      (i : Instr) (n : ℕ) → Stands s i n → (k : ℕ) → k < n → InCode p (address_after s.hart.pc k)
 
 -- the step traps
 abbrev pub IsTrap : Outcome → Type 0
@@ -31,10 +33,13 @@ IsTrap Next = ⊥
 IsTrap Call = ⊥
 IsTrap (Trap cause at) = Unit {0}
 
--- Each access lies in the data and the guards together, and a step with a guard address among its accesses traps. A call is at a listed gate.
+-- Each access lies in the data and the guards together, and a step with a guard address among its
+-- accesses traps. A call is at a listed gate.
 pub record IsSafeStep (p : Part) (s : State) (r : Stepped) : Type 0 where
-  pub within : (i : Instr) (n : ℕ) → Stands s i n → (a : ℕ) → Accesses i s.hart a → InData p a ⊎ InGuard p a
-  pub trapped : (i : Instr) (n : ℕ) → Stands s i n → (a : ℕ) → Accesses i s.hart a → InGuard p a → IsTrap r.outcome
+  pub within :
+      (i : Instr) (n : ℕ) → Stands s i n → (a : ℕ) → Accesses i s.hart a → InData p a ⊎ InGuard p a
+  pub trapped : (i : Instr) (n : ℕ) → Stands s i n → (a : ℕ) → Accesses i s.hart a
+      → InGuard p a → IsTrap r.outcome
   pub called : r.outcome ≡ Call → IsGate p s.hart.pc
 
 -- the turn is safe: a reply too is at a listed gate
@@ -47,7 +52,8 @@ IsSafeTurn p s (Changes after) = Unit {0}
 abbrev pub IsSafeRun : Part → Option State → List Turn → Type 0
 IsSafeRun p None turns = Unit {0}
 IsSafeRun p (Some s) [] = IsSafeState p s
-IsSafeRun p (Some s) (turn ∷ turns) = IsSafeState p s × IsSafeTurn p s turn × IsSafeRun p (after_turn turn) turns
+IsSafeRun p (Some s) (turn ∷ turns) =
+    IsSafeState p s × IsSafeTurn p s turn × IsSafeRun p (after_turn turn) turns
 
 -- every run from this state is safe
 pub record RunsSafelyFrom (p : Part) (s : State) : Type 0 where

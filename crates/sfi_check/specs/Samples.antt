@@ -1,4 +1,5 @@
--- Small sandboxes as data: for each rule one whose code breaks it (for V5 two), some that break one and are safe, and one that is accepted.
+-- Small sandboxes as data: for each rule one whose code breaks it (for V5 two), some that break one
+-- and are safe, and one that is accepted.
 use Rattle.std.specs.Prelude.{pos, ℕ, List, [], ◌∷◌, ◌++◌, map, replicate}
 use Rattle.std.specs.List.{flat_map}
 use Rattle.std.specs.Int.{w32, to_le_bytes}
@@ -32,7 +33,8 @@ pub record Sample : Type 0 where
   pub first_words : List ℕ  -- the 8 words of its first two bundles
   pub last_words : List ℕ  -- the 4 words of its last one
 
--- 256 bytes of code at 01000000, in which 52 ebreaks stand between those words, and 256 bytes of data at 01800000
+-- 256 bytes of code at 01000000, in which 52 ebreaks stand between those words,
+-- and 256 bytes of data at 01800000
 abbrev pub sandbox : Sample → Part
 sandbox s = record {
   format = s.format;
@@ -64,14 +66,21 @@ nop = OpImm Addi 0 0 (pos 0)
 
 -- V1: a word that spells no instruction
 abbrev pub undecodable : Sample
-undecodable = record { format = Sfi1; gates = []; first_words = 0xffffffff ∷ words_of (replicate 7 Ebreak); last_words = ebreaks }
+undecodable = record {
+  format = Sfi1;
+  gates = [];
+  first_words = 0xffffffff ∷ words_of (replicate 7 Ebreak);
+  last_words = ebreaks;
+}
 
--- V2: `sw x1, 0(x6)`, of which two bytes (23 20) end a bundle after a c.nop (01 00), and two (13 00) begin the next one, which is read as a nop
+-- V2: `sw x1, 0(x6)`, of which two bytes (23 20) end a bundle after a c.nop (01 00), and two (13
+-- 00) begin the next one, which is read as a nop
 abbrev pub crossing_store : Sample
 crossing_store = record {
   format = Sfi1;
   gates = [];
-  first_words = words_of (replicate 3 nop) ++ (0x20230001 ∷ 0x00000013 ∷ words_of (replicate 3 Ebreak));
+  first_words = words_of (replicate 3 nop)
+      ++ (0x20230001 ∷ 0x00000013 ∷ words_of (replicate 3 Ebreak));
   last_words = ebreaks;
 }
 
@@ -92,14 +101,16 @@ pair_on_x0 = code (
     data_pair 0 10 ++ (Store Sw 0 11 (pos 0) ∷ Ebreak ∷ Ebreak ∷ Ebreak ∷ Ebreak ∷ Ebreak ∷ [])
     )
 
--- V5: a pair at the end of a bundle, and the store at the start of the next, where a run may be entered
+-- V5: a pair at the end of a bundle, and the store at the start of the next,
+-- where a run may be entered
 abbrev pub pair_across_bundles : Sample
 pair_across_bundles = code (
     Ebreak ∷ Ebreak ∷ (data_pair scratch 10
     ++ (Store Sw scratch 11 (pos 0) ∷ Ebreak ∷ Ebreak ∷ Ebreak ∷ []))
     )
 
--- V6: a jalr after its pair, to 16 bytes past a bundle start, and after the region's last bundle there is no code
+-- V6: a jalr after its pair, to 16 bytes past a bundle start,
+-- and after the region's last bundle there is no code
 abbrev pub jalr_offset_ignored : Sample
 jalr_offset_ignored = code (
     code_pair scratch 10 ++ (Jalr 0 scratch (pos 16) ∷ Ebreak
@@ -115,7 +126,12 @@ jump_to_any_start = code (
 
 -- V8: nops up to the region's end
 abbrev pub running_off_the_end : Sample
-running_off_the_end = record { format = Sfi1; gates = []; first_words = words_of (replicate 8 Ebreak); last_words = words_of (replicate 4 nop) }
+running_off_the_end = record {
+  format = Sfi1;
+  gates = [];
+  first_words = words_of (replicate 8 Ebreak);
+  last_words = words_of (replicate 4 nop);
+}
 
 -- V9: a listed gate whose jalr goes back to 16 bytes past a bundle start
 abbrev pub gate_comes_back_elsewhere : Sample
@@ -131,15 +147,20 @@ gate_comes_back_elsewhere = record {
 
 -- V10: x2 becomes 0, and a store on it
 abbrev pub stack_not_put_back : Sample
-stack_not_put_back = code_as Sfi2 (
-    OpImm Addi stack_pointer 0 (pos 0) ∷ Store Sw stack_pointer 11 (pos 0) ∷ Ebreak ∷ Ebreak ∷ Ebreak ∷ Ebreak ∷ Ebreak ∷ Ebreak ∷ []
-    )
+stack_not_put_back = code_as Sfi2 (OpImm Addi stack_pointer 0 (pos 0)
+    ∷ Store Sw stack_pointer 11 (pos 0) ∷ Ebreak ∷ Ebreak ∷ Ebreak ∷ Ebreak ∷ Ebreak ∷ Ebreak ∷ [])
 
--- ---- refused, and safe: an ebreak stands before what the rule is broken by, and at each other bundle's start
+-- ---- refused, and safe: an ebreak stands before what the rule is broken by,
+-- and at each other bundle's start
 
 -- V1
 abbrev pub undecodable_after_ebreak : Sample
-undecodable_after_ebreak = record { format = Sfi1; gates = []; first_words = spelling Ebreak ∷ 0xffffffff ∷ words_of (replicate 6 Ebreak); last_words = ebreaks }
+undecodable_after_ebreak = record {
+  format = Sfi1;
+  gates = [];
+  first_words = spelling Ebreak ∷ 0xffffffff ∷ words_of (replicate 6 Ebreak);
+  last_words = ebreaks;
+}
 
 -- V2: as above, but for `sw x7, 0(x6)`, of which two bytes (73 00) begin an ebreak
 abbrev pub crossing_after_ebreak : Sample
@@ -152,11 +173,17 @@ crossing_after_ebreak = record {
 
 -- V3
 abbrev pub ecall_after_ebreak : Sample
-ecall_after_ebreak = code (Ebreak ∷ Ecall ∷ Ebreak ∷ Ebreak ∷ Ebreak ∷ Ebreak ∷ Ebreak ∷ Ebreak ∷ [])
+ecall_after_ebreak =
+    code (Ebreak ∷ Ecall ∷ Ebreak ∷ Ebreak ∷ Ebreak ∷ Ebreak ∷ Ebreak ∷ Ebreak ∷ [])
 
 -- V8
 abbrev pub nops_after_ebreak : Sample
-nops_after_ebreak = record { format = Sfi1; gates = []; first_words = words_of (replicate 8 Ebreak); last_words = words_of (Ebreak ∷ nop ∷ nop ∷ nop ∷ []) }
+nops_after_ebreak = record {
+  format = Sfi1;
+  gates = [];
+  first_words = words_of (replicate 8 Ebreak);
+  last_words = words_of (Ebreak ∷ nop ∷ nop ∷ nop ∷ []);
+}
 
 -- ---- none
 

@@ -17,7 +17,8 @@ after_turns (Some s) (turn ∷ turns) = after_turns (after_turn turn) turns
 
 -- in every run from this state the stack pointer lies in the data region wherever an ecall stands
 pub record CallsWithStackFrom (p : Part) (s : State) : Type 0 where
-  pub lies : (turns : List Turn) (at : State) (n : ℕ) → IsRun p (Some s) turns → after_turns (Some s) turns ≡ Some at → Stands at Ecall n → StackInData p at.hart.registers
+  pub lies : (turns : List Turn) (at : State) (n : ℕ) → IsRun p (Some s) turns
+      → after_turns (Some s) turns ≡ Some at → Stands at Ecall n → StackInData p at.hart.registers
 
 -- every run from this state is safe, and calls so: what a world keeps of each sandbox
 pub record GoesSafelyFrom (p : Part) (s : State) : Type 0 where

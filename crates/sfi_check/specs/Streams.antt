@@ -41,14 +41,21 @@ pub record AreCounted (count : ℕ) (first : Finding) (found : List Finding) : T
   pub count_is : count ≡ length found
   pub first_is : slice_get found 0 ≡ Some first
 
--- The answer on the bytes of a stream, and whether it ended: what each answer means, and which bytes get it, where the stream ended. Accepted
--- means that the bytes are an image without findings, each of whose runs is safe.
+-- The answer on the bytes of a stream, and whether it ended: what each answer means, and which
+-- bytes get it, where the stream ended. Accepted means that the bytes are an image without
+-- findings, each of whose runs is safe.
 pub record IsVerdictOn (bytes : List ℕ) (ends : Bool) (answer : StreamAnswer) : Type 0 where
-  pub layout : IfLayout (λ number. ((ends ≡ true) × IsFaultOf bytes number) ⊎ HasFaultNumberWhateverFollows bytes number) answer
-  pub findings : IfFindings (λ count first. (ends ≡ true) × (found : List Finding) × HasFindings bytes found × AreCounted count first found) answer
-  pub accepted : IfAccepted (λ sandboxes bundles. (ends ≡ true) × (ps : List Part) × IsAccepted bytes ps × (sandboxes ≡ length ps)
+  pub layout : IfLayout (λ number. ((ends ≡ true) × IsFaultOf bytes number)
+      ⊎ HasFaultNumberWhateverFollows bytes number) answer
+  pub findings : IfFindings (λ count first. (ends ≡ true) × (found : List Finding)
+      × HasFindings bytes found × AreCounted count first found) answer
+  pub accepted : IfAccepted (λ sandboxes bundles. (ends ≡ true) × (ps : List Part)
+      × IsAccepted bytes ps × (sandboxes ≡ length ps)
       × (bundles ≡ bundle_count ps) × AllRunSafely ps) answer
-  pub only_layout : ends ≡ true → (k : LayoutFault) → IsFault bytes k → answer ≡ answers.Layout (number_of k)
-  pub only_findings : ends ≡ true → (found : List Finding) → HasFindings bytes found → (first : Finding) → slice_get found 0 ≡ Some first
+  pub only_layout :
+      ends ≡ true → (k : LayoutFault) → IsFault bytes k → answer ≡ answers.Layout (number_of k)
+  pub only_findings : ends ≡ true → (found : List Finding) → HasFindings bytes found
+      → (first : Finding) → slice_get found 0 ≡ Some first
       → answer ≡ answers.Findings (length found) first
-  pub only_accepted : ends ≡ true → (ps : List Part) → IsAccepted bytes ps → answer ≡ answers.Accepted (length ps) (bundle_count ps)
+  pub only_accepted : ends ≡ true → (ps : List Part) → IsAccepted bytes ps
+      → answer ≡ answers.Accepted (length ps) (bundle_count ps)

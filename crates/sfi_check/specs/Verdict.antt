@@ -23,7 +23,8 @@ pub record IsClean (ps : List Part) : Type 0 where
   pub layout : IsRightLayout ps
   pub none_found : AreImageFindings ps []
 
--- the layout is right, no rule is broken, every run from every entry of each sandbox is safe, and calls with the stack pointer in the data
+-- the layout is right, no rule is broken, every run from every entry of each sandbox is safe, and
+-- calls with the stack pointer in the data
 pub record MayRun (ps : List Part) : Type 0 where
   pub clean : IsClean ps
   pub safe : AllRunSafely ps

@@ -12,8 +12,8 @@ use sfi_image::{Image, SandboxPart};
 use sfi_policy::BUNDLE_BYTES;
 use std::marker::Model;
 
-/// An accepted image: its layout is right, no rule is broken in it, and so every run from every entry of each sandbox is safe.
-/// Contracts see it as the list of its parts.
+/// An accepted image: its layout is right, no rule is broken in it, and so every run from every
+/// entry of each sandbox is safe. Contracts see it as the list of its parts.
 #[derive(Debug, Drop)]
 pub struct Accepted<'a> {
     image: Image<'a>,

@@ -29,7 +29,8 @@ pub enum ConvertFault {
     /// They begin as an image of the second format does. This goes before all else.
     #[error("convert fault 2 NotOld")]
     NotOld,
-    /// The image is accepted, but the same sandboxes break a rule of the second format: all these places, by sandbox and then by address.
+    /// The image is accepted, but the same sandboxes break a rule of the second format: all these
+    /// places, by sandbox and then by address.
     #[error("broken rules of the second format")]
     Stack(Vec<Finding>),
     /// Memory ran out.
@@ -95,7 +96,8 @@ fn convert_accepted(alloc: Global, accepted: &Accepted<'_>) -> Result<Vec<u8>, C
     Ok(bytes)
 }
 
-/// Makes of an accepted image of the first format that of the same sandboxes in the second, unless they break one of its rules.
+/// Makes of an accepted image of the first format that of the same sandboxes in the second, unless
+/// they break one of its rules.
 ///
 /// What it makes is an accepted image: `check` refuses it for want of memory alone.
 pub fn convert(alloc: Global, bytes: &[u8]) -> Result<Vec<u8>, ConvertFault>

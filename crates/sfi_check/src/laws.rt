@@ -10,8 +10,8 @@ use sfi_image::{one_reading, whole_bundles};
 use sfi_policy::pairs_are_found;
 use sfi_scan::laws::one_image_list;
 
-/// What an instruction and the one before it leave in the registers. It is said of every instruction and of whatever stands
-/// before it, so it holds at each place of a bundle's reading.
+/// What an instruction and the one before it leave in the registers. It is said of every
+/// instruction and of whatever stands before it, so it holds at each place of a bundle's reading.
 pub fn instruction_leaves()
     ensures { InstructionLeaves }
 {
@@ -101,7 +101,8 @@ pub fn one_list_of_findings()
     one_image_list();
 }
 
-/// What is answered after a beginning of the bytes is the verdict on all of them, if no read failed.
+/// What is answered after a beginning of the bytes is the verdict on all of them,
+/// if no read failed.
 pub fn verdict_is_on_all()
     ensures { VerdictIsOnAll }
 {
@@ -116,7 +117,8 @@ pub fn one_verdict()
     verdict_is_on_all();
 }
 
-/// A stream's answer says what [`check`](crate::check) says of the same bytes, if no read failed and memory didn't run out.
+/// A stream's answer says what [`check`](crate::check) says of the same bytes, if no read failed
+/// and memory didn't run out.
 pub fn stream_says_same()
     ensures { StreamSaysSame }
 {

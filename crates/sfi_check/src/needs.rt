@@ -1,5 +1,6 @@
-//! That each rule but V9 is needed, and that no finding may be passed over: there is code whose one finding is of that rule and
-//! which does what is not safe; and that the rules leave code that does something. A call costs nothing.
+//! That each rule but V9 is needed, and that no finding may be passed over: there is code whose one
+//! finding is of that rule and which does what is not safe; and that the rules leave code that does
+//! something. A call costs nothing.
 ghost use Rattle.sfi_scan.specs.declared.rule.Rule.TheVariants.{V1, V2, V3, V4, V5, V6, V7, V8, V9, V10};
 ghost use Rattle.sfi_check.specs.Needed.{IsNeeded, EachRuleIsNeeded, IsStricter, IsAcceptedAndRuns};
 ghost use Rattle.sfi_check.specs.Samples.{sandbox, undecodable, crossing_store, ecall_at_no_gate, written_rd_forgotten, pair_on_x0, pair_across_bundles, jalr_offset_ignored, jump_to_any_start, running_off_the_end, gate_comes_back_elsewhere, stack_not_put_back, undecodable_after_ebreak, crossing_after_ebreak, ecall_after_ebreak, nops_after_ebreak, sandboxed_store};
@@ -16,7 +17,8 @@ pub fn undecodable_is_unsafe()
     spellings_are_wide();
 }
 
-/// V2 is needed: a store that begins in one bundle and ends in the next reaches address 0, and no reading of a bundle has it.
+/// V2 is needed: a store that begins in one bundle and ends in the next reaches address 0, and no
+/// reading of a bundle has it.
 pub fn crossing_store_is_unsafe()
     ensures { IsNeeded V2 0x0100000e (sandbox crossing_store) }
 {
@@ -44,7 +46,8 @@ pub fn pair_on_x0_is_unsafe()
     one_spelling();
 }
 
-/// V5 is needed: a store at the start of a bundle reaches what a run is entered with, whatever stands in the bundle before.
+/// V5 is needed: a store at the start of a bundle reaches what a run is entered with, whatever
+/// stands in the bundle before.
 pub fn pair_across_bundles_is_unsafe()
     ensures { IsNeeded V5 0x01000010 (sandbox pair_across_bundles) }
 {
@@ -72,8 +75,9 @@ pub fn running_off_the_end_is_unsafe()
     one_spelling();
 }
 
-/// A finding of V9 may not be passed over: a listed gate whose jalr has an offset leaves the code region after the host's reply.
-/// (V9 stands in place of the other findings of a gate's bundle. Here V6 would be one.)
+/// A finding of V9 may not be passed over: a listed gate whose jalr has an offset leaves the code
+/// region after the host's reply. (V9 stands in place of the other findings of a gate's bundle.
+/// Here V6 would be one.)
 pub fn gate_comes_back_elsewhere_is_unsafe()
     ensures { IsNeeded V9 0x01000000 (sandbox gate_comes_back_elsewhere) }
 {
@@ -103,8 +107,9 @@ pub fn each_rule_is_needed()
     stack_not_put_back_is_unsafe();
 }
 
-/// Rules are stricter than safety asks, since they look at what no run comes to: bytes that do not decode, a store across a
-/// bundle's end, an ecall and a region's end, each after an ebreak that stands at its bundle's start.
+/// Rules are stricter than safety asks, since they look at what no run comes to: bytes that do not
+/// decode, a store across a bundle's end, an ecall and a region's end, each after an ebreak that
+/// stands at its bundle's start.
 pub fn unreached_code_is_safe()
     ensures undecodable { IsStricter V1 0x01000004 (sandbox undecodable_after_ebreak) }
     ensures crossing { IsStricter V2 0x0100000e (sandbox crossing_after_ebreak) }

@@ -8,7 +8,8 @@ use thiserror::Error;
 /// Why the bytes are not accepted.
 #[derive(Debug, Drop, Error)]
 pub enum Refusal {
-    /// The bytes are no image. This goes before findings. Its text is the line that the program prints.
+    /// The bytes are no image. This goes before findings.
+    /// Its text is the line that the program prints.
     #[error("layout fault {} {}", .0.number(), .0)]
     Layout(LayoutFault),
     /// All broken rules, by sandbox and then by address. There is at least one.

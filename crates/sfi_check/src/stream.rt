@@ -198,8 +198,8 @@ fn stream_laws()
     front_ends();
 }
 
-/// Accepts the bytes of the stream, or says why not. It takes no memory, and reads at most 4096 bytes at a time, to a fault of
-/// the layout or to the end.
+/// Accepts the bytes of the stream, or says why not. It takes no memory, and reads at most 4096
+/// bytes at a time, to a fault of the layout or to the end.
 pub fn check_stream<S: ByteSource>(source: &mut S) -> StreamAnswer
     requires { S.has_failed source.old ≡ false }
     ensures judged { (bytes : List ℕ) × (ends : Bool)

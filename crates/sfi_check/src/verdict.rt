@@ -59,7 +59,8 @@ fn judge<'a>(alloc: Global, image: Image<'a>) -> Result<Accepted<'a>, Refusal>
 
 /// Accepts the bytes, or says why not.
 ///
-/// The verdict rests on the bytes alone. Want of memory is the one answer that the bytes don't determine.
+/// The verdict rests on the bytes alone. Want of memory is the one answer that the bytes don't
+/// determine.
 pub fn check<'a>(alloc: Global, bytes: &'a [u8]) -> Result<Accepted<'a>, Refusal>
     // What each answer means.
     ensures layout { IfErr result (IfLayoutFault (IsFault bytes.entry.now)) }

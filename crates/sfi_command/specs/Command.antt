@@ -24,7 +24,8 @@ quantum_most = 1000000
 
 -- the program, which has a version and wants a subcommand
 abbrev pub program : App
-program = on_top (λ s. record s { has_version = true; subcommand_required = true }) (new_app (codes "sfi"))
+program = on_top
+    (λ s. record s { has_version = true; subcommand_required = true }) (new_app (codes "sfi"))
 
 -- an option that takes no value
 abbrev pub flag_rule : Text → Rule
@@ -32,7 +33,8 @@ flag_rule name = record (new_rule name) { long = Some name; action = Some SetTru
 
 -- `check [--raw] [--report]`
 abbrev pub check : Shape
-check = record (new_shape (codes "check")) { rules = flag_rule (codes "raw") ∷ flag_rule (codes "report") ∷ [] }
+check = record (new_shape
+    (codes "check")) { rules = flag_rule (codes "raw") ∷ flag_rule (codes "report") ∷ [] }
 
 -- `dis`, without options
 abbrev pub dis : Shape
@@ -48,7 +50,8 @@ value_rule name = record (new_rule name) { long = Some name; value_names = 1 }
 
 -- an option that takes a number from 1 to the most, with its default
 abbrev pub count_rule : Text → Text → ℕ → Rule
-count_rule name usual most = record (value_rule name) { defaults = usual ∷ []; parser = Some (Signed (pos 1) (pos most)) }
+count_rule name usual most =
+    record (value_rule name) { defaults = usual ∷ []; parser = Some (Signed (pos 1) (pos most)) }
 
 -- the option `--input`, which takes a text
 abbrev pub input_rule : Rule
@@ -57,7 +60,8 @@ input_rule = value_rule (codes "input")
 -- `run [--rounds N] [--quantum Q] [--input HEX]`
 abbrev pub run : Shape
 run = record (new_shape (codes "run")) {
-  rules = count_rule (codes "rounds") (codes "1") rounds_most ∷ count_rule (codes "quantum") (codes "1000") quantum_most ∷ input_rule ∷ [];
+  rules = count_rule (codes "rounds") (codes "1") rounds_most
+      ∷ count_rule (codes "quantum") (codes "1000") quantum_most ∷ input_rule ∷ [];
 }
 
 -- `convert`, without options
@@ -66,7 +70,10 @@ convert = new_shape (codes "convert")
 
 -- the command line: the program with its subcommands
 abbrev pub sfi : App
-sfi = with_subcommand (with_subcommand (with_subcommand (with_subcommand (with_subcommand program check) dis) build) run) convert
+sfi =
+    with_subcommand
+    (with_subcommand (with_subcommand (with_subcommand (with_subcommand program check) dis) build) run)
+    convert
 
 -- ---- jobs
 
@@ -93,19 +100,23 @@ abbrev pub IsNoInput : Option Text → Type 0
 IsNoInput None = ⊥
 IsNoInput (Some text) = IsErr (decode_of text)
 
--- the subcommand, with what was found for its options, asks for the job; a check of an image's own bytes has no report
+-- the subcommand, with what was found for its options, asks for the job;
+-- a check of an image's own bytes has no report
 abbrev pub Names : Option (Text × List Row) → Job → Type 0
 Names None job = ⊥
 Names (Some p) (Check raw report) =
-    (p.0 ≡ codes "check") × IsGiven (codes "raw") p.1 raw × IsGiven (codes "report") p.1 report × ¬ ((raw ≡ true) × (report ≡ true))
+    (p.0 ≡ codes "check") × IsGiven (codes "raw") p.1 raw × IsGiven (codes "report") p.1 report
+    × ¬ ((raw ≡ true) × (report ≡ true))
 Names (Some p) Dis = p.0 ≡ codes "dis"
 Names (Some p) Build = p.0 ≡ codes "build"
 Names (Some p) (Run rounds quantum input) =
-    (p.0 ≡ codes "run") × IsCount (codes "rounds") rounds_most p.1 rounds × IsCount (codes "quantum") quantum_most p.1 quantum
+    (p.0 ≡ codes "run") × IsCount (codes "rounds") rounds_most p.1 rounds
+    × IsCount (codes "quantum") quantum_most p.1 quantum
     × IsInputOf (first_of (codes "input") p.1) input.items
 Names (Some p) Convert = p.0 ≡ codes "convert"
 
--- the words parse by the command line, and their subcommand asks for the job; the first word is the program's name
+-- the words parse by the command line, and their subcommand asks for the job;
+-- the first word is the program's name
 pub record Asks (words : List Text) (job : Job) : Type 0 where
   pub parses : fault_of sfi words ≡ []
   pub names : Names (subcommand_of sfi words) job
@@ -127,7 +138,8 @@ pub record AsksNothing (words : List Text) : Type 0 where
   pub no_job : (job : Job) → ¬ Asks words job
   pub no_run : ¬ AsksNoInput words
 
--- usage is the fault only of words that ask for nothing, and Hex of a run whose input spells no bytes
+-- usage is the fault only of words that ask for nothing,
+-- and Hex of a run whose input spells no bytes
 abbrev pub IsFaultOf : List Text → JobFault → Type 0
 IsFaultOf words (Usage text) = AsksNothing words
 IsFaultOf words Hex = AsksNoInput words

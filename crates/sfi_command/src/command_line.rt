@@ -23,7 +23,8 @@ const QUANTUM_MOST: u32 = 1000000;
 
 const RAW_REPORT: &str = "error: '--raw' and '--report' cannot be used together\n";
 
-/// A command without options, with the line that says what it does and the notes at the end of its help.
+/// A command without options, with the line that says what it does and the notes at the end of its
+/// help.
 fn command_named<'a>(alloc: Global, name: &'a str, about: &'a str, notes: &'a str) -> Command<'a>
     ensures app { app_of result ≡ new_app name.now }
     ensures local { (out-Command result).has_globals ≡ false }
@@ -168,7 +169,8 @@ fn is_given(found: &ArgMatches<'_>, option: &str) -> bool
 /// The number that the option's text is, from 1 to the most.
 fn count_of(found: &ArgMatches<'_>, option: &str, most: u32) -> Option<u32>
     ensures some { IfSome result (IsCount option.now most (rows_of (found_of found.now))) }
-    ensures none { result ≡ None → (n : ℕ) → ¬ IsCount option.now most (rows_of (found_of found.now)) n }
+    ensures none { result ≡ None → (n : ℕ)
+        → ¬ IsCount option.now most (rows_of (found_of found.now)) n }
 {
     let text = found.get_str(option)?;
     match text.parse::<u32>() {
@@ -192,8 +194,10 @@ fn hex_fault(error: FromHexError) -> JobFault
 
 /// The bytes that the text of `--input` spells, or none where it wasn't given.
 fn input_of(alloc: Global, found: &ArgMatches<'_>) -> Result<Vec<u8>, JobFault>
-    ensures bytes { IfOk result (λ bytes. IsInputOf (first_of (codes "input") (rows_of (found_of found.now))) bytes.items) }
-    ensures fault { IfErr result (IsInputFault (first_of (codes "input") (rows_of (found_of found.now)))) }
+    ensures bytes { IfOk result
+        (λ bytes. IsInputOf (first_of (codes "input") (rows_of (found_of found.now))) bytes.items) }
+    ensures fault { IfErr result
+        (IsInputFault (first_of (codes "input") (rows_of (found_of found.now)))) }
 {
     let Some(text) = found.get_str("input") else {
         return Ok(Vec::new(alloc));
@@ -207,7 +211,8 @@ fn input_of(alloc: Global, found: &ArgMatches<'_>) -> Result<Vec<u8>, JobFault>
 /// The run that these options ask for.
 fn run_of(alloc: Global, found: &ArgMatches<'_>) -> Result<Job, JobFault>
     ensures job { IfOk result (Names (Some (codes "run", rows_of (found_of found.now)))) }
-    ensures fault { IfErr result (IsFaultOfNamed (Some (codes "run", rows_of (found_of found.now)))) }
+    ensures fault { IfErr result
+        (IsFaultOfNamed (Some (codes "run", rows_of (found_of found.now)))) }
 {
     let input = input_of(alloc, found)?;
     let Some(rounds) = count_of(found, "rounds", ROUNDS_MOST) else {
@@ -223,10 +228,12 @@ fn run_of(alloc: Global, found: &ArgMatches<'_>) -> Result<Job, JobFault>
     })
 }
 
-/// The check that these options ask for. A report wants the whole image, which a check of its own bytes doesn't keep.
+/// The check that these options ask for. A report wants the whole image,
+/// which a check of its own bytes doesn't keep.
 fn check_of(alloc: Global, found: &ArgMatches<'_>) -> Result<Job, JobFault>
     ensures job { IfOk result (Names (Some (codes "check", rows_of (found_of found.now)))) }
-    ensures fault { IfErr result (IsFaultOfNamed (Some (codes "check", rows_of (found_of found.now)))) }
+    ensures fault { IfErr result
+        (IsFaultOfNamed (Some (codes "check", rows_of (found_of found.now)))) }
 {
     let raw = is_given(found, "raw");
     let report = is_given(found, "report");
@@ -261,8 +268,9 @@ fn job_named(alloc: Global, name: &str, found: &ArgMatches<'_>) -> Result<Job, J
 
 /// The job that the words ask for. The first word is the program's name, as `env::args` gives it.
 ///
-/// Words that don't parse, and those that ask for help or the version, are a `Usage`, with the text to print. `Hex` comes of words that
-/// parse, where the text of `--input` has an odd number of digits or something that is no digit.
+/// Words that don't parse, and those that ask for help or the version, are a `Usage`, with the text
+/// to print. `Hex` comes of words that parse, where the text of `--input` has an odd number of
+/// digits or something that is no digit.
 pub fn job_of(alloc: Global, words: &[String]) -> Result<Job, JobFault>
     ensures job { IfOk result (Asks (map string_bytes words.now)) }
     ensures fault { IfErr result (IsFaultOf (map string_bytes words.now)) }

@@ -1,4 +1,5 @@
-//! What the program says of itself: a line for each command and option, and what follows the options in a command's help.
+//! What the program says of itself: a line for each command and option, and what follows the
+//! options in a command's help.
 
 /// The version of the program and of its crates.
 pub const VERSION: &str = "0.1.0";

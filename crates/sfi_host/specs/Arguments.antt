@@ -1,5 +1,6 @@
--- The registers in which a sandbox and its host hand each other words: the first two argument registers of the calling
--- convention, in which results come too. RISC-V ABIs Specification (the psABI), "Integer Register Convention".
+-- The registers in which a sandbox and its host hand each other words: the first two argument
+-- registers of the calling convention, in which results come too. RISC-V ABIs Specification (the
+-- psABI), "Integer Register Convention".
 use Rattle.std.specs.Prelude.{ℕ}
 
 -- a0 is x10

@@ -10,7 +10,8 @@ use Rattle.sfi_host.specs.Services.{exit_service, put_service, get_service, yiel
 
 -- ---- what a console keeps
 
--- of a sandbox: its output, how many bytes of the input it has read, and the messages in its mailbox, the oldest first
+-- of a sandbox: its output, how many bytes of the input it has read, and the messages in its
+-- mailbox, the oldest first
 pub record SessionState : Type 0 where
   pub output : List ℕ
   pub place : ℕ
@@ -46,13 +47,15 @@ most_handed = 65536
 abbrev pub most_output : ℕ
 most_output = 1048576
 
--- the caller's a1 bytes from a0 on; None where they are too many, or one of them isn't in its data region
+-- the caller's a1 bytes from a0 on; None where they are too many,
+-- or one of them isn't in its data region
 abbrev pub handed : Call → Option (List ℕ)
 handed c = if nat_le c.a1 most_handed then data_from c c.a0 c.a1 else None
 
 -- the answer after which the caller goes on with this a0; a1 and its data bytes stay
 abbrev pub replied : {S : Type 0} → Call → ℕ → S → Answer S
-replied c a0 s = record { reply = record { way = Replied; a0 = a0; a1 = c.a1; bytes = c.bytes }; host = s }
+replied c a0 s =
+    record { reply = record { way = Replied; a0 = a0; a1 = c.a1; bytes = c.bytes }; host = s }
 
 -- ---- put: the handed bytes go to the end of the caller's output
 
@@ -119,7 +122,8 @@ posted = 0
 abbrev pub mailbox_full : ℕ
 mailbox_full = 1
 
--- a0 says whether the message is posted or the mailbox full; where there is no such sandbox the call is refused
+-- a0 says whether the message is posted or the mailbox full;
+-- where there is no such sandbox the call is refused
 abbrev pub post_to : ConsoleState → Call → Option SessionState → Answer ConsoleState
 post_to s c None = replied c failed s
 post_to s c (Some x) =
@@ -134,7 +138,8 @@ post s c = post_to s c (slice_get s.sessions c.a0)
 
 -- a0 becomes its word and a1 its sender plus 1, or both 0 where the mailbox is empty
 abbrev pub take_oldest : SessionState → Call → List Message → Answer SessionState
-take_oldest x c [] = record { reply = record { way = Replied; a0 = 0; a1 = 0; bytes = c.bytes }; host = x }
+take_oldest x c [] =
+    record { reply = record { way = Replied; a0 = 0; a1 = 0; bytes = c.bytes }; host = x }
 take_oldest x c (m ∷ ms) = record {
   reply = record { way = Replied; a0 = m.word; a1 = m.sender + 1; bytes = c.bytes };
   host = record x { mailbox = ms };
@@ -155,7 +160,8 @@ serve input x c =
 
 -- its session goes on in the console
 abbrev pub serve_own : ConsoleState → Call → SessionState → Answer ConsoleState
-serve_own s c x = let a = serve s.input x c in record { reply = a.reply; host = with_session s c.caller a.host }
+serve_own s c x = let a = serve s.input x c in
+    record { reply = a.reply; host = with_session s c.caller a.host }
 
 -- a post; a caller that has no session is refused
 abbrev pub serve_if : ConsoleState → Call → Option SessionState → Answer ConsoleState
@@ -164,11 +170,13 @@ serve_if s c (Some x) = if c.service == post_service then post s c else serve_ow
 
 -- the caller has stopped, with a0 as its number
 abbrev pub exits : ConsoleState → Call → Answer ConsoleState
-exits s c = record { reply = record { way = Exit c.a0; a0 = c.a0; a1 = c.a1; bytes = c.bytes }; host = s }
+exits s c =
+    record { reply = record { way = Exit c.a0; a0 = c.a0; a1 = c.a1; bytes = c.bytes }; host = s }
 
 -- the caller goes on in its next turn
 abbrev pub yields : ConsoleState → Call → Answer ConsoleState
-yields s c = record { reply = record { way = Yield; a0 = c.a0; a1 = c.a1; bytes = c.bytes }; host = s }
+yields s c =
+    record { reply = record { way = Yield; a0 = c.a0; a1 = c.a1; bytes = c.bytes }; host = s }
 
 -- exit and yield need no session, and the others do
 abbrev pub console : ConsoleState → Call → Answer ConsoleState

@@ -42,8 +42,8 @@ PlansFollow S =
     → IsJoint machine answer q mid between new after
     → IsJoint machine answer (p ++ q) old before new after
 
--- each turn of one plan was taken, and another plan ended at a call that the host may refuse: so did
--- both, at that place after the first plan's turns
+-- each turn of one plan was taken, and another plan ended at a call that the host may refuse: so
+-- did both, at that place after the first plan's turns
 abbrev pub CutFollows : Type 0 → Type 0
 CutFollows S =
     (machine : Machine) (answer : S → Call → Answer S) (may_refuse : S → Call → Bool)

@@ -30,7 +30,8 @@ outside bytes g = bytes_outside (data_of g) (bytes g.memory.now)
 abbrev pub HasData : {M : Type 0} → (M → Bytes) → Guest M → Type 0
 HasData bytes g = IsWhole (data_of g) (asked bytes g).bytes
 
--- the caller's n data bytes from an address on, which isn't taken modulo 2 ^ 32; None where one of them isn't in its data region
+-- the caller's n data bytes from an address on, which isn't taken modulo 2 ^ 32; None where one of
+-- them isn't in its data region
 abbrev pub data_from : Call → ℕ → ℕ → Option (List ℕ)
 data_from c at n = bytes_at c.bytes (range_with_len at n)
 
@@ -52,4 +53,5 @@ with_byte c at byte = record c { bytes = insert c.bytes at byte }
 
 -- the same, with these bytes from an address on
 abbrev pub with_bytes_at : Call → ℕ → List ℕ → Call
-with_bytes_at c at bytes = record c { bytes = with_bytes c.bytes (range_with_len at (length bytes)) bytes }
+with_bytes_at c at bytes =
+    record c { bytes = with_bytes c.bytes (range_with_len at (length bytes)) bytes }

@@ -2,7 +2,8 @@
 use Rattle.std.specs.Prelude.{ℕ, List, [], ◌∷◌, Option, Some, None, zero, suc}
 use Rattle.rv_mem.specs.Bytes.{Bytes}
 
--- what is asked at a gate: the caller's number, the service, a0 and a1, and the caller's data bytes by address
+-- what is asked at a gate: the caller's number, the service, a0 and a1,
+-- and the caller's data bytes by address
 pub record Call : Type 0 where
   pub caller : ℕ
   pub service : ℕ
@@ -42,7 +43,8 @@ pub record Limited (S : Type 0) : Type 0 where
 abbrev pub if_left : {S : Type 0} → Option ℕ → Answer S → Option (Answer (Limited S))
 if_left None a = Some (record { reply = a.reply; host = record { host = a.host; left = None } })
 if_left (Some zero) a = None
-if_left (Some (suc n)) a = Some (record { reply = a.reply; host = record { host = a.host; left = Some n } })
+if_left (Some (suc n)) a =
+    Some (record { reply = a.reply; host = record { host = a.host; left = Some n } })
 
 -- the host that answers as long as there is a call left
 abbrev pub limited : {S : Type 0} → (S → Call → Answer S) → Host (Limited S)

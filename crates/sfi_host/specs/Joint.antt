@@ -1,4 +1,5 @@
--- What sandboxes and their host come to under a plan. Each sandbox runs in a memory of its own code and data alone.
+-- What sandboxes and their host come to under a plan.
+-- Each sandbox runs in a memory of its own code and data alone.
 use Rattle.std.specs.Prelude.{ℕ, zero, suc, ◌==◌, cond, Bool, true, false, List, [], ◌∷◌, ◌++◌, map, Option, Some, None, slice_get, slice_set}
 use Rattle.std.specs.FinMap.{from_entries, entries}
 use Rattle.std.specs.Ordering.{nat_cmp}
@@ -81,7 +82,8 @@ replied slot r = record {
 
 -- ---- one step
 
--- a sandbox and its host after a step or a turn, the replies that the sandbox got in it, and what comes next
+-- a sandbox and its host after a step or a turn, the replies that the sandbox got in it,
+-- and what comes next
 pub record Moved (S : Type 0) : Type 0 where
   pub slot : Slot
   pub host : S
@@ -101,19 +103,37 @@ next_after (Exit n) = TurnEnds
 -- a call that isn't answered ends the run
 abbrev pub after_answer : {S : Type 0} → Slot → S → Option (Answer S) → Moved S
 after_answer slot s None = still slot s RunEnds
-after_answer slot s (Some a) = record { slot = replied slot a.reply; host = a.host; replies = a.reply ∷ []; next = next_after a.reply.way }
+after_answer slot s (Some a) = record {
+  slot = replied slot a.reply;
+  host = a.host;
+  replies = a.reply ∷ [];
+  next = next_after a.reply.way;
+}
 
 -- what a step's outcome makes of the sandbox: a trap isn't counted
 abbrev pub after_step : {S : Type 0} → Host S → ℕ → Slot → S → Outcome → State → Moved S
 after_step host i slot s outcome.Next state =
-    still (record { bounds = slot.bounds; hart = state.hart; status = slot.status; steps = one_more slot.steps; bytes = state.memory }) s Continue
+    still (record {
+      bounds = slot.bounds;
+      hart = state.hart;
+      status = slot.status;
+      steps = one_more slot.steps;
+      bytes = state.memory;
+    }) s Continue
 after_step host i slot s (outcome.Trap cause at) state =
-    still (record { bounds = slot.bounds; hart = slot.hart; status = Trapped cause at; steps = slot.steps; bytes = slot.bytes }) s TurnEnds
+    still (record {
+      bounds = slot.bounds;
+      hart = slot.hart;
+      status = Trapped cause at;
+      steps = slot.steps;
+      bytes = slot.bytes;
+    }) s TurnEnds
 after_step host i slot s outcome.Call state = after_answer slot s (host s (call_of i slot))
 
 -- a sandbox that isn't ready does nothing
 abbrev pub moved_if : {S : Type 0} → Machine → Host S → ℕ → Slot → S → Status → Moved S
-moved_if machine host i slot s Ready = let r = machine (state_of slot) in after_step host i slot s r.outcome r.state
+moved_if machine host i slot s Ready = let r = machine (state_of slot) in
+    after_step host i slot s r.outcome r.state
 moved_if machine host i slot s (Exited n) = still slot s TurnEnds
 moved_if machine host i slot s (Trapped cause at) = still slot s TurnEnds
 
@@ -125,7 +145,8 @@ moved machine host i slot s = moved_if machine host i slot s slot.status
 
 -- the same, after replies that came before
 abbrev pub after_replies : {S : Type 0} → List Reply → Moved S → Moved S
-after_replies earlier m = record { slot = m.slot; host = m.host; replies = earlier ++ m.replies; next = m.next }
+after_replies earlier m =
+    record { slot = m.slot; host = m.host; replies = earlier ++ m.replies; next = m.next }
 
 -- a step, and what follows it if the turn goes on
 abbrev pub and_more : {S : Type 0} → StepResult → Moved S → (Slot → S → Moved S) → Moved S
@@ -136,7 +157,8 @@ and_more RunEnds m rest = m
 -- at most so many steps
 unfoldable pub turned : {S : Type 0} → Machine → Host S → ℕ → ℕ → Slot → S → Moved S
 turned machine host i zero slot s = still slot s TurnEnds
-turned machine host i (suc k) slot s = let m = moved machine host i slot s in and_more m.next m (turned machine host i k)
+turned machine host i (suc k) slot s = let m = moved machine host i slot s in
+    and_more m.next m (turned machine host i k)
 
 -- ---- a plan
 
@@ -149,7 +171,8 @@ pub record Given : Type 0 where
 abbrev pub given : ℕ → List Reply → List Given
 given i replies = map (λ r. record { to = i; reply = r }) replies
 
--- the sandboxes and the host after a plan, the replies in their order, how many turns were begun, and whether a call ended the run
+-- the sandboxes and the host after a plan, the replies in their order, how many turns were begun,
+-- and whether a call ended the run
 pub record Joined (S : Type 0) : Type 0 where
   pub slots : List Slot
   pub host : S
@@ -159,24 +182,46 @@ pub record Joined (S : Type 0) : Type 0 where
 
 -- the same, after a turn with its replies
 abbrev pub after_turn : {S : Type 0} → List Given → Joined S → Joined S
-after_turn earlier j = record { slots = j.slots; host = j.host; replies = earlier ++ j.replies; turns = suc j.turns; is_ended = j.is_ended }
+after_turn earlier j = record {
+  slots = j.slots;
+  host = j.host;
+  replies = earlier ++ j.replies;
+  turns = suc j.turns;
+  is_ended = j.is_ended;
+}
 
 -- a turn of the sandbox of that number, and what follows it if the run goes on
-abbrev pub and_plan : {S : Type 0} → StepResult → ℕ → Moved S → List Slot → (List Slot → S → Joined S) → Joined S
-and_plan Continue i m slots rest = after_turn (given i m.replies) (rest (slice_set slots i m.slot) m.host)
-and_plan TurnEnds i m slots rest = after_turn (given i m.replies) (rest (slice_set slots i m.slot) m.host)
-and_plan RunEnds i m slots rest = record { slots = slice_set slots i m.slot; host = m.host; replies = given i m.replies; turns = 1; is_ended = true }
+abbrev pub and_plan :
+    {S : Type 0} → StepResult → ℕ → Moved S → List Slot → (List Slot → S → Joined S) → Joined S
+and_plan Continue i m slots rest =
+    after_turn (given i m.replies) (rest (slice_set slots i m.slot) m.host)
+and_plan TurnEnds i m slots rest =
+    after_turn (given i m.replies) (rest (slice_set slots i m.slot) m.host)
+and_plan RunEnds i m slots rest = record {
+  slots = slice_set slots i m.slot;
+  host = m.host;
+  replies = given i m.replies;
+  turns = 1;
+  is_ended = true;
+}
 
 -- a turn that names no sandbox does nothing
-abbrev pub turn_and : {S : Type 0} → Machine → Host S → Turn → List Slot → S → Option Slot → (List Slot → S → Joined S) → Joined S
+abbrev pub turn_and : {S : Type 0} → Machine → Host S → Turn → List Slot → S → Option Slot
+    → (List Slot → S → Joined S) → Joined S
 turn_and machine host t slots s None rest = after_turn [] (rest slots s)
-turn_and machine host t slots s (Some slot) rest = let m = turned machine host t.sandbox t.steps slot s in and_plan m.next t.sandbox m slots rest
+turn_and machine host t slots s (Some slot) rest =
+    let m = turned machine host t.sandbox t.steps slot s in and_plan m.next t.sandbox m slots rest
 
 -- the plan's turns, one after another
 unfoldable pub joined : {S : Type 0} → Machine → Host S → List Turn → List Slot → S → Joined S
-joined machine host [] slots s = record { slots = slots; host = s; replies = []; turns = 0; is_ended = false }
-joined machine host (t ∷ plan) slots s = turn_and machine host t slots s (slice_get slots t.sandbox) (joined machine host plan)
+joined machine host [] slots s =
+    record { slots = slots; host = s; replies = []; turns = 0; is_ended = false }
+joined machine host (t ∷ plan) slots s =
+    turn_and machine host t slots s (slice_get slots t.sandbox) (joined machine host plan)
 
--- what the plan comes to with a host that answers so many calls, or each call: the next call changes nothing and ends the run
-abbrev pub joint : {S : Type 0} → Machine → (S → Call → Answer S) → List Turn → List Slot → S → Option ℕ → Joined (Limited S)
-joint machine answer plan slots s limit = joined machine (limited answer) plan slots (record { host = s; left = limit })
+-- what the plan comes to with a host that answers so many calls, or each call: the next call
+-- changes nothing and ends the run
+abbrev pub joint : {S : Type 0} → Machine → (S → Call → Answer S) → List Turn → List Slot → S
+    → Option ℕ → Joined (Limited S)
+joint machine answer plan slots s limit =
+    joined machine (limited answer) plan slots (record { host = s; left = limit })

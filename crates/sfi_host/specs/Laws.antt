@@ -19,26 +19,32 @@ SomeMachine = (machine : Machine) × IsMachine machine
 
 -- there is one alone
 abbrev pub OneMachine : Type 0
-OneMachine = (machine other : Machine) → IsMachine machine → IsMachine other → (s : State) → machine s ≡ other s
+OneMachine = (machine other : Machine) → IsMachine machine → IsMachine other
+    → (s : State) → machine s ≡ other s
 
 -- what one sandbox of a safe world makes of its own data is, to each other one, a change by others
 abbrev pub NeighboursAreChanges : Type 0
 NeighboursAreChanges =
     (w : Sandboxes) (i j : ℕ) (s t : Seat) (new : Bytes) (p : Part) → IsSafeWorld w
-    → i ≢ j → slice_get w.seats i ≡ Some s → slice_get w.seats j ≡ Some t → StaysOutside s.bounds.data w.bytes new → t.bounds ≡ bounds_of p
+    → i ≢ j → slice_get w.seats i ≡ Some s → slice_get w.seats j ≡ Some t
+    → StaysOutside s.bounds.data w.bytes new → t.bounds ≡ bounds_of p
     → IsChange p (state_in w.bytes t) (state_in new t)
 
--- a sandbox of a safe world that is ready and stands at an ecall has its stack pointer in its data, where its format has one
+-- a sandbox of a safe world that is ready and stands at an ecall has its stack pointer in its data,
+-- where its format has one
 abbrev pub CallsHaveStack : Type 0
 CallsHaveStack =
     (m : Bytes) (s : Seat) (size : ℕ) (p : Part) → IsSafeSeat m s → s.bounds ≡ bounds_of p
     → s.status ≡ Ready → Stands (state_in m s) Ecall size → StackInData p s.hart.registers
 
--- What a host's reply makes of a sandbox that goes on is a reply to its ecall: of the memory, its data alone may be changed. A stack pointer lies in the
--- data already, as the law above says of a ready sandbox.
+-- What a host's reply makes of a sandbox that goes on is a reply to its ecall: of the memory, its
+-- data alone may be changed. A stack pointer lies in the data already,
+-- as the law above says of a ready sandbox.
 abbrev pub AnswersAreReplies : Type 0
 AnswersAreReplies =
-    (m : Bytes) (s : Seat) (r : Reply) (after : State) (size : ℕ) (p : Part) → IsSafeSeat m s → s.bounds ≡ bounds_of p
+    (m : Bytes) (s : Seat) (r : Reply) (after : State) (size : ℕ) (p : Part) → IsSafeSeat m s
+    → s.bounds ≡ bounds_of p
     → StackInData p s.hart.registers → Stands (state_in m s) Ecall size → status_after r.way ≡ Ready
-    → IsState after → after.hart ≡ (replied (slot_of m s) r).hart → StaysOutside s.bounds.data m after.memory
+    → IsState after → after.hart ≡ (replied (slot_of m s) r).hart
+    → StaysOutside s.bounds.data m after.memory
     → IsReply p (state_in m s) after

@@ -15,12 +15,19 @@ use Rattle.sfi_host.specs.Worlds.{Seat, state_in}
 abbrev pub bare_hart : Part → Hart
 bare_hart p = record { pc = p.start; registers = replicate 32 0 }
 
--- the stack pointer lies a first frame below the data's end; the reserved registers hold what is theirs
+-- the stack pointer lies a first frame below the data's end;
+-- the reserved registers hold what is theirs
 abbrev pub first_hart : Part → Hart
 first_hart p =
-    with_register (with_register (with_register (with_register (with_register (bare_hart p)
-    stack_pointer (p.data_base + p.data_size - first_frame)) code_base_register (reserved_of p).code_base) code_mask_register (reserved_of p).code_mask)
-    data_base_register (reserved_of p).data_base) data_mask_register (reserved_of p).data_mask
+    with_register
+    (with_register
+    (with_register
+    (with_register
+    (with_register (bare_hart p) stack_pointer (p.data_base + p.data_size - first_frame))
+    code_base_register (reserved_of p).code_base)
+    code_mask_register (reserved_of p).code_mask)
+    data_base_register (reserved_of p).data_base)
+    data_mask_register (reserved_of p).data_mask
 
 -- ready, with no step done
 abbrev pub first_seat : Part → Seat
@@ -41,9 +48,11 @@ with_parts m (p ∷ ps) = with_parts (with_part m p) ps
 
 -- each sandbox is entered at its start, as it may be at any bundle
 abbrev pub AreEntered : List Part → Bytes → Type 0
-AreEntered ps m = (i : ℕ) (p : Part) → slice_get ps i ≡ Some p → IsEntry p (state_in m (first_seat p))
+AreEntered ps m =
+    (i : ℕ) (p : Part) → slice_get ps i ≡ Some p → IsEntry p (state_in m (first_seat p))
 
 -- each sandbox has its first data
 abbrev pub HaveFirstData : List Part → Bytes → Type 0
 HaveFirstData ps m =
-    (i : ℕ) (p : Part) → slice_get ps i ≡ Some p → (k : ℕ) → k < p.data_size → byte_at m (p.data_base + k) ≡ Some (slice_index (first_data p) k)
+    (i : ℕ) (p : Part) → slice_get ps i ≡ Some p → (k : ℕ) → k < p.data_size
+    → byte_at m (p.data_base + k) ≡ Some (slice_index (first_data p) k)

@@ -1,4 +1,5 @@
--- What the sandboxes of a world do in the one memory, one move after another, and what that is to each of them.
+-- What the sandboxes of a world do in the one memory, one move after another,
+-- and what that is to each of them.
 use Rattle.std.specs.Prelude.{◌≡◌, ◌≢◌, ℕ, ◌==◌, cond, List, [], ◌∷◌, Some, slice_get, slice_set}
 use Rattle.std.specs.List.{All}
 use Rattle.rv_word.specs.declared.instr.Instr.TheVariants.{Ecall}
@@ -43,12 +44,14 @@ IsOwnTurn m s (Steps r) = IsStep (state_in m s) r
 IsOwnTurn m s (Replies after) = GetsReply m s after
 IsOwnTurn m s (Changes after) = ⊥
 
--- Where a step leads, and with which status: ready in the state after it, if it is done; trapped in the state after it,
--- which is the one before, if it traps; and a call to its own pc, exited: a call that goes on is a reply, and no step.
+-- Where a step leads, and with which status: ready in the state after it, if it is done; trapped in
+-- the state after it, which is the one before, if it traps; and a call to its own pc, exited: a
+-- call that goes on is a reply, and no step.
 abbrev pub StepLeads : Outcome → State → State → Status → Type 0
 StepLeads Next after now status = (now ≡ after) × (status ≡ Ready)
 StepLeads (Trap cause at) after now status = (now ≡ after) × (status ≡ Trapped cause at)
-StepLeads Call after now status = (now.hart.pc ≡ after.hart.pc) × (code : ℕ) × (status ≡ Exited code)
+StepLeads Call after now status =
+    (now.hart.pc ≡ after.hart.pc) × (code : ℕ) × (status ≡ Exited code)
 
 -- a reply leads to the state after it, ready
 abbrev pub Leads : Turn → State → Status → Type 0
@@ -105,17 +108,19 @@ turns_to i s (v ∷ moves) =
     (own_turns v.seat.status v.turn (turns_to i v.seat moves))
     (Changes (state_in v.bytes s) ∷ turns_to i s moves)
 
--- The turns are a run of the sandbox from the first world, and where it was ready a safe run of the part whose code
--- it has. Its code and its empty guard zones are kept, it lies where it lay, and if it is ready in
--- the second world the turns lead it to where it is there.
-pub record IsRunBetween (p : Part) (w n : Sandboxes) (i : ℕ) (s : Seat) (turns : List Turn) : Type 0 where
+-- The turns are a run of the sandbox from the first world, and where it was ready a safe run of the
+-- part whose code it has. Its code and its empty guard zones are kept, it lies where it lay, and if
+-- it is ready in the second world the turns lead it to where it is there.
+pub record IsRunBetween (p : Part) (w n : Sandboxes) (i : ℕ) (s : Seat)
+    (turns : List Turn) : Type 0 where
   pub run : IsRun p (Some (state_in w.bytes s)) turns
   pub safe : s.status ≡ Ready → HasCode p w.bytes → IsSafeRun p (Some (state_in w.bytes s)) turns
   pub kept : KeepsBytes p w.bytes n.bytes
   pub seat : Seat
   pub there : slice_get n.seats i ≡ Some seat
   pub bounds : seat.bounds ≡ s.bounds
-  pub leads : seat.status ≡ Ready → after_turns (Some (state_in w.bytes s)) turns ≡ Some (state_in n.bytes seat)
+  pub leads : seat.status ≡ Ready
+      → after_turns (Some (state_in w.bytes s)) turns ≡ Some (state_in n.bytes seat)
 
 -- The second world is safe, no byte outside the data of all has changed, and to each sandbox the
 -- moves are a run.
@@ -127,7 +132,8 @@ pub record AreRuns (w n : Sandboxes) (moves : List Move) : Type 0 where
 
 -- so is whatever the sandboxes of a safe world do
 abbrev pub MovesAreRuns : Type 0
-MovesAreRuns = (w n : Sandboxes) (moves : List Move) → IsSafeWorld w → AreMoves w moves n → AreRuns w n moves
+MovesAreRuns =
+    (w n : Sandboxes) (moves : List Move) → IsSafeWorld w → AreMoves w moves n → AreRuns w n moves
 
 -- what the others do leaves a sandbox as it is, with its code and data
 abbrev pub OthersLeaveSlots : Type 0

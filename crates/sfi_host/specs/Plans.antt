@@ -6,23 +6,29 @@ use Rattle.sfi_host.specs.Slots.{Slot}
 use Rattle.sfi_host.specs.Joint.{Machine, joint}
 use Rattle.sfi_host.specs.Calls.{IsAtRefusedCall}
 
--- each turn of the plan was taken: sandboxes and host are those of the joint run in which each call is answered
-pub record IsJoint {S : Type 0} (machine : Machine) (answer : S → Call → Answer S) (plan : List Turn) (old : List Slot) (before : S) (new : List Slot) (after : S) : Type 0 where
+-- each turn of the plan was taken: sandboxes and host are those of the joint run in which each call
+-- is answered
+pub record IsJoint {S : Type 0} (machine : Machine) (answer : S → Call → Answer S)
+    (plan : List Turn) (old : List Slot) (before : S) (new : List Slot) (after : S) : Type 0 where
   pub slots : new ≡ (joint machine answer plan old before None).slots
   pub host : after ≡ (joint machine answer plan old before None).host.host
   pub turns : (joint machine answer plan old before None).turns ≡ length plan
 
--- the plan's turn at that place is that of a sandbox which is ready and stands at a call that the host may refuse
-pub record IsRefusedIn {S : Type 0} (machine : Machine) (may_refuse : S → Call → Bool) (plan : List Turn) (place : ℕ) (slots : List Slot) (host : S) : Type 0 where
+-- the plan's turn at that place is that of a sandbox which is ready and stands at a call that the
+-- host may refuse
+pub record IsRefusedIn {S : Type 0} (machine : Machine) (may_refuse : S → Call → Bool)
+    (plan : List Turn) (place : ℕ) (slots : List Slot) (host : S) : Type 0 where
   pub turn : Turn
   pub turn_is : slice_get plan place ≡ Some turn
   pub slot : Slot
   pub slot_is : slice_get slots turn.sandbox ≡ Some slot
   pub refused : IsAtRefusedCall machine may_refuse turn.sandbox slot host
 
--- The turn at that place ended at a call that the host may refuse: sandboxes and host are those of the joint run in which so many calls are answered,
--- and that call is the next.
-pub record IsCutJoint {S : Type 0} (machine : Machine) (answer : S → Call → Answer S) (may_refuse : S → Call → Bool) (plan : List Turn) (old : List Slot) (before : S) (place : ℕ) (new : List Slot) (after : S) : Type 0 where
+-- The turn at that place ended at a call that the host may refuse: sandboxes and host are those of
+-- the joint run in which so many calls are answered, and that call is the next.
+pub record IsCutJoint {S : Type 0} (machine : Machine) (answer : S → Call → Answer S)
+    (may_refuse : S → Call → Bool) (plan : List Turn) (old : List Slot) (before : S) (place : ℕ)
+    (new : List Slot) (after : S) : Type 0 where
   pub answered : ℕ
   pub slots : new ≡ (joint machine answer plan old before (Some answered)).slots
   pub host : after ≡ (joint machine answer plan old before (Some answered)).host.host

@@ -11,7 +11,8 @@ use Rattle.sfi_image.specs.Spans.{code_region, data_region}
 use Rattle.sfi_host.specs.declared.status.Status.{Status}
 use Rattle.sfi_host.specs.Regions.{is_in}
 
--- where a sandbox lies: its code region, its data region, and its gates; and the format of its image
+-- where a sandbox lies: its code region, its data region, and its gates;
+-- and the format of its image
 pub record Bounds : Type 0 where
   pub format : Format
   pub code : Span
@@ -20,7 +21,8 @@ pub record Bounds : Type 0 where
 
 -- those of a sandbox of an image
 abbrev pub bounds_of : Part → Bounds
-bounds_of p = record { format = p.format; code = code_region p; «data» = data_region p; gates = p.gates }
+bounds_of p =
+    record { format = p.format; code = code_region p; «data» = data_region p; gates = p.gates }
 
 -- the address lies in its code or its data
 abbrev pub is_own : Bounds → ℕ → Bool
@@ -30,7 +32,8 @@ is_own b a = is_in b.code a || is_in b.data a
 abbrev pub own : Bounds → Bytes → Bytes
 own b m = retain_keys m (is_own b)
 
--- a sandbox: where it lies, its pc and registers, what it may still do, how many steps it did, and its own code and data bytes
+-- a sandbox: where it lies, its pc and registers, what it may still do, how many steps it did, and
+-- its own code and data bytes
 pub record Slot : Type 0 where
   pub bounds : Bounds
   pub hart : Hart

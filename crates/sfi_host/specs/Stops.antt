@@ -28,8 +28,8 @@ pub record IsAtGate (b : Bounds) (s : State) : Type 0 where
   pub among : Contains b.gates gate
   pub address : gate.address ≡ s.hart.pc
 
--- The instruction, a load or store, is at pc. It accesses some addresses from `at` on, which lie in the data and
--- the guard zones, and one of them in a guard zone.
+-- The instruction, a load or store, is at pc. It accesses some addresses from `at` on, which lie in
+-- the data and the guard zones, and one of them in a guard zone.
 pub record TouchesGuard (b : Bounds) (s : State) (i : Instr) (at : ℕ) : Type 0 where
   pub is_at : IsAt b s i
   pub count : ℕ
@@ -39,8 +39,9 @@ pub record TouchesGuard (b : Bounds) (s : State) (i : Instr) (at : ℕ) : Type 0
   pub among : Contains (addresses at count) address
   pub guard : InGuards b.data address
 
--- A sandbox with this status has stopped itself, if it has stopped: it is at the ecall of one of its gates,
--- at its ebreak, or at its load or store that touches a guard zone. No other trap stops it.
+-- A sandbox with this status has stopped itself, if it has stopped: it is at the ecall of one of
+-- its gates, at its ebreak, or at its load or store that touches a guard zone.
+-- No other trap stops it.
 abbrev pub StoppedItself : Bounds → State → Status → Type 0
 StoppedItself b s Ready = Unit {0}
 StoppedItself b s (Exited code) = IsAtGate b s

@@ -15,7 +15,8 @@ use Rattle.sfi_host.specs.Regions.{bytes_in, IsWhole}
 use Rattle.sfi_host.specs.Slots.{Bounds, bounds_of, own, Slot}
 use Rattle.sfi_host.specs.Stops.{StoppedItself}
 
--- what there is of a sandbox beside the memory: where it lies, its pc and registers, what it may still do, and how many steps it did
+-- what there is of a sandbox beside the memory: where it lies, its pc and registers, what it may
+-- still do, and how many steps it did
 pub record Seat : Type 0 where
   pub bounds : Bounds
   pub hart : Hart
@@ -29,7 +30,13 @@ pub record Sandboxes : Type 0 where
 
 -- a sandbox alone, with its own bytes of the memory
 abbrev pub slot_of : Bytes → Seat → Slot
-slot_of m s = record { bounds = s.bounds; hart = s.hart; status = s.status; steps = s.steps; bytes = own s.bounds m }
+slot_of m s = record {
+  bounds = s.bounds;
+  hart = s.hart;
+  status = s.status;
+  steps = s.steps;
+  bytes = own s.bounds m;
+}
 
 -- each of the sandboxes alone
 abbrev pub slots_of : Sandboxes → List Slot
@@ -57,8 +64,8 @@ data_byte_of (Some s) at = byte_at (bytes_in s.bounds.data s.bytes) at
 -- ---- what is kept of a world
 
 -- The sandbox is a part of an image that passes each test of its own. It has the part's code, its
--- guard zones are empty and its data whole. If it may still run, every run from its state is safe, and
--- calls with a stack pointer in the data; if it has stopped, it has stopped itself.
+-- guard zones are empty and its data whole. If it may still run, every run from its state is safe,
+-- and calls with a stack pointer in the data; if it has stopped, it has stopped itself.
 pub record IsSafeSeat (m : Bytes) (s : Seat) : Type 0 where
   pub part : Part
   pub bounds : s.bounds ≡ bounds_of part
@@ -78,7 +85,8 @@ pub record LiesOutside (one other : Bounds) : Type 0 where
 -- each sandbox is safe, and its data lie outside each other one
 pub record IsSafeWorld (w : Sandboxes) : Type 0 where
   pub each : (i : ℕ) (s : Seat) → slice_get w.seats i ≡ Some s → IsSafeSeat w.bytes s
-  pub others : (i j : ℕ) (s t : Seat) → i ≢ j → slice_get w.seats i ≡ Some s → slice_get w.seats j ≡ Some t → LiesOutside s.bounds t.bounds
+  pub others : (i j : ℕ) (s t : Seat) → i ≢ j → slice_get w.seats i ≡ Some s
+      → slice_get w.seats j ≡ Some t → LiesOutside s.bounds t.bounds
 
 -- a memory keeps its bytes, or their absence, outside a region
 abbrev pub StaysOutside : Span → Bytes → Bytes → Type 0
@@ -99,4 +107,5 @@ pub record IsStopOf (w : Sandboxes) (i : ℕ) (status : Status) : Type 0 where
 
 -- so it is of each sandbox, with the status that `World::status` answers
 abbrev pub HaveStoppedThemselves : Sandboxes → Type 0
-HaveStoppedThemselves w = (i : ℕ) (status : Status) → status_at (slots_of w) i ≡ Some status → IsStopOf w i status
+HaveStoppedThemselves w =
+    (i : ℕ) (status : Status) → status_at (slots_of w) i ≡ Some status → IsStopOf w i status

@@ -21,8 +21,8 @@ const POSTED: u32 = 0;
 /// a0 after a post to a mailbox that is full.
 const FULL: u32 = 1;
 
-/// A host that keeps what each sandbox writes, lets each read the same input from its beginning, at its own pace, and keeps
-/// a mailbox of at most 16 messages for each.
+/// A host that keeps what each sandbox writes, lets each read the same input from its beginning, at
+/// its own pace, and keeps a mailbox of at most 16 messages for each.
 ///
 /// | service | what it does |
 /// |---|---|
@@ -33,10 +33,11 @@ const FULL: u32 = 1;
 /// | 4 post | a1, with the caller's number, goes to the end of the mailbox of sandbox a0; a0 becomes 0, or 1 where that mailbox is full |
 /// | 5 take | the first message leaves the caller's mailbox: a0 becomes its word and a1 its sender plus 1, or both 0 where there is none |
 ///
-/// A refused call sets a0 to ffffffff and does nothing else. Put and get are refused where a1 is above 65536 or one of the a1
-/// addresses from a0 on isn't one of the caller's data region; put also where the output would have more than 1048576 bytes;
-/// post where there is no sandbox a0. A sandbox may post to itself, and to one that has stopped. All other services are refused,
-/// and all but exit and yield of a caller whose number isn't below the count of sandboxes.
+/// A refused call sets a0 to ffffffff and does nothing else. Put and get are refused where a1 is
+/// above 65536 or one of the a1 addresses from a0 on isn't one of the caller's data region; put
+/// also where the output would have more than 1048576 bytes; post where there is no sandbox a0. A
+/// sandbox may post to itself, and to one that has stopped. All other services are refused, and all
+/// but exit and yield of a caller whose number isn't below the count of sandboxes.
 ///
 /// Only a put that appends bytes takes memory: the mailboxes' room is made with the console.
 #[derive(Drop)]

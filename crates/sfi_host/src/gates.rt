@@ -19,10 +19,10 @@ pub enum GateAnswer {
     Memory,
 }
 
-/// A host: it answers the calls of sandboxes. Implementations write their meaning down as `answer`, a function from the
-/// host's state and what is asked to a reply and the state after it, and as `may_refuse`, a test on the same values that
-/// says whether memory may be wanting. That `call` changes nothing but the caller's a0, a1 and data region comes from the
-/// calls of [`Guest`] alone.
+/// A host: it answers the calls of sandboxes. Implementations write their meaning down as `answer`,
+/// a function from the host's state and what is asked to a reply and the state after it, and as
+/// `may_refuse`, a test on the same values that says whether memory may be wanting. That `call`
+/// changes nothing but the caller's a0, a1 and data region comes from the calls of [`Guest`] alone.
 pub trait Gates {
     ghost use Rattle.sfi_host.specs.Answering.{IsAnswered, IsRefused, LeavesOthers};
 
@@ -35,6 +35,8 @@ pub trait Gates {
         requires has_data { HasData M.bytes guest.old }
         ensures same_reference { SameMemory guest.old guest.new }
         ensures others { LeavesOthers M.bytes guest.old guest.new }
-        ensures answered { IsAnswered (answer self.old) M.bytes guest.old guest.new self.new result }
-        ensures refused { IsRefused (may_refuse self.old) M.bytes guest.old guest.new self.old self.new result };
+        ensures answered { IsAnswered (answer self.old) M.bytes guest.old
+            guest.new self.new result }
+        ensures refused { IsRefused (may_refuse self.old) M.bytes guest.old guest.new
+            self.old self.new result };
 }

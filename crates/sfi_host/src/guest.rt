@@ -17,8 +17,8 @@ pub(crate) struct Request {
     pub a1: u32,
 }
 
-/// A sandbox that called a gate: its number, the service that it asks for, its a0 and a1, and its data region in the memory
-/// of all. Contracts see what is asked as a `Call` of `specs/Hosts.antt`.
+/// A sandbox that called a gate: its number, the service that it asks for, its a0 and a1, and its
+/// data region in the memory of all. Contracts see what is asked as a `Call` of `specs/Hosts.antt`.
 #[derive(Drop)]
 pub struct Guest<'a, M: Memory> {
     memory: &'a mut M,
@@ -43,8 +43,8 @@ impl<'a, M: Memory> Guest<'a, M> {
         }
     }
 
-    /// Whether each of the `count` addresses from `at` on is one of its data region. No address is asked for where `count`
-    /// is 0.
+    /// Whether each of the `count` addresses from `at` on is one of its data region. No address is
+    /// asked for where `count` is 0.
     pub(crate) fn covers(&self, at: u32, count: u64) -> bool
         requires has_data { HasData M.bytes self.now }
         ensures there { IsTrue result ↔ IsSome (data_from (asked M.bytes self.now) at count) }
@@ -100,10 +100,12 @@ impl<'a, M: Memory> Guest<'a, M> {
         self.region.byte(&*self.memory, at)
     }
 
-    /// Writes the byte at an address of its data region; `false` for every other address, and then nothing changed.
+    /// Writes the byte at an address of its data region; `false` for every other address,
+    /// and then nothing changed.
     pub fn put_byte(&mut self, at: u32, byte: u8) -> bool
         ensures same_reference { SameMemory self.old self.new }
-        ensures done { OnTrue result (asked M.bytes self.new ≡ with_byte (asked M.bytes self.old) at byte) }
+        ensures done { OnTrue result
+            (asked M.bytes self.new ≡ with_byte (asked M.bytes self.old) at byte) }
         ensures refused { OnFalse result (asked M.bytes self.new ≡ asked M.bytes self.old) }
         ensures there { IsTrue result ↔ IsSome (byte_at (asked M.bytes self.old).bytes at) }
         ensures region { HasData M.bytes self.old → (IsTrue result ↔ Holds (data_of self.old) at) }

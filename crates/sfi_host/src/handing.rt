@@ -16,13 +16,15 @@ const FAILED: u32 = u32::MAX;
 /// How many bytes one call may hand over.
 const MOST_HANDED: u32 = 65536;
 
-/// Whether the caller's a1 bytes from a0 on may be handed over: there aren't too many, and all are in its data region.
+/// Whether the caller's a1 bytes from a0 on may be handed over: there aren't too many,
+/// and all are in its data region.
 pub fn may_hand<M: Memory>(guest: &Guest<'_, M>) -> bool
     requires has_data { HasData M.bytes guest.now }
     ensures handed { IsTrue result ↔ IsSome (handed (asked M.bytes guest.now)) }
     ensures there { OnTrue result (IsSome (data_from (asked M.bytes guest.now)
         (asked M.bytes guest.now).a0 (asked M.bytes guest.now).a1)) }
-    ensures end { OnTrue result ((asked M.bytes guest.now).a0 + (asked M.bytes guest.now).a1 ≤ 2 ^ 32) }
+    ensures end { OnTrue result
+        ((asked M.bytes guest.now).a0 + (asked M.bytes guest.now).a1 ≤ 2 ^ 32) }
 {
     guest.arg1() <= MOST_HANDED && guest.covers(guest.arg0(), u64::from(guest.arg1()))
 }
@@ -37,7 +39,8 @@ pub fn append<M: Memory>(
     requires there { IsSome (data_from (asked M.bytes guest.now) at count) }
     requires end { at + count ≤ 2 ^ 32 }
     ensures ok { OnOk result (Some output.new.items
-        ≡ option_map (λ bytes. output.old.items ++ bytes) (data_from (asked M.bytes guest.now) at count)) }
+        ≡ option_map (λ bytes. output.old.items ++ bytes)
+        (data_from (asked M.bytes guest.now) at count)) }
     ensures err { OnErr result (output.new.items ≡ output.old.items) }
     ensures none { count ≡ 0 → IsOk result }
 {

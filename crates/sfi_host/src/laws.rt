@@ -19,12 +19,14 @@ pub fn one_machine()
     rv_step::laws::one_step();
 }
 
-/// What a sandbox comes to among others is what it comes to alone with the replies that it got. `S` is a host's state.
+/// What a sandbox comes to among others is what it comes to alone with the replies that it got.
+/// `S` is a host's state.
 pub fn joint_is_solo<S>()
     ensures { JointIsSolo S }
 {}
 
-/// The joint run of one plan after another is that of the second from where the first left off. `S` is a host's state.
+/// The joint run of one plan after another is that of the second from where the first left off.
+/// `S` is a host's state.
 pub fn joined_follows<S>()
     // With any host, a call that ends the first ends both.
     ensures any_host { JoinedFollows S }
@@ -41,8 +43,9 @@ pub fn plans_follow<S>()
     ensures memory { CutFollows S }
 {}
 
-/// A step of a sandbox that is safe is, alone, the same step in its own memory; it leaves all but its data, and leaves it safe.
-/// If it traps, it does so at an ebreak, or at a load or store that touches a guard zone.
+/// A step of a sandbox that is safe is, alone, the same step in its own memory; it leaves all but
+/// its data, and leaves it safe. If it traps, it does so at an ebreak,
+/// or at a load or store that touches a guard zone.
 pub fn steps_are_own()
     ensures { StepsAreOwn }
 {
@@ -57,25 +60,28 @@ pub fn steps_are_own()
     sfi_check::laws::goes_on_safely();
 }
 
-/// What one sandbox of a safe world makes of its own data is, to each other one, a change by others: that keeps its pc, registers, code
-/// and empty guard zones.
+/// What one sandbox of a safe world makes of its own data is, to each other one, a change by
+/// others: that keeps its pc, registers, code and empty guard zones.
 pub fn neighbours_are_changes()
     ensures { NeighboursAreChanges }
 {}
 
-/// A sandbox of a safe world that is ready and stands at an ecall has its stack pointer in its data, where its format has one.
+/// A sandbox of a safe world that is ready and stands at an ecall has its stack pointer in its
+/// data, where its format has one.
 pub fn calls_have_stack()
     ensures { CallsHaveStack }
 {}
 
-/// A host's reply to a sandbox that goes on, where the memory outside its data stays, keeps its x24 to x27, code and empty guard zones,
-/// and goes on after the ecall; a stack pointer in its data stays there.
+/// A host's reply to a sandbox that goes on, where the memory outside its data stays, keeps its x24
+/// to x27, code and empty guard zones, and goes on after the ecall;
+/// a stack pointer in its data stays there.
 pub fn answers_are_replies()
     ensures { AnswersAreReplies }
 {}
 
-/// What the sandboxes of a safe world do in the one memory, in any order, is to each of them a run: its own steps and the replies that it
-/// gets, and changes by others. Each of these runs is safe where the sandbox was ready, and the world stays safe.
+/// What the sandboxes of a safe world do in the one memory, in any order, is to each of them a run:
+/// its own steps and the replies that it gets, and changes by others. Each of these runs is safe
+/// where the sandbox was ready, and the world stays safe.
 pub fn moves_are_runs()
     ensures { MovesAreRuns }
 {
@@ -83,8 +89,8 @@ pub fn moves_are_runs()
     sfi_check::laws::goes_on_safely();
 }
 
-/// What the sandboxes of a safe world do, in one step, one turn or a plan, leaves each other one as it is: its pc, registers, status and
-/// count, and the bytes of its code and data.
+/// What the sandboxes of a safe world do, in one step, one turn or a plan, leaves each other one as
+/// it is: its pc, registers, status and count, and the bytes of its code and data.
 pub fn others_leave_slots()
     ensures { OthersLeaveSlots }
 {

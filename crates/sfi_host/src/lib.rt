@@ -1,11 +1,12 @@
 //! Sandboxes of a checked image in one memory, and the host whose gates they call.
 //!
-//! A sandbox asks its host at a gate: for a service, with the numbers in a0 and a1. A host is a [`Gates`]. It sees of its
-//! caller what a [`Guest`] shows, and its meaning is a function from its state and what is asked to a reply
-//! (`specs/Hosts.antt`).
+//! A sandbox asks its host at a gate: for a service, with the numbers in a0 and a1. A host is a
+//! [`Gates`]. It sees of its caller what a [`Guest`] shows, and its meaning is a function from its
+//! state and what is asked to a reply (`specs/Hosts.antt`).
 //!
-//! A [`World`] runs the sandboxes of an accepted image in one memory, by turns. `specs/Joint.antt` says what they come to, each
-//! in a memory of its own; a law says that each comes to what it comes to alone with the replies that it got.
+//! A [`World`] runs the sandboxes of an accepted image in one memory, by turns. `specs/Joint.antt`
+//! says what they come to, each in a memory of its own; a law says that each comes to what it comes
+//! to alone with the replies that it got.
 #![tactic(auto)]
 
 mod asking;

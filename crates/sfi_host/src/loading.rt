@@ -18,7 +18,8 @@ use sfi_policy::{
 };
 use std::alloc::{AllocError, Global};
 
-// Adds a sandbox's code and data. All regions lie apart and end within the addresses, so memory alone may be wanting.
+// Adds a sandbox's code and data. All regions lie apart and end within the addresses,
+// so memory alone may be wanting.
 fn add_part<M: Memory>(memory: &mut M, part: &SandboxPart<'_>) -> Result<(), AllocError>
     requires { (format : Format) × IsRightPart (view format part.now) }
     ensures { (format : Format)
@@ -93,8 +94,10 @@ pub fn load_parts<M: Memory>(
     memory: &mut M,
 ) -> Result<Vec<Sandbox>, AllocError>
     requires { IsRightLayout (views format parts.now) }
-    ensures seats { IfOk result (λ all. seats_of all.items ≡ map first_seat (views format parts.now)) }
-    ensures bytes { OnOk result (M.bytes memory.new ≡ with_parts (M.bytes memory.old) (views format parts.now)) }
+    ensures seats { IfOk result
+        (λ all. seats_of all.items ≡ map first_seat (views format parts.now)) }
+    ensures bytes { OnOk result
+        (M.bytes memory.new ≡ with_parts (M.bytes memory.old) (views format parts.now)) }
 {
     let mut sandboxes = Vec::with_capacity(alloc, parts.len())?;
     for part in parts {

@@ -36,7 +36,8 @@ fn take_turn<M: Memory, G: Gates>(
         → IsPlanStep machine G.answer turn (slots_in (M.bytes memory.old) sandboxes.old) gates.old
         (slots_in (M.bytes memory.new) sandboxes.new) gates.new }
     ensures refused { result ≡ StepResult.RunEnds → (machine : Machine) → IsMachine machine
-        → IsPlanCut machine G.answer G.may_refuse turn (slots_in (M.bytes memory.old) sandboxes.old) gates.old
+        → IsPlanCut machine G.answer G.may_refuse turn
+        (slots_in (M.bytes memory.old) sandboxes.old) gates.old
         (slots_in (M.bytes memory.new) sandboxes.new) gates.new }
 {
     // The law that the contract rests on: this call does nothing.
@@ -74,9 +75,11 @@ pub fn take_turns<M: Memory, G: Gates>(
     ensures done { result ≡ RunAnswer.Done → (machine : Machine) → IsMachine machine
         → IsJoint machine G.answer plan.now (slots_in (M.bytes memory.old) sandboxes.old) gates.old
         (slots_in (M.bytes memory.new) sandboxes.new) gates.new }
-    ensures refused { (place : ℕ) → result ≡ RunAnswer.Memory place → (machine : Machine) → IsMachine machine
+    ensures refused { (place : ℕ) → result ≡ RunAnswer.Memory place
+        → (machine : Machine) → IsMachine machine
         → IsCutJoint machine G.answer G.may_refuse plan.now
-        (slots_in (M.bytes memory.old) sandboxes.old) gates.old place (slots_in (M.bytes memory.new) sandboxes.new) gates.new }
+        (slots_in (M.bytes memory.old) sandboxes.old) gates.old place
+        (slots_in (M.bytes memory.new) sandboxes.new) gates.new }
     ensures place { (place : ℕ) → result ≡ RunAnswer.Memory place → place < length plan.now }
 {
     for place in 0..plan.len() {

@@ -6,8 +6,8 @@ use rv_step::Cpu;
 use sfi_image::Gate;
 use sfi_policy::Format;
 
-/// Where a sandbox lies, its pc and registers, what it may still do, and how many steps it did. Its bytes lie in the world's
-/// memory.
+/// Where a sandbox lies, its pc and registers, what it may still do, and how many steps it did. Its
+/// bytes lie in the world's memory.
 #[derive(Drop)]
 pub struct Sandbox {
     pub format: Format,
@@ -19,8 +19,8 @@ pub struct Sandbox {
     pub steps: u64,
 }
 
-/// x10, which is a0: the first argument register of the calling convention, and a result register (RISC-V ABIs Specification,
-/// the psABI, "Integer Register Convention").
+/// x10, which is a0: the first argument register of the calling convention, and a result register
+/// (RISC-V ABIs Specification, the psABI, "Integer Register Convention").
 pub const A0_REGISTER: u8 = 10;
 
 /// x11, which is a1: the second argument register, and the second result register.

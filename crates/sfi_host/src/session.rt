@@ -21,8 +21,8 @@ const MOST_OUTPUT: usize = 1_048_576;
 /// How many messages a mailbox may have.
 const MOST_MESSAGES: usize = 16;
 
-/// The output of a sandbox, how many bytes of the input it has read, and the messages in its mailbox, which lie in the
-/// session itself.
+/// The output of a sandbox, how many bytes of the input it has read, and the messages in its
+/// mailbox, which lie in the session itself.
 #[derive(Drop)]
 pub struct Session {
     output: Vec<u8>,
@@ -35,7 +35,8 @@ impl Model for Session {
 
     ghost Value = { SessionState };
 
-    ghost view = { λ s. record { output = s.output.items; place = s.place; mailbox = s.mailbox.items } };
+    ghost view = { λ s.
+        record { output = s.output.items; place = s.place; mailbox = s.mailbox.items } };
 }
 
 /// At most so many bytes of the input, from a place on.
@@ -91,7 +92,8 @@ impl Session {
         ensures same_reference { SameMemory guest.old guest.new }
         ensures others { LeavesOthers M.bytes guest.old guest.new }
         ensures replied { result ≡ GateAnswer.Replied }
-        ensures answered { IsAnswered (get input.now self.old) M.bytes guest.old guest.new self.new result }
+        ensures answered { IsAnswered (get input.now self.old) M.bytes guest.old
+            guest.new self.new result }
     {
         if !may_hand(guest) {
             return refuse(guest);
@@ -109,7 +111,8 @@ impl Session {
         ensures same_reference { SameMemory guest.old guest.new }
         ensures others { LeavesOthers M.bytes guest.old guest.new }
         ensures replied { result ≡ GateAnswer.Replied }
-        ensures answered { IsAnswered (take_message self.old) M.bytes guest.old guest.new self.new result }
+        ensures answered { IsAnswered (take_message self.old) M.bytes guest.old
+            guest.new self.new result }
     {
         let (word, from) = match self.mailbox.pop_at(0) {
             Some(message) => (message.word, message.sender + 1),
@@ -134,8 +137,10 @@ impl Session {
         requires has_data { HasData M.bytes guest.old }
         ensures same_reference { SameMemory guest.old guest.new }
         ensures others { LeavesOthers M.bytes guest.old guest.new }
-        ensures answered { IsAnswered (serve input.now self.old) M.bytes guest.old guest.new self.new result }
-        ensures refused { IsRefused (may_want self.old) M.bytes guest.old guest.new self.old self.new result }
+        ensures answered { IsAnswered (serve input.now self.old) M.bytes guest.old
+            guest.new self.new result }
+        ensures refused { IsRefused (may_want self.old) M.bytes guest.old guest.new
+            self.old self.new result }
     {
         match guest.service() {
             PUT => self.put(guest),

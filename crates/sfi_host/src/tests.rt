@@ -225,7 +225,8 @@ fn a_console_passes_words_on(rt: HostRuntime) {
     assert_eq!(rt; told, (GateAnswer::Replied, 0, 0));
 }
 
-/// The head of an image with one sandbox: code 256 at 01000000, data 256 at 01800000, start 01000000, no gates, no first data bytes.
+/// The head of an image with one sandbox: code 256 at 01000000, data 256 at 01800000, start
+/// 01000000, no gates, no first data bytes.
 const HEAD: [u8; 36] = [
     0x53, 0x46, 0x49, 0x31, 1, 0, 0, 0, 0, 0, 0, 1, 0, 1, 0, 0, 0, 0, 0x80, 1, 0, 1, 0, 0, 0, 0, 0,
     1, 0, 0, 0, 0, 0, 0, 0, 0,

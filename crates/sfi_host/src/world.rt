@@ -29,8 +29,9 @@ use sfi_image::code_ends;
 use std::alloc::{AllocError, Global};
 use std::marker::Model;
 
-/// The sandboxes of an accepted image, in one memory. Contracts see the memory's bytes and what there is of each sandbox beside
-/// them; the type keeps that each is safe, whatever it does and whatever the others do.
+/// The sandboxes of an accepted image, in one memory. Contracts see the memory's bytes and what
+/// there is of each sandbox beside them; the type keeps that each is safe,
+/// whatever it does and whatever the others do.
 #[derive(Drop)]
 pub struct World<M: Memory> {
     memory: M,
@@ -59,18 +60,21 @@ impl<M: Memory> Model for World<M> {
 }
 
 impl<M: Memory> World<M> {
-    /// The world of an image, before any turn. Where memory is wanting there is none, and the memory handed in is given up.
+    /// The world of an image, before any turn. Where memory is wanting there is none, and the
+    /// memory handed in is given up.
     pub fn load(alloc: Global, accepted: &Accepted<'_>, memory: M) -> Result<World<M>, AllocError>
         requires { M.bytes memory ≡ empty }
         ensures seats { IfOk result (λ w. w.seats ≡ map first_seat accepted.now) }
         ensures bytes { IfOk result (λ w. w.bytes ≡ with_parts empty accepted.now) }
 
-        // What that comes to: each sandbox is where it may be entered, so its code is the image's, its guard zones are empty, and where
-        // its format has a stack pointer, that lies in its data.
+        // What that comes to: each sandbox is where it may be entered, so its code is the image's,
+        // its guard zones are empty, and where its format has a stack pointer,
+        // that lies in its data.
         ensures entered { IfOk result (λ w. AreEntered accepted.now w.bytes) }
         ensures first_data { IfOk result (λ w. HaveFirstData accepted.now w.bytes) }
 
-        // Each sandbox is safe, and its data lie outside each other one: the premise of the laws on steps and neighbours.
+        // Each sandbox is safe, and its data lie outside each other one:
+        // the premise of the laws on steps and neighbours.
         ensures safe { IfOk result (λ w. IsSafeWorld w) }
     {
         // The laws that the contract rests on: these calls do nothing.
@@ -90,25 +94,30 @@ impl<M: Memory> World<M> {
         })
     }
 
-    /// Takes the turns of a plan in their order. A turn repeats steps of its sandbox until its allowance is used, the sandbox is ready
-    /// no more, or the host answers Yield. Where the host has no memory for a reply the plan ends in that turn, at that call, and all
-    /// that was done before stands. What is said of runs holds of the machine, which is one function.
+    /// Takes the turns of a plan in their order. A turn repeats steps of its sandbox until its
+    /// allowance is used, the sandbox is ready no more, or the host answers Yield. Where the host
+    /// has no memory for a reply the plan ends in that turn, at that call, and all that was done
+    /// before stands. What is said of runs holds of the machine, which is one function.
     pub fn run_plan<G: Gates>(&mut self, plan: &[Turn], gates: &mut G) -> RunAnswer
         ensures done { result ≡ RunAnswer.Done → (machine : Machine) → IsMachine machine
-            → IsJoint machine G.answer plan.now (slots_of self.old) gates.old (slots_of self.new) gates.new }
-        ensures memory { (turn : ℕ) → result ≡ RunAnswer.Memory turn → (machine : Machine) → IsMachine machine
+            → IsJoint machine G.answer plan.now (slots_of self.old) gates.old
+            (slots_of self.new) gates.new }
+        ensures memory { (turn : ℕ) → result ≡ RunAnswer.Memory turn
+            → (machine : Machine) → IsMachine machine
             → IsCutJoint machine G.answer G.may_refuse plan.now (slots_of self.old) gates.old turn
             (slots_of self.new) gates.new }
 
-        // What was done, however the plan ended, are moves of the sandboxes that it names, one after
-        // another in the one memory, and to each sandbox they are a run, and where it was ready a safe one.
+        // What was done, however the plan ended, are moves of the sandboxes that it names, one
+        // after another in the one memory, and to each sandbox they are a run,
+        // and where it was ready a safe one.
         ensures runs { HaveRun plan.now self.old self.new }
 
         // Each sandbox is safe as before, and its data lie outside each other one.
         ensures safe { IsSafeWorld self.new }
 
-        // Each one that has stopped is at its own instruction that stopped it: the ecall of one of its gates if it exited (`done` and
-        // `memory` say that the host answered so), an ebreak, or a load or store that touches its guard zones. No other trap stops a sandbox.
+        // Each one that has stopped is at its own instruction that stopped it: the ecall of one of
+        // its gates if it exited (`done` and `memory` say that the host answered so), an ebreak, or
+        // a load or store that touches its guard zones. No other trap stops a sandbox.
         ensures stops { HaveStoppedThemselves self.new }
 
         // No byte has changed that lies in no sandbox's data.
@@ -153,7 +162,8 @@ impl<M: Memory> World<M> {
         Some(sandbox.steps)
     }
 
-    /// The byte at an address of its data region; `None` where there is no such sandbox, or the address lies elsewhere.
+    /// The byte at an address of its data region; `None` where there is no such sandbox,
+    /// or the address lies elsewhere.
     pub fn data_byte(&self, i: u32, at: u32) -> Option<u8>
         ensures value { result ≡ data_byte_of (slice_get (slots_of self.now) i) at }
         ensures there { IsSome result

@@ -1,4 +1,5 @@
-//! Hostile input: attacks on the rules, images cut short, readers and writers that fail, a host without memory.
+//! Hostile input: attacks on the rules, images cut short, readers and writers that fail,
+//! a host without memory.
 #![tactic(auto)]
 
 #[cfg(test)]

@@ -36,12 +36,14 @@ IsGateShort f gs rest k = (length gs < f.gate_count) × (length rest < gate_byte
 -- the next pair is no gate after these
 abbrev pub IsGateWrong : Fields → List Gate → List ℕ → LayoutFault → Type 0
 IsGateWrong f gs rest k =
-    (length gs < f.gate_count) × (g : Gate) × (after : List ℕ) × (rest ≡ gate g ++ after) × AreGateWords g
+    (length gs < f.gate_count) × (g : Gate) × (after : List ℕ)
+    × (rest ≡ gate g ++ after) × AreGateWords g
     × (¬ AreGates (code_span f) (gs ++ g ∷ [])) × (k ≡ Gates)
 
 -- after the last gate the code and the data are cut short
 abbrev pub AreContentsShort : Fields → List Gate → List ℕ → LayoutFault → Type 0
-AreContentsShort f gs rest k = (length gs ≡ f.gate_count) × (length rest < f.code_size + f.init_len) × (k ≡ Short)
+AreContentsShort f gs rest k =
+    (length gs ≡ f.gate_count) × (length rest < f.code_size + f.init_len) × (k ≡ Short)
 
 -- after right gates one of these is so
 abbrev pub IsBodyFault : Fields → List ℕ → LayoutFault → Type 0
@@ -53,14 +55,15 @@ IsBodyFault f bytes k = (gs : List Gate) × (rest : List ℕ)
 abbrev pub IsPartFault : Format → List Span → List ℕ → LayoutFault → Type 0
 IsPartFault format before bytes k =
     ((length bytes < fields_bytes) × (k ≡ Short))
-    ⊎ ((f : Fields) × (rest : List ℕ) × (bytes ≡ fields f ++ rest) × AreFieldWords f × (f.format ≡ format) × (
-    IsFirstFault before f field_tests (Some k)
+    ⊎ ((f : Fields) × (rest : List ℕ) × (bytes ≡ fields f ++ rest) × AreFieldWords f
+    × (f.format ≡ format) × (IsFirstFault before f field_tests (Some k)
     ⊎ (IsFirstFault before f field_tests None × IsBodyFault f rest k)))
 
 -- after right sandboxes the next one is wrong, or bytes follow the last
 abbrev pub ArePartsFault : Format → ℕ → List ℕ → LayoutFault → Type 0
-ArePartsFault format n bytes k = (ps : List Part) × (rest : List ℕ) × (bytes ≡ flat_map part ps ++ rest) × AreRight ps × AreOf format ps × (
-    ((length ps < n) × IsPartFault format (spans ps) rest k)
+ArePartsFault format n bytes k =
+    (ps : List Part) × (rest : List ℕ) × (bytes ≡ flat_map part ps ++ rest) × AreRight ps
+    × AreOf format ps × (((length ps < n) × IsPartFault format (spans ps) rest k)
     ⊎ ((length ps ≡ n) × (0 < length rest) × (k ≡ Trailing)))
 
 -- the count is cut short, or not from 1 to the most, or the sandboxes after it are wrong
@@ -75,5 +78,7 @@ IsCountFault format bytes k =
 abbrev pub IsFault : List ℕ → LayoutFault → Type 0
 IsFault bytes k =
     ((length bytes < magic_bytes) × (k ≡ Short))
-    ⊎ (((magic_bytes ≤ length bytes) × ((format : Format) → take magic_bytes bytes ≢ magic format) × (k ≡ Magic))
-    ⊎ ((format : Format) × (rest : List ℕ) × (bytes ≡ magic format ++ rest) × IsCountFault format rest k))
+    ⊎ (((magic_bytes ≤ length bytes)
+    × ((format : Format) → take magic_bytes bytes ≢ magic format) × (k ≡ Magic))
+    ⊎ ((format : Format) × (rest : List ℕ) × (bytes ≡ magic format ++ rest)
+    × IsCountFault format rest k))

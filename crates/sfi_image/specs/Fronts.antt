@@ -18,8 +18,9 @@ use Rattle.sfi_image.specs.declared.fault.LayoutFault.TheVariants.{Short, Traili
 use Rattle.sfi_image.specs.Faults.{IsFault, number_of}
 use Rattle.sfi_image.specs.Images.{IsImage}
 
--- Nothing, or the magic of a format; with the count and so many whole sandboxes, of which there is one more; after these the fields of the
--- next and its gates so far; all its gates, and its code so far; all its code, and its first data bytes so far; or the whole image.
+-- Nothing, or the magic of a format; with the count and so many whole sandboxes, of which there is
+-- one more; after these the fields of the next and its gates so far; all its gates, and its code so
+-- far; all its code, and its first data bytes so far; or the whole image.
 pub data Front : Type 0 where
   Empty : Front
   AfterMagic : Format → Front
@@ -42,7 +43,8 @@ front (AfterMagic format) = magic format
 front (AfterCount format n ps) = head format n ps
 front (InGates n ps f gs) = head f.format n ps ++ (fields f ++ flat_map gate gs)
 front (InCode n ps f gs code) = head f.format n ps ++ (fields f ++ (flat_map gate gs ++ code))
-front (InInit n ps f gs code init) = head f.format n ps ++ (fields f ++ (flat_map gate gs ++ (code ++ init)))
+front (InInit n ps f gs code init) =
+    head f.format n ps ++ (fields f ++ (flat_map gate gs ++ (code ++ init)))
 front (Whole ps) = head (format_of ps) (length ps) ps
 
 -- ---- what passed its tests
@@ -69,9 +71,11 @@ IsRightFront Empty = Unit {0}
 IsRightFront (AfterMagic format) = Unit {0}
 IsRightFront (AfterCount format n ps) = IsHead format n ps × (length ps < n)
 IsRightFront (InGates n ps f gs) = IsOpened n ps f gs × (length gs < f.gate_count)
-IsRightFront (InCode n ps f gs code) = IsOpened n ps f gs × (length gs ≡ f.gate_count) × (length code % bundle_size ≡ 0) × (length code < f.code_size)
+IsRightFront (InCode n ps f gs code) = IsOpened n ps f gs × (length gs ≡ f.gate_count)
+    × (length code % bundle_size ≡ 0) × (length code < f.code_size)
 IsRightFront (InInit n ps f gs code init) =
-    IsOpened n ps f gs × (length gs ≡ f.gate_count) × (length code ≡ f.code_size) × (length init < f.init_len)
+    IsOpened n ps f gs × (length gs ≡ f.gate_count) × (length code ≡ f.code_size)
+    × (length init < f.init_len)
 IsRightFront (Whole ps) = IsHead (format_of ps) (length ps) ps
 
 -- ---- what comes next
@@ -110,11 +114,13 @@ after_parts format n ps = cond (length ps == n) (Whole ps) (AfterCount format n 
 -- after so many first data bytes of the next
 abbrev pub after_init : ℕ → List Part → Fields → List Gate → List ℕ → List ℕ → Front
 after_init n ps f gs code init =
-    cond (length init == f.init_len) (after_parts f.format n (ps ++ part_of f gs code init ∷ [])) (InInit n ps f gs code init)
+    cond (length init == f.init_len) (after_parts f.format n (ps ++ part_of f gs code init ∷ []))
+    (InInit n ps f gs code init)
 
 -- after so much of its code
 abbrev pub after_code : ℕ → List Part → Fields → List Gate → List ℕ → Front
-after_code n ps f gs code = cond (length code == f.code_size) (after_init n ps f gs code []) (InCode n ps f gs code)
+after_code n ps f gs code =
+    cond (length code == f.code_size) (after_init n ps f gs code []) (InCode n ps f gs code)
 
 -- after so many of its gates
 abbrev pub after_gates : ℕ → List Part → Fields → List Gate → Front
@@ -124,8 +130,10 @@ after_gates n ps f gs = cond (length gs == f.gate_count) (InCode n ps f gs []) (
 abbrev pub Follows : Front → List ℕ → Front → Type 0
 Follows Empty s y = (format : Format) × (s ≡ magic format) × (y ≡ AfterMagic format)
 Follows (AfterMagic format) s y = (n : ℕ) × (s ≡ number n) × (y ≡ AfterCount format n [])
-Follows (AfterCount format n ps) s y = (f : Fields) × (f.format ≡ format) × (s ≡ fields f) × (y ≡ after_gates n ps f [])
-Follows (InGates n ps f gs) s y = (g : Gate) × (s ≡ gate g) × (y ≡ after_gates n ps f (gs ++ g ∷ []))
+Follows (AfterCount format n ps) s y =
+    (f : Fields) × (f.format ≡ format) × (s ≡ fields f) × (y ≡ after_gates n ps f [])
+Follows (InGates n ps f gs) s y =
+    (g : Gate) × (s ≡ gate g) × (y ≡ after_gates n ps f (gs ++ g ∷ []))
 Follows (InCode n ps f gs code) s y = y ≡ after_code n ps f gs (code ++ s)
 Follows (InInit n ps f gs code init) s y = y ≡ after_init n ps f gs code (init ++ s)
 Follows (Whole ps) s y = ⊥
@@ -138,7 +146,8 @@ HasFaultWhateverFollows bytes k = (more : List ℕ) → IsFault (bytes ++ more) 
 
 -- the same, of the fault of that number
 abbrev pub HasFaultNumberWhateverFollows : List ℕ → ℕ → Type 0
-HasFaultNumberWhateverFollows bytes n = (k : LayoutFault) × (number_of k ≡ n) × HasFaultWhateverFollows bytes k
+HasFaultNumberWhateverFollows bytes n =
+    (k : LayoutFault) × (number_of k ≡ n) × HasFaultWhateverFollows bytes k
 
 -- fewer bytes than come next
 abbrev pub IsLess : ℕ → Want → Type 0
@@ -160,11 +169,13 @@ IsLengthOf len wants.Nothing = ⊥
 
 -- bytes that end before what comes next is whole are cut short
 abbrev pub CutShort : Type 0
-CutShort = (x : Front) (rest : List ℕ) → IsRightFront x → IsLess (length rest) (want_of x) → IsFault (front x ++ rest) Short
+CutShort = (x : Front) (rest : List ℕ) → IsRightFront x → IsLess (length rest) (want_of x)
+    → IsFault (front x ++ rest) Short
 
 -- bytes that follow a whole image trail it
 abbrev pub Trails : Type 0
-Trails = (ps : List Part) (rest : List ℕ) → IsRightFront (Whole ps) → 0 < length rest → IsFault (front (Whole ps) ++ rest) Trailing
+Trails = (ps : List Part) (rest : List ℕ) → IsRightFront (Whole ps) → 0 < length rest
+    → IsFault (front (Whole ps) ++ rest) Trailing
 
 -- the bytes of a whole image are its image
 abbrev pub WholeIsImage : Type 0

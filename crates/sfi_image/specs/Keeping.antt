@@ -15,9 +15,10 @@ use Rattle.sfi_image.specs.Gates.{is_gate_of}
 use Rattle.sfi_image.specs.Fronts.{Front, front, IsRightFront, Follows}
 use Rattle.sfi_image.specs.Fronts.Front.{Empty, AfterMagic, AfterCount, InGates, InCode, InInit, Whole}
 
--- what is kept: what comes next, the count, how many sandboxes are begun, their spans, and of the last of these the fields, the gates'
--- addresses, how many of them lie before the next bundle, and how many bytes were read of its code and of its first data bytes; the format of
--- the fields is kept from the magic on
+-- what is kept: what comes next, the count, how many sandboxes are begun, their spans, and of the
+-- last of these the fields, the gates' addresses, how many of them lie before the next bundle, and
+-- how many bytes were read of its code and of its first data bytes;
+-- the format of the fields is kept from the magic on
 pub record ReaderState : Type 0 where
   pub next : Next
   pub count : ℕ
@@ -37,7 +38,8 @@ pub record KeepsHead (r : ReaderState) (format : Format) (n : ℕ) (ps : List Pa
   pub begun : r.begun ≡ length ps
   pub spans : r.spans ≡ spans ps
 
-pub record KeepsFields (r : ReaderState) (n : ℕ) (ps : List Part) (f : Fields) (gs : List Gate) : Type 0 where
+pub record KeepsFields (r : ReaderState) (n : ℕ) (ps : List Part) (f : Fields)
+    (gs : List Gate) : Type 0 where
   pub count : r.count ≡ n
   pub begun : r.begun ≡ length ps + 1
   pub spans : r.spans ≡ spans ps ++ spans_of f
@@ -59,7 +61,8 @@ pub record AreRest (at : ℕ) (gs : List Gate) (ahead : List ℕ) : Type 0 where
   pub ahead_are : AreAhead at ahead
   pub same : (a : ℕ) → at ≤ a → is_one_of ahead a ≡ is_gate_of gs a
 
-pub record KeepsCode (r : ReaderState) (n : ℕ) (ps : List Part) (f : Fields) (gs : List Gate) (code : List ℕ) : Type 0 where
+pub record KeepsCode (r : ReaderState) (n : ℕ) (ps : List Part) (f : Fields) (gs : List Gate)
+    (code : List ℕ) : Type 0 where
   pub head : KeepsFields r n ps f gs
   pub code_read : r.code_read ≡ length code
   pub init_read : r.init_read ≡ 0
@@ -70,9 +73,11 @@ abbrev pub Keeps : ReaderState → Front → Type 0
 Keeps r Empty = (r.next ≡ next.Magic) × (r.spans ≡ [])
 Keeps r (AfterMagic format) = (r.next ≡ next.Count) × (r.spans ≡ []) × (r.fields.format ≡ format)
 Keeps r (AfterCount format n ps) = (r.next ≡ next.Fields) × KeepsHead r format n ps
-Keeps r (InGates n ps f gs) = (r.next ≡ next.Gate) × KeepsFields r n ps f gs × (r.passed ≡ 0) × (r.code_read ≡ 0) × (r.init_read ≡ 0)
+Keeps r (InGates n ps f gs) = (r.next ≡ next.Gate) × KeepsFields r n ps f gs × (r.passed ≡ 0)
+    × (r.code_read ≡ 0) × (r.init_read ≡ 0)
 Keeps r (InCode n ps f gs code) = (r.next ≡ next.Code) × KeepsCode r n ps f gs code
-Keeps r (InInit n ps f gs code init) = (r.next ≡ next.Init) × KeepsFields r n ps f gs × (r.init_read ≡ length init)
+Keeps r (InInit n ps f gs code init) =
+    (r.next ≡ next.Init) × KeepsFields r n ps f gs × (r.init_read ≡ length init)
 Keeps r (Whole ps) = (r.next ≡ next.End) × Unit {0}
 
 -- the reader has read that front, and all of it passed its tests
@@ -99,8 +104,9 @@ pub record Leads (x : Front) (s : List ℕ) (r : ReaderState) : Type 0 where
 
 -- ---- how much is left
 
--- the most that one sandbox adds: 1 for its fields, so many for its gates, for the bytes of its code and for its first data bytes,
--- and 1 by which what is left within it stays above what is left after it
+-- the most that one sandbox adds: 1 for its fields, so many for its gates, for the bytes of its
+-- code and for its first data bytes, and 1 by which what is left within it stays above what is left
+-- after it
 abbrev pub part_most : ℕ
 part_most = 1 + gates_most + code_most Sfi2 + data_most + 1
 
@@ -113,8 +119,10 @@ left_by next.Magic r = left_most
 left_by next.Count r = sandboxes_most * part_most + 1
 left_by next.Fields r = (r.count - r.begun) * part_most
 left_by next.Gate r =
-    (r.count - r.begun) * part_most + (r.fields.gate_count - length r.gates) + r.fields.code_size + r.fields.init_len + 1
-left_by next.Code r = (r.count - r.begun) * part_most + (r.fields.code_size - r.code_read) + r.fields.init_len + 1
+    (r.count - r.begun) * part_most + (r.fields.gate_count - length r.gates)
+    + r.fields.code_size + r.fields.init_len + 1
+left_by next.Code r =
+    (r.count - r.begun) * part_most + (r.fields.code_size - r.code_read) + r.fields.init_len + 1
 left_by next.Init r = (r.count - r.begun) * part_most + (r.fields.init_len - r.init_read) + 1
 left_by next.End r = 0
 left_by next.Nothing r = 0

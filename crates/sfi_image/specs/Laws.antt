@@ -26,13 +26,15 @@ OneFault = (b : List ℕ) (j k : LayoutFault) → IsFault b j → IsFault b k �
 
 -- bytes are an image or have a fault
 abbrev pub SomeReading : Type 0
-SomeReading = (b : List ℕ) → All (λ x. x < 256) b → ((ps : List Part) × IsImage b ps) ⊎ ((k : LayoutFault) × IsFault b k)
+SomeReading = (b : List ℕ) → All (λ x. x < 256) b
+    → ((ps : List Part) × IsImage b ps) ⊎ ((k : LayoutFault) × IsFault b k)
 
 -- a code region is whole bundles, at a multiple of a bundle's size, and ends at or below 2 ^ 32
 abbrev pub WholeBundles : Type 0
 WholeBundles =
     (format : Format) (base size : ℕ) → IsWord base → IsCodeRegion format base size
-    → (n : ℕ) × (m : ℕ) × (size ≡ bundle_size * n) × (base ≡ bundle_size * m) × (base + size ≤ 2 ^ 32)
+    → (n : ℕ) × (m : ℕ) × (size ≡ bundle_size * n) × (base ≡ bundle_size * m)
+    × (base + size ≤ 2 ^ 32)
 
 -- a code region ends within the addresses
 abbrev pub CodeEnds : Type 0

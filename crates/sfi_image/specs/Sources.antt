@@ -2,18 +2,21 @@
 use Rattle.std.specs.Prelude.{◌≡◌, ℕ, ◌≤◌, Bool, false, cond, ◌||◌, nat_lt, List, [], ◌∷◌, ◌++◌, Option, Some, None}
 use Rattle.std.specs.List.{All}
 
--- one read: the length of its buffer, the bytes that it hands out or None where it fails, and the source after it
+-- one read: the length of its buffer, the bytes that it hands out or None where it fails,
+-- and the source after it
 pub record OneRead (S : Type 0) : Type 0 where
   pub buffer_length : ℕ
   pub answer : Option (List ℕ)
   pub after : S
 
 -- the reads lead from the first source to the second; `reads` is the source's meaning of one read
-abbrev pub IsChain : {S : Type 0} → (S → ℕ → Option (List ℕ) → S → Type 0) → S → List (OneRead S) → S → Type 0
+abbrev pub IsChain :
+    {S : Type 0} → (S → ℕ → Option (List ℕ) → S → Type 0) → S → List (OneRead S) → S → Type 0
 IsChain reads s [] t = t ≡ s
 IsChain reads s (r ∷ rs) t = reads s r.buffer_length r.answer r.after × IsChain reads r.after rs t
 
--- the answer is that the source is at its end: no bytes, for a buffer of that length, which isn't empty
+-- the answer is that the source is at its end: no bytes, for a buffer of that length,
+-- which isn't empty
 abbrev pub is_end : ℕ → Option (List ℕ) → Bool
 is_end len None = false
 is_end len (Some []) = nat_lt 0 len
@@ -27,16 +30,19 @@ bytes_of (Some bs) = bs
 -- what the reads hand out, up to the first that finds the end
 abbrev pub bytes_handed_out : {S : Type 0} → List (OneRead S) → List ℕ
 bytes_handed_out [] = []
-bytes_handed_out (r ∷ rs) = cond (is_end r.buffer_length r.answer) [] (bytes_of r.answer ++ bytes_handed_out rs)
+bytes_handed_out (r ∷ rs) =
+    cond (is_end r.buffer_length r.answer) [] (bytes_of r.answer ++ bytes_handed_out rs)
 
 -- whether one of them finds the end
 abbrev pub finds_end : {S : Type 0} → List (OneRead S) → Bool
 finds_end [] = false
 finds_end (r ∷ rs) = is_end r.buffer_length r.answer || finds_end rs
 
--- A chain of reads leads from the first source to the second, hands out these bytes, and finds the end where `ends` says so. No read has a
--- buffer of more than `most` bytes: that is no part of what a stream is, but what its caller promises of the pieces in which it reads.
-pub record Streams {S : Type 0} (reads : S → ℕ → Option (List ℕ) → S → Type 0) (most : ℕ) (before after : S) (bytes : List ℕ)
+-- A chain of reads leads from the first source to the second, hands out these bytes, and finds the
+-- end where `ends` says so. No read has a buffer of more than `most` bytes: that is no part of what
+-- a stream is, but what its caller promises of the pieces in which it reads.
+pub record Streams {S : Type 0} (reads : S → ℕ → Option (List ℕ) → S → Type 0) (most : ℕ)
+    (before after : S) (bytes : List ℕ)
     (ends : Bool) : Type 0 where
   pub chain : List (OneRead S)
   pub is_chain : IsChain reads before chain after

@@ -9,7 +9,8 @@ use Rattle.sfi_image.specs.declared.part.Gate.{Gate}
 use Rattle.sfi_image.specs.declared.fields.Fields.{Fields}
 use Rattle.sfi_image.specs.declared.part.SandboxPart.{SandboxPart}
 
--- one sandbox, without where its bytes lie in memory; the code size, the gate count and the init length are its lists' lengths
+-- one sandbox, without where its bytes lie in memory; the code size, the gate count and the init
+-- length are its lists' lengths
 pub record Part : Type 0 where
   pub format : Format  -- that of its image
   pub code_base : ℕ

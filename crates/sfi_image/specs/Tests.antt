@@ -47,4 +47,5 @@ field_tests = Code ∷ Data ∷ GuardRoom ∷ Start ∷ Gates ∷ Init ∷ Overl
 abbrev pub IsFirstFault : List Span → Fields → List FieldTest → Option LayoutFault → Type 0
 IsFirstFault before f [] found = found ≡ None
 IsFirstFault before f (t ∷ ts) found =
-    (Passes before f t × IsFirstFault before f ts found) ⊎ ((¬ Passes before f t) × (found ≡ Some (fault_of t)))
+    (Passes before f t × IsFirstFault before f ts found)
+    ⊎ ((¬ Passes before f t) × (found ≡ Some (fault_of t)))

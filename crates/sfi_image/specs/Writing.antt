@@ -20,7 +20,8 @@ HasWrongGate region gs = (front : List Gate) × (g : Gate) × (more : List Gate)
 abbrev pub HasFault : List Span → Part → LayoutFault → Type 0
 HasFault before p k =
     IsFirstFault before (fields_of p) field_tests (Some k)
-    ⊎ (IsFirstFault before (fields_of p) field_tests None × HasWrongGate (code_region p) p.gates × (k ≡ Gates))
+    ⊎ (IsFirstFault before (fields_of p) field_tests None
+    × HasWrongGate (code_region p) p.gates × (k ≡ Gates))
 
 -- after right sandboxes the next one has the fault
 abbrev pub HasWrongPart : List Part → LayoutFault → Type 0

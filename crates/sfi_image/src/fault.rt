@@ -6,7 +6,8 @@ ghost use Rattle.sfi_image.specs.Faults.{number_of};
 use std::alloc::{AllocError, AllocFailed};
 use thiserror::Error;
 
-/// What is wrong with the bytes: the first test that fails, in the order of reading. Its text is its bare name.
+/// What is wrong with the bytes: the first test that fails, in the order of reading.
+/// Its text is its bare name.
 #[derive(Clone, Copy, Debug, PartialEq, Eq, Error)]
 pub enum LayoutFault {
     /// The first four bytes are neither `SFI1` nor `SFI2`.
@@ -18,8 +19,8 @@ pub enum LayoutFault {
     /// What is read next isn't there whole.
     #[error("Short")]
     Short,
-    /// The code size is no power of two from 256 to the format's largest, 65536 or 1048576, or the code base no multiple
-    /// of it.
+    /// The code size is no power of two from 256 to the format's largest, 65536 or 1048576, or the
+    /// code base no multiple of it.
     #[error("Code")]
     Code,
     /// The data size is no power of two from 256 to 1048576, or the data base no multiple of it.
@@ -31,14 +32,15 @@ pub enum LayoutFault {
     /// The start is no bundle start of the code region.
     #[error("Start")]
     Start,
-    /// There are more than 64 gates, or one is no bundle start of the code region, isn't above the gate before it, or
-    /// names a service above 5.
+    /// There are more than 64 gates, or one is no bundle start of the code region, isn't above the
+    /// gate before it, or names a service above 5.
     #[error("Gates")]
     Gates,
     /// There are more first data bytes than the data region holds.
     #[error("Init")]
     Init,
-    /// Two of the spans so far have an address in common: a code region, or a data region with its guard zones.
+    /// Two of the spans so far have an address in common: a code region,
+    /// or a data region with its guard zones.
     #[error("Overlap")]
     Overlap,
     /// A byte follows the last sandbox.

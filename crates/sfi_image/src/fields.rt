@@ -87,7 +87,8 @@ fn guarded_span(fields: &Fields) -> Span
     }
 }
 
-// The spans of a sandbox with these fields, or the first test that they fail, after sandboxes with those spans.
+// The spans of a sandbox with these fields, or the first test that they fail,
+// after sandboxes with those spans.
 pub(crate) fn spans_after(before: &[Span], fields: &Fields) -> Result<OwnSpans, LayoutFault>
     requires bounded { All IsBounded before.now }
     requires apart { AllPairs AreApart before.now }

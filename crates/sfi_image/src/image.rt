@@ -7,7 +7,8 @@ use crate::part::SandboxPart;
 use sfi_policy::Format;
 use std::marker::Model;
 
-/// The sandboxes of an image, 1 to 16 of them, with a right layout. It borrows the bytes that it was read from.
+/// The sandboxes of an image, 1 to 16 of them, with a right layout.
+/// It borrows the bytes that it was read from.
 #[derive(Debug, Drop)]
 pub struct Image<'a> {
     format: Format,

@@ -39,7 +39,8 @@ fn word(number: u32) -> u32
     number
 }
 
-// The seven fields of a sandbox. A length that its field can't hold is above each limit, and so is the greatest number.
+// The seven fields of a sandbox. A length that its field can't hold is above each limit,
+// and so is the greatest number.
 fn fields_of_part(format: Format, part: &SandboxPart<'_>) -> Fields
     ensures value { result ≡ capped_fields (view format part.now) }
     ensures words { AreFieldWords result }

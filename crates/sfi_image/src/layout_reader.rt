@@ -55,7 +55,8 @@ fn next_part(begun: u32, count: u32) -> Next
     }
 }
 
-// What comes after so many first data bytes: out of line, since few bundles are the last of their code region.
+// What comes after so many first data bytes: out of line,
+// since few bundles are the last of their code region.
 #[inline(never)]
 fn next_init(read: u32, len: u32, begun: u32, count: u32) -> Next
     ensures { result ≡ next_init read len begun count }
@@ -174,7 +175,8 @@ impl LayoutReader {
         }
     }
 
-    // What comes next where no bundle does: out of line, since it is out of line, since most that is read is bundles.
+    // What comes next where no bundle does: out of line, since it is out of line,
+    // since most that is read is bundles.
     #[inline(never)]
     fn wants_no_bundle(&self) -> OtherWant
         requires { self.now.next ≢ Next.Code }
@@ -193,15 +195,16 @@ impl LayoutReader {
         }
     }
 
-    /// Takes the bytes that come next, as many as are wanted. The answer is the number of the first test that fails, if
-    /// one does; then nothing is wanted any more.
+    /// Takes the bytes that come next, as many as are wanted. The answer is the number of the first
+    /// test that fails, if one does; then nothing is wanted any more.
     #[inline]
     pub fn take(&mut self, bytes: &[u8]) -> Option<u32>
         requires { (x : Front) × StandsFor self.old x × IsLengthOf (length bytes.now) (want_of x) }
         ensures goes_on { IfNone result
             ((x : Front) → StandsFor self.old x → Leads x bytes.now self.new) }
         ensures fault { IfSome result (λ n.
-            (x : Front) → StandsFor self.old x → HasFaultNumberWhateverFollows (front x ++ bytes.now) n) }
+            (x : Front) → StandsFor self.old x
+            → HasFaultNumberWhateverFollows (front x ++ bytes.now) n) }
         ensures stopped { IfSome result (λ n. HasStopped self.new) }
         ensures falls { left self.new < left self.old }
     {

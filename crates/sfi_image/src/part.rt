@@ -9,8 +9,8 @@ pub struct Gate {
     pub service: u32,
 }
 
-/// One sandbox. Its code and its first data bytes are slices of the bytes that it was read from, so the image's code
-/// size, gate count and number of first data bytes are the lengths here.
+/// One sandbox. Its code and its first data bytes are slices of the bytes that it was read from, so
+/// the image's code size, gate count and number of first data bytes are the lengths here.
 #[derive(Debug, Drop)]
 pub struct SandboxPart<'a> {
     /// The first address of the code region.

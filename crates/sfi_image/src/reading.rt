@@ -253,8 +253,8 @@ fn image_at<'a>(alloc: Global, bytes: &'a [u8]) -> Result<Image<'a>, ImageFault>
     Ok(Image::new(format, parts))
 }
 
-/// Reads an image. It is refused with the first fault from the left. The sandboxes borrow their code and their first
-/// data bytes; a list of gates is made for each.
+/// Reads an image. It is refused with the first fault from the left. The sandboxes borrow their
+/// code and their first data bytes; a list of gates is made for each.
 pub fn parse_image<'a>(alloc: Global, bytes: &'a [u8]) -> Result<Image<'a>, ImageFault>
     ensures image { IfOk result (λ ps. IsImage bytes.entry.now ps) }
     ensures fault { IfErr result (λ e. IfLayout e (λ k. IsFault bytes.entry.now k)) }

@@ -11,14 +11,15 @@ pub struct ReadFault;
 
 /// What hands out bytes in pieces.
 pub trait ByteSource {
-    // One read: the source before, the length of the buffer, the bytes handed out or None where it failed, and the source
-    // after.
+    // One read: the source before, the length of the buffer, the bytes handed out or None where it
+    // failed, and the source after.
     ghost reads: { Self → ℕ → Option (List ℕ) → Self → Type 0 };
 
     // Whether a read has failed.
     ghost has_failed: { Self → Bool };
 
-    /// Hands out bytes at the front of the buffer, and says how many: none is the end, unless the buffer is empty.
+    /// Hands out bytes at the front of the buffer, and says how many: none is the end,
+    /// unless the buffer is empty.
     fn read_some(&mut self, buf: &mut [u8]) -> Result<usize, ReadFault>
         ensures bound { IfOk result (λ n. n ≤ length buf.new) }
         ensures some { IfOk result (λ n.
@@ -58,7 +59,8 @@ impl<'a, R: Read> Reading<'a, R> {
 }
 
 impl<'a, R: Read> ByteSource for Reading<'a, R> {
-    ghost reads = { λ s n bytes t. ReadsOf (R.remaining s.reader.now) s.failed n bytes (R.remaining t.reader.now) t.failed };
+    ghost reads = { λ s n bytes t. ReadsOf (R.remaining s.reader.now) s.failed n bytes
+        (R.remaining t.reader.now) t.failed };
 
     ghost has_failed = { λ s. s.failed };
 

@@ -29,8 +29,8 @@ pub enum Want {
     Nothing,
 }
 
-/// What a reader wants where no bundle comes next: a type of its own, so that `Want::Bundle` is made
-/// in one place.
+/// What a reader wants where no bundle comes next: a type of its own, so that `Want::Bundle` is
+/// made in one place.
 #[derive(Clone, Copy)]
 pub(crate) enum OtherWant {
     Field(usize),

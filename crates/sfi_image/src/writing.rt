@@ -108,8 +108,8 @@ fn image_of(alloc: Global, format: Format, parts: &[SandboxPart<'_>]) -> Result<
     Ok(write_right(alloc, format, parts)?)
 }
 
-/// Writes an image of this format, or refuses with what reading it would find first. A length above 32 bits fails the test of its
-/// field.
+/// Writes an image of this format, or refuses with what reading it would find first. A length above
+/// 32 bits fails the test of its field.
 pub fn write_image_as(
     alloc: Global,
     format: Format,
@@ -125,15 +125,16 @@ pub fn write_image_as(
     ensures only_fault { (k : LayoutFault) → HaveFault (views format parts.now) k
         → (result ≡ Err (ImageFault.Layout k)) ⊎ (result ≡ Err ImageFault.Memory) }
 
-    // Of no more sandboxes than an image may have, whose numbers all have 32 bits, the fault is that of their bytes.
+    // Of no more sandboxes than an image may have, whose numbers all have 32 bits,
+    // the fault is that of their bytes.
     ensures as_read { length parts.now ≤ sandboxes_most → All AreWords (views format parts.now)
         → IfErr result (λ e. IfLayout e (λ k. IsFault (spelling (views format parts.now)) k)) }
 {
     image_of(alloc, format, parts)
 }
 
-/// Writes an image of the first format, or refuses with what reading it would find first. A length above 32 bits fails the test of its
-/// field.
+/// Writes an image of the first format, or refuses with what reading it would find first. A length
+/// above 32 bits fails the test of its field.
 pub fn write_image(alloc: Global, parts: &[SandboxPart<'_>]) -> Result<Vec<u8>, ImageFault>
     // What each answer means.
     ensures image { IfOk result (λ bytes. IsImage bytes.items (views Sfi1 parts.now)) }
@@ -145,7 +146,8 @@ pub fn write_image(alloc: Global, parts: &[SandboxPart<'_>]) -> Result<Vec<u8>, 
     ensures only_fault { (k : LayoutFault) → HaveFault (views Sfi1 parts.now) k
         → (result ≡ Err (ImageFault.Layout k)) ⊎ (result ≡ Err ImageFault.Memory) }
 
-    // Of no more sandboxes than an image may have, whose numbers all have 32 bits, the fault is that of their bytes.
+    // Of no more sandboxes than an image may have, whose numbers all have 32 bits,
+    // the fault is that of their bytes.
     ensures as_read { length parts.now ≤ sandboxes_most → All AreWords (views Sfi1 parts.now)
         → IfErr result (λ e. IfLayout e (λ k. IsFault (spelling (views Sfi1 parts.now)) k)) }
 {

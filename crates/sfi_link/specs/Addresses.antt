@@ -30,7 +30,8 @@ bases_of number p =
 
 -- ---- names
 
--- the address that stands for a name: that of the gate's stub, of the place in the code, of the byte of the data
+-- the address that stands for a name: that of the gate's stub, of the place in the code,
+-- of the byte of the data
 abbrev pub address_of : Bases → PlacedName → Option ℕ
 address_of at (Gate k) = Some (at.code + stub_size * k)
 address_of at (Code place) = Some (at.start + place)

@@ -8,7 +8,8 @@ use Rattle.sfi_scan.specs.Findings.{AreImageFindings}
 use Rattle.sfi_rewrite.specs.Placement.{Placement, IsPlacement}
 use Rattle.sfi_link.specs.Linked.{AreLinked}
 
--- the bytes are an image, with a right layout and no broken rule, and it is that of the placed sandboxes
+-- the bytes are an image, with a right layout and no broken rule,
+-- and it is that of the placed sandboxes
 pub record IsLinkedImage (placed : List Placement) (bytes : List ℕ) : Type 0 where
   pub parts : List Part
   pub linked : AreLinked placed parts

@@ -20,13 +20,17 @@ abbrev pub made_of : (ℕ → Instr) → Option ℕ → Option Instr
 made_of f None = None
 made_of f (Some address) = Some (f address)
 
--- the instruction of the slot that stands at `here`, if its name has an address: an address is split as li splits a number
+-- the instruction of the slot that stands at `here`, if its name has an address: an address is
+-- split as li splits a number
 abbrev pub resolved : Bases → List PlacedName → ℕ → Slot → Option Instr
 resolved at names here (Wide i) = Some i
 resolved at names here (Short f) = Some (expansion f)
-resolved at names here (Jump i name line) = made_of (λ to. with_offset (pos to -ℤ pos here) i) (target_at at names name)
-resolved at names here (Upper rd name line) = made_of (λ address. Lui rd (upper (pos address))) (address_at at names name)
-resolved at names here (Lower rd name line) = made_of (λ address. OpImm Addi rd rd (lower (pos address))) (address_at at names name)
+resolved at names here (Jump i name line) =
+    made_of (λ to. with_offset (pos to -ℤ pos here) i) (target_at at names name)
+resolved at names here (Upper rd name line) =
+    made_of (λ address. Lui rd (upper (pos address))) (address_at at names name)
+resolved at names here (Lower rd name line) =
+    made_of (λ address. OpImm Addi rd rd (lower (pos address))) (address_at at names name)
 
 -- the four bytes of a 32-bit instruction, the lowest first
 abbrev IsWord : List ℕ → Instr → Type 0
@@ -41,7 +45,8 @@ AreSlotBytes bytes (Upper rd name line) i = IsWord bytes i
 AreSlotBytes bytes (Lower rd name line) i = IsWord bytes i
 
 -- the bytes of the slot that stands at `here`
-pub record IsSlot (at : Bases) (names : List PlacedName) (here : ℕ) (s : Slot) (bytes : List ℕ) : Type 0 where
+pub record IsSlot (at : Bases) (names : List PlacedName) (here : ℕ) (s : Slot)
+    (bytes : List ℕ) : Type 0 where
   pub instr : Instr
   pub resolves : resolved at names here s ≡ Some instr
   pub spelled : AreSlotBytes bytes s instr

@@ -25,7 +25,8 @@ number_of Memory = 5
 
 -- ---- of a slot
 
--- the slot stands on that line, and its name has no address; a jump's names neither a gate nor a place in the code
+-- the slot stands on that line, and its name has no address;
+-- a jump's names neither a gate nor a place in the code
 abbrev pub IsUnknown : Bases → List PlacedName → Slot → ℕ → Type 0
 IsUnknown at names (Wide i) line = ⊥
 IsUnknown at names (Short f) line = ⊥
@@ -38,7 +39,8 @@ abbrev pub IsOutOfReach : Bases → List PlacedName → ℕ → Slot → ℕ →
 IsOutOfReach at names here (Wide i) line = ⊥
 IsOutOfReach at names here (Short f) line = ⊥
 IsOutOfReach at names here (Jump i name on) line =
-    (to : ℕ) × (target_at at names name ≡ Some to) × (¬ InRange (with_offset (pos to -ℤ pos here) i)) × (line ≡ on)
+    (to : ℕ) × (target_at at names name ≡ Some to)
+    × (¬ InRange (with_offset (pos to -ℤ pos here) i)) × (line ≡ on)
 IsOutOfReach at names here (Upper rd name on) line = ⊥
 IsOutOfReach at names here (Lower rd name on) line = ⊥
 
@@ -51,7 +53,8 @@ HasSlotFault at names here s TooManySandboxes = ⊥
 HasSlotFault at names here s Memory = ⊥
 
 -- the first of the slots from `here` on that has a fault has this one
-pub record IsSlotFault (at : Bases) (names : List PlacedName) (here : ℕ) (slots : List Slot) (f : LinkFault) : Type 0 where
+pub record IsSlotFault (at : Bases) (names : List PlacedName) (here : ℕ) (slots : List Slot)
+    (f : LinkFault) : Type 0 where
   pub index : ℕ
   pub slot : Slot
   pub there : slice_get slots index ≡ Some slot
@@ -68,8 +71,8 @@ IsTooLarge p = (size : ℕ) → HasRoom p.format (needed p) size → ⊥
 -- the fault of the sandbox of that number, of which being too large goes first
 abbrev pub HasPartFault : ℕ → Placement → LinkFault → Type 0
 HasPartFault number p f =
-    (IsTooLarge p × (f ≡ TooLarge number))
-    ⊎ ((¬ IsTooLarge p) × IsSlotFault (bases_of number p) p.names (bases_of number p).start (slots_of p.bundles) f)
+    (IsTooLarge p × (f ≡ TooLarge number)) ⊎ ((¬ IsTooLarge p)
+    × IsSlotFault (bases_of number p) p.names (bases_of number p).start (slots_of p.bundles) f)
 
 -- the first sandbox that has a fault has this one
 pub record IsPartFault (placed : List Placement) (f : LinkFault) : Type 0 where

@@ -13,27 +13,33 @@ use Rattle.sfi_link.specs.Faults.{IsLinkFault}
 
 -- what is made of a placed sandbox breaks no rule
 abbrev pub LinkedIsClean : Type 0
-LinkedIsClean = (number : ℕ) (p : Placement) (q : Part) → IsPlacedPart p → number < sandboxes_most → IsLinked number p q → AreFindings number q []
+LinkedIsClean = (number : ℕ) (p : Placement) (q : Part) → IsPlacedPart p → number < sandboxes_most
+    → IsLinked number p q → AreFindings number q []
 
 -- what is made of as many placed sandboxes as an image may have has a right layout
 abbrev pub LinkedIsRight : Type 0
-LinkedIsRight = (placed : List Placement) (parts : List Part) → IsPlaced placed → length placed ≤ sandboxes_most → AreLinked placed parts → IsRightLayout parts
+LinkedIsRight = (placed : List Placement) (parts : List Part) → IsPlaced placed
+    → length placed ≤ sandboxes_most → AreLinked placed parts → IsRightLayout parts
 
 -- one list of sandboxes is made of what is placed
 abbrev pub OneLinking : Type 0
-OneLinking = (placed : List Placement) (parts others : List Part) → AreLinked placed parts → AreLinked placed others → parts ≡ others
+OneLinking = (placed : List Placement) (parts others : List Part) → AreLinked placed parts
+    → AreLinked placed others → parts ≡ others
 
 -- what is placed has at most one image
 abbrev pub OneImage : Type 0
-OneImage = (placed : List Placement) (bytes others : List ℕ) → IsLinkedImage placed bytes → IsLinkedImage placed others → bytes ≡ others
+OneImage = (placed : List Placement) (bytes others : List ℕ) → IsLinkedImage placed bytes
+    → IsLinkedImage placed others → bytes ≡ others
 
 -- what is placed has at most one fault
 abbrev pub OneFault : Type 0
-OneFault = (placed : List Placement) (f g : LinkFault) → IsLinkFault placed f → IsLinkFault placed g → f ≡ g
+OneFault = (placed : List Placement) (f g : LinkFault) → IsLinkFault placed f
+    → IsLinkFault placed g → f ≡ g
 
 -- what has an image has no fault
 abbrev pub ImageHasNoFault : Type 0
-ImageHasNoFault = (placed : List Placement) (bytes : List ℕ) (f : LinkFault) → IsLinkedImage placed bytes → IsLinkFault placed f → ⊥
+ImageHasNoFault = (placed : List Placement) (bytes : List ℕ) (f : LinkFault)
+    → IsLinkedImage placed bytes → IsLinkFault placed f → ⊥
 
 -- of as many placed sandboxes as an image may have, with a fault no image is made
 abbrev pub NeverBoth : Type 0
@@ -43,4 +49,5 @@ NeverBoth =
 
 -- what is placed has an image or a fault
 abbrev pub SomeLinking : Type 0
-SomeLinking = (placed : List Placement) → IsPlaced placed → ((bytes : List ℕ) × IsLinkedImage placed bytes) ⊎ ((f : LinkFault) × IsLinkFault placed f)
+SomeLinking = (placed : List Placement) → IsPlaced placed
+    → ((bytes : List ℕ) × IsLinkedImage placed bytes) ⊎ ((f : LinkFault) × IsLinkFault placed f)

@@ -44,14 +44,17 @@ pub record IsCodeSize (f : Format) (bytes size : ℕ) : Type 0 where
 -- the gates' stubs lie one after another from the address on
 abbrev pub gates_from : ℕ → List SourceGate → List Gate
 gates_from address [] = []
-gates_from address (g ∷ gates) = record { address = address; service = g.service } ∷ gates_from (address + stub_size) gates
+gates_from address (g ∷ gates) =
+    record { address = address; service = g.service } ∷ gates_from (address + stub_size) gates
 
--- the code: the stubs, then the bytes of the slots with addresses for names, then c.ebreaks to the region's end, one at least
+-- the code: the stubs, then the bytes of the slots with addresses for names, then c.ebreaks to the
+-- region's end, one at least
 pub record IsLinkedCode (number : ℕ) (p : Placement) (code : List ℕ) : Type 0 where
   pub size : IsCodeSize p.format (needed p) (length code)
   pub fill : ℕ
   pub bytes : List ℕ
-  pub slots : AreSlots (bases_of number p) p.names (bases_of number p).start (slots_of p.bundles ++ replicate fill c_ebreak) bytes
+  pub slots : AreSlots (bases_of number p) p.names (bases_of number p).start
+      (slots_of p.bundles ++ replicate fill c_ebreak) bytes
   pub code_is : code ≡ repeat (length p.gates) stub ++ bytes
 
 -- the placed sandbox makes that one of the image, as the one of that number, counted from 0
@@ -69,7 +72,8 @@ pub record IsLinked (number : ℕ) (p : Placement) (q : Part) : Type 0 where
 abbrev pub AreLinkedFrom : ℕ → List Placement → List Part → Type 0
 AreLinkedFrom number [] parts = parts ≡ []
 AreLinkedFrom number (p ∷ placed) [] = ⊥
-AreLinkedFrom number (p ∷ placed) (q ∷ parts) = IsLinked number p q × AreLinkedFrom (number + 1) placed parts
+AreLinkedFrom number (p ∷ placed) (q ∷ parts) =
+    IsLinked number p q × AreLinkedFrom (number + 1) placed parts
 
 -- the placed sandboxes make those of the image
 abbrev pub AreLinked : List Placement → List Part → Type 0

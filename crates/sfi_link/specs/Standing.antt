@@ -1,4 +1,5 @@
--- What the linker writes stands for what was placed, in a machine: so each item of a source does in the image what its instruction does.
+-- What the linker writes stands for what was placed, in a machine: so each item of a source does in
+-- the image what its instruction does.
 use Rattle.std.specs.Prelude.{◌≡◌, ℕ, ◌+◌, ◌*◌, ◌<◌, List, [], ◌∷◌, length, slice_get, Some}
 use Rattle.rv_word.specs.declared.instr.Instr.{Instr}
 use Rattle.sfi_policy.specs.declared.format.Format.{Format}
@@ -29,19 +30,24 @@ abbrev pub IsResolvedTo : Bases → List PlacedName → ℕ → Instr → Slot �
 IsResolvedTo at names here i (Wide j) = Unit {0}
 IsResolvedTo at names here i (Short f) = Unit {0}
 IsResolvedTo at names here i (Jump j name line) = resolved at names here (Jump j name line) ≡ Some i
-IsResolvedTo at names here i (Upper rd name line) = resolved at names here (Upper rd name line) ≡ Some i
-IsResolvedTo at names here i (Lower rd name line) = resolved at names here (Lower rd name line) ≡ Some i
+IsResolvedTo at names here i (Upper rd name line) =
+    resolved at names here (Upper rd name line) ≡ Some i
+IsResolvedTo at names here i (Lower rd name line) =
+    resolved at names here (Lower rd name line) ≡ Some i
 
 -- the same of slots that stand one after another, from `here` on
 abbrev pub AreResolvedTo : Bases → List PlacedName → ℕ → Instr → List Slot → Type 0
 AreResolvedTo at names here i [] = Unit {0}
-AreResolvedTo at names here i (x ∷ slots) = IsResolvedTo at names here i x × AreResolvedTo at names (here + slot_size x) i slots
+AreResolvedTo at names here i (x ∷ slots) =
+    IsResolvedTo at names here i x × AreResolvedTo at names (here + slot_size x) i slots
 
 -- where a memory holds the bytes of slots from pc on, the slots stand there
 abbrev pub LinkedSlotsStand : Type 0
 LinkedSlotsStand =
-    (at : Bases) (names : List PlacedName) (here : ℕ) (i : Instr) (slots : List Slot) (bytes : List ℕ) (s : State)
-    → AreSlots at names here slots bytes → AreResolvedTo at names here i slots → Holds s.memory s.hart.pc (size_of slots) bytes → SlotsStand i s slots
+    (at : Bases) (names : List PlacedName) (here : ℕ) (i : Instr) (slots : List Slot)
+    (bytes : List ℕ) (s : State)
+    → AreSlots at names here slots bytes → AreResolvedTo at names here i slots
+    → Holds s.memory s.hart.pc (size_of slots) bytes → SlotsStand i s slots
 
 -- ---- the source in the image
 
@@ -49,38 +55,47 @@ LinkedSlotsStand =
 abbrev pub place_after : Part → List Slot → ℕ → ℕ
 place_after q before nops = q.start + (size_of before + 2 * nops)
 
--- Item k is an instruction of the image, with the address of its name, if it has one: wherever a memory holds the sandbox's code, its expansion stands at its
--- place for that instruction, in regions in which expansions act as their instructions do (`placed.transparent`).
-pub record RunsAs (number : ℕ) (f : Format) (items : List Item) (p : Placement) (q : Part) (k : ℕ) (x : Item) : Type 0 where
+-- Item k is an instruction of the image, with the address of its name, if it has one: wherever a
+-- memory holds the sandbox's code, its expansion stands at its place for that instruction, in
+-- regions in which expansions act as their instructions do (`placed.transparent`).
+pub record RunsAs (number : ℕ) (f : Format) (items : List Item) (p : Placement) (q : Part) (k : ℕ)
+    (x : Item) : Type 0 where
   pub placed : StandsTransparent f items p k x
   pub instr : Instr
   pub may_be : MayBe x.body instr
-  pub resolves : AreResolvedTo (bases_of number p) p.names (place_after q placed.before placed.nops) instr placed.expanded
+  pub resolves : AreResolvedTo (bases_of number p) p.names
+      (place_after q placed.before placed.nops) instr placed.expanded
   pub regions : AreRegions (code_region q) (data_region q)
-  pub stands : (s : State) → Holds s.memory q.code_base (length q.code) q.code → s.hart.pc ≡ place_after q placed.before placed.nops → SlotsStand instr s placed.expanded
+  pub stands : (s : State) → Holds s.memory q.code_base (length q.code) q.code
+      → s.hart.pc ≡ place_after q placed.before placed.nops → SlotsStand instr s placed.expanded
 
 -- each item of a source's sandbox is, in what is linked of it
 abbrev pub LinkedRunsAs : Type 0
 LinkedRunsAs =
-    (number : ℕ) (s : Sandbox) (p : Placement) (q : Part) (k : ℕ) (x : Item) → IsSandbox s → IsRewritten s p → IsPlacedPart p → number < sandboxes_most
+    (number : ℕ) (s : Sandbox) (p : Placement) (q : Part) (k : ℕ) (x : Item) → IsSandbox s
+    → IsRewritten s p → IsPlacedPart p → number < sandboxes_most
     → IsLinked number p q → slice_get s.items k ≡ Some x → RunsAs number s.format s.items p q k x
 
 -- ---- a build
 
--- each item of the sandbox is an instruction of that one of the image, which is made of its placement
+-- each item of the sandbox is an instruction of that one of the image,
+-- which is made of its placement
 pub record SandboxRunsAs (number : ℕ) (s : Sandbox) (q : Part) : Type 0 where
   pub placed : Placement
   pub placement : IsPlacement s placed
   pub linked : IsLinked number placed q
-  pub each : (k : ℕ) (x : Item) → slice_get s.items k ≡ Some x → RunsAs number s.format s.items placed q k x
+  pub each : (k : ℕ) (x : Item) → slice_get s.items k ≡ Some x
+      → RunsAs number s.format s.items placed q k x
 
 -- the same of sandboxes in order, the first of which has that number
 abbrev pub SandboxesRunAs : ℕ → List Sandbox → List Part → Type 0
 SandboxesRunAs number [] parts = parts ≡ []
 SandboxesRunAs number (s ∷ source) [] = ⊥
-SandboxesRunAs number (s ∷ source) (q ∷ parts) = SandboxRunsAs number s q × SandboxesRunAs (number + 1) source parts
+SandboxesRunAs number (s ∷ source) (q ∷ parts) =
+    SandboxRunsAs number s q × SandboxesRunAs (number + 1) source parts
 
--- the bytes are an image of the source's sandboxes, in which each item of each has its instruction and its place
+-- the bytes are an image of the source's sandboxes,
+-- in which each item of each has its instruction and its place
 pub record ImageRunsAs (source : List Sandbox) (bytes : List ℕ) : Type 0 where
   pub parts : List Part
   pub image : IsImage bytes parts
@@ -90,4 +105,5 @@ pub record ImageRunsAs (source : List Sandbox) (bytes : List ℕ) : Type 0 where
 abbrev pub LinkedImagesRunAs : Type 0
 LinkedImagesRunAs =
     (source : List Sandbox) (placed : List Placement) (bytes : List ℕ)
-    → IsSource source → AreRewritten source placed → IsLinkedImage placed bytes → ImageRunsAs source bytes
+    → IsSource source → AreRewritten source placed → IsLinkedImage placed bytes
+    → ImageRunsAs source bytes

@@ -6,19 +6,20 @@ ghost use Rattle.sfi_link.specs.Faults.{number_of};
 use std::alloc::{AllocError, AllocFailed};
 use thiserror::Error;
 
-/// Why what is placed can't be linked. Too many sandboxes go first; then the first sandbox that has a fault counts, with
-/// TooLarge before the faults of its instructions, of which the first counts.
+/// Why what is placed can't be linked. Too many sandboxes go first; then the first sandbox that has
+/// a fault counts, with TooLarge before the faults of its instructions, of which the first counts.
 #[derive(Clone, Copy, Debug, PartialEq, Eq, Error)]
 pub enum LinkFault {
-    /// The instruction on the line, counted from 1, jumps to a name that is neither a label of the code nor a gate of its
-    /// sandbox, or takes the address of a name that is none of it.
+    /// The instruction on the line, counted from 1, jumps to a name that is neither a label of the
+    /// code nor a gate of its sandbox, or takes the address of a name that is none of it.
     #[error("UnknownName line {line}")]
     UnknownName { line: u32 },
-    /// The jump or branch on the line, counted from 1, doesn't reach its target: a branch reaches from 4096 bytes below it to
-    /// 4094 above, a jal from 1048576 below to 1048574 above.
+    /// The jump or branch on the line, counted from 1, doesn't reach its target: a branch reaches
+    /// from 4096 bytes below it to 4094 above, a jal from 1048576 below to 1048574 above.
     #[error("BranchReach line {line}")]
     BranchReach { line: u32 },
-    /// The code of the sandbox, counted from 0, has no room in a code region of its format with its gates' stubs and one c.ebreak.
+    /// The code of the sandbox, counted from 0, has no room in a code region of its format with its
+    /// gates' stubs and one c.ebreak.
     #[error("TooLarge sandbox {sandbox}")]
     TooLarge { sandbox: u32 },
     /// There are more sandboxes than an image may have.

@@ -8,7 +8,8 @@ use rv_word::laws::spellings_are_wide;
 use sfi_rewrite::laws::rewritten_is_transparent;
 use sfi_scan::laws::same_bundle_starts;
 
-/// What is made of a placed sandbox breaks no rule: its stubs, its whole expansions with addresses for names, its c.ebreaks.
+/// What is made of a placed sandbox breaks no rule: its stubs, its whole expansions with addresses
+/// for names, its c.ebreaks.
 pub fn linked_is_clean()
     ensures { LinkedIsClean }
 {
@@ -23,7 +24,8 @@ pub fn linked_is_right()
     ensures { LinkedIsRight }
 {}
 
-/// At most one list of sandboxes is made of what is placed, and at most one image; it has at most one fault, and never both.
+/// At most one list of sandboxes is made of what is placed, and at most one image; it has at most
+/// one fault, and never both.
 pub fn one_linking()
     ensures parts { OneLinking }
     ensures images { OneImage }
@@ -32,7 +34,8 @@ pub fn one_linking()
     ensures image_has_no_fault { ImageHasNoFault }
 {}
 
-/// What is placed has an image, or a fault: `link` answers the one that it is, unless memory runs out.
+/// What is placed has an image, or a fault: `link` answers the one that it is,
+/// unless memory runs out.
 pub fn some_linking()
     ensures { SomeLinking }
 {
@@ -48,7 +51,8 @@ pub fn linked_slots_stand()
     read_is_held();
 }
 
-/// Each item of a source stands in the image as its instruction, with an expansion that acts as the instruction.
+/// Each item of a source stands in the image as its instruction,
+/// with an expansion that acts as the instruction.
 pub fn linked_runs_as()
     ensures items { LinkedRunsAs }
     ensures images { LinkedImagesRunAs }

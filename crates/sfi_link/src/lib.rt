@@ -1,7 +1,8 @@
 //! From what is placed to an image.
 //!
-//! Names become addresses, gates become stubs, and the rest of each code region is filled with c.ebreaks. What is linked has a
-//! right layout and breaks no rule, so the checker accepts it: this is proved of the bytes, and no scan is run.
+//! Names become addresses, gates become stubs, and the rest of each code region is filled with
+//! c.ebreaks. What is linked has a right layout and breaks no rule, so the checker accepts it: this
+//! is proved of the bytes, and no scan is run.
 #![tactic(auto)]
 
 mod address;

@@ -126,7 +126,8 @@ fn image_of(alloc: Global, placed: &Placed) -> Result<Vec<u8>, LinkFault>
     }
 }
 
-/// Gives the names their addresses, and writes the image: sandbox after sandbox its stubs, its code and c.ebreaks after it.
+/// Gives the names their addresses, and writes the image: sandbox after sandbox its stubs,
+/// its code and c.ebreaks after it.
 pub fn link(alloc: Global, placed: &Placed) -> Result<Vec<u8>, LinkFault>
     // What each answer means: the image has a right layout and breaks no rule.
     ensures image { IfOk result (λ bytes. IsLinkedImage placed.now bytes.items) }

@@ -14,8 +14,8 @@ abbrev pub code_most : Format → ℕ
 code_most Sfi1 = 65536
 code_most Sfi2 = 1048576
 
--- Whether x2 is a stack pointer: it lies in the data region wherever a sandbox is entered or replied to, an access on it needs no pair, and what
--- writes it is confined.
+-- Whether x2 is a stack pointer: it lies in the data region wherever a sandbox is entered or
+-- replied to, an access on it needs no pair, and what writes it is confined.
 abbrev pub has_stack : Format → Bool
 has_stack Sfi1 = false
 has_stack Sfi2 = true

@@ -10,7 +10,8 @@ use Rattle.sfi_policy.specs.Pairs.{pair, is_pair, gate_stub, stub}
 abbrev pub PairsAreFound : Type 0
 PairsAreFound =
     (mask base target : ℕ) (first second : Instr)
-    → (is_pair mask base target first second ≡ true) ↔ ((a : ℕ) × ((first ∷ second ∷ []) ≡ pair mask base target a))
+    → (is_pair mask base target first second ≡ true)
+    ↔ ((a : ℕ) × ((first ∷ second ∷ []) ≡ pair mask base target a))
 
 -- the stub's bytes spell its instructions, each in four bytes
 abbrev pub StubIsSpelled : Type 0

@@ -31,7 +31,8 @@ return_register = 1
 
 -- one of the four that hold the bounds of the regions: nothing in a sandbox may write it
 abbrev pub is_reserved : ℕ → Bool
-is_reserved r = (r == code_base_register) || (r == code_mask_register) || (r == data_base_register) || (r == data_mask_register)
+is_reserved r = (r == code_base_register) || (r == code_mask_register) || (r == data_base_register)
+    || (r == data_mask_register)
 
 -- one that a source may not name: a reserved one, or the one of the expansions
 abbrev pub is_withheld : ℕ → Bool

@@ -9,8 +9,8 @@ use crate::registers::STACK_POINTER;
 pub enum Format {
     /// The first one.
     Sfi1,
-    /// That in which x2 is a stack pointer: it lies in the data region wherever a sandbox is entered or replied to, an
-    /// access on it needs no pair, and what writes it is confined.
+    /// That in which x2 is a stack pointer: it lies in the data region wherever a sandbox is
+    /// entered or replied to, an access on it needs no pair, and what writes it is confined.
     Sfi2,
 }
 

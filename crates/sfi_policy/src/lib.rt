@@ -1,9 +1,11 @@
-//! What a sandbox is confined by: its limits, the formats of images, the registers that have a part in that, the masked
-//! pairs (Wahbe, Lucco, Anderson and Graham, "Efficient Software-Based Fault Isolation", 1993) and a gate's stub.
+//! What a sandbox is confined by: its limits, the formats of images, the registers that have a part
+//! in that, the masked pairs (Wahbe, Lucco, Anderson and Graham, "Efficient Software-Based Fault
+//! Isolation", 1993) and a gate's stub.
 //!
-//! Each has its name here, and crates above cite it by that; the table of halfwords of the first look (`sfi_scan`) has the
-//! registers in its entries, and is proved to agree. The definitions in `specs/` decide; the constants are proved to agree
-//! with them ([`limits_agree`], [`registers_agree`], [`stub_agrees`]).
+//! Each has its name here, and crates above cite it by that; the table of halfwords of the first
+//! look (`sfi_scan`) has the registers in its entries, and is proved to agree. The definitions in
+//! `specs/` decide; the constants are proved to agree with them ([`limits_agree`],
+//! [`registers_agree`], [`stub_agrees`]).
 #![tactic(auto)]
 
 mod format;

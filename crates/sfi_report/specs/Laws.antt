@@ -7,8 +7,10 @@ use Rattle.sfi_report.specs.Listing.{IsListing}
 
 -- findings have one report
 abbrev pub OneReport : Type 0
-OneReport = (ps : List Part) (found : List Finding) (text other : List ℕ) → IsReport ps found text → IsReport ps found other → text ≡ other
+OneReport = (ps : List Part) (found : List Finding) (text other : List ℕ) → IsReport ps found text
+    → IsReport ps found other → text ≡ other
 
 -- an image has at most one listing
 abbrev pub OneListing : Type 0
-OneListing = (ps : List Part) (text other : List ℕ) → IsListing ps text → IsListing ps other → text ≡ other
+OneListing =
+    (ps : List Part) (text other : List ℕ) → IsListing ps text → IsListing ps other → text ≡ other

@@ -16,18 +16,21 @@ use Rattle.sfi_report.specs.Digits.{hex_digits, line_end, word_digits}
 
 -- an instruction: its address, its number, its text
 abbrev pub instruction_line : ℕ → List ℕ → Instr → List ℕ
-instruction_line at bytes i = hex_digits 8 at ++ codes " " ++ word_digits bytes ++ codes " " ++ printed i ++ line_end
+instruction_line at bytes i =
+    hex_digits 8 at ++ codes " " ++ word_digits bytes ++ codes " " ++ printed i ++ line_end
 
 -- the bytes that a reading leaves, if any, two digits each
 abbrev pub rest_line : ℕ → List ℕ → List ℕ
 rest_line at [] = []
-rest_line at (b ∷ bytes) = hex_digits 8 at ++ codes " .bytes " ++ flat_map (hex_digits 2) (b ∷ bytes) ++ line_end
+rest_line at (b ∷ bytes) =
+    hex_digits 8 at ++ codes " .bytes " ++ flat_map (hex_digits 2) (b ∷ bytes) ++ line_end
 
 -- the lines of a reading of the bytes at that address, and of what it leaves
 abbrev pub reading_lines : ℕ → List ℕ → List Piece → List ℕ
 reading_lines at bytes [] = rest_line at bytes
 reading_lines at bytes (x ∷ reading) =
-    instruction_line at (take x.size bytes) x.instr ++ reading_lines (at + x.size) (drop x.size bytes) reading
+    instruction_line at (take x.size bytes) x.instr
+    ++ reading_lines (at + x.size) (drop x.size bytes) reading
 
 -- the lines of the longest reading
 pub record IsBundleListing (at : ℕ) (bytes text : List ℕ) : Type 0 where
@@ -60,7 +63,8 @@ abbrev pub IsListingOfFirst : Part → ℕ → List ℕ → Type 0
 IsListingOfFirst p zero text = text ≡ []
 IsListingOfFirst p (suc n) text =
     (front : List ℕ) × (last : List ℕ) × IsListingOfFirst p n front
-    × IsBundleListing (p.code_base + bundle_size * n) (bundle_bytes p n) last × (text ≡ front ++ last)
+    × IsBundleListing (p.code_base + bundle_size * n) (bundle_bytes p n) last
+    × (text ≡ front ++ last)
 
 -- all bundles of its code
 pub record IsCodeListing (p : Part) (text : List ℕ) : Type 0 where
@@ -80,7 +84,8 @@ pub record IsSandboxListing (sandbox : ℕ) (p : Part) (text : List ℕ) : Type 
 abbrev pub IsListingFrom : ℕ → List Part → List ℕ → Type 0
 IsListingFrom sandbox [] text = text ≡ []
 IsListingFrom sandbox (p ∷ ps) text =
-    (front : List ℕ) × (rest : List ℕ) × IsSandboxListing sandbox p front × IsListingFrom (sandbox + 1) ps rest × (text ≡ front ++ rest)
+    (front : List ℕ) × (rest : List ℕ) × IsSandboxListing sandbox p front
+    × IsListingFrom (sandbox + 1) ps rest × (text ≡ front ++ rest)
 
 -- its format, but for the first
 unfoldable pub format_line : Format → List ℕ
@@ -89,4 +94,5 @@ format_line Sfi2 = codes "format SFI2" ++ line_end
 
 -- the listing of an image with these parts
 abbrev pub IsListing : List Part → List ℕ → Type 0
-IsListing ps text = (sandboxes : List ℕ) × IsListingFrom 0 ps sandboxes × (text ≡ format_line (format_of ps) ++ sandboxes)
+IsListing ps text = (sandboxes : List ℕ) × IsListingFrom 0 ps sandboxes
+    × (text ≡ format_line (format_of ps) ++ sandboxes)

@@ -51,7 +51,8 @@ IsPlaceText V10 code text = IsInstructionText code text
 -- the line up to what stands there: sandbox, address, the rule's number and name
 abbrev pub line_front : Finding → List ℕ
 line_front f =
-    decimal f.sandbox ++ codes " " ++ hex_digits 8 f.address ++ codes " V" ++ decimal (number_of f.rule)
+    decimal f.sandbox ++ codes " " ++ hex_digits 8 f.address ++ codes " V"
+    ++ decimal (number_of f.rule)
     ++ codes " " ++ rule_name f.rule ++ codes " "
 
 -- the line of a finding in one of the parts
@@ -66,4 +67,5 @@ pub record IsFindingLine (ps : List Part) (f : Finding) (line : List ℕ) : Type
 abbrev pub IsReport : List Part → List Finding → List ℕ → Type 0
 IsReport ps [] text = text ≡ []
 IsReport ps (f ∷ found) text =
-    (line : List ℕ) × (rest : List ℕ) × IsFindingLine ps f line × IsReport ps found rest × (text ≡ line ++ rest)
+    (line : List ℕ) × (rest : List ℕ) × IsFindingLine ps f line
+    × IsReport ps found rest × (text ≡ line ++ rest)

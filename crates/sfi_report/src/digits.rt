@@ -4,8 +4,8 @@ ghost use Rattle.sfi_report.specs.Digits.{hex_digits, word_digits};
 
 use std::alloc::AllocError;
 
-/// Appends the number in eight hexadecimal digits, in lower case, to the text. The one error is that an allocation was
-/// refused.
+/// Appends the number in eight hexadecimal digits, in lower case, to the text. The one error is
+/// that an allocation was refused.
 pub fn push_eight_digits(out: &mut String, number: u32) -> Result<(), AllocError>
     ensures { OnOk result (string_bytes out.new ≡ string_bytes out.old ++ hex_digits 8 number) }
 {

@@ -36,7 +36,8 @@ fn push_instruction(
 /// Writes the line of the bytes that a reading leaves.
 fn push_rest(out: &mut String, address: u32, bytes: &[u8]) -> Result<(), AllocError>
     requires { 0 < length bytes.now }
-    ensures { OnOk result (string_bytes out.new ≡ string_bytes out.old ++ rest_line address bytes.now) }
+    ensures { OnOk result
+        (string_bytes out.new ≡ string_bytes out.old ++ rest_line address bytes.now) }
 {
     push_eight_digits(out, address)?;
     out.push_str(" .bytes ")?;
@@ -142,10 +143,11 @@ fn push_format(out: &mut String, format: Format) -> Result<(), AllocError>
     }
 }
 
-/// The listing of an image: a line of its format, but for the first; then for each sandbox a line of its fields, a line for each gate, and a line for each instruction.
+/// The listing of an image: a line of its format, but for the first; then for each sandbox a line
+/// of its fields, a line for each gate, and a line for each instruction.
 ///
-/// Each bundle is read from its first byte, as the rules read it. Where reading stops before the bundle's end, a line
-/// `.bytes` has what is left. The one error is that an allocation was refused.
+/// Each bundle is read from its first byte, as the rules read it. Where reading stops before the
+/// bundle's end, a line `.bytes` has what is left. The one error is that an allocation was refused.
 pub fn listing_text(alloc: Global, image: &Image<'_>) -> Result<String, AllocError>
     ensures text { IfOk result (λ text. IsListing image.now (string_bytes text)) }
 {

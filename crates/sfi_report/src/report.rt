@@ -43,7 +43,8 @@ fn push_first_halfword(out: &mut String, code: &[u8]) -> Result<(), AllocError>
 /// Writes the instruction that the code begins with.
 fn push_first_instruction(out: &mut String, code: &[u8]) -> Result<(), AllocError>
     requires { SpellsFirst code.now }
-    ensures { OnOk result (Adds (string_bytes out.old) (string_bytes out.new) (IsInstructionText code.now)) }
+    ensures { OnOk result
+        (Adds (string_bytes out.old) (string_bytes out.new) (IsInstructionText code.now)) }
 {
     match read_front(code) {
         Front::Read(instr, _) => push_instr(out, &instr),
@@ -54,7 +55,8 @@ fn push_first_instruction(out: &mut String, code: &[u8]) -> Result<(), AllocErro
 /// Writes what stands where the rule is broken; the code begins there.
 fn push_place(out: &mut String, rule: Rule, code: &[u8]) -> Result<(), AllocError>
     requires { IsPlace rule code.now }
-    ensures { OnOk result (Adds (string_bytes out.old) (string_bytes out.new) (IsPlaceText rule code.now)) }
+    ensures { OnOk result
+        (Adds (string_bytes out.old) (string_bytes out.new) (IsPlaceText rule code.now)) }
 {
     match rule {
         Rule::V1 | Rule::V2 => push_first_halfword(out, code),
@@ -83,7 +85,8 @@ fn push_finding(
     finding: &Finding,
 ) -> Result<(), AllocError>
     requires { (format : Format) × Stands (views format parts.now) finding.now }
-    ensures { (format : Format) → Stands (views format parts.now) finding.now → OnOk result (Adds (string_bytes out.old) (string_bytes out.new)
+    ensures { (format : Format) → Stands (views format parts.now) finding.now
+        → OnOk result (Adds (string_bytes out.old) (string_bytes out.new)
         (IsFindingLine (views format parts.now) finding.now)) }
 {
     let part = &parts[finding.sandbox as usize];
@@ -95,9 +98,9 @@ fn push_finding(
 
 /// The report on an image's findings: a line for each.
 ///
-/// A line is `S AAAAAAAA Vk NAME TEXT`: the sandbox, the address, the rule and its name, and the instruction that stands
-/// there. For V1 and V2 it has the halfword there in place of an instruction, and for V9 `stub expected`. The one error is
-/// that an allocation was refused.
+/// A line is `S AAAAAAAA Vk NAME TEXT`: the sandbox, the address, the rule and its name, and the
+/// instruction that stands there. For V1 and V2 it has the halfword there in place of an
+/// instruction, and for V9 `stub expected`. The one error is that an allocation was refused.
 pub fn report_text(
     alloc: Global,
     image: &Image<'_>,

@@ -1,5 +1,5 @@
--- The expansion of an item of the source: what stands in its place, so that its accesses and jumps stay in the sandbox,
--- and the stack pointer of a format that has one in its data region.
+-- The expansion of an item of the source: what stands in its place, so that its accesses and jumps
+-- stay in the sandbox, and the stack pointer of a format that has one in its data region.
 use Rattle.std.specs.Prelude.{◌≡◌, ◌≢◌, ◌⊎◌, ◌==◌, not, IsTrue, ℕ, ℤ, zero, pos, List, [], ◌∷◌, ◌++◌, map, Bool, true, false, MatchBool}
 use Rattle.rv_word.specs.declared.instr.ImmOp.TheVariants.{Addi}
 use Rattle.rv_word.specs.declared.instr.Instr.{Instr}
@@ -40,7 +40,8 @@ jump_slots rd a imm =
 abbrev pub HasNoForm : Instr → Type 0
 HasNoForm i = (f : Form16) → IsTrue (allowed f) → expansion f ≢ i
 
--- an instruction that stays as it is: as the first 16-bit form that expands to it, where these are asked for and there is one
+-- an instruction that stays as it is: as the first 16-bit form that expands to it, where these are
+-- asked for and there is one
 abbrev pub IsAlone : Bool → Instr → List Slot → Type 0
 IsAlone false i slots = slots ≡ Wide i ∷ []
 IsAlone true i slots =
@@ -58,20 +59,23 @@ IsMasked rvc i slots = IsAlone rvc i slots
 -- that of any: before the pair, if it writes the stack pointer; as it is, if it is an access on it
 abbrev pub IsPlainExpansion : Format → Bool → Instr → List Slot → Type 0
 IsPlainExpansion f rvc i slots =
-    MatchBool (writes_stack f i) (slots ≡ Wide i ∷ stack_pair) (MatchBool (is_on_stack f i) (IsAlone rvc i slots) (IsMasked rvc i slots))
+    MatchBool (writes_stack f i) (slots ≡ Wide i ∷ stack_pair)
+    (MatchBool (is_on_stack f i) (IsAlone rvc i slots) (IsMasked rvc i slots))
 
 -- the expansion of the item on a line
 abbrev pub IsExpansionOf : Format → ℕ → Bool → Body → List Slot → Type 0
 IsExpansionOf f line rvc (Plain i) slots = IsPlainExpansion f rvc i slots
 IsExpansionOf f line rvc (To i name) slots = slots ≡ Jump i name line ∷ []
-IsExpansionOf f line rvc (High rd name) slots = slots ≡ Upper rd name line ∷ put_back (is_stack f rd)
+IsExpansionOf f line rvc (High rd name) slots =
+    slots ≡ Upper rd name line ∷ put_back (is_stack f rd)
 IsExpansionOf f line rvc (Low rd name) slots = slots ≡ Lower rd name line ∷ put_back (is_stack f rd)
 
 -- the slots are the item's in this format, in order
 abbrev pub IsExpansion : Format → Item → List Slot → Type 0
 IsExpansion f x slots = IsExpansionOf f x.line x.rvc x.body slots
 
--- the item is a call: a jalr, or a jal to a name, that writes a register other than x0; no item is a jal by number
+-- the item is a call: a jalr, or a jal to a name, that writes a register other than x0;
+-- no item is a jal by number
 abbrev pub is_call : Body → Bool
 is_call (Plain (Jalr rd a imm)) = not (rd == 0)
 is_call (To (Jal rd offset) name) = not (rd == 0)

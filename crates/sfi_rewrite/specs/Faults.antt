@@ -40,12 +40,15 @@ pub record IsTooLarge (f : Format) (end : ℕ) (x : Item) : Type 0 where
   pub next : IsNext f end x nops expanded
   pub beyond : code_most f ≤ end + 2 * nops
 
--- the first of the faults that the item has wherever it stands: a write of the stack pointer goes last
+-- the first of the faults that the item has wherever it stands:
+-- a write of the stack pointer goes last
 abbrev pub HasItemFault : Format → Item → RewriteFault → Type 0
 HasItemFault f x (ReservedRegister line) = (item_names_withheld x.body ≡ true) × (line ≡ x.line)
-HasItemFault f x (Ecall line) = (item_names_withheld x.body ≡ false) × (is_ecall x.body ≡ true) × (line ≡ x.line)
+HasItemFault f x (Ecall line) =
+    (item_names_withheld x.body ≡ false) × (is_ecall x.body ≡ true) × (line ≡ x.line)
 HasItemFault f x (StackWrite line) =
-    (item_names_withheld x.body ≡ false) × (is_ecall x.body ≡ false) × (is_stack_write f x.body ≡ true) × (line ≡ x.line)
+    (item_names_withheld x.body ≡ false) × (is_ecall x.body ≡ false)
+    × (is_stack_write f x.body ≡ true) × (line ≡ x.line)
 HasItemFault f x (TooLarge sandbox) = ⊥
 HasItemFault f x Memory = ⊥
 
@@ -54,7 +57,8 @@ abbrev pub HasFault : Format → ℕ → ℕ → Item → RewriteFault → Type 
 HasFault f sandbox end x (ReservedRegister line) = HasItemFault f x (ReservedRegister line)
 HasFault f sandbox end x (Ecall line) = HasItemFault f x (Ecall line)
 HasFault f sandbox end x (StackWrite line) = HasItemFault f x (StackWrite line)
-HasFault f sandbox end x (TooLarge number) = IsPermitted f x × IsTooLarge f end x × (number ≡ sandbox)
+HasFault f sandbox end x (TooLarge number) =
+    IsPermitted f x × IsTooLarge f end x × (number ≡ sandbox)
 HasFault f sandbox end x Memory = ⊥
 
 -- what is said of a fault, where that isn't want of memory
@@ -66,7 +70,8 @@ UnlessMemory P (TooLarge sandbox) = P (TooLarge sandbox)
 UnlessMemory P Memory = Unit {0}
 
 -- the first item that has a fault has this one
-pub record IsItemFault (format : Format) (sandbox : ℕ) (items : List Item) (f : RewriteFault) : Type 0 where
+pub record IsItemFault (format : Format) (sandbox : ℕ) (items : List Item)
+    (f : RewriteFault) : Type 0 where
   pub index : ℕ
   pub item : Item
   pub at : slice_get items index ≡ Some item

@@ -17,7 +17,8 @@ use Rattle.sfi_rewrite.specs.Samples.{MeetsTransparent, MeetsKeepsStack, sample_
 
 -- an item has at most one expansion in each format
 abbrev pub OneExpansion : Type 0
-OneExpansion = (f : Format) (x : Item) (slots others : List Slot) → IsExpansion f x slots → IsExpansion f x others → slots ≡ others
+OneExpansion = (f : Format) (x : Item) (slots others : List Slot) → IsExpansion f x slots
+    → IsExpansion f x others → slots ≡ others
 
 -- a sandbox has at most one placement
 abbrev pub OnePlacement : Type 0
@@ -31,30 +32,37 @@ OneRewriting =
 
 -- a source has at most one fault
 abbrev pub OneFault : Type 0
-OneFault = (source : List Sandbox) (f g : RewriteFault) → IsSourceFault source f → IsSourceFault source g → f ≡ g
+OneFault = (source : List Sandbox) (f g : RewriteFault) → IsSourceFault source f
+    → IsSourceFault source g → f ≡ g
 
 -- a source with a fault isn't rewritten
 abbrev pub NeverBoth : Type 0
-NeverBoth = (source : List Sandbox) (placed : List Placement) (f : RewriteFault) → AreRewritten source placed → IsSourceFault source f → ⊥
+NeverBoth = (source : List Sandbox) (placed : List Placement) (f : RewriteFault)
+    → AreRewritten source placed → IsSourceFault source f → ⊥
 
 -- each source is rewritten or has a fault
 abbrev pub SomeRewriting : Type 0
-SomeRewriting = (source : List Sandbox) → ((placed : List Placement) × AreRewritten source placed) ⊎ ((f : RewriteFault) × IsSourceFault source f)
+SomeRewriting = (source : List Sandbox) → ((placed : List Placement) × AreRewritten source placed)
+    ⊎ ((f : RewriteFault) × IsSourceFault source f)
 
 -- what a source is rewritten to keeps what the type of what is placed keeps
 abbrev pub RewrittenIsPlaced : Type 0
-RewrittenIsPlaced = (source : List Sandbox) (placed : List Placement) → IsSource source → AreRewritten source placed → IsPlaced placed
+RewrittenIsPlaced = (source : List Sandbox) (placed : List Placement) → IsSource source
+    → AreRewritten source placed → IsPlaced placed
 
 -- the expansion of a permitted item acts as the item's instruction
 abbrev pub ExpansionsAreTransparent : Type 0
 ExpansionsAreTransparent =
-    (f : Format) (x : Item) (i : Instr) (slots : List Slot) → MayBe x.body i → IsPermitted f x → IsExpansion f x slots → ActsAs f i slots
+    (f : Format) (x : Item) (i : Instr) (slots : List Slot) → MayBe x.body i → IsPermitted f x
+    → IsExpansion f x slots → ActsAs f i slots
 
 -- so each item of a source stands transparent in what is placed
 abbrev pub RewrittenIsTransparent : Type 0
 RewrittenIsTransparent = (s : Sandbox) (p : Placement) → IsRewritten s p → StandTransparent s p
 
--- What transparency asks can be met: in some state the expansion of a load stands, and the load keeps to its sandbox and is done; in some state the same
--- is so of an indirect jump; in some state that of a write of the stack pointer stands, and the write leaves it in the data region.
+-- What transparency asks can be met: in some state the expansion of a load stands, and the load
+-- keeps to its sandbox and is done; in some state the same is so of an indirect jump; in some state
+-- that of a write of the stack pointer stands, and the write leaves it in the data region.
 abbrev pub TransparencyCanBeMet : Type 0
-TransparencyCanBeMet = MeetsTransparent Sfi2 sample_load × MeetsTransparent Sfi2 sample_jump × MeetsKeepsStack Sfi2 sample_push
+TransparencyCanBeMet = MeetsTransparent Sfi2 sample_load × MeetsTransparent Sfi2 sample_jump
+    × MeetsKeepsStack Sfi2 sample_push

@@ -21,13 +21,14 @@ use Rattle.sfi_rewrite.specs.Placement.{Placement, AreBundles}
 
 -- ---- slots
 
--- Slots that are whole expansions of permitted items of a source with so many names, and c.nops: no expansion is cut, and none stands that the format doesn't
--- have.
+-- Slots that are whole expansions of permitted items of a source with so many names, and c.nops: no
+-- expansion is cut, and none stands that the format doesn't have.
 pub data AreWhole (f : Format) (count : ℕ) : List Slot → Type 0 where
   nothing : AreWhole f count []
   padding : (rest : List Slot) → AreWhole f count rest → AreWhole f count (c_nop ∷ rest)
   expansion :
-      (x : Item) (expanded rest : List Slot) → IsPermitted f x → IsBody count x.body → IsExpansion f x expanded → AreWhole f count rest
+      (x : Item) (expanded rest : List Slot) → IsPermitted f x → IsBody count x.body
+      → IsExpansion f x expanded → AreWhole f count rest
       → AreWhole f count (expanded ++ rest)
 
 -- the slot encodes, whatever its name's address is, but for a jump out of its reach
@@ -48,10 +49,12 @@ IsNamedBelow count (Lower rd name line) = name < count
 
 -- ---- sandboxes
 
--- there is what the name names: that gate, a bundle start of the code or its end, the place after so many data bytes
+-- there is what the name names: that gate, a bundle start of the code or its end,
+-- the place after so many data bytes
 abbrev pub IsPlacedThere : Placement → PlacedName → Type 0
 IsPlacedThere p (placed.Gate k) = k < length p.gates
-IsPlacedThere p (placed.Code place) = (place % bundle_size ≡ 0) × (place ≤ size_of (slots_of p.bundles))
+IsPlacedThere p (placed.Code place) =
+    (place % bundle_size ≡ 0) × (place ≤ size_of (slots_of p.bundles))
 IsPlacedThere p (placed.Data offset) = offset ≤ length p.bytes
 IsPlacedThere p placed.Unknown = Unit {0}
 

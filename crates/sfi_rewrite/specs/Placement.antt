@@ -23,10 +23,12 @@ pub record Placement : Type 0 where
   pub bytes : List ℕ
   pub bundles : List (List Slot)
 
--- what a name of the source names once its items are placed: a label the place of what stands after it
+-- what a name of the source names once its items are placed:
+-- a label the place of what stands after it
 abbrev pub IsPlacedName : Format → List Item → Named → PlacedName → Type 0
 IsPlacedName f items (Gate k) name = name ≡ placed.Gate k
-IsPlacedName f items (Code k) name = (place : ℕ) × IsLabelAt f items k place × (name ≡ placed.Code place)
+IsPlacedName f items (Code k) name =
+    (place : ℕ) × IsLabelAt f items k place × (name ≡ placed.Code place)
 IsPlacedName f items (Data offset) name = name ≡ placed.Data offset
 IsPlacedName f items Unknown name = name ≡ placed.Unknown
 
@@ -34,7 +36,8 @@ IsPlacedName f items Unknown name = name ≡ placed.Unknown
 abbrev pub HasEndLabel : Sandbox → Type 0
 HasEndLabel s = Contains (named s) (Code (length s.items))
 
--- the fewest c.nops after the last expansion, such that a label at the end of the code has its bundle start
+-- the fewest c.nops after the last expansion,
+-- such that a label at the end of the code has its bundle start
 pub record FillsEnd (end : ℕ) (labelled : Type 0) (nops : ℕ) : Type 0 where
   pub enough : labelled → next_bundle end ≤ end + 2 * nops
   pub fewest : (n : ℕ) → (labelled → next_bundle end ≤ end + 2 * n) → nops ≤ n

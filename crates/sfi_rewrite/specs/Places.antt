@@ -11,8 +11,9 @@ use Rattle.sfi_rewrite.specs.Expansion.{IsExpansion, is_call}
 abbrev pub next_bundle : ℕ → ℕ
 next_bundle n = (n + (bundle_size - 1)) / bundle_size * bundle_size
 
--- An expansion of this size may stand here, where what stands before it ends at `end`: not before that end, nor before
--- its label's bundle start; within one bundle; and a call up to its bundle's end, so that it returns to a bundle start.
+-- An expansion of this size may stand here, where what stands before it ends at `end`: not before
+-- that end, nor before its label's bundle start; within one bundle; and a call up to its bundle's
+-- end, so that it returns to a bundle start.
 pub record MayStand (end : ℕ) (labelled call : Bool) (size here : ℕ) : Type 0 where
   pub after : end ≤ here
   pub at_label : IsTrue labelled → next_bundle end ≤ here
@@ -34,12 +35,15 @@ abbrev pub AreLaidFrom : Format → ℕ → List Item → List Slot → Type 0
 AreLaidFrom f end [] slots = slots ≡ []
 AreLaidFrom f end (x ∷ items) slots =
     (nops : ℕ) × (expanded : List Slot) × (rest : List Slot) × IsNext f end x nops expanded
-    × (slots ≡ replicate nops c_nop ++ (expanded ++ rest)) × AreLaidFrom f (end + 2 * nops + size_of expanded) items rest
+    × (slots ≡ replicate nops c_nop ++ (expanded ++ rest))
+    × AreLaidFrom f (end + 2 * nops + size_of expanded) items rest
 
 -- the slots of the items
 abbrev pub AreLaid : Format → List Item → List Slot → Type 0
 AreLaid f items slots = AreLaidFrom f 0 items slots
 
--- what a label before item k names: the first bundle start not before the end of what stands before the item
+-- what a label before item k names: the first bundle start not before the end of what stands before
+-- the item
 abbrev pub IsLabelAt : Format → List Item → ℕ → ℕ → Type 0
-IsLabelAt f items k place = (before : List Slot) × AreLaid f (take k items) before × (place ≡ next_bundle (size_of before))
+IsLabelAt f items k place =
+    (before : List Slot) × AreLaid f (take k items) before × (place ≡ next_bundle (size_of before))

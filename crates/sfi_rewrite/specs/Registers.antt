@@ -6,7 +6,8 @@ use Rattle.rv_source.specs.declared.item.Body.{Body}
 use Rattle.rv_source.specs.declared.item.Body.TheVariants.{Plain, To, High, Low}
 use Rattle.sfi_policy.specs.Registers.{is_withheld}
 
--- one of an instruction's register operands is such a register, also one that the instruction doesn't use
+-- one of an instruction's register operands is such a register,
+-- also one that the instruction doesn't use
 abbrev pub names_withheld : Instr → Bool
 names_withheld (Op op rd rs1 rs2) = is_withheld rd || is_withheld rs1 || is_withheld rs2
 names_withheld (OpImm op rd rs1 imm) = is_withheld rd || is_withheld rs1

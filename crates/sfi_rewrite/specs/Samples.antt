@@ -1,4 +1,5 @@
--- That the premises of transparency can be met: an expansion stands in some state, and all that is asked of its regions and that state holds at once.
+-- That the premises of transparency can be met: an expansion stands in some state, and all that is
+-- asked of its regions and that state holds at once.
 use Rattle.std.specs.Prelude.{◌≡◌, List, pos, true, false}
 use Rattle.rv_word.specs.declared.instr.ImmOp.TheVariants.{Addi}
 use Rattle.rv_word.specs.declared.instr.LoadKind.TheVariants.{Lw}
@@ -17,7 +18,8 @@ use Rattle.sfi_rewrite.specs.Stack.{writes_stack}
 use Rattle.sfi_rewrite.specs.Expansion.{IsPlainExpansion}
 use Rattle.sfi_rewrite.specs.Transparency.{KeepsTo, IsAskedOf}
 
--- the expansion of i in 32-bit slots, and all that IsTransparent asks of its regions and its state, in which i is done
+-- the expansion of i in 32-bit slots, and all that IsTransparent asks of its regions and its state,
+-- in which i is done
 pub record MeetsTransparent (f : Format) (i : Instr) : Type 0 where
   pub writes : writes_stack f i ≡ false
   pub slots : List Slot

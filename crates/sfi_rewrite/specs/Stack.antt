@@ -1,5 +1,5 @@
--- The stack pointer x2, of a format that has one: an access on it stands as it is, and what writes it stands before the pair that puts it back into the
--- data region.
+-- The stack pointer x2, of a format that has one: an access on it stands as it is, and what writes
+-- it stands before the pair that puts it back into the data region.
 use Rattle.std.specs.Prelude.{◌==◌, ◌&&◌, not, Bool, true, false, List, [], map}
 use Rattle.rv_word.specs.declared.instr.Instr.{Instr}
 use Rattle.rv_word.specs.declared.instr.Instr.TheVariants.{Load, Store, Jal, Jalr}
@@ -21,7 +21,8 @@ is_on_x2 (Load kind rd a imm) = a == stack_pointer
 is_on_x2 (Store width a rs2 imm) = a == stack_pointer
 is_on_x2 _ = false
 
--- x2 is written by what can't stand before the pair: by a jump, or by a load on another register, which has its own pair
+-- x2 is written by what can't stand before the pair: by a jump,
+-- or by a load on another register, which has its own pair
 abbrev pub jumps_or_loads_x2 : Body → Bool
 jumps_or_loads_x2 (Plain (Load kind rd a imm)) = (rd == stack_pointer) && not (a == stack_pointer)
 jumps_or_loads_x2 (Plain (Jal rd offset)) = rd == stack_pointer

@@ -1,5 +1,5 @@
--- What an expansion does: within its sandbox it does what its instruction does, x31 aside; before the pair that puts the stack pointer back, what
--- its instruction leaves stays.
+-- What an expansion does: within its sandbox it does what its instruction does, x31 aside; before
+-- the pair that puts the stack pointer back, what its instruction leaves stays.
 use Rattle.std.specs.Prelude.{◌≡◌, ◌≢◌, ◌++◌, ℕ, ℤ, MatchBool, List, [], ◌∷◌, length, take, replicate, slice_get, Some}
 use Rattle.rv_word.specs.Numbers.{offset_by}
 use Rattle.rv_word.specs.declared.instr.Instr.{Instr}
@@ -43,8 +43,9 @@ pub record HasReserved (code_at data_at : Span) (h : Hart) : Type 0 where
   pub data_base : register h data_base_register ≡ (reserved_for code_at data_at).data_base
   pub data_mask : register h data_mask_register ≡ (reserved_for code_at data_at).data_mask
 
--- The instruction keeps to the sandbox: a load's or store's base register lies in the data region, whatever its offset adds, and a jalr goes to a
--- bundle start of the code region. Of any other instruction nothing is asked.
+-- The instruction keeps to the sandbox: a load's or store's base register lies in the data region,
+-- whatever its offset adds, and a jalr goes to a bundle start of the code region. Of any other
+-- instruction nothing is asked.
 abbrev pub KeepsTo : Span → Span → Hart → Instr → Type 0
 KeepsTo code_at data_at h (Load kind rd a imm) = Holds data_at (register h a)
 KeepsTo code_at data_at h (Store width a rs2 imm) = Holds data_at (register h a)
@@ -68,15 +69,17 @@ SlotsStand i s (x ∷ slots) = SlotStands i s x × SlotsStand i (further s (slot
 
 -- ---- what it does
 
--- the steps came to the same, x31 aside: one outcome, with one cause and one address, one pc, one memory
+-- the steps came to the same, x31 aside: one outcome, with one cause and one address, one pc,
+-- one memory
 pub record IsSameAside (r q : Stepped) : Type 0 where
   pub outcome : r.outcome ≡ q.outcome
   pub pc : r.state.hart.pc ≡ q.state.hart.pc
   pub registers : (x : ℕ) → x ≢ scratch → register r.state.hart x ≡ register q.state.hart x
   pub memory : r.state.memory ≡ q.state.memory
 
--- From this state the steps of the slots before the last are done, and lead to the last one's place. The step there comes to what the line of i does, if i stood
--- there with the last one's length, on the registers and the memory of this state, x31 aside.
+-- From this state the steps of the slots before the last are done, and lead to the last one's
+-- place. The step there comes to what the line of i does, if i stood there with the last one's
+-- length, on the registers and the memory of this state, x31 aside.
 pub record DoesAs (s : State) (i : Instr) (before : List Slot) (last : Slot) : Type 0 where
   pub there : State
   pub leads : LeadTo (length before) s there
@@ -85,19 +88,23 @@ pub record DoesAs (s : State) (i : Instr) (before : List Slot) (last : Slot) : T
   pub step : IsStep there result
   pub same : IsSameAside result (effect i (slot_size last) (with_pc s.hart there.hart.pc) s.memory)
 
--- What is asked wherever slots stand for i: regions of a sandbox, a state of the machine, the reserved registers, and the slots from pc on.
-pub record IsAskedOf (i : Instr) (slots : List Slot) (code_at data_at : Span) (s : State) : Type 0 where
+-- What is asked wherever slots stand for i: regions of a sandbox, a state of the machine, the
+-- reserved registers, and the slots from pc on.
+pub record IsAskedOf (i : Instr) (slots : List Slot) (code_at data_at : Span)
+    (s : State) : Type 0 where
   pub regions : AreRegions code_at data_at
   pub is_state : IsState s
   pub reserved : HasReserved code_at data_at s.hart
   pub stand : SlotsStand i s slots
 
--- The slots are transparent to the instruction: wherever they stand, from any state in which the instruction keeps to its sandbox, they do as it does.
+-- The slots are transparent to the instruction: wherever they stand, from any state in which the
+-- instruction keeps to its sandbox, they do as it does.
 pub record IsTransparent (i : Instr) (slots : List Slot) : Type 0 where
   pub before : List Slot
   pub last : Slot
   pub slots_are : slots ≡ before ++ last ∷ []
-  pub does : (code_at data_at : Span) (s : State) → IsAskedOf i slots code_at data_at s → KeepsTo code_at data_at s.hart i → DoesAs s i before last
+  pub does : (code_at data_at : Span) (s : State) → IsAskedOf i slots code_at data_at s
+      → KeepsTo code_at data_at s.hart i → DoesAs s i before last
 
 -- ---- before the pair that puts the stack pointer back
 
@@ -105,13 +112,16 @@ pub record IsTransparent (i : Instr) (slots : List Slot) : Type 0 where
 abbrev pub at_pc : State → ℕ → State
 at_pc s pc = record { hart = with_pc s.hart pc; memory = s.memory }
 
--- The slots keep what i leaves: wherever they stand, from any state in which the line of i, there, is done and leaves the stack pointer in the data region, each of their
--- steps is done, and they leave the registers and the memory that i leaves, and the pc after all of them.
+-- The slots keep what i leaves: wherever they stand, from any state in which the line of i, there,
+-- is done and leaves the stack pointer in the data region, each of their steps is done, and they
+-- leave the registers and the memory that i leaves, and the pc after all of them.
 pub record KeepsStack (i : Instr) (slots : List Slot) : Type 0 where
   pub does :
       (code_at data_at : Span) (s : State) → IsAskedOf i slots code_at data_at s
-      → (effect i 4 s.hart s.memory).outcome ≡ Next → Holds data_at (register (effect i 4 s.hart s.memory).state.hart stack_pointer)
-      → LeadTo (length slots) s (at_pc (effect i 4 s.hart s.memory).state (address_after s.hart.pc (size_of slots)))
+      → (effect i 4 s.hart s.memory).outcome ≡ Next
+      → Holds data_at (register (effect i 4 s.hart s.memory).state.hart stack_pointer)
+      → LeadTo (length slots) s
+      (at_pc (effect i 4 s.hart s.memory).state (address_after s.hart.pc (size_of slots)))
 
 -- what an expansion of the format is to its instruction
 abbrev pub ActsAs : Format → Instr → List Slot → Type 0
@@ -134,8 +144,10 @@ MayBe (Low rd name) i = (imm : ℤ) × (i ≡ OpImm Addi rd rd imm)
 
 -- ---- what is placed
 
--- the expansion of item k in its place among the placed bundles, which acts as whatever the item may be
-pub record StandsTransparent (f : Format) (items : List Item) (p : Placement) (k : ℕ) (x : Item) : Type 0 where
+-- the expansion of item k in its place among the placed bundles,
+-- which acts as whatever the item may be
+pub record StandsTransparent (f : Format) (items : List Item) (p : Placement) (k : ℕ)
+    (x : Item) : Type 0 where
   pub before : List Slot
   pub laid : AreLaid f (take k items) before
   pub nops : ℕ
@@ -147,4 +159,5 @@ pub record StandsTransparent (f : Format) (items : List Item) (p : Placement) (k
 
 -- each item of the sandbox stands so
 abbrev pub StandTransparent : Sandbox → Placement → Type 0
-StandTransparent s p = (k : ℕ) (x : Item) → slice_get s.items k ≡ Some x → StandsTransparent s.format s.items p k x
+StandTransparent s p =
+    (k : ℕ) (x : Item) → slice_get s.items k ≡ Some x → StandsTransparent s.format s.items p k x

@@ -118,7 +118,8 @@ fn of_jump(rd: Reg, a: Reg, imm: i32) -> Expansion
     Expansion::of_four(sum, code_pair(scratch, scratch), last)
 }
 
-/// The expansion of an instruction that stays as it is, in a 16-bit form where these are asked for and there is one.
+/// The expansion of an instruction that stays as it is,
+/// in a 16-bit form where these are asked for and there is one.
 fn alone(rvc: bool, instr: &Instr) -> Expansion
     ensures { IsAlone rvc instr.now result }
 {

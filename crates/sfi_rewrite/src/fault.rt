@@ -6,8 +6,8 @@ ghost use Rattle.sfi_rewrite.specs.Faults.{number_of};
 use std::alloc::{AllocError, AllocFailed};
 use thiserror::Error;
 
-/// Why a source isn't rewritten: the first instruction in the order of the text that has a fault, with the first of its
-/// faults, in the order 1, 2, 5, 3.
+/// Why a source isn't rewritten: the first instruction in the order of the text that has a fault,
+/// with the first of its faults, in the order 1, 2, 5, 3.
 #[derive(Clone, Copy, Debug, PartialEq, Eq, Error)]
 pub enum RewriteFault {
     /// An operand of the instruction on the line, counted from 1, is x24, x25, x26, x27 or x31.
@@ -20,8 +20,9 @@ pub enum RewriteFault {
     /// format may have, its gates' stubs not counted.
     #[error("TooLarge sandbox {sandbox}")]
     TooLarge { sandbox: usize },
-    /// The instruction on the line, counted from 1, writes the stack pointer, which is to be put back after it: it is a jal
-    /// or jalr, or a load on another register. Only a format with a stack pointer has this fault.
+    /// The instruction on the line, counted from 1, writes the stack pointer, which is to be put
+    /// back after it: it is a jal or jalr, or a load on another register. Only a format with a
+    /// stack pointer has this fault.
     #[error("StackWrite line {line}")]
     StackWrite { line: u32 },
     /// Memory ran out; nothing is known of the source.

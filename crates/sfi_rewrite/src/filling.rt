@@ -50,7 +50,8 @@ impl Filling {
         self.end
     }
 
-    /// Adds slots of so many bytes: to the last bundle if it has room, and else as the first of another.
+    /// Adds slots of so many bytes: to the last bundle if it has room,
+    /// and else as the first of another.
     pub(crate) fn push(&mut self, slots: &[Slot], size: usize) -> Result<(), AllocError>
         requires size { size ≡ size_of slots.now }
         requires some { 0 < size }

@@ -74,7 +74,8 @@ fn is_stack_write(format: Format, body: &Body) -> bool
     }
 }
 
-/// The first of the faults that an item has wherever it stands: a write of the stack pointer goes last.
+/// The first of the faults that an item has wherever it stands:
+/// a write of the stack pointer goes last.
 pub(crate) fn permit(format: Format, item: &Item) -> Result<(), RewriteFault>
     ensures permitted { IfOk result (λ _. IsPermitted format item.now) }
     ensures refused { IfErr result (HasItemFault format item.now) }

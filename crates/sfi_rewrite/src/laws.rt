@@ -40,7 +40,8 @@ pub fn never_both()
     one_first_form();
 }
 
-/// A source is rewritten, or has a fault: `rewrite` answers the one that it is, unless memory runs out.
+/// A source is rewritten, or has a fault: `rewrite` answers the one that it is,
+/// unless memory runs out.
 pub fn some_rewriting()
     ensures { SomeRewriting }
 {
@@ -54,8 +55,8 @@ pub fn rewritten_is_placed()
     one_first_form();
 }
 
-/// The expansion of an instruction does what the instruction does, x31 aside; after an instruction that writes the stack pointer
-/// it keeps what that leaves.
+/// The expansion of an instruction does what the instruction does, x31 aside; after an instruction
+/// that writes the stack pointer it keeps what that leaves.
 pub fn expansions_are_transparent()
     ensures { ExpansionsAreTransparent }
 {

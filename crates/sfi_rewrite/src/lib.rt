@@ -1,10 +1,11 @@
-//! From a source to what is placed: each instruction becomes its expansion, and each expansion stands at the first place
-//! in which it may.
+//! From a source to what is placed: each instruction becomes its expansion, and each expansion
+//! stands at the first place in which it may.
 //!
-//! A load, a store and an indirect jump stand after the masked pair that keeps their address in the sandbox (Wahbe and
-//! others, 1993, "Efficient Software-Based Fault Isolation"). No expansion crosses the end of a bundle, labels are
-//! bundle starts, and a call ends its bundle, so that its return address is one too (Yee and others, 2009, "Native
-//! Client"). Names stay names: [`Placed`] has no address yet.
+//! A load, a store and an indirect jump stand after the masked pair that keeps their address in the
+//! sandbox (Wahbe and others, 1993, "Efficient Software-Based Fault Isolation"). No expansion
+//! crosses the end of a bundle, labels are bundle starts, and a call ends its bundle, so that its
+//! return address is one too (Yee and others, 2009, "Native Client"). Names stay names:
+//! [`Placed`] has no address yet.
 #![tactic(auto)]
 
 mod bundle;

@@ -22,7 +22,8 @@ fn placed_name(named: Named, labels: &[u32]) -> PlacedName
     }
 }
 
-/// What the names of the sandbox name, by the places that labels name: one for each item, and last that of the end of the code.
+/// What the names of the sandbox name, by the places that labels name: one for each item, and last
+/// that of the end of the code.
 pub(crate) fn place_names(
     alloc: Global,
     part: &SourcePart,

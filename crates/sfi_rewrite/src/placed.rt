@@ -36,7 +36,14 @@ impl Model for PlacedPart {
 
     ghost Value = { Placement };
 
-    ghost view = { λ p. record { format = p.format; data_size = p.data_size; gates = p.gates.items; names = p.names.items; bytes = p.bytes.items; bundles = p.bundles.items } };
+    ghost view = { λ p. record {
+      format = p.format;
+      data_size = p.data_size;
+      gates = p.gates.items;
+      names = p.names.items;
+      bytes = p.bytes.items;
+      bundles = p.bundles.items;
+    } };
 }
 
 impl PlacedPart {
@@ -72,7 +79,8 @@ impl PlacedPart {
         self.format
     }
 
-    /// How many bytes the data region has, a power of two from `REGION_LEAST` to `DATA_MOST` of `sfi_policy`.
+    /// How many bytes the data region has, a power of two from `REGION_LEAST` to `DATA_MOST` of
+    /// `sfi_policy`.
     pub fn data_size(&self) -> u32
         ensures { result ≡ self.now.data_size }
     {
@@ -100,7 +108,8 @@ impl PlacedPart {
         &self.bytes
     }
 
-    /// The bundles that stand after the gates' stubs, at most as many as a code region of the format has. Each is full, but for the last, which may have fewer bytes.
+    /// The bundles that stand after the gates' stubs, at most as many as a code region of the
+    /// format has. Each is full, but for the last, which may have fewer bytes.
     pub fn bundles(&self) -> &[Bundle]
         ensures { result.now ≡ self.now.bundles }
     {
@@ -108,7 +117,8 @@ impl PlacedPart {
     }
 }
 
-/// A source whose code is placed: one sandbox at least, all of one format. Contracts see the list of their placements.
+/// A source whose code is placed: one sandbox at least, all of one format.
+/// Contracts see the list of their placements.
 #[derive(Debug, Drop)]
 pub struct Placed {
     parts: Vec<PlacedPart>,

@@ -1,11 +1,13 @@
--- Bundles: the aligned blocks that a code region is made of (Yee and others, "Native Client", 2009).
+-- Bundles: the aligned blocks that a code region is made of (Yee and others,
+-- "Native Client", 2009).
 use Rattle.std.specs.Prelude.{ℕ, ◌+◌, ◌*◌, ◌^◌, ◌≤◌, List, length, take, drop}
 use Rattle.sfi_policy.specs.Limits.{bundle_size}
 use Rattle.sfi_image.specs.Spelling.{Part}
 use Rattle.sfi_image.specs.Gates.{is_gate_of}
 use Rattle.sfi_scan.specs.declared.bundle.BundlePlace.{BundlePlace}
 
--- The bundle's bytes lie in its code region, whose end is at most 2 ^ 32. (So it is at each bundle start of a code region.)
+-- The bundle's bytes lie in its code region, whose end is at most 2 ^ 32.
+-- (So it is at each bundle start of a code region.)
 pub record IsWithin (b : BundlePlace) : Type 0 where
   pub base : b.code_base ≤ b.address
   pub end : b.address + bundle_size ≤ b.code_base + b.code_size
@@ -15,7 +17,14 @@ pub record IsWithin (b : BundlePlace) : Type 0 where
 abbrev pub place_of : ℕ → Part → ℕ → BundlePlace
 place_of sandbox p n =
     let at = p.code_base + bundle_size * n in
-    record { sandbox = sandbox; address = at; format = p.format; code_base = p.code_base; code_size = length p.code; listed = is_gate_of p.gates at }
+    record {
+      sandbox = sandbox;
+      address = at;
+      format = p.format;
+      code_base = p.code_base;
+      code_size = length p.code;
+      listed = is_gate_of p.gates at;
+    }
 
 -- its bytes
 abbrev pub bundle_bytes : Part → ℕ → List ℕ

@@ -25,7 +25,8 @@ broken b at rule = record { sandbox = b.sandbox; address = at; rule = rule }
 -- the first of the rules that is broken at the place
 abbrev pub lowest : Place → List Rule → List Finding
 lowest x [] = []
-lowest x (rule ∷ rules) = cond (breaks x rule) (broken x.bundle x.address rule ∷ []) (lowest x rules)
+lowest x (rule ∷ rules) =
+    cond (breaks x rule) (broken x.bundle x.address rule ∷ []) (lowest x rules)
 
 -- the rules, from the lowest up
 abbrev pub all_rules : List Rule
@@ -35,7 +36,14 @@ all_rules = V1 ∷ V2 ∷ V3 ∷ V4 ∷ V5 ∷ V6 ∷ V7 ∷ V8 ∷ V9 ∷ V10 �
 abbrev pub findings_from : BundlePlace → Bool → ℕ → List Instr → List Piece → List Finding
 findings_from b whole at earlier [] = []
 findings_from b whole at earlier (x ∷ later) =
-    lowest (record { bundle = b; address = at; earlier = earlier; instr = x.instr; later = later; whole = whole }) all_rules
+    lowest (record {
+      bundle = b;
+      address = at;
+      earlier = earlier;
+      instr = x.instr;
+      later = later;
+      whole = whole;
+    }) all_rules
     ++ findings_from b whole (at + x.size) (x.instr ∷ earlier) later
 
 -- V2 where the two bytes that are left begin a 32-bit instruction, which crosses the bundle's end
@@ -47,18 +55,22 @@ rule_of_length Longer = V1
 -- at the place of what a reading leaves, V2 or else V1
 abbrev pub rest_finding : BundlePlace → ℕ → List ℕ → List Finding
 rest_finding b at [] = []
-rest_finding b at (low ∷ high ∷ []) = broken b at (rule_of_length (length_of (from_le_bytes w16 (low ∷ high ∷ [])))) ∷ []
+rest_finding b at (low ∷ high ∷ []) =
+    broken b at (rule_of_length (length_of (from_le_bytes w16 (low ∷ high ∷ [])))) ∷ []
 rest_finding b at _ = broken b at V1 ∷ []
 
 -- the findings of a bundle that is judged by its instructions
-pub record AreReadingFindings (b : BundlePlace) (bytes : List ℕ) (found : List Finding) : Type 0 where
+pub record AreReadingFindings (b : BundlePlace) (bytes : List ℕ)
+    (found : List Finding) : Type 0 where
   pub reading : List Piece
   pub longest : IsLongestReading bytes reading
   pub found_is :
       found ≡ findings_from b (is_empty (rest_of bytes reading)) b.address [] reading
-      ++ rest_finding b (b.address + (length bytes - length (rest_of bytes reading))) (rest_of bytes reading)
+      ++ rest_finding b (b.address + (length bytes - length (rest_of bytes reading)))
+      (rest_of bytes reading)
 
--- the findings of a bundle with these bytes: a listed gate that is not the stub has one V9 in place of all others
+-- the findings of a bundle with these bytes:
+-- a listed gate that is not the stub has one V9 in place of all others
 abbrev pub AreBundleFindings : BundlePlace → List ℕ → List Finding → Type 0
 AreBundleFindings b bytes found =
     ((b.listed ≡ true) × (bytes ≢ stub) × (found ≡ broken b b.address V9 ∷ []))
@@ -75,7 +87,8 @@ AreFindingsOfFirst sandbox p (suc n) found =
 
 -- the findings of the part of the sandbox of that number: those of all its bundles
 abbrev pub AreFindings : ℕ → Part → List Finding → Type 0
-AreFindings sandbox p found = (bundles : ℕ) × (length p.code ≡ bundle_size * bundles) × AreFindingsOfFirst sandbox p bundles found
+AreFindings sandbox p found = (bundles : ℕ) × (length p.code ≡ bundle_size * bundles)
+    × AreFindingsOfFirst sandbox p bundles found
 
 -- ---- of an image
 

@@ -11,7 +11,8 @@ pub record Piece : Type 0 where
 -- the spellings of the pieces, one after another, begin the bytes
 abbrev pub IsReading : List ℕ → List Piece → Type 0
 IsReading bytes [] = Unit {0}
-IsReading bytes (x ∷ reading) = Spells (take x.size bytes) x.instr x.size × IsReading (drop x.size bytes) reading
+IsReading bytes (x ∷ reading) =
+    Spells (take x.size bytes) x.instr x.size × IsReading (drop x.size bytes) reading
 
 -- a reading, and none has more pieces
 pub record IsLongestReading (bytes : List ℕ) (reading : List Piece) : Type 0 where

@@ -29,7 +29,8 @@ is_empty (x ∷ xs) = false
 
 -- a multiple of a bundle's size in the bundle's code region
 abbrev pub is_bundle_start : BundlePlace → ℕ → Bool
-is_bundle_start b a = nat_le b.code_base a && nat_lt a (b.code_base + b.code_size) && (a % bundle_size == 0)
+is_bundle_start b a =
+    nat_le b.code_base a && nat_lt a (b.code_base + b.code_size) && (a % bundle_size == 0)
 
 -- V3: an ecall that is not the first instruction of a listed gate
 abbrev pub breaks_ecall : Place → Instr → Bool
@@ -44,11 +45,13 @@ is_reserved_one (Some r) = is_reserved r
 abbrev pub breaks_reserved : Instr → Bool
 breaks_reserved i = is_reserved_one (destination i)
 
--- an access on this base stays in the data and the guards: the two instructions directly before are the data pair on it, or it is the stack pointer
+-- an access on this base stays in the data and the guards: the two instructions directly before are
+-- the data pair on it, or it is the stack pointer
 abbrev pub may_access : BundlePlace → ℕ → List Instr → Bool
 may_access b base earlier = is_stack b.format base || follows_data_pair base earlier
 
--- V5: a load or store, and the two instructions directly before it are not the data pair on its base (on the stack pointer it is never broken)
+-- V5: a load or store, and the two instructions directly before it are not the data pair on its
+-- base (on the stack pointer it is never broken)
 abbrev pub breaks_access : Place → Instr → Bool
 breaks_access x (Load kind rd rs1 imm) = not (may_access x.bundle rs1 x.earlier)
 breaks_access x (Store width rs1 rs2 imm) = not (may_access x.bundle rs1 x.earlier)
@@ -63,7 +66,8 @@ breaks_jump x _ = false
 -- V7: a jal or branch whose target is no bundle start of its own code region
 abbrev pub breaks_target : Place → Instr → Bool
 breaks_target x (Jal rd offset) = not (is_bundle_start x.bundle (offset_by x.address offset))
-breaks_target x (Branch condition rs1 rs2 offset) = not (is_bundle_start x.bundle (offset_by x.address offset))
+breaks_target x (Branch condition rs1 rs2 offset) =
+    not (is_bundle_start x.bundle (offset_by x.address offset))
 breaks_target x _ = false
 
 -- an ebreak, jal or jalr, after which control never runs on
@@ -76,20 +80,24 @@ ends_region _ = false
 abbrev pub is_last_bundle : BundlePlace → Bool
 is_last_bundle b = b.address + bundle_size == b.code_base + b.code_size
 
--- V8: the region's last bundle is read whole and this, its last instruction, is not ebreak, jal or jalr
+-- V8: the region's last bundle is read whole and this, its last instruction, is not ebreak,
+-- jal or jalr
 abbrev pub breaks_end : Place → Instr → Bool
 breaks_end x i = is_last_bundle x.bundle && (x.whole && is_empty x.later) && not (ends_region i)
 
 -- it stands in the pair on x2, or directly before it and control runs on
 abbrev pub may_write_stack : Place → Instr → Bool
-may_write_stack x i = begins_pair i x.later || ends_pair x.earlier i || (not (is_jump i) && precedes_pair x.later)
+may_write_stack x i =
+    begins_pair i x.later || ends_pair x.earlier i || (not (is_jump i) && precedes_pair x.later)
 
--- V10: it writes the stack pointer, and does not stand so. (Where the format has none this is never broken.)
+-- V10: it writes the stack pointer, and does not stand so.
+-- (Where the format has none this is never broken.)
 abbrev pub breaks_stack : Place → Instr → Bool
 breaks_stack x i = writes_stack x.bundle i && not (may_write_stack x i)
 
--- The rule is broken at the place. (Each test takes the place's instruction again, to go by its cases.)
--- V1 and V2 are broken where no instruction stands, and V9 by a whole bundle, so never at a place.
+-- The rule is broken at the place. (Each test takes the place's instruction again, to go by its
+-- cases.) V1 and V2 are broken where no instruction stands, and V9 by a whole bundle,
+-- so never at a place.
 abbrev pub breaks : Place → Rule → Bool
 breaks x V1 = false
 breaks x V2 = false

@@ -1,5 +1,5 @@
--- The stack pointer x2, of a format that has one: it lies in the data region wherever it is used, so an access on it needs no pair, and what writes it is
--- followed by the pair that puts it back.
+-- The stack pointer x2, of a format that has one: it lies in the data region wherever it is used,
+-- so an access on it needs no pair, and what writes it is followed by the pair that puts it back.
 use Rattle.std.specs.Prelude.{◌&&◌, List, [], ◌∷◌, Bool, true, false}
 use Rattle.rv_word.specs.declared.instr.Instr.{Instr}
 use Rattle.rv_word.specs.declared.instr.Instr.TheVariants.{Jal, Jalr}
@@ -16,7 +16,8 @@ writes_stack b i = has_stack b.format && writes_register stack_pointer i
 
 -- `and x2, a, x27`, then `or x2, x2, x26`
 abbrev pub is_stack_pair : Instr → Instr → Bool
-is_stack_pair first second = is_pair data_mask_register data_base_register stack_pointer first second
+is_stack_pair first second =
+    is_pair data_mask_register data_base_register stack_pointer first second
 
 -- the instruction and the one directly after it are this pair
 abbrev pub begins_pair : Instr → List Piece → Bool

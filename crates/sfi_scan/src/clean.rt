@@ -1,5 +1,5 @@
-//! A first look at a bundle: whether it breaks no rule. It makes no instruction, so it is quick; what
-//! it doesn't let pass may still be clean.
+//! A first look at a bundle: whether it breaks no rule. It makes no instruction, so it is quick;
+//! what it doesn't let pass may still be clean.
 ghost use Rattle.std.specs.Prelude.{◌≡◌, ◌+◌, ◌<◌, ◌≤◌, ◌&&◌, not, List, [], false, true};
 ghost use Rattle.std.specs.Bool.{OnTrue};
 ghost use Rattle.rv_comp.specs.Halfwords.{IsShortSpelling};
@@ -261,8 +261,8 @@ fn is_clean_word(
     }
 }
 
-/// Whether the word is an instruction that computes into the stack pointer, or loads into it from near
-/// it.
+/// Whether the word is an instruction that computes into the stack pointer, or loads into it from
+/// near it.
 fn is_stack_write(word: u32) -> bool
     ensures { OnTrue result (IsStackWrite word) }
 {

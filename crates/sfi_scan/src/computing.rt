@@ -7,9 +7,9 @@ ghost use Rattle.sfi_scan.specs.private.FirstLook.{IsFreeHalf};
 
 use crate::rules::STACK;
 
-/// By bits 15:9 of a halfword and its bits 1:0: a mask. A halfword with any of these bits set is a form
-/// that computes into a register that isn't reserved. Beside each line stand bits 15:11; its 16 entries
-/// go by bits 10:9, and then by bits 1:0.
+/// By bits 15:9 of a halfword and its bits 1:0: a mask. A halfword with any of these bits set is a
+/// form that computes into a register that isn't reserved. Beside each line stand bits 15:11; its
+/// 16 entries go by bits 10:9, and then by bits 1:0.
 const COMPUTING: [u16; 512] = [
     8160, 3, 3, 0, 8160, 3, 3, 0, 8160, 3, 3, 0, 8160, 3, 3, 0, // 00000
     8160, 3, 3, 0, 8160, 3, 3, 0, 8160, 0, 0, 0, 8160, 3, 3, 0, // 00001

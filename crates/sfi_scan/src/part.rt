@@ -34,8 +34,8 @@ fn after_first(gates: &[Gate]) -> &[Gate]
     }
 }
 
-/// The findings of the part of an image of this format, which is that of the sandbox of this number, in
-/// the order of their addresses.
+/// The findings of the part of an image of this format, which is that of the sandbox of this
+/// number, in the order of their addresses.
 pub fn scan_part_as(
     alloc: Global,
     format: Format,

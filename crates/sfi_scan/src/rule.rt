@@ -12,8 +12,8 @@ pub enum Rule {
     V3,
     /// A reserved register, x24 to x27, is written.
     V4,
-    /// A load or store without the data pair on its base directly before it. In the second format one
-    /// on x2 needs no pair.
+    /// A load or store without the data pair on its base directly before it. In the second format
+    /// one on x2 needs no pair.
     V5,
     /// An indirect jump with an offset, or without the code pair on its base directly before it.
     V6,
@@ -24,8 +24,8 @@ pub enum Rule {
     /// A listed gate's bundle isn't the gate stub.
     V9,
     /// The stack pointer x2 of the second format is written, by neither instruction of the pair
-    /// `and x2, a, x27`, `or x2, x2, x26`, nor by one other than jal and jalr that this pair directly
-    /// follows in its bundle.
+    /// `and x2, a, x27`, `or x2, x2, x26`, nor by one other than jal and jalr that this pair
+    /// directly follows in its bundle.
     V10,
 }
 

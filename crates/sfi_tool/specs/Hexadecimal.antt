@@ -7,7 +7,8 @@ use Rattle.sfi_tool.specs.Input.{limit}
 abbrev pub is_kept : ℕ → Bool
 is_kept b = not (b == 32 || (b == 9 || (b == 13 || b == 10)))
 
--- the text keeps its limit and, without its white space, is these bytes in hexadecimal, in digits of either case
+-- the text keeps its limit and, without its white space, is these bytes in hexadecimal,
+-- in digits of either case
 pub record SpellsBytes (text bytes : List ℕ) : Type 0 where
   pub short : length text ≤ limit
   pub digits : decode_of (filter is_kept text) ≡ Ok bytes

@@ -7,10 +7,12 @@ use Rattle.sfi_tool.specs.Says.{Says, HasInputFault}
 use Rattle.sfi_command.specs.declared.job.Job.{Job}
 
 -- the words ask for a job, and its answer on the bytes read, with this status, was written
-pub record WritesAnswer (words : List Text) (input old new : Option (List ℕ)) (status : ℕ) : Type 0 where
+pub record WritesAnswer (words : List Text) (input old new : Option (List ℕ))
+    (status : ℕ) : Type 0 where
   pub job : Job
   pub asked : Asks words job
-  pub wrote : IfSome input (λ bytes. (text : List ℕ) × Says job bytes status text × Appends old new text)
+  pub wrote :
+      IfSome input (λ bytes. (text : List ℕ) × Says job bytes status text × Appends old new text)
 
 -- the words ask for a job, and the bytes read have one of its faults
 pub record MeetsInputFault (words : List Text) (input : Option (List ℕ)) : Type 0 where

@@ -32,7 +32,8 @@ state_text Ready = codes "ready"
 state_text (Exited n) = codes "exit=" ++ decimal n
 state_text (Trapped cause at) = codes "trap=" ++ cause_name cause ++ codes " at=" ++ hex_digits 8 at
 
--- the line of the sandbox of that number: what it may still do, how many steps it did, and its output in lower hexadecimal digits
+-- the line of the sandbox of that number: what it may still do, how many steps it did, and its
+-- output in lower hexadecimal digits
 abbrev pub run_line : ℕ → Status → ℕ → List ℕ → List ℕ
 run_line sandbox status steps output =
     codes "sandbox=" ++ decimal sandbox
@@ -49,7 +50,8 @@ line_of sandbox (Some slot) (Some output) = run_line sandbox slot.status slot.st
 -- the lines of the first n sandboxes, in order
 abbrev pub run_lines : ℕ → List Slot → ConsoleState → List ℕ
 run_lines zero slots host = []
-run_lines (suc n) slots host = run_lines n slots host ++ line_of n (slice_get slots n) (output_of host n)
+run_lines (suc n) slots host =
+    run_lines n slots host ++ line_of n (slice_get slots n) (output_of host n)
 
 -- ---- the plan
 
@@ -72,10 +74,14 @@ first_slots ps = slots_of (record { bytes = with_parts empty ps; seats = map fir
 -- the sandboxes and their host, which answers each call, after that plan
 abbrev pub run_of : Machine → ℕ → ℕ → List ℕ → List Part → Joined (Limited ConsoleState)
 run_of machine rounds quantum given ps =
-    joint machine console (plan_of rounds quantum (length ps)) (first_slots ps) (new_console (length ps) given) None
+    joint machine console (plan_of rounds quantum (length ps)) (first_slots ps)
+    (new_console (length ps) given) None
 
--- the text has a line for each sandbox, of what it and its output are then; what is said holds of the machine, which is one function
+-- the text has a line for each sandbox, of what it and its output are then; what is said holds of
+-- the machine, which is one function
 abbrev pub IsRunText : ℕ → ℕ → List ℕ → List Part → List ℕ → Type 0
 IsRunText rounds quantum given ps text =
     (machine : Machine) → IsMachine machine
-    → text ≡ run_lines (length ps) (run_of machine rounds quantum given ps).slots (run_of machine rounds quantum given ps).host.host
+    → text ≡ run_lines (length ps)
+    (run_of machine rounds quantum given ps).slots
+    (run_of machine rounds quantum given ps).host.host

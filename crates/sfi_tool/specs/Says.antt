@@ -9,8 +9,8 @@ use Rattle.sfi_tool.specs.commands.Building.{build}
 use Rattle.sfi_tool.specs.commands.Running.{run}
 use Rattle.sfi_tool.specs.commands.Converting.{convert}
 
--- what is said of each job, by its command. All read hexadecimal text, but for a check of an image's
--- own bytes and a build of a source text
+-- what is said of each job, by its command. All read hexadecimal text, but for a check of an
+-- image's own bytes and a build of a source text
 abbrev pub meaning_of : Job → Meaning
 meaning_of (Check true report) = check report
 meaning_of (Check false report) = on_text (check report)

@@ -40,11 +40,11 @@ fn job_answer(alloc: Global, job: &Job, text: &[u8]) -> Result<Answer, Stop>
     }
 }
 
-/// What the job answers on the text that was read: what it was to print, or the line of a fault. A job that reads an image's
-/// own bytes has no text.
+/// What the job answers on the text that was read: what it was to print, or the line of a fault. A
+/// job that reads an image's own bytes has no text.
 ///
-/// A text above 134217728 bytes goes first, then an odd number of digits, then the first byte that is no
-/// digit, and then the layout of the image. The one error is that an allocation was refused.
+/// A text above 134217728 bytes goes first, then an odd number of digits, then the first byte that
+/// is no digit, and then the layout of the image. The one error is that an allocation was refused.
 #[tactic(auto, using(crate::proofs::TooLarge::too_large, crate::proofs::TooLarge::not_done, crate::proofs::TooLarge::not_refused))]
 pub fn answer(alloc: Global, job: &Job, text: &[u8]) -> Result<Answer, AllocError>
     requires { is_raw job.now ≡ false }

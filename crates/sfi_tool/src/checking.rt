@@ -36,7 +36,8 @@ fn report_of(alloc: Global, bytes: &[u8], findings: &[Finding]) -> Result<String
     }
 }
 
-/// The line of the first of an image's findings. With the report a line for each finding goes before it.
+/// The line of the first of an image's findings.
+/// With the report a line for each finding goes before it.
 fn refusal_text(
     alloc: Global,
     report: bool,
@@ -44,7 +45,8 @@ fn refusal_text(
     findings: &[Finding],
 ) -> Result<String, AllocError>
     requires { HasFindings bytes.now findings.now }
-    ensures { IfOk result (λ text. IsRefusalText report bytes.now findings.now (string_bytes text)) }
+    ensures { IfOk result
+        (λ text. IsRefusalText report bytes.now findings.now (string_bytes text)) }
 {
     let verdict = refused_line(alloc, findings.len(), findings[0])?;
     if !report {
@@ -66,7 +68,8 @@ pub(crate) fn refusal_answer(
     ensures says { IfOk result (λ a. SaysRefused report bytes.now a.status (string_bytes a.text)) }
     ensures stop { IfErr result (IsRefusalStop bytes.now) }
     ensures only_done { (parts : List Part) → IsAccepted bytes.now parts → AnswersStatus 0 result }
-    ensures only_refused { (found : List Finding) → HasFindings bytes.now found → AnswersStatus 1 result }
+    ensures only_refused { (found : List Finding) → HasFindings bytes.now found
+        → AnswersStatus 1 result }
     ensures only_fault { (k : LayoutFault) → IsFault bytes.now k → IsErr result }
 {
     match refusal {
@@ -82,7 +85,8 @@ pub(crate) fn refusal_answer(
 /// The verdict on the image that the text spells, with a report on its findings or without.
 pub(crate) fn check_answer(alloc: Global, report: bool, text: &[u8]) -> Result<Answer, Stop>
     requires { length text.now ≤ limit }
-    ensures says { IfOk result (λ a. Says (Check false report) text.now a.status (string_bytes a.text)) }
+    ensures says { IfOk result
+        (λ a. Says (Check false report) text.now a.status (string_bytes a.text)) }
     ensures stop { IfErr result (IsStop (Check false report) text.now) }
     ensures only_done { IsDone (Check false report) text.now → AnswersStatus 0 result }
     ensures only_refused { IsRefused (Check false report) text.now → AnswersStatus 1 result }

@@ -56,7 +56,8 @@ fn fault_answer(alloc: Global, fault: ConvertFault) -> Result<Answer, Stop>
     }
 }
 
-/// The image that the text spells, in the second format, in hexadecimal digits; or the verdict where it breaks a rule of either format.
+/// The image that the text spells, in the second format, in hexadecimal digits; or the verdict
+/// where it breaks a rule of either format.
 pub(crate) fn conversion_answer(alloc: Global, text: &[u8]) -> Result<Answer, Stop>
     requires { length text.now ≤ limit }
     ensures says { IfOk result (λ a. Says Convert text.now a.status (string_bytes a.text)) }

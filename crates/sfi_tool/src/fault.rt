@@ -35,8 +35,8 @@ pub(crate) enum InputFault {
     NotOld,
 }
 
-/// Why a command gives no verdict: a fault of the text, of the image that it spells or of the source that it means, or an
-/// allocation was refused.
+/// Why a command gives no verdict: a fault of the text, of the image that it spells or of the
+/// source that it means, or an allocation was refused.
 #[derive(Debug, Drop)]
 pub(crate) enum Stop {
     Input(InputFault),

@@ -61,7 +61,8 @@ fn digits_in(text: &[u8]) -> usize {
     text.iter().filter(|byte| !is_white(**byte)).count()
 }
 
-/// The fault of a text with something at this place that is no digit. An odd number of digits goes first.
+/// The fault of a text with something at this place that is no digit.
+/// An odd number of digits goes first.
 #[cold]
 fn digit_fault(text: &[u8], at: usize) -> InputFault
     requires { at ≤ length text.now }
@@ -91,7 +92,8 @@ fn byte_of(high: u8, low: u8) -> Option<u8>
 /// How many digits are read at a time, where so many stand there.
 const BLOCK: usize = 64;
 
-/// A digit's value, found by arithmetic, so that a block's digits are read side by side; 16 or more for any other byte.
+/// A digit's value, found by arithmetic, so that a block's digits are read side by side;
+/// 16 or more for any other byte.
 #[inline(always)]
 #[tactic(auto, using(crate::proofs::Classes::letter_is))]
 fn value_of(byte: u8) -> u8
@@ -111,11 +113,13 @@ struct Values {
     all: bool,
 }
 
-/// What a block's bytes are. It isn't inlined: LLVM finds its vector instructions where arrays lie in memory.
+/// What a block's bytes are. It isn't inlined:
+/// LLVM finds its vector instructions where arrays lie in memory.
 #[inline(never)]
 fn values_of(digits: &[u8]) -> Values
     requires { length digits.now ≡ 64 }
-    ensures each { (k : ℕ) → k < 64 → slice_index result.values k < 16 → hex_digit_value (slice_index digits.now k) ≡ Some (slice_index result.values k) }
+    ensures each { (k : ℕ) → k < 64 → slice_index result.values k < 16
+        → hex_digit_value (slice_index digits.now k) ≡ Some (slice_index result.values k) }
     ensures all { result.all ≡ true → (k : ℕ) → k < 64 → slice_index result.values k < 16 }
 {
     let mut values = [0u8; BLOCK];
@@ -131,11 +135,13 @@ fn values_of(digits: &[u8]) -> Values
     }
 }
 
-/// How many pairs of digits a block begins with. Where it is inlined, LLVM moves each value by itself.
+/// How many pairs of digits a block begins with. Where it is inlined,
+/// LLVM moves each value by itself.
 #[inline(never)]
 fn digit_pairs(values: &[u8; BLOCK]) -> usize
     ensures most { result ≤ 32 }
-    ensures digits { (k : ℕ) → k < result → (slice_index values.now (2 * k) < 16) × (slice_index values.now (2 * k + 1) < 16) }
+    ensures digits { (k : ℕ) → k < result
+        → (slice_index values.now (2 * k) < 16) × (slice_index values.now (2 * k + 1) < 16) }
 {
     for pair in 0..BLOCK / 2 {
         if values[2 * pair] >= WHITE || values[2 * pair + 1] >= WHITE {
@@ -148,7 +154,8 @@ fn digit_pairs(values: &[u8; BLOCK]) -> usize
 /// The byte of two digits' values, by arithmetic on both at once.
 #[inline(always)]
 fn byte_of_pair(values: [u8; 2]) -> u8
-    ensures { slice_index values 0 < 16 → slice_index values 1 < 16 → result ≡ slice_index values 0 * 16 + slice_index values 1 }
+    ensures { slice_index values 0 < 16 → slice_index values 1 < 16
+        → result ≡ slice_index values 0 * 16 + slice_index values 1 }
 {
     let both = u16::from_le_bytes(values);
     (both.wrapping_mul(16).wrapping_add(both / 256) % 256) as u8
@@ -158,7 +165,10 @@ fn byte_of_pair(values: [u8; 2]) -> u8
 #[inline(never)]
 fn joined(values: &[u8; BLOCK]) -> [u8; BLOCK / 2]
     ensures size { length result ≡ 32 }
-    ensures each { (k : ℕ) → k < 32 → slice_index values.now (2 * k) < 16 → slice_index values.now (2 * k + 1) < 16 → slice_index result k ≡ slice_index values.now (2 * k) * 16 + slice_index values.now (2 * k + 1) }
+    ensures each { (k : ℕ) → k < 32 → slice_index values.now (2 * k) < 16
+        → slice_index values.now (2 * k + 1) < 16
+        → slice_index result k
+        ≡ slice_index values.now (2 * k) * 16 + slice_index values.now (2 * k + 1) }
 {
     let mut bytes = [0u8; BLOCK / 2];
     for pair in 0..BLOCK / 2 {
@@ -179,7 +189,8 @@ fn front_of(block: &[u8]) -> Front
     requires { length block.now ≡ 64 }
     ensures most { result.pairs ≤ 32 }
     ensures size { length result.bytes ≡ 32 }
-    ensures each { (k : ℕ) → k < result.pairs → IsByteOf (slice_index block.now (2 * k)) (slice_index block.now (2 * k + 1)) (slice_index result.bytes k) }
+    ensures each { (k : ℕ) → k < result.pairs → IsByteOf (slice_index block.now (2 * k))
+        (slice_index block.now (2 * k + 1)) (slice_index result.bytes k) }
 {
     let Values { values, all } = values_of(block);
     Front {
@@ -188,7 +199,8 @@ fn front_of(block: &[u8]) -> Front
     }
 }
 
-/// The bytes that the text's digits spell, in blocks where a try gives 16 bytes or more in the mean, or else each made as its second digit is met.
+/// The bytes that the text's digits spell, in blocks where a try gives 16 bytes or more in the
+/// mean, or else each made as its second digit is met.
 fn decoded(alloc: Global, text: &[u8]) -> Result<Vec<u8>, Stop>
     ensures bytes { IfOk result (λ v. decode_of (filter is_kept text.now) ≡ Ok v.items) }
     ensures stop { IfErr result (IsInputStop (IsNoHexadecimal text.now)) }

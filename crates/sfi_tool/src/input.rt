@@ -35,7 +35,8 @@ impl From<AllocError> for ReadStop {
     }
 }
 
-/// Reads to the end, or past the limit. Every error of the reader is a failure: none is tried again.
+/// Reads to the end, or past the limit. Every error of the reader is a failure:
+/// none is tried again.
 pub(crate) fn read_input<R: Read>(alloc: Global, reader: &mut R) -> Result<Input, ReadStop>
     ensures { IfOk result (IsInput (R.remaining reader.old)) }
 {

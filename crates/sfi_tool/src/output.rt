@@ -6,8 +6,8 @@ ghost use Rattle.sfi_tool.specs.Input.{WritesPart};
 
 use std::io::Write;
 
-/// Writes the text, and says whether all of it was taken. A write that fails, or that takes nothing of
-/// what is left, ends it.
+/// Writes the text, and says whether all of it was taken. A write that fails, or that takes nothing
+/// of what is left, ends it.
 pub fn write_out<W: Write>(writer: &mut W, text: &[u8]) -> bool
     ensures whole { OnTrue result
         (Appends (W.contents writer.old) (W.contents writer.new) text.now) }

@@ -12,12 +12,15 @@ use sfi_image::Reading;
 use std::alloc::Global;
 use std::io::Read;
 
-/// The verdict on the image whose own bytes the reader gives. Memory is taken for its line alone, however long the image is.
+/// The verdict on the image whose own bytes the reader gives. Memory is taken for its line alone,
+/// however long the image is.
 pub(crate) fn raw_answer<R: Read>(alloc: Global, reader: &mut R) -> Result<Answer, ReadStop>
     ensures statuses { IfOk result (λ a. a.status ≤ 2) }
     ensures says { IfOk result (λ a. a.status < 2
-        → IfSome (R.remaining reader.old) (λ bytes. Says (Check true false) bytes a.status (string_bytes a.text))) }
-    ensures fault { IfOk result (λ a. a.status ≡ 2 → IfSome (R.remaining reader.old) (HasInputFault (Check true false))) }
+        → IfSome (R.remaining reader.old)
+        (λ bytes. Says (Check true false) bytes a.status (string_bytes a.text))) }
+    ensures fault { IfOk result
+        (λ a. a.status ≡ 2 → IfSome (R.remaining reader.old) (HasInputFault (Check true false))) }
 {
     let mut source = Reading::new(reader);
     match check_stream(&mut source) {

@@ -65,7 +65,8 @@ fn push_line_of<M: Memory>(
     console: &Console,
 ) -> Result<(), AllocError>
     ensures { OnOk result (string_bytes out.new ≡ string_bytes out.old
-        ++ line_of sandbox (slice_get (slots_of world.now) sandbox) (output_of console.now sandbox)) }
+        ++ line_of sandbox (slice_get (slots_of world.now) sandbox)
+        (output_of console.now sandbox)) }
 {
     let Some(status) = world.status(sandbox) else {
         return Ok(());
@@ -86,7 +87,8 @@ pub(crate) fn run_lines<M: Memory>(
     world: &World<M>,
     console: &Console,
 ) -> Result<String, AllocError>
-    ensures { IfOk result (λ text. string_bytes text ≡ run_lines count (slots_of world.now) console.now) }
+    ensures { IfOk result
+        (λ text. string_bytes text ≡ run_lines count (slots_of world.now) console.now) }
 {
     let mut text = String::new(alloc);
     for sandbox in 0..count {

@@ -26,7 +26,8 @@ fn run_text(
     quantum: u32,
     input: &[u8],
 ) -> Result<String, AllocError>
-    ensures { IfOk result (λ text. IsRunText rounds quantum input.now accepted.now (string_bytes text)) }
+    ensures { IfOk result
+        (λ text. IsRunText rounds quantum input.now accepted.now (string_bytes text)) }
 {
     let count = accepted.sandboxes() as u32;
     let mut world = World::load(alloc, accepted, Pages::new(alloc))?;
@@ -36,7 +37,8 @@ fn run_text(
     run_lines(alloc, count, &world, &console)
 }
 
-/// The verdict on the image that the text spells where it has findings, and else what became of its sandboxes.
+/// The verdict on the image that the text spells where it has findings,
+/// and else what became of its sandboxes.
 pub(crate) fn run_answer(
     alloc: Global,
     rounds: u32,
@@ -45,10 +47,12 @@ pub(crate) fn run_answer(
     text: &[u8],
 ) -> Result<Answer, Stop>
     requires { length text.now ≤ limit }
-    ensures says { IfOk result (λ a. Says (Run rounds quantum input.now) text.now a.status (string_bytes a.text)) }
+    ensures says { IfOk result
+        (λ a. Says (Run rounds quantum input.now) text.now a.status (string_bytes a.text)) }
     ensures stop { IfErr result (IsStop (Run rounds quantum input.now) text.now) }
     ensures only_done { IsDone (Run rounds quantum input.now) text.now → AnswersStatus 0 result }
-    ensures only_refused { IsRefused (Run rounds quantum input.now) text.now → AnswersStatus 1 result }
+    ensures only_refused { IsRefused (Run rounds quantum input.now) text.now
+        → AnswersStatus 1 result }
     ensures only_fault { HasInputFault (Run rounds quantum input.now) text.now → IsErr result }
 {
     let bytes = bytes_of(alloc, text)?;

@@ -35,8 +35,10 @@ fn status_after_writing<W: Write>(writer: &mut W, status: u8, text: &str) -> u8
 fn run_raw<R: Read, W: Write>(alloc: Global, reader: &mut R, writer: &mut W) -> u8
     ensures statuses { result ≤ 5 }
     ensures says { result < 2 → IfSome (R.remaining reader.old) (λ bytes. (text : List ℕ)
-        × Says (Check true false) bytes result text × Appends (W.contents writer.old) (W.contents writer.new) text) }
-    ensures fault { result ≡ 2 → IfSome (R.remaining reader.old) (HasInputFault (Check true false)) }
+        × Says (Check true false) bytes result text
+        × Appends (W.contents writer.old) (W.contents writer.new) text) }
+    ensures fault { result ≡ 2
+        → IfSome (R.remaining reader.old) (HasInputFault (Check true false)) }
     ensures usage { result ≢ 3 }
     ensures memory { result ≡ 4 → writer.new ≡ writer.old }
     ensures appends { OnlyAppends (W.contents writer.old) (W.contents writer.new) }
@@ -52,12 +54,14 @@ fn run_raw<R: Read, W: Write>(alloc: Global, reader: &mut R, writer: &mut W) -> 
 ///
 /// - 0: accepted, built, listed, converted or run; 1: findings;
 /// - 2: a fault of the input, or a text of `--input` that spells no bytes, which the text names;
-/// - 3: the words don't parse, ask for both `--raw` and `--report`, or for help or the version: what to print for them was written;
+/// - 3: the words don't parse, ask for both `--raw` and `--report`, or for help or the version:
+///   what to print for them was written;
 /// - 4: an allocation was refused, and nothing was written;
 /// - 5: a read or a write failed. After a failed read nothing was written; after a failed write a
 ///   beginning of the text.
 ///
-/// Words that ask for no job are answered before anything is read. The text is made whole before its first byte is written.
+/// Words that ask for no job are answered before anything is read. The text is made whole before
+/// its first byte is written.
 pub fn run_tool<R: Read, W: Write>(
     alloc: Global,
     words: &[String],
@@ -69,7 +73,8 @@ pub fn run_tool<R: Read, W: Write>(
         (W.contents writer.old) (W.contents writer.new) result }
     ensures fault { result ≡ 2 → MeetsFault (map string_bytes words.now) (R.remaining reader.old) }
     ensures usage { result ≡ 3 → AsksNothing (map string_bytes words.now) }
-    ensures unread { ((job : Job) → ¬ Asks (map string_bytes words.now) job) → reader.new ≡ reader.old }
+    ensures unread { ((job : Job) → ¬ Asks (map string_bytes words.now) job)
+        → reader.new ≡ reader.old }
     ensures memory { result ≡ 4 → writer.new ≡ writer.old }
     ensures appends { OnlyAppends (W.contents writer.old) (W.contents writer.new) }
 {

@@ -18,13 +18,16 @@ unfoldable pub six : ℕ → ℕ
 six h = up (bits h 12 12) 5 ∣ bits h 6 2
 
 unfoldable pub jump_offset : ℕ → ℕ
-jump_offset h = up (bits h 12 12) 11 ∣ up (bits h 11 11) 4 ∣ up (bits h 10 9) 8 ∣ up (bits h 8 8) 10 ∣ up (bits h 7 7) 6 ∣ up (bits h 6 6) 7 ∣ up (bits h 5 3) 1 ∣ up (bits h 2 2) 5
+jump_offset h = up (bits h 12 12) 11 ∣ up (bits h 11 11) 4 ∣ up (bits h 10 9) 8 ∣ up (bits h 8 8) 10
+    ∣ up (bits h 7 7) 6 ∣ up (bits h 6 6) 7 ∣ up (bits h 5 3) 1 ∣ up (bits h 2 2) 5
 
 unfoldable pub branch_offset : ℕ → ℕ
-branch_offset h = up (bits h 12 12) 8 ∣ up (bits h 11 10) 3 ∣ up (bits h 6 5) 6 ∣ up (bits h 4 3) 1 ∣ up (bits h 2 2) 5
+branch_offset h = up (bits h 12 12) 8 ∣ up (bits h 11 10) 3 ∣ up (bits h 6 5) 6
+    ∣ up (bits h 4 3) 1 ∣ up (bits h 2 2) 5
 
 unfoldable pub stack_step : ℕ → ℕ
-stack_step h = up (bits h 12 12) 9 ∣ up (bits h 6 6) 4 ∣ up (bits h 5 5) 6 ∣ up (bits h 4 3) 7 ∣ up (bits h 2 2) 5
+stack_step h = up (bits h 12 12) 9 ∣ up (bits h 6 6) 4 ∣ up (bits h 5 5) 6
+    ∣ up (bits h 4 3) 7 ∣ up (bits h 2 2) 5
 
 unfoldable pub stack_address : ℕ → ℕ
 stack_address h = up (bits h 12 11) 4 ∣ up (bits h 10 7) 6 ∣ up (bits h 6 6) 2 ∣ up (bits h 5 5) 3
@@ -43,15 +46,18 @@ long h k = bits h (k + 4) k
 
 unfoldable pub quadrant0 : ℕ → Option Form16
 quadrant0 h =
-    if bits h 15 13 == 0 then (if stack_address h == 0 then None else Some (CAddi4spn (short h 2) (pos (stack_address h))))
+    if bits h 15 13 == 0 then
+    (if stack_address h == 0 then None else Some (CAddi4spn (short h 2) (pos (stack_address h))))
     else if bits h 15 13 == 2 then Some (CLw (short h 2) (short h 7) (pos (word_offset h)))
     else if bits h 15 13 == 6 then Some (CSw (short h 7) (short h 2) (pos (word_offset h)))
     else None
 
 unfoldable pub arithmetic : ℕ → Option Form16
 arithmetic h =
-    if bits h 11 10 == 0 then (if bits h 12 12 == 0 then Some (CSrli (short h 7) (pos (bits h 6 2))) else None)
-    else if bits h 11 10 == 1 then (if bits h 12 12 == 0 then Some (CSrai (short h 7) (pos (bits h 6 2))) else None)
+    if bits h 11 10 == 0 then
+    (if bits h 12 12 == 0 then Some (CSrli (short h 7) (pos (bits h 6 2))) else None)
+    else if bits h 11 10 == 1 then
+    (if bits h 12 12 == 0 then Some (CSrai (short h 7) (pos (bits h 6 2))) else None)
     else if bits h 11 10 == 2 then Some (CAndi (short h 7) (extended 6 (six h)))
     else if bits h 12 12 == 0 then
     (if bits h 6 5 == 0 then Some (CSub (short h 7) (short h 2))
@@ -61,8 +67,8 @@ arithmetic h =
     else None
 
 unfoldable pub upper : ℕ → Option Form16
-upper h =
-    if long h 7 == 2 then (if stack_step h == 0 then None else Some (CAddi16sp (extended 10 (stack_step h))))
+upper h = if long h 7 == 2 then
+    (if stack_step h == 0 then None else Some (CAddi16sp (extended 10 (stack_step h))))
     else if six h == 0 then None
     else Some (CLui (long h 7) (extended 6 (six h) *ℤ pos 4096))
 
@@ -87,8 +93,10 @@ jump_or_move h =
 
 unfoldable pub quadrant2 : ℕ → Option Form16
 quadrant2 h =
-    if bits h 15 13 == 0 then (if bits h 12 12 == 0 then Some (CSlli (long h 7) (pos (long h 2))) else None)
-    else if bits h 15 13 == 2 then (if long h 7 == 0 then None else Some (CLwsp (long h 7) (pos (load_offset h))))
+    if bits h 15 13 == 0 then
+    (if bits h 12 12 == 0 then Some (CSlli (long h 7) (pos (long h 2))) else None)
+    else if bits h 15 13 == 2 then
+    (if long h 7 == 0 then None else Some (CLwsp (long h 7) (pos (load_offset h))))
     else if bits h 15 13 == 4 then jump_or_move h
     else if bits h 15 13 == 6 then Some (CSwsp (long h 2) (pos (store_offset h)))
     else None

@@ -25,13 +25,17 @@ unfoldable pub word_at : ℕ → ℕ → ℕ
 word_at base b = base ∣ up (bits b 5 3) 10 ∣ up (bits b 2 2) 6 ∣ up (bits b 6 6) 5
 
 unfoldable pub jump_at : ℕ → ℕ → ℕ
-jump_at base b = base ∣ up (bits b 11 11) 12 ∣ up (bits b 4 4) 11 ∣ up (bits b 9 8) 9 ∣ up (bits b 10 10) 8 ∣ up (bits b 6 6) 7 ∣ up (bits b 7 7) 6 ∣ up (bits b 3 1) 3 ∣ up (bits b 5 5) 2
+jump_at base b =
+    base ∣ up (bits b 11 11) 12 ∣ up (bits b 4 4) 11 ∣ up (bits b 9 8) 9 ∣ up (bits b 10 10) 8
+    ∣ up (bits b 6 6) 7 ∣ up (bits b 7 7) 6 ∣ up (bits b 3 1) 3 ∣ up (bits b 5 5) 2
 
 unfoldable pub branch_at : ℕ → ℕ → ℕ
-branch_at base b = base ∣ up (bits b 8 8) 12 ∣ up (bits b 4 3) 10 ∣ up (bits b 7 6) 5 ∣ up (bits b 2 1) 3 ∣ up (bits b 5 5) 2
+branch_at base b = base ∣ up (bits b 8 8) 12 ∣ up (bits b 4 3) 10 ∣ up (bits b 7 6) 5
+    ∣ up (bits b 2 1) 3 ∣ up (bits b 5 5) 2
 
 unfoldable pub stack_step_at : ℕ → ℕ
-stack_step_at b = 0x6101 ∣ up (bits b 9 9) 12 ∣ up (bits b 4 4) 6 ∣ up (bits b 6 6) 5 ∣ up (bits b 8 7) 3 ∣ up (bits b 5 5) 2
+stack_step_at b = 0x6101 ∣ up (bits b 9 9) 12 ∣ up (bits b 4 4) 6 ∣ up (bits b 6 6) 5
+    ∣ up (bits b 8 7) 3 ∣ up (bits b 5 5) 2
 
 unfoldable pub stack_address_at : ℕ → ℕ
 stack_address_at b = up (bits b 5 4) 11 ∣ up (bits b 9 6) 7 ∣ up (bits b 2 2) 6 ∣ up (bits b 3 3) 5

@@ -23,7 +23,8 @@ unfoldable pub upper_value : ℕ → ℤ
 upper_value n = cast_signed w32 (n * 2 ^ 12)
 
 unfoldable pub first_addi : ℕ → ℕ → ℤ → Option Form16
-first_addi d s i = taken (s == 2) (CAddi4spn d i) (taken (d == s) (CAddi d i) (taken (s == 0) (CLi d i) (taken (d == 2 && s == 2) (CAddi16sp i) None)))
+first_addi d s i = taken (s == 2) (CAddi4spn d i) (taken (d == s) (CAddi d i)
+    (taken (s == 0) (CLi d i) (taken (d == 2 && s == 2) (CAddi16sp i) None)))
 
 unfoldable pub first_form : Instr → Option Form16
 first_form (OpImm Addi d s i) = first_addi d s i

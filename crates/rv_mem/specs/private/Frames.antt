@@ -12,13 +12,19 @@ HaveFrames table base size = (k : ℕ) → k < size → slice_index table ((base
 -- cells with the first four bytes of a list from a place on
 abbrev pub with_four : List ℕ → ℕ → List ℕ → List ℕ
 with_four cells place bytes =
-    slice_set (slice_set (slice_set (slice_set cells place (slice_index bytes 0)) (place + 1) (slice_index bytes 1)) (place + 2) (slice_index bytes 2)) (place + 3) (slice_index bytes 3)
+    slice_set
+    (slice_set
+    (slice_set (slice_set cells place (slice_index bytes 0)) (place + 1) (slice_index bytes 1))
+    (place + 2) (slice_index bytes 2))
+    (place + 3) (slice_index bytes 3)
 
--- what is at an address once n bytes of a list, from one of its places on and with zeros past its end, stand from the start on: elsewhere,
--- what was there before
+-- what is at an address once n bytes of a list, from one of its places on and with zeros past its
+-- end, stand from the start on: elsewhere, what was there before
 abbrev pub run_of : ℕ → ℕ → List ℕ → ℕ → ℕ → Option ℕ → Option ℕ
 run_of start n bytes from address before =
-    if nat_lt address start then before else (if nat_lt address (start + n) then Some (slice_index bytes (from + (address - start))) else before)
+    if nat_lt address start then before
+    else (if nat_lt address (start + n) then Some (slice_index bytes (from + (address - start)))
+    else before)
 
 -- the n cells from a place on got these values, and no other cell changed
 pub record Puts (before after : List ℕ) (place n : ℕ) (value : ℕ → ℕ) : Type 0 where
@@ -27,13 +33,14 @@ pub record Puts (before after : List ℕ) (place n : ℕ) (value : ℕ → ℕ) 
   pub below : (j : ℕ) → j < place → slice_index after j ≡ slice_index before j
   pub past : (j : ℕ) → place + n ≤ j → slice_index after j ≡ slice_index before j
 
--- The n cells from a place on got the bytes of a list, from one of its places on and with zeros past its end, and they got their marks. No other
--- cell changed.
+-- The n cells from a place on got the bytes of a list, from one of its places on and with zeros
+-- past its end, and they got their marks. No other cell changed.
 pub record MarksRun (before after : List ℕ) (place n : ℕ) (bytes : List ℕ) (from : ℕ) : Type 0 where
   pub size : length after ≡ length before
   pub written : (j : ℕ) → j < n → slice_index after (place + j) ≡ slice_index bytes (from + j)
   pub small : (j : ℕ) → j < n → slice_index bytes (from + j) < 256
   pub marks : (j : ℕ) → j < n → slice_index after (place + 4096 + j) ≡ 1
   pub below : (j : ℕ) → j < place → slice_index after j ≡ slice_index before j
-  pub between : (j : ℕ) → place + n ≤ j → j < place + 4096 → slice_index after j ≡ slice_index before j
+  pub between :
+      (j : ℕ) → place + n ≤ j → j < place + 4096 → slice_index after j ≡ slice_index before j
   pub past : (j : ℕ) → place + 4096 + n ≤ j → slice_index after j ≡ slice_index before j

@@ -3,7 +3,8 @@ use rv_mem::{Memory, Segments, Width};
 use rv_step::{Cpu, Outcome, step};
 use rv_word::Reg;
 
-// Two sandboxes' data lies at 01800000 and 02800000. The first one's code is sw x11, 0(x10), which `check` refuses.
+// Two sandboxes' data lies at 01800000 and 02800000. The first one's code is sw x11, 0(x10),
+// which `check` refuses.
 #[test]
 fn a_bare_store_reaches_the_neighbour(rt: HostRuntime) {
     let neighbour = 0x0280_0000;

@@ -24,7 +24,8 @@ fn body_text(alloc: Global, body: &Body) -> Result<String, AllocError> {
     }
 }
 
-// An item as text: its line, L where it is labelled, c where a 16-bit form may stand for it, its body.
+// An item as text: its line, L where it is labelled, c where a 16-bit form may stand for it,
+// its body.
 fn item_text(alloc: Global, item: &Item) -> Result<String, AllocError> {
     let body = body_text(alloc, &item.body)?;
     let label = if item.labelled { "L" } else { "" };

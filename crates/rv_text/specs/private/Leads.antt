@@ -14,11 +14,13 @@ abbrev pub IsFront : List ℕ → Front → Type 0
 IsFront text (Label name rest) = BeginsWithLabel text name.now rest.now
 IsFront text (Other next) = HasNoLabel text × IsNext text next
 
--- all the labels at the front of the text lead from the source so far to the next one, and this stands after them
+-- all the labels at the front of the text lead from the source so far to the next one,
+-- and this stands after them
 abbrev pub PassesTo : SoFar → List ℕ → SoFar → Next → Type 0
 PassesTo old text new next = (rest : List ℕ) × PassesLabels old text new rest × IsNext rest next
 
--- a statement of this line with this first token and this rest leads from the source so far to the next one
+-- a statement of this line with this first token and this rest leads from the source so far to the
+-- next one
 abbrev pub LeadsFrom : ℕ → List ℕ → List ℕ → SoFar → SoFar → Type 0
 LeadsFrom line token rest old new =
     (k : Keyword) × (keyword_name k ≡ token) × LeadsAfter k line old rest new

@@ -56,8 +56,8 @@ MoreDepartsAfter kind text e =
 abbrev pub ReadsRow : List Part → (OperandValues → Stated) → List ℕ → Stated → Type 0
 ReadsRow form states text s = (o : OperandValues) × Reads o form text × (s ≡ states o)
 
--- the text after the instruction's name gives its operands: for a branch and a jal a name, for any other those that it
--- has in the text of one instruction
+-- the text after the instruction's name gives its operands: for a branch and a jal a name, for any
+-- other those that it has in the text of one instruction
 abbrev pub ReadsInstr : Mnemonic → List ℕ → Stated → Type 0
 ReadsInstr (mnemonic.Branch cond) text s = ReadsRow branch_form (branch_states cond) text s
 ReadsInstr mnemonic.Jal text s = ReadsRow jal_form jal_states text s
@@ -67,5 +67,7 @@ ReadsInstr name text s = (i : Instr) × FollowsName text name i × (s ≡ within
 abbrev pub ReadsAfter : Keyword → List ℕ → Stated → Type 0
 ReadsAfter (keyword.Instr name) text s = ReadsInstr name text s
 ReadsAfter (keyword.Pseudo name) text s = ReadsRow (pseudo_form name) (pseudo_states name) text s
-ReadsAfter (keyword.Directive name) text s = ReadsRow (directive_form name) (directive_states name) text s
-ReadsAfter (keyword.Numbers width) text s = (b : List ℕ) × ReadsList width text b × (s ≡ within (bytes b))
+ReadsAfter (keyword.Directive name) text s =
+    ReadsRow (directive_form name) (directive_states name) text s
+ReadsAfter (keyword.Numbers width) text s =
+    (b : List ℕ) × ReadsList width text b × (s ≡ within (bytes b))

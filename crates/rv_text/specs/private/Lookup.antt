@@ -46,7 +46,8 @@ of_three letter tens units =
 unfoldable pub find_register : List ℕ → Option ℕ
 find_register text =
     if length text == 2 then of_two (slice_index text 0) (slice_index text 1)
-    else if length text == 3 then of_three (slice_index text 0) (slice_index text 1) (slice_index text 2)
+    else if length text == 3 then
+    of_three (slice_index text 0) (slice_index text 1) (slice_index text 2)
     else if bytes_eq text (codes "zero") then Some 0
     else None
 

@@ -12,7 +12,8 @@ body_of text = drop (prefix_len is_space text) text
 -- `0x` and a hexadecimal digit stand there
 abbrev pub begins_hex : List ℕ → Bool
 begins_hex text =
-    (slice_index text 0 == 48) && ((slice_index text 1 == 120) && is_ascii_hexdigit (slice_index text 2))
+    (slice_index text 0 == 48)
+    && ((slice_index text 1 == 120) && is_ascii_hexdigit (slice_index text 2))
 
 -- the length of the longest magnitude, 0 where none stands there
 unfoldable pub magnitude_len : List ℕ → ℕ

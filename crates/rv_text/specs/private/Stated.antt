@@ -31,7 +31,8 @@ stated (statement.Format value) = format (number_of_format value)
 stated (statement.Sandbox size) = sandbox size
 stated (statement.Within what) = within (stated_within what)
 
--- each number, name and instruction is in range; a jump or a branch by name has offset 0, and none stands among the others
+-- each number, name and instruction is in range; a jump or a branch by name has offset 0,
+-- and none stands among the others
 abbrev pub IsRightWithin : StatedWithin → Type 0
 IsRightWithin (gate name service) = IsShortLabel name × (service ≤ service_most)
 IsRightWithin (compressed rvc) = Unit {0}

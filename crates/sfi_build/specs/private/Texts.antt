@@ -4,7 +4,8 @@ use Rattle.std.specs.Global.{Global}
 use Rattle.sfi_build.specs.declared.fault.BuildFault.{BuildFault}
 use Rattle.sfi_build.specs.Texts.{IsBuildFault, IsTextBuild, IsWantOfMemory}
 
--- the bytes that were made are the text's build, or it has the fault, or memory ran out: a word of a private contract
+-- the bytes that were made are the text's build, or it has the fault, or memory ran out:
+-- a word of a private contract
 abbrev pub Builds : List ℕ → Result (Vec ℕ Global) BuildFault → Type 0
 Builds text (Ok bytes) = IsTextBuild text bytes.items
 Builds text (Err f) = IsWantOfMemory f ⊎ IsBuildFault text f

@@ -5,10 +5,12 @@ use Rattle.sfi_check.specs.declared.stream_answer.StreamAnswer.TheVariants.{Acce
 use Rattle.sfi_c.specs.declared.verdict.SfiVerdict.{SfiVerdict}
 use Rattle.sfi_c.specs.Verdicts.{acceptance, refusal, no_image, no_memory}
 
--- the bytes that are left before a read, the length of its buffer, what it hands out, and what is left then
+-- the bytes that are left before a read, the length of its buffer, what it hands out,
+-- and what is left then
 abbrev pub HandsOut : List ℕ → ℕ → Option (List ℕ) → List ℕ → Type 0
 HandsOut rest most None after = ⊥
-HandsOut rest most (Some bytes) after = (rest ≡ bytes ++ after) × (length bytes ≤ most) × (bytes ≡ [] → 0 < most → rest ≡ [])
+HandsOut rest most (Some bytes) after =
+    (rest ≡ bytes ++ after) × (length bytes ≤ most) × (bytes ≡ [] → 0 < most → rest ≡ [])
 
 -- the verdict by an answer; no read fails
 abbrev pub verdict_of : StreamAnswer → SfiVerdict

@@ -19,15 +19,18 @@ use Rattle.sfi_check.specs.declared.progress.Progress.{Progress}
 use Rattle.sfi_check.specs.declared.progress.Progress.TheVariants as ways
 use Rattle.sfi_check.specs.Verdict.{bundle_count}
 
--- the findings of the code so far of the sandbox of that number, whatever its other code and its data are
-pub record AreFindingsSoFar (sandbox : ℕ) (f : Fields) (gs : List Gate) (code : List ℕ) (found : List Finding) : Type 0 where
+-- the findings of the code so far of the sandbox of that number,
+-- whatever its other code and its data are
+pub record AreFindingsSoFar (sandbox : ℕ) (f : Fields) (gs : List Gate) (code : List ℕ)
+    (found : List Finding) : Type 0 where
   pub bundles : ℕ
   pub len : length code ≡ bundle_size * bundles
   pub found_are : (more init : List ℕ) → length (code ++ more) ≡ f.code_size
       → AreFindingsOfFirst sandbox (part_of f gs (code ++ more) init) bundles found
 
 -- the findings of whole sandboxes and of the code so far of the next
-pub record AreFindingsWithin (ps : List Part) (f : Fields) (gs : List Gate) (code : List ℕ) (found : List Finding) : Type 0 where
+pub record AreFindingsWithin (ps : List Part) (f : Fields) (gs : List Gate) (code : List ℕ)
+    (found : List Finding) : Type 0 where
   pub before : List Finding
   pub here : List Finding
   pub before_are : AreImageFindings ps before
@@ -92,8 +95,10 @@ pub record IsCut (r : ReaderState) (len : ℕ) : Type 0 where
 
 -- one step on the bytes that follow those so far
 abbrev pub Steps : ReaderState → ReaderState → Tally → List ℕ → List ℕ → Step → Type 0
-Steps old new t so_far rest (steps.Took n) = (1 ≤ n) × (n ≤ length rest) × IsSoFar new t (so_far ++ take n rest) × (left new < left old)
-Steps old new t so_far rest steps.Short = IsSoFar new t so_far × IsCut new (length rest) × (left new ≤ left old)
+Steps old new t so_far rest (steps.Took n) =
+    (1 ≤ n) × (n ≤ length rest) × IsSoFar new t (so_far ++ take n rest) × (left new < left old)
+Steps old new t so_far rest steps.Short =
+    IsSoFar new t so_far × IsCut new (length rest) × (left new ≤ left old)
 Steps old new t so_far rest steps.Whole = IsSoFar new t so_far × (new.next ≡ next.End)
 Steps old new t so_far rest (steps.Fault k) = HasFaultNumberWhateverFollows (so_far ++ rest) k
 
@@ -102,7 +107,8 @@ abbrev pub Goes : ReaderState → ReaderState → Tally → List ℕ → List �
 Goes old new t so_far rest (ways.More n) =
     (n ≤ length rest) × IsSoFar new t (so_far ++ take n rest) × IsCut new (length rest - n)
     × ((left new < left old) ⊎ ((n ≡ 0) × (left new ≤ left old)))
-Goes old new t so_far rest (ways.Whole n) = (n ≤ length rest) × IsSoFar new t (so_far ++ take n rest) × (new.next ≡ next.End)
+Goes old new t so_far rest (ways.Whole n) =
+    (n ≤ length rest) × IsSoFar new t (so_far ++ take n rest) × (new.next ≡ next.End)
 Goes old new t so_far rest (ways.Fault k) = HasFaultNumberWhateverFollows (so_far ++ rest) k
 
 -- the answer on a whole image with that tally

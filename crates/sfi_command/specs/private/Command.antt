@@ -9,7 +9,8 @@ use Rattle.sfi_command.specs.declared.job.JobFault.{JobFault}
 use Rattle.sfi_command.specs.declared.job.JobFault.TheVariants.{Usage, Hex, Memory}
 use Rattle.sfi_command.specs.Command.{IsNoInput, Names, NamesNoInput}
 
--- the command has this shape, and no argument that its subcommands share (a word of private contracts)
+-- the command has this shape, and no argument that its subcommands share (a word of private
+-- contracts)
 pub record IsCommandOf (s : Shape) (c : Command) : Type 0 where
   pub shape_is : app_of c ≡ record { top = s; subs = [] }
   pub local : (out-Command c).has_globals ≡ false

@@ -15,4 +15,5 @@ TakesSome m s n t = (turn : Turn) × TakesTurn m s turn n t
 abbrev pub MovesAlone : PlanTurn → Bytes → Seat → Bytes → Seat → Type 0
 MovesAlone turn m s n t =
     (seats : List Seat) → slice_get seats turn.sandbox ≡ Some s
-    → HaveMoved (turn ∷ []) (record { bytes = m; seats = seats }) (record { bytes = n; seats = slice_set seats turn.sandbox t })
+    → HaveMoved (turn ∷ []) (record { bytes = m; seats = seats })
+    (record { bytes = n; seats = slice_set seats turn.sandbox t })

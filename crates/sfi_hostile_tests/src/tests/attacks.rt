@@ -20,11 +20,12 @@ enum Harm {
 
 use Harm::{Anywhere, AtEnd, FirstFormat, Jump};
 
-/// Code, the rule that it breaks, the place of the instruction that does, counted from its first byte, and where it does.
+/// Code, the rule that it breaks, the place of the instruction that does,
+/// counted from its first byte, and where it does.
 struct Attack(&'static str, &'static str, Rule, u32, Harm);
 
-/// Where it stands: in which bundle of the region, after how many bytes of that, and whether these are filled by `nop` or by
-/// `c.nop`.
+/// Where it stands: in which bundle of the region, after how many bytes of that, and whether these
+/// are filled by `nop` or by `c.nop`.
 #[derive(Drop)]
 struct Spot {
     format: Format,
@@ -35,7 +36,8 @@ struct Spot {
 
 const BUNDLES: u32 = 16;
 
-/// x27 or x26 is the second operand of a pair's first or second instruction, x25 or x24 that of a pair for jumps.
+/// x27 or x26 is the second operand of a pair's first or second instruction,
+/// x25 or x24 that of a pair for jumps.
 const ATTACKS: [Attack; 31] = [
     Attack(
         "operands of and exchanged",
@@ -163,7 +165,8 @@ impl Attack {
         })
     }
 
-    /// The smallest image with it there, and `c.ebreak` after it to its bundle's end; none where it doesn't fit.
+    /// The smallest image with it there, and `c.ebreak` after it to its bundle's end;
+    /// none where it doesn't fit.
     fn image(&self, alloc: Global, spot: &Spot) -> Result<Option<Vec<u8>>, Fail> {
         let Some(after) = 16u32.saturating_sub(spot.place).checked_sub(self.len()) else {
             return Ok(None);

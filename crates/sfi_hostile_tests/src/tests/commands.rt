@@ -3,7 +3,8 @@ use super::images::{C_EBREAK, EBREAK, HEAD, HI, PAIR_ON_X0, SFI1, bytes_of, digi
 use std::alloc::Global;
 use std::test::Fail;
 
-/// A command line, what it reads, the status with which it ends, and how the text that it prints begins.
+/// A command line, what it reads, the status with which it ends,
+/// and how the text that it prints begins.
 pub(super) struct Command {
     pub(super) line: &'static str,
     pieces: [(&'static str, usize); 4],

@@ -62,7 +62,8 @@ impl Write for Sink {
     }
 }
 
-/// How many bytes a read and a write move at most, how many of each there are, and whether the write after these fails.
+/// How many bytes a read and a write move at most, how many of each there are,
+/// and whether the write after these fails.
 #[derive(Drop)]
 struct Pace {
     step: usize,
@@ -125,7 +126,8 @@ fn run(alloc: Global, line: &str, input: &[u8], pace: Pace) -> Result<Ended, All
     })
 }
 
-// Nothing is printed after a failed read. The last of the reads finds the input's end, and each of them is made.
+// Nothing is printed after a failed read. The last of the reads finds the input's end,
+// and each of them is made.
 fn reads_fail(alloc: Global, line: &str, input: &[u8], whole: &Ended) -> Result<bool, AllocError> {
     let enough = input.len().div_ceil(STEP).saturating_add(1);
     for reads in 0..enough {
@@ -179,7 +181,8 @@ fn small_steps_are_taken(
     Ok(ended.is(whole.status, whole.printed.as_slice()))
 }
 
-// Where nothing fails, the command ends with its status and prints its text; else that holds which is said above.
+// Where nothing fails, the command ends with its status and prints its text;
+// else that holds which is said above.
 fn is_right(alloc: Global, command: &Command) -> Result<bool, Fail> {
     let line = command.line;
     let input = command.input(alloc)?;

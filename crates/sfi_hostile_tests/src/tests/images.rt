@@ -20,8 +20,8 @@ pub(super) const C_EBREAK: &str = "0290";
 /// `and x0, x10, x27`; `or x0, x0, x26`; `sw x11, 0(x0)`.
 pub(super) const PAIR_ON_X0: &str = "3370b5013360a0012320b000";
 
-/// A program that puts two letters and exits with the code of the last: its image in the first format, after the magic and up
-/// to the fill.
+/// A program that puts two letters and exits with the code of the last: its image in the first
+/// format, after the magic and up to the fill.
 pub(super) const HI: &str = "0100000000000001000100000000800100010000200000010200000002000000\
     00000001010000001000000100000000\
     73000000b3ff9001b3ef8f0167800f0073000000b3ff9001b3ef8f0167800f00\

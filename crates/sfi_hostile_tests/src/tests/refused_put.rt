@@ -19,7 +19,10 @@ impl Gates for Scarce {
     ghost use Rattle.std.specs.Prelude.{true};
     ghost use Rattle.sfi_host.specs.Consoles.{console};
 
-    ghost answer = { λ s c. record { reply = (console s.console c).reply; host = record s { console = (console s.console c).host } } };
+    ghost answer = { λ s c. record {
+      reply = (console s.console c).reply;
+      host = record s { console = (console s.console c).host };
+    } };
 
     ghost may_refuse = { λ s c. true };
 
@@ -37,7 +40,8 @@ const PLAN: [Turn; 1] = [Turn {
     steps: 1000,
 }];
 
-// A refused put ends the plan, and what was done before it stands; the same plan again does the rest.
+// A refused put ends the plan, and what was done before it stands;
+// the same plan again does the rest.
 #[test]
 fn a_refused_put_is_served_later(rt: HostRuntime) -> Result<(), Fail> {
     let alloc = rt.alloc();

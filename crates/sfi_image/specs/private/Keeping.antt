@@ -41,7 +41,8 @@ next_code read size len begun count = cond (read == size) (next_init 0 len begun
 abbrev pub next_gate : ℕ → ℕ → Next
 next_gate read gate_count = cond (read == gate_count) next.Code next.Gate
 
--- that comes next, for a sandbox with these fields of which so many first data bytes are read: so many bytes may be taken
+-- that comes next, for a sandbox with these fields of which so many first data bytes are read:
+-- so many bytes may be taken
 abbrev pub TakesLength : Next → Fields → ℕ → ℕ → Type 0
 TakesLength next.Magic f read len = len ≡ magic_bytes
 TakesLength next.Count f read len = len ≡ number_bytes
@@ -56,7 +57,9 @@ TakesLength next.Nothing f read len = ⊥
 abbrev pub MayTake : ReaderState → ℕ → Type 0
 MayTake r len = TakesLength r.next r.fields r.init_read len
 
--- no fault, and it goes on from each front that it stands for; or a fault of each of them with these bytes
+-- no fault, and it goes on from each front that it stands for;
+-- or a fault of each of them with these bytes
 abbrev pub Takes : ReaderState → List ℕ → ReaderState → Option LayoutFault → Type 0
 Takes old s new None = (x : Front) → StandsFor old x → Leads x s new
-Takes old s new (Some k) = HasStopped new × ((x : Front) → StandsFor old x → HasFaultWhateverFollows (front x ++ s) k)
+Takes old s new (Some k) =
+    HasStopped new × ((x : Front) → StandsFor old x → HasFaultWhateverFollows (front x ++ s) k)

@@ -5,6 +5,7 @@ use Rattle.sfi_image.specs.declared.fault.ImageFault.{ImageFault}
 use Rattle.sfi_image.specs.Outcome.{IfLayout}
 
 -- the value that was read meets Found, or the layout fault meets Faulty, or memory ran out
-abbrev pub Reads : {X : Type 0} → (X → Type 0) → (LayoutFault → Type 0) → Result X ImageFault → Type 0
+abbrev pub Reads :
+    {X : Type 0} → (X → Type 0) → (LayoutFault → Type 0) → Result X ImageFault → Type 0
 Reads Found Faulty (Ok x) = Found x
 Reads Found Faulty (Err e) = IfLayout e Faulty

@@ -37,10 +37,12 @@ pub record AreNear (at : Bases) (names : List PlacedName) : Type 0 where
 
 -- after the old bytes, which lie from the code base on, stand those of the slot
 abbrev pub IsPushed : Bases → List PlacedName → Slot → List ℕ → List ℕ → Type 0
-IsPushed at names s old new = (bytes : List ℕ) × (new ≡ old ++ bytes) × IsSlot at names (at.code + length old) s bytes
+IsPushed at names s old new =
+    (bytes : List ℕ) × (new ≡ old ++ bytes) × IsSlot at names (at.code + length old) s bytes
 
 -- after the old bytes, which lie from the code base on, stand those of the slots
-pub record AreWritten (at : Bases) (names : List PlacedName) (slots : List Slot) (old new : List ℕ) : Type 0 where
+pub record AreWritten (at : Bases) (names : List PlacedName) (slots : List Slot)
+    (old new : List ℕ) : Type 0 where
   pub bytes : List ℕ
   pub appended : new ≡ old ++ bytes
   pub spelled : AreSlots at names (at.code + length old) slots bytes
@@ -49,7 +51,8 @@ pub record AreWritten (at : Bases) (names : List PlacedName) (slots : List Slot)
 abbrev pub AreCodesFrom : ℕ → List Placement → List (List ℕ) → Type 0
 AreCodesFrom number [] codes = codes ≡ []
 AreCodesFrom number (p ∷ placed) [] = ⊥
-AreCodesFrom number (p ∷ placed) (c ∷ codes) = IsLinkedCode number p c × AreCodesFrom (number + 1) placed codes
+AreCodesFrom number (p ∷ placed) (c ∷ codes) =
+    IsLinkedCode number p c × AreCodesFrom (number + 1) placed codes
 
 -- the bytes of each
 abbrev pub contents : List (Vec ℕ Global) → List (List ℕ)

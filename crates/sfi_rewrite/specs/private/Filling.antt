@@ -1,4 +1,5 @@
--- Words of private contracts: bundles while they are filled, and what is known of items and labels while they are laid.
+-- Words of private contracts: bundles while they are filled,
+-- and what is known of items and labels while they are laid.
 use Rattle.std.specs.Prelude.{◌≡◌, ◌+◌, ◌<◌, ◌≤◌, ◌++◌, ℕ, List, length, replicate, slice_index}
 use Rattle.std.specs.List.{All}
 use Rattle.sfi_policy.specs.Limits.{bundle_size}
@@ -29,7 +30,8 @@ pub record IsFilled (bundles : List (List Slot)) (end : ℕ) : Type 0 where
   pub are_bundles : AreBundles bundles
   pub end_is : end ≡ size_of (slots_of bundles)
 
--- the slots with the item's c.nops and expansion after them, within the most that a sandbox may have
+-- the slots with the item's c.nops and expansion after them,
+-- within the most that a sandbox may have
 pub record HasNext (f : Format) (old : List Slot) (x : Item) (new : List Slot) : Type 0 where
   pub nops : ℕ
   pub expanded : List Slot

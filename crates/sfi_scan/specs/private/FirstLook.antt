@@ -36,8 +36,9 @@ half_at bytes at = from_le_bytes w16 (take 2 (drop at bytes))
 abbrev pub word_at : List ℕ → ℕ → ℕ
 word_at bytes at = from_le_bytes w32 (take 4 (drop at bytes))
 
--- The words of the two nearest instructions, or 0, where the bytes that end at a place are words from another place on: a word that stands
--- four bytes before the place is that of the nearest, and one eight bytes before it that of the other.
+-- The words of the two nearest instructions, or 0, where the bytes that end at a place are words
+-- from another place on: a word that stands four bytes before the place is that of the nearest, and
+-- one eight bytes before it that of the other.
 pub record AreWordsFrom (bytes : List ℕ) (at from : ℕ) (before : Before) : Type 0 where
   pub first : (k : ℕ) → from ≤ k → k + 8 ≡ at → IsWordOr0 (word_at bytes k) before.first
   pub second : (k : ℕ) → from ≤ k → k + 4 ≡ at → IsWordOr0 (word_at bytes k) before.second
@@ -50,27 +51,34 @@ is_zero (negsuc n) = false
 abbrev pub is_protected : BundlePlace → ℕ → Bool
 is_protected b r = is_reserved r || is_stack b.format r
 
--- a load or store with these registers breaks none of V4, V5 and V10: it writes none that is protected, and its access stays in the data and the guards
+-- a load or store with these registers breaks none of V4, V5 and V10: it writes none that is
+-- protected, and its access stays in the data and the guards
 abbrev pub is_clean_access : BundlePlace → Access → List Instr → Bool
 is_clean_access b a earlier = not (is_protected b a.written) && may_access b a.base earlier
 
--- an instruction that does this at the address breaks none of V3 to V7 and V10, nor does it if it is listed
+-- an instruction that does this at the address breaks none of V3 to V7 and V10,
+-- nor does it if it is listed
 abbrev pub is_clean : BundlePlace → ℕ → List Instr → Outline → Bool
 is_clean b at earlier (Computes rd) = not (is_protected b rd)
 is_clean b at earlier (Loads rd base) = not (is_protected b rd) && may_access b base earlier
 is_clean b at earlier (Stores base) = may_access b base earlier
 is_clean b at earlier (Branches offset) = is_bundle_start b (offset_by at offset)
-is_clean b at earlier (Jumps rd offset) = not (is_protected b rd) && is_bundle_start b (offset_by at offset)
-is_clean b at earlier (JumpsTo rd base imm) = not (is_protected b rd) && (is_zero imm && follows_code_pair base earlier)
+is_clean b at earlier (Jumps rd offset) =
+    not (is_protected b rd) && is_bundle_start b (offset_by at offset)
+is_clean b at earlier (JumpsTo rd base imm) =
+    not (is_protected b rd) && (is_zero imm && follows_code_pair base earlier)
 is_clean b at earlier Orders = true
 is_clean b at earlier Calls = false
 is_clean b at earlier Stops = true
 
--- what is spelled is an instruction that breaks none of them where this is so of the two nearest instructions before it
-pub record IsCleanOne (b : BundlePlace) (at : ℕ) (are : Before → Type 0) (spell : Instr → Type 0) : Type 0 where
+-- what is spelled is an instruction that breaks none of them where this is so of the two nearest
+-- instructions before it
+pub record IsCleanOne (b : BundlePlace) (at : ℕ) (are : Before → Type 0)
+    (spell : Instr → Type 0) : Type 0 where
   pub instr : Instr
   pub spelled : spell instr
-  pub clean : (earlier : List Instr) → are (near earlier) → is_clean b at earlier (outline instr) ≡ true
+  pub clean :
+      (earlier : List Instr) → are (near earlier) → is_clean b at earlier (outline instr) ≡ true
 
 -- the halfword is that of an instruction that computes into a register that is not protected
 pub record IsFreeHalf (b : BundlePlace) (h : ℕ) : Type 0 where
@@ -78,11 +86,13 @@ pub record IsFreeHalf (b : BundlePlace) (h : ℕ) : Type 0 where
   pub does : IsHalfwordThat h (Computes rd)
   pub free : is_protected b rd ≡ false
 
--- the word is an instruction that writes the stack pointer: it computes into it, or loads into it from near it
+-- the word is an instruction that writes the stack pointer: it computes into it,
+-- or loads into it from near it
 pub record IsStackWrite (word : ℕ) : Type 0 where
   pub instr : Instr
   pub spelled : IsWordOf word instr
-  pub kind : (outline instr ≡ Computes stack_pointer) ⊎ (outline instr ≡ Loads stack_pointer stack_pointer)
+  pub kind :
+      (outline instr ≡ Computes stack_pointer) ⊎ (outline instr ≡ Loads stack_pointer stack_pointer)
 
 -- the words are the pair on the stack pointer
 pub record AreStackPair (first second : ℕ) : Type 0 where

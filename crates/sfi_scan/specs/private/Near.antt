@@ -1,4 +1,5 @@
--- Words of private contracts: what the scan keeps while it reads a bundle, and the next listed gate.
+-- Words of private contracts: what the scan keeps while it reads a bundle,
+-- and the next listed gate.
 use Rattle.std.specs.Prelude.{ℕ, List, [], ◌∷◌, ◌==◌, Bool, false, Option, Some, None}
 use Rattle.sfi_image.specs.declared.part.Gate.{Gate}
 use Rattle.rv_word.specs.declared.instr.Instr.{Instr}

@@ -1,10 +1,12 @@
-//! Examples whose functions keep their frames on the stack, in both formats. What they write was computed by a program in Python.
+//! Examples whose functions keep their frames on the stack, in both formats. What they write was
+//! computed by a program in Python.
 use super::{Outcome, built_and_run};
 use std::alloc::Global;
 use std::str::from_utf8;
 use std::test::Fail;
 
-// The text runs by this command in both formats: it exits with this number and writes these digits, in some number of steps.
+// The text runs by this command in both formats:
+// it exits with this number and writes these digits, in some number of steps.
 fn steps_of(
     alloc: Global,
     source: &str,

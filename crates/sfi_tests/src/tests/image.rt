@@ -34,7 +34,8 @@ pub(super) const APART: &str = "000000020001000000218001000100000000000200000000
 /// The place of a second sandbox's code after its head, which stands at the smallest image's end.
 pub(super) const SECOND_CODE: usize = END + 28;
 
-/// Digits, so many times, in place of the bytes from one place to another. Places after the end stand for the end.
+/// Digits, so many times, in place of the bytes from one place to another.
+/// Places after the end stand for the end.
 #[derive(Clone, Copy, Debug)]
 pub(super) struct Edit<'a> {
     from: usize,

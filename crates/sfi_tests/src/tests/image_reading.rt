@@ -5,8 +5,8 @@ use sfi_policy::Format;
 use std::alloc::Global;
 use std::test::Fail;
 
-// The head of an image with one sandbox: code 256 at 01000000, data 256 at 01800000, start 01000020, two gates, two
-// first data bytes; and the gates (01000000, 1) and (01000010, 0).
+// The head of an image with one sandbox: code 256 at 01000000, data 256 at 01800000, start
+// 01000020, two gates, two first data bytes; and the gates (01000000, 1) and (01000010, 0).
 const HEAD: [u8; 52] = [
     0x53, 0x46, 0x49, 0x31, 1, 0, 0, 0, 0, 0, 0, 1, 0, 1, 0, 0, 0, 0, 0x80, 1, 0, 1, 0, 0, 0x20, 0,
     0, 1, 2, 0, 0, 0, 2, 0, 0, 0, 0, 0, 0, 1, 1, 0, 0, 0, 0x10, 0, 0, 1, 0, 0, 0, 0,
@@ -72,7 +72,8 @@ fn writes_an_image_of_the_second_format(rt: HostRuntime) -> Result<(), Fail> {
     Ok(())
 }
 
-// The number of the fault of an image's first bytes: this digit of the magic, and so many times 65536 bytes of code.
+// The number of the fault of an image's first bytes: this digit of the magic,
+// and so many times 65536 bytes of code.
 fn fault_of(alloc: Global, digit: u8, size: u8) -> Option<u32> {
     let front = [
         0x53, 0x46, 0x49, digit, 1, 0, 0, 0, 0, 0, 0, 1, 0, 0, size, 0, 0, 0, 0, 2, 0, 1, 0, 0, 0,

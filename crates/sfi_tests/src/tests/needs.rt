@@ -1,5 +1,5 @@
-//! The images of the sandboxes by which each rule is shown to be needed, and of some that are refused although they are safe:
-//! `check` has one finding in each.
+//! The images of the sandboxes by which each rule is shown to be needed, and of some that are
+//! refused although they are safe: `check` has one finding in each.
 use super::codes::{
     JAL_INTO_BUNDLE, JALR_WITH_OFFSET, JUMP_TO_STORE, LINK_IN_X26, MASKED_STORE, OTHER_STUB,
     PAIR_ON_X0,
@@ -10,7 +10,8 @@ use sfi_scan::{Finding, Rule};
 use std::alloc::Global;
 use std::test::Fail;
 
-// A sample: how its image differs from the smallest one, and the rule and the address of its finding.
+// A sample: how its image differs from the smallest one,
+// and the rule and the address of its finding.
 #[derive(Clone, Copy)]
 struct Row<'a> {
     name: &'a str,
@@ -121,7 +122,8 @@ fn unsafe_samples() -> [Row<'static>; 11] {
     ]
 }
 
-// Each rule is stricter than safety asks somewhere. No run comes to what the first three and the one of V8 are refused for.
+// Each rule is stricter than safety asks somewhere. No run comes to what the first three and the
+// one of V8 are refused for.
 fn safe_samples() -> [Row<'static>; 10] {
     [
         // ebreak; a word of ones

@@ -1,4 +1,5 @@
-//! Sandboxes of one image: the words that they post to one another, and data that only their own code reaches.
+//! Sandboxes of one image: the words that they post to one another,
+//! and data that only their own code reaches.
 use super::codes::{BARE_STORE, MASKED_STORE};
 use super::image::{EBREAK, FILL, text_of};
 use super::lines::REFUSED_V5;
@@ -35,7 +36,8 @@ call post
 call quit
 ";
 
-// The first stops at once. The second posts it 17 words, posts one to sandbox 2, which isn't there, and puts the answers.
+// The first stops at once. The second posts it 17 words, posts one to sandbox 2,
+// which isn't there, and puts the answers.
 const FULL: &str = ".sandbox 256
 ebreak
 .sandbox 256
@@ -62,7 +64,8 @@ again:  li   a0, 0
 answers: .zero 72
 ";
 
-// It posts 5 and 6 to itself, takes both, and exits with 10 times the first plus the second's a1, its own number plus 1.
+// It posts 5 and 6 to itself, takes both, and exits with 10 times the first plus the second's a1,
+// its own number plus 1.
 const ITSELF: &str = ".sandbox 256
 .gate post 4
 .gate take 5
@@ -124,10 +127,12 @@ fn words_are_exchanged(rt: HostRuntime) -> Result<(), Fail> {
     Ok(())
 }
 
-// The head of the first of two sandboxes: code 256 bytes at 01000000, data 256 at 01800000, no gates, no first data bytes.
+// The head of the first of two sandboxes: code 256 bytes at 01000000, data 256 at 01800000, no
+// gates, no first data bytes.
 const TWO: &str = "534649310200000000000001000100000000800100010000000000010000000000000000";
 
-// The second, with its code at 02000000 and its data at 02800000, writes its two data bytes and exits with the second. Its code, up to the fill.
+// The second, with its code at 02000000 and its data at 02800000, writes its two data bytes and
+// exits with the second. Its code, up to the fill.
 const WRITES_SECOND: &str =
     "000000020001000000008002000100002000000202000000020000000000000201000000100000020000000073000000b3ff9001b3ef8f0167800f0073000000b3ff9001b3ef8f0167800f00370580021305050093052000eff05ffd37058002130505000100010001000100b37fb501b3efaf0103c51f00eff05ffc";
 
@@ -172,7 +177,8 @@ const FULL_SAID: &str =
 
 const ITSELF_SAID: &str = "sandbox=0 exit=51 steps=45 out=\n";
 
-// The 25 primes below 100, a line each, of which the sum is 1060. They, and the steps, were computed by a program in Python and an interpreter in C.
+// The 25 primes below 100, a line each, of which the sum is 1060. They, and the steps, were
+// computed by a program in Python and an interpreter in C.
 const PRIMES_BY_1: &str =
     "sandbox=0 exit=0 steps=3988 out=\nsandbox=1 exit=1060 steps=4003 out=30320a30330a30350a30370a31310a31330a31370a31390a32330a32390a33310a33370a34310a34330a34370a35330a35390a36310a36370a37310a37330a37390a38330a38390a39370a\n";
 

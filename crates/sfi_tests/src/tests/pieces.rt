@@ -1,7 +1,8 @@
 //! A reader in pieces, which fails at some call.
 use std::io::{self, ErrorKind, Read};
 
-/// Gives at most so many bytes at a call, fails after so many calls, and notes the longest buffer that it was to fill.
+/// Gives at most so many bytes at a call, fails after so many calls,
+/// and notes the longest buffer that it was to fill.
 #[derive(Drop)]
 pub(super) struct Pieces<'a> {
     rest: &'a [u8],

@@ -6,7 +6,8 @@ use super::programs::{HI_IMAGE, HI_SAID, READS_IMAGE, YIELDS_IMAGE};
 use super::{Outcome, run};
 use std::test::Fail;
 
-// `and x31, x10, x27`, `or x31, x31, x26`, `lw x10, 253(x31)`, ebreak: the word's last byte lies past the data.
+// `and x31, x10, x27`, `or x31, x31, x26`, `lw x10, 253(x31)`, ebreak:
+// the word's last byte lies past the data.
 const LOADS_ABOVE: &str = "b37fb501b3efaf0103a5df0f73001000";
 
 // The same pair, `sb x10, -1(x31)`, ebreak: the byte lies below the data.

@@ -90,7 +90,8 @@ fn rows() -> [Row<'static>; 12] {
     ]
 }
 
-// A stream is judged alike however it is cut into pieces, and no read is to fill more than 4096 bytes.
+// A stream is judged alike however it is cut into pieces,
+// and no read is to fill more than 4096 bytes.
 #[test]
 fn pieces(rt: HostRuntime) -> Result<(), Fail> {
     for step in [1usize, 7, 16, 4096] {

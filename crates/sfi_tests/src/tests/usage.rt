@@ -92,7 +92,8 @@ fn printed_help(alloc: Global, line: &str) -> Result<String, AllocError> {
     }
 }
 
-// Each help says what its command does, how it is called, which options it has, which statuses, and an example.
+// Each help says what its command does, how it is called, which options it has, which statuses,
+// and an example.
 #[test]
 fn help(rt: HostRuntime) -> Result<(), Fail> {
     let alloc = rt.alloc();

@@ -18,8 +18,8 @@ pub record SaysConverted (bytes : List ℕ) (status : ℕ) (text : List ℕ) : T
   pub status_is : status ≡ 0
   pub text_is : text ≡ encode_lower new ++ line_end
 
--- the image has no findings in the first format, and its sandboxes have some in the second: status 1
--- and the line of the first
+-- the image has no findings in the first format, and its sandboxes have some in the second: status
+-- 1 and the line of the first
 pub record SaysStack (bytes : List ℕ) (status : ℕ) (text : List ℕ) : Type 0 where
   pub found : List Finding
   pub refused : HasStackFindings bytes found

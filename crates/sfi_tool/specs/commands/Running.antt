@@ -8,7 +8,8 @@ use Rattle.sfi_tool.specs.commands.Checking.{SaysRefused, IsAcceptedImage, HasSo
 
 -- the image has no findings: status 0 and the lines of a run of its sandboxes, each of which reads
 -- what is given
-pub record SaysRan (rounds quantum : ℕ) (given bytes : List ℕ) (status : ℕ) (text : List ℕ) : Type 0 where
+pub record SaysRan (rounds quantum : ℕ) (given bytes : List ℕ) (status : ℕ)
+    (text : List ℕ) : Type 0 where
   pub parts : List Part
   pub accepted : IsAccepted bytes parts
   pub status_is : status ≡ 0

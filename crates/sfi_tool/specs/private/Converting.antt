@@ -24,7 +24,8 @@ HoldsSome fault = (found : List Finding) → HasFound fault found → found ≢ 
 
 -- the answer on bytes that are not converted for this fault
 abbrev pub AnswersConvertFault : ConvertFault → Result Answer Stop → Type 0
-AnswersConvertFault fault (Ok answer) = (answer.status ≡ 1) × ((found : List Finding) × HasFound fault found × (string_bytes answer.text ≡ refused_line found))
+AnswersConvertFault fault (Ok answer) = (answer.status ≡ 1) × ((found : List Finding)
+    × HasFound fault found × (string_bytes answer.text ≡ refused_line found))
 AnswersConvertFault fault (Err (stop.Input other)) = fault ≡ NotOld
 AnswersConvertFault fault (Err (stop.Layout k)) = fault ≡ Refused (refusal.Layout k)
 AnswersConvertFault fault (Err (stop.Build other)) = ⊥

@@ -16,13 +16,17 @@ use Rattle.sfi_tool.specs.declared.verdict.Answer.{Answer}
 use Rattle.sfi_tool.specs.Says.{HasInputFault}
 use Rattle.sfi_tool.specs.commands.Building.{IsNoSourceText}
 
--- the check of these bytes refuses them so: the fault or the findings are theirs, and no other answer is
+-- the check of these bytes refuses them so: the fault or the findings are theirs,
+-- and no other answer is
 pub record Refuses (bytes : List ℕ) (refusal : Refusal) : Type 0 where
   pub layout : IfLayoutFault (IsFault bytes) refusal
   pub findings : IfFindings (HasFindings bytes) refusal
-  pub only_layout : (k : LayoutFault) → IsFault bytes k → AnswersLayout {A = List Part} k (Err refusal)
-  pub only_findings : (found : List Finding) → HasFindings bytes found → AnswersFindings {A = List Part} found (Err refusal)
-  pub only_accepted : (parts : List Part) → IsAccepted bytes parts → AnswersAccepted parts (Err refusal)
+  pub only_layout :
+      (k : LayoutFault) → IsFault bytes k → AnswersLayout {A = List Part} k (Err refusal)
+  pub only_findings : (found : List Finding) → HasFindings bytes found
+      → AnswersFindings {A = List Part} found (Err refusal)
+  pub only_accepted :
+      (parts : List Part) → IsAccepted bytes parts → AnswersAccepted parts (Err refusal)
 
 -- a refusal stops at a fault of the layout only
 abbrev pub IsRefusalStop : List ℕ → Stop → Type 0
