@@ -1,7 +1,7 @@
 //! One step of a RISC-V machine with RV32IMC.
 //!
 //! [`step`] is the manual's table: `specs/Step.antt` says what a step comes to, as a relation
-//! between states, one line an instruction. It knows nothing of bundles, masks or images.
+//! between states, one equation an instruction. It knows nothing of bundles, masks or images.
 #![tactic(auto)]
 
 mod alu;
