@@ -19,7 +19,7 @@ pub enum RewriteFault {
     /// The code of the sandbox, counted from 0, takes more bytes than a code region of its
     /// format may have, its gates' stubs not counted.
     #[error("TooLarge sandbox {sandbox}")]
-    TooLarge { sandbox: usize },
+    TooLarge { sandbox: u32 },
     /// The instruction on the line, counted from 1, writes the stack pointer, which is to be put
     /// back after it: it is a jal or jalr, or a load on another register. Only a format with a
     /// stack pointer has this fault.
