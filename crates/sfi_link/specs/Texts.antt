@@ -12,8 +12,8 @@ use Rattle.sfi_rewrite.specs.Placement.{Placement}
 use Rattle.sfi_rewrite.specs.Faults.{IsSourceFault}
 use Rattle.sfi_rewrite.specs.Rewriting.{AreRewritten}
 use Rattle.sfi_link.specs.declared.fault.LinkFault.TheVariants as linker
-use Rattle.sfi_build.specs.declared.fault.BuildFault.{BuildFault}
-use Rattle.sfi_build.specs.declared.fault.BuildFault.TheVariants.{Text, Rewrite, Link}
+use Rattle.sfi_link.specs.declared.build_fault.BuildFault.{BuildFault}
+use Rattle.sfi_link.specs.declared.build_fault.BuildFault.TheVariants.{Text, Rewrite, Link}
 use Rattle.sfi_link.specs.Building.{IsLinkedImage}
 use Rattle.sfi_link.specs.Faults.{IsLinkFault}
 

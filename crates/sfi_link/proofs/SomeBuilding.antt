@@ -3,8 +3,8 @@ use Rattle.std.proofs.Common.{inl, inr}
 use Rattle.rv_text.specs.Laws as texts
 use Rattle.sfi_rewrite.specs.Laws as sources
 use Rattle.sfi_link.specs.Laws as links
-use Rattle.sfi_build.specs.declared.fault.BuildFault.TheVariants.{Text, Rewrite, Link}
-use Rattle.sfi_build.specs.Laws.{SomeBuilding}
+use Rattle.sfi_link.specs.declared.build_fault.BuildFault.TheVariants.{Text, Rewrite, Link}
+use Rattle.sfi_link.specs.Laws.{SomeBuilding}
 
 pub some_building : texts.SomeSource → texts.SourcesAreRight → sources.SomeRewriting → sources.RewrittenIsPlaced → links.SomeLinking → SomeBuilding
 some_building read right rewrite placed_right link text =

@@ -1,5 +1,5 @@
-use Rattle.sfi_build.proofs.Building.{only_built, only_fault, is_build, means_built, means_clean, means_fault, build_runs_as}
-use Rattle.sfi_build.proofs.builder.build.Goals as goal
+use Rattle.sfi_link.proofs.Building.{only_built, only_fault, is_build, means_built, means_clean, means_fault, build_runs_as}
+use Rattle.sfi_link.proofs.builder.build.Goals as goal
 
 pub returns-clause-built : goal.returns-clause-built
 returns-clause-built c = means_built _ _ c.build_of.ensures.builds

@@ -3,20 +3,20 @@ ghost use Rattle.std.specs.Prelude.{◌≡◌, ◌⊎◌, ◌<◌, ℕ, List, le
 ghost use Rattle.rv_source.specs.Source.{Sandbox};
 ghost use Rattle.rv_text.specs.Texts.{MeansSource, most_bytes, first_line};
 ghost use Rattle.rv_text.specs.declared.cause.TextCause.TheVariants.{Limit};
-ghost use Rattle.sfi_build.specs.declared.fault.BuildFault.{BuildFault};
-ghost use Rattle.sfi_build.specs.declared.fault.BuildFault.TheVariants.{Text};
+ghost use Rattle.sfi_link.specs.declared.build_fault.BuildFault.{BuildFault};
+ghost use Rattle.sfi_link.specs.declared.build_fault.BuildFault.TheVariants.{Text};
 ghost use Rattle.sfi_link.specs.Building.{IsBuild};
 ghost use Rattle.sfi_link.specs.Standing.{ImageRunsAs};
-ghost use Rattle.sfi_build.specs.Texts.{IsTextBuild, IsCleanImage, IsBuildFault, IsWantOfMemory, AnswersBuild, AnswersBuildFault};
-ghost use Rattle.sfi_build.specs.private.Texts.{Builds};
+ghost use Rattle.sfi_link.specs.Texts.{IsTextBuild, IsCleanImage, IsBuildFault, IsWantOfMemory, AnswersBuild, AnswersBuildFault};
+ghost use Rattle.sfi_link.specs.private.Texts.{Builds};
 
-use crate::fault::BuildFault;
+use crate::build_fault::BuildFault;
+use crate::laws::{linked_runs_as, one_linking};
+use crate::linker::link;
 use rv_text::laws::{
     meant_has_no_fault, one_fault as one_text_fault, one_source, sources_are_right,
 };
 use rv_text::parse_source;
-use sfi_link::laws::{linked_runs_as, one_linking};
-use sfi_link::link;
 use sfi_rewrite::laws::{never_both, one_fault as one_source_fault, one_rewriting};
 use sfi_rewrite::rewrite;
 use std::alloc::Global;

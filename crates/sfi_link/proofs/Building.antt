@@ -12,16 +12,16 @@ use Rattle.sfi_rewrite.specs.Rewriting.{AreRewritten}
 use Rattle.sfi_rewrite.specs.Laws as sources
 use Rattle.sfi_link.specs.declared.fault.LinkFault.{LinkFault}
 use Rattle.sfi_link.specs.declared.fault.LinkFault.TheVariants as linker
-use Rattle.sfi_build.specs.declared.fault.BuildFault.{BuildFault}
-use Rattle.sfi_build.specs.declared.fault.BuildFault.TheVariants.{Text, Rewrite, Link}
+use Rattle.sfi_link.specs.declared.build_fault.BuildFault.{BuildFault}
+use Rattle.sfi_link.specs.declared.build_fault.BuildFault.TheVariants.{Text, Rewrite, Link}
 use Rattle.sfi_link.specs.Building.{IsLinkedImage, ArePlacements, IsBuild}
 use Rattle.sfi_link.specs.Faults.{IsLinkFault}
 use Rattle.sfi_link.specs.Answers as link
 use Rattle.sfi_link.specs.Laws as links
 use Rattle.sfi_link.specs.Standing as links_stand
 use Rattle.sfi_link.specs.Standing.{ImageRunsAs}
-use Rattle.sfi_build.specs.Texts.{IsTextBuild, IsCleanImage, IsBuildFault, IsWantOfMemory, AnswersBuild, AnswersBuildFault}
-use Rattle.sfi_build.specs.private.Texts.{Builds}
+use Rattle.sfi_link.specs.Texts.{IsTextBuild, IsCleanImage, IsBuildFault, IsWantOfMemory, AnswersBuild, AnswersBuildFault}
+use Rattle.sfi_link.specs.private.Texts.{Builds}
 
 -- ---- what each call answered
 
