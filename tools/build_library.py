@@ -3,13 +3,13 @@
 
     tools/build_library.py
 
-`rt ci` proves sfi_c and builds no static library. It leaves the libraries that sfi_c stands on, but without the mark by which `rt lib` would
-take them, so that `rt lib` would prove them once more. This proves sfi_c alone, and builds it as `rt lib` does, by the toolchain's own
-module. Where a library below has the mark, `rt ci` gave back what earlier checks kept, and `rt lib` itself has little to prove: it is called.
+`rt ci` proves sfi_c, but builds no static library. It leaves the libraries that sfi_c stands on without the mark by
+which `rt lib` would take them, so that `rt lib` would prove them once more. This proves sfi_c alone and builds it, as
+`rt lib` does, by the toolchain's own module. Where a library has the mark, `rt ci` gave back what earlier checks kept:
+`rt lib` has little to prove then, and is called.
 """
 import importlib.util
 import os
-import shutil
 import subprocess
 import sys
 
@@ -20,7 +20,8 @@ CRATE = "sfi_c"
 def toolchain():
     """The module that the command rt consists of."""
     sys.dont_write_bytecode = True
-    path = os.path.join(os.path.dirname(os.path.realpath(shutil.which("rt"))), "rtlib.py")
+    page = subprocess.run(["rt", "doc"], capture_output=True, text=True, check=True).stdout.strip()
+    path = os.path.join(os.path.dirname(page), "bin", "rtlib.py")
     spec = importlib.util.spec_from_file_location("rtlib", path)
     module = importlib.util.module_from_spec(spec)
     sys.modules["rtlib"] = module
