@@ -3,10 +3,10 @@
 
     tools/build_library.py
 
-`rt ci` proves sfi_c, but builds no static library. It leaves the libraries that sfi_c stands on without the mark by
-which `rt lib` would take them, so that `rt lib` would prove them once more. This proves sfi_c alone and builds it, as
-`rt lib` does, by the toolchain's own module. Where a library has the mark, `rt ci` gave back what earlier checks kept:
-`rt lib` has little to prove then, and is called.
+`rt ci` proves sfi_c, but builds no static library. It leaves the libraries that sfi_c stands on without the mark
+by which `rt lib` would take them, so that `rt lib` would prove them once more. This proves sfi_c alone and builds
+it, as `rt lib` does, by the toolchain's own module. Where a library has the mark, `rt ci` gave back what earlier
+checks kept: `rt lib` has little to prove then, and is called.
 """
 import importlib.util
 import os

@@ -1,5 +1,5 @@
 #!/usr/bin/env bash
-# Tests of the wrapper ./sfi, in a scratch copy with four crates and a stand-in for the toolchain's command rt. Proves nothing.
+# Tests of the wrapper ./sfi, in a scratch copy with five crates and a stand-in for the toolchain's command rt.
 #
 #     tools/test_sfi.sh
 set -uo pipefail
@@ -27,7 +27,7 @@ skip() { # why, how many tests
     echo "skipped: $1"
 }
 
-# ---- the scratch copy, and an rt that notes each call, waits for a file if one is named, and fails where it is told to
+# ---- the scratch copy, and an rt that notes each call, waits while a file `hold` is there, and fails if `break` is
 make_rt() {
     mkdir -p "$room/bin"
     cat >"$room/bin/rt" <<'RT'
@@ -60,7 +60,8 @@ make_copy() {
     mkdir -p "$copy/examples"
     cp "$top/sfi" "$copy/sfi"
     echo 00 >"$copy/examples/smallest.hex"
-    printf '# the crates\nlow:\nmid: low thiserror\nsfi: mid\nsfi_tests: mid\nffi staticlib: low\n' >"$copy/crates.txt"
+    printf '# the crates\nlow:\nmid: low thiserror\nsfi: mid\n' >"$copy/crates.txt"
+    printf 'sfi_tests: mid\nffi staticlib: low\n' >>"$copy/crates.txt"
     for crate in low mid sfi sfi_tests ffi; do
         mkdir -p "$copy/crates/$crate/src" "$copy/crates/$crate/specs"
         echo >"$copy/crates/$crate/src/lib.rt"
@@ -87,7 +88,8 @@ change() { touch -d "${2:-now}" "$copy/crates/$1"; }
 
 first_build() {
     call "$copy/sfi" check --raw
-    ran check --raw && [ "$(calls)" = 2 ] && says "proving and building the program" && says "mid is proved (2 of 3 crates"
+    ran check --raw && [ "$(calls)" = 2 ] && says "proving and building the program" &&
+        says "mid is proved (2 of 3 crates"
     report $? "the first call builds the program, and runs it" "$found"
     says "waiting for another rt"
     report $? "it tells that rt waits" "$found"
@@ -187,7 +189,8 @@ sfi: the program can't be built: mid failed, as the lines above say; all that rt
 without_rt() {
     local tool
     mkdir -p "$room/tools"
-    for tool in bash env sh readlink dirname awk find cut sort flock mkdir wc grep sed head tail cat tee nproc rm mv; do
+    for tool in bash env sh readlink dirname awk find cut sort flock mkdir wc grep sed head tail cat tee nproc rm mv
+    do
         ln -sf "$(command -v "$tool")" "$room/tools/$tool"
     done
     found=$(PATH=$room/tools "$copy/sfi" check 2>"$room/errors"; echo "$?"; cat "$room/errors")
@@ -198,7 +201,7 @@ where_none_can_be_built() {
     without_rt
     says "program check
 0
-sfi: sources have changed since the program was built, and it can't be built here: the Rattle toolchain isn't there"
+sfi: sources have changed since the program was built, and it can't be built here: the Rattle toolchain isn't"
     report $? "without the toolchain the program that is there is run" "$found"
     mv "$out/sfi" "$room/kept"
     without_rt

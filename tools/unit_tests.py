@@ -1,5 +1,6 @@
 #!/usr/bin/env python3
-"""Runs the unit tests in the files test_*.py of a folder. The last line is `N passed, M failed`, and counts skipped tests if there are some.
+"""Runs the unit tests in the files test_*.py of a folder. The last line is `N passed, M failed`, with `, K skipped`
+if tests are skipped.
 
     tools/unit_tests.py FOLDER
 """
