@@ -111,6 +111,21 @@ warnings=(-O2 -Wall -Wextra -pedantic -Werror -I"$top/crates/sfi_c/include")
 # ---- C, and the header under C++
 compile host.c gcc -std=c99 "${warnings[@]}" "$here/host.c" "$library" "$heap" -o "$room/host"
 run_cases host.c "$room/host"
+for word in -1 "" 2x 8388609 99999999999999999999; do
+    "$room/host" "$word" <"$room/three.image" >"$room/said"
+    found=$?
+    [ "$found" = 6 ] && [ ! -s "$room/said" ]
+    report $? "host.c with room for '$word'" "6, and nothing printed" "$found, $(cat "$room/said")"
+done
+"$room/host" <&- >"$room/said"
+found=$?
+[ "$found" = 5 ] && [ ! -s "$room/said" ]
+report $? "host.c without an image" "5, and nothing printed" "$found, $(cat "$room/said")"
+version() { sed -n "s/.*$1.*\"\([0-9.]*\)\".*/\1/p" "$2"; }
+wanted=$(version "const VERSION" "$top/crates/sfi_command/src/help.rt")
+found=$(version "define SFI_VERSION" "$top/crates/sfi_c/include/sfi.h")
+[ -n "$wanted" ] && [ "$found" = "$wanted" ]
+report $? "the header's version" "$wanted" "$found"
 # each allocation refused in turn: the array of host.c has what it would have, or nothing was written
 compile refuse.so gcc -O2 -shared -fPIC "$top/bench/refuse.c" -o "$room/refuse.so"
 ample=$("$room/host" 9 <"$room/three.image")

@@ -107,9 +107,9 @@ impl<M: Memory> World<M> {
             → IsCutJoint machine G.answer G.may_refuse plan.now (slots_of self.old) gates.old turn
             (slots_of self.new) gates.new }
 
-        // What was done, however the plan ended, are moves of the sandboxes that it names, one
-        // after another in the one memory, and to each sandbox they are a run,
-        // and where it was ready a safe one.
+        // However the plan ended, there are moves of the sandboxes that it names, one after another
+        // in the one memory, that lead here; and to each sandbox they are a run, and where it was
+        // ready a safe one.
         ensures runs { HaveRun plan.now self.old self.new }
 
         // Each sandbox is safe as before, and its data lie outside each other one.

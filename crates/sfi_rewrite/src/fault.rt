@@ -7,7 +7,7 @@ use std::alloc::{AllocError, AllocFailed};
 use thiserror::Error;
 
 /// Why a source isn't rewritten: the first instruction in the order of the text that has a fault,
-/// with the first of its faults, in the order 1, 2, 5, 3.
+/// with the first of its faults by their numbers in the order 1, 2, 5, 3.
 #[derive(Clone, Copy, Debug, PartialEq, Eq, Error)]
 pub enum RewriteFault {
     /// An operand of the instruction on the line, counted from 1, is x24, x25, x26, x27 or x31.

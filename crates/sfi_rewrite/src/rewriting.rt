@@ -81,7 +81,7 @@ fn place_parts(alloc: Global, parts: &[SourcePart]) -> Result<Vec<PlacedPart>, R
 }
 
 /// Places a source: each sandbox's expansions, each at the first place in which it may stand; or
-/// the first fault in the order of the text, the lowest on one instruction.
+/// the first fault in the order of the text, and on one instruction the first by [`RewriteFault`].
 pub fn rewrite(alloc: Global, source: &Source) -> Result<Placed, RewriteFault>
     ensures placed { IfOk result (AreRewritten source.now) }
     ensures transparent { IfOk result (AllZip StandTransparent source.now) }
