@@ -15,7 +15,7 @@ use Rattle.sfi_host.specs.declared.status.Status.{Status}
 use Rattle.sfi_host.specs.declared.status.Status.TheVariants.{Ready, Exited, Trapped}
 use Rattle.sfi_host.specs.Regions.{IsWhole}
 use Rattle.sfi_host.specs.Slots.{Bounds, Slot, bounds_of}
-use Rattle.sfi_host.specs.Hosts.{Reply, Replied}
+use Rattle.sfi_host.specs.Hosts.{Reply}
 use Rattle.sfi_host.specs.Worlds.{Seat, Sandboxes, slot_of, slots_of, state_in, IsSafeSeat, IsSafeWorld, StaysOutside, StaysOutsideData}
 use Rattle.sfi_host.specs.Moves.{IsOwnTurn, StepLeads, Leads, TakesTurn, Move, after_move, IsMove, AreMoves, own_turns, turns_to, IsRunBetween, MovesAreRuns, OthersLeaveSlots}
 use Rattle.sfi_host.specs.Steps.{IsOwnStep, StepsAreOwn}
@@ -49,8 +49,7 @@ module _ (on : GoesOnSafely) (own : StepsAreOwn) where
     is_turn : (turn : Turn) → IsOwnTurn m s turn → (p : Part) → s.bounds ≡ bounds_of p → IsTurn p (state_in m s) turn
     is_turn (Steps r) own p is = own
     is_turn (Replies after) own p is =
-        let reply : Reply = record { way = Replied; a0 = own.a0; a1 = own.a1; bytes = after.memory } in
-        keep.answers_are m s reply after own.size p seat is (keep.stack_lies m s seat p is ready own.size own.asked) own.asked refl own.state own.hart own.bytes.others
+        keep.answers_are m s own.reply after own.size p seat is (keep.stack_lies m s seat p is ready own.size own.asked) own.asked own.goes_on own.state own.hart own.bytes.others
     is_turn (Changes after) own p is = absurd own
 
     -- what stopped it, if that turn did
@@ -73,13 +72,14 @@ module _ (on : GoesOnSafely) (own : StepsAreOwn) where
     turn_stopped (Replies after) answered n t stays leads = subst (λ (x : Status). StoppedItself s.bounds (state_in n t) x) (sym leads.1) tt
     turn_stopped (Changes after) none n t stays leads = absurd none
 
-    pub takes_safe : (turn : Turn) (n : Bytes) (t : Seat) → t.bounds ≡ s.bounds → TakesTurn m s turn n t → IsSafeSeat n t
-    takes_safe turn n t same takes =
+    pub takes_safe : (turn : Turn) (n : Bytes) (t : Seat) → (i : ℕ) (replies : List Reply) → t.bounds ≡ s.bounds → TakesTurn i m s turn replies n t → IsSafeSeat n t
+    takes_safe turn n t i replies same takes =
         let keeps : KeepsBytes seat.part m n = keep.own_kept m s seat seat.part seat.bounds n takes.bytes.others in
         record {
           part = seat.part;
           bounds = same ∙ seat.bounds;
           right = seat.right;
+          state = takes.state;
           apart = seat.apart;
           code = keep.code_stays seat.part m n keeps seat.code;
           guards = λ a guard. keeps.guards a guard (seat.guards a guard);
@@ -99,7 +99,7 @@ module _ (on : GoesOnSafely) (own : StepsAreOwn) where
 
     pub move_safe : IsSafeWorld (after_move w v)
     move_safe = world_safe w.bytes v.bytes w.seats v.number move.seat v.seat world move.there others_stay on
-        (takes_safe w.bytes move.seat here move.ready v.turn v.bytes v.seat move.bounds move.takes) move.bounds
+        (takes_safe w.bytes move.seat here move.ready v.turn v.bytes v.seat v.number v.replies move.bounds move.takes) move.bounds
 
     pub turn_is : (p : Part) → move.seat.bounds ≡ bounds_of p → IsTurn p (state_in w.bytes move.seat) v.turn
     turn_is p is = is_turn w.bytes move.seat here move.ready v.turn move.takes.own p is

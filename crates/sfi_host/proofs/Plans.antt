@@ -7,10 +7,9 @@ use Rattle.sfi_host.specs.Hosts.{Call, Answer, Host, Limited, limited}
 use Rattle.sfi_host.specs.Slots.{Slot}
 use Rattle.sfi_host.specs.declared.turn.StepResult.{StepResult}
 use Rattle.sfi_host.specs.declared.turn.StepResult.TheVariants.{Continue, TurnEnds, RunEnds}
-use Rattle.sfi_host.specs.Joint.{Machine, IsMachine, Moved, turned, Joined, joined, given, and_plan, turn_and, after_turn}
+use Rattle.sfi_host.specs.Joint.{Machine, Moved, turned, Joined, joined, given, and_plan, turn_and, after_turn}
 use Rattle.sfi_host.specs.Plans.{IsJoint, IsCutJoint}
 use Rattle.sfi_host.specs.private.Limits.{allow, allows, with_left, Comes, IsTurnOf, IsCutTurnOf, SamePlan, IsPlanOnItsWay, IsPlanStep, IsPlanCut}
-use Rattle.sfi_host.specs.Worlds.{Sandboxes, slots_of, IsSafeWorld}
 use Rattle.sfi_host.proofs.Turning.{allows_both}
 
 -- ---- limits
@@ -25,7 +24,7 @@ some_limit (suc k) = let x = some_limit k in (suc x.0, ap allow x.1)
 
 -- ---- one turn
 
-joined_cons : {S : Type 0} (machine : Machine) (host : Host S) (t : Turn) (rest : List Turn) (slots : List Slot) (s : S) (found : Option Slot) → slice_get slots t.sandbox ≡ found
+pub joined_cons : {S : Type 0} (machine : Machine) (host : Host S) (t : Turn) (rest : List Turn) (slots : List Slot) (s : S) (found : Option Slot) → slice_get slots t.sandbox ≡ found
     → joined machine host (t ∷ rest) slots s ≡ turn_and machine host t slots s found (joined machine host rest)
 unfolding joined
 joined_cons machine host t rest slots s found e = ap (λ (o : Option Slot). turn_and machine host t slots s o (joined machine host rest)) e
@@ -163,11 +162,6 @@ module _ {S : Type 0} (machine : Machine) (answer : S → Call → Answer S) whe
         }
 
 -- ---- the loop
-
--- so many turns are taken: the world is safe, and on the plan's way
-pub record InPlan {S : Type 0} (answer : S → Call → Answer S) (plan : List Turn) (old : List Slot) (before : S) (done : ℕ) (now : Sandboxes) (host : S) : Type 0 where
-  pub safe : IsSafeWorld now
-  pub way : (machine : Machine) → IsMachine machine → IsPlanOnItsWay machine answer plan old before done (drop done plan) (slots_of now) host
 
 pub run_goes_on : (r : StepResult) → (r ≡ Continue) ⊎ (r ≡ TurnEnds) → r ≢ RunEnds
 run_goes_on r (inl f) e = let z : Continue ≡ RunEnds = sym f ∙ e in cc

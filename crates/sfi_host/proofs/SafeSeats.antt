@@ -17,7 +17,7 @@ use Rattle.sfi_host.specs.Regions.{IsWhole}
 use Rattle.sfi_host.specs.Slots.{Bounds, bounds_of}
 use Rattle.sfi_host.specs.Arguments.{a0_register, a1_register}
 use Rattle.sfi_host.specs.Hosts.{Way, Replied, Yield, Exit}
-use Rattle.sfi_host.specs.Joint.{with_arguments, after_way, status_after}
+use Rattle.sfi_host.specs.Joint.{word, with_arguments, after_way, status_after}
 use Rattle.sfi_host.specs.Laws.{CallsHaveStack, AnswersAreReplies}
 use Rattle.sfi_host.specs.Stops.{StoppedItself}
 use Rattle.sfi_host.specs.Worlds.{Seat, state_in, IsSafeSeat, StaysOutside}
@@ -98,11 +98,12 @@ module _ (m : Bytes) (s : Seat) (seat : IsSafeSeat m s) where
 
   -- ---- a change by others
 
-  pub changed : GoesOnSafely → (n : Bytes) → KeepsBytes seat.part m n → IsWhole s.bounds.data n → IsSafeSeat n s
-  changed on n keeps whole = record {
+  pub changed : GoesOnSafely → (n : Bytes) → IsMemory n → KeepsBytes seat.part m n → IsWhole s.bounds.data n → IsSafeSeat n s
+  changed on n memory keeps whole = record {
     part = seat.part;
     bounds = seat.bounds;
     right = seat.right;
+    state = record { hart = seat.state.hart; memory = memory };
     apart = seat.apart;
     code = code_stays seat.part m n keeps seat.code;
     guards = λ a guard. keeps.guards a guard (seat.guards a guard);
@@ -116,8 +117,8 @@ module _ (m : Bytes) (s : Seat) (seat : IsSafeSeat m s) where
       in_part a inside = subst (λ (b : Bounds). Holds b.code a) seat.bounds inside
 
   -- the same, where all but its own data is left
-  pub own_changed : GoesOnSafely → (n : Bytes) → StaysOutside s.bounds.data m n → IsWhole s.bounds.data n → IsSafeSeat n s
-  own_changed on n stays whole = changed on n (own_kept seat.part seat.bounds n stays) whole
+  pub own_changed : GoesOnSafely → (n : Bytes) → IsMemory n → StaysOutside s.bounds.data m n → IsWhole s.bounds.data n → IsSafeSeat n s
+  own_changed on n memory stays whole = changed on n memory (own_kept seat.part seat.bounds n stays) whole
 
   -- ---- after a reply
 
@@ -129,6 +130,7 @@ module _ (m : Bytes) (s : Seat) (seat : IsSafeSeat m s) where
     part = seat.part;
     bounds = seat.bounds;
     right = seat.right;
+    state = record { hart = hart; memory = memory };
     apart = seat.apart;
     code = code_stays seat.part m n (own_kept seat.part seat.bounds n stays) seat.code;
     guards = λ a guard. (own_kept seat.part seat.bounds n stays).guards a guard (seat.guards a guard);
@@ -143,11 +145,12 @@ module _ (m : Bytes) (s : Seat) (seat : IsSafeSeat m s) where
   code_same n stays a inside = (own_kept seat.part seat.bounds n stays).code a (subst (λ (b : Bounds). Holds b.code a) seat.bounds inside)
 
   -- one that has stopped itself is safe, whatever its registers hold
-  pub halted : (n : Bytes) (t : Seat) → t.bounds ≡ s.bounds → t.status ≢ Ready → StoppedItself s.bounds (state_in n t) t.status → StaysOutside s.bounds.data m n → IsWhole s.bounds.data n → IsSafeSeat n t
-  halted n t same not_ready stopped stays whole = record {
+  pub halted : (n : Bytes) (t : Seat) → IsState (state_in n t) → t.bounds ≡ s.bounds → t.status ≢ Ready → StoppedItself s.bounds (state_in n t) t.status → StaysOutside s.bounds.data m n → IsWhole s.bounds.data n → IsSafeSeat n t
+  halted n t state same not_ready stopped stays whole = record {
     part = seat.part;
     bounds = same ∙ seat.bounds;
     right = seat.right;
+    state = state;
     apart = seat.apart;
     code = code_stays seat.part m n (own_kept seat.part seat.bounds n stays) seat.code;
     guards = λ a guard. (own_kept seat.part seat.bounds n stays).guards a guard (seat.guards a guard);
@@ -191,9 +194,9 @@ way_pc (Exit n) h a0 a1 goes_on = absurd (cc)
 pub answers_are : AnswersAreReplies
 answers_are m s r after size p seat is stack stands goes_on state hart stays =
     is_reply m s seat p is size stands after.memory after.hart stays state
-    (ap (λ (h : Hart). h.pc) hart ∙ way_pc r.way s.hart r.a0 r.a1 goes_on)
-    (subst (λ (h : Hart). KeepsReserved s.hart h) (sym hart) (way_keeps r.way s.hart r.a0 r.a1 goes_on))
-    (stack_kept m s seat p is stack after.hart (ap (λ (h : Hart). slice_index h.registers 2) hart ∙ way_stack r.way s.hart r.a0 r.a1 goes_on))
+    (ap (λ (h : Hart). h.pc) hart ∙ way_pc r.way s.hart (word r.a0) (word r.a1) goes_on)
+    (subst (λ (h : Hart). KeepsReserved s.hart h) (sym hart) (way_keeps r.way s.hart (word r.a0) (word r.a1) goes_on))
+    (stack_kept m s seat p is stack after.hart (ap (λ (h : Hart). slice_index h.registers 2) hart ∙ way_stack r.way s.hart (word r.a0) (word r.a1) goes_on))
 
 pub calls_have : CallsHaveStack
 calls_have m s size p seat is ready stands = stack_lies m s seat p is ready size stands

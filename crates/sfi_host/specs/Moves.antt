@@ -1,12 +1,12 @@
 -- What the sandboxes of a world do in the one memory, one move after another,
 -- and what that is to each of them.
-use Rattle.std.specs.Prelude.{◌≡◌, ◌≢◌, ℕ, ◌==◌, cond, List, [], ◌∷◌, Some, slice_get, slice_set}
+use Rattle.std.specs.Prelude.{◌≡◌, ◌≢◌, ℕ, ◌==◌, cond, List, [], ◌∷◌, ◌++◌, Option, Some, slice_get, slice_set}
 use Rattle.std.specs.List.{All}
 use Rattle.rv_word.specs.declared.instr.Instr.TheVariants.{Ecall}
 use Rattle.rv_mem.specs.Bytes.{Bytes}
 use Rattle.rv_step.specs.declared.outcome.Outcome.{Outcome}
-use Rattle.rv_step.specs.declared.outcome.Outcome.TheVariants.{Next, Call, Trap}
-use Rattle.rv_step.specs.State.{State, IsState, past}
+use Rattle.rv_step.specs.declared.outcome.Outcome.TheVariants as outcome
+use Rattle.rv_step.specs.State.{State, IsState}
 use Rattle.rv_step.specs.Step.{Stands, IsStep}
 use Rattle.sfi_image.specs.Spelling.{Part}
 use Rattle.sfi_check.specs.Regions.{HasCode}
@@ -16,10 +16,11 @@ use Rattle.sfi_check.specs.Stack.{after_turns}
 use Rattle.sfi_host.specs.declared.status.Status.{Status}
 use Rattle.sfi_host.specs.declared.status.Status.TheVariants.{Ready, Exited, Trapped}
 use Rattle.sfi_host.specs.declared.turn.Turn.{Turn as PlanTurn}
+use Rattle.sfi_host.specs.Hosts.{Call, Reply, Answer, Host, replay}
 use Rattle.sfi_host.specs.Regions.{IsWhole}
-use Rattle.sfi_host.specs.Slots.{bounds_of}
-use Rattle.sfi_host.specs.Joint.{with_arguments}
-use Rattle.sfi_host.specs.Worlds.{Seat, Sandboxes, slots_of, state_in, IsSafeWorld, StaysOutside, StaysOutsideData}
+use Rattle.sfi_host.specs.Slots.{Slot, bounds_of}
+use Rattle.sfi_host.specs.Joint.{Machine, IsMachine, status_after, replied, moved, Given, given, Joined, joined, joint}
+use Rattle.sfi_host.specs.Worlds.{Seat, Sandboxes, slot_of, slots_of, state_in, IsSafeWorld, StaysOutside, StaysOutsideData}
 
 -- ---- what a ready sandbox does
 
@@ -28,14 +29,14 @@ pub record ChangesOwn (s : Seat) (old new : Bytes) : Type 0 where
   pub others : StaysOutside s.bounds.data old new
   pub whole : IsWhole s.bounds.data new
 
--- it stands at an ecall, and goes on after it with a host's a0 and a1
+-- it stands at an ecall, and goes on after it with a host's reply
 pub record GetsReply (m : Bytes) (s : Seat) (after : State) : Type 0 where
   pub size : ℕ
   pub asked : Stands (state_in m s) Ecall size
-  pub a0 : ℕ
-  pub a1 : ℕ
+  pub reply : Reply
+  pub goes_on : status_after reply.way ≡ Ready
   pub state : IsState after
-  pub hart : after.hart ≡ past (with_arguments s.hart a0 a1) 4
+  pub hart : after.hart ≡ (replied (slot_of m s) reply).hart
   pub bytes : ChangesOwn s m after.memory
 
 -- a turn of its own is a step of the machine, in the one memory, or a host's reply
@@ -48,9 +49,9 @@ IsOwnTurn m s (Changes after) = ⊥
 -- the state after it, which is the one before, if it traps; and a call to its own pc, exited: a
 -- call that goes on is a reply, and no step.
 abbrev pub StepLeads : Outcome → State → State → Status → Type 0
-StepLeads Next after now status = (now ≡ after) × (status ≡ Ready)
-StepLeads (Trap cause at) after now status = (now ≡ after) × (status ≡ Trapped cause at)
-StepLeads Call after now status =
+StepLeads outcome.Next after now status = (now ≡ after) × (status ≡ Ready)
+StepLeads (outcome.Trap cause at) after now status = (now ≡ after) × (status ≡ Trapped cause at)
+StepLeads outcome.Call after now status =
     (now.hart.pc ≡ after.hart.pc) × (code : ℕ) × (status ≡ Exited code)
 
 -- a reply leads to the state after it, ready
@@ -59,18 +60,32 @@ Leads (Steps r) now status = StepLeads r.outcome r.state now status
 Leads (Replies after) now status = (now ≡ after) × (status ≡ Ready)
 Leads (Changes after) now status = ⊥
 
--- it takes a turn that leads to the seat t in the memory n, and changes its own data alone
-pub record TakesTurn (m : Bytes) (s : Seat) (turn : Turn) (n : Bytes) (t : Seat) : Type 0 where
+-- alone it takes one step of the joint run to the slot t, and gets these replies in it, one or none
+pub record StepsAlone (machine : Machine) (i : ℕ) (s : Slot) (replies : List Reply)
+    (t : Slot) : Type 0 where
+  pub slot : (moved machine replay i s replies).slot ≡ t
+  pub got : (moved machine replay i s replies).replies ≡ replies
+
+-- The sandbox of that number takes a turn that leads to the seat t in the memory n, and changes its
+-- own data alone. It is one step of the joint run: that says what becomes of its pc, registers,
+-- status, count and bytes.
+pub record TakesTurn (i : ℕ) (m : Bytes) (s : Seat) (turn : Turn) (replies : List Reply) (n : Bytes)
+    (t : Seat) : Type 0 where
   pub own : IsOwnTurn m s turn
   pub leads : Leads turn (state_in n t) t.status
   pub bytes : ChangesOwn s m n
+  pub state : IsState (state_in n t)
+  pub alone : (machine : Machine) → IsMachine machine
+      → StepsAlone machine i (slot_of m s) replies (slot_of n t)
 
 -- ---- moves
 
--- which sandbox moves, its turn, and the memory and its seat after the move
+-- which sandbox moves, its turn, the reply that it got in it, if it did, and the memory and its seat
+-- after the move
 pub record Move : Type 0 where
   pub number : ℕ
   pub turn : Turn
+  pub replies : List Reply
   pub bytes : Bytes
   pub seat : Seat
 
@@ -84,7 +99,7 @@ pub record IsMove (w : Sandboxes) (v : Move) : Type 0 where
   pub there : slice_get w.seats v.number ≡ Some seat
   pub ready : seat.status ≡ Ready
   pub bounds : v.seat.bounds ≡ seat.bounds
-  pub takes : TakesTurn w.bytes seat v.turn v.bytes v.seat
+  pub takes : TakesTurn v.number w.bytes seat v.turn v.replies v.bytes v.seat
 
 -- moves of any sandboxes, one after another, lead from the first world to the second
 abbrev pub AreMoves : Sandboxes → List Move → Sandboxes → Type 0
@@ -150,13 +165,42 @@ pub record IsNamed (plan : List PlanTurn) (number : ℕ) : Type 0 where
   pub there : slice_get plan place ≡ Some turn
   pub names : turn.sandbox ≡ number
 
--- moves of sandboxes that the plan names lead from the first world to the second
-pub record HaveMoved (plan : List PlanTurn) (w n : Sandboxes) : Type 0 where
+-- the replies that were got in the moves, and who got them
+abbrev pub given_in : List Move → List Given
+given_in [] = []
+given_in (v ∷ moves) = given v.number v.replies ++ given_in moves
+
+-- Moves of sandboxes that the plan names lead from the first world to the second. They come to this
+-- joint run: to its slots, with its replies in their order; and to each sandbox they are a run.
+pub record HaveRun {S : Type 0} (plan : List PlanTurn) (w n : Sandboxes)
+    (all : Joined S) : Type 0 where
   pub moves : List Move
   pub named : All (λ (v : Move). IsNamed plan v.number) moves
   pub lead : AreMoves w moves n
+  pub slots : slots_of n ≡ all.slots
+  pub replies : given_in moves ≡ all.replies
+  pub runs : AreRuns w n moves
 
--- and to each sandbox these are a run
-pub record HaveRun (plan : List PlanTurn) (w n : Sandboxes) : Type 0 where
-  pub moved : HaveMoved plan w n
-  pub runs : AreRuns w n moved.moves
+-- ---- the joint run of a safe world
+
+-- What the joint run does from a safe world, with any host, is a list of moves in the one memory.
+abbrev pub JoinedMoves : Type 0 → Type 0
+JoinedMoves S =
+    (machine : Machine) (host : Host S) (plan : List PlanTurn) (w : Sandboxes) (s : S)
+    → IsMachine machine → IsSafeWorld w
+    → (n : Sandboxes) × HaveRun plan w n (joined machine host plan (slots_of w) s)
+
+-- and with a host that answers so many calls, or each call
+abbrev pub JointMoves : Type 0 → Type 0
+JointMoves S =
+    (machine : Machine) (answer : S → Call → Answer S) (plan : List PlanTurn) (w : Sandboxes) (s : S)
+    → (limit : Option ℕ) → IsMachine machine → IsSafeWorld w
+    → (n : Sandboxes) × HaveRun plan w n (joint machine answer plan (slots_of w) s limit)
+
+-- Between two worlds there are such moves: those of the joint run in which so many calls are
+-- answered, or each call.
+abbrev pub HaveRunJointly :
+    {S : Type 0} → (S → Call → Answer S) → List PlanTurn → Sandboxes → S → Sandboxes → Type 0
+HaveRunJointly answer plan w s n =
+    (machine : Machine) → IsMachine machine
+    → (limit : Option ℕ) × HaveRun plan w n (joint machine answer plan (slots_of w) s limit)

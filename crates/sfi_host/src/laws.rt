@@ -1,7 +1,7 @@
 //! What holds of the definitions and of every run. A call costs nothing.
 ghost use Rattle.sfi_host.specs.Following.{JoinedFollows, JointFollows, PlansFollow, CutFollows};
 ghost use Rattle.sfi_host.specs.Laws.{SomeMachine, OneMachine, NeighboursAreChanges, CallsHaveStack, AnswersAreReplies};
-ghost use Rattle.sfi_host.specs.Moves.{MovesAreRuns, OthersLeaveSlots};
+ghost use Rattle.sfi_host.specs.Moves.{JoinedMoves, JointMoves, MovesAreRuns, OthersLeaveSlots};
 ghost use Rattle.sfi_host.specs.Solo.{JointIsSolo};
 ghost use Rattle.sfi_host.specs.Steps.{StepsAreOwn};
 
@@ -53,6 +53,7 @@ pub fn steps_are_own()
     rv_step::laws::agreeing_steps_are_same();
     rv_step::laws::other_bytes_stay();
     rv_step::laws::stopped_stays();
+    rv_step::laws::step_keeps_state();
     rv_step::laws::no_byte_goes();
     rv_step::laws::calls_are_ecalls();
     rv_step::laws::step_is_effect();
@@ -95,5 +96,20 @@ pub fn others_leave_slots()
     ensures { OthersLeaveSlots }
 {
     steps_are_own();
+    sfi_check::laws::goes_on_safely();
+}
+
+/// What the joint run does from a safe world is a list of moves in the one memory: step by step and
+/// reply by reply, with the same slots. To each sandbox these moves are a run, and where it was
+/// ready a safe one. `S` is a host's state.
+pub fn joined_moves<S>()
+    // With any host.
+    ensures any_host { JoinedMoves S }
+
+    // With a host that answers so many calls, or each call.
+    ensures limited { JointMoves S }
+{
+    steps_are_own();
+    rv_step::laws::step_keeps_state();
     sfi_check::laws::goes_on_safely();
 }

@@ -1,13 +1,12 @@
 //! A plan of turns.
-ghost use Rattle.std.specs.Prelude.{◌≡◌, ◌≢◌, ◌∷◌, ◌<◌, [], length, ℕ};
+ghost use Rattle.std.specs.Prelude.{◌≡◌, ◌≢◌, ◌<◌, length, ℕ};
 ghost use Rattle.sfi_host.specs.Joint.{Machine, IsMachine};
 ghost use Rattle.sfi_host.specs.private.Limits.{IsPlanStep, IsPlanCut};
-ghost use Rattle.sfi_host.specs.Moves.{HaveMoved};
 ghost use Rattle.sfi_host.specs.Programs.{AreDecoded};
 ghost use Rattle.sfi_host.specs.Plans.{IsJoint, IsCutJoint};
 ghost use Rattle.sfi_host.specs.Sandboxes.{world_of};
-ghost use Rattle.sfi_host.specs.private.Sandboxes.{slots_in};
-ghost use Rattle.sfi_host.specs.Worlds.{IsSafeWorld};
+ghost use Rattle.sfi_host.specs.private.Sandboxes.{bounds_in, slots_in};
+ghost use Rattle.sfi_host.specs.Worlds.{IsSafeWorld, StaysOutsideData};
 
 use crate::gates::Gates;
 use crate::program::Program;
@@ -30,8 +29,10 @@ fn take_turn<M: Memory, G: Gates>(
     requires decoded { AreDecoded (world_of (M.bytes memory.old) sandboxes.old) programs.now }
     ensures safe { IsSafeWorld (world_of (M.bytes memory.new) sandboxes.new) }
     ensures decoded { AreDecoded (world_of (M.bytes memory.new) sandboxes.new) programs.now }
-    ensures moves { HaveMoved (turn ∷ []) (world_of (M.bytes memory.old) sandboxes.old)
-        (world_of (M.bytes memory.new) sandboxes.new) }
+    ensures bounds { bounds_in (world_of (M.bytes memory.new) sandboxes.new)
+        ≡ bounds_in (world_of (M.bytes memory.old) sandboxes.old) }
+    ensures outside { StaysOutsideData (world_of (M.bytes memory.old) sandboxes.old)
+        (M.bytes memory.new) }
     ensures whole { result ≢ StepResult.RunEnds → (machine : Machine) → IsMachine machine
         → IsPlanStep machine G.answer turn (slots_in (M.bytes memory.old) sandboxes.old) gates.old
         (slots_in (M.bytes memory.new) sandboxes.new) gates.new }
@@ -70,8 +71,10 @@ pub fn take_turns<M: Memory, G: Gates>(
     requires decoded { AreDecoded (world_of (M.bytes memory.old) sandboxes.old) programs.now }
     ensures safe { IsSafeWorld (world_of (M.bytes memory.new) sandboxes.new) }
     ensures decoded { AreDecoded (world_of (M.bytes memory.new) sandboxes.new) programs.now }
-    ensures moves { HaveMoved plan.now (world_of (M.bytes memory.old) sandboxes.old)
-        (world_of (M.bytes memory.new) sandboxes.new) }
+    ensures bounds { bounds_in (world_of (M.bytes memory.new) sandboxes.new)
+        ≡ bounds_in (world_of (M.bytes memory.old) sandboxes.old) }
+    ensures outside { StaysOutsideData (world_of (M.bytes memory.old) sandboxes.old)
+        (M.bytes memory.new) }
     ensures done { result ≡ RunAnswer.Done → (machine : Machine) → IsMachine machine
         → IsJoint machine G.answer plan.now (slots_in (M.bytes memory.old) sandboxes.old) gates.old
         (slots_in (M.bytes memory.new) sandboxes.new) gates.new }

@@ -4,7 +4,7 @@ ghost use Rattle.std.specs.FinMap.{empty};
 ghost use Rattle.std.specs.Option.{option_map};
 ghost use Rattle.sfi_image.specs.Spans.{Holds};
 ghost use Rattle.sfi_host.specs.Joint.{Machine, IsMachine};
-ghost use Rattle.sfi_host.specs.Moves.{HaveRun};
+ghost use Rattle.sfi_host.specs.Moves.{HaveRunJointly};
 ghost use Rattle.sfi_host.specs.Plans.{IsJoint, IsCutJoint};
 ghost use Rattle.sfi_host.specs.Reading.{hart_at, data_region_at};
 ghost use Rattle.sfi_host.specs.Regions.{span_of};
@@ -13,7 +13,7 @@ ghost use Rattle.sfi_host.specs.Loading.{first_seat, with_parts, AreEntered, Hav
 ghost use Rattle.sfi_host.specs.Worlds.{slots_of, status_at, steps_at, data_byte_of, HaveStoppedThemselves, IsSafeWorld, StaysOutsideData};
 
 use crate::gates::Gates;
-use crate::laws::moves_are_runs;
+use crate::laws::joined_moves;
 use crate::loading::load_parts;
 use crate::plan::take_turns;
 use crate::program::{Program, decode_all};
@@ -107,10 +107,10 @@ impl<M: Memory> World<M> {
             → IsCutJoint machine G.answer G.may_refuse plan.now (slots_of self.old) gates.old turn
             (slots_of self.new) gates.new }
 
-        // What was done, however the plan ended, are moves of the sandboxes that it names, one
-        // after another in the one memory, and to each sandbox they are a run,
-        // and where it was ready a safe one.
-        ensures runs { HaveRun plan.now self.old self.new }
+        // What was done, however the plan ended, is the joint run with some limit, and that is
+        // moves of the sandboxes that the plan names, one after another in the one memory, with
+        // its replies; to each sandbox they are a run, and where it was ready a safe one.
+        ensures runs { HaveRunJointly G.answer plan.now self.old gates.old self.new }
 
         // Each sandbox is safe as before, and its data lie outside each other one.
         ensures safe { IsSafeWorld self.new }
@@ -127,7 +127,7 @@ impl<M: Memory> World<M> {
         ensures place { (turn : ℕ) → result ≡ RunAnswer.Memory turn → turn < length plan.now }
     {
         // The law that the contract rests on: this call does nothing.
-        moves_are_runs();
+        joined_moves::<G>();
 
         take_turns(
             &mut self.memory,

@@ -1,17 +1,16 @@
-use Rattle.std.proofs.Common.{arith, length, ◌<◌, ◌≡◌, List, [], ◌∷◌, get_or, set, Some, slice_get, sym, ap, ◌∙◌, subst}
+use Rattle.std.proofs.Common.{arith, length, ◌<◌, ◌≡◌, List, get_or, map, set, Some, slice_get, sym, ap, ◌∙◌, subst}
 use Rattle.std.proofs.lemmas.List.{map-set, length-map}
 use Rattle.std.proofs.lemmas.Option.{slice_get-get_or, slice_get_past}
 use Rattle.sfi_host.specs.Slots.{Slot}
 use Rattle.sfi_host.specs.private.Limits.{IsPlanStep, IsPlanCut}
-use Rattle.sfi_host.specs.Moves.{HaveMoved}
 use Rattle.sfi_host.specs.Sandboxes.{seat_of, seats_of, world_of}
 use Rattle.sfi_host.specs.Worlds.{Seat, slot_of, slots_of, IsSafeWorld}
 use Rattle.sfi_host.proofs.Asked.{slot_at, no_slot, seat_at}
 use Rattle.sfi_host.specs.Programs.{AreDecoded}
 use Rattle.sfi_host.proofs.Decoding.{are_decoded}
-use Rattle.sfi_host.proofs.Moved.{none_moved}
 use Rattle.sfi_host.proofs.Plans.{none_turn, one_turn, cut_turn}
 use Rattle.sfi_host.proofs.Neighbours.{get_set_same, slots_are, world_safe}
+use Rattle.sfi_host.proofs.SameWorld.{same_bounds}
 use Rattle.sfi_host.proofs.plan.take_turn.Goals as goal
 
 pub run_turn-requires-clause-safe : goal.run_turn-requires-clause-safe
@@ -98,16 +97,18 @@ returns-clause-decoded g c =
     subst (λ (l : List Seat). AreDecoded (record { bytes = n; seats = l }) c.args.programs.now) (sym (map-set seat_of items i new))
     (are_decoded c.read_is_held.ensures m n (seats_of items) i (seat_of (get_or items i x)) (seat_of new) c.requires.safe at c.run_turn.ensures.others c.run_turn.ensures.bounds c.args.programs.now c.requires.decoded)
 
-pub returns-then-place-sandboxes-clause-moves : goal.returns-then-place-sandboxes-clause-moves
-returns-then-place-sandboxes-clause-moves g c = none_moved (c.args.turn ∷ []) (world_of (g.M.Memory.bytes c.args.memory.now) c.args.sandboxes.now)
-
-pub returns-clause-moves : goal.returns-clause-moves
-returns-clause-moves g c =
+pub returns-clause-bounds : goal.returns-clause-bounds
+returns-clause-bounds g c =
     let items = c.args.sandboxes.now in
     let i = c.args.turn.sandbox in
     let x = c.index-sandboxes-place.result in
-    let m = g.M.Memory.bytes c.args.memory.now in
-    let n = g.M.Memory.bytes c.run_turn.new.memory in
     let at : slice_get (seats_of items) i ≡ Some (seat_of (get_or items i x)) = seat_at items i (get_or items i x) (slice_get-get_or items i x c.if-place-sandboxes.false) in
-    subst (λ (l : List Seat). HaveMoved (c.args.turn ∷ []) (world_of m items) (record { bytes = n; seats = l })) (sym (map-set seat_of items i c.run_turn.new.sandbox))
-    (c.run_turn.ensures.moves (seats_of items) at)
+    ap (λ (l : List Seat). map (λ (s : Seat). s.bounds) l) (map-set seat_of items i c.run_turn.new.sandbox)
+    ∙ same_bounds (seats_of items) i (seat_of (get_or items i x)) (seat_of c.run_turn.new.sandbox) at c.run_turn.ensures.bounds
+
+pub returns-clause-outside : goal.returns-clause-outside
+returns-clause-outside g c a out =
+    let items = c.args.sandboxes.now in
+    let i = c.args.turn.sandbox in
+    let x = c.index-sandboxes-place.result in
+    c.run_turn.ensures.others a (out i (seat_of (get_or items i x)) (seat_at items i (get_or items i x) (slice_get-get_or items i x c.if-place-sandboxes.false)))

@@ -1,10 +1,12 @@
-use Rattle.std.proofs.Common.{rules, List, sym, subst}
+use Rattle.std.proofs.Common.{rules, ◌≡◌, ◌∙◌, List, ap, sym, subst}
 use Rattle.std.proofs.lemmas.List.{with_items_is}
 use Rattle.sfi_host.specs.declared.sandbox.Sandbox.{Sandbox}
-use Rattle.sfi_host.specs.Moves.{HaveMoved, HaveRun}
+use Rattle.sfi_host.specs.Moves.{HaveRunJointly}
+use Rattle.sfi_host.specs.Plans.{IsJoint, IsCutJoint}
 use Rattle.sfi_host.specs.Sandboxes.{world_of}
-use Rattle.sfi_host.specs.Worlds.{HaveStoppedThemselves}
-use Rattle.sfi_host.proofs.Moved.{plan_runs}
+use Rattle.sfi_host.specs.private.Sandboxes.{bounds_in}
+use Rattle.sfi_host.specs.Worlds.{Sandboxes, slots_of, HaveStoppedThemselves, StaysOutsideData}
+use Rattle.sfi_host.proofs.SameWorld.{world_runs, limit_of}
 use Rattle.sfi_host.proofs.Stops.{have_stopped}
 use Rattle.sfi_host.proofs.world.World.run_plan.Goals as goal
 
@@ -13,19 +15,17 @@ returns-clause-runs g c =
     let m = g.M.Memory.bytes c.self.inside.memory in
     let n = g.M.Memory.bytes c.take_turns.new.memory in
     let new = c.take_turns.new.sandboxes in
-    subst (λ (l : List Sandbox). HaveRun c.args.plan.now c.args.self.now (world_of n l)) (sym (with_items_is c.self.inside.sandboxes new (search rules)))
-    (plan_runs c.moves_are_runs.ensures c.args.plan.now (world_of m c.self.inside.sandboxes.items) c.args.self.now (world_of n new) c.self.view_is c.self.invariant.0
-    (subst (λ (l : List Sandbox). HaveMoved c.args.plan.now (world_of m l) (world_of n new)) c.deref_mut.ensures.value c.take_turns.ensures.moves))
-
-pub returns-clause-outside : goal.returns-clause-outside
-returns-clause-outside g c =
-    let m = g.M.Memory.bytes c.self.inside.memory in
-    let n = g.M.Memory.bytes c.take_turns.new.memory in
-    let new = c.take_turns.new.sandboxes in
-    let ran : HaveRun c.args.plan.now c.args.self.now (world_of n new) =
-    plan_runs c.moves_are_runs.ensures c.args.plan.now (world_of m c.self.inside.sandboxes.items) c.args.self.now (world_of n new) c.self.view_is c.self.invariant.0
-    (subst (λ (l : List Sandbox). HaveMoved c.args.plan.now (world_of m l) (world_of n new)) c.deref_mut.ensures.value c.take_turns.ensures.moves) in
-    ran.runs.outside
+    let same = ap (λ (l : List Sandbox). world_of m l) c.deref_mut.ensures.value ∙ c.self.view_is in
+    subst (λ (l : List Sandbox). HaveRunJointly g.G.Gates.answer c.args.plan.now c.args.self.now c.args.gates.now (world_of n l)) (sym (with_items_is c.self.inside.sandboxes new (search rules)))
+    (λ machine is.
+    let end = limit_of machine g.G.Gates.answer g.G.Gates.may_refuse c.args.plan.now (slots_of c.args.self.now) c.args.gates.now (slots_of (world_of n new)) c.take_turns.new.gates c.take_turns.result
+    (λ e. subst (λ (w : Sandboxes). IsJoint machine g.G.Gates.answer c.args.plan.now (slots_of w) c.args.gates.now (slots_of (world_of n new)) c.take_turns.new.gates) same (c.take_turns.ensures.done e machine is))
+    (λ turn e. subst (λ (w : Sandboxes). IsCutJoint machine g.G.Gates.answer g.G.Gates.may_refuse c.args.plan.now (slots_of w) c.args.gates.now turn (slots_of (world_of n new)) c.take_turns.new.gates) same (c.take_turns.ensures.refused turn e machine is)) in
+    world_runs c.joined_moves.ensures.limited machine is g.G.Gates.answer c.args.plan.now (world_of m c.self.inside.sandboxes.items) c.args.self.now (world_of n new) c.args.gates.now
+    c.self.view_is c.self.invariant.0
+    (subst (λ (l : List Sandbox). bounds_in (world_of n new) ≡ bounds_in (world_of m l)) c.deref_mut.ensures.value c.take_turns.ensures.bounds)
+    (subst (λ (l : List Sandbox). StaysOutsideData (world_of m l) n) c.deref_mut.ensures.value c.take_turns.ensures.outside)
+    end.0 end.1)
 
 pub returns-clause-stops : goal.returns-clause-stops
 returns-clause-stops g c =
