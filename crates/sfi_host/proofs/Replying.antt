@@ -1,8 +1,8 @@
 -- A sandbox after an answered call is the slot that the definition makes.
-use Rattle.std.proofs.Common.{◌≡◌, ◌≢◌, ℕ, ◌<◌, ◌^◌, Bool, refl, sym, ap, ◌∙◌, arith}
+use Rattle.std.proofs.Common.{◌≡◌, ◌≢◌, ℕ, ◌<◌, ◌^◌, Bool, refl, sym, ap, ◌∙◌, subst, arith}
 use Rattle.rv_mem.specs.Bytes.{Bytes, IsMemory}
 use Rattle.rv_word.specs.declared.instr.Instr.TheVariants.{Ecall}
-use Rattle.rv_step.specs.State.{Hart, IsHart, past}
+use Rattle.rv_step.specs.State.{Hart, past}
 use Rattle.rv_step.specs.Step.{Stands}
 use Rattle.sfi_check.specs.Laws.{GoesOnSafely}
 use Rattle.sfi_host.specs.declared.status.Status.{Status}
@@ -18,13 +18,12 @@ use Rattle.sfi_host.specs.Answering.{spoken}
 use Rattle.sfi_host.specs.Hosts.{Call, Way, Replied, Yield, Exit, Reply, Answer}
 use Rattle.sfi_host.specs.Regions.{bytes_in, IsWhole}
 use Rattle.sfi_host.specs.Slots.{Bounds, Slot, one_more, own}
-use Rattle.sfi_host.specs.Joint.{word, call_of, with_arguments, with_data, replied, next_after}
+use Rattle.sfi_host.specs.Joint.{word, call_of, with_arguments, with_data, after_way, status_after, replied, next_after}
 use Rattle.sfi_host.specs.Sandboxes.{seat_of}
-use Rattle.sfi_host.specs.private.Sandboxes.{IsReplied, IsNotReplied, call_by, request_by, IsTold, IsNotTold, after_told, next_after_answer}
+use Rattle.sfi_host.specs.private.Sandboxes.{IsReplied, IsNotReplied, call_by, request_by, IsTold, IsNotTold, after_ecall, after_told, next_after_answer}
 use Rattle.sfi_host.specs.Worlds.{slot_of, state_in, IsSafeSeat, StaysOutside}
 use Rattle.sfi_host.proofs.Leaving.{data_of_own, put_back, own_left}
 use Rattle.sfi_host.proofs.SafeSeats as keep
-use Rattle.sfi_host.proofs.Stops.{at_gate_still, at_gate}
 
 abbrev slot_with : Bounds → Hart → Status → ℕ → Bytes → Slot
 slot_with b h status n bytes = record { bounds = b; hart = h; status = status; steps = n; bytes = bytes }
@@ -111,15 +110,18 @@ still_ready (gate.Exit n) s t goes e more ready = absurd (cc)
 still_ready gate.Memory s t goes e more ready = absurd (cc)
 
 pub safe_after : GoesOnSafely → (m n : Bytes) (s : Sandbox) (t : Told) (a : GateAnswer) (size : ℕ) → IsSafeSeat m (seat_of s) → s.status ≡ Ready → Stands (state_in m (seat_of s)) Ecall size
-    → IsMemory n → StaysOutside (seat_of s).bounds.data m n → IsWhole (seat_of s).bounds.data n → (a ≢ gate.Memory → IsHart (after_told a s t).cpu)
+    → IsMemory n → StaysOutside (seat_of s).bounds.data m n → IsWhole (seat_of s).bounds.data n → t.a0 < 2 ^ 32 → t.a1 < 2 ^ 32
     → IsSafeSeat n (seat_of (after_told a s t))
-safe_after on m n s t gate.Replied size seat ready stands memory stays whole hart =
-    keep.replied m (seat_of s) seat on ready size stands n _ _ memory stays whole (hart (λ e. cc)) refl (keep.arguments_keep s.cpu t.a0 t.a1) (keep.stack_argument s.cpu t.a0 t.a1)
-safe_after on m n s t gate.Yield size seat ready stands memory stays whole hart =
-    keep.replied m (seat_of s) seat on ready size stands n _ _ memory stays whole (hart (λ e. cc)) refl (keep.arguments_keep s.cpu t.a0 t.a1) (keep.stack_argument s.cpu t.a0 t.a1)
-safe_after on m n s t (gate.Exit k) size seat ready stands memory stays whole hart =
-    keep.halted m (seat_of s) seat n _ (record { hart = hart (λ e. cc); memory = memory }) refl (λ e. cc)
-    (at_gate_still (seat_of s).bounds m n (keep.code_same m (seat_of s) seat n stays) s.cpu (after_told (gate.Exit k) s t).cpu refl (at_gate m (seat_of s) seat ready size stands))
-    stays whole
-safe_after on m n s t gate.Memory size seat ready stands memory stays whole hart =
-    keep.own_changed m (seat_of s) seat on n memory stays whole
+safe_after on m n s t a size seat ready stands memory stays whole f g = by_answer a
+  where
+    after : (w : Way) → IsSafeSeat n (record { bounds = (seat_of s).bounds; hart = after_way w (with_arguments s.cpu t.a0 t.a1); status = status_after w; steps = one_more s.steps })
+    after = keep.answered_safe on m (seat_of s) seat ready size stands n memory stays whole t.a0 t.a1 f g
+
+    goes_on : IsSafeSeat n (seat_of (after_ecall s t))
+    goes_on = subst (λ (x : Status). IsSafeSeat n (record { bounds = (seat_of s).bounds; hart = past (with_arguments s.cpu t.a0 t.a1) 4; status = x; steps = one_more s.steps })) (sym ready) (after Replied)
+
+    by_answer : (a : GateAnswer) → IsSafeSeat n (seat_of (after_told a s t))
+    by_answer gate.Replied = goes_on
+    by_answer gate.Yield = goes_on
+    by_answer (gate.Exit k) = after (Exit k)
+    by_answer gate.Memory = keep.own_changed m (seat_of s) seat on n memory stays whole

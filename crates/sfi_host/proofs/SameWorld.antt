@@ -7,17 +7,20 @@ use Rattle.sfi_host.specs.Hosts.{Call, Answer}
 use Rattle.sfi_host.specs.Joint.{Machine, IsMachine, joint}
 use Rattle.sfi_host.specs.declared.turn.RunAnswer.{RunAnswer}
 use Rattle.sfi_host.specs.declared.turn.RunAnswer.TheVariants.{Done, Memory}
-use Rattle.sfi_host.specs.Moves.{HaveRun, JointMoves}
-use Rattle.sfi_host.specs.Plans.{IsJoint, IsCutJoint}
+use Rattle.sfi_host.specs.Moves.{HaveRun, JointMoves, WithLimit}
 use Rattle.sfi_host.specs.private.Sandboxes.{bounds_in}
 use Rattle.sfi_host.specs.Regions.{is_in}
 use Rattle.sfi_host.specs.Slots.{Bounds, Slot, is_own}
 use Rattle.sfi_host.specs.Worlds.{Seat, Sandboxes, slot_of, slots_of, IsSafeWorld, StaysOutsideData}
-use Rattle.sfi_host.proofs.Joined.{get_map}
 use Rattle.sfi_host.proofs.OwnSteps.{own_data, own_there, true_false}
 use Rattle.sfi_host.proofs.RegionBytes.{same_bytes, is_in-true, is_in-Holds}
 use Rattle.sfi_host.proofs.SamePart.{same_some}
 use Rattle.sfi_host.proofs.Worlds.{map_get}
+
+pub get_map : {A B : Type 0} (f : A → B) (xs : List A) (i : ℕ) (x : A) → slice_get xs i ≡ Some x → slice_get (map f xs) i ≡ Some (f x)
+get_map f [] i x e = absurd (cc)
+get_map f (y ∷ xs) zero x e = let same : y ≡ x = cc in ap (λ (z : _). Some (f z)) same
+get_map f (y ∷ xs) (suc i) x e = get_map f xs i x e
 
 -- whose data the address lies in, if any
 abbrev IsIn : List Seat → ℕ → Type 0
@@ -84,16 +87,13 @@ module _ (w n o : Sandboxes) (lie : bounds_in o ≡ bounds_in w) (slots : slots_
 -- what comes to the slots of a joint run, and to the bytes before outside all data, is what its moves lead to
 pub world_runs : {S : Type 0} → JointMoves S → (machine : Machine) → IsMachine machine → (answer : S → Call → Answer S) (plan : List Turn) (v w n : Sandboxes) (s : S) → v ≡ w → IsSafeWorld v
     → bounds_in n ≡ bounds_in v → StaysOutsideData v n.bytes → (limit : Option ℕ) → slots_of n ≡ (joint machine answer plan (slots_of w) s limit).slots
-    → (limit : Option ℕ) × HaveRun plan w n (joint machine answer plan (slots_of w) s limit)
+    → HaveRun machine plan w n (joint machine answer plan (slots_of w) s limit)
 world_runs law machine is answer plan v w n s same safe lie left limit slots =
     let ran = law machine answer plan w s limit is (subst (λ (x : Sandboxes). IsSafeWorld x) same safe) in
     let there : ran.0 ≡ n = same_world w ran.0 n (lie ∙ ap (λ (x : Sandboxes). bounds_in x) same) (ran.1.slots ∙ sym slots) ran.1.runs.outside (subst (λ (x : Sandboxes). StaysOutsideData x n.bytes) same left) in
-    (limit, subst (λ (x : Sandboxes). HaveRun plan w x (joint machine answer plan (slots_of w) s limit)) there ran.1)
+    subst (λ (x : Sandboxes). HaveRun machine plan w x (joint machine answer plan (slots_of w) s limit)) there ran.1
 
 -- a plan ended in one of two ways, each with its limit
-pub limit_of : {S : Type 0} (machine : Machine) (answer : S → Call → Answer S) (may_refuse : S → Call → Bool) (plan : List Turn) (old : List Slot) (before : S) (new : List Slot) (after : S) (r : RunAnswer)
-    → (r ≡ Done → IsJoint machine answer plan old before new after)
-    → ((turn : ℕ) → r ≡ Memory turn → IsCutJoint machine answer may_refuse plan old before turn new after)
-    → (limit : Option ℕ) × (new ≡ (joint machine answer plan old before limit).slots)
-limit_of machine answer may_refuse plan old before new after Done done refused = (None, (done refl).slots)
-limit_of machine answer may_refuse plan old before new after (Memory turn) done refused = let cut = refused turn refl in (Some cut.answered, cut.slots)
+pub with_limit : (holds : Option ℕ → Type 0) (r : RunAnswer) → (r ≡ Done → holds None) → ((turn : ℕ) → r ≡ Memory turn → (answered : ℕ) × holds (Some answered)) → WithLimit r holds
+with_limit holds Done done refused = done refl
+with_limit holds (Memory turn) done refused = refused turn refl

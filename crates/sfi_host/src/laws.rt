@@ -1,7 +1,7 @@
 //! What holds of the definitions and of every run. A call costs nothing.
 ghost use Rattle.sfi_host.specs.Following.{JoinedFollows, JointFollows, PlansFollow, CutFollows};
 ghost use Rattle.sfi_host.specs.Laws.{SomeMachine, OneMachine, NeighboursAreChanges, CallsHaveStack, AnswersAreReplies};
-ghost use Rattle.sfi_host.specs.Moves.{JoinedMoves, JointMoves, MovesAreRuns, OthersLeaveSlots};
+ghost use Rattle.sfi_host.specs.Moves.{JoinedMoves, JointMoves};
 ghost use Rattle.sfi_host.specs.Solo.{JointIsSolo};
 ghost use Rattle.sfi_host.specs.Steps.{StepsAreOwn};
 
@@ -80,25 +80,6 @@ pub fn answers_are_replies()
     ensures { AnswersAreReplies }
 {}
 
-/// What the sandboxes of a safe world do in the one memory, in any order, is to each of them a run:
-/// its own steps and the replies that it gets, and changes by others. Each of these runs is safe
-/// where the sandbox was ready, and the world stays safe.
-pub fn moves_are_runs()
-    ensures { MovesAreRuns }
-{
-    steps_are_own();
-    sfi_check::laws::goes_on_safely();
-}
-
-/// What the sandboxes of a safe world do, in one step, one turn or a plan, leaves each other one as
-/// it is: its pc, registers, status and count, and the bytes of its code and data.
-pub fn others_leave_slots()
-    ensures { OthersLeaveSlots }
-{
-    steps_are_own();
-    sfi_check::laws::goes_on_safely();
-}
-
 /// What the joint run does from a safe world is a list of moves in the one memory: step by step and
 /// reply by reply, with the same slots. To each sandbox these moves are a run, and where it was
 /// ready a safe one. `S` is a host's state.
@@ -110,6 +91,5 @@ pub fn joined_moves<S>()
     ensures limited { JointMoves S }
 {
     steps_are_own();
-    rv_step::laws::step_keeps_state();
     sfi_check::laws::goes_on_safely();
 }

@@ -110,7 +110,7 @@ impl<M: Memory> World<M> {
         // What was done, however the plan ended, is the joint run with some limit, and that is
         // moves of the sandboxes that the plan names, one after another in the one memory, with
         // its replies; to each sandbox they are a run, and where it was ready a safe one.
-        ensures runs { HaveRunJointly G.answer plan.now self.old gates.old self.new }
+        ensures runs { HaveRunJointly result G.answer plan.now self.old gates.old self.new }
 
         // Each sandbox is safe as before, and its data lie outside each other one.
         ensures safe { IsSafeWorld self.new }

@@ -1,5 +1,4 @@
 use Rattle.std.proofs.Common.{ap, ◌∙◌, sym, subst}
-use Rattle.rv_step.specs.State.{IsHart}
 use Rattle.sfi_host.specs.declared.sandbox.Sandbox.{Sandbox}
 use Rattle.sfi_host.specs.Regions.{bytes_in}
 use Rattle.sfi_host.specs.Sandboxes.{seat_of}
@@ -30,7 +29,7 @@ returns-clause-safe g c =
     (g.met.M.Memory.in_range c.call_gate-told.new.memory)
     (stays_outside (seat_of s).bounds.data (g.M.Memory.bytes c.args.memory.now) n c.call_gate-told.ensures.outside)
     (whole_of (seat_of s).bounds.data n c.call_gate-told.ensures.has_data)
-    (λ e. subst (λ (x : Sandbox). IsHart x.cpu) c.put_answer.ensures.after (c.put_answer.ensures.hart e)))
+    c.call_gate-told.ensures.a0 c.call_gate-told.ensures.a1)
 
 pub returns-clause-others : goal.returns-clause-others
 returns-clause-others g c =
