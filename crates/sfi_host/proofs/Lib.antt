@@ -21,6 +21,7 @@ pub mod SamePart
 pub mod SameWorld
 pub mod Serving
 pub mod Stops
+pub mod Taking
 pub mod Turning
 pub mod Worlds
 pub mod Writing

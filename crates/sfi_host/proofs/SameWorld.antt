@@ -5,9 +5,7 @@ use Rattle.sfi_image.specs.Spans.{Holds}
 use Rattle.sfi_host.specs.declared.turn.Turn.{Turn}
 use Rattle.sfi_host.specs.Hosts.{Call, Answer}
 use Rattle.sfi_host.specs.Joint.{Machine, IsMachine, joint}
-use Rattle.sfi_host.specs.declared.turn.RunAnswer.{RunAnswer}
-use Rattle.sfi_host.specs.declared.turn.RunAnswer.TheVariants.{Done, Memory}
-use Rattle.sfi_host.specs.Moves.{HaveRun, JointMoves, WithLimit}
+use Rattle.sfi_host.specs.Moves.{HaveRun, JointMoves}
 use Rattle.sfi_host.specs.private.Sandboxes.{bounds_in}
 use Rattle.sfi_host.specs.Regions.{is_in}
 use Rattle.sfi_host.specs.Slots.{Bounds, Slot, is_own}
@@ -84,16 +82,10 @@ module _ (w n o : Sandboxes) (lie : bounds_in o ≡ bounds_in w) (slots : slots_
       ap (λ (m : Bytes). let x : Sandboxes = record { bytes = m; seats = n.seats } in x) (same_bytes n.bytes o.bytes (λ a. ⊎_elim (in_data a) (out_of_data a) (found o.seats a)))
       ∙ ap (λ (l : List Seat). let x : Sandboxes = record { bytes = o.bytes; seats = l } in x) same_seats
 
--- what comes to the slots of a joint run, and to the bytes before outside all data, is what its moves lead to
-pub world_runs : {S : Type 0} → JointMoves S → (machine : Machine) → IsMachine machine → (answer : S → Call → Answer S) (plan : List Turn) (v w n : Sandboxes) (s : S) → v ≡ w → IsSafeWorld v
-    → bounds_in n ≡ bounds_in v → StaysOutsideData v n.bytes → (limit : Option ℕ) → slots_of n ≡ (joint machine answer plan (slots_of w) s limit).slots
+-- what comes to the slots of a joint run, and keeps the bytes outside all data, is what its moves lead to
+pub world_runs : {S : Type 0} → JointMoves S → (machine : Machine) → IsMachine machine → (answer : S → Call → Answer S) (plan : List Turn) (w n : Sandboxes) (s : S) → IsSafeWorld w
+    → bounds_in n ≡ bounds_in w → StaysOutsideData w n.bytes → (limit : Option ℕ) → slots_of n ≡ (joint machine answer plan (slots_of w) s limit).slots
     → HaveRun machine plan w n (joint machine answer plan (slots_of w) s limit)
-world_runs law machine is answer plan v w n s same safe lie left limit slots =
-    let ran = law machine answer plan w s limit is (subst (λ (x : Sandboxes). IsSafeWorld x) same safe) in
-    let there : ran.0 ≡ n = same_world w ran.0 n (lie ∙ ap (λ (x : Sandboxes). bounds_in x) same) (ran.1.slots ∙ sym slots) ran.1.runs.outside (subst (λ (x : Sandboxes). StaysOutsideData x n.bytes) same left) in
-    subst (λ (x : Sandboxes). HaveRun machine plan w x (joint machine answer plan (slots_of w) s limit)) there ran.1
-
--- a plan ended in one of two ways, each with its limit
-pub with_limit : (holds : Option ℕ → Type 0) (r : RunAnswer) → (r ≡ Done → holds None) → ((turn : ℕ) → r ≡ Memory turn → (answered : ℕ) × holds (Some answered)) → WithLimit r holds
-with_limit holds Done done refused = done refl
-with_limit holds (Memory turn) done refused = refused turn refl
+world_runs law machine is answer plan w n s safe lie left limit slots =
+    let ran = law machine answer plan w s limit is safe in
+    subst (λ (x : Sandboxes). HaveRun machine plan w x (joint machine answer plan (slots_of w) s limit)) (same_world w ran.0 n lie (ran.1.slots ∙ sym slots) ran.1.runs.outside left) ran.1

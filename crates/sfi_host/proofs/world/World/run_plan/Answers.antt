@@ -1,37 +1,91 @@
-use Rattle.std.proofs.Common.{rules, ◌≡◌, ◌∙◌, List, ap, sym, subst, Some, None}
-use Rattle.std.proofs.lemmas.List.{with_items_is}
-use Rattle.sfi_host.specs.declared.sandbox.Sandbox.{Sandbox}
-use Rattle.sfi_host.specs.Joint.{joint}
-use Rattle.sfi_host.specs.Moves.{HaveRun, HaveRunJointly}
+use Rattle.std.proofs.Common.{◌≡◌, ◌+◌, ℕ, List, drop, get_or, Some, None, ◌∙◌, refl, subst, arith}
+use Rattle.sfi_host.specs.declared.turn.Turn.{Turn}
+use Rattle.sfi_host.specs.private.Limits.{IsPlanOnItsWay}
+use Rattle.sfi_host.specs.Joint.{Machine, IsMachine}
 use Rattle.sfi_host.specs.Plans.{IsJoint, IsCutJoint}
-use Rattle.sfi_host.specs.Sandboxes.{world_of}
-use Rattle.sfi_host.specs.private.Sandboxes.{bounds_in}
-use Rattle.sfi_host.specs.Worlds.{Sandboxes, slots_of, HaveStoppedThemselves, StaysOutsideData}
-use Rattle.sfi_host.proofs.SameWorld.{world_runs, with_limit}
+use Rattle.sfi_host.specs.Worlds.{slots_of, StaysOutsideData}
+use Rattle.sfi_host.proofs.Plans.{run_goes_on, plan_starts, plan_goes_on, plan_ends, plan_cuts, next_turn, none_left, turn_at}
+use Rattle.sfi_host.proofs.SameWorld.{outside_more, world_runs}
 use Rattle.sfi_host.proofs.Stops.{have_stopped}
+use Rattle.sfi_host.proofs.world.World.run_plan.Given as given
 use Rattle.sfi_host.proofs.world.World.run_plan.Goals as goal
 
+pub loop-place-init : goal.loop-place-init
+loop-place-init g c = record {
+  safe = c.stays_safe.ensures;
+  bounds = refl;
+  outside = λ a out. refl;
+  way = λ machine is. plan_starts machine g.G.Gates.answer c.args.plan.now (slots_of c.args.self.now) c.args.gates.now;
+}
+
+pub loop-place-preserved : goal.loop-place-preserved
+loop-place-preserved g c = record {
+  safe = c.take_turn.ensures.safe;
+  bounds = c.take_turn.ensures.bounds ∙ c.loop-place.invariant.bounds;
+  outside = outside_more c.args.self.now c.loop-place.self _ c.loop-place.invariant.bounds c.loop-place.invariant.outside c.take_turn.ensures.outside;
+  way = λ machine is.
+      let plan = c.args.plan.now in
+      let k = c.loop-place.place in
+      let d : Turn = record { sandbox = 0; steps = 0 } in
+      let old = slots_of c.args.self.now in
+      let now = slots_of c.loop-place.self in
+      plan_goes_on machine g.G.Gates.answer plan old c.args.gates.now k (get_or plan k d) (drop (k + 1) plan) now _ c.loop-place.gates _
+      (subst (λ (l : List Turn). IsPlanOnItsWay machine g.G.Gates.answer plan old c.args.gates.now k l now c.loop-place.gates) (next_turn plan k d c.loop-place-test.true) (c.loop-place.invariant.way machine is))
+      (c.take_turn.ensures.whole (run_goes_on _ c.in-Continue.is) machine is);
+}
+
+-- ---- all turns were taken
+
+done : (g : given.Over) (c : goal.After-loop-place g) (machine : Machine) → IsMachine machine → IsJoint machine g.G.Gates.answer c.args.plan.now (slots_of c.args.self.now) c.args.gates.now (slots_of c.loop-place.self) c.loop-place.gates
+done g c machine is =
+    let plan = c.args.plan.now in
+    let k = c.loop-place.place in
+    let old = slots_of c.args.self.now in
+    let now = slots_of c.loop-place.self in
+    plan_ends machine g.G.Gates.answer plan old c.args.gates.now k now c.loop-place.gates (omega (arith, c.loop-place-test.false))
+    (subst (λ (l : List Turn). IsPlanOnItsWay machine g.G.Gates.answer plan old c.args.gates.now k l now c.loop-place.gates) (none_left plan k c.loop-place-test.false) (c.loop-place.invariant.way machine is))
+
+pub returns-clause-done : goal.returns-clause-done
+returns-clause-done g c e machine is = done g c machine is
+
 pub returns-clause-runs : goal.returns-clause-runs
-returns-clause-runs g c =
-    let m = g.M.Memory.bytes c.self.inside.memory in
-    let n = g.M.Memory.bytes c.take_turns.new.memory in
-    let new = c.take_turns.new.sandboxes in
-    let same = ap (λ (l : List Sandbox). world_of m l) c.deref_mut.ensures.value ∙ c.self.view_is in
-    subst (λ (l : List Sandbox). HaveRunJointly c.take_turns.result g.G.Gates.answer c.args.plan.now c.args.self.now c.args.gates.now (world_of n l)) (sym (with_items_is c.self.inside.sandboxes new (search rules)))
-    (λ machine is.
-    let ran = world_runs c.joined_moves.ensures.limited machine is g.G.Gates.answer c.args.plan.now (world_of m c.self.inside.sandboxes.items) c.args.self.now (world_of n new) c.args.gates.now
-    c.self.view_is c.self.invariant.0
-    (subst (λ (l : List Sandbox). bounds_in (world_of n new) ≡ bounds_in (world_of m l)) c.deref_mut.ensures.value c.take_turns.ensures.bounds)
-    (subst (λ (l : List Sandbox). StaysOutsideData (world_of m l) n) c.deref_mut.ensures.value c.take_turns.ensures.outside) in
-    with_limit (λ limit. HaveRun machine c.args.plan.now c.args.self.now (world_of n new) (joint machine g.G.Gates.answer c.args.plan.now (slots_of c.args.self.now) c.args.gates.now limit)) c.take_turns.result
-    (λ e. ran None (subst (λ (w : Sandboxes). IsJoint machine g.G.Gates.answer c.args.plan.now (slots_of w) c.args.gates.now (slots_of (world_of n new)) c.take_turns.new.gates) same (c.take_turns.ensures.done e machine is)).slots)
-    (λ turn e.
-    let cut = subst (λ (w : Sandboxes). IsCutJoint machine g.G.Gates.answer g.G.Gates.may_refuse c.args.plan.now (slots_of w) c.args.gates.now turn (slots_of (world_of n new)) c.take_turns.new.gates) same (c.take_turns.ensures.refused turn e machine is) in
-    (cut.answered, ran (Some cut.answered) cut.slots)))
+returns-clause-runs g c machine is =
+    world_runs c.joined_moves.ensures.limited machine is g.G.Gates.answer c.args.plan.now c.args.self.now c.loop-place.self c.args.gates.now c.stays_safe.ensures
+    c.loop-place.invariant.bounds c.loop-place.invariant.outside None (done g c machine is).slots
 
 pub returns-clause-stops : goal.returns-clause-stops
-returns-clause-stops g c =
-    let n = g.M.Memory.bytes c.take_turns.new.memory in
-    let new = c.take_turns.new.sandboxes in
-    subst (λ (l : List Sandbox). HaveStoppedThemselves (world_of n l)) (sym (with_items_is c.self.inside.sandboxes new (search rules)))
-    (have_stopped (world_of n new) c.take_turns.ensures.safe)
+returns-clause-stops g c = have_stopped c.loop-place.self c.loop-place.invariant.safe
+
+-- ---- a call was refused
+
+cut : (g : given.Over) (c : goal.In-RunEnds g) (machine : Machine) → IsMachine machine
+    → IsCutJoint machine g.G.Gates.answer g.G.Gates.may_refuse c.args.plan.now (slots_of c.args.self.now) c.args.gates.now c.loop-place.place (slots_of c.take_turn.new.self) c.take_turn.new.gates
+cut g c machine is =
+    let plan = c.args.plan.now in
+    let k = c.loop-place.place in
+    let d : Turn = record { sandbox = 0; steps = 0 } in
+    let old = slots_of c.args.self.now in
+    let now = slots_of c.loop-place.self in
+    plan_cuts machine g.G.Gates.answer plan old c.args.gates.now g.G.Gates.may_refuse k (get_or plan k d) (drop (k + 1) plan) now _ c.loop-place.gates _ (turn_at plan k d c.loop-place-test.true)
+    (subst (λ (l : List Turn). IsPlanOnItsWay machine g.G.Gates.answer plan old c.args.gates.now k l now c.loop-place.gates) (next_turn plan k d c.loop-place-test.true) (c.loop-place.invariant.way machine is))
+    (c.in-RunEnds.ensures.refused refl machine is)
+
+left : (g : given.Over) (c : goal.In-RunEnds g) → StaysOutsideData c.args.self.now c.take_turn.new.self.bytes
+left g c = outside_more c.args.self.now c.loop-place.self _ c.loop-place.invariant.bounds c.loop-place.invariant.outside c.take_turn.ensures.outside
+
+pub returns-in-RunEnds-clause-memory : goal.returns-in-RunEnds-clause-memory
+returns-in-RunEnds-clause-memory g c place is_place machine is =
+    let same : c.loop-place.place ≡ place = cc in
+    subst (λ (n : ℕ). IsCutJoint machine g.G.Gates.answer g.G.Gates.may_refuse c.args.plan.now (slots_of c.args.self.now) c.args.gates.now n (slots_of c.take_turn.new.self) c.take_turn.new.gates) same (cut g c machine is)
+
+pub returns-in-RunEnds-clause-runs : goal.returns-in-RunEnds-clause-runs
+returns-in-RunEnds-clause-runs g c machine is =
+    let ended = cut g c machine is in
+    (ended.answered, world_runs c.joined_moves.ensures.limited machine is g.G.Gates.answer c.args.plan.now c.args.self.now c.take_turn.new.self c.args.gates.now c.stays_safe.ensures
+    (c.take_turn.ensures.bounds ∙ c.loop-place.invariant.bounds) (left g c) (Some ended.answered) ended.slots)
+
+pub returns-in-RunEnds-clause-stops : goal.returns-in-RunEnds-clause-stops
+returns-in-RunEnds-clause-stops g c = have_stopped c.take_turn.new.self c.take_turn.ensures.safe
+
+pub returns-in-RunEnds-clause-outside : goal.returns-in-RunEnds-clause-outside
+returns-in-RunEnds-clause-outside g c = left g c
