@@ -34,19 +34,19 @@ unfolding joined
 joined_nil machine host slots s = refl
 
 -- the replies of a turn don't matter
-goes_in : {S : Type 0} (i : ℕ) (m : Moved S) (slots : List Slot) (rest : List Slot → S → Joined S) → m.next ≡ TurnEnds → and_plan m.next i m slots rest ≡ after_turn (given i m.replies) (rest (set slots i m.slot) m.host)
+pub goes_in : {S : Type 0} (i : ℕ) (m : Moved S) (slots : List Slot) (rest : List Slot → S → Joined S) → m.next ≡ TurnEnds → and_plan m.next i m slots rest ≡ after_turn (given i m.replies) (rest (set slots i m.slot) m.host)
 goes_in i m slots rest e = ap (λ (x : StepResult). and_plan x i m slots rest) e
 
-cut_in : {S : Type 0} (i : ℕ) (m : Moved S) (slots : List Slot) (rest : List Slot → S → Joined S) → m.next ≡ RunEnds
+pub cut_in : {S : Type 0} (i : ℕ) (m : Moved S) (slots : List Slot) (rest : List Slot → S → Joined S) → m.next ≡ RunEnds
     → and_plan m.next i m slots rest ≡ record { slots = set slots i m.slot; host = m.host; replies = given i m.replies; turns = 1; is_ended = true }
 cut_in i m slots rest e = ap (λ (x : StepResult). and_plan x i m slots rest) e
 
 module _ {S : Type 0} (machine : Machine) (answer : S → Call → Answer S) where
   -- a turn that names no sandbox
-  pub none_turn : (t : Turn) (old : List Slot) (before : S) → slice_get old t.sandbox ≡ None → IsPlanStep machine answer t old before old before
-  none_turn t old before e rest = record {
+  unfoldable pub none_turn : (t : Turn) (old : List Slot) (before : S) → slice_get old t.sandbox ≡ None → IsPlanStep machine answer t old before old before
+  none_turn t old before e = record {
     answers = 0;
-    is = λ left.
+    is = λ rest left.
         let same = joined_cons machine (limited answer) t rest old (with_left before left) None e in
         record {
           slots_are = ap (λ (j : Joined _). j.slots) same;
@@ -57,11 +57,11 @@ module _ {S : Type 0} (machine : Machine) (answer : S → Call → Answer S) whe
   }
 
   -- a turn of a sandbox
-  pub one_turn : (t : Turn) (old : List Slot) (before : S) (slot new : Slot) (after : S) → slice_get old t.sandbox ≡ Some slot → IsTurnOf machine answer t.sandbox t.steps slot before new after
+  unfoldable pub one_turn : (t : Turn) (old : List Slot) (before : S) (slot new : Slot) (after : S) → slice_get old t.sandbox ≡ Some slot → IsTurnOf machine answer t.sandbox t.steps slot before new after
       → IsPlanStep machine answer t old before (set old t.sandbox new) after
-  one_turn t old before slot new after e turn rest = record {
+  one_turn t old before slot new after e turn = record {
     answers = turn.answers;
-    is = λ left.
+    is = λ rest left.
         let m = turned machine (limited answer) t.sandbox t.steps slot (with_left before (allows turn.answers left)) in
         let comes : Comes m new after left TurnEnds = turn.is left in
         let same : joined machine (limited answer) (t ∷ rest) old (with_left before (allows turn.answers left)) ≡ after_turn (given t.sandbox m.replies) (joined machine (limited answer) rest (set old t.sandbox m.slot) m.host) =
@@ -116,11 +116,11 @@ module _ {S : Type 0} (machine : Machine) (answer : S → Call → Answer S) whe
     pub plan_goes_on : (done : ℕ) (t : Turn) (rest : List Turn) (now new : List Slot) (host after : S) → IsPlanOnItsWay machine answer plan old before done (t ∷ rest) now host → IsPlanStep machine answer t now host new after
         → IsPlanOnItsWay machine answer plan old before (done + 1) rest new after
     plan_goes_on done t rest now new host after way step = record {
-      answers = way.answers + (step rest).answers;
+      answers = way.answers + step.answers;
       is = λ left.
-          let k = (step rest).answers in
+          let k = step.answers in
           let e = way.is (allows k left) in
-          let f = (step rest).is left in
+          let f = step.is rest left in
           let z : allows (way.answers + k) left ≡ allows way.answers (allows k left) = allows_both way.answers k left in
           subst (λ (x : Option ℕ). SamePlan (done + 1) (joined machine (limited answer) plan old (with_left before x)) (joined machine (limited answer) rest new (with_left after left))) (sym z)
           (record {

@@ -1,5 +1,5 @@
 //! What holds of the definitions and of every run. A call costs nothing.
-ghost use Rattle.sfi_host.specs.Following.{JoinedFollows, JointFollows, PlansFollow, CutFollows};
+ghost use Rattle.sfi_host.specs.Following.{JoinedFollows, JointFollows, PlansFollow, CutFollows, CutIsShorter, RetryFollows};
 ghost use Rattle.sfi_host.specs.Laws.{SomeMachine, OneMachine, NeighboursAreChanges, CallsHaveStack, AnswersAreReplies};
 ghost use Rattle.sfi_host.specs.Moves.{JoinedMoves, JointMoves};
 ghost use Rattle.sfi_host.specs.Solo.{JointIsSolo};
@@ -41,6 +41,11 @@ pub fn joined_follows<S>()
 pub fn plans_follow<S>()
     ensures done { PlansFollow S }
     ensures memory { CutFollows S }
+
+    // What a plan did that ended at a call is what it does with that turn shortened to some of its
+    // steps; so a plan that is tried after it follows that one.
+    ensures cut { CutIsShorter S }
+    ensures retried { RetryFollows S }
 {}
 
 /// A step of a sandbox that is safe is, alone, the same step in its own memory; it leaves all but
