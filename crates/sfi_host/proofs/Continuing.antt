@@ -1,5 +1,6 @@
 -- A plan that goes on where another one left off.
-use Rattle.std.proofs.Common.{◌≡◌, ◌≢◌, ◌⊎◌, inl, inr, ⊎_elim, ℕ, zero, suc, ◌+◌, ◌<◌, Bool, true, false, cond, List, [], ◌∷◌, ◌++◌, length, Option, Some, None, slice_get, set, refl, sym, ap, ◌∙◌, subst, arith, length-append}
+use Rattle.std.proofs.Common.{◌≡◌, ◌≢◌, ◌⊎◌, inl, inr, ⊎_elim, ℕ, zero, suc, ◌+◌, ◌<◌, Bool, true, false, cond, List, [], ◌∷◌, ◌++◌, take, drop, get_or, length, Option, Some, None, slice_get, set, refl, sym, ap, ◌∙◌, subst, arith, length-append}
+use Rattle.std.proofs.lemmas.List.{take_more, take-append-drop, length-take-le}
 use Rattle.rv_step.specs.State.{State}
 use Rattle.rv_step.specs.declared.outcome.Outcome.{Outcome}
 use Rattle.rv_step.specs.declared.outcome.Outcome.TheVariants as outcome
@@ -13,16 +14,12 @@ use Rattle.sfi_host.specs.Hosts.{Call, Way, Replied, Yield, Exit, Answer, Limite
 use Rattle.sfi_host.specs.Joint.{Machine, Moved, moved, moved_if, turned, after_step, after_answer, call_of, next_after, replied, Joined, joined, joint}
 use Rattle.sfi_host.specs.Plans.{IsJoint, IsCutJoint}
 use Rattle.sfi_host.specs.Following.{after_run, shortened, IsJointUpTo, JointFollows, PlansFollow, CutFollows, CutIsShorter, RetryFollows}
-use Rattle.sfi_host.specs.private.Limits.{allow, allows, with_left, Comes, IsTurnOf, IsStepOf, SameEnd, SamePlan, IsPlanStep}
+use Rattle.sfi_host.specs.private.Limits.{allow, allows, with_left, Comes, IsTurnOf, IsStepOf, SameEnd}
 use Rattle.sfi_host.proofs.Following.{follows}
-use Rattle.sfi_host.proofs.Plans.{joined_cons, joined_nil, no_limit, none_turn, one_turn, goes_in, cut_in}
+use Rattle.sfi_host.proofs.Plans.{allows_some, no_limit, joined_nil, SamePlan, none_then, is_joint, turn_then, turn_ends}
 use Rattle.sfi_host.proofs.Turning.{allows_both, one_more_step, last_step, no_step}
 
 -- ---- limits
-
-allows_some : (k n : ℕ) → allows k (Some n) ≡ Some (k + n)
-allows_some zero n = let e : n ≡ 0 + n = omega arith in ap Some e
-allows_some (suc k) n = ap allow (allows_some k n) ∙ (let e : suc (k + n) ≡ suc k + n = omega arith in ap Some e)
 
 less_or : (n k : ℕ) → (n < k) ⊎ ((r : ℕ) × (n ≡ k + r))
 less_or n zero = inr (n, omega arith)
@@ -197,46 +194,40 @@ module _ {S : Type 0} (machine : Machine) (answer : S → Call → Answer S) whe
   record SomeFirst (t : Turn) (old : List Slot) (before : S) : Type 0 where
     new : List Slot
     after : S
-    step : IsPlanStep machine answer t old before new after
-    cut : (n : ℕ) → n < step.answers → (rest : List Turn) → PlanCut (t ∷ rest) old before n
+    answers : ℕ
+    is : (rest : List Turn) (left : Option ℕ) → SamePlan 1 (joint machine answer (t ∷ rest) old before (allows answers left)) (joint machine answer rest new after left)
+    cut : (n : ℕ) → n < answers → (rest : List Turn) → PlanCut (t ∷ rest) old before n
 
-  module _ (t : Turn) (old : List Slot) (before : S) (slot : Slot) (at : slice_get old t.sandbox ≡ Some slot) where
-    first_joint : (new : Slot) (after : S) → Comes (turned machine (limited answer) t.sandbox t.steps slot (with_left before None)) new after None TurnEnds → IsJoint machine answer (t ∷ []) old before (set old t.sandbox new) after
-    first_joint new after is =
-        let m = turned machine (limited answer) t.sandbox t.steps slot (with_left before None) in
-        let same = joined_cons machine (limited answer) t [] old (with_left before None) (Some slot) at ∙ goes_in t.sandbox m old (joined machine (limited answer) []) is.next_is in
-        let nil = joined_nil machine (limited answer) (set old t.sandbox m.slot) m.host in
-        record {
-          slots = sym (ap (λ (j : Joined _). j.slots) same ∙ ap (λ (j : Joined _). j.slots) nil ∙ ap (λ (x : Slot). set old t.sandbox x) is.slot_is);
-          host = sym (ap (λ (j : Joined (Limited S)). j.host.host) same ∙ ap (λ (j : Joined (Limited S)). j.host.host) nil ∙ ap (λ (l : Limited S). l.host) is.host_is);
-          turns = ap (λ (j : Joined _). j.turns) same ∙ ap (λ (j : Joined _). suc j.turns) nil;
-        }
-
-    first_cut : (n : ℕ) → TurnCut t.sandbox t.steps slot before n → (is : (steps : ℕ) (new : Slot) (after : S) → Comes (turned machine (limited answer) t.sandbox steps slot (with_left before None)) new after None TurnEnds
-          → IsJoint machine answer (record { sandbox = t.sandbox; steps = steps } ∷ []) old before (set old t.sandbox new) after) → (rest : List Turn) → PlanCut (t ∷ rest) old before n
-    first_cut n c is rest =
-        let m = turned machine (limited answer) t.sandbox t.steps slot (with_left before (Some n)) in
-        let same = joined_cons machine (limited answer) t rest old (with_left before (Some n)) (Some slot) at ∙ cut_in t.sandbox m old (joined machine (limited answer) rest) c.ends.next_is in
-        record {
-          place = 0;
-          new = set old t.sandbox c.new;
-          after = c.after;
-          slots = ap (λ (j : Joined _). j.slots) same ∙ ap (λ (x : Slot). set old t.sandbox x) c.ends.slot_is;
-          host = ap (λ (j : Joined (Limited S)). j.host.host) same ∙ ap (λ (l : Limited S). l.host) c.ends.host_is;
-          turns = ap (λ (j : Joined _). j.turns) same;
-          up_to = record { turn = t; turn_is = refl; steps = c.steps; fewer = c.fewer; joint = is c.steps c.new c.after c.is };
-        }
+  first_cut : (t : Turn) (old : List Slot) (before : S) (slot : Slot) → slice_get old t.sandbox ≡ Some slot → (n : ℕ) → TurnCut t.sandbox t.steps slot before n → (rest : List Turn) → PlanCut (t ∷ rest) old before n
+  first_cut t old before slot at n c rest =
+      let e = turn_ends machine answer t old before slot c.new c.after at n c.left c.ends rest in
+      let short : Turn = record { sandbox = t.sandbox; steps = c.steps } in
+      record {
+        place = 0;
+        new = set old t.sandbox c.new;
+        after = c.after;
+        slots = ap (λ (j : Joined _). j.slots) e;
+        host = ap (λ (j : Joined (Limited S)). j.host.host) e;
+        turns = ap (λ (j : Joined _). j.turns) e;
+        up_to = record {
+          turn = t;
+          turn_is = refl;
+          steps = c.steps;
+          fewer = c.fewer;
+          joint = is_joint machine answer short old before (set old t.sandbox c.new) c.after (turn_then machine answer short old before slot c.new c.after at None None c.is []);
+        };
+      }
 
   first_found : (t : Turn) (old : List Slot) (before : S) (found : Option Slot) → slice_get old t.sandbox ≡ found → SomeFirst t old before
-  unfolding none_turn one_turn
-  first_found t old before None e = record { new = old; after = before; step = none_turn machine answer t old before e; cut = λ n none. absurd (omega arith) }
+  first_found t old before None e = record { new = old; after = before; answers = 0; is = λ rest left. none_then machine answer t old before left e rest; cut = λ n none. absurd (omega arith) }
   first_found t old before (Some slot) e =
       let some = some_turn t.sandbox t.steps slot before in
       record {
         new = set old t.sandbox some.new;
         after = some.after;
-        step = one_turn machine answer t old before slot some.new some.after e some.turn;
-        cut = λ n less. first_cut t old before slot e n (some.cut n less) (λ k new after is. first_joint (record { sandbox = t.sandbox; steps = k }) old before slot e new after is);
+        answers = some.turn.answers;
+        is = λ rest left. turn_then machine answer t old before slot some.new some.after e (allows some.turn.answers left) left (some.turn.is left) rest;
+        cut = λ n less. first_cut t old before slot e n (some.cut n less);
       }
 
   -- each turn was taken
@@ -255,20 +246,20 @@ module _ {S : Type 0} (machine : Machine) (answer : S → Call → Answer S) whe
     cut : (n : ℕ) → n < answers → PlanCut plan old before n
 
   module _ (t : Turn) (plan : List Turn) (old : List Slot) (before : S) (first : SomeFirst t old before) (rest : SomePlan plan first.new first.after) where
-    taken_too : (given left : Option ℕ) → allows first.step.answers (allows rest.answers left) ≡ given → IsTaken (suc (length plan)) (joint machine answer (t ∷ plan) old before given) rest.new rest.after left
+    taken_too : (given left : Option ℕ) → allows first.answers (allows rest.answers left) ≡ given → IsTaken (suc (length plan)) (joint machine answer (t ∷ plan) old before given) rest.new rest.after left
     taken_too given left e =
-        let s = first.step.is plan (allows rest.answers left) in
+        let s = first.is plan (allows rest.answers left) in
         let y = rest.is left in
         subst (λ (x : Option ℕ). IsTaken (suc (length plan)) (joint machine answer (t ∷ plan) old before x) rest.new rest.after left) e
         (record { slots_are = s.slots_are ∙ y.slots_are; host_is = s.host_is ∙ y.host_is; turns_are = let a = s.turns_are in let b = y.turns_are in omega (arith, a, b); ended_is = s.ended_is ∙ y.ended_is })
 
-    plan_cut : (n r : ℕ) → n ≡ first.step.answers + r → PlanCut plan first.new first.after r → PlanCut (t ∷ plan) old before n
+    plan_cut : (n r : ℕ) → n ≡ first.answers + r → PlanCut plan first.new first.after r → PlanCut (t ∷ plan) old before n
     plan_cut n r e c =
         let s : SamePlan 1 (joint machine answer (t ∷ plan) old before (Some n)) (joint machine answer plan first.new first.after (Some r)) =
-        subst (λ (x : Option ℕ). SamePlan 1 (joint machine answer (t ∷ plan) old before x) (joint machine answer plan first.new first.after (Some r))) (enough n first.step.answers r e) (first.step.is plan (Some r)) in
+        subst (λ (x : Option ℕ). SamePlan 1 (joint machine answer (t ∷ plan) old before x) (joint machine answer plan first.new first.after (Some r))) (enough n first.answers r e) (first.is plan (Some r)) in
         let less = shortened plan c.place c.up_to.steps in
         let u : SamePlan 1 (joint machine answer (t ∷ less) old before None) (joint machine answer less first.new first.after None) =
-        subst (λ (x : Option ℕ). SamePlan 1 (joint machine answer (t ∷ less) old before x) (joint machine answer less first.new first.after None)) (no_limit first.step.answers) (first.step.is less None) in
+        subst (λ (x : Option ℕ). SamePlan 1 (joint machine answer (t ∷ less) old before x) (joint machine answer less first.new first.after None)) (no_limit first.answers) (first.is less None) in
         record {
           place = suc c.place;
           new = c.new;
@@ -304,10 +295,10 @@ module _ {S : Type 0} (machine : Machine) (answer : S → Call → Answer S) whe
       record {
         new = rest.new;
         after = rest.after;
-        answers = first.step.answers + rest.answers;
-        is = λ left. taken_too t plan old before first rest _ left (sym (allows_both first.step.answers rest.answers left));
+        answers = first.answers + rest.answers;
+        is = λ left. taken_too t plan old before first rest _ left (sym (allows_both first.answers rest.answers left));
         cut = λ n less. ⊎_elim (λ l. first.cut n l plan)
-            (λ (x : (r : ℕ) × (n ≡ first.step.answers + r)). plan_cut t plan old before first rest n x.0 x.1 (rest.cut x.0 (omega (arith, x.1, less)))) (less_or n first.step.answers);
+            (λ (x : (r : ℕ) × (n ≡ first.answers + r)). plan_cut t plan old before first rest n x.0 x.1 (rest.cut x.0 (omega (arith, x.1, less)))) (less_or n first.answers);
       }
 
   -- ---- the laws
@@ -373,6 +364,51 @@ module _ {S : Type 0} (machine : Machine) (answer : S → Call → Answer S) whe
         turn_after : (p q : List Turn) (place : ℕ) → slice_get (p ++ q) (length p + place) ≡ slice_get q place
         turn_after [] q place = let e : 0 + place ≡ place = omega arith in ap (slice_get q) e
         turn_after (t ∷ p) q place = let e : suc (length p) + place ≡ suc (length p + place) = omega arith in ap (slice_get (t ∷ (p ++ q))) e ∙ turn_after p q place
+
+  -- what comes after a call that ended the run doesn't matter
+  cut_before : (may_refuse : S → Call → Bool) (p q : List Turn) (old new : List Slot) (before after : S) (place : ℕ) → IsCutJoint machine answer may_refuse p old before place new after → IsCutJoint machine answer may_refuse (p ++ q) old before place new after
+  cut_before may_refuse p q old new before after place cut =
+      let j = joint machine answer p old before (Some cut.answered) in
+      let e : joint machine answer (p ++ q) old before (Some cut.answered) ≡ j =
+      follows machine (limited answer) p q old (with_left before (Some cut.answered))
+      ∙ ap (λ (b : Bool). cond b j (after_run j (joined machine (limited answer) q j.slots j.host))) cut.ended in
+      record {
+        answered = cut.answered;
+        slots = cut.slots ∙ sym (ap (λ (x : Joined _). x.slots) e);
+        host = cut.host ∙ sym (ap (λ (x : Joined (Limited S)). x.host.host) e);
+        ended = ap (λ (x : Joined _). x.is_ended) e ∙ cut.ended;
+        turns = ap (λ (x : Joined _). x.turns) e ∙ cut.turns;
+        refused = record {
+          turn = cut.refused.turn;
+          turn_is = there p place cut.refused.turn_is;
+          slot = cut.refused.slot;
+          slot_is = cut.refused.slot_is;
+          refused = cut.refused.refused;
+        };
+      }
+    where
+      there : (p : List Turn) (place : ℕ) {t : Turn} → slice_get p place ≡ Some t → slice_get (p ++ q) place ≡ Some t
+      there [] place e = absurd (cc)
+      there (x ∷ p) zero e = e
+      there (x ∷ p) (suc place) e = there p place e
+
+  -- ---- a plan's turns, one more at a time
+
+  module _ (plan : List Turn) (place : ℕ) (t : Turn) (below : place < length plan) (old mid new : List Slot) (before between after : S) (first : IsJoint machine answer (take place plan) old before mid between) where
+    more : take (place + 1) plan ≡ take place plan ++ get_or plan place t ∷ []
+    more = take_more plan place t below
+
+    pub next_taken : IsJoint machine answer (get_or plan place t ∷ []) mid between new after → IsJoint machine answer (take (place + 1) plan) old before new after
+    next_taken one = subst (λ (l : List Turn). IsJoint machine answer l old before new after) (sym more)
+        (both_done (take place plan) (get_or plan place t ∷ []) old mid new before between after first one)
+
+    pub next_cut : (may_refuse : S → Call → Bool) → IsCutJoint machine answer may_refuse (get_or plan place t ∷ []) mid between 0 new after → IsCutJoint machine answer may_refuse plan old before place new after
+    next_cut may_refuse cut =
+        let both = both_cut (take place plan) (get_or plan place t ∷ []) old mid new before between after first may_refuse 0 cut in
+        let at : length (take place plan) + 0 ≡ place = omega (arith, length-take-le place plan (omega arith)) in
+        subst (λ (l : List Turn). IsCutJoint machine answer may_refuse l old before place new after) (ap (λ (l : List Turn). l ++ drop (place + 1) plan) (sym more) ∙ take-append-drop (place + 1) plan)
+        (cut_before may_refuse (take place plan ++ get_or plan place t ∷ []) (drop (place + 1) plan) old new before after place
+        (subst (λ (n : ℕ). IsCutJoint machine answer may_refuse (take place plan ++ get_or plan place t ∷ []) old before n new after) at both))
 
   -- where a call ended the run, too few were left
   up_to_there : (plan : List Turn) (old : List Slot) (before : S) (n : ℕ) → (joint machine answer plan old before (Some n)).is_ended ≡ true → PlanCut plan old before n

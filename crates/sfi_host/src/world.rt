@@ -1,12 +1,11 @@
 //! Worlds.
-ghost use Rattle.std.specs.Prelude.{◌≡◌, ◌≢◌, ◌↔◌, ◌<◌, ℕ, length, map, slice_get, IfOk, IsSome, Some};
+ghost use Rattle.std.specs.Prelude.{◌≡◌, ◌≢◌, ◌↔◌, ◌<◌, ℕ, [], ◌∷◌, length, map, slice_get, IfOk, IsSome, Some};
 ghost use Rattle.std.specs.FinMap.{empty};
 ghost use Rattle.std.specs.Option.{option_map};
 ghost use Rattle.sfi_image.specs.Spans.{Holds};
 ghost use Rattle.sfi_host.specs.Joint.{Machine, IsMachine};
 ghost use Rattle.sfi_host.specs.Moves.{HaveRunJointly};
 ghost use Rattle.sfi_host.specs.Plans.{IsJoint, IsCutJoint};
-ghost use Rattle.sfi_host.specs.private.Limits.{IsPlanStep, IsPlanCut};
 ghost use Rattle.sfi_host.specs.private.Sandboxes.{bounds_in};
 ghost use Rattle.sfi_host.specs.Reading.{hart_at, data_region_at};
 ghost use Rattle.sfi_host.specs.Regions.{span_of};
@@ -142,16 +141,16 @@ impl<M: Memory> World<M> {
         RunAnswer::Done
     }
 
-    // One turn of a plan. Each sandbox lies where it lay.
+    // One turn: what the plan of that turn alone comes to. Each sandbox lies where it lay.
     fn take_turn<G: Gates>(&mut self, turn: Turn, gates: &mut G) -> StepResult
         ensures safe { IsSafeWorld self.new }
         ensures bounds { bounds_in self.new ≡ bounds_in self.old }
         ensures outside { StaysOutsideData self.old self.new.bytes }
         ensures whole { result ≢ StepResult.RunEnds → (machine : Machine) → IsMachine machine
-            → IsPlanStep machine G.answer turn (slots_of self.old) gates.old
+            → IsJoint machine G.answer (turn ∷ []) (slots_of self.old) gates.old
             (slots_of self.new) gates.new }
         ensures refused { result ≡ StepResult.RunEnds → (machine : Machine) → IsMachine machine
-            → IsPlanCut machine G.answer G.may_refuse turn (slots_of self.old) gates.old
+            → IsCutJoint machine G.answer G.may_refuse (turn ∷ []) (slots_of self.old) gates.old 0
             (slots_of self.new) gates.new }
     {
         // The laws that the contract rests on: these calls do nothing.

@@ -1,21 +1,31 @@
-use Rattle.std.proofs.Common.{◌≡◌, ◌+◌, ℕ, List, drop, get_or, Some, None, ◌∙◌, refl, subst, arith}
+use Rattle.std.proofs.Common.{◌≡◌, ◌≢◌, ◌⊎◌, inl, inr, ◌+◌, ℕ, List, Some, None, ◌∙◌, refl, sym, ap, subst}
+use Rattle.std.proofs.lemmas.List.{take_all}
+use Rattle.sfi_host.specs.declared.turn.StepResult.{StepResult}
+use Rattle.sfi_host.specs.declared.turn.StepResult.TheVariants.{Continue, TurnEnds, RunEnds}
 use Rattle.sfi_host.specs.declared.turn.Turn.{Turn}
-use Rattle.sfi_host.specs.private.Limits.{IsPlanOnItsWay}
 use Rattle.sfi_host.specs.Joint.{Machine, IsMachine}
 use Rattle.sfi_host.specs.Plans.{IsJoint, IsCutJoint}
 use Rattle.sfi_host.specs.Worlds.{slots_of, StaysOutsideData}
-use Rattle.sfi_host.proofs.Plans.{run_goes_on, plan_starts, plan_goes_on, plan_ends, plan_cuts, next_turn, none_left, turn_at}
+use Rattle.sfi_host.proofs.Continuing.{next_taken, next_cut}
+use Rattle.sfi_host.proofs.Plans.{none_joint}
 use Rattle.sfi_host.proofs.SameWorld.{outside_more, world_runs}
 use Rattle.sfi_host.proofs.Stops.{have_stopped}
 use Rattle.sfi_host.proofs.world.World.run_plan.Given as given
 use Rattle.sfi_host.proofs.world.World.run_plan.Goals as goal
+
+abbrev no_turn : Turn
+no_turn = record { sandbox = 0; steps = 0 }
+
+goes_on : (r : StepResult) → (r ≡ Continue) ⊎ (r ≡ TurnEnds) → r ≢ RunEnds
+goes_on r (inl f) e = let z : Continue ≡ RunEnds = sym f ∙ e in cc
+goes_on r (inr f) e = let z : TurnEnds ≡ RunEnds = sym f ∙ e in cc
 
 pub loop-place-init : goal.loop-place-init
 loop-place-init g c = record {
   safe = c.stays_safe.ensures;
   bounds = refl;
   outside = λ a out. refl;
-  way = λ machine is. plan_starts machine g.G.Gates.answer c.args.plan.now (slots_of c.args.self.now) c.args.gates.now;
+  taken = λ machine is. none_joint machine g.G.Gates.answer (slots_of c.args.self.now) c.args.gates.now;
 }
 
 pub loop-place-preserved : goal.loop-place-preserved
@@ -23,27 +33,15 @@ loop-place-preserved g c = record {
   safe = c.take_turn.ensures.safe;
   bounds = c.take_turn.ensures.bounds ∙ c.loop-place.invariant.bounds;
   outside = outside_more c.args.self.now c.loop-place.self _ c.loop-place.invariant.bounds c.loop-place.invariant.outside c.take_turn.ensures.outside;
-  way = λ machine is.
-      let plan = c.args.plan.now in
-      let k = c.loop-place.place in
-      let d : Turn = record { sandbox = 0; steps = 0 } in
-      let old = slots_of c.args.self.now in
-      let now = slots_of c.loop-place.self in
-      plan_goes_on machine g.G.Gates.answer plan old c.args.gates.now k (get_or plan k d) (drop (k + 1) plan) now _ c.loop-place.gates _
-      (subst (λ (l : List Turn). IsPlanOnItsWay machine g.G.Gates.answer plan old c.args.gates.now k l now c.loop-place.gates) (next_turn plan k d c.loop-place-test.true) (c.loop-place.invariant.way machine is))
-      (c.take_turn.ensures.whole (run_goes_on _ c.in-Continue.is) machine is);
+  taken = λ machine is. next_taken machine g.G.Gates.answer c.args.plan.now c.loop-place.place no_turn c.loop-place-test.true (slots_of c.args.self.now) _ _ c.args.gates.now c.loop-place.gates _
+      (c.loop-place.invariant.taken machine is) (c.take_turn.ensures.whole (goes_on _ c.in-Continue.is) machine is);
 }
 
 -- ---- all turns were taken
 
 done : (g : given.Over) (c : goal.After-loop-place g) (machine : Machine) → IsMachine machine → IsJoint machine g.G.Gates.answer c.args.plan.now (slots_of c.args.self.now) c.args.gates.now (slots_of c.loop-place.self) c.loop-place.gates
-done g c machine is =
-    let plan = c.args.plan.now in
-    let k = c.loop-place.place in
-    let old = slots_of c.args.self.now in
-    let now = slots_of c.loop-place.self in
-    plan_ends machine g.G.Gates.answer plan old c.args.gates.now k now c.loop-place.gates (omega (arith, c.loop-place-test.false))
-    (subst (λ (l : List Turn). IsPlanOnItsWay machine g.G.Gates.answer plan old c.args.gates.now k l now c.loop-place.gates) (none_left plan k c.loop-place-test.false) (c.loop-place.invariant.way machine is))
+done g c machine is = subst (λ (l : List Turn). IsJoint machine g.G.Gates.answer l (slots_of c.args.self.now) c.args.gates.now (slots_of c.loop-place.self) c.loop-place.gates)
+    (take_all c.loop-place.place c.args.plan.now c.loop-place-test.false) (c.loop-place.invariant.taken machine is)
 
 pub returns-clause-done : goal.returns-clause-done
 returns-clause-done g c e machine is = done g c machine is
@@ -60,15 +58,8 @@ returns-clause-stops g c = have_stopped c.loop-place.self c.loop-place.invariant
 
 cut : (g : given.Over) (c : goal.In-RunEnds g) (machine : Machine) → IsMachine machine
     → IsCutJoint machine g.G.Gates.answer g.G.Gates.may_refuse c.args.plan.now (slots_of c.args.self.now) c.args.gates.now c.loop-place.place (slots_of c.take_turn.new.self) c.take_turn.new.gates
-cut g c machine is =
-    let plan = c.args.plan.now in
-    let k = c.loop-place.place in
-    let d : Turn = record { sandbox = 0; steps = 0 } in
-    let old = slots_of c.args.self.now in
-    let now = slots_of c.loop-place.self in
-    plan_cuts machine g.G.Gates.answer plan old c.args.gates.now g.G.Gates.may_refuse k (get_or plan k d) (drop (k + 1) plan) now _ c.loop-place.gates _ (turn_at plan k d c.loop-place-test.true)
-    (subst (λ (l : List Turn). IsPlanOnItsWay machine g.G.Gates.answer plan old c.args.gates.now k l now c.loop-place.gates) (next_turn plan k d c.loop-place-test.true) (c.loop-place.invariant.way machine is))
-    (c.in-RunEnds.ensures.refused refl machine is)
+cut g c machine is = next_cut machine g.G.Gates.answer c.args.plan.now c.loop-place.place no_turn c.loop-place-test.true (slots_of c.args.self.now) _ _ c.args.gates.now c.loop-place.gates _
+    (c.loop-place.invariant.taken machine is) g.G.Gates.may_refuse (c.in-RunEnds.ensures.refused refl machine is)
 
 left : (g : given.Over) (c : goal.In-RunEnds g) → StaysOutsideData c.args.self.now c.take_turn.new.self.bytes
 left g c = outside_more c.args.self.now c.loop-place.self _ c.loop-place.invariant.bounds c.loop-place.invariant.outside c.take_turn.ensures.outside

@@ -1,13 +1,13 @@
-use Rattle.std.proofs.Common.{◌≡◌, ◌<◌, List, Some, length, set, slice_get, refl, sym, ap, ◌∙◌, subst, arith}
+use Rattle.std.proofs.Common.{◌≡◌, ◌<◌, List, [], ◌∷◌, Some, None, length, set, slice_get, refl, sym, ap, ◌∙◌, subst, arith}
 use Rattle.std.proofs.lemmas.List.{length-map}
 use Rattle.std.proofs.lemmas.Option.{slice_get_past}
 use Rattle.sfi_host.specs.Slots.{Slot}
-use Rattle.sfi_host.specs.private.Limits.{IsPlanStep, IsPlanCut}
+use Rattle.sfi_host.specs.Plans.{IsJoint, IsCutJoint}
 use Rattle.sfi_host.specs.Sandboxes.{seat_of, world_of}
 use Rattle.sfi_host.specs.Worlds.{Sandboxes, slot_of, slots_of}
 use Rattle.sfi_host.proofs.Asked.{found, no_slot, seat_at}
 use Rattle.sfi_host.proofs.Neighbours.{get_set_same}
-use Rattle.sfi_host.proofs.Plans.{none_turn, one_turn, cut_turn}
+use Rattle.sfi_host.proofs.Plans.{none_then, is_joint, one_turn, cut_turn}
 use Rattle.sfi_host.proofs.Taking.{AfterTurn, turn_taken}
 use Rattle.sfi_host.proofs.world.World.take_turn.Given as given
 use Rattle.sfi_host.proofs.world.World.take_turn.Goals as goal
@@ -17,8 +17,9 @@ returns-then-place-len-clause-whole g c whole machine is =
     let m = g.M.Memory.bytes c.self.inside.memory in
     let items = c.self.inside.sandboxes.items in
     let i = c.args.turn.sandbox in
-    none_turn machine g.G.Gates.answer c.args.turn (slots_of c.args.self.now) c.args.gates.now
-    (ap (λ (w : Sandboxes). slice_get (slots_of w) i) (sym c.self.view_is) ∙ no_slot m items i (slice_get_past items i (omega (arith, c.len.ensures, c.if-place-len.true))))
+    is_joint machine g.G.Gates.answer c.args.turn (slots_of c.args.self.now) c.args.gates.now (slots_of c.args.self.now) c.args.gates.now
+    (none_then machine g.G.Gates.answer c.args.turn (slots_of c.args.self.now) c.args.gates.now None
+    (ap (λ (w : Sandboxes). slice_get (slots_of w) i) (sym c.self.view_is) ∙ no_slot m items i (slice_get_past items i (omega (arith, c.len.ensures, c.if-place-len.true)))) [])
 
 pub run_turn-requires-clause-safe : goal.run_turn-requires-clause-safe
 run_turn-requires-clause-safe g c =
@@ -62,12 +63,12 @@ returns-clause-outside g c = (taken g c).outside
 pub returns-clause-whole : goal.returns-clause-whole
 returns-clause-whole g c whole machine is =
     let after = taken g c in
-    subst (λ (l : List Slot). IsPlanStep machine g.G.Gates.answer c.args.turn (slots_of c.args.self.now) c.args.gates.now l c.run_turn.new.gates) (sym after.slots)
+    subst (λ (l : List Slot). IsJoint machine g.G.Gates.answer (c.args.turn ∷ []) (slots_of c.args.self.now) c.args.gates.now l c.run_turn.new.gates) (sym after.slots)
     (one_turn machine g.G.Gates.answer c.args.turn (slots_of c.args.self.now) c.args.gates.now _ _ c.run_turn.new.gates after.there (c.run_turn.ensures.whole whole machine is))
 
 pub returns-clause-refused : goal.returns-clause-refused
 returns-clause-refused g c refused machine is =
     let after = taken g c in
-    subst (λ (l : List Slot). IsPlanCut machine g.G.Gates.answer g.G.Gates.may_refuse c.args.turn (slots_of c.args.self.now) c.args.gates.now l c.run_turn.new.gates) (sym after.slots)
-    (cut_turn machine g.G.Gates.answer g.G.Gates.may_refuse c.args.turn (slots_of c.args.self.now) c.args.gates.now _ _ c.run_turn.new.gates after.there
+    subst (λ (l : List Slot). IsCutJoint machine g.G.Gates.answer g.G.Gates.may_refuse (c.args.turn ∷ []) (slots_of c.args.self.now) c.args.gates.now 0 l c.run_turn.new.gates) (sym after.slots)
+    (cut_turn machine g.G.Gates.answer c.args.turn (slots_of c.args.self.now) c.args.gates.now _ _ c.run_turn.new.gates after.there g.G.Gates.may_refuse
     (get_set_same (slots_of c.args.self.now) c.args.turn.sandbox _ _ after.there) (c.run_turn.ensures.refused refused machine is))
