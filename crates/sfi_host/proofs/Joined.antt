@@ -1,5 +1,5 @@
 -- What the joint run does from a safe world is a list of moves.
-use Rattle.std.proofs.Common.{◌≡◌, ◌≢◌, ◌⊎◌, inl, inr, ⊎_elim, IsSome, is_some, ℕ, zero, suc, ◌+◌, ◌<◌, ◌≤◌, ◌%◌, ◌^◌, ◌||◌, ◌&&◌, Bool, true, false, cond, List, [], ◌∷◌, ◌++◌, length, map, Option, Some, None, slice_get, set, refl, sym, ap, ◌∙◌, subst, arith, append_assoc, append-nil}
+use Rattle.std.proofs.Common.{◌≡◌, ◌≢◌, ◌⊎◌, inl, inr, ⊎_elim, IsSome, is_some, ℕ, zero, suc, ◌<◌, ◌≤◌, ◌^◌, ◌||◌, ◌&&◌, Bool, true, false, cond, List, [], ◌∷◌, ◌++◌, length, map, Option, Some, None, slice_get, set, refl, sym, ap, ◌∙◌, subst, arith, append_assoc, append-nil}
 use Rattle.std.specs.List.{All}
 use Rattle.std.specs.Option.{option_or}
 use Rattle.std.proofs.lemmas.List.{map-append}
@@ -8,7 +8,7 @@ use Rattle.rv_mem.specs.Bytes.{Bytes, IsMemory, byte_at}
 use Rattle.rv_word.specs.declared.instr.Instr.TheVariants.{Ecall}
 use Rattle.rv_step.specs.declared.outcome.Outcome.{Outcome}
 use Rattle.rv_step.specs.declared.outcome.Outcome.TheVariants as outcome
-use Rattle.rv_step.specs.State.{Hart, State}
+use Rattle.rv_step.specs.State.{State}
 use Rattle.rv_step.specs.Step.{Stepped, Stands, IsStep}
 use Rattle.sfi_image.specs.Spelling.{Part}
 use Rattle.sfi_check.specs.Laws.{GoesOnSafely}
@@ -24,7 +24,7 @@ use Rattle.sfi_host.specs.Slots.{Bounds, Slot, bounds_of, one_more, is_own, own}
 use Rattle.sfi_host.specs.Joint.{Machine, IsMachine, word, is_byte, with_arguments, with_data, after_way, status_after, replied, Moved, moved, still, after_answer, after_step, after_replies, next_after, and_more, turned, Given, given, Joined, joined, after_turn, and_plan, call_of}
 use Rattle.sfi_host.specs.Worlds.{Seat, Sandboxes, slot_of, slots_of, state_in, IsSafeSeat, IsSafeWorld, StaysOutside}
 use Rattle.sfi_host.specs.Steps.{IsOwnStep, StepsAreOwn}
-use Rattle.sfi_host.specs.Moves.{StepsAlone, Move, after_move, BeginWith, AreInOrder, given_in, JoinedMoves, JointMoves}
+use Rattle.sfi_host.specs.Moves.{StepsAlone, Move, after_move, AreInOrder, given_in, JoinedMoves, JointMoves}
 use Rattle.sfi_host.proofs.Leaving.{get_with_data}
 use Rattle.sfi_host.proofs.Moves.{turn_of, Taken, IsTaken, AreTaken, are_moves, taken_follow, safe_after, slots_after, are_runs, safe_runs}
 use Rattle.sfi_host.proofs.Neighbours.{get_set_same}
@@ -330,7 +330,7 @@ module _ (on : GoesOnSafely) (steps_own : StepsAreOwn) (machine : Machine) (is :
           → TurnMoves i (suc k) w (after_replies mv.replies (rest mv.slot mv.host))
       more_moves k rest goal =
           let more : TurnMoves i k (after_move w v) (rest mv.slot mv.host) = subst (λ (y : Slot). TurnMoves i k (after_move w v) (rest y mv.host)) to.slot
-              (goal (after_move w v) to.t mv.host (safe_after on machine w v world one) (get_set_same w.seats i s to.t at)) in
+          (goal (after_move w v) to.t mv.host (safe_after on machine w v world one) (get_set_same w.seats i s to.t at)) in
           let last = rest mv.slot mv.host in
           record {
             moves = v ∷ more.moves;
@@ -430,16 +430,18 @@ module _ (on : GoesOnSafely) (steps_own : StepsAreOwn) (machine : Machine) (is :
 pub joined_are : {S : Type 0} → GoesOnSafely → StepsAreOwn → JoinedMoves S
 joined_are on own machine host plan w s is world =
     let p = plan_moves on own machine is host plan w s world in
-    let runs = are_runs on machine p.moves w p.n world p.taken in
-    (p.n, record {
-      moves = p.moves;
-      order = p.order;
-      lead = are_moves machine p.moves w p.n p.taken;
-      slots = p.slots;
-      replies = p.replies;
-      runs = runs;
-      safe = safe_runs on machine p.moves w p.n world runs;
-    })
+    let runs = are_runs on machine p.moves w p.n world p.taken in (
+      p.n,
+      record {
+        moves = p.moves;
+        order = p.order;
+        lead = are_moves machine p.moves w p.n p.taken;
+        slots = p.slots;
+        replies = p.replies;
+        runs = runs;
+        safe = safe_runs on machine p.moves w p.n world runs;
+      },
+    )
 
 pub joint_are : {S : Type 0} → GoesOnSafely → StepsAreOwn → JointMoves S
 joint_are on own machine answer plan w s limit = joined_are on own machine (limited answer) plan w (record { host = s; left = limit })

@@ -1,6 +1,6 @@
 -- Moves of the sandboxes of a safe world are a run to each of them.
 use Rattle.std.proofs.Common.{◌≡◌, ◌≢◌, ℕ, ◌==◌, cond, true, false, List, [], ◌∷◌, ◌++◌, Option, Some, slice_get, set, refl, sym, ap, ◌∙◌, subst}
-use Rattle.rv_mem.specs.Bytes.{Bytes, byte_at}
+use Rattle.rv_mem.specs.Bytes.{Bytes}
 use Rattle.rv_step.specs.State.{State}
 use Rattle.sfi_image.specs.Spelling.{Part}
 use Rattle.sfi_check.specs.Runs.{Turn, Changes, KeepsBytes, IsTurn, IsRun, after_turn}
@@ -11,7 +11,7 @@ use Rattle.sfi_host.specs.declared.status.Status.TheVariants.{Ready, Exited, Tra
 use Rattle.sfi_host.specs.Slots.{Slot, bounds_of}
 use Rattle.sfi_host.specs.Hosts.{Reply}
 use Rattle.sfi_host.specs.Joint.{Machine}
-use Rattle.sfi_host.specs.Worlds.{Seat, Sandboxes, slot_of, slots_of, state_in, IsSafeSeat, IsSafeWorld, StaysOutside, StaysOutsideData}
+use Rattle.sfi_host.specs.Worlds.{Seat, Sandboxes, slot_of, slots_of, state_in, IsSafeSeat, IsSafeWorld, StaysOutside}
 use Rattle.sfi_host.specs.Moves.{StepsAlone, Move, after_move, AreMoves, own_turn, own_turns, turns_to, IsRunBetween, AreRuns, AreSafeRuns}
 use Rattle.sfi_host.proofs.SafeSeats as keep
 use Rattle.sfi_host.proofs.Neighbours.{eq_from_test, not_same, get_set_same, get_set_other, other_same, slots_are, world_safe, neighbours_are}

@@ -5,7 +5,7 @@ use Rattle.sfi_host.specs.declared.turn.StepResult.{StepResult}
 use Rattle.sfi_host.specs.declared.turn.StepResult.TheVariants.{TurnEnds, RunEnds}
 use Rattle.sfi_host.specs.Hosts.{Call, Answer, Host, Limited, limited}
 use Rattle.sfi_host.specs.Slots.{Slot}
-use Rattle.sfi_host.specs.Joint.{Machine, Moved, turned, Joined, joined, joint, given, and_plan, turn_and, after_turn}
+use Rattle.sfi_host.specs.Joint.{Machine, turned, Joined, joined, joint, given, and_plan, turn_and, after_turn}
 use Rattle.sfi_host.specs.Plans.{IsJoint, IsCutJoint}
 use Rattle.sfi_host.specs.private.Limits.{allow, allows, with_left, Comes, IsTurnOf, IsCutTurnOf}
 

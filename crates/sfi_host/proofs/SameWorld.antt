@@ -1,5 +1,5 @@
 -- A world is its slots and the bytes outside all data.
-use Rattle.std.proofs.Common.{Bool, ◌≡◌, ◌⊎◌, inl, inr, ⊎_elim, ℕ, zero, suc, true, false, List, [], ◌∷◌, map, Option, Some, None, slice_get, set, refl, sym, ap, ◌∙◌, subst}
+use Rattle.std.proofs.Common.{◌≡◌, ◌⊎◌, inl, inr, ⊎_elim, ℕ, zero, suc, true, false, List, [], ◌∷◌, map, Option, Some, slice_get, set, refl, sym, ap, ◌∙◌, subst}
 use Rattle.rv_mem.specs.Bytes.{Bytes, byte_at}
 use Rattle.sfi_image.specs.Spans.{Holds}
 use Rattle.sfi_host.specs.declared.turn.Turn.{Turn}

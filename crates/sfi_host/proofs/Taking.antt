@@ -1,5 +1,5 @@
 -- A world in which one sandbox took a turn.
-use Rattle.std.proofs.Common.{◌≡◌, ℕ, List, Some, map, set, slice_get, refl, sym, ap, ◌∙◌, subst}
+use Rattle.std.proofs.Common.{◌≡◌, ℕ, List, Some, set, slice_get, sym, subst}
 use Rattle.std.proofs.lemmas.List.{map-set}
 use Rattle.rv_mem.specs.Bytes.{Bytes}
 use Rattle.rv_mem.specs.Laws.{ReadIsHeld}

@@ -109,9 +109,10 @@ impl<M: Memory> World<M> {
             → IsCutJoint machine G.answer G.may_refuse plan.now (slots_of self.old) gates.old turn
             (slots_of self.new) gates.new }
 
-        // What was done, however the plan ended, is the joint run with some limit, and that is
-        // moves of the sandboxes that the plan names, one after another in the one memory, with
-        // its replies; to each sandbox they are a run, and where it was ready a safe one.
+        // However the plan ended: the joint run, with each call answered or up to the one that was
+        // refused, is a list of moves in the one memory that lead from the world before to the world
+        // after, in the plan's order and with its replies. Each is one step of its sandbox's joint
+        // run; to each sandbox they are a run, and where it was ready a safe one.
         ensures runs { HaveRunJointly result G.answer plan.now self.old gates.old self.new }
 
         // Each sandbox is safe as before, and its data lie outside each other one.
