@@ -16,6 +16,7 @@ assemble() { # code base
         printf '.option norvc\n.macro gate\n ecall\n and x31, x1, x25\n or x31, x31, x24\n jalr x0, 0(x31)\n.endm\n'
         printf '.macro masked register, address\n and \\register, \\address, x27\n or \\register, \\register, x26\n.endm\n'
         cat
+        printf '.option rvc\n.balign 16\n'
     } >"$room/code.S"
     riscv64-unknown-elf-gcc -nostdlib -march=rv32imc_zicsr -mabi=ilp32 -mno-relax -Wl,--no-relax,-Ttext="$1",-e0 \
         "$room/code.S" -o "$room/code.elf" || return

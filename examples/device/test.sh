@@ -181,16 +181,14 @@ done
 
 image 1 2 >"$room/image.hex" < <(
     sandbox 0xfffff000 0x00001000 4096 "0 1" 416263 <<'END'
-        masked  s0, x0                  # fffff020: the data's first byte
+        .option rvc
+        masked  s0, x0                  # the data's first byte
         c.lw    a2, 4(s0)
         c.sw    s0, 124(s0)
+        addi    a3, x0, -2              # 2 bytes before the data's end
         .balign 16
-        lui     a3, 0xfffff             # fffff030: 2 bytes before the data's end
-        addi    a3, a3, -2
         masked  s1, a3
-        .balign 16
-        masked  s1, a3                  # fffff040
-        c.sw    a2, 0(s1)               # fffff048
+        c.sw    a2, 0(s1)
 END
     sandbox 0x10000000 0x7fffe000 4096 "0" '' <<'END'
         addi    a0, x0, 9
@@ -227,7 +225,7 @@ attack() { # name, the verdict's rule and address, what is found unchecked; asse
     image 1 1 >"$room/image.hex" < <(sandbox 0x01000000 0x01800000 4096 "0 1" '')
     found=$(./run.sh <"$room/image.hex"; echo "status $?")
     report "$1: checked" "refused findings=1 first=$2 sandbox=0 at=$3"$'\nstatus 1' "$found"
-    found=$(./run.sh --unchecked --seconds 3 <"$room/image.hex"; echo "status $?")
+    found=$(./run.sh --unchecked --seconds 3 <"$room/image.hex" 2>"$room/log"; echo "status $?")
     report "$1: unchecked" "$4" "$found"
 }
 
