@@ -180,10 +180,13 @@ done
 # ---- Images that no build makes: other addresses, and 16-bit accesses on a masked register
 
 image 1 2 >"$room/image.hex" < <(
-    sandbox 0xfffff000 0x00001000 4096 "0 1" 416263 <<'END'
+    sandbox 0xfffff000 0x00001000 4096 "0" 416263 <<'END'
+        gate
         .option rvc
         masked  s0, x0                  # the data's first byte
         c.lw    a2, 4(s0)
+        .balign 16
+        masked  s0, x0
         c.sw    s0, 124(s0)
         addi    a3, x0, -2              # 2 bytes before the data's end
         .balign 16
@@ -191,8 +194,8 @@ image 1 2 >"$room/image.hex" < <(
         c.sw    a2, 0(s1)
 END
     sandbox 0x10000000 0x7fffe000 4096 "0" '' <<'END'
+        gate
         addi    a0, x0, 9
-        .balign 16
         jal     x1, 0x10000000
 END
 )
@@ -200,22 +203,25 @@ compare "regions anywhere" "$room/image.hex" '' steps
 report "regions anywhere: the trap and what is written" "sandbox=0 trap=Store at=00001ffe out= written=0000107d:10" \
     "$(./run.sh --written <"$room/image.hex" | head -n 1)"
 
+one() { sandbox "$1" "$2" "$3" "" "" <<<ebreak; } # code base, data base, data size
+
 refused_by_loader() { # reason; the image on standard input
     local found
     found=$(./run.sh; echo "status $?")
     report "the loader refuses: $1" "device: $1"$'\nstatus 2' "$found"
 }
 
-one() { sandbox "$1" "$2" "$3" "" "" <<<ebreak; }
-image 2 1 < <(one 0x80000000 0x01800000 4096) | refused_by_loader "sandbox 0: its code is where the host is"
-image 2 1 < <(one 0x90001f00 0x01800000 4096) | refused_by_loader "sandbox 0: its code is where the host is"
-image 2 1 < <(one 0x01000000 0x90002f00 256) | refused_by_loader "sandbox 0: its data or guard zones are where the host is"
-image 2 2 < <(one 0x01000000 0x7fffd000 4096; one 0x02000000 0x7ffff000 4096) |
-    refused_by_loader "sandbox 1: its data or guard zones are where the host is"
-image 2 1 < <(one 0x90002000 0x90006f00 256) >"$room/image.hex"
+refused_by_loader "sandbox 0: its code is where the host is" < <(image 2 1 < <(one 0x80000000 0x01800000 4096))
+refused_by_loader "sandbox 0: its code is where the host is" < <(image 2 1 < <(one 0x90001f00 0x01800000 4096))
+refused_by_loader "sandbox 0: its data or guard zones are where the host is" < <(image 2 1 < <(one 0x01000000 0x90002f00 256))
+refused_by_loader "sandbox 1: its data or guard zones are where the host is" \
+    < <(image 2 2 < <(one 0x01000000 0x01800000 4096; one 0x02000000 0x7ffff000 4096))
+image 2 1 >"$room/image.hex" < <(one 0x90002000 0x90006f00 256)
 compare "the first addresses after the host" "$room/image.hex" '' steps
-for ((number = 1; number <= 16; number++)); do printf '.sandbox 2048\n ebreak\n'; done | "$SFI" build |
-    refused_by_loader "sandbox 14: there is room for 14 data regions below 4096 bytes"
+for ((number = 1; number <= 16; number++)); do
+    printf '.sandbox 2048\n ebreak\n'
+done >"$room/small.s"
+refused_by_loader "sandbox 14: there is room for 14 data regions below 4096 bytes" < <("$SFI" build <"$room/small.s")
 
 # ---- Attacks: refused, and what they do where nobody checks
 
