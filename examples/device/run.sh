@@ -11,7 +11,7 @@
 #     --unchecked           sends an image that the checker refuses too
 #     --seconds N           ends QEMU after so long; 60 if absent
 #
-# SFI is the program sfi; ./sfi at the top if absent. Ends in the checker's status where that refuses, in 2 where the loader
+# SFI is the program sfi; ./sfi at the top if absent. QEMU_OPTIONS are further words for QEMU. Ends in the checker's status where that refuses, in 2 where the loader
 # does, in 3 for a fault of the loader, in 124 after --seconds.
 set -euo pipefail
 here=$(cd "$(dirname "${BASH_SOURCE[0]}")" && pwd)
@@ -51,4 +51,5 @@ done
 [ ! -s "$room/image" ] || options+=(-device "loader,file=$room/image,addr=0x88000000,force-raw=on")
 [ ! -s "$room/input" ] || options+=(-device "loader,file=$room/input,addr=0x8c000000,force-raw=on")
 [ "$steps" = 0 ] || options+=(-icount shift=0)
-timeout "$seconds" qemu-system-riscv32 "${options[@]}" </dev/null
+# shellcheck disable=SC2086 # words
+timeout "$seconds" qemu-system-riscv32 "${options[@]}" ${QEMU_OPTIONS:-} </dev/null

@@ -274,25 +274,30 @@ attack "csrw: a trap goes nowhere any more" V1 01000020 "status 124" <<'END'
         ebreak
 END
 
-# The same store with its address masked, and an ebreak that a debugger would take for a call of semihosting.
-image 1 1 >"$room/image.hex" < <(sandbox 0x01000000 0x01800000 4096 "" 6f7574 <<'END'
+image 1 1 >"$room/image.hex" < <(sandbox 0x01000000 0x01800000 4096 "" '' <<'END'
         lui     a0, 0x90000
         li      a1, '!'
         .balign 16
         masked  t6, a0
         sb      a1, 4(t6)
-        .balign 16
+END
+)
+report "a store to the UART, masked" "sandbox=0 trap=Break at=01000020 out= written=01800004:21" \
+    "$(./run.sh --written <"$room/image.hex")"
+
+# Accepted code may hold these three instructions, which a debugger takes for a call: 4 writes the text at a1.
+image 1 1 >"$room/image.hex" < <(sandbox 0x01000000 0x01800000 4096 "" 6869210a00 <<'END'
         mv      a1, x26
         li      a0, 4
         .balign 16
         slli    x0, x0, 31
         ebreak
         srai    x0, x0, 7
-        ebreak
 END
 )
-report "a masked store, and the ebreak of semihosting" "sandbox=0 trap=Break at=01000034 out= written=01800004:21" \
-    "$(./run.sh --written <"$room/image.hex")"
+report "the ebreak of semihosting" "sandbox=0 trap=Break at=01000014 out=" "$(./run.sh <"$room/image.hex")"
+report "the ebreak of semihosting, where that is on" $'hi!\nsandbox=0 trap=Break at=01000020 out=' \
+    "$(QEMU_OPTIONS='-semihosting-config enable=on,target=native' ./run.sh <"$room/image.hex" 2>&1)"
 
 report "bytes that are no image" $'layout fault 1 Magic\nstatus 2' "$(./run.sh <<<00112233; echo "status $?")"
 finish
