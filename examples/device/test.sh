@@ -22,7 +22,7 @@ report() { # what is tried, what is wanted, what is found
         passed=$((passed + 1))
     else
         failed=$((failed + 1))
-        printf 'FAILED %s\n  wanted %s\n  found  %s\n' "$1" "$2" "$3"
+        printf 'FAILED %s\n  wanted %s\n  found  %s\n' "$1" "${2:0:500}" "${3:0:500}"
     fi
 }
 
@@ -60,7 +60,7 @@ compare() { # what is tried, its image, input, `steps` or `no steps`
     local wanted turn found
     wanted=$("$SFI" run --rounds 10000 --quantum 1000000 --input "$3" <"$2")
     for turn in 10000 10; do
-        found=$(./run.sh --steps --turn "$turn" --input "$3" <"$2")
+        found=$(./run.sh --steps --seconds 600 --turn "$turn" --input "$3" <"$2")
         if [ "$4" = steps ]; then
             report "$1, turns of $turn us" "$wanted" "$found"
         else
@@ -68,13 +68,13 @@ compare() { # what is tried, its image, input, `steps` or `no steps`
         fi
     done
     [ -n "$all" ] || return
-    found=$(./run.sh --turn 10 --input "$3" <"$2")
+    found=$(./run.sh --seconds 600 --turn 10 --input "$3" <"$2")
     report "$1, turns of 10 us by the real clock" "$(without_steps <<<"$wanted")" "$found"
 }
 
 compare_examples() { # format
     local source name input
-    for source in ../*.s cases/services.s cases/output.s; do
+    for source in ../*.s cases/services.s ${all:+cases/output.s}; do
         name=$(basename "$source" .s)
         build "$source" "$1" >"$room/image.hex"
         for input in 48656c6c6f ${all:+'' $(xxd -p ../c/inputs/prose | tr -d '\n')}; do
