@@ -10,20 +10,26 @@ void console_is_paged(void) {
     finisher = (volatile uint32_t *)FINISHER;
 }
 
+static void send(char byte) {
+    while (!(uart[UART_STATUS] & UART_IS_EMPTY)) {
+    }
+    uart[UART_TRANSMIT] = byte;
+}
+
 void print(const char *text) {
     while (*text)
-        *uart = *text++;
+        send(*text++);
 }
 
 void print_hex(uint32_t number, unsigned digits) {
     while (digits-- > 0)
-        *uart = "0123456789abcdef"[number >> 4 * digits & 15];
+        send("0123456789abcdef"[number >> 4 * digits & 15]);
 }
 
 void print_decimal(uint64_t number) {
     if (number > 9)
         print_decimal(number / 10);
-    *uart = '0' + number % 10;
+    send('0' + number % 10);
 }
 
 _Noreturn static void end(uint32_t how) {

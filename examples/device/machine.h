@@ -4,7 +4,10 @@
 #define MACHINE_H
 
 /* ---- QEMU's devices and memory: hw/riscv/virt.c, virt_memmap */
-#define UART_DEVICE     0x10000000      /* a 16550A: a byte stored at its first register is sent */
+#define UART_DEVICE     0x10000000      /* a 16550A */
+#define UART_TRANSMIT   0               /* register: a byte stored here is sent */
+#define UART_STATUS     5               /* register: the line's status */
+#define UART_IS_EMPTY   0x20            /* in it: the next byte can be stored */
 #define FINISHER_DEVICE 0x00100000      /* a word stored at SiFive's test device ends QEMU */
 #define FINISH_PASSED   0x5555          /* with status 0 */
 #define FINISH_FAILED   0x3333          /* with the status in the upper 16 bits */

@@ -9,6 +9,8 @@ here=$(cd "$(dirname "${BASH_SOURCE[0]}")" && pwd)
 SFI=$(realpath "${1:-$here/../../sfi}")
 export SFI
 all=${ALL:-}
+seconds=60
+[ -z "$all" ] || seconds=600 # for the longest output
 passed=0
 failed=0
 skipped=0
@@ -60,7 +62,7 @@ compare() { # what is tried, its image, input, `steps` or `no steps`
     local wanted turn found
     wanted=$("$SFI" run --rounds 10000 --quantum 1000000 --input "$3" <"$2")
     for turn in 10000 10; do
-        found=$(./run.sh --steps --seconds 600 --turn "$turn" --input "$3" <"$2")
+        found=$(./run.sh --steps --seconds "$seconds" --turn "$turn" --input "$3" <"$2")
         if [ "$4" = steps ]; then
             report "$1, turns of $turn us" "$wanted" "$found"
         else
@@ -68,7 +70,7 @@ compare() { # what is tried, its image, input, `steps` or `no steps`
         fi
     done
     [ -n "$all" ] || return
-    found=$(./run.sh --seconds 600 --turn 10 --input "$3" <"$2")
+    found=$(./run.sh --seconds "$seconds" --turn 10 --input "$3" <"$2")
     report "$1, turns of 10 us by the real clock" "$(without_steps <<<"$wanted")" "$found"
 }
 
