@@ -1,5 +1,5 @@
-/* The services of a gate, as the console of `sfi run` answers them (docs/GATES.md). A reply changes a0, a1, the caller's own
-   data and its pc, and nothing else of the caller. */
+/* The services of a gate, as the console of `sfi run` answers them (docs/GATES.md). A reply changes
+   a0, a1, the caller's own data and its pc, and nothing else of the caller. */
 #include "host.h"
 
 enum service { EXIT, PUT, GET, YIELD, POST, TAKE };
@@ -15,14 +15,17 @@ static bool are_its_own(const struct part *part, uint32_t address, uint32_t leng
 static uint32_t put(struct sandbox *caller, uint32_t address, uint32_t length) {
     if (length == 0)
         return 0;
-    if (!are_its_own(&caller->part, address, length) || length > OUTPUT_MOST - caller->output_length)
+    if (!are_its_own(&caller->part, address, length))
+        return FAILED;
+    if (length > OUTPUT_MOST - caller->output_length)
         return FAILED;
     memcpy(caller->output + caller->output_length, (const uint8_t *)address, length);
     caller->output_length += length;
     return length;
 }
 
-static uint32_t get(struct world *world, struct sandbox *caller, uint32_t address, uint32_t length) {
+static uint32_t get(struct world *world, struct sandbox *caller, uint32_t address,
+                    uint32_t length) {
     if (length == 0)
         return 0;
     if (!are_its_own(&caller->part, address, length))

@@ -30,7 +30,7 @@ struct part {
 /* A sandbox's registers while the host runs. switch.S knows the offsets. x[0] is always 0. */
 struct frame {
     uint32_t x[32], pc, host_stack;
-    uint32_t retired_before, retired_after; /* the count of instructions, on the way in and on the way out */
+    uint32_t retired_before, retired_after; /* counts of instructions, on the way in and out */
 };
 
 enum state { READY, EXITED, TRAPPED };

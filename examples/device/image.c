@@ -1,4 +1,5 @@
-/* Reads an image (docs/IMAGE.md). The checker has judged it; the tests here keep the loader within the image's bytes. */
+/* Reads an image (docs/IMAGE.md). The checker has judged it; the tests here keep the loader within
+   the image's bytes. */
 #include "host.h"
 
 struct reader {
@@ -51,9 +52,10 @@ static void set_registers(struct sandbox *sandbox) {
 uint32_t read_image(const uint8_t *image, uint32_t length, struct sandbox sandboxes[]) {
     struct reader reader = {image, image + length};
     const uint8_t *magic = take(&reader, 4);
-    if (magic[0] != 'S' || magic[1] != 'F' || magic[2] != 'I' || (magic[3] != '1' && magic[3] != '2'))
-        refuse("no image");
+    bool is_format = magic[3] == '1' || magic[3] == '2';
     uint32_t count = take_word(&reader);
+    if (magic[0] != 'S' || magic[1] != 'F' || magic[2] != 'I' || !is_format)
+        refuse("no image");
     if (count == 0 || count > SANDBOXES_MOST)
         refuse("no image");
     for (uint32_t number = 0; number < count; number++) {

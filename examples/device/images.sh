@@ -1,5 +1,5 @@
-# Images by hand, for test.sh: code that the GNU assembler makes, so that it needn't be code that `sfi build` would make.
-# They want $room, a folder for what is made on the way.
+# Images by hand, for test.sh: code that the GNU assembler makes, so that it needn't be code that
+# `sfi build` would make. They want $room, a folder for what is made on the way.
 
 words() { # numbers, little-endian
     local number
@@ -8,8 +8,8 @@ words() { # numbers, little-endian
     done
 }
 
-# Assembly on standard input, which has `gate`, the stub of a gate, and `masked register, address`, the pair of an access.
-# Prints the code, filled up with ebreak to a power of two.
+# Assembly on standard input, which has `gate`, the stub of a gate, and `masked register, address`,
+# the pair of an access. Prints the code, filled up with ebreak to a power of two.
 assemble() { # code base
     local text size
     {
@@ -32,14 +32,16 @@ assemble() { # code base
 }
 
 # One sandbox of an image; its start is after its gates, which are its first bundles.
-sandbox() { # code base, data base, data size, services of its gates, first data bytes (hexadecimal); assembly on standard input
+# Its arguments: code base, data base, data size, services of its gates, first data bytes in hexadecimal.
+sandbox() { # assembly on standard input
     local code service place=$1 gates=()
     code=$(assemble "$1")
     for service in $4; do
         gates+=("$place" "$service")
         place=$((place + 16))
     done
-    words "$1" $((${#code} / 2)) "$2" "$3" "$place" $((${#gates[@]} / 2)) $((${#5} / 2)) ${gates[@]+"${gates[@]}"}
+    words "$1" $((${#code} / 2)) "$2" "$3" "$place" $((${#gates[@]} / 2)) $((${#5} / 2))
+    words ${gates[@]+"${gates[@]}"}
     printf '%s%s' "$code" "$5"
 }
 

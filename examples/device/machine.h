@@ -1,5 +1,6 @@
-/* The machine: QEMU's `virt` with 256 MiB, and what the manuals say of RV32. Chapters are those of the RISC-V privileged
-   manual (volume II), unless another is named. C and assembly read this file, so it has macros alone. */
+/* The machine: QEMU's `virt` with 256 MiB, and what the manuals say of RV32. Chapters are those of
+   the RISC-V privileged manual (volume II), unless another is named. C and assembly read this file,
+   so it has macros alone. */
 #ifndef MACHINE_H
 #define MACHINE_H
 
@@ -18,7 +19,8 @@
 #define ARGUMENTS       0x87fff000      /* struct arguments; the pool of pages ends here */
 #define IMAGE           0x88000000
 #define INPUT           0x8c000000
-/* Once there is a page table the two devices are here: the UART's own address is that of the sixteenth sandbox. */
+/* Once there is a page table the two devices are here: the UART's own address is that of the
+   sixteenth sandbox. */
 #define UART            0x90000000
 #define FINISHER        0x90001000
 #define HOST_END        0x90002000      /* the host's addresses are those from RAM to here */
@@ -38,7 +40,7 @@
 #define CAUSE_STORE_PAGE        15
 #define CAUSE_TIMER             (1u << 31 | 5)
 
-/* ---- Machine-Level ISA: mstatus, and menvcfgh (the upper half of menvcfg), whose STCE turns on stimecmp ("Sstc") */
+/* ---- Machine-Level ISA: mstatus, and the upper half of menvcfg, whose STCE turns on stimecmp */
 #define MSTATUS_MPP             (3 << 11)
 #define MSTATUS_MPP_SUPERVISOR  (1 << 11)
 #define MENVCFGH                0x31a
@@ -54,7 +56,7 @@
 #define STIMECMP                0x14d
 #define STIMECMPH               0x15d
 
-/* ---- Supervisor-Level ISA, "Sv32": an entry of a page table. A page with PTE_X alone can be executed and not read. */
+/* ---- Supervisor-Level ISA, "Sv32": an entry of a page table. PTE_X alone: executed, not read */
 #define PAGE                    4096
 #define MEGAPAGE                (1 << 22)
 #define PTE_V                   1

@@ -1,5 +1,5 @@
-/* One Sv32 page table for the host and its sandboxes: code can be executed and nothing else, data read and written, and the
-   guard zones have no entry. M-mode makes it, in physical addresses. */
+/* One Sv32 page table for the host and its sandboxes: code can be executed and nothing else, data
+   read and written, and the guard zones have no entry. M-mode makes it, in physical addresses. */
 #include "host.h"
 #include "machine.h"
 
@@ -10,9 +10,10 @@ enum {
     PMP_ALL = SMALL_MOST + 1
 };
 
-/* Pages of small data regions. PMP closes all of it but those regions, so that a guard zone may begin within a page. */
+/* Pages of small data regions. PMP closes all of it but those regions, so that a guard zone may
+   begin within a page. */
 enum { WINDOW_SIZE = 1 << 16 };
-extern uint8_t window[];        /* loader.ld: aligned to its size; after it is the pool of pages, up to ARGUMENTS */
+extern uint8_t window[]; /* aligned to its size; after it is the pool of pages, up to ARGUMENTS */
 static uint32_t small_count;
 
 static uint32_t root[ENTRIES] __attribute__((aligned(PAGE)));
@@ -45,8 +46,10 @@ static uint32_t least(uint32_t a, uint32_t b) {
     return a < b ? a : b;
 }
 
-/* Maps a region, and writes its first bytes; the others are 0. Code regions below 4096 bytes may share a page. */
-static void map_region(uint32_t sandbox, uint32_t base, uint32_t size, uint32_t rights, const uint8_t *bytes, uint32_t length) {
+/* Maps a region, and writes its first bytes; the others are 0. Code regions below 4096 bytes may
+   share a page. */
+static void map_region(uint32_t sandbox, uint32_t base, uint32_t size, uint32_t rights,
+                       const uint8_t *bytes, uint32_t length) {
     for (uint32_t done = 0; done < size;) {
         uint32_t *entry = entry_of(base + done, sandbox);
         uint32_t offset = (base + done) % PAGE;
@@ -59,7 +62,8 @@ static void map_region(uint32_t sandbox, uint32_t base, uint32_t size, uint32_t 
     }
 }
 
-/* A data region below 4096 bytes gets a page of the window, and a PMP entry that opens its bytes there. */
+/* A data region below 4096 bytes gets a page of the window, and a PMP entry that opens its bytes
+   there. */
 static void open_small_data(uint32_t sandbox, const struct part *part) {
     if (small_count == SMALL_MOST)
         refuse_sandbox(sandbox, "there is room for 14 data regions below 4096 bytes");
@@ -76,7 +80,8 @@ static bool meets_host(uint64_t from, uint64_t to) {
 void map_sandbox(uint32_t number, const struct part *part) {
     if (meets_host(part->code_base, (uint64_t)part->code_base + part->code_size))
         refuse_sandbox(number, "its code is where the host is");
-    if (meets_host((uint64_t)part->data_base - GUARD_ZONE, (uint64_t)part->data_base + part->data_size + GUARD_ZONE))
+    uint64_t data_end = (uint64_t)part->data_base + part->data_size;
+    if (meets_host((uint64_t)part->data_base - GUARD_ZONE, data_end + GUARD_ZONE))
         refuse_sandbox(number, "its data or guard zones are where the host is");
     map_region(number, part->code_base, part->code_size, PTE_X, part->code, part->code_size);
     if (part->data_size < PAGE)
@@ -84,7 +89,8 @@ void map_sandbox(uint32_t number, const struct part *part) {
     map_region(number, part->data_base, part->data_size, PTE_R | PTE_W, part->first, part->first_count);
 }
 
-/* The host's memory has no protection from the sandboxes but what the checker says of them: one address space, one privilege. */
+/* The host's memory has no protection from the sandboxes but what the checker says of them: one
+   address space, one privilege. */
 uint32_t finish_page_table(void) {
     const uint32_t rights = PTE_R | PTE_W | PTE_ACCESSED | PTE_DIRTY;
     for (uint32_t address = RAM; address < UART; address += MEGAPAGE)

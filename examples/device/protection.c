@@ -1,4 +1,5 @@
-/* Physical memory protection: rights on a power of two of addresses, aligned to it. A lower entry goes before a higher one. */
+/* Physical memory protection: rights on a power of two of addresses, aligned to it. A lower entry
+   goes before a higher one. */
 #include "host.h"
 #include "machine.h"
 

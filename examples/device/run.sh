@@ -1,5 +1,6 @@
 #!/usr/bin/env bash
-# Checks an image, and runs it natively on RV32 in QEMU, in one address space and one privilege with its host.
+# Checks an image, and runs it natively on RV32 in QEMU, in one address space and one privilege with
+# its host.
 #
 #     examples/device/run.sh [OPTIONS] < IMAGE      # hexadecimal text, as `sfi run` reads it
 #
@@ -11,8 +12,9 @@
 #     --unchecked           sends an image that the checker refuses too
 #     --seconds N           ends QEMU after so long; 60 if absent
 #
-# SFI is the program sfi; ./sfi at the top if absent. QEMU_OPTIONS are further words for QEMU. Ends in the checker's status where that refuses, in 2 where the loader
-# does, in 3 for a fault of the loader, in 124 after --seconds.
+# SFI is the program sfi; ./sfi at the top if absent. QEMU_OPTIONS are further words for QEMU. Ends
+# in the checker's status where that refuses, in 2 where the loader does, in 3 for a fault of the
+# loader, in 124 after --seconds.
 set -euo pipefail
 here=$(cd "$(dirname "${BASH_SOURCE[0]}")" && pwd)
 sfi=${SFI:-$here/../../sfi}
@@ -44,7 +46,8 @@ fi
 # The addresses are those of machine.h, and the words those of struct arguments in host.h.
 options=(-M virt -m 256M -bios none -display none -monitor none -serial stdio -kernel "$here/out/loader")
 address=$((0x87fff000))
-for word in "$(stat -c %s "$room/image")" "$(stat -c %s "$room/input")" "$rounds" $((turn * 10)) "$steps" "$written"; do
+lengths=("$(stat -c %s "$room/image")" "$(stat -c %s "$room/input")")
+for word in "${lengths[@]}" "$rounds" $((turn * 10)) "$steps" "$written"; do
     options+=(-device "loader,addr=$address,data=$word,data-len=4")
     address=$((address + 4))
 done

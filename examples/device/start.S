@@ -1,4 +1,5 @@
-# From reset to the host. M-mode prepares memory and hands every trap over; the host and its sandboxes share S-mode.
+# From reset to the host. M-mode prepares memory and hands every trap over; the host and its
+# sandboxes share S-mode.
 #include "machine.h"
 
         .section .init, "ax"
@@ -37,8 +38,8 @@ loader_fault:
         j       host_fault
 
         .text
-        .globl  pmp_write               # void pmp_write(const uint32_t addresses[16], const uint8_t configurations[16])
-pmp_write:
+        .globl  pmp_write
+pmp_write:                              # from protection.c: 16 addresses, 16 configurations
         .irp    entry, 0,1,2,3,4,5,6,7,8,9,10,11,12,13,14,15
         lw      t0, 4*\entry(a0)
         csrw    pmpaddr\entry, t0

@@ -1,5 +1,6 @@
-# The way into a sandbox and back. A sandbox may leave anything in its registers, so the host finds its own by sscratch,
-# which no accepted code can write: it holds the frame while a sandbox runs, and 0 while the host does.
+# The way into a sandbox and back. A sandbox may leave anything in its registers, so the host finds
+# its own by sscratch, which no accepted code can write: it holds the frame while a sandbox runs,
+# and 0 while the host does.
 #include "machine.h"
 
         .macro  each_register operation # of a sandbox, but a0, which holds the frame

@@ -1,6 +1,7 @@
 #!/usr/bin/env bash
-# Runs images natively on RV32 in QEMU, beside `sfi run`, and compares their lines: exit codes, traps with their addresses,
-# steps and output. Then it shows what the checker keeps from the host: images that it refuses, and what they do all the same.
+# Runs images natively on RV32 in QEMU, beside `sfi run`, and compares their lines: exit codes,
+# traps with their addresses, steps and output. Then it shows what the checker keeps from the host:
+# images that it refuses, and what they do all the same.
 #
 #     examples/device/test.sh [SFI]             # SFI is the program; ./sfi at the top if absent
 #     ALL=1 examples/device/test.sh [SFI]       # every input, more sizes of data, and turns by the real clock
@@ -56,8 +57,9 @@ build() { # a source, a format; the image on one line
     grep -v '^\.format' "$1" | sed "1i .format $2" | "$SFI" build
 }
 
-# Turns of 10 ms are longer than most runs, those of 10 us some 10000 instructions: the clock of --steps counts these. Where
-# sandboxes wait for each other, their steps depend on how long turns are, and only their states and output are compared.
+# Turns of 10 ms are longer than most runs, those of 10 us some 10000 instructions: the clock of
+# --steps counts these. Where sandboxes wait for each other, their steps depend on how long turns
+# are, and only their states and output are compared.
 compare() { # what is tried, its image, input, `steps` or `no steps`
     local wanted turn found
     wanted=$("$SFI" run --rounds 10000 --quantum 1000000 --input "$3" <"$2")
@@ -95,7 +97,8 @@ compare_programs() { # format
         [ "$program" = "$last" ] && [ -z "$all" ] && continue
         last=$program
         build "../c/$program.s" "$1" >"$room/image.hex"
-        compare "$program on $input, format $1" "$room/image.hex" "$(xxd -p "../c/inputs/$input" | tr -d '\n')" steps
+        compare "$program on $input, format $1" "$room/image.hex" \
+            "$(xxd -p "../c/inputs/$input" | tr -d '\n')" steps
     done < <(tac ../c/expected.txt)
 }
 
@@ -139,7 +142,8 @@ access_source() { # data size, format, base register; the accesses, a sandbox fo
     done
 }
 
-# What a right machine says of an access: where it traps it names the first of its addresses, and writes nothing.
+# What a right machine says of an access: where it traps it names the first of its addresses, and
+# writes nothing.
 access_meaning() { # number of the sandbox, data size, the access: `trap written`, with Break for no trap
     local number=$1 data_size=$2 operation=$3 base=$4 offset=$5 size first written='' byte
     case $operation in *b | *bu) size=1 ;; *h | *hu) size=2 ;; *) size=4 ;; esac
@@ -156,7 +160,10 @@ access_meaning() { # number of the sandbox, data size, the access: `trap written
 }
 
 # `Break ADDRESS:BYTE,..`, `Load at=ADDRESS` or `Store at=ADDRESS` of a line with --written.
-found_meaning() { sed 's/.* trap=Break at=[0-9a-f]*/Break/; s/.* trap=//; s/ steps=[0-9]*//; s/ out=//; s/ written=/ /; s/^Break$/Break /'; }
+found_meaning() {
+    sed 's/.* trap=Break at=[0-9a-f]*/Break/; s/.* trap=//' |
+        sed 's/ steps=[0-9]*//; s/ out=//; s/ written=/ /; s/^Break$/Break /'
+}
 
 compare_accesses() { # data size, format, base register
     local size=$1 format=$2 register=$3 from number found wanted
@@ -164,11 +171,13 @@ compare_accesses() { # data size, format, base register
         access_source "$size" "$format" "$register" "${accesses[@]:from:14}" | "$SFI" build >"$room/image.hex"
         found=$(./run.sh --steps --written <"$room/image.hex")
         wanted=$("$SFI" run --rounds 2 <"$room/image.hex")
-        report "accesses from $from on, data of $size bytes, on $register, beside sfi run" "$wanted" "$(sed 's/ written=.*//' <<<"$found")"
+        report "accesses from $from on, data of $size bytes, on $register, beside sfi run" \
+            "$wanted" "$(sed 's/ written=.*//' <<<"$found")"
         number=0
         while read -r line; do
             wanted=$(access_meaning "$number" "$size" ${accesses[from + number]})
-            report "${accesses[from + number]}, data of $size bytes, on $register" "$wanted" "$(found_meaning <<<"$line")"
+            report "${accesses[from + number]}, data of $size bytes, on $register" \
+                "$wanted" "$(found_meaning <<<"$line")"
             number=$((number + 1))
         done <<<"$found"
     done
@@ -215,7 +224,8 @@ refused_by_loader() { # reason; the image on standard input
 
 refused_by_loader "sandbox 0: its code is where the host is" < <(image 2 1 < <(one 0x80000000 0x01800000 4096))
 refused_by_loader "sandbox 0: its code is where the host is" < <(image 2 1 < <(one 0x90001f00 0x01800000 4096))
-refused_by_loader "sandbox 0: its data or guard zones are where the host is" < <(image 2 1 < <(one 0x01000000 0x90002f00 256))
+refused_by_loader "sandbox 0: its data or guard zones are where the host is" \
+    < <(image 2 1 < <(one 0x01000000 0x90002f00 256))
 refused_by_loader "sandbox 1: its data or guard zones are where the host is" \
     < <(image 2 2 < <(one 0x01000000 0x01800000 4096; one 0x02000000 0x7ffff000 4096))
 image 2 1 >"$room/image.hex" < <(one 0x90002000 0x90006f00 256)
@@ -287,7 +297,8 @@ END
 report "a store to the UART, masked" "sandbox=0 trap=Break at=01000020 out= written=01800004:21" \
     "$(./run.sh --written <"$room/image.hex")"
 
-# Accepted code may hold these three instructions, which a debugger takes for a call: 4 writes the text at a1.
+# Accepted code may hold these three instructions, which a debugger takes for a call: 4 writes the
+# text at a1.
 image 1 1 >"$room/image.hex" < <(sandbox 0x01000000 0x01800000 4096 "" 6869210a00 <<'END'
         mv      a1, x26
         li      a0, 4

@@ -1,4 +1,5 @@
-# The first sandbox never ends its turn by itself; the second exits after its neighbour's first turn.
+# The first sandbox never ends its turn by itself; the second exits after its neighbour's first
+# turn.
 .sandbox 256
 loop:   j    loop
 

@@ -1,4 +1,5 @@
-# Puts 16 times 65536 bytes, which is all the output that there is room for, then one byte more, and exits with that answer.
+# Puts 16 times 65536 bytes, which is all the output that there is room for, then one byte more, and
+# exits with that answer.
 .sandbox 131072
 .gate exit 0
 .gate put 1

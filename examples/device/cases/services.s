@@ -1,5 +1,5 @@
-# Calls each service at the edges of what it answers, and puts each answer (a0, and of take a1 too). Then it exits with the
-# number of answers. Its input should have 5 bytes.
+# Calls each service at the edges of what it answers, and puts each answer (a0, and of take a1 too).
+# Then it exits with the number of answers. Its input should have 5 bytes.
 .sandbox 4096
 .gate exit 0
 .gate put 1
