@@ -2,14 +2,13 @@
 """Tests of asm2sfi: `python3 tools/asm2sfi/test_asm2sfi.py`. The assembly is what gcc 12 and clang 14 write."""
 import unittest
 
+import testing
 from assembly import Label, Place, Refused, Statement, read_assembly
 from conversion import Options, convert
-from instructions import Converter, Op
+from instructions import Converter
 from naming import Names
 from operands import Symbol
 from reading import read_unit, string_bytes
-from reach import FARTHEST, far_branches, with_far_branches
-from program import Mark
 
 HERE = Place("a.s", 1)
 
@@ -21,8 +20,8 @@ def converted(line):
 
 
 def source(text, library="", **options):
-    """The source of a program of one file; it must not be refused."""
-    result, refusals = convert([("a.s", text)], [("lib.s", library)], Options(**options))
+    """The source of a program of one file, without passes; it must not be refused."""
+    result, refusals = convert([("a.s", text)], [("lib.s", library)], Options(passes=(), **options))
     assert not refusals, refusals
     return result
 
@@ -312,21 +311,5 @@ class Naming(unittest.TestCase):
         self.assertEqual(names.fresh("put"), "put..n2")
 
 
-class Reach(unittest.TestCase):
-    @staticmethod
-    def loop(count):
-        """A loop of so many loads, which take 12 of the 16 bytes of a bundle each."""
-        loads = [Op("lw", ("a0", "0(a0)"), HERE)] * count
-        return [Mark("top"), *loads, Op("bnez", ("a0", "top"), HERE)]
-
-    def test_near(self):
-        self.assertEqual(far_branches(self.loop(FARTHEST // 16)), set())
-
-    def test_far(self):
-        code = with_far_branches(self.loop(FARTHEST // 16 + 1), Names([]))
-        self.assertEqual(code[-3:], [
-            Op("beqz", ("a0", "over..1"), HERE), Op("j", ("top",), HERE), Mark("over..1")])
-
-
 if __name__ == "__main__":
-    unittest.main()
+    testing.main()
