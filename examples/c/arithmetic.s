@@ -100,12 +100,10 @@ operand:
         srli a1, a5, 19
         lw a2, 20(zero)
         slli a4, a2, 13
-        .option norvc
         or a4, a4, a1
-        .option rvc
         slli a1, a5, 13
-        .option norvc
         xor a4, a4, a2
+        .option norvc
         xor a1, a1, a5
         .option rvc
         slli a2, a4, 25
@@ -113,35 +111,37 @@ operand:
         or a5, a5, a2
         srli a2, a4, 7
         xor a5, a5, a1
+        slli a6, a5, 17
         xor a4, a4, a2
         slli a1, a4, 17
         srli a2, a5, 15
         or a1, a1, a2
-        slli a6, a5, 17
         xor a6, a6, a5
         xor a1, a1, a4
         srli a5, a6, 19
         slli a4, a1, 13
         or a4, a4, a5
         slli a2, a6, 13
-        .option norvc
         xor a4, a4, a1
-        .option rvc
         xor a2, a2, a6
         slli a0, a4, 25
         srli a5, a2, 7
         or a5, a5, a0
         srli a0, a4, 7
-        xor a5, a5, a2
         .option norvc
+        xor a5, a5, a2
         xor a0, a0, a4
         .option rvc
         srli a7, a5, 15
         slli a4, a0, 17
         slli a2, a5, 17
-        or a4, a4, a7
+        .option norvc
         xor a5, a5, a2
+        .option rvc
+        or a4, a4, a7
+        .option norvc
         xor a4, a4, a0
+        .option rvc
         sw a5, 16(zero)
         andi a2, a5, 63
         sw a4, 20(zero)
@@ -217,11 +217,9 @@ _.L20:
         slli a6, a5, 8
         add a3, zero, s5
         add a0, zero, s3
-        .option norvc
-        addi s1, s1, -1
-        .option rvc
         mulhu a4, s4, a5
         .option norvc
+        addi s1, s1, -1
         add s0, s0, a6
         .option rvc
         mul s2, s4, a5
@@ -298,11 +296,9 @@ _.L24:
         lw a3, 0(sp)
         slli a6, a5, 8
         mulhu a4, s3, a5
-        .option norvc
-        add a0, zero, s6
-        .option rvc
         mul s5, s3, a5
         .option norvc
+        add a0, zero, s6
         addi s1, s1, 1
         add s0, s0, a6
         add s0, s0, a4
@@ -360,10 +356,10 @@ _.L37:
         slli a3, a0, 8
         sw zero, 0(sp)
         li s2, 0
+        li s7, 435
         .option norvc
         li s1, 0
         .option rvc
-        li s7, 435
         mulhu a1, s3, a0
         .option norvc
         add a5, a5, a3
@@ -652,18 +648,14 @@ _.L28:
         xor a4, a4, s5
         xor a5, a5, s3
         mul a4, a7, a4
+        slli a2, a5, 8
+        mulhu s5, a7, a5
+        mul s3, a7, a5
         .option norvc
         lw a6, 4(sp)
-        .option rvc
-        slli a2, a5, 8
-        .option norvc
         addi a6, a6, 1
-        .option rvc
-        mulhu s5, a7, a5
-        .option norvc
         add a4, a4, a2
         .option rvc
-        mul s3, a7, a5
         li a5, 2000
         .option norvc
         add s5, s5, a4
@@ -719,13 +711,13 @@ divided..1:
 _.L2..1:
         addi sp, sp, -16
         .option norvc
+        nop
         sw s0, 12(sp)
         .option rvc
         li t4, 64
         .option norvc
         li a7, 0
         li a0, 0
-        nop
 _.L8..1:
         .option rvc
         srli a5, a1, 31
@@ -1066,13 +1058,11 @@ __muldi3:
         and t1, a0, a4
         srli t3, a0, 16
         srli t4, a2, 16
-        .option norvc
         add a7, zero, a0
-        .option rvc
         mul a0, t1, a5
-        mul a5, a5, t3
         srli a6, a0, 16
         and a0, a0, a4
+        mul a5, a5, t3
         mul t1, t1, t4
         and t5, a5, a4
         add a6, a6, t5
@@ -1084,12 +1074,12 @@ __muldi3:
         add a5, a5, t1
         srli a6, a4, 16
         slli a4, a4, 16
-        .option norvc
         or a0, a0, a4
-        .option rvc
         mul a2, a2, a1
+        .option norvc
         add a5, a5, t3
         add a5, a5, a6
+        .option rvc
         mul a7, a7, a3
         .option norvc
         add a2, a2, a7

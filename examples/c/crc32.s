@@ -117,14 +117,14 @@ _.L8:
         .option rvc
         sb a5, 12(sp)
         call put
-        .option norvc
         lw ra, 44(sp)
         lw s0, 40(sp)
+        .option norvc
         lw s2, 32(sp)
         lw s3, 28(sp)
-        .option rvc
         add a0, zero, s1
         lw s1, 36(sp)
+        .option rvc
         addi sp, sp, 48
         jr ra
 .data

@@ -81,10 +81,10 @@ add:
         beq a1, zero, _.L29
         lui s0, 528842
         lui a3, 4096
+        add a2, a1, a0
         .option norvc
         add a5, zero, a0
         .option rvc
-        add a2, a1, a0
         addi s0, s0, -571
         addi a3, a3, 403
 _.L18:
@@ -367,20 +367,16 @@ _.L66:
         .option rvc
         bgeu a7, s2, _.L117
 _.L77:
-        .option norvc
         add a0, zero, sp
-        .option rvc
         mv sp, t0
-        .option norvc
         lw t5, 0(sp)
+        .option norvc
         lw t4, 4(sp)
         lw s1, 8(sp)
         lw t3, 12(sp)
-        .option rvc
-        mv sp, a0
-        .option norvc
         add a2, zero, t0
         .option rvc
+        mv sp, a0
         bltu t2, a7, _.L68
         sub a4, t0, t1
         add a0, zero, t2
@@ -421,9 +417,7 @@ _.L69:
         .option rvc
         lw a3, 4(a4)
         bgeu a3, t4, _.L72
-        .option norvc
         add a6, zero, a3
-        .option rvc
         j _.L72
 _.L72:
         beq a6, zero, _.L73
@@ -457,20 +451,19 @@ _.L68:
         add a0, zero, sp
         mv sp, a2
         sw t5, 0(sp)
-        .option norvc
         sw t4, 4(sp)
         sw s1, 8(sp)
+        .option norvc
         sw t3, 12(sp)
         addi t2, t2, 1
-        .option rvc
-        mv sp, a0
-        .option norvc
         addi t0, t0, 16
         .option rvc
+        mv sp, a0
         bne s2, t2, _.L77
         srli a7, a7, 1
         bne a7, zero, _.L66
         .option norvc
+        nop
         nop
 _.L80:
         .option rvc

@@ -161,28 +161,19 @@ _.L50:
         add a5, a5, a4
         remu a5, a5, t1
         add a6, zero, t0
-        addi a1, a1, -1
-        add t4, zero, a3
         sub a5, a3, a5
         sltu a4, a3, a5
         sub a4, t0, a4
-        add t5, zero, a0
         mul t2, a5, a7
+        addi a1, a1, -1
         mul a4, a4, a2
         mulhu t0, a5, a2
         add a4, a4, t2
         mul a5, a5, a2
-        .option norvc
         add a4, a4, t0
-        .option rvc
         slli t2, a4, 31
-        .option norvc
-        addi a0, a0, -1
-        .option rvc
         srli t0, a4, 1
-        .option norvc
         srli a5, a5, 1
-        .option rvc
         or a5, a5, t2
         slli a4, a5, 2
         .option norvc
@@ -193,6 +184,9 @@ _.L50:
         addi a4, a4, 48
         sb a4, 1(a1)
         .option norvc
+        add t4, zero, a3
+        add t5, zero, a0
+        addi a0, a0, -1
         add a3, zero, a5
         .option rvc
         bne a6, zero, _.L50
@@ -342,12 +336,12 @@ passed:
         addi a1, a1, -20
         .option rvc
         lbu a2, 0(a3)
+        addi a5, a2, -9
+        andi a5, a5, 255
         .option norvc
         li a6, 23
         li t1, 0
         .option rvc
-        addi a5, a2, -9
-        andi a5, a5, 255
         sra a4, a1, a5
         .option norvc
         add a7, zero, a3
@@ -1132,15 +1126,17 @@ _.L129:
         j _.L214
 main:
         addi sp, sp, -48
-        .option norvc
         sw s0, 40(sp)
         sw s1, 36(sp)
         sw s2, 32(sp)
         sw ra, 44(sp)
+        .option norvc
         li s0, 0
         .option rvc
         la s1, input
+        .option norvc
         lui s2, 4
+        .option rvc
         j _.L231
 _.L233:
         .option norvc
@@ -1175,12 +1171,12 @@ _.L232:
         addi a1, a1, -20
         .option rvc
         lbu a2, 0(a3)
+        addi a5, a2, -9
+        andi a5, a5, 255
         .option norvc
         li a6, 23
         li t1, 0
         .option rvc
-        addi a5, a2, -9
-        andi a5, a5, 255
         sra a4, a1, a5
         .option norvc
         add a7, zero, a3

@@ -20,12 +20,15 @@ put_number:
         addi a6, t1, -819
         sw ra, 44(sp)
         add a3, zero, a0
-        addi t1, t1, -820
-        .option norvc
         add t2, zero, a1
         add a2, zero, t4
+        .option norvc
         li t3, 5
+        .option rvc
+        addi t1, t1, -820
+        .option norvc
         li t5, 9
+        nop
 _.L9:
         .option rvc
         add a5, a3, t2
@@ -105,11 +108,14 @@ _.L14:
         la ra, newest
         .option norvc
         add a5, zero, ra
+        nop
         .option rvc
         la a3, newest..plus2048
+        .option norvc
         li a4, -1
-        j _.L16
+        nop
 _.L16:
+        .option rvc
         sh a4, 0(a5)
         .option norvc
         addi a5, a5, 2
@@ -180,7 +186,9 @@ _.L22:
         li a5, 0
         j _.L27
 _.L24:
+        .option norvc
         addi a5, a5, 1
+        .option rvc
         bltu a5, a0, _.L27
         j _.L23
 _.L27:

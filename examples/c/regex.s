@@ -122,13 +122,15 @@ _.L26:
         .option norvc
         nop
 _.L34:
+        .option rvc
         sw a0, 4(sp)
         sw s0, 8(sp)
-        .option rvc
         sb a5, 12(sp)
         li a4, 43
+        .option norvc
         li s3, 0
         lui s4, 2
+        .option rvc
         bne a5, a4, _.L41
         add s2, s1, s3
         .option norvc

@@ -404,7 +404,7 @@ rotate:
         .option rvc
         lw a3, 4(a0)
         .option norvc
-        nop
+        add a5, zero, a0
         .option rvc
         lw t1, 8(a0)
         .option norvc
@@ -420,7 +420,7 @@ rotate:
         .option rvc
         lw a7, 20(a0)
         .option norvc
-        add a5, zero, a0
+        nop
         .option rvc
         sw t1, 0(a5)
         .option norvc
@@ -532,15 +532,13 @@ _.L43:
         jr ra
 main:
         addi sp, sp, -32
-        .option norvc
         lui a1, 4
-        .option rvc
-        la a0, text
         sw s0, 24(sp)
+        la a0, text
         sw s1, 20(sp)
         sw s2, 16(sp)
-        sw s3, 12(sp)
         .option norvc
+        sw s3, 12(sp)
         sw ra, 28(sp)
         .option rvc
         la s3, text
@@ -858,13 +856,13 @@ divided..1:
 _.L2..1:
         addi sp, sp, -16
         .option norvc
+        nop
         sw s0, 12(sp)
         .option rvc
         li t4, 64
         .option norvc
         li a7, 0
         li a0, 0
-        nop
 _.L8..1:
         .option rvc
         srli a5, a1, 31

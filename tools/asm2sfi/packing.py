@@ -21,8 +21,9 @@ from sizes import BUNDLE, expansions, number_parts
 
 BYTE = 0.004  # what a byte of code counts, in steps outside of loops
 JUMP = 2  # what a jump over a gap counts: it is one step, but takes a processor longer than a nop does
-WAYS = 60  # how many beginnings of a run's order are kept
+WAYS = 40  # how many beginnings of a run's order are kept
 CHOICES = 10  # how many of the instructions that may come next are tried
+WINDOW = 32  # how far after the first that isn't done they may stand
 COMMUTATIVE = ("add", "and", "or", "xor")
 
 
@@ -173,26 +174,28 @@ class Packer:
         cheapest beginnings are kept. A set of instructions is written as bits."""
         ops = [self.code[number] for number in run]
         needed = needed_before(ops)
-        units = [expansions(op, self.format) for op in ops]
+        units = [(expansions(op, self.format), is_call(op)) for op in ops]
         found = {(0, place): way for place, way in ways.items()}
         for _ in ops:
-            found = self.pass_one(found, run, ops, units, needed, weight)
+            found = self.pass_one(found, run, units, needed, weight)
         final = {}
         for (_, place), way in found.items():
             if place not in final or way.rank() < final[place].rank():
                 final[place] = way
         return final
 
-    def pass_one(self, found, run, ops, units, needed, weight):
+    def pass_one(self, found, run, units, needed, weight):
         """The ways with one instruction more."""
-        longer = {}
+        longer, ready_after = {}, {}
         for (done, place), way in found.items():
-            ready = [index for index in range(len(ops)) if not done >> index & 1 and not needed[index] & ~done]
-            for rank, index in enumerate(ready[:CHOICES]):
-                for step in self.steps_of(units[index], is_call(ops[index]), place):
+            if done not in ready_after:
+                ready_after[done] = ready(done, needed)
+            for rank, index in enumerate(ready_after[done]):
+                for step in self.steps_of(*units[index], place):
                     cost, moved = way.cost + step.steps * weight + step.waste * BYTE, way.moved + rank
                     key = done | 1 << index, step.end
-                    if key not in longer or (cost, moved) < longer[key].rank():
+                    other = longer.get(key)
+                    if other is None or (cost, moved) < (other.cost, other.moved):
                         longer[key] = Way(cost, moved, Choice(run[index], step.gap, step.wide, step.second), way)
         if len(longer) > WAYS:
             return dict(sorted(longer.items(), key=lambda item: item[1].rank())[:WAYS])
@@ -219,6 +222,14 @@ class Packer:
             return [jump] if after.is_mark else [jump, Mark(name, True)]
         size = gap.end - gap.start
         return [Op("nop", (), None)] * (size % 4 == 2) + [Op("nop", (), None, wide=True)] * (size // 4)
+
+
+def ready(done, needed):
+    """The first instructions that may come next, where those of a set are done."""
+    first = (~done & done + 1).bit_length() - 1  # the first that isn't done
+    found = [index for index in range(first, min(first + WINDOW, len(needed)))
+             if not done >> index & 1 and not needed[index] & ~done]
+    return found[:CHOICES]
 
 
 def with_parts(code):
