@@ -1,5 +1,6 @@
-/* Prints the lines of its input that the regular expression in its first line matches somewhere. An expression has
-   letters, `.`, classes such as `[a-z_]` and `[^ ]`, the marks `*`, `+` and `?` after these, and `^` and `$` at its ends. */
+/* Prints the lines of its input that the regular expression in its first line matches somewhere. An
+   expression has letters, `.`, classes such as `[a-z_]` and `[^ ]`, the marks `*`, `+` and `?` after
+   these, and `^` and `$` at its ends. */
 #include "gates.h"
 
 enum { MOST = 8192 };

@@ -1,4 +1,5 @@
-"""Which instructions of a run may change places: what they read and write, in registers and in memory."""
+"""Which instructions of a run may change places: what they read and write, in registers and in
+memory."""
 from control import goes_on, is_branch, is_call
 from instructions import SHAPES, STORES, is_access, offset_and_base, written
 
@@ -41,19 +42,19 @@ def runs(code):
 
 
 class Access:
-    """A load or store of a run. `version` counts the writes of its base before it, so that two accesses on one base and
-    version are on one address."""
+    """A load or store of a run. `version` counts the writes of its base before it, so that two
+    accesses on one base and version are on one address."""
 
     def __init__(self, op, version):
         self.offset, self.base = offset_and_base(op)
         self.end = self.offset + WIDTHS[op.word[1]]
         self.version = version
         self.stores = op.word in STORES
-        self.region = "frame" if self.base == "sp" and not op.pointed else "data" if self.base == "zero" else None
+        self.region = {"sp": "another" if op.pointed else "frame", "zero": "data"}.get(self.base)
 
     def may_meet(self, other):
-        """Whether two accesses, of which one stores, may have a byte in common. A frame's slots and the objects at the
-        region's beginning have none: the stack lies after all objects."""
+        """Whether two accesses, of which one stores, may have a byte in common. A frame's slots
+        and the objects at the region's beginning have none: the stack lies after all objects."""
         if not (self.stores or other.stores) or {self.region, other.region} == {"frame", "data"}:
             return False
         if (self.base, self.version) != (other.base, other.version):

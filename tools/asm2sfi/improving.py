@@ -1,4 +1,5 @@
-"""The passes that make the code cheaper, in the order in which they run. The code does the same without them."""
+"""The passes that make the code cheaper, in the order in which they run. The code does the same
+without them."""
 from known import with_known_places
 from packing import packed
 from pointing import with_pointing

@@ -1,14 +1,18 @@
 """Fits the code into bundles so that few nops run.
 
-An expansion that doesn't fit in the rest of its bundle goes into the next one; a label begins a bundle, and a call ends
-one. `sfi build` fills what is left by c.nops of 2 bytes, and they run. So this pass chooses
+An expansion that doesn't fit in the rest of its bundle goes into the next one; a label begins a
+bundle, and a call ends one. `sfi build` fills what is left by c.nops of 2 bytes, and they run. So
+this pass chooses
 
 - which instructions take 32 bits though they have a 16-bit form: this costs no step,
-- the order of the instructions between two labels, branches or calls that don't need each other's results,
+- the order of the instructions between two labels, branches or calls that don't need each other's
+  results,
 - nops of 32 bits in place of two of 16, and a jump over a large gap,
-- branches before a gap to be inverted: `beq x, out` and a gap before the label `loop` become `bne x, loop` and `j out`.
+- branches before a gap to be inverted: `beq x, out` and a gap before the label `loop` become `bne
+  x, loop` and `j out`.
 
-It goes through the code with the cheapest way to each place in the bundle. Steps in loops count more."""
+It goes through the code with the cheapest way to each place in the bundle. Steps in loops count
+more."""
 from dataclasses import replace
 from typing import NamedTuple
 
@@ -47,8 +51,8 @@ NO_GAP = Gap(0, 0)
 
 
 class Choice(NamedTuple):
-    """What was chosen for a piece: the gap before it, whether it has 32 bits, and the gap in the next bundle before it
-    if it's a call. `turned` says that a branch before the gap is inverted."""
+    """What was chosen for a piece: the gap before it, whether it has 32 bits, and the gap in the
+    next bundle before it if it's a call. `turned` says that a branch before the gap is inverted."""
     number: int
     gap: Gap = NO_GAP
     wide: bool = False
@@ -57,7 +61,8 @@ class Choice(NamedTuple):
 
 
 class Way(NamedTuple):
-    """A cheap way to a place: its cost, how far it is from the compiler's order, the last choice, and the way to it."""
+    """A cheap way to a place: its cost, how far it is from the compiler's order, the last
+    choice, and the way to it."""
     cost: float = 0
     moved: int = 0
     choice: Choice = None
@@ -75,7 +80,8 @@ class Way(NamedTuple):
 
 
 class Step(NamedTuple):
-    """One way to place an instruction: where it ends, the steps and bytes that it costs, and what is chosen."""
+    """One way to place an instruction: where it ends, the steps and bytes that it costs, and
+    what is chosen."""
     end: int
     steps: int
     waste: int
@@ -89,7 +95,8 @@ def gap_between(start, end):
 
 
 def begin(place, size, call):
-    """The ways to begin an expansion at or after a place in a bundle: the gaps that it takes, and where it begins."""
+    """The ways to begin an expansion at or after a place in a bundle: the gaps that it takes,
+    and where it begins."""
     target = BUNDLE - size if call else place
     if place <= target and target + size <= BUNDLE:
         yield gap_between(place, target), NO_GAP, target
@@ -99,7 +106,8 @@ def begin(place, size, call):
 
 
 def steps_of(units, call, place):
-    """The ways to place an instruction's expansions. Of two, only the first one's gap is chosen here."""
+    """The ways to place an instruction's expansions. Of two, only the first one's gap is chosen
+    here."""
     first, *others = units
     for size in first:
         for gap, second, start in begin(place, size, call):
@@ -109,12 +117,13 @@ def steps_of(units, call, place):
                     more, end = more + (BUNDLE - end) // 2, 0
                 end += sizes[0]
             waste = size - first[0] + gap.end - gap.start + second.end - second.start
-            yield Step(end % BUNDLE, gap.steps() + second.steps() + more, waste, gap, second, size != first[0])
+            steps = gap.steps() + second.steps() + more
+            yield Step(end % BUNDLE, steps, waste, gap, second, size != first[0])
 
 
 def shortened(piece):
-    """An instruction that has a 16-bit form when its operands are in another order, and a copy in the form that has
-    one: `add` of zero."""
+    """An instruction that has a 16-bit form when its operands are in another order, and a copy
+    in the form that has one: `add` of zero."""
     if piece.is_mark:
         return piece
     if piece.word == "mv" and "zero" not in piece.operands and piece.operands[0] != "sp":
@@ -137,7 +146,10 @@ class Packer:
         for run in runs(self.code):
             first, last = self.code[run[0]], self.code[run[-1]]
             weight = self.weights[run[0]] if reached else 0
-            ways = self.pass_label(ways, run[0], weight) if first.is_mark else self.pass_run(ways, run, weight)
+            if first.is_mark:
+                ways = self.pass_label(ways, run[0], weight)
+            else:
+                ways = self.pass_run(ways, run, weight)
             reached = goes_on(last)
         return self.written(min(ways.values(), key=Way.rank).choices())
 
@@ -148,8 +160,8 @@ class Packer:
         return self.known_steps[key]
 
     def pass_label(self, ways, number, weight):
-        """The cheapest way to a label, which begins a bundle. What runs into it from before it runs as often as the
-        less frequent of both."""
+        """The cheapest way to a label, which begins a bundle. What runs into it from before it
+        runs as often as the less frequent of both."""
         weight = min(weight, self.weights[number - 1]) if number else weight
         turned = self.weight_of_turned(number)
         found = []
@@ -163,15 +175,17 @@ class Packer:
         return {0: min(found, key=Way.rank)}
 
     def weight_of_turned(self, number):
-        """What it costs to invert the branch before a label: a jump where it went on to. None where there is none."""
+        """What it costs to invert the branch before a label: a jump where it went on to. None
+        where there is none."""
         piece = self.code[number - 1] if number else None
         if piece is None or piece.is_mark or not is_branch(piece) or piece.operands[-1] not in self.labels:
             return None
         return self.weights[self.labels[piece.operands[-1]]]
 
     def pass_run(self, ways, run, weight):
-        """The cheapest ways to each place after a run: a search over the orders of its instructions, in which only the
-        cheapest beginnings are kept. A set of instructions is written as bits."""
+        """The cheapest ways to each place after a run: a search over the orders of its
+        instructions, in which only the cheapest beginnings are kept. A set of instructions is
+        written as bits."""
         ops = [self.code[number] for number in run]
         needed = needed_before(ops)
         units = [(expansions(op, self.format), is_call(op)) for op in ops]
@@ -196,7 +210,8 @@ class Packer:
                     key = done | 1 << index, step.end
                     other = longer.get(key)
                     if other is None or (cost, moved) < (other.cost, other.moved):
-                        longer[key] = Way(cost, moved, Choice(run[index], step.gap, step.wide, step.second), way)
+                        choice = Choice(run[index], step.gap, step.wide, step.second)
+                        longer[key] = Way(cost, moved, choice, way)
         if len(longer) > WAYS:
             return dict(sorted(longer.items(), key=lambda item: item[1].rank())[:WAYS])
         return longer
@@ -234,7 +249,8 @@ def ready(done, needed):
 
 def with_parts(code):
     """The code with each `li` as the instructions that it stands for."""
-    return [part for piece in code for part in ([piece] if piece.is_mark or piece.word != "li" else number_parts(piece))]
+    return [part for piece in code
+            for part in ([piece] if piece.is_mark or piece.word != "li" else number_parts(piece))]
 
 
 def packed(code, image_format, names):

@@ -1,7 +1,7 @@
 """Where `sfi build` places each instruction, and branches that don't reach their labels.
 
-A branch reaches from 4096 bytes before it to 4094 after it. One that doesn't is inverted, over a jump. A text is right in
-both formats, so each branch reaches in both."""
+A branch reaches from 4096 bytes before it to 4094 after it. One that doesn't is inverted, over a
+jump. A text is right in both formats, so each branch reaches in both."""
 from dataclasses import replace
 
 from control import INVERSE, is_branch, is_call, labels_of
@@ -18,8 +18,8 @@ def next_bundle(place):
 
 
 def pass_op(op, place, image_format):
-    """The places where an instruction's first expansion begins and where its last one ends. Each stands in one bundle,
-    and a call's ends its bundle."""
+    """The places where an instruction's first expansion begins and where its last one ends. Each
+    stands in one bundle, and a call's ends its bundle."""
     first = None
     for sizes in expansions(op, image_format):
         size = sizes[0]
@@ -68,7 +68,8 @@ def over_jump(op, names):
 
 
 def with_near_branches(code, names):
-    """The code in which each branch reaches its label. Each jump lengthens the code, so it's looked at again."""
+    """The code in which each branch reaches its label. Each jump lengthens the code, so it's
+    looked at again."""
     while far := far_branches(code):
         code = [piece for number, old in enumerate(code)
                 for piece in (over_jump(old, names) if number in far else [old])]

@@ -1,15 +1,19 @@
 """Several accesses on one base by way of `sp`, in the second format.
 
-There an access on `sp` is one instruction, where one on another register is three. So `mv sp, a`, which is three, pays
-where two accesses on a follow it. Meanwhile the stack pointer is kept in a register. This is done
+There an access on `sp` is one instruction, where one on another register is three. So `mv sp, a`,
+which is three, pays where two accesses on a follow it. Meanwhile the stack pointer is kept in a
+register. This is done
 
-- in a loop that has neither a call nor an access to its frame: `sp` is kept before it and put back after it,
+- in a loop that has neither a call nor an access to its frame: `sp` is kept before it and put back
+  after it,
 - in a run of instructions, if enough of them gain by it.
 
-The rules hold whatever `sp` points to, since the checker wants a masked pair after each write of it. That the program does
-the same rests on three facts. Between keeping and putting back nothing reads `sp` as the stack pointer: no call, no return,
-no access to the frame stands there, and a sandbox has no signals. The register that keeps it isn't read after that before
-it's written again. And no caller counts on it: it is one that the function, wherever it's entered, writes by itself."""
+The rules hold whatever `sp` points to, since the checker wants a masked pair after each write of
+it. That the program does the same rests on three facts. Between keeping and putting back nothing
+reads `sp` as the stack pointer: no call, no return, no access to the frame stands there, and a
+sandbox has no signals. The register that keeps it isn't read after that before it's written
+again. And no caller counts on it: it is one that the function, wherever it's entered, writes by
+itself."""
 from collections import Counter
 from dataclasses import dataclass, replace
 
@@ -32,7 +36,8 @@ def touches_stack(op):
 
 @dataclass
 class Cluster:
-    """Accesses of a run, by their index, with their offsets from what `sp` is set to before the first of them."""
+    """Accesses of a run, by their index, with their offsets from what `sp` is set to before the
+    first of them."""
     base: str
     offsets: dict
 
@@ -50,9 +55,10 @@ class Cluster:
 
 
 class Chains:
-    """The accesses of a run on one base, and on what it becomes by the sums `addi a, a, N`: each chain has the indices of
-    its accesses, with the offsets from the base as it was at its beginning. Each base that leads to an object lies in the
-    data region (`layout`), so masking the first in place of each changes nothing."""
+    """The accesses of a run on one base, and on what it becomes by the sums `addi a, a, N`: each
+    chain has the indices of its accesses, with the offsets from the base as it was at its
+    beginning. Each base that leads to an object lies in the data region (`layout`), so masking
+    the first in place of each changes nothing."""
 
     def __init__(self, ops):
         self.found = []
@@ -78,7 +84,8 @@ class Chains:
 
 
 def clusters_ending(ops):
-    """By its last index, each part of a chain that `sp` may serve: within it the stack pointer isn't used."""
+    """By its last index, each part of a chain that `sp` may serve: within it the stack pointer
+    isn't used."""
     found = {}
     for chain in Chains(ops).found:
         indices = sorted(chain.offsets)
@@ -130,8 +137,8 @@ class Keepers:
         self.owned = self.owned_by_blocks()
 
     def owned_by_blocks(self):
-        """For each block, the registers that the program writes from each entry that leads to the block. gcc's -fipa-ra
-        lets a caller count on each other one."""
+        """For each block, the registers that the program writes from each entry that leads to
+        the block. gcc's -fipa-ra lets a caller count on each other one."""
         written = [set() for _ in self.blocks.starts]
         for block, piece in zip(self.blocks.block_of, self.code):
             written[block] |= set() if piece.is_mark else writes(piece)
@@ -148,7 +155,8 @@ class Keepers:
         used = self.liveness.before[first] | {"zero"}
         for number in range(first, last + 1):
             used |= self.liveness.after[number]
-            used |= set() if self.code[number].is_mark else reads(self.code[number]) | writes(self.code[number])
+            if not self.code[number].is_mark:
+                used |= reads(self.code[number]) | writes(self.code[number])
         owned = self.owned[self.blocks.block_of[first]]
         return next((name for name in KEEPERS if name in owned and name not in used), None)
 
@@ -170,8 +178,8 @@ def leaves_stack_alone(piece):
 
 @dataclass
 class Loop:
-    """A loop that has another `sp`: its pieces, what keeps the stack pointer, the label before it, and the base that `sp`
-    is set to there, if it's set once."""
+    """A loop that has another `sp`: its pieces, what keeps the stack pointer, the label before
+    it, and the base that `sp` is set to there, if it's set once."""
     first: int
     last: int
     keeper: str
@@ -213,10 +221,9 @@ class Loops:
         return Loop(first, last, keeper, self.names.fresh("point..1"), body, base)
 
     def is_fit(self, head, inside, first, last):
-        """Whether it is one stretch of code, from its head's label on, without an inner loop, a call or a use of the stack
-        pointer."""
-        others = inside - {head}
-        if others & (self.blocks.entries | set(self.loops)) or head in self.blocks.entries or not self.code[first].is_mark:
+        """Whether it is one stretch of code, from its head's label on, without an inner loop, a
+        call or a use of the stack pointer."""
+        if inside & self.blocks.entries or (inside - {head}) & set(self.loops) or not self.code[first].is_mark:
             return False
         return sorted(inside) == list(range(head, max(inside) + 1)) and all(
             leaves_stack_alone(piece) for piece in self.code[first:last + 1])
@@ -228,13 +235,15 @@ class Loops:
         return replace(piece, operands=(*piece.operands[:-1], self.starts[piece.operands[-1]]))
 
     def written(self, loop):
-        before = [Mark(loop.start, True), keep(loop.keeper), *([Op("mv", ("sp", loop.base), None)] if loop.base else [])]
+        point = [Op("mv", ("sp", loop.base), None)] if loop.base else []
+        before = [Mark(loop.start, True), keep(loop.keeper), *point]
         inside = labels_of(loop.body)
         body = [self.leaving(piece, loop, inside) for piece in loop.body]
         return before + body + ([put_back(loop.keeper)] if goes_on(loop.body[-1]) else [])
 
     def leaving(self, piece, loop, inside):
-        """A piece of a loop. Where it jumps out of the loop, it goes by a place that puts the stack pointer back."""
+        """A piece of a loop. Where it jumps out of the loop, it goes by a place that puts the
+        stack pointer back."""
         if piece.is_mark or not (is_branch(piece) or is_jump(piece)) or piece.operands[-1] in inside:
             return piece
         name = self.names.fresh("leave..1")
@@ -249,7 +258,8 @@ def base_of(piece):
 
 
 def pointed_body(body):
-    """What a loop becomes, what a turn of it gains, and the base that `sp` is set to before it, if to one alone."""
+    """What a loop becomes, what a turn of it gains, and the base that `sp` is set to before it,
+    if to one alone."""
     changed = set().union(*(writes(piece) for piece in body if not piece.is_mark))
     counts = Counter(base for base in map(base_of, body) if base not in (None, "sp", *changed))
     out, gain = [], 0
@@ -261,7 +271,8 @@ def pointed_body(body):
     base, count = max(counts.items(), key=lambda item: item[1], default=(None, 0))
     if SPARED * count < gain or not count:
         return out, gain, None
-    out = [on_stack_pointer(piece, offset_and_base(piece)[0]) if base_of(piece) == base else piece for piece in body]
+    out = [on_stack_pointer(piece, offset_and_base(piece)[0]) if base_of(piece) == base else piece
+           for piece in body]
     return out, SPARED * count, base
 
 

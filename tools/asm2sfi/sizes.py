@@ -1,9 +1,10 @@
-"""How many bytes each instruction takes in an image. docs/SOURCE.md says what an instruction becomes; the 16-bit forms
-are those of RV32C.
+"""How many bytes each instruction takes in an image. docs/SOURCE.md says what an instruction
+becomes; the 16-bit forms are those of RV32C.
 
-A source instruction becomes one or two expansions, each of which stands in one bundle. An expansion has one size, or two
-where the instruction has a 16-bit form: then `.option rvc` and `.option norvc` choose. Were a size wrong here, the code
-would run through more nops than it need, and would do the same."""
+A source instruction becomes one or two expansions, each of which stands in one bundle. An
+expansion has one size, or two where the instruction has a 16-bit form: then `.option rvc` and
+`.option norvc` choose. Were a size wrong here, the code would run through more nops than it
+need, and would do the same."""
 from dataclasses import replace
 
 from instructions import LOADS, STORES, is_access, offset_and_base, written
@@ -59,7 +60,8 @@ def has_short_access(op):
 
 
 def has_short_form(op):
-    """Whether an instruction that stays as it is has a 16-bit form. Branches and jumps to names have none."""
+    """Whether an instruction that stays as it is has a 16-bit form. Branches and jumps to names
+    have none."""
     word = op.word
     if word in ("nop", "ebreak"):
         return True
@@ -89,7 +91,8 @@ def has_short_form(op):
 
 
 def expansions(op, image_format):
-    """The sizes of an instruction's expansions: for each, the one size or the two that it may have."""
+    """The sizes of an instruction's expansions: for each, the one size or the two that it may
+    have."""
     has_stack = image_format == 2
     if has_stack and written(op) == "sp":
         parts = 2 if op.word == "la" else len(number_parts(op)) if op.word == "li" else 1

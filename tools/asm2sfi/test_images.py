@@ -3,10 +3,11 @@
 
     python3 tools/asm2sfi/test_images.py [SFI]     # the program; ./sfi at the top if absent
 
-The code is that of each example of examples/c, and random code as it is and packed, in both formats. `sfi dis`
-lists each image: where the model has an instruction, the listing must have the one that its expansion begins with, of the
-same size. The seed of the random code is printed first; SEED=N in the environment takes another. Needs no compiler: the
-examples are read as source texts."""
+The code is that of each example of examples/c, and random code as it is and packed, in both
+formats. `sfi dis` lists each image: where the model has an instruction, the listing must have
+the one that its expansion begins with, of the same size. The seed of the random code is printed
+first; SEED=N in the environment takes another. Needs no compiler: the examples are read as
+source texts."""
 import os
 import random
 import re
@@ -39,7 +40,8 @@ def built(text):
 
 
 def listed_places(image):
-    """By the place of each instruction in the listing, from the code's beginning, its bytes and its name."""
+    """By the place of each instruction in the listing, from the code's beginning, its bytes and
+    its name."""
     listing = subprocess.run([*SFI, "dis"], input=image, stdout=subprocess.PIPE, check=True).stdout.decode()
     found = {}
     for address, digits, word in re.findall(r"^([0-9a-f]{8}) ([0-9a-f]{4,8}) (\w+)", listing, re.MULTILINE):
@@ -105,7 +107,8 @@ def source_of(code, image_format):
 
 class Images(unittest.TestCase):
     def compare(self, text, image_format, what):
-        """Each piece's first bytes are where the model has them, and the code ends where it says. Gates come first."""
+        """Each piece's first bytes are where the model has them, and the code ends where it
+        says. Gates come first."""
         gates, code = read_source(text)
         listed = listed_places(built(text))
         found = places(code, image_format)

@@ -1,6 +1,6 @@
 #!/usr/bin/env python3
-"""Tests of the passes of asm2sfi: `python3 tools/asm2sfi/test_passes.py`. What is wanted follows from docs/SOURCE.md, from
-the table of RV32C and from the calling convention."""
+"""Tests of the passes of asm2sfi: `python3 tools/asm2sfi/test_passes.py`. What is wanted follows
+from docs/SOURCE.md, from the table of RV32C and from the calling convention."""
 import unittest
 
 import testing
@@ -128,7 +128,8 @@ class Placement(unittest.TestCase):
 
 class Liveness_(unittest.TestCase):
     def test_call(self):
-        """A call needs what the function reads, and gcc may count on a register that it doesn't write."""
+        """A call needs what the function reads, and gcc may count on a register that it doesn't
+        write."""
         pieces = code("main: li t3,1; li a1,2; call f; mv a0,t3; ret; f: mv a0,a1; ret")
         live = Liveness(pieces)
         self.assertTrue({"t3", "a1"} <= live.before[3])
@@ -178,7 +179,8 @@ class Pointing(unittest.TestCase):
             "bne a5, a3, .a", "mv sp, t0", "mv a0, a4", "ret"])
 
     def test_no_register_of_a_caller(self):
-        """The function writes no register that is free, and gcc lets callers count on each other one."""
+        """The function writes no register that is free, and gcc lets callers count on each other
+        one."""
         text = "main: call f; ret; f: .a: lw a4,0(a5); sw a4,4(a5); addi a5,a5,8; bne a5,a3,.a; ret"
         self.assertEqual(lines(with_pointing(code(text), Names([]))), lines(code(text)))
 

@@ -3,9 +3,10 @@
 
     python3 tools/asm2sfi/test_random.py [SFI]     # the program; ./sfi at the top if absent
 
-Each program goes through gcc at -O0 to -O3 and, where it is there, through clang at -O2, then through the tool with all its
-passes, and runs in both formats. New programs are tried for some 25 seconds. The seed is printed: SEED=N in the environment
-takes the same programs again, and COUNT=N so many of them. Where a compiler isn't there the test is skipped."""
+Each program goes through gcc at -O0 to -O3 and, where it is there, through clang at -O2, then
+through the tool with all its passes, and runs in both formats. New programs are tried for some
+25 seconds. The seed is printed: SEED=N in the environment takes the same programs again, and
+COUNT=N so many of them. Where a compiler isn't there the test is skipped."""
 import os
 import random
 import shutil
@@ -39,7 +40,8 @@ def run(*words, data=None):
 
 
 def native_answer(path, folder):
-    """The exit code and the output of the program as the machine's own compiler makes it, in the words of `sfi run`."""
+    """The exit code and the output of the program as the machine's own compiler makes it, in the
+    words of `sfi run`."""
     program = os.path.join(folder, "native")
     words = [NATIVE, "-O1", "-w", "-fno-builtin", "-I", EXAMPLES, "-o", program, path, os.path.join(EXAMPLES, "native_gates.c")]
     subprocess.run(words, check=True)
