@@ -4,11 +4,12 @@
     bench/refusals.py [--program PATH]
 
 Loads refuse.c before the C library, and lets the Nth allocation of a run fail, for N from 1 on, until there is none left to fail.
-Each run has to end in status 4 with nothing printed, or as it does with ample memory. It prints a line for each command, and ends
-in status 1 where a run ended otherwise.
+Each run has to end in status 4 with nothing printed, or as it does with ample memory. It prints a line for each command, and a
+last line `N passed, M failed`, in which a command counts as failed where a run of it ended otherwise. It wants gcc.
 """
 import argparse
 import os
+import shutil
 import subprocess
 import sys
 import tempfile
@@ -70,23 +71,32 @@ def commands(program):
     ]
 
 
+def keeps_its_word(program, words, text, library):
+    """Whether each run of a command ends as it should. It prints what it finds."""
+    ample, ends = refused_in_turn([program, *words], text, library)
+    without_memory = ends.count((4, b""))
+    wrong = [(number, *end) for number, end in enumerate(ends, 1) if end not in (ample, (4, b""))]
+    print(f"sfi {' '.join(words)}: status {ample[0]}; {len(ends)} refusals, {without_memory} end in 4, {len(wrong)} wrong")
+    for end in wrong:
+        print("   ", end)
+    return not wrong
+
+
 def main():
     options = argparse.ArgumentParser(description="Refuses each allocation in turn.")
     options.add_argument("--program", default=measure.PROGRAM)
     given = options.parse_args()
     program = measure.program_at(given.program)
-    failed = False
+    all_commands = commands(program)
+    if not shutil.which("gcc"):
+        print("skipped: refused allocations: gcc isn't there")
+        print(f"0 passed, 0 failed, {len(all_commands)} skipped")
+        return
     with tempfile.TemporaryDirectory() as folder:
         library = measure.compiled("refuse.c", os.path.join(folder, "refuse.so"), "-shared", "-fPIC")
-        for words, text in commands(program):
-            ample, ends = refused_in_turn([program, *words], text, library)
-            without_memory = ends.count((4, b""))
-            wrong = [(number, *end) for number, end in enumerate(ends, 1) if end not in (ample, (4, b""))]
-            print(f"sfi {' '.join(words)}: status {ample[0]}; {len(ends)} refusals, {without_memory} end in 4, {len(wrong)} wrong")
-            for end in wrong:
-                print("   ", end)
-            failed |= bool(wrong)
-    sys.exit(failed)
+        kept = [keeps_its_word(program, words, text, library) for words, text in all_commands]
+    print(f"{kept.count(True)} passed, {kept.count(False)} failed")
+    sys.exit(not all(kept))
 
 
 if __name__ == "__main__":

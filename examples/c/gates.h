@@ -1,4 +1,4 @@
-/* The gates that a sandboxed C program calls. docs/GATES.md says what the console answers. */
+/* The gates that a sandboxed program calls, in C or C++. docs/GATES.md says what the console answers. */
 #ifndef GATES_H
 #define GATES_H
 
@@ -7,7 +7,7 @@ extern "C" {
 #endif
 
 /* Ends the program with a code. Returning from main does the same. */
-_Noreturn void exit_with(int code);
+__attribute__((noreturn)) void exit_with(int code);
 
 /* Appends length bytes to the output. Answers length, or -1 where length is above 65536, a byte lies outside the
    data region, or the output would pass 1048576 bytes. */

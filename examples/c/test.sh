@@ -1,16 +1,18 @@
 #!/usr/bin/env bash
 # Builds, checks and runs the C examples in both formats, on each input of expected.txt, and compares what they do with
-# what the native programs did. Needs no compiler.
+# what the native programs did. Then reads the headers as C++, where there is a compiler for it: the rest needs none.
 #
 #     examples/c/test.sh [SFI]      # SFI is the program; ./sfi at the top if absent
 set -uo pipefail
+unset CDPATH
 here=$(cd "$(dirname "${BASH_SOURCE[0]}")" && pwd)
 sfi=$(realpath "${1:-$here/../../sfi}")
-cd "$here"
+cd "$here" || exit 1
 room=$(mktemp -d)
 trap 'rm -rf "$room"' EXIT
-failed=0
 passed=0
+failed=0
+skipped=0
 
 report() { # what failed, and what was wanted and found
     failed=$((failed + 1))
@@ -32,12 +34,26 @@ check_image() { # program, format
 
 run_case() { # program, format, input, what is wanted
     local found
-    found=$("$sfi" run --rounds 10000 --quantum 1000000 --input "$(xxd -p "inputs/$3" | tr -d '\n')" <"$room/$1.$2")
+    found=$("$sfi" run --rounds 10000 --quantum 1000000 --input "$(od -An -v -tx1 "inputs/$3" | tr -d ' \n')" <"$room/$1.$2")
     if [ "$(sed 's/^sandbox=0 //; s/ steps=[0-9]*//' <<<"$found")" = "$4" ]; then
         passed=$((passed + 1))
     else
         report "$1, format $2, $3" "$4" "$found"
     fi
+}
+
+headers_in_cpp() {
+    local header found
+    for header in gates.h numbers.h; do
+        if ! command -v g++ >"$room/which"; then
+            skipped=$((skipped + 1))
+            echo "skipped: $header in C++: g++ isn't there"
+        elif found=$(g++ -std=c++98 -Wall -Wextra -Werror -Wno-long-long -x c++ -fsyntax-only "$header" 2>&1); then
+            passed=$((passed + 1))
+        else
+            report "$header in C++" "no message" "$found"
+        fi
+    done
 }
 
 for format in 1 2; do
@@ -52,5 +68,10 @@ for format in 1 2; do
         done <expected.txt
     done
 done
-echo "$passed passed, $failed failed"
+headers_in_cpp
+if [ "$skipped" = 0 ]; then
+    echo "$passed passed, $failed failed"
+else
+    echo "$passed passed, $failed failed, $skipped skipped"
+fi
 [ "$failed" = 0 ]

@@ -1,12 +1,13 @@
 #!/usr/bin/env bash
 # Builds the C library and the hosts beside this file, runs each on images that are accepted, refused, or no images, and compares
-# what it prints with what is wanted. Says what it skips for want of a compiler. gcc, xxd and rt have to be there.
+# what it prints with what is wanted. Says what it skips for want of a compiler. The toolchain's command rt has to be there.
 #
-#     examples/embed/test.sh
+#     examples/embed/test.sh [LIBRARY]      # LIBRARY is a libsfi_c.a that is built already
 set -uo pipefail
+unset CDPATH
+library=${1:+$(realpath "$1")}
 here=$(cd "$(dirname "${BASH_SOURCE[0]}")" && pwd)
 top=$(cd "$here/../.." && pwd)
-library=$top/crates/sfi_c/out/libsfi_c.a
 heap=$(dirname "$(rt doc)")/c/liblibc_c.a
 # The most bytes of code and constants that the checker may add to a program.
 most=32768
@@ -14,6 +15,7 @@ room=$(mktemp -d)
 trap 'rm -rf "$room"' EXIT
 passed=0
 failed=0
+skipped=0
 
 report() { # whether it passed, its name, what was wanted, what was found
     if [ "$1" = 0 ]; then
@@ -24,7 +26,20 @@ report() { # whether it passed, its name, what was wanted, what was found
     fi
 }
 
-skip() { echo "skipped: $1"; }
+skip() { # how many tests, which, and why
+    skipped=$((skipped + $1))
+    echo "skipped: $2"
+}
+
+finish() {
+    if [ "$skipped" = 0 ]; then
+        echo "$passed passed, $failed failed"
+    else
+        echo "$passed passed, $failed failed, $skipped skipped"
+    fi
+    [ "$failed" = 0 ]
+    exit
+}
 
 has() { command -v "$1" >"$room/which" 2>&1; }
 
@@ -39,7 +54,7 @@ compile() { # a program's name, and the command line that builds it
 smallest=$(tr -d ' \n' <"$here/../smallest.hex")
 head=${smallest:0:72}
 code=${smallest:72}
-put() { xxd -r -p <<<"$2" >"$room/$1.image"; }
+put() { printf '%b' "$(sed 's/../\\x&/g' <<<"$2")" >"$room/$1.image"; }
 put first_format "$smallest"
 put second_format "53464932${smallest:8}"
 # sw x11, 0(x10); ebreak; addi x24, x24, 1; ebreak; and in the next bundle 16 bytes that do not decode
@@ -78,12 +93,39 @@ run_cases() { # a host's name, and its command line
 }
 
 # ---- the library
-(cd "$top/crates/sfi_c" && rt lib) >"$room/log" 2>&1 || { tail -n 3 "$room/log" && echo "the library can't be built" && exit 1; }
+if ! has gcc; then
+    skip 1 "all hosts: gcc isn't there"
+    finish
+fi
+if [ -z "$library" ]; then
+    library=$top/crates/sfi_c/out/libsfi_c.a
+    (cd "$top/crates/sfi_c" && rt lib) >"$room/log" 2>&1
+    report $? "the library is built" "$library" "$(tail -n 3 "$room/log")"
+fi
+if [ ! -f "$library" ]; then
+    echo "there is no library $library"
+    exit 1
+fi
 warnings=(-O2 -Wall -Wextra -pedantic -Werror -I"$top/crates/sfi_c/include")
 
 # ---- C, and the header under C++
 compile host.c gcc -std=c99 "${warnings[@]}" "$here/host.c" "$library" "$heap" -o "$room/host"
 run_cases host.c "$room/host"
+for word in -1 "" 2x 8388609 99999999999999999999; do
+    "$room/host" "$word" <"$room/three.image" >"$room/said"
+    found=$?
+    [ "$found" = 6 ] && [ ! -s "$room/said" ]
+    report $? "host.c with room for '$word'" "6, and nothing printed" "$found, $(cat "$room/said")"
+done
+"$room/host" <&- >"$room/said"
+found=$?
+[ "$found" = 5 ] && [ ! -s "$room/said" ]
+report $? "host.c without an image" "5, and nothing printed" "$found, $(cat "$room/said")"
+version() { sed -n "s/.*$1.*\"\([0-9.]*\)\".*/\1/p" "$2"; }
+wanted=$(version "const VERSION" "$top/crates/sfi_command/src/help.rt")
+found=$(version "define SFI_VERSION" "$top/crates/sfi_c/include/sfi.h")
+[ -n "$wanted" ] && [ "$found" = "$wanted" ]
+report $? "the header's version" "$wanted" "$found"
 # each allocation refused in turn: the array of host.c has what it would have, or nothing was written
 compile refuse.so gcc -O2 -shared -fPIC "$top/bench/refuse.c" -o "$room/refuse.so"
 ample=$("$room/host" 9 <"$room/three.image")
@@ -117,13 +159,13 @@ if has valgrind; then
     found=$(valgrind -q --error-exitcode=9 --leak-check=full "$room/edges" 3 <"$room/three.image" 2>&1)
     report $? "edges.c under valgrind" "edges: passed" "$found"
 else
-    skip "valgrind isn't there"
+    skip 1 "edges.c under valgrind: valgrind isn't there"
 fi
 if has g++; then
     compile "the header in C++98" g++ -std=c++98 "${warnings[@]}" -x c++ -fsyntax-only "$top/crates/sfi_c/include/sfi.h"
     compile "the header in C++17" g++ -std=c++17 "${warnings[@]}" -x c++ -fsyntax-only "$top/crates/sfi_c/include/sfi.h"
 else
-    skip "the header in C++: g++ isn't there"
+    skip 2 "the header in C++: g++ isn't there"
 fi
 
 # ---- its size: that of the shared library less that of one without it
@@ -138,14 +180,14 @@ report $? "the size of the library" "at most $most bytes" "$added bytes"
 if has python3; then
     run_cases host.py python3 "$here/host.py" "$room/libsfi.so"
 else
-    skip "host.py: python3 isn't there"
+    skip ${#cases[@]} "host.py: python3 isn't there"
 fi
 if has rustc; then
     compile host.rs rustc --edition 2021 -O -D warnings -o "$room/host_rs" "$here/host.rs" -C link-arg="$library" -C link-arg="$heap"
     run_cases host.rs "$room/host_rs"
 else
-    skip "host.rs: rustc isn't there"
+    skip $((1 + ${#cases[@]})) "host.rs: rustc isn't there"
 fi
 
-echo "$passed passed, $failed failed; the library has $added bytes"
-[ "$failed" = 0 ]
+echo "the library has $added bytes"
+finish

@@ -4,16 +4,17 @@
 
 Reads the files together with the runtime beside this tool, of which the program gets what it calls, and prints the
 source of one sandbox. It begins with a call of main, and exits with main's answer. What the source language can't say
-is told on standard error, each with its file and line, and the status is 1; it is 2 where a file can't be read or an
-option is wrong. docs/C.md has the compiler's options.
+is told on standard error, each with its file and line, and the status is 1; it is 2 where a file can't be read, an
+option is wrong, or the source can't be written. docs/C.md has the compiler's options.
 """
 import argparse
 import os
 import sys
 
-from conversion import Options, convert
+from conversion import GATES, MAIN, Options, convert
 from improving import PASSES
 from layout import SMALLEST_DATA
+from naming import is_name
 from sections import LARGEST_DATA
 
 RUNTIME = os.path.join(os.path.dirname(os.path.abspath(__file__)), "runtime.asm")
@@ -25,7 +26,23 @@ def gate(text):
     name, mark, service = text.partition("=")
     if not mark or not service.isdigit() or int(service) > 5:
         raise argparse.ArgumentTypeError(f"{text!r} isn't NAME=SERVICE with a service from 0 to 5")
+    if not is_name(name):
+        raise argparse.ArgumentTypeError(f"{name!r} is no name that a gate may have")
+    if name == MAIN or name in GATES:
+        what = "the program's first function" if name == MAIN else f"the gate of service {GATES[name]}"
+        raise argparse.ArgumentTypeError(f"{name!r} is {what} already")
     return name, int(service)
+
+
+class Gates(argparse.Action):
+    """Gathers the gates by their names, which have to differ."""
+
+    def __call__(self, parser, namespace, values, option_string=None):
+        name, service = values
+        gates = getattr(namespace, self.dest)
+        if name in gates:
+            raise argparse.ArgumentError(self, f"{name!r} is given twice")
+        setattr(namespace, self.dest, {**gates, name: service})
 
 
 def region(text):
@@ -55,7 +72,7 @@ def parsed(words):
     parser.add_argument("--data", type=region, metavar="BYTES", help="the size of the data region, a power of two")
     parser.add_argument("--stack", type=count, default=DEFAULT_STACK, metavar="BYTES",
                         help="room for the stack at least; 8192 if absent")
-    parser.add_argument("--gate", type=gate, action="append", default=[], metavar="NAME=SERVICE",
+    parser.add_argument("--gate", type=gate, action=Gates, default={}, metavar="NAME=SERVICE",
                         help="a function that is a gate, beside get, put, exit_with and yield_turn")
     parser.add_argument("--no-runtime", action="store_true", help="without memcpy, __udivdi3 and the like")
     parser.add_argument("--passes", type=passes, default=PASSES, metavar="NAMES",
@@ -68,10 +85,20 @@ def read_file(path):
         return os.path.basename(path), file.read()
 
 
+def print_source(source):
+    """Prints a text, and answers the status: 2 where it can't be written."""
+    try:
+        with open(sys.stdout.fileno(), "w", encoding="utf-8", errors="surrogateescape", closefd=False) as output:
+            output.write(source)
+    except OSError as error:
+        print(f"asm2sfi: the source can't be written: {error.strerror}", file=sys.stderr)
+        return 2
+    return 0
+
+
 def main():
     arguments = parsed(sys.argv[1:])
-    options = Options(arguments.format, arguments.data, arguments.stack, dict(arguments.gate),
-                      arguments.passes)
+    options = Options(arguments.format, arguments.data, arguments.stack, arguments.gate, arguments.passes)
     try:
         texts = [read_file(path) for path in arguments.files]
         library = [] if arguments.no_runtime else [read_file(RUNTIME)]
@@ -83,9 +110,7 @@ def main():
         print(f"asm2sfi: {refusal}", file=sys.stderr)
     if len(refusals) > MOST_TOLD:
         print(f"asm2sfi: and {len(refusals) - MOST_TOLD} more", file=sys.stderr)
-    if not refusals:
-        sys.stdout.write(source)
-    return 1 if refusals else 0
+    return 1 if refusals else print_source(source)
 
 
 if __name__ == "__main__":

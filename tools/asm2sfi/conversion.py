@@ -59,12 +59,20 @@ def written(linked, options, texts):
     return source_text(header(texts), options.image_format, gates, size, code, layout), []
 
 
+def defined_gates(symbols, gates):
+    """The gates of the options that a file defines, too, so that no call would reach the gate."""
+    for name in sorted(set(gates) & set(symbols.owners)):
+        unit = symbols.units[symbols.owners[name]]
+        yield Refused(unit.places.get(name, unit.name), f"{name} is defined here, and a gate by --gate")
+
+
 def convert(texts, library, options):
     """The source text of the program of some assembly texts, each a name and a text, and what of it is refused."""
     units, refusals = read_units(texts + library)
     if refusals:
         return "", refusals
     linked, refusals = link(units, len(library), {**GATES, **options.gates}, [MAIN])
+    refusals += defined_gates(linked.symbols, options.gates)
     if refusals:
         return "", refusals
     try:

@@ -1,8 +1,11 @@
 #!/usr/bin/env python3
 """Tests of asm2sfi: `python3 tools/asm2sfi/test_asm2sfi.py`. The assembly is what gcc 12 and clang 14 write."""
+import os
+import subprocess
+import sys
+import tempfile
 import unittest
 
-import testing
 from assembly import Label, Place, Refused, Statement, read_assembly
 from conversion import Options, convert
 from instructions import Converter
@@ -217,6 +220,12 @@ main:
         self.assertIn(".gate exit_with 0\n.gate get 2\n.gate send 4\n", text)
         self.assertEqual(lines_after(text, "main:"), ["call get", "j send"])
 
+    def test_gates_that_are_defined(self):
+        rows = [("\t.globl send\nsend:\tret\n", ["a.s:5: send is defined here, and a gate by --gate"]),
+                ("send:\tret\n", [])]
+        for text, wanted in rows:
+            self.assertEqual(refusals_of(MAIN + text, gates={"send": 4}), wanted)
+
     def test_only_what_is_needed(self):
         library = "\t.section .text.f\n\t.globl f\nf:\tret\n\t.section .text.g\n\t.globl g\ng:\tcall unknown\n"
         text = source(MAIN + "\tcall f\n\tret\n\t.section .text.idle\nidle:\tret\n", library)
@@ -311,5 +320,37 @@ class Naming(unittest.TestCase):
         self.assertEqual(names.fresh("put"), "put..n2")
 
 
+class CommandLine(unittest.TestCase):
+    def told(self, *options, output=subprocess.DEVNULL):
+        """The status of a call, and the last line on standard error."""
+        with tempfile.TemporaryDirectory() as folder:
+            path = os.path.join(folder, "a.s")
+            with open(path, "w", encoding="utf-8") as file:
+                file.write(MAIN + "\tret\n")
+            words = [sys.executable, "-B", os.path.dirname(os.path.abspath(__file__)), *options, path]
+            ended = subprocess.run(words, stdout=output, stderr=subprocess.PIPE, check=False, text=True)
+        return ended.returncode, ended.stderr.splitlines()[-1:]
+
+    def test_gates(self):
+        self.assertEqual(self.told("--gate", "send=4", "--gate", "receive=5"), (0, []))
+        rows = [
+            (["main=4"], "'main' is the program's first function already"),
+            (["put=4"], "'put' is the gate of service 1 already"),
+            (["send=4", "send=5"], "'send' is given twice"),
+            (["=4"], "'' is no name that a gate may have"),
+            (["a-b=4"], "'a-b' is no name that a gate may have"),
+            (["send=6"], "'send=6' isn't NAME=SERVICE with a service from 0 to 5"),
+        ]
+        for gates, wanted in rows:
+            options = [word for gate in gates for word in ("--gate", gate)]
+            self.assertEqual(self.told(*options), (2, [f"asm2sfi: error: argument --gate: {wanted}"]))
+
+    @unittest.skipUnless(os.path.exists("/dev/full"), "/dev/full isn't there")
+    def test_full_disk(self):
+        with open("/dev/full", "w", encoding="utf-8") as full:
+            self.assertEqual(self.told(output=full),
+                             (2, ["asm2sfi: the source can't be written: No space left on device"]))
+
+
 if __name__ == "__main__":
-    testing.main()
+    unittest.main()

@@ -1,7 +1,7 @@
 #!/usr/bin/env python3
 """Compares the model of where `sfi build` places the code with the images that it builds.
 
-    python3 tools/asm2sfi/test_images.py [SFI]     # the program; ./sfi at the top if absent
+    [SFI=PATH] [SEED=N] python3 tools/asm2sfi/test_images.py
 
 The code is that of each example of examples/c, and random code as it is and packed, in both
 formats. `sfi dis` lists each image: where the model has an instruction, the listing must have
@@ -12,10 +12,8 @@ import os
 import random
 import re
 import subprocess
-import sys
 import unittest
 
-import testing
 from instructions import Op, written
 from naming import Names
 from packing import packed
@@ -26,7 +24,7 @@ from writing import code_lines
 
 TOP = os.path.dirname(os.path.dirname(os.path.dirname(os.path.abspath(__file__))))
 EXAMPLES = os.path.join(TOP, "examples", "c")
-SFI = [sys.argv.pop(1)] if len(sys.argv) > 1 and not sys.argv[1].startswith("-") else [os.path.join(TOP, "sfi")]
+SFI = os.environ.get("SFI", os.path.join(TOP, "crates", "sfi", "out", "sfi"))
 SEED = int(os.environ.get("SEED", random.randrange(10 ** 6)))
 REGISTERS = "a0 a1 a2 a5 t0 t3 s0 s3".split()
 PROGRAMS = 12
@@ -36,13 +34,13 @@ SPELT = {"mv": "addi", "nop": "addi", "li": "addi", "la": "lui", "j": "jal", "ca
 
 
 def built(text):
-    return subprocess.run([*SFI, "build"], input=text.encode(), stdout=subprocess.PIPE, check=True).stdout
+    return subprocess.run([SFI, "build"], input=text.encode(), stdout=subprocess.PIPE, check=True).stdout
 
 
 def listed_places(image):
     """By the place of each instruction in the listing, from the code's beginning, its bytes and
     its name."""
-    listing = subprocess.run([*SFI, "dis"], input=image, stdout=subprocess.PIPE, check=True).stdout.decode()
+    listing = subprocess.run([SFI, "dis"], input=image, stdout=subprocess.PIPE, check=True).stdout.decode()
     found = {}
     for address, digits, word in re.findall(r"^([0-9a-f]{8}) ([0-9a-f]{4,8}) (\w+)", listing, re.MULTILINE):
         found[int(address, 16) - 0x1000000] = len(digits) // 2, word
@@ -105,6 +103,7 @@ def source_of(code, image_format):
     return "\n".join([f".format {image_format}", ".sandbox 4096", ".option rvc", *code_lines(code)]) + "\n"
 
 
+@unittest.skipUnless(os.access(SFI, os.X_OK), f"{SFI} isn't built")
 class Images(unittest.TestCase):
     def compare(self, text, image_format, what):
         """Each piece's first bytes are where the model has them, and the code ends where it
@@ -129,6 +128,7 @@ class Images(unittest.TestCase):
                 self.compare(text, image_format, f"{name}, format {image_format}")
 
     def test_random_code(self):
+        print(f"SEED={SEED}", flush=True)
         source = random.Random(SEED)
         for number in range(PROGRAMS):
             code = random_code(source)
@@ -139,5 +139,4 @@ class Images(unittest.TestCase):
 
 
 if __name__ == "__main__":
-    print(f"SEED={SEED}", flush=True)
-    testing.main()
+    unittest.main()

@@ -3,7 +3,6 @@
 from docs/SOURCE.md, from the table of RV32C and from the calling convention."""
 import unittest
 
-import testing
 from assembly import read_assembly
 from control import Blocks, weights
 from dependences import needed_before, reads, writes
@@ -219,4 +218,4 @@ class Packing(unittest.TestCase):
 
 
 if __name__ == "__main__":
-    testing.main()
+    unittest.main()

@@ -1,7 +1,7 @@
 #!/usr/bin/env python3
 """Compares random C programs in sandboxes with the same programs compiled natively.
 
-    python3 tools/asm2sfi/test_random.py [SFI]     # the program; ./sfi at the top if absent
+    [SFI=PATH] [SEED=N] [COUNT=N] python3 tools/asm2sfi/test_random.py
 
 Each program goes through gcc at -O0 to -O3 and, where it is there, through clang at -O2, then
 through the tool with all its passes, and runs in both formats. New programs are tried for some
@@ -11,22 +11,21 @@ import os
 import random
 import shutil
 import subprocess
-import sys
 import tempfile
 import time
 import unittest
 
-import testing
 from conversion import Options, convert
 from random_c import Program
 
 HERE = os.path.dirname(os.path.abspath(__file__))
 TOP = os.path.dirname(os.path.dirname(HERE))
 EXAMPLES = os.path.join(TOP, "examples", "c")
-SFI = [sys.argv.pop(1)] if len(sys.argv) > 1 and not sys.argv[1].startswith("-") else [os.path.join(TOP, "sfi")]
+SFI = os.environ.get("SFI", os.path.join(TOP, "crates", "sfi", "out", "sfi"))
 SEED = int(os.environ.get("SEED", random.randrange(10 ** 6)))
 COUNT = int(os.environ.get("COUNT", 0))
 SECONDS = 25
+STACK = 1 << 19  # the programs call themselves some hundred times
 GCC, CLANG, LLC, NATIVE = "riscv64-unknown-elf-gcc", "clang", "llc", "gcc"
 COMMON = ["-march=rv32imc", "-mabi=ilp32", "-ffreestanding", "-fno-builtin", "-fno-jump-tables", "-ffunction-sections",
           "-fdata-sections", "-I", EXAMPLES]
@@ -63,18 +62,20 @@ def assemblies(path, folder):
 
 
 def sandboxed_answer(assembly, library, image_format):
-    source, refusals = convert([("random.asm", assembly)], library, Options(image_format))
+    source, refusals = convert([("random.asm", assembly)], library, Options(image_format, stack=STACK))
     if refusals:
         return str(refusals[0])
-    image = run(*SFI, "build", data=source.encode())
-    done = run(*SFI, "run", "--rounds", "100", "--quantum", "1000000", data=image.stdout)
+    image = run(SFI, "build", data=source.encode())
+    done = run(SFI, "run", "--rounds", "100", "--quantum", "1000000", data=image.stdout)
     words = (image.stdout if image.returncode else done.stdout).decode().split()
     return " ".join(word for word in words if not word.startswith(("sandbox=", "steps=")))
 
 
+@unittest.skipUnless(os.access(SFI, os.X_OK), f"{SFI} isn't built")
 @unittest.skipUnless(shutil.which(GCC) and shutil.which(NATIVE), f"{GCC} or {NATIVE} isn't there")
 class RandomPrograms(unittest.TestCase):
     def test_answers(self):
+        print(f"SEED={SEED}", flush=True)
         with open(os.path.join(HERE, "runtime.asm"), encoding="utf-8") as file:
             library = [("runtime.asm", file.read())]
         start, number = time.monotonic(), 0
@@ -96,5 +97,4 @@ class RandomPrograms(unittest.TestCase):
 
 
 if __name__ == "__main__":
-    print(f"SEED={SEED}", flush=True)
-    testing.main()
+    unittest.main()

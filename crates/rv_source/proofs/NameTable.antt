@@ -40,6 +40,18 @@ module _ {A : Type 0} where
       rw (← is, slice_get-map (λ p. p.1) (map entry_of es) i, slice_get-map entry_of es i, ← at)
       (sym (option_map-entry_of e))
 
+  -- the text of an entry is the same in the map and in the table
+  pub option_map-text_of : (e : Option (String A × Named)) → option_map (λ p. p.0) (option_map entry_of e) ≡ option_map (λ p. string_bytes p.0) e
+  option_map-text_of None = refl
+  option_map-text_of (Some e) = refl
+
+  -- the name at a place
+  pub text_at : (es : List (String A × Named)) (names : List (List ℕ × Named)) (i : ℕ) (e : Option (String A × Named))
+      → map entry_of es ≡ names → e ≡ slice_get es i → option_map (λ p. string_bytes p.0) e ≡ slice_get (map (λ p. p.0) names) i
+  text_at es names i e is at =
+      rw (← is, slice_get-map (λ p. p.0) (map entry_of es) i, slice_get-map entry_of es i, ← at)
+      (sym (option_map-text_of e))
+
   -- keys that differ are names that differ
   pub names_differ : (es : List (String A × Named)) → IsDistinct same_key (keys_of es) → IsDistinct bytes_eq (map (λ p. p.0) (map entry_of es))
   unfolding IsDistinct

@@ -130,8 +130,9 @@ format_of (s ∷ rest) = s.format
 abbrev pub AreOf : Format → List Sandbox → Type 0
 AreOf format parts = All (λ s. s.format ≡ format) parts
 
--- one such sandbox at least, all of one format
+-- one such sandbox at least, and no more than 32 bits can number, all of one format
 pub record IsSource (parts : List Sandbox) : Type 0 where
   pub at_least_one : 1 ≤ length parts
+  pub numbered : length parts ≤ 2 ^ 32
   pub each : All IsSandbox parts
   pub one_format : AreOf (format_of parts) parts

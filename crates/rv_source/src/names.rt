@@ -1,6 +1,7 @@
 //! The names of a sandbox, in the order in which they are first seen.
 ghost use Rattle.std.specs.Prelude.{◌≡◌, ◌<◌, ◌^◌, [], length, map, slice_get, IfOk, OnOk, OnErr};
 ghost use Rattle.std.specs.List.{IsDistinct};
+ghost use Rattle.std.specs.Option.{option_copied};
 ghost use Rattle.std.specs.Str.{bytes_eq};
 ghost use Rattle.rv_source.specs.NameTable.{meaning, place_of, placed, met};
 
@@ -42,6 +43,16 @@ impl Names {
         ensures differ { IsDistinct bytes_eq (map (λ e. e.0) self.now) }
     {
         self.named.len()
+    }
+
+    /// The name at this place; `None` where no name has the place.
+    pub fn text(&self, place: usize) -> Option<&str>
+        ensures { option_copied result ≡ slice_get (map (λ e. e.0) self.now) place }
+    {
+        match self.named.get_index(place) {
+            Some((name, _)) => Some(name.as_str()),
+            None => None,
+        }
     }
 
     /// What the name at this place stands for; `None` where no name has the place.

@@ -1,8 +1,8 @@
 //! Sources: what a text of the assembler means.
-ghost use Rattle.std.specs.Prelude.{◌≡◌, length, slice_get};
-ghost use Rattle.rv_source.specs.Source.{sandbox, named, format_of, IsSource};
+ghost use Rattle.std.specs.Prelude.{◌≡◌};
+ghost use Rattle.rv_source.specs.Source.{sandbox, format_of, IsSource};
 
-use crate::item::{Item, Named, SourceGate};
+use crate::item::{Item, SourceGate};
 use crate::names::Names;
 use sfi_policy::Format;
 use std::marker::Model;
@@ -71,19 +71,11 @@ impl SourcePart {
         &self.gates
     }
 
-    /// How many names there are.
-    pub fn name_count(&self) -> usize
-        ensures { result ≡ length (named self.now) }
+    /// The names of its labels and gates, and of what its instructions go to.
+    pub fn names(&self) -> &Names
+        ensures { result.now ≡ self.now.names }
     {
-        self.names.len()
-    }
-
-    /// What the name at this place names; `None` where there is none. The places are those of the
-    /// order in which the names are first seen, from 0.
-    pub fn named(&self, place: usize) -> Option<Named>
-        ensures { result ≡ slice_get (named self.now) place }
-    {
-        self.names.named(place)
+        &self.names
     }
 
     /// The instructions, at most `ITEMS_MOST`, in the order of the text.
@@ -101,7 +93,7 @@ impl SourcePart {
     }
 }
 
-/// What a text means: one sandbox at least, all of one format.
+/// What a text means: one sandbox at least, and no more than a u32 can number, all of one format.
 #[derive(Debug, Drop)]
 pub struct Source {
     parts: Vec<SourcePart>,

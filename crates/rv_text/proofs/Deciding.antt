@@ -25,7 +25,7 @@ use Rattle.rv_text.specs.Operands.{OperandValues, Stands, mode_name}
 use Rattle.rv_text.specs.private.Scan.{body_of, token_len}
 use Rattle.rv_text.specs.Statement.{operands}
 use Rattle.rv_text.proofs.Keywords.{none_of_none, none_of_other}
-use Rattle.rv_text.proofs.Names.{register_found, register_none}
+use Rattle.rv_text.proofs.RegisterNames.{register_found, register_none}
 use Rattle.rv_text.proofs.Numbers.{number_unique}
 use Rattle.rv_text.proofs.Powers.{power_test}
 use Rattle.rv_text.proofs.Taking.{takes_found, body_blank, stuck}

@@ -1,13 +1,14 @@
 pub mod LabelReading
 pub mod Placing
 pub mod TextLines
+pub mod Counting
 pub mod RightSources
 pub mod RightTexts
 pub mod KeywordNames
 pub mod OneSource
 pub mod Lexing
 pub mod Taking
-pub mod Names
+pub mod RegisterNames
 pub mod Keywords
 pub mod Numbers
 pub mod Powers

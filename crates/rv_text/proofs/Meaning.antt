@@ -12,7 +12,7 @@ use Rattle.rv_text.specs.Forms.{form_of}
 use Rattle.rv_text.specs.Operands.{OperandValues, Stands, HasForm, mode_name}
 use Rattle.rv_text.specs.private.Reading.{Reads, SameAt, AgreesOn, FollowsName, FollowsToken}
 use Rattle.rv_text.specs.Statement.{mnemonic_of, operands_of, Means}
-use Rattle.rv_text.proofs.Names.{register_own}
+use Rattle.rv_text.proofs.RegisterNames.{register_own}
 use Rattle.rv_text.proofs.Numbers.{number_unique}
 use Rattle.rv_text.proofs.Taking.{takes_unique}
 use Rattle.rv_text.proofs.Forms.{stands_by_operand}

@@ -30,6 +30,7 @@ use Rattle.rv_text.specs.Texts.{uncommented, lines, LinesLead}
 use Rattle.rv_source.specs.Laws.{MetNamesStay, NewNamesNameNothing}
 use Rattle.rv_text.specs.Laws.{SourcesAreRight}
 use Rattle.rv_text.proofs.Placing.{place_among}
+use Rattle.rv_text.proofs.Counting.{few_sandboxes}
 use Rattle.rv_text.proofs.Right.{after_right, after_place}
 use Rattle.rv_text.proofs.RightSources.{IsDraft, known, all_of, all_append, finished, begun_right, label_right, met_right, bodies_right, bytes_right, gate_right}
 
@@ -228,6 +229,7 @@ module _ (met_law : MetNamesStay) (new_law : NewNamesNameNothing) where
       let shape : parts ≡ new.finished ++ last.sandbox ∷ [] = parts_are ∙ ap (λ b. new.finished ++ last_sandbox b) begun in
       record {
         at_least_one = omega (arith, ap length shape, length-append new.finished (last.sandbox ∷ []));
+        numbered = omega (arith, ap length parts_are, few_sandboxes text new leads);
         each = subst (λ ps. All IsSandbox ps) (sym parts_are) (all_of IsSandbox (sandboxes new) (sandboxes_right new right));
         one_format = all_one parts (format_or_sfi1 new.format) (subst (λ ps. AreOf (format_or_sfi1 new.format) ps) (sym parts_are) (all_of (IsOf new.format) (sandboxes new) (sandboxes_format new right)));
       }

@@ -35,5 +35,6 @@ pub use cause::TextCause;
 pub use fault::TextFault;
 pub use parse::parse_instr;
 pub use print::{print_instr, push_instr};
-pub use rv_source::{Body, Item, Named, Source, SourceGate, SourcePart};
+pub use rv_source::{Body, Item, Named, Names, Source, SourceGate, SourcePart};
+pub use sfi_policy::Format;
 pub use text::parse_source;

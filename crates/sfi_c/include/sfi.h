@@ -12,9 +12,20 @@
  * write none. Any number of threads may call them at once. They return whatever the bytes of the image are; the time
  * grows in proportion to the bytes. A thread with 64 KiB of stack had room for them where that was measured.
  *
- * What a caller owes, since nothing checks it: each pointer is not NULL and is aligned, also where its length is 0;
- * the memory of `image` isn't written during the call, by any thread; `verdict` and `array` overlap neither each
- * other nor the image.
+ * What a caller owes, since nothing checks it:
+ *
+ * - Each pointer is not NULL and is aligned, also where its length is 0.
+ * - `length` bytes at `image` can be read, `capacity` elements of `array` and the one of `verdict` can be written, and
+ *   each of these has fewer than PTRDIFF_MAX bytes.
+ * - Nothing writes the image during the call: no thread, and no other process that shares its memory.
+ * - Nothing else reads or writes `verdict` and `array` during the call, no other call either. They overlap neither each
+ *   other nor the image.
+ *
+ * sfi_c_findings allocates, so its caller also owes that
+ *
+ * - malloc, realloc and free come from one allocator;
+ * - malloc and realloc align a block to each power of two up to 16 that divides its size, as C libraries do;
+ * - it isn't called from a signal handler, nor in the forked child of a process with threads.
  *
  * Link libsfi_c.a, which `rt lib` builds in crates/sfi_c/out, and the toolchain's liblibc_c.a, which allocates by
  * malloc, realloc and free: examples/embed/test.sh has the command lines.
@@ -24,6 +35,9 @@
 
 #include <stddef.h>
 #include <stdint.h>
+
+/* The version of this header, and of the library that it declares: major, minor, patch. */
+#define SFI_VERSION "0.1.0"
 
 #ifdef __cplusplus
 extern "C" {
@@ -90,9 +104,11 @@ uint32_t sfi_c_check(const uint8_t *image, size_t length, struct sfi_verdict *ve
  * then by address: all of them, or the first `capacity` where there are more. verdict->findings tells how many there
  * are in all. No other element of the array is written, and with another status none is.
  *
- * An image with findings is read twice, and the list of all its findings is kept in memory for the time of the call:
- * 12 bytes for each, and at most 8 findings for each 16 bytes of image, and as much again while the list grows.
- * Where there is no such memory the status is SFI_NO_MEMORY. sfi_c_check tells the first finding without memory.
+ * An image with findings is read twice, and the list of all its findings is kept in memory for the time of the call.
+ * While it grows the call holds up to 36 bytes for each finding (96 for one or two), and some 10 KiB for sandboxes
+ * and gates; where realloc copies, up to 48 bytes for each. There are at most 8 findings for each 16 bytes of code, so
+ * at most 8388608. Where there is no such memory the status is SFI_NO_MEMORY. sfi_c_check tells the first finding
+ * without memory.
  */
 uint32_t sfi_c_findings(const uint8_t *image, size_t length, struct sfi_finding *array, size_t capacity,
                         struct sfi_verdict *verdict);

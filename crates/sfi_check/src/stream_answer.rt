@@ -9,7 +9,7 @@ pub enum StreamAnswer {
     Accepted { sandboxes: u32, bundles: u32 },
     /// The bytes are no image: the number of the layout fault.
     Layout(u32),
-    /// Rules are broken: how many times, and the first place by sandbox and address.
+    /// Rules are broken: how many findings there are, and the first by sandbox and address.
     Findings { count: u32, first: Finding },
     /// A read failed.
     ReadFault,

@@ -29,8 +29,8 @@ seat_at (x ∷ all) zero s e = let same : x ≡ s = cc in ap (λ (y : Sandbox). 
 seat_at (x ∷ all) (suc i) s e = seat_at all i s e
 
 -- what a look-up found is there
-pub found : (all seen : List Sandbox) (i : ℕ) (s : Sandbox) → seen ≡ all → i < length seen → s ≡ get_or seen i s → slice_get all i ≡ Some s
-found all seen i s e below is = ap (λ (l : List Sandbox). slice_get l i) (sym e) ∙ slice_get-get_or seen i s below ∙ ap Some (sym is)
+pub found : {A : Type 0} (all seen : List A) (i : ℕ) (s : A) → seen ≡ all → i < length seen → s ≡ get_or seen i s → slice_get all i ≡ Some s
+found all seen i s e below is = ap (λ (l : List _). slice_get l i) (sym e) ∙ slice_get-get_or seen i s below ∙ ap Some (sym is)
 
 module _ (w : Sandboxes) (m : Bytes) (all : List Sandbox) (is : world_of m all ≡ w) (i : ℕ) where
   pub status_is : (s : Sandbox) → slice_get all i ≡ Some s → Some s.status ≡ status_at (slots_of w) i

@@ -1,5 +1,6 @@
 -- A plan that goes on where another one left off.
-use Rattle.std.proofs.Common.{◌≡◌, ◌≢◌, ℕ, zero, suc, ◌+◌, Bool, false, cond, List, [], ◌∷◌, ◌++◌, length, Option, Some, None, slice_get, set, refl, sym, ap, ◌∙◌, subst, arith, append-nil, length-append}
+use Rattle.std.proofs.Common.{◌≡◌, ◌≢◌, ◌⊎◌, inl, inr, ⊎_elim, ℕ, zero, suc, ◌+◌, ◌<◌, Bool, true, false, cond, List, [], ◌∷◌, ◌++◌, take, drop, get_or, length, Option, Some, None, slice_get, set, refl, sym, ap, ◌∙◌, subst, arith, length-append}
+use Rattle.std.proofs.lemmas.List.{take_more, take-append-drop, length-take-le}
 use Rattle.rv_step.specs.State.{State}
 use Rattle.rv_step.specs.declared.outcome.Outcome.{Outcome}
 use Rattle.rv_step.specs.declared.outcome.Outcome.TheVariants as outcome
@@ -10,25 +11,40 @@ use Rattle.sfi_host.specs.declared.turn.StepResult.{StepResult}
 use Rattle.sfi_host.specs.declared.turn.StepResult.TheVariants.{Continue, TurnEnds, RunEnds}
 use Rattle.sfi_host.specs.Slots.{Slot, state_of}
 use Rattle.sfi_host.specs.Hosts.{Call, Way, Replied, Yield, Exit, Answer, Limited, limited, if_left}
-use Rattle.sfi_host.specs.Joint.{Machine, Moved, moved, moved_if, after_step, after_answer, call_of, next_after, replied, Joined, joined, joint}
+use Rattle.sfi_host.specs.Joint.{Machine, Moved, moved, moved_if, turned, after_step, after_answer, call_of, next_after, replied, Joined, joined, joint}
 use Rattle.sfi_host.specs.Plans.{IsJoint, IsCutJoint}
-use Rattle.sfi_host.specs.Following.{after_run, JointFollows, PlansFollow, CutFollows}
-use Rattle.sfi_host.specs.private.Limits.{allow, allows, with_left, Comes, IsTurnOf, IsStepOf, IsOnItsWay, SamePlan, IsPlanOnItsWay, IsPlanStep}
+use Rattle.sfi_host.specs.Following.{after_run, shortened, IsJointUpTo, JointFollows, PlansFollow, CutFollows, CutIsShorter, RetryFollows}
+use Rattle.sfi_host.specs.private.Limits.{allow, allows, with_left, Comes, IsTurnOf, IsStepOf, SameEnd}
 use Rattle.sfi_host.proofs.Following.{follows}
-use Rattle.sfi_host.proofs.Plans.{joined_nil, no_limit, none_turn, one_turn, plan_starts, plan_ends}
-use Rattle.sfi_host.proofs.Turning.{allows_both, starts, goes_on, ends, runs_out}
+use Rattle.sfi_host.proofs.Plans.{allows_some, no_limit, joined_nil, SamePlan, none_then, is_joint, turn_then, turn_ends}
+use Rattle.sfi_host.proofs.Turning.{allows_both, one_more_step, last_step, no_step}
+
+-- ---- limits
+
+less_or : (n k : ℕ) → (n < k) ⊎ ((r : ℕ) × (n ≡ k + r))
+less_or n zero = inr (n, omega arith)
+less_or zero (suc k) = inl (omega arith)
+less_or (suc n) (suc k) = ⊎_elim (λ (l : n < k). inl (omega arith)) (λ (x : (r : ℕ) × (n ≡ k + r)). inr (x.0, omega (arith, x.1))) (less_or n k)
+
+-- a limit that is enough for these calls
+enough : (n k r : ℕ) → n ≡ k + r → allows k (Some r) ≡ Some n
+enough n k r e = allows_some k r ∙ ap Some (sym e)
+
+comes_too : {S : Type 0} (m n : Moved (Limited S)) (slot : Slot) (host : S) (left : Option ℕ) (next : StepResult) → SameEnd m n → Comes n slot host left next → Comes m slot host left next
+comes_too m n slot host left next e f = record { slot_is = e.slot_is ∙ f.slot_is; host_is = e.host_is ∙ f.host_is; next_is = e.next_is ∙ f.next_is }
 
 module _ {S : Type 0} (machine : Machine) (answer : S → Call → Answer S) where
   -- ---- a step
 
-  -- what a step comes to, whatever number of calls is left then
-  record SomeMove (before : S) (move : Limited S → Moved (Limited S)) : Type 0 where
+  -- what a step comes to, whatever number of calls is left then; where too few are, nothing happens
+  record SomeMove (old : Slot) (before : S) (move : Limited S → Moved (Limited S)) : Type 0 where
     new : Slot
     after : S
     next : StepResult
     goes : next ≢ RunEnds
     answers : ℕ
     is : (left : Option ℕ) → Comes (move (with_left before (allows answers left))) new after left next
+    cut : (n : ℕ) → n < answers → Comes (move (with_left before (Some n))) old before (Some n) RunEnds
 
   way_goes : (way : Way) → next_after way ≢ RunEnds
   way_goes Replied e = let z : Continue ≡ RunEnds = e in cc
@@ -40,19 +56,24 @@ module _ {S : Type 0} (machine : Machine) (answer : S → Call → Answer S) whe
   answered slot host a None = record { slot_is = refl; host_is = refl; next_is = refl }
   answered slot host a (Some n) = record { slot_is = refl; host_is = refl; next_is = refl }
 
-  nothing_asked : (before : S) (new : Slot) (next : StepResult) → next ≢ RunEnds → SomeMove before (λ l. record { slot = new; host = l; replies = []; next = next })
-  nothing_asked before new next goes = record {
+  not_answered : (slot : Slot) (host : S) (a : Answer S) (n : ℕ) → n < 1 → Comes (after_answer slot (with_left host (Some n)) (if_left (Some n) a)) slot host (Some n) RunEnds
+  not_answered slot host a zero none = record { slot_is = refl; host_is = refl; next_is = refl }
+  not_answered slot host a (suc n) none = absurd (omega arith)
+
+  nothing_asked : (old : Slot) (before : S) (new : Slot) (next : StepResult) → next ≢ RunEnds → SomeMove old before (λ l. record { slot = new; host = l; replies = []; next = next })
+  nothing_asked old before new next goes = record {
     new = new;
     after = before;
     next = next;
     goes = goes;
     answers = 0;
     is = λ left. record { slot_is = refl; host_is = refl; next_is = refl };
+    cut = λ n none. absurd (omega arith);
   }
 
-  outcome_moves : (number : ℕ) (slot : Slot) (before : S) (o : Outcome) (state : State) → SomeMove before (λ l. after_step (limited answer) number slot l o state)
-  outcome_moves number slot before outcome.Next state = nothing_asked before _ Continue (λ e. cc)
-  outcome_moves number slot before (outcome.Trap cause at) state = nothing_asked before _ TurnEnds (λ e. cc)
+  outcome_moves : (number : ℕ) (slot : Slot) (before : S) (o : Outcome) (state : State) → SomeMove slot before (λ l. after_step (limited answer) number slot l o state)
+  outcome_moves number slot before outcome.Next state = nothing_asked slot before _ Continue (λ e. cc)
+  outcome_moves number slot before (outcome.Trap cause at) state = nothing_asked slot before _ TurnEnds (λ e. cc)
   outcome_moves number slot before outcome.Call state =
       let a = answer before (call_of number slot) in
       record {
@@ -62,179 +83,275 @@ module _ {S : Type 0} (machine : Machine) (answer : S → Call → Answer S) whe
         goes = way_goes a.reply.way;
         answers = 1;
         is = λ left. answered slot before a left;
+        cut = λ n none. not_answered slot before a n none;
       }
 
-  status_moves : (number : ℕ) (slot : Slot) (before : S) (status : Status) → SomeMove before (λ l. moved_if machine (limited answer) number slot l status)
+  status_moves : (number : ℕ) (slot : Slot) (before : S) (status : Status) → SomeMove slot before (λ l. moved_if machine (limited answer) number slot l status)
   status_moves number slot before Ready = let r = machine (state_of slot) in outcome_moves number slot before r.outcome r.state
-  status_moves number slot before (Exited n) = nothing_asked before slot TurnEnds (λ e. cc)
-  status_moves number slot before (Trapped cause at) = nothing_asked before slot TurnEnds (λ e. cc)
+  status_moves number slot before (Exited n) = nothing_asked slot before slot TurnEnds (λ e. cc)
+  status_moves number slot before (Trapped cause at) = nothing_asked slot before slot TurnEnds (λ e. cc)
 
-  some_move : (number : ℕ) (slot : Slot) (before : S) → SomeMove before (λ l. moved machine (limited answer) number slot l)
+  some_move : (number : ℕ) (slot : Slot) (before : S) → SomeMove slot before (λ l. moved machine (limited answer) number slot l)
   unfolding moved
   some_move number slot before = status_moves number slot before slot.status
 
   -- ---- a turn
 
-  -- what a turn comes to
-  record SomeTurn (number steps : ℕ) (old : Slot) (before : S) : Type 0 where
+  -- where too few calls are left, it ends at one, as with fewer steps where each is answered
+  record TurnCut (number k : ℕ) (old : Slot) (before : S) (n : ℕ) : Type 0 where
+    steps : ℕ
+    fewer : steps < k
     new : Slot
     after : S
-    turn : IsTurnOf machine answer number steps old before new after
+    left : Option ℕ
+    ends : Comes (turned machine (limited answer) number k old (with_left before (Some n))) new after left RunEnds
+    is : Comes (turned machine (limited answer) number steps old (with_left before None)) new after None TurnEnds
 
-  module _ (number steps : ℕ) (old : Slot) (before : S) where
-    -- a step of it, and what follows
-    next_step : (rest : ℕ) (now new : Slot) (host after : S) (next : StepResult) → next ≢ RunEnds
-        → IsOnItsWay machine answer number steps old before (suc rest) now host → IsStepOf machine answer number now host new after next
-        → (IsOnItsWay machine answer number steps old before rest new after → SomeTurn number steps old before)
-        → SomeTurn number steps old before
-    next_step rest now new host after Continue goes way step later =
-        later (goes_on machine answer number steps old before (suc rest) rest now new host after refl way step)
-    next_step rest now new host after TurnEnds goes way step later =
-        record { new = new; after = after; turn = ends machine answer number steps old before (suc rest) rest now new host after refl way step }
-    next_step rest now new host after RunEnds goes way step later = absurd (goes refl)
+  -- what a turn comes to
+  record SomeTurn (number k : ℕ) (old : Slot) (before : S) : Type 0 where
+    new : Slot
+    after : S
+    turn : IsTurnOf machine answer number k old before new after
+    cut : (n : ℕ) → n < turn.answers → TurnCut number k old before n
 
-    rest_of_turn : (rest : ℕ) (now : Slot) (host : S) → IsOnItsWay machine answer number steps old before rest now host → SomeTurn number steps old before
-    rest_of_turn zero now host way = record { new = now; after = host; turn = runs_out machine answer number steps old before 0 now host refl way }
-    rest_of_turn (suc rest) now host way =
-        let m = some_move number now host in
-        let step : IsStepOf machine answer number now host m.new m.after m.next = record { answers = m.answers; is = m.is } in
-        next_step rest now m.new host m.after m.next m.goes way step (λ further. rest_of_turn rest m.new m.after further)
+  module _ (number k : ℕ) (old : Slot) (before : S) where
+    cut_here : SomeMove old before (λ l. moved machine (limited answer) number old l) → (n : ℕ) → Comes (moved machine (limited answer) number old (with_left before (Some n))) old before (Some n) RunEnds → TurnCut number (suc k) old before n
+    cut_here m n ends = record {
+      steps = 0;
+      fewer = omega arith;
+      new = old;
+      after = before;
+      left = Some n;
+      ends = last_step machine answer number k old old before before (Some n) (Some n) RunEnds (λ f. cc) ends;
+      is = no_step machine answer number old before None;
+    }
 
-  some_turn : (number steps : ℕ) (old : Slot) (before : S) → SomeTurn number steps old before
-  some_turn number steps old before = rest_of_turn number steps old before steps old before (starts machine answer number steps old before steps refl)
+    module _ (new : Slot) (after : S) (step : IsStepOf machine answer number old before new after Continue) (rest : SomeTurn number k new after) where
+      cut_later : (n r : ℕ) → n ≡ step.answers + r → r < rest.turn.answers → TurnCut number (suc k) old before n
+      cut_later n r e less =
+          let c = rest.cut r less in
+          record {
+            steps = suc c.steps;
+            fewer = let f = c.fewer in omega arith;
+            new = c.new;
+            after = c.after;
+            left = c.left;
+            ends = subst (λ (x : Option ℕ). Comes (turned machine (limited answer) number (suc k) old (with_left before x)) c.new c.after c.left RunEnds) (enough n step.answers r e)
+                (comes_too _ _ _ _ _ _ (one_more_step machine answer number k old new before after (allows step.answers (Some r)) (Some r) (step.is (Some r))) c.ends);
+            is = comes_too _ _ _ _ _ _ (one_more_step machine answer number c.steps old new before after None None
+                (subst (λ (x : Option ℕ). Comes (moved machine (limited answer) number old (with_left before x)) new after None Continue) (no_limit step.answers) (step.is None))) c.is;
+          }
+
+      more_turn : ((n : ℕ) → n < step.answers → TurnCut number (suc k) old before n) → SomeTurn number (suc k) old before
+      more_turn here = record {
+        new = rest.new;
+        after = rest.after;
+        turn = record {
+          answers = step.answers + rest.turn.answers;
+          is = λ left.
+              let more = allows rest.turn.answers left in
+              subst (λ (x : Option ℕ). Comes (turned machine (limited answer) number (suc k) old (with_left before x)) rest.new rest.after left TurnEnds) (sym (allows_both step.answers rest.turn.answers left))
+              (comes_too _ _ _ _ _ _ (one_more_step machine answer number k old new before after (allows step.answers more) more (step.is more)) (rest.turn.is left));
+        };
+        cut = λ n less. ⊎_elim (here n) (λ (x : (r : ℕ) × (n ≡ step.answers + r)). cut_later n x.0 x.1 (omega (arith, x.1, less))) (less_or n step.answers);
+      }
+
+    by_next : (new : Slot) (after : S) (next : StepResult) → next ≢ RunEnds → (step : IsStepOf machine answer number old before new after next) → ((n : ℕ) → n < step.answers → TurnCut number (suc k) old before n)
+        → SomeTurn number k new after → SomeTurn number (suc k) old before
+    by_next new after Continue goes step here rest = more_turn new after step rest here
+    by_next new after TurnEnds goes step here rest = record {
+      new = new;
+      after = after;
+      turn = record { answers = step.answers; is = λ left. last_step machine answer number k old new before after (allows step.answers left) left TurnEnds (λ f. cc) (step.is left) };
+      cut = here;
+    }
+    by_next new after RunEnds goes step here rest = absurd (goes refl)
+
+  some_turn : (number k : ℕ) (old : Slot) (before : S) → SomeTurn number k old before
+  some_turn number zero old before = record {
+    new = old;
+    after = before;
+    turn = record { answers = 0; is = λ left. no_step machine answer number old before left };
+    cut = λ n none. absurd (omega arith);
+  }
+  some_turn number (suc k) old before =
+      let m = some_move number old before in
+      by_next number k old before m.new m.after m.next m.goes (record { answers = m.answers; is = m.is }) (λ n less. cut_here number k old before m n (m.cut n less)) (some_turn number k m.new m.after)
 
   -- ---- a plan
 
-  -- a plan's front is done: sandboxes and host are these, and the rest is to come
-  abbrev IsFront : List Turn → List Slot → S → List Slot → S → Type 0
-  IsFront p old before new after = (rest : List Turn) → IsPlanOnItsWay machine answer (p ++ rest) old before (length p) rest new after
+  -- where too few calls are left, it ends at one
+  record PlanCut (plan : List Turn) (old : List Slot) (before : S) (n : ℕ) : Type 0 where
+    place : ℕ
+    new : List Slot
+    after : S
+    slots : (joint machine answer plan old before (Some n)).slots ≡ new
+    host : (joint machine answer plan old before (Some n)).host.host ≡ after
+    turns : (joint machine answer plan old before (Some n)).turns ≡ place + 1
+    up_to : IsJointUpTo machine answer plan place old before new after
 
   -- what a turn at the front of a plan comes to
   record SomeFirst (t : Turn) (old : List Slot) (before : S) : Type 0 where
     new : List Slot
     after : S
-    step : IsPlanStep machine answer t old before new after
+    answers : ℕ
+    is : (rest : List Turn) (left : Option ℕ) → SamePlan 1 (joint machine answer (t ∷ rest) old before (allows answers left)) (joint machine answer rest new after left)
+    cut : (n : ℕ) → n < answers → (rest : List Turn) → PlanCut (t ∷ rest) old before n
+
+  first_cut : (t : Turn) (old : List Slot) (before : S) (slot : Slot) → slice_get old t.sandbox ≡ Some slot → (n : ℕ) → TurnCut t.sandbox t.steps slot before n → (rest : List Turn) → PlanCut (t ∷ rest) old before n
+  first_cut t old before slot at n c rest =
+      let e = turn_ends machine answer t old before slot c.new c.after at n c.left c.ends rest in
+      let short : Turn = record { sandbox = t.sandbox; steps = c.steps } in
+      record {
+        place = 0;
+        new = set old t.sandbox c.new;
+        after = c.after;
+        slots = ap (λ (j : Joined _). j.slots) e;
+        host = ap (λ (j : Joined (Limited S)). j.host.host) e;
+        turns = ap (λ (j : Joined _). j.turns) e;
+        up_to = record {
+          turn = t;
+          turn_is = refl;
+          steps = c.steps;
+          fewer = c.fewer;
+          joint = is_joint machine answer short old before (set old t.sandbox c.new) c.after (turn_then machine answer short old before slot c.new c.after at None None c.is []);
+        };
+      }
 
   first_found : (t : Turn) (old : List Slot) (before : S) (found : Option Slot) → slice_get old t.sandbox ≡ found → SomeFirst t old before
-  first_found t old before None e = record { new = old; after = before; step = none_turn machine answer t old before e }
+  first_found t old before None e = record { new = old; after = before; answers = 0; is = λ rest left. none_then machine answer t old before left e rest; cut = λ n none. absurd (omega arith) }
   first_found t old before (Some slot) e =
       let some = some_turn t.sandbox t.steps slot before in
-      record { new = set old t.sandbox some.new; after = some.after; step = one_turn machine answer t old before slot some.new some.after e some.turn }
-
-  -- one part of a plan, and then another
-  ways_follow : (whole then rest : List Turn) (old mid new : List Slot) (before between after : S) (m n : ℕ) → IsPlanOnItsWay machine answer whole old before m then mid between
-      → IsPlanOnItsWay machine answer then mid between n rest new after → IsPlanOnItsWay machine answer whole old before (m + n) rest new after
-  ways_follow whole then rest old mid new before between after m n first second = record {
-    answers = first.answers + second.answers;
-    is = λ left.
-        let k = second.answers in
-        let e = first.is (allows k left) in
-        let f = second.is left in
-        subst (λ (x : Option ℕ). SamePlan (m + n) (joined machine (limited answer) whole old (with_left before x)) (joined machine (limited answer) rest new (with_left after left))) (sym (allows_both first.answers k left))
-        (record {
-          slots_are = e.slots_are ∙ f.slots_are;
-          host_is = e.host_is ∙ f.host_is;
-          turns_are = let g = e.turns_are in let h = f.turns_are in omega arith;
-          ended_is = e.ended_is ∙ f.ended_is;
-        });
-  }
-
-  -- what a plan's front comes to
-  record SomeFront (p : List Turn) (old : List Slot) (before : S) : Type 0 where
-    new : List Slot
-    after : S
-    front : IsFront p old before new after
-
-  some_front : (p : List Turn) (old : List Slot) (before : S) → SomeFront p old before
-  some_front [] old before = record { new = old; after = before; front = λ rest. plan_starts machine answer rest old before }
-  some_front (t ∷ p) old before =
-      let one = first_found t old before (slice_get old t.sandbox) refl in
-      let more = some_front p one.new one.after in
-      let count : 1 + length p ≡ length (t ∷ p) = omega arith in
       record {
-        new = more.new;
-        after = more.after;
-        front = λ rest.
-            subst (λ (n : ℕ). IsPlanOnItsWay machine answer (t ∷ (p ++ rest)) old before n rest more.new more.after) count
-            (ways_follow (t ∷ (p ++ rest)) (p ++ rest) rest old one.new more.new before one.after more.after 1 (length p) (one.step (p ++ rest)) (more.front rest));
+        new = set old t.sandbox some.new;
+        after = some.after;
+        answers = some.turn.answers;
+        is = λ rest left. turn_then machine answer t old before slot some.new some.after e (allows some.turn.answers left) left (some.turn.is left) rest;
+        cut = λ n less. first_cut t old before slot e n (some.cut n less);
       }
 
-  -- where there is no rest, that is the plan
-  is_whole : (p : List Turn) (old new : List Slot) (before after : S) → IsFront p old before new after → IsPlanOnItsWay machine answer p old before (length p) [] new after
-  is_whole p old new before after front = subst (λ (l : List Turn). IsPlanOnItsWay machine answer l old before (length p) [] new after) (append-nil p) (front [])
-
-  -- each call is answered, so each turn is taken
-  record IsTaken (j : Joined (Limited S)) (new : List Slot) (after : S) : Type 0 where
+  -- each turn was taken
+  record IsTaken (count : ℕ) (j : Joined (Limited S)) (new : List Slot) (after : S) (left : Option ℕ) : Type 0 where
     slots_are : j.slots ≡ new
-    host_is : j.host ≡ with_left after None
+    host_is : j.host ≡ with_left after left
+    turns_are : j.turns ≡ count
     ended_is : j.is_ended ≡ false
 
-  taken : (p : List Turn) (old : List Slot) (before : S) → let some = some_front p old before in IsTaken (joint machine answer p old before None) some.new some.after
-  taken p old before =
-      let some = some_front p old before in
-      let way = is_whole p old some.new before some.after some.front in
-      let nil = joined_nil machine (limited answer) some.new (with_left some.after None) in
-      let e : SamePlan (length p) (joint machine answer p old before None) (joined machine (limited answer) [] some.new (with_left some.after None)) =
-      subst (λ (x : Option ℕ). SamePlan (length p) (joined machine (limited answer) p old (with_left before x)) (joined machine (limited answer) [] some.new (with_left some.after None))) (no_limit way.answers) (way.is None) in
+  -- what a plan comes to
+  record SomePlan (plan : List Turn) (old : List Slot) (before : S) : Type 0 where
+    new : List Slot
+    after : S
+    answers : ℕ
+    is : (left : Option ℕ) → IsTaken (length plan) (joint machine answer plan old before (allows answers left)) new after left
+    cut : (n : ℕ) → n < answers → PlanCut plan old before n
+
+  module _ (t : Turn) (plan : List Turn) (old : List Slot) (before : S) (first : SomeFirst t old before) (rest : SomePlan plan first.new first.after) where
+    taken_too : (given left : Option ℕ) → allows first.answers (allows rest.answers left) ≡ given → IsTaken (suc (length plan)) (joint machine answer (t ∷ plan) old before given) rest.new rest.after left
+    taken_too given left e =
+        let s = first.is plan (allows rest.answers left) in
+        let y = rest.is left in
+        subst (λ (x : Option ℕ). IsTaken (suc (length plan)) (joint machine answer (t ∷ plan) old before x) rest.new rest.after left) e
+        (record { slots_are = s.slots_are ∙ y.slots_are; host_is = s.host_is ∙ y.host_is; turns_are = let a = s.turns_are in let b = y.turns_are in omega (arith, a, b); ended_is = s.ended_is ∙ y.ended_is })
+
+    plan_cut : (n r : ℕ) → n ≡ first.answers + r → PlanCut plan first.new first.after r → PlanCut (t ∷ plan) old before n
+    plan_cut n r e c =
+        let s : SamePlan 1 (joint machine answer (t ∷ plan) old before (Some n)) (joint machine answer plan first.new first.after (Some r)) =
+        subst (λ (x : Option ℕ). SamePlan 1 (joint machine answer (t ∷ plan) old before x) (joint machine answer plan first.new first.after (Some r))) (enough n first.answers r e) (first.is plan (Some r)) in
+        let less = shortened plan c.place c.up_to.steps in
+        let u : SamePlan 1 (joint machine answer (t ∷ less) old before None) (joint machine answer less first.new first.after None) =
+        subst (λ (x : Option ℕ). SamePlan 1 (joint machine answer (t ∷ less) old before x) (joint machine answer less first.new first.after None)) (no_limit first.answers) (first.is less None) in
+        record {
+          place = suc c.place;
+          new = c.new;
+          after = c.after;
+          slots = s.slots_are ∙ c.slots;
+          host = ap (λ (l : Limited S). l.host) s.host_is ∙ c.host;
+          turns = let a = s.turns_are in let b = c.turns in omega (arith, a, b);
+          up_to = record {
+            turn = c.up_to.turn;
+            turn_is = c.up_to.turn_is;
+            steps = c.up_to.steps;
+            fewer = c.up_to.fewer;
+            joint = record {
+              slots = c.up_to.joint.slots ∙ sym u.slots_are;
+              host = c.up_to.joint.host ∙ sym (ap (λ (l : Limited S). l.host) u.host_is);
+              turns = let a = u.turns_are in let b = c.up_to.joint.turns in omega (arith, a, b);
+            };
+          };
+        }
+
+  some_plan : (plan : List Turn) (old : List Slot) (before : S) → SomePlan plan old before
+  some_plan [] old before = record {
+    new = old;
+    after = before;
+    answers = 0;
+    is = λ left. subst (λ (j : Joined (Limited S)). IsTaken 0 j old before left) (sym (joined_nil machine (limited answer) old (with_left before left)))
+        (record { slots_are = refl; host_is = refl; turns_are = refl; ended_is = refl });
+    cut = λ n none. absurd (omega arith);
+  }
+  some_plan (t ∷ plan) old before =
+      let first = first_found t old before (slice_get old t.sandbox) refl in
+      let rest = some_plan plan first.new first.after in
       record {
-        slots_are = e.slots_are ∙ ap (λ (j : Joined _). j.slots) nil;
-        host_is = e.host_is ∙ ap (λ (j : Joined _). j.host) nil;
-        ended_is = e.ended_is ∙ ap (λ (j : Joined _). j.is_ended) nil;
+        new = rest.new;
+        after = rest.after;
+        answers = first.answers + rest.answers;
+        is = λ left. taken_too t plan old before first rest _ left (sym (allows_both first.answers rest.answers left));
+        cut = λ n less. ⊎_elim (λ l. first.cut n l plan)
+            (λ (x : (r : ℕ) × (n ≡ first.answers + r)). plan_cut t plan old before first rest n x.0 x.1 (rest.cut x.0 (omega (arith, x.1, less)))) (less_or n first.answers);
       }
-
-  -- the joint run of a plan is what its front comes to
-  is_front : (p : List Turn) (old new : List Slot) (before after : S) → IsJoint machine answer p old before new after → IsFront p old before new after
-  is_front p old new before after is =
-      let some = some_front p old before in
-      let e = taken p old before in
-      let slots : some.new ≡ new = sym (is.slots ∙ e.slots_are) in
-      let host : some.after ≡ after = sym (is.host ∙ ap (λ (l : Limited S). l.host) e.host_is) in
-      subst (λ (x : List Slot). IsFront p old before x after) slots (subst (λ (x : S). IsFront p old before some.new x) host some.front)
-
-  -- one more call for each that the front answers
-  some_limit_of : (k n : ℕ) → (m : ℕ) × (allows k (Some n) ≡ Some m)
-  some_limit_of zero n = (n, refl)
-  some_limit_of (suc k) n = let x = some_limit_of k n in (suc x.0, ap allow x.1)
-
-  turn_after : (p q : List Turn) (place : ℕ) → slice_get (p ++ q) (length p + place) ≡ slice_get q place
-  turn_after [] q place = let e : 0 + place ≡ place = omega arith in ap (slice_get q) e
-  turn_after (t ∷ p) q place = let e : length (t ∷ p) + place ≡ suc (length p + place) = omega arith in ap (slice_get (t ∷ (p ++ q))) e ∙ turn_after p q place
 
   -- ---- the laws
 
-  joint_after : (p q : List Turn) (slots : List Slot) (s : S)
-      → let first = joint machine answer p slots s None in
-      joint machine answer (p ++ q) slots s None ≡ after_run first (joint machine answer q first.slots first.host.host None)
-  joint_after p q slots s =
-      let j = joint machine answer p slots s None in
-      let e = taken p slots s in
-      let host : j.host ≡ with_left j.host.host None = e.host_is ∙ ap (λ (x : S). with_left x None) (sym (ap (λ (l : Limited S). l.host) e.host_is)) in
-      follows machine (limited answer) p q slots (with_left s None)
-      ∙ ap (λ (b : Bool). cond b j (after_run j (joined machine (limited answer) q j.slots j.host))) e.ended_is
-      ∙ ap (λ (l : Limited S). after_run j (joined machine (limited answer) q j.slots l)) host
+  -- one plan and then another, if each turn of the first was taken
+  run_on : (p q : List Turn) (old mid : List Slot) (before between : S) (given left : Option ℕ) → IsTaken (length p) (joint machine answer p old before given) mid between left
+      → joint machine answer (p ++ q) old before given ≡ after_run (joint machine answer p old before given) (joint machine answer q mid between left)
+  run_on p q old mid before between given left is =
+      let j = joint machine answer p old before given in
+      follows machine (limited answer) p q old (with_left before given)
+      ∙ ap (λ (b : Bool). cond b j (after_run j (joined machine (limited answer) q j.slots j.host))) is.ended_is
+      ∙ ap (λ (l : List Slot). after_run j (joined machine (limited answer) q l j.host)) is.slots_are
+      ∙ ap (λ (h : Limited S). after_run j (joined machine (limited answer) q mid h)) is.host_is
+
+  each_taken : (p : List Turn) (old : List Slot) (before : S) → let some = some_plan p old before in IsTaken (length p) (joint machine answer p old before None) some.new some.after None
+  each_taken p old before =
+      let some = some_plan p old before in
+      subst (λ (x : Option ℕ). IsTaken (length p) (joint machine answer p old before x) some.new some.after None) (no_limit some.answers) (some.is None)
 
   module _ (p q : List Turn) (old mid new : List Slot) (before between after : S) (first : IsJoint machine answer p old before mid between) where
+    -- it comes there, whatever number of calls is left then
+    front : (left : Option ℕ) → let some = some_plan p old before in IsTaken (length p) (joint machine answer p old before (allows some.answers left)) mid between left
+    front left =
+        let some = some_plan p old before in
+        let e = each_taken p old before in
+        subst (λ (x : List Slot). IsTaken (length p) (joint machine answer p old before (allows some.answers left)) x between left) (sym (first.slots ∙ e.slots_are))
+        (subst (λ (x : S). IsTaken (length p) (joint machine answer p old before (allows some.answers left)) some.new x left) (sym (first.host ∙ ap (λ (l : Limited S). l.host) e.host_is)) (some.is left))
+
     both_done : IsJoint machine answer q mid between new after → IsJoint machine answer (p ++ q) old before new after
     both_done second =
-        let front = is_front p old mid before between first in
-        let back = is_whole q mid new between after (is_front q mid new between after second) in
-        let count : length p + length q ≡ length (p ++ q) = omega (arith, length-append p q) in
-        plan_ends machine answer (p ++ q) old before (length p + length q) new after count
-        (ways_follow (p ++ q) q [] old mid new before between after (length p) (length q) (front q) back)
+        let some = some_plan p old before in
+        let is : IsTaken (length p) (joint machine answer p old before None) mid between None = subst (λ (x : Option ℕ). IsTaken (length p) (joint machine answer p old before x) mid between None) (no_limit some.answers) (front None) in
+        let e = run_on p q old mid before between None None is in
+        record {
+          slots = second.slots ∙ sym (ap (λ (j : Joined _). j.slots) e);
+          host = second.host ∙ sym (ap (λ (j : Joined (Limited S)). j.host.host) e);
+          turns = ap (λ (j : Joined _). j.turns) e ∙ (let a = is.turns_are in let b = second.turns in omega (arith, a, b, length-append p q));
+        }
 
     both_cut : (may_refuse : S → Call → Bool) (place : ℕ) → IsCutJoint machine answer may_refuse q mid between place new after
         → IsCutJoint machine answer may_refuse (p ++ q) old before (length p + place) new after
     both_cut may_refuse place cut =
-        let way = is_front p old mid before between first q in
-        let limit = some_limit_of way.answers cut.answered in
-        let e : SamePlan (length p) (joint machine answer (p ++ q) old before (Some limit.0)) (joint machine answer q mid between (Some cut.answered)) =
-        subst (λ (x : Option ℕ). SamePlan (length p) (joined machine (limited answer) (p ++ q) old (with_left before x)) (joined machine (limited answer) q mid (with_left between (Some cut.answered)))) limit.1 (way.is (Some cut.answered)) in
+        let some = some_plan p old before in
+        let limit = some.answers + cut.answered in
+        let is : IsTaken (length p) (joint machine answer p old before (Some limit)) mid between (Some cut.answered) =
+        subst (λ (x : Option ℕ). IsTaken (length p) (joint machine answer p old before x) mid between (Some cut.answered)) (allows_some some.answers cut.answered) (front (Some cut.answered)) in
+        let e = run_on p q old mid before between (Some limit) (Some cut.answered) is in
         record {
-          answered = limit.0;
-          slots = cut.slots ∙ sym e.slots_are;
-          host = cut.host ∙ sym (ap (λ (l : Limited S). l.host) e.host_is);
-          ended = e.ended_is ∙ cut.ended;
-          turns = let g = e.turns_are in let h = cut.turns in omega arith;
+          answered = limit;
+          slots = cut.slots ∙ sym (ap (λ (j : Joined _). j.slots) e);
+          host = cut.host ∙ sym (ap (λ (j : Joined (Limited S)). j.host.host) e);
+          ended = ap (λ (j : Joined _). j.is_ended) e ∙ cut.ended;
+          turns = ap (λ (j : Joined _). j.turns) e ∙ (let a = is.turns_are in let b = cut.turns in omega (arith, a, b));
           refused = record {
             turn = cut.refused.turn;
             turn_is = turn_after p q place ∙ cut.refused.turn_is;
@@ -243,9 +360,75 @@ module _ {S : Type 0} (machine : Machine) (answer : S → Call → Answer S) whe
             refused = cut.refused.refused;
           };
         }
+      where
+        turn_after : (p q : List Turn) (place : ℕ) → slice_get (p ++ q) (length p + place) ≡ slice_get q place
+        turn_after [] q place = let e : 0 + place ≡ place = omega arith in ap (slice_get q) e
+        turn_after (t ∷ p) q place = let e : suc (length p) + place ≡ suc (length p + place) = omega arith in ap (slice_get (t ∷ (p ++ q))) e ∙ turn_after p q place
+
+  -- what comes after a call that ended the run doesn't matter
+  cut_before : (may_refuse : S → Call → Bool) (p q : List Turn) (old new : List Slot) (before after : S) (place : ℕ) → IsCutJoint machine answer may_refuse p old before place new after → IsCutJoint machine answer may_refuse (p ++ q) old before place new after
+  cut_before may_refuse p q old new before after place cut =
+      let j = joint machine answer p old before (Some cut.answered) in
+      let e : joint machine answer (p ++ q) old before (Some cut.answered) ≡ j =
+      follows machine (limited answer) p q old (with_left before (Some cut.answered))
+      ∙ ap (λ (b : Bool). cond b j (after_run j (joined machine (limited answer) q j.slots j.host))) cut.ended in
+      record {
+        answered = cut.answered;
+        slots = cut.slots ∙ sym (ap (λ (x : Joined _). x.slots) e);
+        host = cut.host ∙ sym (ap (λ (x : Joined (Limited S)). x.host.host) e);
+        ended = ap (λ (x : Joined _). x.is_ended) e ∙ cut.ended;
+        turns = ap (λ (x : Joined _). x.turns) e ∙ cut.turns;
+        refused = record {
+          turn = cut.refused.turn;
+          turn_is = there p place cut.refused.turn_is;
+          slot = cut.refused.slot;
+          slot_is = cut.refused.slot_is;
+          refused = cut.refused.refused;
+        };
+      }
+    where
+      there : (p : List Turn) (place : ℕ) {t : Turn} → slice_get p place ≡ Some t → slice_get (p ++ q) place ≡ Some t
+      there [] place e = absurd (cc)
+      there (x ∷ p) zero e = e
+      there (x ∷ p) (suc place) e = there p place e
+
+  -- ---- a plan's turns, one more at a time
+
+  module _ (plan : List Turn) (place : ℕ) (t : Turn) (below : place < length plan) (old mid new : List Slot) (before between after : S) (first : IsJoint machine answer (take place plan) old before mid between) where
+    more : take (place + 1) plan ≡ take place plan ++ get_or plan place t ∷ []
+    more = take_more plan place t below
+
+    pub next_taken : IsJoint machine answer (get_or plan place t ∷ []) mid between new after → IsJoint machine answer (take (place + 1) plan) old before new after
+    next_taken one = subst (λ (l : List Turn). IsJoint machine answer l old before new after) (sym more)
+        (both_done (take place plan) (get_or plan place t ∷ []) old mid new before between after first one)
+
+    pub next_cut : (may_refuse : S → Call → Bool) → IsCutJoint machine answer may_refuse (get_or plan place t ∷ []) mid between 0 new after → IsCutJoint machine answer may_refuse plan old before place new after
+    next_cut may_refuse cut =
+        let both = both_cut (take place plan) (get_or plan place t ∷ []) old mid new before between after first may_refuse 0 cut in
+        let at : length (take place plan) + 0 ≡ place = omega (arith, length-take-le place plan (omega arith)) in
+        subst (λ (l : List Turn). IsCutJoint machine answer may_refuse l old before place new after) (ap (λ (l : List Turn). l ++ drop (place + 1) plan) (sym more) ∙ take-append-drop (place + 1) plan)
+        (cut_before may_refuse (take place plan ++ get_or plan place t ∷ []) (drop (place + 1) plan) old new before after place
+        (subst (λ (n : ℕ). IsCutJoint machine answer may_refuse (take place plan ++ get_or plan place t ∷ []) old before n new after) at both))
+
+  -- where a call ended the run, too few were left
+  up_to_there : (plan : List Turn) (old : List Slot) (before : S) (n : ℕ) → (joint machine answer plan old before (Some n)).is_ended ≡ true → PlanCut plan old before n
+  up_to_there plan old before n ended =
+      let some = some_plan plan old before in
+      ⊎_elim (some.cut n) (λ (x : (r : ℕ) × (n ≡ some.answers + r)).
+      let is = some.is (Some x.0) in
+      let e : (joint machine answer plan old before (Some n)).is_ended ≡ false = ap (λ (y : Option ℕ). (joint machine answer plan old before y).is_ended) (sym (enough n some.answers x.0 x.1)) ∙ is.ended_is in
+      absurd (let z : true ≡ false = sym ended ∙ e in cc)) (less_or n some.answers)
 
 pub joint_follows : {S : Type 0} → JointFollows S
-joint_follows machine answer p q slots s = joint_after machine answer p q slots s
+joint_follows {S} machine answer p q slots s =
+    let j = joint machine answer p slots s None in
+    let is = each_taken machine answer p slots s in
+    run_on machine answer p q slots j.slots s j.host.host None None (record {
+      slots_are = refl;
+      host_is = is.host_is ∙ ap (λ (x : S). with_left x None) (sym (ap (λ (l : Limited S). l.host) is.host_is));
+      turns_are = is.turns_are;
+      ended_is = is.ended_is;
+    })
 
 pub plans_follow : {S : Type 0} → PlansFollow S
 plans_follow machine answer p q old mid new before between after first second =
@@ -254,3 +437,16 @@ plans_follow machine answer p q old mid new before between after first second =
 pub cut_follows : {S : Type 0} → CutFollows S
 cut_follows machine answer may_refuse p q old mid new before between after place first cut =
     both_cut machine answer p q old mid new before between after first may_refuse place cut
+
+pub cut_is_shorter : {S : Type 0} → CutIsShorter S
+cut_is_shorter {S} machine answer may_refuse plan old new before after place cut =
+    let c = up_to_there machine answer plan old before cut.answered cut.ended in
+    let same : c.place ≡ place = omega (arith, c.turns, cut.turns) in
+    subst (λ (x : ℕ). IsJointUpTo machine answer plan x old before new after) same
+    (subst (λ (x : List Slot). IsJointUpTo machine answer plan c.place old before x after) (sym (cut.slots ∙ c.slots))
+    (subst (λ (x : S). IsJointUpTo machine answer plan c.place old before c.new x) (sym (cut.host ∙ c.host)) c.up_to))
+
+pub retry_follows : {S : Type 0} → RetryFollows S
+retry_follows machine answer may_refuse p q old mid new before between after place cut second =
+    let up_to = cut_is_shorter machine answer may_refuse p old mid before between place cut in
+    (up_to.steps, plans_follow machine answer (shortened p place up_to.steps) q old mid new before between after up_to.joint second)

@@ -1,16 +1,17 @@
 -- A sandbox's own bytes after a call.
-use Rattle.std.proofs.Common.{◌≡◌, ℕ, ◌||◌, Bool, true, false, not, cond, List, [], ◌∷◌, ◌++◌, Option, Some, None, refl, sym, ap, ◌∙◌}
+use Rattle.std.proofs.Common.{◌≡◌, ℕ, ◌<◌, ◌||◌, ◌&&◌, IsSome, Bool, true, false, not, cond, List, [], ◌∷◌, ◌++◌, Option, Some, None, refl, sym, ap, ◌∙◌, arith}
 use Rattle.std.specs.Option.{option_or}
 use Rattle.std.specs.Ordering.{nat_cmp, eq_by_cmp}
 use Rattle.std.specs.Cmp.{nat_cmp_total}
-use Rattle.std.specs.FinMap.{find, entries, get-from_entries, get-entries}
-use Rattle.rv_mem.specs.Bytes.{Bytes, byte_at}
+use Rattle.std.specs.FinMap.{find, retain_keys, entries, get-from_entries, get-entries}
+use Rattle.rv_mem.specs.Bytes.{Bytes, IsMemory, byte_at}
 use Rattle.sfi_image.specs.declared.span.Span.{Span}
 use Rattle.sfi_host.specs.Regions.{is_in, bytes_in, bytes_outside, IsWhole}
 use Rattle.sfi_host.specs.Slots.{Bounds, is_own, own}
-use Rattle.sfi_host.specs.Joint.{both, with_data}
+use Rattle.sfi_host.specs.Joint.{both, is_byte, with_data}
 use Rattle.sfi_host.specs.Worlds.{StaysOutside}
 use Rattle.sfi_host.proofs.RegionBytes.{get_kept, same_bytes, byte_in, is_in-true, is_in-Holds}
+use Rattle.sfi_host.proofs.OwnSteps.{own_there, own_missing, same_own, true_false}
 
 -- ---- two memories in one
 
@@ -29,11 +30,14 @@ get_both m w q =
     ∙ ap (λ (o : Option ℕ). option_or o (find nat_cmp q (entries w))) (sym (get-entries m q))
     ∙ ap (λ (o : Option ℕ). option_or (byte_at m q) o) (sym (get-entries w q))
 
-get_with_data : (b : Bounds) (m others : Bytes) (q : ℕ) → byte_at (with_data b m others) q ≡ option_or (cond (is_in b.data q) (byte_at others q) None) (cond (not (is_in b.data q)) (byte_at m q) None)
+-- the addresses at which a reply's bytes are taken
+abbrev taken : Bounds → Bytes → ℕ → Bool
+taken b others q = is_in b.data q && is_byte (byte_at others q)
+
+pub get_with_data : (b : Bounds) (m others : Bytes) (q : ℕ) → byte_at (with_data b m others) q ≡ option_or (cond (is_in b.data q && is_byte (byte_at others q)) (byte_at others q) None) (byte_at m q)
 get_with_data b m others q =
-    get_both (bytes_in b.data others) (bytes_outside b.data m) q
-    ∙ ap (λ (o : Option ℕ). option_or o (byte_at (bytes_outside b.data m) q)) (get_kept others (is_in b.data) q)
-    ∙ ap (λ (o : Option ℕ). option_or (cond (is_in b.data q) (byte_at others q) None) o) (get_kept m (λ a. not (is_in b.data a)) q)
+    get_both (retain_keys others (taken b others)) m q
+    ∙ ap (λ (o : Option ℕ). option_or o (byte_at m q)) (get_kept others (taken b others) q)
 
 -- ---- the data among the own bytes
 
@@ -52,25 +56,39 @@ data_of_own b m = same_bytes _ _ (λ q.
 
 -- ---- what a call leaves
 
-none_right : (o : Option ℕ) → option_or o None ≡ o
-none_right None = refl
-none_right (Some x) = refl
+byte_test : (o : Option ℕ) → IsSome o → ((v : ℕ) → o ≡ Some v → v < 256) → is_byte o ≡ true
+byte_test None h g = absurd (cc)
+byte_test (Some v) h g = let l = g v refl in grind arith
 
--- by an address: in the data, or left
-put_back_at : (c d : Bool) (x y o : Option ℕ) → cond (not d) x None ≡ cond (not d) y None → o ≡ cond d x None → cond (c || d) x None ≡ option_or (cond d o None) (cond (not d) (cond (c || d) y None) None)
-put_back_at true true x y o e f = sym (none_right o ∙ f)
-put_back_at false true x y o e f = sym (none_right o ∙ f)
-put_back_at true false x y o e f = e
-put_back_at false false x y o e f = refl
+or_taken : (o y : Option ℕ) → IsSome o → o ≡ option_or o y
+or_taken None y h = absurd (cc)
+or_taken (Some v) y h = refl
+
+-- by an address: in the data, where there is a byte, or left
+put_back_at : (c d t : Bool) (x y o : Option ℕ) → (d ≡ true → (o ≡ x) × (IsSome x) × (t ≡ true)) → (d ≡ false → x ≡ y) → cond (c || d) x None ≡ option_or (cond (d && t) o None) (cond (c || d) y None)
+put_back_at true true t x y o there left = let h = there refl in or_taken x y h.1 ∙ ap (λ (z : Option ℕ). option_or z y) (sym h.0) ∙ ap (λ (b : Bool). option_or (cond b o None) y) (sym h.2)
+put_back_at false true t x y o there left = let h = there refl in or_taken x y h.1 ∙ ap (λ (z : Option ℕ). option_or z y) (sym h.0) ∙ ap (λ (b : Bool). option_or (cond b o None) y) (sym h.2)
+put_back_at true false t x y o there left = left refl
+put_back_at false false t x y o there left = refl
 
 -- the own bytes, where all but the data is left
-pub put_back : (b : Bounds) (m n others : Bytes) → bytes_outside b.data n ≡ bytes_outside b.data m → bytes_in b.data n ≡ others → own b n ≡ with_data b (own b m) others
-put_back b m n others e f = same_bytes _ _ (λ q.
-    let left : cond (not (is_in b.data q)) (byte_at n q) None ≡ cond (not (is_in b.data q)) (byte_at m q) None =
-    sym (get_kept n (λ a. not (is_in b.data a)) q) ∙ ap (λ (w : Bytes). byte_at w q) e ∙ get_kept m (λ a. not (is_in b.data a)) q in
-    let now : byte_at others q ≡ cond (is_in b.data q) (byte_at n q) None = sym (ap (λ (w : Bytes). byte_at w q) f) ∙ get_kept n (is_in b.data) q in
-    get_kept n (is_own b) q ∙ put_back_at (is_in b.code q) (is_in b.data q) (byte_at n q) (byte_at m q) (byte_at others q) left now
-    ∙ sym (get_with_data b (own b m) others q ∙ ap (λ (o : Option ℕ). option_or (cond (is_in b.data q) (byte_at others q) None) (cond (not (is_in b.data q)) o None)) (get_kept m (is_own b) q)))
+pub put_back : (b : Bounds) (m n others : Bytes) → StaysOutside b.data m n → IsMemory n → IsWhole b.data n → bytes_in b.data n ≡ others → own b n ≡ with_data b (own b m) others
+put_back b m n others stays memory whole f = same_bytes _ _ (λ q.
+    let now : is_in b.data q ≡ true → byte_at others q ≡ byte_at n q = λ e. sym (ap (λ (w : Bytes). byte_at w q) f) ∙ byte_in b.data n q e in
+    get_kept n (is_own b) q
+    ∙ put_back_at (is_in b.code q) (is_in b.data q) (is_byte (byte_at others q)) (byte_at n q) (byte_at m q) (byte_at others q)
+    (λ e. (now e, whole q (is_in-true b.data q e), ap is_byte (now e) ∙ byte_test (byte_at n q) (whole q (is_in-true b.data q e)) (λ v g. memory.bytes q v g)))
+    (λ e. stays q (λ h. true_false (is_in b.data q) (is_in-Holds b.data q h) e))
+    ∙ sym (get_with_data b (own b m) others q ∙ ap (λ (o : Option ℕ). option_or (cond (taken b others q) (byte_at others q) None) o) (get_kept m (is_own b) q)))
+
+-- where the data too are as before, all is
+pub own_left : (b : Bounds) (m n : Bytes) → StaysOutside b.data m n → bytes_in b.data n ≡ bytes_in b.data m → own b n ≡ own b m
+own_left b m n stays f = same_own b (own b n) m
+    (λ a e. own_there b n a e ∙ elim (is_in b.data a) as (λ d. is_in b.data a ≡ d → byte_at n a ≡ byte_at m a) [
+      | true ↦ λ d. sym (byte_in b.data n a d) ∙ ap (λ (w : Bytes). byte_at w a) f ∙ byte_in b.data m a d
+      | false ↦ λ d. stays a (λ h. true_false (is_in b.data a) (is_in-Holds b.data a h) d)
+    ] refl)
+    (λ a e. own_missing b n a e)
 
 left_at : (t : Bool) (x y : Option ℕ) → (t ≡ true → ⊥) → cond (not t) x None ≡ cond (not t) y None → x ≡ y
 left_at true x y out e = absurd (out refl)

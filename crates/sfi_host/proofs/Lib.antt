@@ -4,10 +4,10 @@ pub mod Decoding
 pub mod Entered
 pub mod SafeSeats
 pub mod RegionBytes
+pub mod Joined
 pub mod Leaving
 pub mod Loaded
 pub mod Moves
-pub mod Moved
 pub mod SlotSteps
 pub mod Neighbours
 pub mod OwnSteps
@@ -18,8 +18,10 @@ pub mod Posting
 pub mod Replying
 pub mod Runs
 pub mod SamePart
+pub mod SameWorld
 pub mod Serving
 pub mod Stops
+pub mod Taking
 pub mod Turning
 pub mod Worlds
 pub mod Writing

@@ -1,6 +1,6 @@
 -- What the turn of one sandbox leaves of the others.
 use Rattle.std.proofs.Common.{◌≡◌, ◌≢◌, ℕ, zero, suc, ◌+◌, ◌-◌, ◌<◌, ◌≤◌, ◌==◌, ◌⊎◌, ⊎_elim, Bool, true, false, List, [], ◌∷◌, map, set, length, Option, Some, None, is_some, slice_get, refl, sym, ap, ◌∙◌, subst, arith}
-use Rattle.rv_mem.specs.Bytes.{Bytes, byte_at}
+use Rattle.rv_mem.specs.Bytes.{Bytes, IsMemory, byte_at}
 use Rattle.sfi_image.specs.Spelling.{Part}
 use Rattle.sfi_image.specs.Spans.{Holds}
 use Rattle.sfi_check.specs.Runs.{KeepsBytes}
@@ -48,8 +48,8 @@ module _ (m n : Bytes) (b : Bounds) (left : StaysOutside b.data m n) (t : Seat) 
   }
 
   -- it is safe as before
-  pub other_safe : GoesOnSafely → IsSafeSeat n t
-  other_safe on = keep.changed m t seat on n (others_kept seat.part seat.bounds)
+  pub other_safe : GoesOnSafely → IsMemory n → IsSafeSeat n t
+  other_safe on memory = keep.changed m t seat on n memory (others_kept seat.part seat.bounds)
       (λ a h. ap is_some (data_same a h) ∙ seat.has_data a h)
 
   -- and its slot is the same
@@ -103,7 +103,7 @@ module _ (m n : Bytes) (seats : List Seat) (i : ℕ) (s new : Seat) (world : IsS
     world_safe = record {
       each = λ j t e. ⊎_elim
           (λ (x : (j ≡ i) × (t ≡ new)). subst (λ (y : Seat). IsSafeSeat n y) (sym x.1) safe)
-          (λ (y : (j ≢ i) × (slice_get seats j ≡ Some t)). other_safe m n s.bounds left t (world.each j t y.1) (world.others i j s t (λ z. y.0 (sym z)) at y.1) on)
+          (λ (y : (j ≢ i) × (slice_get seats j ≡ Some t)). other_safe m n s.bounds left t (world.each j t y.1) (world.others i j s t (λ z. y.0 (sym z)) at y.1) on safe.state.memory)
           (found j t e);
       others = λ j k t u ne e f.
           let a = old_at j t e in

@@ -4,7 +4,7 @@ use Rattle.rv_mem.specs.Bytes.{Bytes, byte_at}
 use Rattle.rv_step.specs.declared.outcome.Outcome.{Outcome}
 use Rattle.rv_step.specs.declared.outcome.Outcome.TheVariants.{Next, Call, Trap}
 use Rattle.rv_step.specs.Access.{Accesses}
-use Rattle.rv_step.specs.Laws.{AgreeHere, IsSameStep, AgreeingStandsToo, AgreeingStepsAreSame, OtherBytesStay, StoppedStays, NoByteGoes, CallsAreEcalls, StepIsEffect}
+use Rattle.rv_step.specs.Laws.{AgreeHere, IsSameStep, AgreeingStandsToo, AgreeingStepsAreSame, OtherBytesStay, StoppedStays, StepKeepsState, NoByteGoes, CallsAreEcalls, StepIsEffect}
 use Rattle.rv_step.specs.State.{Hart, State}
 use Rattle.rv_step.specs.Step.{Stepped, Stands, IsStep}
 use Rattle.sfi_image.specs.Spans.{Holds}
@@ -66,6 +66,7 @@ pub record Laws : Type 0 where
   pub agree : AgreeingStepsAreSame
   pub others : OtherBytesStay
   pub stops : StoppedStays
+  pub keeps : StepKeepsState
   pub none_goes : NoByteGoes
   pub ecalls : CallsAreEcalls
   pub effect : StepIsEffect
@@ -174,6 +175,7 @@ module _ (laws : Laws) (m : Bytes) (s : Seat) (r : Stepped) (seat : IsSafeSeat m
     part = seat.part;
     bounds = seat.bounds;
     right = seat.right;
+    state = laws.keeps (state_in m s) r seat.state step;
     apart = seat.apart;
     code = λ k below.
         let there = code_at seat.part k below in

@@ -1,17 +1,13 @@
--- The turns of a plan, one after another.
-use Rattle.std.proofs.Common.{◌≡◌, ◌≢◌, ◌⊎◌, inl, inr, ℕ, zero, suc, ◌+◌, ◌<◌, ◌≤◌, Bool, true, false, List, [], ◌∷◌, drop, get_or, length, Option, Some, None, slice_get, set, refl, sym, ap, ◌∙◌, subst, arith}
-use Rattle.std.proofs.Math.Seq.{drop-cons}
-use Rattle.std.proofs.lemmas.Option.{slice_get-get_or}
+-- One turn at the front of a plan.
+use Rattle.std.proofs.Common.{◌≡◌, ℕ, zero, suc, ◌+◌, Bool, true, false, List, [], ◌∷◌, Option, Some, None, slice_get, set, refl, sym, ap, ◌∙◌, subst, arith}
 use Rattle.sfi_host.specs.declared.turn.Turn.{Turn}
+use Rattle.sfi_host.specs.declared.turn.StepResult.{StepResult}
+use Rattle.sfi_host.specs.declared.turn.StepResult.TheVariants.{TurnEnds, RunEnds}
 use Rattle.sfi_host.specs.Hosts.{Call, Answer, Host, Limited, limited}
 use Rattle.sfi_host.specs.Slots.{Slot}
-use Rattle.sfi_host.specs.declared.turn.StepResult.{StepResult}
-use Rattle.sfi_host.specs.declared.turn.StepResult.TheVariants.{Continue, TurnEnds, RunEnds}
-use Rattle.sfi_host.specs.Joint.{Machine, IsMachine, Moved, turned, Joined, joined, given, and_plan, turn_and, after_turn}
+use Rattle.sfi_host.specs.Joint.{Machine, turned, Joined, joined, joint, given, and_plan, turn_and, after_turn}
 use Rattle.sfi_host.specs.Plans.{IsJoint, IsCutJoint}
-use Rattle.sfi_host.specs.private.Limits.{allow, allows, with_left, Comes, IsTurnOf, IsCutTurnOf, SamePlan, IsPlanOnItsWay, IsPlanStep, IsPlanCut}
-use Rattle.sfi_host.specs.Worlds.{Sandboxes, slots_of, IsSafeWorld}
-use Rattle.sfi_host.proofs.Turning.{allows_both}
+use Rattle.sfi_host.specs.private.Limits.{allow, allows, with_left, Comes, IsTurnOf, IsCutTurnOf}
 
 -- ---- limits
 
@@ -19,13 +15,13 @@ pub no_limit : (k : ℕ) → allows k None ≡ None
 no_limit zero = refl
 no_limit (suc k) = ap allow (no_limit k)
 
-some_limit : (k : ℕ) → (n : ℕ) × (allows k (Some 0) ≡ Some n)
-some_limit zero = (0, refl)
-some_limit (suc k) = let x = some_limit k in (suc x.0, ap allow x.1)
+pub allows_some : (k n : ℕ) → allows k (Some n) ≡ Some (k + n)
+allows_some zero n = let e : n ≡ 0 + n = omega arith in ap Some e
+allows_some (suc k) n = ap allow (allows_some k n) ∙ (let e : suc (k + n) ≡ suc k + n = omega arith in ap Some e)
 
--- ---- one turn
+-- ---- what the definition says
 
-joined_cons : {S : Type 0} (machine : Machine) (host : Host S) (t : Turn) (rest : List Turn) (slots : List Slot) (s : S) (found : Option Slot) → slice_get slots t.sandbox ≡ found
+pub joined_cons : {S : Type 0} (machine : Machine) (host : Host S) (t : Turn) (rest : List Turn) (slots : List Slot) (s : S) (found : Option Slot) → slice_get slots t.sandbox ≡ found
     → joined machine host (t ∷ rest) slots s ≡ turn_and machine host t slots s found (joined machine host rest)
 unfolding joined
 joined_cons machine host t rest slots s found e = ap (λ (o : Option Slot). turn_and machine host t slots s o (joined machine host rest)) e
@@ -34,154 +30,80 @@ pub joined_nil : {S : Type 0} (machine : Machine) (host : Host S) (slots : List 
 unfolding joined
 joined_nil machine host slots s = refl
 
+-- a plan without turns
+pub none_joint : {S : Type 0} (machine : Machine) (answer : S → Call → Answer S) (old : List Slot) (before : S) → IsJoint machine answer [] old before old before
+unfolding joined
+none_joint machine answer old before = record { slots = refl; host = refl; turns = refl }
+
+-- ---- one turn, and the rest of a plan
+
+-- two runs come to the same, the first with so many turns more
+pub record SamePlan {S : Type 0} (more : ℕ) (a b : Joined (Limited S)) : Type 0 where
+  pub slots_are : a.slots ≡ b.slots
+  pub host_is : a.host ≡ b.host
+  pub turns_are : a.turns ≡ more + b.turns
+  pub ended_is : a.is_ended ≡ b.is_ended
+
 -- the replies of a turn don't matter
-goes_in : {S : Type 0} (i : ℕ) (m : Moved S) (slots : List Slot) (rest : List Slot → S → Joined S) → m.next ≡ TurnEnds → and_plan m.next i m slots rest ≡ after_turn (given i m.replies) (rest (set slots i m.slot) m.host)
-goes_in i m slots rest e = ap (λ (x : StepResult). and_plan x i m slots rest) e
+same_after : {S : Type 0} (j k : Joined (Limited S)) (gs : List _) → j ≡ after_turn gs k → SamePlan 1 j k
+same_after j k gs e = record {
+  slots_are = ap (λ (x : Joined _). x.slots) e;
+  host_is = ap (λ (x : Joined _). x.host) e;
+  turns_are = ap (λ (x : Joined _). x.turns) e ∙ (let z : suc k.turns ≡ 1 + k.turns = omega arith in z);
+  ended_is = ap (λ (x : Joined _). x.is_ended) e;
+}
 
-cut_in : {S : Type 0} (i : ℕ) (m : Moved S) (slots : List Slot) (rest : List Slot → S → Joined S) → m.next ≡ RunEnds
-    → and_plan m.next i m slots rest ≡ record { slots = set slots i m.slot; host = m.host; replies = given i m.replies; turns = 1; is_ended = true }
-cut_in i m slots rest e = ap (λ (x : StepResult). and_plan x i m slots rest) e
-
-module _ {S : Type 0} (machine : Machine) (answer : S → Call → Answer S) where
+module _ {S : Type 0} (machine : Machine) (answer : S → Call → Answer S) (t : Turn) (old : List Slot) (before : S) where
   -- a turn that names no sandbox
-  pub none_turn : (t : Turn) (old : List Slot) (before : S) → slice_get old t.sandbox ≡ None → IsPlanStep machine answer t old before old before
-  none_turn t old before e rest = record {
-    answers = 0;
-    is = λ left.
-        let same = joined_cons machine (limited answer) t rest old (with_left before left) None e in
+  pub none_then : (left : Option ℕ) → slice_get old t.sandbox ≡ None → (rest : List Turn) → SamePlan 1 (joined machine (limited answer) (t ∷ rest) old (with_left before left)) (joined machine (limited answer) rest old (with_left before left))
+  none_then left e rest = same_after _ _ [] (joined_cons machine (limited answer) t rest old (with_left before left) None e)
+
+  -- of a plan with one turn it is the whole
+  pub is_joint : (new : List Slot) (after : S) → SamePlan 1 (joined machine (limited answer) (t ∷ []) old (with_left before None)) (joined machine (limited answer) [] new (with_left after None)) → IsJoint machine answer (t ∷ []) old before new after
+  is_joint new after same =
+      let nil = joined_nil machine (limited answer) new (with_left after None) in
+      record {
+        slots = sym (same.slots_are ∙ ap (λ (j : Joined _). j.slots) nil);
+        host = sym (ap (λ (l : Limited S). l.host) same.host_is ∙ ap (λ (j : Joined (Limited S)). j.host.host) nil);
+        turns = same.turns_are ∙ ap (λ (j : Joined _). 1 + j.turns) nil;
+      }
+
+  module _ (slot new : Slot) (after : S) (at : slice_get old t.sandbox ≡ Some slot) where
+    -- a turn of a sandbox
+    pub turn_then : (given left : Option ℕ) → Comes (turned machine (limited answer) t.sandbox t.steps slot (with_left before given)) new after left TurnEnds → (rest : List Turn)
+        → SamePlan 1 (joined machine (limited answer) (t ∷ rest) old (with_left before given)) (joined machine (limited answer) rest (set old t.sandbox new) (with_left after left))
+    turn_then allowed left comes rest =
+        let m = turned machine (limited answer) t.sandbox t.steps slot (with_left before allowed) in
+        same_after _ _ (given t.sandbox m.replies)
+        (joined_cons machine (limited answer) t rest old (with_left before allowed) (Some slot) at
+        ∙ ap (λ (x : StepResult). and_plan x t.sandbox m old (joined machine (limited answer) rest)) comes.next_is
+        ∙ ap (λ (x : Slot). after_turn (given t.sandbox m.replies) (joined machine (limited answer) rest (set old t.sandbox x) m.host)) comes.slot_is
+        ∙ ap (λ (x : Limited S). after_turn (given t.sandbox m.replies) (joined machine (limited answer) rest (set old t.sandbox new) x)) comes.host_is)
+
+    pub one_turn : IsTurnOf machine answer t.sandbox t.steps slot before new after → IsJoint machine answer (t ∷ []) old before (set old t.sandbox new) after
+    one_turn turn = is_joint (set old t.sandbox new) after
+        (turn_then None None (subst (λ (x : Option ℕ). Comes (turned machine (limited answer) t.sandbox t.steps slot (with_left before x)) new after None TurnEnds) (no_limit turn.answers) (turn.is None)) [])
+
+    -- one that ends the run
+    pub turn_ends : (n : ℕ) (left : Option ℕ) → Comes (turned machine (limited answer) t.sandbox t.steps slot (with_left before (Some n))) new after left RunEnds → (rest : List Turn)
+        → joint machine answer (t ∷ rest) old before (Some n) ≡ record { slots = set old t.sandbox new; host = with_left after left; replies = given t.sandbox (turned machine (limited answer) t.sandbox t.steps slot (with_left before (Some n))).replies; turns = 1; is_ended = true }
+    turn_ends n left comes rest =
+        let m = turned machine (limited answer) t.sandbox t.steps slot (with_left before (Some n)) in
+        joined_cons machine (limited answer) t rest old (with_left before (Some n)) (Some slot) at
+        ∙ ap (λ (x : StepResult). and_plan x t.sandbox m old (joined machine (limited answer) rest)) comes.next_is
+        ∙ ap (λ (x : Slot). let j : Joined (Limited S) = record { slots = set old t.sandbox x; host = m.host; replies = given t.sandbox m.replies; turns = 1; is_ended = true } in j) comes.slot_is
+        ∙ ap (λ (x : Limited S). let j : Joined (Limited S) = record { slots = set old t.sandbox new; host = x; replies = given t.sandbox m.replies; turns = 1; is_ended = true } in j) comes.host_is
+
+    pub cut_turn : (may_refuse : S → Call → Bool) → slice_get (set old t.sandbox new) t.sandbox ≡ Some new → IsCutTurnOf machine answer may_refuse t.sandbox t.steps slot before new after
+        → IsCutJoint machine answer may_refuse (t ∷ []) old before 0 (set old t.sandbox new) after
+    cut_turn may_refuse there turn =
+        let n = turn.answers + 0 in
+        let e = turn_ends n (Some 0) (subst (λ (x : Option ℕ). Comes (turned machine (limited answer) t.sandbox t.steps slot (with_left before x)) new after (Some 0) RunEnds) (allows_some turn.answers 0) turn.is) [] in
         record {
-          slots_are = ap (λ (j : Joined _). j.slots) same;
-          host_is = ap (λ (j : Joined _). j.host) same;
-          turns_are = ap (λ (j : Joined _). j.turns) same ∙ (let j = joined machine (limited answer) rest old (with_left before left) in let z : suc j.turns ≡ 1 + j.turns = omega arith in z);
-          ended_is = ap (λ (j : Joined _). j.is_ended) same;
-        };
-  }
-
-  -- a turn of a sandbox
-  pub one_turn : (t : Turn) (old : List Slot) (before : S) (slot new : Slot) (after : S) → slice_get old t.sandbox ≡ Some slot → IsTurnOf machine answer t.sandbox t.steps slot before new after
-      → IsPlanStep machine answer t old before (set old t.sandbox new) after
-  one_turn t old before slot new after e turn rest = record {
-    answers = turn.answers;
-    is = λ left.
-        let m = turned machine (limited answer) t.sandbox t.steps slot (with_left before (allows turn.answers left)) in
-        let comes : Comes m new after left TurnEnds = turn.is left in
-        let same : joined machine (limited answer) (t ∷ rest) old (with_left before (allows turn.answers left)) ≡ after_turn (given t.sandbox m.replies) (joined machine (limited answer) rest (set old t.sandbox m.slot) m.host) =
-        joined_cons machine (limited answer) t rest old (with_left before (allows turn.answers left)) (Some slot) e ∙ goes_in t.sandbox m old (joined machine (limited answer) rest) comes.next_is in
-        let then : joined machine (limited answer) rest (set old t.sandbox m.slot) m.host ≡ joined machine (limited answer) rest (set old t.sandbox new) (with_left after left) =
-        ap (λ (x : Slot). joined machine (limited answer) rest (set old t.sandbox x) m.host) comes.slot_is ∙ ap (λ (x : Limited S). joined machine (limited answer) rest (set old t.sandbox new) x) comes.host_is in
-        record {
-          slots_are = ap (λ (j : Joined _). j.slots) same ∙ ap (λ (j : Joined _). j.slots) then;
-          host_is = ap (λ (j : Joined _). j.host) same ∙ ap (λ (j : Joined _). j.host) then;
-          turns_are = ap (λ (j : Joined _). j.turns) same ∙ ap (λ (j : Joined _). suc j.turns) then
-              ∙ (let j = joined machine (limited answer) rest (set old t.sandbox new) (with_left after left) in let z : suc j.turns ≡ 1 + j.turns = omega arith in z);
-          ended_is = ap (λ (j : Joined _). j.is_ended) same ∙ ap (λ (j : Joined _). j.is_ended) then;
-        };
-  }
-
-  -- a turn that ends the run
-  pub cut_turn : (may_refuse : S → Call → Bool) (t : Turn) (old : List Slot) (before : S) (slot new : Slot) (after : S) → slice_get old t.sandbox ≡ Some slot → slice_get (set old t.sandbox new) t.sandbox ≡ Some new
-      → IsCutTurnOf machine answer may_refuse t.sandbox t.steps slot before new after
-      → IsPlanCut machine answer may_refuse t old before (set old t.sandbox new) after
-  cut_turn may_refuse t old before slot new after e f turn = record {
-    answers = turn.answers;
-    is = λ rest.
-        let m = turned machine (limited answer) t.sandbox t.steps slot (with_left before (allows turn.answers (Some 0))) in
-        let comes : Comes m new after (Some 0) RunEnds = turn.is in
-        let same : joined machine (limited answer) (t ∷ rest) old (with_left before (allows turn.answers (Some 0))) ≡ record { slots = set old t.sandbox m.slot; host = m.host; replies = given t.sandbox m.replies; turns = 1; is_ended = true } =
-        joined_cons machine (limited answer) t rest old (with_left before (allows turn.answers (Some 0))) (Some slot) e ∙ cut_in t.sandbox m old (joined machine (limited answer) rest) comes.next_is in
-        record {
-          slots_are = ap (λ (j : Joined _). j.slots) same ∙ ap (λ (x : Slot). set old t.sandbox x) comes.slot_is;
-          host_is = ap (λ (j : Joined _). j.host) same ∙ comes.host_is;
-          turns_are = ap (λ (j : Joined _). j.turns) same;
-          ended_is = ap (λ (j : Joined _). j.is_ended) same;
-        };
-    slot = new;
-    slot_is = f;
-    refused = turn.refused;
-  }
-
-  -- ---- a plan
-
-  module _ (plan : List Turn) (old : List Slot) (before : S) where
-    pub plan_starts : IsPlanOnItsWay machine answer plan old before 0 plan old before
-    plan_starts = record {
-      answers = 0;
-      is = λ left. record {
-        slots_are = refl;
-        host_is = refl;
-        turns_are = let j = joined machine (limited answer) plan old (with_left before left) in let z : j.turns ≡ 0 + j.turns = omega arith in z;
-        ended_is = refl;
-      };
-    }
-
-    pub plan_goes_on : (done : ℕ) (t : Turn) (rest : List Turn) (now new : List Slot) (host after : S) → IsPlanOnItsWay machine answer plan old before done (t ∷ rest) now host → IsPlanStep machine answer t now host new after
-        → IsPlanOnItsWay machine answer plan old before (done + 1) rest new after
-    plan_goes_on done t rest now new host after way step = record {
-      answers = way.answers + (step rest).answers;
-      is = λ left.
-          let k = (step rest).answers in
-          let e = way.is (allows k left) in
-          let f = (step rest).is left in
-          let z : allows (way.answers + k) left ≡ allows way.answers (allows k left) = allows_both way.answers k left in
-          subst (λ (x : Option ℕ). SamePlan (done + 1) (joined machine (limited answer) plan old (with_left before x)) (joined machine (limited answer) rest new (with_left after left))) (sym z)
-          (record {
-            slots_are = e.slots_are ∙ f.slots_are;
-            host_is = e.host_is ∙ f.host_is;
-            turns_are = let g = e.turns_are in let h = f.turns_are in omega arith;
-            ended_is = e.ended_is ∙ f.ended_is;
-          });
-    }
-
-    pub plan_ends : (done : ℕ) (now : List Slot) (host : S) → done ≡ length plan → IsPlanOnItsWay machine answer plan old before done [] now host → IsJoint machine answer plan old before now host
-    plan_ends done now host all way =
-        let nil = joined_nil machine (limited answer) now (with_left host None) in
-        let e : SamePlan done (joined machine (limited answer) plan old (with_left before None)) (joined machine (limited answer) [] now (with_left host None)) =
-        subst (λ (x : Option ℕ). SamePlan done (joined machine (limited answer) plan old (with_left before x)) (joined machine (limited answer) [] now (with_left host None))) (no_limit way.answers) (way.is None) in
-        record {
-          slots = sym (e.slots_are ∙ ap (λ (j : Joined _). j.slots) nil);
-          host = sym (ap (λ (x : Limited S). x.host) (e.host_is ∙ ap (λ (j : Joined _). j.host) nil));
-          turns = let f : (joined machine (limited answer) [] now (with_left host None)).turns ≡ 0 = ap (λ (j : Joined _). j.turns) nil in
-              let g = e.turns_are in omega (arith, f, g, all);
+          answered = n;
+          slots = sym (ap (λ (j : Joined _). j.slots) e);
+          host = sym (ap (λ (j : Joined (Limited S)). j.host.host) e);
+          ended = ap (λ (j : Joined _). j.is_ended) e;
+          turns = ap (λ (j : Joined _). j.turns) e;
+          refused = record { turn = t; turn_is = refl; slot = new; slot_is = there; refused = turn.refused };
         }
-
-    pub plan_cuts : (may_refuse : S → Call → Bool) (done : ℕ) (t : Turn) (rest : List Turn) (now new : List Slot) (host after : S) → slice_get plan done ≡ Some t
-        → IsPlanOnItsWay machine answer plan old before done (t ∷ rest) now host → IsPlanCut machine answer may_refuse t now host new after
-        → IsCutJoint machine answer may_refuse plan old before done new after
-    plan_cuts may_refuse done t rest now new host after at way cut =
-        let f = cut.is rest in
-        let limit = some_limit (way.answers + cut.answers) in
-        let z : allows way.answers (allows cut.answers (Some 0)) ≡ Some limit.0 = sym (allows_both way.answers cut.answers (Some 0)) ∙ limit.1 in
-        let e : SamePlan done (joined machine (limited answer) plan old (with_left before (Some limit.0))) (joined machine (limited answer) (t ∷ rest) now (with_left host (allows cut.answers (Some 0)))) =
-        subst (λ (x : Option ℕ). SamePlan done (joined machine (limited answer) plan old (with_left before x)) (joined machine (limited answer) (t ∷ rest) now (with_left host (allows cut.answers (Some 0))))) z (way.is (allows cut.answers (Some 0))) in
-        record {
-          answered = limit.0;
-          slots = sym (e.slots_are ∙ f.slots_are);
-          host = sym (ap (λ (x : Limited S). x.host) (e.host_is ∙ f.host_is));
-          ended = e.ended_is ∙ f.ended_is;
-          turns = let g = e.turns_are in let h = f.turns_are in omega arith;
-          refused = record { turn = t; turn_is = at; slot = cut.slot; slot_is = cut.slot_is; refused = cut.refused };
-        }
-
--- ---- the loop
-
--- so many turns are taken: the world is safe, and on the plan's way
-pub record InPlan {S : Type 0} (answer : S → Call → Answer S) (plan : List Turn) (old : List Slot) (before : S) (done : ℕ) (now : Sandboxes) (host : S) : Type 0 where
-  pub safe : IsSafeWorld now
-  pub way : (machine : Machine) → IsMachine machine → IsPlanOnItsWay machine answer plan old before done (drop done plan) (slots_of now) host
-
-pub run_goes_on : (r : StepResult) → (r ≡ Continue) ⊎ (r ≡ TurnEnds) → r ≢ RunEnds
-run_goes_on r (inl f) e = let z : Continue ≡ RunEnds = sym f ∙ e in cc
-run_goes_on r (inr f) e = let z : TurnEnds ≡ RunEnds = sym f ∙ e in cc
-
-pub next_turn : (plan : List Turn) (k : ℕ) (d : Turn) → k < length plan → drop k plan ≡ get_or plan k d ∷ drop (k + 1) plan
-next_turn plan k d below =
-    drop-cons plan k d below ∙ ap (λ (n : ℕ). get_or plan k d ∷ drop n plan) (let e : suc k ≡ k + 1 = omega arith in e)
-
-pub none_left : (plan : List Turn) (k : ℕ) → length plan ≤ k → drop k plan ≡ []
-none_left [] zero e = refl
-none_left [] (suc k) e = refl
-none_left (t ∷ plan) zero e = absurd (omega arith)
-none_left (t ∷ plan) (suc k) e = none_left plan k (omega arith)
-
-pub turn_at : (plan : List Turn) (k : ℕ) (d : Turn) → k < length plan → slice_get plan k ≡ Some (get_or plan k d)
-turn_at plan k d below = slice_get-get_or plan k d below

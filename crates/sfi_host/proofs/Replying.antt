@@ -1,12 +1,9 @@
 -- A sandbox after an answered call is the slot that the definition makes.
-use Rattle.std.proofs.Common.{◌≡◌, ◌≢◌, ℕ, Bool, refl, sym, ap, ◌∙◌}
+use Rattle.std.proofs.Common.{◌≡◌, ◌≢◌, ℕ, ◌<◌, ◌^◌, Bool, refl, sym, ap, ◌∙◌, subst, arith}
 use Rattle.rv_mem.specs.Bytes.{Bytes, IsMemory}
 use Rattle.rv_word.specs.declared.instr.Instr.TheVariants.{Ecall}
-use Rattle.rv_comp.specs.declared.front.Front.TheVariants.{Read}
-use Rattle.rv_step.specs.declared.outcome.Outcome.TheVariants.{Call as Calls}
-use Rattle.rv_step.specs.State.{Hart, State, IsHart, past}
+use Rattle.rv_step.specs.State.{Hart, past}
 use Rattle.rv_step.specs.Step.{Stands}
-use Rattle.sfi_check.specs.Runs.{Steps, Replies}
 use Rattle.sfi_check.specs.Laws.{GoesOnSafely}
 use Rattle.sfi_host.specs.declared.status.Status.{Status}
 use Rattle.sfi_host.specs.declared.status.Status.TheVariants.{Ready}
@@ -19,17 +16,14 @@ use Rattle.sfi_host.specs.declared.turn.StepResult.{StepResult}
 use Rattle.sfi_host.specs.declared.turn.StepResult.TheVariants.{Continue, RunEnds}
 use Rattle.sfi_host.specs.Answering.{spoken}
 use Rattle.sfi_host.specs.Hosts.{Call, Way, Replied, Yield, Exit, Reply, Answer}
-use Rattle.sfi_host.specs.Regions.{bytes_in, bytes_outside, IsWhole}
+use Rattle.sfi_host.specs.Regions.{bytes_in, IsWhole}
 use Rattle.sfi_host.specs.Slots.{Bounds, Slot, one_more, own}
-use Rattle.sfi_host.specs.Joint.{call_of, with_arguments, with_data, replied, next_after}
-use Rattle.sfi_host.specs.Moves.{ChangesOwn}
-use Rattle.sfi_host.specs.private.Moves.{TakesSome}
+use Rattle.sfi_host.specs.Joint.{word, call_of, with_arguments, with_data, after_way, status_after, replied, next_after}
 use Rattle.sfi_host.specs.Sandboxes.{seat_of}
-use Rattle.sfi_host.specs.private.Sandboxes.{IsReplied, IsNotReplied, call_by, request_by, IsTold, IsNotTold, after_told, next_after_answer}
+use Rattle.sfi_host.specs.private.Sandboxes.{IsReplied, IsNotReplied, call_by, request_by, IsTold, IsNotTold, after_ecall, after_told, next_after_answer}
 use Rattle.sfi_host.specs.Worlds.{slot_of, state_in, IsSafeSeat, StaysOutside}
-use Rattle.sfi_host.proofs.Leaving.{data_of_own, put_back}
+use Rattle.sfi_host.proofs.Leaving.{data_of_own, put_back, own_left}
 use Rattle.sfi_host.proofs.SafeSeats as keep
-use Rattle.sfi_host.proofs.Stops.{at_gate_still, at_gate}
 
 abbrev slot_with : Bounds → Hart → Status → ℕ → Bytes → Slot
 slot_with b h status n bytes = record { bounds = b; hart = h; status = status; steps = n; bytes = bytes }
@@ -41,13 +35,16 @@ slot_from b h h' st st' n m m' e f q =
 arguments : (h : Hart) (a0 a1 b0 b1 : ℕ) → a0 ≡ b0 → a1 ≡ b1 → with_arguments h a0 a1 ≡ with_arguments h b0 b1
 arguments h a0 a1 b0 b1 e f = ap (λ (x : ℕ). with_arguments h x a1) e ∙ ap (λ (x : ℕ). with_arguments h b0 x) f
 
+word_is : (a b : ℕ) → a < 2 ^ 32 → a ≡ b → a ≡ word b
+word_is a b fits e = omega arith
+
 -- what is asked of the memory of all is what the sandbox asks alone
 pub asked_is : (number : ℕ) (r : Request) (m : Bytes) (s : Sandbox) → r ≡ request_by number s → call_by r (bytes_in (seat_of s).bounds.data m) ≡ call_of number (slot_of m (seat_of s))
 asked_is number r m s e =
     ap (λ (q : Request). call_by q (bytes_in (seat_of s).bounds.data m)) e
     ∙ ap (λ (w : Bytes). call_by (request_by number s) w) (sym (data_of_own (seat_of s).bounds m))
 
-by_way : (m n : Bytes) (s : Sandbox) (t : Told) (r : Reply) (w : Way) → s.status ≡ Ready → t.a0 ≡ r.a0 → t.a1 ≡ r.a1 → own (seat_of s).bounds n ≡ with_data (seat_of s).bounds (own (seat_of s).bounds m) r.bytes
+by_way : (m n : Bytes) (s : Sandbox) (t : Told) (r : Reply) (w : Way) → s.status ≡ Ready → t.a0 ≡ word r.a0 → t.a1 ≡ word r.a1 → own (seat_of s).bounds n ≡ with_data (seat_of s).bounds (own (seat_of s).bounds m) r.bytes
     → slot_of n (seat_of (after_told (spoken w) s t)) ≡ replied (slot_of m (seat_of s)) (record { way = w; a0 = r.a0; a1 = r.a1; bytes = r.bytes })
 by_way m n s t r Replied ready x y b = slot_from (seat_of s).bounds _ _ _ _ (one_more s.steps) _ _ (ap (λ (h : Hart). past h 4) (arguments s.cpu _ _ _ _ x y)) ready b
 by_way m n s t r Yield ready x y b = slot_from (seat_of s).bounds _ _ _ _ (one_more s.steps) _ _ (ap (λ (h : Hart). past h 4) (arguments s.cpu _ _ _ _ x y)) ready b
@@ -67,18 +64,18 @@ refused_answer gate.Memory e = refl
 -- ---- the two ways in which a call ends
 
 module _ {S : Type 0} (m n : Bytes) (s : Sandbox) (t : Told) (call : Call) (number : ℕ) (before after : S) (result : StepResult)
-    (is : call ≡ call_of number (slot_of m (seat_of s))) (out : bytes_outside (seat_of s).bounds.data n ≡ bytes_outside (seat_of s).bounds.data m)
+    (is : call ≡ call_of number (slot_of m (seat_of s))) (out : StaysOutside (seat_of s).bounds.data m n)
     (goes : result ≡ next_after_answer t.answer) where
-  pub replies : (answer : S → Call → Answer S) → s.status ≡ Ready
+  pub replies : (answer : S → Call → Answer S) → s.status ≡ Ready → t.a0 < 2 ^ 32 → t.a1 < 2 ^ 32 → IsMemory n → IsWhole (seat_of s).bounds.data n
       → (t.answer ≢ gate.Memory → IsTold (answer before call) (bytes_in (seat_of s).bounds.data n) after t) → result ≢ RunEnds
       → IsReplied answer number (slot_of m (seat_of s)) before (slot_of n (seat_of (after_told t.answer s t))) after result
-  replies answer ready told_if goes_on =
+  replies answer ready a0 a1 memory whole told_if goes_on =
       let told : IsTold (answer before call) (bytes_in (seat_of s).bounds.data n) after t = told_if (λ e. goes_on (goes ∙ ap next_after_answer e)) in
       let r = answer before call in
       let same : answer before call ≡ answer before (call_of number (slot_of m (seat_of s))) = ap (λ (c : Call). answer before c) is in
-      let back : own (seat_of s).bounds n ≡ with_data (seat_of s).bounds (own (seat_of s).bounds m) r.reply.bytes = put_back (seat_of s).bounds m n r.reply.bytes out told.data_bytes in
+      let back : own (seat_of s).bounds n ≡ with_data (seat_of s).bounds (own (seat_of s).bounds m) r.reply.bytes = put_back (seat_of s).bounds m n r.reply.bytes out memory whole told.data_bytes in
       record {
-        slot = ap (λ (a : GateAnswer). slot_of n (seat_of (after_told a s t))) told.way ∙ by_way m n s t r.reply r.reply.way ready told.a0 told.a1 back ∙ ap (λ (x : Answer S). replied (slot_of m (seat_of s)) x.reply) same;
+        slot = ap (λ (a : GateAnswer). slot_of n (seat_of (after_told a s t))) told.way ∙ by_way m n s t r.reply r.reply.way ready (word_is t.a0 r.reply.a0 a0 told.a0) (word_is t.a1 r.reply.a1 a1 told.a1) back ∙ ap (λ (x : Answer S). replied (slot_of m (seat_of s)) x.reply) same;
         host = told.state ∙ ap (λ (x : Answer S). x.host) same;
         next_is = goes ∙ ap next_after_answer told.way ∙ next_way r.reply.way ∙ ap (λ (x : Answer S). next_after x.reply.way) same;
       }
@@ -90,7 +87,7 @@ module _ {S : Type 0} (m n : Bytes) (s : Sandbox) (t : Told) (call : Call) (numb
       let e : t.answer ≡ gate.Memory = refused_answer t.answer (sym goes ∙ ends) in
       let b : IsNotTold (may_refuse before) call (bytes_in (seat_of s).bounds.data n) before after = not_told e in
       let same : own (seat_of s).bounds n ≡ own (seat_of s).bounds m =
-      put_back (seat_of s).bounds m n _ out (b.data_bytes ∙ ap (λ (x : Call). x.bytes) is ∙ data_of_own (seat_of s).bounds m) ∙ sym (put_back (seat_of s).bounds m m _ refl refl) in
+      own_left (seat_of s).bounds m n out (b.data_bytes ∙ ap (λ (x : Call). x.bytes) is ∙ data_of_own (seat_of s).bounds m) in
       record {
         test = ap (may_refuse before) (sym is) ∙ b.test;
         slot = ap (λ (a : GateAnswer). slot_of n (seat_of (after_told a s t))) e ∙ slot_from (seat_of s).bounds s.cpu s.cpu s.status s.status s.steps _ _ refl refl same;
@@ -113,53 +110,18 @@ still_ready (gate.Exit n) s t goes e more ready = absurd (cc)
 still_ready gate.Memory s t goes e more ready = absurd (cc)
 
 pub safe_after : GoesOnSafely → (m n : Bytes) (s : Sandbox) (t : Told) (a : GateAnswer) (size : ℕ) → IsSafeSeat m (seat_of s) → s.status ≡ Ready → Stands (state_in m (seat_of s)) Ecall size
-    → IsMemory n → StaysOutside (seat_of s).bounds.data m n → IsWhole (seat_of s).bounds.data n → (a ≢ gate.Memory → IsHart (after_told a s t).cpu)
+    → IsMemory n → StaysOutside (seat_of s).bounds.data m n → IsWhole (seat_of s).bounds.data n → t.a0 < 2 ^ 32 → t.a1 < 2 ^ 32
     → IsSafeSeat n (seat_of (after_told a s t))
-safe_after on m n s t gate.Replied size seat ready stands memory stays whole hart =
-    keep.replied m (seat_of s) seat on ready size stands n _ _ memory stays whole (hart (λ e. cc)) refl (keep.arguments_keep s.cpu t.a0 t.a1) (keep.stack_argument s.cpu t.a0 t.a1)
-safe_after on m n s t gate.Yield size seat ready stands memory stays whole hart =
-    keep.replied m (seat_of s) seat on ready size stands n _ _ memory stays whole (hart (λ e. cc)) refl (keep.arguments_keep s.cpu t.a0 t.a1) (keep.stack_argument s.cpu t.a0 t.a1)
-safe_after on m n s t (gate.Exit k) size seat ready stands memory stays whole hart =
-    keep.halted m (seat_of s) seat n _ refl (λ e. cc)
-    (at_gate_still (seat_of s).bounds m n (keep.code_same m (seat_of s) seat n stays) s.cpu (after_told (gate.Exit k) s t).cpu refl (at_gate m (seat_of s) seat ready size stands))
-    stays whole
-safe_after on m n s t gate.Memory size seat ready stands memory stays whole hart =
-    keep.own_changed m (seat_of s) seat on n stays whole
+safe_after on m n s t a size seat ready stands memory stays whole f g = by_answer a
+  where
+    after : (w : Way) → IsSafeSeat n (record { bounds = (seat_of s).bounds; hart = after_way w (with_arguments s.cpu t.a0 t.a1); status = status_after w; steps = one_more s.steps })
+    after = keep.answered_safe on m (seat_of s) seat ready size stands n memory stays whole t.a0 t.a1 f g
 
--- ---- as a turn of its own
+    goes_on : IsSafeSeat n (seat_of (after_ecall s t))
+    goes_on = subst (λ (x : Status). IsSafeSeat n (record { bounds = (seat_of s).bounds; hart = past (with_arguments s.cpu t.a0 t.a1) 4; status = x; steps = one_more s.steps })) (sym ready) (after Replied)
 
-module _ (m n : Bytes) (s : Sandbox) (t : Told) (size : ℕ) (ready : s.status ≡ Ready) (stands : Stands (state_in m (seat_of s)) Ecall size) (memory : IsMemory n)
-    (changes : ChangesOwn (seat_of s) m n) where
-  -- it goes on after the ecall
-  goes_on_after : (a : GateAnswer) → (after_told a s t).status ≡ Ready → (after_told a s t).cpu ≡ past (with_arguments s.cpu t.a0 t.a1) 4 → IsHart (after_told a s t).cpu
-      → TakesSome m (seat_of s) n (seat_of (after_told a s t))
-  goes_on_after a still same hart =
-      let after : State = state_in n (seat_of (after_told a s t)) in (
-        Replies after,
-        record {
-          own = record {
-            size = size;
-            asked = stands;
-            a0 = t.a0;
-            a1 = t.a1;
-            state = record { hart = hart; memory = memory };
-            hart = same;
-            bytes = changes;
-          };
-          leads = (refl, still);
-          bytes = changes;
-        },
-      )
-
-  pub takes_after : (a : GateAnswer) → a ≢ gate.Memory → (a ≢ gate.Memory → IsHart (after_told a s t).cpu) → TakesSome m (seat_of s) n (seat_of (after_told a s t))
-  takes_after gate.Replied some hart = goes_on_after gate.Replied ready refl (hart some)
-  takes_after gate.Yield some hart = goes_on_after gate.Yield ready refl (hart some)
-  takes_after (gate.Exit k) some hart = (
-    Steps (record { outcome = Calls; state = state_in m (seat_of s) }),
-    record {
-      own = record { front = Read Ecall size; at_pc = stands; result = refl };
-      leads = (refl, k, refl);
-      bytes = changes;
-    },
-  )
-  takes_after gate.Memory some hart = absurd (some refl)
+    by_answer : (a : GateAnswer) → IsSafeSeat n (seat_of (after_told a s t))
+    by_answer gate.Replied = goes_on
+    by_answer gate.Yield = goes_on
+    by_answer (gate.Exit k) = after (Exit k)
+    by_answer gate.Memory = keep.own_changed m (seat_of s) seat on n memory stays whole

@@ -1,27 +1,27 @@
 -- What leaves a sandbox safe.
-use Rattle.std.proofs.Common.{◌≡◌, ◌≢◌, ℕ, ◌+◌, ◌<◌, ◌≤◌, inl, inr, List, [], length, true, refl, sym, ap, ◌∙◌, subst, arith, get_or-set_other}
+use Rattle.std.proofs.Common.{◌≡◌, ◌≢◌, ℕ, ◌+◌, ◌^◌, ◌<◌, ◌≤◌, inl, inr, List, [], length, true, refl, sym, ap, ◌∙◌, subst, arith, get_or-set_other}
 use Rattle.std.specs.Prelude.{slice_index, slice_set}
 use Rattle.rv_word.specs.declared.instr.Instr.TheVariants.{Ecall}
 use Rattle.sfi_policy.specs.Formats.{has_stack}
 use Rattle.rv_mem.specs.Bytes.{Bytes, IsMemory, byte_at, address_after}
 use Rattle.rv_step.specs.State.{Hart, IsHart, IsState, past}
 use Rattle.rv_step.specs.Step.{Stands}
+use Rattle.rv_step.proofs.Harts.{register_is, after_is}
 use Rattle.sfi_image.specs.Spelling.{Part}
 use Rattle.sfi_image.specs.Spans.{Holds, AreApart, with_guards}
 use Rattle.sfi_check.specs.Regions.{InCode, InData, InGuard, HasCode, StackInData}
 use Rattle.sfi_check.specs.Runs.{Replies, Changes, KeepsBytes, KeepsReserved, IsReply}
 use Rattle.sfi_check.specs.Laws.{GoesOnSafely}
-use Rattle.sfi_host.specs.declared.status.Status.{Status}
 use Rattle.sfi_host.specs.declared.status.Status.TheVariants.{Ready}
 use Rattle.sfi_host.specs.Regions.{IsWhole}
-use Rattle.sfi_host.specs.Slots.{Bounds, bounds_of}
+use Rattle.sfi_host.specs.Slots.{Bounds, bounds_of, one_more}
 use Rattle.sfi_host.specs.Arguments.{a0_register, a1_register}
 use Rattle.sfi_host.specs.Hosts.{Way, Replied, Yield, Exit}
-use Rattle.sfi_host.specs.Joint.{with_arguments, after_way, status_after}
+use Rattle.sfi_host.specs.Joint.{word, with_arguments, after_way, status_after}
 use Rattle.sfi_host.specs.Laws.{CallsHaveStack, AnswersAreReplies}
 use Rattle.sfi_host.specs.Stops.{StoppedItself}
 use Rattle.sfi_host.specs.Worlds.{Seat, state_in, IsSafeSeat, StaysOutside}
-use Rattle.sfi_host.proofs.Stops.{stopped_still}
+use Rattle.sfi_host.proofs.Stops.{at_gate, at_gate_still, stopped_still}
 
 -- ---- the code of a part
 
@@ -98,11 +98,12 @@ module _ (m : Bytes) (s : Seat) (seat : IsSafeSeat m s) where
 
   -- ---- a change by others
 
-  pub changed : GoesOnSafely → (n : Bytes) → KeepsBytes seat.part m n → IsWhole s.bounds.data n → IsSafeSeat n s
-  changed on n keeps whole = record {
+  pub changed : GoesOnSafely → (n : Bytes) → IsMemory n → KeepsBytes seat.part m n → IsWhole s.bounds.data n → IsSafeSeat n s
+  changed on n memory keeps whole = record {
     part = seat.part;
     bounds = seat.bounds;
     right = seat.right;
+    state = record { hart = seat.state.hart; memory = memory };
     apart = seat.apart;
     code = code_stays seat.part m n keeps seat.code;
     guards = λ a guard. keeps.guards a guard (seat.guards a guard);
@@ -116,26 +117,27 @@ module _ (m : Bytes) (s : Seat) (seat : IsSafeSeat m s) where
       in_part a inside = subst (λ (b : Bounds). Holds b.code a) seat.bounds inside
 
   -- the same, where all but its own data is left
-  pub own_changed : GoesOnSafely → (n : Bytes) → StaysOutside s.bounds.data m n → IsWhole s.bounds.data n → IsSafeSeat n s
-  own_changed on n stays whole = changed on n (own_kept seat.part seat.bounds n stays) whole
+  pub own_changed : GoesOnSafely → (n : Bytes) → IsMemory n → StaysOutside s.bounds.data m n → IsWhole s.bounds.data n → IsSafeSeat n s
+  own_changed on n memory stays whole = changed on n memory (own_kept seat.part seat.bounds n stays) whole
 
   -- ---- after a reply
 
-  pub replied : GoesOnSafely → s.status ≡ Ready → (size : ℕ) → Stands (state_in m s) Ecall size
+  replied : GoesOnSafely → s.status ≡ Ready → (size : ℕ) → Stands (state_in m s) Ecall size
       → (n : Bytes) (h : Hart) (steps : ℕ) → IsMemory n → StaysOutside s.bounds.data m n → IsWhole s.bounds.data n
       → IsHart h → h.pc ≡ address_after s.hart.pc 4 → KeepsReserved s.hart h → slice_index h.registers 2 ≡ slice_index s.hart.registers 2
-      → IsSafeSeat n (record { bounds = s.bounds; hart = h; status = s.status; steps = steps })
+      → IsSafeSeat n (record { bounds = s.bounds; hart = h; status = Ready; steps = steps })
   replied on ready size stands n h steps memory stays whole hart pc reserved stack = record {
     part = seat.part;
     bounds = seat.bounds;
     right = seat.right;
+    state = record { hart = hart; memory = memory };
     apart = seat.apart;
     code = code_stays seat.part m n (own_kept seat.part seat.bounds n stays) seat.code;
     guards = λ a guard. (own_kept seat.part seat.bounds n stays).guards a guard (seat.guards a guard);
     has_data = whole;
     safe = λ still. on seat.part (state_in m s) (record { hart = h; memory = n }) (Replies (record { hart = h; memory = n })) (seat.safe ready)
         (is_reply seat.part seat.bounds size stands n h stays (record { hart = hart; memory = memory }) pc reserved (stack_kept seat.part seat.bounds (stack_lies seat.part seat.bounds ready size stands) h stack)) refl;
-    stopped = subst (λ (x : Status). StoppedItself s.bounds (record { hart = h; memory = n }) x) (sym ready) tt;
+    stopped = tt;
   }
 
   -- the code where its own data alone may have changed
@@ -143,11 +145,12 @@ module _ (m : Bytes) (s : Seat) (seat : IsSafeSeat m s) where
   code_same n stays a inside = (own_kept seat.part seat.bounds n stays).code a (subst (λ (b : Bounds). Holds b.code a) seat.bounds inside)
 
   -- one that has stopped itself is safe, whatever its registers hold
-  pub halted : (n : Bytes) (t : Seat) → t.bounds ≡ s.bounds → t.status ≢ Ready → StoppedItself s.bounds (state_in n t) t.status → StaysOutside s.bounds.data m n → IsWhole s.bounds.data n → IsSafeSeat n t
-  halted n t same not_ready stopped stays whole = record {
+  pub halted : (n : Bytes) (t : Seat) → IsState (state_in n t) → t.bounds ≡ s.bounds → t.status ≢ Ready → StoppedItself s.bounds (state_in n t) t.status → StaysOutside s.bounds.data m n → IsWhole s.bounds.data n → IsSafeSeat n t
+  halted n t state same not_ready stopped stays whole = record {
     part = seat.part;
     bounds = same ∙ seat.bounds;
     right = seat.right;
+    state = state;
     apart = seat.apart;
     code = code_stays seat.part m n (own_kept seat.part seat.bounds n stays) seat.code;
     guards = λ a guard. (own_kept seat.part seat.bounds n stays).guards a guard (seat.guards a guard);
@@ -160,7 +163,7 @@ module _ (m : Bytes) (s : Seat) (seat : IsSafeSeat m s) where
 kept_register : (registers : List ℕ) (a0 a1 r : ℕ) → r ≢ a0_register → r ≢ a1_register → slice_index (slice_set (slice_set registers a0_register a0) a1_register a1) r ≡ slice_index registers r
 kept_register registers a0 a1 r n k = get_or-set_other (slice_set registers a0_register a0) a1_register r a1 0 k ∙ get_or-set_other registers a0_register r a0 0 n
 
-pub arguments_keep : (h : Hart) (a0 a1 : ℕ) → KeepsReserved h (past (with_arguments h a0 a1) 4)
+arguments_keep : (h : Hart) (a0 a1 : ℕ) → KeepsReserved h (past (with_arguments h a0 a1) 4)
 arguments_keep h a0 a1 = record {
   code_base = kept_register h.registers a0 a1 24 (λ e. omega arith) (λ e. omega arith);
   code_mask = kept_register h.registers a0 a1 25 (λ e. omega arith) (λ e. omega arith);
@@ -168,8 +171,30 @@ arguments_keep h a0 a1 = record {
   data_mask = kept_register h.registers a0 a1 27 (λ e. omega arith) (λ e. omega arith);
 }
 
-pub stack_argument : (h : Hart) (a0 a1 : ℕ) → slice_index (past (with_arguments h a0 a1) 4).registers 2 ≡ slice_index h.registers 2
+stack_argument : (h : Hart) (a0 a1 : ℕ) → slice_index (past (with_arguments h a0 a1) 4).registers 2 ≡ slice_index h.registers 2
 stack_argument h a0 a1 = kept_register h.registers a0 a1 2 (λ e. omega arith) (λ e. omega arith)
+
+-- ---- an answer
+
+arguments_are : (h : Hart) (a0 a1 : ℕ) → IsHart h → a0 < 2 ^ 32 → a1 < 2 ^ 32 → IsHart (with_arguments h a0 a1)
+arguments_are h a0 a1 is f g = register_is _ 11 a1 (register_is h 10 a0 is f) g
+
+pub answered_is : (w : Way) (h : Hart) (a0 a1 : ℕ) → IsHart h → a0 < 2 ^ 32 → a1 < 2 ^ 32 → IsHart (after_way w (with_arguments h a0 a1))
+answered_is Replied h a0 a1 is f g = after_is _ 4 (arguments_are h a0 a1 is f g) refl
+answered_is Yield h a0 a1 is f g = after_is _ 4 (arguments_are h a0 a1 is f g) refl
+answered_is (Exit n) h a0 a1 is f g = arguments_are h a0 a1 is f g
+
+-- a ready sandbox is safe after the answer to its call
+pub answered_safe : GoesOnSafely → (m : Bytes) (s : Seat) → IsSafeSeat m s → s.status ≡ Ready → (size : ℕ) → Stands (state_in m s) Ecall size
+    → (n : Bytes) → IsMemory n → StaysOutside s.bounds.data m n → IsWhole s.bounds.data n → (a0 a1 : ℕ) → a0 < 2 ^ 32 → a1 < 2 ^ 32
+    → (w : Way) → IsSafeSeat n (record { bounds = s.bounds; hart = after_way w (with_arguments s.hart a0 a1); status = status_after w; steps = one_more s.steps })
+answered_safe on m s seat ready size stands n memory stays whole a0 a1 f g Replied =
+    replied m s seat on ready size stands n _ _ memory stays whole (answered_is Replied s.hart a0 a1 seat.state.hart f g) refl (arguments_keep s.hart a0 a1) (stack_argument s.hart a0 a1)
+answered_safe on m s seat ready size stands n memory stays whole a0 a1 f g Yield =
+    replied m s seat on ready size stands n _ _ memory stays whole (answered_is Yield s.hart a0 a1 seat.state.hart f g) refl (arguments_keep s.hart a0 a1) (stack_argument s.hart a0 a1)
+answered_safe on m s seat ready size stands n memory stays whole a0 a1 f g (Exit k) =
+    halted m s seat n _ (record { hart = arguments_are s.hart a0 a1 seat.state.hart f g; memory = memory }) refl (λ e. cc)
+    (at_gate_still s.bounds m n (code_same m s seat n stays) s.hart (with_arguments s.hart a0 a1) refl (at_gate m s seat ready size stands)) stays whole
 
 -- ---- a reply in the words of runs
 
@@ -191,9 +216,9 @@ way_pc (Exit n) h a0 a1 goes_on = absurd (cc)
 pub answers_are : AnswersAreReplies
 answers_are m s r after size p seat is stack stands goes_on state hart stays =
     is_reply m s seat p is size stands after.memory after.hart stays state
-    (ap (λ (h : Hart). h.pc) hart ∙ way_pc r.way s.hart r.a0 r.a1 goes_on)
-    (subst (λ (h : Hart). KeepsReserved s.hart h) (sym hart) (way_keeps r.way s.hart r.a0 r.a1 goes_on))
-    (stack_kept m s seat p is stack after.hart (ap (λ (h : Hart). slice_index h.registers 2) hart ∙ way_stack r.way s.hart r.a0 r.a1 goes_on))
+    (ap (λ (h : Hart). h.pc) hart ∙ way_pc r.way s.hart (word r.a0) (word r.a1) goes_on)
+    (subst (λ (h : Hart). KeepsReserved s.hart h) (sym hart) (way_keeps r.way s.hart (word r.a0) (word r.a1) goes_on))
+    (stack_kept m s seat p is stack after.hart (ap (λ (h : Hart). slice_index h.registers 2) hart ∙ way_stack r.way s.hart (word r.a0) (word r.a1) goes_on))
 
 pub calls_have : CallsHaveStack
 calls_have m s size p seat is ready stands = stack_lies m s seat p is ready size stands

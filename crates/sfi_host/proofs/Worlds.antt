@@ -54,7 +54,7 @@ first_is p end right =
 
 -- ---- the first world
 
-map_get : {A B : Type 0} (f : A → B) (xs : List A) (i : ℕ) (y : B) → slice_get (map f xs) i ≡ Some y → (x : A) × (slice_get xs i ≡ Some x) × (y ≡ f x)
+pub map_get : {A B : Type 0} (f : A → B) (xs : List A) (i : ℕ) (y : B) → slice_get (map f xs) i ≡ Some y → (x : A) × (slice_get xs i ≡ Some x) × (y ≡ f x)
 map_get f [] i y e = absurd (cc)
 map_get f (x ∷ xs) zero y e = (x, refl, (let g : Some (f x) ≡ Some y = e in cc))
 map_get f (x ∷ xs) (suc i) y e = map_get f xs i y e
@@ -90,6 +90,7 @@ module _ (laws : Laws) (ps : List Part) (layout : IsRightLayout ps) (memory : Is
         part = p;
         bounds = refl;
         right = lie.each i p e;
+        state = (entered i p e).state;
         apart = lie.own i p e;
         code = has_code laws ps empty i p lie e;
         guards = has_empty_guards laws ps i p lie e;

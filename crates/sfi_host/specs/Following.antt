@@ -1,5 +1,5 @@
 -- One plan after another.
-use Rattle.std.specs.Prelude.{◌≡◌, ℕ, ◌+◌, cond, Bool, List, ◌++◌, length, None}
+use Rattle.std.specs.Prelude.{◌≡◌, ℕ, zero, suc, ◌+◌, ◌<◌, cond, Bool, List, [], ◌∷◌, ◌++◌, length, Some, None, slice_get}
 use Rattle.sfi_host.specs.declared.turn.Turn.{Turn}
 use Rattle.sfi_host.specs.Slots.{Slot}
 use Rattle.sfi_host.specs.Hosts.{Call, Answer, Host}
@@ -51,3 +51,38 @@ CutFollows S =
     → IsJoint machine answer p old before mid between
     → IsCutJoint machine answer may_refuse q mid between place new after
     → IsCutJoint machine answer may_refuse (p ++ q) old before (length p + place) new after
+
+-- ---- what a plan did that ended at a call
+
+-- the plan up to its turn at that place, which has so many steps now
+abbrev pub shortened : List Turn → ℕ → ℕ → List Turn
+shortened [] place steps = []
+shortened (t ∷ plan) zero steps = record { sandbox = t.sandbox; steps = steps } ∷ []
+shortened (t ∷ plan) (suc place) steps = t ∷ shortened plan place steps
+
+-- each turn of the plan before that place was taken, and of the turn there some steps, but not all
+pub record IsJointUpTo {S : Type 0} (machine : Machine) (answer : S → Call → Answer S)
+    (plan : List Turn) (place : ℕ) (old : List Slot) (before : S) (new : List Slot)
+    (after : S) : Type 0 where
+  pub turn : Turn
+  pub turn_is : slice_get plan place ≡ Some turn
+  pub steps : ℕ
+  pub fewer : steps < turn.steps
+  pub joint : IsJoint machine answer (shortened plan place steps) old before new after
+
+-- so it is where a plan ended at a call that the host may refuse
+abbrev pub CutIsShorter : Type 0 → Type 0
+CutIsShorter S =
+    (machine : Machine) (answer : S → Call → Answer S) (may_refuse : S → Call → Bool)
+    → (plan : List Turn) (old new : List Slot) (before after : S) (place : ℕ)
+    → IsCutJoint machine answer may_refuse plan old before place new after
+    → IsJointUpTo machine answer plan place old before new after
+
+-- a plan that was tried after it follows the shortened one
+abbrev pub RetryFollows : Type 0 → Type 0
+RetryFollows S =
+    (machine : Machine) (answer : S → Call → Answer S) (may_refuse : S → Call → Bool)
+    → (p q : List Turn) (old mid new : List Slot) (before between after : S) (place : ℕ)
+    → IsCutJoint machine answer may_refuse p old before place mid between
+    → IsJoint machine answer q mid between new after
+    → (steps : ℕ) × IsJoint machine answer (shortened p place steps ++ q) old before new after

@@ -1,9 +1,9 @@
 -- What sandboxes and their host come to under a plan.
 -- Each sandbox runs in a memory of its own code and data alone.
-use Rattle.std.specs.Prelude.{ℕ, zero, suc, ◌==◌, cond, Bool, true, false, List, [], ◌∷◌, ◌++◌, map, Option, Some, None, slice_get, slice_set}
-use Rattle.std.specs.FinMap.{from_entries, entries}
+use Rattle.std.specs.Prelude.{ℕ, zero, suc, ◌==◌, ◌%◌, ◌^◌, ◌&&◌, nat_lt, cond, Bool, true, false, List, [], ◌∷◌, ◌++◌, map, Option, Some, None, slice_get, slice_set}
+use Rattle.std.specs.FinMap.{from_entries, entries, retain_keys}
 use Rattle.std.specs.Ordering.{nat_cmp}
-use Rattle.rv_mem.specs.Bytes.{Bytes}
+use Rattle.rv_mem.specs.Bytes.{Bytes, byte_at}
 use Rattle.rv_step.specs.State.{Hart, State, register, with_register, past}
 use Rattle.rv_step.specs.Step.{Stepped, IsStep}
 use Rattle.rv_step.specs.declared.outcome.Outcome.{Outcome}
@@ -15,7 +15,7 @@ use Rattle.sfi_host.specs.declared.turn.StepResult.{StepResult}
 use Rattle.sfi_host.specs.declared.turn.StepResult.TheVariants.{Continue, TurnEnds, RunEnds}
 use Rattle.sfi_host.specs.declared.turn.Turn.{Turn}
 use Rattle.sfi_host.specs.Arguments.{a0_register, a1_register}
-use Rattle.sfi_host.specs.Regions.{bytes_in, bytes_outside}
+use Rattle.sfi_host.specs.Regions.{is_in, bytes_in}
 use Rattle.sfi_host.specs.Slots.{Bounds, Slot, one_more, state_of}
 use Rattle.sfi_host.specs.Hosts.{Call, Way, Replied, Yield, Exit, Reply, Answer, Host, Limited, limited}
 
@@ -50,13 +50,23 @@ call_of i slot = record {
 abbrev pub with_arguments : Hart → ℕ → ℕ → Hart
 with_arguments h a0 a1 = with_register (with_register h a0_register a0) a1_register a1
 
+-- a register takes the low 32 bits of a number
+abbrev pub word : ℕ → ℕ
+word n = n % 2 ^ 32
+
+-- a byte is a number below 256
+abbrev pub is_byte : Option ℕ → Bool
+is_byte None = false
+is_byte (Some n) = nat_lt n 256
+
 -- the bytes of two memories, those of the first where both have one
 abbrev pub both : Bytes → Bytes → Bytes
 both m w = from_entries {R = nat_cmp} (entries m ++ entries w)
 
--- a sandbox's bytes with other data
+-- a sandbox's bytes with other data: at each address of its data region at which those have a byte
 abbrev pub with_data : Bounds → Bytes → Bytes → Bytes
-with_data b bytes others = both (bytes_in b.data others) (bytes_outside b.data bytes)
+with_data b bytes others =
+    both (retain_keys others (λ a. is_in b.data a && is_byte (byte_at others a))) bytes
 
 -- the pc goes on after the ecall, or stays at an exit
 abbrev pub after_way : Way → Hart → Hart
@@ -74,7 +84,7 @@ status_after (Exit n) = Exited n
 abbrev pub replied : Slot → Reply → Slot
 replied slot r = record {
   bounds = slot.bounds;
-  hart = after_way r.way (with_arguments slot.hart r.a0 r.a1);
+  hart = after_way r.way (with_arguments slot.hart (word r.a0) (word r.a1));
   status = status_after r.way;
   steps = one_more slot.steps;
   bytes = with_data slot.bounds slot.bytes r.bytes;

@@ -2,7 +2,7 @@
 use Rattle.std.specs.Prelude.{◌≡◌, ◌≢◌, ℕ, List, map, Option, Some, None, slice_get}
 use Rattle.std.specs.Option.{option_map}
 use Rattle.rv_mem.specs.Bytes.{Bytes, byte_at}
-use Rattle.rv_step.specs.State.{Hart, State}
+use Rattle.rv_step.specs.State.{Hart, State, IsState}
 use Rattle.sfi_image.specs.declared.span.Span.{Span}
 use Rattle.sfi_image.specs.Spelling.{Part}
 use Rattle.sfi_image.specs.Spans.{Holds, AreApart, with_guards, code_region, guarded_region}
@@ -63,13 +63,15 @@ data_byte_of (Some s) at = byte_at (bytes_in s.bounds.data s.bytes) at
 
 -- ---- what is kept of a world
 
--- The sandbox is a part of an image that passes each test of its own. It has the part's code, its
--- guard zones are empty and its data whole. If it may still run, every run from its state is safe,
--- and calls with a stack pointer in the data; if it has stopped, it has stopped itself.
+-- The sandbox is a part of an image that passes each test of its own, and is in a state of the
+-- machine. It has the part's code, its guard zones are empty and its data whole. If it may still
+-- run, every run from its state is safe, and calls with a stack pointer in the data; if it has
+-- stopped, it has stopped itself.
 pub record IsSafeSeat (m : Bytes) (s : Seat) : Type 0 where
   pub part : Part
   pub bounds : s.bounds ≡ bounds_of part
   pub right : IsRightPart part
+  pub state : IsState (state_in m s)
   pub apart : AreApart (code_region part) (guarded_region part)
   pub code : HasCode part m
   pub guards : HasEmptyGuards part m

@@ -1,5 +1,4 @@
 -- Words that private contracts and proofs alone cite: no public statement rests on them.
 pub mod Limits
-pub mod Moves
 pub mod Programs
 pub mod Sandboxes

@@ -1,7 +1,7 @@
 //! What holds of the definitions and of every run. A call costs nothing.
-ghost use Rattle.sfi_host.specs.Following.{JoinedFollows, JointFollows, PlansFollow, CutFollows};
+ghost use Rattle.sfi_host.specs.Following.{JoinedFollows, JointFollows, PlansFollow, CutFollows, CutIsShorter, RetryFollows};
 ghost use Rattle.sfi_host.specs.Laws.{SomeMachine, OneMachine, NeighboursAreChanges, CallsHaveStack, AnswersAreReplies};
-ghost use Rattle.sfi_host.specs.Moves.{MovesAreRuns, OthersLeaveSlots};
+ghost use Rattle.sfi_host.specs.Moves.{JoinedMoves, JointMoves};
 ghost use Rattle.sfi_host.specs.Solo.{JointIsSolo};
 ghost use Rattle.sfi_host.specs.Steps.{StepsAreOwn};
 
@@ -41,6 +41,11 @@ pub fn joined_follows<S>()
 pub fn plans_follow<S>()
     ensures done { PlansFollow S }
     ensures memory { CutFollows S }
+
+    // What a plan did that ended at a call is what it does with that turn shortened to some of its
+    // steps; so a plan that is tried after it follows that one.
+    ensures cut { CutIsShorter S }
+    ensures retried { RetryFollows S }
 {}
 
 /// A step of a sandbox that is safe is, alone, the same step in its own memory; it leaves all but
@@ -53,6 +58,7 @@ pub fn steps_are_own()
     rv_step::laws::agreeing_steps_are_same();
     rv_step::laws::other_bytes_stay();
     rv_step::laws::stopped_stays();
+    rv_step::laws::step_keeps_state();
     rv_step::laws::no_byte_goes();
     rv_step::laws::calls_are_ecalls();
     rv_step::laws::step_is_effect();
@@ -79,20 +85,15 @@ pub fn answers_are_replies()
     ensures { AnswersAreReplies }
 {}
 
-/// What the sandboxes of a safe world do in the one memory, in any order, is to each of them a run:
-/// its own steps and the replies that it gets, and changes by others. Each of these runs is safe
-/// where the sandbox was ready, and the world stays safe.
-pub fn moves_are_runs()
-    ensures { MovesAreRuns }
-{
-    steps_are_own();
-    sfi_check::laws::goes_on_safely();
-}
+/// What the joint run does from a safe world is a list of moves in the one memory: step by step and
+/// reply by reply, with the same slots. To each sandbox these moves are a run, and where it was
+/// ready a safe one. `S` is a host's state.
+pub fn joined_moves<S>()
+    // With any host.
+    ensures any_host { JoinedMoves S }
 
-/// What the sandboxes of a safe world do, in one step, one turn or a plan, leaves each other one as
-/// it is: its pc, registers, status and count, and the bytes of its code and data.
-pub fn others_leave_slots()
-    ensures { OthersLeaveSlots }
+    // With a host that answers so many calls, or each call.
+    ensures limited { JointMoves S }
 {
     steps_are_own();
     sfi_check::laws::goes_on_safely();

@@ -18,7 +18,6 @@ mod handing;
 pub mod laws;
 mod loading;
 mod message;
-mod plan;
 mod program;
 mod region;
 mod running;

@@ -1,11 +1,12 @@
 //! Worlds.
-ghost use Rattle.std.specs.Prelude.{◌≡◌, ◌↔◌, ◌<◌, ℕ, length, map, slice_get, IfOk, IsSome, Some};
+ghost use Rattle.std.specs.Prelude.{◌≡◌, ◌≢◌, ◌↔◌, ◌<◌, ℕ, [], ◌∷◌, length, map, slice_get, IfOk, IsSome, Some};
 ghost use Rattle.std.specs.FinMap.{empty};
 ghost use Rattle.std.specs.Option.{option_map};
 ghost use Rattle.sfi_image.specs.Spans.{Holds};
 ghost use Rattle.sfi_host.specs.Joint.{Machine, IsMachine};
-ghost use Rattle.sfi_host.specs.Moves.{HaveRun};
+ghost use Rattle.sfi_host.specs.Moves.{HaveRunJointly};
 ghost use Rattle.sfi_host.specs.Plans.{IsJoint, IsCutJoint};
+ghost use Rattle.sfi_host.specs.private.Sandboxes.{bounds_in};
 ghost use Rattle.sfi_host.specs.Reading.{hart_at, data_region_at};
 ghost use Rattle.sfi_host.specs.Regions.{span_of};
 ghost use Rattle.sfi_host.specs.Slots.{Slot};
@@ -13,18 +14,19 @@ ghost use Rattle.sfi_host.specs.Loading.{first_seat, with_parts, AreEntered, Hav
 ghost use Rattle.sfi_host.specs.Worlds.{slots_of, status_at, steps_at, data_byte_of, HaveStoppedThemselves, IsSafeWorld, StaysOutsideData};
 
 use crate::gates::Gates;
-use crate::laws::moves_are_runs;
+use crate::laws::joined_moves;
 use crate::loading::load_parts;
-use crate::plan::take_turns;
 use crate::program::{Program, decode_all};
 use crate::region::Region;
+use crate::running::run_turn;
 use crate::sandbox::Sandbox;
 use crate::status::Status;
-use crate::turn::{RunAnswer, Turn};
+use crate::turn::{RunAnswer, StepResult, Turn};
 use rv_mem::Memory;
-use rv_mem::laws::{addresses_are_these, others_stay, written_is_there};
+use rv_mem::laws::{addresses_are_these, others_stay, read_is_held, written_is_there};
 use rv_step::Cpu;
 use sfi_check::Accepted;
+use sfi_check::laws::goes_on_safely;
 use sfi_image::code_ends;
 use std::alloc::{AllocError, Global};
 use std::marker::Model;
@@ -107,10 +109,11 @@ impl<M: Memory> World<M> {
             → IsCutJoint machine G.answer G.may_refuse plan.now (slots_of self.old) gates.old turn
             (slots_of self.new) gates.new }
 
-        // What was done, however the plan ended, are moves of the sandboxes that it names, one
-        // after another in the one memory, and to each sandbox they are a run,
-        // and where it was ready a safe one.
-        ensures runs { HaveRun plan.now self.old self.new }
+        // However the plan ended: the joint run, with each call answered or up to the one that was
+        // refused, is a list of moves in the one memory that lead from the world before to the world
+        // after, in the plan's order and with its replies. Each is one step of its sandbox's joint
+        // run; to each sandbox they are a run, and where it was ready a safe one.
+        ensures runs { HaveRunJointly result G.answer plan.now self.old gates.old self.new }
 
         // Each sandbox is safe as before, and its data lie outside each other one.
         ensures safe { IsSafeWorld self.new }
@@ -126,14 +129,45 @@ impl<M: Memory> World<M> {
         // The turn that ended so is one of the plan.
         ensures place { (turn : ℕ) → result ≡ RunAnswer.Memory turn → turn < length plan.now }
     {
-        // The law that the contract rests on: this call does nothing.
-        moves_are_runs();
+        // What the contract rests on: these calls do nothing.
+        joined_moves::<G>();
+        self.stays_safe();
 
-        take_turns(
+        for place in 0..plan.len() {
+            match self.take_turn(plan[place], gates) {
+                StepResult::Continue | StepResult::TurnEnds => {}
+                StepResult::RunEnds => return RunAnswer::Memory { turn: place },
+            }
+        }
+        RunAnswer::Done
+    }
+
+    // One turn: what the plan of that turn alone comes to. Each sandbox lies where it lay.
+    fn take_turn<G: Gates>(&mut self, turn: Turn, gates: &mut G) -> StepResult
+        ensures safe { IsSafeWorld self.new }
+        ensures bounds { bounds_in self.new ≡ bounds_in self.old }
+        ensures outside { StaysOutsideData self.old self.new.bytes }
+        ensures whole { result ≢ StepResult.RunEnds → (machine : Machine) → IsMachine machine
+            → IsJoint machine G.answer (turn ∷ []) (slots_of self.old) gates.old
+            (slots_of self.new) gates.new }
+        ensures refused { result ≡ StepResult.RunEnds → (machine : Machine) → IsMachine machine
+            → IsCutJoint machine G.answer G.may_refuse (turn ∷ []) (slots_of self.old) gates.old 0
+            (slots_of self.new) gates.new }
+    {
+        // The laws that the contract rests on: these calls do nothing.
+        goes_on_safely();
+        read_is_held();
+
+        let place = turn.sandbox as usize;
+        if place >= self.sandboxes.len() {
+            return StepResult::TurnEnds;
+        }
+        run_turn(
             &mut self.memory,
-            &self.programs,
-            &mut self.sandboxes,
-            plan,
+            &self.programs[place],
+            &mut self.sandboxes[place],
+            turn.sandbox,
+            turn.steps,
             gates,
         )
     }

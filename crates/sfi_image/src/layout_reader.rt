@@ -175,8 +175,7 @@ impl LayoutReader {
         }
     }
 
-    // What comes next where no bundle does: out of line, since it is out of line,
-    // since most that is read is bundles.
+    // What comes next where no bundle does: out of line, since most that is read is bundles.
     #[inline(never)]
     fn wants_no_bundle(&self) -> OtherWant
         requires { self.now.next ≢ Next.Code }

@@ -35,6 +35,7 @@ pub use layout_reader::LayoutReader;
 pub use part::{Gate, SandboxPart};
 pub use reading::parse_image;
 pub use reserved::Reserved;
+pub use sfi_policy::Format;
 pub use source::{ByteSource, ReadFault, Reading};
 pub use want::Want;
 pub use writing::{write_image, write_image_as};

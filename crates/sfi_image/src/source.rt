@@ -4,9 +4,11 @@ ghost use Rattle.std.specs.Io.KnownBytes.{Consumes, IsAtEnd, Keeps};
 ghost use Rattle.sfi_image.specs.Reading.{ReadsOf};
 
 use std::io::Read;
+use thiserror::Error;
 
 /// A read failed.
-#[derive(Clone, Copy, Debug, PartialEq, Eq)]
+#[derive(Clone, Copy, Debug, PartialEq, Eq, Error)]
+#[error("a read failed")]
 pub struct ReadFault;
 
 /// What hands out bytes in pieces.

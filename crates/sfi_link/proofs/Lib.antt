@@ -13,3 +13,5 @@ pub mod OneLinking
 pub mod Pushed
 pub mod Linking
 pub mod SomeLinking
+pub mod Building
+pub mod SomeBuilding

@@ -1,4 +1,4 @@
--- What holds of all that is placed.
+-- What holds of all that is placed, and of every text.
 use Rattle.std.specs.Prelude.{◌≡◌, ◌⊎◌, ℕ, ◌<◌, ◌≤◌, List, [], length}
 use Rattle.sfi_image.specs.Spelling.{Part}
 use Rattle.sfi_image.specs.Parts.{IsRightLayout}
@@ -6,10 +6,12 @@ use Rattle.sfi_scan.specs.Findings.{AreFindings}
 use Rattle.sfi_rewrite.specs.Placement.{Placement}
 use Rattle.sfi_rewrite.specs.Placed.{IsPlacedPart, IsPlaced}
 use Rattle.sfi_link.specs.declared.fault.LinkFault.{LinkFault}
+use Rattle.sfi_link.specs.declared.build_fault.BuildFault.{BuildFault}
 use Rattle.sfi_link.specs.Linked.{IsLinked, AreLinked}
 use Rattle.sfi_link.specs.Building.{IsLinkedImage}
 use Rattle.sfi_policy.specs.Limits.{sandboxes_most}
 use Rattle.sfi_link.specs.Faults.{IsLinkFault}
+use Rattle.sfi_link.specs.Texts.{IsTextBuild, IsBuildFault}
 
 -- what is made of a placed sandbox breaks no rule
 abbrev pub LinkedIsClean : Type 0
@@ -51,3 +53,8 @@ NeverBoth =
 abbrev pub SomeLinking : Type 0
 SomeLinking = (placed : List Placement) → IsPlaced placed
     → ((bytes : List ℕ) × IsLinkedImage placed bytes) ⊎ ((f : LinkFault) × IsLinkFault placed f)
+
+-- each text has a build or a fault
+abbrev pub SomeBuilding : Type 0
+SomeBuilding = (text : List ℕ)
+    → ((bytes : List ℕ) × IsTextBuild text bytes) ⊎ ((f : BuildFault) × IsBuildFault text f)

@@ -1,11 +1,12 @@
-//! What holds of all that is placed. A call costs nothing.
-ghost use Rattle.sfi_link.specs.Laws.{LinkedIsClean, LinkedIsRight, OneLinking, OneImage, OneFault, NeverBoth, ImageHasNoFault, SomeLinking};
+//! What holds of all that is placed, and of every text. A call costs nothing.
+ghost use Rattle.sfi_link.specs.Laws.{LinkedIsClean, LinkedIsRight, OneLinking, OneImage, OneFault, NeverBoth, ImageHasNoFault, SomeLinking, SomeBuilding};
 ghost use Rattle.sfi_link.specs.Standing.{LinkedSlotsStand, LinkedRunsAs, LinkedImagesRunAs};
 
 use rv_comp::laws::{one_spelling, two_lengths};
 use rv_mem::laws::read_is_held;
+use rv_text::laws::{some_source, sources_are_right};
 use rv_word::laws::spellings_are_wide;
-use sfi_rewrite::laws::rewritten_is_transparent;
+use sfi_rewrite::laws::{rewritten_is_placed, rewritten_is_transparent, some_rewriting};
 use sfi_scan::laws::same_bundle_starts;
 
 /// What is made of a placed sandbox breaks no rule: its stubs, its whole expansions with addresses
@@ -59,4 +60,16 @@ pub fn linked_runs_as()
 {
     rewritten_is_transparent();
     linked_slots_stand();
+}
+
+/// A text has a build, or a fault: [`build`](crate::build) answers the one that it is,
+/// unless memory runs out.
+pub fn some_building()
+    ensures { SomeBuilding }
+{
+    some_source();
+    sources_are_right();
+    some_rewriting();
+    rewritten_is_placed();
+    some_linking();
 }

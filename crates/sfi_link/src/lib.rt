@@ -1,17 +1,22 @@
-//! From what is placed to an image.
+//! From what is placed to an image, and from a text to an image.
 //!
-//! Names become addresses, gates become stubs, and the rest of each code region is filled with
-//! c.ebreaks. What is linked has a right layout and breaks no rule, so the checker accepts it: this
-//! is proved of the bytes, and no scan is run.
+//! [`link`] gives names their addresses and gates their stubs, and fills the rest of each code
+//! region with c.ebreaks. [`build`] reads a text, places its instructions in bundles and links
+//! them. The image has a right layout and breaks no rule, so the checker accepts it: this is proved
+//! of the bytes, and no scan is run.
 #![tactic(auto)]
 
 mod address;
 mod bases;
+mod build_fault;
+mod builder;
 mod code;
 mod code_region;
 mod fault;
 pub mod laws;
 mod linker;
 
+pub use build_fault::BuildFault;
+pub use builder::build;
 pub use fault::LinkFault;
 pub use linker::link;

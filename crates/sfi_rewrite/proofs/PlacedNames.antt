@@ -1,8 +1,8 @@
 -- What names name, by the places of the labels.
-use Rattle.std.proofs.Common.{◌≡◌, ℕ, ◌+◌, ◌<◌, List, [], ◌∷◌, ◌++◌, length, take, get_or, refl, sym, ap, ◌∙◌, subst, arith, Some, None, Option}
+use Rattle.std.proofs.Common.{◌≡◌, ℕ, ◌+◌, ◌<◌, List, [], ◌∷◌, ◌++◌, length, map, take, get_or, refl, sym, ap, ◌∙◌, subst, arith, Some, None, Option}
 use Rattle.std.specs.Prelude.{slice_get, slice_index}
 use Rattle.std.specs.List.{All, AllZip}
-use Rattle.std.proofs.lemmas.List.{take_more}
+use Rattle.std.proofs.lemmas.List.{length-map, take_more}
 use Rattle.std.proofs.lemmas.List.Elements.{All-map}
 use Rattle.std.proofs.lemmas.Option.{slice_get-get_or}
 use Rattle.rv_source.specs.declared.item.Named.{Named}
@@ -17,6 +17,13 @@ zip_push R [] [] x y z r = (r, tt)
 zip_push R [] (b ∷ ys) x y z r = absurd z
 zip_push R (a ∷ xs) [] x y z r = absurd z
 zip_push R (a ∷ xs) (b ∷ ys) x y z r = (z.0, zip_push R xs ys x y z.1 r)
+
+-- what a look-up among a sandbox's names found
+pub asked : (s : Sandbox) (names : List (List ℕ × Named)) (count k : ℕ) (found : Option Named)
+    → names ≡ s.names → count ≡ length names → k < count → found ≡ slice_get (map (λ e. e.1) names) k
+    → (k < length (named s)) × (found ≡ slice_get (named s) k)
+asked s names count k found same counted within is =
+    (omega (arith, counted, within, ap length same, length-map s.names (λ e. e.1)), is ∙ ap (λ l. slice_get (map (λ e. e.1) l) k) same)
 
 -- what a look-up found stands at its place
 pub name_at : (names : List Named) (k : ℕ) (n : Named) (found : Option Named) → k < length names → found ≡ slice_get names k → found ≡ Some n → n ≡ get_or names k n

@@ -7,7 +7,7 @@ use std::alloc::{AllocError, AllocFailed};
 use thiserror::Error;
 
 /// Why a source isn't rewritten: the first instruction in the order of the text that has a fault,
-/// with the first of its faults, in the order 1, 2, 5, 3.
+/// with the first of its faults by their numbers in the order 1, 2, 5, 3.
 #[derive(Clone, Copy, Debug, PartialEq, Eq, Error)]
 pub enum RewriteFault {
     /// An operand of the instruction on the line, counted from 1, is x24, x25, x26, x27 or x31.
@@ -19,7 +19,7 @@ pub enum RewriteFault {
     /// The code of the sandbox, counted from 0, takes more bytes than a code region of its
     /// format may have, its gates' stubs not counted.
     #[error("TooLarge sandbox {sandbox}")]
-    TooLarge { sandbox: usize },
+    TooLarge { sandbox: u32 },
     /// The instruction on the line, counted from 1, writes the stack pointer, which is to be put
     /// back after it: it is a jal or jalr, or a load on another register. Only a format with a
     /// stack pointer has this fault.

@@ -27,7 +27,7 @@ pub(crate) struct Laid {
 /// Adds an item, after its c.nops, to the code of the sandbox of that number.
 fn lay_item(
     format: Format,
-    sandbox: usize,
+    sandbox: u32,
     item: &Item,
     code: &mut Filling,
 ) -> Result<(), RewriteFault>
@@ -55,7 +55,7 @@ fn lay_item(
 pub(crate) fn lay_items(
     alloc: Global,
     format: Format,
-    sandbox: usize,
+    sandbox: u32,
     items: &[Item],
 ) -> Result<Laid, RewriteFault>
     requires { HaveBodies items.now }

@@ -25,4 +25,6 @@ pub use bundle::Bundle;
 pub use fault::RewriteFault;
 pub use placed::{Placed, PlacedName, PlacedPart};
 pub use rewriting::rewrite;
+pub use rv_source::{Source, SourceGate};
+pub use sfi_policy::Format;
 pub use slot::Slot;

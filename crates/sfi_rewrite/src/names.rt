@@ -35,8 +35,9 @@ pub(crate) fn place_names(
         (λ v. AllZip (IsPlacedName part.now.format part.now.items) (named part.now) v.items) }
 {
     let mut names = Vec::new(alloc);
-    for place in 0..part.name_count() {
-        match part.named(place) {
+    let known = part.names();
+    for place in 0..known.len() {
+        match known.named(place) {
             Some(named) => names.push(placed_name(named, labels))?,
             None => unreachable!(),
         }
@@ -49,8 +50,9 @@ pub(crate) fn has_end_label(part: &SourcePart) -> bool
     ensures { IsTrue result ↔ HasEndLabel part.now }
 {
     let end = part.items().len();
-    for place in 0..part.name_count() {
-        if let Some(Named::Code(item)) = part.named(place) {
+    let names = part.names();
+    for place in 0..names.len() {
+        if let Some(Named::Code(item)) = names.named(place) {
             if item == end {
                 return true;
             }

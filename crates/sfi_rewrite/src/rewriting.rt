@@ -1,5 +1,5 @@
 //! From a source to what is placed.
-ghost use Rattle.std.specs.Prelude.{◌≡◌, ◌<◌, ◌≤◌, ◌^◌, ℕ, List, IfOk, IfErr, IsTrue, Ok, Err};
+ghost use Rattle.std.specs.Prelude.{◌≡◌, ◌<◌, ◌≤◌, ◌^◌, ℕ, List, length, IfOk, IfErr, IsTrue, Ok, Err};
 ghost use Rattle.std.specs.List.{All, AllZip};
 ghost use Rattle.rv_source.specs.Source.{IsSandbox, IsSource};
 ghost use Rattle.sfi_rewrite.specs.Slots.{size_of};
@@ -36,7 +36,7 @@ fn fill_end(labelled: bool, code: &mut Filling) -> Result<(), AllocError>
 }
 
 /// Places the sandbox of that number.
-fn place_part(alloc: Global, sandbox: usize, part: &SourcePart) -> Result<PlacedPart, RewriteFault>
+fn place_part(alloc: Global, sandbox: u32, part: &SourcePart) -> Result<PlacedPart, RewriteFault>
     requires { IsSandbox part.now }
     ensures rewritten { IfOk result (IsRewritten part.now) }
     ensures right { IfOk result IsPlacedPart }
@@ -67,20 +67,21 @@ fn place_part(alloc: Global, sandbox: usize, part: &SourcePart) -> Result<Placed
 
 /// Places the sandboxes, in order.
 fn place_parts(alloc: Global, parts: &[SourcePart]) -> Result<Vec<PlacedPart>, RewriteFault>
-    requires { All IsSandbox parts.now }
+    requires sandboxes { All IsSandbox parts.now }
+    requires numbered { length parts.now ≤ 2 ^ 32 }
     ensures rewritten { IfOk result (λ v. AreRewritten parts.now v.items) }
     ensures right { IfOk result (λ v. All IsPlacedPart v.items) }
     ensures refused { IfErr result (UnlessMemory (IsSourceFault parts.now)) }
 {
     let mut placed = Vec::new(alloc);
     for (number, part) in parts.iter().enumerate() {
-        placed.push(place_part(alloc, number, part)?)?;
+        placed.push(place_part(alloc, number as u32, part)?)?;
     }
     Ok(placed)
 }
 
 /// Places a source: each sandbox's expansions, each at the first place in which it may stand; or
-/// the first fault in the order of the text, the lowest on one instruction.
+/// the first fault in the order of the text, and on one instruction the first by [`RewriteFault`].
 pub fn rewrite(alloc: Global, source: &Source) -> Result<Placed, RewriteFault>
     ensures placed { IfOk result (AreRewritten source.now) }
     ensures transparent { IfOk result (AllZip StandTransparent source.now) }

@@ -26,3 +26,4 @@ pub use findings::BundleFindings;
 pub use part::{scan_part, scan_part_as};
 pub use rule::Rule;
 pub use scan::scan_bundle;
+pub use sfi_policy::Format;

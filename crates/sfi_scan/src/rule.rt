@@ -19,7 +19,7 @@ pub enum Rule {
     V6,
     /// A jump or branch to what is no bundle start of its own code region.
     V7,
-    /// The region's last instruction lets control run past the region's end.
+    /// The region's last bundle is read whole, and its last instruction isn't ebreak, jal or jalr.
     V8,
     /// A listed gate's bundle isn't the gate stub.
     V9,

@@ -11,7 +11,7 @@ ghost use Rattle.sfi_command.specs.declared.job.Job.TheVariants.{Build};
 
 use crate::fault::{InputFault, Stop, build_stop};
 use crate::verdict::Answer;
-use sfi_build::build;
+use sfi_link::build;
 use std::alloc::{AllocError, Global};
 
 /// The source text that was read.

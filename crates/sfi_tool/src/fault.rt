@@ -7,9 +7,8 @@ ghost use Rattle.sfi_tool.specs.private.Says.{StopsBuild};
 ghost use Rattle.sfi_tool.specs.declared.fault.Stop.TheVariants.{Memory};
 
 use rv_text::{TextCause, TextFault};
-use sfi_build::BuildFault;
 use sfi_image::{ImageFault, LayoutFault};
-use sfi_link::LinkFault;
+use sfi_link::{BuildFault, LinkFault};
 use sfi_rewrite::RewriteFault;
 use std::alloc::{AllocError, Global};
 use std::fmt::Display;

@@ -44,9 +44,10 @@ fn part_text(alloc: Global, part: &SourcePart) -> Result<String, AllocError> {
         text.push_str(format!(in alloc; " {name}={service}")?.as_str())?;
     }
     text.push_str(" |")?;
-    for place in 0..part.name_count() {
-        if let Some(named) = part.named(place) {
-            text.push_str(format!(in alloc; " {named:?}")?.as_str())?;
+    let names = part.names();
+    for place in 0..names.len() {
+        if let (Some(name), Some(named)) = (names.text(place), names.named(place)) {
+            text.push_str(format!(in alloc; " {name}={named:?}")?.as_str())?;
         }
     }
     text.push_str(" | ")?;
@@ -85,17 +86,17 @@ fn statements() -> [(&'static str, &'static str); 36] {
     [
         ("", "256 | | | |"),
         ("  # no more than a comment é\r\n\n", "256 | | | |"),
-        (".gate y 3", "256 | 0=3 | Gate(0) | |"),
+        (".gate y 3", "256 | 0=3 | y=Gate(0) | |"),
         (
             ".gate y 3\n.gate _z.1 0x5",
-            "256 | 0=3 1=5 | Gate(0) Gate(1) | |",
+            "256 | 0=3 1=5 | y=Gate(0) _z.1=Gate(1) | |",
         ),
-        (".data\n.gate y 0", "256 | 0=0 | Gate(0) | |"),
+        (".data\n.gate y 0", "256 | 0=0 | y=Gate(0) | |"),
         (
             "nop\n.option rvc\nnop\n.option norvc\nnop",
             "256 | | | 2 addi x0, x0, 0; 4c addi x0, x0, 0; 6 addi x0, x0, 0; |",
         ),
-        (".option rvc\n.gate g 1", "256 | 0=1 | Gate(0) | |"),
+        (".option rvc\n.gate g 1", "256 | 0=1 | g=Gate(0) | |"),
         (".data\n.byte -128, 255, 0x7F", "256 | | | | 128 255 127"),
         (".data\n.half -2, 0x1234", "256 | | | | 254 255 52 18"),
         (
@@ -104,7 +105,7 @@ fn statements() -> [(&'static str, &'static str); 36] {
         ),
         (
             ".data\n.zero 3\nx: .byte 1\ny:",
-            "256 | | Data(3) Data(4) | | 0 0 0 1",
+            "256 | | x=Data(3) y=Data(4) | | 0 0 0 1",
         ),
         ("add a0, a1, a2", "256 | | | 2 add x10, x11, x12; |"),
         ("addi sp, sp, -16", "256 | | | 2 addi x2, x2, -16; |"),
@@ -114,9 +115,9 @@ fn statements() -> [(&'static str, &'static str); 36] {
         ("jalr ra, 4(t0)", "256 | | | 2 jalr x1, 4(x5); |"),
         (
             "a: blt a0, a1, a",
-            "256 | | Code(0) | 2L blt x10, x11, 0 to 0; |",
+            "256 | | a=Code(0) | 2L blt x10, x11, 0 to 0; |",
         ),
-        ("jal ra, far", "256 | | Unknown | 2 jal x1, 0 to 0; |"),
+        ("jal ra, far", "256 | | far=Unknown | 2 jal x1, 0 to 0; |"),
         ("lui a0, 0x12345", "256 | | | 2 lui x10, 0x12345; |"),
         ("auipc a0, 1048575", "256 | | | 2 auipc x10, 0xfffff; |"),
         ("fence 51, x1, x2", "256 | | | 2 fence 51, x1, x2; |"),
@@ -133,7 +134,7 @@ fn statements() -> [(&'static str, &'static str); 36] {
         ("li a0, 4096", "256 | | | 2 lui x10, 0x1; |"),
         (
             "x: li a0, -2049",
-            "256 | | Code(0) | 2L lui x10, 0xfffff; 2 addi x10, x10, 2047; |",
+            "256 | | x=Code(0) | 2L lui x10, 0xfffff; 2 addi x10, x10, 2047; |",
         ),
         (
             "li a0, 4294967295",
@@ -146,23 +147,23 @@ fn statements() -> [(&'static str, &'static str); 36] {
         ),
         (
             "j a\ncall b\nb:",
-            "256 | | Unknown Code(2) | 2 jal x0, 0 to 0; 3 jal x1, 0 to 1; |",
+            "256 | | a=Unknown b=Code(2) | 2 jal x0, 0 to 0; 3 jal x1, 0 to 1; |",
         ),
         (
             "beqz a0, a\nbnez a1, a",
-            "256 | | Unknown | 2 beq x10, x0, 0 to 0; 3 bne x11, x0, 0 to 0; |",
+            "256 | | a=Unknown | 2 beq x10, x0, 0 to 0; 3 bne x11, x0, 0 to 0; |",
         ),
         (
             "la a0, d\n.data\nd:.zero 0",
-            "256 | | Data(0) | 2 high x10 of 0; 2 low x10 of 0; |",
+            "256 | | d=Data(0) | 2 high x10 of 0; 2 low x10 of 0; |",
         ),
         (
             "add: a0: _1:nop",
-            "256 | | Code(0) Code(0) Code(0) | 2L addi x0, x0, 0; |",
+            "256 | | add=Code(0) a0=Code(0) _1=Code(0) | 2L addi x0, x0, 0; |",
         ),
         (
             "j b\na: .sandbox 512\na: b:",
-            "256 | | Unknown Code(1) | 2 jal x0, 0 to 0; |\n512 | | Code(0) Code(0) | |",
+            "256 | | b=Unknown a=Code(1) | 2 jal x0, 0 to 0; |\n512 | | a=Code(0) b=Code(0) | |",
         ),
     ]
 }

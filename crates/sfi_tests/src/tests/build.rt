@@ -1,10 +1,9 @@
 //! Building: texts, and the images or the faults that they give.
 use super::image::text_of;
 use super::programs::{BRANCH, HI, HI_IMAGE, STORE, repeated};
-use sfi_build::{BuildFault, build};
 use sfi_check::check;
 use sfi_image::{parse_image, write_image};
-use sfi_link::LinkFault;
+use sfi_link::{BuildFault, LinkFault, build};
 use sfi_rewrite::RewriteFault;
 use std::alloc::Global;
 use std::test::Fail;

@@ -1,8 +1,7 @@
 //! Texts that can't be built: the fault of each, whose text is the line that the command prints.
 use super::{Outcome, run};
 use rv_text::{TextCause, TextFault};
-use sfi_build::{BuildFault, build};
-use sfi_link::LinkFault;
+use sfi_link::{BuildFault, LinkFault, build};
 use sfi_rewrite::RewriteFault;
 use std::test::Fail;
 

@@ -4,7 +4,7 @@ use super::image::{CODE, END, Edit, SFI2, SFI3, end_in, image_bytes, put, same};
 use super::pieces::Pieces;
 use super::{Outcome, lines, words_of};
 use sfi_check::{StreamAnswer, check_stream};
-use sfi_image::Reading;
+use sfi_image::{ByteSource, ReadFault, Reading};
 use sfi_scan::{Finding, Rule};
 use sfi_tool::run_tool;
 use std::alloc::{AllocError, Global};
@@ -146,5 +146,17 @@ fn failing_runs(rt: HostRuntime) -> Result<(), Fail> {
     let Outcome { status, text } = run_by_fifty(alloc, bytes.as_slice(), 7)?;
     assert_eq!(rt; status, 0);
     assert_eq!(rt; text.as_slice(), lines::ACCEPTED.as_bytes());
+    Ok(())
+}
+
+// A failed read is remembered, and the fault has a text.
+#[test]
+fn failed_reads(rt: HostRuntime) -> Result<(), Fail> {
+    let alloc = rt.alloc();
+    let mut reader = Pieces::new(b"", 1, 0);
+    let mut source = Reading::new(&mut reader);
+    assert_eq!(rt; source.read_some(&mut [0]), Err(ReadFault));
+    assert!(rt; source.failed());
+    assert_eq!(rt; format!(in alloc; "{}", ReadFault)?, "a read failed");
     Ok(())
 }

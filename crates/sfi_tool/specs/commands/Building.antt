@@ -1,8 +1,8 @@
 -- The command `build`, on a source text.
 use Rattle.std.specs.Prelude.{◌≡◌, ◌⊎◌, ◌<◌, ◌≤◌, ℕ, List, ◌++◌, length, IsUtf8}
 use Rattle.hex.specs.Hex.{encode_lower}
-use Rattle.sfi_build.specs.declared.fault.BuildFault.{BuildFault}
-use Rattle.sfi_build.specs.Texts.{IsTextBuild, IsBuildFault}
+use Rattle.sfi_link.specs.declared.build_fault.BuildFault.{BuildFault}
+use Rattle.sfi_link.specs.Texts.{IsTextBuild, IsBuildFault}
 use Rattle.sfi_report.specs.Digits.{line_end}
 use Rattle.sfi_tool.specs.Input.{limit}
 use Rattle.sfi_tool.specs.Meaning.{Meaning}

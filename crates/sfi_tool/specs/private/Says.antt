@@ -6,8 +6,8 @@ use Rattle.sfi_image.specs.declared.fault.LayoutFault.{LayoutFault}
 use Rattle.sfi_check.specs.declared.refusal.Refusal.{Refusal}
 use Rattle.sfi_check.specs.Refusals.{IfLayoutFault, IfFindings}
 use Rattle.sfi_check.specs.Verdict.{IsAccepted, HasFindings, AnswersLayout, AnswersFindings, AnswersAccepted}
-use Rattle.sfi_build.specs.declared.fault.BuildFault.{BuildFault}
-use Rattle.sfi_build.specs.Texts.{IsWantOfMemory}
+use Rattle.sfi_link.specs.declared.build_fault.BuildFault.{BuildFault}
+use Rattle.sfi_link.specs.Texts.{IsWantOfMemory}
 use Rattle.sfi_scan.specs.declared.finding.Finding.{Finding}
 use Rattle.sfi_tool.specs.declared.fault.Stop.{Stop}
 use Rattle.sfi_tool.specs.declared.fault.Stop.TheVariants as stop

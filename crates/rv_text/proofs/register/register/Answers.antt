@@ -1,5 +1,5 @@
 use Rattle.std.proofs.Common.{sym, ◌∙◌}
-use Rattle.rv_text.proofs.Names.{register_found, register_if, register_if_none, register_none}
+use Rattle.rv_text.proofs.RegisterNames.{register_found, register_if, register_if_none, register_none}
 use Rattle.rv_text.proofs.register.register.Goals as goal
 
 pub returns-in-Some-clause-some : goal.returns-in-Some-clause-some

@@ -1,13 +1,11 @@
 use Rattle.std.proofs.Common.{ap, ◌∙◌, sym, subst}
-use Rattle.rv_step.specs.State.{IsHart}
 use Rattle.sfi_host.specs.declared.sandbox.Sandbox.{Sandbox}
-use Rattle.sfi_host.specs.private.Moves.{TakesSome}
 use Rattle.sfi_host.specs.Regions.{bytes_in}
 use Rattle.sfi_host.specs.Sandboxes.{seat_of}
-use Rattle.sfi_host.specs.private.Sandboxes.{IsReplied, IsNotReplied, call_by, next_after_answer}
+use Rattle.sfi_host.specs.private.Sandboxes.{IsReplied, IsNotReplied, call_by}
 use Rattle.sfi_host.specs.Worlds.{slot_of, IsSafeSeat}
 use Rattle.sfi_host.proofs.Leaving.{whole_in, whole_of, stays_outside}
-use Rattle.sfi_host.proofs.Replying.{asked_is, still_ready, bounds_after, safe_after, replies, refuses, takes_after}
+use Rattle.sfi_host.proofs.Replying.{asked_is, still_ready, bounds_after, safe_after, replies, refuses}
 use Rattle.sfi_host.proofs.asking.ask.Goals as goal
 
 pub call_gate-told-requires : goal.call_gate-told-requires
@@ -31,26 +29,11 @@ returns-clause-safe g c =
     (g.met.M.Memory.in_range c.call_gate-told.new.memory)
     (stays_outside (seat_of s).bounds.data (g.M.Memory.bytes c.args.memory.now) n c.call_gate-told.ensures.outside)
     (whole_of (seat_of s).bounds.data n c.call_gate-told.ensures.has_data)
-    (λ e. subst (λ (x : Sandbox). IsHart x.cpu) c.put_answer.ensures.after (c.put_answer.ensures.hart e)))
+    c.call_gate-told.ensures.a0 c.call_gate-told.ensures.a1)
 
 pub returns-clause-others : goal.returns-clause-others
 returns-clause-others g c =
     stays_outside (seat_of c.args.sandbox.now).bounds.data (g.M.Memory.bytes c.args.memory.now) (g.M.Memory.bytes c.call_gate-told.new.memory) c.call_gate-told.ensures.outside
-
-pub returns-clause-moves : goal.returns-clause-moves
-returns-clause-moves g c goes_on =
-    let s = c.args.sandbox.now in
-    let m = g.M.Memory.bytes c.args.memory.now in
-    let n = g.M.Memory.bytes c.call_gate-told.new.memory in
-    let told = c.call_gate-told.result in
-    subst (λ (x : Sandbox). TakesSome m (seat_of s) n (seat_of x)) (sym c.put_answer.ensures.after)
-    (takes_after m n s told c.requires.called.0 c.requires.ready c.requires.called.1 (g.met.M.Memory.in_range c.call_gate-told.new.memory)
-    (record {
-      others = stays_outside (seat_of s).bounds.data m n c.call_gate-told.ensures.outside;
-      whole = whole_of (seat_of s).bounds.data n c.call_gate-told.ensures.has_data;
-    })
-    told.answer (λ e. goes_on (c.put_answer.ensures.next ∙ ap next_after_answer e))
-    (λ e. subst (λ (x : Sandbox). IsHart x.cpu) c.put_answer.ensures.after (c.put_answer.ensures.hart e)))
 
 pub returns-clause-replied : goal.returns-clause-replied
 returns-clause-replied g c goes_on =
@@ -61,8 +44,9 @@ returns-clause-replied g c goes_on =
     let r = c.request_of-request.result in
     subst (λ (z : Sandbox). IsReplied g.G.Gates.answer c.args.number (slot_of m (seat_of s)) c.args.gates.now (slot_of n (seat_of z)) c.call_gate-told.new.gates c.put_answer.result) (sym c.put_answer.ensures.after)
     (replies m n s told (call_by r (bytes_in (seat_of s).bounds.data m)) c.args.number c.args.gates.now c.call_gate-told.new.gates c.put_answer.result
-    (asked_is c.args.number r m s c.request_of-request.ensures) c.call_gate-told.ensures.outside c.put_answer.ensures.next
-    g.G.Gates.answer c.requires.ready c.call_gate-told.ensures.answered goes_on)
+    (asked_is c.args.number r m s c.request_of-request.ensures) (stays_outside (seat_of s).bounds.data m n c.call_gate-told.ensures.outside) c.put_answer.ensures.next
+    g.G.Gates.answer c.requires.ready c.call_gate-told.ensures.a0 c.call_gate-told.ensures.a1 (g.met.M.Memory.in_range c.call_gate-told.new.memory)
+    (whole_of (seat_of s).bounds.data n c.call_gate-told.ensures.has_data) c.call_gate-told.ensures.answered goes_on)
 
 pub returns-clause-refused : goal.returns-clause-refused
 returns-clause-refused g c ends =
@@ -73,5 +57,5 @@ returns-clause-refused g c ends =
     let r = c.request_of-request.result in
     subst (λ (z : Sandbox). IsNotReplied g.G.Gates.may_refuse c.args.number (slot_of m (seat_of s)) c.args.gates.now (slot_of n (seat_of z)) c.call_gate-told.new.gates) (sym c.put_answer.ensures.after)
     (refuses m n s told (call_by r (bytes_in (seat_of s).bounds.data m)) c.args.number c.args.gates.now c.call_gate-told.new.gates c.put_answer.result
-    (asked_is c.args.number r m s c.request_of-request.ensures) c.call_gate-told.ensures.outside c.put_answer.ensures.next
+    (asked_is c.args.number r m s c.request_of-request.ensures) (stays_outside (seat_of s).bounds.data m n c.call_gate-told.ensures.outside) c.put_answer.ensures.next
     g.G.Gates.may_refuse c.call_gate-told.ensures.refused ends)

@@ -7,6 +7,7 @@ returns c = steps_own (record {
   agree = c.agreeing_steps_are_same.ensures;
   others = c.other_bytes_stay.ensures;
   stops = c.stopped_stays.ensures;
+  keeps = c.step_keeps_state.ensures;
   none_goes = c.no_byte_goes.ensures;
   ecalls = c.calls_are_ecalls.ensures;
   effect = c.step_is_effect.ensures;

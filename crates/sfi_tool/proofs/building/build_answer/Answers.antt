@@ -1,6 +1,6 @@
 use Rattle.std.proofs.Common.{ℕ, List, Err, sym, subst}
-use Rattle.sfi_build.specs.declared.fault.BuildFault.{BuildFault}
-use Rattle.sfi_build.specs.Texts.{IsTextBuild, IsWantOfMemory}
+use Rattle.sfi_link.specs.declared.build_fault.BuildFault.{BuildFault}
+use Rattle.sfi_link.specs.Texts.{IsTextBuild, IsWantOfMemory}
 use Rattle.sfi_tool.specs.private.Says.{AnswersStatus, StopsBuild}
 use Rattle.sfi_tool.specs.declared.fault.Stop.{Stop}
 use Rattle.sfi_tool.specs.declared.fault.Stop.TheVariants as stop

@@ -1,35 +1,84 @@
-use Rattle.std.proofs.Common.{rules, List, sym, subst}
-use Rattle.std.proofs.lemmas.List.{with_items_is}
-use Rattle.sfi_host.specs.declared.sandbox.Sandbox.{Sandbox}
-use Rattle.sfi_host.specs.Moves.{HaveMoved, HaveRun}
-use Rattle.sfi_host.specs.Sandboxes.{world_of}
-use Rattle.sfi_host.specs.Worlds.{HaveStoppedThemselves}
-use Rattle.sfi_host.proofs.Moved.{plan_runs}
+use Rattle.std.proofs.Common.{◌≡◌, ◌≢◌, ◌⊎◌, inl, inr, ℕ, List, Some, None, ◌∙◌, refl, sym, subst}
+use Rattle.std.proofs.lemmas.List.{take_all}
+use Rattle.sfi_host.specs.declared.turn.StepResult.{StepResult}
+use Rattle.sfi_host.specs.declared.turn.StepResult.TheVariants.{Continue, TurnEnds, RunEnds}
+use Rattle.sfi_host.specs.declared.turn.Turn.{Turn}
+use Rattle.sfi_host.specs.Joint.{Machine, IsMachine}
+use Rattle.sfi_host.specs.Plans.{IsJoint, IsCutJoint}
+use Rattle.sfi_host.specs.Worlds.{slots_of, StaysOutsideData}
+use Rattle.sfi_host.proofs.Continuing.{next_taken, next_cut}
+use Rattle.sfi_host.proofs.Plans.{none_joint}
+use Rattle.sfi_host.proofs.SameWorld.{outside_more, world_runs}
 use Rattle.sfi_host.proofs.Stops.{have_stopped}
+use Rattle.sfi_host.proofs.world.World.run_plan.Given as given
 use Rattle.sfi_host.proofs.world.World.run_plan.Goals as goal
 
-pub returns-clause-runs : goal.returns-clause-runs
-returns-clause-runs g c =
-    let m = g.M.Memory.bytes c.self.inside.memory in
-    let n = g.M.Memory.bytes c.take_turns.new.memory in
-    let new = c.take_turns.new.sandboxes in
-    subst (λ (l : List Sandbox). HaveRun c.args.plan.now c.args.self.now (world_of n l)) (sym (with_items_is c.self.inside.sandboxes new (search rules)))
-    (plan_runs c.moves_are_runs.ensures c.args.plan.now (world_of m c.self.inside.sandboxes.items) c.args.self.now (world_of n new) c.self.view_is c.self.invariant.0
-    (subst (λ (l : List Sandbox). HaveMoved c.args.plan.now (world_of m l) (world_of n new)) c.deref_mut.ensures.value c.take_turns.ensures.moves))
+abbrev no_turn : Turn
+no_turn = record { sandbox = 0; steps = 0 }
 
-pub returns-clause-outside : goal.returns-clause-outside
-returns-clause-outside g c =
-    let m = g.M.Memory.bytes c.self.inside.memory in
-    let n = g.M.Memory.bytes c.take_turns.new.memory in
-    let new = c.take_turns.new.sandboxes in
-    let ran : HaveRun c.args.plan.now c.args.self.now (world_of n new) =
-    plan_runs c.moves_are_runs.ensures c.args.plan.now (world_of m c.self.inside.sandboxes.items) c.args.self.now (world_of n new) c.self.view_is c.self.invariant.0
-    (subst (λ (l : List Sandbox). HaveMoved c.args.plan.now (world_of m l) (world_of n new)) c.deref_mut.ensures.value c.take_turns.ensures.moves) in
-    ran.runs.outside
+goes_on : (r : StepResult) → (r ≡ Continue) ⊎ (r ≡ TurnEnds) → r ≢ RunEnds
+goes_on r (inl f) e = let z : Continue ≡ RunEnds = sym f ∙ e in cc
+goes_on r (inr f) e = let z : TurnEnds ≡ RunEnds = sym f ∙ e in cc
+
+pub loop-place-init : goal.loop-place-init
+loop-place-init g c = record {
+  safe = c.stays_safe.ensures;
+  bounds = refl;
+  outside = λ a out. refl;
+  taken = λ machine is. none_joint machine g.G.Gates.answer (slots_of c.args.self.now) c.args.gates.now;
+}
+
+pub loop-place-preserved : goal.loop-place-preserved
+loop-place-preserved g c = record {
+  safe = c.take_turn.ensures.safe;
+  bounds = c.take_turn.ensures.bounds ∙ c.loop-place.invariant.bounds;
+  outside = outside_more c.args.self.now c.loop-place.self _ c.loop-place.invariant.bounds c.loop-place.invariant.outside c.take_turn.ensures.outside;
+  taken = λ machine is. next_taken machine g.G.Gates.answer c.args.plan.now c.loop-place.place no_turn c.loop-place-test.true (slots_of c.args.self.now) _ _ c.args.gates.now c.loop-place.gates _
+      (c.loop-place.invariant.taken machine is) (c.take_turn.ensures.whole (goes_on _ c.in-Continue.is) machine is);
+}
+
+-- ---- all turns were taken
+
+done : (g : given.Over) (c : goal.After-loop-place g) (machine : Machine) → IsMachine machine → IsJoint machine g.G.Gates.answer c.args.plan.now (slots_of c.args.self.now) c.args.gates.now (slots_of c.loop-place.self) c.loop-place.gates
+done g c machine is = subst (λ (l : List Turn). IsJoint machine g.G.Gates.answer l (slots_of c.args.self.now) c.args.gates.now (slots_of c.loop-place.self) c.loop-place.gates)
+    (take_all c.loop-place.place c.args.plan.now c.loop-place-test.false) (c.loop-place.invariant.taken machine is)
+
+pub returns-clause-done : goal.returns-clause-done
+returns-clause-done g c e machine is = done g c machine is
+
+pub returns-clause-runs : goal.returns-clause-runs
+returns-clause-runs g c machine is =
+    world_runs c.joined_moves.ensures.limited machine is g.G.Gates.answer c.args.plan.now c.args.self.now c.loop-place.self c.args.gates.now c.stays_safe.ensures
+    c.loop-place.invariant.bounds c.loop-place.invariant.outside None (done g c machine is).slots
 
 pub returns-clause-stops : goal.returns-clause-stops
-returns-clause-stops g c =
-    let n = g.M.Memory.bytes c.take_turns.new.memory in
-    let new = c.take_turns.new.sandboxes in
-    subst (λ (l : List Sandbox). HaveStoppedThemselves (world_of n l)) (sym (with_items_is c.self.inside.sandboxes new (search rules)))
-    (have_stopped (world_of n new) c.take_turns.ensures.safe)
+returns-clause-stops g c = have_stopped c.loop-place.self c.loop-place.invariant.safe
+
+-- ---- a call was refused
+
+cut : (g : given.Over) (c : goal.In-RunEnds g) (machine : Machine) → IsMachine machine
+    → IsCutJoint machine g.G.Gates.answer g.G.Gates.may_refuse c.args.plan.now (slots_of c.args.self.now) c.args.gates.now c.loop-place.place (slots_of c.take_turn.new.self) c.take_turn.new.gates
+cut g c machine is = next_cut machine g.G.Gates.answer c.args.plan.now c.loop-place.place no_turn c.loop-place-test.true (slots_of c.args.self.now) _ _ c.args.gates.now c.loop-place.gates _
+    (c.loop-place.invariant.taken machine is) g.G.Gates.may_refuse (c.in-RunEnds.ensures.refused refl machine is)
+
+left : (g : given.Over) (c : goal.In-RunEnds g) → StaysOutsideData c.args.self.now c.take_turn.new.self.bytes
+left g c = outside_more c.args.self.now c.loop-place.self _ c.loop-place.invariant.bounds c.loop-place.invariant.outside c.take_turn.ensures.outside
+
+pub returns-in-RunEnds-clause-memory : goal.returns-in-RunEnds-clause-memory
+returns-in-RunEnds-clause-memory g c place is_place machine is =
+    let same : c.loop-place.place ≡ place = cc in
+    subst (λ (n : ℕ). IsCutJoint machine g.G.Gates.answer g.G.Gates.may_refuse c.args.plan.now (slots_of c.args.self.now) c.args.gates.now n (slots_of c.take_turn.new.self) c.take_turn.new.gates) same (cut g c machine is)
+
+pub returns-in-RunEnds-clause-runs : goal.returns-in-RunEnds-clause-runs
+returns-in-RunEnds-clause-runs g c machine is =
+    let ended = cut g c machine is in (
+      ended.answered,
+      world_runs c.joined_moves.ensures.limited machine is g.G.Gates.answer c.args.plan.now c.args.self.now c.take_turn.new.self c.args.gates.now c.stays_safe.ensures
+          (c.take_turn.ensures.bounds ∙ c.loop-place.invariant.bounds) (left g c) (Some ended.answered) ended.slots,
+    )
+
+pub returns-in-RunEnds-clause-stops : goal.returns-in-RunEnds-clause-stops
+returns-in-RunEnds-clause-stops g c = have_stopped c.take_turn.new.self c.take_turn.ensures.safe
+
+pub returns-in-RunEnds-clause-outside : goal.returns-in-RunEnds-clause-outside
+returns-in-RunEnds-clause-outside g c = left g c

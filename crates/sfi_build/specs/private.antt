@@ -1,2 +1,0 @@
--- Words that private contracts and proofs alone cite: no public statement rests on them.
-pub mod Texts

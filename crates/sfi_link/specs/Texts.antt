@@ -1,0 +1,58 @@
+-- What the build of a text is, and why a text has none.
+use Rattle.std.specs.Prelude.{◌≡◌, ◌⊎◌, ℕ, List, [], Result, Ok, Err, Vec}
+use Rattle.std.specs.Global.{Global}
+use Rattle.rv_text.specs.Causes.{memory}
+use Rattle.rv_source.specs.Source.{Sandbox}
+use Rattle.rv_text.specs.Texts.{MeansSource, IsFault}
+use Rattle.sfi_image.specs.Spelling.{Part}
+use Rattle.sfi_image.specs.Images.{IsImage}
+use Rattle.sfi_scan.specs.Findings.{AreImageFindings}
+use Rattle.sfi_rewrite.specs.declared.fault.RewriteFault.TheVariants as rewriter
+use Rattle.sfi_rewrite.specs.Placement.{Placement}
+use Rattle.sfi_rewrite.specs.Faults.{IsSourceFault}
+use Rattle.sfi_rewrite.specs.Rewriting.{AreRewritten}
+use Rattle.sfi_link.specs.declared.fault.LinkFault.TheVariants as linker
+use Rattle.sfi_link.specs.declared.build_fault.BuildFault.{BuildFault}
+use Rattle.sfi_link.specs.declared.build_fault.BuildFault.TheVariants.{Text, Rewrite, Link}
+use Rattle.sfi_link.specs.Building.{IsLinkedImage}
+use Rattle.sfi_link.specs.Faults.{IsLinkFault}
+
+-- the text means a source without a fault, and the bytes are the image of its placement
+pub record IsTextBuild (text bytes : List ℕ) : Type 0 where
+  pub source : List Sandbox
+  pub means : MeansSource text source
+  pub placed : List Placement
+  pub rewritten : AreRewritten source placed
+  pub image : IsLinkedImage placed bytes
+
+-- the bytes are an image with a right layout in which no rule is broken: the checker accepts it
+pub record IsCleanImage (bytes : List ℕ) : Type 0 where
+  pub parts : List Part
+  pub image : IsImage bytes parts
+  pub none_found : AreImageFindings parts []
+
+-- the fault of the text: it means no source, or its source can't be rewritten,
+-- or what is placed can't be linked
+abbrev pub IsBuildFault : List ℕ → BuildFault → Type 0
+IsBuildFault text (Text f) = IsFault text f
+IsBuildFault text (Rewrite f) =
+    (source : List Sandbox) × MeansSource text source × IsSourceFault source f
+IsBuildFault text (Link f) =
+    (source : List Sandbox) × (placed : List Placement) × MeansSource text source
+    × AreRewritten source placed × IsLinkFault placed f
+
+-- memory ran out
+abbrev pub IsWantOfMemory : BuildFault → Type 0
+IsWantOfMemory (Text f) = f ≡ memory
+IsWantOfMemory (Rewrite f) = f ≡ rewriter.Memory
+IsWantOfMemory (Link f) = f ≡ linker.Memory
+
+-- the answer is these bytes, or memory ran out
+abbrev pub AnswersBuild : List ℕ → Result (Vec ℕ Global) BuildFault → Type 0
+AnswersBuild bytes (Ok v) = v.items ≡ bytes
+AnswersBuild bytes (Err f) = IsWantOfMemory f
+
+-- the answer is this fault, or memory ran out
+abbrev pub AnswersBuildFault : BuildFault → Result (Vec ℕ Global) BuildFault → Type 0
+AnswersBuildFault f (Ok v) = ⊥
+AnswersBuildFault f (Err g) = (g ≡ f) ⊎ IsWantOfMemory g

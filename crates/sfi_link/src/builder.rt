@@ -1,0 +1,65 @@
+//! From a text to an image.
+ghost use Rattle.std.specs.Prelude.{◌≡◌, ◌⊎◌, ◌<◌, ℕ, List, length, Err, IfOk, IfErr};
+ghost use Rattle.rv_source.specs.Source.{Sandbox};
+ghost use Rattle.rv_text.specs.Texts.{MeansSource, most_bytes, first_line};
+ghost use Rattle.rv_text.specs.declared.cause.TextCause.TheVariants.{Limit};
+ghost use Rattle.sfi_link.specs.declared.build_fault.BuildFault.{BuildFault};
+ghost use Rattle.sfi_link.specs.declared.build_fault.BuildFault.TheVariants.{Text};
+ghost use Rattle.sfi_link.specs.Building.{IsBuild};
+ghost use Rattle.sfi_link.specs.Standing.{ImageRunsAs};
+ghost use Rattle.sfi_link.specs.Texts.{IsTextBuild, IsCleanImage, IsBuildFault, IsWantOfMemory, AnswersBuild, AnswersBuildFault};
+ghost use Rattle.sfi_link.specs.private.Texts.{Builds};
+
+use crate::build_fault::BuildFault;
+use crate::laws::{linked_runs_as, one_linking};
+use crate::linker::link;
+use rv_text::laws::{
+    meant_has_no_fault, one_fault as one_text_fault, one_source, sources_are_right,
+};
+use rv_text::parse_source;
+use sfi_rewrite::laws::{never_both, one_fault as one_source_fault, one_rewriting};
+use sfi_rewrite::rewrite;
+use std::alloc::Global;
+
+// The build of the text, or its fault.
+fn build_of(alloc: Global, text: &str) -> Result<Vec<u8>, BuildFault>
+    ensures builds { Builds text.now result }
+    ensures too_long { most_bytes < length text.now → result ≡ Err (Text (first_line Limit)) }
+{
+    let source = parse_source(alloc, text)?;
+    let placed = rewrite(alloc, &source)?;
+    Ok(link(alloc, &placed)?)
+}
+
+/// Reads a source, places it and links it: the image of a text, or the first fault of the three in
+/// this order. The image has a right layout and breaks no rule, so the checker accepts it.
+pub fn build(alloc: Global, text: &str) -> Result<Vec<u8>, BuildFault>
+    // What each answer means.
+    ensures built { IfOk result (λ bytes. IsTextBuild text.now bytes.items) }
+    ensures build { (source : List Sandbox)
+        → MeansSource text.now source → IfOk result (λ bytes. IsBuild source bytes.items) }
+    ensures runs_as { (source : List Sandbox)
+        → MeansSource text.now source → IfOk result (λ bytes. ImageRunsAs source bytes.items) }
+    ensures clean { IfOk result (λ bytes. IsCleanImage bytes.items) }
+    ensures fault { IfErr result (λ f. IsWantOfMemory f ⊎ IsBuildFault text.now f) }
+
+    // Which texts get it, want of memory aside.
+    ensures only_built { (bytes : List ℕ) → IsTextBuild text.now bytes → AnswersBuild bytes result }
+    ensures only_fault { (f : BuildFault) → IsBuildFault text.now f → AnswersBuildFault f result }
+
+    // Of a text above its limit, whatever memory there is.
+    ensures too_long { most_bytes < length text.now → result ≡ Err (Text (first_line Limit)) }
+{
+    // The laws that the contract rests on: these calls do nothing.
+    one_source();
+    sources_are_right();
+    one_text_fault();
+    meant_has_no_fault();
+    one_rewriting();
+    one_source_fault();
+    never_both();
+    one_linking();
+    linked_runs_as();
+
+    build_of(alloc, text)
+}

@@ -1,0 +1,25 @@
+#!/usr/bin/env python3
+"""Runs the unit tests in the files test_*.py of a folder. The last line is `N passed, M failed`, with `, K skipped`
+if tests are skipped.
+
+    tools/unit_tests.py FOLDER
+"""
+import sys
+import unittest
+
+sys.dont_write_bytecode = True
+
+
+def main(folder):
+    result = unittest.TextTestRunner(stream=sys.stdout).run(unittest.defaultTestLoader.discover(folder))
+    failed = len(result.failures) + len(result.errors) + len(result.unexpectedSuccesses)
+    skipped = len(result.skipped)
+    for test, why in result.skipped:
+        print(f"skipped: {test.id()}: {why}")
+    passed = result.testsRun - failed - skipped
+    print(f"{passed} passed, {failed} failed" + (f", {skipped} skipped" if skipped else ""))
+    return 1 if failed else 0
+
+
+if __name__ == "__main__":
+    sys.exit(main(*sys.argv[1:]))
