@@ -2,7 +2,7 @@
 inputs_of() {
     case $1 in
     arithmetic) ls inputs/empty ;;
-    stack) ls inputs/empty inputs/stack-* ;;
+    stack | json | regex) ls inputs/empty inputs/"$1"-* ;;
     *) ls inputs/empty inputs/prose inputs/"$1"-* 2>/dev/null ;;
     esac
 }

@@ -7,6 +7,11 @@
 .option rvc
         addi sp, sp, -144
         call main
+        .option norvc
+        nop
+        nop
+        nop
+        .option rvc
         call exit_with
 take_block:
         addi sp, sp, -320
@@ -18,34 +23,46 @@ take_block:
         sw s4, 300(sp)
         sw s5, 296(sp)
         addi a7, sp, 96
-        mv a4, a6
+        .option norvc
+        add a4, zero, a6
+point..1:
+        .option rvc
+        add t0, zero, sp
+        j _.L2
 _.L2:
-        lbu a5, 0(a0)
-        lbu a2, 1(a0)
-        lbu a1, 3(a0)
-        lbu a3, 2(a0)
+        mv sp, a0
+        lbu a5, 0(sp)
+        lbu a2, 1(sp)
+        lbu a1, 3(sp)
+        lbu a3, 2(sp)
         slli a5, a5, 24
         slli a2, a2, 16
+        .option norvc
         or a5, a5, a2
         or a5, a5, a1
         slli a3, a3, 8
         or a5, a5, a3
+        .option rvc
         sw a5, 0(a4)
         addi a4, a4, 4
         addi a0, a0, 4
         bne a7, a4, _.L2
+        mv sp, t0
         lw t0, 68(sp)
         lw t5, 72(sp)
         lw t4, 76(sp)
         lw t3, 80(sp)
         lw t1, 84(sp)
         lw a2, 88(sp)
+        addi t2, a6, 196
+        .option norvc
         lw a7, 92(sp)
         lw a3, 32(sp)
         addi a1, sp, 36
-        addi t2, a6, 196
+        nop
 _.L3:
-        mv s0, a3
+        add s0, zero, a3
+        .option rvc
         lw a3, 0(a1)
         srli s2, a2, 19
         slli a4, a2, 15
@@ -67,30 +84,35 @@ _.L3:
         xor a5, a5, s1
         add a5, a5, a4
         add a5, a5, s0
-        mv a4, a7
+        add a4, zero, a7
         add a7, a5, t0
+        add t0, zero, t5
+        add t5, zero, t4
         sw a7, 60(a1)
         addi a1, a1, 4
-        mv t0, t5
-        mv t5, t4
-        mv t4, t3
-        mv t3, t1
-        mv t1, a2
-        mv a2, a4
+        add t4, zero, t3
+        add t3, zero, t1
+        add t1, zero, a2
+        add a2, zero, a4
         bne t2, a1, _.L3
+        add a1, zero, sp
         la t4, state
-        mv a1, sp
         la t5, state..plus32
-        mv a4, a1
-        mv a5, t4
+        add a4, zero, a1
+        add a5, zero, t4
 _.L4:
         lw a3, 0(a5)
+        .option norvc
         addi a5, a5, 4
         addi a4, a4, 4
+        .option rvc
         sw a3, -4(a4)
         bne t5, a5, _.L4
+        .option norvc
         lw t2, 16(sp)
         lw s0, 0(sp)
+        nop
+        .option rvc
         la a7, round_constants
         la t3, round_constants..plus256
 _.L6:
@@ -102,8 +124,8 @@ _.L6:
         or a2, a2, t1
         slli t0, t2, 7
         srli s5, t2, 25
-        lw s4, 0(a6)
         xor a2, a2, a5
+        lw s4, 0(a6)
         or t0, t0, s5
         lw a4, 0(a7)
         xor a2, a2, t0
@@ -114,10 +136,11 @@ _.L6:
         lw t0, 24(sp)
         xori s4, t2, -1
         lw s1, 8(sp)
-        and t0, s4, t0
+        and t0, t0, s4
         lw s4, 20(sp)
         slli s3, s0, 30
         slli t1, s0, 19
+        add a2, a2, a4
         srli a3, s0, 2
         srli s2, s0, 13
         or a3, a3, s3
@@ -130,34 +153,57 @@ _.L6:
         or t1, t1, s3
         and a5, a5, s0
         and a0, a0, s1
-        add a2, a2, a4
+        .option norvc
         xor a5, a5, a0
+        .option rvc
         xor a4, t0, t2
         xor a3, a3, t1
         add a3, a3, a5
         add a2, a2, a4
+        .option norvc
         addi a5, sp, 28
+point..1..n2:
+        add t2, zero, sp
+        .option rvc
+        j _.L5
 _.L5:
-        lw a4, -4(a5)
+        mv sp, a5
+        lw a4, -4(sp)
+        .option norvc
         addi a5, a5, -4
-        sw a4, 4(a5)
+        sw a4, 0(sp)
+        .option rvc
         bne a5, a1, _.L5
-        lw t2, 16(sp)
         add s0, a2, a3
+        mv sp, t2
+        lw t2, 16(sp)
         sw s0, 0(sp)
-        add t2, a2, t2
+        add t2, t2, a2
         sw t2, 16(sp)
+        .option norvc
         addi a7, a7, 4
         addi a6, a6, 4
+        .option rvc
         bne t3, a7, _.L6
+point..1..n3:
+        .option norvc
+        add s0, zero, sp
+        .option rvc
+        j _.L7
 _.L7:
-        lw a5, 0(t4)
+        mv sp, t4
+        .option norvc
+        lw a5, 0(sp)
+        .option rvc
         lw a4, 0(a1)
+        .option norvc
         addi t4, t4, 4
         addi a1, a1, 4
         add a5, a5, a4
-        sw a5, -4(t4)
+        sw a5, 0(sp)
+        .option rvc
         bne t5, t4, _.L7
+        mv sp, s0
         lw s0, 316(sp)
         lw s1, 312(sp)
         lw s2, 308(sp)
@@ -176,16 +222,26 @@ main:
         li s2, 0
         j _.L17
 _.L18:
+        .option norvc
+        nop
+        nop
+        nop
+        .option rvc
         call take_block
         addi a5, s0, 64
         sltu s0, a5, s0
-        add s2, s0, s2
-        mv s0, a5
+        .option norvc
+        add s2, s2, s0
+        add s0, zero, a5
 _.L17:
+        .option rvc
         li a1, 64
+        .option norvc
         addi a0, sp, 12
+        nop
+        .option rvc
         call get
-        mv a5, a0
+        add a5, zero, a0
         li a4, 64
         addi a0, sp, 12
         beq a5, a4, _.L18
@@ -194,10 +250,12 @@ _.L17:
         add s1, a5, s0
         add a3, a3, sp
         li a2, -128
-        sltu a6, s1, a5
         add a4, a4, s2
+        sltu a6, s1, a5
         sb a2, -132(a3)
+        .option norvc
         addi a5, a5, 1
+        .option rvc
         li a3, 56
         add s2, a6, a4
         bge a3, a5, _.L19
@@ -205,29 +263,47 @@ _.L17:
         addi s0, sp, 76
         blt a4, a5, _.L20
         addi a4, sp, 12
-        add a5, a4, a5
+        add a5, a5, a4
         addi s0, sp, 76
 _.L21:
         sb zero, 0(a5)
+        .option norvc
         addi a5, a5, 1
+        .option rvc
         bne s0, a5, _.L21
+        j _.L20
 _.L20:
+        .option norvc
         addi a0, sp, 12
+        nop
+        nop
+        .option rvc
         call take_block
         li a5, 0
+        j _.L22
 _.L22:
+        .option norvc
         addi a4, sp, 12
+        .option rvc
         add a0, a4, a5
+        .option norvc
         addi a5, sp, 68
+        nop
 _.L24:
+        .option rvc
         sb zero, 0(a0)
+        .option norvc
         addi a0, a0, 1
+        .option rvc
         bne a0, a5, _.L24
+        j _.L23
 _.L23:
         srli a5, s1, 29
         slli a6, s2, 3
-        or a6, a5, a6
+        or a6, a6, a5
+        .option norvc
         addi a1, sp, 12
+        .option rvc
         slli a5, s1, 3
         li a4, 56
         slli t3, a6, 1
@@ -238,47 +314,69 @@ _.L27:
         srl a2, a5, a4
         sll a3, t3, a3
         addi a0, a4, -32
-        or a2, a3, a2
+        .option norvc
+        or a2, a2, a3
+        .option rvc
         blt a0, zero, _.L26
         srl a2, a6, a0
+        .option norvc
+        nop
 _.L26:
+        .option rvc
         sb a2, 56(a1)
+        .option norvc
         addi a4, a4, -8
         addi a1, a1, 1
+        .option rvc
         bne a4, a7, _.L27
+        .option norvc
         addi a0, sp, 12
+        .option rvc
         call take_block
-        mv a2, s0
+        .option norvc
+        add a2, zero, s0
         li a3, 0
+        .option rvc
         la a6, _.LC0
         la a0, state
         li a1, 64
+        .option norvc
+        nop
 _.L28:
+        .option rvc
         srai a5, a3, 3
+        .option norvc
         slli a5, a5, 2
-        add a5, a0, a5
+        add a5, a5, a0
+        .option rvc
         xori a4, a3, -1
         lw a5, 0(a5)
+        .option norvc
         andi a4, a4, 7
         slli a4, a4, 2
+        .option rvc
         srl a5, a5, a4
+        .option norvc
         andi a5, a5, 15
-        add a5, a6, a5
+        add a5, a5, a6
+        .option rvc
         lbu a5, 0(a5)
         addi a3, a3, 1
         addi a2, a2, 1
         sb a5, -1(a2)
         bne a3, a1, _.L28
-        mv a0, s0
+        add a0, zero, s0
         li a5, 10
         li a1, 65
         sb a5, 140(sp)
         call put
+        .option norvc
         lw ra, 156(sp)
         lw s0, 152(sp)
         lw s1, 148(sp)
         lw s2, 144(sp)
         li a0, 0
+        .option rvc
         addi sp, sp, 160
         jr ra
 _.L19:

@@ -7,6 +7,11 @@
 .option rvc
         addi sp, sp, -32
         call main
+        .option norvc
+        nop
+        nop
+        nop
+        .option rvc
         call exit_with
 ascending:
         slt a0, a0, a1
@@ -22,7 +27,7 @@ sift.constprop.0:
         la s4, numbers
         add a3, s4, s2
         sw s1, 52(sp)
-        mv s1, a1
+        add s1, zero, a1
         lw a1, 0(a3)
         slli a4, a0, 1
         sw s7, 28(sp)
@@ -34,54 +39,83 @@ sift.constprop.0:
         addi s7, a4, 1
         sw a1, 12(sp)
         bge s7, s1, _.L5
-        mv a5, a0
-        mv s3, a2
+        add a5, zero, a0
+        .option norvc
+        add s3, zero, a2
 _.L9:
         addi a4, a4, 2
         addi a5, a5, 1
+        .option rvc
         slli a3, a4, 2
         slli s5, s7, 2
+        .option norvc
         slli a5, a5, 1
+        .option rvc
         add s6, s4, a3
-        add s5, s4, s5
+        .option norvc
+        add s5, s5, s4
+        .option rvc
         blt a5, s1, _.L15
 _.L6:
-        mv s0, s7
+        .option norvc
+        add s0, zero, s7
+        .option rvc
+        j _.L8
 _.L8:
         lw a1, 0(s5)
+        .option norvc
         lw a0, 12(sp)
+        nop
+        .option rvc
         jalr ra, 0(s3)
         slli a4, s0, 1
         addi s7, a4, 1
-        mv a5, s0
+        .option norvc
+        add a5, zero, s0
+        .option rvc
         add a3, s4, s2
         beq a0, zero, _.L5
         lw a2, 0(s5)
         slli s2, s0, 2
         sw a2, 0(a3)
         blt s7, s1, _.L9
-        mv a3, s5
+        add a3, zero, s5
+        j _.L5
 _.L5:
+        .option norvc
         lw a5, 12(sp)
         lw ra, 60(sp)
         lw s0, 56(sp)
+        nop
+        .option rvc
         sw a5, 0(a3)
         lw s1, 52(sp)
         lw s2, 48(sp)
         lw s3, 44(sp)
         lw s4, 40(sp)
+        .option norvc
         lw s5, 36(sp)
         lw s6, 32(sp)
         lw s7, 28(sp)
+        .option rvc
         addi sp, sp, 64
+        .option norvc
+        nop
+        .option rvc
         jr ra
 _.L15:
         lw a1, 0(s6)
+        .option norvc
+        add s0, zero, a4
+        .option rvc
         lw a0, 0(s5)
-        mv s0, a4
+        .option norvc
+        nop
+        nop
+        .option rvc
         jalr ra, 0(s3)
         beq a0, zero, _.L6
-        mv s5, s6
+        add s5, zero, s6
         j _.L8
 main:
         addi sp, sp, -64
@@ -94,37 +128,45 @@ main:
         sw s5, 36(sp)
         li s0, 0
         la s2, text
-        li s1, 65536
+        lui s1, 16
         j _.L17
 _.L19:
         add s0, s0, a0
-        bge s0, s1, _.L18
+        blt s0, s1, _.L17
+        j _.L18
 _.L17:
         sub a1, s1, s0
         add a0, s2, s0
+        .option norvc
+        nop
+        .option rvc
         call get
         blt zero, a0, _.L19
+        j _.L18
 _.L18:
         add a0, s2, s0
         bgeu s2, a0, _.L20
         la s1, ascending
-        li s0, 0
         la a4, text
         li a7, 100
         la t3, descending
-        li a6, 9
         li t4, 45
         la t1, numbers
-        li t5, 4096
+        .option norvc
+        li s0, 0
+        li a6, 9
+        lui t5, 1
+        nop
 _.L30:
+        .option rvc
         lbu t0, 0(a4)
         addi a5, t0, -45
         sltiu a3, a5, 1
         add a4, a4, a3
         beq t0, a7, _.L47
         bgeu a4, a0, _.L21
-        lbu a3, 0(a4)
         li a2, 0
+        lbu a3, 0(a4)
         addi a3, a3, -48
         andi a3, a3, 255
         bgeu a6, a3, _.L22
@@ -132,87 +174,125 @@ _.L30:
 _.L26:
         addi a4, a4, 1
         add a2, a1, a5
-        beq a0, a4, _.L25
+        bne a0, a4, _.L22
+        j _.L25
 _.L22:
         lbu a1, 0(a4)
         slli a5, a2, 2
+        .option norvc
         add a5, a5, a2
+        .option rvc
         addi a3, a1, -48
+        .option norvc
         slli a5, a5, 1
+        .option rvc
         andi a3, a3, 255
         addi a5, a5, -48
         bgeu a6, a3, _.L26
+        .option norvc
+        nop
+        nop
 _.L25:
+        .option rvc
         bne t0, t4, _.L28
         sub a2, zero, a2
+        .option norvc
+        nop
+        nop
 _.L28:
+        .option rvc
         slli a5, s0, 2
-        add a5, t1, a5
-        sw a2, 0(a5)
+        .option norvc
+        add a5, a5, t1
         addi s0, s0, 1
-        mv s3, t1
+        add s3, zero, t1
+        .option rvc
+        sw a2, 0(a5)
         bgeu a4, a0, _.L24
         bne s0, t5, _.L30
         li s2, 2047
+        .option norvc
+        nop
+        nop
 _.L29:
+        .option rvc
         li s4, -1
+        j _.L32
 _.L32:
-        mv a0, s2
-        mv a2, s1
+        add a0, zero, s2
+        add a2, zero, s1
+        .option norvc
         addi s2, s2, -1
-        mv a1, s0
+        add a1, zero, s0
+        .option rvc
         call sift.constprop.0
         bne s2, s4, _.L32
         addi s2, s0, -1
         slli s2, s2, 2
         add s2, s2, s3
-        mv s4, s0
+        add s4, zero, s0
         li s5, 1
 _.L33:
-        lw a4, 0(s3)
-        lw a5, 0(s2)
+        lw a4, 20(zero)
         addi s4, s4, -1
+        add a2, zero, s1
+        lw a5, 0(s2)
+        .option norvc
+        add a1, zero, s4
+        .option rvc
         sw a4, 0(s2)
-        mv a2, s1
-        mv a1, s4
         li a0, 0
-        sw a5, 0(s3)
         addi s2, s2, -4
+        sw a5, 20(zero)
         call sift.constprop.0
         bne s4, s5, _.L33
+        j _.L34
 _.L34:
-        li a5, -858992640
+        lui a5, 838861
         slli s1, s0, 2
+        .option norvc
         add s1, s1, s3
+        .option rvc
         la s4, numbers
         addi s2, a5, -819
         addi s3, a5, -820
+        .option norvc
+        nop
 _.L45:
+        .option rvc
         lw a3, 0(s4)
         srai a7, a3, 31
-        mv t4, a7
+        .option norvc
+        add t4, zero, a7
+        .option rvc
         bge a7, zero, _.L35
         sltu a5, zero, a3
         sub t4, zero, a7
         sub t4, t4, a5
         sub a3, zero, a3
+        .option norvc
+        nop
+        nop
 _.L35:
+        .option rvc
         addi a2, sp, 31
+        .option norvc
         li a0, 24
         li a6, 5
+        nop
 _.L57:
+        .option rvc
         add a5, a3, t4
         sltu a4, a5, a3
         add a5, a5, a4
         remu a5, a5, a6
-        mv a1, t4
+        add a1, zero, t4
         addi a2, a2, -1
-        mv t1, a3
-        mv t3, a0
-        addi a0, a0, -1
+        add t1, zero, a3
         sub a5, a3, a5
         sltu a4, a3, a5
         sub a4, t4, a4
+        add t3, zero, a0
         mul t5, a5, s3
         mul a4, a4, s2
         mulhu t4, a5, s2
@@ -222,34 +302,42 @@ _.L57:
         slli t5, a4, 31
         srli t4, a4, 1
         srli a5, a5, 1
-        or a5, t5, a5
+        or a5, a5, t5
         slli a4, a5, 2
         add a4, a4, a5
         slli a4, a4, 1
         sub a4, a3, a4
         addi a4, a4, 48
         sb a4, 1(a2)
-        mv a3, a5
+        addi a0, a0, -1
+        add a3, zero, a5
         bne a1, zero, _.L57
+        .option norvc
         li a5, 9
+        .option rvc
         bltu a5, t1, _.L57
         bge a7, zero, _.L43
         addi a5, t3, 30
+        .option norvc
         add a5, a5, sp
+        .option rvc
         li a4, 45
         addi a0, t3, -2
         sb a4, -24(a5)
 _.L43:
         addi a5, sp, 8
         li a1, 24
+        .option norvc
         sub a1, a1, a0
-        add a0, a5, a0
+        add a0, a0, a5
+        .option rvc
         call put
         addi s4, s4, 4
         li a1, 1
         la a0, _.LC0
         call put
         bne s1, s4, _.L45
+        j _.L46
 _.L46:
         lw ra, 60(sp)
         andi a0, s0, 255
@@ -258,23 +346,33 @@ _.L46:
         lw s2, 48(sp)
         lw s3, 44(sp)
         lw s4, 40(sp)
+        .option norvc
         lw s5, 36(sp)
+        .option rvc
         addi sp, sp, 64
         jr ra
 _.L47:
-        mv s1, t3
+        add s1, zero, t3
+        j _.L21
 _.L21:
         sltu a5, zero, a5
+        .option norvc
         add a4, a4, a5
+        .option rvc
         bltu a4, a0, _.L30
+        .option norvc
+        nop
 _.L24:
+        .option rvc
         srai a5, s0, 1
         addi s2, a5, -1
         beq a5, zero, _.L31
         la s3, numbers
         j _.L29
 _.L31:
+        .option norvc
         li a5, 1
+        .option rvc
         la s3, numbers
         beq s0, a5, _.L34
 _.L20:

@@ -12,6 +12,7 @@ import os
 import sys
 
 from conversion import GATES, MAIN, Options, convert
+from improving import PASSES
 from layout import SMALLEST_DATA
 from naming import is_name
 from sections import LARGEST_DATA
@@ -57,6 +58,13 @@ def count(text):
     return int(text)
 
 
+def passes(text):
+    names = tuple(name for name in text.split(",") if name)
+    if not set(names) <= set(PASSES):
+        raise argparse.ArgumentTypeError(f"{text!r} isn't a list of {', '.join(PASSES)}")
+    return names
+
+
 def parsed(words):
     parser = argparse.ArgumentParser(prog="asm2sfi", description=__doc__.split("\n")[0])
     parser.add_argument("files", nargs="+", metavar="FILE", help="assembly of gcc or clang")
@@ -67,6 +75,8 @@ def parsed(words):
     parser.add_argument("--gate", type=gate, action=Gates, default={}, metavar="NAME=SERVICE",
                         help="a function that is a gate, beside get, put, exit_with and yield_turn")
     parser.add_argument("--no-runtime", action="store_true", help="without memcpy, __udivdi3 and the like")
+    parser.add_argument("--passes", type=passes, default=PASSES, metavar="NAMES",
+                        help=f"the passes that make the code cheaper; {','.join(PASSES)} if absent")
     return parser.parse_args(words)
 
 
@@ -88,7 +98,7 @@ def print_source(source):
 
 def main():
     arguments = parsed(sys.argv[1:])
-    options = Options(arguments.format, arguments.data, arguments.stack, arguments.gate)
+    options = Options(arguments.format, arguments.data, arguments.stack, arguments.gate, arguments.passes)
     try:
         texts = [read_file(path) for path in arguments.files]
         library = [] if arguments.no_runtime else [read_file(RUNTIME)]

@@ -2,11 +2,11 @@
 from dataclasses import dataclass, field
 
 from assembly import Refused
+from improving import PASSES, improved
 from layout import DataLayout, checked_size, margins
 from linking import Gate, link
 from naming import Names
 from program import START, CodeWriter
-from reach import with_far_branches
 from reading import read_unit
 from writing import source_text
 
@@ -21,6 +21,7 @@ class Options:
     data: int = None  # the data region's bytes; the least that does if absent
     stack: int = 8192
     gates: dict = field(default_factory=dict)
+    passes: tuple = PASSES
 
 
 def read_units(texts):
@@ -53,7 +54,7 @@ def written(linked, options, texts):
     code = writer.program(MAIN, leave, room.above)
     if writer.refusals:
         return "", writer.refusals
-    code = with_far_branches(code, names)
+    code = improved(code, options.passes, options.image_format, layout, names)
     size = checked_size(layout, room.above + options.stack, options.data, START)
     return source_text(header(texts), options.image_format, gates, size, code, layout), []
 

@@ -12,6 +12,9 @@ class Op:
     word: str
     operands: tuple
     place: object
+    wide: bool = False  # it has 32 bits, also where it has a 16-bit form
+    pointed: bool = False  # it is an access on `sp` that points elsewhere than to the stack
+    is_mark = False
 
     def symbols(self):
         return [operand for operand in self.operands if isinstance(operand, Symbol)]

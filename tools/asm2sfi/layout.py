@@ -12,6 +12,7 @@ from sections import LARGEST_DATA
 
 SMALLEST_DATA = 256
 FRAME_ALIGNMENT = 16
+SMALL = 64  # bytes of a section
 
 
 @dataclass(frozen=True)
@@ -35,12 +36,16 @@ def rounded(count):
 
 
 class DataLayout:
-    """The data sections one after another, after the room below them: first those with content, and then those of
-    zeros, the largest last, so that the most zeros are left to the region's own."""
+    """The data sections one after another, after the room below them: first the small ones, which are cheap to reach at
+    the region's beginning, then those with content, and then those of zeros, the largest last, so that the most zeros
+    are left to the region's own."""
 
     def __init__(self, sections, below=0):
-        filled = [section for section in sections if not section.is_zero()]
-        zeros = sorted((section for section in sections if section.is_zero()), key=lambda section: len(section.content))
+        small = [section for section in sections if len(section.content) <= SMALL]
+        large = [section for section in sections if len(section.content) > SMALL]
+        filled = sorted(small, key=lambda section: (section.is_zero(), -section.alignment))
+        filled += [section for section in large if not section.is_zero()]
+        zeros = sorted((section for section in large if section.is_zero()), key=lambda section: len(section.content))
         self.starts = {}
         self.chunks = []
         self.labels = {}  # by offset, the labels that code and addresses speak of

@@ -13,8 +13,10 @@ REACH = 2047
 
 @dataclass(frozen=True)
 class Mark:
-    """A label in the code."""
+    """A label in the code. Compilers begin the names of those inside a function with a point."""
     name: str
+    inside: bool = False
+    is_mark = True
 
 
 class CodeWriter:
@@ -60,7 +62,7 @@ class CodeWriter:
         for position in range(len(section.ops) + 1):
             for name in marks.get(position, []):
                 found, _ = self.linked.symbols.find(index, name, START)
-                yield Mark(self.names.of(found))
+                yield Mark(self.names.of(found), name.startswith("."))
             if position < len(section.ops):
                 yield self.named(index, section.ops[position])
 
@@ -94,4 +96,4 @@ class CodeWriter:
         code = list(self.start(main, leave, above))
         for index, section in self.linked.code():
             code += self.section(index, section)
-        return [piece for piece in code if not isinstance(piece, Mark) or piece.name in self.wanted]
+        return [piece for piece in code if not piece.is_mark or piece.name in self.wanted]

@@ -8,12 +8,10 @@ import unittest
 
 from assembly import Label, Place, Refused, Statement, read_assembly
 from conversion import Options, convert
-from instructions import Converter, Op
+from instructions import Converter
 from naming import Names
 from operands import Symbol
 from reading import read_unit, string_bytes
-from reach import FARTHEST, far_branches, with_far_branches
-from program import Mark
 
 HERE = Place("a.s", 1)
 
@@ -25,8 +23,8 @@ def converted(line):
 
 
 def source(text, library="", **options):
-    """The source of a program of one file; it must not be refused."""
-    result, refusals = convert([("a.s", text)], [("lib.s", library)], Options(**options))
+    """The source of a program of one file, without passes; it must not be refused."""
+    result, refusals = convert([("a.s", text)], [("lib.s", library)], Options(passes=(), **options))
     assert not refusals, refusals
     return result
 
@@ -320,22 +318,6 @@ class Naming(unittest.TestCase):
         first, second = names.fresh("a" * 70), names.fresh("a" * 71)
         self.assertEqual((len(first), len(second), first == second), (64, 64, False))
         self.assertEqual(names.fresh("put"), "put..n2")
-
-
-class Reach(unittest.TestCase):
-    @staticmethod
-    def loop(count):
-        """A loop of so many loads, which take 12 of the 16 bytes of a bundle each."""
-        loads = [Op("lw", ("a0", "0(a0)"), HERE)] * count
-        return [Mark("top"), *loads, Op("bnez", ("a0", "top"), HERE)]
-
-    def test_near(self):
-        self.assertEqual(far_branches(self.loop(FARTHEST // 16)), set())
-
-    def test_far(self):
-        code = with_far_branches(self.loop(FARTHEST // 16 + 1), Names([]))
-        self.assertEqual(code[-3:], [
-            Op("beqz", ("a0", "over..1"), HERE), Op("j", ("top",), HERE), Mark("over..1")])
 
 
 class CommandLine(unittest.TestCase):

@@ -1,0 +1,76 @@
+"""Where `sfi build` places each instruction, and branches that don't reach their labels.
+
+A branch reaches from 4096 bytes before it to 4094 after it. One that doesn't is inverted, over a
+jump. A text is right in both formats, so each branch reaches in both."""
+from dataclasses import replace
+
+from control import INVERSE, is_branch, is_call, labels_of
+from instructions import Op
+from program import Mark
+from sizes import BUNDLE, expansions
+
+NEAREST, FARTHEST = -4096, 4094
+FORMATS = (1, 2)
+
+
+def next_bundle(place):
+    return place + -place % BUNDLE
+
+
+def pass_op(op, place, image_format):
+    """The places where an instruction's first expansion begins and where its last one ends. Each
+    stands in one bundle, and a call's ends its bundle."""
+    first = None
+    for sizes in expansions(op, image_format):
+        size = sizes[0]
+        if place % BUNDLE + size > BUNDLE:
+            place = next_bundle(place)
+        if is_call(op):
+            place = next_bundle(place + size) - size
+        first = place if first is None else first
+        place += size
+    return first, place
+
+
+def places(code, image_format):
+    """The place of each piece, from the place of the first. A label begins a bundle."""
+    found, end = [], 0
+    for piece in code:
+        if piece.is_mark:
+            start = end = next_bundle(end)
+        else:
+            start, end = pass_op(piece, end, image_format)
+        found.append(start)
+    return found
+
+
+def far_branches(code):
+    """The numbers of the branches that don't reach their labels in one of the formats."""
+    found, at = set(), labels_of(code)
+    for image_format in FORMATS:
+        place = places(code, image_format)
+        for number, piece in enumerate(code):
+            target = None if piece.is_mark or not is_branch(piece) else at.get(piece.operands[-1])
+            if target is not None and not NEAREST <= place[target] - place[number] <= FARTHEST:
+                found.add(number)
+    return found
+
+
+def inverted(op, target):
+    """The branch that goes to the target where the given one goes on."""
+    return replace(op, word=INVERSE[op.word], operands=(*op.operands[:-1], target))
+
+
+def over_jump(op, names):
+    """A far branch as a branch over a jump."""
+    over = names.fresh("over..1")
+    return [inverted(op, over), Op("j", op.operands[-1:], op.place), Mark(over, True)]
+
+
+def with_near_branches(code, names):
+    """The code in which each branch reaches its label. Each jump lengthens the code, so it's
+    looked at again."""
+    while far := far_branches(code):
+        code = [piece for number, old in enumerate(code)
+                for piece in (over_jump(old, names) if number in far else [old])]
+    return code

@@ -1,0 +1,100 @@
+#!/usr/bin/env python3
+"""Compares random C programs in sandboxes with the same programs compiled natively.
+
+    [SFI=PATH] [SEED=N] [COUNT=N] python3 tools/asm2sfi/test_random.py
+
+Each program goes through gcc at -O0 to -O3 and, where it is there, through clang at -O2, then
+through the tool with all its passes, and runs in both formats. New programs are tried for some
+25 seconds. The seed is printed: SEED=N in the environment takes the same programs again, and
+COUNT=N so many of them. Where a compiler isn't there the test is skipped."""
+import os
+import random
+import shutil
+import subprocess
+import tempfile
+import time
+import unittest
+
+from conversion import Options, convert
+from random_c import Program
+
+HERE = os.path.dirname(os.path.abspath(__file__))
+TOP = os.path.dirname(os.path.dirname(HERE))
+EXAMPLES = os.path.join(TOP, "examples", "c")
+SFI = os.environ.get("SFI", os.path.join(TOP, "crates", "sfi", "out", "sfi"))
+SEED = int(os.environ.get("SEED", random.randrange(10 ** 6)))
+COUNT = int(os.environ.get("COUNT", 0))
+SECONDS = 25
+STACK = 1 << 19  # the programs call themselves some hundred times
+GCC, CLANG, LLC, NATIVE = "riscv64-unknown-elf-gcc", "clang", "llc", "gcc"
+COMMON = ["-march=rv32imc", "-mabi=ilp32", "-ffreestanding", "-fno-builtin", "-fno-jump-tables", "-ffunction-sections",
+          "-fdata-sections", "-I", EXAMPLES]
+OWN = [f"-ffixed-x{number}" for number in (24, 25, 26, 27, 31)]
+GCC_WAYS = [["-O0"], ["-O1"], ["-O2", "-fno-section-anchors", "-mno-explicit-relocs"], ["-O3", "-funroll-loops"]]
+RESERVED = ",".join(f"+reserve-x{number}" for number in (24, 25, 26, 27, 31))
+
+
+def run(*words, data=None):
+    return subprocess.run(words, input=data, stdout=subprocess.PIPE, stderr=subprocess.PIPE, check=False)
+
+
+def native_answer(path, folder):
+    """The exit code and the output of the program as the machine's own compiler makes it, in the
+    words of `sfi run`."""
+    program = os.path.join(folder, "native")
+    words = [NATIVE, "-O1", "-w", "-fno-builtin", "-I", EXAMPLES, "-o", program, path, os.path.join(EXAMPLES, "native_gates.c")]
+    subprocess.run(words, check=True)
+    done = run(program)
+    return f"exit={done.returncode} out={done.stdout.hex()}"
+
+
+def assemblies(path, folder):
+    """What each compiler makes of a program, with its words."""
+    for way in GCC_WAYS:
+        done = run(GCC, "-S", "-w", *way, *COMMON, *OWN, "-o", "-", path)
+        yield "gcc " + " ".join(way), done.stdout.decode()
+    if shutil.which(CLANG) and shutil.which(LLC):
+        middle = os.path.join(folder, "middle.ll")
+        run(CLANG, "-S", "-w", "-emit-llvm", "-O2", "--target=riscv32-unknown-elf", *COMMON, "-o", middle, path)
+        done = run(LLC, "-O2", "-march=riscv32", "-target-abi=ilp32", "--function-sections", "--data-sections",
+                   f"-mattr=+m,+c,{RESERVED}", "-o", "-", middle)
+        yield "clang -O2", done.stdout.decode()
+
+
+def sandboxed_answer(assembly, library, image_format):
+    source, refusals = convert([("random.asm", assembly)], library, Options(image_format, stack=STACK))
+    if refusals:
+        return str(refusals[0])
+    image = run(SFI, "build", data=source.encode())
+    done = run(SFI, "run", "--rounds", "100", "--quantum", "1000000", data=image.stdout)
+    words = (image.stdout if image.returncode else done.stdout).decode().split()
+    return " ".join(word for word in words if not word.startswith(("sandbox=", "steps=")))
+
+
+@unittest.skipUnless(os.access(SFI, os.X_OK), f"{SFI} isn't built")
+@unittest.skipUnless(shutil.which(GCC) and shutil.which(NATIVE), f"{GCC} or {NATIVE} isn't there")
+class RandomPrograms(unittest.TestCase):
+    def test_answers(self):
+        print(f"SEED={SEED}", flush=True)
+        with open(os.path.join(HERE, "runtime.asm"), encoding="utf-8") as file:
+            library = [("runtime.asm", file.read())]
+        start, number = time.monotonic(), 0
+        with tempfile.TemporaryDirectory() as folder:
+            while number < COUNT if COUNT else time.monotonic() - start < SECONDS:
+                self.compare(SEED + number, library, folder)
+                number += 1
+        print(f"{number} programs", flush=True)
+
+    def compare(self, seed, library, folder):
+        path = os.path.join(folder, "random.c")
+        with open(path, "w", encoding="utf-8") as file:
+            file.write(Program(seed).text())
+        wanted = native_answer(path, folder)
+        for way, assembly in assemblies(path, folder):
+            for image_format in (1, 2):
+                found = sandboxed_answer(assembly, library, image_format)
+                self.assertEqual(found, wanted, f"SEED={seed}, {way}, format {image_format}")
+
+
+if __name__ == "__main__":
+    unittest.main()
