@@ -1,0 +1,121 @@
+/* The serial line, and the lines of `sfi run` on it. */
+#include "host.h"
+#include "machine.h"
+
+static volatile uint8_t *uart = (volatile uint8_t *)UART_DEVICE;
+static volatile uint32_t *finisher = (volatile uint32_t *)FINISHER_DEVICE;
+
+void console_is_paged(void) {
+    uart = (volatile uint8_t *)UART;
+    finisher = (volatile uint32_t *)FINISHER;
+}
+
+static void send(char byte) {
+    while (!(uart[UART_STATUS] & UART_IS_EMPTY)) {
+    }
+    uart[UART_TRANSMIT] = byte;
+}
+
+void print(const char *text) {
+    while (*text)
+        send(*text++);
+}
+
+void print_hex(uint32_t number, unsigned digits) {
+    while (digits-- > 0)
+        send("0123456789abcdef"[number >> 4 * digits & 15]);
+}
+
+void print_decimal(uint64_t number) {
+    if (number > 9)
+        print_decimal(number / 10);
+    send('0' + number % 10);
+}
+
+_Noreturn static void end(uint32_t how) {
+    for (;;)
+        *finisher = how;
+}
+
+void finish(void) {
+    end(FINISH_PASSED);
+}
+
+static const char *const refusal = "device: ";
+
+void refuse(const char *reason) {
+    print(refusal);
+    print(reason);
+    print("\n");
+    end(2 << 16 | FINISH_FAILED);
+}
+
+void refuse_sandbox(uint32_t number, const char *reason) {
+    print(refusal);
+    print("sandbox ");
+    print_decimal(number);
+    print(": ");
+    print(reason);
+    print("\n");
+    end(2 << 16 | FINISH_FAILED);
+}
+
+/* A trap of the host itself: start.S and switch.S come here. */
+void host_fault(uint32_t cause, uint32_t pc) {
+    print("device: a fault of the host, cause ");
+    print_hex(cause, 8);
+    print(" at ");
+    print_hex(pc, 8);
+    print("\n");
+    end(3 << 16 | FINISH_FAILED);
+}
+
+static void print_state(const struct sandbox *sandbox) {
+    switch (sandbox->state) {
+    case READY:
+        print("ready");
+        break;
+    case EXITED:
+        print("exit=");
+        print_decimal(sandbox->exit_code);
+        break;
+    case TRAPPED:
+        print("trap=");
+        print(sandbox->trap);
+        print(" at=");
+        print_hex(sandbox->trap_address, 8);
+    }
+}
+
+/* The data bytes that aren't what the image gave, each with its address. */
+static void print_written(const struct part *part) {
+    const char *before = " written=";
+    for (uint32_t offset = 0; offset < part->data_size; offset++) {
+        uint8_t byte = *(const uint8_t *)(part->data_base + offset);
+        if (byte == (offset < part->first_count ? part->first[offset] : 0))
+            continue;
+        print(before);
+        print_hex(part->data_base + offset, 8);
+        print(":");
+        print_hex(byte, 2);
+        before = ",";
+    }
+}
+
+void print_sandbox(const struct world *world, uint32_t number) {
+    const struct sandbox *sandbox = &world->sandboxes[number];
+    print("sandbox=");
+    print_decimal(number);
+    print(" ");
+    print_state(sandbox);
+    if (world->arguments->prints_steps) {
+        print(" steps=");
+        print_decimal(sandbox->steps);
+    }
+    print(" out=");
+    for (uint32_t k = 0; k < sandbox->output_length; k++)
+        print_hex(sandbox->output[k], 2);
+    if (world->arguments->prints_written)
+        print_written(&sandbox->part);
+    print("\n");
+}

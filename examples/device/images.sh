@@ -1,0 +1,52 @@
+# Images by hand, for test.sh: code that the GNU assembler makes, so that it needn't be code that
+# `sfi build` would make. They want $room, a folder for what is made on the way.
+
+words() { # numbers, little-endian
+    local number
+    for number; do
+        printf '%02x%02x%02x%02x' $((number & 255)) $((number >> 8 & 255)) $((number >> 16 & 255)) $((number >> 24 & 255))
+    done
+}
+
+# Assembly on standard input, which has `gate`, the stub of a gate, and `masked register, address`,
+# the pair of an access. Prints the code, filled up with ebreak to a power of two.
+assemble() { # code base
+    local text size
+    {
+        printf '.option norvc\n.macro gate\n ecall\n and x31, x1, x25\n or x31, x31, x24\n jalr x0, 0(x31)\n.endm\n'
+        printf '.macro masked register, address\n and \\register, \\address, x27\n or \\register, \\register, x26\n.endm\n'
+        cat
+        printf '.option rvc\n.balign 16\n'
+    } >"$room/code.S"
+    riscv64-unknown-elf-gcc -nostdlib -march=rv32imc_zicsr -mabi=ilp32 -mno-relax -Wl,--no-relax,-Ttext="$1",-e0 \
+        "$room/code.S" -o "$room/code.elf" || return
+    riscv64-unknown-elf-objcopy -O binary -j .text "$room/code.elf" "$room/code.bin" || return
+    text=$(xxd -p "$room/code.bin" | tr -d '\n')
+    size=256
+    while [ $((2 * size)) -lt ${#text} ]; do size=$((2 * size)); done
+    printf %s "$text"
+    while [ ${#text} -lt $((2 * size)) ]; do
+        printf 73001000
+        text+=73001000
+    done
+}
+
+# One sandbox of an image; its start is after its gates, which are its first bundles.
+# Its arguments: code base, data base, data size, services of its gates, first data bytes in hexadecimal.
+sandbox() { # assembly on standard input
+    local code service place=$1 gates=()
+    code=$(assemble "$1")
+    for service in $4; do
+        gates+=("$place" "$service")
+        place=$((place + 16))
+    done
+    words "$1" $((${#code} / 2)) "$2" "$3" "$place" $((${#gates[@]} / 2)) $((${#5} / 2))
+    words ${gates[@]+"${gates[@]}"}
+    printf '%s%s' "$code" "$5"
+}
+
+image() { # format, how many sandboxes; the sandboxes on standard input
+    printf '5346493%s' "$1"
+    words "$2"
+    cat
+}

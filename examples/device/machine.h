@@ -1,0 +1,82 @@
+/* The machine: QEMU's `virt` with 256 MiB, and what the manuals say of RV32. Chapters are those of
+   the RISC-V privileged manual (volume II), unless another is named. C and assembly read this file,
+   so it has macros alone. */
+#ifndef MACHINE_H
+#define MACHINE_H
+
+/* ---- QEMU's devices and memory: hw/riscv/virt.c, virt_memmap */
+#define UART_DEVICE     0x10000000      /* a 16550A */
+#define UART_TRANSMIT   0               /* register: a byte stored here is sent */
+#define UART_STATUS     5               /* register: the line's status */
+#define UART_IS_EMPTY   0x20            /* in it: the next byte can be stored */
+#define FINISHER_DEVICE 0x00100000      /* a word stored at SiFive's test device ends QEMU */
+#define FINISH_PASSED   0x5555          /* with status 0 */
+#define FINISH_FAILED   0x3333          /* with the status in the upper 16 bits */
+#define CLOCK_TICK_NS   100             /* a tick of `time` */
+#define RAM             0x80000000
+
+/* ---- Where the loader keeps things there; run.sh writes the same addresses */
+#define ARGUMENTS       0x87fff000      /* struct arguments; the pool of pages ends here */
+#define IMAGE           0x88000000
+#define INPUT           0x8c000000
+/* Once there is a page table the two devices are here: the UART's own address is that of the
+   sixteenth sandbox. */
+#define UART            0x90000000
+#define FINISHER        0x90001000
+#define HOST_END        0x90002000      /* the host's addresses are those from RAM to here */
+
+/* ---- Machine-Level ISA, "Machine Cause Register"; Supervisor-Level ISA, "Supervisor Cause Register" */
+#define CAUSE_FETCH_MISALIGNED  0
+#define CAUSE_FETCH_ACCESS      1
+#define CAUSE_ILLEGAL           2
+#define CAUSE_BREAKPOINT        3
+#define CAUSE_LOAD_MISALIGNED   4
+#define CAUSE_LOAD_ACCESS       5
+#define CAUSE_STORE_MISALIGNED  6
+#define CAUSE_STORE_ACCESS      7
+#define CAUSE_ECALL_FROM_S      9
+#define CAUSE_FETCH_PAGE        12
+#define CAUSE_LOAD_PAGE         13
+#define CAUSE_STORE_PAGE        15
+#define CAUSE_TIMER             (1u << 31 | 5)
+
+/* ---- Machine-Level ISA: mstatus, and the upper half of menvcfg, whose STCE turns on stimecmp */
+#define MSTATUS_MPP             (3 << 11)
+#define MSTATUS_MPP_SUPERVISOR  (1 << 11)
+#define MENVCFGH                0x31a
+#define MENVCFGH_STCE           (1 << 31)
+
+/* ---- Supervisor-Level ISA: sstatus, sie, satp */
+#define SSTATUS_SPIE            (1 << 5)        /* interrupts are on after sret */
+#define SSTATUS_SPP             (1 << 8)        /* sret stays in S-mode */
+#define SIE_STIE                (1 << 5)        /* the timer may interrupt */
+#define SATP_SV32               (1u << 31)
+
+/* ---- "Sstc": the timer interrupts once `time` reaches this */
+#define STIMECMP                0x14d
+#define STIMECMPH               0x15d
+
+/* ---- Supervisor-Level ISA, "Sv32": an entry of a page table. PTE_X alone: executed, not read */
+#define PAGE                    4096
+#define MEGAPAGE                (1 << 22)
+#define PTE_V                   1
+#define PTE_R                   2
+#define PTE_W                   4
+#define PTE_X                   8
+#define PTE_ACCESSED            0x40
+#define PTE_DIRTY               0x80
+
+/* ---- Machine-Level ISA, "Physical Memory Protection": a byte of pmpcfg */
+#define PMP_ENTRIES             16
+#define PMP_R                   1
+#define PMP_W                   2
+#define PMP_X                   4
+#define PMP_NAPOT               (3 << 3)        /* a power of two of addresses, aligned to it */
+
+/* ---- struct frame of host.h: offsets for switch.S */
+#define FRAME_PC                128
+#define FRAME_HOST_STACK        132
+#define FRAME_BEFORE            136
+#define FRAME_AFTER             140
+
+#endif

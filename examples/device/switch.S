@@ -1,0 +1,66 @@
+# The way into a sandbox and back. A sandbox may leave anything in its registers, so the host finds
+# its own by sscratch, which no accepted code can write: it holds the frame while a sandbox runs,
+# and 0 while the host does.
+#include "machine.h"
+
+        .macro  each_register operation # of a sandbox, but a0, which holds the frame
+        .irp    r, 1,2,3,4,5,6,7,8,9,11,12,13,14,15,16,17,18,19,20,21,22,23,24,25,26,27,28,29,30,31
+        \operation x\r, 4*\r(a0)
+        .endr
+        .endm
+
+        .macro  each_kept operation     # of the host, by the calling convention
+        \operation ra, 0(sp)
+        \operation gp, 4(sp)
+        \operation tp, 8(sp)
+        .irp    r, 0,1,2,3,4,5,6,7,8,9,10,11
+        \operation s\r, 12+4*\r(sp)
+        .endr
+        .endm
+
+        .text
+        .globl  enter, trapped
+enter:  addi    sp, sp, -64
+        each_kept sw
+        sw      sp, FRAME_HOST_STACK(a0)
+        csrw    sscratch, a0
+        lw      t0, FRAME_PC(a0)
+        csrw    sepc, t0
+        li      t0, SSTATUS_SPP | SSTATUS_SPIE
+        csrs    sstatus, t0
+count_before:
+        csrr    t0, instret
+        sw      t0, FRAME_BEFORE(a0)
+        each_register lw
+        lw      a0, 4*10(a0)
+        sret
+enter_end:
+
+        .balign 4
+trapped:
+        csrrw   a0, sscratch, a0
+        beqz    a0, fault_of_host
+        each_register sw
+count_after:
+        csrr    t0, instret
+        sw      t0, FRAME_AFTER(a0)
+        csrrw   t0, sscratch, zero      # the sandbox's a0
+        sw      t0, 4*10(a0)
+        csrr    t0, sepc
+        sw      t0, FRAME_PC(a0)
+        lw      sp, FRAME_HOST_STACK(a0)
+        each_kept lw
+        addi    sp, sp, 64
+        csrr    a0, scause
+        ret
+fault_of_host:
+        csrr    a0, scause
+        csrr    a1, sepc
+        la      sp, stack_top
+        j       host_fault
+
+        .section .rodata
+        .globl  switch_instructions     # each has 4 bytes: the loader is compiled without 16-bit forms
+        .balign 4
+switch_instructions:
+        .word   (enter_end - count_before) / 4 + (count_after - trapped) / 4

@@ -1,0 +1,316 @@
+#!/usr/bin/env bash
+# Runs images natively on RV32 in QEMU, beside `sfi run`, and compares their lines: exit codes,
+# traps with their addresses, steps and output. Then it shows what the checker keeps from the host:
+# images that it refuses, and what they do all the same.
+#
+#     examples/device/test.sh [SFI]             # SFI is the program; ./sfi at the top if absent
+#     ALL=1 examples/device/test.sh [SFI]       # every input, more sizes of data, and turns by the real clock
+set -uo pipefail
+here=$(cd "$(dirname "${BASH_SOURCE[0]}")" && pwd)
+SFI=$(realpath "${1:-$here/../../sfi}")
+export SFI
+all=${ALL:-}
+seconds=60
+[ -z "$all" ] || seconds=600 # for the longest output
+passed=0
+failed=0
+skipped=0
+room=$(mktemp -d)
+trap 'rm -rf "$room"' EXIT
+source "$here/images.sh"
+cd "$here"
+
+report() { # what is tried, what is wanted, what is found
+    if [ "$2" = "$3" ]; then
+        passed=$((passed + 1))
+    else
+        failed=$((failed + 1))
+        printf 'FAILED %s\n  wanted %s\n  found  %s\n' "$1" "${2:0:500}" "${3:0:500}"
+    fi
+}
+
+finish() {
+    printf '%s passed, %s failed' "$passed" "$failed"
+    [ "$skipped" = 0 ] || printf ', %s skipped' "$skipped"
+    echo
+    [ "$failed" = 0 ]
+    exit
+}
+
+needs() { # a command, and the Debian package that has it
+    command -v "$1" >"$room/which" && return
+    echo "skipped: $1 isn't there (Debian's package $2)"
+    skipped=$((skipped + 1))
+}
+
+needs qemu-system-riscv32 qemu-system-misc
+needs riscv64-unknown-elf-gcc gcc-riscv64-unknown-elf
+needs xxd xxd
+[ "$skipped" = 0 ] || finish
+make -s || { report "make" "the loader" "none" && finish; }
+
+# ---- Lines beside those of `sfi run`
+
+without_steps() { sed 's/ steps=[0-9]*//'; }
+
+build() { # a source, a format; the image on one line
+    grep -v '^\.format' "$1" | sed "1i .format $2" | "$SFI" build
+}
+
+# Turns of 10 ms are longer than most runs, those of 10 us some 10000 instructions: the clock of
+# --steps counts these. Where sandboxes wait for each other, their steps depend on how long turns
+# are, and only their states and output are compared.
+compare() { # what is tried, its image, input, `steps` or `no steps`
+    local wanted turn found
+    wanted=$("$SFI" run --rounds 10000 --quantum 1000000 --input "$3" <"$2")
+    for turn in 10000 10; do
+        found=$(./run.sh --steps --seconds "$seconds" --turn "$turn" --input "$3" <"$2")
+        if [ "$4" = steps ]; then
+            report "$1, turns of $turn us" "$wanted" "$found"
+        else
+            report "$1, turns of $turn us" "$(without_steps <<<"$wanted")" "$(without_steps <<<"$found")"
+        fi
+    done
+    [ -n "$all" ] || return
+    found=$(./run.sh --seconds "$seconds" --turn 10 --input "$3" <"$2")
+    report "$1, turns of 10 us by the real clock" "$(without_steps <<<"$wanted")" "$found"
+}
+
+compare_examples() { # format
+    local source name input
+    for source in ../*.s cases/services.s ${all:+cases/output.s}; do
+        name=$(basename "$source" .s)
+        build "$source" "$1" >"$room/image.hex"
+        for input in 48656c6c6f ${all:+'' $(xxd -p ../c/inputs/prose | tr -d '\n')}; do
+            case $name in
+            primes) compare "$name, format $1" "$room/image.hex" "$input" "no steps" ;;
+            *) compare "$name, format $1" "$room/image.hex" "$input" steps ;;
+            esac
+        done
+    done
+}
+
+# The last input of each program, or all of them.
+compare_programs() { # format
+    local program input last=''
+    while read -r program input _; do
+        [ "$program" = "$last" ] && [ -z "$all" ] && continue
+        last=$program
+        build "../c/$program.s" "$1" >"$room/image.hex"
+        compare "$program on $input, format $1" "$room/image.hex" \
+            "$(xxd -p "../c/inputs/$input" | tr -d '\n')" steps
+    done < <(tac ../c/expected.txt)
+}
+
+for format in 1 2; do
+    compare_examples "$format"
+    compare_programs "$format"
+done
+compare "the smallest image" ../smallest.hex '' steps
+
+build cases/endless.s 2 >"$room/image.hex"
+report "a turn that never ends by itself" $'sandbox=0 ready out=\nsandbox=1 exit=7 out=' \
+    "$(./run.sh --rounds 20 --turn 1000 <"$room/image.hex")"
+
+# Each of 16 sandboxes posts to the next, and puts its sender's word.
+for ((number = 0; number < 16; number++)); do
+    printf '.sandbox 4096\n.gate exit 0\n.gate put 1\n.gate yield 3\n.gate post 4\n.gate take 5\n'
+    printf ' li a0, %s\n li a1, %s\n call post\n call yield\n call take\n' $(((number + 1) % 16)) $((number + 65))
+    printf ' mv s0, a1\n la t0, text\n sw a0, 0(t0)\n mv a0, t0\n li a1, 1\n call put\n mv a0, s0\n call exit\n'
+    printf '.data\ntext: .word 0\n'
+done >"$room/sixteen.s"
+build "$room/sixteen.s" 2 >"$room/image.hex"
+compare "sixteen sandboxes" "$room/image.hex" '' steps
+
+# ---- Loads and stores at the ends of the data, and over them
+
+# An access is `operation offset`, from the data's first byte (base 0) or last byte (base -1).
+accesses=()
+for operation in lb lbu lh lhu lw sb sh sw; do
+    for offset in -2048 -4 -3 -2 -1 0; do accesses+=("$operation 0 $offset"); done
+    for offset in -3 -2 -1 0 1 4 2047; do accesses+=("$operation -1 $offset"); done
+done
+
+access_source() { # data size, format, base register; the accesses, a sandbox for each
+    local size=$1 format=$2 register=$3 one operation base offset
+    shift 3
+    printf '.format %s\n' "$format"
+    for one; do
+        read -r operation base offset <<<"$one"
+        printf '.sandbox %s\n.option rvc\n li %s, %s\n li a1, 0x44332211\n' "$size" "$register" "$base"
+        printf ' %s a1, %s(%s)\n ebreak\n' "$operation" "$offset" "$register"
+    done
+}
+
+# What a right machine says of an access: where it traps it names the first of its addresses, and
+# writes nothing.
+access_meaning() { # number of the sandbox, data size, the access: `trap written`, with Break for no trap
+    local number=$1 data_size=$2 operation=$3 base=$4 offset=$5 size first written='' byte
+    case $operation in *b | *bu) size=1 ;; *h | *hu) size=2 ;; *) size=4 ;; esac
+    first=$((base == 0 ? offset : data_size - 1 + offset))
+    local address=$(((number + 1) * 0x01000000 + 0x00800000 + first))
+    if [ "$first" -ge 0 ] && [ $((first + size)) -le "$data_size" ]; then
+        for ((byte = 0; byte < size; byte++)); do
+            case $operation in s*) written+=$(printf ',%08x:%s' $((address + byte)) $((11 * (byte + 1)))) ;; esac
+        done
+        echo "Break ${written#,}"
+    else
+        case $operation in l*) printf 'Load at=%08x\n' "$address" ;; *) printf 'Store at=%08x\n' "$address" ;; esac
+    fi
+}
+
+# `Break ADDRESS:BYTE,..`, `Load at=ADDRESS` or `Store at=ADDRESS` of a line with --written.
+found_meaning() {
+    sed 's/.* trap=Break at=[0-9a-f]*/Break/; s/.* trap=//' |
+        sed 's/ steps=[0-9]*//; s/ out=//; s/ written=/ /; s/^Break$/Break /'
+}
+
+compare_accesses() { # data size, format, base register
+    local size=$1 format=$2 register=$3 from number found wanted
+    for ((from = 0; from < ${#accesses[@]}; from += 14)); do
+        access_source "$size" "$format" "$register" "${accesses[@]:from:14}" | "$SFI" build >"$room/image.hex"
+        found=$(./run.sh --steps --written <"$room/image.hex")
+        wanted=$("$SFI" run --rounds 2 <"$room/image.hex")
+        report "accesses from $from on, data of $size bytes, on $register, beside sfi run" \
+            "$wanted" "$(sed 's/ written=.*//' <<<"$found")"
+        number=0
+        while read -r line; do
+            wanted=$(access_meaning "$number" "$size" ${accesses[from + number]})
+            report "${accesses[from + number]}, data of $size bytes, on $register" \
+                "$wanted" "$(found_meaning <<<"$line")"
+            number=$((number + 1))
+        done <<<"$found"
+    done
+}
+
+for size in 256 2048 4096 ${all:+512 1024 65536}; do
+    compare_accesses "$size" 1 a0
+    compare_accesses "$size" 2 sp # without masks, and in 16 bits where the offset allows that
+done
+
+# ---- Images that no build makes: other addresses, and 16-bit accesses on a masked register
+
+image 1 2 >"$room/image.hex" < <(
+    sandbox 0xfffff000 0x00001000 4096 "0" 416263 <<'END'
+        gate
+        .option rvc
+        masked  s0, x0                  # the data's first byte
+        c.lw    a2, 4(s0)
+        .balign 16
+        masked  s0, x0
+        c.sw    s0, 124(s0)
+        addi    a3, x0, -2              # 2 bytes before the data's end
+        .balign 16
+        masked  s1, a3
+        c.sw    a2, 0(s1)
+END
+    sandbox 0x10000000 0x7fffe000 4096 "0" '' <<'END'
+        gate
+        addi    a0, x0, 9
+        jal     x1, 0x10000000
+END
+)
+compare "regions anywhere" "$room/image.hex" '' steps
+report "regions anywhere: the trap and what is written" "sandbox=0 trap=Store at=00001ffe out= written=0000107d:10" \
+    "$(./run.sh --written <"$room/image.hex" | head -n 1)"
+
+one() { sandbox "$1" "$2" "$3" "" "" <<<ebreak; } # code base, data base, data size
+
+refused_by_loader() { # reason; the image on standard input
+    local found
+    found=$(./run.sh; echo "status $?")
+    report "the loader refuses: $1" "device: $1"$'\nstatus 2' "$found"
+}
+
+refused_by_loader "sandbox 0: its code is where the host is" < <(image 2 1 < <(one 0x80000000 0x01800000 4096))
+refused_by_loader "sandbox 0: its code is where the host is" < <(image 2 1 < <(one 0x90001f00 0x01800000 4096))
+refused_by_loader "sandbox 0: its data or guard zones are where the host is" \
+    < <(image 2 1 < <(one 0x01000000 0x90002f00 256))
+refused_by_loader "sandbox 1: its data or guard zones are where the host is" \
+    < <(image 2 2 < <(one 0x01000000 0x01800000 4096; one 0x02000000 0x7ffff000 4096))
+image 2 1 >"$room/image.hex" < <(one 0x90002000 0x90006f00 256)
+compare "the first addresses after the host" "$room/image.hex" '' steps
+for ((number = 1; number <= 16; number++)); do
+    printf '.sandbox 2048\n ebreak\n'
+done >"$room/small.s"
+refused_by_loader "sandbox 14: there is room for 14 data regions below 4096 bytes" < <("$SFI" build <"$room/small.s")
+
+# ---- Attacks: refused, and what they do where nobody checks
+
+# Each has the gates exit at 01000000 and put at 01000010, and begins at 01000020.
+attack() { # name, the verdict's rule and address, what is found unchecked; assembly on standard input
+    local found
+    image 1 1 >"$room/image.hex" < <(sandbox 0x01000000 0x01800000 4096 "0 1" '')
+    found=$(./run.sh <"$room/image.hex"; echo "status $?")
+    report "$1: checked" "refused findings=1 first=$2 sandbox=0 at=$3"$'\nstatus 1' "$found"
+    found=$(./run.sh --unchecked --seconds 3 <"$room/image.hex" 2>"$room/log"; echo "status $?")
+    report "$1: unchecked" "$4" "$found"
+}
+
+symbol() { riscv64-unknown-elf-nm out/loader | sed -n "s/^\([0-9a-f]*\) . $1$/0x\1/p"; }
+
+attack "a store to the UART" V5 01000028 $'!sandbox=0 trap=Break at=0100002c out=\nstatus 0' <<'END'
+        gate
+        gate
+        lui     a0, 0x90000
+        li      a1, '!'
+        sb      a1, 0(a0)
+        ebreak
+END
+attack "a load from the host, of the image's first letter" V5 01000024 $'sandbox=0 exit=83 out=\nstatus 0' <<'END'
+        gate
+        gate
+        lui     a0, 0x88000
+        lbu     a0, 0(a0)
+        nop
+        jal     x1, 0x01000000
+END
+attack "a store into the host: it knows of no sandbox any more" V5 01000024 "status 0" <<END
+        gate
+        gate
+        lui     a0, %hi($(symbol world) + 8)
+        sw      x0, %lo($(symbol world) + 8)(a0)
+        ebreak
+END
+attack "a jump to the host, which ends it" V6 01000028 "status 0" <<END
+        gate
+        gate
+        lui     a0, %hi($(symbol finish))
+        addi    a0, a0, %lo($(symbol finish))
+        jalr    x0, 0(a0)
+END
+attack "csrw: a trap goes nowhere any more" V1 01000020 "status 124" <<'END'
+        gate
+        gate
+        csrw    stvec, x0
+        ebreak
+END
+
+image 1 1 >"$room/image.hex" < <(sandbox 0x01000000 0x01800000 4096 "" '' <<'END'
+        lui     a0, 0x90000
+        li      a1, '!'
+        .balign 16
+        masked  t6, a0
+        sb      a1, 4(t6)
+END
+)
+report "a store to the UART, masked" "sandbox=0 trap=Break at=01000020 out= written=01800004:21" \
+    "$(./run.sh --written <"$room/image.hex")"
+
+# Accepted code may hold these three instructions, which a debugger takes for a call: 4 writes the
+# text at a1.
+image 1 1 >"$room/image.hex" < <(sandbox 0x01000000 0x01800000 4096 "" 6869210a00 <<'END'
+        mv      a1, x26
+        li      a0, 4
+        .balign 16
+        slli    x0, x0, 31
+        ebreak
+        srai    x0, x0, 7
+END
+)
+report "the ebreak of semihosting" "sandbox=0 trap=Break at=01000014 out=" "$(./run.sh <"$room/image.hex")"
+report "the ebreak of semihosting, where that is on" $'hi!\nsandbox=0 trap=Break at=01000020 out=' \
+    "$(QEMU_OPTIONS='-semihosting-config enable=on,target=native' ./run.sh <"$room/image.hex" 2>&1)"
+
+report "bytes that are no image" $'layout fault 1 Magic\nstatus 2' "$(./run.sh <<<00112233; echo "status $?")"
+finish
