@@ -3,4 +3,5 @@ mod commands;
 mod cuts;
 mod failing;
 mod images;
+mod large;
 mod refused_put;

@@ -1,58 +1,13 @@
 //! Halfwords whose meaning is known from outside, first forms, and all halfwords there and back.
-ghost use Rattle.std.specs.Prelude.{◌<◌};
-
+use super::instructions::{
+    addi, arithmetic, branch_on_zero, immediate, jump, jump_to, load, lui, store,
+};
 use super::x;
 use rv_comp::{
     Form16, Front, decode16, encode16, form_of, outline16, read_front, write_short, write_wide,
 };
-use rv_word::{Cond, ImmOp, Instr, LoadKind, Reg, RegOp, StoreWidth, outline_of};
+use rv_word::{Cond, ImmOp, Instr, RegOp, outline_of};
 use std::process::Abort;
-
-fn arithmetic(op: RegOp, rd: Reg, rs1: Reg, rs2: Reg) -> Instr {
-    Instr::Op { op, rd, rs1, rs2 }
-}
-
-fn immediate(op: ImmOp, rd: Reg, rs1: Reg, imm: i32) -> Instr {
-    Instr::OpImm { op, rd, rs1, imm }
-}
-
-fn load(rd: Reg, rs1: Reg, imm: i32) -> Instr {
-    let kind = LoadKind::Lw;
-    Instr::Load { kind, rd, rs1, imm }
-}
-
-fn store(rs1: Reg, rs2: Reg, imm: i32) -> Instr {
-    Instr::Store {
-        width: StoreWidth::Sw,
-        rs1,
-        rs2,
-        imm,
-    }
-}
-
-fn branch_on_zero(cond: Cond, rs1: Reg, offset: i32) -> Instr {
-    Instr::Branch {
-        cond,
-        rs1,
-        rs2: x(0),
-        offset,
-    }
-}
-
-fn jump(rd: Reg, offset: i32) -> Instr {
-    Instr::Jal { rd, offset }
-}
-
-fn jump_to(rd: Reg, rs1: Reg) -> Instr {
-    Instr::Jalr { rd, rs1, imm: 0 }
-}
-
-fn addi(rd: u8, rs1: u8, imm: i32) -> Instr
-    requires rd { rd < 32 }
-    requires rs1 { rs1 < 32 }
-{
-    immediate(ImmOp::Addi, x(rd), x(rs1), imm)
-}
 
 /// The halfword is read as a form that expands to the instruction.
 fn expands(rt: &impl Abort, halfword: u16, want: Instr) {
@@ -74,29 +29,15 @@ fn known_halfwords(rt: HostRuntime) {
     expands(rt, 0x1141, addi(2, 2, -16));
     expands(rt, 0x717d, addi(2, 2, -16));
     expands(rt, 0x2801, jump(x(1), 16));
-    expands(
-        rt,
-        0x6785,
-        Instr::Lui {
-            rd: x(15),
-            imm: 0x1,
-        },
-    );
-    expands(
-        rt,
-        0x77fd,
-        Instr::Lui {
-            rd: x(15),
-            imm: 0xfffff,
-        },
-    );
+    expands(rt, 0x6785, lui(x(15), 0x1));
+    expands(rt, 0x77fd, lui(x(15), 0xfffff));
     expands(rt, 0x8405, immediate(ImmOp::Srai, x(8), x(8), 1));
     expands(rt, 0x8c05, arithmetic(RegOp::Sub, x(8), x(8), x(9)));
     expands(rt, 0xbffd, jump(x(0), -2));
     expands(rt, 0xc801, branch_on_zero(Cond::Beq, x(8), 16));
     expands(rt, 0x4512, load(x(10), x(2), 4));
     expands(rt, 0xc606, store(x(2), x(1), 12));
-    expands(rt, 0x8082, jump_to(x(0), x(1)));
+    expands(rt, 0x8082, jump_to(x(0), x(1), 0));
     expands(rt, 0x852e, arithmetic(RegOp::Add, x(10), x(0), x(11)));
     expands(rt, 0x952e, arithmetic(RegOp::Add, x(10), x(10), x(11)));
     expands(rt, 0x9002, Instr::Ebreak);

@@ -62,7 +62,7 @@ fn part_text(alloc: Global, part: &SourcePart) -> Result<String, AllocError> {
 }
 
 // The sandboxes that a text means, or its fault, as text.
-fn meaning(alloc: Global, text: &str) -> Result<String, AllocError> {
+pub(super) fn meaning(alloc: Global, text: &str) -> Result<String, AllocError> {
     match parse_source(alloc, text) {
         Ok(source) => {
             let mut all = String::new(alloc);
@@ -77,12 +77,12 @@ fn meaning(alloc: Global, text: &str) -> Result<String, AllocError> {
 }
 
 // The text after a first line that begins a sandbox of 256 bytes.
-fn after_sandbox(alloc: Global, text: &str) -> Result<String, AllocError> {
+pub(super) fn after_sandbox(alloc: Global, text: &str) -> Result<String, AllocError> {
     format!(in alloc; ".sandbox 256\n{text}")
 }
 
 // Each statement once, after `.sandbox 256`.
-fn statements() -> [(&'static str, &'static str); 36] {
+fn statements() -> [(&'static str, &'static str); 42] {
     [
         ("", "256 | | | |"),
         ("  # no more than a comment é\r\n\n", "256 | | | |"),
@@ -99,6 +99,7 @@ fn statements() -> [(&'static str, &'static str); 36] {
         (".option rvc\n.gate g 1", "256 | 0=1 | g=Gate(0) | |"),
         (".data\n.byte -128, 255, 0x7F", "256 | | | | 128 255 127"),
         (".data\n.half -2, 0x1234", "256 | | | | 254 255 52 18"),
+        (".data\n.half -32768, 65535", "256 | | | | 0 128 255 255"),
         (
             ".data\n.word -2147483648, 4294967295",
             "256 | | | | 0 0 0 128 255 255 255 255",
@@ -111,7 +112,15 @@ fn statements() -> [(&'static str, &'static str); 36] {
         ("addi sp, sp, -16", "256 | | | 2 addi x2, x2, -16; |"),
         ("srai x8, x8, 31", "256 | | | 2 srai x8, x8, 31; |"),
         ("lw a0, -4(sp)", "256 | | | 2 lw x10, -4(x2); |"),
+        (
+            "lb a0, 2047(a1)\nlb a0, -2048(a1)",
+            "256 | | | 2 lb x10, 2047(x11); 3 lb x10, -2048(x11); |",
+        ),
         ("sw a0, 0(fp)", "256 | | | 2 sw x10, 0(x8); |"),
+        (
+            "sw a0, 2047(a1)\nsw a0, -2048(a1)",
+            "256 | | | 2 sw x10, 2047(x11); 3 sw x10, -2048(x11); |",
+        ),
         ("jalr ra, 4(t0)", "256 | | | 2 jalr x1, 4(x5); |"),
         (
             "a: blt a0, a1, a",
@@ -133,14 +142,19 @@ fn statements() -> [(&'static str, &'static str); 36] {
         ),
         ("li a0, 4096", "256 | | | 2 lui x10, 0x1; |"),
         (
-            "x: li a0, -2049",
-            "256 | | x=Code(0) | 2L lui x10, 0xfffff; 2 addi x10, x10, 2047; |",
+            "li a0, -2049",
+            "256 | | | 2 lui x10, 0xfffff; 2 addi x10, x10, 2047; |",
+        ),
+        (
+            "x: li a0, 2048",
+            "256 | | x=Code(0) | 2L lui x10, 0x1; 2 addi x10, x10, -2048; |",
         ),
         (
             "li a0, 4294967295",
             "256 | | | 2 lui x10, 0x0; 2 addi x10, x10, -1; |",
         ),
         ("li a0, 2047", "256 | | | 2 addi x10, x0, 2047; |"),
+        ("li a0, -2048", "256 | | | 2 addi x10, x0, -2048; |"),
         (
             "mv t6, a0\njr t0",
             "256 | | | 2 addi x31, x10, 0; 3 jalr x0, 0(x5); |",
@@ -165,11 +179,12 @@ fn statements() -> [(&'static str, &'static str); 36] {
             "j b\na: .sandbox 512\na: b:",
             "256 | | b=Unknown a=Code(1) | 2 jal x0, 0 to 0; |\n512 | | a=Code(0) b=Code(0) | |",
         ),
+        (".sandbox 1048576", "256 | | | |\n1048576 | | | |"),
     ]
 }
 
 // Texts after `.sandbox 256` with a fault on line 2.
-fn faults() -> [(&'static str, TextCause); 77] {
+fn faults() -> [(&'static str, TextCause); 81] {
     [
         ("frob a0", TextCause::Word),
         ("NOP", TextCause::Word),
@@ -213,6 +228,10 @@ fn faults() -> [(&'static str, TextCause); 77] {
         ("addi a0, a0, 99999999999999999999", TextCause::Number),
         ("addi a0, a0, 0X1", TextCause::Operands),
         ("slli a0, a0, 32", TextCause::Number),
+        ("lw a0, 2048(a1)", TextCause::Number),
+        ("lw a0, -2049(a1)", TextCause::Number),
+        ("sw a0, 2048(a1)", TextCause::Number),
+        ("sw a0, -2049(a1)", TextCause::Number),
         ("lw a0, (a1)", TextCause::Number),
         ("lw a0, 0 a1", TextCause::Operands),
         ("lw a0, 0(a1", TextCause::Operands),
@@ -252,7 +271,7 @@ fn faults() -> [(&'static str, TextCause); 77] {
 }
 
 // Whole texts, and the line and cause of their fault.
-fn whole_faults() -> [(&'static str, u32, TextCause); 27] {
+fn whole_faults() -> [(&'static str, u32, TextCause); 32] {
     [
         ("", 1, TextCause::Directive),
         ("# nothing\n\n", 1, TextCause::Directive),
@@ -267,6 +286,7 @@ fn whole_faults() -> [(&'static str, u32, TextCause); 27] {
         (".sandbox 256\nx: add a0, a0, a0 # y\n$", 3, TextCause::Word),
         (".sandbox 256\n.option rvc\nfrob", 3, TextCause::Word),
         (".sandbox 300", 1, TextCause::Number),
+        (".sandbox 256\n.data\nnop", 3, TextCause::Directive),
         (".sandbox 256\nx: .data\nnop", 3, TextCause::Directive),
         (".sandbox 256\n.data\n.data", 3, TextCause::Directive),
         (".sandbox 256\n.data\n.option rvc", 3, TextCause::Directive),
@@ -284,7 +304,19 @@ fn whole_faults() -> [(&'static str, u32, TextCause); 27] {
         (".sandbox 256\n.gate g 1\ng: nop", 3, TextCause::LabelTwice),
         (".sandbox 256\nx: nop\n.data\nx:", 4, TextCause::LabelTwice),
         (".sandbox 256\n.data\n.byte 256", 3, TextCause::Number),
+        (".sandbox 256\n.data\n.byte -129", 3, TextCause::Number),
+        (".sandbox 256\n.data\n.half 65536", 3, TextCause::Number),
         (".sandbox 256\n.data\n.half -32769", 3, TextCause::Number),
+        (
+            ".sandbox 256\n.data\n.word 4294967296",
+            3,
+            TextCause::Number,
+        ),
+        (
+            ".sandbox 256\n.data\n.word -2147483649",
+            3,
+            TextCause::Number,
+        ),
         (".sandbox 256\n.data\n.word 1,", 3, TextCause::Operands),
         (".sandbox 256\n.data\n.zero 1048577", 3, TextCause::Number),
         (
@@ -309,7 +341,7 @@ fn sources(rt: HostRuntime) -> Result<(), Fail> {
 }
 
 // The text has this fault.
-fn is_refused(rt: &impl Abort, alloc: Global, text: &str, line: u32, cause: TextCause) {
+pub(super) fn is_refused(rt: &impl Abort, alloc: Global, text: &str, line: u32, cause: TextCause) {
     match parse_source(alloc, text) {
         Ok(_) => panic!(rt; "{text}: no fault"),
         Err(fault) => assert_eq!(rt; fault, TextFault { line, cause }, "{text}"),
@@ -326,53 +358,5 @@ fn source_faults(rt: HostRuntime) -> Result<(), Fail> {
     for (text, line, cause) in whole_faults() {
         is_refused(&rt, alloc, text, line, cause);
     }
-    Ok(())
-}
-
-// The text, so many times over, by doubling.
-fn doubled(alloc: Global, text: &str, times: u32) -> Result<String, AllocError> {
-    let mut whole = String::from_str(alloc, text)?;
-    for _ in 0..times {
-        let half = whole.clone()?;
-        whole.push_str(half.as_str())?;
-    }
-    Ok(whole)
-}
-
-#[test]
-fn limits(rt: HostRuntime) -> Result<(), Fail> {
-    let alloc = rt.alloc();
-    let name = format!(in alloc; "{}n", doubled(alloc, "n", 6)?)?;
-    let long = [
-        format!(in alloc; "{name}:")?,
-        format!(in alloc; "j {name} 5")?,
-        format!(in alloc; ".gate {name} 9")?,
-        format!(in alloc; "la a0, {name}")?,
-    ];
-    for text in long.iter() {
-        let whole = after_sandbox(alloc, text.as_str())?;
-        is_refused(&rt, alloc, whole.as_str(), 2, TextCause::Limit);
-    }
-    let full = after_sandbox(alloc, doubled(alloc, "nop\n", 16)?.as_str())?;
-    assert!(rt; parse_source(alloc, full.as_str()).is_ok());
-    let more = format!(in alloc; "{full}nop")?;
-    is_refused(&rt, alloc, more.as_str(), 65538, TextCause::Limit);
-    let within = doubled(alloc, " # \n", 18)?;
-    is_refused(&rt, alloc, within.as_str(), 1, TextCause::Directive);
-    let large = format!(in alloc; "{within}$")?;
-    is_refused(&rt, alloc, large.as_str(), 1, TextCause::Limit);
-    Ok(())
-}
-
-#[test]
-fn gates(rt: HostRuntime) -> Result<(), Fail> {
-    let alloc = rt.alloc();
-    let mut text = String::from_str(alloc, ".sandbox 256\n")?;
-    for k in 0..64 {
-        text.push_str(format!(in alloc; ".gate g{k} 1\n")?.as_str())?;
-    }
-    assert!(rt; parse_source(alloc, text.as_str()).is_ok());
-    text.push_str(".gate h 1")?;
-    is_refused(&rt, alloc, text.as_str(), 66, TextCause::Limit);
     Ok(())
 }

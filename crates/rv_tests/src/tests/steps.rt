@@ -1,198 +1,195 @@
-//! Steps by the manual's words.
-
-use super::x;
-use rv_mem::{Memory, Segments, Width};
+//! Steps by the manual's words, over each form of memory.
+use super::memories::holds;
+use rv_mem::{Memory, Pages, Segments, Width};
 use rv_step::{Cause, Cpu, Outcome, after_call, step};
-use rv_word::{ImmOp, Instr, LoadKind, RegOp, StoreWidth, encode32};
+use rv_word::Reg;
 use std::process::Abort;
 
 /// Where the code lies, 256 bytes.
 const CODE: u32 = 0x0100_0000;
+/// The last two bytes of the code.
+const LAST: u32 = 0x0100_00fe;
 /// Where the data lies, 256 bytes.
 const DATA: u32 = 0x0180_0000;
 
-/// A machine at a pc.
-fn at(rt: &impl Abort, pc: u32) -> Cpu {
-    Cpu::at(pc).expect(rt, "an even pc")
+/// One step: the instruction, the pc, the spelling there, registers with their values before it,
+/// what it does, and the pc and a register after it.
+#[derive(Drop)]
+struct Row {
+    name: &'static str,
+    pc: u32,
+    width: Width,
+    word: u32,
+    before: [(u8, u32); 2],
+    outcome: Outcome,
+    next: u32,
+    after: (u8, u32),
 }
 
-/// Puts an instruction there.
-fn put(rt: &impl Abort, memory: &mut Segments, pc: u32, instr: Instr) {
-    let word = encode32(instr).expect(rt, "an instruction in range");
-    assert!(rt; memory.store(pc, Width::Four, word));
-}
-
-#[test]
-fn jumps_link_the_next_address(rt: HostRuntime) {
-    let mut memory = Segments::new(rt.alloc());
-    assert_eq!(rt; memory.add(CODE, 256, &[0x01, 0x28]), Ok(()));
-    let mut cpu = at(&rt, CODE);
-    assert_eq!(rt; step(&mut cpu, &mut memory), Outcome::Next);
-    assert_eq!(rt; (cpu.pc(), cpu.reg(x(1))), (0x0100_0010, 0x0100_0002));
-
-    let (ra, imm) = (x(1), 3);
-    put(
-        &rt,
-        &mut memory,
-        CODE,
-        Instr::Jalr {
-            rd: ra,
-            rs1: ra,
-            imm,
-        },
-    );
-    let mut cpu = at(&rt, CODE);
-    cpu.set_reg(ra, 0x0100_0010);
-    assert_eq!(rt; step(&mut cpu, &mut memory), Outcome::Next);
-    assert_eq!(rt; (cpu.pc(), cpu.reg(ra)), (0x0100_0012, 0x0100_0004));
-}
-
-#[test]
-fn the_last_parcel_is_cut_short_or_illegal(rt: HostRuntime) {
-    let pc = 0x0100_00fe;
-    for (bytes, cause) in [([0x73, 0x00], Cause::Fetch), ([0x1f, 0x00], Cause::Illegal)] {
-        let mut memory = Segments::new(rt.alloc());
-        assert_eq!(rt; memory.add(CODE, 254, &[]), Ok(()));
-        assert_eq!(rt; memory.add(pc, 2, &bytes), Ok(()));
-        let mut cpu = at(&rt, pc);
-        assert_eq!(rt; step(&mut cpu, &mut memory), Outcome::Trap(cause, pc));
-        assert_eq!(rt; cpu.pc(), pc);
+/// A step at the front of the code that goes on there.
+fn goes_on(
+    name: &'static str,
+    word: u32,
+    before: [(u8, u32); 2],
+    next: u32,
+    after: (u8, u32),
+) -> Row {
+    Row {
+        name,
+        pc: CODE,
+        width: Width::Four,
+        word,
+        before,
+        outcome: Outcome::Next,
+        next,
+        after,
     }
-    assert!(rt; Cpu::at(0x0100_0001).is_none());
 }
 
-#[test]
-fn accesses_trap_where_a_byte_is_missing(rt: HostRuntime) {
-    let (rd, rs1, rs2) = (x(0), x(31), x(11));
-    let (word, byte) = (StoreWidth::Sw, LoadKind::Lb);
-    let cases = [
-        (
-            Instr::Load {
-                kind: LoadKind::Lw,
-                rd,
-                rs1: rd,
-                imm: 0,
-            },
-            0,
-            Cause::Load,
-            0,
+/// A step at the front of the code with this x31 that traps, and changes neither pc nor x10.
+fn traps(name: &'static str, word: u32, x31: u32, cause: Cause, address: u32) -> Row {
+    Row {
+        name,
+        pc: CODE,
+        width: Width::Four,
+        word,
+        before: [(31, x31), (11, 0xffff_ffff)],
+        outcome: Outcome::Trap(cause, address),
+        next: CODE,
+        after: (10, 0),
+    }
+}
+
+/// A trap at the last two bytes of the code.
+fn traps_at_the_end(name: &'static str, halfword: u32, cause: Cause) -> Row {
+    Row {
+        name,
+        pc: LAST,
+        width: Width::Two,
+        word: halfword,
+        before: [(31, 0), (11, 0)],
+        outcome: Outcome::Trap(cause, LAST),
+        next: LAST,
+        after: (10, 0),
+    }
+}
+
+/// A quotient, a remainder or a product of x11 and x12.
+fn computes(name: &'static str, word: u32, x11: u32, x12: u32, x10: u32) -> Row {
+    goes_on(name, word, [(11, x11), (12, x12)], CODE + 4, (10, x10))
+}
+
+/// The words are an assembler's. The data are the bytes 1, 2, 3 and 4, and zeros.
+fn rows() -> [Row; 16] {
+    let least = 0x8000_0000;
+    let none = [(10, 0), (11, 0)];
+    [
+        Row {
+            width: Width::Two,
+            ..goes_on("c.jal 16", 0x2801, none, 0x0100_0010, (1, 0x0100_0002))
+        },
+        goes_on(
+            "jalr x1, 3(x1)",
+            0x0030_80e7,
+            [(1, 0x0100_0010), (11, 0)],
+            0x0100_0012,
+            (1, 0x0100_0004),
         ),
-        (
-            Instr::Store {
-                width: word,
-                rs1,
-                rs2,
-                imm: 2047,
-            },
+        traps_at_the_end("half of ecall", 0x0073, Cause::Fetch),
+        traps_at_the_end("longer than 32 bits", 0x001f, Cause::Illegal),
+        traps("ebreak", 0x0010_0073, 0, Cause::Break, CODE),
+        traps("lw x0, 0(x0)", 0x0000_2003, 0, Cause::Load, 0),
+        traps(
+            "sw x11, 2047(x31)",
+            0x7ebf_afa3,
             0x0180_00ff,
             Cause::Store,
             0x0180_08fe,
         ),
-        (
-            Instr::Store {
-                width: word,
-                rs1,
-                rs2,
-                imm: 0,
-            },
+        traps(
+            "sw x11, 0(x31)",
+            0x00bf_a023,
             0x0180_00fe,
             Cause::Store,
             0x0180_00fe,
         ),
-        (
-            Instr::Load {
-                kind: byte,
-                rd,
-                rs1,
-                imm: -2048,
-            },
+        traps(
+            "lb x10, -2048(x31)",
+            0x800f_8503,
             DATA,
             Cause::Load,
             0x017f_f800,
         ),
-    ];
-    let mut memory = Segments::new(rt.alloc());
-    assert_eq!(rt; memory.add(CODE, 256, &[]), Ok(()));
-    assert_eq!(rt; memory.add(DATA, 256, &[]), Ok(()));
-    for (instr, base, cause, address) in cases {
-        put(&rt, &mut memory, CODE, instr);
-        let mut cpu = at(&rt, CODE);
-        cpu.set_reg(rs1, base);
-        cpu.set_reg(rs2, 0xffff_ffff);
-        assert_eq!(rt; step(&mut cpu, &mut memory), Outcome::Trap(cause, address));
-        assert_eq!(rt; cpu.pc(), CODE);
-        assert_eq!(rt; memory.load(0x0180_00fc, Width::Four), Some(0));
-    }
+        goes_on(
+            "lw x0, 0(x31)",
+            0x000f_a003,
+            [(31, DATA), (11, 0)],
+            CODE + 4,
+            (0, 0),
+        ),
+        goes_on(
+            "lw x10, 0(x31)",
+            0x000f_a503,
+            [(31, DATA), (11, 0)],
+            CODE + 4,
+            (10, 0x0403_0201),
+        ),
+        computes("div by 0", 0x02c5_c533, 7, 0, u32::MAX),
+        computes("rem by 0", 0x02c5_e533, 7, 0, 7),
+        computes("div by -1", 0x02c5_c533, least, u32::MAX, least),
+        computes("rem by -1", 0x02c5_e533, least, u32::MAX, 0),
+        computes("mulhsu", 0x02c5_a533, u32::MAX, u32::MAX, u32::MAX),
+    ]
 }
 
-#[test]
-fn results_are_the_manuals(rt: HostRuntime) {
-    let (rd, rs1, rs2) = (x(10), x(11), x(12));
-    let least = 0x8000_0000;
-    let cases = [
-        (RegOp::Div, 7, 0, u32::MAX),
-        (RegOp::Rem, 7, 0, 7),
-        (RegOp::Div, least, u32::MAX, least),
-        (RegOp::Rem, least, u32::MAX, 0),
-        (RegOp::Mulhsu, u32::MAX, u32::MAX, u32::MAX),
-    ];
-    let mut memory = Segments::new(rt.alloc());
-    assert_eq!(rt; memory.add(CODE, 256, &[]), Ok(()));
-    for (op, a, b, result) in cases {
-        put(&rt, &mut memory, CODE, Instr::Op { op, rd, rs1, rs2 });
-        let mut cpu = at(&rt, CODE);
-        cpu.set_reg(rs1, a);
-        cpu.set_reg(rs2, b);
-        assert_eq!(rt; step(&mut cpu, &mut memory), Outcome::Next);
-        assert_eq!(rt;
-            (cpu.pc(), cpu.reg(rd)),
-            (CODE + 4, result),
-            "{op:?} of {a:08x} and {b:08x}"
-        );
-    }
+/// A register of a row.
+fn reg(rt: &impl Abort, number: u8) -> Reg {
+    Reg::new(number).expect(rt, "a register")
 }
 
-#[test]
-fn x0_stays_and_an_ecall_is_passed(rt: HostRuntime) {
-    let (zero, base) = (x(0), x(31));
-    let mut memory = Segments::new(rt.alloc());
+/// Takes the row's step, which changes no data.
+fn take<M: Memory>(rt: &impl Abort, memory: &mut M, row: &Row) {
+    let name = row.name;
+    assert!(rt; memory.store(row.pc, row.width, row.word), "{name}");
+    let mut cpu = Cpu::at(row.pc).expect(rt, "an even pc");
+    for (number, value) in row.before {
+        cpu.set_reg(reg(rt, number), value);
+    }
+    assert_eq!(rt; step(&mut cpu, memory), row.outcome, "{name}");
+    let (number, value) = row.after;
+    assert_eq!(rt;
+        (cpu.pc(), cpu.reg(reg(rt, number))),
+        (row.next, value),
+        "{name}"
+    );
+    let mut data = [0u8; 256];
+    data[..4].copy_from_slice(&[1, 2, 3, 4]);
+    assert!(rt; holds(memory, DATA, &data), "{name}");
+}
+
+/// Takes each row's step over this memory, which is empty.
+fn take_all<M: Memory>(rt: &impl Abort, memory: &mut M) {
     assert_eq!(rt; memory.add(CODE, 256, &[]), Ok(()));
     assert_eq!(rt; memory.add(DATA, 256, &[1, 2, 3, 4]), Ok(()));
-    put(
-        &rt,
-        &mut memory,
-        CODE,
-        Instr::Load {
-            kind: LoadKind::Lw,
-            rd: zero,
-            rs1: base,
-            imm: 0,
-        },
-    );
-    put(&rt, &mut memory, CODE + 4, Instr::Ecall);
-    put(
-        &rt,
-        &mut memory,
-        CODE + 8,
-        Instr::OpImm {
-            op: ImmOp::Addi,
-            rd: base,
-            rs1: zero,
-            imm: -1,
-        },
-    );
-    put(&rt, &mut memory, CODE + 12, Instr::Ebreak);
+    for row in &rows() {
+        take(rt, memory, row);
+    }
+}
 
-    let mut cpu = at(&rt, CODE);
-    cpu.set_reg(base, DATA);
-    assert_eq!(rt; step(&mut cpu, &mut memory), Outcome::Next);
-    assert_eq!(rt; (cpu.pc(), cpu.reg(zero)), (CODE + 4, 0));
+#[test]
+fn steps_are_the_manuals(rt: HostRuntime) {
+    take_all(&rt, &mut Segments::new(rt.alloc()));
+    take_all(&rt, &mut Pages::new(rt.alloc()));
+    assert!(rt; Cpu::at(0x0100_0001).is_none());
+}
+
+#[test]
+fn an_ecall_is_passed(rt: HostRuntime) {
+    let mut memory = Segments::new(rt.alloc());
+    assert_eq!(rt; memory.add(CODE, 4, &[0x73, 0x00, 0x00, 0x00]), Ok(()));
+    let mut cpu = Cpu::at(CODE).expect(&rt, "an even pc");
     assert_eq!(rt; step(&mut cpu, &mut memory), Outcome::Call);
+    assert_eq!(rt; cpu.pc(), CODE);
     after_call(&mut cpu);
-    assert_eq!(rt; step(&mut cpu, &mut memory), Outcome::Next);
-    assert_eq!(rt; (cpu.pc(), cpu.reg(base)), (CODE + 12, u32::MAX));
-    assert_eq!(rt;
-        step(&mut cpu, &mut memory),
-        Outcome::Trap(Cause::Break, CODE + 12)
-    );
+    assert_eq!(rt; cpu.pc(), CODE + 4);
 }

@@ -1,4 +1,7 @@
 //! Words and instructions as an assembler and a disassembler have them.
+use super::instructions::{
+    addi, arithmetic, branch_on_zero, fence, immediate, jump, jump_to, load, lui, store,
+};
 use super::x;
 use rv_word::{
     Cond, ImmOp, Instr, Length, LoadKind, Outline, Reg, RegOp, decode32, encode32, op_word,
@@ -18,66 +21,23 @@ fn spells(rt: &impl Abort, word: u32, instr: &Instr) {
 
 #[test]
 fn words_and_instructions(rt: HostRuntime) {
-    let (op, srai, lbu) = (RegOp::Mul, ImmOp::Srai, LoadKind::Lbu);
+    let (kind, branch) = (LoadKind::Lbu, Cond::Beq);
     let vectors = [
-        (
-            0x02c5_8533,
-            Instr::Op {
-                op,
-                rd: x(10),
-                rs1: x(11),
-                rs2: x(12),
-            },
-        ),
-        (
-            0x4045_5513,
-            Instr::OpImm {
-                op: srai,
-                rd: x(10),
-                rs1: x(10),
-                imm: 4,
-            },
-        ),
-        (
-            0xfd5f_f0ef,
-            Instr::Jal {
-                rd: x(1),
-                offset: -44,
-            },
-        ),
-        (
-            0xfe00_0ae3,
-            Instr::Branch {
-                cond: Cond::Beq,
-                rs1: x(0),
-                rs2: x(0),
-                offset: -12,
-            },
-        ),
+        (0x02c5_8533, arithmetic(RegOp::Mul, x(10), x(11), x(12))),
+        (0x4045_5513, immediate(ImmOp::Srai, x(10), x(10), 4)),
+        (0xfd5f_f0ef, jump(x(1), -44)),
+        (0xfe00_0ae3, branch_on_zero(branch, x(0), -12)),
         (
             0x001f_c503,
             Instr::Load {
-                kind: lbu,
+                kind,
                 rd: x(10),
                 rs1: x(31),
                 imm: 1,
             },
         ),
-        (
-            0x0180_0537,
-            Instr::Lui {
-                rd: x(10),
-                imm: 0x1800,
-            },
-        ),
-        (
-            0x0ff0_000f,
-            Instr::Fence {
-                imm: 255,
-                rd: x(0),
-                rs1: x(0),
-            },
-        ),
+        (0x0180_0537, lui(x(10), 0x1800)),
+        (0x0ff0_000f, fence(255, x(0), x(0))),
     ];
     for (word, instr) in &vectors {
         spells(&rt, *word, instr);
@@ -91,26 +51,27 @@ fn words_of_no_instruction(rt: HostRuntime) {
     }
 }
 
+// Each number is the first outside its range, or odd where that is even.
 #[test]
 fn instructions_of_no_word(rt: HostRuntime) {
     let outside = [
-        Instr::Branch {
-            cond: Cond::Beq,
-            rs1: x(0),
-            rs2: x(0),
-            offset: 4096,
-        },
-        Instr::Jalr {
-            rd: x(0),
-            rs1: x(1),
-            imm: 2048,
-        },
-        Instr::OpImm {
-            op: ImmOp::Slli,
-            rd: x(10),
-            rs1: x(10),
-            imm: 32,
-        },
+        branch_on_zero(Cond::Beq, x(8), 4096),
+        branch_on_zero(Cond::Beq, x(8), -4098),
+        branch_on_zero(Cond::Beq, x(8), 3),
+        jump(x(1), 1048576),
+        jump(x(1), -1048578),
+        jump_to(x(0), x(1), 2048),
+        jump_to(x(0), x(1), -2049),
+        load(x(10), x(11), 2048),
+        load(x(10), x(11), -2049),
+        store(x(11), x(10), 2048),
+        store(x(11), x(10), -2049),
+        addi(10, 10, 2048),
+        addi(10, 10, -2049),
+        immediate(ImmOp::Slli, x(10), x(10), 32),
+        immediate(ImmOp::Slli, x(10), x(10), -1),
+        lui(x(10), 1048576),
+        fence(4096, x(0), x(0)),
     ];
     for instr in &outside {
         assert!(rt; encode32(*instr) == None);
@@ -121,22 +82,8 @@ fn instructions_of_no_word(rt: HostRuntime) {
 fn registers(rt: HostRuntime) {
     assert!(rt; x(31).number() == 31);
     assert!(rt; Reg::new(32) == None);
-    assert!(rt;
-        Instr::Jal {
-            rd: x(1),
-            offset: 16
-        }
-        .writes()
-            == Some(x(1))
-    );
-    assert!(rt;
-        Instr::Jal {
-            rd: x(0),
-            offset: 16
-        }
-        .writes()
-            == None
-    );
+    assert!(rt; jump(x(1), 16).writes() == Some(x(1)));
+    assert!(rt; jump(x(0), 16).writes() == None);
 }
 
 #[test]

@@ -1,5 +1,5 @@
 //! Code that tries to get out of its sandbox.
-use super::images::{C_EBREAK, EBREAK, HEAD, PAIR_ON_X0, SFI1, SFI2, bytes_of};
+use super::images::{C_EBREAK, C_NOP, EBREAK, HEAD, PAIR_ON_X0, SFI1, SFI2, bytes_of};
 use sfi_check::{Refusal, StreamAnswer, check, check_stream};
 use sfi_image::Reading;
 use sfi_policy::Format;
@@ -24,14 +24,36 @@ use Harm::{Anywhere, AtEnd, FirstFormat, Jump};
 /// counted from its first byte, and where it does.
 struct Attack(&'static str, &'static str, Rule, u32, Harm);
 
-/// Where it stands: in which bundle of the region, after how many bytes of that, and whether these
-/// are filled by `nop` or by `c.nop`.
+/// What fills the bundle's bytes before it.
+#[derive(Clone, Copy, Debug, PartialEq, Eq)]
+enum Filler {
+    Nop,
+    CNop,
+    Ebreak,
+}
+
+use Filler::{CNop, Ebreak, Nop};
+
+impl Filler {
+    /// So many bytes of it, an even number.
+    fn pieces(self, bytes: u32) -> [(&'static str, usize); 2] {
+        let words = (bytes / 4) as usize;
+        let rest = (C_NOP, (bytes % 4 / 2) as usize);
+        match self {
+            Nop => [("13000000", words), rest],
+            CNop => [(C_NOP, 2 * words), rest],
+            Ebreak => [(EBREAK, words), rest],
+        }
+    }
+}
+
+/// Where it stands: in which bundle of the region, and after how many bytes of that.
 #[derive(Drop)]
 struct Spot {
     format: Format,
     bundle: u32,
     place: u32,
-    is_wide: bool,
+    filler: Filler,
 }
 
 const BUNDLES: u32 = 16;
@@ -165,8 +187,8 @@ impl Attack {
         })
     }
 
-    /// The smallest image with it there, and `c.ebreak` after it to its bundle's end;
-    /// none where it doesn't fit.
+    /// The smallest image with it there in place of as many bytes of the code; none where it doesn't
+    /// fit. What is left of an `ebreak` beside it becomes a `c.nop` or a `c.ebreak`.
     fn image(&self, alloc: Global, spot: &Spot) -> Result<Option<Vec<u8>>, Fail> {
         let Some(after) = 16u32.saturating_sub(spot.place).checked_sub(self.len()) else {
             return Ok(None);
@@ -175,17 +197,17 @@ impl Attack {
             Format::Sfi1 => SFI1,
             Format::Sfi2 => SFI2,
         };
-        let wide = if spot.is_wide { spot.place / 4 } else { 0 };
-        let short = (spot.place / 2).saturating_sub(wide.saturating_mul(2));
+        let [filler, rest] = spot.filler.pieces(spot.place);
         let words = spot.bundle.saturating_mul(4);
         let pieces = [
             (magic, 1),
             (HEAD, 1),
             (EBREAK, words as usize),
-            ("13000000", wide as usize),
-            ("0100", short as usize),
+            filler,
+            rest,
             (self.1, 1),
-            (C_EBREAK, after as usize / 2),
+            (C_EBREAK, (after % 4 / 2) as usize),
+            (EBREAK, (after / 4) as usize),
             (EBREAK, 60u32.saturating_sub(words) as usize),
         ];
         Ok(Some(bytes_of(alloc, &pieces)?))
@@ -219,14 +241,14 @@ fn is_found_in(
     attack: &Attack,
     format: Format,
     bundle: u32,
-    is_wide: bool,
+    filler: Filler,
 ) -> Result<bool, Fail> {
     for half in 0..8u32 {
         let spot = Spot {
             format,
             bundle,
             place: 2 * half,
-            is_wide,
+            filler,
         };
         if let Some(bytes) = attack.image(alloc, &spot)? {
             if !is_found(alloc, &bytes, attack.finding(&spot)) {
@@ -237,15 +259,15 @@ fn is_found_in(
     Ok(true)
 }
 
-// In either format, after either filler, in the first bundle, in one in the middle and in the last.
+// In either format, after each filler, in the first bundle, in one in the middle and in the last.
 #[test]
 fn attacks_are_found(rt: HostRuntime) -> Result<(), Fail> {
     for attack in &ATTACKS {
         for format in [Format::Sfi1, Format::Sfi2] {
             for bundle in [0u32, 7, 15] {
-                for is_wide in [false, true] {
+                for filler in [Nop, CNop, Ebreak] {
                     assert!(rt;
-                        is_found_in(rt.alloc(), attack, format, bundle, is_wide)?,
+                        is_found_in(rt.alloc(), attack, format, bundle, filler)?,
                         "{}",
                         attack.0
                     );

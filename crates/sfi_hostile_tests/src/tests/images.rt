@@ -14,6 +14,9 @@ pub(super) const HEAD: &str = "0100000000000001000100000000800100010000000000010
 /// `ebreak`. The smallest image's code is 64 of them.
 pub(super) const EBREAK: &str = "73001000";
 
+/// `c.nop`.
+pub(super) const C_NOP: &str = "0100";
+
 /// `c.ebreak`, which fills up a code region.
 pub(super) const C_EBREAK: &str = "0290";
 

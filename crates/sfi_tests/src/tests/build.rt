@@ -1,28 +1,24 @@
-//! Building: texts, and the images or the faults that they give.
+//! Building: texts, and the images that they give.
 use super::image::text_of;
-use super::programs::{BRANCH, HI, HI_IMAGE, STORE, repeated};
+use super::programs::{HI, HI_IMAGE, READS, READS_IMAGE, YIELDS, YIELDS_IMAGE};
 use sfi_check::check;
 use sfi_image::{parse_image, write_image};
-use sfi_link::{BuildFault, LinkFault, build};
-use sfi_rewrite::RewriteFault;
-use std::alloc::Global;
+use sfi_link::build;
 use std::test::Fail;
 
-// The build is accepted, with so many bundles.
-fn is_accepted(alloc: Global, text: &str, bundles: usize) -> Result<bool, Fail> {
-    let bytes = build(alloc, text)?;
-    let accepted = check(alloc, bytes.as_slice())?;
-    Ok(accepted.sandboxes() == 1 && accepted.bundles() == bundles)
-}
-
 #[test]
-fn calls_are_built_to_the_letter(rt: HostRuntime) -> Result<(), Fail> {
+fn images_are_built_to_the_letter(rt: HostRuntime) -> Result<(), Fail> {
     let alloc = rt.alloc();
-    let bytes = build(alloc, HI)?;
-    let wanted = hex::decode(alloc, text_of(alloc, &HI_IMAGE)?.as_slice())?;
-    assert_eq!(rt; bytes.len(), 310);
-    assert!(rt; bytes.as_slice() == wanted.as_slice());
-    assert!(rt; is_accepted(alloc, HI, 16)?);
+    for (source, image, len) in [
+        (HI, HI_IMAGE, 310),
+        (YIELDS, YIELDS_IMAGE, 300),
+        (READS, READS_IMAGE, 310),
+    ] {
+        let bytes = build(alloc, source)?;
+        let wanted = hex::decode(alloc, text_of(alloc, &image)?.as_slice())?;
+        assert_eq!(rt; bytes.len(), len, "{source}");
+        assert!(rt; bytes.as_slice() == wanted.as_slice(), "{source}");
+    }
     Ok(())
 }
 
@@ -33,43 +29,6 @@ fn parts_are_written_to_the_letter(rt: HostRuntime) -> Result<(), Fail> {
     let image = parse_image(alloc, bytes.as_slice())?;
     let written = write_image(alloc, image.parts())?;
     assert!(rt; written.as_slice() == bytes.as_slice());
-    Ok(())
-}
-
-#[test]
-fn a_branch_reaches_255_stores(rt: HostRuntime) -> Result<(), Fail> {
-    let alloc = rt.alloc();
-    let reached = repeated(alloc, BRANCH, STORE, 255, "over:\n")?;
-    assert!(rt; is_accepted(alloc, reached.as_str(), 256)?);
-    let missed = repeated(alloc, BRANCH, STORE, 256, "over:\n")?;
-    let fault = BuildFault::Link(LinkFault::BranchReach { line: 2 });
-    assert_eq!(rt; build(alloc, missed.as_str()).err(), Some(fault));
-    Ok(())
-}
-
-#[test]
-fn a_region_holds_4096_bundles(rt: HostRuntime) -> Result<(), Fail> {
-    let alloc = rt.alloc();
-    let full = repeated(alloc, ".sandbox 256\n", STORE, 4096, "")?;
-    assert!(rt; is_accepted(alloc, full.as_str(), 4096)?);
-    let more = repeated(alloc, ".sandbox 256\n", STORE, 4097, "")?;
-    let fault = BuildFault::Rewrite(RewriteFault::TooLarge { sandbox: 0 });
-    assert_eq!(rt; build(alloc, more.as_str()).err(), Some(fault));
-    let gated = repeated(alloc, ".sandbox 256\n.gate g 0\n", STORE, 4096, "")?;
-    let fault = BuildFault::Link(LinkFault::TooLarge { sandbox: 0 });
-    assert_eq!(rt; build(alloc, gated.as_str()).err(), Some(fault));
-    Ok(())
-}
-
-#[test]
-fn sixteen_sandboxes_are_linked(rt: HostRuntime) -> Result<(), Fail> {
-    let alloc = rt.alloc();
-    let sixteen = repeated(alloc, "", ".sandbox 256\nebreak\n", 16, "")?;
-    let bytes = build(alloc, sixteen.as_str())?;
-    assert_eq!(rt; check(alloc, bytes.as_slice())?.sandboxes(), 16);
-    let more = repeated(alloc, "", ".sandbox 256\nebreak\n", 17, "")?;
-    let fault = BuildFault::Link(LinkFault::TooManySandboxes);
-    assert_eq!(rt; build(alloc, more.as_str()).err(), Some(fault));
     Ok(())
 }
 

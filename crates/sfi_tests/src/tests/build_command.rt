@@ -1,7 +1,7 @@
 //! The command `build`.
 use super::image::text_of;
-use super::programs::{BRANCH, HI, HI_EXAMPLE, HI_IMAGE, STORE, repeated};
-use super::{Outcome, built_and_run, run};
+use super::programs::{HI, HI_EXAMPLE, HI_IMAGE};
+use super::{Outcome, run};
 use std::alloc::{AllocError, Global};
 use std::test::Fail;
 
@@ -28,57 +28,5 @@ fn faults(rt: HostRuntime) -> Result<(), Fail> {
     let alloc = rt.alloc();
     assert!(rt; expect(alloc, b"", 2, b"source fault 6 Directive line 1\n")?);
     assert!(rt; expect(alloc, b".sandbox 256\n\xff\n", 2, b"input fault utf8\n")?);
-    Ok(())
-}
-
-#[test]
-fn at_the_limits(rt: HostRuntime) -> Result<(), Fail> {
-    let alloc = rt.alloc();
-    let rows = [
-        (BRANCH, 255, "over:\n", "accepted sandboxes=1 bundles=256\n"),
-        (
-            ".sandbox 256\n",
-            4096,
-            "",
-            "accepted sandboxes=1 bundles=4096\n",
-        ),
-    ];
-    for (head, times, end, line) in rows {
-        let text = repeated(alloc, head, STORE, times, end)?;
-        let Outcome { status, text } = built_and_run(alloc, &text, "sfi check")?;
-        assert_eq!(rt; status, 0, "{line}");
-        assert!(rt; text.as_slice() == line.as_bytes(), "{line}");
-    }
-    let refused = [
-        (BRANCH, 256, "over:\n", "link fault 2 BranchReach line 2\n"),
-        (
-            ".sandbox 256\n",
-            4097,
-            "",
-            "rewrite fault 3 TooLarge sandbox 0\n",
-        ),
-        (
-            ".sandbox 256\n.gate quit 0\n",
-            4096,
-            "",
-            "link fault 3 TooLarge sandbox 0\n",
-        ),
-    ];
-    for (head, times, end, line) in refused {
-        let text = repeated(alloc, head, STORE, times, end)?;
-        assert!(rt;
-            expect(alloc, text.as_bytes(), 2, line.as_bytes())?,
-            "{line}"
-        );
-    }
-    let many = repeated(alloc, "", ".sandbox 256\nret\n", 17, "")?;
-    assert!(rt;
-        expect(
-            alloc,
-            many.as_bytes(),
-            2,
-            b"link fault 4 TooManySandboxes\n"
-        )?
-    );
     Ok(())
 }

@@ -4,8 +4,7 @@ use super::codes::{
     MASKS_STACK, MOVED_NOP_PAIR, MOVED_THEN_PAIR, MOVES_STACK, STORES_ON_STACK,
 };
 use super::image::{CODE, Edit, FILL, SFI1, SFI2, image, image_bytes, put, text_of};
-use super::lines::{ACCEPTED, REFUSED_V4, REFUSED_V5, REFUSED_V10, SHORT};
-use super::programs::{STORE, repeated};
+use super::lines::{ACCEPTED, REFUSED_V4, REFUSED_V5, REFUSED_V10};
 use super::{Outcome, built_and_run, run};
 use rv_text::{TextCause, TextFault, parse_source};
 use sfi_image::{parse_image, write_image_as};
@@ -117,7 +116,7 @@ fn answer(alloc: Global, line: &str, edits: &[Edit<'_>]) -> Result<Outcome, Allo
 
 // The verdict or the fault of the image after the edits is this line, of its digits and of its
 // own bytes.
-fn is_judged(
+pub(super) fn is_judged(
     rt: &impl Abort,
     alloc: Global,
     name: &str,
@@ -141,29 +140,6 @@ fn verdicts(rt: HostRuntime) -> Result<(), Fail> {
             let edits = [put(0, magic), put(CODE.saturating_add(row.at), row.digits)];
             is_judged(&rt, rt.alloc(), row.name, &edits, wanted)?;
         }
-    }
-    Ok(())
-}
-
-// Code sizes of 65536, 1048576 and 2097152 bytes, of which 256 are there.
-#[test]
-fn code_sizes(rt: HostRuntime) -> Result<(), Fail> {
-    let wrong = "layout fault 4 Code\n";
-    for (magic, size, wanted) in [
-        (SFI1, "00000100", SHORT),
-        (SFI1, "00001000", wrong),
-        (SFI1, "00002000", wrong),
-        (SFI2, "00000100", SHORT),
-        (SFI2, "00001000", SHORT),
-        (SFI2, "00002000", wrong),
-    ] {
-        is_judged(
-            &rt,
-            rt.alloc(),
-            size,
-            &[put(0, magic), put(12, size)],
-            wanted,
-        )?;
     }
     Ok(())
 }
@@ -256,19 +232,6 @@ fn a_stack_takes_fewer_steps(rt: HostRuntime) -> Result<(), Fail> {
         assert_eq!(rt; text.as_slice(), said.as_bytes(), "{format}");
         assert_eq!(rt; status, 0, "{format}");
     }
-    Ok(())
-}
-
-#[test]
-fn code_is_as_large_as_the_format_allows(rt: HostRuntime) -> Result<(), Fail> {
-    let alloc = rt.alloc();
-    let source = repeated(alloc, ".format 2\n.sandbox 256\n", STORE, 4097, "")?;
-    let Outcome { status, text } = built_and_run(alloc, source.as_str(), "sfi check")?;
-    assert_eq!(rt;
-        text.as_slice(),
-        b"accepted sandboxes=1 bundles=8192\n".as_slice()
-    );
-    assert_eq!(rt; status, 0);
     Ok(())
 }
 

@@ -2,7 +2,6 @@
 use sfi_check::Refusal;
 use sfi_image::{Gate, ImageFault, LayoutFault, parse_image, write_image, write_image_as};
 use sfi_policy::Format;
-use std::alloc::Global;
 use std::test::Fail;
 
 // The head of an image with one sandbox: code 256 at 01000000, data 256 at 01800000, start
@@ -69,40 +68,6 @@ fn writes_an_image_of_the_second_format(rt: HostRuntime) -> Result<(), Fail> {
     assert!(rt; written.strip_prefix(b"SFI2".as_slice()) == bytes.strip_prefix(b"SFI1".as_slice()));
     let image = parse_image(rt.alloc(), &written)?;
     assert!(rt; image.format() == Format::Sfi2);
-    Ok(())
-}
-
-// The number of the fault of an image's first bytes: this digit of the magic,
-// and so many times 65536 bytes of code.
-fn fault_of(alloc: Global, digit: u8, size: u8) -> Option<u32> {
-    let front = [
-        0x53, 0x46, 0x49, digit, 1, 0, 0, 0, 0, 0, 0, 1, 0, 0, size, 0, 0, 0, 0, 2, 0, 1, 0, 0, 0,
-        0, 0, 1, 0, 0, 0, 0, 0, 0, 0, 0,
-    ];
-    match parse_image(alloc, &front) {
-        Err(ImageFault::Layout(fault)) => Some(fault.number()),
-        _ => None,
-    }
-}
-
-#[test]
-fn code_is_as_large_as_the_format_allows(rt: HostRuntime) -> Result<(), Fail> {
-    let alloc = rt.alloc();
-    for (digit, size, number) in [
-        (b'1', 1, 3),
-        (b'1', 16, 4),
-        (b'1', 32, 4),
-        (b'2', 1, 3),
-        (b'2', 16, 3),
-        (b'2', 32, 4),
-        (b'3', 1, 1),
-    ] {
-        assert_eq!(rt;
-            fault_of(alloc, digit, size),
-            Some(number),
-            "{digit} {size}"
-        );
-    }
     Ok(())
 }
 

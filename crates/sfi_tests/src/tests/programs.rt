@@ -46,28 +46,39 @@ pub(super) const HI_IMAGE: [(&str, usize); 3] = [(HI_HEAD, 1), (FILL, 88), ("486
 /// What a run of it says.
 pub(super) const HI_SAID: &str = "sandbox=0 exit=105 steps=19 out=4869\n";
 
-// A gate y for service 3; `again: call y`, `j again`.
+/// Yields again and again.
+pub(super) const YIELDS: &str = ".sandbox 256
+.gate y 3
+again: call y
+j again
+";
+
 const YIELDS_HEAD: &str = "534649310100000000000001000100000000800100010000100000010100000000000000\
     0000000103000000\
     73000000b3ff9001b3ef8f0167800f00010001000100010001000100eff05ffe6ff01fff";
 
-/// A program that yields again and again.
+/// Its image.
 pub(super) const YIELDS_IMAGE: [(&str, usize); 3] = [(YIELDS_HEAD, 1), (FILL, 110), ("", 0)];
 
-// Gates get and quit; `la a0, buf`, `li a1, 2`, `call get`, `call quit`.
+/// Reads into its two data bytes and exits with how many bytes it got.
+pub(super) const READS: &str = ".sandbox 256
+.gate get 2
+.gate quit 0
+la a0, buf
+li a1, 2
+call get
+call quit
+.data
+buf: .zero 2
+";
+
 const READS_HEAD: &str = "534649310100000000000001000100000000800100010000200000010200000002000000\
     00000001020000001000000100000000\
     73000000b3ff9001b3ef8f0167800f0073000000b3ff9001b3ef8f0167800f00\
     370580011305050093052000eff05ffd010001000100010001000100eff05ffd";
 
-/// A program that reads into its two data bytes `buf` and exits with how many bytes it got.
+/// Its image.
 pub(super) const READS_IMAGE: [(&str, usize); 3] = [(READS_HEAD, 1), (FILL, 96), ("0000", 1)];
-
-/// A store, whose expansion fills a bundle.
-pub(super) const STORE: &str = "sw a1, 0(a2)\n";
-
-/// A branch over the stores after it, to `over`.
-pub(super) const BRANCH: &str = ".sandbox 256\nbeqz a0, over\n";
 
 /// A head, a line so many times, and an end.
 pub(super) fn repeated(

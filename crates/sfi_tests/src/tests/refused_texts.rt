@@ -12,11 +12,21 @@ struct Row<'a> {
     line: &'a str,
 }
 
-fn rows() -> [Row<'static>; 6] {
-    let operands = TextFault {
-        line: 2,
-        cause: TextCause::Operands,
-    };
+// A text with a fault of its own on a line.
+fn source<'a>(text: &'a str, line: u32, cause: TextCause, printed: &'a str) -> Row<'a> {
+    Row {
+        text,
+        fault: BuildFault::Text(TextFault { line, cause }),
+        line: printed,
+    }
+}
+
+// A text whose second line has a number out of its range.
+fn number<'a>(text: &'a str) -> Row<'a> {
+    source(text, 2, TextCause::Number, "source fault 3 Number line 2\n")
+}
+
+fn rows() -> [Row<'static>; 11] {
     [
         Row {
             text: ".sandbox 256\nmv t6, a0",
@@ -33,11 +43,22 @@ fn rows() -> [Row<'static>; 6] {
             fault: BuildFault::Rewrite(RewriteFault::StackWrite { line: 3 }),
             line: "rewrite fault 5 StackWrite line 3\n",
         },
-        Row {
-            text: ".sandbox 256\nli a0 5",
-            fault: BuildFault::Text(operands),
-            line: "source fault 4 Operands line 2\n",
-        },
+        source(
+            ".sandbox 256\nli a0 5",
+            2,
+            TextCause::Operands,
+            "source fault 4 Operands line 2\n",
+        ),
+        source(
+            ".format 3",
+            1,
+            TextCause::Number,
+            "source fault 3 Number line 1\n",
+        ),
+        number(".sandbox 256\nlw a0, 2048(a1)"),
+        number(".sandbox 256\nlw a0, -2049(a1)"),
+        number(".sandbox 256\nsw a0, 2048(a1)"),
+        number(".sandbox 256\nsw a0, -2049(a1)"),
         Row {
             text: ".sandbox 256\nj away",
             fault: BuildFault::Link(LinkFault::UnknownName { line: 2 }),

@@ -2,8 +2,8 @@
 use super::codes::HALF_A_PAIR;
 use super::image::{EBREAK, HEAD, text_of};
 use super::lines::{ODD, SHORT};
-use super::programs::{HI_IMAGE, HI_SAID, READS_IMAGE, YIELDS_IMAGE};
-use super::{Outcome, run};
+use super::programs::{HI, HI_SAID, READS, YIELDS};
+use super::{Outcome, built_and_run, run};
 use std::alloc::Global;
 use std::process::Abort;
 use std::test::Fail;
@@ -66,44 +66,48 @@ fn one_sandbox_runs(rt: HostRuntime) -> Result<(), Fail> {
     Ok(())
 }
 
-#[test]
-fn a_sandbox_writes(rt: HostRuntime) -> Result<(), Fail> {
-    let alloc = rt.alloc();
-    let input = text_of(alloc, &HI_IMAGE)?;
-    for command in ["sfi run", "sfi run --rounds 1000 --quantum 1"] {
-        expect_said(&rt, alloc, command, input.as_slice(), 0, HI_SAID)?;
-    }
-    Ok(())
-}
+// Accesses as far from the data's ends as they can reach.
+const STORES_FAR_ABOVE: &str = ".sandbox 256\nli a1, -1\nsw a0, 2047(a1)\n";
+
+const LOADS_FAR_BELOW: &str = ".sandbox 256\nlb a0, -2048(a1)\n";
 
 #[test]
-fn a_sandbox_yields(rt: HostRuntime) -> Result<(), Fail> {
+fn texts_run(rt: HostRuntime) -> Result<(), Fail> {
     let alloc = rt.alloc();
-    let input = text_of(alloc, &YIELDS_IMAGE)?;
-    for (command, said) in [
+    let rows = [
+        (HI, "sfi run", HI_SAID),
+        (HI, "sfi run --rounds 1000 --quantum 1", HI_SAID),
         (
+            YIELDS,
             "sfi run --rounds 3 --quantum 1000",
             "sandbox=0 ready steps=32 out=\n",
         ),
         (
+            YIELDS,
             "sfi run --rounds 3 --quantum 8",
             "sandbox=0 ready steps=20 out=\n",
         ),
-    ] {
-        expect_said(&rt, alloc, command, input.as_slice(), 0, said)?;
-    }
-    Ok(())
-}
-
-#[test]
-fn a_sandbox_reads(rt: HostRuntime) -> Result<(), Fail> {
-    let alloc = rt.alloc();
-    let input = text_of(alloc, &READS_IMAGE)?;
-    for (command, said) in [
-        ("sfi run --input 616263", "sandbox=0 exit=2 steps=16 out=\n"),
-        ("sfi run", "sandbox=0 exit=0 steps=16 out=\n"),
-    ] {
-        expect_said(&rt, alloc, command, input.as_slice(), 0, said)?;
+        (
+            READS,
+            "sfi run --input 616263",
+            "sandbox=0 exit=2 steps=16 out=\n",
+        ),
+        (READS, "sfi run", "sandbox=0 exit=0 steps=16 out=\n"),
+        (
+            STORES_FAR_ABOVE,
+            "sfi run",
+            "sandbox=0 trap=Store at=018008fe steps=3 out=\n",
+        ),
+        (
+            LOADS_FAR_BELOW,
+            "sfi run",
+            "sandbox=0 trap=Load at=017ff800 steps=2 out=\n",
+        ),
+    ];
+    for (source, command, said) in rows {
+        let Outcome { status, text } = built_and_run(alloc, source, command)?;
+        assert_eq!(rt; text.as_slice(), said.as_bytes(), "{command}");
+        assert_eq!(rt; status, 0, "{command}");
     }
     Ok(())
 }

@@ -1,5 +1,5 @@
 //! Images as streams of bytes, and the command `check --raw`.
-use super::codes::{BARE_STORE, MOVES_STACK};
+use super::codes::{HALF_A_PAIR, MOVES_STACK};
 use super::image::{CODE, END, Edit, SFI2, SFI3, end_in, image_bytes, put, same};
 use super::pieces::Pieces;
 use super::{Outcome, lines, words_of};
@@ -15,13 +15,13 @@ const ACCEPTED: StreamAnswer = StreamAnswer::Accepted {
     bundles: 16,
 };
 
-// So many findings, the first of them at the first address of the code.
-fn first_breaks(rule: Rule, count: u32) -> StreamAnswer {
+// So many findings, the first of them at this address.
+fn refused(count: u32, rule: Rule, address: u32) -> StreamAnswer {
     StreamAnswer::Findings {
         count,
         first: Finding {
             sandbox: 0,
-            address: 0x0100_0000,
+            address,
             rule,
         },
     }
@@ -46,7 +46,7 @@ fn row_of<'a>(name: &'a str, edits: [Edit<'a>; 2], answer: StreamAnswer) -> Row<
 fn rows() -> [Row<'static>; 12] {
     let second_format = put(0, SFI2);
     let first_data = put(32, "00010000");
-    let bare_store = put(CODE, BARE_STORE);
+    let half_a_pair = put(CODE, HALF_A_PAIR);
     let lowered = put(CODE, MOVES_STACK);
     let less_a_byte = end_in(END - 1, "", 0);
     let one_more = end_in(END, "00", 1);
@@ -58,21 +58,21 @@ fn rows() -> [Row<'static>; 12] {
         row_of(
             "x2 moves in the second format",
             [second_format, lowered],
-            first_breaks(Rule::V10, 1),
+            refused(1, Rule::V10, 0x0100_0000),
         ),
         row_of(
             "zeros",
             [end_in(CODE, "00", 256), same()],
-            first_breaks(Rule::V1, 16),
+            refused(16, Rule::V1, 0x0100_0000),
         ),
         row_of(
-            "bare store",
-            [bare_store, same()],
-            first_breaks(Rule::V5, 1),
+            "half a pair",
+            [half_a_pair, same()],
+            refused(1, Rule::V5, 0x0100_0004),
         ),
         row_of(
-            "bare store less the last byte",
-            [bare_store, less_a_byte],
+            "half a pair less the last byte",
+            [half_a_pair, less_a_byte],
             StreamAnswer::Layout(3),
         ),
         row_of("empty", [end_in(0, "", 0), same()], StreamAnswer::Layout(3)),
@@ -107,43 +107,45 @@ fn pieces(rt: HostRuntime) -> Result<(), Fail> {
     Ok(())
 }
 
-// The smallest image has 292 bytes, so 42 reads of 7 take it and one more finds its end.
+// The smallest image has 292 bytes, so 42 reads of 7 or 3 of 100 take it, and one more finds its end.
+// The second read of 100 fails after 100 bytes.
 #[test]
 fn failing_streams(rt: HostRuntime) -> Result<(), Fail> {
     let bytes = image_bytes(rt.alloc(), &[])?;
-    for calls in 0..44usize {
-        let mut reader = Pieces::new(bytes.as_slice(), 7, calls);
-        let mut source = Reading::new(&mut reader);
-        let answer = if calls < 43 {
-            StreamAnswer::ReadFault
-        } else {
-            ACCEPTED
-        };
-        assert_eq!(rt; check_stream(&mut source), answer, "{calls}");
+    for (step, enough) in [(7usize, 43usize), (100, 4)] {
+        for calls in 0..=enough {
+            let mut reader = Pieces::new(bytes.as_slice(), step, calls);
+            let mut source = Reading::new(&mut reader);
+            let answer = if calls < enough {
+                StreamAnswer::ReadFault
+            } else {
+                ACCEPTED
+            };
+            assert_eq!(rt; check_stream(&mut source), answer, "{calls} by {step}");
+        }
     }
     Ok(())
 }
 
-// Runs the command over the bytes, of which a read gives 50, with so many reads.
-fn run_by_fifty(alloc: Global, bytes: &[u8], calls: usize) -> Result<Outcome, AllocError> {
+// Runs the command over the bytes, of which a read gives 100, with so many reads.
+fn run_by_hundreds(alloc: Global, bytes: &[u8], calls: usize) -> Result<Outcome, AllocError> {
     let words = words_of(alloc, "sfi check --raw")?;
-    let mut reader = Pieces::new(bytes, 50, calls);
+    let mut reader = Pieces::new(bytes, 100, calls);
     let mut text = Vec::new(alloc);
     let status = run_tool(alloc, words.as_slice(), &mut reader, &mut text);
     Ok(Outcome { status, text })
 }
 
-// 6 reads of 50 take the image and one more finds its end. The third fails after 100 bytes.
 #[test]
 fn failing_runs(rt: HostRuntime) -> Result<(), Fail> {
     let alloc = rt.alloc();
     let bytes = image_bytes(alloc, &[])?;
-    for calls in 0..7 {
-        let Outcome { status, text } = run_by_fifty(alloc, bytes.as_slice(), calls)?;
+    for calls in 0..4 {
+        let Outcome { status, text } = run_by_hundreds(alloc, bytes.as_slice(), calls)?;
         assert_eq!(rt; status, 5, "{calls}");
         assert!(rt; text.is_empty(), "{calls}");
     }
-    let Outcome { status, text } = run_by_fifty(alloc, bytes.as_slice(), 7)?;
+    let Outcome { status, text } = run_by_hundreds(alloc, bytes.as_slice(), 4)?;
     assert_eq!(rt; status, 0);
     assert_eq!(rt; text.as_slice(), lines::ACCEPTED.as_bytes());
     Ok(())
@@ -157,6 +159,7 @@ fn failed_reads(rt: HostRuntime) -> Result<(), Fail> {
     let mut source = Reading::new(&mut reader);
     assert_eq!(rt; source.read_some(&mut [0]), Err(ReadFault));
     assert!(rt; source.failed());
-    assert_eq!(rt; format!(in alloc; "{}", ReadFault)?, "a read failed");
+    let text = format!(in alloc; "{}", ReadFault)?;
+    assert_eq!(rt; text.as_str(), "a read failed");
     Ok(())
 }
