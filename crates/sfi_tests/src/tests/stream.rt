@@ -157,6 +157,9 @@ fn failed_reads(rt: HostRuntime) -> Result<(), Fail> {
     let mut source = Reading::new(&mut reader);
     assert_eq!(rt; source.read_some(&mut [0]), Err(ReadFault));
     assert!(rt; source.failed());
-    assert_eq!(rt; format!(in alloc; "{}", ReadFault)?, "a read failed");
+    assert_eq!(rt;
+        format!(in alloc; "{}", ReadFault)?.as_str(),
+        "a read failed"
+    );
     Ok(())
 }
