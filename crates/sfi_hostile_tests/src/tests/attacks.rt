@@ -187,8 +187,8 @@ impl Attack {
         })
     }
 
-    /// The smallest image with it there in place of as many bytes of the code; none where it doesn't
-    /// fit. What is left of an `ebreak` beside it becomes a `c.nop` or a `c.ebreak`.
+    /// The smallest image with it there in place of as many bytes of the code; none where it
+    /// doesn't fit. What is left of an `ebreak` beside it becomes a `c.nop` or a `c.ebreak`.
     fn image(&self, alloc: Global, spot: &Spot) -> Result<Option<Vec<u8>>, Fail> {
         let Some(after) = 16u32.saturating_sub(spot.place).checked_sub(self.len()) else {
             return Ok(None);

@@ -107,8 +107,8 @@ fn pieces(rt: HostRuntime) -> Result<(), Fail> {
     Ok(())
 }
 
-// The smallest image has 292 bytes, so 42 reads of 7 or 3 of 100 take it, and one more finds its end.
-// The second read of 100 fails after 100 bytes.
+// The smallest image has 292 bytes, so 42 reads of 7 or 3 of 100 take it, and one more finds its
+// end. The second read of 100 fails after 100 bytes.
 #[test]
 fn failing_streams(rt: HostRuntime) -> Result<(), Fail> {
     let bytes = image_bytes(rt.alloc(), &[])?;
