@@ -14,7 +14,7 @@ use Rattle.sfi_check.specs.declared.conversion.ConvertFault.{ConvertFault}
 use Rattle.sfi_check.specs.declared.conversion.ConvertFault.TheVariants.{Refused, NotOld, Stack, Memory}
 use Rattle.sfi_check.specs.declared.refusal.Refusal.TheVariants as refusal
 use Rattle.sfi_tool.specs.private.Converting.{HasFound, AnswersConvertFault}
-use Rattle.sfi_tool.specs.Hexadecimal.{SpellsBytes, IsUnreadable}
+use Rattle.sfi_io.specs.Hexadecimal.{SpellsBytes, IsUnreadable}
 use Rattle.sfi_tool.specs.Verdict.{refused_line}
 use Rattle.sfi_tool.specs.Says.{Says, IsDone, IsRefused, HasInputFault}
 use Rattle.sfi_tool.specs.commands.Checking.{HasSomeFault}

@@ -1,11 +1,8 @@
-pub mod Digits
-pub mod KnownBytes
+pub mod Appending
 pub mod Texts
 pub mod Streamed
 pub mod TooLarge
 pub mod Statuses
 pub mod Conversions
-pub mod Classes
-pub mod Reading
 pub mod RawJobs
 pub mod Rounds

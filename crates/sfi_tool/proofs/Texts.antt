@@ -4,7 +4,7 @@ use Rattle.sfi_check.specs.Verdict.{HasFindings}
 use Rattle.sfi_image.specs.Faults.{IsFault}
 use Rattle.sfi_image.specs.declared.fault.LayoutFault.{LayoutFault}
 use Rattle.sfi_scan.specs.declared.finding.Finding.{Finding}
-use Rattle.sfi_tool.specs.Hexadecimal.{SpellsBytes, IsUnreadable}
+use Rattle.sfi_io.specs.Hexadecimal.{SpellsBytes, IsUnreadable}
 use Rattle.sfi_tool.specs.Meaning.{SpellsBytesThat}
 use Rattle.sfi_tool.specs.commands.Checking.{HasSomeFault, HasSomeFindings}
 

@@ -1,10 +1,9 @@
 -- A text above its limit.
 use Rattle.std.proofs.Common.{◌≡◌, ◌<◌, arith, ℕ, true, false, List, Option, Some, None, length, inl, IfSome}
 use Rattle.sfi_command.specs.Jobs.{is_raw}
-use Rattle.sfi_tool.specs.private.Input.{IsInput}
-use Rattle.sfi_tool.specs.Input.{limit}
+use Rattle.sfi_io.specs.Input.{IsInput, limit}
 use Rattle.sfi_tool.specs.Says.{HasInputFault, IsDone, IsRefused}
-use Rattle.sfi_tool.specs.declared.input.Input.TheVariants.{TooLarge}
+use Rattle.sfi_io.specs.declared.input.Input.TheVariants.{TooLarge}
 use Rattle.sfi_command.specs.declared.job.Job.{Job}
 use Rattle.sfi_command.specs.declared.job.Job.TheVariants.{Check, Dis, Build, Run, Convert}
 

@@ -1,5 +1,4 @@
 pub mod Input
-pub mod Hexadecimal
 pub mod Verdict
 pub mod RunLines
 pub mod Meaning

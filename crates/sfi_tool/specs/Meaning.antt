@@ -1,6 +1,6 @@
 -- What is said of a command, and of a command that reads hexadecimal text.
 use Rattle.std.specs.Prelude.{◌⊎◌, ℕ, List}
-use Rattle.sfi_tool.specs.Hexadecimal.{SpellsBytes, IsUnreadable}
+use Rattle.sfi_io.specs.Hexadecimal.{SpellsBytes, IsUnreadable}
 
 -- what is said of a command, by what was read
 pub record Meaning : Type 1 where

@@ -23,3 +23,7 @@ pub record MeetsInputFault (words : List Text) (input : Option (List ℕ)) : Typ
 -- that, or the words ask for a run whose input spells no bytes
 abbrev pub MeetsFault : List Text → Option (List ℕ) → Type 0
 MeetsFault words input = MeetsInputFault words input ⊎ AsksNoInput words
+
+-- all that was written before stays as it was, and a text follows it, maybe an empty one
+abbrev pub OnlyAppends : Option (List ℕ) → Option (List ℕ) → Type 0
+OnlyAppends old new = (text : List ℕ) × Appends old new text

@@ -1,6 +1,4 @@
 -- Words that private contracts and proofs alone cite: no public statement rests on them.
 pub mod Converting
-pub mod Hexadecimal
-pub mod Input
 pub mod Says
 pub mod Rounds

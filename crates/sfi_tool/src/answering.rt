@@ -2,7 +2,7 @@
 
 ghost use Rattle.std.specs.Prelude.{◌≡◌, ◌≤◌, ◌<◌, false, length, IfOk, IfErr, IsErr, string_bytes};
 ghost use Rattle.sfi_command.specs.Jobs.{is_raw};
-ghost use Rattle.sfi_tool.specs.Input.{limit};
+ghost use Rattle.sfi_io.specs.Input.{limit};
 ghost use Rattle.sfi_tool.specs.Says.{HasInputFault, IsDone, IsRefused, Says};
 ghost use Rattle.sfi_tool.specs.private.Says.{AnswersStatus, IsStop};
 
@@ -10,11 +10,11 @@ use crate::building::build_answer;
 use crate::checking::check_answer;
 use crate::converting::conversion_answer;
 use crate::fault::{InputFault, Stop, fault_line, layout_line};
-use crate::input::INPUT_LIMIT;
 use crate::listing::listing_answer;
 use crate::running::run_answer;
 use crate::verdict::Answer;
 use sfi_command::Job;
+use sfi_io::INPUT_LIMIT;
 use std::alloc::{AllocError, Global};
 
 /// What the job answers on a text that keeps its limit, or why it stops.

@@ -7,16 +7,16 @@ ghost use Rattle.sfi_image.specs.Faults.{IsFault};
 ghost use Rattle.sfi_check.specs.Verdict.{IsAccepted, HasFindings};
 ghost use Rattle.sfi_scan.specs.declared.finding.Finding.{Finding};
 ghost use Rattle.sfi_tool.specs.private.Says.{AnswersStatus, IsRefusalStop, IsStop, Refuses};
-ghost use Rattle.sfi_tool.specs.Input.{limit};
+ghost use Rattle.sfi_io.specs.Input.{limit};
 ghost use Rattle.sfi_tool.specs.Says.{HasInputFault, IsDone, IsRefused, Says};
 ghost use Rattle.sfi_tool.specs.commands.Checking.{IsRefusalText, IsReportOf, SaysRefused};
 ghost use Rattle.sfi_command.specs.declared.job.Job.TheVariants.{Check};
 
 use crate::fault::Stop;
-use crate::hexadecimal::bytes_of;
 use crate::verdict::{Answer, accepted_line, refused_line};
 use sfi_check::{Refusal, check};
 use sfi_image::{one_reading, parse_image};
+use sfi_io::bytes_of;
 use sfi_report::report_text;
 use sfi_scan::Finding;
 use std::alloc::{AllocError, Global};

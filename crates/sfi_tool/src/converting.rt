@@ -4,16 +4,16 @@ ghost use Rattle.std.specs.Prelude.{◌≡◌, ◌≢◌, ◌≤◌, [], IfOk, I
 ghost use Rattle.sfi_check.specs.declared.conversion.ConvertFault.TheVariants.{Refused};
 ghost use Rattle.sfi_tool.specs.private.Converting.{AnswersConvertFault, HoldsSome};
 ghost use Rattle.sfi_tool.specs.private.Says.{AnswersStatus, IsStop};
-ghost use Rattle.sfi_tool.specs.Input.{limit};
+ghost use Rattle.sfi_io.specs.Input.{limit};
 ghost use Rattle.sfi_tool.specs.Says.{HasInputFault, IsDone, IsRefused, Says};
 ghost use Rattle.sfi_tool.specs.Verdict.{refused_line};
 ghost use Rattle.sfi_command.specs.declared.job.Job.TheVariants.{Convert};
 
 use crate::building::digits_line;
 use crate::fault::{InputFault, Stop};
-use crate::hexadecimal::bytes_of;
 use crate::verdict::{Answer, refused_line};
 use sfi_check::{ConvertFault, Refusal, convert};
+use sfi_io::bytes_of;
 use sfi_scan::Finding;
 use std::alloc::{AllocError, Global};
 

@@ -3,11 +3,12 @@
 ghost use Rattle.std.specs.Prelude.{◌≡◌};
 ghost use Rattle.sfi_image.specs.declared.fault.LayoutFault.{LayoutFault};
 ghost use Rattle.sfi_image.specs.Faults.{number_of};
-ghost use Rattle.sfi_tool.specs.private.Says.{StopsBuild};
+ghost use Rattle.sfi_tool.specs.private.Says.{StopsBuild, stop_of};
 ghost use Rattle.sfi_tool.specs.declared.fault.Stop.TheVariants.{Memory};
 
 use rv_text::{TextCause, TextFault};
 use sfi_image::{ImageFault, LayoutFault};
+use sfi_io::{HexFault, HexStop};
 use sfi_link::{BuildFault, LinkFault};
 use sfi_rewrite::RewriteFault;
 use std::alloc::{AllocError, Global};
@@ -22,11 +23,8 @@ pub(crate) const TOO_LARGE_LINE: &str = "input fault too large\n";
 pub(crate) enum InputFault {
     #[error("{}", TOO_LARGE_LINE.trim_ascii_end())]
     TooLarge,
-    #[error("input fault hex odd")]
-    HexOdd,
-    /// The place of the first byte that is no digit, counted from 0 among what isn't white space.
-    #[error("input fault hex digit {0}")]
-    HexDigit(usize),
+    #[error("{0}")]
+    Hex(HexFault),
     #[error("input fault utf8")]
     Utf8,
     /// It spells an image of the second format, which `convert` makes.
@@ -49,6 +47,17 @@ impl From<AllocError> for Stop {
 
     fn from(_e: AllocError) -> Stop {
         Stop::Memory
+    }
+}
+
+impl From<HexStop> for Stop {
+    ghost from_gives = { λ stop given. given ≡ stop_of stop };
+
+    fn from(stop: HexStop) -> Stop {
+        match stop {
+            HexStop::Fault(fault) => Stop::Input(InputFault::Hex(fault)),
+            HexStop::Memory => Stop::Memory,
+        }
     }
 }
 

@@ -2,14 +2,14 @@
 
 ghost use Rattle.std.specs.Prelude.{◌≤◌, IfOk, IfErr, IsErr, string_bytes, length};
 ghost use Rattle.sfi_tool.specs.private.Says.{AnswersStatus, IsStop};
-ghost use Rattle.sfi_tool.specs.Input.{limit};
+ghost use Rattle.sfi_io.specs.Input.{limit};
 ghost use Rattle.sfi_tool.specs.Says.{HasInputFault, IsDone, Says};
 ghost use Rattle.sfi_command.specs.declared.job.Job.TheVariants.{Dis};
 
 use crate::fault::Stop;
-use crate::hexadecimal::bytes_of;
 use crate::verdict::Answer;
 use sfi_image::{ImageFault, parse_image};
+use sfi_io::bytes_of;
 use sfi_report::listing_text;
 use std::alloc::Global;
 

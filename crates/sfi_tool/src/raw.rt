@@ -5,10 +5,10 @@ ghost use Rattle.sfi_tool.specs.Says.{HasInputFault, Says};
 ghost use Rattle.sfi_command.specs.declared.job.Job.TheVariants.{Check};
 
 use crate::fault::{fault_numbered, layout_line};
-use crate::input::ReadStop;
 use crate::verdict::{Answer, accepted_line, refused_line};
 use sfi_check::{StreamAnswer, check_stream};
 use sfi_image::Reading;
+use sfi_io::ReadStop;
 use std::alloc::Global;
 use std::io::Read;
 

@@ -3,19 +3,19 @@
 ghost use Rattle.std.specs.Prelude.{◌≤◌, IfOk, IfErr, IsErr, string_bytes, length};
 ghost use Rattle.sfi_tool.specs.RunLines.{IsRunText};
 ghost use Rattle.sfi_tool.specs.private.Says.{AnswersStatus, IsStop};
-ghost use Rattle.sfi_tool.specs.Input.{limit};
+ghost use Rattle.sfi_io.specs.Input.{limit};
 ghost use Rattle.sfi_tool.specs.Says.{HasInputFault, IsDone, IsRefused, Says};
 ghost use Rattle.sfi_command.specs.declared.job.Job.TheVariants.{Run};
 
 use crate::checking::refusal_answer;
 use crate::fault::Stop;
-use crate::hexadecimal::bytes_of;
 use crate::plan::{round_of, take_rounds};
 use crate::run_lines::run_lines;
 use crate::verdict::Answer;
 use rv_mem::Pages;
 use sfi_check::{Accepted, check};
 use sfi_host::{Console, World};
+use sfi_io::bytes_of;
 use std::alloc::{AllocError, Global};
 
 /// Runs the sandboxes of an accepted image, and says what became of each.

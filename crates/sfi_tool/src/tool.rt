@@ -3,18 +3,16 @@
 ghost use Rattle.std.specs.Prelude.{◌≡◌, ◌<◌, ◌≤◌, ◌≢◌, ℕ, List, true, false, IfSome, map, string_bytes};
 ghost use Rattle.std.specs.Io.KnownBytes.{Appends};
 ghost use Rattle.sfi_command.specs.Command.{Asks, AsksNothing};
-ghost use Rattle.sfi_tool.specs.Input.{OnlyAppends};
-ghost use Rattle.sfi_tool.specs.Run.{WritesAnswer, MeetsFault};
+ghost use Rattle.sfi_tool.specs.Run.{WritesAnswer, MeetsFault, OnlyAppends};
 ghost use Rattle.sfi_tool.specs.Says.{HasInputFault, Says};
 ghost use Rattle.sfi_command.specs.declared.job.Job.{Job};
 ghost use Rattle.sfi_command.specs.declared.job.Job.TheVariants.{Check};
 
 use crate::answering::answer;
 use crate::fault::TOO_LARGE_LINE;
-use crate::input::{Input, ReadStop, read_input};
-use crate::output::write_out;
 use crate::raw::raw_answer;
 use sfi_command::{HEX_LINE, JobFault, job_of};
+use sfi_io::{Input, ReadStop, read_input, write_out};
 use std::alloc::Global;
 use std::io::{Read, Write};
 

@@ -9,6 +9,9 @@ use Rattle.sfi_check.specs.Verdict.{IsAccepted, HasFindings, AnswersLayout, Answ
 use Rattle.sfi_link.specs.declared.build_fault.BuildFault.{BuildFault}
 use Rattle.sfi_link.specs.Texts.{IsWantOfMemory}
 use Rattle.sfi_scan.specs.declared.finding.Finding.{Finding}
+use Rattle.sfi_io.specs.declared.hexadecimal.HexStop.{HexStop}
+use Rattle.sfi_io.specs.declared.hexadecimal.HexStop.TheVariants as hex
+use Rattle.sfi_tool.specs.declared.fault.InputFault.TheVariants.{Hex}
 use Rattle.sfi_tool.specs.declared.fault.Stop.{Stop}
 use Rattle.sfi_tool.specs.declared.fault.Stop.TheVariants as stop
 use Rattle.sfi_command.specs.declared.job.Job.{Job}
@@ -34,6 +37,11 @@ IsRefusalStop bytes (stop.Input fault) = ⊥
 IsRefusalStop bytes (stop.Layout fault) = IsFault bytes fault
 IsRefusalStop bytes (stop.Build fault) = ⊥
 IsRefusalStop bytes stop.Memory = Unit {0}
+
+-- where a text spells no bytes, its command stops so
+abbrev pub stop_of : HexStop → Stop
+stop_of (hex.Fault fault) = stop.Input (Hex fault)
+stop_of hex.Memory = stop.Memory
 
 -- a job stops at a fault of the input only
 abbrev pub IsStop : Job → List ℕ → Stop → Type 0

@@ -1,7 +1,7 @@
 use Rattle.std.proofs.Common.{◌≡◌, ◌≢◌, ◌<◌, ◌∙◌, ℕ, List, Option, Some, None, Vec, Global, sym, subst, arith, inl, IfSome}
-use Rattle.sfi_tool.specs.private.Input.{IsInput}
+use Rattle.sfi_io.specs.Input.{IsInput}
 use Rattle.sfi_tool.specs.Says.{Says}
-use Rattle.sfi_tool.specs.declared.input.Input.TheVariants.{Whole}
+use Rattle.sfi_io.specs.declared.input.Input.TheVariants.{Whole}
 use Rattle.sfi_tool.proofs.TooLarge.{too_large_input}
 use Rattle.sfi_tool.proofs.RawJobs.{raw_check}
 use Rattle.sfi_tool.proofs.tool.run_tool.Goals as goal

@@ -1,0 +1,104 @@
+-- The table of the bytes' classes, seen right at each byte.
+use Rattle.std.proofs.Common.{◌≡◌, ℕ, ◌<◌, ◌+◌, ◌*◌, ◌==◌, ◌≤◌, ◌%◌, Bool, true, false, refl, sym, ap, ◌∙◌, arith, Option, Some, None, Ok}
+use Rattle.std.specs.Prelude.{not, slice_index, nat_lt, if◌then◌else◌}
+use Rattle.std.proofs.lemmas.Bool.{agree_below, agree_below_at}
+use Rattle.std.proofs.lemmas.Bool.Decides.{nat_tests}
+use Rattle.std.specs.Int.Bits.{bit_or}
+use Rattle.std.proofs.lemmas.Nat.{le_or_l, le_or_r}
+use Rattle.hex.specs.Hex.{hex_digit_value, pair_value, digit_or_error, value_at}
+use Rattle.sfi_io.specs.Hexadecimal.{is_kept}
+use Rattle.sfi_io.specs.private.Hexadecimal.{IsByteOf}
+use Rattle.sfi_io.specs.declared.hexadecimal.TheConstants.{CLASSES}
+
+-- a test that passes at each byte by computation
+below_256 : (test : ℕ → Bool) → agree_below test (λ b. true) 256 ≡ true → (r : ℕ) → r < 256 → test r ≡ true
+below_256 test h r lt = agree_below_at test (λ b. true) 256 r h lt
+
+abbrev same : Option ℕ → Option ℕ → Bool
+same None None = true
+same None (Some b) = false
+same (Some a) None = false
+same (Some a) (Some b) = a == b
+
+same_is : (a b : Option ℕ) → same a b ≡ true → a ≡ b
+same_is None None h = refl
+same_is None (Some b) h = cc h
+same_is (Some a) None h = cc h
+same_is (Some a) (Some b) h = ap Some (grind (arith, nat_tests))
+
+-- the digit's value of a class
+abbrev pub of_class : ℕ → Option ℕ
+of_class k = if nat_lt k 16 then Some k else None
+
+pub class_digit : (c : ℕ) → c < 256 → of_class (slice_index CLASSES c) ≡ hex_digit_value c
+class_digit c lt = same_is _ _ (below_256 (λ b. same (of_class (slice_index CLASSES b)) (hex_digit_value b)) refl c lt)
+
+pub class_white : (c : ℕ) → c < 256 → (slice_index CLASSES c == 16) ≡ not (is_kept c)
+class_white c lt = agree_below_at (λ b. slice_index CLASSES b == 16) (λ b. not (is_kept b)) 256 c refl lt
+
+pub class_digit_some : (c k : ℕ) → c < 256 → k ≡ slice_index CLASSES c → k < 16 → hex_digit_value c ≡ Some k
+class_digit_some c k lt is small =
+    let e : nat_lt (slice_index CLASSES c) 16 ≡ true = grind (arith, nat_tests, is, small) in
+    sym (class_digit c lt) ∙ rw (e, is) refl
+
+pub class_digit_none : (c : ℕ) → c < 256 → 16 ≤ slice_index CLASSES c → None ≡ hex_digit_value c
+class_digit_none c lt large =
+    let e : nat_lt (slice_index CLASSES c) 16 ≡ false = grind (arith, nat_tests, large) in
+    rw (← class_digit c lt, e) refl
+
+-- a digit isn't white
+kept_or : ℕ → Option ℕ → Bool
+kept_or c None = true
+kept_or c (Some v) = is_kept c
+
+pub digit_kept : (c v : ℕ) → c < 256 → hex_digit_value c ≡ Some v → is_kept c ≡ true
+unfolding kept_or
+digit_kept c v lt e = sym (ap (kept_or c) e) ∙ below_256 (λ b. kept_or b (hex_digit_value b)) refl c lt
+
+pub both_small : (a b : ℕ) → bit_or a b < 16 → (a < 16) × (b < 16)
+both_small a b h = (omega (arith, h, le_or_l a b), omega (arith, h, le_or_r a b))
+
+pub pair_is : (a b h v : ℕ) → hex_digit_value a ≡ Some h → hex_digit_value b ≡ Some v → (i : ℕ) → pair_value a b i ≡ Ok (h * 16 + v)
+pair_is a b h v e f i =
+    let high : value_at a i ≡ Ok h = ap (digit_or_error a i) e in
+    let low : value_at b (i + 1) ≡ Ok v = ap (digit_or_error b (i + 1)) f in
+    rw (high, low) refl
+
+pub digit_small : (c v : ℕ) → hex_digit_value c ≡ Some v → v < 16
+digit_small c v e = grind (arith, nat_tests, e)
+
+-- ---- a digit's value by arithmetic
+
+implies : Bool → Bool → Bool
+implies true b = b
+implies false b = true
+
+then_true : (a b : Bool) → a ≡ true → implies a b ≡ true → b ≡ true
+unfolding implies
+then_true true b e h = h
+then_true false b e h = cc e
+
+abbrev letter : ℕ → ℕ
+letter b = (bit_or ((b + 255) % 256) 32 + 170) % 256
+
+pub letter_is : (c : ℕ) → c < 256 → 57 < c → letter c < 16 → hex_digit_value c ≡ Some (letter c)
+unfolding implies
+letter_is c lt large small =
+    let far : nat_lt 57 c ≡ true = grind (arith, nat_tests, large) in
+    let near : nat_lt (letter c) 16 ≡ true = grind (arith, nat_tests, small) in
+    let all = below_256 (λ b. implies (nat_lt 57 b) (implies (nat_lt (letter b) 16) (same (Some (letter b)) (hex_digit_value b)))) refl c lt in
+    sym (same_is _ _ (then_true _ _ near (then_true _ _ far all)))
+
+pub or_small_l : (a b : ℕ) → bit_or a b < 16 → a < 16
+or_small_l a b h = omega (arith, h, le_or_l a b)
+
+pub or_small_r : (a b : ℕ) → bit_or a b < 16 → b < 16
+or_small_r a b h = omega (arith, h, le_or_r a b)
+
+-- the byte of two values that are digits'
+pub byte_of_values : (a b h v : ℕ) → a < 256 → b < 256 → hex_digit_value a ≡ Some h → hex_digit_value b ≡ Some v → IsByteOf a b (h * 16 + v)
+byte_of_values a b h v la lb e f = record {
+  pair = pair_is a b h v e f;
+  high_kept = digit_kept a h la e;
+  low_kept = digit_kept b v lb f;
+}

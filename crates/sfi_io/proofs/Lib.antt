@@ -1,0 +1,4 @@
+pub mod Classes
+pub mod Digits
+pub mod Reading
+pub mod KnownBytes

@@ -1,0 +1,12 @@
+use Rattle.std.proofs.Common.{◌≡◌, ◌++◌, ◌∙◌, List, ℕ, take, drop, sym, ap, append_assoc}
+use Rattle.std.proofs.lemmas.List.{take-append-drop}
+use Rattle.sfi_io.proofs.KnownBytes.{appends_more}
+use Rattle.sfi_io.proofs.output.write_out.Goals as goal
+
+split : (text front rest after : List ℕ) (n : ℕ) → text ≡ front ++ rest → after ≡ drop n rest → text ≡ (front ++ take n rest) ++ after
+split text front rest after n e b = e ∙ ap (λ (t : List ℕ). front ++ t) (sym (take-append-drop n rest)) ∙ sym (append_assoc front (take n rest) (drop n rest)) ∙ ap (λ (t : List ℕ). (front ++ take n rest) ++ t) (sym b)
+
+pub loop-rest-preserved : goal.loop-rest-preserved
+loop-rest-preserved g c =
+    let w = c.loop-rest.invariant in
+    (w.0 ++ take c.in-Ok.count c.loop-rest.rest.now, split c.args.text.now w.0 c.loop-rest.rest.now c.split_at.result.1.now c.in-Ok.count w.1 c.split_at.ensures.back, appends_more (g.W.Write.contents c.args.writer.now) (g.W.Write.contents c.loop-rest.writer) _ w.0 (take c.in-Ok.count c.loop-rest.rest.now) w.2 c.in-Ok.ensures.bytes)

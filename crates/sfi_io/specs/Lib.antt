@@ -1,0 +1,4 @@
+pub mod Input
+pub mod Hexadecimal
+pub mod Output
+pub mod private

@@ -1,0 +1,58 @@
+//! Reading the input to its end.
+
+ghost use Rattle.std.specs.Prelude.{◌≡◌, IfOk};
+ghost use Rattle.sfi_io.specs.Input.{IsInput};
+ghost use Rattle.sfi_io.specs.declared.input.ReadStop.TheVariants.{Memory};
+
+use std::alloc::{AllocError, Global};
+use std::io::Read;
+
+/// The most bytes of input text.
+pub const INPUT_LIMIT: usize = 134217728;
+
+// Each turn but the last takes a byte or more.
+const TURNS: usize = INPUT_LIMIT + 1;
+
+/// All of the input, or the sign that it passes the limit.
+#[derive(Debug, Drop)]
+pub enum Input {
+    Whole(Vec<u8>),
+    TooLarge,
+}
+
+/// Why there is no input: a read failed, or an allocation was refused.
+#[derive(Debug, Drop)]
+pub enum ReadStop {
+    Failed,
+    Memory,
+}
+
+impl From<AllocError> for ReadStop {
+    ghost from_gives = { λ _ e. e ≡ Memory };
+
+    fn from(_e: AllocError) -> ReadStop {
+        ReadStop::Memory
+    }
+}
+
+/// Reads to the end, or past the limit. Every error of the reader is a failure:
+/// none is tried again.
+pub fn read_input<R: Read>(alloc: Global, reader: &mut R) -> Result<Input, ReadStop>
+    ensures { IfOk result (IsInput (R.remaining reader.old)) }
+{
+    let mut input = Vec::new(alloc);
+    let mut piece = [0u8; 65536];
+    for _ in 0..TURNS {
+        let Ok(count) = reader.read(&mut piece) else {
+            return Err(ReadStop::Failed);
+        };
+        if count == 0 {
+            return Ok(Input::Whole(input));
+        }
+        if count > INPUT_LIMIT - input.len() {
+            return Ok(Input::TooLarge);
+        }
+        input.extend_from_slice(&piece[..count])?;
+    }
+    Ok(Input::TooLarge)
+}

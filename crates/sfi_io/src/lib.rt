@@ -1,0 +1,11 @@
+//! What the program reads and writes: its input to the end, the bytes that hexadecimal text
+//! spells, and a text that is written whole.
+#![tactic(auto)]
+
+mod hexadecimal;
+mod input;
+mod output;
+
+pub use hexadecimal::{HexFault, HexStop, bytes_of};
+pub use input::{INPUT_LIMIT, Input, ReadStop, read_input};
+pub use output::write_out;
