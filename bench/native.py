@@ -1,16 +1,19 @@
 #!/usr/bin/env python3
-"""The instructions that the programs of examples/c execute natively on RV32 in QEMU: in both formats, and without a sandbox.
+"""The instructions that the programs of examples/c execute natively on RV32 in QEMU: in both
+formats, and without a sandbox.
 
     bench/native.py [--program PATH]
 
-Wants what examples/device and compiled.py want, and `make` in examples/c first. All of them are run by the loader of
-examples/device; without a sandbox the code is that of compiled.py, which the checker refuses. In each row the loader's lines
-of both formats must be those of `sfi run`, steps included, and the answers of all three equal.
+Wants what examples/device and compiled.py want, and `make` in examples/c first. All of them are run
+by the loader of examples/device, from the assembly and through the tools of compiled.py, whose
+table of steps has the same numbers; the checker refuses the code without a sandbox. In each row the
+loader's lines of both formats must be those of `sfi run`, steps included, and the answers of all
+three equal.
 """
 import argparse
 import os
-import re
 import subprocess
+import sys
 import tempfile
 
 import compiled
@@ -23,36 +26,43 @@ def natively(path, words, program, *options):
     """The loader's line. A turn of a minute holds the longest run."""
     command = [LOADER, "--steps", "--turn", "60000000", "--input", words, *options]
     with open(path, "rb") as file:
-        done = subprocess.run(command, stdin=file, stdout=subprocess.PIPE, env={**os.environ, "SFI": program}, check=True)
+        done = subprocess.run(command, stdin=file, stdout=subprocess.PIPE,
+                              env={**os.environ, "SFI": program}, check=True)
     return done.stdout.decode()
 
 
-def plain(name, words, program, folder):
+def plain(assembly, words, program, folder):
     """The steps and the answer of the code without a sandbox."""
-    path = measure.written(os.path.join(folder, "plain"), compiled.image(*compiled.linked(name, folder)).hex().encode())
+    code, data = compiled.linked(assembly, folder)
+    digits = compiled.image(code, data).hex()
+    path = measure.written(os.path.join(folder, "plain"), digits.encode())
     return compiled.answer(natively(path, words, program, "--unchecked"))
 
 
-def sandboxed(name, words, image_format, program, folder):
+def sandboxed(assembly, words, image_format, program, folder):
     """The same of a built image."""
-    with open(os.path.join(compiled.EXAMPLES, name + ".s"), encoding="utf-8") as file:
-        text = re.sub(r"^\.format .*$", f".format {image_format}", file.read(), flags=re.MULTILINE)
-    digits, _ = measure.run([program, "build"], measure.written(os.path.join(folder, "source"), text.encode()))
+    tool = [sys.executable, compiled.TOOL, "--format", str(image_format), assembly]
+    text = subprocess.run(tool, stdout=subprocess.PIPE, check=True).stdout
+    source = measure.written(os.path.join(folder, "source"), text)
+    digits, _ = measure.run([program, "build"], source)
     path = measure.written(os.path.join(folder, "image"), digits.encode())
-    wanted, _ = measure.run([program, "run", "--rounds", "100", "--quantum", "1000000", "--input", words], path)
+    run = [program, "run", "--rounds", "100", "--quantum", "1000000", "--input", words]
+    wanted, _ = measure.run(run, path)
     found = natively(path, words, program)
     if found != wanted:
-        raise SystemExit(f"bench: {name}, format {image_format}: sfi run says {wanted}, the processor {found}")
+        raise SystemExit(f"bench: {assembly}, format {image_format}: sfi run says {wanted}, "
+                         f"the processor {found}")
     return compiled.answer(found)
 
 
 def row(name, program, folder):
     with open(os.path.join(compiled.EXAMPLES, "inputs", compiled.CASES[name]), "rb") as file:
         words = file.read().hex()
-    without, answer = plain(name, words, program, folder)
+    assembly = os.path.join(compiled.EXAMPLES, "build", name + ".asm")
+    without, answer = plain(assembly, words, program, folder)
     cells = [f"{name}, {compiled.CASES[name]}", f"{without:,}"]
-    for image_format in [1, 2]:
-        steps, found = sandboxed(name, words, image_format, program, folder)
+    for image_format in compiled.FORMATS:
+        steps, found = sandboxed(assembly, words, image_format, program, folder)
         if found != answer:
             raise SystemExit(f"bench: {name}: the answers differ")
         cells.append(f"{steps:,} ({steps / without:.2f})")

@@ -26,11 +26,10 @@ BUNDLES = 65536
 def commands_of(folder, checker):
     """By name, the words of a command but for the repeats."""
     first, second = (os.path.join(folder, name) for name in ("first", "second"))
-    heap = os.path.join(os.path.dirname(subprocess.check_output(["rt", "doc"], text=True).strip()), "c", "liblibc_c.a")
     options = ["-I" + os.path.join(LIBRARY, "include")]
-    archives = [os.path.join(LIBRARY, "out", "libsfi_c.a"), heap]
+    library = os.path.join(LIBRARY, "out", "libsfi_c.a")
     scan = os.path.join(folder, "scan")
-    subprocess.run(["gcc", "-O2", *options, os.path.join(measure.HERE, "scan.c"), *archives, "-o", scan], check=True)
+    subprocess.run(["gcc", "-O2", *options, os.path.join(measure.HERE, "scan.c"), library, "-o", scan], check=True)
     commands = {"first format": [scan, first], "second format": [scan, second]}
     for name, options in [("C, switches", []), ("C, class table", ["-DFAST"])] if checker else []:
         built = measure.compiled(os.path.abspath(checker), os.path.join(folder, name), "-w", *options)

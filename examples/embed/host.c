@@ -28,8 +28,6 @@ static void print_verdict(const struct sfi_verdict *verdict) {
     case SFI_NO_IMAGE:
         printf("layout fault %" PRIu32 "\n", verdict->layout_fault);
         break;
-    default:
-        puts("out of memory");
     }
 }
 

@@ -37,7 +37,6 @@ def line_of(verdict):
         0: f"accepted sandboxes={verdict.sandboxes} bundles={verdict.bundles}",
         1: f"refused findings={verdict.findings} first=V{first.rule} sandbox={first.sandbox} at={first.address:08x}",
         2: f"layout fault {verdict.layout_fault}",
-        3: "out of memory",
     }[verdict.status]
 
 

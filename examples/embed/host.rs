@@ -60,8 +60,7 @@ fn main() -> std::io::Result<()> {
             let Finding { sandbox, address, rule } = verdict.first;
             println!("refused findings={} first=V{rule} sandbox={sandbox} at={address:08x}", verdict.findings);
         }
-        2 => println!("layout fault {}", verdict.layout_fault),
-        _ => println!("out of memory"),
+        _ => println!("layout fault {}", verdict.layout_fault),
     }
     exit(verdict.status as i32)
 }

@@ -8,7 +8,6 @@ unset CDPATH
 library=${1:+$(realpath "$1")}
 here=$(cd "$(dirname "${BASH_SOURCE[0]}")" && pwd)
 top=$(cd "$here/../.." && pwd)
-heap=$(dirname "$(rt doc)")/c/liblibc_c.a
 # The most bytes of code and constants that the checker may add to a program.
 most=32768
 room=$(mktemp -d)
@@ -109,7 +108,7 @@ fi
 warnings=(-O2 -Wall -Wextra -pedantic -Werror -I"$top/crates/sfi_c/include")
 
 # ---- C, and the header under C++
-compile host.c gcc -std=c99 "${warnings[@]}" "$here/host.c" "$library" "$heap" -o "$room/host"
+compile host.c gcc -std=c99 "${warnings[@]}" "$here/host.c" "$library" -o "$room/host"
 run_cases host.c "$room/host"
 for word in -1 "" 2x 8388609 99999999999999999999; do
     "$room/host" "$word" <"$room/three.image" >"$room/said"
@@ -126,30 +125,18 @@ wanted=$(version "const VERSION" "$top/crates/sfi_command/src/help.rt")
 found=$(version "define SFI_VERSION" "$top/crates/sfi_c/include/sfi.h")
 [ -n "$wanted" ] && [ "$found" = "$wanted" ]
 report $? "the header's version" "$wanted" "$found"
-# each allocation refused in turn: the array of host.c has what it would have, or nothing was written
-compile refuse.so gcc -O2 -shared -fPIC "$top/bench/refuse.c" -o "$room/refuse.so"
-ample=$("$room/host" 9 <"$room/three.image")
-without=0
-for ((number = 1; number < 100; number++)); do
-    found=$(REFUSE=$number LD_PRELOAD=$room/refuse.so "$room/host" 9 <"$room/three.image" 2>"$room/said")
-    status=$?
-    grep -q refused "$room/said" || break
-    case "$status|$found" in
-    "1|$ample" | "4|") ;;
-    "3|out of memory") without=$((without + 1)) ;;
-    *) report 1 "host.c with allocation $number refused" "what it says else, or out of memory" "$status|$found" ;;
-    esac
-done
-[ "$number" -lt 100 ] && [ "$without" -gt 0 ]
-report $? "host.c with each allocation refused" "some out of memory" "$without of $((number - 1))"
+# no allocator is linked: of C the library asks for two functions that it may write memory by
+found=$(nm -u "$library" 2>"$room/log" | awk 'NF == 2 { print $2 }' | sort -u | tr '\n' ' ')
+[ "$found" = "memcpy memset " ]
+report $? "what the library asks for" "memcpy memset" "$found$(cat "$room/log")"
 
 # the host in README.md
 sed -n '/^## Embedding/,/^## Rules/p' "$top/README.md" | sed -n '/^```c$/,/^```$/p' | sed '/^```/d' >"$room/readme.c"
-compile "the host of README.md" gcc "${warnings[@]}" "$room/readme.c" "$library" "$heap" -o "$room/readme"
+compile "the host of README.md" gcc "${warnings[@]}" "$room/readme.c" "$library" -o "$room/readme"
 found=$("$room/readme" <"$room/first_format.image"; echo "$?"; "$room/readme" <"$room/three.image"; echo "$?")
 [ "$found" = $'accepted sandboxes=1 bundles=16\n0\n1' ]
 report $? "the host of README.md" "a line and 0, and then 1" "$found"
-compile edges.c gcc -std=c11 "${warnings[@]}" "$here/edges.c" "$library" "$heap" -o "$room/edges"
+compile edges.c gcc -std=c11 "${warnings[@]}" "$here/edges.c" "$library" -o "$room/edges"
 for one in "first_format 0" "second_format 0" "three 3" "stack 1"; do
     read -r image count <<<"$one"
     found=$("$room/edges" "$count" <"$room/$image.image" 2>&1)
@@ -169,7 +156,7 @@ else
 fi
 
 # ---- its size: that of the shared library less that of one without it
-compile "the shared library" gcc -shared -o "$room/libsfi.so" -Wl,--whole-archive "$library" -Wl,--no-whole-archive "$heap"
+compile "the shared library" gcc -shared -o "$room/libsfi.so" -Wl,--whole-archive "$library" -Wl,--no-whole-archive
 compile "a shared library without it" gcc -shared -o "$room/libnone.so" -x c /dev/null
 total() { size "$1" | awk 'NR == 2 { print $1 + $2 + $3 }'; }
 added=$(($(total "$room/libsfi.so") - $(total "$room/libnone.so")))
@@ -183,7 +170,7 @@ else
     skip ${#cases[@]} "host.py: python3 isn't there"
 fi
 if has rustc; then
-    compile host.rs rustc --edition 2021 -O -D warnings -o "$room/host_rs" "$here/host.rs" -C link-arg="$library" -C link-arg="$heap"
+    compile host.rs rustc --edition 2021 -O -D warnings -o "$room/host_rs" "$here/host.rs" -C link-arg="$library"
     run_cases host.rs "$room/host_rs"
 else
     skip $((1 + ${#cases[@]})) "host.rs: rustc isn't there"

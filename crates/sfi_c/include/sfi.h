@@ -21,14 +21,8 @@
  * - Nothing else reads or writes `verdict` and `array` during the call, no other call either. They overlap neither each
  *   other nor the image.
  *
- * sfi_c_findings allocates, so its caller also owes that
- *
- * - malloc, realloc and free come from one allocator;
- * - malloc and realloc align a block to each power of two up to 16 that divides its size, as C libraries do;
- * - it isn't called from a signal handler, nor in the forked child of a process with threads.
- *
- * Link libsfi_c.a, which `rt lib` builds in crates/sfi_c/out, and the toolchain's liblibc_c.a, which allocates by
- * malloc, realloc and free: examples/embed/test.sh has the command lines.
+ * Link libsfi_c.a, which `rt lib` builds in crates/sfi_c/out: examples/embed/test.sh has the command lines. No call takes
+ * memory, and of C the library asks for memcpy and memset alone.
  */
 #ifndef SFI_H
 #define SFI_H
@@ -48,8 +42,7 @@ extern "C" {
 enum sfi_status {
     SFI_ACCEPTED = 0, /* they are an image in which no rule is broken */
     SFI_REFUSED = 1,  /* they are an image in which rules are broken */
-    SFI_NO_IMAGE = 2, /* they are no image: the layout has a fault */
-    SFI_NO_MEMORY = 3 /* nothing: memory ran out, in sfi_c_findings alone */
+    SFI_NO_IMAGE = 2  /* they are no image: the layout has a fault */
 };
 
 /* What is wrong with bytes that are no image: the first test that fails, in the order of reading (docs/IMAGE.md). */
@@ -94,8 +87,7 @@ typedef char sfi_structs_have_no_padding[sizeof(struct sfi_finding) == 12 && siz
 #endif
 
 /*
- * Writes the verdict on the `length` bytes at `image` to *verdict, and returns its status. It takes no memory, and
- * never answers SFI_NO_MEMORY.
+ * Writes the verdict on the `length` bytes at `image` to *verdict, and returns its status.
  */
 uint32_t sfi_c_check(const uint8_t *image, size_t length, struct sfi_verdict *verdict);
 
@@ -104,11 +96,7 @@ uint32_t sfi_c_check(const uint8_t *image, size_t length, struct sfi_verdict *ve
  * then by address: all of them, or the first `capacity` where there are more. verdict->findings tells how many there
  * are in all. No other element of the array is written, and with another status none is.
  *
- * An image with findings is read twice, and the list of all its findings is kept in memory for the time of the call.
- * While it grows the call holds up to 36 bytes for each finding (96 for one or two), and some 10 KiB for sandboxes
- * and gates; where realloc copies, up to 48 bytes for each. There are at most 8 findings for each 16 bytes of code, so
- * at most 8388608. Where there is no such memory the status is SFI_NO_MEMORY. sfi_c_check tells the first finding
- * without memory.
+ * An image with findings is read twice.
  */
 uint32_t sfi_c_findings(const uint8_t *image, size_t length, struct sfi_finding *array, size_t capacity,
                         struct sfi_verdict *verdict);

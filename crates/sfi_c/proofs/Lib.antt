@@ -1,3 +1,5 @@
 mod Answering
+mod Filling
 mod Handing
+mod Listing
 mod Writing

@@ -9,7 +9,7 @@ use Rattle.sfi_check.specs.Safety.{AllRunSafely}
 use Rattle.sfi_check.specs.Verdict.{IsAccepted, HasFindings, bundle_count}
 use Rattle.sfi_c.specs.declared.finding.SfiFinding.{SfiFinding}
 use Rattle.sfi_c.specs.declared.verdict.SfiVerdict.{SfiVerdict}
-use Rattle.sfi_c.specs.declared.status.Status.TheVariants.{Accepted, Refused, NoImage, NoMemory}
+use Rattle.sfi_c.specs.declared.status.Status.TheVariants.{Accepted, Refused, NoImage}
 use Rattle.sfi_c.specs.Statuses.{number_of}
 
 -- ---- findings
@@ -56,17 +56,6 @@ abbrev pub no_image : ℕ → SfiVerdict
 no_image fault = record {
   status = number_of NoImage;
   layout_fault = fault;
-  sandboxes = 0;
-  bundles = 0;
-  findings = 0;
-  first = no_finding;
-}
-
--- memory ran out
-abbrev pub no_memory : SfiVerdict
-no_memory = record {
-  status = number_of NoMemory;
-  layout_fault = 0;
   sandboxes = 0;
   bundles = 0;
   findings = 0;

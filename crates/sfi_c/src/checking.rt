@@ -1,5 +1,5 @@
 //! The calls that C makes.
-ghost use Rattle.std.specs.Prelude.{◌≡◌, ◌≢◌, ◌⊎◌, ◌≤◌, List, ◌∷◌, length, true, false};
+ghost use Rattle.std.specs.Prelude.{◌≡◌, ◌≢◌, ◌≤◌, List, ◌∷◌, length, true, false};
 ghost use Rattle.sfi_image.specs.declared.fault.LayoutFault.{LayoutFault};
 ghost use Rattle.sfi_image.specs.Spelling.{Part};
 ghost use Rattle.sfi_image.specs.Faults.{IsFault, number_of as fault_number};
@@ -8,15 +8,15 @@ ghost use Rattle.sfi_check.specs.Verdict.{IsAccepted, HasFindings, bundle_count}
 ghost use Rattle.sfi_check.specs.Streams.{IsVerdictOn};
 ghost use Rattle.sfi_c.specs.private.Reads.{verdict_of};
 ghost use Rattle.sfi_c.specs.Statuses.{number_of};
-ghost use Rattle.sfi_c.specs.Verdicts.{with_findings, acceptance, refusal, no_image, no_memory, IsAcceptance, IsRefusal, IsLayoutFault};
+ghost use Rattle.sfi_c.specs.Verdicts.{with_findings, acceptance, refusal, no_image, IsAcceptance, IsRefusal, IsLayoutFault};
 
+use crate::array::Array;
 use crate::bytes::Bytes;
 use crate::finding::{SfiFinding, write_findings};
 use crate::status::Status;
-use crate::verdict::{SfiVerdict, acceptance, no_image, no_memory, refusal};
-use sfi_check::laws::verdict_is_on_all;
-use sfi_check::{Refusal, StreamAnswer, check, check_stream};
-use std::alloc::Global;
+use crate::verdict::{SfiVerdict, acceptance, no_image, refusal};
+use sfi_check::laws::{one_list_of_findings, verdict_is_on_all};
+use sfi_check::{StreamAnswer, check_stream, check_stream_into};
 
 /// What the checker answers on the bytes.
 fn answer_on(image: &[u8]) -> StreamAnswer
@@ -84,34 +84,43 @@ pub extern "C" fn sfi_c_check(image: &[u8], verdict: &mut SfiVerdict) -> u32
     verdict.status
 }
 
-/// Writes the bytes' findings to the array, and says whether memory was there to find them all.
-/// Else the array is as it was.
-fn list_findings(alloc: Global, image: &[u8], array: &mut [SfiFinding]) -> bool
-    ensures listed { result ≡ true → (found : List Finding) → HasFindings image.now found
-        → array.new ≡ with_findings found array.old }
-    ensures unwritten { result ≡ false → array.new ≡ array.old }
+/// Writes the bytes' findings to an array of which nothing is written.
+fn fill(image: &[u8], sink: &mut Array<'_>)
+    requires { sink.old.written ≡ 0 }
+    ensures same_array { sink.new.elements.ghost_name ≡ sink.old.elements.ghost_name }
+    ensures listed { (found : List Finding) → HasFindings image.now found
+        → sink.new.elements.now ≡ with_findings found sink.old.elements.now }
 {
-    match check(alloc, image) {
-        Err(Refusal::Findings(found)) => {
-            write_findings(&found, array);
-            true
-        }
-        _ => false,
-    }
+    // The laws that the contract rests on: these calls do nothing.
+    verdict_is_on_all();
+    one_list_of_findings();
+
+    check_stream_into(&mut Bytes { rest: image }, sink);
+}
+
+/// Writes the bytes' findings to the array.
+fn list_findings(image: &[u8], array: &mut [SfiFinding])
+    ensures { (found : List Finding) → HasFindings image.now found
+        → array.new ≡ with_findings found array.old }
+{
+    let mut sink = Array {
+        elements: array,
+        written: 0,
+    };
+    fill(image, &mut sink);
 }
 
 /// Writes the verdict on the bytes to `verdict`, and returns its status. Where the bytes are
 /// refused, their findings are written to the array, from its front on, as many as it has room for;
-/// the verdict tells how many there are.
+/// the verdict tells how many there are. It takes no memory.
 #[unsafe(no_mangle)]
 pub extern "C" fn sfi_c_findings(
-    alloc: Global,
     image: &[u8],
     array: &mut [SfiFinding],
     verdict: &mut SfiVerdict,
 ) -> u32
     ensures status { result ≡ verdict.new.status }
-    ensures known { result ≤ 3 }
+    ensures known { result ≤ 2 }
 
     // What each status means. Accepted means that every run of each sandbox is safe.
     ensures accepted { result ≡ number_of Status.Accepted → IsAcceptance image.now verdict.new }
@@ -119,21 +128,20 @@ pub extern "C" fn sfi_c_findings(
         × IsRefusal image.now first rest verdict.new
         × (array.new ≡ with_findings (first ∷ rest) array.old) }
     ensures layout { result ≡ number_of Status.NoImage → IsLayoutFault image.now verdict.new }
-    ensures memory { result ≡ number_of Status.NoMemory → verdict.new ≡ no_memory }
     ensures unwritten { result ≢ number_of Status.Refused → array.new ≡ array.old }
 
-    // Which bytes get it. Memory can only run out where there are findings.
+    // Which bytes get it.
     ensures only_accepted { (ps : List Part) → IsAccepted image.now ps
         → verdict.new ≡ acceptance (length ps) (bundle_count ps) }
     ensures only_refused { (first : Finding) (rest : List Finding)
         → HasFindings image.now (first ∷ rest)
-        → (verdict.new ≡ refusal (length (first ∷ rest)) first) ⊎ (verdict.new ≡ no_memory) }
+        → verdict.new ≡ refusal (length (first ∷ rest)) first }
     ensures only_layout { (k : LayoutFault) → IsFault image.now k
         → verdict.new ≡ no_image (fault_number k) }
 {
     *verdict = verdict_on(image);
-    if verdict.status == Status::Refused.number() && !list_findings(alloc, image, array) {
-        *verdict = no_memory();
+    if verdict.status == Status::Refused.number() {
+        list_findings(image, array);
     }
     verdict.status
 }

@@ -2,7 +2,7 @@
 ghost use Rattle.std.specs.Prelude.{◌≡◌};
 ghost use Rattle.sfi_c.specs.Verdicts.{told, no_finding, with_findings};
 
-use sfi_scan::Finding;
+use sfi_scan::{BundleFindings, Finding};
 
 /// A rule that is broken, and where: `struct sfi_finding`.
 #[repr(C)]
@@ -39,11 +39,14 @@ pub(crate) fn no_finding() -> SfiFinding
 }
 
 /// Writes the findings to the front of the array, as many as it holds.
-pub(crate) fn write_findings(found: &[Finding], array: &mut [SfiFinding])
+pub(crate) fn write_findings(found: &BundleFindings, array: &mut [SfiFinding])
     ensures { array.new ≡ with_findings found.now array.old }
 {
-    let count = found.len().min(array.len());
+    let count = found.count().min(array.len());
     for i in 0..count {
-        array[i] = told(found[i]);
+        let Some(finding) = found.at(i) else {
+            unreachable!();
+        };
+        array[i] = told(finding);
     }
 }

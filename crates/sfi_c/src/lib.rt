@@ -5,6 +5,7 @@
 //! contracts hold for a caller that passes what the header asks for: nothing checks it.
 #![tactic(auto)]
 
+mod array;
 mod bytes;
 mod checking;
 mod finding;

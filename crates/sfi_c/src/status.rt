@@ -10,14 +10,12 @@ pub enum Status {
     Refused,
     /// They are no image.
     NoImage,
-    /// Nothing: memory ran out.
-    NoMemory,
 }
 
 impl Status {
     ghost use Rattle.sfi_c.specs.Statuses.{number_of};
 
-    /// The number by which C knows it, 0 to 3.
+    /// The number by which C knows it, 0 to 2.
     pub fn number(self) -> u32
         ensures { result ≡ number_of self }
     {
@@ -25,7 +23,6 @@ impl Status {
             Status::Accepted => 0,
             Status::Refused => 1,
             Status::NoImage => 2,
-            Status::NoMemory => 3,
         }
     }
 }

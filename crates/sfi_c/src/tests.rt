@@ -73,10 +73,7 @@ fn no_findings(rt: HostRuntime) -> Result<(), Fail> {
     assert_eq!(rt; verdict, wanted);
     let mut array = [MARK; 2];
     let mut verdict = MARKED;
-    assert_eq!(rt;
-        sfi_c_findings(rt.alloc(), &image, &mut array, &mut verdict),
-        0
-    );
+    assert_eq!(rt; sfi_c_findings(&image, &mut array, &mut verdict), 0);
     assert_eq!(rt; verdict, wanted);
     assert_eq!(rt; array, [MARK; 2]);
     Ok(())
@@ -96,7 +93,7 @@ fn three_findings(rt: HostRuntime) -> Result<(), Fail> {
     for capacity in 0..5usize {
         let mut array = [MARK; 5];
         let mut verdict = MARKED;
-        let status = sfi_c_findings(alloc, &image, &mut array[..capacity], &mut verdict);
+        let status = sfi_c_findings(&image, &mut array[..capacity], &mut verdict);
         assert_eq!(rt; status, Status::Refused.number(), "{capacity}");
         assert_eq!(rt;
             (verdict.findings, verdict.first),
@@ -123,7 +120,7 @@ fn three_findings(rt: HostRuntime) -> Result<(), Fail> {
 fn no_image(rt: HostRuntime) -> Result<(), Fail> {
     let mut array = [MARK; 1];
     let mut verdict = MARKED;
-    let status = sfi_c_findings(rt.alloc(), &HEAD[..20], &mut array, &mut verdict);
+    let status = sfi_c_findings(&HEAD[..20], &mut array, &mut verdict);
     assert_eq!(rt; status, Status::NoImage.number());
     assert_eq!(rt; (verdict.layout_fault, array), (3, [MARK]));
     Ok(())

@@ -1,6 +1,6 @@
 //! The verdict as C sees it.
 ghost use Rattle.std.specs.Prelude.{◌≡◌};
-ghost use Rattle.sfi_c.specs.Verdicts.{acceptance, refusal, no_image, no_memory};
+ghost use Rattle.sfi_c.specs.Verdicts.{acceptance, refusal, no_image};
 
 use crate::finding::{SfiFinding, no_finding, told};
 use crate::status::Status;
@@ -24,29 +24,17 @@ pub struct SfiVerdict {
     pub first: SfiFinding,
 }
 
-/// Memory ran out.
-pub(crate) fn no_memory() -> SfiVerdict
-    ensures { result ≡ no_memory }
-{
-    SfiVerdict {
-        status: Status::NoMemory.number(),
-        layout_fault: 0,
-        sandboxes: 0,
-        bundles: 0,
-        findings: 0,
-        first: no_finding(),
-    }
-}
-
 /// The image is accepted, with so many sandboxes and bundles.
 pub(crate) fn acceptance(sandboxes: u32, bundles: u32) -> SfiVerdict
     ensures { result ≡ acceptance sandboxes bundles }
 {
     SfiVerdict {
         status: Status::Accepted.number(),
+        layout_fault: 0,
         sandboxes,
         bundles,
-        ..no_memory()
+        findings: 0,
+        first: no_finding(),
     }
 }
 
@@ -58,7 +46,7 @@ pub(crate) fn refusal(findings: u32, first: Finding) -> SfiVerdict
         status: Status::Refused.number(),
         findings,
         first: told(first),
-        ..no_memory()
+        ..acceptance(0, 0)
     }
 }
 
@@ -69,6 +57,6 @@ pub(crate) fn no_image(layout_fault: u32) -> SfiVerdict
     SfiVerdict {
         status: Status::NoImage.number(),
         layout_fault,
-        ..no_memory()
+        ..acceptance(0, 0)
     }
 }

@@ -11,11 +11,13 @@ use Rattle.sfi_image.specs.Fronts.Front.{Empty, AfterMagic, AfterCount, InGates,
 use Rattle.sfi_image.specs.Keeping.{ReaderState, StandsFor, left, left_most}
 use Rattle.sfi_scan.specs.declared.finding.Finding.{Finding}
 use Rattle.sfi_scan.specs.Findings.{AreImageFindings}
+use Rattle.sfi_check.specs.declared.stream_answer.StreamAnswer.{StreamAnswer}
 use Rattle.sfi_check.specs.declared.stream_answer.StreamAnswer.TheVariants as answers
 use Rattle.sfi_check.specs.declared.tally.Tally.{Tally}
 use Rattle.sfi_check.specs.private.Laws.{StreamLaws}
 use Rattle.sfi_check.specs.private.Tallies.{Tallies, IsSoFar, IsCut, verdict_by, verdict_of}
-use Rattle.sfi_check.specs.Streams.{IsVerdictOn}
+use Rattle.sfi_check.specs.Verdict.{HasFindings}
+use Rattle.sfi_check.specs.Streams.{IsVerdictOn, AreHandedOver}
 use Rattle.sfi_check.proofs.OneVerdict.{on_fault, on_accepted, on_findings}
 use Rattle.sfi_check.proofs.Safe.{all_safe}
 
@@ -43,21 +45,34 @@ judged_failed bytes = record {
 
 -- ---- at the end
 
-pub judged_whole : StreamLaws → (bytes : List ℕ) (ps : List Part) (t : Tally) → IsImage bytes ps → Tallies t (Whole ps) → IsVerdictOn bytes true (verdict_of t)
-judged_whole laws bytes ps t image k = by k.found k.found_are k.count k.first
+-- the verdict on a whole image, and its findings
+abbrev pub IsJudgedWhole : (List Finding → Type 0) → List ℕ → StreamAnswer → Type 0
+IsJudgedWhole told bytes answer = (found : List Finding) × IsVerdictOn bytes true answer × told found × AreHandedOver bytes found answer
+
+pub judged_whole : {T : List Finding → Type 0} → StreamLaws → (bytes : List ℕ) (ps : List Part) (t : Tally) → IsImage bytes ps → Tallies T t (Whole ps) → IsJudgedWhole T bytes (verdict_of t)
+judged_whole {T} laws bytes ps t image k = by k.found k.told_is k.found_are k.count k.first
   where
-    by : (found : List Finding) → AreImageFindings ps found → t.count ≡ length found → t.first ≡ slice_get found 0 → IsVerdictOn bytes true (verdict_of t)
-    by [] are count first =
-        subst (λ (o : Option Finding). IsVerdictOn bytes true (verdict_by o t)) (sym first)
-        (on_accepted laws.reading bytes ps t.sandboxes t.bundles (record { image = image; none_found = are }) k.sandboxes k.bundles (all_safe laws.safe ps (record { layout = image.layout; none_found = are })))
-    by (x ∷ xs) are count first =
-        subst (λ (o : Option Finding). IsVerdictOn bytes true (verdict_by o t)) (sym first)
-        (on_findings laws.reading bytes (x ∷ xs) t.count x (record { parts = ps; image = image; found_are = are; some = λ e. absurd cc }) (record { count_is = count; first_is = refl }))
+    by : (found : List Finding) → T found → AreImageFindings ps found → t.count ≡ length found → t.first ≡ slice_get found 0 → IsJudgedWhole T bytes (verdict_of t)
+    by [] told are count first =
+        subst (λ (o : Option Finding). IsJudgedWhole T bytes (verdict_by o t)) (sym first) (
+          [],
+          on_accepted laws.reading bytes ps t.sandboxes t.bundles (record { image = image; none_found = are }) k.sandboxes k.bundles (all_safe laws.safe ps (record { layout = image.layout; none_found = are })),
+          told,
+          record { findings = tt; accepted = refl },
+        )
+    by (x ∷ xs) told are count first =
+        let has : HasFindings bytes (x ∷ xs) = record { parts = ps; image = image; found_are = are; some = λ e. absurd cc } in
+        subst (λ (o : Option Finding). IsJudgedWhole T bytes (verdict_by o t)) (sym first) (
+          x ∷ xs,
+          on_findings laws.reading bytes (x ∷ xs) t.count x has (record { count_is = count; first_is = refl }),
+          told,
+          record { findings = has; accepted = tt },
+        )
 
 -- ---- the reader's end
 
-at_whole : (r : ReaderState) (t : Tally) (bytes : List ℕ) (x : Front) → StandsFor r x → bytes ≡ front x → Tallies t x → r.next ≡ next.End
-    → (ps : List Part) × (bytes ≡ front (Whole ps)) × StandsFor r (Whole ps) × Tallies t (Whole ps)
+at_whole : {T : List Finding → Type 0} (r : ReaderState) (t : Tally) (bytes : List ℕ) (x : Front) → StandsFor r x → bytes ≡ front x → Tallies T t x → r.next ≡ next.End
+    → (ps : List Part) × (bytes ≡ front (Whole ps)) × StandsFor r (Whole ps) × Tallies T t (Whole ps)
 at_whole r t bytes Empty h e k is = let n = h.kept.0 in absurd cc
 at_whole r t bytes (AfterMagic kind) h e k is = let n = h.kept.0 in absurd cc
 at_whole r t bytes (AfterCount kind n ps) h e k is = let n = h.kept.0 in absurd cc
@@ -67,13 +82,13 @@ at_whole r t bytes (InInit n ps f gs code init) h e k is = let n = h.kept.0 in a
 at_whole r t bytes (Whole ps) h e k is = (ps, e, h, k)
 
 -- the stream ends where the image does
-pub ended_whole : StreamLaws → (r : ReaderState) (t : Tally) (bytes : List ℕ) → IsSoFar r t bytes → r.next ≡ next.End → IsVerdictOn bytes true (verdict_of t)
+pub ended_whole : {T : List Finding → Type 0} → StreamLaws → (r : ReaderState) (t : Tally) (bytes : List ℕ) → IsSoFar T r t bytes → r.next ≡ next.End → IsJudgedWhole T bytes (verdict_of t)
 ended_whole laws r t bytes h is =
     let w = at_whole r t bytes h.at h.stands h.bytes_are h.tallies is in
     judged_whole laws bytes w.0 t (subst (λ (l : List ℕ). IsImage l w.0) (sym w.1) (laws.whole w.0 w.2.right)) w.3
 
 -- it goes on after the image
-pub trailing : StreamLaws → (r : ReaderState) (t : Tally) (bytes rest : List ℕ) → IsSoFar r t bytes → r.next ≡ next.End → 0 < length rest → HasFaultNumberWhateverFollows (bytes ++ rest) 11
+pub trailing : {T : List Finding → Type 0} → StreamLaws → (r : ReaderState) (t : Tally) (bytes rest : List ℕ) → IsSoFar T r t bytes → r.next ≡ next.End → 0 < length rest → HasFaultNumberWhateverFollows (bytes ++ rest) 11
 trailing laws r t bytes rest h is some =
     let w = at_whole r t bytes h.at h.stands h.bytes_are h.tallies is in (
       faults.Trailing,
@@ -88,16 +103,16 @@ trailing laws r t bytes rest h is some =
     longer (x ∷ xs) ys s = omega arith
 
 -- it ends before what comes next is whole
-pub ended_short : StreamLaws → (r : ReaderState) (t : Tally) (bytes rest : List ℕ) → IsSoFar r t bytes → IsCut r (length rest) → IsVerdictOn (bytes ++ rest) true (answers.Layout 3)
+pub ended_short : {T : List Finding → Type 0} → StreamLaws → (r : ReaderState) (t : Tally) (bytes rest : List ℕ) → IsSoFar T r t bytes → IsCut r (length rest) → IsVerdictOn (bytes ++ rest) true (answers.Layout 3)
 ended_short laws r t bytes rest h cut =
     on_fault laws.reading (bytes ++ rest) faults.Short 3 refl (subst (λ (l : List ℕ). IsFault (l ++ rest) faults.Short) (sym h.bytes_are) (laws.cut h.at rest h.stands.right (cut.less h.at h.stands)))
 
 -- before the first byte
-pub nothing_yet : (r : ReaderState) (t : Tally) → StandsFor r Empty → t.sandboxes ≡ 0 → t.bundles ≡ 0 → t.count ≡ 0 → t.first ≡ None → IsSoFar r t []
-nothing_yet r t stands s b c f = record {
+pub nothing_yet : {T : List Finding → Type 0} (r : ReaderState) (t : Tally) → StandsFor r Empty → t.sandboxes ≡ 0 → t.bundles ≡ 0 → t.count ≡ 0 → t.first ≡ None → T [] → IsSoFar T r t []
+nothing_yet r t stands s b c f told = record {
   at = Empty;
   stands = stands;
   bytes_are = refl;
-  tallies = record { found = []; found_are = refl; count = c; first = f; bundles = b; sandboxes = s; few = omega (arith, c) };
+  tallies = record { found = []; told_is = told; found_are = refl; count = c; first = f; bundles = b; sandboxes = s; few = omega (arith, c) };
   few = let all : left r ≡ left_most = rw (stands.kept.0) refl in omega (arith, b);
 }

@@ -18,7 +18,7 @@ use Rattle.sfi_scan.specs.declared.finding.Finding.{Finding}
 use Rattle.sfi_scan.specs.Bundles.{IsWithin}
 use Rattle.sfi_scan.specs.Findings.{AreBundleFindings}
 use Rattle.sfi_check.specs.declared.tally.Tally.{Tally}
-use Rattle.sfi_check.specs.private.Tallies.{IsSoFar}
+use Rattle.sfi_check.specs.private.Tallies.{IsSoFar, IsTold}
 use Rattle.sfi_check.proofs.Tallying.{field_tallies, bundle_tallies, init_tallies, fault_onwards, Adds}
 
 code_test : (before : List Span) (f : Fields) → IsFirstFault before f field_tests None → IsCodeRegion f.format f.code_base f.code_size
@@ -93,8 +93,8 @@ init_taken x most len xs w some le room =
 joined : (so_far : List ℕ) (x : Front) (s : List ℕ) (y : Front) → so_far ≡ front x → front y ≡ front x ++ s → so_far ++ s ≡ front y
 joined so_far x s y a b = ap (λ (l : List ℕ). l ++ s) a ∙ sym b
 
-pub field_step : (old new : ReaderState) (t : Tally) (so_far s : List ℕ) (len : ℕ) → ((x : Front) → StandsFor old x → wants.Field len ≡ want_of x)
-    → ((x : Front) → StandsFor old x → Leads x s new) → left new < left old → IsSoFar old t so_far → IsSoFar new t (so_far ++ s)
+pub field_step : {T : List Finding → Type 0} (old new : ReaderState) (t : Tally) (so_far s : List ℕ) (len : ℕ) → ((x : Front) → StandsFor old x → wants.Field len ≡ want_of x)
+    → ((x : Front) → StandsFor old x → Leads x s new) → left new < left old → IsSoFar T old t so_far → IsSoFar T new t (so_far ++ s)
 field_step old new t so_far s len wanted leads falls h =
     let l = leads h.at h.stands in
     record {
@@ -105,8 +105,8 @@ field_step old new t so_far s len wanted leads falls h =
       few = omega (arith, h.few);
     }
 
-pub init_step : (old new : ReaderState) (t : Tally) (so_far s : List ℕ) (len : ℕ) → ((x : Front) → StandsFor old x → wants.Init len ≡ want_of x)
-    → ((x : Front) → StandsFor old x → Leads x s new) → left new < left old → IsSoFar old t so_far → IsSoFar new t (so_far ++ s)
+pub init_step : {T : List Finding → Type 0} (old new : ReaderState) (t : Tally) (so_far s : List ℕ) (len : ℕ) → ((x : Front) → StandsFor old x → wants.Init len ≡ want_of x)
+    → ((x : Front) → StandsFor old x → Leads x s new) → left new < left old → IsSoFar T old t so_far → IsSoFar T new t (so_far ++ s)
 init_step old new t so_far s len wanted leads falls h =
     let l = leads h.at h.stands in
     record {
@@ -117,25 +117,25 @@ init_step old new t so_far s len wanted leads falls h =
       few = omega (arith, h.few);
     }
 
-pub bundle_step : (old new : ReaderState) (t u : Tally) (so_far s : List ℕ) (sandbox address : ℕ) (format : Format) (base size : ℕ) (listed : Bool) (found : List Finding)
+pub bundle_step : {T U : List Finding → Type 0} (old new : ReaderState) (t u : Tally) (so_far s : List ℕ) (sandbox address : ℕ) (format : Format) (base size : ℕ) (listed : Bool) (found : List Finding)
     → ((x : Front) → StandsFor old x → wants.Bundle sandbox address format base size listed ≡ want_of x) → length s ≡ 16
     → AreBundleFindings (record { sandbox = sandbox; address = address; format = format; code_base = base; code_size = size; listed = listed }) s found → Adds t u sandbox found
-    → ((x : Front) → StandsFor old x → Leads x s new) → left new < left old → IsSoFar old t so_far → IsSoFar new u (so_far ++ s)
-bundle_step old new t u so_far s sandbox address format base size listed found wanted len are adds leads falls h =
+    → ((x : Front) → StandsFor old x → Leads x s new) → left new < left old → ((before : List Finding) → T before → U (before ++ found)) → IsSoFar T old t so_far → IsSoFar U new u (so_far ++ s)
+bundle_step old new t u so_far s sandbox address format base size listed found wanted len are adds leads falls on h =
     let l = leads h.at h.stands in
     record {
       at = l.to;
       stands = l.stands;
       bytes_are = joined so_far h.at s l.to h.bytes_are l.bytes;
-      tallies = bundle_tallies t u h.at s l.to sandbox address format base size listed found (wanted h.at h.stands) len l.follows are adds h.tallies;
+      tallies = bundle_tallies t u h.at s l.to sandbox address format base size listed found (wanted h.at h.stands) len l.follows are adds on h.tallies;
       few = omega (arith, h.few, adds.bundles);
     }
 
-pub step_fault : (old : ReaderState) (t : Tally) (so_far s rest : List ℕ) (len number : ℕ) → s ≡ take len rest
-    → ((x : Front) → StandsFor old x → HasFaultNumberWhateverFollows (front x ++ s) number) → IsSoFar old t so_far → HasFaultNumberWhateverFollows (so_far ++ rest) number
+pub step_fault : {T : List Finding → Type 0} (old : ReaderState) (t : Tally) (so_far s rest : List ℕ) (len number : ℕ) → s ≡ take len rest
+    → ((x : Front) → StandsFor old x → HasFaultNumberWhateverFollows (front x ++ s) number) → IsSoFar T old t so_far → HasFaultNumberWhateverFollows (so_far ++ rest) number × IsTold T
 step_fault old t so_far s rest len number e wrong h =
     let here = subst (λ (l : List ℕ). HasFaultNumberWhateverFollows (l ++ s) number) (sym h.bytes_are) (wrong h.at h.stands) in
-    fault_onwards so_far s rest (drop len rest) number (sym (take-append-drop len rest) ∙ ap (λ (l : List ℕ). l ++ drop len rest) (sym e)) here
+    (fault_onwards so_far s rest (drop len rest) number (sym (take-append-drop len rest) ∙ ap (λ (l : List ℕ). l ++ drop len rest) (sym e)) here, (h.tallies.found, h.tallies.told_is))
 
 -- ---- pieces
 
@@ -145,9 +145,9 @@ take_on at n xs le =
     let len : length (take at xs) ≡ at = omega (arith, length-take at xs) in
     sym (ap (λ (l : List ℕ). take (at + n) l) (take-append-drop at xs)) ∙ ap (λ (k : ℕ). take (k + n) (take at xs ++ drop at xs)) (sym len) ∙ take-append-add (take at xs) (drop at xs) n
 
-pub so_far_on : (r : ReaderState) (t : Tally) (so_far : List ℕ) (at n : ℕ) (xs : List ℕ) → at ≤ length xs → IsSoFar r t ((so_far ++ take at xs) ++ take n (drop at xs)) → IsSoFar r t (so_far ++ take (at + n) xs)
-so_far_on r t so_far at n xs le h =
-    subst (λ (l : List ℕ). IsSoFar r t l) (append_assoc so_far (take at xs) (take n (drop at xs)) ∙ ap (λ (l : List ℕ). so_far ++ l) (sym (take_on at n xs le))) h
+pub so_far_on : {T : List Finding → Type 0} (r : ReaderState) (t : Tally) (so_far : List ℕ) (at n : ℕ) (xs : List ℕ) → at ≤ length xs → IsSoFar T r t ((so_far ++ take at xs) ++ take n (drop at xs)) → IsSoFar T r t (so_far ++ take (at + n) xs)
+so_far_on {T} r t so_far at n xs le h =
+    subst (λ (l : List ℕ). IsSoFar T r t l) (append_assoc so_far (take at xs) (take n (drop at xs)) ∙ ap (λ (l : List ℕ). so_far ++ l) (sym (take_on at n xs le))) h
 
 -- a fault after so many bytes of a piece is one of all of them
 pub fault_on : (so_far : List ℕ) (at number : ℕ) (xs : List ℕ) → HasFaultNumberWhateverFollows ((so_far ++ take at xs) ++ drop at xs) number → HasFaultNumberWhateverFollows (so_far ++ xs) number

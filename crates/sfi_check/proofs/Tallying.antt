@@ -49,8 +49,9 @@ bundle_more sandbox f gs code s b here new so_far len is found = record {
 
 -- ---- a tally within a sandbox's code
 
-pub record CodeTally (t : Tally) (ps : List Part) (f : Fields) (gs : List Gate) (code : List ℕ) : Type 0 where
+pub record CodeTally (told : List Finding → Type 0) (t : Tally) (ps : List Part) (f : Fields) (gs : List Gate) (code : List ℕ) : Type 0 where
   pub found : List Finding
+  pub told_is : told found
   pub within : AreFindingsWithin ps f gs code found
   pub count : t.count ≡ length found
   pub first : t.first ≡ slice_get found 0
@@ -61,8 +62,8 @@ pub record CodeTally (t : Tally) (ps : List Part) (f : Fields) (gs : List Gate) 
 count_push : (ps : List Part) (p : Part) → bundle_count (ps ++ p ∷ []) ≡ bundle_count ps + length p.code / 16
 count_push ps p = let e = sum_by-append (λ (q : Part). length q.code / 16) ps (p ∷ []) in omega (arith, e)
 
-parts_tally : (t : Tally) (n : ℕ) (ps : List Part) (f : Fields) (gs : List Gate) (code init : List ℕ) → CodeTally t ps f gs code → length code ≡ f.code_size
-    → Tallies t (after_parts f.format n (ps ++ part_of f gs code init ∷ []))
+parts_tally : {T : List Finding → Type 0} (t : Tally) (n : ℕ) (ps : List Part) (f : Fields) (gs : List Gate) (code init : List ℕ) → CodeTally T t ps f gs code → length code ≡ f.code_size
+    → Tallies T t (after_parts f.format n (ps ++ part_of f gs code init ∷ []))
 parts_tally t n ps f gs code init c all =
     let p = part_of f gs code init in
     let w = c.within in
@@ -73,25 +74,26 @@ parts_tally t n ps f gs code init c all =
     let bundles = c.bundles ∙ sym (count_push ps p) in
     let sandboxes = c.sandboxes ∙ sym (length_push ps p) in
     elim (cases_Bool (eqb (length (ps ++ p ∷ [])) n)) [
-      | inl e ↦ rw (e) (record { found = c.found; found_are = found; count = c.count; first = c.first; bundles = bundles; sandboxes = sandboxes; few = c.few })
-      | inr e ↦ rw (e) (record { found = c.found; found_are = found; count = c.count; first = c.first; bundles = bundles; sandboxes = sandboxes; few = c.few })
+      | inl e ↦ rw (e) (record { found = c.found; told_is = c.told_is; found_are = found; count = c.count; first = c.first; bundles = bundles; sandboxes = sandboxes; few = c.few })
+      | inr e ↦ rw (e) (record { found = c.found; told_is = c.told_is; found_are = found; count = c.count; first = c.first; bundles = bundles; sandboxes = sandboxes; few = c.few })
     ]
 
-pub init_tally : (t : Tally) (n : ℕ) (ps : List Part) (f : Fields) (gs : List Gate) (code init : List ℕ) → CodeTally t ps f gs code → length code ≡ f.code_size
-    → Tallies t (after_init n ps f gs code init)
+pub init_tally : {T : List Finding → Type 0} (t : Tally) (n : ℕ) (ps : List Part) (f : Fields) (gs : List Gate) (code init : List ℕ) → CodeTally T t ps f gs code → length code ≡ f.code_size
+    → Tallies T t (after_init n ps f gs code init)
 init_tally t n ps f gs code init c all =
     elim (cases_Bool (eqb (length init) f.init_len)) [
       | inl e ↦ rw (e) (parts_tally t n ps f gs code init c all)
-      | inr e ↦ rw (e) (record { found = c.found; found_are = c.within; count = c.count; first = c.first; bundles = c.bundles; sandboxes = c.sandboxes; few = c.few })
+      | inr e ↦ rw (e) (record { found = c.found; told_is = c.told_is; found_are = c.within; count = c.count; first = c.first; bundles = c.bundles; sandboxes = c.sandboxes; few = c.few })
     ]
 
-pub code_tally : (t : Tally) (n : ℕ) (ps : List Part) (f : Fields) (gs : List Gate) (code : List ℕ) → CodeTally t ps f gs code → 0 < length code
-    → Tallies t (after_code n ps f gs code)
+pub code_tally : {T : List Finding → Type 0} (t : Tally) (n : ℕ) (ps : List Part) (f : Fields) (gs : List Gate) (code : List ℕ) → CodeTally T t ps f gs code → 0 < length code
+    → Tallies T t (after_code n ps f gs code)
 code_tally t n ps f gs code c some =
     elim (cases_Bool (eqb (length code) f.code_size)) [
       | inl e ↦ rw (e) (init_tally t n ps f gs code [] c (eqb-true (length code) f.code_size e))
       | inr e ↦ rw (e) (record {
         found = c.found;
+        told_is = c.told_is;
         found_are = c.within;
         count = c.count;
         first = c.first;
@@ -104,12 +106,13 @@ code_tally t n ps f gs code c some =
       })
     ]
 
-gates_tally : (t : Tally) (n : ℕ) (ps : List Part) (f : Fields) (gs : List Gate) (found : List Finding) → AreImageFindings ps found → t.count ≡ length found → t.first ≡ slice_get found 0
-    → t.bundles ≡ bundle_count ps → t.sandboxes ≡ length ps → t.count ≤ findings_most * t.bundles → Tallies t (after_gates n ps f gs)
-gates_tally t n ps f gs found are count first bundles sandboxes few =
+gates_tally : {T : List Finding → Type 0} (t : Tally) (n : ℕ) (ps : List Part) (f : Fields) (gs : List Gate) (found : List Finding) → T found → AreImageFindings ps found → t.count ≡ length found → t.first ≡ slice_get found 0
+    → t.bundles ≡ bundle_count ps → t.sandboxes ≡ length ps → t.count ≤ findings_most * t.bundles → Tallies T t (after_gates n ps f gs)
+gates_tally t n ps f gs found told are count first bundles sandboxes few =
     elim (cases_Bool (eqb (length gs) f.gate_count)) [
       | inl e ↦ rw (e) (record {
         found = found;
+        told_is = told;
         found_are = record {
           before = found;
           here = [];
@@ -123,28 +126,28 @@ gates_tally t n ps f gs found are count first bundles sandboxes few =
         sandboxes = sandboxes;
         few = few;
       })
-      | inr e ↦ rw (e) (record { found = found; found_are = are; count = count; first = first; bundles = bundles; sandboxes = sandboxes; few = few })
+      | inr e ↦ rw (e) (record { found = found; told_is = told; found_are = are; count = count; first = first; bundles = bundles; sandboxes = sandboxes; few = few })
     ]
 
 -- ---- steps
 
-pub field_tallies : (t : Tally) (x : Front) (s : List ℕ) (y : Front) (len : ℕ) → wants.Field len ≡ want_of x → Follows x s y → Tallies t x → Tallies t y
-field_tallies t Empty s y len w h k = rw (h.2) (record { found = k.found; found_are = k.found_are; count = k.count; first = k.first; bundles = k.bundles; sandboxes = k.sandboxes; few = k.few })
-field_tallies t (AfterMagic kind) s y len w h k = rw (h.2) (record { found = k.found; found_are = k.found_are; count = k.count; first = k.first; bundles = k.bundles; sandboxes = k.sandboxes; few = k.few })
-field_tallies t (AfterCount kind n ps) s y len w h k = rw (h.3) (gates_tally t n ps h.0 [] k.found k.found_are k.count k.first k.bundles k.sandboxes k.few)
-field_tallies t (InGates n ps f gs) s y len w h k = rw (h.2) (gates_tally t n ps f (gs ++ h.0 ∷ []) k.found k.found_are k.count k.first k.bundles k.sandboxes k.few)
+pub field_tallies : {T : List Finding → Type 0} (t : Tally) (x : Front) (s : List ℕ) (y : Front) (len : ℕ) → wants.Field len ≡ want_of x → Follows x s y → Tallies T t x → Tallies T t y
+field_tallies t Empty s y len w h k = rw (h.2) (record { found = k.found; told_is = k.told_is; found_are = k.found_are; count = k.count; first = k.first; bundles = k.bundles; sandboxes = k.sandboxes; few = k.few })
+field_tallies t (AfterMagic kind) s y len w h k = rw (h.2) (record { found = k.found; told_is = k.told_is; found_are = k.found_are; count = k.count; first = k.first; bundles = k.bundles; sandboxes = k.sandboxes; few = k.few })
+field_tallies t (AfterCount kind n ps) s y len w h k = rw (h.3) (gates_tally t n ps h.0 [] k.found k.told_is k.found_are k.count k.first k.bundles k.sandboxes k.few)
+field_tallies t (InGates n ps f gs) s y len w h k = rw (h.2) (gates_tally t n ps f (gs ++ h.0 ∷ []) k.found k.told_is k.found_are k.count k.first k.bundles k.sandboxes k.few)
 field_tallies t (InCode n ps f gs code) s y len w h k = absurd cc
 field_tallies t (InInit n ps f gs code init) s y len w h k = absurd cc
 field_tallies t (Whole ps) s y len w h k = absurd cc
 
-pub init_tallies : (t : Tally) (x : Front) (s : List ℕ) (y : Front) (len : ℕ) → wants.Init len ≡ want_of x → IsRightFront x → Follows x s y → Tallies t x → Tallies t y
+pub init_tallies : {T : List Finding → Type 0} (t : Tally) (x : Front) (s : List ℕ) (y : Front) (len : ℕ) → wants.Init len ≡ want_of x → IsRightFront x → Follows x s y → Tallies T t x → Tallies T t y
 init_tallies t Empty s y len w right h k = absurd cc
 init_tallies t (AfterMagic kind) s y len w right h k = absurd cc
 init_tallies t (AfterCount kind n ps) s y len w right h k = absurd cc
 init_tallies t (InGates n ps f gs) s y len w right h k = absurd cc
 init_tallies t (InCode n ps f gs code) s y len w right h k = absurd cc
 init_tallies t (InInit n ps f gs code init) s y len w right h k =
-    rw (h) (init_tally t n ps f gs code (init ++ s) (record { found = k.found; within = k.found_are; count = k.count; first = k.first; bundles = k.bundles; sandboxes = k.sandboxes; few = k.few }) right.2)
+    rw (h) (init_tally t n ps f gs code (init ++ s) (record { found = k.found; told_is = k.told_is; within = k.found_are; count = k.count; first = k.first; bundles = k.bundles; sandboxes = k.sandboxes; few = k.few }) right.2)
 init_tallies t (Whole ps) s y len w right h k = absurd cc
 
 -- the tally with the findings of a bundle
@@ -155,15 +158,15 @@ pub record Adds (old new : Tally) (sandbox : ℕ) (found : List Finding) : Type 
   pub few : length found ≤ findings_most
   pub first : (before : List Finding) → old.first ≡ slice_get before 0 → new.first ≡ slice_get (before ++ found) 0
 
-pub bundle_tallies : (old new : Tally) (x : Front) (s : List ℕ) (y : Front) (sandbox address : ℕ) (format : Format) (base size : ℕ) (listed : Bool) (found : List Finding)
+pub bundle_tallies : {T U : List Finding → Type 0} (old new : Tally) (x : Front) (s : List ℕ) (y : Front) (sandbox address : ℕ) (format : Format) (base size : ℕ) (listed : Bool) (found : List Finding)
     → wants.Bundle sandbox address format base size listed ≡ want_of x → length s ≡ 16 → Follows x s y
     → AreBundleFindings (record { sandbox = sandbox; address = address; format = format; code_base = base; code_size = size; listed = listed }) s found
-    → Adds old new sandbox found → Tallies old x → Tallies new y
-bundle_tallies old new Empty s y sandbox address format base size listed found w len h are adds k = absurd cc
-bundle_tallies old new (AfterMagic kind) s y sandbox address format base size listed found w len h are adds k = absurd cc
-bundle_tallies old new (AfterCount kind n ps) s y sandbox address format base size listed found w len h are adds k = absurd cc
-bundle_tallies old new (InGates n ps f gs) s y sandbox address format base size listed found w len h are adds k = absurd cc
-bundle_tallies old new (InCode n ps f gs code) s y sandbox address format base size listed found w len h are adds k =
+    → Adds old new sandbox found → ((before : List Finding) → T before → U (before ++ found)) → Tallies T old x → Tallies U new y
+bundle_tallies old new Empty s y sandbox address format base size listed found w len h are adds on k = absurd cc
+bundle_tallies old new (AfterMagic kind) s y sandbox address format base size listed found w len h are adds on k = absurd cc
+bundle_tallies old new (AfterCount kind n ps) s y sandbox address format base size listed found w len h are adds on k = absurd cc
+bundle_tallies old new (InGates n ps f gs) s y sandbox address format base size listed found w len h are adds on k = absurd cc
+bundle_tallies old new (InCode n ps f gs code) s y sandbox address format base size listed found w len h are adds on k =
     let number : sandbox ≡ length ps = cc in
     let at : address ≡ f.code_base + length code = cc in
     let of : format ≡ f.format = cc in
@@ -179,6 +182,7 @@ bundle_tallies old new (InCode n ps f gs code) s y sandbox address format base s
     let so_far = within.here_are.len in
     rw (h) (code_tally new n ps f gs (code ++ s) (record {
       found = k.found ++ found;
+      told_is = on k.found k.told_is;
       within = record {
         before = within.before;
         here = within.here ++ found;
@@ -192,8 +196,8 @@ bundle_tallies old new (InCode n ps f gs code) s y sandbox address format base s
       sandboxes = adds.sandboxes ∙ ap (λ (j : ℕ). j + 1) number;
       few = omega (arith, adds.count, adds.bundles, adds.few, k.few);
     }) (omega (arith, longer)))
-bundle_tallies old new (InInit n ps f gs code init) s y sandbox address format base size listed found w len h are adds k = absurd cc
-bundle_tallies old new (Whole ps) s y sandbox address format base size listed found w len h are adds k = absurd cc
+bundle_tallies old new (InInit n ps f gs code init) s y sandbox address format base size listed found w len h are adds on k = absurd cc
+bundle_tallies old new (Whole ps) s y sandbox address format base size listed found w len h are adds on k = absurd cc
 
 -- ---- faults
 

@@ -1,5 +1,5 @@
 -- What `check_stream` says of the bytes of a stream.
-use Rattle.std.specs.Prelude.{◌≡◌, ◌⊎◌, ℕ, List, Bool, true, length, slice_get, Some}
+use Rattle.std.specs.Prelude.{◌≡◌, ◌⊎◌, ℕ, List, [], Bool, true, length, slice_get, Some}
 use Rattle.sfi_image.specs.declared.fault.LayoutFault.{LayoutFault}
 use Rattle.sfi_image.specs.Spelling.{Part}
 use Rattle.sfi_image.specs.Faults.{IsFault, number_of}
@@ -59,3 +59,9 @@ pub record IsVerdictOn (bytes : List ℕ) (ends : Bool) (answer : StreamAnswer) 
       → answer ≡ answers.Findings (length found) first
   pub only_accepted : ends ≡ true → (ps : List Part) → IsAccepted bytes ps
       → answer ≡ answers.Accepted (length ps) (bundle_count ps)
+
+-- The findings that were handed over on the way to the answer: all of the bytes where there are
+-- any, and none where the bytes are accepted. With another answer they are those of a beginning.
+pub record AreHandedOver (bytes : List ℕ) (found : List Finding) (answer : StreamAnswer) : Type 0 where
+  pub findings : IfFindings (λ count first. HasFindings bytes found) answer
+  pub accepted : IfAccepted (λ sandboxes bundles. found ≡ []) answer

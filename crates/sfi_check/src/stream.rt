@@ -8,10 +8,11 @@ ghost use Rattle.sfi_scan.specs.Bundles.{IsWithin};
 ghost use Rattle.sfi_scan.specs.declared.finding.Finding.{Finding};
 ghost use Rattle.sfi_check.specs.private.Laws.{StreamLaws};
 ghost use Rattle.sfi_check.specs.private.Tallies.{findings_most, IsSoFar, Steps, Goes, verdict_of};
-ghost use Rattle.sfi_check.specs.Streams.{IsVerdictOn};
+ghost use Rattle.sfi_check.specs.Streams.{IsVerdictOn, AreHandedOver};
 
 use crate::laws::{clean_runs_safely, one_list_of_findings};
 use crate::progress::{Progress, Step};
+use crate::sink::{FindingSink, Nowhere};
 use crate::stream_answer::StreamAnswer;
 use crate::tally::Tally;
 use sfi_image::{
@@ -62,15 +63,19 @@ fn with_bundle(tally: Tally, sandbox: u32, found: &BundleFindings) -> Tally
 
 /// Takes the bytes that come next, if they are there, and scans them where they are a bundle.
 #[inline(always)]
-fn step(
+fn step<F: FindingSink>(
     reader: &mut LayoutReader,
     tally: &mut Tally,
+    sink: &mut F,
     findings: &mut BundleFindings,
     rest: &[u8],
 ) -> Step
-    requires { (so_far : List ℕ) × IsSoFar reader.old tally.old so_far }
-    ensures { (so_far : List ℕ) → IsSoFar reader.old tally.old so_far
-        → Steps reader.old reader.new tally.new so_far rest.now result }
+    requires { (first : F) × (so_far : List ℕ)
+        × IsSoFar (λ found. F.takes first found sink.old) reader.old tally.old so_far }
+    ensures { (first : F) (so_far : List ℕ)
+        → IsSoFar (λ found. F.takes first found sink.old) reader.old tally.old so_far
+        → Steps (λ found. F.takes first found sink.new)
+        reader.old reader.new tally.new so_far rest.now result }
 {
     // The law that the contract rests on: the call does nothing.
     whole_bundles();
@@ -109,6 +114,7 @@ fn step(
                 Some(number) => Step::Fault(number),
                 None => {
                     *tally = with_bundle(*tally, sandbox, findings);
+                    sink.put(findings);
                     Step::Took(BUNDLE_BYTES)
                 }
             }
@@ -129,15 +135,23 @@ fn step(
 }
 
 /// Takes as many bytes of a piece as lead on.
-fn take_piece(reader: &mut LayoutReader, tally: &mut Tally, piece: &[u8]) -> Progress
-    requires { (so_far : List ℕ) × IsSoFar reader.old tally.old so_far }
-    ensures { (so_far : List ℕ) → IsSoFar reader.old tally.old so_far
-        → Goes reader.old reader.new tally.new so_far piece.now result }
+pub(crate) fn take_piece<F: FindingSink>(
+    reader: &mut LayoutReader,
+    tally: &mut Tally,
+    sink: &mut F,
+    piece: &[u8],
+) -> Progress
+    requires { (first : F) × (so_far : List ℕ)
+        × IsSoFar (λ found. F.takes first found sink.old) reader.old tally.old so_far }
+    ensures { (first : F) (so_far : List ℕ)
+        → IsSoFar (λ found. F.takes first found sink.old) reader.old tally.old so_far
+        → Goes (λ found. F.takes first found sink.new)
+        reader.old reader.new tally.new so_far piece.now result }
 {
     let mut findings = BundleFindings::new();
     let mut at = 0;
     loop {
-        match step(reader, tally, &mut findings, &piece[at..]) {
+        match step(reader, tally, sink, &mut findings, &piece[at..]) {
             Step::Took(len) => at += len,
             Step::Short => return Progress::More(at),
             Step::Whole => return Progress::Whole(at),
@@ -147,7 +161,7 @@ fn take_piece(reader: &mut LayoutReader, tally: &mut Tally, piece: &[u8]) -> Pro
 }
 
 /// The verdict on an image with that tally.
-fn verdict(tally: &Tally) -> StreamAnswer
+pub(crate) fn verdict(tally: &Tally) -> StreamAnswer
     ensures { result ≡ verdict_of tally.now }
 {
     match tally.first {
@@ -189,7 +203,7 @@ fn read_more<S: ByteSource>(
 }
 
 /// The laws that the verdict on a stream rests on. The call does nothing.
-fn stream_laws()
+pub(crate) fn stream_laws()
     ensures { StreamLaws }
 {
     one_reading();
@@ -198,12 +212,18 @@ fn stream_laws()
     front_ends();
 }
 
-/// Accepts the bytes of the stream, or says why not. It takes no memory, and reads at most 4096
-/// bytes at a time, to a fault of the layout or to the end.
-pub fn check_stream<S: ByteSource>(source: &mut S) -> StreamAnswer
+/// Accepts the bytes of the stream, or says why not, and hands the findings to the sink on the way,
+/// by sandbox and then by address. It takes no memory, and reads at most 4096 bytes at a time, to a
+/// fault of the layout or to the end. Of bytes that it finds to be no image, or after a read that
+/// failed, the sink has the findings so far.
+pub fn check_stream_into<S: ByteSource, F: FindingSink>(
+    source: &mut S,
+    sink: &mut F,
+) -> StreamAnswer
     requires { S.has_failed source.old ≡ false }
-    ensures judged { (bytes : List ℕ) × (ends : Bool)
-        × Streams S.reads 4096 source.old source.new bytes ends × IsVerdictOn bytes ends result }
+    ensures judged { (bytes : List ℕ) × (ends : Bool) × (found : List Finding)
+        × Streams S.reads 4096 source.old source.new bytes ends × IsVerdictOn bytes ends result
+        × F.takes sink.old found sink.new × AreHandedOver bytes found result }
     ensures failed { (result ≡ StreamAnswer.ReadFault) ↔ (S.has_failed source.new ≡ true) }
 {
     // The laws that the contract rests on: the call does nothing.
@@ -219,7 +239,7 @@ pub fn check_stream<S: ByteSource>(source: &mut S) -> StreamAnswer
     let mut piece = [0; PIECE];
     let mut held = 0;
     'pieces: loop {
-        match take_piece(&mut reader, &mut tally, &piece[..held]) {
+        match take_piece(&mut reader, &mut tally, sink, &piece[..held]) {
             Progress::Fault(number) => return StreamAnswer::Layout(number),
             Progress::Whole(at) => {
                 if at < held {
@@ -242,4 +262,15 @@ pub fn check_stream<S: ByteSource>(source: &mut S) -> StreamAnswer
             }
         }
     }
+}
+
+/// Accepts the bytes of the stream, or says why not. It takes no memory, and reads at most 4096
+/// bytes at a time, to a fault of the layout or to the end.
+pub fn check_stream<S: ByteSource>(source: &mut S) -> StreamAnswer
+    requires { S.has_failed source.old ≡ false }
+    ensures judged { (bytes : List ℕ) × (ends : Bool)
+        × Streams S.reads 4096 source.old source.new bytes ends × IsVerdictOn bytes ends result }
+    ensures failed { (result ≡ StreamAnswer.ReadFault) ↔ (S.has_failed source.new ≡ true) }
+{
+    check_stream_into(source, &mut Nowhere)
 }

@@ -3,7 +3,7 @@ use Rattle.std.specs.Prelude.{◌≡◌, ℕ, ◌<◌, ◌≤◌, List, [], ◌+
 use Rattle.sfi_check.specs.declared.stream_answer.StreamAnswer.{StreamAnswer}
 use Rattle.sfi_check.specs.declared.stream_answer.StreamAnswer.TheVariants.{Accepted, Layout, Findings, ReadFault}
 use Rattle.sfi_c.specs.declared.verdict.SfiVerdict.{SfiVerdict}
-use Rattle.sfi_c.specs.Verdicts.{acceptance, refusal, no_image, no_memory}
+use Rattle.sfi_c.specs.Verdicts.{no_finding, acceptance, refusal, no_image}
 
 -- the bytes that are left before a read, the length of its buffer, what it hands out,
 -- and what is left then
@@ -17,4 +17,11 @@ abbrev pub verdict_of : StreamAnswer → SfiVerdict
 verdict_of (Accepted sandboxes bundles) = acceptance sandboxes bundles
 verdict_of (Layout number) = no_image number
 verdict_of (Findings count first) = refusal count first
-verdict_of ReadFault = no_memory
+verdict_of ReadFault = record {
+  status = 3;
+  layout_fault = 0;
+  sandboxes = 0;
+  bundles = 0;
+  findings = 0;
+  first = no_finding;
+}

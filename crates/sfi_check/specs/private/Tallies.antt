@@ -70,9 +70,10 @@ front_sandboxes (Whole ps) = length ps
 abbrev pub findings_most : ℕ
 findings_most = bundle_size / 2
 
--- the tally is that of the front
-pub record Tallies (t : Tally) (x : Front) : Type 0 where
+-- the tally is that of the front, and `told` holds of its findings
+pub record Tallies (told : List Finding → Type 0) (t : Tally) (x : Front) : Type 0 where
   pub found : List Finding
+  pub told_is : told found
   pub found_are : AreFrontFindings x found
   pub count : t.count ≡ length found
   pub first : t.first ≡ slice_get found 0
@@ -80,12 +81,13 @@ pub record Tallies (t : Tally) (x : Front) : Type 0 where
   pub sandboxes : t.sandboxes ≡ front_sandboxes x
   pub few : t.count ≤ findings_most * t.bundles
 
--- the reader and the tally are those of the bytes so far
-pub record IsSoFar (r : ReaderState) (t : Tally) (bytes : List ℕ) : Type 0 where
+-- the reader and the tally are those of the bytes so far, and `told` holds of their findings
+pub record IsSoFar (told : List Finding → Type 0) (r : ReaderState) (t : Tally)
+    (bytes : List ℕ) : Type 0 where
   pub at : Front
   pub stands : StandsFor r at
   pub bytes_are : bytes ≡ front at
-  pub tallies : Tallies t at
+  pub tallies : Tallies told t at
   pub few : t.bundles + left r ≤ left_most
 
 -- the bytes end before what comes next is whole, and are fewer than 28
@@ -93,23 +95,38 @@ pub record IsCut (r : ReaderState) (len : ℕ) : Type 0 where
   pub less : (x : Front) → StandsFor r x → IsLess len (want_of x)
   pub few : len < 28
 
+-- `told` holds of some findings
+abbrev pub IsTold : (List Finding → Type 0) → Type 0
+IsTold told = (found : List Finding) × told found
+
 -- one step on the bytes that follow those so far
-abbrev pub Steps : ReaderState → ReaderState → Tally → List ℕ → List ℕ → Step → Type 0
-Steps old new t so_far rest (steps.Took n) =
-    (1 ≤ n) × (n ≤ length rest) × IsSoFar new t (so_far ++ take n rest) × (left new < left old)
-Steps old new t so_far rest steps.Short =
-    IsSoFar new t so_far × IsCut new (length rest) × (left new ≤ left old)
-Steps old new t so_far rest steps.Whole = IsSoFar new t so_far × (new.next ≡ next.End)
-Steps old new t so_far rest (steps.Fault k) = HasFaultNumberWhateverFollows (so_far ++ rest) k
+abbrev pub Steps : (List Finding → Type 0) → ReaderState → ReaderState → Tally → List ℕ → List ℕ
+    → Step → Type 0
+Steps told old new t so_far rest (steps.Took n) =
+    (1 ≤ n) × (n ≤ length rest) × IsSoFar told new t (so_far ++ take n rest) × (left new < left old)
+Steps told old new t so_far rest steps.Short =
+    IsSoFar told new t so_far × IsCut new (length rest) × (left new ≤ left old)
+Steps told old new t so_far rest steps.Whole = IsSoFar told new t so_far × (new.next ≡ next.End)
+Steps told old new t so_far rest (steps.Fault k) =
+    HasFaultNumberWhateverFollows (so_far ++ rest) k × IsTold told
 
 -- all steps on a piece that follows the bytes so far
-abbrev pub Goes : ReaderState → ReaderState → Tally → List ℕ → List ℕ → Progress → Type 0
-Goes old new t so_far rest (ways.More n) =
-    (n ≤ length rest) × IsSoFar new t (so_far ++ take n rest) × IsCut new (length rest - n)
+abbrev pub Goes : (List Finding → Type 0) → ReaderState → ReaderState → Tally → List ℕ → List ℕ
+    → Progress → Type 0
+Goes told old new t so_far rest (ways.More n) =
+    (n ≤ length rest) × IsSoFar told new t (so_far ++ take n rest) × IsCut new (length rest - n)
     × ((left new < left old) ⊎ ((n ≡ 0) × (left new ≤ left old)))
-Goes old new t so_far rest (ways.Whole n) =
-    (n ≤ length rest) × IsSoFar new t (so_far ++ take n rest) × (new.next ≡ next.End)
-Goes old new t so_far rest (ways.Fault k) = HasFaultNumberWhateverFollows (so_far ++ rest) k
+Goes told old new t so_far rest (ways.Whole n) =
+    (n ≤ length rest) × IsSoFar told new t (so_far ++ take n rest) × (new.next ≡ next.End)
+Goes told old new t so_far rest (ways.Fault k) =
+    HasFaultNumberWhateverFollows (so_far ++ rest) k × IsTold told
+
+-- from the bytes so far a piece leads on, whatever the sink was first
+abbrev pub LeadsOn : {F : Type 0} → (F → List Finding → F → Type 0) → F → F → ReaderState
+    → ReaderState → Tally → Tally → List ℕ → Type 0
+LeadsOn {F} takes sink after r s t u piece = (first : F) (so_far : List ℕ)
+    → IsSoFar (λ found. takes first found sink) r t so_far
+    → IsSoFar (λ found. takes first found after) s u (so_far ++ piece)
 
 -- the answer on a whole image with that tally
 abbrev pub verdict_by : Option Finding → Tally → StreamAnswer

@@ -14,18 +14,18 @@ taken : (n : ℕ) (xs : List ℕ) → n ≤ length xs → length (take n xs) ≡
 taken n xs le = omega (arith, length-take n xs)
 
 pub scan_bundle-requires : goal.scan_bundle-requires
-scan_bundle-requires c =
-    let h = c.requires.1 in
+scan_bundle-requires g c =
+    let h = c.requires.2 in
     bundle_within c.whole_bundles.ensures h.at c.in-Bundle.sandbox c.in-Bundle.address c.in-Bundle.format c.in-Bundle.code_base c.in-Bundle.code_size c.in-Bundle.listed h.stands.right (c.in-Bundle.ensures.want h.at h.stands)
 
 pub take-requires : goal.take-requires
-take-requires c =
-    let h = c.requires.1 in
+take-requires g c =
+    let h = c.requires.2 in
     (h.at, h.stands, field_taken h.at c.in-Field.len c.args.rest.now (c.in-Field.ensures.want h.at h.stands) c.if-rest-len.false)
 
 pub take-requires-in-Bundle : goal.take-requires-in-Bundle
-take-requires-in-Bundle c =
-    let h = c.requires.1 in
+take-requires-in-Bundle g c =
+    let h = c.requires.2 in
     let chunk = c.in-Some-first_chunk.ensures.cases in
     let enough : 16 ≤ length c.args.rest.now = chunk.enough in
     let len : length c.in-Some-first_chunk.bundle.now ≡ 16 = ap length chunk.same ∙ taken 16 c.args.rest.now enough in (
@@ -36,8 +36,8 @@ take-requires-in-Bundle c =
     )
 
 pub take-requires-in-Init : goal.take-requires-in-Init
-take-requires-in-Init c =
-    let h = c.requires.1 in
+take-requires-in-Init g c =
+    let h = c.requires.2 in
     let want = c.in-Init.ensures.want h.at h.stands in
     let some = init_some h.at c.in-Init.most want h.stands.right in
     let len = c.if-rest-most.len in
@@ -48,10 +48,10 @@ take-requires-in-Init c =
     (h.at, h.stands, init_taken h.at c.in-Init.most len c.args.rest.now want least few room)
 
 pub returns-in-Some : goal.returns-in-Some
-returns-in-Some c = λ so_far h. step_fault c.args.reader.now c.args.tally.now so_far (take c.in-Field.len c.args.rest.now) c.args.rest.now c.in-Field.len c.in-Some.number refl c.in-Some.ensures.fault h
+returns-in-Some g c = λ first so_far h. step_fault c.args.reader.now c.args.tally.now so_far (take c.in-Field.len c.args.rest.now) c.args.rest.now c.in-Field.len c.in-Some.number refl c.in-Some.ensures.fault h
 
 pub returns-in-None : goal.returns-in-None
-returns-in-None c = λ so_far h. (
+returns-in-None g c = λ first so_far h. (
   (field_len h.at c.in-Field.len (c.in-Field.ensures.want h.at h.stands)).0,
   c.if-rest-len.false,
   field_step c.args.reader.now c.take.new.self c.args.tally.now so_far (take c.in-Field.len c.args.rest.now) c.in-Field.len c.in-Field.ensures.want c.in-None.ensures.goes_on c.in-None.ensures.falls h,
@@ -59,10 +59,10 @@ returns-in-None c = λ so_far h. (
 )
 
 pub returns-in-Some-take-2 : goal.returns-in-Some-take-2
-returns-in-Some-take-2 c = λ so_far h. step_fault c.args.reader.now c.args.tally.now so_far (take c.if-rest-most.len c.args.rest.now) c.args.rest.now c.if-rest-most.len c.in-Some-take-2.number refl c.in-Some-take-2.ensures.fault h
+returns-in-Some-take-2 g c = λ first so_far h. step_fault c.args.reader.now c.args.tally.now so_far (take c.if-rest-most.len c.args.rest.now) c.args.rest.now c.if-rest-most.len c.in-Some-take-2.number refl c.in-Some-take-2.ensures.fault h
 
 pub returns-in-None-take-2 : goal.returns-in-None-take-2
-returns-in-None-take-2 c = λ so_far h.
+returns-in-None-take-2 g c = λ first so_far h.
     let some = init_some h.at c.in-Init.most (c.in-Init.ensures.want h.at h.stands) h.stands.right in (
       elim c.if-rest-most.branch [ then-rest-most w ↦ (let e = w.len-is in let not_zero = not_empty c.args.rest.now (sym c.is_empty.ensures ∙ c.if-is_empty.false) in omega arith) | else-rest-most w ↦ (let e = w.len-is in omega arith) ],
       elim c.if-rest-most.branch [ then-rest-most w ↦ (let e = w.len-is in omega arith) | else-rest-most w ↦ (let e = w.len-is in let b = w.if-rest-most.false in omega arith) ],
@@ -71,10 +71,10 @@ returns-in-None-take-2 c = λ so_far h.
     )
 
 pub returns-in-Some-take : goal.returns-in-Some-take
-returns-in-Some-take c = λ so_far h. step_fault c.args.reader.now c.args.tally.now so_far c.in-Some-first_chunk.bundle.now c.args.rest.now 16 c.in-Some-take.number c.in-Some-first_chunk.ensures.cases.same c.in-Some-take.ensures.fault h
+returns-in-Some-take g c = λ first so_far h. step_fault c.args.reader.now c.args.tally.now so_far c.in-Some-first_chunk.bundle.now c.args.rest.now 16 c.in-Some-take.number c.in-Some-first_chunk.ensures.cases.same c.in-Some-take.ensures.fault h
 
 pub returns-in-None-take : goal.returns-in-None-take
-returns-in-None-take c = λ so_far h.
+returns-in-None-take g c = λ first so_far h.
     let chunk = c.in-Some-first_chunk.ensures.cases in
     let enough : 16 ≤ length c.args.rest.now = chunk.enough in
     let len : length c.in-Some-first_chunk.bundle.now ≡ 16 = ap length chunk.same ∙ taken 16 c.args.rest.now enough in
@@ -82,8 +82,9 @@ returns-in-None-take c = λ so_far h.
     record { sandboxes = c.with_bundle.ensures.sandboxes; bundles = c.with_bundle.ensures.bundles; count = c.with_bundle.ensures.count; few = c.with_bundle.ensures.few; first = c.with_bundle.ensures.first } in (
       omega arith,
       enough,
-      subst (λ (l : List ℕ). IsSoFar c.take-in-Bundle.new.self c.with_bundle.result (so_far ++ l)) chunk.same
+      subst (λ (l : List ℕ). IsSoFar (λ found. g.F.FindingSink.takes first found c.put.new.self) c.take-in-Bundle.new.self c.with_bundle.result (so_far ++ l)) chunk.same
           (bundle_step c.args.reader.now c.take-in-Bundle.new.self c.args.tally.now c.with_bundle.result so_far c.in-Some-first_chunk.bundle.now c.in-Bundle.sandbox c.in-Bundle.address c.in-Bundle.format c.in-Bundle.code_base c.in-Bundle.code_size c.in-Bundle.listed c.scan_bundle.new.findings
-          c.in-Bundle.ensures.want len c.scan_bundle.ensures adds c.in-None-take.ensures.goes_on c.in-None-take.ensures.falls h),
+          c.in-Bundle.ensures.want len c.scan_bundle.ensures adds c.in-None-take.ensures.goes_on c.in-None-take.ensures.falls
+          (λ before told. g.met.F.FindingSink.more first c.args.sink.now c.put.new.self before c.scan_bundle.new.findings told c.put.ensures) h),
       c.in-None-take.ensures.falls,
     )

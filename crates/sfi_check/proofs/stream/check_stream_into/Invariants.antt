@@ -1,11 +1,11 @@
 use Rattle.std.proofs.Common.{◌≡◌, ◌+◌, ◌-◌, ◌*◌, false}
 use Rattle.sfi_image.specs.Keeping.{left}
 use Rattle.sfi_check.proofs.Pieces.{IsBetween}
-use Rattle.sfi_check.proofs.stream.check_stream.Given as goal
+use Rattle.sfi_check.proofs.stream.check_stream_into.Given as goal
 
 abbrev pub invariant-pieces : goal.invariant-pieces
 invariant-pieces g l = record {
-  between : IsBetween g.S.ByteSource.reads l.initial.source l.source l.reader l.tally l.piece l.held;
+  between : IsBetween g.S.ByteSource.reads (λ found. g.F.FindingSink.takes l.initial.sink found l.sink) l.initial.source l.source l.reader l.tally l.piece l.held;
   live : g.S.ByteSource.has_failed l.source ≡ false;
 }
 
