@@ -2,10 +2,12 @@
 use Rattle.std.proofs.Common.{◌≡◌, ℕ, zero, suc, ◌↔◌, ◌<◌, List, [], ◌∷◌, length, get_or, Option, Some, None, IsSome, slice_get, refl, sym, ap, ◌∙◌, subst}
 use Rattle.std.specs.Option.{option_map}
 use Rattle.std.proofs.lemmas.Option.{slice_get-get_or}
-use Rattle.rv_mem.specs.Bytes.{Bytes, byte_at}
+use Rattle.std.specs.List.{range_with_len}
+use Rattle.rv_mem.specs.Bytes.{Bytes, byte_at, bytes_at}
 use Rattle.sfi_image.specs.Spans.{Holds}
 use Rattle.sfi_host.specs.declared.sandbox.Sandbox.{Sandbox}
 use Rattle.sfi_host.specs.Regions.{span_of, bytes_in}
+use Rattle.sfi_host.specs.Changing.{data_bytes_of}
 use Rattle.sfi_host.specs.Reading.{hart_at, data_region_at}
 use Rattle.sfi_host.specs.Slots.{Slot}
 use Rattle.sfi_host.specs.Sandboxes.{seat_of, seats_of, world_of}
@@ -56,6 +58,12 @@ module _ (w : Sandboxes) (m : Bytes) (all : List Sandbox) (is : world_of m all �
   data_is s at e =
       ap (λ (b : Bytes). byte_at b at) (sym (data_of_own (seat_of s).bounds m))
       ∙ ap (λ (o : Option Slot). data_byte_of o at) (sym (slot_is s e))
+
+  -- many of its data bytes
+  pub data_bytes_is : (s : Sandbox) (at n : ℕ) → slice_get all i ≡ Some s → bytes_at (bytes_in (seat_of s).bounds.data m) (range_with_len at n) ≡ data_bytes_of (slice_get (slots_of w) i) at n
+  data_bytes_is s at n e =
+      ap (λ (b : Bytes). bytes_at b (range_with_len at n)) (sym (data_of_own (seat_of s).bounds m))
+      ∙ ap (λ (o : Option Slot). data_bytes_of o at n) (sym (slot_is s e))
 
   -- the addresses at which it has a byte
   pub there_is : (s : Sandbox) (at : ℕ) (o : Option ℕ) → slice_get all i ≡ Some s → (IsSome o ↔ Holds (seat_of s).bounds.data at)

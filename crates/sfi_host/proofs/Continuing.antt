@@ -449,4 +449,4 @@ cut_is_shorter {S} machine answer may_refuse plan old new before after place cut
 pub retry_follows : {S : Type 0} → RetryFollows S
 retry_follows machine answer may_refuse p q old mid new before between after place cut second =
     let up_to = cut_is_shorter machine answer may_refuse p old mid before between place cut in
-    (up_to.steps, plans_follow machine answer (shortened p place up_to.steps) q old mid new before between after up_to.joint second)
+    (up_to, plans_follow machine answer (shortened p place up_to.steps) q old mid new before between after up_to.joint second)

@@ -1,8 +1,8 @@
 -- What the joint run does from a safe world is a list of moves.
-use Rattle.std.proofs.Common.{◌≡◌, ◌≢◌, ◌⊎◌, inl, inr, ⊎_elim, IsSome, is_some, ℕ, zero, suc, ◌<◌, ◌≤◌, ◌^◌, ◌||◌, ◌&&◌, Bool, true, false, cond, List, [], ◌∷◌, ◌++◌, length, map, Option, Some, None, slice_get, set, refl, sym, ap, ◌∙◌, subst, arith, append_assoc, append-nil}
+use Rattle.std.proofs.Common.{◌≡◌, ◌≢◌, ◌⊎◌, inl, inr, ⊎_elim, IsSome, is_some, ℕ, zero, suc, ◌<◌, ◌≤◌, ◌^◌, ◌||◌, ◌&&◌, Bool, true, false, cond, List, [], ◌∷◌, ◌++◌, length, map, take, Option, Some, None, slice_get, set, refl, sym, ap, ◌∙◌, subst, arith, append_assoc, append-nil}
 use Rattle.std.specs.List.{All}
 use Rattle.std.specs.Option.{option_or}
-use Rattle.std.proofs.lemmas.List.{map-append}
+use Rattle.std.proofs.lemmas.List.{map-append, take_all}
 use Rattle.std.proofs.lemmas.List.Elements.{All-cons, All-nil}
 use Rattle.rv_mem.specs.Bytes.{Bytes, IsMemory, byte_at}
 use Rattle.rv_word.specs.declared.instr.Instr.TheVariants.{Ecall}
@@ -21,10 +21,10 @@ use Rattle.sfi_host.specs.declared.turn.Turn.{Turn as PlanTurn}
 use Rattle.sfi_host.specs.Hosts.{Way, Replied, Yield, Exit, Reply, Answer, Host, limited, replay}
 use Rattle.sfi_host.specs.Regions.{is_in, IsWhole}
 use Rattle.sfi_host.specs.Slots.{Bounds, Slot, bounds_of, one_more, is_own, own}
-use Rattle.sfi_host.specs.Joint.{Machine, IsMachine, word, is_byte, with_arguments, with_data, after_way, status_after, replied, Moved, moved, still, after_answer, after_step, after_replies, next_after, and_more, turned, Given, given, Joined, joined, after_turn, and_plan, call_of}
+use Rattle.sfi_host.specs.Joint.{Machine, IsMachine, word, is_byte, with_arguments, with_data, after_way, status_after, replied, Moved, moved, still, after_answer, after_step, after_replies, next_after, and_more, turned, Given, given, Joined, joined, after_turn, and_plan, turn_and, call_of}
 use Rattle.sfi_host.specs.Worlds.{Seat, Sandboxes, slot_of, slots_of, state_in, IsSafeSeat, IsSafeWorld, StaysOutside}
 use Rattle.sfi_host.specs.Steps.{IsOwnStep, StepsAreOwn}
-use Rattle.sfi_host.specs.Moves.{StepsAlone, Move, after_move, AreInOrder, given_in, JoinedMoves, JointMoves}
+use Rattle.sfi_host.specs.Moves.{StepsAlone, Move, after_move, IsTurnsShare, AreShares, all_of, given_in, ComeTo, HaveRun, JoinedMoves, JointMoves}
 use Rattle.sfi_host.proofs.Leaving.{get_with_data}
 use Rattle.sfi_host.proofs.Moves.{turn_of, Taken, IsTaken, AreTaken, are_moves, taken_follow, safe_after, slots_after, are_runs, safe_runs}
 use Rattle.sfi_host.proofs.Neighbours.{get_set_same}
@@ -56,9 +56,30 @@ given_append [] second = refl
 given_append (v ∷ first) second =
     ap (λ (l : List Given). given v.number v.replies ++ l) (given_append first second) ∙ sym (append_assoc (given v.number v.replies) (given_in first) (given_in second))
 
-no_moves : (plan : List PlanTurn) → AreInOrder plan []
-no_moves [] = refl
-no_moves (t ∷ plan) = ([], record { own = []; only = All-nil (λ (v : Move). v.number ≡ t.sandbox); count = omega arith; all = refl }, no_moves plan)
+-- ---- shares
+
+no_share : (t : PlanTurn) → IsTurnsShare t []
+no_share t = record { only = All-nil (λ (v : Move). v.number ≡ t.sandbox); count = omega arith }
+
+none_of : List PlanTurn → List (List Move)
+none_of [] = []
+none_of (t ∷ plan) = [] ∷ none_of plan
+
+no_shares : (plan : List PlanTurn) → AreShares plan (none_of plan)
+unfolding none_of
+no_shares [] = refl
+no_shares (t ∷ plan) = (no_share t, no_shares plan)
+
+no_moves : (k : ℕ) (plan : List PlanTurn) → all_of (take k (none_of plan)) ≡ []
+unfolding none_of
+no_moves zero plan = refl
+no_moves (suc k) [] = refl
+no_moves (suc k) (t ∷ plan) = no_moves k plan
+
+as_many : (plan : List PlanTurn) (shares : List (List Move)) → AreShares plan shares → length shares ≡ length plan
+as_many [] shares are = ap length are
+as_many (t ∷ plan) [] are = absurd are
+as_many (t ∷ plan) (share ∷ shares) are = ap suc (as_many plan shares are.1)
 
 -- ---- a memory with other data
 
@@ -177,6 +198,7 @@ module _ (on : GoesOnSafely) (steps_own : StepsAreOwn) (machine : Machine) (is :
       t = seat_with s r.state.hart s.status (one_more s.steps);
       taken = record {
         alone = steps_alone [] outcome.Next e _ refl refl (λ f. cc);
+        step = λ none. refl;
         others = alone.others;
         bounds = refl;
         safe = subst (λ (x : Status). IsSafeSeat r.state.memory (seat_with s r.state.hart x (one_more s.steps))) (sym ready) (alone.safe e (one_more s.steps));
@@ -192,6 +214,7 @@ module _ (on : GoesOnSafely) (steps_own : StepsAreOwn) (machine : Machine) (is :
       t = seat_with s s.hart (Trapped cause at) s.steps;
       taken = record {
         alone = steps_alone [] (outcome.Trap cause at) e _ refl refl (λ f. cc);
+        step = λ none. sym (alone.stopped (λ f. let z : outcome.Trap cause at ≡ outcome.Next = sym e ∙ f in cc));
         others = λ a out. refl;
         bounds = refl;
         safe = keep.halted m s seat m _ seat.state refl (λ f. cc) (alone.trapped cause at e) (λ a out. refl) seat.has_data;
@@ -235,6 +258,7 @@ module _ (on : GoesOnSafely) (steps_own : StepsAreOwn) (machine : Machine) (is :
           → Taken machine i m s (a.reply ∷ []) n (t w)
       taken_by w way is_turn leads = record {
         alone = steps_alone (a.reply ∷ []) outcome.Call e _ (sym slot_after ∙ ap (λ (y : Way). slot_of n (t y)) way) refl (way_goes a.reply.way);
+        step = λ none. absurd (cc);
         others = others;
         bounds = refl;
         safe = keep.answered_safe on m s seat ready stands.0 stands.1 n memory others whole (word a.reply.a0) (word a.reply.a1) (low a.reply.a0) (low a.reply.a1) w;
@@ -360,88 +384,116 @@ module _ (on : GoesOnSafely) (steps_own : StepsAreOwn) (machine : Machine) (is :
 
   -- ---- a plan
 
-  record PlanMoves {S : Type 0} (plan : List PlanTurn) (w : Sandboxes) (all : Joined S) : Type 0 where
-    moves : List Move
+  record LeadTo {S : Type 0} (w : Sandboxes) (moves : List Move) (all : Joined S) : Type 0 where
     n : Sandboxes
-    order : AreInOrder plan moves
     taken : AreTaken machine w moves n
     slots : slots_of n ≡ all.slots
     replies : given_in moves ≡ all.replies
 
-  abbrev PlanGoal : {S : Type 0} → (List Slot → S → Joined S) → List PlanTurn → Type 0
-  PlanGoal {S} rest plan = (w : Sandboxes) (x : S) → IsSafeWorld w → PlanMoves plan w (rest (slots_of w) x)
+  -- shares of a plan's turns; the first ones, so many, come to that
+  abbrev PlanMoves : {S : Type 0} → List PlanTurn → Sandboxes → (ℕ → Joined S) → Type 0
+  PlanMoves plan w first = (shares : List (List Move)) × AreShares plan shares × ((k : ℕ) → LeadTo w (all_of (take k shares)) (first k))
 
-  module _ {S : Type 0} (t : PlanTurn) (plan : List PlanTurn) (w : Sandboxes) (world : IsSafeWorld w) (rest : List Slot → S → Joined S) (goal : PlanGoal rest plan) where
-    -- a turn that names none
-    no_turn : (x : S) → PlanMoves (t ∷ plan) w (after_turn [] (rest (slots_of w) x))
-    no_turn x = let later = goal w x world in
-        record {
-          moves = later.moves;
-          n = later.n;
-          order = (later.moves, record { own = []; only = All-nil (λ (v : Move). v.number ≡ t.sandbox); count = omega arith; all = refl }, later.order);
-          taken = later.taken;
-          slots = later.slots;
-          replies = later.replies;
-        }
+  module _ {S : Type 0} (host : Host S) where
+    abbrev first_turns : List PlanTurn → List Slot → S → ℕ → Joined S
+    first_turns plan slots x k = joined machine host (take k plan) slots x
 
-    module _ (mv : Moved S) (first : TurnMoves t.sandbox t.steps w mv) where
-      and_others : PlanMoves (t ∷ plan) w (after_turn (given t.sandbox mv.replies) (rest (set (slots_of w) t.sandbox mv.slot) mv.host))
-      and_others =
-          let later : PlanMoves plan first.n (rest (set (slots_of w) t.sandbox mv.slot) mv.host) =
-          subst (λ (l : List Slot). PlanMoves plan first.n (rest l mv.host)) first.slots (goal first.n mv.host (are_runs on machine first.moves w first.n world first.taken).safe) in
-          record {
-            moves = first.moves ++ later.moves;
-            n = later.n;
-            order = (later.moves, record { own = first.moves; only = first.only; count = first.count; all = refl }, later.order);
-            taken = taken_follow machine first.moves later.moves w first.n later.n first.taken later.taken;
-            slots = later.slots;
-            replies = given_append first.moves later.moves ∙ ap (λ (l : List Given). l ++ given_in later.moves) first.replies ∙ ap (λ (l : List Given). given t.sandbox mv.replies ++ l) later.replies;
-          }
+    abbrev PlanGoal : List PlanTurn → Type 0
+    PlanGoal plan = (w : Sandboxes) (x : S) → IsSafeWorld w → PlanMoves plan w (first_turns plan (slots_of w) x)
 
-      turn_next : (next : StepResult) → PlanMoves (t ∷ plan) w (and_plan next t.sandbox mv (slots_of w) rest)
-      turn_next Continue = and_others
-      turn_next TurnEnds = and_others
-      turn_next RunEnds = record {
-        moves = first.moves;
-        n = first.n;
-        order = ([], record { own = first.moves; only = first.only; count = first.count; all = sym (append-nil first.moves) }, no_moves plan);
-        taken = first.taken;
-        slots = first.slots;
-        replies = first.replies;
-      }
+    no_turns : (w : Sandboxes) (x : S) → LeadTo w [] (joined machine host [] (slots_of w) x)
+    no_turns w x = subst (λ (j : Joined S). LeadTo w [] j) (sym (joined_nil machine host (slots_of w) x)) (record { n = w; taken = refl; slots = refl; replies = refl })
 
-  by_found : {S : Type 0} (host : Host S) (t : PlanTurn) (plan : List PlanTurn) (w : Sandboxes) (x : S) → IsSafeWorld w → PlanGoal (joined machine host plan) plan
-      → (found : Option Seat) → slice_get w.seats t.sandbox ≡ found → PlanMoves (t ∷ plan) w (joined machine host (t ∷ plan) (slots_of w) x)
-  by_found {S} host t plan w x world goal None e = subst (λ (j : Joined S). PlanMoves (t ∷ plan) w j)
-      (sym (joined_cons machine host t plan (slots_of w) x None (get_map_none (slot_of w.bytes) w.seats t.sandbox e)))
-      (no_turn t plan w world (joined machine host plan) goal x)
-  by_found {S} host t plan w x world goal (Some s) e = subst (λ (j : Joined S). PlanMoves (t ∷ plan) w j)
-      (sym (joined_cons machine host t plan (slots_of w) x (Some (slot_of w.bytes s)) (get_map (slot_of w.bytes) w.seats t.sandbox s e)))
-      (let mv = turned machine host t.sandbox t.steps (slot_of w.bytes s) x in
-      turn_next t plan w world (joined machine host plan) goal mv (turn_moves host t.sandbox t.steps w s x world e) mv.next)
+    module _ (t : PlanTurn) (plan : List PlanTurn) (w : Sandboxes) (world : IsSafeWorld w) (x : S) (goal : PlanGoal plan) where
+      -- a turn's share, and those of the turns after it
+      abbrev After : List Move → (List PlanTurn → Joined S) → Type 0
+      After share with_rest = (later : List (List Move)) × AreShares plan later × ((k : ℕ) → LeadTo w (share ++ all_of (take k later)) (with_rest (take k plan)))
 
-  plan_moves : {S : Type 0} (host : Host S) (plan : List PlanTurn) → PlanGoal (joined machine host plan) plan
-  plan_moves {S} host [] w x world = subst (λ (j : Joined S). PlanMoves [] w j) (sym (joined_nil machine host (slots_of w) x))
-      (record { moves = []; n = w; order = refl; taken = refl; slots = refl; replies = refl })
-  plan_moves host (t ∷ plan) w x world = by_found host t plan w x world (plan_moves host plan) (slice_get w.seats t.sandbox) refl
+      and_rest : (share : List Move) → IsTurnsShare t share → (found : Option Slot) → slice_get (slots_of w) t.sandbox ≡ found
+          → After share (λ rest. turn_and machine host t (slots_of w) x found (joined machine host rest)) → PlanMoves (t ∷ plan) w (first_turns (t ∷ plan) (slots_of w) x)
+      and_rest share is found e after = (share ∷ after.0, (is, after.1), by_count)
+        where
+          by_count : (k : ℕ) → LeadTo w (all_of (take k (share ∷ after.0))) (first_turns (t ∷ plan) (slots_of w) x k)
+          by_count zero = no_turns w x
+          by_count (suc k) = subst (λ (j : Joined S). LeadTo w (share ++ all_of (take k after.0)) j) (sym (joined_cons machine host t (take k plan) (slots_of w) x found e)) (after.2 k)
+
+      -- a turn that names none
+      names_none : After [] (λ rest. after_turn [] (joined machine host rest (slots_of w) x))
+      names_none = let later = goal w x world in (later.0, later.1, λ k. let l = later.2 k in record { n = l.n; taken = l.taken; slots = l.slots; replies = l.replies })
+
+      module _ (mv : Moved S) (first : TurnMoves t.sandbox t.steps w mv) where
+        goes_on : After first.moves (λ rest. after_turn (given t.sandbox mv.replies) (joined machine host rest (set (slots_of w) t.sandbox mv.slot) mv.host))
+        goes_on =
+            let later : PlanMoves plan first.n (first_turns plan (set (slots_of w) t.sandbox mv.slot) mv.host) =
+            subst (λ (l : List Slot). PlanMoves plan first.n (first_turns plan l mv.host)) first.slots (goal first.n mv.host (are_runs on machine first.moves w first.n world first.taken).safe_world) in (
+              later.0,
+              later.1,
+              λ k.
+                  let l = later.2 k in
+                  let moves = all_of (take k later.0) in
+                  record {
+                    n = l.n;
+                    taken = taken_follow machine first.moves moves w first.n l.n first.taken l.taken;
+                    slots = l.slots;
+                    replies = given_append first.moves moves ∙ ap (λ (g : List Given). g ++ given_in moves) first.replies ∙ ap (λ (g : List Given). given t.sandbox mv.replies ++ g) l.replies;
+                  },
+            )
+
+        by_end : (next : StepResult) → After first.moves (λ rest. and_plan next t.sandbox mv (slots_of w) (joined machine host rest))
+        by_end Continue = goes_on
+        by_end TurnEnds = goes_on
+        by_end RunEnds = (
+          none_of plan,
+          no_shares plan,
+          λ k. subst (λ (moves : List Move). LeadTo w moves (and_plan RunEnds t.sandbox mv (slots_of w) (joined machine host (take k plan))))
+              (sym (ap (λ (l : List Move). first.moves ++ l) (no_moves k plan) ∙ append-nil first.moves))
+              (record { n = first.n; taken = first.taken; slots = first.slots; replies = first.replies }),
+        )
+
+      by_found : (found : Option Seat) → slice_get w.seats t.sandbox ≡ found → PlanMoves (t ∷ plan) w (first_turns (t ∷ plan) (slots_of w) x)
+      by_found None e = and_rest [] (no_share t) None (get_map_none (slot_of w.bytes) w.seats t.sandbox e) names_none
+      by_found (Some s) e =
+          let mv = turned machine host t.sandbox t.steps (slot_of w.bytes s) x in
+          let first = turn_moves host t.sandbox t.steps w s x world e in
+          and_rest first.moves (record { only = first.only; count = first.count }) (Some (slot_of w.bytes s)) (get_map (slot_of w.bytes) w.seats t.sandbox s e) (by_end mv first mv.next)
+
+    plan_moves : (plan : List PlanTurn) → PlanGoal plan
+    plan_moves [] w x world = ([], refl, none)
+      where
+        none : (k : ℕ) → LeadTo w (all_of (take k [])) (first_turns [] (slots_of w) x k)
+        none zero = no_turns w x
+        none (suc k) = no_turns w x
+    plan_moves (t ∷ plan) w x world = by_found t plan w world x (plan_moves plan) (slice_get w.seats t.sandbox) refl
 
 -- ---- the law
 
+module _ {S : Type 0} (on : GoesOnSafely) (own : StepsAreOwn) (machine : Machine) (host : Host S) (plan : List PlanTurn) (w : Sandboxes) (s : S) (is : IsMachine machine) (world : IsSafeWorld w) where
+  abbrev Leads : List Move → List PlanTurn → Type 0
+  Leads moves part = LeadTo on own machine is w moves (joined machine host part (slots_of w) s)
+
+  come : (moves : List Move) (part : List PlanTurn) (l : Leads moves part) → ComeTo machine w moves l.n (joined machine host part (slots_of w) s)
+  come moves part l = record { lead = are_moves on machine moves w l.n world l.taken; slots = l.slots; replies = l.replies }
+
+  are_joined : (n : Sandboxes) × HaveRun machine plan w n (λ part. joined machine host part (slots_of w) s)
+  are_joined =
+      let p = plan_moves on own machine is host plan w s world in
+      let moves = all_of p.0 in
+      let all : Leads moves plan = subst (λ (l : List (List Move)). Leads (all_of l) plan) (take_all (length plan) p.0 (omega (arith, as_many plan p.0 p.1)))
+      (subst (λ (part : List PlanTurn). Leads (all_of (take (length plan) p.0)) part) (take_all (length plan) plan (omega arith)) (p.2 (length plan))) in
+      let runs = are_runs on machine moves w all.n world all.taken in (
+        all.n,
+        record {
+          shares = p.0;
+          order = p.1;
+          first = λ k. let l = p.2 k in (l.n, come (all_of (take k p.0)) (take k plan) l);
+          whole = come moves plan all;
+          runs = runs;
+          safe_runs = safe_runs on machine moves w all.n world runs;
+        },
+      )
+
 pub joined_are : {S : Type 0} → GoesOnSafely → StepsAreOwn → JoinedMoves S
-joined_are on own machine host plan w s is world =
-    let p = plan_moves on own machine is host plan w s world in
-    let runs = are_runs on machine p.moves w p.n world p.taken in (
-      p.n,
-      record {
-        moves = p.moves;
-        order = p.order;
-        lead = are_moves machine p.moves w p.n p.taken;
-        slots = p.slots;
-        replies = p.replies;
-        runs = runs;
-        safe = safe_runs on machine p.moves w p.n world runs;
-      },
-    )
+joined_are on own machine host plan w s is world = are_joined on own machine host plan w s is world
 
 pub joint_are : {S : Type 0} → GoesOnSafely → StepsAreOwn → JointMoves S
 joint_are on own machine answer plan w s limit = joined_are on own machine (limited answer) plan w (record { host = s; left = limit })

@@ -22,6 +22,8 @@ pub mod SameWorld
 pub mod Serving
 pub mod Stops
 pub mod Taking
+pub mod Changing
+pub mod Entries
 pub mod Turning
 pub mod Worlds
 pub mod Writing

@@ -27,6 +27,7 @@ turn_of machine m s replies n t = own_turn (machine (state_in m s)) (state_in n 
 -- a ready sandbox that is safe took it, and is safe as before
 pub record Taken (machine : Machine) (i : ℕ) (m : Bytes) (s : Seat) (replies : List Reply) (n : Bytes) (t : Seat) : Type 0 where
   pub alone : StepsAlone machine i (slot_of m s) replies (slot_of n t)
+  pub step : replies ≡ [] → state_in n t ≡ (machine (state_in m s)).state
   pub others : StaysOutside s.bounds.data m n
   pub bounds : t.bounds ≡ s.bounds
   pub safe : IsSafeSeat n t
@@ -42,12 +43,6 @@ pub record IsTaken (machine : Machine) (w : Sandboxes) (v : Move) : Type 0 where
 abbrev pub AreTaken : Machine → Sandboxes → List Move → Sandboxes → Type 0
 AreTaken machine w [] n = n ≡ w
 AreTaken machine w (v ∷ moves) n = IsTaken machine w v × AreTaken machine (after_move w v) moves n
-
-pub are_moves : (machine : Machine) (moves : List Move) (w n : Sandboxes) → AreTaken machine w moves n → AreMoves machine w moves n
-are_moves machine [] w n are = are
-are_moves machine (v ∷ moves) w n are =
-    let one = are.0 in
-    (record { seat = one.seat; there = one.there; ready = one.ready; alone = one.taken.alone; others = one.taken.others }, are_moves machine moves (after_move w v) n are.1)
 
 pub taken_follow : (machine : Machine) (first second : List Move) (w n o : Sandboxes) → AreTaken machine w first n → AreTaken machine n second o → AreTaken machine w (first ++ second) o
 taken_follow machine [] second w n o e are = subst (λ (x : Sandboxes). AreTaken machine x second o) e are
@@ -130,9 +125,26 @@ module _ (on : GoesOnSafely) (machine : Machine) where
 
   -- ---- all of them
 
+  pub are_moves : (moves : List Move) (w n : Sandboxes) → IsSafeWorld w → AreTaken machine w moves n → AreMoves machine w moves n
+  are_moves [] w n world are = are
+  are_moves (v ∷ moves) w n world are =
+      let one = are.0 in
+      let safe = safe_after w v world one in (
+        record {
+          seat = one.seat;
+          there = one.there;
+          ready = one.ready;
+          alone = one.taken.alone;
+          step = one.taken.step;
+          others = one.taken.others;
+        },
+        safe,
+        are_moves moves (after_move w v) n safe are.1,
+      )
+
   pub are_runs : (moves : List Move) (w n : Sandboxes) → IsSafeWorld w → AreTaken machine w moves n → AreRuns machine w n moves
   are_runs [] w n world are = subst (λ (x : Sandboxes). AreRuns machine w x []) (sym are) (record {
-    safe = world;
+    safe_world = world;
     outside = λ a out. refl;
     each = λ i s p at is. record {
       run = tt;
@@ -148,7 +160,7 @@ module _ (on : GoesOnSafely) (machine : Machine) where
       let one = are.0 in
       let rest = are_runs moves (after_move w v) n (safe_after w v world one) are.1 in
       record {
-        safe = rest.safe;
+        safe_world = rest.safe_world;
         outside = outside_more w (after_move w v) n.bytes (same_bounds w.seats v.number one.seat v.seat one.there one.taken.bounds) (λ a out. one.taken.others a (out v.number one.seat one.there)) rest.outside;
         each = λ i s p. any_move w v world one n moves rest i p s;
       }

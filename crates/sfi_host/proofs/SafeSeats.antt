@@ -65,7 +65,7 @@ module _ (m : Bytes) (s : Seat) (seat : IsSafeSeat m s) where
     guard_not_data a (inl low) h = let room' = room in let e = base_is in omega arith
     guard_not_data a (inr high) h = let e = base_is in let f = size_is in omega arith
 
-    code_not_data : (a : ℕ) → InCode p a → Holds s.bounds.data a → ⊥
+    pub code_not_data : (a : ℕ) → InCode p a → Holds s.bounds.data a → ⊥
     code_not_data a inside h = apart a (code_in a inside) (data_guarded a h)
       where
         apart : AreApart s.bounds.code (with_guards s.bounds.data)

@@ -85,7 +85,7 @@ module _ (w n o : Sandboxes) (lie : bounds_in o ≡ bounds_in w) (slots : slots_
 -- what comes to the slots of a joint run, and keeps the bytes outside all data, is what its moves lead to
 pub world_runs : {S : Type 0} → JointMoves S → (machine : Machine) → IsMachine machine → (answer : S → Call → Answer S) (plan : List Turn) (w n : Sandboxes) (s : S) → IsSafeWorld w
     → bounds_in n ≡ bounds_in w → StaysOutsideData w n.bytes → (limit : Option ℕ) → slots_of n ≡ (joint machine answer plan (slots_of w) s limit).slots
-    → HaveRun machine plan w n (joint machine answer plan (slots_of w) s limit)
+    → HaveRun machine plan w n (λ part. joint machine answer part (slots_of w) s limit)
 world_runs law machine is answer plan w n s safe lie left limit slots =
     let ran = law machine answer plan w s limit is safe in
-    subst (λ (x : Sandboxes). HaveRun machine plan w x (joint machine answer plan (slots_of w) s limit)) (same_world w ran.0 n lie (ran.1.slots ∙ sym slots) ran.1.runs.outside left) ran.1
+    subst (λ (x : Sandboxes). HaveRun machine plan w x (λ part. joint machine answer part (slots_of w) s limit)) (same_world w ran.0 n lie (ran.1.whole.slots ∙ sym slots) ran.1.runs.outside left) ran.1

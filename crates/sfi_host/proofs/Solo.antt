@@ -8,11 +8,11 @@ use Rattle.sfi_host.specs.declared.status.Status.{Status}
 use Rattle.sfi_host.specs.declared.status.Status.TheVariants.{Ready, Exited, Trapped}
 use Rattle.sfi_host.specs.declared.turn.Turn.{Turn}
 use Rattle.sfi_host.specs.Slots.{Slot, state_of}
-use Rattle.sfi_host.specs.Hosts.{Call, Reply, Answer, Host, replay}
+use Rattle.sfi_host.specs.Hosts.{Call, Reply, Answer, Host, limited, replay}
 use Rattle.sfi_host.specs.declared.turn.StepResult.{StepResult}
 use Rattle.sfi_host.specs.declared.turn.StepResult.TheVariants.{Continue, TurnEnds, RunEnds}
 use Rattle.sfi_host.specs.Joint.{Machine, Moved, moved, moved_if, after_step, after_answer, call_of, and_more, turned, Given, given, Joined, joined, turn_and, and_plan, after_turn}
-use Rattle.sfi_host.specs.Solo.{JointIsSolo, turns_of, replies_to}
+use Rattle.sfi_host.specs.Solo.{JoinedIsSolo, JointIsSolo, turns_of, replies_to}
 
 -- alone the sandbox comes to the same, and has so many replies left
 pub record Follows {S : Type 0} (m : Moved S) (n : Moved (List Reply)) (left : List Reply) : Type 0 where
@@ -233,5 +233,8 @@ module _ (machine : Machine) where
   alone host (t ∷ plan) slots s i slot there =
       by_slot host t plan slots s i slot (slice_get slots t.sandbox) (joined machine host plan) refl there (λ slots s slot there. alone host plan slots s i slot there)
 
+pub joined_alone : {S : Type 0} → JoinedIsSolo S
+joined_alone machine host plan slots s i slot there = alone machine host plan slots s i slot there
+
 pub joint_alone : {S : Type 0} → JointIsSolo S
-joint_alone machine host plan slots s i slot there = alone machine host plan slots s i slot there
+joint_alone machine answer plan slots s limit i slot there = alone machine (limited answer) plan slots (record { host = s; left = limit }) i slot there

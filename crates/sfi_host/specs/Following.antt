@@ -60,7 +60,8 @@ shortened [] place steps = []
 shortened (t ∷ plan) zero steps = record { sandbox = t.sandbox; steps = steps } ∷ []
 shortened (t ∷ plan) (suc place) steps = t ∷ shortened plan place steps
 
--- each turn of the plan before that place was taken, and of the turn there some steps, but not all
+-- each turn of the plan before that place was taken, and of the turn there fewer steps than it
+-- allows, maybe none
 pub record IsJointUpTo {S : Type 0} (machine : Machine) (answer : S → Call → Answer S)
     (plan : List Turn) (place : ℕ) (old : List Slot) (before : S) (new : List Slot)
     (after : S) : Type 0 where
@@ -78,11 +79,12 @@ CutIsShorter S =
     → IsCutJoint machine answer may_refuse plan old before place new after
     → IsJointUpTo machine answer plan place old before new after
 
--- a plan that was tried after it follows the shortened one
+-- a plan that was tried after it follows the shortened one, with the steps that were taken
 abbrev pub RetryFollows : Type 0 → Type 0
 RetryFollows S =
     (machine : Machine) (answer : S → Call → Answer S) (may_refuse : S → Call → Bool)
     → (p q : List Turn) (old mid new : List Slot) (before between after : S) (place : ℕ)
     → IsCutJoint machine answer may_refuse p old before place mid between
     → IsJoint machine answer q mid between new after
-    → (steps : ℕ) × IsJoint machine answer (shortened p place steps ++ q) old before new after
+    → (up_to : IsJointUpTo machine answer p place old before mid between)
+    × IsJoint machine answer (shortened p place up_to.steps ++ q) old before new after

@@ -25,7 +25,7 @@ use Rattle.sfi_host.specs.Hosts.{Call, Way, Replied, Yield, Exit, Reply, Answer,
 abbrev pub Machine : Type 0
 Machine = State → Stepped
 
--- it is the manual's step: by the laws of that there is such a function, and no other
+-- it is the manual's step: by `rv_step`'s laws there is exactly one such function
 pub record IsMachine (machine : Machine) : Type 0 where
   pub steps : (s : State) → IsStep s (machine s)
 
@@ -177,7 +177,7 @@ pub record Given : Type 0 where
   pub to : ℕ
   pub reply : Reply
 
--- the replies that the sandbox of that number got
+-- these replies, each with the number of who got it
 abbrev pub given : ℕ → List Reply → List Given
 given i replies = map (λ r. record { to = i; reply = r }) replies
 

@@ -16,6 +16,8 @@ pub mod Stops
 pub mod Worlds
 pub mod Reading
 pub mod Loading
+pub mod Changing
+pub mod Entering
 pub mod Sandboxes
 pub mod Programs
 pub mod Steps

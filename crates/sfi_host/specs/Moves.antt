@@ -1,5 +1,5 @@
 -- What a plan does in the one memory, one move after another, and what that is to each sandbox.
-use Rattle.std.specs.Prelude.{◌≡◌, ◌≢◌, ◌≤◌, ℕ, ◌==◌, cond, List, [], ◌∷◌, ◌++◌, length, Option, Some, None, slice_get, slice_set}
+use Rattle.std.specs.Prelude.{◌≡◌, ◌≢◌, ◌≤◌, ℕ, ◌==◌, cond, Bool, List, [], ◌∷◌, ◌++◌, length, Option, Some, None, slice_get, slice_set, take}
 use Rattle.std.specs.List.{All}
 use Rattle.rv_mem.specs.Bytes.{Bytes}
 use Rattle.rv_step.specs.State.{State}
@@ -18,12 +18,14 @@ use Rattle.sfi_host.specs.declared.turn.Turn.{Turn as PlanTurn}
 use Rattle.sfi_host.specs.Hosts.{Call, Reply, Answer, Host, replay}
 use Rattle.sfi_host.specs.Slots.{Slot, bounds_of}
 use Rattle.sfi_host.specs.Joint.{Machine, IsMachine, moved, Given, given, Joined, joined, joint}
+use Rattle.sfi_host.specs.Plans.{IsCutJoint}
 use Rattle.sfi_host.specs.Worlds.{Seat, Sandboxes, slot_of, slots_of, state_in, IsSafeWorld, StaysOutside, StaysOutsideData}
 
 -- ---- moves
 
--- One step of the joint run, by the sandbox of that number alone: it gets these replies in it, one
--- or none, and then it is the slot t. A call that isn't answered is no step.
+-- One step of `moved`, with these replies given, one or none: the sandbox of that number gets them
+-- all in it, and then it is the slot t. A call that isn't answered is no step: so the ecall at which
+-- a plan ended is no move, though control reached the host there.
 pub record StepsAlone (machine : Machine) (i : ℕ) (s : Slot) (replies : List Reply)
     (t : Slot) : Type 0 where
   pub slot : (moved machine replay i s replies).slot ≡ t
@@ -41,24 +43,27 @@ pub record Move : Type 0 where
 abbrev pub after_move : Sandboxes → Move → Sandboxes
 after_move w v = record { bytes = v.bytes; seats = slice_set w.seats v.number v.seat }
 
--- A ready sandbox of the world takes one step of its joint run, and in the one memory it changes its
--- own data alone.
+-- A ready sandbox of the world takes one step of `moved`, with these replies given. In the one memory
+-- that is the machine's step, if it gets no reply, and it changes its own data alone.
 pub record IsMove (machine : Machine) (w : Sandboxes) (v : Move) : Type 0 where
   pub seat : Seat
   pub there : slice_get w.seats v.number ≡ Some seat
   pub ready : seat.status ≡ Ready
   pub alone : StepsAlone machine v.number (slot_of w.bytes seat) v.replies (slot_of v.bytes v.seat)
+  pub step : v.replies ≡ [] → state_in v.bytes v.seat ≡ (machine (state_in w.bytes seat)).state
   pub others : StaysOutside seat.bounds.data w.bytes v.bytes
 
--- moves of any sandboxes, one after another, lead from the first world to the second
+-- Moves of any sandboxes, one after another, lead from the first world to the second. After each the
+-- world is safe.
 abbrev pub AreMoves : Machine → Sandboxes → List Move → Sandboxes → Type 0
 AreMoves machine w [] n = n ≡ w
-AreMoves machine w (v ∷ moves) n = IsMove machine w v × AreMoves machine (after_move w v) moves n
+AreMoves machine w (v ∷ moves) n =
+    IsMove machine w v × IsSafeWorld (after_move w v) × AreMoves machine (after_move w v) moves n
 
 -- ---- what they are to one sandbox
 
--- The turn that a sandbox's own move is, with the machine's step in the one memory, and the state
--- and the status after the move: a reply, if it goes on after one, or else that step.
+-- A sandbox's own move is, as a turn: a reply, if the sandbox goes on after one; else the machine's
+-- step in the one memory, at an exit that of the ecall. `after` is the state after the move.
 abbrev pub own_turn : Stepped → State → List Reply → Status → Turn
 own_turn step after [] status = Steps step
 own_turn step after (r ∷ replies) Ready = Replies after
@@ -99,7 +104,7 @@ pub record IsRunBetween (p : Part) (w n : Sandboxes) (i : ℕ) (s : Seat)
 -- The second world is safe, no byte outside the data of all has changed, and to each sandbox the
 -- moves are a run.
 pub record AreRuns (machine : Machine) (w n : Sandboxes) (moves : List Move) : Type 0 where
-  pub safe : IsSafeWorld n
+  pub safe_world : IsSafeWorld n
   pub outside : StaysOutsideData w n.bytes
   pub each : (i : ℕ) (s : Seat) (p : Part) → slice_get w.seats i ≡ Some s → s.bounds ≡ bounds_of p
       → IsRunBetween p w n i s (turns_to machine i w.bytes s moves)
@@ -113,35 +118,47 @@ AreSafeRuns machine w moves =
 
 -- ---- what a plan does
 
--- the moves are those of this turn, its sandbox's and no more than it allows, and then these
-pub record BeginWith (turn : PlanTurn) (moves later : List Move) : Type 0 where
-  pub own : List Move
-  pub only : All (λ (v : Move). v.number ≡ turn.sandbox) own
-  pub count : length own ≤ turn.steps
-  pub all : moves ≡ own ++ later
+-- a turn's share of the moves: they are its sandbox's, and no more than it allows
+pub record IsTurnsShare (turn : PlanTurn) (share : List Move) : Type 0 where
+  pub only : All (λ (v : Move). v.number ≡ turn.sandbox) share
+  pub count : length share ≤ turn.steps
 
--- the moves are those of the plan's turns, in their order
-abbrev pub AreInOrder : List PlanTurn → List Move → Type 0
-AreInOrder [] moves = moves ≡ []
-AreInOrder (t ∷ plan) moves = (later : List Move) × BeginWith t moves later × AreInOrder plan later
+-- each of a plan's turns has its share
+abbrev pub AreShares : List PlanTurn → List (List Move) → Type 0
+AreShares [] shares = shares ≡ []
+AreShares (t ∷ plan) [] = ⊥
+AreShares (t ∷ plan) (share ∷ shares) = IsTurnsShare t share × AreShares plan shares
+
+-- the moves of these shares, in their order
+abbrev pub all_of : List (List Move) → List Move
+all_of [] = []
+all_of (share ∷ shares) = share ++ all_of shares
 
 -- the replies that were got in the moves, and who got them
 abbrev pub given_in : List Move → List Given
 given_in [] = []
 given_in (v ∷ moves) = given v.number v.replies ++ given_in moves
 
--- Moves in the one memory, in the plan's order, lead from the first world to the second. They come
--- to this joint run: to its slots, with its replies in their order. To each sandbox they are a run,
--- and where it was ready a safe one.
-pub record HaveRun {S : Type 0} (machine : Machine) (plan : List PlanTurn) (w n : Sandboxes)
-    (all : Joined S) : Type 0 where
-  pub moves : List Move
-  pub order : AreInOrder plan moves
+-- Moves in the one memory lead from the first world to the second, and come to this joint run: to
+-- its slots, with its replies in their order.
+pub record ComeTo {S : Type 0} (machine : Machine) (w : Sandboxes) (moves : List Move)
+    (n : Sandboxes) (all : Joined S) : Type 0 where
   pub lead : AreMoves machine w moves n
   pub slots : slots_of n ≡ all.slots
   pub replies : given_in moves ≡ all.replies
-  pub runs : AreRuns machine w n moves
-  pub safe : AreSafeRuns machine w moves
+
+-- The moves of a plan's turns lead from the first world to the second. `run_of` is the joint run of
+-- a plan: the moves of the first k turns come to that of these turns, for each k, and all moves to
+-- that of the whole plan. To each sandbox they are a run, and where it was ready a safe one.
+pub record HaveRun {S : Type 0} (machine : Machine) (plan : List PlanTurn) (w n : Sandboxes)
+    (run_of : List PlanTurn → Joined S) : Type 0 where
+  pub shares : List (List Move)
+  pub order : AreShares plan shares
+  pub first : (k : ℕ)
+      → (mid : Sandboxes) × ComeTo machine w (all_of (take k shares)) mid (run_of (take k plan))
+  pub whole : ComeTo machine w (all_of shares) n (run_of plan)
+  pub runs : AreRuns machine w n (all_of shares)
+  pub safe_runs : AreSafeRuns machine w (all_of shares)
 
 -- ---- the joint run of a safe world
 
@@ -150,24 +167,30 @@ abbrev pub JoinedMoves : Type 0 → Type 0
 JoinedMoves S =
     (machine : Machine) (host : Host S) (plan : List PlanTurn) (w : Sandboxes) (s : S)
     → IsMachine machine → IsSafeWorld w
-    → (n : Sandboxes) × HaveRun machine plan w n (joined machine host plan (slots_of w) s)
+    → (n : Sandboxes) × HaveRun machine plan w n (λ p. joined machine host p (slots_of w) s)
 
 -- So it is with a host that answers each call, or so many calls.
 abbrev pub JointMoves : Type 0 → Type 0
 JointMoves S =
     (machine : Machine) (answer : S → Call → Answer S) (plan : List PlanTurn) (w : Sandboxes) (s : S)
     (limit : Option ℕ) → IsMachine machine → IsSafeWorld w
-    → (n : Sandboxes) × HaveRun machine plan w n (joint machine answer plan (slots_of w) s limit)
+    → (n : Sandboxes)
+    × HaveRun machine plan w n (λ p. joint machine answer p (slots_of w) s limit)
 
--- what holds with the limit of answered calls with which a run ended so: none, or some number
-abbrev pub WithLimit : RunAnswer → (Option ℕ → Type 0) → Type 0
-WithLimit answers.Done holds = holds None
-WithLimit (answers.Memory turn) holds = (answered : ℕ) × holds (Some answered)
+-- The plan ended at a call that the host may refuse, in the turn at that place, and the moves are
+-- those of the same joint run, in which so many calls are answered.
+pub record HaveRunUpTo {S : Type 0} (machine : Machine) (answer : S → Call → Answer S)
+    (may_refuse : S → Call → Bool) (plan : List PlanTurn) (place : ℕ) (w : Sandboxes) (before : S)
+    (n : Sandboxes) (after : S) : Type 0 where
+  pub cut : IsCutJoint machine answer may_refuse plan (slots_of w) before place (slots_of n) after
+  pub moved : HaveRun machine plan w n
+      (λ p. joint machine answer p (slots_of w) before (Some cut.answered))
 
--- Between two worlds there are such moves: those of the joint run in which each call is answered,
--- or, if a call was refused, so many calls.
-abbrev pub HaveRunJointly : {S : Type 0} → RunAnswer → (S → Call → Answer S) → List PlanTurn
-    → Sandboxes → S → Sandboxes → Type 0
-HaveRunJointly result answer plan w s n =
-    (machine : Machine) → IsMachine machine → WithLimit result (λ limit.
-    HaveRun machine plan w n (joint machine answer plan (slots_of w) s limit))
+-- So it is where a plan ended for want of memory; where it is done, the moves are those of the joint
+-- run in which each call is answered.
+abbrev pub HaveRunJointly : {S : Type 0} → RunAnswer → Machine → (S → Call → Answer S)
+    → (S → Call → Bool) → List PlanTurn → Sandboxes → S → Sandboxes → S → Type 0
+HaveRunJointly answers.Done machine answer may_refuse plan w before n after =
+    HaveRun machine plan w n (λ p. joint machine answer p (slots_of w) before None)
+HaveRunJointly (answers.Memory turn) machine answer may_refuse plan w before n after =
+    HaveRunUpTo machine answer may_refuse plan turn w before n after

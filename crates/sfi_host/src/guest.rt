@@ -1,5 +1,5 @@
 //! What a host sees of its caller.
-ghost use Rattle.std.specs.Prelude.{◌≡◌, ◌+◌, ◌^◌, ◌≤◌, ◌↔◌, IsTrue, IsSome};
+ghost use Rattle.std.specs.Prelude.{◌≡◌, ◌+◌, ◌^◌, ◌≤◌, ◌↔◌, IsTrue, IsSome, Some, length};
 ghost use Rattle.std.specs.Bool.{OnTrue, OnFalse};
 ghost use Rattle.rv_mem.specs.Bytes.{byte_at};
 ghost use Rattle.sfi_image.specs.Spans.{Holds};
@@ -27,7 +27,7 @@ pub struct Guest<'a, M: Memory> {
 }
 
 impl<'a, M: Memory> Guest<'a, M> {
-    ghost use Rattle.sfi_host.specs.Guests.{data_of, asked, outside, HasData, SameMemory, data_from, with_a0, with_a1, with_byte};
+    ghost use Rattle.sfi_host.specs.Guests.{data_of, asked, outside, HasData, SameMemory, data_from, with_a0, with_a1, with_byte, with_bytes_at};
 
     /// A caller with this data region.
     pub(crate) fn new(memory: &'a mut M, region: Region, request: Request) -> Guest<'a, M>
@@ -50,11 +50,7 @@ impl<'a, M: Memory> Guest<'a, M> {
         ensures there { IsTrue result ↔ IsSome (data_from (asked M.bytes self.now) at count) }
         ensures end { OnTrue result (at + count ≤ 2 ^ 32) }
     {
-        if count == 0 {
-            return true;
-        }
-        let end = u64::from(self.region.base) + u64::from(self.region.size);
-        self.region.base <= at && count <= end.saturating_sub(u64::from(at))
+        self.region.covers(at, count)
     }
 
     /// The caller's number among the sandboxes.
@@ -117,6 +113,54 @@ impl<'a, M: Memory> Guest<'a, M> {
             return false;
         }
         self.memory.store(at, Width::One, u32::from(byte))
+    }
+
+    /// Writes bytes from `at` on, at addresses of its data region.
+    pub(crate) fn put_bytes(&mut self, at: u32, bytes: &[u8])
+        requires there { IsSome (data_from (asked M.bytes self.old) at (length bytes.now)) }
+        requires end { at + length bytes.now ≤ 2 ^ 32 }
+        ensures same_reference { SameMemory self.old self.new }
+        ensures asked { asked M.bytes self.new
+            ≡ with_bytes_at (asked M.bytes self.old) at bytes.now }
+        ensures has_data { HasData M.bytes self.old → HasData M.bytes self.new }
+        ensures outside { outside M.bytes self.new ≡ outside M.bytes self.old }
+        ensures place { data_of self.new ≡ data_of self.old }
+    {
+        self.region.write(&mut *self.memory, at, bytes);
+    }
+
+    /// Fills `bytes` with its data bytes from `at` on; `false` where one of these addresses isn't
+    /// in its data region, and then nothing changed.
+    pub fn read(&self, at: u32, bytes: &mut [u8]) -> bool
+        requires has_data { HasData M.bytes self.now }
+        ensures there { IsTrue result
+            ↔ IsSome (data_from (asked M.bytes self.now) at (length bytes.old)) }
+        ensures done { OnTrue result
+            (data_from (asked M.bytes self.now) at (length bytes.old) ≡ Some bytes.new) }
+        ensures refused { OnFalse result (bytes.new ≡ bytes.old) }
+    {
+        self.region.read(&*self.memory, at, bytes)
+    }
+
+    /// Writes all of `bytes` from `at` on; `false` where one of these addresses isn't in its data
+    /// region, and then nothing changed.
+    pub fn write(&mut self, at: u32, bytes: &[u8]) -> bool
+        requires has_data { HasData M.bytes self.old }
+        ensures same_reference { SameMemory self.old self.new }
+        ensures there { IsTrue result
+            ↔ IsSome (data_from (asked M.bytes self.old) at (length bytes.now)) }
+        ensures done { OnTrue result
+            (asked M.bytes self.new ≡ with_bytes_at (asked M.bytes self.old) at bytes.now) }
+        ensures refused { OnFalse result (asked M.bytes self.new ≡ asked M.bytes self.old) }
+        ensures has_data { HasData M.bytes self.new }
+        ensures outside { outside M.bytes self.new ≡ outside M.bytes self.old }
+        ensures place { data_of self.new ≡ data_of self.old }
+    {
+        if !self.covers(at, bytes.len() as u64) {
+            return false;
+        }
+        self.put_bytes(at, bytes);
+        true
     }
 
     /// Sets its a0.

@@ -2,7 +2,7 @@
 ghost use Rattle.std.specs.Prelude.{◌≡◌, ◌+◌, ◌^◌, ◌≤◌, ◌++◌, ◌↔◌, IsTrue, IsSome, IsOk, Some, OnOk, OnErr, length};
 ghost use Rattle.std.specs.Bool.{OnTrue};
 ghost use Rattle.std.specs.Option.{option_map};
-ghost use Rattle.sfi_host.specs.Guests.{data_of, asked, outside, HasData, SameMemory, data_from, with_a0, with_bytes_at};
+ghost use Rattle.sfi_host.specs.Guests.{data_of, asked, outside, HasData, SameMemory, data_from, with_a0};
 ghost use Rattle.sfi_host.specs.Consoles.{failed, handed};
 
 use crate::gates::GateAnswer;
@@ -49,23 +49,6 @@ pub fn append<M: Memory>(
         output.push(guest.byte(at + k).unwrap())?;
     }
     Ok(())
-}
-
-/// Writes bytes from `at` on.
-pub fn write<M: Memory>(guest: &mut Guest<'_, M>, at: u32, bytes: &[u8])
-    requires there { IsSome (data_from (asked M.bytes guest.old) at (length bytes.now)) }
-    requires end { at + length bytes.now ≤ 2 ^ 32 }
-    ensures same_reference { SameMemory guest.old guest.new }
-    ensures asked { asked M.bytes guest.new ≡ with_bytes_at (asked M.bytes guest.old) at bytes.now }
-    ensures has_data { HasData M.bytes guest.old → HasData M.bytes guest.new }
-    ensures outside { outside M.bytes guest.new ≡ outside M.bytes guest.old }
-    ensures place { data_of guest.new ≡ data_of guest.old }
-{
-    let mut to = at;
-    for byte in bytes {
-        guest.put_byte(to, *byte);
-        to = to.wrapping_add(1);
-    }
 }
 
 /// Refuses a call.

@@ -2,7 +2,7 @@
 ghost use Rattle.sfi_host.specs.Following.{JoinedFollows, JointFollows, PlansFollow, CutFollows, CutIsShorter, RetryFollows};
 ghost use Rattle.sfi_host.specs.Laws.{SomeMachine, OneMachine, NeighboursAreChanges, CallsHaveStack, AnswersAreReplies};
 ghost use Rattle.sfi_host.specs.Moves.{JoinedMoves, JointMoves};
-ghost use Rattle.sfi_host.specs.Solo.{JointIsSolo};
+ghost use Rattle.sfi_host.specs.Solo.{JoinedIsSolo, JointIsSolo};
 ghost use Rattle.sfi_host.specs.Steps.{StepsAreOwn};
 
 /// There is a machine.
@@ -22,7 +22,11 @@ pub fn one_machine()
 /// What a sandbox comes to among others is what it comes to alone with the replies that it got.
 /// `S` is a host's state.
 pub fn joint_is_solo<S>()
-    ensures { JointIsSolo S }
+    // With any host.
+    ensures any_host { JoinedIsSolo S }
+
+    // With a host that answers so many calls, or each call.
+    ensures limited { JointIsSolo S }
 {}
 
 /// The joint run of one plan after another is that of the second from where the first left off.
@@ -35,15 +39,15 @@ pub fn joined_follows<S>()
     ensures each_answered { JointFollows S }
 {}
 
-/// A plan may be run in pieces, one after another: what is said of each piece makes up what is said
-/// of the whole. So `World::run_plan` can be called for each round, and its clauses `done` and
-/// `memory` then hold of all rounds. `S` is a host's state.
+/// A plan may be run in pieces, one after another: what the clauses `done` and `memory` of
+/// `World::run_plan` say of each piece makes up what they say of the whole. So it can be called for
+/// each round. `S` is a host's state.
 pub fn plans_follow<S>()
     ensures done { PlansFollow S }
     ensures memory { CutFollows S }
 
-    // What a plan did that ended at a call is what it does with that turn shortened to some of its
-    // steps; so a plan that is tried after it follows that one.
+    // What a plan did that ended at a call is what it does with that turn shortened to fewer steps
+    // than it allows; so a plan that is tried after it follows that one.
     ensures cut { CutIsShorter S }
     ensures retried { RetryFollows S }
 {}

@@ -11,7 +11,7 @@
 
 mod asking;
 mod console;
-mod copying;
+mod entering;
 mod gates;
 mod guest;
 mod handing;

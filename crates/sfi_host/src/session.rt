@@ -7,7 +7,7 @@ ghost use Rattle.sfi_host.specs.Consoles.{new_session, appended, put, get, has_b
 
 use crate::gates::GateAnswer;
 use crate::guest::Guest;
-use crate::handing::{append, may_hand, refuse, write};
+use crate::handing::{append, may_hand, refuse};
 use crate::message::Message;
 use crate::services::{GET, PUT, TAKE};
 use arrayvec::ArrayVec;
@@ -99,7 +99,7 @@ impl Session {
             return refuse(guest);
         }
         let next = next_bytes(input, self.place, guest.arg1() as usize);
-        write(guest, guest.arg0(), next);
+        guest.put_bytes(guest.arg0(), next);
         guest.set0(next.len() as u32);
         self.place += next.len();
         GateAnswer::Replied

@@ -283,6 +283,47 @@ fn the_smallest_image_traps(rt: HostRuntime) -> Result<(), Fail> {
     assert_eq!(rt; (world.status(1), world.steps(1)), (None, None));
     assert_eq!(rt; world.data_byte(1, DATA), None);
     assert!(rt; world.cpu(1).is_none());
+    // Its data are read and written from outside, and it is entered again.
+    let mut bytes = [9, 9, 9];
+    assert!(rt; world.write(0, DATA + 253, &[1, 2, 3]));
+    assert!(rt; !world.write(0, DATA + 254, &[4, 5, 6]));
+    assert!(rt; !world.write(0, DATA - 1, &[4]));
+    assert!(rt; !world.write(1, DATA, &[4]));
+    assert!(rt; !world.read(0, DATA + 254, &mut bytes));
+    assert!(rt; !world.read(1, DATA, &mut bytes));
+    assert_eq!(rt; bytes, [9, 9, 9]);
+    assert!(rt; world.read(0, DATA + 253, &mut bytes));
+    assert_eq!(rt; bytes, [1, 2, 3]);
+    let arguments = [11, 12, 13, 14, 15, 16, 17, 18];
+    assert!(rt; !world.enter(0, 0x0100_0008, &arguments));
+    assert!(rt; !world.enter(0, 0x0100_0100, &arguments));
+    assert!(rt; !world.enter(1, 0x0100_0010, &arguments));
+    assert_eq!(rt; world.status(0), Some(trapped));
+    assert!(rt; world.enter(0, 0x0100_0010, &arguments));
+    assert!(rt; !world.enter(0, 0x0100_0010, &arguments));
+    assert_eq!(rt; world.status(0), Some(Status::Ready));
+    let cpu = world.cpu(0).expect(&rt, "a sandbox");
+    assert_eq!(rt; cpu.pc(), 0x0100_0010);
+    let values = [
+        (0, 0),
+        (1, 0),
+        (2, DATA + 240),
+        (9, 0),
+        (10, 11),
+        (17, 18),
+        (18, 0),
+        (24, 0x0100_0000),
+        (25, 240),
+        (26, DATA),
+        (27, 255),
+        (31, 0),
+    ];
+    for (number, value) in values {
+        assert_eq!(rt; cpu.reg(Reg::numbered(number)), value, "x{number}");
+    }
+    assert_eq!(rt; world.run_plan(&plan, &mut console), RunAnswer::Done);
+    let again = Status::Trapped(Cause::Break, 0x0100_0010);
+    assert_eq!(rt; world.status(0), Some(again));
     let memory = world.into_memory();
     assert_eq!(rt; memory.load(0x0100_0000, Width::Four), Some(0x0010_0073));
     assert_eq!(rt; memory.load(DATA - 1, Width::One), None);

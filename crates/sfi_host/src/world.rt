@@ -1,8 +1,11 @@
 //! Worlds.
-ghost use Rattle.std.specs.Prelude.{◌≡◌, ◌≢◌, ◌↔◌, ◌<◌, ℕ, [], ◌∷◌, length, map, slice_get, IfOk, IsSome, Some};
+ghost use Rattle.std.specs.Prelude.{◌≡◌, ◌≢◌, ◌↔◌, ◌<◌, ℕ, [], ◌∷◌, length, map, slice_get, IfOk, IsTrue, IsSome, Some};
+ghost use Rattle.std.specs.Bool.{OnTrue, OnFalse};
 ghost use Rattle.std.specs.FinMap.{empty};
 ghost use Rattle.std.specs.Option.{option_map};
 ghost use Rattle.sfi_image.specs.Spans.{Holds};
+ghost use Rattle.sfi_host.specs.Changing.{data_bytes_of, with_world_bytes, OthersAreSame, AreChanges};
+ghost use Rattle.sfi_host.specs.Entering.{MayEnterAt, with_entry, IsAtEntry};
 ghost use Rattle.sfi_host.specs.Joint.{Machine, IsMachine};
 ghost use Rattle.sfi_host.specs.Moves.{HaveRunJointly};
 ghost use Rattle.sfi_host.specs.Plans.{IsJoint, IsCutJoint};
@@ -14,7 +17,7 @@ ghost use Rattle.sfi_host.specs.Loading.{first_seat, with_parts, AreEntered, Hav
 ghost use Rattle.sfi_host.specs.Worlds.{slots_of, status_at, steps_at, data_byte_of, HaveStoppedThemselves, IsSafeWorld, StaysOutsideData};
 
 use crate::gates::Gates;
-use crate::laws::joined_moves;
+use crate::laws::{joined_moves, neighbours_are_changes};
 use crate::loading::load_parts;
 use crate::program::{Program, decode_all};
 use crate::region::Region;
@@ -54,11 +57,13 @@ impl<M: Memory> Model for World<M> {
     ghost use Rattle.sfi_host.specs.Sandboxes.{world_of};
     ghost use Rattle.sfi_host.specs.Programs.{AreDecoded};
     ghost use Rattle.sfi_host.specs.Worlds.{IsSafeWorld};
+    ghost use Rattle.sfi_host.specs.Entering.{AreEnterable};
 
     ghost view = { λ w. world_of (M.bytes w.memory) w.sandboxes.items };
 
     ghost invariant = { λ w. IsSafeWorld (world_of (M.bytes w.memory) w.sandboxes.items)
-        × AreDecoded (world_of (M.bytes w.memory) w.sandboxes.items) w.programs.items };
+        × AreDecoded (world_of (M.bytes w.memory) w.sandboxes.items) w.programs.items
+        × AreEnterable (world_of (M.bytes w.memory) w.sandboxes.items) };
 }
 
 impl<M: Memory> World<M> {
@@ -109,11 +114,13 @@ impl<M: Memory> World<M> {
             → IsCutJoint machine G.answer G.may_refuse plan.now (slots_of self.old) gates.old turn
             (slots_of self.new) gates.new }
 
-        // However the plan ended: the joint run, with each call answered or up to the one that was
-        // refused, is a list of moves in the one memory that lead from the world before to the world
-        // after, in the plan's order and with its replies. Each is one step of its sandbox's joint
-        // run; to each sandbox they are a run, and where it was ready a safe one.
-        ensures runs { HaveRunJointly result G.answer plan.now self.old gates.old self.new }
+        // However the plan ended: the joint run, with each call answered or as many as `memory` says,
+        // is a list of moves in the one memory that lead from the world before to the world after, in
+        // the plan's order and with its replies. Each is one step that its sandbox takes alone; to
+        // each sandbox they are a run, and where it was ready a safe one.
+        ensures runs { (machine : Machine) → IsMachine machine
+            → HaveRunJointly result machine G.answer G.may_refuse plan.now self.old gates.old
+            self.new gates.new }
 
         // Each sandbox is safe as before, and its data lie outside each other one.
         ensures safe { IsSafeWorld self.new }
@@ -205,6 +212,91 @@ impl<M: Memory> World<M> {
     {
         let sandbox = self.sandboxes.get(i as usize)?;
         sandbox.data.byte(&self.memory, at)
+    }
+
+    /// Fills `bytes` with the data bytes of the sandbox of that number from `at` on; `false` where
+    /// there is no such sandbox or one of these addresses isn't in its data region, and then
+    /// nothing changed. None is asked for where `bytes` is empty.
+    pub fn read(&self, i: u32, at: u32, bytes: &mut [u8]) -> bool
+        ensures there { IsTrue result
+            ↔ IsSome (data_bytes_of (slice_get (slots_of self.now) i) at (length bytes.old)) }
+        ensures done { OnTrue result (data_bytes_of (slice_get (slots_of self.now) i) at
+            (length bytes.old) ≡ Some bytes.new) }
+        ensures refused { OnFalse result (bytes.new ≡ bytes.old) }
+    {
+        let Some(sandbox) = self.sandboxes.get(i as usize) else {
+            return false;
+        };
+        sandbox.data.read(&self.memory, at, bytes)
+    }
+
+    /// Writes all of `bytes` into the data of the sandbox of that number from `at` on; `false` where
+    /// there is no such sandbox or one of these addresses isn't in its data region, and then
+    /// nothing changed. Whether the sandbox has stopped or stands within its code makes no
+    /// difference.
+    pub fn write(&mut self, i: u32, at: u32, bytes: &[u8]) -> bool
+        ensures there { IsTrue result
+            ↔ IsSome (data_bytes_of (slice_get (slots_of self.old) i) at (length bytes.now)) }
+        ensures done { OnTrue result (self.new ≡ with_world_bytes self.old at bytes.now) }
+        ensures refused { OnFalse result (self.new ≡ self.old) }
+
+        // No other sandbox has changed, nor a byte that lies in no sandbox's data.
+        ensures others { OthersAreSame self.old i self.new }
+        ensures outside { StaysOutsideData self.old self.new.bytes }
+
+        // In the theorem's words it is a change by others; so the world is safe as before,
+        // and what is said of plans holds of those that follow.
+        ensures changes { AreChanges self.old self.new }
+        ensures safe { IsSafeWorld self.new }
+    {
+        // The laws that the contract rests on: these calls do nothing.
+        goes_on_safely();
+        read_is_held();
+        neighbours_are_changes();
+
+        let place = i as usize;
+        if place >= self.sandboxes.len() {
+            return false;
+        }
+        let data = self.sandboxes[place].data;
+        if !data.covers(at, bytes.len() as u64) {
+            return false;
+        }
+        data.write(&mut self.memory, at, bytes);
+        true
+    }
+
+    /// Makes the sandbox of that number ready at `pc`, with the arguments in a0 to a7, as a function
+    /// is called; `false` where there is no such sandbox, it hasn't stopped, or no bundle of its code
+    /// begins at `pc`, and then nothing changed. Beside pc and a0 to a7 all registers are as `load`
+    /// sets them: the stack pointer x2 lies a first frame below the data's end, x24 to x27 hold what
+    /// is theirs, and the others, x1 among them, are 0. Its data stay, and its steps are counted on.
+    pub fn enter(&mut self, i: u32, pc: u32, arguments: &[u32; 8]) -> bool
+        ensures may { IsTrue result ↔ MayEnterAt (slots_of self.old) i pc }
+        ensures done { OnTrue result (self.new ≡ with_entry self.old i pc arguments.now) }
+        ensures refused { OnFalse result (self.new ≡ self.old) }
+
+        // No other sandbox has changed.
+        ensures others { OthersAreSame self.old i self.new }
+
+        // It is an entry of the theorem; so the world is safe as before, and what is said of plans
+        // holds of those that follow.
+        ensures entry { OnTrue result (IsAtEntry self.new i) }
+        ensures safe { IsSafeWorld self.new }
+    {
+        // The laws that the contract rests on: these calls do nothing.
+        goes_on_safely();
+        read_is_held();
+
+        let place = i as usize;
+        if place >= self.sandboxes.len() {
+            return false;
+        }
+        if !self.sandboxes[place].may_enter(pc) {
+            return false;
+        }
+        self.sandboxes[place].enter(pc, arguments);
+        true
     }
 
     /// How many sandboxes there are.

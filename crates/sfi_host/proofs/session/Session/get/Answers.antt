@@ -6,8 +6,8 @@ use Rattle.sfi_host.proofs.Runs.{fewer_there}
 use Rattle.sfi_host.proofs.Writing.{few}
 use Rattle.sfi_host.proofs.session.Session.get.Goals as goal
 
-pub write-requires-clause-there : goal.write-requires-clause-there
-write-requires-clause-there g c =
+pub put_bytes-requires-clause-there : goal.put_bytes-requires-clause-there
+put_bytes-requires-clause-there g c =
     let call = asked g.M.Memory.bytes c.args.guest.now in
     let next = c.next_bytes-next.result.now in
     let less = few c.arg1.result call.a1 (drop c.self.inside.place c.args.input.now) next c.next_bytes-next.ensures c.arg1.ensures in

@@ -4,6 +4,7 @@ use Rattle.sfi_policy.specs.declared.format.Format.{Format}
 use Rattle.rv_mem.specs.Bytes.{Bytes, IsMemory}
 use Rattle.sfi_image.specs.Parts.{IsRightLayout}
 use Rattle.sfi_image.specs.Spelling.{Part, views}
+use Rattle.sfi_host.specs.Entering.{AreEnterable}
 use Rattle.sfi_host.specs.Loading.{first_seat, with_parts, AreEntered, HaveFirstData}
 use Rattle.sfi_host.specs.Programs.{AreDecoded}
 use Rattle.sfi_host.specs.private.Programs.{AreProgramsOf}
@@ -11,6 +12,7 @@ use Rattle.sfi_host.specs.Sandboxes.{seats_of}
 use Rattle.sfi_host.specs.Worlds.{Seat, IsSafeWorld}
 use Rattle.sfi_host.proofs.Decoding.{first_decoded}
 use Rattle.sfi_host.proofs.Entered.{Laws}
+use Rattle.sfi_host.proofs.Entries.{first_enterable}
 use Rattle.sfi_host.proofs.Worlds.{entered, first_data_there, world_safe}
 use Rattle.sfi_host.proofs.world.World.load.Goals as goal
 
@@ -38,6 +40,9 @@ invariant_of-result g c =
           (first_decoded ps n c.in_ok-programs.programs.items
           (subst (λ (qs : List Part). AreProgramsOf qs c.in_ok-programs.programs.items) parts-2 (c.in_ok-programs.ensures c.format.result))
           (subst (λ (m : Bytes). AreEntered ps m) (sym bytes) (entered laws ps c.image-image.ensures.clean.layout memory))),
+      subst (λ (m : Bytes). AreEnterable (record { bytes = m; seats = seats_of c.in_ok-sandboxes.sandboxes.items })) (sym bytes)
+          (subst (λ (all : List Seat). AreEnterable (record { bytes = with_parts empty ps; seats = all })) (sym seats)
+          (first_enterable laws ps c.image-image.ensures.clean.layout memory c.image-image.ensures.safe c.image-image.ensures.calls)),
     )
 
 pub returns-clause-entered : goal.returns-clause-entered

@@ -71,11 +71,12 @@ returns-in-RunEnds-clause-memory g c place is_place machine is =
 
 pub returns-in-RunEnds-clause-runs : goal.returns-in-RunEnds-clause-runs
 returns-in-RunEnds-clause-runs g c machine is =
-    let ended = cut g c machine is in (
-      ended.answered,
-      world_runs c.joined_moves.ensures.limited machine is g.G.Gates.answer c.args.plan.now c.args.self.now c.take_turn.new.self c.args.gates.now c.stays_safe.ensures
-          (c.take_turn.ensures.bounds ∙ c.loop-place.invariant.bounds) (left g c) (Some ended.answered) ended.slots,
-    )
+    let ended = cut g c machine is in
+    record {
+      cut = ended;
+      moved = world_runs c.joined_moves.ensures.limited machine is g.G.Gates.answer c.args.plan.now c.args.self.now c.take_turn.new.self c.args.gates.now c.stays_safe.ensures
+          (c.take_turn.ensures.bounds ∙ c.loop-place.invariant.bounds) (left g c) (Some ended.answered) ended.slots;
+    }
 
 pub returns-in-RunEnds-clause-stops : goal.returns-in-RunEnds-clause-stops
 returns-in-RunEnds-clause-stops g c = have_stopped c.take_turn.new.self c.take_turn.ensures.safe

@@ -6,6 +6,7 @@ use Rattle.sfi_host.specs.Plans.{IsJoint, IsCutJoint}
 use Rattle.sfi_host.specs.Sandboxes.{seat_of, world_of}
 use Rattle.sfi_host.specs.Worlds.{Sandboxes, slot_of, slots_of}
 use Rattle.sfi_host.proofs.Asked.{found, no_slot, seat_at}
+use Rattle.sfi_host.proofs.Entries.{still_enterable}
 use Rattle.sfi_host.proofs.Neighbours.{get_set_same}
 use Rattle.sfi_host.proofs.Plans.{none_then, is_joint, one_turn, cut_turn}
 use Rattle.sfi_host.proofs.Taking.{AfterTurn, turn_taken}
@@ -45,11 +46,13 @@ taken g c =
     let i = c.args.turn.sandbox in
     let x = c.index_mut.result.now in
     turn_taken c.read_is_held.ensures c.goes_on_safely.ensures (g.M.Memory.bytes c.self.inside.memory) (g.M.Memory.bytes c.run_turn.new.memory) items c.self.inside.programs.items i x c.run_turn.new.sandbox
-    c.self.invariant (found items items i x refl (omega (arith, c.len.ensures, c.if-place-len.false)) c.index_mut.ensures.value) c.run_turn.ensures.bounds c.run_turn.ensures.safe c.run_turn.ensures.others
+    (c.self.invariant.0, c.self.invariant.1) (found items items i x refl (omega (arith, c.len.ensures, c.if-place-len.false)) c.index_mut.ensures.value) c.run_turn.ensures.bounds c.run_turn.ensures.safe c.run_turn.ensures.others
     c.args.self.now c.self.view_is
 
 pub invariant_of-self : goal.invariant_of-self
-invariant_of-self g c = let after = taken g c in (after.safe, after.decoded)
+invariant_of-self g c =
+    let after = taken g c in
+    (after.safe, after.decoded, still_enterable (world_of (g.M.Memory.bytes c.self.inside.memory) c.self.inside.sandboxes.items) c.args.self.now _ c.self.view_is c.self.invariant.0 after.bounds after.outside c.self.invariant.2)
 
 pub returns-clause-safe : goal.returns-clause-safe
 returns-clause-safe g c = (taken g c).safe

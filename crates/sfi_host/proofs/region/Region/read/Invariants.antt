@@ -1,8 +1,8 @@
 use Rattle.std.proofs.Common.{◌≡◌, Some, ℕ, List, length, take}
 use Rattle.std.specs.List.{range_with_len}
 use Rattle.rv_mem.specs.Bytes.{Bytes, bytes_at}
-use Rattle.sfi_host.specs.Guests.{asked}
-use Rattle.sfi_host.proofs.guest.Guest.read.Given as goal
+use Rattle.sfi_host.specs.Regions.{span_of, bytes_in}
+use Rattle.sfi_host.proofs.region.Region.read.Given as goal
 
 -- the first k bytes are read, and there are still as many
 pub record HasRead (m : Bytes) (at k : ℕ) (before now : List ℕ) : Type 0 where
@@ -10,4 +10,4 @@ pub record HasRead (m : Bytes) (at k : ℕ) (before now : List ℕ) : Type 0 whe
   pub many : length now ≡ length before
 
 abbrev pub invariant-loop-k : goal.invariant-loop-k
-invariant-loop-k g l = HasRead (asked g.M.Memory.bytes l.self).bytes l.at l.k l.fn.bytes l.bytes
+invariant-loop-k g l = HasRead (bytes_in (span_of l.self) (g.M.Memory.bytes l.memory)) l.at l.k l.fn.bytes l.bytes

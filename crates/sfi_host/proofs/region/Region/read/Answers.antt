@@ -2,20 +2,20 @@ use Rattle.std.proofs.Common.{◌<◌, Some, IsSome, is_some, length, ap, refl, 
 use Rattle.std.proofs.lemmas.List.{take_more_set, length-set}
 use Rattle.std.specs.List.{range_with_len}
 use Rattle.rv_mem.specs.Bytes.{bytes_at}
-use Rattle.sfi_host.specs.Guests.{asked}
+use Rattle.sfi_host.specs.Regions.{span_of, bytes_in}
 use Rattle.sfi_host.proofs.Runs.{each_there, bytes_more}
-use Rattle.sfi_host.proofs.guest.Guest.read.Goals as goal
+use Rattle.sfi_host.proofs.region.Region.read.Goals as goal
 
 pub unwrap-requires : goal.unwrap-requires
 unwrap-requires g c =
-    let m = (asked g.M.Memory.bytes c.args.self.now).bytes in
-    let there : IsSome (bytes_at m (range_with_len c.args.at (length c.args.bytes.now))) = c.if-not-covers.ensures.there.0 refl in
+    let m = bytes_in (span_of c.args.self) (g.M.Memory.bytes c.args.memory.now) in
+    let there : IsSome (bytes_at m (range_with_len c.args.at (length c.args.bytes.now))) = (c.if-not-covers.ensures.there (g.M.Memory.bytes c.args.memory.now) c.requires.whole).0 refl in
     ap is_some c.byte.ensures.value ∙ each_there m c.args.at (length c.args.bytes.now) c.loop-k.k there c.loop-k-test.true
 
 pub loop-k-preserved : goal.loop-k-preserved
 loop-k-preserved g c =
     let i = c.loop-k.invariant in
-    let m = (asked g.M.Memory.bytes c.args.self.now).bytes in
+    let m = bytes_in (span_of c.args.self) (g.M.Memory.bytes c.args.memory.now) in
     let inside : c.loop-k.k < length c.loop-k.bytes = omega (arith, i.many, c.loop-k-test.true) in
     record {
       first = bytes_more m c.args.at c.loop-k.k c.unwrap.result _ i.first (sym c.byte.ensures.value ∙ c.unwrap.ensures)

@@ -1,0 +1,279 @@
+-- A sandbox that is entered again.
+use Rattle.std.proofs.Common.{◌≡◌, ◌≢◌, ◌⊎◌, inl, inr, ⊎_elim, ◌↔◌, IsTrue, ℕ, suc, ◌+◌, ◌-◌, ◌%◌, ◌^◌, ◌<◌, ◌≤◌, ◌==◌, ◌&&◌, Bool, true, false, List, [], ◌∷◌, ◌++◌, map, length, take, get_or, Some, None, set, slice_get, refl, sym, ap, ◌∙◌, subst, arith, get_or-set_other}
+use Rattle.std.specs.Prelude.{slice_index, slice_set, cond}
+use Rattle.std.specs.FinMap.{empty}
+use Rattle.std.proofs.lemmas.List.{map-set, take_more, take_all, length-take-le}
+use Rattle.rv_mem.specs.Bytes.{Bytes, IsMemory}
+use Rattle.rv_mem.specs.Laws.{ReadIsHeld}
+use Rattle.rv_step.specs.State.{Hart, IsHart, with_register}
+use Rattle.sfi_image.specs.Parts.{IsRightLayout}
+use Rattle.sfi_image.specs.Regions.{IsBundleStart}
+use Rattle.sfi_image.specs.Spans.{Holds, InGuards, AreApart, with_guards, code_region}
+use Rattle.sfi_image.specs.Spelling.{Part}
+use Rattle.sfi_check.specs.Laws.{GoesOnSafely}
+use Rattle.sfi_check.specs.Regions.{InCode, InGuard, HasCode}
+use Rattle.sfi_check.specs.Runs.{IsEntry}
+use Rattle.sfi_check.specs.Safety.{RunsSafely, AllRunSafely}
+use Rattle.sfi_check.specs.Stack.{CallsWithStack, AllCallWithStack}
+use Rattle.sfi_host.specs.declared.program.Program.{Program}
+use Rattle.sfi_host.specs.declared.sandbox.Sandbox.{Sandbox}
+use Rattle.sfi_host.specs.declared.status.Status.{Status}
+use Rattle.sfi_host.specs.declared.status.Status.TheVariants.{Ready}
+use Rattle.sfi_host.specs.Entering.{MayEnter, MayEnterAt, fresh_hart, with_registers, entered_hart, entered_seat, with_entry_of, with_entry, IsAtEntry, IsEnterable, AreEnterable}
+use Rattle.sfi_host.specs.Loading.{first_seat, with_parts}
+use Rattle.sfi_host.specs.Programs.{AreDecoded}
+use Rattle.sfi_host.specs.Regions.{is_in}
+use Rattle.sfi_host.specs.Sandboxes.{seat_of, seats_of, world_of}
+use Rattle.sfi_host.specs.Slots.{Bounds, Slot, bounds_of}
+use Rattle.sfi_host.specs.Worlds.{Seat, Sandboxes, slot_of, slots_of, state_in, IsSafeSeat, IsSafeWorld, StaysOutsideData}
+use Rattle.sfi_host.specs.private.Sandboxes.{bounds_in}
+use Rattle.sfi_host.proofs.Asked.{seat_at, slot_is, no_slot}
+use Rattle.sfi_host.proofs.Decoding.{eq_or}
+use Rattle.sfi_host.proofs.Entered.{Laws, lie_apart, get_is, get_below}
+use Rattle.sfi_host.proofs.Neighbours.{get_set_same}
+use Rattle.sfi_host.proofs.RegionBytes.{is_in-true, is_in-Holds}
+use Rattle.sfi_host.proofs.SafeSeats as keep
+use Rattle.sfi_host.proofs.SamePart.{same_some}
+use Rattle.sfi_host.proofs.SameWorld.{get_map}
+use Rattle.sfi_host.proofs.Taking.{AfterTurn, turn_taken}
+use Rattle.sfi_host.proofs.Worlds.{map_get, entered}
+
+-- ---- each sandbox of a world may be entered
+
+pub first_enterable : (laws : Laws) (ps : List Part) (layout : IsRightLayout ps) (memory : IsMemory (with_parts empty ps)) → AllRunSafely ps → AllCallWithStack ps
+    → AreEnterable (record { bytes = with_parts empty ps; seats = map first_seat ps })
+first_enterable laws ps layout memory safe calls i s e =
+    let x = map_get first_seat ps i s e in
+    let p = x.0 in
+    record {
+      part = p;
+      bounds = ap (λ (t : Seat). t.bounds) x.2;
+      right = (lie_apart ps layout).each i p x.1;
+      code = (entered laws ps layout memory i p x.1).code;
+      runs = subst (λ (q : Part). RunsSafely q) (get_is ps i p p x.1) (safe.each i p (get_below ps i p x.1));
+      calls = subst (λ (q : Part). CallsWithStack q) (get_is ps i p p x.1) (calls.each i p (get_below ps i p x.1));
+    }
+
+-- no code lies in the data of any
+module _ (w : Sandboxes) (safe : IsSafeWorld w) (i : ℕ) (s : Seat) (at : slice_get w.seats i ≡ Some s) (p : Part) (is : s.bounds ≡ bounds_of p) (a : ℕ) (inside : InCode p a) where
+  code_out : (j : ℕ) (t : Seat) → slice_get w.seats j ≡ Some t → Holds t.bounds.data a → ⊥
+  code_out j t there h = ⊎_elim
+      (λ (same : j ≡ i).
+      let one : t ≡ s = same_some t s (sym there ∙ ap (slice_get w.seats) same ∙ at) in
+      keep.code_not_data w.bytes s (safe.each i s at) p is a inside (subst (λ (y : Seat). Holds y.bounds.data a) one h))
+      (λ (other : j ≢ i). (safe.others j i t s other there at).code a h (subst (λ (b : Bounds). Holds b.code a) (sym is) inside))
+      (eq_or i j)
+
+-- where each lies as before, and only data changed, each may be entered as before
+pub still_enterable : (v w o : Sandboxes) → v ≡ w → IsSafeWorld v → bounds_in o ≡ bounds_in w → StaysOutsideData w o.bytes → AreEnterable v → AreEnterable o
+still_enterable v w o view safe same outside enterable i t at =
+    let same-2 : bounds_in o ≡ bounds_in v = same ∙ ap bounds_in (sym view) in
+    let left : StaysOutsideData v o.bytes = subst (λ (y : Sandboxes). StaysOutsideData y o.bytes) (sym view) outside in
+    let x = map_get (λ (s : Seat). s.bounds) v.seats i t.bounds (ap (λ (l : List Bounds). slice_get l i) (sym same-2) ∙ get_map (λ (s : Seat). s.bounds) o.seats i t at) in
+    let e = enterable i x.0 x.1 in
+    record {
+      part = e.part;
+      bounds = x.2 ∙ e.bounds;
+      right = e.right;
+      code = λ k below. left (e.part.code_base + k) (code_out v safe i x.0 x.1 e.part e.bounds (e.part.code_base + k) (keep.code_at e.part k below)) ∙ e.code k below;
+      runs = e.runs;
+      calls = e.calls;
+    }
+
+-- ---- where
+
+pub may_not : (b : Bounds) (status : Status) (pc : ℕ) → status ≡ Ready → (IsTrue false ↔ MayEnter b status pc)
+may_not b status pc ready = (λ t. absurd (cc), λ h. absurd (h.stopped ready))
+
+pub may_where : (b : Bounds) (status : Status) (pc : ℕ) (t : Bool) → status ≢ Ready → t ≡ (is_in b.code pc && (pc % 16 == 0)) → (IsTrue t ↔ MayEnter b status pc)
+may_where b status pc t stopped is = (forth, back)
+  where
+    both : (x y : Bool) → (x && y) ≡ true → (x ≡ true) × (y ≡ true)
+    both true true e = (refl, refl)
+    both true false e = absurd (cc)
+    both false y e = absurd (cc)
+
+    forth : IsTrue t → MayEnter b status pc
+    forth on =
+        let x = both (is_in b.code pc) (pc % 16 == 0) (sym is ∙ on) in
+        let z = x.1 in
+        record { stopped = stopped; start = record { held = is_in-true b.code pc x.0; aligned = grind arith } }
+
+    back : MayEnter b status pc → IsTrue t
+    back h =
+        let x : is_in b.code pc ≡ true = is_in-Holds b.code pc h.start.held in
+        let a : pc % 16 ≡ 0 = h.start.aligned in
+        let y : (pc % 16 == 0) ≡ true = grind arith in
+        is ∙ ap (λ (u : Bool). u && (pc % 16 == 0)) x ∙ y
+
+-- ---- with which registers
+
+pub with_more : (h : Hart) (r : ℕ) (vs : List ℕ) (v : ℕ) → with_registers h r (vs ++ v ∷ []) ≡ with_register (with_registers h r vs) (r + length vs) v
+with_more h r [] v = let z : r ≡ r + 0 = omega arith in ap (λ q. with_register h q v) z
+with_more h r (x ∷ vs) v =
+    let z : r + 1 + length vs ≡ r + suc (length vs) = omega arith in
+    with_more (with_register h r x) (r + 1) vs v ∙ ap (λ q. with_register (with_registers (with_register h r x) (r + 1) vs) q v) z
+
+one_kept : (h : Hart) (r v q : ℕ) (b : Bool) → q ≢ r → slice_index (cond b h.registers (slice_set h.registers r v)) q ≡ slice_index h.registers q
+one_kept h r v q true other = refl
+one_kept h r v q false other = get_or-set_other h.registers r q v 0 other
+
+-- the registers outside those
+pub others_kept : (vs : List ℕ) (h : Hart) (r q : ℕ) → (q < r) ⊎ (r + length vs ≤ q) → slice_index (with_registers h r vs).registers q ≡ slice_index h.registers q
+others_kept [] h r q out = refl
+others_kept (v ∷ vs) h r q out =
+    others_kept vs (with_register h r v) (r + 1) q (⊎_elim (λ (l : q < r). inl (omega arith)) (λ (l : r + suc (length vs) ≤ q). inr (omega arith)) out)
+    ∙ one_kept h r v q (r == 0) (λ e. ⊎_elim (λ (l : q < r). omega arith) (λ (l : r + suc (length vs) ≤ q). omega arith) out)
+
+pc_kept : (vs : List ℕ) (h : Hart) (r : ℕ) → (with_registers h r vs).pc ≡ h.pc
+pc_kept [] h r = refl
+pc_kept (v ∷ vs) h r = pc_kept vs (with_register h r v) (r + 1)
+
+-- all arguments are set
+pub all_set : (h new : Hart) (arguments : List ℕ) (k : ℕ) → new ≡ with_registers h 10 (take k arguments) → length arguments ≤ k → new ≡ with_registers h 10 arguments
+all_set h new arguments k is all = is ∙ ap (with_registers h 10) (take_all k arguments all)
+
+-- one argument more
+pub one_more_set : (h now new : Hart) (arguments : List ℕ) (k v r : ℕ) → now ≡ with_registers h 10 (take k arguments) → k < length arguments → v ≡ get_or arguments k 0 → r ≡ 10 + k → new ≡ with_register now r v
+    → new ≡ with_registers h 10 (take (k + 1) arguments)
+one_more_set h now new arguments k v r is below value place set =
+    let many : length (take k arguments) ≡ k = length-take-le k arguments (omega arith) in
+    let at : r ≡ 10 + length (take k arguments) = omega (arith, many, place) in
+    set
+    ∙ ap (λ q. with_register now q v) at
+    ∙ ap (λ x. with_register now (10 + length (take k arguments)) x) value
+    ∙ ap (λ x. with_register x (10 + length (take k arguments)) (get_or arguments k 0)) is
+    ∙ sym (with_more h 10 (take k arguments) (get_or arguments k 0))
+    ∙ ap (with_registers h 10) (sym (take_more arguments k 0 below))
+
+-- ---- a sandbox that enters
+
+module _ (m : Bytes) (s : Seat) (seat : IsSafeSeat m s) where
+  code_size : 16 ≤ s.bounds.code.size
+  code_size =
+      let least : 256 ≤ length seat.part.code = seat.right.code_placed.at_least in
+      let e : s.bounds.code.size ≡ length seat.part.code = ap (λ (b : Bounds). b.code.size) seat.bounds in
+      omega arith
+
+  data_size : 16 ≤ s.bounds.data.size
+  data_size =
+      let least : 256 ≤ seat.part.data_size = seat.right.data_placed.at_least in
+      let e : s.bounds.data.size ≡ seat.part.data_size = ap (λ (b : Bounds). b.data.size) seat.bounds in
+      omega arith
+
+  data_end : s.bounds.data.base + s.bounds.data.size < 2 ^ 32
+  data_end =
+      let above : seat.part.data_base + seat.part.data_size + 4096 ≤ 2 ^ 32 = seat.right.guard_room.above in
+      let e : s.bounds.data.size ≡ seat.part.data_size = ap (λ (b : Bounds). b.data.size) seat.bounds in
+      let f : s.bounds.data.base ≡ seat.part.data_base = ap (λ (b : Bounds). b.data.base) seat.bounds in
+      omega arith
+
+  -- what a sandbox of the program has
+  pub sizes : (16 ≤ s.bounds.code.size) × (16 ≤ s.bounds.data.size) × (s.bounds.data.base + s.bounds.data.size < 2 ^ 32)
+  sizes = (code_size, data_size, data_end)
+
+  module _ (pc : ℕ) (arguments : List ℕ) (few : length arguments ≤ 8) (start : IsBundleStart s.bounds.code pc) (hart : IsHart (entered_hart s.bounds pc arguments)) (p : Part) (is : s.bounds ≡ bounds_of p) where
+    abbrev now : List ℕ
+    now = (entered_hart s.bounds pc arguments).registers
+
+    abbrev fresh : Hart
+    fresh = fresh_hart s.bounds.code s.bounds.data pc
+
+    above : (q : ℕ) → 18 ≤ q → slice_index now q ≡ slice_index fresh.registers q
+    above q high = others_kept arguments fresh 10 q (inr (omega arith))
+
+    stack_is : slice_index now 2 ≡ s.bounds.data.base + s.bounds.data.size - 16
+    stack_is = others_kept arguments fresh 10 2 (inl (omega arith))
+
+    stack_there : Holds s.bounds.data (slice_index now 2)
+    stack_there = let z = stack_is in let d = data_size in (omega (arith, z, d), omega (arith, z, d))
+
+    guard_there : (a : ℕ) → InGuard p a → InGuard seat.part a
+    guard_there a h = subst (λ (b : Bounds). InGuards b.data a) (sym is ∙ seat.bounds) h
+
+    pub at_entry : HasCode p m → IsEntry p (state_in m (entered_seat s pc arguments))
+    at_entry code = record {
+      state = record { hart = hart; memory = seat.state.memory };
+      start = subst (λ (q : ℕ). IsBundleStart (code_region p) q) (sym (pc_kept arguments fresh 10)) (subst (λ (b : Bounds). IsBundleStart b.code pc) is start);
+      reserved = record {
+        code_base = above 24 (omega arith) ∙ ap (λ (b : Bounds). b.code.base) is;
+        code_mask = above 25 (omega arith) ∙ ap (λ (b : Bounds). b.code.size - 16) is;
+        data_base = above 26 (omega arith) ∙ ap (λ (b : Bounds). b.data.base) is;
+        data_mask = above 27 (omega arith) ∙ ap (λ (b : Bounds). b.data.size - 1) is;
+      };
+      stack = λ has. subst (λ (b : Bounds). Holds b.data (slice_index now 2)) is stack_there;
+      code = code;
+      guards = λ a guard. seat.guards a (guard_there a guard);
+    }
+
+  module _ (enterable : IsEnterable m s.bounds) (pc : ℕ) (arguments : List ℕ) (few : length arguments ≤ 8) (start : IsBundleStart s.bounds.code pc) (hart : IsHart (entered_hart s.bounds pc arguments)) where
+    entry : IsEntry enterable.part (state_in m (entered_seat s pc arguments))
+    entry = at_entry pc arguments few start hart enterable.part enterable.bounds enterable.code
+
+    pub entered_safe : IsSafeSeat m (entered_seat s pc arguments)
+    entered_safe = record {
+      part = enterable.part;
+      bounds = enterable.bounds;
+      right = enterable.right;
+      state = entry.state;
+      apart = subst (λ (b : Bounds). AreApart b.code (with_guards b.data)) (sym seat.bounds ∙ enterable.bounds) seat.apart;
+      code = enterable.code;
+      guards = entry.guards;
+      has_data = seat.has_data;
+      safe = λ ready. record { safe = enterable.runs.from _ entry; calls = enterable.calls.from _ entry };
+      stopped = tt;
+    }
+
+-- ---- a world in which it did
+
+module _ (held : ReadIsHeld) (on : GoesOnSafely) (m : Bytes) (items : List Sandbox) (programs : List Program) (i : ℕ) (x new : Sandbox)
+    (world : IsSafeWorld (world_of m items)) (decoded : AreDecoded (world_of m items) programs) (enterable : AreEnterable (world_of m items)) (at : slice_get items i ≡ Some x)
+    (pc : ℕ) (arguments : List ℕ) (few : length arguments ≤ 8) (start : IsBundleStart (seat_of x).bounds.code pc)
+    (is : seat_of new ≡ entered_seat (seat_of x) pc arguments) (hart : IsHart new.cpu) where
+  there : slice_get (seats_of items) i ≡ Some (seat_of x)
+  there = seat_at items i x at
+
+  seat : IsSafeSeat m (seat_of x)
+  seat = world.each i (seat_of x) there
+
+  hart_is : IsHart (entered_hart (seat_of x).bounds pc arguments)
+  hart_is = subst IsHart (ap (λ (s : Seat). s.hart) is) hart
+
+  safe : IsSafeSeat m (seat_of new)
+  safe = subst (IsSafeSeat m) (sym is) (entered_safe m (seat_of x) seat (enterable i (seat_of x) there) pc arguments few start hart_is)
+
+  pub has_entered : (w : Sandboxes) → world_of m items ≡ w → AfterTurn w programs i (slot_of m (seat_of x)) (slot_of m (seat_of new)) (world_of m (set items i new))
+  has_entered w view = turn_taken held on m m items programs i x new (world, decoded) at (ap (λ (s : Seat). s.bounds) is) safe (λ a out. refl) w view
+
+  seats_are : seats_of (set items i new) ≡ set (seats_of items) i (entered_seat (seat_of x) pc arguments)
+  seats_are = map-set seat_of items i new ∙ ap (λ (s : Seat). set (seats_of items) i s) is
+
+  pub world_is : (w : Sandboxes) → world_of m items ≡ w → world_of m (set items i new) ≡ with_entry w i pc arguments
+  world_is w view =
+      ap (λ (l : List Seat). let y : Sandboxes = record { bytes = m; seats = l } in y) seats_are
+      ∙ ap (with_entry_of (world_of m items) i pc arguments) (sym there)
+      ∙ ap (λ (y : Sandboxes). with_entry y i pc arguments) view
+
+  pub is_at_entry : IsAtEntry (world_of m (set items i new)) i
+  is_at_entry s p e bounds code =
+      let here : slice_get (seats_of (set items i new)) i ≡ Some (entered_seat (seat_of x) pc arguments) =
+      ap (λ (l : List Seat). slice_get l i) seats_are ∙ get_set_same (seats_of items) i (seat_of x) _ there in
+      let same : s ≡ entered_seat (seat_of x) pc arguments = same_some _ _ (sym e ∙ here) in
+      subst (λ (y : Seat). IsEntry p (state_in m y)) (sym same)
+      (at_entry m (seat_of x) seat pc arguments few start hart_is p (sym (ap (λ (y : Seat). y.bounds) same) ∙ bounds) code)
+
+-- ---- where the program says so
+
+module _ (w : Sandboxes) (m : Bytes) (items : List Sandbox) (view : world_of m items ≡ w) (i pc : ℕ) where
+  pub no_entry : slice_get items i ≡ None → (IsTrue false ↔ MayEnterAt (slots_of w) i pc)
+  no_entry none = (
+    λ t. absurd (cc),
+    λ h. absurd (let e : Some h.slot ≡ None = sym h.there ∙ ap (λ (y : Sandboxes). slice_get (slots_of y) i) (sym view) ∙ no_slot m items i none in cc),
+  )
+
+  pub entry_where : (x : Sandbox) (t : Bool) → slice_get items i ≡ Some x → (IsTrue t ↔ MayEnter (seat_of x).bounds x.status pc) → (IsTrue t ↔ MayEnterAt (slots_of w) i pc)
+  entry_where x t at may = (
+    λ on. record { slot = slot_of m (seat_of x); there = slot_is w m items view i x at; may = may.0 on },
+    λ h.
+        may.1 (subst (λ (y : Slot). MayEnter y.bounds y.status pc) (same_some h.slot (slot_of m (seat_of x)) (sym h.there ∙ slot_is w m items view i x at)) h.may),
+  )

@@ -1,0 +1,13 @@
+use Rattle.std.proofs.Common.{arith}
+use Rattle.sfi_host.specs.Regions.{span_of}
+use Rattle.sfi_host.proofs.Writing.{none_written, one_more_written}
+use Rattle.sfi_host.proofs.region.Region.write.Goals as goal
+
+pub loop-byte-init : goal.loop-byte-init
+loop-byte-init g c = none_written (span_of c.args.self) (g.M.Memory.bytes c.args.memory.now) c.args.at c.args.bytes.now (omega (arith, c.ranges.at.fits))
+
+pub loop-byte-preserved : goal.loop-byte-preserved
+loop-byte-preserved g c =
+    let e = c.store.ensures in
+    one_more_written (span_of c.args.self) (g.M.Memory.bytes c.args.memory.now) _ _ c.args.bytes.now c.args.at c.loop-byte.to c.from.result c.loop-byte.byte-index c.store.result
+    c.requires.there c.requires.end c.loop-byte-test.true c.loop-byte.invariant c.from.ensures (omega (arith, c.type_inv.bytes c.loop-byte.byte-index)) e.there e.done e.refused

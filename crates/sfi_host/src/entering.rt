@@ -1,0 +1,81 @@
+//! Sandboxes that are entered again.
+ghost use Rattle.std.specs.Prelude.{◌≡◌, ◌%◌, ◌+◌, ◌<◌, ◌≤◌, ◌^◌, ◌↔◌, IsTrue};
+ghost use Rattle.rv_step.specs.State.{IsHart};
+ghost use Rattle.sfi_host.specs.Arguments.{a0_register};
+ghost use Rattle.sfi_host.specs.Entering.{MayEnter, fresh_hart, with_registers, entered_seat};
+ghost use Rattle.sfi_host.specs.Regions.{span_of};
+ghost use Rattle.sfi_host.specs.Sandboxes.{seat_of};
+
+use crate::region::Region;
+use crate::sandbox::{A0_REGISTER, Sandbox};
+use crate::status::Status;
+use rv_step::Cpu;
+use rv_word::Reg;
+use sfi_policy::{
+    BUNDLE_SIZE, CODE_BASE_REGISTER, CODE_MASK_REGISTER, DATA_BASE_REGISTER, DATA_MASK_REGISTER,
+    FIRST_FRAME, STACK_POINTER,
+};
+
+// The pc and registers at an entry without arguments.
+fn fresh_cpu(code_at: Region, data_at: Region, pc: u32) -> Cpu
+    requires even { pc % 2 ≡ 0 }
+    requires code_size { 16 ≤ code_at.size }
+    requires data_size { 16 ≤ data_at.size }
+    requires data_end { data_at.base + data_at.size < 2 ^ 32 }
+    ensures fresh { result ≡ fresh_hart (span_of code_at) (span_of data_at) pc }
+    ensures hart { IsHart result }
+{
+    let mut cpu = Cpu::at(pc).unwrap();
+    cpu.set_reg(
+        Reg::numbered(STACK_POINTER),
+        data_at.base + data_at.size - FIRST_FRAME,
+    );
+    cpu.set_reg(Reg::numbered(CODE_BASE_REGISTER), code_at.base);
+    cpu.set_reg(
+        Reg::numbered(CODE_MASK_REGISTER),
+        code_at.size - BUNDLE_SIZE,
+    );
+    cpu.set_reg(Reg::numbered(DATA_BASE_REGISTER), data_at.base);
+    cpu.set_reg(Reg::numbered(DATA_MASK_REGISTER), data_at.size - 1);
+    cpu
+}
+
+// Puts the arguments into the registers from a0 on.
+fn set_arguments(cpu: &mut Cpu, arguments: &[u32; 8])
+    requires hart { IsHart cpu.old }
+    ensures put { cpu.new ≡ with_registers cpu.old a0_register arguments.now }
+    ensures hart { IsHart cpu.new }
+{
+    for k in 0..8 {
+        cpu.set_reg(Reg::numbered(A0_REGISTER + k), arguments[k as usize]);
+    }
+}
+
+impl Sandbox {
+    /// Whether it has stopped, and a bundle of its code begins at the address.
+    pub fn may_enter(&self, pc: u32) -> bool
+        ensures { IsTrue result ↔ MayEnter (seat_of self.now).bounds self.now.status pc }
+    {
+        match self.status {
+            Status::Ready => return false,
+            Status::Exited(_) => {}
+            Status::Trapped(_, _) => {}
+        }
+        self.code.holds(pc) && pc % BUNDLE_SIZE == 0
+    }
+
+    /// Makes it ready at the address.
+    pub fn enter(&mut self, pc: u32, arguments: &[u32; 8])
+        requires even { pc % 2 ≡ 0 }
+        requires code_size { 16 ≤ self.old.code.size }
+        requires data_size { 16 ≤ self.old.data.size }
+        requires data_end { self.old.data.base + self.old.data.size < 2 ^ 32 }
+        ensures entered { seat_of self.new ≡ entered_seat (seat_of self.old) pc arguments.now }
+        ensures hart { IsHart self.new.cpu }
+    {
+        let mut cpu = fresh_cpu(self.code, self.data, pc);
+        set_arguments(&mut cpu, arguments);
+        self.cpu = cpu;
+        self.status = Status::Ready;
+    }
+}
