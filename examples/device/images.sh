@@ -4,7 +4,8 @@
 words() { # numbers, little-endian
     local number
     for number; do
-        printf '%02x%02x%02x%02x' $((number & 255)) $((number >> 8 & 255)) $((number >> 16 & 255)) $((number >> 24 & 255))
+        printf %02x $((number & 255)) $((number >> 8 & 255)) \
+            $((number >> 16 & 255)) $((number >> 24 & 255))
     done
 }
 
@@ -13,13 +14,24 @@ words() { # numbers, little-endian
 assemble() { # code base
     local text size
     {
-        printf '.option norvc\n.macro gate\n ecall\n and x31, x1, x25\n or x31, x31, x24\n jalr x0, 0(x31)\n.endm\n'
-        printf '.macro masked register, address\n and \\register, \\address, x27\n or \\register, \\register, x26\n.endm\n'
+        cat <<'END'
+        .option norvc
+        .macro  gate
+        ecall
+        and     x31, x1, x25
+        or      x31, x31, x24
+        jalr    x0, 0(x31)
+        .endm
+        .macro  masked register, address
+        and     \register, \address, x27
+        or      \register, \register, x26
+        .endm
+END
         cat
         printf '.option rvc\n.balign 16\n'
     } >"$room/code.S"
-    riscv64-unknown-elf-gcc -nostdlib -march=rv32imc_zicsr -mabi=ilp32 -mno-relax -Wl,--no-relax,-Ttext="$1",-e0 \
-        "$room/code.S" -o "$room/code.elf" || return
+    riscv64-unknown-elf-gcc -nostdlib -march=rv32imc_zicsr -mabi=ilp32 -mno-relax \
+        -Wl,--no-relax,-Ttext="$1",-e0 "$room/code.S" -o "$room/code.elf" || return
     riscv64-unknown-elf-objcopy -O binary -j .text "$room/code.elf" "$room/code.bin" || return
     text=$(xxd -p "$room/code.bin" | tr -d '\n')
     size=256
@@ -32,7 +44,8 @@ assemble() { # code base
 }
 
 # One sandbox of an image; its start is after its gates, which are its first bundles.
-# Its arguments: code base, data base, data size, services of its gates, first data bytes in hexadecimal.
+# Its arguments: code base, data base, data size, services of its gates, first data bytes in
+# hexadecimal.
 sandbox() { # assembly on standard input
     local code service place=$1 gates=()
     code=$(assemble "$1")

@@ -12,7 +12,6 @@
 #define FINISHER_DEVICE 0x00100000      /* a word stored at SiFive's test device ends QEMU */
 #define FINISH_PASSED   0x5555          /* with status 0 */
 #define FINISH_FAILED   0x3333          /* with the status in the upper 16 bits */
-#define CLOCK_TICK_NS   100             /* a tick of `time` */
 #define RAM             0x80000000
 
 /* ---- Where the loader keeps things there; run.sh writes the same addresses */
@@ -25,7 +24,8 @@
 #define FINISHER        0x90001000
 #define HOST_END        0x90002000      /* the host's addresses are those from RAM to here */
 
-/* ---- Machine-Level ISA, "Machine Cause Register"; Supervisor-Level ISA, "Supervisor Cause Register" */
+/* ---- Machine-Level ISA, "Machine Cause Register", and Supervisor-Level ISA, "Supervisor Cause
+   Register" */
 #define CAUSE_FETCH_MISALIGNED  0
 #define CAUSE_FETCH_ACCESS      1
 #define CAUSE_ILLEGAL           2
@@ -41,12 +41,11 @@
 #define CAUSE_TIMER             (1u << 31 | 5)
 
 /* ---- Machine-Level ISA: mstatus, and the upper half of menvcfg, whose STCE turns on stimecmp */
-#define MSTATUS_MPP             (3 << 11)
-#define MSTATUS_MPP_SUPERVISOR  (1 << 11)
+#define MSTATUS_MPP_SUPERVISOR  (1 << 11)       /* mret goes to S-mode */
 #define MENVCFGH                0x31a
 #define MENVCFGH_STCE           (1 << 31)
 
-/* ---- Supervisor-Level ISA: sstatus, sie, satp */
+/* ---- Supervisor-Level ISA: sstatus, sie (whose bits mie has too), satp */
 #define SSTATUS_SPIE            (1 << 5)        /* interrupts are on after sret */
 #define SSTATUS_SPP             (1 << 8)        /* sret stays in S-mode */
 #define SIE_STIE                (1 << 5)        /* the timer may interrupt */

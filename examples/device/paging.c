@@ -86,7 +86,8 @@ void map_sandbox(uint32_t number, const struct part *part) {
     map_region(number, part->code_base, part->code_size, PTE_X, part->code, part->code_size);
     if (part->data_size < PAGE)
         open_small_data(number, part);
-    map_region(number, part->data_base, part->data_size, PTE_R | PTE_W, part->first, part->first_count);
+    map_region(number, part->data_base, part->data_size, PTE_R | PTE_W, part->first,
+               part->first_count);
 }
 
 /* The host's memory has no protection from the sandboxes but what the checker says of them: one

@@ -7,52 +7,88 @@
 #     --rounds N            how many rounds of one turn for each sandbox; 10000 if absent
 #     --turn MICROSECONDS   how long a turn may be; 10000 if absent
 #     --input HEX           what get reads
-#     --steps               prints steps too. QEMU then counts instructions, one to a nanosecond of its clock
+#     --steps               prints steps too. QEMU then counts instructions, one to a nanosecond of
+#                           its clock
 #     --written             prints the data bytes that are not as the image gave them
 #     --unchecked           sends an image that the checker refuses too
 #     --seconds N           ends QEMU after so long; 60 if absent
 #
 # SFI is the program sfi; ./sfi at the top if absent. QEMU_OPTIONS are further words for QEMU. Ends
-# in the checker's status where that refuses, in 2 where the loader does, in 3 for a fault of the
-# loader, in 124 after --seconds.
+# in the checker's status where that refuses, in 2 where the loader does or digits are wrong, in 3
+# for other words than these and for a fault of the loader, in 124 after --seconds.
 set -euo pipefail
 here=$(cd "$(dirname "${BASH_SOURCE[0]}")" && pwd)
 sfi=${SFI:-$here/../../sfi}
 rounds=10000 turn=10000 input='' steps=0 written=0 checked=1 seconds=60
-while [ $# -gt 0 ]; do
-    case $1 in
-    --rounds) rounds=$2 && shift ;;
-    --turn) turn=$2 && shift ;;
-    --input) input=$2 && shift ;;
-    --seconds) seconds=$2 && shift ;;
-    --steps) steps=1 ;;
-    --written) written=1 ;;
-    --unchecked) checked=0 ;;
-    *) echo "run.sh: there is no option $1" >&2 && exit 3 ;;
-    esac
-    shift
-done
-make -s -C "$here"
 room=$(mktemp -d)
 trap 'rm -rf "$room"' EXIT
 
+fail() { # the status to end in, and why
+    echo "run.sh: $2" >&2
+    exit "$1"
+}
+
+value() { # the command line from an option on
+    [ $# -gt 1 ] || fail 3 "$1 takes a value; --help says which"
+    echo "$2"
+}
+
+number() { # the most that it may be; the command line from an option on
+    if ! [[ ${3:-} =~ ^[0-9]{1,10}$ ]] || ((10#$3 < 1 || 10#$3 > $1)); then
+        fail 3 "$2 takes a number from 1 to $1"
+    fi
+    echo "$((10#$3))"
+}
+
+bytes() { # what it is; hexadecimal text on standard input
+    cat >"$room/text"
+    tr -d ' \t\r\n' <"$room/text" >"$room/digits"
+    if LC_ALL=C grep -aq '[^0-9a-fA-F]' "$room/digits" || (($(stat -c %s "$room/digits") % 2)); then
+        fail 2 "$1 isn't pairs of hexadecimal digits: $(head -c 80 "$room/text" | tr -cd '[ -~]')"
+    fi
+    xxd -r -p "$room/digits"
+}
+
+while [ $# -gt 0 ]; do
+    case $1 in
+    --rounds) rounds=$(number 4294967295 "$@"); shift ;;
+    --turn) turn=$(number 429496729 "$@"); shift ;; # below 2^32 ticks of 100 ns
+    --seconds) seconds=$(number 4294967295 "$@"); shift ;;
+    --input) input=$(value "$@"); shift ;;
+    --steps) steps=1 ;;
+    --written) written=1 ;;
+    --unchecked) checked=0 ;;
+    --help) sed -n '2,/^[^#]/ s/^# \{0,1\}//p' "${BASH_SOURCE[0]}" && exit 3 ;;
+    *) fail 3 "there is no option $1; --help names them" ;;
+    esac
+    shift
+done
+
 # The bytes that are checked are the bytes that are sent.
-xxd -r -p >"$room/image"
-xxd -r -p <<<"$input" >"$room/input"
+bytes "the image" >"$room/image"
+bytes "--input" >"$room/input" <<<"$input"
 if [ "$checked" = 1 ]; then
-    verdict=$("$sfi" check --raw <"$room/image") || { status=$? && echo "$verdict" && exit "$status"; }
+    "$sfi" check --raw <"$room/image" >"$room/verdict" ||
+        { status=$? && cat "$room/verdict" && exit "$status"; }
 fi
+make -s -C "$here"
 
 # The addresses are those of machine.h, and the words those of struct arguments in host.h.
-options=(-M virt -m 256M -bios none -display none -monitor none -serial stdio -kernel "$here/out/loader")
+options=(-M virt -m 256M -bios none -display none -monitor none -serial stdio)
+options+=(-kernel "$here/out/loader")
 address=$((0x87fff000))
 lengths=("$(stat -c %s "$room/image")" "$(stat -c %s "$room/input")")
 for word in "${lengths[@]}" "$rounds" $((turn * 10)) "$steps" "$written"; do
     options+=(-device "loader,addr=$address,data=$word,data-len=4")
     address=$((address + 4))
 done
-[ ! -s "$room/image" ] || options+=(-device "loader,file=$room/image,addr=0x88000000,force-raw=on")
-[ ! -s "$room/input" ] || options+=(-device "loader,file=$room/input,addr=0x8c000000,force-raw=on")
+file() { options+=(-device "loader,file=$1,addr=$2,force-raw=on"); }
+[ ! -s "$room/image" ] || file "$room/image" 0x88000000
+[ ! -s "$room/input" ] || file "$room/input" 0x8c000000
 [ "$steps" = 0 ] || options+=(-icount shift=0)
 # shellcheck disable=SC2086 # words
-timeout "$seconds" qemu-system-riscv32 "${options[@]}" ${QEMU_OPTIONS:-} </dev/null
+timeout "$seconds" qemu-system-riscv32 "${options[@]}" ${QEMU_OPTIONS:-} </dev/null || {
+    status=$?
+    [ "$status" != 124 ] || fail 124 "QEMU was ended after $seconds seconds; --seconds N gives it N"
+    exit "$status"
+}

@@ -4,15 +4,19 @@
 
         .section .init, "ax"
         .globl  start
-start:  la      sp, stack_top
-        la      t0, loader_fault
+start:  la      t0, loader_fault
         csrw    mtvec, t0
+        la      sp, stack_top
+        la      t0, loader_memory       # it may hold anything after a reset
+clear:  sw      zero, 0(t0)
+        addi    t0, t0, 4
+        bltu    t0, sp, clear
         call    load                    # answers what satp takes
         csrw    satp, a0
         sfence.vma
         fence.i                         # load has written code
         li      t0, -1
-        csrw    medeleg, t0             # every trap goes to the host, the ecall from S-mode among them
+        csrw    medeleg, t0             # every trap goes to the host, the ecall from S-mode too
         csrw    mideleg, t0
         csrw    mcounteren, t0          # S-mode reads time and instret
         li      t0, MENVCFGH_STCE
@@ -21,11 +25,9 @@ start:  la      sp, stack_top
         csrw    stvec, t0
         csrw    sscratch, zero          # the host runs, and no sandbox
         li      t0, SIE_STIE
-        csrw    sie, t0
-        li      t0, MSTATUS_MPP
-        csrc    mstatus, t0
+        csrw    mie, t0                 # and no other interrupt
         li      t0, MSTATUS_MPP_SUPERVISOR
-        csrs    mstatus, t0
+        csrw    mstatus, t0             # all else off: interrupts of the host, and loads from code
         la      t0, run_host
         csrw    mepc, t0
         mret

@@ -60,7 +60,7 @@ fault_of_host:
         j       host_fault
 
         .section .rodata
-        .globl  switch_instructions     # each has 4 bytes: the loader is compiled without 16-bit forms
+        .globl  switch_instructions     # each has 4 bytes: the loader has no 16-bit forms
         .balign 4
 switch_instructions:
         .word   (enter_end - count_before) / 4 + (count_after - trapped) / 4

@@ -4,7 +4,8 @@
 # images that it refuses, and what they do all the same.
 #
 #     examples/device/test.sh [SFI]             # SFI is the program; ./sfi at the top if absent
-#     ALL=1 examples/device/test.sh [SFI]       # every input, more sizes of data, and turns by the real clock
+#     ALL=1 examples/device/test.sh [SFI]       # every input, more sizes of data, and turns by the
+#                                               # real clock
 set -uo pipefail
 here=$(cd "$(dirname "${BASH_SOURCE[0]}")" && pwd)
 SFI=$(realpath "${1:-$here/../../sfi}")
@@ -68,7 +69,8 @@ compare() { # what is tried, its image, input, `steps` or `no steps`
         if [ "$4" = steps ]; then
             report "$1, turns of $turn us" "$wanted" "$found"
         else
-            report "$1, turns of $turn us" "$(without_steps <<<"$wanted")" "$(without_steps <<<"$found")"
+            report "$1, turns of $turn us" \
+                "$(without_steps <<<"$wanted")" "$(without_steps <<<"$found")"
         fi
     done
     [ -n "$all" ] || return
@@ -114,10 +116,29 @@ report "a turn that never ends by itself" $'sandbox=0 ready out=\nsandbox=1 exit
 
 # Each of 16 sandboxes posts to the next, and puts its sender's word.
 for ((number = 0; number < 16; number++)); do
-    printf '.sandbox 4096\n.gate exit 0\n.gate put 1\n.gate yield 3\n.gate post 4\n.gate take 5\n'
-    printf ' li a0, %s\n li a1, %s\n call post\n call yield\n call take\n' $(((number + 1) % 16)) $((number + 65))
-    printf ' mv s0, a1\n la t0, text\n sw a0, 0(t0)\n mv a0, t0\n li a1, 1\n call put\n mv a0, s0\n call exit\n'
-    printf '.data\ntext: .word 0\n'
+    cat <<END
+.sandbox 4096
+.gate exit 0
+.gate put 1
+.gate yield 3
+.gate post 4
+.gate take 5
+        li   a0, $(((number + 1) % 16))
+        li   a1, $((number + 65))
+        call post
+        call yield
+        call take
+        mv   s0, a1
+        la   t0, text
+        sw   a0, 0(t0)
+        mv   a0, t0
+        li   a1, 1
+        call put
+        mv   a0, s0
+        call exit
+.data
+text:   .word 0
+END
 done >"$room/sixteen.s"
 build "$room/sixteen.s" 2 >"$room/image.hex"
 compare "sixteen sandboxes" "$room/image.hex" '' steps
@@ -137,26 +158,29 @@ access_source() { # data size, format, base register; the accesses, a sandbox fo
     printf '.format %s\n' "$format"
     for one; do
         read -r operation base offset <<<"$one"
-        printf '.sandbox %s\n.option rvc\n li %s, %s\n li a1, 0x44332211\n' "$size" "$register" "$base"
+        printf '.sandbox %s\n.option rvc\n' "$size"
+        printf ' li %s, %s\n li a1, 0x44332211\n' "$register" "$base"
         printf ' %s a1, %s(%s)\n ebreak\n' "$operation" "$offset" "$register"
     done
 }
 
 # What a right machine says of an access: where it traps it names the first of its addresses, and
 # writes nothing.
-access_meaning() { # number of the sandbox, data size, the access: `trap written`, with Break for no trap
-    local number=$1 data_size=$2 operation=$3 base=$4 offset=$5 size first written='' byte
+access_meaning() { # number of the sandbox, data size, the access: `trap written`, Break for no trap
+    local number=$1 data_size=$2 operation=$3 base=$4 offset=$5 size first written='' byte cause
     case $operation in *b | *bu) size=1 ;; *h | *hu) size=2 ;; *) size=4 ;; esac
     first=$((base == 0 ? offset : data_size - 1 + offset))
     local address=$(((number + 1) * 0x01000000 + 0x00800000 + first))
-    if [ "$first" -ge 0 ] && [ $((first + size)) -le "$data_size" ]; then
-        for ((byte = 0; byte < size; byte++)); do
-            case $operation in s*) written+=$(printf ',%08x:%s' $((address + byte)) $((11 * (byte + 1)))) ;; esac
-        done
-        echo "Break ${written#,}"
-    else
-        case $operation in l*) printf 'Load at=%08x\n' "$address" ;; *) printf 'Store at=%08x\n' "$address" ;; esac
+    case $operation in l*) cause=Load ;; *) cause=Store ;; esac
+    if [ "$first" -lt 0 ] || [ $((first + size)) -gt "$data_size" ]; then
+        printf '%s at=%08x\n' "$cause" "$address"
+        return
     fi
+    for ((byte = 0; byte < size; byte++)); do
+        [ "$cause" = Store ] || continue
+        written+=$(printf ',%08x:%s' $((address + byte)) $((11 * (byte + 1))))
+    done
+    echo "Break ${written#,}"
 }
 
 # `Break ADDRESS:BYTE,..`, `Load at=ADDRESS` or `Store at=ADDRESS` of a line with --written.
@@ -168,7 +192,8 @@ found_meaning() {
 compare_accesses() { # data size, format, base register
     local size=$1 format=$2 register=$3 from number found wanted
     for ((from = 0; from < ${#accesses[@]}; from += 14)); do
-        access_source "$size" "$format" "$register" "${accesses[@]:from:14}" | "$SFI" build >"$room/image.hex"
+        access_source "$size" "$format" "$register" "${accesses[@]:from:14}" |
+            "$SFI" build >"$room/image.hex"
         found=$(./run.sh --steps --written <"$room/image.hex")
         wanted=$("$SFI" run --rounds 2 <"$room/image.hex")
         report "accesses from $from on, data of $size bytes, on $register, beside sfi run" \
@@ -211,8 +236,41 @@ END
 END
 )
 compare "regions anywhere" "$room/image.hex" '' steps
-report "regions anywhere: the trap and what is written" "sandbox=0 trap=Store at=00001ffe out= written=0000107d:10" \
+report "regions anywhere: the trap and what is written" \
+    "sandbox=0 trap=Store at=00001ffe out= written=0000107d:10" \
     "$(./run.sh --written <"$room/image.hex" | head -n 1)"
+
+# Code in the page of a neighbour's guard zone, which can't be read there: above it, and below it.
+image 1 3 >"$room/image.hex" < <(
+    sandbox 0x01000000 0x02800100 256 "" "" <<'END'
+        masked  t6, x0
+        lbu     a0, -2048(t6)
+END
+    sandbox 0x027ff000 0x03800e00 256 "" "" <<'END'
+        li      a0, -1
+        .balign 16
+        masked  t6, a0
+        lw      a0, 2047(t6)
+END
+    sandbox 0x03801f00 0x04800e00 256 "" "" <<'END'
+        li      a0, -1
+        .balign 16
+        masked  t6, a0
+        sw      a0, 2047(t6)
+END
+)
+compare "code in the page of a guard zone" "$room/image.hex" '' steps
+report "code in the page of a guard zone: where they trap" \
+    $'trap=Load at=027ff900\ntrap=Load at=038016fe\ntrap=Store at=048016fe' \
+    "$(./run.sh <"$room/image.hex" | sed 's/sandbox=. //; s/ out=//')"
+
+symbol() { riscv64-unknown-elf-nm out/loader | sed -n "s/^\([0-9a-f]*\) . $1$/0x\1/p"; }
+
+# What a reset leaves in memory is nothing to rely on.
+head -c $(($(symbol stack_top) - $(symbol loader_memory))) /dev/zero | tr '\0' '\377' >"$room/ones"
+export QEMU_OPTIONS="-device loader,file=$room/ones,addr=$(symbol loader_memory),force-raw=on"
+compare "where memory isn't 0 at first" "$room/image.hex" '' steps
+unset QEMU_OPTIONS
 
 one() { sandbox "$1" "$2" "$3" "" "" <<<ebreak; } # code base, data base, data size
 
@@ -222,8 +280,10 @@ refused_by_loader() { # reason; the image on standard input
     report "the loader refuses: $1" "device: $1"$'\nstatus 2' "$found"
 }
 
-refused_by_loader "sandbox 0: its code is where the host is" < <(image 2 1 < <(one 0x80000000 0x01800000 4096))
-refused_by_loader "sandbox 0: its code is where the host is" < <(image 2 1 < <(one 0x90001f00 0x01800000 4096))
+refused_by_loader "sandbox 0: its code is where the host is" \
+    < <(image 2 1 < <(one 0x80000000 0x01800000 4096))
+refused_by_loader "sandbox 0: its code is where the host is" \
+    < <(image 2 1 < <(one 0x90001f00 0x01800000 4096))
 refused_by_loader "sandbox 0: its data or guard zones are where the host is" \
     < <(image 2 1 < <(one 0x01000000 0x90002f00 256))
 refused_by_loader "sandbox 1: its data or guard zones are where the host is" \
@@ -233,12 +293,13 @@ compare "the first addresses after the host" "$room/image.hex" '' steps
 for ((number = 1; number <= 16; number++)); do
     printf '.sandbox 2048\n ebreak\n'
 done >"$room/small.s"
-refused_by_loader "sandbox 14: there is room for 14 data regions below 4096 bytes" < <("$SFI" build <"$room/small.s")
+refused_by_loader "sandbox 14: there is room for 14 data regions below 4096 bytes" \
+    < <("$SFI" build <"$room/small.s")
 
 # ---- Attacks: refused, and what they do where nobody checks
 
 # Each has the gates exit at 01000000 and put at 01000010, and begins at 01000020.
-attack() { # name, the verdict's rule and address, what is found unchecked; assembly on standard input
+attack() { # name, the verdict's rule and address, what is found unchecked; assembly on its input
     local found
     image 1 1 >"$room/image.hex" < <(sandbox 0x01000000 0x01800000 4096 "0 1" '')
     found=$(./run.sh <"$room/image.hex"; echo "status $?")
@@ -247,9 +308,8 @@ attack() { # name, the verdict's rule and address, what is found unchecked; asse
     report "$1: unchecked" "$4" "$found"
 }
 
-symbol() { riscv64-unknown-elf-nm out/loader | sed -n "s/^\([0-9a-f]*\) . $1$/0x\1/p"; }
-
-attack "a store to the UART" V5 01000028 $'!sandbox=0 trap=Break at=0100002c out=\nstatus 0' <<'END'
+attack "a store to the UART" V5 01000028 \
+    $'!sandbox=0 trap=Break at=0100002c out=\nstatus 0' <<'END'
         gate
         gate
         lui     a0, 0x90000
@@ -257,7 +317,8 @@ attack "a store to the UART" V5 01000028 $'!sandbox=0 trap=Break at=0100002c out
         sb      a1, 0(a0)
         ebreak
 END
-attack "a load from the host, of the image's first letter" V5 01000024 $'sandbox=0 exit=83 out=\nstatus 0' <<'END'
+attack "a load from the host, of the image's first letter" V5 01000024 \
+    $'sandbox=0 exit=83 out=\nstatus 0' <<'END'
         gate
         gate
         lui     a0, 0x88000
@@ -308,9 +369,38 @@ image 1 1 >"$room/image.hex" < <(sandbox 0x01000000 0x01800000 4096 "" 6869210a0
         srai    x0, x0, 7
 END
 )
-report "the ebreak of semihosting" "sandbox=0 trap=Break at=01000014 out=" "$(./run.sh <"$room/image.hex")"
-report "the ebreak of semihosting, where that is on" $'hi!\nsandbox=0 trap=Break at=01000020 out=' \
+report "the ebreak of semihosting" "sandbox=0 trap=Break at=01000014 out=" \
+    "$(./run.sh <"$room/image.hex")"
+report "the ebreak of semihosting, where that is on" \
+    $'hi!\nsandbox=0 trap=Break at=01000020 out=' \
     "$(QEMU_OPTIONS='-semihosting-config enable=on,target=native' ./run.sh <"$room/image.hex" 2>&1)"
 
-report "bytes that are no image" $'layout fault 1 Magic\nstatus 2' "$(./run.sh <<<00112233; echo "status $?")"
+# ---- What run.sh refuses
+
+refused_by_script() { # status, the line; the words of the command line
+    local status=$1 line=$2
+    shift 2
+    report "run.sh $*" "$line"$'\n'"status $status" \
+        "$(./run.sh "$@" <"$room/image.hex" 2>&1; echo "status $?")"
+}
+
+for option in --rounds --turn --seconds; do
+    most=4294967295
+    [ $option != --turn ] || most=429496729
+    for number in 0 -1 1.5 x $((most + 1)) 99999999999 ''; do
+        refused_by_script 3 "run.sh: $option takes a number from 1 to $most" "$option" "$number"
+    done
+    refused_by_script 3 "run.sh: $option takes a number from 1 to $most" "$option"
+done
+refused_by_script 3 "run.sh: --input takes a value; --help says which" --input
+refused_by_script 3 "run.sh: there is no option --round; --help names them" --round 3
+no_digits="isn't pairs of hexadecimal digits:"
+refused_by_script 2 "run.sh: --input $no_digits 414" --input 414
+refused_by_script 2 "run.sh: --input $no_digits 4g" --input 4g
+"$SFI" build <<<".sandbox 1" >"$room/image.hex"
+refused_by_script 2 "run.sh: the image $no_digits source fault 3 Number line 1" --steps
+xxd -r -p ../smallest.hex | head -c 32 >"$room/image.hex"
+refused_by_script 2 "run.sh: the image $no_digits SFI1" --steps
+echo 00112233 >"$room/image.hex"
+refused_by_script 2 "layout fault 1 Magic" --steps
 finish
