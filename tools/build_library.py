@@ -1,12 +1,15 @@
 #!/usr/bin/env python3
-"""Builds crates/sfi_c/out/libsfi_c.a after `rt ci`, over the libraries that it proved.
+"""Builds the C library of crates/sfi_c for each target after `rt ci`, over the libraries that it proved.
 
     tools/build_library.py
 
+crates/sfi_c/out/libsfi_c.a is for x86-64. Another target has a folder there of its own, with its libsfi_c.a and, for
+WebAssembly, the module sfi.wasm.
+
 `rt ci` proves sfi_c, but builds no static library. It leaves the libraries that sfi_c stands on without the mark
 by which `rt lib` would take them, so that `rt lib` would prove them once more. This proves sfi_c alone and builds
-it, as `rt lib` does, by the toolchain's own module. Where a library has the mark, `rt ci` gave back what earlier
-checks kept: `rt lib` has little to prove then, and is called.
+it, as `rt lib` does, by the toolchain's own module, for all targets side by side. Where a library has the mark,
+`rt ci` gave back what earlier checks kept: `rt lib` has little to prove then, and is called, once for each target.
 """
 import importlib.util
 import os
@@ -15,6 +18,9 @@ import sys
 
 TOP = os.path.dirname(os.path.dirname(os.path.abspath(__file__)))
 CRATE = "sfi_c"
+HOST = "x86_64-unknown-linux-gnu"
+WASM = "wasm64-unknown-unknown"
+TARGETS = [HOST, "aarch64-unknown-linux-gnu", WASM]
 
 
 def toolchain():
@@ -33,21 +39,53 @@ def is_marked(crate):
     return os.path.exists(os.path.join(os.path.dirname(crate.rlib), "stamp"))
 
 
+def archive_of(target):
+    """Where a target's library goes, from the crate's folder on."""
+    return f"out/lib{CRATE}.a" if target == HOST else f"out/{target}/lib{CRATE}.a"
+
+
+def build_again(folder):
+    """`rt lib` for each target: it writes all of them to one place, so that of this machine comes last."""
+    for target in reversed(TARGETS):
+        words = [] if target == HOST else ["--target", target]
+        status = subprocess.run(["rt", "lib", *words], cwd=folder, check=False).returncode
+        if status:
+            return status
+        os.replace(f"{folder}/{archive_of(HOST)}", f"{folder}/{archive_of(target)}")
+    return 0
+
+
+def build_proved(rtlib, crate):
+    """Proves the crate and builds it, for all targets side by side, as `rt lib` does for one."""
+    rtlib.guarded()  # what it starts ends with it
+    held = rtlib.lock([*crate.below(), crate])
+    words = crate.words(["--jobs", "1"], keeps=False)
+    made = ["--toolchain", f"{rtlib.KIT}/toolchain", "--backend", "llvm"]
+    status = crate.prove(*[["build", *words, "--target", target, *made, "-o", archive_of(target)]
+                           for target in TARGETS])
+    for lock in held:
+        os.close(lock)
+    return status
+
+
+def link_module(rtlib, folder):
+    """The WebAssembly module of its library."""
+    words = ["--target", WASM, "--toolchain", f"{rtlib.KIT}/toolchain"]
+    words += ["-o", f"out/{WASM}/sfi.wasm", archive_of(WASM)]
+    return subprocess.run([f"{rtlib.KIT}/bin/rattle-link", *words], cwd=folder, check=False).returncode
+
+
 def main():
     rtlib = toolchain()
     folder = os.path.join(TOP, "crates", CRATE)
     crate = rtlib.Crate(folder, TOP, {})
+    for target in TARGETS:
+        os.makedirs(os.path.dirname(f"{folder}/{archive_of(target)}"), exist_ok=True)
     if any(is_marked(lower) for lower in crate.below()):
-        return subprocess.run(["rt", "lib"], cwd=folder, check=False).returncode
-    rtlib.guarded()  # what it starts ends with it
-    held = rtlib.lock([*crate.below(), crate])
-    os.makedirs(f"{folder}/out", exist_ok=True)
-    words = crate.words(["--jobs", "1"], keeps=False)
-    made = ["--toolchain", f"{rtlib.KIT}/toolchain", "--backend", "llvm", "-o", f"out/lib{CRATE}.a"]
-    status = crate.prove(["build", *words, *made])
-    for lock in held:
-        os.close(lock)
-    return status
+        status = build_again(folder)
+    else:
+        status = build_proved(rtlib, crate)
+    return status or link_module(rtlib, folder)
 
 
 if __name__ == "__main__":
