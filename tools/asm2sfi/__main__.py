@@ -20,6 +20,7 @@ from sections import LARGEST_DATA
 RUNTIME = os.path.join(os.path.dirname(os.path.abspath(__file__)), "runtime.asm")
 DEFAULT_STACK = 8192
 MOST_TOLD = 20
+STANDARD_OUTPUT = 1  # its descriptor: sys.stdout is None where it is closed
 
 
 def gate(text):
@@ -88,7 +89,7 @@ def read_file(path):
 def print_source(source):
     """Prints a text, and answers the status: 2 where it can't be written."""
     try:
-        with open(sys.stdout.fileno(), "w", encoding="utf-8", errors="surrogateescape", closefd=False) as output:
+        with open(STANDARD_OUTPUT, "w", encoding="utf-8", errors="surrogateescape", closefd=False) as output:
             output.write(source)
     except OSError as error:
         print(f"asm2sfi: the source can't be written: {error.strerror}", file=sys.stderr)
