@@ -63,7 +63,7 @@ make_copy() {
     printf '# the crates\nlow:\nmid: low thiserror\nsfi: mid\n' >"$copy/crates.txt"
     printf 'sfi_tests: mid\nffi staticlib: low\n' >>"$copy/crates.txt"
     for crate in low mid sfi sfi_tests ffi; do
-        mkdir -p "$copy/crates/$crate/src" "$copy/crates/$crate/specs"
+        mkdir -p "$copy/crates/$crate/src/tests" "$copy/crates/$crate/specs" "$copy/crates/$crate/proofs/tests"
         echo >"$copy/crates/$crate/src/lib.rt"
         touch -d "1 hour ago" "$copy/crates/$crate/src/lib.rt"
     done
@@ -105,6 +105,10 @@ which_changes_count() {
     call "$copy/sfi" check
     ran check && [ "$(calls)" = 0 ]
     report $? "a crate that the program doesn't stand on starts no build" "$found"
+    change low/src/tests.rt && change low/src/tests/rows.rt && change low/proofs/tests/Rows.antt
+    call "$copy/sfi" check
+    ran check && [ "$(calls)" = 0 ]
+    report $? "tests of a crate start no build" "$found"
     change low/src/lib.rt && change mid/specs/Lib.antt
     call "$copy/sfi" check
     ran check && [ "$(calls)" = 2 ] && says "2 of 3 crates have changed (low mid)"
