@@ -321,13 +321,13 @@ class Naming(unittest.TestCase):
 
 
 class CommandLine(unittest.TestCase):
-    def told(self, *options, output=subprocess.DEVNULL):
-        """The status of a call, and the last line on standard error."""
+    def told(self, *options, output=subprocess.DEVNULL, before=()):
+        """The status of a call, before which these words may stand, and the last line on standard error."""
         with tempfile.TemporaryDirectory() as folder:
             path = os.path.join(folder, "a.s")
             with open(path, "w", encoding="utf-8") as file:
                 file.write(MAIN + "\tret\n")
-            words = [sys.executable, "-B", os.path.dirname(os.path.abspath(__file__)), *options, path]
+            words = [*before, sys.executable, "-B", os.path.dirname(os.path.abspath(__file__)), *options, path]
             ended = subprocess.run(words, stdout=output, stderr=subprocess.PIPE, check=False, text=True)
         return ended.returncode, ended.stderr.splitlines()[-1:]
 
@@ -350,6 +350,11 @@ class CommandLine(unittest.TestCase):
         with open("/dev/full", "w", encoding="utf-8") as full:
             self.assertEqual(self.told(output=full),
                              (2, ["asm2sfi: the source can't be written: No space left on device"]))
+
+    def test_closed_output(self):
+        closing = ("sh", "-c", 'exec "$@" >&-', "sh")
+        self.assertEqual(self.told(before=closing),
+                         (2, ["asm2sfi: the source can't be written: Bad file descriptor"]))
 
 
 if __name__ == "__main__":
