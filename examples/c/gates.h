@@ -13,8 +13,8 @@ __attribute__((noreturn)) void exit_with(int code);
    data region, or the output would pass 1048576 bytes. */
 long put(const void *bytes, unsigned length);
 
-/* Reads the next bytes of the input, at most length, and answers how many: 0 at its end, -1 where length is above 65536 or a byte
-   lies outside the data region. */
+/* Reads the next bytes of the input, at most length, and answers how many: 0 at its end, -1 where length is above
+   65536 or a byte lies outside the data region. */
 long get(void *bytes, unsigned length);
 
 /* Ends the turn; the call returns in this sandbox's next turn. */
