@@ -2,11 +2,12 @@
 """How fast the C library checks images that are in memory already, many times in one process: the scan, without the start of a
 program, reading, and text.
 
-    bench/scans.py [--rounds N] [--checker FILE]
+    bench/scans.py [--rounds N] [--checker FILE] [--module FILE]
 
 Prints, for each kind of images.py and both formats, megabytes (10^6) of image a second, by the medians of N alternated runs, and x86
 instructions for a bundle. With --checker, a checker of the first format in one C file, which is no part of this repository, is
-measured on the same bytes: as it is, and with -DFAST. The library is built by (cd crates/sfi_c && rt lib).
+measured on the same bytes: as it is, and with -DFAST. With --module, so is the WebAssembly module in node, without instructions.
+The library is built by (cd crates/sfi_c && rt lib), the module by tools/build_library.py.
 """
 import argparse
 import os
@@ -23,7 +24,14 @@ GROUPS = 5  # the best of so many is printed, by scan.c and by the checker
 BUNDLES = 65536
 
 
-def commands_of(folder, checker):
+def node_with(path, image):
+    """The words that run the module in node, which wants an option for memories of 64 bits as long as they are an experiment."""
+    option = "--experimental-wasm-memory64"
+    known = subprocess.run(["node", option, "-e", "0"], stderr=subprocess.DEVNULL, check=False).returncode == 0
+    return ["node", *[option] * known, os.path.join(measure.HERE, "scan.mjs"), path, image]
+
+
+def commands_of(folder, checker, module):
     """By name, the words of a command but for the repeats."""
     first, second = (os.path.join(folder, name) for name in ("first", "second"))
     options = ["-I" + os.path.join(LIBRARY, "include")]
@@ -34,6 +42,8 @@ def commands_of(folder, checker):
     for name, options in [("C, switches", []), ("C, class table", ["-DFAST"])] if checker else []:
         built = measure.compiled(os.path.abspath(checker), os.path.join(folder, name), "-w", *options)
         commands[name] = [built, "--bench", first, "1"]
+    for name, image in [("first format, node", first), ("second format, node", second)] if module else []:
+        commands[name] = node_with(module, image)
     return commands
 
 
@@ -42,18 +52,21 @@ def speed(words):
 
 
 def instructions(words):
-    """For a bundle."""
+    """For a bundle, where valgrind can count them."""
+    if words[0] == "node":
+        return ""
     twice, once = (measure.instructions([*words, repeats], os.devnull) for repeats in ("2", "1"))
-    return (twice - once) / GROUPS / BUNDLES
+    return f", {(twice - once) / GROUPS / BUNDLES:.0f}"
 
 
 def main():
     parser = argparse.ArgumentParser()
     parser.add_argument("--rounds", type=int, default=9)
     parser.add_argument("--checker")
+    parser.add_argument("--module")
     options = parser.parse_args()
     with tempfile.TemporaryDirectory() as folder:
-        commands = commands_of(folder, options.checker)
+        commands = commands_of(folder, options.checker, options.module)
         print("| image |", " | ".join(commands), "|")
         for kind in images.KINDS:
             measure.written(os.path.join(folder, "first"), images.image(kind))
@@ -62,7 +75,7 @@ def main():
             for _ in range(options.rounds):
                 for name, words in commands.items():
                     speeds[name].append(speed(words))
-            cells = [f"{sorted(speeds[name])[options.rounds // 2]:.0f}, {instructions(words):.0f}" for name, words in commands.items()]
+            cells = [f"{sorted(speeds[name])[options.rounds // 2]:.0f}{instructions(words)}" for name, words in commands.items()]
             print("|", " | ".join([kind, *cells]), "|", flush=True)
 
 

@@ -176,5 +176,33 @@ else
     skip $((1 + ${#cases[@]})) "host.rs: rustc isn't there"
 fi
 
+# ---- aarch64 and WebAssembly: what tools/build_library.py builds beside the library of x86-64
+arm=$(dirname "$library")/aarch64-unknown-linux-gnu/libsfi_c.a
+module=$(dirname "$library")/wasm64-unknown-unknown/sfi.wasm
+not_built="isn't there: tools/build_library.py builds it"
+if [ ! -f "$arm" ]; then
+    skip $((1 + ${#cases[@]})) "host.c on aarch64: $arm $not_built"
+elif ! has aarch64-linux-gnu-gcc; then
+    skip $((1 + ${#cases[@]})) "host.c on aarch64: aarch64-linux-gnu-gcc isn't there"
+elif ! has qemu-aarch64; then
+    skip $((1 + ${#cases[@]})) "host.c on aarch64: qemu-aarch64 isn't there"
+else
+    compile "host.c for aarch64" aarch64-linux-gnu-gcc -static -std=c99 "${warnings[@]}" "$here/host.c" "$arm" -o "$room/host_arm"
+    run_cases "host.c on aarch64" qemu-aarch64 "$room/host_arm"
+fi
+memory64=()
+if has node && node --experimental-wasm-memory64 -e 0 >"$room/log" 2>&1; then
+    memory64=(--experimental-wasm-memory64) # later versions of node have it without
+fi
+if [ ! -f "$module" ]; then
+    skip ${#cases[@]} "host.mjs: $module $not_built"
+elif ! has node; then
+    skip ${#cases[@]} "host.mjs: node isn't there"
+elif ! node "${memory64[@]}" -e 'process.exit(WebAssembly.validate(new Uint8Array(Buffer.from("0061736d010000000503010401", "hex"))) ? 0 : 1)'; then
+    skip ${#cases[@]} "host.mjs: this node has no memory of 64 bits"
+else
+    run_cases host.mjs node "${memory64[@]}" --no-warnings "$here/host.mjs" "$module"
+fi
+
 echo "the library has $added bytes"
 finish
