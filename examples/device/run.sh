@@ -13,9 +13,11 @@
 #     --unchecked           sends an image that the checker refuses too
 #     --seconds N           ends QEMU after so long; 60 if absent
 #
-# SFI is the program sfi; ./sfi at the top if absent. QEMU_OPTIONS are further words for QEMU. Ends
-# in the checker's status where that refuses, in 2 where the loader does or digits are wrong, in 3
-# for other words than these and for a fault of the loader, in 124 after --seconds.
+# In the environment, SFI is the program sfi, ./sfi at the top if absent; RISCV the compiler that
+# builds the loader, riscv64-unknown-elf-gcc if absent; QEMU_OPTIONS are further words for QEMU.
+# Ends in the checker's status where that refuses, in 2 where the loader does or digits are wrong,
+# in 3 for other words than these, for a tool that isn't there and for a fault of the loader, in 124
+# after --seconds.
 set -euo pipefail
 here=$(cd "$(dirname "${BASH_SOURCE[0]}")" && pwd)
 sfi=${SFI:-$here/../../sfi}
@@ -24,8 +26,12 @@ room=$(mktemp -d)
 trap 'rm -rf "$room"' EXIT
 
 fail() { # the status to end in, and why
-    echo "run.sh: $2" >&2
+    echo "run.sh: ${*:2}" >&2
     exit "$1"
+}
+
+needs() { # a command, and where it comes from
+    command -v "$1" >"$room/which" || fail 3 "$1 isn't there ($2)"
 }
 
 value() { # the command line from an option on
@@ -64,6 +70,11 @@ while [ $# -gt 0 ]; do
     shift
 done
 
+[ "$checked" = 0 ] || needs "$sfi" "the program sfi; SFI=PATH names another"
+needs qemu-system-riscv32 "Debian's package qemu-system-misc"
+needs make "Debian's package make"
+needs xxd "Debian's package xxd"
+
 # The bytes that are checked are the bytes that are sent.
 bytes "the image" >"$room/image"
 bytes "--input" >"$room/input" <<<"$input"
@@ -71,7 +82,8 @@ if [ "$checked" = 1 ]; then
     "$sfi" check --raw <"$room/image" >"$room/verdict" ||
         { status=$? && cat "$room/verdict" && exit "$status"; }
 fi
-make -s -C "$here"
+make -s -C "$here" >&2 ||
+    fail 3 "the loader isn't built; RISCV=PATH names the compiler, gcc for RISC-V"
 
 # The addresses are those of machine.h, and the words those of struct arguments in host.h.
 options=(-M virt -m 256M -bios none -display none -monitor none -serial stdio)
@@ -89,6 +101,7 @@ file() { options+=(-device "loader,file=$1,addr=$2,force-raw=on"); }
 # shellcheck disable=SC2086 # words
 timeout "$seconds" qemu-system-riscv32 "${options[@]}" ${QEMU_OPTIONS:-} </dev/null || {
     status=$?
-    [ "$status" != 124 ] || fail 124 "QEMU was ended after $seconds seconds; --seconds N gives it N"
+    [ "$status" != 124 ] || fail 124 "the run wasn't over after $seconds seconds; --seconds N" \
+        "gives it N, and with fewer --rounds it ends by itself"
     exit "$status"
 }

@@ -403,4 +403,15 @@ xxd -r -p ../smallest.hex | head -c 32 >"$room/image.hex"
 refused_by_script 2 "run.sh: the image $no_digits SFI1" --steps
 echo 00112233 >"$room/image.hex"
 refused_by_script 2 "layout fault 1 Magic" --steps
+SFI=./none refused_by_script 3 \
+    "run.sh: ./none isn't there (the program sfi; SFI=PATH names another)"
+build cases/endless.s 2 >"$room/image.hex"
+report "run.sh: a compiler that isn't there" \
+    "run.sh: the loader isn't built; RISCV=PATH names the compiler, gcc for RISC-V"$'\nstatus 3' \
+    "$({ MAKEFLAGS=B RISCV=./none ./run.sh <"$room/image.hex" 2>&1; echo "status $?"; } |
+        grep -v '^make')"
+report "run.sh: a run that doesn't end" \
+    "run.sh: the run wasn't over after 1 seconds; --seconds N gives it N, and with fewer --rounds\
+ it ends by itself"$'\nstatus 124' \
+    "$({ ./run.sh --seconds 1 <"$room/image.hex" 2>&1; echo "status $?"; } | grep -v '^qemu')"
 finish
