@@ -47,6 +47,7 @@ needs() { # a command, and the Debian package that has it
 needs qemu-system-riscv32 qemu-system-misc
 needs riscv64-unknown-elf-gcc gcc-riscv64-unknown-elf
 needs xxd xxd
+needs python3 python3
 [ "$skipped" = 0 ] || finish
 make -s || { report "make" "the loader" "none" && finish; }
 
@@ -374,6 +375,49 @@ report "the ebreak of semihosting" "sandbox=0 trap=Break at=01000014 out=" \
 report "the ebreak of semihosting, where that is on" \
     $'hi!\nsandbox=0 trap=Break at=01000020 out=' \
     "$(QEMU_OPTIONS='-semihosting-config enable=on,target=native' ./run.sh <"$room/image.hex" 2>&1)"
+
+# ---- The commands and lines of docs/C.md and docs/DEVICE.md, whose numbers are those of gcc 12
+
+block() { # a page, the language of its fences, which of these blocks
+    awk -v fence="\`\`\`$2" -v number="$3" '
+        /^```/ { inside = !inside; mine = inside && $0 == fence && ++count == number; next }
+        mine' "$here/../../docs/$1"
+}
+
+in_docs() { # what is tried, a page, which block of output; commands on standard input
+    report "$2: $1" "$(block "$2" '' "$3")" "$(cd "$room/top" && bash 2>&1)"
+}
+
+try_docs() {
+    local found
+    block C.md c 1 >"$room/top/hello.c"
+    block DEVICE.md c 1 >"$room/top/outside.c"
+    in_docs "the recipe" C.md 1 < <(block C.md sh 1)
+    in_docs "the recipe" DEVICE.md 1 < <(block DEVICE.md sh 1)
+    found=$(cd "$room/top" && block DEVICE.md sh 1 | sed 's/hello/outside/g' | bash 2>&1)
+    report "DEVICE.md: the recipe of outside.c" 1 "$(uniq <<<"$found" | wc -l)"
+    in_docs "a trap, a refusal, two sandboxes" DEVICE.md 2 < <(block DEVICE.md sh 2)
+}
+
+source_of() { # a program of cases, options of the tool
+    cp "cases/$1.c" "$room/top"
+    block DEVICE.md sh 1 | sed "/build/,\$ d; s/hello/$1/g; s|tools/asm2sfi|& $2|" |
+        (cd "$room/top" && bash && cat "$1.s")
+}
+
+mkdir "$room/top"
+ln -s "$(realpath ../../tools)" "$(realpath ..)" "$room/top"
+ln -s "$SFI" "$room/top/sfi"
+source_of sender "--gate post=4" >"$room/pair.s"
+source_of adder "--gate take=5" | sed '/^\.format/d' >>"$room/pair.s"
+"$SFI" build <"$room/pair.s" >"$room/image.hex"
+report "words between two C programs" \
+    $'sandbox=0 exit=0 out=\nsandbox=1 exit='"$((39 * 40 * 79 / 6)) out=" \
+    "$(./run.sh <"$room/image.hex")"
+case $(riscv64-unknown-elf-gcc -dumpversion) in
+12.*) try_docs ;;
+*) skipped=$((skipped + 1)) && echo "skipped: the lines of docs: they are those of gcc 12" ;;
+esac
 
 # ---- What run.sh refuses
 
