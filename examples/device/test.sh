@@ -1,7 +1,8 @@
 #!/usr/bin/env bash
 # Runs images natively on RV32 in QEMU, beside `sfi run`, and compares their lines: exit codes,
 # traps with their addresses, steps and output. Then it shows what the checker keeps from the host:
-# images that it refuses, and what they do all the same.
+# images that it refuses, and what they do all the same; and what the commands of docs/DEVICE.md
+# print.
 #
 #     examples/device/test.sh [SFI]             # SFI is the program; ./sfi at the top if absent
 #     ALL=1 examples/device/test.sh [SFI]       # every input, more sizes of data, and turns by the
@@ -40,12 +41,13 @@ finish() {
 
 needs() { # a command, and the Debian package that has it
     command -v "$1" >"$room/which" && return
-    echo "skipped: $1 isn't there (Debian's package $2)"
+    echo "skipped: the loader for RV32: $1 isn't there (Debian's package $2)"
     skipped=$((skipped + 1))
 }
 
 needs qemu-system-riscv32 qemu-system-misc
 needs riscv64-unknown-elf-gcc gcc-riscv64-unknown-elf
+needs make make
 needs xxd xxd
 needs python3 python3
 [ "$skipped" = 0 ] || finish
