@@ -1,4 +1,5 @@
-/* The gates of gates.h over standard input and output, for the same programs compiled natively. */
+/* The gates of gates.h over standard input and output, for the same programs compiled natively. Such a program is the
+   one sandbox, number 0. */
 #include "gates.h"
 
 #include <stdio.h>
@@ -17,4 +18,26 @@ long get(void *bytes, unsigned length) {
 }
 
 void yield_turn(void) {
+}
+
+enum { ROOM = 16 };
+
+static unsigned mailbox[ROOM], oldest, held;
+
+int post(unsigned to, unsigned word) {
+    if (to != 0)
+        return -1;
+    if (held == ROOM)
+        return 1;
+    mailbox[(oldest + held++) % ROOM] = word;
+    return 0;
+}
+
+struct taken take(void) {
+    struct taken none = {0, 0}, found = {mailbox[oldest], 1};
+    if (held == 0)
+        return none;
+    oldest = (oldest + 1) % ROOM;
+    held--;
+    return found;
 }

@@ -29,7 +29,7 @@ def gate(text):
         raise argparse.ArgumentTypeError(f"{text!r} isn't NAME=SERVICE with a service from 0 to 5")
     if not is_name(name):
         raise argparse.ArgumentTypeError(f"{name!r} is no name that a gate may have")
-    if name == MAIN or name in GATES:
+    if name == MAIN or GATES.get(name, int(service)) != int(service):
         what = "the program's first function" if name == MAIN else f"the gate of service {GATES[name]}"
         raise argparse.ArgumentTypeError(f"{name!r} is {what} already")
     return name, int(service)
@@ -74,7 +74,7 @@ def parsed(words):
     parser.add_argument("--stack", type=count, default=DEFAULT_STACK, metavar="BYTES",
                         help="room for the stack at least; 8192 if absent")
     parser.add_argument("--gate", type=gate, action=Gates, default={}, metavar="NAME=SERVICE",
-                        help="a function that is a gate, beside get, put, exit_with and yield_turn")
+                        help="a function that is a gate, beside those of gates.h")
     parser.add_argument("--no-runtime", action="store_true", help="without memcpy, __udivdi3 and the like")
     parser.add_argument("--passes", type=passes, default=PASSES, metavar="NAMES",
                         help=f"the passes that make the code cheaper; {','.join(PASSES)} if absent")

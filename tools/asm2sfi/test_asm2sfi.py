@@ -220,6 +220,10 @@ main:
         self.assertIn(".gate exit_with 0\n.gate get 2\n.gate send 4\n", text)
         self.assertEqual(lines_after(text, "main:"), ["call get", "j send"])
 
+    def test_gates_of_the_header(self):
+        text = source(MAIN + "\tcall\ttake\n\tcall\tpost\n\tcall\tyield_turn\n\tret\n")
+        self.assertIn(".gate exit_with 0\n.gate yield_turn 3\n.gate post 4\n.gate take 5\n", text)
+
     def test_gates_that_are_defined(self):
         rows = [("\t.globl send\nsend:\tret\n", ["a.s:5: send is defined here, and a gate by --gate"]),
                 ("send:\tret\n", [])]
@@ -333,6 +337,7 @@ class CommandLine(unittest.TestCase):
 
     def test_gates(self):
         self.assertEqual(self.told("--gate", "send=4", "--gate", "receive=5"), (0, []))
+        self.assertEqual(self.told("--gate", "post=4"), (0, []))
         rows = [
             (["main=4"], "'main' is the program's first function already"),
             (["put=4"], "'put' is the gate of service 1 already"),
