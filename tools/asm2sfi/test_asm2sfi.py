@@ -239,6 +239,13 @@ main:
         text = source(MAIN + "\ttail f\n\t.globl f\nf:\tnop\n", "\t.globl f\nf:\tret\n")
         self.assertEqual(lines_after(text, "main:"), ["j f", "f:", "nop"])
 
+    def test_own_definition_goes_before_a_weak_one(self):
+        own, weak = MAIN + "\ttail f\n\t.globl f\nf:\tnop\n", "\t.section .text.f\n\t.weak f\nf:\tret\n"
+        texts = [("a.s", own), ("b.s", weak)]
+        for order in (texts, texts[::-1]):
+            text, refusals = convert(order, [], Options(passes=()))
+            self.assertEqual((lines_after(text, "main:"), refusals), (["j f", "f:", "nop"], []))
+
     def test_local_names_of_two_files(self):
         other = "\t.globl f\nf:\n.L2:\tbnez a0,.L2\n\tret\n"
         text = source(MAIN + ".L2:\tbeqz a0,.L2\n\ttail f\n", other)
