@@ -1,6 +1,7 @@
 #!/usr/bin/env bash
 # Builds, checks and runs the C examples in both formats, on each input of expected.txt, and compares what they do with
-# what the native programs did. Then reads the headers as C++, where there is a compiler for it: the rest needs none.
+# what the native programs did. Then reads the headers as C++, and compiles the programs of std.sh and compares them
+# with native ones, where there are compilers for it: the rest needs none.
 #
 #     examples/c/test.sh [SFI]      # SFI is the program; ./sfi at the top if absent
 set -uo pipefail
@@ -13,10 +14,11 @@ trap 'rm -rf "$room"' EXIT
 passed=0
 failed=0
 skipped=0
+source ./std.sh
 
 report() { # what failed, and what was wanted and found
     failed=$((failed + 1))
-    printf 'FAILED %s\n  wanted %s\n  found  %s\n' "$1" "$2" "$3"
+    printf 'FAILED %s\n  wanted %s\n  found  %s\n' "$1" "${2:0:500}" "${3:0:500}"
 }
 
 make_image() { # program, format
@@ -32,9 +34,9 @@ check_image() { # program, format
     esac
 }
 
-run_case() { # program, format, input, what is wanted
+run_case() { # program, format, input file, what is wanted
     local found
-    found=$("$sfi" run --rounds 10000 --quantum 1000000 --input "$(od -An -v -tx1 "inputs/$3" | tr -d ' \n')" <"$room/$1.$2")
+    found=$("$sfi" run --rounds 10000 --quantum 1000000 --input "$(od -An -v -tx1 "$3" | tr -d ' \n')" <"$room/$1.$2")
     if [ "$(sed 's/^sandbox=0 //; s/ steps=[0-9]*//' <<<"$found")" = "$4" ]; then
         passed=$((passed + 1))
     else
@@ -64,11 +66,12 @@ for format in 1 2; do
         fi
         check_image "$program" "$format"
         while read -r name input wanted; do
-            [ "$name" = "$program" ] && run_case "$program" "$format" "$input" "$wanted"
+            [ "$name" = "$program" ] && run_case "$program" "$format" "inputs/$input" "$wanted"
         done <expected.txt
     done
 done
 headers_in_cpp
+std_programs_as_natively
 if [ "$skipped" = 0 ]; then
     echo "$passed passed, $failed failed"
 else

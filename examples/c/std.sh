@@ -1,0 +1,148 @@
+# The programs of std, which use standard headers alone, and two programs that are one image: compiled by each compiler
+# that is there, and compared with what native gcc makes of std, in both formats.
+std_programs="base64 json_tokens matrix_product functions ends"
+owns="-ffixed-x24 -ffixed-x25 -ffixed-x26 -ffixed-x27 -ffixed-x31"
+reserved="+reserve-x24,+reserve-x25,+reserve-x26,+reserve-x27,+reserve-x31"
+machine="-std=c11 -O2 -Wall -Wextra -Werror -march=rv32imc -mabi=ilp32 -ffreestanding -fno-builtin -fno-jump-tables
+    -ffunction-sections -fdata-sections -I include -I ."
+
+skip() { # what, why
+    skipped=$((skipped + 1))
+    echo "skipped: $1: $2"
+}
+
+compare() { # what is tried, what is wanted, what is found
+    if [ "$3" = "$2" ]; then
+        passed=$((passed + 1))
+    else
+        report "$@"
+    fi
+}
+
+compile_by_gcc() { # C file, assembly file
+    riscv64-unknown-elf-gcc -S $machine $owns -o "$2" "$1"
+}
+
+compile_by_clang() { # C file, assembly file
+    clang -S -emit-llvm --target=riscv32-unknown-elf $machine -o "$2.ll" "$1" &&
+        llc -O2 -march=riscv32 -target-abi=ilp32 --function-sections --data-sections -mattr="+m,+c,$reserved" \
+            -o "$2" "$2.ll"
+}
+
+std_inputs_of() {
+    case $1 in
+    base64) ls inputs/empty inputs/prose inputs/base64-bytes ;;
+    json_tokens) ls inputs/empty inputs/json-* std/inputs/json_tokens-* ;;
+    *) ls std/inputs/"$1"-* ;;
+    esac
+}
+
+# The exit code and the output of a native program, in the words of `sfi run`.
+native_line() { # program, input
+    local output status
+    output=$("$room/native/$1" <"$2" 2>"$room/messages" | od -An -v -tx1 | tr -d ' \n'; exit "${PIPESTATUS[0]}")
+    status=$?
+    [ "$2" != std/inputs/ends-assertion ] || output=$(assertion_message | od -An -v -tx1 | tr -d ' \n')
+    echo "exit=$status out=$output"
+}
+
+# A sandbox has no other output for it, and the C library of another machine other words.
+assertion_message() {
+    echo "std/ends.c:$(grep -n 'assert(' std/ends.c | cut -d: -f1): Assertion \`first != 'a'' failed."
+}
+
+build_std() { # compiler, program, format
+    local at="$room/$1"
+    python3 ../../tools/asm2sfi --format "$3" "$at/$2.asm" "$at"/library/*.asm >"$at/$2.s" &&
+        "$sfi" build <"$at/$2.s" >"$room/$1-$2.$3"
+}
+
+try_std() { # compiler, program, format
+    local input
+    if ! build_std "$@"; then
+        report "$2 by $1, format $3: build" image "$(cat "$room/$1-$2.$3")"
+        return
+    fi
+    check_image "$1-$2" "$3"
+    for input in $(std_inputs_of "$2"); do
+        run_case "$1-$2" "$3" "$input" "$(native_line "$2" "$input")"
+    done
+}
+
+# The functions of the library that a program has are those that it calls, and what these call.
+try_linking() { # compiler
+    local names found
+    names=$(sed -n 's/^[ \t]*\.weak[ \t]*//p' "$room/$1"/library/*.asm)
+    found=$(sed -n 's/^\([a-z]*\):$/\1/p' "$room/$1/base64.s" | grep -xF "$names" | sort | paste -sd' ')
+    compare "base64 by $1: functions of the library" "getchar putchar" "$found"
+}
+
+compile_all() { # compiler
+    local file
+    mkdir -p "$room/$1/library"
+    for file in library/*.c; do
+        "compile_by_$1" "$file" "$room/$1/${file%.c}.asm" || return 1
+    done
+    for file in $(printf 'std/%s.c ' $std_programs) primes_post.c primes_take.c; do
+        "compile_by_$1" "$file" "$room/$1/$(basename "$file" .c).asm" || return 1
+    done
+}
+
+# One text of two programs has one line `.format`.
+try_pair() { # compiler, format
+    local wanted found at="$room/$1" primes
+    primes=$(seq 2 99 | factor | awk 'NF == 2 { print $2 }')
+    wanted=$(echo "sandbox=0 exit=0 out="
+        echo "sandbox=1 exit=$(($(paste -sd+ <<<"$primes"))) out=$(od -An -v -tx1 <<<"$primes" | tr -d ' \n')")
+    found=$({
+        python3 ../../tools/asm2sfi --format "$2" "$at/primes_post.asm"
+        python3 ../../tools/asm2sfi --format "$2" "$at/primes_take.asm" | grep -v '^\.format'
+    } | "$sfi" build | tee "$room/$1-pair.$2" | "$sfi" run --rounds 100 --quantum 10000 | sed 's/ steps=[0-9]*//')
+    check_image "$1-pair" "$2"
+    compare "two programs by $1, format $2" "$wanted" "$found"
+}
+
+try_compiler() { # compiler
+    local program format
+    if ! compile_all "$1" 2>"$room/messages"; then
+        report "$1 on std and library" "no message" "$(cat "$room/messages")"
+        return
+    fi
+    passed=$((passed + 1))
+    for format in 1 2; do
+        for program in $std_programs; do
+            try_std "$1" "$program" "$format"
+        done
+        try_pair "$1" "$format"
+    done
+    try_linking "$1"
+}
+
+native_programs() {
+    local program
+    mkdir -p "$room/native"
+    for program in $std_programs; do
+        gcc -std=c11 -O2 -w -o "$room/native/$program" "std/$program.c" || return 1
+    done
+}
+
+missing() { # programs that are wanted
+    local name
+    for name in "$@"; do
+        command -v "$name" >"$room/which" || echo "$name isn't there"
+    done | head -n 1
+}
+
+std_programs_as_natively() {
+    local why
+    why=$(missing gcc python3)
+    if [ -n "$why" ]; then
+        skip "programs with standard headers" "$why"
+        return
+    fi
+    native_programs || report "std by native gcc" "programs" "none"
+    why=$(missing riscv64-unknown-elf-gcc)
+    if [ -n "$why" ]; then skip "std by gcc" "$why"; else try_compiler gcc; fi
+    why=$(missing clang llc)
+    if [ -n "$why" ]; then skip "std by clang" "$why"; else try_compiler clang; fi
+}
