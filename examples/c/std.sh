@@ -72,7 +72,7 @@ try_std() { # compiler, program, format
 # The functions of the library that a program has are those that it calls, and what these call.
 try_linking() { # compiler
     local names found
-    names=$(sed -n 's/^[ \t]*\.weak[ \t]*//p' "$room/$1"/library/*.asm)
+    names=$(sed -n 's/^[ \t]*\.weak[ \t]*\([a-z]*\).*/\1/p' "$room/$1"/library/*.asm)
     found=$(sed -n 's/^\([a-z]*\):$/\1/p' "$room/$1/base64.s" | grep -xF "$names" | sort | paste -sd' ')
     compare "base64 by $1: functions of the library" "getchar putchar" "$found"
 }
