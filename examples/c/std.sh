@@ -3,7 +3,7 @@
 std_programs="base64 json_tokens matrix_product functions ends"
 owns="-ffixed-x24 -ffixed-x25 -ffixed-x26 -ffixed-x27 -ffixed-x31"
 reserved="+reserve-x24,+reserve-x25,+reserve-x26,+reserve-x27,+reserve-x31"
-machine="-std=c11 -O2 -Wall -Wextra -Werror -march=rv32imc -mabi=ilp32 -ffreestanding -fno-builtin -fno-jump-tables
+machine="-std=c11 -O2 -Wall -Wextra -Werror -march=rv32imc -mabi=ilp32 -fno-builtin -fno-jump-tables
     -ffunction-sections -fdata-sections -I include -I ."
 
 skip() { # what, why

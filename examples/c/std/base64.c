@@ -1,7 +1,6 @@
 /* Writes the base64 (RFC 4648) of standard input, in lines of 76 characters. */
 #include <stdint.h>
 #include <stdio.h>
-#include <stdlib.h>
 
 enum { LINE = 76 };
 
@@ -34,5 +33,4 @@ int main(void) {
     }
     if (column)
         putchar('\n');
-    return EXIT_SUCCESS;
 }
