@@ -77,15 +77,18 @@ try_linking() { # compiler
     compare "base64 by $1: functions of the library" "getchar putchar" "$found"
 }
 
+compile_into() { # folder, compiler, C files
+    local file folder="$1" compiler="$2"
+    mkdir -p "$folder"
+    shift 2
+    for file in "$@"; do
+        "compile_by_$compiler" "$file" "$folder/$(basename "$file" .c).asm" || return 1
+    done
+}
+
 compile_all() { # compiler
-    local file
-    mkdir -p "$room/$1/library"
-    for file in library/*.c; do
-        "compile_by_$1" "$file" "$room/$1/${file%.c}.asm" || return 1
-    done
-    for file in $(printf 'std/%s.c ' $std_programs) primes_post.c primes_take.c; do
-        "compile_by_$1" "$file" "$room/$1/$(basename "$file" .c).asm" || return 1
-    done
+    compile_into "$room/$1/library" "$1" library/*.c &&
+        compile_into "$room/$1" "$1" $(printf 'std/%s.c ' $std_programs) primes_post.c primes_take.c
 }
 
 # One text of two programs has one line `.format`.
@@ -102,19 +105,22 @@ try_pair() { # compiler, format
     compare "two programs by $1, format $2" "$wanted" "$found"
 }
 
+try_format() { # compiler, format
+    local program
+    for program in $std_programs; do
+        try_std "$1" "$program" "$2"
+    done
+    try_pair "$1" "$2"
+}
+
 try_compiler() { # compiler
-    local program format
     if ! compile_all "$1" 2>"$room/messages"; then
         report "$1 on std and library" "no message" "$(cat "$room/messages")"
         return
     fi
     passed=$((passed + 1))
-    for format in 1 2; do
-        for program in $std_programs; do
-            try_std "$1" "$program" "$format"
-        done
-        try_pair "$1" "$format"
-    done
+    try_format "$1" 1
+    try_format "$1" 2
     try_linking "$1"
 }
 
@@ -140,7 +146,10 @@ std_programs_as_natively() {
         skip "programs with standard headers" "$why"
         return
     fi
-    native_programs || report "std by native gcc" "programs" "none"
+    if ! native_programs 2>"$room/messages"; then
+        report "std by native gcc" programs "$(cat "$room/messages")"
+        return
+    fi
     why=$(missing riscv64-unknown-elf-gcc)
     if [ -n "$why" ]; then skip "std by gcc" "$why"; else try_compiler gcc; fi
     why=$(missing clang llc)
