@@ -29,7 +29,7 @@ def gate(text):
         raise argparse.ArgumentTypeError(f"{text!r} isn't NAME=SERVICE with a service from 0 to 5")
     if not is_name(name):
         raise argparse.ArgumentTypeError(f"{name!r} is no name that a gate may have")
-    if name == MAIN or GATES.get(name, int(service)) != int(service):
+    if name == MAIN or name in GATES:
         what = "the program's first function" if name == MAIN else f"the gate of service {GATES[name]}"
         raise argparse.ArgumentTypeError(f"{name!r} is {what} already")
     return name, int(service)

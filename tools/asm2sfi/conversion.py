@@ -10,7 +10,7 @@ from program import START, CodeWriter
 from reading import read_unit
 from writing import source_text
 
-GATES = {"exit_with": 0, "put": 1, "get": 2, "yield_turn": 3, "post": 4, "take": 5}
+GATES = {"exit_with": 0, "put": 1, "get": 2, "yield_turn": 3, "post_word": 4, "take_word": 5}
 MAIN = "main"
 LEAVE = "exit_with"
 

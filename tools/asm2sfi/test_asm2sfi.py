@@ -221,8 +221,8 @@ main:
         self.assertEqual(lines_after(text, "main:"), ["call get", "j send"])
 
     def test_gates_of_the_header(self):
-        text = source(MAIN + "\tcall\ttake\n\tcall\tpost\n\tcall\tyield_turn\n\tret\n")
-        self.assertIn(".gate exit_with 0\n.gate yield_turn 3\n.gate post 4\n.gate take 5\n", text)
+        text = source(MAIN + "\tcall\ttake_word\n\tcall\tpost_word\n\tcall\tyield_turn\n\tret\n")
+        self.assertIn(".gate exit_with 0\n.gate yield_turn 3\n.gate post_word 4\n.gate take_word 5\n", text)
 
     def test_gates_that_are_defined(self):
         rows = [("\t.globl send\nsend:\tret\n", ["a.s:5: send is defined here, and a gate by --gate"]),
