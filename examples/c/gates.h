@@ -22,17 +22,17 @@ void yield_turn(void);
 
 /* Puts a word at the end of the mailbox of sandbox number `to`, and doesn't wait. Answers 0, 1 where that mailbox is
    full (16 words), or -1 where there is no such sandbox. Sandboxes are numbered from 0, in the order of the image. */
-int post(unsigned to, unsigned word);
+int post_word(unsigned to, unsigned word);
 
 /* A word that was in this sandbox's mailbox, and the number of its sender plus 1. */
-struct taken {
+struct taken_word {
     unsigned word;
     unsigned sender;
 };
 
 /* Takes the oldest word out of this sandbox's mailbox, and doesn't wait: both members are 0 where it is empty. The
    sender is who it says; the word may be any. */
-struct taken take(void);
+struct taken_word take_word(void);
 
 #ifdef __cplusplus
 }

@@ -24,7 +24,7 @@ enum { ROOM = 16 };
 
 static unsigned mailbox[ROOM], oldest, held;
 
-int post(unsigned to, unsigned word) {
+int post_word(unsigned to, unsigned word) {
     if (to != 0)
         return -1;
     if (held == ROOM)
@@ -33,8 +33,8 @@ int post(unsigned to, unsigned word) {
     return 0;
 }
 
-struct taken take(void) {
-    struct taken none = {0, 0}, found = {mailbox[oldest], 1};
+struct taken_word take_word(void) {
+    struct taken_word none = {0, 0}, found = {mailbox[oldest], 1};
     if (held == 0)
         return none;
     oldest = (oldest + 1) % ROOM;

@@ -10,7 +10,7 @@ static int is_prime(unsigned number) {
 }
 
 static void send(unsigned word) {
-    while (post(1, word) == 1)
+    while (post_word(1, word) == 1)
         yield_turn();
 }
 

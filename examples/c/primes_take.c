@@ -8,7 +8,7 @@ enum { FIRST = 0 + 1 }; /* a word of sandbox 0 has this sender */
 int main(void) {
     unsigned sum = 0;
     for (;;) {
-        struct taken found = take();
+        struct taken_word found = take_word();
         if (found.sender == FIRST && found.word == 0)
             return sum;
         if (found.sender == FIRST) {

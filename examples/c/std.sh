@@ -88,6 +88,7 @@ compile_into() { # folder, compiler, C files
 
 compile_all() { # compiler
     compile_into "$room/$1/library" "$1" library/*.c &&
+        compile_into "$room/$1/examples" "$1" $(cut -d' ' -f1 expected.txt | uniq | sed 's/$/.c/') &&
         compile_into "$room/$1" "$1" $(printf 'std/%s.c ' $std_programs) primes_post.c primes_take.c
 }
 
@@ -115,7 +116,7 @@ try_format() { # compiler, format
 
 try_compiler() { # compiler
     if ! compile_all "$1" 2>"$room/messages"; then
-        report "$1 on std and library" "no message" "$(cat "$room/messages")"
+        report "$1 on C programs" "no message" "$(cat "$room/messages")"
         return
     fi
     passed=$((passed + 1))
