@@ -1,0 +1,159 @@
+#!/usr/bin/env python3
+"""Tests of sfi-cc: `[SFI=PATH] tools/unit_tests.py tools`. Where a compiler or the program isn't there, stand-ins that
+print or fail as the test wants show what becomes of each step; the tests of the real ones are skipped."""
+import os
+import shutil
+import subprocess
+import tempfile
+import unittest
+
+TOOLS = os.path.dirname(os.path.abspath(__file__))
+SFI_CC = os.path.join(TOOLS, "sfi-cc")
+SFI = os.environ.get("SFI", os.path.join(os.path.dirname(TOOLS), "crates", "sfi", "out", "sfi"))
+GCC = "riscv64-unknown-elf-gcc"
+
+HELLO = '#include "gates.h"\n\nint main(void) {\n    put("Hi", 2);\n    return 105;\n}\n'
+ASSEMBLY = "\t.text\n\t.globl\tmain\nmain:\n\tli\ta0,7\n\tret\n"
+
+# A compiler that writes the assembly beside it, and a program sfi that prints words for each command.
+COMPILER = '#!/bin/sh\necho "$*" >>{folder}/words\nwhile [ "$1" != -o ]; do shift; done\ncp {folder}/main.asm "$2"\n'
+PROGRAM = '#!/bin/sh\ncat >{folder}/$1.input\ncase $1 in\nbuild) {build} ;;\ncheck) {check} ;;\nesac\n'
+FAULT = "source fault 1 Word line 3"
+VERDICT = "refused findings=1 first=V5 sandbox=0 at=01000000"
+
+
+class Folder(unittest.TestCase):
+    """Tests with a folder of their own."""
+
+    def setUp(self):
+        room = tempfile.TemporaryDirectory()
+        self.addCleanup(room.cleanup)
+        self.folder = room.name
+
+    def path(self, name):
+        return os.path.join(self.folder, name)
+
+    def write(self, name, text, mode=0o644):
+        os.makedirs(os.path.dirname(self.path(name)), exist_ok=True)
+        with open(self.path(name), "w", encoding="utf-8") as file:
+            file.write(text)
+        os.chmod(self.path(name), mode)
+        return self.path(name)
+
+    def read(self, name):
+        with open(self.path(name), encoding="utf-8") as file:
+            return file.read()
+
+    @staticmethod
+    def call(*words):
+        """The status of a call, its output, and the lines on standard error."""
+        done = subprocess.run([SFI_CC, *words], stdout=subprocess.PIPE, stderr=subprocess.PIPE, check=False, text=True)
+        return done.returncode, done.stdout, done.stderr.splitlines()
+
+
+class Steps(Folder):
+    """What becomes of each step's answer."""
+
+    def setUp(self):
+        super().setUp()
+        self.write("main.asm", ASSEMBLY)
+        self.file = self.write("main.c", "")
+        self.compiler = self.write("cc", COMPILER.format(folder=self.folder), 0o755)
+
+    def made(self, *words, build="echo 0123", check="echo accepted", compiler=None):
+        text = PROGRAM.format(folder=self.folder, build=build, check=check)
+        program = self.write("program", text, 0o755)
+        return self.call("--cc", compiler or self.compiler, "--program", program, *words, self.file)
+
+    def test_all_pass(self):
+        self.assertEqual(self.made(), (0, "0123\n", []))
+        self.assertEqual(self.read("check.input"), "0123\n")
+        self.assertIn("main:\n        li a0, 7\n        ret\n", self.read("build.input"))
+
+    def test_which_fails(self):
+        rows = [
+            ({"build": f"echo {FAULT}; exit 2"}, 2, [FAULT, "sfi-cc: program build failed, in status 2"]),
+            ({"check": f"echo {VERDICT}; exit 1"}, 1, [VERDICT, "sfi-cc: program check failed, in status 1"]),
+            ({"build": "exit 4"}, 4, ["sfi-cc: program build failed, in status 4"]),
+            ({"check": "kill -9 $$"}, 1, ["sfi-cc: program check failed, in status -9"]),
+            ({"compiler": "/nothing/gcc"}, 2, ["sfi-cc: /nothing/gcc can't be run: No such file or directory"]),
+        ]
+        for stand_ins, status, told in rows:
+            output = self.write("kept.hex", "as it was")
+            self.assertEqual(self.made("-o", output, **stand_ins), (status, "", told))
+            self.assertEqual(self.read("kept.hex"), "as it was")
+            self.assertEqual(self.made(**stand_ins), (status, "", told))
+
+    def test_compiler_fails(self):
+        compiler = self.write("failing", "#!/bin/sh\necho main.c:1: error >&2\nexit 1\n", 0o755)
+        self.assertEqual(self.made("-o", self.path("new.hex"), compiler=compiler),
+                         (1, "", ["main.c:1: error", "sfi-cc: failing failed, in status 1"]))
+        self.assertFalse(os.path.exists(self.path("new.hex")))
+
+    def test_converter_fails(self):
+        self.write("main.asm", ASSEMBLY + "\tecall\n")
+        self.assertEqual(self.made(), (1, "", ["asm2sfi: main.asm:6: ecall: a sandbox calls its host through gates alone",
+                                               "sfi-cc: asm2sfi failed, in status 1"]))
+
+    def test_output(self):
+        self.assertEqual(self.made("-o", self.path("new.hex")), (0, "", []))
+        self.assertEqual(self.read("new.hex"), "0123\n")
+        place = self.path("nowhere/new.hex")
+        self.assertEqual(self.made("-o", place),
+                         (2, "", [f"sfi-cc: {place} can't be written: No such file or directory"]))
+
+    def test_source_text(self):
+        rows = [(["--format", "1"], ".format 1"), ([], ".format 2"), (["--stack", "100000"], ".sandbox 131072"),
+                (["--data", "65536"], ".sandbox 65536")]
+        for options, line in rows:
+            status, text, told = self.made("-c", *options, build="exit 9")
+            self.assertEqual((status, told), (0, []))
+            self.assertIn(line, text.splitlines())
+
+    def test_options(self):
+        self.made("-O1", "-I", "headers", "-DX=1")
+        words = self.read("words").split()
+        self.assertIn("-ffixed-x31", words)
+        self.assertIn("-O1 -I headers -DX=1", " ".join(words))
+        self.assertLess(words.index("-O2"), words.index("-O1"))
+        for options, told in [(["--format", "3"], "argument --format: invalid choice: '3' (choose from '1', '2')"),
+                              (["--stack"], "argument --stack: expected one argument")]:
+            status, output, lines = self.call(self.file, *options)
+            self.assertEqual((status, output, lines[-1]), (2, "", f"sfi-cc: error: {told}"))
+        self.assertEqual(self.call("-O2")[2][-1], "sfi-cc: error: a FILE.c is wanted")
+
+
+@unittest.skipUnless(os.access(SFI, os.X_OK), f"{SFI} isn't built")
+class Programs(Folder):
+    """Real compilers, and the program itself."""
+
+    def runs(self, *words):
+        status, image, told = self.call("--program", SFI, *words)
+        self.assertEqual((status, told), (0, []))
+        done = subprocess.run([SFI, "run"], input=image, stdout=subprocess.PIPE, check=True, text=True)
+        return [word for word in done.stdout.split() if not word.startswith("steps=")]
+
+    def compare(self, *words):
+        file = self.write("hello.c", HELLO)
+        for image_format in ("1", "2"):
+            self.assertEqual(self.runs("--format", image_format, *words, file), ["sandbox=0", "exit=105", "out=4869"])
+
+    @unittest.skipUnless(shutil.which(GCC), f"{GCC} isn't there")
+    def test_gcc(self):
+        for options in ([], ["-O0", "-g"], ["-Os", "--stack", "65536"]):
+            self.compare("--cc", GCC, *options)
+
+    @unittest.skipUnless(shutil.which("clang") and shutil.which("llc"), "clang or llc isn't there")
+    def test_clang(self):
+        for options in ([], ["-O0", "-g"], ["-Os"]):
+            self.compare("--cc", "clang", *options)
+
+    @unittest.skipUnless(shutil.which(GCC), f"{GCC} isn't there")
+    def test_two_files_of_one_name(self):
+        first = self.write("a/part.c", "int other(int);\nint main(void) { return other(40); }\n")
+        second = self.write("b/part.c", "int other(int number) { return number + ADDED; }\n")
+        self.assertEqual(self.runs("--cc", GCC, "-D", "ADDED=2", first, second), ["sandbox=0", "exit=42", "out="])
+
+
+if __name__ == "__main__":
+    unittest.main()
