@@ -92,8 +92,9 @@ class Steps(Folder):
 
     def test_converter_fails(self):
         self.write("main.asm", ASSEMBLY + "\tecall\n")
-        self.assertEqual(self.made(), (1, "", ["asm2sfi: main.asm:6: ecall: a sandbox calls its host through gates alone",
-                                               "sfi-cc: asm2sfi failed, in status 1"]))
+        told = ["asm2sfi: main.asm:6: ecall: a sandbox calls its host through gates alone",
+                "sfi-cc: asm2sfi failed, in status 1"]
+        self.assertEqual(self.made(), (1, "", told))
 
     def test_output(self):
         self.assertEqual(self.made("-o", self.path("new.hex")), (0, "", []))
@@ -109,6 +110,12 @@ class Steps(Folder):
             status, text, told = self.made("-c", *options, build="exit 9")
             self.assertEqual((status, told), (0, []))
             self.assertIn(line, text.splitlines())
+
+    def test_where(self):
+        self.assertEqual(self.made("--where", "01000030", "--where", "0", build="exit 9"), (0, """\
+01000030: main, main.asm:4: li a0, 7
+00000000: no sandbox lies there
+""", []))
 
     def test_options(self):
         self.made("-O1", "-I", "headers", "-DX=1")
