@@ -227,9 +227,53 @@ sfi: the program isn't built, and can't be built here: the Rattle toolchain isn'
     report $? "where nothing can be written the program that is there is run" "$found"
 }
 
+# A program that ends in the status that it's told, copies its input, or sleeps.
+other_program() {
+    cat >"$out/sfi" <<'PROGRAM'
+#!/bin/sh
+case $1 in
+copy) exec cat ;;
+sleep) echo $$ >"$ROOM/process" && exec sleep 60 ;;
+*) echo "said $1" && exit "$1" ;;
+esac
+PROGRAM
+}
+
+statuses() {
+    local status told
+    cp "$out/sfi" "$room/kept" && other_program
+    while IFS=: read -r status told; do
+        call "$copy/sfi" "$status"
+        [ "$found" = "said $status; $told; status $status" ]
+        report $? "status $status of the program is that of the wrapper, and told if it is 4 or 5" "$found"
+    done <<'ROWS'
+0:
+1:
+3:
+4:sfi: memory ran out, and nothing was printed (status 4)
+5:sfi: reading the input or writing the output failed (status 5)
+ROWS
+    found=$(echo words | "$copy/sfi" copy)
+    [ "$found" = words ]
+    report $? "the program reads the wrapper's input" "$found"
+    found=$("$copy/sfi" copy 2>&1 <&-)
+    [ $? = 1 ]
+    report $? "a closed input is closed for the program" "$found"
+    rm -f "$room/process"
+    ROOM=$room "$copy/sfi" sleep &
+    await test -s "$room/process"
+    kill -TERM "$!"
+    wait "$!" 2>>"$room/errors"
+    found="status $?"
+    [ "$found" = "status 143" ] && ! kill -0 "$(cat "$room/process")" 2>>"$room/errors"
+    report $? "a signal ends the program, too" "$found"
+    mv "$room/kept" "$out/sfi"
+}
+
 make_rt
 make_copy
 first_build
+statuses
 which_changes_count
 places
 waiting

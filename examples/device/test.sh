@@ -403,7 +403,7 @@ try_docs() {
 
 source_of() { # a program of cases, options of the tool
     cp "cases/$1.c" "$room/top"
-    block DEVICE.md sh 1 | sed "/build/,\$ d; s/hello/$1/g; s|tools/asm2sfi|& $2|" |
+    block DEVICE.md sh 1 | sed "/build/,\$ d; s/ &&\$//; s/hello/$1/g; s|tools/asm2sfi|& $2|" |
         (cd "$room/top" && bash && cat "$1.s")
 }
 
