@@ -118,10 +118,11 @@ class Steps(Folder):
 """, []))
 
     def test_options(self):
-        self.made("-O1", "-I", "headers", "-DX=1")
+        self.made("-O1", "-I", "headers", "-DX=1", "-include", "other.c")
         words = self.read("words").split()
         self.assertIn("-ffixed-x31", words)
-        self.assertIn("-O1 -I headers -DX=1", " ".join(words))
+        self.assertIn("-O1 -I headers -DX=1 -include other.c", " ".join(words))
+        self.assertEqual(words[-1], self.file)
         self.assertLess(words.index("-O2"), words.index("-O1"))
         for options, told in [(["--format", "3"], "argument --format: invalid choice: '3' (choose from '1', '2')"),
                               (["--stack"], "argument --stack: expected one argument")]:

@@ -7,6 +7,7 @@ import os
 import re
 import shutil
 import subprocess
+import sys
 import tempfile
 import unittest
 
@@ -140,6 +141,17 @@ class Where(unittest.TestCase):
         image = Image(made, 2, source_lines("a.s", text))
         told = [image.told(address) for address in range(0x01000020, 0x01000040, 2)]
         self.assertIn("the start, before main: la t1, main", told)
+
+
+class CommandLine(unittest.TestCase):
+    def test_addresses(self):
+        rows = [("0100000g", 2, "argument --where: '0100000g' is no address of 32 bits in hexadecimal digits"),
+                ("100000000", 2, "argument --where: '100000000' is no address of 32 bits in hexadecimal digits")]
+        for address, status, told in rows:
+            words = [sys.executable, "-B", HERE, "--where", address, os.path.join(HERE, "runtime.asm")]
+            done = subprocess.run(words, stdout=subprocess.PIPE, stderr=subprocess.PIPE, check=False, text=True)
+            self.assertEqual((done.returncode, done.stdout), (status, ""))
+            self.assertEqual(done.stderr.splitlines()[-1], f"asm2sfi: error: {told}")
 
 
 class Frames(unittest.TestCase):
