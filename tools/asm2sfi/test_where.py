@@ -2,7 +2,8 @@
 """Tests of what asm2sfi says of an address, and of frames: `python3 tools/asm2sfi/test_where.py`.
 
 The addresses of the first tests are counted by the rules of docs/SOURCE.md. The last one follows real traps to their
-lines of C: what `sfi run` prints of a trap is compared with what bench/interpreter.c prints, which also has the pc."""
+lines of C: what `sfi run` prints of a trap is compared with what bench/interpreter.c prints, which also has the pc.
+Where a compiler isn't there its tests are skipped."""
 import os
 import re
 import shutil
@@ -174,6 +175,29 @@ class Frames(unittest.TestCase):
                 "\tli\ta0,-20480\n\tmv\ta0,a1\n\tadd\tsp,sp,a0\n", "\tli\ta0,20480\n\tadd\tsp,sp,a0\n"]
         for body in rows:
             self.assertEqual(refusals_of(body), [], body)
+
+
+@unittest.skipUnless(os.access(SFI, os.X_OK), f"{SFI} isn't built")
+@unittest.skipUnless(shutil.which(GCC), f"{GCC} isn't there")
+class Listing(unittest.TestCase):
+    """Each load and store that `sfi dis` lists is told as the same one of the program, at the same offset."""
+
+    @staticmethod
+    def output(*words, data=None):
+        return subprocess.run(words, input=data, stdout=subprocess.PIPE, check=True).stdout
+
+    def compare(self, image_format):
+        options = ["-g", "--format", image_format, os.path.join(TOP, "examples", "c", "json.c")]
+        listing = self.output(SFI, "dis", data=self.output(SFI_CC, "--program", SFI, *options)).decode()
+        rows = re.findall(r"^(\w{8}) \w+ ([ls][bhw]u?) \w+, (-?\d+)\(", listing, re.MULTILINE)
+        self.assertGreater(len(rows), 100)
+        told = self.output(SFI_CC, *(f"--where={row[0]}" for row in rows), *options).decode().splitlines()
+        for (address, word, offset), line in zip(rows, told):
+            self.assertRegex(line, rf"^{address}: .*: {word} \w+, {offset}\(")
+
+    def test_json(self):
+        for image_format in ("1", "2"):
+            self.compare(image_format)
 
 
 @unittest.skipUnless(os.access(SFI, os.X_OK), f"{SFI} isn't built")
