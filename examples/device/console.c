@@ -41,13 +41,17 @@ void finish(void) {
     end(FINISH_PASSED);
 }
 
+void fail(uint32_t status) {
+    end(status << 16 | FINISH_FAILED);
+}
+
 static const char *const refusal = "device: ";
 
 void refuse(const char *reason) {
     print(refusal);
     print(reason);
     print("\n");
-    end(2 << 16 | FINISH_FAILED);
+    fail(2);
 }
 
 void refuse_sandbox(uint32_t number, const char *reason) {
@@ -57,7 +61,7 @@ void refuse_sandbox(uint32_t number, const char *reason) {
     print(": ");
     print(reason);
     print("\n");
-    end(2 << 16 | FINISH_FAILED);
+    fail(2);
 }
 
 /* A trap of the host itself: start.S and switch.S come here. */
@@ -67,7 +71,7 @@ void host_fault(uint32_t cause, uint32_t pc) {
     print(" at ");
     print_hex(pc, 8);
     print("\n");
-    end(3 << 16 | FINISH_FAILED);
+    fail(3);
 }
 
 static void print_state(const struct sandbox *sandbox) {

@@ -63,6 +63,9 @@ struct world {
 void *memset(void *to, int byte, size_t length);
 void *memcpy(void *restrict to, const void *restrict from, size_t length);
 
+/* checker.c: judges the image, and comes back where it is accepted. unchecked.c: comes back */
+void check_image(const uint8_t *image, uint32_t length);
+
 /* image.c */
 uint32_t little_endian(const uint8_t *bytes);
 uint32_t read_image(const uint8_t *image, uint32_t length, struct sandbox sandboxes[]);
@@ -92,6 +95,7 @@ void print_hex(uint32_t number, unsigned digits);
 void print_decimal(uint64_t number);
 void print_sandbox(const struct world *world, uint32_t number);
 _Noreturn void finish(void);
+_Noreturn void fail(uint32_t status);
 _Noreturn void refuse(const char *reason);                      /* the image as a whole */
 _Noreturn void refuse_sandbox(uint32_t number, const char *reason);
 

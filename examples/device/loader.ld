@@ -14,6 +14,7 @@ SECTIONS {
         loader_memory = .;
         *(.bss .bss.* .sbss* COMMON)
         . = ALIGN(16);
+        stack_bottom = .;
         . += 16384;
         stack_top = .;
     }

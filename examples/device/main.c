@@ -15,6 +15,7 @@ uint32_t load(void) {
     world.arguments = (const struct arguments *)ARGUMENTS;
     world.input = (const uint8_t *)INPUT;
     const uint8_t *image = (const uint8_t *)IMAGE;
+    check_image(image, world.arguments->image_length);
     world.count = read_image(image, world.arguments->image_length, world.sandboxes);
     for (uint32_t number = 0; number < world.count; number++)
         map_sandbox(number, &world.sandboxes[number].part);

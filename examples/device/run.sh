@@ -11,6 +11,7 @@
 #                           its clock
 #     --written             prints the data bytes that are not as the image gave them
 #     --unchecked           sends an image that the checker refuses too
+#     --checker FILE        has the image judged on the device, by the checker that checker.sh made
 #     --seconds N           ends QEMU after so long; 60 if absent
 #
 # In the environment, SFI is the program sfi, ./sfi at the top if absent; RISCV the compiler that
@@ -21,7 +22,7 @@
 set -euo pipefail
 here=$(cd "$(dirname "${BASH_SOURCE[0]}")" && pwd)
 sfi=${SFI:-$here/../../sfi}
-rounds=10000 turn=10000 input='' steps=0 written=0 checked=1 seconds=60
+rounds=10000 turn=10000 input='' steps=0 written=0 checked=1 seconds=60 checker='' loader=loader
 room=$(mktemp -d)
 trap 'rm -rf "$room"' EXIT
 
@@ -64,6 +65,7 @@ while [ $# -gt 0 ]; do
     --steps) steps=1 ;;
     --written) written=1 ;;
     --unchecked) checked=0 ;;
+    --checker) checker=$(value "$@"); checked=0 loader=checked; shift ;;
     --help) sed -n '2,/^[^#]/ s/^# \{0,1\}//p' "${BASH_SOURCE[0]}" && exit 3 ;;
     *) fail 3 "there is no option $1; --help names them" ;;
     esac
@@ -82,12 +84,13 @@ if [ "$checked" = 1 ]; then
     "$sfi" check --raw <"$room/image" >"$room/verdict" ||
         { status=$? && cat "$room/verdict" && exit "$status"; }
 fi
-make -s -C "$here" >&2 ||
+[ $loader = loader ] || checker=$(realpath -eq "$checker") || fail 3 "--checker names no file"
+make -s -C "$here" CHECKER="$checker" >&2 ||
     fail 3 "the loader isn't built; RISCV=PATH names the compiler, gcc for RISC-V"
 
 # The addresses are those of machine.h, and the words those of struct arguments in host.h.
 options=(-M virt -m 256M -bios none -display none -monitor none -serial stdio)
-options+=(-kernel "$here/out/loader")
+options+=(-kernel "$here/out/$loader")
 address=$((0x87fff000))
 lengths=("$(stat -c %s "$room/image")" "$(stat -c %s "$room/input")")
 for word in "${lengths[@]}" "$rounds" $((turn * 10)) "$steps" "$written"; do

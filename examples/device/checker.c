@@ -1,0 +1,89 @@
+/* The proved checker in the loader: the library of crates/sfi_c as a WebAssembly module, which
+   checker.sh turned into C, and the few functions that such C asks for. For the module its memory
+   reaches from checker_memory to the image's end: it reads the image where load() takes it from. */
+#include "checker.h"
+
+#include "host.h"
+#include "sfi_wasm.h"
+
+struct checker_memory checker_memory __attribute__((aligned(16)));
+static Z_sfi_instance_t module;
+
+/* ---- For the C that wasm2c made */
+
+void wasm_rt_trap(wasm_rt_trap_t cause) {
+    (void)cause;
+    refuse("the checker stopped");
+}
+
+void wasm_rt_allocate_memory(wasm_rt_memory_t *memory, uint32_t pages, uint32_t most) {
+    (void)pages, (void)most; /* nothing grows it */
+    memory->data = checker_memory.stack;
+    memory->size = offsetof(struct checker_memory, verdict);
+}
+
+void wasm_rt_free_memory(wasm_rt_memory_t *memory) {
+    (void)memory;
+}
+
+/* The module calls no function by a table, so nobody asks for its types. */
+uint32_t wasm_rt_register_func_type(uint32_t parameters, uint32_t results, ...) {
+    return 0 * (parameters + results);
+}
+
+void *memmove(void *to, const void *from, size_t length) {
+    uint8_t *last = to;
+    const uint8_t *source = from;
+    if ((uintptr_t)to - (uintptr_t)from >= length)
+        return memcpy(to, from, length);
+    while (length-- > 0)
+        last[length] = source[length];
+    return to;
+}
+
+/* ---- For the loader */
+
+static uint32_t in_module(const void *place) {
+    return (uint32_t)place - (uint32_t)&checker_memory;
+}
+
+static const char *name_of_fault(uint32_t fault) {
+    static const char *const names[] = {
+        "none", "Magic", "Count", "Short", "Code", "Data", "GuardRoom", "Start", "Gates", "Init",
+        "Overlap", "Trailing"
+    };
+    return fault <= SFI_FAULT_TRAILING ? names[fault] : "unknown";
+}
+
+/* The lines and statuses of `sfi check`, after the loader's name. */
+_Noreturn static void refuse_image(const struct sfi_verdict *verdict) {
+    print("device: ");
+    if (verdict->status != SFI_REFUSED) {
+        print("layout fault ");
+        print_decimal(verdict->layout_fault);
+        print(" ");
+        print(name_of_fault(verdict->layout_fault));
+    } else {
+        print("refused findings=");
+        print_decimal(verdict->findings);
+        print(" first=V");
+        print_decimal(verdict->first.rule);
+        print(" sandbox=");
+        print_decimal(verdict->first.sandbox);
+        print(" at=");
+        print_hex(verdict->first.address, 8);
+    }
+    print("\n");
+    fail(verdict->status == SFI_REFUSED ? 1 : 2);
+}
+
+void check_image(const uint8_t *image, uint32_t length) {
+    struct sfi_verdict *verdict = &checker_memory.verdict;
+    Z_sfi_init_module();
+    Z_sfi_instantiate(&module);
+    if (*Z_sfiZ___heap_base(&module) > in_module(verdict))
+        refuse("there is no room for the checker");
+    Z_sfiZ_memory(&module)->size = in_module(image) + (uint64_t)length;
+    if (Z_sfiZ_sfi_c_check(&module, in_module(image), length, in_module(verdict)) != SFI_ACCEPTED)
+        refuse_image(verdict);
+}
