@@ -5,9 +5,9 @@
 #     examples/device/checker.sh LIBRARY FOLDER     # LIBRARY is libsfi_c.a for wasm64
 #
 # The linker of Rattle's toolchain makes a WebAssembly module of the library, wasm-opt takes it from
-# 64 to 32 bits, wasm2c turns it into C, and gcc compiles that. RATTLE is the toolchain's folder, that
-# of `rt doc` if absent; RISCV the compiler, riscv64-unknown-elf-gcc if absent; CHECKER_FLAGS are
-# further words for it. Ends in 3 where a tool isn't there.
+# 64 to 32 bits, wasm2c turns it into C, and gcc compiles that. In the environment, RATTLE is the
+# toolchain's folder, that of `rt doc` if absent; RISCV the compiler, riscv64-unknown-elf-gcc if
+# absent; CHECKER_FLAGS are further words for it. Ends in 3 where a tool or the library isn't there.
 set -euo pipefail
 here=$(cd "$(dirname "${BASH_SOURCE[0]}")" && pwd)
 riscv=${RISCV:-riscv64-unknown-elf-gcc}
@@ -17,33 +17,36 @@ fail() { # why
     exit 3
 }
 
-needs() { # a command, and the Debian package that has it
-    command -v "$1" >/dev/null || fail "$1 isn't there (Debian's package $2)"
+needs() { # a command, and where it comes from
+    [ -n "$(type -P "$1")" ] || fail "$1 isn't there ($2)"
 }
 
 [ $# = 2 ] || fail "takes a library and a folder: checker.sh LIBRARY FOLDER"
-needs wasm-opt binaryen
-needs wasm2c wabt
-needs "$riscv" gcc-riscv64-unknown-elf
-[[ $(wasm2c --version) = 1.0.32 ]] || fail "wasm2c isn't version 1.0.32, whose names checker.c uses"
-[ -f /usr/include/wasm-rt.h ] || fail "wasm-rt.h isn't there (Debian's package wabt)"
 [ -f "$1" ] || fail "there is no library $1"
-kit=${RATTLE:-$(dirname "$(rt doc)")}
-mkdir -p "$2"
+needs wasm-opt "Debian's package binaryen"
+needs wasm2c "Debian's package wabt"
+needs "$riscv" "Debian's package gcc-riscv64-unknown-elf"
+[ -n "${RATTLE:-}" ] || needs rt "Rattle's toolchain; RATTLE=FOLDER names it"
+[ "$(wasm2c --version)" = 1.0.32 ] || fail "wasm2c isn't version 1.0.32, whose names checker.c uses"
+[ -f /usr/include/wasm-rt.h ] || fail "/usr/include/wasm-rt.h isn't there (Debian's package wabt)"
+"$riscv" --specs=picolibc.specs -E -x c /dev/null -o /dev/null 2>/dev/null ||
+    fail "picolibc.specs isn't there (Debian's package picolibc-riscv64-unknown-elf)"
+toolchain=${RATTLE:-$(dirname "$(rt doc)")}
 library=$(realpath "$1")
+mkdir -p "$2"
 cd "$2"
 
 # 65536 is the least stack that the linker takes: MODULE_STACK of checker.h.
-"$kit/bin/rattle-link" --target wasm64-unknown-unknown --toolchain "$kit/toolchain" --stack 65536 \
-    -o sfi64.wasm "$library" 2>link.log || { cat link.log >&2 && fail "the library isn't linked"; }
+"$toolchain/bin/rattle-link" --target wasm64-unknown-unknown --toolchain "$toolchain/toolchain" \
+    --stack 65536 -o sfi64.wasm "$library" 2>link.log || { cat link.log >&2 && exit 1; }
 wasm-opt --all-features --memory64-lowering sfi64.wasm -o sfi32.wasm
 wasm2c sfi32.wasm -n sfi -o sfi_wasm.c
 
 # What wasm2c wrote wants headers of C: they are picolibc's. Nothing of a C library is linked.
 cp /usr/include/wasm-rt.h .
 machine=(-march=rv32imc -mabi=ilp32)
-flags=("${machine[@]}" --specs=picolibc.specs -std=c11 -Os -mcmodel=medany)
-flags+=(-msmall-data-limit=0 -ffreestanding -fno-builtin -DNDEBUG -DWASM_RT_USE_STACK_DEPTH_COUNT=0)
+flags=("${machine[@]}" --specs=picolibc.specs -std=c11 -Os -mcmodel=medany -msmall-data-limit=0)
+flags+=(-ffreestanding -fno-builtin -DNDEBUG -DWASM_RT_USE_STACK_DEPTH_COUNT=0)
 flags+=(-I. -I"$here/../../crates/sfi_c/include")
 # shellcheck disable=SC2206 # words
 flags+=(${CHECKER_FLAGS:-})

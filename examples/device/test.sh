@@ -2,7 +2,7 @@
 # Runs images natively on RV32 in QEMU, beside `sfi run`, and compares their lines: exit codes,
 # traps with their addresses, steps and output. Then it shows what the checker keeps from the host:
 # images that it refuses, and what they do all the same; and what the commands of docs/DEVICE.md
-# print.
+# print. test_checker.sh has the checker judge images on the device.
 #
 #     examples/device/test.sh [SFI]             # SFI is the program; ./sfi at the top if absent
 #     ALL=1 examples/device/test.sh [SFI]       # every input, more sizes of data, and turns by the
@@ -64,11 +64,13 @@ build() { # a source, a format; the image on one line
 # Turns of 10 ms are longer than most runs, those of 10 us some 10000 instructions: the clock of
 # --steps counts these. Where sandboxes wait for each other, their steps depend on how long turns
 # are, and only their states and output are compared.
+turns=(10000 10)
+by=() # further words for run.sh
 compare() { # what is tried, its image, input, `steps` or `no steps`
     local wanted turn found
     wanted=$("$SFI" run --rounds 10000 --quantum 1000000 --input "$3" <"$2")
-    for turn in 10000 10; do
-        found=$(./run.sh --steps --seconds "$seconds" --turn "$turn" --input "$3" <"$2")
+    for turn in "${turns[@]}"; do
+        found=$(./run.sh "${by[@]}" --steps --seconds "$seconds" --turn "$turn" --input "$3" <"$2")
         if [ "$4" = steps ]; then
             report "$1, turns of $turn us" "$wanted" "$found"
         else
@@ -77,7 +79,7 @@ compare() { # what is tried, its image, input, `steps` or `no steps`
         fi
     done
     [ -n "$all" ] || return
-    found=$(./run.sh --seconds "$seconds" --turn 10 --input "$3" <"$2")
+    found=$(./run.sh "${by[@]}" --seconds "$seconds" --turn 10 --input "$3" <"$2")
     report "$1, turns of 10 us by the real clock" "$(without_steps <<<"$wanted")" "$found"
 }
 
@@ -302,9 +304,12 @@ refused_by_loader "sandbox 14: there is room for 14 data regions below 4096 byte
 # ---- Attacks: refused, and what they do where nobody checks
 
 # Each has the gates exit at 01000000 and put at 01000010, and begins at 01000020.
+attacks=()
 attack() { # name, the verdict's rule and address, what is found unchecked; assembly on its input
     local found
     image 1 1 >"$room/image.hex" < <(sandbox 0x01000000 0x01800000 4096 "0 1" '')
+    cp "$room/image.hex" "$room/attack${#attacks[@]}.hex"
+    attacks+=("$1")
     found=$(./run.sh <"$room/image.hex"; echo "status $?")
     report "$1: checked" "refused findings=1 first=$2 sandbox=0 at=$3"$'\nstatus 1' "$found"
     found=$(./run.sh --unchecked --seconds 3 <"$room/image.hex" 2>"$room/log"; echo "status $?")
@@ -420,6 +425,10 @@ case $(riscv64-unknown-elf-gcc -dumpversion) in
 12.*) try_docs ;;
 *) skipped=$((skipped + 1)) && echo "skipped: the lines of docs: they are those of gcc 12" ;;
 esac
+
+# ---- The checker on the device
+
+source "$here/test_checker.sh"
 
 # ---- What run.sh refuses
 
