@@ -1,6 +1,6 @@
 #!/usr/bin/env bash
 # Makes FOLDER/checker.o: the proved checker for RV32, which Makefile links into the loader. It makes
-# measured.o too, which prints what an accepted image costs it (`run.sh --steps` counts right).
+# measured.o too, which prints what each image costs it (with `run.sh --steps`).
 #
 #     examples/device/checker.sh LIBRARY FOLDER     # LIBRARY is libsfi_c.a for wasm64
 #
@@ -55,5 +55,6 @@ warned=(-Wall -Wextra -Werror -I"$here")
 "$riscv" "${flags[@]}" "${warned[@]}" -c -o judge.o "$here/checker.c"
 "$riscv" "${flags[@]}" "${warned[@]}" -c -o measure.o "$here/measure.c"
 "$riscv" "${machine[@]}" -nostdlib -r -o checker.o judge.o sfi_wasm.o -lgcc
-riscv64-unknown-elf-objcopy --redefine-sym check_image=checker_check_image checker.o renamed.o
+riscv64-unknown-elf-objcopy --redefine-sym check_image=checker_check_image \
+    --redefine-sym fail=checker_fail checker.o renamed.o
 "$riscv" "${machine[@]}" -nostdlib -r -o measured.o measure.o renamed.o

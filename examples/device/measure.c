@@ -1,13 +1,17 @@
-/* Prints what check_image costs on an image that it accepts. In checker.sh's measured.o this stands
-   before the checker's, which is called checker_check_image there. */
+/* Prints what check_image costs. In checker.sh's measured.o this stands before the checker's, which is
+   called checker_check_image there; what that calls as it refuses an image is checker_fail. */
 #include "checker.h"
 
 #include "host.h"
 
 void checker_check_image(const uint8_t *image, uint32_t length);
+_Noreturn void checker_fail(uint32_t status);
 extern uint8_t stack_bottom[];
 
 enum { PAINT = 0xa5 };
+
+static uint8_t *stack_before;
+static uint32_t retired_before;
 
 static uint32_t retired(void) {
     uint32_t count;
@@ -21,25 +25,30 @@ static uint32_t used(const uint8_t *bottom, const uint8_t *top) {
     return top - bottom;
 }
 
-static void line(const char *what, uint32_t number) {
-    print(" ");
+static void item(const char *what, uint32_t number) {
     print(what);
-    print("=");
     print_decimal(number);
 }
 
-void check_image(const uint8_t *image, uint32_t length) {
-    uint8_t *here = __builtin_frame_address(0);
-    memset(stack_bottom, PAINT, here - 128 - stack_bottom);
-    memset(checker_memory.stack, PAINT, MODULE_STACK);
-    uint32_t before = retired();
-    checker_check_image(image, length);
-    uint32_t after = retired();
-    print("checker:");
-    line("bytes", length);
-    line("bundles", checker_memory.verdict.bundles);
-    line("instructions", after - before);
-    line("stack", used(stack_bottom, here));
-    line("module_stack", used(checker_memory.stack, checker_memory.stack + MODULE_STACK));
+static void print_cost(uint32_t instructions) {
+    const uint8_t *stack = checker_memory.stack;
+    item("checker: instructions=", instructions);
+    item(" stack=", used(stack_bottom, stack_before));
+    item(" module_stack=", used(stack, stack + MODULE_STACK));
     print("\n");
+}
+
+void check_image(const uint8_t *image, uint32_t length) {
+    stack_before = __builtin_frame_address(0);
+    memset(stack_bottom, PAINT, stack_before - 128 - stack_bottom); /* not this call's own frame */
+    memset(checker_memory.stack, PAINT, MODULE_STACK);
+    retired_before = retired();
+    checker_check_image(image, length);
+    print_cost(retired() - retired_before);
+}
+
+/* The line of the refusal is counted too. */
+void checker_fail(uint32_t status) {
+    print_cost(retired() - retired_before);
+    fail(status);
 }
