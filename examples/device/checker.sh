@@ -46,7 +46,7 @@ wasm2c sfi32.wasm -n sfi -o sfi_wasm.c
 cp /usr/include/wasm-rt.h .
 machine=(-march=rv32imc -mabi=ilp32)
 flags=("${machine[@]}" --specs=picolibc.specs -std=c11 -Os -mcmodel=medany -msmall-data-limit=0)
-flags+=(-ffreestanding -fno-builtin -DNDEBUG -DWASM_RT_USE_STACK_DEPTH_COUNT=0)
+flags+=(-ffreestanding -fno-builtin -ffunction-sections -DNDEBUG -DWASM_RT_USE_STACK_DEPTH_COUNT=0)
 flags+=(-I. -I"$here/../../crates/sfi_c/include")
 # shellcheck disable=SC2206 # words
 flags+=(${CHECKER_FLAGS:-})
@@ -54,7 +54,7 @@ warned=(-Wall -Wextra -Werror -I"$here")
 "$riscv" "${flags[@]}" -w -c -o sfi_wasm.o sfi_wasm.c
 "$riscv" "${flags[@]}" "${warned[@]}" -c -o judge.o "$here/checker.c"
 "$riscv" "${flags[@]}" "${warned[@]}" -c -o measure.o "$here/measure.c"
-"$riscv" "${machine[@]}" -nostdlib -r -o checker.o judge.o sfi_wasm.o -lgcc
+"$riscv" "${machine[@]}" -nostdlib -r -Wl,--gc-sections,-echeck_image -o checker.o judge.o sfi_wasm.o -lgcc
 riscv64-unknown-elf-objcopy --redefine-sym check_image=checker_check_image \
     --redefine-sym fail=checker_fail checker.o renamed.o
 "$riscv" "${machine[@]}" -nostdlib -r -o measured.o measure.o renamed.o
