@@ -1,5 +1,5 @@
-# The checker on the device, for test.sh, whose functions this uses. WASM_LIBRARY is the library for
-# wasm64; that of crates/sfi_c at the top if absent.
+# The checker on the device, for test.sh, whose functions this uses. WASM_LIBRARY is the absolute path
+# of the library for wasm64; that of crates/sfi_c at the top if absent.
 
 # Answers whether there is a checker to try; else it is skipped, or has failed.
 make_checker() {
