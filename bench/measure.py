@@ -28,6 +28,11 @@ def written(path, data):
     return path
 
 
+def contents(path):
+    with open(path, "rb") as file:
+        return file.read()
+
+
 def run(words, path):
     """What a program prints when it reads that file, and the seconds of processor time that it takes."""
     with open(path, "rb") as file:

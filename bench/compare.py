@@ -1,0 +1,119 @@
+#!/usr/bin/env python3
+"""Whether checker.c, the untrusted yardstick, says of images what `sfi check --raw` says, both by switches and by its class table.
+
+    bench/compare.py [--program PATH] [--images N] [--seed N]
+
+Compares the verdict's lines on the images of the examples in both formats, on the kinds of images.py, and on N small images (1000) with
+bits flipped, other numbers in their fronts, and odd code; on 20 N more of these both ways of the checker alone. Then on a large image of
+odd bundles in each format all findings, by `sfi check --report`. Prints how many were compared, and what differs; ends in 1 if any does.
+"""
+import argparse
+import collections
+import glob
+import os
+import struct
+import subprocess
+import sys
+import tempfile
+
+import images
+import measure
+import odd_images
+
+EXAMPLES = os.path.join(os.path.dirname(measure.HERE), "examples")
+
+
+def output(words, given=b""):
+    return subprocess.run(words, input=given, stdout=subprocess.PIPE, check=False).stdout.decode()
+
+
+def checkers_of(folder):
+    """By name, the checker in both ways."""
+    ways = {"switches": [], "class table": ["-DCLASS_TABLE"]}
+    return {name: measure.compiled("checker.c", os.path.join(folder, name), *options) for name, options in ways.items()}
+
+
+def verdicts_of(checker, folder, given):
+    """The lines of a checker on many images, by one process."""
+    path = measure.written(os.path.join(folder, "many"), b"".join(struct.pack("<I", len(data)) + data for data in given))
+    return output([checker, "--many", path]).splitlines()
+
+
+def built(program, text):
+    """A list of the image, where it can be built."""
+    done = subprocess.run([program, "build"], input=text, stdout=subprocess.PIPE, check=False)
+    return [bytes.fromhex(done.stdout.decode())] if done.returncode == 0 else []
+
+
+def example_images(program):
+    """The examples' images, those of the C programs too; each source in both formats."""
+    made = [bytes.fromhex(measure.contents(path).decode()) for path in glob.glob(os.path.join(EXAMPLES, "*.hex"))]
+    for path in sorted(glob.glob(os.path.join(EXAMPLES, "**", "*.s"), recursive=True)):
+        text = measure.contents(path).replace(b".format 2\n", b"")
+        made += built(program, text) + built(program, b".format 2\n" + text)
+    return made
+
+
+def sort_of(line):
+    """Of a verdict's line what it says but for the numbers and places."""
+    words = line.split()
+    return words[0] if words[0] == "accepted" else words[2].split("=")[1] if words[0] == "refused" else words[-1]
+
+
+def differences(what, expected, got, given=None):
+    """Prints what differs, the first few whole, and how much; answers the count."""
+    wrong = [k for k in range(max(len(expected), len(got))) if expected[k : k + 1] != got[k : k + 1]]
+    for k in wrong[:5]:
+        print(f"  {what}, {k}: {expected[k : k + 1]} and {got[k : k + 1]}", given[k].hex() if given and len(given[k]) < 2000 else "")
+    print(f"{what}: {len(expected)} compared, {len(wrong)} differ", flush=True)
+    return len(wrong)
+
+
+def compare_verdicts(what, program, checkers, folder, given):
+    expected = [output([program, "check", "--raw"], data).rstrip("\n") for data in given]
+    sorts = collections.Counter(sort_of(line) for line in expected)
+    wrong = [differences(f"{what}, {name}", expected, verdicts_of(path, folder, given), given) for name, path in checkers.items()]
+    print(f"  of these {dict(sorts.most_common())}")
+    return sum(wrong)
+
+
+def compare_ways(checkers, folder, given):
+    first, second = (verdicts_of(path, folder, given) for path in checkers.values())
+    return differences("small images, switches and class table", first, second, given)
+
+
+def compare_findings(format, program, checkers, folder, seed):
+    """All findings of one large image, and its verdict."""
+    data = odd_images.odd_image(seed, 16, 65536, format)
+    path = measure.written(os.path.join(folder, "large"), data)
+    lines = output([program, "check", "--report"], data.hex().encode()).splitlines()
+    expected = [" ".join(line.split()[:3]) for line in lines[:-1]] + lines[-1:]
+    wrong = [differences(f"findings, format {format}, {name}", expected, output([checker, "--list", path]).splitlines())
+             for name, checker in checkers.items()]
+    print(f"  of these {dict(sorted(collections.Counter(line.split()[2] for line in expected[:-1]).items()))}")
+    return sum(wrong)
+
+
+def main():
+    parser = argparse.ArgumentParser()
+    parser.add_argument("--program", default=measure.PROGRAM)
+    parser.add_argument("--images", type=int, default=1000)
+    parser.add_argument("--seed", type=int, default=0)
+    options = parser.parse_args()
+    program, begin = measure.program_at(options.program), options.seed
+    end = begin + options.images
+    with tempfile.TemporaryDirectory() as folder:
+        checkers = checkers_of(folder)
+        kinds = [images.image(kind, format=format) for kind in images.KINDS for format in (1, 2)]
+        wrong = compare_verdicts("examples", program, checkers, folder, example_images(program))
+        wrong += compare_verdicts("kinds", program, checkers, folder, kinds)
+        small = [odd_images.small_image(seed) for seed in range(begin, end)]
+        wrong += compare_verdicts("small images", program, checkers, folder, small)
+        more = [odd_images.small_image(seed) for seed in range(end, end + 20 * options.images)]
+        wrong += compare_ways(checkers, folder, more)
+        wrong += sum(compare_findings(format, program, checkers, folder, begin) for format in (1, 2))
+    sys.exit(1 if wrong else 0)
+
+
+if __name__ == "__main__":
+    main()
