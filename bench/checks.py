@@ -5,8 +5,8 @@
 
 Makes an image of 16 sandboxes with 64 KiB of accepted code each, of each kind of images.py. It prints megabytes (10^6) of image a
 second, by the medians of N alternated runs, and x86 instructions for a bundle. Beside `check`, and `check --raw` in both formats,
-stands one linear pass over the same text (pass.c); and, with --checker, a checker of the first format in one C file, which is no
-part of this repository: as it is, and with -DFAST. Then it prints the peak of resident memory over larger and larger images.
+stand one linear pass over the same text (pass.c), and checker.c (FILE is another checker in C, which takes the same words) on the same
+bytes, in both its ways and both formats. Then it prints the peak of resident memory over larger and larger images.
 """
 import argparse
 import os
@@ -24,9 +24,9 @@ def commands_of(program, folder, checker):
         "the same, second format": ([program, "check", "--raw"], "second"),
         "linear pass": ([measure.compiled("pass.c", os.path.join(folder, "pass"))], "text"),
     }
-    for name, options in [("C, switches", []), ("C, class table", ["-DFAST"])] if checker else []:
-        built = measure.compiled(os.path.abspath(checker), os.path.join(folder, name), "-w", *options)
+    for name, built in measure.checkers(checker, folder).items():
         commands[name] = ([built, os.path.join(folder, "raw")], "raw")
+        commands[name + ", second format"] = ([built, os.path.join(folder, "second")], "second")
     return {name: (words, os.path.join(folder, form)) for name, (words, form) in commands.items()}
 
 
@@ -79,7 +79,7 @@ def main():
     parser = argparse.ArgumentParser()
     parser.add_argument("--program", default=measure.PROGRAM)
     parser.add_argument("--rounds", type=int, default=15)
-    parser.add_argument("--checker")
+    parser.add_argument("--checker", default="checker.c")
     options = parser.parse_args()
     with tempfile.TemporaryDirectory() as folder:
         commands = commands_of(measure.program_at(options.program), folder, options.checker)

@@ -27,12 +27,6 @@ def output(words, given=b""):
     return subprocess.run(words, input=given, stdout=subprocess.PIPE, check=False).stdout.decode()
 
 
-def checkers_of(folder):
-    """By name, the checker in both ways."""
-    ways = {"switches": [], "class table": ["-DCLASS_TABLE"]}
-    return {name: measure.compiled("checker.c", os.path.join(folder, name), *options) for name, options in ways.items()}
-
-
 def verdicts_of(checker, folder, given):
     """The lines of a checker on many images, by one process."""
     path = measure.written(os.path.join(folder, "many"), b"".join(struct.pack("<I", len(data)) + data for data in given))
@@ -103,7 +97,7 @@ def main():
     program, begin = measure.program_at(options.program), options.seed
     end = begin + options.images
     with tempfile.TemporaryDirectory() as folder:
-        checkers = checkers_of(folder)
+        checkers = measure.checkers("checker.c", folder)
         kinds = [images.image(kind, format=format) for kind in images.KINDS for format in (1, 2)]
         wrong = compare_verdicts("examples", program, checkers, folder, example_images(program))
         wrong += compare_verdicts("kinds", program, checkers, folder, kinds)

@@ -21,6 +21,13 @@ def compiled(source, target, *options):
     return target
 
 
+def checkers(source, folder):
+    """By name, the paths of a checker in C, in both of its ways to classify instructions."""
+    ways = {"C, switches": [], "C, class table": ["-DCLASS_TABLE"]}
+    path = os.path.join(HERE, "checker.c") if source == "checker.c" else os.path.abspath(source)
+    return {name: compiled(path, os.path.join(folder, name), *options) for name, options in ways.items()}
+
+
 def written(path, data):
     """The path of a new file with these bytes."""
     with open(path, "wb") as file:

@@ -6,8 +6,8 @@ import images
 
 STUB = bytes.fromhex("73000000b3ff9001b3ef8f0167800f00")
 REGISTERS = [0, 1, 2, 2, 8, 9, 10, 24, 25, 26, 27, 31]
-NUMBERS = [0, 1, 2, 4, 15, 16, 17, 64, 65, 255, 256, 257, 4095, 4096, 65536, 131072, 1048576, 2097152, 0x1000000, 0x1001000, 0x1002000, 0x1800000,
-           0x7FFFFFFF, 0x80000000, 0xFFFFE000, 0xFFFFEF00, 0xFFFFFF00, 0xFFFFFFFF]
+NUMBERS = [0, 1, 2, 4, 15, 16, 17, 64, 65, 255, 256, 257, 4095, 4096, 65536, 131072, 1048576, 2097152, 0x1000000, 0x1001000, 0x1002000,
+           0x1800000, 0x7FFFFFFF, 0x80000000, 0xFFFFE000, 0xFFFFEF00, 0xFFFFFF00, 0xFFFFFFFF]
 OPCODES = [0x37, 0x17, 0x6F, 0x67, 0x63, 0x03, 0x23, 0x13, 0x33, 0x0F, 0x73, 0x1F]
 
 
@@ -31,7 +31,8 @@ class Pieces:
     def pair(self):
         """A data or code pair, rightly or nearly, and mostly what it is for."""
         target, is_data = self.register(), self.pick.random() < 0.5
-        right = images.r_word(0, 27 if is_data else 25, self.register(), 7, target) + images.r_word(0, 26 if is_data else 24, target, 6, target)
+        mask, base = (27, 26) if is_data else (25, 24)
+        right = images.r_word(0, mask, self.register(), 7, target) + images.r_word(0, base, target, 6, target)
         near = self.mask(target) + self.base(target)
         use = self.access(target) if self.pick.random() < 0.6 else self.jump(target)
         return self.pick.choice([right, right, right, near]) + (use if self.pick.random() < 0.8 else b"")
@@ -40,8 +41,9 @@ class Pieces:
         """What puts x2 back, before it mostly something that writes x2."""
         word = images.i_word(self.pick.randrange(4096), 2, self.pick.choice([0, 2]), 2, self.pick.choice([0x13, 0x03, 0x67, 0x0F]))
         before = self.pick.choice([b"", word, word, struct.pack("<H", 0x1141), struct.pack("<H", 0x4112)])
-        pair = images.r_word(0, self.pick.choice([27, 27, 25]), self.register(), 7, 2) + images.r_word(0, self.pick.choice([26, 26, 24]), 2, 6, 2)
-        return before + (pair if self.pick.random() < 0.8 else pair[: 4])
+        mask = images.r_word(0, self.pick.choice([27, 27, 25]), self.register(), 7, 2)
+        base = images.r_word(0, self.pick.choice([26, 26, 24]), 2, 6, 2)
+        return before + mask + (base if self.pick.random() < 0.8 else b"")
 
     def access(self, base=None):
         word = self.pick.getrandbits(32) & ~(31 << 15) & ~127 | self.pick.choice([0x03, 0x23])
@@ -65,7 +67,8 @@ class Pieces:
             return struct.pack("<H", self.pick.getrandbits(13) & ~3 | self.pick.choice([0x2001, 0xA001, 0xC001, 0xE001]))
         if self.pick.random() < 0.5:
             return struct.pack("<I", (self.pick.randrange(64) << 21) | self.register() << 7 | 0x6F)
-        return struct.pack("<I", self.pick.randrange(32) << 7 | self.pick.choice([0, 0, 4, 2]) << 12 | self.pick.choice([0, 127, 1]) << 25 | 0x63)
+        branch = self.pick.choice([0, 0, 4, 2]) << 12 | self.pick.choice([0, 127, 1]) << 25 | 0x63
+        return struct.pack("<I", self.pick.randrange(32) << 7 | branch)
 
     def any_word(self):
         word = self.pick.getrandbits(32) & ~127 | self.pick.choice(OPCODES)

@@ -4,9 +4,10 @@ program, reading, and text.
 
     bench/scans.py [--rounds N] [--checker FILE] [--module FILE]
 
-Prints, for each kind of images.py and both formats, megabytes (10^6) of image a second, by the medians of N alternated runs, and x86
-instructions for a bundle. With --checker, a checker of the first format in one C file, which is no part of this repository, is
-measured on the same bytes: as it is, and with -DFAST. With --module, so is the WebAssembly module in node, without instructions.
+Prints, for each kind of images.py and both formats, x86 instructions for a bundle and megabytes (10^6) of image a second, by the
+medians of N alternated runs: of the library, and beside it of checker.c on the same bytes, by switches and by its class table (FILE is
+another checker in C, which takes the same words). With --module, so is the WebAssembly module in node, without instructions. Then it
+prints what the checkers take as ratios to the library: above 1 the library is faster, or takes fewer instructions.
 The library is built by (cd crates/sfi_c && rt lib), the module by tools/build_library.py.
 """
 import argparse
@@ -20,7 +21,7 @@ import measure
 
 LIBRARY = os.path.join(os.path.dirname(measure.HERE), "crates", "sfi_c")
 REPEATS = 10
-GROUPS = 5  # the best of so many is printed, by scan.c and by the checker
+GROUPS = 5  # the best of so many is printed, by scan.c and by checker.c
 BUNDLES = 65536
 
 
@@ -32,19 +33,17 @@ def node_with(path, image):
 
 
 def commands_of(folder, checker, module):
-    """By name, the words of a command but for the repeats."""
-    first, second = (os.path.join(folder, name) for name in ("first", "second"))
+    """By name and format, the words of a command but for the repeats."""
     options = ["-I" + os.path.join(LIBRARY, "include")]
     library = os.path.join(LIBRARY, "out", "libsfi_c.a")
     scan = os.path.join(folder, "scan")
     subprocess.run(["gcc", "-O2", *options, os.path.join(measure.HERE, "scan.c"), library, "-o", scan], check=True)
-    commands = {"first format": [scan, first], "second format": [scan, second]}
-    for name, options in [("C, switches", []), ("C, class table", ["-DFAST"])] if checker else []:
-        built = measure.compiled(os.path.abspath(checker), os.path.join(folder, name), "-w", *options)
-        commands[name] = [built, "--bench", first, "1"]
-    for name, image in [("first format, node", first), ("second format, node", second)] if module else []:
-        commands[name] = node_with(module, image)
-    return commands
+    programs = {"library": [scan]}
+    for name, path in measure.checkers(checker, folder).items():
+        programs[name] = [path, "--bench"]
+    images_at = {n: os.path.join(folder, str(n)) for n in (1, 2)}
+    commands = {(name, n): [*words, path] for n, path in images_at.items() for name, words in programs.items()}
+    return commands | {("node", n): node_with(module, path) for n, path in images_at.items() if module}
 
 
 def speed(words):
@@ -54,29 +53,52 @@ def speed(words):
 def instructions(words):
     """For a bundle, where valgrind can count them."""
     if words[0] == "node":
-        return ""
+        return None
     twice, once = (measure.instructions([*words, repeats], os.devnull) for repeats in ("2", "1"))
-    return f", {(twice - once) / GROUPS / BUNDLES:.0f}"
+    return (twice - once) / GROUPS / BUNDLES
+
+
+def median_speeds(commands, rounds):
+    speeds = {key: [] for key in commands}
+    for _ in range(rounds):
+        for key, words in commands.items():
+            speeds[key].append(speed(words))
+    return {key: sorted(taken)[rounds // 2] for key, taken in speeds.items()}
+
+
+def rows_of(kind, commands, rounds):
+    """For each command, its cell, and its ratios to the library of the same format."""
+    counts = {key: instructions(words) for key, words in commands.items()}
+    speeds = median_speeds(commands, rounds)
+    cells, ratios = [kind], [kind]
+    for (name, n), speed_here in speeds.items():
+        count = counts[name, n]
+        cells.append((f"{count:.0f}, " if count else "") + f"{speed_here:.0f} MB/s")
+        if name != "library":
+            fewer = f"{count / counts['library', n]:.2f}, " if count else ""
+            ratios.append(fewer + f"{speeds['library', n] / speed_here:.2f}")
+    return cells, ratios
 
 
 def main():
     parser = argparse.ArgumentParser()
     parser.add_argument("--rounds", type=int, default=9)
-    parser.add_argument("--checker")
+    parser.add_argument("--checker", default="checker.c")
     parser.add_argument("--module")
     options = parser.parse_args()
+    all_ratios = []
     with tempfile.TemporaryDirectory() as folder:
         commands = commands_of(folder, options.checker, options.module)
-        print("| image |", " | ".join(commands), "|")
+        print("| image |", " | ".join(f"{name}, format {n}" for name, n in commands), "|")
         for kind in images.KINDS:
-            measure.written(os.path.join(folder, "first"), images.image(kind))
-            measure.written(os.path.join(folder, "second"), images.image(kind, format=2))
-            speeds = {name: [] for name in commands}
-            for _ in range(options.rounds):
-                for name, words in commands.items():
-                    speeds[name].append(speed(words))
-            cells = [f"{sorted(speeds[name])[options.rounds // 2]:.0f}{instructions(words)}" for name, words in commands.items()]
-            print("|", " | ".join([kind, *cells]), "|", flush=True)
+            for n in (1, 2):
+                measure.written(os.path.join(folder, str(n)), images.image(kind, format=n))
+            cells, ratios = rows_of(kind, commands, options.rounds)
+            all_ratios.append(ratios)
+            print("|", " | ".join(cells), "|", flush=True)
+    print("| ratio |", " | ".join(f"{name}, format {n}" for name, n in commands if name != "library"), "|")
+    for ratios in all_ratios:
+        print("|", " | ".join(ratios), "|")
 
 
 if __name__ == "__main__":
