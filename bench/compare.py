@@ -4,13 +4,15 @@
     bench/compare.py [--program PATH] [--images N] [--seed N]
 
 Compares the verdict's lines on the images of the examples in both formats, on the kinds of images.py, and on N small images (1000) with
-bits flipped, other numbers in their fronts, and odd code; on 20 N more of these both ways of the checker alone. Then on a large image of
-odd bundles in each format all findings, by `sfi check --report`. Prints how many were compared, and what differs; ends in 1 if any does.
+bits flipped, other numbers in their fronts, and odd code (odd_images.py); on 20 N more of these both ways of the checker alone. Then on
+a large image of odd bundles in each format all findings, by `sfi check --report`. Prints how many were compared and what differs, and
+in its last line `N passed, M failed`, in which a comparison with a difference has failed. It wants gcc.
 """
 import argparse
 import collections
 import glob
 import os
+import shutil
 import struct
 import subprocess
 import sys
@@ -54,26 +56,25 @@ def sort_of(line):
     return words[0] if words[0] == "accepted" else words[2].split("=")[1] if words[0] == "refused" else words[-1]
 
 
-def differences(what, expected, got, given=None):
-    """Prints what differs, the first few whole, and how much; answers the count."""
+def is_same(what, expected, got, given=None):
+    """Whether there are lines, and they are the same; prints the first few that differ, with the bytes of small images, and the counts."""
     wrong = [k for k in range(max(len(expected), len(got))) if expected[k : k + 1] != got[k : k + 1]]
     for k in wrong[:5]:
-        print(f"  {what}, {k}: {expected[k : k + 1]} and {got[k : k + 1]}", given[k].hex() if given and len(given[k]) < 2000 else "")
+        shown = given[k].hex() if given and len(given[k]) < 2000 else ""
+        print(f"  {what}, {k}: {expected[k : k + 1]} and {got[k : k + 1]}", shown)
     print(f"{what}: {len(expected)} compared, {len(wrong)} differ", flush=True)
-    return len(wrong)
+    return bool(expected) and not wrong
 
 
 def compare_verdicts(what, program, checkers, folder, given):
     expected = [output([program, "check", "--raw"], data).rstrip("\n") for data in given]
-    sorts = collections.Counter(sort_of(line) for line in expected)
-    wrong = [differences(f"{what}, {name}", expected, verdicts_of(path, folder, given), given) for name, path in checkers.items()]
-    print(f"  of these {dict(sorts.most_common())}")
-    return sum(wrong)
+    print(f"{what}: {dict(collections.Counter(sort_of(line) for line in expected).most_common())}")
+    return [is_same(f"{what}, {name}", expected, verdicts_of(path, folder, given), given) for name, path in checkers.items()]
 
 
 def compare_ways(checkers, folder, given):
     first, second = (verdicts_of(path, folder, given) for path in checkers.values())
-    return differences("small images, switches and class table", first, second, given)
+    return is_same("more small images, switches and class table", first, second, given)
 
 
 def compare_findings(format, program, checkers, folder, seed):
@@ -82,10 +83,23 @@ def compare_findings(format, program, checkers, folder, seed):
     path = measure.written(os.path.join(folder, "large"), data)
     lines = output([program, "check", "--report"], data.hex().encode()).splitlines()
     expected = [" ".join(line.split()[:3]) for line in lines[:-1]] + lines[-1:]
-    wrong = [differences(f"findings, format {format}, {name}", expected, output([checker, "--list", path]).splitlines())
-             for name, checker in checkers.items()]
-    print(f"  of these {dict(sorted(collections.Counter(line.split()[2] for line in expected[:-1]).items()))}")
-    return sum(wrong)
+    what = f"findings, format {format}"
+    print(f"{what}: {dict(collections.Counter(line.split()[2] for line in expected[:-1]).most_common())}")
+    return [is_same(f"{what}, {name}", expected, output([way, "--list", path]).splitlines()) for name, way in checkers.items()]
+
+
+def comparisons(program, folder, seeds, more_seeds):
+    """Of each comparison, whether nothing differs."""
+    checkers = measure.checkers("checker.c", folder)
+    kinds = [images.image(kind, format=format) for kind in images.KINDS for format in (1, 2)]
+    small, more = ([odd_images.small_image(seed) for seed in some] for some in (seeds, more_seeds))
+    same = compare_verdicts("examples", program, checkers, folder, example_images(program))
+    same += compare_verdicts("kinds", program, checkers, folder, kinds)
+    same += compare_verdicts("small images", program, checkers, folder, small)
+    same.append(compare_ways(checkers, folder, more))
+    for format in (1, 2):
+        same += compare_findings(format, program, checkers, folder, seeds.start)
+    return same
 
 
 def main():
@@ -94,19 +108,15 @@ def main():
     parser.add_argument("--images", type=int, default=1000)
     parser.add_argument("--seed", type=int, default=0)
     options = parser.parse_args()
-    program, begin = measure.program_at(options.program), options.seed
-    end = begin + options.images
+    program = measure.program_at(options.program)
+    if not shutil.which("gcc"):
+        print("skipped: the checker in C beside the program: gcc isn't there\n0 passed, 0 failed, 1 skipped")
+        return
+    end = options.seed + options.images
     with tempfile.TemporaryDirectory() as folder:
-        checkers = measure.checkers("checker.c", folder)
-        kinds = [images.image(kind, format=format) for kind in images.KINDS for format in (1, 2)]
-        wrong = compare_verdicts("examples", program, checkers, folder, example_images(program))
-        wrong += compare_verdicts("kinds", program, checkers, folder, kinds)
-        small = [odd_images.small_image(seed) for seed in range(begin, end)]
-        wrong += compare_verdicts("small images", program, checkers, folder, small)
-        more = [odd_images.small_image(seed) for seed in range(end, end + 20 * options.images)]
-        wrong += compare_ways(checkers, folder, more)
-        wrong += sum(compare_findings(format, program, checkers, folder, begin) for format in (1, 2))
-    sys.exit(1 if wrong else 0)
+        same = comparisons(program, folder, range(options.seed, end), range(end, end + 20 * options.images))
+    print(f"{same.count(True)} passed, {same.count(False)} failed")
+    sys.exit(0 if all(same) else 1)
 
 
 if __name__ == "__main__":
