@@ -67,6 +67,15 @@ def instructions(words, path):
     return int(re.search(rb"Collected : (\d+)", done.stderr).group(1))
 
 
+def instructions_and_misses(words, path):
+    """The same, and how many branches its simple model of a processor guesses wrong, by a condition or to a place in a register."""
+    tool = ["valgrind", "--tool=callgrind", "--branch-sim=yes", "--callgrind-out-file=/dev/null"]
+    with open(path, "rb") as file:
+        done = subprocess.run(tool + words, stdin=file, stdout=subprocess.DEVNULL, stderr=subprocess.PIPE, check=False)
+    executed, _, conditional, _, indirect = re.search(rb"Collected : (\d+) (\d+) (\d+) (\d+) (\d+)", done.stderr).groups()
+    return int(executed), int(conditional) + int(indirect)
+
+
 def peak(words, path):
     """The most KiB of memory that a program has resident when it reads that file, by GNU time: Python's own would be counted in its child's."""
     with open(path, "rb") as file:

@@ -4,10 +4,11 @@ program, reading, and text.
 
     bench/scans.py [--rounds N] [--checker FILE] [--module FILE]
 
-Prints, for each kind of images.py and both formats, x86 instructions for a bundle and megabytes (10^6) of image a second, by the
-medians of N alternated runs: of the library, and beside it of checker.c on the same bytes, by switches and by its class table (FILE is
-another checker in C, which takes the same words). With --module, so is the WebAssembly module in node, without instructions. Then it
-prints what the checkers take as ratios to the library: above 1 the library is faster, or takes fewer instructions.
+Prints, for each kind of images.py and both formats, x86 instructions for a bundle, branches for a bundle that callgrind's model guesses
+wrong, and megabytes (10^6) of image a second, by the medians of N alternated runs: of the library, and beside it of checker.c on the
+same bytes, by switches and by its class table (FILE is another checker in C, which takes the same words). With --module, so is the
+WebAssembly module in node, by its speed alone. Then it prints, for each of these, its instructions by those of the library, and the
+library's speed by its speed: above 1 the library is ahead.
 The library is built by (cd crates/sfi_c && rt lib), the module by tools/build_library.py.
 """
 import argparse
@@ -50,12 +51,12 @@ def speed(words):
     return float(re.search(r"([\d.]+) MB/s", measure.run([*words, str(REPEATS)], os.devnull)[0]).group(1))
 
 
-def instructions(words):
-    """For a bundle, where valgrind can count them."""
+def counts_of(words):
+    """For a bundle, the instructions and the branches guessed wrong, where valgrind can count them."""
     if words[0] == "node":
         return None
-    twice, once = (measure.instructions([*words, repeats], os.devnull) for repeats in ("2", "1"))
-    return (twice - once) / GROUPS / BUNDLES
+    twice, once = (measure.instructions_and_misses([*words, repeats], os.devnull) for repeats in ("2", "1"))
+    return [(more - less) / GROUPS / BUNDLES for more, less in zip(twice, once)]
 
 
 def median_speeds(commands, rounds):
@@ -68,14 +69,14 @@ def median_speeds(commands, rounds):
 
 def rows_of(kind, commands, rounds):
     """For each command, its cell, and its ratios to the library of the same format."""
-    counts = {key: instructions(words) for key, words in commands.items()}
+    counts = {key: counts_of(words) for key, words in commands.items()}
     speeds = median_speeds(commands, rounds)
     cells, ratios = [kind], [kind]
     for (name, n), speed_here in speeds.items():
         count = counts[name, n]
-        cells.append((f"{count:.0f}, " if count else "") + f"{speed_here:.0f} MB/s")
+        cells.append(("{:.0f}, {:.1f}, ".format(*count) if count else "") + f"{speed_here:.0f} MB/s")
         if name != "library":
-            fewer = f"{count / counts['library', n]:.2f}, " if count else ""
+            fewer = f"{count[0] / counts['library', n][0]:.2f}, " if count else ""
             ratios.append(fewer + f"{speeds['library', n] / speed_here:.2f}")
     return cells, ratios
 
