@@ -16,6 +16,7 @@ class Pieces:
 
     def __init__(self, pick):
         self.pick = pick
+        self.rest = b""  # what the last bundle had no room for
         self.makers = [self.pair, self.pair, self.stack_pair, self.access, self.short_access, self.jump, self.target, self.any_word,
                        self.any_word, self.any_half, self.any_half, self.system, self.free]
 
@@ -40,7 +41,8 @@ class Pieces:
     def stack_pair(self):
         """What puts x2 back, before it mostly something that writes x2."""
         word = images.i_word(self.pick.randrange(4096), 2, self.pick.choice([0, 2]), 2, self.pick.choice([0x13, 0x03, 0x67, 0x0F]))
-        before = self.pick.choice([b"", word, word, struct.pack("<H", 0x1141), struct.pack("<H", 0x4112)])
+        jal = struct.pack("<I", self.pick.choice([12, 14, 16]) << 20 | 2 << 7 | 0x6F)
+        before = self.pick.choice([b"", word, word, jal, struct.pack("<H", 0x1141), struct.pack("<H", 0x4112)])
         mask = images.r_word(0, self.pick.choice([27, 27, 25]), self.register(), 7, 2)
         base = images.r_word(0, self.pick.choice([26, 26, 24]), 2, 6, 2)
         return before + mask + (base if self.pick.random() < 0.8 else b"")
@@ -85,10 +87,19 @@ class Pieces:
         return self.pick.choice([struct.pack("<H", 0x0001), struct.pack("<I", 0x13)])
 
     def bundle(self):
-        made = b""
+        """Pieces until it is full; it may begin with what the one before had no room for."""
+        made = self.rest if self.pick.random() < 0.5 else b""
         while len(made) < 16:
             made += self.pick.choice(self.makers)()
+        self.rest = made[16:]
         return made[:16]
+
+    def last_bundle(self):
+        """Mostly clean up to its end: a jump to its own start by a short form or a word, ebreak, or what no region may end in."""
+        ends = [struct.pack("<H", half) for half in (0x9002, 0xBFCD, 0x3FCD, 0x8082, 0x0001, 0xF86D)]
+        ends += [struct.pack("<I", word) for word in (0xFF5FF06F, 0x00100073, 0x73, 0x13, 0xFE000AE3, 0x00008067)]
+        end = self.pick.choice(ends)
+        return b"\x01\0" * (8 - len(end) // 2) + end
 
 
 def flipped(pick, data, most):
@@ -115,6 +126,8 @@ def sandbox(pick, number, size, format, bundle_at):
     base = 0x01000000 * (number + 1)
     gates = sorted(pick.sample(range(0, size, 16), pick.choice([0, 0, 1, 3])))
     bundles = [bundle_at(place) for place in range(0, size, 16)]
+    if pick.random() < 0.5:
+        bundles[-1] = Pieces(pick).last_bundle()
     for place in gates:
         bundles[place // 16] = pick.choice([STUB, STUB, STUB, flipped(pick, STUB, 1)])
     init = pick.choice([0, 0, 5])
@@ -142,14 +155,22 @@ def with_number(pick, data):
     return data[:at] + struct.pack("<I", pick.choice(NUMBERS)) + data[at + 4 :]
 
 
+def with_data_near(pick, data):
+    """The same with the first sandbox's data, of 256 bytes, near the code of the first or second one, where guard zones may meet it."""
+    code, apart = pick.choice([0x1000000, 0x2000000]), pick.choice([256, 4096 - 256, 4096, 4096 + 256, 4096 + 512])
+    return data[:16] + struct.pack("<2I", pick.choice([code + apart, code - apart]), 256) + data[24:]
+
+
 def small_image(seed):
     """One image of few bundles: odd code, or accepted code with bits flipped, another number in its front, cut short, or made longer."""
     pick = random.Random(seed)
     format, choice = pick.choice([1, 2]), pick.random()
     if choice < 0.25:
         return odd_image(seed, pick.choice([1, 2]), 256, format)
-    if choice < 0.3:
+    if choice < 0.28:
         return pick.randbytes(pick.randrange(300))
+    if choice < 0.35:
+        return with_data_near(pick, odd_image(seed, 2, 256, format))
     data = accepted_image(pick, seed, format) if choice < 0.8 else odd_image(seed, 2, 256, format)
     if choice < 0.6:
         return flipped(pick, data, 3)
