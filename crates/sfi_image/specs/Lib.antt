@@ -14,6 +14,7 @@ pub mod Outcome
 pub mod Fronts
 pub mod Keeping
 pub mod Reader
+pub mod ReaderParts
 pub mod Sources
 pub mod Reading
 pub mod private

@@ -13,13 +13,21 @@ use sfi_policy::{BUNDLE_SIZE, DATA_MOST, Format, GATES_MOST, REGION_LEAST};
 /// The seven numbers at the head of a sandbox, and its image's format.
 #[derive(Clone, Copy)]
 pub struct Fields {
+    /// The image's format.
     pub format: Format,
+    /// The first address of the code region.
     pub code_base: u32,
+    /// The size of the code region in bytes.
     pub code_size: u32,
+    /// The first address of the data region.
     pub data_base: u32,
+    /// The size of the data region in bytes.
     pub data_size: u32,
+    /// The address at which the sandbox starts.
     pub start: u32,
+    /// How many gates are listed.
     pub gate_count: u32,
+    /// How many first data bytes there are.
     pub init_len: u32,
 }
 

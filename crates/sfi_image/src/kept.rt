@@ -7,7 +7,8 @@ use crate::span::Span;
 use sfi_policy::{GATE_COUNT_MOST, SANDBOX_COUNT_MOST};
 use std::marker::Model;
 
-const SPANS_MOST: usize = 2 * SANDBOX_COUNT_MOST;
+/// How many spans are kept at most: two for each of as many sandboxes as an image may have.
+pub(crate) const SPANS_MOST: usize = 2 * SANDBOX_COUNT_MOST;
 
 /// Spans, two for each of as many sandboxes as an image may have. Contracts see them as a list.
 #[derive(Drop)]
@@ -33,6 +34,29 @@ impl KeptSpans {
             spans: [Span { base: 0, size: 1 }; SPANS_MOST],
             count: 0,
         }
+    }
+
+    /// Those at the front of an array: so many, or all.
+    pub(crate) fn of(spans: [Span; SPANS_MOST], count: usize) -> Self
+        ensures { result ≡ take count spans }
+    {
+        KeptSpans {
+            spans,
+            count: count.min(SPANS_MOST),
+        }
+    }
+
+    /// The array that has them at its front.
+    pub(crate) fn array(&self) -> [Span; SPANS_MOST]
+        ensures { take (length self.now) result ≡ self.now }
+    {
+        self.spans
+    }
+
+    pub(crate) fn len(&self) -> usize
+        ensures { result ≡ length self.now }
+    {
+        self.count
     }
 
     pub(crate) fn as_slice(&self) -> &[Span]
@@ -73,6 +97,23 @@ impl KeptGates {
             addresses: [0; GATE_COUNT_MOST],
             count: 0,
         }
+    }
+
+    /// Those at the front of an array: so many, or all.
+    pub(crate) fn of(addresses: [u32; GATE_COUNT_MOST], count: usize) -> Self
+        ensures { result ≡ take count addresses }
+    {
+        KeptGates {
+            addresses,
+            count: count.min(GATE_COUNT_MOST),
+        }
+    }
+
+    /// The array that has them at its front.
+    pub(crate) fn array(&self) -> [u32; GATE_COUNT_MOST]
+        ensures { take (length self.now) result ≡ self.now }
+    {
+        self.addresses
     }
 
     pub(crate) fn as_slice(&self) -> &[u32]

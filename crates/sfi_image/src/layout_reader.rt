@@ -4,13 +4,15 @@ ghost use Rattle.sfi_policy.specs.Limits.{bundle_size};
 ghost use Rattle.sfi_image.specs.declared.fault.LayoutFault.{LayoutFault};
 ghost use Rattle.sfi_image.specs.Fronts.{Front, front, want_of, IsLengthOf, HasFaultNumberWhateverFollows};
 ghost use Rattle.sfi_image.specs.Fronts.Front.{Empty};
-ghost use Rattle.sfi_image.specs.Keeping.{StandsFor, HasStopped, Leads, left};
+ghost use Rattle.sfi_image.specs.Keeping.{StandsFor, IsReader, HasStopped, Leads, left};
+ghost use Rattle.sfi_image.specs.ReaderParts.{state_of};
 ghost use Rattle.sfi_image.specs.private.Keeping.{MayTake, Takes, as_want, is_first, next_part, next_init, next_code, next_gate};
 
 use crate::fault::LayoutFault;
 use crate::fields::{Fields, spans_after};
 use crate::gates::is_next_address;
 use crate::kept::{KeptGates, KeptSpans};
+use crate::reader_parts::ReaderParts;
 use crate::reading::{
     FIELDS_BYTES, GATE_BYTES, MAGIC_BYTES, NUMBER_BYTES, fields_at, format_at, gate_at, number_at,
 };
@@ -139,6 +141,43 @@ impl LayoutReader {
             passed: 0,
             code_read: 0,
             init_read: 0,
+        }
+    }
+
+    /// What it keeps, as plain values.
+    pub fn parts(&self) -> ReaderParts
+        ensures { state_of result ≡ self.now }
+    {
+        ReaderParts {
+            next: self.next,
+            count: self.count,
+            begun: self.begun,
+            spans: self.spans.array(),
+            span_count: self.spans.len(),
+            fields: self.fields,
+            gates: self.gates.array(),
+            gate_count: self.gates.len(),
+            passed: self.passed,
+            code_read: self.code_read,
+            init_read: self.init_read,
+        }
+    }
+
+    /// The reader that keeps these values.
+    pub fn from_parts(parts: &ReaderParts) -> Self
+        requires { IsReader (state_of parts.now) }
+        ensures { result ≡ state_of parts.now }
+    {
+        LayoutReader {
+            next: parts.next,
+            count: parts.count,
+            begun: parts.begun,
+            spans: KeptSpans::of(parts.spans, parts.span_count),
+            fields: parts.fields,
+            gates: KeptGates::of(parts.gates, parts.gate_count),
+            passed: parts.passed,
+            code_read: parts.code_read,
+            init_read: parts.init_read,
         }
     }
 

@@ -5,9 +5,12 @@ ghost use Rattle.sfi_image.specs.Spans.{AreApart};
 ghost use Rattle.sfi_image.specs.private.Spans.{IsBounded};
 
 /// So many addresses from a first one on. The end may be 2 ^ 32, so both numbers have 64 bits.
+#[repr(C)]
 #[derive(Clone, Copy)]
 pub struct Span {
+    /// The first address.
     pub base: u64,
+    /// How many there are.
     pub size: u64,
 }
 

@@ -41,13 +41,21 @@ pub(crate) enum OtherWant {
 
 /// What a reader reads next.
 #[derive(Clone, Copy)]
-pub(crate) enum Next {
+pub enum Next {
+    /// The four bytes of the format.
     Magic,
+    /// How many sandboxes there are.
     Count,
+    /// The seven numbers of a sandbox.
     Fields,
+    /// A gate.
     Gate,
+    /// A bundle of code.
     Code,
+    /// First data bytes.
     Init,
+    /// Nothing: the image is whole.
     End,
+    /// Nothing: a test failed.
     Nothing,
 }
