@@ -146,7 +146,8 @@ impl LayoutReader {
 
     /// What it keeps, as plain values.
     pub fn parts(&self) -> ReaderParts
-        ensures { state_of result ≡ self.now }
+        ensures same { state_of result ≡ self.now }
+        ensures reader { IsReader self.now }
     {
         ReaderParts {
             next: self.next,
