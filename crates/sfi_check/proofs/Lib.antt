@@ -2,6 +2,7 @@ pub mod Accessing
 pub mod Counts
 pub mod Effects
 pub mod Entering
+pub mod Feeding
 pub mod Findings
 pub mod NextPlace
 pub mod PairResult

@@ -11,5 +11,6 @@ pub mod Needed
 pub mod OneVerdict
 pub mod Verdict
 pub mod Streams
+pub mod Feeds
 pub mod Converting
 pub mod private

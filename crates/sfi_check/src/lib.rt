@@ -10,6 +10,7 @@
 
 mod accepted;
 mod conversion;
+mod feed;
 pub mod laws;
 pub mod needs;
 mod progress;
@@ -22,8 +23,10 @@ mod verdict;
 
 pub use accepted::Accepted;
 pub use conversion::{ConvertFault, convert};
+pub use feed::Feed;
 pub use refusal::Refusal;
 pub use sink::FindingSink;
 pub use stream::{check_stream, check_stream_into};
 pub use stream_answer::StreamAnswer;
+pub use tally::Tally;
 pub use verdict::check;

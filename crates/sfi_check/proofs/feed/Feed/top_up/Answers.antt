@@ -1,0 +1,22 @@
+use Rattle.std.proofs.Common.{◌≡◌, ◌∙◌, inl, inr, ◌++◌, ◌≤◌, arith, List, ℕ, take, length, sym, ap, subst, append_assoc}
+use Rattle.sfi_check.specs.Feeds.{IsFed}
+use Rattle.sfi_check.proofs.Feeding.{joined_is, fed_after_fault, fed_held, no_fault}
+use Rattle.sfi_check.proofs.feed.Feed.top_up.Goals as goal
+
+pub returns-then-is_some-clause-fed : goal.returns-then-is_some-clause-fed
+returns-then-is_some-clause-fed c = λ before h. fed_after_fault c.args.self.now before (take (length c.args.bytes.now) c.args.bytes.now) (sym c.is_some.ensures ∙ c.if-is_some.true) h
+
+pub returns-clause-fed : goal.returns-clause-fed
+returns-clause-fed c = λ before h.
+    let held = fed_held c.args.self.now before (no_fault c.args.self.now.fault (sym c.is_some.ensures ∙ c.if-is_some.false)) h in
+    let more = take c.min-more.result c.args.bytes.now in
+    let joined = ap (λ (l : List ℕ). l ++ more) held.bytes_are ∙ append_assoc held.so_far (take c.args.self.now.count c.args.self.now.held) more in
+    let room : c.args.self.now.count ≤ length c.args.self.now.held =
+    elim held.rests [
+      | inl cut ↦ (let less = cut.few in let long = held.long in omega arith)
+      | inr end ↦ (let none = end.1 in omega arith)
+    ] in
+    let few : c.min-more.result ≤ length c.args.bytes.now = omega (arith, c.min-more.ensures) in
+    let is = joined_is c.args.self.now.count c.min-more.result c.args.self.now.held c.args.bytes.now c.copy_from_slice.new.self _ room few c.copy_from_slice.ensures.after in
+    let fed = c.take_all.ensures held.so_far held.at in
+    subst (λ (l : List ℕ). IsFed c.take_all.new.self l) (ap (λ (l : List ℕ). held.so_far ++ l) is ∙ sym joined) fed

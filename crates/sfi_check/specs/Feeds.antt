@@ -1,0 +1,35 @@
+-- What a feed knows of the bytes that it was fed.
+use Rattle.std.specs.Prelude.{◌≡◌, ◌⊎◌, ℕ, List, ◌++◌, length, take, Option, Some, None}
+use Rattle.sfi_image.specs.declared.want.Next.TheVariants as next
+use Rattle.sfi_image.specs.Fronts.{HasFaultNumberWhateverFollows}
+use Rattle.sfi_image.specs.Keeping.{ReaderState}
+use Rattle.sfi_check.specs.declared.feed.Feed.{Feed}
+use Rattle.sfi_check.specs.private.Tallies.{IsSoFar, IsCut}
+
+-- ---- `IsFed`, and its parts, which only private contracts name themselves
+
+-- its reader and its tally are those of these bytes
+abbrev pub IsReading : Feed → List ℕ → Type 0
+IsReading f so_far = IsSoFar (λ found. Unit {0}) f.reader f.tally so_far
+
+-- so many bytes are fewer than come next, or the image is whole and there are none
+abbrev pub Rests : ReaderState → ℕ → Type 0
+Rests r count = IsCut r count ⊎ ((r.next ≡ next.End) × (count ≡ 0))
+
+-- the bytes are those that its reader has taken, and then those that it holds
+pub record IsHeld (f : Feed) (bytes : List ℕ) : Type 0 where
+  pub so_far : List ℕ
+  pub at : IsReading f so_far
+  pub bytes_are : bytes ≡ so_far ++ take f.count f.held
+  pub rests : Rests f.reader f.count
+  pub long : length f.held ≡ 64
+
+-- that is the fault that it has met, if any: without one it keeps the bytes,
+-- and with one the bytes have that fault, whatever follows them
+abbrev pub IsFedBy : Option ℕ → Feed → List ℕ → Type 0
+IsFedBy None f bytes = IsHeld f bytes
+IsFedBy (Some number) f bytes = HasFaultNumberWhateverFollows bytes number
+
+-- the feed is one that was fed these bytes, in any pieces
+abbrev pub IsFed : Feed → List ℕ → Type 0
+IsFed f bytes = IsFedBy f.fault f bytes
