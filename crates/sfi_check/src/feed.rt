@@ -1,5 +1,5 @@
 //! The verdict on bytes that are handed in piece by piece, without taking memory.
-ghost use Rattle.std.specs.Prelude.{◌≡◌, ℕ, ◌+◌, ◌<◌, ◌≤◌, List, [], ◌++◌, length, take, true, None};
+ghost use Rattle.std.specs.Prelude.{◌≡◌, ◌≢◌, ℕ, ◌+◌, ◌<◌, ◌≤◌, List, [], ◌++◌, length, take, true, None};
 ghost use Rattle.sfi_check.specs.Streams.{IsVerdictOn};
 ghost use Rattle.sfi_check.specs.Feeds.{IsFed, IsReading};
 
@@ -125,7 +125,8 @@ impl Feed {
     /// the image's last byte the answer is the fault that it is cut short, or a fault found before.
     pub fn answer(&self) -> StreamAnswer
         requires { (bytes : List ℕ) × IsFed self.now bytes }
-        ensures { (bytes : List ℕ) → IsFed self.now bytes → IsVerdictOn bytes true result }
+        ensures judged { (bytes : List ℕ) → IsFed self.now bytes → IsVerdictOn bytes true result }
+        ensures read { result ≢ StreamAnswer.ReadFault }
     {
         // The laws that the contract rests on: this call does nothing.
         stream_laws();
