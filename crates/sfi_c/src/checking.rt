@@ -30,7 +30,7 @@ fn answer_on(image: &[u8]) -> StreamAnswer
 }
 
 /// The verdict by that answer.
-fn verdict_of(answer: StreamAnswer) -> SfiVerdict
+pub(crate) fn verdict_of(answer: StreamAnswer) -> SfiVerdict
     requires { answer ≢ StreamAnswer.ReadFault }
     ensures { result ≡ verdict_of answer }
 {

@@ -8,13 +8,18 @@
 mod array;
 mod bytes;
 mod checking;
+mod feeding;
 mod finding;
+mod stage;
 mod status;
+mod stream;
 #[cfg(test)]
 mod tests;
 mod verdict;
 
 pub use checking::{sfi_c_check, sfi_c_findings};
+pub use feeding::{sfi_c_begin, sfi_c_end, sfi_c_feed};
 pub use finding::SfiFinding;
 pub use status::Status;
+pub use stream::SfiStream;
 pub use verdict::SfiVerdict;

@@ -1,0 +1,111 @@
+-- What C keeps of an image that comes in pieces.
+use Rattle.std.specs.Prelude.{◌==◌, ℕ, List, cond, take, Option, Some, None}
+use Rattle.sfi_policy.specs.declared.format.Format.{Format}
+use Rattle.sfi_policy.specs.declared.format.Format.TheVariants.{Sfi1, Sfi2}
+use Rattle.sfi_image.specs.declared.fields.Fields.{Fields}
+use Rattle.sfi_image.specs.declared.want.Next.{Next}
+use Rattle.sfi_image.specs.declared.want.Next.TheVariants as next
+use Rattle.sfi_image.specs.Keeping.{ReaderState, IsReader}
+use Rattle.sfi_scan.specs.declared.finding.Finding.{Finding}
+use Rattle.sfi_scan.specs.declared.rule.Rule.{Rule}
+use Rattle.sfi_scan.specs.declared.rule.Rule.TheVariants.{V1, V2, V3, V4, V5, V6, V7, V8, V9, V10}
+use Rattle.sfi_check.specs.declared.feed.Feed.{Feed}
+use Rattle.sfi_check.specs.declared.tally.Tally.{Tally}
+use Rattle.sfi_check.specs.Feeds.{IsFed}
+use Rattle.sfi_c.specs.declared.finding.SfiFinding.{SfiFinding}
+use Rattle.sfi_c.specs.declared.stream.SfiStream.{SfiStream}
+
+-- ---- by number: `IsStreamOf`, and its parts, which only private contracts name themselves
+
+-- what comes next
+abbrev pub stage_of : ℕ → Next
+stage_of n =
+    cond (n == 0) next.Magic
+    (cond (n == 1) next.Count
+    (cond (n == 2) next.Fields
+    (cond (n == 3) next.Gate
+    (cond (n == 4) next.Code
+    (cond (n == 5) next.Init
+    (cond (n == 6) next.End next.Nothing))))))
+
+-- a format
+abbrev pub format_of : ℕ → Format
+format_of n = cond (n == 1) Sfi1 Sfi2
+
+-- a rule
+abbrev pub rule_of : ℕ → Rule
+rule_of n =
+    cond (n == 1) V1
+    (cond (n == 2) V2
+    (cond (n == 3) V3
+    (cond (n == 4) V4
+    (cond (n == 5) V5
+    (cond (n == 6) V6
+    (cond (n == 7) V7
+    (cond (n == 8) V8
+    (cond (n == 9) V9 V10))))))))
+
+-- a finding, if there is one
+abbrev pub first_finding : SfiFinding → Option Finding
+first_finding f =
+    cond (f.rule == 0) None
+    (Some (record { sandbox = f.sandbox; address = f.address; rule = rule_of f.rule }))
+
+-- ---- a feed, by the numbers that C keeps
+
+-- the fields of the last sandbox
+abbrev pub fields_of : SfiStream → Fields
+fields_of s = record {
+  format = format_of s.format;
+  code_base = s.code_base;
+  code_size = s.code_size;
+  data_base = s.data_base;
+  data_size = s.data_size;
+  start = s.start;
+  gate_count = s.gates_listed;
+  init_len = s.init_len;
+}
+
+-- what a reader keeps: of each array so many elements at its front
+abbrev pub reader_of : SfiStream → ReaderState
+reader_of s = record {
+  next = stage_of s.next;
+  count = s.count;
+  begun = s.begun;
+  spans = take s.span_count s.spans;
+  fields = fields_of s;
+  gates = take s.gate_count s.gates;
+  passed = s.passed;
+  code_read = s.code_read;
+  init_read = s.init_read;
+}
+
+-- what was found
+abbrev pub tally_of : SfiStream → Tally
+tally_of s = record {
+  sandboxes = s.sandboxes;
+  bundles = s.bundles;
+  count = s.findings;
+  first = first_finding s.first;
+}
+
+-- the fault that was met, if one was
+abbrev pub fault_of : SfiStream → Option ℕ
+fault_of s = cond (s.fault_count == 0) None (Some s.fault)
+
+-- the feed
+abbrev pub feed_of : SfiStream → Feed
+feed_of s = record {
+  reader = reader_of s;
+  tally = tally_of s;
+  held = s.held;
+  count = s.held_count;
+  fault = fault_of s;
+}
+
+-- ---- of which bytes
+
+-- the numbers are those of a feed that was fed these bytes, in any pieces
+pub record IsStreamOf (s : SfiStream) (bytes : List ℕ) : Type 0 where
+  pub reader : IsReader (reader_of s)
+  pub fed : IsFed (feed_of s) bytes

@@ -1,0 +1,102 @@
+//! Numbers for what an enum says in Rattle.
+ghost use Rattle.std.specs.Prelude.{◌≡◌};
+ghost use Rattle.sfi_c.specs.Streams.{stage_of, format_of, rule_of, first_finding};
+
+use crate::finding::{SfiFinding, no_finding, told};
+use sfi_image::{Format, Next};
+use sfi_scan::{Finding, Rule};
+
+/// The number of what comes next.
+pub(crate) fn stage_number(next: Next) -> u32
+    ensures { stage_of result ≡ next }
+{
+    match next {
+        Next::Magic => 0,
+        Next::Count => 1,
+        Next::Fields => 2,
+        Next::Gate => 3,
+        Next::Code => 4,
+        Next::Init => 5,
+        Next::End => 6,
+        Next::Nothing => 7,
+    }
+}
+
+/// What comes next, by its number.
+pub(crate) fn stage_of(number: u32) -> Next
+    ensures { result ≡ stage_of number }
+{
+    match number {
+        0 => Next::Magic,
+        1 => Next::Count,
+        2 => Next::Fields,
+        3 => Next::Gate,
+        4 => Next::Code,
+        5 => Next::Init,
+        6 => Next::End,
+        _ => Next::Nothing,
+    }
+}
+
+/// The number of a format.
+pub(crate) fn format_number(format: Format) -> u32
+    ensures { format_of result ≡ format }
+{
+    match format {
+        Format::Sfi1 => 1,
+        Format::Sfi2 => 2,
+    }
+}
+
+/// A format by its number.
+pub(crate) fn format_of(number: u32) -> Format
+    ensures { result ≡ format_of number }
+{
+    match number {
+        1 => Format::Sfi1,
+        _ => Format::Sfi2,
+    }
+}
+
+/// A rule by its number.
+fn rule_of(number: u32) -> Rule
+    ensures { result ≡ rule_of number }
+{
+    match number {
+        1 => Rule::V1,
+        2 => Rule::V2,
+        3 => Rule::V3,
+        4 => Rule::V4,
+        5 => Rule::V5,
+        6 => Rule::V6,
+        7 => Rule::V7,
+        8 => Rule::V8,
+        9 => Rule::V9,
+        _ => Rule::V10,
+    }
+}
+
+/// The first finding, or zeros.
+pub(crate) fn first_told(first: Option<Finding>) -> SfiFinding
+    ensures { first_finding result ≡ first }
+{
+    match first {
+        Some(finding) => told(finding),
+        None => no_finding(),
+    }
+}
+
+/// The first finding, if there is one.
+pub(crate) fn first_finding(first: SfiFinding) -> Option<Finding>
+    ensures { result ≡ first_finding first }
+{
+    if first.rule == 0 {
+        None
+    } else {
+        Some(Finding {
+            sandbox: first.sandbox,
+            address: first.address,
+            rule: rule_of(first.rule),
+        })
+    }
+}

@@ -1,0 +1,178 @@
+//! What C keeps of an image that comes in pieces.
+ghost use Rattle.std.specs.Prelude.{◌≡◌};
+ghost use Rattle.sfi_image.specs.Keeping.{IsReader};
+ghost use Rattle.sfi_c.specs.Streams.{fields_of, reader_of, tally_of, fault_of, feed_of};
+
+use crate::finding::SfiFinding;
+use crate::stage::{first_finding, first_told, format_number, format_of, stage_number, stage_of};
+use sfi_check::{Feed, Tally};
+use sfi_image::{Fields, LayoutReader, ReaderParts, Span};
+use std::mem::size_of;
+
+/// What is known of the bytes of an image so far: `struct sfi_stream`, in which C sees no field.
+/// Of each array as many elements count, from its front on, as its count says.
+#[repr(C)]
+#[derive(Clone, Copy)]
+pub struct SfiStream {
+    /// The spans of the sandboxes so far, two for each.
+    pub spans: [Span; 32],
+    /// How many spans there are.
+    pub span_count: u64,
+    /// How many gates of the last sandbox were read.
+    pub gate_count: u64,
+    /// How many of these lie before the next bundle.
+    pub passed: u64,
+    /// How many bytes are held.
+    pub held_count: u64,
+    /// How many faults of the layout were met: 0 or 1.
+    pub fault_count: u64,
+    /// The addresses of the gates.
+    pub gates: [u32; 64],
+    /// The bytes that are held until what comes next is whole.
+    pub held: [u8; 64],
+    /// What comes next, by number.
+    pub next: u32,
+    /// How many sandboxes the image has.
+    pub count: u32,
+    /// How many of these have had their fields read.
+    pub begun: u32,
+    /// The image's format: 1 or 2.
+    pub format: u32,
+    /// The first address of the last sandbox's code region.
+    pub code_base: u32,
+    /// Its size in bytes.
+    pub code_size: u32,
+    /// The first address of its data region.
+    pub data_base: u32,
+    /// Its size in bytes.
+    pub data_size: u32,
+    /// The address at which it starts.
+    pub start: u32,
+    /// How many gates it lists.
+    pub gates_listed: u32,
+    /// How many first data bytes it has.
+    pub init_len: u32,
+    /// How many bytes of its code were read.
+    pub code_read: u32,
+    /// How many of its first data bytes were read.
+    pub init_read: u32,
+    /// How many sandboxes have a bundle that was scanned.
+    pub sandboxes: u32,
+    /// How many bundles were scanned.
+    pub bundles: u32,
+    /// How many findings they have.
+    pub findings: u32,
+    /// The first of these, or three zeros.
+    pub first: SfiFinding,
+    /// The number of the layout's fault, 1 to 11, where one was met.
+    pub fault: u32,
+}
+
+// The header says so, too.
+const _: () = prove!(size_of::<SfiStream>() == 952);
+
+fn fields_of(stream: &SfiStream) -> Fields
+    ensures { result ≡ fields_of stream.now }
+{
+    Fields {
+        format: format_of(stream.format),
+        code_base: stream.code_base,
+        code_size: stream.code_size,
+        data_base: stream.data_base,
+        data_size: stream.data_size,
+        start: stream.start,
+        gate_count: stream.gates_listed,
+        init_len: stream.init_len,
+    }
+}
+
+fn reader_of(stream: &SfiStream) -> LayoutReader
+    requires { IsReader (reader_of stream.now) }
+    ensures { result ≡ reader_of stream.now }
+{
+    LayoutReader::from_parts(&ReaderParts {
+        next: stage_of(stream.next),
+        count: stream.count,
+        begun: stream.begun,
+        spans: stream.spans,
+        span_count: stream.span_count as usize,
+        fields: fields_of(stream),
+        gates: stream.gates,
+        gate_count: stream.gate_count as usize,
+        passed: stream.passed as usize,
+        code_read: stream.code_read,
+        init_read: stream.init_read,
+    })
+}
+
+fn tally_of(stream: &SfiStream) -> Tally
+    ensures { result ≡ tally_of stream.now }
+{
+    Tally {
+        sandboxes: stream.sandboxes,
+        bundles: stream.bundles,
+        count: stream.findings,
+        first: first_finding(stream.first),
+    }
+}
+
+fn fault_of(stream: &SfiStream) -> Option<u32>
+    ensures { result ≡ fault_of stream.now }
+{
+    if stream.fault_count == 0 {
+        None
+    } else {
+        Some(stream.fault)
+    }
+}
+
+/// The feed that C keeps.
+pub(crate) fn feed_of(stream: &SfiStream) -> Feed
+    requires { IsReader (reader_of stream.now) }
+    ensures { result ≡ feed_of stream.now }
+{
+    Feed {
+        reader: reader_of(stream),
+        tally: tally_of(stream),
+        held: stream.held,
+        count: stream.held_count as usize,
+        fault: fault_of(stream),
+    }
+}
+
+/// The feed for C to keep.
+pub(crate) fn kept(feed: &Feed) -> SfiStream
+    ensures feed { feed_of result ≡ feed.now }
+    ensures reader { IsReader (reader_of result) }
+{
+    let parts = feed.reader.parts();
+    let fields = parts.fields;
+    SfiStream {
+        spans: parts.spans,
+        span_count: parts.span_count as u64,
+        gate_count: parts.gate_count as u64,
+        passed: parts.passed as u64,
+        held_count: feed.count as u64,
+        fault_count: if feed.fault.is_some() { 1 } else { 0 },
+        gates: parts.gates,
+        held: feed.held,
+        next: stage_number(parts.next),
+        count: parts.count,
+        begun: parts.begun,
+        format: format_number(fields.format),
+        code_base: fields.code_base,
+        code_size: fields.code_size,
+        data_base: fields.data_base,
+        data_size: fields.data_size,
+        start: fields.start,
+        gates_listed: fields.gate_count,
+        init_len: fields.init_len,
+        code_read: parts.code_read,
+        init_read: parts.init_read,
+        sandboxes: feed.tally.sandboxes,
+        bundles: feed.tally.bundles,
+        findings: feed.tally.count,
+        first: first_told(feed.tally.first),
+        fault: feed.fault.unwrap_or(0),
+    }
+}
