@@ -89,7 +89,8 @@ impl Feed {
         }
     }
 
-    // Takes some of the bytes that come next, at the front of these, and says how many.
+    // Takes some of the bytes that come next, at the front of these, and says how many: where some are
+    // held, as many as there is room for beside them, and else all.
     fn top_up(&mut self, bytes: &[u8]) -> usize
         requires some { 0 < length bytes.now }
         requires fed { (before : List ℕ) × IsFed self.old before }
@@ -99,6 +100,10 @@ impl Feed {
             → IsFed self.new (before ++ take result bytes.now) }
     {
         if self.fault.is_some() {
+            return bytes.len();
+        }
+        if self.count == 0 {
+            self.take_all(bytes);
             return bytes.len();
         }
         let more = bytes.len().min(ROOM - self.count);

@@ -1,10 +1,20 @@
-use Rattle.std.proofs.Common.{◌≡◌, ◌∙◌, inl, inr, ◌++◌, ◌≤◌, arith, List, ℕ, take, length, sym, ap, subst, append_assoc}
+use Rattle.std.proofs.Common.{◌≡◌, ◌∙◌, inl, inr, ◌++◌, ◌≤◌, arith, List, ℕ, take, length, rules, sym, ap, subst, append_assoc}
+use Rattle.std.proofs.lemmas.List.{append-nil, take_all}
 use Rattle.sfi_check.specs.Feeds.{IsFed}
 use Rattle.sfi_check.proofs.Feeding.{joined_is, fed_after_fault, fed_held, no_fault}
 use Rattle.sfi_check.proofs.feed.Feed.top_up.Goals as goal
 
 pub returns-then-is_some-clause-fed : goal.returns-then-is_some-clause-fed
 returns-then-is_some-clause-fed c = λ before h. fed_after_fault c.args.self.now before (take (length c.args.bytes.now) c.args.bytes.now) (sym c.is_some.ensures ∙ c.if-is_some.true) h
+
+pub returns-then-self-eq0-clause-fed : goal.returns-then-self-eq0-clause-fed
+returns-then-self-eq0-clause-fed c = λ before h.
+    let held = fed_held c.args.self.now before (no_fault c.args.self.now.fault (sym c.is_some.ensures ∙ c.if-is_some.false)) h in
+    let bytes = c.args.bytes.now in
+    let zero : c.args.self.now.count ≡ 0 = search rules in
+    let none : before ≡ held.so_far = held.bytes_are ∙ ap (λ (k : ℕ). held.so_far ++ take k c.args.self.now.held) zero ∙ append-nil held.so_far in
+    subst (λ (l : List ℕ). IsFed c.take_all.new.self (l ++ take (length bytes) bytes)) (sym none)
+    (subst (λ (l : List ℕ). IsFed c.take_all.new.self (held.so_far ++ l)) (sym (take_all (length bytes) bytes (omega arith))) (c.take_all.ensures held.so_far held.at))
 
 pub returns-clause-fed : goal.returns-clause-fed
 returns-clause-fed c = λ before h.
@@ -18,5 +28,5 @@ returns-clause-fed c = λ before h.
     ] in
     let few : c.min-more.result ≤ length c.args.bytes.now = omega (arith, c.min-more.ensures) in
     let is = joined_is c.args.self.now.count c.min-more.result c.args.self.now.held c.args.bytes.now c.copy_from_slice.new.self _ room few c.copy_from_slice.ensures.after in
-    let fed = c.take_all.ensures held.so_far held.at in
-    subst (λ (l : List ℕ). IsFed c.take_all.new.self l) (ap (λ (l : List ℕ). held.so_far ++ l) is ∙ sym joined) fed
+    let fed = c.take_all-2.ensures held.so_far held.at in
+    subst (λ (l : List ℕ). IsFed c.take_all-2.new.self l) (ap (λ (l : List ℕ). held.so_far ++ l) is ∙ sym joined) fed
