@@ -2,6 +2,7 @@
 """Checks the image on standard input by the shared library, and lists its first findings:
 
     host.py LIBRARY [CAPACITY] < IMAGE        # the image's own bytes; room for so many findings, 2 if absent
+    host.py LIBRARY 0 SIZE < IMAGE            # so many bytes at a time, and no findings but the first
 """
 import ctypes
 import sys
@@ -18,6 +19,11 @@ class Verdict(ctypes.Structure):
                 ("bundles", ctypes.c_uint32), ("findings", ctypes.c_uint32), ("first", Finding)]
 
 
+class Stream(ctypes.Structure):
+    """struct sfi_stream"""
+    _fields_ = [("words", ctypes.c_uint64 * 119)]
+
+
 assert ctypes.sizeof(Finding) == 12 and ctypes.sizeof(Verdict) == 32
 
 
@@ -27,6 +33,12 @@ def load(path):
     library.sfi_c_findings.argtypes = [ctypes.c_char_p, ctypes.c_size_t, ctypes.POINTER(Finding), ctypes.c_size_t,
                                        ctypes.POINTER(Verdict)]
     library.sfi_c_findings.restype = ctypes.c_uint32
+    library.sfi_c_begin.argtypes = [ctypes.POINTER(Stream)]
+    library.sfi_c_begin.restype = None
+    library.sfi_c_feed.argtypes = [ctypes.POINTER(Stream), ctypes.c_char_p, ctypes.c_size_t]
+    library.sfi_c_feed.restype = None
+    library.sfi_c_end.argtypes = [ctypes.POINTER(Stream), ctypes.POINTER(Verdict)]
+    library.sfi_c_end.restype = ctypes.c_uint32
     return library
 
 
@@ -40,8 +52,23 @@ def line_of(verdict):
     }[verdict.status]
 
 
-def main(path, capacity="2"):
+def verdict_in_pieces(library, source, size):
+    """The verdict on the bytes of the source, of which it keeps none."""
+    stream = Stream()
+    verdict = Verdict()
+    library.sfi_c_begin(ctypes.byref(stream))
+    while piece := source.read(size):
+        library.sfi_c_feed(ctypes.byref(stream), piece, len(piece))
+    library.sfi_c_end(ctypes.byref(stream), ctypes.byref(verdict))
+    return verdict
+
+
+def main(path, capacity="2", size=None):
     """Prints the findings that there is room for, and then the verdict."""
+    if size:
+        verdict = verdict_in_pieces(load(path), sys.stdin.buffer, int(size))
+        print(line_of(verdict))
+        return verdict.status
     image = sys.stdin.buffer.read()
     array = (Finding * int(capacity))()
     verdict = Verdict()

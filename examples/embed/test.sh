@@ -91,6 +91,24 @@ run_cases() { # a host's name, and its command line
     done
 }
 
+pieces=(1 7 64 65536)
+run_pieces() { # a host's name, and its command line: whatever the size of the pieces, the verdict alone
+    local name=$1 one image capacity status lines size found before=
+    shift
+    for one in "${cases[@]}"; do
+        IFS='|' read -r image capacity status lines <<<"$one"
+        [ "$image" = "$before" ] && continue
+        before=$image
+        for size in "${pieces[@]}"; do
+            found=$("$@" "$size" <"$room/$image.image" 2>&1)
+            found="$?|$found"
+            [ "$found" = "$status|${lines##*;}" ]
+            report $? "$name on $image, $size bytes at a time" "$status|${lines##*;}" "$found"
+        done
+    done
+}
+images=$(printf '%s\n' "${cases[@]%%|*}" | uniq | wc -l)
+
 # ---- the library
 if ! has gcc; then
     skip 1 "all hosts: gcc isn't there"
@@ -120,6 +138,14 @@ done
 found=$?
 [ "$found" = 5 ] && [ ! -s "$room/said" ]
 report $? "host.c without an image" "5, and nothing printed" "$found, $(cat "$room/said")"
+compile feed.c gcc -std=c99 "${warnings[@]}" "$here/feed.c" "$library" -o "$room/feed"
+run_pieces feed.c "$room/feed"
+for word in 0 -1 "" 2x 65537; do
+    "$room/feed" "$word" <"$room/three.image" >"$room/said"
+    found=$?
+    [ "$found" = 6 ] && [ ! -s "$room/said" ]
+    report $? "feed.c with pieces of '$word'" "6, and nothing printed" "$found, $(cat "$room/said")"
+done
 version() { sed -n "s/.*$1.*\"\([0-9.]*\)\".*/\1/p" "$2"; }
 wanted=$(version "const VERSION" "$top/crates/sfi_command/src/help.rt")
 found=$(version "define SFI_VERSION" "$top/crates/sfi_c/include/sfi.h")
@@ -166,8 +192,9 @@ report $? "the size of the library" "at most $most bytes" "$added bytes"
 # ---- Python and Rust
 if has python3; then
     run_cases host.py python3 "$here/host.py" "$room/libsfi.so"
+    run_pieces host.py python3 "$here/host.py" "$room/libsfi.so" 0
 else
-    skip ${#cases[@]} "host.py: python3 isn't there"
+    skip $((${#cases[@]} + images * ${#pieces[@]})) "host.py: python3 isn't there"
 fi
 if has rustc; then
     compile host.rs rustc --edition 2021 -O -D warnings -o "$room/host_rs" "$here/host.rs" -C link-arg="$library"
@@ -180,15 +207,18 @@ fi
 arm=$(dirname "$library")/aarch64-unknown-linux-gnu/libsfi_c.a
 module=$(dirname "$library")/wasm64-unknown-unknown/sfi.wasm
 not_built="isn't there: tools/build_library.py builds it"
+on_arm=$((2 + ${#cases[@]} + images * ${#pieces[@]}))
 if [ ! -f "$arm" ]; then
-    skip $((1 + ${#cases[@]})) "host.c on aarch64: $arm $not_built"
+    skip "$on_arm" "host.c and feed.c on aarch64: $arm $not_built"
 elif ! has aarch64-linux-gnu-gcc; then
-    skip $((1 + ${#cases[@]})) "host.c on aarch64: aarch64-linux-gnu-gcc isn't there"
+    skip "$on_arm" "host.c and feed.c on aarch64: aarch64-linux-gnu-gcc isn't there"
 elif ! has qemu-aarch64; then
-    skip $((1 + ${#cases[@]})) "host.c on aarch64: qemu-aarch64 isn't there"
+    skip "$on_arm" "host.c and feed.c on aarch64: qemu-aarch64 isn't there"
 else
     compile "host.c for aarch64" aarch64-linux-gnu-gcc -static -std=c99 "${warnings[@]}" "$here/host.c" "$arm" -o "$room/host_arm"
     run_cases "host.c on aarch64" qemu-aarch64 "$room/host_arm"
+    compile "feed.c for aarch64" aarch64-linux-gnu-gcc -static -std=c99 "${warnings[@]}" "$here/feed.c" "$arm" -o "$room/feed_arm"
+    run_pieces "feed.c on aarch64" qemu-aarch64 "$room/feed_arm"
 fi
 memory64=()
 if has node && node --experimental-wasm-memory64 -e 0 >"$room/log" 2>&1; then

@@ -8,8 +8,8 @@
  * region. This is proved of the calls below. The library loads and runs nothing: the caller sees to it that memory,
  * host and neighbours are as the theorem asks (README.md has it with its premises).
  *
- * The calls read nothing but their arguments, keep nothing from one to the next, start no thread, read no file and
- * write none. Any number of threads may call them at once. They return whatever the bytes of the image are; the time
+ * The calls read nothing but their arguments, keep nothing elsewhere from one to the next, start no thread, read no file
+ * and write none. Any number of threads may call them at once. They return whatever the bytes of the image are; the time
  * grows in proportion to the bytes. A thread with 64 KiB of stack had room for them where that was measured.
  *
  * What a caller owes, since nothing checks it:
@@ -100,6 +100,45 @@ uint32_t sfi_c_check(const uint8_t *image, size_t length, struct sfi_verdict *ve
  */
 uint32_t sfi_c_findings(const uint8_t *image, size_t length, struct sfi_finding *array, size_t capacity,
                         struct sfi_verdict *verdict);
+
+/* ---- an image that comes in pieces */
+
+/*
+ * What is known of the bytes of an image so far, in the caller's memory. Its words are the library's own: they hold no
+ * pointer, so that the struct may be copied and moved between two calls, and no byte of it has to be set before
+ * sfi_c_begin.
+ */
+struct sfi_stream {
+    uint64_t words[119];
+};
+
+/* The library's own struct is as long. */
+#if defined(__cplusplus) && __cplusplus >= 201103L
+static_assert(sizeof(struct sfi_stream) == 952, "the library writes 952 bytes");
+#elif defined(__STDC_VERSION__) && __STDC_VERSION__ >= 201112L
+_Static_assert(sizeof(struct sfi_stream) == 952, "the library writes 952 bytes");
+#else
+typedef char sfi_stream_has_952_bytes[sizeof(struct sfi_stream) == 952 ? 1 : -1];
+#endif
+
+/*
+ * Begins an image, of which no byte has come. sfi_c_feed then takes the `length` bytes at `bytes` that come next: as
+ * many as there are, 0 too, and cut anywhere. sfi_c_end writes the verdict on all bytes so far to *verdict, exactly as
+ * sfi_c_check does on the same bytes in one piece, and returns its status. It may be called at any time, and more bytes
+ * may be fed after it: before the image's last byte its answer is that the bytes are cut short (SFI_FAULT_SHORT), or a
+ * fault that was met before.
+ *
+ * What a caller owes beside the above:
+ *
+ * - `stream` is one that sfi_c_begin wrote, and no one but sfi_c_begin and sfi_c_feed wrote since; or a copy of such a
+ *   one. The calls trust what stands in it: keep it where no sandbox and no other process can write.
+ * - One call at a time uses a stream. It overlaps neither the bytes nor the verdict.
+ * - What is loaded later are the bytes that were fed: keep those of each piece, or load them at once and run nothing
+ *   before the verdict.
+ */
+void sfi_c_begin(struct sfi_stream *stream);
+void sfi_c_feed(struct sfi_stream *stream, const uint8_t *bytes, size_t length);
+uint32_t sfi_c_end(const struct sfi_stream *stream, struct sfi_verdict *verdict);
 
 #ifdef __cplusplus
 }

@@ -14,6 +14,8 @@ mod stage;
 mod status;
 mod stream;
 #[cfg(test)]
+mod stream_tests;
+#[cfg(test)]
 mod tests;
 mod verdict;
 

@@ -5,19 +5,19 @@ use std::test::Fail;
 
 // The head of one sandbox: code 256 bytes at 01000000, data 256 at 01800000, start at the code's
 // first byte, no gates, no first data bytes; and its length.
-const HEAD: &[u8] =
+pub(crate) const HEAD: &[u8] =
     b"SFI1\x01\0\0\0\0\0\0\x01\0\x01\0\0\0\0\x80\x01\0\x01\0\0\0\0\0\x01\0\0\0\0\0\0\0\0";
 
-const EBREAK: [u8; 4] = [0x73, 0, 0x10, 0];
+pub(crate) const EBREAK: [u8; 4] = [0x73, 0, 0x10, 0];
 
 // What stands where nothing was written.
-const MARK: SfiFinding = SfiFinding {
+pub(crate) const MARK: SfiFinding = SfiFinding {
     sandbox: 9,
     address: 9,
     rule: 99,
 };
 
-const MARKED: SfiVerdict = SfiVerdict {
+pub(crate) const MARKED: SfiVerdict = SfiVerdict {
     status: 9,
     layout_fault: 9,
     sandboxes: 9,
@@ -26,7 +26,7 @@ const MARKED: SfiVerdict = SfiVerdict {
     first: MARK,
 };
 
-const NOTHING: SfiVerdict = SfiVerdict {
+pub(crate) const NOTHING: SfiVerdict = SfiVerdict {
     status: 0,
     layout_fault: 0,
     sandboxes: 0,
@@ -48,7 +48,7 @@ fn at(address: u32, rule: u32) -> SfiFinding {
 }
 
 // An image whose code begins with these words.
-fn image_of(alloc: Global, words: &[[u8; 4]]) -> Result<Vec<u8>, AllocError> {
+pub(crate) fn image_of(alloc: Global, words: &[[u8; 4]]) -> Result<Vec<u8>, AllocError> {
     let mut image = Vec::from_slice(alloc, HEAD)?;
     for i in 0..64usize {
         let word = words.get(i).unwrap_or(&EBREAK);
