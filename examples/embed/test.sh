@@ -168,6 +168,26 @@ for one in "first_format 0" "second_format 0" "three 3" "stack 1"; do
     found=$("$room/edges" "$count" <"$room/$image.image" 2>&1)
     report $? "edges.c on $image" "edges: passed" "$found"
 done
+
+# ---- many images, in a pool of threads
+compile many.c gcc -std=c11 -pthread "${warnings[@]}" "$here/many.c" "$library" -o "$room/many"
+run_many() { # the words, and the names of images
+    local words=$1
+    shift
+    found=$(cd "$room" && { [ $# = 0 ] || printf '%s.image\0' "$@"; } | ./many $words | tr '\t\0' '|;'; echo "${PIPESTATUS[1]}")
+}
+run_many 3 first_format three cut none second_format
+wanted="0|accepted sandboxes=1 bundles=16|first_format.image;1|refused findings=3 first=V5 sandbox=0 at=01000000|three.image;"
+wanted+="2|layout fault 3 Short|cut.image;5||none.image;0|accepted sandboxes=1 bundles=16|second_format.image;1"
+[ "$found" = "$wanted" ]
+report $? "many.c on five names" "$wanted" "$found"
+for one in "1 0" "1024 0" "0 6" "1025 6" "2x 6"; do
+    read -r words wanted <<<"$one"
+    run_many "$words"
+    [ "$found" = "$wanted" ]
+    report $? "many.c with $words threads, and no names" "$wanted" "$found"
+done
+
 if has valgrind; then
     found=$(valgrind -q --error-exitcode=9 --leak-check=full "$room/edges" 3 <"$room/three.image" 2>&1)
     report $? "edges.c under valgrind" "edges: passed" "$found"
