@@ -1,1 +1,3 @@
+pub mod Functions
+pub mod Letters
 pub mod Store

@@ -5,9 +5,13 @@
 //! two sandboxes, checks their image, and runs them with it.
 #![tactic(auto)]
 
+mod function;
+mod letters;
 mod serving;
 mod store;
 
+pub use function::{CallError, Function};
+pub use letters::Letters;
 pub use store::Store;
 
 #[cfg(test)]

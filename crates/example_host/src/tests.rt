@@ -1,4 +1,6 @@
 //! Two sandboxes that exchange a value through the store.
+mod plugin;
+
 use crate::store::Store;
 use rv_mem::{Memory, Pages};
 use sfi_check::check;
