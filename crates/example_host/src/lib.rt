@@ -1,8 +1,9 @@
-//! An example of a host: two sandboxes exchange a value through a store of values by key.
+//! Two examples of a host: two sandboxes exchange a value through a store of values by key, and a
+//! sandbox is called as a function, with a text in memory.
 //!
-//! A host is a type that implements [`Gates`](sfi_host::Gates): its meaning is a function, `store`
+//! A host is a type that implements [`Gates`](sfi_host::Gates): its meaning is a function, as `store`
 //! of `specs/Store.antt`, and `call` is proved to answer what that function says. `tests.rt` builds
-//! two sandboxes, checks their image, and runs them with it.
+//! sandboxes, checks their image, and runs them with it.
 #![tactic(auto)]
 
 mod function;

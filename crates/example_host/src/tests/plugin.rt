@@ -5,6 +5,7 @@ use rv_mem::Pages;
 use sfi_check::check;
 use sfi_host::{Status, Turn, World};
 use sfi_link::build;
+use std::alloc::Global;
 use std::test::Fail;
 
 // At its start the sandbox exits, so that it may be entered. The function is the bundle after that:
@@ -49,12 +50,16 @@ const START: Turn = Turn {
     steps: 10,
 };
 
-#[test]
-fn a_function_is_called_twice(rt: HostRuntime) -> Result<(), Fail> {
-    let alloc = rt.alloc();
+/// The world of the sandbox before any turn.
+fn loaded(alloc: Global) -> Result<World<Pages>, Fail> {
     let image = build(alloc, SOURCE)?;
     let accepted = check(alloc, image.as_slice())?;
-    let mut world = World::load(alloc, &accepted, Pages::new(alloc))?;
+    Ok(World::load(alloc, &accepted, Pages::new(alloc))?)
+}
+
+#[test]
+fn a_function_is_called_twice(rt: HostRuntime) -> Result<(), Fail> {
+    let mut world = loaded(rt.alloc())?;
     world.run_plan(&[START], &mut Letters);
     let mut first = *b"plug-in";
     assert_eq!(rt; TURN.call(&mut world, &mut Letters, &mut first), Ok(7));
@@ -67,33 +72,22 @@ fn a_function_is_called_twice(rt: HostRuntime) -> Result<(), Fail> {
 
 #[test]
 fn a_call_may_fail(rt: HostRuntime) -> Result<(), Fail> {
-    let alloc = rt.alloc();
-    let image = build(alloc, SOURCE)?;
-    let accepted = check(alloc, image.as_slice())?;
-    let mut world = World::load(alloc, &accepted, Pages::new(alloc))?;
-    let mut text = [97; 65];
-    assert_eq!(rt;
-        TURN.call(&mut world, &mut Letters, &mut text),
-        Err(CallError::NotEntered)
-    );
-    world.run_plan(&[START], &mut Letters);
+    let mut world = loaded(rt.alloc())?;
     let far = Function {
         text_address: 0x0180_00c0,
         ..TURN
     };
-    assert_eq!(rt;
-        far.call(&mut world, &mut Letters, &mut text),
-        Err(CallError::NoRoom)
-    );
-    // The host refuses a text of 65 bytes.
-    assert_eq!(rt;
-        TURN.call(&mut world, &mut Letters, &mut text),
-        Ok(u32::MAX)
-    );
     let short = Function { steps: 3, ..TURN };
-    assert_eq!(rt;
-        short.call(&mut world, &mut Letters, &mut text),
-        Err(CallError::NotReturned(Status::Ready))
-    );
+    let mut text = [97; 65];
+    let early = TURN.call(&mut world, &mut Letters, &mut text);
+    assert_eq!(rt; early, Err(CallError::NotEntered));
+    world.run_plan(&[START], &mut Letters);
+    let outside = far.call(&mut world, &mut Letters, &mut text);
+    assert_eq!(rt; outside, Err(CallError::NoRoom));
+    // The host refuses a text of 65 bytes.
+    let refused = TURN.call(&mut world, &mut Letters, &mut text);
+    assert_eq!(rt; refused, Ok(u32::MAX));
+    let unfinished = short.call(&mut world, &mut Letters, &mut text);
+    assert_eq!(rt; unfinished, Err(CallError::NotReturned(Status::Ready)));
     Ok(())
 }
