@@ -1,6 +1,6 @@
 -- What the decoder and the encoder compute is the table.
-use Rattle.std.proofs.Common.{◌≡◌, ℕ, ◌+◌, ◌-◌, ◌^◌, ◌<◌, true, ◌==◌, ap, sym, ◌∙◌, Option, Some, None, arith, eqb-true, inl, inr}
-use Rattle.std.proofs.lemmas.Bool.{and_parts, cases_lt}
+use Rattle.std.proofs.Common.{◌≡◌, ℕ, ◌^◌, ◌<◌, true, ◌==◌, ap, ◌∙◌, Option, Some, None, eqb-true}
+use Rattle.std.proofs.lemmas.Bool.{and_parts}
 use Rattle.std.specs.Prelude.{IfSome, IsTrue}
 use Rattle.std.specs.Option.{SomeIff}
 use Rattle.rv_comp.specs.mirror.Encoding.{encoded}
@@ -8,18 +8,8 @@ use Rattle.rv_comp.specs.Halfwords.{halfword_of, IsHalfwordOf}
 use Rattle.rv_comp.specs.Table.{allowed}
 use Rattle.rv_comp.specs.mirror.Decoding.{decoded}
 use Rattle.rv_comp.specs.declared.form.Form16.{Form16}
-use Rattle.rv_comp.proofs.Whole.{reads, spells, all_below_at, first_half, second_half}
+use Rattle.rv_comp.proofs.Whole.{reads, spells, in_halves, first_half, second_half}
 use Rattle.rv_comp.proofs.Boxes.{agreed}
-
-reads_at : (h : ℕ) → h < 2 ^ 16 → reads h ≡ true
-reads_at h lt =
-    elim (cases_lt h 32768) [
-      | inl low ↦ all_below_at (λ k. reads k) 32768 h first_half low
-      | inr high ↦
-          let l : h - 32768 < 32768 = omega arith in
-          let e : 32768 + (h - 32768) ≡ h = omega arith in
-          sym (ap reads e) ∙ all_below_at (λ k. reads (32768 + k)) 32768 (h - 32768) second_half l
-    ]
 
 from_test : (h : ℕ) (o : Option Form16) → spells h o ≡ true → IfSome o (λ f. IsHalfwordOf h f)
 unfolding spells
@@ -28,7 +18,7 @@ from_test h (Some f) e = let p = and_parts (allowed f) (h == halfword_of f) e in
 
 pub decoded_found : (h : ℕ) → h < 2 ^ 16 → IfSome (decoded h) (λ f. IsHalfwordOf h f)
 unfolding reads
-decoded_found h lt = from_test h (decoded h) (reads_at h lt)
+decoded_found h lt = from_test h (decoded h) (in_halves reads first_half second_half h lt)
 
 pub decoded_only : (h : ℕ) (f : Form16) → IsHalfwordOf h f → decoded h ≡ Some f
 decoded_only h f is = ap decoded is.spelled ∙ (agreed f is.meets).decodes

@@ -1,6 +1,6 @@
 -- The outline of each halfword, by computation: what the code reads off is what its form's expansion does.
-use Rattle.std.proofs.Common.{◌≡◌, ℕ, ◌+◌, ◌-◌, ◌<◌, ◌^◌, Bool, true, false, ◌&&◌, ◌==◌, refl, ap, sym, subst, ◌∙◌, pos, negsuc, ℤ, arith, eqb-true, cond, inl, inr, Option, Some, None, IfSome}
-use Rattle.std.proofs.lemmas.Bool.{and_parts, cases_lt}
+use Rattle.std.proofs.Common.{◌≡◌, ℕ, ◌+◌, ◌<◌, ◌^◌, Bool, true, ◌&&◌, ◌==◌, refl, ap, sym, subst, ◌∙◌, pos, ℤ, eqb-true, cond, Option, Some, None, IfSome}
+use Rattle.std.proofs.lemmas.Bool.{and_parts}
 use Rattle.std.specs.Option.{option_map}
 use Rattle.rv_word.specs.declared.instr.Instr.{Instr}
 use Rattle.rv_word.specs.declared.outline.Outline.{Outline}
@@ -12,24 +12,10 @@ use Rattle.rv_comp.specs.declared.form.Form16.{Form16}
 use Rattle.rv_comp.specs.mirror.Decoding.{decoded, quadrant0, quadrant1, quadrant2, arithmetic, upper, jump_or_move, extended, word_offset, six, jump_offset, branch_offset, stack_step, stack_address, load_offset, store_offset}
 use Rattle.rv_comp.specs.mirror.Outlining.{row_of, jump, jump_or_stop, outlined}
 use Rattle.rv_comp.proofs.Exact.{decoded_found, decoded_only}
-use Rattle.rv_comp.proofs.Whole.{all_below, all_below_at}
+use Rattle.rv_comp.proofs.Same.{same_int, same_int-true}
+use Rattle.rv_comp.proofs.Whole.{all_below, in_halves}
 
 -- ---- outlines as numbers
-
-abbrev size : ℤ → ℕ
-size (pos n) = n
-size (negsuc n) = n
-
-abbrev is_below : ℤ → Bool
-is_below (pos n) = false
-is_below (negsuc n) = true
-
-abbrev signed : ℕ → Bool → ℤ
-signed n b = cond b (negsuc n) (pos n)
-
-signed_back : (z : ℤ) → signed (size z) (is_below z) ≡ z
-signed_back (pos n) = refl
-signed_back (negsuc n) = refl
 
 abbrev kind : Option Outline → ℕ
 kind None = 0
@@ -70,46 +56,23 @@ made k rd base z =
 
 back : (o : Option Outline) → made (kind o) (rd_of o) (base_of o) (offset_of o) ≡ o
 back None = refl
-back (Some (Computes rd)) = refl
-back (Some (Loads rd base)) = refl
-back (Some (Stores base)) = refl
-back (Some (Branches z)) = refl
-back (Some (Jumps rd z)) = refl
-back (Some (JumpsTo rd base z)) = refl
-back (Some Orders) = refl
-back (Some Calls) = refl
 back (Some Stops) = refl
+back (Some _) = refl
 
-abbrev same_bool : Bool → Bool → Bool
-same_bool true b = b
-same_bool false true = false
-same_bool false false = true
-
-same_bool-true : (a b : Bool) → same_bool a b ≡ true → a ≡ b
-same_bool-true true b h = sym h
-same_bool-true false true h = h
-same_bool-true false false h = refl
-
-abbrev same : Option Outline → Option Outline → Bool
-same p q =
-    (kind p == kind q) && ((rd_of p == rd_of q) && ((base_of p == base_of q)
-    && ((size (offset_of p) == size (offset_of q)) && same_bool (is_below (offset_of p)) (is_below (offset_of q)))))
-
-same_offset : (y z : ℤ) → size y ≡ size z → is_below y ≡ is_below z → y ≡ z
-same_offset y z e f = sym (signed_back y) ∙ ap (λ n. signed n (is_below y)) e ∙ ap (λ b. signed (size z) b) f ∙ signed_back z
+unfoldable same : Option Outline → Option Outline → Bool
+same p q = (kind p == kind q) && ((rd_of p == rd_of q) && ((base_of p == base_of q) && same_int (offset_of p) (offset_of q)))
 
 same-true : (p q : Option Outline) → same p q ≡ true → p ≡ q
+unfolding same
 same-true p q h =
     let k = and_parts (kind p == kind q) _ h in
     let r = and_parts (rd_of p == rd_of q) _ k.1 in
     let b = and_parts (base_of p == base_of q) _ r.1 in
-    let z = and_parts (size (offset_of p) == size (offset_of q)) _ b.1 in
-    let offset = same_offset (offset_of p) (offset_of q) (eqb-true (size (offset_of p)) (size (offset_of q)) z.0) (same_bool-true (is_below (offset_of p)) (is_below (offset_of q)) z.1) in
     sym (back p)
     ∙ ap (λ n. made n (rd_of p) (base_of p) (offset_of p)) (eqb-true (kind p) (kind q) k.0)
     ∙ ap (λ n. made (kind q) n (base_of p) (offset_of p)) (eqb-true (rd_of p) (rd_of q) r.0)
     ∙ ap (λ n. made (kind q) (rd_of q) n (offset_of p)) (eqb-true (base_of p) (base_of q) b.0)
-    ∙ ap (λ (n : ℤ). made (kind q) (rd_of q) (base_of q) n) offset
+    ∙ ap (λ (n : ℤ). made (kind q) (rd_of q) (base_of q) n) (same_int-true _ _ b.1)
     ∙ back q
 
 -- ---- all halfwords
@@ -121,7 +84,7 @@ unfoldable agrees : ℕ → Bool
 agrees h = same (outlined h) (option_map does (decoded h))
 
 unfoldable tables : Unit {0}
-unfolding all_below agrees row_of jump jump_or_stop outlined decoded quadrant0 quadrant1 quadrant2 arithmetic upper jump_or_move extended word_offset six jump_offset branch_offset stack_step stack_address load_offset store_offset
+unfolding all_below agrees same same_int row_of jump jump_or_stop outlined decoded quadrant0 quadrant1 quadrant2 arithmetic upper jump_or_move extended word_offset six jump_offset branch_offset stack_step stack_address load_offset store_offset
 tables = tt
 
 first_half : all_below (λ k. agrees k) 32768 ≡ true
@@ -132,15 +95,9 @@ second_half : all_below (λ k. agrees (32768 + k)) 32768 ≡ true
 unfolding tables
 second_half = refl
 
-agrees_all : (h : ℕ) → h < 2 ^ 16 → agrees h ≡ true
-agrees_all h lt = elim (cases_lt h 32768) [
-  | inl less ↦ all_below_at (λ k. agrees k) 32768 h first_half less
-  | inr more ↦ ap agrees (let e : h ≡ 32768 + (h - 32768) = omega arith in e) ∙ all_below_at (λ k. agrees (32768 + k)) 32768 (h - 32768) second_half (omega arith)
-]
-
 pub outlined_is : (h : ℕ) → h < 2 ^ 16 → outlined h ≡ option_map does (decoded h)
 unfolding agrees
-outlined_is h lt = same-true (outlined h) (option_map does (decoded h)) (agrees_all h lt)
+outlined_is h lt = same-true (outlined h) (option_map does (decoded h)) (in_halves agrees first_half second_half h lt)
 
 -- ---- what the outline tells
 

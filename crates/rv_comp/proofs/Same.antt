@@ -37,32 +37,8 @@ form p v =
     CSwsp v.rs2 v.imm)))))))))))))))))))))))))
 
 form_again : (f : Form16) → form (place f) (fields_of f) ≡ f
-form_again (CAddi4spn d i) = refl
-form_again (CLw d s i) = refl
-form_again (CSw s t i) = refl
-form_again (CAddi d i) = refl
-form_again (CJal i) = refl
-form_again (CLi d i) = refl
-form_again (CAddi16sp i) = refl
-form_again (CLui d i) = refl
-form_again (CSrli d i) = refl
-form_again (CSrai d i) = refl
-form_again (CAndi d i) = refl
-form_again (CSub d t) = refl
-form_again (CXor d t) = refl
-form_again (COr d t) = refl
-form_again (CAnd d t) = refl
-form_again (CJ i) = refl
-form_again (CBeqz s i) = refl
-form_again (CBnez s i) = refl
-form_again (CSlli d i) = refl
-form_again (CLwsp d i) = refl
-form_again (CJr s) = refl
-form_again (CJalr s) = refl
-form_again (CMv d t) = refl
-form_again (CAdd d t) = refl
 form_again CEbreak = refl
-form_again (CSwsp t i) = refl
+form_again _ = refl
 
 unfoldable pub same_int : ℤ → ℤ → Bool
 same_int (pos a) (pos b) = eqb a b

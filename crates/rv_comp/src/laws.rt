@@ -26,6 +26,7 @@ pub fn spelled_in_range()
 {}
 
 /// A list of bytes has one front at most.
+#[tactic(auto, using(crate::proofs::Fronts::front_one))]
 pub fn one_front()
     ensures { OneFront }
 {
@@ -33,6 +34,7 @@ pub fn one_front()
 }
 
 /// Each list of bytes has a front.
+#[tactic(auto, using(crate::proofs::Found::some_front))]
 pub fn some_front()
     ensures { SomeFront }
 {
@@ -41,6 +43,7 @@ pub fn some_front()
 }
 
 /// An instruction has one first form at most.
+#[tactic(auto, using(crate::proofs::Firsts::first_one))]
 pub fn one_first_form()
     ensures { OneFirstForm }
 {}
