@@ -2,7 +2,7 @@
 use Rattle.std.proofs.Common.{◌≡◌, ℕ, ◌+◌, ◌*◌, ◌<◌, ◌/◌, ◌%◌, ℤ, pos, negsuc, arith, refl, sym, ap, ◌∙◌}
 use Rattle.rv_word.specs.declared.parts.Parts.{Parts}
 use Rattle.rv_word.specs.declared.instr.RegOp.{RegOp}
-use Rattle.rv_word.specs.declared.instr.RegOp.TheVariants.{Add, Sub, Sll, Slt, Sltu, Xor, Srl, Sra, Or, And, Mul, Mulh, Mulhsu, Mulhu, Div, Divu, Rem, Remu}
+use Rattle.rv_word.specs.declared.instr.RegOp.TheVariants.{Add}
 use Rattle.rv_word.specs.declared.instr.ImmOp.{ImmOp}
 use Rattle.rv_word.specs.declared.instr.ImmOp.TheVariants.{Addi, Slti, Sltiu, Xori, Ori, Andi, Slli, Srli, Srai}
 use Rattle.rv_word.specs.declared.instr.LoadKind.{LoadKind}
@@ -61,23 +61,7 @@ store_small w = elim w as (λ w. store_funct3 w < 8) [ Sb ↦ omega arith | Sh �
 
 op_small : (op : RegOp) → (op_funct7 op < 128) × (op_funct3 op < 8)
 op_small Add = (omega arith, omega arith)
-op_small Sub = (omega arith, omega arith)
-op_small Sll = (omega arith, omega arith)
-op_small Slt = (omega arith, omega arith)
-op_small Sltu = (omega arith, omega arith)
-op_small Xor = (omega arith, omega arith)
-op_small Srl = (omega arith, omega arith)
-op_small Sra = (omega arith, omega arith)
-op_small Or = (omega arith, omega arith)
-op_small And = (omega arith, omega arith)
-op_small Mul = (omega arith, omega arith)
-op_small Mulh = (omega arith, omega arith)
-op_small Mulhsu = (omega arith, omega arith)
-op_small Mulhu = (omega arith, omega arith)
-op_small Div = (omega arith, omega arith)
-op_small Divu = (omega arith, omega arith)
-op_small Rem = (omega arith, omega arith)
-op_small Remu = (omega arith, omega arith)
+op_small _ = (omega arith, omega arith)
 
 -- the parts of the word that spells an instruction
 unfoldable pub imm_cut : ImmOp → ℤ → ℕ → ℕ → Parts

@@ -113,43 +113,19 @@ imm12_again (negsuc n) r = grind arith
 
 cond_again : (c : Cond) → cond_at (cond_funct3 c) ≡ Some c
 cond_again Beq = refl
-cond_again Bne = refl
-cond_again Blt = refl
-cond_again Bge = refl
-cond_again Bltu = refl
-cond_again Bgeu = refl
+cond_again _ = refl
 
 load_again : (k : LoadKind) → load_at (load_funct3 k) ≡ Some k
 load_again Lb = refl
-load_again Lh = refl
-load_again Lw = refl
-load_again Lbu = refl
-load_again Lhu = refl
+load_again _ = refl
 
 store_again : (w : StoreWidth) → store_at (store_funct3 w) ≡ Some w
 store_again Sb = refl
-store_again Sh = refl
-store_again Sw = refl
+store_again _ = refl
 
 op_again : (op : RegOp) → op_at (op_funct7 op) (op_funct3 op) ≡ Some op
 op_again Add = refl
-op_again Sub = refl
-op_again Sll = refl
-op_again Slt = refl
-op_again Sltu = refl
-op_again Xor = refl
-op_again Srl = refl
-op_again Sra = refl
-op_again Or = refl
-op_again And = refl
-op_again Mul = refl
-op_again Mulh = refl
-op_again Mulhsu = refl
-op_again Mulhu = refl
-op_again Div = refl
-op_again Divu = refl
-op_again Rem = refl
-op_again Remu = refl
+op_again _ = refl
 
 b_offset_again : (z : ℤ) → IsBetween (minus 4096) (pos 4094) z → IsEven z →
     b_offset (parts 0 (bits (modulo 13 z) 4 1 * 2 + bits (modulo 13 z) 11 11) 0 0 0
@@ -173,12 +149,7 @@ unfolding imm_cut read
 imm_cut_read Slli rd rs1 z r = rw (amount_again z r) refl
 imm_cut_read Srli rd rs1 z r = rw (amount_again z r) refl
 imm_cut_read Srai rd rs1 z r = rw (amount_again z r) refl
-imm_cut_read Addi rd rs1 z r = rw (imm12_again z r) refl
-imm_cut_read Slti rd rs1 z r = rw (imm12_again z r) refl
-imm_cut_read Sltiu rd rs1 z r = rw (imm12_again z r) refl
-imm_cut_read Xori rd rs1 z r = rw (imm12_again z r) refl
-imm_cut_read Ori rd rs1 z r = rw (imm12_again z r) refl
-imm_cut_read Andi rd rs1 z r = rw (imm12_again z r) refl
+imm_cut_read _ rd rs1 z r = rw (imm12_again z r) refl
 
 pub cut_read : (i : Instr) → InRange i → read (cut i) ≡ Some i
 unfolding cut read InRange

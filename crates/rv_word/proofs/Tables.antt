@@ -12,7 +12,7 @@ use Rattle.rv_word.specs.declared.instr.RegOp.TheVariants.{Add}
 use Rattle.rv_word.specs.declared.instr.ImmOp.{ImmOp}
 use Rattle.rv_word.specs.declared.instr.ImmOp.TheVariants.{Addi}
 use Rattle.rv_word.specs.declared.instr.Instr.{Instr}
-use Rattle.rv_word.specs.declared.instr.Instr.TheVariants.{Op, OpImm, Load, Store, Branch, Jal, Jalr, Lui, Auipc, Fence, Ecall, Ebreak}
+use Rattle.rv_word.specs.declared.instr.Instr.TheVariants.{Op, OpImm, Lui, Auipc}
 use Rattle.rv_word.specs.declared.outline.Outline.TheVariants.{Computes}
 use Rattle.rv_word.specs.Numbers.{modulo, bits}
 use Rattle.rv_word.specs.Functs.{op_funct3, op_funct7, imm_funct3, is_shift, shift_funct7}
@@ -191,14 +191,7 @@ cut_parts (Op op r rs1 rs2) rd e = (refl, op_computes op)
 cut_parts (OpImm op r rs1 z) rd e = imm_parts op z rs1 r
 cut_parts (Lui r imm) rd e = (refl, refl)
 cut_parts (Auipc r imm) rd e = (refl, refl)
-cut_parts (Load kind r rs1 z) rd e = absurd cc
-cut_parts (Store width rs1 rs2 z) rd e = absurd cc
-cut_parts (Branch c rs1 rs2 z) rd e = absurd cc
-cut_parts (Jal r z) rd e = absurd cc
-cut_parts (Jalr r rs1 z) rd e = absurd cc
-cut_parts (Fence imm r rs1) rd e = absurd cc
-cut_parts Ecall rd e = absurd cc
-cut_parts Ebreak rd e = absurd cc
+cut_parts _ rd e = absurd cc
 
 -- ---- what the code tells
 
