@@ -2,7 +2,7 @@
 use Rattle.std.proofs.Common.{◌≡◌, ℕ, ◌==◌, Bool, true, false, cond, List, [], ◌∷◌, Option, Some, None, IsSome, is_some, refl, sym, ap, subst, ◌∙◌}
 use Rattle.std.specs.FinMap.{insert}
 use Rattle.rv_word.specs.declared.instr.Instr.{Instr}
-use Rattle.rv_word.specs.declared.instr.Instr.TheVariants.{Op, OpImm, Load, Store, Branch, Jal, Jalr, Lui, Auipc, Fence, Ecall, Ebreak}
+use Rattle.rv_word.specs.declared.instr.Instr.TheVariants.{Load, Store, Ecall}
 use Rattle.rv_word.specs.declared.instr.LoadKind.{LoadKind}
 use Rattle.rv_word.specs.Numbers.{offset_by}
 use Rattle.rv_comp.specs.declared.front.Front.{Front}
@@ -39,16 +39,7 @@ store_some false at size v k h m q e = e
 effect_some : (i : Instr) (n : ℕ) (h : Hart) (m : Bytes) (q : ℕ) → IsSome (byte_at m q) → IsSome (byte_at (effect i n h m).state.memory q)
 effect_some (Load kind rd rs1 imm) n h m q e = load_some (loaded m (offset_by (register h rs1) imm) (load_size kind)) kind rd _ n h m q e
 effect_some (Store width rs1 rs2 imm) n h m q e = store_some (is_some (bytes_at m (addresses (offset_by (register h rs1) imm) (store_size width)))) _ (store_size width) _ _ h m q e
-effect_some (Op op rd rs1 rs2) n h m q e = e
-effect_some (OpImm op rd rs1 imm) n h m q e = e
-effect_some (Branch condition rs1 rs2 offset) n h m q e = e
-effect_some (Jal rd offset) n h m q e = e
-effect_some (Jalr rd rs1 imm) n h m q e = e
-effect_some (Lui rd imm) n h m q e = e
-effect_some (Auipc rd imm) n h m q e = e
-effect_some (Fence imm rd rs1) n h m q e = e
-effect_some Ecall n h m q e = e
-effect_some Ebreak n h m q e = e
+effect_some _ n h m q e = e
 
 front_some : (f : Front) (h : Hart) (m : Bytes) (q : ℕ) → IsSome (byte_at m q) → IsSome (byte_at (after_front f h m).state.memory q)
 front_some (Read i n) h m q e = effect_some i n h m q e
@@ -71,16 +62,8 @@ store_calls false at k w h m e = cc
 effect_calls : (i : Instr) (n : ℕ) (h : Hart) (m : Bytes) → (effect i n h m).outcome ≡ Call → i ≡ Ecall
 effect_calls (Load kind rd rs1 imm) n h m e = absurd (load_calls (loaded m (offset_by (register h rs1) imm) (load_size kind)) kind rd _ n h m e)
 effect_calls (Store width rs1 rs2 imm) n h m e = absurd (store_calls (is_some (bytes_at m (addresses (offset_by (register h rs1) imm) (store_size width)))) _ _ _ h m e)
-effect_calls (Op op rd rs1 rs2) n h m e = absurd (cc)
-effect_calls (OpImm op rd rs1 imm) n h m e = absurd (cc)
-effect_calls (Branch condition rs1 rs2 offset) n h m e = absurd (cc)
-effect_calls (Jal rd offset) n h m e = absurd (cc)
-effect_calls (Jalr rd rs1 imm) n h m e = absurd (cc)
-effect_calls (Lui rd imm) n h m e = absurd (cc)
-effect_calls (Auipc rd imm) n h m e = absurd (cc)
-effect_calls (Fence imm rd rs1) n h m e = absurd (cc)
 effect_calls Ecall n h m e = refl
-effect_calls Ebreak n h m e = absurd (cc)
+effect_calls _ n h m e = absurd (cc)
 
 front_calls : (s : State) (f : Front) → IsAtPc s f → (after_front f s.hart s.memory).outcome ≡ Call → (n : ℕ) × Stands s Ecall n
 front_calls s (Read i n) at e = (n, subst (λ (j : Instr). Stands s j n) (effect_calls i n s.hart s.memory e) at)

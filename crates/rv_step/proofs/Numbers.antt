@@ -6,9 +6,9 @@ use Rattle.std.proofs.Math.Nat.{div-le_self}
 use Rattle.std.proofs.lemmas.Int.{ints}
 use Rattle.std.proofs.lemmas.Nat.{or_lt, xor_lt, mul-lt}
 use Rattle.rv_word.specs.declared.instr.RegOp.{RegOp}
-use Rattle.rv_word.specs.declared.instr.RegOp.TheVariants.{Add, Sub, Sll, Slt, Sltu, Xor, Srl, Sra, Or, And, Mul, Mulh, Mulhsu, Mulhu, Div, Divu, Rem, Remu}
+use Rattle.rv_word.specs.declared.instr.RegOp.TheVariants.{Add, Sll, Slt, Sltu, Xor, Srl, Or, And, Mul, Mulhu, Div, Divu, Rem, Remu}
 use Rattle.rv_word.specs.declared.instr.LoadKind.{LoadKind}
-use Rattle.rv_word.specs.declared.instr.LoadKind.TheVariants.{Lb, Lh, Lw, Lbu, Lhu}
+use Rattle.rv_word.specs.declared.instr.LoadKind.TheVariants.{Lb, Lh}
 use Rattle.rv_word.specs.declared.instr.Cond.{Cond}
 use Rattle.rv_word.specs.declared.instr.Instr.{Instr}
 use Rattle.rv_word.specs.declared.instr.Instr.TheVariants.{Branch, Jal}
@@ -51,31 +51,26 @@ quotient_fits a b f = omega (arith, div-le_self a b)
 -- the result of an operation has 32 bits
 pub result_fits : (op : RegOp) (a b : ℕ) → a < 2 ^ 32 → b < 2 ^ 32 → result_of op a b < 2 ^ 32
 result_fits Add a b f g = omega arith
-result_fits Sub a b f g = word_fits _
 result_fits Sll a b f g = omega arith
 result_fits Slt a b f g = bool_fits _
 result_fits Sltu a b f g = bool_fits _
 result_fits Xor a b f g = xor_lt 32 a b f g
 result_fits Srl a b f g = quotient_fits a (2 ^ (b % 32)) f
-result_fits Sra a b f g = word_fits _
 result_fits Or a b f g = or_lt 32 a b f g
 result_fits And a b f g = and_lt 32 a b f g
 result_fits Mul a b f g = omega arith
-result_fits Mulh a b f g = word_fits _
-result_fits Mulhsu a b f g = word_fits _
 result_fits Mulhu a b f g = product_fits a b f g
 result_fits Div a b f g = cond_fits (b == 0) _ _ (omega arith) (word_fits _)
 result_fits Divu a b f g = cond_fits (b == 0) _ _ (omega arith) (quotient_fits a b f)
 result_fits Rem a b f g = cond_fits (b == 0) _ _ f (word_fits _)
 result_fits Remu a b f g = rem_fits a b f g
+result_fits _ a b f g = word_fits _
 
 -- so does what a load writes
 pub extended_fits : (kind : LoadKind) (n : ℕ) → n < 256 ^ load_size kind → extended kind n < 2 ^ 32
 extended_fits Lb n h = word_fits _
 extended_fits Lh n h = word_fits _
-extended_fits Lw n h = omega arith
-extended_fits Lbu n h = omega arith
-extended_fits Lhu n h = omega arith
+extended_fits _ n h = omega arith
 
 zeros_fit : (n r : ℕ) → slice_index (replicate n 0) r < 2 ^ 32
 zeros_fit zero r = omega arith

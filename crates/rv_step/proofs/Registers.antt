@@ -2,7 +2,7 @@
 use Rattle.std.proofs.Common.{◌≡◌, ◌≢◌, ℕ, ◌==◌, Bool, true, false, cond, List, set, get_or, Option, Some, None, is_some, refl, sym, ap, ◌∙◌}
 use Rattle.std.proofs.lemmas.List.{get_or-set_other}
 use Rattle.rv_word.specs.declared.instr.Instr.{Instr}
-use Rattle.rv_word.specs.declared.instr.Instr.TheVariants.{Op, OpImm, Load, Store, Branch, Jal, Jalr, Lui, Auipc, Fence, Ecall, Ebreak}
+use Rattle.rv_word.specs.declared.instr.Instr.TheVariants.{Op, OpImm, Load, Store, Branch, Jal, Jalr, Lui, Auipc}
 use Rattle.rv_word.specs.declared.instr.LoadKind.{LoadKind}
 use Rattle.rv_word.specs.Writes.{unless_x0, written}
 use Rattle.rv_word.specs.Numbers.{offset_by}
@@ -43,9 +43,7 @@ effect_stays (Jal rd offset) n h m x other = wrote h rd _ x other
 effect_stays (Jalr rd rs1 imm) n h m x other = wrote h rd _ x other
 effect_stays (Lui rd imm) n h m x other = wrote h rd _ x other
 effect_stays (Auipc rd imm) n h m x other = wrote h rd _ x other
-effect_stays (Fence imm rd rs1) n h m x other = refl
-effect_stays Ecall n h m x other = refl
-effect_stays Ebreak n h m x other = refl
+effect_stays _ n h m x other = refl
 
 pub other_registers : StepIsEffect → OtherRegistersStay
 other_registers law s i n r x st step other =

@@ -53,18 +53,11 @@ store_stays true at k w h m stopped = absurd (stopped refl)
 store_stays false at k w h m stopped = refl
 
 effect_stays : (i : Instr) (n : ℕ) (h : Hart) (m : Bytes) → (effect i n h m).outcome ≢ Next → (effect i n h m).state ≡ record { hart = h; memory = m }
-effect_stays (Op op rd rs1 rs2) n h m stopped = absurd (stopped refl)
-effect_stays (OpImm op rd rs1 imm) n h m stopped = absurd (stopped refl)
 effect_stays (Load kind rd rs1 imm) n h m stopped = load_stays (loaded m (offset_by (register h rs1) imm) (load_size kind)) kind rd _ n h m stopped
 effect_stays (Store width rs1 rs2 imm) n h m stopped = store_stays (is_some (bytes_at m (addresses (offset_by (register h rs1) imm) (store_size width)))) _ _ _ h m stopped
-effect_stays (Branch cond rs1 rs2 offset) n h m stopped = absurd (stopped refl)
-effect_stays (Jal rd offset) n h m stopped = absurd (stopped refl)
-effect_stays (Jalr rd rs1 imm) n h m stopped = absurd (stopped refl)
-effect_stays (Lui rd imm) n h m stopped = absurd (stopped refl)
-effect_stays (Auipc rd imm) n h m stopped = absurd (stopped refl)
-effect_stays (Fence imm rd rs1) n h m stopped = absurd (stopped refl)
 effect_stays Ecall n h m stopped = refl
 effect_stays Ebreak n h m stopped = refl
+effect_stays _ n h m stopped = absurd (stopped refl)
 
 front_stays : (f : Front) (h : Hart) (m : Bytes) → (after_front f h m).outcome ≢ Next → (after_front f h m).state ≡ record { hart = h; memory = m }
 front_stays (Read i n) h m stopped = effect_stays i n h m stopped
@@ -87,18 +80,9 @@ store_keeps others true at size v k h m q apart = others m (addresses at size) _
 store_keeps others false at size v k h m q apart = refl
 
 effect_keeps : OthersStay → (i : Instr) (n : ℕ) (h : Hart) (m : Bytes) (q : ℕ) → (Accesses i h q → ⊥) → byte_at (effect i n h m).state.memory q ≡ byte_at m q
-effect_keeps others (Op op rd rs1 rs2) n h m q apart = refl
-effect_keeps others (OpImm op rd rs1 imm) n h m q apart = refl
 effect_keeps others (Load kind rd rs1 imm) n h m q apart = ap (λ (w : Bytes). byte_at w q) (load_keeps (loaded m (offset_by (register h rs1) imm) (load_size kind)) kind rd _ n h m)
 effect_keeps others (Store width rs1 rs2 imm) n h m q apart = store_keeps others (is_some (bytes_at m (addresses (offset_by (register h rs1) imm) (store_size width)))) _ (store_size width) _ _ h m q apart
-effect_keeps others (Branch cond rs1 rs2 offset) n h m q apart = refl
-effect_keeps others (Jal rd offset) n h m q apart = refl
-effect_keeps others (Jalr rd rs1 imm) n h m q apart = refl
-effect_keeps others (Lui rd imm) n h m q apart = refl
-effect_keeps others (Auipc rd imm) n h m q apart = refl
-effect_keeps others (Fence imm rd rs1) n h m q apart = refl
-effect_keeps others Ecall n h m q apart = refl
-effect_keeps others Ebreak n h m q apart = refl
+effect_keeps others _ n h m q apart = refl
 
 pub other_bytes : OthersStay → StepIsEffect → OtherBytesStay
 other_bytes others is s i n r q st step apart =
@@ -126,15 +110,7 @@ effect_found these held (Load kind rd rs1 imm) n h m q done has =
 effect_found these held (Store width rs1 rs2 imm) n h m q done has =
     found these held m (offset_by (register h rs1) imm) (store_size width) (bytes_at m (addresses (offset_by (register h rs1) imm) (store_size width))) q refl (store_found _ _ _ _ h m done) has
 effect_found these held (Op op rd rs1 rs2) n h m q done (k, below, is) = absurd (omega arith)
-effect_found these held (OpImm op rd rs1 imm) n h m q done (k, below, is) = absurd (omega arith)
-effect_found these held (Branch cond rs1 rs2 offset) n h m q done (k, below, is) = absurd (omega arith)
-effect_found these held (Jal rd offset) n h m q done (k, below, is) = absurd (omega arith)
-effect_found these held (Jalr rd rs1 imm) n h m q done (k, below, is) = absurd (omega arith)
-effect_found these held (Lui rd imm) n h m q done (k, below, is) = absurd (omega arith)
-effect_found these held (Auipc rd imm) n h m q done (k, below, is) = absurd (omega arith)
-effect_found these held (Fence imm rd rs1) n h m q done (k, below, is) = absurd (omega arith)
-effect_found these held Ecall n h m q done (k, below, is) = absurd (omega arith)
-effect_found these held Ebreak n h m q done (k, below, is) = absurd (omega arith)
+effect_found these held _ n h m q done (k, below, is) = absurd (omega arith)
 
 pub all_found : AddressesAreThese → ReadIsHeld → StepIsEffect → AccessedIsThere
 all_found these held is s i n r q st step done has =
