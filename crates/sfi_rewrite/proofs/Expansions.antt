@@ -2,7 +2,7 @@
 use Rattle.std.proofs.Common.{◌≡◌, ℕ, zero, suc, ◌<◌, ◌≤◌, List, [], ◌∷◌, Bool, true, false, arith, inl, inr}
 use Rattle.std.specs.Prelude.{ℤ, pos, negsuc, MatchBool}
 use Rattle.rv_word.specs.declared.instr.Instr.{Instr}
-use Rattle.rv_word.specs.declared.instr.Instr.TheVariants.{Op, OpImm, Load, Store, Branch, Jal, Jalr, Lui, Auipc, Fence, Ecall, Ebreak}
+use Rattle.rv_word.specs.declared.instr.Instr.TheVariants.{Load, Store, Jalr}
 use Rattle.sfi_policy.specs.declared.format.Format.{Format}
 use Rattle.sfi_policy.specs.Formats.{is_stack}
 use Rattle.rv_source.specs.declared.item.Body.{Body}
@@ -39,15 +39,7 @@ masked_one : (rvc : Bool) (i : Instr) (slots : List Slot) → IsMasked rvc i slo
 masked_one rvc (Load kind rd a imm) slots e = rw e (record { some = omega arith; few = omega arith })
 masked_one rvc (Store width a rs2 imm) slots e = rw e (record { some = omega arith; few = omega arith })
 masked_one rvc (Jalr rd a imm) slots e = jump_one rd a imm slots e
-masked_one rvc (Op op rd rs1 rs2) slots e = alone_one rvc (Op op rd rs1 rs2) slots e
-masked_one rvc (OpImm op rd rs1 imm) slots e = alone_one rvc (OpImm op rd rs1 imm) slots e
-masked_one rvc (Branch cond rs1 rs2 offset) slots e = alone_one rvc (Branch cond rs1 rs2 offset) slots e
-masked_one rvc (Jal rd offset) slots e = alone_one rvc (Jal rd offset) slots e
-masked_one rvc (Lui rd imm) slots e = alone_one rvc (Lui rd imm) slots e
-masked_one rvc (Auipc rd imm) slots e = alone_one rvc (Auipc rd imm) slots e
-masked_one rvc (Fence imm rd rs1) slots e = alone_one rvc (Fence imm rd rs1) slots e
-masked_one rvc Ecall slots e = alone_one rvc Ecall slots e
-masked_one rvc Ebreak slots e = alone_one rvc Ebreak slots e
+masked_one rvc other slots e = alone_one rvc other slots e
 
 -- what writes the stack pointer, an access on it, and any other
 plain_one : (writes on rvc : Bool) (i : Instr) (slots : List Slot)

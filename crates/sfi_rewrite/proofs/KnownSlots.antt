@@ -9,7 +9,7 @@ use Rattle.rv_word.specs.declared.instr.RegOp.TheVariants.{And, Or}
 use Rattle.rv_word.specs.declared.instr.ImmOp.TheVariants.{Addi}
 use Rattle.rv_word.specs.declared.instr.LoadKind.{LoadKind}
 use Rattle.rv_word.specs.declared.instr.StoreWidth.{StoreWidth}
-use Rattle.rv_word.specs.declared.instr.Instr.TheVariants.{Op, OpImm, Load, Store, Branch, Jal, Jalr, Lui, Auipc, Fence, Ecall, Ebreak}
+use Rattle.rv_word.specs.declared.instr.Instr.TheVariants.{Op, OpImm, Load, Store, Jalr}
 use Rattle.rv_word.specs.Spelling.{InRange, IsImm12}
 use Rattle.sfi_policy.specs.declared.format.Format.{Format}
 use Rattle.sfi_policy.specs.Formats.{is_stack}
@@ -94,15 +94,7 @@ masked_known rvc (Load kind rd a imm) count slots e b =
 masked_known rvc (Store width a rs2 imm) count slots e b =
     rw e (three count (Wide (Op And 31 a 27)) (Wide (Op Or 31 31 26)) (Wide (Store width 31 rs2 imm)) (masked count a 27 b.0 (omega arith)) (based count 26 (omega arith)) (stored count rs2 width imm b.1 b.2))
 masked_known rvc (Jalr rd a imm) count slots e b = jump_known count rd a imm slots e b.0 b.1 b.2
-masked_known rvc (Op op rd rs1 rs2) count slots e b = alone_known count rvc (Op op rd rs1 rs2) slots e b
-masked_known rvc (OpImm op rd rs1 imm) count slots e b = alone_known count rvc (OpImm op rd rs1 imm) slots e b
-masked_known rvc (Branch cond rs1 rs2 offset) count slots e b = alone_known count rvc (Branch cond rs1 rs2 offset) slots e b
-masked_known rvc (Jal rd offset) count slots e b = alone_known count rvc (Jal rd offset) slots e b
-masked_known rvc (Lui rd imm) count slots e b = alone_known count rvc (Lui rd imm) slots e b
-masked_known rvc (Auipc rd imm) count slots e b = alone_known count rvc (Auipc rd imm) slots e b
-masked_known rvc (Fence imm rd rs1) count slots e b = alone_known count rvc (Fence imm rd rs1) slots e b
-masked_known rvc Ecall count slots e b = alone_known count rvc Ecall slots e b
-masked_known rvc Ebreak count slots e b = alone_known count rvc Ebreak slots e b
+masked_known rvc other count slots e b = alone_known count rvc other slots e b
 
 pair_known : (count : ℕ) → All (IsKnown count) stack_pair
 unfolding InRange

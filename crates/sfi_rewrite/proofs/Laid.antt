@@ -2,13 +2,13 @@
 use Rattle.std.proofs.Common.{◌≡◌, ℕ, zero, suc, ◌+◌, ◌*◌, List, [], ◌∷◌, ◌++◌, take, drop, replicate, refl, sym, ap, ◌∙◌, subst, arith, append_assoc, append-nil, inl, inr}
 use Rattle.std.specs.Prelude.{Bool, true, false, MatchBool}
 use Rattle.rv_word.specs.declared.instr.Instr.{Instr}
-use Rattle.rv_word.specs.declared.instr.Instr.TheVariants.{Op, OpImm, Load, Store, Branch, Jal, Jalr, Lui, Auipc, Fence, Ecall, Ebreak}
+use Rattle.rv_word.specs.declared.instr.Instr.TheVariants.{Load, Store, Jalr}
 use Rattle.rv_comp.specs.declared.form.Form16.{Form16}
 use Rattle.rv_comp.specs.Laws.{OneFirstForm}
 use Rattle.sfi_policy.specs.declared.format.Format.{Format}
 use Rattle.rv_source.specs.declared.item.Item.{Item}
 use Rattle.rv_source.specs.declared.item.Body.{Body}
-use Rattle.rv_source.specs.declared.item.Body.TheVariants.{Plain, To, High, Low}
+use Rattle.rv_source.specs.declared.item.Body.TheVariants.{Plain}
 use Rattle.sfi_rewrite.specs.declared.slot.Slot.{Slot}
 use Rattle.sfi_rewrite.specs.declared.slot.Slot.TheVariants.{Short, Wide}
 use Rattle.sfi_rewrite.specs.Slots.{size_of, c_nop}
@@ -97,15 +97,7 @@ masked_one_way : OneFirstForm → (rvc : Bool) (i : Instr) (a b : List Slot) →
 masked_one_way one rvc (Load kind rd rs1 imm) a b x y = x ∙ sym y
 masked_one_way one rvc (Store width rs1 rs2 imm) a b x y = x ∙ sym y
 masked_one_way one rvc (Jalr rd rs1 imm) a b x y = x ∙ sym y
-masked_one_way one rvc (Op op rd rs1 rs2) a b x y = alone_one_way one rvc (Op op rd rs1 rs2) a b x y
-masked_one_way one rvc (OpImm op rd rs1 imm) a b x y = alone_one_way one rvc (OpImm op rd rs1 imm) a b x y
-masked_one_way one rvc (Branch cond rs1 rs2 offset) a b x y = alone_one_way one rvc (Branch cond rs1 rs2 offset) a b x y
-masked_one_way one rvc (Jal rd offset) a b x y = alone_one_way one rvc (Jal rd offset) a b x y
-masked_one_way one rvc (Lui rd imm) a b x y = alone_one_way one rvc (Lui rd imm) a b x y
-masked_one_way one rvc (Auipc rd imm) a b x y = alone_one_way one rvc (Auipc rd imm) a b x y
-masked_one_way one rvc (Fence imm rd rs1) a b x y = alone_one_way one rvc (Fence imm rd rs1) a b x y
-masked_one_way one rvc Ecall a b x y = alone_one_way one rvc Ecall a b x y
-masked_one_way one rvc Ebreak a b x y = alone_one_way one rvc Ebreak a b x y
+masked_one_way one rvc other a b x y = alone_one_way one rvc other a b x y
 
 plain_one_way : OneFirstForm → (writes on rvc : Bool) (i : Instr) (a b : List Slot)
     → MatchBool writes (a ≡ Wide i ∷ stack_pair) (MatchBool on (IsAlone rvc i a) (IsMasked rvc i a))
@@ -117,9 +109,7 @@ plain_one_way one false false rvc i a b x y = masked_one_way one rvc i a b x y
 expansion_of_one_way : OneFirstForm → (f : Format) (line : ℕ) (rvc : Bool) (body : Body) (a b : List Slot)
     → IsExpansionOf f line rvc body a → IsExpansionOf f line rvc body b → a ≡ b
 expansion_of_one_way one f line rvc (Plain i) a b x y = plain_one_way one (writes_stack f i) (is_on_stack f i) rvc i a b x y
-expansion_of_one_way one f line rvc (To i name) a b x y = x ∙ sym y
-expansion_of_one_way one f line rvc (High rd name) a b x y = x ∙ sym y
-expansion_of_one_way one f line rvc (Low rd name) a b x y = x ∙ sym y
+expansion_of_one_way one f line rvc _ a b x y = x ∙ sym y
 
 pub expansion_one_way : OneFirstForm → (f : Format) (x : Item) (a b : List Slot) → IsExpansion f x a → IsExpansion f x b → a ≡ b
 expansion_one_way one f x a b h g = expansion_of_one_way one f x.line x.rvc x.body a b h g

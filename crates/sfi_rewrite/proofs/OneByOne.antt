@@ -12,7 +12,7 @@ use Rattle.rv_source.specs.declared.item.Item.{Item}
 use Rattle.rv_source.specs.Source.{IsBody}
 use Rattle.sfi_rewrite.specs.declared.slot.Slot.{Slot}
 use Rattle.sfi_rewrite.specs.declared.fault.RewriteFault.{RewriteFault}
-use Rattle.sfi_rewrite.specs.declared.fault.RewriteFault.TheVariants.{ReservedRegister, Ecall, TooLarge, Memory, StackWrite}
+use Rattle.sfi_rewrite.specs.declared.fault.RewriteFault.TheVariants.{TooLarge, Memory}
 use Rattle.sfi_rewrite.specs.Slots.{size_of, c_nop}
 use Rattle.sfi_rewrite.specs.Expansion.{IsExpansion, is_call}
 use Rattle.sfi_rewrite.specs.Places.{next_bundle, FillsGap, IsNext, IsLabelAt}
@@ -152,19 +152,14 @@ label_count labels now n place l e = ap length e ∙ length-append labels (place
 
 pub item_fault : (format : Format) (sandbox : ℕ) (items : List Item) (k : ℕ) (x : Item) (code : List Slot) (f : RewriteFault)
     → k < length items → x ≡ get_or items k x → AreFaultless format (take k items) code → UnlessMemory (HasFault format sandbox (size_of code) x) f → UnlessMemory (IsItemFault format sandbox items) f
-item_fault format sandbox items k x code (ReservedRegister line) h e l f = record { index = k; item = x; at = (is_at items k x h e).at; before = code; faultless = l; has = f }
-item_fault format sandbox items k x code (Ecall line) h e l f = record { index = k; item = x; at = (is_at items k x h e).at; before = code; faultless = l; has = f }
-item_fault format sandbox items k x code (StackWrite line) h e l f = record { index = k; item = x; at = (is_at items k x h e).at; before = code; faultless = l; has = f }
-item_fault format sandbox items k x code (TooLarge number) h e l f = record { index = k; item = x; at = (is_at items k x h e).at; before = code; faultless = l; has = f }
 item_fault format sandbox items k x code Memory h e l f = tt
+item_fault format sandbox items k x code _ h e l f = record { index = k; item = x; at = (is_at items k x h e).at; before = code; faultless = l; has = f }
 
 -- a fault that the item has wherever it stands
 pub found_fault : (format : Format) (sandbox end : ℕ) (x : Item) (f : RewriteFault) → HasItemFault format x f → UnlessMemory (HasFault format sandbox end x) f
-found_fault format sandbox end x (ReservedRegister line) h = h
-found_fault format sandbox end x (Ecall line) h = h
-found_fault format sandbox end x (StackWrite line) h = h
 found_fault format sandbox end x (TooLarge number) h = absurd h
 found_fault format sandbox end x Memory h = tt
+found_fault format sandbox end x _ h = h
 
 pub all_faultless : (f : Format) (items : List Item) (k : ℕ) (code : List Slot) → length items ≤ k → AreFaultless f (take k items) code → AreFaultless f items code
 all_faultless f items k code h l = subst (λ (v : List Item). AreFaultless f v code) (take_all k items h) l

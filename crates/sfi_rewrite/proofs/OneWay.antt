@@ -5,7 +5,7 @@ use Rattle.rv_comp.specs.Laws.{OneFirstForm}
 use Rattle.sfi_policy.specs.declared.format.Format.{Format}
 use Rattle.rv_source.specs.declared.item.Item.{Item}
 use Rattle.rv_source.specs.declared.item.Named.{Named}
-use Rattle.rv_source.specs.declared.item.Named.TheVariants.{Gate, Code, Data, Unknown}
+use Rattle.rv_source.specs.declared.item.Named.TheVariants.{Code}
 use Rattle.rv_source.specs.declared.item.SourceGate.{SourceGate}
 use Rattle.rv_source.specs.Source.{Sandbox, named}
 use Rattle.sfi_rewrite.specs.declared.slot.Slot.{Slot}
@@ -92,12 +92,10 @@ bundles_one_way (b ∷ bs) (c ∷ cs) h g e =
 -- ---- names
 
 name_one_way : OneFirstForm → (f : Format) (items : List Item) (n : Named) (a b : PlacedName) → IsPlacedName f items n a → IsPlacedName f items n b → a ≡ b
-name_one_way law f items (Gate k) a b x y = x ∙ sym y
 name_one_way law f items (Code k) a b x y =
     let same = laid_one_way law f 0 (take k items) x.1.0 y.1.0 x.1.1 y.1.1 in
     x.2 ∙ ap placed.Code (x.1.2 ∙ ap (λ v. next_bundle (size_of v)) same ∙ sym y.1.2) ∙ sym y.2
-name_one_way law f items (Data offset) a b x y = x ∙ sym y
-name_one_way law f items Unknown a b x y = x ∙ sym y
+name_one_way law f items _ a b x y = x ∙ sym y
 
 names_one_way : OneFirstForm → (f : Format) (items : List Item) (names : List Named) (a b : List PlacedName) → AllZip (IsPlacedName f items) names a → AllZip (IsPlacedName f items) names b → a ≡ b
 names_one_way law f items [] [] [] x y = refl

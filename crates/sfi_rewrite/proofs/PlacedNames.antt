@@ -6,7 +6,7 @@ use Rattle.std.proofs.lemmas.List.{length-map, take_more}
 use Rattle.std.proofs.lemmas.List.Elements.{All-map}
 use Rattle.std.proofs.lemmas.Option.{slice_get-get_or}
 use Rattle.rv_source.specs.declared.item.Named.{Named}
-use Rattle.rv_source.specs.declared.item.Named.TheVariants.{Gate, Code, Data, Unknown}
+use Rattle.rv_source.specs.declared.item.Named.TheVariants.{Code, Unknown}
 use Rattle.rv_source.specs.Source.{Sandbox, IsSandbox, IsThere, named}
 use Rattle.sfi_rewrite.specs.declared.placed.PlacedName.{PlacedName}
 use Rattle.sfi_rewrite.specs.Placement.{IsPlacedName}
@@ -39,20 +39,16 @@ pub there_at : (s : Sandbox) (k : ℕ) (n : Named) → IsSandbox s → k < lengt
 there_at s k n h l e = subst (λ (m : Named). IsThere s m) (sym e) (each_there s h k n l)
 
 has_label : (s : Sandbox) (labels : List ℕ) (n : Named) → AreLabels s.format s.items labels → IsThere s n → HasLabel (length labels) n
-has_label s labels (Gate k) a t = tt
 has_label s labels (Code k) a t = let c = a.count in omega arith
-has_label s labels (Data offset) a t = tt
-has_label s labels Unknown a t = tt
+has_label s labels _ a t = tt
 
 pub label_at : (s : Sandbox) (labels : List ℕ) (k : ℕ) (n : Named) (found : Option Named)
     → IsSandbox s → AreLabels s.format s.items labels → k < length (named s) → found ≡ slice_get (named s) k → found ≡ Some n → HasLabel (length labels) n
 label_at s labels k n found h a l e f = has_label s labels n a (there_at s k n h l (name_at (named s) k n found l e f))
 
 is_placed_name : (s : Sandbox) (labels : List ℕ) (n : Named) → AreLabels s.format s.items labels → IsThere s n → IsPlacedName s.format s.items n (placed_of labels n)
-is_placed_name s labels (Gate k) a t = refl
 is_placed_name s labels (Code k) a t = (slice_index labels k, a.each k t, refl)
-is_placed_name s labels (Data offset) a t = refl
-is_placed_name s labels Unknown a t = refl
+is_placed_name s labels _ a t = refl
 
 -- one more name
 pub names_push : (s : Sandbox) (labels : List ℕ) (k : ℕ) (n : Named) (found : Option Named) (names now : List PlacedName) (name : PlacedName)

@@ -3,7 +3,7 @@ use Rattle.std.proofs.Common.{◌≡◌, ℕ, zero, suc, ◌+◌, ◌*◌, ◌%�
 use Rattle.std.proofs.lemmas.List.{take_more}
 use Rattle.std.proofs.lemmas.List.Sums.{sum_by-append, sum_by-cons}
 use Rattle.sfi_rewrite.specs.declared.slot.Slot.{Slot}
-use Rattle.sfi_rewrite.specs.declared.slot.Slot.TheVariants.{Wide, Short, Jump, Upper, Lower}
+use Rattle.sfi_rewrite.specs.declared.slot.Slot.TheVariants.{Short}
 use Rattle.sfi_policy.specs.Limits.{bundle_size}
 use Rattle.sfi_rewrite.specs.Slots.{slot_size, size_of, c_nop}
 
@@ -21,10 +21,7 @@ pub record AreSizes (count size : ℕ) : Type 0 where
 
 one_size : (s : Slot) → AreSizes 1 (slot_size s)
 one_size (Short f) = record { even = refl; least = omega arith; most = omega arith }
-one_size (Wide i) = record { even = refl; least = omega arith; most = omega arith }
-one_size (Jump i p l) = record { even = refl; least = omega arith; most = omega arith }
-one_size (Upper r p l) = record { even = refl; least = omega arith; most = omega arith }
-one_size (Lower r p l) = record { even = refl; least = omega arith; most = omega arith }
+one_size _ = record { even = refl; least = omega arith; most = omega arith }
 
 pub sizes : (xs : List Slot) → AreSizes (length xs) (size_of xs)
 sizes [] = record { even = refl; least = omega arith; most = omega arith }

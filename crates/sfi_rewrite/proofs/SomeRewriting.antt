@@ -8,7 +8,7 @@ use Rattle.std.proofs.lemmas.List.Elements.{Contains-append_right}
 use Rattle.std.proofs.lemmas.Map.Made.{Contains-tail}
 use Rattle.std.proofs.lemmas.Option.{slice_get-get_or}
 use Rattle.rv_word.specs.declared.instr.Instr.{Instr}
-use Rattle.rv_word.specs.declared.instr.Instr.TheVariants.{Op, OpImm, Load, Store, Branch, Jal, Jalr, Lui, Auipc, Fence, Ecall, Ebreak}
+use Rattle.rv_word.specs.declared.instr.Instr.TheVariants.{Load, Store, Jalr, Ecall}
 use Rattle.rv_comp.specs.Laws.{SomeFirstForm}
 use Rattle.sfi_policy.specs.declared.format.Format.{Format}
 use Rattle.sfi_policy.specs.declared.format.Format.TheVariants.{Sfi1}
@@ -57,15 +57,7 @@ some_masked : SomeFirstForm → (rvc : Bool) (i : Instr) → (slots : List Slot)
 some_masked law rvc (Load kind rd a imm) = (data_pair_slots a ++ Wide (Load kind rd 31 imm) ∷ [], refl)
 some_masked law rvc (Store width a rs2 imm) = (data_pair_slots a ++ Wide (Store width 31 rs2 imm) ∷ [], refl)
 some_masked law rvc (Jalr rd a imm) = (jump_slots rd a imm, refl)
-some_masked law rvc (Op op rd rs1 rs2) = some_alone law rvc (Op op rd rs1 rs2)
-some_masked law rvc (OpImm op rd rs1 imm) = some_alone law rvc (OpImm op rd rs1 imm)
-some_masked law rvc (Branch cond rs1 rs2 offset) = some_alone law rvc (Branch cond rs1 rs2 offset)
-some_masked law rvc (Jal rd offset) = some_alone law rvc (Jal rd offset)
-some_masked law rvc (Lui rd imm) = some_alone law rvc (Lui rd imm)
-some_masked law rvc (Auipc rd imm) = some_alone law rvc (Auipc rd imm)
-some_masked law rvc (Fence imm rd rs1) = some_alone law rvc (Fence imm rd rs1)
-some_masked law rvc Ecall = some_alone law rvc Ecall
-some_masked law rvc Ebreak = some_alone law rvc Ebreak
+some_masked law rvc other = some_alone law rvc other
 
 some_plain : SomeFirstForm → (writes on rvc : Bool) (i : Instr)
     → (slots : List Slot) × MatchBool writes (slots ≡ Wide i ∷ stack_pair) (MatchBool on (IsAlone rvc i slots) (IsMasked rvc i slots))
@@ -291,9 +283,7 @@ some_names f items slots l (n ∷ names) =
 
 is_label : (n : Named) (k : ℕ) → (n ≡ Code k) ⊎ (n ≡ Code k → ⊥)
 is_label (Code j) k = elim (cases_eq j k) [ inl e ↦ inl (ap Code e) | inr differ ↦ inr (λ e. differ cc) ]
-is_label (Gate j) k = inr (λ e. absurd cc)
-is_label (Data offset) k = inr (λ e. absurd cc)
-is_label Unknown k = inr (λ e. absurd cc)
+is_label _ k = inr (λ e. absurd cc)
 
 label_or_none : (names : List Named) (k : ℕ) → Contains names (Code k) ⊎ (Contains names (Code k) → ⊥)
 label_or_none [] k = inr (λ c. let lt = c.1 in omega arith)

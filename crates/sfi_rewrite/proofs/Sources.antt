@@ -10,7 +10,7 @@ use Rattle.sfi_policy.specs.declared.format.Format.{Format}
 use Rattle.rv_source.specs.Source.{Sandbox, IsSource}
 use Rattle.rv_source.specs.Source as text
 use Rattle.sfi_rewrite.specs.declared.fault.RewriteFault.{RewriteFault}
-use Rattle.sfi_rewrite.specs.declared.fault.RewriteFault.TheVariants.{ReservedRegister, Ecall, TooLarge, Memory, StackWrite}
+use Rattle.sfi_rewrite.specs.declared.fault.RewriteFault.TheVariants.{Memory}
 use Rattle.sfi_rewrite.specs.Placement.{Placement}
 use Rattle.sfi_rewrite.specs.Placed.{IsPlacedPart, IsPlaced, AreOf, format_of}
 use Rattle.sfi_rewrite.specs.Faults.{UnlessMemory, IsItemFault, IsSourceFault}
@@ -32,11 +32,8 @@ faulty source k n s placed f h e z m is = record {
 pub source_fault : (source : List Sandbox) (k n : ℕ) (s : Sandbox) (placed : List Placement) (f : RewriteFault)
     → k < length source → s ≡ get_or source k s → AllZip IsRewritten (take k source) placed → n ≡ k
     → UnlessMemory (IsItemFault s.format n s.items) f → UnlessMemory (IsSourceFault source) f
-source_fault source k n s placed (ReservedRegister line) h e z m is = faulty source k n s placed (ReservedRegister line) h e z m is
-source_fault source k n s placed (Ecall line) h e z m is = faulty source k n s placed (Ecall line) h e z m is
-source_fault source k n s placed (StackWrite line) h e z m is = faulty source k n s placed (StackWrite line) h e z m is
-source_fault source k n s placed (TooLarge sandbox) h e z m is = faulty source k n s placed (TooLarge sandbox) h e z m is
 source_fault source k n s placed Memory h e z m is = tt
+source_fault source k n s placed other h e z m is = faulty source k n s placed other h e z m is
 
 pub parts_push : (source : List Sandbox) (k : ℕ) (s : Sandbox) (placed now : List Placement) (p : Placement)
     → k < length source → s ≡ get_or source k s → AllZip IsRewritten (take k source) placed → IsRewritten s p → now ≡ placed ++ p ∷ [] → AllZip IsRewritten (take (k + 1) source) now
@@ -64,8 +61,5 @@ is_placed source placed s z a =
     record { at_least_one = omega arith; each = a; one_format = all_one (text.format_of source) placed (placed_of (text.format_of source) source placed s.one_format z) }
 
 pub fault_answered : OneFault → (source : List Sandbox) (f e : RewriteFault) → UnlessMemory (IsSourceFault source) e → IsSourceFault source f → AnswersFault f (Err e)
-fault_answered one source f (ReservedRegister line) h g = inl (ap Err (one source (ReservedRegister line) f h g))
-fault_answered one source f (Ecall line) h g = inl (ap Err (one source (Ecall line) f h g))
-fault_answered one source f (StackWrite line) h g = inl (ap Err (one source (StackWrite line) f h g))
-fault_answered one source f (TooLarge sandbox) h g = inl (ap Err (one source (TooLarge sandbox) f h g))
 fault_answered one source f Memory h g = inr refl
+fault_answered one source f other h g = inl (ap Err (one source other f h g))

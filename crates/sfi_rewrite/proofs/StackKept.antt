@@ -9,7 +9,7 @@ use Rattle.rv_word.specs.declared.instr.RegOp.TheVariants.{And, Or}
 use Rattle.rv_word.specs.declared.instr.ImmOp.TheVariants.{Addi}
 use Rattle.rv_word.specs.declared.instr.LoadKind.{LoadKind}
 use Rattle.rv_word.specs.declared.instr.Instr.{Instr}
-use Rattle.rv_word.specs.declared.instr.Instr.TheVariants.{Op, OpImm, Load, Store, Branch, Jal, Jalr, Lui, Auipc, Fence, Ecall, Ebreak}
+use Rattle.rv_word.specs.declared.instr.Instr.TheVariants.{Op, OpImm, Load, Branch, Jal, Jalr, Lui, Auipc}
 use Rattle.sfi_policy.specs.declared.format.Format.{Format}
 use Rattle.sfi_policy.specs.Formats.{has_stack, is_stack}
 use Rattle.rv_mem.specs.Bytes.{Bytes, address_after, loaded}
@@ -60,13 +60,7 @@ writes_alone (OpImm op rd rs1 imm) h m e j done = here _ h m rd _ e refl
 writes_alone (Load kind rd rs1 imm) h m e j done = load_writes (loaded m (offset_by (register h rs1) imm) (load_size kind)) kind rd (offset_by (register h rs1) imm) h m e done
 writes_alone (Lui rd imm) h m e j done = here _ h m rd _ e refl
 writes_alone (Auipc rd imm) h m e j done = here _ h m rd _ e refl
-writes_alone (Jal rd offset) h m e j done = absurd (cc)
-writes_alone (Jalr rd rs1 imm) h m e j done = absurd (cc)
-writes_alone (Store width rs1 rs2 imm) h m e j done = absurd (cc)
-writes_alone (Branch cond rs1 rs2 offset) h m e j done = absurd (cc)
-writes_alone (Fence imm rd rs1) h m e j done = absurd (cc)
-writes_alone Ecall h m e j done = absurd (cc)
-writes_alone Ebreak h m e j done = absurd (cc)
+writes_alone _ h m e j done = absurd (cc)
 
 -- ---- the pair after it
 
@@ -140,18 +134,9 @@ of_plain pair keeps false true rvc i slots w n h = alone_transparent rvc i slots
 of_plain pair keeps false false rvc i slots w n h = of_masked pair keeps rvc i slots n h
 
 no_jump_writes : (i : Instr) → jumps_or_loads_x2 (Plain i) ≡ false → writes_register 2 i ≡ true → is_jump i ≡ false
-no_jump_writes (Op op rd rs1 rs2) h w = refl
-no_jump_writes (OpImm op rd rs1 imm) h w = refl
-no_jump_writes (Load kind rd rs1 imm) h w = refl
-no_jump_writes (Store width rs1 rs2 imm) h w = refl
-no_jump_writes (Branch cond rs1 rs2 offset) h w = refl
 no_jump_writes (Jal rd offset) h w = absurd (true≢false (sym w ∙ h))
 no_jump_writes (Jalr rd rs1 imm) h w = absurd (true≢false (sym w ∙ h))
-no_jump_writes (Lui rd imm) h w = refl
-no_jump_writes (Auipc rd imm) h w = refl
-no_jump_writes (Fence imm rd rs1) h w = refl
-no_jump_writes Ecall h w = refl
-no_jump_writes Ebreak h w = refl
+no_jump_writes _ h w = refl
 
 -- where the format has a stack pointer that i writes, and which i may write, i is no jump
 writer : (has : Bool) (i : Instr) → (has && jumps_or_loads_x2 (Plain i)) ≡ false → (has && writes_register 2 i) ≡ true → (writes_register 2 i ≡ true) × (is_jump i ≡ false)

@@ -8,7 +8,7 @@ use Rattle.rv_word.specs.declared.instr.ImmOp.TheVariants.{Addi}
 use Rattle.rv_word.specs.declared.instr.LoadKind.{LoadKind}
 use Rattle.rv_word.specs.declared.instr.StoreWidth.{StoreWidth}
 use Rattle.rv_word.specs.declared.instr.Instr.{Instr}
-use Rattle.rv_word.specs.declared.instr.Instr.TheVariants.{Op, OpImm, Load, Store, Branch, Jal, Jalr, Lui, Auipc, Fence, Ecall, Ebreak}
+use Rattle.rv_word.specs.declared.instr.Instr.TheVariants.{Op, OpImm, Load, Store, Jalr}
 use Rattle.rv_comp.specs.declared.front.Front.TheVariants.{Read}
 use Rattle.rv_comp.specs.declared.form.Form16.{Form16}
 use Rattle.rv_comp.specs.Table.{expansion}
@@ -245,12 +245,4 @@ of_masked pair keeps rvc (Store width a rs2 imm) slots n e =
     let h = or_parts (is_withheld a) (is_withheld rs2) n in
     subst (λ (l : List Slot). IsTransparent (Store width a rs2 imm) l) (sym e) (store_transparent pair width a rs2 imm (not_withheld rs2 h.1))
 of_masked pair keeps rvc (Jalr rd a imm) slots n e = subst (λ (l : List Slot). IsTransparent (Jalr rd a imm) l) (sym e) (jumps_transparent pair keeps rd a imm)
-of_masked pair keeps rvc (Op op rd rs1 rs2) slots n e = alone_transparent rvc (Op op rd rs1 rs2) slots e
-of_masked pair keeps rvc (OpImm op rd rs1 imm) slots n e = alone_transparent rvc (OpImm op rd rs1 imm) slots e
-of_masked pair keeps rvc (Branch cond rs1 rs2 offset) slots n e = alone_transparent rvc (Branch cond rs1 rs2 offset) slots e
-of_masked pair keeps rvc (Jal rd offset) slots n e = alone_transparent rvc (Jal rd offset) slots e
-of_masked pair keeps rvc (Lui rd imm) slots n e = alone_transparent rvc (Lui rd imm) slots e
-of_masked pair keeps rvc (Auipc rd imm) slots n e = alone_transparent rvc (Auipc rd imm) slots e
-of_masked pair keeps rvc (Fence imm rd rs1) slots n e = alone_transparent rvc (Fence imm rd rs1) slots e
-of_masked pair keeps rvc Ecall slots n e = alone_transparent rvc Ecall slots e
-of_masked pair keeps rvc Ebreak slots n e = alone_transparent rvc Ebreak slots e
+of_masked pair keeps rvc other slots n e = alone_transparent rvc other slots e
