@@ -192,12 +192,7 @@ kind_or_not JumpOffset z = decided_both (decided_between _ _ z) (cases_eq (modul
 kind_or_not Upper z = decided_between _ _ z
 kind_or_not FenceFields z = decided_between _ _ z
 kind_or_not DataSize z = data_size_or_not z
-kind_or_not Service z = decided_between _ _ z
-kind_or_not Word z = decided_between _ _ z
-kind_or_not Half z = decided_between _ _ z
-kind_or_not Byte z = decided_between _ _ z
-kind_or_not ZeroCount z = decided_between _ _ z
-kind_or_not FormatNumber z = decided_between _ _ z
+kind_or_not _ z = decided_between _ _ z
 
 -- the token writes a number of this kind
 pub written_or_not : (kind : NumberKind) (token : List ℕ) → ((z : ℤ) × (IsNumber token z × IsNumberOf kind z)) ⊎ ((z : ℤ) → IsNumber token z → IsNumberOf kind z → ⊥)

@@ -22,9 +22,7 @@ stands_by_operand a b Rs2 token e h = subst (IsRegister token) (sym e) h
 stands_by_operand a b (Number kind) token e h = subst (λ (z : ℤ). IsNumber token z × IsNumberOf kind z) (sym e) h
 stands_by_operand a b Name token e h = (h.0, h.1, h.2 ∙ sym e)
 stands_by_operand a b Mode token e h = h ∙ ap mode_name (sym e)
-stands_by_operand a b Comma token e h = h
-stands_by_operand a b Open token e h = h
-stands_by_operand a b Close token e h = h
+stands_by_operand a b _ token e h = h
 
 -- a mark has one operand
 same_at_mark : (a b : OperandValues) (part : Part) → nat_lt 5 (slot part) ≡ true → SameAt part a b
@@ -34,9 +32,7 @@ same_at_mark a b Rs2 h = cc
 same_at_mark a b (Number kind) h = cc
 same_at_mark a b Name h = cc
 same_at_mark a b Mode h = cc
-same_at_mark a b Comma h = tt
-same_at_mark a b Open h = tt
-same_at_mark a b Close h = tt
+same_at_mark a b _ h = tt
 
 same_through : (part : Part) (a b c : OperandValues) → SameAt part a b → SameAt part b c → SameAt part a c
 same_through Rd a b c e f = e ∙ f
@@ -45,9 +41,7 @@ same_through Rs2 a b c e f = e ∙ f
 same_through (Number kind) a b c e f = e ∙ f
 same_through Name a b c e f = e ∙ f
 same_through Mode a b c e f = e ∙ f
-same_through Comma a b c e f = tt
-same_through Open a b c e f = tt
-same_through Close a b c e f = tt
+same_through _ a b c e f = tt
 
 pub not_true : (b : Bool) → not b ≡ true → b ≡ false
 not_true true h = cc
@@ -116,10 +110,7 @@ stands_suits o Rs1 token h = h.0
 stands_suits o Rs2 token h = h.0
 stands_suits o (Number kind) token h = h.1
 stands_suits o Name token h = (subst IsLabel h.2 h.0, subst (λ (t : List ℕ). length t ≤ 64) h.2 h.1)
-stands_suits o Mode token h = tt
-stands_suits o Comma token h = tt
-stands_suits o Open token h = tt
-stands_suits o Close token h = tt
+stands_suits o _ token h = tt
 
 pub reads_fit : (o : OperandValues) (form : List Part) (text : List ℕ) → Reads o form text → AllSuit o form
 reads_fit o [] text h = tt

@@ -57,12 +57,7 @@ module _ (name : Mnemonic) (no_branch : (cond : Cond) → name ≡ mnemonic.Bran
       by_case (mnemonic.Store width) b j h = h
       by_case (mnemonic.Branch cond) b j h = absurd (b cond refl)
       by_case mnemonic.Jal b j h = absurd (j refl)
-      by_case mnemonic.Jalr b j h = h
-      by_case mnemonic.Lui b j h = h
-      by_case mnemonic.Auipc b j h = h
-      by_case mnemonic.Fence b j h = h
-      by_case mnemonic.Ecall b j h = h
-      by_case mnemonic.Ebreak b j h = h
+      by_case _ b j h = h
 
   pub plain_departs : (text : List ℕ) (e : TextCause) → OperandsDepart name text e → InstrDeparts name text e
   plain_departs text e = by_case name no_branch no_jal
@@ -74,12 +69,7 @@ module _ (name : Mnemonic) (no_branch : (cond : Cond) → name ≡ mnemonic.Bran
       by_case (mnemonic.Store width) b j h = h
       by_case (mnemonic.Branch cond) b j h = absurd (b cond refl)
       by_case mnemonic.Jal b j h = absurd (j refl)
-      by_case mnemonic.Jalr b j h = h
-      by_case mnemonic.Lui b j h = h
-      by_case mnemonic.Auipc b j h = h
-      by_case mnemonic.Fence b j h = h
-      by_case mnemonic.Ecall b j h = h
-      by_case mnemonic.Ebreak b j h = h
+      by_case _ b j h = h
 
 -- what is read off a text is what its tokens state, and the other way round
 module _ (form : List Part) (states : OperandValues → Stated) (text : List ℕ) (s : Stated) where

@@ -34,9 +34,7 @@ operand_unique a b Rs2 token h k = register_unique token _ _ h k
 operand_unique a b (Number kind) token h k = number_unique token _ _ h.0 k.0
 operand_unique a b Name token h k = sym h.2 ∙ k.2
 operand_unique a b Mode token h k = mode_unique a.compressed b.compressed (sym h ∙ k)
-operand_unique a b Comma token h k = tt
-operand_unique a b Open token h k = tt
-operand_unique a b Close token h k = tt
+operand_unique a b _ token h k = tt
 
 -- two statements that are read off one text have the same operands
 pub agree : (a b : OperandValues) (form : List Part) (text : List ℕ) → Reads a form text → Reads b form text → AgreesOn form a b

@@ -38,17 +38,7 @@ made mnemonic.Ebreak o = instr.Ebreak
 
 made_own : (i : Instr) → made (mnemonic_of i) (operands_of i) ≡ i
 made_own (instr.Op op rd rs1 rs2) = refl
-made_own (instr.OpImm op rd rs1 imm) = refl
-made_own (instr.Load kind rd rs1 imm) = refl
-made_own (instr.Store width rs1 rs2 imm) = refl
-made_own (instr.Branch cond rs1 rs2 offset) = refl
-made_own (instr.Jal rd offset) = refl
-made_own (instr.Jalr rd rs1 imm) = refl
-made_own (instr.Lui rd imm) = refl
-made_own (instr.Auipc rd imm) = refl
-made_own (instr.Fence imm rd rs1) = refl
-made_own instr.Ecall = refl
-made_own instr.Ebreak = refl
+made_own _ = refl
 
 made_agrees : (m : Mnemonic) (a b : OperandValues) → AgreesOn (form_of m) a b → made m a ≡ made m b
 made_agrees (mnemonic.Op op) a b h = λ i. instr.Op op (h.0 i) (h.1.1.0 i) (h.1.1.1.1.0 i)

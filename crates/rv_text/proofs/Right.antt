@@ -169,12 +169,7 @@ straight (instr.Load kind rd rs1 imm) h = tt
 straight (instr.Store width rs1 rs2 imm) h = tt
 straight (instr.Branch cond rs1 rs2 offset) h = cc
 straight (instr.Jal rd offset) h = cc
-straight (instr.Jalr rd rs1 imm) h = tt
-straight (instr.Lui rd imm) h = tt
-straight (instr.Auipc rd imm) h = tt
-straight (instr.Fence imm rd rs1) h = tt
-straight instr.Ecall h = tt
-straight instr.Ebreak h = tt
+straight _ h = tt
 
 spells_in_range : (i : Instr) (name : List ℕ) (tokens : List (List ℕ)) → Spells i (name ∷ tokens) → InRange i
 spells_in_range i name tokens (named, inl form) = fits_in_range i (form_fits (operands_of i) (form_of (mnemonic_of i)) tokens form)
@@ -209,11 +204,7 @@ row_place place form states same tokens s (o, has, e) = same o ∙ ap place_of_s
 
 directive_place : (d : Directive) (o : OperandValues) → place_of_keyword (keyword.Directive d) ≡ place_of_stated (directive_states d o)
 directive_place directive.Format o = refl
-directive_place directive.Sandbox o = refl
-directive_place directive.Gate o = refl
-directive_place directive.Option o = refl
-directive_place directive.Data o = refl
-directive_place directive.Zero o = refl
+directive_place _ o = refl
 
 pseudo_place : (p : Pseudo) (o : OperandValues) → place_of_keyword (keyword.Pseudo p) ≡ place_of_stated (pseudo_states p o)
 pseudo_place Nop o = refl

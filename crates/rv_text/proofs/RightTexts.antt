@@ -164,10 +164,7 @@ module _ (met_law : MetNamesStay) (new_law : NewNamesNameNothing) where
   gate_keyword (keyword.Directive directive.Format) h = absurd (omega (arith, h))
   gate_keyword (keyword.Directive directive.Sandbox) h = absurd (omega (arith, h))
   gate_keyword (keyword.Directive directive.Gate) h = refl
-  gate_keyword (keyword.Directive directive.Option) h = absurd (omega (arith, h))
-  gate_keyword (keyword.Directive directive.Data) h = absurd (omega (arith, h))
-  gate_keyword (keyword.Directive directive.Zero) h = absurd (omega (arith, h))
-  gate_keyword (keyword.Numbers width) h = absurd (omega (arith, h))
+  gate_keyword _ h = absurd (omega (arith, h))
 
   abbrev gate_name_of : Stated → List ℕ
   gate_name_of (within (gate name service)) = name
@@ -187,9 +184,7 @@ module _ (met_law : MetNamesStay) (new_law : NewNamesNameNothing) where
     where
       decide : (what : Named) → meaning b.sandbox.names name ≡ what → IsFree name b
       decide Unknown is = is
-      decide (named_as.Gate k) is = absurd (none (name, rest, begins, λ free. known _ refl (sym is ∙ free)))
-      decide (named_as.Code k) is = absurd (none (name, rest, begins, λ free. known _ refl (sym is ∙ free)))
-      decide (named_as.Data o) is = absurd (none (name, rest, begins, λ free. known _ refl (sym is ∙ free)))
+      decide _ is = absurd (none (name, rest, begins, λ free. known _ refl (sym is ∙ free)))
 
   after_leads : (k : Keyword) (line : ℕ) (old new : SoFar) (text : List ℕ) → LeadsAfter k line old text new → IsRightSoFar old → IsRightSoFar new
   after_leads k line old new text (stands, once, (s, (tokens, are, after_k), does)) so_far =

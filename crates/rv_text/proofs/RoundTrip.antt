@@ -30,9 +30,7 @@ is_mark_part Rs2 = false
 is_mark_part (Number kind) = false
 is_mark_part Name = false
 is_mark_part Mode = false
-is_mark_part Comma = true
-is_mark_part Open = true
-is_mark_part Close = true
+is_mark_part _ = true
 
 -- the form begins with a mark, if with anything
 abbrev may_follow : List Part → Bool
@@ -57,12 +55,7 @@ operands_end o [] h = tt
 operands_end o (Comma ∷ form) h = refl
 operands_end o (Open ∷ form) h = refl
 operands_end o (Close ∷ form) h = refl
-operands_end o (Rd ∷ form) h = cc
-operands_end o (Rs1 ∷ form) h = cc
-operands_end o (Rs2 ∷ form) h = cc
-operands_end o (Number kind ∷ form) h = cc
-operands_end o (Name ∷ form) h = cc
-operands_end o (Mode ∷ form) h = cc
+operands_end o _ h = cc
 
 -- after blanks the printed operands of a form read as those operands
 module _ (o : OperandValues) (form : List Part) (gap : List ℕ) (blank : IsBlank gap) where

@@ -45,9 +45,7 @@ mnemonic_or_not token =
   where
     of_keyword : (k : Keyword) → keyword_name k ≡ token → ((m : Mnemonic) × (name_of m ≡ token)) ⊎ ((m : Mnemonic) → name_of m ≡ token → ⊥)
     of_keyword (keyword.Instr m) named = inl (m, named)
-    of_keyword (keyword.Pseudo p) named = inr (no_mnemonic_of_name token (keyword.Pseudo p) None refl named)
-    of_keyword (keyword.Directive d) named = inr (no_mnemonic_of_name token (keyword.Directive d) None refl named)
-    of_keyword (keyword.Numbers w) named = inr (no_mnemonic_of_name token (keyword.Numbers w) None refl named)
+    of_keyword other named = inr (no_mnemonic_of_name token other None refl named)
 
 pub some_meaning : SomeMeaning
 some_meaning text =
@@ -166,14 +164,7 @@ passes_or_refused old text = labels_on (length text) old old text text [] (refl,
 
 gate_or_not : (k : Keyword) → Decided (k ≡ keyword.Directive directive.Gate)
 gate_or_not (keyword.Directive directive.Gate) = inl refl
-gate_or_not (keyword.Directive directive.Format) = inr (λ e. cc)
-gate_or_not (keyword.Directive directive.Sandbox) = inr (λ e. cc)
-gate_or_not (keyword.Directive directive.Option) = inr (λ e. cc)
-gate_or_not (keyword.Directive directive.Data) = inr (λ e. cc)
-gate_or_not (keyword.Directive directive.Zero) = inr (λ e. cc)
-gate_or_not (keyword.Instr m) = inr (λ e. cc)
-gate_or_not (keyword.Pseudo p) = inr (λ e. cc)
-gate_or_not (keyword.Numbers w) = inr (λ e. cc)
+gate_or_not _ = inr (λ e. cc)
 
 taken_or_not : (b : Begun) (text : List ℕ) → Decided (IsTaken b text)
 taken_or_not b text =

@@ -46,9 +46,7 @@ put Rs2 first o = record o { rs2 = first.rs2 }
 put (Number kind) first o = record o { number = first.number }
 put Name first o = record o { name = first.name }
 put Mode first o = record o { compressed = first.compressed }
-put Comma first o = o
-put Open first o = o
-put Close first o = o
+put _ first o = o
 
 put_same : (part : Part) (first o : OperandValues) → SameAt part (put part first o) first
 put_same Rd first o = refl
@@ -57,9 +55,7 @@ put_same Rs2 first o = refl
 put_same (Number kind) first o = refl
 put_same Name first o = refl
 put_same Mode first o = refl
-put_same Comma first o = tt
-put_same Open first o = tt
-put_same Close first o = tt
+put_same _ first o = tt
 
 put_others : (part p : Part) (first o : OperandValues) → slot p ≢ slot part → SameAt p (put part first o) o
 put_others part Comma first o h = tt
@@ -85,9 +81,7 @@ same_self Rs2 o = refl
 same_self (Number kind) o = refl
 same_self Name o = refl
 same_self Mode o = refl
-same_self Comma o = tt
-same_self Open o = tt
-same_self Close o = tt
+same_self _ o = tt
 
 -- the operands that the text gives at the form, which keep the old ones elsewhere
 record Filled (old : OperandValues) (form : List Part) (text : List ℕ) : Type 0 where
@@ -168,31 +162,11 @@ made mnemonic.Ebreak o h = record { instr = instr.Ebreak; named = refl; agrees =
 
 no_repeat : (name : Mnemonic) → has_no_repeat (form_of name) ≡ true
 no_repeat (mnemonic.Op op) = refl
-no_repeat (mnemonic.OpImm op) = refl
-no_repeat (mnemonic.Load kind) = refl
-no_repeat (mnemonic.Store width) = refl
-no_repeat (mnemonic.Branch cond) = refl
-no_repeat mnemonic.Jal = refl
-no_repeat mnemonic.Jalr = refl
-no_repeat mnemonic.Lui = refl
-no_repeat mnemonic.Auipc = refl
-no_repeat mnemonic.Fence = refl
-no_repeat mnemonic.Ecall = refl
-no_repeat mnemonic.Ebreak = refl
+no_repeat _ = refl
 
 fence_or_not : (name : Mnemonic) → Decided (name ≡ mnemonic.Fence)
 fence_or_not mnemonic.Fence = inl refl
-fence_or_not (mnemonic.Op op) = inr (λ e. cc)
-fence_or_not (mnemonic.OpImm op) = inr (λ e. cc)
-fence_or_not (mnemonic.Load kind) = inr (λ e. cc)
-fence_or_not (mnemonic.Store width) = inr (λ e. cc)
-fence_or_not (mnemonic.Branch cond) = inr (λ e. cc)
-fence_or_not mnemonic.Jal = inr (λ e. cc)
-fence_or_not mnemonic.Jalr = inr (λ e. cc)
-fence_or_not mnemonic.Lui = inr (λ e. cc)
-fence_or_not mnemonic.Auipc = inr (λ e. cc)
-fence_or_not mnemonic.Ecall = inr (λ e. cc)
-fence_or_not mnemonic.Ebreak = inr (λ e. cc)
+fence_or_not _ = inr (λ e. cc)
 
 bare_or_not : (name : Mnemonic) (text : List ℕ) → Decided (IsBareFence name text)
 bare_or_not name text = decided_both (fence_or_not name) (blank_or_not text)
@@ -219,16 +193,7 @@ plain_or_departs name text =
 instr_or_departs : (name : Mnemonic) (text : List ℕ) → ((s : Stated) × ReadsInstr name text s) ⊎ ((e : TextCause) × InstrDeparts name text e)
 instr_or_departs (mnemonic.Branch cond) text = row_or_depart branch_form (branch_states cond) text refl
 instr_or_departs mnemonic.Jal text = row_or_depart jal_form jal_states text refl
-instr_or_departs (mnemonic.Op op) text = plain_or_departs (mnemonic.Op op) text
-instr_or_departs (mnemonic.OpImm op) text = plain_or_departs (mnemonic.OpImm op) text
-instr_or_departs (mnemonic.Load kind) text = plain_or_departs (mnemonic.Load kind) text
-instr_or_departs (mnemonic.Store width) text = plain_or_departs (mnemonic.Store width) text
-instr_or_departs mnemonic.Jalr text = plain_or_departs mnemonic.Jalr text
-instr_or_departs mnemonic.Lui text = plain_or_departs mnemonic.Lui text
-instr_or_departs mnemonic.Auipc text = plain_or_departs mnemonic.Auipc text
-instr_or_departs mnemonic.Fence text = plain_or_departs mnemonic.Fence text
-instr_or_departs mnemonic.Ecall text = plain_or_departs mnemonic.Ecall text
-instr_or_departs mnemonic.Ebreak text = plain_or_departs mnemonic.Ebreak text
+instr_or_departs other text = plain_or_departs other text
 
 -- ---- a list of data
 
@@ -284,23 +249,11 @@ list_or_departs width text =
 
 pseudo_no_repeat : (name : Pseudo) → has_no_repeat (pseudo_form name) ≡ true
 pseudo_no_repeat Nop = refl
-pseudo_no_repeat Ret = refl
-pseudo_no_repeat Li = refl
-pseudo_no_repeat Mv = refl
-pseudo_no_repeat Jr = refl
-pseudo_no_repeat J = refl
-pseudo_no_repeat Call = refl
-pseudo_no_repeat Beqz = refl
-pseudo_no_repeat Bnez = refl
-pseudo_no_repeat La = refl
+pseudo_no_repeat _ = refl
 
 directive_no_repeat : (name : Directive) → has_no_repeat (directive_form name) ≡ true
 directive_no_repeat directive.Format = refl
-directive_no_repeat directive.Sandbox = refl
-directive_no_repeat directive.Gate = refl
-directive_no_repeat directive.Option = refl
-directive_no_repeat directive.Data = refl
-directive_no_repeat directive.Zero = refl
+directive_no_repeat _ = refl
 
 reads_or_refused : (k : Keyword) (text : List ℕ) → ((s : Stated) × ReadsAfter k text s) ⊎ ((e : TextCause) × RefusedWith k text e)
 reads_or_refused (keyword.Instr name) text = instr_or_departs name text
