@@ -64,8 +64,7 @@ from_other b whole at earlier (x ∷ later) e =
 
 by_length : (l : Length) → rule_of_length l ≢ V10
 by_length Wide s = cc
-by_length Short s = cc
-by_length Longer s = cc
+by_length _ s = cc
 
 rest_other : (b : BundlePlace) (at : ℕ) (bytes : List ℕ) → All IsOther (rest_finding b at bytes)
 rest_other b at [] = All-nil IsOther

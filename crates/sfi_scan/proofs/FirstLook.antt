@@ -166,16 +166,7 @@ not_jump (Jal rd offset) (inl e) = absurd cc
 not_jump (Jal rd offset) (inr e) = absurd cc
 not_jump (Jalr rd rs1 imm) (inl e) = absurd cc
 not_jump (Jalr rd rs1 imm) (inr e) = absurd cc
-not_jump (Op op rd rs1 rs2) kind = refl
-not_jump (OpImm op rd rs1 imm) kind = refl
-not_jump (Load k rd rs1 imm) kind = refl
-not_jump (Store width rs1 rs2 imm) kind = refl
-not_jump (Branch cond rs1 rs2 offset) kind = refl
-not_jump (Lui rd imm) kind = refl
-not_jump (Auipc rd imm) kind = refl
-not_jump (Fence imm rd rs1) kind = refl
-not_jump Ecall kind = refl
-not_jump Ebreak kind = refl
+not_jump _ kind = refl
 
 pub write_quiet : (x : Place) → is_last_bundle x.bundle ≡ false → has_stack x.bundle.format ≡ true → IsWrite (outline x.instr) → precedes_pair x.later ≡ true → lowest x all_rules ≡ []
 write_quiet x last has kind pair =
