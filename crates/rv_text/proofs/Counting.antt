@@ -1,11 +1,11 @@
 -- A text has no more sandboxes than lines.
-use Rattle.std.proofs.Common.{◌≡◌, sym, ap, subst, ◌∙◌, ℕ, ◌+◌, ◌^◌, ◌≤◌, inl, inr, Bool, true, false, List, [], ◌∷◌, ◌++◌, Option, None, Some, length, length-append, ◌==◌, arith}
+use Rattle.std.proofs.Common.{◌≡◌, sym, ap, ◌∙◌, ℕ, ◌+◌, ◌^◌, ◌≤◌, inl, inr, List, [], ◌∷◌, ◌++◌, Option, Some, length, length-append, ◌==◌, arith}
 use Rattle.std.proofs.lemmas.List.Splits.{length-slice_split}
 use Rattle.std.proofs.lemmas.List.Sums.{count_by-le-length}
 use Rattle.rv_text.specs.SoFar.{Begun, SoFar, nothing, begin, format_or_sfi1, last_sandbox, sandboxes}
 use Rattle.rv_text.specs.Stated.{Stated, format, sandbox, within}
-use Rattle.rv_text.specs.Effects.{Labels, Does}
-use Rattle.rv_text.specs.Leads.{LabelsLead, RestLeads, Leads}
+use Rattle.rv_text.specs.Effects.{Does}
+use Rattle.rv_text.specs.Leads.{LabelsLead, RestLeads}
 use Rattle.rv_text.specs.Texts.{uncommented, lines, LinesLead, LeadsFromNothing}
 
 -- how many sandboxes have been begun

@@ -1,6 +1,6 @@
 -- What is read of labels at the front of a line.
-use Rattle.std.proofs.Common.{◌≡◌, ◌↔◌, refl, sym, ap, subst, ℕ, Bool, true, false, not, IsTrue, List, [], ◌∷◌, ◌++◌, true≢false, codes, length, length-append, arith, ◌<◌, ◌⊎◌, inl, inr, ◌∙◌, take, drop, Option, Some, None, Bor, MatchOption}
-use Rattle.rv_text.specs.Tokens.{Takes, IsToken}
+use Rattle.std.proofs.Common.{◌≡◌, ◌↔◌, refl, sym, ap, subst, ℕ, Bool, true, false, not, IsTrue, List, [], ◌∷◌, ◌++◌, true≢false, codes, length, arith, ◌<◌, ◌⊎◌, inl, inr, ◌∙◌, take, drop, Option, Some, None, Bor, MatchOption}
+use Rattle.rv_text.specs.Tokens.{Takes}
 use Rattle.rv_source.specs.Names.{IsLabel}
 use Rattle.rv_text.specs.SoFar.{Begun, SoFar}
 use Rattle.rv_text.specs.Effects.{IsFree, Labels, RefusesLabel}

@@ -4,7 +4,7 @@ use Rattle.rv_word.specs.declared.instr.Instr.{Instr}
 use Rattle.rv_text.specs.declared.cause.TextCause.{TextCause}
 use Rattle.rv_text.specs.declared.mnemonic.Mnemonic.{Mnemonic}
 use Rattle.rv_text.specs.declared.form.Part.{Part}
-use Rattle.rv_text.specs.declared.form.Part.TheVariants.{Rd, Rs1, Rs2, Number, Name, Mode, Comma, Open, Close}
+use Rattle.rv_text.specs.declared.form.Part.TheVariants.{Rd, Rs1, Rs2, Number, Name, Mode}
 use Rattle.rv_text.specs.Tokens.{Takes, IsBlank, LeadsTo, AreTokens}
 use Rattle.rv_text.specs.Registers.{IsRegister}
 use Rattle.rv_text.specs.Mnemonics.{name_of}

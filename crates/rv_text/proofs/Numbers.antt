@@ -7,7 +7,7 @@ use Rattle.std.specs.Str.Parse.{AllDigits, digits_value}
 use Rattle.rv_text.specs.Tokens.{IsMagnitude, IsNumber}
 use Rattle.rv_text.specs.private.Numbers.{IsInReach}
 use Rattle.rv_text.specs.declared.form.NumberKind.{NumberKind}
-use Rattle.rv_text.specs.declared.form.NumberKind.TheVariants.{Immediate, ShiftAmount, BranchOffset, JumpOffset, Upper, FenceFields, DataSize, Service, Word, Half, Byte, ZeroCount, FormatNumber}
+use Rattle.rv_text.specs.declared.form.NumberKind.TheVariants.{Immediate, ShiftAmount, BranchOffset, JumpOffset, Upper, FenceFields, DataSize}
 use Rattle.rv_text.specs.Forms.{IsNumberOf}
 
 abbrev WritesNone : List ℕ → Type 0

@@ -16,7 +16,7 @@ use Rattle.rv_word.specs.declared.instr.Cond.TheVariants.{Beq}
 use Rattle.rv_text.specs.declared.mnemonic.Mnemonic.{Mnemonic}
 use Rattle.rv_text.specs.declared.mnemonic.Mnemonic.TheVariants.{Op, OpImm, Load, Store, Branch}
 use Rattle.rv_text.specs.declared.form.NumberKind.{NumberKind}
-use Rattle.rv_text.specs.declared.form.NumberKind.TheVariants.{Immediate, ShiftAmount, BranchOffset, JumpOffset, Upper, FenceFields, DataSize, Service, Word, Half, Byte, ZeroCount, FormatNumber}
+use Rattle.rv_text.specs.declared.form.NumberKind.TheVariants.{Upper}
 use Rattle.rv_text.specs.Tokens.{IsNumber, IsToken}
 use Rattle.rv_text.specs.private.Numbers.{IsInReach}
 use Rattle.rv_source.specs.Names.{begins_name, continues_name, IsName}

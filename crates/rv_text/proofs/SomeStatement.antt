@@ -16,7 +16,7 @@ use Rattle.rv_text.specs.declared.form.Part.TheVariants.{Rd, Rs1, Rs2, Number, N
 use Rattle.rv_text.specs.declared.keyword.Directive.{Directive}
 use Rattle.rv_text.specs.declared.keyword.Directive.TheVariants as directive
 use Rattle.rv_text.specs.declared.keyword.Pseudo.{Pseudo}
-use Rattle.rv_text.specs.declared.keyword.Pseudo.TheVariants.{Nop, Ret, Li, Mv, Jr, J, Call, Beqz, Bnez, La}
+use Rattle.rv_text.specs.declared.keyword.Pseudo.TheVariants.{Nop}
 use Rattle.rv_text.specs.declared.keyword.DataWidth.{DataWidth}
 use Rattle.rv_text.specs.declared.keyword.Keyword.{Keyword}
 use Rattle.rv_text.specs.declared.keyword.Keyword.TheVariants as keyword

@@ -5,7 +5,7 @@ use Rattle.std.specs.List.{All}
 use Rattle.std.proofs.lemmas.List.Elements.{All-append, All-cons, All-nil}
 use Rattle.rv_word.specs.declared.instr.Instr.{Instr}
 use Rattle.rv_word.specs.declared.length.Length.{Length}
-use Rattle.rv_word.specs.declared.length.Length.TheVariants.{Short, Wide, Longer}
+use Rattle.rv_word.specs.declared.length.Length.TheVariants.{Wide}
 use Rattle.sfi_policy.specs.declared.format.Format.{Format}
 use Rattle.sfi_policy.specs.declared.format.Format.TheVariants.{Sfi1}
 use Rattle.sfi_policy.specs.Formats.{has_stack}

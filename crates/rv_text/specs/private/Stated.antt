@@ -1,5 +1,5 @@
 -- What the code's statements state, where they may come, and what holds of them.
-use Rattle.std.specs.Prelude.{◌<◌, ◌≤◌, length, ℕ, List, [], ◌∷◌, replicate}
+use Rattle.std.specs.Prelude.{◌<◌, ◌≤◌, length, [], ◌∷◌, replicate}
 use Rattle.std.specs.List.{All}
 use Rattle.sfi_policy.specs.Limits.{service_most}
 use Rattle.rv_word.specs.Spelling.{IsReg, InRange}

@@ -1,6 +1,5 @@
 -- Words of private contracts and proofs, beside those of Texts.antt.
-use Rattle.std.specs.Prelude.{◌≡◌, ℕ, ◌<◌, List, [], ◌∷◌, length}
-use Rattle.rv_text.specs.declared.cause.TextCause.TheVariants as cause
+use Rattle.std.specs.Prelude.{◌≡◌, ℕ, ◌<◌, List, ◌∷◌, length}
 use Rattle.rv_text.specs.Texts.{lines}
 
 -- the text begins with this line and a line feed, and then this

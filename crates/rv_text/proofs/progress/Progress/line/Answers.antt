@@ -1,4 +1,4 @@
-use Rattle.std.proofs.Common.{◌≡◌, ℕ, List, ◌⊎◌, inr, sym, subst, Result, Ok, Err, OnOk}
+use Rattle.std.proofs.Common.{ℕ, List, inr, sym, subst, Result, Ok, Err, OnOk}
 use Rattle.rv_text.specs.declared.cause.TextCause.{TextCause}
 use Rattle.rv_text.specs.SoFar.{SoFar}
 use Rattle.rv_text.specs.Tokens.{Takes}
