@@ -140,6 +140,54 @@ void sfi_c_begin(struct sfi_stream *stream);
 void sfi_c_feed(struct sfi_stream *stream, const uint8_t *bytes, size_t length);
 uint32_t sfi_c_end(const struct sfi_stream *stream, struct sfi_verdict *verdict);
 
+/* ---- what is in an image: ask it of bytes that were accepted */
+
+/*
+ * These calls look at the layout alone and break off at its first fault: they don't look for broken rules, so that each
+ * costs a small part of a check. Of bytes that are an image they answer the same whether a rule is broken in it or not.
+ *
+ * Compare the regions with what is yours before you map anything. An image names its addresses itself: that they lie
+ * apart from each other, and have room for the guard zones, is checked; that they lie apart from your own memory is yours.
+ */
+
+/* What is said of a sandbox or a gate that was asked for; or SFI_NO_IMAGE, where the bytes are no image. Unless it is
+ * SFI_FOUND, nothing is written. */
+enum sfi_lookup {
+    SFI_FOUND = 0, /* the image has it */
+    SFI_BEYOND = 1 /* the image has fewer sandboxes, or the sandbox fewer gates */
+};
+
+/* A sandbox of an image. */
+struct sfi_part {
+    uint32_t format;    /* that of the image: 1 for SFI1, 2 for SFI2 */
+    uint32_t code_base; /* the code region: its first address .. */
+    uint32_t code_size; /* .. and how many bytes it has, all of which are in the image */
+    uint32_t data_base; /* the data region: its first address .. */
+    uint32_t data_size; /* .. and how many bytes it has; a guard zone of 4096 bytes is on each side of it */
+    uint32_t start;     /* the address at which the sandbox starts to run */
+    uint32_t gates;     /* how many gates it has, 0 to 64 */
+    uint32_t init_size; /* how many first bytes of the data region are in the image: zeros follow them */
+    size_t code_offset; /* where the code lies in the image's bytes, counted from 0 */
+    size_t init_offset; /* where the first data bytes lie there */
+};
+
+/* A gate of a sandbox. */
+struct sfi_gate {
+    uint32_t address; /* the bundle in which its stub lies */
+    uint32_t service; /* what the host is asked for, 0 to 5 (docs/GATES.md) */
+};
+
+/*
+ * Writes to *part the sandbox of that number, counted from 0, of the image that the `length` bytes at `image` are. Returns
+ * SFI_FOUND, SFI_BEYOND or SFI_NO_IMAGE. The caller owes what it owes the calls above, of *part too.
+ */
+uint32_t sfi_c_part(const uint8_t *image, size_t length, uint32_t number, struct sfi_part *part);
+
+/*
+ * Writes to *gate the gate of that index, counted from 0 and in the order of the addresses, of the sandbox of that number.
+ */
+uint32_t sfi_c_gate(const uint8_t *image, size_t length, uint32_t number, uint32_t index, struct sfi_gate *gate);
+
 #ifdef __cplusplus
 }
 #endif

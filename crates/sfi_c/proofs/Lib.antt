@@ -1,5 +1,10 @@
 mod Answering
 mod Filling
 mod Handing
+mod Heads
+mod Layouts
 mod Listing
+mod Lookups
+mod Lying
+mod Places
 mod Writing

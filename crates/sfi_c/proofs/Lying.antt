@@ -1,0 +1,54 @@
+-- Pieces of bytes, and where they lie.
+use Rattle.std.proofs.Common.{◌≡◌, ◌∙◌, ℕ, ◌+◌, ◌-◌, ◌<◌, ◌≤◌, List, [], ◌++◌, length, take, drop, refl, sym, ap, subst, arith, append_assoc}
+use Rattle.std.proofs.lemmas.List.{length-append, length-drop, take_all}
+use Rattle.std.proofs.lemmas.Nat.{from_le_bytes-to_le_bytes_4}
+use Rattle.std.proofs.Math.Seq.{drop-append_seam, take-append_seam}
+use Rattle.std.specs.Int.{w32, from_le_bytes}
+use Rattle.sfi_image.specs.Spelling.{number, IsWord}
+use Rattle.sfi_c.specs.Parts.{LiesAt}
+
+-- the front of a piece lies where it does
+pub front_lies : (bytes : List ℕ) (o : ℕ) (s t : List ℕ) → LiesAt bytes o (s ++ t) → LiesAt bytes o s
+front_lies bytes o s t h = record {
+  before = h.before;
+  after = t ++ h.after;
+  bytes_are = h.bytes_are ∙ ap (λ (l : List ℕ). h.before ++ l) (append_assoc s t h.after);
+  offset_is = h.offset_is;
+}
+
+-- and what follows the front lies after it
+pub rest_lies : (bytes : List ℕ) (o m : ℕ) (s t : List ℕ) → m ≡ o + length s → LiesAt bytes o (s ++ t) → LiesAt bytes m t
+rest_lies bytes o m s t e h = record {
+  before = h.before ++ s;
+  after = h.after;
+  bytes_are = h.bytes_are ∙ ap (λ (l : List ℕ). h.before ++ l) (append_assoc s t h.after) ∙ sym (append_assoc h.before s (t ++ h.after));
+  offset_is = omega (arith, length-append h.before s, h.offset_is, e);
+}
+
+pub room : (bytes : List ℕ) (o : ℕ) (s : List ℕ) → LiesAt bytes o s → o + length s ≤ length bytes
+room bytes o s h =
+    omega (arith, ap length h.bytes_are, length-append h.before (s ++ h.after), length-append s h.after, h.offset_is)
+
+from_there : (bytes : List ℕ) (o : ℕ) (s : List ℕ) (h : LiesAt bytes o s) → drop o bytes ≡ s ++ h.after
+from_there bytes o s h =
+    ap (λ (k : ℕ). drop k bytes) h.offset_is ∙ ap (λ (l : List ℕ). drop (length h.before) l) h.bytes_are ∙ drop-append_seam h.before (s ++ h.after)
+
+pub length-number : (n : ℕ) → length (number n) ≡ 4
+unfolding number
+length-number n = refl
+
+taken : (s t : List ℕ) → length s ≡ 4 → take 4 (s ++ t) ≡ s
+taken s t e = ap (λ (k : ℕ). take k (s ++ t)) (sym e) ∙ take-append_seam s t
+
+back : (n : ℕ) → IsWord n → from_le_bytes w32 (number n) ≡ n
+unfolding number
+back n word = from_le_bytes-to_le_bytes_4 n word
+
+-- what is read where a number lies
+pub read_back : (bytes : List ℕ) (o n : ℕ) → LiesAt bytes o (number n) → IsWord n → from_le_bytes w32 (take 4 (drop o bytes)) ≡ n
+read_back bytes o n h word =
+    ap (λ (l : List ℕ). from_le_bytes w32 (take 4 l)) (from_there bytes o (number n) h) ∙ ap (from_le_bytes w32) (taken (number n) h.after (length-number n)) ∙ back n word
+
+-- a slice to the end is all that is there
+pub to_end : (bytes : List ℕ) (o : ℕ) → take (length bytes - o) (drop o bytes) ≡ drop o bytes
+to_end bytes o = take_all (length bytes - o) (drop o bytes) (omega (arith, length-drop o bytes))

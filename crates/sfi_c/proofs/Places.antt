@@ -1,0 +1,261 @@
+-- Where the numbers of a sandbox and of a gate lie, and that they have 32 bits.
+use Rattle.std.proofs.Common.{◌≡◌, ◌∙◌, ℕ, zero, suc, ◌+◌, ◌-◌, ◌*◌, ◌^◌, ◌<◌, ◌≤◌, List, [], ◌∷◌, ◌++◌, length, Some, refl, sym, ap, subst, arith, append_assoc}
+use Rattle.std.specs.Prelude.{drop, slice_get}
+use Rattle.std.specs.List.{All, flat_map}
+use Rattle.std.proofs.lemmas.List.{length-append, append-nil}
+use Rattle.std.proofs.lemmas.Option.{slice_get_within}
+use Rattle.std.proofs.lemmas.List.Elements.{All-head, All-tail}
+use Rattle.sfi_policy.specs.declared.format.Format.{Format}
+use Rattle.sfi_policy.specs.declared.format.Format.TheVariants.{Sfi1, Sfi2}
+use Rattle.sfi_policy.specs.Formats.{magic, code_most}
+use Rattle.sfi_image.specs.declared.part.Gate.{Gate}
+use Rattle.sfi_image.specs.declared.fields.Fields.{Fields}
+use Rattle.sfi_image.specs.Spelling.{Part, fields_of, number, fields, gate, part, spelling, format_of, IsWord, AreFieldWords}
+use Rattle.sfi_image.specs.Spans.{code_region}
+use Rattle.sfi_image.specs.Laws.{CodeEnds}
+use Rattle.sfi_image.specs.Regions.{IsBundleStart}
+use Rattle.sfi_image.specs.Parts.{IsRightPart, IsRightLayout}
+use Rattle.sfi_image.specs.Images.{IsImage}
+use Rattle.sfi_c.specs.declared.part.SfiPart.{SfiPart}
+use Rattle.sfi_c.specs.Parts.{LiesAt, IsPartOf}
+use Rattle.sfi_c.specs.private.Places.{IsPartAt, told_part}
+use Rattle.sfi_c.proofs.Heads.{head_is, length-magic}
+use Rattle.sfi_c.proofs.Lying.{front_lies, rest_lies, length-number}
+
+-- ---- gates
+
+pub address_lies : (bytes : List ℕ) (o : ℕ) (g : Gate) → LiesAt bytes o (gate g) → LiesAt bytes o (number g.address)
+unfolding gate
+address_lies bytes o g h = front_lies bytes o (number g.address) (number g.service) h
+
+pub service_lies : (bytes : List ℕ) (o m : ℕ) (g : Gate) → m ≡ o + 4 → LiesAt bytes o (gate g) → LiesAt bytes m (number g.service)
+unfolding gate
+service_lies bytes o m g e h = rest_lies bytes o m (number g.address) (number g.service) (omega (arith, e, length-number g.address)) h
+
+pub length-gate : (g : Gate) → length (gate g) ≡ 8
+unfolding gate
+length-gate g = omega (arith, length-append (number g.address) (number g.service), length-number g.address, length-number g.service)
+
+pub length-gates : (gs : List Gate) → length (flat_map gate gs) ≡ 8 * length gs
+length-gates [] = refl
+length-gates (g ∷ gs) = omega (arith, length-append (gate g) (flat_map gate gs), length-gate g, length-gates gs)
+
+-- ---- the seven numbers
+
+-- each lies 4 bytes after the one before it
+pub record AreAt (bytes : List ℕ) (o : ℕ) (f : Fields) : Type 0 where
+  pub code_base : LiesAt bytes o (number f.code_base)
+  pub code_size : LiesAt bytes (o + 4) (number f.code_size)
+  pub data_base : LiesAt bytes (o + 8) (number f.data_base)
+  pub data_size : LiesAt bytes (o + 12) (number f.data_size)
+  pub start : LiesAt bytes (o + 16) (number f.start)
+  pub gate_count : LiesAt bytes (o + 20) (number f.gate_count)
+  pub init_len : LiesAt bytes (o + 24) (number f.init_len)
+
+next : (bytes : List ℕ) (o m n : ℕ) (t : List ℕ) → m ≡ o + 4 → LiesAt bytes o (number n ++ t) → LiesAt bytes m t
+next bytes o m n t e h = rest_lies bytes o m (number n) t (omega (arith, e, length-number n)) h
+
+pub seven : (bytes : List ℕ) (o : ℕ) (f : Fields) → LiesAt bytes o (fields f) → AreAt bytes o f
+unfolding fields
+seven bytes o f h =
+    let h1 = next bytes o (o + 4) f.code_base _ (omega arith) h in
+    let h2 = next bytes (o + 4) (o + 8) f.code_size _ (omega arith) h1 in
+    let h3 = next bytes (o + 8) (o + 12) f.data_base _ (omega arith) h2 in
+    let h4 = next bytes (o + 12) (o + 16) f.data_size _ (omega arith) h3 in
+    let h5 = next bytes (o + 16) (o + 20) f.start _ (omega arith) h4 in
+    let h6 = next bytes (o + 20) (o + 24) f.gate_count _ (omega arith) h5 in
+    record {
+      code_base = front_lies bytes o (number f.code_base) _ h;
+      code_size = front_lies bytes (o + 4) (number f.code_size) _ h1;
+      data_base = front_lies bytes (o + 8) (number f.data_base) _ h2;
+      data_size = front_lies bytes (o + 12) (number f.data_size) _ h3;
+      start = front_lies bytes (o + 16) (number f.start) _ h4;
+      gate_count = front_lies bytes (o + 20) (number f.gate_count) _ h5;
+      init_len = h6;
+    }
+
+pub length-fields : (f : Fields) → length (fields f) ≡ 28
+unfolding fields number
+length-fields f = refl
+
+-- ---- a sandbox
+
+-- its pieces, one after another
+pub record HasPieces (bytes : List ℕ) (o : ℕ) (p : Part) : Type 0 where
+  pub numbers : AreAt bytes o (fields_of p)
+  pub gates : LiesAt bytes (o + 28) (flat_map gate p.gates)
+  pub code : LiesAt bytes (o + 28 + 8 * length p.gates) p.code
+  pub init : LiesAt bytes (o + 28 + 8 * length p.gates + length p.code) p.init
+
+pub pieces : (bytes : List ℕ) (o : ℕ) (p : Part) → LiesAt bytes o (part p) → HasPieces bytes o p
+unfolding part
+pieces bytes o p h =
+    let f = fields (fields_of p) in
+    let gs = flat_map gate p.gates in
+    let after = rest_lies bytes o (o + 28) f (gs ++ (p.code ++ p.init)) (omega (arith, length-fields (fields_of p))) h in
+    let contents = rest_lies bytes (o + 28) (o + 28 + 8 * length p.gates) gs (p.code ++ p.init) (omega (arith, length-gates p.gates)) after in
+    record {
+      numbers = seven bytes o (fields_of p) (front_lies bytes o f (gs ++ (p.code ++ p.init)) h);
+      gates = front_lies bytes (o + 28) gs (p.code ++ p.init) after;
+      code = front_lies bytes (o + 28 + 8 * length p.gates) p.code p.init contents;
+      init = rest_lies bytes (o + 28 + 8 * length p.gates) (o + 28 + 8 * length p.gates + length p.code) p.code p.init (omega arith) contents;
+    }
+
+pub length-part : (p : Part) → length (part p) ≡ 28 + 8 * length p.gates + length p.code + length p.init
+unfolding part
+length-part p = omega (
+  arith,
+  length-append (fields (fields_of p)) (flat_map gate p.gates ++ (p.code ++ p.init)),
+  length-append (flat_map gate p.gates) (p.code ++ p.init),
+  length-append p.code p.init,
+  length-fields (fields_of p),
+  length-gates p.gates,
+)
+
+code_fits : (format : Format) (n : ℕ) → n ≤ code_most format → n < 2 ^ 32
+code_fits Sfi1 n le = omega arith
+code_fits Sfi2 n le = omega arith
+
+pub words : CodeEnds → (p : Part) → IsRightPart p → AreFieldWords (fields_of p)
+words law p right =
+    let ends = law p right in
+    let above = right.guard_room.above in
+    let start = right.start.held in
+    let gates = right.gate_count in
+    let init = right.init_len in
+    let largest = right.data_placed.at_most in
+    record {
+      code_base = right.code_base;
+      code_size = code_fits p.format (length p.code) right.code_placed.at_most;
+      data_base = omega arith;
+      data_size = omega arith;
+      start = omega (arith, start.1);
+      gate_count = omega arith;
+      init_len = omega arith;
+    }
+
+-- ---- an image
+
+-- all its sandboxes
+pub all_lie : (bytes : List ℕ) (ps : List Part) → IsImage bytes ps → LiesAt bytes 8 (flat_map part ps)
+all_lie bytes ps h = record {
+  before = magic (format_of ps) ++ number (length ps);
+  after = [];
+  bytes_are = head_is bytes ps h ∙ ap (λ (l : List ℕ). magic (format_of ps) ++ (number (length ps) ++ l)) (sym (append-nil (flat_map part ps)))
+      ∙ sym (append_assoc (magic (format_of ps)) (number (length ps)) (flat_map part ps ++ []));
+  offset_is = omega (arith, length-append (magic (format_of ps)) (number (length ps)), length-magic (format_of ps), length-number (length ps));
+}
+
+-- what holds of each holds of the one of that number
+all_at : {X : Type 0} (P : X → Type 0) (xs : List X) (i : ℕ) (x : X) → All P xs → slice_get xs i ≡ Some x → P x
+all_at P [] i x h e = absurd cc
+all_at P (y ∷ ys) zero x h e = let is : y ≡ x = cc in subst P is (All-head P y ys h)
+all_at P (y ∷ ys) (suc i) x h e = all_at P ys i x (All-tail P y ys h) e
+
+pub record IsNext (ps : List Part) (i : ℕ) : Type 0 where
+  pub sandbox : Part
+  pub sandbox_is : slice_get ps i ≡ Some sandbox
+  pub on : drop i ps ≡ sandbox ∷ drop (suc i) ps
+
+pub is_next : (ps : List Part) (i : ℕ) → i < length ps → IsNext ps i
+is_next [] i lt = absurd (omega arith)
+is_next (p ∷ ps) zero lt = record { sandbox = p; sandbox_is = refl; on = refl }
+is_next (p ∷ ps) (suc i) lt =
+    let n = is_next ps i (omega arith) in
+    record { sandbox = n.sandbox; sandbox_is = n.sandbox_is; on = n.on }
+
+-- the sandbox of that number lies here, and then the others
+pub record IsThere (bytes : List ℕ) (ps : List Part) (i o : ℕ) : Type 0 where
+  pub sandbox : Part
+  pub sandbox_is : slice_get ps i ≡ Some sandbox
+  pub right : IsRightPart sandbox
+  pub format_is : sandbox.format ≡ format_of ps
+  pub lies : LiesAt bytes o (part sandbox)
+  pub on : LiesAt bytes o (part sandbox ++ flat_map part (drop (suc i) ps))
+
+pub there : (bytes : List ℕ) (ps : List Part) (i o : ℕ) → IsImage bytes ps → i < length ps → LiesAt bytes o (flat_map part (drop i ps)) → IsThere bytes ps i o
+there bytes ps i o h lt lies =
+    let n = is_next ps i lt in
+    let all : LiesAt bytes o (part n.sandbox ++ flat_map part (drop (suc i) ps)) = subst (λ (l : List Part). LiesAt bytes o (flat_map part l)) n.on lies in
+    record {
+      sandbox = n.sandbox;
+      sandbox_is = n.sandbox_is;
+      right = all_at IsRightPart ps i n.sandbox h.layout.right.each n.sandbox_is;
+      format_is = all_at (λ (p : Part). p.format ≡ format_of ps) ps i n.sandbox h.layout.one_format n.sandbox_is;
+      lies = front_lies bytes o (part n.sandbox) (flat_map part (drop (suc i) ps)) all;
+      on = all;
+    }
+
+pub go_on : (bytes : List ℕ) (ps : List Part) (i o : ℕ) (h : IsThere bytes ps i o) (t : SfiPart) → t ≡ told_part h.sandbox o
+    → LiesAt bytes (t.init_offset + t.init_size) (flat_map part (drop (suc i) ps))
+go_on bytes ps i o h t e =
+    rest_lies bytes o (t.init_offset + t.init_size) (part h.sandbox) (flat_map part (drop (suc i) ps))
+    (omega (arith, length-part h.sandbox, ap (λ (u : SfiPart). u.init_offset) e, ap (λ (u : SfiPart). u.init_size) e)) h.on
+
+-- ---- what is told
+
+pub tells : (bytes : List ℕ) (ps : List Part) (number : ℕ) (t : SfiPart) → IsImage bytes ps → IsPartAt bytes ps number t → IsPartOf bytes number t
+tells bytes ps number t h at =
+    let all = pieces bytes at.offset at.sandbox at.lies in
+    let e = at.told_is in
+    record {
+      parts = ps;
+      image = h;
+      sandbox = at.sandbox;
+      sandbox_is = at.sandbox_is;
+      tells = record {
+        format = ap (λ (u : SfiPart). u.format) e;
+        code_base = ap (λ (u : SfiPart). u.code_base) e;
+        code_size = ap (λ (u : SfiPart). u.code_size) e;
+        data_base = ap (λ (u : SfiPart). u.data_base) e;
+        data_size = ap (λ (u : SfiPart). u.data_size) e;
+        start = ap (λ (u : SfiPart). u.start) e;
+        gates = ap (λ (u : SfiPart). u.gates) e;
+        init_size = ap (λ (u : SfiPart). u.init_size) e;
+        code = subst (λ (m : ℕ). LiesAt bytes m at.sandbox.code) (sym (ap (λ (u : SfiPart). u.code_offset) e)) all.code;
+        init = subst (λ (m : ℕ). LiesAt bytes m at.sandbox.init) (sym (ap (λ (u : SfiPart). u.init_offset) e)) all.init;
+      };
+    }
+
+-- ---- one gate
+
+gate_there : (bytes : List ℕ) (o i : ℕ) (gs : List Gate) (g : Gate) → slice_get gs i ≡ Some g → LiesAt bytes o (flat_map gate gs) → LiesAt bytes (o + 8 * i) (gate g)
+gate_there bytes o i [] g e h = absurd cc
+gate_there bytes o zero (x ∷ gs) g e h =
+    let is : x ≡ g = cc in
+    let same : o ≡ o + 8 * 0 = omega arith in
+    subst (λ (y : Gate). LiesAt bytes (o + 8 * 0) (gate y)) is (subst (λ (m : ℕ). LiesAt bytes m (gate x)) same (front_lies bytes o (gate x) (flat_map gate gs) h))
+gate_there bytes o (suc i) (x ∷ gs) g e h =
+    let after = rest_lies bytes o (o + 8) (gate x) (flat_map gate gs) (omega (arith, length-gate x)) h in
+    let same : o + 8 + 8 * i ≡ o + 8 * suc i = omega arith in
+    subst (λ (m : ℕ). LiesAt bytes m (gate g)) same (gate_there bytes (o + 8) i gs g e after)
+
+-- the gate of that index lies there, and its numbers have 32 bits
+pub record IsGateThere (bytes : List ℕ) (t : SfiPart) (index : ℕ) (g : Gate) : Type 0 where
+  pub few : index < t.gates
+  pub room : 8 * (t.gates - index) ≤ t.code_offset
+  pub lies : LiesAt bytes (t.code_offset - 8 * (t.gates - index)) (gate g)
+  pub address : IsWord g.address
+  pub service : IsWord g.service
+
+pub one_gate : CodeEnds → (bytes : List ℕ) (ps : List Part) (n index : ℕ) (p : Part) (g : Gate) (t : SfiPart) → IsImage bytes ps → IsPartAt bytes ps n t
+    → slice_get ps n ≡ Some p → slice_get p.gates index ≡ Some g → IsGateThere bytes t index g
+one_gate law bytes ps n index p g t h at is_p is_g =
+    let both : Some at.sandbox ≡ Some p = sym at.sandbox_is ∙ is_p in
+    let same : at.sandbox ≡ p = cc in
+    let right = all_at IsRightPart ps n p h.layout.right.each is_p in
+    let told : t ≡ told_part p at.offset = at.told_is ∙ ap (λ (q : Part). told_part q at.offset) same in
+    let there = gate_there bytes (at.offset + 28) index p.gates g is_g (pieces bytes at.offset p (subst (λ (q : Part). LiesAt bytes at.offset (part q)) same at.lies)).gates in
+    let lt : index < length p.gates = slice_get_within p.gates index g is_g in
+    let gates : t.gates ≡ length p.gates = ap (λ (u : SfiPart). u.gates) told in
+    let code : t.code_offset ≡ at.offset + 28 + 8 * length p.gates = ap (λ (u : SfiPart). u.code_offset) told in
+    let place : at.offset + 28 + 8 * index ≡ t.code_offset - 8 * (t.gates - index) = omega arith in
+    let start = (all_at (λ (x : Gate). IsBundleStart (code_region p) x.address) p.gates index g right.gates.starts is_g).held in
+    let service = all_at (λ (x : Gate). x.service ≤ 5) p.gates index g right.gates.services is_g in
+    record {
+      few = omega arith;
+      room = omega arith;
+      lies = subst (λ (m : ℕ). LiesAt bytes m (gate g)) place there;
+      address = omega (arith, start.1, law p right);
+      service = omega arith;
+    }

@@ -1,0 +1,110 @@
+//! The calls by which C reads what is in an image.
+ghost use Rattle.std.specs.Prelude.{◌≡◌, ◌≢◌, ◌<◌, ◌≤◌, List, Some, length, slice_get};
+ghost use Rattle.sfi_image.specs.declared.fault.LayoutFault.{LayoutFault};
+ghost use Rattle.sfi_image.specs.Spelling.{Part};
+ghost use Rattle.sfi_image.specs.Images.{IsImage};
+ghost use Rattle.sfi_image.specs.Faults.{IsFault};
+ghost use Rattle.sfi_c.specs.Parts.{lookup_number, IsPartOf, IsBeyond, IsGateOf, HasNoGate, IsBeyondGates};
+ghost use Rattle.sfi_c.specs.private.Places.{IsPartAt};
+
+use crate::layout::is_image;
+use crate::lookup::Lookup;
+use crate::part::{SfiGate, SfiPart, gate_of, number_at, part_of};
+use sfi_image::one_reading;
+
+/// Where the count of sandboxes lies.
+const COUNT_OFFSET: usize = 4;
+
+/// Whether the bytes are an image with a sandbox of that number.
+fn look_up(image: &[u8], number: u32) -> Lookup
+    ensures found { result ≡ Lookup.Found
+        → (ps : List Part) × IsImage image.now ps × (number < length ps) }
+    ensures beyond { result ≡ Lookup.Beyond → IsBeyond image.now number }
+    ensures layout { result ≡ Lookup.NoImage → (k : LayoutFault) × IsFault image.now k }
+{
+    if is_image(image) {
+        if number < number_at(image, COUNT_OFFSET) {
+            Lookup::Found
+        } else {
+            Lookup::Beyond
+        }
+    } else {
+        Lookup::NoImage
+    }
+}
+
+/// Whether the bytes are an image with a gate of that index in the sandbox of that number.
+fn look_up_gate(image: &[u8], number: u32, index: u32) -> Lookup
+    ensures found { result ≡ Lookup.Found → (ps : List Part) × (p : Part) × IsImage image.now ps
+        × (slice_get ps number ≡ Some p) × (index < length p.gates) }
+    ensures beyond { result ≡ Lookup.Beyond → IsBeyondGates image.now number index }
+    ensures layout { result ≡ Lookup.NoImage → (k : LayoutFault) × IsFault image.now k }
+{
+    let lookup = look_up(image, number);
+    if lookup == Lookup::Found && part_of(image, number).gates <= index {
+        return Lookup::Beyond;
+    }
+    lookup
+}
+
+/// Writes to `part` what the image has of its sandbox of that number, counted from 0, and returns
+/// the number of a [`Lookup`]. It looks at the layout alone, and takes no memory.
+#[unsafe(no_mangle)]
+pub extern "C" fn sfi_c_part(image: &[u8], number: u32, part: &mut SfiPart) -> u32
+    ensures known { result ≤ 2 }
+
+    // What each status means.
+    ensures found { result ≡ lookup_number Lookup.Found → IsPartOf image.now number part.new }
+    ensures beyond { result ≡ lookup_number Lookup.Beyond → IsBeyond image.now number }
+    ensures layout { result ≡ lookup_number Lookup.NoImage
+        → (k : LayoutFault) × IsFault image.now k }
+    ensures unwritten { result ≢ lookup_number Lookup.Found → part.new ≡ part.old }
+
+    // Which bytes get it.
+    ensures only_found { (ps : List Part) → IsImage image.now ps → number < length ps
+        → result ≡ lookup_number Lookup.Found }
+    ensures only_beyond { IsBeyond image.now number → result ≡ lookup_number Lookup.Beyond }
+    ensures only_layout { (k : LayoutFault) → IsFault image.now k
+        → result ≡ lookup_number Lookup.NoImage }
+{
+    // The law that the contract rests on: this call does nothing.
+    one_reading();
+
+    let lookup = look_up(image, number);
+    if lookup == Lookup::Found {
+        *part = part_of(image, number);
+    }
+    lookup.number()
+}
+
+/// Writes to `gate` the gate of that index, counted from 0, of the image's sandbox of that number,
+/// and returns the number of a [`Lookup`]. It looks at the layout alone, and takes no memory.
+#[unsafe(no_mangle)]
+pub extern "C" fn sfi_c_gate(image: &[u8], number: u32, index: u32, gate: &mut SfiGate) -> u32
+    ensures known { result ≤ 2 }
+
+    // What each status means.
+    ensures found { result ≡ lookup_number Lookup.Found → IsGateOf image.now number index gate.new }
+    ensures beyond { result ≡ lookup_number Lookup.Beyond → IsBeyondGates image.now number index }
+    ensures layout { result ≡ lookup_number Lookup.NoImage
+        → (k : LayoutFault) × IsFault image.now k }
+    ensures unwritten { result ≢ lookup_number Lookup.Found → gate.new ≡ gate.old }
+
+    // Which bytes get it.
+    ensures only_found { (ps : List Part) (p : Part) → IsImage image.now ps
+        → slice_get ps number ≡ Some p → index < length p.gates
+        → result ≡ lookup_number Lookup.Found }
+    ensures only_beyond { IsBeyondGates image.now number index
+        → result ≡ lookup_number Lookup.Beyond }
+    ensures only_layout { (k : LayoutFault) → IsFault image.now k
+        → result ≡ lookup_number Lookup.NoImage }
+{
+    // The law that the contract rests on: this call does nothing.
+    one_reading();
+
+    let lookup = look_up_gate(image, number, index);
+    if lookup == Lookup::Found {
+        *gate = gate_of(image, &part_of(image, number), index);
+    }
+    lookup.number()
+}
