@@ -63,6 +63,7 @@ def commands(program):
         (["run"], image),
         (["run", "--rounds", "3", "--quantum", "8", "--input", "616263"], image),
         (["run", "--rounds", "1000", "--quantum", "1"], two),
+        (["run", "--report"], two),
         (["run"], reaching),
         (["convert"], image),
         (["convert"], bare),

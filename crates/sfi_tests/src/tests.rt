@@ -21,6 +21,7 @@ mod report;
 mod run_limits;
 mod runs;
 mod scan;
+mod states;
 mod stream;
 mod tour;
 mod usage;

@@ -33,7 +33,7 @@ const SMALLEST: [(&str, usize); 4] = [(SFI1, 1), (HEAD, 1), (EBREAK, 64), NONE];
 const PROGRAM: [(&str, usize); 4] = [(SFI1, 1), (HI, 1), (C_EBREAK, 88), ("4869", 1)];
 
 /// Each command, and findings and a fault.
-pub(super) const COMMANDS: [Command; 8] = [
+pub(super) const COMMANDS: [Command; 9] = [
     Command {
         line: "sfi check",
         pieces: SMALLEST,
@@ -69,6 +69,12 @@ pub(super) const COMMANDS: [Command; 8] = [
         pieces: PROGRAM,
         status: 0,
         front: "sandbox=0 exit=105 steps=19 out=4869\n",
+    },
+    Command {
+        line: "sfi run --report",
+        pieces: SMALLEST,
+        status: 0,
+        front: "sandbox=0 trap=Break at=01000000 steps=0 out=\nsandbox=0 pc=01000000 00100073 ebreak\nx1=00000000 x2=018000f0 ",
     },
     Command {
         line: "sfi convert",

@@ -30,7 +30,8 @@ fn usage(rt: HostRuntime) -> Result<(), Fail> {
         ("sfi dis --raw", "error: "),
         ("sfi run image", "error: "),
         ("sfi run --raw", "error: "),
-        ("sfi run --report", "error: "),
+        ("sfi run --report=yes", "error: "),
+        ("sfi run --report --report", "error: "),
         ("sfi run --rounds", "error: "),
         ("sfi run --rounds 0", "error: "),
         ("sfi run --rounds 10001", "error: "),
@@ -124,7 +125,7 @@ fn help(rt: HostRuntime) -> Result<(), Fail> {
         ),
         (
             ["run --help", "run -h", "help run"],
-            ["--rounds <N> ", "--quantum <Q> ", "--input <HEX> "],
+            ["--rounds <N> ", "--quantum <Q> ", "--report "],
             "run --",
         ),
         (
@@ -163,20 +164,34 @@ fn help(rt: HostRuntime) -> Result<(), Fail> {
 #[test]
 fn run_options(rt: HostRuntime) -> Result<(), Fail> {
     let alloc = rt.alloc();
-    let rows: [(&str, u32, u32, &[u8]); 5] = [
-        ("sfi run", 1, 1000, &[]),
-        ("sfi run --input=", 1, 1000, &[]),
-        ("sfi run --rounds 10000 --quantum 1", 10000, 1, &[]),
-        ("sfi run --rounds=7 --quantum 1000000", 7, 1000000, &[]),
-        ("sfi run --input 004aFf", 1, 1000, &[0x00, 0x4a, 0xff]),
+    let rows: [(&str, u32, u32, &[u8], bool); 6] = [
+        ("sfi run", 1, 1000, &[], false),
+        ("sfi run --input=", 1, 1000, &[], false),
+        ("sfi run --rounds 10000 --quantum 1", 10000, 1, &[], false),
+        (
+            "sfi run --rounds=7 --quantum 1000000",
+            7,
+            1000000,
+            &[],
+            false,
+        ),
+        (
+            "sfi run --input 004aFf",
+            1,
+            1000,
+            &[0x00, 0x4a, 0xff],
+            false,
+        ),
+        ("sfi run --report --rounds 2", 2, 1000, &[], true),
     ];
-    for (line, of_rounds, of_quantum, of_input) in rows {
+    for (line, of_rounds, of_quantum, of_input, of_report) in rows {
         let words = words_of(alloc, line)?;
         let Ok(
             Job::Run {
                 rounds,
                 quantum,
                 input,
+                report,
             },
         ) = job_of(alloc, words.as_slice())
         else {
@@ -184,6 +199,7 @@ fn run_options(rt: HostRuntime) -> Result<(), Fail> {
         };
         assert_eq!(rt; (rounds, quantum), (of_rounds, of_quantum), "{line}");
         assert_eq!(rt; input.as_slice(), of_input, "{line}");
+        assert_eq!(rt; report, of_report, "{line}");
     }
     Ok(())
 }
