@@ -177,6 +177,18 @@ struct sfi_gate {
     uint32_t service; /* what the host is asked for, 0 to 5 (docs/GATES.md) */
 };
 
+/* These have no padding either: the offsets have the size of an address, so that the first struct has 48 bytes where that
+ * is 64 bits, and 40 where it is 32. */
+#if defined(__cplusplus) && __cplusplus >= 201103L
+static_assert(sizeof(struct sfi_part) == 32 + 2 * sizeof(size_t) && sizeof(struct sfi_gate) == 8, "no padding");
+#elif defined(__STDC_VERSION__) && __STDC_VERSION__ >= 201112L
+_Static_assert(sizeof(struct sfi_part) == 32 + 2 * sizeof(size_t) && sizeof(struct sfi_gate) == 8, "no padding");
+#else
+typedef char sfi_part_has_no_padding[sizeof(struct sfi_part) == 32 + 2 * sizeof(size_t) && sizeof(struct sfi_gate) == 8
+                                         ? 1
+                                         : -1];
+#endif
+
 /*
  * Writes to *part the sandbox of that number, counted from 0, of the image that the `length` bytes at `image` are. Returns
  * SFI_FOUND, SFI_BEYOND or SFI_NO_IMAGE. The caller owes what it owes the calls above, of *part too.

@@ -14,6 +14,8 @@ mod layout;
 mod looking;
 mod lookup;
 mod part;
+#[cfg(test)]
+mod part_tests;
 mod stage;
 mod status;
 mod stream;
