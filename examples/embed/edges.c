@@ -3,7 +3,8 @@
  *
  *     edges COUNT < IMAGE        # an image with COUNT findings, in which no rule is broken if that is 0
  *
- * It says so of the image, and that each beginning of it is no image by fault 3, Short.
+ * It says so of the image, and that each beginning of it is no image by fault 3, Short. Sandboxes and gates are asked for
+ * in all of these, too.
  */
 #include "sfi.h"
 #include <stdio.h>
@@ -48,6 +49,45 @@ static void try_capacity(const uint8_t *image, size_t length, uint32_t count, si
         expect(!memcmp(&alone.first, all, sizeof *all), "first finding", capacity);
 }
 
+/* Each sandbox, each of its gates, and one more, between two marked elements. */
+static void try_parts(const uint8_t *image, size_t length) {
+    size_t end = 8; /* after the magic and the count */
+    uint32_t number = 0;
+    struct sfi_part part[3];
+    struct sfi_gate gate[3];
+    memset(part, MARK, sizeof part);
+    for (; sfi_c_part(image, length, number, part + 1) == SFI_FOUND; number++) {
+        expect(is_marked(part, sizeof *part) && is_marked(part + 2, sizeof *part), "written around the sandbox", number);
+        expect(part[1].code_offset == end + 28 + 8 * part[1].gates, "where the code is", number);
+        expect(part[1].init_offset == part[1].code_offset + part[1].code_size, "where the first data bytes are", number);
+        end = part[1].init_offset + part[1].init_size;
+        uint32_t index = 0;
+        memset(gate, MARK, sizeof gate);
+        for (; sfi_c_gate(image, length, number, index, gate + 1) == SFI_FOUND; index++) {
+            expect(is_marked(gate, sizeof *gate) && is_marked(gate + 2, sizeof *gate), "written around the gate", index);
+            memset(gate, MARK, sizeof gate);
+        }
+        expect(index == part[1].gates, "count of gates", number);
+        expect(sfi_c_gate(image, length, number, index, gate + 1) == SFI_BEYOND && is_marked(gate, sizeof gate),
+               "a gate too far", number);
+        memset(part, MARK, sizeof part);
+    }
+    expect(number > 0 && end == length, "the last sandbox's end", number);
+    expect(sfi_c_part(image, length, number, part + 1) == SFI_BEYOND && is_marked(part, sizeof part), "one too far", number);
+    expect(sfi_c_gate(image, length, number, 0, gate + 1) == SFI_BEYOND && is_marked(gate, sizeof gate),
+           "a gate of one too far", number);
+}
+
+/* Nothing is told of bytes that are no image. */
+static void try_none(const uint8_t *bytes, size_t length) {
+    struct sfi_part part;
+    struct sfi_gate gate;
+    memset(&part, MARK, sizeof part);
+    memset(&gate, MARK, sizeof gate);
+    expect(sfi_c_part(bytes, length, 0, &part) == SFI_NO_IMAGE && is_marked(&part, sizeof part), "a sandbox of none", length);
+    expect(sfi_c_gate(bytes, length, 0, 0, &gate) == SFI_NO_IMAGE && is_marked(&gate, sizeof gate), "a gate of none", length);
+}
+
 int main(int argc, char **argv) {
     static uint8_t image[1 << 20];
     size_t length = fread(image, 1, sizeof image, stdin);
@@ -57,6 +97,7 @@ int main(int argc, char **argv) {
     sfi_c_findings(image, length, all, ROOM, &verdict);
     for (size_t capacity = 0; capacity <= ROOM; capacity++)
         try_capacity(image, length, count, capacity, all);
+    try_parts(image, length);
     for (size_t beginning = 0; beginning < length; beginning++) {
         uint8_t *cut = malloc(beginning ? beginning : 1); /* so that valgrind sees a read after its end */
         if (!cut)
@@ -68,6 +109,7 @@ int main(int argc, char **argv) {
         expect(sfi_c_findings(cut, beginning, all, ROOM, &verdict) == SFI_NO_IMAGE, "status of a beginning", beginning);
         expect(!memcmp(&verdict, &wanted, sizeof verdict), "verdict on a beginning", beginning);
         expect(is_marked(all, sizeof all), "findings of a beginning", beginning);
+        try_none(cut, beginning);
         free(cut);
     }
     puts(failures ? "edges: FAILED" : "edges: passed");

@@ -1,12 +1,16 @@
 // Checks the image on standard input by the WebAssembly module, and lists its first findings:
 //
 //     node [--experimental-wasm-memory64] host.mjs MODULE [CAPACITY] < IMAGE
+//     node [--experimental-wasm-memory64] host.mjs MODULE parts < IMAGE
 //
-// The image's own bytes; room for so many findings, 2 if absent. It ends in the verdict's status.
+// The image's own bytes; room for so many findings, 2 if absent. With `parts` it tells what is in an image that is
+// accepted, as parts.c does. It ends in the verdict's status.
 import { readFileSync } from "node:fs";
 
 const FINDING_BYTES = 12; // struct sfi_finding: sandbox, address, rule
 const VERDICT_WORDS = 8; // struct sfi_verdict
+const PART_WORDS = 12; // struct sfi_part, whose two offsets are two words each
+const GATE_WORDS = 2; // struct sfi_gate: address, service
 const PAGE = 65536;
 
 // `memory.grow` takes a BigInt by the standard, and a number in some versions of node.
@@ -18,24 +22,52 @@ function grow(memory, pages) {
   }
 }
 
-// The verdict's words, and the findings that there is room for, three words each.
-async function judge(module, image, capacity) {
+// An instance with the image in its memory, and room before it for so many bytes that a call may write.
+async function instanceWith(module, image, room) {
   const { instance } = await WebAssembly.instantiate(module);
-  const { memory, sfi_c_findings, __heap_base } = instance.exports;
-  // After the module's own data and stack: the verdict, the findings, the image.
-  const verdict = Math.ceil(Number(__heap_base.value) / 16) * 16;
-  const array = verdict + 4 * VERDICT_WORDS;
-  const bytes = array + FINDING_BYTES * capacity;
+  const { memory, __heap_base } = instance.exports;
+  // After the module's own data and stack.
+  const written = Math.ceil(Number(__heap_base.value) / 16) * 16;
+  const bytes = written + room;
   const wanted = bytes + image.length - memory.buffer.byteLength;
   if (wanted > 0) grow(memory, Math.ceil(wanted / PAGE));
   new Uint8Array(memory.buffer).set(image, bytes);
-  sfi_c_findings(...[bytes, image.length, array, capacity, verdict].map(BigInt));
-  const words = new Uint32Array(memory.buffer, verdict, VERDICT_WORDS);
+  return { calls: instance.exports, memory, written, bytes };
+}
+
+// The verdict's words, and the findings that there is room for, three words each.
+async function judge(module, image, capacity) {
+  const room = 4 * VERDICT_WORDS + FINDING_BYTES * capacity;
+  const { calls, memory, written, bytes } = await instanceWith(module, image, room);
+  const array = written + 4 * VERDICT_WORDS;
+  calls.sfi_c_findings(...[bytes, image.length, array, capacity, written].map(BigInt));
+  const words = new Uint32Array(memory.buffer, written, VERDICT_WORDS);
   const listed = Math.min(words[4], capacity);
   return { words, found: new Uint32Array(memory.buffer, array, 3 * listed) };
 }
 
 const hexadecimal = (address) => address.toString(16).padStart(8, "0");
+
+// The lines of what is in the image: of each sandbox, of where it lies in the image, and of each of its gates.
+async function linesOfParts(module, image) {
+  const { calls, memory, written, bytes } = await instanceWith(module, image, 4 * PART_WORDS);
+  const place = [BigInt(bytes), BigInt(image.length)];
+  const lines = [];
+  for (let number = 0; calls.sfi_c_part(...place, number, BigInt(written)) === 0; number++) {
+    const words = [...new Uint32Array(memory.buffer, written, PART_WORDS)];
+    const [format, codeBase, codeSize, dataBase, dataSize, start, gates, initSize] = words;
+    const [codeOffset, initOffset] = new BigUint64Array(memory.buffer, written + 32, 2);
+    const regions = `code ${hexadecimal(codeBase)} ${codeSize} data ${hexadecimal(dataBase)} ${dataSize}`;
+    lines.push(`sandbox ${number} ${regions} start ${hexadecimal(start)} gates ${gates} init ${initSize}`);
+    lines.push(`bytes format ${format} code ${codeOffset} init ${initOffset}`);
+    for (let index = 0; index < gates; index++) {
+      calls.sfi_c_gate(...place, number, index, BigInt(written));
+      const [address, service] = new Uint32Array(memory.buffer, written, GATE_WORDS);
+      lines.push(`gate ${hexadecimal(address)} ${service}`);
+    }
+  }
+  return lines;
+}
 
 function lineOf([status, fault, sandboxes, bundles, findings, sandbox, address, rule]) {
   if (status === 0) return `accepted sandboxes=${sandboxes} bundles=${bundles}`;
@@ -43,10 +75,16 @@ function lineOf([status, fault, sandboxes, bundles, findings, sandbox, address, 
   return `refused findings=${findings} first=V${rule} sandbox=${sandbox} at=${hexadecimal(address)}`;
 }
 
-const [path, capacity = "2"] = process.argv.slice(2);
-const { words, found } = await judge(readFileSync(path), readFileSync(0), Number(capacity));
-for (let i = 0; i < found.length; i += 3) {
-  console.log(`${found[i]} ${hexadecimal(found[i + 1])} V${found[i + 2]}`);
+const [path, asked = "2"] = process.argv.slice(2);
+const [module, image] = [readFileSync(path), readFileSync(0)];
+const tells = asked === "parts";
+const { words, found } = await judge(module, image, tells ? 0 : Number(asked));
+if (tells) {
+  if (words[0] === 0) console.log((await linesOfParts(module, image)).join("\n"));
+} else {
+  for (let i = 0; i < found.length; i += 3) {
+    console.log(`${found[i]} ${hexadecimal(found[i + 1])} V${found[i + 2]}`);
+  }
+  console.log(lineOf(words));
 }
-console.log(lineOf(words));
 process.exitCode = words[0];

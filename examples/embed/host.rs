@@ -1,6 +1,7 @@
 //! Checks the image on standard input, and lists its first findings:
 //!
 //!     host [CAPACITY] < IMAGE        # the image's own bytes; room for so many findings, 2 if absent
+//!     host parts < IMAGE             # what is in it where it is accepted, as parts.c prints it
 use std::io::Read;
 use std::process::exit;
 
@@ -25,7 +26,32 @@ struct Verdict {
     first: Finding,
 }
 
+/// `struct sfi_part`.
+#[repr(C)]
+#[derive(Default)]
+struct Part {
+    format: u32,
+    code_base: u32,
+    code_size: u32,
+    data_base: u32,
+    data_size: u32,
+    start: u32,
+    gates: u32,
+    init_size: u32,
+    code_offset: usize,
+    init_offset: usize,
+}
+
+/// `struct sfi_gate`.
+#[repr(C)]
+#[derive(Default)]
+struct Gate {
+    address: u32,
+    service: u32,
+}
+
 const _: () = assert!(size_of::<Finding>() == 12 && size_of::<Verdict>() == 32);
+const _: () = assert!(size_of::<Part>() == 32 + 2 * size_of::<usize>() && size_of::<Gate>() == 8);
 
 extern "C" {
     fn sfi_c_findings(
@@ -35,6 +61,8 @@ extern "C" {
         capacity: usize,
         verdict: *mut Verdict,
     ) -> u32;
+    fn sfi_c_part(image: *const u8, length: usize, number: u32, part: *mut Part) -> u32;
+    fn sfi_c_gate(image: *const u8, length: usize, number: u32, index: u32, gate: *mut Gate) -> u32;
 }
 
 /// The verdict on the image, with its findings at the front of the array, as many as it has room for.
@@ -45,9 +73,45 @@ fn findings(image: &[u8], array: &mut [Finding]) -> Verdict {
     verdict
 }
 
+/// The image's sandbox of that number.
+fn part(image: &[u8], number: u32) -> Option<Part> {
+    let mut part = Part::default();
+    // SAFETY: as above.
+    let status = unsafe { sfi_c_part(image.as_ptr(), image.len(), number, &mut part) };
+    (status == 0).then_some(part)
+}
+
+/// The gate of that index of its sandbox of that number.
+fn gate(image: &[u8], number: u32, index: u32) -> Option<Gate> {
+    let mut gate = Gate::default();
+    // SAFETY: as above.
+    let status = unsafe { sfi_c_gate(image.as_ptr(), image.len(), number, index, &mut gate) };
+    (status == 0).then_some(gate)
+}
+
+/// A line for each sandbox, one for where it lies in the image, and one for each of its gates.
+fn print_parts(image: &[u8]) {
+    for (number, part) in (0..).map_while(|number| Some((number, part(image, number)?))) {
+        let Part { format, code_base, code_size, data_base, data_size, start, gates, init_size, .. } = part;
+        print!("sandbox {number} code {code_base:08x} {code_size} data {data_base:08x} {data_size}");
+        println!(" start {start:08x} gates {gates} init {init_size}");
+        println!("bytes format {format} code {} init {}", part.code_offset, part.init_offset);
+        for Gate { address, service } in (0..).map_while(|index| gate(image, number, index)) {
+            println!("gate {address:08x} {service}");
+        }
+    }
+}
+
 fn main() -> std::io::Result<()> {
     let mut image = Vec::new();
     std::io::stdin().read_to_end(&mut image)?;
+    if std::env::args().nth(1).as_deref() == Some("parts") {
+        let verdict = findings(&image, &mut []);
+        if verdict.status == 0 {
+            print_parts(&image);
+        }
+        exit(verdict.status as i32);
+    }
     let capacity = std::env::args().nth(1).map_or(2, |word| word.parse().expect("a number"));
     let mut array = vec![Finding::default(); capacity];
     let verdict = findings(&image, &mut array);

@@ -60,6 +60,13 @@ put second_format "53464932${smallest:8}"
 put three "${head}2320b50073001000130c1c007300100000000000000000000000000000000000${code:64}"
 # c.addi x2, -16; c.ebreak
 put stack "53464932${head:8}41110290${code:8}"
+# two sandboxes: at 01000000 with two gates and three first data bytes, at 02000000 with neither
+stub=73000000b3ff9001b3ef8f0167800f00
+ebreaks() { printf '73001000%.0s' $(seq "$1"); }
+two=00000001000100000000800100010000200000010200000003000000
+two+=00000001010000001000000104000000$stub$stub$(ebreaks 56)616263
+two+=00000002000200000000800200100000f00100020000000000000000$(ebreaks 128)
+put two "5346493202000000$two"
 put cut "${smallest:0:200}"
 put empty ""
 put other_format "53464933${smallest:8}"
@@ -107,6 +114,28 @@ run_pieces() { # a host's name, and its command line: whatever the size of the p
         done
     done
 }
+# what is in them, for hosts that tell it: image, exit status, lines
+smallest_part="sandbox 0 code 01000000 256 data 01800000 256 start 01000000 gates 0 init 0"
+tellings=(
+    "first_format|0|$smallest_part;bytes format 1 code 36 init 292"
+    "second_format|0|$smallest_part;bytes format 2 code 36 init 292"
+    "two|0|sandbox 0 code 01000000 256 data 01800000 256 start 01000020 gates 2 init 3;bytes format 2 code 52 init 308;\
+gate 01000000 1;gate 01000010 4;\
+sandbox 1 code 02000000 512 data 02800000 4096 start 020001f0 gates 0 init 0;bytes format 2 code 339 init 851"
+    "three|1|"
+    "cut|2|"
+)
+run_tellings() { # a host's name, and its command line
+    local name=$1 one image status lines found
+    shift
+    for one in "${tellings[@]}"; do
+        IFS='|' read -r image status lines <<<"$one"
+        found=$("$@" <"$room/$image.image" 2>&1)
+        found="$?|${found//$'\n'/;}"
+        [ "$found" = "$status|$lines" ]
+        report $? "$name tells of $image" "$status|$lines" "$found"
+    done
+}
 images=$(printf '%s\n' "${cases[@]%%|*}" | uniq | wc -l)
 
 # ---- the library
@@ -146,6 +175,8 @@ for word in 0 -1 "" 2x 65537; do
     [ "$found" = 6 ] && [ ! -s "$room/said" ]
     report $? "feed.c with pieces of '$word'" "6, and nothing printed" "$found, $(cat "$room/said")"
 done
+compile parts.c gcc -std=c99 "${warnings[@]}" "$here/parts.c" "$library" -o "$room/parts"
+run_tellings parts.c "$room/parts"
 version() { sed -n "s/.*$1.*\"\([0-9.]*\)\".*/\1/p" "$2"; }
 wanted=$(version "const VERSION" "$top/crates/sfi_command/src/help.rt")
 found=$(version "define SFI_VERSION" "$top/crates/sfi_c/include/sfi.h")
@@ -163,7 +194,7 @@ found=$("$room/readme" <"$room/first_format.image"; echo "$?"; "$room/readme" <"
 [ "$found" = $'accepted sandboxes=1 bundles=16\n0\n1' ]
 report $? "the host of README.md" "a line and 0, and then 1" "$found"
 compile edges.c gcc -std=c11 "${warnings[@]}" "$here/edges.c" "$library" -o "$room/edges"
-for one in "first_format 0" "second_format 0" "three 3" "stack 1"; do
+for one in "first_format 0" "second_format 0" "two 0" "three 3" "stack 1"; do
     read -r image count <<<"$one"
     found=$("$room/edges" "$count" <"$room/$image.image" 2>&1)
     report $? "edges.c on $image" "edges: passed" "$found"
@@ -191,8 +222,10 @@ done
 if has valgrind; then
     found=$(valgrind -q --error-exitcode=9 --leak-check=full "$room/edges" 3 <"$room/three.image" 2>&1)
     report $? "edges.c under valgrind" "edges: passed" "$found"
+    found=$(valgrind -q --error-exitcode=9 --leak-check=full "$room/edges" 0 <"$room/two.image" 2>&1)
+    report $? "edges.c under valgrind on two sandboxes" "edges: passed" "$found"
 else
-    skip 1 "edges.c under valgrind: valgrind isn't there"
+    skip 2 "edges.c under valgrind: valgrind isn't there"
 fi
 if has g++; then
     compile "the header in C++98" g++ -std=c++98 "${warnings[@]}" -x c++ -fsyntax-only "$top/crates/sfi_c/include/sfi.h"
@@ -213,45 +246,51 @@ report $? "the size of the library" "at most $most bytes" "$added bytes"
 if has python3; then
     run_cases host.py python3 "$here/host.py" "$room/libsfi.so"
     run_pieces host.py python3 "$here/host.py" "$room/libsfi.so" 0
+    run_tellings host.py python3 "$here/host.py" "$room/libsfi.so" parts
 else
-    skip $((${#cases[@]} + images * ${#pieces[@]})) "host.py: python3 isn't there"
+    skip $((${#cases[@]} + images * ${#pieces[@]} + ${#tellings[@]})) "host.py: python3 isn't there"
 fi
 if has rustc; then
     compile host.rs rustc --edition 2021 -O -D warnings -o "$room/host_rs" "$here/host.rs" -C link-arg="$library"
     run_cases host.rs "$room/host_rs"
+    run_tellings host.rs "$room/host_rs" parts
 else
-    skip $((1 + ${#cases[@]})) "host.rs: rustc isn't there"
+    skip $((1 + ${#cases[@]} + ${#tellings[@]})) "host.rs: rustc isn't there"
 fi
 
 # ---- aarch64 and WebAssembly: what tools/build_library.py builds beside the library of x86-64
 arm=$(dirname "$library")/aarch64-unknown-linux-gnu/libsfi_c.a
 module=$(dirname "$library")/wasm64-unknown-unknown/sfi.wasm
 not_built="isn't there: tools/build_library.py builds it"
-on_arm=$((2 + ${#cases[@]} + images * ${#pieces[@]}))
+on_arm=$((3 + ${#cases[@]} + images * ${#pieces[@]} + ${#tellings[@]}))
 if [ ! -f "$arm" ]; then
-    skip "$on_arm" "host.c and feed.c on aarch64: $arm $not_built"
+    skip "$on_arm" "host.c, feed.c and parts.c on aarch64: $arm $not_built"
 elif ! has aarch64-linux-gnu-gcc; then
-    skip "$on_arm" "host.c and feed.c on aarch64: aarch64-linux-gnu-gcc isn't there"
+    skip "$on_arm" "host.c, feed.c and parts.c on aarch64: aarch64-linux-gnu-gcc isn't there"
 elif ! has qemu-aarch64; then
-    skip "$on_arm" "host.c and feed.c on aarch64: qemu-aarch64 isn't there"
+    skip "$on_arm" "host.c, feed.c and parts.c on aarch64: qemu-aarch64 isn't there"
 else
     compile "host.c for aarch64" aarch64-linux-gnu-gcc -static -std=c99 "${warnings[@]}" "$here/host.c" "$arm" -o "$room/host_arm"
     run_cases "host.c on aarch64" qemu-aarch64 "$room/host_arm"
     compile "feed.c for aarch64" aarch64-linux-gnu-gcc -static -std=c99 "${warnings[@]}" "$here/feed.c" "$arm" -o "$room/feed_arm"
     run_pieces "feed.c on aarch64" qemu-aarch64 "$room/feed_arm"
+    compile "parts.c for aarch64" aarch64-linux-gnu-gcc -static -std=c99 "${warnings[@]}" "$here/parts.c" "$arm" -o "$room/parts_arm"
+    run_tellings "parts.c on aarch64" qemu-aarch64 "$room/parts_arm"
 fi
+in_node=$((${#cases[@]} + ${#tellings[@]}))
 memory64=()
 if has node && node --experimental-wasm-memory64 -e 0 >"$room/log" 2>&1; then
     memory64=(--experimental-wasm-memory64) # later versions of node have it without
 fi
 if [ ! -f "$module" ]; then
-    skip ${#cases[@]} "host.mjs: $module $not_built"
+    skip "$in_node" "host.mjs: $module $not_built"
 elif ! has node; then
-    skip ${#cases[@]} "host.mjs: node isn't there"
+    skip "$in_node" "host.mjs: node isn't there"
 elif ! node "${memory64[@]}" -e 'process.exit(WebAssembly.validate(new Uint8Array(Buffer.from("0061736d010000000503010401", "hex"))) ? 0 : 1)'; then
-    skip ${#cases[@]} "host.mjs: this node has no memory of 64 bits"
+    skip "$in_node" "host.mjs: this node has no memory of 64 bits"
 else
     run_cases host.mjs node "${memory64[@]}" --no-warnings "$here/host.mjs" "$module"
+    run_tellings host.mjs node "${memory64[@]}" --no-warnings "$here/host.mjs" "$module" parts
 fi
 
 echo "the library has $added bytes"
