@@ -87,3 +87,29 @@ void check_image(const uint8_t *image, uint32_t length) {
     if (Z_sfiZ_sfi_c_check(&module, in_module(image), length, in_module(verdict)) != SFI_ACCEPTED)
         refuse_image(verdict);
 }
+
+static void tell_gate(const uint8_t *image, uint32_t length, uint32_t number, uint32_t index,
+                      struct gate *gate) {
+    const struct sfi_gate *told = &checker_memory.gate;
+    if (Z_sfiZ_sfi_c_gate(&module, in_module(image), length, number, index, in_module(told)) != SFI_FOUND)
+        refuse("the checker tells of no such gate"); /* never of an accepted image */
+    *gate = (struct gate){told->address, told->service};
+}
+
+bool tell_part(const uint8_t *image, uint32_t length, uint32_t number, struct part *part) {
+    const struct module_part *told = &checker_memory.part;
+    if (Z_sfiZ_sfi_c_part(&module, in_module(image), length, number, in_module(told)) != SFI_FOUND)
+        return false;
+    part->code_base = told->code_base;
+    part->code_size = told->code_size;
+    part->data_base = told->data_base;
+    part->data_size = told->data_size;
+    part->start = told->start;
+    part->gate_count = told->gates;
+    part->first_count = told->init_size;
+    part->code = image + told->code_offset;
+    part->first = image + told->init_offset;
+    for (uint32_t index = 0; index < part->gate_count; index++)
+        tell_gate(image, length, number, index, &part->gates[index]);
+    return true;
+}

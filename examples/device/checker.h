@@ -11,10 +11,19 @@ enum {
     MODULE_DATA = 4096          /* at least the module's constants */
 };
 
+/* struct sfi_part as the module writes it: addresses have 64 bits there. */
+struct module_part {
+    uint32_t format, code_base, code_size, data_base, data_size, start, gates, init_size;
+    uint64_t code_offset, init_offset;
+};
+_Static_assert(sizeof(struct module_part) == 48, "struct sfi_part of the module");
+
 /* The module's own memory, from its address 0 on. */
 struct checker_memory {
     uint8_t stack[MODULE_STACK], data[MODULE_DATA];
     struct sfi_verdict verdict;
+    struct module_part part;
+    struct sfi_gate gate;
 };
 extern struct checker_memory checker_memory;
 

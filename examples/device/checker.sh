@@ -54,7 +54,7 @@ warned=(-Wall -Wextra -Werror -I"$here")
 "$riscv" "${flags[@]}" -w -c -o sfi_wasm.o sfi_wasm.c
 "$riscv" "${flags[@]}" "${warned[@]}" -c -o judge.o "$here/checker.c"
 "$riscv" "${flags[@]}" "${warned[@]}" -c -o measure.o "$here/measure.c"
-"$riscv" "${machine[@]}" -nostdlib -r -Wl,--gc-sections,-echeck_image -o checker.o judge.o sfi_wasm.o -lgcc
+"$riscv" "${machine[@]}" -nostdlib -r -Wl,--gc-sections,-echeck_image,-utell_part -o checker.o judge.o sfi_wasm.o -lgcc
 riscv64-unknown-elf-objcopy --redefine-sym check_image=checker_check_image \
     --redefine-sym fail=checker_fail checker.o renamed.o
 "$riscv" "${machine[@]}" -nostdlib -r -o measured.o measure.o renamed.o

@@ -62,8 +62,8 @@ static void take(struct sandbox *caller) {
 
 static uint32_t service_at(const struct part *part, uint32_t pc) {
     for (uint32_t k = 0; k < part->gate_count; k++)
-        if (little_endian(part->gates + 8 * k) == pc)
-            return little_endian(part->gates + 8 * k + 4);
+        if (part->gates[k].address == pc)
+            return part->gates[k].service;
     refuse("an ecall at no gate"); /* never of accepted code */
 }
 

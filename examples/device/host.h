@@ -9,6 +9,7 @@
 /* docs/IMAGE.md and docs/GATES.md */
 enum {
     SANDBOXES_MOST = 16,
+    GATES_MOST = 64,
     GUARD_ZONE = 4096,
     CALL_BYTES_MOST = 65536,
     OUTPUT_MOST = 1048576,
@@ -21,10 +22,15 @@ struct arguments {
     uint32_t prints_steps, prints_written;
 };
 
+struct gate {
+    uint32_t address, service;
+};
+
 /* What the image says of a sandbox. */
 struct part {
     uint32_t code_base, code_size, data_base, data_size, start, gate_count, first_count;
-    const uint8_t *gates, *code, *first; /* in the image's own bytes, which no sandbox can write */
+    const uint8_t *code, *first; /* in the image's own bytes, which no sandbox can write */
+    struct gate gates[GATES_MOST];
 };
 
 /* A sandbox's registers while the host runs. switch.S knows the offsets. x[0] is always 0. */
@@ -65,6 +71,9 @@ void *memcpy(void *restrict to, const void *restrict from, size_t length);
 
 /* checker.c: judges the image, and comes back where it is accepted. unchecked.c: comes back */
 void check_image(const uint8_t *image, uint32_t length);
+/* checker.c: the checker tells the image's sandbox of that number. unchecked.c: reads it. Both answer
+   whether there is one */
+bool tell_part(const uint8_t *image, uint32_t length, uint32_t number, struct part *part);
 
 /* image.c */
 uint32_t little_endian(const uint8_t *bytes);

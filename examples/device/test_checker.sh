@@ -84,6 +84,8 @@ try_checker() {
         judged "${attacks[number]}"
     done
     judge_layouts
+    build "$room/sixteen.s" 2 >"$room/image.hex"
+    compare "sixteen sandboxes, which the checker tells" "$room/image.hex" '' steps
     by=()
 }
 

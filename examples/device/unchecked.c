@@ -1,6 +1,62 @@
-/* In the place of checker.c where the loader has no checker: the sender has checked the image. */
+/* In the place of checker.c where the loader has no checker: the sender has checked the image. Reads
+   it (docs/IMAGE.md), with the tests that keep the loader within the image's bytes. */
 #include "host.h"
+
+struct reader {
+    const uint8_t *at, *end;
+};
 
 void check_image(const uint8_t *image, uint32_t length) {
     (void)image, (void)length;
+}
+
+static const uint8_t *take(struct reader *reader, uint32_t length) {
+    if ((uint32_t)(reader->end - reader->at) < length)
+        refuse("the image is cut short");
+    const uint8_t *bytes = reader->at;
+    reader->at += length;
+    return bytes;
+}
+
+static uint32_t take_word(struct reader *reader) {
+    return little_endian(take(reader, 4));
+}
+
+/* Answers how many sandboxes there are. */
+static uint32_t take_head(struct reader *reader) {
+    const uint8_t *magic = take(reader, 4);
+    bool is_format = magic[3] == '1' || magic[3] == '2';
+    uint32_t count = take_word(reader);
+    if (magic[0] != 'S' || magic[1] != 'F' || magic[2] != 'I' || !is_format)
+        refuse("no image");
+    if (count == 0 || count > SANDBOXES_MOST)
+        refuse("no image");
+    return count;
+}
+
+static void take_part(struct reader *reader, struct part *part) {
+    part->code_base = take_word(reader);
+    part->code_size = take_word(reader);
+    part->data_base = take_word(reader);
+    part->data_size = take_word(reader);
+    part->start = take_word(reader);
+    part->gate_count = take_word(reader);
+    part->first_count = take_word(reader);
+    if (part->gate_count > GATES_MOST || part->first_count > part->data_size)
+        refuse("no image");
+    for (uint32_t index = 0; index < part->gate_count; index++) {
+        part->gates[index].address = take_word(reader);
+        part->gates[index].service = take_word(reader);
+    }
+    part->code = take(reader, part->code_size);
+    part->first = take(reader, part->first_count);
+}
+
+bool tell_part(const uint8_t *image, uint32_t length, uint32_t number, struct part *part) {
+    struct reader reader = {image, image + length};
+    if (number >= take_head(&reader))
+        return false;
+    for (uint32_t before = 0; before <= number; before++)
+        take_part(&reader, part);
+    return true;
 }
