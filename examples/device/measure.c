@@ -1,10 +1,12 @@
-/* Prints what check_image costs. In checker.sh's measured.o this stands before the checker's, which is
-   called checker_check_image there; what that calls as it refuses an image is checker_fail. */
+/* Prints what check_image and tell_part cost. In checker.sh's measured.o these stand before the
+   checker's, which are called checker_check_image and checker_tell_part there; what the first calls as
+   it refuses an image is checker_fail. */
 #include "checker.h"
 
 #include "host.h"
 
 void checker_check_image(const uint8_t *image, uint32_t length);
+bool checker_tell_part(const uint8_t *image, uint32_t length, uint32_t number, struct part *part);
 _Noreturn void checker_fail(uint32_t status);
 extern uint8_t stack_bottom[];
 
@@ -51,4 +53,17 @@ void check_image(const uint8_t *image, uint32_t length) {
 void checker_fail(uint32_t status) {
     print_cost(retired() - retired_before);
     fail(status);
+}
+
+bool tell_part(const uint8_t *image, uint32_t length, uint32_t number, struct part *part) {
+    uint32_t before = retired();
+    bool is_told = checker_tell_part(image, length, number, part);
+    uint32_t instructions = retired() - before;
+    if (is_told) {
+        item("checker: sandbox=", number);
+        item(" gates=", part->gate_count);
+        item(" instructions=", instructions);
+        print("\n");
+    }
+    return is_told;
 }
