@@ -1,14 +1,17 @@
 // Checks the image on standard input by the WebAssembly module, and lists its first findings:
 //
 //     node [--experimental-wasm-memory64] host.mjs MODULE [CAPACITY] < IMAGE
+//     node [--experimental-wasm-memory64] host.mjs MODULE 0 SIZE < IMAGE
 //     node [--experimental-wasm-memory64] host.mjs MODULE parts < IMAGE
 //
-// The image's own bytes; room for so many findings, 2 if absent. With `parts` it tells what is in an image that is
-// accepted, as parts.c does. It ends in the verdict's status.
+// The image's own bytes; room for so many findings, 2 if absent. With SIZE it hands the module so many bytes at a time,
+// and prints the verdict alone. With `parts` it tells what is in an image that is accepted, as parts.c does. It ends in
+// the verdict's status.
 import { readFileSync } from "node:fs";
 
 const FINDING_BYTES = 12; // struct sfi_finding: sandbox, address, rule
 const VERDICT_WORDS = 8; // struct sfi_verdict
+const STREAM_BYTES = 952; // struct sfi_stream
 const PART_WORDS = 12; // struct sfi_part, whose two offsets are two words each
 const GATE_WORDS = 2; // struct sfi_gate: address, service
 const PAGE = 65536;
@@ -46,6 +49,21 @@ async function judge(module, image, capacity) {
   return { words, found: new Uint32Array(memory.buffer, array, 3 * listed) };
 }
 
+// The verdict's words on an image of which the module is handed so many bytes at a time.
+async function judgeInPieces(module, image, size) {
+  const room = STREAM_BYTES + 4 * VERDICT_WORDS;
+  const { calls, memory, written, bytes } = await instanceWith(module, new Uint8Array(size), room);
+  const verdict = written + STREAM_BYTES;
+  calls.sfi_c_begin(BigInt(written));
+  for (let at = 0; at < image.length; at += size) {
+    const piece = image.subarray(at, at + size);
+    new Uint8Array(memory.buffer).set(piece, bytes);
+    calls.sfi_c_feed(...[written, bytes, piece.length].map(BigInt));
+  }
+  calls.sfi_c_end(...[written, verdict].map(BigInt));
+  return new Uint32Array(memory.buffer, verdict, VERDICT_WORDS);
+}
+
 const hexadecimal = (address) => address.toString(16).padStart(8, "0");
 
 // The lines of what is in the image: of each sandbox, of where it lies in the image, and of each of its gates.
@@ -75,10 +93,12 @@ function lineOf([status, fault, sandboxes, bundles, findings, sandbox, address, 
   return `refused findings=${findings} first=V${rule} sandbox=${sandbox} at=${hexadecimal(address)}`;
 }
 
-const [path, asked = "2"] = process.argv.slice(2);
+const [path, asked = "2", size] = process.argv.slice(2);
 const [module, image] = [readFileSync(path), readFileSync(0)];
 const tells = asked === "parts";
-const { words, found } = await judge(module, image, tells ? 0 : Number(asked));
+const { words, found } = size
+  ? { words: await judgeInPieces(module, image, Number(size)), found: [] }
+  : await judge(module, image, tells ? 0 : Number(asked));
 if (tells) {
   if (words[0] === 0) console.log((await linesOfParts(module, image)).join("\n"));
 } else {

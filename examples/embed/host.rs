@@ -1,6 +1,7 @@
 //! Checks the image on standard input, and lists its first findings:
 //!
 //!     host [CAPACITY] < IMAGE        # the image's own bytes; room for so many findings, 2 if absent
+//!     host 0 SIZE < IMAGE            # so many bytes at a time, and no findings but the first
 //!     host parts < IMAGE             # what is in it where it is accepted, as parts.c prints it
 use std::io::Read;
 use std::process::exit;
@@ -50,6 +51,12 @@ struct Gate {
     service: u32,
 }
 
+/// `struct sfi_stream`.
+#[repr(C)]
+struct Stream {
+    words: [u64; 119],
+}
+
 const _: () = assert!(size_of::<Finding>() == 12 && size_of::<Verdict>() == 32);
 const _: () = assert!(size_of::<Part>() == 32 + 2 * size_of::<usize>() && size_of::<Gate>() == 8);
 
@@ -63,6 +70,9 @@ extern "C" {
     ) -> u32;
     fn sfi_c_part(image: *const u8, length: usize, number: u32, part: *mut Part) -> u32;
     fn sfi_c_gate(image: *const u8, length: usize, number: u32, index: u32, gate: *mut Gate) -> u32;
+    fn sfi_c_begin(stream: *mut Stream);
+    fn sfi_c_feed(stream: *mut Stream, bytes: *const u8, length: usize);
+    fn sfi_c_end(stream: *const Stream, verdict: *mut Verdict) -> u32;
 }
 
 /// The verdict on the image, with its findings at the front of the array, as many as it has room for.
@@ -71,6 +81,24 @@ fn findings(image: &[u8], array: &mut [Finding]) -> Verdict {
     // SAFETY: references and slices are never null, and those to be written overlap nothing.
     unsafe { sfi_c_findings(image.as_ptr(), image.len(), array.as_mut_ptr(), array.len(), &mut verdict) };
     verdict
+}
+
+/// The verdict on the bytes of the source, of which it keeps one piece at a time.
+fn verdict_in_pieces(mut source: impl Read, size: usize) -> std::io::Result<Verdict> {
+    let mut stream = Stream { words: [0; 119] };
+    let mut verdict = Verdict::default();
+    let mut piece = vec![0; size];
+    // SAFETY: as above; and nothing else writes the stream.
+    unsafe { sfi_c_begin(&mut stream) };
+    loop {
+        let length = source.read(&mut piece)?;
+        if length == 0 {
+            break;
+        }
+        unsafe { sfi_c_feed(&mut stream, piece.as_ptr(), length) };
+    }
+    unsafe { sfi_c_end(&stream, &mut verdict) };
+    Ok(verdict)
 }
 
 /// The image's sandbox of that number.
@@ -102,22 +130,8 @@ fn print_parts(image: &[u8]) {
     }
 }
 
-fn main() -> std::io::Result<()> {
-    let mut image = Vec::new();
-    std::io::stdin().read_to_end(&mut image)?;
-    if std::env::args().nth(1).as_deref() == Some("parts") {
-        let verdict = findings(&image, &mut []);
-        if verdict.status == 0 {
-            print_parts(&image);
-        }
-        exit(verdict.status as i32);
-    }
-    let capacity = std::env::args().nth(1).map_or(2, |word| word.parse().expect("a number"));
-    let mut array = vec![Finding::default(); capacity];
-    let verdict = findings(&image, &mut array);
-    for Finding { sandbox, address, rule } in array.iter().take(verdict.findings as usize) {
-        println!("{sandbox} {address:08x} V{rule}");
-    }
+/// The verdict's line, and its status as the program's.
+fn finish(verdict: &Verdict) -> ! {
     match verdict.status {
         0 => println!("accepted sandboxes={} bundles={}", verdict.sandboxes, verdict.bundles),
         1 => {
@@ -127,4 +141,27 @@ fn main() -> std::io::Result<()> {
         _ => println!("layout fault {}", verdict.layout_fault),
     }
     exit(verdict.status as i32)
+}
+
+fn main() -> std::io::Result<()> {
+    let words: Vec<String> = std::env::args().skip(1).collect();
+    let mut image = Vec::new();
+    if let [_, size] = &words[..] {
+        finish(&verdict_in_pieces(std::io::stdin(), size.parse().expect("a number"))?);
+    }
+    std::io::stdin().read_to_end(&mut image)?;
+    if words == ["parts"] {
+        let verdict = findings(&image, &mut []);
+        if verdict.status == 0 {
+            print_parts(&image);
+        }
+        exit(verdict.status as i32);
+    }
+    let capacity = words.first().map_or(2, |word| word.parse().expect("a number"));
+    let mut array = vec![Finding::default(); capacity];
+    let verdict = findings(&image, &mut array);
+    for Finding { sandbox, address, rule } in array.iter().take(verdict.findings as usize) {
+        println!("{sandbox} {address:08x} V{rule}");
+    }
+    finish(&verdict)
 }

@@ -253,9 +253,10 @@ fi
 if has rustc; then
     compile host.rs rustc --edition 2021 -O -D warnings -o "$room/host_rs" "$here/host.rs" -C link-arg="$library"
     run_cases host.rs "$room/host_rs"
+    run_pieces host.rs "$room/host_rs" 0
     run_tellings host.rs "$room/host_rs" parts
 else
-    skip $((1 + ${#cases[@]} + ${#tellings[@]})) "host.rs: rustc isn't there"
+    skip $((1 + ${#cases[@]} + images * ${#pieces[@]} + ${#tellings[@]})) "host.rs: rustc isn't there"
 fi
 
 # ---- aarch64 and WebAssembly: what tools/build_library.py builds beside the library of x86-64
@@ -277,7 +278,7 @@ else
     compile "parts.c for aarch64" aarch64-linux-gnu-gcc -static -std=c99 "${warnings[@]}" "$here/parts.c" "$arm" -o "$room/parts_arm"
     run_tellings "parts.c on aarch64" qemu-aarch64 "$room/parts_arm"
 fi
-in_node=$((${#cases[@]} + ${#tellings[@]}))
+in_node=$((${#cases[@]} + images * ${#pieces[@]} + ${#tellings[@]}))
 memory64=()
 if has node && node --experimental-wasm-memory64 -e 0 >"$room/log" 2>&1; then
     memory64=(--experimental-wasm-memory64) # later versions of node have it without
@@ -290,6 +291,7 @@ elif ! node "${memory64[@]}" -e 'process.exit(WebAssembly.validate(new Uint8Arra
     skip "$in_node" "host.mjs: this node has no memory of 64 bits"
 else
     run_cases host.mjs node "${memory64[@]}" --no-warnings "$here/host.mjs" "$module"
+    run_pieces host.mjs node "${memory64[@]}" --no-warnings "$here/host.mjs" "$module" 0
     run_tellings host.mjs node "${memory64[@]}" --no-warnings "$here/host.mjs" "$module" parts
 fi
 
