@@ -5,7 +5,7 @@
 pub const VERSION: &str = "0.1.0";
 
 pub(crate) const PROGRAM: &str =
-    "Build, check, list, convert and run images of sandboxed RISC-V code (RV32IMC)";
+    "Build, map, check, list, convert and run images of sandboxed RISC-V code (RV32IMC)";
 
 pub(crate) const PROGRAM_NOTES: &str = "\
 Each command reads standard input and writes standard output, lines about
@@ -13,7 +13,7 @@ faults too. Images are hexadecimal text: digits of either case, with white
 space between them. `sfi help COMMAND` says more of a command.
 
 Exit status:
-  0  done: the image is accepted, built, listed, run or converted
+  0  done: the image is accepted, built, mapped, listed, run or converted
   1  refused: the image breaks rules, and the verdict is printed
   2  the input or the text of --input has a fault, which one line names
   3  a usage error, or a help or version text
@@ -66,17 +66,39 @@ Example:
 
 pub(crate) const BUILD: &str = "Make the image of a source text";
 
+pub(crate) const PLACES: &str =
+    "Where a sandbox's code and data begin, in hexadecimal; once for each sandbox, in order";
+
 pub(crate) const BUILD_NOTES: &str = "\
 Reads a source text, in UTF-8, and prints the image on one line of hexadecimal
 digits. `sfi check` accepts what is built.
 
+The first --at is the place of the first sandbox, and so on. A sandbox without
+one has its usual place: code at N times 01000000, data 00800000 above it, where
+N counts the sandboxes from 1.
+
 Exit status:
   0  built
-  2  the source has a fault, and the line says where
+  2  the source or a place has a fault, and the line says which
   3, 4, 5  as `sfi help` says
 
 Example:
-  sfi build < examples/hi.s > hi.hex";
+  sfi build < examples/hi.s > hi.hex
+  sfi build --at 20500000:80000000 < examples/hi.s > hi.hex";
+
+pub(crate) const MAP: &str = "Print the address of each name of a source text";
+
+pub(crate) const MAP_NOTES: &str = "\
+Reads a source text, as `sfi build` does, and prints a line for each name with
+the address that it has in the image that is built with the same --at.
+
+Exit status:
+  0  mapped
+  2  the source or a place has a fault, and the line says which
+  3, 4, 5  as `sfi help` says
+
+Example:
+  sfi map < examples/hi.s";
 
 pub(crate) const RUN: &str = "Check an image and, if it is accepted, run its sandboxes by turns";
 
@@ -85,6 +107,8 @@ pub(crate) const RUN_ROUNDS: &str = "Turns of each sandbox, from 1 to 10000";
 pub(crate) const RUN_QUANTUM: &str = "Steps of a turn at most, from 1 to 1000000";
 
 pub(crate) const RUN_INPUT: &str = "What each sandbox reads, as hexadecimal digits";
+
+pub(crate) const RUN_REPORT: &str = "Print a report besides";
 
 pub(crate) const RUN_NOTES: &str = "\
 Reads an image, and prints for each sandbox a line of its state (ready, an exit

@@ -30,12 +30,14 @@ fn job_answer(alloc: Global, job: &Job, text: &[u8]) -> Result<Answer, Stop>
     match job {
         Job::Check { report, .. } => check_answer(alloc, *report, text),
         Job::Dis => listing_answer(alloc, text),
-        Job::Build => build_answer(alloc, text),
+        Job::Build { places } => build_answer(alloc, places, text),
+        Job::Map { .. } => Err(Stop::Memory),
         Job::Run {
             rounds,
             quantum,
             input,
-        } => run_answer(alloc, *rounds, *quantum, input, text),
+            report,
+        } => run_answer(alloc, *rounds, *quantum, input, *report, text),
         Job::Convert => conversion_answer(alloc, text),
     }
 }

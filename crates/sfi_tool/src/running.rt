@@ -44,16 +44,17 @@ pub(crate) fn run_answer(
     rounds: u32,
     quantum: u32,
     input: &Vec<u8>,
+    report: bool,
     text: &[u8],
 ) -> Result<Answer, Stop>
     requires { length text.now ≤ limit }
     ensures says { IfOk result
-        (λ a. Says (Run rounds quantum input.now) text.now a.status (string_bytes a.text)) }
-    ensures stop { IfErr result (IsStop (Run rounds quantum input.now) text.now) }
-    ensures only_done { IsDone (Run rounds quantum input.now) text.now → AnswersStatus 0 result }
-    ensures only_refused { IsRefused (Run rounds quantum input.now) text.now
+        (λ a. Says (Run rounds quantum input.now report) text.now a.status (string_bytes a.text)) }
+    ensures stop { IfErr result (IsStop (Run rounds quantum input.now report) text.now) }
+    ensures only_done { IsDone (Run rounds quantum input.now report) text.now → AnswersStatus 0 result }
+    ensures only_refused { IsRefused (Run rounds quantum input.now report) text.now
         → AnswersStatus 1 result }
-    ensures only_fault { HasInputFault (Run rounds quantum input.now) text.now → IsErr result }
+    ensures only_fault { HasInputFault (Run rounds quantum input.now report) text.now → IsErr result }
 {
     let bytes = bytes_of(alloc, text)?;
     match check(alloc, bytes.as_slice()) {
