@@ -4,3 +4,4 @@ pub mod Sandboxes
 pub mod Places
 pub mod Reports
 pub mod OneText
+pub mod States

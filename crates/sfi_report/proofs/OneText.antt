@@ -1,7 +1,8 @@
--- Findings have one report, and an image has one listing.
+-- Findings have one report, an image has one listing, and the state of a sandbox one text.
 use Rattle.std.proofs.Common.{◌≡◌, ℕ, zero, suc, ◌+◌, ◌-◌, ◌*◌, List, [], ◌∷◌, ◌++◌, take, drop, sym, ap, ◌∙◌, subst, arith, get_or-take, Some}
 use Rattle.std.specs.List.{flat_map}
-use Rattle.rv_comp.specs.Laws.{OneSpelling}
+use Rattle.rv_comp.specs.Laws.{OneFront, OneSpelling}
+use Rattle.rv_comp.specs.declared.front.Front.{Front}
 use Rattle.rv_text.specs.Printed.{printed}
 use Rattle.sfi_image.specs.Spelling.{Part, format_of}
 use Rattle.sfi_scan.specs.declared.finding.Finding.{Finding}
@@ -12,7 +13,8 @@ use Rattle.sfi_scan.specs.Laws.{OneLongestReading}
 use Rattle.sfi_report.specs.Digits.{line_end}
 use Rattle.sfi_report.specs.Report.{IsInstructionText, IsPlaceText, line_front, IsFindingLine}
 use Rattle.sfi_report.specs.Listing.{reading_lines, sandbox_line, gate_line, format_line, IsBundleListing, IsListingOfFirst, IsCodeListing, IsSandboxListing, IsListingFrom}
-use Rattle.sfi_report.specs.Laws.{OneReport, OneListing}
+use Rattle.sfi_report.specs.State.{code_from, place_line, registers_text, state_front}
+use Rattle.sfi_report.specs.Laws.{OneReport, OneListing, OneState}
 
 -- ---- reports
 
@@ -78,3 +80,12 @@ one_from law sandbox (p ∷ ps) text other a b =
 
 pub one_listing : OneLongestReading → OneListing
 one_listing law ps text other a b = a.2 ∙ ap (λ l. format_line (format_of ps) ++ l) (one_from law 0 ps a.0 b.0 a.1 b.1) ∙ sym b.2
+
+-- ---- states
+
+pub one_state : OneFront → OneState
+one_state law sandbox p h text other a b =
+    let same = law (code_from p h.pc) a.front b.front a.front_is b.front_is in
+    a.text_is
+    ∙ ap (λ (f : Front). state_front sandbox ++ place_line h.pc (code_from p h.pc) f ++ registers_text h 31) same
+    ∙ sym b.text_is

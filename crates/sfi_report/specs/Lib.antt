@@ -1,5 +1,6 @@
 pub mod Digits
 pub mod Report
 pub mod Listing
+pub mod State
 pub mod Laws
 pub mod private

@@ -1,7 +1,7 @@
-//! What holds of reports and listings. A call costs nothing.
-ghost use Rattle.sfi_report.specs.Laws.{OneReport, OneListing};
+//! What holds of reports, listings and states. A call costs nothing.
+ghost use Rattle.sfi_report.specs.Laws.{OneReport, OneListing, OneState};
 
-use rv_comp::laws::one_spelling;
+use rv_comp::laws::{one_front, one_spelling};
 use sfi_scan::laws::one_longest_reading;
 
 /// Findings have one report.
@@ -16,4 +16,11 @@ pub fn one_listing()
     ensures { OneListing }
 {
     one_longest_reading();
+}
+
+/// The state of a sandbox has at most one text.
+pub fn one_state()
+    ensures { OneState }
+{
+    one_front();
 }

@@ -10,7 +10,9 @@ mod digits;
 pub mod laws;
 mod listing;
 mod report;
+mod state;
 
 pub use digits::push_eight_digits;
 pub use listing::listing_text;
 pub use report::report_text;
+pub use state::state_text;

@@ -15,7 +15,7 @@ use sfi_policy::{BUNDLE_BYTES, BUNDLE_SIZE, Format};
 use std::alloc::{AllocError, Global};
 
 /// Writes the line of an instruction with these bytes.
-fn push_instruction(
+pub(crate) fn push_instruction(
     out: &mut String,
     address: u32,
     bytes: &[u8],

@@ -1,10 +1,12 @@
 -- Words of private contracts: what a call adds after a text, and where a finding stands.
 use Rattle.std.specs.Prelude.{◌≡◌, ◌≤◌, ℕ, ◌+◌, List, ◌++◌, Some, length, take, drop, slice_get}
 use Rattle.rv_word.specs.declared.instr.Instr.{Instr}
-use Rattle.rv_comp.specs.Fronts.{Spells}
+use Rattle.rv_comp.specs.Fronts.{IsFront, Spells}
+use Rattle.rv_comp.specs.declared.front.Front.{Front}
 use Rattle.sfi_image.specs.Spelling.{Part}
 use Rattle.sfi_scan.specs.declared.finding.Finding.{Finding}
 use Rattle.sfi_scan.specs.declared.rule.Rule.{Rule}
+use Rattle.sfi_report.specs.State.{place_line}
 use Rattle.sfi_scan.specs.declared.rule.Rule.TheVariants.{V1, V2, V3, V4, V5, V6, V7, V8, V9, V10}
 
 -- the new text is the old one and some such text
@@ -40,3 +42,9 @@ pub record Stands (ps : List Part) (f : Finding) : Type 0 where
   pub address_is : f.address ≡ part.code_base + offset
   pub within : offset ≤ length part.code
   pub place : IsPlace f.rule (drop offset part.code)
+
+-- the line of an address by what this code has there
+pub record IsPlaceLine (at : ℕ) (code text : List ℕ) : Type 0 where
+  pub front : Front
+  pub front_is : IsFront code front
+  pub text_is : text ≡ place_line at code front
