@@ -202,7 +202,7 @@ no_rounds rows bytes spells none = record { no_job = no_job; no_run = λ names. 
     no_job (Check raw report) names = not_run _ 99 names.0 refl (λ e. absurd (omega (arith, e)))
     no_job Dis names = not_run _ 100 names refl (λ e. absurd (omega (arith, e)))
     no_job Build names = not_run _ 98 names refl (λ e. absurd (omega (arith, e)))
-    no_job (Run rounds quantum input) names = none rounds names.1
+    no_job (Run rounds quantum input report) names = none rounds names.1
     no_job Convert names = not_run _ 99 names refl (λ e. absurd (omega (arith, e)))
 
 pub no_quantum : (rows : List Row) (bytes : List ℕ) → IsInputOf (first_of (codes "input") rows) bytes
@@ -213,7 +213,7 @@ no_quantum rows bytes spells none = record { no_job = no_job; no_run = λ names.
     no_job (Check raw report) names = not_run _ 99 names.0 refl (λ e. absurd (omega (arith, e)))
     no_job Dis names = not_run _ 100 names refl (λ e. absurd (omega (arith, e)))
     no_job Build names = not_run _ 98 names refl (λ e. absurd (omega (arith, e)))
-    no_job (Run rounds quantum input) names = none quantum names.2
+    no_job (Run rounds quantum input report) names = none quantum names.2
     no_job Convert names = not_run _ 99 names refl (λ e. absurd (omega (arith, e)))
 
 -- ---- words that don't parse

@@ -57,11 +57,12 @@ count_rule name usual most =
 abbrev pub input_rule : Rule
 input_rule = value_rule (codes "input")
 
--- `run [--rounds N] [--quantum Q] [--input HEX]`
+-- `run [--rounds N] [--quantum Q] [--input HEX] [--report]`
 abbrev pub run : Shape
 run = record (new_shape (codes "run")) {
   rules = count_rule (codes "rounds") (codes "1") rounds_most
-      ∷ count_rule (codes "quantum") (codes "1000") quantum_most ∷ input_rule ∷ [];
+      ∷ count_rule (codes "quantum") (codes "1000") quantum_most ∷ input_rule
+      ∷ flag_rule (codes "report") ∷ [];
 }
 
 -- `convert`, without options
@@ -109,10 +110,11 @@ Names (Some p) (Check raw report) =
     × ¬ ((raw ≡ true) × (report ≡ true))
 Names (Some p) Dis = p.0 ≡ codes "dis"
 Names (Some p) Build = p.0 ≡ codes "build"
-Names (Some p) (Run rounds quantum input) =
+Names (Some p) (Run rounds quantum input report) =
     (p.0 ≡ codes "run") × IsCount (codes "rounds") rounds_most p.1 rounds
     × IsCount (codes "quantum") quantum_most p.1 quantum
     × IsInputOf (first_of (codes "input") p.1) input.items
+    × IsGiven (codes "report") p.1 report
 Names (Some p) Convert = p.0 ≡ codes "convert"
 
 -- the words parse by the command line, and their subcommand asks for the job;

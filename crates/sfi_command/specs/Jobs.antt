@@ -8,5 +8,5 @@ abbrev pub is_raw : Job → Bool
 is_raw (Check raw report) = raw
 is_raw Dis = false
 is_raw Build = false
-is_raw (Run rounds quantum given) = false
+is_raw (Run rounds quantum given report) = false
 is_raw Convert = false

@@ -90,15 +90,16 @@ fn input_arg<'a>(alloc: Global) -> Arg<'a>
         .help(help::RUN_INPUT)
 }
 
-/// `run [--rounds N] [--quantum Q] [--input HEX]`.
+/// `run [--rounds N] [--quantum Q] [--input HEX] [--report]`.
 fn run_command<'a>(alloc: Global) -> Result<Command<'a>, AllocError>
     ensures { IfOk result (IsCommandOf run) }
 {
     let rounds = rounds_arg(alloc);
     let quantum = quantum_arg(alloc);
     let input = input_arg(alloc);
+    let report = flag(alloc, "report", help::RUN_REPORT);
     let run = command_named(alloc, "run", help::RUN, help::RUN_NOTES);
-    run.arg(rounds)?.arg(quantum)?.arg(input)
+    run.arg(rounds)?.arg(quantum)?.arg(input)?.arg(report)
 }
 
 /// The program without its subcommands.
@@ -221,10 +222,12 @@ fn run_of(alloc: Global, found: &ArgMatches<'_>) -> Result<Job, JobFault>
     let Some(quantum) = count_of(found, "quantum", QUANTUM_MOST) else {
         return Err(no_command(alloc));
     };
+    let report = is_given(found, "report");
     Ok(Job::Run {
         rounds,
         quantum,
         input,
+        report,
     })
 }
 

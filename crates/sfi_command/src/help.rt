@@ -86,10 +86,18 @@ pub(crate) const RUN_QUANTUM: &str = "Steps of a turn at most, from 1 to 1000000
 
 pub(crate) const RUN_INPUT: &str = "What each sandbox reads, as hexadecimal digits";
 
+pub(crate) const RUN_REPORT: &str =
+    "After these lines, print pc and registers of each sandbox that has not exited";
+
 pub(crate) const RUN_NOTES: &str = "\
 Reads an image, and prints for each sandbox a line of its state (ready, an exit
 code or a trap), its steps and its output in hexadecimal digits:
   sandbox=S exit=D steps=N out=HEX
+
+With --report, five lines follow for each sandbox that trapped or is ready: its pc
+with the instruction there as `sfi dis` prints it, and its registers x1 to x31:
+  sandbox=S pc=AAAAAAAA HEX INSTRUCTION
+  x1=HEX x2=HEX ..
 
 Exit status:
   0  run, whatever the sandboxes did

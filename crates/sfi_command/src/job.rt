@@ -30,6 +30,8 @@ pub enum Job {
         quantum: u32,
         /// What each sandbox reads.
         input: Vec<u8>,
+        /// Whether the pc and the registers are printed of each sandbox that may go on or trapped.
+        report: bool,
     },
     /// The image in the second format, as hexadecimal text. Its bytes come as hexadecimal text.
     Convert,

@@ -6,3 +6,5 @@ pub mod Statuses
 pub mod Conversions
 pub mod RawJobs
 pub mod Rounds
+pub mod Told
+pub mod Said

@@ -17,5 +17,5 @@ raw_check words (Check true false) raw asked = refl
 raw_check words (Check false report) raw asked = absurd (cc)
 raw_check words Dis raw asked = absurd (cc)
 raw_check words Build raw asked = absurd (cc)
-raw_check words (Run rounds quantum given) raw asked = absurd (cc)
+raw_check words (Run rounds quantum given report) raw asked = absurd (cc)
 raw_check words Convert raw asked = absurd (cc)

@@ -11,9 +11,9 @@ of_verdict : (report : Bool) (bytes : List ℕ) (status : ℕ) (text : List ℕ)
 of_verdict report bytes status text (inl accepted) = omega (arith, accepted.status_is)
 of_verdict report bytes status text (inr refused) = omega (arith, refused.status_is)
 
-of_run : (rounds quantum : ℕ) (given bytes : List ℕ) (status : ℕ) (text : List ℕ) → SaysRun rounds quantum given bytes status text → status ≤ 1
-of_run rounds quantum given bytes status text (inl ran) = omega (arith, ran.status_is)
-of_run rounds quantum given bytes status text (inr refused) = omega (arith, refused.status_is)
+of_run : (rounds quantum : ℕ) (given : List ℕ) (report : Bool) (bytes : List ℕ) (status : ℕ) (text : List ℕ) → SaysRun rounds quantum given report bytes status text → status ≤ 1
+of_run rounds quantum given report bytes status text (inl ran) = omega (arith, ran.status_is)
+of_run rounds quantum given report bytes status text (inr refused) = omega (arith, refused.status_is)
 
 of_conversion : (bytes : List ℕ) (status : ℕ) (text : List ℕ) → SaysConversion bytes status text → status ≤ 1
 of_conversion bytes status text (inl converted) = omega (arith, converted.status_is)
@@ -25,5 +25,5 @@ status_of_answer (Check true report) input status text says = of_verdict report 
 status_of_answer (Check false report) input status text says = of_verdict report says.0 status text says.2
 status_of_answer Dis input status text says = omega (arith, says.2.status_is)
 status_of_answer Build input status text says = omega (arith, says.status_is)
-status_of_answer (Run rounds quantum given) input status text says = of_run rounds quantum given.items says.0 status text says.2
+status_of_answer (Run rounds quantum given report) input status text says = of_run rounds quantum given.items report says.0 status text says.2
 status_of_answer Convert input status text says = of_conversion says.0 status text says.2

@@ -13,7 +13,7 @@ too_large (Check true report) text read over = absurd (cc)
 too_large (Check false report) text read over = inl (inl over)
 too_large Dis text read over = inl (inl over)
 too_large Build text read over = inl (inl over)
-too_large (Run rounds quantum given) text read over = inl (inl over)
+too_large (Run rounds quantum given report) text read over = inl (inl over)
 too_large Convert text read over = inl (inl over)
 
 -- no such job is done on it
@@ -22,7 +22,7 @@ not_done (Check true report) text read over done = absurd (cc)
 not_done (Check false report) text read over done = absurd (omega (arith, over, done.1.short))
 not_done Dis text read over done = absurd (omega (arith, over, done.1.short))
 not_done Build text read over done = absurd (omega (arith, over, done.1.short))
-not_done (Run rounds quantum given) text read over done = absurd (omega (arith, over, done.1.short))
+not_done (Run rounds quantum given report) text read over done = absurd (omega (arith, over, done.1.short))
 not_done Convert text read over done = absurd (omega (arith, over, done.1.short))
 
 -- nor refused
@@ -31,7 +31,7 @@ not_refused (Check true report) text read over refused = absurd (cc)
 not_refused (Check false report) text read over refused = absurd (omega (arith, over, refused.1.short))
 not_refused Dis text read over refused = absurd refused.2
 not_refused Build text read over refused = absurd refused
-not_refused (Run rounds quantum given) text read over refused = absurd (omega (arith, over, refused.1.short))
+not_refused (Run rounds quantum given report) text read over refused = absurd (omega (arith, over, refused.1.short))
 not_refused Convert text read over refused = absurd (omega (arith, over, refused.1.short))
 
 -- where the reader told its bytes

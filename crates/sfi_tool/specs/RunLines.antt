@@ -1,11 +1,13 @@
 -- What a run comes to, and the lines that say it.
-use Rattle.std.specs.Prelude.{◌≡◌, ℕ, zero, suc, List, [], ◌∷◌, ◌++◌, Option, Some, None, length, map, slice_get, codes, decimal}
+use Rattle.std.specs.Prelude.{◌≡◌, ℕ, zero, suc, Bool, true, false, List, [], ◌∷◌, ◌++◌, Option, Some, None, length, map, slice_get, codes, decimal}
 use Rattle.std.specs.FinMap.{empty}
 use Rattle.hex.specs.Hex.{encode_lower}
 use Rattle.rv_step.specs.declared.outcome.Cause.{Cause}
 use Rattle.rv_step.specs.declared.outcome.Cause.TheVariants.{Fetch, Illegal, Break, Load, Store}
+use Rattle.rv_step.specs.State.{Hart}
 use Rattle.sfi_image.specs.Spelling.{Part}
 use Rattle.sfi_report.specs.Digits.{hex_digits, line_end}
+use Rattle.sfi_report.specs.State.{IsStateText}
 use Rattle.sfi_host.specs.declared.status.Status.{Status}
 use Rattle.sfi_host.specs.declared.status.Status.TheVariants.{Ready, Exited, Trapped}
 use Rattle.sfi_host.specs.declared.turn.Turn.{Turn}
@@ -53,6 +55,37 @@ run_lines zero slots host = []
 run_lines (suc n) slots host =
     run_lines n slots host ++ line_of n (slice_get slots n) (output_of host n)
 
+-- ---- states
+
+-- what is told of a sandbox beside its line: the state of one that may still run or has trapped,
+-- and nothing of one that has exited
+abbrev pub IsTold : ℕ → Part → Hart → Status → List ℕ → Type 0
+IsTold sandbox p h Ready text = IsStateText sandbox p h text
+IsTold sandbox p h (Exited n) text = text ≡ []
+IsTold sandbox p h (Trapped cause at) text = IsStateText sandbox p h text
+
+-- of the sandbox of that number, where there is one
+abbrev pub IsToldOf : ℕ → Option Part → Option Slot → List ℕ → Type 0
+IsToldOf sandbox None slot text = text ≡ []
+IsToldOf sandbox (Some p) None text = text ≡ []
+IsToldOf sandbox (Some p) (Some slot) text = IsTold sandbox p slot.hart slot.status text
+
+-- of the first n sandboxes of an image, in order
+abbrev pub AreTold : ℕ → List Part → List Slot → List ℕ → Type 0
+AreTold zero ps slots text = text ≡ []
+AreTold (suc n) ps slots text =
+    (front : List ℕ) × (last : List ℕ) × AreTold n ps slots front
+    × IsToldOf n (slice_get ps n) (slice_get slots n) last × (text ≡ front ++ last)
+
+-- ---- the text
+
+-- a line for each sandbox; with a report, what is told of each follows these lines
+abbrev pub IsRunTextOf : Bool → List Part → List Slot → ConsoleState → List ℕ → Type 0
+IsRunTextOf false ps slots host text = text ≡ run_lines (length ps) slots host
+IsRunTextOf true ps slots host text =
+    (told : List ℕ) × AreTold (length ps) ps slots told
+    × (text ≡ run_lines (length ps) slots host ++ told)
+
 -- ---- the plan
 
 -- one turn of each of the first n sandboxes, in order
@@ -77,11 +110,11 @@ run_of machine rounds quantum given ps =
     joint machine console (plan_of rounds quantum (length ps)) (first_slots ps)
     (new_console (length ps) given) None
 
--- the text has a line for each sandbox, of what it and its output are then; what is said holds of
--- the machine, which is one function
-abbrev pub IsRunText : ℕ → ℕ → List ℕ → List Part → List ℕ → Type 0
-IsRunText rounds quantum given ps text =
+-- the text says what the sandboxes and their outputs are then, with a report or without; what is
+-- said holds of the machine, which is one function
+abbrev pub IsRunText : Bool → ℕ → ℕ → List ℕ → List Part → List ℕ → Type 0
+IsRunText report rounds quantum given ps text =
     (machine : Machine) → IsMachine machine
-    → text ≡ run_lines (length ps)
+    → IsRunTextOf report ps
     (run_of machine rounds quantum given ps).slots
-    (run_of machine rounds quantum given ps).host.host
+    (run_of machine rounds quantum given ps).host.host text

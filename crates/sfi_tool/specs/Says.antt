@@ -16,7 +16,8 @@ meaning_of (Check true report) = check report
 meaning_of (Check false report) = on_text (check report)
 meaning_of Dis = on_text dis
 meaning_of Build = build
-meaning_of (Run rounds quantum given) = on_text (run rounds quantum given.items)
+meaning_of (Run rounds quantum given report) =
+    on_text (run rounds quantum given.items report)
 meaning_of Convert = on_text convert
 
 -- the job's answer, with status 0 or 1, on what was read

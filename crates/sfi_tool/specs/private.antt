@@ -2,3 +2,4 @@
 pub mod Converting
 pub mod Says
 pub mod Rounds
+pub mod Told

@@ -35,7 +35,8 @@ fn job_answer(alloc: Global, job: &Job, text: &[u8]) -> Result<Answer, Stop>
             rounds,
             quantum,
             input,
-        } => run_answer(alloc, *rounds, *quantum, input, text),
+            report,
+        } => run_answer(alloc, *rounds, *quantum, input, *report, text),
         Job::Convert => conversion_answer(alloc, text),
     }
 }

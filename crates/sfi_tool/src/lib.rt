@@ -11,6 +11,7 @@ mod plan;
 mod raw;
 mod run_lines;
 mod running;
+mod states;
 mod tool;
 mod verdict;
 

@@ -1,29 +1,30 @@
 -- The command `run`, on an image's bytes.
-use Rattle.std.specs.Prelude.{◌≡◌, ◌⊎◌, ℕ, List, false}
+use Rattle.std.specs.Prelude.{◌≡◌, ◌⊎◌, ℕ, Bool, List, false}
 use Rattle.sfi_image.specs.Spelling.{Part}
 use Rattle.sfi_check.specs.Verdict.{IsAccepted}
 use Rattle.sfi_tool.specs.Meaning.{Meaning}
 use Rattle.sfi_tool.specs.RunLines.{IsRunText}
 use Rattle.sfi_tool.specs.commands.Checking.{SaysRefused, IsAcceptedImage, HasSomeFindings, HasSomeFault}
 
--- the image has no findings: status 0 and the lines of a run of its sandboxes, each of which reads
+-- the image has no findings: status 0 and the text of a run of its sandboxes, each of which reads
 -- what is given
-pub record SaysRan (rounds quantum : ℕ) (given bytes : List ℕ) (status : ℕ)
-    (text : List ℕ) : Type 0 where
+pub record SaysRan (rounds quantum : ℕ) (given : List ℕ) (report : Bool) (bytes : List ℕ)
+    (status : ℕ) (text : List ℕ) : Type 0 where
   pub parts : List Part
   pub accepted : IsAccepted bytes parts
   pub status_is : status ≡ 0
-  pub text_is : IsRunText rounds quantum given parts text
+  pub text_is : IsRunText report rounds quantum given parts text
 
--- the lines of a run, or the verdict on an image with findings
-abbrev pub SaysRun : ℕ → ℕ → List ℕ → List ℕ → ℕ → List ℕ → Type 0
-SaysRun rounds quantum given bytes status text =
-    SaysRan rounds quantum given bytes status text ⊎ SaysRefused false bytes status text
+-- the text of a run, or the verdict on an image with findings
+abbrev pub SaysRun : ℕ → ℕ → List ℕ → Bool → List ℕ → ℕ → List ℕ → Type 0
+SaysRun rounds quantum given report bytes status text =
+    SaysRan rounds quantum given report bytes status text ⊎ SaysRefused false bytes status text
 
--- `run`, of so many rounds of turns of so many steps, where each sandbox reads what is given
-abbrev pub run : ℕ → ℕ → List ℕ → Meaning
-run rounds quantum given = record {
-  says = SaysRun rounds quantum given;
+-- `run`, of so many rounds of turns of so many steps, where each sandbox reads what is given, with a
+-- report or without
+abbrev pub run : ℕ → ℕ → List ℕ → Bool → Meaning
+run rounds quantum given report = record {
+  says = SaysRun rounds quantum given report;
   is_done = IsAcceptedImage;
   is_refused = HasSomeFindings;
   has_fault = HasSomeFault;

@@ -1,0 +1,81 @@
+-- What is told of a sandbox, and of one sandbox more.
+use Rattle.std.proofs.Common.{◌≡◌, ℕ, suc, ◌+◌, List, [], ◌++◌, Option, Some, None, refl, sym, ap, ◌∙◌, subst, arith, append_assoc}
+use Rattle.std.specs.Prelude.{slice_get, Result, Ok, Err, OnOk, if◌then◌else◌}
+use Rattle.std.specs.Result.{is_ok}
+use Rattle.std.specs.Option.{option_map}
+use Rattle.std.proofs.lemmas.List.{append-nil}
+use Rattle.std.proofs.lemmas.Option.{slice_get-map}
+use Rattle.rv_step.specs.State.{Hart}
+use Rattle.sfi_policy.specs.declared.format.Format.{Format}
+use Rattle.sfi_image.specs.declared.part.SandboxPart.{SandboxPart}
+use Rattle.sfi_image.specs.Spelling.{Part, view, views}
+use Rattle.sfi_host.specs.Slots.{Slot}
+use Rattle.sfi_host.specs.declared.status.Status.{Status}
+use Rattle.sfi_host.specs.declared.status.Status.TheVariants.{Ready, Exited, Trapped}
+use Rattle.sfi_tool.specs.RunLines.{AreTold, IsTold, IsToldOf}
+use Rattle.sfi_tool.specs.private.Told.{Adds}
+
+-- nothing is added
+pub adds_nothing : (old : List ℕ) (is : List ℕ → Type 0) → is [] → Adds old old is
+adds_nothing old is h = record { text = []; text_is = h; new_is = sym (append-nil old) }
+
+-- there is no such sandbox
+pub no_status : (sandbox : ℕ) (p : Part) (o : Option Slot) → None ≡ option_map (λ (s : Slot). s.status) o → IsToldOf sandbox (Some p) o []
+no_status sandbox p None e = refl
+no_status sandbox p (Some s) e = absurd (cc)
+
+pub no_hart : (sandbox : ℕ) (p : Part) (o : Option Slot) → None ≡ option_map (λ (s : Slot). s.hart) o → IsToldOf sandbox (Some p) o []
+no_hart sandbox p None e = refl
+no_hart sandbox p (Some s) e = absurd (cc)
+
+-- it has exited
+pub exited : (sandbox : ℕ) (p : Part) (o : Option Slot) (n : ℕ) → Some (Exited n) ≡ option_map (λ (s : Slot). s.status) o → IsToldOf sandbox (Some p) o []
+exited sandbox p None n e = absurd (cc)
+exited sandbox p (Some s) n e =
+    let status : Exited n ≡ s.status = cc in
+    subst (λ (x : Status). IsTold sandbox p s.hart x []) status refl
+
+-- what is told of its status and its hart is told of it
+pub told : (sandbox : ℕ) (p : Part) (o : Option Slot) (status : Status) (hart : Hart) (text : List ℕ)
+    → Some status ≡ option_map (λ (s : Slot). s.status) o → Some hart ≡ option_map (λ (s : Slot). s.hart) o
+    → IsTold sandbox p hart status text → IsToldOf sandbox (Some p) o text
+told sandbox p None status hart text e f h = absurd (cc)
+told sandbox p (Some s) status hart text e f h =
+    let same : status ≡ s.status = cc in
+    let there : hart ≡ s.hart = cc in
+    subst (λ (x : Status). IsTold sandbox p s.hart x text) same (subst (λ (x : Hart). IsTold sandbox p x status text) there h)
+
+pub adds_told : (sandbox : ℕ) (p : Part) (o : Option Slot) (status : Status) (hart : Hart) (old new : List ℕ)
+    → Some status ≡ option_map (λ (s : Slot). s.status) o → Some hart ≡ option_map (λ (s : Slot). s.hart) o
+    → Adds old new (IsTold sandbox p hart status) → Adds old new (IsToldOf sandbox (Some p) o)
+adds_told sandbox p o status hart old new e f h = record { text = h.text; text_is = told sandbox p o status hart h.text e f h.text_is; new_is = h.new_is }
+
+-- a text was appended, if that succeeded
+pub adds_text : {A E : Type 0} (r : Result A E) (old new text seen : List ℕ) (is : List ℕ → Type 0) → is text → seen ≡ text
+    → new ≡ (if is_ok r then old ++ seen else old) → OnOk r (Adds old new is)
+adds_text (Ok a) old new text seen is h same e = record { text = text; text_is = h; new_is = e ∙ ap (λ (l : List ℕ). old ++ l) same }
+adds_text (Err x) old new text seen is h same e = tt
+
+-- the part of that number
+pub part_told : (format : Format) (sandbox : ℕ) (items : List SandboxPart) (part : SandboxPart) (o : Option Slot) (old new : List ℕ) → slice_get items sandbox ≡ Some part
+    → Adds old new (IsToldOf sandbox (Some (view format part)) o) → Adds old new (IsToldOf sandbox (slice_get (views format items) sandbox) o)
+part_told format sandbox items part o old new e h =
+    subst (λ (x : Option Part). Adds old new (IsToldOf sandbox x o)) (sym (slice_get-map (view format) items sandbox ∙ ap (option_map (view format)) e)) h
+
+pub no_part : (format : Format) (sandbox : ℕ) (items : List SandboxPart) (o : Option Slot) (old : List ℕ) → slice_get items sandbox ≡ None
+    → Adds old old (IsToldOf sandbox (slice_get (views format items) sandbox) o)
+no_part format sandbox items o old e =
+    subst (λ (x : Option Part). Adds old old (IsToldOf sandbox x o)) (sym (slice_get-map (view format) items sandbox ∙ ap (option_map (view format)) e))
+    (adds_nothing old (IsToldOf sandbox None o) refl)
+
+-- one sandbox more
+pub one_more_told : (n : ℕ) (ps : List Part) (slots : List Slot) (old mid new : List ℕ) → Adds old mid (AreTold n ps slots)
+    → Adds mid new (IsToldOf n (slice_get ps n) (slice_get slots n)) → Adds old new (AreTold (n + 1) ps slots)
+one_more_told n ps slots old mid new before here =
+    let text = before.text ++ here.text in
+    let told : AreTold (suc n) ps slots text = (before.text, here.text, before.text_is, here.text_is, refl) in
+    record {
+      text = text;
+      text_is = subst (λ k. AreTold k ps slots text) (let k : suc n ≡ n + 1 = omega arith in k) told;
+      new_is = here.new_is ∙ ap (λ (t : List ℕ). t ++ here.text) before.new_is ∙ append_assoc old before.text here.text;
+    }

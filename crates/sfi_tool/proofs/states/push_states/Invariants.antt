@@ -1,0 +1,12 @@
+use Rattle.std.specs.Prelude.{string_bytes}
+use Rattle.sfi_policy.specs.declared.format.Format.{Format}
+use Rattle.sfi_host.specs.Worlds.{slots_of}
+use Rattle.sfi_image.specs.Spelling.{views}
+use Rattle.sfi_tool.specs.RunLines.{AreTold}
+use Rattle.sfi_tool.specs.private.Told.{Adds}
+use Rattle.sfi_tool.proofs.states.push_states.Given as goal
+
+-- the first sandboxes are told of
+abbrev pub invariant-loop-sandbox : goal.invariant-loop-sandbox
+invariant-loop-sandbox g l =
+    (format : Format) → Adds (string_bytes l.fn.out) (string_bytes l.out) (AreTold l.sandbox (views format l.parts) (slots_of l.world))

@@ -1,0 +1,90 @@
+//! The pc and registers of the sandboxes that may still run or have trapped.
+
+ghost use Rattle.std.specs.Prelude.{Some, OnOk, slice_get, string_bytes};
+ghost use Rattle.sfi_host.specs.Worlds.{slots_of};
+ghost use Rattle.sfi_image.specs.Spelling.{view, views};
+ghost use Rattle.sfi_policy.specs.declared.format.Format.{Format};
+ghost use Rattle.sfi_report.specs.State.{IsStateText};
+ghost use Rattle.sfi_tool.specs.RunLines.{AreTold, IsToldOf};
+ghost use Rattle.sfi_tool.specs.private.Told.{Adds};
+
+use rv_mem::Memory;
+use rv_step::Cpu;
+use sfi_host::{Status, World};
+use sfi_image::SandboxPart;
+use sfi_report::state_text;
+use std::alloc::{AllocError, Global};
+
+/// Writes the state of the sandbox of that number, which is this part of an image.
+fn push_state(
+    alloc: Global,
+    out: &mut String,
+    sandbox: u32,
+    part: &SandboxPart<'_>,
+    cpu: &Cpu,
+) -> Result<(), AllocError>
+    ensures { (format : Format) → OnOk result (Adds (string_bytes out.old) (string_bytes out.new)
+        (IsStateText sandbox (view format part.now) cpu.now)) }
+{
+    let state = state_text(alloc, sandbox, part, cpu)?;
+    out.push_str(state.as_str())
+}
+
+/// Writes what is told of the sandbox of that number, which is this part of an image.
+fn push_told<M: Memory>(
+    alloc: Global,
+    out: &mut String,
+    sandbox: u32,
+    part: &SandboxPart<'_>,
+    world: &World<M>,
+) -> Result<(), AllocError>
+    ensures { (format : Format) → OnOk result (Adds (string_bytes out.old) (string_bytes out.new)
+        (IsToldOf sandbox (Some (view format part.now)) (slice_get (slots_of world.now) sandbox))) }
+{
+    let Some(status) = world.status(sandbox) else {
+        return Ok(());
+    };
+    let Some(cpu) = world.cpu(sandbox) else {
+        return Ok(());
+    };
+    match status {
+        Status::Ready => push_state(alloc, out, sandbox, part, cpu),
+        Status::Exited(_) => Ok(()),
+        Status::Trapped(_, _) => push_state(alloc, out, sandbox, part, cpu),
+    }
+}
+
+/// Writes what is told of the sandbox of that number; nothing where there is no such part.
+fn push_told_of<M: Memory>(
+    alloc: Global,
+    out: &mut String,
+    sandbox: u32,
+    parts: &[SandboxPart<'_>],
+    world: &World<M>,
+) -> Result<(), AllocError>
+    ensures { (format : Format) → OnOk result (Adds (string_bytes out.old) (string_bytes out.new)
+        (IsToldOf sandbox (slice_get (views format parts.now) sandbox)
+        (slice_get (slots_of world.now) sandbox))) }
+{
+    match parts.get(sandbox as usize) {
+        Some(part) => push_told(alloc, out, sandbox, part, world),
+        None => Ok(()),
+    }
+}
+
+/// Writes what is told of the first sandboxes, so many, in order.
+pub(crate) fn push_states<M: Memory>(
+    alloc: Global,
+    out: &mut String,
+    count: u32,
+    parts: &[SandboxPart<'_>],
+    world: &World<M>,
+) -> Result<(), AllocError>
+    ensures { (format : Format) → OnOk result (Adds (string_bytes out.old) (string_bytes out.new)
+        (AreTold count (views format parts.now) (slots_of world.now))) }
+{
+    for sandbox in 0..count {
+        push_told_of(alloc, out, sandbox, parts, world)?;
+    }
+    Ok(())
+}
