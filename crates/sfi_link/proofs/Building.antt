@@ -44,7 +44,7 @@ link_failed text source placed linker.Memory means rewritten h = inl refl
 
 module _ (source_law : texts.OneSource) (fault_law : texts.OneFault) (meant_law : texts.MeantHasNoFault) (rewriting_law : sources.OneRewriting) (rewrite_law : sources.OneFault) (never_law : sources.NeverBoth)
     (image_law : links.OneImage) (link_law : links.OneFault) (image_has_no_fault : links.ImageHasNoFault) where
-  same_placed : (text : List ℕ) (s t : List Sandbox) (p q : List Placement) → MeansSource text s → MeansSource text t → AreRewritten s p → AreRewritten t q → p ≡ q
+  pub same_placed : (text : List ℕ) (s t : List Sandbox) (p q : List Placement) → MeansSource text s → MeansSource text t → AreRewritten s p → AreRewritten t q → p ≡ q
   same_placed text s t p q a b x y = rewriting_law t p q (subst (λ u. AreRewritten u p) (source_law text s t a b) x) y
 
   one_build : (text xs ys : List ℕ) → IsTextBuild text xs → IsTextBuild text ys → xs ≡ ys
@@ -54,13 +54,13 @@ module _ (source_law : texts.OneSource) (fault_law : texts.OneFault) (meant_law 
   not_rewritten : (text : List ℕ) (s t : List Sandbox) (p : List Placement) (f : RewriteFault) → MeansSource text s → MeansSource text t → AreRewritten s p → IsSourceFault t f → ⊥
   not_rewritten text s t p f a b x h = never_law t p f (subst (λ u. AreRewritten u p) (source_law text s t a b) x) h
 
-  never_built : (text bytes : List ℕ) (f : BuildFault) → IsTextBuild text bytes → IsBuildFault text f → ⊥
+  pub never_built : (text bytes : List ℕ) (f : BuildFault) → IsTextBuild text bytes → IsBuildFault text f → ⊥
   never_built text bytes (Text f) a h = meant_law text a.source f a.means h
   never_built text bytes (Rewrite f) a (t, means, h) = not_rewritten text a.source t a.placed f a.means means a.rewritten h
   never_built text bytes (Link f) a (t, q, means, rewritten, h) =
       image_has_no_fault q bytes f (subst (λ p. IsLinkedImage p bytes) (same_placed text a.source t a.placed q a.means means a.rewritten rewritten) a.image) h
 
-  one_build_fault : (text : List ℕ) (f g : BuildFault) → IsBuildFault text f → IsBuildFault text g → f ≡ g
+  pub one_build_fault : (text : List ℕ) (f g : BuildFault) → IsBuildFault text f → IsBuildFault text g → f ≡ g
   one_build_fault text (Text f) (Text g) a b = ap (λ x. Text x) (fault_law text f g a b)
   one_build_fault text (Text f) (Rewrite g) a (t, means, h) = absurd (meant_law text t f means a)
   one_build_fault text (Text f) (Link g) a (t, q, means, rewritten, h) = absurd (meant_law text t f means a)

@@ -15,8 +15,10 @@ mod code_region;
 mod fault;
 pub mod laws;
 mod linker;
+mod names;
 
 pub use build_fault::BuildFault;
 pub use builder::build;
 pub use fault::LinkFault;
 pub use linker::link;
+pub use names::{NameAddress, names_at};
