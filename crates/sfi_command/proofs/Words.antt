@@ -25,7 +25,7 @@ use Rattle.sfi_command.specs.Command.{sfi, quantum_most, rounds_most, Names, Nam
 use Rattle.sfi_command.specs.private.Command.{NamesNothing, IsFaultOfNamed, IsInputFault}
 use Rattle.sfi_command.specs.Numbers.{number_of}
 use Rattle.sfi_command.specs.declared.job.Job.{Job}
-use Rattle.sfi_command.specs.declared.job.Job.TheVariants.{Check, Dis, Build, Run, Convert}
+use Rattle.sfi_command.specs.declared.job.Job.TheVariants.{Check, Dis, Build, Map, Run, Convert}
 use Rattle.sfi_command.specs.declared.job.JobFault.{JobFault}
 use Rattle.sfi_command.specs.declared.job.JobFault.TheVariants.{Usage, Hex, Memory}
 
@@ -202,6 +202,7 @@ no_rounds rows bytes spells none = record { no_job = no_job; no_run = λ names. 
     no_job (Check raw report) names = not_run _ 99 names.0 refl (λ e. absurd (omega (arith, e)))
     no_job Dis names = not_run _ 100 names refl (λ e. absurd (omega (arith, e)))
     no_job Build names = not_run _ 98 names refl (λ e. absurd (omega (arith, e)))
+    no_job Map names = not_run _ 109 names refl (λ e. absurd (omega (arith, e)))
     no_job (Run rounds quantum input report) names = none rounds names.1
     no_job Convert names = not_run _ 99 names refl (λ e. absurd (omega (arith, e)))
 
@@ -213,6 +214,7 @@ no_quantum rows bytes spells none = record { no_job = no_job; no_run = λ names.
     no_job (Check raw report) names = not_run _ 99 names.0 refl (λ e. absurd (omega (arith, e)))
     no_job Dis names = not_run _ 100 names refl (λ e. absurd (omega (arith, e)))
     no_job Build names = not_run _ 98 names refl (λ e. absurd (omega (arith, e)))
+    no_job Map names = not_run _ 109 names refl (λ e. absurd (omega (arith, e)))
     no_job (Run rounds quantum input report) names = none quantum names.2
     no_job Convert names = not_run _ 99 names refl (λ e. absurd (omega (arith, e)))
 

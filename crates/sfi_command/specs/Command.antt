@@ -8,7 +8,7 @@ use Rattle.clap.specs.Walk.{Row, Rule, Text, first_of}
 use Rattle.clap.specs.declared.builder.action.ArgAction.TheVariants.{SetTrue}
 use Rattle.clap.specs.declared.builder.value_parser.ValueParser.TheVariants.{Signed}
 use Rattle.sfi_command.specs.declared.job.Job.{Job}
-use Rattle.sfi_command.specs.declared.job.Job.TheVariants.{Check, Dis, Build, Run, Convert}
+use Rattle.sfi_command.specs.declared.job.Job.TheVariants.{Check, Dis, Build, Map, Run, Convert}
 use Rattle.sfi_command.specs.declared.job.JobFault.{JobFault}
 use Rattle.sfi_command.specs.declared.job.JobFault.TheVariants.{Usage, Hex, Memory}
 
@@ -44,6 +44,10 @@ dis = new_shape (codes "dis")
 abbrev pub build : Shape
 build = new_shape (codes "build")
 
+-- `map`, without options
+abbrev pub map : Shape
+map = new_shape (codes "map")
+
 -- an option that takes a value, which its help names
 abbrev pub value_rule : Text → Rule
 value_rule name = record (new_rule name) { long = Some name; value_names = 1 }
@@ -73,7 +77,9 @@ convert = new_shape (codes "convert")
 abbrev pub sfi : App
 sfi =
     with_subcommand
-    (with_subcommand (with_subcommand (with_subcommand (with_subcommand program check) dis) build) run)
+    (with_subcommand
+     (with_subcommand (with_subcommand (with_subcommand (with_subcommand program check) dis) build) map)
+     run)
     convert
 
 -- ---- jobs
@@ -110,6 +116,7 @@ Names (Some p) (Check raw report) =
     × ¬ ((raw ≡ true) × (report ≡ true))
 Names (Some p) Dis = p.0 ≡ codes "dis"
 Names (Some p) Build = p.0 ≡ codes "build"
+Names (Some p) Map = p.0 ≡ codes "map"
 Names (Some p) (Run rounds quantum input report) =
     (p.0 ≡ codes "run") × IsCount (codes "rounds") rounds_most p.1 rounds
     × IsCount (codes "quantum") quantum_most p.1 quantum

@@ -118,10 +118,12 @@ fn command<'a>(alloc: Global) -> Result<Command<'a>, AllocError>
     let program = program_command(alloc);
     let dis = command_named(alloc, "dis", help::DIS, help::DIS_NOTES);
     let build = command_named(alloc, "build", help::BUILD, help::BUILD_NOTES);
+    let map = command_named(alloc, "map", help::MAP, help::MAP_NOTES);
     let convert = command_named(alloc, "convert", help::CONVERT, help::CONVERT_NOTES);
     let program = program.subcommand(check_command(alloc)?)?;
     let program = program.subcommand(dis)?;
     let program = program.subcommand(build)?;
+    let program = program.subcommand(map)?;
     let program = program.subcommand(run_command(alloc)?)?;
     program.subcommand(convert)
 }
@@ -259,6 +261,9 @@ fn job_named(alloc: Global, name: &str, found: &ArgMatches<'_>) -> Result<Job, J
     }
     if name == "build" {
         return Ok(Job::Build);
+    }
+    if name == "map" {
+        return Ok(Job::Map);
     }
     if name == "run" {
         return run_of(alloc, found);

@@ -78,6 +78,21 @@ Exit status:
 Example:
   sfi build < examples/hi.s > hi.hex";
 
+pub(crate) const MAP: &str = "Say where the names of a source text lie in its image";
+
+pub(crate) const MAP_NOTES: &str = "\
+Reads a source text as `sfi build` does, and prints a line for each name: its
+sandbox, whether it names a gate, code or data, and its address there.
+  sandbox=S gate NAME at=AAAAAAAA
+
+Exit status:
+  0  the source can be built, and its names are printed
+  2  the source has a fault, and the line says where
+  3, 4, 5  as `sfi help` says
+
+Example:
+  sfi map < examples/hi.s";
+
 pub(crate) const RUN: &str = "Check an image and, if it is accepted, run its sandboxes by turns";
 
 pub(crate) const RUN_ROUNDS: &str = "Turns of each sandbox, from 1 to 10000";

@@ -22,6 +22,8 @@ pub enum Job {
     Dis,
     /// The image that a source text makes, as hexadecimal text.
     Build,
+    /// The addresses of a source text's names in the image that it makes.
+    Map,
     /// A run of the image's sandboxes. Its bytes come as hexadecimal text.
     Run {
         /// How often each sandbox gets a turn, from 1 to 10000.
@@ -44,7 +46,7 @@ impl Job {
     {
         match self {
             Job::Check { raw, .. } => *raw,
-            Job::Dis | Job::Build | Job::Run { .. } | Job::Convert => false,
+            Job::Dis | Job::Build | Job::Map | Job::Run { .. } | Job::Convert => false,
         }
     }
 }
