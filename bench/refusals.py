@@ -59,6 +59,8 @@ def commands(program):
         (["check"], smallest[:40]),
         (["build"], source),
         (["build"], source + b"frob\n"),
+        (["map"], source),
+        (["map"], source + b"frob\n"),
         (["dis"], image),
         (["run"], image),
         (["run", "--rounds", "3", "--quantum", "8", "--input", "616263"], image),

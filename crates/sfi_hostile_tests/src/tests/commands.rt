@@ -59,6 +59,12 @@ pub(super) const COMMANDS: [Command; 8] = [
         front: "534649310100000000000001",
     },
     Command {
+        line: "sfi map",
+        pieces: [(SOURCE, 1), NONE, NONE, NONE],
+        status: 0,
+        front: "sandbox=0 gate put at=01000000\nsandbox=0 gate quit at=01000010\n",
+    },
+    Command {
         line: "sfi dis",
         pieces: SMALLEST,
         status: 0,

@@ -25,6 +25,8 @@ fn usage(rt: HostRuntime) -> Result<(), Fail> {
         ("sfi build --report", "error: "),
         ("sfi build --raw", "error: "),
         ("sfi build source", "error: "),
+        ("sfi map --report", "error: "),
+        ("sfi map source", "error: "),
         ("sfi dis image", "error: "),
         ("sfi dis --report", "error: "),
         ("sfi dis --raw", "error: "),
@@ -121,6 +123,11 @@ fn help(rt: HostRuntime) -> Result<(), Fail> {
             ["build --help", "build -h", "help build"],
             ["build\n", "source text", "-h, --help"],
             "build < ",
+        ),
+        (
+            ["map --help", "map -h", "help map"],
+            ["map\n", "names of a source", "-h, --help"],
+            "map < ",
         ),
         (
             ["run --help", "run -h", "help run"],

@@ -1,0 +1,9 @@
+use Rattle.std.proofs.Common.{ℕ, List, sym, subst}
+use Rattle.sfi_link.specs.Names.{IsTextMap}
+use Rattle.sfi_tool.proofs.SourceStops.{memory_stops}
+use Rattle.sfi_tool.proofs.mapping.map_answer.Goals as goal
+
+pub returns-in-Err-clause-only_done : goal.returns-in-Err-clause-only_done
+returns-in-Err-clause-only_done c done =
+    memory_stops c.in-Err.fault c.build_stop.result c.build_stop.ensures
+    (c.in-Err.ensures.only_mapped done.0 (subst (λ (t : List ℕ). IsTextMap t done.0) (sym c.in_ok-source.ensures.text.0) done.2))
