@@ -10,6 +10,7 @@ use Rattle.sfi_rewrite.specs.Placement.{Placement}
 use Rattle.sfi_rewrite.specs.Faults.{IsSourceFault, UnlessMemory}
 use Rattle.sfi_rewrite.specs.Rewriting.{AreRewritten}
 use Rattle.sfi_rewrite.specs.Laws as sources
+use Rattle.sfi_place.specs.declared.place.Place.{Place}
 use Rattle.sfi_link.specs.declared.fault.LinkFault.{LinkFault}
 use Rattle.sfi_link.specs.declared.fault.LinkFault.TheVariants as linker
 use Rattle.sfi_link.specs.declared.build_fault.BuildFault.{BuildFault}
@@ -25,20 +26,21 @@ use Rattle.sfi_link.specs.private.Texts.{Builds}
 
 -- ---- what each call answered
 
-pub rewrite_failed : (text : List ℕ) (source : List Sandbox) (f : RewriteFault) → MeansSource text source → UnlessMemory (IsSourceFault source) f → Builds text (Err (Rewrite f))
-rewrite_failed text source (rewriter.ReservedRegister l) means h = inr (source, means, h)
-rewrite_failed text source (rewriter.Ecall l) means h = inr (source, means, h)
-rewrite_failed text source (rewriter.StackWrite l) means h = inr (source, means, h)
-rewrite_failed text source (rewriter.TooLarge n) means h = inr (source, means, h)
-rewrite_failed text source rewriter.Memory means h = inl refl
+pub rewrite_failed : (given : List Place) → (text : List ℕ) (source : List Sandbox) (f : RewriteFault) → MeansSource text source → UnlessMemory (IsSourceFault source) f → Builds given text (Err (Rewrite f))
+rewrite_failed given text source (rewriter.ReservedRegister l) means h = inr (source, means, h)
+rewrite_failed given text source (rewriter.Ecall l) means h = inr (source, means, h)
+rewrite_failed given text source (rewriter.StackWrite l) means h = inr (source, means, h)
+rewrite_failed given text source (rewriter.TooLarge n) means h = inr (source, means, h)
+rewrite_failed given text source rewriter.Memory means h = inl refl
 
-pub link_failed : (text : List ℕ) (source : List Sandbox) (placed : List Placement) (f : LinkFault) → MeansSource text source → AreRewritten source placed → link.UnlessMemory (IsLinkFault placed) f
-    → Builds text (Err (Link f))
-link_failed text source placed (linker.UnknownName l) means rewritten h = inr (source, placed, means, rewritten, h)
-link_failed text source placed (linker.BranchReach l) means rewritten h = inr (source, placed, means, rewritten, h)
-link_failed text source placed (linker.TooLarge n) means rewritten h = inr (source, placed, means, rewritten, h)
-link_failed text source placed linker.TooManySandboxes means rewritten h = inr (source, placed, means, rewritten, h)
-link_failed text source placed linker.Memory means rewritten h = inl refl
+pub link_failed : (given : List Place) → (text : List ℕ) (source : List Sandbox) (placed : List Placement) (f : LinkFault) → MeansSource text source → AreRewritten source placed → link.UnlessMemory (IsLinkFault given placed) f
+    → Builds given text (Err (Link f))
+link_failed given text source placed (linker.UnknownName l) means rewritten h = inr (source, placed, means, rewritten, h)
+link_failed given text source placed (linker.BranchReach l) means rewritten h = inr (source, placed, means, rewritten, h)
+link_failed given text source placed (linker.TooLarge n) means rewritten h = inr (source, placed, means, rewritten, h)
+link_failed given text source placed (linker.Place n) means rewritten h = inr (source, placed, means, rewritten, h)
+link_failed given text source placed linker.TooManySandboxes means rewritten h = inr (source, placed, means, rewritten, h)
+link_failed given text source placed linker.Memory means rewritten h = inl refl
 
 -- ---- one build, one fault
 
@@ -47,43 +49,43 @@ module _ (source_law : texts.OneSource) (fault_law : texts.OneFault) (meant_law 
   same_placed : (text : List ℕ) (s t : List Sandbox) (p q : List Placement) → MeansSource text s → MeansSource text t → AreRewritten s p → AreRewritten t q → p ≡ q
   same_placed text s t p q a b x y = rewriting_law t p q (subst (λ u. AreRewritten u p) (source_law text s t a b) x) y
 
-  one_build : (text xs ys : List ℕ) → IsTextBuild text xs → IsTextBuild text ys → xs ≡ ys
-  one_build text xs ys a b =
-      image_law b.placed xs ys (subst (λ p. IsLinkedImage p xs) (same_placed text a.source b.source a.placed b.placed a.means b.means a.rewritten b.rewritten) a.image) b.image
+  one_build : (given : List Place) → (text xs ys : List ℕ) → IsTextBuild given text xs → IsTextBuild given text ys → xs ≡ ys
+  one_build given text xs ys a b =
+      image_law given b.placed xs ys (subst (λ p. IsLinkedImage given p xs) (same_placed text a.source b.source a.placed b.placed a.means b.means a.rewritten b.rewritten) a.image) b.image
 
   not_rewritten : (text : List ℕ) (s t : List Sandbox) (p : List Placement) (f : RewriteFault) → MeansSource text s → MeansSource text t → AreRewritten s p → IsSourceFault t f → ⊥
   not_rewritten text s t p f a b x h = never_law t p f (subst (λ u. AreRewritten u p) (source_law text s t a b) x) h
 
-  never_built : (text bytes : List ℕ) (f : BuildFault) → IsTextBuild text bytes → IsBuildFault text f → ⊥
-  never_built text bytes (Text f) a h = meant_law text a.source f a.means h
-  never_built text bytes (Rewrite f) a (t, means, h) = not_rewritten text a.source t a.placed f a.means means a.rewritten h
-  never_built text bytes (Link f) a (t, q, means, rewritten, h) =
-      image_has_no_fault q bytes f (subst (λ p. IsLinkedImage p bytes) (same_placed text a.source t a.placed q a.means means a.rewritten rewritten) a.image) h
+  never_built : (given : List Place) → (text bytes : List ℕ) (f : BuildFault) → IsTextBuild given text bytes → IsBuildFault given text f → ⊥
+  never_built given text bytes (Text f) a h = meant_law text a.source f a.means h
+  never_built given text bytes (Rewrite f) a (t, means, h) = not_rewritten text a.source t a.placed f a.means means a.rewritten h
+  never_built given text bytes (Link f) a (t, q, means, rewritten, h) =
+      image_has_no_fault given q bytes f (subst (λ p. IsLinkedImage given p bytes) (same_placed text a.source t a.placed q a.means means a.rewritten rewritten) a.image) h
 
-  one_build_fault : (text : List ℕ) (f g : BuildFault) → IsBuildFault text f → IsBuildFault text g → f ≡ g
-  one_build_fault text (Text f) (Text g) a b = ap (λ x. Text x) (fault_law text f g a b)
-  one_build_fault text (Text f) (Rewrite g) a (t, means, h) = absurd (meant_law text t f means a)
-  one_build_fault text (Text f) (Link g) a (t, q, means, rewritten, h) = absurd (meant_law text t f means a)
-  one_build_fault text (Rewrite f) (Text g) (s, means, h) b = absurd (meant_law text s g means b)
-  one_build_fault text (Rewrite f) (Rewrite g) (s, means, h) (t, other, k) =
+  one_build_fault : (given : List Place) → (text : List ℕ) (f g : BuildFault) → IsBuildFault given text f → IsBuildFault given text g → f ≡ g
+  one_build_fault given text (Text f) (Text g) a b = ap (λ x. Text x) (fault_law text f g a b)
+  one_build_fault given text (Text f) (Rewrite g) a (t, means, h) = absurd (meant_law text t f means a)
+  one_build_fault given text (Text f) (Link g) a (t, q, means, rewritten, h) = absurd (meant_law text t f means a)
+  one_build_fault given text (Rewrite f) (Text g) (s, means, h) b = absurd (meant_law text s g means b)
+  one_build_fault given text (Rewrite f) (Rewrite g) (s, means, h) (t, other, k) =
       ap (λ x. Rewrite x) (rewrite_law t f g (subst (λ u. IsSourceFault u f) (source_law text s t means other) h) k)
-  one_build_fault text (Rewrite f) (Link g) (s, means, h) (t, q, other, rewritten, k) = absurd (not_rewritten text t s q f other means rewritten h)
-  one_build_fault text (Link f) (Text g) (s, p, means, rewritten, h) b = absurd (meant_law text s g means b)
-  one_build_fault text (Link f) (Rewrite g) (s, p, means, rewritten, h) (t, other, k) = absurd (not_rewritten text s t p g means other rewritten k)
-  one_build_fault text (Link f) (Link g) (s, p, means, rewritten, h) (t, q, other, again, k) =
-      ap (λ x. Link x) (link_law q f g (subst (λ u. IsLinkFault u f) (same_placed text s t p q means other rewritten again) h) k)
+  one_build_fault given text (Rewrite f) (Link g) (s, means, h) (t, q, other, rewritten, k) = absurd (not_rewritten text t s q f other means rewritten h)
+  one_build_fault given text (Link f) (Text g) (s, p, means, rewritten, h) b = absurd (meant_law text s g means b)
+  one_build_fault given text (Link f) (Rewrite g) (s, p, means, rewritten, h) (t, other, k) = absurd (not_rewritten text s t p g means other rewritten k)
+  one_build_fault given text (Link f) (Link g) (s, p, means, rewritten, h) (t, q, other, again, k) =
+      ap (λ x. Link x) (link_law given q f g (subst (λ u. IsLinkFault given u f) (same_placed text s t p q means other rewritten again) h) k)
 
   -- ---- what a builder answers that way
 
-  pub only_built : (text : List ℕ) (r : Result (Vec ℕ Global) BuildFault) → Builds text r → (bytes : List ℕ) → IsTextBuild text bytes → AnswersBuild bytes r
-  only_built text (Ok v) h bytes is = one_build text v.items bytes h is
-  only_built text (Err f) (inl h) bytes is = h
-  only_built text (Err f) (inr h) bytes is = absurd (never_built text bytes f is h)
+  pub only_built : (given : List Place) → (text : List ℕ) (r : Result (Vec ℕ Global) BuildFault) → Builds given text r → (bytes : List ℕ) → IsTextBuild given text bytes → AnswersBuild bytes r
+  only_built given text (Ok v) h bytes is = one_build given text v.items bytes h is
+  only_built given text (Err f) (inl h) bytes is = h
+  only_built given text (Err f) (inr h) bytes is = absurd (never_built given text bytes f is h)
 
-  pub only_fault : (text : List ℕ) (r : Result (Vec ℕ Global) BuildFault) → Builds text r → (f : BuildFault) → IsBuildFault text f → AnswersBuildFault f r
-  only_fault text (Ok v) h f is = absurd (never_built text v.items f h is)
-  only_fault text (Err g) (inl h) f is = inr h
-  only_fault text (Err g) (inr h) f is = inl (one_build_fault text g f h is)
+  pub only_fault : (given : List Place) → (text : List ℕ) (r : Result (Vec ℕ Global) BuildFault) → Builds given text r → (f : BuildFault) → IsBuildFault given text f → AnswersBuildFault f r
+  only_fault given text (Ok v) h f is = absurd (never_built given text v.items f h is)
+  only_fault given text (Err g) (inl h) f is = inr h
+  only_fault given text (Err g) (inr h) f is = inl (one_build_fault given text g f h is)
 
   placements : (source : List Sandbox) (placed : List Placement) → AreRewritten source placed → ArePlacements source placed
   placements [] [] h = h
@@ -91,8 +93,8 @@ module _ (source_law : texts.OneSource) (fault_law : texts.OneFault) (meant_law 
   placements (s ∷ source) [] h = h
   placements (s ∷ source) (p ∷ placed) h = (h.0.placement, placements source placed h.1)
 
-  pub is_build : (text : List ℕ) (r : Result (Vec ℕ Global) BuildFault) → Builds text r → (source : List Sandbox) → MeansSource text source → IfOk r (λ v. IsBuild source v.items)
-  is_build text (Ok v) h source means =
+  pub is_build : (given : List Place) → (text : List ℕ) (r : Result (Vec ℕ Global) BuildFault) → Builds given text r → (source : List Sandbox) → MeansSource text source → IfOk r (λ v. IsBuild given source v.items)
+  is_build given text (Ok v) h source means =
       let same = source_law text h.source source h.means means in
       record {
         placed = h.placed;
@@ -101,24 +103,24 @@ module _ (source_law : texts.OneSource) (fault_law : texts.OneFault) (meant_law 
         linked = h.image.linked;
         bytes_are = h.image.image.bytes_are;
       }
-  is_build text (Err f) h source means = tt
+  is_build given text (Err f) h source means = tt
 
-pub means_built : (text : List ℕ) (r : Result (Vec ℕ Global) BuildFault) → Builds text r → IfOk r (λ v. IsTextBuild text v.items)
-means_built text (Ok v) h = h
-means_built text (Err f) h = tt
+pub means_built : (given : List Place) → (text : List ℕ) (r : Result (Vec ℕ Global) BuildFault) → Builds given text r → IfOk r (λ v. IsTextBuild given text v.items)
+means_built given text (Ok v) h = h
+means_built given text (Err f) h = tt
 
-pub means_clean : (text : List ℕ) (r : Result (Vec ℕ Global) BuildFault) → Builds text r → IfOk r (λ v. IsCleanImage v.items)
-means_clean text (Ok v) h = record { parts = h.image.parts; image = h.image.image; none_found = h.image.none_found }
-means_clean text (Err f) h = tt
+pub means_clean : (given : List Place) → (text : List ℕ) (r : Result (Vec ℕ Global) BuildFault) → Builds given text r → IfOk r (λ v. IsCleanImage v.items)
+means_clean given text (Ok v) h = record { parts = h.image.parts; image = h.image.image; none_found = h.image.none_found }
+means_clean given text (Err f) h = tt
 
-pub means_fault : (text : List ℕ) (r : Result (Vec ℕ Global) BuildFault) → Builds text r → IfErr r (λ f. IsWantOfMemory f ⊎ IsBuildFault text f)
-means_fault text (Ok v) h = tt
-means_fault text (Err f) h = h
+pub means_fault : (given : List Place) → (text : List ℕ) (r : Result (Vec ℕ Global) BuildFault) → Builds given text r → IfErr r (λ f. IsWantOfMemory f ⊎ IsBuildFault given text f)
+means_fault given text (Ok v) h = tt
+means_fault given text (Err f) h = h
 
 -- the image acts as the source that its text means
-pub build_runs_as : links_stand.LinkedImagesRunAs → texts.OneSource → texts.SourcesAreRight → (text : List ℕ) (r : Result (Vec ℕ Global) BuildFault) → Builds text r
-    → (source : List Sandbox) → MeansSource text source → IfOk r (λ v. ImageRunsAs source v.items)
-build_runs_as runs one right text (Ok v) h source means =
+pub build_runs_as : (given : List Place) → links_stand.LinkedImagesRunAs → texts.OneSource → texts.SourcesAreRight → (text : List ℕ) (r : Result (Vec ℕ Global) BuildFault) → Builds given text r
+    → (source : List Sandbox) → MeansSource text source → IfOk r (λ v. ImageRunsAs given source v.items)
+build_runs_as given runs one right text (Ok v) h source means =
     let same = one text h.source source h.means means in
-    runs source h.placed v.items (right text source means) (subst (λ u. AreRewritten u h.placed) same h.rewritten) h.image
-build_runs_as runs one right text (Err f) h source means = tt
+    runs given source h.placed v.items (right text source means) (subst (λ u. AreRewritten u h.placed) same h.rewritten) h.image
+build_runs_as given runs one right text (Err f) h source means = tt

@@ -10,6 +10,7 @@ pub mod LinkedClean
 pub mod SlotsThere
 pub mod RunsAs
 pub mod OneLinking
+pub mod Lies
 pub mod Pushed
 pub mod Linking
 pub mod SomeLinking

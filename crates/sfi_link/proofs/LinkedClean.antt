@@ -20,6 +20,7 @@ use Rattle.sfi_rewrite.specs.declared.placed.PlacedName.TheVariants.{Gate, Code,
 use Rattle.sfi_rewrite.specs.Slots.{slots_of}
 use Rattle.sfi_rewrite.specs.Placement.{Placement}
 use Rattle.sfi_rewrite.specs.Placed.{AreWhole, IsPlacedPart, IsPlacedThere}
+use Rattle.sfi_place.specs.declared.place.Place.{Place}
 use Rattle.sfi_link.specs.Addresses.{bases_of, of_name, target_of}
 use Rattle.sfi_link.specs.Code.{AreSlots}
 use Rattle.sfi_link.specs.Linked.{c_ebreak, needed, gates_from, IsLinked, AreLinkedFrom}
@@ -27,7 +28,7 @@ use Rattle.sfi_link.proofs.Sizes.{size_of-append, size_fill}
 use Rattle.sfi_link.proofs.CleanPlaces.{AreStarts}
 use Rattle.sfi_link.proofs.Region.{IsClosed, closed_is_clean, length_stubs}
 use Rattle.sfi_link.proofs.Filled.{filled}
-use Rattle.sfi_link.proofs.Parts.{code_at_most, sixteens, slots_length, listed_at, listed_only}
+use Rattle.sfi_link.proofs.Parts.{lies_well, sixteens, slots_length, listed_at, listed_only}
 
 -- ---- names
 
@@ -40,44 +41,49 @@ some_same : (x y : ℕ) → Some x ≡ Some y → x ≡ y
 some_same x y e = cc
 
 -- the target of a jump to a name is a bundle start
-target_starts : (number : ℕ) (p : Placement) (q : Part) → IsLinked number p q → number < 16 → (n : PlacedName) → IsPlacedThere p n → (to : ℕ) → target_of (bases_of number p) n ≡ Some to
+target_starts : (given : List Place) → (number : ℕ) (p : Placement) (q : Part) → IsLinked given number p q → (n : PlacedName) → IsPlacedThere p n → (to : ℕ) → target_of (bases_of given number p) n ≡ Some to
     → IsBundleStart (record { base = q.code_base; size = length q.code }) to × (to < 2 ^ 32)
-target_starts number p q linked few (Gate k) there to e =
-    let is = some_same (0x01000000 * (number + 1) + 16 * k) to e in
+target_starts given number p q linked (Gate k) there to e =
+    let is = some_same ((bases_of given number p).code + 16 * k) to e in
     let base = linked.code_base in
     let room = linked.code.size.has_room.room in
     let most = linked.code.size.has_room.at_most in
-    let bound = code_at_most p.format in
+    let well = lies_well given number p q linked in
+    let end = well.end in
+    let whole = well.even in
     (record { held = (omega arith, omega arith); aligned = omega arith }, omega arith)
-target_starts number p q linked few (Code offset) there to e =
-    let is = some_same (0x01000000 * (number + 1) + 16 * length p.gates + offset) to e in
+target_starts given number p q linked (Code offset) there to e =
+    let is = some_same ((bases_of given number p).start + offset) to e in
     let base = linked.code_base in
     let room = linked.code.size.has_room.room in
     let most = linked.code.size.has_room.at_most in
-    let bound = code_at_most p.format in
+    let well = lies_well given number p q linked in
+    let end = well.end in
+    let whole = well.even in
     let even = there.0 in
     let within = there.1 in
     (record { held = (omega arith, omega arith); aligned = omega arith }, omega arith)
-target_starts number p q linked few (Data offset) there to e = cc
-target_starts number p q linked few Unknown there to e = cc
+target_starts given number p q linked (Data offset) there to e = cc
+target_starts given number p q linked Unknown there to e = cc
 
-are_starts : SameBundleStarts → (number : ℕ) (p : Placement) (q : Part) → IsPlacedPart p → IsLinked number p q → number < 16 → (sandbox : ℕ) → AreStarts (place_of sandbox q 0) (bases_of number p) p.names
-are_starts law number p q placed linked few sandbox place to e =
-    let found = of_place (target_of (bases_of number p)) (slice_get p.names place) to e in
+are_starts : (given : List Place) → SameBundleStarts → (number : ℕ) (p : Placement) (q : Part) → IsPlacedPart p → IsLinked given number p q → (sandbox : ℕ) → AreStarts (place_of sandbox q 0) (bases_of given number p) p.names
+are_starts given law number p q placed linked sandbox place to e =
+    let found = of_place (target_of (bases_of given number p)) (slice_get p.names place) to e in
     let within = slice_get_within p.names place found.0 found.1 in
     let there : IsPlacedThere p found.0 = subst (IsPlacedThere p) (get_or_from_slice_get p.names place found.0 found.0 found.1) (placed.names place found.0 within) in
-    let start = target_starts number p q linked few found.0 there to found.2 in
+    let start = target_starts given number p q linked found.0 there to found.2 in
     ((law (place_of sandbox q 0) to).1 start.0, start.1)
 
 -- ---- a sandbox
 
-closed : SameBundleStarts → (number : ℕ) (p : Placement) (q : Part) → IsPlacedPart p → number < 16 → IsLinked number p q
-    → (full : List (List Slot)) × IsClosed q (bases_of number p) p.names (length p.gates) full × ((bases_of number p).start + 16 * length full ≤ 2 ^ 32)
-closed law number p q placed few linked =
+closed : (given : List Place) → SameBundleStarts → (number : ℕ) (p : Placement) (q : Part) → IsPlacedPart p → IsLinked given number p q
+    → (full : List (List Slot)) × IsClosed q (bases_of given number p) p.names (length p.gates) full × ((bases_of given number p).start + 16 * length full ≤ 2 ^ 32)
+closed given law number p q placed linked =
     let code = linked.code in
     let room = code.size.has_room.room in
     let most = code.size.has_room.at_most in
-    let bound = code_at_most p.format in
+    let well = lies_well given number p q linked in
+    let end = well.end in
     let base = linked.code_base in
     let gates = linked.gates in
     let start = linked.start in
@@ -91,12 +97,12 @@ closed law number p q placed few linked =
     let n : ℕ = counted.count - length p.gates in
     let whole = filled q.format (length p.names) p.bundles placed.bundles (subst (λ (f : Format). All (AreWhole f (length p.names)) p.bundles) (sym linked.format) placed.whole) code.fill n (omega arith) (omega arith) in
     let count = whole.count in
-    let at = bases_of number p in
+    let at = bases_of given number p in
     let same : (k : ℕ) → is_gate_of q.gates (q.code_base + 16 * k) ≡ is_gate_of (gates_from at.code p.gates) (at.code + 16 * k) =
     λ k. ap (λ gs. is_gate_of gs (q.code_base + 16 * k)) gates ∙ ap (λ a. is_gate_of (gates_from at.code p.gates) (a + 16 * k)) base in (
       whole.full,
       record {
-        starts = are_starts law number p q placed linked few;
+        starts = are_starts given law number p q placed linked;
         start = omega arith;
         room = omega arith;
         bytes = code.bytes;
@@ -110,14 +116,14 @@ closed law number p q placed few linked =
       omega arith,
     )
 
-pub linked_is_clean : SpellingsAreWide → OneSpelling → TwoLengths → SameBundleStarts → (number : ℕ) (p : Placement) (q : Part) → IsPlacedPart p → number < 16 → IsLinked number p q → AreFindings number q []
-linked_is_clean law one two starts number p q placed few linked =
-    let c = closed starts number p q placed few linked in
-    closed_is_clean law one two number q (bases_of number p) p.names (length p.gates) c.0 c.1 c.2
+pub linked_is_clean : SpellingsAreWide → OneSpelling → TwoLengths → SameBundleStarts → (given : List Place) (number : ℕ) (p : Placement) (q : Part) → IsPlacedPart p → IsLinked given number p q → AreFindings number q []
+linked_is_clean law one two starts given number p q placed linked =
+    let c = closed given starts number p q placed linked in
+    closed_is_clean law one two number q (bases_of given number p) p.names (length p.gates) c.0 c.1 c.2
 
-pub all_are_clean : ((number : ℕ) (p : Placement) (q : Part) → IsPlacedPart p → number < 16 → IsLinked number p q → AreFindings number q [])
-    → (number : ℕ) (placed : List Placement) (parts : List Part) → All IsPlacedPart placed → number + length placed ≤ 16 → AreLinkedFrom number placed parts → AreFindingsFrom number parts []
-all_are_clean each number [] parts all few linked = subst (λ qs. AreFindingsFrom number qs []) (sym linked) refl
-all_are_clean each number (p ∷ placed) [] all few linked = absurd linked
-all_are_clean each number (p ∷ placed) (q ∷ parts) all few linked =
-    ([], [], each number p q (All-head IsPlacedPart p placed all) (omega arith) linked.0, all_are_clean each (number + 1) placed parts (All-tail IsPlacedPart p placed all) (omega arith) linked.1, refl)
+pub all_are_clean : (given : List Place) → ((place : List Place) (number : ℕ) (p : Placement) (q : Part) → IsPlacedPart p → IsLinked place number p q → AreFindings number q [])
+    → (number : ℕ) (placed : List Placement) (parts : List Part) → All IsPlacedPart placed → AreLinkedFrom given number placed parts → AreFindingsFrom number parts []
+all_are_clean given each number [] parts all linked = subst (λ qs. AreFindingsFrom number qs []) (sym linked) refl
+all_are_clean given each number (p ∷ placed) [] all linked = absurd linked
+all_are_clean given each number (p ∷ placed) (q ∷ parts) all linked =
+    ([], [], each given number p q (All-head IsPlacedPart p placed all) linked.0, all_are_clean given each (number + 1) placed parts (All-tail IsPlacedPart p placed all) linked.1, refl)

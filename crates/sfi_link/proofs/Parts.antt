@@ -13,9 +13,9 @@ use Rattle.sfi_policy.specs.Formats.{code_most}
 use Rattle.rv_source.specs.declared.item.SourceGate.{SourceGate}
 use Rattle.sfi_rewrite.specs.Placed as placements
 use Rattle.sfi_image.specs.declared.span.Span.{Span}
-use Rattle.sfi_image.specs.Spelling.{Part, format_of, fields_of}
-use Rattle.sfi_image.specs.Spans.{AreApart, code_span, guarded_span, code_region, spans}
-use Rattle.sfi_image.specs.Regions.{IsBundleStart}
+use Rattle.sfi_image.specs.Spelling.{Part, format_of}
+use Rattle.sfi_image.specs.Spans.{code_region}
+use Rattle.sfi_image.specs.Regions.{IsRegion, IsCodeRegion, IsDataRegion, HasGuardRoom, IsBundleStart}
 use Rattle.sfi_image.specs.Gates.{is_gate_of}
 use Rattle.sfi_image.specs.Parts.{IsRightPart, IsRightLayout, AreOf}
 use Rattle.sfi_rewrite.specs.declared.slot.Slot.{Slot}
@@ -24,10 +24,13 @@ use Rattle.sfi_rewrite.specs.declared.placed.PlacedName.{PlacedName}
 use Rattle.sfi_rewrite.specs.Slots.{slot_size, size_of}
 use Rattle.sfi_rewrite.specs.Placement.{Placement}
 use Rattle.sfi_rewrite.specs.Placed.{IsPlacedPart, IsPlaced}
+use Rattle.sfi_place.specs.declared.place.Place.{Place}
 use Rattle.sfi_link.specs.declared.bases.Bases.{Bases}
 use Rattle.sfi_link.specs.Addresses.{bases_of, stub_size}
 use Rattle.sfi_link.specs.Code.{IsSlot, AreSlots}
-use Rattle.sfi_link.specs.Linked.{HasRoom, gates_from, IsLinked, AreLinkedFrom}
+use Rattle.sfi_place.specs.Places.{place_of}
+use Rattle.sfi_link.specs.Lying.{IsRightPlace}
+use Rattle.sfi_link.specs.Linked.{needed, HasRoom, gates_from, IsLinked, AreLinkedFrom, AreLinked}
 use Rattle.sfi_link.proofs.Sizes.{size_cons}
 
 -- ---- powers of two
@@ -41,15 +44,6 @@ divides k j h =
     let le = exponent_le k j h in
     let sum : j ≡ (j - k) + k = omega arith in
     ap (λ n. 2 ^ n) sum ∙ pow-add 2 (j - k) k
-
--- a multiple of the greater is one of the smaller
-region_at : (size power most m : ℕ) → size ≡ 2 ^ power → size ≤ 2 ^ most → 2 ^ most * m ≡ (2 ^ (most - power) * m) * size
-region_at size power most m is le =
-    let two : 2 ^ power ≤ 2 ^ most = subst (λ n. n ≤ 2 ^ most) is le in
-    ap (λ n. n * m) (divides power most two) ∙ shuffled (2 ^ (most - power)) (2 ^ power) m ∙ ap (λ n. (2 ^ (most - power) * m) * n) (sym is)
-  where
-    shuffled : (a b c : ℕ) → a * b * c ≡ a * c * b
-    shuffled a b c = omega arith
 
 -- a size from 256 on is a multiple of 16
 pub record InSixteens (size : ℕ) : Type 0 where
@@ -153,126 +147,120 @@ listed_only address (g ∷ gs) (suc k) h =
 services : (p : Placement) → IsPlacedPart p → All (λ g. g.service ≤ 5) p.gates
 services p placed k d lt = (placed.gates k (get_or p.gates k d) (slice_get-get_or p.gates k d lt)).service
 
--- a linked sandbox lies in its own 2 ^ 24 addresses
-pub record LiesIn (number : ℕ) (q : Part) : Type 0 where
-  pub right : IsRightPart q
-  pub low : 0x01000000 * (number + 1) ≤ q.code_base
-  pub code_end : q.code_base + length q.code + 4096 ≤ q.data_base
-  pub high : q.data_base + q.data_size + 4096 ≤ 0x01000000 * (number + 2)
+-- a region below 2 ^ 32 ends there at the latest
+region_end : (base size count least most : ℕ) → IsRegion base size least most → size ≤ 1048576 → base < 2 ^ 32 → base + size ≤ 2 ^ 32
+region_end base size count least most r small low =
+    let fits : 2 ^ r.power ≤ 2 ^ 32 = (let is = r.size_is in omega arith) in
+    let d : ℕ = 2 ^ (32 - r.power) in
+    let all : 2 ^ 32 ≡ d * size = divides r.power 32 fits ∙ ap (λ n. d * n) (sym r.size_is) in
+    let is = r.base_is in
+    elim (cases_lt r.multiple d) [
+      | inl less ↦ (let more = one_more r.multiple d size less in omega (arith, all, is, more))
+      | inr from ↦ absurd (let more = no_less r.multiple d size from in omega (arith, all, is, more, low))
+    ]
+  where
+    no_less : (m d s : ℕ) → d ≤ m → d * s ≤ m * s
+    no_less m d s le =
+        let sum : m * s ≡ d * s + (m - d) * s = ap (λ n. n * s) (let e : m ≡ d + (m - d) = omega arith in e) ∙ spread d (m - d) s in
+        omega (arith, sum)
+      where
+        spread : (a b c : ℕ) → (a + b) * c ≡ a * c + b * c
+        spread a b c = omega arith
 
-pub linked_lies : (number : ℕ) (p : Placement) (q : Part) → IsPlacedPart p → number < 16 → IsLinked number p q → LiesIn number q
-linked_lies number p q placed few linked =
-    let room = linked.code.size.has_room in
-    let needs = room.room in
+    one_more : (m d s : ℕ) → m < d → m * s + s ≤ d * s
+    one_more m d s lt =
+        let sum : (m + 1) * s ≡ m * s + s = omega arith in
+        let le = no_less d (m + 1) s (let h : m + 1 ≤ d = omega arith in h) in
+        omega (arith, sum, le)
+
+-- its code ends at 2 ^ 32 at the latest, and begins with a bundle
+pub record LiesWell (q : Part) : Type 0 where
+  pub end : q.code_base + length q.code ≤ 2 ^ 32
+  pub even : q.code_base % 16 ≡ 0
+
+pub well_placed : (p : Placement) (size : ℕ) (place : Place) → HasRoom p.format (needed p) size → IsRightPlace p size place → (place.code_base + size ≤ 2 ^ 32) × (place.code_base % 16 ≡ 0)
+well_placed p size place room lies =
     let most = room.at_most in
     let bound = code_at_most p.format in
+    let counted = sixteens p.format (needed p) size room in
+    let even : place.code_base ≡ 16 * (lies.code.multiple * counted.count) = lies.code.base_is ∙ ap (λ n. lies.code.multiple * n) counted.is ∙ shuffled lies.code.multiple counted.count in
+    (region_end place.code_base size 0 _ _ lies.code (omega arith) lies.word, omega (arith, even))
+  where
+    shuffled : (m c : ℕ) → m * (16 * c) ≡ 16 * (m * c)
+    shuffled m c = omega arith
+
+-- the sandbox starts below 2 ^ 32
+pub start_fits : (given : List Place) (number : ℕ) (p : Placement) (size : ℕ) → HasRoom p.format (needed p) size → IsRightPlace p size (place_of given number) → (bases_of given number p).start < 2 ^ 32
+start_fits given number p size room lies =
+    let end = (well_placed p size (place_of given number) room lies).0 in
+    let fits = room.room in
+    omega arith
+
+pub lies_well : (given : List Place) → (number : ℕ) (p : Placement) (q : Part) → IsLinked given number p q → LiesWell q
+lies_well given number p q linked =
+    let well = well_placed p (length q.code) (place_of given number) linked.code.size.has_room linked.lies in
+    let base = linked.code_base in
+    record { end = omega (arith, base, well.0); even = ap (λ n. n % 16) base ∙ well.1 }
+
+pub linked_right : (given : List Place) → (number : ℕ) (p : Placement) (q : Part) → IsPlacedPart p → IsLinked given number p q → IsRightPart q
+linked_right given number p q placed linked =
+    let lies = linked.lies in
+    let well = lies_well given number p q linked in
+    let even = well.even in
+    let room = linked.code.size.has_room in
+    let needs = room.room in
     let code_base = linked.code_base in
+    let start = linked.start in
     let data_base = linked.data_base in
     let data_size = linked.data_size in
-    let start = linked.start in
-    let sized = placed.data_size in
-    let data_most = sized.at_most in
     let gate_most = placed.gate_count in
-    let init = linked.init in
     let init_most = placed.byte_count in
     let gates_are = linked.gates in
-    let gates_len = length-gates_from (bases_of number p).code p.gates in
+    let gates_len = length-gates_from (bases_of given number p).code p.gates in
     let region : Span = code_region q in
     let starts : All (λ g. IsBundleStart region g.address) q.gates =
-    subst (λ gs. All (λ g. IsBundleStart region g.address) gs) (sym gates_are) (starts_right region (bases_of number p).code p.gates (omega arith) (omega arith) (omega arith)) in
-    let serve : All (λ g. g.service ≤ 5) q.gates = subst (λ gs. All (λ g. g.service ≤ 5) gs) (sym gates_are) (services_right (bases_of number p).code p.gates (services p placed)) in
+    subst (λ gs. All (λ g. IsBundleStart region g.address) gs) (sym gates_are) (starts_right region (bases_of given number p).code p.gates (omega arith) (omega arith) (omega arith)) in
+    let serve : All (λ g. g.service ≤ 5) q.gates = subst (λ gs. All (λ g. g.service ≤ 5) gs) (sym gates_are) (services_right (bases_of given number p).code p.gates (services p placed)) in
     let count : length q.gates ≡ length p.gates = ap length gates_are ∙ gates_len in
-    let few_init : length q.init ≡ length p.bytes = ap length init in
+    let few_init : length q.init ≡ length p.bytes = ap length linked.init in
     record {
-      right = record {
-        code_base = omega arith;
-        code_placed = record {
-          power = room.power;
-          size_is = room.size_is;
-          at_least = room.at_least;
-          at_most = subst (λ (f : Format). length q.code ≤ code_most f) (sym linked.format) room.at_most;
-          multiple = 2 ^ (24 - room.power) * (number + 1);
-          base_is = code_base ∙ region_at (length q.code) room.power 24 (number + 1) room.size_is (omega arith);
-        };
-        data_placed = record {
-          power = sized.power;
-          size_is = data_size ∙ sized.size_is;
-          at_least = (let least = sized.at_least in omega arith);
-          at_most = omega arith;
-          multiple = 2 ^ (23 - sized.power) * (2 * number + 3);
-          base_is = data_base ∙ odd number ∙ region_at q.data_size sized.power 23 (2 * number + 3) (data_size ∙ sized.size_is) (omega arith);
-        };
-        guard_room = record { below = omega arith; above = omega arith };
-        start = record { held = (omega arith, omega arith); aligned = omega arith };
-        gate_count = omega arith;
-        init_len = omega arith;
-        gates = record { starts = starts; services = serve; ascending = subst (AllPairs (λ g h. g.address < h.address)) (sym gates_are) (ascending (bases_of number p).code p.gates) };
-      };
-      low = omega arith;
-      code_end = omega arith;
-      high = omega arith;
+      code_base = subst (λ n. n < 2 ^ 32) (sym code_base) lies.word;
+      code_placed = subst (λ (f : Format). IsCodeRegion f q.code_base (length q.code)) (sym linked.format) (subst (λ n. IsCodeRegion p.format n (length q.code)) (sym code_base) lies.code);
+      data_placed = subst (λ n. IsDataRegion n q.data_size) (sym data_base) (subst (λ n. IsDataRegion (place_of given number).data_base n) (sym data_size) lies.«data»);
+      guard_room = subst (λ n. HasGuardRoom n q.data_size) (sym data_base) (subst (λ n. HasGuardRoom (place_of given number).data_base n) (sym data_size) lies.guard_room);
+      start = record { held = (omega arith, omega arith); aligned = omega arith };
+      gate_count = omega arith;
+      init_len = omega arith;
+      gates = record { starts = starts; services = serve; ascending = subst (AllPairs (λ g h. g.address < h.address)) (sym gates_are) (ascending (bases_of given number p).code p.gates) };
     }
-  where
-    odd : (n : ℕ) → 0x01000000 * (n + 1) + 0x00800000 ≡ 2 ^ 23 * (2 * n + 3)
-    odd n = omega arith
 
 -- ---- all of them
 
-below_apart : (s t : Span) → s.base + s.size ≤ t.base → AreApart s t
-below_apart s t le at in_s in_t = let a = in_s.1 in let b = in_t.0 in omega arith
-
--- right sandboxes whose spans lie apart, and from there on
-pub record LieFrom (low : ℕ) (parts : List Part) : Type 0 where
-  pub each : All IsRightPart parts
-  pub above : All (λ s. low ≤ s.base) (spans parts)
-  pub apart : AllPairs AreApart (spans parts)
-
-pub lie_from : (number : ℕ) (placed : List Placement) (parts : List Part) → All IsPlacedPart placed → number + length placed ≤ 16 → AreLinkedFrom number placed parts
-    → LieFrom (0x01000000 * (number + 1)) parts × (length parts ≡ length placed)
-lie_from number [] parts all few linked =
-    subst (λ qs. LieFrom (0x01000000 * (number + 1)) qs × (length qs ≡ 0)) (sym linked)
-    (record { each = All-nil IsRightPart; above = All-nil (λ s. 0x01000000 * (number + 1) ≤ s.base); apart = λ i j d lt within. absurd (omega arith) }, refl)
-lie_from number (p ∷ placed) [] all few linked = absurd linked
-lie_from number (p ∷ placed) (q ∷ parts) all few linked =
-    let one = linked_lies number p q (All-head IsPlacedPart p placed all) (omega arith) linked.0 in
-    let rest = lie_from (number + 1) placed parts (All-tail IsPlacedPart p placed all) (omega arith) linked.1 in
-    let low = one.low in
-    let middle = one.code_end in
-    let high = one.high in
-    let code : Span = code_span (fields_of q) in
-    let guarded : Span = guarded_span (fields_of q) in
-    let above = rest.0.above in
-    let code_rest : All (AreApart code) (spans parts) = λ k d lt. below_apart code (get_or (spans parts) k d) (let h = above k d lt in omega arith) in
-    let guarded_rest : All (AreApart guarded) (spans parts) = λ k d lt. below_apart guarded (get_or (spans parts) k d) (let h = above k d lt in omega arith) in
-    let from : ℕ = 0x01000000 * (number + 1) in
-    let Above : Span → Type 0 = λ s. from ≤ s.base in (
-      record {
-        each = All-cons IsRightPart q parts one.right rest.0.each;
-        above = All-cons Above code (guarded ∷ spans parts) low (All-cons Above guarded (spans parts) (omega arith) (λ k d lt. let h = above k d lt in omega arith));
-        apart =
-            AllPairs-cons AreApart code (guarded ∷ spans parts) (All-cons (AreApart code) guarded (spans parts) (below_apart code guarded (omega arith)) code_rest)
-            (AllPairs-cons AreApart guarded (spans parts) guarded_rest rest.0.apart);
-      },
-      ap suc rest.1,
-    )
+pub all_right : (given : List Place) → (number : ℕ) (placed : List Placement) (parts : List Part) → All IsPlacedPart placed → AreLinkedFrom given number placed parts
+    → All IsRightPart parts × (length parts ≡ length placed)
+all_right given number [] parts all linked = subst (λ qs. All IsRightPart qs × (length qs ≡ 0)) (sym linked) (All-nil IsRightPart, refl)
+all_right given number (p ∷ placed) [] all linked = absurd linked
+all_right given number (p ∷ placed) (q ∷ parts) all linked =
+    let rest = all_right given (number + 1) placed parts (All-tail IsPlacedPart p placed all) linked.1 in
+    (All-cons IsRightPart q parts (linked_right given number p q (All-head IsPlacedPart p placed all) linked.0) rest.0, ap suc rest.1)
 
 -- what is linked has the format of what is placed
-formats : (f : Format) (number : ℕ) (placed : List Placement) (parts : List Part) → placements.AreOf f placed → AreLinkedFrom number placed parts → AreOf f parts
-formats f number [] parts h linked = subst (AreOf f) (sym linked) (λ k d l. absurd (omega (arith, l)))
-formats f number (p ∷ placed) [] h linked = absurd linked
-formats f number (p ∷ placed) (q ∷ parts) h linked =
-    All-cons (λ r. r.format ≡ f) q parts (linked.0.format ∙ All-head (λ r. r.format ≡ f) p placed h) (formats f (number + 1) placed parts (All-tail (λ r. r.format ≡ f) p placed h) linked.1)
+formats : (given : List Place) → (f : Format) (number : ℕ) (placed : List Placement) (parts : List Part) → placements.AreOf f placed → AreLinkedFrom given number placed parts → AreOf f parts
+formats given f number [] parts h linked = subst (AreOf f) (sym linked) (λ k d l. absurd (omega (arith, l)))
+formats given f number (p ∷ placed) [] h linked = absurd linked
+formats given f number (p ∷ placed) (q ∷ parts) h linked =
+    All-cons (λ r. r.format ≡ f) q parts (linked.0.format ∙ All-head (λ r. r.format ≡ f) p placed h) (formats given f (number + 1) placed parts (All-tail (λ r. r.format ≡ f) p placed h) linked.1)
 
-one_format : (number : ℕ) (placed : List Placement) (parts : List Part) → IsPlaced placed → AreLinkedFrom number placed parts → AreOf (format_of parts) parts
-one_format number placed parts is linked = first_is parts (placements.format_of placed) (formats (placements.format_of placed) number placed parts is.one_format linked)
+one_format : (given : List Place) → (number : ℕ) (placed : List Placement) (parts : List Part) → IsPlaced placed → AreLinkedFrom given number placed parts → AreOf (format_of parts) parts
+one_format given number placed parts is linked = first_is parts (placements.format_of placed) (formats given (placements.format_of placed) number placed parts is.one_format linked)
   where
     first_is : (parts : List Part) (f : Format) → AreOf f parts → AreOf (format_of parts) parts
     first_is [] f h = λ k d l. absurd (omega (arith, l))
     first_is (q ∷ rest) f h = subst (λ (g : Format). AreOf g (q ∷ rest)) (sym (All-head (λ r. r.format ≡ f) q rest h)) h
 
-pub linked_is_right : (placed : List Placement) (parts : List Part) → IsPlaced placed → length placed ≤ 16 → AreLinkedFrom 0 placed parts → IsRightLayout parts
-linked_is_right placed parts is few linked =
-    let all = lie_from 0 placed parts is.each (omega arith) linked in
+pub linked_is_right : (given : List Place) (placed : List Placement) (parts : List Part) → IsPlaced placed → length placed ≤ 16 → AreLinked given placed parts → IsRightLayout parts
+linked_is_right given placed parts is few linked =
+    let all = all_right given 0 placed parts is.each linked.each in
     let count = all.1 in
     let some = is.at_least_one in
-    record { at_least_one = omega arith; at_most = omega arith; one_format = one_format 0 placed parts is linked; right = record { each = all.0.each; apart = all.0.apart } }
+    record { at_least_one = omega arith; at_most = omega arith; one_format = one_format given 0 placed parts is linked.each; right = record { each = all.0; apart = linked.apart } }

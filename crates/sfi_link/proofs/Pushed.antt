@@ -21,10 +21,11 @@ use Rattle.sfi_rewrite.specs.Slots.{slot_size, size_of, slots_of}
 use Rattle.sfi_link.specs.declared.bases.Bases.{Bases}
 use Rattle.sfi_link.specs.declared.fault.LinkFault.{LinkFault}
 use Rattle.sfi_link.specs.declared.fault.LinkFault.TheVariants.{UnknownName, BranchReach, TooLarge, TooManySandboxes, Memory}
+use Rattle.sfi_link.specs.declared.fault.LinkFault.TheVariants as fault
 use Rattle.sfi_link.specs.Addresses.{address_at}
 use Rattle.sfi_link.specs.Code.{AreSlots, made_of}
 use Rattle.sfi_link.specs.Linked.{c_ebreak}
-use Rattle.sfi_link.specs.private.Near.{IsPushed, AreWritten}
+use Rattle.sfi_link.specs.private.Near.{HasRoomFor, IsPushed, AreWritten}
 use Rattle.sfi_link.specs.Faults.{HasSlotFault, IsSlotFault}
 use Rattle.sfi_link.specs.Answers.{UnlessMemory}
 use Rattle.sfi_link.proofs.Sizes.{size_cons, size_of-append}
@@ -137,11 +138,13 @@ split_at xs k x lt is =
 take_one_more : {X : Type 0} (xs : List X) (k : ℕ) (x : X) → k < length xs → x ≡ get_or xs k x → take (k + 1) xs ≡ take k xs ++ x ∷ []
 take_one_more xs k x lt is = take_more xs k x lt ∙ ap (λ y. take k xs ++ y ∷ []) (sym is)
 
-pub slot_room : (at : Bases) (names : List PlacedName) (slots : List Slot) (k limit : ℕ) (old now : List ℕ) → AreWritten at names (take k slots) old now → at.code + length old + size_of slots < limit → at.code + length now < limit
-slot_room at names slots k limit old now w room =
+pub slot_room : (at : Bases) (names : List PlacedName) (slots : List Slot) (k : ℕ) (old now : List ℕ) → AreWritten at names (take k slots) old now → HasRoomFor at (length old) (size_of slots) → HasRoomFor at (length now) 0
+slot_room at names slots k old now w room =
     let long = written_length at names (take k slots) old now w in
     let part = sum_by-take-le slot_size slots k in
-    omega arith
+    let below = room.below in
+    let within = room.within in
+    record { below = omega arith; within = omega arith }
 
 pub slot_written : (at : Bases) (names : List PlacedName) (slots : List Slot) (k : ℕ) (s : Slot) (old now new : List ℕ) → k < length slots → s ≡ get_or slots k s
     → AreWritten at names (take k slots) old now → IsPushed at names s now new → AreWritten at names (take (k + 1) slots) old new
@@ -160,6 +163,7 @@ slot_refused at names slots k s old now (UnknownName l) lt is w h = slot_fault a
 slot_refused at names slots k s old now (BranchReach l) lt is w h = slot_fault at names slots k s old now (BranchReach l) lt is w h
 slot_refused at names slots k s old now (TooLarge n) lt is w h = absurd h
 slot_refused at names slots k s old now TooManySandboxes lt is w h = absurd h
+slot_refused at names slots k s old now (fault.Place n) lt is w h = absurd h
 slot_refused at names slots k s old now Memory lt is w h = tt
 
 -- ---- of bundles
@@ -188,12 +192,14 @@ bundle_size bundles k b lt is =
     let g = size_of-append b (slots_of (drop (k + 1) bundles)) in
     omega arith
 
-pub bundle_room : (at : Bases) (names : List PlacedName) (bundles : List (List Slot)) (k limit : ℕ) (b : List Slot) (old now : List ℕ) → k < length bundles → b ≡ get_or bundles k b
-    → AreWritten at names (slots_of (take k bundles)) old now → at.code + length old + size_of (slots_of bundles) < limit → at.code + length now + size_of b < limit
-bundle_room at names bundles k limit b old now lt is w room =
+pub bundle_room : (at : Bases) (names : List PlacedName) (bundles : List (List Slot)) (k : ℕ) (b : List Slot) (old now : List ℕ) → k < length bundles → b ≡ get_or bundles k b
+    → AreWritten at names (slots_of (take k bundles)) old now → HasRoomFor at (length old) (size_of (slots_of bundles)) → HasRoomFor at (length now) (size_of b)
+bundle_room at names bundles k b old now lt is w room =
     let long = written_length at names (slots_of (take k bundles)) old now w in
     let part = bundle_size bundles k b lt is in
-    omega arith
+    let below = room.below in
+    let within = room.within in
+    record { below = omega arith; within = omega arith }
 
 pub bundle_written : (at : Bases) (names : List PlacedName) (bundles : List (List Slot)) (k : ℕ) (b : List Slot) (old now new : List ℕ) → k < length bundles → b ≡ get_or bundles k b
     → AreWritten at names (slots_of (take k bundles)) old now → AreWritten at names b now new → AreWritten at names (slots_of (take (k + 1) bundles)) old new
@@ -212,6 +218,7 @@ bundle_refused at names bundles k b old now (UnknownName l) lt is w h = bundle_f
 bundle_refused at names bundles k b old now (BranchReach l) lt is w h = bundle_fault at names bundles k b old now (BranchReach l) lt is w h
 bundle_refused at names bundles k b old now (TooLarge n) lt is w h = bundle_fault at names bundles k b old now (TooLarge n) lt is w h
 bundle_refused at names bundles k b old now TooManySandboxes lt is w h = bundle_fault at names bundles k b old now TooManySandboxes lt is w h
+bundle_refused at names bundles k b old now (fault.Place n) lt is w h = bundle_fault at names bundles k b old now (fault.Place n) lt is w h
 bundle_refused at names bundles k b old now Memory lt is w h = tt
 
 -- ---- copies

@@ -1,5 +1,5 @@
 -- Each item of a source does in the image what its instruction does.
-use Rattle.std.proofs.Common.{◌≡◌, ℕ, ◌+◌, ◌*◌, ◌^◌, ◌<◌, ◌≤◌, List, [], ◌∷◌, ◌++◌, length, length-append, replicate, Some, Bool, true, false, refl, sym, ap, ◌∙◌, subst, arith, append_assoc, inl, inr}
+use Rattle.std.proofs.Common.{◌≡◌, ℕ, ◌+◌, ◌*◌, ◌^◌, ◌≤◌, List, [], ◌∷◌, ◌++◌, length, length-append, replicate, Some, Bool, true, false, refl, sym, ap, ◌∙◌, subst, arith, append_assoc, inl, inr}
 use Rattle.std.specs.Prelude.{slice_index, pos, ℤ, negsuc, zero, suc, ◌-ℤ◌, MatchBool, slice_get}
 use Rattle.std.specs.List.{repeat, All}
 use Rattle.std.proofs.lemmas.List.{get_or_append_left, get_or-append-add}
@@ -28,6 +28,7 @@ use Rattle.sfi_rewrite.specs.Expansion.{jump_slots, IsAlone, IsMasked, IsExpansi
 use Rattle.sfi_rewrite.specs.Placement.{Placement}
 use Rattle.sfi_rewrite.specs.Rewriting.{IsRewritten, AreRewritten}
 use Rattle.sfi_rewrite.specs.Transparency.{IsAimed, MayBe}
+use Rattle.sfi_place.specs.declared.place.Place.{Place}
 use Rattle.sfi_link.specs.declared.bases.Bases.{Bases}
 use Rattle.sfi_link.specs.Addresses.{bases_of, with_offset, target_at, address_at}
 use Rattle.sfi_link.specs.Code.{AreSlots}
@@ -36,7 +37,7 @@ use Rattle.sfi_link.specs.Standing.{AreResolvedTo, LinkedSlotsStand, RunsAs, Lin
 use Rattle.sfi_link.proofs.CleanPlaces.{made}
 use Rattle.sfi_link.proofs.Region.{AreCut, cut, length_stubs}
 use Rattle.sfi_link.proofs.Sizes.{size_of-append}
-use Rattle.sfi_link.proofs.Parts.{slots_length, code_at_most, linked_lies}
+use Rattle.sfi_link.proofs.Parts.{slots_length, lies_well, linked_right}
 use Rattle.std.proofs.lemmas.List.Folds.{sum_by-replicate}
 use Rattle.std.proofs.lemmas.List.Elements.{All-head, All-tail}
 
@@ -142,11 +143,11 @@ regroup before nops expanded after fill =
 regroup_bytes : (stubs front mid rest bytes more : List ℕ) → bytes ≡ front ++ more → more ≡ mid ++ rest → stubs ++ bytes ≡ (stubs ++ front) ++ (mid ++ rest)
 regroup_bytes stubs front mid rest bytes more e f = ap (λ v. stubs ++ v) (e ∙ ap (λ v. front ++ v) f) ∙ sym (append_assoc stubs front (mid ++ rest))
 
-item_runs_as : RewrittenIsTransparent → LinkedSlotsStand → (number : ℕ) (s : Sandbox) (p : Placement) (q : Part) (k : ℕ) (x : Item) → IsSandbox s → IsRewritten s p → IsRightPart q → number < 16
-    → IsLinked number p q → slice_get s.items k ≡ Some x → RunsAs number s.format s.items p q k x
-item_runs_as law stand number s p q k x sandbox r right few linked at =
+item_runs_as : (given : List Place) → RewrittenIsTransparent → LinkedSlotsStand → (number : ℕ) (s : Sandbox) (p : Placement) (q : Part) (k : ℕ) (x : Item) → IsSandbox s → IsRewritten s p → IsRightPart q
+    → IsLinked given number p q → slice_get s.items k ≡ Some x → RunsAs given number s.format s.items p q k x
+item_runs_as given law stand number s p q k x sandbox r right linked at =
     let st = law s p r k x at in
-    let b = bases_of number p in
+    let b = bases_of given number p in
     let lead = st.before ++ replicate st.nops c_nop in
     let fill = replicate linked.code.fill c_ebreak in
     let stubs = repeat (length p.gates) stub in
@@ -167,7 +168,7 @@ item_runs_as law stand number s p q k x sandbox r right few linked at =
     let e = nops_size st.nops in
     omega arith) in
     let mid_size : length two.front ≡ size_of st.expanded = slots_length b p.names here st.expanded two.front two.first in
-    let fits : q.code_base + length q.code ≤ 2 ^ 32 = (let a = linked.code.size.has_room.at_most in let most = code_at_most p.format in let c = linked.code_base in omega arith) in
+    let fits : q.code_base + length q.code ≤ 2 ^ 32 = (lies_well given number p q linked).end in
     let place : here ≡ q.start + (size_of st.before + 2 * st.nops) =
     (let a = linked.start in
     let d = size_of-append st.before (replicate st.nops c_nop) in
@@ -188,32 +189,32 @@ item_runs_as law stand number s p q k x sandbox r right few linked at =
     }
 
 pub runs_as : RewrittenIsTransparent → LinkedSlotsStand → LinkedRunsAs
-runs_as law stand number s p q k x sandbox r placed few linked at =
-    item_runs_as law stand number s p q k x sandbox r (linked_lies number p q placed few linked).right few linked at
+runs_as law stand given number s p q k x sandbox r placed linked at =
+    item_runs_as given law stand number s p q k x sandbox r (linked_right given number p q placed linked) linked at
 
 -- ---- a build
 
-sandboxes_run_as : RewrittenIsTransparent → LinkedSlotsStand → (number : ℕ) (source : List Sandbox) (placed : List Placement) (parts : List Part) → All IsSandbox source → AreRewritten source placed
-    → All IsRightPart parts → number + length parts ≤ 16 → AreLinkedFrom number placed parts → SandboxesRunAs number source parts
-sandboxes_run_as law stand number [] [] parts sandboxes rewritten right few linked = linked
-sandboxes_run_as law stand number [] (p ∷ placed) parts sandboxes rewritten right few linked = absurd rewritten
-sandboxes_run_as law stand number (s ∷ source) [] parts sandboxes rewritten right few linked = absurd rewritten
-sandboxes_run_as law stand number (s ∷ source) (p ∷ placed) [] sandboxes rewritten right few linked = absurd linked
-sandboxes_run_as law stand number (s ∷ source) (p ∷ placed) (q ∷ parts) sandboxes rewritten right few linked = (
+sandboxes_run_as : (given : List Place) → RewrittenIsTransparent → LinkedSlotsStand → (number : ℕ) (source : List Sandbox) (placed : List Placement) (parts : List Part) → All IsSandbox source → AreRewritten source placed
+    → All IsRightPart parts → AreLinkedFrom given number placed parts → SandboxesRunAs given number source parts
+sandboxes_run_as given law stand number [] [] parts sandboxes rewritten right linked = linked
+sandboxes_run_as given law stand number [] (p ∷ placed) parts sandboxes rewritten right linked = absurd rewritten
+sandboxes_run_as given law stand number (s ∷ source) [] parts sandboxes rewritten right linked = absurd rewritten
+sandboxes_run_as given law stand number (s ∷ source) (p ∷ placed) [] sandboxes rewritten right linked = absurd linked
+sandboxes_run_as given law stand number (s ∷ source) (p ∷ placed) (q ∷ parts) sandboxes rewritten right linked = (
   record {
     placed = p;
     placement = rewritten.0.placement;
     linked = linked.0;
-    each = λ k x at. item_runs_as law stand number s p q k x (All-head IsSandbox s source sandboxes) rewritten.0 (All-head IsRightPart q parts right) (omega arith) linked.0 at;
+    each = λ k x at. item_runs_as given law stand number s p q k x (All-head IsSandbox s source sandboxes) rewritten.0 (All-head IsRightPart q parts right) linked.0 at;
   },
-  sandboxes_run_as law stand (number + 1) source placed parts (All-tail IsSandbox s source sandboxes) rewritten.1 (All-tail IsRightPart q parts right) (omega arith) linked.1,
+  sandboxes_run_as given law stand (number + 1) source placed parts (All-tail IsSandbox s source sandboxes) rewritten.1 (All-tail IsRightPart q parts right) linked.1,
 )
 
 pub images_run_as : RewrittenIsTransparent → LinkedSlotsStand → LinkedImagesRunAs
-images_run_as law stand source placed bytes right rewritten image =
+images_run_as law stand given source placed bytes right rewritten image =
     let layout = image.image.layout in
     record {
       parts = image.parts;
       image = image.image;
-      each = sandboxes_run_as law stand 0 source placed image.parts right.each rewritten layout.right.each (let few = layout.at_most in omega arith) image.linked;
+      each = sandboxes_run_as given law stand 0 source placed image.parts right.each rewritten layout.right.each image.linked.each;
     }

@@ -1,7 +1,7 @@
 -- What is placed has an image, or a fault.
 use Rattle.std.proofs.Common.{◌≡◌, ℕ, zero, suc, ◌+◌, ◌-◌, ◌/◌, ◌^◌, ◌<◌, ◌≤◌, List, [], ◌∷◌, ◌++◌, length, take, get_or, Option, Some, None, refl, sym, ap, ◌∙◌, subst, arith, inl, inr, ◌⊎◌}
 use Rattle.std.specs.Prelude.{ℤ, pos, negsuc, ◌-ℤ◌}
-use Rattle.std.specs.List.{All, repeat}
+use Rattle.std.specs.List.{All, AllPairs, repeat}
 use Rattle.std.specs.Int.{w16, w32, to_le_bytes}
 use Rattle.std.proofs.Math.Nat.{pow-suc}
 use Rattle.std.proofs.lemmas.Bool.{cases_lt, cases_eq}
@@ -31,11 +31,21 @@ use Rattle.sfi_rewrite.specs.Placed.{Encodes, IsPlacedPart}
 use Rattle.sfi_link.specs.declared.bases.Bases.{Bases}
 use Rattle.sfi_link.specs.declared.fault.LinkFault.{LinkFault}
 use Rattle.sfi_link.specs.declared.fault.LinkFault.TheVariants.{UnknownName, BranchReach, TooLarge, TooManySandboxes}
+use Rattle.sfi_link.specs.declared.fault.LinkFault.TheVariants as named
+use Rattle.sfi_policy.specs.Limits.{data_most}
+use Rattle.sfi_image.specs.Regions.{HasGuardRoom}
+use Rattle.sfi_place.specs.declared.place.Place.{Place}
+use Rattle.sfi_image.specs.Spans.{AreApart, spans, spans_of}
+use Rattle.sfi_image.proofs.Deciding.{Decided, decided_both, decided_le, decided_lt, decided_pairs, decided_apart, decided_region}
+use Rattle.sfi_place.specs.Places.{place_of}
+use Rattle.sfi_link.specs.Lying.{IsRightPlace, spans_at}
+use Rattle.std.proofs.lemmas.Grind.{flat_map-append}
+use Rattle.sfi_link.proofs.OneLinking.{one_size, own_spans}
 use Rattle.sfi_link.specs.Addresses.{bases_of, address_at, target_at, with_offset}
 use Rattle.sfi_link.specs.Code.{made_of, IsSlot, AreSlots}
-use Rattle.sfi_link.specs.Linked.{needed, HasRoom, IsCodeSize, gates_from, IsLinked, AreLinkedFrom}
+use Rattle.sfi_link.specs.Linked.{needed, HasRoom, IsCodeSize, gates_from, IsLinkedCode, IsLinked, AreLinkedFrom, AreLinked}
 use Rattle.sfi_link.specs.private.Near.{AreWritten}
-use Rattle.sfi_link.specs.Faults.{HasSlotFault, IsSlotFault, HasPartFault, IsPartFault}
+use Rattle.sfi_link.specs.Faults.{MayLie, HasSlotFault, IsSlotFault, HasPartFault, IsPartFault}
 use Rattle.sfi_link.specs.Laws.{LinkedIsClean, LinkedIsRight, SomeLinking}
 use Rattle.sfi_link.proofs.Sizes.{size_cons}
 use Rattle.sfi_link.proofs.Region.{length_stubs}
@@ -57,16 +67,16 @@ jump_within : (z : ℤ) → IsBetween (minus 1048576) (pos 1048574) z ⊎ (IsBet
 jump_within (pos n) = elim (cases_lt 1048574 n) [ inl far ↦ inr (λ h. let a = h.1 in omega (arith, ints)) | inr near ↦ inl (omega (arith, ints), omega (arith, ints)) ]
 jump_within (negsuc n) = elim (cases_lt 1048575 n) [ inl far ↦ inr (λ h. let a = h.0 in omega (arith, ints)) | inr near ↦ inl (omega (arith, ints), omega (arith, ints)) ]
 
-decided_both : {P Q : Type 0} → P ⊎ (P → ⊥) → Q ⊎ (Q → ⊥) → (P × Q) ⊎ (P × Q → ⊥)
-decided_both (inl p) (inl q) = inl (p, q)
-decided_both (inl p) (inr q) = inr (λ both. q both.1)
-decided_both (inr p) q = inr (λ both. p both.0)
+both_or_not : {P Q : Type 0} → P ⊎ (P → ⊥) → Q ⊎ (Q → ⊥) → (P × Q) ⊎ (P × Q → ⊥)
+both_or_not (inl p) (inl q) = inl (p, q)
+both_or_not (inl p) (inr q) = inr (λ both. q both.1)
+both_or_not (inr p) q = inr (λ both. p both.0)
 
 branch_or_not : (z : ℤ) → IsBranchOffset z ⊎ (IsBranchOffset z → ⊥)
-branch_or_not z = decided_both (branch_within z) (decided_even z)
+branch_or_not z = both_or_not (branch_within z) (decided_even z)
 
 jump_or_not : (z : ℤ) → IsJumpOffset z ⊎ (IsJumpOffset z → ⊥)
-jump_or_not z = decided_both (jump_within z) (decided_even z)
+jump_or_not z = both_or_not (jump_within z) (decided_even z)
 
 reaches_or_not : (z : ℤ) (i : Instr) → InRange i → InRange (with_offset z i) ⊎ (InRange (with_offset z i) → ⊥)
 unfolding InRange
@@ -204,10 +214,11 @@ size_or_none f needed =
 
 -- ---- a sandbox
 
-part_made : (number : ℕ) (p : Placement) (size : ℕ) (bytes : List ℕ) → IsCodeSize p.format (needed p) size
-    → AreSlots (bases_of number p) p.names (bases_of number p).start (slots_of p.bundles) bytes → (q : image.Part) × IsLinked number p q
-part_made number p size bytes sized slots =
-    let at = bases_of number p in
+part_made : (given : List Place) → (number : ℕ) (p : Placement) (size : ℕ) (bytes : List ℕ) → IsCodeSize p.format (needed p) size
+    → IsRightPlace p size (place_of given number) → AreSlots (bases_of given number p) p.names (bases_of given number p).start (slots_of p.bundles) bytes
+    → (q : image.Part) × IsLinked given number p q × (length q.code ≡ size)
+part_made given number p size bytes sized lies slots =
+    let at = bases_of given number p in
     let stubs = repeat (length p.gates) stub in
     let now = stubs ++ bytes in
     let long = length_stubs (length p.gates) in
@@ -215,7 +226,9 @@ part_made number p size bytes sized slots =
     let written : AreWritten at p.names (slots_of p.bundles) stubs now =
     record { bytes = bytes; appended = refl; spelled = subst (λ n. AreSlots at p.names n (slots_of p.bundles) bytes) start slots } in
     let fill = (size - length now) / 2 in
-    let code = now ++ repeat fill pair in (
+    let code = now ++ repeat fill pair in
+    let linked : IsLinkedCode given number p code = linked_code given number p at size fill stubs now code refl sized refl written refl refl in
+    let whole : length code ≡ size = one_size p.format (needed p) (length code) size linked.size sized in (
       record {
         format = p.format;
         code_base = at.code;
@@ -234,17 +247,58 @@ part_made number p size bytes sized slots =
         start = refl;
         gates = refl;
         init = refl;
-        code = linked_code number p at size fill stubs now code refl sized refl written refl refl;
+        code = linked;
+        lies = subst (λ n. IsRightPlace p n (place_of given number)) (sym whole) lies;
       },
+      whole,
     )
 
-part_or_fault : (number : ℕ) (p : Placement) → IsPlacedPart p → ((q : image.Part) × IsLinked number p q) ⊎ ((f : LinkFault) × HasPartFault number p f)
-part_or_fault number p right =
+decided_guard_room : (base size : ℕ) → Decided (HasGuardRoom base size)
+decided_guard_room base size =
+    elim (decided_both (decided_le 4096 base) (decided_le (base + size + 4096) 4294967296)) [
+      | inl both ↦ inl (record { below = both.0; above = both.1 })
+      | inr not ↦ inr (λ room. not (room.below, room.above))
+    ]
+
+right_place : (p : Placement) (size : ℕ) (place : Place) → Decided (IsRightPlace p size place)
+right_place p size place =
+    elim (decided_both (decided_both (decided_lt place.code_base 4294967296) (decided_region place.code_base size 256 (code_most p.format))) (decided_both (decided_region place.data_base p.data_size 256 data_most) (decided_guard_room place.data_base p.data_size))) [
+      | inl all ↦ inl (record { word = all.0.0; code = all.0.1; «data» = all.1.0; guard_room = all.1.1 })
+      | inr not ↦ inr (λ r. not ((r.word, r.code), (r.«data», r.guard_room)))
+    ]
+
+-- with its code of that size, the sandbox may lie at its place, or not
+lies_or_not : (given : List Place) (number : ℕ) (p : Placement) (before : List image.Part) (size : ℕ) → IsCodeSize p.format (needed p) size
+    → (IsRightPlace p size (place_of given number) × AllPairs AreApart (spans before ++ spans_at p size (place_of given number))) ⊎ (MayLie given number p before → ⊥)
+lies_or_not given number p before size sized =
+    elim (decided_both (right_place p size (place_of given number)) (decided_pairs AreApart decided_apart (spans before ++ spans_at p size (place_of given number)))) [
+      | inl both ↦ inl both
+      | inr not ↦ inr (λ may. let one : may.size ≡ size = one_size p.format (needed p) may.size size may.least sized in
+          not (subst (λ n. IsRightPlace p n (place_of given number)) one may.right, subst (λ n. AllPairs AreApart (spans before ++ spans_at p n (place_of given number))) one may.apart))
+    ]
+
+-- the sandbox is linked after those before, with no spans that meet, or has a fault
+record IsMade (given : List Place) (number : ℕ) (p : Placement) (before : List image.Part) : Type 0 where
+  part : image.Part
+  linked : IsLinked given number p part
+  apart : AllPairs AreApart (spans before ++ spans (part ∷ []))
+
+made_apart : (given : List Place) (number : ℕ) (p : Placement) (before : List image.Part) (q : image.Part) (size : ℕ) → IsLinked given number p q → length q.code ≡ size
+    → AllPairs AreApart (spans before ++ spans_at p size (place_of given number)) → IsMade given number p before
+made_apart given number p before q size linked long apart =
+    let own : spans (q ∷ []) ≡ spans_at p size (place_of given number) = own_spans given number p q linked ∙ ap (λ n. spans_at p n (place_of given number)) long in
+    record { part = q; linked = linked; apart = subst (λ l. AllPairs AreApart (spans before ++ l)) (sym own) apart }
+
+part_or_fault : (given : List Place) (number : ℕ) (p : Placement) (before : List image.Part) → IsPlacedPart p → IsMade given number p before ⊎ ((f : LinkFault) × HasPartFault given number p before f)
+part_or_fault given number p before right =
     elim (size_or_none p.format (needed p)) [
       | inr none ↦ inr (TooLarge number, inl (none, refl))
-      | inl sized ↦ elim (slots_or_fault (bases_of number p) p.names (bases_of number p).start (slots_of p.bundles) right.encodes) [
-        | inr wrong ↦ inr (wrong.0, inr (λ large. large sized.0 sized.1.has_room, wrong.1))
-        | inl slots ↦ inl (part_made number p sized.0 slots.0 sized.1 slots.1)
+      | inl sized ↦ elim (lies_or_not given number p before sized.0 sized.1) [
+        | inr nowhere ↦ inr (named.Place number, inr (inl (λ large. large sized.0 sized.1.has_room, nowhere, refl)))
+        | inl lies ↦ elim (slots_or_fault (bases_of given number p) p.names (bases_of given number p).start (slots_of p.bundles) right.encodes) [
+          | inr wrong ↦ inr (wrong.0, inr (inr (record { size = sized.0; least = sized.1; right = lies.0; apart = lies.1 }, wrong.1)))
+          | inl slots ↦ inl (let made = part_made given number p sized.0 slots.0 sized.1 lies.0 slots.1 in made_apart given number p before made.0 sized.0 made.1 made.2 lies.1)
+        ]
       ]
     ]
 
@@ -256,36 +310,44 @@ any_part = record { format = Sfi1; data_size = 0; gates = []; names = []; bytes 
 same_there : {X : Type 0} (xs : List X) (k : ℕ) (d : X) → k < length xs → get_or xs k d ≡ get_or xs k (get_or xs k d)
 same_there xs k d lt = let e : Some (get_or xs k d) ≡ Some (get_or xs k (get_or xs k d)) = sym (slice_get-get_or xs k d lt) ∙ slice_get-get_or xs k (get_or xs k d) lt in cc
 
-parts_on : (placed : List Placement) (d k : ℕ) (parts : List image.Part) → All IsPlacedPart placed → k + d ≡ length placed → AreLinkedFrom 0 (take k placed) parts
-    → ((all : List image.Part) × AreLinkedFrom 0 placed all) ⊎ ((f : LinkFault) × IsPartFault placed f)
-parts_on placed zero k parts right all linked = inl (parts, subst (λ (l : List Placement). AreLinkedFrom 0 l parts) (take_all k placed (omega arith)) linked)
-parts_on placed (suc d) k parts right all linked =
+parts_on : (given : List Place) (placed : List Placement) (d k : ℕ) (parts : List image.Part) → All IsPlacedPart placed → k + d ≡ length placed → AreLinkedFrom given 0 (take k placed) parts → AllPairs AreApart (spans parts)
+    → ((all : List image.Part) × AreLinkedFrom given 0 placed all × AllPairs AreApart (spans all)) ⊎ ((f : LinkFault) × IsPartFault given placed f)
+parts_on given placed zero k parts right all linked apart = inl (parts, subst (λ (l : List Placement). AreLinkedFrom given 0 l parts) (take_all k placed (omega arith)) linked, apart)
+parts_on given placed (suc d) k parts right all linked apart =
     let lt : k < length placed = omega arith in
     let p = get_or placed k any_part in
     let long = length-take-le k placed (omega arith) in
-    elim (part_or_fault k p (right k any_part lt)) [
-      | inr wrong ↦ inr (wrong.0, record { number = k; part = p; there = slice_get-get_or placed k any_part lt; before = parts; linked = linked; has = wrong.1 })
+    elim (part_or_fault given k p parts (right k any_part lt)) [
+      | inr wrong ↦ inr (wrong.0, record { number = k; part = p; there = slice_get-get_or placed k any_part lt; before = parts; linked = linked; apart = apart; has = wrong.1 })
       | inl made ↦
           let more = take_one_more placed k p lt (same_there placed k any_part lt) in
-          parts_on placed d (k + 1) (parts ++ made.0 ∷ []) right (omega arith)
-          (subst (λ (l : List Placement). AreLinkedFrom 0 l (parts ++ made.0 ∷ [])) (sym more) (linked_push 0 k (take k placed) parts p made.0 (omega arith) linked made.1))
+          parts_on given placed d (k + 1) (parts ++ made.part ∷ []) right (omega arith)
+          (subst (λ (l : List Placement). AreLinkedFrom given 0 l (parts ++ made.part ∷ [])) (sym more) (linked_push given 0 k (take k placed) parts p made.part (omega arith) linked made.linked))
+          (subst (AllPairs AreApart) (sym (flat_map-append (λ q. spans_of (image.fields_of q)) parts (made.part ∷ []))) made.apart)
     ]
 
+none_apart : AllPairs AreApart []
+none_apart = λ i j d lt within. absurd (omega arith)
+
 pub some_linking : LinkedIsClean → LinkedIsRight → SomeLinking
-some_linking clean right placed is =
+some_linking clean right given placed is =
     elim (cases_lt 16 (length placed)) [
       | inl many ↦ inr (TooManySandboxes, inl (many, refl))
-      | inr few ↦ elim (parts_on placed (length placed) 0 [] is.each (omega arith) refl) [
-        | inr wrong ↦ inr (wrong.0, inr (few, wrong.1))
-        | inl made ↦
-            inl (
-              image.spelling made.0,
-              record {
-                parts = made.0;
-                linked = made.1;
-                image = record { bytes_are = refl; layout = right placed made.0 is few made.1 };
-                none_found = all_are_clean clean 0 placed made.0 is.each (omega arith) made.1;
-              },
-            )
+      | inr few ↦ elim (cases_lt (length placed) (length given)) [
+        | inl unused ↦ inr (named.Place (length placed), inr (inl (few, unused, refl)))
+        | inr used ↦ elim (parts_on given placed (length placed) 0 [] is.each (omega arith) refl none_apart) [
+          | inr wrong ↦ inr (wrong.0, inr (inr (few, used, wrong.1)))
+          | inl made ↦
+              let linked : AreLinked given placed made.0 = record { used = used; each = made.1; apart = made.2 } in
+              inl (
+                image.spelling made.0,
+                record {
+                  parts = made.0;
+                  linked = linked;
+                  image = record { bytes_are = refl; layout = right given placed made.0 is few linked };
+                  none_found = all_are_clean given clean 0 placed made.0 is.each made.1;
+                },
+              )
+        ]
       ]
     ]

@@ -3,6 +3,8 @@ use Rattle.std.specs.Prelude.{ℕ, ◌+◌, ◌*◌, ℤ, List, length, slice_ge
 use Rattle.rv_word.specs.declared.instr.Instr.{Instr}
 use Rattle.rv_word.specs.declared.instr.Instr.TheVariants.{Op, OpImm, Load, Store, Branch, Jal, Jalr, Lui, Auipc, Fence, Ecall, Ebreak}
 use Rattle.sfi_policy.specs.Limits.{bundle_size}
+use Rattle.sfi_place.specs.declared.place.Place.{Place}
+use Rattle.sfi_place.specs.Places.{place_of}
 use Rattle.sfi_rewrite.specs.declared.placed.PlacedName.{PlacedName}
 use Rattle.sfi_rewrite.specs.declared.placed.PlacedName.TheVariants.{Gate, Code, Data, Unknown}
 use Rattle.sfi_rewrite.specs.Placement.{Placement}
@@ -14,19 +16,15 @@ use Rattle.sfi_link.specs.declared.bases.Bases.{Bases}
 abbrev pub stub_size : ℕ
 stub_size = bundle_size
 
--- the first code base, and how far the code of one sandbox lies from that of the next
-abbrev pub sandbox_stride : ℕ
-sandbox_stride = 0x01000000
-
--- how far the data lies from the code
-abbrev pub data_offset : ℕ
-data_offset = 0x00800000
-
 -- the sandbox of that number: its code, the first byte after its gates' stubs, its data
-abbrev pub bases_of : ℕ → Placement → Bases
-bases_of number p =
-    let code = sandbox_stride * (number + 1) in
-    record { code = code; start = code + stub_size * length p.gates; «data» = code + data_offset }
+abbrev pub bases_of : List Place → ℕ → Placement → Bases
+bases_of given number p =
+    let place = place_of given number in
+    record {
+      code = place.code_base;
+      start = place.code_base + stub_size * length p.gates;
+      «data» = place.data_base;
+    }
 
 -- ---- names
 

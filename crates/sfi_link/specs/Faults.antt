@@ -1,8 +1,12 @@
 -- Why what is placed can't be linked.
-use Rattle.std.specs.Prelude.{◌≡◌, ◌⊎◌, ℕ, ◌+◌, ◌<◌, ◌≤◌, pos, ◌-ℤ◌, List, length, take, slice_get, Some, None}
+use Rattle.std.specs.Prelude.{◌≡◌, ◌⊎◌, ℕ, ◌+◌, ◌++◌, ◌<◌, ◌≤◌, pos, ◌-ℤ◌, List, length, take, slice_get, Some, None}
+use Rattle.std.specs.List.{AllPairs}
 use Rattle.rv_word.specs.Spelling.{InRange}
 use Rattle.sfi_policy.specs.Limits.{sandboxes_most}
 use Rattle.sfi_image.specs.Spelling.{Part}
+use Rattle.sfi_image.specs.Spans.{AreApart, spans}
+use Rattle.sfi_place.specs.declared.place.Place.{Place}
+use Rattle.sfi_place.specs.Places.{place_of}
 use Rattle.sfi_rewrite.specs.declared.slot.Slot.{Slot}
 use Rattle.sfi_rewrite.specs.declared.slot.Slot.TheVariants.{Wide, Short, Jump, Upper, Lower}
 use Rattle.sfi_rewrite.specs.declared.placed.PlacedName.{PlacedName}
@@ -11,9 +15,11 @@ use Rattle.sfi_rewrite.specs.Placement.{Placement}
 use Rattle.sfi_link.specs.declared.bases.Bases.{Bases}
 use Rattle.sfi_link.specs.declared.fault.LinkFault.{LinkFault}
 use Rattle.sfi_link.specs.declared.fault.LinkFault.TheVariants.{UnknownName, BranchReach, TooLarge, TooManySandboxes, Memory}
+use Rattle.sfi_link.specs.declared.fault.LinkFault.TheVariants as fault
 use Rattle.sfi_link.specs.Addresses.{address_at, target_at, with_offset, bases_of}
 use Rattle.sfi_link.specs.Code.{AreSlots}
-use Rattle.sfi_link.specs.Linked.{needed, HasRoom, AreLinked}
+use Rattle.sfi_link.specs.Linked.{needed, HasRoom, IsCodeSize, AreLinkedFrom}
+use Rattle.sfi_link.specs.Lying.{IsRightPlace, spans_at}
 
 -- the number of a fault
 abbrev pub number_of : LinkFault → ℕ
@@ -22,6 +28,7 @@ number_of (BranchReach line) = 2
 number_of (TooLarge sandbox) = 3
 number_of TooManySandboxes = 4
 number_of Memory = 5
+number_of (fault.Place sandbox) = 6
 
 -- ---- of a slot
 
@@ -51,6 +58,7 @@ HasSlotFault at names here s (BranchReach line) = IsOutOfReach at names here s l
 HasSlotFault at names here s (TooLarge sandbox) = ⊥
 HasSlotFault at names here s TooManySandboxes = ⊥
 HasSlotFault at names here s Memory = ⊥
+HasSlotFault at names here s (fault.Place sandbox) = ⊥
 
 -- the first of the slots from `here` on that has a fault has this one
 pub record IsSlotFault (at : Bases) (names : List PlacedName) (here : ℕ) (slots : List Slot)
@@ -68,25 +76,42 @@ pub record IsSlotFault (at : Bases) (names : List PlacedName) (here : ℕ) (slot
 abbrev pub IsTooLarge : Placement → Type 0
 IsTooLarge p = (size : ℕ) → HasRoom p.format (needed p) size → ⊥
 
--- the fault of the sandbox of that number, of which being too large goes first
-abbrev pub HasPartFault : ℕ → Placement → LinkFault → Type 0
-HasPartFault number p f =
-    (IsTooLarge p × (f ≡ TooLarge number)) ⊎ ((¬ IsTooLarge p)
-    × IsSlotFault (bases_of number p) p.names (bases_of number p).start (slots_of p.bundles) f)
+-- the sandbox of that number may lie at its place, after others of the image
+pub record MayLie (given : List Place) (number : ℕ) (p : Placement) (before : List Part)
+    : Type 0 where
+  pub size : ℕ
+  pub least : IsCodeSize p.format (needed p) size
+  pub right : IsRightPlace p size (place_of given number)
+  pub apart : AllPairs AreApart (spans before ++ spans_at p size (place_of given number))
+
+-- the fault of the sandbox of that number, after others: being too large goes first, then its
+-- place, then its instructions
+abbrev pub HasPartFault : List Place → ℕ → Placement → List Part → LinkFault → Type 0
+HasPartFault given number p before f =
+    (IsTooLarge p × (f ≡ TooLarge number))
+    ⊎ ((¬ IsTooLarge p) × (¬ MayLie given number p before) × (f ≡ fault.Place number))
+    ⊎ (MayLie given number p before × IsSlotFault (bases_of given number p) p.names
+    (bases_of given number p).start (slots_of p.bundles) f)
 
 -- the first sandbox that has a fault has this one
-pub record IsPartFault (placed : List Placement) (f : LinkFault) : Type 0 where
+pub record IsPartFault (given : List Place) (placed : List Placement) (f : LinkFault)
+    : Type 0 where
   pub number : ℕ
   pub part : Placement
   pub there : slice_get placed number ≡ Some part
   pub before : List Part
-  pub linked : AreLinked (take number placed) before
-  pub has : HasPartFault number part f
+  pub linked : AreLinkedFrom given 0 (take number placed) before
+  pub apart : AllPairs AreApart (spans before)
+  pub has : HasPartFault given number part before f
 
 -- ---- of all
 
--- the fault of what is placed: too many sandboxes, or the first one's in the order of the text
-abbrev pub IsLinkFault : List Placement → LinkFault → Type 0
-IsLinkFault placed f =
+-- the fault of what is placed: too many sandboxes, or the first place without a sandbox, or that
+-- of the first sandbox that has one, in the order of the text
+abbrev pub IsLinkFault : List Place → List Placement → LinkFault → Type 0
+IsLinkFault given placed f =
     ((sandboxes_most < length placed) × (f ≡ TooManySandboxes))
-    ⊎ ((length placed ≤ sandboxes_most) × IsPartFault placed f)
+    ⊎ ((length placed ≤ sandboxes_most) × (length placed < length given)
+    × (f ≡ fault.Place (length placed)))
+    ⊎ ((length placed ≤ sandboxes_most) × (length given ≤ length placed)
+    × IsPartFault given placed f)

@@ -1,5 +1,6 @@
 pub mod Addresses
 pub mod Code
+pub mod Lying
 pub mod Linked
 pub mod Faults
 pub mod Building

@@ -1,6 +1,6 @@
 -- The sandbox of an image that is made of a placed one.
 use Rattle.std.specs.Prelude.{◌≡◌, ℕ, ◌+◌, ◌*◌, ◌^◌, ◌≤◌, List, [], ◌∷◌, ◌++◌, length, replicate}
-use Rattle.std.specs.List.{repeat}
+use Rattle.std.specs.List.{repeat, AllPairs}
 use Rattle.rv_comp.specs.declared.form.Form16.TheVariants.{CEbreak}
 use Rattle.sfi_policy.specs.declared.format.Format.{Format}
 use Rattle.sfi_policy.specs.Formats.{code_most}
@@ -8,13 +8,17 @@ use Rattle.rv_source.specs.declared.item.SourceGate.{SourceGate}
 use Rattle.sfi_policy.specs.Limits.{region_least}
 use Rattle.sfi_image.specs.declared.part.Gate.{Gate}
 use Rattle.sfi_image.specs.Spelling.{Part}
+use Rattle.sfi_image.specs.Spans.{AreApart, spans}
 use Rattle.sfi_policy.specs.Pairs.{stub}
+use Rattle.sfi_place.specs.declared.place.Place.{Place}
+use Rattle.sfi_place.specs.Places.{place_of}
 use Rattle.sfi_rewrite.specs.declared.slot.Slot.{Slot}
 use Rattle.sfi_rewrite.specs.declared.slot.Slot.TheVariants.{Short}
 use Rattle.sfi_rewrite.specs.Slots.{size_of, slots_of}
 use Rattle.sfi_rewrite.specs.Placement.{Placement}
 use Rattle.sfi_link.specs.Addresses.{stub_size, bases_of}
 use Rattle.sfi_link.specs.Code.{AreSlots}
+use Rattle.sfi_link.specs.Lying.{IsRightPlace}
 
 -- ---- how large the code region is
 
@@ -49,32 +53,39 @@ gates_from address (g ∷ gates) =
 
 -- the code: the stubs, then the bytes of the slots with addresses for names, then c.ebreaks to the
 -- region's end, one at least
-pub record IsLinkedCode (number : ℕ) (p : Placement) (code : List ℕ) : Type 0 where
+pub record IsLinkedCode (given : List Place) (number : ℕ) (p : Placement)
+    (code : List ℕ) : Type 0 where
   pub size : IsCodeSize p.format (needed p) (length code)
   pub fill : ℕ
   pub bytes : List ℕ
-  pub slots : AreSlots (bases_of number p) p.names (bases_of number p).start
+  pub slots : AreSlots (bases_of given number p) p.names (bases_of given number p).start
       (slots_of p.bundles ++ replicate fill c_ebreak) bytes
   pub code_is : code ≡ repeat (length p.gates) stub ++ bytes
 
--- the placed sandbox makes that one of the image, as the one of that number, counted from 0
-pub record IsLinked (number : ℕ) (p : Placement) (q : Part) : Type 0 where
+-- the placed sandbox makes that one of the image, as the one of that number, counted from 0,
+-- at its place, where it may lie
+pub record IsLinked (given : List Place) (number : ℕ) (p : Placement) (q : Part) : Type 0 where
   pub format : q.format ≡ p.format
-  pub code_base : q.code_base ≡ (bases_of number p).code
-  pub data_base : q.data_base ≡ (bases_of number p).«data»
+  pub code_base : q.code_base ≡ (bases_of given number p).code
+  pub data_base : q.data_base ≡ (bases_of given number p).«data»
   pub data_size : q.data_size ≡ p.data_size
-  pub start : q.start ≡ (bases_of number p).start
-  pub gates : q.gates ≡ gates_from (bases_of number p).code p.gates
+  pub start : q.start ≡ (bases_of given number p).start
+  pub gates : q.gates ≡ gates_from (bases_of given number p).code p.gates
   pub init : q.init ≡ p.bytes
-  pub code : IsLinkedCode number p q.code
+  pub code : IsLinkedCode given number p q.code
+  pub lies : IsRightPlace p (length q.code) (place_of given number)
 
 -- the same of sandboxes, the first of which has that number
-abbrev pub AreLinkedFrom : ℕ → List Placement → List Part → Type 0
-AreLinkedFrom number [] parts = parts ≡ []
-AreLinkedFrom number (p ∷ placed) [] = ⊥
-AreLinkedFrom number (p ∷ placed) (q ∷ parts) =
-    IsLinked number p q × AreLinkedFrom (number + 1) placed parts
+abbrev pub AreLinkedFrom : List Place → ℕ → List Placement → List Part → Type 0
+AreLinkedFrom given number [] parts = parts ≡ []
+AreLinkedFrom given number (p ∷ placed) [] = ⊥
+AreLinkedFrom given number (p ∷ placed) (q ∷ parts) =
+    IsLinked given number p q × AreLinkedFrom given (number + 1) placed parts
 
--- the placed sandboxes make those of the image
-abbrev pub AreLinked : List Placement → List Part → Type 0
-AreLinked placed parts = AreLinkedFrom 0 placed parts
+-- the placed sandboxes make those of the image at the given places, of which there are no more than
+-- sandboxes; no two of their spans meet
+pub record AreLinked (given : List Place) (placed : List Placement) (parts : List Part)
+    : Type 0 where
+  pub used : length given ≤ length placed
+  pub each : AreLinkedFrom given 0 placed parts
+  pub apart : AllPairs AreApart (spans parts)

@@ -1,6 +1,6 @@
 -- What the linker writes stands for what was placed, in a machine: so each item of a source does in
 -- the image what its instruction does.
-use Rattle.std.specs.Prelude.{◌≡◌, ℕ, ◌+◌, ◌*◌, ◌<◌, List, [], ◌∷◌, length, slice_get, Some}
+use Rattle.std.specs.Prelude.{◌≡◌, ℕ, ◌+◌, ◌*◌, List, [], ◌∷◌, length, slice_get, Some}
 use Rattle.rv_word.specs.declared.instr.Instr.{Instr}
 use Rattle.sfi_policy.specs.declared.format.Format.{Format}
 use Rattle.rv_mem.specs.Laws.{Holds}
@@ -10,6 +10,7 @@ use Rattle.rv_source.specs.Source.{Sandbox, IsSandbox, IsSource}
 use Rattle.sfi_image.specs.Spelling.{Part}
 use Rattle.sfi_image.specs.Spans.{code_region, data_region}
 use Rattle.sfi_image.specs.Images.{IsImage}
+use Rattle.sfi_place.specs.declared.place.Place.{Place}
 use Rattle.sfi_rewrite.specs.declared.slot.Slot.{Slot}
 use Rattle.sfi_rewrite.specs.declared.slot.Slot.TheVariants.{Wide, Short, Jump, Upper, Lower}
 use Rattle.sfi_rewrite.specs.declared.placed.PlacedName.{PlacedName}
@@ -22,7 +23,6 @@ use Rattle.sfi_link.specs.declared.bases.Bases.{Bases}
 use Rattle.sfi_link.specs.Addresses.{bases_of}
 use Rattle.sfi_link.specs.Code.{resolved, AreSlots}
 use Rattle.sfi_link.specs.Linked.{IsLinked}
-use Rattle.sfi_policy.specs.Limits.{sandboxes_most}
 use Rattle.sfi_link.specs.Building.{IsLinkedImage}
 
 -- the slot at `here` becomes i, if it waits for a name
@@ -58,12 +58,12 @@ place_after q before nops = q.start + (size_of before + 2 * nops)
 -- Item k is an instruction of the image, with the address of its name, if it has one: wherever a
 -- memory holds the sandbox's code, its expansion stands at its place for that instruction, in
 -- regions in which expansions act as their instructions do (`placed.transparent`).
-pub record RunsAs (number : ℕ) (f : Format) (items : List Item) (p : Placement) (q : Part) (k : ℕ)
-    (x : Item) : Type 0 where
+pub record RunsAs (given : List Place) (number : ℕ) (f : Format) (items : List Item)
+    (p : Placement) (q : Part) (k : ℕ) (x : Item) : Type 0 where
   pub placed : StandsTransparent f items p k x
   pub instr : Instr
   pub may_be : MayBe x.body instr
-  pub resolves : AreResolvedTo (bases_of number p) p.names
+  pub resolves : AreResolvedTo (bases_of given number p) p.names
       (place_after q placed.before placed.nops) instr placed.expanded
   pub regions : AreRegions (code_region q) (data_region q)
   pub stands : (s : State) → Holds s.memory q.code_base (length q.code) q.code
@@ -72,38 +72,40 @@ pub record RunsAs (number : ℕ) (f : Format) (items : List Item) (p : Placement
 -- each item of a source's sandbox is, in what is linked of it
 abbrev pub LinkedRunsAs : Type 0
 LinkedRunsAs =
-    (number : ℕ) (s : Sandbox) (p : Placement) (q : Part) (k : ℕ) (x : Item) → IsSandbox s
-    → IsRewritten s p → IsPlacedPart p → number < sandboxes_most
-    → IsLinked number p q → slice_get s.items k ≡ Some x → RunsAs number s.format s.items p q k x
+    (given : List Place) (number : ℕ) (s : Sandbox) (p : Placement) (q : Part) (k : ℕ) (x : Item)
+    → IsSandbox s → IsRewritten s p → IsPlacedPart p → IsLinked given number p q
+    → slice_get s.items k ≡ Some x → RunsAs given number s.format s.items p q k x
 
 -- ---- a build
 
 -- each item of the sandbox is an instruction of that one of the image,
 -- which is made of its placement
-pub record SandboxRunsAs (number : ℕ) (s : Sandbox) (q : Part) : Type 0 where
+pub record SandboxRunsAs (given : List Place) (number : ℕ) (s : Sandbox) (q : Part)
+    : Type 0 where
   pub placed : Placement
   pub placement : IsPlacement s placed
-  pub linked : IsLinked number placed q
+  pub linked : IsLinked given number placed q
   pub each : (k : ℕ) (x : Item) → slice_get s.items k ≡ Some x
-      → RunsAs number s.format s.items placed q k x
+      → RunsAs given number s.format s.items placed q k x
 
 -- the same of sandboxes in order, the first of which has that number
-abbrev pub SandboxesRunAs : ℕ → List Sandbox → List Part → Type 0
-SandboxesRunAs number [] parts = parts ≡ []
-SandboxesRunAs number (s ∷ source) [] = ⊥
-SandboxesRunAs number (s ∷ source) (q ∷ parts) =
-    SandboxRunsAs number s q × SandboxesRunAs (number + 1) source parts
+abbrev pub SandboxesRunAs : List Place → ℕ → List Sandbox → List Part → Type 0
+SandboxesRunAs given number [] parts = parts ≡ []
+SandboxesRunAs given number (s ∷ source) [] = ⊥
+SandboxesRunAs given number (s ∷ source) (q ∷ parts) =
+    SandboxRunsAs given number s q × SandboxesRunAs given (number + 1) source parts
 
 -- the bytes are an image of the source's sandboxes,
 -- in which each item of each has its instruction and its place
-pub record ImageRunsAs (source : List Sandbox) (bytes : List ℕ) : Type 0 where
+pub record ImageRunsAs (given : List Place) (source : List Sandbox)
+    (bytes : List ℕ) : Type 0 where
   pub parts : List Part
   pub image : IsImage bytes parts
-  pub each : SandboxesRunAs 0 source parts
+  pub each : SandboxesRunAs given 0 source parts
 
 -- the bytes that a source's placement is linked to are such an image
 abbrev pub LinkedImagesRunAs : Type 0
 LinkedImagesRunAs =
-    (source : List Sandbox) (placed : List Placement) (bytes : List ℕ)
-    → IsSource source → AreRewritten source placed → IsLinkedImage placed bytes
-    → ImageRunsAs source bytes
+    (given : List Place) (source : List Sandbox) (placed : List Placement) (bytes : List ℕ)
+    → IsSource source → AreRewritten source placed → IsLinkedImage given placed bytes
+    → ImageRunsAs given source bytes

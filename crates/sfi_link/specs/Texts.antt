@@ -5,6 +5,7 @@ use Rattle.rv_text.specs.Causes.{memory}
 use Rattle.rv_source.specs.Source.{Sandbox}
 use Rattle.rv_text.specs.Texts.{MeansSource, IsFault}
 use Rattle.sfi_image.specs.Spelling.{Part}
+use Rattle.sfi_place.specs.declared.place.Place.{Place}
 use Rattle.sfi_image.specs.Images.{IsImage}
 use Rattle.sfi_scan.specs.Findings.{AreImageFindings}
 use Rattle.sfi_rewrite.specs.declared.fault.RewriteFault.TheVariants as rewriter
@@ -18,12 +19,12 @@ use Rattle.sfi_link.specs.Building.{IsLinkedImage}
 use Rattle.sfi_link.specs.Faults.{IsLinkFault}
 
 -- the text means a source without a fault, and the bytes are the image of its placement
-pub record IsTextBuild (text bytes : List ℕ) : Type 0 where
+pub record IsTextBuild (given : List Place) (text bytes : List ℕ) : Type 0 where
   pub source : List Sandbox
   pub means : MeansSource text source
   pub placed : List Placement
   pub rewritten : AreRewritten source placed
-  pub image : IsLinkedImage placed bytes
+  pub image : IsLinkedImage given placed bytes
 
 -- the bytes are an image with a right layout in which no rule is broken: the checker accepts it
 pub record IsCleanImage (bytes : List ℕ) : Type 0 where
@@ -33,13 +34,13 @@ pub record IsCleanImage (bytes : List ℕ) : Type 0 where
 
 -- the fault of the text: it means no source, or its source can't be rewritten,
 -- or what is placed can't be linked
-abbrev pub IsBuildFault : List ℕ → BuildFault → Type 0
-IsBuildFault text (Text f) = IsFault text f
-IsBuildFault text (Rewrite f) =
+abbrev pub IsBuildFault : List Place → List ℕ → BuildFault → Type 0
+IsBuildFault given text (Text f) = IsFault text f
+IsBuildFault given text (Rewrite f) =
     (source : List Sandbox) × MeansSource text source × IsSourceFault source f
-IsBuildFault text (Link f) =
+IsBuildFault given text (Link f) =
     (source : List Sandbox) × (placed : List Placement) × MeansSource text source
-    × AreRewritten source placed × IsLinkFault placed f
+    × AreRewritten source placed × IsLinkFault given placed f
 
 -- memory ran out
 abbrev pub IsWantOfMemory : BuildFault → Type 0

@@ -1,8 +1,8 @@
 //! Addresses for names, and what an instruction holds of them.
-ghost use Rattle.std.specs.Prelude.{◌≡◌, ◌<◌, ◌^◌, pos, ◌-ℤ◌, IfSome};
+ghost use Rattle.std.specs.Prelude.{◌≡◌, ◌+◌, ◌<◌, ◌≤◌, ◌^◌, pos, ◌-ℤ◌, IfSome};
 ghost use Rattle.rv_source.specs.Halves.{upper, lower};
 ghost use Rattle.sfi_link.specs.Addresses.{address_of, target_of, address_at, target_at, with_offset};
-ghost use Rattle.sfi_link.specs.private.Near.{AreLow, IsNear, AreNear};
+ghost use Rattle.sfi_link.specs.private.Near.{IsInCode, IsNear, AreNear};
 
 use crate::bases::Bases;
 use rv_word::Instr;
@@ -10,10 +10,8 @@ use sfi_policy::BUNDLE_SIZE;
 use sfi_rewrite::PlacedName;
 
 fn address_of(at: Bases, name: PlacedName) -> Option<u32>
-    requires low { AreLow at }
-    requires near { IsNear name }
+    requires near { IsNear at name }
     ensures is { result ≡ address_of at name }
-    ensures low { IfSome result (λ a. a < 2 ^ 31) }
 {
     match name {
         PlacedName::Gate(k) => Some(at.code + BUNDLE_SIZE * k as u32),
@@ -24,10 +22,9 @@ fn address_of(at: Bases, name: PlacedName) -> Option<u32>
 }
 
 fn target_of(at: Bases, name: PlacedName) -> Option<u32>
-    requires low { AreLow at }
-    requires near { IsNear name }
+    requires near { IsNear at name }
     ensures is { result ≡ target_of at name }
-    ensures low { IfSome result (λ a. a < 2 ^ 31) }
+    ensures near { IfSome result (IsInCode at) }
 {
     match name {
         PlacedName::Gate(_) | PlacedName::Code(_) => address_of(at, name),
@@ -39,7 +36,6 @@ fn target_of(at: Bases, name: PlacedName) -> Option<u32>
 pub(crate) fn address_at(at: Bases, names: &[PlacedName], place: usize) -> Option<u32>
     requires { AreNear at names.now }
     ensures is { result ≡ address_at at names.now place }
-    ensures low { IfSome result (λ a. a < 2 ^ 31) }
 {
     match names.get(place) {
         Some(name) => address_of(at, *name),
@@ -51,7 +47,7 @@ pub(crate) fn address_at(at: Bases, names: &[PlacedName], place: usize) -> Optio
 pub(crate) fn target_at(at: Bases, names: &[PlacedName], place: usize) -> Option<u32>
     requires { AreNear at names.now }
     ensures is { result ≡ target_at at names.now place }
-    ensures low { IfSome result (λ a. a < 2 ^ 31) }
+    ensures near { IfSome result (IsInCode at) }
 {
     match names.get(place) {
         Some(name) => target_of(at, *name),
@@ -61,25 +57,23 @@ pub(crate) fn target_at(at: Bases, names: &[PlacedName], place: usize) -> Option
 
 // What a lui gives of the address.
 pub(crate) fn upper(address: u32) -> u32
-    requires { address < 2 ^ 31 }
     ensures is { result ≡ upper (pos address) }
     ensures fits { result < 2 ^ 20 }
 {
-    (address + 2048) / 4096
+    address.wrapping_add(2048) / 4096
 }
 
 // What an addi adds to that.
 pub(crate) fn lower(address: u32) -> i32
-    requires { address < 2 ^ 31 }
     ensures { result ≡ lower (pos address) }
 {
-    ((address + 2048) % 4096) as i32 - 2048
+    (address.wrapping_add(2048) % 4096) as i32 - 2048
 }
 
 // How far it is from here to there.
 pub(crate) fn distance(here: u32, there: u32) -> i32
-    requires here { here < 2 ^ 31 }
-    requires there { there < 2 ^ 31 }
+    requires back { here ≤ there + 2 ^ 20 }
+    requires ahead { there ≤ here + 2 ^ 20 }
     ensures { result ≡ pos there -ℤ pos here }
 {
     (i64::from(there) - i64::from(here)) as i32

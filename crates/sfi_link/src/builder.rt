@@ -1,5 +1,5 @@
 //! From a text to an image.
-ghost use Rattle.std.specs.Prelude.{◌≡◌, ◌⊎◌, ◌<◌, ℕ, List, length, Err, IfOk, IfErr};
+ghost use Rattle.std.specs.Prelude.{◌≡◌, ◌⊎◌, ◌<◌, ℕ, List, [], length, Err, IfOk, IfErr};
 ghost use Rattle.rv_source.specs.Source.{Sandbox};
 ghost use Rattle.rv_text.specs.Texts.{MeansSource, most_bytes, first_line};
 ghost use Rattle.rv_text.specs.declared.cause.TextCause.TheVariants.{Limit};
@@ -12,40 +12,44 @@ ghost use Rattle.sfi_link.specs.private.Texts.{Builds};
 
 use crate::build_fault::BuildFault;
 use crate::laws::{linked_runs_as, one_linking};
-use crate::linker::link;
+use crate::linker::link_at;
 use rv_text::laws::{
     meant_has_no_fault, one_fault as one_text_fault, one_source, sources_are_right,
 };
 use rv_text::parse_source;
+use sfi_place::Place;
 use sfi_rewrite::laws::{never_both, one_fault as one_source_fault, one_rewriting};
 use sfi_rewrite::rewrite;
 use std::alloc::Global;
 
 // The build of the text, or its fault.
-fn build_of(alloc: Global, text: &str) -> Result<Vec<u8>, BuildFault>
-    ensures builds { Builds text.now result }
+fn build_of(alloc: Global, text: &str, places: &[Place]) -> Result<Vec<u8>, BuildFault>
+    ensures builds { Builds places.now text.now result }
     ensures too_long { most_bytes < length text.now → result ≡ Err (Text (first_line Limit)) }
 {
     let source = parse_source(alloc, text)?;
     let placed = rewrite(alloc, &source)?;
-    Ok(link(alloc, &placed)?)
+    Ok(link_at(alloc, &placed, places)?)
 }
 
 /// Reads a source, places it and links it: the image of a text, or the first fault of the three in
-/// this order. The image has a right layout and breaks no rule, so the checker accepts it.
-pub fn build(alloc: Global, text: &str) -> Result<Vec<u8>, BuildFault>
+/// this order. The image has a right layout and breaks no rule, so the checker accepts it. The
+/// sandboxes lie at the places, in order; those for which none is given lie at their usual ones.
+pub fn build_at(alloc: Global, text: &str, places: &[Place]) -> Result<Vec<u8>, BuildFault>
     // What each answer means.
-    ensures built { IfOk result (λ bytes. IsTextBuild text.now bytes.items) }
-    ensures build { (source : List Sandbox)
-        → MeansSource text.now source → IfOk result (λ bytes. IsBuild source bytes.items) }
-    ensures runs_as { (source : List Sandbox)
-        → MeansSource text.now source → IfOk result (λ bytes. ImageRunsAs source bytes.items) }
+    ensures built { IfOk result (λ bytes. IsTextBuild places.now text.now bytes.items) }
+    ensures build { (source : List Sandbox) → MeansSource text.now source
+        → IfOk result (λ bytes. IsBuild places.now source bytes.items) }
+    ensures runs_as { (source : List Sandbox) → MeansSource text.now source
+        → IfOk result (λ bytes. ImageRunsAs places.now source bytes.items) }
     ensures clean { IfOk result (λ bytes. IsCleanImage bytes.items) }
-    ensures fault { IfErr result (λ f. IsWantOfMemory f ⊎ IsBuildFault text.now f) }
+    ensures fault { IfErr result (λ f. IsWantOfMemory f ⊎ IsBuildFault places.now text.now f) }
 
     // Which texts get it, want of memory aside.
-    ensures only_built { (bytes : List ℕ) → IsTextBuild text.now bytes → AnswersBuild bytes result }
-    ensures only_fault { (f : BuildFault) → IsBuildFault text.now f → AnswersBuildFault f result }
+    ensures only_built { (bytes : List ℕ)
+        → IsTextBuild places.now text.now bytes → AnswersBuild bytes result }
+    ensures only_fault { (f : BuildFault)
+        → IsBuildFault places.now text.now f → AnswersBuildFault f result }
 
     // Of a text above its limit, whatever memory there is.
     ensures too_long { most_bytes < length text.now → result ≡ Err (Text (first_line Limit)) }
@@ -61,5 +65,28 @@ pub fn build(alloc: Global, text: &str) -> Result<Vec<u8>, BuildFault>
     one_linking();
     linked_runs_as();
 
-    build_of(alloc, text)
+    build_of(alloc, text, places)
+}
+
+/// The same as [`build_at`] with each sandbox at its usual place.
+pub fn build(alloc: Global, text: &str) -> Result<Vec<u8>, BuildFault>
+    // What each answer means.
+    ensures built { IfOk result (λ bytes. IsTextBuild [] text.now bytes.items) }
+    ensures build { (source : List Sandbox) → MeansSource text.now source
+        → IfOk result (λ bytes. IsBuild [] source bytes.items) }
+    ensures runs_as { (source : List Sandbox) → MeansSource text.now source
+        → IfOk result (λ bytes. ImageRunsAs [] source bytes.items) }
+    ensures clean { IfOk result (λ bytes. IsCleanImage bytes.items) }
+    ensures fault { IfErr result (λ f. IsWantOfMemory f ⊎ IsBuildFault [] text.now f) }
+
+    // Which texts get it, want of memory aside.
+    ensures only_built { (bytes : List ℕ)
+        → IsTextBuild [] text.now bytes → AnswersBuild bytes result }
+    ensures only_fault { (f : BuildFault)
+        → IsBuildFault [] text.now f → AnswersBuildFault f result }
+
+    // Of a text above its limit, whatever memory there is.
+    ensures too_long { most_bytes < length text.now → result ≡ Err (Text (first_line Limit)) }
+{
+    build_at(alloc, text, &[])
 }

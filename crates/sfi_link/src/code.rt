@@ -10,7 +10,7 @@ ghost use Rattle.rv_comp.specs.Halfwords.{halfword_of};
 ghost use Rattle.sfi_rewrite.specs.Slots.{size_of, slots_of};
 ghost use Rattle.sfi_rewrite.specs.Placed.{Encodes};
 ghost use Rattle.rv_source.specs.Halves.{lower};
-ghost use Rattle.sfi_link.specs.private.Near.{IsLow, AreNear, IsPushed, AreWritten};
+ghost use Rattle.sfi_link.specs.private.Near.{HasRoomFor, AreNear, IsPushed, AreWritten};
 ghost use Rattle.sfi_link.specs.Faults.{HasSlotFault, IsSlotFault};
 ghost use Rattle.sfi_rewrite.specs.declared.slot.Slot.TheVariants.{Jump, Upper, Lower};
 ghost use Rattle.sfi_link.specs.private.Answers.{Links};
@@ -55,7 +55,7 @@ fn push_jump(
     line: u32,
 ) -> Result<(), LinkFault>
     requires near { AreNear at names.now }
-    requires room { IsLow (at.code + length code.old.items) }
+    requires room { HasRoomFor at (length code.old.items) 0 }
     ensures { Links
         (λ _. IsPushed at names.now (Jump instr place line) code.old.items code.new.items)
         (HasSlotFault at names.now
@@ -98,7 +98,6 @@ fn push_upper(
 
 // `addi rd, rd, imm` of what a lui leaves of the address
 fn add_lower(rd: Reg, address: u32) -> Instr
-    requires { address < 2 ^ 31 }
     ensures { result ≡ OpImm Addi rd rd (lower (pos address)) }
 {
     Instr::OpImm {
@@ -139,7 +138,7 @@ fn push_slot(
 ) -> Result<(), LinkFault>
     requires near { AreNear at names.now }
     requires encodes { Encodes slot }
-    requires room { IsLow (at.code + length code.old.items) }
+    requires room { HasRoomFor at (length code.old.items) 0 }
     ensures { Links (λ _. IsPushed at names.now slot code.old.items code.new.items)
         (HasSlotFault at names.now (at.code + length code.old.items) slot) result }
 {
@@ -162,7 +161,7 @@ fn push_slots(
 ) -> Result<(), LinkFault>
     requires near { AreNear at names.now }
     requires encodes { All Encodes slots.now }
-    requires room { IsLow (at.code + length code.old.items + size_of slots.now) }
+    requires room { HasRoomFor at (length code.old.items) (size_of slots.now) }
     ensures { Links (λ _. AreWritten at names.now slots.now code.old.items code.new.items)
         (IsSlotFault at names.now (at.code + length code.old.items) slots.now) result }
 {
@@ -181,7 +180,7 @@ pub(crate) fn push_bundles(
 ) -> Result<(), LinkFault>
     requires near { AreNear at names.now }
     requires encodes { All Encodes (slots_of bundles.now) }
-    requires room { IsLow (at.code + length code.old.items + size_of (slots_of bundles.now)) }
+    requires room { HasRoomFor at (length code.old.items) (size_of (slots_of bundles.now)) }
     ensures { Links
         (λ _. AreWritten at names.now (slots_of bundles.now) code.old.items code.new.items)
         (IsSlotFault at names.now (at.code + length code.old.items) (slots_of bundles.now)) result }

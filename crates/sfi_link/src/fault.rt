@@ -6,8 +6,9 @@ ghost use Rattle.sfi_link.specs.Faults.{number_of};
 use std::alloc::{AllocError, AllocFailed};
 use thiserror::Error;
 
-/// Why what is placed can't be linked. Too many sandboxes go first; then the first sandbox that has
-/// a fault counts, with TooLarge before the faults of its instructions, of which the first counts.
+/// Why what is placed can't be linked. Too many sandboxes go first, then a place without a sandbox;
+/// then the first sandbox that has a fault counts, with TooLarge before its place, and its place
+/// before the faults of its instructions, of which the first counts.
 #[derive(Clone, Copy, Debug, PartialEq, Eq, Error)]
 pub enum LinkFault {
     /// The instruction on the line, counted from 1, jumps to a name that is neither a label of the
@@ -28,10 +29,16 @@ pub enum LinkFault {
     /// Memory ran out; nothing is known of what is placed.
     #[error("Memory")]
     Memory,
+    /// The sandbox, counted from 0, can't lie at its place: a base is no multiple of its region's
+    /// size, the guard zones have no room, or its regions or guard zones meet each other or those
+    /// of a sandbox before it. Or more places are given than there are sandboxes, and this place is
+    /// the first without one.
+    #[error("Place sandbox {sandbox}")]
+    Place { sandbox: u32 },
 }
 
 impl LinkFault {
-    /// The number by which a refusal is known, from 1 to 5.
+    /// The number by which a refusal is known, from 1 to 6.
     pub fn number(self) -> u32
         ensures { result ≡ number_of self }
     {
@@ -41,6 +48,7 @@ impl LinkFault {
             LinkFault::TooLarge { .. } => 3,
             LinkFault::TooManySandboxes => 4,
             LinkFault::Memory => 5,
+            LinkFault::Place { .. } => 6,
         }
     }
 }

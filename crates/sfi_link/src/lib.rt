@@ -2,8 +2,9 @@
 //!
 //! [`link`] gives names their addresses and gates their stubs, and fills the rest of each code
 //! region with c.ebreaks. [`build`] reads a text, places its instructions in bundles and links
-//! them. The image has a right layout and breaks no rule, so the checker accepts it: this is proved
-//! of the bytes, and no scan is run.
+//! them. [`link_at`] and [`build_at`] do the same at places that the caller gives. The image has a
+//! right layout and breaks no rule, so the checker accepts it: this is proved of the bytes, and no
+//! scan is run.
 #![tactic(auto)]
 
 mod address;
@@ -15,8 +16,11 @@ mod code_region;
 mod fault;
 pub mod laws;
 mod linker;
+mod lying;
+mod regions;
 
 pub use build_fault::BuildFault;
-pub use builder::build;
+pub use builder::{build, build_at};
 pub use fault::LinkFault;
-pub use linker::link;
+pub use linker::{link, link_at};
+pub use sfi_place::Place;

@@ -1,16 +1,18 @@
 //! From what is placed to an image.
-ghost use Rattle.std.specs.Prelude.{◌≡◌, ◌<◌, ◌≤◌, ◌^◌, ℕ, List, length, Err, IfOk, IfErr};
+ghost use Rattle.std.specs.Prelude.{◌≡◌, ◌+◌, ◌*◌, ◌<◌, ◌≤◌, ◌^◌, ℕ, List, [], length, Err, IfOk, IfErr};
 ghost use Rattle.std.specs.List.{All};
 ghost use Rattle.rv_source.specs.Source.{Sandbox};
 ghost use Rattle.sfi_image.specs.Spelling.{view, views};
 ghost use Rattle.sfi_rewrite.specs.Placed.{IsPlacedPart, AreOf};
 ghost use Rattle.sfi_link.specs.declared.fault.LinkFault.{LinkFault};
 ghost use Rattle.sfi_link.specs.declared.fault.LinkFault.TheVariants.{TooManySandboxes};
+ghost use Rattle.sfi_place.specs.Places.{place_of};
+ghost use Rattle.sfi_link.specs.Lying.{IsRightPlace};
 ghost use Rattle.sfi_link.specs.Linked.{gates_from, IsLinkedCode, IsLinked, AreLinkedFrom};
 ghost use Rattle.sfi_link.specs.Building.{IsLinkedImage, ArePlacements, IsBuild};
-ghost use Rattle.sfi_policy.specs.Limits.{gates_most, sandboxes_most};
+ghost use Rattle.sfi_policy.specs.Limits.{bundle_size, gates_most, sandboxes_most};
 ghost use Rattle.sfi_link.specs.Faults.{IsPartFault, IsLinkFault};
-ghost use Rattle.sfi_link.specs.private.Near.{IsLow, AreCodesFrom, contents};
+ghost use Rattle.sfi_link.specs.private.Near.{AreCodes, AreCodesFrom, contents};
 ghost use Rattle.sfi_link.specs.private.Answers.{Links};
 ghost use Rattle.sfi_link.specs.Answers.{UnlessMemory, AnswersBytes, AnswersFault};
 
@@ -20,14 +22,15 @@ use crate::fault::LinkFault;
 use crate::laws::{linked_is_clean, linked_is_right, one_linking};
 use rv_source::SourceGate;
 use sfi_image::{Gate, ImageFault, SandboxPart, write_image_as};
+use sfi_place::Place;
 use sfi_policy::{BUNDLE_SIZE, Format, SANDBOX_COUNT_MOST};
 use sfi_rewrite::{Placed, PlacedPart};
 use std::alloc::{AllocError, Global};
 
 // The gates, whose stubs lie one after another from the address on.
 fn gates_from(alloc: Global, address: u32, gates: &[SourceGate]) -> Result<Vec<Gate>, AllocError>
-    requires low { IsLow address }
     requires few { length gates.now ≤ gates_most }
+    requires room { address + bundle_size * length gates.now < 2 ^ 32 }
     ensures { IfOk result (λ listed. listed.items ≡ gates_from address gates.now) }
 {
     let mut listed = Vec::new(alloc);
@@ -43,17 +46,20 @@ fn gates_from(alloc: Global, address: u32, gates: &[SourceGate]) -> Result<Vec<G
 // The sandbox of that number, with this code.
 fn linked_part<'a>(
     alloc: Global,
+    given: &[Place],
     number: u32,
     placed: &'a PlacedPart,
     code: &'a [u8],
 ) -> Result<SandboxPart<'a>, AllocError>
     requires few { number < sandboxes_most }
     requires right { IsPlacedPart placed.now }
-    requires code { IsLinkedCode number placed.now code.now }
+    requires code { IsLinkedCode given.now number placed.now code.now }
+    requires lies { IsRightPlace placed.now (length code.now) (place_of given.now number) }
     ensures { IfOk result
-        (λ part. IsLinked number placed.entry.now (view placed.entry.now.format part)) }
+        (λ part. IsLinked given.now number placed.entry.now
+        (view placed.entry.now.format part)) }
 {
-    let at = bases_of(number, placed);
+    let at = bases_of(given, number, placed);
     let gates = gates_from(alloc, at.code, placed.gates())?;
     Ok(SandboxPart {
         code_base: at.code,
@@ -67,15 +73,19 @@ fn linked_part<'a>(
 }
 
 // The code of each sandbox, or the first fault.
-fn codes_of(alloc: Global, placed: &[PlacedPart]) -> Result<Vec<Vec<u8>>, LinkFault>
+fn codes_of(
+    alloc: Global,
+    given: &[Place],
+    placed: &[PlacedPart],
+) -> Result<Vec<Vec<u8>>, LinkFault>
     requires right { All IsPlacedPart placed.now }
     requires few { length placed.now ≤ sandboxes_most }
-    ensures { Links (λ codes. AreCodesFrom 0 placed.now (contents codes.items))
-        (IsPartFault placed.now) result }
+    ensures { Links (λ codes. AreCodes given.now placed.now (contents codes.items))
+        (IsPartFault given.now placed.now) result }
 {
     let mut codes = Vec::new(alloc);
     for (number, part) in placed.iter().enumerate() {
-        let code = linked_code(alloc, number as u32, part)?;
+        let code = linked_code(alloc, given, &placed[..number], &codes, part)?;
         codes.push(code)?;
     }
     Ok(codes)
@@ -84,6 +94,7 @@ fn codes_of(alloc: Global, placed: &[PlacedPart]) -> Result<Vec<Vec<u8>>, LinkFa
 // Each sandbox, all of this format, with its code.
 fn linked_parts<'a>(
     alloc: Global,
+    given: &[Place],
     format: Format,
     placed: &'a [PlacedPart],
     codes: &'a [Vec<u8>],
@@ -91,21 +102,22 @@ fn linked_parts<'a>(
     requires right { All IsPlacedPart placed.now }
     requires few { length placed.now ≤ sandboxes_most }
     requires format { AreOf format placed.now }
-    requires codes { AreCodesFrom 0 placed.now (contents codes.now) }
-    ensures { IfOk result (λ parts. AreLinkedFrom 0 placed.entry.now (views format parts.items)) }
+    requires codes { AreCodesFrom given.now 0 placed.now (contents codes.now) }
+    ensures { IfOk result (λ parts. AreLinkedFrom given.now 0 placed.entry.now
+        (views format parts.items)) }
 {
     let mut parts = Vec::new(alloc);
     for (number, part) in placed.iter().enumerate() {
-        let linked = linked_part(alloc, number as u32, part, &codes[number])?;
+        let linked = linked_part(alloc, given, number as u32, part, &codes[number])?;
         parts.push(linked)?;
     }
     Ok(parts)
 }
 
 // The image of what is placed, or its fault.
-fn image_of(alloc: Global, placed: &Placed) -> Result<Vec<u8>, LinkFault>
-    ensures links { Links (λ bytes. IsLinkedImage placed.now bytes.items)
-        (IsLinkFault placed.now) result }
+fn image_of(alloc: Global, placed: &Placed, places: &[Place]) -> Result<Vec<u8>, LinkFault>
+    ensures links { Links (λ bytes. IsLinkedImage places.now placed.now bytes.items)
+        (IsLinkFault places.now placed.now) result }
     ensures too_many { sandboxes_most < length placed.now → result ≡ Err TooManySandboxes }
 {
     // The laws that the contract rests on: these calls do nothing.
@@ -117,8 +129,13 @@ fn image_of(alloc: Global, placed: &Placed) -> Result<Vec<u8>, LinkFault>
     if placed.len() > SANDBOX_COUNT_MOST {
         return Err(LinkFault::TooManySandboxes);
     }
-    let codes = codes_of(alloc, placed)?;
-    let parts = linked_parts(alloc, format, placed, &codes)?;
+    if places.len() > placed.len() {
+        return Err(LinkFault::Place {
+            sandbox: placed.len() as u32,
+        });
+    }
+    let codes = codes_of(alloc, places, placed)?;
+    let parts = linked_parts(alloc, places, format, placed, &codes)?;
     match write_image_as(alloc, format, &parts) {
         Ok(bytes) => Ok(bytes),
         Err(ImageFault::Memory) => Err(LinkFault::Memory),
@@ -127,26 +144,49 @@ fn image_of(alloc: Global, placed: &Placed) -> Result<Vec<u8>, LinkFault>
 }
 
 /// Gives the names their addresses, and writes the image: sandbox after sandbox its stubs,
-/// its code and c.ebreaks after it.
-pub fn link(alloc: Global, placed: &Placed) -> Result<Vec<u8>, LinkFault>
+/// its code and c.ebreaks after it. The sandboxes lie at the places, in order; those for which none
+/// is given lie at their usual ones.
+pub fn link_at(alloc: Global, placed: &Placed, places: &[Place]) -> Result<Vec<u8>, LinkFault>
     // What each answer means: the image has a right layout and breaks no rule.
-    ensures image { IfOk result (λ bytes. IsLinkedImage placed.now bytes.items) }
-    ensures fault { IfErr result (UnlessMemory (IsLinkFault placed.now)) }
+    ensures image { IfOk result (λ bytes. IsLinkedImage places.now placed.now bytes.items) }
+    ensures fault { IfErr result (UnlessMemory (IsLinkFault places.now placed.now)) }
 
     // What is placed gets it, want of memory aside.
     ensures only_image { (bytes : List ℕ)
-        → IsLinkedImage placed.now bytes → AnswersBytes bytes result }
-    ensures only_fault { (f : LinkFault) → IsLinkFault placed.now f → AnswersFault f result }
+        → IsLinkedImage places.now placed.now bytes → AnswersBytes bytes result }
+    ensures only_fault { (f : LinkFault)
+        → IsLinkFault places.now placed.now f → AnswersFault f result }
 
     // Of too many sandboxes, whatever memory there is.
     ensures too_many { sandboxes_most < length placed.now → result ≡ Err TooManySandboxes }
 
     // The image is the build of each source that is placed so.
-    ensures build { (source : List Sandbox)
-        → ArePlacements source placed.now → IfOk result (λ bytes. IsBuild source bytes.items) }
+    ensures build { (source : List Sandbox) → ArePlacements source placed.now
+        → IfOk result (λ bytes. IsBuild places.now source bytes.items) }
 {
     // The laws that the contract rests on: this call does nothing.
     one_linking();
 
-    image_of(alloc, placed)
+    image_of(alloc, placed, places)
+}
+
+/// The same as [`link_at`] with each sandbox at its usual place.
+pub fn link(alloc: Global, placed: &Placed) -> Result<Vec<u8>, LinkFault>
+    // What each answer means: the image has a right layout and breaks no rule.
+    ensures image { IfOk result (λ bytes. IsLinkedImage [] placed.now bytes.items) }
+    ensures fault { IfErr result (UnlessMemory (IsLinkFault [] placed.now)) }
+
+    // What is placed gets it, want of memory aside.
+    ensures only_image { (bytes : List ℕ)
+        → IsLinkedImage [] placed.now bytes → AnswersBytes bytes result }
+    ensures only_fault { (f : LinkFault) → IsLinkFault [] placed.now f → AnswersFault f result }
+
+    // Of too many sandboxes, whatever memory there is.
+    ensures too_many { sandboxes_most < length placed.now → result ≡ Err TooManySandboxes }
+
+    // The image is the build of each source that is placed so.
+    ensures build { (source : List Sandbox) → ArePlacements source placed.now
+        → IfOk result (λ bytes. IsBuild [] source bytes.items) }
+{
+    link_at(alloc, placed, &[])
 }

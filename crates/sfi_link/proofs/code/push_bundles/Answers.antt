@@ -8,7 +8,7 @@ push_slots-requires-clause-encodes c = rw c.slots.ensures (bundle_all Encodes c.
 
 pub push_slots-requires-clause-room : goal.push_slots-requires-clause-room
 push_slots-requires-clause-room c =
-    rw c.slots.ensures (bundle_room _ _ c.args.bundles.now c.loop-bundle.bundle-index _ c.bundle-item.result _ _ c.loop-bundle-test.true c.bundle-item.is c.loop-bundle.invariant c.requires.room)
+    rw c.slots.ensures (bundle_room _ _ c.args.bundles.now c.loop-bundle.bundle-index c.bundle-item.result _ _ c.loop-bundle-test.true c.bundle-item.is c.loop-bundle.invariant c.requires.room)
 
 pub returns-in_err-push_slots : goal.returns-in_err-push_slots
 returns-in_err-push_slots c =

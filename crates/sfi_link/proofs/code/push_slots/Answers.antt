@@ -3,7 +3,7 @@ use Rattle.sfi_link.proofs.Pushed.{slot_room, slot_written, slot_refused}
 use Rattle.sfi_link.proofs.code.push_slots.Goals as goal
 
 pub push_slot-requires-clause-room : goal.push_slot-requires-clause-room
-push_slot-requires-clause-room c = slot_room _ _ c.args.slots.now c.loop-slot.slot-index _ _ _ c.loop-slot.invariant c.requires.room
+push_slot-requires-clause-room c = slot_room _ _ c.args.slots.now c.loop-slot.slot-index _ _ c.loop-slot.invariant c.requires.room
 
 pub returns-in_err-push_slot : goal.returns-in_err-push_slot
 returns-in_err-push_slot c =

@@ -1,20 +1,42 @@
 use Rattle.std.proofs.Common.{◌≡◌, ◌++◌, ◌∙◌, length, inl, refl, sym, subst, ap, arith}
 use Rattle.std.specs.List.{repeat}
+use Rattle.std.proofs.lemmas.Bool.{OnTrue_at, OnFalse_at}
 use Rattle.std.proofs.lemmas.Result.{err_from_is_err_and}
 use Rattle.sfi_policy.specs.Pairs.{stub}
 use Rattle.sfi_link.specs.Linked.{HasRoom}
-use Rattle.sfi_link.proofs.Linking.{code_room, part_refused, written_within, linked_code}
+use Rattle.sfi_link.proofs.Parts.{start_fits}
+use Rattle.sfi_link.proofs.Linking.{near_of, code_room, parts_before, fault_after_codes, place_refused, slots_after, code_made, written_within, linked_code}
+use Rattle.sfi_link.specs.private.Near.{contents}
 use Rattle.sfi_link.proofs.code_region.linked_code.Goals as goal
 
 pub returns-in_default : goal.returns-in_default
-returns-in_default c = inl (λ size h. c.in_default.ensures.none size (subst (λ f. HasRoom f c.needed.result size) (sym c.format.ensures) (subst (λ n. HasRoom c.args.part.now.format n size) (sym c.needed.ensures) h)), refl)
+returns-in_default c =
+    let before = parts_before c.args.given.now c.args.earlier.now (contents c.args.codes.now) c.requires.codes in
+    fault_after_codes c.args.given.now c.args.earlier.now (contents c.args.codes.now) c.args.part.now _ before
+    (inl (λ size h. c.in_default.ensures.none size (subst (λ f. HasRoom f c.needed.result size) (sym c.format.ensures) (subst (λ n. HasRoom c.args.part.now.format n size) (sym c.needed.ensures) h)), refl))
+
+pub returns-then-not-branch : goal.returns-then-not-branch
+returns-then-not-branch c =
+    let sized = rw (c.needed.ensures, c.format.ensures) at c.in-Some.ensures.least in
+    place_refused c.args.given.now c.args.earlier.now (contents c.args.codes.now) c.args.part.now c.in-Some.size c.requires.codes sized (OnFalse_at c.if-not-branch.true c.in_ok-may_lie.ensures.wrong)
+
+pub bases_of-at-requires-clause-fits : goal.bases_of-at-requires-clause-fits
+bases_of-at-requires-clause-fits c =
+    let sized = rw (c.needed.ensures, c.format.ensures) at c.in-Some.ensures.least in
+    start_fits c.args.given.now (length c.args.earlier.now) c.args.part.now c.in-Some.size sized.has_room (OnTrue_at c.if-not-branch.false c.in_ok-may_lie.ensures.right)
+
+pub push_bundles-requires-clause-near : goal.push_bundles-requires-clause-near
+push_bundles-requires-clause-near c =
+    let sized = rw (c.needed.ensures, c.format.ensures) at c.in-Some.ensures.least in
+    rw (c.names.ensures, c.bases_of-at.ensures.is) (near_of c.args.given.now (length c.args.earlier.now) c.args.part.now c.in-Some.size c.requires.right sized.has_room (OnTrue_at c.if-not-branch.false c.in_ok-may_lie.ensures.right))
 
 pub push_bundles-requires-clause-room : goal.push_bundles-requires-clause-room
 push_bundles-requires-clause-room c =
     let p = c.args.part.now in
     let stubs : c.push_copies.new.code.items ≡ repeat (length p.gates) stub =
     c.in_ok-push_copies.ensures ∙ ap (λ l. l ++ repeat (length c.gates.result.now) stub) c.in_ok-code.ensures.items ∙ ap (λ gs. repeat (length gs) stub) c.gates.ensures in
-    rw c.bundles.ensures (code_room c.args.number p c.bases_of-at.result c.push_copies.new.code.items c.requires.few c.requires.right c.bases_of-at.ensures.is stubs)
+    let sized = rw (c.needed.ensures, c.format.ensures) at c.in-Some.ensures.least in
+    rw c.bundles.ensures (code_room c.args.given.now (length c.args.earlier.now) p c.bases_of-at.result c.in-Some.size c.push_copies.new.code.items sized.has_room (OnTrue_at c.if-not-branch.false c.in_ok-may_lie.ensures.right) c.bases_of-at.ensures.is stubs)
 
 pub returns-in_err-push_bundles : goal.returns-in_err-push_bundles
 returns-in_err-push_bundles c =
@@ -24,7 +46,8 @@ returns-in_err-push_bundles c =
     let e = err_from_is_err_and c.from_residual-in_err-push_bundles.result c.from_residual-in_err-push_bundles.ensures.1 in
     let sized = rw (c.needed.ensures, c.format.ensures) at c.in-Some.ensures.least in
     let h = rw (c.names.ensures, c.bundles.ensures) at c.in_err-push_bundles.ensures in
-    rw (e.1, e.2) (part_refused c.args.number p c.bases_of-at.result c.in-Some.size c.push_copies.new.code.items c.in_err-push_bundles.field-0.0 c.bases_of-at.ensures.is sized stubs h)
+    rw (e.1, e.2) (slots_after c.args.given.now c.args.earlier.now (contents c.args.codes.now) p c.bases_of-at.result c.in-Some.size c.push_copies.new.code.items c.in_err-push_bundles.field-0.0 c.requires.codes c.bases_of-at.ensures.is sized
+    (OnTrue_at c.if-not-branch.false c.in_ok-may_lie.ensures.right) (OnTrue_at c.if-not-branch.false c.in_ok-may_lie.ensures.apart) stubs h)
 
 pub overflow_sub-fill : goal.overflow_sub-fill
 overflow_sub-fill c =
@@ -45,5 +68,6 @@ returns c =
     let w = rw (c.names.ensures, c.bundles.ensures) at c.in_ok-push_bundles.ensures in
     let sized = rw (c.needed.ensures, c.format.ensures) at c.in-Some.ensures.least in
     let l = c.len.ensures in
-    linked_code c.args.number p c.bases_of-at.result c.in-Some.size _ c.push_copies.new.code.items c.push_bundles.new.code.items c.push_copies-2.new.code.items c.bases_of-at.ensures.is sized stubs w
-    (omega arith) c.in_ok-push_copies-2.ensures
+    let made = linked_code c.args.given.now (length c.args.earlier.now) p c.bases_of-at.result c.in-Some.size _ c.push_copies.new.code.items c.push_bundles.new.code.items c.push_copies-2.new.code.items c.bases_of-at.ensures.is sized stubs w
+    (omega arith) c.in_ok-push_copies-2.ensures in
+    code_made c.args.given.now c.args.earlier.now (contents c.args.codes.now) p _ c.in-Some.size c.requires.codes sized made (OnTrue_at c.if-not-branch.false c.in_ok-may_lie.ensures.right) (OnTrue_at c.if-not-branch.false c.in_ok-may_lie.ensures.apart)

@@ -3,7 +3,7 @@ use Rattle.sfi_link.proofs.OneLinking.{one_linking, one_fault, never_both}
 use Rattle.sfi_link.proofs.laws.one_linking.Goals as goal
 
 pub returns-clause-parts : goal.returns-clause-parts
-returns-clause-parts c = one_linking 0
+returns-clause-parts c = λ given placed parts others a b. one_linking given 0 placed parts others a.each b.each
 
 pub returns-clause-images : goal.returns-clause-images
 returns-clause-images c = one_bytes

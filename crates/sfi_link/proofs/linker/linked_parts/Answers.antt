@@ -11,7 +11,7 @@ use Rattle.sfi_link.proofs.linker.linked_parts.Goals as goal
 
 pub bounds-codes-number : goal.bounds-codes-number
 bounds-codes-number c =
-    let a = codes_length 0 c.args.placed.now (contents c.args.codes.now) c.requires.codes in
+    let a = codes_length c.args.given.now 0 c.args.placed.now (contents c.args.codes.now) c.requires.codes in
     let b = length-map c.args.codes.now (λ code. code.items) in
     let d = c.loop-number-test.true in
     omega arith
@@ -22,7 +22,15 @@ linked_part-requires-clause-code c =
     let code = c.index-codes-number.result in
     let there : code.items ≡ get_or (contents c.args.codes.now) k code.items = ap (λ v. v.items) c.index-codes-number.is ∙ sym (get_or-map (λ v. v.items) c.args.codes.now k code) in
     rw c.deref.ensures.value
-    (code_at 0 k k c.args.placed.now (contents c.args.codes.now) c.index-placed-number.result code.items (omega arith) c.loop-number-test.true c.index-placed-number.is there c.requires.codes)
+    (code_at c.args.given.now 0 k k c.args.placed.now (contents c.args.codes.now) c.index-placed-number.result code.items (omega arith) c.loop-number-test.true c.index-placed-number.is there c.requires.codes).0
+
+pub linked_part-requires-clause-lies : goal.linked_part-requires-clause-lies
+linked_part-requires-clause-lies c =
+    let k = c.loop-number.number in
+    let code = c.index-codes-number.result in
+    let there : code.items ≡ get_or (contents c.args.codes.now) k code.items = ap (λ v. v.items) c.index-codes-number.is ∙ sym (get_or-map (λ v. v.items) c.args.codes.now k code) in
+    rw c.deref.ensures.value
+    (code_at c.args.given.now 0 k k c.args.placed.now (contents c.args.codes.now) c.index-placed-number.result code.items (omega arith) c.loop-number-test.true c.index-placed-number.is there c.requires.codes).1
 
 pub loop-number-preserved : goal.loop-number-preserved
 loop-number-preserved c =
@@ -37,5 +45,5 @@ loop-number-preserved c =
     let one_format : p.format ≡ f = ap (λ v. v.format) c.index-placed-number.is ∙ c.requires.format k p lt in
     let placed = take_one_more ps k p lt c.index-placed-number.is in
     let parts : views f c.push.new.self.items ≡ qs ++ q ∷ [] = ap (views f) c.in_ok-push.ensures.items ∙ map_push (view f) c.loop-number.parts.items c.in_ok-linked.linked in
-    let step : AreLinkedFrom 0 (take k ps ++ p ∷ []) (qs ++ q ∷ []) = linked_push 0 k (take k ps) qs p q (omega arith) c.loop-number.invariant (subst (λ (g : Format). IsLinked k p (view g c.in_ok-linked.linked)) one_format c.in_ok-linked.ensures) in
-    subst (λ (l : List Placement). AreLinkedFrom 0 l (views f c.push.new.self.items)) (sym placed) (subst (λ (l : List Part). AreLinkedFrom 0 (take k ps ++ p ∷ []) l) (sym parts) step)
+    let step : AreLinkedFrom c.args.given.now 0 (take k ps ++ p ∷ []) (qs ++ q ∷ []) = linked_push c.args.given.now 0 k (take k ps) qs p q (omega arith) c.loop-number.invariant (subst (λ (g : Format). IsLinked c.args.given.now k p (view g c.in_ok-linked.linked)) one_format c.in_ok-linked.ensures) in
+    subst (λ (l : List Placement). AreLinkedFrom c.args.given.now 0 l (views f c.push.new.self.items)) (sym placed) (subst (λ (l : List Part). AreLinkedFrom c.args.given.now 0 (take k ps ++ p ∷ []) l) (sym parts) step)
