@@ -1,20 +1,5 @@
-/* The serial line, and the lines of `sfi run` on it. */
+/* The lines of `sfi run` on the serial line, and those of a loader that goes no further. */
 #include "host.h"
-#include "machine.h"
-
-static volatile uint8_t *uart = (volatile uint8_t *)UART_DEVICE;
-static volatile uint32_t *finisher = (volatile uint32_t *)FINISHER_DEVICE;
-
-void console_is_paged(void) {
-    uart = (volatile uint8_t *)UART;
-    finisher = (volatile uint32_t *)FINISHER;
-}
-
-static void send(char byte) {
-    while (!(uart[UART_STATUS] & UART_IS_EMPTY)) {
-    }
-    uart[UART_TRANSMIT] = byte;
-}
 
 void print(const char *text) {
     while (*text)
@@ -32,17 +17,12 @@ void print_decimal(uint64_t number) {
     send('0' + number % 10);
 }
 
-_Noreturn static void end(uint32_t how) {
-    for (;;)
-        *finisher = how;
-}
-
 void finish(void) {
-    end(FINISH_PASSED);
+    end(0);
 }
 
 void fail(uint32_t status) {
-    end(status << 16 | FINISH_FAILED);
+    end(status);
 }
 
 static const char *const refusal = "device: ";

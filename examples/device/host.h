@@ -8,13 +8,16 @@
 
 /* docs/IMAGE.md and docs/GATES.md */
 enum {
-    SANDBOXES_MOST = 16,
     GATES_MOST = 64,
     GUARD_ZONE = 4096,
     CALL_BYTES_MOST = 65536,
-    OUTPUT_MOST = 1048576,
     MAILBOX_WORDS = 16
 };
+#ifdef MICROCONTROLLER  /* it has 16 KiB of memory */
+enum { SANDBOXES_MOST = 2, OUTPUT_MOST = 256 };
+#else
+enum { SANDBOXES_MOST = 16, OUTPUT_MOST = 1048576 };
+#endif
 
 /* What run.sh asks for. A tick of `time` has 100 ns on this machine. */
 struct arguments {
@@ -97,8 +100,14 @@ void stop_by_trap(struct sandbox *sandbox, uint32_t cause);
 uint32_t enter(struct frame *frame);
 extern const uint32_t switch_instructions;      /* how many of its own lie between the two counts */
 
-/* console.c */
+/* serial.c, of each machine */
+void send(char byte);
+_Noreturn void end(uint32_t status);            /* of the run */
+
+/* serial.c of `virt` */
 void console_is_paged(void);
+
+/* console.c */
 void print(const char *text);
 void print_hex(uint32_t number, unsigned digits);
 void print_decimal(uint64_t number);

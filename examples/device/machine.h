@@ -35,13 +35,16 @@
 #define CAUSE_STORE_MISALIGNED  6
 #define CAUSE_STORE_ACCESS      7
 #define CAUSE_ECALL_FROM_S      9
+#define CAUSE_ECALL_FROM_M      11
 #define CAUSE_FETCH_PAGE        12
 #define CAUSE_LOAD_PAGE         13
 #define CAUSE_STORE_PAGE        15
 #define CAUSE_TIMER             (1u << 31 | 5)
 
 /* ---- Machine-Level ISA: mstatus, and the upper half of menvcfg, whose STCE turns on stimecmp */
+#define MSTATUS_MPIE            (1 << 7)        /* interrupts are on after mret */
 #define MSTATUS_MPP_SUPERVISOR  (1 << 11)       /* mret goes to S-mode */
+#define MSTATUS_MPP_MACHINE     (3 << 11)       /* mret stays in M-mode */
 #define MENVCFGH                0x31a
 #define MENVCFGH_STCE           (1 << 31)
 
@@ -70,7 +73,26 @@
 #define PMP_R                   1
 #define PMP_W                   2
 #define PMP_X                   4
+#define PMP_TOR                 (1 << 3)        /* from the entry before to this one */
 #define PMP_NAPOT               (3 << 3)        /* a power of two of addresses, aligned to it */
+#define PMP_LOCKED              (1 << 7)        /* holds in M-mode too, until the next reset */
+
+/* ---- The mode that host and sandboxes share, for switch.S: M-mode on a microcontroller */
+#ifdef MICROCONTROLLER
+#define SCRATCH                 mscratch
+#define EXCEPTION_PC            mepc
+#define CAUSE                   mcause
+#define STATUS                  mstatus
+#define STATUS_AT_ENTRY         (MSTATUS_MPP_MACHINE | MSTATUS_MPIE)
+#define RETURN                  mret
+#else
+#define SCRATCH                 sscratch
+#define EXCEPTION_PC            sepc
+#define CAUSE                   scause
+#define STATUS                  sstatus
+#define STATUS_AT_ENTRY         (SSTATUS_SPP | SSTATUS_SPIE)
+#define RETURN                  sret
+#endif
 
 /* ---- struct frame of host.h: offsets for switch.S */
 #define FRAME_PC                128

@@ -1,5 +1,5 @@
 # The way into a sandbox and back. A sandbox may leave anything in its registers, so the host finds
-# its own by sscratch, which no accepted code can write: it holds the frame while a sandbox runs,
+# its own by SCRATCH, which no accepted code can write: it holds the frame while a sandbox runs,
 # and 0 while the host does.
 #include "machine.h"
 
@@ -23,39 +23,39 @@
 enter:  addi    sp, sp, -64
         each_kept sw
         sw      sp, FRAME_HOST_STACK(a0)
-        csrw    sscratch, a0
+        csrw    SCRATCH, a0
         lw      t0, FRAME_PC(a0)
-        csrw    sepc, t0
-        li      t0, SSTATUS_SPP | SSTATUS_SPIE
-        csrs    sstatus, t0
+        csrw    EXCEPTION_PC, t0
+        li      t0, STATUS_AT_ENTRY
+        csrs    STATUS, t0
 count_before:
         csrr    t0, instret
         sw      t0, FRAME_BEFORE(a0)
         each_register lw
         lw      a0, 4*10(a0)
-        sret
+        RETURN
 enter_end:
 
         .balign 4
 trapped:
-        csrrw   a0, sscratch, a0
+        csrrw   a0, SCRATCH, a0
         beqz    a0, fault_of_host
         each_register sw
 count_after:
         csrr    t0, instret
         sw      t0, FRAME_AFTER(a0)
-        csrrw   t0, sscratch, zero      # the sandbox's a0
+        csrrw   t0, SCRATCH, zero      # the sandbox's a0
         sw      t0, 4*10(a0)
-        csrr    t0, sepc
+        csrr    t0, EXCEPTION_PC
         sw      t0, FRAME_PC(a0)
         lw      sp, FRAME_HOST_STACK(a0)
         each_kept lw
         addi    sp, sp, 64
-        csrr    a0, scause
+        csrr    a0, CAUSE
         ret
 fault_of_host:
-        csrr    a0, scause
-        csrr    a1, sepc
+        csrr    a0, CAUSE
+        csrr    a1, EXCEPTION_PC
         la      sp, stack_top
         j       host_fault
 

@@ -1,6 +1,8 @@
 -- From what the command-line crate ensures to what the words ask for.
 use Rattle.std.proofs.Common.{◌≡◌, ◌≢◌, ◌⊎◌, ◌<◌, ◌≤◌, ◌^◌, ◌∙◌, ℕ, ap, refl, sym, true, Option, Some, None, List, [], subst, IfOk, Result, Ok, Err, inl, inr, arith, slice_index}
-use Rattle.std.specs.Prelude.{option_map, IfErr, IsErr, IsTrue, ◌↔◌, Bool, false, codes}
+use Rattle.std.specs.Prelude.{option_map, unwrap_or, find, IfErr, IsErr, IsTrue, ◌↔◌, Bool, false, codes, Vec}
+use Rattle.std.specs.Option.{option_map_or}
+use Rattle.std.specs.declared.alloc.Global.{Global}
 use Rattle.std.specs.Str.Parse.{IsNumeral, digits_value, without_leading_plus}
 use Rattle.hex.specs.Hex.{decode_of}
 use Rattle.hex.specs.declared.error.FromHexError.{FromHexError}
@@ -12,16 +14,18 @@ use Rattle.clap.specs.declared.error.kind.ErrorKind.TheVariants as kind
 use Rattle.std.specs.Str.{bytes_eq}
 use Rattle.std.proofs.lemmas.Slice.Eq.{bytes_eq-Decides}
 use Rattle.clap.specs.declared.parser.matches.Found.{Found}
-use Rattle.clap.proofs.WalkLemmas.{first_value-rows}
+use Rattle.clap.proofs.WalkLemmas.{find_row, first_value-rows}
 use Rattle.std.proofs.lemmas.Result.{IfOk-weaker, IfErr-weaker}
-use Rattle.clap.specs.Walk.{Row, Text, first_of, rows_of}
+use Rattle.clap.specs.Facts.{Entry}
+use Rattle.clap.specs.Walk.{Row, Text, first_of, row_of, rows_of}
 use Rattle.clap.specs.Faults.{fault_of, is_simple_and_free}
-use Rattle.clap.specs.Matches.{first_value, subcommand_name_of}
+use Rattle.clap.specs.Matches.{first_value, matched_of, raw_values, subcommand_name_of}
+use Rattle.clap.specs.declared.parser.matches.MatchedArg.{MatchedArg}
 use Rattle.clap.specs.Simple.{App, is_simple, subcommand_of, subcommand_rows, HasMatchesOf}
 use Rattle.clap.specs.declared.parser.matches.ArgMatches.{ArgMatches}
 use Rattle.clap.specs.declared.parser.matches.ArgMatches.TheViews.{out-ArgMatches}
 use Rattle.clap.proofs.OnLiterals.{clap_on_literals}
-use Rattle.sfi_command.specs.Command.{sfi, quantum_most, rounds_most, Names, NamesNoInput, Asks, IsCount, IsFaultOf, IsInputOf, IsNoInput}
+use Rattle.sfi_command.specs.Command.{sfi, quantum_most, rounds_most, texts_of, Names, NamesNoInput, Asks, IsCount, IsFaultOf, IsInputOf, IsNoInput}
 use Rattle.sfi_command.specs.private.Command.{NamesNothing, IsFaultOfNamed, IsInputFault}
 use Rattle.sfi_command.specs.Numbers.{number_of}
 use Rattle.sfi_command.specs.declared.job.Job.{Job}
@@ -184,9 +188,35 @@ input_fault f id v w error fault e same kinds refused other =
     go Hex refused other = spells_none (refused refl)
     go Memory refused other = tt
 
--- a name that begins with r is no other command's
-not_run : (t : Text) (first : ℕ) → codes "run" ≡ t → slice_index t 0 ≡ first → first ≢ 114 → ⊥
-not_run t first e is differs = differs (sym is ∙ ap (λ (u : Text). slice_index u 0) (sym e))
+-- names of commands that begin otherwise are others
+other_name : (s t : Text) (a b : ℕ) → s ≡ t → slice_index s 0 ≡ a → slice_index t 0 ≡ b → a ≢ b → ⊥
+other_name s t a b e first second differs = differs (sym first ∙ ap (λ (u : Text). slice_index u 0) e ∙ second)
+
+-- a subcommand names its own job alone
+only_run : (rows : List Row)
+    → ((rounds quantum : ℕ) (input : Vec ℕ Global) (report : Bool) → ¬ Names (Some (codes "run", rows)) (Run rounds quantum input report))
+    → (job : Job) → ¬ Names (Some (codes "run", rows)) job
+only_run rows none (Check raw report) names = other_name _ _ 114 99 names.0 refl refl (λ e. absurd (omega (arith, e)))
+only_run rows none Dis names = other_name _ _ 114 100 names refl refl (λ e. absurd (omega (arith, e)))
+only_run rows none (Build places) names = other_name _ _ 114 98 names.0 refl refl (λ e. absurd (omega (arith, e)))
+only_run rows none (Run rounds quantum input report) names = none rounds quantum input report names
+only_run rows none Convert names = other_name _ _ 114 99 names refl refl (λ e. absurd (omega (arith, e)))
+
+-- the texts of an option that was given, and of one that wasn't
+option_texts : (o : Option Entry) → unwrap_or (option_map (λ (a : MatchedArg). raw_values a) (option_map (λ (e : Entry). e.1) o)) [] ≡ option_map_or (λ (r : Row). r.values) (option_map row_of o) []
+option_texts None = refl
+option_texts (Some e) = refl
+
+pub texts-rows : (f : Found) (id : Text) → unwrap_or (option_map raw_values (matched_of f id)) [] ≡ texts_of id (rows_of f)
+texts-rows f id =
+    option_texts (find (λ (e : Entry). bytes_eq e.0.now id) f.entries.items)
+    ∙ ap (λ (o : Option Row). option_map_or (λ (r : Row). r.values) o []) (sym (find_row f.entries.items id))
+
+pub texts_are : (f : Found) (id : Text) (texts : List Text) → Some texts ≡ option_map raw_values (matched_of f id) → texts ≡ texts_of id (rows_of f)
+texts_are f id texts e = ap (λ (o : Option (List Text)). unwrap_or o []) e ∙ texts-rows f id
+
+pub no_texts : (f : Found) (id : Text) → None ≡ option_map raw_values (matched_of f id) → [] ≡ texts_of id (rows_of f)
+no_texts f id e = ap (λ (o : Option (List Text)). unwrap_or o []) e ∙ texts-rows f id
 
 -- an input that spells bytes is no other
 not_no_input : (text : Option Text) (bytes : List ℕ) → IsInputOf text bytes → ¬ IsNoInput text
@@ -196,25 +226,17 @@ not_no_input (Some text) bytes spells none = absurd (cc)
 -- a run with an input, but without rounds or without a quantum, names nothing
 pub no_rounds : (rows : List Row) (bytes : List ℕ) → IsInputOf (first_of (codes "input") rows) bytes
     → ((n : ℕ) → ¬ IsCount (codes "rounds") rounds_most rows n) → NamesNothing (Some (codes "run", rows))
-no_rounds rows bytes spells none = record { no_job = no_job; no_run = λ names. not_no_input (first_of (codes "input") rows) bytes spells names.1 }
-  where
-    no_job : (job : Job) → ¬ Names (Some (codes "run", rows)) job
-    no_job (Check raw report) names = not_run _ 99 names.0 refl (λ e. absurd (omega (arith, e)))
-    no_job Dis names = not_run _ 100 names refl (λ e. absurd (omega (arith, e)))
-    no_job Build names = not_run _ 98 names refl (λ e. absurd (omega (arith, e)))
-    no_job (Run rounds quantum input report) names = none rounds names.1
-    no_job Convert names = not_run _ 99 names refl (λ e. absurd (omega (arith, e)))
+no_rounds rows bytes spells none = record {
+  no_job = only_run rows (λ rounds quantum input report names. none rounds names.1);
+  no_run = λ names. not_no_input (first_of (codes "input") rows) bytes spells names.1;
+}
 
 pub no_quantum : (rows : List Row) (bytes : List ℕ) → IsInputOf (first_of (codes "input") rows) bytes
     → ((n : ℕ) → ¬ IsCount (codes "quantum") quantum_most rows n) → NamesNothing (Some (codes "run", rows))
-no_quantum rows bytes spells none = record { no_job = no_job; no_run = λ names. not_no_input (first_of (codes "input") rows) bytes spells names.1 }
-  where
-    no_job : (job : Job) → ¬ Names (Some (codes "run", rows)) job
-    no_job (Check raw report) names = not_run _ 99 names.0 refl (λ e. absurd (omega (arith, e)))
-    no_job Dis names = not_run _ 100 names refl (λ e. absurd (omega (arith, e)))
-    no_job Build names = not_run _ 98 names refl (λ e. absurd (omega (arith, e)))
-    no_job (Run rounds quantum input report) names = none quantum names.2
-    no_job Convert names = not_run _ 99 names refl (λ e. absurd (omega (arith, e)))
+no_quantum rows bytes spells none = record {
+  no_job = only_run rows (λ rounds quantum input report names. none quantum names.2);
+  no_run = λ names. not_no_input (first_of (codes "input") rows) bytes spells names.1;
+}
 
 -- ---- words that don't parse
 

@@ -1,16 +1,19 @@
 -- The command line of `sfi`, and the job that its words ask for.
-use Rattle.std.specs.Prelude.{◌≡◌, ◌↔◌, ◌≤◌, IsTrue, IsErr, ℕ, pos, Ok, List, [], ◌∷◌, Bool, Option, Some, None, codes, true}
+use Rattle.std.specs.Prelude.{◌≡◌, ◌↔◌, ◌≤◌, IsTrue, IsErr, ℕ, pos, Ok, List, [], ◌∷◌, Bool, Option, Some, None, codes, find, true}
+use Rattle.std.specs.Option.{option_map_or}
+use Rattle.std.specs.Str.{bytes_eq}
 use Rattle.std.specs.Str.Parse.{IsNumeral, digits_value, without_leading_plus}
 use Rattle.hex.specs.Hex.{decode_of}
 use Rattle.clap.specs.Faults.{fault_of}
 use Rattle.clap.specs.Simple.{App, Shape, new_app, new_rule, new_shape, on_top, subcommand_of, with_subcommand}
 use Rattle.clap.specs.Walk.{Row, Rule, Text, first_of}
-use Rattle.clap.specs.declared.builder.action.ArgAction.TheVariants.{SetTrue}
+use Rattle.clap.specs.declared.builder.action.ArgAction.TheVariants.{Append, SetTrue}
 use Rattle.clap.specs.declared.builder.value_parser.ValueParser.TheVariants.{Signed}
 use Rattle.sfi_command.specs.declared.job.Job.{Job}
 use Rattle.sfi_command.specs.declared.job.Job.TheVariants.{Check, Dis, Build, Run, Convert}
 use Rattle.sfi_command.specs.declared.job.JobFault.{JobFault}
 use Rattle.sfi_command.specs.declared.job.JobFault.TheVariants.{Usage, Hex, Memory}
+use Rattle.sfi_command.specs.Places.{SpellPlaces}
 
 -- ---- the command line
 
@@ -40,13 +43,17 @@ check = record (new_shape
 abbrev pub dis : Shape
 dis = new_shape (codes "dis")
 
--- `build`, without options
-abbrev pub build : Shape
-build = new_shape (codes "build")
-
 -- an option that takes a value, which its help names
 abbrev pub value_rule : Text → Rule
 value_rule name = record (new_rule name) { long = Some name; value_names = 1 }
+
+-- the option `--at`, which takes a text and may be given again and again
+abbrev pub places_rule : Rule
+places_rule = record (value_rule (codes "at")) { action = Some Append }
+
+-- `build [--at CODE:DATA]..`
+abbrev pub build : Shape
+build = record (new_shape (codes "build")) { rules = places_rule ∷ [] }
 
 -- an option that takes a number from 1 to the most, with its default
 abbrev pub count_rule : Text → Text → ℕ → Rule
@@ -73,14 +80,18 @@ convert = new_shape (codes "convert")
 abbrev pub sfi : App
 sfi =
     with_subcommand
-    (with_subcommand (with_subcommand (with_subcommand (with_subcommand program check) dis) build) run)
-    convert
+    (with_subcommand (with_subcommand (with_subcommand (with_subcommand program check) dis) build)
+    run) convert
 
 -- ---- jobs
 
 -- whether the option was given, which takes no value
 abbrev pub IsGiven : List ℕ → List Row → Bool → Type 0
 IsGiven option found given = IsTrue given ↔ (first_of option found ≡ Some (codes "true"))
+
+-- the texts that the uses of an option give, in their order
+abbrev pub texts_of : List ℕ → List Row → List Text
+texts_of option found = option_map_or (λ r. r.values) (find (λ r. bytes_eq r.id option) found) []
 
 -- the option's text is this decimal number, from 1 to the most
 pub record IsCount (option : List ℕ) (most : ℕ) (found : List Row) (n : ℕ) : Type 0 where
@@ -101,15 +112,16 @@ abbrev pub IsNoInput : Option Text → Type 0
 IsNoInput None = ⊥
 IsNoInput (Some text) = IsErr (decode_of text)
 
--- the subcommand, with what was found for its options, asks for the job;
--- a check of an image's own bytes has no report
+-- the subcommand, with what was found for its options, asks for the job; a build has the
+-- places that its uses of `--at` spell, and a check of an image's own bytes has no report
 abbrev pub Names : Option (Text × List Row) → Job → Type 0
 Names None job = ⊥
 Names (Some p) (Check raw report) =
     (p.0 ≡ codes "check") × IsGiven (codes "raw") p.1 raw × IsGiven (codes "report") p.1 report
     × ¬ ((raw ≡ true) × (report ≡ true))
 Names (Some p) Dis = p.0 ≡ codes "dis"
-Names (Some p) Build = p.0 ≡ codes "build"
+Names (Some p) (Build places) =
+    (p.0 ≡ codes "build") × SpellPlaces (texts_of (codes "at") p.1) places.items
 Names (Some p) (Run rounds quantum input report) =
     (p.0 ≡ codes "run") × IsCount (codes "rounds") rounds_most p.1 rounds
     × IsCount (codes "quantum") quantum_most p.1 quantum

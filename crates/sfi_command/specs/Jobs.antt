@@ -7,6 +7,6 @@ use Rattle.sfi_command.specs.declared.job.Job.TheVariants.{Check, Dis, Build, Ru
 abbrev pub is_raw : Job → Bool
 is_raw (Check raw report) = raw
 is_raw Dis = false
-is_raw Build = false
+is_raw (Build places) = false
 is_raw (Run rounds quantum given report) = false
 is_raw Convert = false

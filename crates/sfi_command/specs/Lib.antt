@@ -1,4 +1,5 @@
 pub mod Numbers
 pub mod Jobs
+pub mod Places
 pub mod Command
 pub mod private

@@ -6,15 +6,19 @@ ghost use Rattle.clap.specs.Simple.{app_of, new_app};
 ghost use Rattle.clap.specs.Values.{kind_of};
 ghost use Rattle.clap.specs.Walk.{first_of, rows_of, rule_of};
 ghost use Rattle.clap.specs.declared.builder.command.Command.TheViews.{out-Command};
-ghost use Rattle.sfi_command.specs.Command.{check, count_rule, flag_rule, input_rule, program, quantum_most, rounds_most, run, sfi, Asks, IsFaultOf, IsCount, IsGiven, IsInputOf, Names};
+ghost use Rattle.sfi_command.specs.Command.{build, check, count_rule, flag_rule, input_rule, places_rule, program, quantum_most, rounds_most, run, sfi, texts_of, Asks, IsFaultOf, IsCount, IsGiven, IsInputOf, Names};
+ghost use Rattle.sfi_command.specs.Places.{SpellPlaces};
 ghost use Rattle.sfi_command.specs.private.Command.{IsCommandOf, IsFaultOfNamed, IsInputFault};
+ghost use Rattle.sfi_command.specs.private.Places.{ArePlacesFault};
 ghost use Rattle.sfi_command.specs.Numbers.{number_of};
 
 use crate::help;
-use crate::job::{Job, JobFault};
+use crate::job::{Job, JobFault, usage_fault};
+use crate::places::parse_places;
 use clap::error::ErrorKind;
 use clap::{Arg, ArgAction, ArgMatches, Command, Error, value_parser};
 use hex::FromHexError;
+use sfi_place::Place;
 use std::alloc::{AllocError, Global};
 
 const ROUNDS_MOST: u32 = 10000;
@@ -51,6 +55,26 @@ fn check_command<'a>(alloc: Global) -> Result<Command<'a>, AllocError>
     let report = flag(alloc, "report", help::CHECK_REPORT);
     let check = command_named(alloc, "check", help::CHECK, help::CHECK_NOTES);
     check.arg(raw)?.arg(report)
+}
+
+/// `--at CODE:DATA`, which may be given again and again.
+fn places_arg<'a>(alloc: Global) -> Arg<'a>
+    ensures rule { rule_of result ≡ places_rule }
+    ensures local { result.global ≡ false }
+{
+    Arg::new(alloc, "at")
+        .long("at")
+        .action(ArgAction::Append)
+        .value_name("CODE:DATA")
+        .help(help::PLACES)
+}
+
+/// `build [--at CODE:DATA]..`.
+fn build_command<'a>(alloc: Global) -> Result<Command<'a>, AllocError>
+    ensures { IfOk result (IsCommandOf build) }
+{
+    let build = command_named(alloc, "build", help::BUILD, help::BUILD_NOTES);
+    build.arg(places_arg(alloc))
 }
 
 /// `--rounds N`.
@@ -117,11 +141,10 @@ fn command<'a>(alloc: Global) -> Result<Command<'a>, AllocError>
 {
     let program = program_command(alloc);
     let dis = command_named(alloc, "dis", help::DIS, help::DIS_NOTES);
-    let build = command_named(alloc, "build", help::BUILD, help::BUILD_NOTES);
     let convert = command_named(alloc, "convert", help::CONVERT, help::CONVERT_NOTES);
     let program = program.subcommand(check_command(alloc)?)?;
     let program = program.subcommand(dis)?;
-    let program = program.subcommand(build)?;
+    let program = program.subcommand(build_command(alloc)?)?;
     let program = program.subcommand(run_command(alloc)?)?;
     program.subcommand(convert)
 }
@@ -135,16 +158,6 @@ fn usage(alloc: Global, error: Error) -> JobFault
         return JobFault::Memory;
     }
     match error.to_string(alloc) {
-        Ok(text) => JobFault::Usage(text),
-        Err(_) => JobFault::Memory,
-    }
-}
-
-/// The fault of words that parse and name no job, with the text to print.
-fn usage_fault(alloc: Global, text: &str) -> JobFault
-    ensures { number_of result ≢ 2 }
-{
-    match String::from_str(alloc, text) {
         Ok(text) => JobFault::Usage(text),
         Err(_) => JobFault::Memory,
     }
@@ -209,6 +222,29 @@ fn input_of(alloc: Global, found: &ArgMatches<'_>) -> Result<Vec<u8>, JobFault>
     }
 }
 
+/// The places that the uses of `--at` spell, in their order.
+fn places_of(alloc: Global, found: &ArgMatches<'_>) -> Result<Vec<Place>, JobFault>
+    ensures places { IfOk result (λ places.
+        SpellPlaces (texts_of (codes "at") (rows_of (found_of found.now))) places.items) }
+    ensures fault { IfErr result
+        (ArePlacesFault (texts_of (codes "at") (rows_of (found_of found.now)))) }
+{
+    match found.get_strs("at") {
+        Some(texts) => parse_places(alloc, texts),
+        None => Ok(Vec::new(alloc)),
+    }
+}
+
+/// The build that these options ask for.
+fn build_of(alloc: Global, found: &ArgMatches<'_>) -> Result<Job, JobFault>
+    ensures job { IfOk result (Names (Some (codes "build", rows_of (found_of found.now)))) }
+    ensures fault { IfErr result
+        (IsFaultOfNamed (Some (codes "build", rows_of (found_of found.now)))) }
+{
+    let places = places_of(alloc, found)?;
+    Ok(Job::Build { places })
+}
+
 /// The run that these options ask for.
 fn run_of(alloc: Global, found: &ArgMatches<'_>) -> Result<Job, JobFault>
     ensures job { IfOk result (Names (Some (codes "run", rows_of (found_of found.now)))) }
@@ -258,7 +294,7 @@ fn job_named(alloc: Global, name: &str, found: &ArgMatches<'_>) -> Result<Job, J
         return Ok(Job::Dis);
     }
     if name == "build" {
-        return Ok(Job::Build);
+        return build_of(alloc, found);
     }
     if name == "run" {
         return run_of(alloc, found);

@@ -66,17 +66,25 @@ Example:
 
 pub(crate) const BUILD: &str = "Make the image of a source text";
 
+pub(crate) const PLACES: &str =
+    "Where a sandbox's code and data begin, in hexadecimal; once for each sandbox, in order";
+
 pub(crate) const BUILD_NOTES: &str = "\
 Reads a source text, in UTF-8, and prints the image on one line of hexadecimal
 digits. `sfi check` accepts what is built.
 
+The first --at is the place of the first sandbox, and so on. A sandbox without
+one has its usual place: code at N times 01000000, data 00800000 above it, where
+N counts the sandboxes from 1.
+
 Exit status:
   0  built
-  2  the source has a fault, and the line says where
+  2  the source or a place has a fault, and the line says which
   3, 4, 5  as `sfi help` says
 
 Example:
-  sfi build < examples/hi.s > hi.hex";
+  sfi build < examples/hi.s > hi.hex
+  sfi build --at 20500000:80000000 < examples/hi.s > hi.hex";
 
 pub(crate) const RUN: &str = "Check an image and, if it is accepted, run its sandboxes by turns";
 

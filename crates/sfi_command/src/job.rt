@@ -1,11 +1,12 @@
 //! What the words of a command line ask for.
 
-ghost use Rattle.std.specs.Prelude.{◌≡◌};
+ghost use Rattle.std.specs.Prelude.{◌≡◌, ◌≢◌};
 ghost use Rattle.sfi_command.specs.Jobs.{is_raw};
 ghost use Rattle.sfi_command.specs.Numbers.{number_of};
 ghost use Rattle.sfi_command.specs.declared.job.JobFault.TheVariants.{Memory};
 
-use std::alloc::AllocError;
+use sfi_place::Place;
+use std::alloc::{AllocError, Global};
 use thiserror::Error;
 
 /// A command with its options as values.
@@ -21,7 +22,11 @@ pub enum Job {
     /// The listing of the image. Its bytes come as hexadecimal text.
     Dis,
     /// The image that a source text makes, as hexadecimal text.
-    Build,
+    Build {
+        /// Where the sandboxes lie, in their order. Those that it doesn't reach lie at their usual
+        /// places.
+        places: Vec<Place>,
+    },
     /// A run of the image's sandboxes. Its bytes come as hexadecimal text.
     Run {
         /// How often each sandbox gets a turn, from 1 to 10000.
@@ -44,7 +49,7 @@ impl Job {
     {
         match self {
             Job::Check { raw, .. } => *raw,
-            Job::Dis | Job::Build | Job::Run { .. } | Job::Convert => false,
+            Job::Dis | Job::Build { .. } | Job::Run { .. } | Job::Convert => false,
         }
     }
 }
@@ -84,5 +89,15 @@ impl From<AllocError> for JobFault {
 
     fn from(_e: AllocError) -> JobFault {
         JobFault::Memory
+    }
+}
+
+/// The fault of words that parse and name no job, with the text to print.
+pub(crate) fn usage_fault(alloc: Global, text: &str) -> JobFault
+    ensures { number_of result ≢ 2 }
+{
+    match String::from_str(alloc, text) {
+        Ok(text) => JobFault::Usage(text),
+        Err(_) => JobFault::Memory,
     }
 }

@@ -4,6 +4,7 @@
 mod command_line;
 mod help;
 mod job;
+mod places;
 
 pub use command_line::job_of;
 pub use help::VERSION;

@@ -15,6 +15,7 @@ mod listing;
 mod needs;
 mod neighbours;
 mod pieces;
+mod places;
 mod programs;
 mod refused_texts;
 mod report;

@@ -16,6 +16,6 @@ raw_check words (Check true true) raw asked = absurd (no_report (subcommand_of s
 raw_check words (Check true false) raw asked = refl
 raw_check words (Check false report) raw asked = absurd (cc)
 raw_check words Dis raw asked = absurd (cc)
-raw_check words Build raw asked = absurd (cc)
+raw_check words (Build places) raw asked = absurd (cc)
 raw_check words (Run rounds quantum given report) raw asked = absurd (cc)
 raw_check words Convert raw asked = absurd (cc)

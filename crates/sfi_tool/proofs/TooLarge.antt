@@ -12,7 +12,7 @@ pub too_large : (job : Job) (text : List ℕ) → is_raw job ≡ false → limit
 too_large (Check true report) text read over = absurd (cc)
 too_large (Check false report) text read over = inl (inl over)
 too_large Dis text read over = inl (inl over)
-too_large Build text read over = inl (inl over)
+too_large (Build places) text read over = inl (inl over)
 too_large (Run rounds quantum given report) text read over = inl (inl over)
 too_large Convert text read over = inl (inl over)
 
@@ -21,7 +21,7 @@ pub not_done : (job : Job) (text : List ℕ) → is_raw job ≡ false → limit 
 not_done (Check true report) text read over done = absurd (cc)
 not_done (Check false report) text read over done = absurd (omega (arith, over, done.1.short))
 not_done Dis text read over done = absurd (omega (arith, over, done.1.short))
-not_done Build text read over done = absurd (omega (arith, over, done.1.short))
+not_done (Build places) text read over done = absurd (omega (arith, over, done.1.short))
 not_done (Run rounds quantum given report) text read over done = absurd (omega (arith, over, done.1.short))
 not_done Convert text read over done = absurd (omega (arith, over, done.1.short))
 
@@ -30,7 +30,7 @@ pub not_refused : (job : Job) (text : List ℕ) → is_raw job ≡ false → lim
 not_refused (Check true report) text read over refused = absurd (cc)
 not_refused (Check false report) text read over refused = absurd (omega (arith, over, refused.1.short))
 not_refused Dis text read over refused = absurd refused.2
-not_refused Build text read over refused = absurd refused
+not_refused (Build places) text read over refused = absurd refused
 not_refused (Run rounds quantum given report) text read over refused = absurd (omega (arith, over, refused.1.short))
 not_refused Convert text read over refused = absurd (omega (arith, over, refused.1.short))
 

@@ -15,7 +15,7 @@ abbrev pub meaning_of : Job → Meaning
 meaning_of (Check true report) = check report
 meaning_of (Check false report) = on_text (check report)
 meaning_of Dis = on_text dis
-meaning_of Build = build
+meaning_of (Build places) = build places.items
 meaning_of (Run rounds quantum given report) =
     on_text (run rounds quantum given.items report)
 meaning_of Convert = on_text convert

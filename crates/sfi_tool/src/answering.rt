@@ -30,7 +30,7 @@ fn job_answer(alloc: Global, job: &Job, text: &[u8]) -> Result<Answer, Stop>
     match job {
         Job::Check { report, .. } => check_answer(alloc, *report, text),
         Job::Dis => listing_answer(alloc, text),
-        Job::Build => build_answer(alloc, text),
+        Job::Build { places } => build_answer(alloc, places, text),
         Job::Run {
             rounds,
             quantum,

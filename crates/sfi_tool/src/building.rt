@@ -11,7 +11,8 @@ ghost use Rattle.sfi_command.specs.declared.job.Job.TheVariants.{Build};
 
 use crate::fault::{InputFault, Stop, build_stop};
 use crate::verdict::Answer;
-use sfi_link::build;
+use sfi_link::build_at;
+use sfi_place::Place;
 use std::alloc::{AllocError, Global};
 
 /// The source text that was read.
@@ -35,16 +36,17 @@ pub(crate) fn digits_line(alloc: Global, bytes: &[u8]) -> Result<String, AllocEr
     Ok(line)
 }
 
-/// The image that the source text makes, in hexadecimal digits.
-pub(crate) fn build_answer(alloc: Global, text: &[u8]) -> Result<Answer, Stop>
+/// The image that the source text makes with its sandboxes at these places, in hexadecimal digits.
+pub(crate) fn build_answer(alloc: Global, places: &Vec<Place>, text: &[u8]) -> Result<Answer, Stop>
     requires { length text.now ≤ limit }
-    ensures says { IfOk result (λ a. Says Build text.now a.status (string_bytes a.text)) }
-    ensures stop { IfErr result (IsStop Build text.now) }
-    ensures only_done { IsDone Build text.now → AnswersStatus 0 result }
-    ensures only_fault { HasInputFault Build text.now → IsErr result }
+    ensures says { IfOk result
+        (λ a. Says (Build places.now) text.now a.status (string_bytes a.text)) }
+    ensures stop { IfErr result (IsStop (Build places.now) text.now) }
+    ensures only_done { IsDone (Build places.now) text.now → AnswersStatus 0 result }
+    ensures only_fault { HasInputFault (Build places.now) text.now → IsErr result }
 {
     let source = source_text(text)?;
-    match build(alloc, source) {
+    match build_at(alloc, source, places.as_slice()) {
         Ok(bytes) => Ok(Answer {
             status: 0,
             text: digits_line(alloc, bytes.as_slice())?,

@@ -1,5 +1,5 @@
 -- Words of private contracts and proofs, beside those of Command.antt.
-use Rattle.std.specs.Prelude.{◌≡◌, ℕ, List, [], false, Option}
+use Rattle.std.specs.Prelude.{◌≡◌, List, [], false, Option}
 use Rattle.clap.specs.Simple.{Shape, app_of}
 use Rattle.clap.specs.Walk.{Row, Text}
 use Rattle.clap.specs.declared.builder.command.Command.{Command}

@@ -6,6 +6,8 @@ use std::test::Fail;
 
 const RAW_REPORT: &str = "error: '--raw' and '--report' cannot be used together\n";
 
+const NO_PLACE: &str = "error: '--at' wants CODE:DATA, two hexadecimal addresses\n";
+
 #[test]
 fn usage(rt: HostRuntime) -> Result<(), Fail> {
     let alloc = rt.alloc();
@@ -32,6 +34,18 @@ fn usage(rt: HostRuntime) -> Result<(), Fail> {
         ("sfi run --raw", "error: "),
         ("sfi run --report=yes", "error: "),
         ("sfi run --report --report", "error: "),
+        ("sfi build --at", "error: "),
+        ("sfi build --at 20500000", NO_PLACE),
+        ("sfi build --at :", NO_PLACE),
+        ("sfi build --at 20500000:", NO_PLACE),
+        ("sfi build --at :80000000", NO_PLACE),
+        ("sfi build --at 120500000:80000000", NO_PLACE),
+        ("sfi build --at 20500000:080000000", NO_PLACE),
+        ("sfi build --at +2050000:80000000", NO_PLACE),
+        ("sfi build --at 0x2050:80000000", NO_PLACE),
+        ("sfi build --at 20500000:80000000:1", NO_PLACE),
+        ("sfi build --at 1000:2000,3000:4000", NO_PLACE),
+        ("sfi check --at 20500000:80000000", "error: "),
         ("sfi run --rounds", "error: "),
         ("sfi run --rounds 0", "error: "),
         ("sfi run --rounds 10001", "error: "),
@@ -120,7 +134,7 @@ fn help(rt: HostRuntime) -> Result<(), Fail> {
         ),
         (
             ["build --help", "build -h", "help build"],
-            ["build\n", "source text", "-h, --help"],
+            ["build [OPTIONS]\n", "source text", "--at <CODE:DATA> "],
             "build < ",
         ),
         (

@@ -9,8 +9,8 @@ returns c =
     ∙ ap₂ with_subcommand c.program_command-program.ensures (ap (λ (a : App). a.top) c.in_ok-check_command.ensures.shape_is) in
     let with_dis = c.in_ok-program-2.ensures.shape c.command_named-dis.ensures.local
     ∙ ap₂ with_subcommand with_check (ap (λ (a : App). a.top) c.command_named-dis.ensures.app) in
-    let with_build = c.in_ok-program-3.ensures.shape c.command_named-build.ensures.local
-    ∙ ap₂ with_subcommand with_dis (ap (λ (a : App). a.top) c.command_named-build.ensures.app) in
+    let with_build = c.in_ok-program-3.ensures.shape c.in_ok-build_command.ensures.local
+    ∙ ap₂ with_subcommand with_dis (ap (λ (a : App). a.top) c.in_ok-build_command.ensures.shape_is) in
     let with_run = c.in_ok-program-4.ensures.shape c.in_ok-run_command.ensures.local
     ∙ ap₂ with_subcommand with_build (ap (λ (a : App). a.top) c.in_ok-run_command.ensures.shape_is) in
     IfOk-weaker c.subcommand-5.result _ _

@@ -1,0 +1,62 @@
+//! The places that the option `--at` gives.
+
+ghost use Rattle.std.specs.Prelude.{◌≡◌, ℕ, IfErr, IfOk, IfSome, map};
+ghost use Rattle.sfi_command.specs.Places.{SpellsAddress, SpellsPlace, SpellPlaces};
+ghost use Rattle.sfi_command.specs.private.Places.{ArePlacesFault};
+ghost use Rattle.sfi_place.specs.declared.place.Place.{Place};
+
+use crate::job::{JobFault, usage_fault};
+use sfi_place::Place;
+use std::alloc::Global;
+
+// The most digits of an address.
+const ADDRESS_DIGITS: usize = 8;
+
+const NO_PLACE: &str = "error: '--at' wants CODE:DATA, two hexadecimal addresses\n";
+
+/// The address that the text spells.
+fn parse_address(text: &str) -> Option<u32>
+    ensures some { IfSome result (SpellsAddress text.now) }
+    ensures none { result ≡ None → (address : ℕ) → ¬ SpellsAddress text.now address }
+{
+    if text.len() > ADDRESS_DIGITS || text.starts_with('+') {
+        return None;
+    }
+    match u32::from_str_radix(text, 16) {
+        Ok(address) => Some(address),
+        Err(_) => None,
+    }
+}
+
+/// The place that the text spells.
+fn parse_place(text: &str) -> Option<Place>
+    ensures some { IfSome result (SpellsPlace text.now) }
+    ensures none { result ≡ None → (place : Place) → ¬ SpellsPlace text.now place }
+{
+    let (code, data) = text.split_once(':')?;
+    let code_base = parse_address(code)?;
+    let data_base = parse_address(data)?;
+    Some(Place {
+        code_base,
+        data_base,
+    })
+}
+
+/// The places that the texts spell, in their order.
+pub(crate) fn parse_places(alloc: Global, texts: &[&str]) -> Result<Vec<Place>, JobFault>
+    ensures places { IfOk result
+        (λ places. SpellPlaces (map (λ t. t.now) texts.now) places.items) }
+    ensures fault { IfErr result (ArePlacesFault (map (λ t. t.now) texts.now)) }
+{
+    let mut places = Vec::new(alloc);
+    for text in texts {
+        let Some(place) = parse_place(text) else {
+            return Err(usage_fault(alloc, NO_PLACE));
+        };
+        match places.push(place) {
+            Ok(()) => {}
+            Err(_) => return Err(JobFault::Memory),
+        }
+    }
+    Ok(places)
+}

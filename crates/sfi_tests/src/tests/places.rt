@@ -1,0 +1,119 @@
+//! The places that `--at` gives.
+use super::lines::ACCEPTED;
+use super::programs::{HI_EXAMPLE, HI_SAID};
+use super::{Outcome, run, words_of};
+use sfi_tool::{Job, job_of};
+use std::str::from_utf8;
+use std::test::Fail;
+
+// The first line that `dis` prints, and the two that load the text's address.
+const LISTED: [&str; 2] = [
+    "sandbox 0 code 20500000 256 data 80000000 256 start 20500020 gates 2 init 2\n",
+    "\n20500020 80000537 lui x10, 0x80000\n20500024 00050513 addi x10, x10, 0\n",
+];
+
+// The tour's program at places of a chip: it is accepted, and says the same.
+#[test]
+fn elsewhere(rt: HostRuntime) -> Result<(), Fail> {
+    let alloc = rt.alloc();
+    let line = "sfi build --at 20500000:80000000";
+    let Outcome { status, text } = run(alloc, line, HI_EXAMPLE.as_bytes())?;
+    assert_eq!(rt; status, 0);
+    let image = text.as_slice();
+    for (command, wanted) in [("sfi check", ACCEPTED), ("sfi run", HI_SAID)] {
+        let Outcome { status, text } = run(alloc, command, image)?;
+        assert_eq!(rt; text.as_slice(), wanted.as_bytes(), "{command}");
+        assert_eq!(rt; status, 0, "{command}");
+    }
+    let Outcome { status, text } = run(alloc, "sfi dis", image)?;
+    assert_eq!(rt; status, 0);
+    for part in LISTED {
+        assert!(rt; from_utf8(text.as_slice())?.contains(part), "{part}");
+    }
+    Ok(())
+}
+
+// The usual places may be given, too.
+#[test]
+fn usual(rt: HostRuntime) -> Result<(), Fail> {
+    let alloc = rt.alloc();
+    let Outcome {
+        status,
+        text: plain,
+    } = run(alloc, "sfi build", TWO.as_bytes())?;
+    assert_eq!(rt; status, 0);
+    for line in [
+        "sfi build --at 01000000:01800000",
+        "sfi build --at=1000000:1800000 --at 2000000:2800000",
+    ] {
+        let Outcome { status, text } = run(alloc, line, TWO.as_bytes())?;
+        assert_eq!(rt; status, 0, "{line}");
+        assert_eq!(rt; text.as_slice(), plain.as_slice(), "{line}");
+    }
+    Ok(())
+}
+
+const TWO: &str = ".sandbox 256\nret\n.sandbox 4096\nret\n";
+
+const AT_FIRST: &str = "link fault 6 Place sandbox 0\n";
+
+const AT_SECOND: &str = "link fault 6 Place sandbox 1\n";
+
+// Each sandbox has 256 bytes of code, and the guard zones have 4096 addresses each.
+#[test]
+fn no_places(rt: HostRuntime) -> Result<(), Fail> {
+    let alloc = rt.alloc();
+    let rows = [
+        ("20500080:80000000", AT_FIRST), // no multiple of the code's size
+        ("20500000:80000080", AT_FIRST), // nor of the data's
+        ("20500000:00000f00", AT_FIRST), // no room for a guard zone
+        ("20500000:fffff000", AT_FIRST),
+        ("20500000:20501000", AT_FIRST), // its guard zones meet its own code
+        ("20500000:80000000 --at 20500000:90000000", AT_SECOND), // code where code is
+        ("20500000:80000000 --at 20501000:80001000", AT_SECOND), // guard zones meet the first's
+        ("20500000:80000000 --at 80001000:90000000", AT_SECOND), // code in a guard zone
+        ("20500000:02800000", AT_SECOND), // the second one's usual data are there
+    ];
+    for (places, wanted) in rows {
+        let line = format!(in alloc; "sfi build --at {places}")?;
+        let Outcome { status, text } = run(alloc, line.as_str(), TWO.as_bytes())?;
+        assert_eq!(rt; text.as_slice(), wanted.as_bytes(), "{places}");
+        assert_eq!(rt; status, 2, "{places}");
+    }
+    Ok(())
+}
+
+// A place more than there are sandboxes.
+#[test]
+fn seventeen(rt: HostRuntime) -> Result<(), Fail> {
+    let alloc = rt.alloc();
+    let mut line = String::from_str(alloc, "sfi build")?;
+    for number in 1..=17 {
+        let place = format!(in alloc; " --at {number:x}000000:{number:x}800000")?;
+        line.push_str(place.as_str())?;
+    }
+    let source = ".sandbox 256\nret\n".repeat(alloc, 16)?;
+    let Outcome { status, text } = run(alloc, line.as_str(), source.as_bytes())?;
+    assert_eq!(rt;
+        text.as_slice(),
+        b"link fault 6 Place sandbox 16\n".as_slice()
+    );
+    assert_eq!(rt; status, 2);
+    Ok(())
+}
+
+// The places come in the order of the words, in digits of either case.
+#[test]
+fn in_order(rt: HostRuntime) -> Result<(), Fail> {
+    let alloc = rt.alloc();
+    let words = words_of(alloc, "sfi build --at 1:fFfFfFfF --at 00000abc:0")?;
+    let Ok(Job::Build { places }) = job_of(alloc, words.as_slice()) else {
+        return Err(Fail::new("no build"));
+    };
+    let wanted = [(0x1, 0xffff_ffff), (0xabc, 0x0)];
+    assert_eq!(rt; places.len(), wanted.len());
+    for (place, (code_base, data_base)) in places.iter().zip(wanted) {
+        assert_eq!(rt; (place.code_base, place.data_base), (code_base, data_base));
+    }
+    Ok(())
+}
