@@ -59,6 +59,7 @@ def commands(program):
         (["check"], smallest[:40]),
         (["build"], source),
         (["build"], source + b"frob\n"),
+        (["build", "--at", "20500000:80000000"], source),
         (["dis"], image),
         (["run"], image),
         (["run", "--rounds", "3", "--quantum", "8", "--input", "616263"], image),

@@ -33,7 +33,7 @@ const SMALLEST: [(&str, usize); 4] = [(SFI1, 1), (HEAD, 1), (EBREAK, 64), NONE];
 const PROGRAM: [(&str, usize); 4] = [(SFI1, 1), (HI, 1), (C_EBREAK, 88), ("4869", 1)];
 
 /// Each command, and findings and a fault.
-pub(super) const COMMANDS: [Command; 9] = [
+pub(super) const COMMANDS: [Command; 10] = [
     Command {
         line: "sfi check",
         pieces: SMALLEST,
@@ -57,6 +57,12 @@ pub(super) const COMMANDS: [Command; 9] = [
         pieces: [(SOURCE, 1), NONE, NONE, NONE],
         status: 0,
         front: "534649310100000000000001",
+    },
+    Command {
+        line: "sfi build --at 20500000:80000000",
+        pieces: [(SOURCE, 1), NONE, NONE, NONE],
+        status: 0,
+        front: "534649310100000000005020",
     },
     Command {
         line: "sfi dis",
