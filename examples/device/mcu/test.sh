@@ -47,8 +47,9 @@ needs python3 python3
 make -s || { report "make" "the host" "none" && finish; }
 
 compare() { # what is tried, its image, input
-    report "$1" "$("$SFI" run --rounds 100 --quantum 1000000 --input "$3" <"$2")" \
-        "$(./run.sh --rounds 100 --steps --input "$3" <"$2")"
+    local wanted
+    wanted=$("$SFI" run --rounds 100 --quantum 1000000 --input "$3" <"$2")
+    report "$1" "${wanted:-the lines of sfi run}" "$(./run.sh --rounds 100 --steps --input "$3" <"$2")"
 }
 
 # ---- Sources, at the chip's places
