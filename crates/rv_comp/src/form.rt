@@ -6,7 +6,7 @@ use rv_word::{Cond, ImmOp, Instr, Reg, RegOp};
 ///
 /// A row may allow fewer values of its fields than their types do: see [`crate::encode16`]. Offsets
 /// count bytes; the immediate of C.LUI is the number that it writes.
-#[derive(Clone, Copy, PartialEq, Eq, Debug)]
+#[derive(Clone, Copy)]
 pub enum Form16 {
     /// rd becomes x2 plus a multiple of 4 from 4 to 1020.
     CAddi4spn { rd: Reg, imm: i32 },

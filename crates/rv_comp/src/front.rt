@@ -11,7 +11,7 @@ use rv_word::laws::spellings_are_wide;
 use rv_word::{Instr, Length, decode32, size_of_first};
 
 /// What stands at the front of a list of bytes.
-#[derive(Clone, Copy, PartialEq, Eq, Debug)]
+#[derive(Clone, Copy, PartialEq, Eq)]
 pub enum Front {
     /// An instruction, and how many bytes it has: 2 or 4.
     Read(Instr, u32),

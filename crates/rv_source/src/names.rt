@@ -11,7 +11,7 @@ use std::alloc::{AllocError, Global};
 use std::marker::Model;
 
 /// The names of a sandbox with what they name, in the order in which they are first seen.
-#[derive(Debug, Drop)]
+#[derive(Drop)]
 pub struct Names {
     named: IndexMap<String, Named>,
 }

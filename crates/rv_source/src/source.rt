@@ -8,7 +8,7 @@ use sfi_policy::Format;
 use std::marker::Model;
 
 /// A sandbox of a source.
-#[derive(Debug, Drop)]
+#[derive(Drop)]
 pub struct SourcePart {
     format: Format,
     data_size: u32,
@@ -94,7 +94,7 @@ impl SourcePart {
 }
 
 /// What a text means: one sandbox at least, and no more than a u32 can number, all of one format.
-#[derive(Debug, Drop)]
+#[derive(Drop)]
 pub struct Source {
     parts: Vec<SourcePart>,
 }

@@ -14,7 +14,7 @@ use std::marker::Model;
 
 /// An accepted image: its layout is right, no rule is broken in it, and so every run from every
 /// entry of each sandbox is safe. Contracts see it as the list of its parts.
-#[derive(Debug, Drop)]
+#[derive(Drop)]
 pub struct Accepted<'a> {
     image: Image<'a>,
 }

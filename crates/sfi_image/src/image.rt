@@ -9,7 +9,7 @@ use std::marker::Model;
 
 /// The sandboxes of an image, 1 to 16 of them, with a right layout.
 /// It borrows the bytes that it was read from.
-#[derive(Debug, Drop)]
+#[derive(Drop)]
 pub struct Image<'a> {
     format: Format,
     parts: Vec<SandboxPart<'a>>,

@@ -1,7 +1,7 @@
 //! One sandbox of an image.
 
 /// A gate: the only place where control may leave a sandbox.
-#[derive(Clone, Copy, Debug, PartialEq, Eq)]
+#[derive(Clone, Copy, PartialEq, Eq)]
 pub struct Gate {
     /// The bundle in which its stub lies.
     pub address: u32,
@@ -11,7 +11,7 @@ pub struct Gate {
 
 /// One sandbox. Its code and its first data bytes are slices of the bytes that it was read from, so
 /// the image's code size, gate count and number of first data bytes are the lengths here.
-#[derive(Debug, Drop)]
+#[derive(Drop)]
 pub struct SandboxPart<'a> {
     /// The first address of the code region.
     pub code_base: u32,

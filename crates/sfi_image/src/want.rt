@@ -2,7 +2,7 @@
 use sfi_policy::Format;
 
 /// What comes next of an image.
-#[derive(Clone, Copy, Debug, PartialEq, Eq)]
+#[derive(Clone, Copy)]
 pub enum Want {
     /// So many bytes: 4 for the magic and for the count, 28 for the seven fields, 8 for a gate.
     Field(usize),

@@ -24,7 +24,7 @@ pub enum HexFault {
 }
 
 /// Why there are no bytes of a text: a fault of it, or an allocation was refused.
-#[derive(Debug, Drop)]
+#[derive(Drop)]
 pub enum HexStop {
     Fault(HexFault),
     Memory,
@@ -146,7 +146,7 @@ fn value_of(byte: u8) -> u8
 }
 
 /// The values of a block's bytes, and whether each is a digit's.
-#[derive(Debug, Drop)]
+#[derive(Drop)]
 struct Values {
     values: [u8; BLOCK],
     all: bool,
@@ -217,7 +217,7 @@ fn joined(values: &[u8; BLOCK]) -> [u8; BLOCK / 2]
 }
 
 /// The bytes of the pairs of digits that a block begins with: the first `pairs` of `bytes`.
-#[derive(Debug, Drop)]
+#[derive(Drop)]
 struct BlockBytes {
     bytes: [u8; BLOCK / 2],
     pairs: usize,

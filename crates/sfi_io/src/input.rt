@@ -14,14 +14,14 @@ pub const INPUT_LIMIT: usize = 134217728;
 const TURNS: usize = INPUT_LIMIT + 1;
 
 /// All of the input, or the sign that it passes the limit.
-#[derive(Debug, Drop)]
+#[derive(Drop)]
 pub enum Input {
     Whole(Vec<u8>),
     TooLarge,
 }
 
 /// Why there is no input: a read failed, or an allocation was refused.
-#[derive(Debug, Drop)]
+#[derive(Drop)]
 pub enum ReadStop {
     Failed,
     Memory,

@@ -12,7 +12,7 @@ use std::marker::Model;
 const SLOTS_MOST: usize = BUNDLE_BYTES / 2;
 
 /// What stands in one bundle, in order. Contracts see the list of its slots.
-#[derive(Debug, Drop)]
+#[derive(Drop)]
 pub struct Bundle {
     slots: ArrayVec<Slot, SLOTS_MOST>,
 }

@@ -8,7 +8,7 @@ use sfi_policy::Format;
 use std::marker::Model;
 
 /// What a name of a sandbox names, once its code is placed.
-#[derive(Clone, Copy, Debug, PartialEq, Eq)]
+#[derive(Clone, Copy)]
 pub enum PlacedName {
     /// The gate of that number, counted from 0.
     Gate(usize),
@@ -21,7 +21,7 @@ pub enum PlacedName {
 }
 
 /// A sandbox whose code is placed.
-#[derive(Debug, Drop)]
+#[derive(Drop)]
 pub struct PlacedPart {
     format: Format,
     data_size: u32,
@@ -119,7 +119,7 @@ impl PlacedPart {
 
 /// A source whose code is placed: one sandbox at least, all of one format.
 /// Contracts see the list of their placements.
-#[derive(Debug, Drop)]
+#[derive(Drop)]
 pub struct Placed {
     parts: Vec<PlacedPart>,
 }

@@ -9,7 +9,7 @@ use rv_word::{Instr, Reg};
 /// What stands in a bundle: an instruction that is known whole, or one that waits for the address
 /// of a name. A name is given by its place among the names of its sandbox,
 /// and a line is that of the source, from 1.
-#[derive(Clone, Copy, Debug, PartialEq, Eq)]
+#[derive(Clone, Copy)]
 pub enum Slot {
     /// A 32-bit instruction.
     Wide(Instr),

@@ -63,18 +63,17 @@ fn each_halfword_that_decodes_encodes_again(rt: HostRuntime) {
 
 #[test]
 fn first_forms(rt: HostRuntime) {
-    assert!(rt; form_of(addi(2, 2, -16)) == Some(Form16::CAddi { rd: x(2), imm: -16 }));
-    assert!(rt; form_of(addi(0, 0, 5)) == Some(Form16::CAddi { rd: x(0), imm: 5 }));
-    assert!(rt; form_of(addi(8, 2, 16)) == Some(Form16::CAddi4spn { rd: x(8), imm: 16 }));
-    assert!(rt; form_of(addi(5, 0, 0)) == Some(Form16::CLi { rd: x(5), imm: 0 }));
-    let copy = arithmetic(RegOp::Add, x(10), x(0), x(11));
-    assert!(rt;
-        form_of(copy)
-            == Some(Form16::CMv {
-                rd: x(10),
-                rs2: x(11)
-            })
-    );
+    let rows = [
+        (addi(2, 2, -16), 0x1141), // c.addi sp, -16
+        (addi(0, 0, 5), 0x0015), // c.addi zero, 5, a hint
+        (addi(8, 2, 16), 0x0800), // c.addi4spn s0, sp, 16
+        (addi(5, 0, 0), 0x4281), // c.li t0, 0
+        (arithmetic(RegOp::Add, x(10), x(0), x(11)), 0x852e), // c.mv a0, a1
+    ];
+    for (instr, halfword) in rows {
+        let spelled = form_of(instr).and_then(|form| encode16(form));
+        assert!(rt; spelled == Some(halfword));
+    }
     assert!(rt; form_of(addi(5, 6, 1)).is_none());
 }
 
