@@ -87,7 +87,16 @@ impl Function {
         ensures safe { IsSafeWorld world.new }
     {
         self.enter(world, text)?;
-        self.finish(world, gates, text)
+        if let RunAnswer::Memory { .. } = self.run(world, gates) {
+            return Err(CallError::Memory);
+        }
+        match world.status(self.sandbox).unwrap() {
+            Status::Exited(number) => {
+                world.read(self.sandbox, self.text_address, text);
+                Ok(number)
+            }
+            status => Err(CallError::NotReturned(status)),
+        }
     }
 
     // Writes the text into its place, and enters the sandbox at the function.
@@ -141,42 +150,5 @@ impl Function {
             steps: self.steps,
         };
         world.run_plan(&[turn], gates)
-    }
-
-    // Lets the sandbox run, and takes the text that it leaves.
-    fn finish<M: Memory, G: Gates>(
-        self,
-        world: &mut World<M>,
-        gates: &mut G,
-        text: &mut [u8],
-    ) -> Result<u32, CallError>
-        requires room { IsSome (text_in self (length text.old) world.old) }
-        ensures begun { (error : CallError) → IsErrOf result error → ¬ IsNotBegun error }
-        ensures ran { HasRun result → (machine : Machine) → IsMachine machine
-            → IsJoint machine G.answer (plan_of self)
-            (slots_of world.old) gates.old (slots_of world.new) gates.new }
-        ensures memory { IsErrOf result CallError.Memory → (machine : Machine) → IsMachine machine
-            → IsCutJoint machine G.answer G.may_refuse (plan_of self)
-            (slots_of world.old) gates.old 0 (slots_of world.new) gates.new }
-        ensures number { IfOk result
-            (λ number. status_at (slots_of world.new) self.sandbox ≡ Some (Status.Exited number)) }
-        ensures not_returned { (status : Status) → IsErrOf result (CallError.NotReturned status)
-            → (status_at (slots_of world.new) self.sandbox ≡ Some status) × HasNotExited status }
-        ensures text { OnOk result (text_in self (length text.old) world.new ≡ Some text.new) }
-        ensures kept { OnErr result (text.new ≡ text.old) }
-        ensures others { OthersAreSame world.old self.sandbox world.new }
-        ensures outside { StaysOutsideData world.old world.new.bytes }
-        ensures safe { IsSafeWorld world.new }
-    {
-        if let RunAnswer::Memory { .. } = self.run(world, gates) {
-            return Err(CallError::Memory);
-        }
-        match world.status(self.sandbox).unwrap() {
-            Status::Exited(number) => {
-                world.read(self.sandbox, self.text_address, text);
-                Ok(number)
-            }
-            status => Err(CallError::NotReturned(status)),
-        }
     }
 }
