@@ -1,14 +1,16 @@
 -- What is told of a sandbox, and of one sandbox more.
-use Rattle.std.proofs.Common.{◌≡◌, ℕ, suc, ◌+◌, List, [], ◌++◌, Option, Some, None, refl, sym, ap, ◌∙◌, subst, arith, append_assoc}
+use Rattle.std.proofs.Common.{◌≡◌, ◌⊎◌, ℕ, suc, ◌+◌, List, [], ◌++◌, Option, Some, None, refl, sym, ap, ◌∙◌, subst, arith, append_assoc, inl, inr}
 use Rattle.std.specs.Prelude.{slice_get, Result, Ok, Err, OnOk, if◌then◌else◌}
 use Rattle.std.specs.Result.{is_ok}
 use Rattle.std.specs.Option.{option_map}
 use Rattle.std.proofs.lemmas.List.{append-nil}
 use Rattle.std.proofs.lemmas.Option.{slice_get-map}
+use Rattle.rv_step.specs.declared.outcome.Cause.{Cause}
 use Rattle.rv_step.specs.State.{Hart}
 use Rattle.sfi_policy.specs.declared.format.Format.{Format}
 use Rattle.sfi_image.specs.declared.part.SandboxPart.{SandboxPart}
 use Rattle.sfi_image.specs.Spelling.{Part, view, views}
+use Rattle.sfi_report.specs.State.{IsStateText}
 use Rattle.sfi_host.specs.Slots.{Slot}
 use Rattle.sfi_host.specs.declared.status.Status.{Status}
 use Rattle.sfi_host.specs.declared.status.Status.TheVariants.{Ready, Exited, Trapped}
@@ -49,6 +51,13 @@ pub adds_told : (sandbox : ℕ) (p : Part) (o : Option Slot) (status : Status) (
     → Some status ≡ option_map (λ (s : Slot). s.status) o → Some hart ≡ option_map (λ (s : Slot). s.hart) o
     → Adds old new (IsTold sandbox p hart status) → Adds old new (IsToldOf sandbox (Some p) o)
 adds_told sandbox p o status hart old new e f h = record { text = h.text; text_is = told sandbox p o status hart h.text e f h.text_is; new_is = h.new_is }
+
+-- of one that may still run or has trapped, its state is told
+pub not_exited : (sandbox : ℕ) (p : Part) (status : Status) (hart : Hart) (old new : List ℕ)
+    → (status ≡ Ready) ⊎ ((cause : Cause) × (at : ℕ) × (status ≡ Trapped cause at)) → Adds old new (IsStateText sandbox p hart)
+    → Adds old new (IsTold sandbox p hart status)
+not_exited sandbox p status hart old new (inl e) h = subst (λ (x : Status). Adds old new (IsTold sandbox p hart x)) (sym e) h
+not_exited sandbox p status hart old new (inr e) h = subst (λ (x : Status). Adds old new (IsTold sandbox p hart x)) (sym e.2) h
 
 -- a text was appended, if that succeeded
 pub adds_text : {A E : Type 0} (r : Result A E) (old new text seen : List ℕ) (is : List ℕ → Type 0) → is text → seen ≡ text

@@ -29,17 +29,17 @@ cause_name Load = codes "Load"
 cause_name Store = codes "Store"
 
 -- what a sandbox may still do: an exit's number is decimal, a trap's address hexadecimal
-abbrev pub state_text : Status → List ℕ
-state_text Ready = codes "ready"
-state_text (Exited n) = codes "exit=" ++ decimal n
-state_text (Trapped cause at) = codes "trap=" ++ cause_name cause ++ codes " at=" ++ hex_digits 8 at
+abbrev pub status_text : Status → List ℕ
+status_text Ready = codes "ready"
+status_text (Exited n) = codes "exit=" ++ decimal n
+status_text (Trapped cause at) = codes "trap=" ++ cause_name cause ++ codes " at=" ++ hex_digits 8 at
 
 -- the line of the sandbox of that number: what it may still do, how many steps it did, and its
 -- output in lower hexadecimal digits
 abbrev pub run_line : ℕ → Status → ℕ → List ℕ → List ℕ
 run_line sandbox status steps output =
     codes "sandbox=" ++ decimal sandbox
-    ++ codes " " ++ state_text status
+    ++ codes " " ++ status_text status
     ++ codes " steps=" ++ decimal steps
     ++ codes " out=" ++ encode_lower output ++ line_end
 

@@ -3,7 +3,7 @@
 ghost use Rattle.std.specs.Prelude.{◌≡◌, ◌++◌, OnOk, IfOk, slice_get, string_bytes};
 ghost use Rattle.sfi_host.specs.Consoles.{output_of};
 ghost use Rattle.sfi_host.specs.Worlds.{slots_of};
-ghost use Rattle.sfi_tool.specs.RunLines.{cause_name, line_of, run_line, run_lines, state_text};
+ghost use Rattle.sfi_tool.specs.RunLines.{cause_name, line_of, run_line, run_lines, status_text};
 
 use rv_mem::Memory;
 use rv_step::Cause;
@@ -24,8 +24,8 @@ fn cause_name(cause: Cause) -> &'static str
 }
 
 /// Writes what a sandbox may still do.
-fn push_state(out: &mut String, status: Status) -> Result<(), AllocError>
-    ensures { OnOk result (string_bytes out.new ≡ string_bytes out.old ++ state_text status) }
+fn push_status(out: &mut String, status: Status) -> Result<(), AllocError>
+    ensures { OnOk result (string_bytes out.new ≡ string_bytes out.old ++ status_text status) }
 {
     match status {
         Status::Ready => out.push_str("ready"),
@@ -52,7 +52,7 @@ fn push_run_line(
 {
     let digits = hex::encode(alloc, output)?;
     write!(out, "sandbox={sandbox} ")?;
-    push_state(out, status)?;
+    push_status(out, status)?;
     write!(out, " steps={steps} out={digits}\n")
 }
 

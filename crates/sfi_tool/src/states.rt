@@ -48,9 +48,8 @@ fn push_told<M: Memory>(
         return Ok(());
     };
     match status {
-        Status::Ready => push_state(alloc, out, sandbox, part, cpu),
         Status::Exited(_) => Ok(()),
-        Status::Trapped(_, _) => push_state(alloc, out, sandbox, part, cpu),
+        Status::Ready | Status::Trapped(_, _) => push_state(alloc, out, sandbox, part, cpu),
     }
 }
 
