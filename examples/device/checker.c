@@ -88,12 +88,12 @@ void check_image(const uint8_t *image, uint32_t length) {
         refuse_image(verdict);
 }
 
-static void tell_gate(const uint8_t *image, uint32_t length, uint32_t number, uint32_t index,
-                      struct gate *gate) {
-    const struct sfi_gate *told = &checker_memory.gate;
-    if (Z_sfiZ_sfi_c_gate(&module, in_module(image), length, number, index, in_module(told)) != SFI_FOUND)
-        refuse("the checker tells of no such gate"); /* never of an accepted image */
-    *gate = (struct gate){told->address, told->service};
+static void tell_gates(const uint8_t *image, uint32_t length, uint32_t number, struct part *part) {
+    const struct sfi_gate *told = checker_memory.gates;
+    if (Z_sfiZ_sfi_c_gates(&module, in_module(image), length, number, in_module(told), MODULE_GATES) != SFI_FOUND)
+        refuse("the checker tells of no such sandbox"); /* never where it has told of it */
+    for (uint32_t index = 0; index < part->gate_count; index++)
+        part->gates[index] = (struct gate){told[index].address, told[index].service};
 }
 
 bool tell_part(const uint8_t *image, uint32_t length, uint32_t number, struct part *part) {
@@ -109,7 +109,6 @@ bool tell_part(const uint8_t *image, uint32_t length, uint32_t number, struct pa
     part->first_count = told->init_size;
     part->code = image + told->code_offset;
     part->first = image + told->init_offset;
-    for (uint32_t index = 0; index < part->gate_count; index++)
-        tell_gate(image, length, number, index, &part->gates[index]);
+    tell_gates(image, length, number, part);
     return true;
 }

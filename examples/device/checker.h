@@ -8,7 +8,8 @@
 
 enum {
     MODULE_STACK = 65536,       /* checker.sh gives this number to the linker */
-    MODULE_DATA = 4096          /* at least the module's constants */
+    MODULE_DATA = 4096,         /* at least the module's constants */
+    MODULE_GATES = 64           /* no sandbox has more */
 };
 
 /* struct sfi_part as the module writes it: addresses have 64 bits there. */
@@ -23,7 +24,7 @@ struct checker_memory {
     uint8_t stack[MODULE_STACK], data[MODULE_DATA];
     struct sfi_verdict verdict;
     struct module_part part;
-    struct sfi_gate gate;
+    struct sfi_gate gates[MODULE_GATES];
 };
 extern struct checker_memory checker_memory;
 

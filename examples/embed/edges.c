@@ -49,6 +49,22 @@ static void try_capacity(const uint8_t *image, size_t length, uint32_t count, si
         expect(!memcmp(&alone.first, all, sizeof *all), "first finding", capacity);
 }
 
+/* The gates of a sandbox at once, to arrays with each room up to one more than it has, between two marked elements. */
+static void try_gates(const uint8_t *image, size_t length, uint32_t number, uint32_t count) {
+    struct sfi_gate gate, array[ROOM + 3]; /* a sandbox has at most ROOM gates */
+    for (size_t capacity = 0; capacity <= count + 1; capacity++) {
+        size_t written = count < capacity ? count : capacity;
+        memset(array, MARK, sizeof array);
+        expect(sfi_c_gates(image, length, number, array + 1, capacity) == SFI_FOUND, "the gates of a sandbox", capacity);
+        for (size_t index = 0; index < written; index++) {
+            sfi_c_gate(image, length, number, index, &gate);
+            expect(!memcmp(array + 1 + index, &gate, sizeof gate), "one of the gates", index);
+        }
+        expect(is_marked(array, sizeof *array), "written before the gates", capacity);
+        expect(is_marked(array + 1 + written, (ROOM + 2 - written) * sizeof *array), "written after the gates", capacity);
+    }
+}
+
 /* Each sandbox, each of its gates, and one more, between two marked elements. */
 static void try_parts(const uint8_t *image, size_t length) {
     size_t end = 8; /* after the magic and the count */
@@ -70,12 +86,15 @@ static void try_parts(const uint8_t *image, size_t length) {
         expect(index == part[1].gates, "count of gates", number);
         expect(sfi_c_gate(image, length, number, index, gate + 1) == SFI_BEYOND && is_marked(gate, sizeof gate),
                "a gate too far", number);
+        try_gates(image, length, number, index);
         memset(part, MARK, sizeof part);
     }
     expect(number > 0 && end == length, "the last sandbox's end", number);
     expect(sfi_c_part(image, length, number, part + 1) == SFI_BEYOND && is_marked(part, sizeof part), "one too far", number);
     expect(sfi_c_gate(image, length, number, 0, gate + 1) == SFI_BEYOND && is_marked(gate, sizeof gate),
            "a gate of one too far", number);
+    expect(sfi_c_gates(image, length, number, gate, 3) == SFI_BEYOND && is_marked(gate, sizeof gate),
+           "the gates of one too far", number);
 }
 
 /* Nothing is told of bytes that are no image. */
@@ -86,6 +105,7 @@ static void try_none(const uint8_t *bytes, size_t length) {
     memset(&gate, MARK, sizeof gate);
     expect(sfi_c_part(bytes, length, 0, &part) == SFI_NO_IMAGE && is_marked(&part, sizeof part), "a sandbox of none", length);
     expect(sfi_c_gate(bytes, length, 0, 0, &gate) == SFI_NO_IMAGE && is_marked(&gate, sizeof gate), "a gate of none", length);
+    expect(sfi_c_gates(bytes, length, 0, &gate, 1) == SFI_NO_IMAGE && is_marked(&gate, sizeof gate), "gates of none", length);
 }
 
 int main(int argc, char **argv) {

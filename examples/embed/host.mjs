@@ -14,6 +14,7 @@ const VERDICT_WORDS = 8; // struct sfi_verdict
 const STREAM_BYTES = 952; // struct sfi_stream
 const PART_WORDS = 12; // struct sfi_part, whose two offsets are two words each
 const GATE_WORDS = 2; // struct sfi_gate: address, service
+const GATES_MOST = 64; // of a sandbox
 const PAGE = 65536;
 
 // `memory.grow` takes a BigInt by the standard, and a number in some versions of node.
@@ -68,7 +69,9 @@ const hexadecimal = (address) => address.toString(16).padStart(8, "0");
 
 // The lines of what is in the image: of each sandbox, of where it lies in the image, and of each of its gates.
 async function linesOfParts(module, image) {
-  const { calls, memory, written, bytes } = await instanceWith(module, image, 4 * PART_WORDS);
+  const room = 4 * (PART_WORDS + GATE_WORDS * GATES_MOST);
+  const { calls, memory, written, bytes } = await instanceWith(module, image, room);
+  const array = written + 4 * PART_WORDS;
   const place = [BigInt(bytes), BigInt(image.length)];
   const lines = [];
   for (let number = 0; calls.sfi_c_part(...place, number, BigInt(written)) === 0; number++) {
@@ -78,10 +81,10 @@ async function linesOfParts(module, image) {
     const regions = `code ${hexadecimal(codeBase)} ${codeSize} data ${hexadecimal(dataBase)} ${dataSize}`;
     lines.push(`sandbox ${number} ${regions} start ${hexadecimal(start)} gates ${gates} init ${initSize}`);
     lines.push(`bytes format ${format} code ${codeOffset} init ${initOffset}`);
-    for (let index = 0; index < gates; index++) {
-      calls.sfi_c_gate(...place, number, index, BigInt(written));
-      const [address, service] = new Uint32Array(memory.buffer, written, GATE_WORDS);
-      lines.push(`gate ${hexadecimal(address)} ${service}`);
+    calls.sfi_c_gates(...place, number, BigInt(array), BigInt(GATES_MOST));
+    const told = new Uint32Array(memory.buffer, array, GATE_WORDS * gates);
+    for (let at = 0; at < told.length; at += GATE_WORDS) {
+      lines.push(`gate ${hexadecimal(told[at])} ${told[at + 1]}`);
     }
   }
   return lines;

@@ -52,9 +52,9 @@ def load(path):
     library.sfi_c_check.restype = ctypes.c_uint32
     library.sfi_c_part.argtypes = [ctypes.c_char_p, ctypes.c_size_t, ctypes.c_uint32, ctypes.POINTER(Part)]
     library.sfi_c_part.restype = ctypes.c_uint32
-    library.sfi_c_gate.argtypes = [ctypes.c_char_p, ctypes.c_size_t, ctypes.c_uint32, ctypes.c_uint32,
-                                   ctypes.POINTER(Gate)]
-    library.sfi_c_gate.restype = ctypes.c_uint32
+    library.sfi_c_gates.argtypes = [ctypes.c_char_p, ctypes.c_size_t, ctypes.c_uint32, ctypes.POINTER(Gate),
+                                    ctypes.c_size_t]
+    library.sfi_c_gates.restype = ctypes.c_uint32
     library.sfi_c_begin.argtypes = [ctypes.POINTER(Stream)]
     library.sfi_c_begin.restype = None
     library.sfi_c_feed.argtypes = [ctypes.POINTER(Stream), ctypes.c_char_p, ctypes.c_size_t]
@@ -87,15 +87,15 @@ def verdict_in_pieces(library, source, size):
 
 def lines_of_parts(library, image):
     """A line for each sandbox, one for where it lies in the image, and one for each of its gates."""
-    part, gate = Part(), Gate()
+    part = Part()
     number = 0
     while library.sfi_c_part(image, len(image), number, ctypes.byref(part)) == 0:
         yield (f"sandbox {number} code {part.code_base:08x} {part.code_size} data {part.data_base:08x} {part.data_size} "
                f"start {part.start:08x} gates {part.gates} init {part.init_size}")
         yield f"bytes format {part.format} code {part.code_offset} init {part.init_offset}"
-        for index in range(part.gates):
-            library.sfi_c_gate(image, len(image), number, index, ctypes.byref(gate))
-            yield f"gate {gate.address:08x} {gate.service}"
+        gates = (Gate * part.gates)()
+        library.sfi_c_gates(image, len(image), number, gates, part.gates)
+        yield from (f"gate {gate.address:08x} {gate.service}" for gate in gates)
         number += 1
 
 

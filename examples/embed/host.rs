@@ -45,7 +45,7 @@ struct Part {
 
 /// `struct sfi_gate`.
 #[repr(C)]
-#[derive(Default)]
+#[derive(Clone, Default)]
 struct Gate {
     address: u32,
     service: u32,
@@ -69,7 +69,7 @@ extern "C" {
         verdict: *mut Verdict,
     ) -> u32;
     fn sfi_c_part(image: *const u8, length: usize, number: u32, part: *mut Part) -> u32;
-    fn sfi_c_gate(image: *const u8, length: usize, number: u32, index: u32, gate: *mut Gate) -> u32;
+    fn sfi_c_gates(image: *const u8, length: usize, number: u32, array: *mut Gate, capacity: usize) -> u32;
     fn sfi_c_begin(stream: *mut Stream);
     fn sfi_c_feed(stream: *mut Stream, bytes: *const u8, length: usize);
     fn sfi_c_end(stream: *const Stream, verdict: *mut Verdict) -> u32;
@@ -109,12 +109,12 @@ fn part(image: &[u8], number: u32) -> Option<Part> {
     (status == 0).then_some(part)
 }
 
-/// The gate of that index of its sandbox of that number.
-fn gate(image: &[u8], number: u32, index: u32) -> Option<Gate> {
-    let mut gate = Gate::default();
+/// The gates of its sandbox of that number, of which there are so many.
+fn gates_of(image: &[u8], number: u32, count: u32) -> Vec<Gate> {
+    let mut gates = vec![Gate::default(); count as usize];
     // SAFETY: as above.
-    let status = unsafe { sfi_c_gate(image.as_ptr(), image.len(), number, index, &mut gate) };
-    (status == 0).then_some(gate)
+    unsafe { sfi_c_gates(image.as_ptr(), image.len(), number, gates.as_mut_ptr(), gates.len()) };
+    gates
 }
 
 /// A line for each sandbox, one for where it lies in the image, and one for each of its gates.
@@ -124,7 +124,7 @@ fn print_parts(image: &[u8]) {
         print!("sandbox {number} code {code_base:08x} {code_size} data {data_base:08x} {data_size}");
         println!(" start {start:08x} gates {gates} init {init_size}");
         println!("bytes format {format} code {} init {}", part.code_offset, part.init_offset);
-        for Gate { address, service } in (0..).map_while(|index| gate(image, number, index)) {
+        for Gate { address, service } in gates_of(image, number, gates) {
             println!("gate {address:08x} {service}");
         }
     }

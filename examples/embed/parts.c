@@ -29,9 +29,10 @@ int main(void) {
     struct sfi_part part;
     for (uint32_t number = 0; sfi_c_part(image, length, number, &part) == SFI_FOUND; number++) {
         print_part(number, &part);
-        struct sfi_gate gate;
-        for (uint32_t index = 0; sfi_c_gate(image, length, number, index, &gate) == SFI_FOUND; index++)
-            printf("gate %08" PRIx32 " %" PRIu32 "\n", gate.address, gate.service);
+        struct sfi_gate gates[64]; /* no sandbox has more */
+        sfi_c_gates(image, length, number, gates, 64);
+        for (uint32_t index = 0; index < part.gates; index++)
+            printf("gate %08" PRIx32 " %" PRIu32 "\n", gates[index].address, gates[index].service);
     }
     return SFI_ACCEPTED;
 }

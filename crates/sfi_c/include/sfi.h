@@ -200,6 +200,13 @@ uint32_t sfi_c_part(const uint8_t *image, size_t length, uint32_t number, struct
  */
 uint32_t sfi_c_gate(const uint8_t *image, size_t length, uint32_t number, uint32_t index, struct sfi_gate *gate);
 
+/*
+ * Writes to `array`, from its front on and in the same order, the gates of the sandbox of that number: all of them, which
+ * are part.gates, or the first `capacity` where there are more. No other element of the array is written. Returns
+ * SFI_FOUND where the image has the sandbox, even one with no gate. The layout is looked at once, not for each gate.
+ */
+uint32_t sfi_c_gates(const uint8_t *image, size_t length, uint32_t number, struct sfi_gate *array, size_t capacity);
+
 #ifdef __cplusplus
 }
 #endif

@@ -1,14 +1,14 @@
 -- The format and the count of an image.
-use Rattle.std.proofs.Common.{◌≡◌, ◌∙◌, ℕ, ◌+◌, ◌<◌, ◌≤◌, List, ◌++◌, length, get_or, take, refl, sym, ap, subst, arith, append_assoc}
+use Rattle.std.proofs.Common.{◌≡◌, ◌∙◌, ℕ, List, ◌++◌, length, get_or, take, refl, sym, ap, arith}
 use Rattle.std.specs.List.{flat_map}
-use Rattle.std.proofs.lemmas.List.{length-append}
 use Rattle.std.proofs.Math.Seq.{take-append_seam}
 use Rattle.sfi_policy.specs.declared.format.Format.{Format}
 use Rattle.sfi_policy.specs.declared.format.Format.TheVariants.{Sfi1, Sfi2}
 use Rattle.sfi_policy.specs.Formats.{magic}
-use Rattle.sfi_image.specs.Spelling.{Part, number, part, spelling, format_of, IsWord}
+use Rattle.sfi_image.specs.Spelling.{Part, number, part, spelling, format_of}
 use Rattle.sfi_image.specs.Images.{IsImage}
-use Rattle.sfi_c.specs.Parts.{LiesAt, format_number}
+use Rattle.sfi_c.specs.Parts.{format_number}
+use Rattle.sfi_c.specs.private.Places.{IsWordAt}
 
 pub length-magic : (f : Format) → length (magic f) ≡ 4
 unfolding magic
@@ -44,18 +44,14 @@ second bytes ps h e = by (format_of ps) (λ same. e (begins bytes ps h ∙ same)
     by Sfi1 other = absurd (other refl)
     by Sfi2 other = refl
 
-pub count_lies : (bytes : List ℕ) (ps : List Part) → IsImage bytes ps → LiesAt bytes 4 (number (length ps))
-count_lies bytes ps h = record {
-  before = magic (format_of ps);
-  after = flat_map part ps;
-  bytes_are = head_is bytes ps h;
-  offset_is = sym (length-magic (format_of ps));
+-- the count lies there, and has 32 bits
+pub count_there : (bytes : List ℕ) (ps : List Part) → IsImage bytes ps → IsWordAt bytes 4 (length ps)
+count_there bytes ps h = record {
+  lies = record {
+    before = magic (format_of ps);
+    after = flat_map part ps;
+    bytes_are = head_is bytes ps h;
+    offset_is = sym (length-magic (format_of ps));
+  };
+  word = let few = h.layout.at_most in omega arith;
 }
-
--- the count has 32 bits
-pub count_fits : (bytes : List ℕ) (ps : List Part) → IsImage bytes ps → IsWord (length ps)
-count_fits bytes ps h = let few = h.layout.at_most in omega arith
-
--- what is read of it is the count
-pub counted : (bytes : List ℕ) (ps : List Part) (count : ℕ) → IsImage bytes ps → ((n : ℕ) → LiesAt bytes 4 (number n) → IsWord n → count ≡ n) → count ≡ length ps
-counted bytes ps count h read = read (length ps) (count_lies bytes ps h) (count_fits bytes ps h)

@@ -10,27 +10,30 @@ use Rattle.sfi_policy.specs.declared.format.Format.TheVariants.{Sfi1, Sfi2}
 use Rattle.sfi_policy.specs.Formats.{magic, code_most}
 use Rattle.sfi_image.specs.declared.part.Gate.{Gate}
 use Rattle.sfi_image.specs.declared.fields.Fields.{Fields}
-use Rattle.sfi_image.specs.Spelling.{Part, fields_of, number, fields, gate, part, spelling, format_of, IsWord, AreFieldWords}
+use Rattle.sfi_image.specs.Spelling.{Part, fields_of, number, fields, gate, part, format_of, IsWord, AreFieldWords}
 use Rattle.sfi_image.specs.Spans.{code_region}
 use Rattle.sfi_image.specs.Laws.{CodeEnds}
 use Rattle.sfi_image.specs.Regions.{IsBundleStart}
-use Rattle.sfi_image.specs.Parts.{IsRightPart, IsRightLayout}
+use Rattle.sfi_image.specs.Parts.{IsRightPart}
 use Rattle.sfi_image.specs.Images.{IsImage}
 use Rattle.sfi_c.specs.declared.part.SfiPart.{SfiPart}
-use Rattle.sfi_c.specs.Parts.{LiesAt, IsPartOf}
-use Rattle.sfi_c.specs.private.Places.{IsPartAt, told_part}
+use Rattle.sfi_c.specs.Parts.{IsSandboxOf, LiesAt, Tells, told_part}
+use Rattle.sfi_c.specs.private.Places.{IsPartAt, IsWordAt, code_at, told_at}
 use Rattle.sfi_c.proofs.Heads.{head_is, length-magic}
 use Rattle.sfi_c.proofs.Lying.{front_lies, rest_lies, length-number}
 
 -- ---- gates
 
-pub address_lies : (bytes : List ℕ) (o : ℕ) (g : Gate) → LiesAt bytes o (gate g) → LiesAt bytes o (number g.address)
+pub address_there : (bytes : List ℕ) (o : ℕ) (g : Gate) → LiesAt bytes o (gate g) → IsWord g.address → IsWordAt bytes o g.address
 unfolding gate
-address_lies bytes o g h = front_lies bytes o (number g.address) (number g.service) h
+address_there bytes o g h word = record { lies = front_lies bytes o (number g.address) (number g.service) h; word = word }
 
-pub service_lies : (bytes : List ℕ) (o m : ℕ) (g : Gate) → m ≡ o + 4 → LiesAt bytes o (gate g) → LiesAt bytes m (number g.service)
+pub service_there : (bytes : List ℕ) (o : ℕ) (g : Gate) → LiesAt bytes o (gate g) → IsWord g.service → IsWordAt bytes (o + 4) g.service
 unfolding gate
-service_lies bytes o m g e h = rest_lies bytes o m (number g.address) (number g.service) (omega (arith, e, length-number g.address)) h
+service_there bytes o g h word = record {
+  lies = rest_lies bytes o (o + 4) (number g.address) (number g.service) (omega (arith, length-number g.address)) h;
+  word = word;
+}
 
 pub length-gate : (g : Gate) → length (gate g) ≡ 8
 unfolding gate
@@ -44,20 +47,20 @@ length-gates (g ∷ gs) = omega (arith, length-append (gate g) (flat_map gate gs
 
 -- each lies 4 bytes after the one before it
 pub record AreAt (bytes : List ℕ) (o : ℕ) (f : Fields) : Type 0 where
-  pub code_base : LiesAt bytes o (number f.code_base)
-  pub code_size : LiesAt bytes (o + 4) (number f.code_size)
-  pub data_base : LiesAt bytes (o + 8) (number f.data_base)
-  pub data_size : LiesAt bytes (o + 12) (number f.data_size)
-  pub start : LiesAt bytes (o + 16) (number f.start)
-  pub gate_count : LiesAt bytes (o + 20) (number f.gate_count)
-  pub init_len : LiesAt bytes (o + 24) (number f.init_len)
+  pub code_base : IsWordAt bytes o f.code_base
+  pub code_size : IsWordAt bytes (o + 4) f.code_size
+  pub data_base : IsWordAt bytes (o + 8) f.data_base
+  pub data_size : IsWordAt bytes (o + 12) f.data_size
+  pub start : IsWordAt bytes (o + 16) f.start
+  pub gate_count : IsWordAt bytes (o + 20) f.gate_count
+  pub init_len : IsWordAt bytes (o + 24) f.init_len
 
 next : (bytes : List ℕ) (o m n : ℕ) (t : List ℕ) → m ≡ o + 4 → LiesAt bytes o (number n ++ t) → LiesAt bytes m t
 next bytes o m n t e h = rest_lies bytes o m (number n) t (omega (arith, e, length-number n)) h
 
-pub seven : (bytes : List ℕ) (o : ℕ) (f : Fields) → LiesAt bytes o (fields f) → AreAt bytes o f
+seven : (bytes : List ℕ) (o : ℕ) (f : Fields) → AreFieldWords f → LiesAt bytes o (fields f) → AreAt bytes o f
 unfolding fields
-seven bytes o f h =
+seven bytes o f words h =
     let h1 = next bytes o (o + 4) f.code_base _ (omega arith) h in
     let h2 = next bytes (o + 4) (o + 8) f.code_size _ (omega arith) h1 in
     let h3 = next bytes (o + 8) (o + 12) f.data_base _ (omega arith) h2 in
@@ -65,16 +68,16 @@ seven bytes o f h =
     let h5 = next bytes (o + 16) (o + 20) f.start _ (omega arith) h4 in
     let h6 = next bytes (o + 20) (o + 24) f.gate_count _ (omega arith) h5 in
     record {
-      code_base = front_lies bytes o (number f.code_base) _ h;
-      code_size = front_lies bytes (o + 4) (number f.code_size) _ h1;
-      data_base = front_lies bytes (o + 8) (number f.data_base) _ h2;
-      data_size = front_lies bytes (o + 12) (number f.data_size) _ h3;
-      start = front_lies bytes (o + 16) (number f.start) _ h4;
-      gate_count = front_lies bytes (o + 20) (number f.gate_count) _ h5;
-      init_len = h6;
+      code_base = record { lies = front_lies bytes o (number f.code_base) _ h; word = words.code_base };
+      code_size = record { lies = front_lies bytes (o + 4) (number f.code_size) _ h1; word = words.code_size };
+      data_base = record { lies = front_lies bytes (o + 8) (number f.data_base) _ h2; word = words.data_base };
+      data_size = record { lies = front_lies bytes (o + 12) (number f.data_size) _ h3; word = words.data_size };
+      start = record { lies = front_lies bytes (o + 16) (number f.start) _ h4; word = words.start };
+      gate_count = record { lies = front_lies bytes (o + 20) (number f.gate_count) _ h5; word = words.gate_count };
+      init_len = record { lies = h6; word = words.init_len };
     }
 
-pub length-fields : (f : Fields) → length (fields f) ≡ 28
+length-fields : (f : Fields) → length (fields f) ≡ 28
 unfolding fields number
 length-fields f = refl
 
@@ -82,7 +85,6 @@ length-fields f = refl
 
 -- its pieces, one after another
 pub record HasPieces (bytes : List ℕ) (o : ℕ) (p : Part) : Type 0 where
-  pub numbers : AreAt bytes o (fields_of p)
   pub gates : LiesAt bytes (o + 28) (flat_map gate p.gates)
   pub code : LiesAt bytes (o + 28 + 8 * length p.gates) p.code
   pub init : LiesAt bytes (o + 28 + 8 * length p.gates + length p.code) p.init
@@ -95,7 +97,6 @@ pieces bytes o p h =
     let after = rest_lies bytes o (o + 28) f (gs ++ (p.code ++ p.init)) (omega (arith, length-fields (fields_of p))) h in
     let contents = rest_lies bytes (o + 28) (o + 28 + 8 * length p.gates) gs (p.code ++ p.init) (omega (arith, length-gates p.gates)) after in
     record {
-      numbers = seven bytes o (fields_of p) (front_lies bytes o f (gs ++ (p.code ++ p.init)) h);
       gates = front_lies bytes (o + 28) gs (p.code ++ p.init) after;
       code = front_lies bytes (o + 28 + 8 * length p.gates) p.code p.init contents;
       init = rest_lies bytes (o + 28 + 8 * length p.gates) (o + 28 + 8 * length p.gates + length p.code) p.code p.init (omega arith) contents;
@@ -116,7 +117,7 @@ code_fits : (format : Format) (n : ℕ) → n ≤ code_most format → n < 2 ^ 3
 code_fits Sfi1 n le = omega arith
 code_fits Sfi2 n le = omega arith
 
-pub words : CodeEnds → (p : Part) → IsRightPart p → AreFieldWords (fields_of p)
+words : CodeEnds → (p : Part) → IsRightPart p → AreFieldWords (fields_of p)
 words law p right =
     let ends = law p right in
     let above = right.guard_room.above in
@@ -133,6 +134,10 @@ words law p right =
       gate_count = omega arith;
       init_len = omega arith;
     }
+
+pub numbers : CodeEnds → (bytes : List ℕ) (o : ℕ) (p : Part) → LiesAt bytes o (part p) → IsRightPart p → AreAt bytes o (fields_of p)
+unfolding part
+numbers law bytes o p h right = seven bytes o (fields_of p) (words law p right) (front_lies bytes o (fields (fields_of p)) _ h)
 
 -- ---- an image
 
@@ -186,7 +191,7 @@ there bytes ps i o h lt lies =
       on = all;
     }
 
-pub go_on : (bytes : List ℕ) (ps : List Part) (i o : ℕ) (h : IsThere bytes ps i o) (t : SfiPart) → t ≡ told_part h.sandbox o
+pub go_on : (bytes : List ℕ) (ps : List Part) (i o : ℕ) (h : IsThere bytes ps i o) (t : SfiPart) → t ≡ told_at h.sandbox o
     → LiesAt bytes (t.init_offset + t.init_size) (flat_map part (drop (suc i) ps))
 go_on bytes ps i o h t e =
     rest_lies bytes o (t.init_offset + t.init_size) (part h.sandbox) (flat_map part (drop (suc i) ps))
@@ -194,28 +199,20 @@ go_on bytes ps i o h t e =
 
 -- ---- what is told
 
-pub tells : (bytes : List ℕ) (ps : List Part) (number : ℕ) (t : SfiPart) → IsImage bytes ps → IsPartAt bytes ps number t → IsPartOf bytes number t
-tells bytes ps number t h at =
-    let all = pieces bytes at.offset at.sandbox at.lies in
+pub tells : (bytes : List ℕ) (p : Part) (t : SfiPart) → IsPartAt bytes p t → Tells bytes p t
+tells bytes p t at =
+    let all = pieces bytes at.offset p at.lies in
     let e = at.told_is in
+    let code = ap (λ (u : SfiPart). u.code_offset) e in
+    let init = ap (λ (u : SfiPart). u.init_offset) e in
     record {
-      parts = ps;
-      image = h;
-      sandbox = at.sandbox;
-      sandbox_is = at.sandbox_is;
-      tells = record {
-        format = ap (λ (u : SfiPart). u.format) e;
-        code_base = ap (λ (u : SfiPart). u.code_base) e;
-        code_size = ap (λ (u : SfiPart). u.code_size) e;
-        data_base = ap (λ (u : SfiPart). u.data_base) e;
-        data_size = ap (λ (u : SfiPart). u.data_size) e;
-        start = ap (λ (u : SfiPart). u.start) e;
-        gates = ap (λ (u : SfiPart). u.gates) e;
-        init_size = ap (λ (u : SfiPart). u.init_size) e;
-        code = subst (λ (m : ℕ). LiesAt bytes m at.sandbox.code) (sym (ap (λ (u : SfiPart). u.code_offset) e)) all.code;
-        init = subst (λ (m : ℕ). LiesAt bytes m at.sandbox.init) (sym (ap (λ (u : SfiPart). u.init_offset) e)) all.init;
-      };
+      told_is = e ∙ sym (ap (λ (m : ℕ). told_part p m t.init_offset) code ∙ ap (λ (m : ℕ). told_part p (code_at p at.offset) m) init);
+      code = subst (λ (m : ℕ). LiesAt bytes m p.code) (sym code) all.code;
+      init = subst (λ (m : ℕ). LiesAt bytes m p.init) (sym init) all.init;
     }
+
+pub gates_are : (bytes : List ℕ) (p : Part) (t : SfiPart) → IsPartAt bytes p t → t.gates ≡ length p.gates
+gates_are bytes p t at = ap (λ (u : SfiPart). u.gates) at.told_is
 
 -- ---- one gate
 
@@ -238,17 +235,14 @@ pub record IsGateThere (bytes : List ℕ) (t : SfiPart) (index : ℕ) (g : Gate)
   pub address : IsWord g.address
   pub service : IsWord g.service
 
-pub one_gate : CodeEnds → (bytes : List ℕ) (ps : List Part) (n index : ℕ) (p : Part) (g : Gate) (t : SfiPart) → IsImage bytes ps → IsPartAt bytes ps n t
-    → slice_get ps n ≡ Some p → slice_get p.gates index ≡ Some g → IsGateThere bytes t index g
-one_gate law bytes ps n index p g t h at is_p is_g =
-    let both : Some at.sandbox ≡ Some p = sym at.sandbox_is ∙ is_p in
-    let same : at.sandbox ≡ p = cc in
-    let right = all_at IsRightPart ps n p h.layout.right.each is_p in
-    let told : t ≡ told_part p at.offset = at.told_is ∙ ap (λ (q : Part). told_part q at.offset) same in
-    let there = gate_there bytes (at.offset + 28) index p.gates g is_g (pieces bytes at.offset p (subst (λ (q : Part). LiesAt bytes at.offset (part q)) same at.lies)).gates in
+pub one_gate : CodeEnds → (bytes : List ℕ) (n index : ℕ) (p : Part) (g : Gate) (t : SfiPart) → IsSandboxOf bytes n p → IsPartAt bytes p t
+    → slice_get p.gates index ≡ Some g → IsGateThere bytes t index g
+one_gate law bytes n index p g t h at is_g =
+    let right = all_at IsRightPart h.parts n p h.image.layout.right.each h.sandbox_is in
+    let there = gate_there bytes (at.offset + 28) index p.gates g is_g (pieces bytes at.offset p at.lies).gates in
     let lt : index < length p.gates = slice_get_within p.gates index g is_g in
-    let gates : t.gates ≡ length p.gates = ap (λ (u : SfiPart). u.gates) told in
-    let code : t.code_offset ≡ at.offset + 28 + 8 * length p.gates = ap (λ (u : SfiPart). u.code_offset) told in
+    let gates = gates_are bytes p t at in
+    let code : t.code_offset ≡ at.offset + 28 + 8 * length p.gates = ap (λ (u : SfiPart). u.code_offset) at.told_is in
     let place : at.offset + 28 + 8 * index ≡ t.code_offset - 8 * (t.gates - index) = omega arith in
     let start = (all_at (λ (x : Gate). IsBundleStart (code_region p) x.address) p.gates index g right.gates.starts is_g).held in
     let service = all_at (λ (x : Gate). x.service ≤ 5) p.gates index g right.gates.services is_g in

@@ -9,6 +9,7 @@ use Rattle.sfi_c.specs.declared.lookup.Lookup.{Lookup}
 use Rattle.sfi_c.specs.declared.lookup.Lookup.TheVariants.{Found, Beyond, NoImage}
 use Rattle.sfi_c.specs.declared.part.SfiGate.{SfiGate}
 use Rattle.sfi_c.specs.declared.part.SfiPart.{SfiPart}
+use Rattle.sfi_c.specs.Arrays.{with_front}
 
 -- ---- numbers
 
@@ -25,6 +26,16 @@ format_number Sfi2 = 2
 
 -- ---- sandboxes
 
+-- the bytes are an image, and this is its sandbox of that number
+pub record IsSandboxOf (bytes : List ℕ) (number : ℕ) (p : Part) : Type 0 where
+  pub parts : List Part
+  pub image : IsImage bytes parts
+  pub sandbox_is : slice_get parts number ≡ Some p
+
+-- the bytes are an image with no sandbox of that number
+abbrev pub IsBeyond : List ℕ → ℕ → Type 0
+IsBeyond bytes number = (ps : List Part) × IsImage bytes ps × (length ps ≤ number)
+
 -- the bytes have this piece after so many others
 pub record LiesAt (bytes : List ℕ) (offset : ℕ) (piece : List ℕ) : Type 0 where
   pub before : List ℕ
@@ -32,31 +43,31 @@ pub record LiesAt (bytes : List ℕ) (offset : ℕ) (piece : List ℕ) : Type 0 
   pub bytes_are : bytes ≡ before ++ (piece ++ after)
   pub offset_is : offset ≡ length before
 
--- what C is told of a sandbox: its numbers, and where its code and its first data bytes lie in the
--- image's bytes
+-- what C is told of a sandbox whose code and first data bytes lie at these offsets
+abbrev pub told_part : Part → ℕ → ℕ → SfiPart
+told_part p code_offset init_offset = record {
+  format = format_number p.format;
+  code_base = p.code_base;
+  code_size = length p.code;
+  data_base = p.data_base;
+  data_size = p.data_size;
+  start = p.start;
+  gates = length p.gates;
+  init_size = length p.init;
+  code_offset = code_offset;
+  init_offset = init_offset;
+}
+
+-- this is told of a sandbox of the image with these bytes, in which its code and its first data
+-- bytes lie at the offsets that it names
 pub record Tells (bytes : List ℕ) (p : Part) (t : SfiPart) : Type 0 where
-  pub format : t.format ≡ format_number p.format
-  pub code_base : t.code_base ≡ p.code_base
-  pub code_size : t.code_size ≡ length p.code
-  pub data_base : t.data_base ≡ p.data_base
-  pub data_size : t.data_size ≡ p.data_size
-  pub start : t.start ≡ p.start
-  pub gates : t.gates ≡ length p.gates
-  pub init_size : t.init_size ≡ length p.init
+  pub told_is : t ≡ told_part p t.code_offset t.init_offset
   pub code : LiesAt bytes t.code_offset p.code
   pub init : LiesAt bytes t.init_offset p.init
 
 -- the bytes are an image, and this is told of its sandbox of that number
-pub record IsPartOf (bytes : List ℕ) (number : ℕ) (t : SfiPart) : Type 0 where
-  pub parts : List Part
-  pub image : IsImage bytes parts
-  pub sandbox : Part
-  pub sandbox_is : slice_get parts number ≡ Some sandbox
-  pub tells : Tells bytes sandbox t
-
--- the bytes are an image with no sandbox of that number
-abbrev pub IsBeyond : List ℕ → ℕ → Type 0
-IsBeyond bytes number = (ps : List Part) × IsImage bytes ps × (length ps ≤ number)
+abbrev pub IsPartOf : List ℕ → ℕ → SfiPart → Type 0
+IsPartOf bytes number t = (p : Part) × IsSandboxOf bytes number p × Tells bytes p t
 
 -- ---- gates
 
@@ -65,22 +76,23 @@ abbrev pub told_gate : Gate → SfiGate
 told_gate g = record { address = g.address; service = g.service }
 
 -- the bytes are an image, and this is the gate of that index of its sandbox of that number
-pub record IsGateOf (bytes : List ℕ) (number index : ℕ) (t : SfiGate) : Type 0 where
-  pub parts : List Part
-  pub image : IsImage bytes parts
-  pub sandbox : Part
-  pub sandbox_is : slice_get parts number ≡ Some sandbox
-  pub gate : Gate
-  pub gate_is : slice_get sandbox.gates index ≡ Some gate
-  pub tells : t ≡ told_gate gate
+abbrev pub IsGateOf : List ℕ → ℕ → ℕ → SfiGate → Type 0
+IsGateOf bytes number index t =
+    (p : Part) × (g : Gate) × IsSandboxOf bytes number p × (slice_get p.gates index ≡ Some g)
+    × (t ≡ told_gate g)
 
--- the sandbox of that number has no gate of that index
-pub record HasNoGate (ps : List Part) (number index : ℕ) : Type 0 where
-  pub sandbox : Part
-  pub sandbox_is : slice_get ps number ≡ Some sandbox
-  pub too_few : length sandbox.gates ≤ index
-
--- the bytes are an image with no such gate
+-- the bytes are an image with no such gate: it has no such sandbox, or the sandbox has fewer gates
 abbrev pub IsBeyondGates : List ℕ → ℕ → ℕ → Type 0
 IsBeyondGates bytes number index =
-    (ps : List Part) × IsImage bytes ps × ((length ps ≤ number) ⊎ HasNoGate ps number index)
+    IsBeyond bytes number
+    ⊎ ((p : Part) × IsSandboxOf bytes number p × (length p.gates ≤ index))
+
+-- an array after gates were written to it
+abbrev pub with_gates : List Gate → List SfiGate → List SfiGate
+with_gates gs array = with_front told_gate gs array
+
+-- the bytes are an image, and this is what the array became when the gates of its sandbox of that
+-- number were written to it
+abbrev pub AreGatesOf : List ℕ → ℕ → List SfiGate → List SfiGate → Type 0
+AreGatesOf bytes number before after =
+    (p : Part) × IsSandboxOf bytes number p × (after ≡ with_gates p.gates before)

@@ -1,5 +1,5 @@
 -- What C is told of an image's bytes.
-use Rattle.std.specs.Prelude.{◌≡◌, ℕ, List, ◌∷◌, ◌++◌, length, map, take, drop}
+use Rattle.std.specs.Prelude.{◌≡◌, ℕ, List, ◌∷◌, length}
 use Rattle.sfi_image.specs.declared.fault.LayoutFault.{LayoutFault}
 use Rattle.sfi_image.specs.Spelling.{Part}
 use Rattle.sfi_image.specs.Faults.{IsFault, number_of as fault_number}
@@ -10,6 +10,7 @@ use Rattle.sfi_check.specs.Verdict.{IsAccepted, HasFindings, bundle_count}
 use Rattle.sfi_c.specs.declared.finding.SfiFinding.{SfiFinding}
 use Rattle.sfi_c.specs.declared.verdict.SfiVerdict.{SfiVerdict}
 use Rattle.sfi_c.specs.declared.status.Status.TheVariants.{Accepted, Refused, NoImage}
+use Rattle.sfi_c.specs.Arrays.{with_front}
 use Rattle.sfi_c.specs.Statuses.{number_of}
 
 -- ---- findings
@@ -22,10 +23,9 @@ told f = record { sandbox = f.sandbox; address = f.address; rule = rule_number f
 abbrev pub no_finding : SfiFinding
 no_finding = record { sandbox = 0; address = 0; rule = 0 }
 
--- an array after findings were written to it: at its front those that it has room for, and then
--- what it held there before
+-- an array after findings were written to it
 abbrev pub with_findings : List Finding → List SfiFinding → List SfiFinding
-with_findings found array = map told (take (length array) found) ++ drop (length found) array
+with_findings found array = with_front told found array
 
 -- ---- verdicts: what a status doesn't speak of is 0
 

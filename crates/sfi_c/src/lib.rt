@@ -28,7 +28,7 @@ mod verdict;
 pub use checking::{sfi_c_check, sfi_c_findings};
 pub use feeding::{sfi_c_begin, sfi_c_end, sfi_c_feed};
 pub use finding::SfiFinding;
-pub use looking::{sfi_c_gate, sfi_c_part};
+pub use looking::{sfi_c_gate, sfi_c_gates, sfi_c_part};
 pub use lookup::Lookup;
 pub use part::{SfiGate, SfiPart};
 pub use status::Status;

@@ -1,15 +1,13 @@
 //! The calls by which C reads what is in an image.
-ghost use Rattle.std.specs.Prelude.{◌≡◌, ◌≢◌, ◌<◌, ◌≤◌, List, Some, length, slice_get};
+ghost use Rattle.std.specs.Prelude.{◌≡◌, ◌≢◌, ◌<◌, ◌≤◌, length};
 ghost use Rattle.sfi_image.specs.declared.fault.LayoutFault.{LayoutFault};
 ghost use Rattle.sfi_image.specs.Spelling.{Part};
-ghost use Rattle.sfi_image.specs.Images.{IsImage};
 ghost use Rattle.sfi_image.specs.Faults.{IsFault};
-ghost use Rattle.sfi_c.specs.Parts.{lookup_number, IsPartOf, IsBeyond, IsGateOf, HasNoGate, IsBeyondGates};
-ghost use Rattle.sfi_c.specs.private.Places.{IsPartAt};
+ghost use Rattle.sfi_c.specs.Parts.{lookup_number, IsSandboxOf, IsPartOf, IsBeyond, IsGateOf, IsBeyondGates, AreGatesOf};
 
 use crate::layout::is_image;
 use crate::lookup::Lookup;
-use crate::part::{SfiGate, SfiPart, gate_of, number_at, part_of};
+use crate::part::{SfiGate, SfiPart, gate_of, number_at, part_of, write_gates};
 use sfi_image::one_reading;
 
 /// Where the count of sandboxes lies.
@@ -17,8 +15,7 @@ const COUNT_OFFSET: usize = 4;
 
 /// Whether the bytes are an image with a sandbox of that number.
 fn look_up(image: &[u8], number: u32) -> Lookup
-    ensures found { result ≡ Lookup.Found
-        → (ps : List Part) × IsImage image.now ps × (number < length ps) }
+    ensures found { result ≡ Lookup.Found → (p : Part) × IsSandboxOf image.now number p }
     ensures beyond { result ≡ Lookup.Beyond → IsBeyond image.now number }
     ensures layout { result ≡ Lookup.NoImage → (k : LayoutFault) × IsFault image.now k }
 {
@@ -35,8 +32,8 @@ fn look_up(image: &[u8], number: u32) -> Lookup
 
 /// Whether the bytes are an image with a gate of that index in the sandbox of that number.
 fn look_up_gate(image: &[u8], number: u32, index: u32) -> Lookup
-    ensures found { result ≡ Lookup.Found → (ps : List Part) × (p : Part) × IsImage image.now ps
-        × (slice_get ps number ≡ Some p) × (index < length p.gates) }
+    ensures found { result ≡ Lookup.Found
+        → (p : Part) × IsSandboxOf image.now number p × (index < length p.gates) }
     ensures beyond { result ≡ Lookup.Beyond → IsBeyondGates image.now number index }
     ensures layout { result ≡ Lookup.NoImage → (k : LayoutFault) × IsFault image.now k }
 {
@@ -61,7 +58,7 @@ pub extern "C" fn sfi_c_part(image: &[u8], number: u32, part: &mut SfiPart) -> u
     ensures unwritten { result ≢ lookup_number Lookup.Found → part.new ≡ part.old }
 
     // Which bytes get it.
-    ensures only_found { (ps : List Part) → IsImage image.now ps → number < length ps
+    ensures only_found { (p : Part) → IsSandboxOf image.now number p
         → result ≡ lookup_number Lookup.Found }
     ensures only_beyond { IsBeyond image.now number → result ≡ lookup_number Lookup.Beyond }
     ensures only_layout { (k : LayoutFault) → IsFault image.now k
@@ -91,8 +88,7 @@ pub extern "C" fn sfi_c_gate(image: &[u8], number: u32, index: u32, gate: &mut S
     ensures unwritten { result ≢ lookup_number Lookup.Found → gate.new ≡ gate.old }
 
     // Which bytes get it.
-    ensures only_found { (ps : List Part) (p : Part) → IsImage image.now ps
-        → slice_get ps number ≡ Some p → index < length p.gates
+    ensures only_found { (p : Part) → IsSandboxOf image.now number p → index < length p.gates
         → result ≡ lookup_number Lookup.Found }
     ensures only_beyond { IsBeyondGates image.now number index
         → result ≡ lookup_number Lookup.Beyond }
@@ -105,6 +101,38 @@ pub extern "C" fn sfi_c_gate(image: &[u8], number: u32, index: u32, gate: &mut S
     let lookup = look_up_gate(image, number, index);
     if lookup == Lookup::Found {
         *gate = gate_of(image, &part_of(image, number), index);
+    }
+    lookup.number()
+}
+
+/// Writes to the array the gates of the image's sandbox of that number, counted from 0: by address,
+/// from its front on, as many as it has room for. Returns the number of a [`Lookup`] of the sandbox,
+/// whose `gates` tells how many there are. It looks at the layout alone, and takes no memory.
+#[unsafe(no_mangle)]
+pub extern "C" fn sfi_c_gates(image: &[u8], number: u32, array: &mut [SfiGate]) -> u32
+    ensures known { result ≤ 2 }
+
+    // What each status means.
+    ensures found { result ≡ lookup_number Lookup.Found
+        → AreGatesOf image.now number array.old array.new }
+    ensures beyond { result ≡ lookup_number Lookup.Beyond → IsBeyond image.now number }
+    ensures layout { result ≡ lookup_number Lookup.NoImage
+        → (k : LayoutFault) × IsFault image.now k }
+    ensures unwritten { result ≢ lookup_number Lookup.Found → array.new ≡ array.old }
+
+    // Which bytes get it.
+    ensures only_found { (p : Part) → IsSandboxOf image.now number p
+        → result ≡ lookup_number Lookup.Found }
+    ensures only_beyond { IsBeyond image.now number → result ≡ lookup_number Lookup.Beyond }
+    ensures only_layout { (k : LayoutFault) → IsFault image.now k
+        → result ≡ lookup_number Lookup.NoImage }
+{
+    // The law that the contract rests on: this call does nothing.
+    one_reading();
+
+    let lookup = look_up(image, number);
+    if lookup == Lookup::Found {
+        write_gates(image, &part_of(image, number), array);
     }
     lookup.number()
 }

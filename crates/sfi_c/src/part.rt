@@ -1,12 +1,12 @@
 //! Sandboxes and gates of an image as C sees them, and how they are read from its bytes.
-ghost use Rattle.std.specs.Prelude.{◌≡◌, ℕ, ◌<◌, List, Some, length, slice_get};
+ghost use Rattle.std.specs.Prelude.{◌≡◌, ℕ, List, Some, slice_get};
 ghost use Rattle.sfi_policy.specs.declared.format.Format.{Format};
 ghost use Rattle.sfi_image.specs.declared.part.Gate.{Gate};
-ghost use Rattle.sfi_image.specs.Spelling.{Part, number, gate, part, format_of, IsWord};
+ghost use Rattle.sfi_image.specs.Spelling.{Part, gate, part, format_of, IsWord};
 ghost use Rattle.sfi_image.specs.Parts.{IsRightPart};
 ghost use Rattle.sfi_image.specs.Images.{IsImage};
-ghost use Rattle.sfi_c.specs.Parts.{LiesAt, told_gate, format_number};
-ghost use Rattle.sfi_c.specs.private.Places.{IsPartAt, told_part};
+ghost use Rattle.sfi_c.specs.Parts.{IsSandboxOf, LiesAt, told_gate, with_gates, format_number};
+ghost use Rattle.sfi_c.specs.private.Places.{IsPartAt, IsWordAt, told_at};
 
 use sfi_image::code_ends;
 use sfi_policy::Format;
@@ -58,8 +58,8 @@ const GATE_BYTES: usize = 8;
 
 /// The number at the offset.
 pub(crate) fn number_at(image: &[u8], offset: usize) -> u32
-    requires { (n : ℕ) × LiesAt image.now offset (number n) × IsWord n }
-    ensures { (n : ℕ) → LiesAt image.now offset (number n) → IsWord n → result ≡ n }
+    requires { (n : ℕ) × IsWordAt image.now offset n }
+    ensures { (n : ℕ) → IsWordAt image.now offset n → result ≡ n }
 {
     let Some(bytes) = image[offset..].first_chunk::<4>() else {
         unreachable!();
@@ -80,7 +80,7 @@ fn gate_at(image: &[u8], offset: usize) -> SfiGate
 }
 
 /// The number of the format of an image.
-fn format_of(image: &[u8]) -> u32
+fn format_number_of(image: &[u8]) -> u32
     requires { (ps : List Part) × IsImage image.now ps }
     ensures { (ps : List Part) → IsImage image.now ps → result ≡ format_number (format_of ps) }
 {
@@ -91,7 +91,7 @@ fn format_of(image: &[u8]) -> u32
 fn part_at(image: &[u8], offset: usize, format: u32) -> SfiPart
     requires { (p : Part) × LiesAt image.now offset (part p) × IsRightPart p }
     ensures { (p : Part) → LiesAt image.now offset (part p) → IsRightPart p
-        → format ≡ format_number p.format → result ≡ told_part p offset }
+        → format ≡ format_number p.format → result ≡ told_at p offset }
 {
     // The law that the contract rests on: this call does nothing.
     code_ends();
@@ -115,11 +115,10 @@ fn part_at(image: &[u8], offset: usize, format: u32) -> SfiPart
 
 /// The sandbox of that number.
 pub(crate) fn part_of(image: &[u8], number: u32) -> SfiPart
-    requires { (ps : List Part) × IsImage image.now ps × (number < length ps) }
-    ensures { (ps : List Part) → IsImage image.now ps → number < length ps
-        → IsPartAt image.now ps number result }
+    requires { (p : Part) × IsSandboxOf image.now number p }
+    ensures { (p : Part) → IsSandboxOf image.now number p → IsPartAt image.now p result }
 {
-    let format = format_of(image);
+    let format = format_number_of(image);
     let mut offset = HEAD_BYTES;
     for _ in 0..number {
         let part = part_at(image, offset, format);
@@ -130,12 +129,11 @@ pub(crate) fn part_of(image: &[u8], number: u32) -> SfiPart
 
 /// The gate of that index of the sandbox.
 pub(crate) fn gate_of(image: &[u8], part: &SfiPart, index: u32) -> SfiGate
-    requires { (ps : List Part) × (n : ℕ) × (p : Part) × (g : Gate) × IsImage image.now ps
-        × IsPartAt image.now ps n part.now × (slice_get ps n ≡ Some p)
-        × (slice_get p.gates index ≡ Some g) }
-    ensures { (ps : List Part) (n : ℕ) (p : Part) (g : Gate) → IsImage image.now ps
-        → IsPartAt image.now ps n part.now → slice_get ps n ≡ Some p
-        → slice_get p.gates index ≡ Some g → result ≡ told_gate g }
+    requires { (n : ℕ) × (p : Part) × (g : Gate) × IsSandboxOf image.now n p
+        × IsPartAt image.now p part.now × (slice_get p.gates index ≡ Some g) }
+    ensures { (n : ℕ) (p : Part) (g : Gate) → IsSandboxOf image.now n p
+        → IsPartAt image.now p part.now → slice_get p.gates index ≡ Some g
+        → result ≡ told_gate g }
 {
     // The law that the contract rests on: this call does nothing.
     code_ends();
@@ -144,4 +142,16 @@ pub(crate) fn gate_of(image: &[u8], part: &SfiPart, index: u32) -> SfiGate
         image,
         part.code_offset - GATE_BYTES * (part.gates - index) as usize,
     )
+}
+
+/// Writes the gates of the sandbox to the front of the array, as many as it has room for.
+pub(crate) fn write_gates(image: &[u8], part: &SfiPart, array: &mut [SfiGate])
+    requires { (n : ℕ) × (p : Part) × IsSandboxOf image.now n p × IsPartAt image.now p part.now }
+    ensures { (n : ℕ) (p : Part) → IsSandboxOf image.now n p → IsPartAt image.now p part.now
+        → array.new ≡ with_gates p.gates array.old }
+{
+    let count = (part.gates as usize).min(array.len());
+    for i in 0..count {
+        array[i] = gate_of(image, part, i as u32);
+    }
 }

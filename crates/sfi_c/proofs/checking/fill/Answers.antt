@@ -1,4 +1,4 @@
-use Rattle.std.proofs.Common.{◌≡◌, ℕ, List, [], ◌∙◌, ap, sym, subst}
+use Rattle.std.proofs.Common.{ℕ, List, [], ◌∙◌, ap, sym, subst}
 use Rattle.sfi_scan.specs.declared.finding.Finding.{Finding}
 use Rattle.sfi_c.specs.declared.bytes.Bytes.{Bytes}
 use Rattle.sfi_c.specs.Verdicts.{with_findings}

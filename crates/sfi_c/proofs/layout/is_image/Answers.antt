@@ -1,7 +1,7 @@
-use Rattle.std.proofs.Common.{◌≡◌, ◌∙◌, ◌++◌, ℕ, List, [], ◌<◌, length, eqb, true, false, sym, arith}
-use Rattle.std.proofs.lemmas.Bool.{eqb-true, eq-eqb}
+use Rattle.std.proofs.Common.{◌≡◌, ◌∙◌, ℕ, ◌<◌, length, eqb, false, sym, arith}
+use Rattle.std.proofs.lemmas.Bool.{eq-eqb}
 use Rattle.std.proofs.lemmas.List.{take-append-drop}
-use Rattle.sfi_c.proofs.Layouts.{short, faulty, whole, trailing}
+use Rattle.sfi_c.proofs.Layouts.{short, faulty, trailing}
 use Rattle.sfi_c.proofs.layout.is_image.Goals as goal
 
 not_eq_zero : (n : ℕ) → eqb n 0 ≡ false → 0 < n

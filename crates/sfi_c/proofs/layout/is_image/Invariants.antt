@@ -1,4 +1,3 @@
-use Rattle.std.proofs.Common.{◌≡◌, ◌++◌}
 use Rattle.sfi_image.specs.Keeping.{left}
 use Rattle.sfi_c.proofs.Layouts.{IsRead}
 use Rattle.sfi_c.proofs.layout.is_image.Given as goal
