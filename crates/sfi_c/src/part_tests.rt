@@ -1,6 +1,10 @@
 //! What is in an image, as a host reads it.
+ghost use Rattle.std.specs.Prelude.{◌≤◌};
+
 use crate::tests::{EBREAK, MARKED, NOTHING};
-use crate::{Lookup, SfiGate, SfiPart, SfiVerdict, sfi_c_check, sfi_c_gate, sfi_c_part};
+use crate::{
+    Lookup, SfiGate, SfiPart, SfiVerdict, sfi_c_check, sfi_c_gate, sfi_c_gates, sfi_c_part,
+};
 use std::alloc::{AllocError, Global};
 use std::test::Fail;
 
@@ -65,6 +69,16 @@ const NO_GATE: SfiGate = SfiGate {
     service: 9,
 };
 
+const FIRST_GATE: SfiGate = SfiGate {
+    address: 0x0100_0000,
+    service: 1,
+};
+
+const SECOND_GATE: SfiGate = SfiGate {
+    address: 0x0100_0010,
+    service: 4,
+};
+
 // The image, in which no rule is broken.
 fn two_sandboxes(alloc: Global) -> Result<Vec<u8>, AllocError> {
     let mut image = Vec::from_slice(alloc, FIRST_HEAD)?;
@@ -92,6 +106,15 @@ fn gate_of(image: &[u8], number: u32, index: u32) -> (u32, SfiGate) {
     let mut gate = NO_GATE;
     let lookup = sfi_c_gate(image, number, index, &mut gate);
     (lookup, gate)
+}
+
+// The gates in an array with room for one, two or three.
+fn gates_of(image: &[u8], number: u32, room: usize) -> (u32, [SfiGate; 3])
+    requires { room ≤ 3 }
+{
+    let mut gates = [NO_GATE; 3];
+    let lookup = sfi_c_gates(image, number, &mut gates[..room]);
+    (lookup, gates)
 }
 
 #[test]
@@ -123,15 +146,28 @@ fn parts_of_two(rt: HostRuntime) -> Result<(), Fail> {
 fn gates_of_two(rt: HostRuntime) -> Result<(), Fail> {
     let image = two_sandboxes(rt.alloc())?;
     let beyond = Lookup::Beyond.number();
-    for (index, address, service) in [(0u32, 0x0100_0000u32, 1u32), (1, 0x0100_0010, 4)] {
-        assert_eq!(rt;
-            gate_of(&image, 0, index),
-            (0, SfiGate { address, service })
-        );
-    }
+    assert_eq!(rt; gate_of(&image, 0, 0), (0, FIRST_GATE));
+    assert_eq!(rt; gate_of(&image, 0, 1), (0, SECOND_GATE));
     for (number, index) in [(0u32, 2u32), (0, 4_294_967_295), (1, 0), (2, 0)] {
         assert_eq!(rt; gate_of(&image, number, index), (beyond, NO_GATE));
     }
+    Ok(())
+}
+
+// As many as there is room for, and nothing after the last.
+#[test]
+fn all_gates_of_two(rt: HostRuntime) -> Result<(), Fail> {
+    let image = two_sandboxes(rt.alloc())?;
+    let beyond = Lookup::Beyond.number();
+    let none = [NO_GATE; 3];
+    assert_eq!(rt; gates_of(&image, 0, 0), (0, none));
+    assert_eq!(rt; gates_of(&image, 0, 1), (0, [FIRST_GATE, NO_GATE, NO_GATE]));
+    assert_eq!(rt;
+        gates_of(&image, 0, 3),
+        (0, [FIRST_GATE, SECOND_GATE, NO_GATE])
+    );
+    assert_eq!(rt; gates_of(&image, 1, 3), (0, none));
+    assert_eq!(rt; gates_of(&image, 2, 3), (beyond, none));
     Ok(())
 }
 
@@ -143,6 +179,7 @@ fn cut_image(rt: HostRuntime) -> Result<(), Fail> {
     let none = Lookup::NoImage.number();
     assert_eq!(rt; part_of(&image, 0), (none, NO_PART));
     assert_eq!(rt; gate_of(&image, 0, 0), (none, NO_GATE));
+    assert_eq!(rt; gates_of(&image, 0, 3), (none, [NO_GATE; 3]));
     assert_eq!(rt; part_of(b"", 0), (none, NO_PART));
     assert_eq!(rt; gate_of(b"SFI1", 0, 0), (none, NO_GATE));
     Ok(())
