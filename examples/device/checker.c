@@ -109,6 +109,7 @@ bool tell_part(const uint8_t *image, uint32_t length, uint32_t number, struct pa
     part->first_count = told->init_size;
     part->code = image + told->code_offset;
     part->first = image + told->init_offset;
-    tell_gates(image, length, number, part);
+    if (part->gate_count > 0)
+        tell_gates(image, length, number, part);
     return true;
 }
