@@ -36,7 +36,7 @@ called f text w =
 abbrev pub plan_of : Function → List Turn
 plan_of f = record { sandbox = f.sandbox; steps = f.steps } ∷ []
 
--- the sandbox's turn was taken
+-- the sandbox's whole turn was taken
 abbrev pub HasRun : Result ℕ CallError → Type 0
 HasRun (Ok number) = Unit {0}
 HasRun (Err (NotReturned status)) = Unit {0}
