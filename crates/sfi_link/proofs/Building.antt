@@ -46,7 +46,7 @@ link_failed given text source placed linker.Memory means rewritten h = inl refl
 
 module _ (source_law : texts.OneSource) (fault_law : texts.OneFault) (meant_law : texts.MeantHasNoFault) (rewriting_law : sources.OneRewriting) (rewrite_law : sources.OneFault) (never_law : sources.NeverBoth)
     (image_law : links.OneImage) (link_law : links.OneFault) (image_has_no_fault : links.ImageHasNoFault) where
-  same_placed : (text : List ℕ) (s t : List Sandbox) (p q : List Placement) → MeansSource text s → MeansSource text t → AreRewritten s p → AreRewritten t q → p ≡ q
+  pub same_placed : (text : List ℕ) (s t : List Sandbox) (p q : List Placement) → MeansSource text s → MeansSource text t → AreRewritten s p → AreRewritten t q → p ≡ q
   same_placed text s t p q a b x y = rewriting_law t p q (subst (λ u. AreRewritten u p) (source_law text s t a b) x) y
 
   one_build : (given : List Place) → (text xs ys : List ℕ) → IsTextBuild given text xs → IsTextBuild given text ys → xs ≡ ys
@@ -56,13 +56,13 @@ module _ (source_law : texts.OneSource) (fault_law : texts.OneFault) (meant_law 
   not_rewritten : (text : List ℕ) (s t : List Sandbox) (p : List Placement) (f : RewriteFault) → MeansSource text s → MeansSource text t → AreRewritten s p → IsSourceFault t f → ⊥
   not_rewritten text s t p f a b x h = never_law t p f (subst (λ u. AreRewritten u p) (source_law text s t a b) x) h
 
-  never_built : (given : List Place) → (text bytes : List ℕ) (f : BuildFault) → IsTextBuild given text bytes → IsBuildFault given text f → ⊥
+  pub never_built : (given : List Place) → (text bytes : List ℕ) (f : BuildFault) → IsTextBuild given text bytes → IsBuildFault given text f → ⊥
   never_built given text bytes (Text f) a h = meant_law text a.source f a.means h
   never_built given text bytes (Rewrite f) a (t, means, h) = not_rewritten text a.source t a.placed f a.means means a.rewritten h
   never_built given text bytes (Link f) a (t, q, means, rewritten, h) =
       image_has_no_fault given q bytes f (subst (λ p. IsLinkedImage given p bytes) (same_placed text a.source t a.placed q a.means means a.rewritten rewritten) a.image) h
 
-  one_build_fault : (given : List Place) → (text : List ℕ) (f g : BuildFault) → IsBuildFault given text f → IsBuildFault given text g → f ≡ g
+  pub one_build_fault : (given : List Place) → (text : List ℕ) (f g : BuildFault) → IsBuildFault given text f → IsBuildFault given text g → f ≡ g
   one_build_fault given text (Text f) (Text g) a b = ap (λ x. Text x) (fault_law text f g a b)
   one_build_fault given text (Text f) (Rewrite g) a (t, means, h) = absurd (meant_law text t f means a)
   one_build_fault given text (Text f) (Link g) a (t, q, means, rewritten, h) = absurd (meant_law text t f means a)

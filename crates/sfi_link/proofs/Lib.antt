@@ -15,4 +15,5 @@ pub mod Pushed
 pub mod Linking
 pub mod SomeLinking
 pub mod Building
+pub mod Mapping
 pub mod SomeBuilding

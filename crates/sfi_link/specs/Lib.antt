@@ -7,5 +7,6 @@ pub mod Building
 pub mod Answers
 pub mod Standing
 pub mod Texts
+pub mod Names
 pub mod Laws
 pub mod private

@@ -2,3 +2,4 @@
 pub mod Answers
 pub mod Near
 pub mod Texts
+pub mod Names

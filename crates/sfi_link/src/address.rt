@@ -9,7 +9,7 @@ use rv_word::Instr;
 use sfi_policy::BUNDLE_SIZE;
 use sfi_rewrite::PlacedName;
 
-fn address_of(at: Bases, name: PlacedName) -> Option<u32>
+pub(crate) fn address_of(at: Bases, name: PlacedName) -> Option<u32>
     requires near { IsNear at name }
     ensures is { result ≡ address_of at name }
 {

@@ -17,10 +17,12 @@ mod fault;
 pub mod laws;
 mod linker;
 mod lying;
+mod names;
 mod regions;
 
 pub use build_fault::BuildFault;
 pub use builder::{build, build_at};
 pub use fault::LinkFault;
 pub use linker::{link, link_at};
+pub use names::{NameAddress, names_at};
 pub use sfi_place::Place;

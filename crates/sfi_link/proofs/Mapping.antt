@@ -1,0 +1,114 @@
+-- A text has one map.
+use Rattle.std.proofs.Common.{◌≡◌, ℕ, zero, suc, ◌+◌, ◌<◌, List, [], ◌∷◌, ◌++◌, length, take, get_or, refl, sym, subst, ap, ◌∙◌, arith, Some, None, ◌⊎◌, inl, inr, Vec, Global}
+use Rattle.std.specs.Prelude.{slice_get, Result, Ok, Err, IfOk, IfErr}
+use Rattle.std.proofs.lemmas.List.{append-nil, append_assoc}
+use Rattle.rv_source.specs.Source.{Sandbox}
+use Rattle.rv_text.specs.Laws as texts
+use Rattle.sfi_rewrite.specs.declared.placed.PlacedName.{PlacedName}
+use Rattle.sfi_rewrite.specs.Placement.{Placement}
+use Rattle.sfi_rewrite.specs.Laws as sources
+use Rattle.sfi_link.specs.declared.bases.Bases.{Bases}
+use Rattle.sfi_link.specs.declared.build_fault.BuildFault.{BuildFault}
+use Rattle.sfi_place.specs.declared.place.Place.{Place}
+use Rattle.sfi_link.specs.Addresses.{bases_of}
+use Rattle.sfi_image.specs.Spelling.{Part}
+use Rattle.sfi_link.specs.Laws as links
+use Rattle.sfi_link.specs.Linked.{IsLinked, AreLinkedFrom}
+use Rattle.sfi_link.specs.Texts.{IsBuildFault, IsWantOfMemory}
+use Rattle.sfi_link.specs.Names.{MapEntry, entry_of, entries_of, texts_of, map_from, IsTextMap, AnswersMap, AnswersMapFault}
+use Rattle.sfi_link.specs.private.Names.{Maps}
+use Rattle.sfi_link.proofs.Building.{same_placed, never_built, one_build_fault}
+
+-- ---- the names of one sandbox
+
+pub none_placed : (number : ℕ) (at : Bases) (names : List (List ℕ)) → entries_of number at names [] ≡ []
+none_placed number at [] = refl
+none_placed number at (n ∷ names) = refl
+
+-- one name more
+pub entries_more : (number : ℕ) (at : Bases) (names : List (List ℕ)) (placed : List PlacedName) (k : ℕ) (name : List ℕ) (p : PlacedName) → k < length placed
+    → Some name ≡ slice_get names k → entries_of number at names (take (suc k) placed) ≡ entries_of number at names (take k placed) ++ entry_of number at name (get_or placed k p) ∷ []
+entries_more number at [] placed k name p lt there = absurd (cc)
+entries_more number at (n ∷ names) [] k name p lt there = absurd (omega arith)
+entries_more number at (n ∷ names) (q ∷ placed) zero name p lt there =
+    let same : name ≡ n = cc in
+    rw same (ap (λ l. entry_of number at n q ∷ l) (none_placed number at names))
+entries_more number at (n ∷ names) (q ∷ placed) (suc k) name p lt there =
+    ap (λ l. entry_of number at n q ∷ l) (entries_more number at names placed k name p (omega arith) there)
+
+-- where there is no text
+pub entries_end : (number : ℕ) (at : Bases) (names : List (List ℕ)) (placed : List PlacedName) (k : ℕ) → k < length placed
+    → None ≡ slice_get names k → entries_of number at names (take (suc k) placed) ≡ entries_of number at names (take k placed)
+entries_end number at [] placed k lt there = refl
+entries_end number at (n ∷ names) [] k lt there = absurd (omega arith)
+entries_end number at (n ∷ names) (q ∷ placed) zero lt there = absurd (cc)
+entries_end number at (n ∷ names) (q ∷ placed) (suc k) lt there =
+    ap (λ l. entry_of number at n q ∷ l) (entries_end number at names placed k (omega arith) there)
+
+-- the list with one name more
+pub listed_more : (old listed now front : List MapEntry) (e : MapEntry) → listed ≡ old ++ front → now ≡ listed ++ e ∷ [] → now ≡ old ++ (front ++ e ∷ [])
+listed_more old listed now front e before one = one ∙ ap (λ l. l ++ e ∷ []) before ∙ append_assoc old front (e ∷ [])
+
+-- ---- the names of all
+
+pub nothing_placed : (given : List Place) (number : ℕ) (source : List Sandbox) → map_from given number source [] ≡ []
+nothing_placed given number [] = refl
+nothing_placed given number (s ∷ source) = refl
+
+-- one sandbox more
+pub map_more : (given : List Place) (number k n : ℕ) (source : List Sandbox) (placed : List Placement) (s : Sandbox) (p : Placement) → n ≡ number + k → k < length source → k < length placed
+    → s ≡ get_or source k s → p ≡ get_or placed k p
+    → map_from given number source (take (suc k) placed) ≡ map_from given number source (take k placed) ++ entries_of n (bases_of given n p) (texts_of s) p.names
+map_more given number k n [] placed s p e lt within is there = absurd (omega arith)
+map_more given number k n (t ∷ source) [] s p e lt within is there = absurd (omega arith)
+map_more given number zero n (t ∷ source) (q ∷ placed) s p e lt within is there =
+    let same : n ≡ number = omega arith in
+    rw (same, is, there)
+    (ap (λ l. entries_of number (bases_of given number q) (texts_of t) q.names ++ l) (nothing_placed given (number + 1) source) ∙ append-nil (entries_of number (bases_of given number q) (texts_of t) q.names))
+map_more given number (suc k) n (t ∷ source) (q ∷ placed) s p e lt within is there =
+    let front = entries_of number (bases_of given number q) (texts_of t) q.names in
+    ap (λ l. front ++ l) (map_more given (number + 1) k n source placed s p (omega arith) (omega arith) (omega arith) is there)
+    ∙ sym (append_assoc front (map_from given (number + 1) source (take k placed)) (entries_of n (bases_of given n p) (texts_of s) p.names))
+
+-- the sandbox of the image that the one at a place makes
+pub linked_at : (given : List Place) (number k n : ℕ) (ps : List Placement) (qs : List Part) (p : Placement) → n ≡ number + k → k < length ps → p ≡ get_or ps k p → AreLinkedFrom given number ps qs
+    → (q : Part) × IsLinked given n p q
+linked_at given number k n [] qs p e lt is all = absurd (omega arith)
+linked_at given number k n (r ∷ ps) [] p e lt is all = absurd all
+linked_at given number zero n (r ∷ ps) (q ∷ qs) p e lt is all =
+    let same : number ≡ n = omega arith in
+    (q, subst (λ x. IsLinked given n x q) (sym is) (subst (λ m. IsLinked given m r q) same all.0))
+linked_at given number (suc k) n (r ∷ ps) (q ∷ qs) p e lt is all = linked_at given (number + 1) k n ps qs p (omega arith) (omega arith) is all.1
+
+-- ---- one map, or one fault
+
+module _ (source_law : texts.OneSource) (fault_law : texts.OneFault) (meant_law : texts.MeantHasNoFault) (rewriting_law : sources.OneRewriting) (rewrite_law : sources.OneFault) (never_law : sources.NeverBoth)
+    (image_law : links.OneImage) (link_law : links.OneFault) (image_has_no_fault : links.ImageHasNoFault) where
+  one_map : (given : List Place) (text : List ℕ) (xs ys : List MapEntry) → IsTextMap given text xs → IsTextMap given text ys → xs ≡ ys
+  one_map given text xs ys a b =
+      let source = source_law text a.build.source b.build.source a.build.means b.build.means in
+      let placed =
+      same_placed source_law fault_law meant_law rewriting_law rewrite_law never_law image_law link_law image_has_no_fault text a.build.source b.build.source a.build.placed b.build.placed
+      a.build.means b.build.means a.build.rewritten b.build.rewritten in
+      a.entries_are ∙ ap (λ s. map_from given 0 s a.build.placed) source ∙ ap (λ p. map_from given 0 b.build.source p) placed ∙ sym b.entries_are
+
+  pub only_mapped : (given : List Place) (text : List ℕ) (r : Result (Vec MapEntry Global) BuildFault) → Maps given text r → (entries : List MapEntry) → IsTextMap given text entries → AnswersMap entries r
+  only_mapped given text (Ok v) h entries is = one_map given text v.items entries h is
+  only_mapped given text (Err f) (inl h) entries is = h
+  only_mapped given text (Err f) (inr h) entries is =
+      absurd (never_built source_law fault_law meant_law rewriting_law rewrite_law never_law image_law link_law image_has_no_fault given text is.bytes f is.build h)
+
+  pub only_fault : (given : List Place) (text : List ℕ) (r : Result (Vec MapEntry Global) BuildFault) → Maps given text r → (f : BuildFault) → IsBuildFault given text f → AnswersMapFault f r
+  only_fault given text (Ok v) h f is =
+      absurd (never_built source_law fault_law meant_law rewriting_law rewrite_law never_law image_law link_law image_has_no_fault given text h.bytes f h.build is)
+  only_fault given text (Err g) (inl h) f is = inr h
+  only_fault given text (Err g) (inr h) f is =
+      inl (one_build_fault source_law fault_law meant_law rewriting_law rewrite_law never_law image_law link_law image_has_no_fault given text g f h is)
+
+pub means_mapped : (given : List Place) (text : List ℕ) (r : Result (Vec MapEntry Global) BuildFault) → Maps given text r → IfOk r (λ v. IsTextMap given text v.items)
+means_mapped given text (Ok v) h = h
+means_mapped given text (Err f) h = tt
+
+pub means_fault : (given : List Place) (text : List ℕ) (r : Result (Vec MapEntry Global) BuildFault) → Maps given text r → IfErr r (λ f. IsWantOfMemory f ⊎ IsBuildFault given text f)
+means_fault given text (Ok v) h = tt
+means_fault given text (Err f) h = h

@@ -1,0 +1,181 @@
+//! The addresses of a text's names in the image that is built.
+ghost use Rattle.std.specs.Prelude.{◌≡◌, ◌⊎◌, ◌<◌, ◌≤◌, ◌++◌, List, length, map, Err, IfOk, IfErr, OnOk};
+ghost use Rattle.std.specs.List.{All};
+ghost use Rattle.rv_text.specs.Texts.{most_bytes, first_line};
+ghost use Rattle.rv_text.specs.declared.cause.TextCause.TheVariants.{Limit};
+ghost use Rattle.sfi_policy.specs.Limits.{sandboxes_most};
+ghost use Rattle.sfi_rewrite.specs.Placed.{IsPlacedPart};
+ghost use Rattle.sfi_link.specs.declared.build_fault.BuildFault.{BuildFault};
+ghost use Rattle.sfi_link.specs.declared.build_fault.BuildFault.TheVariants.{Text, Link};
+ghost use Rattle.sfi_link.specs.Names.{MapEntry, entries_of, map_from, IsTextMap, AnswersMap, AnswersMapFault};
+ghost use Rattle.sfi_link.specs.Texts.{IsBuildFault, IsWantOfMemory};
+ghost use Rattle.sfi_link.specs.private.Names.{CanBeLinked, Maps};
+ghost use Rattle.sfi_link.specs.private.Near.{AreNear};
+
+use crate::address::address_of;
+use crate::bases::{Bases, bases_of};
+use crate::build_fault::BuildFault;
+use crate::fault::LinkFault;
+use crate::laws::one_linking;
+use crate::linker::link_at;
+use rv_source::{Names, SourcePart};
+use rv_text::laws::{meant_has_no_fault, one_fault as one_text_fault, one_source};
+use rv_text::parse_source;
+use sfi_place::Place;
+use sfi_rewrite::laws::{never_both, one_fault as one_source_fault, one_rewriting};
+use sfi_rewrite::{PlacedName, PlacedPart, rewrite};
+use std::alloc::{AllocError, Global};
+use std::marker::Model;
+
+/// A name of a text, with the address that it has in the image that is built.
+#[derive(Debug, Drop)]
+pub struct NameAddress {
+    sandbox: u32,
+    name: String,
+    named: PlacedName,
+    address: Option<u32>,
+}
+
+impl Model for NameAddress {
+    ghost use Rattle.std.specs.Prelude.{string_bytes};
+    ghost use Rattle.sfi_link.specs.Names.{MapEntry};
+
+    ghost Value = { MapEntry };
+
+    ghost view = { λ n. record {
+      sandbox = n.sandbox;
+      name = string_bytes n.name;
+      named = n.named;
+      address = n.address;
+    } };
+}
+
+impl NameAddress {
+    /// The number of the sandbox that has the name, counted from 0.
+    pub fn sandbox(&self) -> u32
+        ensures { result ≡ self.now.sandbox }
+    {
+        self.sandbox
+    }
+
+    /// The name's text.
+    pub fn name(&self) -> &str
+        ensures { result.now ≡ self.now.name }
+    {
+        self.name.as_str()
+    }
+
+    /// What the name names.
+    pub fn named(&self) -> PlacedName
+        ensures { result ≡ self.now.named }
+    {
+        self.named
+    }
+
+    /// The address that stands for the name; `None` where the text never says what it names.
+    pub fn address(&self) -> Option<u32>
+        ensures { result ≡ self.now.address }
+    {
+        self.address
+    }
+}
+
+// The names of the sandbox of that number come after the names so far.
+fn push_names(
+    alloc: Global,
+    listed: &mut Vec<NameAddress>,
+    number: u32,
+    at: Bases,
+    names: &Names,
+    placed: &[PlacedName],
+) -> Result<(), AllocError>
+    requires near { AreNear at placed.now }
+    ensures { OnOk result (listed.new.items
+        ≡ listed.old.items ++ entries_of number at (map (λ e. e.0) names.now) placed.now) }
+{
+    for (place, named) in placed.iter().enumerate() {
+        let Some(name) = names.text(place) else {
+            continue;
+        };
+        listed.push(NameAddress {
+            sandbox: number,
+            name: String::from_str(alloc, name)?,
+            named: *named,
+            address: address_of(at, *named),
+        })?;
+    }
+    Ok(())
+}
+
+// The names of the sandboxes at these places, by what was placed of each.
+fn names_of(
+    alloc: Global,
+    given: &[Place],
+    source: &[SourcePart],
+    placed: &[PlacedPart],
+) -> Result<Vec<NameAddress>, LinkFault>
+    requires few { length placed.now ≤ sandboxes_most }
+    requires right { All IsPlacedPart placed.now }
+    requires each { length source.now ≡ length placed.now }
+    requires linked { CanBeLinked given.now placed.now }
+    ensures names { IfOk result
+        (λ names. names.items ≡ map_from given.now 0 source.now placed.now) }
+    ensures memory { IfErr result (λ f. IsWantOfMemory (Link f)) }
+{
+    let mut listed = Vec::new(alloc);
+    for (number, part) in placed.iter().enumerate() {
+        let at = bases_of(given, number as u32, part);
+        let names = source[number].names();
+        push_names(alloc, &mut listed, number as u32, at, names, part.names())?;
+    }
+    Ok(listed)
+}
+
+// The names of the text, or its fault.
+fn map_of(alloc: Global, text: &str, places: &[Place]) -> Result<Vec<NameAddress>, BuildFault>
+    ensures maps { Maps places.now text.now result }
+    ensures too_long { most_bytes < length text.now → result ≡ Err (Text (first_line Limit)) }
+{
+    let source = parse_source(alloc, text)?;
+    let placed = rewrite(alloc, &source)?;
+    link_at(alloc, &placed, places)?;
+    Ok(names_of(
+        alloc,
+        places,
+        source.parts(),
+        placed.parts(),
+    )?)
+}
+
+/// The names of a text in the image that is built of it with its sandboxes at these places: sandbox
+/// after sandbox, each name in the order in which it is first seen, with its address. A text that
+/// has no build there has no names, but the fault of its build.
+pub fn names_at(
+    alloc: Global,
+    text: &str,
+    places: &[Place],
+) -> Result<Vec<NameAddress>, BuildFault>
+    // What each answer means.
+    ensures mapped { IfOk result (λ entries. IsTextMap places.now text.now entries.items) }
+    ensures fault { IfErr result (λ f. IsWantOfMemory f ⊎ IsBuildFault places.now text.now f) }
+
+    // Which texts get it, want of memory aside.
+    ensures only_mapped { (entries : List MapEntry)
+        → IsTextMap places.now text.now entries → AnswersMap entries result }
+    ensures only_fault { (f : BuildFault)
+        → IsBuildFault places.now text.now f → AnswersMapFault f result }
+
+    // Of a text above its limit, whatever memory there is.
+    ensures too_long { most_bytes < length text.now → result ≡ Err (Text (first_line Limit)) }
+{
+    // The laws that the contract rests on: these calls do nothing.
+    one_source();
+    one_text_fault();
+    meant_has_no_fault();
+    one_rewriting();
+    one_source_fault();
+    never_both();
+    one_linking();
+
+    map_of(alloc, text, places)
+}
