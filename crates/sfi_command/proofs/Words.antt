@@ -29,7 +29,7 @@ use Rattle.sfi_command.specs.Command.{sfi, quantum_most, rounds_most, texts_of, 
 use Rattle.sfi_command.specs.private.Command.{NamesNothing, IsFaultOfNamed, IsInputFault}
 use Rattle.sfi_command.specs.Numbers.{number_of}
 use Rattle.sfi_command.specs.declared.job.Job.{Job}
-use Rattle.sfi_command.specs.declared.job.Job.TheVariants.{Check, Dis, Build, Run, Convert}
+use Rattle.sfi_command.specs.declared.job.Job.TheVariants.{Check, Dis, Build, Map, Run, Convert}
 use Rattle.sfi_command.specs.declared.job.JobFault.{JobFault}
 use Rattle.sfi_command.specs.declared.job.JobFault.TheVariants.{Usage, Hex, Memory}
 
@@ -199,6 +199,7 @@ only_run : (rows : List Row)
 only_run rows none (Check raw report) names = other_name _ _ 114 99 names.0 refl refl (λ e. absurd (omega (arith, e)))
 only_run rows none Dis names = other_name _ _ 114 100 names refl refl (λ e. absurd (omega (arith, e)))
 only_run rows none (Build places) names = other_name _ _ 114 98 names.0 refl refl (λ e. absurd (omega (arith, e)))
+only_run rows none (Map places) names = other_name _ _ 114 109 names.0 refl refl (λ e. absurd (omega (arith, e)))
 only_run rows none (Run rounds quantum input report) names = none rounds quantum input report names
 only_run rows none Convert names = other_name _ _ 114 99 names refl refl (λ e. absurd (omega (arith, e)))
 

@@ -10,7 +10,7 @@ use Rattle.clap.specs.Walk.{Row, Rule, Text, first_of}
 use Rattle.clap.specs.declared.builder.action.ArgAction.TheVariants.{Append, SetTrue}
 use Rattle.clap.specs.declared.builder.value_parser.ValueParser.TheVariants.{Signed}
 use Rattle.sfi_command.specs.declared.job.Job.{Job}
-use Rattle.sfi_command.specs.declared.job.Job.TheVariants.{Check, Dis, Build, Run, Convert}
+use Rattle.sfi_command.specs.declared.job.Job.TheVariants.{Check, Dis, Build, Map, Run, Convert}
 use Rattle.sfi_command.specs.declared.job.JobFault.{JobFault}
 use Rattle.sfi_command.specs.declared.job.JobFault.TheVariants.{Usage, Hex, Memory}
 use Rattle.sfi_command.specs.Places.{SpellPlaces}
@@ -55,6 +55,10 @@ places_rule = record (value_rule (codes "at")) { action = Some Append }
 abbrev pub build : Shape
 build = record (new_shape (codes "build")) { rules = places_rule ∷ [] }
 
+-- `map [--at CODE:DATA]..`
+abbrev pub map_names : Shape
+map_names = record (new_shape (codes "map")) { rules = places_rule ∷ [] }
+
 -- an option that takes a number from 1 to the most, with its default
 abbrev pub count_rule : Text → Text → ℕ → Rule
 count_rule name usual most =
@@ -80,8 +84,9 @@ convert = new_shape (codes "convert")
 abbrev pub sfi : App
 sfi =
     with_subcommand
+    (with_subcommand
     (with_subcommand (with_subcommand (with_subcommand (with_subcommand program check) dis) build)
-    run) convert
+    map_names) run) convert
 
 -- ---- jobs
 
@@ -112,8 +117,8 @@ abbrev pub IsNoInput : Option Text → Type 0
 IsNoInput None = ⊥
 IsNoInput (Some text) = IsErr (decode_of text)
 
--- the subcommand, with what was found for its options, asks for the job; a build has the
--- places that its uses of `--at` spell, and a check of an image's own bytes has no report
+-- the subcommand, with what was found for its options, asks for the job; a build and a map have the
+-- places that their uses of `--at` spell, and a check of an image's own bytes has no report
 abbrev pub Names : Option (Text × List Row) → Job → Type 0
 Names None job = ⊥
 Names (Some p) (Check raw report) =
@@ -122,6 +127,8 @@ Names (Some p) (Check raw report) =
 Names (Some p) Dis = p.0 ≡ codes "dis"
 Names (Some p) (Build places) =
     (p.0 ≡ codes "build") × SpellPlaces (texts_of (codes "at") p.1) places.items
+Names (Some p) (Map places) =
+    (p.0 ≡ codes "map") × SpellPlaces (texts_of (codes "at") p.1) places.items
 Names (Some p) (Run rounds quantum input report) =
     (p.0 ≡ codes "run") × IsCount (codes "rounds") rounds_most p.1 rounds
     × IsCount (codes "quantum") quantum_most p.1 quantum

@@ -6,7 +6,7 @@ ghost use Rattle.clap.specs.Simple.{app_of, new_app};
 ghost use Rattle.clap.specs.Values.{kind_of};
 ghost use Rattle.clap.specs.Walk.{first_of, rows_of, rule_of};
 ghost use Rattle.clap.specs.declared.builder.command.Command.TheViews.{out-Command};
-ghost use Rattle.sfi_command.specs.Command.{build, check, count_rule, flag_rule, input_rule, places_rule, program, quantum_most, rounds_most, run, sfi, texts_of, Asks, IsFaultOf, IsCount, IsGiven, IsInputOf, Names};
+ghost use Rattle.sfi_command.specs.Command.{build, check, count_rule, flag_rule, input_rule, map_names, places_rule, program, quantum_most, rounds_most, run, sfi, texts_of, Asks, IsFaultOf, IsCount, IsGiven, IsInputOf, Names};
 ghost use Rattle.sfi_command.specs.Places.{SpellPlaces};
 ghost use Rattle.sfi_command.specs.private.Command.{IsCommandOf, IsFaultOfNamed, IsInputFault};
 ghost use Rattle.sfi_command.specs.private.Places.{ArePlacesFault};
@@ -77,6 +77,14 @@ fn build_command<'a>(alloc: Global) -> Result<Command<'a>, AllocError>
     build.arg(places_arg(alloc))
 }
 
+/// `map [--at CODE:DATA]..`.
+fn map_command<'a>(alloc: Global) -> Result<Command<'a>, AllocError>
+    ensures { IfOk result (IsCommandOf map_names) }
+{
+    let map = command_named(alloc, "map", help::MAP, help::MAP_NOTES);
+    map.arg(places_arg(alloc))
+}
+
 /// `--rounds N`.
 fn rounds_arg<'a>(alloc: Global) -> Arg<'a>
     ensures rule { rule_of result ≡ count_rule (codes "rounds") (codes "1") rounds_most }
@@ -145,6 +153,7 @@ fn command<'a>(alloc: Global) -> Result<Command<'a>, AllocError>
     let program = program.subcommand(check_command(alloc)?)?;
     let program = program.subcommand(dis)?;
     let program = program.subcommand(build_command(alloc)?)?;
+    let program = program.subcommand(map_command(alloc)?)?;
     let program = program.subcommand(run_command(alloc)?)?;
     program.subcommand(convert)
 }
@@ -245,6 +254,16 @@ fn build_of(alloc: Global, found: &ArgMatches<'_>) -> Result<Job, JobFault>
     Ok(Job::Build { places })
 }
 
+/// The map that these options ask for.
+fn map_of(alloc: Global, found: &ArgMatches<'_>) -> Result<Job, JobFault>
+    ensures job { IfOk result (Names (Some (codes "map", rows_of (found_of found.now)))) }
+    ensures fault { IfErr result
+        (IsFaultOfNamed (Some (codes "map", rows_of (found_of found.now)))) }
+{
+    let places = places_of(alloc, found)?;
+    Ok(Job::Map { places })
+}
+
 /// The run that these options ask for.
 fn run_of(alloc: Global, found: &ArgMatches<'_>) -> Result<Job, JobFault>
     ensures job { IfOk result (Names (Some (codes "run", rows_of (found_of found.now)))) }
@@ -295,6 +314,9 @@ fn job_named(alloc: Global, name: &str, found: &ArgMatches<'_>) -> Result<Job, J
     }
     if name == "build" {
         return build_of(alloc, found);
+    }
+    if name == "map" {
+        return map_of(alloc, found);
     }
     if name == "run" {
         return run_of(alloc, found);

@@ -5,7 +5,7 @@
 pub const VERSION: &str = "0.1.0";
 
 pub(crate) const PROGRAM: &str =
-    "Build, check, list, convert and run images of sandboxed RISC-V code (RV32IMC)";
+    "Build, map, check, list, convert and run images of sandboxed RISC-V code (RV32IMC)";
 
 pub(crate) const PROGRAM_NOTES: &str = "\
 Each command reads standard input and writes standard output, lines about
@@ -13,7 +13,7 @@ faults too. Images are hexadecimal text: digits of either case, with white
 space between them. `sfi help COMMAND` says more of a command.
 
 Exit status:
-  0  done: the image is accepted, built, listed, run or converted
+  0  done: the image is accepted, built, mapped, listed, run or converted
   1  refused: the image breaks rules, and the verdict is printed
   2  the input or the text of --input has a fault, which one line names
   3  a usage error, or a help or version text
@@ -85,6 +85,22 @@ Exit status:
 Example:
   sfi build < examples/hi.s > hi.hex
   sfi build --at 20500000:80000000 < examples/hi.s > hi.hex";
+
+pub(crate) const MAP: &str = "Say where the names of a source text lie in its image";
+
+pub(crate) const MAP_NOTES: &str = "\
+Reads a source text as `sfi build` does, and prints a line for each name: its
+sandbox, whether it names a gate, code or data, and its address in the image that
+is built with the same --at:
+  sandbox=S gate NAME at=AAAAAAAA
+
+Exit status:
+  0  the source can be built, and its names are printed
+  2  the source or a place has a fault, and the line says which
+  3, 4, 5  as `sfi help` says
+
+Example:
+  sfi map < examples/hi.s";
 
 pub(crate) const RUN: &str = "Check an image and, if it is accepted, run its sandboxes by turns";
 

@@ -27,6 +27,11 @@ pub enum Job {
         /// places.
         places: Vec<Place>,
     },
+    /// The addresses of a source text's names in the image that it makes.
+    Map {
+        /// Where the sandboxes lie, as for a build.
+        places: Vec<Place>,
+    },
     /// A run of the image's sandboxes. Its bytes come as hexadecimal text.
     Run {
         /// How often each sandbox gets a turn, from 1 to 10000.
@@ -49,7 +54,8 @@ impl Job {
     {
         match self {
             Job::Check { raw, .. } => *raw,
-            Job::Dis | Job::Build { .. } | Job::Run { .. } | Job::Convert => false,
+            Job::Dis | Job::Build { .. } | Job::Map { .. } | Job::Run { .. } | Job::Convert =>
+                false,
         }
     }
 }

@@ -5,7 +5,7 @@ use Rattle.clap.specs.Simple.{subcommand_of}
 use Rattle.sfi_command.specs.Command.{Asks, Names, sfi}
 use Rattle.sfi_command.specs.Jobs.{is_raw}
 use Rattle.sfi_command.specs.declared.job.Job.{Job}
-use Rattle.sfi_command.specs.declared.job.Job.TheVariants.{Check, Dis, Build, Run, Convert}
+use Rattle.sfi_command.specs.declared.job.Job.TheVariants.{Check, Dis, Build, Map, Run, Convert}
 
 no_report : (named : Option (Text × List Row)) → ¬ Names named (Check true true)
 no_report None names = names
@@ -17,5 +17,6 @@ raw_check words (Check true false) raw asked = refl
 raw_check words (Check false report) raw asked = absurd (cc)
 raw_check words Dis raw asked = absurd (cc)
 raw_check words (Build places) raw asked = absurd (cc)
+raw_check words (Map places) raw asked = absurd (cc)
 raw_check words (Run rounds quantum given report) raw asked = absurd (cc)
 raw_check words Convert raw asked = absurd (cc)

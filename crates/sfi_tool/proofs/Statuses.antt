@@ -5,7 +5,7 @@ use Rattle.sfi_tool.specs.commands.Checking.{SaysVerdict}
 use Rattle.sfi_tool.specs.commands.Running.{SaysRun}
 use Rattle.sfi_tool.specs.commands.Converting.{SaysConversion}
 use Rattle.sfi_command.specs.declared.job.Job.{Job}
-use Rattle.sfi_command.specs.declared.job.Job.TheVariants.{Check, Dis, Build, Run, Convert}
+use Rattle.sfi_command.specs.declared.job.Job.TheVariants.{Check, Dis, Build, Map, Run, Convert}
 
 of_verdict : (report : Bool) (bytes : List ℕ) (status : ℕ) (text : List ℕ) → SaysVerdict report bytes status text → status ≤ 1
 of_verdict report bytes status text (inl accepted) = omega (arith, accepted.status_is)
@@ -25,5 +25,6 @@ status_of_answer (Check true report) input status text says = of_verdict report 
 status_of_answer (Check false report) input status text says = of_verdict report says.0 status text says.2
 status_of_answer Dis input status text says = omega (arith, says.2.status_is)
 status_of_answer (Build places) input status text says = omega (arith, says.status_is)
+status_of_answer (Map places) input status text says = absurd says
 status_of_answer (Run rounds quantum given report) input status text says = of_run rounds quantum given.items report says.0 status text says.2
 status_of_answer Convert input status text says = of_conversion says.0 status text says.2

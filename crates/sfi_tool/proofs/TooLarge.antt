@@ -5,7 +5,7 @@ use Rattle.sfi_io.specs.Input.{IsInput, limit}
 use Rattle.sfi_tool.specs.Says.{HasInputFault, IsDone, IsRefused}
 use Rattle.sfi_io.specs.declared.input.Input.TheVariants.{TooLarge}
 use Rattle.sfi_command.specs.declared.job.Job.{Job}
-use Rattle.sfi_command.specs.declared.job.Job.TheVariants.{Check, Dis, Build, Run, Convert}
+use Rattle.sfi_command.specs.declared.job.Job.TheVariants.{Check, Dis, Build, Map, Run, Convert}
 
 -- is a fault to each job that reads a text
 pub too_large : (job : Job) (text : List ℕ) → is_raw job ≡ false → limit < length text → HasInputFault job text
@@ -13,6 +13,7 @@ too_large (Check true report) text read over = absurd (cc)
 too_large (Check false report) text read over = inl (inl over)
 too_large Dis text read over = inl (inl over)
 too_large (Build places) text read over = inl (inl over)
+too_large (Map places) text read over = over
 too_large (Run rounds quantum given report) text read over = inl (inl over)
 too_large Convert text read over = inl (inl over)
 
@@ -22,6 +23,7 @@ not_done (Check true report) text read over done = absurd (cc)
 not_done (Check false report) text read over done = absurd (omega (arith, over, done.1.short))
 not_done Dis text read over done = absurd (omega (arith, over, done.1.short))
 not_done (Build places) text read over done = absurd (omega (arith, over, done.1.short))
+not_done (Map places) text read over done = absurd done
 not_done (Run rounds quantum given report) text read over done = absurd (omega (arith, over, done.1.short))
 not_done Convert text read over done = absurd (omega (arith, over, done.1.short))
 
@@ -31,6 +33,7 @@ not_refused (Check true report) text read over refused = absurd (cc)
 not_refused (Check false report) text read over refused = absurd (omega (arith, over, refused.1.short))
 not_refused Dis text read over refused = absurd refused.2
 not_refused (Build places) text read over refused = absurd refused
+not_refused (Map places) text read over refused = absurd refused
 not_refused (Run rounds quantum given report) text read over refused = absurd (omega (arith, over, refused.1.short))
 not_refused Convert text read over refused = absurd (omega (arith, over, refused.1.short))
 

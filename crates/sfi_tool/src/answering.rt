@@ -31,6 +31,7 @@ fn job_answer(alloc: Global, job: &Job, text: &[u8]) -> Result<Answer, Stop>
         Job::Check { report, .. } => check_answer(alloc, *report, text),
         Job::Dis => listing_answer(alloc, text),
         Job::Build { places } => build_answer(alloc, places, text),
+        Job::Map { .. } => Err(Stop::Memory),
         Job::Run {
             rounds,
             quantum,

@@ -45,6 +45,7 @@ fn usage(rt: HostRuntime) -> Result<(), Fail> {
         ("sfi build --at 0x2050:80000000", NO_PLACE),
         ("sfi build --at 20500000:80000000:1", NO_PLACE),
         ("sfi build --at 1000:2000,3000:4000", NO_PLACE),
+        ("sfi map --at 20500000", NO_PLACE),
         ("sfi check --at 20500000:80000000", "error: "),
         ("sfi run --rounds", "error: "),
         ("sfi run --rounds 0", "error: "),
@@ -136,6 +137,11 @@ fn help(rt: HostRuntime) -> Result<(), Fail> {
             ["build --help", "build -h", "help build"],
             ["build [OPTIONS]\n", "source text", "--at <CODE:DATA> "],
             "build < ",
+        ),
+        (
+            ["map --help", "map -h", "help map"],
+            ["map [OPTIONS]\n", "source text", "--at <CODE:DATA> "],
+            "map < ",
         ),
         (
             ["run --help", "run -h", "help run"],

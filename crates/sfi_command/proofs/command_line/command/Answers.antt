@@ -11,8 +11,10 @@ returns c =
     ∙ ap₂ with_subcommand with_check (ap (λ (a : App). a.top) c.command_named-dis.ensures.app) in
     let with_build = c.in_ok-program-3.ensures.shape c.in_ok-build_command.ensures.local
     ∙ ap₂ with_subcommand with_dis (ap (λ (a : App). a.top) c.in_ok-build_command.ensures.shape_is) in
-    let with_run = c.in_ok-program-4.ensures.shape c.in_ok-run_command.ensures.local
-    ∙ ap₂ with_subcommand with_build (ap (λ (a : App). a.top) c.in_ok-run_command.ensures.shape_is) in
-    IfOk-weaker c.subcommand-5.result _ _
+    let with_map = c.in_ok-program-4.ensures.shape c.in_ok-map_command.ensures.local
+    ∙ ap₂ with_subcommand with_build (ap (λ (a : App). a.top) c.in_ok-map_command.ensures.shape_is) in
+    let with_run = c.in_ok-program-5.ensures.shape c.in_ok-run_command.ensures.local
+    ∙ ap₂ with_subcommand with_map (ap (λ (a : App). a.top) c.in_ok-run_command.ensures.shape_is) in
+    IfOk-weaker c.subcommand-6.result _ _
     (λ r h. h.shape c.command_named-convert.ensures.local ∙ ap₂ with_subcommand with_run (ap (λ (a : App). a.top) c.command_named-convert.ensures.app))
-    c.subcommand-5.ensures
+    c.subcommand-6.ensures
