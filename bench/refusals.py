@@ -60,6 +60,8 @@ def commands(program):
         (["build"], source),
         (["build"], source + b"frob\n"),
         (["build", "--at", "20500000:80000000"], source),
+        (["map"], source),
+        (["map"], source + b"frob\n"),
         (["dis"], image),
         (["run"], image),
         (["run", "--rounds", "3", "--quantum", "8", "--input", "616263"], image),

@@ -12,6 +12,7 @@ mod image_reading;
 mod lines;
 mod link;
 mod listing;
+mod names;
 mod needs;
 mod neighbours;
 mod pieces;

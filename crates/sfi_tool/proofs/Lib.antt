@@ -2,6 +2,7 @@ pub mod Appending
 pub mod Texts
 pub mod Streamed
 pub mod TooLarge
+pub mod SourceStops
 pub mod Statuses
 pub mod Conversions
 pub mod RawJobs

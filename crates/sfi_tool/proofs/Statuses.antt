@@ -25,6 +25,6 @@ status_of_answer (Check true report) input status text says = of_verdict report 
 status_of_answer (Check false report) input status text says = of_verdict report says.0 status text says.2
 status_of_answer Dis input status text says = omega (arith, says.2.status_is)
 status_of_answer (Build places) input status text says = omega (arith, says.status_is)
-status_of_answer (Map places) input status text says = absurd says
+status_of_answer (Map places) input status text says = omega (arith, says.status_is)
 status_of_answer (Run rounds quantum given report) input status text says = of_run rounds quantum given.items report says.0 status text says.2
 status_of_answer Convert input status text says = of_conversion says.0 status text says.2

@@ -13,7 +13,7 @@ too_large (Check true report) text read over = absurd (cc)
 too_large (Check false report) text read over = inl (inl over)
 too_large Dis text read over = inl (inl over)
 too_large (Build places) text read over = inl (inl over)
-too_large (Map places) text read over = over
+too_large (Map places) text read over = inl (inl over)
 too_large (Run rounds quantum given report) text read over = inl (inl over)
 too_large Convert text read over = inl (inl over)
 
@@ -23,7 +23,7 @@ not_done (Check true report) text read over done = absurd (cc)
 not_done (Check false report) text read over done = absurd (omega (arith, over, done.1.short))
 not_done Dis text read over done = absurd (omega (arith, over, done.1.short))
 not_done (Build places) text read over done = absurd (omega (arith, over, done.1.short))
-not_done (Map places) text read over done = absurd done
+not_done (Map places) text read over done = absurd (omega (arith, over, done.1.short))
 not_done (Run rounds quantum given report) text read over done = absurd (omega (arith, over, done.1.short))
 not_done Convert text read over done = absurd (omega (arith, over, done.1.short))
 

@@ -1,6 +1,7 @@
 pub mod Input
 pub mod Verdict
 pub mod RunLines
+pub mod MapLines
 pub mod Meaning
 pub mod commands
 pub mod Says

@@ -1,32 +1,23 @@
 -- What the job that was asked for answers on what was read.
-use Rattle.std.specs.Prelude.{◌<◌, ℕ, List, length, true, false}
-use Rattle.sfi_tool.specs.Input.{limit}
+use Rattle.std.specs.Prelude.{ℕ, List, true, false}
 use Rattle.sfi_command.specs.declared.job.Job.{Job}
 use Rattle.sfi_command.specs.declared.job.Job.TheVariants.{Check, Dis, Build, Map, Run, Convert}
 use Rattle.sfi_tool.specs.Meaning.{Meaning, on_text}
 use Rattle.sfi_tool.specs.commands.Checking.{check}
 use Rattle.sfi_tool.specs.commands.Listing.{dis}
 use Rattle.sfi_tool.specs.commands.Building.{build}
+use Rattle.sfi_tool.specs.commands.Mapping.{map}
 use Rattle.sfi_tool.specs.commands.Running.{run}
 use Rattle.sfi_tool.specs.commands.Converting.{convert}
 
--- a map of names, which no text has yet
-abbrev pub no_map : Meaning
-no_map = record {
-  says = λ input status text. ⊥;
-  is_done = λ input. ⊥;
-  is_refused = λ input. ⊥;
-  has_fault = λ input. limit < length input;
-}
-
 -- what is said of each job, by its command. All read hexadecimal text, but for a check of an
--- image's own bytes and a build of a source text
+-- image's own bytes, and a build and a map of a source text
 abbrev pub meaning_of : Job → Meaning
 meaning_of (Check true report) = check report
 meaning_of (Check false report) = on_text (check report)
 meaning_of Dis = on_text dis
 meaning_of (Build places) = build places.items
-meaning_of (Map places) = no_map
+meaning_of (Map places) = map places.items
 meaning_of (Run rounds quantum given report) =
     on_text (run rounds quantum given.items report)
 meaning_of Convert = on_text convert

@@ -2,5 +2,6 @@
 pub mod Checking
 pub mod Listing
 pub mod Building
+pub mod Mapping
 pub mod Running
 pub mod Converting

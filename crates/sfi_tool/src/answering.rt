@@ -11,6 +11,7 @@ use crate::checking::check_answer;
 use crate::converting::conversion_answer;
 use crate::fault::{InputFault, Stop, fault_line, layout_line};
 use crate::listing::listing_answer;
+use crate::mapping::map_answer;
 use crate::running::run_answer;
 use crate::verdict::Answer;
 use sfi_command::Job;
@@ -31,7 +32,7 @@ fn job_answer(alloc: Global, job: &Job, text: &[u8]) -> Result<Answer, Stop>
         Job::Check { report, .. } => check_answer(alloc, *report, text),
         Job::Dis => listing_answer(alloc, text),
         Job::Build { places } => build_answer(alloc, places, text),
-        Job::Map { .. } => Err(Stop::Memory),
+        Job::Map { places } => map_answer(alloc, places, text),
         Job::Run {
             rounds,
             quantum,

@@ -16,7 +16,7 @@ use sfi_place::Place;
 use std::alloc::{AllocError, Global};
 
 /// The source text that was read.
-fn source_text(text: &[u8]) -> Result<&str, Stop>
+pub(crate) fn source_text(text: &[u8]) -> Result<&str, Stop>
     requires { length text.now ≤ limit }
     ensures text { IfOk result (λ source. (source.now ≡ text.now) × IsSourceText text.now) }
     ensures stop { IfErr result (IsSourceStop text.now) }

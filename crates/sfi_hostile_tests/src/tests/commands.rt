@@ -33,7 +33,7 @@ const SMALLEST: [(&str, usize); 4] = [(SFI1, 1), (HEAD, 1), (EBREAK, 64), NONE];
 const PROGRAM: [(&str, usize); 4] = [(SFI1, 1), (HI, 1), (C_EBREAK, 88), ("4869", 1)];
 
 /// Each command, and findings and a fault.
-pub(super) const COMMANDS: [Command; 10] = [
+pub(super) const COMMANDS: [Command; 11] = [
     Command {
         line: "sfi check",
         pieces: SMALLEST,
@@ -63,6 +63,12 @@ pub(super) const COMMANDS: [Command; 10] = [
         pieces: [(SOURCE, 1), NONE, NONE, NONE],
         status: 0,
         front: "534649310100000000005020",
+    },
+    Command {
+        line: "sfi map",
+        pieces: [(SOURCE, 1), NONE, NONE, NONE],
+        status: 0,
+        front: "sandbox=0 gate put at=01000000\nsandbox=0 gate quit at=01000010\n",
     },
     Command {
         line: "sfi dis",

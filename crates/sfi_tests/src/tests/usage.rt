@@ -27,6 +27,8 @@ fn usage(rt: HostRuntime) -> Result<(), Fail> {
         ("sfi build --report", "error: "),
         ("sfi build --raw", "error: "),
         ("sfi build source", "error: "),
+        ("sfi map --report", "error: "),
+        ("sfi map source", "error: "),
         ("sfi dis image", "error: "),
         ("sfi dis --report", "error: "),
         ("sfi dis --raw", "error: "),

@@ -26,5 +26,8 @@ returns-in-Check-clause-says c =
 pub returns-in-Run-clause-says : goal.returns-in-Run-clause-says
 returns-in-Run-clause-says c = answer_says _ _ _ c.run_answer.result c.in-Run.is c.run_answer.ensures.says
 
+pub returns-in-Map-clause-says : goal.returns-in-Map-clause-says
+returns-in-Map-clause-says c = answer_says _ _ _ c.map_answer.result c.in-Map.is c.map_answer.ensures.says
+
 pub returns-in-Build-clause-says : goal.returns-in-Build-clause-says
 returns-in-Build-clause-says c = answer_says _ _ _ c.build_answer.result c.in-Build.is c.build_answer.ensures.says

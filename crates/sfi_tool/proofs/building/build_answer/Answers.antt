@@ -1,18 +1,8 @@
-use Rattle.std.proofs.Common.{ℕ, List, Err, sym, subst}
-use Rattle.sfi_link.specs.declared.build_fault.BuildFault.{BuildFault}
+use Rattle.std.proofs.Common.{ℕ, List, sym, subst}
 use Rattle.sfi_place.specs.declared.place.Place.{Place}
-use Rattle.sfi_link.specs.Texts.{IsTextBuild, IsWantOfMemory}
-use Rattle.sfi_tool.specs.private.Says.{AnswersStatus, StopsBuild}
-use Rattle.sfi_tool.specs.declared.fault.Stop.{Stop}
-use Rattle.sfi_tool.specs.declared.fault.Stop.TheVariants as stop
+use Rattle.sfi_link.specs.Texts.{IsTextBuild}
+use Rattle.sfi_tool.proofs.SourceStops.{memory_stops}
 use Rattle.sfi_tool.proofs.building.build_answer.Goals as goal
-
--- where memory ran out, no fault is answered
-memory_stops : (f : BuildFault) (s : Stop) → StopsBuild f s → IsWantOfMemory f → AnswersStatus 0 (Err s)
-memory_stops f (stop.Input fault) stops want = absurd stops
-memory_stops f (stop.Layout fault) stops want = absurd stops
-memory_stops f (stop.Build fault) stops want = absurd (stops.1 want)
-memory_stops f stop.Memory stops want = tt
 
 pub returns-in-Err-clause-only_done : goal.returns-in-Err-clause-only_done
 returns-in-Err-clause-only_done c done =
