@@ -1,47 +1,91 @@
 //! The addresses of names.
-use sfi_link::names_at;
+use super::{Outcome, run};
+use sfi_link::{Place, names_at};
 use sfi_rewrite::PlacedName;
 use std::test::Fail;
 
-// Two sandboxes, each with its own names: a gate, labels of code and of data.
+// Two sandboxes, each with its own names: a gate, a name of data that is seen before its place, and
+// labels of code.
 const SOURCE: &str = ".sandbox 256
 .gate exit 0
-        li   a0, 1
+        la   a0, text
+        lw   a0, 0(a0)
 end:    call exit
 .data
         .word 7
-text:   .byte 72
+text:   .word 72
 .sandbox 256
 end:    ebreak
 ";
 
+// The place of the first sandbox. A gate's stub is one bundle, and the code begins after it; a label
+// is a bundle start. The usual places are those of docs/SOURCE.md.
+const ELSEWHERE: Place = Place {
+    code_base: 0x2050_0000,
+    data_base: 0x8000_0000,
+};
+
 #[test]
 fn names_have_their_addresses(rt: HostRuntime) -> Result<(), Fail> {
     let alloc = rt.alloc();
-    let names = names_at(alloc, SOURCE)?;
-    // A gate's stub is one bundle, and the code begins after it; a label is a bundle start.
     let rows = [
-        (0, "exit", PlacedName::Gate(0), 0x0100_0000),
-        (0, "end", PlacedName::Code(16), 0x0100_0020),
-        (0, "text", PlacedName::Data(4), 0x0180_0004),
-        (1, "end", PlacedName::Code(0), 0x0200_0000),
+        (0, "exit", PlacedName::Gate(0), 0x0100_0000, 0x2050_0000),
+        (0, "text", PlacedName::Data(4), 0x0180_0004, 0x8000_0004),
+        (0, "end", PlacedName::Code(16), 0x0100_0020, 0x2050_0020),
+        (1, "end", PlacedName::Code(0), 0x0200_0000, 0x0200_0000),
     ];
-    assert_eq!(rt; names.len(), rows.len());
-    for k in 0..rows.len() {
-        let (sandbox, name, named, address) = rows[k];
-        let entry = &names[k];
-        assert_eq!(rt; entry.sandbox(), sandbox, "{name}");
-        assert_eq!(rt; entry.name(), name);
-        assert!(rt; entry.named() == named, "{name}");
-        assert!(rt; entry.address() == Some(address), "{name}");
+    let usual = names_at(alloc, SOURCE, &[])?;
+    let elsewhere = names_at(alloc, SOURCE, &[ELSEWHERE])?;
+    assert_eq!(rt; usual.len(), rows.len());
+    assert_eq!(rt; elsewhere.len(), rows.len());
+    for (k, (sandbox, name, named, usually, there)) in rows.into_iter().enumerate() {
+        for (entry, address) in [(&usual[k], usually), (&elsewhere[k], there)] {
+            assert_eq!(rt; entry.sandbox(), sandbox, "{name}");
+            assert_eq!(rt; entry.name(), name);
+            assert!(rt; entry.named() == named, "{name}");
+            assert!(rt; entry.address() == Some(address), "{name}");
+        }
     }
     Ok(())
 }
 
-// What has no build has no names: nothing says what this one names.
+// What the command prints: the lines, or the fault that `build` names.
 #[test]
-fn a_text_without_a_build_has_no_names(rt: HostRuntime) -> Result<(), Fail> {
+fn maps(rt: HostRuntime) -> Result<(), Fail> {
     let alloc = rt.alloc();
-    assert!(rt; names_at(alloc, ".sandbox 256\nj nowhere\n").is_err());
+    let rows = [
+        (
+            "sfi map",
+            SOURCE,
+            0,
+            "sandbox=0 gate exit at=01000000\nsandbox=0 data text at=01800004\n\
+             sandbox=0 code end at=01000020\nsandbox=1 code end at=02000000\n",
+        ),
+        (
+            "sfi map --at 20500000:80000000",
+            SOURCE,
+            0,
+            "sandbox=0 gate exit at=20500000\nsandbox=0 data text at=80000004\n\
+             sandbox=0 code end at=20500020\nsandbox=1 code end at=02000000\n",
+        ),
+        ("sfi map", ".sandbox 256\nret\n", 0, ""),
+        (
+            "sfi map",
+            ".sandbox 256\nj nowhere\n",
+            2,
+            "link fault 1 UnknownName line 2\n",
+        ),
+        (
+            "sfi map --at 20500080:80000000",
+            SOURCE,
+            2,
+            "link fault 6 Place sandbox 0\n",
+        ),
+    ];
+    for (line, source, wanted_status, wanted) in rows {
+        let Outcome { status, text } = run(alloc, line, source.as_bytes())?;
+        assert_eq!(rt; text.as_slice(), wanted.as_bytes(), "{line}");
+        assert_eq!(rt; status, wanted_status, "{line}");
+    }
     Ok(())
 }
