@@ -139,22 +139,13 @@ fn map_of(alloc: Global, text: &str, places: &[Place]) -> Result<Vec<NameAddress
     let source = parse_source(alloc, text)?;
     let placed = rewrite(alloc, &source)?;
     link_at(alloc, &placed, places)?;
-    Ok(names_of(
-        alloc,
-        places,
-        source.parts(),
-        placed.parts(),
-    )?)
+    Ok(names_of(alloc, places, source.parts(), placed.parts())?)
 }
 
 /// The names of a text in the image that is built of it with its sandboxes at these places: sandbox
 /// after sandbox, each name in the order in which it is first seen, with its address. A text that
 /// has no build there has no names, but the fault of its build.
-pub fn names_at(
-    alloc: Global,
-    text: &str,
-    places: &[Place],
-) -> Result<Vec<NameAddress>, BuildFault>
+pub fn names_at(alloc: Global, text: &str, places: &[Place]) -> Result<Vec<NameAddress>, BuildFault>
     // What each answer means.
     ensures mapped { IfOk result (λ entries. IsTextMap places.now text.now entries.items) }
     ensures fault { IfErr result (λ f. IsWantOfMemory f ⊎ IsBuildFault places.now text.now f) }
