@@ -33,6 +33,44 @@ fn elsewhere(rt: HostRuntime) -> Result<(), Fail> {
     Ok(())
 }
 
+// A branch back, addresses of code and data, and an indirect jump.
+const JUMPS: &str = ".sandbox 256
+.gate exit 0
+        li   a0, 3
+loop:   addi a0, a0, -1
+        bnez a0, loop
+        la   a1, last
+        jr   a1
+        ebreak
+last:   la   a2, number
+        lw   a0, 0(a2)
+        call exit
+.data
+number: .word 72
+";
+
+// It does the same at high addresses, up to the last one.
+#[test]
+fn high(rt: HostRuntime) -> Result<(), Fail> {
+    let alloc = rt.alloc();
+    let image = run(alloc, "sfi build", JUMPS.as_bytes())?.text;
+    let usual = run(alloc, "sfi run", image.as_slice())?.text;
+    assert!(rt; from_utf8(usual.as_slice())?.starts_with("sandbox=0 exit=72 "));
+    for places in [
+        "7fffff00:80001000",
+        "80000000:7fffe000",
+        "80000000:ffffef00",
+        "ffffff00:80000000",
+    ] {
+        let line = format!(in alloc; "sfi build --at {places}")?;
+        let image = run(alloc, line.as_str(), JUMPS.as_bytes())?.text;
+        let Outcome { status, text } = run(alloc, "sfi run", image.as_slice())?;
+        assert_eq!(rt; text.as_slice(), usual.as_slice(), "{places}");
+        assert_eq!(rt; status, 0, "{places}");
+    }
+    Ok(())
+}
+
 // The usual places may be given, too.
 #[test]
 fn usual(rt: HostRuntime) -> Result<(), Fail> {
