@@ -17,13 +17,13 @@ bases_of-at-requires-clause-fits c =
     let q = linked_at c.args.given.now 0 k k c.args.placed.now c.requires.linked.0 p (omega arith) c.loop-number-test.true c.index-placed-number.is c.requires.linked.1 in
     start_fits c.args.given.now k p _ q.1.code.size.has_room q.1.lies
 
-pub push_names-requires-clause-near : goal.push_names-requires-clause-near
-push_names-requires-clause-near c =
+pub push_names-requires : goal.push_names-requires
+push_names-requires c =
     let k = c.loop-number.number in
     let p = c.index-placed-number.result in
     let q = linked_at c.args.given.now 0 k k c.args.placed.now c.requires.linked.0 p (omega arith) c.loop-number-test.true c.index-placed-number.is c.requires.linked.1 in
     let right : IsPlacedPart p = subst (λ r. IsPlacedPart r) (sym c.index-placed-number.is) (c.requires.right k p c.loop-number-test.true) in
-    rw (c.names.ensures, c.bases_of-at.ensures.is) (near_of c.args.given.now k p _ right q.1.code.size.has_room q.1.lies)
+    rw (c.names.ensures, c.bases_of-at.ensures.is) (record { near = near_of c.args.given.now k p _ right q.1.code.size.has_room q.1.lies })
 
 pub loop-number-preserved : goal.loop-number-preserved
 loop-number-preserved c =
