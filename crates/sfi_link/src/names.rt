@@ -28,7 +28,7 @@ use std::alloc::{AllocError, Global};
 use std::marker::Model;
 
 /// A name of a text, with the address that it has in the image that is built.
-#[derive(Debug, Drop)]
+#[derive(Drop)]
 pub struct NameAddress {
     sandbox: u32,
     name: String,

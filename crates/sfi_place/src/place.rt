@@ -10,7 +10,7 @@ const SANDBOX_STRIDE: u32 = 0x0100_0000;
 const DATA_OFFSET: u32 = 0x0080_0000;
 
 /// Where the two regions of a sandbox begin.
-#[derive(Clone, Copy, Debug, PartialEq, Eq)]
+#[derive(Clone, Copy, Debug)]
 pub struct Place {
     /// The first address of the code region.
     pub code_base: u32,
