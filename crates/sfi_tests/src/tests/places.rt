@@ -3,6 +3,7 @@ use super::lines::ACCEPTED;
 use super::programs::{HI_EXAMPLE, HI_SAID};
 use super::{Outcome, run, words_of};
 use sfi_tool::{Job, job_of};
+use std::alloc::Global;
 use std::str::from_utf8;
 use std::test::Fail;
 
@@ -49,12 +50,21 @@ last:   la   a2, number
 number: .word 72
 ";
 
+// What a command prints that ends in 0.
+fn printed(alloc: Global, line: &str, input: &[u8]) -> Result<Vec<u8>, Fail> {
+    let Outcome { status, text } = run(alloc, line, input)?;
+    match status {
+        0 => Ok(text),
+        _ => Err(Fail::new("the command isn't done")),
+    }
+}
+
 // It does the same at high addresses, up to the last one.
 #[test]
 fn high(rt: HostRuntime) -> Result<(), Fail> {
     let alloc = rt.alloc();
-    let image = run(alloc, "sfi build", JUMPS.as_bytes())?.text;
-    let usual = run(alloc, "sfi run", image.as_slice())?.text;
+    let image = printed(alloc, "sfi build", JUMPS.as_bytes())?;
+    let usual = printed(alloc, "sfi run", image.as_slice())?;
     assert!(rt; from_utf8(usual.as_slice())?.starts_with("sandbox=0 exit=72 "));
     for places in [
         "7fffff00:80001000",
@@ -63,10 +73,9 @@ fn high(rt: HostRuntime) -> Result<(), Fail> {
         "ffffff00:80000000",
     ] {
         let line = format!(in alloc; "sfi build --at {places}")?;
-        let image = run(alloc, line.as_str(), JUMPS.as_bytes())?.text;
-        let Outcome { status, text } = run(alloc, "sfi run", image.as_slice())?;
-        assert_eq!(rt; text.as_slice(), usual.as_slice(), "{places}");
-        assert_eq!(rt; status, 0, "{places}");
+        let image = printed(alloc, line.as_str(), JUMPS.as_bytes())?;
+        let high = printed(alloc, "sfi run", image.as_slice())?;
+        assert_eq!(rt; high.as_slice(), usual.as_slice(), "{places}");
     }
     Ok(())
 }
