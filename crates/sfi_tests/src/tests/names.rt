@@ -18,8 +18,9 @@ text:   .word 72
 end:    ebreak
 ";
 
-// The place of the first sandbox. A gate's stub is one bundle, and the code begins after it; a label
-// is a bundle start. The usual places are those of docs/SOURCE.md.
+// The place of the first sandbox. A gate's stub is one bundle, and the code begins after it: a bundle
+// with the `la`, one with the masks of the `lw` and itself, and the label's. The usual places are
+// those of docs/SOURCE.md.
 const ELSEWHERE: Place = Place {
     code_base: 0x2050_0000,
     data_base: 0x8000_0000,
@@ -31,7 +32,7 @@ fn names_have_their_addresses(rt: HostRuntime) -> Result<(), Fail> {
     let rows = [
         (0, "exit", 0x0100_0000, 0x2050_0000),
         (0, "text", 0x0180_0004, 0x8000_0004),
-        (0, "end", 0x0100_0020, 0x2050_0020),
+        (0, "end", 0x0100_0030, 0x2050_0030),
         (1, "end", 0x0200_0000, 0x0200_0000),
     ];
     let usual = names_at(alloc, SOURCE, &[])?;
@@ -47,7 +48,7 @@ fn names_have_their_addresses(rt: HostRuntime) -> Result<(), Fail> {
     }
     assert!(rt; matches!(usual[0].named(), PlacedName::Gate(0)));
     assert!(rt; matches!(usual[1].named(), PlacedName::Data(4)));
-    assert!(rt; matches!(usual[2].named(), PlacedName::Code(16)));
+    assert!(rt; matches!(usual[2].named(), PlacedName::Code(32)));
     Ok(())
 }
 
@@ -61,14 +62,14 @@ fn maps(rt: HostRuntime) -> Result<(), Fail> {
             SOURCE,
             0,
             "sandbox=0 gate exit at=01000000\nsandbox=0 data text at=01800004\n\
-             sandbox=0 code end at=01000020\nsandbox=1 code end at=02000000\n",
+             sandbox=0 code end at=01000030\nsandbox=1 code end at=02000000\n",
         ),
         (
             "sfi map --at 20500000:80000000",
             SOURCE,
             0,
             "sandbox=0 gate exit at=20500000\nsandbox=0 data text at=80000004\n\
-             sandbox=0 code end at=20500020\nsandbox=1 code end at=02000000\n",
+             sandbox=0 code end at=20500030\nsandbox=1 code end at=02000000\n",
         ),
         ("sfi map", ".sandbox 256\nret\n", 0, ""),
         (
