@@ -2,11 +2,11 @@
 
 ghost use Rattle.std.specs.Prelude.{◌≡◌, ◌≢◌, ℕ, false, IfOk, IfErr, IfSome, codes, map, string_bytes};
 ghost use Rattle.clap.specs.Matches.{found_of};
-ghost use Rattle.clap.specs.Simple.{app_of, new_app};
+ghost use Rattle.clap.specs.Simple.{Shape, app_of, new_app, with_subcommand};
 ghost use Rattle.clap.specs.Values.{kind_of};
 ghost use Rattle.clap.specs.Walk.{first_of, rows_of, rule_of};
 ghost use Rattle.clap.specs.declared.builder.command.Command.TheViews.{out-Command};
-ghost use Rattle.sfi_command.specs.Command.{build, check, count_rule, flag_rule, input_rule, map_names, places_rule, program, quantum_most, rounds_most, run, sfi, texts_of, Asks, IsFaultOf, IsCount, IsGiven, IsInputOf, Names};
+ghost use Rattle.sfi_command.specs.Command.{build, check, convert, count_rule, dis, flag_rule, input_rule, map_names, places_rule, program, quantum_most, rounds_most, run, sfi, texts_of, Asks, IsFaultOf, IsCount, IsGiven, IsInputOf, Names};
 ghost use Rattle.sfi_command.specs.Places.{SpellPlaces};
 ghost use Rattle.sfi_command.specs.private.Command.{IsCommandOf, IsFaultOfNamed, IsInputFault};
 ghost use Rattle.sfi_command.specs.private.Places.{ArePlacesFault};
@@ -51,10 +51,16 @@ fn flag<'a>(alloc: Global, name: &'a str, about: &'a str) -> Arg<'a>
 fn check_command<'a>(alloc: Global) -> Result<Command<'a>, AllocError>
     ensures { IfOk result (IsCommandOf check) }
 {
-    let raw = flag(alloc, "raw", help::CHECK_RAW);
-    let report = flag(alloc, "report", help::CHECK_REPORT);
-    let check = command_named(alloc, "check", help::CHECK, help::CHECK_NOTES);
-    check.arg(raw)?.arg(report)
+    command_named(alloc, "check", help::CHECK, help::CHECK_NOTES)
+        .arg(flag(alloc, "raw", help::CHECK_RAW))?
+        .arg(flag(alloc, "report", help::CHECK_REPORT))
+}
+
+/// `dis`.
+fn dis_command<'a>(alloc: Global) -> Result<Command<'a>, AllocError>
+    ensures { IfOk result (IsCommandOf dis) }
+{
+    Ok(command_named(alloc, "dis", help::DIS, help::DIS_NOTES))
 }
 
 /// `--at CODE:DATA`, which may be given again and again.
@@ -126,12 +132,18 @@ fn input_arg<'a>(alloc: Global) -> Arg<'a>
 fn run_command<'a>(alloc: Global) -> Result<Command<'a>, AllocError>
     ensures { IfOk result (IsCommandOf run) }
 {
-    let rounds = rounds_arg(alloc);
-    let quantum = quantum_arg(alloc);
-    let input = input_arg(alloc);
-    let report = flag(alloc, "report", help::RUN_REPORT);
-    let run = command_named(alloc, "run", help::RUN, help::RUN_NOTES);
-    run.arg(rounds)?.arg(quantum)?.arg(input)?.arg(report)
+    command_named(alloc, "run", help::RUN, help::RUN_NOTES)
+        .arg(rounds_arg(alloc))?
+        .arg(quantum_arg(alloc))?
+        .arg(input_arg(alloc))?
+        .arg(flag(alloc, "report", help::RUN_REPORT))
+}
+
+/// `convert`.
+fn convert_command<'a>(alloc: Global) -> Result<Command<'a>, AllocError>
+    ensures { IfOk result (IsCommandOf convert) }
+{
+    Ok(command_named(alloc, "convert", help::CONVERT, help::CONVERT_NOTES))
 }
 
 /// The program without its subcommands.
@@ -143,19 +155,27 @@ fn program_command<'a>(alloc: Global) -> Command<'a>
         .subcommand_required(true)
 }
 
+/// The command with a subcommand more.
+fn with_subcommand<'a>(
+    command: Command<'a>,
+    subcommand: Result<Command<'a>, AllocError>,
+) -> Result<Command<'a>, AllocError>
+    ensures { (s : Shape) → IfOk subcommand.entry (IsCommandOf s)
+        → IfOk result (λ c. app_of c ≡ with_subcommand (app_of command.entry) s) }
+{
+    command.subcommand(subcommand?)
+}
+
 /// The program with its subcommands.
 fn command<'a>(alloc: Global) -> Result<Command<'a>, AllocError>
     ensures { IfOk result (λ c. app_of c ≡ sfi) }
 {
-    let program = program_command(alloc);
-    let dis = command_named(alloc, "dis", help::DIS, help::DIS_NOTES);
-    let convert = command_named(alloc, "convert", help::CONVERT, help::CONVERT_NOTES);
-    let program = program.subcommand(check_command(alloc)?)?;
-    let program = program.subcommand(dis)?;
-    let program = program.subcommand(build_command(alloc)?)?;
-    let program = program.subcommand(map_command(alloc)?)?;
-    let program = program.subcommand(run_command(alloc)?)?;
-    program.subcommand(convert)
+    let program = with_subcommand(program_command(alloc), check_command(alloc))?;
+    let program = with_subcommand(program, dis_command(alloc))?;
+    let program = with_subcommand(program, build_command(alloc))?;
+    let program = with_subcommand(program, map_command(alloc))?;
+    let program = with_subcommand(program, run_command(alloc))?;
+    with_subcommand(program, convert_command(alloc))
 }
 
 /// What is printed for words that don't parse, or ask for help or the version.
