@@ -147,8 +147,9 @@ pub(crate) const REST: HalfTable = half_table![
 pub(crate) const FREE: u8 = 0b0011_1111;
 pub(crate) const ACCESSES: u8 = 0b1100_0000;
 
-/// The classes of [`REST`] that are free where x2 isn't a stack pointer.
+/// The classes of [`REST`] that are free in each format, and where x2 isn't a stack pointer.
+pub(crate) const ALL: u8 = 0b1111_1111;
 pub(crate) const PLAIN: u8 = 0b0110_0110;
 
-/// The classes of each table that name no register to be written in bits 11:7.
+/// The classes of each table that are no writes to the register that bits 11:7 name.
 pub(crate) const NO_RD: u8 = 0b1000_0011;
