@@ -1,1 +1,3 @@
 pub mod Vectors
+pub mod Quarter
+pub mod SideBySide

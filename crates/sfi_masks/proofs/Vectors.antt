@@ -5,8 +5,8 @@ use Rattle.std.specs.Int.{bit_at}
 use Rattle.std.proofs.lemmas.Bool.{agree_below, agree_below_at}
 use Rattle.std.proofs.lemmas.List.{get_or-map, length-map, take-take, take_all, take-append-drop, length-drop}
 use Rattle.std.proofs.lemmas.Nat.{and_mask}
-use Rattle.std.proofs.lemmas.Simd.{length-zip2, get_or-zip2, length-replicate, get_or-replicate, Each1-from_get_or, Each1-get_or, swz_l, SwzOk, SwzOk-from_below, length-swz_l, get_or-swz_l_below, bitmask_splat, mask_l-lt, bit_mask_l}
-use lib.Lanes.{zip2, mask_l, chunk, top, pick_l, Each1}
+use Rattle.std.proofs.lemmas.Simd.{length-zip2, get_or-zip2, length-replicate, get_or-replicate, Each1-from_get_or, Each1-get_or, swz_l, SwzOk, SwzOk-from_below, length-swz_l, get_or-swz_l_below, bitmask_splat, mask_l-lt, bit_mask_l, pick_l_left, tops_compared, length-sel_l, get_or-sel_l}
+use lib.Lanes.{zip2, mask_l, chunk, top, pick_l, sel_l, Each1}
 use Rattle.sfi_masks.specs.Masks.{is_in}
 use Rattle.sfi_masks.specs.private.Seen.{HasLanes}
 
@@ -108,3 +108,34 @@ compared_small t v y count =
 pub compared_bits : (t : ℕ → ℕ → Bool) (v : List ℕ) (y : ℕ) → length v ≡ 16 → (i : ℕ) → i < 16 → is_in (compared t v y) i ≡ t (slice_index v i) y
 compared_bits t v y count i h =
     ap (λ n. is_in n i) (compared_is t v y count) ∙ bit_is (map (λ x. t x y) v) i ∙ get_or-map (λ x. t x y) v i 0 false (omega (arith, count))
+-- ---- one lane further
+
+abbrev turned : List ℕ
+turned = 1 ∷ 2 ∷ 3 ∷ 4 ∷ 5 ∷ 6 ∷ 7 ∷ 8 ∷ 9 ∷ 10 ∷ 11 ∷ 12 ∷ 13 ∷ 14 ∷ 15 ∷ 0 ∷ []
+
+turned_is : (i : ℕ) → i < 16 → get_or turned i 0 ≡ (i + 1) % 16
+turned_is i h = eqb-true _ _ (agree_below_at (λ k. eqb (get_or turned k 0) ((k + 1) % 16)) (λ k. true) 16 i refl h)
+
+pub rotated : (v : List ℕ) (a : ℕ → ℕ) → HasLanes v a → HasLanes (pick_l 0 (v ++ v) turned) (λ i. a ((i + 1) % 16))
+rotated v a p =
+    let is = picked v v turned (λ i. (i + 1) % 16) refl refl turned_is in
+    subst (λ w. HasLanes w (λ i. a ((i + 1) % 16))) (sym (pick_l_left 0 v v 16 turned p.count tt))
+    (same_lanes _ _ _ is (λ i h. p.lanes ((i + 1) % 16) (omega arith)))
+
+-- ---- one of two numbers, by a comparison with a third
+
+pub chosen : (v : List ℕ) (a : ℕ → ℕ) (y one other : ℕ) → HasLanes v a
+    → HasLanes (sel_l (map (top 7) (zip2 (λ x z. cond (eqb x z) 255 0) v (replicate 16 y))) (replicate 16 one) (replicate 16 other)) (λ i. cond (eqb (a i) y) one other)
+chosen v a y one other p =
+    let ms = zip2 eqb v (replicate 16 y) in
+    let same : map (top 7) (zip2 (λ x z. cond (eqb x z) 255 0) v (replicate 16 y)) ≡ ms = tops_compared w8 eqb v (replicate 16 y) in
+    let count : length ms ≡ 16 = length-zip2 eqb v (replicate 16 y) p.count ∙ p.count in
+    let is : HasLanes (sel_l ms (replicate 16 one) (replicate 16 other)) (λ i. cond (eqb (a i) y) one other) = record {
+      count = length-sel_l ms (replicate 16 one) (replicate 16 other) count count ∙ count;
+      lanes = λ i h.
+          get_or-sel_l ms (replicate 16 one) (replicate 16 other) i 0 (omega (arith, count)) h h
+          ∙ ap₂ (λ (b : Bool) (n : ℕ). cond b n (get_or (replicate 16 other) i 0))
+          (get_or-zip2 eqb v (replicate 16 y) i 0 0 false (omega (arith, p.count)) h ∙ ap₂ eqb (p.lanes i h) (get_or-replicate 16 i y 0 h)) (get_or-replicate 16 i one 0 h)
+          ∙ ap (λ n. cond (eqb (a i) y) one n) (get_or-replicate 16 i other 0 h);
+    } in
+    subst (λ (l : List Bool). HasLanes (sel_l l (replicate 16 one) (replicate 16 other)) (λ i. cond (eqb (a i) y) one other)) (sym same) is
