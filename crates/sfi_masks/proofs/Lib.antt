@@ -1,3 +1,5 @@
 pub mod Vectors
 pub mod Quarter
 pub mod SideBySide
+pub mod Fields
+pub mod Cells
