@@ -202,3 +202,40 @@ module _ (funct7 rs2 rs1 funct3 rd : ℕ) (funct7_fits : funct7 < 128) (rs2_fits
       by true b p q h = at 35 0 p (of_store h)
       by false true p q h = at 3 rd q (of_load h)
       by false false p q h = absurd cc
+-- ---- what computes with a funct7 that is none of 0, 1 and 32 does so with each
+
+op_funct7_not_2 : (op : RegOp) → op_funct7 op ≡ 2 → ⊥
+op_funct7_not_2 Add e = omega arith
+op_funct7_not_2 _ e = omega arith
+
+shift_funct7_not_2 : (op : ImmOp) → shift_funct7 op ≡ 2 → ⊥
+shift_funct7_not_2 Srai e = omega arith
+shift_funct7_not_2 _ e = omega arith
+
+no_op : (funct3 : ℕ) → is_some (find (op_fits funct3 2) ops) ≡ true → ⊥
+no_op funct3 h =
+    let f = found (op_fits funct3 2) ops h in
+    op_funct7_not_2 f.0 (eqb-true (op_funct7 f.0) 2 (and_parts (op_funct3 f.0 == funct3) (op_funct7 f.0 == 2) f.1).1)
+
+no_shift : (funct3 : ℕ) → is_some (find (shift_fits funct3 2) shifts) ≡ true → ⊥
+no_shift funct3 h =
+    let f = found (shift_fits funct3 2) shifts h in
+    let rest = (and_parts (imm_funct3 f.0 == funct3) ((shift_funct7 f.0 == 2) && is_shift f.0) f.1).1 in
+    shift_funct7_not_2 f.0 (eqb-true (shift_funct7 f.0) 2 (and_parts (shift_funct7 f.0 == 2) (is_shift f.0) rest).0)
+
+pub with_each_funct7 : (opcode funct3 funct7 : ℕ) → computes opcode funct3 2 ≡ true → computes opcode funct3 funct7 ≡ true
+unfolding computes
+with_each_funct7 opcode funct3 funct7 h = by (opcode == 55) (opcode == 23) (opcode == 51) (opcode == 19) h
+  where
+    imm : (b : Bool) → (elim b [ true ↦ true | false ↦ is_some (find (shift_fits funct3 2) shifts) ]) ≡ true
+        → (elim b [ true ↦ true | false ↦ is_some (find (shift_fits funct3 funct7) shifts) ]) ≡ true
+    imm true h = refl
+    imm false h = absurd (no_shift funct3 h)
+    by : (a b c d : Bool)
+        → (elim a [ true ↦ true | false ↦ elim b [ true ↦ true | false ↦ elim c [ true ↦ is_some (find (op_fits funct3 2) ops) | false ↦ elim d [ true ↦ imm_computes funct3 2 | false ↦ false ] ] ] ]) ≡ true
+        → (elim a [ true ↦ true | false ↦ elim b [ true ↦ true | false ↦ elim c [ true ↦ is_some (find (op_fits funct3 funct7) ops) | false ↦ elim d [ true ↦ imm_computes funct3 funct7 | false ↦ false ] ] ] ]) ≡ true
+    by true b c d h = refl
+    by false true c d h = refl
+    by false false true d h = absurd (no_op funct3 h)
+    by false false false true h = imm (is_some (find (imm_fits funct3) imm_ops)) h
+    by false false false false h = absurd cc

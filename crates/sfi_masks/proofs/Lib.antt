@@ -3,3 +3,5 @@ pub mod Quarter
 pub mod SideBySide
 pub mod Fields
 pub mod Cells
+pub mod Told
+pub mod Block

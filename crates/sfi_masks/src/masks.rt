@@ -54,10 +54,14 @@ fn joined(a: u64, b: u64, c: u64, d: u64) -> u64
     a | b << 16 | c << 32 | d << 48
 }
 
+/// The masks of a block.
 #[inline(always)]
 fn masks_in(stack: bool, block: &[u8; BLOCK_BYTES]) -> Masks
     ensures { AreMasks stack block.now result }
 {
+    // The law that the contract rests on: the call does nothing.
+    rv_comp::laws::halfwords_are_outlined();
+
     let first = masks_of_quarter(stack, &block[..32]);
     let second = masks_of_quarter(stack, &block[32..64]);
     let third = masks_of_quarter(stack, &block[64..96]);

@@ -1,8 +1,13 @@
-use Rattle.std.proofs.Common.{rules, ◌≡◌, ℕ, ◌/◌, ◌%◌, ◌^◌, ◌<◌, length, slice_index, ◌+◌, ◌-◌, ◌*◌, ◌≤◌, Bool, true, false, nat_eq, nat_lt, List, [], ◌∷◌, ◌++◌, slice_index_or, slice_set, bit_and, bit_or, Fits, w8, w32, w64, Bor, MutBor}
-use Rattle.sfi_masks.specs.Masks.{AreMasks, is_in}
-use Rattle.sfi_masks.specs.private.Seen.{AreSeen, of_four}
+use Rattle.std.proofs.Common.{ℕ, get_or, Fits, w8}
+use Rattle.sfi_masks.proofs.Block.{are_quarters, are_masks}
 use Rattle.sfi_masks.proofs.masks.masks_in.Goals as goal
 
--- src/masks.rt:57:1
 pub returns : goal.returns
-returns c = ?
+returns c =
+    let a = c.masks_of_quarter-first in
+    let b = c.masks_of_quarter-second in
+    let d = c.masks_of_quarter-third in
+    let e = c.masks_of_quarter-fourth in
+    let block = c.args.block.now in
+    are_masks c.args.stack block a.result b.result d.result e.result c.halfwords_are_outlined.ensures (λ k. ?)
+    (are_quarters c.args.stack block a.result b.result d.result e.result a.ensures b.ensures d.ensures e.ensures) _ c.joined.ensures c.joined-2.ensures c.joined-3.ensures
