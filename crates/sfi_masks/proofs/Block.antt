@@ -39,12 +39,12 @@ module _ (stack : Bool) (block : List ℕ) (first second third fourth : Masks) w
   of_quarters mask q = of_four (mask first) (mask second) (mask third) (mask fourth) q
 
   -- the masks of quarter q
-  record Quarter (q : ℕ) : Type 0 where
-    masks : Masks
-    are : IsQuarter q masks
-    long : of_quarters (λ m. m.long) q ≡ masks.long
-    free : of_quarters (λ m. m.free) q ≡ masks.free
-    access : of_quarters (λ m. m.access) q ≡ masks.access
+  pub record Quarter (q : ℕ) : Type 0 where
+    pub masks : Masks
+    pub are : IsQuarter q masks
+    pub long : of_quarters (λ m. m.long) q ≡ masks.long
+    pub free : of_quarters (λ m. m.free) q ≡ masks.free
+    pub access : of_quarters (λ m. m.access) q ≡ masks.access
 
   quarter : IsQuarter 0 first → IsQuarter 1 second → IsQuarter 2 third → IsQuarter 3 fourth → (q : ℕ) → q < 4 → Quarter q
   quarter a b c d q lt = elim (cases_eq q 0) [
@@ -58,16 +58,16 @@ module _ (stack : Bool) (block : List ℕ) (first second third fourth : Masks) w
     ]
   ]
 
-  pub are_quarters : (at_first : AreSeen stack (λ k. slice_index (take 32 block) k) first)
+  pub are_quarters : AreSeen stack (λ k. slice_index (take 32 block) k) first
       → AreSeen stack (λ k. slice_index (take 32 (drop 32 block)) k) second
       → AreSeen stack (λ k. slice_index (take 32 (drop 64 block)) k) third
-      → AreSeen stack (λ k. slice_index (drop 96 block) k) fourth
+      → AreSeen stack (λ k. slice_index (take 32 (drop 96 block)) k) fourth
       → (q : ℕ) → q < 4 → Quarter q
   are_quarters a b c d = quarter
       (moved stack _ _ first (λ k h. get_or-take 32 block k 0 h ∙ ap (λ n. get_or block n 0) (let e : k ≡ 32 * 0 + k = omega arith in e)) a)
       (moved stack _ _ second (λ k h. get_or-take 32 (drop 32 block) k 0 h ∙ get_or-drop 32 block k 0) b)
       (moved stack _ _ third (λ k h. get_or-take 32 (drop 64 block) k 0 h ∙ get_or-drop 64 block k 0) c)
-      (moved stack _ _ fourth (λ k h. get_or-drop 96 block k 0) d)
+      (moved stack _ _ fourth (λ k h. get_or-take 32 (drop 96 block) k 0 h ∙ get_or-drop 96 block k 0) d)
 
   module _ (law : HalfwordsAreOutlined) (fits : (k : ℕ) → byte k < 256) (quarter_at : (q : ℕ) → q < 4 → Quarter q) (m : Masks)
       (long_is : (i : ℕ) → i < 64 → is_in m.long i ≡ is_in (of_quarters (λ x. x.long) (i / 16)) (i % 16))
