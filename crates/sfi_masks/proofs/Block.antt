@@ -1,11 +1,11 @@
 -- The masks of a block from those of its quarters.
-use Rattle.std.proofs.Common.{◌≡◌, ℕ, ◌+◌, ◌*◌, ◌/◌, ◌%◌, ◌^◌, ◌<◌, Bool, true, false, ◌==◌, not, List, length, take, drop, get_or, refl, sym, ap, ap₂, ◌∙◌, subst, inl, inr, arith}
+use Rattle.std.proofs.Common.{◌≡◌, ℕ, ◌+◌, ◌*◌, ◌/◌, ◌%◌, ◌<◌, Bool, true, false, ◌==◌, not, List, take, drop, get_or, refl, sym, ap, ap₂, ◌∙◌, subst, inl, inr, arith}
 use Rattle.std.specs.Prelude.{slice_index}
 use Rattle.std.proofs.lemmas.Bool.{cases_eq}
 use Rattle.std.proofs.lemmas.List.{get_or-take, get_or-drop}
 use Rattle.rv_comp.specs.Laws.{HalfwordsAreOutlined}
 use Rattle.sfi_masks.specs.declared.masks.Masks.{Masks}
-use Rattle.sfi_masks.specs.Masks.{half_at, word_at, is_in, AreMasks, IsFreeHalf, IsFreeWord, IsFreeAccess}
+use Rattle.sfi_masks.specs.Masks.{half_at, is_in, AreMasks, IsFreeHalf, IsFreeWord, IsFreeAccess}
 use Rattle.sfi_masks.specs.private.Seen.{AreSeen, of_four, free_classes, access_classes}
 use Rattle.sfi_masks.proofs.Told.{half_is, word_is, free_half, free_word, free_access}
 

@@ -1,13 +1,13 @@
 -- What the tables tell of a halfword, held to what the halfword spells: at each halfword, before each kind of halfword.
-use Rattle.std.proofs.Common.{◌≡◌, ℕ, ◌+◌, ◌*◌, ◌/◌, ◌%◌, ◌<◌, Bool, true, false, cond, ◌&&◌, ◌==◌, refl, sym, ap, ap₂, ◌∙◌, subst, arith, eqb-true, eq-eqb, Option, Some, None, ◌⊎◌, inl, inr, bit_and, bit_or}
-use Rattle.std.specs.Prelude.{slice_index, ◌||◌, not, if◌then◌else◌}
+use Rattle.std.proofs.Common.{◌≡◌, ℕ, ◌+◌, ◌*◌, ◌/◌, ◌%◌, ◌<◌, Bool, true, false, cond, ◌&&◌, ◌==◌, refl, sym, ap₂, subst, eqb-true, eq-eqb, Option, Some, None, ◌⊎◌, inl, inr, bit_and, bit_or}
+use Rattle.std.specs.Prelude.{if◌then◌else◌}
 use Rattle.std.specs.Int.Bits.{and_zero_l}
 use Rattle.std.proofs.lemmas.Bool.{agree_below, agree_below_at, and_parts}
 use Rattle.rv_word.specs.declared.outline.Outline.{Outline}
 use Rattle.rv_comp.specs.mirror.Decoding.{extended, jump_offset, branch_offset}
 use Rattle.rv_comp.specs.mirror.Outlining.{row_of, jump, jump_or_stop, outlined}
 use Rattle.sfi_masks.specs.Masks.{may_write, is_free}
-use Rattle.sfi_masks.specs.declared.tables.TheConstants.{ALONE, FOLLOWED, NEXT, REST, ALL, PLAIN, NO_RD}
+use Rattle.sfi_masks.specs.declared.tables.TheConstants.{ALONE, FOLLOWED, NEXT, REST, ALL, PLAIN}
 use Rattle.sfi_masks.specs.private.Seen.{byte_classes, half_classes, followed, kept, rest, free_classes, access_classes}
 use Rattle.sfi_masks.proofs.Fields.{computes, accesses, with_each_funct7}
 
@@ -106,6 +106,7 @@ cell_at stack low high l h =
     agree_below_at
     (λ n. cell stack (mask stack) n high (bit_and (byte_classes ALONE.low n) (byte_classes ALONE.high high)) (bit_and (byte_classes REST.low n) (byte_classes REST.high high)) (bit_and (byte_classes FOLLOWED.low n) (byte_classes FOLLOWED.high high)))
     (λ n. true) 256 low (all_rows stack high h) l
+
 -- ---- the kinds of the halfword after it
 
 abbrev kind : Bool → Bool → Bool → ℕ
@@ -133,6 +134,7 @@ begins_by_kind stack low high next h = by (next / 2 == 0) (next / 2 == 1) (next 
   where
     same : (n : ℕ) → (next / 2 == n) ≡ true → begins_free stack low high n ≡ true → begins_free stack low high (next / 2) ≡ true
     same n e is = subst (λ k. begins_free stack low high k ≡ true) (sym (eqb-true (next / 2) n e)) is
+
     by : (a b c : Bool) → (next / 2 == 0) ≡ a → (next / 2 == 1) ≡ b → (next / 2 == 32) ≡ c → begins_free stack low high (kind a b c / 2) ≡ true → begins_free stack low high (next / 2) ≡ true
     by true b c p q r h = same 0 p h
     by false true c p q r h = same 1 q h

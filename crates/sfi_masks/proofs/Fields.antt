@@ -1,6 +1,6 @@
 -- The words that compute and those that access memory, by opcode, funct3 and funct7.
-use Rattle.std.proofs.Common.{List, [], ◌∷◌, ◌≡◌, ℕ, ◌+◌, ◌-◌, ◌*◌, ◌/◌, ◌%◌, ◌^◌, ◌<◌, Bool, true, false, cond, ◌&&◌, ◌==◌, ℤ, pos, negsuc, refl, sym, ap, ◌∙◌, subst, inl, inr, arith, eqb-true, Option, Some, None, IfSome}
-use Rattle.std.specs.Prelude.{◌||◌, not}
+use Rattle.std.proofs.Common.{List, [], ◌∷◌, ◌≡◌, ℕ, ◌+◌, ◌-◌, ◌*◌, ◌%◌, ◌^◌, ◌<◌, Bool, true, false, cond, ◌&&◌, ◌==◌, ℤ, pos, negsuc, refl, sym, ◌∙◌, subst, inl, inr, arith, eqb-true, Some}
+use Rattle.std.specs.Prelude.{not}
 use Rattle.std.specs.List.{find}
 use Rattle.std.specs.Option.{is_some}
 use Rattle.std.proofs.lemmas.Bool.{and_parts, cases_lt}
@@ -159,6 +159,7 @@ module _ (funct7 rs2 rs1 funct3 rd : ℕ) (funct7_fits : funct7 < 128) (rs2_fits
     where
       at : (n : ℕ) → (opcode == n) ≡ true → IsWordThat (word n) (Computes rd) → IsWordThat (word opcode) (Computes rd)
       at n e is = subst (λ k. IsWordThat (word k) (Computes rd)) (sym (eqb-true opcode n e)) is
+
       by : (a b c d : Bool) → (opcode == 55) ≡ a → (opcode == 23) ≡ b → (opcode == 51) ≡ c → (opcode == 19) ≡ d
           → (elim a [ true ↦ true | false ↦ elim b [ true ↦ true | false ↦ elim c [ true ↦ is_some (find (op_fits funct3 funct7) ops) | false ↦ elim d [ true ↦ imm_computes funct3 funct7 | false ↦ false ] ] ] ]) ≡ true
           → IsWordThat (word opcode) (Computes rd)
@@ -196,12 +197,14 @@ module _ (funct7 rs2 rs1 funct3 rd : ℕ) (funct7_fits : funct7 < 128) (rs2_fits
     where
       at : (n written : ℕ) → (opcode == n) ≡ true → IsAccessOf (word n) (told written) → IsAccessOf (word opcode) (told written)
       at n written e is = subst (λ k. IsAccessOf (word k) (told written)) (sym (eqb-true opcode n e)) is
+
       by : (a b : Bool) → (opcode == 35) ≡ a → (opcode == 3) ≡ b
           → (elim a [ true ↦ is_some (find (store_fits funct3) (Sb ∷ Sh ∷ Sw ∷ [])) | false ↦ elim b [ true ↦ is_some (find (load_fits funct3) (Lb ∷ Lh ∷ Lw ∷ Lbu ∷ Lhu ∷ [])) | false ↦ false ] ]) ≡ true
           → IsAccessOf (word opcode) (told (cond a 0 rd))
       by true b p q h = at 35 0 p (of_store h)
       by false true p q h = at 3 rd q (of_load h)
       by false false p q h = absurd cc
+
 -- ---- what computes with a funct7 that is none of 0, 1 and 32 does so with each
 
 op_funct7_not_2 : (op : RegOp) → op_funct7 op ≡ 2 → ⊥
@@ -231,6 +234,7 @@ with_each_funct7 opcode funct3 funct7 h = by (opcode == 55) (opcode == 23) (opco
         → (elim b [ true ↦ true | false ↦ is_some (find (shift_fits funct3 funct7) shifts) ]) ≡ true
     imm true h = refl
     imm false h = absurd (no_shift funct3 h)
+
     by : (a b c d : Bool)
         → (elim a [ true ↦ true | false ↦ elim b [ true ↦ true | false ↦ elim c [ true ↦ is_some (find (op_fits funct3 2) ops) | false ↦ elim d [ true ↦ imm_computes funct3 2 | false ↦ false ] ] ] ]) ≡ true
         → (elim a [ true ↦ true | false ↦ elim b [ true ↦ true | false ↦ elim c [ true ↦ is_some (find (op_fits funct3 funct7) ops) | false ↦ elim d [ true ↦ imm_computes funct3 funct7 | false ↦ false ] ] ] ]) ≡ true

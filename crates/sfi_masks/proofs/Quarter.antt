@@ -1,5 +1,5 @@
 -- The masks of sixteen halfwords, by their bytes.
-use Rattle.std.proofs.Common.{◌≡◌, ℕ, ◌+◌, ◌*◌, ◌%◌, ◌<◌, Bool, List, replicate, ap, ap₂, ◌∙◌, arith, bit_and, bit_or}
+use Rattle.std.proofs.Common.{ℕ, ◌+◌, ◌*◌, ◌%◌, Bool, List, replicate, ap, ap₂, ◌∙◌, arith, bit_and, bit_or}
 use Rattle.std.specs.Prelude.{slice_index}
 use lib.Lanes.{zip2}
 use Rattle.sfi_masks.specs.declared.tables.TheConstants.{ALONE}

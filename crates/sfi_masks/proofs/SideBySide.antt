@@ -1,5 +1,5 @@
 -- Four numbers of 16 bits side by side, bit by bit.
-use Rattle.std.proofs.Common.{◌≡◌, ℕ, ◌+◌, ◌-◌, ◌*◌, ◌/◌, ◌%◌, ◌^◌, ◌<◌, ◌==◌, refl, sym, ap, ap₂, ◌∙◌, subst, inl, inr, arith, bit_or}
+use Rattle.std.proofs.Common.{◌≡◌, ℕ, ◌+◌, ◌*◌, ◌/◌, ◌%◌, ◌^◌, ◌<◌, ◌==◌, refl, sym, ap, ap₂, ◌∙◌, inl, inr, arith, bit_or}
 use Rattle.std.proofs.lemmas.Bool.{cases_eq}
 use Rattle.std.proofs.lemmas.Nat.{or_shifted, or_comm, shr-shr}
 use Rattle.std.proofs.lemmas.Nat.Bits.{bit_at_cat_low}

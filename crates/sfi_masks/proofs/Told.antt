@@ -1,7 +1,6 @@
 -- What the classes tell of the instruction that begins with a halfword.
-use Rattle.std.proofs.Common.{◌≡◌, ℕ, ◌+◌, ◌*◌, ◌/◌, ◌%◌, ◌^◌, ◌<◌, Bool, true, false, cond, ◌&&◌, ◌==◌, not, List, take, drop, get_or, refl, sym, ap, ap₂, ◌∙◌, subst, arith, eqb-true, eq-eqb, Option, Some, None, IfSome}
+use Rattle.std.proofs.Common.{◌≡◌, ℕ, ◌+◌, ◌*◌, ◌/◌, ◌%◌, ◌<◌, Bool, true, false, cond, ◌==◌, List, take, drop, get_or, ap, ◌∙◌, subst, arith, Option, Some, None, IfSome}
 use Rattle.std.specs.Prelude.{slice_index}
-use Rattle.std.specs.Int.{w16, w32, from_le_bytes}
 use Rattle.std.proofs.lemmas.Bool.{and_parts}
 use Rattle.std.proofs.lemmas.List.{get_or-take, get_or-drop}
 use Rattle.rv_word.specs.declared.outline.Outline.{Outline}
@@ -9,8 +8,7 @@ use Rattle.rv_word.specs.declared.outline.Outline.TheVariants.{Computes}
 use Rattle.rv_word.specs.declared.access.Access.{Access}
 use Rattle.rv_word.specs.Accesses.{IsAccessOf}
 use Rattle.rv_word.specs.Formats.{r_format}
-use Rattle.rv_word.specs.Numbers.{bits}
-use Rattle.rv_word.specs.Outlines.{outline, IsWordThat}
+use Rattle.rv_word.specs.Outlines.{IsWordThat}
 use Rattle.rv_comp.specs.Halfwords.{IsHalfwordThat}
 use Rattle.rv_comp.specs.Laws.{HalfwordsAreOutlined}
 use Rattle.rv_comp.specs.mirror.Outlining.{outlined}

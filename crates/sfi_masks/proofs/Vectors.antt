@@ -1,8 +1,7 @@
 -- Vectors of sixteen bytes by their lanes.
-use Rattle.std.proofs.Common.{◌≡◌, ℕ, ◌+◌, ◌*◌, ◌/◌, ◌%◌, ◌^◌, ◌<◌, Bool, true, false, not, cond, eqb, ◌==◌, List, [], ◌∷◌, ◌++◌, map, length, get_or, replicate, take, drop, refl, sym, subst, ap, ap₂, ◌∙◌, arith, w8, Fits, eqb-true, bit_and}
+use Rattle.std.proofs.Common.{◌≡◌, ℕ, ◌+◌, ◌*◌, ◌/◌, ◌%◌, ◌^◌, ◌<◌, Bool, true, false, cond, eqb, ◌==◌, List, [], ◌∷◌, ◌++◌, map, length, get_or, replicate, take, drop, refl, sym, subst, ap, ap₂, ◌∙◌, arith, w8, Fits, eqb-true, bit_and}
 use Rattle.std.specs.Prelude.{slice_index}
-use Rattle.std.specs.Int.{bit_at}
-use Rattle.std.proofs.lemmas.Bool.{agree_below, agree_below_at}
+use Rattle.std.proofs.lemmas.Bool.{agree_below_at}
 use Rattle.std.proofs.lemmas.List.{get_or-map, length-map, take-take, take_all, take-append-drop, length-drop}
 use Rattle.std.proofs.lemmas.Nat.{and_mask}
 use Rattle.std.proofs.lemmas.Simd.{length-zip2, get_or-zip2, length-replicate, get_or-replicate, Each1-from_get_or, Each1-get_or, swz_l, SwzOk, SwzOk-from_below, length-swz_l, get_or-swz_l_below, bitmask_splat, mask_l-lt, bit_mask_l, pick_l_left, tops_compared, length-sel_l, get_or-sel_l}
@@ -83,6 +82,7 @@ pub by_high_nibble : (v : List ℕ) → (length v ≡ 16) × Each1 (Fits w8) v
 by_high_nibble v fits =
     let is = zipped (λ a b. a / 2 ^ b) v (replicate 16 4) _ _ (own v fits.0) (splat 4) in
     (is, λ i h. omega (arith, is.lanes i h, (Each1-get_or (Fits w8) v i 0 (omega (arith, fits.0)) fits.1).fits))
+
 -- ---- a comparison with one number, as bits
 
 bit_is : (ms : List Bool) (i : ℕ) → is_in (mask_l ms) i ≡ get_or ms i false
@@ -108,6 +108,7 @@ compared_small t v y count =
 pub compared_bits : (t : ℕ → ℕ → Bool) (v : List ℕ) (y : ℕ) → length v ≡ 16 → (i : ℕ) → i < 16 → is_in (compared t v y) i ≡ t (slice_index v i) y
 compared_bits t v y count i h =
     ap (λ n. is_in n i) (compared_is t v y count) ∙ bit_is (map (λ x. t x y) v) i ∙ get_or-map (λ x. t x y) v i 0 false (omega (arith, count))
+
 -- ---- one lane further
 
 abbrev turned : List ℕ

@@ -79,17 +79,23 @@ macro_rules! byte_table {
 }
 
 const NONE: u16 = 0;
+
 const ANY: u16 = 0xffff;
 
 // Bits 3:0 of the 16-bit forms of a quadrant, and those of which bits 3:2 aren't 0.
 const QUADRANT0: u16 = 0x1111;
+
 const QUADRANT1: u16 = 0x2222;
+
 const QUADRANT1_ON: u16 = 0x2220;
+
 const QUADRANT2: u16 = 0x4444;
+
 const QUADRANT2_ON: u16 = 0x4440;
 
 // Bits 11:8 where bits 11:7 name none of x24 to x27; and neither x0 nor x1 too.
 const RD: u16 = 0b1100_1111_1111_1111;
+
 const RD_FROM_X2: u16 = 0b1100_1111_1111_1110;
 
 /// What is free by one halfword: 16-bit forms, and the first halves of words that compute whatever
@@ -145,10 +151,12 @@ pub(crate) const REST: HalfTable = half_table![
 
 /// The classes of [`FOLLOWED`] that are free, and the loads and stores.
 pub(crate) const FREE: u8 = 0b0011_1111;
+
 pub(crate) const ACCESSES: u8 = 0b1100_0000;
 
 /// The classes of [`REST`] that are free in each format, and where x2 isn't a stack pointer.
 pub(crate) const ALL: u8 = 0b1111_1111;
+
 pub(crate) const PLAIN: u8 = 0b0110_0110;
 
 /// The classes of each table that are no writes to the register that bits 11:7 name.

@@ -39,7 +39,7 @@ rest stack low high = bit_and (half_classes REST low high) (if stack then ALL el
 abbrev pub free_classes : Bool → ℕ → ℕ → ℕ → ℕ
 free_classes stack low high next =
     bit_and (bit_or (bit_or (half_classes ALONE low high) (rest stack low high))
-        (bit_and (followed low high next) FREE)) (kept stack low high)
+    (bit_and (followed low high next) FREE)) (kept stack low high)
 
 abbrev pub access_classes : Bool → ℕ → ℕ → ℕ → ℕ
 access_classes stack low high next =

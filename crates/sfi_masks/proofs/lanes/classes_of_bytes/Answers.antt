@@ -1,7 +1,5 @@
-use Rattle.std.proofs.Common.{ℕ, ◌*◌, ◌/◌, ◌%◌, ◌^◌, ◌∙◌, sym, ap, ap₂, refl, slice_index, bit_and, arith, Fits}
-use Rattle.std.proofs.lemmas.Nat.{and_mask}
-use Rattle.std.proofs.lemmas.Simd.{Each1-get_or}
-use Rattle.sfi_masks.proofs.Vectors.{own, splat, zipped, same_lanes, by_low_nibble, by_high_nibble}
+use Rattle.std.proofs.Common.{ap₂, slice_index, bit_and}
+use Rattle.sfi_masks.proofs.Vectors.{zipped, same_lanes, by_low_nibble, by_high_nibble}
 use Rattle.sfi_masks.proofs.lanes.classes_of_bytes.Goals as goal
 
 pub look_up-requires : goal.look_up-requires

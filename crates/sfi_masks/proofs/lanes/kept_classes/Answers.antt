@@ -1,4 +1,4 @@
-use Rattle.std.proofs.Common.{ℕ, ◌/◌, ap, sym, bit_and, bit_or, slice_index}
+use Rattle.std.proofs.Common.{ap, sym, bit_and, bit_or, slice_index}
 use Rattle.sfi_masks.specs.private.Seen.{kept}
 use Rattle.sfi_masks.proofs.Vectors.{own, splat, zipped, chosen, same_lanes}
 use Rattle.sfi_masks.proofs.lanes.kept_classes.Goals as goal

@@ -1,4 +1,4 @@
-use Rattle.std.proofs.Common.{ℕ, ◌==◌, ap, ◌∙◌, bit_and, eqb, replicate, slice_index}
+use Rattle.std.proofs.Common.{◌==◌, ap, ◌∙◌, bit_and, eqb, replicate, slice_index}
 use Rattle.std.proofs.lemmas.Nat.{and_mask}
 use lib.Lanes.{zip2}
 use Rattle.sfi_masks.proofs.Vectors.{own, splat, zipped, compared_small, compared_bits}

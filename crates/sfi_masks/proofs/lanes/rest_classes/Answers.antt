@@ -1,4 +1,4 @@
-use Rattle.std.proofs.Common.{◌≡◌, ℕ, ap, bit_and, slice_index, ◌∙◌, sym}
+use Rattle.std.proofs.Common.{◌≡◌, ap, bit_and, slice_index, ◌∙◌, sym}
 use Rattle.std.specs.Prelude.{if◌then◌else◌}
 use Rattle.sfi_masks.specs.private.Seen.{rest, half_classes}
 use Rattle.sfi_masks.specs.declared.tables.TheConstants.{REST}

@@ -1,4 +1,3 @@
-use Rattle.std.proofs.Common.{ℕ, get_or, Fits, w8}
 use Rattle.sfi_masks.proofs.Block.{are_quarters, are_masks}
 use Rattle.sfi_masks.proofs.masks.masks_in.Goals as goal
 
