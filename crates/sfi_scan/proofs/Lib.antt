@@ -1,4 +1,7 @@
 pub mod After
+pub mod Bits
+pub mod Joining
+pub mod Marks
 pub mod FirstLook
 pub mod Gates
 pub mod Look
@@ -8,4 +11,6 @@ pub mod WordsAt
 pub mod Walk
 pub mod FirstFormat
 pub mod Second
+pub mod Seen
+pub mod Starts
 pub mod Table16

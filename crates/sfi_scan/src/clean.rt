@@ -113,7 +113,7 @@ fn is_protected(stack: bool, reg: Reg) -> bool
 
 /// Whether an access on this base stays in the data and its guard zones.
 #[inline(always)]
-fn may_access(stack: bool, words: Words, base: Reg) -> bool
+pub(crate) fn may_access(stack: bool, words: Words, base: Reg) -> bool
     ensures { (b : BundlePlace) (earlier : List Instr) →
         stack ≡ has_stack b.format → AreBefore words (near earlier) →
         OnTrue result (may_access b base earlier ≡ true) }
@@ -157,7 +157,13 @@ fn is_clean_jump(
 
 /// Whether an instruction that does this breaks no rule there. The bundle isn't the region's last.
 #[inline(always)]
-fn is_clean(place: &BundlePlace, stack: bool, address: u32, words: Words, outline: Outline) -> bool
+pub(crate) fn is_clean(
+    place: &BundlePlace,
+    stack: bool,
+    address: u32,
+    words: Words,
+    outline: Outline,
+) -> bool
     requires within { IsWithin place.now }
     requires stack { stack ≡ has_stack place.now.format }
     ensures { (earlier : List Instr) → AreBefore words (near earlier) →

@@ -9,6 +9,7 @@
 
 mod ahead;
 mod before;
+mod block;
 mod bundle;
 mod clean;
 mod computing;
@@ -20,6 +21,7 @@ mod rule;
 mod rules;
 mod scan;
 
+pub use block::clean_bundles;
 pub use bundle::BundlePlace;
 pub use finding::Finding;
 pub use findings::BundleFindings;
