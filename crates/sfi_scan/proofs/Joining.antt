@@ -5,7 +5,6 @@ use Rattle.std.proofs.lemmas.List.{length-take, drop-take, take-take, drop-drop}
 use Rattle.rv_word.specs.declared.instr.Instr.{Instr}
 use Rattle.rv_comp.specs.Laws.{OneSpelling}
 use Rattle.sfi_masks.specs.Masks.{is_in}
-use Rattle.sfi_scan.specs.declared.before.Before.{Before}
 use Rattle.sfi_scan.specs.declared.bundle.BundlePlace.{BundlePlace}
 use Rattle.sfi_scan.specs.Bundles.{IsWithinBlock, bundle_at, block_bundle}
 use Rattle.sfi_scan.specs.Findings.{AreReadingFindings}

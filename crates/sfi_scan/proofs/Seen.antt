@@ -1,5 +1,5 @@
 -- Whatever begins in a bundle with none of the places that are left is clean.
-use Rattle.std.proofs.Common.{◌≡◌, ℕ, ◌+◌, ◌*◌, ◌%◌, ◌^◌, ◌<◌, Bool, true, false, not, ◌&&◌, List, length, refl, sym, ap, ◌∙◌, subst, arith, w64, bit_and}
+use Rattle.std.proofs.Common.{◌≡◌, ℕ, ◌%◌, ◌^◌, ◌<◌, Bool, true, false, not, ◌&&◌, List, refl, sym, ap, ◌∙◌, subst, w64, bit_and}
 use Rattle.std.specs.Int.{bit_not}
 use Rattle.std.proofs.lemmas.Bool.{and_parts}
 use Rattle.sfi_masks.specs.Masks.{is_in, AreMasks, IsFreeAccess, word_at}

@@ -1,5 +1,5 @@
 -- What begins at a start of a block breaks no rule.
-use Rattle.std.proofs.Common.{◌≡◌, ℕ, ◌+◌, ◌-◌, ◌*◌, ◌/◌, ◌%◌, ◌^◌, ◌<◌, ◌≤◌, Bool, true, false, not, ◌&&◌, ◌||◌, ◌==◌, cond, List, ◌∷◌, [], Option, Some, None, IfSome, ◌⊎◌, inl, inr, refl, sym, ap, ◌∙◌, subst, arith, bit_and}
+use Rattle.std.proofs.Common.{◌≡◌, ℕ, ◌+◌, ◌-◌, ◌/◌, ◌%◌, ◌<◌, Bool, true, false, not, ◌&&◌, ◌||◌, ◌==◌, cond, List, Option, Some, None, IfSome, refl, sym, ap, ◌∙◌, subst, arith, bit_and}
 use Rattle.std.specs.Bool.{OnTrue}
 use Rattle.std.specs.Int.{w16, w32, from_le_bytes}
 use Rattle.std.proofs.lemmas.Bool.{and_parts}
@@ -22,12 +22,11 @@ use Rattle.sfi_scan.specs.declared.clean.Words.{Words}
 use Rattle.sfi_scan.specs.Bundles.{bundle_at, block_bundle}
 use Rattle.sfi_scan.specs.Pairs.{follows_data_pair}
 use Rattle.sfi_scan.specs.Rules.{may_access}
-use Rattle.sfi_scan.specs.private.Block.{AreAfterTwo, offset, words_from, IsSpelledAt, IsCleanAt}
+use Rattle.sfi_scan.specs.private.Block.{AreAfterTwo, offset, words_from, IsCleanAt}
 use Rattle.sfi_scan.specs.private.FirstLook.{half_at, word_at, AreWordsFrom, AreBefore, IsWordOr0, is_protected, is_clean, is_clean_access}
 use Rattle.sfi_scan.specs.private.Near.{near}
 use Rattle.sfi_scan.proofs.Joining.{half_cut, word_cut}
 use Rattle.sfi_scan.proofs.Table16.{clean_short, clean_wide, clean_access}
-use Rattle.sfi_scan.proofs.WordsAt.{no_words}
 
 -- ---- the words before a place
 

@@ -1,4 +1,4 @@
-use Rattle.std.proofs.Common.{◌/◌, ◌∙◌, sym, ap, Some, subst, ◌≡◌, ◌+◌, List, true}
+use Rattle.std.proofs.Common.{◌/◌, ◌∙◌, sym, subst, ◌≡◌, ◌+◌, List, true}
 use Rattle.std.specs.Bool.{OnTrue}
 use Rattle.rv_word.specs.declared.instr.Instr.{Instr}
 use Rattle.sfi_scan.specs.Bundles.{bundle_at}
