@@ -48,6 +48,14 @@ free_at b block stack starts m after i is are marks lt start free = by (is_in (b
     by false e = free_half b block stack after i is (are.short i lt free (sym long ∙ e))
     by true e = let inside = marks.inside i lt e in free_word b block stack after i inside is (are.word i inside lt free (sym long ∙ e))
 
+pub free_start : (b : BundlePlace) (block : List ℕ) (stack : Bool) (starts : ℕ) (m : Masks) (after left i : ℕ) → stack ≡ has_stack b.format → AreMasks stack block m → AreStarts starts (bit_and starts m.long)
+    → IsWithout starts m.free left → i < 64 → is_in left i ≡ false → is_in starts i ≡ true → IsCleanAt b block (is_in (bit_and starts m.long) i) after i
+free_start b block stack starts m after left i is are marks first lt none start = by (is_in m.free i) refl
+  where
+    by : (f : Bool) → is_in m.free i ≡ f → IsCleanAt b block (is_in (bit_and starts m.long) i) after i
+    by true e = free_at b block stack starts m after i is are marks lt start e
+    by false e = absurd (no_both (is_in left i) (stays starts m.free left i first lt start e) none)
+
 pub seen : (b : BundlePlace) (block : List ℕ) (stack : Bool) (starts : ℕ) (m : Masks) (after left paired others clean rest i : ℕ) → stack ≡ has_stack b.format → AreMasks stack block m → AreStarts starts (bit_and starts m.long)
     → IsWithout starts m.free left → IsWithout left paired others → IsWithout others clean rest → i < 64
     → ((i : ℕ) → is_in paired i ≡ true → is_in (accesses left (bit_and starts m.long) m) i ≡ true)

@@ -248,9 +248,12 @@ fn unclean(place: &BundlePlace, stack: bool, block: &[u8; BLOCK_BYTES]) -> u64
     if !are_starts(starts, masks.long) {
         return u64::MAX;
     }
+    let left = without(starts, masks.free);
+    if left == 0 {
+        return 0;
+    }
     let words = starts & masks.long;
     let after = after_two(words);
-    let left = without(starts, masks.free);
     let accesses = clean_accesses(stack, block, after, left & words & masks.access);
     let others = without(left, accesses);
     without(
