@@ -6,35 +6,30 @@ use Rattle.std.specs.Int.{bit_not}
 use Rattle.std.proofs.lemmas.Bool.{agree_below_at, and_parts, eqb-true}
 use Rattle.sfi_masks.specs.Masks.{is_in}
 use Rattle.sfi_scan.specs.private.Block.{AreStarts, AreAfterTwo}
+use Rattle.sfi_scan.specs.declared.block.TheConstants.{LAST, LAST_FOUR}
 use Rattle.sfi_scan.proofs.Bits.{shl, in_and, in_not, in_shl, in_shl_low, in_shr, in_zero}
 
 -- ---- the last halfwords of the bundles
 
-abbrev last : ℕ
-last = 0x8080_8080_8080_8080
+last_is : (i : ℕ) → i < 64 → is_in LAST i ≡ (i % 8 == 7)
+last_is i h = agree_below_at (λ i. is_in LAST i) (λ i. i % 8 == 7) 64 i refl h
 
-abbrev last_four : ℕ
-last_four = 0xf0f0_f0f0_f0f0_f0f0
-
-last_is : (i : ℕ) → i < 64 → is_in last i ≡ (i % 8 == 7)
-last_is i h = agree_below_at (λ i. is_in last i) (λ i. i % 8 == 7) 64 i refl h
-
-last_four_is : (i : ℕ) → i < 64 → is_in last_four i ≡ nat_le 4 (i % 8)
-last_four_is i h = agree_below_at (λ i. is_in last_four i) (λ i. nat_le 4 (i % 8)) 64 i refl h
+last_four_is : (i : ℕ) → i < 64 → is_in LAST_FOUR i ≡ nat_le 4 (i % 8)
+last_four_is i h = agree_below_at (λ i. is_in LAST_FOUR i) (λ i. nat_le 4 (i % 8)) 64 i refl h
 
 -- ---- where they begin
 
 -- a mask with none of the last halfwords
-none_last : (m : ℕ) → bit_and m last ≡ 0 → (i : ℕ) → i < 64 → i % 8 ≡ 7 → is_in m i ≡ false
+none_last : (m : ℕ) → bit_and m LAST ≡ 0 → (i : ℕ) → i < 64 → i % 8 ≡ 7 → is_in m i ≡ false
 none_last m none i h seven =
-    let there : is_in last i ≡ true = last_is i h ∙ ap (λ r. r == 7) seven in
-    and_true (is_in m i) ∙ ap (λ b. is_in m i && b) (sym there) ∙ sym (in_and m last i) ∙ ap (λ n. is_in n i) none ∙ in_zero i
+    let there : is_in LAST i ≡ true = last_is i h ∙ ap (λ r. r == 7) seven in
+    and_true (is_in m i) ∙ ap (λ b. is_in m i && b) (sym there) ∙ sym (in_and m LAST i) ∙ ap (λ n. is_in n i) none ∙ in_zero i
   where
     and_true : (b : Bool) → b ≡ (b && true)
     and_true true = refl
     and_true false = refl
 
-not_inside : (m : ℕ) → bit_and m last ≡ 0 → (i : ℕ) → i < 64 → is_in m i ≡ true → (i % 8 ≡ 7) → ⊥
+not_inside : (m : ℕ) → bit_and m LAST ≡ 0 → (i : ℕ) → i < 64 → is_in m i ≡ true → (i % 8 ≡ 7) → ⊥
 not_inside m none i h is seven = let no : true ≡ false = sym is ∙ none_last m none i h seven in cc
 
 next_start : (starts words : ℕ) → starts ≡ bit_not w64 (shl words 1) → (i : ℕ) → i < 63 → is_in starts (i + 1) ≡ not (is_in words i)
@@ -42,14 +37,14 @@ next_start starts words is i h =
     let e : i + 1 ≡ 1 + i = omega arith in
     ap (λ m. is_in m (i + 1)) is ∙ in_not (shl words 1) (i + 1) (mod-lt (words * 2 ^ 1) (pow_pos 64)) (omega arith) ∙ ap (λ k. not (is_in (shl words 1) k)) e ∙ ap not (in_shl words 1 i (omega arith))
 
-first_start : (starts words : ℕ) → starts ≡ bit_not w64 (shl words 1) → bit_and words last ≡ 0 → (i : ℕ) → i < 64 → i % 8 ≡ 0 → is_in starts i ≡ true
+first_start : (starts words : ℕ) → starts ≡ bit_not w64 (shl words 1) → bit_and words LAST ≡ 0 → (i : ℕ) → i < 64 → i % 8 ≡ 0 → is_in starts i ≡ true
 first_start starts words is none zero h first =
     ap (λ m. is_in m 0) is ∙ in_not (shl words 1) 0 (mod-lt (words * 2 ^ 1) (pow_pos 64)) (omega arith) ∙ ap not (in_shl_low words 1 0 (omega arith) (omega arith))
 first_start starts words is none (suc i) h first =
     let e : suc i ≡ i + 1 = omega arith in
     ap (is_in starts) e ∙ next_start starts words is i (omega arith) ∙ ap not (none_last words none i (omega arith) (omega (arith, first)))
 
-starts_are : (starts long : ℕ) → starts ≡ bit_not w64 (shl (bit_and starts long) 1) → bit_and (bit_and starts long) last ≡ 0 → AreStarts starts (bit_and starts long)
+starts_are : (starts long : ℕ) → starts ≡ bit_not w64 (shl (bit_and starts long) 1) → bit_and (bit_and starts long) LAST ≡ 0 → AreStarts starts (bit_and starts long)
 starts_are starts long is none =
     let words = bit_and starts long in
     record {
@@ -59,7 +54,7 @@ starts_are starts long is none =
       inside = λ i h is. let seven = not_inside words none i h is in omega (arith, seven);
     }
 
-pub starts_told : (starts long : ℕ) → starts ≡ bit_not w64 (shl (bit_and starts long) 1) → (b : Bool) → b ≡ nat_eq (bit_and (bit_and starts long) last) 0 → OnTrue b (AreStarts starts (bit_and starts long))
+pub starts_told : (starts long : ℕ) → starts ≡ bit_not w64 (shl (bit_and starts long) 1) → (b : Bool) → b ≡ nat_eq (bit_and (bit_and starts long) LAST) 0 → OnTrue b (AreStarts starts (bit_and starts long))
 starts_told starts long is false e = tt
 starts_told starts long is true e = starts_are starts long is (eqb-true _ 0 (sym e))
 
@@ -71,13 +66,13 @@ le_of r e = search (rules, tests)
 abbrev pairs : ℕ → ℕ
 pairs words = bit_and words (words / 2 ^ 2)
 
-parts : (words i : ℕ) → is_in (bit_and (shl (pairs words) 4) last_four) i ≡ true → (is_in (shl (pairs words) 4) i ≡ true) × (is_in last_four i ≡ true)
-parts words i is = and_parts (is_in (shl (pairs words) 4) i) (is_in last_four i) (sym (in_and (shl (pairs words) 4) last_four i) ∙ is)
+parts : (words i : ℕ) → is_in (bit_and (shl (pairs words) 4) LAST_FOUR) i ≡ true → (is_in (shl (pairs words) 4) i ≡ true) × (is_in LAST_FOUR i ≡ true)
+parts words i is = and_parts (is_in (shl (pairs words) 4) i) (is_in LAST_FOUR i) (sym (in_and (shl (pairs words) 4) LAST_FOUR i) ∙ is)
 
-high : (words i : ℕ) → i < 64 → is_in (bit_and (shl (pairs words) 4) last_four) i ≡ true → 4 ≤ i % 8
+high : (words i : ℕ) → i < 64 → is_in (bit_and (shl (pairs words) 4) LAST_FOUR) i ≡ true → 4 ≤ i % 8
 high words i h is = le_of (i % 8) (sym (last_four_is i h) ∙ (parts words i is).1)
 
-two : (words i : ℕ) → i < 64 → is_in (bit_and (shl (pairs words) 4) last_four) i ≡ true → (is_in words (i - 4) ≡ true) × (is_in words (i - 2) ≡ true)
+two : (words i : ℕ) → i < 64 → is_in (bit_and (shl (pairs words) 4) LAST_FOUR) i ≡ true → (is_in words (i - 4) ≡ true) × (is_in words (i - 2) ≡ true)
 two words i h is =
     let far = high words i h is in
     let e : 4 + (i - 4) ≡ i = omega (arith, far) in
@@ -86,7 +81,7 @@ two words i h is =
     let p = and_parts (is_in words (i - 4)) (is_in (words / 2 ^ 2) (i - 4)) both in
     (p.0, ap (is_in words) (sym f) ∙ sym (in_shr words 2 (i - 4)) ∙ p.1)
 
-pub after_two_is : (words : ℕ) → AreAfterTwo words (bit_and (shl (bit_and words (words / 4)) 4) last_four)
+pub after_two_is : (words : ℕ) → AreAfterTwo words (bit_and (shl (bit_and words (words / 4)) 4) LAST_FOUR)
 after_two_is words = record {
   high = high words;
   first = λ i h is. (two words i h is).0;

@@ -18,7 +18,7 @@ use rv_word::{Reg, outline32};
 use sfi_masks::{BLOCK_BYTES, masks_of};
 use sfi_policy::BUNDLE_SIZE;
 
-/// The first halfword of every second place.
+/// Every second halfword, from the first.
 const EVEN: u64 = 0x5555_5555_5555_5555;
 /// The last halfword of each bundle.
 const LAST: u64 = 0x8080_8080_8080_8080;
