@@ -54,18 +54,18 @@ fn joined(a: u64, b: u64, c: u64, d: u64) -> u64
     a | b << 16 | c << 32 | d << 48
 }
 
-/// The masks of a block.
+/// The masks of a block, by code of its own for each kind of format: neither asks for each vector.
 #[inline(always)]
-fn masks_in(stack: bool, block: &[u8; BLOCK_BYTES]) -> Masks
-    ensures { AreMasks stack block.now result }
+fn masks_in<const STACK: bool>(block: &[u8; BLOCK_BYTES]) -> Masks
+    ensures { AreMasks STACK block.now result }
 {
     // The law that the contract rests on: the call does nothing.
     rv_comp::laws::halfwords_are_outlined();
 
-    let first = masks_of_quarter(stack, &block[..32]);
-    let second = masks_of_quarter(stack, &block[32..64]);
-    let third = masks_of_quarter(stack, &block[64..96]);
-    let fourth = masks_of_quarter(stack, &block[96..]);
+    let first = masks_of_quarter(STACK, &block[..32]);
+    let second = masks_of_quarter(STACK, &block[32..64]);
+    let third = masks_of_quarter(STACK, &block[64..96]);
+    let fourth = masks_of_quarter(STACK, &block[96..]);
     Masks {
         long: joined(first.long, second.long, third.long, fourth.long),
         free: joined(first.free, second.free, third.free, fourth.free),
@@ -78,10 +78,9 @@ fn masks_in(stack: bool, block: &[u8; BLOCK_BYTES]) -> Masks
 pub fn masks_of(stack: bool, block: &[u8; BLOCK_BYTES]) -> Masks
     ensures { AreMasks stack block.now result }
 {
-    // Two copies of the code, so that neither asks again for each vector.
     if stack {
-        masks_in(true, block)
+        masks_in::<true>(block)
     } else {
-        masks_in(false, block)
+        masks_in::<false>(block)
     }
 }
