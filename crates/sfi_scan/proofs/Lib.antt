@@ -6,6 +6,7 @@ pub mod FirstLook
 pub mod Gates
 pub mod Look
 pub mod OneList
+pub mod PairTables
 pub mod Readings
 pub mod WordsAt
 pub mod Walk

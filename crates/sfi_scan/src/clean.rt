@@ -19,6 +19,7 @@ ghost use Rattle.sfi_scan.specs.private.FirstLook.{half_at, word_at, AreWordsFro
 use crate::before::{CODE, DATA, Pair, may_be_target};
 use crate::bundle::BundlePlace;
 use crate::computing::is_free_half;
+use crate::pair_words::are_data_pair;
 use crate::rules::{STACK, is_bundle_start, is_last_bundle, offset_by};
 use rv_comp::outline16;
 use rv_word::{Access, Outline, Reg, RegOp, access32, computes32, op_word, outline32};
@@ -118,7 +119,7 @@ pub(crate) fn may_access(stack: bool, words: Words, base: Reg) -> bool
         stack ≡ has_stack b.format → AreBefore words (near earlier) →
         OnTrue result (may_access b base earlier ≡ true) }
 {
-    (stack && base.number() == STACK) || words.is_pair(DATA, base)
+    (stack && base.number() == STACK) || are_data_pair(words.first, words.second, base)
 }
 
 /// Whether a load or store with these registers breaks no rule there.

@@ -16,6 +16,7 @@ mod computing;
 mod finding;
 mod findings;
 pub mod laws;
+mod pair_words;
 mod part;
 mod rule;
 mod rules;
