@@ -96,3 +96,6 @@ in_lowest m some h = let all = bit_at-trailing_zeros w64 m (omega (arith, some))
 -- what is left of a mask without one of its bits was in it before
 pub in_rest : (a b i : ℕ) → is_in (bit_and a b) i ≡ true → is_in a i ≡ true
 in_rest a b i h = (and_parts (is_in a i) (is_in b i) (sym (in_and a b i) ∙ h)).0
+
+pub in_rest_other : (a b i : ℕ) → is_in (bit_and a b) i ≡ true → is_in b i ≡ true
+in_rest_other a b i h = (and_parts (is_in a i) (is_in b i) (sym (in_and a b i) ∙ h)).1

@@ -9,6 +9,7 @@ pub mod OneList
 pub mod PairTables
 pub mod Readings
 pub mod WordsAt
+pub mod Writes
 pub mod Walk
 pub mod FirstFormat
 pub mod Second

@@ -5,8 +5,8 @@ use Rattle.std.specs.Bool.{OnTrue}
 use Rattle.std.specs.Int.{bit_not}
 use Rattle.std.proofs.lemmas.Bool.{agree_below_at, and_parts, eqb-true}
 use Rattle.sfi_masks.specs.Masks.{is_in}
-use Rattle.sfi_scan.specs.private.Block.{AreStarts, AreAfterTwo}
-use Rattle.sfi_scan.specs.declared.block.TheConstants.{LAST, LAST_FOUR}
+use Rattle.sfi_scan.specs.private.Block.{AreStarts, AreAfterTwo, AreThreeWords}
+use Rattle.sfi_scan.specs.declared.block.TheConstants.{FIRST_THREE, LAST, LAST_FOUR}
 use Rattle.sfi_scan.proofs.Bits.{shl, in_and, in_not, in_shl, in_shl_low, in_shr, in_zero}
 
 -- ---- the last halfwords of the bundles
@@ -86,4 +86,32 @@ after_two_is words = record {
   high = high words;
   first = λ i h is. (two words i h is).0;
   second = λ i h is. (two words i h is).1;
+}
+
+-- ---- three words together
+
+first_three_is : (i : ℕ) → i < 64 → is_in FIRST_THREE i ≡ nat_le (i % 8) 2
+first_three_is i h = agree_below_at (λ i. is_in FIRST_THREE i) (λ i. nat_le (i % 8) 2) 64 i refl h
+
+few_of : (r : ℕ) → nat_le r 2 ≡ true → r ≤ 2
+few_of r e = search (rules, tests)
+
+three_parts : (words i : ℕ) → is_in (bit_and (bit_and (bit_and words (words / 4)) (words / 16)) FIRST_THREE) i ≡ true
+    → (is_in words i ≡ true) × (is_in words (i + 2) ≡ true) × (is_in words (i + 4) ≡ true) × (is_in FIRST_THREE i ≡ true)
+three_parts words i is =
+    let two = bit_and words (words / 2 ^ 2) in
+    let three = bit_and two (words / 2 ^ 4) in
+    let a = and_parts (is_in three i) (is_in FIRST_THREE i) (sym (in_and three FIRST_THREE i) ∙ is) in
+    let b = and_parts (is_in two i) (is_in (words / 2 ^ 4) i) (sym (in_and two (words / 2 ^ 4) i) ∙ a.0) in
+    let c = and_parts (is_in words i) (is_in (words / 2 ^ 2) i) (sym (in_and words (words / 2 ^ 2) i) ∙ b.0) in
+    let e : i + 2 ≡ 2 + i = omega arith in
+    let f : i + 4 ≡ 4 + i = omega arith in
+    (c.0, ap (is_in words) e ∙ sym (in_shr words 2 i) ∙ c.1, ap (is_in words) f ∙ sym (in_shr words 4 i) ∙ b.1, a.1)
+
+pub three_words_are : (words : ℕ) → AreThreeWords words (bit_and (bit_and (bit_and words (words / 4)) (words / 16)) FIRST_THREE)
+three_words_are words = record {
+  low = λ i h is. few_of (i % 8) (sym (first_three_is i h) ∙ (three_parts words i is).3);
+  first = λ i h is. (three_parts words i is).0;
+  second = λ i h is. (three_parts words i is).1;
+  third = λ i h is. (three_parts words i is).2;
 }

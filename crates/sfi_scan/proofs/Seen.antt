@@ -1,13 +1,14 @@
 -- Whatever begins in a bundle with none of the places that are left is clean.
-use Rattle.std.proofs.Common.{◌≡◌, ℕ, ◌%◌, ◌^◌, ◌<◌, Bool, true, false, not, ◌&&◌, List, refl, sym, ap, ◌∙◌, subst, w64, bit_and}
+use Rattle.std.proofs.Common.{◌≡◌, ℕ, ◌%◌, ◌^◌, ◌<◌, Bool, true, false, not, ◌&&◌, inl, inr, List, refl, sym, ap, ◌∙◌, subst, w64, bit_and}
 use Rattle.std.specs.Int.{bit_not}
 use Rattle.std.proofs.lemmas.Bool.{and_parts}
 use Rattle.sfi_masks.specs.Masks.{is_in, AreMasks, IsFreeAccess, word_at}
 use Rattle.sfi_masks.specs.declared.masks.Masks.{Masks}
 use Rattle.sfi_policy.specs.Formats.{has_stack}
 use Rattle.sfi_scan.specs.declared.bundle.BundlePlace.{BundlePlace}
-use Rattle.sfi_scan.specs.private.Block.{AreStarts, IsCleanAt, IsWithout}
+use Rattle.sfi_scan.specs.private.Block.{AreStarts, IsCleanAt, IsOfWrite, IsWithout}
 use Rattle.sfi_scan.proofs.Bits.{in_and, in_not}
+use Rattle.sfi_scan.proofs.Joining.{IsQuietAt}
 use Rattle.sfi_scan.proofs.Starts.{free_half, free_word}
 
 pub without_is : (a b : ℕ) → b < 2 ^ 64 → IsWithout a b (bit_and a (bit_not w64 b))
@@ -56,20 +57,23 @@ free_start b block stack starts m after left i is are marks first lt none start 
     by true e = free_at b block stack starts m after i is are marks lt start e
     by false e = absurd (no_both (is_in left i) (stays starts m.free left i first lt start e) none)
 
-pub seen : (b : BundlePlace) (block : List ℕ) (stack : Bool) (starts : ℕ) (m : Masks) (after left paired others clean rest i : ℕ) → stack ≡ has_stack b.format → AreMasks stack block m → AreStarts starts (bit_and starts m.long)
-    → IsWithout starts m.free left → IsWithout left paired others → IsWithout others clean rest → i < 64
+pub seen : (b : BundlePlace) (block : List ℕ) (stack : Bool) (starts : ℕ) (m : Masks) (after left paired others clean rest written final i : ℕ) → stack ≡ has_stack b.format → AreMasks stack block m → AreStarts starts (bit_and starts m.long)
+    → IsWithout starts m.free left → IsWithout left paired others → IsWithout others clean rest → IsWithout rest written final → i < 64
     → ((i : ℕ) → is_in paired i ≡ true → is_in (accesses left (bit_and starts m.long) m) i ≡ true)
     → ((i : ℕ) → is_in paired i ≡ true → (b : BundlePlace) → stack ≡ has_stack b.format → IsCleanAt b block true after i)
     → ((i : ℕ) → is_in clean i ≡ true → IsCleanAt b block (is_in (bit_and starts m.long) i) after i)
-    → is_in rest i ≡ false → is_in starts i ≡ true → IsCleanAt b block (is_in (bit_and starts m.long) i) after i
-seen b block stack starts m after left paired others clean rest i is are marks first second third lt within pairs quiet none start =
-    by (is_in m.free i) (is_in paired i) (is_in clean i) refl refl refl
+    → ((i : ℕ) → is_in written i ≡ true → stack ≡ true) → ((i : ℕ) → is_in written i ≡ true → IsOfWrite block (bit_and starts m.long) i)
+    → is_in final i ≡ false → is_in starts i ≡ true → IsQuietAt b block (bit_and starts m.long) after i
+seen b block stack starts m after left paired others clean rest written final i is are marks first second third fourth lt within pairs quiet has writes none start =
+    by (is_in m.free i) (is_in paired i) (is_in clean i) (is_in written i) refl refl refl refl
   where
-    by : (f p o : Bool) → is_in m.free i ≡ f → is_in paired i ≡ p → is_in clean i ≡ o → IsCleanAt b block (is_in (bit_and starts m.long) i) after i
-    by true p o e f g = free_at b block stack starts m after i is are marks lt start e
-    by false true o e f g = subst (λ w. IsCleanAt b block w after i) (sym (access_parts left (bit_and starts m.long) m i (within i f)).0) (pairs i f b is)
-    by false false true e f g = quiet i g
-    by false false false e f g =
+    by : (f p o w : Bool) → is_in m.free i ≡ f → is_in paired i ≡ p → is_in clean i ≡ o → is_in written i ≡ w → IsQuietAt b block (bit_and starts m.long) after i
+    by true p o w e f g h = inl (free_at b block stack starts m after i is are marks lt start e)
+    by false true o w e f g h = inl (subst (λ w. IsCleanAt b block w after i) (sym (access_parts left (bit_and starts m.long) m i (within i f)).0) (pairs i f b is))
+    by false false true w e f g h = inl (quiet i g)
+    by false false false true e f g h = inr (sym is ∙ has i h, writes i h)
+    by false false false false e f g h =
         let one = stays starts m.free left i first lt start e in
         let two = stays left paired others i second lt one f in
-        absurd (no_both (is_in rest i) (stays others clean rest i third lt two g) none)
+        let three = stays others clean rest i third lt two g in
+        absurd (no_both (is_in final i) (stays rest written final i fourth lt three h) none)

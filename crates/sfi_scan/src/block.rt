@@ -8,11 +8,11 @@ ghost use Rattle.sfi_scan.specs.declared.before.Before.{Before};
 ghost use Rattle.sfi_scan.specs.declared.bundle.BundlePlace.{BundlePlace};
 ghost use Rattle.sfi_scan.specs.Bundles.{IsWithin, IsWithinBlock, bundle_at, block_bundle};
 ghost use Rattle.sfi_scan.specs.Findings.{AreReadingFindings};
-ghost use Rattle.sfi_scan.specs.private.Block.{AreStarts, AreAfterTwo, IsWithout, offset, words_from, IsCleanAt};
+ghost use Rattle.sfi_scan.specs.private.Block.{AreStarts, AreAfterTwo, AreThreeWords, IsWithout, IsWritten, IsOfWrite, offset, words_from, IsCleanAt};
 ghost use Rattle.sfi_scan.specs.private.FirstLook.{half_at, word_at, AreWordsFrom, AreBefore};
 
 use crate::bundle::BundlePlace;
-use crate::clean::{Words, is_clean, may_access};
+use crate::clean::{Words, is_clean, is_stack_pair, is_stack_write, may_access};
 use rv_comp::outline16;
 use rv_word::{Reg, outline32};
 use sfi_masks::{BLOCK_BYTES, masks_of};
@@ -22,6 +22,8 @@ use sfi_policy::BUNDLE_SIZE;
 const EVEN: u64 = 0x5555_5555_5555_5555;
 /// The last halfword of each bundle.
 const LAST: u64 = 0x8080_8080_8080_8080;
+/// The first three halfwords of each bundle.
+const FIRST_THREE: u64 = 0x0707_0707_0707_0707;
 /// The last four halfwords of each bundle.
 const LAST_FOUR: u64 = 0xf0f0_f0f0_f0f0_f0f0;
 
@@ -67,6 +69,14 @@ fn after_two(words: u64) -> u64
     ensures { AreAfterTwo words result }
 {
     (words & words >> 2) << 4 & LAST_FOUR
+}
+
+/// The places at which the first of three words begins that stand in one bundle, one behind another.
+#[inline(always)]
+fn three_words(words: u64) -> u64
+    ensures { AreThreeWords words result }
+{
+    words & words >> 2 & words >> 4 & FIRST_THREE
 }
 
 /// The bundle of the block of that number.
@@ -232,6 +242,41 @@ fn clean_others(
     clean
 }
 
+/// Whether the stack pointer is written there, and put back into the data.
+#[inline(always)]
+fn is_written(block: &[u8; BLOCK_BYTES], words: u64, i: usize) -> bool
+    requires place { i < 64 }
+    requires three { (three : ℕ) × AreThreeWords words three × (is_in three i ≡ true) }
+    ensures { OnTrue result (IsWritten block.now words i) }
+{
+    if !is_stack_pair(word_at(block, i + 2), word_at(block, i + 4)) {
+        return false;
+    }
+    is_stack_write(word_at(block, i))
+}
+
+/// Those of these places at which the stack pointer is written and put back, and those of its pairs.
+#[inline(always)]
+fn stack_writes(stack: bool, block: &[u8; BLOCK_BYTES], words: u64, places: u64) -> u64
+    ensures stack { (i : ℕ) → is_in result i ≡ true → stack ≡ true }
+    ensures writes { (i : ℕ) → is_in result i ≡ true → IsOfWrite block.now words i }
+{
+    if !stack {
+        return 0;
+    }
+    let mut written: u64 = 0;
+    let three = three_words(words);
+    let mut rest = places & three;
+    while rest != 0 {
+        let i = rest.trailing_zeros() as usize;
+        if is_written(block, words, i) {
+            written = written | 1 << i | 1 << (i + 2) | 1 << (i + 4);
+        }
+        rest &= rest - 1;
+    }
+    written
+}
+
 /// Places in each bundle that isn't seen to break no rule.
 #[inline(always)]
 fn unclean(place: &BundlePlace, stack: bool, block: &[u8; BLOCK_BYTES]) -> u64
@@ -240,8 +285,9 @@ fn unclean(place: &BundlePlace, stack: bool, block: &[u8; BLOCK_BYTES]) -> u64
     ensures { (k : ℕ) → k < 8 → ((j : ℕ) → j < 8 → is_in result (8 * k + j) ≡ false) →
         AreReadingFindings (bundle_at place.now k) (block_bundle block.now k) [] }
 {
-    // The law that the contract rests on: the call does nothing.
+    // The laws that the contract rests on: the calls do nothing.
     rv_comp::laws::one_spelling();
+    rv_word::laws::one_spelling();
 
     let masks = masks_of(stack, block);
     let starts = starts_of(masks.long);
@@ -256,10 +302,11 @@ fn unclean(place: &BundlePlace, stack: bool, block: &[u8; BLOCK_BYTES]) -> u64
     let after = after_two(words);
     let accesses = clean_accesses(stack, block, after, left & words & masks.access);
     let others = without(left, accesses);
-    without(
+    let rest = without(
         others,
         clean_others(place, stack, block, words, after, others),
-    )
+    );
+    without(rest, stack_writes(stack, block, words, rest))
 }
 
 /// A bit for each bundle with none of these places.

@@ -270,7 +270,7 @@ fn is_clean_word(
 
 /// Whether the word is an instruction that computes into the stack pointer, or loads into it from
 /// near it.
-fn is_stack_write(word: u32) -> bool
+pub(crate) fn is_stack_write(word: u32) -> bool
     ensures { OnTrue result (IsStackWrite word) }
 {
     match outline32(word) {
@@ -285,7 +285,7 @@ fn is_stack_write(word: u32) -> bool
 
 /// Whether the words are the pair on the stack pointer.
 #[inline(always)]
-fn is_stack_pair(first: u32, second: u32) -> bool
+pub(crate) fn is_stack_pair(first: u32, second: u32) -> bool
     ensures { OnTrue result (AreStackPair first second) }
 {
     let stack = Reg::numbered(STACK);
@@ -320,8 +320,9 @@ fn looks_clean(place: &BundlePlace, stack: bool, bytes: &[u8; BUNDLE_BYTES]) -> 
     requires stack { stack ≡ has_stack place.now.format }
     ensures { OnTrue result (AreReadingFindings place.now bytes.now []) }
 {
-    // The law that the contract rests on: the call does nothing.
+    // The laws that the contract rests on: the calls do nothing.
     rv_comp::laws::one_spelling();
+    rv_word::laws::one_spelling();
 
     // The region's end has a rule of its own.
     if is_last_bundle(place) {
@@ -339,7 +340,6 @@ fn looks_clean(place: &BundlePlace, stack: bool, bytes: &[u8; BUNDLE_BYTES]) -> 
             at += 2;
             from = at;
         } else if stack && at <= 4 && is_stack_written(bytes, at) {
-            from = at + 4;
             at += 12;
         } else {
             if at > 12 || !is_clean_word(place, stack, bytes, at, from, word_at(bytes, at)) {
