@@ -1,8 +1,7 @@
 //! A first look at eight bundles at once. Bit i of a mask is for the block's halfword i.
 ghost use Rattle.std.specs.Prelude.{bit_and, ◌≡◌, ℕ, ◌+◌, ◌*◌, ◌/◌, ◌%◌, ◌<◌, ◌≤◌, [], true, false};
 ghost use Rattle.std.specs.Bool.{OnTrue};
-ghost use Rattle.rv_word.specs.declared.instr.Instr.{Instr};
-ghost use Rattle.sfi_masks.specs.Masks.{is_in, IsFreeAccess, word_at as block_word, half_at as block_half};
+ghost use Rattle.sfi_masks.specs.Masks.{is_in, IsFreeAccess, word_at as block_word};
 ghost use Rattle.sfi_policy.specs.Formats.{has_stack};
 ghost use Rattle.sfi_scan.specs.declared.before.Before.{Before};
 ghost use Rattle.sfi_scan.specs.declared.bundle.BundlePlace.{BundlePlace};
@@ -277,7 +276,7 @@ fn stack_writes(stack: bool, block: &[u8; BLOCK_BYTES], words: u64, places: u64)
     written
 }
 
-/// Places in each bundle that isn't seen to break no rule.
+/// The starts at which a rule isn't seen to be kept: some in each bundle that isn't seen clean.
 #[inline(always)]
 fn unclean(place: &BundlePlace, stack: bool, block: &[u8; BLOCK_BYTES]) -> u64
     requires within { IsWithinBlock place.now }
