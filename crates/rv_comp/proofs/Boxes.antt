@@ -1,12 +1,11 @@
 -- What the code computes agrees with the table on each form that its row allows, by computation over the row's values.
-use Rattle.std.proofs.Common.{◌≡◌, subst, ℕ, ◌+◌, ◌-◌, ◌*◌, ◌^◌, ◌<◌, Bool, true, false, not, ◌&&◌, ◌==◌, refl, ap, sym, Option, Some, None, pos, ℤ, arith, eqb-true}
+use Rattle.std.proofs.Common.{◌≡◌, subst, ℕ, ◌+◌, ◌-◌, ◌*◌, ◌^◌, ◌<◌, Bool, true, false, not, ◌&&◌, ◌==◌, refl, ap, sym, Option, Some, None, pos, ℤ, arith}
 use Rattle.std.proofs.lemmas.Bool.{and_parts, ltb-true}
 use Rattle.std.specs.Prelude.{nat_lt, nat_le}
 use Rattle.rv_comp.specs.Halfwords.{halfword_of}
 use Rattle.rv_comp.specs.Table.{allowed, expansion, place, is_reg, is_short_reg, is_unsigned, is_signed, is_not_zero}
 use Rattle.rv_comp.specs.mirror.Decoding.{decoded}
 use Rattle.rv_comp.specs.mirror.First.{first_form, first_addi, upper_value}
-use Rattle.rv_comp.specs.mirror.Encoding.{encoded, two_short, two_long, six_at, word_at, jump_at, branch_at, stack_step_at, stack_address_at, load_at, store_at}
 use Rattle.rv_comp.specs.declared.form.Form16.{Form16}
 use Rattle.rv_comp.specs.declared.form.Form16.TheVariants.{CAddi4spn, CLw, CSw, CAddi, CJal, CLi, CAddi16sp, CLui, CSrli, CSrai, CAndi, CSub, CXor, COr, CAnd, CJ, CBeqz, CBnez, CSlli, CLwsp, CJr, CJalr, CMv, CAdd, CEbreak, CSwsp}
 use Rattle.rv_comp.proofs.Same.{same, same_int, same-true}
@@ -30,27 +29,21 @@ leads_to (Some f) g = nat_le (place f) (place g)
 unfoldable pub leads : Form16 → Bool
 leads g = leads_to (first_form (expansion g)) g
 
--- where the row allows f, its halfword decodes to it, f encodes to its halfword, and its expansion's first form isn't in a later row
+-- where the row allows f, its halfword decodes to it, and its expansion's first form isn't in a later row
 answers : Form16 → Bool
-answers f = elim (allowed f) [ true ↦ is_some_of (decoded (halfword_of f)) f && encoded f == halfword_of f && leads f | false ↦ true ]
+answers f = elim (allowed f) [ true ↦ is_some_of (decoded (halfword_of f)) f && leads f | false ↦ true ]
 
 -- what the code computes for f is what the table says
 pub record Agrees (f : Form16) : Type 0 where
   pub decodes : decoded (halfword_of f) ≡ Some f
-  pub encodes : encoded f ≡ halfword_of f
   pub first : leads f ≡ true
 
 agrees : (f : Form16) → allowed f ≡ true → answers f ≡ true → Agrees f
 unfolding answers
 agrees f a h =
     let k = rw (answers, a) at h in
-    let q = and_parts (is_some_of (decoded (halfword_of f)) f && encoded f == halfword_of f) (leads f) k in
-    let p = and_parts (is_some_of (decoded (halfword_of f)) f) (encoded f == halfword_of f) q.0 in
-    record {
-      decodes = is_some_of-true (decoded (halfword_of f)) f p.0;
-      encodes = eqb-true (encoded f) (halfword_of f) p.1;
-      first = q.1;
-    }
+    let p = and_parts (is_some_of (decoded (halfword_of f)) f) (leads f) k in
+    record { decodes = is_some_of-true (decoded (halfword_of f)) f p.0; first = p.1 }
 
 -- ---- the values of a field, counted
 
@@ -152,7 +145,7 @@ of_three a b c k box x y z are h =
 
 -- one name to unfold where a proof computes with the code
 boxes : Unit {0}
-unfolding tables answers is_some_of same same_int signed_at leads_to leads first_form first_addi upper_value encoded two_short two_long six_at word_at jump_at branch_at stack_step_at stack_address_at load_at store_at
+unfolding tables answers is_some_of same same_int signed_at leads_to leads first_form first_addi upper_value
 boxes = tt
 
 -- the rows with most values, of which a declaration can compute two at most

@@ -1,14 +1,12 @@
 -- What the decoder and the encoder compute is the table.
 use Rattle.std.proofs.Common.{◌≡◌, ℕ, ◌^◌, ◌<◌, true, ◌==◌, ap, ◌∙◌, Option, Some, None, eqb-true}
 use Rattle.std.proofs.lemmas.Bool.{and_parts}
-use Rattle.std.specs.Prelude.{IfSome, IsTrue}
-use Rattle.std.specs.Option.{SomeIff}
-use Rattle.rv_comp.specs.mirror.Encoding.{encoded}
+use Rattle.std.specs.Prelude.{IfSome}
 use Rattle.rv_comp.specs.Halfwords.{halfword_of, IsHalfwordOf}
 use Rattle.rv_comp.specs.Table.{allowed}
 use Rattle.rv_comp.specs.mirror.Decoding.{decoded}
 use Rattle.rv_comp.specs.declared.form.Form16.{Form16}
-use Rattle.rv_comp.proofs.Whole.{reads, spells, in_halves, first_half, second_half}
+use Rattle.rv_comp.proofs.Whole.{spells, all_read}
 use Rattle.rv_comp.proofs.Boxes.{agreed}
 
 from_test : (h : ℕ) (o : Option Form16) → spells h o ≡ true → IfSome o (λ f. IsHalfwordOf h f)
@@ -17,12 +15,7 @@ from_test h None e = tt
 from_test h (Some f) e = let p = and_parts (allowed f) (h == halfword_of f) e in record { meets = p.0; spelled = eqb-true h (halfword_of f) p.1 }
 
 pub decoded_found : (h : ℕ) → h < 2 ^ 16 → IfSome (decoded h) (λ f. IsHalfwordOf h f)
-unfolding reads
-decoded_found h lt = from_test h (decoded h) (in_halves reads first_half second_half h lt)
+decoded_found h lt = from_test h (decoded h) (all_read h lt).spelled
 
 pub decoded_only : (h : ℕ) (f : Form16) → IsHalfwordOf h f → decoded h ≡ Some f
 decoded_only h f is = ap decoded is.spelled ∙ (agreed f is.meets).decodes
-
-pub encoded_exact : (o : Option ℕ) (f : Form16) → SomeIff o (IsTrue (allowed f)) (encoded f) → SomeIff o (IsTrue (allowed f)) (halfword_of f)
-encoded_exact None f h = h
-encoded_exact (Some n) f h = (h.0, h.1 ∙ (agreed f h.0).encodes)

@@ -8,6 +8,7 @@ pub mod Moves
 pub mod Outlined
 pub mod Ranges
 pub mod Reach
+pub mod Rows
 pub mod Same
 pub mod Spellings
 pub mod Whole

@@ -6,15 +6,9 @@ ghost use Rattle.rv_comp.specs.mirror.First.{first_form, first_addi, upper_value
 ghost use Rattle.rv_comp.specs.declared.form.Form16.{Form16};
 ghost use Rattle.rv_word.specs.declared.instr.Instr.TheVariants.{Op, OpImm, Load, Store, Branch, Jal, Jalr, Lui};
 
-use crate::encode::encode16;
+use crate::encode::is_allowed;
 use crate::form::Form16;
 use rv_word::{Cond, ImmOp, Instr, LoadKind, Reg, RegOp, StoreWidth};
-
-fn is_allowed(form: &Form16) -> bool
-    ensures { result ≡ allowed form.now }
-{
-    encode16(*form).is_some()
-}
 
 fn is(reg: Reg, number: u8) -> bool
     ensures { result ≡ reg == number }

@@ -1,5 +1,5 @@
 -- A look-up in the entries of segments.
-use Rattle.std.proofs.Common.{eqb-true, is_some, add-zero, min, max, ◌^◌, ◌≡◌, ℕ, ◌+◌, ◌-◌, ◌<◌, ◌≤◌, ◌==◌, Bool, true, false, cond, zero, suc, add-one, take, get_or, length, map, set, IsSome, IsTrue, ◌↔◌, subst, List, [], ◌∷◌, ◌++◌, Option, Some, None, refl, sym, ap, ◌∙◌, arith, nat_lt, slice_get}
+use Rattle.std.proofs.Common.{eqb-true, is_some, add-zero, ◌^◌, ◌≡◌, ℕ, ◌+◌, ◌-◌, ◌<◌, ◌≤◌, ◌==◌, Bool, true, false, cond, zero, suc, add-one, take, get_or, length, map, set, IsSome, IsTrue, ◌↔◌, subst, List, [], ◌∷◌, ◌++◌, Option, Some, None, refl, sym, ap, ◌∙◌, arith, nat_lt, slice_get}
 use Rattle.std.proofs.lemmas.Grind.{common_steps}
 use Rattle.std.specs.List.{range_with_len}
 use Rattle.std.specs.Option.{option_or}
@@ -8,7 +8,7 @@ use Rattle.std.specs.Cmp.{nat_cmp_total, unsigned_tied}
 use Rattle.std.specs.Bool.{OnTrue}
 use Rattle.std.specs.FinMap.{get, find, insert, get-from_entries, get-insert, same_map, nat_cmp-IsAntisymmetric}
 use Rattle.rv_mem.specs.declared.segment.Segment.{Segment}
-use Rattle.std.proofs.lemmas.Option.{get_or_from_slice_get, slice_get_past, slice_get-get_or}
+use Rattle.std.proofs.lemmas.Option.{get_or_from_slice_get}
 use Rattle.rv_mem.specs.Bytes.{Bytes, byte_at, IsMemory, address_after, addresses, with_bytes}
 use Rattle.rv_mem.specs.Segment.{entries_from, all_entries, bytes_among}
 use Rattle.rv_mem.specs.private.Segment.{byte_in, byte_among, Puts}
@@ -160,20 +160,6 @@ put_done false ss ss' at b h t p =
     absurd (cc (t.1 g))
 
 -- ---- ranges of addresses
-
--- what lies past a segment, or before it
-pub none_in : (base : ℕ) (bs : List ℕ) (from to : ℕ) → min (base + length bs) to ≤ max base from → HasNone (byte_in base bs) from to
-none_in base bs from to h q f t = grind (arith, common_steps, slice_get_past)
-
-some_at : (base : ℕ) (bs : List ℕ) (q : ℕ) → base ≤ q → q - base < length bs → IsSome (byte_in base bs q)
-some_at base bs q h p =
-    let e : byte_in base bs q ≡ Some (get_or bs (q - base) 0) = grind (arith, common_steps, slice_get-get_or bs (q - base) 0 p) in
-    ap is_some e
-
-pub some_in : (base : ℕ) (bs : List ℕ) (from to : ℕ) → max base from < min (base + length bs) to → HasIn (byte_in base bs) from to
-some_in base bs from to h =
-    let p : max base from - base < length bs = omega arith in
-    (max base from, omega arith, omega arith, some_at base bs (max base from) (omega arith) p)
 
 none_is : (o : Option ℕ) → o ≡ None → ¬ (IsSome o)
 none_is None e h = absurd (cc)

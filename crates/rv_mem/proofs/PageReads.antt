@@ -69,9 +69,6 @@ no_halfword t c are at fits e =
 
 -- ---- a word in one page
 
-word_of : Option ℕ → Option ℕ → Option ℕ → Option ℕ → Option ℕ
-word_of a b d e = option_map number_of (in_front a (in_front b (in_front d (in_front e (Some [])))))
-
 module _ (t c : List ℕ) (are : ArePages t c) (at f : ℕ) (is : f ≡ frame_of t at) (room : f + 8192 ≤ length c) (fits : at < 2 ^ 32) (one_page : at % 4096 ≤ 4092) where
   pub byte_after : (k : ℕ) → k < 4 → byte_at (values_of (cell_at t c)) (address_after at k) ≡ cell c (f + at % 4096 + k)
   byte_after k small =

@@ -1,60 +1,27 @@
 -- Pages: runs of bytes, and their marks.
-use Rattle.std.proofs.Common.{eqb-true, ◌^◌, ◌≡◌, ◌≢◌, ℕ, ◌+◌, ◌-◌, ◌*◌, ◌/◌, ◌%◌, ◌<◌, ◌≤◌, ◌==◌, ◌⊎◌, inl, inr, ⊎_elim, Bool, true, false, cond, zero, suc, nat_lt, length, take, drop, set, List, [], ◌∷◌, ◌++◌, Option, Some, None, refl, sym, ap, ◌∙◌, subst, arith, get_or-set_other, get_or-set_same}
+use Rattle.std.proofs.Common.{eqb-true, ◌^◌, ◌≡◌, ◌≢◌, ℕ, ◌+◌, ◌-◌, ◌*◌, ◌/◌, ◌%◌, ◌<◌, ◌≤◌, ◌==◌, ◌⊎◌, inl, inr, ⊎_elim, true, false, cond, zero, suc, nat_lt, length, List, [], ◌∷◌, ◌++◌, Option, Some, None, refl, sym, ap, ◌∙◌, subst, arith}
 use Rattle.std.proofs.lemmas.Bool.{eqb-false}
 use Rattle.std.specs.Prelude.{slice_index, replicate}
-use Rattle.std.proofs.lemmas.Grind.{common_steps}
 use Rattle.std.specs.Option.{option_or}
 use Rattle.std.specs.Cmp.{nat_cmp_total}
-use Rattle.std.specs.FinMap.{get, insert, same_map, nat_cmp-IsAntisymmetric}
+use Rattle.std.specs.FinMap.{get, same_map, nat_cmp-IsAntisymmetric}
 use Rattle.rv_mem.specs.Bytes.{Bytes, byte_at, address_after, addresses}
 use Rattle.rv_mem.specs.private.Frames.{run_of, Puts, MarksRun}
 use Rattle.rv_mem.specs.Frames.{frame_of, cell, cell_at, ArePages, values_of}
 use Rattle.std.specs.Prelude.{slice_get}
 use Rattle.std.proofs.lemmas.Option.{slice_get-get_or, slice_get_past}
 use Rattle.std.proofs.lemmas.List.{length-replicate}
-use Rattle.std.proofs.Common.{add-zero, length-append, length-take, length-drop, get_or-take, get_or-drop}
+use Rattle.std.proofs.Common.{add-zero, length-append}
 use Rattle.rv_mem.specs.Bytes.{with_bytes, added}
 use Rattle.rv_mem.specs.private.Segment.{byte_in}
 use Rattle.rv_mem.proofs.Lookups.{get_with}
-use Rattle.rv_mem.proofs.Accesses.{byte_at-insert}
 use Rattle.rv_mem.proofs.Paging.{is_marked, no_frame, get_pages}
-use Rattle.rv_mem.proofs.PageWrites.{length_set}
 
 -- ---- a run of bytes
 
 -- what is at q where k bytes of a list, and zeros past its end, stand from base on
 abbrev pub run_at : ℕ → ℕ → List ℕ → ℕ → Option ℕ → Option ℕ
 run_at base k f q o = cond (nat_lt q base) o (cond (nat_lt q (base + k)) (Some (slice_index f (q - base))) o)
-
-run_start : (base : ℕ) (f : List ℕ) (q : ℕ) (o : Option ℕ) → o ≡ run_at base 0 f q o
-run_start base f q o = grind (arith, common_steps)
-
-pub starts : (base : ℕ) (f : List ℕ) (m : Bytes) (q : ℕ) → byte_at m q ≡ run_at base 0 f q (byte_at m q)
-starts base f m q = run_start base f q (byte_at m q)
-
-run_more : (base k : ℕ) (f : List ℕ) (q : ℕ) (o p : Option ℕ) → p ≡ run_at base k f q o → cond (q == base + k) (Some (slice_index f k)) p ≡ run_at base (k + 1) f q o
-run_more base k f q o p e = elim (q == base + k) as (λ r. (q == base + k) ≡ r → cond r (Some (slice_index f k)) p ≡ run_at base (k + 1) f q o) [
-  | true ↦ λ r.
-      let here : q ≡ base + k = eqb-true q (base + k) r in
-      let x : nat_lt q base ≡ false = grind arith in
-      let y : nat_lt q (base + (k + 1)) ≡ true = grind arith in
-      let z : k ≡ q - base = omega arith in
-      ap (λ (j : ℕ). Some (slice_index f j)) z
-      ∙ ap (λ (b : Bool). cond b (Some (slice_index f (q - base))) o) (sym y)
-      ∙ ap (λ (b : Bool). cond b o (cond (nat_lt q (base + (k + 1))) (Some (slice_index f (q - base))) o)) (sym x)
-  | false ↦ λ r.
-      let other : q ≢ base + k = eqb-false q (base + k) r in
-      let y : nat_lt q (base + k) ≡ nat_lt q (base + (k + 1)) = grind arith in
-      e ∙ ap (λ (b : Bool). cond (nat_lt q base) o (cond b (Some (slice_index f (q - base))) o)) y
-] refl
-
-pub goes_on : (base k : ℕ) (f : List ℕ) (m m0 : Bytes) (b at : ℕ) → at ≡ base + k → b ≡ slice_index f k → (q : ℕ) → byte_at m q ≡ run_at base k f q (byte_at m0 q)
-    → byte_at (insert m at b) q ≡ run_at base (k + 1) f q (byte_at m0 q)
-goes_on base k f m m0 b at e g q h =
-    byte_at-insert m at b q
-    ∙ ap (λ (x : ℕ). cond (q == x) (Some b) (byte_at m q)) e
-    ∙ ap (λ (x : ℕ). cond (q == base + k) (Some x) (byte_at m q)) g
-    ∙ run_more base k f q (byte_at m0 q) (byte_at m q) h
 
 zeros_after : (f : List ℕ) (n k : ℕ) → slice_index (f ++ replicate n 0) k ≡ slice_index f k
 zeros_after [] zero k = refl
@@ -96,59 +63,6 @@ pub none_in_page : (t c : List ℕ) → ArePages t c → (at n : ℕ) → at % 4
 none_in_page t c are at n room e j below =
     let p : (at + j) / 4096 ≡ at / 4096 = omega arith in
     get_pages t c are (at + j) ∙ no_frame t c are (at + j) (ap (slice_index t) p ∙ e)
-
--- cells that are put one after another
-pub puts_none : (c : List ℕ) (p : ℕ) (value : ℕ → ℕ) → Puts c c p 0 value
-puts_none c p value = record { size = refl; inside = λ j h. absurd (omega arith); below = λ j h. refl; past = λ j h. refl }
-
-pub puts_one : (c d : List ℕ) (p n b : ℕ) (value : ℕ → ℕ) → Puts c d p n value → p + n < length d → b ≡ value n → Puts c (set d (p + n) b) p (n + 1) value
-puts_one c d p n b value so_far room e = record {
-  size = length_set d (p + n) b ∙ so_far.size;
-  inside = λ j h. elim (j == n) as (λ r. (j == n) ≡ r → slice_index (set d (p + n) b) (p + j) ≡ value j) [
-    | true ↦ λ r.
-        let same : j ≡ n = eqb-true j n r in
-        ap (λ (x : ℕ). slice_index (set d (p + n) b) (p + x)) same ∙ get_or-set_same d (p + n) b 0 room ∙ e ∙ ap value (sym same)
-    | false ↦ λ r.
-        let other : j ≢ n = eqb-false j n r in
-        let elsewhere : p + j ≢ p + n = λ z. other (omega (arith, z)) in
-        let less : j < n = omega (arith, h, other) in
-        get_or-set_other d (p + n) (p + j) b 0 elsewhere ∙ so_far.inside j less
-  ] refl;
-  below = λ j h. let elsewhere : j ≢ p + n = λ z. omega (arith, z, h) in get_or-set_other d (p + n) j b 0 elsewhere ∙ so_far.below j h;
-  past = λ j h. let elsewhere : j ≢ p + n = λ z. omega (arith, z, h) in get_or-set_other d (p + n) j b 0 elsewhere ∙ so_far.past j (omega (arith, h));
-}
-
--- a part of the cells is overwritten
-in_first : (xs ys : List ℕ) (j : ℕ) → j < length xs → slice_index (xs ++ ys) j ≡ slice_index xs j
-in_first [] ys j h = absurd (omega arith)
-in_first (x ∷ xs) ys zero h = refl
-in_first (x ∷ xs) ys (suc j) h = in_first xs ys j (omega arith)
-
-in_second : (xs ys : List ℕ) (n j : ℕ) → n ≡ length xs → slice_index (xs ++ ys) (n + j) ≡ slice_index ys j
-in_second [] ys n j e = let z : n + j ≡ j = omega arith in ap (slice_index ys) z
-in_second (x ∷ xs) ys n j e =
-    let z : n + j ≡ suc (length xs + j) = omega arith in
-    ap (slice_index (x ∷ xs ++ ys)) z ∙ in_second xs ys (length xs) j refl
-
-pub puts_part : (c ys : List ℕ) (p n : ℕ) (value : ℕ → ℕ) → p + n ≤ length c → length ys ≡ n → ((j : ℕ) → j < n → slice_index ys j ≡ value j) → Puts c (take p c ++ (ys ++ drop n (drop p c))) p n value
-puts_part c ys p n value room count is =
-    let front : length (take p c) ≡ p = let t = length-take p c in omega (arith, t, room) in
-    let left = length-drop n (drop p c) in
-    let right = length-drop p c in
-    record {
-      size = length-append (take p c) (ys ++ drop n (drop p c)) ∙ ap (λ (k : ℕ). length (take p c) + k) (length-append ys (drop n (drop p c)))
-          ∙ (omega (arith, front, left, right, count, room));
-      inside = λ j h. in_second (take p c) (ys ++ drop n (drop p c)) p j (sym front) ∙ in_first ys (drop n (drop p c)) j (omega (arith, h, count)) ∙ is j h;
-      below = λ j h. in_first (take p c) (ys ++ drop n (drop p c)) j (omega (arith, h, front)) ∙ get_or-take p c j 0 h;
-      past = λ j h.
-          let z : j ≡ p + (n + (j - p - n)) = omega arith in
-          ap (slice_index (take p c ++ (ys ++ drop n (drop p c)))) z
-          ∙ in_second (take p c) (ys ++ drop n (drop p c)) p (n + (j - p - n)) (sym front)
-          ∙ in_second ys (drop n (drop p c)) n (j - p - n) (sym count)
-          ∙ get_or-drop n (drop p c) (j - p - n) 0
-          ∙ get_or-drop p c (n + (j - p - n)) 0
-          ∙ ap (slice_index c) (sym z);
-    }
 
 -- bytes, zeros after them, and their marks
 pub marks_run : (c d e g : List ℕ) (p n given : ℕ) (f ys : List ℕ) (k : ℕ) → n ≤ 4096 → given ≤ n
@@ -273,26 +187,6 @@ module _ (t c d : List ℕ) (are : ArePages t c) (at n : ℕ) (f : List ℕ) (k 
       | false ↦ λ s. let h : at + n ≤ q = grind arith in other_place q (inr h)
     ] refl
   ] refl
-
-run_joins : (base d n : ℕ) (f : List ℕ) (q : ℕ) (o p : Option ℕ) → p ≡ run_at base d f q o → run_of (base + d) n f d q p ≡ run_at base (d + n) f q o
-run_joins base d n f q o p e = elim (nat_lt q (base + d)) as (λ r. nat_lt q (base + d) ≡ r → cond r p (cond (nat_lt q (base + d + n)) (Some (slice_index f (d + (q - (base + d))))) p) ≡ run_at base (d + n) f q o) [
-  | true ↦ λ r.
-      let y : nat_lt q (base + (d + n)) ≡ true = grind arith in
-      e ∙ ap (λ (b : Bool). cond (nat_lt q base) o (cond b (Some (slice_index f (q - base))) o)) (r ∙ sym y)
-  | false ↦ λ r.
-      let above : base + d ≤ q = grind arith in
-      let x : nat_lt q base ≡ false = grind arith in
-      let z : d + (q - (base + d)) ≡ q - base = omega arith in
-      let w : nat_lt q (base + d + n) ≡ nat_lt q (base + (d + n)) = let v : base + d + n ≡ base + (d + n) = omega arith in ap (nat_lt q) v in
-      let none : p ≡ o = e ∙ ap (λ (b : Bool). cond b o (cond (nat_lt q (base + d)) (Some (slice_index f (q - base))) o)) x ∙ ap (λ (b : Bool). cond b (Some (slice_index f (q - base))) o) r in
-      ap (λ (j : ℕ). cond (nat_lt q (base + d + n)) (Some (slice_index f j)) p) z
-      ∙ ap (λ (b : Bool). cond b (Some (slice_index f (q - base))) p) w
-      ∙ ap (λ (y : Option ℕ). cond (nat_lt q (base + (d + n))) (Some (slice_index f (q - base))) y) none
-      ∙ ap (λ (b : Bool). cond b o (cond (nat_lt q (base + (d + n))) (Some (slice_index f (q - base))) o)) (sym x)
-] refl
-
-pub goes_on_run : (base d n at : ℕ) (f : List ℕ) (q : ℕ) (o p r : Option ℕ) → at ≡ base + d → r ≡ run_of at n f d q p → p ≡ run_at base d f q o → r ≡ run_at base (d + n) f q o
-goes_on_run base d n at f q o p r e g h = g ∙ ap (λ (x : ℕ). run_of x n f d q p) e ∙ run_joins base d n f q o p h
 
 -- a run in the round of all addresses
 pub after_run : (base d n at j : ℕ) → at ≡ (base + d) % 2 ^ 32 → at % 4096 + n ≤ 4096 → j < n → address_after base (d + j) ≡ at + j

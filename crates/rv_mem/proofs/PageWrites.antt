@@ -224,9 +224,6 @@ word_first t d are at fits there =
     let s : IsSome (byte_at (values_of (cell_at t d)) (address_after at 0)) = front_some _ _ (under_map _ there) in
     ap is_some (sym (get_pages t d are at)) ∙ ap (λ (x : ℕ). is_some (byte_at (values_of (cell_at t d)) x)) (sym z) ∙ s
 
-byte_is_small : (l : List ℕ) (v k b : ℕ) → slice_index l k ≡ b % 256 → slice_index l k < 256
-byte_is_small l v k b e = omega (arith, e)
-
 pub word_put : (t d : List ℕ) → ArePages t d → (at u value : ℕ) (l : List ℕ) → u ≡ frame_of t at → u + 8192 ≤ length d → at < 2 ^ 32 → at % 4096 ≤ 4092 → IsSome (loaded (values_of (cell_at t d)) at 4)
     → l ≡ value % 256 ∷ value / 256 % 256 ∷ value / 65536 % 256 ∷ value / 16777216 % 256 ∷ []
     → FourPut t d (set (set (set (set d (u + at % 4096) (get_or l 0 0)) (u + at % 4096 + 1) (get_or l 1 0)) (u + at % 4096 + 2) (get_or l 2 0)) (u + at % 4096 + 3) (get_or l 3 0)) at (get_or l 0 0) (get_or l 1 0) (get_or l 2 0) (get_or l 3 0)

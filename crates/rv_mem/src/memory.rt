@@ -6,7 +6,7 @@ ghost use Rattle.rv_mem.specs.Bytes.{Bytes, IsMemory, count_of, loaded, IsThere,
 use crate::fault::AddFault;
 
 /// How many bytes an access has.
-#[derive(Clone, Copy, Debug, PartialEq, Eq)]
+#[derive(Clone, Copy, PartialEq, Eq)]
 pub enum Width {
     One,
     Two,

@@ -1,7 +1,7 @@
 -- How operands are read, part by part.
-use Rattle.std.proofs.Common.{◌≡◌, ℕ, Bool, true, false, not, List, [], ◌∷◌, length, inl, inr, ◌≤◌, refl, sym, ap, ◌∙◌, subst, arith, ℤ, nat_lt, Result, Ok, Err, OnOk, IfErr}
+use Rattle.std.proofs.Common.{◌≡◌, ℕ, true, false, List, [], ◌∷◌, length, inl, inr, ◌≤◌, refl, sym, ap, ◌∙◌, subst, arith, ℤ, nat_lt, Result, Ok, Err, OnOk, IfErr}
 use Rattle.std.specs.Prelude.{IsTrue, ◌==◌}
-use Rattle.std.proofs.lemmas.Bool.{and_parts, or_cases}
+use Rattle.std.proofs.lemmas.Bool.{and_parts, or_cases, not-true}
 use Rattle.std.proofs.lemmas.Bool.Decides.{nat_tests}
 use Rattle.rv_text.specs.declared.form.Part.{Part}
 use Rattle.rv_text.specs.declared.form.Part.TheVariants.{Rd, Rs1, Rs2, Number, Name, Mode}
@@ -43,10 +43,6 @@ same_through Name a b c e f = e ∙ f
 same_through Mode a b c e f = e ∙ f
 same_through _ a b c e f = tt
 
-pub not_true : (b : Bool) → not b ≡ true → b ≡ false
-not_true true h = cc
-not_true false h = refl
-
 -- what is read at the part first stays while the rest is read
 pub reads_part : (first all : OperandValues) (part : Part) (form : List Part) (text token rest : List ℕ) → has_no_repeat (part ∷ form) ≡ true → Takes text token rest → Stands first part token → Reads all form rest → ((p : Part) → IsTrue (is_fresh p form) → SameAt p all first) → Reads all (part ∷ form) text
 reads_part first all part form text token rest fresh takes stands reads keeps =
@@ -64,7 +60,7 @@ slot_differs p part h e = grind (arith, nat_tests)
 pub keeps_part : (old first all : OperandValues) (part : Part) (form : List Part) → KeepsOthers part old first → ((p : Part) → IsTrue (is_fresh p form) → SameAt p all first) → (p : Part) → IsTrue (is_fresh p (part ∷ form)) → SameAt p all old
 keeps_part old first all part form others keeps p fresh =
     let parts = and_parts _ _ fresh in
-    same_through p all first old (keeps p parts.1) (others p (slot_differs p part (not_true _ parts.0)))
+    same_through p all first old (keeps p parts.1) (others p (slot_differs p part (not-true _ parts.0)))
 
 module _ {A : Type 0} (r : Result A TextCause) (whole : List Part) (part : Part) (form : List Part) (same : whole ≡ part ∷ form) (all first : OperandValues) where
   pub reads_result : (text token rest : List ℕ) → has_no_repeat whole ≡ true → Takes text token rest → Stands first part token

@@ -25,10 +25,6 @@ pub colon : (text body : List ℕ) (r : Option (Bor (List ℕ))) → body ≡ bo
 colon text body None is none = λ rest takes. none rest (is ∙ takes_body takes)
 colon text body (Some rest) is found = colon_found text rest.now (sym is ∙ found)
 
--- a text begins with one name at most
-pub one_name : (text a x b y : List ℕ) → BeginsWithName text a x → BeginsWithName text b y → (a ≡ b) × (x ≡ y)
-one_name text a x b y h k = takes_unique h.0 k.0
-
 -- the token at the front is no name
 pub other_name : (text token after : List ℕ) → Takes text token after → (IsLabel token → ⊥)
     → (name rest : List ℕ) → BeginsWithName text name rest → ⊥

@@ -8,7 +8,7 @@ use Rattle.std.proofs.lemmas.List.Sums.{prefix_len-le-length}
 use Rattle.std.specs.Str.{IsUtf8, IsCharBoundary}
 use Rattle.std.proofs.lemmas.Str.{IsCharBoundary-start, IsCharBoundary-after_ascii}
 use Rattle.std.proofs.lemmas.List.Folds.{length-prefix_len}
-use Rattle.std.proofs.lemmas.Bool.{cases_Bool, cond_both}
+use Rattle.std.proofs.lemmas.Bool.{cases_Bool, cond_both, eqb-true}
 use Rattle.std.proofs.lemmas.Bool.Decides.{nat_tests}
 use Rattle.rv_text.specs.Tokens.{is_space, IsBlank, IsMagnitude, is_mark, IsToken}
 use Rattle.rv_source.specs.Names.{begins_name, continues_name}
@@ -147,10 +147,6 @@ module _ (c : ℕ) (cs : List ℕ) where
   unfolding token_len
   token_at_digit h = let p = digit_begins_no_name c h in rw (p.0, p.1, p.2) refl
 
-  token_at_other : begins_name c ≡ false → is_mark c ≡ false → (c == 45) ≡ false → token_len (c ∷ cs) ≡ magnitude_len (c ∷ cs)
-  unfolding token_len
-  token_at_other p q r = rw (p, q, r) refl
-
 token_at_sign : (cs : List ℕ) → token_len (45 ∷ cs) ≡ after_sign (magnitude_len cs)
 unfolding token_len
 token_at_sign cs = refl
@@ -168,9 +164,6 @@ after_sign_positive (suc n) h = omega arith
 
 positive_within : (text more : List ℕ) (n : ℕ) → IsMagnitude text n → 0 < magnitude_len (text ++ more)
 positive_within text more n h = let p = magnitude_within text more n h in omega (arith, p.0, p.1)
-
-is_eq : (c : ℕ) → (c == 45) ≡ true → c ≡ 45
-is_eq c h = grind (arith, nat_tests)
 
 -- no token that stands at the front is longer than the computed length
 pub token_within : (token more : List ℕ) → IsToken token → (0 < length token) × (length token ≤ token_len (token ++ more))
@@ -204,7 +197,7 @@ token_found (c ∷ cs) h =
     let P : ℕ → Type 0 = λ k. 0 < k → IsToken (take k (c ∷ cs)) in
     cond_both (begins_name c) _ _ P (λ e _. name_found c cs e)
     (λ _. cond_both (is_mark c) _ _ P (λ e _. inr (inr (c, e, refl)))
-    (λ _. cond_both (c == 45) _ _ P (λ e. subst (λ (d : ℕ). 0 < after_sign (magnitude_len cs) → IsToken (take (after_sign (magnitude_len cs)) (d ∷ cs))) (sym (is_eq c e)) (sign_found cs))
+    (λ _. cond_both (c == 45) _ _ P (λ e. subst (λ (d : ℕ). 0 < after_sign (magnitude_len cs) → IsToken (take (after_sign (magnitude_len cs)) (d ∷ cs))) (sym (eqb-true c 45 e)) (sign_found cs))
     (λ _. number_found (c ∷ cs)))) h
 
 name_begins : (c : ℕ) → begins_name c ≡ true → is_space c ≡ false

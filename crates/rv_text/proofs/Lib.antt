@@ -8,6 +8,7 @@ pub mod KeywordNames
 pub mod OneSource
 pub mod Lexing
 pub mod Taking
+pub mod Fronts
 pub mod RegisterNames
 pub mod Keywords
 pub mod Numbers

@@ -46,30 +46,19 @@ ReadsPlain name text s = (i : Instr) × FollowsName text name i × (s ≡ within
 abbrev IsPlain : Mnemonic → List (List ℕ) → Stated → Type 0
 IsPlain name tokens s = (i : Instr) × Spells i (name_of name ∷ tokens) × (s ≡ within (plain (i ∷ [])))
 
-module _ (name : Mnemonic) (no_branch : (cond : Cond) → name ≡ mnemonic.Branch cond → ⊥) (no_jal : name ≡ mnemonic.Jal → ⊥) where
-  pub plain_reads : (text : List ℕ) (s : Stated) → ReadsPlain name text s → ReadsInstr name text s
-  plain_reads text s = by_case name no_branch no_jal
-    where
-      by_case : (m : Mnemonic) → ((cond : Cond) → m ≡ mnemonic.Branch cond → ⊥) → (m ≡ mnemonic.Jal → ⊥) → ReadsPlain m text s → ReadsInstr m text s
-      by_case (mnemonic.Op op) b j h = h
-      by_case (mnemonic.OpImm op) b j h = h
-      by_case (mnemonic.Load kind) b j h = h
-      by_case (mnemonic.Store width) b j h = h
-      by_case (mnemonic.Branch cond) b j h = absurd (b cond refl)
-      by_case mnemonic.Jal b j h = absurd (j refl)
-      by_case _ b j h = h
+-- an instruction that goes to no name
+abbrev GoesNowhere : Mnemonic → Type 0
+GoesNowhere name = ((cond : Cond) → name ≡ mnemonic.Branch cond → ⊥) × (name ≡ mnemonic.Jal → ⊥)
 
-  pub plain_departs : (text : List ℕ) (e : TextCause) → OperandsDepart name text e → InstrDeparts name text e
-  plain_departs text e = by_case name no_branch no_jal
-    where
-      by_case : (m : Mnemonic) → ((cond : Cond) → m ≡ mnemonic.Branch cond → ⊥) → (m ≡ mnemonic.Jal → ⊥) → OperandsDepart m text e → InstrDeparts m text e
-      by_case (mnemonic.Op op) b j h = h
-      by_case (mnemonic.OpImm op) b j h = h
-      by_case (mnemonic.Load kind) b j h = h
-      by_case (mnemonic.Store width) b j h = h
-      by_case (mnemonic.Branch cond) b j h = absurd (b cond refl)
-      by_case mnemonic.Jal b j h = absurd (j refl)
-      by_case _ b j h = h
+pub plain_reads : (name : Mnemonic) (text : List ℕ) (s : Stated) → GoesNowhere name → ReadsPlain name text s → ReadsInstr name text s
+plain_reads (mnemonic.Branch cond) text s (no_branch, no_jal) h = absurd (no_branch cond refl)
+plain_reads mnemonic.Jal text s (no_branch, no_jal) h = absurd (no_jal refl)
+plain_reads name text s nowhere h = h
+
+pub plain_departs : (name : Mnemonic) (text : List ℕ) (e : TextCause) → GoesNowhere name → OperandsDepart name text e → InstrDeparts name text e
+plain_departs (mnemonic.Branch cond) text e (no_branch, no_jal) h = absurd (no_branch cond refl)
+plain_departs mnemonic.Jal text e (no_branch, no_jal) h = absurd (no_jal refl)
+plain_departs name text e nowhere h = h
 
 -- what is read off a text is what its tokens state, and the other way round
 module _ (form : List Part) (states : OperandValues → Stated) (text : List ℕ) (s : Stated) where
@@ -111,16 +100,7 @@ list_reads width (t ∷ tokens) text s are (z ∷ ns, (writes, more), e) = list_
 pub reads_states : (k : Keyword) (text : List ℕ) (s : Stated) → ReadsAfter k text s → StatesAfter k text s
 reads_states (keyword.Instr (mnemonic.Branch cond)) text s h = row_states branch_form (branch_states cond) text s h
 reads_states (keyword.Instr mnemonic.Jal) text s h = row_states jal_form jal_states text s h
-reads_states (keyword.Instr (mnemonic.Op op)) text s h = plain_states (mnemonic.Op op) text s h
-reads_states (keyword.Instr (mnemonic.OpImm op)) text s h = plain_states (mnemonic.OpImm op) text s h
-reads_states (keyword.Instr (mnemonic.Load kind)) text s h = plain_states (mnemonic.Load kind) text s h
-reads_states (keyword.Instr (mnemonic.Store width)) text s h = plain_states (mnemonic.Store width) text s h
-reads_states (keyword.Instr mnemonic.Jalr) text s h = plain_states mnemonic.Jalr text s h
-reads_states (keyword.Instr mnemonic.Lui) text s h = plain_states mnemonic.Lui text s h
-reads_states (keyword.Instr mnemonic.Auipc) text s h = plain_states mnemonic.Auipc text s h
-reads_states (keyword.Instr mnemonic.Fence) text s h = plain_states mnemonic.Fence text s h
-reads_states (keyword.Instr mnemonic.Ecall) text s h = plain_states mnemonic.Ecall text s h
-reads_states (keyword.Instr mnemonic.Ebreak) text s h = plain_states mnemonic.Ebreak text s h
+reads_states (keyword.Instr name) text s h = plain_states name text s h
 reads_states (keyword.Pseudo name) text s h = row_states (pseudo_form name) (pseudo_states name) text s h
 reads_states (keyword.Directive name) text s h = row_states (directive_form name) (directive_states name) text s h
 reads_states (keyword.Numbers width) text s (b, reads, e) =
@@ -130,16 +110,7 @@ reads_states (keyword.Numbers width) text s (b, reads, e) =
 pub states_reads : (k : Keyword) (text : List ℕ) (s : Stated) → StatesAfter k text s → ReadsAfter k text s
 states_reads (keyword.Instr (mnemonic.Branch cond)) text s (ts, are, h) = row_reads branch_form (branch_states cond) text s ts are h
 states_reads (keyword.Instr mnemonic.Jal) text s (ts, are, h) = row_reads jal_form jal_states text s ts are h
-states_reads (keyword.Instr (mnemonic.Op op)) text s (ts, are, h) = plain_read (mnemonic.Op op) text s ts are h
-states_reads (keyword.Instr (mnemonic.OpImm op)) text s (ts, are, h) = plain_read (mnemonic.OpImm op) text s ts are h
-states_reads (keyword.Instr (mnemonic.Load kind)) text s (ts, are, h) = plain_read (mnemonic.Load kind) text s ts are h
-states_reads (keyword.Instr (mnemonic.Store width)) text s (ts, are, h) = plain_read (mnemonic.Store width) text s ts are h
-states_reads (keyword.Instr mnemonic.Jalr) text s (ts, are, h) = plain_read mnemonic.Jalr text s ts are h
-states_reads (keyword.Instr mnemonic.Lui) text s (ts, are, h) = plain_read mnemonic.Lui text s ts are h
-states_reads (keyword.Instr mnemonic.Auipc) text s (ts, are, h) = plain_read mnemonic.Auipc text s ts are h
-states_reads (keyword.Instr mnemonic.Fence) text s (ts, are, h) = plain_read mnemonic.Fence text s ts are h
-states_reads (keyword.Instr mnemonic.Ecall) text s (ts, are, h) = plain_read mnemonic.Ecall text s ts are h
-states_reads (keyword.Instr mnemonic.Ebreak) text s (ts, are, h) = plain_read mnemonic.Ebreak text s ts are h
+states_reads (keyword.Instr name) text s (ts, are, h) = plain_read name text s ts are h
 states_reads (keyword.Pseudo name) text s (ts, are, h) = row_reads (pseudo_form name) (pseudo_states name) text s ts are h
 states_reads (keyword.Directive name) text s (ts, are, h) = row_reads (directive_form name) (directive_states name) text s ts are h
 states_reads (keyword.Numbers width) text s (ts, are, h) = list_reads width ts text s are h
@@ -181,16 +152,7 @@ plain_one name text s t (i, h, e) (j, k, f) = e ∙ ap (λ x. within (plain (x �
 pub reads_one : (k : Keyword) (text : List ℕ) (s t : Stated) → ReadsAfter k text s → ReadsAfter k text t → s ≡ t
 reads_one (keyword.Instr (mnemonic.Branch cond)) text s t h j = row_one branch_form (branch_states cond) (branch_agrees cond) text s t h j
 reads_one (keyword.Instr mnemonic.Jal) text s t h j = row_one jal_form jal_states jal_agrees text s t h j
-reads_one (keyword.Instr (mnemonic.Op op)) text s t h j = plain_one (mnemonic.Op op) text s t h j
-reads_one (keyword.Instr (mnemonic.OpImm op)) text s t h j = plain_one (mnemonic.OpImm op) text s t h j
-reads_one (keyword.Instr (mnemonic.Load kind)) text s t h j = plain_one (mnemonic.Load kind) text s t h j
-reads_one (keyword.Instr (mnemonic.Store width)) text s t h j = plain_one (mnemonic.Store width) text s t h j
-reads_one (keyword.Instr mnemonic.Jalr) text s t h j = plain_one mnemonic.Jalr text s t h j
-reads_one (keyword.Instr mnemonic.Lui) text s t h j = plain_one mnemonic.Lui text s t h j
-reads_one (keyword.Instr mnemonic.Auipc) text s t h j = plain_one mnemonic.Auipc text s t h j
-reads_one (keyword.Instr mnemonic.Fence) text s t h j = plain_one mnemonic.Fence text s t h j
-reads_one (keyword.Instr mnemonic.Ecall) text s t h j = plain_one mnemonic.Ecall text s t h j
-reads_one (keyword.Instr mnemonic.Ebreak) text s t h j = plain_one mnemonic.Ebreak text s t h j
+reads_one (keyword.Instr name) text s t h j = plain_one name text s t h j
 reads_one (keyword.Pseudo name) text s t h j = row_one (pseudo_form name) (pseudo_states name) (pseudo_agrees name) text s t h j
 reads_one (keyword.Directive name) text s t h j = row_one (directive_form name) (directive_states name) (directive_agrees name) text s t h j
 reads_one (keyword.Numbers width) text s t (b, h, e) (c, j, f) = e ∙ ap (λ v. within (bytes v)) (list_one width text b c h j) ∙ sym f
@@ -207,16 +169,7 @@ plain_not name text s e (i, (same, inr (fence, blank)), is) refused = refused.0 
 pub reads_not : (k : Keyword) (text : List ℕ) (s : Stated) (e : TextCause) → ReadsAfter k text s → RefusedWith k text e → ⊥
 reads_not (keyword.Instr (mnemonic.Branch cond)) text s e h r = row_not branch_form (branch_states cond) text s e h r
 reads_not (keyword.Instr mnemonic.Jal) text s e h r = row_not jal_form jal_states text s e h r
-reads_not (keyword.Instr (mnemonic.Op op)) text s e h r = plain_not (mnemonic.Op op) text s e h r
-reads_not (keyword.Instr (mnemonic.OpImm op)) text s e h r = plain_not (mnemonic.OpImm op) text s e h r
-reads_not (keyword.Instr (mnemonic.Load kind)) text s e h r = plain_not (mnemonic.Load kind) text s e h r
-reads_not (keyword.Instr (mnemonic.Store width)) text s e h r = plain_not (mnemonic.Store width) text s e h r
-reads_not (keyword.Instr mnemonic.Jalr) text s e h r = plain_not mnemonic.Jalr text s e h r
-reads_not (keyword.Instr mnemonic.Lui) text s e h r = plain_not mnemonic.Lui text s e h r
-reads_not (keyword.Instr mnemonic.Auipc) text s e h r = plain_not mnemonic.Auipc text s e h r
-reads_not (keyword.Instr mnemonic.Fence) text s e h r = plain_not mnemonic.Fence text s e h r
-reads_not (keyword.Instr mnemonic.Ecall) text s e h r = plain_not mnemonic.Ecall text s e h r
-reads_not (keyword.Instr mnemonic.Ebreak) text s e h r = plain_not mnemonic.Ebreak text s e h r
+reads_not (keyword.Instr name) text s e h r = plain_not name text s e h r
 reads_not (keyword.Pseudo name) text s e h r = row_not (pseudo_form name) (pseudo_states name) text s e h r
 reads_not (keyword.Directive name) text s e h r = row_not (directive_form name) (directive_states name) text s e h r
 reads_not (keyword.Numbers width) text s e (b, h, is) r = list_not_refused width text b e h r
@@ -228,16 +181,7 @@ plain_cause name text e f h j = departs_one (form_of name) text e f h.1 j.1
 pub refused_one : (k : Keyword) (text : List ℕ) (e f : TextCause) → RefusedWith k text e → RefusedWith k text f → e ≡ f
 refused_one (keyword.Instr (mnemonic.Branch cond)) text e f h j = departs_one branch_form text e f h j
 refused_one (keyword.Instr mnemonic.Jal) text e f h j = departs_one jal_form text e f h j
-refused_one (keyword.Instr (mnemonic.Op op)) text e f h j = plain_cause (mnemonic.Op op) text e f h j
-refused_one (keyword.Instr (mnemonic.OpImm op)) text e f h j = plain_cause (mnemonic.OpImm op) text e f h j
-refused_one (keyword.Instr (mnemonic.Load kind)) text e f h j = plain_cause (mnemonic.Load kind) text e f h j
-refused_one (keyword.Instr (mnemonic.Store width)) text e f h j = plain_cause (mnemonic.Store width) text e f h j
-refused_one (keyword.Instr mnemonic.Jalr) text e f h j = plain_cause mnemonic.Jalr text e f h j
-refused_one (keyword.Instr mnemonic.Lui) text e f h j = plain_cause mnemonic.Lui text e f h j
-refused_one (keyword.Instr mnemonic.Auipc) text e f h j = plain_cause mnemonic.Auipc text e f h j
-refused_one (keyword.Instr mnemonic.Fence) text e f h j = plain_cause mnemonic.Fence text e f h j
-refused_one (keyword.Instr mnemonic.Ecall) text e f h j = plain_cause mnemonic.Ecall text e f h j
-refused_one (keyword.Instr mnemonic.Ebreak) text e f h j = plain_cause mnemonic.Ebreak text e f h j
+refused_one (keyword.Instr name) text e f h j = plain_cause name text e f h j
 refused_one (keyword.Pseudo name) text e f h j = departs_one (pseudo_form name) text e f h j
 refused_one (keyword.Directive name) text e f h j = departs_one (directive_form name) text e f h j
 refused_one (keyword.Numbers width) text e f h j = departs_list_one (data_kind width) text e f h j

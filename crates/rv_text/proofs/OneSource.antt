@@ -1,22 +1,24 @@
 -- A line leads to one source so far at most, or is refused for one cause at most, and never both; so a text has one meaning or one fault at most.
-use Rattle.std.proofs.Common.{◌≡◌, refl, sym, ap, subst, ◌∙◌, ℕ, ◌+◌, inl, inr, List, [], ◌∷◌, Some, arith, codes}
+use Rattle.std.proofs.Common.{◌≡◌, refl, sym, ap, subst, subst₂, ◌∙◌, ℕ, ◌+◌, ◌⊎◌, inl, inr, List, [], ◌∷◌, Some, arith, codes}
 use Rattle.std.proofs.lemmas.Option.{same_Some, none-some}
 use Rattle.sfi_policy.specs.declared.format.Format.{Format}
 use Rattle.sfi_policy.specs.declared.format.Format.TheVariants.{Sfi1, Sfi2}
 use Rattle.rv_text.specs.declared.cause.TextCause.{TextCause}
+use Rattle.rv_text.specs.declared.cause.TextCause.TheVariants as cause
 use Rattle.rv_text.specs.declared.fault.TextFault.{TextFault}
 use Rattle.rv_text.specs.declared.keyword.Keyword.{Keyword}
 use Rattle.rv_text.specs.Tokens.{Takes}
 use Rattle.rv_source.specs.Names.{IsName}
 use Rattle.rv_text.specs.Keywords.{keyword_name}
-use Rattle.rv_text.specs.Lines.{NameRefused}
+use Rattle.rv_text.specs.Lines.{RefusedWith, NameRefused}
 use Rattle.rv_text.specs.Stated.{Stated, number_of_format, format, sandbox, within, StatedWithin}
 use Rattle.rv_text.specs.SoFar.{SoFar, with_label, nothing, sandboxes}
 use Rattle.rv_text.specs.Effects.{IsFree, Fits, Labels, RefusesLabel, GoesOn, Does, with_stated, HasNoRoom}
-use Rattle.rv_text.specs.Leads.{BeginsWithLabel, HasNoLabel, LabelsLead, LeadsAfter, RestLeads, RefusedAfter, RefusedFrom, StatementRefused}
+use Rattle.rv_text.specs.Leads.{BeginsWithLabel, HasNoLabel, LabelsLead, PassesLabels, LeadsAfter, RestLeads, LabelRefused, PassesLimit, OperandsRefused, RefusedAfter, RefusedFrom, StatementRefused}
 use Rattle.rv_text.specs.Texts.{uncommented, lines, LinesLead, FirstRefused}
 use Rattle.rv_text.specs.Laws.{LeadsOnce, LeadingIsNotRefused, RefusedOnce, OneSource, OneFault, MeantHasNoFault}
 use Rattle.rv_text.proofs.Taking.{takes_unique, blank_takes_none}
+use Rattle.rv_text.proofs.Fronts.{One, either_one, token_at, token_one}
 use Rattle.rv_text.proofs.Keywords.{keyword_unique}
 use Rattle.rv_text.proofs.KeywordNames.{keyword_named}
 use Rattle.rv_text.proofs.Lines.{states_one, states_not, refused_one}
@@ -53,48 +55,42 @@ same_label text n m r q old a b begins labels other labelled =
     let same = begins_unique text n m r q begins other in
     (labels_one m old a b (subst (λ t. Labels t old a) same.0 labels) labelled, same.1)
 
--- all the labels at the front lead to one source so far, and to one rest
-passes_one : (ns ms : List (List ℕ)) (old a b : SoFar) (text r q : List ℕ) → LabelsLead ns old text a r → HasNoLabel r → LabelsLead ms old text b q → HasNoLabel q
+-- no label at the front of the text leads on
+abbrev Stops : SoFar → List ℕ → Type 0
+Stops s text = (name after : List ℕ) (next : SoFar) → BeginsWithLabel text name after → Labels name s next → ⊥
+
+refused_stops : (s : SoFar) (text name after : List ℕ) (e : TextCause) → BeginsWithLabel text name after → RefusesLabel name s e → Stops s text
+refused_stops s text name after e begins refuses other beyond next begun labels =
+    labels_not name s next e (subst (λ n. Labels n s next) (begins_unique text other name beyond after begun begins).0 labels) refuses
+
+-- labels that lead as far as they can lead to one source so far, and to one rest
+ways_one : (ns ms : List (List ℕ)) (old a b : SoFar) (text r q : List ℕ) → LabelsLead ns old text a r → Stops a r → LabelsLead ms old text b q → Stops b q
     → (a ≡ b) × (r ≡ q)
-passes_one [] [] old a b text r q (is, at) none (other, beyond) nothing_more = (is ∙ sym other, at ∙ sym beyond)
-passes_one [] (m ∷ ms) old a b text r q (is, at) none (next, after, begins, labels, more) nothing_more =
-    absurd (subst HasNoLabel at none m after begins)
-passes_one (n ∷ ns) [] old a b text r q (next, after, begins, labels, more) none (other, beyond) nothing_more =
-    absurd (subst HasNoLabel beyond nothing_more n after begins)
-passes_one (n ∷ ns) (m ∷ ms) old a b text r q (next, after, begins, labels, more) none (other, beyond, begun, labelled, further) nothing_more =
+ways_one [] [] old a b text r q (is, at) stops (other, beyond) stopped = (is ∙ sym other, at ∙ sym beyond)
+ways_one [] (m ∷ ms) old a b text r q (is, at) stops (next, after, begins, labels, more) stopped =
+    absurd (subst₂ Stops is at stops m after next begins labels)
+ways_one (n ∷ ns) [] old a b text r q (next, after, begins, labels, more) stops (is, at) stopped =
+    absurd (subst₂ Stops is at stopped n after next begins labels)
+ways_one (n ∷ ns) (m ∷ ms) old a b text r q (next, after, begins, labels, more) stops (other, beyond, begun, labelled, further) stopped =
     let same = same_label text n m after beyond old next other begins labels begun labelled in
-    passes_one ns ms other a b beyond r q (subst (λ t. LabelsLead ns other t a r) same.1 (subst (λ s. LabelsLead ns s after a r) same.0 more)) none further nothing_more
+    ways_one ns ms other a b beyond r q (subst₂ (λ s t. LabelsLead ns s t a r) same.0 same.1 more) stops further stopped
+
+passes_one : (old a b : SoFar) (text r q : List ℕ) → PassesLabels old text a r → PassesLabels old text b q → (a ≡ b) × (r ≡ q)
+passes_one old a b text r q p o =
+    ways_one p.names o.names old a b text r q p.lead (λ name after _ begins _. p.all name after begins) o.lead (λ name after _ begins _. o.all name after begins)
 
 -- and none of them is refused
-passes_not : (ns ms : List (List ℕ)) (old a b : SoFar) (text r q name after : List ℕ) (e : TextCause) → LabelsLead ns old text a r → HasNoLabel r
-    → LabelsLead ms old text b q → BeginsWithLabel q name after → RefusesLabel name b e → ⊥
-passes_not [] [] old a b text r q name after e (is, at) none (other, beyond) begins refuses =
-    subst HasNoLabel (at ∙ sym beyond) none name after begins
-passes_not [] (m ∷ ms) old a b text r q name after e (is, at) none (next, then, begun, labels, more) begins refuses =
-    subst HasNoLabel at none m then begun
-passes_not (n ∷ ns) [] old a b text r q name after e (next, then, begun, labels, more) none (other, beyond) begins refuses =
-    let same = begins_unique text n name then after begun (subst (λ t. BeginsWithLabel t name after) beyond begins) in
-    labels_not name old next e (subst (λ t. Labels t old next) same.0 labels) (subst (λ s. RefusesLabel name s e) other refuses)
-passes_not (n ∷ ns) (m ∷ ms) old a b text r q name after e (next, then, begun, labels, more) none (other, beyond, begins_too, labelled, further) begins refuses =
-    let same = same_label text n m then beyond old next other begun labels begins_too labelled in
-    passes_not ns ms other a b beyond r q name after e (subst (λ t. LabelsLead ns other t a r) same.1 (subst (λ s. LabelsLead ns s then a r) same.0 more)) none further begins refuses
+passes_not : (old a : SoFar) (text r : List ℕ) (e : TextCause) → PassesLabels old text a r → LabelRefused old text e → ⊥
+passes_not old a text r e p (ms, b, q, name, after, lead, begins, refuses) =
+    let same = ways_one p.names ms old a b text r q p.lead (λ name after _ begins _. p.all name after begins) lead (refused_stops b q name after e begins refuses) in
+    subst HasNoLabel same.1 p.all name after begins
 
 -- the first that is refused is so for one cause
-label_refused_one : (ns ms : List (List ℕ)) (old a b : SoFar) (text r q n m after then : List ℕ) (e f : TextCause)
-    → LabelsLead ns old text a r → BeginsWithLabel r n after → RefusesLabel n a e
-    → LabelsLead ms old text b q → BeginsWithLabel q m then → RefusesLabel m b f → e ≡ f
-label_refused_one [] [] old a b text r q n m after then e f (is, at) begins refuses (other, beyond) begun refused =
-    let same = begins_unique text n m after then (subst (λ t. BeginsWithLabel t n after) at begins) (subst (λ t. BeginsWithLabel t m then) beyond begun) in
-    refuses_one m old e f (subst (λ t. RefusesLabel t old e) same.0 (subst (λ s. RefusesLabel n s e) is refuses)) (subst (λ s. RefusesLabel m s f) other refused)
-label_refused_one [] (l ∷ ms) old a b text r q n m after then e f (is, at) begins refuses (next, beyond, begun, labels, more) begins_too refused =
-    let same = begins_unique text l n beyond after begun (subst (λ t. BeginsWithLabel t n after) at begins) in
-    absurd (labels_not n old next e (subst (λ t. Labels t old next) same.0 labels) (subst (λ s. RefusesLabel n s e) is refuses))
-label_refused_one (l ∷ ns) [] old a b text r q n m after then e f (next, beyond, begun, labels, more) begins refuses (other, at) begins_too refused =
-    let same = begins_unique text l m beyond then begun (subst (λ t. BeginsWithLabel t m then) at begins_too) in
-    absurd (labels_not m old next f (subst (λ t. Labels t old next) same.0 labels) (subst (λ s. RefusesLabel m s f) other refused))
-label_refused_one (k ∷ ns) (l ∷ ms) old a b text r q n m after then e f (next, beyond, begun, labels, more) begins refuses (other, at, begun_too, labelled, further) begins_too refused =
-    let same = same_label text k l beyond at old next other begun labels begun_too labelled in
-    label_refused_one ns ms other a b at r q n m after then e f (subst (λ t. LabelsLead ns other t a r) same.1 (subst (λ s. LabelsLead ns s beyond a r) same.0 more)) begins refuses further begins_too refused
+label_refused_one : (old : SoFar) (text : List ℕ) → One (LabelRefused old text)
+label_refused_one old text e f (ns, a, r, n, after, lead, begins, refuses) (ms, b, q, m, then, led, begun, refused) =
+    let same = ways_one ns ms old a b text r q lead (refused_stops a r n after e begins refuses) led (refused_stops b q m then f begun refused) in
+    let name = begins_unique q n m after then (subst (λ t. BeginsWithLabel t n after) same.1 begins) begun in
+    refuses_one m b e f (subst₂ (λ l s. RefusesLabel l s e) name.0 same.0 refuses) refused
 
 -- Statements.
 
@@ -135,42 +131,34 @@ after_not k line old new text e (stands, once, (s, states, does)) (inr (_, inr (
 after_not k line old new text e (stands, once, (s, states, does)) (inr (_, inr (_, inr ((t, stated_too, none), is)))) =
     does_fit line t old new (subst (λ x. Does line x old new) (states_one k text s t states stated_too) does) none
 
-after_refused_one : (k : Keyword) (old : SoFar) (text : List ℕ) (e f : TextCause) → RefusedAfter k old text e → RefusedAfter k old text f → e ≡ f
-after_refused_one k old text e f (inl r) (inl s) = r.1 ∙ sym s.1
-after_refused_one k old text e f (inl r) (inr s) = absurd (r.0 s.0)
-after_refused_one k old text e f (inr r) (inl s) = absurd (s.0 r.0)
-after_refused_one k old text e f (inr (_, inl r)) (inr (_, inl s)) = r.1 ∙ sym s.1
-after_refused_one k old text e f (inr (_, inl r)) (inr (_, inr s)) = absurd (s.0 r.0)
-after_refused_one k old text e f (inr (_, inr r)) (inr (_, inl s)) = absurd (r.0 s.0)
-after_refused_one k old text e f (inr (_, inr (_, inl r))) (inr (_, inr (_, inl s))) = refused_one k text e f r s
-after_refused_one k old text e f (inr (_, inr (_, inl r))) (inr (_, inr (_, inr ((t, states, none), is)))) = absurd (states_not k text t e states r)
-after_refused_one k old text e f (inr (_, inr (_, inr ((t, states, none), is)))) (inr (_, inr (_, inl s))) = absurd (states_not k text t f states s)
-after_refused_one k old text e f (inr (_, inr (_, inr (_, is)))) (inr (_, inr (_, inr (_, other)))) = is ∙ sym other
+stated_refused_one : (k : Keyword) (old : SoFar) (text : List ℕ) → One (λ e. RefusedWith k text e ⊎ (PassesLimit k old text × (e ≡ cause.Limit)))
+stated_refused_one k old text =
+    either_one _ _ (refused_one k text) (λ e f h g. h.1 ∙ sym g.1) (λ e f refused limit. states_not k text limit.0.0 e limit.0.1 refused)
 
-name_refused_one : (token : List ℕ) (e f : TextCause) → NameRefused token e → NameRefused token f → e ≡ f
-name_refused_one token e f (inl r) (inl s) = r.1 ∙ sym s.1
-name_refused_one token e f (inl r) (inr s) = absurd (r.0 s.0.0)
-name_refused_one token e f (inr r) (inl s) = absurd (s.0 r.0.0)
-name_refused_one token e f (inr r) (inr s) = r.1 ∙ sym s.1
+operands_refused_one : (k : Keyword) (old : SoFar) (text : List ℕ) → One (OperandsRefused k old text)
+operands_refused_one k old text =
+    either_one _ _ (λ e f h g. h.1 ∙ sym g.1) (λ e f h g. stated_refused_one k old text e f h.1 g.1) (λ e f twice once. once.0 twice.0)
+
+after_refused_one : (k : Keyword) (old : SoFar) (text : List ℕ) → One (RefusedAfter k old text)
+after_refused_one k old text =
+    either_one _ _ (λ e f h g. h.1 ∙ sym g.1) (λ e f h g. operands_refused_one k old text e f h.1 g.1) (λ e f never may. never.0 may.0)
+
+name_refused_one : (token : List ℕ) → One (NameRefused token)
+name_refused_one token = either_one _ _ (λ e f h g. h.1 ∙ sym g.1) (λ e f h g. h.1 ∙ sym g.1) (λ e f no_name unknown. no_name.0 unknown.0.0)
 
 name_not : (token : List ℕ) (k : Keyword) (e : TextCause) → keyword_name k ≡ token → NameRefused token e → ⊥
 name_not token k e is (inl r) = r.0 (subst IsName is (keyword_named k))
 name_not token k e is (inr r) = r.0.1 k is
 
-from_one : (s : SoFar) (token rest : List ℕ) (e f : TextCause) → RefusedFrom s token rest e → RefusedFrom s token rest f → e ≡ f
-from_one s token rest e f (inl r) (inl t) = name_refused_one token e f r t
-from_one s token rest e f (inl r) (inr (k, is, t)) = absurd (name_not token k e is r)
-from_one s token rest e f (inr (k, is, r)) (inl t) = absurd (name_not token k f is t)
-from_one s token rest e f (inr (k, is, r)) (inr (j, other, t)) =
+keyword_refused_one : (s : SoFar) (token rest : List ℕ) → One (λ e. (k : Keyword) × (keyword_name k ≡ token) × RefusedAfter k s rest e)
+keyword_refused_one s token rest e f (k, is, r) (j, other, t) =
     after_refused_one k s rest e f r (subst (λ q. RefusedAfter q s rest f) (keyword_unique j k (other ∙ sym is)) t)
 
-statement_refused_one : (s : SoFar) (text : List ℕ) (e f : TextCause) → StatementRefused s text e → StatementRefused s text f → e ≡ f
-statement_refused_one s text e f (inl r) (inl t) = r.1 ∙ sym t.1
-statement_refused_one s text e f (inl r) (inr (token, rest, takes, t)) = absurd (r.0.nothing token rest takes)
-statement_refused_one s text e f (inr (token, rest, takes, r)) (inl t) = absurd (t.0.nothing token rest takes)
-statement_refused_one s text e f (inr (token, rest, takes, r)) (inr (other, more, taken, t)) =
-    let same = takes_unique taken takes in
-    from_one s token rest e f r (subst (λ y. RefusedFrom s token y f) same.1 (subst (λ x. RefusedFrom s x more f) same.0 t))
+from_one : (s : SoFar) (token rest : List ℕ) → One (RefusedFrom s token rest)
+from_one s token rest = either_one _ _ (name_refused_one token) (keyword_refused_one s token rest) (λ e f h g. name_not token g.0 e g.1 h)
+
+statement_refused_one : (s : SoFar) (text : List ℕ) → One (StatementRefused s text)
+statement_refused_one s text = token_one text (RefusedFrom s) (from_one s)
 
 rest_one : (line : ℕ) (old a b : SoFar) (text : List ℕ) → RestLeads line old text a → RestLeads line old text b → a ≡ b
 rest_one line old a b text (inl h) (inl k) = h.1 ∙ sym k.1
@@ -183,38 +171,33 @@ rest_one line old a b text (inr (k, rest, takes, leads)) (inr (j, more, taken, l
 rest_not : (line : ℕ) (old new : SoFar) (text : List ℕ) (e : TextCause) → RestLeads line old text new → StatementRefused old text e → ⊥
 rest_not line old new text e (inl h) (inl r) = r.0.something h.0
 rest_not line old new text e (inl h) (inr (token, rest, takes, r)) = blank_takes_none text token rest h.0 takes
-rest_not line old new text e (inr (k, rest, takes, leads)) (inl r) = r.0.nothing (keyword_name k) rest takes
-rest_not line old new text e (inr (k, rest, takes, leads)) (inr (token, more, taken, inl r)) =
-    name_not token k e (takes_unique takes taken).0 r
-rest_not line old new text e (inr (k, rest, takes, leads)) (inr (token, more, taken, inr (j, is, r))) =
-    let same = takes_unique taken takes in
-    after_not k line old new rest e leads
-    (subst (λ q. RefusedAfter q old rest e) (keyword_unique j k (is ∙ same.0)) (subst (λ t. RefusedAfter j old t e) same.1 r))
+rest_not line old new text e (inr (k, rest, takes, leads)) r =
+    elim (token_at text (RefusedFrom old) (keyword_name k) rest e takes r) [
+      | inl name ↦ name_not (keyword_name k) k e refl name
+      | inr (j, is, refused) ↦ after_not k line old new rest e leads (subst (λ q. RefusedAfter q old rest e) (keyword_unique j k is) refused)
+    ]
 
 -- Lines.
 
 pub leads_once : LeadsOnce
 leads_once line old a b text (next, rest, passes, leads) (other, more, passed, led) =
-    let same = passes_one passes.names passed.names old next other text rest more passes.lead passes.all passed.lead passed.all in
-    rest_one line other a b more (subst (λ t. RestLeads line other t a) same.1 (subst (λ s. RestLeads line s rest a) same.0 leads)) led
+    let same = passes_one old next other text rest more passes passed in
+    rest_one line other a b more (subst₂ (λ s t. RestLeads line s t a) same.0 same.1 leads) led
 
 pub leading_is_not_refused : LeadingIsNotRefused
-leading_is_not_refused line old new text e (next, rest, passes, leads) (inl (names, other, more, name, after, lead, begins, refuses)) =
-    passes_not passes.names names old next other text rest more name after e passes.lead passes.all lead begins refuses
+leading_is_not_refused line old new text e (next, rest, passes, leads) (inl refused) = passes_not old next text rest e passes refused
 leading_is_not_refused line old new text e (next, rest, passes, leads) (inr (other, more, passed, refused)) =
-    let same = passes_one passes.names passed.names old next other text rest more passes.lead passes.all passed.lead passed.all in
-    rest_not line other new more e (subst (λ t. RestLeads line other t new) same.1 (subst (λ s. RestLeads line s rest new) same.0 leads)) refused
+    let same = passes_one old next other text rest more passes passed in
+    rest_not line other new more e (subst₂ (λ s t. RestLeads line s t new) same.0 same.1 leads) refused
+
+rest_refused_one : (old : SoFar) (text : List ℕ) → One (λ e. (next : SoFar) × (rest : List ℕ) × PassesLabels old text next rest × StatementRefused next rest e)
+rest_refused_one old text e f (next, rest, passes, refused) (other, more, passed, refused_too) =
+    let same = passes_one old next other text rest more passes passed in
+    statement_refused_one other more e f (subst₂ (λ s t. StatementRefused s t e) same.0 same.1 refused) refused_too
 
 pub refused_once : RefusedOnce
-refused_once old text e f (inl (ns, a, r, n, after, lead, begins, refuses)) (inl (ms, b, q, m, then, led, begun, refused)) =
-    label_refused_one ns ms old a b text r q n m after then e f lead begins refuses led begun refused
-refused_once old text e f (inl (ns, a, r, n, after, lead, begins, refuses)) (inr (other, more, passed, refused)) =
-    absurd (passes_not passed.names ns old other a text more r n after e passed.lead passed.all lead begins refuses)
-refused_once old text e f (inr (next, rest, passes, refused)) (inl (ms, b, q, m, then, led, begun, refuses)) =
-    absurd (passes_not passes.names ms old next b text rest q m then f passes.lead passes.all led begun refuses)
-refused_once old text e f (inr (next, rest, passes, refused)) (inr (other, more, passed, refused_too)) =
-    let same = passes_one passes.names passed.names old next other text rest more passes.lead passes.all passed.lead passed.all in
-    statement_refused_one other more e f (subst (λ t. StatementRefused other t e) same.1 (subst (λ s. StatementRefused s rest e) same.0 refused)) refused_too
+refused_once old text =
+    either_one _ _ (label_refused_one old text) (rest_refused_one old text) (λ e f label rest. passes_not old rest.0 text rest.1 e rest.2 label)
 
 lines_once : (line : ℕ) (old a b : SoFar) (texts : List (List ℕ)) → LinesLead line old texts a → LinesLead line old texts b → a ≡ b
 lines_once line old a b [] h k = h ∙ sym k

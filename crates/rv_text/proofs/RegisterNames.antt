@@ -1,5 +1,5 @@
 -- The register that the code finds for a name is the one that the definitions give.
-use Rattle.std.proofs.Common.{◌≡◌, ℕ, ◌+◌, ◌-◌, ◌*◌, ◌/◌, ◌%◌, ◌<◌, ◌≤◌, Bool, true, false, cond, not, ◌&&◌, List, [], ◌∷◌, length, get_or, slice_index, ◌⊎◌, inl, inr, ⊎_elim, true≢false, refl, sym, ap, ◌∙◌, subst, arith, zero-add, Option, Some, None, IfSome, IfNone, bytes_eq, nat_lt}
+use Rattle.std.proofs.Common.{◌≡◌, ℕ, ◌+◌, ◌-◌, ◌*◌, ◌/◌, ◌%◌, ◌<◌, ◌≤◌, Bool, true, false, cond, not, ◌&&◌, ◌||◌, List, [], ◌∷◌, length, get_or, slice_index, ◌⊎◌, inl, inr, ⊎_elim, refl, sym, ap, ◌∙◌, subst, arith, zero-add, Option, Some, None, IfSome, IfNone, bytes_eq, nat_lt}
 use Rattle.std.specs.Prelude.{codes, ◌==◌}
 use Rattle.std.specs.Fmt.{decimal, digits}
 use Rattle.std.specs.Option.{SomeIff}
@@ -8,12 +8,11 @@ use Rattle.std.specs.List.{list_all, range_with_len}
 use Rattle.std.proofs.lemmas.Slice.Eq.{bytes_eq-Decides}
 use Rattle.std.proofs.lemmas.List.FromFn.{length-range_with_len, get_or-range_with_len}
 use Rattle.std.proofs.lemmas.List.Sums.{AllPass-from_list_all}
-use Rattle.std.proofs.lemmas.Option.{get_or_from_slice_get, slice_get-get_or}
-use Rattle.std.proofs.lemmas.Bool.{and_parts}
+use Rattle.std.proofs.lemmas.Option.{get_or_from_slice_get, slice_get-get_or, none-some}
+use Rattle.std.proofs.lemmas.Bool.{and_parts, not-true, ltb-true, eqb-true, or_cases}
 use Rattle.std.proofs.lemmas.Bool.Decides.{nat_tests}
 use Rattle.rv_text.specs.Registers.{abi_names, x_name, IsRegister}
 use Rattle.rv_text.specs.private.Lookup.{of_number, pointer, of_two, of_three, find_register}
-use Rattle.rv_text.proofs.Forms.{not_true}
 
 -- a test that passes at each number below a bound by computation
 below : (n : ℕ) (test : ℕ → Bool) → list_all test (range_with_len 0 n) ≡ true → (r : ℕ) → r < n → test r ≡ true
@@ -47,41 +46,20 @@ register_own text r (lt, inr (inr (e, f))) = ap find_register e ∙ register_own
 -- the text is one of the register's names, by computation
 abbrev names : List ℕ → ℕ → Bool
 names text r =
-    cond (nat_lt r 32)
-    (cond (bytes_eq text (x_name r)) true
-    (cond (bytes_eq text (get_or abi_names r [])) true
-    (cond (bytes_eq text (codes "fp")) (r == 8) false)))
-    false
-
-both : (b x : Bool) → cond b x false ≡ true → (b ≡ true) × (x ≡ true)
-both true x h = (refl, h)
-both false x h = absurd (true≢false (sym h))
-
-none_is : (r : ℕ) → None ≡ Some r → ⊥
-none_is r e = cc
-
-one_of : (b x : Bool) → cond b true x ≡ true → (b ≡ true) ⊎ (x ≡ true)
-one_of true x h = inl refl
-one_of false x h = inr h
-
-is_less : (n m : ℕ) → nat_lt n m ≡ true → n < m
-is_less n m h = grind (arith, nat_tests)
-
-is_same : (n m : ℕ) → (n == m) ≡ true → n ≡ m
-is_same n m h = grind (arith, nat_tests)
+    nat_lt r 32 && (bytes_eq text (x_name r) || (bytes_eq text (get_or abi_names r []) || (bytes_eq text (codes "fp") && (r == 8))))
 
 is_name : (text : List ℕ) (r : ℕ) → names text r ≡ true → IsRegister text r
 is_name text r h =
-    let p = both (nat_lt r 32) _ h in
-    let lt : r < 32 = is_less r 32 p.0 in (
+    let p = and_parts (nat_lt r 32) _ h in
+    let lt : r < 32 = ltb-true r 32 p.0 in (
       lt,
       ⊎_elim
           (λ x. inl ((bytes_eq-Decides text (x_name r)).0 x))
           (λ q. ⊎_elim
           (λ a. inr (inl (slice_get-get_or abi_names r [] lt ∙ ap Some (sym ((bytes_eq-Decides text (get_or abi_names r [])).0 a)))))
-          (λ f. let g = both (bytes_eq text (codes "fp")) (r == 8) f in inr (inr ((bytes_eq-Decides text (codes "fp")).0 g.0, is_same r 8 g.1)))
-          (one_of (bytes_eq text (get_or abi_names r [])) _ q))
-          (one_of (bytes_eq text (x_name r)) _ p.1),
+          (λ f. let g = and_parts (bytes_eq text (codes "fp")) (r == 8) f in inr (inr ((bytes_eq-Decides text (codes "fp")).0 g.0, eqb-true r 8 g.1)))
+          (or_cases (bytes_eq text (get_or abi_names r [])) _ q))
+          (or_cases (bytes_eq text (x_name r)) _ p.1),
     )
 
 -- what is found is right, by computation
@@ -104,8 +82,8 @@ Small a n = (a < 128) × (n < 32)
 small_case : (a n l m : ℕ) → l < 128 → m ≤ 32 → ((a == l) && nat_lt n m) ≡ true → Small a n
 small_case a n l m ll lm h =
     let p = and_parts (a == l) (nat_lt n m) h in
-    let same = is_same a l p.0 in
-    let less = is_less n m p.1 in
+    let same = eqb-true a l p.0 in
+    let less = ltb-true n m p.1 in
     (omega arith, omega arith)
 
 small : (a n r : ℕ) → of_number a n ≡ Some r → Small a n
@@ -116,7 +94,7 @@ small a n r e =
     (λ e4. ⊎_elim (small_case a n 115 12 (omega arith) (omega arith))
     (λ e5. ⊎_elim (small_case a n 116 3 (omega arith) (omega arith))
     (λ e6. ⊎_elim (small_case a n 116 7 (omega arith) (omega arith))
-    (λ e7. absurd (none_is r e7))
+    (λ e7. absurd (none-some r e7))
     (first_or _ (n + 25) r _ e6))
     (first_or _ (n + 5) r _ e5))
     (first_or _ (n + 16) r _ e4))
@@ -136,11 +114,11 @@ numbered a n r e = right_is (of_number a n) (a ∷ decimal n) r (number_right a 
 
 pointer_small : (a r : ℕ) → pointer a ≡ Some r → a < 128
 pointer_small a r e =
-    ⊎_elim (λ h. let same = is_same a 115 h in omega arith)
-    (λ e2. ⊎_elim (λ h. let same = is_same a 103 h in omega arith)
-    (λ e3. ⊎_elim (λ h. let same = is_same a 116 h in omega arith)
-    (λ e4. ⊎_elim (λ h. let same = is_same a 102 h in omega arith)
-    (λ e5. absurd (none_is r e5))
+    ⊎_elim (λ h. let same = eqb-true a 115 h in omega arith)
+    (λ e2. ⊎_elim (λ h. let same = eqb-true a 103 h in omega arith)
+    (λ e3. ⊎_elim (λ h. let same = eqb-true a 116 h in omega arith)
+    (λ e4. ⊎_elim (λ h. let same = eqb-true a 102 h in omega arith)
+    (λ e5. absurd (none-some r e5))
     (first_or _ 8 r _ e4))
     (first_or _ 4 r _ e3))
     (first_or _ 3 r _ e2))
@@ -192,7 +170,7 @@ two_found a b r e =
         ⊎_elim
         (λ h. let p = and_parts (a == 114) (b == 97) h in
         let one : 1 ≡ r = cc in
-        let text : 114 ∷ 97 ∷ [] ≡ a ∷ b ∷ [] = (λ i. sym (is_same a 114 p.0) i ∷ sym (is_same b 97 p.1) i ∷ []) in
+        let text : 114 ∷ 97 ∷ [] ≡ a ∷ b ∷ [] = (λ i. sym (eqb-true a 114 p.0) i ∷ sym (eqb-true b 97 p.1) i ∷ []) in
         subst (λ t. IsRegister t r) text (subst (λ k. IsRegister (114 ∷ 97 ∷ []) k) one (is_name (114 ∷ 97 ∷ []) 1 refl)))
         (λ n. cc)
         (first_or _ 1 r None f)
@@ -200,7 +178,7 @@ two_found a b r e =
     two_letters : (a b r : ℕ) → cond (b == 112) (pointer a) (cond ((a == 114) && (b == 97)) (Some 1) None) ≡ Some r → IsRegister (a ∷ b ∷ []) r
     two_letters a b r e =
         elim (b == 112) as (λ d. (b == 112) ≡ d → cond d (pointer a) (cond ((a == 114) && (b == 97)) (Some 1) None) ≡ Some r → IsRegister (a ∷ b ∷ []) r) [
-          | true ↦ λ h f. subst (λ x. IsRegister (a ∷ x ∷ []) r) (sym (is_same b 112 h)) (pointed a r f)
+          | true ↦ λ h f. subst (λ x. IsRegister (a ∷ x ∷ []) r) (sym (eqb-true b 112 h)) (pointed a r f)
           | false ↦ λ h f. ra a b r f
         ] refl e
 
@@ -210,7 +188,7 @@ three_found a b c r e =
       | true ↦ λ h f.
           let p = and_parts (is_ascii_digit b) (not (b == 48) && is_ascii_digit c) h in
           let q = and_parts (not (b == 48)) (is_ascii_digit c) p.1 in
-          subst (λ t. IsRegister t r) (of_digits a b c p.0 (not_true (b == 48) q.0) q.1) (numbered a (10 * (b - 48) + (c - 48)) r f)
+          subst (λ t. IsRegister t r) (of_digits a b c p.0 (not-true (b == 48) q.0) q.1) (numbered a (10 * (b - 48) + (c - 48)) r f)
       | false ↦ λ h f. cc
     ] refl e
 
@@ -239,7 +217,7 @@ zero_found text r e =
 longer_found : (text : List ℕ) (r : ℕ) → cond (length text == 3) (of_three (slice_index text 0) (slice_index text 1) (slice_index text 2)) (cond (bytes_eq text (codes "zero")) (Some 0) None) ≡ Some r → IsRegister text r
 longer_found text r e =
     elim (length text == 3) as (λ d. (length text == 3) ≡ d → cond d (of_three (slice_index text 0) (slice_index text 1) (slice_index text 2)) (cond (bytes_eq text (codes "zero")) (Some 0) None) ≡ Some r → IsRegister text r) [
-      | true ↦ λ h f. subst (λ t. IsRegister t r) (sym (of_length_three text (is_same (length text) 3 h))) (three_found _ _ _ r f)
+      | true ↦ λ h f. subst (λ t. IsRegister t r) (sym (of_length_three text (eqb-true (length text) 3 h))) (three_found _ _ _ r f)
       | false ↦ λ h f. zero_found text r f
     ] refl e
 
@@ -247,7 +225,7 @@ pub register_found : (text : List ℕ) (r : ℕ) → find_register text ≡ Some
 unfolding find_register
 register_found text r e =
     elim (length text == 2) as (λ d. (length text == 2) ≡ d → cond d (of_two (slice_index text 0) (slice_index text 1)) (cond (length text == 3) (of_three (slice_index text 0) (slice_index text 1) (slice_index text 2)) (cond (bytes_eq text (codes "zero")) (Some 0) None)) ≡ Some r → IsRegister text r) [
-      | true ↦ λ h f. subst (λ t. IsRegister t r) (sym (of_length_two text (is_same (length text) 2 h))) (two_found _ _ r f)
+      | true ↦ λ h f. subst (λ t. IsRegister t r) (sym (of_length_two text (eqb-true (length text) 2 h))) (two_found _ _ r f)
       | false ↦ λ h f. longer_found text r f
     ] refl e
 

@@ -163,10 +163,6 @@ is_target mnemonic.Jal = true
 is_target _ = false
 
 straight : (i : Instr) → is_target (mnemonic_of i) ≡ false → IsStraight i
-straight (instr.Op op rd rs1 rs2) h = tt
-straight (instr.OpImm op rd rs1 imm) h = tt
-straight (instr.Load kind rd rs1 imm) h = tt
-straight (instr.Store width rs1 rs2 imm) h = tt
 straight (instr.Branch cond rs1 rs2 offset) h = cc
 straight (instr.Jal rd offset) h = cc
 straight _ h = tt
@@ -184,16 +180,7 @@ plain_right name h tokens s (i, spells, e) =
 pub after_right : (k : Keyword) (tokens : List (List ℕ)) (s : Stated) → After k tokens s → IsRightStatement s
 after_right (keyword.Instr (mnemonic.Branch cond)) ts s h = row_right branch_form (branch_states cond) (branch_right cond) ts s h
 after_right (keyword.Instr mnemonic.Jal) ts s h = row_right jal_form jal_states jal_right ts s h
-after_right (keyword.Instr (mnemonic.Op op)) ts s h = plain_right (mnemonic.Op op) refl ts s h
-after_right (keyword.Instr (mnemonic.OpImm op)) ts s h = plain_right (mnemonic.OpImm op) refl ts s h
-after_right (keyword.Instr (mnemonic.Load kind)) ts s h = plain_right (mnemonic.Load kind) refl ts s h
-after_right (keyword.Instr (mnemonic.Store width)) ts s h = plain_right (mnemonic.Store width) refl ts s h
-after_right (keyword.Instr mnemonic.Jalr) ts s h = plain_right mnemonic.Jalr refl ts s h
-after_right (keyword.Instr mnemonic.Lui) ts s h = plain_right mnemonic.Lui refl ts s h
-after_right (keyword.Instr mnemonic.Auipc) ts s h = plain_right mnemonic.Auipc refl ts s h
-after_right (keyword.Instr mnemonic.Fence) ts s h = plain_right mnemonic.Fence refl ts s h
-after_right (keyword.Instr mnemonic.Ecall) ts s h = plain_right mnemonic.Ecall refl ts s h
-after_right (keyword.Instr mnemonic.Ebreak) ts s h = plain_right mnemonic.Ebreak refl ts s h
+after_right (keyword.Instr name) ts s h = plain_right name refl ts s h
 after_right (keyword.Pseudo name) ts s h = row_right (pseudo_form name) (pseudo_states name) (pseudo_right name) ts s h
 after_right (keyword.Directive name) ts s h = row_right (directive_form name) (directive_states name) (directive_right name) ts s h
 after_right (keyword.Numbers width) ts s (numbers, are, e) = subst IsRightStatement (sym e) (list_right width numbers)
@@ -213,16 +200,7 @@ pseudo_place _ o = refl
 pub after_place : (k : Keyword) (tokens : List (List ℕ)) (s : Stated) → After k tokens s → place_of_keyword k ≡ place_of_stated s
 after_place (keyword.Instr (mnemonic.Branch cond)) ts s (o, has, e) = ap place_of_stated (sym e)
 after_place (keyword.Instr mnemonic.Jal) ts s (o, has, e) = ap place_of_stated (sym e)
-after_place (keyword.Instr (mnemonic.Op op)) ts s (i, has, e) = ap place_of_stated (sym e)
-after_place (keyword.Instr (mnemonic.OpImm op)) ts s (i, has, e) = ap place_of_stated (sym e)
-after_place (keyword.Instr (mnemonic.Load kind)) ts s (i, has, e) = ap place_of_stated (sym e)
-after_place (keyword.Instr (mnemonic.Store width)) ts s (i, has, e) = ap place_of_stated (sym e)
-after_place (keyword.Instr mnemonic.Jalr) ts s (i, has, e) = ap place_of_stated (sym e)
-after_place (keyword.Instr mnemonic.Lui) ts s (i, has, e) = ap place_of_stated (sym e)
-after_place (keyword.Instr mnemonic.Auipc) ts s (i, has, e) = ap place_of_stated (sym e)
-after_place (keyword.Instr mnemonic.Fence) ts s (i, has, e) = ap place_of_stated (sym e)
-after_place (keyword.Instr mnemonic.Ecall) ts s (i, has, e) = ap place_of_stated (sym e)
-after_place (keyword.Instr mnemonic.Ebreak) ts s (i, has, e) = ap place_of_stated (sym e)
+after_place (keyword.Instr name) ts s (i, has, e) = ap place_of_stated (sym e)
 after_place (keyword.Pseudo name) ts s h = row_place _ (pseudo_form name) (pseudo_states name) (pseudo_place name) ts s h
 after_place (keyword.Directive name) ts s h = row_place _ (directive_form name) (directive_states name) (directive_place name) ts s h
 after_place (keyword.Numbers width) ts s (numbers, are, e) = ap place_of_stated (sym e)

@@ -1,9 +1,10 @@
 -- What a text means is right: each sandbox is within its limits, and its names, gates and items fit each other.
 use Rattle.std.proofs.Common.{◌≡◌, ◌≢◌, ◌↔◌, refl, sym, ap, subst, ◌∙◌, ℕ, zero, suc, ◌+◌, ◌<◌, ◌≤◌, ◌⊎◌, inl, inr, Bool, true, false, not, ◌||◌, IsTrue, true≢false, if◌then◌else◌, List, [], ◌∷◌, ◌++◌, Some, map, slice_get, length, length-append, nat_lt, arith}
-use Rattle.std.specs.List.{All, IsDistinct, AllByRecursion}
+use Rattle.std.specs.List.{IsDistinct, AllByRecursion}
 use Rattle.std.specs.Str.{bytes_eq}
 use Rattle.std.proofs.lemmas.Option.{same_Some, none-some, slice_get_within}
 use Rattle.std.proofs.lemmas.Bool.Decides.{nat_tests}
+use Rattle.std.proofs.lemmas.List.Elements.{All-from_recursion}
 use Rattle.std.proofs.lemmas.Map.Made.{AllPairs-from_IsDistinct}
 use Rattle.std.proofs.lemmas.Slice.Eq.{bytes_eq-Decides}
 use Rattle.sfi_policy.specs.declared.format.Format.{Format}
@@ -39,13 +40,7 @@ pub record IsDraft (b : Begun) : Type 0 where
   pub byte_count : length b.sandbox.bytes ≤ b.sandbox.data_size
   pub bytes : AllByRecursion (λ v. v < 256) b.sandbox.bytes
 
--- what holds of each by recursion holds of each
-pub all_of : {X : Type 0} (P : X → Type 0) (xs : List X) → AllByRecursion P xs → All P xs
-all_of P [] h k d within = absurd (omega (arith, within))
-all_of P (x ∷ xs) h zero d within = h.0
-all_of P (x ∷ xs) h (suc k) d within = all_of P xs h.1 k d (omega (arith, within))
-
--- and what implies it
+-- what holds of each, and what it implies
 all_by : {X : Type 0} (P Q : X → Type 0) → ((x : X) → P x → Q x) → (xs : List X) → AllByRecursion P xs → AllByRecursion Q xs
 all_by P Q f [] h = tt
 all_by P Q f (x ∷ xs) h = (f x h.0, all_by P Q f xs h.1)
@@ -92,7 +87,7 @@ finished b d = record {
   data_size = d.data_size;
   gate_count = d.gate_count;
   gates = d.gates;
-  names = all_of (IsEntry b.sandbox) b.sandbox.names d.names;
+  names = All-from_recursion (IsEntry b.sandbox) b.sandbox.names d.names;
   differ = AllPairs-from_IsDistinct bytes_eq-Decides _ d.differ;
   item_count = d.item_count;
   items = λ k i at. record {
@@ -100,7 +95,7 @@ finished b d = record {
     body = (d.items k i at).body;
   };
   byte_count = d.byte_count;
-  bytes = all_of (λ v. v < 256) b.sandbox.bytes d.bytes;
+  bytes = All-from_recursion (λ v. v < 256) b.sandbox.bytes d.bytes;
 }
 
 -- no names differ

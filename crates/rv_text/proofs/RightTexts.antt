@@ -1,6 +1,7 @@
 -- What a text means is right: by its lines, from nothing.
-use Rattle.std.proofs.Common.{◌≡◌, refl, sym, ap, subst, ◌∙◌, ℕ, suc, ◌+◌, inl, inr, List, [], ◌∷◌, ◌++◌, Option, None, Some, map, length, length-append, arith}
+use Rattle.std.proofs.Common.{◌≡◌, refl, sym, ap, subst, ◌∙◌, ℕ, ◌+◌, inl, inr, List, [], ◌∷◌, ◌++◌, Option, None, Some, map, length, length-append, arith}
 use Rattle.std.proofs.lemmas.List.{length-map}
+use Rattle.std.proofs.lemmas.List.Elements.{All-from_recursion, recursion_from_All}
 use Rattle.std.specs.List.{All, AllByRecursion}
 use Rattle.std.proofs.lemmas.Option.{same_Some, none-some}
 use Rattle.sfi_policy.specs.declared.format.Format.{Format}
@@ -31,7 +32,7 @@ use Rattle.rv_text.specs.Laws.{SourcesAreRight}
 use Rattle.rv_text.proofs.Placing.{place_among}
 use Rattle.rv_text.proofs.Counting.{few_sandboxes}
 use Rattle.rv_text.proofs.Right.{after_right, after_place}
-use Rattle.rv_text.proofs.RightSources.{IsDraft, known, all_of, all_append, finished, begun_right, label_right, met_right, bodies_right, bytes_right, gate_right}
+use Rattle.rv_text.proofs.RightSources.{IsDraft, known, all_append, finished, begun_right, label_right, met_right, bodies_right, bytes_right, gate_right}
 
 -- the sandbox is of the format that the text has said, or of SFI1
 abbrev IsOf : Option Format → Sandbox → Type 0
@@ -44,10 +45,6 @@ record IsRightSoFar (s : SoFar) : Type 0 where
   finished_format : AllByRecursion (IsOf s.format) s.finished
   begun_format : (b : Begun) → s.begun ≡ Some b → IsOf s.format b.sandbox
   first : s.begun ≡ None → s.finished ≡ []
-
-all_recursively : {X : Type 0} (P : X → Type 0) (xs : List X) → All P xs → AllByRecursion P xs
-all_recursively P [] h = tt
-all_recursively P (x ∷ xs) h = (h 0 x (omega arith), all_recursively P xs (λ k d within. h (suc k) d (omega (arith, within))))
 
 begun_is : (old : SoFar) (c : Begun) → IsRightSoFar old → IsDraft c → IsOf old.format c.sandbox → IsRightSoFar (record old { begun = Some c })
 begun_is old c right draft format_is = record {
@@ -82,9 +79,9 @@ module _ (met_law : MetNamesStay) (new_law : NewNamesNameNothing) where
       record { data_size = d.data_size; gate_count = d.gate_count; gates = d.gates; names = d.names; differ = d.differ; item_count = d.item_count; items = d.items; labelled = d.labelled; byte_count = d.byte_count; bytes = d.bytes }
   goes_right line data_part b right free fits d =
       record { data_size = d.data_size; gate_count = d.gate_count; gates = d.gates; names = d.names; differ = d.differ; item_count = d.item_count; items = d.items; labelled = d.labelled; byte_count = d.byte_count; bytes = d.bytes }
-  goes_right line (bytes values) b right free fits d = bytes_right values b d (all_recursively _ values right) fits
+  goes_right line (bytes values) b right free fits d = bytes_right values b d (recursion_from_All _ values right) fits
   goes_right line (plain instrs) b right free fits d =
-      bodies_right line (map Plain instrs) b d (plain_bodies _ instrs (all_recursively _ instrs right.1))
+      bodies_right line (map Plain instrs) b d (plain_bodies _ instrs (recursion_from_All _ instrs right.1))
       (omega (arith, right.0, length-map instrs Plain)) (omega (arith, fits, length-map instrs Plain))
   goes_right line (jump i name) b right free fits d =
       bodies_right line (To i (place_of b.sandbox.names name) ∷ []) (with_names (met b.sandbox.names name) b) (met_right met_law new_law b d name right.2)
@@ -224,6 +221,6 @@ module _ (met_law : MetNamesStay) (new_law : NewNamesNameNothing) where
       record {
         at_least_one = omega (arith, ap length shape, length-append new.finished (last.sandbox ∷ []));
         numbered = omega (arith, ap length parts_are, few_sandboxes text new leads);
-        each = subst (λ ps. All IsSandbox ps) (sym parts_are) (all_of IsSandbox (sandboxes new) (sandboxes_right new right));
-        one_format = all_one parts (format_or_sfi1 new.format) (subst (λ ps. AreOf (format_or_sfi1 new.format) ps) (sym parts_are) (all_of (IsOf new.format) (sandboxes new) (sandboxes_format new right)));
+        each = subst (λ ps. All IsSandbox ps) (sym parts_are) (All-from_recursion IsSandbox (sandboxes new) (sandboxes_right new right));
+        one_format = all_one parts (format_or_sfi1 new.format) (subst (λ ps. AreOf (format_or_sfi1 new.format) ps) (sym parts_are) (All-from_recursion (IsOf new.format) (sandboxes new) (sandboxes_format new right)));
       }

@@ -3,6 +3,7 @@ use Rattle.std.proofs.Common.{◌≡◌, ℕ, zero, suc, ◌+◌, ◌≤◌, Boo
 use Rattle.std.specs.Prelude.{codes}
 use Rattle.std.specs.Option.{IsSomeAnd}
 use Rattle.std.proofs.lemmas.Bool.{cases_lt, cases_eq}
+use Rattle.std.proofs.lemmas.Option.{same_Some, none-some}
 use Rattle.sfi_policy.specs.declared.format.Format.TheVariants.{Sfi1, Sfi2}
 use Rattle.rv_source.specs.declared.item.Named.{Named}
 use Rattle.rv_source.specs.declared.item.Named.TheVariants.{Gate, Code, Data, Unknown}
@@ -176,19 +177,13 @@ taken_or_not b text =
       ]
     ]
 
-one_begun : (o : Option Begun) (b c : Begun) → o ≡ Some b → o ≡ Some c → b ≡ c
-one_begun o b c x y = let e : Some b ≡ Some c = sym x ∙ y in cc
-
-none_begun : (o : Option Begun) (b : Begun) → o ≡ None → o ≡ Some b → ⊥
-none_begun o b x y = let e : None ≡ Some b = sym x ∙ y in cc
-
 begun_or_not : (s : SoFar) (text : List ℕ) → Decided ((b : Begun) × (s.begun ≡ Some b) × IsTaken b text)
 begun_or_not s text =
     elim (none_or_some s.begun) [
-      | inl none ↦ inr (λ h. none_begun s.begun h.0 none h.1)
+      | inl none ↦ inr (λ h. none-some h.0 (sym none ∙ h.1))
       | inr (b, is) ↦ elim (taken_or_not b text) [
         | inl taken ↦ inl (b, is, taken)
-        | inr not ↦ inr (λ h. not (subst (λ c. IsTaken c text) (one_begun s.begun h.0 b h.1 is) h.2))
+        | inr not ↦ inr (λ h. not (subst (λ c. IsTaken c text) (same_Some h.0 b (sym h.1 ∙ is)) h.2))
       ]
     ]
 

@@ -138,13 +138,9 @@ record Made (name : Mnemonic) (o : OperandValues) : Type 0 where
   named : mnemonic_of instr ≡ name
   agrees : AgreesOn (form_of name) (operands_of instr) o
 
-upper_made : (z : ℤ) → IsBetween (pos 0) (pos 1048575) z → (n : ℕ) × (pos n ≡ z)
-upper_made (pos n) h = (n, refl)
-upper_made (negsuc n) h = let low = h.0 in absurd (omega (arith, ints))
-
-fence_made : (z : ℤ) → IsBetween (pos 0) (pos 4095) z → (n : ℕ) × (pos n ≡ z)
-fence_made (pos n) h = (n, refl)
-fence_made (negsuc n) h = let low = h.0 in absurd (omega (arith, ints))
+natural_made : (most z : ℤ) → IsBetween (pos 0) most z → (n : ℕ) × (pos n ≡ z)
+natural_made most (pos n) h = (n, refl)
+natural_made most (negsuc n) h = let low = h.0 in absurd (omega (arith, ints))
 
 made : (name : Mnemonic) (o : OperandValues) → AllSuit o (form_of name) → Made name o
 made (mnemonic.Op op) o h = record { instr = instr.Op op o.rd o.rs1 o.rs2; named = refl; agrees = (refl, (tt, (refl, (tt, (refl, tt))))) }
@@ -154,9 +150,9 @@ made (mnemonic.Store width) o h = record { instr = instr.Store width o.rs1 o.rs2
 made (mnemonic.Branch cond) o h = record { instr = instr.Branch cond o.rs1 o.rs2 o.number; named = refl; agrees = (refl, (tt, (refl, (tt, (refl, tt))))) }
 made mnemonic.Jal o h = record { instr = instr.Jal o.rd o.number; named = refl; agrees = (refl, (tt, (refl, tt))) }
 made mnemonic.Jalr o h = record { instr = instr.Jalr o.rd o.rs1 o.number; named = refl; agrees = (refl, (tt, (refl, (tt, (refl, (tt, tt)))))) }
-made mnemonic.Lui o h = let u = upper_made o.number h.1.1.0 in record { instr = instr.Lui o.rd u.0; named = refl; agrees = (refl, (tt, (u.1, tt))) }
-made mnemonic.Auipc o h = let u = upper_made o.number h.1.1.0 in record { instr = instr.Auipc o.rd u.0; named = refl; agrees = (refl, (tt, (u.1, tt))) }
-made mnemonic.Fence o h = let u = fence_made o.number h.0 in record { instr = instr.Fence u.0 o.rd o.rs1; named = refl; agrees = (u.1, (tt, (refl, (tt, (refl, tt))))) }
+made mnemonic.Lui o h = let u = natural_made _ o.number h.1.1.0 in record { instr = instr.Lui o.rd u.0; named = refl; agrees = (refl, (tt, (u.1, tt))) }
+made mnemonic.Auipc o h = let u = natural_made _ o.number h.1.1.0 in record { instr = instr.Auipc o.rd u.0; named = refl; agrees = (refl, (tt, (u.1, tt))) }
+made mnemonic.Fence o h = let u = natural_made _ o.number h.0 in record { instr = instr.Fence u.0 o.rd o.rs1; named = refl; agrees = (u.1, (tt, (refl, (tt, (refl, tt))))) }
 made mnemonic.Ecall o h = record { instr = instr.Ecall; named = refl; agrees = tt }
 made mnemonic.Ebreak o h = record { instr = instr.Ebreak; named = refl; agrees = tt }
 

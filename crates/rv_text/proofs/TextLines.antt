@@ -1,5 +1,5 @@
 -- Reading a text line by line.
-use Rattle.std.proofs.Common.{◌≡◌, refl, sym, ap, subst, ◌∙◌, ℕ, ◌+◌, ◌<◌, ◌⊎◌, inl, inr, List, [], ◌∷◌, ◌++◌, length, length-append, ◌==◌, Option, None, Some, Bor, Result, Ok, Err, IfOk, IfErr, arith}
+use Rattle.std.proofs.Common.{◌≡◌, sym, ap, subst, ◌∙◌, ℕ, ◌⊎◌, inl, inr, List, [], ◌∷◌, length, length-append, ◌==◌, Option, None, Some, Bor, Result, Ok, Err, IfOk, IfErr, arith}
 use Rattle.std.specs.Prelude.{MatchOption, MatchResult}
 use Rattle.std.specs.List.{before_first, after_first}
 use Rattle.std.proofs.lemmas.List.Sums.{fails_before_first, split_at_first}
@@ -11,7 +11,7 @@ use Rattle.rv_source.specs.Source.{Sandbox}
 use Rattle.rv_text.specs.declared.fault.TextFault.{TextFault}
 use Rattle.rv_text.specs.Causes.{memory}
 use Rattle.rv_text.specs.SoFar.{SoFar}
-use Rattle.rv_text.specs.Leads.{Leads, LineRefused}
+use Rattle.rv_text.specs.Leads.{LineRefused}
 use Rattle.rv_text.specs.Texts.{lines, uncommented, LinesLead, LineFault, FirstRefused, MeansSource, IsFault}
 use Rattle.rv_text.specs.private.Texts.{BeginsWithLine}
 use Rattle.rv_text.proofs.OneSource.{one_source, one_fault, meant_has_no_fault}
@@ -21,29 +21,12 @@ pub record Carries (first : SoFar) (all : List ℕ) (number : ℕ) (now : SoFar)
   pub leads : (new : SoFar) → LinesLead number now (lines rest) new → LinesLead 1 first (lines all) new
   pub faults : (f : TextFault) → FirstRefused number now (lines rest) f → FirstRefused 1 first (lines all) f
 
-pub carries_all : (first : SoFar) (all : List ℕ) → Carries first all 1 first all
-carries_all first all = record { leads = λ new h. h; faults = λ f h. h }
-
--- after one more line
-pub carries_on : {first now next : SoFar} {all line rest after : List ℕ} {number : ℕ} → Carries first all number now rest → lines rest ≡ line ∷ lines after
-    → Leads number now (uncommented line) next → Carries first all (number + 1) next after
-carries_on {first} {now} {next} {all} {line} {rest} {after} {number} c split leads = record {
-  leads = λ new h. c.leads new (subst (λ ls. LinesLead number now ls new) (sym split) (next, leads, h));
-  faults = λ f h. c.faults f (subst (λ ls. FirstRefused number now ls f) (sym split) (inr (next, leads, h)));
-}
-
 -- where the next line is refused
 pub carries_fault : {first now : SoFar} {all line rest : List ℕ} {texts : List (List ℕ)} {number : ℕ} {f : TextFault} → Carries first all number now rest → lines rest ≡ line ∷ texts
     → (f ≡ memory) ⊎ LineFault number now line f → (f ≡ memory) ⊎ FirstRefused 1 first (lines all) f
 carries_fault {first} {now} {all} {line} {rest} {texts} {number} {f} c split (inl is) = inl is
 carries_fault {first} {now} {all} {line} {rest} {texts} {number} {f} c split (inr refused) =
     inr (c.faults f (subst (λ ls. FirstRefused number now ls f) (sym split) (inl refused)))
-
--- after the last line
-pub carries_last : {first now new : SoFar} {all rest : List ℕ} {number : ℕ} → Carries first all number now rest → lines rest ≡ rest ∷ []
-    → Leads number now (uncommented rest) new → LinesLead 1 first (lines all) new
-carries_last {first} {now} {new} {all} {rest} {number} c split leads =
-    c.leads new (subst (λ ls. LinesLead number now ls new) (sym split) (new, leads, refl))
 
 -- what a cut at the first line feed gives
 pub cut_line : (text : List ℕ) (r : Option (Bor (List ℕ) × Bor (List ℕ))) → IsSplitOnceResult 10 text r

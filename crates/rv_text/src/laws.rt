@@ -28,6 +28,7 @@ pub fn meanings_are_in_range()
 {}
 
 /// A printed instruction whose fields are in range means that instruction.
+#[tactic(auto, using(crate::proofs::RoundTrip::reads_back))]
 pub fn printed_reads_back()
     ensures { PrintedReadsBack }
 {}
@@ -76,6 +77,7 @@ pub fn sources_are_right()
 }
 
 /// The lui and the addi that `li` stands for add up to its number.
+#[tactic(auto, using(crate::proofs::Adding::add_up))]
 pub fn constants_add_up()
     ensures { ConstantsAddUp }
 {}

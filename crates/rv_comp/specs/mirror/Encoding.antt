@@ -1,75 +1,37 @@
--- What the code computes, step by step: a halfword from the fields of a form.
--- Private contracts alone cite it. Nothing has its meaning from here: proofs/ shows that it agrees
--- with the table.
-use Rattle.std.specs.Prelude.{ℕ, suc, ◌-◌, ◌/◌, ◌^◌, ℤ, pos, negsuc}
-use Rattle.rv_word.specs.Numbers.{bits}
-use Rattle.rv_comp.specs.mirror.Moves.{up, ◌∣◌}
-use Rattle.rv_comp.specs.declared.form.Form16.{Form16}
-use Rattle.rv_comp.specs.declared.form.Form16.TheVariants.{CAddi4spn, CLw, CSw, CAddi, CJal, CLi, CAddi16sp, CLui, CSrli, CSrai, CAndi, CSub, CXor, COr, CAnd, CJ, CBeqz, CBnez, CSlli, CLwsp, CJr, CJalr, CMv, CAdd, CEbreak, CSwsp}
+-- The rows as the code has them.
+-- Private contracts alone cite it. Nothing has its meaning from here: proofs/ shows that they are
+-- those of the table.
+use Rattle.std.specs.Prelude.{ℕ, Bool, true, IsTrue, ◌<◌, nat_lt, List, slice_index_or}
+use Rattle.rv_comp.specs.Bits as table
+use Rattle.rv_comp.specs.declared.encode.Fields.{Fields}
+use Rattle.rv_comp.specs.declared.encode.rows.Bit.{Bit}
+use Rattle.rv_comp.specs.declared.encode.rows.Bit.TheVariants.{Zero, One, Rd, Rs1, Rs2, Imm}
 
--- the low n bits, in two's complement
-abbrev pub low : ℕ → ℤ → ℕ
-low n (pos k) = k
-low n (negsuc k) = 2 ^ n - suc k
+-- the bit of the table
+abbrev pub row_bit : Bit → table.Bit
+row_bit Zero = table.is 0
+row_bit One = table.is 1
+row_bit (Rd k) = table.bit_of table.rd k
+row_bit (Rs1 k) = table.bit_of table.rs1 k
+row_bit (Rs2 k) = table.bit_of table.rs2 k
+row_bit (Imm k) = table.bit_of table.imm k
 
-unfoldable pub two_short : ℕ → ℕ → ℕ → ℕ
-two_short base a b = base ∣ up (a - 8) 7 ∣ up (b - 8) 2
+-- the fields of the table
+abbrev pub row_fields : Fields → table.Fields
+row_fields v = record { rd = v.rd; rs1 = v.rs1; rs2 = v.rs2; imm = v.imm }
 
-unfoldable pub two_long : ℕ → ℕ → ℕ → ℕ
-two_long base a b = base ∣ up a 7 ∣ up b 2
+-- a bit that 32 bits have
+abbrev pub is_low : Bit → Bool
+is_low (Rd k) = nat_lt k 32
+is_low (Rs1 k) = nat_lt k 32
+is_low (Rs2 k) = nat_lt k 32
+is_low (Imm k) = nat_lt k 32
+is_low _ = true
 
-unfoldable pub six_at : ℕ → ℕ → ℕ
-six_at base b = base ∣ up (bits b 5 5) 12 ∣ up (bits b 4 0) 2
+-- the same of each of 16 bits
+abbrev pub AreLow : List Bit → Type 0
+AreLow bits = (k : ℕ) (other : Bit) → k < 16 → IsTrue (is_low (slice_index_or bits k other))
 
-unfoldable pub word_at : ℕ → ℕ → ℕ
-word_at base b = base ∣ up (bits b 5 3) 10 ∣ up (bits b 2 2) 6 ∣ up (bits b 6 6) 5
-
-unfoldable pub jump_at : ℕ → ℕ → ℕ
-jump_at base b =
-    base ∣ up (bits b 11 11) 12 ∣ up (bits b 4 4) 11 ∣ up (bits b 9 8) 9 ∣ up (bits b 10 10) 8
-    ∣ up (bits b 6 6) 7 ∣ up (bits b 7 7) 6 ∣ up (bits b 3 1) 3 ∣ up (bits b 5 5) 2
-
-unfoldable pub branch_at : ℕ → ℕ → ℕ
-branch_at base b = base ∣ up (bits b 8 8) 12 ∣ up (bits b 4 3) 10 ∣ up (bits b 7 6) 5
-    ∣ up (bits b 2 1) 3 ∣ up (bits b 5 5) 2
-
-unfoldable pub stack_step_at : ℕ → ℕ
-stack_step_at b = 0x6101 ∣ up (bits b 9 9) 12 ∣ up (bits b 4 4) 6 ∣ up (bits b 6 6) 5
-    ∣ up (bits b 8 7) 3 ∣ up (bits b 5 5) 2
-
-unfoldable pub stack_address_at : ℕ → ℕ
-stack_address_at b = up (bits b 5 4) 11 ∣ up (bits b 9 6) 7 ∣ up (bits b 2 2) 6 ∣ up (bits b 3 3) 5
-
-unfoldable pub load_at : ℕ → ℕ
-load_at b = 0x4002 ∣ up (bits b 5 5) 12 ∣ up (bits b 4 2) 4 ∣ up (bits b 7 6) 2
-
-unfoldable pub store_at : ℕ → ℕ
-store_at b = 0xc002 ∣ up (bits b 5 2) 9 ∣ up (bits b 7 6) 7
-
-unfoldable pub encoded : Form16 → ℕ
-encoded (CAddi4spn d i) = stack_address_at (low 10 i) ∣ up (d - 8) 2
-encoded (CLw d s i) = word_at 0x4000 (low 7 i) ∣ up (s - 8) 7 ∣ up (d - 8) 2
-encoded (CSw s t i) = word_at 0xc000 (low 7 i) ∣ up (s - 8) 7 ∣ up (t - 8) 2
-encoded (CAddi d i) = six_at 0x0001 (low 6 i) ∣ up d 7
-encoded (CJal i) = jump_at 0x2001 (low 12 i)
-encoded (CLi d i) = six_at 0x4001 (low 6 i) ∣ up d 7
-encoded (CAddi16sp i) = stack_step_at (low 10 i)
-encoded (CLui d i) = six_at 0x6001 (low 18 i / 2 ^ 12) ∣ up d 7
-encoded (CSrli d i) = 0x8001 ∣ up (d - 8) 7 ∣ up (low 5 i) 2
-encoded (CSrai d i) = 0x8401 ∣ up (d - 8) 7 ∣ up (low 5 i) 2
-encoded (CAndi d i) = six_at 0x8801 (low 6 i) ∣ up (d - 8) 7
-encoded (CSub d t) = two_short 0x8c01 d t
-encoded (CXor d t) = two_short 0x8c21 d t
-encoded (COr d t) = two_short 0x8c41 d t
-encoded (CAnd d t) = two_short 0x8c61 d t
-encoded (CJ i) = jump_at 0xa001 (low 12 i)
-encoded (CBeqz s i) = branch_at 0xc001 (low 9 i) ∣ up (s - 8) 7
-encoded (CBnez s i) = branch_at 0xe001 (low 9 i) ∣ up (s - 8) 7
-encoded (CSlli d i) = 0x0002 ∣ up d 7 ∣ up (low 5 i) 2
-encoded (CLwsp d i) = load_at (low 8 i) ∣ up d 7
-encoded (CJr s) = two_long 0x8002 s 0
-encoded (CJalr s) = two_long 0x9002 s 0
-encoded (CMv d t) = two_long 0x8002 d t
-encoded (CAdd d t) = two_long 0x9002 d t
-encoded CEbreak = 0x9002
-encoded (CSwsp t i) = store_at (low 8 i) ∣ up t 2
+-- the number of a row, for these values
+unfoldable pub row_number : table.Fields → List table.Bit → ℕ
+row_number v bits = table.number_after 0 v bits

@@ -5,7 +5,7 @@ use Rattle.rv_text.proofs.line.read_instr.Goals as goal
 pub returns-in-Ok : goal.returns-in-Ok
 returns-in-Ok c =
     record {
-      ok = plain_reads c.args.name c.in_default.not-Branch c.in_default.not-Jal _ _ (c.in-Ok.instr, c.in-Ok.ensures.ok, refl);
+      ok = plain_reads c.args.name _ _ (c.in_default.not-Branch, c.in_default.not-Jal) (c.in-Ok.instr, c.in-Ok.ensures.ok, refl);
       cause = tt;
     }
 
@@ -13,5 +13,5 @@ pub returns-in-Err : goal.returns-in-Err
 returns-in-Err c =
     record {
       ok = tt;
-      cause = plain_departs c.args.name c.in_default.not-Branch c.in_default.not-Jal _ _ c.in-Err.ensures.cause;
+      cause = plain_departs c.args.name _ _ (c.in_default.not-Branch, c.in_default.not-Jal) c.in-Err.ensures.cause;
     }
