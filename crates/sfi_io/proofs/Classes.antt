@@ -1,5 +1,5 @@
 -- The table of the bytes' classes, seen right at each byte.
-use Rattle.std.proofs.Common.{◌≡◌, ℕ, ◌<◌, ◌+◌, ◌*◌, ◌==◌, ◌≤◌, ◌%◌, Bool, true, false, refl, sym, ap, ◌∙◌, arith, Option, Some, None, Ok}
+use Rattle.std.proofs.Common.{◌≡◌, ℕ, ◌<◌, ◌+◌, ◌*◌, ◌==◌, ◌≤◌, ◌%◌, Bool, true, false, cond, refl, sym, ap, ◌∙◌, arith, Option, Some, None, Ok}
 use Rattle.std.specs.Prelude.{not, slice_index, nat_lt, if◌then◌else◌}
 use Rattle.std.proofs.lemmas.Bool.{agree_below, agree_below_at}
 use Rattle.std.proofs.lemmas.Bool.Decides.{nat_tests}
@@ -81,19 +81,16 @@ then_true false b e h = cc e
 abbrev letter : ℕ → ℕ
 letter b = (bit_or ((b + 255) % 256) 32 + 170) % 256
 
-pub letter_is : (c : ℕ) → c < 256 → 57 < c → letter c < 16 → hex_digit_value c ≡ Some (letter c)
+-- what a lane of the vectors makes of a byte
+abbrev pub value : ℕ → ℕ
+value b = cond (nat_lt b 58) ((b + 208) % 256) (letter b)
+
+pub value_is : (c : ℕ) → c < 256 → value c < 16 → hex_digit_value c ≡ Some (value c)
 unfolding implies
-letter_is c lt large small =
-    let far : nat_lt 57 c ≡ true = grind (arith, nat_tests, large) in
-    let near : nat_lt (letter c) 16 ≡ true = grind (arith, nat_tests, small) in
-    let all = below_256 (λ b. implies (nat_lt 57 b) (implies (nat_lt (letter b) 16) (same (Some (letter b)) (hex_digit_value b)))) refl c lt in
-    sym (same_is _ _ (then_true _ _ near (then_true _ _ far all)))
-
-pub or_small_l : (a b : ℕ) → bit_or a b < 16 → a < 16
-or_small_l a b h = omega (arith, h, le_or_l a b)
-
-pub or_small_r : (a b : ℕ) → bit_or a b < 16 → b < 16
-or_small_r a b h = omega (arith, h, le_or_r a b)
+value_is c lt small =
+    let near : nat_lt (value c) 16 ≡ true = grind (arith, nat_tests, small) in
+    let all = below_256 (λ b. implies (nat_lt (value b) 16) (same (Some (value b)) (hex_digit_value b))) refl c lt in
+    sym (same_is _ _ (then_true _ _ near all))
 
 -- the byte of two values that are digits'
 pub byte_of_values : (a b h v : ℕ) → a < 256 → b < 256 → hex_digit_value a ≡ Some h → hex_digit_value b ≡ Some v → IsByteOf a b (h * 16 + v)

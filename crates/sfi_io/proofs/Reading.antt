@@ -1,8 +1,7 @@
 -- Reading the text from place to place, with room for each byte.
-use Rattle.std.proofs.lemmas.Bool.Decides.{nat_tests}
-use Rattle.std.proofs.lemmas.Grind.{get_or-set_at}
-use Rattle.std.proofs.lemmas.List.{get_or-set_other, get_or-take, get_or-drop, length-take-le, take_more, append_assoc, append-nil}
-use Rattle.std.proofs.Common.{◌≡◌, ◌≢◌, ◌==◌, slice_set, ℕ, ◌+◌, ◌-◌, ◌*◌, ◌/◌, ◌<◌, ◌≤◌, Bool, true, false, zero, suc, List, [], ◌∷◌, ◌++◌, length, drop, take, Option, Some, None, IfSome, Ok, refl, sym, ap, ◌∙◌, subst, arith, Vec, Global}
+use Rattle.std.proofs.lemmas.List.{get_or-take, get_or-drop, take_more, append_assoc, append-nil}
+use Rattle.std.proofs.Common.{◌≡◌, ℕ, ◌+◌, ◌-◌, ◌*◌, ◌/◌, ◌<◌, ◌≤◌, Bool, true, false, zero, suc, List, [], ◌∷◌, ◌++◌, length, drop, take, Option, Some, None, IfSome, Ok, refl, sym, ap, ◌∙◌, subst, arith, Vec, Global}
+use Rattle.std.proofs.Math.Seq.{take-append-add}
 use Rattle.std.specs.Prelude.{not, filter, slice_index}
 use Rattle.std.specs.Option.{is_some}
 use Rattle.std.specs.Vec.{vec_len, vec_capacity}
@@ -124,21 +123,14 @@ many_digits text front block at (suc n) h l each d =
     subst (λ (b : List ℕ). Decodes (filter is_kept text) (filter is_kept (drop (at + 2 * suc n) text)) b None) items
     (subst (λ (m : ℕ). Decodes (filter is_kept text) (filter is_kept (drop m text)) ((front ++ take n block) ++ slice_index block n ∷ []) None) next after)
 
--- an array whose elements below a place are right, after the one at that place is written
-pub set_next : (P : ℕ → ℕ → Type 0) (xs : List ℕ) (n y : ℕ) → n < length xs → ((k : ℕ) → k < n → P k (slice_index xs k)) → P n y → (k : ℕ) → k < n + 1 → P k (slice_index (slice_set xs n y) k)
-set_next P xs n y h all here k lt = by_test (k == n) refl
-  where
-    by_test : (b : Bool) → (k == n) ≡ b → P k (slice_index (slice_set xs n y) k)
-    by_test true e =
-        let same : k ≡ n = grind (arith, nat_tests, e) in
-        subst (λ (v : ℕ). P k v) (sym (get_or-set_at xs n k y 0 same h)) (subst (λ (m : ℕ). P m y) (sym same) here)
-    by_test false e =
-        let other : k ≢ n = grind (arith, nat_tests, e) in
-        subst (λ (v : ℕ). P k v) (sym (get_or-set_other xs n k y 0 other)) (all k (omega (arith, lt, other)))
+-- a block's bytes are appended, and those past its pairs are cut off again
+pub cut_items : (bytes pushed new : Vec ℕ Global) (block : List ℕ) (n pairs : ℕ) → n ≡ vec_len bytes → pushed.items ≡ bytes.items ++ block → new.items ≡ take (n + pairs) pushed.items → new.items ≡ bytes.items ++ take pairs block
+cut_items bytes pushed new block n pairs is e f =
+    f ∙ ap (take (n + pairs)) e ∙ ap (λ (m : ℕ). take (m + pairs) (bytes.items ++ block)) (is ∙ bytes.ok.0) ∙ take-append-add bytes.items block pairs
 
 pub reads_block : (text : List ℕ) (at pairs : ℕ) (bytes new : Vec ℕ Global) (high : Option ℕ) (block : List ℕ) → false ≡ is_some high → 64 ≤ length text - at → pairs ≤ 32 → length block ≡ 32
     → ((k : ℕ) → k < pairs → IsByteOf (slice_index (take (at + 64 - at) (drop at text)) (2 * k)) (slice_index (take (at + 64 - at) (drop at text)) (2 * k + 1)) (slice_index block k))
-    → new.items ≡ bytes.items ++ take pairs block → vec_len new ≡ vec_len bytes + length (take pairs block) → vec_capacity bytes ≤ vec_capacity new
+    → new.items ≡ bytes.items ++ take pairs block → vec_len new ≡ vec_len bytes + pairs → vec_capacity bytes ≤ vec_capacity new
     → Reads text at bytes high → Reads text (at + 2 * pairs) new high
 reads_block text at pairs bytes new (Some v) block none h most size each e f g r = cc
 reads_block text at pairs bytes new None block none h most size each e f g r =
@@ -147,11 +139,10 @@ reads_block text at pairs bytes new None block none h most size each e f g r =
     let there : (k : ℕ) → k < pairs → IsByteOf (slice_index text (at + 2 * k)) (slice_index text (at + (2 * k + 1))) (slice_index block k) =
     λ k lt. subst (λ (x : ℕ). IsByteOf x (slice_index text (at + (2 * k + 1))) (slice_index block k)) (in_text (2 * k) (omega (arith, lt, most)))
     (subst (λ (y : ℕ). IsByteOf (slice_index (take (at + 64 - at) (drop at text)) (2 * k)) y (slice_index block k)) (in_text (2 * k + 1) (omega (arith, lt, most))) (each k lt)) in
-    let taken : length (take pairs block) ≡ pairs = length-take-le pairs block (omega (arith, most, size)) in
     record {
       so_far = subst (λ (l : List ℕ). Decodes (filter is_kept text) (filter is_kept (drop (at + 2 * pairs) text)) l None) (sym e)
           (many_digits text bytes.items block at pairs (omega (arith, most, size)) (omega (arith, h, most)) there r.so_far);
       small = tt;
-      room = omega (arith, f, taken, r.room);
+      room = omega (arith, f, r.room);
       fits = omega (arith, g, r.fits);
     }

@@ -10,6 +10,7 @@ ghost use Rattle.sfi_io.specs.declared.hexadecimal.HexFault.TheVariants.{Odd, Di
 ghost use Rattle.sfi_io.specs.declared.hexadecimal.HexStop.TheVariants.{Memory};
 
 use std::alloc::{AllocError, Global};
+use std::simd::prelude::*;
 use thiserror::Error;
 
 /// Why a text spells no bytes. Its text is the line that the program prints, without its end.
@@ -131,89 +132,32 @@ fn byte_of(high: u8, low: u8) -> Option<u8>
 /// How many digits are read at a time, where so many stand there.
 const BLOCK: usize = 64;
 
-/// A digit's value, found by arithmetic, so that a block's digits are read side by side;
-/// 16 or more for any other byte.
+/// Each digit's value, found by arithmetic on all side by side; 16 or more for any other byte.
 #[inline(always)]
-#[tactic(auto, using(crate::proofs::Classes::letter_is))]
-fn value_of(byte: u8) -> u8
-    ensures { result < 16 → hex_digit_value byte ≡ Some result }
-{
-    if byte > b'9' {
-        (byte.wrapping_sub(1) | 32).wrapping_sub(86)
-    } else {
-        byte.wrapping_sub(b'0')
-    }
-}
-
-/// The values of a block's bytes, and whether each is a digit's.
-#[derive(Drop)]
-struct Values {
-    values: [u8; BLOCK],
-    all: bool,
-}
-
-/// What a block's bytes are. It isn't inlined:
-/// LLVM finds its vector instructions where arrays lie in memory.
-#[inline(never)]
-fn values_of(digits: &[u8]) -> Values
-    requires { length digits.now ≡ 64 }
-    ensures each { (k : ℕ) → k < 64 → slice_index result.values k < 16
-        → hex_digit_value (slice_index digits.now k) ≡ Some (slice_index result.values k) }
-    ensures all { result.all ≡ true → (k : ℕ) → k < 64 → slice_index result.values k < 16 }
-{
-    let mut values = [0u8; BLOCK];
-    let mut bits = 0u8;
-    for place in 0..BLOCK {
-        let value = value_of(digits[place]);
-        values[place] = value;
-        bits |= value;
-    }
-    Values {
-        values,
-        all: bits < WHITE,
-    }
-}
-
-/// How many pairs of digits a block begins with. Where it is inlined,
-/// LLVM moves each value by itself.
-#[inline(never)]
-fn digit_pairs(values: &[u8; BLOCK]) -> usize
-    ensures most { result ≤ 32 }
-    ensures digits { (k : ℕ) → k < result
-        → (slice_index values.now (2 * k) < 16) × (slice_index values.now (2 * k + 1) < 16) }
-{
-    for pair in 0..BLOCK / 2 {
-        if values[2 * pair] >= WHITE || values[2 * pair + 1] >= WHITE {
-            return pair;
-        }
-    }
-    BLOCK / 2
-}
-
-/// The byte of two digits' values, by arithmetic on both at once.
-#[inline(always)]
-fn byte_of_pair(values: [u8; 2]) -> u8
-    ensures { slice_index values 0 < 16 → slice_index values 1 < 16
-        → result ≡ slice_index values 0 * 16 + slice_index values 1 }
-{
-    let both = u16::from_le_bytes(values);
-    (both.wrapping_mul(16).wrapping_add(both / 256) % 256) as u8
-}
-
-/// The byte of each pair of a block's values that are digits.
-#[inline(never)]
-fn joined(values: &[u8; BLOCK]) -> [u8; BLOCK / 2]
+fn values_of(bytes: u8x32) -> u8x32
     ensures size { length result ≡ 32 }
-    ensures each { (k : ℕ) → k < 32 → slice_index values.now (2 * k) < 16
-        → slice_index values.now (2 * k + 1) < 16
-        → slice_index result k
-        ≡ slice_index values.now (2 * k) * 16 + slice_index values.now (2 * k + 1) }
+    ensures each { (k : ℕ) → k < 32 → slice_index result k < 16
+        → hex_digit_value (slice_index bytes k) ≡ Some (slice_index result k) }
 {
-    let mut bytes = [0u8; BLOCK / 2];
-    for pair in 0..BLOCK / 2 {
-        bytes[pair] = byte_of_pair([values[2 * pair], values[2 * pair + 1]]);
-    }
+    let figures = bytes - u8x32::splat(b'0');
+    let letters = ((bytes - u8x32::splat(1)) | u8x32::splat(32)) - u8x32::splat(86);
     bytes
+        .simd_lt(u8x32::splat(b'9' + 1))
+        .select(figures, letters)
+}
+
+/// How many values come before the first that is no digit's.
+#[inline(always)]
+fn digits_before(values: u8x32) -> usize
+    ensures most { result ≤ 32 }
+    ensures digits { (k : ℕ) → k < result → slice_index values k < 16 }
+{
+    let others = values.simd_ge(u8x32::splat(WHITE)).to_bitmask();
+    if others == 0 {
+        BLOCK / 2
+    } else {
+        others.trailing_zeros() as usize
+    }
 }
 
 /// The bytes of the pairs of digits that a block begins with: the first `pairs` of `bytes`.
@@ -223,7 +167,33 @@ struct BlockBytes {
     pairs: usize,
 }
 
+/// The first digits of a block's pairs, and the second ones.
+#[inline(always)]
+fn first_and_second(block: &[u8]) -> (u8x32, u8x32)
+    requires { length block.now ≡ 64 }
+    ensures sizes { (length result.0 ≡ 32) × (length result.1 ≡ 32) }
+    ensures first { (k : ℕ) → k < 32 → slice_index result.0 k ≡ slice_index block.now (2 * k) }
+    ensures second { (k : ℕ) → k < 32
+        → slice_index result.1 k ≡ slice_index block.now (2 * k + 1) }
+{
+    let front = u8x32::from_slice(block);
+    let back = u8x32::from_slice(&block[32..]);
+    front.deinterleave(back)
+}
+
+/// The byte of each pair of values that are digits'.
+#[inline(always)]
+fn joined(high: u8x32, low: u8x32) -> [u8; BLOCK / 2]
+    requires { (length high ≡ 32) × (length low ≡ 32) }
+    ensures size { length result ≡ 32 }
+    ensures each { (k : ℕ) → k < 32 → slice_index high k < 16 → slice_index low k < 16
+        → slice_index result k ≡ slice_index high k * 16 + slice_index low k }
+{
+    (high * u8x32::splat(16) + low).to_array()
+}
+
 /// What a block begins with.
+#[inline(always)]
 fn bytes_of_block(block: &[u8]) -> BlockBytes
     requires { length block.now ≡ 64 }
     ensures most { result.pairs ≤ 32 }
@@ -231,10 +201,12 @@ fn bytes_of_block(block: &[u8]) -> BlockBytes
     ensures each { (k : ℕ) → k < result.pairs → IsByteOf (slice_index block.now (2 * k))
         (slice_index block.now (2 * k + 1)) (slice_index result.bytes k) }
 {
-    let Values { values, all } = values_of(block);
+    let (first, second) = first_and_second(block);
+    let high = values_of(first);
+    let low = values_of(second);
     BlockBytes {
-        bytes: joined(&values),
-        pairs: if all { BLOCK / 2 } else { digit_pairs(&values) },
+        bytes: joined(high, low),
+        pairs: digits_before(high | low),
     }
 }
 
@@ -257,7 +229,10 @@ fn decoded(alloc: Global, text: &[u8]) -> Result<Vec<u8>, HexStop>
             tries += 1;
             let front = bytes_of_block(&text[at..at + BLOCK]);
             if front.pairs > 0 {
-                bytes.extend_from_slice(&front.bytes[..front.pairs])?;
+                // A copy of 32 bytes and a cut are faster than a copy of so many as there are.
+                let count = bytes.len() + front.pairs;
+                bytes.extend_from_slice(&front.bytes)?;
+                bytes.truncate(count);
                 at += 2 * front.pairs;
                 continue;
             }

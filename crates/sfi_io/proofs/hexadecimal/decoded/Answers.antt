@@ -2,7 +2,7 @@ use Rattle.std.proofs.Common.{refl, sym, ◌∙◌, arith}
 use Rattle.std.specs.Prelude.{slice_index}
 use Rattle.sfi_io.proofs.Classes.{digit_small}
 use Rattle.sfi_io.proofs.Digits.{decodes_last, decodes_odd, bad_at, decodes_at, decodes_same, at_end}
-use Rattle.sfi_io.proofs.Reading.{reads_first, reads_pair, reads_white, reads_high, reads_low, reads_as, reads_block, room_pair, room_low}
+use Rattle.sfi_io.proofs.Reading.{reads_first, reads_pair, reads_white, reads_high, reads_low, reads_as, reads_block, cut_items, room_pair, room_low}
 use Rattle.sfi_io.proofs.hexadecimal.decoded.Goals as goal
 use Rattle.sfi_io.proofs.hexadecimal.decoded.Goals.{in-None, in-Some-high}
 
@@ -22,8 +22,11 @@ pub loop-at-preserved-then-front-gt0 : goal.loop-at-preserved-then-front-gt0
 loop-at-preserved-then-front-gt0 c =
     let front = c.bytes_of_block-front in
     let pushed = c.in_ok-extend_from_slice.ensures in
+    let cut = c.truncate.ensures in
+    let items = cut_items c.loop-at.bytes c.extend_from_slice.new.self c.truncate.new.self front.result.bytes _ front.result.pairs c.len-then-front-gt0.ensures pushed.items cut.items in
     reads_block c.args.text.now c.loop-at.at front.result.pairs c.loop-at.bytes _ c.loop-at.high front.result.bytes (sym c.if-is_none.ensures) c.if-text-at-ge-BLOCK.true
-    front.ensures.most front.ensures.size front.ensures.each pushed.items pushed.len pushed.capacity c.loop-at.invariant
+    front.ensures.most front.ensures.size front.ensures.each items
+    (omega (arith, front.ensures.most, front.ensures.size, pushed.len, cut.len, c.len-then-front-gt0.ensures)) (omega (arith, pushed.capacity, cut.capacity)) c.loop-at.invariant
 
 pub loop-at-preserved-then-is_white : goal.loop-at-preserved-then-is_white
 loop-at-preserved-then-is_white c = reads_white _ _ _ _ c.loop-at-test.true c.if-is_white.ensures c.loop-at.invariant

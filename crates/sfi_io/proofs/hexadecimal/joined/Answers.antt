@@ -1,11 +1,12 @@
-use Rattle.std.proofs.Common.{◌≡◌, ◌<◌, ◌+◌, ◌*◌, ℕ, slice_index, length-set, ◌∙◌, arith}
-use Rattle.sfi_io.proofs.Reading.{set_next}
+use Rattle.std.proofs.Common.{◌+◌, ◌*◌, ◌%◌, arith}
+use Rattle.sfi_io.proofs.Lanes.{own, splat, zipped}
 use Rattle.sfi_io.proofs.hexadecimal.joined.Goals as goal
 
-pub loop-pair-preserved : goal.loop-pair-preserved
-loop-pair-preserved c =
-    let values = c.args.values.now in (
-      length-set _ _ _ ∙ c.loop-pair.invariant.0,
-      set_next (λ (k v : ℕ). slice_index values (2 * k) < 16 → slice_index values (2 * k + 1) < 16 → v ≡ slice_index values (2 * k) * 16 + slice_index values (2 * k + 1))
-          c.loop-pair.bytes c.loop-pair.pair c.byte_of_pair.result (omega (arith, c.loop-pair-test.true, c.loop-pair.invariant.0)) c.loop-pair.invariant.1 c.byte_of_pair.ensures,
-    )
+pub returns-clause-size : goal.returns-clause-size
+returns-clause-size c =
+    (zipped (λ a b. (a + b) % 256) _ _ _ _ (zipped (λ a b. (a * b) % 256) _ _ _ _ (own c.args.high c.requires.0) (splat 16)) (own c.args.low c.requires.1)).count
+
+pub returns-clause-each : goal.returns-clause-each
+returns-clause-each c k lt high low =
+    let is = zipped (λ a b. (a + b) % 256) _ _ _ _ (zipped (λ a b. (a * b) % 256) _ _ _ _ (own c.args.high c.requires.0) (splat 16)) (own c.args.low c.requires.1) in
+    omega (arith, is.lanes k lt, high, low)

@@ -1,20 +1,24 @@
-use Rattle.std.proofs.Common.{◌≡◌, ◌<◌, ℕ, Some, slice_index, length, length-set, ◌∙◌, arith}
-use Rattle.std.specs.Int.Bits.{bit_or}
-use Rattle.hex.specs.Hex.{hex_digit_value}
-use Rattle.sfi_io.proofs.Classes.{or_small_l, or_small_r}
-use Rattle.sfi_io.proofs.Reading.{set_next}
+use Rattle.std.proofs.Common.{◌∙◌, ◌+◌, ◌-◌, ◌%◌, ap, sym, arith, bit_or, slice_index, nat_lt, Fits, w8, ℕ, Some}
+use Rattle.std.proofs.lemmas.Simd.{Each1-get_or}
+use Rattle.sfi_io.proofs.Classes.{value_is}
+use Rattle.sfi_io.proofs.Lanes.{own, splat, zipped, chosen}
 use Rattle.sfi_io.proofs.hexadecimal.values_of.Goals as goal
 
-pub loop-place-preserved : goal.loop-place-preserved
-loop-place-preserved c =
-    let before = c.loop-place.invariant in
-    let value = c.value_of-value.result in
-    let room : c.loop-place.place < length c.loop-place.values = omega (arith, c.loop-place-test.true, before.0) in (
-      length-set _ _ _ ∙ before.0,
-      set_next (λ (k v : ℕ). v < 16 → hex_digit_value (slice_index c.args.digits.now k) ≡ Some v)
-          c.loop-place.values c.loop-place.place value room before.1 c.value_of-value.ensures,
-      set_next (λ (k v : ℕ). bit_or c.loop-place.bits value < 16 → v < 16)
-          c.loop-place.values c.loop-place.place value room
-          (λ k lt small. before.2 k lt (or_small_l c.loop-place.bits value small))
-          (or_small_r c.loop-place.bits value),
-    )
+abbrev wrapped : ℕ → ℕ → ℕ
+wrapped a b = (a + (256 - b)) % 256
+
+pub returns-clause-size : goal.returns-clause-size
+returns-clause-size c =
+    let bytes = own c.args.bytes c.fits-bytes.0 in
+    let figures = zipped wrapped _ _ _ _ bytes (splat 48) in
+    let letters = zipped wrapped _ _ _ _ (zipped bit_or _ _ _ _ (zipped wrapped _ _ _ _ bytes (splat 1)) (splat 32)) (splat 86) in
+    (chosen nat_lt _ _ _ _ _ _ 58 bytes figures letters).count
+
+pub returns-clause-each : goal.returns-clause-each
+returns-clause-each c k lt small =
+    let bytes = own c.args.bytes c.fits-bytes.0 in
+    let figures = zipped wrapped _ _ _ _ bytes (splat 48) in
+    let letters = zipped wrapped _ _ _ _ (zipped bit_or _ _ _ _ (zipped wrapped _ _ _ _ bytes (splat 1)) (splat 32)) (splat 86) in
+    let is = (chosen nat_lt _ _ _ _ _ _ 58 bytes figures letters).lanes k lt in
+    let fits = (Each1-get_or (Fits w8) c.args.bytes k 0 (omega (arith, lt, c.fits-bytes.0)) c.fits-bytes.1).fits in
+    value_is (slice_index c.args.bytes k) fits (omega (arith, is, small)) ∙ ap Some (sym is)
