@@ -117,7 +117,7 @@ decided_region base size least most =
       | inr more ↦ inr (not_region base size least most (inl more))
     ]
 
-decided_guard_room : (base size : ℕ) → Decided (HasGuardRoom base size)
+pub decided_guard_room : (base size : ℕ) → Decided (HasGuardRoom base size)
 decided_guard_room base size =
     elim (decided_both (decided_le 4096 base) (decided_le (base + size + 4096) 4294967296)) [
       | inl both ↦ inl (record { below = both.0; above = both.1 })

@@ -1,12 +1,11 @@
 -- What fields that pass their tests are.
-use Rattle.std.proofs.Common.{◌≡◌, List, [], ◌∷◌, ◌++◌, refl, sym, subst, arith, inl, inr, Option, None}
+use Rattle.std.proofs.Common.{◌≡◌, List, [], ◌∷◌, ◌++◌, refl, sym, subst, inl, inr, Option, None}
 use Rattle.std.specs.List.{All, AllPairs, AllByRecursion}
 use Rattle.sfi_image.specs.declared.fields.Fields.{Fields}
 use Rattle.sfi_image.specs.declared.span.Span.{Span}
 use Rattle.sfi_image.specs.declared.fault.LayoutFault.{LayoutFault}
 use Rattle.sfi_image.specs.Spelling.{Part, fields_of, AreFieldWords, AreGateWords}
-use Rattle.sfi_image.specs.Spans.{AreApart, code_span, guarded_span, spans_of}
-use Rattle.sfi_image.specs.private.Spans.{IsBounded}
+use Rattle.sfi_image.specs.Spans.{AreApart, code_span, spans_of}
 use Rattle.sfi_image.specs.Gates.{AreGates}
 use Rattle.sfi_image.specs.Parts.{IsRightPart}
 use Rattle.sfi_image.specs.Tests.{FieldTest, Passes, IsFirstFault, field_tests}
@@ -27,14 +26,6 @@ none_fails before f (t ∷ ts) h = inl (h.0, none_fails before f ts h.1)
 pub at_overlap : (before : List Span) (f : Fields) (found : Option LayoutFault) → Passes before f Code → Passes before f Data → Passes before f GuardRoom
     → Passes before f Start → Passes before f Gates → Passes before f Init → IsFirstFault before f (Overlap ∷ []) found → IsFirstFault before f field_tests found
 at_overlap before f found code guarded room start gates init last = inl (code, inl (guarded, inl (room, inl (start, inl (gates, inl (init, last))))))
-
--- spans of fields that pass hold an address and end below 2 ^ 64
-pub passed_bounded : (before : List Span) (f : Fields) → IsFirstFault before f field_tests None → AreFieldWords f → IsBounded (code_span f) × IsBounded (guarded_span f)
-passed_bounded before f passed words =
-    let all = all_pass before f field_tests passed in (
-      record { some = omega (arith, all.0.at_least); end = omega (arith, words.code_base, words.code_size) },
-      record { some = omega arith; end = omega (arith, words.data_base, words.data_size) },
-    )
 
 -- a sandbox whose fields pass and whose gates are right is right, and its spans lie apart from those before
 pub right_part : (before : List Span) (p : Part) (f : Fields) → fields_of p ≡ f → AreFieldWords f → IsFirstFault before f field_tests None

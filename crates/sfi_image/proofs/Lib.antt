@@ -19,6 +19,7 @@ pub mod Following
 pub mod Standing
 pub mod Steps
 pub mod Places
+pub mod Plain
 pub mod Ending
 pub mod Parsing
 pub mod Second

@@ -1,5 +1,5 @@
 -- Numbers and their bytes.
-use Rattle.std.proofs.Common.{◌≡◌, ℕ, ◌<◌, List, length, get_or, take, refl, arith, inl, inr}
+use Rattle.std.proofs.Common.{◌≡◌, ℕ, ◌<◌, List, length, get_or, take, arith, inl, inr}
 use Rattle.std.proofs.lemmas.Nat.{le_bytes_4}
 use Rattle.std.proofs.lemmas.List.{get_or-take, get_or_past, length-take}
 use Rattle.std.proofs.lemmas.Bool.{cases_lt}
@@ -13,10 +13,6 @@ IsBytes bytes = (i : ℕ) → get_or bytes i 0 < 256
 pub number_of_bytes : (bs : List ℕ) (n : ℕ) → length bs ≡ 4 → IsBytes bs → n ≡ little_number 4 bs → number n ≡ bs
 unfolding number
 number_of_bytes bs n len fits e = le_bytes_4 bs n len fits (omega (arith, e))
-
-pub length-number : (n : ℕ) → length (number n) ≡ 4
-unfolding number
-length-number n = refl
 
 pub IsBytes-take : (n : ℕ) (bytes : List ℕ) → IsBytes bytes → IsBytes (take n bytes)
 IsBytes-take n bytes h i =

@@ -14,7 +14,7 @@ use Rattle.sfi_image.specs.Faults.{IsFault}
 use Rattle.sfi_image.specs.Fronts.{Front, front, head, want_of, IsLess, part_of, after_parts, after_init, after_code, after_gates, HasFaultWhateverFollows}
 use Rattle.sfi_image.specs.Fronts.Front.{Empty, AfterMagic, AfterCount, InGates, InCode, InInit, Whole}
 use Rattle.sfi_image.specs.Keeping.{ReaderState, StandsFor, Leads}
-use Rattle.sfi_image.specs.private.Keeping.{next_code}
+use Rattle.sfi_image.specs.private.Keeping.{MayTake, next_code}
 use Rattle.sfi_image.proofs.Following.{same_or_not, head_push}
 use Rattle.sfi_image.proofs.Cancelling.{same_gate, same_fields, same_number}
 use Rattle.sfi_image.specs.declared.fault.ImageFault.{ImageFault}
@@ -54,41 +54,19 @@ whole_code_leads old new (InCode n ps f gs code) s h is len count begun spans_ar
 whole_code_leads old new (InInit n ps f gs code init) s h is len count begun spans_are fields_are gates i to = let k = h.kept.0 in absurd cc
 whole_code_leads old new (Whole ps) s h is len count begun spans_are fields_are gates i to = let k = h.kept.0 in absurd cc
 
-pub less_of_gate : (r : ReaderState) (x : Front) (m : ℕ) → StandsFor r x → r.next ≡ next.Gate → m < 8 → IsLess m (want_of x)
-less_of_gate r Empty m h is lt = let k = h.kept.0 in absurd cc
-less_of_gate r (AfterMagic format) m h is lt = let k = h.kept.0 in absurd cc
-less_of_gate r (AfterCount format n ps) m h is lt = let k = h.kept.0 in absurd cc
-less_of_gate r (InGates n ps f gs) m h is lt = lt
-less_of_gate r (InCode n ps f gs code) m h is lt = let k = h.kept.0 in absurd cc
-less_of_gate r (InInit n ps f gs code init) m h is lt = let k = h.kept.0 in absurd cc
-less_of_gate r (Whole ps) m h is lt = let k = h.kept.0 in absurd cc
-
-pub less_of_fields : (r : ReaderState) (x : Front) (m : ℕ) → StandsFor r x → r.next ≡ next.Fields → m < 28 → IsLess m (want_of x)
-less_of_fields r Empty m h is lt = let k = h.kept.0 in absurd cc
-less_of_fields r (AfterMagic format) m h is lt = let k = h.kept.0 in absurd cc
-less_of_fields r (AfterCount format n ps) m h is lt = lt
-less_of_fields r (InGates n ps f gs) m h is lt = let k = h.kept.0 in absurd cc
-less_of_fields r (InCode n ps f gs code) m h is lt = let k = h.kept.0 in absurd cc
-less_of_fields r (InInit n ps f gs code init) m h is lt = let k = h.kept.0 in absurd cc
-less_of_fields r (Whole ps) m h is lt = let k = h.kept.0 in absurd cc
-
-pub less_of_magic : (r : ReaderState) (x : Front) (m : ℕ) → StandsFor r x → r.next ≡ next.Magic → m < 4 → IsLess m (want_of x)
-less_of_magic r Empty m h is lt = lt
-less_of_magic r (AfterMagic format) m h is lt = let k = h.kept.0 in absurd cc
-less_of_magic r (AfterCount format n ps) m h is lt = let k = h.kept.0 in absurd cc
-less_of_magic r (InGates n ps f gs) m h is lt = let k = h.kept.0 in absurd cc
-less_of_magic r (InCode n ps f gs code) m h is lt = let k = h.kept.0 in absurd cc
-less_of_magic r (InInit n ps f gs code init) m h is lt = let k = h.kept.0 in absurd cc
-less_of_magic r (Whole ps) m h is lt = let k = h.kept.0 in absurd cc
-
-pub less_of_count : (r : ReaderState) (x : Front) (m : ℕ) → StandsFor r x → r.next ≡ next.Count → m < 4 → IsLess m (want_of x)
-less_of_count r Empty m h is lt = let k = h.kept.0 in absurd cc
-less_of_count r (AfterMagic format) m h is lt = lt
-less_of_count r (AfterCount format n ps) m h is lt = let k = h.kept.0 in absurd cc
-less_of_count r (InGates n ps f gs) m h is lt = let k = h.kept.0 in absurd cc
-less_of_count r (InCode n ps f gs code) m h is lt = let k = h.kept.0 in absurd cc
-less_of_count r (InInit n ps f gs code init) m h is lt = let k = h.kept.0 in absurd cc
-less_of_count r (Whole ps) m h is lt = let k = h.kept.0 in absurd cc
+-- fewer bytes than may be taken are fewer than come next
+pub less_taken : (r : ReaderState) (x : Front) (len m : ℕ) → StandsFor r x → MayTake r len → m < len → IsLess m (want_of x)
+less_taken r (InInit n ps f gs code init) len m h may lt =
+    let most = (rw (h.kept.0) at may).1 in
+    let read = h.kept.2 in
+    let same : r.fields.init_len ≡ f.init_len = ap (λ (y : Fields). y.init_len) h.kept.1.fields in
+    omega arith
+less_taken r (Whole ps) len m h may lt = absurd (rw (h.kept.0) at may)
+less_taken r Empty len m h may lt = let is = rw (h.kept.0) at may in omega arith
+less_taken r (AfterMagic format) len m h may lt = let is = rw (h.kept.0) at may in omega arith
+less_taken r (AfterCount format n ps) len m h may lt = let is = rw (h.kept.0) at may in omega arith
+less_taken r (InGates n ps f gs) len m h may lt = let is = rw (h.kept.0) at may in omega arith
+less_taken r (InCode n ps f gs code) len m h may lt = let is = rw (h.kept.0) at may in omega arith
 
 -- there is a gate to read
 pub at_gate : (r : ReaderState) (n : ℕ) (ps : List Part) (f : Fields) (gs : List Gate) → StandsFor r (after_gates n ps f gs) → length gs < f.gate_count → StandsFor r (InGates n ps f gs)
@@ -96,14 +74,6 @@ at_gate r n ps f gs h lt =
     elim (same_or_not (length gs) f.gate_count) [
       | inl e ↦ absurd (omega (arith, e.1))
       | inr e ↦ rw (e.0) at h
-    ]
-
--- there is none
-pub at_code : (r : ReaderState) (n : ℕ) (ps : List Part) (f : Fields) (gs : List Gate) → StandsFor r (after_gates n ps f gs) → length gs ≡ f.gate_count → StandsFor r (InCode n ps f gs [])
-at_code r n ps f gs h all =
-    elim (same_or_not (length gs) f.gate_count) [
-      | inl e ↦ rw (e.0) at h
-      | inr e ↦ absurd (e.1 all)
     ]
 
 -- a gate is taken
@@ -151,18 +121,6 @@ at_part r n ps f gs code init h all =
       | inl e ↦ rw (e.0) at h
       | inr e ↦ absurd (e.1 all)
     ]
-
-pub less_of_init : (r : ReaderState) (x : Front) (m : ℕ) → StandsFor r x → r.next ≡ next.Init → r.init_read ≡ 0 → m < r.fields.init_len → IsLess m (want_of x)
-less_of_init r Empty m h is none lt = let k = h.kept.0 in absurd cc
-less_of_init r (AfterMagic format) m h is none lt = let k = h.kept.0 in absurd cc
-less_of_init r (AfterCount format n ps) m h is none lt = let k = h.kept.0 in absurd cc
-less_of_init r (InGates n ps f gs) m h is none lt = let k = h.kept.0 in absurd cc
-less_of_init r (InCode n ps f gs code) m h is none lt = let k = h.kept.0 in absurd cc
-less_of_init r (InInit n ps f gs code init) m h is none lt =
-    let read = h.kept.2 in
-    let len : r.fields.init_len ≡ f.init_len = ap (λ (y : Fields). y.init_len) h.kept.1.fields in
-    omega arith
-less_of_init r (Whole ps) m h is none lt = let k = h.kept.0 in absurd cc
 
 -- what is read as that is read as this
 pub reads_weaker : {X : Type 0} (r : Result X ImageFault) (P Q : X → Type 0) (F G : LayoutFault → Type 0) → Reads P F r → ((v : X) → P v → Q v) → ((k : LayoutFault) → F k → G k) → Reads Q G r

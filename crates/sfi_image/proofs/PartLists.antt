@@ -11,7 +11,7 @@ use Rattle.sfi_image.specs.declared.span.Span.{Span}
 use Rattle.sfi_image.specs.declared.fault.LayoutFault.TheVariants.{Trailing}
 use Rattle.sfi_image.specs.Spelling.{Part, fields_of, fields, gate, part}
 use Rattle.sfi_image.specs.Spans.{AreApart, spans_of, spans}
-use Rattle.sfi_image.specs.private.Spans.{IsBounded}
+use Rattle.sfi_image.specs.Bounded.{IsBounded}
 use Rattle.sfi_image.specs.Parts.{IsRightPart, AreOf, AreRight}
 use Rattle.sfi_image.specs.Faults.{ArePartsFault}
 use Rattle.sfi_image.proofs.Formats.{code_at_most}

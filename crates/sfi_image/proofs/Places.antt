@@ -10,7 +10,7 @@ use Rattle.sfi_image.specs.declared.want.Next.TheVariants as next
 use Rattle.sfi_image.specs.declared.want.Want.TheVariants as wants
 use Rattle.sfi_image.specs.Spelling.{Part, fields_of}
 use Rattle.sfi_image.specs.Spans.{AreApart, spans, spans_of}
-use Rattle.sfi_image.specs.private.Spans.{IsBounded}
+use Rattle.sfi_image.specs.Bounded.{IsBounded}
 use Rattle.sfi_image.specs.Parts.{IsRightPart}
 use Rattle.sfi_image.specs.Fronts.{Front, want_of, IsLengthOf}
 use Rattle.sfi_image.specs.Fronts.Front.{Empty, AfterMagic, AfterCount, InGates, InCode, InInit, Whole}
@@ -45,7 +45,7 @@ pub at_gates : (r : ReaderState) → IsReader r → r.next ≡ next.Gate → (n 
 at_gates r (inl stopped) is = absurd cc
 at_gates r (inr x) is = by_gates r x.0 x.1 is
 
-by_code : (r : ReaderState) (x : Front) → StandsFor r x → r.next ≡ next.Code → (n : ℕ) × (ps : List Part) × (f : Fields) × (gs : List Gate) × (code : List ℕ) × StandsFor r (InCode n ps f gs code)
+pub by_code : (r : ReaderState) (x : Front) → StandsFor r x → r.next ≡ next.Code → (n : ℕ) × (ps : List Part) × (f : Fields) × (gs : List Gate) × (code : List ℕ) × StandsFor r (InCode n ps f gs code)
 by_code r Empty h is = let k = h.kept.0 in absurd cc
 by_code r (AfterMagic format) h is = let k = h.kept.0 in absurd cc
 by_code r (AfterCount format n ps) h is = let k = h.kept.0 in absurd cc

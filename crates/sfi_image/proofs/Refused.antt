@@ -16,7 +16,7 @@ use Rattle.sfi_image.specs.declared.fault.LayoutFault.{LayoutFault}
 use Rattle.sfi_image.specs.declared.fault.LayoutFault.TheVariants as faults
 use Rattle.sfi_image.specs.Spelling.{Part, fields_of, AreFieldWords, AreGateWords}
 use Rattle.sfi_image.specs.Spans.{AreApart, code_span, code_region, spans_of, spans}
-use Rattle.sfi_image.specs.private.Spans.{IsBounded}
+use Rattle.sfi_image.specs.Bounded.{IsBounded}
 use Rattle.sfi_policy.specs.Limits.{gates_most}
 use Rattle.sfi_image.specs.Gates.{AreGates}
 use Rattle.sfi_image.specs.Parts.{IsRightPart, AreRight}

@@ -72,7 +72,7 @@ count_leads old (Whole ps) s n h is e low high = let k = h.kept.0 in absurd cc
 pub apart : (a b : ℕ) → a < b → a % 16 ≡ 0 → b % 16 ≡ 0 → a + 16 ≤ b
 apart a b h e f = omega arith
 
-none_before : (at a : ℕ) (as' : List ℕ) → a < at → AreAhead at as' → is_one_of as' a ≡ false
+pub none_before : (at a : ℕ) (as' : List ℕ) → a < at → AreAhead at as' → is_one_of as' a ≡ false
 none_before at a [] h ahead = refl
 none_before at a (g ∷ more) h ahead =
     let low = ahead.0 in

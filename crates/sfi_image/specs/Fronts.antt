@@ -1,5 +1,5 @@
 -- The front of an image: as much of it as has been read, from its first byte on.
-use Rattle.std.specs.Prelude.{◌≡◌, ℕ, ◌+◌, ◌-◌, ◌%◌, ◌<◌, ◌≤◌, ◌==◌, List, [], ◌∷◌, ◌++◌, length, cond, None}
+use Rattle.std.specs.Prelude.{◌≡◌, ℕ, ◌+◌, ◌-◌, ◌*◌, ◌%◌, ◌<◌, ◌≤◌, ◌==◌, false, List, [], ◌∷◌, ◌++◌, length, cond, None}
 use Rattle.std.specs.List.{All, flat_map}
 use Rattle.sfi_policy.specs.Limits.{bundle_size, sandboxes_most}
 use Rattle.sfi_policy.specs.declared.format.Format.{Format}
@@ -91,6 +91,22 @@ want_of (InCode n ps f gs code) =
     wants.Bundle (length ps) at f.format f.code_base f.code_size (is_gate_of gs at)
 want_of (InInit n ps f gs code init) = wants.Init (f.init_len - length init)
 want_of (Whole ps) = wants.End
+
+-- so many bundles from that address on are plain: none is listed as a gate, and the region's last
+-- lies after them
+pub record ArePlain (f : Fields) (gs : List Gate) (at bundles : ℕ) : Type 0 where
+  pub before_last : at + bundle_size * bundles + bundle_size ≤ f.code_base + f.code_size
+  pub unlisted : (i : ℕ) → i < bundles → is_gate_of gs (at + bundle_size * i) ≡ false
+
+-- after the front so many plain bundles come next
+abbrev pub ArePlainNext : Front → ℕ → Type 0
+ArePlainNext (InCode n ps f gs code) bundles = ArePlain f gs (f.code_base + length code) bundles
+ArePlainNext Empty bundles = ⊥
+ArePlainNext (AfterMagic format) bundles = ⊥
+ArePlainNext (AfterCount format n ps) bundles = ⊥
+ArePlainNext (InGates n ps f gs) bundles = ⊥
+ArePlainNext (InInit n ps f gs code init) bundles = ⊥
+ArePlainNext (Whole ps) bundles = ⊥
 
 -- ---- how a front goes on: `Follows`, and its parts, which only private contracts name themselves
 

@@ -1,6 +1,7 @@
 pub mod Spelling
 pub mod InFormat
 pub mod Spans
+pub mod Bounded
 pub mod Regions
 pub mod Registers
 pub mod Gates

@@ -1,5 +1,4 @@
 -- Words that private contracts and proofs alone cite: no public statement rests on them.
 pub mod Keeping
 pub mod Outcome
-pub mod Spans
 pub mod Writing

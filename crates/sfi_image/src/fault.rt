@@ -4,6 +4,7 @@ ghost use Rattle.sfi_image.specs.declared.fault.ImageFault.TheVariants.{Memory};
 ghost use Rattle.sfi_image.specs.Faults.{number_of};
 
 use std::alloc::{AllocError, AllocFailed};
+use std::fmt;
 use thiserror::Error;
 
 /// What is wrong with the bytes: the first test that fails, in the order of reading.
@@ -11,41 +12,36 @@ use thiserror::Error;
 #[derive(Clone, Copy, Debug, PartialEq, Eq, Error)]
 pub enum LayoutFault {
     /// The first four bytes are neither `SFI1` nor `SFI2`.
-    #[error("Magic")]
     Magic,
     /// The number of sandboxes isn't from 1 to 16.
-    #[error("Count")]
     Count,
     /// What is read next isn't there whole.
-    #[error("Short")]
     Short,
     /// The code size is no power of two from 256 to the format's largest, 65536 or 1048576, or the
     /// code base no multiple of it.
-    #[error("Code")]
     Code,
     /// The data size is no power of two from 256 to 1048576, or the data base no multiple of it.
-    #[error("Data")]
     Data,
     /// The 4096 addresses below the data, or those above it, reach past the first or last address.
-    #[error("GuardRoom")]
     GuardRoom,
     /// The start is no bundle start of the code region.
-    #[error("Start")]
     Start,
     /// There are more than 64 gates, or one is no bundle start of the code region, isn't above the
     /// gate before it, or names a service above 5.
-    #[error("Gates")]
     Gates,
     /// There are more first data bytes than the data region holds.
-    #[error("Init")]
     Init,
     /// Two of the spans so far have an address in common: a code region,
     /// or a data region with its guard zones.
-    #[error("Overlap")]
     Overlap,
     /// A byte follows the last sandbox.
-    #[error("Trailing")]
     Trailing,
+}
+
+impl fmt::Display for LayoutFault {
+    fn fmt<W: fmt::Write>(&self, f: &mut fmt::Formatter<W>) -> fmt::Result {
+        fmt::Debug::fmt(self, f)
+    }
 }
 
 impl LayoutFault {

@@ -2,7 +2,7 @@
 ghost use Rattle.std.specs.Prelude.{◌≡◌, ◌≤◌, ◌↔◌, IsTrue, IfOk, IfErr, Some, None};
 ghost use Rattle.std.specs.List.{All, AllPairs};
 ghost use Rattle.sfi_image.specs.Spans.{AreApart, code_span, guarded_span};
-ghost use Rattle.sfi_image.specs.private.Spans.{IsBounded};
+ghost use Rattle.sfi_image.specs.Bounded.{IsBounded};
 ghost use Rattle.sfi_image.specs.Regions.{IsRegion, IsBundleStart, HasGuardRoom};
 ghost use Rattle.sfi_image.specs.Tests.{IsFirstFault, field_tests};
 
@@ -44,8 +44,8 @@ const GUARD: u64 = sfi_policy::GUARD as u64;
 
 const TOP: u64 = 1 << 32;
 
-// The size is a power of two within the bounds, the base a multiple of it.
-fn is_region(base: u32, size: u32, least: u32, most: u32) -> bool
+/// Tells whether the size is a power of two within the bounds, and the base a multiple of it.
+pub fn is_region(base: u32, size: u32, least: u32, most: u32) -> bool
     ensures { IsTrue result ↔ IsRegion base size least most }
 {
     if !size.is_power_of_two() || size < least || size > most {
@@ -54,8 +54,8 @@ fn is_region(base: u32, size: u32, least: u32, most: u32) -> bool
     base % size == 0
 }
 
-// There is room for a guard zone on each side of the data.
-fn has_guard_room(base: u32, size: u32) -> bool
+/// Tells whether there is room for a guard zone on each side of the data.
+pub fn has_guard_room(base: u32, size: u32) -> bool
     ensures { IsTrue result ↔ HasGuardRoom base size }
 {
     let base = u64::from(base);

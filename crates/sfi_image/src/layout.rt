@@ -4,7 +4,7 @@ ghost use Rattle.std.specs.Bool.{OnTrue, OnFalse};
 ghost use Rattle.std.specs.List.{All, AllPairs};
 ghost use Rattle.sfi_image.specs.Spelling.{view, views, fields_of, IsWord, AreFieldWords, AreGateWords};
 ghost use Rattle.sfi_image.specs.Spans.{AreApart, code_span, spans_of};
-ghost use Rattle.sfi_image.specs.private.Spans.{IsBounded};
+ghost use Rattle.sfi_image.specs.Bounded.{IsBounded};
 ghost use Rattle.sfi_image.specs.Gates.{AreGates};
 ghost use Rattle.sfi_image.specs.Parts.{IsRightPart, IsRightLayout};
 ghost use Rattle.sfi_image.specs.Writing.{HasWrongGate, HasFault, HaveFault};

@@ -1,12 +1,12 @@
 //! Reading an image's layout piece by piece, without taking memory.
-ghost use Rattle.std.specs.Prelude.{◌≡◌, ◌≢◌, ℕ, ◌+◌, ◌<◌, ◌≤◌, ◌↔◌, ◌++◌, ◌∷◌, [], List, length, map, drop, cond, ◌==◌, IsTrue, IfSome, IfNone};
+ghost use Rattle.std.specs.Prelude.{◌≡◌, ◌≢◌, ℕ, ◌+◌, ◌<◌, ◌≤◌, ◌↔◌, ◌*◌, ◌++◌, ◌∷◌, [], List, length, map, drop, cond, ◌==◌, IsTrue, IfSome, IfNone, false};
 ghost use Rattle.sfi_policy.specs.Limits.{bundle_size};
 ghost use Rattle.sfi_image.specs.declared.fault.LayoutFault.{LayoutFault};
-ghost use Rattle.sfi_image.specs.Fronts.{Front, front, want_of, IsLengthOf, HasFaultNumberWhateverFollows};
+ghost use Rattle.sfi_image.specs.Fronts.{Front, front, want_of, ArePlainNext, IsLengthOf, HasFaultNumberWhateverFollows};
 ghost use Rattle.sfi_image.specs.Fronts.Front.{Empty};
 ghost use Rattle.sfi_image.specs.Keeping.{StandsFor, IsReader, HasStopped, Leads, left};
 ghost use Rattle.sfi_image.specs.ReaderParts.{state_of};
-ghost use Rattle.sfi_image.specs.private.Keeping.{MayTake, Takes, as_want, is_first, next_part, next_init, next_code, next_gate};
+ghost use Rattle.sfi_image.specs.private.Keeping.{AreFrom, MayTake, Takes, as_want, is_first, next_part, next_init, next_code, next_gate};
 
 use crate::fault::LayoutFault;
 use crate::fields::{Fields, spans_after};
@@ -114,6 +114,17 @@ fn passed_by(addresses: &[u32], passed: usize, address: u32) -> usize
         passed + 1
     } else {
         passed
+    }
+}
+
+// Whether no address after the first `passed`, which ascend, is below `end`.
+#[inline]
+fn are_from(end: u64, addresses: &[u32], passed: usize) -> bool
+    ensures { IsTrue result ↔ AreFrom end (drop passed addresses.now) }
+{
+    match addresses.get(passed) {
+        Some(first) => end <= u64::from(*first),
+        None => true,
     }
 }
 
@@ -232,6 +243,36 @@ impl LayoutReader {
             Next::End => OtherWant::End,
             Next::Nothing => OtherWant::Nothing,
         }
+    }
+
+    /// Whether so many plain bundles come next: bundles of one code region, none of them at a gate,
+    /// and none of them the region's last.
+    #[inline]
+    pub fn wants_plain(&self, bundles: u32) -> bool
+        ensures plain { (x : Front) → StandsFor self.now x
+            → IsTrue result ↔ ArePlainNext x bundles }
+        ensures stopped { HasStopped self.now → result ≡ false }
+    {
+        let Next::Code = self.next else {
+            return false;
+        };
+        let base = u64::from(self.fields.code_base);
+        let end = base + u64::from(self.code_read) + u64::from(BUNDLE_SIZE) * u64::from(bundles);
+        if end >= base + u64::from(self.fields.code_size) {
+            return false;
+        }
+        are_from(end, self.gates.as_slice(), self.passed)
+    }
+
+    /// Takes plain bundles that come next, all at once.
+    #[inline]
+    pub fn take_plain(&mut self, bundles: &[u8])
+        requires { (x : Front) × (n : ℕ) × StandsFor self.old x × ArePlainNext x n
+            × (length bundles.now ≡ bundle_size * n) }
+        ensures goes_on { (x : Front) → StandsFor self.old x → Leads x bundles.now self.new }
+        ensures falls { left self.old ≡ left self.new + length bundles.now }
+    {
+        self.code_read += bundles.len() as u32;
     }
 
     /// Takes the bytes that come next, as many as are wanted. The answer is the number of the first

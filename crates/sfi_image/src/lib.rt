@@ -30,7 +30,7 @@ mod want;
 mod writing;
 
 pub use fault::{ImageFault, LayoutFault};
-pub use fields::Fields;
+pub use fields::{Fields, has_guard_room, is_region};
 pub use image::Image;
 pub use laws::{code_ends, front_ends, one_reading, right_in_second, some_reading, whole_bundles};
 pub use layout_reader::LayoutReader;
@@ -40,6 +40,6 @@ pub use reading::parse_image;
 pub use reserved::Reserved;
 pub use sfi_policy::Format;
 pub use source::{ByteSource, ReadFault, Reading};
-pub use span::Span;
+pub use span::{Span, are_all_apart};
 pub use want::{Next, Want};
 pub use writing::{write_image, write_image_as};

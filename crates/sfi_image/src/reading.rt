@@ -1,18 +1,18 @@
 //! Reading an image from left to right.
-ghost use Rattle.std.specs.Prelude.{◌≡◌, ℕ, ◌+◌, ◌<◌, ◌≤◌, ◌++◌, ◌∷◌, [], ◌≢◌, ◌↔◌, ◌⊎◌, List, length, IsTrue, IfOk, IfErr, IfSome, IfNone};
+ghost use Rattle.std.specs.Prelude.{◌≡◌, ℕ, ◌+◌, ◌≤◌, ◌++◌, ◌∷◌, [], ◌≢◌, ◌↔◌, ◌⊎◌, List, length, IsTrue, IfOk, IfErr, IfSome, IfNone};
 ghost use Rattle.std.specs.List.{All, AllPairs, flat_map};
 ghost use Rattle.sfi_policy.specs.Formats.{magic};
 ghost use Rattle.sfi_image.specs.declared.fault.LayoutFault.{LayoutFault};
 ghost use Rattle.sfi_image.specs.Spelling.{Part, view, views, number, fields, fields_of, gate, part, IsWord, AreFieldWords, AreGateWords};
 ghost use Rattle.sfi_image.specs.Spans.{AreApart, code_span, spans_of};
-ghost use Rattle.sfi_image.specs.private.Spans.{IsBounded};
+ghost use Rattle.sfi_image.specs.Bounded.{IsBounded};
 ghost use Rattle.sfi_image.specs.Gates.{AreGates};
 ghost use Rattle.sfi_image.specs.Parts.{IsRightPart, AreRight};
 ghost use Rattle.sfi_image.specs.Images.{IsImage};
 ghost use Rattle.sfi_image.specs.Faults.{IsBodyFault, IsPartFault, ArePartsFault, IsFault};
 ghost use Rattle.sfi_image.specs.Outcome.{IfLayout};
 ghost use Rattle.sfi_image.specs.private.Outcome.{Reads};
-ghost use Rattle.sfi_image.specs.Fronts.{Front, front, head, want_of, IsLess, part_of, after_parts, after_init, after_code, after_gates};
+ghost use Rattle.sfi_image.specs.Fronts.{Front, front, head, part_of, after_parts, after_init, after_code, after_gates};
 ghost use Rattle.sfi_image.specs.Fronts.Front.{AfterCount, InCode};
 ghost use Rattle.sfi_image.specs.Keeping.{StandsFor, Leads};
 ghost use Rattle.sfi_image.specs.private.Keeping.{MayTake};
@@ -91,9 +91,7 @@ fn take_front<'a>(
     len: usize,
     bytes: &'a [u8],
 ) -> Result<(&'a [u8], &'a [u8]), ImageFault>
-    requires length { MayTake reader.old len }
-    requires whole { (x : Front) → StandsFor reader.old x
-        → (n : ℕ) → n < len → IsLess n (want_of x) }
+    requires { MayTake reader.old len }
     ensures { (x : Front) → StandsFor reader.old x
         → Reads (λ r. (bytes.entry.now ≡ r.0.now ++ r.1.now) × (length r.0.now ≡ len)
         × Leads x r.0.now reader.new)

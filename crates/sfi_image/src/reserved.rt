@@ -11,7 +11,7 @@ use sfi_policy::BUNDLE_SIZE;
 
 /// The values of the four reserved registers while a sandbox runs. A mask keeps an address's offset
 /// in a region, and a base sets the region's own bits (Wahbe and others, 1993).
-#[derive(Clone, Copy, Debug, PartialEq, Eq)]
+#[derive(Clone, Copy)]
 pub struct Reserved {
     /// x24: the first address of the code region.
     pub code_base: u32,

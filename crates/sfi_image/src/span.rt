@@ -2,7 +2,7 @@
 ghost use Rattle.std.specs.Prelude.{◌++◌, ◌↔◌, ◌∷◌, [], IsTrue};
 ghost use Rattle.std.specs.List.{All, AllPairs};
 ghost use Rattle.sfi_image.specs.Spans.{AreApart};
-ghost use Rattle.sfi_image.specs.private.Spans.{IsBounded};
+ghost use Rattle.sfi_image.specs.Bounded.{IsBounded};
 
 /// So many addresses from a first one on. The end may be 2 ^ 32, so both numbers have 64 bits.
 #[repr(C)]
@@ -15,7 +15,7 @@ pub struct Span {
 }
 
 // No address lies in both.
-pub(crate) fn are_apart(one: Span, other: Span) -> bool
+fn are_apart(one: Span, other: Span) -> bool
     requires one { IsBounded one }
     requires other { IsBounded other }
     ensures { IsTrue result ↔ AreApart one other }
@@ -37,8 +37,8 @@ fn is_apart_from_all(one: Span, others: &[Span]) -> bool
     true
 }
 
-// Two more spans lie apart from those before and from each other.
-pub(crate) fn are_all_apart(before: &[Span], code: Span, guarded: Span) -> bool
+/// Tells whether two more spans lie apart from those before and from each other.
+pub fn are_all_apart(before: &[Span], code: Span, guarded: Span) -> bool
     requires bounded { All IsBounded before.now }
     requires code { IsBounded code }
     requires guarded { IsBounded guarded }

@@ -12,7 +12,6 @@ use Rattle.sfi_rewrite.specs.Rewriting.{AreRewritten}
 use Rattle.sfi_rewrite.specs.Laws as sources
 use Rattle.sfi_place.specs.declared.place.Place.{Place}
 use Rattle.sfi_link.specs.declared.fault.LinkFault.{LinkFault}
-use Rattle.sfi_link.specs.declared.fault.LinkFault.TheVariants as linker
 use Rattle.sfi_link.specs.declared.build_fault.BuildFault.{BuildFault}
 use Rattle.sfi_link.specs.declared.build_fault.BuildFault.TheVariants.{Text, Rewrite, Link}
 use Rattle.sfi_link.specs.Building.{IsLinkedImage, ArePlacements, IsBuild}
@@ -23,6 +22,7 @@ use Rattle.sfi_link.specs.Standing as links_stand
 use Rattle.sfi_link.specs.Standing.{ImageRunsAs}
 use Rattle.sfi_link.specs.Texts.{IsTextBuild, IsCleanImage, IsBuildFault, IsWantOfMemory, AnswersBuild, AnswersBuildFault}
 use Rattle.sfi_link.specs.private.Texts.{Builds}
+use Rattle.sfi_link.proofs.Unless.{memory_or}
 
 -- ---- what each call answered
 
@@ -35,12 +35,8 @@ rewrite_failed given text source rewriter.Memory means h = inl refl
 
 pub link_failed : (given : List Place) → (text : List ℕ) (source : List Sandbox) (placed : List Placement) (f : LinkFault) → MeansSource text source → AreRewritten source placed → link.UnlessMemory (IsLinkFault given placed) f
     → Builds given text (Err (Link f))
-link_failed given text source placed (linker.UnknownName l) means rewritten h = inr (source, placed, means, rewritten, h)
-link_failed given text source placed (linker.BranchReach l) means rewritten h = inr (source, placed, means, rewritten, h)
-link_failed given text source placed (linker.TooLarge n) means rewritten h = inr (source, placed, means, rewritten, h)
-link_failed given text source placed (linker.Place n) means rewritten h = inr (source, placed, means, rewritten, h)
-link_failed given text source placed linker.TooManySandboxes means rewritten h = inr (source, placed, means, rewritten, h)
-link_failed given text source placed linker.Memory means rewritten h = inl refl
+link_failed given text source placed f means rewritten h =
+    elim (memory_or (IsLinkFault given placed) f h) [ inl memory ↦ inl memory | inr fault ↦ inr (source, placed, means, rewritten, fault) ]
 
 -- ---- one build, one fault
 

@@ -1,4 +1,5 @@
 pub mod Written
+pub mod Unless
 pub mod Stuck
 pub mod Sizes
 pub mod CleanPlaces

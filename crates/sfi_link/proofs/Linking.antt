@@ -1,18 +1,22 @@
 -- From the code of each sandbox to the image.
-use Rattle.std.proofs.Common.{◌≡◌, ℕ, zero, suc, ◌+◌, ◌-◌, ◌*◌, ◌/◌, ◌^◌, ◌<◌, ◌≤◌, List, [], ◌∷◌, ◌++◌, length, take, get_or, replicate, Some, refl, sym, ap, ◌∙◌, subst, arith, append_assoc, length-append, inl, inr, Vec, Global}
-use Rattle.std.specs.Prelude.{max, Result, Ok, Err, IfOk}
-use Rattle.std.specs.List.{AllPairs, repeat}
+use Rattle.std.proofs.Common.{◌≡◌, ℕ, zero, suc, ◌+◌, ◌-◌, ◌*◌, ◌/◌, ◌^◌, ◌<◌, ◌≤◌, List, [], ◌∷◌, ◌++◌, length, take, drop, get_or, replicate, refl, sym, ap, ◌∙◌, subst, arith, append_assoc, append-nil, length-append, inl, inr, Vec, Global}
+use Rattle.std.specs.Prelude.{max, map, Result, Ok, Err, IfOk}
+use Rattle.std.specs.List.{All, AllPairs, repeat}
 use Rattle.std.proofs.Math.Nat.{pow-suc}
 use Rattle.std.proofs.Math.Pow.{pow_mono}
 use Rattle.std.proofs.lemmas.Bool.{cases_lt}
-use Rattle.std.proofs.lemmas.List.{take_more, length-take-le}
-use Rattle.std.proofs.lemmas.Option.{slice_get-get_or}
+use Rattle.std.proofs.lemmas.Grind.{flat_map-append}
+use Rattle.std.proofs.lemmas.List.{length-map, length-take-le, map_push}
+use Rattle.std.proofs.lemmas.List.Elements.{All-nil}
 use Rattle.sfi_policy.specs.declared.format.Format.{Format}
 use Rattle.sfi_policy.specs.declared.format.Format.TheVariants.{Sfi1, Sfi2}
 use Rattle.sfi_policy.specs.Formats.{code_most}
 use Rattle.rv_source.specs.declared.item.SourceGate.{SourceGate}
 use Rattle.rv_source.specs.Source.{Sandbox}
-use Rattle.sfi_image.specs.Spelling.{Part, spelling}
+use Rattle.sfi_image.specs.declared.span.Span.{Span}
+use Rattle.sfi_image.specs.Spelling.{Part, spelling, fields_of}
+use Rattle.sfi_image.specs.Bounded.{IsBounded}
+use Rattle.sfi_image.proofs.SpanLists.{front_apart}
 use Rattle.sfi_policy.specs.Pairs.{stub}
 use Rattle.sfi_rewrite.specs.declared.placed.PlacedName.{PlacedName}
 use Rattle.sfi_rewrite.specs.declared.placed.PlacedName.TheVariants as name
@@ -22,24 +26,24 @@ use Rattle.sfi_rewrite.specs.Placed.{IsPlacedPart, IsPlacedThere}
 use Rattle.sfi_place.specs.declared.place.Place.{Place}
 use Rattle.sfi_link.specs.declared.bases.Bases.{Bases}
 use Rattle.sfi_link.specs.declared.fault.LinkFault.{LinkFault}
-use Rattle.sfi_link.specs.declared.fault.LinkFault.TheVariants.{UnknownName, BranchReach, TooLarge, TooManySandboxes, Memory}
 use Rattle.sfi_link.specs.declared.fault.LinkFault.TheVariants as named
 use Rattle.sfi_place.specs.Places.{place_of}
 use Rattle.sfi_link.specs.Lying.{IsRightPlace, spans_at}
-use Rattle.sfi_image.specs.Spans.{AreApart, spans}
+use Rattle.sfi_image.specs.Spans.{AreApart, spans, spans_of}
 use Rattle.sfi_link.specs.Addresses.{bases_of}
 use Rattle.sfi_link.specs.Code.{AreSlots}
-use Rattle.sfi_link.specs.Linked.{c_ebreak, needed, HasRoom, IsCodeSize, gates_from, IsLinkedCode, IsLinked, AreLinkedFrom}
+use Rattle.sfi_link.specs.Linked.{c_ebreak, needed, HasRoom, IsCodeSize, gates_from, IsLinkedCode, IsLinked, AreLinkedFrom, AreLinked}
 use Rattle.sfi_link.specs.Building.{IsLinkedImage, ArePlacements, IsBuild}
 use Rattle.sfi_link.specs.Faults.{MayLie, IsSlotFault, HasPartFault, IsPartFault, IsLinkFault}
-use Rattle.sfi_link.specs.private.Near.{IsNear, AreNear, HasRoomFor, AreWritten, AreCodesFrom, AreCodes, HasFaultAfter, code_spans}
+use Rattle.sfi_link.specs.private.Near.{IsNear, AreNear, HasRoomFor, AreWritten, LiesBeside, IsCodeBeside, AreCodes}
 use Rattle.sfi_link.specs.Answers.{UnlessMemory, AnswersBytes, AnswersFault}
 use Rattle.sfi_link.specs.private.Answers.{Links}
+use Rattle.sfi_link.proofs.Unless.{memory_or, then_unless}
 use Rattle.sfi_link.proofs.Sizes.{size_even}
 use Rattle.sfi_link.proofs.Region.{length_stubs}
 use Rattle.sfi_link.proofs.Parts.{sixteens, code_at_most, well_placed}
-use Rattle.sfi_link.proofs.Pushed.{slots-append, written_length, fill_slots}
-use Rattle.sfi_link.proofs.OneLinking.{one_size, one_code, own_spans, one_linking, one_fault, never_both}
+use Rattle.sfi_link.proofs.Pushed.{slots-append, split_at, written_length, fill_slots}
+use Rattle.sfi_link.proofs.OneLinking.{one_size, own_spans, one_linking, one_fault, never_both}
 
 -- ---- the code size
 
@@ -161,22 +165,34 @@ code_room given number p at size stubs room lies is stubs_are =
     let bound = code_at_most p.format in
     record { below = omega arith; within = omega arith }
 
-slots_refused : (given : List Place) → (number : ℕ) (p : Placement) (before : List Part) (at : Bases) (size : ℕ) (stubs : List ℕ) (f : LinkFault) → at ≡ bases_of given number p → MayLie given number p before → stubs ≡ repeat (length p.gates) stub
-    → IsSlotFault at p.names (at.code + length stubs) (slots_of p.bundles) f → HasPartFault given number p before f
-slots_refused given number p before at size stubs f is sized stubs_are x =
+pub part_refused : (given : List Place) → (number : ℕ) (p : Placement) (before : List Span) (at : Bases) (stubs : List ℕ) (f : LinkFault) → at ≡ bases_of given number p → MayLie given number p before → stubs ≡ repeat (length p.gates) stub
+    → UnlessMemory (IsSlotFault at p.names (at.code + length stubs) (slots_of p.bundles)) f → UnlessMemory (HasPartFault given number p before) f
+part_refused given number p before at stubs f is may stubs_are h =
     let a : length stubs ≡ 16 * length p.gates = ap length stubs_are ∙ length_stubs (length p.gates) in
     let b = ap (λ (b : Bases). b.code) is in
     let start : at.code + length stubs ≡ (bases_of given number p).start = omega (arith, a, b) in
-    inr (inr (sized, subst (λ (c : Bases). IsSlotFault c p.names (bases_of given number p).start (slots_of p.bundles) f) is (subst (λ n. IsSlotFault at p.names n (slots_of p.bundles) f) start x)))
+    let Slots : Bases → ℕ → LinkFault → Type 0 = λ c n g. IsSlotFault c p.names n (slots_of p.bundles) g in
+    then_unless (Slots at (at.code + length stubs)) (HasPartFault given number p before)
+    (λ g x. inr (inr (may, subst (λ (c : Bases). Slots c (bases_of given number p).start g) is (subst (λ n. Slots at n g) start x)))) f h
 
-pub part_refused : (given : List Place) → (number : ℕ) (p : Placement) (before : List Part) (at : Bases) (size : ℕ) (stubs : List ℕ) (f : LinkFault) → at ≡ bases_of given number p → MayLie given number p before → stubs ≡ repeat (length p.gates) stub
-    → UnlessMemory (IsSlotFault at p.names (at.code + length stubs) (slots_of p.bundles)) f → UnlessMemory (HasPartFault given number p before) f
-part_refused given number p before at size stubs (UnknownName l) is sized stubs_are h = slots_refused given number p before at size stubs (UnknownName l) is sized stubs_are h
-part_refused given number p before at size stubs (BranchReach l) is sized stubs_are h = slots_refused given number p before at size stubs (BranchReach l) is sized stubs_are h
-part_refused given number p before at size stubs (TooLarge n) is sized stubs_are h = slots_refused given number p before at size stubs (TooLarge n) is sized stubs_are h
-part_refused given number p before at size stubs TooManySandboxes is sized stubs_are h = slots_refused given number p before at size stubs TooManySandboxes is sized stubs_are h
-part_refused given number p before at size stubs Memory is sized stubs_are h = tt
-part_refused given number p before at size stubs (named.Place n) is sized stubs_are h = slots_refused given number p before at size stubs (named.Place n) is sized stubs_are h
+-- what is known of the sandbox that lies beside those spans, or doesn't
+pub place_refused : (given : List Place) (number : ℕ) (p : Placement) (size : ℕ) (before : List Span) → IsCodeSize p.format (needed p) size
+    → (IsRightPlace p size (place_of given number) → ¬ AllPairs AreApart (before ++ spans_at p size (place_of given number))) → HasPartFault given number p before (named.Place number)
+place_refused given number p size before sized wrong = inr (inl (λ large. large size sized.has_room, not_there, refl))
+  where
+    not_there : MayLie given number p before → ⊥
+    not_there may =
+        let one : may.size ≡ size = one_size p.format (needed p) may.size size may.least sized in
+        wrong (subst (λ n. IsRightPlace p n (place_of given number)) one may.right) (subst (λ n. AllPairs AreApart (before ++ spans_at p n (place_of given number))) one may.apart)
+
+pub may_lie : (given : List Place) (number : ℕ) (p : Placement) (size : ℕ) (old new : List Span) → IsCodeSize p.format (needed p) size → LiesBeside p size (place_of given number) old new → MayLie given number p old
+may_lie given number p size old new sized lies = record { size = size; least = sized; right = lies.right; apart = subst (AllPairs AreApart) lies.spans_are lies.apart }
+
+pub code_beside : (given : List Place) (number : ℕ) (p : Placement) (c : List ℕ) (size : ℕ) (old new : List Span) → IsCodeSize p.format (needed p) size → IsLinkedCode given number p c → LiesBeside p size (place_of given number) old new
+    → IsCodeBeside given number p c old new
+code_beside given number p c size old new sized made lies =
+    let one : size ≡ length c = one_size p.format (needed p) size (length c) sized made.size in
+    record { code = made; lies = subst (λ n. LiesBeside p n (place_of given number) old new) one lies }
 
 -- ---- gates
 
@@ -189,32 +205,6 @@ gates_push address (h ∷ gs) g =
 
 -- ---- lists of sandboxes
 
-pub codes_push : (given : List Place) → (number n : ℕ) (ps : List Placement) (cs : List (List ℕ)) (p : Placement) (c : List ℕ) → n ≡ number + length ps → AreCodesFrom given number ps cs → IsLinkedCode given n p c
-    → IsRightPlace p (length c) (place_of given n) → AreCodesFrom given number (ps ++ p ∷ []) (cs ++ c ∷ [])
-codes_push given number n [] cs p c e none one lies =
-    let z : n ≡ number = omega arith in
-    subst (λ l. AreCodesFrom given number (p ∷ []) (l ++ c ∷ [])) (sym none)
-    (subst (λ m. IsLinkedCode given m p c) z one, subst (λ m. IsRightPlace p (length c) (place_of given m)) z lies, refl)
-codes_push given number n (q ∷ ps) [] p c e all one lies = absurd all
-codes_push given number n (q ∷ ps) (d ∷ cs) p c e all one lies = (all.0, all.1, codes_push given (number + 1) n ps cs p c (omega arith) all.2 one lies)
-
--- the spans of one more sandbox come after those of the others
-pub spans_push : (given : List Place) (number n : ℕ) (ps : List Placement) (cs : List (List ℕ)) (p : Placement) (c : List ℕ) → n ≡ number + length ps → AreCodesFrom given number ps cs
-    → code_spans given number (ps ++ p ∷ []) (cs ++ c ∷ []) ≡ code_spans given number ps cs ++ spans_at p (length c) (place_of given n)
-spans_push given number n [] cs p c e none =
-    let z : number ≡ n = omega arith in
-    ap (λ l. code_spans given number (p ∷ []) (l ++ c ∷ [])) none ∙ ap (λ m. spans_at p (length c) (place_of given m)) z
-spans_push given number n (q ∷ ps) [] p c e all = absurd all
-spans_push given number n (q ∷ ps) (d ∷ cs) p c e all =
-    ap (λ l. spans_at q (length d) (place_of given number) ++ l) (spans_push given (number + 1) n ps cs p c (omega arith) all.2)
-
-pub all_codes_push : (given : List Place) (ps : List Placement) (cs : List (List ℕ)) (p : Placement) (c : List ℕ) → AreCodes given ps cs → IsLinkedCode given (length ps) p c → IsRightPlace p (length c) (place_of given (length ps))
-    → AllPairs AreApart (code_spans given 0 ps cs ++ spans_at p (length c) (place_of given (length ps))) → AreCodes given (ps ++ p ∷ []) (cs ++ c ∷ [])
-all_codes_push given ps cs p c codes one lies apart = record {
-  each = codes_push given 0 (length ps) ps cs p c (omega arith) codes.each one lies;
-  apart = subst (AllPairs AreApart) (sym (spans_push given 0 (length ps) ps cs p c (omega arith) codes.each)) apart;
-}
-
 pub linked_push : (given : List Place) → (number n : ℕ) (ps : List Placement) (qs : List Part) (p : Placement) (q : Part) → n ≡ number + length ps → AreLinkedFrom given number ps qs → IsLinked given n p q → AreLinkedFrom given number (ps ++ p ∷ []) (qs ++ q ∷ [])
 linked_push given number n [] qs p q e none one =
     let z : n ≡ number = omega arith in
@@ -222,151 +212,111 @@ linked_push given number n [] qs p q e none one =
 linked_push given number n (x ∷ ps) [] p q e all one = absurd all
 linked_push given number n (x ∷ ps) (y ∷ qs) p q e all one = (all.0, linked_push given (number + 1) n ps qs p q (omega arith) all.1 one)
 
-pub codes_length : (given : List Place) → (number : ℕ) (ps : List Placement) (cs : List (List ℕ)) → AreCodesFrom given number ps cs → length cs ≡ length ps
-codes_length given number [] cs none = ap length none
-codes_length given number (p ∷ ps) [] all = absurd all
-codes_length given number (p ∷ ps) (c ∷ cs) all = ap suc (codes_length given (number + 1) ps cs all.2)
-
 pub linked_length : (given : List Place) → (number : ℕ) (ps : List Placement) (qs : List Part) → AreLinkedFrom given number ps qs → length qs ≡ length ps
 linked_length given number [] qs none = ap length none
 linked_length given number (p ∷ ps) [] all = absurd all
 linked_length given number (p ∷ ps) (q ∷ qs) all = ap suc (linked_length given (number + 1) ps qs all.1)
 
 -- the code of the sandbox at a place
-pub code_at : (given : List Place) → (number k n : ℕ) (ps : List Placement) (cs : List (List ℕ)) (p : Placement) (c : List ℕ) → n ≡ number + k → k < length ps → p ≡ get_or ps k p → c ≡ get_or cs k c → AreCodesFrom given number ps cs
+pub code_at : (given : List Place) → (number k n : ℕ) (ps : List Placement) (qs : List Part) (p : Placement) (c : List ℕ) → n ≡ number + k → k < length ps → p ≡ get_or ps k p → c ≡ get_or (map (λ q. q.code) qs) k c → AreLinkedFrom given number ps qs
     → IsLinkedCode given n p c × IsRightPlace p (length c) (place_of given n)
-code_at given number k n [] cs p c e lt ep ec all = absurd (omega arith)
-code_at given number k n (q ∷ ps) [] p c e lt ep ec all = absurd all
-code_at given number zero n (q ∷ ps) (d ∷ cs) p c e lt ep ec all =
+code_at given number k n [] qs p c e lt ep ec all = absurd (omega arith)
+code_at given number k n (r ∷ ps) [] p c e lt ep ec all = absurd all
+code_at given number zero n (r ∷ ps) (q ∷ qs) p c e lt ep ec all =
     let z : number ≡ n = omega arith in
-    let Here : ℕ → Placement → List ℕ → Type 0 = λ m r x. IsLinkedCode given m r x × IsRightPlace r (length x) (place_of given m) in
-    let here : Here number q d = (all.0, all.1) in
-    subst (λ x. Here n p x) (sym ec) (subst (λ r. Here n r d) (sym ep) (subst (λ m. Here m q d) z here))
-code_at given number (suc k) n (q ∷ ps) (d ∷ cs) p c e lt ep ec all = code_at given (number + 1) k n ps cs p c (omega arith) (omega arith) ep ec all.2
+    let Here : ℕ → Placement → List ℕ → Type 0 = λ m s x. IsLinkedCode given m s x × IsRightPlace s (length x) (place_of given m) in
+    let here : Here number r q.code = (all.0.code, all.0.lies) in
+    subst (λ x. Here n p x) (sym ec) (subst (λ s. Here n s q.code) (sym ep) (subst (λ m. Here m r q.code) z here))
+code_at given number (suc k) n (r ∷ ps) (q ∷ qs) p c e lt ep ec all = code_at given (number + 1) k n ps qs p c (omega arith) (omega arith) ep ec all.1
+
+pub codes_length : (given : List Place) → (ps : List Placement) (cs : List (List ℕ)) → AreCodes given ps cs → length cs ≡ length ps
+codes_length given ps cs codes = ap length codes.codes_are ∙ length-map codes.parts (λ q. q.code) ∙ linked_length given 0 ps codes.parts codes.linked
 
 -- the sandbox with this code
-part_of : (given : List Place) → ℕ → Placement → List ℕ → Part
-part_of given number p code = record {
-  format = p.format;
-  code_base = (bases_of given number p).code;
-  data_base = (bases_of given number p).«data»;
-  data_size = p.data_size;
-  start = (bases_of given number p).start;
-  gates = gates_from (bases_of given number p).code p.gates;
-  code = code;
-  init = p.bytes;
-}
+pub part_of : (given : List Place) (number : ℕ) (p : Placement) (code : List ℕ) → IsLinkedCode given number p code → IsRightPlace p (length code) (place_of given number) → (q : Part) × IsLinked given number p q × (q.code ≡ code)
+part_of given number p code made lies = (
+  record {
+    format = p.format;
+    code_base = (bases_of given number p).code;
+    data_base = (bases_of given number p).«data»;
+    data_size = p.data_size;
+    start = (bases_of given number p).start;
+    gates = gates_from (bases_of given number p).code p.gates;
+    code = code;
+    init = p.bytes;
+  },
+  record { format = refl; code_base = refl; data_base = refl; data_size = refl; start = refl; gates = refl; init = refl; code = made; lies = lies },
+  refl,
+)
 
-pub parts_from : (given : List Place) → (number : ℕ) (ps : List Placement) (cs : List (List ℕ)) → AreCodesFrom given number ps cs → (qs : List Part) × AreLinkedFrom given number ps qs
-unfolding part_of
-parts_from given number [] cs none = ([], refl)
-parts_from given number (p ∷ ps) [] all = absurd all
-parts_from given number (p ∷ ps) (c ∷ cs) all =
-    let rest = parts_from given (number + 1) ps cs all.2 in (
-      part_of given number p c ∷ rest.0,
-      (record { format = refl; code_base = refl; data_base = refl; data_size = refl; start = refl; gates = refl; init = refl; code = all.0; lies = all.1 }, rest.1),
-    )
+-- the code of the sandboxes so far, and their spans
+pub record AreLaid (given : List Place) (ps : List Placement) (cs : List (List ℕ)) (laid : List Span) : Type 0 where
+  pub codes : AreCodes given ps cs
+  pub laid_are : laid ≡ spans codes.parts
+  pub bounded : All IsBounded laid
 
--- what is linked has the spans of its code
-pub linked_spans : (given : List Place) (number : ℕ) (ps : List Placement) (cs : List (List ℕ)) (qs : List Part) → AreCodesFrom given number ps cs → AreLinkedFrom given number ps qs → spans qs ≡ code_spans given number ps cs
-linked_spans given number [] cs qs codes linked = ap spans linked
-linked_spans given number (p ∷ ps) [] qs codes linked = absurd codes
-linked_spans given number (p ∷ ps) (c ∷ cs) [] codes linked = absurd linked
-linked_spans given number (p ∷ ps) (c ∷ cs) (q ∷ qs) codes linked =
-    let same : q.code ≡ c = one_code given number p q.code c linked.0.code codes.0 in
-    ap (λ l. l ++ spans qs) (own_spans given number p q linked.0 ∙ ap (λ l. spans_at p (length l) (place_of given number)) same)
-    ∙ ap (λ l. spans_at p (length c) (place_of given number) ++ l) (linked_spans given (number + 1) ps cs qs codes.2 linked.1)
+pub none_laid : (given : List Place) → AreLaid given [] [] []
+none_laid given = record { codes = record { parts = []; linked = refl; codes_are = refl; apart = λ i j d lt within. absurd (omega arith) }; laid_are = refl; bounded = All-nil IsBounded }
 
-pub linked_apart : (given : List Place) (ps : List Placement) (cs : List (List ℕ)) (qs : List Part) → AreCodes given ps cs → AreLinkedFrom given 0 ps qs → AllPairs AreApart (spans qs)
-linked_apart given ps cs qs codes linked = subst (AllPairs AreApart) (sym (linked_spans given 0 ps cs qs codes.each linked)) codes.apart
+-- one more sandbox
+pub laid_more : (given : List Place) (k : ℕ) (ps : List Placement) (cs : List (List ℕ)) (p : Placement) (c : List ℕ) (old new : List Span) → k ≡ length ps → AreLaid given ps cs old → IsCodeBeside given k p c old new
+    → AreLaid given (ps ++ p ∷ []) (cs ++ c ∷ []) new
+laid_more given k ps cs p c old new e laid one =
+    let parts = laid.codes.parts in
+    let made = part_of given k p c one.code one.lies.right in
+    let q = made.0 in
+    let linked = made.1 in
+    let is = made.2 in
+    let own : spans (q ∷ []) ≡ spans_at p (length c) (place_of given k) = own_spans given k p q linked ∙ ap (λ l. spans_at p (length l) (place_of given k)) is in
+    let all : new ≡ spans (parts ++ q ∷ []) =
+    one.lies.spans_are ∙ ap (λ l. l ++ spans_at p (length c) (place_of given k)) laid.laid_are ∙ ap (λ l. spans parts ++ l) (sym own) ∙ sym (flat_map-append (λ q. spans_of (fields_of q)) parts (q ∷ [])) in
+    record {
+      codes = record {
+        parts = parts ++ q ∷ [];
+        linked = linked_push given 0 k ps parts p q (omega arith) laid.codes.linked linked;
+        codes_are = ap (λ l. l ++ c ∷ []) laid.codes.codes_are ∙ ap (λ x. map (λ q. q.code) parts ++ x ∷ []) (sym is) ∙ sym (map_push (λ q. q.code) parts q);
+        apart = subst (AllPairs AreApart) all one.lies.apart;
+      };
+      laid_are = all;
+      bounded = one.lies.bounded;
+    }
 
--- the sandboxes that have that code, and what is known of the next one
-pub record AreBefore (given : List Place) (ps : List Placement) (cs : List (List ℕ)) : Type 0 where
-  pub parts : List Part
-  pub linked : AreLinkedFrom given 0 ps parts
-  pub spans_are : spans parts ≡ code_spans given 0 ps cs
-  pub apart : AllPairs AreApart (spans parts)
+-- the first fault after sandboxes that are linked
+parts_behind : (given : List Place) (number : ℕ) (before : List Span) (front : List Placement) (parts : List Part) (rest : List Placement) (f : LinkFault) → AreLinkedFrom given number front parts → AllPairs AreApart (before ++ spans parts)
+    → IsPartFault given (number + length front) (before ++ spans parts) rest f → IsPartFault given number before (front ++ rest) f
+parts_behind given number before [] parts rest f none apart x =
+    let b : before ++ spans parts ≡ before = ap (λ l. before ++ spans l) none ∙ append-nil before in
+    let n : number + 0 ≡ number = omega arith in
+    subst (λ (l : List Span). IsPartFault given number l rest f) b (subst (λ m. IsPartFault given m (before ++ spans parts) rest f) n x)
+parts_behind given number before (p ∷ front) [] rest f linked apart x = absurd linked
+parts_behind given number before (p ∷ front) (q ∷ parts) rest f linked apart x =
+    let own = spans (q ∷ []) in
+    let same : before ++ spans (q ∷ parts) ≡ (before ++ own) ++ spans parts = sym (append_assoc before own (spans parts)) in
+    let split = subst (AllPairs AreApart) same apart in
+    let n : number + length (p ∷ front) ≡ number + 1 + length front = omega arith in
+    let moved = subst (λ (l : List Span). IsPartFault given (number + 1 + length front) l rest f) same (subst (λ m. IsPartFault given m (before ++ spans (q ∷ parts)) rest f) n x) in
+    inr (q, linked.0, front_apart (before ++ own) (spans parts) split, parts_behind given (number + 1) (before ++ own) front parts rest f linked.1 split moved)
 
-pub parts_before : (given : List Place) (ps : List Placement) (cs : List (List ℕ)) → AreCodes given ps cs → AreBefore given ps cs
-parts_before given ps cs codes =
-    let made = parts_from given 0 ps cs codes.each in
-    let same = linked_spans given 0 ps cs made.0 codes.each made.1 in
-    record { parts = made.0; linked = made.1; spans_are = same; apart = subst (AllPairs AreApart) (sym same) codes.apart }
+part_fault : (given : List Place) → (placed : List Placement) (k : ℕ) (p : Placement) (cs : List (List ℕ)) (laid : List Span) (f : LinkFault) → k < length placed → p ≡ get_or placed k p → AreLaid given (take k placed) cs laid
+    → HasPartFault given k p laid f → IsPartFault given 0 [] placed f
+part_fault given placed k p cs laid f lt is so_far h =
+    let n : k ≡ 0 + length (take k placed) = omega (arith, length-take-le k placed (omega arith)) in
+    let moved = subst (λ (l : List Span). HasPartFault given (0 + length (take k placed)) p l f) so_far.laid_are (subst (λ m. HasPartFault given m p laid f) n h) in
+    subst (λ (l : List Placement). IsPartFault given 0 [] l f) (sym (split_at placed k p lt is))
+    (parts_behind given 0 [] (take k placed) so_far.codes.parts (p ∷ drop (k + 1) placed) f so_far.codes.linked so_far.codes.apart (inl moved))
 
--- a fault of the sandbox after those
-pub fault_after_codes : (given : List Place) (ps : List Placement) (cs : List (List ℕ)) (p : Placement) (f : LinkFault) (b : AreBefore given ps cs) → HasPartFault given (length ps) p b.parts f → HasFaultAfter given ps cs p f
-fault_after_codes given ps cs p f b has = record { before = b.parts; linked = b.linked; apart = b.apart; has = has }
+pub code_refused : (given : List Place) → (placed : List Placement) (k : ℕ) (p : Placement) (cs : List (List ℕ)) (laid : List Span) (f : LinkFault) → k < length placed → p ≡ get_or placed k p → AreLaid given (take k placed) cs laid
+    → UnlessMemory (HasPartFault given k p laid) f → UnlessMemory (IsPartFault given 0 [] placed) f
+code_refused given placed k p cs laid f lt is so_far h = then_unless (HasPartFault given k p laid) (IsPartFault given 0 [] placed) (λ g x. part_fault given placed k p cs laid g lt is so_far x) f h
 
-pub place_refused : (given : List Place) (ps : List Placement) (cs : List (List ℕ)) (p : Placement) (size : ℕ) → AreCodes given ps cs → IsCodeSize p.format (needed p) size
-    → (IsRightPlace p size (place_of given (length ps)) → ¬ AllPairs AreApart (code_spans given 0 ps cs ++ spans_at p size (place_of given (length ps)))) → HasFaultAfter given ps cs p (named.Place (length ps))
-place_refused given ps cs p size codes sized wrong =
-    let b = parts_before given ps cs codes in
-    fault_after_codes given ps cs p (named.Place (length ps)) b
-    (inr (inl (λ large. large size sized.has_room, λ may. not_there b.parts b.spans_are may, refl)))
-  where
-    not_there : (parts : List Part) → spans parts ≡ code_spans given 0 ps cs → MayLie given (length ps) p parts → ⊥
-    not_there parts same may =
-        let one : may.size ≡ size = one_size p.format (needed p) may.size size may.least sized in
-        wrong (subst (λ n. IsRightPlace p n (place_of given (length ps))) one may.right)
-        (subst (λ n. AllPairs AreApart (code_spans given 0 ps cs ++ spans_at p n (place_of given (length ps)))) one
-        (subst (λ l. AllPairs AreApart (l ++ spans_at p may.size (place_of given (length ps)))) same may.apart))
+linked_apart : (given : List Place) (ps : List Placement) (cs : List (List ℕ)) (qs : List Part) → AreCodes given ps cs → AreLinkedFrom given 0 ps qs → AllPairs AreApart (spans qs)
+linked_apart given ps cs qs codes linked = subst (λ l. AllPairs AreApart (spans l)) (one_linking given 0 ps codes.parts qs codes.linked linked) codes.apart
 
-pub may_lie_after : (given : List Place) (ps : List Placement) (cs : List (List ℕ)) (p : Placement) (size : ℕ) (b : AreBefore given ps cs) → IsCodeSize p.format (needed p) size
-    → IsRightPlace p size (place_of given (length ps)) → AllPairs AreApart (code_spans given 0 ps cs ++ spans_at p size (place_of given (length ps))) → MayLie given (length ps) p b.parts
-may_lie_after given ps cs p size b sized right apart = record {
-  size = size;
-  least = sized;
-  right = right;
-  apart = subst (λ l. AllPairs AreApart (l ++ spans_at p size (place_of given (length ps)))) (sym b.spans_are) apart;
-}
+pub are_linked : (given : List Place) (ps qs : List Placement) (cs : List (List ℕ)) (parts : List Part) → ps ≡ qs → length given ≤ length ps → AreCodes given ps cs → AreLinkedFrom given 0 ps parts → AreLinked given qs parts
+are_linked given ps qs cs parts same used codes each = subst (λ (l : List Placement). AreLinked given l parts) same (record { used = used; each = each; apart = linked_apart given ps cs parts codes each })
 
-unless_after : (given : List Place) (ps : List Placement) (cs : List (List ℕ)) (p : Placement) (b : AreBefore given ps cs) (f : LinkFault) → UnlessMemory (HasPartFault given (length ps) p b.parts) f → UnlessMemory (HasFaultAfter given ps cs p) f
-unless_after given ps cs p b (UnknownName l) h = fault_after_codes given ps cs p (UnknownName l) b h
-unless_after given ps cs p b (BranchReach l) h = fault_after_codes given ps cs p (BranchReach l) b h
-unless_after given ps cs p b (TooLarge l) h = fault_after_codes given ps cs p (TooLarge l) b h
-unless_after given ps cs p b TooManySandboxes h = fault_after_codes given ps cs p TooManySandboxes b h
-unless_after given ps cs p b (named.Place l) h = fault_after_codes given ps cs p (named.Place l) b h
-unless_after given ps cs p b Memory h = tt
-
--- the slots of the sandbox after those have a fault
-pub slots_after : (given : List Place) (ps : List Placement) (cs : List (List ℕ)) (p : Placement) (at : Bases) (size : ℕ) (stubs : List ℕ) (f : LinkFault) → AreCodes given ps cs → at ≡ bases_of given (length ps) p
-    → IsCodeSize p.format (needed p) size → IsRightPlace p size (place_of given (length ps)) → AllPairs AreApart (code_spans given 0 ps cs ++ spans_at p size (place_of given (length ps)))
-    → stubs ≡ repeat (length p.gates) stub → UnlessMemory (IsSlotFault at p.names (at.code + length stubs) (slots_of p.bundles)) f → UnlessMemory (HasFaultAfter given ps cs p) f
-slots_after given ps cs p at size stubs f codes is sized right apart stubs_are h =
-    let b = parts_before given ps cs codes in
-    unless_after given ps cs p b f (part_refused given (length ps) p b.parts at size stubs f is (may_lie_after given ps cs p size b sized right apart) stubs_are h)
-
-part_fault : (given : List Place) → (placed : List Placement) (k : ℕ) (p : Placement) (cs : List (List ℕ)) (f : LinkFault) → k < length placed → p ≡ get_or placed k p → HasFaultAfter given (take k placed) cs p f → IsPartFault given placed f
-part_fault given placed k p cs f lt is h =
-    let long = length-take-le k placed (omega arith) in
-    record { number = k; part = p; there = slice_get-get_or placed k p lt ∙ ap (λ x. Some x) (sym is); before = h.before; linked = h.linked; apart = h.apart; has = subst (λ n. HasPartFault given n p h.before f) long h.has }
-
-pub code_refused : (given : List Place) → (placed : List Placement) (k : ℕ) (p : Placement) (cs : List (List ℕ)) (f : LinkFault) → k < length placed → p ≡ get_or placed k p
-    → UnlessMemory (HasFaultAfter given (take k placed) cs p) f → UnlessMemory (IsPartFault given placed) f
-code_refused given placed k p cs (UnknownName l) lt is h = part_fault given placed k p cs (UnknownName l) lt is h
-code_refused given placed k p cs (BranchReach l) lt is h = part_fault given placed k p cs (BranchReach l) lt is h
-code_refused given placed k p cs (TooLarge n) lt is h = part_fault given placed k p cs (TooLarge n) lt is h
-code_refused given placed k p cs TooManySandboxes lt is h = part_fault given placed k p cs TooManySandboxes lt is h
-code_refused given placed k p cs (named.Place n) lt is h = part_fault given placed k p cs (named.Place n) lt is h
-code_refused given placed k p cs Memory lt is h = tt
-
-pub all_refused : (given : List Place) → (placed : List Placement) (f : LinkFault) → length placed ≤ 16 → length given ≤ length placed → UnlessMemory (IsPartFault given placed) f → UnlessMemory (IsLinkFault given placed) f
-all_refused given placed (UnknownName l) few used h = inr (inr (few, used, h))
-all_refused given placed (BranchReach l) few used h = inr (inr (few, used, h))
-all_refused given placed (TooLarge n) few used h = inr (inr (few, used, h))
-all_refused given placed TooManySandboxes few used h = inr (inr (few, used, h))
-all_refused given placed (named.Place n) few used h = inr (inr (few, used, h))
-all_refused given placed Memory few used h = tt
-
-pub code_made : (given : List Place) (ps : List Placement) (cs : List (List ℕ)) (p : Placement) (c : List ℕ) (size : ℕ) → AreCodes given ps cs → IsCodeSize p.format (needed p) size → IsLinkedCode given (length ps) p c
-    → IsRightPlace p size (place_of given (length ps)) → AllPairs AreApart (code_spans given 0 ps cs ++ spans_at p size (place_of given (length ps))) → AreCodes given (ps ++ p ∷ []) (cs ++ c ∷ [])
-code_made given ps cs p c size codes sized made right apart =
-    let one : size ≡ length c = one_size p.format (needed p) size (length c) sized made.size in
-    all_codes_push given ps cs p c codes made (subst (λ n. IsRightPlace p n (place_of given (length ps))) one right)
-    (subst (λ n. AllPairs AreApart (code_spans given 0 ps cs ++ spans_at p n (place_of given (length ps)))) one apart)
-
-pub take_one_more : {X : Type 0} (xs : List X) (k : ℕ) (x : X) → k < length xs → x ≡ get_or xs k x → take (k + 1) xs ≡ take k xs ++ x ∷ []
-take_one_more xs k x lt is = take_more xs k x lt ∙ ap (λ y. take k xs ++ y ∷ []) (sym is)
+pub all_refused : (given : List Place) → (placed : List Placement) (f : LinkFault) → length placed ≤ 16 → length given ≤ length placed → UnlessMemory (IsPartFault given 0 [] placed) f → UnlessMemory (IsLinkFault given placed) f
+all_refused given placed f few used h = then_unless (IsPartFault given 0 [] placed) (IsLinkFault given placed) (λ g x. inr (inr (few, used, x))) f h
 
 -- ---- what a linker answers that way
 
@@ -381,21 +331,12 @@ never given placed bytes f image has =
 
 pub only_image : (given : List Place) → (placed : List Placement) (r : Result (Vec ℕ Global) LinkFault) → Links (λ v. IsLinkedImage given placed v.items) (IsLinkFault given placed) r → (bytes : List ℕ) → IsLinkedImage given placed bytes → AnswersBytes bytes r
 only_image given placed (Ok v) h bytes image = one_bytes given placed v.items bytes h image
-only_image given placed (Err (UnknownName l)) h bytes image = absurd (never given placed bytes (UnknownName l) image h)
-only_image given placed (Err (BranchReach l)) h bytes image = absurd (never given placed bytes (BranchReach l) image h)
-only_image given placed (Err (TooLarge n)) h bytes image = absurd (never given placed bytes (TooLarge n) image h)
-only_image given placed (Err TooManySandboxes) h bytes image = absurd (never given placed bytes TooManySandboxes image h)
-only_image given placed (Err Memory) h bytes image = refl
-only_image given placed (Err (named.Place l)) h bytes image = absurd (never given placed bytes (named.Place l) image h)
+only_image given placed (Err f) h bytes image = elim (memory_or (IsLinkFault given placed) f h) [ inl memory ↦ memory | inr fault ↦ absurd (never given placed bytes f image fault) ]
 
 pub only_fault : (given : List Place) → (placed : List Placement) (r : Result (Vec ℕ Global) LinkFault) → Links (λ v. IsLinkedImage given placed v.items) (IsLinkFault given placed) r → (f : LinkFault) → IsLinkFault given placed f → AnswersFault f r
 only_fault given placed (Ok v) h f fault = absurd (never given placed v.items f h fault)
-only_fault given placed (Err (UnknownName l)) h f fault = inl (ap (λ x. Err x) (one_fault given placed (UnknownName l) f h fault))
-only_fault given placed (Err (BranchReach l)) h f fault = inl (ap (λ x. Err x) (one_fault given placed (BranchReach l) f h fault))
-only_fault given placed (Err (TooLarge n)) h f fault = inl (ap (λ x. Err x) (one_fault given placed (TooLarge n) f h fault))
-only_fault given placed (Err TooManySandboxes) h f fault = inl (ap (λ x. Err x) (one_fault given placed TooManySandboxes f h fault))
-only_fault given placed (Err Memory) h f fault = inr refl
-only_fault given placed (Err (named.Place l)) h f fault = inl (ap (λ x. Err x) (one_fault given placed (named.Place l) f h fault))
+only_fault given placed (Err g) h f fault =
+    elim (memory_or (IsLinkFault given placed) g h) [ inl memory ↦ inr (ap (λ x. Err x) memory) | inr other ↦ inl (ap (λ x. Err x) (one_fault given placed g f other fault)) ]
 
 pub is_build : (given : List Place) → (placed : List Placement) (r : Result (Vec ℕ Global) LinkFault) → Links (λ v. IsLinkedImage given placed v.items) (IsLinkFault given placed) r → (source : List Sandbox) → ArePlacements source placed → IfOk r (λ v. IsBuild given source v.items)
 is_build given placed (Ok v) h source are = record { placed = placed; placements = are; parts = h.parts; linked = h.linked; bytes_are = h.image.bytes_are }

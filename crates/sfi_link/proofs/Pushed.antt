@@ -1,6 +1,6 @@
 -- Slots written one after another.
-use Rattle.std.proofs.Common.{◌≡◌, ℕ, zero, suc, ◌+◌, ◌<◌, ◌≤◌, List, [], ◌∷◌, ◌++◌, length, take, drop, get_or, replicate, Some, refl, sym, ap, ◌∙◌, subst, arith, append_assoc, append-nil, length-append, drop-cons, add-one}
-use Rattle.std.specs.Prelude.{ℤ, pos, slice_get}
+use Rattle.std.proofs.Common.{◌≡◌, ℕ, zero, suc, ◌+◌, ◌<◌, ◌≤◌, List, [], ◌∷◌, ◌++◌, length, take, drop, get_or, replicate, Some, refl, sym, ap, ◌∙◌, subst, arith, append_assoc, append-nil, length-append, drop-cons, add-one, inl, inr}
+use Rattle.std.specs.Prelude.{ℤ, pos}
 use Rattle.std.specs.List.{All, repeat}
 use Rattle.std.specs.Int.{w32, to_le_bytes}
 use Rattle.std.proofs.lemmas.Grind.{flat_map-append}
@@ -20,14 +20,13 @@ use Rattle.sfi_rewrite.specs.declared.placed.PlacedName.{PlacedName}
 use Rattle.sfi_rewrite.specs.Slots.{slot_size, size_of, slots_of}
 use Rattle.sfi_link.specs.declared.bases.Bases.{Bases}
 use Rattle.sfi_link.specs.declared.fault.LinkFault.{LinkFault}
-use Rattle.sfi_link.specs.declared.fault.LinkFault.TheVariants.{UnknownName, BranchReach, TooLarge, TooManySandboxes, Memory}
-use Rattle.sfi_link.specs.declared.fault.LinkFault.TheVariants as fault
 use Rattle.sfi_link.specs.Addresses.{address_at}
 use Rattle.sfi_link.specs.Code.{AreSlots, made_of}
 use Rattle.sfi_link.specs.Linked.{c_ebreak}
 use Rattle.sfi_link.specs.private.Near.{HasRoomFor, IsPushed, AreWritten}
 use Rattle.sfi_link.specs.Faults.{HasSlotFault, IsSlotFault}
 use Rattle.sfi_link.specs.Answers.{UnlessMemory}
+use Rattle.sfi_link.proofs.Unless.{then_unless}
 use Rattle.sfi_link.proofs.Sizes.{size_cons, size_of-append}
 use Rattle.sfi_link.proofs.Parts.{slots_length}
 
@@ -85,57 +84,32 @@ one_written at names s old new (bytes, e, one) = record { bytes = bytes; appende
 
 -- ---- the first fault after what is written
 
-get_after : {X : Type 0} (xs ys : List X) (k : ℕ) → slice_get (xs ++ ys) (length xs + k) ≡ slice_get ys k
-get_after [] ys k = ap (slice_get ys) (let e : 0 + k ≡ k = omega arith in e)
-get_after (x ∷ xs) ys k = ap (slice_get (x ∷ (xs ++ ys))) (let e : suc (length xs) + k ≡ suc (length xs + k) = omega arith in e) ∙ get_after xs ys k
+fault_before : (at : Bases) (names : List PlacedName) (here : ℕ) (ys zs : List Slot) (f : LinkFault) → IsSlotFault at names here ys f → IsSlotFault at names here (ys ++ zs) f
+fault_before at names here [] zs f x = absurd x
+fault_before at names here (s ∷ ys) zs f (inl h) = inl h
+fault_before at names here (s ∷ ys) zs f (inr (bytes, one, later)) = inr (bytes, one, fault_before at names (here + slot_size s) ys zs f later)
 
-take_after : {X : Type 0} (xs ys : List X) (k : ℕ) → take (length xs + k) (xs ++ ys) ≡ xs ++ take k ys
-take_after [] ys k = ap (λ n. take n ys) (let e : 0 + k ≡ k = omega arith in e)
-take_after (x ∷ xs) ys k = ap (λ n. take n (x ∷ (xs ++ ys))) (let e : suc (length xs) + k ≡ suc (length xs + k) = omega arith in e) ∙ ap (λ l. x ∷ l) (take_after xs ys k)
-
-get_append : {X : Type 0} (xs ys : List X) (k : ℕ) (x : X) → slice_get xs k ≡ Some x → slice_get (xs ++ ys) k ≡ Some x
-get_append [] ys zero x e = cc
-get_append [] ys (suc k) x e = cc
-get_append (y ∷ xs) ys zero x e = e
-get_append (y ∷ xs) ys (suc k) x e = get_append xs ys k x e
-
-take_within : {X : Type 0} (xs ys : List X) (k : ℕ) (x : X) → slice_get xs k ≡ Some x → take k (xs ++ ys) ≡ take k xs
-take_within [] ys zero x e = cc
-take_within [] ys (suc k) x e = cc
-take_within (y ∷ xs) ys zero x e = refl
-take_within (y ∷ xs) ys (suc k) x e = ap (λ l. y ∷ l) (take_within xs ys k x e)
+fault_behind : (at : Bases) (names : List PlacedName) (here : ℕ) (xs ys : List Slot) (bytes : List ℕ) (f : LinkFault) → AreSlots at names here xs bytes → IsSlotFault at names (here + size_of xs) ys f → IsSlotFault at names here (xs ++ ys) f
+fault_behind at names here [] ys bytes f none x = let e : here + size_of [] ≡ here = omega arith in subst (λ n. IsSlotFault at names n ys f) e x
+fault_behind at names here (s ∷ xs) ys bytes f (front, rest, one, others, e) x =
+    let z = size_cons s xs in
+    let n : here + size_of (s ∷ xs) ≡ here + slot_size s + size_of xs = omega arith in
+    inr (front, one, fault_behind at names (here + slot_size s) xs ys rest f others (subst (λ m. IsSlotFault at names m ys f) n x))
 
 pub fault_after : (at : Bases) (names : List PlacedName) (xs ys zs : List Slot) (old now : List ℕ) (f : LinkFault) → AreWritten at names xs old now → IsSlotFault at names (at.code + length now) ys f
     → IsSlotFault at names (at.code + length old) (xs ++ (ys ++ zs)) f
 fault_after at names xs ys zs old now f w x =
     let long = written_length at names xs old now w in
     let n : at.code + length now ≡ at.code + length old + size_of xs = omega arith in
-    let front : take (length xs + x.index) (xs ++ (ys ++ zs)) ≡ xs ++ take x.index ys = take_after xs (ys ++ zs) x.index ∙ ap (λ l. xs ++ l) (take_within ys zs x.index x.slot x.there) in
-    let sized = size_of-append xs (take x.index ys) in
-    let here : at.code + length now + size_of (take x.index ys) ≡ at.code + length old + size_of (xs ++ take x.index ys) = omega arith in
-    record {
-      index = length xs + x.index;
-      slot = x.slot;
-      there = get_after xs (ys ++ zs) x.index ∙ get_append ys zs x.index x.slot x.there;
-      before = w.bytes ++ x.before;
-      linked =
-          subst (λ l. AreSlots at names (at.code + length old) l (w.bytes ++ x.before)) (sym front)
-          (slots-append at names (at.code + length old) xs (take x.index ys) w.bytes x.before w.spelled (subst (λ m. AreSlots at names m (take x.index ys) x.before) n x.linked));
-      has = subst (λ l. HasSlotFault at names (at.code + length old + size_of l) x.slot f) (sym front) (subst (λ m. HasSlotFault at names m x.slot f) here x.has);
-    }
-
-one_fault : (at : Bases) (names : List PlacedName) (here : ℕ) (s : Slot) (f : LinkFault) → HasSlotFault at names here s f → IsSlotFault at names here (s ∷ []) f
-one_fault at names here s f h =
-    let e : here ≡ here + size_of [] = omega arith in
-    record { index = 0; slot = s; there = refl; before = []; linked = refl; has = subst (λ m. HasSlotFault at names m s f) e h }
+    fault_behind at names (at.code + length old) xs (ys ++ zs) w.bytes f w.spelled (fault_before at names (at.code + length old + size_of xs) ys zs f (subst (λ m. IsSlotFault at names m ys f) n x))
 
 -- ---- of slots
 
-split_at : {X : Type 0} (xs : List X) (k : ℕ) (x : X) → k < length xs → x ≡ get_or xs k x → xs ≡ take k xs ++ (x ∷ drop (k + 1) xs)
+pub split_at : {X : Type 0} (xs : List X) (k : ℕ) (x : X) → k < length xs → x ≡ get_or xs k x → xs ≡ take k xs ++ (x ∷ drop (k + 1) xs)
 split_at xs k x lt is =
     sym (take-append-drop k xs) ∙ ap (λ l. take k xs ++ l) (drop-cons xs k x lt ∙ ap (λ n. get_or xs k x ∷ drop n xs) (sym (add-one k)) ∙ ap (λ y. y ∷ drop (k + 1) xs) (sym is))
 
-take_one_more : {X : Type 0} (xs : List X) (k : ℕ) (x : X) → k < length xs → x ≡ get_or xs k x → take (k + 1) xs ≡ take k xs ++ x ∷ []
+pub take_one_more : {X : Type 0} (xs : List X) (k : ℕ) (x : X) → k < length xs → x ≡ get_or xs k x → take (k + 1) xs ≡ take k xs ++ x ∷ []
 take_one_more xs k x lt is = take_more xs k x lt ∙ ap (λ y. take k xs ++ y ∷ []) (sym is)
 
 pub slot_room : (at : Bases) (names : List PlacedName) (slots : List Slot) (k : ℕ) (old now : List ℕ) → AreWritten at names (take k slots) old now → HasRoomFor at (length old) (size_of slots) → HasRoomFor at (length now) 0
@@ -155,16 +129,12 @@ slot_fault : (at : Bases) (names : List PlacedName) (slots : List Slot) (k : ℕ
     → AreWritten at names (take k slots) old now → HasSlotFault at names (at.code + length now) s f → IsSlotFault at names (at.code + length old) slots f
 slot_fault at names slots k s old now f lt is w h =
     subst (λ l. IsSlotFault at names (at.code + length old) l f) (sym (split_at slots k s lt is))
-    (fault_after at names (take k slots) (s ∷ []) (drop (k + 1) slots) old now f w (one_fault at names (at.code + length now) s f h))
+    (fault_after at names (take k slots) (s ∷ []) (drop (k + 1) slots) old now f w (inl h))
 
 pub slot_refused : (at : Bases) (names : List PlacedName) (slots : List Slot) (k : ℕ) (s : Slot) (old now : List ℕ) (f : LinkFault) → k < length slots → s ≡ get_or slots k s
     → AreWritten at names (take k slots) old now → UnlessMemory (HasSlotFault at names (at.code + length now) s) f → UnlessMemory (IsSlotFault at names (at.code + length old) slots) f
-slot_refused at names slots k s old now (UnknownName l) lt is w h = slot_fault at names slots k s old now (UnknownName l) lt is w h
-slot_refused at names slots k s old now (BranchReach l) lt is w h = slot_fault at names slots k s old now (BranchReach l) lt is w h
-slot_refused at names slots k s old now (TooLarge n) lt is w h = absurd h
-slot_refused at names slots k s old now TooManySandboxes lt is w h = absurd h
-slot_refused at names slots k s old now (fault.Place n) lt is w h = absurd h
-slot_refused at names slots k s old now Memory lt is w h = tt
+slot_refused at names slots k s old now f lt is w h =
+    then_unless (HasSlotFault at names (at.code + length now) s) (IsSlotFault at names (at.code + length old) slots) (λ g x. slot_fault at names slots k s old now g lt is w x) f h
 
 -- ---- of bundles
 
@@ -214,12 +184,8 @@ bundle_fault at names bundles k b old now f lt is w h =
 
 pub bundle_refused : (at : Bases) (names : List PlacedName) (bundles : List (List Slot)) (k : ℕ) (b : List Slot) (old now : List ℕ) (f : LinkFault) → k < length bundles → b ≡ get_or bundles k b
     → AreWritten at names (slots_of (take k bundles)) old now → UnlessMemory (IsSlotFault at names (at.code + length now) b) f → UnlessMemory (IsSlotFault at names (at.code + length old) (slots_of bundles)) f
-bundle_refused at names bundles k b old now (UnknownName l) lt is w h = bundle_fault at names bundles k b old now (UnknownName l) lt is w h
-bundle_refused at names bundles k b old now (BranchReach l) lt is w h = bundle_fault at names bundles k b old now (BranchReach l) lt is w h
-bundle_refused at names bundles k b old now (TooLarge n) lt is w h = bundle_fault at names bundles k b old now (TooLarge n) lt is w h
-bundle_refused at names bundles k b old now TooManySandboxes lt is w h = bundle_fault at names bundles k b old now TooManySandboxes lt is w h
-bundle_refused at names bundles k b old now (fault.Place n) lt is w h = bundle_fault at names bundles k b old now (fault.Place n) lt is w h
-bundle_refused at names bundles k b old now Memory lt is w h = tt
+bundle_refused at names bundles k b old now f lt is w h =
+    then_unless (IsSlotFault at names (at.code + length now) b) (IsSlotFault at names (at.code + length old) (slots_of bundles)) (λ g x. bundle_fault at names bundles k b old now g lt is w x) f h
 
 -- ---- copies
 

@@ -1,14 +1,13 @@
 -- What is placed has an image, or a fault.
-use Rattle.std.proofs.Common.{◌≡◌, ℕ, zero, suc, ◌+◌, ◌-◌, ◌/◌, ◌^◌, ◌<◌, ◌≤◌, List, [], ◌∷◌, ◌++◌, length, take, get_or, Option, Some, None, refl, sym, ap, ◌∙◌, subst, arith, inl, inr, ◌⊎◌}
+use Rattle.std.proofs.Common.{◌≡◌, ℕ, zero, suc, ◌+◌, ◌-◌, ◌/◌, ◌^◌, ◌<◌, ◌≤◌, List, [], ◌∷◌, ◌++◌, length, Option, Some, None, refl, sym, ap, ◌∙◌, subst, arith, inl, inr, ◌⊎◌}
 use Rattle.std.specs.Prelude.{ℤ, pos, negsuc, ◌-ℤ◌}
 use Rattle.std.specs.List.{All, AllPairs, repeat}
 use Rattle.std.specs.Int.{w16, w32, to_le_bytes}
 use Rattle.std.proofs.Math.Nat.{pow-suc}
 use Rattle.std.proofs.lemmas.Bool.{cases_lt, cases_eq}
 use Rattle.std.proofs.lemmas.Int.{ints}
-use Rattle.std.proofs.lemmas.List.{take_all, length-take-le}
+use Rattle.std.proofs.lemmas.List.{append-nil, append_assoc}
 use Rattle.std.proofs.lemmas.List.Elements.{All-head, All-tail}
-use Rattle.std.proofs.lemmas.Option.{slice_get-get_or}
 use Rattle.rv_word.specs.declared.instr.Instr.{Instr}
 use Rattle.rv_word.specs.declared.instr.Instr.TheVariants.{Op, OpImm, Load, Store, Branch, Jal, Jalr, Lui, Auipc, Fence, Ecall, Ebreak}
 use Rattle.rv_word.specs.declared.instr.ImmOp.TheVariants.{Addi}
@@ -17,7 +16,6 @@ use Rattle.rv_word.specs.Spelling.{InRange, IsReg, IsBranchOffset, IsJumpOffset,
 use Rattle.rv_comp.specs.Table.{expansion}
 use Rattle.rv_comp.specs.Halfwords.{halfword_of}
 use Rattle.sfi_policy.specs.declared.format.Format.{Format}
-use Rattle.sfi_policy.specs.declared.format.Format.TheVariants.{Sfi1}
 use Rattle.sfi_policy.specs.Formats.{code_most}
 use Rattle.rv_source.specs.Halves.{upper, lower}
 use Rattle.sfi_image.specs.Spelling as image
@@ -25,7 +23,7 @@ use Rattle.sfi_policy.specs.Pairs.{stub}
 use Rattle.sfi_rewrite.specs.declared.slot.Slot.{Slot}
 use Rattle.sfi_rewrite.specs.declared.slot.Slot.TheVariants.{Wide, Short, Jump, Upper, Lower}
 use Rattle.sfi_rewrite.specs.declared.placed.PlacedName.{PlacedName}
-use Rattle.sfi_rewrite.specs.Slots.{slot_size, size_of, slots_of}
+use Rattle.sfi_rewrite.specs.Slots.{slot_size, slots_of}
 use Rattle.sfi_rewrite.specs.Placement.{Placement}
 use Rattle.sfi_rewrite.specs.Placed.{Encodes, IsPlacedPart}
 use Rattle.sfi_link.specs.declared.bases.Bases.{Bases}
@@ -33,26 +31,24 @@ use Rattle.sfi_link.specs.declared.fault.LinkFault.{LinkFault}
 use Rattle.sfi_link.specs.declared.fault.LinkFault.TheVariants.{UnknownName, BranchReach, TooLarge, TooManySandboxes}
 use Rattle.sfi_link.specs.declared.fault.LinkFault.TheVariants as named
 use Rattle.sfi_policy.specs.Limits.{data_most}
-use Rattle.sfi_image.specs.Regions.{HasGuardRoom}
 use Rattle.sfi_place.specs.declared.place.Place.{Place}
-use Rattle.sfi_image.specs.Spans.{AreApart, spans, spans_of}
-use Rattle.sfi_image.proofs.Deciding.{Decided, decided_both, decided_le, decided_lt, decided_pairs, decided_apart, decided_region}
+use Rattle.sfi_image.specs.declared.span.Span.{Span}
+use Rattle.sfi_image.specs.Spans.{AreApart, spans}
+use Rattle.sfi_image.proofs.Deciding.{Decided, decided_both, decided_lt, decided_pairs, decided_apart, decided_region, decided_guard_room}
 use Rattle.sfi_place.specs.Places.{place_of}
 use Rattle.sfi_link.specs.Lying.{IsRightPlace, spans_at}
-use Rattle.std.proofs.lemmas.Grind.{flat_map-append}
 use Rattle.sfi_link.proofs.OneLinking.{one_size, own_spans}
 use Rattle.sfi_link.specs.Addresses.{bases_of, address_at, target_at, with_offset}
 use Rattle.sfi_link.specs.Code.{made_of, IsSlot, AreSlots}
-use Rattle.sfi_link.specs.Linked.{needed, HasRoom, IsCodeSize, gates_from, IsLinkedCode, IsLinked, AreLinkedFrom, AreLinked}
+use Rattle.sfi_link.specs.Linked.{needed, HasRoom, IsCodeSize, IsLinkedCode, IsLinked, AreLinkedFrom, AreLinked}
 use Rattle.sfi_link.specs.private.Near.{AreWritten}
 use Rattle.sfi_link.specs.Faults.{MayLie, HasSlotFault, IsSlotFault, HasPartFault, IsPartFault}
 use Rattle.sfi_link.specs.Laws.{LinkedIsClean, LinkedIsRight, SomeLinking}
-use Rattle.sfi_link.proofs.Sizes.{size_cons}
 use Rattle.sfi_link.proofs.Region.{length_stubs}
 use Rattle.sfi_link.proofs.Parts.{code_at_most}
 use Rattle.sfi_link.proofs.LinkedClean.{all_are_clean}
 use Rattle.sfi_link.proofs.Pushed.{low_in_range}
-use Rattle.sfi_link.proofs.Linking.{small_size, least_size, no_room, linked_code, pair, linked_push, take_one_more}
+use Rattle.sfi_link.proofs.Linking.{small_size, least_size, no_room, linked_code, pair, part_of}
 
 -- ---- offsets
 
@@ -67,16 +63,11 @@ jump_within : (z : ℤ) → IsBetween (minus 1048576) (pos 1048574) z ⊎ (IsBet
 jump_within (pos n) = elim (cases_lt 1048574 n) [ inl far ↦ inr (λ h. let a = h.1 in omega (arith, ints)) | inr near ↦ inl (omega (arith, ints), omega (arith, ints)) ]
 jump_within (negsuc n) = elim (cases_lt 1048575 n) [ inl far ↦ inr (λ h. let a = h.0 in omega (arith, ints)) | inr near ↦ inl (omega (arith, ints), omega (arith, ints)) ]
 
-both_or_not : {P Q : Type 0} → P ⊎ (P → ⊥) → Q ⊎ (Q → ⊥) → (P × Q) ⊎ (P × Q → ⊥)
-both_or_not (inl p) (inl q) = inl (p, q)
-both_or_not (inl p) (inr q) = inr (λ both. q both.1)
-both_or_not (inr p) q = inr (λ both. p both.0)
-
 branch_or_not : (z : ℤ) → IsBranchOffset z ⊎ (IsBranchOffset z → ⊥)
-branch_or_not z = both_or_not (branch_within z) (decided_even z)
+branch_or_not z = decided_both (branch_within z) (decided_even z)
 
 jump_or_not : (z : ℤ) → IsJumpOffset z ⊎ (IsJumpOffset z → ⊥)
-jump_or_not z = both_or_not (jump_within z) (decided_even z)
+jump_or_not z = decided_both (jump_within z) (decided_even z)
 
 reaches_or_not : (z : ℤ) (i : Instr) → InRange i → InRange (with_offset z i) ⊎ (InRange (with_offset z i) → ⊥)
 unfolding InRange
@@ -104,13 +95,13 @@ unfolding InRange
 high_in_range rd a reg = (reg, omega arith)
 
 jump_slot : (at : Bases) (names : List PlacedName) (here : ℕ) (i : Instr) (name line : ℕ) (to : Option ℕ) → target_at at names name ≡ to → InRange i → SlotOrFault at names here (Jump i name line)
-jump_slot at names here i name line None is h = inr (UnknownName line, (is, refl))
+jump_slot at names here i name line None is h = inr (UnknownName line, inl (is, refl))
 jump_slot at names here i name line (Some to) is h =
     let made = with_offset (pos to -ℤ pos here) i in
     elim (reaches_or_not (pos to -ℤ pos here) i h) [
       | inl near ↦
           inl (to_le_bytes w32 (spelling made), record { instr = made; resolves = ap (made_of (λ a. with_offset (pos a -ℤ pos here) i)) is; spelled = (near, refl) })
-      | inr far ↦ inr (BranchReach line, (to, is, far, refl))
+      | inr far ↦ inr (BranchReach line, inr (to, is, far, refl))
     ]
 
 upper_slot : (at : Bases) (names : List PlacedName) (here rd name line : ℕ) (address : Option ℕ) → address_at at names name ≡ address → IsReg rd → SlotOrFault at names here (Upper rd name line)
@@ -146,33 +137,14 @@ slot_or_fault at names here (Lower rd name line) h = lower_slot at names here rd
 
 -- ---- slots
 
-first_fault : (at : Bases) (names : List PlacedName) (here : ℕ) (s : Slot) (slots : List Slot) (f : LinkFault) → HasSlotFault at names here s f → IsSlotFault at names here (s ∷ slots) f
-first_fault at names here s slots f h =
-    let e : here ≡ here + size_of [] = omega arith in
-    record { index = 0; slot = s; there = refl; before = []; linked = refl; has = subst (λ n. HasSlotFault at names n s f) e h }
-
-later_fault : (at : Bases) (names : List PlacedName) (here : ℕ) (s : Slot) (slots : List Slot) (bytes : List ℕ) (f : LinkFault) → IsSlot at names here s bytes
-    → IsSlotFault at names (here + slot_size s) slots f → IsSlotFault at names here (s ∷ slots) f
-later_fault at names here s slots bytes f one x =
-    let e = size_cons s (take x.index slots) in
-    let n : here + slot_size s + size_of (take x.index slots) ≡ here + size_of (s ∷ take x.index slots) = omega arith in
-    record {
-      index = suc x.index;
-      slot = x.slot;
-      there = x.there;
-      before = bytes ++ x.before;
-      linked = (bytes, x.before, one, x.linked, refl);
-      has = subst (λ m. HasSlotFault at names m x.slot f) n x.has;
-    }
-
 slots_or_fault : (at : Bases) (names : List PlacedName) (here : ℕ) (slots : List Slot) → All Encodes slots
     → ((bytes : List ℕ) × AreSlots at names here slots bytes) ⊎ ((f : LinkFault) × IsSlotFault at names here slots f)
 slots_or_fault at names here [] all = inl ([], refl)
 slots_or_fault at names here (s ∷ slots) all =
     elim (slot_or_fault at names here s (All-head Encodes s slots all)) [
-      | inr wrong ↦ inr (wrong.0, first_fault at names here s slots wrong.0 wrong.1)
+      | inr wrong ↦ inr (wrong.0, inl wrong.1)
       | inl one ↦ elim (slots_or_fault at names (here + slot_size s) slots (All-tail Encodes s slots all)) [
-        | inr wrong ↦ inr (wrong.0, later_fault at names here s slots one.0 wrong.0 one.1 wrong.1)
+        | inr wrong ↦ inr (wrong.0, inr (one.0, one.1, wrong.1))
         | inl rest ↦ inl (one.0 ++ rest.0, (one.0, rest.0, one.1, rest.1, refl))
       ]
     ]
@@ -228,37 +200,9 @@ part_made given number p size bytes sized lies slots =
     let fill = (size - length now) / 2 in
     let code = now ++ repeat fill pair in
     let linked : IsLinkedCode given number p code = linked_code given number p at size fill stubs now code refl sized refl written refl refl in
-    let whole : length code ≡ size = one_size p.format (needed p) (length code) size linked.size sized in (
-      record {
-        format = p.format;
-        code_base = at.code;
-        data_base = at.«data»;
-        data_size = p.data_size;
-        start = at.start;
-        gates = gates_from at.code p.gates;
-        code = code;
-        init = p.bytes;
-      },
-      record {
-        format = refl;
-        code_base = refl;
-        data_base = refl;
-        data_size = refl;
-        start = refl;
-        gates = refl;
-        init = refl;
-        code = linked;
-        lies = subst (λ n. IsRightPlace p n (place_of given number)) (sym whole) lies;
-      },
-      whole,
-    )
-
-decided_guard_room : (base size : ℕ) → Decided (HasGuardRoom base size)
-decided_guard_room base size =
-    elim (decided_both (decided_le 4096 base) (decided_le (base + size + 4096) 4294967296)) [
-      | inl both ↦ inl (record { below = both.0; above = both.1 })
-      | inr not ↦ inr (λ room. not (room.below, room.above))
-    ]
+    let whole : length code ≡ size = one_size p.format (needed p) (length code) size linked.size sized in
+    let made = part_of given number p code linked (subst (λ n. IsRightPlace p n (place_of given number)) (sym whole) lies) in
+    (made.0, made.1, ap length made.2 ∙ whole)
 
 right_place : (p : Placement) (size : ℕ) (place : Place) → Decided (IsRightPlace p size place)
 right_place p size place =
@@ -268,28 +212,28 @@ right_place p size place =
     ]
 
 -- with its code of that size, the sandbox may lie at its place, or not
-lies_or_not : (given : List Place) (number : ℕ) (p : Placement) (before : List image.Part) (size : ℕ) → IsCodeSize p.format (needed p) size
-    → (IsRightPlace p size (place_of given number) × AllPairs AreApart (spans before ++ spans_at p size (place_of given number))) ⊎ (MayLie given number p before → ⊥)
+lies_or_not : (given : List Place) (number : ℕ) (p : Placement) (before : List Span) (size : ℕ) → IsCodeSize p.format (needed p) size
+    → (IsRightPlace p size (place_of given number) × AllPairs AreApart (before ++ spans_at p size (place_of given number))) ⊎ (MayLie given number p before → ⊥)
 lies_or_not given number p before size sized =
-    elim (decided_both (right_place p size (place_of given number)) (decided_pairs AreApart decided_apart (spans before ++ spans_at p size (place_of given number)))) [
+    elim (decided_both (right_place p size (place_of given number)) (decided_pairs AreApart decided_apart (before ++ spans_at p size (place_of given number)))) [
       | inl both ↦ inl both
       | inr not ↦ inr (λ may. let one : may.size ≡ size = one_size p.format (needed p) may.size size may.least sized in
-          not (subst (λ n. IsRightPlace p n (place_of given number)) one may.right, subst (λ n. AllPairs AreApart (spans before ++ spans_at p n (place_of given number))) one may.apart))
+          not (subst (λ n. IsRightPlace p n (place_of given number)) one may.right, subst (λ n. AllPairs AreApart (before ++ spans_at p n (place_of given number))) one may.apart))
     ]
 
 -- the sandbox is linked after those before, with no spans that meet, or has a fault
-record IsMade (given : List Place) (number : ℕ) (p : Placement) (before : List image.Part) : Type 0 where
+record IsMade (given : List Place) (number : ℕ) (p : Placement) (before : List Span) : Type 0 where
   part : image.Part
   linked : IsLinked given number p part
-  apart : AllPairs AreApart (spans before ++ spans (part ∷ []))
+  apart : AllPairs AreApart (before ++ spans (part ∷ []))
 
-made_apart : (given : List Place) (number : ℕ) (p : Placement) (before : List image.Part) (q : image.Part) (size : ℕ) → IsLinked given number p q → length q.code ≡ size
-    → AllPairs AreApart (spans before ++ spans_at p size (place_of given number)) → IsMade given number p before
+made_apart : (given : List Place) (number : ℕ) (p : Placement) (before : List Span) (q : image.Part) (size : ℕ) → IsLinked given number p q → length q.code ≡ size
+    → AllPairs AreApart (before ++ spans_at p size (place_of given number)) → IsMade given number p before
 made_apart given number p before q size linked long apart =
     let own : spans (q ∷ []) ≡ spans_at p size (place_of given number) = own_spans given number p q linked ∙ ap (λ n. spans_at p n (place_of given number)) long in
-    record { part = q; linked = linked; apart = subst (λ l. AllPairs AreApart (spans before ++ l)) (sym own) apart }
+    record { part = q; linked = linked; apart = subst (λ l. AllPairs AreApart (before ++ l)) (sym own) apart }
 
-part_or_fault : (given : List Place) (number : ℕ) (p : Placement) (before : List image.Part) → IsPlacedPart p → IsMade given number p before ⊎ ((f : LinkFault) × HasPartFault given number p before f)
+part_or_fault : (given : List Place) (number : ℕ) (p : Placement) (before : List Span) → IsPlacedPart p → IsMade given number p before ⊎ ((f : LinkFault) × HasPartFault given number p before f)
 part_or_fault given number p before right =
     elim (size_or_none p.format (needed p)) [
       | inr none ↦ inr (TooLarge number, inl (none, refl))
@@ -304,26 +248,18 @@ part_or_fault given number p before right =
 
 -- ---- all
 
-any_part : Placement
-any_part = record { format = Sfi1; data_size = 0; gates = []; names = []; bytes = []; bundles = [] }
-
-same_there : {X : Type 0} (xs : List X) (k : ℕ) (d : X) → k < length xs → get_or xs k d ≡ get_or xs k (get_or xs k d)
-same_there xs k d lt = let e : Some (get_or xs k d) ≡ Some (get_or xs k (get_or xs k d)) = sym (slice_get-get_or xs k d lt) ∙ slice_get-get_or xs k (get_or xs k d) lt in cc
-
-parts_on : (given : List Place) (placed : List Placement) (d k : ℕ) (parts : List image.Part) → All IsPlacedPart placed → k + d ≡ length placed → AreLinkedFrom given 0 (take k placed) parts → AllPairs AreApart (spans parts)
-    → ((all : List image.Part) × AreLinkedFrom given 0 placed all × AllPairs AreApart (spans all)) ⊎ ((f : LinkFault) × IsPartFault given placed f)
-parts_on given placed zero k parts right all linked apart = inl (parts, subst (λ (l : List Placement). AreLinkedFrom given 0 l parts) (take_all k placed (omega arith)) linked, apart)
-parts_on given placed (suc d) k parts right all linked apart =
-    let lt : k < length placed = omega arith in
-    let p = get_or placed k any_part in
-    let long = length-take-le k placed (omega arith) in
-    elim (part_or_fault given k p parts (right k any_part lt)) [
-      | inr wrong ↦ inr (wrong.0, record { number = k; part = p; there = slice_get-get_or placed k any_part lt; before = parts; linked = linked; apart = apart; has = wrong.1 })
+parts_or_fault : (given : List Place) (number : ℕ) (before : List Span) (placed : List Placement) → All IsPlacedPart placed → AllPairs AreApart before
+    → ((parts : List image.Part) × AreLinkedFrom given number placed parts × AllPairs AreApart (before ++ spans parts)) ⊎ ((f : LinkFault) × IsPartFault given number before placed f)
+parts_or_fault given number before [] right apart = inl ([], refl, subst (AllPairs AreApart) (sym (append-nil before)) apart)
+parts_or_fault given number before (p ∷ placed) right apart =
+    elim (part_or_fault given number p before (All-head IsPlacedPart p placed right)) [
+      | inr wrong ↦ inr (wrong.0, inl wrong.1)
       | inl made ↦
-          let more = take_one_more placed k p lt (same_there placed k any_part lt) in
-          parts_on given placed d (k + 1) (parts ++ made.part ∷ []) right (omega arith)
-          (subst (λ (l : List Placement). AreLinkedFrom given 0 l (parts ++ made.part ∷ [])) (sym more) (linked_push given 0 k (take k placed) parts p made.part (omega arith) linked made.linked))
-          (subst (AllPairs AreApart) (sym (flat_map-append (λ q. spans_of (image.fields_of q)) parts (made.part ∷ []))) made.apart)
+          let own = spans (made.part ∷ []) in
+          elim (parts_or_fault given (number + 1) (before ++ own) placed (All-tail IsPlacedPart p placed right) made.apart) [
+            | inr wrong ↦ inr (wrong.0, inr (made.part, made.linked, made.apart, wrong.1))
+            | inl rest ↦ inl (made.part ∷ rest.0, (made.linked, rest.1), subst (AllPairs AreApart) (append_assoc before own (spans rest.0)) rest.2)
+          ]
     ]
 
 none_apart : AllPairs AreApart []
@@ -335,7 +271,7 @@ some_linking clean right given placed is =
       | inl many ↦ inr (TooManySandboxes, inl (many, refl))
       | inr few ↦ elim (cases_lt (length placed) (length given)) [
         | inl unused ↦ inr (named.Place (length placed), inr (inl (few, unused, refl)))
-        | inr used ↦ elim (parts_on given placed (length placed) 0 [] is.each (omega arith) refl none_apart) [
+        | inr used ↦ elim (parts_or_fault given 0 [] placed is.each none_apart) [
           | inr wrong ↦ inr (wrong.0, inr (inr (few, used, wrong.1)))
           | inl made ↦
               let linked : AreLinked given placed made.0 = record { used = used; each = made.1; apart = made.2 } in

@@ -1,21 +1,25 @@
 //! The code region of a sandbox: its gates' stubs, its code, and c.ebreaks up to its end.
-ghost use Rattle.std.specs.Prelude.{◌≡◌, ◌++◌, ◌∷◌, [], ◌<◌, ◌≤◌, ℕ, length, IfSome, IfNone, OnOk};
-ghost use Rattle.std.specs.List.{All, repeat};
+ghost use Rattle.std.specs.Prelude.{◌≡◌, ◌++◌, ◌<◌, ◌≤◌, ℕ, length, IfSome, IfNone, OnOk};
+ghost use Rattle.std.specs.List.{All, AllPairs, repeat};
 ghost use Rattle.sfi_policy.specs.declared.format.Format.TheVariants.{Sfi2};
 ghost use Rattle.sfi_policy.specs.Formats.{code_most};
 ghost use Rattle.sfi_rewrite.specs.Slots.{size_of, slots_of};
 ghost use Rattle.sfi_rewrite.specs.Placement.{AreBundles};
 ghost use Rattle.sfi_rewrite.specs.Placed.{IsPlacedPart};
+ghost use Rattle.sfi_image.specs.Bounded.{IsBounded};
+ghost use Rattle.sfi_image.specs.Spans.{AreApart};
 ghost use Rattle.sfi_link.specs.Linked.{needed, HasRoom, IsCodeSize};
+ghost use Rattle.sfi_link.specs.Faults.{HasPartFault};
 ghost use Rattle.sfi_policy.specs.Limits.{sandboxes_most};
-ghost use Rattle.sfi_link.specs.private.Near.{AreCodes, HasFaultAfter, contents};
+ghost use Rattle.sfi_link.specs.private.Near.{IsCodeBeside};
 ghost use Rattle.sfi_link.specs.private.Answers.{Links};
 
 use crate::bases::bases_of;
 use crate::code::push_bundles;
 use crate::fault::LinkFault;
-use crate::lying::may_lie;
-use sfi_place::Place;
+use crate::lying::lies_beside;
+use sfi_image::Span;
+use sfi_place::{Place, place_of};
 use sfi_policy::{BUNDLE_BYTES, Format, REGION_LEAST_BYTES, STUB};
 use sfi_rewrite::{Bundle, PlacedPart};
 use std::alloc::{AllocError, Global};
@@ -69,27 +73,27 @@ fn push_copies(code: &mut Vec<u8>, copied: &[u8], count: usize) -> Result<(), Al
     Ok(())
 }
 
-// The bytes of the code region of the sandbox that comes after those with this code.
+// The bytes of the code region of the sandbox of that number, whose spans are added to those of the
+// sandboxes before it in the list.
 pub(crate) fn linked_code(
     alloc: Global,
     given: &[Place],
-    earlier: &[PlacedPart],
-    codes: &[Vec<u8>],
+    number: u32,
     part: &PlacedPart,
+    spans: &mut Vec<Span>,
 ) -> Result<Vec<u8>, LinkFault>
-    requires few { length earlier.now < sandboxes_most }
-    requires placed { All IsPlacedPart earlier.now }
-    requires codes { AreCodes given.now earlier.now (contents codes.now) }
+    requires few { number < sandboxes_most }
     requires right { IsPlacedPart part.now }
-    ensures { Links (λ code. AreCodes given.now (earlier.now ++ part.now ∷ [])
-        (contents codes.now ++ code.items ∷ []))
-        (HasFaultAfter given.now earlier.now (contents codes.now) part.now) result }
+    requires bounded { All IsBounded spans.old.items }
+    requires apart { AllPairs AreApart spans.old.items }
+    ensures { Links (λ code. IsCodeBeside given.now number part.now code.items
+        spans.old.items spans.new.items)
+        (HasPartFault given.now number part.now spans.old.items) result }
 {
-    let number = earlier.len() as u32;
     let Some(size) = code_size(part.format(), needed(part)) else {
         return Err(LinkFault::TooLarge { sandbox: number });
     };
-    if !may_lie(alloc, given, earlier, codes, part, size as u32)? {
+    if !lies_beside(spans, part, size as u32, place_of(given, number))? {
         return Err(LinkFault::Place { sandbox: number });
     }
     let at = bases_of(given, number, part);

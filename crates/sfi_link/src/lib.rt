@@ -18,7 +18,6 @@ pub mod laws;
 mod linker;
 mod lying;
 mod names;
-mod regions;
 
 pub use build_fault::BuildFault;
 pub use builder::{build, build_at};

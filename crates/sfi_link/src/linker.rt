@@ -12,7 +12,7 @@ ghost use Rattle.sfi_link.specs.Linked.{gates_from, IsLinkedCode, IsLinked, AreL
 ghost use Rattle.sfi_link.specs.Building.{IsLinkedImage, ArePlacements, IsBuild};
 ghost use Rattle.sfi_policy.specs.Limits.{bundle_size, gates_most, sandboxes_most};
 ghost use Rattle.sfi_link.specs.Faults.{IsPartFault, IsLinkFault};
-ghost use Rattle.sfi_link.specs.private.Near.{AreCodes, AreCodesFrom, contents};
+ghost use Rattle.sfi_link.specs.private.Near.{AreCodes, contents};
 ghost use Rattle.sfi_link.specs.private.Answers.{Links};
 ghost use Rattle.sfi_link.specs.Answers.{UnlessMemory, AnswersBytes, AnswersFault};
 
@@ -53,8 +53,8 @@ fn linked_part<'a>(
 ) -> Result<SandboxPart<'a>, AllocError>
     requires few { number < sandboxes_most }
     requires right { IsPlacedPart placed.now }
-    requires code { IsLinkedCode given.now number placed.now code.now }
-    requires lies { IsRightPlace placed.now (length code.now) (place_of given.now number) }
+    requires made { IsLinkedCode given.now number placed.now code.now
+        × IsRightPlace placed.now (length code.now) (place_of given.now number) }
     ensures { IfOk result
         (λ part. IsLinked given.now number placed.entry.now
         (view placed.entry.now.format part)) }
@@ -81,11 +81,12 @@ fn codes_of(
     requires right { All IsPlacedPart placed.now }
     requires few { length placed.now ≤ sandboxes_most }
     ensures { Links (λ codes. AreCodes given.now placed.now (contents codes.items))
-        (IsPartFault given.now placed.now) result }
+        (IsPartFault given.now 0 [] placed.now) result }
 {
     let mut codes = Vec::new(alloc);
+    let mut spans = Vec::new(alloc);
     for (number, part) in placed.iter().enumerate() {
-        let code = linked_code(alloc, given, &placed[..number], &codes, part)?;
+        let code = linked_code(alloc, given, number as u32, part, &mut spans)?;
         codes.push(code)?;
     }
     Ok(codes)
@@ -102,7 +103,7 @@ fn linked_parts<'a>(
     requires right { All IsPlacedPart placed.now }
     requires few { length placed.now ≤ sandboxes_most }
     requires format { AreOf format placed.now }
-    requires codes { AreCodesFrom given.now 0 placed.now (contents codes.now) }
+    requires codes { AreCodes given.now placed.now (contents codes.now) }
     ensures { IfOk result (λ parts. AreLinkedFrom given.now 0 placed.entry.now
         (views format parts.items)) }
 {

@@ -1,5 +1,5 @@
 -- Words of private contracts and proofs, beside those of Keeping.antt.
-use Rattle.std.specs.Prelude.{◌≡◌, ℕ, ◌+◌, ◌≤◌, ◌==◌, Bool, false, List, [], ◌∷◌, ◌++◌, cond, Option, Some, None}
+use Rattle.std.specs.Prelude.{◌≡◌, ℕ, ◌+◌, ◌*◌, ◌<◌, ◌≤◌, ◌==◌, drop, Bool, false, List, [], ◌∷◌, ◌++◌, cond, Option, Some, None}
 use Rattle.sfi_policy.specs.Limits.{bundle_size}
 use Rattle.sfi_image.specs.declared.fields.Fields.{Fields}
 use Rattle.sfi_image.specs.declared.fault.LayoutFault.{LayoutFault}
@@ -24,6 +24,17 @@ as_want others.Nothing = wants.Nothing
 abbrev pub is_first : List ℕ → ℕ → Bool
 is_first [] at = false
 is_first (a ∷ more) at = a == at
+
+-- none of the addresses, which are in ascending order, is below that one
+abbrev pub AreFrom : ℕ → List ℕ → Type 0
+AreFrom end [] = Unit {0}
+AreFrom end (a ∷ more) = end ≤ a
+
+-- so many plain bundles come next, told by what is kept
+pub record HasPlain (r : ReaderState) (bundles : ℕ) : Type 0 where
+  pub code : r.next ≡ next.Code
+  pub before_last : r.fields.code_base + r.code_read + bundle_size * bundles < r.fields.code_base + r.fields.code_size
+  pub gates : AreFrom (r.fields.code_base + r.code_read + bundle_size * bundles) (drop r.passed r.gates)
 
 -- what comes next after so many sandboxes of that count
 abbrev pub next_part : ℕ → ℕ → Next

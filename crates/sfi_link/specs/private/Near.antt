@@ -1,11 +1,12 @@
 -- Words of private contracts: what fits the linker's numbers, and what is written so far.
-use Rattle.std.specs.Prelude.{◌≡◌, ℕ, ◌+◌, ◌^◌, ◌<◌, ◌≤◌, List, [], ◌∷◌, ◌++◌, length, map, IfSome, Vec}
+use Rattle.std.specs.Prelude.{◌≡◌, ℕ, ◌+◌, ◌^◌, ◌<◌, ◌≤◌, List, ◌++◌, length, map, IfSome, Vec}
 use Rattle.std.specs.List.{All, AllPairs}
 use Rattle.std.specs.Global.{Global}
 use Rattle.sfi_policy.specs.declared.format.Format.TheVariants.{Sfi2}
 use Rattle.sfi_policy.specs.Formats.{code_most}
 use Rattle.sfi_image.specs.declared.span.Span.{Span}
 use Rattle.sfi_image.specs.Spelling.{Part, IsWord}
+use Rattle.sfi_image.specs.Bounded.{IsBounded}
 use Rattle.sfi_image.specs.Spans.{AreApart, spans}
 use Rattle.sfi_place.specs.declared.place.Place.{Place}
 use Rattle.sfi_place.specs.Places.{place_of}
@@ -14,12 +15,9 @@ use Rattle.sfi_rewrite.specs.declared.placed.PlacedName.{PlacedName}
 use Rattle.sfi_rewrite.specs.Placement.{Placement}
 use Rattle.sfi_link.specs.declared.bases.Bases.{Bases}
 use Rattle.sfi_link.specs.Code.{IsSlot, AreSlots}
-use Rattle.sfi_link.specs.declared.regions.Region.{Region}
-use Rattle.sfi_link.specs.declared.fault.LinkFault.{LinkFault}
 use Rattle.sfi_link.specs.Addresses.{address_of, target_of}
 use Rattle.sfi_link.specs.Lying.{IsRightPlace, spans_at}
 use Rattle.sfi_link.specs.Linked.{IsLinkedCode, AreLinkedFrom}
-use Rattle.sfi_link.specs.Faults.{HasPartFault}
 
 -- an address of code of a sandbox that lies so: a distance between two of these fits
 abbrev pub IsInCode : Bases → ℕ → Type 0
@@ -51,47 +49,28 @@ pub record AreWritten (at : Bases) (names : List PlacedName) (slots : List Slot)
   pub appended : new ≡ old ++ bytes
   pub spelled : AreSlots at names (at.code + length old) slots bytes
 
--- the code of each sandbox, the first of which has that number
-abbrev pub AreCodesFrom : List Place → ℕ → List Placement → List (List ℕ) → Type 0
-AreCodesFrom given number [] codes = codes ≡ []
-AreCodesFrom given number (p ∷ placed) [] = ⊥
-AreCodesFrom given number (p ∷ placed) (c ∷ codes) =
-    IsLinkedCode given number p c × IsRightPlace p (length c) (place_of given number)
-    × AreCodesFrom given (number + 1) placed codes
+-- the sandbox lies there, with a code region of that size: its spans are added to the old ones, each
+-- holds an address, and no two meet
+pub record LiesBeside (p : Placement) (size : ℕ) (place : Place) (old new : List Span)
+    : Type 0 where
+  pub right : IsRightPlace p size place
+  pub spans_are : new ≡ old ++ spans_at p size place
+  pub bounded : All IsBounded new
+  pub apart : AllPairs AreApart new
 
--- their spans
-abbrev pub code_spans : List Place → ℕ → List Placement → List (List ℕ) → List Span
-code_spans given number [] codes = []
-code_spans given number (p ∷ placed) [] = []
-code_spans given number (p ∷ placed) (c ∷ codes) =
-    spans_at p (length c) (place_of given number) ++ code_spans given (number + 1) placed codes
+-- the code of the sandbox of that number, which lies so
+pub record IsCodeBeside (given : List Place) (number : ℕ) (p : Placement) (bytes : List ℕ)
+    (old new : List Span) : Type 0 where
+  pub code : IsLinkedCode given number p bytes
+  pub lies : LiesBeside p (length bytes) (place_of given number) old new
 
--- the code of each sandbox, no two of whose spans meet
+-- the placed sandboxes make those of an image with this code, no two of whose spans meet
 pub record AreCodes (given : List Place) (placed : List Placement)
     (codes : List (List ℕ)) : Type 0 where
-  pub each : AreCodesFrom given 0 placed codes
-  pub apart : AllPairs AreApart (code_spans given 0 placed codes)
-
--- the fault of the sandbox after those with this code
-pub record HasFaultAfter (given : List Place) (placed : List Placement) (codes : List (List ℕ))
-    (p : Placement) (f : LinkFault) : Type 0 where
-  pub before : List Part
-  pub linked : AreLinkedFrom given 0 placed before
-  pub apart : AllPairs AreApart (spans before)
-  pub has : HasPartFault given (length placed) p before f
-
--- the span of a region
-abbrev pub span_of : Region → Span
-span_of r = record { base = r.base; size = r.size }
-
--- those of regions
-abbrev pub spans_of_regions : List Region → List Span
-spans_of_regions regions = map span_of regions
-
--- it holds an address, and its end has 64 bits
-pub record IsBounded (r : Region) : Type 0 where
-  pub some : 0 < r.size
-  pub end : r.base + r.size < 2 ^ 64
+  pub parts : List Part
+  pub linked : AreLinkedFrom given 0 placed parts
+  pub codes_are : codes ≡ map (λ q. q.code) parts
+  pub apart : AllPairs AreApart (spans parts)
 
 -- the bytes of each
 abbrev pub contents : List (Vec ℕ Global) → List (List ℕ)

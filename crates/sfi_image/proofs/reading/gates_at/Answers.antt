@@ -1,12 +1,21 @@
 use Rattle.std.proofs.Common.{◌≡◌, ◌∙◌, ◌++◌, ◌<◌, ◌+◌, ℕ, List, length, sym, ap, arith}
 use Rattle.std.specs.List.{flat_map}
 use Rattle.std.proofs.lemmas.List.{length_push}
+use Rattle.std.proofs.lemmas.Result.{err_from_is_err_and}
 use Rattle.sfi_image.specs.Spelling.{gate}
 use Rattle.sfi_image.specs.Fronts.Front.{InGates}
 use Rattle.sfi_image.proofs.GateLists.{flat_push}
 use Rattle.sfi_image.proofs.Steps.{no_rest}
-use Rattle.sfi_image.proofs.Parsing.{at_gate, gate_taken}
+use Rattle.sfi_image.proofs.Parsing.{at_gate, gate_taken, gates_fault}
 use Rattle.sfi_image.proofs.reading.gates_at.Goals as goal
+
+pub returns-in_err-front : goal.returns-in_err-front
+returns-in_err-front c = λ n ps h.
+    let i = c.loop.invariant in
+    let gs = c.loop.gates.items in
+    let p = err_from_is_err_and c.from_residual.result c.from_residual.ensures.1 in
+    let at = at_gate c.loop.reader n ps c.args.seven.now gs (i.stands n ps h) (let b = c.loop-test.true in let l = i.len in omega arith) in
+    rw (p.1, p.2) (gates_fault n ps c.args.seven.now gs c.args.bytes.now c.loop.rest.now c.in_err-front.field-0.0 i.bytes (c.in_err-front.ensures (InGates n ps c.args.seven.now gs) at))
 
 pub loop-preserved : goal.loop-preserved
 loop-preserved c =

@@ -1,11 +1,11 @@
 use Rattle.std.proofs.Common.{◌∙◌, ◌++◌, ℕ, List, length, drop, sym, ap}
 use Rattle.std.proofs.lemmas.List.{take-append-drop}
 use Rattle.sfi_image.proofs.Ending.{cut_short}
-use Rattle.sfi_image.proofs.Parsing.{fault_of_front}
+use Rattle.sfi_image.proofs.Parsing.{less_taken, fault_of_front}
 use Rattle.sfi_image.proofs.reading.take_front.Goals as goal
 
 pub returns-then-bytes-len : goal.returns-then-bytes-len
-returns-then-bytes-len c = λ x h. cut_short x c.args.bytes.now h.right (c.requires.whole x h (length c.args.bytes.now) c.if-bytes-len.true)
+returns-then-bytes-len c = λ x h. cut_short x c.args.bytes.now h.right (less_taken c.args.reader.now x c.args.len (length c.args.bytes.now) h c.requires c.if-bytes-len.true)
 
 pub returns-in-Some : goal.returns-in-Some
 returns-in-Some c = λ x h.

@@ -5,30 +5,30 @@ use Rattle.std.proofs.lemmas.Result.{err_from_is_err_and}
 use Rattle.sfi_policy.specs.Pairs.{stub}
 use Rattle.sfi_link.specs.Linked.{HasRoom}
 use Rattle.sfi_link.proofs.Parts.{start_fits}
-use Rattle.sfi_link.proofs.Linking.{near_of, code_room, parts_before, fault_after_codes, place_refused, slots_after, code_made, written_within, linked_code}
-use Rattle.sfi_link.specs.private.Near.{contents}
+use Rattle.sfi_link.proofs.Linking.{near_of, code_room, place_refused, may_lie, part_refused, code_beside, written_within, linked_code}
 use Rattle.sfi_link.proofs.code_region.linked_code.Goals as goal
 
 pub returns-in_default : goal.returns-in_default
 returns-in_default c =
-    let before = parts_before c.args.given.now c.args.earlier.now (contents c.args.codes.now) c.requires.codes in
-    fault_after_codes c.args.given.now c.args.earlier.now (contents c.args.codes.now) c.args.part.now _ before
-    (inl (λ size h. c.in_default.ensures.none size (subst (λ f. HasRoom f c.needed.result size) (sym c.format.ensures) (subst (λ n. HasRoom c.args.part.now.format n size) (sym c.needed.ensures) h)), refl))
+    inl (λ size h. c.in_default.ensures.none size (subst (λ f. HasRoom f c.needed.result size) (sym c.format.ensures) (subst (λ n. HasRoom c.args.part.now.format n size) (sym c.needed.ensures) h)), refl)
 
 pub returns-then-not-branch : goal.returns-then-not-branch
 returns-then-not-branch c =
     let sized = rw (c.needed.ensures, c.format.ensures) at c.in-Some.ensures.least in
-    place_refused c.args.given.now c.args.earlier.now (contents c.args.codes.now) c.args.part.now c.in-Some.size c.requires.codes sized (OnFalse_at c.if-not-branch.true c.in_ok-may_lie.ensures.wrong)
+    let wrong = rw c.place_of.ensures.is at (OnFalse_at c.if-not-branch.true c.in_ok-lies_beside.ensures.wrong) in
+    place_refused c.args.given.now c.args.number c.args.part.now c.in-Some.size c.args.spans.now.items sized wrong
 
 pub bases_of-at-requires-clause-fits : goal.bases_of-at-requires-clause-fits
 bases_of-at-requires-clause-fits c =
     let sized = rw (c.needed.ensures, c.format.ensures) at c.in-Some.ensures.least in
-    start_fits c.args.given.now (length c.args.earlier.now) c.args.part.now c.in-Some.size sized.has_room (OnTrue_at c.if-not-branch.false c.in_ok-may_lie.ensures.right)
+    let lies = rw c.place_of.ensures.is at (OnTrue_at c.if-not-branch.false c.in_ok-lies_beside.ensures.lies) in
+    start_fits c.args.given.now c.args.number c.args.part.now c.in-Some.size sized.has_room lies.right
 
 pub push_bundles-requires-clause-near : goal.push_bundles-requires-clause-near
 push_bundles-requires-clause-near c =
     let sized = rw (c.needed.ensures, c.format.ensures) at c.in-Some.ensures.least in
-    rw (c.names.ensures, c.bases_of-at.ensures.is) (near_of c.args.given.now (length c.args.earlier.now) c.args.part.now c.in-Some.size c.requires.right sized.has_room (OnTrue_at c.if-not-branch.false c.in_ok-may_lie.ensures.right))
+    let lies = rw c.place_of.ensures.is at (OnTrue_at c.if-not-branch.false c.in_ok-lies_beside.ensures.lies) in
+    rw (c.names.ensures, c.bases_of-at.ensures.is) (near_of c.args.given.now c.args.number c.args.part.now c.in-Some.size c.requires.right sized.has_room lies.right)
 
 pub push_bundles-requires-clause-room : goal.push_bundles-requires-clause-room
 push_bundles-requires-clause-room c =
@@ -36,7 +36,8 @@ push_bundles-requires-clause-room c =
     let stubs : c.push_copies.new.code.items ≡ repeat (length p.gates) stub =
     c.in_ok-push_copies.ensures ∙ ap (λ l. l ++ repeat (length c.gates.result.now) stub) c.in_ok-code.ensures.items ∙ ap (λ gs. repeat (length gs) stub) c.gates.ensures in
     let sized = rw (c.needed.ensures, c.format.ensures) at c.in-Some.ensures.least in
-    rw c.bundles.ensures (code_room c.args.given.now (length c.args.earlier.now) p c.bases_of-at.result c.in-Some.size c.push_copies.new.code.items sized.has_room (OnTrue_at c.if-not-branch.false c.in_ok-may_lie.ensures.right) c.bases_of-at.ensures.is stubs)
+    let lies = rw c.place_of.ensures.is at (OnTrue_at c.if-not-branch.false c.in_ok-lies_beside.ensures.lies) in
+    rw c.bundles.ensures (code_room c.args.given.now c.args.number p c.bases_of-at.result c.in-Some.size c.push_copies.new.code.items sized.has_room lies.right c.bases_of-at.ensures.is stubs)
 
 pub returns-in_err-push_bundles : goal.returns-in_err-push_bundles
 returns-in_err-push_bundles c =
@@ -45,9 +46,10 @@ returns-in_err-push_bundles c =
     c.in_ok-push_copies.ensures ∙ ap (λ l. l ++ repeat (length c.gates.result.now) stub) c.in_ok-code.ensures.items ∙ ap (λ gs. repeat (length gs) stub) c.gates.ensures in
     let e = err_from_is_err_and c.from_residual-in_err-push_bundles.result c.from_residual-in_err-push_bundles.ensures.1 in
     let sized = rw (c.needed.ensures, c.format.ensures) at c.in-Some.ensures.least in
+    let lies = rw c.place_of.ensures.is at (OnTrue_at c.if-not-branch.false c.in_ok-lies_beside.ensures.lies) in
     let h = rw (c.names.ensures, c.bundles.ensures) at c.in_err-push_bundles.ensures in
-    rw (e.1, e.2) (slots_after c.args.given.now c.args.earlier.now (contents c.args.codes.now) p c.bases_of-at.result c.in-Some.size c.push_copies.new.code.items c.in_err-push_bundles.field-0.0 c.requires.codes c.bases_of-at.ensures.is sized
-    (OnTrue_at c.if-not-branch.false c.in_ok-may_lie.ensures.right) (OnTrue_at c.if-not-branch.false c.in_ok-may_lie.ensures.apart) stubs h)
+    let may = may_lie c.args.given.now c.args.number p c.in-Some.size _ _ sized lies in
+    rw (e.1, e.2) (part_refused c.args.given.now c.args.number p _ c.bases_of-at.result c.push_copies.new.code.items c.in_err-push_bundles.field-0.0 c.bases_of-at.ensures.is may stubs h)
 
 pub overflow_sub-fill : goal.overflow_sub-fill
 overflow_sub-fill c =
@@ -67,7 +69,8 @@ returns c =
     c.in_ok-push_copies.ensures ∙ ap (λ l. l ++ repeat (length c.gates.result.now) stub) c.in_ok-code.ensures.items ∙ ap (λ gs. repeat (length gs) stub) c.gates.ensures in
     let w = rw (c.names.ensures, c.bundles.ensures) at c.in_ok-push_bundles.ensures in
     let sized = rw (c.needed.ensures, c.format.ensures) at c.in-Some.ensures.least in
+    let lies = rw c.place_of.ensures.is at (OnTrue_at c.if-not-branch.false c.in_ok-lies_beside.ensures.lies) in
     let l = c.len.ensures in
-    let made = linked_code c.args.given.now (length c.args.earlier.now) p c.bases_of-at.result c.in-Some.size _ c.push_copies.new.code.items c.push_bundles.new.code.items c.push_copies-2.new.code.items c.bases_of-at.ensures.is sized stubs w
+    let made = linked_code c.args.given.now c.args.number p c.bases_of-at.result c.in-Some.size _ c.push_copies.new.code.items c.push_bundles.new.code.items c.push_copies-2.new.code.items c.bases_of-at.ensures.is sized stubs w
     (omega arith) c.in_ok-push_copies-2.ensures in
-    code_made c.args.given.now c.args.earlier.now (contents c.args.codes.now) p _ c.in-Some.size c.requires.codes sized made (OnTrue_at c.if-not-branch.false c.in_ok-may_lie.ensures.right) (OnTrue_at c.if-not-branch.false c.in_ok-may_lie.ensures.apart)
+    code_beside c.args.given.now c.args.number p _ c.in-Some.size _ _ sized made lies

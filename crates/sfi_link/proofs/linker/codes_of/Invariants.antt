@@ -1,6 +1,7 @@
 use Rattle.std.proofs.Common.{take}
-use Rattle.sfi_link.specs.private.Near.{AreCodes, contents}
+use Rattle.sfi_link.specs.private.Near.{contents}
+use Rattle.sfi_link.proofs.Linking.{AreLaid}
 use Rattle.sfi_link.proofs.linker.codes_of.Given as goal
 
 abbrev pub invariant-loop-number : goal.invariant-loop-number
-invariant-loop-number l = AreCodes l.given (take l.number l.placed) (contents l.codes.items)
+invariant-loop-number l = AreLaid l.given (take l.number l.placed) (contents l.codes.items) l.spans.items

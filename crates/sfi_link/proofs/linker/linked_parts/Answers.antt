@@ -6,31 +6,24 @@ use Rattle.sfi_image.specs.Spelling.{Part, view, views}
 use Rattle.sfi_rewrite.specs.Placement.{Placement}
 use Rattle.sfi_link.specs.Linked.{IsLinked, AreLinkedFrom}
 use Rattle.sfi_link.specs.private.Near.{contents}
-use Rattle.sfi_link.proofs.Linking.{linked_push, codes_length, code_at, take_one_more}
+use Rattle.sfi_link.proofs.Pushed.{take_one_more}
+use Rattle.sfi_link.proofs.Linking.{linked_push, codes_length, code_at}
 use Rattle.sfi_link.proofs.linker.linked_parts.Goals as goal
 
 pub bounds-codes-number : goal.bounds-codes-number
 bounds-codes-number c =
-    let a = codes_length c.args.given.now 0 c.args.placed.now (contents c.args.codes.now) c.requires.codes in
+    let a = codes_length c.args.given.now c.args.placed.now (contents c.args.codes.now) c.requires.codes in
     let b = length-map c.args.codes.now (λ code. code.items) in
     let d = c.loop-number-test.true in
     omega arith
 
-pub linked_part-requires-clause-code : goal.linked_part-requires-clause-code
-linked_part-requires-clause-code c =
+pub linked_part-requires-clause-made : goal.linked_part-requires-clause-made
+linked_part-requires-clause-made c =
     let k = c.loop-number.number in
     let code = c.index-codes-number.result in
-    let there : code.items ≡ get_or (contents c.args.codes.now) k code.items = ap (λ v. v.items) c.index-codes-number.is ∙ sym (get_or-map (λ v. v.items) c.args.codes.now k code) in
-    rw c.deref.ensures.value
-    (code_at c.args.given.now 0 k k c.args.placed.now (contents c.args.codes.now) c.index-placed-number.result code.items (omega arith) c.loop-number-test.true c.index-placed-number.is there c.requires.codes).0
-
-pub linked_part-requires-clause-lies : goal.linked_part-requires-clause-lies
-linked_part-requires-clause-lies c =
-    let k = c.loop-number.number in
-    let code = c.index-codes-number.result in
-    let there : code.items ≡ get_or (contents c.args.codes.now) k code.items = ap (λ v. v.items) c.index-codes-number.is ∙ sym (get_or-map (λ v. v.items) c.args.codes.now k code) in
-    rw c.deref.ensures.value
-    (code_at c.args.given.now 0 k k c.args.placed.now (contents c.args.codes.now) c.index-placed-number.result code.items (omega arith) c.loop-number-test.true c.index-placed-number.is there c.requires.codes).1
+    let codes = c.requires.codes in
+    let there = ap (λ v. v.items) c.index-codes-number.is ∙ sym (get_or-map (λ v. v.items) c.args.codes.now k code) ∙ ap (λ l. get_or l k code.items) codes.codes_are in
+    rw c.deref.ensures.value (code_at c.args.given.now 0 k k c.args.placed.now codes.parts c.index-placed-number.result code.items (omega arith) c.loop-number-test.true c.index-placed-number.is there codes.linked)
 
 pub loop-number-preserved : goal.loop-number-preserved
 loop-number-preserved c =

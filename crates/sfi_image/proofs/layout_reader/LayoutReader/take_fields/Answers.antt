@@ -4,7 +4,7 @@ use Rattle.sfi_image.specs.declared.want.Next.TheVariants as next
 use Rattle.sfi_image.specs.declared.span.Span.{Span}
 use Rattle.sfi_image.specs.Spelling.{fields}
 use Rattle.sfi_image.specs.Spans.{AreApart, code_span}
-use Rattle.sfi_image.specs.private.Spans.{IsBounded}
+use Rattle.sfi_image.specs.Bounded.{IsBounded}
 use Rattle.sfi_image.specs.Tests.{IsFirstFault, field_tests}
 use Rattle.sfi_image.specs.Keeping.{ReaderState, StandsFor}
 use Rattle.sfi_image.specs.Reader.{kept}

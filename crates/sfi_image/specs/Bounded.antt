@@ -1,4 +1,4 @@
--- Words of private contracts and proofs, beside those of Spans.antt.
+-- Spans whose ends can be compared in 64 bits.
 use Rattle.std.specs.Prelude.{◌+◌, ◌^◌, ◌<◌}
 use Rattle.sfi_image.specs.declared.span.Span.{Span}
 
