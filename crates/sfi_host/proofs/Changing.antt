@@ -1,5 +1,7 @@
 -- A world into whose data bytes were written from outside.
-use Rattle.std.proofs.Common.{◌≡◌, ◌≢◌, ⊎_elim, ℕ, zero, suc, List, [], ◌∷◌, Some, set, slice_get, refl, sym, ap, ◌∙◌, subst}
+use Rattle.std.proofs.Common.{◌≡◌, ◌≢◌, ⊎_elim, ℕ, List, [], ◌∷◌, Some, set, slice_get, refl, sym, ap, ◌∙◌, subst}
+use Rattle.std.proofs.lemmas.Bool.{cases_eq}
+use Rattle.std.proofs.lemmas.Option.{same_Some}
 use Rattle.rv_mem.specs.Bytes.{Bytes, IsMemory}
 use Rattle.rv_mem.specs.Laws.{ReadIsHeld}
 use Rattle.sfi_image.specs.Spelling.{Part}
@@ -15,17 +17,10 @@ use Rattle.sfi_host.specs.Sandboxes.{seat_of, seats_of, world_of}
 use Rattle.sfi_host.specs.Slots.{Slot, bounds_of}
 use Rattle.sfi_host.specs.Worlds.{Seat, Sandboxes, slot_of, slots_of, state_in, IsSafeSeat, IsSafeWorld, StaysOutside}
 use Rattle.sfi_host.proofs.Asked.{seat_at}
-use Rattle.sfi_host.proofs.Decoding.{eq_or}
 use Rattle.sfi_host.proofs.Leaving.{stays_outside, whole_in, whole_of}
-use Rattle.sfi_host.proofs.Neighbours.{get_set_other}
+use Rattle.sfi_host.proofs.Neighbours.{get_set_other, set_itself}
 use Rattle.sfi_host.proofs.SafeSeats as keep
-use Rattle.sfi_host.proofs.SamePart.{same_some}
 use Rattle.sfi_host.proofs.Taking.{AfterTurn, turn_taken}
-
-set_here : {A : Type 0} (xs : List A) (i : ℕ) (x : A) → slice_get xs i ≡ Some x → set xs i x ≡ xs
-set_here [] i x e = refl
-set_here (y ∷ xs) zero x e = let same : y ≡ x = cc in ap (λ (z : _). z ∷ xs) (sym same)
-set_here (y ∷ xs) (suc i) x e = ap (λ (l : List _). y ∷ l) (set_here xs i x e)
 
 -- where one place was set, the others are what they were
 pub others_same : (w : Sandboxes) (i : ℕ) (new : Slot) (o : Sandboxes) → slots_of o ≡ set (slots_of w) i new → OthersAreSame w i o
@@ -53,12 +48,12 @@ module _ (held : ReadIsHeld) (on : GoesOnSafely) (near : NeighboursAreChanges) (
 
   pub data_written : (w : Sandboxes) → world_of m items ≡ w → AfterTurn w programs i (slot_of m (seat_of x)) (slot_of n (seat_of x)) (world_of n items)
   data_written w view =
-      subst (λ (l : List Sandbox). AfterTurn w programs i (slot_of m (seat_of x)) (slot_of n (seat_of x)) (world_of n l)) (set_here items i x at)
+      subst (λ (l : List Sandbox). AfterTurn w programs i (slot_of m (seat_of x)) (slot_of n (seat_of x)) (world_of n l)) (set_itself items i x at)
       (turn_taken held on m n items programs i x x (world, decoded) at refl safe others w view)
 
   own_change : (j : ℕ) (s : Seat) (p : Part) → j ≡ i → slice_get (seats_of items) j ≡ Some s → s.bounds ≡ bounds_of p → IsChange p (state_in m s) (state_in n s)
   own_change j s p h e is =
-      let same : s ≡ seat_of x = same_some s (seat_of x) (sym e ∙ ap (slice_get (seats_of items)) h ∙ there) in
+      let same : s ≡ seat_of x = same_Some s (seat_of x) (sym e ∙ ap (slice_get (seats_of items)) h ∙ there) in
       let stays : StaysOutside s.bounds.data m n = subst (λ (y : Seat). StaysOutside y.bounds.data m n) (sym same) others in
       record { pc = refl; registers = refl; bytes = keep.own_kept m s (world.each j s e) p is n stays }
 
@@ -66,7 +61,7 @@ module _ (held : ReadIsHeld) (on : GoesOnSafely) (near : NeighboursAreChanges) (
   change j s p e is = ⊎_elim
       (λ (h : j ≡ i). own_change j s p h e is)
       (λ (h : j ≢ i). near (world_of m items) i j (seat_of x) s n p world (λ z. h (sym z)) there e others is)
-      (eq_or i j)
+      (cases_eq j i)
 
   pub are_changes : (w : Sandboxes) → world_of m items ≡ w → AreChanges w (world_of n items)
   are_changes w view = subst (λ (y : Sandboxes). AreChanges y (world_of n items)) view change

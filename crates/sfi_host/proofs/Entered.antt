@@ -1,10 +1,12 @@
 -- An image whose parts lie apart, in an empty memory: what is where.
 use Rattle.std.proofs.Common.{◌≡◌, ◌≢◌, ℕ, zero, suc, ◌+◌, ◌-◌, ◌%◌, ◌^◌, ◌<◌, ◌≤◌, ◌==◌, ◌⊎◌, inl, inr, ⊎_elim, true, false, List, [], ◌∷◌, ◌++◌, length, get_or, Some, None, slice_get, refl, sym, ap, ◌∙◌, subst, arith, length-append}
+use Rattle.std.proofs.lemmas.List.{length-replicate}
+use Rattle.std.proofs.lemmas.Option.{get_or_from_slice_get, slice_get_within}
 use Rattle.std.specs.Prelude.{slice_index, replicate}
 use Rattle.std.specs.List.{Contains, AllPairs}
 use Rattle.std.specs.Ordering.{nat_cmp}
 use Rattle.std.specs.FinMap.{empty, get-empty}
-use Rattle.std.proofs.lemmas.Bool.{cases_lt}
+use Rattle.std.proofs.lemmas.Bool.{cases_lt, eqb-true, eqb-false}
 use Rattle.rv_mem.specs.Bytes.{Bytes, byte_at, addresses, with_bytes, added}
 use Rattle.rv_mem.specs.Laws.{AddressesAreThese, OthersStay, WrittenIsThere}
 use Rattle.sfi_image.specs.declared.span.Span.{Span}
@@ -17,24 +19,10 @@ use Rattle.sfi_host.specs.Loading.{first_data, with_part, with_parts}
 
 -- ---- lists
 
-pub get_is : {A : Type 0} (xs : List A) (i : ℕ) (x d : A) → slice_get xs i ≡ Some x → get_or xs i d ≡ x
-get_is [] i x d e = absurd (cc)
-get_is (y ∷ xs) zero x d e = cc
-get_is (y ∷ xs) (suc i) x d e = get_is xs i x d e
-
-pub get_below : {A : Type 0} (xs : List A) (i : ℕ) (x : A) → slice_get xs i ≡ Some x → i < length xs
-get_below [] i x e = absurd (cc)
-get_below (y ∷ xs) zero x e = omega arith
-get_below (y ∷ xs) (suc i) x e = let h : i < length xs = get_below xs i x e in omega arith
-
 front_index : (xs ys : List ℕ) (k : ℕ) → k < length xs → slice_index (xs ++ ys) k ≡ slice_index xs k
 front_index [] ys k h = absurd (omega arith)
 front_index (x ∷ xs) ys zero h = refl
 front_index (x ∷ xs) ys (suc k) h = front_index xs ys k (omega arith)
-
-zeros : (n : ℕ) → length {A = ℕ} (replicate n 0) ≡ n
-zeros zero = refl
-zeros (suc n) = ap suc (zeros n)
 
 -- ---- the spans of an image
 
@@ -79,7 +67,7 @@ flip s t apart a h k = apart a k h
 in_order : (ps : List Part) (i j : ℕ) (p q : Part) → AllPairs AreApart (spans ps) → i < j → slice_get ps i ≡ Some p → slice_get ps j ≡ Some q → Apart p q
 in_order ps i j p q apart less e f =
     let n = span_count ps in
-    let below : j < length ps = get_below ps j q f in
+    let below : j < length ps = slice_get_within ps j q f in
     let d = code_region p in
     record {
       code_code = two_spans (spans ps) (i + i) (j + j) _ _ d apart (omega arith) (omega arith) (code_at ps i p d e) (code_at ps j q d f);
@@ -98,10 +86,10 @@ flipped p q a = record {
 
 pub lie_apart : (ps : List Part) → IsRightLayout ps → LieApart ps
 lie_apart ps layout = record {
-  each = λ i p e. subst (λ (q : Part). IsRightPart q) (get_is ps i p p e) (layout.right.each i p (get_below ps i p e));
+  each = λ i p e. subst (λ (q : Part). IsRightPart q) (get_or_from_slice_get ps i p p e) (layout.right.each i p (slice_get_within ps i p e));
   own = λ i p e.
       let n = span_count ps in
-      let below : i < length ps = get_below ps i p e in
+      let below : i < length ps = slice_get_within ps i p e in
       let d = code_region p in
       two_spans (spans ps) (i + i) (i + i + 1) _ _ d layout.right.apart (omega arith) (omega arith) (code_at ps i p d e) (guarded_at ps i p d e);
   others = λ i j p q ne e f.
@@ -143,12 +131,6 @@ guard_not_data : (p : Part) (a : ℕ) → IsRightPart p → InGuard p a → InDa
 guard_not_data p a right (inl low) h = let room : 4096 ≤ p.data_base = right.guard_room.below in omega arith
 guard_not_data p a right (inr high) h = omega arith
 
-eq_from_test : (a b : ℕ) → (a == b) ≡ true → a ≡ b
-eq_from_test a b t = grind arith
-
-not_same : (a b : ℕ) → (a == b) ≡ false → a ≢ b
-not_same a b t e = grind arith
-
 module _ (laws : Laws) where
   at_region : (base size a : ℕ) → base + size ≤ 2 ^ 32 → Contains (addresses base size) a → Holds (region base size) a
   at_region base size a fits c =
@@ -165,7 +147,7 @@ module _ (laws : Laws) where
       → byte_at (added m base size front) (base + k) ≡ Some (slice_index (front ++ replicate (size - length front) 0) k)
   added_inside m base size front k room fits below =
       let bytes = front ++ replicate (size - length front) 0 in
-      let z : length {A = ℕ} (replicate (size - length front) 0) ≡ size - length front = zeros (size - length front) in
+      let z : length {A = ℕ} (replicate (size - length front) 0) ≡ size - length front = length-replicate (size - length front) 0 in
       let e : length (front ++ replicate (size - length front) 0) ≡ size = omega (arith, length-append front (replicate (size - length front) 0)) in
       subst (λ (n : ℕ). byte_at (with_bytes m (addresses base n) bytes) (base + k) ≡ Some (slice_index bytes k)) e (laws.written m base bytes k (omega arith) (omega arith))
 
@@ -236,9 +218,9 @@ module _ (laws : Laws) where
   pub has_empty_guards : (ps : List Part) (i : ℕ) (p : Part) → LieApart ps → slice_get ps i ≡ Some p → (a : ℕ) → InGuard p a → byte_at (with_parts empty ps) a ≡ None
   has_empty_guards ps i p lie e a guard =
       all_outside ps empty a lie (λ j q f. elim (i == j) as (λ t. (i == j) ≡ t → (InCode q a → ⊥) × (InData q a → ⊥)) [
-        | true ↦ λ t. subst (λ (x : Part). (InCode x a → ⊥) × (InData x a → ⊥)) (sym (same_part ps i j p q (eq_from_test i j t) e f))
+        | true ↦ λ t. subst (λ (x : Part). (InCode x a → ⊥) × (InData x a → ⊥)) (sym (same_part ps i j p q (eqb-true i j t) e f))
             (λ c. lie.own i p e a c (guard_in p a (lie.each i p e) guard), λ d. guard_not_data p a (lie.each i p e) guard d)
-        | false ↦ λ t. let apart : Apart p q = lie.others i j p q (not_same i j t) e f in
+        | false ↦ λ t. let apart : Apart p q = lie.others i j p q (eqb-false i j t) e f in
             (λ c. apart.guarded_code a (guard_in p a (lie.each i p e) guard) c, λ d. apart.guarded_guarded a (guard_in p a (lie.each i p e) guard) (data_guarded q a (lie.each j q f) d))
       ] refl)
       ∙ get-empty nat_cmp a

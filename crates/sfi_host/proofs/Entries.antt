@@ -1,5 +1,7 @@
 -- A sandbox that is entered again.
-use Rattle.std.proofs.Common.{◌≡◌, ◌≢◌, ◌⊎◌, inl, inr, ⊎_elim, ◌↔◌, IsTrue, ℕ, suc, ◌+◌, ◌-◌, ◌%◌, ◌^◌, ◌<◌, ◌≤◌, ◌==◌, ◌&&◌, Bool, true, false, List, [], ◌∷◌, ◌++◌, map, length, take, get_or, Some, None, set, slice_get, refl, sym, ap, ◌∙◌, subst, arith, get_or-set_other}
+use Rattle.std.proofs.Common.{◌≡◌, ◌≢◌, ◌⊎◌, inl, inr, ⊎_elim, ◌↔◌, IsTrue, ℕ, suc, ◌+◌, ◌-◌, ◌^◌, ◌<◌, ◌≤◌, ◌==◌, Bool, true, false, List, [], ◌∷◌, ◌++◌, map, length, take, get_or, Some, None, set, slice_get, refl, sym, ap, ◌∙◌, subst, arith, get_or-set_other}
+use Rattle.std.proofs.lemmas.Bool.{cases_eq}
+use Rattle.std.proofs.lemmas.Option.{same_Some, get_or_from_slice_get, slice_get_within}
 use Rattle.std.specs.Prelude.{slice_index, slice_set, cond}
 use Rattle.std.specs.FinMap.{empty}
 use Rattle.std.proofs.lemmas.List.{map-set, take_more, take_all, length-take-le}
@@ -17,23 +19,17 @@ use Rattle.sfi_check.specs.Safety.{RunsSafely, AllRunSafely}
 use Rattle.sfi_check.specs.Stack.{CallsWithStack, AllCallWithStack}
 use Rattle.sfi_host.specs.declared.program.Program.{Program}
 use Rattle.sfi_host.specs.declared.sandbox.Sandbox.{Sandbox}
-use Rattle.sfi_host.specs.declared.status.Status.{Status}
-use Rattle.sfi_host.specs.declared.status.Status.TheVariants.{Ready}
 use Rattle.sfi_host.specs.Entering.{MayEnter, MayEnterAt, fresh_hart, with_registers, entered_hart, entered_seat, with_entry_of, with_entry, IsAtEntry, IsEnterable, AreEnterable}
 use Rattle.sfi_host.specs.Loading.{first_seat, with_parts}
 use Rattle.sfi_host.specs.Programs.{AreDecoded}
-use Rattle.sfi_host.specs.Regions.{is_in}
 use Rattle.sfi_host.specs.Sandboxes.{seat_of, seats_of, world_of}
 use Rattle.sfi_host.specs.Slots.{Bounds, Slot, bounds_of}
 use Rattle.sfi_host.specs.Worlds.{Seat, Sandboxes, slot_of, slots_of, state_in, IsSafeSeat, IsSafeWorld, StaysOutsideData}
 use Rattle.sfi_host.specs.private.Sandboxes.{bounds_in}
 use Rattle.sfi_host.proofs.Asked.{seat_at, slot_is, no_slot}
-use Rattle.sfi_host.proofs.Decoding.{eq_or}
-use Rattle.sfi_host.proofs.Entered.{Laws, lie_apart, get_is, get_below}
+use Rattle.sfi_host.proofs.Entered.{Laws, lie_apart}
 use Rattle.sfi_host.proofs.Neighbours.{get_set_same}
-use Rattle.sfi_host.proofs.RegionBytes.{is_in-true, is_in-Holds}
 use Rattle.sfi_host.proofs.SafeSeats as keep
-use Rattle.sfi_host.proofs.SamePart.{same_some}
 use Rattle.sfi_host.proofs.SameWorld.{get_map}
 use Rattle.sfi_host.proofs.Taking.{AfterTurn, turn_taken}
 use Rattle.sfi_host.proofs.Worlds.{map_get, entered}
@@ -50,8 +46,8 @@ first_enterable laws ps layout memory safe calls i s e =
       bounds = ap (λ (t : Seat). t.bounds) x.2;
       right = (lie_apart ps layout).each i p x.1;
       code = (entered laws ps layout memory i p x.1).code;
-      runs = subst (λ (q : Part). RunsSafely q) (get_is ps i p p x.1) (safe.each i p (get_below ps i p x.1));
-      calls = subst (λ (q : Part). CallsWithStack q) (get_is ps i p p x.1) (calls.each i p (get_below ps i p x.1));
+      runs = subst (λ (q : Part). RunsSafely q) (get_or_from_slice_get ps i p p x.1) (safe.each i p (slice_get_within ps i p x.1));
+      calls = subst (λ (q : Part). CallsWithStack q) (get_or_from_slice_get ps i p p x.1) (calls.each i p (slice_get_within ps i p x.1));
     }
 
 -- no code lies in the data of any
@@ -59,10 +55,10 @@ module _ (w : Sandboxes) (safe : IsSafeWorld w) (i : ℕ) (s : Seat) (at : slice
   code_out : (j : ℕ) (t : Seat) → slice_get w.seats j ≡ Some t → Holds t.bounds.data a → ⊥
   code_out j t there h = ⊎_elim
       (λ (same : j ≡ i).
-      let one : t ≡ s = same_some t s (sym there ∙ ap (slice_get w.seats) same ∙ at) in
+      let one : t ≡ s = same_Some t s (sym there ∙ ap (slice_get w.seats) same ∙ at) in
       keep.code_not_data w.bytes s (safe.each i s at) p is a inside (subst (λ (y : Seat). Holds y.bounds.data a) one h))
       (λ (other : j ≢ i). (safe.others j i t s other there at).code a h (subst (λ (b : Bounds). Holds b.code a) (sym is) inside))
-      (eq_or i j)
+      (cases_eq j i)
 
 -- where each lies as before, and only data changed, each may be entered as before
 pub still_enterable : (v w o : Sandboxes) → v ≡ w → IsSafeWorld v → bounds_in o ≡ bounds_in w → StaysOutsideData w o.bytes → AreEnterable v → AreEnterable o
@@ -81,30 +77,6 @@ still_enterable v w o view safe same outside enterable i t at =
     }
 
 -- ---- where
-
-pub may_not : (b : Bounds) (status : Status) (pc : ℕ) → status ≡ Ready → (IsTrue false ↔ MayEnter b status pc)
-may_not b status pc ready = (λ t. absurd (cc), λ h. absurd (h.stopped ready))
-
-pub may_where : (b : Bounds) (status : Status) (pc : ℕ) (t : Bool) → status ≢ Ready → t ≡ (is_in b.code pc && (pc % 16 == 0)) → (IsTrue t ↔ MayEnter b status pc)
-may_where b status pc t stopped is = (forth, back)
-  where
-    both : (x y : Bool) → (x && y) ≡ true → (x ≡ true) × (y ≡ true)
-    both true true e = (refl, refl)
-    both true false e = absurd (cc)
-    both false y e = absurd (cc)
-
-    forth : IsTrue t → MayEnter b status pc
-    forth on =
-        let x = both (is_in b.code pc) (pc % 16 == 0) (sym is ∙ on) in
-        let z = x.1 in
-        record { stopped = stopped; start = record { held = is_in-true b.code pc x.0; aligned = grind arith } }
-
-    back : MayEnter b status pc → IsTrue t
-    back h =
-        let x : is_in b.code pc ≡ true = is_in-Holds b.code pc h.start.held in
-        let a : pc % 16 ≡ 0 = h.start.aligned in
-        let y : (pc % 16 == 0) ≡ true = grind arith in
-        is ∙ ap (λ (u : Bool). u && (pc % 16 == 0)) x ∙ y
 
 -- ---- with which registers
 
@@ -258,7 +230,7 @@ module _ (held : ReadIsHeld) (on : GoesOnSafely) (m : Bytes) (items : List Sandb
   is_at_entry s p e bounds code =
       let here : slice_get (seats_of (set items i new)) i ≡ Some (entered_seat (seat_of x) pc arguments) =
       ap (λ (l : List Seat). slice_get l i) seats_are ∙ get_set_same (seats_of items) i (seat_of x) _ there in
-      let same : s ≡ entered_seat (seat_of x) pc arguments = same_some _ _ (sym e ∙ here) in
+      let same : s ≡ entered_seat (seat_of x) pc arguments = same_Some _ _ (sym e ∙ here) in
       subst (λ (y : Seat). IsEntry p (state_in m y)) (sym same)
       (at_entry m (seat_of x) seat pc arguments few start hart_is p (sym (ap (λ (y : Seat). y.bounds) same) ∙ bounds) code)
 
@@ -275,5 +247,5 @@ module _ (w : Sandboxes) (m : Bytes) (items : List Sandbox) (view : world_of m i
   entry_where x t at may = (
     λ on. record { slot = slot_of m (seat_of x); there = slot_is w m items view i x at; may = may.0 on },
     λ h.
-        may.1 (subst (λ (y : Slot). MayEnter y.bounds y.status pc) (same_some h.slot (slot_of m (seat_of x)) (sym h.there ∙ slot_is w m items view i x at)) h.may),
+        may.1 (subst (λ (y : Slot). MayEnter y.bounds y.status pc) (same_Some h.slot (slot_of m (seat_of x)) (sym h.there ∙ slot_is w m items view i x at)) h.may),
   )

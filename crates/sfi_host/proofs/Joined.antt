@@ -1,7 +1,8 @@
 -- What the joint run does from a safe world is a list of moves.
-use Rattle.std.proofs.Common.{◌≡◌, ◌≢◌, ◌⊎◌, inl, inr, ⊎_elim, IsSome, is_some, ℕ, zero, suc, ◌<◌, ◌≤◌, ◌^◌, ◌||◌, ◌&&◌, Bool, true, false, cond, List, [], ◌∷◌, ◌++◌, length, map, take, Option, Some, None, slice_get, set, refl, sym, ap, ◌∙◌, subst, arith, append_assoc, append-nil}
+use Rattle.std.proofs.Common.{◌≡◌, ◌≢◌, ◌⊎◌, inl, inr, ⊎_elim, IsSome, is_some, ℕ, zero, suc, ◌<◌, ◌≤◌, ◌^◌, ◌||◌, ◌&&◌, Bool, true, false, cond, List, [], ◌∷◌, ◌++◌, length, take, Option, Some, None, slice_get, set, refl, sym, ap, ◌∙◌, subst, arith, append_assoc, append-nil}
 use Rattle.std.specs.List.{All}
-use Rattle.std.specs.Option.{option_or}
+use Rattle.std.specs.Option.{option_map, option_or}
+use Rattle.std.proofs.lemmas.Option.{slice_get-map}
 use Rattle.std.proofs.lemmas.List.{map-append, take_all}
 use Rattle.std.proofs.lemmas.List.Elements.{All-cons, All-nil}
 use Rattle.rv_mem.specs.Bytes.{Bytes, IsMemory, byte_at}
@@ -27,7 +28,7 @@ use Rattle.sfi_host.specs.Steps.{IsOwnStep, StepsAreOwn}
 use Rattle.sfi_host.specs.Moves.{StepsAlone, Move, after_move, IsTurnsShare, AreShares, all_of, given_in, ComeTo, HaveRun, JoinedMoves, JointMoves}
 use Rattle.sfi_host.proofs.Leaving.{get_with_data}
 use Rattle.sfi_host.proofs.Moves.{turn_of, Taken, IsTaken, AreTaken, are_moves, taken_follow, safe_after, slots_after, are_runs, safe_runs}
-use Rattle.sfi_host.proofs.Neighbours.{get_set_same}
+use Rattle.sfi_host.proofs.Neighbours.{get_set_same, set_itself}
 use Rattle.sfi_host.proofs.Plans.{joined_nil, joined_cons}
 use Rattle.sfi_host.proofs.RegionBytes.{get_kept, same_bytes, is_in-true}
 use Rattle.sfi_host.proofs.SafeSeats as keep
@@ -36,20 +37,10 @@ use Rattle.sfi_host.proofs.SlotSteps.{moved_by, not_moved, seat_with}
 
 -- ---- lists
 
-set_itself : {A : Type 0} (xs : List A) (i : ℕ) (x : A) → slice_get xs i ≡ Some x → set xs i x ≡ xs
-set_itself [] i x e = refl
-set_itself (y ∷ xs) zero x e = let same : x ≡ y = cc in ap (λ (z : _). z ∷ xs) same
-set_itself (y ∷ xs) (suc i) x e = ap (λ (l : List _). y ∷ l) (set_itself xs i x e)
-
 set_again : {A : Type 0} (xs : List A) (i : ℕ) (x y : A) → set (set xs i x) i y ≡ set xs i y
 set_again [] i x y = refl
 set_again (z ∷ xs) zero x y = refl
 set_again (z ∷ xs) (suc i) x y = ap (λ (l : List _). z ∷ l) (set_again xs i x y)
-
-get_map_none : {A B : Type 0} (f : A → B) (xs : List A) (i : ℕ) → slice_get xs i ≡ None → slice_get (map f xs) i ≡ None
-get_map_none f [] i e = refl
-get_map_none f (y ∷ xs) zero e = absurd (cc)
-get_map_none f (y ∷ xs) (suc i) e = get_map_none f xs i e
 
 given_append : (first second : List Move) → given_in (first ++ second) ≡ given_in first ++ given_in second
 given_append [] second = refl
@@ -451,7 +442,7 @@ module _ (on : GoesOnSafely) (steps_own : StepsAreOwn) (machine : Machine) (is :
         )
 
       by_found : (found : Option Seat) → slice_get w.seats t.sandbox ≡ found → PlanMoves (t ∷ plan) w (first_turns (t ∷ plan) (slots_of w) x)
-      by_found None e = and_rest [] (no_share t) None (get_map_none (slot_of w.bytes) w.seats t.sandbox e) names_none
+      by_found None e = and_rest [] (no_share t) None (slice_get-map (slot_of w.bytes) w.seats t.sandbox ∙ ap (option_map (slot_of w.bytes)) e) names_none
       by_found (Some s) e =
           let mv = turned machine host t.sandbox t.steps (slot_of w.bytes s) x in
           let first = turn_moves host t.sandbox t.steps w s x world e in

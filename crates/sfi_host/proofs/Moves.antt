@@ -1,5 +1,7 @@
 -- Moves of the sandboxes of a safe world are a run to each of them.
 use Rattle.std.proofs.Common.{◌≡◌, ◌≢◌, ℕ, ◌==◌, cond, true, false, List, [], ◌∷◌, ◌++◌, Option, Some, slice_get, set, refl, sym, ap, ◌∙◌, subst}
+use Rattle.std.proofs.lemmas.Bool.{eqb-true, eqb-false}
+use Rattle.std.proofs.lemmas.Option.{same_Some}
 use Rattle.rv_mem.specs.Bytes.{Bytes}
 use Rattle.rv_step.specs.State.{State}
 use Rattle.sfi_image.specs.Spelling.{Part}
@@ -14,8 +16,8 @@ use Rattle.sfi_host.specs.Joint.{Machine}
 use Rattle.sfi_host.specs.Worlds.{Seat, Sandboxes, slot_of, slots_of, state_in, IsSafeSeat, IsSafeWorld, StaysOutside}
 use Rattle.sfi_host.specs.Moves.{StepsAlone, Move, after_move, AreMoves, own_turn, own_turns, turns_to, IsRunBetween, AreRuns, AreSafeRuns}
 use Rattle.sfi_host.proofs.SafeSeats as keep
-use Rattle.sfi_host.proofs.Neighbours.{eq_from_test, not_same, get_set_same, get_set_other, other_same, slots_are, world_safe, neighbours_are}
-use Rattle.sfi_host.proofs.SamePart.{same_some, safe_run}
+use Rattle.sfi_host.proofs.Neighbours.{get_set_same, get_set_other, other_same, slots_are, world_safe, neighbours_are}
+use Rattle.sfi_host.proofs.SamePart.{safe_run}
 use Rattle.sfi_host.proofs.SameWorld.{outside_more, same_bounds}
 
 -- ---- what is known of a move
@@ -117,10 +119,10 @@ module _ (on : GoesOnSafely) (machine : Machine) where
           let other = Changes (state_in v.bytes s) ∷ turns_to machine i v.bytes s moves in
           elim (v.number == i) as (λ b. (v.number == i) ≡ b → IsRunBetween p w n i s (cond b mine other)) [
             | true ↦ λ b.
-                let e = eq_from_test v.number i b in
-                let same : one.seat ≡ s = same_some one.seat s (sym one.there ∙ ap (slice_get w.seats) e ∙ at) in
+                let e = eqb-true v.number i b in
+                let same : one.seat ≡ s = same_Some one.seat s (sym one.there ∙ ap (slice_get w.seats) e ∙ at) in
                 subst (λ (x : Seat). x.bounds ≡ bounds_of p → IsRunBetween p w n i x (own_turns v.seat.status (turn_of machine w.bytes x v.replies v.bytes v.seat) (turns_to machine i v.bytes v.seat moves))) same (own_move e) is
-            | false ↦ λ b. other_move s (not_same v.number i b) at is
+            | false ↦ λ b. other_move s (eqb-false v.number i b) at is
           ] refl
 
   -- ---- all of them

@@ -1,5 +1,6 @@
 -- What the turn of one sandbox leaves of the others.
-use Rattle.std.proofs.Common.{◌≡◌, ◌≢◌, ℕ, zero, suc, ◌+◌, ◌-◌, ◌<◌, ◌≤◌, ◌==◌, ◌⊎◌, ⊎_elim, Bool, true, false, List, [], ◌∷◌, map, set, length, Option, Some, None, is_some, slice_get, refl, sym, ap, ◌∙◌, subst, arith}
+use Rattle.std.proofs.Common.{◌≡◌, ◌≢◌, ℕ, zero, suc, ◌+◌, ◌-◌, ◌<◌, ◌≤◌, ◌==◌, ◌⊎◌, ⊎_elim, true, false, List, [], ◌∷◌, map, set, Some, is_some, slice_get, refl, sym, ap, ◌∙◌, subst, arith}
+use Rattle.std.proofs.lemmas.Bool.{eqb-true, eqb-false}
 use Rattle.rv_mem.specs.Bytes.{Bytes, IsMemory, byte_at}
 use Rattle.sfi_image.specs.Spelling.{Part}
 use Rattle.sfi_image.specs.Spans.{Holds}
@@ -18,18 +19,17 @@ get_set_same [] i x y e = absurd (cc)
 get_set_same (z ∷ xs) zero x y e = refl
 get_set_same (z ∷ xs) (suc i) x y e = get_set_same xs i x y e
 
+pub set_itself : {A : Type 0} (xs : List A) (i : ℕ) (x : A) → slice_get xs i ≡ Some x → set xs i x ≡ xs
+set_itself [] i x e = refl
+set_itself (y ∷ xs) zero x e = let same : x ≡ y = cc in ap (λ (z : _). z ∷ xs) same
+set_itself (y ∷ xs) (suc i) x e = ap (λ (l : List _). y ∷ l) (set_itself xs i x e)
+
 pub get_set_other : {A : Type 0} (xs : List A) (i j : ℕ) (y : A) → j ≢ i → slice_get (set xs i y) j ≡ slice_get xs j
 get_set_other [] i j y n = refl
 get_set_other (z ∷ xs) zero zero y n = absurd (n refl)
 get_set_other (z ∷ xs) zero (suc j) y n = refl
 get_set_other (z ∷ xs) (suc i) zero y n = refl
 get_set_other (z ∷ xs) (suc i) (suc j) y n = get_set_other xs i j y (λ e. n (ap suc e))
-
-pub eq_from_test : (a b : ℕ) → (a == b) ≡ true → a ≡ b
-eq_from_test a b t = grind arith
-
-pub not_same : (a b : ℕ) → (a == b) ≡ false → a ≢ b
-not_same a b t e = grind arith
 
 -- ---- one of the others
 
@@ -86,10 +86,10 @@ module _ (m n : Bytes) (seats : List Seat) (i : ℕ) (s new : Seat) (world : IsS
     found : (j : ℕ) (t : Seat) → slice_get (set seats i new) j ≡ Some t → ((j ≡ i) × (t ≡ new)) ⊎ ((j ≢ i) × (slice_get seats j ≡ Some t))
     found j t e = elim (j == i) as (λ b. (j == i) ≡ b → ((j ≡ i) × (t ≡ new)) ⊎ ((j ≢ i) × (slice_get seats j ≡ Some t))) [
       | true ↦ λ b.
-          let same : j ≡ i = eq_from_test j i b in
+          let same : j ≡ i = eqb-true j i b in
           let here : slice_get (set seats i new) j ≡ Some new = ap (slice_get (set seats i new)) same ∙ get_set_same seats i s new at in
           Rattle.std.proofs.Common.inl (same, (let f : Some t ≡ Some new = sym e ∙ here in let g : t ≡ new = cc in g))
-      | false ↦ λ b. Rattle.std.proofs.Common.inr (not_same j i b, sym (get_set_other seats i j new (not_same j i b)) ∙ e)
+      | false ↦ λ b. Rattle.std.proofs.Common.inr (eqb-false j i b, sym (get_set_other seats i j new (eqb-false j i b)) ∙ e)
     ] refl
 
     -- the seat before, with the same bounds

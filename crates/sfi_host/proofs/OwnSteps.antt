@@ -1,5 +1,6 @@
 -- A step in the one memory, and the same step in the sandbox's own.
 use Rattle.std.proofs.Common.{◌≡◌, ◌≢◌, ℕ, ◌+◌, ◌≤◌, ◌⊎◌, inl, inr, ⊎_elim, ◌||◌, Bool, true, false, cond, None, refl, sym, ap, ◌∙◌, subst, arith}
+use Rattle.std.proofs.lemmas.Bool.{or_left, or_right, or_cases}
 use Rattle.rv_mem.specs.Bytes.{Bytes, byte_at}
 use Rattle.rv_step.specs.declared.outcome.Outcome.{Outcome}
 use Rattle.rv_step.specs.declared.outcome.Outcome.TheVariants.{Next, Call, Trap}
@@ -24,18 +25,6 @@ use Rattle.sfi_host.proofs.RegionBytes.{get_kept, same_bytes, is_in-true, is_in-
 
 -- ---- a sandbox's own bytes
 
-or_left : (b c : Bool) → b ≡ true → (b || c) ≡ true
-or_left true c e = refl
-or_left false c e = absurd (cc)
-
-or_right : (b c : Bool) → c ≡ true → (b || c) ≡ true
-or_right true c e = refl
-or_right false c e = e
-
-or_either : (b c : Bool) → (b || c) ≡ true → (b ≡ true) ⊎ (c ≡ true)
-or_either true c e = inl refl
-or_either false c e = inr e
-
 pub own_code : (b : Bounds) (a : ℕ) → Holds b.code a → is_own b a ≡ true
 own_code b a h = or_left (is_in b.code a) (is_in b.data a) (is_in-Holds b.code a h)
 
@@ -43,7 +32,7 @@ pub own_data : (b : Bounds) (a : ℕ) → Holds b.data a → is_own b a ≡ true
 own_data b a h = or_right (is_in b.code a) (is_in b.data a) (is_in-Holds b.data a h)
 
 pub own_is : (b : Bounds) (a : ℕ) → is_own b a ≡ true → Holds b.code a ⊎ Holds b.data a
-own_is b a e = ⊎_elim (λ (c : is_in b.code a ≡ true). inl (is_in-true b.code a c)) (λ (d : is_in b.data a ≡ true). inr (is_in-true b.data a d)) (or_either (is_in b.code a) (is_in b.data a) e)
+own_is b a e = ⊎_elim (λ (c : is_in b.code a ≡ true). inl (is_in-true b.code a c)) (λ (d : is_in b.data a ≡ true). inr (is_in-true b.data a d)) (or_cases (is_in b.code a) (is_in b.data a) e)
 
 pub own_there : (b : Bounds) (m : Bytes) (a : ℕ) → is_own b a ≡ true → byte_at (own b m) a ≡ byte_at m a
 own_there b m a e = get_kept m (is_own b) a ∙ ap (λ t. cond t (byte_at m a) None) e

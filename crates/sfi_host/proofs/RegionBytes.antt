@@ -1,5 +1,6 @@
 -- The bytes of a memory in a region: what is read there, and what a write leaves.
 use Rattle.std.proofs.Common.{◌↔◌, IsTrue, IsSome, is_some, ◌≡◌, ℕ, ◌+◌, ◌%◌, ◌^◌, ◌<◌, ◌==◌, Bool, true, false, cond, not, [], Option, Some, None, refl, sym, ap, subst, ◌∙◌, arith}
+use Rattle.std.proofs.lemmas.Bool.{eqb-true}
 use Rattle.std.specs.Option.{option_map}
 use Rattle.std.specs.Cmp.{nat_cmp_total, unsigned_tied}
 use Rattle.std.specs.FinMap.{get, insert, retain_keys, get-retain_keys, get-insert, same_map, nat_cmp-IsAntisymmetric}
@@ -22,15 +23,12 @@ get_put m a b q = get-insert nat_cmp_total m a b q ∙ ap (λ t. cond t (Some b)
 pub same_bytes : (m n : Bytes) → ((q : ℕ) → byte_at m q ≡ byte_at n q) → m ≡ n
 same_bytes m n h = same_map nat_cmp_total nat_cmp-IsAntisymmetric m n h
 
-eq_of : (q a : ℕ) → (q == a) ≡ true → q ≡ a
-eq_of q a t = grind arith
-
 -- what is put at a key that passes
 pub kept_put : (m : Bytes) (p : ℕ → Bool) (a b : ℕ) → p a ≡ true → retain_keys (insert m a b) p ≡ insert (retain_keys m p) a b
 kept_put m p a b h = same_bytes _ _ (λ q.
     get_kept (insert m a b) p q ∙ ap (λ o. cond (p q) o None) (get_put m a b q)
     ∙ elim (q == a) as (λ t. (q == a) ≡ t → cond (p q) (cond t (Some b) (get m q)) None ≡ cond t (Some b) (cond (p q) (get m q) None)) [
-      | true ↦ λ t. ap (λ x. cond x (Some b) None) (ap p (eq_of q a t) ∙ h)
+      | true ↦ λ t. ap (λ x. cond x (Some b) None) (ap p (eqb-true q a t) ∙ h)
       | false ↦ λ t. refl
     ] refl
     ∙ ap (λ o. cond (q == a) (Some b) o) (sym (get_kept m p q)) ∙ sym (get_put (retain_keys m p) a b q))
@@ -40,7 +38,7 @@ pub kept_put_out : (m : Bytes) (p : ℕ → Bool) (a b : ℕ) → p a ≡ false 
 kept_put_out m p a b h = same_bytes _ _ (λ q.
     get_kept (insert m a b) p q ∙ ap (λ o. cond (p q) o None) (get_put m a b q)
     ∙ elim (q == a) as (λ t. (q == a) ≡ t → cond (p q) (cond t (Some b) (get m q)) None ≡ cond (p q) (get m q) None) [
-      | true ↦ λ t. let e : p q ≡ false = ap p (eq_of q a t) ∙ h in rw e refl
+      | true ↦ λ t. let e : p q ≡ false = ap p (eqb-true q a t) ∙ h in rw e refl
       | false ↦ λ t. refl
     ] refl
     ∙ sym (get_kept m p q))

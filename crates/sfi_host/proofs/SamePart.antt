@@ -1,5 +1,6 @@
 -- A run that is safe for a part is safe for another one that lies there with the same code.
 use Rattle.std.proofs.Common.{◌≡◌, ◌⊎◌, ⊎_elim, inl, inr, ℕ, ◌+◌, ◌-◌, ◌<◌, List, [], ◌∷◌, length, Option, Some, None, slice_get, sym, ap, ◌∙◌, subst}
+use Rattle.std.proofs.lemmas.Option.{same_Some}
 use Rattle.std.specs.Prelude.{slice_index}
 use Rattle.rv_mem.specs.Bytes.{Bytes, byte_at}
 use Rattle.rv_step.specs.State.{State}
@@ -11,9 +12,6 @@ use Rattle.sfi_check.specs.Regions.{InCode, InData, InGuard, IsGate, HasCode}
 use Rattle.sfi_check.specs.Runs.{Turn, Steps, Replies, Changes, after_turn}
 use Rattle.sfi_check.specs.Safety.{IsSafeState, IsSafeTurn, IsSafeRun}
 use Rattle.sfi_host.specs.Slots.{Bounds, bounds_of}
-
-pub same_some : {A : Type 0} (x y : A) → Some x ≡ Some y → x ≡ y
-same_some x y e = cc
 
 module _ (q p : Part) (same : bounds_of q ≡ bounds_of p) (m : Bytes) (there : HasCode q m) (code : HasCode p m) where
   base_is : q.code_base ≡ p.code_base
@@ -42,7 +40,7 @@ module _ (q p : Part) (same : bounds_of q ≡ bounds_of p) (m : Bytes) (there : 
   -- the bytes of both are those of one memory
   code_is : (k : ℕ) → k < length q.code → k < length p.code → slice_index q.code k ≡ slice_index p.code k
   code_is k low high =
-      same_some _ _ (sym (there k low) ∙ ap (λ (b : ℕ). byte_at m (b + k)) base_is ∙ code k high)
+      same_Some _ _ (sym (there k low) ∙ ap (λ (b : ℕ). byte_at m (b + k)) base_is ∙ code k high)
 
   has_code : (w : Bytes) → HasCode q w → HasCode p w
   has_code w h k below =

@@ -1,5 +1,7 @@
 -- A world is its slots and the bytes outside all data.
 use Rattle.std.proofs.Common.{◌≡◌, ◌⊎◌, inl, inr, ⊎_elim, ℕ, zero, suc, true, false, List, [], ◌∷◌, map, Option, Some, slice_get, set, refl, sym, ap, ◌∙◌, subst}
+use Rattle.std.proofs.lemmas.Option.{same_Some, slice_get-map}
+use Rattle.std.specs.Option.{option_map}
 use Rattle.rv_mem.specs.Bytes.{Bytes, byte_at}
 use Rattle.sfi_image.specs.Spans.{Holds}
 use Rattle.sfi_host.specs.declared.turn.Turn.{Turn}
@@ -12,13 +14,10 @@ use Rattle.sfi_host.specs.Slots.{Bounds, Slot, is_own}
 use Rattle.sfi_host.specs.Worlds.{Seat, Sandboxes, slot_of, slots_of, IsSafeWorld, StaysOutsideData}
 use Rattle.sfi_host.proofs.OwnSteps.{own_data, own_there, true_false}
 use Rattle.sfi_host.proofs.RegionBytes.{same_bytes, is_in-true, is_in-Holds}
-use Rattle.sfi_host.proofs.SamePart.{same_some}
 use Rattle.sfi_host.proofs.Worlds.{map_get}
 
 pub get_map : {A B : Type 0} (f : A → B) (xs : List A) (i : ℕ) (x : A) → slice_get xs i ≡ Some x → slice_get (map f xs) i ≡ Some (f x)
-get_map f [] i x e = absurd (cc)
-get_map f (y ∷ xs) zero x e = let same : y ≡ x = cc in ap (λ (z : _). Some (f z)) same
-get_map f (y ∷ xs) (suc i) x e = get_map f xs i x e
+get_map f xs i x e = slice_get-map f xs i ∙ ap (option_map f) e
 
 -- whose data the address lies in, if any
 abbrev IsIn : List Seat → ℕ → Type 0
@@ -35,7 +34,7 @@ found (x ∷ seats) a = elim (is_in x.bounds.data a) as (λ b. is_in x.bounds.da
 ] refl
   where
     out : is_in x.bounds.data a ≡ false → IsOut seats a → IsOut (x ∷ seats) a
-    out b none zero s e h = let same : x ≡ s = same_some x s e in
+    out b none zero s e h = let same : x ≡ s = same_Some x s e in
         true_false (is_in x.bounds.data a) (is_in-Holds x.bounds.data a (subst (λ (y : Seat). Holds y.bounds.data a) (sym same) h)) b
     out b none (suc i) s e h = none i s e h
 
@@ -51,7 +50,7 @@ outside_more w n o same first second a out = second a (out_too w n a same out) �
 -- a seat that lies where it lay
 pub same_bounds : (seats : List Seat) (i : ℕ) (s t : Seat) → slice_get seats i ≡ Some s → t.bounds ≡ s.bounds → map (λ (x : Seat). x.bounds) (set seats i t) ≡ map (λ (x : Seat). x.bounds) seats
 same_bounds [] i s t at e = refl
-same_bounds (x ∷ seats) zero s t at e = let same : x ≡ s = same_some x s at in ap (λ (b : Bounds). b ∷ map (λ (y : Seat). y.bounds) seats) (e ∙ sym (ap (λ (y : Seat). y.bounds) same))
+same_bounds (x ∷ seats) zero s t at e = let same : x ≡ s = same_Some x s at in ap (λ (b : Bounds). b ∷ map (λ (y : Seat). y.bounds) seats) (e ∙ sym (ap (λ (y : Seat). y.bounds) same))
 same_bounds (x ∷ seats) (suc i) s t at e = ap (λ (l : List Bounds). x.bounds ∷ l) (same_bounds seats i s t at e)
 
 seat_in : Slot → Seat

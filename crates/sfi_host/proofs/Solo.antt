@@ -1,5 +1,6 @@
 -- A sandbox alone, with the replies that it got among others.
 use Rattle.std.proofs.Common.{◌≡◌, ◌≢◌, ℕ, zero, suc, ◌==◌, true, false, cond, List, [], ◌∷◌, ◌++◌, map, Option, Some, None, slice_get, set, take, refl, sym, ap, ◌∙◌, subst, arith, append_assoc, append-nil}
+use Rattle.std.proofs.lemmas.Bool.{eqb-true, eqb-false}
 use Rattle.std.specs.List.{filter}
 use Rattle.rv_step.specs.State.{State}
 use Rattle.rv_step.specs.declared.outcome.Outcome.{Outcome}
@@ -190,12 +191,6 @@ module _ (machine : Machine) where
       before ∙ sym (ap (λ p. slice_get (joined machine replay p (slot ∷ []) (replies_to i (gs ++ j.replies))).slots 0) (turns_other i t (take j.turns plan) b)
       ∙ ap (λ l. slice_get (joined machine replay (turns_of i (take j.turns plan)) (slot ∷ []) l).slots 0) (ap (λ g. replies_to i (g ++ j.replies)) is ∙ replies_other i t.sandbox rs j.replies b))
 
-  eq_from_test : (a b : ℕ) → (a == b) ≡ true → a ≡ b
-  eq_from_test a b t = grind arith
-
-  not_same : (a b : ℕ) → (a == b) ≡ false → a ≢ b
-  not_same a b t e = grind arith
-
   -- another's turn
   other_turn : {S : Type 0} (t : Turn) (plan : List Turn) (m : Moved S) (then : StepResult) (slots : List Slot) (i : ℕ) (slot : Slot) (rest : List Slot → S → Joined S)
       → (t.sandbox == i) ≡ false → i ≢ t.sandbox → slice_get slots i ≡ Some slot
@@ -214,17 +209,17 @@ module _ (machine : Machine) where
       → IsAlone (t ∷ plan) (turn_and machine host t slots s found rest) i slot
   by_slot host t plan slots s i slot None rest e there later =
       elim (t.sandbox == i) as (λ b. (t.sandbox == i) ≡ b → IsAlone (t ∷ plan) (turn_and machine host t slots s None rest) i slot) [
-        | true ↦ λ b. let same : t.sandbox ≡ i = eq_from_test t.sandbox i b in let w : slice_get slots i ≡ None = ap (slice_get slots) (sym same) ∙ e in absurd (cc)
+        | true ↦ λ b. let same : t.sandbox ≡ i = eqb-true t.sandbox i b in let w : slice_get slots i ≡ None = ap (slice_get slots) (sym same) ∙ e in absurd (cc)
         | false ↦ λ b. other_more t plan slots i slot [] [] refl (rest slots s) b (later slots s slot there)
       ] refl
   by_slot host t plan slots s i slot (Some x) rest e there later =
       elim (t.sandbox == i) as (λ b. (t.sandbox == i) ≡ b → IsAlone (t ∷ plan) (turn_and machine host t slots s (Some x) rest) i slot) [
         | true ↦ λ b.
-            let same : t.sandbox ≡ i = eq_from_test t.sandbox i b in
+            let same : t.sandbox ≡ i = eqb-true t.sandbox i b in
             let w : slice_get slots i ≡ Some x = ap (slice_get slots) (sym same) ∙ e in
             let is : slot ≡ x = cc in
             subst (λ y. IsAlone (t ∷ plan) (turn_and machine host t slots s (Some x) rest) i y) (sym is) (own_turn host t plan slots s i x (turned machine host t.sandbox t.steps x s).next rest b same w refl later)
-        | false ↦ λ b. other_turn t plan (turned machine host t.sandbox t.steps x s) (turned machine host t.sandbox t.steps x s).next slots i slot rest b (λ w. not_same t.sandbox i b (sym w)) there later
+        | false ↦ λ b. other_turn t plan (turned machine host t.sandbox t.steps x s) (turned machine host t.sandbox t.steps x s).next slots i slot rest b (λ w. eqb-false t.sandbox i b (sym w)) there later
       ] refl
 
   alone : {S : Type 0} (host : Host S) (plan : List Turn) (slots : List Slot) (s : S) (i : ℕ) (slot : Slot) → slice_get slots i ≡ Some slot → IsAlone plan (joined machine host plan slots s) i slot

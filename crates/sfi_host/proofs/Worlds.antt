@@ -1,5 +1,6 @@
 -- A world at its start is safe.
 use Rattle.std.proofs.Common.{◌≡◌, ◌≢◌, ℕ, zero, suc, ◌+◌, ◌-◌, ◌%◌, ◌^◌, ◌<◌, ◌≤◌, List, [], ◌∷◌, length, Option, Some, is_some, IsSome, slice_get, refl, sym, ap, ◌∙◌, subst, arith}
+use Rattle.std.proofs.lemmas.Option.{get_or_from_slice_get, slice_get_within}
 use Rattle.std.specs.Prelude.{slice_index, slice_set, replicate, map}
 use Rattle.std.specs.FinMap.{empty}
 use Rattle.rv_mem.specs.Bytes.{IsMemory, byte_at}
@@ -12,7 +13,7 @@ use Rattle.sfi_check.specs.Stack.{CallsWithStack, AllCallWithStack}
 use Rattle.sfi_host.specs.Slots.{bounds_of}
 use Rattle.sfi_host.specs.Loading.{first_hart, first_seat, with_parts, AreEntered, HaveFirstData}
 use Rattle.sfi_host.specs.Worlds.{Seat, state_in, IsSafeSeat, LiesOutside, IsSafeWorld}
-use Rattle.sfi_host.proofs.Entered.{Laws, Apart, lie_apart, has_code, has_data, has_empty_guards, get_is, get_below, data_guarded}
+use Rattle.sfi_host.proofs.Entered.{Laws, Apart, lie_apart, has_code, has_data, has_empty_guards, data_guarded}
 
 -- ---- the first hart
 
@@ -85,7 +86,7 @@ module _ (laws : Laws) (ps : List Part) (layout : IsRightLayout ps) (memory : Is
   seat_safe : AllRunSafely ps → AllCallWithStack ps → (i : ℕ) (p : Part) → slice_get ps i ≡ Some p → IsSafeSeat (with_parts empty ps) (first_seat p)
   seat_safe safe calls i p e =
       let lie = lie_apart ps layout in
-      let runs : RunsSafely p = subst (λ (q : Part). RunsSafely q) (get_is ps i p p e) (safe.each i p (get_below ps i p e)) in
+      let runs : RunsSafely p = subst (λ (q : Part). RunsSafely q) (get_or_from_slice_get ps i p p e) (safe.each i p (slice_get_within ps i p e)) in
       record {
         part = p;
         bounds = refl;
@@ -99,7 +100,7 @@ module _ (laws : Laws) (ps : List Part) (layout : IsRightLayout ps) (memory : Is
             some_at (byte_at (with_parts empty ps) a) _ (ap (byte_at (with_parts empty ps)) (sym z) ∙ has_data laws ps empty i p lie e (a - p.data_base) (omega arith));
         safe = λ ready. record {
           safe = runs.from (state_in (with_parts empty ps) (first_seat p)) (entered i p e);
-          calls = (subst (λ (q : Part). CallsWithStack q) (get_is ps i p p e) (calls.each i p (get_below ps i p e))).from (state_in (with_parts empty ps) (first_seat p)) (entered i p e);
+          calls = (subst (λ (q : Part). CallsWithStack q) (get_or_from_slice_get ps i p p e) (calls.each i p (slice_get_within ps i p e))).from (state_in (with_parts empty ps) (first_seat p)) (entered i p e);
         };
         stopped = tt;
       }

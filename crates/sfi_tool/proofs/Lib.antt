@@ -1,11 +1,10 @@
-pub mod Appending
 pub mod Texts
 pub mod Streamed
 pub mod TooLarge
-pub mod SourceStops
+pub mod Sources
+pub mod Verdicts
 pub mod Statuses
 pub mod Conversions
-pub mod RawJobs
 pub mod Rounds
 pub mod Told
 pub mod Said

@@ -1,5 +1,5 @@
 -- What is said of the sandboxes after all rounds is said of their run.
-use Rattle.std.proofs.Common.{◌≡◌, ℕ, List, length, map, Bool, true, false, None, refl, sym, ap, ◌∙◌, subst, ◌++◌}
+use Rattle.std.proofs.Common.{◌≡◌, ℕ, List, length, map, Bool, true, false, None, sym, ap, ◌∙◌, subst, ◌++◌}
 use Rattle.std.specs.FinMap.{empty}
 use Rattle.rv_mem.specs.Bytes.{Bytes}
 use Rattle.sfi_image.specs.Spelling.{Part}

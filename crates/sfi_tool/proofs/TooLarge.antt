@@ -1,9 +1,8 @@
 -- A text above its limit.
-use Rattle.std.proofs.Common.{◌≡◌, ◌<◌, arith, ℕ, true, false, List, Option, Some, None, length, inl, IfSome}
+use Rattle.std.proofs.Common.{◌≡◌, ◌<◌, arith, ℕ, true, false, List, length, inl}
 use Rattle.sfi_command.specs.Jobs.{is_raw}
-use Rattle.sfi_io.specs.Input.{IsInput, limit}
+use Rattle.sfi_io.specs.Input.{limit}
 use Rattle.sfi_tool.specs.Says.{HasInputFault, IsDone, IsRefused}
-use Rattle.sfi_io.specs.declared.input.Input.TheVariants.{TooLarge}
 use Rattle.sfi_command.specs.declared.job.Job.{Job}
 use Rattle.sfi_command.specs.declared.job.Job.TheVariants.{Check, Dis, Build, Map, Run, Convert}
 
@@ -36,8 +35,3 @@ not_refused (Build places) text read over refused = absurd refused
 not_refused (Map places) text read over refused = absurd refused
 not_refused (Run rounds quantum given report) text read over refused = absurd (omega (arith, over, refused.1.short))
 not_refused Convert text read over refused = absurd (omega (arith, over, refused.1.short))
-
--- where the reader told its bytes
-pub too_large_input : (job : Job) (told : Option (List ℕ)) → is_raw job ≡ false → IsInput told TooLarge → IfSome told (HasInputFault job)
-too_large_input job None read is = tt
-too_large_input job (Some text) read is = too_large job text read is

@@ -5,8 +5,7 @@ use Rattle.sfi_command.specs.declared.job.Job.TheVariants.{Check, Dis, Build, Ma
 use Rattle.sfi_tool.specs.Meaning.{Meaning, on_text}
 use Rattle.sfi_tool.specs.commands.Checking.{check}
 use Rattle.sfi_tool.specs.commands.Listing.{dis}
-use Rattle.sfi_tool.specs.commands.Building.{build}
-use Rattle.sfi_tool.specs.commands.Mapping.{map}
+use Rattle.sfi_tool.specs.commands.Building.{build, map}
 use Rattle.sfi_tool.specs.commands.Running.{run}
 use Rattle.sfi_tool.specs.commands.Converting.{convert}
 

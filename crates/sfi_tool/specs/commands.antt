@@ -2,6 +2,5 @@
 pub mod Checking
 pub mod Listing
 pub mod Building
-pub mod Mapping
 pub mod Running
 pub mod Converting

@@ -1,22 +1,14 @@
 //! The command `check`.
 
-ghost use Rattle.std.specs.Prelude.{◌≤◌, List, false, IfOk, IfErr, IsErr, string_bytes, length};
-ghost use Rattle.sfi_image.specs.declared.fault.LayoutFault.{LayoutFault};
-ghost use Rattle.sfi_image.specs.Spelling.{Part};
-ghost use Rattle.sfi_image.specs.Faults.{IsFault};
-ghost use Rattle.sfi_check.specs.Verdict.{IsAccepted, HasFindings};
-ghost use Rattle.sfi_scan.specs.declared.finding.Finding.{Finding};
-ghost use Rattle.sfi_tool.specs.private.Says.{AnswersStatus, IsRefusalStop, IsStop, Refuses};
-ghost use Rattle.sfi_io.specs.Input.{limit};
-ghost use Rattle.sfi_tool.specs.Says.{HasInputFault, IsDone, IsRefused, Says};
-ghost use Rattle.sfi_tool.specs.commands.Checking.{IsRefusalText, IsReportOf, SaysRefused};
-ghost use Rattle.sfi_command.specs.declared.job.Job.TheVariants.{Check};
+ghost use Rattle.std.specs.Prelude.{IfOk, string_bytes};
+ghost use Rattle.sfi_check.specs.Verdict.{HasFindings};
+ghost use Rattle.sfi_tool.specs.private.Says.{Answers, Refuses};
+ghost use Rattle.sfi_tool.specs.commands.Checking.{IsRefusalText, IsReportOf, SaysRefused, check, on_verdict};
 
 use crate::fault::Stop;
 use crate::verdict::{Answer, accepted_line, refused_line};
 use sfi_check::{Refusal, check};
 use sfi_image::{one_reading, parse_image};
-use sfi_io::bytes_of;
 use sfi_report::report_text;
 use sfi_scan::Finding;
 use std::alloc::{AllocError, Global};
@@ -65,12 +57,7 @@ pub(crate) fn refusal_answer(
     refusal: Refusal,
 ) -> Result<Answer, Stop>
     requires { Refuses bytes.now refusal }
-    ensures says { IfOk result (λ a. SaysRefused report bytes.now a.status (string_bytes a.text)) }
-    ensures stop { IfErr result (IsRefusalStop bytes.now) }
-    ensures only_done { (parts : List Part) → IsAccepted bytes.now parts → AnswersStatus 0 result }
-    ensures only_refused { (found : List Finding) → HasFindings bytes.now found
-        → AnswersStatus 1 result }
-    ensures only_fault { (k : LayoutFault) → IsFault bytes.now k → IsErr result }
+    ensures { Answers (on_verdict (SaysRefused report)) bytes.now result }
 {
     match refusal {
         Refusal::Findings(findings) => Ok(Answer {
@@ -82,22 +69,15 @@ pub(crate) fn refusal_answer(
     }
 }
 
-/// The verdict on the image that the text spells, with a report on its findings or without.
-pub(crate) fn check_answer(alloc: Global, report: bool, text: &[u8]) -> Result<Answer, Stop>
-    requires { length text.now ≤ limit }
-    ensures says { IfOk result
-        (λ a. Says (Check false report) text.now a.status (string_bytes a.text)) }
-    ensures stop { IfErr result (IsStop (Check false report) text.now) }
-    ensures only_done { IsDone (Check false report) text.now → AnswersStatus 0 result }
-    ensures only_refused { IsRefused (Check false report) text.now → AnswersStatus 1 result }
-    ensures only_fault { HasInputFault (Check false report) text.now → IsErr result }
+/// The verdict on the image with these bytes, with a report on its findings or without.
+pub(crate) fn check_answer(alloc: Global, report: bool, bytes: &[u8]) -> Result<Answer, Stop>
+    ensures { Answers (check report) bytes.now result }
 {
-    let bytes = bytes_of(alloc, text)?;
-    match check(alloc, bytes.as_slice()) {
+    match check(alloc, bytes) {
         Ok(accepted) => Ok(Answer {
             status: 0,
             text: accepted_line(alloc, accepted.sandboxes(), accepted.bundles())?,
         }),
-        Err(refusal) => refusal_answer(alloc, report, bytes.as_slice(), refusal),
+        Err(refusal) => refusal_answer(alloc, report, bytes, refusal),
     }
 }

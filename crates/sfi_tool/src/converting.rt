@@ -1,19 +1,15 @@
 //! The command `convert`.
 
-ghost use Rattle.std.specs.Prelude.{◌≡◌, ◌≢◌, ◌≤◌, [], IfOk, IfErr, IsErr, string_bytes, length};
+ghost use Rattle.std.specs.Prelude.{◌≡◌, ◌≢◌, [], IfOk, string_bytes};
 ghost use Rattle.sfi_check.specs.declared.conversion.ConvertFault.TheVariants.{Refused};
 ghost use Rattle.sfi_tool.specs.private.Converting.{AnswersConvertFault, HoldsSome};
-ghost use Rattle.sfi_tool.specs.private.Says.{AnswersStatus, IsStop};
-ghost use Rattle.sfi_io.specs.Input.{limit};
-ghost use Rattle.sfi_tool.specs.Says.{HasInputFault, IsDone, IsRefused, Says};
+ghost use Rattle.sfi_tool.specs.private.Says.{Answers};
 ghost use Rattle.sfi_tool.specs.Verdict.{refused_line};
-ghost use Rattle.sfi_command.specs.declared.job.Job.TheVariants.{Convert};
+ghost use Rattle.sfi_tool.specs.commands.Converting.{convert};
 
-use crate::building::digits_line;
 use crate::fault::{InputFault, Stop};
-use crate::verdict::{Answer, refused_line};
+use crate::verdict::{Answer, digits_line, refused_line};
 use sfi_check::{ConvertFault, Refusal, convert};
-use sfi_io::bytes_of;
 use sfi_scan::Finding;
 use std::alloc::{AllocError, Global};
 
@@ -56,21 +52,15 @@ fn fault_answer(alloc: Global, fault: ConvertFault) -> Result<Answer, Stop>
     }
 }
 
-/// The image that the text spells, in the second format, in hexadecimal digits; or the verdict
-/// where it breaks a rule of either format.
-pub(crate) fn conversion_answer(alloc: Global, text: &[u8]) -> Result<Answer, Stop>
-    requires { length text.now ≤ limit }
-    ensures says { IfOk result (λ a. Says Convert text.now a.status (string_bytes a.text)) }
-    ensures stop { IfErr result (IsStop Convert text.now) }
-    ensures only_done { IsDone Convert text.now → AnswersStatus 0 result }
-    ensures only_refused { IsRefused Convert text.now → AnswersStatus 1 result }
-    ensures only_fault { HasInputFault Convert text.now → IsErr result }
+/// The image with these bytes, in the second format, in hexadecimal digits; or the verdict where it
+/// breaks a rule of either format.
+pub(crate) fn conversion_answer(alloc: Global, bytes: &[u8]) -> Result<Answer, Stop>
+    ensures { Answers convert bytes.now result }
 {
-    let bytes = bytes_of(alloc, text)?;
-    match convert(alloc, bytes.as_slice()) {
+    match convert(alloc, bytes) {
         Ok(new) => Ok(Answer {
             status: 0,
-            text: digits_line(alloc, new.as_slice())?,
+            text: digits_line(alloc, &new)?,
         }),
         Err(fault) => fault_answer(alloc, fault),
     }

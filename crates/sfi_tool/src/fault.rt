@@ -1,40 +1,34 @@
 //! Faults of the input.
 
-ghost use Rattle.std.specs.Prelude.{◌≡◌};
+ghost use Rattle.std.specs.Prelude.{◌≡◌, ◌≢◌, IfOk};
 ghost use Rattle.sfi_image.specs.declared.fault.LayoutFault.{LayoutFault};
 ghost use Rattle.sfi_image.specs.Faults.{number_of};
 ghost use Rattle.sfi_tool.specs.private.Says.{StopsBuild, stop_of};
 ghost use Rattle.sfi_tool.specs.declared.fault.Stop.TheVariants.{Memory};
 
+use crate::verdict::Answer;
 use rv_text::{TextCause, TextFault};
 use sfi_image::{ImageFault, LayoutFault};
 use sfi_io::{HexFault, HexStop};
 use sfi_link::{BuildFault, LinkFault};
 use sfi_rewrite::RewriteFault;
 use std::alloc::{AllocError, Global};
-use std::fmt::Display;
-use thiserror::Error;
 
-/// The line that names a text above its limit. A run says it without an allocation.
+/// The line that names a text above its limit.
 pub(crate) const TOO_LARGE_LINE: &str = "input fault too large\n";
 
 /// What is wrong with the text that was read.
-#[derive(Debug, Drop, Error)]
+#[derive(Clone, Copy)]
 pub(crate) enum InputFault {
-    #[error("{}", TOO_LARGE_LINE.trim_ascii_end())]
-    TooLarge,
-    #[error("{0}")]
     Hex(HexFault),
-    #[error("input fault utf8")]
     Utf8,
     /// It spells an image of the second format, which `convert` makes.
-    #[error("convert fault 2 NotOld")]
     NotOld,
 }
 
 /// Why a command gives no verdict: a fault of the text, of the image that it spells or of the
 /// source that it means, or an allocation was refused.
-#[derive(Debug, Drop)]
+#[derive(Clone, Copy)]
 pub(crate) enum Stop {
     Input(InputFault),
     Layout(LayoutFault),
@@ -61,9 +55,25 @@ impl From<HexStop> for Stop {
     }
 }
 
-/// A fault's text, as a line: of the input's faults and of a build's, whose text is the whole line.
-pub(crate) fn fault_line<F: Display>(alloc: Global, fault: &F) -> Result<String, AllocError> {
-    format!(in alloc; "{fault}\n")
+/// Why a build stops: want of memory is no fault of the text.
+impl From<BuildFault> for Stop {
+    ghost from_gives = { StopsBuild };
+
+    fn from(fault: BuildFault) -> Stop {
+        match fault {
+            BuildFault::Text(
+                TextFault {
+                    cause: TextCause::Memory,
+                    ..
+                },
+            )
+            | BuildFault::Rewrite(RewriteFault::Memory)
+            | BuildFault::Link(LinkFault::Memory) => Stop::Memory,
+            BuildFault::Text(_) | BuildFault::Rewrite(_) | BuildFault::Link(_) => Stop::Build(
+                fault,
+            ),
+        }
+    }
 }
 
 /// The fault of an image that has this number.
@@ -88,22 +98,37 @@ pub(crate) fn fault_numbered(number: u32) -> LayoutFault
 
 /// The line that names a fault of the image.
 pub(crate) fn layout_line(alloc: Global, fault: LayoutFault) -> Result<String, AllocError> {
-    fault_line(alloc, &ImageFault::Layout(fault))
+    let fault = ImageFault::Layout(fault);
+    format!(in alloc; "{fault}\n")
 }
 
-/// Why a build stops: want of memory is no fault of the text.
-pub(crate) fn build_stop(fault: BuildFault) -> Stop
-    ensures { StopsBuild fault result }
-{
+/// The line that names a fault of the text.
+fn input_line(alloc: Global, fault: InputFault) -> Result<String, AllocError> {
     match fault {
-        BuildFault::Text(
-            TextFault {
-                cause: TextCause::Memory,
-                ..
-            },
-        )
-        | BuildFault::Rewrite(RewriteFault::Memory)
-        | BuildFault::Link(LinkFault::Memory) => Stop::Memory,
-        BuildFault::Text(_) | BuildFault::Rewrite(_) | BuildFault::Link(_) => Stop::Build(fault),
+        InputFault::Hex(fault) => format!(in alloc; "{fault}\n"),
+        InputFault::Utf8 => String::from_str(alloc, "input fault utf8\n"),
+        InputFault::NotOld => String::from_str(alloc, "convert fault 2 NotOld\n"),
     }
+}
+
+/// The line that says why a command gives no verdict.
+fn stop_line(alloc: Global, stop: Stop) -> Result<String, AllocError>
+    ensures { IfOk result (λ line. stop ≢ Memory) }
+{
+    match stop {
+        Stop::Input(fault) => input_line(alloc, fault),
+        Stop::Layout(fault) => layout_line(alloc, fault),
+        Stop::Build(fault) => format!(in alloc; "{fault}\n"),
+        Stop::Memory => Err(AllocError),
+    }
+}
+
+/// What is answered where a command gives no verdict.
+pub(crate) fn stop_answer(alloc: Global, stop: Stop) -> Result<Answer, AllocError>
+    ensures { IfOk result (λ a. (a.status ≡ 2) × (stop ≢ Memory)) }
+{
+    Ok(Answer {
+        status: 2,
+        text: stop_line(alloc, stop)?,
+    })
 }

@@ -8,7 +8,6 @@ mod converting;
 mod fault;
 mod listing;
 mod map_lines;
-mod mapping;
 mod plan;
 mod raw;
 mod run_lines;

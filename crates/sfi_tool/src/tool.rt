@@ -1,17 +1,19 @@
 //! A run of the program, over its reader and writer.
 
-ghost use Rattle.std.specs.Prelude.{◌≡◌, ◌<◌, ◌≤◌, ◌≢◌, ℕ, List, true, false, IfSome, map, string_bytes};
+ghost use Rattle.std.specs.Prelude.{◌≡◌, ◌<◌, ◌≤◌, ◌≢◌, Some, map, string_bytes, false, true};
 ghost use Rattle.std.specs.Io.KnownBytes.{Appends};
 ghost use Rattle.sfi_command.specs.Command.{Asks, AsksNothing};
-ghost use Rattle.sfi_tool.specs.Run.{WritesAnswer, MeetsFault, OnlyAppends};
-ghost use Rattle.sfi_tool.specs.Says.{HasInputFault, Says};
+ghost use Rattle.sfi_command.specs.Jobs.{is_raw};
+ghost use Rattle.sfi_command.specs.Numbers.{number_of};
 ghost use Rattle.sfi_command.specs.declared.job.Job.{Job};
 ghost use Rattle.sfi_command.specs.declared.job.Job.TheVariants.{Check};
+ghost use Rattle.sfi_tool.specs.Run.{WritesAnswer, MeetsFault, OnlyAppends};
+ghost use Rattle.sfi_tool.specs.private.Says.{Runs};
 
 use crate::answering::answer;
 use crate::fault::TOO_LARGE_LINE;
 use crate::raw::raw_answer;
-use sfi_command::{HEX_LINE, JobFault, job_of};
+use sfi_command::{HEX_LINE, Job, JobFault, job_of};
 use sfi_io::{Input, ReadStop, read_input, write_out};
 use std::alloc::Global;
 use std::io::{Read, Write};
@@ -29,20 +31,61 @@ fn status_after_writing<W: Write>(writer: &mut W, status: u8, text: &str) -> u8
     }
 }
 
-/// Runs `check --raw`.
-fn run_raw<R: Read, W: Write>(alloc: Global, reader: &mut R, writer: &mut W) -> u8
-    ensures statuses { result ≤ 5 }
-    ensures says { result < 2 → IfSome (R.remaining reader.old) (λ bytes. (text : List ℕ)
-        × Says (Check true false) bytes result text
-        × Appends (W.contents writer.old) (W.contents writer.new) text) }
-    ensures fault { result ≡ 2
-        → IfSome (R.remaining reader.old) (HasInputFault (Check true false)) }
-    ensures usage { result ≢ 3 }
+/// Writes what is printed for words that ask for no job.
+fn status_of_fault<W: Write>(writer: &mut W, fault: &JobFault) -> u8
+    ensures statuses { (2 ≤ result) × (result ≤ 5) }
+    ensures hex { result ≡ 2 → number_of fault.now ≡ 2 }
+    ensures usage { result ≡ 3 → number_of fault.now ≡ 1 }
     ensures memory { result ≡ 4 → writer.new ≡ writer.old }
     ensures appends { OnlyAppends (W.contents writer.old) (W.contents writer.new) }
 {
+    match fault {
+        JobFault::Usage(text) => status_after_writing(writer, 3, text),
+        JobFault::Hex => status_after_writing(writer, 2, HEX_LINE),
+        JobFault::Memory => 4,
+    }
+}
+
+/// Runs `check --raw`.
+fn run_raw<R: Read, W: Write>(alloc: Global, reader: &mut R, writer: &mut W) -> u8
+    ensures runs { Runs (Check true false) (R.remaining reader.old)
+        (W.contents writer.old) (W.contents writer.new) result }
+    ensures memory { result ≡ 4 → writer.new ≡ writer.old }
+{
     match raw_answer(alloc, reader) {
         Ok(answer) => status_after_writing(writer, answer.status, &answer.text),
+        Err(ReadStop::Memory) => 4,
+        Err(ReadStop::Failed) => 5,
+    }
+}
+
+/// Runs a job on the text that was read.
+fn run_on<W: Write>(alloc: Global, job: &Job, text: &[u8], writer: &mut W) -> u8
+    requires { is_raw job.now ≡ false }
+    ensures runs { Runs job.now (Some text.now) (W.contents writer.old) (W.contents writer.new)
+        result }
+    ensures memory { result ≡ 4 → writer.new ≡ writer.old }
+{
+    match answer(alloc, job, text) {
+        Ok(answer) => status_after_writing(writer, answer.status, &answer.text),
+        Err(_) => 4,
+    }
+}
+
+/// Runs a job: its reader is read to its end or past the limit, or, where it judges raw bytes, to a
+/// fault of the layout or to the end.
+fn run_job<R: Read, W: Write>(alloc: Global, job: &Job, reader: &mut R, writer: &mut W) -> u8
+    requires { is_raw job.now ≡ true → job.now ≡ Check true false }
+    ensures runs { Runs job.now (R.remaining reader.old)
+        (W.contents writer.old) (W.contents writer.new) result }
+    ensures memory { result ≡ 4 → writer.new ≡ writer.old }
+{
+    if job.is_raw() {
+        return run_raw(alloc, reader, writer);
+    }
+    match read_input(alloc, reader) {
+        Ok(Input::Whole(text)) => run_on(alloc, job, &text, writer),
+        Ok(Input::TooLarge) => status_after_writing(writer, 2, TOO_LARGE_LINE),
         Err(ReadStop::Memory) => 4,
         Err(ReadStop::Failed) => 5,
     }
@@ -76,23 +119,8 @@ pub fn run_tool<R: Read, W: Write>(
     ensures memory { result ≡ 4 → writer.new ≡ writer.old }
     ensures appends { OnlyAppends (W.contents writer.old) (W.contents writer.new) }
 {
-    let job = match job_of(alloc, words) {
-        Ok(job) => job,
-        Err(JobFault::Usage(text)) => return status_after_writing(writer, 3, &text),
-        Err(JobFault::Hex) => return status_after_writing(writer, 2, HEX_LINE),
-        Err(JobFault::Memory) => return 4,
-    };
-    if job.is_raw() {
-        return run_raw(alloc, reader, writer);
-    }
-    let text = match read_input(alloc, reader) {
-        Ok(Input::Whole(text)) => text,
-        Ok(Input::TooLarge) => return status_after_writing(writer, 2, TOO_LARGE_LINE),
-        Err(ReadStop::Memory) => return 4,
-        Err(ReadStop::Failed) => return 5,
-    };
-    match answer(alloc, &job, text.as_slice()) {
-        Ok(answer) => status_after_writing(writer, answer.status, &answer.text),
-        Err(_) => 4,
+    match job_of(alloc, words) {
+        Ok(job) => run_job(alloc, &job, reader, writer),
+        Err(fault) => status_of_fault(writer, &fault),
     }
 }

@@ -2,6 +2,7 @@
 
 ghost use Rattle.std.specs.Prelude.{◌≡◌, IfOk, string_bytes};
 ghost use Rattle.sfi_tool.specs.Verdict.{accepted_text, refused_text};
+ghost use Rattle.sfi_tool.specs.commands.Building.{digits_line};
 
 use sfi_report::push_eight_digits;
 use sfi_scan::Finding;
@@ -45,6 +46,15 @@ pub(crate) fn refused_line(
         "refused findings={count} first=V{number} sandbox={sandbox} at="
     )?;
     push_eight_digits(&mut line, address)?;
+    line.push_str("\n")?;
+    Ok(line)
+}
+
+/// The bytes in lower-case hexadecimal digits, on one line.
+pub(crate) fn digits_line(alloc: Global, bytes: &[u8]) -> Result<String, AllocError>
+    ensures { IfOk result (λ line. string_bytes line ≡ digits_line bytes.now) }
+{
+    let mut line = hex::encode(alloc, bytes)?;
     line.push_str("\n")?;
     Ok(line)
 }

@@ -59,11 +59,16 @@ HasSomeFault bytes = (fault : LayoutFault) × IsFault bytes fault
 
 -- ---- the command
 
--- `check`, with the report or without
-abbrev pub check : Bool → Meaning
-check report = record {
-  says = SaysVerdict report;
+-- a command with this answer, which is done on an image without findings, refused on one with
+-- findings, and has a fault where the bytes are no image
+abbrev pub on_verdict : (List ℕ → ℕ → List ℕ → Type 0) → Meaning
+on_verdict says = record {
+  says = says;
   is_done = IsAcceptedImage;
   is_refused = HasSomeFindings;
   has_fault = HasSomeFault;
 }
+
+-- `check`, with the report or without
+abbrev pub check : Bool → Meaning
+check report = on_verdict (SaysVerdict report)

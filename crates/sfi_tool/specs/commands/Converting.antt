@@ -1,12 +1,11 @@
 -- The command `convert`, on an image's bytes.
-use Rattle.std.specs.Prelude.{◌≡◌, ◌⊎◌, ℕ, List, ◌++◌, false}
-use Rattle.hex.specs.Hex.{encode_lower}
+use Rattle.std.specs.Prelude.{◌≡◌, ◌⊎◌, ℕ, List, false}
 use Rattle.sfi_check.specs.Converting.{IsSecond, IsConversion, HasStackFindings}
 use Rattle.sfi_check.specs.Verdict.{HasFindings}
-use Rattle.sfi_report.specs.Digits.{line_end}
 use Rattle.sfi_scan.specs.declared.finding.Finding.{Finding}
 use Rattle.sfi_tool.specs.Meaning.{Meaning}
 use Rattle.sfi_tool.specs.Verdict.{refused_line}
+use Rattle.sfi_tool.specs.commands.Building.{digits_line}
 use Rattle.sfi_tool.specs.commands.Checking.{SaysRefused, HasSomeFault}
 
 -- ---- the answer
@@ -16,7 +15,7 @@ pub record SaysConverted (bytes : List ℕ) (status : ℕ) (text : List ℕ) : T
   pub new : List ℕ
   pub conversion : IsConversion bytes new
   pub status_is : status ≡ 0
-  pub text_is : text ≡ encode_lower new ++ line_end
+  pub text_is : text ≡ digits_line new
 
 -- the image has no findings in the first format, and its sandboxes have some in the second: status
 -- 1 and the line of the first

@@ -4,7 +4,7 @@ use Rattle.sfi_image.specs.Spelling.{Part}
 use Rattle.sfi_check.specs.Verdict.{IsAccepted}
 use Rattle.sfi_tool.specs.Meaning.{Meaning}
 use Rattle.sfi_tool.specs.RunLines.{IsRunText}
-use Rattle.sfi_tool.specs.commands.Checking.{SaysRefused, IsAcceptedImage, HasSomeFindings, HasSomeFault}
+use Rattle.sfi_tool.specs.commands.Checking.{SaysRefused, on_verdict}
 
 -- the image has no findings: status 0 and the text of a run of its sandboxes, each of which reads
 -- what is given
@@ -23,9 +23,4 @@ SaysRun rounds quantum given report bytes status text =
 -- `run`, of so many rounds of turns of so many steps, where each sandbox reads what is given, with a
 -- report or without
 abbrev pub run : ℕ → ℕ → List ℕ → Bool → Meaning
-run rounds quantum given report = record {
-  says = SaysRun rounds quantum given report;
-  is_done = IsAcceptedImage;
-  is_refused = HasSomeFindings;
-  has_fault = HasSomeFault;
-}
+run rounds quantum given report = on_verdict (SaysRun rounds quantum given report)

@@ -1,5 +1,6 @@
 -- Words of private contracts and proofs, beside those of Says and of commands.
-use Rattle.std.specs.Prelude.{◌≡◌, ℕ, List, Result, Ok, Err}
+use Rattle.std.specs.Prelude.{◌≡◌, ◌≢◌, ◌<◌, ◌≤◌, ℕ, List, Option, Result, Ok, Err, IfErr, IfOk, IfSome, IsErr, string_bytes}
+use Rattle.std.specs.Io.KnownBytes.{Appends}
 use Rattle.sfi_image.specs.Spelling.{Part}
 use Rattle.sfi_image.specs.Faults.{IsFault}
 use Rattle.sfi_image.specs.declared.fault.LayoutFault.{LayoutFault}
@@ -16,7 +17,9 @@ use Rattle.sfi_tool.specs.declared.fault.Stop.{Stop}
 use Rattle.sfi_tool.specs.declared.fault.Stop.TheVariants as stop
 use Rattle.sfi_command.specs.declared.job.Job.{Job}
 use Rattle.sfi_tool.specs.declared.verdict.Answer.{Answer}
-use Rattle.sfi_tool.specs.Says.{HasInputFault}
+use Rattle.sfi_tool.specs.Meaning.{Meaning}
+use Rattle.sfi_tool.specs.Run.{OnlyAppends}
+use Rattle.sfi_tool.specs.Says.{HasInputFault, Says}
 use Rattle.sfi_tool.specs.commands.Building.{IsNoSourceText}
 
 -- the check of these bytes refuses them so: the fault or the findings are theirs,
@@ -31,24 +34,17 @@ pub record Refuses (bytes : List ℕ) (refusal : Refusal) : Type 0 where
   pub only_accepted :
       (parts : List Part) → IsAccepted bytes parts → AnswersAccepted parts (Err refusal)
 
--- a refusal stops at a fault of the layout only
-abbrev pub IsRefusalStop : List ℕ → Stop → Type 0
-IsRefusalStop bytes (stop.Input fault) = ⊥
-IsRefusalStop bytes (stop.Layout fault) = IsFault bytes fault
-IsRefusalStop bytes (stop.Build fault) = ⊥
-IsRefusalStop bytes stop.Memory = Unit {0}
-
 -- where a text spells no bytes, its command stops so
 abbrev pub stop_of : HexStop → Stop
 stop_of (hex.Fault fault) = stop.Input (Hex fault)
 stop_of hex.Memory = stop.Memory
 
--- a job stops at a fault of the input only
-abbrev pub IsStop : Job → List ℕ → Stop → Type 0
-IsStop job input (stop.Input fault) = HasInputFault job input
-IsStop job input (stop.Layout fault) = HasInputFault job input
-IsStop job input (stop.Build fault) = HasInputFault job input
-IsStop job input stop.Memory = Unit {0}
+-- a command stops so for want of memory, or for a fault, where its input has one
+abbrev pub IsStop : Type 0 → Stop → Type 0
+IsStop faulty (stop.Input fault) = faulty
+IsStop faulty (stop.Layout fault) = faulty
+IsStop faulty (stop.Build fault) = faulty
+IsStop faulty stop.Memory = Unit {0}
 
 -- the answer has this status, or memory ran out
 abbrev pub AnswersStatus : ℕ → Result Answer Stop → Type 0
@@ -57,6 +53,23 @@ AnswersStatus status (Err (stop.Input fault)) = ⊥
 AnswersStatus status (Err (stop.Layout fault)) = ⊥
 AnswersStatus status (Err (stop.Build fault)) = ⊥
 AnswersStatus status (Err stop.Memory) = Unit {0}
+
+-- what a command answers on what was read, or why it stops
+pub record Answers (command : Meaning) (input : List ℕ) (result : Result Answer Stop) : Type 0 where
+  pub says : IfOk result (λ a. command.says input a.status (string_bytes a.text))
+  pub stop : IfErr result (IsStop (command.has_fault input))
+  pub only_done : command.is_done input → AnswersStatus 0 result
+  pub only_refused : command.is_refused input → AnswersStatus 1 result
+  pub only_fault : command.has_fault input → IsErr result
+
+-- the status of a job's run on what its reader told, and what its writer holds then
+pub record Runs (job : Job) (input old new : Option (List ℕ)) (status : ℕ) : Type 0 where
+  pub statuses : status ≤ 5
+  pub says : status < 2
+      → IfSome input (λ bytes. (text : List ℕ) × Says job bytes status text × Appends old new text)
+  pub fault : status ≡ 2 → IfSome input (HasInputFault job)
+  pub usage : status ≢ 3
+  pub appends : OnlyAppends old new
 
 -- a source text isn't read only where what was read is none
 abbrev pub IsSourceStop : List ℕ → Stop → Type 0

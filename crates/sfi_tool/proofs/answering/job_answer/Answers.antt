@@ -1,22 +1,21 @@
-use Rattle.std.proofs.Common.{◌≡◌, ◌∙◌, ℕ, Bool, false, List, Result, IfOk, string_bytes, ap, sym, subst}
-use Rattle.std.specs.Prelude.{IsErr}
-use Rattle.sfi_tool.specs.Says.{HasInputFault, Says}
+use Rattle.std.proofs.Common.{◌≡◌, ◌∙◌, ℕ, Bool, false, List, Result, ap, sym, subst}
+use Rattle.sfi_tool.specs.Says.{meaning_of}
+use Rattle.sfi_tool.specs.commands.Checking.{check}
+use Rattle.sfi_tool.specs.commands.Converting.{convert}
+use Rattle.sfi_tool.specs.commands.Listing.{dis}
+use Rattle.sfi_tool.specs.commands.Running.{run}
 use Rattle.sfi_tool.specs.declared.fault.Stop.{Stop}
+use Rattle.sfi_tool.specs.declared.verdict.Answer.{Answer}
+use Rattle.sfi_tool.specs.private.Says.{Answers}
 use Rattle.sfi_command.specs.Jobs.{is_raw}
 use Rattle.sfi_command.specs.declared.job.Job.{Job}
 use Rattle.sfi_command.specs.declared.job.Job.TheVariants.{Check}
-use Rattle.sfi_tool.specs.declared.verdict.Answer.{Answer}
+use Rattle.sfi_tool.proofs.Texts.{on_bytes}
 use Rattle.sfi_tool.proofs.answering.job_answer.Goals as goal
 
--- what a command says is the job's answer, where that job was asked for
-answer_says : (asked job : Job) (text : List ℕ) (r : Result Answer Stop) → asked ≡ job
-    → IfOk r (λ (x : Answer). Says job text x.status (string_bytes x.text)) → IfOk r (λ (x : Answer). Says asked text x.status (string_bytes x.text))
-answer_says asked job text r same says =
-    subst (λ (j : Job). IfOk r (λ (x : Answer). Says j text x.status (string_bytes x.text))) (sym same) says
-
--- and a fault of what it reads is one of what the job reads
-answer_fault : (asked job : Job) (text : List ℕ) (r : Result Answer Stop) → asked ≡ job → (HasInputFault job text → IsErr r) → HasInputFault asked text → IsErr r
-answer_fault asked job text r same faulty has = faulty (subst (λ (j : Job). HasInputFault j text) same has)
+-- what a command answers is the job's answer, where that job was asked for
+as_job : (asked job : Job) (text : List ℕ) (r : Result Answer Stop) → asked ≡ job → Answers (meaning_of job) text r → Answers (meaning_of asked) text r
+as_job asked job text r same a = subst (λ (j : Job). Answers (meaning_of j) text r) (sym same) a
 
 -- a check that reads a text
 text_check : (job : Job) (raw report : Bool) → job ≡ Check raw report → is_raw job ≡ false → job ≡ Check false report
@@ -24,18 +23,30 @@ text_check job raw report is text =
     let same : raw ≡ false = sym (ap is_raw is) ∙ text in
     is ∙ ap (λ (r : Bool). Check r report) same
 
-pub returns-in-Check-clause-says : goal.returns-in-Check-clause-says
-returns-in-Check-clause-says c =
-    answer_says _ _ _ c.check_answer.result (text_check c.args.job.now c.in-Check.raw c.in-Check.report c.in-Check.is c.requires.reads_text) c.check_answer.ensures.says
+pub returns-in_ok-bytes_of-in-Check : goal.returns-in_ok-bytes_of-in-Check
+returns-in_ok-bytes_of-in-Check c =
+    as_job _ _ _ c.check_answer.result (text_check c.args.job.now c.in-Check.raw c.in-Check.report c.in-Check.is c.requires.reads_text)
+    (on_bytes (check c.in-Check.report) c.args.text.now c.in_ok-bytes_of-in-Check.field-0.items c.deref.result.now c.check_answer.result
+    c.in_ok-bytes_of-in-Check.ensures.bytes c.in_ok-bytes_of-in-Check.ensures.only_bytes (λ u. let e = c.in_ok-bytes_of-in-Check.ensures.only_stop u in absurd cc) c.deref.ensures.value
+    c.check_answer.ensures)
 
-pub returns-in-Run-clause-says : goal.returns-in-Run-clause-says
-returns-in-Run-clause-says c = answer_says _ _ _ c.run_answer.result c.in-Run.is c.run_answer.ensures.says
+pub returns-in_ok-bytes_of-in-Dis : goal.returns-in_ok-bytes_of-in-Dis
+returns-in_ok-bytes_of-in-Dis c =
+    as_job _ _ _ c.listing_answer.result c.in-Dis.is
+    (on_bytes dis c.args.text.now c.in_ok-bytes_of-in-Dis.field-0.items c.deref-in-Dis.result.now c.listing_answer.result
+    c.in_ok-bytes_of-in-Dis.ensures.bytes c.in_ok-bytes_of-in-Dis.ensures.only_bytes (λ u. let e = c.in_ok-bytes_of-in-Dis.ensures.only_stop u in absurd cc) c.deref-in-Dis.ensures.value
+    c.listing_answer.ensures)
 
-pub returns-in-Map-clause-says : goal.returns-in-Map-clause-says
-returns-in-Map-clause-says c = answer_says _ _ _ c.map_answer.result c.in-Map.is c.map_answer.ensures.says
+pub returns-in_ok-bytes_of-in-Run : goal.returns-in_ok-bytes_of-in-Run
+returns-in_ok-bytes_of-in-Run c =
+    as_job _ _ _ c.run_answer.result c.in-Run.is
+    (on_bytes (run c.in-Run.rounds c.in-Run.quantum c.in-Run.input.items c.in-Run.report) c.args.text.now c.in_ok-bytes_of-in-Run.field-0.items c.deref-in-Run-2.result.now c.run_answer.result
+    c.in_ok-bytes_of-in-Run.ensures.bytes c.in_ok-bytes_of-in-Run.ensures.only_bytes (λ u. let e = c.in_ok-bytes_of-in-Run.ensures.only_stop u in absurd cc) c.deref-in-Run-2.ensures.value
+    (subst (λ (given : List ℕ). Answers (run c.in-Run.rounds c.in-Run.quantum given c.in-Run.report) c.deref-in-Run-2.result.now c.run_answer.result) c.deref-in-Run.ensures.value c.run_answer.ensures))
 
-pub returns-in-Map-clause-only_fault : goal.returns-in-Map-clause-only_fault
-returns-in-Map-clause-only_fault c = answer_fault _ _ _ c.map_answer.result c.in-Map.is c.map_answer.ensures.only_fault
-
-pub returns-in-Build-clause-says : goal.returns-in-Build-clause-says
-returns-in-Build-clause-says c = answer_says _ _ _ c.build_answer.result c.in-Build.is c.build_answer.ensures.says
+pub returns-in_ok-bytes_of-in-Convert : goal.returns-in_ok-bytes_of-in-Convert
+returns-in_ok-bytes_of-in-Convert c =
+    as_job _ _ _ c.conversion_answer.result c.in-Convert.is
+    (on_bytes convert c.args.text.now c.in_ok-bytes_of-in-Convert.field-0.items c.deref-in-Convert.result.now c.conversion_answer.result
+    c.in_ok-bytes_of-in-Convert.ensures.bytes c.in_ok-bytes_of-in-Convert.ensures.only_bytes (λ u. let e = c.in_ok-bytes_of-in-Convert.ensures.only_stop u in absurd cc) c.deref-in-Convert.ensures.value
+    c.conversion_answer.ensures)

@@ -1,12 +1,9 @@
-use Rattle.std.proofs.Common.{ℕ, List, sym, subst}
-use Rattle.sfi_place.specs.declared.place.Place.{Place}
 use Rattle.sfi_link.specs.Texts.{IsTextBuild}
-use Rattle.sfi_tool.proofs.SourceStops.{memory_stops}
+use Rattle.sfi_tool.specs.commands.Building.{digits_line}
+use Rattle.sfi_tool.proofs.Sources.{not_made}
 use Rattle.sfi_tool.proofs.building.build_answer.Goals as goal
 
-pub returns-in-Err-clause-only_done : goal.returns-in-Err-clause-only_done
-returns-in-Err-clause-only_done c done =
-    memory_stops c.in-Err.fault c.build_stop.result c.build_stop.ensures
-    (c.in-Err.ensures.only_built done.0
-    (subst (λ (p : List Place). IsTextBuild p c.in_ok-source.source.now done.0) (sym c.as_slice.ensures.value)
-    (subst (λ (t : List ℕ). IsTextBuild c.args.places.now.items t done.0) (sym c.in_ok-source.ensures.text.0) done.2)))
+pub returns-in_err-bytes : goal.returns-in_err-bytes
+returns-in_err-bytes c =
+    not_made c.args.places.now IsTextBuild digits_line c.args.text.now c.in_ok-source.source.now c.in_err-bytes.field-0.0 c.from_residual-in_err-bytes.result
+    c.in_ok-source.ensures.text.0 c.in_err-bytes.ensures.fault c.in_err-bytes.ensures.only_built c.from_residual-in_err-bytes.ensures.1

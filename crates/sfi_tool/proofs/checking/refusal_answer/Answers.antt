@@ -1,7 +1,18 @@
+use Rattle.std.proofs.Common.{List, refl, subst}
+use Rattle.std.specs.Prelude.{string_bytes}
+use Rattle.sfi_check.specs.declared.refusal.Refusal.{Refusal}
+use Rattle.sfi_scan.specs.declared.finding.Finding.{Finding}
+use Rattle.sfi_tool.specs.commands.Checking.{IsRefusalText, SaysRefused}
+use Rattle.sfi_tool.specs.private.Says.{Refuses}
+use Rattle.sfi_tool.proofs.Verdicts.{has_fault, has_findings}
 use Rattle.sfi_tool.proofs.checking.refusal_answer.Goals as goal
 
-pub returns-in_ok-refusal_text-in-Findings-clause-only_fault : goal.returns-in_ok-refusal_text-in-Findings-clause-only_fault
-returns-in_ok-refusal_text-in-Findings-clause-only_fault c = λ k fault. absurd (rw c.in-Findings.is at (c.requires.only_layout k fault))
+pub returns-in_ok-refusal_text-in-Findings : goal.returns-in_ok-refusal_text-in-Findings
+returns-in_ok-refusal_text-in-Findings c =
+    let text = c.in_ok-refusal_text-in-Findings.field-0 in
+    has_findings c.args.report c.args.bytes.now c.in-Findings.findings _ (subst (λ (r : Refusal). Refuses c.args.bytes.now r) c.in-Findings.is c.requires) refl
+    (subst (λ (found : List Finding). IsRefusalText c.args.report c.args.bytes.now found (string_bytes text)) c.as_slice.ensures.value c.in_ok-refusal_text-in-Findings.ensures)
 
-pub returns-in-Layout-clause-only_refused : goal.returns-in-Layout-clause-only_refused
-returns-in-Layout-clause-only_refused c = λ found has. rw c.in-Layout.is at (c.requires.only_findings found has)
+pub returns-in-Layout : goal.returns-in-Layout
+returns-in-Layout c =
+    has_fault (SaysRefused c.args.report) c.args.bytes.now c.in-Layout.fault (subst (λ (r : Refusal). Refuses c.args.bytes.now r) c.in-Layout.is c.requires)

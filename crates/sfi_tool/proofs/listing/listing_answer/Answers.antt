@@ -1,8 +1,11 @@
-use Rattle.std.proofs.Common.{◌∙◌, inl, inr}
-use Rattle.sfi_tool.proofs.Texts.{on_fault}
+use Rattle.std.proofs.Common.{inl, inr, refl}
 use Rattle.sfi_tool.proofs.listing.listing_answer.Goals as goal
 
-pub returns-in-Ok-clause-only_fault : goal.returns-in-Ok-clause-only_fault
-returns-in-Ok-clause-only_fault c fault =
-    absurd (on_fault c.args.text.now c.as_slice.result.now (λ b spells. c.as_slice.ensures.value ∙ c.in_ok-bytes.ensures.only_bytes b spells)
-    (λ u. let e = c.in_ok-bytes.ensures.only_stop u in absurd cc) (λ k wrong. elim (c.in-Ok.ensures.only_fault k wrong) [ inl e ↦ cc | inr e ↦ cc ]) fault)
+pub returns-in_ok-listing_text-in-Ok : goal.returns-in_ok-listing_text-in-Ok
+returns-in_ok-listing_text-in-Ok c = record {
+  says = record { parts = c.in-Ok.image; image = c.in-Ok.ensures.image; status_is = refl; text_is = c.in_ok-listing_text-in-Ok.ensures.text };
+  stop = tt;
+  only_done = λ _. refl;
+  only_refused = λ h. absurd h;
+  only_fault = λ h. elim (c.in-Ok.ensures.only_fault h.0 h.1) [ inl e ↦ cc | inr e ↦ cc ];
+}

@@ -1,4 +1,3 @@
-use Rattle.std.proofs.Common.{◌∙◌}
 use Rattle.std.specs.Prelude.{string_bytes}
 use Rattle.std.proofs.lemmas.Result.{IfOk-weaker}
 use Rattle.sfi_tool.proofs.Said.{said_of_run}
@@ -9,5 +8,5 @@ returns c =
     IfOk-weaker c.said.result _ _
     (λ text h machine is. said_of_run c.args.report machine c.args.rounds c.args.quantum c.args.input.now c.args.accepted.now c.sandboxes-count.result c.in_ok-world.world c.in_ok-console.console _ _ (string_bytes text)
     c.sandboxes-count.ensures.count c.in_ok-world.ensures.seats c.in_ok-world.ensures.bytes c.in_ok-console.ensures
-    (c.in_ok-take_rounds.ensures c.args.quantum c.sandboxes-count.result (c.deref.ensures.value ∙ c.in_ok-round.ensures) machine is) h)
+    (c.in_ok-take_rounds.ensures machine is) h)
     c.said.ensures

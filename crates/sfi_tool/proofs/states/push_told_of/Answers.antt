@@ -1,4 +1,4 @@
-use Rattle.std.proofs.Common.{◌≡◌, ◌∙◌, List, Some, arith, sym, ap, slice_get}
+use Rattle.std.proofs.Common.{◌∙◌, Some, arith, sym, ap, slice_get}
 use Rattle.std.specs.Prelude.{string_bytes}
 use Rattle.std.proofs.lemmas.Option.{slice_get-get_or, slice_get_past}
 use Rattle.std.proofs.lemmas.Result.{on_ok_weaker}

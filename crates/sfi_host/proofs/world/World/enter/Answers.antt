@@ -1,5 +1,5 @@
 use Rattle.std.proofs.Common.{◌≡◌, ◌≤◌, length, true, set, slice_get, Some, refl, sym, ◌∙◌, subst, arith}
-use Rattle.std.proofs.lemmas.Option.{slice_get_past}
+use Rattle.std.proofs.lemmas.Option.{slice_get_past, same_Some}
 use Rattle.sfi_host.specs.declared.sandbox.Sandbox.{Sandbox}
 use Rattle.sfi_host.specs.Entering.{MayEnter}
 use Rattle.sfi_host.specs.Sandboxes.{seat_of, world_of}
@@ -7,7 +7,6 @@ use Rattle.sfi_host.specs.Worlds.{IsSafeSeat, slot_of}
 use Rattle.sfi_host.proofs.Asked.{found, seat_at}
 use Rattle.sfi_host.proofs.Changing.{others_same}
 use Rattle.sfi_host.proofs.Entries.{still_enterable, sizes, has_entered, world_is, is_at_entry, no_entry, entry_where}
-use Rattle.sfi_host.proofs.SamePart.{same_some}
 use Rattle.sfi_host.proofs.Taking.{AfterTurn}
 use Rattle.sfi_host.proofs.world.World.enter.Given as given
 use Rattle.sfi_host.proofs.world.World.enter.Goals as goal
@@ -54,7 +53,7 @@ may g c =
     let items = c.self.inside.sandboxes.items in
     let x = c.index.result.now in
     let here : slice_get items c.args.i ≡ Some x = found items items c.args.i x refl (omega (arith, c.len.ensures, c.if-place-len.false)) c.index.ensures in
-    subst (λ (y : Sandbox). MayEnter (seat_of y).bounds y.status c.args.pc) (same_some x c.index_mut.result.now (sym here ∙ at g c)) (c.if-not-may_enter.ensures.0 refl)
+    subst (λ (y : Sandbox). MayEnter (seat_of y).bounds y.status c.args.pc) (same_Some x c.index_mut.result.now (sym here ∙ at g c)) (c.if-not-may_enter.ensures.0 refl)
 
 few : (g : given.Over) (c : goal.After-self-1 g) → length c.args.arguments.now ≤ 8
 few g c = let many = c.told-arguments in omega (arith, many)
