@@ -19,7 +19,7 @@ void wasm_rt_trap(wasm_rt_trap_t cause) {
 void wasm_rt_allocate_memory(wasm_rt_memory_t *memory, uint32_t pages, uint32_t most) {
     (void)pages, (void)most; /* nothing grows it */
     memory->data = checker_memory.stack;
-    memory->size = offsetof(struct checker_memory, verdict);
+    memory->size = offsetof(struct checker_memory, stream);
 }
 
 void wasm_rt_free_memory(wasm_rt_memory_t *memory) {
@@ -79,12 +79,16 @@ _Noreturn static void refuse_image(const struct sfi_verdict *verdict) {
 
 void check_image(const uint8_t *image, uint32_t length) {
     struct sfi_verdict *verdict = &checker_memory.verdict;
+    uint32_t stream = in_module(&checker_memory.stream);
     Z_sfi_init_module();
     Z_sfi_instantiate(&module);
-    if (*Z_sfiZ___heap_base(&module) > in_module(verdict))
+    if (*Z_sfiZ___heap_base(&module) > stream)
         refuse("there is no room for the checker");
     Z_sfiZ_memory(&module)->size = in_module(image) + (uint64_t)length;
-    if (Z_sfiZ_sfi_c_check(&module, in_module(image), length, in_module(verdict)) != SFI_ACCEPTED)
+    /* Not sfi_c_check, whose code for vectors is five times as long, and slower where there are none. */
+    Z_sfiZ_sfi_c_begin(&module, stream);
+    Z_sfiZ_sfi_c_feed(&module, stream, in_module(image), length);
+    if (Z_sfiZ_sfi_c_end(&module, stream, in_module(verdict)) != SFI_ACCEPTED)
         refuse_image(verdict);
 }
 

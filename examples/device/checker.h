@@ -22,6 +22,7 @@ _Static_assert(sizeof(struct module_part) == 48, "struct sfi_part of the module"
 /* The module's own memory, from its address 0 on. */
 struct checker_memory {
     uint8_t stack[MODULE_STACK], data[MODULE_DATA];
+    struct sfi_stream stream;
     struct sfi_verdict verdict;
     struct module_part part;
     struct sfi_gate gates[MODULE_GATES];

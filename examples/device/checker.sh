@@ -46,7 +46,7 @@ wasm2c sfi32.wasm -n sfi -o sfi_wasm.c
 cp /usr/include/wasm-rt.h .
 machine=(-march=rv32imc -mabi=ilp32)
 flags=("${machine[@]}" --specs=picolibc.specs -std=c11 -Os -mcmodel=medany -msmall-data-limit=0)
-flags+=(-ffreestanding -fno-builtin -ffunction-sections -DNDEBUG -DWASM_RT_USE_STACK_DEPTH_COUNT=0)
+flags+=(-ffreestanding -fno-builtin -ffunction-sections -fdata-sections -DNDEBUG -DWASM_RT_USE_STACK_DEPTH_COUNT=0)
 flags+=(-I. -I"$here/../../crates/sfi_c/include")
 # shellcheck disable=SC2206 # words
 flags+=(${CHECKER_FLAGS:-})

@@ -9,7 +9,7 @@ library=${1:+$(realpath "$1")}
 here=$(cd "$(dirname "${BASH_SOURCE[0]}")" && pwd)
 top=$(cd "$here/../.." && pwd)
 # The most bytes of code and constants that the checker may add to a program.
-most=32768
+most=40960
 room=$(mktemp -d)
 trap 'rm -rf "$room"' EXIT
 passed=0

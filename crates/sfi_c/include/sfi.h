@@ -87,7 +87,9 @@ typedef char sfi_structs_have_no_padding[sizeof(struct sfi_finding) == 12 && siz
 #endif
 
 /*
- * Writes the verdict on the `length` bytes at `image` to *verdict, and returns its status.
+ * Writes the verdict on the `length` bytes at `image` to *verdict, and returns its status. It looks at eight bundles at
+ * a time, by vectors: where the processor has none, sfi_c_begin, sfi_c_feed and sfi_c_end below say the same by less
+ * code and in less time.
  */
 uint32_t sfi_c_check(const uint8_t *image, size_t length, struct sfi_verdict *verdict);
 

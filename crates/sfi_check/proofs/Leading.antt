@@ -1,8 +1,7 @@
 -- One step of a reader with its tally.
-use Rattle.std.proofs.Common.{◌≡◌, ℕ, ◌+◌, ◌-◌, ◌<◌, ◌≤◌, Bool, List, ◌++◌, length, take, drop, sym, ap, ◌∙◌, subst, arith, append_assoc, inl, inr, None}
+use Rattle.std.proofs.Common.{◌≡◌, ℕ, ◌+◌, ◌-◌, ◌<◌, ◌≤◌, List, ◌++◌, length, take, drop, sym, ap, ◌∙◌, subst, arith, append_assoc, inl, inr, None}
 use Rattle.std.proofs.lemmas.List.{take-append-drop, length-take, length-drop, take_all}
 use Rattle.std.proofs.Math.Seq.{take-append-add}
-use Rattle.sfi_policy.specs.declared.format.Format.{Format}
 use Rattle.sfi_image.specs.declared.fields.Fields.{Fields}
 use Rattle.sfi_image.specs.declared.span.Span.{Span}
 use Rattle.sfi_image.specs.declared.want.Want.{Want}
@@ -15,44 +14,44 @@ use Rattle.sfi_image.specs.Fronts.{Front, front, IsRightFront, want_of, IsLength
 use Rattle.sfi_image.specs.Fronts.Front.{Empty, AfterMagic, AfterCount, InGates, InCode, InInit, Whole}
 use Rattle.sfi_image.specs.Keeping.{ReaderState, StandsFor, Leads, left}
 use Rattle.sfi_scan.specs.declared.finding.Finding.{Finding}
+use Rattle.sfi_scan.specs.declared.bundle.BundlePlace.{BundlePlace}
 use Rattle.sfi_scan.specs.Bundles.{IsWithin}
 use Rattle.sfi_scan.specs.Findings.{AreBundleFindings}
 use Rattle.sfi_check.specs.declared.tally.Tally.{Tally}
-use Rattle.sfi_check.specs.private.Tallies.{IsSoFar, IsTold}
+use Rattle.sfi_check.specs.private.Tallies.{IsSoFar, IsTold, want_at}
 use Rattle.sfi_check.proofs.Tallying.{field_tallies, bundle_tallies, init_tallies, fault_onwards, Adds}
 
 code_test : (before : List Span) (f : Fields) → IsFirstFault before f field_tests None → IsCodeRegion f.format f.code_base f.code_size
 code_test before f (inl h) = h.0
 code_test before f (inr h) = let e = h.1 in absurd cc
 
-pub bundle_within : WholeBundles → (x : Front) (sandbox address : ℕ) (format : Format) (base size : ℕ) (listed : Bool) → IsRightFront x → wants.Bundle sandbox address format base size listed ≡ want_of x
-    → IsWithin (record { sandbox = sandbox; address = address; format = format; code_base = base; code_size = size; listed = listed })
-bundle_within law Empty sandbox address format base size listed right w = absurd cc
-bundle_within law (AfterMagic kind) sandbox address format base size listed right w = absurd cc
-bundle_within law (AfterCount kind n ps) sandbox address format base size listed right w = absurd cc
-bundle_within law (InGates n ps f gs) sandbox address format base size listed right w = absurd cc
-bundle_within law (InCode n ps f gs code) sandbox address format base size listed right w =
-    let at : address ≡ f.code_base + length code = cc in
-    let b : base ≡ f.code_base = cc in
-    let z : size ≡ f.code_size = cc in
+pub bundle_within : WholeBundles → (x : Front) (b : BundlePlace) → IsRightFront x → want_at b ≡ want_of x → IsWithin b
+bundle_within law Empty b right w = absurd cc
+bundle_within law (AfterMagic kind) b right w = absurd cc
+bundle_within law (AfterCount kind n ps) b right w = absurd cc
+bundle_within law (InGates n ps f gs) b right w = absurd cc
+bundle_within law (InCode n ps f gs code) b right w =
+    let at : b.address ≡ f.code_base + length code = cc in
+    let base : b.code_base ≡ f.code_base = cc in
+    let size : b.code_size ≡ f.code_size = cc in
     let placed = law f.format f.code_base f.code_size right.0.words.code_base (code_test (spans ps) f right.0.passed) in
     let whole = placed.2 in
     let even = right.2 in
     let inside = right.3 in
     record { base = omega arith; end = omega arith; addresses = omega (arith, placed.4) }
-bundle_within law (InInit n ps f gs code init) sandbox address format base size listed right w = absurd cc
-bundle_within law (Whole ps) sandbox address format base size listed right w = absurd cc
+bundle_within law (InInit n ps f gs code init) b right w = absurd cc
+bundle_within law (Whole ps) b right w = absurd cc
 
-pub bundle_sandbox : (x : Front) (sandbox address : ℕ) (format : Format) (base size : ℕ) (listed : Bool) → IsRightFront x → wants.Bundle sandbox address format base size listed ≡ want_of x → sandbox < 16
-bundle_sandbox Empty sandbox address format base size listed right w = absurd cc
-bundle_sandbox (AfterMagic kind) sandbox address format base size listed right w = absurd cc
-bundle_sandbox (AfterCount kind n ps) sandbox address format base size listed right w = absurd cc
-bundle_sandbox (InGates n ps f gs) sandbox address format base size listed right w = absurd cc
-bundle_sandbox (InCode n ps f gs code) sandbox address format base size listed right w =
-    let number : sandbox ≡ length ps = cc in
+pub bundle_sandbox : (x : Front) (b : BundlePlace) → IsRightFront x → want_at b ≡ want_of x → b.sandbox < 16
+bundle_sandbox Empty b right w = absurd cc
+bundle_sandbox (AfterMagic kind) b right w = absurd cc
+bundle_sandbox (AfterCount kind n ps) b right w = absurd cc
+bundle_sandbox (InGates n ps f gs) b right w = absurd cc
+bundle_sandbox (InCode n ps f gs code) b right w =
+    let number : b.sandbox ≡ length ps = cc in
     omega (arith, right.0.more, right.0.before.at_most)
-bundle_sandbox (InInit n ps f gs code init) sandbox address format base size listed right w = absurd cc
-bundle_sandbox (Whole ps) sandbox address format base size listed right w = absurd cc
+bundle_sandbox (InInit n ps f gs code init) b right w = absurd cc
+bundle_sandbox (Whole ps) b right w = absurd cc
 
 pub field_len : (x : Front) (len : ℕ) → wants.Field len ≡ want_of x → (1 ≤ len) × (len ≤ 28)
 field_len Empty len w = let e : len ≡ 4 = cc in (omega arith, omega arith)
@@ -77,9 +76,8 @@ init_some (Whole ps) len w right = absurd cc
 pub field_taken : (x : Front) (len : ℕ) (xs : List ℕ) → wants.Field len ≡ want_of x → len ≤ length xs → IsLengthOf (length (take len xs)) (want_of x)
 field_taken x len xs w le = let same : length (take len xs) ≡ len = omega (arith, length-take len xs) in subst (λ (v : Want). IsLengthOf (length (take len xs)) v) w same
 
-pub bundle_taken : (x : Front) (sandbox address : ℕ) (format : Format) (base size : ℕ) (listed : Bool) (s : List ℕ)
-    → wants.Bundle sandbox address format base size listed ≡ want_of x → length s ≡ 16 → IsLengthOf (length s) (want_of x)
-bundle_taken x sandbox address format base size listed s w same = subst (λ (v : Want). IsLengthOf (length s) v) w same
+pub bundle_taken : (x : Front) (b : BundlePlace) (s : List ℕ) → want_at b ≡ want_of x → length s ≡ 16 → IsLengthOf (length s) (want_of x)
+bundle_taken x b s w same = subst (λ (v : Want). IsLengthOf (length s) v) w same
 
 pub init_taken : (x : Front) (most len : ℕ) (xs : List ℕ) → wants.Init most ≡ want_of x → 1 ≤ len → len ≤ most → len ≤ length xs → IsLengthOf (length (take len xs)) (want_of x)
 init_taken x most len xs w some le room =
@@ -90,7 +88,7 @@ init_taken x most len xs w some le room =
 
 -- ---- steps
 
-joined : (so_far : List ℕ) (x : Front) (s : List ℕ) (y : Front) → so_far ≡ front x → front y ≡ front x ++ s → so_far ++ s ≡ front y
+pub joined : (so_far : List ℕ) (x : Front) (s : List ℕ) (y : Front) → so_far ≡ front x → front y ≡ front x ++ s → so_far ++ s ≡ front y
 joined so_far x s y a b = ap (λ (l : List ℕ). l ++ s) a ∙ sym b
 
 pub field_step : {T : List Finding → Type 0} (old new : ReaderState) (t : Tally) (so_far s : List ℕ) (len : ℕ) → ((x : Front) → StandsFor old x → wants.Field len ≡ want_of x)
@@ -117,17 +115,16 @@ init_step old new t so_far s len wanted leads falls h =
       few = omega (arith, h.few);
     }
 
-pub bundle_step : {T U : List Finding → Type 0} (old new : ReaderState) (t u : Tally) (so_far s : List ℕ) (sandbox address : ℕ) (format : Format) (base size : ℕ) (listed : Bool) (found : List Finding)
-    → ((x : Front) → StandsFor old x → wants.Bundle sandbox address format base size listed ≡ want_of x) → length s ≡ 16
-    → AreBundleFindings (record { sandbox = sandbox; address = address; format = format; code_base = base; code_size = size; listed = listed }) s found → Adds t u sandbox found
+pub bundle_step : {T U : List Finding → Type 0} (old new : ReaderState) (t u : Tally) (so_far s : List ℕ) (b : BundlePlace) (found : List Finding)
+    → ((x : Front) → StandsFor old x → want_at b ≡ want_of x) → length s ≡ 16 → AreBundleFindings b s found → Adds t u b.sandbox 1 found
     → ((x : Front) → StandsFor old x → Leads x s new) → left new < left old → ((before : List Finding) → T before → U (before ++ found)) → IsSoFar T old t so_far → IsSoFar U new u (so_far ++ s)
-bundle_step old new t u so_far s sandbox address format base size listed found wanted len are adds leads falls on h =
+bundle_step old new t u so_far s b found wanted len are adds leads falls on h =
     let l = leads h.at h.stands in
     record {
       at = l.to;
       stands = l.stands;
       bytes_are = joined so_far h.at s l.to h.bytes_are l.bytes;
-      tallies = bundle_tallies t u h.at s l.to sandbox address format base size listed found (wanted h.at h.stands) len l.follows are adds on h.tallies;
+      tallies = bundle_tallies t u h.at s l.to b found (wanted h.at h.stands) len l.follows are adds on h.tallies;
       few = omega (arith, h.few, adds.bundles);
     }
 

@@ -24,6 +24,7 @@ pub mod Stepping
 pub mod Verdicts
 pub mod Tallying
 pub mod Leading
+pub mod Blocks
 pub mod Chains
 pub mod Judging
 pub mod Pieces

@@ -19,7 +19,7 @@ use Rattle.sfi_scan.specs.Bundles.{place_of, bundle_bytes}
 use Rattle.sfi_scan.specs.Findings.{AreBundleFindings, AreFindings, AreFindingsOfFirst, AreImageFindings}
 use Rattle.sfi_check.specs.declared.tally.Tally.{Tally}
 use Rattle.sfi_check.specs.Verdict.{bundle_count}
-use Rattle.sfi_check.specs.private.Tallies.{AreFindingsSoFar, AreFindingsWithin, findings_most, Tallies}
+use Rattle.sfi_check.specs.private.Tallies.{AreFindingsSoFar, AreFindingsWithin, findings_most, Tallies, want_at}
 use Rattle.sfi_check.proofs.Findings.{findings_append}
 
 -- ---- one bundle more
@@ -150,54 +150,64 @@ init_tallies t (InInit n ps f gs code init) s y len w right h k =
     rw (h) (init_tally t n ps f gs code (init ++ s) (record { found = k.found; told_is = k.told_is; within = k.found_are; count = k.count; first = k.first; bundles = k.bundles; sandboxes = k.sandboxes; few = k.few }) right.2)
 init_tallies t (Whole ps) s y len w right h k = absurd cc
 
--- the tally with the findings of a bundle
-pub record Adds (old new : Tally) (sandbox : ℕ) (found : List Finding) : Type 0 where
+-- the tally with the findings of so many bundles of that sandbox
+pub record Adds (old new : Tally) (sandbox n : ℕ) (found : List Finding) : Type 0 where
   pub sandboxes : new.sandboxes ≡ sandbox + 1
-  pub bundles : new.bundles ≡ old.bundles + 1
+  pub bundles : new.bundles ≡ old.bundles + n
   pub count : new.count ≡ old.count + length found
-  pub few : length found ≤ findings_most
+  pub few : length found ≤ findings_most * n
   pub first : (before : List Finding) → old.first ≡ slice_get before 0 → new.first ≡ slice_get (before ++ found) 0
 
-pub bundle_tallies : {T U : List Finding → Type 0} (old new : Tally) (x : Front) (s : List ℕ) (y : Front) (sandbox address : ℕ) (format : Format) (base size : ℕ) (listed : Bool) (found : List Finding)
-    → wants.Bundle sandbox address format base size listed ≡ want_of x → length s ≡ 16 → Follows x s y
-    → AreBundleFindings (record { sandbox = sandbox; address = address; format = format; code_base = base; code_size = size; listed = listed }) s found
-    → Adds old new sandbox found → ((before : List Finding) → T before → U (before ++ found)) → Tallies T old x → Tallies U new y
-bundle_tallies old new Empty s y sandbox address format base size listed found w len h are adds on k = absurd cc
-bundle_tallies old new (AfterMagic kind) s y sandbox address format base size listed found w len h are adds on k = absurd cc
-bundle_tallies old new (AfterCount kind n ps) s y sandbox address format base size listed found w len h are adds on k = absurd cc
-bundle_tallies old new (InGates n ps f gs) s y sandbox address format base size listed found w len h are adds on k = absurd cc
-bundle_tallies old new (InCode n ps f gs code) s y sandbox address format base size listed found w len h are adds on k =
-    let number : sandbox ≡ length ps = cc in
-    let at : address ≡ f.code_base + length code = cc in
-    let of : format ≡ f.format = cc in
-    let b : base ≡ f.code_base = cc in
-    let z : size ≡ f.code_size = cc in
-    let l : listed ≡ is_gate_of gs (f.code_base + length code) = cc in
-    let place : BundlePlace = record { sandbox = sandbox; address = address; format = format; code_base = base; code_size = size; listed = listed } in
-    let is : place ≡ record { sandbox = length ps; address = f.code_base + length code; format = f.format; code_base = f.code_base; code_size = f.code_size; listed = is_gate_of gs (f.code_base + length code) } =
-    rw (number, at, of, b, z, l) refl in
+-- so many bundles of code more
+pub code_tallies : {T U : List Finding → Type 0} (old new : Tally) (m : ℕ) (ps : List Part) (f : Fields) (gs : List Gate) (code s : List ℕ) (n : ℕ) (found : List Finding)
+    → 0 < n → length s ≡ 16 * n
+    → ((here : List Finding) → AreFindingsSoFar (length ps) f gs code here → AreFindingsSoFar (length ps) f gs (code ++ s) (here ++ found))
+    → Adds old new (length ps) n found → ((before : List Finding) → T before → U (before ++ found)) → Tallies T old (InCode m ps f gs code)
+    → Tallies U new (after_code m ps f gs (code ++ s))
+code_tallies old new m ps f gs code s n found some len more adds on k =
     let within = k.found_are in
-    let more = bundle_more (length ps) f gs code s place within.here found within.here_are len is are in
     let longer = length-append code s in
     let so_far = within.here_are.len in
-    rw (h) (code_tally new n ps f gs (code ++ s) (record {
+    code_tally new m ps f gs (code ++ s) (record {
       found = k.found ++ found;
       told_is = on k.found k.told_is;
       within = record {
         before = within.before;
         here = within.here ++ found;
         before_are = within.before_are;
-        here_are = more;
+        here_are = more within.here within.here_are;
         found_is = ap (λ (x : List Finding). x ++ found) within.found_is ∙ append_assoc within.before within.here found;
       };
       count = omega (arith, adds.count, k.count, length-append k.found found);
       first = adds.first k.found k.first;
       bundles = omega (arith, adds.bundles, k.bundles, longer, so_far);
-      sandboxes = adds.sandboxes ∙ ap (λ (j : ℕ). j + 1) number;
+      sandboxes = adds.sandboxes;
       few = omega (arith, adds.count, adds.bundles, adds.few, k.few);
-    }) (omega (arith, longer)))
-bundle_tallies old new (InInit n ps f gs code init) s y sandbox address format base size listed found w len h are adds on k = absurd cc
-bundle_tallies old new (Whole ps) s y sandbox address format base size listed found w len h are adds on k = absurd cc
+    }) (omega (arith, longer))
+
+-- a place by its fields
+pub same_place : (b : BundlePlace) (sandbox address : ℕ) (format : Format) (base size : ℕ) (listed : Bool) → b.sandbox ≡ sandbox → b.address ≡ address → b.format ≡ format → b.code_base ≡ base → b.code_size ≡ size → b.listed ≡ listed
+    → b ≡ record { sandbox = sandbox; address = address; format = format; code_base = base; code_size = size; listed = listed }
+same_place b sandbox address format base size listed s a f c z l = rw (← s, ← a, ← f, ← c, ← z, ← l) refl
+
+pub bundle_tallies : {T U : List Finding → Type 0} (old new : Tally) (x : Front) (s : List ℕ) (y : Front) (b : BundlePlace) (found : List Finding)
+    → want_at b ≡ want_of x → length s ≡ 16 → Follows x s y → AreBundleFindings b s found
+    → Adds old new b.sandbox 1 found → ((before : List Finding) → T before → U (before ++ found)) → Tallies T old x → Tallies U new y
+bundle_tallies old new Empty s y b found w len h are adds on k = absurd cc
+bundle_tallies old new (AfterMagic kind) s y b found w len h are adds on k = absurd cc
+bundle_tallies old new (AfterCount kind n ps) s y b found w len h are adds on k = absurd cc
+bundle_tallies old new (InGates n ps f gs) s y b found w len h are adds on k = absurd cc
+bundle_tallies old new (InCode n ps f gs code) s y b found w len h are adds on k =
+    let number : b.sandbox ≡ length ps = cc in
+    let at : b.address ≡ f.code_base + length code = cc in
+    let of : b.format ≡ f.format = cc in
+    let base : b.code_base ≡ f.code_base = cc in
+    let size : b.code_size ≡ f.code_size = cc in
+    let l : b.listed ≡ is_gate_of gs (f.code_base + length code) = cc in
+    let is = same_place b (length ps) (f.code_base + length code) f.format f.code_base f.code_size (is_gate_of gs (f.code_base + length code)) number at of base size l in
+    rw (h) (code_tallies old new n ps f gs code s 1 found (omega arith) len (λ here so_far. bundle_more (length ps) f gs code s b here found so_far len is are) (subst (λ (j : ℕ). Adds old new j 1 found) number adds) on k)
+bundle_tallies old new (InInit n ps f gs code init) s y b found w len h are adds on k = absurd cc
+bundle_tallies old new (Whole ps) s y b found w len h are adds on k = absurd cc
 
 -- ---- faults
 

@@ -3,6 +3,7 @@ ghost use Rattle.std.specs.Prelude.{◌≡◌, ◌≢◌, ℕ, ◌+◌, ◌<◌,
 ghost use Rattle.sfi_check.specs.Streams.{IsVerdictOn};
 ghost use Rattle.sfi_check.specs.Feeds.{IsFed, IsReading};
 
+use crate::code::BUNDLE_BY_BUNDLE;
 use crate::progress::Progress;
 use crate::sink::Nowhere;
 use crate::stream::{stream_laws, take_piece, verdict};
@@ -77,7 +78,12 @@ impl Feed {
         // The laws that the contract rests on: this call does nothing.
         stream_laws();
 
-        match take_piece(&mut self.reader, &mut self.tally, &mut Nowhere, bytes) {
+        match take_piece::<Nowhere, BUNDLE_BY_BUNDLE>(
+            &mut self.reader,
+            &mut self.tally,
+            &mut Nowhere,
+            bytes,
+        ) {
             Progress::Fault(number) => self.fault = Some(number),
             Progress::Whole(at) => {
                 self.count = 0;

@@ -9,6 +9,7 @@
 #![tactic(auto)]
 
 mod accepted;
+mod code;
 mod conversion;
 mod feed;
 pub mod laws;

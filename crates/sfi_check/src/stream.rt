@@ -1,15 +1,12 @@
 //! The verdict on a stream of bytes, without taking memory.
-ghost use Rattle.std.specs.Prelude.{◌≡◌, ◌↔◌, ℕ, ◌+◌, ◌-◌, ◌*◌, ◌<◌, ◌≤◌, List, [], ◌++◌, Bool, true, false, length, take, drop, slice_get, cond, ◌==◌, Some, None, IfOk, OnErr, is_some};
-ghost use Rattle.sfi_policy.specs.Limits.{sandboxes_most};
-ghost use Rattle.sfi_image.specs.Fronts.{Front, want_of};
-ghost use Rattle.sfi_image.specs.Keeping.{StandsFor, left_most};
+ghost use Rattle.std.specs.Prelude.{◌≡◌, ◌↔◌, ℕ, ◌+◌, ◌-◌, ◌<◌, ◌≤◌, List, Bool, true, false, length, take, drop, Some, None, IfOk, OnErr};
 ghost use Rattle.sfi_image.specs.Sources.{Streams};
-ghost use Rattle.sfi_scan.specs.Bundles.{IsWithin};
 ghost use Rattle.sfi_scan.specs.declared.finding.Finding.{Finding};
 ghost use Rattle.sfi_check.specs.private.Laws.{StreamLaws};
-ghost use Rattle.sfi_check.specs.private.Tallies.{findings_most, IsSoFar, Steps, Goes, verdict_of};
+ghost use Rattle.sfi_check.specs.private.Tallies.{IsSoFar, Steps, Goes, verdict_of};
 ghost use Rattle.sfi_check.specs.Streams.{IsVerdictOn, AreHandedOver};
 
+use crate::code::{IN_BLOCKS, take_code};
 use crate::laws::{clean_runs_safely, one_list_of_findings};
 use crate::progress::{Progress, Step};
 use crate::sink::{FindingSink, Nowhere};
@@ -18,52 +15,14 @@ use crate::tally::Tally;
 use sfi_image::{
     ByteSource, LayoutReader, ReadFault, Want, front_ends, one_reading, whole_bundles,
 };
-use sfi_policy::BUNDLE_BYTES;
-use sfi_scan::{BundleFindings, BundlePlace, Finding, scan_bundle};
+use sfi_scan::{BundleFindings, BundlePlace};
 
 /// How many bytes are read at a time, at most.
 const PIECE: usize = 4096;
 
-/// The first finding of both.
-fn first_of(first: Option<Finding>, found: &BundleFindings) -> Option<Finding>
-    ensures { (before : List Finding) → first ≡ slice_get before 0
-        → result ≡ slice_get (before ++ found.now) 0 }
-{
-    match first {
-        Some(finding) => Some(finding),
-        None => found.at(0),
-    }
-}
-
-/// The tally with a bundle of that sandbox more.
-fn with_bundle(tally: Tally, sandbox: u32, found: &BundleFindings) -> Tally
-    requires bundles { tally.bundles < left_most }
-    requires count { tally.count ≤ findings_most * tally.bundles }
-    requires sandbox { sandbox < sandboxes_most }
-    ensures sandboxes { result.sandboxes ≡ sandbox + 1 }
-    ensures bundles { result.bundles ≡ tally.bundles + 1 }
-    ensures count { result.count ≡ tally.count + length found.now }
-    ensures few { length found.now ≤ findings_most }
-    ensures first { (before : List Finding) → tally.first ≡ slice_get before 0
-        → result.first ≡ slice_get (before ++ found.now) 0 }
-{
-    let count = found.count() as u32;
-    let first = if count == 0 {
-        tally.first
-    } else {
-        first_of(tally.first, found)
-    };
-    Tally {
-        sandboxes: sandbox + 1,
-        bundles: tally.bundles + 1,
-        count: tally.count + count,
-        first,
-    }
-}
-
 /// Takes the bytes that come next, if they are there, and scans them where they are a bundle.
 #[inline(always)]
-fn step<F: FindingSink>(
+fn step<F: FindingSink, const BLOCKS: bool>(
     reader: &mut LayoutReader,
     tally: &mut Tally,
     sink: &mut F,
@@ -98,9 +57,6 @@ fn step<F: FindingSink>(
             code_size,
             listed,
         } => {
-            let Some(bundle) = rest.first_chunk::<BUNDLE_BYTES>() else {
-                return Step::Short;
-            };
             let place = BundlePlace {
                 sandbox,
                 address,
@@ -109,15 +65,7 @@ fn step<F: FindingSink>(
                 code_size,
                 listed,
             };
-            scan_bundle(&place, bundle, findings);
-            match reader.take(bundle) {
-                Some(number) => Step::Fault(number),
-                None => {
-                    *tally = with_bundle(*tally, sandbox, findings);
-                    sink.put(findings);
-                    Step::Took(BUNDLE_BYTES)
-                }
-            }
+            take_code::<F, BLOCKS>(reader, tally, sink, findings, &place, rest)
         }
         Want::Init(most) => {
             if rest.is_empty() {
@@ -135,7 +83,7 @@ fn step<F: FindingSink>(
 }
 
 /// Takes as many bytes of a piece as lead on.
-pub(crate) fn take_piece<F: FindingSink>(
+pub(crate) fn take_piece<F: FindingSink, const BLOCKS: bool>(
     reader: &mut LayoutReader,
     tally: &mut Tally,
     sink: &mut F,
@@ -151,7 +99,7 @@ pub(crate) fn take_piece<F: FindingSink>(
     let mut findings = BundleFindings::new();
     let mut at = 0;
     loop {
-        match step(reader, tally, sink, &mut findings, &piece[at..]) {
+        match step::<F, BLOCKS>(reader, tally, sink, &mut findings, &piece[at..]) {
             Step::Took(len) => at += len,
             Step::Short => return Progress::More(at),
             Step::Whole => return Progress::Whole(at),
@@ -239,7 +187,7 @@ pub fn check_stream_into<S: ByteSource, F: FindingSink>(
     let mut piece = [0; PIECE];
     let mut held = 0;
     'pieces: loop {
-        match take_piece(&mut reader, &mut tally, sink, &piece[..held]) {
+        match take_piece::<F, IN_BLOCKS>(&mut reader, &mut tally, sink, &piece[..held]) {
             Progress::Fault(number) => return StreamAnswer::Layout(number),
             Progress::Whole(at) => {
                 if at < held {

@@ -1,6 +1,10 @@
 //! What was found so far.
+ghost use Rattle.std.specs.Prelude.{◌≡◌, ◌+◌, ◌<◌, ◌≤◌, ◌^◌, ◌++◌, List, length, slice_get};
+ghost use Rattle.sfi_policy.specs.Limits.{sandboxes_most};
+ghost use Rattle.sfi_scan.specs.declared.finding.Finding.{Finding};
+ghost use Rattle.sfi_check.specs.private.Tallies.{AddsFindings, findings_most};
 
-use sfi_scan::Finding;
+use sfi_scan::{BundleFindings, Finding};
 
 /// How many sandboxes and bundles were scanned, and how many findings they have, with the first.
 #[derive(Clone, Copy)]
@@ -13,4 +17,45 @@ pub struct Tally {
     pub count: u32,
     /// The first finding, by sandbox and then by address.
     pub first: Option<Finding>,
+}
+
+/// The first finding of both.
+fn first_of(first: Option<Finding>, found: &BundleFindings) -> Option<Finding>
+    ensures { (before : List Finding) → first ≡ slice_get before 0
+        → result ≡ slice_get (before ++ found.now) 0 }
+{
+    match first {
+        Some(finding) => Some(finding),
+        None => found.at(0),
+    }
+}
+
+impl Tally {
+    /// Counts so many bundles more, of that sandbox.
+    #[inline]
+    pub(crate) fn add_bundles(&mut self, sandbox: u32, bundles: u32)
+        requires room { self.old.bundles + bundles < 2 ^ 32 }
+        requires sandbox { sandbox < sandboxes_most }
+        ensures { self.new ≡ record self.old {
+          sandboxes = sandbox + 1;
+          bundles = self.old.bundles + bundles;
+        } }
+    {
+        self.sandboxes = sandbox + 1;
+        self.bundles += bundles;
+    }
+
+    /// Adds the findings of a bundle, which come after those so far.
+    #[inline]
+    pub(crate) fn add_findings(&mut self, found: &BundleFindings)
+        requires { self.old.count + findings_most < 2 ^ 32 }
+        ensures added { AddsFindings self.old self.new found.now }
+        ensures few { length found.now ≤ findings_most }
+    {
+        let count = found.count() as u32;
+        if count > 0 {
+            self.count += count;
+            self.first = first_of(self.first, found);
+        }
+    }
 }

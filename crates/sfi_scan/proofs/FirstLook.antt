@@ -42,6 +42,9 @@ beside_is law word i None is some near = absurd (some (sym is.1 ∙ near))
 beside_is law word i (Some j) is some (inl none) = absurd (some (sym is.1 ∙ none))
 beside_is law word i (Some j) is some (inr other) = ap Some (law word j i other is)
 
+pub masking_before : OneSpelling → (word a : ℕ) (o : Option Instr) → IsWordOf word (Op And 2 a 27) → IsWordOr0 word o → o ≡ Some (Op And 2 a 27)
+masking_before law word a o is near = beside_is law word (Op And 2 a 27) o is (op_word 2 a 27).0 near
+
 -- the two nearest are the two that are known
 two_near : (earlier : List Instr) (i j : Instr) → (near earlier).first ≡ Some i → (near earlier).second ≡ Some j → (rest : List Instr) × (earlier ≡ j ∷ i ∷ rest)
 two_near [] i j e f = cc

@@ -1,9 +1,9 @@
 -- The gates that are still ahead of a bundle, and the findings of one bundle more.
-use Rattle.std.proofs.Common.{◌≡◌, ℕ, zero, suc, ◌+◌, ◌*◌, ◌%◌, ◌<◌, ◌≤◌, ◌==◌, Bool, true, false, List, [], ◌∷◌, ◌++◌, length, take, drop, get_or, refl, sym, ap, ◌∙◌, subst, arith}
+use Rattle.std.proofs.Common.{◌≡◌, ℕ, zero, suc, ◌+◌, ◌-◌, ◌*◌, ◌%◌, ◌<◌, ◌≤◌, ◌==◌, Bool, true, false, List, [], ◌∷◌, ◌++◌, length, take, drop, get_or, inr, true≢false, refl, sym, ap, ◌∙◌, subst, arith}
 use Rattle.std.specs.Prelude.{◌||◌, if◌then◌else◌}
-use Rattle.std.proofs.lemmas.List.{append-nil, drop-drop}
+use Rattle.std.proofs.lemmas.List.{append-nil, drop-drop, drop-take, take-take}
 use Rattle.std.specs.Simd.{first_chunks}
-use Rattle.std.proofs.lemmas.Bool.{ne_eqb, eqb-true, eqb-false}
+use Rattle.std.proofs.lemmas.Bool.{ltb-false, ne_eqb, eqb-true, eqb-false}
 use Rattle.sfi_image.specs.declared.part.Gate.{Gate}
 use Rattle.sfi_image.specs.declared.span.Span.{Span}
 use Rattle.sfi_image.specs.Spelling.{Part}
@@ -12,14 +12,9 @@ use Rattle.sfi_image.specs.Gates.{is_gate_of}
 use Rattle.std.specs.List.{All, AllPairs}
 use Rattle.sfi_scan.specs.declared.bundle.BundlePlace.{BundlePlace}
 use Rattle.sfi_scan.specs.declared.finding.Finding.{Finding}
-use Rattle.sfi_scan.specs.private.Near.{is_first_at}
-use Rattle.sfi_scan.specs.Bundles.{place_of, bundle_bytes}
-use Rattle.sfi_scan.specs.Findings.{AreBundleFindings, AreFindingsOfFirst}
-
--- gates at bundle starts from the address on, in ascending order
-abbrev pub Ahead : ℕ → List Gate → Type 0
-Ahead at [] = Unit {0}
-Ahead at (g ∷ gates) = (at ≤ g.address) × (g.address % 16 ≡ 0) × Ahead (g.address + 16) gates
+use Rattle.sfi_scan.specs.private.Near.{AreGatesFrom, is_first_at, is_first_below}
+use Rattle.sfi_scan.specs.Bundles.{place_of, block_bundle, bundle_at, bundle_bytes}
+use Rattle.sfi_scan.specs.Findings.{AreBundleFindings, AreReadingFindings, AreFindingsOfFirst}
 
 apart : (a b : ℕ) → a < b → a % 16 ≡ 0 → b % 16 ≡ 0 → a + 16 ≤ b
 apart a b h e f = omega arith
@@ -29,7 +24,7 @@ pub all_ahead : (region : Span) (at : ℕ) (gates : List Gate)
     → All (λ g. IsBundleStart region g.address) gates
     → AllPairs (λ g h. g.address < h.address) gates
     → All (λ g. at ≤ g.address) gates
-    → Ahead at gates
+    → AreGatesFrom at gates
 all_ahead region at [] starts up low = tt
 all_ahead region at (g ∷ gates) starts up low = (
   low 0 g (omega arith),
@@ -39,18 +34,21 @@ all_ahead region at (g ∷ gates) starts up low = (
 )
 
 -- no gate ahead is at an address before
-pub none_before : (at a : ℕ) (gates : List Gate) → a < at → Ahead at gates → is_gate_of gates a ≡ false
+pub none_before : (at a : ℕ) (gates : List Gate) → a < at → AreGatesFrom at gates → is_gate_of gates a ≡ false
 none_before at a [] h ahead = refl
 none_before at a (g ∷ gates) h ahead =
     let low = ahead.0 in
     rw (ne_eqb g.address a (λ e. omega arith)) (none_before (g.address + 16) a gates (omega arith) ahead.2)
 
-pub less_ahead : (at before : ℕ) (gates : List Gate) → before ≤ at → Ahead at gates → Ahead before gates
-less_ahead at before [] h ahead = tt
-less_ahead at before (g ∷ gates) h ahead = let low = ahead.0 in (omega arith, ahead.1, ahead.2)
+-- no gate ahead is at an address before an end that the first doesn't lie below
+pub none_below : (at end a : ℕ) (gates : List Gate) → is_first_below gates end ≡ false → a < end → AreGatesFrom at gates → is_gate_of gates a ≡ false
+none_below at end a [] far h ahead = refl
+none_below at end a (g ∷ gates) far h ahead =
+    let low : end ≤ g.address = omega (arith, ltb-false g.address end far) in
+    rw (ne_eqb g.address a (λ e. omega arith)) (none_before (g.address + 16) a gates (omega arith) ahead.2)
 
 -- what is ahead says whether there is a gate at the address
-pub first_is : (at : ℕ) (gates : List Gate) → Ahead at gates → is_first_at gates at ≡ is_gate_of gates at
+pub first_is : (at : ℕ) (gates : List Gate) → AreGatesFrom at gates → is_first_at gates at ≡ is_gate_of gates at
 first_is at [] ahead = refl
 first_is at (g ∷ gates) ahead = rw (none_before (g.address + 16) at gates (let low = ahead.0 in omega arith) ahead.2) (or_false (g.address == at))
   where
@@ -59,11 +57,11 @@ first_is at (g ∷ gates) ahead = rw (none_before (g.address + 16) at gates (let
     or_false false = refl
 
 -- after a gate at the address
-pub ahead_taken : (at : ℕ) (gates : List Gate) → is_first_at gates at ≡ true → at % 16 ≡ 0 → Ahead at gates → Ahead (at + 16) (drop 1 gates)
+pub ahead_taken : (at : ℕ) (gates : List Gate) → is_first_at gates at ≡ true → at % 16 ≡ 0 → AreGatesFrom at gates → AreGatesFrom (at + 16) (drop 1 gates)
 ahead_taken at [] e even ahead = tt
-ahead_taken at (g ∷ gates) e even ahead = subst (λ a. Ahead (a + 16) gates) (eqb-true g.address at e) ahead.2
+ahead_taken at (g ∷ gates) e even ahead = subst (λ a. AreGatesFrom (a + 16) gates) (eqb-true g.address at e) ahead.2
 
-pub ahead_kept : (at : ℕ) (gates : List Gate) → is_first_at gates at ≡ false → at % 16 ≡ 0 → Ahead at gates → Ahead (at + 16) gates
+pub ahead_kept : (at : ℕ) (gates : List Gate) → is_first_at gates at ≡ false → at % 16 ≡ 0 → AreGatesFrom at gates → AreGatesFrom (at + 16) gates
 ahead_kept at [] e even ahead = tt
 ahead_kept at (g ∷ gates) e even ahead =
     let low = ahead.0 in
@@ -88,6 +86,31 @@ if_true b xs ys zs e h = e ∙ ap (λ (v : Bool). if v then xs else ys) h
 pub none_more : (xs ys : List Finding) → length ys ≤ 0 → xs ≡ xs ++ ys
 none_more xs [] h = sym (append-nil xs)
 none_more xs (y ∷ ys) h = absurd (omega arith)
+
+-- ---- a block
+
+-- a block's bundle among those of the part
+pub block_bundle_is : (n i : ℕ) (xs block : List ℕ) → i < 8 → block ≡ take 128 (drop (16 * n) xs) → block_bundle block i ≡ take 16 (drop (16 * (n + i)) xs)
+block_bundle_is n i xs block h is =
+    let m = 112 - 16 * i in
+    let e : 16 * i + (16 + m) ≡ 128 = omega arith in
+    let from : 16 * n + 16 * i ≡ 16 * (n + i) = omega arith in
+    ap (λ (l : List ℕ). take 16 (drop (16 * i) l)) is
+    ∙ ap (λ (k : ℕ). take 16 (drop (16 * i) (take k (drop (16 * n) xs)))) (sym e)
+    ∙ ap (take 16) (drop-take (16 * i) (16 + m) (drop (16 * n) xs))
+    ∙ take-take 16 (16 + m) (drop (16 * i) (drop (16 * n) xs)) (omega arith)
+    ∙ ap (take 16) (drop-drop (16 * i) (16 * n) xs ∙ ap (λ (k : ℕ). drop k xs) from)
+
+-- a bundle that is seen clean where its block is looked at, and is no listed gate
+pub seen_clean : (sandbox : ℕ) (p : Part) (n i : ℕ) (b : BundlePlace) (block : List ℕ) → i < 8 → b ≡ record (place_of sandbox p n) { listed = false }
+    → is_gate_of p.gates (p.code_base + 16 * (n + i)) ≡ false → block ≡ take 128 (drop (16 * n) p.code)
+    → AreReadingFindings (bundle_at b i) (block_bundle block i) [] → AreBundleFindings (place_of sandbox p (n + i)) (bundle_bytes p (n + i)) []
+seen_clean sandbox p n i b block h at unlisted is clean =
+    let next : p.code_base + 16 * n + 16 * i ≡ p.code_base + 16 * (n + i) = omega arith in
+    let place_with : ℕ → Bool → BundlePlace = λ a l. record { sandbox = sandbox; address = a; format = p.format; code_base = p.code_base; code_size = length p.code; listed = l } in
+    let place : bundle_at b i ≡ place_of sandbox p (n + i) = ap (λ (x : BundlePlace). bundle_at x i) at ∙ ap (λ a. place_with a false) next ∙ ap (place_with _) (sym unlisted) in
+    let here = subst (λ (l : List ℕ). AreReadingFindings (bundle_at b i) l []) (block_bundle_is n i p.code block h is) clean in
+    inr (λ listed. absurd (true≢false (sym listed ∙ unlisted)), subst (λ (x : BundlePlace). AreReadingFindings x (bundle_bytes p (n + i)) []) place here)
 
 -- ---- one bundle more
 

@@ -7,6 +7,7 @@ use Rattle.rv_word.specs.Spelling.{IsWordOf}
 use Rattle.rv_comp.specs.Halfwords.{IsShortSpelling}
 use Rattle.rv_comp.specs.Fronts.{Spells}
 use Rattle.rv_comp.specs.Laws.{OneSpelling}
+use Rattle.rv_word.specs.Laws.{OneSpelling as OneSpellingOfWords}
 use Rattle.rv_comp.specs.declared.front.Front.TheVariants.{Read}
 use Rattle.sfi_policy.specs.Formats.{has_stack}
 use Rattle.sfi_scan.specs.declared.before.Before.{Before}
@@ -19,8 +20,8 @@ use Rattle.rv_word.specs.declared.instr.RegOp.TheVariants.{And, Or}
 use Rattle.sfi_scan.specs.Stack.{begins_pair, precedes_pair}
 use Rattle.sfi_scan.specs.Readings.{Piece, IsLongestReading}
 use Rattle.sfi_scan.specs.private.FirstLook.{half_at, word_at, AreWordsFrom, IsCleanOne, is_clean, IsStackWrite, AreStackPair}
-use Rattle.sfi_scan.proofs.After.{IsOnly, begins}
-use Rattle.sfi_scan.proofs.FirstLook.{clean_is, kind_of, write_quiet, masking_quiet, placing_quiet}
+use Rattle.sfi_scan.proofs.After.{IsOnly, Begins, begins}
+use Rattle.sfi_scan.proofs.FirstLook.{clean_is, kind_of, write_quiet, masking_quiet, placing_quiet, masking_before}
 use Rattle.sfi_scan.proofs.Readings.{front_one}
 use Rattle.sfi_scan.proofs.Walk.{Leads, next, at_first}
 
@@ -127,33 +128,73 @@ looks_word law b bytes at from word count below last l word_is one =
 
 -- ---- the stack pointer written, and put back
 
-pub looks_written : OneSpelling → (b : BundlePlace) (bytes : List ℕ) (at from : ℕ)
+-- a word that stands where it may write the stack pointer
+looks_as : OneSpelling → (b : BundlePlace) (bytes : List ℕ) (at from : ℕ) (i : Instr) → length bytes ≡ 16 → at ≤ 12 → (l : Looks b bytes at from) → IsWordOf (word_at bytes at) i
+    → ((x : Place) → x.bundle ≡ b → near x.earlier ≡ l.before → x.instr ≡ i → IsLongestReading (drop (at + 4) bytes) x.later → lowest x all_rules ≡ [])
+    → Looks b bytes (at + 4) from
+looks_as law b bytes at from i count below l is quiet =
+    let order = l.order in
+    (looks_quiet law b bytes at 4 from from i count l (spelled_at bytes at i count below is)
+    (λ x place address near_is instr longest. quiet x place near_is instr longest)
+    (word_more bytes at from l.before i l.words_are is) (omega arith)).0
+
+-- what the rest of the bytes begins with, where a word stands there
+ahead_is : OneSpelling → (bytes : List ℕ) (at : ℕ) (i : Instr) → length bytes ≡ 16 → at ≤ 12 → IsWordOf (word_at bytes at) i → (later : List Piece) → IsLongestReading (drop at bytes) later → Begins (drop at bytes) i 4 later
+ahead_is law bytes at i count below is later longest =
+    let here = spelled_at bytes at i count below is in begins (drop at bytes) i 4 here (only_here law (drop at bytes) i 4 here) later longest
+
+abbrev masking : ℕ → Instr
+masking any = Op And 2 any 27
+
+abbrev placing : Instr
+placing = Op Or 2 2 26
+
+-- where the pair's second word comes next, it is begun
+begins_there : OneSpelling → (bytes : List ℕ) (at any : ℕ) → length bytes ≡ 16 → at ≤ 12 → IsWordOf (word_at bytes at) placing → (later : List Piece) → IsLongestReading (drop at bytes) later → begins_pair (masking any) later ≡ true
+begins_there law bytes at any count below is later longest = ap (begins_pair (masking any)) (ahead_is law bytes at placing count below is later longest).is
+
+in_place : (b : BundlePlace) (x : Place) → is_last_bundle b ≡ false → has_stack b.format ≡ true → x.bundle ≡ b → (is_last_bundle x.bundle ≡ false) × (has_stack x.bundle.format ≡ true)
+in_place b x last has place = (ap is_last_bundle place ∙ last, ap (λ (y : BundlePlace). has_stack y.format) place ∙ has)
+
+pub looks_write : OneSpelling → (b : BundlePlace) (bytes : List ℕ) (at from : ℕ) → length bytes ≡ 16 → at ≤ 4 → is_last_bundle b ≡ false → has_stack b.format ≡ true → Looks b bytes at from
+    → IsStackWrite (word_at bytes at) → AreStackPair (word_at bytes (at + 4)) (word_at bytes (at + 8)) → Looks b bytes (at + 4) from
+looks_write law b bytes at from count below last has l write pair =
+    let eight : at + 8 ≡ at + 4 + 4 = omega arith in
+    let second : IsWordOf (word_at bytes (at + 4 + 4)) placing = subst (λ k. IsWordOf (word_at bytes k) placing) eight pair.placing in
+    looks_as law b bytes at from write.instr count (omega arith) l write.spelled
+    (λ x place near_is instr longest.
+    let y = ahead_is law bytes (at + 4) (masking pair.any) count (omega arith) pair.masking x.later longest in
+    let rest = subst (λ (r : List ℕ). IsLongestReading r y.rest) (drop-drop 4 (at + 4) bytes) y.longest in
+    let there = in_place b x last has place in
+    write_quiet x there.0 there.1 (kind_of x.instr write.instr instr write.kind) (ap precedes_pair y.is ∙ begins_there law bytes (at + 4 + 4) pair.any count (omega arith) second y.rest rest))
+
+pub looks_masking : OneSpelling → (b : BundlePlace) (bytes : List ℕ) (at from : ℕ) → length bytes ≡ 16 → at ≤ 8 → is_last_bundle b ≡ false → has_stack b.format ≡ true → Looks b bytes at from
+    → AreStackPair (word_at bytes at) (word_at bytes (at + 4)) → Looks b bytes (at + 4) from
+looks_masking law b bytes at from count below last has l pair =
+    looks_as law b bytes at from (masking pair.any) count (omega arith) l pair.masking
+    (λ x place near_is instr longest.
+    let there = in_place b x last has place in
+    masking_quiet x pair.any there.0 there.1 instr (begins_there law bytes (at + 4) pair.any count (omega arith) pair.placing x.later longest))
+
+pub looks_placing : OneSpelling → OneSpellingOfWords → (b : BundlePlace) (bytes : List ℕ) (at from : ℕ) → length bytes ≡ 16 → at + 4 ≤ 12 → is_last_bundle b ≡ false → has_stack b.format ≡ true → from ≤ at → Looks b bytes (at + 4) from
+    → AreStackPair (word_at bytes at) (word_at bytes (at + 4)) → Looks b bytes (at + 4 + 4) from
+looks_placing law words b bytes at from count below last has order l pair =
+    let before = masking_before words (word_at bytes at) pair.any l.before.second pair.masking (l.words_are.second at order (omega arith)) in
+    looks_as law b bytes (at + 4) from placing count below l pair.placing
+    (λ x place near_is instr longest.
+    let there = in_place b x last has place in
+    placing_quiet x pair.any there.0 there.1 instr (ap (λ (y : Before). y.second) near_is ∙ before))
+
+pub looks_written : OneSpelling → OneSpellingOfWords → (b : BundlePlace) (bytes : List ℕ) (at from : ℕ)
     → length bytes ≡ 16 → at ≤ 4 → is_last_bundle b ≡ false → has_stack b.format ≡ true → Looks b bytes at from
     → IsStackWrite (word_at bytes at) → AreStackPair (word_at bytes (at + 4)) (word_at bytes (at + 8))
-    → Looks b bytes (at + 12) (at + 4)
-looks_written law b bytes at from count below last has l write pair =
-    let i = write.instr in
-    let masking = Op And 2 pair.any 27 in
-    let placing = Op Or 2 2 26 in
+    → Looks b bytes (at + 12) from
+looks_written law words b bytes at from count below last has l write pair =
+    let order = l.order in
     let eight : at + 8 ≡ at + 4 + 4 = omega arith in
     let twelve : at + 4 + 4 + 4 ≡ at + 12 = omega arith in
-    let placed : IsWordOf (word_at bytes (at + 4 + 4)) placing = subst (λ k. IsWordOf (word_at bytes k) placing) eight pair.placing in
-    let here = spelled_at bytes at i count (omega arith) write.spelled in
-    let there = spelled_at bytes (at + 4) masking count (omega arith) pair.masking in
-    let after = spelled_at bytes (at + 4 + 4) placing count (omega arith) placed in
-    let ends : (later : List Piece) → IsLongestReading (drop (at + 4 + 4) bytes) later → begins_pair masking later ≡ true =
-    λ later longest. let x = begins (drop (at + 4 + 4) bytes) placing 4 after (only_here law (drop (at + 4 + 4) bytes) placing 4 after) later longest in ap (begins_pair masking) x.is in
-    let precedes : (later : List Piece) → IsLongestReading (drop (at + 4) bytes) later → precedes_pair later ≡ true =
-    λ later longest.
-    let x = begins (drop (at + 4) bytes) masking 4 there (only_here law (drop (at + 4) bytes) masking 4 there) later longest in
-    ap precedes_pair x.is ∙ ends x.rest (subst (λ (r : List ℕ). IsLongestReading r x.rest) (drop-drop 4 (at + 4) bytes) x.longest) in
-    let one = looks_quiet law b bytes at 4 from (at + 4) i count l here
-    (λ x place address near_is instr longest. write_quiet x (ap is_last_bundle place ∙ last) (ap (λ (y : BundlePlace). has_stack y.format) place ∙ has) (kind_of x.instr i instr write.kind) (precedes x.later longest))
-    (none_from bytes (at + 4) _) (omega arith) in
-    let two = looks_quiet law b bytes (at + 4) 4 (at + 4) (at + 4) masking count one.0 there
-    (λ x place address near_is instr longest. masking_quiet x pair.any (ap is_last_bundle place ∙ last) (ap (λ (y : BundlePlace). has_stack y.format) place ∙ has) instr (ends x.later longest))
-    (word_more bytes (at + 4) (at + 4) one.0.before masking one.0.words_are pair.masking) (omega arith) in
-    let three = looks_quiet law b bytes (at + 4 + 4) 4 (at + 4) (at + 4) placing count two.0 after
-    (λ x place address near_is instr longest. placing_quiet x pair.any (ap is_last_bundle place ∙ last) (ap (λ (y : BundlePlace). has_stack y.format) place ∙ has) instr (ap (λ (y : Before). y.second) near_is ∙ two.1))
-    (word_more bytes (at + 4 + 4) (at + 4) two.0.before placing two.0.words_are placed) (omega arith) in
-    subst (λ k. Looks b bytes k (at + 4)) twelve three.0
+    let both : AreStackPair (word_at bytes (at + 4)) (word_at bytes (at + 4 + 4)) = subst (λ k. AreStackPair (word_at bytes (at + 4)) (word_at bytes k)) eight pair in
+    let one = looks_write law b bytes at from count below last has l write pair in
+    let two = looks_masking law b bytes (at + 4) from count (omega arith) last has one both in
+    let three = looks_placing law words b bytes (at + 4) from count (omega arith) last has (omega arith) two both in
+    subst (λ k. Looks b bytes k from) twelve three

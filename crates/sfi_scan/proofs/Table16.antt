@@ -111,22 +111,7 @@ pub other_register : (s : Bool) (h : ℕ) → not (bit_and (h / 128) 31 == 2) �
 other_register false h e = refl
 other_register true h e = ap (λ r. r == 2) (sym (and_mask (h / 128) 5)) ∙ not_true (bit_and (h / 128) 31 == 2) e
 
-pub clean_free : (b : BundlePlace) (at : ℕ) (are : Before → Type 0) (h : ℕ) → IsFreeHalf b h → IsCleanOne b at are (IsShortSpelling h)
-clean_free b at are h f = record {
-  instr = f.does.instr;
-  spelled = f.does.spelled;
-  clean = λ earlier before. ap (is_clean b at earlier) f.does.does ∙ ap not f.free;
-}
-
 -- ---- words
-
-pub clean_computing : (b : BundlePlace) (at : ℕ) (are : Before → Type 0) (word rd : ℕ) → IsWordThat word (Computes rd) → (w : Bool) → w ≡ is_protected b rd → OnTrue (not w) (IsCleanOne b at are (IsWordOf word))
-clean_computing b at are word rd that true e = tt
-clean_computing b at are word rd that false e = record {
-  instr = that.instr;
-  spelled = that.spelled;
-  clean = λ earlier before. ap (is_clean b at earlier) that.does ∙ ap not (sym e);
-}
 
 -- ---- what an outline tells
 
@@ -173,7 +158,3 @@ clean_access b at are words word a that told true clean = record {
   spelled = that.spelled;
   clean = λ earlier before. of_access b at earlier that.instr a that.accesses (clean earlier (told (near earlier) before));
 }
-
--- bits 11:7, as the code takes them
-pub rd_is : (word r : ℕ) → r ≡ bit_and (word / 128) 31 → r ≡ bits word 11 7
-rd_is word r e = e ∙ and_mask (word / 128) 5

@@ -19,6 +19,7 @@ ghost use Rattle.sfi_scan.specs.private.FirstLook.{half_at, word_at, AreWordsFro
 use crate::before::{CODE, DATA, Pair, may_be_target};
 use crate::bundle::BundlePlace;
 use crate::computing::is_free_half;
+use crate::pair_words::are_data_pair;
 use crate::rules::{STACK, is_bundle_start, is_last_bundle, offset_by};
 use rv_comp::outline16;
 use rv_word::{Access, Outline, Reg, RegOp, access32, computes32, op_word, outline32};
@@ -113,12 +114,12 @@ fn is_protected(stack: bool, reg: Reg) -> bool
 
 /// Whether an access on this base stays in the data and its guard zones.
 #[inline(always)]
-fn may_access(stack: bool, words: Words, base: Reg) -> bool
+pub(crate) fn may_access(stack: bool, words: Words, base: Reg) -> bool
     ensures { (b : BundlePlace) (earlier : List Instr) →
         stack ≡ has_stack b.format → AreBefore words (near earlier) →
         OnTrue result (may_access b base earlier ≡ true) }
 {
-    (stack && base.number() == STACK) || words.is_pair(DATA, base)
+    (stack && base.number() == STACK) || are_data_pair(words.first, words.second, base)
 }
 
 /// Whether a load or store with these registers breaks no rule there.
@@ -157,7 +158,13 @@ fn is_clean_jump(
 
 /// Whether an instruction that does this breaks no rule there. The bundle isn't the region's last.
 #[inline(always)]
-fn is_clean(place: &BundlePlace, stack: bool, address: u32, words: Words, outline: Outline) -> bool
+pub(crate) fn is_clean(
+    place: &BundlePlace,
+    stack: bool,
+    address: u32,
+    words: Words,
+    outline: Outline,
+) -> bool
     requires within { IsWithin place.now }
     requires stack { stack ≡ has_stack place.now.format }
     ensures { (earlier : List Instr) → AreBefore words (near earlier) →
@@ -263,7 +270,7 @@ fn is_clean_word(
 
 /// Whether the word is an instruction that computes into the stack pointer, or loads into it from
 /// near it.
-fn is_stack_write(word: u32) -> bool
+pub(crate) fn is_stack_write(word: u32) -> bool
     ensures { OnTrue result (IsStackWrite word) }
 {
     match outline32(word) {
@@ -278,7 +285,7 @@ fn is_stack_write(word: u32) -> bool
 
 /// Whether the words are the pair on the stack pointer.
 #[inline(always)]
-fn is_stack_pair(first: u32, second: u32) -> bool
+pub(crate) fn is_stack_pair(first: u32, second: u32) -> bool
     ensures { OnTrue result (AreStackPair first second) }
 {
     let stack = Reg::numbered(STACK);
@@ -313,8 +320,9 @@ fn looks_clean(place: &BundlePlace, stack: bool, bytes: &[u8; BUNDLE_BYTES]) -> 
     requires stack { stack ≡ has_stack place.now.format }
     ensures { OnTrue result (AreReadingFindings place.now bytes.now []) }
 {
-    // The law that the contract rests on: the call does nothing.
+    // The laws that the contract rests on: the calls do nothing.
     rv_comp::laws::one_spelling();
+    rv_word::laws::one_spelling();
 
     // The region's end has a rule of its own.
     if is_last_bundle(place) {
@@ -332,7 +340,6 @@ fn looks_clean(place: &BundlePlace, stack: bool, bytes: &[u8; BUNDLE_BYTES]) -> 
             at += 2;
             from = at;
         } else if stack && at <= 4 && is_stack_written(bytes, at) {
-            from = at + 4;
             at += 12;
         } else {
             if at > 12 || !is_clean_word(place, stack, bytes, at, from, word_at(bytes, at)) {

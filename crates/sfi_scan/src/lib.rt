@@ -9,17 +9,20 @@
 
 mod ahead;
 mod before;
+mod block;
 mod bundle;
 mod clean;
 mod computing;
 mod finding;
 mod findings;
 pub mod laws;
+mod pair_words;
 mod part;
 mod rule;
 mod rules;
 mod scan;
 
+pub use block::clean_bundles;
 pub use bundle::BundlePlace;
 pub use finding::Finding;
 pub use findings::BundleFindings;

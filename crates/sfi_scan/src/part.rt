@@ -1,18 +1,26 @@
 //! The scan of a sandbox's part of an image.
-ghost use Rattle.std.specs.Prelude.{◌≡◌, IfOk, drop};
+ghost use Rattle.std.specs.Prelude.{◌≡◌, ◌+◌, ◌*◌, ◌^◌, ◌<◌, ℕ, IfOk, [], drop, length, true};
+ghost use Rattle.sfi_policy.specs.Limits.{bundle_size};
 ghost use Rattle.sfi_policy.specs.declared.format.Format.TheVariants.{Sfi1};
 ghost use Rattle.sfi_image.specs.Spelling.{view};
 ghost use Rattle.sfi_image.specs.Parts.{IsRightPart};
-ghost use Rattle.sfi_scan.specs.Findings.{AreFindings};
-ghost use Rattle.sfi_scan.specs.private.Near.{is_first_at};
+ghost use Rattle.sfi_masks.specs.Masks.{is_in};
+ghost use Rattle.sfi_scan.specs.Bundles.{place_of, bundle_bytes};
+ghost use Rattle.sfi_scan.specs.Findings.{AreBundleFindings, AreFindings};
+ghost use Rattle.sfi_scan.specs.private.Near.{AreAhead, is_first_at, is_first_below};
 
+use crate::block::{clean_bundles, has};
 use crate::bundle::BundlePlace;
 use crate::finding::Finding;
 use crate::findings::BundleFindings;
 use crate::scan::scan_bundle;
 use sfi_image::{Gate, SandboxPart, whole_bundles};
+use sfi_masks::BLOCK_BYTES;
 use sfi_policy::{BUNDLE_BYTES, BUNDLE_SIZE, Format};
 use std::alloc::{AllocError, Global};
+
+/// How many bundles a block has.
+const BLOCK_BUNDLES: usize = BLOCK_BYTES / BUNDLE_BYTES;
 
 /// Whether the first of the gates is at the address.
 fn is_first_at(gates: &[Gate], address: u32) -> bool
@@ -34,6 +42,65 @@ fn after_first(gates: &[Gate]) -> &[Gate]
     }
 }
 
+/// The bundle of that number, which is a listed gate's if it is that of the first gate ahead.
+fn place_in(
+    format: Format,
+    sandbox: u32,
+    part: &SandboxPart,
+    gates: &[Gate],
+    number: usize,
+) -> BundlePlace
+    requires right { IsRightPart (view format part.now) }
+    requires inside { bundle_size * number < length part.now.code.now }
+    ensures { result ≡ record (place_of sandbox (view format part.now) number) {
+      listed = is_first_at gates.now (part.now.code_base + bundle_size * number);
+    } }
+{
+    whole_bundles();
+    let address = part.code_base + BUNDLE_SIZE * number as u32;
+    BundlePlace {
+        sandbox,
+        address,
+        format,
+        code_base: part.code_base,
+        code_size: part.code.len() as u32,
+        listed: is_first_at(gates, address),
+    }
+}
+
+/// Whether the first of the gates is at an address below.
+fn is_first_below(gates: &[Gate], end: u32) -> bool
+    ensures { result ≡ is_first_below gates.now end }
+{
+    match gates {
+        [gate, ..] => gate.address < end,
+        [] => false,
+    }
+}
+
+/// A bit for each bundle of the block from that number on that is seen to have no finding, the lowest
+/// for the first: none where a gate lies in the block, or the block is the code's last.
+fn clean_from(format: Format, sandbox: u32, part: &SandboxPart, gates: &[Gate], number: usize) -> u8
+    requires right { IsRightPart (view format part.now) }
+    requires inside { bundle_size * number < length part.now.code.now }
+    requires ahead { AreAhead (view format part.now) number gates.now }
+    ensures { (i : ℕ) → is_in result i ≡ true
+        → AreBundleFindings (place_of sandbox (view format part.now) (number + i))
+        (bundle_bytes (view format part.now) (number + i)) [] }
+{
+    whole_bundles();
+    let rest = &part.code[BUNDLE_BYTES * number..];
+    let Some(block) = rest.first_chunk::<BLOCK_BYTES>() else {
+        return 0;
+    };
+    // Not a gate's: a gate in the block ends the look below.
+    let place = place_in(format, sandbox, part, &[], number);
+    if rest.len() == BLOCK_BYTES || is_first_below(gates, place.address + BLOCK_BYTES as u32) {
+        return 0;
+    }
+    clean_bundles(&place, block)
+}
+
 /// The findings of the part of an image of this format, which is that of the sandbox of this
 /// number, in the order of their addresses.
 pub fn scan_part_as(
@@ -49,25 +116,23 @@ pub fn scan_part_as(
     let mut found = Vec::new(alloc);
     let mut findings = BundleFindings::new();
     let mut gates = part.gates.as_slice();
+    let mut clean = 0;
     for (k, bytes) in part.code.as_chunks::<BUNDLE_BYTES>().0.iter().enumerate() {
-        let address = part.code_base + BUNDLE_SIZE * k as u32;
-        let listed = is_first_at(gates, address);
-        if listed {
+        if k % BLOCK_BUNDLES == 0 {
+            clean = clean_from(format, sandbox, part, gates, k);
+        }
+        let place = place_in(format, sandbox, part, gates, k);
+        if place.listed {
             gates = after_first(gates);
         }
-        let place = BundlePlace {
-            sandbox,
-            address,
-            format,
-            code_base: part.code_base,
-            code_size: part.code.len() as u32,
-            listed,
-        };
-        scan_bundle(&place, bytes, &mut findings);
-        // Most bundles have none, and this test is less than a call.
-        if findings.count() > 0 {
-            found.extend_from_slice(findings.as_slice())?;
+        if !has(u64::from(clean), 0) {
+            scan_bundle(&place, bytes, &mut findings);
+            // Most bundles have none, and this test is less than a call.
+            if findings.count() > 0 {
+                found.extend_from_slice(findings.as_slice())?;
+            }
         }
+        clean >>= 1;
     }
     Ok(found)
 }

@@ -1,3 +1,4 @@
+mod blocks;
 mod build;
 mod build_command;
 mod build_limits;

@@ -1,15 +1,19 @@
 -- What was found in the front of an image: words of private contracts.
-use Rattle.std.specs.Prelude.{◌≡◌, ℕ, ◌+◌, ◌*◌, ◌/◌, ◌-◌, ◌<◌, ◌≤◌, ◌==◌, ◌⊎◌, List, [], ◌++◌, length, take, cond, slice_get, Option, Some, None}
+use Rattle.std.specs.Prelude.{◌≡◌, ℕ, zero, suc, ◌+◌, ◌*◌, ◌/◌, ◌-◌, ◌<◌, ◌≤◌, ◌==◌, ◌⊎◌, List, [], ◌++◌, length, take, cond, slice_get, Option, Some, None}
 use Rattle.sfi_policy.specs.Limits.{bundle_size}
 use Rattle.sfi_image.specs.declared.part.Gate.{Gate}
 use Rattle.sfi_image.specs.declared.fields.Fields.{Fields}
 use Rattle.sfi_image.specs.declared.want.Next.TheVariants as next
 use Rattle.sfi_image.specs.Spelling.{Part}
-use Rattle.sfi_image.specs.Fronts.{Front, front, want_of, IsLess, part_of, HasFaultNumberWhateverFollows}
+use Rattle.sfi_image.specs.declared.want.Want.{Want}
+use Rattle.sfi_image.specs.declared.want.Want.TheVariants as wants
+use Rattle.sfi_image.specs.Fronts.{Front, front, want_of, ArePlainNext, IsLess, part_of, HasFaultNumberWhateverFollows}
 use Rattle.sfi_image.specs.Fronts.Front.{Empty, AfterMagic, AfterCount, InGates, InCode, InInit, Whole}
 use Rattle.sfi_image.specs.Keeping.{ReaderState, StandsFor, left, left_most}
 use Rattle.sfi_scan.specs.declared.finding.Finding.{Finding}
-use Rattle.sfi_scan.specs.Findings.{AreFindingsOfFirst, AreImageFindings}
+use Rattle.sfi_scan.specs.declared.bundle.BundlePlace.{BundlePlace}
+use Rattle.sfi_scan.specs.Bundles.{block_bundle, bundle_at}
+use Rattle.sfi_scan.specs.Findings.{AreBundleFindings, AreFindingsOfFirst, AreImageFindings}
 use Rattle.sfi_check.specs.declared.tally.Tally.{Tally}
 use Rattle.sfi_check.specs.declared.stream_answer.StreamAnswer.{StreamAnswer}
 use Rattle.sfi_check.specs.declared.stream_answer.StreamAnswer.TheVariants as answers
@@ -90,10 +94,47 @@ pub record IsSoFar (told : List Finding → Type 0) (r : ReaderState) (t : Tally
   pub tallies : Tallies told t at
   pub few : t.bundles + left r ≤ left_most
 
+-- the bundle at that place is wanted
+abbrev pub want_at : BundlePlace → Want
+want_at b = wants.Bundle b.sandbox b.address b.format b.code_base b.code_size b.listed
+
 -- the bytes end before what comes next is whole, and are fewer than 28
 pub record IsCut (r : ReaderState) (len : ℕ) : Type 0 where
   pub less : (x : Front) → StandsFor r x → IsLess len (want_of x)
   pub few : len < 28
+
+-- the second tally is the first with these findings more
+pub record AddsFindings (old new : Tally) (found : List Finding) : Type 0 where
+  pub sandboxes : new.sandboxes ≡ old.sandboxes
+  pub bundles : new.bundles ≡ old.bundles
+  pub count : new.count ≡ old.count + length found
+  pub first :
+      (before : List Finding) → old.first ≡ slice_get before 0
+      → new.first ≡ slice_get (before ++ found) 0
+
+-- the findings of the first n bundles of these bytes, none of them listed, of which the first lies
+-- there, in order
+abbrev pub AreFindingsOfPlain : BundlePlace → List ℕ → ℕ → List Finding → Type 0
+AreFindingsOfPlain b bytes zero found = found ≡ []
+AreFindingsOfPlain b bytes (suc n) found =
+    (front : List Finding) × (last : List Finding) × AreFindingsOfPlain b bytes n front
+    × AreBundleFindings (bundle_at b n) (block_bundle bytes n) last
+    × (found ≡ front ++ last)
+
+-- so many bundles of these bytes are scanned, of which the first lies there: the tally and the sink
+-- after them have their findings
+pub record AreScanned {F : Type 0} (takes : F → List Finding → F → Type 0) (b : BundlePlace)
+    (bytes : List ℕ) (n : ℕ) (old new : Tally) (before after : F) : Type 0 where
+  pub found : List Finding
+  pub found_are : AreFindingsOfPlain b bytes n found
+  pub few : length found ≤ findings_most * n
+  pub added : AddsFindings old new found
+  pub handed : takes before found after
+
+-- that bundle comes next, and the first of so many plain ones
+pub record IsPlainFrom (b : BundlePlace) (bundles : ℕ) (x : Front) : Type 0 where
+  pub want : want_at b ≡ want_of x
+  pub plain : ArePlainNext x bundles
 
 -- `told` holds of some findings
 abbrev pub IsTold : (List Finding → Type 0) → Type 0

@@ -1,6 +1,6 @@
 //! Code that tries to get out of its sandbox.
 use super::images::{C_EBREAK, C_NOP, EBREAK, HEAD, PAIR_ON_X0, SFI1, SFI2, bytes_of};
-use sfi_check::{Refusal, StreamAnswer, check, check_stream};
+use sfi_check::{Feed, Refusal, StreamAnswer, check, check_stream};
 use sfi_image::Reading;
 use sfi_policy::Format;
 use sfi_scan::{Finding, Rule};
@@ -12,13 +12,15 @@ enum Harm {
     Anywhere,
     /// In the first format alone: in the second an access on x2 needs no pair.
     FirstFormat,
+    /// In the second format alone: in the first x2 is a register like others.
+    SecondFormat,
     /// Unless so many bytes after its first one a bundle of the region begins.
     Jump(u32),
     /// As the region's last instruction alone.
     AtEnd,
 }
 
-use Harm::{Anywhere, AtEnd, FirstFormat, Jump};
+use Harm::{Anywhere, AtEnd, FirstFormat, Jump, SecondFormat};
 
 /// Code, the rule that it breaks, the place of the instruction that does,
 /// counted from its first byte, and where it does.
@@ -60,7 +62,7 @@ const BUNDLES: u32 = 16;
 
 /// x27 or x26 is the second operand of a pair's first or second instruction,
 /// x25 or x24 that of a pair for jumps.
-const ATTACKS: [Attack; 31] = [
+const ATTACKS: [Attack; 34] = [
     Attack(
         "operands of and exchanged",
         "b3ffad00b3efaf0123a0bf00",
@@ -153,6 +155,15 @@ const ATTACKS: [Attack; 31] = [
     Attack("fence.i", "0f100000", Rule::V1, 0, Anywhere),
     Attack("no instruction", "00000000", Rule::V1, 0, Anywhere),
     Attack("addi at the end", "13000000", Rule::V8, 0, AtEnd),
+    Attack("c.addi x2, -16", "41110290", Rule::V10, 0, SecondFormat),
+    Attack("c.addi16sp x2, 16", "41610290", Rule::V10, 0, SecondFormat),
+    Attack(
+        "lw x2",
+        "b37fb501b3efaf0103a10f000290",
+        Rule::V10,
+        8,
+        SecondFormat,
+    ),
 ];
 
 impl Attack {
@@ -166,6 +177,7 @@ impl Attack {
         match self.4 {
             Anywhere => true,
             FirstFormat => format == Format::Sfi1,
+            SecondFormat => format == Format::Sfi2,
             Jump(offset) => {
                 let target = from.wrapping_add(offset);
                 target % 16 != 0 || target >= 16 * BUNDLES
@@ -214,11 +226,21 @@ impl Attack {
     }
 }
 
-// Both checks find this in an image of one sandbox and 16 bundles, and nothing else.
+// What a feed answers, which looks at each bundle by itself, where a stream looks at eight.
+fn fed(bytes: &[u8]) -> StreamAnswer {
+    let mut feed = Feed::new();
+    feed.feed(bytes);
+    feed.answer()
+}
+
+// All three checks find this in an image of one sandbox and 16 bundles, and nothing else.
 fn is_found(alloc: Global, bytes: &[u8], finding: Option<Finding>) -> bool {
     let mut reader = bytes;
     let mut source = Reading::new(&mut reader);
     let streamed = check_stream(&mut source);
+    if fed(bytes) != streamed {
+        return false;
+    }
     match (check(alloc, bytes), finding) {
         (Ok(_accepted), None) => {
             streamed
@@ -259,12 +281,13 @@ fn is_found_in(
     Ok(true)
 }
 
-// In either format, after each filler, in the first bundle, in one in the middle and in the last.
+// In either format, after each filler, in the first bundle, in each quarter of the block of eight that
+// is looked at together, and in the last bundle, which is in none.
 #[test]
 fn attacks_are_found(rt: HostRuntime) -> Result<(), Fail> {
     for attack in &ATTACKS {
         for format in [Format::Sfi1, Format::Sfi2] {
-            for bundle in [0u32, 7, 15] {
+            for bundle in [0u32, 3, 4, 7, 15] {
                 for filler in [Nop, CNop, Ebreak] {
                     assert!(rt;
                         is_found_in(rt.alloc(), attack, format, bundle, filler)?,

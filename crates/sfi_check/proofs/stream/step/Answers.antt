@@ -1,9 +1,7 @@
-use Rattle.std.proofs.Common.{◌≡◌, ◌∙◌, ◌≤◌, ℕ, eqb, false, ◌++◌, List, take, length, refl, sym, ap, subst, arith}
+use Rattle.std.proofs.Common.{◌≡◌, ◌∙◌, ◌≤◌, ℕ, eqb, false, List, take, length, refl, sym, arith}
 use Rattle.std.proofs.lemmas.Bool.{eq-eqb}
 use Rattle.std.proofs.lemmas.List.{length-take}
-use Rattle.sfi_check.specs.private.Tallies.{IsSoFar}
-use Rattle.sfi_check.proofs.Tallying.{Adds}
-use Rattle.sfi_check.proofs.Leading.{bundle_within, field_len, init_some, field_taken, bundle_taken, init_taken, field_step, init_step, bundle_step, step_fault}
+use Rattle.sfi_check.proofs.Leading.{bundle_within, field_len, init_some, field_taken, init_taken, field_step, init_step, step_fault}
 use Rattle.sfi_check.proofs.stream.step.Goals as goal
 use Rattle.sfi_check.proofs.stream.step.Goals.{then-rest-most, else-rest-most}
 
@@ -13,27 +11,10 @@ not_empty xs e = grind (arith, eq-eqb (length xs) 0, e)
 taken : (n : ℕ) (xs : List ℕ) → n ≤ length xs → length (take n xs) ≡ n
 taken n xs le = omega (arith, length-take n xs)
 
-pub scan_bundle-requires : goal.scan_bundle-requires
-scan_bundle-requires g c =
-    let h = c.requires.2 in
-    bundle_within c.whole_bundles.ensures h.at c.in-Bundle.sandbox c.in-Bundle.address c.in-Bundle.format c.in-Bundle.code_base c.in-Bundle.code_size c.in-Bundle.listed h.stands.right (c.in-Bundle.ensures.want h.at h.stands)
-
 pub take-requires : goal.take-requires
 take-requires g c =
     let h = c.requires.2 in
     (h.at, h.stands, field_taken h.at c.in-Field.len c.args.rest.now (c.in-Field.ensures.want h.at h.stands) c.if-rest-len.false)
-
-pub take-requires-in-Bundle : goal.take-requires-in-Bundle
-take-requires-in-Bundle g c =
-    let h = c.requires.2 in
-    let chunk = c.in-Some-first_chunk.ensures.cases in
-    let enough : 16 ≤ length c.args.rest.now = chunk.enough in
-    let len : length c.in-Some-first_chunk.bundle.now ≡ 16 = ap length chunk.same ∙ taken 16 c.args.rest.now enough in (
-      h.at,
-      h.stands,
-      bundle_taken h.at c.in-Bundle.sandbox c.in-Bundle.address c.in-Bundle.format c.in-Bundle.code_base c.in-Bundle.code_size c.in-Bundle.listed
-          c.in-Some-first_chunk.bundle.now (c.in-Bundle.ensures.want h.at h.stands) len,
-    )
 
 pub take-requires-in-Init : goal.take-requires-in-Init
 take-requires-in-Init g c =
@@ -58,33 +39,19 @@ returns-in-None g c = λ first so_far h. (
   c.in-None.ensures.falls,
 )
 
-pub returns-in-Some-take-2 : goal.returns-in-Some-take-2
-returns-in-Some-take-2 g c = λ first so_far h. step_fault c.args.reader.now c.args.tally.now so_far (take c.if-rest-most.len c.args.rest.now) c.args.rest.now c.if-rest-most.len c.in-Some-take-2.number refl c.in-Some-take-2.ensures.fault h
-
-pub returns-in-None-take-2 : goal.returns-in-None-take-2
-returns-in-None-take-2 g c = λ first so_far h.
-    let some = init_some h.at c.in-Init.most (c.in-Init.ensures.want h.at h.stands) h.stands.right in (
-      elim c.if-rest-most.branch [ then-rest-most w ↦ (let e = w.len-is in let not_zero = not_empty c.args.rest.now (sym c.is_empty.ensures ∙ c.if-is_empty.false) in omega arith) | else-rest-most w ↦ (let e = w.len-is in omega arith) ],
-      elim c.if-rest-most.branch [ then-rest-most w ↦ (let e = w.len-is in omega arith) | else-rest-most w ↦ (let e = w.len-is in let b = w.if-rest-most.false in omega arith) ],
-      init_step c.args.reader.now c.take-in-Init.new.self c.args.tally.now so_far (take c.if-rest-most.len c.args.rest.now) c.in-Init.most c.in-Init.ensures.want c.in-None-take-2.ensures.goes_on c.in-None-take-2.ensures.falls h,
-      c.in-None-take-2.ensures.falls,
-    )
-
 pub returns-in-Some-take : goal.returns-in-Some-take
-returns-in-Some-take g c = λ first so_far h. step_fault c.args.reader.now c.args.tally.now so_far c.in-Some-first_chunk.bundle.now c.args.rest.now 16 c.in-Some-take.number c.in-Some-first_chunk.ensures.cases.same c.in-Some-take.ensures.fault h
+returns-in-Some-take g c = λ first so_far h. step_fault c.args.reader.now c.args.tally.now so_far (take c.if-rest-most.len c.args.rest.now) c.args.rest.now c.if-rest-most.len c.in-Some-take.number refl c.in-Some-take.ensures.fault h
 
 pub returns-in-None-take : goal.returns-in-None-take
 returns-in-None-take g c = λ first so_far h.
-    let chunk = c.in-Some-first_chunk.ensures.cases in
-    let enough : 16 ≤ length c.args.rest.now = chunk.enough in
-    let len : length c.in-Some-first_chunk.bundle.now ≡ 16 = ap length chunk.same ∙ taken 16 c.args.rest.now enough in
-    let adds : Adds c.args.tally.now c.with_bundle.result c.in-Bundle.sandbox c.scan_bundle.new.findings =
-    record { sandboxes = c.with_bundle.ensures.sandboxes; bundles = c.with_bundle.ensures.bundles; count = c.with_bundle.ensures.count; few = c.with_bundle.ensures.few; first = c.with_bundle.ensures.first } in (
-      omega arith,
-      enough,
-      subst (λ (l : List ℕ). IsSoFar (λ found. g.F.FindingSink.takes first found c.put.new.self) c.take-in-Bundle.new.self c.with_bundle.result (so_far ++ l)) chunk.same
-          (bundle_step c.args.reader.now c.take-in-Bundle.new.self c.args.tally.now c.with_bundle.result so_far c.in-Some-first_chunk.bundle.now c.in-Bundle.sandbox c.in-Bundle.address c.in-Bundle.format c.in-Bundle.code_base c.in-Bundle.code_size c.in-Bundle.listed c.scan_bundle.new.findings
-          c.in-Bundle.ensures.want len c.scan_bundle.ensures adds c.in-None-take.ensures.goes_on c.in-None-take.ensures.falls
-          (λ before told. g.met.F.FindingSink.more first c.args.sink.now c.put.new.self before c.scan_bundle.new.findings told c.put.ensures) h),
+    let some = init_some h.at c.in-Init.most (c.in-Init.ensures.want h.at h.stands) h.stands.right in (
+      elim c.if-rest-most.branch [ then-rest-most w ↦ (let e = w.len-is in let not_zero = not_empty c.args.rest.now (sym c.is_empty.ensures ∙ c.if-is_empty.false) in omega arith) | else-rest-most w ↦ (let e = w.len-is in omega arith) ],
+      elim c.if-rest-most.branch [ then-rest-most w ↦ (let e = w.len-is in omega arith) | else-rest-most w ↦ (let e = w.len-is in let b = w.if-rest-most.false in omega arith) ],
+      init_step c.args.reader.now c.take-in-Init.new.self c.args.tally.now so_far (take c.if-rest-most.len c.args.rest.now) c.in-Init.most c.in-Init.ensures.want c.in-None-take.ensures.goes_on c.in-None-take.ensures.falls h,
       c.in-None-take.ensures.falls,
     )
+
+pub take_code-requires-clause-within : goal.take_code-requires-clause-within
+take_code-requires-clause-within g c =
+    let h = c.requires.2 in
+    bundle_within c.whole_bundles.ensures h.at _ h.stands.right (c.in-Bundle.ensures.want h.at h.stands)

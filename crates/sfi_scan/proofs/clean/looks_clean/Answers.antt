@@ -13,7 +13,7 @@ loop-at-preserved-then-halfword-ne3 c =
 
 pub loop-at-preserved-then-is_stack_written : goal.loop-at-preserved-then-is_stack_written
 loop-at-preserved-then-is_stack_written c =
-    looks_written c.one_spelling.ensures c.args.place.now c.args.bytes.now c.loop-at.at c.loop-at.from c.told-bytes c.if-at-le4.true (sym c.if-is_last_bundle.ensures) (sym c.requires.stack ∙ c.if-stack.true) c.loop-at.invariant
+    looks_written c.one_spelling.ensures c.one_spelling-2.ensures c.args.place.now c.args.bytes.now c.loop-at.at c.loop-at.from c.told-bytes c.if-at-le4.true (sym c.if-is_last_bundle.ensures) (sym c.requires.stack ∙ c.if-stack.true) c.loop-at.invariant
     c.if-is_stack_written.ensures.write c.if-is_stack_written.ensures.pair
 
 pub loop-at-preserved : goal.loop-at-preserved

@@ -1,26 +1,37 @@
-use Rattle.std.proofs.Common.{◌≡◌, ℕ, ◌+◌, ◌*◌, ◌/◌, ◌%◌, List, ◌++◌, length, get_or, sym, ◌∙◌, ap, subst, arith, Bool, []}
+use Rattle.std.proofs.Common.{◌≡◌, ℕ, ◌+◌, ◌*◌, ◌/◌, ◌%◌, List, ◌++◌, length, get_or, refl, true, true≢false, sym, ◌∙◌, ap, subst, arith, Bool, []}
 use Rattle.std.specs.Result.{is_ok}
 use Rattle.sfi_scan.specs.declared.bundle.BundlePlace.{BundlePlace}
 use Rattle.sfi_image.specs.Spelling.{view}
 use Rattle.sfi_image.specs.Spans.{code_region}
 use Rattle.sfi_image.specs.Gates.{is_gate_of}
-use Rattle.sfi_scan.specs.Findings.{AreFindingsOfFirst}
-use Rattle.sfi_scan.proofs.Gates.{Ahead, all_ahead, one_more, first_is, ahead_taken, ahead_kept, same_taken, chunk_at, if_true, none_more}
+use Rattle.sfi_masks.specs.Masks.{is_in}
+use Rattle.sfi_scan.specs.Bundles.{IsWithin, place_of, bundle_bytes}
+use Rattle.sfi_scan.specs.Findings.{AreBundleFindings, AreFindingsOfFirst}
+use Rattle.sfi_scan.specs.private.Near.{AreGatesFrom, is_first_at}
+use Rattle.sfi_scan.proofs.Bits.{in_shr, in_zero}
+use Rattle.sfi_scan.proofs.Gates.{all_ahead, one_more, first_is, ahead_taken, ahead_kept, same_taken, chunk_at, if_true, none_more}
 use Rattle.sfi_scan.proofs.part.scan_part_as.Goals as goal
-use Rattle.sfi_scan.proofs.part.scan_part_as.Goals.{then-listed, else-listed, then-count-gt0+in_ok-extend_from_slice, else-count-gt0}
+use Rattle.sfi_scan.proofs.part.scan_part_as.Goals.{then-k-eq0, else-k-eq0, then-place, else-place, then-not-has+then-count-gt0+in_ok-extend_from_slice, then-not-has+else-count-gt0, else-not-has}
 
 pub loop-k-init : goal.loop-k-init
 loop-k-init c = record {
   so_far = c.new-found.ensures.items;
-  ahead = subst (λ l. Ahead (c.args.part.now.code_base + 0) l) (sym c.as_slice-gates.ensures.value) (all_ahead (code_region (view c.args.format c.args.part.now)) (c.args.part.now.code_base + 0) c.args.part.now.gates.items c.requires.gates.starts c.requires.gates.ascending
-      (λ k d h. let from = (c.requires.gates.starts k d h).held.0 in omega arith));
-  same = λ a h. ap (λ l. is_gate_of l a) c.as_slice-gates.ensures.value;
+  ahead = record {
+    from = subst (λ l. AreGatesFrom (c.args.part.now.code_base + 0) l) (sym c.as_slice-gates.ensures.value) (all_ahead (code_region (view c.args.format c.args.part.now)) (c.args.part.now.code_base + 0) c.args.part.now.gates.items c.requires.gates.starts c.requires.gates.ascending
+        (λ k d h. let from = (c.requires.gates.starts k d h).held.0 in omega arith));
+    same = λ a h. ap (λ l. is_gate_of l a) c.as_slice-gates.ensures.value;
+  };
+  clean = λ i is. absurd (true≢false (sym is ∙ in_zero i));
 }
 
-pub overflow_add-address : goal.overflow_add-address
-overflow_add-address c =
-    let whole = c.whole_bundles.ensures c.args.format c.args.part.now.code_base (length c.args.part.now.code.now) c.requires.code_base c.requires.code_placed in
-    let end = whole.4 in
+pub clean_from-clean-requires-clause-inside : goal.clean_from-clean-requires-clause-inside
+clean_from-clean-requires-clause-inside c =
+    let count = c.as_chunks.ensures.front_len in
+    let below = c.loop-k-test.true in
+    omega arith
+
+pub place_in-place-requires-clause-inside : goal.place_in-place-requires-clause-inside
+place_in-place-requires-clause-inside c =
     let count = c.as_chunks.ensures.front_len in
     let below = c.loop-k-test.true in
     omega arith
@@ -31,36 +42,51 @@ scan_bundle-requires c =
     let end = whole.4 in
     let count = c.as_chunks.ensures.front_len in
     let below = c.loop-k-test.true in
-    record { base = omega arith; end = omega arith; addresses = end }
+    subst IsWithin (sym c.place_in-place.ensures) (record { base = omega arith; end = omega arith; addresses = end })
 
 pub loop-k-preserved : goal.loop-k-preserved
 loop-k-preserved c =
-    let at = c.args.part.now.code_base + 16 * c.loop-k.k in
+    let p = view c.args.format c.args.part.now in
+    let k = c.loop-k.k in
+    let at = c.args.part.now.code_base + 16 * k in
     let old = c.loop-k.invariant in
     let whole = c.whole_bundles.ensures c.args.format c.args.part.now.code_base (length c.args.part.now.code.now) c.requires.code_base c.requires.code_placed in
     let even : at % 16 ≡ 0 = let base = whole.3 in omega arith in
-    let next : at + 16 ≡ c.args.part.now.code_base + 16 * (c.loop-k.k + 1) = omega arith in
-    let listed = c.is_first_at-listed.ensures ∙ first_is at c.loop-k.gates.now old.ahead ∙ old.same at (omega arith) in
-    let place_with : Bool → BundlePlace = λ l. record { sandbox = c.args.sandbox; address = at; format = c.args.format; code_base = c.args.part.now.code_base; code_size = length c.args.part.now.code.now; listed = l } in
-    let place = ap place_with listed in
-    let grown : c.if-count-gt0.found.items ≡ c.loop-k.found.items ++ c.scan_bundle.new.findings =
-    elim c.if-count-gt0.branch [
-      | then-count-gt0+in_ok-extend_from_slice w ↦
-          ap (λ v. v.items) w.found-is ∙ if_true (is_ok w.extend_from_slice.result) _ _ w.extend_from_slice.new.self.items w.extend_from_slice.ensures.items (ap is_ok w.in_ok-extend_from_slice.was) ∙ ap (λ l. c.loop-k.found.items ++ l) w.as_slice.ensures
-      | else-count-gt0 w ↦
-          ap (λ v. v.items) w.found-is ∙ none_more c.loop-k.found.items c.scan_bundle.new.findings (let none = w.if-count-gt0.false in let count = c.count.ensures.value in omega arith)
+    let next : at + 16 ≡ c.args.part.now.code_base + 16 * (k + 1) = omega arith in
+    let first : c.place_in-place.result.listed ≡ is_first_at c.loop-k.gates.now at = ap (λ (b : BundlePlace). b.listed) c.place_in-place.ensures in
+    let place_with : Bool → BundlePlace = λ l. record (place_of c.args.sandbox p k) { listed = l } in
+    let place = c.place_in-place.ensures ∙ ap place_with (first_is at c.loop-k.gates.now old.ahead.from ∙ old.ahead.same at (omega arith)) in
+    let bytes = ap (λ (l : List (List ℕ)). get_or l k []) c.as_chunks.ensures.front ∙ chunk_at (length c.args.part.now.code.now / 16) k c.args.part.now.code.now (let below = c.loop-k-test.true in let count = c.as_chunks.ensures.front_len in omega arith) in
+    let clean : (i : ℕ) → is_in c.if-k-eq0.clean i ≡ true → AreBundleFindings (place_of c.args.sandbox p (k + i)) (bundle_bytes p (k + i)) [] =
+    elim c.if-k-eq0.branch [
+      | then-k-eq0 w ↦ (λ i is. w.clean_from-clean.ensures i (ap (λ m. is_in m i) (sym w.clean-is) ∙ is))
+      | else-k-eq0 w ↦ (λ i is. old.clean i (ap (λ m. is_in m i) (sym w.clean-is) ∙ is))
     ] in
     record {
-      so_far = one_more c.args.sandbox (view c.args.format c.args.part.now) c.loop-k.k _ _ c.loop-k.found.items c.scan_bundle.new.findings c.if-count-gt0.found.items old.so_far c.scan_bundle.ensures place (ap (λ (l : List (List ℕ)). get_or l c.loop-k.k []) c.as_chunks.ensures.front ∙ chunk_at (length c.args.part.now.code.now / 16) c.loop-k.k c.args.part.now.code.now (let below = c.loop-k-test.true in let count = c.as_chunks.ensures.front_len in omega arith))
-          grown;
-      ahead = subst (λ a. Ahead a c.if-listed.gates.now) next (elim c.if-listed.branch [
-        | then-listed w ↦ subst (λ l. Ahead (at + 16) l) (sym (ap (λ b. b.now) w.gates-is ∙ w.after_first-gates.ensures)) (ahead_taken at c.loop-k.gates.now (sym c.is_first_at-listed.ensures ∙ w.if-listed.true) even old.ahead)
-        | else-listed w ↦ subst (λ l. Ahead (at + 16) l) (sym (ap (λ b. b.now) w.gates-is)) (ahead_kept at c.loop-k.gates.now (sym c.is_first_at-listed.ensures ∙ w.if-listed.false) even old.ahead)
-      ]);
-      same = λ a h. elim c.if-listed.branch [
-        | then-listed w ↦ ap (λ l. is_gate_of l a) (ap (λ b. b.now) w.gates-is ∙ w.after_first-gates.ensures) ∙ same_taken at a c.loop-k.gates.now (sym c.is_first_at-listed.ensures ∙ w.if-listed.true) (omega arith) ∙ old.same a (omega arith)
-        | else-listed w ↦ ap (λ l. is_gate_of l a) (ap (λ b. b.now) w.gates-is) ∙ old.same a (omega arith)
+      so_far = elim c.if-not-has.branch [
+        | then-not-has+then-count-gt0+in_ok-extend_from_slice w ↦
+            one_more c.args.sandbox p k _ _ c.loop-k.found.items w.scan_bundle.new.findings c.if-not-has.found.items old.so_far w.scan_bundle.ensures place bytes
+            (ap (λ v. v.items) w.found-is ∙ if_true (is_ok w.extend_from_slice.result) _ _ w.extend_from_slice.new.self.items w.extend_from_slice.ensures.items (ap is_ok w.in_ok-extend_from_slice.was) ∙ ap (λ l. c.loop-k.found.items ++ l) w.as_slice.ensures)
+        | then-not-has+else-count-gt0 w ↦
+            one_more c.args.sandbox p k _ _ c.loop-k.found.items w.scan_bundle.new.findings c.if-not-has.found.items old.so_far w.scan_bundle.ensures place bytes
+            (ap (λ v. v.items) w.found-is ∙ none_more c.loop-k.found.items w.scan_bundle.new.findings (let none = w.if-count-gt0.false in let count = w.count.ensures.value in omega arith))
+        | else-not-has w ↦
+            one_more c.args.sandbox p k _ _ c.loop-k.found.items [] c.if-not-has.found.items old.so_far
+            (subst (λ n. AreBundleFindings (place_of c.args.sandbox p n) (bundle_bytes p n) []) (let e : k + 0 ≡ k = omega arith in e) (clean 0 (ap (λ m. is_in m 0) (sym c.from.ensures) ∙ sym c.has.ensures ∙ w.if-not-has.false)))
+            refl refl (ap (λ v. v.items) w.found-is ∙ none_more c.loop-k.found.items [] (omega arith))
       ];
+      ahead = record {
+        from = subst (λ a. AreGatesFrom a c.if-place.gates.now) next (elim c.if-place.branch [
+          | then-place w ↦ subst (λ l. AreGatesFrom (at + 16) l) (sym (ap (λ b. b.now) w.gates-is ∙ w.after_first-gates.ensures)) (ahead_taken at c.loop-k.gates.now (sym first ∙ w.if-place.true) even old.ahead.from)
+          | else-place w ↦ subst (λ l. AreGatesFrom (at + 16) l) (sym (ap (λ b. b.now) w.gates-is)) (ahead_kept at c.loop-k.gates.now (sym first ∙ w.if-place.false) even old.ahead.from)
+        ]);
+        same = λ a h. elim c.if-place.branch [
+          | then-place w ↦ ap (λ l. is_gate_of l a) (ap (λ b. b.now) w.gates-is ∙ w.after_first-gates.ensures) ∙ same_taken at a c.loop-k.gates.now (sym first ∙ w.if-place.true) (omega arith) ∙ old.ahead.same a (omega arith)
+          | else-place w ↦ ap (λ l. is_gate_of l a) (ap (λ b. b.now) w.gates-is) ∙ old.ahead.same a (omega arith)
+        ];
+      };
+      clean = λ i is. subst (λ n. AreBundleFindings (place_of c.args.sandbox p n) (bundle_bytes p n) []) (let e : k + (1 + i) ≡ k + 1 + i = omega arith in e)
+          (clean (1 + i) (sym (in_shr c.if-k-eq0.clean 1 i) ∙ is));
     }
 
 pub returns : goal.returns

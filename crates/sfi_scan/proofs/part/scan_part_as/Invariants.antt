@@ -1,14 +1,16 @@
-use Rattle.std.proofs.Common.{◌≡◌, ℕ, ◌+◌, ◌*◌, ◌≤◌}
+use Rattle.std.proofs.Common.{◌≡◌, ℕ, ◌+◌, true, []}
 use Rattle.sfi_image.specs.Spelling.{view}
-use Rattle.sfi_image.specs.Gates.{is_gate_of}
-use Rattle.sfi_scan.specs.Findings.{AreFindingsOfFirst}
-use Rattle.sfi_scan.proofs.Gates.{Ahead}
+use Rattle.sfi_masks.specs.Masks.{is_in}
+use Rattle.sfi_scan.specs.Bundles.{place_of, bundle_bytes}
+use Rattle.sfi_scan.specs.Findings.{AreBundleFindings, AreFindingsOfFirst}
+use Rattle.sfi_scan.specs.private.Near.{AreAhead}
 use Rattle.sfi_scan.proofs.part.scan_part_as.Given as goal
 
--- the findings of the bundles so far, and the gates that are still ahead
+-- the findings of the bundles so far, the gates that are still ahead, and what the mask tells
 abbrev pub invariant-loop-k : goal.invariant-loop-k
 invariant-loop-k l = record {
   so_far : AreFindingsOfFirst l.sandbox (view l.fn.format l.part) l.k l.found.items;
-  ahead : Ahead (l.part.code_base + 16 * l.k) l.gates;
-  same : (a : ℕ) → l.part.code_base + 16 * l.k ≤ a → is_gate_of l.gates a ≡ is_gate_of l.part.gates.items a;
+  ahead : AreAhead (view l.fn.format l.part) l.k l.gates;
+  clean : (i : ℕ) → is_in l.clean i ≡ true
+      → AreBundleFindings (place_of l.sandbox (view l.fn.format l.part) (l.k + i)) (bundle_bytes (view l.fn.format l.part) (l.k + i)) [];
 }

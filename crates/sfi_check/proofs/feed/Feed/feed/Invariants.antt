@@ -1,4 +1,4 @@
-use Rattle.std.proofs.Common.{length, ◌-◌, ◌≡◌, ℕ, ◌≤◌, List, ◌++◌, take}
+use Rattle.std.proofs.Common.{length, ◌-◌, ℕ, ◌≤◌, List, ◌++◌, take}
 use Rattle.sfi_check.specs.Feeds.{IsFed}
 use Rattle.sfi_check.proofs.feed.Feed.feed.Given as goal
 

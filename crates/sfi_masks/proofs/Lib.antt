@@ -1,0 +1,7 @@
+pub mod Vectors
+pub mod Quarter
+pub mod SideBySide
+pub mod Fields
+pub mod Cells
+pub mod Told
+pub mod Block

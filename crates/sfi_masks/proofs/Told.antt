@@ -1,0 +1,101 @@
+-- What the classes tell of the instruction that begins with a halfword.
+use Rattle.std.proofs.Common.{◌≡◌, ℕ, ◌+◌, ◌*◌, ◌/◌, ◌%◌, ◌<◌, Bool, true, false, cond, ◌==◌, List, take, drop, get_or, ap, ◌∙◌, subst, arith, Option, Some, None, IfSome}
+use Rattle.std.specs.Prelude.{slice_index}
+use Rattle.std.proofs.lemmas.Bool.{and_parts}
+use Rattle.std.proofs.lemmas.List.{get_or-take, get_or-drop}
+use Rattle.rv_word.specs.declared.outline.Outline.{Outline}
+use Rattle.rv_word.specs.declared.outline.Outline.TheVariants.{Computes}
+use Rattle.rv_word.specs.declared.access.Access.{Access}
+use Rattle.rv_word.specs.Accesses.{IsAccessOf}
+use Rattle.rv_word.specs.Formats.{r_format}
+use Rattle.rv_word.specs.Outlines.{IsWordThat}
+use Rattle.rv_comp.specs.Halfwords.{IsHalfwordThat}
+use Rattle.rv_comp.specs.Laws.{HalfwordsAreOutlined}
+use Rattle.rv_comp.specs.mirror.Outlining.{outlined}
+use Rattle.sfi_masks.specs.Masks.{half_at, word_at, may_write, is_free, IsFreeHalf, IsFreeWord, IsFreeAccess}
+use Rattle.sfi_masks.specs.private.Seen.{free_classes, access_classes}
+use Rattle.sfi_masks.proofs.Fields.{computes, accesses, that_computes, that_accesses}
+use Rattle.sfi_masks.proofs.Cells.{opcode, rd, funct3, is_free_half, is_free_word, begins_free, begins_access, free_begins, access_begins}
+
+-- ---- a halfword and a word of bytes
+
+taken : (bytes : List ℕ) (n at k place : ℕ) → k < n → at + k ≡ place → get_or (take n (drop at bytes)) k 0 ≡ get_or bytes place 0
+taken bytes n at k place h e = get_or-take n (drop at bytes) k 0 h ∙ get_or-drop at bytes k 0 ∙ ap (λ m. get_or bytes m 0) e
+
+pub half_is : (bytes : List ℕ) (i : ℕ) → half_at bytes i ≡ slice_index bytes (2 * i) + 256 * slice_index bytes (2 * i + 1)
+half_is bytes i =
+    let a = taken bytes 2 (2 * i) 0 (2 * i) (omega arith) (omega arith) in
+    let b = taken bytes 2 (2 * i) 1 (2 * i + 1) (omega arith) (omega arith) in
+    omega (arith, a, b)
+
+pub word_is : (bytes : List ℕ) (i : ℕ) → word_at bytes i
+    ≡ slice_index bytes (2 * i) + 256 * slice_index bytes (2 * i + 1) + 65536 * slice_index bytes (2 * i + 2) + 16777216 * slice_index bytes (2 * i + 3)
+word_is bytes i =
+    let a = taken bytes 4 (2 * i) 0 (2 * i) (omega arith) (omega arith) in
+    let b = taken bytes 4 (2 * i) 1 (2 * i + 1) (omega arith) (omega arith) in
+    let c = taken bytes 4 (2 * i) 2 (2 * i + 2) (omega arith) (omega arith) in
+    let d = taken bytes 4 (2 * i) 3 (2 * i + 3) (omega arith) (omega arith) in
+    omega (arith, a, b, c, d)
+
+-- ---- 16-bit forms
+
+free_outline : (stack : Bool) (half : ℕ) (o : Option Outline) → IfSome o (IsHalfwordThat half) → is_free_half stack o ≡ true → IsFreeHalf stack half
+free_outline stack half (Some o) that free = record { instr = that.instr; spelled = that.spelled; free = ap (is_free stack) that.does ∙ free }
+free_outline stack half None that free = absurd cc
+
+pub free_half : HalfwordsAreOutlined → (stack : Bool) (low high next : ℕ) → low < 256 → high < 256 → next < 256 → (low % 4 == 3) ≡ false
+    → (free_classes stack low high next == 0) ≡ false → IsFreeHalf stack (low + 256 * high)
+unfolding begins_free
+free_half law stack low high next l h n short some =
+    free_outline stack (low + 256 * high) (outlined (low + 256 * high)) (law (low + 256 * high) (omega arith)).0 (by (low % 4 == 3) short (free_begins stack low high l h next n some))
+  where
+    by : (b : Bool) → b ≡ false → (elim b [ true ↦ is_free_word stack low high (next / 2) | false ↦ is_free_half stack (outlined (low + 256 * high)) ]) ≡ true
+        → is_free_half stack (outlined (low + 256 * high)) ≡ true
+    by true e told = absurd cc
+    by false e told = told
+
+-- ---- words
+
+abbrev word_of : ℕ → ℕ → ℕ → ℕ → ℕ
+word_of low high low2 high2 = low + 256 * high + 65536 * low2 + 16777216 * high2
+
+abbrev rs1 : ℕ → ℕ → ℕ
+rs1 high low2 = high / 128 + 2 * (low2 % 16)
+
+abbrev rs2 : ℕ → ℕ → ℕ
+rs2 low2 high2 = low2 / 16 + 16 * (high2 % 2)
+
+cut : (low high low2 high2 : ℕ) → low < 256 → high < 256 → low2 < 256 → high2 < 256
+    → r_format (high2 / 2) (rs2 low2 high2) (rs1 high low2) (funct3 high) (rd low high) (opcode low) ≡ word_of low high low2 high2
+cut low high low2 high2 p q r s = omega arith
+
+pub free_word : (stack : Bool) (low high low2 high2 : ℕ) → low < 256 → high < 256 → low2 < 256 → high2 < 256 → (low % 4 == 3) ≡ true
+    → (free_classes stack low high high2 == 0) ≡ false → IsFreeWord stack (word_of low high low2 high2)
+unfolding begins_free
+free_word stack low high low2 high2 p q r s long some =
+    let told = by (low % 4 == 3) long (free_begins stack low high p q high2 s some) in
+    let both = and_parts (may_write stack (rd low high)) (computes (opcode low) (funct3 high) (high2 / 2)) told in
+    let that = that_computes (high2 / 2) (rs2 low2 high2) (rs1 high low2) (funct3 high) (rd low high) (omega arith) (omega arith) (omega arith) (omega arith) (omega arith) (opcode low) both.1 in
+    let is : IsWordThat (word_of low high low2 high2) (Computes (rd low high)) = subst (λ (w : ℕ). IsWordThat w (Computes (rd low high))) (cut low high low2 high2 p q r s) that in
+    record { instr = is.instr; spelled = is.spelled; free = ap (is_free stack) is.does ∙ both.0 }
+  where
+    by : (b : Bool) → b ≡ true → (elim b [ true ↦ is_free_word stack low high (high2 / 2) | false ↦ is_free_half stack (outlined (low + 256 * high)) ]) ≡ true
+        → is_free_word stack low high (high2 / 2) ≡ true
+    by true e told = told
+    by false e told = absurd cc
+
+pub free_access : (stack : Bool) (low high low2 high2 : ℕ) → low < 256 → high < 256 → low2 < 256 → high2 < 256
+    → (access_classes stack low high high2 == 0) ≡ false → IsFreeAccess stack (word_of low high low2 high2)
+unfolding begins_access
+free_access stack low high low2 high2 p q r s some =
+    let written = cond (opcode low == 35) 0 (rd low high) in
+    let both = and_parts (accesses (opcode low) (funct3 high)) (may_write stack written) (access_begins stack low high p q high2 s some) in
+    let a : Access = record { written = written; base = rs1 high low2 } in
+    let that : IsAccessOf (r_format (high2 / 2) (rs2 low2 high2) (rs1 high low2) (funct3 high) (rd low high) (opcode low)) a =
+    that_accesses (high2 / 2) (rs2 low2 high2) (rs1 high low2) (funct3 high) (rd low high) (omega arith) (omega arith) (omega arith) (omega arith) (omega arith) (opcode low) both.0 in
+    record {
+      access = a;
+      is = subst (λ (w : ℕ). IsAccessOf w a) (cut low high low2 high2 p q r s) that;
+      base = omega arith;
+      free = both.1;
+    }

@@ -1,0 +1,12 @@
+use Rattle.sfi_masks.proofs.Block.{are_quarters, are_masks}
+use Rattle.sfi_masks.proofs.masks.masks_in.Goals as goal
+
+pub returns : goal.returns
+returns g c =
+    let a = c.masks_of_quarter-first in
+    let b = c.masks_of_quarter-second in
+    let d = c.masks_of_quarter-third in
+    let e = c.masks_of_quarter-fourth in
+    let block = c.args.block.now in
+    are_masks _ block a.result b.result d.result e.result c.halfwords_are_outlined.ensures c.fits-block
+    (are_quarters _ block a.result b.result d.result e.result a.ensures b.ensures d.ensures e.ensures) _ c.joined.ensures c.joined-2.ensures c.joined-3.ensures

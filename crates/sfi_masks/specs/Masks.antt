@@ -1,0 +1,75 @@
+-- What the masks of a block say of the instructions that its halfwords begin.
+use Rattle.std.specs.Int.{w16, w32, from_le_bytes, bit_at}
+use Rattle.std.specs.Prelude.{◌≡◌, ◌<◌, ◌*◌, ◌%◌, ◌&&◌, ◌==◌, not, ℕ, List, Bool, true, false, take, drop}
+use Rattle.rv_word.specs.Accesses.{IsAccessOf}
+use Rattle.rv_word.specs.Numbers.{bits}
+use Rattle.rv_word.specs.Outlines.{outline}
+use Rattle.rv_word.specs.Spelling.{IsWordOf}
+use Rattle.rv_word.specs.declared.access.Access.{Access}
+use Rattle.rv_word.specs.declared.instr.Instr.{Instr}
+use Rattle.rv_word.specs.declared.outline.Outline.{Outline}
+use Rattle.rv_word.specs.declared.outline.Outline.TheVariants.{Computes, Loads, Stores, Orders, Stops}
+use Rattle.rv_comp.specs.Halfwords.{IsShortSpelling}
+use Rattle.sfi_policy.specs.Registers.{is_reserved, stack_pointer}
+use Rattle.sfi_masks.specs.declared.masks.Masks.{Masks}
+
+-- halfword i of the bytes, and the word that begins there
+abbrev pub half_at : List ℕ → ℕ → ℕ
+half_at bytes i = from_le_bytes w16 (take 2 (drop (2 * i) bytes))
+
+abbrev pub word_at : List ℕ → ℕ → ℕ
+word_at bytes i = from_le_bytes w32 (take 4 (drop (2 * i) bytes))
+
+-- bit i of the mask is set
+abbrev pub is_in : ℕ → ℕ → Bool
+is_in mask i = bit_at mask i == 1
+
+-- the register is not reserved, and not x2 where that is a stack pointer
+abbrev pub may_write : Bool → ℕ → Bool
+may_write stack r = not (is_reserved r) && not (stack && (r == stack_pointer))
+
+-- An instruction that does this breaks no rule in a bundle that is neither a gate's nor its region's
+-- last, whatever stands before and after it. Where x2 is a stack pointer, an access on it needs no
+-- pair.
+abbrev pub is_free : Bool → Outline → Bool
+is_free stack (Computes rd) = may_write stack rd
+is_free stack (Loads rd base) = may_write stack rd && (stack && (base == stack_pointer))
+is_free stack (Stores base) = stack && (base == stack_pointer)
+is_free stack Orders = true
+is_free stack Stops = true
+is_free stack _ = false
+
+-- the halfword spells such an instruction
+pub record IsFreeHalf (stack : Bool) (half : ℕ) : Type 0 where
+  pub instr : Instr
+  pub spelled : IsShortSpelling half instr
+  pub free : is_free stack (outline instr) ≡ true
+
+-- the word spells such an instruction
+pub record IsFreeWord (stack : Bool) (word : ℕ) : Type 0 where
+  pub instr : Instr
+  pub spelled : IsWordOf word instr
+  pub free : is_free stack (outline instr) ≡ true
+
+-- the word spells a load or a store that writes no register that it may not; its bits 19:15 name
+-- its base
+pub record IsFreeAccess (stack : Bool) (word : ℕ) : Type 0 where
+  pub access : Access
+  pub is : IsAccessOf word access
+  pub base : access.base ≡ bits word 19 15
+  pub free : may_write stack access.written ≡ true
+
+-- What the masks tell of the block's 64 halfwords. `long` tells each that begins an instruction of
+-- 32 bits, and no other. What `free` or `access` tells is so wherever an instruction begins there,
+-- but of one of 32 bits at a bundle's last halfword they tell nothing.
+pub record AreMasks (stack : Bool) (bytes : List ℕ) (m : Masks) : Type 0 where
+  pub long : (i : ℕ) → i < 64 → is_in m.long i ≡ (half_at bytes i % 4 == 3)
+  pub short :
+      (i : ℕ) → i < 64 → is_in m.free i ≡ true → is_in m.long i ≡ false
+      → IsFreeHalf stack (half_at bytes i)
+  pub word :
+      (i : ℕ) → i % 8 < 7 → i < 64 → is_in m.free i ≡ true → is_in m.long i ≡ true
+      → IsFreeWord stack (word_at bytes i)
+  pub access :
+      (i : ℕ) → i % 8 < 7 → i < 64 → is_in m.access i ≡ true
+      → IsFreeAccess stack (word_at bytes i)

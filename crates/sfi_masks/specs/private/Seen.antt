@@ -1,0 +1,64 @@
+-- Words of private contracts: what the tables tell of a halfword, by its bytes.
+use Rattle.std.specs.Prelude.{◌≡◌, ℕ, ◌+◌, ◌*◌, ◌/◌, ◌%◌, ◌^◌, ◌<◌, Bool, ◌==◌, not, if◌then◌else◌, List, length, slice_index, bit_and, bit_or}
+use Rattle.sfi_masks.specs.Masks.{is_in}
+use Rattle.sfi_masks.specs.declared.masks.Masks.{Masks}
+use Rattle.sfi_masks.specs.declared.tables.ByteTable.{ByteTable}
+use Rattle.sfi_masks.specs.declared.tables.HalfTable.{HalfTable}
+use Rattle.sfi_masks.specs.declared.tables.TheConstants.{ALONE, FOLLOWED, NEXT, REST, FREE, ACCESSES, ALL, PLAIN, NO_RD}
+
+-- the sixteen lanes of a vector, each by its number
+pub record HasLanes (v : List ℕ) (lane : ℕ → ℕ) : Type 0 where
+  pub count : length v ≡ 16
+  pub lanes : (i : ℕ) → i < 16 → slice_index v i ≡ lane i
+
+-- the classes of a byte: the bits that the entries for its two nibbles share
+abbrev pub byte_classes : ByteTable → ℕ → ℕ
+byte_classes t byte = bit_and (slice_index t.low (byte % 16)) (slice_index t.high (byte / 16))
+
+-- the classes of a halfword, by its low byte and its high byte
+abbrev pub half_classes : HalfTable → ℕ → ℕ → ℕ
+half_classes t low high = bit_and (byte_classes t.low low) (byte_classes t.high high)
+
+-- the classes of a halfword in FOLLOWED, by the high byte after it too
+unfoldable pub followed : ℕ → ℕ → ℕ → ℕ
+followed low high next = bit_and (half_classes FOLLOWED low high) (byte_classes NEXT next)
+
+-- bits 11:7 of the halfword are 2
+abbrev pub names_x2 : ℕ → ℕ → Bool
+names_x2 low high = bit_or (bit_and low 128) (bit_and high 15) == 1
+
+-- the classes that a halfword may be free by, or an access
+unfoldable pub kept : Bool → ℕ → ℕ → ℕ
+kept stack low high =
+    if stack then (if names_x2 low high then NO_RD else ALL) else ALL
+
+unfoldable pub rest : Bool → ℕ → ℕ → ℕ
+rest stack low high = bit_and (half_classes REST low high) (if stack then ALL else PLAIN)
+
+-- the classes by which a halfword is seen to be free, and to begin an access
+abbrev pub free_classes : Bool → ℕ → ℕ → ℕ → ℕ
+free_classes stack low high next =
+    bit_and (bit_or (bit_or (half_classes ALONE low high) (rest stack low high))
+    (bit_and (followed low high next) FREE)) (kept stack low high)
+
+abbrev pub access_classes : Bool → ℕ → ℕ → ℕ → ℕ
+access_classes stack low high next =
+    bit_and (bit_and (followed low high next) ACCESSES) (kept stack low high)
+
+-- Of 32 bytes: sixteen bits of each mask, by the bytes of the halfword and the high byte of the next
+-- one, which for the last is the first.
+pub record AreSeen (stack : Bool) (byte : ℕ → ℕ) (m : Masks) : Type 0 where
+  pub long_small : m.long < 2 ^ 16
+  pub free_small : m.free < 2 ^ 16
+  pub access_small : m.access < 2 ^ 16
+  pub long : (i : ℕ) → i < 16 → is_in m.long i ≡ (byte (2 * i) % 4 == 3)
+  pub free :
+      (i : ℕ) → i < 16 → is_in m.free i
+      ≡ not (free_classes stack (byte (2 * i)) (byte (2 * i + 1)) (byte (2 * ((i + 1) % 16) + 1)) == 0)
+  pub access :
+      (i : ℕ) → i < 16 → is_in m.access i
+      ≡ not (access_classes stack (byte (2 * i)) (byte (2 * i + 1)) (byte (2 * ((i + 1) % 16) + 1)) == 0)
+
+-- of four numbers the one of that place
+abbrev pub of_four : ℕ → ℕ → ℕ → ℕ → ℕ → ℕ
+of_four a b c d place = if place == 0 then a else if place == 1 then b else if place == 2 then c else d

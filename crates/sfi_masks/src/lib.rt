@@ -1,0 +1,14 @@
+//! Eight bundles of code looked at at once: which halfwords begin an instruction of 32 bits, which
+//! an instruction that breaks no rule in a plain bundle whatever stands beside it, and which a load or
+//! a store.
+//!
+//! Vectors of bytes answer for 16 halfwords together. Each of the four nibbles of a halfword looks
+//! up a table of sixteen bytes; a bit that all four entries have is a class that the halfword is in
+//! (Langdale and Lemire, "Parsing Gigabytes of JSON per Second", 2019).
+#![tactic(auto)]
+
+mod lanes;
+mod masks;
+mod tables;
+
+pub use masks::{BLOCK_BYTES, Masks, masks_of};

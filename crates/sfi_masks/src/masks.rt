@@ -1,0 +1,86 @@
+//! The masks of a block of eight bundles.
+ghost use Rattle.std.specs.Prelude.{◌≡◌, ℕ, ◌/◌, ◌%◌, ◌^◌, ◌<◌, length, slice_index};
+ghost use Rattle.sfi_masks.specs.Masks.{AreMasks, is_in};
+ghost use Rattle.sfi_masks.specs.private.Seen.{AreSeen, of_four};
+
+use crate::lanes::{
+    bits_of, classes_of_halves, followed_classes, kept_classes, long_bits, low_and_high,
+    rest_classes,
+};
+use crate::tables::{ACCESSES, ALONE, FREE};
+use std::simd::prelude::*;
+
+/// Eight bundles.
+pub const BLOCK_BYTES: usize = 128;
+
+/// Of each of the 64 halfwords of a block a bit, the lowest for the first.
+#[derive(Clone, Copy)]
+pub struct Masks {
+    /// It begins an instruction of 32 bits.
+    pub long: u64,
+    /// It begins an instruction that breaks no rule in a plain bundle, whatever stands beside it.
+    pub free: u64,
+    /// It begins a load or a store of 32 bits that writes no register that it may not.
+    pub access: u64,
+}
+
+/// The masks of 16 halfwords.
+#[inline(always)]
+fn masks_of_quarter(stack: bool, bytes: &[u8]) -> Masks
+    requires { length bytes.now ≡ 32 }
+    ensures { AreSeen stack (λ k. slice_index bytes.now k) result }
+{
+    let (low, high) = low_and_high(bytes);
+    let alone = classes_of_halves(ALONE, low, high);
+    let followed = followed_classes(low, high);
+    let rest = rest_classes(stack, low, high);
+    let kept = kept_classes(stack, low, high);
+    Masks {
+        long: long_bits(low),
+        free: bits_of((alone | rest | followed & u8x16::splat(FREE)) & kept),
+        access: bits_of(followed & u8x16::splat(ACCESSES) & kept),
+    }
+}
+
+/// Four numbers of 16 bits side by side, the first lowest.
+#[inline(always)]
+fn joined(a: u64, b: u64, c: u64, d: u64) -> u64
+    requires a { a < 2 ^ 16 }
+    requires b { b < 2 ^ 16 }
+    requires c { c < 2 ^ 16 }
+    requires d { d < 2 ^ 16 }
+    ensures { (i : ℕ) → i < 64 → is_in result i ≡ is_in (of_four a b c d (i / 16)) (i % 16) }
+{
+    a | b << 16 | c << 32 | d << 48
+}
+
+/// The masks of a block, by code of its own for each kind of format: neither asks for each vector.
+#[inline(always)]
+fn masks_in<const STACK: bool>(block: &[u8; BLOCK_BYTES]) -> Masks
+    ensures { AreMasks STACK block.now result }
+{
+    // The law that the contract rests on: the call does nothing.
+    rv_comp::laws::halfwords_are_outlined();
+
+    let first = masks_of_quarter(STACK, &block[..32]);
+    let second = masks_of_quarter(STACK, &block[32..64]);
+    let third = masks_of_quarter(STACK, &block[64..96]);
+    let fourth = masks_of_quarter(STACK, &block[96..]);
+    Masks {
+        long: joined(first.long, second.long, third.long, fourth.long),
+        free: joined(first.free, second.free, third.free, fourth.free),
+        access: joined(first.access, second.access, third.access, fourth.access),
+    }
+}
+
+/// The masks of the block's halfwords; `stack` says whether x2 is a stack pointer.
+#[inline(always)]
+pub fn masks_of(stack: bool, block: &[u8; BLOCK_BYTES]) -> Masks
+    ensures { AreMasks stack block.now result }
+{
+    if stack {
+        masks_in::<true>(block)
+    } else {
+        masks_in::<false>(block)
+    }
+}

@@ -1,0 +1,144 @@
+-- What begins at a start of a block breaks no rule.
+use Rattle.std.proofs.Common.{◌≡◌, ℕ, ◌+◌, ◌-◌, ◌/◌, ◌%◌, ◌<◌, Bool, true, false, not, ◌&&◌, ◌||◌, ◌==◌, cond, List, Option, Some, None, IfSome, refl, sym, ap, ◌∙◌, subst, arith, bit_and}
+use Rattle.std.specs.Bool.{OnTrue}
+use Rattle.std.specs.Int.{w16, w32, from_le_bytes}
+use Rattle.std.proofs.lemmas.Bool.{and_parts}
+use Rattle.std.proofs.lemmas.Nat.{and_mask}
+use Rattle.rv_word.specs.Accesses.{IsAccessOf}
+use Rattle.rv_word.specs.Numbers.{bits}
+use Rattle.rv_word.specs.Outlines.{outline, IsWordThat}
+use Rattle.rv_word.specs.Spelling.{IsWordOf}
+use Rattle.rv_word.specs.declared.access.Access.{Access}
+use Rattle.rv_word.specs.declared.instr.Instr.{Instr}
+use Rattle.rv_word.specs.declared.outline.Outline.{Outline}
+use Rattle.rv_word.specs.declared.outline.Outline.TheVariants.{Computes, Loads, Stores, Orders, Stops}
+use Rattle.rv_comp.specs.Halfwords.{IsHalfwordThat, IsShortSpelling}
+use Rattle.sfi_masks.specs.Masks.{is_in, may_write, is_free, IsFreeHalf, IsFreeWord, IsFreeAccess, half_at as block_half, word_at as block_word}
+use Rattle.sfi_policy.specs.Formats.{has_stack}
+use Rattle.sfi_policy.specs.Registers.{is_reserved, stack_pointer}
+use Rattle.sfi_scan.specs.declared.before.Before.{Before}
+use Rattle.sfi_scan.specs.declared.bundle.BundlePlace.{BundlePlace}
+use Rattle.sfi_scan.specs.declared.clean.Words.{Words}
+use Rattle.sfi_scan.specs.Bundles.{bundle_at, block_bundle}
+use Rattle.sfi_scan.specs.Pairs.{follows_data_pair}
+use Rattle.sfi_scan.specs.Rules.{may_access}
+use Rattle.sfi_scan.specs.private.Block.{AreAfterTwo, offset, words_from, IsCleanAt}
+use Rattle.sfi_scan.specs.private.FirstLook.{half_at, word_at, AreWordsFrom, AreBefore, IsWordOr0, is_protected, is_clean, is_clean_access}
+use Rattle.sfi_scan.specs.private.Near.{near}
+use Rattle.sfi_scan.proofs.Joining.{half_cut, word_cut}
+use Rattle.sfi_scan.proofs.Table16.{clean_short, clean_wide, clean_access}
+
+-- ---- the words before a place
+
+pub words_are_before : (block : List ℕ) (words after i first second : ℕ) → i < 64 → AreAfterTwo words after → is_in after i ≡ true
+    → first ≡ word_at (block_bundle block ((i - 4) / 8)) (offset (i - 4)) → second ≡ word_at (block_bundle block ((i - 2) / 8)) (offset (i - 2))
+    → (before : Before) → AreWordsFrom (block_bundle block (i / 8)) (offset i) (words_from after i (offset i)) before → AreBefore (record { first = first; second = second }) before
+words_are_before block words after i first second h two is e f before are =
+    let high = two.high i h is in
+    let bundle4 : (i - 4) / 8 ≡ i / 8 = omega (arith, high) in
+    let bundle2 : (i - 2) / 8 ≡ i / 8 = omega (arith, high) in
+    let far : words_from after i (offset i) ≡ offset i - 8 = ap (λ p. cond p (offset i - 8) (offset i)) is in
+    let first_is : word_at (block_bundle block (i / 8)) (offset (i - 4)) ≡ first = ap (λ n. word_at (block_bundle block n) (offset (i - 4))) (sym bundle4) ∙ sym e in
+    let second_is : word_at (block_bundle block (i / 8)) (offset (i - 2)) ≡ second = ap (λ n. word_at (block_bundle block n) (offset (i - 2))) (sym bundle2) ∙ sym f in
+    record {
+      first = subst (λ w. IsWordOr0 w before.first) first_is (are.first (offset (i - 4)) (omega (arith, high, far)) (omega (arith, high)));
+      second = subst (λ w. IsWordOr0 w before.second) second_is (are.second (offset (i - 2)) (omega (arith, high, far)) (omega (arith, high)));
+    }
+
+-- ---- what is free
+
+both_not : (p q : Bool) → (not p && not q) ≡ not (p || q)
+both_not true q = refl
+both_not false q = refl
+
+may_write_is : (b : BundlePlace) (r : ℕ) → may_write (has_stack b.format) r ≡ true → not (is_protected b r) ≡ true
+may_write_is b r may = sym (both_not (is_reserved r) (has_stack b.format && (r == stack_pointer))) ∙ may
+
+or_true : (p q : Bool) → p ≡ true → (p || q) ≡ true
+or_true true q e = refl
+or_true false q e = cc
+
+both_true : (p q : Bool) → p ≡ true → q ≡ true → (p && q) ≡ true
+both_true true q e f = f
+both_true false q e f = e
+
+on_stack : (b : BundlePlace) (base : ℕ) (earlier : List Instr) → (has_stack b.format && (base == stack_pointer)) ≡ true → may_access b base earlier ≡ true
+on_stack b base earlier e = or_true _ (follows_data_pair base earlier) e
+
+free_clean : (b : BundlePlace) (at : ℕ) (earlier : List Instr) (o : Outline) → is_free (has_stack b.format) o ≡ true → is_clean b at earlier o ≡ true
+free_clean b at earlier (Computes rd) e = may_write_is b rd e
+free_clean b at earlier (Loads rd base) e =
+    let both = and_parts (may_write (has_stack b.format) rd) (has_stack b.format && (base == stack_pointer)) e in
+    both_true _ (may_access b base earlier) (may_write_is b rd both.0) (on_stack b base earlier both.1)
+free_clean b at earlier (Stores base) e = on_stack b base earlier e
+free_clean b at earlier Orders e = refl
+free_clean b at earlier Stops e = refl
+free_clean b at earlier o e = absurd cc
+
+pub free_half : (b : BundlePlace) (block : List ℕ) (stack : Bool) (after i : ℕ) → stack ≡ has_stack b.format → IsFreeHalf stack (block_half block i) → IsCleanAt b block false after i
+free_half b block stack after i is f = record {
+  instr = f.instr;
+  spelled = subst (λ h. IsShortSpelling h f.instr) (ap (from_le_bytes w16) (half_cut block i)) f.spelled;
+  clean = λ earlier are. free_clean (bundle_at b (i / 8)) _ earlier (outline f.instr) (ap (λ s. is_free s (outline f.instr)) (sym is) ∙ f.free);
+}
+
+pub free_word : (b : BundlePlace) (block : List ℕ) (stack : Bool) (after i : ℕ) → i % 8 < 7 → stack ≡ has_stack b.format → IsFreeWord stack (block_word block i) → IsCleanAt b block true after i
+free_word b block stack after i inside is f = record {
+  instr = f.instr;
+  spelled = subst (λ h. IsWordOf h f.instr) (ap (from_le_bytes w32) (word_cut block i inside)) f.spelled;
+  clean = λ earlier are. free_clean (bundle_at b (i / 8)) _ earlier (outline f.instr) (ap (λ s. is_free s (outline f.instr)) (sym is) ∙ f.free);
+}
+
+-- ---- accesses
+
+base_is : (word base : ℕ) → base ≡ bit_and (word / 32768) 31 → base ≡ bits word 19 15
+base_is word base e = e ∙ and_mask (word / 32768) 5
+
+told_access : (b : BundlePlace) (a : Access) (earlier : List Instr) (base : ℕ) → base ≡ a.base → not (is_protected b a.written) ≡ true
+    → (r : Bool) → OnTrue r (may_access b base earlier ≡ true) → OnTrue r (is_clean_access b a earlier ≡ true)
+told_access b a earlier base e free false may = tt
+told_access b a earlier base e free true may = both_true _ (may_access b a.base earlier) free (ap (λ r. may_access b r earlier) (sym e) ∙ may)
+
+pub access_clean : (b : BundlePlace) (block : List ℕ) (stack : Bool) (after i base : ℕ) (words : Words) → i % 8 < 7 → stack ≡ has_stack b.format → (f : IsFreeAccess stack (block_word block i))
+    → base ≡ bit_and (block_word block i / 32768) 31
+    → ((before : Before) → AreWordsFrom (block_bundle block (i / 8)) (offset i) (words_from after i (offset i)) before → AreBefore words before)
+    → (r : Bool) → ((earlier : List Instr) → AreBefore words (near earlier) → OnTrue r (may_access (bundle_at b (i / 8)) base earlier ≡ true))
+    → OnTrue r (IsCleanAt b block true after i)
+access_clean b block stack after i base words inside is f base_of told r may =
+    let c = bundle_at b (i / 8) in
+    let word : block_word block i ≡ word_at (block_bundle block (i / 8)) (offset i) = ap (from_le_bytes w32) (word_cut block i inside) in
+    clean_access c (c.address + offset i) (AreWordsFrom (block_bundle block (i / 8)) (offset i) (words_from after i (offset i))) words _ f.access
+    (subst (λ w. IsAccessOf w f.access) word f.is) told r
+    (λ earlier before. told_access c f.access earlier base (base_is (block_word block i) base base_of ∙ sym f.base) (may_write_is c f.access.written (ap (λ s. may_write s f.access.written) (sym is) ∙ f.free)) r (may earlier before))
+
+-- ---- others
+
+the_some : (P : Outline → Type 0) (o : Option Outline) (x : Outline) → IfSome o P → o ≡ Some x → P x
+the_some P (Some y) x h e = let same : y ≡ x = cc in subst P same h
+the_some P None x h e = absurd cc
+
+pub short_clean : (b : BundlePlace) (block : List ℕ) (after i half : ℕ) (words : Words) (o : Option Outline) (x : Outline) → half ≡ half_at (block_bundle block (i / 8)) (offset i) → IfSome o (IsHalfwordThat half) → o ≡ Some x
+    → ((before : Before) → AreWordsFrom (block_bundle block (i / 8)) (offset i) (words_from after i (offset i)) before → AreBefore words before)
+    → (r : Bool) → ((earlier : List Instr) → AreBefore words (near earlier) → OnTrue r (is_clean (bundle_at b (i / 8)) ((bundle_at b (i / 8)).address + offset i) earlier x ≡ true))
+    → (w : Bool) → w ≡ false → OnTrue r (IsCleanAt b block w after i)
+short_clean b block after i half words o x is found e told r clean w f =
+    let c = bundle_at b (i / 8) in
+    let that = subst (λ h. IsHalfwordThat h x) is (the_some _ o x found e) in
+    subst (λ v. OnTrue r (IsCleanAt b block v after i)) (sym f)
+    (clean_short c (c.address + offset i) (AreWordsFrom (block_bundle block (i / 8)) (offset i) (words_from after i (offset i))) words _ x that told r clean)
+
+pub wide_clean : (b : BundlePlace) (block : List ℕ) (after i word : ℕ) (words : Words) (o : Option Outline) (x : Outline) → word ≡ word_at (block_bundle block (i / 8)) (offset i) → IfSome o (IsWordThat word) → o ≡ Some x
+    → ((before : Before) → AreWordsFrom (block_bundle block (i / 8)) (offset i) (words_from after i (offset i)) before → AreBefore words before)
+    → (r : Bool) → ((earlier : List Instr) → AreBefore words (near earlier) → OnTrue r (is_clean (bundle_at b (i / 8)) ((bundle_at b (i / 8)).address + offset i) earlier x ≡ true))
+    → (w : Bool) → w ≡ true → OnTrue r (IsCleanAt b block w after i)
+wide_clean b block after i word words o x is found e told r clean w f =
+    let c = bundle_at b (i / 8) in
+    let that = subst (λ h. IsWordThat h x) is (the_some _ o x found e) in
+    subst (λ v. OnTrue r (IsCleanAt b block v after i)) (sym f)
+    (clean_wide c (c.address + offset i) (AreWordsFrom (block_bundle block (i / 8)) (offset i) (words_from after i (offset i))) words _ x that told r clean)
+
+-- ---- masks of them
+
+-- one of the accesses, and it is clean
+abbrev pub IsCleanAccess : Bool → List ℕ → ℕ → ℕ → ℕ → Type 0
+IsCleanAccess stack block after accesses i = (is_in accesses i ≡ true) × ((b : BundlePlace) → stack ≡ has_stack b.format → IsCleanAt b block true after i)

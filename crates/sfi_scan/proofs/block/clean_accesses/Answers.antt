@@ -1,0 +1,35 @@
+use Rattle.std.proofs.Common.{◌-◌, sym, ◌∙◌, ap, w64}
+use Rattle.std.specs.Int.{trailing_zeros}
+use Rattle.std.proofs.Math.Facts.{Fits-lt-pow}
+use Rattle.std.proofs.lemmas.Bool.{OnTrue_at}
+use Rattle.sfi_masks.specs.Masks.{is_in}
+use Rattle.sfi_scan.proofs.Bits.{in_lowest, in_rest, in_more}
+use Rattle.sfi_scan.proofs.Starts.{IsCleanAccess}
+use Rattle.sfi_scan.proofs.block.clean_accesses.Goals as goal
+use Rattle.sfi_scan.proofs.block.clean_accesses.Goals.{then-is_clean_access, else-is_clean_access}
+
+pub is_clean_access-requires-clause-inside : goal.is_clean_access-requires-clause-inside
+is_clean_access-requires-clause-inside c =
+    let low = in_lowest c.loop-rest.rest c.loop-rest-test.true (Fits-lt-pow c.loop-rest.auto.rest-fits) in
+    c.requires.inside (trailing_zeros w64 c.loop-rest.rest) low.0 (c.loop-rest.invariant.0 _ low.1)
+
+pub is_clean_access-requires-clause-access : goal.is_clean_access-requires-clause-access
+is_clean_access-requires-clause-access c =
+    let low = in_lowest c.loop-rest.rest c.loop-rest-test.true (Fits-lt-pow c.loop-rest.auto.rest-fits) in
+    c.requires.access (trailing_zeros w64 c.loop-rest.rest) low.0 (c.loop-rest.invariant.0 _ low.1)
+
+pub loop-rest-preserved : goal.loop-rest-preserved
+loop-rest-preserved c =
+    let low = in_lowest c.loop-rest.rest c.loop-rest-test.true (Fits-lt-pow c.loop-rest.auto.rest-fits) in (
+      λ i h. c.loop-rest.invariant.0 i (in_rest c.loop-rest.rest (c.loop-rest.rest - 1) i h),
+      elim c.if-is_clean_access.branch [
+        | then-is_clean_access w ↦ λ i h.
+            in_more w64 (IsCleanAccess c.args.stack c.args.block.now c.args.after c.args.accesses) c.loop-rest.clean (trailing_zeros w64 c.loop-rest.rest) low.0
+            (c.loop-rest.invariant.0 _ low.1, λ b is. OnTrue_at w.if-is_clean_access.true (c.is_clean_access.ensures b is))
+            c.loop-rest.invariant.1 i (sym (ap (λ m. is_in m i) w.clean-is) ∙ h)
+        | else-is_clean_access w ↦ λ i h. c.loop-rest.invariant.1 i (sym (ap (λ m. is_in m i) w.clean-is) ∙ h)
+      ],
+    )
+
+pub returns-clause-clean : goal.returns-clause-clean
+returns-clause-clean c i h = (c.loop-rest.invariant.1 i h).1

@@ -1,0 +1,345 @@
+//! A first look at eight bundles at once. Bit i of a mask is for the block's halfword i.
+ghost use Rattle.std.specs.Prelude.{bit_and, ◌≡◌, ℕ, ◌+◌, ◌*◌, ◌/◌, ◌%◌, ◌<◌, ◌≤◌, [], true, false};
+ghost use Rattle.std.specs.Bool.{OnTrue};
+ghost use Rattle.sfi_masks.specs.Masks.{is_in, IsFreeAccess, word_at as block_word};
+ghost use Rattle.sfi_policy.specs.Formats.{has_stack};
+ghost use Rattle.sfi_scan.specs.declared.before.Before.{Before};
+ghost use Rattle.sfi_scan.specs.declared.bundle.BundlePlace.{BundlePlace};
+ghost use Rattle.sfi_scan.specs.Bundles.{IsWithin, IsWithinBlock, bundle_at, block_bundle};
+ghost use Rattle.sfi_scan.specs.Findings.{AreReadingFindings};
+ghost use Rattle.sfi_scan.specs.private.Block.{AreStarts, AreAfterTwo, AreThreeWords, IsWithout, IsWritten, IsOfWrite, offset, words_from, IsCleanAt};
+ghost use Rattle.sfi_scan.specs.private.FirstLook.{half_at, word_at, AreWordsFrom, AreBefore};
+
+use crate::bundle::BundlePlace;
+use crate::clean::{Words, is_clean, is_stack_pair, is_stack_write, may_access};
+use rv_comp::outline16;
+use rv_word::{Reg, outline32};
+use sfi_masks::{BLOCK_BYTES, masks_of};
+use sfi_policy::BUNDLE_SIZE;
+
+/// Every second halfword, from the first.
+const EVEN: u64 = 0x5555_5555_5555_5555;
+/// The last halfword of each bundle.
+const LAST: u64 = 0x8080_8080_8080_8080;
+/// The first three halfwords of each bundle.
+const FIRST_THREE: u64 = 0x0707_0707_0707_0707;
+/// The last four halfwords of each bundle.
+const LAST_FOUR: u64 = 0xf0f0_f0f0_f0f0_f0f0;
+
+/// Whether bit i of the mask is set.
+#[inline(always)]
+pub(crate) fn has(mask: u64, i: usize) -> bool
+    requires { i < 64 }
+    ensures { result ≡ is_in mask i }
+{
+    mask >> i & 1 == 1
+}
+
+#[inline(always)]
+fn without(mask: u64, other: u64) -> u64
+    ensures { IsWithout mask other result }
+{
+    mask & !other
+}
+
+/// Where instructions begin, where these are the halfwords that begin one of 32 bits if they begin
+/// one: of such halfwords side by side every second one is a second half. The carries of one
+/// addition find them (Langdale and Lemire, "Parsing Gigabytes of JSON per Second", 2019). Nothing
+/// rests on this: [`are_starts`] sees whether it is right.
+#[inline(always)]
+fn starts_of(long: u64) -> u64 {
+    let follows = long << 1;
+    let odd = long & !EVEN & !follows;
+    let seconds = (EVEN ^ odd.wrapping_add(long) << 1) & follows;
+    !seconds
+}
+
+/// Whether instructions begin exactly at these places, and none crosses a bundle's end.
+#[inline(always)]
+fn are_starts(starts: u64, long: u64) -> bool
+    ensures { OnTrue result (AreStarts starts (bit_and starts long)) }
+{
+    let words = starts & long;
+    starts == !(words << 1) && words & LAST == 0
+}
+
+/// The places directly before which two words stand in the same bundle.
+#[inline(always)]
+fn after_two(words: u64) -> u64
+    ensures { AreAfterTwo words result }
+{
+    (words & words >> 2) << 4 & LAST_FOUR
+}
+
+/// The places at which the first of three words begins that stand in one bundle, one behind another.
+#[inline(always)]
+fn three_words(words: u64) -> u64
+    ensures { AreThreeWords words result }
+{
+    words & words >> 2 & words >> 4 & FIRST_THREE
+}
+
+/// The bundle of the block of that number.
+#[inline(always)]
+fn bundle_at(place: &BundlePlace, bundle: usize) -> BundlePlace
+    requires within { IsWithinBlock place.now }
+    requires number { bundle < 8 }
+    ensures is { result ≡ bundle_at place.now bundle }
+    ensures within { IsWithin result }
+{
+    BundlePlace {
+        address: place.address + BUNDLE_SIZE * bundle as u32,
+        listed: false,
+        ..*place
+    }
+}
+
+#[inline(always)]
+fn half_at(block: &[u8; BLOCK_BYTES], i: usize) -> u16
+    requires { i < 64 }
+    ensures { result ≡ half_at (block_bundle block.now (i / 8)) (offset i) }
+{
+    let Some(half) = block[2 * i..2 * i + 2].as_array::<2>() else {
+        unreachable!();
+    };
+    u16::from_le_bytes(*half)
+}
+
+#[inline(always)]
+fn word_at(block: &[u8; BLOCK_BYTES], i: usize) -> u32
+    requires place { i < 64 }
+    requires inside { i % 8 < 7 }
+    ensures in_block { result ≡ block_word block.now i }
+    ensures in_bundle { result ≡ word_at (block_bundle block.now (i / 8)) (offset i) }
+{
+    let Some(word) = block[2 * i..2 * i + 4].as_array::<4>() else {
+        unreachable!();
+    };
+    u32::from_le_bytes(*word)
+}
+
+/// The words of the two instructions directly before a place.
+#[inline(always)]
+fn words_before(block: &[u8; BLOCK_BYTES], after: u64, i: usize) -> Words
+    requires place { i < 64 }
+    requires after { (words : ℕ) × AreAfterTwo words after }
+    ensures { (before : Before) → AreWordsFrom (block_bundle block.now (i / 8)) (offset i)
+        (words_from after i (offset i)) before → AreBefore result before }
+{
+    if !has(after, i) {
+        return Words {
+            first: 0,
+            second: 0,
+        };
+    }
+    Words {
+        first: word_at(block, i - 4),
+        second: word_at(block, i - 2),
+    }
+}
+
+/// Whether the access there stays in the data and its guard zones.
+#[inline(always)]
+fn is_clean_access(stack: bool, block: &[u8; BLOCK_BYTES], after: u64, i: usize) -> bool
+    requires place { i < 64 }
+    requires inside { i % 8 < 7 }
+    requires after { (words : ℕ) × AreAfterTwo words after }
+    requires access { IsFreeAccess stack (block_word block.now i) }
+    ensures { (b : BundlePlace) → stack ≡ has_stack b.format →
+        OnTrue result (IsCleanAt b block.now true after i) }
+{
+    let base = Reg::numbered((word_at(block, i) >> 15 & 0b11111) as u8);
+    may_access(stack, words_before(block, after, i), base)
+}
+
+/// Those of the accesses that stay in the data and its guard zones.
+#[inline(always)]
+fn clean_accesses(stack: bool, block: &[u8; BLOCK_BYTES], after: u64, accesses: u64) -> u64
+    requires inside { (i : ℕ) → i < 64 → is_in accesses i ≡ true → i % 8 < 7 }
+    requires after { (words : ℕ) × AreAfterTwo words after }
+    requires access { (i : ℕ) → i < 64 → is_in accesses i ≡ true →
+        IsFreeAccess stack (block_word block.now i) }
+    ensures within { (i : ℕ) → is_in result i ≡ true → is_in accesses i ≡ true }
+    ensures clean { (i : ℕ) → is_in result i ≡ true → (b : BundlePlace) →
+        stack ≡ has_stack b.format → IsCleanAt b block.now true after i }
+{
+    let mut clean = 0;
+    let mut rest = accesses;
+    while rest != 0 {
+        let i = rest.trailing_zeros() as usize;
+        if is_clean_access(stack, block, after, i) {
+            clean |= 1 << i;
+        }
+        rest &= rest - 1;
+    }
+    clean
+}
+
+/// Whether the instruction that begins there breaks no rule, by its outline.
+#[inline(always)]
+fn is_clean_at(
+    place: &BundlePlace,
+    stack: bool,
+    block: &[u8; BLOCK_BYTES],
+    words: u64,
+    after: u64,
+    i: usize,
+) -> bool
+    requires within { IsWithinBlock place.now }
+    requires stack { stack ≡ has_stack place.now.format }
+    requires place { i < 64 }
+    requires inside { is_in words i ≡ true → i % 8 < 7 }
+    requires after { (words : ℕ) × AreAfterTwo words after }
+    ensures { OnTrue result (IsCleanAt place.now block.now (is_in words i) after i) }
+{
+    let outline = if has(words, i) {
+        outline32(word_at(block, i))
+    } else {
+        outline16(half_at(block, i))
+    };
+    match outline {
+        Some(outline) => {
+            let bundle = bundle_at(place, i / 8);
+            let address = bundle.address + 2 * (i % 8) as u32;
+            is_clean(
+                &bundle,
+                stack,
+                address,
+                words_before(block, after, i),
+                outline,
+            )
+        }
+        None => false,
+    }
+}
+
+/// Those of these instructions that break no rule.
+#[inline(always)]
+fn clean_others(
+    place: &BundlePlace,
+    stack: bool,
+    block: &[u8; BLOCK_BYTES],
+    words: u64,
+    after: u64,
+    others: u64,
+) -> u64
+    requires within { IsWithinBlock place.now }
+    requires stack { stack ≡ has_stack place.now.format }
+    requires inside { (i : ℕ) → i < 64 → is_in words i ≡ true → i % 8 < 7 }
+    requires after { (words : ℕ) × AreAfterTwo words after }
+    ensures { (i : ℕ) → is_in result i ≡ true →
+        IsCleanAt place.now block.now (is_in words i) after i }
+{
+    let mut clean = 0;
+    let mut rest = others;
+    while rest != 0 {
+        let i = rest.trailing_zeros() as usize;
+        if is_clean_at(place, stack, block, words, after, i) {
+            clean |= 1 << i;
+        }
+        rest &= rest - 1;
+    }
+    clean
+}
+
+/// Whether the stack pointer is written there, and put back into the data.
+#[inline(always)]
+fn is_written(block: &[u8; BLOCK_BYTES], words: u64, i: usize) -> bool
+    requires place { i < 64 }
+    requires three { (three : ℕ) × AreThreeWords words three × (is_in three i ≡ true) }
+    ensures { OnTrue result (IsWritten block.now words i) }
+{
+    if !is_stack_pair(word_at(block, i + 2), word_at(block, i + 4)) {
+        return false;
+    }
+    is_stack_write(word_at(block, i))
+}
+
+/// Those of these places at which the stack pointer is written and put back, and those of its pairs.
+#[inline(always)]
+fn stack_writes(stack: bool, block: &[u8; BLOCK_BYTES], words: u64, places: u64) -> u64
+    ensures stack { (i : ℕ) → is_in result i ≡ true → stack ≡ true }
+    ensures writes { (i : ℕ) → is_in result i ≡ true → IsOfWrite block.now words i }
+{
+    if !stack {
+        return 0;
+    }
+    let mut written: u64 = 0;
+    let three = three_words(words);
+    let mut rest = places & three;
+    while rest != 0 {
+        let i = rest.trailing_zeros() as usize;
+        if is_written(block, words, i) {
+            written = written | 1 << i | 1 << (i + 2) | 1 << (i + 4);
+        }
+        rest &= rest - 1;
+    }
+    written
+}
+
+/// The starts at which a rule isn't seen to be kept: some in each bundle that isn't seen clean.
+#[inline(always)]
+fn unclean(place: &BundlePlace, stack: bool, block: &[u8; BLOCK_BYTES]) -> u64
+    requires within { IsWithinBlock place.now }
+    requires stack { stack ≡ has_stack place.now.format }
+    ensures { (k : ℕ) → k < 8 → ((j : ℕ) → j < 8 → is_in result (8 * k + j) ≡ false) →
+        AreReadingFindings (bundle_at place.now k) (block_bundle block.now k) [] }
+{
+    // The laws that the contract rests on: the calls do nothing.
+    rv_comp::laws::one_spelling();
+    rv_word::laws::one_spelling();
+
+    let masks = masks_of(stack, block);
+    let starts = starts_of(masks.long);
+    if !are_starts(starts, masks.long) {
+        return u64::MAX;
+    }
+    let left = without(starts, masks.free);
+    if left == 0 {
+        return 0;
+    }
+    let words = starts & masks.long;
+    let after = after_two(words);
+    let accesses = clean_accesses(stack, block, after, left & words & masks.access);
+    let others = without(left, accesses);
+    let rest = without(
+        others,
+        clean_others(place, stack, block, words, after, others),
+    );
+    without(rest, stack_writes(stack, block, words, rest))
+}
+
+/// A bit for each bundle with none of these places.
+#[inline(always)]
+fn bundles_without(places: u64) -> u8
+    ensures { (k : ℕ) → k < 8 → is_in result k ≡ true →
+        (j : ℕ) → j < 8 → is_in places (8 * k + j) ≡ false }
+{
+    if places == 0 {
+        return u8::MAX;
+    }
+    let mut bundles: u8 = 0;
+    let mut k: usize = 0;
+    while k < 8 {
+        if places >> (8 * k) & 0xff == 0 {
+            bundles |= 1 << k;
+        }
+        k += 1;
+    }
+    bundles
+}
+
+/// A bit for each bundle of the block that is seen to break no rule, the lowest for the first. One
+/// that isn't seen to may still break none.
+pub fn clean_bundles(place: &BundlePlace, block: &[u8; BLOCK_BYTES]) -> u8
+    requires { IsWithinBlock place.now }
+    ensures { (i : ℕ) → i < 8 → is_in result i ≡ true →
+        AreReadingFindings (bundle_at place.now i) (block_bundle block.now i) [] }
+{
+    let places = if place.format.has_stack() {
+        unclean(place, true, block)
+    } else {
+        unclean(place, false, block)
+    };
+    bundles_without(places)
+}
