@@ -50,13 +50,23 @@ def run(words, path):
     return output.decode(), usage.ru_utime + usage.ru_stime
 
 
-def medians(commands, rounds):
-    """For each name of a command, words and a file, the median time: the commands are run one after another, so many rounds."""
-    times = {name: [] for name in commands}
+def times(commands, rounds):
+    """For each name of a command, words and a file, its times from the least on: the commands are run one after another, so many rounds."""
+    taken = {name: [] for name in commands}
     for _ in range(rounds):
         for name, (words, path) in commands.items():
-            times[name].append(run(words, path)[1])
-    return {name: sorted(taken)[rounds // 2] for name, taken in times.items()}
+            taken[name].append(run(words, path)[1])
+    return {name: sorted(each) for name, each in taken.items()}
+
+
+def medians(commands, rounds):
+    """The median of each command's times."""
+    return {name: each[rounds // 2] for name, each in times(commands, rounds).items()}
+
+
+def leasts(commands, rounds):
+    """The least of each command's times: of many runs, that which other work on the machine disturbed least."""
+    return {name: each[0] for name, each in times(commands, rounds).items()}
 
 
 def instructions(words, path):

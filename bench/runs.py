@@ -1,12 +1,15 @@
 #!/usr/bin/env python3
 """How fast `sfi run` is, beside a plain interpreter in C (interpreter.c) that decodes at each step, or once.
 
-    bench/runs.py [--program PATH] [--rounds N]
+    bench/runs.py [--program PATH] [--rounds N] [--least]
 
 Builds compute.s, memory.s and mixed.s by `sfi build`, each as one sandbox and as 16, and runs them in turns of 100000 steps;
 it ends where the programs' lines differ. It prints million steps a second, by the medians of N alternated runs of 96 million
 steps, and x86 instructions for a step. Then it prints what `sfi run` takes to load larger and larger images, for one step a
 sandbox: million x86 instructions, seconds, and the peak of resident memory.
+
+With --least it prints nanoseconds a step in their place: the least time of N runs of 48 million steps less the least of N
+of 9.6 million. So the start of a process drops out, and most of what other work on the machine adds.
 """
 import argparse
 import os
@@ -20,6 +23,7 @@ SANDBOXES = [1, 16]
 QUANTUM = 100_000
 TIMED = 96_000_000
 COUNTED = 1_600_000
+FEW, MANY = 9_600_000, 48_000_000
 
 
 def commands(program, interpreter, steps, sandboxes=1):
@@ -55,6 +59,15 @@ def print_speed(program, interpreter, name, sandboxes, rounds, folder):
     print("|", " | ".join(cells), "|", flush=True)
 
 
+def print_least(program, interpreter, name, sandboxes, rounds, folder):
+    image = build(program, name, sandboxes, folder)
+    pairs = {(way, steps): (words, image) for steps in [FEW, MANY] for way, words in commands(program, interpreter, steps, sandboxes).items()}
+    least = measure.leasts(pairs, rounds)
+    ours, *others = (1e9 * (least[way, MANY] - least[way, FEW]) / (MANY - FEW) for way, steps in pairs if steps == FEW)
+    cells = [f"{name}, {sandboxes}"] + [f"{step:.2f}" for step in [ours, *others]] + [f"{ours / other:.2f}" for other in others]
+    print("|", " | ".join(cells), "|", flush=True)
+
+
 def print_load(program, shape, rounds, folder):
     data = images.image("pairs", *shape)
     text = measure.written(os.path.join(folder, "text"), images.as_text(data))
@@ -68,6 +81,7 @@ def main():
     parser = argparse.ArgumentParser()
     parser.add_argument("--program", default=measure.PROGRAM)
     parser.add_argument("--rounds", type=int, default=5)
+    parser.add_argument("--least", action="store_true")
     options = parser.parse_args()
     program = measure.program_at(options.program)
     with tempfile.TemporaryDirectory() as folder:
@@ -75,7 +89,10 @@ def main():
         print("| source, sandboxes |", " | ".join(commands(program, interpreter, 0)), "| to each step | to once |")
         for name in NAMES:
             for sandboxes in SANDBOXES:
-                print_speed(program, interpreter, name, sandboxes, options.rounds, folder)
+                show = print_least if options.least else print_speed
+                show(program, interpreter, name, sandboxes, options.rounds, folder)
+        if options.least:
+            return
         print("| bytes of image | million instructions | seconds | KiB |")
         for shape in images.SIZES:
             print_load(program, shape, options.rounds, folder)
