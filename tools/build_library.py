@@ -11,28 +11,17 @@ by which `rt lib` would take them, so that `rt lib` would prove them once more. 
 it, as `rt lib` does, by the toolchain's own module, for all targets side by side. Where a library has the mark,
 `rt ci` gave back what earlier checks kept: `rt lib` has little to prove then, and is called, once for each target.
 """
-import importlib.util
 import os
 import subprocess
 import sys
 
-TOP = os.path.dirname(os.path.dirname(os.path.abspath(__file__)))
+sys.dont_write_bytecode = True
+import toolchain
+
 CRATE = "sfi_c"
 HOST = "x86_64-unknown-linux-gnu"
 WASM = "wasm64-unknown-unknown"
 TARGETS = [HOST, "aarch64-unknown-linux-gnu", WASM]
-
-
-def toolchain():
-    """The module that the command rt consists of."""
-    sys.dont_write_bytecode = True
-    page = subprocess.run(["rt", "doc"], capture_output=True, text=True, check=True).stdout.strip()
-    path = os.path.join(os.path.dirname(page), "bin", "rtlib.py")
-    spec = importlib.util.spec_from_file_location("rtlib", path)
-    module = importlib.util.module_from_spec(spec)
-    sys.modules["rtlib"] = module
-    spec.loader.exec_module(module)
-    return module
 
 
 def is_marked(crate):
@@ -76,9 +65,9 @@ def link_module(rtlib, folder):
 
 
 def main():
-    rtlib = toolchain()
-    folder = os.path.join(TOP, "crates", CRATE)
-    crate = rtlib.Crate(folder, TOP, {})
+    rtlib = toolchain.rtlib()
+    folder = os.path.join(toolchain.TOP, "crates", CRATE)
+    crate = rtlib.Crate(folder, toolchain.TOP, {})
     for target in TARGETS:
         os.makedirs(os.path.dirname(f"{folder}/{archive_of(target)}"), exist_ok=True)
     if any(is_marked(lower) for lower in crate.below()):

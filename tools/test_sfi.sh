@@ -1,5 +1,6 @@
 #!/usr/bin/env bash
-# Tests of the wrapper ./sfi, in a scratch copy with five crates and a stand-in for the toolchain's command rt.
+# Tests of the wrapper ./sfi, in a scratch copy with five crates and stand-ins for the toolchain's command rt and for
+# tools/build_libraries.py.
 #
 #     tools/test_sfi.sh
 set -uo pipefail
@@ -27,32 +28,39 @@ skip() { # why, how many tests
     echo "skipped: $1"
 }
 
-# ---- the scratch copy, and an rt that notes each call, waits while a file `hold` is there, and fails if `break` is
+# ---- the scratch copy, and commands that note each call, wait while a file `hold` is there, and fail if `break` is
 make_rt() {
     mkdir -p "$room/bin"
     cat >"$room/bin/rt" <<'RT'
 #!/usr/bin/env bash
 echo "$*" >>"$ROOM/calls"
 while [ -e "$ROOM/hold" ]; do sleep 0.05; done
-if [ "$1" = all ]; then
-    echo "rt: waiting for another rt to finish in a folder" >&2
-    printf '== low\nfn low::f: proved\ncrate low: modules loaded=0 checked=1\nlogic=proved functions=1\n'
-    if [ -e "$ROOM/break" ]; then
-        printf '== mid\nsrc/lib.rt:3:5: error: the reason\n'
-        for ((line = 0; line < 150; line++)); do echo "statements of library $line"; done
-        printf 'crate mid: modules loaded=0 checked=0\nlogic=not-proved\n'
-        printf '== sfi\n== summary\nlow: ok\nmid: failed (1)\nsfi: not run, since mid failed\n1 of 3 crates ok\n'
-        exit 1
-    fi
-    printf 'crate mid: modules loaded=0 checked=1\nlogic=proved functions=1\n'
-else
-    mkdir -p out
-    printf '#!/bin/sh\necho "program $*"\n' >out/sfi
-    chmod +x out/sfi
-    echo "accepted sandboxes=1 bundles=16"
-fi
+mkdir -p out
+printf '#!/bin/sh\necho "program $*"\n' >out/sfi
+chmod +x out/sfi
+echo "accepted sandboxes=1 bundles=16"
 RT
     chmod +x "$room/bin/rt"
+}
+
+make_builder() {
+    mkdir -p "$copy/tools"
+    cat >"$copy/tools/build_libraries.py" <<'BUILDER'
+#!/usr/bin/env bash
+echo "libraries $*" >>"$ROOM/calls"
+while [ -e "$ROOM/hold" ]; do sleep 0.05; done
+echo "rt: waiting for another rt to finish in a folder" >&2
+printf '== low\nfn low::f: proved\ncrate low: modules loaded=0 checked=1\nlogic=proved functions=1\n'
+if [ -e "$ROOM/break" ]; then
+    printf '== mid\nsrc/lib.rt:3:5: error: the reason\n'
+    for ((line = 0; line < 150; line++)); do echo "statements of library $line"; done
+    printf 'crate mid: modules loaded=0 checked=0\nlogic=not-proved\n'
+    printf '== summary\nlow: ok\nmid: failed (1)\n'
+    exit 1
+fi
+printf 'crate mid: modules loaded=0 checked=1\nlogic=proved functions=1\n'
+BUILDER
+    chmod +x "$copy/tools/build_libraries.py"
 }
 
 make_copy() {
@@ -272,6 +280,7 @@ ROWS
 
 make_rt
 make_copy
+make_builder
 first_build
 statuses
 which_changes_count
