@@ -22,7 +22,7 @@
  *   other nor the image.
  *
  * Link libsfi_c.a, which `rt lib` builds in crates/sfi_c/out: examples/embed/test.sh has the command lines. No call takes
- * memory, and of C the library asks for memcpy and memset alone.
+ * memory, and of C the library asks for memcpy, memmove and memset alone.
  */
 #ifndef SFI_H
 #define SFI_H
