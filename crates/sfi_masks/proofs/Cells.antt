@@ -70,9 +70,13 @@ told_before_each stack low high alone others following m keep =
 abbrev none_of : ℕ → ℕ → ℕ → Bool
 none_of alone others following = (alone == 0) && ((others == 0) && (following == 0))
 
--- before each kind of halfword, where x2 is a stack pointer or not
+-- before each kind of halfword, where x2 is a stack pointer or not; where nothing is told with the halfword after it, the last
+-- kind is enough
 abbrev told_in : Bool → ℕ → ℕ → ℕ → ℕ → ℕ → Bool
-told_in stack low high alone others following = told_before_each stack low high alone others following (mask stack) (kept stack low high)
+told_in stack low high alone others following = elim (following == 0) [
+  | true ↦ told stack low high alone others following (mask stack) (kept stack low high) 4
+  | false ↦ told_before_each stack low high alone others following (mask stack) (kept stack low high)
+]
 
 unfoldable cell : ℕ → ℕ → ℕ → ℕ → ℕ → Bool
 cell low high alone others following =
@@ -156,8 +160,29 @@ module _ (stack : Bool) (low high : ℕ) (low_fits : low < 256) (high_fits : hig
   of_stack false h = (and_parts _ _ h).0
   of_stack true h = (and_parts _ _ h).1
 
-  told_by_kind : each_told ≡ true → (a b c : Bool) → told_here (kind a b c) ≡ true
-  told_by_kind h =
+  zero_free : (next m keep : ℕ) → free_of 0 0 0 next m keep ≡ 0
+  zero_free next m keep = rw (and_zero_l m, and_zero_l next, and_zero_l keep) refl
+
+  zero_access : (next keep : ℕ) → access_of 0 next keep ≡ 0
+  zero_access next keep = rw (and_zero_l next, and_zero_l keep) refl
+
+  told_by_last : following ≡ 0 → told_here 4 ≡ true → (next : ℕ) → told_here next ≡ true
+  told_by_last none h next =
+      let both = and_parts _ _ h in
+      let same : free_of alone others following (byte_classes NEXT 4) (mask stack) (kept stack low high) ≡ free_of alone others following (byte_classes NEXT next) (mask stack) (kept stack low high) =
+        rw (none, and_zero_l (byte_classes NEXT 4), and_zero_l (byte_classes NEXT next)) refl in
+      let no_access : access_of following (byte_classes NEXT next) (kept stack low high) ≡ 0 = rw none (zero_access (byte_classes NEXT next) (kept stack low high)) in
+      ap₂ (λ a b. a && b)
+        (by (free_of alone others following (byte_classes NEXT next) (mask stack) (kept stack low high) == 0)
+          (subst (λ f. (elim (f == 0) [ true ↦ true | false ↦ begins_free stack low high 2 ]) ≡ true) same both.0))
+        (subst (λ a. (elim (a == 0) [ true ↦ true | false ↦ begins_access stack low high ]) ≡ true) (sym no_access) refl)
+    where
+      by : (b : Bool) → (elim b [ true ↦ true | false ↦ begins_free stack low high 2 ]) ≡ true → (elim b [ true ↦ true | false ↦ begins_free stack low high (next / 2) ]) ≡ true
+      by true is = refl
+      by false is = begins_with_each stack low high (next / 2) is
+
+  told_by_each : told_before_each stack low high alone others following (mask stack) (kept stack low high) ≡ true → (a b c : Bool) → told_here (kind a b c) ≡ true
+  told_by_each h =
       let first = and_parts (told_here 0) (told_here 2 && (told_here 64 && told_here 4)) h in
       let second = and_parts (told_here 2) (told_here 64 && told_here 4) first.1 in
       let third = and_parts (told_here 64) (told_here 4) second.1 in
@@ -169,11 +194,12 @@ module _ (stack : Bool) (low high : ℕ) (low_fits : low < 256) (high_fits : hig
       pick p q r s false false true = r
       pick p q r s false false false = s
 
-  zero_free : (next m keep : ℕ) → free_of 0 0 0 next m keep ≡ 0
-  zero_free next m keep = rw (and_zero_l m, and_zero_l next, and_zero_l keep) refl
-
-  zero_access : (next keep : ℕ) → access_of 0 next keep ≡ 0
-  zero_access next keep = rw (and_zero_l next, and_zero_l keep) refl
+  told_by_kind : each_told ≡ true → (a b c : Bool) → told_here (kind a b c) ≡ true
+  told_by_kind h a b c = by (following == 0) refl h
+    where
+      by : (is : Bool) → (following == 0) ≡ is → (elim is [ true ↦ told_here 4 | false ↦ told_before_each stack low high alone others following (mask stack) (kept stack low high) ]) ≡ true → told_here (kind a b c) ≡ true
+      by true is last = told_by_last (eqb-true following 0 is) last (kind a b c)
+      by false is each = told_by_each each a b c
 
   -- in no class, or told before each kind of halfword
   none_or_told : (b : Bool) → none_of alone others following ≡ b
