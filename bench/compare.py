@@ -5,8 +5,8 @@
 
 Compares the verdict's lines on the images of the examples in both formats, on the kinds of images.py, and on N small images (1000) with
 bits flipped, other numbers in their fronts, and odd code (odd_images.py); on 20 N more of these both ways of the checker alone. Then on
-a large image of odd bundles in each format all findings, by `sfi check --report`. Prints how many were compared and what differs, and
-in its last line `N passed, M failed`, in which a comparison with a difference has failed. It wants gcc.
+a large image of odd bundles in each format all findings, by `sfi check --report`, and the verdict by `--raw`. Prints how many were
+compared and what differs, and in its last line `N passed, M failed`, in which a comparison with a difference has failed. It wants gcc.
 """
 import argparse
 import collections
@@ -89,7 +89,9 @@ def compare_findings(format, program, checkers, folder, seed):
     expected = [" ".join(line.split()[:3]) for line in lines[:-1]] + lines[-1:]
     what = f"findings, format {format}"
     print(f"{what}: {dict(collections.Counter(line.split()[2] for line in expected[:-1]).most_common())}")
-    return [is_same(f"{what}, {name}", expected, output([way, "--list", path]).splitlines()) for name, way in checkers.items()]
+    lists = {name: output([way, "--list", path]).splitlines() for name, way in checkers.items()}
+    same = [is_same(f"{what}, {name}", expected, list) for name, list in lists.items()]
+    return [*same, is_same(f"{what}, check --raw", lines[-1:], output([program, "check", "--raw"], data).splitlines())]
 
 
 def comparisons(program, folder, seeds, more_seeds):
