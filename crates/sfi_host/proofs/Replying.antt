@@ -15,12 +15,13 @@ use Rattle.sfi_host.specs.declared.asking.Told.{Told}
 use Rattle.sfi_host.specs.declared.turn.StepResult.{StepResult}
 use Rattle.sfi_host.specs.declared.turn.StepResult.TheVariants.{Continue, RunEnds}
 use Rattle.sfi_host.specs.Answering.{spoken}
+use Rattle.sfi_host.specs.Guests.{call_by}
 use Rattle.sfi_host.specs.Hosts.{Call, Way, Replied, Yield, Exit, Reply, Answer}
 use Rattle.sfi_host.specs.Regions.{bytes_in, IsWhole}
 use Rattle.sfi_host.specs.Slots.{Bounds, Slot, one_more, own}
 use Rattle.sfi_host.specs.Joint.{word, call_of, with_arguments, with_data, after_way, status_after, replied, next_after}
 use Rattle.sfi_host.specs.Sandboxes.{seat_of}
-use Rattle.sfi_host.specs.private.Sandboxes.{IsReplied, IsNotReplied, call_by, request_by, IsTold, IsNotTold, after_ecall, after_told, next_after_answer}
+use Rattle.sfi_host.specs.private.Sandboxes.{IsReplied, IsNotReplied, request_by, IsTold, IsNotTold, after_ecall, after_told, next_after_answer}
 use Rattle.sfi_host.specs.Worlds.{slot_of, state_in, IsSafeSeat, StaysOutside}
 use Rattle.sfi_host.proofs.Leaving.{data_of_own, put_back, own_left}
 use Rattle.sfi_host.proofs.SafeSeats as keep

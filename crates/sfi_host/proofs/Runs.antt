@@ -1,11 +1,9 @@
 -- Bytes at consecutive addresses, which aren't taken modulo 2 ^ 32.
-use Rattle.std.proofs.Common.{◌≡◌, ◌↔◌, IsTrue, IsSome, is_some, ℕ, zero, suc, ◌+◌, ◌-◌, ◌^◌, ◌<◌, ◌≤◌, List, [], ◌∷◌, ◌++◌, length, Option, Some, None, refl, sym, ap, ◌∙◌, add-one, Bool, true, false, nat_le, replicate, slice_index, arith}
+use Rattle.std.proofs.Common.{◌≡◌, ◌↔◌, IsTrue, IsSome, is_some, ℕ, zero, suc, ◌+◌, ◌-◌, ◌^◌, ◌<◌, ◌≤◌, List, [], ◌∷◌, ◌++◌, length, Option, Some, None, refl, sym, ap, ◌∙◌, add-one, Bool, true, false, nat_le, arith}
 use Rattle.std.specs.Bool.{OnTrue}
 use Rattle.std.specs.List.{range_with_len}
 use Rattle.std.specs.FinMap.{insert}
-use Rattle.std.proofs.lemmas.Grind.{common_steps}
-use Rattle.rv_mem.specs.Bytes.{Bytes, IsMemory, byte_at, bytes_at, with_bytes, in_front, addresses, added}
-use Rattle.rv_mem.specs.Laws.{WrittenIsThere}
+use Rattle.rv_mem.specs.Bytes.{Bytes, IsMemory, byte_at, bytes_at, with_bytes, in_front}
 use Rattle.sfi_image.specs.declared.span.Span.{Span}
 use Rattle.sfi_host.specs.Regions.{bytes_in, IsWhole}
 use Rattle.sfi_host.proofs.RegionBytes.{held, byte_in, is_in-Holds, still_there}
@@ -143,18 +141,3 @@ pub with_keeps : (m : Bytes) (at bs : List ℕ) (q : ℕ) → IsSome (byte_at m 
 with_keeps m [] bs q h = h
 with_keeps m (a ∷ more) [] q h = h
 with_keeps m (a ∷ more) (b ∷ bs) q h = with_keeps (insert m a b) more bs q (still_there m a b q h)
-
--- ---- a region that was added
-
--- it is whole
-pub added_whole : WrittenIsThere → (m : Bytes) (base size : ℕ) (front : List ℕ) → base + size ≤ 2 ^ 32 → length front ≤ size
-    → IsWhole (record { base = base; size = size }) (bytes_in (record { base = base; size = size }) (added m base size front))
-added_whole law m base size front room few = λ a h.
-    let all : List ℕ = front ++ replicate (size - length front) 0 in
-    let many : length all ≡ size = grind (arith, common_steps) in
-    let k : base + (a - base) ≡ a = omega (arith, h.0) in
-    let below : a - base < length all = omega (arith, many, h.0, h.1) in
-    let there = law m base all (a - base) (omega (arith, many)) below in
-    let at : byte_at (added m base size front) a ≡ Some (slice_index all (a - base)) =
-    ap (λ n. byte_at (with_bytes m (addresses base n) all) a) (sym many) ∙ ap (byte_at (with_bytes m (addresses base (length all)) all)) (sym k) ∙ there in
-    ap is_some (byte_in (record { base = base; size = size }) (added m base size front) a (is_in-Holds (record { base = base; size = size }) a h)) ∙ ap is_some at

@@ -2,9 +2,11 @@
 use Rattle.std.specs.Prelude.{◌≡◌, ℕ, List, length, Option}
 use Rattle.std.specs.FinMap.{insert}
 use Rattle.std.specs.List.{range_with_len}
+use Rattle.std.specs.Borrow.{MutBor}
 use Rattle.rv_mem.specs.Bytes.{Bytes, bytes_at, with_bytes}
 use Rattle.sfi_image.specs.declared.span.Span.{Span}
 use Rattle.sfi_host.specs.declared.guest.Guest.{Guest}
+use Rattle.sfi_host.specs.declared.guest.Request.{Request}
 use Rattle.sfi_host.specs.Hosts.{Call}
 use Rattle.sfi_host.specs.Regions.{span_of, bytes_in, bytes_outside, IsWhole}
 
@@ -12,15 +14,14 @@ use Rattle.sfi_host.specs.Regions.{span_of, bytes_in, bytes_outside, IsWhole}
 abbrev pub data_of : {M : Type 0} → Guest M → Span
 data_of g = span_of g.region
 
+-- the call of a request by a sandbox with these data bytes
+abbrev pub call_by : Request → Bytes → Call
+call_by r bytes =
+    record { caller = r.sandbox; service = r.service; a0 = r.a0; a1 = r.a1; bytes = bytes }
+
 -- what is asked; `bytes` gives the bytes of a memory
 abbrev pub asked : {M : Type 0} → (M → Bytes) → Guest M → Call
-asked bytes g = record {
-  caller = g.request.sandbox;
-  service = g.request.service;
-  a0 = g.request.a0;
-  a1 = g.request.a1;
-  bytes = bytes_in (data_of g) (bytes g.memory.now);
-}
+asked bytes g = call_by g.request (bytes_in (data_of g) (bytes g.memory.now))
 
 -- all bytes of the memory outside the caller's data region
 abbrev pub outside : {M : Type 0} → (M → Bytes) → Guest M → Bytes
@@ -34,6 +35,10 @@ HasData bytes g = IsWhole (data_of g) (asked bytes g).bytes
 -- them isn't in its data region
 abbrev pub data_from : Call → ℕ → ℕ → Option (List ℕ)
 data_from c at n = bytes_at c.bytes (range_with_len at n)
+
+-- the guest borrows the memory by this reference
+abbrev pub Borrows : {M : Type 0} → Guest M → MutBor M → Type 0
+Borrows g memory = g.memory.ghost_name ≡ memory.ghost_name
 
 -- the guest still borrows the same memory
 abbrev pub SameMemory : {M : Type 0} → Guest M → Guest M → Type 0

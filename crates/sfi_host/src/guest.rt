@@ -3,17 +3,21 @@ ghost use Rattle.std.specs.Prelude.{◌≡◌, ◌+◌, ◌^◌, ◌≤◌, ◌�
 ghost use Rattle.std.specs.Bool.{OnTrue, OnFalse};
 ghost use Rattle.rv_mem.specs.Bytes.{byte_at};
 ghost use Rattle.sfi_image.specs.Spans.{Holds};
-ghost use Rattle.sfi_host.specs.Regions.{span_of};
+ghost use Rattle.sfi_host.specs.Regions.{span_of, bytes_in, bytes_outside, IsWhole};
 
 use crate::region::Region;
 use rv_mem::{Memory, Width};
 
 /// What is asked at a gate, and by whom.
 #[derive(Clone, Copy, Debug)]
-pub(crate) struct Request {
+pub struct Request {
+    /// The caller's number among the sandboxes.
     pub sandbox: u32,
+    /// The service of the gate that it called.
     pub service: u32,
+    /// Its a0.
     pub a0: u32,
+    /// Its a1.
     pub a1: u32,
 }
 
@@ -27,14 +31,20 @@ pub struct Guest<'a, M: Memory> {
 }
 
 impl<'a, M: Memory> Guest<'a, M> {
-    ghost use Rattle.sfi_host.specs.Guests.{data_of, asked, outside, HasData, SameMemory, data_from, with_a0, with_a1, with_byte, with_bytes_at};
+    ghost use Rattle.sfi_host.specs.Guests.{data_of, asked, outside, call_by, Borrows, HasData, SameMemory, data_from, with_a0, with_a1, with_byte, with_bytes_at};
 
-    /// A caller with this data region.
-    pub(crate) fn new(memory: &'a mut M, region: Region, request: Request) -> Guest<'a, M>
-        ensures same_reference { result.memory.ghost_name ≡ memory.entry.ghost_name }
-        ensures memory { M.bytes result.memory.now ≡ M.bytes memory.old }
-        ensures region { result.region ≡ region }
-        ensures request { result.request ≡ request }
+    /// The caller with this data region that asks this. A [`World`](crate::World) makes one for each call;
+    /// over a memory of one's own it tries a host without an image. [`Gates::call`](crate::Gates::call)
+    /// wants a byte at each address of the region.
+    pub fn new(memory: &'a mut M, region: Region, request: Request) -> Guest<'a, M>
+        ensures same_reference { Borrows result memory.entry }
+        ensures asked { asked M.bytes result
+            ≡ call_by request (bytes_in (span_of region) (M.bytes memory.old)) }
+        ensures outside { outside M.bytes result
+            ≡ bytes_outside (span_of region) (M.bytes memory.old) }
+        ensures place { data_of result ≡ span_of region }
+        ensures has_data { IsWhole (span_of region)
+            (bytes_in (span_of region) (M.bytes memory.old)) → HasData M.bytes result }
     {
         Guest {
             memory,

@@ -30,11 +30,8 @@ mod world;
 
 pub use console::Console;
 pub use gates::{GateAnswer, Gates};
-pub use guest::Guest;
+pub use guest::{Guest, Request};
 pub use region::Region;
 pub use status::Status;
 pub use turn::{RunAnswer, Turn};
 pub use world::World;
-
-#[cfg(test)]
-mod tests;

@@ -1,8 +1,9 @@
 use Rattle.std.proofs.Common.{ap, ◌∙◌, sym, subst}
 use Rattle.sfi_host.specs.declared.sandbox.Sandbox.{Sandbox}
+use Rattle.sfi_host.specs.Guests.{call_by}
 use Rattle.sfi_host.specs.Regions.{bytes_in}
 use Rattle.sfi_host.specs.Sandboxes.{seat_of}
-use Rattle.sfi_host.specs.private.Sandboxes.{IsReplied, IsNotReplied, call_by}
+use Rattle.sfi_host.specs.private.Sandboxes.{IsReplied, IsNotReplied}
 use Rattle.sfi_host.specs.Worlds.{slot_of, IsSafeSeat}
 use Rattle.sfi_host.proofs.Leaving.{whole_in, whole_of, stays_outside}
 use Rattle.sfi_host.proofs.Replying.{asked_is, still_ready, bounds_after, safe_after, replies, refuses}
