@@ -56,7 +56,9 @@ code=${smallest:72}
 put() { printf '%b' "$(sed 's/../\\x&/g' <<<"$2")" >"$room/$1.image"; }
 put first_format "$smallest"
 put second_format "53464932${smallest:8}"
-# sw x11, 0(x10); ebreak; addi x24, x24, 1; ebreak; and in the next bundle 16 bytes that do not decode
+# sw x11, 0(x10); ebreak; addi x24, x24, 1
+put two_findings "${head}2320b50073001000130c1c00${code:24}"
+# the same; ebreak; and in the next bundle 16 bytes that do not decode
 put three "${head}2320b50073001000130c1c007300100000000000000000000000000000000000${code:64}"
 # c.addi x2, -16; c.ebreak
 put stack "53464932${head:8}41110290${code:8}"
@@ -68,8 +70,11 @@ two+=00000001010000001000000104000000$stub$stub$(ebreaks 56)616263
 two+=00000002000200000000800200100000f00100020000000000000000$(ebreaks 128)
 put two "5346493202000000$two"
 put cut "${smallest:0:200}"
+put head "${smallest:0:40}"
 put empty ""
 put other_format "53464933${smallest:8}"
+put other_magic 5346493301000000
+put no_sandbox "5346493100000000$(printf ' and more' | od -An -v -tx1 | tr -d ' \n')"
 put longer "${smallest}00"
 
 # ---- what is wanted: image, room for findings, exit status, lines
@@ -77,7 +82,10 @@ cases=(
     "first_format|2|0|accepted sandboxes=1 bundles=16"
     "second_format|0|0|accepted sandboxes=1 bundles=16"
     "three|0|1|refused findings=3 first=V5 sandbox=0 at=01000000"
+    "three|1|1|0 01000000 V5;refused findings=3 first=V5 sandbox=0 at=01000000"
     "three|2|1|0 01000000 V5;0 01000008 V4;refused findings=3 first=V5 sandbox=0 at=01000000"
+    "three|3|1|0 01000000 V5;0 01000008 V4;0 01000010 V1;refused findings=3 first=V5 sandbox=0 at=01000000"
+    "three|4|1|0 01000000 V5;0 01000008 V4;0 01000010 V1;refused findings=3 first=V5 sandbox=0 at=01000000"
     "three|9|1|0 01000000 V5;0 01000008 V4;0 01000010 V1;refused findings=3 first=V5 sandbox=0 at=01000000"
     "stack|1|1|0 01000000 V10;refused findings=1 first=V10 sandbox=0 at=01000000"
     "cut|2|2|layout fault 3"
@@ -137,6 +145,38 @@ run_tellings() { # a host's name, and its command line
     done
 }
 images=$(printf '%s\n' "${cases[@]%%|*}" | uniq | wc -l)
+# each field of the verdict: image; status, layout fault, sandboxes, bundles and findings; sandbox, address and rule of the first
+verdicts=(
+    "first_format|0 0 1 16 0 0 0 0"
+    "second_format|0 0 1 16 0 0 0 0"
+    "two|0 0 2 48 0 0 0 0"
+    "two_findings|1 0 0 0 2 0 0x01000000 5"
+    "three|1 0 0 0 3 0 0x01000000 5"
+    "stack|1 0 0 0 1 0 0x01000000 10"
+    "other_format|2 1 0 0 0 0 0 0"
+    "other_magic|2 1 0 0 0 0 0 0"
+    "no_sandbox|2 2 0 0 0 0 0 0"
+    "empty|2 3 0 0 0 0 0 0"
+    "head|2 3 0 0 0 0 0 0"
+    "cut|2 3 0 0 0 0 0 0"
+    "longer|2 11 0 0 0 0 0 0"
+)
+run_verdicts() { # the name of a program that is given the fields
+    local name=$1 one image fields found
+    for one in "${verdicts[@]}"; do
+        IFS='|' read -r image fields <<<"$one"
+        found=$("$room/$name" $fields <"$room/$image.image" 2>&1)
+        report $? "$name.c on $image" "$name: passed" "$found"
+    done
+}
+run_valgrind() { # the names of a program and of an image
+    local name=$1 image=$2 one found
+    for one in "${verdicts[@]}"; do
+        [ "${one%%|*}" = "$image" ] || continue
+        found=$(valgrind -q --error-exitcode=9 --leak-check=full "$room/$name" ${one#*|} <"$room/$image.image" 2>&1)
+        report $? "$name.c under valgrind on $image" "$name: passed" "$found"
+    done
+}
 
 # ---- the library
 if ! has gcc; then
@@ -194,11 +234,9 @@ found=$("$room/readme" <"$room/first_format.image"; echo "$?"; "$room/readme" <"
 [ "$found" = $'accepted sandboxes=1 bundles=16\n0\n1' ]
 report $? "the host of README.md" "a line and 0, and then 1" "$found"
 compile edges.c gcc -std=c11 "${warnings[@]}" "$here/edges.c" "$library" -o "$room/edges"
-for one in "first_format 0" "second_format 0" "two 0" "three 3" "stack 1"; do
-    read -r image count <<<"$one"
-    found=$("$room/edges" "$count" <"$room/$image.image" 2>&1)
-    report $? "edges.c on $image" "edges: passed" "$found"
-done
+run_verdicts edges
+compile pieces.c gcc -std=c11 "${warnings[@]}" "$here/pieces.c" "$library" -o "$room/pieces"
+run_verdicts pieces
 
 # ---- many images, in a pool of threads
 compile many.c gcc -std=c11 -pthread "${warnings[@]}" "$here/many.c" "$library" -o "$room/many"
@@ -220,12 +258,11 @@ for one in "1 0" "1024 0" "0 6" "1025 6" "2x 6"; do
 done
 
 if has valgrind; then
-    found=$(valgrind -q --error-exitcode=9 --leak-check=full "$room/edges" 3 <"$room/three.image" 2>&1)
-    report $? "edges.c under valgrind" "edges: passed" "$found"
-    found=$(valgrind -q --error-exitcode=9 --leak-check=full "$room/edges" 0 <"$room/two.image" 2>&1)
-    report $? "edges.c under valgrind on two sandboxes" "edges: passed" "$found"
+    run_valgrind edges three
+    run_valgrind edges two
+    run_valgrind pieces three
 else
-    skip 2 "edges.c under valgrind: valgrind isn't there"
+    skip 3 "edges.c and pieces.c under valgrind: valgrind isn't there"
 fi
 if has g++; then
     compile "the header in C++98" g++ -std=c++98 "${warnings[@]}" -x c++ -fsyntax-only "$top/crates/sfi_c/include/sfi.h"

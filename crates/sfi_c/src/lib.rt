@@ -14,15 +14,9 @@ mod layout;
 mod looking;
 mod lookup;
 mod part;
-#[cfg(test)]
-mod part_tests;
 mod stage;
 mod status;
 mod stream;
-#[cfg(test)]
-mod stream_tests;
-#[cfg(test)]
-mod tests;
 mod verdict;
 
 pub use checking::{sfi_c_check, sfi_c_findings};
