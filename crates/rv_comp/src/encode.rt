@@ -25,7 +25,15 @@ struct Fields {
 }
 
 impl Fields {
+    #[inline(always)]
+    fn new(rd: Reg, rs1: Reg, rs2: Reg, imm: i32) -> Fields
+        ensures { result ≡ record { rd = rd; rs1 = rs1; rs2 = rs2; imm = imm } }
+    {
+        Fields { rd, rs1, rs2, imm }
+    }
+
     /// The bit of a row, for these values.
+    #[inline(always)]
     fn bit(&self, bit: Bit) -> u16
         requires { IsTrue (is_low bit) }
         ensures value { result ≡ bit_value (row_fields self.now) (row_bit bit) }
@@ -43,6 +51,7 @@ impl Fields {
     }
 
     /// The halfword of a row, for these values.
+    #[inline(always)]
     fn halfword(&self, row: &[Bit; 16]) -> u16
         requires { AreLow row.now }
         ensures { result ≡ row_number (row_fields self.now) (map row_bit row.now) }
@@ -55,55 +64,50 @@ impl Fields {
     }
 }
 
-fn filled(row: usize, rd: Reg, rs1: Reg, rs2: Reg, imm: i32) -> (usize, Fields)
-    ensures row { result.0 ≡ row }
-    ensures fields { result.1 ≡ record { rd = rd; rs1 = rs1; rs2 = rs2; imm = imm } }
+/// The halfword of the row at that place of the table, for these values, which are those of the form.
+#[inline(always)]
+fn filled(_form: &Form16, row: usize, rd: Reg, rs1: Reg, rs2: Reg, imm: i32) -> u16
+    requires row { row ≡ place _form.now }
+    requires fields { fields_of _form.now ≡ record { rd = rd; rs1 = rs1; rs2 = rs2; imm = imm } }
+    ensures { result ≡ halfword_of _form.now }
 {
-    (row, Fields { rd, rs1, rs2, imm })
+    Fields::new(rd, rs1, rs2, imm).halfword(&ROWS[row])
 }
 
-/// The form's row, by its place in the table, and its fields.
-fn row_and_fields(form: &Form16) -> (usize, Fields)
-    ensures row { result.0 ≡ place form.now }
-    ensures fields { row_fields result.1 ≡ fields_of form.now }
-{
-    let zero = Reg::numbered(0);
-    match *form {
-        Form16::CAddi4spn { rd, imm } => filled(0, rd, zero, zero, imm),
-        Form16::CLw { rd, rs1, imm } => filled(1, rd, rs1, zero, imm),
-        Form16::CSw { rs1, rs2, imm } => filled(2, zero, rs1, rs2, imm),
-        Form16::CAddi { rd, imm } => filled(3, rd, zero, zero, imm),
-        Form16::CJal { imm } => filled(4, zero, zero, zero, imm),
-        Form16::CLi { rd, imm } => filled(5, rd, zero, zero, imm),
-        Form16::CAddi16sp { imm } => filled(6, zero, zero, zero, imm),
-        Form16::CLui { rd, imm } => filled(7, rd, zero, zero, imm),
-        Form16::CSrli { rd, imm } => filled(8, rd, zero, zero, imm),
-        Form16::CSrai { rd, imm } => filled(9, rd, zero, zero, imm),
-        Form16::CAndi { rd, imm } => filled(10, rd, zero, zero, imm),
-        Form16::CSub { rd, rs2 } => filled(11, rd, zero, rs2, 0),
-        Form16::CXor { rd, rs2 } => filled(12, rd, zero, rs2, 0),
-        Form16::COr { rd, rs2 } => filled(13, rd, zero, rs2, 0),
-        Form16::CAnd { rd, rs2 } => filled(14, rd, zero, rs2, 0),
-        Form16::CJ { imm } => filled(15, zero, zero, zero, imm),
-        Form16::CBeqz { rs1, imm } => filled(16, zero, rs1, zero, imm),
-        Form16::CBnez { rs1, imm } => filled(17, zero, rs1, zero, imm),
-        Form16::CSlli { rd, imm } => filled(18, rd, zero, zero, imm),
-        Form16::CLwsp { rd, imm } => filled(19, rd, zero, zero, imm),
-        Form16::CJr { rs1 } => filled(20, zero, rs1, zero, 0),
-        Form16::CJalr { rs1 } => filled(21, zero, rs1, zero, 0),
-        Form16::CMv { rd, rs2 } => filled(22, rd, zero, rs2, 0),
-        Form16::CAdd { rd, rs2 } => filled(23, rd, zero, rs2, 0),
-        Form16::CEbreak => filled(24, zero, zero, zero, 0),
-        Form16::CSwsp { rs2, imm } => filled(25, zero, zero, rs2, imm),
-    }
-}
-
-/// The halfword that the bits of the form's row make.
+/// The halfword that the bits of the form's row make. Each row is named where its form is, so that
+/// the compiler puts its bits in their places by shifts.
 fn halfword_of(form: &Form16) -> u16
     ensures { result ≡ halfword_of form.now }
 {
-    let (row, fields) = row_and_fields(form);
-    fields.halfword(&ROWS[row])
+    let zero = Reg::numbered(0);
+    match *form {
+        Form16::CAddi4spn { rd, imm } => filled(form, 0, rd, zero, zero, imm),
+        Form16::CLw { rd, rs1, imm } => filled(form, 1, rd, rs1, zero, imm),
+        Form16::CSw { rs1, rs2, imm } => filled(form, 2, zero, rs1, rs2, imm),
+        Form16::CAddi { rd, imm } => filled(form, 3, rd, zero, zero, imm),
+        Form16::CJal { imm } => filled(form, 4, zero, zero, zero, imm),
+        Form16::CLi { rd, imm } => filled(form, 5, rd, zero, zero, imm),
+        Form16::CAddi16sp { imm } => filled(form, 6, zero, zero, zero, imm),
+        Form16::CLui { rd, imm } => filled(form, 7, rd, zero, zero, imm),
+        Form16::CSrli { rd, imm } => filled(form, 8, rd, zero, zero, imm),
+        Form16::CSrai { rd, imm } => filled(form, 9, rd, zero, zero, imm),
+        Form16::CAndi { rd, imm } => filled(form, 10, rd, zero, zero, imm),
+        Form16::CSub { rd, rs2 } => filled(form, 11, rd, zero, rs2, 0),
+        Form16::CXor { rd, rs2 } => filled(form, 12, rd, zero, rs2, 0),
+        Form16::COr { rd, rs2 } => filled(form, 13, rd, zero, rs2, 0),
+        Form16::CAnd { rd, rs2 } => filled(form, 14, rd, zero, rs2, 0),
+        Form16::CJ { imm } => filled(form, 15, zero, zero, zero, imm),
+        Form16::CBeqz { rs1, imm } => filled(form, 16, zero, rs1, zero, imm),
+        Form16::CBnez { rs1, imm } => filled(form, 17, zero, rs1, zero, imm),
+        Form16::CSlli { rd, imm } => filled(form, 18, rd, zero, zero, imm),
+        Form16::CLwsp { rd, imm } => filled(form, 19, rd, zero, zero, imm),
+        Form16::CJr { rs1 } => filled(form, 20, zero, rs1, zero, 0),
+        Form16::CJalr { rs1 } => filled(form, 21, zero, rs1, zero, 0),
+        Form16::CMv { rd, rs2 } => filled(form, 22, rd, zero, rs2, 0),
+        Form16::CAdd { rd, rs2 } => filled(form, 23, rd, zero, rs2, 0),
+        Form16::CEbreak => filled(form, 24, zero, zero, zero, 0),
+        Form16::CSwsp { rs2, imm } => filled(form, 25, zero, zero, rs2, imm),
+    }
 }
 
 /// The halfword of a form; `None` where a field is outside what its row allows.
