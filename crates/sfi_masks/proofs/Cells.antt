@@ -170,12 +170,12 @@ module _ (stack : Bool) (low high : ℕ) (low_fits : low < 256) (high_fits : hig
   told_by_last none h next =
       let both = and_parts _ _ h in
       let same : free_of alone others following (byte_classes NEXT 4) (mask stack) (kept stack low high) ≡ free_of alone others following (byte_classes NEXT next) (mask stack) (kept stack low high) =
-        rw (none, and_zero_l (byte_classes NEXT 4), and_zero_l (byte_classes NEXT next)) refl in
+      rw (none, and_zero_l (byte_classes NEXT 4), and_zero_l (byte_classes NEXT next)) refl in
       let no_access : access_of following (byte_classes NEXT next) (kept stack low high) ≡ 0 = rw none (zero_access (byte_classes NEXT next) (kept stack low high)) in
       ap₂ (λ a b. a && b)
-        (by (free_of alone others following (byte_classes NEXT next) (mask stack) (kept stack low high) == 0)
-          (subst (λ f. (elim (f == 0) [ true ↦ true | false ↦ begins_free stack low high 2 ]) ≡ true) same both.0))
-        (subst (λ a. (elim (a == 0) [ true ↦ true | false ↦ begins_access stack low high ]) ≡ true) (sym no_access) refl)
+      (by (free_of alone others following (byte_classes NEXT next) (mask stack) (kept stack low high) == 0)
+      (subst (λ f. (elim (f == 0) [ true ↦ true | false ↦ begins_free stack low high 2 ]) ≡ true) same both.0))
+      (subst (λ a. (elim (a == 0) [ true ↦ true | false ↦ begins_access stack low high ]) ≡ true) (sym no_access) refl)
     where
       by : (b : Bool) → (elim b [ true ↦ true | false ↦ begins_free stack low high 2 ]) ≡ true → (elim b [ true ↦ true | false ↦ begins_free stack low high (next / 2) ]) ≡ true
       by true is = refl
