@@ -19,77 +19,120 @@ fn lacks<M: Memory>(memory: &M, base: u32, size: u32) -> bool {
     (0..size).all(|k| memory.load(base.wrapping_add(k), Width::One).is_none())
 }
 
-fn adds_up_to_the_last_address<M: Memory>(rt: &impl Abort, memory: &mut M) {
-    assert_eq!(rt; memory.add(0xffff_ff00, 257, &[]), Err(AddFault::End));
-    assert!(rt; lacks(memory, 0xffff_ff00, 257));
-    assert_eq!(rt; memory.add(0xffff_ff00, 256, &[1, 2]), Ok(()));
-    assert_eq!(rt; memory.load(0xffff_ff00, Width::Four), Some(0x0201));
-    assert_eq!(rt; memory.load(0xffff_ffff, Width::Four), None);
-    assert_eq!(rt; memory.add(0xffff_ffff, 2, &[]), Err(AddFault::Overlap));
-    assert!(rt; lacks(memory, 0, 1));
-
-    assert_eq!(rt; memory.add(0, 256, &[3, 4, 5]), Ok(()));
-    assert_eq!(rt; memory.load(0xffff_ffff, Width::Four), Some(0x0504_0300));
-    assert!(rt; memory.store(0xffff_ffff, Width::One, 6));
-    assert_eq!(rt; memory.load(0xffff_ffff, Width::Two), Some(0x0306));
-    assert_eq!(rt;
-        memory.add(0x8000_0000, 0x8000_0001, &[]),
-        Err(AddFault::Overlap)
-    );
+/// A call of a memory, and what it answers.
+pub(super) enum Call {
+    Add(u32, u32, &'static [u8], Result<(), AddFault>),
+    Store(u32, Width, u32, bool),
+    Load(u32, Width, Option<u32>),
+    Fetch(u32, Option<u16>),
+    /// From the address on so many bytes are missing.
+    Lacks(u32, u32),
 }
 
-fn stores_all_bytes_or_none<M: Memory>(rt: &impl Abort, memory: &mut M) {
-    assert_eq!(rt; memory.add(0x0180_0000, 256, &[]), Ok(()));
-    assert!(rt; memory.store(0x0180_00fc, Width::Four, 0x1234_5678));
-    assert!(rt; memory.store(0x0180_00fc, Width::One, 0xffff_ff9a));
-    assert_eq!(rt; memory.load(0x0180_00fd, Width::Two), Some(0x3456));
-    assert_eq!(rt; memory.fetch16(0x0180_00fc), Some(0x569a));
+use Call::{Add, Fetch, Lacks, Load, Store};
 
-    assert!(rt; !memory.store(0x0180_00fe, Width::Four, 0));
-    assert_eq!(rt; memory.load(0x0180_00fc, Width::Four), Some(0x1234_569a));
-    assert_eq!(rt; memory.fetch16(0x0180_00ff), None);
+const UP_TO_THE_LAST_ADDRESS: [Call; 12] = [
+    Add(0xffff_ff00, 257, &[], Err(AddFault::End)),
+    Lacks(0xffff_ff00, 257),
+    Add(0xffff_ff00, 256, &[1, 2], Ok(())),
+    Load(0xffff_ff00, Width::Four, Some(0x0201)),
+    Load(0xffff_ffff, Width::Four, None),
+    Add(0xffff_ffff, 2, &[], Err(AddFault::Overlap)),
+    Lacks(0, 1),
+    Add(0, 256, &[3, 4, 5], Ok(())),
+    Load(0xffff_ffff, Width::Four, Some(0x0504_0300)),
+    Store(0xffff_ffff, Width::One, 6, true),
+    Load(0xffff_ffff, Width::Two, Some(0x0306)),
+    Add(0x8000_0000, 0x8000_0001, &[], Err(AddFault::Overlap)),
+];
+
+const ALL_BYTES_OR_NONE: [Call; 8] = [
+    Add(0x0180_0000, 256, &[], Ok(())),
+    Store(0x0180_00fc, Width::Four, 0x1234_5678, true),
+    Store(0x0180_00fc, Width::One, 0xffff_ff9a, true),
+    Load(0x0180_00fd, Width::Two, Some(0x3456)),
+    Fetch(0x0180_00fc, Some(0x569a)),
+    Store(0x0180_00fe, Width::Four, 0, false),
+    Load(0x0180_00fc, Width::Four, Some(0x1234_569a)),
+    Fetch(0x0180_00ff, None),
+];
+
+const REGIONS_MEET: [Call; 8] = [
+    Add(0x0180_0000, 256, &[1, 2, 3], Ok(())),
+    Add(0x0180_0100, 256, &[4], Ok(())),
+    Load(0x0180_00fe, Width::Four, Some(0x0004_0000)),
+    Load(0x0180_01fe, Width::Four, None),
+    Load(0x0180_0000, Width::Four, Some(0x0003_0201)),
+    Fetch(0x0180_0001, Some(0x0302)),
+    Store(0x0180_01fe, Width::Four, 0x5566_7788, false),
+    Load(0x0180_01fe, Width::Two, Some(0)),
+];
+
+/// Two pages of bytes.
+const TWO_PAGES: [Call; 3] = [
+    Add(0x0180_0000, 8192, &[], Ok(())),
+    Store(0x0180_0ffe, Width::Four, 0x4433_2211, true),
+    Load(0x0180_1000, Width::Two, Some(0x4433)),
+];
+
+/// The calls, each list of a memory that is empty before.
+const CALLS: [&[Call]; 3] = [&UP_TO_THE_LAST_ADDRESS, &ALL_BYTES_OR_NONE, &REGIONS_MEET];
+
+impl Call {
+    /// The memory answers this call as it is said.
+    fn is_answered<M: Memory>(&self, memory: &mut M) -> bool {
+        match *self {
+            Add(base, size, bytes, answer) => {
+                bytes.len() <= size as usize && memory.add(base, size, bytes) == answer
+            }
+            Store(address, width, value, is_done) => {
+                memory.store(address, width, value) == is_done
+            }
+            Load(address, width, value) => memory.load(address, width) == value,
+            Fetch(address, half) => memory.fetch16(address) == half,
+            Lacks(base, size) => lacks(memory, base, size),
+        }
+    }
 }
 
-fn regions_meet<M: Memory>(rt: &impl Abort, memory: &mut M) {
-    assert_eq!(rt; memory.add(0x0180_0000, 256, &[1, 2, 3]), Ok(()));
-    assert_eq!(rt; memory.add(0x0180_0100, 256, &[4]), Ok(()));
-    assert_eq!(rt; memory.load(0x0180_00fe, Width::Four), Some(0x0004_0000));
-    assert_eq!(rt; memory.load(0x0180_01fe, Width::Four), None);
-    assert_eq!(rt; memory.load(0x0180_0000, Width::Four), Some(0x0003_0201));
-    assert_eq!(rt; memory.fetch16(0x0180_0001), Some(0x0302));
-    assert!(rt; !memory.store(0x0180_01fe, Width::Four, 0x5566_7788));
-    assert_eq!(rt; memory.load(0x0180_01fe, Width::Two), Some(0));
+pub(super) fn are_answered<M: Memory>(rt: &impl Abort, memory: &mut M, calls: &[Call]) {
+    let mut number = 0usize;
+    for call in calls {
+        assert!(rt; call.is_answered(memory), "call {number}");
+        number = number.wrapping_add(1);
+    }
 }
 
-// Two pages of bytes: what overlaps them changes none, and adds none on either side.
+// What overlaps two pages of these bytes changes none, and adds none on either side.
+fn is_overlap<M: Memory>(memory: &mut M, base: u32, bytes: &[u8]) -> bool {
+    memory.add(base, 256, &[9; 256]) == Err(AddFault::Overlap)
+        && holds(memory, 0x0180_0000, bytes)
+        && lacks(memory, 0x017f_ff00, 256)
+        && lacks(memory, 0x0180_2000, 256)
+}
+
 fn overlaps_change_nothing<M: Memory>(rt: &impl Abort, memory: &mut M) {
+    are_answered(rt, memory, &TWO_PAGES);
     let mut bytes = [0u8; 8192];
-    assert_eq!(rt; memory.add(0x0180_0000, 8192, &[]), Ok(()));
-    assert!(rt; memory.store(0x0180_0ffe, Width::Four, 0x4433_2211));
-    assert_eq!(rt; memory.load(0x0180_1000, Width::Two), Some(0x4433));
     bytes[0xffe..0x1002].copy_from_slice(&[0x11, 0x22, 0x33, 0x44]);
     for base in [0x017f_ff01, 0x0180_0000, 0x0180_1f00, 0x0180_1fff] {
-        let added = memory.add(base, 256, &[9; 256]);
-        assert_eq!(rt; added, Err(AddFault::Overlap), "{base:08x}");
-        assert!(rt; holds(memory, 0x0180_0000, &bytes), "{base:08x}");
-        assert!(rt; lacks(memory, 0x017f_ff00, 256), "{base:08x}");
-        assert!(rt; lacks(memory, 0x0180_2000, 256), "{base:08x}");
+        assert!(rt; is_overlap(memory, base, &bytes), "{base:08x}");
     }
 }
 
 #[test]
 fn segments(rt: HostRuntime) {
-    adds_up_to_the_last_address(&rt, &mut Segments::new(rt.alloc()));
-    stores_all_bytes_or_none(&rt, &mut Segments::new(rt.alloc()));
-    regions_meet(&rt, &mut Segments::new(rt.alloc()));
+    for calls in CALLS {
+        are_answered(&rt, &mut Segments::new(rt.alloc()), calls);
+    }
     overlaps_change_nothing(&rt, &mut Segments::new(rt.alloc()));
 }
 
 #[test]
 fn pages(rt: HostRuntime) {
-    adds_up_to_the_last_address(&rt, &mut Pages::new(rt.alloc()));
-    stores_all_bytes_or_none(&rt, &mut Pages::new(rt.alloc()));
-    regions_meet(&rt, &mut Pages::new(rt.alloc()));
+    for calls in CALLS {
+        are_answered(&rt, &mut Pages::new(rt.alloc()), calls);
+    }
     overlaps_change_nothing(&rt, &mut Pages::new(rt.alloc()));
 }
 

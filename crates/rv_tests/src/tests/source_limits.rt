@@ -23,28 +23,40 @@ fn is_full(rt: &impl Abort, alloc: Global, text: &str, end: &str, line: u32) -> 
     Ok(())
 }
 
-// A gate, a label, a jump and an address of 64 letters each, and of one letter more.
+// Names of 64 letters, the most that one has.
+const GATE: &str = "gggggggggggggggggggggggggggggggggggggggggggggggggggggggggggggggg";
+
+const LABEL: &str = "xxxxxxxxxxxxxxxxxxxxxxxxxxxxxxxxxxxxxxxxxxxxxxxxxxxxxxxxxxxxxxxx";
+
+// A gate, a label, a jump and an address.
 #[test]
 fn names(rt: HostRuntime) -> Result<(), Fail> {
     let alloc = rt.alloc();
-    let gate = doubled(alloc, "g", 6)?;
-    let label = doubled(alloc, "x", 6)?;
-    let text = format!(in alloc; ".gate {gate} 3\n{label}: j {label}\nla a0, {gate}")?;
-    let meant = meaning(alloc, after_sandbox(alloc, text.as_str())?.as_str())?;
+    assert_eq!(rt; (GATE.len(), LABEL.len()), (64, 64));
+    let text = format!(in alloc;
+        ".sandbox 256\n.gate {GATE} 3\n{LABEL}: j {LABEL}\nla a0, {GATE}"
+    )?;
+    let meant = meaning(alloc, text.as_str())?;
     let wanted = format!(in alloc;
-        "256 | 0=3 | {gate}=Gate(0) {label}=Code(0) | 3L jal x0, 0 to 1; \
+        "256 | 0=3 | {GATE}=Gate(0) {LABEL}=Code(0) | 3L jal x0, 0 to 1; \
          4 high x10 of 0; 4 low x10 of 0; |\n"
     )?;
     assert_eq!(rt; meant.as_str(), wanted.as_str());
-    let long = [
-        format!(in alloc; "{label}x:")?,
-        format!(in alloc; "j {label}x 5")?,
-        format!(in alloc; ".gate {label}x 9")?,
-        format!(in alloc; "la a0, {label}x")?,
-    ];
-    for text in long.iter() {
-        let whole = after_sandbox(alloc, text.as_str())?;
-        is_refused(&rt, alloc, whole.as_str(), 2, TextCause::Limit);
+    Ok(())
+}
+
+// The same with one letter more.
+#[test]
+fn longer_names(rt: HostRuntime) -> Result<(), Fail> {
+    let alloc = rt.alloc();
+    for (before, after) in [
+        ("", "x:"),
+        ("j ", "x 5"),
+        (".gate ", "x 9"),
+        ("la a0, ", "x"),
+    ] {
+        let text = format!(in alloc; ".sandbox 256\n{before}{LABEL}{after}")?;
+        is_refused(&rt, alloc, text.as_str(), 2, TextCause::Limit);
     }
     Ok(())
 }

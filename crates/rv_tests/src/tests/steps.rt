@@ -1,5 +1,5 @@
 //! Steps by the manual's words, over each form of memory.
-use super::memories::holds;
+use super::memories::{Call, are_answered, holds};
 use rv_mem::{Memory, Pages, Segments, Width};
 use rv_step::{Cause, Cpu, Outcome, after_call, step};
 use rv_word::Reg;
@@ -142,37 +142,48 @@ fn rows() -> [Row; 16] {
     ]
 }
 
-/// A register of a row.
-fn reg(rt: &impl Abort, number: u8) -> Reg {
-    Reg::new(number).expect(rt, "a register")
+/// The machine before a row's step.
+fn before(row: &Row) -> Option<Cpu> {
+    let mut cpu = Cpu::at(row.pc)?;
+    for (number, value) in row.before {
+        cpu.set_reg(Reg::new(number)?, value);
+    }
+    Some(cpu)
 }
 
-/// Takes the row's step, which changes no data.
-fn take<M: Memory>(rt: &impl Abort, memory: &mut M, row: &Row) {
-    let name = row.name;
-    assert!(rt; memory.store(row.pc, row.width, row.word), "{name}");
-    let mut cpu = Cpu::at(row.pc).expect(rt, "an even pc");
-    for (number, value) in row.before {
-        cpu.set_reg(reg(rt, number), value);
-    }
-    assert_eq!(rt; step(&mut cpu, memory), row.outcome, "{name}");
+/// The machine stands where a row says, with that value in the register.
+fn is_after(row: &Row, cpu: &Cpu) -> bool {
     let (number, value) = row.after;
-    assert_eq!(rt;
-        (cpu.pc(), cpu.reg(reg(rt, number))),
-        (row.next, value),
-        "{name}"
-    );
+    match Reg::new(number) {
+        Some(reg) => cpu.pc() == row.next && cpu.reg(reg) == value,
+        None => false,
+    }
+}
+
+/// The row's step does what it says, and changes no data.
+fn is_taken<M: Memory>(memory: &mut M, row: &Row) -> bool {
+    let Some(mut cpu) = before(row) else {
+        return false;
+    };
     let mut data = [0u8; 256];
     data[..4].copy_from_slice(&[1, 2, 3, 4]);
-    assert!(rt; holds(memory, DATA, &data), "{name}");
+    memory.store(row.pc, row.width, row.word)
+        && step(&mut cpu, memory) == row.outcome
+        && is_after(row, &cpu)
+        && holds(memory, DATA, &data)
 }
+
+/// The code and the data before the first step.
+const REGIONS: [Call; 2] = [
+    Call::Add(CODE, 256, &[], Ok(())),
+    Call::Add(DATA, 256, &[1, 2, 3, 4], Ok(())),
+];
 
 /// Takes each row's step over this memory, which is empty.
 fn take_all<M: Memory>(rt: &impl Abort, memory: &mut M) {
-    assert_eq!(rt; memory.add(CODE, 256, &[]), Ok(()));
-    assert_eq!(rt; memory.add(DATA, 256, &[1, 2, 3, 4]), Ok(()));
+    are_answered(rt, memory, &REGIONS);
     for row in &rows() {
-        take(rt, memory, row);
+        assert!(rt; is_taken(memory, row), "{}", row.name);
     }
 }
 
@@ -183,13 +194,15 @@ fn steps_are_the_manuals(rt: HostRuntime) {
     assert!(rt; Cpu::at(0x0100_0001).is_none());
 }
 
+const ECALL: [Call; 1] = [Call::Add(CODE, 4, &[0x73, 0x00, 0x00, 0x00], Ok(()))];
+
 #[test]
 fn an_ecall_is_passed(rt: HostRuntime) {
     let mut memory = Segments::new(rt.alloc());
-    assert_eq!(rt; memory.add(CODE, 4, &[0x73, 0x00, 0x00, 0x00]), Ok(()));
+    are_answered(&rt, &mut memory, &ECALL);
     let mut cpu = Cpu::at(CODE).expect(&rt, "an even pc");
-    assert_eq!(rt; step(&mut cpu, &mut memory), Outcome::Call);
-    assert_eq!(rt; cpu.pc(), CODE);
+    assert!(rt; step(&mut cpu, &mut memory) == Outcome::Call);
+    assert!(rt; cpu.pc() == CODE);
     after_call(&mut cpu);
-    assert_eq!(rt; cpu.pc(), CODE + 4);
+    assert!(rt; cpu.pc() == CODE + 4);
 }
