@@ -1,6 +1,6 @@
 #!/usr/bin/env bash
 # Tests of the wrapper ./sfi, in a scratch copy with five crates and stand-ins for the toolchain's command rt and for
-# tools/build_libraries.py.
+# tools/prove_crates.py.
 #
 #     tools/test_sfi.sh
 set -uo pipefail
@@ -45,7 +45,7 @@ RT
 
 make_builder() {
     mkdir -p "$copy/tools"
-    cat >"$copy/tools/build_libraries.py" <<'BUILDER'
+    cat >"$copy/tools/prove_crates.py" <<'BUILDER'
 #!/usr/bin/env bash
 echo "libraries $*" >>"$ROOM/calls"
 while [ -e "$ROOM/hold" ]; do sleep 0.05; done
@@ -60,7 +60,7 @@ if [ -e "$ROOM/break" ]; then
 fi
 printf 'crate mid: modules loaded=0 checked=1\nlogic=proved functions=1\n'
 BUILDER
-    chmod +x "$copy/tools/build_libraries.py"
+    chmod +x "$copy/tools/prove_crates.py"
 }
 
 make_copy() {

@@ -1,7 +1,7 @@
 #!/usr/bin/env python3
 """Proves and builds the libraries that the program sfi stands on, side by side.
 
-    tools/build_libraries.py JOBS
+    tools/prove_crates.py JOBS
 
 It calls the toolchain's own module as `rt all check --jobs JOBS` does in crates/sfi, and keeps the same work in each
 crate's out/, but without two passes over the sources of all crates: the search for errors before the first proof
