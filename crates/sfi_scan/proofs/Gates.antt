@@ -1,5 +1,5 @@
 -- The gates that are still ahead of a bundle, and the findings of one bundle more.
-use Rattle.std.proofs.Common.{◌≡◌, ℕ, zero, suc, ◌+◌, ◌-◌, ◌*◌, ◌%◌, ◌<◌, ◌≤◌, ◌==◌, Bool, true, false, List, [], ◌∷◌, ◌++◌, length, take, drop, get_or, inr, true≢false, refl, sym, ap, ◌∙◌, subst, arith}
+use Rattle.std.proofs.Common.{◌≡◌, ℕ, zero, suc, ◌+◌, ◌-◌, ◌*◌, ◌%◌, ◌<◌, ◌≤◌, ◌==◌, Bool, true, false, cond, List, [], ◌∷◌, ◌++◌, length, take, drop, get_or, inr, true≢false, refl, sym, ap, ◌∙◌, subst, arith}
 use Rattle.std.specs.Prelude.{◌||◌, if◌then◌else◌}
 use Rattle.std.proofs.lemmas.List.{append-nil, drop-drop, drop-take, take-take}
 use Rattle.std.specs.Simd.{first_chunks}
@@ -12,7 +12,7 @@ use Rattle.sfi_image.specs.Gates.{is_gate_of}
 use Rattle.std.specs.List.{All, AllPairs}
 use Rattle.sfi_scan.specs.declared.bundle.BundlePlace.{BundlePlace}
 use Rattle.sfi_scan.specs.declared.finding.Finding.{Finding}
-use Rattle.sfi_scan.specs.private.Near.{AreGatesFrom, is_first_at, is_first_below}
+use Rattle.sfi_scan.specs.private.Near.{AreAhead, AreGatesFrom, is_first_at, is_first_below}
 use Rattle.sfi_scan.specs.Bundles.{place_of, block_bundle, bundle_at, bundle_bytes}
 use Rattle.sfi_scan.specs.Findings.{AreBundleFindings, AreReadingFindings, AreFindingsOfFirst}
 
@@ -57,11 +57,11 @@ first_is at (g ∷ gates) ahead = rw (none_before (g.address + 16) at gates (let
     or_false false = refl
 
 -- after a gate at the address
-pub ahead_taken : (at : ℕ) (gates : List Gate) → is_first_at gates at ≡ true → at % 16 ≡ 0 → AreGatesFrom at gates → AreGatesFrom (at + 16) (drop 1 gates)
+ahead_taken : (at : ℕ) (gates : List Gate) → is_first_at gates at ≡ true → at % 16 ≡ 0 → AreGatesFrom at gates → AreGatesFrom (at + 16) (drop 1 gates)
 ahead_taken at [] e even ahead = tt
 ahead_taken at (g ∷ gates) e even ahead = subst (λ a. AreGatesFrom (a + 16) gates) (eqb-true g.address at e) ahead.2
 
-pub ahead_kept : (at : ℕ) (gates : List Gate) → is_first_at gates at ≡ false → at % 16 ≡ 0 → AreGatesFrom at gates → AreGatesFrom (at + 16) gates
+ahead_kept : (at : ℕ) (gates : List Gate) → is_first_at gates at ≡ false → at % 16 ≡ 0 → AreGatesFrom at gates → AreGatesFrom (at + 16) gates
 ahead_kept at [] e even ahead = tt
 ahead_kept at (g ∷ gates) e even ahead =
     let low = ahead.0 in
@@ -69,9 +69,21 @@ ahead_kept at (g ∷ gates) e even ahead =
     let low' : at < g.address = omega arith in
     (apart at g.address low' even ahead.1, ahead.1, ahead.2)
 
-pub same_taken : (at a : ℕ) (gates : List Gate) → is_first_at gates at ≡ true → at < a → is_gate_of (drop 1 gates) a ≡ is_gate_of gates a
+same_taken : (at a : ℕ) (gates : List Gate) → is_first_at gates at ≡ true → at < a → is_gate_of (drop 1 gates) a ≡ is_gate_of gates a
 same_taken at a [] e h = refl
 same_taken at a (g ∷ gates) e h = rw (ne_eqb g.address a (λ f. let same = eqb-true g.address at e in omega arith)) refl
+
+-- after a bundle
+pub ahead_next : (p : Part) (k : ℕ) (gates : List Gate) (listed : Bool) → (p.code_base + 16 * k) % 16 ≡ 0 → AreAhead p k gates
+    → listed ≡ is_first_at gates (p.code_base + 16 * k) → AreAhead p (k + 1) (cond listed (drop 1 gates) gates)
+ahead_next p k gates true even old e = record {
+  from = subst (λ a. AreGatesFrom a (drop 1 gates)) (let next : p.code_base + 16 * k + 16 ≡ p.code_base + 16 * (k + 1) = omega arith in next) (ahead_taken (p.code_base + 16 * k) gates (sym e) even old.from);
+  same = λ a h. same_taken (p.code_base + 16 * k) a gates (sym e) (omega arith) ∙ old.same a (omega arith);
+}
+ahead_next p k gates false even old e = record {
+  from = subst (λ a. AreGatesFrom a gates) (let next : p.code_base + 16 * k + 16 ≡ p.code_base + 16 * (k + 1) = omega arith in next) (ahead_kept (p.code_base + 16 * k) gates (sym e) even old.from);
+  same = λ a h. old.same a (omega arith);
+}
 
 pub chunk_at : (count k : ℕ) (xs : List ℕ) → k < count → get_or (first_chunks 16 count xs) k [] ≡ take 16 (drop (16 * k) xs)
 chunk_at zero k xs h = absurd (omega arith)

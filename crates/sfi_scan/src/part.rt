@@ -1,13 +1,13 @@
 //! The scan of a sandbox's part of an image.
-ghost use Rattle.std.specs.Prelude.{◌≡◌, ◌+◌, ◌*◌, ◌^◌, ◌<◌, ℕ, IfOk, [], drop, length, true};
+ghost use Rattle.std.specs.Prelude.{◌≡◌, ◌+◌, ◌*◌, ◌^◌, ◌<◌, ℕ, IfOk, [], cond, drop, length, true};
 ghost use Rattle.sfi_policy.specs.Limits.{bundle_size};
 ghost use Rattle.sfi_policy.specs.declared.format.Format.TheVariants.{Sfi1};
 ghost use Rattle.sfi_image.specs.Spelling.{view};
 ghost use Rattle.sfi_image.specs.Parts.{IsRightPart};
 ghost use Rattle.sfi_masks.specs.Masks.{is_in};
-ghost use Rattle.sfi_scan.specs.Bundles.{place_of, bundle_bytes};
-ghost use Rattle.sfi_scan.specs.Findings.{AreBundleFindings, AreFindings};
-ghost use Rattle.sfi_scan.specs.private.Near.{AreAhead, is_first_at, is_first_below};
+ghost use Rattle.sfi_scan.specs.Bundles.{place_of};
+ghost use Rattle.sfi_scan.specs.Findings.{AreFindings};
+ghost use Rattle.sfi_scan.specs.private.Near.{AreAhead, IsClean, is_first_at, is_first_below};
 
 use crate::block::{clean_bundles, has};
 use crate::bundle::BundlePlace;
@@ -32,13 +32,13 @@ fn is_first_at(gates: &[Gate], address: u32) -> bool
     }
 }
 
-/// The gates after the first.
-fn after_first(gates: &[Gate]) -> &[Gate]
-    ensures { result.now ≡ drop 1 gates.now }
+/// The gates that are ahead after a bundle, which is that of the first if it is listed.
+fn gates_after(gates: &[Gate], listed: bool) -> &[Gate]
+    ensures { result.now ≡ cond listed (drop 1 gates.now) gates.now }
 {
     match gates {
-        [_, rest @ ..] => rest,
-        [] => gates,
+        [_, rest @ ..] if listed => rest,
+        _ => gates,
     }
 }
 
@@ -78,15 +78,14 @@ fn is_first_below(gates: &[Gate], end: u32) -> bool
     }
 }
 
-/// A bit for each bundle of the block from that number on that is seen to have no finding, the lowest
-/// for the first: none where a gate lies in the block, or the block is the code's last.
+/// A bit for each bundle of the block from that number on that is seen to have no finding and is no
+/// listed gate's, the lowest for the first: none where a gate lies in the block, or the block is the code's last.
 fn clean_from(format: Format, sandbox: u32, part: &SandboxPart, gates: &[Gate], number: usize) -> u8
     requires right { IsRightPart (view format part.now) }
     requires inside { bundle_size * number < length part.now.code.now }
     requires ahead { AreAhead (view format part.now) number gates.now }
     ensures { (i : ℕ) → is_in result i ≡ true
-        → AreBundleFindings (place_of sandbox (view format part.now) (number + i))
-        (bundle_bytes (view format part.now) (number + i)) [] }
+        → IsClean sandbox (view format part.now) (number + i) }
 {
     whole_bundles();
     let rest = &part.code[BUNDLE_BYTES * number..];
@@ -121,11 +120,9 @@ pub fn scan_part_as(
         if k % BLOCK_BUNDLES == 0 {
             clean = clean_from(format, sandbox, part, gates, k);
         }
-        let place = place_in(format, sandbox, part, gates, k);
-        if place.listed {
-            gates = after_first(gates);
-        }
         if !has(u64::from(clean), 0) {
+            let place = place_in(format, sandbox, part, gates, k);
+            gates = gates_after(gates, place.listed);
             scan_bundle(&place, bytes, &mut findings);
             // Most bundles have none, and this test is less than a call.
             if findings.count() > 0 {

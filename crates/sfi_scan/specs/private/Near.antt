@@ -12,7 +12,8 @@ use Rattle.sfi_scan.specs.declared.bundle.BundlePlace.{BundlePlace}
 use Rattle.sfi_scan.specs.declared.rule.Rule.{Rule}
 use Rattle.sfi_scan.specs.declared.finding.Finding.{Finding}
 use Rattle.sfi_scan.specs.Readings.{Piece}
-use Rattle.sfi_scan.specs.Findings.{broken}
+use Rattle.sfi_scan.specs.Bundles.{place_of, bundle_bytes}
+use Rattle.sfi_scan.specs.Findings.{broken, AreBundleFindings}
 
 -- the two nearest of the instructions before a place
 abbrev pub near : List Instr → Before
@@ -42,6 +43,11 @@ pub record AreAhead (p : Part) (number : ℕ) (gates : List Gate) : Type 0 where
   pub from : AreGatesFrom (p.code_base + bundle_size * number) gates
   pub same :
       (a : ℕ) → p.code_base + bundle_size * number ≤ a → is_gate_of gates a ≡ is_gate_of p.gates a
+
+-- the part's bundle of that number is no listed gate's, and has no finding
+pub record IsClean (sandbox : ℕ) (p : Part) (number : ℕ) : Type 0 where
+  pub unlisted : is_gate_of p.gates (p.code_base + bundle_size * number) ≡ false
+  pub none : AreBundleFindings (place_of sandbox p number) (bundle_bytes p number) []
 
 -- the first of the gates is below the address
 abbrev pub is_first_below : List Gate → ℕ → Bool

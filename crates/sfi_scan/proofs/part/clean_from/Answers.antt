@@ -42,5 +42,8 @@ returns c = λ i clean.
     let far = subst (λ (a : ℕ). is_first_below c.args.gates.now (a + 128) ≡ false) at (sym c.is_first_below.ensures ∙ c.if-is_first_below.false) in
     let unlisted = none_below (c.args.part.now.code_base + 16 * n) end (c.args.part.now.code_base + 16 * (n + i)) c.args.gates.now far (omega arith) c.requires.ahead.from in
     let block : c.in-Some.block.now ≡ take 128 (drop (16 * n) xs) = c.in-Some.ensures.cases.same ∙ ap (take 128) (take_rest xs (16 * n)) in
-    seen_clean c.args.sandbox (view c.args.format c.args.part.now) n i c.place_in-place.result c.in-Some.block.now less c.place_in-place.ensures
-    (sym (c.requires.ahead.same (c.args.part.now.code_base + 16 * (n + i)) (omega arith)) ∙ unlisted) block (c.clean_bundles.ensures i less clean)
+    let no_gate = sym (c.requires.ahead.same (c.args.part.now.code_base + 16 * (n + i)) (omega arith)) ∙ unlisted in
+    record {
+      unlisted = no_gate;
+      none = seen_clean c.args.sandbox (view c.args.format c.args.part.now) n i c.place_in-place.result c.in-Some.block.now less c.place_in-place.ensures no_gate block (c.clean_bundles.ensures i less clean);
+    }

@@ -1,17 +1,18 @@
-use Rattle.std.proofs.Common.{◌≡◌, ℕ, ◌+◌, ◌*◌, ◌/◌, ◌%◌, List, ◌++◌, length, get_or, refl, true, true≢false, sym, ◌∙◌, ap, subst, arith, Bool, []}
+use Rattle.std.proofs.Common.{◌≡◌, ℕ, ◌+◌, ◌*◌, ◌/◌, ◌%◌, List, ◌++◌, length, drop, cond, get_or, refl, true, false, true≢false, sym, ◌∙◌, ap, subst, arith, Bool, []}
 use Rattle.std.specs.Result.{is_ok}
 use Rattle.sfi_scan.specs.declared.bundle.BundlePlace.{BundlePlace}
+use Rattle.sfi_image.specs.declared.part.Gate.{Gate}
 use Rattle.sfi_image.specs.Spelling.{view}
 use Rattle.sfi_image.specs.Spans.{code_region}
 use Rattle.sfi_image.specs.Gates.{is_gate_of}
 use Rattle.sfi_masks.specs.Masks.{is_in}
-use Rattle.sfi_scan.specs.Bundles.{IsWithin, place_of, bundle_bytes}
-use Rattle.sfi_scan.specs.Findings.{AreBundleFindings, AreFindingsOfFirst}
-use Rattle.sfi_scan.specs.private.Near.{AreGatesFrom, is_first_at}
+use Rattle.sfi_scan.specs.Bundles.{IsWithin, place_of}
+use Rattle.sfi_scan.specs.Findings.{AreFindingsOfFirst}
+use Rattle.sfi_scan.specs.private.Near.{AreAhead, AreGatesFrom, IsClean, is_first_at}
 use Rattle.sfi_scan.proofs.Bits.{in_shr, in_zero}
-use Rattle.sfi_scan.proofs.Gates.{all_ahead, one_more, first_is, ahead_taken, ahead_kept, same_taken, chunk_at, if_true, none_more}
+use Rattle.sfi_scan.proofs.Gates.{all_ahead, one_more, first_is, ahead_next, chunk_at, if_true, none_more}
 use Rattle.sfi_scan.proofs.part.scan_part_as.Goals as goal
-use Rattle.sfi_scan.proofs.part.scan_part_as.Goals.{then-k-eq0, else-k-eq0, then-place, else-place, then-not-has+then-count-gt0+in_ok-extend_from_slice, then-not-has+else-count-gt0, else-not-has}
+use Rattle.sfi_scan.proofs.part.scan_part_as.Goals.{then-k-eq0, else-k-eq0, then-not-has+then-count-gt0+in_ok-extend_from_slice, then-not-has+else-count-gt0, else-not-has}
 
 pub loop-k-init : goal.loop-k-init
 loop-k-init c = record {
@@ -50,43 +51,41 @@ loop-k-preserved c =
     let k = c.loop-k.k in
     let at = c.args.part.now.code_base + 16 * k in
     let old = c.loop-k.invariant in
+    let gates = c.loop-k.gates.now in
     let whole = c.whole_bundles.ensures c.args.format c.args.part.now.code_base (length c.args.part.now.code.now) c.requires.code_base c.requires.code_placed in
     let even : at % 16 ≡ 0 = let base = whole.3 in omega arith in
-    let next : at + 16 ≡ c.args.part.now.code_base + 16 * (k + 1) = omega arith in
-    let first : c.place_in-place.result.listed ≡ is_first_at c.loop-k.gates.now at = ap (λ (b : BundlePlace). b.listed) c.place_in-place.ensures in
+    let listed = first_is at gates old.ahead.from ∙ old.ahead.same at (omega arith) in
     let place_with : Bool → BundlePlace = λ l. record (place_of c.args.sandbox p k) { listed = l } in
-    let place = c.place_in-place.ensures ∙ ap place_with (first_is at c.loop-k.gates.now old.ahead.from ∙ old.ahead.same at (omega arith)) in
+    let place : (b : BundlePlace) → b ≡ place_with (is_first_at gates at) → b ≡ place_of c.args.sandbox p k = λ b e. e ∙ ap place_with listed in
     let bytes = ap (λ (l : List (List ℕ)). get_or l k []) c.as_chunks.ensures.front ∙ chunk_at (length c.args.part.now.code.now / 16) k c.args.part.now.code.now (let below = c.loop-k-test.true in let count = c.as_chunks.ensures.front_len in omega arith) in
-    let clean : (i : ℕ) → is_in c.if-k-eq0.clean i ≡ true → AreBundleFindings (place_of c.args.sandbox p (k + i)) (bundle_bytes p (k + i)) [] =
+    let clean : (i : ℕ) → is_in c.if-k-eq0.clean i ≡ true → IsClean c.args.sandbox p (k + i) =
     elim c.if-k-eq0.branch [
       | then-k-eq0 w ↦ (λ i is. w.clean_from-clean.ensures i (ap (λ m. is_in m i) (sym w.clean-is) ∙ is))
       | else-k-eq0 w ↦ (λ i is. old.clean i (ap (λ m. is_in m i) (sym w.clean-is) ∙ is))
     ] in
+    let here : is_in c.if-k-eq0.clean 0 ≡ true → IsClean c.args.sandbox p k = λ is. subst (IsClean c.args.sandbox p) (let e : k + 0 ≡ k = omega arith in e) (clean 0 is) in
+    let ahead : (l : Bool) (after : List Gate) → after ≡ cond l (drop 1 gates) gates → l ≡ is_first_at gates at → AreAhead p (k + 1) after =
+    λ l after e is. subst (λ gs. AreAhead p (k + 1) gs) (sym e) (ahead_next p k gates l even old.ahead is) in
     record {
       so_far = elim c.if-not-has.branch [
         | then-not-has+then-count-gt0+in_ok-extend_from_slice w ↦
-            one_more c.args.sandbox p k _ _ c.loop-k.found.items w.scan_bundle.new.findings c.if-not-has.found.items old.so_far w.scan_bundle.ensures place bytes
+            one_more c.args.sandbox p k _ _ c.loop-k.found.items w.scan_bundle.new.findings c.if-not-has.found.items old.so_far w.scan_bundle.ensures (place _ w.place_in-place.ensures) bytes
             (ap (λ v. v.items) w.found-is ∙ if_true (is_ok w.extend_from_slice.result) _ _ w.extend_from_slice.new.self.items w.extend_from_slice.ensures.items (ap is_ok w.in_ok-extend_from_slice.was) ∙ ap (λ l. c.loop-k.found.items ++ l) w.as_slice.ensures)
         | then-not-has+else-count-gt0 w ↦
-            one_more c.args.sandbox p k _ _ c.loop-k.found.items w.scan_bundle.new.findings c.if-not-has.found.items old.so_far w.scan_bundle.ensures place bytes
+            one_more c.args.sandbox p k _ _ c.loop-k.found.items w.scan_bundle.new.findings c.if-not-has.found.items old.so_far w.scan_bundle.ensures (place _ w.place_in-place.ensures) bytes
             (ap (λ v. v.items) w.found-is ∙ none_more c.loop-k.found.items w.scan_bundle.new.findings (let none = w.if-count-gt0.false in let count = w.count.ensures.value in omega arith))
         | else-not-has w ↦
             one_more c.args.sandbox p k _ _ c.loop-k.found.items [] c.if-not-has.found.items old.so_far
-            (subst (λ n. AreBundleFindings (place_of c.args.sandbox p n) (bundle_bytes p n) []) (let e : k + 0 ≡ k = omega arith in e) (clean 0 (ap (λ m. is_in m 0) (sym c.from.ensures) ∙ sym c.has.ensures ∙ w.if-not-has.false)))
+            (here (ap (λ m. is_in m 0) (sym c.from.ensures) ∙ sym c.has.ensures ∙ w.if-not-has.false)).none
             refl refl (ap (λ v. v.items) w.found-is ∙ none_more c.loop-k.found.items [] (omega arith))
       ];
-      ahead = record {
-        from = subst (λ a. AreGatesFrom a c.if-place.gates.now) next (elim c.if-place.branch [
-          | then-place w ↦ subst (λ l. AreGatesFrom (at + 16) l) (sym (ap (λ b. b.now) w.gates-is ∙ w.after_first-gates.ensures)) (ahead_taken at c.loop-k.gates.now (sym first ∙ w.if-place.true) even old.ahead.from)
-          | else-place w ↦ subst (λ l. AreGatesFrom (at + 16) l) (sym (ap (λ b. b.now) w.gates-is)) (ahead_kept at c.loop-k.gates.now (sym first ∙ w.if-place.false) even old.ahead.from)
-        ]);
-        same = λ a h. elim c.if-place.branch [
-          | then-place w ↦ ap (λ l. is_gate_of l a) (ap (λ b. b.now) w.gates-is ∙ w.after_first-gates.ensures) ∙ same_taken at a c.loop-k.gates.now (sym first ∙ w.if-place.true) (omega arith) ∙ old.ahead.same a (omega arith)
-          | else-place w ↦ ap (λ l. is_gate_of l a) (ap (λ b. b.now) w.gates-is) ∙ old.ahead.same a (omega arith)
-        ];
-      };
-      clean = λ i is. subst (λ n. AreBundleFindings (place_of c.args.sandbox p n) (bundle_bytes p n) []) (let e : k + (1 + i) ≡ k + 1 + i = omega arith in e)
-          (clean (1 + i) (sym (in_shr c.if-k-eq0.clean 1 i) ∙ is));
+      ahead = elim c.if-not-has.branch [
+        | then-not-has+then-count-gt0+in_ok-extend_from_slice w ↦ ahead w.place_in-place.result.listed c.if-not-has.gates.now (ap (λ b. b.now) w.gates-is ∙ w.gates_after-gates.ensures) (ap (λ (b : BundlePlace). b.listed) w.place_in-place.ensures)
+        | then-not-has+else-count-gt0 w ↦ ahead w.place_in-place.result.listed c.if-not-has.gates.now (ap (λ b. b.now) w.gates-is ∙ w.gates_after-gates.ensures) (ap (λ (b : BundlePlace). b.listed) w.place_in-place.ensures)
+        | else-not-has w ↦ ahead false c.if-not-has.gates.now (ap (λ b. b.now) w.gates-is)
+            (sym (listed ∙ (here (ap (λ m. is_in m 0) (sym c.from.ensures) ∙ sym c.has.ensures ∙ w.if-not-has.false)).unlisted))
+      ];
+      clean = λ i is. subst (IsClean c.args.sandbox p) (let e : k + (1 + i) ≡ k + 1 + i = omega arith in e) (clean (1 + i) (sym (in_shr c.if-k-eq0.clean 1 i) ∙ is));
     }
 
 pub returns : goal.returns

@@ -1,9 +1,8 @@
-use Rattle.std.proofs.Common.{◌≡◌, ℕ, ◌+◌, true, []}
+use Rattle.std.proofs.Common.{◌≡◌, ℕ, ◌+◌, true}
 use Rattle.sfi_image.specs.Spelling.{view}
 use Rattle.sfi_masks.specs.Masks.{is_in}
-use Rattle.sfi_scan.specs.Bundles.{place_of, bundle_bytes}
-use Rattle.sfi_scan.specs.Findings.{AreBundleFindings, AreFindingsOfFirst}
-use Rattle.sfi_scan.specs.private.Near.{AreAhead}
+use Rattle.sfi_scan.specs.Findings.{AreFindingsOfFirst}
+use Rattle.sfi_scan.specs.private.Near.{AreAhead, IsClean}
 use Rattle.sfi_scan.proofs.part.scan_part_as.Given as goal
 
 -- the findings of the bundles so far, the gates that are still ahead, and what the mask tells
@@ -11,6 +10,5 @@ abbrev pub invariant-loop-k : goal.invariant-loop-k
 invariant-loop-k l = record {
   so_far : AreFindingsOfFirst l.sandbox (view l.fn.format l.part) l.k l.found.items;
   ahead : AreAhead (view l.fn.format l.part) l.k l.gates;
-  clean : (i : ℕ) → is_in l.clean i ≡ true
-      → AreBundleFindings (place_of l.sandbox (view l.fn.format l.part) (l.k + i)) (bundle_bytes (view l.fn.format l.part) (l.k + i)) [];
+  clean : (i : ℕ) → is_in l.clean i ≡ true → IsClean l.sandbox (view l.fn.format l.part) (l.k + i);
 }
