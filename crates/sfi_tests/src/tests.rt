@@ -35,6 +35,8 @@ mod worlds;
 
 use sfi_tool::run_tool;
 use std::alloc::{AllocError, Global};
+use std::process::Abort;
+use std::test::Fail;
 
 // What a run printed, and its status.
 struct Outcome {
@@ -67,4 +69,42 @@ fn built_and_run(alloc: Global, source: &str, command: &str) -> Result<Outcome, 
         return Ok(Outcome { status, text });
     }
     run(alloc, command, text.as_slice())
+}
+
+// The command prints this of the input, and ends in that status.
+fn expect_said(
+    rt: &impl Abort,
+    alloc: Global,
+    command: &str,
+    input: &[u8],
+    status: u8,
+    said: &str,
+    name: &str,
+) -> Result<(), Fail> {
+    let Outcome {
+        status: given,
+        text,
+    } = run(alloc, command, input)?;
+    assert!(rt; text.as_slice() == said.as_bytes(), "{command}: {name}");
+    assert!(rt; given == status, "{command}: {name}");
+    Ok(())
+}
+
+// The build of the source fails so, or else the command says this of its image.
+fn expect_built(
+    rt: &impl Abort,
+    alloc: Global,
+    source: &str,
+    command: &str,
+    status: u8,
+    said: &str,
+    name: &str,
+) -> Result<(), Fail> {
+    let Outcome {
+        status: given,
+        text,
+    } = built_and_run(alloc, source, command)?;
+    assert!(rt; text.as_slice() == said.as_bytes(), "{command}: {name}");
+    assert!(rt; given == status, "{command}: {name}");
+    Ok(())
 }

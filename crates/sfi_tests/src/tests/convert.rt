@@ -1,6 +1,7 @@
 //! The command `convert`.
 use super::codes::{MOVES_STACK, STORES_ON_STACK};
-use super::image::{CODE, Edit, SFI2, SFI3, edited, end_in, image, put, same, text_of};
+use super::image::Edit::{EndIn, Put};
+use super::image::{CODE, Edit, IN_SFI2, SAME, SFI3, edited, image, text_of};
 use super::lines::{ACCEPTED, NO_MAGIC, ODD, REFUSED_V5, REFUSED_V10, SHORT};
 use super::programs::{HI_IMAGE, HI_SAID};
 use super::{Outcome, run};
@@ -16,8 +17,8 @@ fn says(alloc: Global, text: &[u8], wanted: u8, line: &str) -> Result<bool, Allo
 #[test]
 fn the_magic_changes_alone(rt: HostRuntime) -> Result<(), Fail> {
     let alloc = rt.alloc();
-    let Outcome { status, text } = run(alloc, "sfi convert", &image(alloc, &[same()])?)?;
-    let mut line = image(alloc, &[put(0, SFI2)])?;
+    let Outcome { status, text } = run(alloc, "sfi convert", &image(alloc, &[SAME])?)?;
+    let mut line = image(alloc, &[IN_SFI2])?;
     line.push(b'\n')?;
     assert_eq!(rt; status, 0);
     assert!(rt; text.as_slice() == line.as_slice());
@@ -31,18 +32,13 @@ fn the_magic_changes_alone(rt: HostRuntime) -> Result<(), Fail> {
 fn no_conversion(rt: HostRuntime) -> Result<(), Fail> {
     let alloc = rt.alloc();
     let rows: [(Edit<'_>, Edit<'_>, u8, &str); 7] = [
-        (put(CODE, MOVES_STACK), same(), 1, REFUSED_V10),
-        (put(CODE, STORES_ON_STACK), same(), 1, REFUSED_V5),
-        (put(0, SFI2), same(), 2, "convert fault 2 NotOld\n"),
-        (
-            put(0, SFI2),
-            end_in(40, "", 1),
-            2,
-            "convert fault 2 NotOld\n",
-        ),
-        (put(0, SFI3), same(), 2, NO_MAGIC),
-        (end_in(291, "", 1), same(), 2, SHORT),
-        (end_in(3, "", 1), same(), 2, SHORT),
+        (Put(CODE, MOVES_STACK), SAME, 1, REFUSED_V10),
+        (Put(CODE, STORES_ON_STACK), SAME, 1, REFUSED_V5),
+        (IN_SFI2, SAME, 2, "convert fault 2 NotOld\n"),
+        (IN_SFI2, EndIn(40, "", 1), 2, "convert fault 2 NotOld\n"),
+        (Put(0, SFI3), SAME, 2, NO_MAGIC),
+        (EndIn(291, "", 1), SAME, 2, SHORT),
+        (EndIn(3, "", 1), SAME, 2, SHORT),
     ];
     for (edit, other, status, line) in rows {
         let text = image(alloc, &[edit, other])?;
@@ -61,7 +57,7 @@ fn no_conversion(rt: HostRuntime) -> Result<(), Fail> {
 fn what_is_converted_runs_alike(rt: HostRuntime) -> Result<(), Fail> {
     let alloc = rt.alloc();
     let old = text_of(alloc, &HI_IMAGE)?;
-    let mut new = edited(alloc, &old, &put(0, SFI2))?;
+    let mut new = edited(alloc, &old, &IN_SFI2)?;
     new.push(b'\n')?;
     let Outcome { status, text } = run(alloc, "sfi convert", &old)?;
     assert_eq!(rt; status, 0);

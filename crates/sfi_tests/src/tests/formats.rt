@@ -3,9 +3,12 @@ use super::codes::{
     BASED_THEN_PAIR, BASED_TWICE, C_LWSP_X24, LINKED_THEN_PAIR, LOADED_THEN_PAIR, MASKED_THEN_PAIR,
     MASKS_STACK, MOVED_NOP_PAIR, MOVED_THEN_PAIR, MOVES_STACK, STORES_ON_STACK,
 };
-use super::image::{CODE, Edit, FILL, SFI1, SFI2, image, image_bytes, put, text_of};
+use super::image::Edit::Put;
+use super::image::{
+    CODE, Edit, FILL, IN_SFI2, SFI1, SFI2, expect_verdict, image, image_bytes, text_of,
+};
 use super::lines::{ACCEPTED, REFUSED_V4, REFUSED_V5, REFUSED_V10};
-use super::{Outcome, built_and_run, run};
+use super::{Outcome, expect_built, expect_said, run};
 use rv_text::{TextCause, TextFault, parse_source};
 use sfi_image::{parse_image, write_image_as};
 use sfi_policy::Format;
@@ -123,21 +126,14 @@ pub(super) fn is_judged(
     edits: &[Edit<'_>],
     wanted: &str,
 ) -> Result<(), Fail> {
-    let Outcome { status, text } = answer(alloc, "sfi check", edits)?;
-    assert_eq!(rt; text.as_slice(), wanted.as_bytes(), "{name}");
-    assert_eq!(rt; status, status_of(wanted), "{name}");
-    let bytes = image_bytes(alloc, edits)?;
-    let Outcome { status, text } = run(alloc, "sfi check --raw", bytes.as_slice())?;
-    assert_eq!(rt; text.as_slice(), wanted.as_bytes(), "{name}");
-    assert_eq!(rt; status, status_of(wanted), "{name}");
-    Ok(())
+    expect_verdict(rt, alloc, name, edits, status_of(wanted), wanted)
 }
 
 #[test]
 fn verdicts(rt: HostRuntime) -> Result<(), Fail> {
     for row in rules() {
         for (magic, wanted) in [(SFI1, row.first), (SFI2, row.second)] {
-            let edits = [put(0, magic), put(CODE.saturating_add(row.at), row.digits)];
+            let edits = [Put(0, magic), Put(CODE.saturating_add(row.at), row.digits)];
             is_judged(&rt, rt.alloc(), row.name, &edits, wanted)?;
         }
     }
@@ -146,7 +142,7 @@ fn verdicts(rt: HostRuntime) -> Result<(), Fail> {
 
 #[test]
 fn texts(rt: HostRuntime) -> Result<(), Fail> {
-    let edits = [put(0, SFI2), put(CODE, MASKS_STACK)];
+    let edits = [IN_SFI2, Put(CODE, MASKS_STACK)];
     let report =
         "0 01000000 V10 stack and x2, x10, x27\nrefused findings=1 first=V10 sandbox=0 at=01000000\n";
     let Outcome { status, text } = answer(rt.alloc(), "sfi check --report", &edits)?;
@@ -167,7 +163,7 @@ sandbox 0 code 01000000 256 data 01800000 256 start 01000000 gates 0 init 0
 fn parts_are_written_by_format(rt: HostRuntime) -> Result<(), Fail> {
     let alloc = rt.alloc();
     let smallest = image_bytes(alloc, &[])?;
-    let second = image_bytes(alloc, &[put(0, SFI2)])?;
+    let second = image_bytes(alloc, &[IN_SFI2])?;
     let read = parse_image(alloc, smallest.as_slice())?;
     assert!(rt; read.format() == Format::Sfi1);
     let written = write_image_as(alloc, Format::Sfi2, read.parts())?;
@@ -228,9 +224,7 @@ fn a_stack_takes_fewer_steps(rt: HostRuntime) -> Result<(), Fail> {
         (".format 2\n", "sandbox=0 exit=5 steps=10 out=\n"),
     ] {
         let source = format!(in alloc; "{format}{STACKED}")?;
-        let Outcome { status, text } = built_and_run(alloc, source.as_str(), "sfi run")?;
-        assert_eq!(rt; text.as_slice(), said.as_bytes(), "{format}");
-        assert_eq!(rt; status, 0, "{format}");
+        expect_built(&rt, rt.alloc(), source.as_str(), "sfi run", 0, said, format)?;
     }
     Ok(())
 }
@@ -246,9 +240,15 @@ fn writes_that_are_refused(rt: HostRuntime) -> Result<(), Fail> {
         ("jal sp, away", "rewrite fault 5 StackWrite line 3\n"),
     ] {
         let source = format!(in alloc; ".format 2\n.sandbox 256\n{statement}\n")?;
-        let Outcome { status, text } = run(alloc, "sfi build", source.as_bytes())?;
-        assert_eq!(rt; text.as_slice(), said.as_bytes(), "{statement}");
-        assert_eq!(rt; status, 2, "{statement}");
+        expect_said(
+            &rt,
+            rt.alloc(),
+            "sfi build",
+            source.as_bytes(),
+            2,
+            said,
+            statement,
+        )?;
     }
     for statement in ["lw sp, 0(a0)", "jalr sp, 0(a0)", "x: jal sp, x"] {
         let source = format!(in alloc; ".sandbox 256\n{statement}\n")?;

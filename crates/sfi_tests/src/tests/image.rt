@@ -1,5 +1,7 @@
 //! The smallest image, and images made of it by edits or of pieces.
+use super::expect_said;
 use std::alloc::{AllocError, Global};
+use std::process::Abort;
 use std::test::Fail;
 
 /// The magics of both formats.
@@ -34,68 +36,48 @@ pub(super) const APART: &str = "000000020001000000218001000100000000000200000000
 /// The place of a second sandbox's code after its head, which stands at the smallest image's end.
 pub(super) const SECOND_CODE: usize = END + 28;
 
-/// Digits, so many times, in place of the bytes from one place to another.
-/// Places after the end stand for the end.
-#[derive(Clone, Copy, Debug)]
-pub(super) struct Edit<'a> {
-    from: usize,
-    to: usize,
-    digits: &'a str,
-    times: usize,
+/// A change of bytes that are written as digits. Places after the end stand for the end.
+#[derive(Clone, Copy)]
+pub(super) enum Edit<'a> {
+    /// The digits in place of as many from the place on.
+    Put(usize, &'a str),
+    /// The digits before the place.
+    Insert(usize, &'a str),
+    /// The digits, so many times, in place of what stands from the place on.
+    EndIn(usize, &'a str, usize),
 }
+
+/// One gate more, and its pair, with service 0 at the first bundle.
+pub(super) const ONE_GATE: Edit<'static> = Edit::Put(28, "01000000");
+
+pub(super) const GATE_PAIR: Edit<'static> = Edit::Insert(CODE, "0000000100000000");
 
 /// No change.
-pub(super) fn same() -> Edit<'static> {
-    insert(0, "")
-}
+pub(super) const SAME: Edit<'static> = Edit::Insert(0, "");
 
-/// The digits in place of as many from the place on.
-pub(super) fn put<'a>(at: usize, digits: &'a str) -> Edit<'a> {
-    Edit {
-        from: at,
-        to: at.saturating_add(digits.len() / 2),
-        digits,
-        times: 1,
+/// The second format's magic.
+pub(super) const IN_SFI2: Edit<'static> = Edit::Put(0, SFI2);
+
+impl<'a> Edit<'a> {
+    // Where it begins and ends, its digits, and how often they stand there.
+    fn span(&self) -> (usize, usize, &'a str, usize) {
+        match *self {
+            Edit::Put(at, digits) => (at, at.saturating_add(digits.len() / 2), digits, 1),
+            Edit::Insert(at, digits) => (at, at, digits, 1),
+            Edit::EndIn(at, digits, times) => (at, usize::MAX, digits, times),
+        }
     }
-}
-
-/// The digits before the place.
-pub(super) fn insert<'a>(at: usize, digits: &'a str) -> Edit<'a> {
-    Edit {
-        from: at,
-        to: at,
-        digits,
-        times: 1,
-    }
-}
-
-/// The digits, so many times, in place of what stands from the place on.
-pub(super) fn end_in<'a>(at: usize, digits: &'a str, times: usize) -> Edit<'a> {
-    Edit {
-        from: at,
-        to: usize::MAX,
-        digits,
-        times,
-    }
-}
-
-/// One gate, with service 0, at the first bundle, which has these digits.
-pub(super) fn one_gate<'a>(digits: &'a str) -> [Edit<'a>; 3] {
-    [
-        put(28, "01000000"),
-        put(CODE, digits),
-        insert(CODE, "0000000100000000"),
-    ]
 }
 
 /// The text after the edit.
 pub(super) fn edited(alloc: Global, text: &[u8], edit: &Edit<'_>) -> Result<Vec<u8>, AllocError> {
-    let from = edit.from.saturating_mul(2).min(text.len());
-    let to = edit.to.saturating_mul(2).min(text.len());
+    let (from, to, digits, times) = edit.span();
+    let from = from.saturating_mul(2).min(text.len());
+    let to = to.saturating_mul(2).min(text.len());
     let mut made = Vec::new(alloc);
     made.extend_from_slice(&text[..from])?;
-    for _ in 0..edit.times {
-        made.extend_from_slice(edit.digits.as_bytes())?;
+    for _ in 0..times {
+        made.extend_from_slice(digits.as_bytes())?;
     }
     made.extend_from_slice(&text[to..])?;
     Ok(made)
@@ -103,7 +85,7 @@ pub(super) fn edited(alloc: Global, text: &[u8], edit: &Edit<'_>) -> Result<Vec<
 
 /// The text of the smallest image after the edits, one after another.
 pub(super) fn image(alloc: Global, edits: &[Edit<'_>]) -> Result<Vec<u8>, AllocError> {
-    let mut text = edited(alloc, HEAD.as_bytes(), &end_in(CODE, EBREAK, 64))?;
+    let mut text = edited(alloc, HEAD.as_bytes(), &Edit::EndIn(CODE, EBREAK, 64))?;
     for edit in edits {
         text = edited(alloc, text.as_slice(), edit)?;
     }
@@ -125,4 +107,27 @@ pub(super) fn text_of(alloc: Global, pieces: &[(&str, usize)]) -> Result<Vec<u8>
 pub(super) fn image_bytes(alloc: Global, edits: &[Edit<'_>]) -> Result<Vec<u8>, Fail> {
     let text = image(alloc, edits)?;
     Ok(hex::decode(alloc, text.as_slice())?)
+}
+
+/// The verdict on the smallest image after the edits, as digits and as its own bytes.
+pub(super) fn expect_verdict(
+    rt: &impl Abort,
+    alloc: Global,
+    name: &str,
+    edits: &[Edit<'_>],
+    status: u8,
+    line: &str,
+) -> Result<(), Fail> {
+    let text = image(alloc, edits)?;
+    expect_said(rt, alloc, "sfi check", text.as_slice(), status, line, name)?;
+    let bytes = hex::decode(alloc, text.as_slice())?;
+    expect_said(
+        rt,
+        alloc,
+        "sfi check --raw",
+        bytes.as_slice(),
+        status,
+        line,
+        name,
+    )
 }

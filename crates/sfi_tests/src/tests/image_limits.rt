@@ -1,7 +1,8 @@
 //! Images at the limits of their layout, and one step beyond.
 use super::codes::STUB;
 use super::formats::is_judged;
-use super::image::{CODE, EBREAK, END, Edit, SFI1, SFI2, end_in, put, same};
+use super::image::Edit::{EndIn, Put};
+use super::image::{CODE, EBREAK, END, Edit, SAME, SFI1, SFI2};
 use super::lines::{ACCEPTED, SHORT};
 use std::alloc::{AllocError, Global};
 use std::test::Fail;
@@ -11,37 +12,39 @@ const WRONG_CODE: &str = "layout fault 4 Code\n";
 const WRONG_DATA: &str = "layout fault 5 Data\n";
 
 // Code sizes of 128, 65536, 131072, 1048576 and 2097152 bytes, with so many words of code.
+const CODE_SIZES: &[(&str, &str, usize, &str)] = &[
+    (SFI1, "80000000", 32, WRONG_CODE),
+    (
+        SFI1,
+        "00000100",
+        16384,
+        "accepted sandboxes=1 bundles=4096\n",
+    ),
+    (SFI1, "00000100", 64, SHORT),
+    (SFI1, "00000200", 32768, WRONG_CODE),
+    (SFI1, "00001000", 64, WRONG_CODE),
+    (SFI1, "00002000", 64, WRONG_CODE),
+    (SFI2, "80000000", 32, WRONG_CODE),
+    (
+        SFI2,
+        "00000200",
+        32768,
+        "accepted sandboxes=1 bundles=8192\n",
+    ),
+    (
+        SFI2,
+        "00001000",
+        262144,
+        "accepted sandboxes=1 bundles=65536\n",
+    ),
+    (SFI2, "00001000", 64, SHORT),
+    (SFI2, "00002000", 64, WRONG_CODE),
+];
+
 #[test]
 fn code_sizes(rt: HostRuntime) -> Result<(), Fail> {
-    for (magic, size, words, wanted) in [
-        (SFI1, "80000000", 32, WRONG_CODE),
-        (
-            SFI1,
-            "00000100",
-            16384,
-            "accepted sandboxes=1 bundles=4096\n",
-        ),
-        (SFI1, "00000100", 64, SHORT),
-        (SFI1, "00000200", 32768, WRONG_CODE),
-        (SFI1, "00001000", 64, WRONG_CODE),
-        (SFI1, "00002000", 64, WRONG_CODE),
-        (SFI2, "80000000", 32, WRONG_CODE),
-        (
-            SFI2,
-            "00000200",
-            32768,
-            "accepted sandboxes=1 bundles=8192\n",
-        ),
-        (
-            SFI2,
-            "00001000",
-            262144,
-            "accepted sandboxes=1 bundles=65536\n",
-        ),
-        (SFI2, "00001000", 64, SHORT),
-        (SFI2, "00002000", 64, WRONG_CODE),
-    ] {
-        let edits = [put(0, magic), put(12, size), end_in(CODE, EBREAK, words)];
+    for (magic, size, words, wanted) in CODE_SIZES {
+        let edits = [Put(0, magic), Put(12, size), EndIn(CODE, EBREAK, *words)];
         is_judged(&rt, rt.alloc(), size, &edits, wanted)?;
     }
     Ok(())
@@ -50,19 +53,19 @@ fn code_sizes(rt: HostRuntime) -> Result<(), Fail> {
 // Data sizes of 128, 1048576 and 2097152 bytes, and first data bytes up to the size.
 #[test]
 fn data_sizes(rt: HostRuntime) -> Result<(), Fail> {
-    let largest = put(20, "00001000");
+    let largest = Put(20, "00001000");
     for (name, edits, wanted) in [
-        ("128", [put(20, "80000000"), same(), same()], WRONG_DATA),
-        ("1048576", [largest, same(), same()], ACCEPTED),
-        ("2097152", [put(20, "00002000"), same(), same()], WRONG_DATA),
+        ("128", [Put(20, "80000000"), SAME, SAME], WRONG_DATA),
+        ("1048576", [largest, SAME, SAME], ACCEPTED),
+        ("2097152", [Put(20, "00002000"), SAME, SAME], WRONG_DATA),
         (
             "as many first bytes",
-            [largest, put(32, "00001000"), end_in(END, "07", 1048576)],
+            [largest, Put(32, "00001000"), EndIn(END, "07", 1048576)],
             ACCEPTED,
         ),
         (
             "one more",
-            [largest, put(32, "01001000"), end_in(END, "07", 1048577)],
+            [largest, Put(32, "01001000"), EndIn(END, "07", 1048577)],
             "layout fault 9 Init\n",
         ),
     ] {
@@ -92,13 +95,13 @@ fn gate_counts(rt: HostRuntime) -> Result<(), Fail> {
         let pairs = gates(alloc, count)?;
         let stubs = count as usize;
         let edits: [Edit<'_>; 5] = [
-            put(12, "00080000"),
-            put(28, digits),
-            end_in(CODE, pairs.as_str(), 1),
-            end_in(usize::MAX, STUB, stubs),
-            end_in(usize::MAX, EBREAK, 512usize.saturating_sub(4 * stubs)),
+            Put(12, "00080000"),
+            Put(28, digits),
+            EndIn(CODE, pairs.as_str(), 1),
+            EndIn(usize::MAX, STUB, stubs),
+            EndIn(usize::MAX, EBREAK, 512usize.saturating_sub(4 * stubs)),
         ];
-        is_judged(&rt, alloc, digits, &edits, wanted)?;
+        is_judged(&rt, rt.alloc(), digits, &edits, wanted)?;
     }
     Ok(())
 }

@@ -4,7 +4,8 @@ use super::codes::{
     JAL_INTO_BUNDLE, JALR_WITH_OFFSET, JUMP_TO_STORE, LINK_IN_X26, MASKED_STORE, OTHER_STUB,
     PAIR_ON_X0,
 };
-use super::image::{CODE, Edit, SFI2, image_bytes, one_gate, put, same};
+use super::image::Edit::Put;
+use super::image::{CODE, Edit, GATE_PAIR, IN_SFI2, ONE_GATE, SAME, image_bytes};
 use sfi_check::{Refusal, check};
 use sfi_scan::{Finding, Rule};
 use std::alloc::Global;
@@ -24,7 +25,7 @@ struct Row<'a> {
 fn code<'a>(name: &'a str, at: usize, digits: &'a str, rule: Rule, address: u32) -> Row<'a> {
     Row {
         name,
-        edits: [put(at, digits), same(), same()],
+        edits: [Put(at, digits), SAME, SAME],
         rule,
         address,
     }
@@ -34,7 +35,7 @@ fn code<'a>(name: &'a str, at: usize, digits: &'a str, rule: Rule, address: u32)
 fn gate<'a>(name: &'a str, digits: &'a str, rule: Rule, address: u32) -> Row<'a> {
     Row {
         name,
-        edits: one_gate(digits),
+        edits: [ONE_GATE, Put(CODE, digits), GATE_PAIR],
         rule,
         address,
     }
@@ -44,7 +45,7 @@ fn gate<'a>(name: &'a str, digits: &'a str, rule: Rule, address: u32) -> Row<'a>
 fn second<'a>(name: &'a str, digits: &'a str, rule: Rule, address: u32) -> Row<'a> {
     Row {
         name,
-        edits: [put(0, SFI2), put(CODE, digits), same()],
+        edits: [IN_SFI2, Put(CODE, digits), SAME],
         rule,
         address,
     }
@@ -71,7 +72,7 @@ fn unsafe_samples() -> [Row<'static>; 11] {
         ),
         Row {
             name: "a written x26",
-            edits: [put(CODE, LINK_IN_X26), put(CODE + 16, MASKED_STORE), same()],
+            edits: [Put(CODE, LINK_IN_X26), Put(CODE + 16, MASKED_STORE), SAME],
             rule: Rule::V4,
             address: 0x0100_0000,
         },

@@ -3,7 +3,7 @@
 use super::codes::{BARE_STORE, MASKED_STORE};
 use super::image::{EBREAK, FILL, text_of};
 use super::lines::REFUSED_V5;
-use super::{Outcome, built_and_run, run};
+use super::{expect_built, expect_said, run};
 use std::test::Fail;
 
 // The first posts 7 to the second, which takes it.
@@ -84,45 +84,44 @@ const ITSELF: &str = ".sandbox 256
         call quit
 ";
 
+const EXCHANGES: &[(&str, &str, &str)] = &[
+    (
+        FORWARD,
+        "sfi run",
+        "sandbox=0 exit=0 steps=17 out=\nsandbox=1 exit=7 steps=19 out=\n",
+    ),
+    (
+        FORWARD,
+        "sfi run --rounds 1000 --quantum 1",
+        "sandbox=0 exit=0 steps=17 out=\nsandbox=1 exit=7 steps=19 out=\n",
+    ),
+    (
+        BACKWARD,
+        "sfi run",
+        "sandbox=0 exit=0 steps=19 out=\nsandbox=1 exit=0 steps=17 out=\n",
+    ),
+    (
+        BACKWARD,
+        "sfi run --rounds 1000 --quantum 1",
+        "sandbox=0 exit=7 steps=19 out=\nsandbox=1 exit=0 steps=17 out=\n",
+    ),
+    (FULL, "sfi run", FULL_SAID),
+    (ITSELF, "sfi run", ITSELF_SAID),
+    (PRIMES, "sfi run --rounds 10000 --quantum 1", PRIMES_BY_1),
+    (PRIMES, "sfi run --rounds 1000 --quantum 7", PRIMES_BY_7),
+    (PRIMES, "sfi run --rounds 10 --quantum 1000", PRIMES_BY_1000),
+    (
+        PRIMES,
+        "sfi run --rounds 10 --quantum 100000",
+        PRIMES_BY_100000,
+    ),
+];
+
 #[test]
 fn words_are_exchanged(rt: HostRuntime) -> Result<(), Fail> {
     let alloc = rt.alloc();
-    let rows = [
-        (
-            FORWARD,
-            "sfi run",
-            "sandbox=0 exit=0 steps=17 out=\nsandbox=1 exit=7 steps=19 out=\n",
-        ),
-        (
-            FORWARD,
-            "sfi run --rounds 1000 --quantum 1",
-            "sandbox=0 exit=0 steps=17 out=\nsandbox=1 exit=7 steps=19 out=\n",
-        ),
-        (
-            BACKWARD,
-            "sfi run",
-            "sandbox=0 exit=0 steps=19 out=\nsandbox=1 exit=0 steps=17 out=\n",
-        ),
-        (
-            BACKWARD,
-            "sfi run --rounds 1000 --quantum 1",
-            "sandbox=0 exit=7 steps=19 out=\nsandbox=1 exit=0 steps=17 out=\n",
-        ),
-        (FULL, "sfi run", FULL_SAID),
-        (ITSELF, "sfi run", ITSELF_SAID),
-        (PRIMES, "sfi run --rounds 10000 --quantum 1", PRIMES_BY_1),
-        (PRIMES, "sfi run --rounds 1000 --quantum 7", PRIMES_BY_7),
-        (PRIMES, "sfi run --rounds 10 --quantum 1000", PRIMES_BY_1000),
-        (
-            PRIMES,
-            "sfi run --rounds 10 --quantum 100000",
-            PRIMES_BY_100000,
-        ),
-    ];
-    for (source, command, said) in rows {
-        let Outcome { status, text } = built_and_run(alloc, source, command)?;
-        assert_eq!(rt; text.as_slice(), said.as_bytes(), "{command}");
-        assert_eq!(rt; status, 0, "{command}");
+    for (source, command, said) in EXCHANGES {
+        expect_built(&rt, rt.alloc(), source, command, 0, said, command)?;
     }
     Ok(())
 }
@@ -161,12 +160,7 @@ fn a_store_stays_in_its_sandbox(rt: HostRuntime) -> Result<(), Fail> {
             ("4869", 1),
         ];
         let input = text_of(alloc, &pieces)?;
-        let Outcome {
-            status: given,
-            text,
-        } = run(alloc, line, &input)?;
-        assert_eq!(rt; text.as_slice(), said.as_bytes(), "{line}");
-        assert_eq!(rt; given, status, "{line}");
+        expect_said(&rt, rt.alloc(), line, &input, status, said, line)?;
     }
     Ok(())
 }

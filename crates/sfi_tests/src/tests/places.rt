@@ -1,7 +1,7 @@
 //! The places that `--at` gives.
 use super::lines::ACCEPTED;
 use super::programs::{HI_EXAMPLE, HI_SAID};
-use super::{Outcome, run, words_of};
+use super::{Outcome, expect_said, run, words_of};
 use sfi_tool::{Job, job_of};
 use std::alloc::Global;
 use std::str::from_utf8;
@@ -22,9 +22,7 @@ fn elsewhere(rt: HostRuntime) -> Result<(), Fail> {
     assert_eq!(rt; status, 0);
     let image = text.as_slice();
     for (command, wanted) in [("sfi check", ACCEPTED), ("sfi run", HI_SAID)] {
-        let Outcome { status, text } = run(alloc, command, image)?;
-        assert_eq!(rt; text.as_slice(), wanted.as_bytes(), "{command}");
-        assert_eq!(rt; status, 0, "{command}");
+        expect_said(&rt, rt.alloc(), command, image, 0, wanted, command)?;
     }
     let Outcome { status, text } = run(alloc, "sfi dis", image)?;
     assert_eq!(rt; status, 0);
@@ -107,25 +105,32 @@ const AT_FIRST: &str = "link fault 6 Place sandbox 0\n";
 const AT_SECOND: &str = "link fault 6 Place sandbox 1\n";
 
 // Each sandbox has 256 bytes of code, and the guard zones have 4096 addresses each.
+const NO_PLACES: &[(&str, &str)] = &[
+    ("20500080:80000000", AT_FIRST), // no multiple of the code's size
+    ("20500000:80000080", AT_FIRST), // nor of the data's
+    ("20500000:00000f00", AT_FIRST), // no room for a guard zone
+    ("20500000:fffff000", AT_FIRST),
+    ("20500000:20501000", AT_FIRST), // its guard zones meet its own code
+    ("20500000:80000000 --at 20500000:90000000", AT_SECOND), // code where code is
+    ("20500000:80000000 --at 20501000:80001000", AT_SECOND), // guard zones meet the first's
+    ("20500000:80000000 --at 80001000:90000000", AT_SECOND), // code in a guard zone
+    ("20500000:02800000", AT_SECOND), // the second one's usual data are there
+];
+
 #[test]
 fn no_places(rt: HostRuntime) -> Result<(), Fail> {
     let alloc = rt.alloc();
-    let rows = [
-        ("20500080:80000000", AT_FIRST), // no multiple of the code's size
-        ("20500000:80000080", AT_FIRST), // nor of the data's
-        ("20500000:00000f00", AT_FIRST), // no room for a guard zone
-        ("20500000:fffff000", AT_FIRST),
-        ("20500000:20501000", AT_FIRST), // its guard zones meet its own code
-        ("20500000:80000000 --at 20500000:90000000", AT_SECOND), // code where code is
-        ("20500000:80000000 --at 20501000:80001000", AT_SECOND), // guard zones meet the first's
-        ("20500000:80000000 --at 80001000:90000000", AT_SECOND), // code in a guard zone
-        ("20500000:02800000", AT_SECOND), // the second one's usual data are there
-    ];
-    for (places, wanted) in rows {
+    for (places, wanted) in NO_PLACES {
         let line = format!(in alloc; "sfi build --at {places}")?;
-        let Outcome { status, text } = run(alloc, line.as_str(), TWO.as_bytes())?;
-        assert_eq!(rt; text.as_slice(), wanted.as_bytes(), "{places}");
-        assert_eq!(rt; status, 2, "{places}");
+        expect_said(
+            &rt,
+            rt.alloc(),
+            line.as_str(),
+            TWO.as_bytes(),
+            2,
+            wanted,
+            places,
+        )?;
     }
     Ok(())
 }

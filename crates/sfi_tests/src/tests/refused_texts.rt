@@ -1,5 +1,5 @@
 //! Texts that can't be built: the fault of each, whose text is the line that the command prints.
-use super::{Outcome, run};
+use super::expect_said;
 use rv_text::{TextCause, TextFault};
 use sfi_link::{BuildFault, LinkFault, build};
 use sfi_rewrite::RewriteFault;
@@ -86,9 +86,15 @@ fn faults(rt: HostRuntime) -> Result<(), Fail> {
                 Some(row.fault),
                 "{name}"
             );
-            let Outcome { status, text } = run(alloc, "sfi build", source.as_bytes())?;
-            assert_eq!(rt; text.as_slice(), row.line.as_bytes(), "{name}");
-            assert_eq!(rt; status, 2, "{name}");
+            expect_said(
+                &rt,
+                rt.alloc(),
+                "sfi build",
+                source.as_bytes(),
+                2,
+                row.line,
+                name,
+            )?;
         }
     }
     Ok(())

@@ -3,15 +3,16 @@ use super::codes::{
     BRANCH_BACK, C_JR, ECALL_ACROSS_END, JAL_INTO_BUNDLE, JALR, LINK_IN_X27, OTHER_STUB,
     PAIR_ON_X0, STUB,
 };
+use super::image::Edit::{EndIn, Put};
 use super::image::{
-    APART, CODE, EBREAK, END, Edit, SECOND_CODE, SFI3, end_in, image, one_gate, put, same,
+    APART, CODE, EBREAK, END, Edit, GATE_PAIR, ONE_GATE, SAME, SECOND_CODE, SFI3, image,
 };
 use super::lines::{ACCEPTED, NO_MAGIC};
 use super::{Outcome, run};
 use std::test::Fail;
 
 // An image, and what the command prints of it: the report, and then the verdict or the fault.
-#[derive(Clone, Copy, Debug)]
+#[derive(Clone, Copy)]
 struct Row<'a> {
     name: &'a str,
     edits: [Edit<'a>; 3],
@@ -23,7 +24,7 @@ struct Row<'a> {
 fn one<'a>(name: &'a str, edit: Edit<'a>, status: u8, text: &'a str) -> Row<'a> {
     Row {
         name,
-        edits: [edit, same(), same()],
+        edits: [edit, SAME, SAME],
         status,
         text,
     }
@@ -31,13 +32,13 @@ fn one<'a>(name: &'a str, edit: Edit<'a>, status: u8, text: &'a str) -> Row<'a> 
 
 // Digits in place of the first of the code, which break a rule.
 fn code<'a>(name: &'a str, digits: &'a str, text: &'a str) -> Row<'a> {
-    one(name, put(CODE, digits), 1, text)
+    one(name, Put(CODE, digits), 1, text)
 }
 
 fn rows() -> [Row<'static>; 11] {
     [
-        one("smallest", same(), 0, ACCEPTED),
-        one("magic", put(0, SFI3), 2, NO_MAGIC),
+        one("smallest", SAME, 0, ACCEPTED),
+        one("magic", Put(0, SFI3), 2, NO_MAGIC),
         code(
             "no instruction",
             "00000000",
@@ -75,13 +76,13 @@ fn rows() -> [Row<'static>; 11] {
         ),
         one(
             "branch at the end",
-            put(CODE + 252, BRANCH_BACK),
+            Put(CODE + 252, BRANCH_BACK),
             1,
             "0 010000fc V8 end beq x0, x0, -12\nrefused findings=1 first=V8 sandbox=0 at=010000fc\n",
         ),
         Row {
             name: "another stub",
-            edits: one_gate(OTHER_STUB),
+            edits: [ONE_GATE, Put(CODE, OTHER_STUB), GATE_PAIR],
             status: 1,
             text: "0 01000000 V9 gate stub expected\nrefused findings=1 first=V9 sandbox=0 at=01000000\n",
         },
@@ -106,12 +107,12 @@ fn reports(rt: HostRuntime) -> Result<(), Fail> {
 fn reports_by_sandbox(rt: HostRuntime) -> Result<(), Fail> {
     let alloc = rt.alloc();
     let edits = [
-        put(4, "02000000"),
-        put(CODE + 16, "00000000"),
-        end_in(END, APART, 1),
-        end_in(SECOND_CODE, JALR, 1),
-        end_in(SECOND_CODE + 4, LINK_IN_X27, 1),
-        end_in(SECOND_CODE + 8, EBREAK, 62),
+        Put(4, "02000000"),
+        Put(CODE + 16, "00000000"),
+        EndIn(END, APART, 1),
+        EndIn(SECOND_CODE, JALR, 1),
+        EndIn(SECOND_CODE + 4, LINK_IN_X27, 1),
+        EndIn(SECOND_CODE + 8, EBREAK, 62),
     ];
     let text = image(alloc, &edits)?;
     let Outcome { status, text } = run(alloc, "sfi check --report", text.as_slice())?;

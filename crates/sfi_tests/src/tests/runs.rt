@@ -3,9 +3,7 @@ use super::codes::HALF_A_PAIR;
 use super::image::{EBREAK, HEAD, text_of};
 use super::lines::{ODD, SHORT};
 use super::programs::{HI, HI_SAID, READS, YIELDS};
-use super::{Outcome, built_and_run, run};
-use std::alloc::Global;
-use std::process::Abort;
+use super::{expect_built, expect_said};
 use std::test::Fail;
 
 // `and x31, x10, x27`, `or x31, x31, x26`, `lw x10, 253(x31)`, ebreak:
@@ -14,24 +12,6 @@ const LOADS_ABOVE: &str = "b37fb501b3efaf0103a5df0f73001000";
 
 // The same pair, `sb x10, -1(x31)`, ebreak: the byte lies below the data.
 const STORES_BELOW: &str = "b37fb501b3efaf01a38faffe73001000";
-
-// The command prints this of the input, and ends in that status.
-fn expect_said(
-    rt: &impl Abort,
-    alloc: Global,
-    command: &str,
-    input: &[u8],
-    status: u8,
-    said: &str,
-) -> Result<(), Fail> {
-    let Outcome {
-        status: given,
-        text,
-    } = run(alloc, command, input)?;
-    assert_eq!(rt; text.as_slice(), said.as_bytes(), "{command}");
-    assert_eq!(rt; given, status, "{command}");
-    Ok(())
-}
 
 // The smallest image with other code, and what is no image.
 #[test]
@@ -61,7 +41,7 @@ fn one_sandbox_runs(rt: HostRuntime) -> Result<(), Fail> {
     ];
     for (pieces, status, said) in rows {
         let input = text_of(alloc, &pieces)?;
-        expect_said(&rt, alloc, "sfi run", input.as_slice(), status, said)?;
+        expect_said(&rt, alloc, "sfi run", input.as_slice(), status, said, said)?;
     }
     Ok(())
 }
@@ -71,43 +51,42 @@ const STORES_FAR_ABOVE: &str = ".sandbox 256\nli a1, -1\nsw a0, 2047(a1)\n";
 
 const LOADS_FAR_BELOW: &str = ".sandbox 256\nlb a0, -2048(a1)\n";
 
+const TEXTS: &[(&str, &str, &str)] = &[
+    (HI, "sfi run", HI_SAID),
+    (HI, "sfi run --rounds 1000 --quantum 1", HI_SAID),
+    (
+        YIELDS,
+        "sfi run --rounds 3 --quantum 1000",
+        "sandbox=0 ready steps=32 out=\n",
+    ),
+    (
+        YIELDS,
+        "sfi run --rounds 3 --quantum 8",
+        "sandbox=0 ready steps=20 out=\n",
+    ),
+    (
+        READS,
+        "sfi run --input 616263",
+        "sandbox=0 exit=2 steps=16 out=\n",
+    ),
+    (READS, "sfi run", "sandbox=0 exit=0 steps=16 out=\n"),
+    (
+        STORES_FAR_ABOVE,
+        "sfi run",
+        "sandbox=0 trap=Store at=018008fe steps=3 out=\n",
+    ),
+    (
+        LOADS_FAR_BELOW,
+        "sfi run",
+        "sandbox=0 trap=Load at=017ff800 steps=2 out=\n",
+    ),
+];
+
 #[test]
 fn texts_run(rt: HostRuntime) -> Result<(), Fail> {
     let alloc = rt.alloc();
-    let rows = [
-        (HI, "sfi run", HI_SAID),
-        (HI, "sfi run --rounds 1000 --quantum 1", HI_SAID),
-        (
-            YIELDS,
-            "sfi run --rounds 3 --quantum 1000",
-            "sandbox=0 ready steps=32 out=\n",
-        ),
-        (
-            YIELDS,
-            "sfi run --rounds 3 --quantum 8",
-            "sandbox=0 ready steps=20 out=\n",
-        ),
-        (
-            READS,
-            "sfi run --input 616263",
-            "sandbox=0 exit=2 steps=16 out=\n",
-        ),
-        (READS, "sfi run", "sandbox=0 exit=0 steps=16 out=\n"),
-        (
-            STORES_FAR_ABOVE,
-            "sfi run",
-            "sandbox=0 trap=Store at=018008fe steps=3 out=\n",
-        ),
-        (
-            LOADS_FAR_BELOW,
-            "sfi run",
-            "sandbox=0 trap=Load at=017ff800 steps=2 out=\n",
-        ),
-    ];
-    for (source, command, said) in rows {
-        let Outcome { status, text } = built_and_run(alloc, source, command)?;
-        assert_eq!(rt; text.as_slice(), said.as_bytes(), "{command}");
-        assert_eq!(rt; status, 0, "{command}");
+    for (source, command, said) in TEXTS {
+        expect_built(&rt, rt.alloc(), source, command, 0, said, command)?;
     }
     Ok(())
 }

@@ -1,6 +1,7 @@
 //! The findings of a sandbox, as a list.
 use super::codes::MOVES_STACK;
-use super::image::{CODE, SFI2, end_in, image, put};
+use super::image::Edit::{EndIn, Put};
+use super::image::{CODE, IN_SFI2, image};
 use sfi_image::parse_image;
 use sfi_policy::Format;
 use sfi_scan::{Finding, Rule, scan_part, scan_part_as};
@@ -23,7 +24,7 @@ fn findings_of(alloc: Global, digits: &[u8]) -> Result<Vec<Finding>, Fail> {
 
 #[test]
 fn zero_code_has_a_finding_in_each_bundle(rt: HostRuntime) -> Result<(), Fail> {
-    let text = image(rt.alloc(), &[end_in(CODE, "00", 256)])?;
+    let text = image(rt.alloc(), &[EndIn(CODE, "00", 256)])?;
     let found = findings_of(rt.alloc(), text.as_slice())?;
     assert_eq!(rt; found.len(), 16);
     for (k, finding) in found.iter().enumerate() {
@@ -40,9 +41,9 @@ fn zero_code_has_a_finding_in_each_bundle(rt: HostRuntime) -> Result<(), Fail> {
 // `c.addi x2, -16` breaks a rule of the second format alone.
 #[test]
 fn a_part_is_scanned_by_its_format(rt: HostRuntime) -> Result<(), Fail> {
-    let text = image(rt.alloc(), &[put(CODE, MOVES_STACK)])?;
+    let text = image(rt.alloc(), &[Put(CODE, MOVES_STACK)])?;
     assert!(rt; findings_of(rt.alloc(), text.as_slice())?.is_empty());
-    let text = image(rt.alloc(), &[put(0, SFI2), put(CODE, MOVES_STACK)])?;
+    let text = image(rt.alloc(), &[IN_SFI2, Put(CODE, MOVES_STACK)])?;
     let expected = Finding {
         sandbox: 0,
         address: 0x0100_0000,

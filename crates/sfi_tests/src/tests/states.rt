@@ -1,7 +1,7 @@
 //! The command `run --report`.
 use super::image::{EBREAK, HEAD, text_of};
 use super::programs::{HI, HI_SAID, YIELDS};
-use super::{Outcome, built_and_run, run};
+use super::{Outcome, built_and_run, expect_built, run};
 use std::alloc::{AllocError, Global};
 use std::test::Fail;
 
@@ -47,38 +47,39 @@ ebreak
 call quit
 ";
 
-#[test]
-fn sandboxes_that_may_go_on(rt: HostRuntime) -> Result<(), Fail> {
-    let alloc = rt.alloc();
-    let rows = [
-        (
-            YIELDS,
-            "sfi run --report --quantum 3",
-            "sandbox=0 ready steps=3 out=\nsandbox=0 pc=01000016 0001 addi x0, x0, 0\n",
-            0,
-            0,
-        ),
-        (
-            YIELDS,
-            "sfi run --rounds 3 --quantum 8 --report",
-            "sandbox=0 ready steps=20 out=\nsandbox=0 pc=01000004 0190ffb3 and x31, x1, x25\n",
-            0x0100_0020,
-            0x0100_0020,
-        ),
-        (
-            TRAPS_AND_EXITS,
-            "sfi run --report",
-            "sandbox=0 trap=Break at=01000000 steps=0 out=
+const STATES: &[(&str, &str, &str, u32, u32)] = &[
+    (
+        YIELDS,
+        "sfi run --report --quantum 3",
+        "sandbox=0 ready steps=3 out=\nsandbox=0 pc=01000016 0001 addi x0, x0, 0\n",
+        0,
+        0,
+    ),
+    (
+        YIELDS,
+        "sfi run --rounds 3 --quantum 8 --report",
+        "sandbox=0 ready steps=20 out=\nsandbox=0 pc=01000004 0190ffb3 and x31, x1, x25\n",
+        0x0100_0020,
+        0x0100_0020,
+    ),
+    (
+        TRAPS_AND_EXITS,
+        "sfi run --report",
+        "sandbox=0 trap=Break at=01000000 steps=0 out=
 sandbox=1 exit=0 steps=8 out=
 sandbox=0 pc=01000000 00100073 ebreak
 ",
-            0,
-            0,
-        ),
-    ];
-    for (source, command, said, x1, x31) in rows {
+        0,
+        0,
+    ),
+];
+
+#[test]
+fn sandboxes_that_may_go_on(rt: HostRuntime) -> Result<(), Fail> {
+    let alloc = rt.alloc();
+    for (source, command, said, x1, x31) in STATES {
         let Outcome { status, text } = built_and_run(alloc, source, command)?;
-        let state = registers(alloc, x1, x31)?;
+        let state = registers(alloc, *x1, *x31)?;
         let wanted = format!(in alloc; "{said}{state}")?;
         assert_eq!(rt; text.as_slice(), wanted.as_bytes(), "{command}");
         assert_eq!(rt; status, 0, "{command}");
@@ -90,8 +91,6 @@ sandbox=0 pc=01000000 00100073 ebreak
 #[test]
 fn a_sandbox_that_exits(rt: HostRuntime) -> Result<(), Fail> {
     let alloc = rt.alloc();
-    let Outcome { status, text } = built_and_run(alloc, HI, "sfi run --report")?;
-    assert_eq!(rt; text.as_slice(), HI_SAID.as_bytes());
-    assert_eq!(rt; status, 0);
+    expect_built(&rt, rt.alloc(), HI, "sfi run --report", 0, HI_SAID, HI_SAID)?;
     Ok(())
 }

@@ -1,6 +1,7 @@
 //! Images as streams of bytes, and the command `check --raw`.
 use super::codes::{HALF_A_PAIR, MOVES_STACK};
-use super::image::{CODE, END, Edit, SFI2, SFI3, end_in, image_bytes, put, same};
+use super::image::Edit::{EndIn, Put};
+use super::image::{CODE, END, Edit, IN_SFI2, SAME, SFI3, image_bytes};
 use super::pieces::Pieces;
 use super::{Outcome, lines, words_of};
 use sfi_check::{StreamAnswer, check_stream};
@@ -28,7 +29,7 @@ fn refused(count: u32, rule: Rule, address: u32) -> StreamAnswer {
 }
 
 // An image, and the verdict on its stream.
-#[derive(Clone, Copy, Debug)]
+#[derive(Clone, Copy)]
 struct Row<'a> {
     name: &'a str,
     edits: [Edit<'a>; 2],
@@ -44,17 +45,17 @@ fn row_of<'a>(name: &'a str, edits: [Edit<'a>; 2], answer: StreamAnswer) -> Row<
 }
 
 fn rows() -> [Row<'static>; 12] {
-    let second_format = put(0, SFI2);
-    let first_data = put(32, "00010000");
-    let half_a_pair = put(CODE, HALF_A_PAIR);
-    let lowered = put(CODE, MOVES_STACK);
-    let less_a_byte = end_in(END - 1, "", 0);
-    let one_more = end_in(END, "00", 1);
+    let second_format = IN_SFI2;
+    let first_data = Put(32, "00010000");
+    let half_a_pair = Put(CODE, HALF_A_PAIR);
+    let lowered = Put(CODE, MOVES_STACK);
+    let less_a_byte = EndIn(END - 1, "", 0);
+    let one_more = EndIn(END, "00", 1);
     [
-        row_of("smallest", [same(), same()], ACCEPTED),
-        row_of("second format", [second_format, same()], ACCEPTED),
-        row_of("with data", [first_data, end_in(END, "07", 256)], ACCEPTED),
-        row_of("x2 moves", [lowered, same()], ACCEPTED),
+        row_of("smallest", [SAME, SAME], ACCEPTED),
+        row_of("second format", [second_format, SAME], ACCEPTED),
+        row_of("with data", [first_data, EndIn(END, "07", 256)], ACCEPTED),
+        row_of("x2 moves", [lowered, SAME], ACCEPTED),
         row_of(
             "x2 moves in the second format",
             [second_format, lowered],
@@ -62,12 +63,12 @@ fn rows() -> [Row<'static>; 12] {
         ),
         row_of(
             "zeros",
-            [end_in(CODE, "00", 256), same()],
+            [EndIn(CODE, "00", 256), SAME],
             refused(16, Rule::V1, 0x0100_0000),
         ),
         row_of(
             "half a pair",
-            [half_a_pair, same()],
+            [half_a_pair, SAME],
             refused(1, Rule::V5, 0x0100_0004),
         ),
         row_of(
@@ -75,18 +76,14 @@ fn rows() -> [Row<'static>; 12] {
             [half_a_pair, less_a_byte],
             StreamAnswer::Layout(3),
         ),
-        row_of("empty", [end_in(0, "", 0), same()], StreamAnswer::Layout(3)),
-        row_of("no format", [put(0, SFI3), same()], StreamAnswer::Layout(1)),
+        row_of("empty", [EndIn(0, "", 0), SAME], StreamAnswer::Layout(3)),
+        row_of("no format", [Put(0, SFI3), SAME], StreamAnswer::Layout(1)),
         row_of(
             "less its last byte",
-            [less_a_byte, same()],
+            [less_a_byte, SAME],
             StreamAnswer::Layout(3),
         ),
-        row_of(
-            "one byte more",
-            [one_more, same()],
-            StreamAnswer::Layout(11),
-        ),
+        row_of("one byte more", [one_more, SAME], StreamAnswer::Layout(11)),
     ]
 }
 

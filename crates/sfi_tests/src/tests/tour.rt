@@ -1,7 +1,7 @@
 //! The tour of the README: each of its commands, over what the one before it printed.
 use super::lines::ACCEPTED;
 use super::programs::{HI_EXAMPLE, HI_SAID};
-use super::{Outcome, run};
+use super::{Outcome, expect_said, run};
 use std::str::from_utf8;
 use std::test::Fail;
 
@@ -46,14 +46,18 @@ fn tour(rt: HostRuntime) -> Result<(), Fail> {
     let image = text.as_slice();
     let rows = [("sfi check", ACCEPTED), ("sfi run", HI_SAID)];
     for (command, wanted) in rows {
-        let Outcome { status, text } = run(alloc, command, image)?;
-        assert_eq!(rt; text.as_slice(), wanted.as_bytes(), "{command}");
-        assert_eq!(rt; status, 0, "{command}");
+        expect_said(&rt, rt.alloc(), command, image, 0, wanted, command)?;
     }
     let bytes = hex::decode(alloc, image.trim_ascii())?;
-    let Outcome { status, text } = run(alloc, "sfi check --raw", bytes.as_slice())?;
-    assert_eq!(rt; text.as_slice(), ACCEPTED.as_bytes());
-    assert_eq!(rt; status, 0);
+    expect_said(
+        &rt,
+        rt.alloc(),
+        "sfi check --raw",
+        bytes.as_slice(),
+        0,
+        ACCEPTED,
+        ACCEPTED,
+    )?;
     let Outcome { status, text } = run(alloc, "sfi dis", image)?;
     assert!(rt; text.as_slice().starts_with(LISTING.as_bytes()));
     assert_eq!(rt; status, 0);
@@ -61,8 +65,14 @@ fn tour(rt: HostRuntime) -> Result<(), Fail> {
     // The mask of the load's address becomes a nop.
     let digits = from_utf8(image)?;
     let broken = digits.replace(alloc, "b37fb501", "13000000")?;
-    let Outcome { status, text } = run(alloc, "sfi check --report", broken.as_bytes())?;
-    assert_eq!(rt; text.as_slice(), REPORT.as_bytes());
-    assert_eq!(rt; status, 1);
+    expect_said(
+        &rt,
+        rt.alloc(),
+        "sfi check --report",
+        broken.as_bytes(),
+        1,
+        REPORT,
+        REPORT,
+    )?;
     Ok(())
 }
