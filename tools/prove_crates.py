@@ -3,10 +3,11 @@
 
     tools/prove_crates.py JOBS
 
-It calls the toolchain's own module as `rt all check --jobs JOBS` does in crates/sfi, and keeps the same work in each
-crate's out/, but without two passes over the sources of all crates: the search for errors before the first proof
-(where nothing is built yet), and the check of the program's own crate, which `rt run` proves, too, when it builds
-the program. JOBS crates are proved at a time, first those with the longest chain of lines above them.
+It calls the toolchain's own module as `rt all check --jobs JOBS` does in crates/sfi, keeps the same work in each
+crate's out/, and takes what another checkout on this machine has proved of the same text. It leaves out two passes over
+the sources of all crates: the search for errors before the first proof (where nothing is built yet), and the check of
+the program's own crate, which `rt run` proves, too, when it builds the program. JOBS crates are proved at a time, first
+those with the longest chain of lines above them.
 """
 import copy
 import os
@@ -56,7 +57,7 @@ def build_all(crates, jobs):
 
 
 def main(jobs):
-    rtlib = toolchain.rtlib()
+    rtlib = toolchain.sharing_rtlib()
     rtlib.guarded()  # what it starts ends with it
     program = rtlib.Crate(os.path.join(toolchain.TOP, "crates", "sfi"), toolchain.TOP, {})
     crates = program.below()

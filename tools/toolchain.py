@@ -1,4 +1,5 @@
-"""The toolchain's own module, for what its command rt has no words for."""
+"""The toolchain's own modules, for what its command rt has no words for."""
+import importlib.machinery
 import importlib.util
 import os
 import subprocess
@@ -7,13 +8,25 @@ import sys
 TOP = os.path.dirname(os.path.dirname(os.path.abspath(__file__)))
 
 
-def rtlib():
-    """The module that the command rt consists of."""
+def module(name, file):
+    """The module that a file of the toolchain's folder bin holds."""
     sys.dont_write_bytecode = True
     page = subprocess.run(["rt", "doc"], capture_output=True, text=True, check=True).stdout.strip()
-    path = os.path.join(os.path.dirname(page), "bin", "rtlib.py")
-    spec = importlib.util.spec_from_file_location("rtlib", path)
-    module = importlib.util.module_from_spec(spec)
-    sys.modules["rtlib"] = module
-    spec.loader.exec_module(module)
+    path = os.path.join(os.path.dirname(page), "bin", file)
+    loader = importlib.machinery.SourceFileLoader(name, path)
+    module = importlib.util.module_from_spec(importlib.util.spec_from_loader(name, loader))
+    sys.modules[name] = module
+    loader.exec_module(module)
     return module
+
+
+def rtlib():
+    """The module that the command rt consists of."""
+    return module("rtlib", "rtlib.py")
+
+
+def sharing_rtlib():
+    """The same, where what is proved is shared with the other checkouts on this machine, as the command rt does."""
+    rt = module("rt", "rt")
+    rt.share_work(True)
+    return rt.rtlib
