@@ -2,7 +2,7 @@
 use rv_word::{Instr, Reg};
 
 /// What a name of a sandbox names.
-#[derive(Clone, Copy, Debug)]
+#[derive(Clone, Copy)]
 pub enum Named {
     /// The gate of that number, from 0.
     Gate(usize),
@@ -15,7 +15,7 @@ pub enum Named {
 }
 
 /// What an item has the machine do. A name is given by its place among the sandbox's names.
-#[derive(Clone, Copy, Debug)]
+#[derive(Clone, Copy)]
 pub enum Body {
     /// The instruction, which is no jal and no branch.
     Plain(Instr),
@@ -28,7 +28,7 @@ pub enum Body {
 }
 
 /// An instruction of the code.
-#[derive(Clone, Copy, Debug)]
+#[derive(Clone, Copy)]
 pub struct Item {
     /// The line that it stands on, from 1.
     pub line: u32,

@@ -10,7 +10,7 @@ use crate::parts::Parts;
 use crate::reg::Reg;
 
 /// The registers of a load or a store but the one whose value it stores.
-#[derive(Clone, Copy, PartialEq, Eq, Debug)]
+#[derive(Clone, Copy, PartialEq, Eq)]
 pub struct Access {
     /// What it loads into; x0 where it stores.
     pub written: Reg,

@@ -12,7 +12,7 @@ use crate::parts::Parts;
 use crate::reg::Reg;
 
 /// What an instruction does, without the values that it does it with.
-#[derive(Clone, Copy, PartialEq, Eq, Debug)]
+#[derive(Clone, Copy, PartialEq, Eq)]
 pub enum Outline {
     /// Computes into `rd`: no memory, no jump.
     Computes { rd: Reg },
