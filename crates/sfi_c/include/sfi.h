@@ -176,7 +176,7 @@ struct sfi_part {
 /* A gate of a sandbox. */
 struct sfi_gate {
     uint32_t address; /* the bundle in which its stub lies */
-    uint32_t service; /* what the host is asked for, 0 to 5 (docs/GATES.md) */
+    uint32_t service; /* what the host is asked for: the number of a service (docs/GATES.md) */
 };
 
 /* These have no padding either: the offsets have the size of an address, so that the first struct has 48 bytes where that

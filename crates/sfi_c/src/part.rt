@@ -43,7 +43,7 @@ pub struct SfiPart {
 pub struct SfiGate {
     /// The bundle in which its stub lies.
     pub address: u32,
-    /// What the host is asked for, 0 to 5.
+    /// What the host is asked for, by the number of a service.
     pub service: u32,
 }
 

@@ -5,7 +5,7 @@
 pub struct Gate {
     /// The bundle in which its stub lies.
     pub address: u32,
-    /// What the host is asked for, from 0 to 5 in an image.
+    /// What the host is asked for, at most `SERVICE_MOST` of `sfi_policy` in an image.
     pub service: u32,
 }
 
