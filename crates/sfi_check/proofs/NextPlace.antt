@@ -1,5 +1,5 @@
 -- What a place without a finding keeps, and that the machine goes on from it to a place again.
-use Rattle.std.proofs.Common.{◌≡◌, ◌≢◌, ℕ, ◌+◌, ◌*◌, ◌<◌, ◌≤◌, List, [], ◌∷◌, length, take, drop, Bool, true, false, cond, not, ◌&&◌, ◌==◌, refl, ap, ◌∙◌, subst, arith, length-take, length-drop}
+use Rattle.std.proofs.Common.{◌≡◌, ◌≢◌, ℕ, ◌+◌, ◌*◌, ◌<◌, ◌≤◌, List, [], ◌∷◌, length, take, drop, Bool, true, false, not, ◌&&◌, ◌==◌, refl, ap, ◌∙◌, subst, arith, length-take, length-drop}
 use Rattle.std.proofs.lemmas.Bool.{eqb-false}
 use Rattle.std.proofs.lemmas.List.{drop-drop}
 use Rattle.rv_comp.specs.Fronts.{Spells}
@@ -7,14 +7,14 @@ use Rattle.rv_mem.specs.Bytes.{address_after}
 use Rattle.rv_step.specs.State.{Hart}
 use Rattle.sfi_image.specs.Spelling.{Part}
 use Rattle.sfi_image.specs.Laws.{WholeBundles}
-use Rattle.sfi_scan.specs.declared.rule.Rule.TheVariants.{V3, V4, V5, V6, V7, V8, V9, V10}
-use Rattle.sfi_scan.specs.declared.finding.Finding.{Finding}
+use Rattle.sfi_scan.specs.declared.rule.Rule.TheVariants.{V3, V4, V5, V6, V7, V8, V10}
 use Rattle.sfi_scan.specs.Bundles.{place_of, bundle_bytes}
 use Rattle.sfi_scan.specs.Readings.{Piece, IsReading, rest_of}
-use Rattle.sfi_scan.specs.Rules.{Place, breaks, breaks_ecall, breaks_reserved, breaks_access, breaks_jump, breaks_target, breaks_end, breaks_stack, ends_region, is_empty}
+use Rattle.sfi_scan.specs.Rules.{Place, breaks_ecall, breaks_reserved, breaks_access, breaks_jump, breaks_target, breaks_end, breaks_stack, ends_region, is_empty}
 use Rattle.sfi_scan.specs.Findings.{lowest, all_rules, findings_from}
 use Rattle.sfi_check.specs.Leaving.{Leaves}
 use Rattle.sfi_check.specs.Places.{IsCleanPart, StackInDataBefore, IsAtPlace}
+use Rattle.sfi_scan.proofs.Lowest.{kept}
 use Rattle.sfi_check.proofs.Places.{spelled_length, spelled_some, nothing_before, at_start, bundle_length, here_within, code_end}
 
 -- none of the rules is broken at a place
@@ -27,20 +27,10 @@ pub record KeepsRules (x : Place) : Type 0 where
   pub end : breaks_end x x.instr ≡ false
   pub stack : breaks_stack x x.instr ≡ false
 
-not_first : (b : Bool) (f : Finding) (rest : List Finding) → cond b (f ∷ []) rest ≡ [] → (b ≡ false) × (rest ≡ [])
-not_first true f rest h = absurd cc
-not_first false f rest h = (refl, h)
-
 keeps_rules : (x : Place) → lowest x all_rules ≡ [] → KeepsRules x
-keeps_rules x h =
-    let v3 = not_first (breaks x V3) _ (lowest x (V4 ∷ V5 ∷ V6 ∷ V7 ∷ V8 ∷ V9 ∷ V10 ∷ [])) h in
-    let v4 = not_first (breaks x V4) _ (lowest x (V5 ∷ V6 ∷ V7 ∷ V8 ∷ V9 ∷ V10 ∷ [])) v3.1 in
-    let v5 = not_first (breaks x V5) _ (lowest x (V6 ∷ V7 ∷ V8 ∷ V9 ∷ V10 ∷ [])) v4.1 in
-    let v6 = not_first (breaks x V6) _ (lowest x (V7 ∷ V8 ∷ V9 ∷ V10 ∷ [])) v5.1 in
-    let v7 = not_first (breaks x V7) _ (lowest x (V8 ∷ V9 ∷ V10 ∷ [])) v6.1 in
-    let v8 = not_first (breaks x V8) _ (lowest x (V9 ∷ V10 ∷ [])) v7.1 in
-    let v10 = not_first (breaks x V10) _ [] v8.1 in
-    record { ecall = v3.0; reserved = v4.0; access = v5.0; jump = v6.0; target = v7.0; end = v8.0; stack = v10.0 }
+keeps_rules x none =
+    let each = kept x none in
+    record { ecall = each V3; reserved = each V4; access = each V5; jump = each V6; target = each V7; end = each V8; stack = each V10 }
 
 -- the place where the machine is
 abbrev pub place_here : (sandbox : ℕ) (p : Part) (h : Hart) → IsAtPlace sandbox p h → Place

@@ -7,7 +7,7 @@ use Rattle.rv_text.specs.Printed.{printed}
 use Rattle.sfi_image.specs.Spelling.{Part, format_of}
 use Rattle.sfi_scan.specs.declared.finding.Finding.{Finding}
 use Rattle.sfi_scan.specs.declared.rule.Rule.{Rule}
-use Rattle.sfi_scan.specs.declared.rule.Rule.TheVariants.{V1, V2, V3, V4, V5, V6, V7, V8, V9, V10}
+use Rattle.sfi_scan.specs.declared.rule.Rule.TheVariants.{V1, V2, V9}
 use Rattle.sfi_scan.specs.Bundles.{bundle_bytes}
 use Rattle.sfi_scan.specs.Laws.{OneLongestReading}
 use Rattle.sfi_report.specs.Digits.{line_end}
@@ -26,14 +26,8 @@ one_instruction law code text other a b =
 one_place : OneSpelling → (rule : Rule) (code text other : List ℕ) → IsPlaceText rule code text → IsPlaceText rule code other → text ≡ other
 one_place law V1 code text other a b = a ∙ sym b
 one_place law V2 code text other a b = a ∙ sym b
-one_place law V3 code text other a b = one_instruction law code text other a b
-one_place law V4 code text other a b = one_instruction law code text other a b
-one_place law V5 code text other a b = one_instruction law code text other a b
-one_place law V6 code text other a b = one_instruction law code text other a b
-one_place law V7 code text other a b = one_instruction law code text other a b
-one_place law V8 code text other a b = one_instruction law code text other a b
 one_place law V9 code text other a b = a ∙ sym b
-one_place law V10 code text other a b = one_instruction law code text other a b
+one_place law _ code text other a b = one_instruction law code text other a b
 
 one_line : OneSpelling → (ps : List Part) (f : Finding) (line other : List ℕ) → IsFindingLine ps f line → IsFindingLine ps f other → line ≡ other
 one_line law ps f line other a b =

@@ -1,5 +1,5 @@
 -- Each finding stands at a place of a part: what the code begins with there.
-use Rattle.std.proofs.Common.{◌≡◌, ℕ, zero, suc, ◌+◌, ◌-◌, ◌*◌, ◌%◌, ◌≤◌, Bool, true, false, cond, List, [], ◌∷◌, length, take, drop, refl, sym, ap, ◌∙◌, subst, inl, inr, arith, length-drop}
+use Rattle.std.proofs.Common.{◌≡◌, ℕ, zero, suc, ◌+◌, ◌-◌, ◌*◌, ◌%◌, ◌≤◌, Bool, true, List, [], ◌∷◌, length, take, drop, refl, sym, ap, ◌∙◌, subst, inl, inr, arith, length-drop}
 use Rattle.std.specs.Prelude.{Some, slice_get}
 use Rattle.std.specs.Int.{w16, from_le_bytes}
 use Rattle.std.specs.List.{All}
@@ -13,13 +13,14 @@ use Rattle.rv_comp.specs.Fronts.{Spells}
 use Rattle.sfi_image.specs.Spelling.{Part}
 use Rattle.sfi_scan.specs.declared.bundle.BundlePlace.{BundlePlace}
 use Rattle.sfi_scan.specs.declared.rule.Rule.{Rule}
-use Rattle.sfi_scan.specs.declared.rule.Rule.TheVariants.{V1, V2, V3, V4, V5, V6, V7, V8, V9, V10}
+use Rattle.sfi_scan.specs.declared.rule.Rule.TheVariants.{V1, V2, V9}
 use Rattle.sfi_scan.specs.declared.finding.Finding.{Finding}
 use Rattle.sfi_scan.specs.Bundles.{place_of, bundle_bytes}
 use Rattle.sfi_scan.specs.Readings.{Piece, IsReading, rest_of}
-use Rattle.sfi_scan.specs.Rules.{Place, breaks}
+use Rattle.sfi_scan.specs.Rules.{breaks}
 use Rattle.sfi_scan.specs.Findings.{broken, lowest, all_rules, findings_from, rest_finding, rule_of_length, AreBundleFindings, AreFindingsOfFirst, AreFindings, AreFindingsFrom, AreImageFindings}
 use Rattle.sfi_report.specs.private.Added.{SpellsFirst, IsPlace, Stands}
+use Rattle.sfi_scan.proofs.Lowest.{lowest_is}
 use Rattle.sfi_report.proofs.Lines.{spell_even, spell_fits}
 
 -- the finding is one of the sandbox, so many bytes after the address, where these bytes are
@@ -32,40 +33,26 @@ pub record StandsIn (sandbox at : ℕ) (bytes : List ℕ) (f : Finding) : Type 0
 
 -- ---- in a bundle
 
--- a rule that is broken where an instruction stands
-lowest_stands : (P : Finding → Type 0) (x : Place)
-    → P (broken x.bundle x.address V3) → P (broken x.bundle x.address V4) → P (broken x.bundle x.address V5)
-    → P (broken x.bundle x.address V6) → P (broken x.bundle x.address V7) → P (broken x.bundle x.address V8) → P (broken x.bundle x.address V10)
-    → All P (lowest x all_rules)
-lowest_stands P x v3 v4 v5 v6 v7 v8 v10 =
-    choose (breaks x V3) V3 _ v3 (choose (breaks x V4) V4 _ v4 (choose (breaks x V5) V5 _ v5 (choose (breaks x V6) V6 _ v6 (choose (breaks x V7) V7 _ v7 (choose (breaks x V8) V8 _ v8 (choose (breaks x V10) V10 _ v10 none))))))
-  where
-    none : All P []
-    none = λ k d h. absurd (omega arith)
-
-    one : (f : Finding) → P f → All P (f ∷ [])
-    one f p zero d h = p
-    one f p (suc k) d h = absurd (omega arith)
-
-    choose : (b : Bool) (rule : Rule) (rest : List Finding) → P (broken x.bundle x.address rule) → All P rest → All P (cond b (broken x.bundle x.address rule ∷ []) rest)
-    choose true rule rest p h = one (broken x.bundle x.address rule) p
-    choose false rule rest p h = h
-
 -- at the places of a reading
 reading_stands : (b : BundlePlace) (whole : Bool) (at : ℕ) (earlier : List Instr) (rest : List ℕ) (reading : List Piece) → IsReading rest reading
     → All (StandsIn b.sandbox at rest) (findings_from b whole at earlier reading)
 reading_stands b whole at earlier rest [] h = λ k d g. absurd (omega arith)
 reading_stands b whole at earlier rest (x ∷ later) h =
     All-append (StandsIn b.sandbox at rest) (lowest (record { bundle = b; address = at; earlier = earlier; instr = x.instr; later = later; whole = whole }) all_rules) (findings_from b whole (at + x.size) (x.instr ∷ earlier) later)
-    (lowest_stands (StandsIn b.sandbox at rest) (record { bundle = b; address = at; earlier = earlier; instr = x.instr; later = later; whole = whole })
-    (here V3 first) (here V4 first) (here V5 first) (here V6 first) (here V7 first) (here V8 first) (here V10 first))
+    (lowest_is (StandsIn b.sandbox at rest) (record { bundle = b; address = at; earlier = earlier; instr = x.instr; later = later; whole = whole }) all_rules here)
     (λ k d g. after _ (reading_stands b whole (at + x.size) (x.instr ∷ earlier) (drop x.size rest) later h.1 k d g))
   where
     first : SpellsFirst rest
     first = record { instr = x.instr; size = x.size; spelled = h.0 }
 
-    here : (rule : Rule) → IsPlace rule rest → StandsIn b.sandbox at rest (broken b at rule)
-    here rule place = record { offset = 0; sandbox_is = refl; address_is = omega arith; within = omega arith; place = place }
+    here : (rule : Rule) → breaks (record { bundle = b; address = at; earlier = earlier; instr = x.instr; later = later; whole = whole }) rule ≡ true → StandsIn b.sandbox at rest (broken b at rule)
+    here rule h = record { offset = 0; sandbox_is = refl; address_is = omega arith; within = omega arith; place = place rule h }
+      where
+        place : (r : Rule) → breaks (record { bundle = b; address = at; earlier = earlier; instr = x.instr; later = later; whole = whole }) r ≡ true → IsPlace r rest
+        place V1 h = absurd cc
+        place V2 h = absurd cc
+        place V9 h = tt
+        place _ h = first
 
     after : (f : Finding) → StandsIn b.sandbox (at + x.size) (drop x.size rest) f → StandsIn b.sandbox at rest f
     after f s =
@@ -155,14 +142,8 @@ place_more rule m code h = more rule h
     more : (r : Rule) → IsPlace r (take m code) → IsPlace r code
     more V1 e = half e
     more V2 e = half e
-    more V3 e = spelled e
-    more V4 e = spelled e
-    more V5 e = spelled e
-    more V6 e = spelled e
-    more V7 e = spelled e
-    more V8 e = spelled e
     more V9 e = tt
-    more V10 e = spelled e
+    more _ e = spelled e
 
 first_stand : (sandbox : ℕ) (p : Part) (n : ℕ) (found : List Finding) → 16 * n ≤ length p.code → AreFindingsOfFirst sandbox p n found
     → All (StandsIn sandbox p.code_base p.code) found

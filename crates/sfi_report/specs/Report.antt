@@ -33,18 +33,13 @@ half_text code = codes ".half 0x" ++ word_digits (take 2 code)
 abbrev pub IsInstructionText : List ℕ → List ℕ → Type 0
 IsInstructionText code text = (i : Instr) × (n : ℕ) × Spells (take n code) i n × (text ≡ printed i)
 
--- no instruction, an instruction, or a gate that is not the stub
+-- where the bytes do not decode a halfword, at a gate that is not the stub a note, and else the
+-- instruction that breaks the rule
 abbrev pub IsPlaceText : Rule → List ℕ → List ℕ → Type 0
 IsPlaceText V1 code text = text ≡ half_text code
 IsPlaceText V2 code text = text ≡ half_text code
-IsPlaceText V3 code text = IsInstructionText code text
-IsPlaceText V4 code text = IsInstructionText code text
-IsPlaceText V5 code text = IsInstructionText code text
-IsPlaceText V6 code text = IsInstructionText code text
-IsPlaceText V7 code text = IsInstructionText code text
-IsPlaceText V8 code text = IsInstructionText code text
 IsPlaceText V9 code text = text ≡ codes "stub expected"
-IsPlaceText V10 code text = IsInstructionText code text
+IsPlaceText _ code text = IsInstructionText code text
 
 -- ---- lines
 

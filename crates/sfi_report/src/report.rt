@@ -60,9 +60,8 @@ fn push_place(out: &mut String, rule: Rule, code: &[u8]) -> Result<(), AllocErro
 {
     match rule {
         Rule::V1 | Rule::V2 => push_first_halfword(out, code),
-        Rule::V3 | Rule::V4 | Rule::V5 | Rule::V6 | Rule::V7 | Rule::V8 | Rule::V10 =>
-            push_first_instruction(out, code),
         Rule::V9 => out.push_str("stub expected"),
+        _ => push_first_instruction(out, code),
     }
 }
 

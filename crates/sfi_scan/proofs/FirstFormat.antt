@@ -1,6 +1,5 @@
 -- The first format has no stack pointer: no place breaks V10.
 use Rattle.std.proofs.Common.{◌≡◌, ◌≢◌, ◌∷◌, ◌++◌, ℕ, zero, suc, ◌+◌, Bool, true, false, List, [], refl, sym, ap, subst, inl, inr}
-use Rattle.std.specs.Prelude.{cond}
 use Rattle.std.specs.List.{All}
 use Rattle.std.proofs.lemmas.List.Elements.{All-append, All-cons, All-nil}
 use Rattle.rv_word.specs.declared.instr.Instr.{Instr}
@@ -13,13 +12,15 @@ use Rattle.sfi_image.specs.Spelling.{Part}
 use Rattle.sfi_scan.specs.declared.bundle.BundlePlace.{BundlePlace}
 use Rattle.sfi_scan.specs.declared.finding.Finding.{Finding}
 use Rattle.sfi_scan.specs.declared.rule.Rule.{Rule}
-use Rattle.sfi_scan.specs.declared.rule.Rule.TheVariants.{V1, V2, V3, V4, V5, V6, V7, V8, V9, V10}
+use Rattle.sfi_scan.specs.declared.rule.Rule.{Rule}
+use Rattle.sfi_scan.specs.declared.rule.Rule.TheVariants.{V1, V9, V10}
 use Rattle.sfi_scan.specs.Bundles.{place_of, bundle_bytes}
 use Rattle.sfi_scan.specs.Laws.{FirstFormatHasNoStack, FirstFormatFindsNoV10}
 use Rattle.sfi_scan.specs.Pairs.{follows_data_pair}
 use Rattle.sfi_scan.specs.Readings.{Piece}
 use Rattle.sfi_scan.specs.Rules.{Place, breaks, breaks_stack, may_access}
 use Rattle.sfi_scan.specs.Findings.{broken, lowest, all_rules, rule_of_length, findings_from, rest_finding, AreReadingFindings, AreBundleFindings, AreFindingsOfFirst}
+use Rattle.sfi_scan.proofs.Lowest.{lowest_is}
 
 no_stack : (f : Format) → f ≡ Sfi1 → has_stack f ≡ false
 no_stack f e = ap has_stack e
@@ -44,16 +45,12 @@ both xs ys a b = All-append IsOther xs ys a b
 one : (f : Finding) → IsOther f → All IsOther (f ∷ [])
 one f other = All-cons IsOther f [] other (All-nil IsOther)
 
--- the lowest of some rules, each of which is another or is not broken
-pick : (b : Bool) (x : Place) (rule : Rule) (rest : List Finding) → (b ≡ true → rule ≢ V10) → All IsOther rest → All IsOther (cond b (broken x.bundle x.address rule ∷ []) rest)
-pick true x rule rest other h = one (broken x.bundle x.address rule) (other refl)
-pick false x rule rest other h = h
+broken_other : (x : Place) → x.bundle.format ≡ Sfi1 → (rule : Rule) → breaks x rule ≡ true → rule ≢ V10
+broken_other x e V10 h = absurd (let n = never x x.instr e in cc)
+broken_other x e _ h = λ s. cc
 
 lowest_other : (x : Place) → x.bundle.format ≡ Sfi1 → All IsOther (lowest x all_rules)
-lowest_other x e =
-    pick (breaks x V1) x V1 _ (λ _ s. cc) (pick (breaks x V2) x V2 _ (λ _ s. cc) (pick (breaks x V3) x V3 _ (λ _ s. cc) (pick (breaks x V4) x V4 _ (λ _ s. cc)
-    (pick (breaks x V5) x V5 _ (λ _ s. cc) (pick (breaks x V6) x V6 _ (λ _ s. cc) (pick (breaks x V7) x V7 _ (λ _ s. cc) (pick (breaks x V8) x V8 _ (λ _ s. cc)
-    (pick (breaks x V9) x V9 _ (λ _ s. cc) (pick (breaks x V10) x V10 _ (λ h s. let n = never x x.instr e in cc) (All-nil IsOther))))))))))
+lowest_other x e = lowest_is IsOther x all_rules (broken_other x e)
 
 from_other : (b : BundlePlace) (whole : Bool) (at : ℕ) (earlier : List Instr) (later : List Piece) → b.format ≡ Sfi1 → All IsOther (findings_from b whole at earlier later)
 from_other b whole at earlier [] e = All-nil IsOther

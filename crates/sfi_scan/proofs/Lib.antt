@@ -5,6 +5,7 @@ pub mod Marks
 pub mod FirstLook
 pub mod Gates
 pub mod Look
+pub mod Lowest
 pub mod OneList
 pub mod PairTables
 pub mod Readings

@@ -1,7 +1,7 @@
 -- Where no rule is broken, the second format's findings are V10 alone.
-use Rattle.std.proofs.Common.{◌≡◌, ℕ, pos, negsuc, zero, suc, ◌+◌, ◌-◌, List, [], ◌∷◌, ◌++◌, length, Bool, true, false, cond, not, ◌&&◌, ◌||◌, refl, sym, ◌∙◌, subst, inl, inr, arith}
+use Rattle.std.proofs.Common.{◌≡◌, ℕ, pos, negsuc, zero, suc, ◌+◌, ◌-◌, List, [], ◌∷◌, ◌++◌, length, Bool, true, false, not, ◌&&◌, ◌||◌, refl, sym, ◌∙◌, subst, inl, inr, arith}
 use Rattle.std.specs.List.{All}
-use Rattle.std.proofs.lemmas.List.Elements.{All-append, All-nil, All-push}
+use Rattle.std.proofs.lemmas.List.Elements.{All-append, All-nil}
 use Rattle.rv_word.specs.declared.instr.Instr.{Instr}
 use Rattle.rv_word.specs.declared.instr.Instr.TheVariants.{Load, Store, Branch, Jal, Jalr, Ecall}
 use Rattle.rv_comp.specs.Laws.{OneSpelling}
@@ -10,14 +10,16 @@ use Rattle.sfi_policy.specs.declared.format.Format.TheVariants.{Sfi1, Sfi2}
 use Rattle.sfi_policy.specs.Formats.{has_stack}
 use Rattle.sfi_image.specs.Spelling.{Part}
 use Rattle.sfi_image.specs.InFormat.{in_format, all_in_format}
-use Rattle.sfi_scan.specs.declared.rule.Rule.TheVariants.{V3, V4, V5, V6, V7, V8, V9, V10}
+use Rattle.sfi_scan.specs.declared.rule.Rule.{Rule}
+use Rattle.sfi_scan.specs.declared.rule.Rule.TheVariants.{V3, V4, V5, V6, V7, V8, V10}
 use Rattle.sfi_scan.specs.declared.bundle.BundlePlace.{BundlePlace}
 use Rattle.sfi_scan.specs.declared.finding.Finding.{Finding}
 use Rattle.sfi_scan.specs.Bundles.{place_of, bundle_bytes}
 use Rattle.sfi_scan.specs.Readings.{Piece, rest_of}
 use Rattle.sfi_scan.specs.Pairs.{follows_data_pair}
 use Rattle.sfi_scan.specs.Rules.{Place, breaks, breaks_ecall, breaks_access, breaks_jump, breaks_target, is_empty}
-use Rattle.sfi_scan.specs.Findings.{broken, lowest, all_rules, findings_from, rest_finding, AreReadingFindings, AreBundleFindings, AreFindingsOfFirst, AreFindings, AreFindingsFrom}
+use Rattle.sfi_scan.specs.Findings.{lowest, all_rules, findings_from, rest_finding, AreReadingFindings, AreBundleFindings, AreFindingsOfFirst, AreFindings, AreFindingsFrom}
+use Rattle.sfi_scan.proofs.Lowest.{kept, lowest_is}
 use Rattle.sfi_scan.proofs.Readings.{longest_one}
 
 -- ---- findings of V10 alone
@@ -31,21 +33,9 @@ none = All-nil (λ (f : Finding). f.rule ≡ V10)
 both : (xs ys : List Finding) → OfStack xs → OfStack ys → OfStack (xs ++ ys)
 both xs ys a b = All-append (λ (f : Finding). f.rule ≡ V10) xs ys a b
 
-not_first : (b : Bool) (f : Finding) (rest : List Finding) → cond b (f ∷ []) rest ≡ [] → (b ≡ false) × (rest ≡ [])
-not_first true f rest e = absurd (cc)
-not_first false f rest e = (refl, e)
-
 two_empty : (xs ys : List Finding) → xs ++ ys ≡ [] → (xs ≡ []) × (ys ≡ [])
 two_empty [] ys e = (refl, e)
 two_empty (x ∷ xs) ys e = absurd (cc)
-
-passed : (b : Bool) (l rest : List Finding) → b ≡ false → OfStack rest → OfStack (cond b l rest)
-passed true l rest e h = absurd (cc)
-passed false l rest e h = h
-
-at_last : (b : Bool) (f : Finding) → f.rule ≡ V10 → OfStack (cond b (f ∷ []) [])
-at_last true f e = All-push (λ (g : Finding). g.rule ≡ V10) [] f none e
-at_last false f e = none
 
 -- ---- a place
 
@@ -79,26 +69,19 @@ fewer_accesses x (Load kind rd rs1 imm) e = more_allowed x.bundle.format _ (foll
 fewer_accesses x (Store width rs1 rs2 imm) e = more_allowed x.bundle.format _ (follows_data_pair rs1 x.earlier) e
 fewer_accesses x _ e = refl
 
-passing_of_stack : (x : Place) → breaks x V3 ≡ false → breaks x V4 ≡ false → breaks x V5 ≡ false → breaks x V6 ≡ false → breaks x V7 ≡ false → breaks x V8 ≡ false
-    → OfStack (lowest (second_place x) all_rules)
-passing_of_stack x v3 v4 v5 v6 v7 v8 =
-    passed (breaks (second_place x) V3) _ _ (same_ecall x x.instr ∙ v3)
-    (passed (breaks (second_place x) V4) _ _ v4
-    (passed (breaks (second_place x) V5) _ _ (fewer_accesses x x.instr v5)
-    (passed (breaks (second_place x) V6) _ _ (same_jump x x.instr ∙ v6)
-    (passed (breaks (second_place x) V7) _ _ (same_target x x.instr ∙ v7)
-    (passed (breaks (second_place x) V8) _ _ v8
-    (at_last (breaks (second_place x) V10) (broken (second_bundle x.bundle) x.address V10) refl))))))
+-- of the rules that are kept, the second format breaks V10 alone
+broken_of_stack : (x : Place) → ((rule : Rule) → breaks x rule ≡ false) → (rule : Rule) → breaks (second_place x) rule ≡ true → rule ≡ V10
+broken_of_stack x are_kept V3 h = absurd (let e = same_ecall x x.instr ∙ are_kept V3 in cc)
+broken_of_stack x are_kept V4 h = absurd (let e = are_kept V4 in cc)
+broken_of_stack x are_kept V5 h = absurd (let e = fewer_accesses x x.instr (are_kept V5) in cc)
+broken_of_stack x are_kept V6 h = absurd (let e = same_jump x x.instr ∙ are_kept V6 in cc)
+broken_of_stack x are_kept V7 h = absurd (let e = same_target x x.instr ∙ are_kept V7 in cc)
+broken_of_stack x are_kept V8 h = absurd (let e = are_kept V8 in cc)
+broken_of_stack x are_kept V10 h = refl
+broken_of_stack x are_kept _ h = absurd cc
 
 place_of_stack : (x : Place) → lowest x all_rules ≡ [] → OfStack (lowest (second_place x) all_rules)
-place_of_stack x h =
-    let v3 = not_first (breaks x V3) _ (lowest x (V4 ∷ V5 ∷ V6 ∷ V7 ∷ V8 ∷ V9 ∷ V10 ∷ [])) h in
-    let v4 = not_first (breaks x V4) _ (lowest x (V5 ∷ V6 ∷ V7 ∷ V8 ∷ V9 ∷ V10 ∷ [])) v3.1 in
-    let v5 = not_first (breaks x V5) _ (lowest x (V6 ∷ V7 ∷ V8 ∷ V9 ∷ V10 ∷ [])) v4.1 in
-    let v6 = not_first (breaks x V6) _ (lowest x (V7 ∷ V8 ∷ V9 ∷ V10 ∷ [])) v5.1 in
-    let v7 = not_first (breaks x V7) _ (lowest x (V8 ∷ V9 ∷ V10 ∷ [])) v6.1 in
-    let v8 = not_first (breaks x V8) _ (lowest x (V9 ∷ V10 ∷ [])) v7.1 in
-    passing_of_stack x v3.0 v4.0 v5.0 v6.0 v7.0 v8.0
+place_of_stack x none = lowest_is (λ (f : Finding). f.rule ≡ V10) (second_place x) all_rules (broken_of_stack x (kept x none))
 
 -- ---- a reading, a bundle, and all
 

@@ -6,7 +6,6 @@ use Rattle.std.proofs.lemmas.Nat.{and_mask}
 use Rattle.std.proofs.lemmas.Bool.{agree_below, agree_below_at, and_parts, ne_eqb}
 use Rattle.rv_word.specs.declared.outline.Outline.{Outline}
 use Rattle.rv_word.specs.declared.outline.Outline.TheVariants.{Computes}
-use Rattle.rv_word.specs.Numbers.{bits}
 use Rattle.rv_word.specs.Accesses.{access, IsAccessOf}
 use Rattle.rv_word.specs.Outlines.{outline, IsWordThat}
 use Rattle.rv_word.specs.Spelling.{IsWordOf}

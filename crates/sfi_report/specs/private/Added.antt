@@ -7,7 +7,7 @@ use Rattle.sfi_image.specs.Spelling.{Part}
 use Rattle.sfi_scan.specs.declared.finding.Finding.{Finding}
 use Rattle.sfi_scan.specs.declared.rule.Rule.{Rule}
 use Rattle.sfi_report.specs.State.{place_line}
-use Rattle.sfi_scan.specs.declared.rule.Rule.TheVariants.{V1, V2, V3, V4, V5, V6, V7, V8, V9, V10}
+use Rattle.sfi_scan.specs.declared.rule.Rule.TheVariants.{V1, V2, V9}
 
 -- the new text is the old one and some such text
 pub record Adds (old new : List ℕ) (is : List ℕ → Type 0) : Type 0 where
@@ -25,14 +25,8 @@ pub record SpellsFirst (code : List ℕ) : Type 0 where
 abbrev pub IsPlace : Rule → List ℕ → Type 0
 IsPlace V1 code = 2 ≤ length code
 IsPlace V2 code = 2 ≤ length code
-IsPlace V3 code = SpellsFirst code
-IsPlace V4 code = SpellsFirst code
-IsPlace V5 code = SpellsFirst code
-IsPlace V6 code = SpellsFirst code
-IsPlace V7 code = SpellsFirst code
-IsPlace V8 code = SpellsFirst code
 IsPlace V9 code = Unit {0}
-IsPlace V10 code = SpellsFirst code
+IsPlace _ code = SpellsFirst code
 
 -- the finding stands at a place of one of the parts
 pub record Stands (ps : List Part) (f : Finding) : Type 0 where
