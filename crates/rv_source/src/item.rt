@@ -2,7 +2,7 @@
 use rv_word::{Instr, Reg};
 
 /// What a name of a sandbox names.
-#[derive(Clone, Copy)]
+#[derive(Clone, Copy, Debug)]
 pub enum Named {
     /// The gate of that number, from 0.
     Gate(usize),
