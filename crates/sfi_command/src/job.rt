@@ -54,8 +54,7 @@ impl Job {
     {
         match self {
             Job::Check { raw, .. } => *raw,
-            Job::Dis | Job::Build { .. } | Job::Map { .. } | Job::Run { .. } | Job::Convert =>
-                false,
+            _ => false,
         }
     }
 }

@@ -4,34 +4,22 @@ use Rattle.sfi_command.specs.Jobs.{is_raw}
 use Rattle.sfi_io.specs.Input.{limit}
 use Rattle.sfi_tool.specs.Says.{HasInputFault, IsDone, IsRefused}
 use Rattle.sfi_command.specs.declared.job.Job.{Job}
-use Rattle.sfi_command.specs.declared.job.Job.TheVariants.{Check, Dis, Build, Map, Run, Convert}
+use Rattle.sfi_command.specs.declared.job.Job.TheVariants.{Check, Dis, Build, Map}
 
 -- is a fault to each job that reads a text
 pub too_large : (job : Job) (text : List ℕ) → is_raw job ≡ false → limit < length text → HasInputFault job text
 too_large (Check true report) text read over = absurd (cc)
-too_large (Check false report) text read over = inl (inl over)
-too_large Dis text read over = inl (inl over)
-too_large (Build places) text read over = inl (inl over)
-too_large (Map places) text read over = inl (inl over)
-too_large (Run rounds quantum given report) text read over = inl (inl over)
-too_large Convert text read over = inl (inl over)
+too_large _ text read over = inl (inl over)
 
 -- no such job is done on it
 pub not_done : (job : Job) (text : List ℕ) → is_raw job ≡ false → limit < length text → IsDone job text → ⊥
 not_done (Check true report) text read over done = absurd (cc)
-not_done (Check false report) text read over done = absurd (omega (arith, over, done.1.short))
-not_done Dis text read over done = absurd (omega (arith, over, done.1.short))
-not_done (Build places) text read over done = absurd (omega (arith, over, done.1.short))
-not_done (Map places) text read over done = absurd (omega (arith, over, done.1.short))
-not_done (Run rounds quantum given report) text read over done = absurd (omega (arith, over, done.1.short))
-not_done Convert text read over done = absurd (omega (arith, over, done.1.short))
+not_done _ text read over done = absurd (omega (arith, over, done.1.short))
 
 -- nor refused
 pub not_refused : (job : Job) (text : List ℕ) → is_raw job ≡ false → limit < length text → IsRefused job text → ⊥
 not_refused (Check true report) text read over refused = absurd (cc)
-not_refused (Check false report) text read over refused = absurd (omega (arith, over, refused.1.short))
 not_refused Dis text read over refused = absurd refused.2
 not_refused (Build places) text read over refused = absurd refused
 not_refused (Map places) text read over refused = absurd refused
-not_refused (Run rounds quantum given report) text read over refused = absurd (omega (arith, over, refused.1.short))
-not_refused Convert text read over refused = absurd (omega (arith, over, refused.1.short))
+not_refused _ text read over refused = absurd (omega (arith, over, refused.1.short))
