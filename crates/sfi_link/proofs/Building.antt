@@ -1,42 +1,24 @@
 -- A text has one build or one fault.
-use Rattle.std.proofs.Common.{◌≡◌, ℕ, List, [], ◌∷◌, refl, ap, subst, ◌⊎◌, inl, inr, Vec, Global}
+use Rattle.std.proofs.Common.{◌≡◌, ℕ, List, [], ◌∷◌, ap, subst, ◌⊎◌, inl, inr, Vec, Global}
 use Rattle.std.specs.Prelude.{Result, Ok, Err, IfOk, IfErr}
 use Rattle.rv_source.specs.Source.{Sandbox}
 use Rattle.rv_text.specs.Texts.{MeansSource}
 use Rattle.rv_text.specs.Laws as texts
 use Rattle.sfi_rewrite.specs.declared.fault.RewriteFault.{RewriteFault}
-use Rattle.sfi_rewrite.specs.declared.fault.RewriteFault.TheVariants as rewriter
 use Rattle.sfi_rewrite.specs.Placement.{Placement}
-use Rattle.sfi_rewrite.specs.Faults.{IsSourceFault, UnlessMemory}
+use Rattle.sfi_rewrite.specs.Faults.{IsSourceFault}
 use Rattle.sfi_rewrite.specs.Rewriting.{AreRewritten}
 use Rattle.sfi_rewrite.specs.Laws as sources
 use Rattle.sfi_place.specs.declared.place.Place.{Place}
-use Rattle.sfi_link.specs.declared.fault.LinkFault.{LinkFault}
 use Rattle.sfi_link.specs.declared.build_fault.BuildFault.{BuildFault}
 use Rattle.sfi_link.specs.declared.build_fault.BuildFault.TheVariants.{Text, Rewrite, Link}
 use Rattle.sfi_link.specs.Building.{IsLinkedImage, ArePlacements, IsBuild}
 use Rattle.sfi_link.specs.Faults.{IsLinkFault}
-use Rattle.sfi_link.specs.Answers as link
 use Rattle.sfi_link.specs.Laws as links
 use Rattle.sfi_link.specs.Standing as links_stand
 use Rattle.sfi_link.specs.Standing.{ImageRunsAs}
 use Rattle.sfi_link.specs.Texts.{IsTextBuild, IsCleanImage, IsBuildFault, IsWantOfMemory, AnswersBuild, AnswersBuildFault}
 use Rattle.sfi_link.specs.private.Texts.{Builds}
-use Rattle.sfi_link.proofs.Unless.{memory_or}
-
--- ---- what each call answered
-
-pub rewrite_failed : (given : List Place) → (text : List ℕ) (source : List Sandbox) (f : RewriteFault) → MeansSource text source → UnlessMemory (IsSourceFault source) f → Builds given text (Err (Rewrite f))
-rewrite_failed given text source (rewriter.ReservedRegister l) means h = inr (source, means, h)
-rewrite_failed given text source (rewriter.Ecall l) means h = inr (source, means, h)
-rewrite_failed given text source (rewriter.StackWrite l) means h = inr (source, means, h)
-rewrite_failed given text source (rewriter.TooLarge n) means h = inr (source, means, h)
-rewrite_failed given text source rewriter.Memory means h = inl refl
-
-pub link_failed : (given : List Place) → (text : List ℕ) (source : List Sandbox) (placed : List Placement) (f : LinkFault) → MeansSource text source → AreRewritten source placed → link.UnlessMemory (IsLinkFault given placed) f
-    → Builds given text (Err (Link f))
-link_failed given text source placed f means rewritten h =
-    elim (memory_or (IsLinkFault given placed) f h) [ inl memory ↦ inl memory | inr fault ↦ inr (source, placed, means, rewritten, fault) ]
 
 -- ---- one build, one fault
 

@@ -1,11 +1,12 @@
 -- A bundle of whole expansions breaks no rule.
 use Rattle.std.proofs.Common.{◌≡◌, ℕ, zero, suc, ◌+◌, ◌^◌, ◌<◌, ◌≤◌, List, [], ◌∷◌, ◌++◌, length, Option, Some, None, Bool, true, false, refl, sym, ap, ◌∙◌, subst, arith, append_assoc, inl, inr, replicate}
-use Rattle.std.specs.Prelude.{ℤ, pos, negsuc, ◌-ℤ◌, ◌==◌, ◌&&◌, not, MatchBool}
+use Rattle.std.specs.Prelude.{ℤ, pos, negsuc, ◌-ℤ◌, ◌==◌, ◌&&◌, ◌||◌, not, MatchBool}
+use Rattle.std.proofs.lemmas.Bool as bool
 use Rattle.rv_word.specs.Numbers.{offset_by}
 use Rattle.rv_word.specs.declared.instr.RegOp.TheVariants.{And, Or}
 use Rattle.rv_word.specs.declared.instr.ImmOp.TheVariants.{Addi}
 use Rattle.rv_word.specs.declared.instr.Instr.{Instr}
-use Rattle.rv_word.specs.declared.instr.Instr.TheVariants.{Op, OpImm, Load, Store, Branch, Jal, Jalr, Lui, Auipc, Fence, Ecall, Ebreak}
+use Rattle.rv_word.specs.declared.instr.Instr.TheVariants.{Op, OpImm, Load, Store, Branch, Jal, Jalr, Lui, Fence, Ecall, Ebreak}
 use Rattle.rv_word.specs.Laws.{SpellingsAreWide}
 use Rattle.rv_word.specs.Writes.{destination, is_register, writes_register}
 use Rattle.sfi_policy.specs.Formats.{has_stack, is_stack}
@@ -16,7 +17,7 @@ use Rattle.sfi_scan.specs.declared.bundle.BundlePlace.{BundlePlace}
 use Rattle.sfi_scan.specs.Readings.{Piece}
 use Rattle.sfi_policy.specs.Registers.{is_reserved, is_withheld}
 use Rattle.sfi_scan.specs.Pairs.{follows_data_pair}
-use Rattle.sfi_scan.specs.Stack.{writes_stack, begins_pair, precedes_pair, is_jump}
+use Rattle.sfi_scan.specs.Stack.{writes_stack, begins_pair, ends_pair, precedes_pair, is_jump}
 use Rattle.sfi_scan.specs.Rules.{is_bundle_start, breaks_reserved, breaks_stack}
 use Rattle.rv_source.specs.Halves.{upper, lower}
 use Rattle.sfi_rewrite.specs.declared.slot.Slot.{Slot}
@@ -31,8 +32,9 @@ use Rattle.sfi_link.specs.declared.bases.Bases.{Bases}
 use Rattle.sfi_link.specs.Addresses.{target_at, address_at, with_offset}
 use Rattle.sfi_link.specs.Linked.{c_ebreak}
 use Rattle.sfi_link.specs.Code.{resolved, made_of, AreSlots}
-use Rattle.sfi_link.proofs.Sizes.{slot_some, size_cons}
-use Rattle.sfi_link.proofs.CleanPlaces.{AreStarts, IsReadAs, IsCleanFrom, and_false, place, or_left, unreserved, is_calm, writes_unreserved, calm, no_write, well_written, by_first, by_second, by_third, pair_read, or_read, both_true, second_false, not_false, on_stack, after_pair, lands, direct, PassesBefore, step, some_same, made, slot_spells, lone_ends}
+use Rattle.sfi_rewrite.proofs.Sizes.{size_of-cons}
+use Rattle.sfi_link.proofs.Sizes.{slot_some}
+use Rattle.sfi_link.proofs.CleanPlaces.{AreStarts, IsReadAs, IsCleanFrom, place, or_left, unreserved, is_calm, writes_unreserved, calm, no_write, well_written, pair_read, or_read, second_false, on_stack, lands, direct, PassesBefore, step, some_same, made, slot_spells, lone_ends}
 
 -- ---- slot by slot
 
@@ -51,7 +53,7 @@ slot_step : SpellingsAreWide → (b : BundlePlace) (at : Bases) (names : List Pl
     → ((i : Instr) → resolved at names here x ≡ Some i → CanStep b at names here earlier x more i) → IsCleanly b at names here earlier (x ∷ more)
 slot_step law b at names here earlier x more can room bytes (front, rest, s, others, e) =
     let size = slot_some x in
-    let sized = size_cons x more in
+    let sized = size_of-cons x more in
     let c = can s.instr s.resolves in
     step b here earlier bytes front rest s.instr (slot_size x) (slot_spells law at names here x front s) e x more refl c.own (lone_ends at names here x s.instr s.resolves)
     (c.rest (omega arith) rest others) c.passes
@@ -89,7 +91,7 @@ alone law b at names here earlier true i expanded more a passes rest =
 into_x31 : (b : BundlePlace) (here : ℕ) (earlier : List Instr) (i : Instr) (more : List Slot) → is_calm i ≡ true → destination i ≡ Some 31 → PassesBefore b here earlier i more
 into_x31 b here earlier i more c d later read e =
     calm b here earlier i later c (ap is_reserved_of d)
-    (no_write (place b here earlier i later) i (ap (λ o. has_stack b.format && is_register 2 o) d ∙ and_false (has_stack b.format))) e
+    (no_write (place b here earlier i later) i (ap (λ o. has_stack b.format && is_register 2 o) d ∙ bool.and_right (has_stack b.format) false refl)) e
   where
     is_reserved_of : Option ℕ → Bool
     is_reserved_of None = false
@@ -114,11 +116,11 @@ stack_pair_then law b at names here earlier more rest =
     wide law b at names here earlier (Op And 2 2 27) (Wide (Op Or 2 2 26) ∷ more)
     (λ later read e.
     calm b here earlier (Op And 2 2 27) later refl refl
-    (well_written (place b here earlier (Op And 2 2 27) later) (Op And 2 2 27) (by_first (begins_pair (Op And 2 2 27) later) _ _ (or_read more later read))) e)
+    (well_written (place b here earlier (Op And 2 2 27) later) (Op And 2 2 27) (bool.or_left (begins_pair (Op And 2 2 27) later || ends_pair earlier (Op And 2 2 27)) (precedes_pair later) (bool.or_left (begins_pair (Op And 2 2 27) later) (ends_pair earlier (Op And 2 2 27)) (or_read more later read)))) e)
     (wide law b at names (here + 4) (Op And 2 2 27 ∷ earlier) (Op Or 2 2 26) more
     (λ later read e.
     calm b (here + 4) (Op And 2 2 27 ∷ earlier) (Op Or 2 2 26) later refl refl
-    (well_written (place b (here + 4) (Op And 2 2 27 ∷ earlier) (Op Or 2 2 26) later) (Op Or 2 2 26) (by_second (begins_pair (Op Or 2 2 26) later) true _ refl)) e)
+    (well_written (place b (here + 4) (Op And 2 2 27 ∷ earlier) (Op Or 2 2 26) later) (Op Or 2 2 26) (bool.or_left (begins_pair (Op Or 2 2 26) later || true) (precedes_pair later) (bool.or_right (begins_pair (Op Or 2 2 26) later) true refl))) e)
     (rest (here + 4 + 4) (Op Or 2 2 26 ∷ Op And 2 2 27 ∷ earlier)))
 
 -- ---- the expansion of an instruction
@@ -126,24 +128,16 @@ stack_pair_then law b at names here earlier more rest =
 -- V10 of an instruction directly before the pair
 before_pair : (b : BundlePlace) (here : ℕ) (earlier : List Instr) (i : Instr) (later : List Piece) → is_jump i ≡ false → precedes_pair later ≡ true → breaks_stack (place b here earlier i later) i ≡ false
 before_pair b here earlier i later j p =
-    well_written (place b here earlier i later) i (by_third (begins_pair i later) _ _ (ap (λ v. not v && precedes_pair later) j ∙ p))
+    well_written (place b here earlier i later) i (bool.or_right (begins_pair i later || ends_pair earlier i) _ (ap (λ v. not v && precedes_pair later) j ∙ p))
 
 -- what writes the stack pointer
 writer_passes : (b : BundlePlace) (here : ℕ) (earlier : List Instr) (i : Instr) (more : List Slot) → names_withheld i ≡ false → has_stack b.format ≡ true → writes_register 2 i ≡ true
     → stack.jumps_or_loads_x2 (Plain i) ≡ false → PassesBefore b here earlier i (stack.stack_pair ++ more)
-writer_passes b here earlier (Op op rd rs1 rs2) more h f w j later read e =
-    calm b here earlier (Op op rd rs1 rs2) later refl (writes_unreserved (Op op rd rs1 rs2) h) (before_pair b here earlier (Op op rd rs1 rs2) later refl (pair_read more later read)) e
-writer_passes b here earlier (OpImm op rd rs1 imm) more h f w j later read e =
-    calm b here earlier (OpImm op rd rs1 imm) later refl (writes_unreserved (OpImm op rd rs1 imm) h) (before_pair b here earlier (OpImm op rd rs1 imm) later refl (pair_read more later read)) e
-writer_passes b here earlier (Lui rd imm) more h f w j later read e =
-    calm b here earlier (Lui rd imm) later refl (writes_unreserved (Lui rd imm) h) (before_pair b here earlier (Lui rd imm) later refl (pair_read more later read)) e
-writer_passes b here earlier (Auipc rd imm) more h f w j later read e =
-    calm b here earlier (Auipc rd imm) later refl (writes_unreserved (Auipc rd imm) h) (before_pair b here earlier (Auipc rd imm) later refl (pair_read more later read)) e
 writer_passes b here earlier (Load kind rd a imm) more h f w j later read e =
     record {
       v3 = refl;
       v4 = writes_unreserved (Load kind rd a imm) h;
-      v5 = on_stack b a (follows_data_pair a earlier) (ap (λ v. v && (a == 2)) f ∙ not_false (a == 2) (second_false (rd == 2) (not (a == 2)) w j));
+      v5 = on_stack b a (follows_data_pair a earlier) (ap (λ v. v && (a == 2)) f ∙ bool.not-false (a == 2) (second_false (rd == 2) (not (a == 2)) w j));
       v6 = refl;
       v7 = refl;
       v8 = e;
@@ -156,6 +150,7 @@ writer_passes b here earlier (Branch cond rs1 rs2 offset) more h f w j later rea
 writer_passes b here earlier (Fence imm rd rs1) more h f w j later read e = cc
 writer_passes b here earlier Ecall more h f w j later read e = cc
 writer_passes b here earlier Ebreak more h f w j later read e = cc
+writer_passes b here earlier i more h f w j later read e = calm b here earlier i later refl (writes_unreserved i h) (before_pair b here earlier i later refl (pair_read more later read)) e
 
 -- an access on the stack pointer that doesn't write it
 access_passes : (b : BundlePlace) (here : ℕ) (earlier : List Instr) (i : Instr) (more : List Slot) → names_withheld i ≡ false → has_stack b.format ≡ true → stack.is_on_x2 i ≡ true
@@ -218,7 +213,7 @@ masked_clean law b at names here earlier rvc (Load kind rd a imm) count expanded
     (λ later read e. record {
       v3 = refl;
       v4 = writes_unreserved (Load kind rd a imm) h;
-      v5 = after_pair (is_stack b.format 31);
+      v5 = bool.not_from_true (is_stack b.format 31 || true) (bool.or_right (is_stack b.format 31) true refl);
       v6 = refl;
       v7 = refl;
       v8 = e;
@@ -231,7 +226,7 @@ masked_clean law b at names here earlier rvc (Store width a rs2 imm) count expan
     (λ later read e. record {
       v3 = refl;
       v4 = refl;
-      v5 = after_pair (is_stack b.format 31);
+      v5 = bool.not_from_true (is_stack b.format 31 || true) (bool.or_right (is_stack b.format 31) true refl);
       v6 = refl;
       v7 = refl;
       v8 = e;
@@ -241,21 +236,11 @@ masked_clean law b at names here earlier rvc (Store width a rs2 imm) count expan
 masked_clean law b at names here earlier rvc (Jalr rd a imm) count expanded more x body h c w rest =
     subst (λ v. IsCleanly b at names here earlier (v ++ more)) (sym x)
     (jump_clean law b at names here earlier rd a imm more (or_left (is_withheld rd) (is_withheld a) h) w rest)
-masked_clean law b at names here earlier rvc (Op op rd rs1 rs2) count expanded more x body h c w rest =
-    alone law b at names here earlier rvc (Op op rd rs1 rs2) expanded more x (calm_passes b here earlier (Op op rd rs1 rs2) more refl h w) rest
-masked_clean law b at names here earlier rvc (OpImm op rd rs1 imm) count expanded more x body h c w rest =
-    alone law b at names here earlier rvc (OpImm op rd rs1 imm) expanded more x (calm_passes b here earlier (OpImm op rd rs1 imm) more refl h w) rest
-masked_clean law b at names here earlier rvc (Lui rd imm) count expanded more x body h c w rest =
-    alone law b at names here earlier rvc (Lui rd imm) expanded more x (calm_passes b here earlier (Lui rd imm) more refl h w) rest
-masked_clean law b at names here earlier rvc (Auipc rd imm) count expanded more x body h c w rest =
-    alone law b at names here earlier rvc (Auipc rd imm) expanded more x (calm_passes b here earlier (Auipc rd imm) more refl h w) rest
-masked_clean law b at names here earlier rvc (Fence imm rd rs1) count expanded more x body h c w rest =
-    alone law b at names here earlier rvc (Fence imm rd rs1) expanded more x (calm_passes b here earlier (Fence imm rd rs1) more refl h w) rest
-masked_clean law b at names here earlier rvc Ebreak count expanded more x body h c w rest =
-    alone law b at names here earlier rvc Ebreak expanded more x (calm_passes b here earlier Ebreak more refl h w) rest
 masked_clean law b at names here earlier rvc Ecall count expanded more x body h c w rest = absurd (let z : true ≡ false = c in cc)
 masked_clean law b at names here earlier rvc (Branch cond rs1 rs2 offset) count expanded more x body h c w rest = absurd body.1
 masked_clean law b at names here earlier rvc (Jal rd offset) count expanded more x body h c w rest = absurd body.1
+masked_clean law b at names here earlier rvc i count expanded more x body h c w rest =
+    alone law b at names here earlier rvc i expanded more x (calm_passes b here earlier i more refl h w) rest
 
 -- what writes the stack pointer, an access on it, and any other
 plain_clean : SpellingsAreWide → (b : BundlePlace) (at : Bases) (names : List PlacedName) (here : ℕ) (earlier : List Instr) (writes on rvc : Bool) (i : Instr) (count : ℕ) (expanded more : List Slot)
@@ -264,13 +249,13 @@ plain_clean : SpellingsAreWide → (b : BundlePlace) (at : Bases) (names : List 
     → IsBody count (Plain i) → names_withheld i ≡ false → is_ecall (Plain i) ≡ false → stack.is_stack_write b.format (Plain i) ≡ false → IsCleanAfter b at names more
     → IsCleanly b at names here earlier (expanded ++ more)
 plain_clean law b at names here earlier true on rvc i count expanded more w o x body h c s rest =
-    let both = both_true (has_stack b.format) (writes_register 2 i) w in
+    let both = bool.and_parts (has_stack b.format) (writes_register 2 i) w in
     subst (λ v. IsCleanly b at names here earlier (v ++ more)) (sym x)
     (wide law b at names here earlier i (stack.stack_pair ++ more)
     (writer_passes b here earlier i more h both.0 both.1 (second_false (has_stack b.format) (stack.jumps_or_loads_x2 (Plain i)) both.0 s))
     (stack_pair_then law b at names (here + 4) (i ∷ earlier) more rest))
 plain_clean law b at names here earlier false true rvc i count expanded more w o x body h c s rest =
-    let both = both_true (has_stack b.format) (stack.is_on_x2 i) o in
+    let both = bool.and_parts (has_stack b.format) (stack.is_on_x2 i) o in
     alone law b at names here earlier rvc i expanded more x (access_passes b here earlier i more h both.0 both.1 w) rest
 plain_clean law b at names here earlier false false rvc i count expanded more w o x body h c s rest =
     masked_clean law b at names here earlier rvc i count expanded more x body h c w rest
@@ -312,7 +297,7 @@ body_clean law b at names starts here earlier line rvc (To j k) count expanded m
     jump_to : SpellingsAreWide → (b : BundlePlace) (at : Bases) (names : List PlacedName) → AreStarts b at names → (here : ℕ) (earlier : List Instr) (j : Instr) (k line count : ℕ) (more : List Slot)
         → names_withheld j ≡ false → stack.is_stack_write b.format (To j k) ≡ false → IsBody count (To j k) → IsCleanAfter b at names more → IsCleanly b at names here earlier (Jump j k line ∷ more)
     jump_to law b at names starts here earlier j k line count more h s is rest room bytes =
-        let sized = size_cons (Jump j k line) more in
+        let sized = size_of-cons (Jump j k line) more in
         let low : here < 2 ^ 32 = omega arith in
         slot_step law b at names here earlier (Jump j k line) more (λ i q.
         let m = made (λ to. with_offset (pos to -ℤ pos here) j) (target_at at names k) i q in
@@ -342,7 +327,7 @@ pub clean : SpellingsAreWide → (b : BundlePlace) (at : Bases) (names : List Pl
 clean law b at names starts count _ more nothing rest here earlier = rest here earlier
 clean law b at names starts count _ more (padding slots w) rest here earlier =
     known law b at names here earlier c_nop (OpImm Addi 0 0 (pos 0)) (slots ++ more) refl tt
-    (calm_passes b here earlier (OpImm Addi 0 0 (pos 0)) (slots ++ more) refl refl (and_false (has_stack b.format)))
+    (calm_passes b here earlier (OpImm Addi 0 0 (pos 0)) (slots ++ more) refl refl (bool.and_right (has_stack b.format) false refl))
     (clean law b at names starts count slots more w rest (here + 2) (OpImm Addi 0 0 (pos 0) ∷ earlier))
 clean law b at names starts count _ more (whole_expansion x expanded slots p is e w) rest here earlier =
     subst (IsCleanly b at names here earlier) (sym (append_assoc expanded slots more))
@@ -354,5 +339,5 @@ pub clean_fill : SpellingsAreWide → (b : BundlePlace) (at : Bases) (names : Li
 clean_fill law b at names zero here earlier room bytes s =
     record { reading = []; is_reading = tt; nothing_left = s; count = refl; read = tt; ending = λ _. refl; length_is = ap length s; found = λ _. refl }
 clean_fill law b at names (suc n) here earlier room bytes s =
-    known law b at names here earlier c_ebreak Ebreak (replicate n c_ebreak) refl tt (calm_passes b here earlier Ebreak (replicate n c_ebreak) refl refl (and_false (has_stack b.format)))
+    known law b at names here earlier c_ebreak Ebreak (replicate n c_ebreak) refl tt (calm_passes b here earlier Ebreak (replicate n c_ebreak) refl refl (bool.and_right (has_stack b.format) false refl))
     (clean_fill law b at names n (here + 2) (Ebreak ∷ earlier)) room bytes s

@@ -24,8 +24,9 @@ use Rattle.sfi_place.specs.declared.place.Place.{Place}
 use Rattle.sfi_link.specs.Addresses.{bases_of, of_name, target_of}
 use Rattle.sfi_link.specs.Code.{AreSlots}
 use Rattle.sfi_link.specs.Linked.{c_ebreak, needed, gates_from, IsLinked, AreLinkedFrom}
-use Rattle.sfi_link.proofs.Sizes.{size_of-append, size_fill}
-use Rattle.sfi_link.proofs.CleanPlaces.{AreStarts}
+use Rattle.sfi_rewrite.proofs.Sizes.{size_of-append}
+use Rattle.sfi_link.proofs.Sizes.{size_fill}
+use Rattle.sfi_link.proofs.CleanPlaces.{AreStarts, some_same}
 use Rattle.sfi_link.proofs.Region.{IsClosed, closed_is_clean, length_stubs}
 use Rattle.sfi_link.proofs.Filled.{filled}
 use Rattle.sfi_link.proofs.Parts.{lies_well, sixteens, slots_length, listed_at, listed_only}
@@ -36,9 +37,6 @@ use Rattle.sfi_link.proofs.Parts.{lies_well, sixteens, slots_length, listed_at, 
 of_place : (f : PlacedName → Option ℕ) (o : Option PlacedName) (a : ℕ) → of_name f o ≡ Some a → (n : PlacedName) × (o ≡ Some n) × (f n ≡ Some a)
 of_place f None a e = cc
 of_place f (Some n) a e = (n, refl, e)
-
-some_same : (x y : ℕ) → Some x ≡ Some y → x ≡ y
-some_same x y e = cc
 
 -- the target of a jump to a name is a bundle start
 target_starts : (given : List Place) → (number : ℕ) (p : Placement) (q : Part) → IsLinked given number p q → (n : PlacedName) → IsPlacedThere p n → (to : ℕ) → target_of (bases_of given number p) n ≡ Some to
@@ -88,13 +86,13 @@ closed given law number p q placed linked =
     let gates = linked.gates in
     let start = linked.start in
     let counted = sixteens p.format (needed p) (length q.code) code.size.has_room in
-    let sixteen = counted.is in
+    let sixteen = counted.1 in
     let long = ap length code.code_is ∙ length-append (repeat (length p.gates) stub) code.bytes in
     let stubs = length_stubs (length p.gates) in
     let bytes = slots_length _ _ _ _ code.bytes code.slots in
     let sized = size_of-append (slots_of p.bundles) (replicate code.fill c_ebreak) in
     let fill = size_fill code.fill in
-    let n : ℕ = counted.count - length p.gates in
+    let n : ℕ = counted.0 - length p.gates in
     let whole = filled q.format (length p.names) p.bundles placed.bundles (subst (λ (f : Format). All (AreWhole f (length p.names)) p.bundles) (sym linked.format) placed.whole) code.fill n (omega arith) (omega arith) in
     let count = whole.count in
     let at = bases_of given number p in

@@ -2,10 +2,10 @@
 use Rattle.std.proofs.Common.{◌≡◌, ℕ, zero, suc, ◌+◌, ◌-◌, ◌*◌, ◌^◌, ◌<◌, ◌≤◌, List, [], ◌∷◌, ◌++◌, length, take, drop, get_or, Bool, true, false, refl, sym, ap, ◌∙◌, subst, arith, inl, inr, length-append, append_assoc, replicate}
 use Rattle.std.specs.Prelude.{◌==◌, ◌&&◌, not, pos}
 use Rattle.std.specs.List.{All, flat_map, repeat}
-use Rattle.std.proofs.lemmas.Bool.{eqb-true, cases_lt}
+use Rattle.std.proofs.lemmas.Bool.{cases_lt, cases_eq, ne_eqb, and_left, and_right, not_from_true}
 use Rattle.std.proofs.lemmas.Int.{ints}
 use Rattle.std.proofs.lemmas.List.{length-replicate, get_or-replicate, get_or_append_left, get_or-append-add}
-use Rattle.std.proofs.lemmas.List.Elements.{All-head, All-tail, All-nil, All-cons, All-append}
+use Rattle.std.proofs.lemmas.List.Elements.{All-head, All-tail, All-nil, All-cons, All-append, All-replicate}
 use Rattle.std.proofs.Math.Seq.{take-append_seam, drop-append-add}
 use Rattle.rv_word.specs.declared.instr.RegOp.TheVariants.{And, Or}
 use Rattle.rv_word.specs.declared.instr.Instr.TheVariants.{Op, Jalr, Ecall}
@@ -32,8 +32,8 @@ use Rattle.sfi_link.specs.declared.bases.Bases.{Bases}
 use Rattle.sfi_link.specs.Code.{AreSlots}
 use Rattle.sfi_link.proofs.Written.{wide_spells}
 use Rattle.sfi_link.proofs.Stuck.{whole_is_longest}
-use Rattle.sfi_link.proofs.Sizes.{size_cons}
-use Rattle.sfi_link.proofs.CleanPlaces.{AreStarts, ends_slots, ends_well, IsEndFine, IsCleanFrom, and_false}
+use Rattle.sfi_rewrite.proofs.Sizes.{size_of-cons}
+use Rattle.sfi_link.proofs.CleanPlaces.{AreStarts, ends_slots, ends_well, IsEndFine, IsCleanFrom}
 use Rattle.sfi_link.proofs.Clean.{IsCleanly, clean, clean_fill}
 
 -- ---- bundles by their number
@@ -97,7 +97,7 @@ cut at names here [] ys bytes s =
     record { front = []; rest = bytes; whole = refl; first = refl; second = subst (λ n. AreSlots at names n ys bytes) e s }
 cut at names here (x ∷ xs) ys bytes (f, r, one, others, e) =
     let c = cut at names (here + slot_size x) xs ys r others in
-    let z = size_cons x xs in
+    let z = size_of-cons x xs in
     let n : here + slot_size x + size_of xs ≡ here + size_of (x ∷ xs) = omega arith in
     record {
       front = f ++ c.front;
@@ -177,11 +177,7 @@ clean_bundle one two b slots bytes listed c fine =
     )
 
 end_fine : (m n : ℕ) (w : Bool) → (m ≡ n → w ≡ true) → ((m == n) && not w) ≡ false
-end_fine m n w f = go (m == n) w (λ h. f (eqb-true m n h))
-  where
-    go : (t w : Bool) → (t ≡ true → w ≡ true) → (t && not w) ≡ false
-    go false w f = refl
-    go true w f = ap not (f refl)
+end_fine m n w f = elim (cases_eq m n) [ inl same ↦ and_right (m == n) (not w) (not_from_true w (f same)) | inr other ↦ and_left (m == n) (not w) (ne_eqb m n other) ]
 
 -- ---- stubs
 
@@ -201,19 +197,12 @@ stub_read law = (
   ),
 )
 
-never : (m n : ℕ) → (m ≡ n → ⊥) → (m == n) ≡ false
-never m n h = go (m == n) (λ t. h (eqb-true m n t))
-  where
-    go : (t : Bool) → (t ≡ true → ⊥) → t ≡ false
-    go true h = absurd (h refl)
-    go false h = refl
-
 stub_clean : SpellingsAreWide → OneSpelling → TwoLengths → (b : BundlePlace) → b.listed ≡ true → (b.address + 16 ≡ b.code_base + b.code_size → ⊥) → AreBundleFindings b stub []
 stub_clean law one two b g last =
-    let nv : is_last_bundle b ≡ false = never (b.address + 16) (b.code_base + b.code_size) last in
+    let nv : is_last_bundle b ≡ false = ne_eqb (b.address + 16) (b.code_base + b.code_size) last in
     inr (
       λ _. refl,
-      record { reading = stub_pieces; longest = whole_is_longest one two stub stub_pieces (stub_read law) refl; found_is = simp (g, nv, and_false (has_stack b.format)) },
+      record { reading = stub_pieces; longest = whole_is_longest one two stub stub_pieces (stub_read law) refl; found_is = simp (g, nv, and_right (has_stack b.format) false refl) },
     )
 
 -- ---- the whole region
@@ -222,12 +211,8 @@ stubs_are : (n : ℕ) → repeat n stub ≡ join (replicate n stub)
 stubs_are zero = refl
 stubs_are (suc n) = ap (λ l. stub ++ l) (stubs_are n)
 
-stub_chunks : (n : ℕ) → All IsChunk (replicate n stub)
-stub_chunks zero = All-nil IsChunk
-stub_chunks (suc n) = All-cons IsChunk stub (replicate n stub) refl (stub_chunks n)
-
 pub length_stubs : (n : ℕ) → length (repeat n stub) ≡ 16 * n
-length_stubs n = let a = ap length (stubs_are n) in let b = length-join (replicate n stub) (stub_chunks n) in let c = length-replicate n stub in omega arith
+length_stubs n = let a = ap length (stubs_are n) in let b = length-join (replicate n stub) (All-replicate IsChunk n stub refl) in let c = length-replicate n stub in omega arith
 
 -- the code is stubs, one a gate, and then full bundles, the last of which ends in c.ebreak
 pub record IsClosed (p : Part) (at : Bases) (names : List PlacedName) (stubs : ℕ) (full : List (List Slot)) : Type 0 where
@@ -247,7 +232,7 @@ region_size : (p : Part) (stubs : ℕ) (full : List (List Slot)) (bytes : List �
 region_size p stubs full bytes e n =
     let a = ap length (e ∙ ap (λ l. l ++ bytes) (stubs_are stubs)) in
     let b = length-append (join (replicate stubs stub)) bytes in
-    let c = length-join (replicate stubs stub) (stub_chunks stubs) in
+    let c = length-join (replicate stubs stub) (All-replicate IsChunk stubs stub refl) in
     let d = length-replicate stubs stub in
     omega (arith, a, b, c, d, n)
 
@@ -265,7 +250,7 @@ closed_is_clean law one two sandbox p at names stubs full h fits =
     let all_many : length (replicate stubs stub ++ c.chunks) ≡ length (replicate stubs stub) + length c.chunks = length-append (replicate stubs stub) c.chunks in
     let code : p.code ≡ join (replicate stubs stub ++ c.chunks) =
     h.code ∙ ap (λ l. repeat stubs stub ++ l) c.whole ∙ ap (λ l. l ++ join c.chunks) (stubs_are stubs) ∙ sym (join-append (replicate stubs stub) c.chunks) in
-    none_of_region sandbox p (replicate stubs stub ++ c.chunks) code (All-append IsChunk (replicate stubs stub) c.chunks (stub_chunks stubs) c.all)
+    none_of_region sandbox p (replicate stubs stub ++ c.chunks) code (All-append IsChunk (replicate stubs stub) c.chunks (All-replicate IsChunk stubs stub refl) c.all)
     (λ k less. elim (cases_lt k stubs) [
       | inl low ↦
           let e : get_or (replicate stubs stub ++ c.chunks) k [] ≡ stub = get_or_append_left (replicate stubs stub) c.chunks [] k (omega arith) ∙ get_or-replicate stubs k stub [] low in

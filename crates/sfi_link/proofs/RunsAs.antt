@@ -4,7 +4,7 @@ use Rattle.std.specs.Prelude.{slice_index, pos, ℤ, negsuc, zero, suc, ◌-ℤ�
 use Rattle.std.specs.List.{repeat, All}
 use Rattle.std.proofs.lemmas.List.{get_or_append_left, get_or-append-add}
 use Rattle.rv_word.specs.declared.instr.Instr.{Instr}
-use Rattle.rv_word.specs.declared.instr.Instr.TheVariants.{Op, OpImm, Load, Store, Branch, Jal, Jalr, Lui, Auipc, Fence, Ecall, Ebreak}
+use Rattle.rv_word.specs.declared.instr.Instr.TheVariants.{OpImm, Load, Store, Branch, Jal, Jalr, Lui}
 use Rattle.rv_word.specs.declared.instr.ImmOp.TheVariants.{Addi}
 use Rattle.sfi_policy.specs.declared.format.Format.{Format}
 use Rattle.sfi_policy.specs.Formats.{is_stack}
@@ -22,7 +22,7 @@ use Rattle.sfi_rewrite.specs.Laws.{RewrittenIsTransparent}
 use Rattle.sfi_rewrite.specs.declared.slot.Slot.{Slot}
 use Rattle.sfi_rewrite.specs.declared.slot.Slot.TheVariants.{Wide, Short}
 use Rattle.sfi_rewrite.specs.declared.placed.PlacedName.{PlacedName}
-use Rattle.sfi_rewrite.specs.Slots.{slot_size, size_of, slots_of, c_nop}
+use Rattle.sfi_rewrite.specs.Slots.{size_of, slots_of, c_nop}
 use Rattle.sfi_rewrite.specs.Stack.{writes_stack, is_on_stack, stack_pair, put_back}
 use Rattle.sfi_rewrite.specs.Expansion.{jump_slots, IsAlone, IsMasked, IsExpansionOf}
 use Rattle.sfi_rewrite.specs.Placement.{Placement}
@@ -36,9 +36,8 @@ use Rattle.sfi_link.specs.Linked.{c_ebreak, IsLinked, AreLinkedFrom}
 use Rattle.sfi_link.specs.Standing.{AreResolvedTo, LinkedSlotsStand, RunsAs, LinkedRunsAs, LinkedImagesRunAs, SandboxesRunAs}
 use Rattle.sfi_link.proofs.CleanPlaces.{made}
 use Rattle.sfi_link.proofs.Region.{AreCut, cut, length_stubs}
-use Rattle.sfi_link.proofs.Sizes.{size_of-append}
+use Rattle.sfi_rewrite.proofs.Sizes.{size_of-append, size_nops}
 use Rattle.sfi_link.proofs.Parts.{slots_length, lies_well, linked_right}
-use Rattle.std.proofs.lemmas.List.Folds.{sum_by-replicate}
 use Rattle.std.proofs.lemmas.List.Elements.{All-head, All-tail}
 
 -- ---- which instruction an item becomes
@@ -64,16 +63,7 @@ jumping at names here rd a (negsuc n) slots e = plainly at names here (Jalr rd a
 aimed : (j i : Instr) (z : ℤ) (count name : ℕ) → IsBody count (To j name) → i ≡ with_offset z j → IsAimed j i
 aimed (Jal rd offset) i z count name b e = (z, e)
 aimed (Branch cond rs1 rs2 offset) i z count name b e = (z, e)
-aimed (Op op rd rs1 rs2) i z count name b e = absurd b.1
-aimed (OpImm op rd rs1 imm) i z count name b e = absurd b.1
-aimed (Load kind rd rs1 imm) i z count name b e = absurd b.1
-aimed (Store width rs1 rs2 imm) i z count name b e = absurd b.1
-aimed (Jalr rd rs1 imm) i z count name b e = absurd b.1
-aimed (Lui rd imm) i z count name b e = absurd b.1
-aimed (Auipc rd imm) i z count name b e = absurd b.1
-aimed (Fence imm rd rs1) i z count name b e = absurd b.1
-aimed Ecall i z count name b e = absurd b.1
-aimed Ebreak i z count name b e = absurd b.1
+aimed _ i z count name b e = absurd b.1
 
 -- the pair that puts the stack pointer back waits for no name
 pair_for : (at : Bases) (names : List PlacedName) (here : ℕ) (i : Instr) (writes : Bool) → AreResolvedTo at names here i (put_back writes)
@@ -84,15 +74,7 @@ masked : (at : Bases) (names : List PlacedName) (here : ℕ) (rvc : Bool) (i : I
 masked at names here rvc (Load kind rd a imm) slots e = plainly at names here (Load kind rd a imm) slots _ e (tt, (tt, (tt, tt)))
 masked at names here rvc (Store width a rs2 imm) slots e = plainly at names here (Store width a rs2 imm) slots _ e (tt, (tt, (tt, tt)))
 masked at names here rvc (Jalr rd a imm) slots e = jumping at names here rd a imm slots e
-masked at names here rvc (Op op rd rs1 rs2) slots e = alone at names here rvc (Op op rd rs1 rs2) slots e
-masked at names here rvc (OpImm op rd rs1 imm) slots e = alone at names here rvc (OpImm op rd rs1 imm) slots e
-masked at names here rvc (Branch cond rs1 rs2 offset) slots e = alone at names here rvc (Branch cond rs1 rs2 offset) slots e
-masked at names here rvc (Jal rd offset) slots e = alone at names here rvc (Jal rd offset) slots e
-masked at names here rvc (Lui rd imm) slots e = alone at names here rvc (Lui rd imm) slots e
-masked at names here rvc (Auipc rd imm) slots e = alone at names here rvc (Auipc rd imm) slots e
-masked at names here rvc (Fence imm rd rs1) slots e = alone at names here rvc (Fence imm rd rs1) slots e
-masked at names here rvc Ecall slots e = alone at names here rvc Ecall slots e
-masked at names here rvc Ebreak slots e = alone at names here rvc Ebreak slots e
+masked at names here rvc i slots e = alone at names here rvc i slots e
 
 plain : (at : Bases) (names : List PlacedName) (here : ℕ) (writes on rvc : Bool) (i : Instr) (slots : List Slot)
     → MatchBool writes (slots ≡ Wide i ∷ stack_pair) (MatchBool on (IsAlone rvc i slots) (IsMasked rvc i slots)) → Becomes at names here (Plain i) slots
@@ -131,9 +113,6 @@ held_inside m base pc front mid rest all holds e fits at = record {
       ap (byte_at m) a ∙ holds.each (length front + k) (omega arith) ∙ ap Some b;
 }
 
-nops_size : (n : ℕ) → size_of (replicate n c_nop) ≡ 2 * n
-nops_size n = let e = sum_by-replicate slot_size n c_nop in omega arith
-
 regroup : (before nops expanded after fill : List Slot) → (before ++ (nops ++ (expanded ++ after))) ++ fill ≡ (before ++ nops) ++ (expanded ++ (after ++ fill))
 regroup before nops expanded after fill =
     append_assoc before (nops ++ (expanded ++ after)) fill
@@ -165,14 +144,14 @@ item_runs_as given law stand number s p q k x sandbox r right linked at =
     ∙ (let a = length_stubs (length p.gates) in
     let c = slots_length b p.names b.start lead one.front one.first in
     let d = size_of-append st.before (replicate st.nops c_nop) in
-    let e = nops_size st.nops in
+    let e = size_nops st.nops in
     omega arith) in
     let mid_size : length two.front ≡ size_of st.expanded = slots_length b p.names here st.expanded two.front two.first in
     let fits : q.code_base + length q.code ≤ 2 ^ 32 = (lies_well given number p q linked).end in
     let place : here ≡ q.start + (size_of st.before + 2 * st.nops) =
     (let a = linked.start in
     let d = size_of-append st.before (replicate st.nops c_nop) in
-    let e = nops_size st.nops in
+    let e = size_nops st.nops in
     omega arith) in
     let start : q.start ≡ q.code_base + 16 * length p.gates = (let a = linked.start in let c = linked.code_base in omega arith) in
     record {

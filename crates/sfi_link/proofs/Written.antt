@@ -13,7 +13,7 @@ use Rattle.rv_comp.specs.Table.{row, allowed, fields_of, expansion}
 use Rattle.rv_comp.specs.Halfwords.{halfword_of}
 use Rattle.rv_comp.specs.Fronts.{Spells}
 use Rattle.rv_comp.specs.declared.form.Form16.{Form16}
-use Rattle.rv_comp.specs.declared.form.Form16.TheVariants.{CAddi4spn, CLw, CSw, CAddi, CJal, CLi, CAddi16sp, CLui, CSrli, CSrai, CAndi, CSub, CXor, COr, CAnd, CJ, CBeqz, CBnez, CSlli, CLwsp, CJr, CJalr, CMv, CAdd, CEbreak, CSwsp}
+use Rattle.rv_comp.specs.declared.form.Form16.TheVariants.{CAddi4spn}
 
 -- ---- a row of 16 bits makes a number of 16 bits
 
@@ -40,31 +40,7 @@ below v (bit_of f k ∷ bs) n m lt t =
 rows : (f : Form16) → (are_bits (row f) ≡ true) × (doubled 1 (row f) ≡ 65536)
 unfolding are_bits doubled
 rows (CAddi4spn _ _) = (refl, refl)
-rows (CLw _ _ _) = (refl, refl)
-rows (CSw _ _ _) = (refl, refl)
-rows (CAddi _ _) = (refl, refl)
-rows (CJal _) = (refl, refl)
-rows (CLi _ _) = (refl, refl)
-rows (CAddi16sp _) = (refl, refl)
-rows (CLui _ _) = (refl, refl)
-rows (CSrli _ _) = (refl, refl)
-rows (CSrai _ _) = (refl, refl)
-rows (CAndi _ _) = (refl, refl)
-rows (CSub _ _) = (refl, refl)
-rows (CXor _ _) = (refl, refl)
-rows (COr _ _) = (refl, refl)
-rows (CAnd _ _) = (refl, refl)
-rows (CJ _) = (refl, refl)
-rows (CBeqz _ _) = (refl, refl)
-rows (CBnez _ _) = (refl, refl)
-rows (CSlli _ _) = (refl, refl)
-rows (CLwsp _ _) = (refl, refl)
-rows (CJr _) = (refl, refl)
-rows (CJalr _) = (refl, refl)
-rows (CMv _ _) = (refl, refl)
-rows (CAdd _ _) = (refl, refl)
-rows CEbreak = (refl, refl)
-rows (CSwsp _ _) = (refl, refl)
+rows _ = (refl, refl)
 
 halfword_fits : (f : Form16) → halfword_of f < 2 ^ 16
 halfword_fits f =

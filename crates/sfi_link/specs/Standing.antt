@@ -12,7 +12,7 @@ use Rattle.sfi_image.specs.Spans.{code_region, data_region}
 use Rattle.sfi_image.specs.Images.{IsImage}
 use Rattle.sfi_place.specs.declared.place.Place.{Place}
 use Rattle.sfi_rewrite.specs.declared.slot.Slot.{Slot}
-use Rattle.sfi_rewrite.specs.declared.slot.Slot.TheVariants.{Wide, Short, Jump, Upper, Lower}
+use Rattle.sfi_rewrite.specs.declared.slot.Slot.TheVariants.{Wide, Short}
 use Rattle.sfi_rewrite.specs.declared.placed.PlacedName.{PlacedName}
 use Rattle.sfi_rewrite.specs.Slots.{slot_size, size_of}
 use Rattle.sfi_rewrite.specs.Placement.{Placement, IsPlacement}
@@ -29,11 +29,7 @@ use Rattle.sfi_link.specs.Building.{IsLinkedImage}
 abbrev pub IsResolvedTo : Bases → List PlacedName → ℕ → Instr → Slot → Type 0
 IsResolvedTo at names here i (Wide j) = Unit {0}
 IsResolvedTo at names here i (Short f) = Unit {0}
-IsResolvedTo at names here i (Jump j name line) = resolved at names here (Jump j name line) ≡ Some i
-IsResolvedTo at names here i (Upper rd name line) =
-    resolved at names here (Upper rd name line) ≡ Some i
-IsResolvedTo at names here i (Lower rd name line) =
-    resolved at names here (Lower rd name line) ≡ Some i
+IsResolvedTo at names here i s = resolved at names here s ≡ Some i
 
 -- the same of slots that stand one after another, from `here` on
 abbrev pub AreResolvedTo : Bases → List PlacedName → ℕ → Instr → List Slot → Type 0
