@@ -38,18 +38,15 @@ fault_one_way format sandbox end x (Ecall line) (TooLarge number) h k = absurd (
 fault_one_way format sandbox end x (TooLarge number) (ReservedRegister other) h k = absurd (both_ways _ k.0 h.0.operands)
 fault_one_way format sandbox end x (TooLarge number) (Ecall other) h k = absurd (both_ways _ k.1 h.0.no_ecall)
 fault_one_way format sandbox end x (TooLarge number) (TooLarge other) h k = ap TooLarge (h.2 ∙ sym k.2)
-fault_one_way format sandbox end x (ReservedRegister line) Memory h k = absurd k
-fault_one_way format sandbox end x (Ecall line) Memory h k = absurd k
-fault_one_way format sandbox end x (TooLarge number) Memory h k = absurd k
 fault_one_way format sandbox end x (StackWrite line) (ReservedRegister other) h k = absurd (both_ways _ k.0 h.0)
 fault_one_way format sandbox end x (StackWrite line) (Ecall other) h k = absurd (both_ways _ k.1 h.1)
 fault_one_way format sandbox end x (StackWrite line) (StackWrite other) h k = ap StackWrite (h.3 ∙ sym k.3)
 fault_one_way format sandbox end x (StackWrite line) (TooLarge number) h k = absurd (both_ways _ h.2 k.0.no_stack_write)
-fault_one_way format sandbox end x (StackWrite line) Memory h k = absurd k
 fault_one_way format sandbox end x (ReservedRegister line) (StackWrite other) h k = absurd (both_ways _ h.0 k.0)
 fault_one_way format sandbox end x (Ecall line) (StackWrite other) h k = absurd (both_ways _ h.1 k.1)
 fault_one_way format sandbox end x (TooLarge number) (StackWrite other) h k = absurd (both_ways _ k.2 h.0.no_stack_write)
 fault_one_way format sandbox end x Memory g h k = absurd h
+fault_one_way format sandbox end x _ _ h k = absurd k
 
 -- no item of some without a fault is too large
 fits_at : OneFirstForm → (format : Format) (items : List Item) (slots before : List Slot) (k : ℕ) (x : Item)

@@ -101,52 +101,39 @@ gap_free end size even few =
       )
     ]
 
-gap_labelled : (end size : ℕ) → end % 2 ≡ 0 → size ≤ 16 → (nops : ℕ) × FillsGap end true false size nops
-gap_labelled end size even few =
-    let at : end + 2 * ((next_bundle end - end) / 2) ≡ next_bundle end = omega arith in (
-      (next_bundle end - end) / 2,
-      record {
-        stands = record { after = omega arith; at_label = λ t. omega arith; in_bundle = omega arith; returns = λ t. absurd (not_so t) };
-        first = λ here m. let a = m.at_label refl in omega arith;
-      },
-    )
-
 gap_call : (end size : ℕ) → end % 2 ≡ 0 → size % 2 ≡ 0 → 0 < size → size ≤ 16 → (nops : ℕ) × FillsGap end false true size nops
 gap_call end size even even_size some few =
-    elim (cases_lt 16 (end % 16 + size)) [
-      | inl over ↦
-          let at : end + 2 * ((32 - size - end % 16) / 2) ≡ end - end % 16 + (32 - size) = omega arith in (
-            (32 - size - end % 16) / 2,
-            record {
-              stands = record { after = omega arith; at_label = λ t. absurd (not_so t); in_bundle = omega arith; returns = λ t. omega arith };
-              first = λ here m. let a = m.after in let b = m.in_bundle in let c = m.returns refl in omega arith;
-            },
-          )
-      | inr within ↦
-          let at : end + 2 * ((16 - size - end % 16) / 2) ≡ end - end % 16 + (16 - size) = omega arith in (
-            (16 - size - end % 16) / 2,
-            record {
-              stands = record { after = omega arith; at_label = λ t. absurd (not_so t); in_bundle = omega arith; returns = λ t. omega arith };
-              first = λ here m. let a = m.after in let b = m.in_bundle in let c = m.returns refl in omega arith;
-            },
-          )
-    ]
-
-gap_both : (end size : ℕ) → end % 2 ≡ 0 → size % 2 ≡ 0 → 0 < size → size ≤ 16 → (nops : ℕ) × FillsGap end true true size nops
-gap_both end size even even_size some few =
-    let at : end + 2 * ((next_bundle end + (16 - size) - end) / 2) ≡ next_bundle end + (16 - size) = omega arith in (
-      (next_bundle end + (16 - size) - end) / 2,
+    let nops = (16 - (end + size) % 16) % 16 / 2 in
+    let whole : (end + 2 * nops + size) % 16 ≡ 0 = omega arith in (
+      nops,
       record {
-        stands = record { after = omega arith; at_label = λ t. omega arith; in_bundle = omega arith; returns = λ t. omega arith };
-        first = λ here m. let a = m.at_label refl in let b = m.in_bundle in let c = m.returns refl in omega arith;
+        stands = record { after = omega arith; at_label = λ t. absurd (not_so t); in_bundle = omega arith; returns = λ t. whole };
+        first = λ here m. let a = m.after in let c = m.returns refl in omega arith;
       },
     )
 
+-- a label asks for its bundle start first
+gap_labelled : (end size nops : ℕ) (call : Bool) → end % 2 ≡ 0 → FillsGap (next_bundle end) false call size nops → FillsGap end true call size ((next_bundle end - end) / 2 + nops)
+gap_labelled end size nops call even g =
+    let at : next_bundle end + 2 * nops ≡ end + 2 * ((next_bundle end - end) / 2 + nops) = omega arith in record {
+      stands = record {
+        after = omega arith;
+        at_label = λ t. omega arith;
+        in_bundle = subst (λ (n : ℕ). n % 16 + size ≤ 16) at g.stands.in_bundle;
+        returns = λ t. subst (λ (n : ℕ). (n + size) % 16 ≡ 0) at (g.stands.returns t);
+      };
+      first = λ here m. let low = g.first here (record { after = m.at_label refl; at_label = λ t. absurd (not_so t); in_bundle = m.in_bundle; returns = m.returns }) in omega arith;
+    }
+
+gap_unlabelled : (end : ℕ) (call : Bool) (size : ℕ) → end % 2 ≡ 0 → size % 2 ≡ 0 → 0 < size → size ≤ 16 → (nops : ℕ) × FillsGap end false call size nops
+gap_unlabelled end false size even even_size some few = gap_free end size even few
+gap_unlabelled end true size even even_size some few = gap_call end size even even_size some few
+
 some_gap : (end : ℕ) (labelled call : Bool) (size : ℕ) → end % 2 ≡ 0 → size % 2 ≡ 0 → 0 < size → size ≤ 16 → (nops : ℕ) × FillsGap end labelled call size nops
-some_gap end false false size even even_size some few = gap_free end size even few
-some_gap end true false size even even_size some few = gap_labelled end size even few
-some_gap end false true size even even_size some few = gap_call end size even even_size some few
-some_gap end true true size even even_size some few = gap_both end size even even_size some few
+some_gap end false call size even even_size some few = gap_unlabelled end call size even even_size some few
+some_gap end true call size even even_size some few =
+    let after = gap_unlabelled (next_bundle end) call size (omega arith) even_size some few in
+    ((next_bundle end - end) / 2 + after.0, gap_labelled end size after.0 call even after.1)
 
 -- ---- bundles
 

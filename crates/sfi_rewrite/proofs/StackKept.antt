@@ -1,7 +1,7 @@
 -- What each expansion does.
 use Rattle.std.proofs.Common.{◌≡◌, ◌≢◌, ℕ, ◌+◌, ◌==◌, ◌&&◌, List, [], ◌∷◌, set, get_or, Bool, true, false, cond, Option, Some, None, refl, sym, ap, ◌∙◌, subst, arith}
 use Rattle.std.specs.Prelude.{bit_and, bit_or, MatchBool}
-use Rattle.std.proofs.lemmas.Bool.{eqb-true, true≢false}
+use Rattle.std.proofs.lemmas.Bool.{eqb-true, true≢false, and_parts, and_right}
 use Rattle.std.proofs.lemmas.List.{set-get_or}
 use Rattle.rv_word.specs.Numbers.{offset_by}
 use Rattle.rv_word.specs.Writes.{writes_register}
@@ -19,6 +19,7 @@ use Rattle.rv_step.specs.State.{Hart, State, IsState, register, with_register, w
 use Rattle.rv_step.specs.Step.{Stepped, Stands, after_load, effect, IsStep}
 use Rattle.rv_step.specs.Steps.{further, StandInRow, LeadsTo, LeadTo}
 use Rattle.rv_step.specs.Values.{load_size}
+use Rattle.rv_step.proofs.Pairs.{written_elsewhere}
 use Rattle.rv_source.specs.declared.item.Body.{Body}
 use Rattle.rv_source.specs.declared.item.Body.TheVariants.{Plain, To, High, Low}
 use Rattle.sfi_image.specs.declared.span.Span.{Span}
@@ -31,8 +32,7 @@ use Rattle.sfi_rewrite.specs.Expansion.{IsAlone, IsMasked, IsExpansionOf}
 use Rattle.sfi_rewrite.specs.Stack.{writes_stack, is_on_stack, is_stack_write, jumps_or_loads_x2, stack_pair, put_back}
 use Rattle.sfi_rewrite.specs.Laws.{ExpansionsAreTransparent}
 use Rattle.sfi_rewrite.specs.Transparency.{AreRegions, HasReserved, SlotStands, IsTransparent, at_pc, KeepsStack, ActsAs, IsAimed, MayBe}
-use Rattle.sfi_rewrite.proofs.Aside.{written_elsewhere}
-use Rattle.sfi_rewrite.proofs.Transparent.{stands_at, does, unmasked_data, alone_transparent, named_transparent, of_masked}
+use Rattle.sfi_rewrite.proofs.Transparent.{stands_at, does, twelve, unmasked_data, alone_transparent, named_transparent, of_masked}
 
 abbrev is_jump : Instr → Bool
 is_jump (Jal rd offset) = true
@@ -71,9 +71,6 @@ kept false l t = set-get_or l t 0
 -- a register that is written its own value
 written_same : (h : Hart) (t pc : ℕ) → with_register (with_pc h pc) t (register h t) ≡ with_pc h pc
 written_same h t pc = ap (λ (l : List ℕ). let k : Hart = record { pc = pc; registers = l } in k) (kept (t == 0) h.registers t)
-
-twelve : (pc : ℕ) → address_after (address_after pc 4) 8 ≡ address_after pc 12
-twelve pc = omega arith
 
 -- from the state after i, of which we know that it is s with x2 written
 from_there : PairLeaves → (c d : Span) (s one : State) (v : ℕ) → AreRegions c d → IsState one → HasReserved c d s.hart
@@ -147,12 +144,8 @@ writer false i h w = cc
 at_half : PairLeaves → StepKeepsState → (has : Bool) (i : Instr) (rd : ℕ) (x : Slot) (slots : List Slot) → writes_register 2 i ≡ (rd == 2) → is_jump i ≡ false → slot_size x ≡ 4
     → ((s : State) → SlotStands i s x → Stands s i 4) → slots ≡ x ∷ put_back (has && (rd == 2)) → MatchBool (has && writes_register 2 i) (KeepsStack i slots) (IsTransparent i slots)
 at_half pair keeps has i rd x slots e no_jump size stands h =
-    subst (λ (b : Bool). MatchBool (has && b) (KeepsStack i slots) (IsTransparent i slots)) (sym e) (cases (has && (rd == 2)) (λ both. e ∙ second has (rd == 2) both) h)
+    subst (λ (b : Bool). MatchBool (has && b) (KeepsStack i slots) (IsTransparent i slots)) (sym e) (cases (has && (rd == 2)) (λ both. e ∙ (and_parts has (rd == 2) both).1) h)
   where
-    second : (a b : Bool) → (a && b) ≡ true → b ≡ true
-    second true b z = z
-    second false b z = cc
-
     cases : (b : Bool) → (b ≡ true → writes_register 2 i ≡ true) → slots ≡ x ∷ put_back b → MatchBool b (KeepsStack i slots) (IsTransparent i slots)
     cases true w z = subst (λ (l : List Slot). KeepsStack i l) (sym z) (keeps_stack pair keeps i x (w refl) no_jump size stands)
     cases false w z = subst (λ (l : List Slot). IsTransparent i l) (sym z) (named_transparent i x size stands)
@@ -162,16 +155,12 @@ aimed : (b : Bool) (j i : Instr) (name line : ℕ) (slots : List Slot) → b ≡
 aimed true j i name line slots f h = absurd (true≢false f)
 aimed false j i name line slots f h = subst (λ (l : List Slot). IsTransparent i l) (sym h) (named_transparent i (Jump j name line) refl (λ s st. st))
 
-none_written : (a : Bool) → (a && false) ≡ false
-none_written true = refl
-none_written false = refl
-
 to_name : (f : Format) (j i : Instr) (name line : ℕ) (slots : List Slot) → IsAimed j i → is_stack_write f (To j name) ≡ false → slots ≡ Jump j name line ∷ [] → ActsAs f i slots
 to_name f (Jal rd offset) i name line slots a w h =
     subst (λ (k : Instr). ActsAs f k slots) (sym a.1) (aimed (is_stack f rd) (Jal rd offset) (Jal rd a.0) name line slots w h)
 to_name f (Branch cond rs1 rs2 offset) i name line slots a w h =
     subst (λ (k : Instr). ActsAs f k slots) (sym a.1)
-    (aimed (writes_stack f (Branch cond rs1 rs2 a.0)) (Branch cond rs1 rs2 offset) (Branch cond rs1 rs2 a.0) name line slots (none_written (has_stack f)) h)
+    (aimed (writes_stack f (Branch cond rs1 rs2 a.0)) (Branch cond rs1 rs2 offset) (Branch cond rs1 rs2 a.0) name line slots (and_right (has_stack f) false refl) h)
 to_name f _ i name line slots a w h = absurd a
 
 of_body : PairLeaves → StepKeepsState → (f : Format) (line : ℕ) (rvc : Bool) (body : Body) (i : Instr) (slots : List Slot) → MayBe body i → item_names_withheld body ≡ false

@@ -18,6 +18,7 @@ use Rattle.rv_step.specs.Laws.{PairLeaves, StepKeepsState}
 use Rattle.rv_step.specs.State.{Hart, State, IsState, register, with_register, with_pc}
 use Rattle.rv_step.specs.Step.{Stands, effect, IsStep}
 use Rattle.rv_step.specs.Steps.{further, StandInRow, LeadsTo, LeadTo}
+use Rattle.rv_step.proofs.Pairs.{written_here}
 use Rattle.sfi_image.specs.declared.span.Span.{Span}
 use Rattle.sfi_image.specs.Spans.{Holds}
 use Rattle.sfi_image.specs.Regions.{IsBundleStart}
@@ -29,7 +30,7 @@ use Rattle.sfi_rewrite.specs.Slots.{slot_size}
 use Rattle.sfi_rewrite.specs.Expansion.{data_pair_slots, code_pair_slots, jump_to_x31, jump_slots, IsAlone, IsMasked}
 use Rattle.sfi_rewrite.specs.Transparency.{AreRegions, HasReserved, SlotStands, IsSameAside, DoesAs, IsTransparent}
 use Rattle.sfi_rewrite.proofs.Unmoved.{unmoved_data, unmoved_code}
-use Rattle.sfi_rewrite.proofs.Aside.{Aside, aside_scratch, written_here, loads_same, stores_same, jumps_same, plus_zero, added, plus_fits}
+use Rattle.sfi_rewrite.proofs.Aside.{Aside, aside_scratch, loads_same, stores_same, jumps_same, plus_zero, added, plus_fits}
 
 -- ---- what stands at a pc
 
@@ -68,7 +69,7 @@ unmasked_code c d h x regions reserved start =
 eight : (pc : ℕ) → address_after (address_after pc 4) 4 ≡ address_after pc 8
 eight pc = omega arith
 
-twelve : (pc : ℕ) → address_after (address_after pc 4) 8 ≡ address_after pc 12
+pub twelve : (pc : ℕ) → address_after (address_after pc 4) 8 ≡ address_after pc 12
 twelve pc = omega arith
 
 scratch_is : (s : State) (pc v : ℕ) → IsState s → register (scratched s pc v).hart 31 ≡ v
