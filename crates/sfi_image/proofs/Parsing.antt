@@ -32,10 +32,6 @@ fault_of_front x s rest bytes k e h = subst (λ (l : List ℕ). IsFault l k) (ap
 pub whole_code_leads : (old new : ReaderState) (x : Front) (s : List ℕ) → StandsFor old x → old.next ≡ next.Code → old.code_read + length s ≡ old.fields.code_size
     → new.count ≡ old.count → new.begun ≡ old.begun → new.spans ≡ old.spans → new.fields ≡ old.fields → new.gates ≡ old.gates → new.init_read ≡ old.init_read
     → new.next ≡ next_code old.fields.code_size old.fields.code_size old.fields.init_len old.begun old.count → Leads x s new
-whole_code_leads old new Empty s h is len count begun spans_are fields_are gates i to = let k = h.kept.0 in absurd cc
-whole_code_leads old new (AfterMagic format) s h is len count begun spans_are fields_are gates i to = let k = h.kept.0 in absurd cc
-whole_code_leads old new (AfterCount format n ps) s h is len count begun spans_are fields_are gates i to = let k = h.kept.0 in absurd cc
-whole_code_leads old new (InGates n ps f gs) s h is len count begun spans_are fields_are gates i to = let k = h.kept.0 in absurd cc
 whole_code_leads old new (InCode n ps f gs code) s h is len count begun spans_are fields_are gates i to =
     let k = h.kept.1 in
     let all : length (code ++ s) ≡ f.code_size = omega (arith, length-append code s, k.code_read, ap (λ (y : Fields). y.code_size) k.head.fields) in
@@ -51,8 +47,7 @@ whole_code_leads old new (InCode n ps f gs code) s h is len count begun spans_ar
       gates = gates ∙ k.head.gates;
     }) (i ∙ k.init_read) where_to in
     leads (InCode n ps f gs code) s new (after_code n ps f gs (code ++ s)) h.right refl (rw (test') stands)
-whole_code_leads old new (InInit n ps f gs code init) s h is len count begun spans_are fields_are gates i to = let k = h.kept.0 in absurd cc
-whole_code_leads old new (Whole ps) s h is len count begun spans_are fields_are gates i to = let k = h.kept.0 in absurd cc
+whole_code_leads old new _ s h is len count begun spans_are fields_are gates i to = let k = h.kept.0 in absurd cc
 
 -- fewer bytes than may be taken are fewer than come next
 pub less_taken : (r : ReaderState) (x : Front) (len m : ℕ) → StandsFor r x → MayTake r len → m < len → IsLess m (want_of x)
@@ -62,11 +57,7 @@ less_taken r (InInit n ps f gs code init) len m h may lt =
     let same : r.fields.init_len ≡ f.init_len = ap (λ (y : Fields). y.init_len) h.kept.1.fields in
     omega arith
 less_taken r (Whole ps) len m h may lt = absurd (rw (h.kept.0) at may)
-less_taken r Empty len m h may lt = let is = rw (h.kept.0) at may in omega arith
-less_taken r (AfterMagic format) len m h may lt = let is = rw (h.kept.0) at may in omega arith
-less_taken r (AfterCount format n ps) len m h may lt = let is = rw (h.kept.0) at may in omega arith
-less_taken r (InGates n ps f gs) len m h may lt = let is = rw (h.kept.0) at may in omega arith
-less_taken r (InCode n ps f gs code) len m h may lt = let is = rw (h.kept.0) at may in omega arith
+less_taken r _ len m h may lt = let is = rw (h.kept.0) at may in omega arith
 
 -- there is a gate to read
 pub at_gate : (r : ReaderState) (n : ℕ) (ps : List Part) (f : Fields) (gs : List Gate) → StandsFor r (after_gates n ps f gs) → length gs < f.gate_count → StandsFor r (InGates n ps f gs)

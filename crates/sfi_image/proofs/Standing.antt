@@ -40,12 +40,7 @@ pub magic_leads : (old new : ReaderState) (x : Front) (s : List ℕ) (format : F
     → new.next ≡ next.Count → new.spans ≡ old.spans → new.fields.format ≡ format → Leads x s new
 magic_leads old new Empty s format h is e to spans_are kind =
     leads Empty s new (AfterMagic format) tt (format, e, refl) (record { right = tt; kept = (to, spans_are ∙ h.kept.1, kind) })
-magic_leads old new (AfterMagic k') s format h is e to spans_are kind = let k = h.kept.0 in absurd cc
-magic_leads old new (AfterCount k' n ps) s format h is e to spans_are kind = let k = h.kept.0 in absurd cc
-magic_leads old new (InGates n ps f gs) s format h is e to spans_are kind = let k = h.kept.0 in absurd cc
-magic_leads old new (InCode n ps f gs code) s format h is e to spans_are kind = let k = h.kept.0 in absurd cc
-magic_leads old new (InInit n ps f gs code init) s format h is e to spans_are kind = let k = h.kept.0 in absurd cc
-magic_leads old new (Whole ps) s format h is e to spans_are kind = let k = h.kept.0 in absurd cc
+magic_leads old new _ s format h is e to spans_are kind = let k = h.kept.0 in absurd cc
 
 none_of : (format : Format) → AreOf format []
 none_of format = λ k d h. absurd (omega arith)
@@ -55,17 +50,12 @@ none_right = record { each = λ k d h. absurd (omega arith); apart = λ i j d h 
 
 pub count_leads : (old : ReaderState) (x : Front) (s : List ℕ) (n : ℕ) → StandsFor old x → old.next ≡ next.Count → s ≡ number n → 1 ≤ n → n ≤ 16
     → Leads x s (record old { next = next.Fields; count = n; begun = 0 })
-count_leads old Empty s n h is e low high = let k = h.kept.0 in absurd cc
 count_leads old (AfterMagic format) s n h is e low high =
     leads (AfterMagic format) s _ (AfterCount format n []) tt (n, e, refl) (record {
       right = (record { at_least = low; at_most = high; one_format = none_of format; right = none_right }, omega arith);
       kept = (refl, record { of = h.kept.2; count = refl; begun = refl; spans = h.kept.1 });
     })
-count_leads old (AfterCount format n' ps) s n h is e low high = let k = h.kept.0 in absurd cc
-count_leads old (InGates n' ps f gs) s n h is e low high = let k = h.kept.0 in absurd cc
-count_leads old (InCode n' ps f gs code) s n h is e low high = let k = h.kept.0 in absurd cc
-count_leads old (InInit n' ps f gs code init) s n h is e low high = let k = h.kept.0 in absurd cc
-count_leads old (Whole ps) s n h is e low high = let k = h.kept.0 in absurd cc
+count_leads old _ s n h is e low high = let k = h.kept.0 in absurd cc
 
 -- ---- gates ahead
 
