@@ -2,8 +2,8 @@
 use Rattle.std.proofs.Common.{◌≡◌, ℕ, zero, suc, ◌+◌, ◌-◌, ◌*◌, ◌/◌, ◌%◌, ◌<◌, ◌≤◌, List, [], ◌∷◌, ◌++◌, length, take, get_or, replicate, Some, refl, sym, ap, ◌∙◌, subst, arith, append_assoc, append-nil, inl, inr, ◌⊎◌}
 use Rattle.std.specs.Prelude.{Bool, true, false, MatchBool, Contains}
 use Rattle.std.specs.List.{AllZip}
-use Rattle.std.proofs.lemmas.Bool.{cases_lt, cases_eq}
-use Rattle.std.proofs.lemmas.List.{take_all}
+use Rattle.std.proofs.lemmas.Bool.{cases_lt, cases_eq, cases_Bool, false≢true}
+use Rattle.std.proofs.lemmas.List.{take_all, get_or_default}
 use Rattle.std.proofs.lemmas.List.Elements.{Contains-append_right}
 use Rattle.std.proofs.lemmas.Map.Made.{Contains-tail}
 use Rattle.std.proofs.lemmas.Option.{slice_get-get_or}
@@ -76,9 +76,6 @@ some_expansion law f x = some_expansion_of law f x.line x.rvc x.body
 
 -- ---- its place
 
-not_so : false ≡ true → ⊥
-not_so e = cc
-
 -- where neither a label nor a call asks for more
 gap_free : (end size : ℕ) → end % 2 ≡ 0 → size ≤ 16 → (nops : ℕ) × FillsGap end false false size nops
 gap_free end size even few =
@@ -88,14 +85,14 @@ gap_free end size even few =
           let at : end + 2 * ((16 - end % 16) / 2) ≡ end - end % 16 + 16 = omega arith in (
             nops,
             record {
-              stands = record { after = omega arith; at_label = λ t. absurd (not_so t); in_bundle = omega arith; returns = λ t. absurd (not_so t) };
+              stands = record { after = omega arith; at_label = λ t. absurd (false≢true t); in_bundle = omega arith; returns = λ t. absurd (false≢true t) };
               first = λ here m. let a = m.after in let b = m.in_bundle in omega arith;
             },
           )
       | inr within ↦ (
         0,
         record {
-          stands = record { after = omega arith; at_label = λ t. absurd (not_so t); in_bundle = omega arith; returns = λ t. absurd (not_so t) };
+          stands = record { after = omega arith; at_label = λ t. absurd (false≢true t); in_bundle = omega arith; returns = λ t. absurd (false≢true t) };
           first = λ here m. let a = m.after in omega arith;
         },
       )
@@ -107,7 +104,7 @@ gap_call end size even even_size some few =
     let whole : (end + 2 * nops + size) % 16 ≡ 0 = omega arith in (
       nops,
       record {
-        stands = record { after = omega arith; at_label = λ t. absurd (not_so t); in_bundle = omega arith; returns = λ t. whole };
+        stands = record { after = omega arith; at_label = λ t. absurd (false≢true t); in_bundle = omega arith; returns = λ t. whole };
         first = λ here m. let a = m.after in let c = m.returns refl in omega arith;
       },
     )
@@ -122,7 +119,7 @@ gap_labelled end size nops call even g =
         in_bundle = subst (λ (n : ℕ). n % 16 + size ≤ 16) at g.stands.in_bundle;
         returns = λ t. subst (λ (n : ℕ). (n + size) % 16 ≡ 0) at (g.stands.returns t);
       };
-      first = λ here m. let low = g.first here (record { after = m.at_label refl; at_label = λ t. absurd (not_so t); in_bundle = m.in_bundle; returns = m.returns }) in omega arith;
+      first = λ here m. let low = g.first here (record { after = m.at_label refl; at_label = λ t. absurd (false≢true t); in_bundle = m.in_bundle; returns = m.returns }) in omega arith;
     }
 
 gap_unlabelled : (end : ℕ) (call : Bool) (size : ℕ) → end % 2 ≡ 0 → size % 2 ≡ 0 → 0 < size → size ≤ 16 → (nops : ℕ) × FillsGap end false call size nops
@@ -166,17 +163,13 @@ push_nops (suc n) code b =
 
 -- ---- an item after others
 
-two_ways : (b : Bool) → (b ≡ true) ⊎ (b ≡ false)
-two_ways true = inl refl
-two_ways false = inr refl
-
 permitted_or_not : (f : Format) (sandbox end : ℕ) (x : Item) → IsPermitted f x ⊎ ((e : RewriteFault) × HasFault f sandbox end x e)
 permitted_or_not f sandbox end x =
-    elim (two_ways (item_names_withheld x.body)) [
+    elim (cases_Bool (item_names_withheld x.body)) [
       | inl names ↦ inr (fault.ReservedRegister x.line, (names, refl))
-      | inr none ↦ elim (two_ways (is_ecall x.body)) [
+      | inr none ↦ elim (cases_Bool (is_ecall x.body)) [
         | inl calls ↦ inr (fault.Ecall x.line, (none, calls, refl))
-        | inr quiet ↦ elim (two_ways (is_stack_write f x.body)) [
+        | inr quiet ↦ elim (cases_Bool (is_stack_write f x.body)) [
           | inl writes ↦ inr (fault.StackWrite x.line, (none, quiet, writes, refl))
           | inr not ↦ inl (record { operands = none; no_ecall = quiet; no_stack_write = not })
         ]
@@ -223,9 +216,6 @@ record Laid (f : Format) (items : List Item) : Type 0 where
 any_item : Item
 any_item = record { line = 0; labelled = false; rvc = false; body = Plain Ecall }
 
-same_there : {X : Type 0} (xs : List X) (k : ℕ) (d : X) → k < length xs → get_or xs k d ≡ get_or xs k (get_or xs k d)
-same_there xs k d lt = let e : Some (get_or xs k d) ≡ Some (get_or xs k (get_or xs k d)) = sym (slice_get-get_or xs k d lt) ∙ slice_get-get_or xs k (get_or xs k d) lt in cc
-
 items_on : SomeFirstForm → (f : Format) (sandbox : ℕ) (items : List Item) (d k : ℕ) → k + d ≡ length items → Laid f (take k items)
     → Laid f items ⊎ ((e : RewriteFault) × IsItemFault f sandbox items e)
 items_on law f sandbox items zero k all l = inl (subst (Laid f) (take_all k items (omega arith)) l)
@@ -241,7 +231,7 @@ items_on law f sandbox items (suc d) k all l =
             items_on law f sandbox items d (k + 1) (omega arith)
             (record {
               code = longer.now;
-              faultless = one_more f items k x l.code longer.now lt (same_there items k any_item lt) l.faultless right longer.next;
+              faultless = one_more f items k x l.code longer.now lt (get_or_default items k any_item x lt) l.faultless right longer.next;
               bundled = longer.bundled;
             })
       ]
@@ -325,7 +315,7 @@ sandboxes_on law source zero k placed all z = inl (placed, subst (λ (v : List S
 sandboxes_on law source (suc d) k placed all z =
     let lt : k < length source = omega arith in
     let s = get_or source k any_sandbox in
-    let same = same_there source k any_sandbox lt in
+    let same = get_or_default source k any_sandbox s lt in
     elim (laid_or_fault law s.format k s.items) [
       | inr wrong ↦ inr (wrong.0, faulty source k k s placed wrong.0 lt same z refl wrong.1)
       | inl laid ↦
