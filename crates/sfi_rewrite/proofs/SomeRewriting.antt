@@ -9,7 +9,7 @@ use Rattle.std.proofs.lemmas.Map.Made.{Contains-tail}
 use Rattle.std.proofs.lemmas.Option.{slice_get-get_or}
 use Rattle.rv_word.specs.declared.instr.Instr.{Instr}
 use Rattle.rv_word.specs.declared.instr.Instr.TheVariants.{Load, Store, Jalr, Ecall}
-use Rattle.rv_comp.specs.Laws.{SomeFirstForm}
+use Rattle.rv_comp.proofs.Firsts.{some_first}
 use Rattle.sfi_policy.specs.declared.format.Format.{Format}
 use Rattle.sfi_policy.specs.declared.format.Format.TheVariants.{Sfi1}
 use Rattle.sfi_policy.specs.Formats.{code_most, is_stack}
@@ -45,34 +45,34 @@ use Rattle.sfi_rewrite.proofs.Sources.{faulty, parts_push}
 
 -- ---- the expansion of an item
 
-some_alone : SomeFirstForm → (rvc : Bool) (i : Instr) → (slots : List Slot) × IsAlone rvc i slots
-some_alone law false i = (Wide i ∷ [], refl)
-some_alone law true i =
-    elim (law i) [
+some_alone : (rvc : Bool) (i : Instr) → (slots : List Slot) × IsAlone rvc i slots
+some_alone false i = (Wide i ∷ [], refl)
+some_alone true i =
+    elim (some_first i) [
       | inl form ↦ (Short form.0 ∷ [], inl (form.0, form.1, refl))
       | inr none ↦ (Wide i ∷ [], inr (none, refl))
     ]
 
-some_masked : SomeFirstForm → (rvc : Bool) (i : Instr) → (slots : List Slot) × IsMasked rvc i slots
-some_masked law rvc (Load kind rd a imm) = (data_pair_slots a ++ Wide (Load kind rd 31 imm) ∷ [], refl)
-some_masked law rvc (Store width a rs2 imm) = (data_pair_slots a ++ Wide (Store width 31 rs2 imm) ∷ [], refl)
-some_masked law rvc (Jalr rd a imm) = (jump_slots rd a imm, refl)
-some_masked law rvc other = some_alone law rvc other
+some_masked : (rvc : Bool) (i : Instr) → (slots : List Slot) × IsMasked rvc i slots
+some_masked rvc (Load kind rd a imm) = (data_pair_slots a ++ Wide (Load kind rd 31 imm) ∷ [], refl)
+some_masked rvc (Store width a rs2 imm) = (data_pair_slots a ++ Wide (Store width 31 rs2 imm) ∷ [], refl)
+some_masked rvc (Jalr rd a imm) = (jump_slots rd a imm, refl)
+some_masked rvc other = some_alone rvc other
 
-some_plain : SomeFirstForm → (writes on rvc : Bool) (i : Instr)
+some_plain : (writes on rvc : Bool) (i : Instr)
     → (slots : List Slot) × MatchBool writes (slots ≡ Wide i ∷ stack_pair) (MatchBool on (IsAlone rvc i slots) (IsMasked rvc i slots))
-some_plain law true on rvc i = (Wide i ∷ stack_pair, refl)
-some_plain law false true rvc i = some_alone law rvc i
-some_plain law false false rvc i = some_masked law rvc i
+some_plain true on rvc i = (Wide i ∷ stack_pair, refl)
+some_plain false true rvc i = some_alone rvc i
+some_plain false false rvc i = some_masked rvc i
 
-some_expansion_of : SomeFirstForm → (f : Format) (line : ℕ) (rvc : Bool) (body : Body) → (slots : List Slot) × IsExpansionOf f line rvc body slots
-some_expansion_of law f line rvc (Plain i) = some_plain law (writes_stack f i) (is_on_stack f i) rvc i
-some_expansion_of law f line rvc (To i name) = (Jump i name line ∷ [], refl)
-some_expansion_of law f line rvc (High rd name) = (Upper rd name line ∷ put_back (is_stack f rd), refl)
-some_expansion_of law f line rvc (Low rd name) = (Lower rd name line ∷ put_back (is_stack f rd), refl)
+some_expansion_of : (f : Format) (line : ℕ) (rvc : Bool) (body : Body) → (slots : List Slot) × IsExpansionOf f line rvc body slots
+some_expansion_of f line rvc (Plain i) = some_plain (writes_stack f i) (is_on_stack f i) rvc i
+some_expansion_of f line rvc (To i name) = (Jump i name line ∷ [], refl)
+some_expansion_of f line rvc (High rd name) = (Upper rd name line ∷ put_back (is_stack f rd), refl)
+some_expansion_of f line rvc (Low rd name) = (Lower rd name line ∷ put_back (is_stack f rd), refl)
 
-some_expansion : SomeFirstForm → (f : Format) (x : Item) → (slots : List Slot) × IsExpansion f x slots
-some_expansion law f x = some_expansion_of law f x.line x.rvc x.body
+some_expansion : (f : Format) (x : Item) → (slots : List Slot) × IsExpansion f x slots
+some_expansion f x = some_expansion_of f x.line x.rvc x.body
 
 -- ---- its place
 
@@ -182,10 +182,10 @@ record Longer (f : Format) (code : List Slot) (x : Item) : Type 0 where
   next : HasNext f code x now
   bundled : InBundles now
 
-next_or_large : SomeFirstForm → (f : Format) (sandbox : ℕ) (code : List Slot) (x : Item) → InBundles code → IsPermitted f x
+next_or_large : (f : Format) (sandbox : ℕ) (code : List Slot) (x : Item) → InBundles code → IsPermitted f x
     → Longer f code x ⊎ ((e : RewriteFault) × HasFault f sandbox (size_of code) x e)
-next_or_large law f sandbox code x b p =
-    let made = some_expansion law f x in
+next_or_large f sandbox code x b p =
+    let made = some_expansion f x in
     let slots = made.0 in
     let one = expansion_one f x slots made.1 in
     let gap = some_gap (size_of code) x.labelled (is_call x.body) (size_of slots) (size_even code) (size_even slots) one.some one.few in
@@ -216,19 +216,19 @@ record Laid (f : Format) (items : List Item) : Type 0 where
 any_item : Item
 any_item = record { line = 0; labelled = false; rvc = false; body = Plain Ecall }
 
-items_on : SomeFirstForm → (f : Format) (sandbox : ℕ) (items : List Item) (d k : ℕ) → k + d ≡ length items → Laid f (take k items)
+items_on : (f : Format) (sandbox : ℕ) (items : List Item) (d k : ℕ) → k + d ≡ length items → Laid f (take k items)
     → Laid f items ⊎ ((e : RewriteFault) × IsItemFault f sandbox items e)
-items_on law f sandbox items zero k all l = inl (subst (Laid f) (take_all k items (omega arith)) l)
-items_on law f sandbox items (suc d) k all l =
+items_on f sandbox items zero k all l = inl (subst (Laid f) (take_all k items (omega arith)) l)
+items_on f sandbox items (suc d) k all l =
     let lt : k < length items = omega arith in
     let x = get_or items k any_item in
     let there = slice_get-get_or items k any_item lt in
     elim (permitted_or_not f sandbox (size_of l.code) x) [
       | inr wrong ↦ inr (wrong.0, record { index = k; item = x; at = there; before = l.code; faultless = l.faultless; has = wrong.1 })
-      | inl right ↦ elim (next_or_large law f sandbox l.code x l.bundled right) [
+      | inl right ↦ elim (next_or_large f sandbox l.code x l.bundled right) [
         | inr wrong ↦ inr (wrong.0, record { index = k; item = x; at = there; before = l.code; faultless = l.faultless; has = wrong.1 })
         | inl longer ↦
-            items_on law f sandbox items d (k + 1) (omega arith)
+            items_on f sandbox items d (k + 1) (omega arith)
             (record {
               code = longer.now;
               faultless = one_more f items k x l.code longer.now lt (get_or_default items k any_item x lt) l.faultless right longer.next;
@@ -237,9 +237,9 @@ items_on law f sandbox items (suc d) k all l =
       ]
     ]
 
-laid_or_fault : SomeFirstForm → (f : Format) (sandbox : ℕ) (items : List Item) → Laid f items ⊎ ((e : RewriteFault) × IsItemFault f sandbox items e)
-laid_or_fault law f sandbox items =
-    items_on law f sandbox items (length items) 0 (omega arith) (record { code = []; faultless = none_faultless f items [] refl; bundled = record { bundles = []; whole = refl; right = tt } })
+laid_or_fault : (f : Format) (sandbox : ℕ) (items : List Item) → Laid f items ⊎ ((e : RewriteFault) × IsItemFault f sandbox items e)
+laid_or_fault f sandbox items =
+    items_on f sandbox items (length items) 0 (omega arith) (record { code = []; faultless = none_faultless f items [] refl; bundled = record { bundles = []; whole = refl; right = tt } })
 
 -- ---- a sandbox
 
@@ -309,19 +309,19 @@ part_made s l =
 any_sandbox : Sandbox
 any_sandbox = record { format = Sfi1; data_size = 0; gates = []; names = []; items = []; bytes = [] }
 
-sandboxes_on : SomeFirstForm → (source : List Sandbox) (d k : ℕ) (placed : List Placement) → k + d ≡ length source → AllZip IsRewritten (take k source) placed
+sandboxes_on : (source : List Sandbox) (d k : ℕ) (placed : List Placement) → k + d ≡ length source → AllZip IsRewritten (take k source) placed
     → ((all : List Placement) × AreRewritten source all) ⊎ ((e : RewriteFault) × IsSourceFault source e)
-sandboxes_on law source zero k placed all z = inl (placed, subst (λ (v : List Sandbox). AllZip IsRewritten v placed) (take_all k source (omega arith)) z)
-sandboxes_on law source (suc d) k placed all z =
+sandboxes_on source zero k placed all z = inl (placed, subst (λ (v : List Sandbox). AllZip IsRewritten v placed) (take_all k source (omega arith)) z)
+sandboxes_on source (suc d) k placed all z =
     let lt : k < length source = omega arith in
     let s = get_or source k any_sandbox in
     let same = get_or_default source k any_sandbox s lt in
-    elim (laid_or_fault law s.format k s.items) [
+    elim (laid_or_fault s.format k s.items) [
       | inr wrong ↦ inr (wrong.0, faulty source k k s placed wrong.0 lt same z refl wrong.1)
       | inl laid ↦
           let made = part_made s laid in
-          sandboxes_on law source d (k + 1) (placed ++ made.0 ∷ []) (omega arith) (parts_push source k s placed (placed ++ made.0 ∷ []) made.0 lt same z made.1 refl)
+          sandboxes_on source d (k + 1) (placed ++ made.0 ∷ []) (omega arith) (parts_push source k s placed (placed ++ made.0 ∷ []) made.0 lt same z made.1 refl)
     ]
 
-pub some_rewriting : SomeFirstForm → SomeRewriting
-some_rewriting law source = sandboxes_on law source (length source) 0 [] (omega arith) tt
+pub some_rewriting : SomeRewriting
+some_rewriting source = sandboxes_on source (length source) 0 [] (omega arith) tt

@@ -9,12 +9,6 @@ use Rattle.sfi_link.specs.Linked.{AreLinkedFrom}
 use Rattle.sfi_link.specs.Texts.{IsBuildFault, IsWantOfMemory}
 use Rattle.sfi_link.specs.Names.{MapEntry, IsTextMap}
 
--- the names that were found are the text's map, or it has the fault, or memory ran out:
--- a word of a private contract
-abbrev pub Maps : List Place → List ℕ → Result (Vec MapEntry Global) BuildFault → Type 0
-Maps given text (Ok v) = IsTextMap given text v.items
-Maps given text (Err f) = IsWantOfMemory f ⊎ IsBuildFault given text f
-
 -- the placed sandboxes make those of an image at the given places
 abbrev pub CanBeLinked : List Place → List Placement → Type 0
 CanBeLinked given placed = (parts : List Part) × AreLinkedFrom given 0 placed parts

@@ -1,0 +1,5 @@
+-- The laws of this crate as lemmas, for proofs of this crate and of those above.
+pub use Rattle.sfi_rewrite.proofs.Laid.{expansion_one_way as one_expansion}
+pub use Rattle.sfi_rewrite.proofs.OneWay.{placement_one_way as one_placement, rewriting_one_way as one_rewriting}
+pub use Rattle.sfi_rewrite.proofs.OneFault.{source_fault_one_way as one_fault, rewritten_has_none as never_both}
+pub use Rattle.sfi_rewrite.proofs.SomeRewriting.{some_rewriting}
