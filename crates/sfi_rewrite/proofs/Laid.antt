@@ -4,7 +4,7 @@ use Rattle.std.specs.Prelude.{Bool, true, false, MatchBool}
 use Rattle.rv_word.specs.declared.instr.Instr.{Instr}
 use Rattle.rv_word.specs.declared.instr.Instr.TheVariants.{Load, Store, Jalr}
 use Rattle.rv_comp.specs.declared.form.Form16.{Form16}
-use Rattle.rv_comp.proofs.Firsts.{first_one}
+use Rattle.rv_comp.proofs.Facts.{one_first_form}
 use Rattle.sfi_policy.specs.declared.format.Format.{Format}
 use Rattle.rv_source.specs.declared.item.Item.{Item}
 use Rattle.rv_source.specs.declared.item.Body.{Body}
@@ -88,7 +88,7 @@ alone_one_way false i a b x y = x ∙ sym y
 alone_one_way true i a b x y = cases x y
   where
     cases : IsAlone true i a → IsAlone true i b → a ≡ b
-    cases (inl x) (inl y) = x.2 ∙ ap (λ (f : Form16). Short f ∷ []) (first_one i x.0 y.0 x.1 y.1) ∙ sym y.2
+    cases (inl x) (inl y) = x.2 ∙ ap (λ (f : Form16). Short f ∷ []) (one_first_form i x.0 y.0 x.1 y.1) ∙ sym y.2
     cases (inl x) (inr y) = absurd (y.0 x.0 x.1.meets x.1.expands)
     cases (inr x) (inl y) = absurd (x.0 y.0 y.1.meets y.1.expands)
     cases (inr x) (inr y) = x.1 ∙ sym y.1

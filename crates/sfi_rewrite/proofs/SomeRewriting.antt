@@ -9,7 +9,7 @@ use Rattle.std.proofs.lemmas.Map.Made.{Contains-tail}
 use Rattle.std.proofs.lemmas.Option.{slice_get-get_or}
 use Rattle.rv_word.specs.declared.instr.Instr.{Instr}
 use Rattle.rv_word.specs.declared.instr.Instr.TheVariants.{Load, Store, Jalr, Ecall}
-use Rattle.rv_comp.proofs.Firsts.{some_first}
+use Rattle.rv_comp.proofs.Facts.{some_first_form}
 use Rattle.sfi_policy.specs.declared.format.Format.{Format}
 use Rattle.sfi_policy.specs.declared.format.Format.TheVariants.{Sfi1}
 use Rattle.sfi_policy.specs.Formats.{code_most, is_stack}
@@ -48,7 +48,7 @@ use Rattle.sfi_rewrite.proofs.Sources.{faulty, parts_push}
 some_alone : (rvc : Bool) (i : Instr) → (slots : List Slot) × IsAlone rvc i slots
 some_alone false i = (Wide i ∷ [], refl)
 some_alone true i =
-    elim (some_first i) [
+    elim (some_first_form i) [
       | inl form ↦ (Short form.0 ∷ [], inl (form.0, form.1, refl))
       | inr none ↦ (Wide i ∷ [], inr (none, refl))
     ]

@@ -1,9 +1,6 @@
 //! What holds of every source. A call costs nothing: it has the statement at hand.
 ghost use Rattle.sfi_rewrite.specs.Laws.{OneExpansion, OnePlacement, OneRewriting, OneFault, NeverBoth, SomeRewriting, RewrittenIsPlaced, ExpansionsAreTransparent, RewrittenIsTransparent, TransparencyCanBeMet};
 
-use rv_mem::laws::{addresses_are_these, others_stay, read_is_held, written_is_there};
-use rv_step::laws::{pair_leaves, step_keeps_state};
-
 /// An item has at most one expansion.
 pub fn one_expansion()
     ensures { OneExpansion }
@@ -44,24 +41,14 @@ pub fn rewritten_is_placed()
 /// that writes the stack pointer it keeps what that leaves.
 pub fn expansions_are_transparent()
     ensures { ExpansionsAreTransparent }
-{
-    pair_leaves();
-    step_keeps_state();
-}
+{}
 
 /// Each instruction of a source stands transparent in what is placed.
 pub fn rewritten_is_transparent()
     ensures { RewrittenIsTransparent }
-{
-    expansions_are_transparent();
-}
+{}
 
 /// What transparency asks of a sandbox and its state can be met.
 pub fn transparency_can_be_met()
     ensures { TransparencyCanBeMet }
-{
-    addresses_are_these();
-    others_stay();
-    read_is_held();
-    written_is_there();
-}
+{}

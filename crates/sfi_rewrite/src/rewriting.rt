@@ -13,7 +13,6 @@ ghost use Rattle.sfi_rewrite.specs.Rewriting.{IsRewritten, AreRewritten, Answers
 
 use crate::fault::RewriteFault;
 use crate::filling::Filling;
-use crate::laws::rewritten_is_transparent;
 use crate::laying::lay_items;
 use crate::names::{has_end_label, place_names};
 use crate::place::nops_at_end;
@@ -88,8 +87,5 @@ pub fn rewrite(alloc: Global, source: &Source) -> Result<Placed, RewriteFault>
     ensures only_fault { (fault : RewriteFault)
         → IsSourceFault source.now fault → AnswersFault fault result }
 {
-    // The law that a clause rests on: this call does nothing.
-    rewritten_is_transparent();
-
     Ok(Placed::new(place_parts(alloc, source.parts())?))
 }

@@ -28,6 +28,6 @@ returns-clause-only_fault c fault is =
 
 pub returns-clause-transparent : goal.returns-clause-transparent
 returns-clause-transparent c =
-    all_stand c.rewritten_is_transparent.ensures c.args.source.now c.new.result
+    all_stand c.args.source.now c.new.result
     (subst (λ v. AllZip IsRewritten c.args.source.now v) (sym c.new.ensures)
     (subst (λ v. AllZip IsRewritten v c.in_ok-place_parts.field-0.items) c.parts.ensures.parts c.in_ok-place_parts.ensures.rewritten))
