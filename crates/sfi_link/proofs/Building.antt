@@ -3,8 +3,7 @@ use Rattle.std.proofs.Common.{◌≡◌, ℕ, List, [], ◌∷◌, ap, subst, �
 use Rattle.std.specs.Prelude.{Result, Ok, Err, IfOk, IfErr}
 use Rattle.rv_source.specs.Source.{Sandbox}
 use Rattle.rv_text.specs.Texts.{MeansSource}
-use Rattle.rv_text.specs.Laws as laws
-use Rattle.rv_text.proofs.OneSource as texts
+use Rattle.rv_text.proofs.Facts as texts
 use Rattle.sfi_rewrite.specs.declared.fault.RewriteFault.{RewriteFault}
 use Rattle.sfi_rewrite.specs.Placement.{Placement}
 use Rattle.sfi_rewrite.specs.Faults.{IsSourceFault}
@@ -15,11 +14,11 @@ use Rattle.sfi_link.specs.declared.build_fault.BuildFault.{BuildFault}
 use Rattle.sfi_link.specs.declared.build_fault.BuildFault.TheVariants.{Text, Rewrite, Link}
 use Rattle.sfi_link.specs.Building.{IsLinkedImage, ArePlacements, IsBuild}
 use Rattle.sfi_link.specs.Faults.{IsLinkFault}
-use Rattle.sfi_link.specs.Standing as links_stand
 use Rattle.sfi_link.specs.Standing.{ImageRunsAs}
 use Rattle.sfi_link.specs.Texts.{IsTextBuild, IsCleanImage, IsBuildFault, IsWantOfMemory, AnswersBuild, AnswersBuildFault}
 use Rattle.sfi_link.proofs.Linking.{one_bytes, never}
 use Rattle.sfi_link.proofs.OneLinking.{one_fault}
+use Rattle.sfi_link.proofs.RunsAs.{images_run_as}
 
 -- ---- one build, one fault
 
@@ -87,9 +86,9 @@ means_clean given text (Ok v) h = record { parts = h.image.parts; image = h.imag
 means_clean given text (Err f) h = tt
 
 -- the image acts as the source that its text means
-pub build_runs_as : (given : List Place) → links_stand.LinkedImagesRunAs → laws.SourcesAreRight → (text : List ℕ) (r : Result (Vec ℕ Global) BuildFault) → IfOk r (λ v. IsTextBuild given text v.items)
+pub build_runs_as : (given : List Place) → (text : List ℕ) (r : Result (Vec ℕ Global) BuildFault) → IfOk r (λ v. IsTextBuild given text v.items)
     → (source : List Sandbox) → MeansSource text source → IfOk r (λ v. ImageRunsAs given source v.items)
-build_runs_as given runs right text (Ok v) h source means =
+build_runs_as given text (Ok v) h source means =
     let same = texts.one_source text h.source source h.means means in
-    runs given source h.placed v.items (right text source means) (subst (λ u. AreRewritten u h.placed) same h.rewritten) h.image
-build_runs_as given runs right text (Err f) h source means = tt
+    images_run_as given source h.placed v.items (texts.sources_are_right text source means) (subst (λ u. AreRewritten u h.placed) same h.rewritten) h.image
+build_runs_as given text (Err f) h source means = tt

@@ -8,7 +8,6 @@ use Rattle.rv_word.specs.Numbers.{modulo, offset_by}
 use Rattle.rv_word.specs.declared.instr.RegOp.TheVariants.{And, Or}
 use Rattle.rv_word.specs.declared.instr.Instr.{Instr}
 use Rattle.rv_word.specs.declared.instr.Instr.TheVariants.{Op, OpImm, Load, Branch, Jal, Jalr, Lui, Auipc, Fence, Ebreak}
-use Rattle.rv_word.specs.Laws.{SpellingsAreWide}
 use Rattle.rv_word.specs.Writes.{writes_register}
 use Rattle.rv_comp.specs.declared.form.Form16.TheVariants.{CEbreak}
 use Rattle.rv_comp.specs.Fronts.{Spells}
@@ -256,10 +255,10 @@ made f None i e = cc
 made f (Some a) i e = (a, refl, sym (some_same (f a) i e))
 
 -- the bytes of a slot spell its instruction
-pub slot_spells : SpellingsAreWide → (at : Bases) (names : List PlacedName) (here : ℕ) (s : Slot) (bytes : List ℕ) (x : IsSlot at names here s bytes) → Spells bytes x.instr (slot_size s)
-slot_spells law at names here (Short f) bytes x =
+pub slot_spells : (at : Bases) (names : List PlacedName) (here : ℕ) (s : Slot) (bytes : List ℕ) (x : IsSlot at names here s bytes) → Spells bytes x.instr (slot_size s)
+slot_spells at names here (Short f) bytes x =
     subst (λ (i : Instr). Spells bytes i 2) (some_same (expansion f) x.instr x.resolves) (subst (λ (l : List ℕ). Spells l (expansion f) 2) (sym x.spelled.1) (short_spells f x.spelled.0))
-slot_spells law at names here _ bytes x = subst (λ (l : List ℕ). Spells l x.instr 4) (sym x.spelled.1) (wide_spells law x.instr x.spelled.0)
+slot_spells at names here _ bytes x = subst (λ (l : List ℕ). Spells l x.instr 4) (sym x.spelled.1) (wide_spells x.instr x.spelled.0)
 
 pub lone_ends : (at : Bases) (names : List PlacedName) (here : ℕ) (s : Slot) (i : Instr) → resolved at names here s ≡ Some i → is_end s ≡ true → ends_region i ≡ true
 lone_ends at names here (Short CEbreak) i r h = ap ends_region (sym (some_same Ebreak i r))

@@ -3,7 +3,7 @@ use Rattle.std.proofs.Common.{◌≡◌, ℕ, zero, suc, ◌+◌, ◌<◌, List,
 use Rattle.std.specs.Prelude.{slice_get, Result, Ok, Err, IfOk, IfErr}
 use Rattle.std.proofs.lemmas.List.{append-nil, append_assoc}
 use Rattle.rv_source.specs.Source.{Sandbox}
-use Rattle.rv_text.proofs.OneSource.{one_source}
+use Rattle.rv_text.proofs.Facts.{one_source}
 use Rattle.sfi_rewrite.specs.declared.placed.PlacedName.{PlacedName}
 use Rattle.sfi_rewrite.specs.Placement.{Placement}
 use Rattle.sfi_link.specs.declared.bases.Bases.{Bases}

@@ -18,7 +18,6 @@ use Rattle.rv_source.specs.Source.{Sandbox, IsSandbox, IsBody}
 use Rattle.sfi_image.specs.Spelling.{Part}
 use Rattle.sfi_image.specs.Parts.{IsRightPart}
 use Rattle.sfi_policy.specs.Pairs.{stub}
-use Rattle.sfi_rewrite.specs.Laws.{RewrittenIsTransparent}
 use Rattle.sfi_rewrite.specs.declared.slot.Slot.{Slot}
 use Rattle.sfi_rewrite.specs.declared.slot.Slot.TheVariants.{Wide, Short}
 use Rattle.sfi_rewrite.specs.declared.placed.PlacedName.{PlacedName}
@@ -28,13 +27,15 @@ use Rattle.sfi_rewrite.specs.Expansion.{jump_slots, IsAlone, IsMasked, IsExpansi
 use Rattle.sfi_rewrite.specs.Placement.{Placement}
 use Rattle.sfi_rewrite.specs.Rewriting.{IsRewritten, AreRewritten}
 use Rattle.sfi_rewrite.specs.Transparency.{IsAimed, MayBe}
+use Rattle.sfi_rewrite.proofs.Facts.{rewritten_is_transparent}
 use Rattle.sfi_place.specs.declared.place.Place.{Place}
 use Rattle.sfi_link.specs.declared.bases.Bases.{Bases}
 use Rattle.sfi_link.specs.Addresses.{bases_of, with_offset, target_at, address_at}
 use Rattle.sfi_link.specs.Code.{AreSlots}
 use Rattle.sfi_link.specs.Linked.{c_ebreak, IsLinked, AreLinkedFrom}
-use Rattle.sfi_link.specs.Standing.{AreResolvedTo, LinkedSlotsStand, RunsAs, LinkedRunsAs, LinkedImagesRunAs, SandboxesRunAs}
+use Rattle.sfi_link.specs.Standing.{AreResolvedTo, RunsAs, LinkedRunsAs, LinkedImagesRunAs, SandboxesRunAs}
 use Rattle.sfi_link.proofs.CleanPlaces.{made}
+use Rattle.sfi_link.proofs.SlotsThere.{slots_there}
 use Rattle.sfi_link.proofs.Region.{AreCut, cut, length_stubs}
 use Rattle.sfi_rewrite.proofs.Sizes.{size_of-append, size_nops}
 use Rattle.sfi_link.proofs.Parts.{slots_length, lies_well, linked_right}
@@ -122,10 +123,10 @@ regroup before nops expanded after fill =
 regroup_bytes : (stubs front mid rest bytes more : List ℕ) → bytes ≡ front ++ more → more ≡ mid ++ rest → stubs ++ bytes ≡ (stubs ++ front) ++ (mid ++ rest)
 regroup_bytes stubs front mid rest bytes more e f = ap (λ v. stubs ++ v) (e ∙ ap (λ v. front ++ v) f) ∙ sym (append_assoc stubs front (mid ++ rest))
 
-item_runs_as : (given : List Place) → RewrittenIsTransparent → LinkedSlotsStand → (number : ℕ) (s : Sandbox) (p : Placement) (q : Part) (k : ℕ) (x : Item) → IsSandbox s → IsRewritten s p → IsRightPart q
+item_runs_as : (given : List Place) → (number : ℕ) (s : Sandbox) (p : Placement) (q : Part) (k : ℕ) (x : Item) → IsSandbox s → IsRewritten s p → IsRightPart q
     → IsLinked given number p q → slice_get s.items k ≡ Some x → RunsAs given number s.format s.items p q k x
-item_runs_as given law stand number s p q k x sandbox r right linked at =
-    let st = law s p r k x at in
+item_runs_as given number s p q k x sandbox r right linked at =
+    let st = rewritten_is_transparent s p r k x at in
     let b = bases_of given number p in
     let lead = st.before ++ replicate st.nops c_nop in
     let fill = replicate linked.code.fill c_ebreak in
@@ -164,36 +165,36 @@ item_runs_as given law stand number s p q k x sandbox r right linked at =
           let there : t.hart.pc ≡ q.code_base + length (stubs ++ one.front) = omega arith in
           let held : Holds t.memory t.hart.pc (size_of st.expanded) two.front =
           subst (λ (n : ℕ). Holds t.memory t.hart.pc n two.front) mid_size (held_inside t.memory q.code_base t.hart.pc (stubs ++ one.front) two.front two.rest q.code code all fits there) in
-          stand b p.names here is.instr st.expanded two.front t two.first is.goes held;
+          slots_there b p.names here is.instr st.expanded two.front t two.first is.goes held;
     }
 
-pub runs_as : RewrittenIsTransparent → LinkedSlotsStand → LinkedRunsAs
-runs_as law stand given number s p q k x sandbox r placed linked at =
-    item_runs_as given law stand number s p q k x sandbox r (linked_right given number p q placed linked) linked at
+pub runs_as : LinkedRunsAs
+runs_as given number s p q k x sandbox r placed linked at =
+    item_runs_as given number s p q k x sandbox r (linked_right given number p q placed linked) linked at
 
 -- ---- a build
 
-sandboxes_run_as : (given : List Place) → RewrittenIsTransparent → LinkedSlotsStand → (number : ℕ) (source : List Sandbox) (placed : List Placement) (parts : List Part) → All IsSandbox source → AreRewritten source placed
+sandboxes_run_as : (given : List Place) → (number : ℕ) (source : List Sandbox) (placed : List Placement) (parts : List Part) → All IsSandbox source → AreRewritten source placed
     → All IsRightPart parts → AreLinkedFrom given number placed parts → SandboxesRunAs given number source parts
-sandboxes_run_as given law stand number [] [] parts sandboxes rewritten right linked = linked
-sandboxes_run_as given law stand number [] (p ∷ placed) parts sandboxes rewritten right linked = absurd rewritten
-sandboxes_run_as given law stand number (s ∷ source) [] parts sandboxes rewritten right linked = absurd rewritten
-sandboxes_run_as given law stand number (s ∷ source) (p ∷ placed) [] sandboxes rewritten right linked = absurd linked
-sandboxes_run_as given law stand number (s ∷ source) (p ∷ placed) (q ∷ parts) sandboxes rewritten right linked = (
+sandboxes_run_as given number [] [] parts sandboxes rewritten right linked = linked
+sandboxes_run_as given number [] (p ∷ placed) parts sandboxes rewritten right linked = absurd rewritten
+sandboxes_run_as given number (s ∷ source) [] parts sandboxes rewritten right linked = absurd rewritten
+sandboxes_run_as given number (s ∷ source) (p ∷ placed) [] sandboxes rewritten right linked = absurd linked
+sandboxes_run_as given number (s ∷ source) (p ∷ placed) (q ∷ parts) sandboxes rewritten right linked = (
   record {
     placed = p;
     placement = rewritten.0.placement;
     linked = linked.0;
-    each = λ k x at. item_runs_as given law stand number s p q k x (All-head IsSandbox s source sandboxes) rewritten.0 (All-head IsRightPart q parts right) linked.0 at;
+    each = λ k x at. item_runs_as given number s p q k x (All-head IsSandbox s source sandboxes) rewritten.0 (All-head IsRightPart q parts right) linked.0 at;
   },
-  sandboxes_run_as given law stand (number + 1) source placed parts (All-tail IsSandbox s source sandboxes) rewritten.1 (All-tail IsRightPart q parts right) linked.1,
+  sandboxes_run_as given (number + 1) source placed parts (All-tail IsSandbox s source sandboxes) rewritten.1 (All-tail IsRightPart q parts right) linked.1,
 )
 
-pub images_run_as : RewrittenIsTransparent → LinkedSlotsStand → LinkedImagesRunAs
-images_run_as law stand given source placed bytes right rewritten image =
+pub images_run_as : LinkedImagesRunAs
+images_run_as given source placed bytes right rewritten image =
     let layout = image.image.layout in
     record {
       parts = image.parts;
       image = image.image;
-      each = sandboxes_run_as given law stand 0 source placed image.parts right.each rewritten layout.right.each image.linked.each;
+      each = sandboxes_run_as given 0 source placed image.parts right.each rewritten layout.right.each image.linked.each;
     }

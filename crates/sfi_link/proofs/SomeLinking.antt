@@ -43,10 +43,11 @@ use Rattle.sfi_link.specs.Code.{made_of, IsSlot, AreSlots}
 use Rattle.sfi_link.specs.Linked.{needed, HasRoom, IsCodeSize, IsLinkedCode, IsLinked, AreLinkedFrom, AreLinked}
 use Rattle.sfi_link.specs.private.Near.{AreWritten}
 use Rattle.sfi_link.specs.Faults.{MayLie, HasSlotFault, IsSlotFault, HasPartFault, IsPartFault}
-use Rattle.sfi_link.specs.Laws.{LinkedIsClean, LinkedIsRight, SomeLinking}
+use Rattle.sfi_link.specs.Laws.{SomeLinking}
 use Rattle.sfi_link.proofs.Region.{length_stubs}
 use Rattle.sfi_image.proofs.Formats.{code_at_most}
 use Rattle.sfi_link.proofs.LinkedClean.{all_are_clean}
+use Rattle.sfi_link.proofs.Parts.{linked_is_right}
 use Rattle.sfi_link.proofs.Pushed.{low_in_range}
 use Rattle.sfi_link.proofs.Linking.{small_size, least_size, no_room, linked_code, pair, part_of}
 
@@ -256,8 +257,8 @@ parts_or_fault given number before (p ∷ placed) right apart =
 none_apart : AllPairs AreApart []
 none_apart = λ i j d lt within. absurd (omega arith)
 
-pub some_linking : LinkedIsClean → LinkedIsRight → SomeLinking
-some_linking clean right given placed is =
+pub some_linking : SomeLinking
+some_linking given placed is =
     elim (cases_lt 16 (length placed)) [
       | inl many ↦ inr (TooManySandboxes, inl (many, refl))
       | inr few ↦ elim (cases_lt (length placed) (length given)) [
@@ -271,8 +272,8 @@ some_linking clean right given placed is =
                 record {
                   parts = made.0;
                   linked = linked;
-                  image = record { bytes_are = refl; layout = right given placed made.0 is few linked };
-                  none_found = all_are_clean given clean 0 placed made.0 is.each made.1;
+                  image = record { bytes_are = refl; layout = linked_is_right given placed made.0 is few linked };
+                  none_found = all_are_clean given 0 placed made.0 is.each made.1;
                 },
               )
         ]

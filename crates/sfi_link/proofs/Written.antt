@@ -6,7 +6,7 @@ use Rattle.std.proofs.lemmas.Bool.{and_parts, ltb-true}
 use Rattle.std.proofs.lemmas.Nat.{from_le_bytes-to_le_bytes_2, from_le_bytes-to_le_bytes_4}
 use Rattle.std.proofs.lemmas.Nat.Bits.{bit_at-lt}
 use Rattle.rv_word.specs.declared.instr.Instr.{Instr}
-use Rattle.rv_word.specs.Laws.{SpellingsAreWide}
+use Rattle.rv_word.proofs.Facts.{spellings_are_wide}
 use Rattle.rv_word.specs.Spelling.{InRange, spelling}
 use Rattle.rv_comp.specs.Bits.{Bit, is, bit_of, Fields, number_after, field_value}
 use Rattle.rv_comp.specs.Table.{row, allowed, fields_of, expansion}
@@ -63,11 +63,11 @@ short_spells f ok = inl (record {
 })
 
 -- the four bytes of an instruction
-pub wide_spells : SpellingsAreWide → (i : Instr) → InRange i → Spells (to_le_bytes w32 (spelling i)) i 4
-wide_spells law i ok = inr (record {
+pub wide_spells : (i : Instr) → InRange i → Spells (to_le_bytes w32 (spelling i)) i 4
+wide_spells i ok = inr (record {
   size = refl;
   all = refl;
-  spelled = (ok, from_le_bytes-to_le_bytes_4 (spelling i) (law (spelling i) i (ok, refl)).0);
+  spelled = (ok, from_le_bytes-to_le_bytes_4 (spelling i) (spellings_are_wide (spelling i) i (ok, refl)).0);
 })
 
 -- what is spelled has the length

@@ -21,7 +21,7 @@ use Rattle.sfi_rewrite.specs.Rewriting.{IsRewritten, AreRewritten}
 use Rattle.sfi_rewrite.specs.Transparency.{AreRegions, SlotsStand, MayBe, StandsTransparent}
 use Rattle.sfi_link.specs.declared.bases.Bases.{Bases}
 use Rattle.sfi_link.specs.Addresses.{bases_of}
-use Rattle.sfi_link.specs.Code.{resolved, AreSlots}
+use Rattle.sfi_link.specs.Code.{resolved}
 use Rattle.sfi_link.specs.Linked.{IsLinked}
 use Rattle.sfi_link.specs.Building.{IsLinkedImage}
 
@@ -36,14 +36,6 @@ abbrev pub AreResolvedTo : Bases → List PlacedName → ℕ → Instr → List 
 AreResolvedTo at names here i [] = Unit {0}
 AreResolvedTo at names here i (x ∷ slots) =
     IsResolvedTo at names here i x × AreResolvedTo at names (here + slot_size x) i slots
-
--- where a memory holds the bytes of slots from pc on, the slots stand there
-abbrev pub LinkedSlotsStand : Type 0
-LinkedSlotsStand =
-    (at : Bases) (names : List PlacedName) (here : ℕ) (i : Instr) (slots : List Slot)
-    (bytes : List ℕ) (s : State)
-    → AreSlots at names here slots bytes → AreResolvedTo at names here i slots
-    → Holds s.memory s.hart.pc (size_of slots) bytes → SlotsStand i s slots
 
 -- ---- the source in the image
 

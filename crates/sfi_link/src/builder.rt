@@ -10,9 +10,7 @@ ghost use Rattle.sfi_link.specs.Standing.{ImageRunsAs};
 ghost use Rattle.sfi_link.specs.Texts.{IsTextBuild, IsCleanImage, IsBuildFault, IsWantOfMemory, AnswersBuild, AnswersBuildFault};
 
 use crate::build_fault::BuildFault;
-use crate::laws::linked_runs_as;
 use crate::linker::link_at;
-use rv_text::laws::sources_are_right;
 use rv_text::parse_source;
 use sfi_place::Place;
 use sfi_rewrite::rewrite;
@@ -51,10 +49,6 @@ pub fn build_at(alloc: Global, text: &str, places: &[Place]) -> Result<Vec<u8>, 
     // Of a text above its limit, whatever memory there is.
     ensures too_long { most_bytes < length text.now → result ≡ Err (Text (first_line Limit)) }
 {
-    // The laws that the contract rests on: these calls do nothing.
-    sources_are_right();
-    linked_runs_as();
-
     build_of(alloc, text, places)
 }
 

@@ -14,4 +14,4 @@ pub returns-clause-only_fault : goal.returns-clause-only_fault
 returns-clause-only_fault c = only_build_fault _ _ _ c.build_of.ensures.built c.build_of.ensures.fault
 
 pub returns-clause-runs_as : goal.returns-clause-runs_as
-returns-clause-runs_as c = build_runs_as _ c.linked_runs_as.ensures.images c.sources_are_right.ensures _ _ c.build_of.ensures.built
+returns-clause-runs_as c = build_runs_as _ _ _ c.build_of.ensures.built

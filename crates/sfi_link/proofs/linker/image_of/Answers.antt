@@ -15,7 +15,7 @@ returns-in-Ok-clause-links c =
       parts = parts;
       linked = linked;
       image = rw c.deref-2.ensures.value at c.in-Ok.ensures.image;
-      none_found = all_are_clean c.args.places.now c.linked_is_clean.ensures 0 c.args.placed.now parts c.parts-placed.ensures.right.each linked.each;
+      none_found = all_are_clean c.args.places.now 0 c.args.placed.now parts c.parts-placed.ensures.right.each linked.each;
     }
 
 pub unreachable-requires : goal.unreachable-requires
