@@ -29,3 +29,4 @@ pub mod RoundTrip
 pub mod Deciding
 pub mod SomeStatement
 pub mod SomeSource
+pub mod Facts

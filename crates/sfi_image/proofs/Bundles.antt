@@ -12,7 +12,7 @@ use Rattle.sfi_image.specs.Laws.{WholeBundles, CodeEnds}
 use Rattle.sfi_image.proofs.Formats.{code_at_most}
 
 -- powers of two in the order of their exponents
-exponent_le : (k j : ℕ) → 2 ^ k ≤ 2 ^ j → k ≤ j
+pub exponent_le : (k j : ℕ) → 2 ^ k ≤ 2 ^ j → k ≤ j
 exponent_le k j h = ⊎_elim (λ less. let below : 2 ^ j < 2 ^ k = pow_below j k less in omega arith) (λ more. more) (cases_lt j k)
 
 -- a code region ends at or below 2 ^ 32

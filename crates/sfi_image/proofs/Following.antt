@@ -1,5 +1,6 @@
 -- The bytes of fronts that follow one another, and that what they hold is right.
 use Rattle.std.proofs.Common.{◌≡◌, ◌≢◌, ℕ, ◌≤◌, eqb, Bool, true, false, List, [], ◌∷◌, ◌++◌, length, refl, sym, ap, ◌∙◌, subst, arith, append_assoc, inl, inr, ◌⊎◌}
+use Rattle.std.proofs.lemmas.Bool.Decides.{eqb_tells}
 use Rattle.std.specs.List.{AllPairs, flat_map}
 use Rattle.std.proofs.lemmas.Bool.{eqb-true, eqb-false}
 use Rattle.std.proofs.lemmas.Grind.{flat_map-append}
@@ -18,19 +19,11 @@ use Rattle.sfi_image.proofs.FieldTests.{right_part}
 use Rattle.sfi_image.proofs.Views.{same_format}
 use Rattle.sfi_image.proofs.PartLists.{spans_push}
 
--- a test on two numbers went one way
-pub same_or_not : (a b : ℕ) → ((eqb a b ≡ true) × (a ≡ b)) ⊎ ((eqb a b ≡ false) × (a ≢ b))
-same_or_not a b = by (eqb a b) refl
-  where
-    by : (v : Bool) → eqb a b ≡ v → ((eqb a b ≡ true) × (a ≡ b)) ⊎ ((eqb a b ≡ false) × (a ≢ b))
-    by true e = inl (e, eqb-true a b e)
-    by false e = inr (e, eqb-false a b e)
-
 -- ---- bytes
 
 pub parts_bytes : (format : Format) (n : ℕ) (ps : List Part) → 1 ≤ n → AreOf format ps → front (after_parts format n ps) ≡ head format n ps
 parts_bytes format n ps some are =
-    elim (same_or_not (length ps) n) [
+    elim (eqb_tells (length ps) n) [
       | inl h ↦ rw (h.0) (ap (λ (g : Format). head g (length ps) ps) (same_format ps are (omega (arith, h.1))) ∙ ap (λ (k : ℕ). head format k ps) h.1)
       | inr h ↦ rw (h.0) refl
     ]
@@ -53,7 +46,7 @@ part_bytes f gs code init g c i = ap (λ (h : Fields). fields h ++ (flat_map gat
 pub init_bytes : (n : ℕ) (ps : List Part) (f : Fields) (gs : List Gate) (code init : List ℕ) → IsHead f.format n ps → length gs ≡ f.gate_count → length code ≡ f.code_size
     → front (after_init n ps f gs code init) ≡ head f.format n ps ++ (fields f ++ (flat_map gate gs ++ (code ++ init)))
 init_bytes n ps f gs code init before g c =
-    elim (same_or_not (length init) f.init_len) [
+    elim (eqb_tells (length init) f.init_len) [
       | inl h ↦ rw (h.0) (
           parts_bytes f.format n (ps ++ part_of f gs code init ∷ []) before.at_least (All-push (λ (q : Part). q.format ≡ f.format) ps (part_of f gs code init) before.one_format refl) ∙ head_push f.format n ps (part_of f gs code init)
           ∙ ap (λ (t : List ℕ). head f.format n ps ++ t) (part_bytes f gs code init g c h.1))
@@ -63,14 +56,14 @@ init_bytes n ps f gs code init before g c =
 pub code_bytes : (n : ℕ) (ps : List Part) (f : Fields) (gs : List Gate) (code : List ℕ) → IsHead f.format n ps → length gs ≡ f.gate_count
     → front (after_code n ps f gs code) ≡ head f.format n ps ++ (fields f ++ (flat_map gate gs ++ code))
 code_bytes n ps f gs code before g =
-    elim (same_or_not (length code) f.code_size) [
+    elim (eqb_tells (length code) f.code_size) [
       | inl h ↦ rw (h.0) (init_bytes n ps f gs code [] before g h.1 ∙ ap (λ (t : List ℕ). head f.format n ps ++ (fields f ++ (flat_map gate gs ++ t))) (append-nil code))
       | inr h ↦ rw (h.0) refl
     ]
 
 pub gates_bytes : (n : ℕ) (ps : List Part) (f : Fields) (gs : List Gate) → front (after_gates n ps f gs) ≡ head f.format n ps ++ (fields f ++ flat_map gate gs)
 gates_bytes n ps f gs =
-    elim (same_or_not (length gs) f.gate_count) [
+    elim (eqb_tells (length gs) f.gate_count) [
       | inl h ↦ rw (h.0) (ap (λ (t : List ℕ). head f.format n ps ++ (fields f ++ t)) (append-nil (flat_map gate gs)))
       | inr h ↦ rw (h.0) refl
     ]

@@ -22,11 +22,6 @@ unfolding magic
 length-magic Sfi1 r = omega arith
 length-magic Sfi2 r = omega arith
 
-pub length_of_magic : (f : Format) → length (magic f) ≡ 4
-unfolding magic
-length_of_magic Sfi1 = refl
-length_of_magic Sfi2 = refl
-
 pub take-magic : (f : Format) (r : List ℕ) → take 4 (magic f ++ r) ≡ magic f
 unfolding magic
 take-magic Sfi1 r = refl

@@ -4,6 +4,7 @@ use Rattle.std.specs.Prelude.{◌↔◌, IsTrue, slice_get, Option, None, Some}
 use Rattle.std.specs.List.{All, AllPairs, flat_map}
 use Rattle.std.specs.Option.{option_map}
 use Rattle.std.proofs.lemmas.Bool.{cases_lt, ltb-true, lt-ltb}
+use Rattle.std.proofs.lemmas.Grind.{flat_map-append}
 use Rattle.std.proofs.lemmas.List.{length-map, length_push, length-append, get_or_append_left, get_or_push}
 use Rattle.std.proofs.lemmas.Option.{get_or_from_slice_get, slice_get_within, slice_get-map}
 use Rattle.std.proofs.lemmas.List.Elements.{All-push}
@@ -71,10 +72,10 @@ next_above region gs g are k d lt =
 
 -- ---- in bytes
 
--- one more at the end of a list of spellings
-pub flat_push : {X : Type 0} (h : X → List ℕ) (xs : List X) (x : X) (rest : List ℕ) → flat_map h (xs ++ x ∷ []) ++ rest ≡ flat_map h xs ++ (h x ++ rest)
-flat_push h [] x rest = append_assoc (h x) [] rest
-flat_push h (y ∷ ys) x rest = append_assoc (h y) (flat_map h (ys ++ x ∷ [])) rest ∙ ap (λ (t : List ℕ). h y ++ t) (flat_push h ys x rest) ∙ sym (append_assoc (h y) (flat_map h ys) (h x ++ rest))
+-- one in the middle of a list of spellings
+pub flat_split : {X : Type 0} (h : X → List ℕ) (xs : List X) (y : X) (ys : List X) (rest : List ℕ) → flat_map h (xs ++ y ∷ ys) ++ rest ≡ flat_map h xs ++ (h y ++ (flat_map h ys ++ rest))
+flat_split h xs y ys rest =
+    ap (λ l. l ++ rest) (flat_map-append h xs (y ∷ ys)) ∙ append_assoc (flat_map h xs) (h y ++ flat_map h ys) rest ∙ ap (λ l. flat_map h xs ++ l) (append_assoc (h y) (flat_map h ys) rest)
 
 -- what stands after the first pairs
 pub record GatesRead (f : Fields) (bytes : List ℕ) (gs : List Gate) (rest : List ℕ) (n : ℕ) : Type 0 where
@@ -86,7 +87,7 @@ pub record GatesRead (f : Fields) (bytes : List ℕ) (gs : List Gate) (rest : Li
 pub GatesRead-push : (f : Fields) (bytes : List ℕ) (gs : List Gate) (rest after : List ℕ) (n : ℕ) (g : Gate) → GatesRead f bytes gs rest n
     → rest ≡ gate g ++ after → AreGateWords g → AreGates (code_span f) (gs ++ g ∷ []) → GatesRead f bytes (gs ++ g ∷ []) after (n + 1)
 GatesRead-push f bytes gs rest after n g so_far next words right = record {
-  bytes_are = so_far.bytes_are ∙ ap (λ (t : List ℕ). flat_map gate gs ++ t) next ∙ sym (flat_push gate gs g after);
+  bytes_are = so_far.bytes_are ∙ ap (λ (t : List ℕ). flat_map gate gs ++ t) next ∙ sym (flat_split gate gs g [] after);
   words = All-push AreGateWords gs g so_far.words words;
   right = right;
   len = length_push gs g ∙ ap (λ (k : ℕ). k + 1) so_far.len;

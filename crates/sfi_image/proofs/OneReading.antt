@@ -20,7 +20,8 @@ use Rattle.sfi_image.specs.Parts.{IsRightPart, AreOf, AreRight}
 use Rattle.sfi_image.specs.Tests.{FieldTest, IsFirstFault, field_tests}
 use Rattle.sfi_image.specs.Images.{IsImage}
 use Rattle.sfi_image.specs.Faults.{IsBodyFault, IsPartFault, ArePartsFault, IsCountFault, IsFault}
-use Rattle.sfi_image.proofs.Formats.{one_magic, length-magic, length_of_magic, take-magic}
+use Rattle.sfi_policy.proofs.Formats.{length_of_magic}
+use Rattle.sfi_image.proofs.Formats.{one_magic, length-magic, take-magic}
 use Rattle.sfi_image.proofs.GateLists.{front_gates}
 use Rattle.sfi_image.proofs.SpanLists.{front_apart}
 use Rattle.sfi_image.proofs.FieldTests.{part_passes}

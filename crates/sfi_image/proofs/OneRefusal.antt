@@ -20,7 +20,7 @@ use Rattle.sfi_image.specs.Faults.{IsBodyFault, IsPartFault, ArePartsFault, IsFa
 use Rattle.sfi_image.specs.Writing.{HasWrongGate, HasFault, HasWrongPart, HaveFault}
 use Rattle.sfi_image.specs.Outcome.{IfLayout}
 use Rattle.sfi_image.specs.private.Outcome.{Reads}
-use Rattle.sfi_image.proofs.GateLists.{front_gates}
+use Rattle.sfi_image.proofs.GateLists.{front_gates, flat_split}
 use Rattle.sfi_image.proofs.SpanLists.{front_apart}
 use Rattle.sfi_image.proofs.FieldTests.{part_passes}
 use Rattle.sfi_image.proofs.Bundles.{right_words}
@@ -36,11 +36,6 @@ all_front P (x ∷ xs) ys all = All-cons P x xs (All-head P x (xs ++ ys) all) (a
 all_middle : {X : Type 0} (P : X → Type 0) (xs : List X) (y : X) (ys : List X) → All P (xs ++ y ∷ ys) → P y
 all_middle P [] y ys all = All-head P y ys all
 all_middle P (x ∷ xs) y ys all = all_middle P xs y ys (All-tail P x (xs ++ y ∷ ys) all)
-
-flat_split : {X : Type 0} (h : X → List ℕ) (xs : List X) (y : X) (ys : List X) (rest : List ℕ) → flat_map h (xs ++ y ∷ ys) ++ rest ≡ flat_map h xs ++ (h y ++ (flat_map h ys ++ rest))
-flat_split h [] y ys rest = append_assoc (h y) (flat_map h ys) rest
-flat_split h (x ∷ xs) y ys rest =
-    append_assoc (h x) (flat_map h (xs ++ y ∷ ys)) rest ∙ ap (λ t. h x ++ t) (flat_split h xs y ys rest) ∙ sym (append_assoc (h x) (flat_map h xs) (h y ++ (flat_map h ys ++ rest)))
 
 -- too few gates are read before the wrong one
 gate_fault : (p : Part) (rest : List ℕ) → All AreGateWords p.gates → HasWrongGate (code_region p) p.gates

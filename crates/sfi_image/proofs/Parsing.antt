@@ -1,5 +1,6 @@
 -- Reading an image by a reader: its faults and its parts.
 use Rattle.std.proofs.Common.{◌≡◌, ℕ, ◌+◌, ◌<◌, eqb, true, List, [], ◌∷◌, ◌++◌, length, cond, refl, sym, ap, ◌∙◌, subst, arith, append_assoc, inl, inr, Result, Ok, Err}
+use Rattle.std.proofs.lemmas.Bool.Decides.{eqb_tells}
 use Rattle.std.specs.List.{All, flat_map}
 use Rattle.std.proofs.lemmas.Bool.{eq-eqb}
 use Rattle.std.proofs.lemmas.List.{length-append, append-nil}
@@ -15,7 +16,7 @@ use Rattle.sfi_image.specs.Fronts.{Front, front, head, want_of, IsLess, part_of,
 use Rattle.sfi_image.specs.Fronts.Front.{Empty, AfterMagic, AfterCount, InGates, InCode, InInit, Whole}
 use Rattle.sfi_image.specs.Keeping.{ReaderState, StandsFor, Leads}
 use Rattle.sfi_image.specs.private.Keeping.{MayTake, next_code}
-use Rattle.sfi_image.proofs.Following.{same_or_not, head_push}
+use Rattle.sfi_image.proofs.Following.{head_push}
 use Rattle.sfi_image.proofs.Cancelling.{same_gate, same_fields, same_number}
 use Rattle.sfi_image.specs.declared.fault.ImageFault.{ImageFault}
 use Rattle.sfi_image.specs.declared.fault.ImageFault.TheVariants as errors
@@ -32,10 +33,6 @@ fault_of_front x s rest bytes k e h = subst (λ (l : List ℕ). IsFault l k) (ap
 pub whole_code_leads : (old new : ReaderState) (x : Front) (s : List ℕ) → StandsFor old x → old.next ≡ next.Code → old.code_read + length s ≡ old.fields.code_size
     → new.count ≡ old.count → new.begun ≡ old.begun → new.spans ≡ old.spans → new.fields ≡ old.fields → new.gates ≡ old.gates → new.init_read ≡ old.init_read
     → new.next ≡ next_code old.fields.code_size old.fields.code_size old.fields.init_len old.begun old.count → Leads x s new
-whole_code_leads old new Empty s h is len count begun spans_are fields_are gates i to = let k = h.kept.0 in absurd cc
-whole_code_leads old new (AfterMagic format) s h is len count begun spans_are fields_are gates i to = let k = h.kept.0 in absurd cc
-whole_code_leads old new (AfterCount format n ps) s h is len count begun spans_are fields_are gates i to = let k = h.kept.0 in absurd cc
-whole_code_leads old new (InGates n ps f gs) s h is len count begun spans_are fields_are gates i to = let k = h.kept.0 in absurd cc
 whole_code_leads old new (InCode n ps f gs code) s h is len count begun spans_are fields_are gates i to =
     let k = h.kept.1 in
     let all : length (code ++ s) ≡ f.code_size = omega (arith, length-append code s, k.code_read, ap (λ (y : Fields). y.code_size) k.head.fields) in
@@ -51,8 +48,7 @@ whole_code_leads old new (InCode n ps f gs code) s h is len count begun spans_ar
       gates = gates ∙ k.head.gates;
     }) (i ∙ k.init_read) where_to in
     leads (InCode n ps f gs code) s new (after_code n ps f gs (code ++ s)) h.right refl (rw (test') stands)
-whole_code_leads old new (InInit n ps f gs code init) s h is len count begun spans_are fields_are gates i to = let k = h.kept.0 in absurd cc
-whole_code_leads old new (Whole ps) s h is len count begun spans_are fields_are gates i to = let k = h.kept.0 in absurd cc
+whole_code_leads old new _ s h is len count begun spans_are fields_are gates i to = let k = h.kept.0 in absurd cc
 
 -- fewer bytes than may be taken are fewer than come next
 pub less_taken : (r : ReaderState) (x : Front) (len m : ℕ) → StandsFor r x → MayTake r len → m < len → IsLess m (want_of x)
@@ -62,16 +58,12 @@ less_taken r (InInit n ps f gs code init) len m h may lt =
     let same : r.fields.init_len ≡ f.init_len = ap (λ (y : Fields). y.init_len) h.kept.1.fields in
     omega arith
 less_taken r (Whole ps) len m h may lt = absurd (rw (h.kept.0) at may)
-less_taken r Empty len m h may lt = let is = rw (h.kept.0) at may in omega arith
-less_taken r (AfterMagic format) len m h may lt = let is = rw (h.kept.0) at may in omega arith
-less_taken r (AfterCount format n ps) len m h may lt = let is = rw (h.kept.0) at may in omega arith
-less_taken r (InGates n ps f gs) len m h may lt = let is = rw (h.kept.0) at may in omega arith
-less_taken r (InCode n ps f gs code) len m h may lt = let is = rw (h.kept.0) at may in omega arith
+less_taken r _ len m h may lt = let is = rw (h.kept.0) at may in omega arith
 
 -- there is a gate to read
 pub at_gate : (r : ReaderState) (n : ℕ) (ps : List Part) (f : Fields) (gs : List Gate) → StandsFor r (after_gates n ps f gs) → length gs < f.gate_count → StandsFor r (InGates n ps f gs)
 at_gate r n ps f gs h lt =
-    elim (same_or_not (length gs) f.gate_count) [
+    elim (eqb_tells (length gs) f.gate_count) [
       | inl e ↦ absurd (omega (arith, e.1))
       | inr e ↦ rw (e.0) at h
     ]
@@ -91,7 +83,7 @@ gate_taken old new n ps f gs g s h l e words =
 
     after_words : (n : ℕ) (ps : List Part) (f : Fields) (gs : List Gate) (g : Gate) → StandsFor new (after_gates n ps f (gs ++ g ∷ [])) → AreGateWords g
     after_words n ps f gs g h =
-        elim (same_or_not (length (gs ++ g ∷ [])) f.gate_count) [
+        elim (eqb_tells (length (gs ++ g ∷ [])) f.gate_count) [
           | inl e ↦ last_words gs g (rw (e.0) at h).right.0.gate_words
           | inr e ↦ last_words gs g (rw (e.0) at h).right.0.gate_words
         ]
@@ -109,7 +101,7 @@ gates_fault n ps f gs bytes rest (errors.Layout k) is h = subst (λ (l : List �
 -- there are some to read
 pub at_init : (r : ReaderState) (n : ℕ) (ps : List Part) (f : Fields) (gs : List Gate) (code : List ℕ) → StandsFor r (after_init n ps f gs code []) → (f.init_len ≡ 0 → ⊥) → StandsFor r (InInit n ps f gs code [])
 at_init r n ps f gs code h some =
-    elim (same_or_not 0 f.init_len) [
+    elim (eqb_tells 0 f.init_len) [
       | inl e ↦ absurd (some (sym e.1))
       | inr e ↦ rw (e.0) at h
     ]
@@ -117,7 +109,7 @@ at_init r n ps f gs code h some =
 pub at_part : (r : ReaderState) (n : ℕ) (ps : List Part) (f : Fields) (gs : List Gate) (code init : List ℕ) → StandsFor r (after_init n ps f gs code init) → length init ≡ f.init_len
     → StandsFor r (after_parts f.format n (ps ++ part_of f gs code init ∷ []))
 at_part r n ps f gs code init h all =
-    elim (same_or_not (length init) f.init_len) [
+    elim (eqb_tells (length init) f.init_len) [
       | inl e ↦ rw (e.0) at h
       | inr e ↦ absurd (e.1 all)
     ]
@@ -132,7 +124,7 @@ reads_weaker (Err errors.Memory) P Q F G h p f = tt
 
 front_words : (r : ReaderState) (n : ℕ) (ps : List Part) (f : Fields) → StandsFor r (after_gates n ps f []) → AreFieldWords f
 front_words r n ps f h =
-    elim (same_or_not 0 f.gate_count) [
+    elim (eqb_tells 0 f.gate_count) [
       | inl e ↦ (rw (e.0) at h).right.0.words
       | inr e ↦ (rw (e.0) at h).right.0.words
     ]
@@ -148,7 +140,7 @@ fields_taken new format n ps f s l e words kind =
 pub whole_code : (r : ReaderState) (n : ℕ) (ps : List Part) (f : Fields) (gs : List Gate) (code : List ℕ) → StandsFor r (after_code n ps f gs code) → length code ≡ f.code_size
     → StandsFor r (after_init n ps f gs code [])
 whole_code r n ps f gs code h all =
-    elim (same_or_not (length code) f.code_size) [
+    elim (eqb_tells (length code) f.code_size) [
       | inl e ↦ rw (e.0) at h
       | inr e ↦ absurd (e.1 all)
     ]
@@ -172,21 +164,21 @@ count_taken new format n s l e word =
     let same = same_number there.0 n [] [] (omega arith) word (ap (λ (t : List ℕ). t ++ []) (sym there.1 ∙ e)) in
     let here = subst (λ (m : ℕ). StandsFor new (AfterCount format m [])) same.0 stands in
     let some = here.right.1 in
-    elim (same_or_not 0 n) [
+    elim (eqb_tells 0 n) [
       | inl z ↦ absurd (omega (arith, z.1))
       | inr z ↦ rw (z.0) here
     ]
 
 pub at_more : (r : ReaderState) (format : Format) (n : ℕ) (ps : List Part) → StandsFor r (after_parts format n ps) → length ps < n → StandsFor r (AfterCount format n ps)
 at_more r format n ps h lt =
-    elim (same_or_not (length ps) n) [
+    elim (eqb_tells (length ps) n) [
       | inl e ↦ absurd (omega (arith, e.1))
       | inr e ↦ rw (e.0) at h
     ]
 
 pub at_all : (r : ReaderState) (format : Format) (n : ℕ) (ps : List Part) → StandsFor r (after_parts format n ps) → length ps ≡ n → StandsFor r (Whole ps)
 at_all r format n ps h all =
-    elim (same_or_not (length ps) n) [
+    elim (eqb_tells (length ps) n) [
       | inl e ↦ rw (e.0) at h
       | inr e ↦ absurd (e.1 all)
     ]

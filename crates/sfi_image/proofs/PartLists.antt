@@ -15,7 +15,7 @@ use Rattle.sfi_image.specs.Bounded.{IsBounded}
 use Rattle.sfi_image.specs.Parts.{IsRightPart, AreOf, AreRight}
 use Rattle.sfi_image.specs.Faults.{ArePartsFault}
 use Rattle.sfi_image.proofs.Formats.{code_at_most}
-use Rattle.sfi_image.proofs.GateLists.{flat_push}
+use Rattle.sfi_image.proofs.GateLists.{flat_split}
 
 part_is : (p : Part) (last : List ℕ) (gs : List Gate) (code init : List ℕ) → p.gates ≡ gs → p.code ≡ code → p.init ≡ init
     → fields (fields_of p) ++ (flat_map gate gs ++ (code ++ (init ++ last))) ≡ part p ++ last
@@ -61,7 +61,7 @@ pub PartsRead-push : (format : Format) (bytes : List ℕ) (ps : List Part) (befo
     → PartsRead format bytes (ps ++ p ∷ []) (before ++ spans_of f) after (n + 1)
 PartsRead-push format bytes ps before rest after n p f so_far next is kind right apart =
     record {
-      bytes_are = so_far.bytes_are ∙ ap (λ (t : List ℕ). flat_map part ps ++ t) next ∙ sym (flat_push part ps p after);
+      bytes_are = so_far.bytes_are ∙ ap (λ (t : List ℕ). flat_map part ps ++ t) next ∙ sym (flat_split part ps p [] after);
       of = All-push (λ (q : Part). q.format ≡ format) ps p so_far.of (ap (λ (g : Fields). g.format) is ∙ kind);
       each = All-push IsRightPart ps p so_far.each right;
       len = length_push ps p ∙ ap (λ (k : ℕ). k + 1) so_far.len;

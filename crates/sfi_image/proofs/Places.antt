@@ -20,52 +20,32 @@ use Rattle.sfi_image.proofs.PartLists.{right_bounded}
 use Rattle.sfi_image.proofs.Standing.{region, first_is}
 
 by_fields : (r : ReaderState) (x : Front) → StandsFor r x → r.next ≡ next.Fields → (format : Format) × (n : ℕ) × (ps : List Part) × StandsFor r (AfterCount format n ps)
-by_fields r Empty h is = let k = h.kept.0 in absurd cc
-by_fields r (AfterMagic format) h is = let k = h.kept.0 in absurd cc
 by_fields r (AfterCount format n ps) h is = (format, n, ps, h)
-by_fields r (InGates n ps f gs) h is = let k = h.kept.0 in absurd cc
-by_fields r (InCode n ps f gs code) h is = let k = h.kept.0 in absurd cc
-by_fields r (InInit n ps f gs code init) h is = let k = h.kept.0 in absurd cc
-by_fields r (Whole ps) h is = let k = h.kept.0 in absurd cc
+by_fields r _ h is = let k = h.kept.0 in absurd cc
 
 pub at_fields : (r : ReaderState) → IsReader r → r.next ≡ next.Fields → (format : Format) × (n : ℕ) × (ps : List Part) × StandsFor r (AfterCount format n ps)
 at_fields r (inl stopped) is = absurd cc
 at_fields r (inr x) is = by_fields r x.0 x.1 is
 
 by_gates : (r : ReaderState) (x : Front) → StandsFor r x → r.next ≡ next.Gate → (n : ℕ) × (ps : List Part) × (f : Fields) × (gs : List Gate) × StandsFor r (InGates n ps f gs)
-by_gates r Empty h is = let k = h.kept.0 in absurd cc
-by_gates r (AfterMagic format) h is = let k = h.kept.0 in absurd cc
-by_gates r (AfterCount format n ps) h is = let k = h.kept.0 in absurd cc
 by_gates r (InGates n ps f gs) h is = (n, ps, f, gs, h)
-by_gates r (InCode n ps f gs code) h is = let k = h.kept.0 in absurd cc
-by_gates r (InInit n ps f gs code init) h is = let k = h.kept.0 in absurd cc
-by_gates r (Whole ps) h is = let k = h.kept.0 in absurd cc
+by_gates r _ h is = let k = h.kept.0 in absurd cc
 
 pub at_gates : (r : ReaderState) → IsReader r → r.next ≡ next.Gate → (n : ℕ) × (ps : List Part) × (f : Fields) × (gs : List Gate) × StandsFor r (InGates n ps f gs)
 at_gates r (inl stopped) is = absurd cc
 at_gates r (inr x) is = by_gates r x.0 x.1 is
 
 pub by_code : (r : ReaderState) (x : Front) → StandsFor r x → r.next ≡ next.Code → (n : ℕ) × (ps : List Part) × (f : Fields) × (gs : List Gate) × (code : List ℕ) × StandsFor r (InCode n ps f gs code)
-by_code r Empty h is = let k = h.kept.0 in absurd cc
-by_code r (AfterMagic format) h is = let k = h.kept.0 in absurd cc
-by_code r (AfterCount format n ps) h is = let k = h.kept.0 in absurd cc
-by_code r (InGates n ps f gs) h is = let k = h.kept.0 in absurd cc
 by_code r (InCode n ps f gs code) h is = (n, ps, f, gs, code, h)
-by_code r (InInit n ps f gs code init) h is = let k = h.kept.0 in absurd cc
-by_code r (Whole ps) h is = let k = h.kept.0 in absurd cc
+by_code r _ h is = let k = h.kept.0 in absurd cc
 
 pub at_code : (r : ReaderState) → IsReader r → r.next ≡ next.Code → (n : ℕ) × (ps : List Part) × (f : Fields) × (gs : List Gate) × (code : List ℕ) × StandsFor r (InCode n ps f gs code)
 at_code r (inl stopped) is = absurd cc
 at_code r (inr x) is = by_code r x.0 x.1 is
 
 by_init : (r : ReaderState) (x : Front) → StandsFor r x → r.next ≡ next.Init → (n : ℕ) × (ps : List Part) × (f : Fields) × (gs : List Gate) × (code : List ℕ) × (init : List ℕ) × StandsFor r (InInit n ps f gs code init)
-by_init r Empty h is = let k = h.kept.0 in absurd cc
-by_init r (AfterMagic format) h is = let k = h.kept.0 in absurd cc
-by_init r (AfterCount format n ps) h is = let k = h.kept.0 in absurd cc
-by_init r (InGates n ps f gs) h is = let k = h.kept.0 in absurd cc
-by_init r (InCode n ps f gs code) h is = let k = h.kept.0 in absurd cc
 by_init r (InInit n ps f gs code init) h is = (n, ps, f, gs, code, init, h)
-by_init r (Whole ps) h is = let k = h.kept.0 in absurd cc
+by_init r _ h is = let k = h.kept.0 in absurd cc
 
 pub at_init : (r : ReaderState) → IsReader r → r.next ≡ next.Init → (n : ℕ) × (ps : List Part) × (f : Fields) × (gs : List Gate) × (code : List ℕ) × (init : List ℕ) × StandsFor r (InInit n ps f gs code init)
 at_init r (inl stopped) is = absurd cc
@@ -170,26 +150,17 @@ init_next r reader is =
 
 pub wants_bundle : (r : ReaderState) (x : Front) → StandsFor r x → r.next ≡ next.Code
     → wants.Bundle (r.begun - 1) (r.fields.code_base + r.code_read) r.fields.format r.fields.code_base r.fields.code_size (is_first (drop r.passed r.gates) (r.fields.code_base + r.code_read)) ≡ want_of x
-wants_bundle r Empty h is = let k = h.kept.0 in absurd cc
-wants_bundle r (AfterMagic format) h is = let k = h.kept.0 in absurd cc
-wants_bundle r (AfterCount format n ps) h is = let k = h.kept.0 in absurd cc
-wants_bundle r (InGates n ps f gs) h is = let k = h.kept.0 in absurd cc
 wants_bundle r (InCode n ps f gs code) h is =
     let k = h.kept.1 in
     let begun : length ps + 1 - 1 ≡ length ps = omega arith in
     let first = first_is (f.code_base + length code) (drop r.passed r.gates) k.rest.ahead_are ∙ k.rest.same (f.code_base + length code) (omega arith) in
     rw (k.head.fields, k.head.begun, k.code_read, begun, first) refl
-wants_bundle r (InInit n ps f gs code init) h is = let k = h.kept.0 in absurd cc
-wants_bundle r (Whole ps) h is = let k = h.kept.0 in absurd cc
+wants_bundle r _ h is = let k = h.kept.0 in absurd cc
 
 -- as many bytes as come next may be taken
 pub may_take : (r : ReaderState) (x : Front) (len : ℕ) → StandsFor r x → IsLengthOf len (want_of x) → MayTake r len
-may_take r Empty len h e = rw (h.kept.0) e
-may_take r (AfterMagic format) len h e = rw (h.kept.0) e
-may_take r (AfterCount format n ps) len h e = rw (h.kept.0) e
-may_take r (InGates n ps f gs) len h e = rw (h.kept.0) e
-may_take r (InCode n ps f gs code) len h e = rw (h.kept.0) e
 may_take r (InInit n ps f gs code init) len h e =
     let room : len + length init ≤ f.init_len = omega (arith, e.0, e.1) in
     rw (h.kept.0, h.kept.1.fields, h.kept.2) (e.0, room)
 may_take r (Whole ps) len h e = absurd e
+may_take r _ len h e = rw (h.kept.0) e

@@ -32,10 +32,6 @@ ahead_from at end (a ∷ more) are from = (from, are.1, are.2)
 
 -- the front is one of code, and the reader keeps what it asks
 pub plain_kept : (r : ReaderState) (x : Front) (bundles : ℕ) → StandsFor r x → ArePlainNext x bundles → HasPlain r bundles
-plain_kept r Empty bundles h plain = absurd plain
-plain_kept r (AfterMagic format) bundles h plain = absurd plain
-plain_kept r (AfterCount format n ps) bundles h plain = absurd plain
-plain_kept r (InGates n ps f gs) bundles h plain = absurd plain
 plain_kept r (InCode n ps f gs code) bundles h plain =
     let k = h.kept.1 in
     let reg = region (spans ps) f h.right.0.words h.right.0.passed in
@@ -50,14 +46,9 @@ plain_kept r (InCode n ps f gs code) bundles h plain =
       before_last = omega arith;
       gates = subst (λ a. AreFrom (a + 16 * bundles) (drop r.passed r.gates)) (sym at) after;
     }
-plain_kept r (InInit n ps f gs code init) bundles h plain = absurd plain
-plain_kept r (Whole ps) bundles h plain = absurd plain
+plain_kept r _ bundles h plain = absurd plain
 
 pub kept_plain : (r : ReaderState) (x : Front) (bundles : ℕ) → StandsFor r x → HasPlain r bundles → ArePlainNext x bundles
-kept_plain r Empty bundles h has = let k = h.kept.0 in let c = has.code in absurd cc
-kept_plain r (AfterMagic format) bundles h has = let k = h.kept.0 in let c = has.code in absurd cc
-kept_plain r (AfterCount format n ps) bundles h has = let k = h.kept.0 in let c = has.code in absurd cc
-kept_plain r (InGates n ps f gs) bundles h has = let k = h.kept.0 in let c = has.code in absurd cc
 kept_plain r (InCode n ps f gs code) bundles h has =
     let k = h.kept.1 in
     let reg = region (spans ps) f h.right.0.words h.right.0.passed in
@@ -73,17 +64,12 @@ kept_plain r (InCode n ps f gs code) bundles h has =
       unlisted = λ i lt. sym (k.rest.same (f.code_base + length code + 16 * i) (omega arith))
           ∙ none_before (f.code_base + length code + 16 * bundles) (f.code_base + length code + 16 * i) (drop r.passed r.gates) (omega arith) ahead;
     }
-kept_plain r (InInit n ps f gs code init) bundles h has = let k = h.kept.0 in let c = has.code in absurd cc
-kept_plain r (Whole ps) bundles h has = let k = h.kept.0 in let c = has.code in absurd cc
+kept_plain r _ bundles h has = let k = h.kept.0 in let c = has.code in absurd cc
 
 -- ---- where plain bundles lead
 
 pub plain_leads : (old new : ReaderState) (x : Front) (s : List ℕ) (bundles : ℕ) → StandsFor old x → HasPlain old bundles → length s ≡ 16 * bundles
     → new ≡ record old { code_read = old.code_read + length s } → Leads x s new
-plain_leads old new Empty s bundles h has len is = let k = h.kept.0 in let c = has.code in absurd cc
-plain_leads old new (AfterMagic format) s bundles h has len is = let k = h.kept.0 in let c = has.code in absurd cc
-plain_leads old new (AfterCount format n ps) s bundles h has len is = let k = h.kept.0 in let c = has.code in absurd cc
-plain_leads old new (InGates n ps f gs) s bundles h has len is = let k = h.kept.0 in let c = has.code in absurd cc
 plain_leads old new (InCode n ps f gs code) s bundles h has len is =
     let k = h.kept.1 in
     let even = h.right.2 in
@@ -114,5 +100,4 @@ plain_leads old new (InCode n ps f gs code) s bundles h has len is =
       };
     }) (has.code ∙ rw (not_all) refl) in
     leads (InCode n ps f gs code) s new (after_code n ps f gs (code ++ s)) h.right refl (subst (λ (r : ReaderState). StandsFor r (after_code n ps f gs (code ++ s))) (sym is) stands)
-plain_leads old new (InInit n ps f gs code init) s bundles h has len is = let k = h.kept.0 in let c = has.code in absurd cc
-plain_leads old new (Whole ps) s bundles h has len is = let k = h.kept.0 in let c = has.code in absurd cc
+plain_leads old new _ s bundles h has len is = let k = h.kept.0 in let c = has.code in absurd cc

@@ -1,5 +1,6 @@
 -- What is wrong with sandboxes that are to be written.
-use Rattle.std.proofs.Common.{◌≡◌, ℕ, ◌+◌, ◌<◌, ◌≤◌, ◌^◌, List, [], ◌∷◌, ◌++◌, length, get_or, map, take, drop, refl, sym, ap, subst, ◌∙◌, arith, drop-cons, add-one, inl, inr, ◌⊎◌, Some, None, Option}
+use Rattle.std.proofs.Common.{suc, ◌≡◌, ℕ, ◌+◌, ◌<◌, ◌≤◌, ◌^◌, List, [], ◌∷◌, ◌++◌, length, get_or, map, take, drop, refl, sym, ap, subst, ◌∙◌, arith, drop-cons, add-one, inl, inr, ◌⊎◌, Some, None, Option}
+use Rattle.std.proofs.Math.Seq.{split_at}
 use Rattle.std.specs.List.{All, AllPairs}
 use Rattle.std.proofs.lemmas.List.{take_more, take-append-drop, map_push}
 use Rattle.std.proofs.Math.ListN.{get_or-map}
@@ -105,10 +106,7 @@ other_gate = record { address = 0; service = 0 }
 
 -- the gate at the place is the first wrong one
 pub wrong_gate : (region : Span) (gs : List Gate) (i : ℕ) (d : Gate) → i < length gs → AreGates region (take i gs) → (AreGates region (take i gs ++ get_or gs i d ∷ []) → ⊥) → HasWrongGate region gs
-wrong_gate region gs i d lt right wrong = (take i gs, get_or gs i d, drop (i + 1) gs, split, right, wrong)
-  where
-    split : gs ≡ take i gs ++ get_or gs i d ∷ drop (i + 1) gs
-    split = sym (take-append-drop i gs) ∙ ap (λ t. take i gs ++ t) (drop-cons gs i d lt ∙ ap (λ n. get_or gs i d ∷ drop n gs) (sym (add-one i)))
+wrong_gate region gs i d lt right wrong = (take i gs, get_or gs i d, drop (suc i) gs, split_at gs i d lt, right, wrong)
 
 -- ---- sandboxes
 
@@ -178,10 +176,8 @@ all_passed before p f gs is h same fits right words =
 pub wrong_part : (ps : List Part) (i : ℕ) (p : Part) (before : List Span) (k : LayoutFault) → 1 ≤ length ps → length ps ≤ 16 → i < length ps → get_or ps i p ≡ p
     → StartRight (take i ps) before → HasFault before p k → HaveFault ps k
 wrong_part ps i p before k least most lt is start h =
-    inr (least, most, (take i ps, p, drop (i + 1) ps, split, start_right (take i ps) before start, subst (λ b. HasFault b p k) start.spans_are h))
-  where
-    split : ps ≡ take i ps ++ p ∷ drop (i + 1) ps
-    split = sym (take-append-drop i ps) ∙ ap (λ t. take i ps ++ t) (drop-cons ps i p lt ∙ ap (λ n. get_or ps i p ∷ drop n ps) (sym (add-one i)) ∙ ap (λ q. q ∷ drop (i + 1) ps) is)
+    let split : ps ≡ take i ps ++ p ∷ drop (suc i) ps = split_at ps i p lt ∙ ap (λ q. take i ps ++ q ∷ drop (suc i) ps) is in
+    inr (least, most, (take i ps, p, drop (suc i) ps, split, start_right (take i ps) before start, subst (λ b. HasFault b p k) start.spans_are h))
 
 -- the spans that the code adds are the sandbox's
 pub same_spans : (before : List Span) (p : Part) (f : Fields) → f ≡ capped_fields p → IsRightPart p → spans_of f ≡ spans_of (fields_of p)
@@ -196,6 +192,3 @@ map_at f xs i x is = get_or-map f xs i x ∙ ap f (sym is)
 
 pub map_more_at : {X Y : Type 0} (f : X → Y) (xs : List X) (i : ℕ) (x : X) → i < length xs → x ≡ get_or xs i x → map f (take (i + 1) xs) ≡ map f (take i xs) ++ f x ∷ []
 map_more_at f xs i x lt is = ap (map f) (take_more xs i x lt) ∙ map_push f (take i xs) (get_or xs i x) ∙ ap (λ y. map f (take i xs) ++ f y ∷ []) (sym is)
-
-pub take_whole : {X : Type 0} (xs : List X) (i : ℕ) → i ≤ length xs → length xs ≤ i → take i xs ≡ xs
-take_whole xs i low high = let e : i ≡ length xs = omega arith in ap (λ n. take n xs) e ∙ take-length xs

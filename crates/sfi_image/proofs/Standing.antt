@@ -1,5 +1,7 @@
 -- What a reader stands for after each step.
 use Rattle.std.proofs.Common.{◌≡◌, ℕ, zero, suc, ◌+◌, ◌*◌, ◌%◌, ◌<◌, ◌≤◌, ◌==◌, Bool, true, false, ◌^◌, List, [], ◌∷◌, ◌++◌, length, map, drop, cond, refl, sym, ap, ◌∙◌, subst, arith, inl, inr, None}
+use Rattle.std.proofs.Math.Bool.{or-false}
+use Rattle.std.proofs.lemmas.Bool.Decides.{eqb_tells}
 use Rattle.std.specs.List.{All, AllPairs}
 use Rattle.std.specs.Prelude.{◌||◌}
 use Rattle.std.proofs.lemmas.Bool.{eqb-true, eqb-false, ne_eqb}
@@ -23,7 +25,7 @@ use Rattle.sfi_image.proofs.FieldTests.{all_pass}
 use Rattle.sfi_image.proofs.PartLists.{spans_push}
 use Rattle.sfi_image.proofs.Bundles.{whole_bundles}
 use Rattle.sfi_image.proofs.Formats.{code_at_most}
-use Rattle.sfi_image.proofs.Following.{same_or_not, fields_again, finished, following_bytes}
+use Rattle.sfi_image.proofs.Following.{fields_again, finished, following_bytes}
 use Rattle.sfi_image.proofs.Views.{same_format}
 
 -- one step, from where it leads
@@ -40,12 +42,7 @@ pub magic_leads : (old new : ReaderState) (x : Front) (s : List ℕ) (format : F
     → new.next ≡ next.Count → new.spans ≡ old.spans → new.fields.format ≡ format → Leads x s new
 magic_leads old new Empty s format h is e to spans_are kind =
     leads Empty s new (AfterMagic format) tt (format, e, refl) (record { right = tt; kept = (to, spans_are ∙ h.kept.1, kind) })
-magic_leads old new (AfterMagic k') s format h is e to spans_are kind = let k = h.kept.0 in absurd cc
-magic_leads old new (AfterCount k' n ps) s format h is e to spans_are kind = let k = h.kept.0 in absurd cc
-magic_leads old new (InGates n ps f gs) s format h is e to spans_are kind = let k = h.kept.0 in absurd cc
-magic_leads old new (InCode n ps f gs code) s format h is e to spans_are kind = let k = h.kept.0 in absurd cc
-magic_leads old new (InInit n ps f gs code init) s format h is e to spans_are kind = let k = h.kept.0 in absurd cc
-magic_leads old new (Whole ps) s format h is e to spans_are kind = let k = h.kept.0 in absurd cc
+magic_leads old new _ s format h is e to spans_are kind = let k = h.kept.0 in absurd cc
 
 none_of : (format : Format) → AreOf format []
 none_of format = λ k d h. absurd (omega arith)
@@ -55,17 +52,12 @@ none_right = record { each = λ k d h. absurd (omega arith); apart = λ i j d h 
 
 pub count_leads : (old : ReaderState) (x : Front) (s : List ℕ) (n : ℕ) → StandsFor old x → old.next ≡ next.Count → s ≡ number n → 1 ≤ n → n ≤ 16
     → Leads x s (record old { next = next.Fields; count = n; begun = 0 })
-count_leads old Empty s n h is e low high = let k = h.kept.0 in absurd cc
 count_leads old (AfterMagic format) s n h is e low high =
     leads (AfterMagic format) s _ (AfterCount format n []) tt (n, e, refl) (record {
       right = (record { at_least = low; at_most = high; one_format = none_of format; right = none_right }, omega arith);
       kept = (refl, record { of = h.kept.2; count = refl; begun = refl; spans = h.kept.1 });
     })
-count_leads old (AfterCount format n' ps) s n h is e low high = let k = h.kept.0 in absurd cc
-count_leads old (InGates n' ps f gs) s n h is e low high = let k = h.kept.0 in absurd cc
-count_leads old (InCode n' ps f gs code) s n h is e low high = let k = h.kept.0 in absurd cc
-count_leads old (InInit n' ps f gs code init) s n h is e low high = let k = h.kept.0 in absurd cc
-count_leads old (Whole ps) s n h is e low high = let k = h.kept.0 in absurd cc
+count_leads old _ s n h is e low high = let k = h.kept.0 in absurd cc
 
 -- ---- gates ahead
 
@@ -80,11 +72,7 @@ none_before at a (g ∷ more) h ahead =
 
 pub first_is : (at : ℕ) (as' : List ℕ) → AreAhead at as' → is_first as' at ≡ is_one_of as' at
 first_is at [] ahead = refl
-first_is at (g ∷ more) ahead = rw (none_before (g + 16) at more (let low = ahead.0 in omega arith) ahead.2) (or_false (g == at))
-  where
-    or_false : (b : Bool) → b ≡ (b || false)
-    or_false true = refl
-    or_false false = refl
+first_is at (g ∷ more) ahead = rw (none_before (g + 16) at more (let low = ahead.0 in omega arith) ahead.2) (sym (or-false (g == at)))
 
 ahead_taken : (at : ℕ) (as' : List ℕ) → is_first as' at ≡ true → AreAhead at as' → AreAhead (at + 16) (drop 1 as')
 ahead_taken at [] e ahead = tt
@@ -185,7 +173,7 @@ region before f words passed =
 pub parts_stand : (r : ReaderState) (format : Format) (n : ℕ) (ps : List Part) → IsHead format n ps → length ps ≤ n → KeepsHead r format n ps → r.next ≡ next_part (length ps) n
     → StandsFor r (after_parts format n ps)
 parts_stand r format n ps h le k is =
-    elim (same_or_not (length ps) n) [
+    elim (eqb_tells (length ps) n) [
       | inl e ↦
           let of = same_format ps h.one_format (let some = h.at_least in omega (arith, e.1)) in
           rw (e.0) (record {
@@ -199,7 +187,7 @@ pub init_stand : (r : ReaderState) (n : ℕ) (ps : List Part) (f : Fields) (gs :
     → length code ≡ f.code_size → length init ≤ f.init_len → KeepsFields r n ps f gs → r.init_read ≡ length init
     → r.next ≡ next_init (length init) f.init_len (length ps + 1) n → StandsFor r (after_init n ps f gs code init)
 init_stand r n ps f gs code init opened g c le k read is =
-    elim (same_or_not (length init) f.init_len) [
+    elim (eqb_tells (length init) f.init_len) [
       | inl e ↦
           let p = part_of f gs code init in
           let len = length_push ps p in
@@ -220,7 +208,7 @@ pub code_stand : (r : ReaderState) (n : ℕ) (ps : List Part) (f : Fields) (gs :
     → length code % 16 ≡ 0 → length code ≤ f.code_size → KeepsCode r n ps f gs code
     → r.next ≡ next_code (length code) f.code_size f.init_len (length ps + 1) n → StandsFor r (after_code n ps f gs code)
 code_stand r n ps f gs code opened g even le k is =
-    elim (same_or_not (length code) f.code_size) [
+    elim (eqb_tells (length code) f.code_size) [
       | inl e ↦ rw (e.0) (init_stand r n ps f gs code [] opened g e.1 (omega arith) k.head k.init_read (rw (e.0) at is))
       | inr e ↦ rw (e.0) (record { right = (opened, g, even, omega (arith, e.1)); kept = (rw (e.0) at is, k) })
     ]
@@ -228,7 +216,7 @@ code_stand r n ps f gs code opened g even le k is =
 pub gates_stand : (r : ReaderState) (n : ℕ) (ps : List Part) (f : Fields) (gs : List Gate) → IsOpened n ps f gs → length gs ≤ f.gate_count → KeepsFields r n ps f gs
     → r.passed ≡ 0 → r.code_read ≡ 0 → r.init_read ≡ 0 → r.next ≡ next_gate (length gs) f.gate_count → StandsFor r (after_gates n ps f gs)
 gates_stand r n ps f gs opened le k passed code_read init_read is =
-    elim (same_or_not (length gs) f.gate_count) [
+    elim (eqb_tells (length gs) f.gate_count) [
       | inl e ↦
           let reg = region (spans ps) f opened.words opened.passed in
           let some = reg.some in

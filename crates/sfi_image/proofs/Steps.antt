@@ -32,8 +32,6 @@ none_words = λ k d h. absurd (omega arith)
 pub fields_leads : (old new : ReaderState) (x : Front) (s : List ℕ) (f : Fields) → StandsFor old x → old.next ≡ next.Fields → s ≡ fields f → AreFieldWords f
     → f.format ≡ old.fields.format → IsFirstFault old.spans f field_tests None → new.count ≡ old.count → new.begun ≡ old.begun + 1 → new.spans ≡ old.spans ++ spans_of f → new.fields ≡ f → new.gates ≡ []
     → new.passed ≡ 0 → new.code_read ≡ 0 → new.init_read ≡ 0 → new.next ≡ next_gate 0 f.gate_count → Leads x s new
-fields_leads old new Empty s f' h is e words kind passed count begun spans_are fields_are gates p c i to = let k = h.kept.0 in absurd cc
-fields_leads old new (AfterMagic format) s f' h is e words kind passed count begun spans_are fields_are gates p c i to = let k = h.kept.0 in absurd cc
 fields_leads old new (AfterCount format n ps) s f' h is e words kind passed count begun spans_are fields_are gates p c i to =
     let k = h.kept.1 in
     let of : f'.format ≡ format = kind ∙ k.of in
@@ -52,18 +50,12 @@ fields_leads old new (AfterCount format n ps) s f' h is e words kind passed coun
       fields = fields_are;
       gates = gates;
     }) p c i to)
-fields_leads old new (InGates n ps f gs) s f' h is e words kind passed count begun spans_are fields_are gates p c i to = let k = h.kept.0 in absurd cc
-fields_leads old new (InCode n ps f gs code) s f' h is e words kind passed count begun spans_are fields_are gates p c i to = let k = h.kept.0 in absurd cc
-fields_leads old new (InInit n ps f gs code init) s f' h is e words kind passed count begun spans_are fields_are gates p c i to = let k = h.kept.0 in absurd cc
-fields_leads old new (Whole ps) s f' h is e words kind passed count begun spans_are fields_are gates p c i to = let k = h.kept.0 in absurd cc
+fields_leads old new _ s f' h is e words kind passed count begun spans_are fields_are gates p c i to = let k = h.kept.0 in absurd cc
 
 pub gate_leads : (old new : ReaderState) (x : Front) (s : List ℕ) (g : Gate) → StandsFor old x → old.next ≡ next.Gate → s ≡ gate g → AreGateWords g
     → ((gs : List Gate) → map (λ h. h.address) gs ≡ old.gates → AreGates (code_span old.fields) gs → AreGates (code_span old.fields) (gs ++ g ∷ []))
     → new.count ≡ old.count → new.begun ≡ old.begun → new.spans ≡ old.spans → new.fields ≡ old.fields → new.gates ≡ old.gates ++ g.address ∷ []
     → new.passed ≡ old.passed → new.code_read ≡ old.code_read → new.init_read ≡ old.init_read → new.next ≡ next_gate (length new.gates) old.fields.gate_count → Leads x s new
-gate_leads old new Empty s g h is e words may count begun spans_are fields_are gates p c i to = let k = h.kept.0 in absurd cc
-gate_leads old new (AfterMagic format) s g h is e words may count begun spans_are fields_are gates p c i to = let k = h.kept.0 in absurd cc
-gate_leads old new (AfterCount format n ps) s g h is e words may count begun spans_are fields_are gates p c i to = let k = h.kept.0 in absurd cc
 gate_leads old new (InGates n ps f gs) s g h is e words may count begun spans_are fields_are gates p c i to =
     let k = h.kept.1 in
     let was = h.right.0 in
@@ -87,19 +79,13 @@ gate_leads old new (InGates n ps f gs) s g h is e words may count begun spans_ar
       fields = fields_are ∙ k.fields;
       gates = addresses;
     }) (p ∙ h.kept.2) (c ∙ h.kept.3) (i ∙ h.kept.4) (to ∙ ap (λ (j : ℕ). next_gate j old.fields.gate_count) same_len ∙ ap (λ (y : Fields). next_gate (length (gs ++ g ∷ [])) y.gate_count) k.fields))
-gate_leads old new (InCode n ps f gs code) s g h is e words may count begun spans_are fields_are gates p c i to = let k = h.kept.0 in absurd cc
-gate_leads old new (InInit n ps f gs code init) s g h is e words may count begun spans_are fields_are gates p c i to = let k = h.kept.0 in absurd cc
-gate_leads old new (Whole ps) s g h is e words may count begun spans_are fields_are gates p c i to = let k = h.kept.0 in absurd cc
+gate_leads old new _ s g h is e words may count begun spans_are fields_are gates p c i to = let k = h.kept.0 in absurd cc
 
 pub code_leads : (old new : ReaderState) (x : Front) (s : List ℕ) → StandsFor old x → old.next ≡ next.Code → length s ≡ 16
     → new.count ≡ old.count → new.begun ≡ old.begun → new.spans ≡ old.spans → new.fields ≡ old.fields → new.gates ≡ old.gates
     → new.passed ≡ cond (is_first (drop old.passed old.gates) (old.fields.code_base + old.code_read)) (old.passed + 1) old.passed
     → new.code_read ≡ old.code_read + 16 → new.init_read ≡ old.init_read
     → new.next ≡ next_code (old.code_read + 16) old.fields.code_size old.fields.init_len old.begun old.count → Leads x s new
-code_leads old new Empty s h is len count begun spans_are fields_are gates p c i to = let k = h.kept.0 in absurd cc
-code_leads old new (AfterMagic format) s h is len count begun spans_are fields_are gates p c i to = let k = h.kept.0 in absurd cc
-code_leads old new (AfterCount format n ps) s h is len count begun spans_are fields_are gates p c i to = let k = h.kept.0 in absurd cc
-code_leads old new (InGates n ps f gs) s h is len count begun spans_are fields_are gates p c i to = let k = h.kept.0 in absurd cc
 code_leads old new (InCode n ps f gs code) s h is len count begun spans_are fields_are gates p c i to =
     let k = h.kept.1 in
     let opened = h.right.0 in
@@ -130,18 +116,12 @@ code_leads old new (InCode n ps f gs code) s h is len count begun spans_are fiel
       passed = rw (passed_is, gates) after.0;
       rest = rw (passed_is, gates, ← at) after.1;
     }) where_to)
-code_leads old new (InInit n ps f gs code init) s h is len count begun spans_are fields_are gates p c i to = let k = h.kept.0 in absurd cc
-code_leads old new (Whole ps) s h is len count begun spans_are fields_are gates p c i to = let k = h.kept.0 in absurd cc
+code_leads old new _ s h is len count begun spans_are fields_are gates p c i to = let k = h.kept.0 in absurd cc
 
 pub init_leads : (old new : ReaderState) (x : Front) (s : List ℕ) → StandsFor old x → old.next ≡ next.Init → 1 ≤ length s → length s + old.init_read ≤ old.fields.init_len
     → new.count ≡ old.count → new.begun ≡ old.begun → new.spans ≡ old.spans → new.fields ≡ old.fields → new.gates ≡ old.gates
     → new.init_read ≡ old.init_read + length s
     → new.next ≡ next_init (old.init_read + length s) old.fields.init_len old.begun old.count → Leads x s new
-init_leads old new Empty s h is some room count begun spans_are fields_are gates i to = let k = h.kept.0 in absurd cc
-init_leads old new (AfterMagic format) s h is some room count begun spans_are fields_are gates i to = let k = h.kept.0 in absurd cc
-init_leads old new (AfterCount format n ps) s h is some room count begun spans_are fields_are gates i to = let k = h.kept.0 in absurd cc
-init_leads old new (InGates n ps f gs) s h is some room count begun spans_are fields_are gates i to = let k = h.kept.0 in absurd cc
-init_leads old new (InCode n ps f gs code) s h is some room count begun spans_are fields_are gates i to = let k = h.kept.0 in absurd cc
 init_leads old new (InInit n ps f gs code init) s h is some room count begun spans_are fields_are gates i to =
     let k = h.kept.1 in
     let read = h.kept.2 in
@@ -156,7 +136,7 @@ init_leads old new (InInit n ps f gs code init) s h is some room count begun spa
       fields = fields_are ∙ k.fields;
       gates = gates ∙ k.gates;
     }) (i ∙ ap (λ (j : ℕ). j + length s) read ∙ sym more) where_to)
-init_leads old new (Whole ps) s h is some room count begun spans_are fields_are gates i to = let k = h.kept.0 in absurd cc
+init_leads old new _ s h is some room count begun spans_are fields_are gates i to = let k = h.kept.0 in absurd cc
 
 -- ---- faults
 
@@ -181,41 +161,23 @@ pub magic_fault : (old : ReaderState) (x : Front) (s : List ℕ) → StandsFor o
 magic_fault old Empty s h is len wrong =
     λ more. let first : take 4 (s ++ more) ≡ s = ap (λ (j : ℕ). take j (s ++ more)) (sym len) ∙ take-append_seam s more in
     inr (inl (omega (arith, length-append s more), λ format e. wrong format (sym first ∙ e), refl))
-magic_fault old (AfterMagic format) s h is len wrong = let k = h.kept.0 in absurd cc
-magic_fault old (AfterCount format n ps) s h is len wrong = let k = h.kept.0 in absurd cc
-magic_fault old (InGates n ps f gs) s h is len wrong = let k = h.kept.0 in absurd cc
-magic_fault old (InCode n ps f gs code) s h is len wrong = let k = h.kept.0 in absurd cc
-magic_fault old (InInit n ps f gs code init) s h is len wrong = let k = h.kept.0 in absurd cc
-magic_fault old (Whole ps) s h is len wrong = let k = h.kept.0 in absurd cc
+magic_fault old _ s h is len wrong = let k = h.kept.0 in absurd cc
 
 pub count_fault : (old : ReaderState) (x : Front) (s : List ℕ) (m : ℕ) → StandsFor old x → old.next ≡ next.Count → s ≡ number m → IsWord m → (1 ≤ m → m ≤ 16 → ⊥) → HasFaultWhateverFollows (front x ++ s) faults.Count
-count_fault old Empty s m h is e word wrong = let k = h.kept.0 in absurd cc
 count_fault old (AfterMagic format) s m h is e word wrong =
     λ more. inr (inr (format, s ++ more, append_assoc (magic format) s more, inr (m, more, ap (λ (t : List ℕ). t ++ more) e, word, inl (λ r. wrong r.0 r.1, refl))))
-count_fault old (AfterCount format n ps) s m h is e word wrong = let k = h.kept.0 in absurd cc
-count_fault old (InGates n ps f gs) s m h is e word wrong = let k = h.kept.0 in absurd cc
-count_fault old (InCode n ps f gs code) s m h is e word wrong = let k = h.kept.0 in absurd cc
-count_fault old (InInit n ps f gs code init) s m h is e word wrong = let k = h.kept.0 in absurd cc
-count_fault old (Whole ps) s m h is e word wrong = let k = h.kept.0 in absurd cc
+count_fault old _ s m h is e word wrong = let k = h.kept.0 in absurd cc
 
 pub fields_fault : (old : ReaderState) (x : Front) (s : List ℕ) (f : Fields) (k : LayoutFault) → StandsFor old x → old.next ≡ next.Fields → s ≡ fields f → AreFieldWords f
     → f.format ≡ old.fields.format → IsFirstFault old.spans f field_tests (Some k) → HasFaultWhateverFollows (front x ++ s) k
-fields_fault old Empty s f' k' h is e words kind wrong = let k = h.kept.0 in absurd cc
-fields_fault old (AfterMagic format) s f' k' h is e words kind wrong = let k = h.kept.0 in absurd cc
 fields_fault old (AfterCount format n ps) s f' k' h is e words kind wrong =
     λ more. rw (append_assoc (head format n ps) s more) (head_fault format n ps (s ++ more) k' h.right.0 h.right.1
     (inr (f', more, ap (λ (t : List ℕ). t ++ more) e, words, kind ∙ h.kept.1.of, inl (subst (λ (b : List Span). IsFirstFault b f' field_tests (Some k')) h.kept.1.spans wrong))))
-fields_fault old (InGates n ps f gs) s f' k' h is e words kind wrong = let k = h.kept.0 in absurd cc
-fields_fault old (InCode n ps f gs code) s f' k' h is e words kind wrong = let k = h.kept.0 in absurd cc
-fields_fault old (InInit n ps f gs code init) s f' k' h is e words kind wrong = let k = h.kept.0 in absurd cc
-fields_fault old (Whole ps) s f' k' h is e words kind wrong = let k = h.kept.0 in absurd cc
+fields_fault old _ s f' k' h is e words kind wrong = let k = h.kept.0 in absurd cc
 
 pub gate_fault : (old : ReaderState) (x : Front) (s : List ℕ) (g : Gate) → StandsFor old x → old.next ≡ next.Gate → s ≡ gate g → AreGateWords g
     → ((gs : List Gate) → map (λ h. h.address) gs ≡ old.gates → AreGates (code_span old.fields) gs → AreGates (code_span old.fields) (gs ++ g ∷ []) → ⊥)
     → HasFaultWhateverFollows (front x ++ s) faults.Gates
-gate_fault old Empty s g h is e words wrong = let k = h.kept.0 in absurd cc
-gate_fault old (AfterMagic format) s g h is e words wrong = let k = h.kept.0 in absurd cc
-gate_fault old (AfterCount format n ps) s g h is e words wrong = let k = h.kept.0 in absurd cc
 gate_fault old (InGates n ps f gs) s g h is e words wrong =
     λ more.
     let opened = h.right.0 in
@@ -224,9 +186,7 @@ gate_fault old (InGates n ps f gs) s g h is e words wrong =
     let regroup : (head f.format n ps ++ (fields f ++ flat_map gate gs) ++ s) ++ more ≡ head f.format n ps ++ (fields f ++ (flat_map gate gs ++ (s ++ more))) = simp append_assoc in
     let none : AreGates (code_span f) (gs ++ g ∷ []) → ⊥ = λ are. wrong gs (sym k.gates) (subst (λ (r : Span). AreGates r gs) (sym region_is) opened.gates) (subst (λ (r : Span). AreGates r (gs ++ g ∷ [])) (sym region_is) are) in
     rw (regroup) (body_fault n ps f gs (s ++ more) faults.Gates opened (inr (inl (h.right.1, g, more, ap (λ (t : List ℕ). t ++ more) e, words, none, refl))))
-gate_fault old (InCode n ps f gs code) s g h is e words wrong = let k = h.kept.0 in absurd cc
-gate_fault old (InInit n ps f gs code init) s g h is e words wrong = let k = h.kept.0 in absurd cc
-gate_fault old (Whole ps) s g h is e words wrong = let k = h.kept.0 in absurd cc
+gate_fault old _ s g h is e words wrong = let k = h.kept.0 in absurd cc
 
 -- bytes that are all spelled
 pub no_rest : (bytes front rest : List ℕ) → bytes ≡ front ++ rest → length rest ≡ 0 → bytes ≡ front

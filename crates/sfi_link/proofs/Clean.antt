@@ -1,12 +1,12 @@
 -- A bundle of whole expansions breaks no rule.
 use Rattle.std.proofs.Common.{◌≡◌, ℕ, zero, suc, ◌+◌, ◌^◌, ◌<◌, ◌≤◌, List, [], ◌∷◌, ◌++◌, length, Option, Some, None, Bool, true, false, refl, sym, ap, ◌∙◌, subst, arith, append_assoc, inl, inr, replicate}
-use Rattle.std.specs.Prelude.{ℤ, pos, negsuc, ◌-ℤ◌, ◌==◌, ◌&&◌, not, MatchBool}
+use Rattle.std.specs.Prelude.{ℤ, pos, negsuc, ◌-ℤ◌, ◌==◌, ◌&&◌, ◌||◌, not, MatchBool}
+use Rattle.std.proofs.lemmas.Bool as bool
 use Rattle.rv_word.specs.Numbers.{offset_by}
 use Rattle.rv_word.specs.declared.instr.RegOp.TheVariants.{And, Or}
 use Rattle.rv_word.specs.declared.instr.ImmOp.TheVariants.{Addi}
 use Rattle.rv_word.specs.declared.instr.Instr.{Instr}
-use Rattle.rv_word.specs.declared.instr.Instr.TheVariants.{Op, OpImm, Load, Store, Branch, Jal, Jalr, Lui, Auipc, Fence, Ecall, Ebreak}
-use Rattle.rv_word.specs.Laws.{SpellingsAreWide}
+use Rattle.rv_word.specs.declared.instr.Instr.TheVariants.{Op, OpImm, Load, Store, Branch, Jal, Jalr, Lui, Fence, Ecall, Ebreak}
 use Rattle.rv_word.specs.Writes.{destination, is_register, writes_register}
 use Rattle.sfi_policy.specs.Formats.{has_stack, is_stack}
 use Rattle.rv_source.specs.declared.item.Body.{Body}
@@ -16,7 +16,7 @@ use Rattle.sfi_scan.specs.declared.bundle.BundlePlace.{BundlePlace}
 use Rattle.sfi_scan.specs.Readings.{Piece}
 use Rattle.sfi_policy.specs.Registers.{is_reserved, is_withheld}
 use Rattle.sfi_scan.specs.Pairs.{follows_data_pair}
-use Rattle.sfi_scan.specs.Stack.{writes_stack, begins_pair, precedes_pair, is_jump}
+use Rattle.sfi_scan.specs.Stack.{writes_stack, begins_pair, ends_pair, precedes_pair, is_jump}
 use Rattle.sfi_scan.specs.Rules.{is_bundle_start, breaks_reserved, breaks_stack}
 use Rattle.rv_source.specs.Halves.{upper, lower}
 use Rattle.sfi_rewrite.specs.declared.slot.Slot.{Slot}
@@ -31,8 +31,9 @@ use Rattle.sfi_link.specs.declared.bases.Bases.{Bases}
 use Rattle.sfi_link.specs.Addresses.{target_at, address_at, with_offset}
 use Rattle.sfi_link.specs.Linked.{c_ebreak}
 use Rattle.sfi_link.specs.Code.{resolved, made_of, AreSlots}
-use Rattle.sfi_link.proofs.Sizes.{slot_some, size_cons}
-use Rattle.sfi_link.proofs.CleanPlaces.{AreStarts, IsReadAs, IsCleanFrom, and_false, place, or_left, unreserved, is_calm, writes_unreserved, calm, no_write, well_written, by_first, by_second, by_third, pair_read, or_read, both_true, second_false, not_false, on_stack, after_pair, lands, direct, PassesBefore, step, some_same, made, slot_spells, lone_ends}
+use Rattle.sfi_rewrite.proofs.Sizes.{size_of-cons}
+use Rattle.sfi_link.proofs.Sizes.{slot_some}
+use Rattle.sfi_link.proofs.CleanPlaces.{AreStarts, IsReadAs, IsCleanFrom, place, or_left, unreserved, is_calm, writes_unreserved, calm, no_write, well_written, pair_read, or_read, second_false, on_stack, lands, direct, PassesBefore, step, some_same, made, slot_spells, lone_ends}
 
 -- ---- slot by slot
 
@@ -47,78 +48,78 @@ record CanStep (b : BundlePlace) (at : Bases) (names : List PlacedName) (here : 
   passes : PassesBefore b here earlier i more
   rest : IsCleanly b at names (here + slot_size x) (i ∷ earlier) more
 
-slot_step : SpellingsAreWide → (b : BundlePlace) (at : Bases) (names : List PlacedName) (here : ℕ) (earlier : List Instr) (x : Slot) (more : List Slot)
+slot_step : (b : BundlePlace) (at : Bases) (names : List PlacedName) (here : ℕ) (earlier : List Instr) (x : Slot) (more : List Slot)
     → ((i : Instr) → resolved at names here x ≡ Some i → CanStep b at names here earlier x more i) → IsCleanly b at names here earlier (x ∷ more)
-slot_step law b at names here earlier x more can room bytes (front, rest, s, others, e) =
+slot_step b at names here earlier x more can room bytes (front, rest, s, others, e) =
     let size = slot_some x in
-    let sized = size_cons x more in
+    let sized = size_of-cons x more in
     let c = can s.instr s.resolves in
-    step b here earlier bytes front rest s.instr (slot_size x) (slot_spells law at names here x front s) e x more refl c.own (lone_ends at names here x s.instr s.resolves)
+    step b here earlier bytes front rest s.instr (slot_size x) (slot_spells at names here x front s) e x more refl c.own (lone_ends at names here x s.instr s.resolves)
     (c.rest (omega arith) rest others) c.passes
 
 -- at an instruction that is known
-known : SpellingsAreWide → (b : BundlePlace) (at : Bases) (names : List PlacedName) (here : ℕ) (earlier : List Instr) (x : Slot) (i : Instr) (more : List Slot)
+known : (b : BundlePlace) (at : Bases) (names : List PlacedName) (here : ℕ) (earlier : List Instr) (x : Slot) (i : Instr) (more : List Slot)
     → resolved at names here x ≡ Some i → IsReadAs x (record { instr = i; size = slot_size x }) → PassesBefore b here earlier i more → IsCleanly b at names (here + slot_size x) (i ∷ earlier) more
     → IsCleanly b at names here earlier (x ∷ more)
-known law b at names here earlier x i more r own passes rest =
-    slot_step law b at names here earlier x more
+known b at names here earlier x i more r own passes rest =
+    slot_step b at names here earlier x more
     (λ j q. subst (CanStep b at names here earlier x more) (some_same i j (sym r ∙ q)) (record { own = own; passes = passes; rest = rest }))
 
-wide : SpellingsAreWide → (b : BundlePlace) (at : Bases) (names : List PlacedName) (here : ℕ) (earlier : List Instr) (i : Instr) (more : List Slot)
+wide : (b : BundlePlace) (at : Bases) (names : List PlacedName) (here : ℕ) (earlier : List Instr) (i : Instr) (more : List Slot)
     → PassesBefore b here earlier i more → IsCleanly b at names (here + 4) (i ∷ earlier) more → IsCleanly b at names here earlier (Wide i ∷ more)
-wide law b at names here earlier i more passes rest = known law b at names here earlier (Wide i) i more refl refl passes rest
+wide b at names here earlier i more passes rest = known b at names here earlier (Wide i) i more refl refl passes rest
 
 -- what stands after is clean wherever it stands
 abbrev IsCleanAfter : BundlePlace → Bases → List PlacedName → List Slot → Type 0
 IsCleanAfter b at names more = (here : ℕ) (earlier : List Instr) → IsCleanly b at names here earlier more
 
 -- an instruction as it is
-alone : SpellingsAreWide → (b : BundlePlace) (at : Bases) (names : List PlacedName) (here : ℕ) (earlier : List Instr) (rvc : Bool) (i : Instr) (expanded more : List Slot)
+alone : (b : BundlePlace) (at : Bases) (names : List PlacedName) (here : ℕ) (earlier : List Instr) (rvc : Bool) (i : Instr) (expanded more : List Slot)
     → IsAlone rvc i expanded → PassesBefore b here earlier i more → IsCleanAfter b at names more → IsCleanly b at names here earlier (expanded ++ more)
-alone law b at names here earlier false i expanded more a passes rest =
-    subst (λ v. IsCleanly b at names here earlier (v ++ more)) (sym a) (wide law b at names here earlier i more passes (rest (here + 4) (i ∷ earlier)))
-alone law b at names here earlier true i expanded more a passes rest =
+alone b at names here earlier false i expanded more a passes rest =
+    subst (λ v. IsCleanly b at names here earlier (v ++ more)) (sym a) (wide b at names here earlier i more passes (rest (here + 4) (i ∷ earlier)))
+alone b at names here earlier true i expanded more a passes rest =
     elim a [
       | inl s ↦
           subst (λ v. IsCleanly b at names here earlier (v ++ more)) (sym s.2)
-          (known law b at names here earlier (Short s.0) i more (ap Some s.1.expands) tt passes (rest (here + 2) (i ∷ earlier)))
-      | inr w ↦ subst (λ v. IsCleanly b at names here earlier (v ++ more)) (sym w.1) (wide law b at names here earlier i more passes (rest (here + 4) (i ∷ earlier)))
+          (known b at names here earlier (Short s.0) i more (ap Some s.1.expands) tt passes (rest (here + 2) (i ∷ earlier)))
+      | inr w ↦ subst (λ v. IsCleanly b at names here earlier (v ++ more)) (sym w.1) (wide b at names here earlier i more passes (rest (here + 4) (i ∷ earlier)))
     ]
 
 -- what makes an address in x31
 into_x31 : (b : BundlePlace) (here : ℕ) (earlier : List Instr) (i : Instr) (more : List Slot) → is_calm i ≡ true → destination i ≡ Some 31 → PassesBefore b here earlier i more
 into_x31 b here earlier i more c d later read e =
     calm b here earlier i later c (ap is_reserved_of d)
-    (no_write (place b here earlier i later) i (ap (λ o. has_stack b.format && is_register 2 o) d ∙ and_false (has_stack b.format))) e
+    (no_write (place b here earlier i later) i (ap (λ o. has_stack b.format && is_register 2 o) d ∙ bool.and_right (has_stack b.format) false refl)) e
   where
     is_reserved_of : Option ℕ → Bool
     is_reserved_of None = false
     is_reserved_of (Some r) = is_reserved r
 
 -- a pair on x31, and what uses it
-pair_then : SpellingsAreWide → (b : BundlePlace) (at : Bases) (names : List PlacedName) (here : ℕ) (earlier : List Instr) (a mask base : ℕ) (i : Instr) (more : List Slot)
+pair_then : (b : BundlePlace) (at : Bases) (names : List PlacedName) (here : ℕ) (earlier : List Instr) (a mask base : ℕ) (i : Instr) (more : List Slot)
     → PassesBefore b (here + 4 + 4) (Op Or 31 31 base ∷ Op And 31 a mask ∷ earlier) i more → IsCleanAfter b at names more
     → IsCleanly b at names here earlier (Wide (Op And 31 a mask) ∷ Wide (Op Or 31 31 base) ∷ Wide i ∷ more)
-pair_then law b at names here earlier a mask base i more passes rest =
-    wide law b at names here earlier (Op And 31 a mask) (Wide (Op Or 31 31 base) ∷ Wide i ∷ more)
+pair_then b at names here earlier a mask base i more passes rest =
+    wide b at names here earlier (Op And 31 a mask) (Wide (Op Or 31 31 base) ∷ Wide i ∷ more)
     (into_x31 b here earlier (Op And 31 a mask) (Wide (Op Or 31 31 base) ∷ Wide i ∷ more) refl refl)
-    (wide law b at names (here + 4) (Op And 31 a mask ∷ earlier) (Op Or 31 31 base) (Wide i ∷ more)
+    (wide b at names (here + 4) (Op And 31 a mask ∷ earlier) (Op Or 31 31 base) (Wide i ∷ more)
     (into_x31 b (here + 4) (Op And 31 a mask ∷ earlier) (Op Or 31 31 base) (Wide i ∷ more) refl refl)
-    (wide law b at names (here + 4 + 4) (Op Or 31 31 base ∷ Op And 31 a mask ∷ earlier) i more passes
+    (wide b at names (here + 4 + 4) (Op Or 31 31 base ∷ Op And 31 a mask ∷ earlier) i more passes
     (rest (here + 4 + 4 + 4) (i ∷ Op Or 31 31 base ∷ Op And 31 a mask ∷ earlier))))
 
 -- the pair that puts the stack pointer back
-stack_pair_then : SpellingsAreWide → (b : BundlePlace) (at : Bases) (names : List PlacedName) (here : ℕ) (earlier : List Instr) (more : List Slot)
+stack_pair_then : (b : BundlePlace) (at : Bases) (names : List PlacedName) (here : ℕ) (earlier : List Instr) (more : List Slot)
     → IsCleanAfter b at names more → IsCleanly b at names here earlier (stack.stack_pair ++ more)
-stack_pair_then law b at names here earlier more rest =
-    wide law b at names here earlier (Op And 2 2 27) (Wide (Op Or 2 2 26) ∷ more)
+stack_pair_then b at names here earlier more rest =
+    wide b at names here earlier (Op And 2 2 27) (Wide (Op Or 2 2 26) ∷ more)
     (λ later read e.
     calm b here earlier (Op And 2 2 27) later refl refl
-    (well_written (place b here earlier (Op And 2 2 27) later) (Op And 2 2 27) (by_first (begins_pair (Op And 2 2 27) later) _ _ (or_read more later read))) e)
-    (wide law b at names (here + 4) (Op And 2 2 27 ∷ earlier) (Op Or 2 2 26) more
+    (well_written (place b here earlier (Op And 2 2 27) later) (Op And 2 2 27) (bool.or_left (begins_pair (Op And 2 2 27) later || ends_pair earlier (Op And 2 2 27)) (precedes_pair later) (bool.or_left (begins_pair (Op And 2 2 27) later) (ends_pair earlier (Op And 2 2 27)) (or_read more later read)))) e)
+    (wide b at names (here + 4) (Op And 2 2 27 ∷ earlier) (Op Or 2 2 26) more
     (λ later read e.
     calm b (here + 4) (Op And 2 2 27 ∷ earlier) (Op Or 2 2 26) later refl refl
-    (well_written (place b (here + 4) (Op And 2 2 27 ∷ earlier) (Op Or 2 2 26) later) (Op Or 2 2 26) (by_second (begins_pair (Op Or 2 2 26) later) true _ refl)) e)
+    (well_written (place b (here + 4) (Op And 2 2 27 ∷ earlier) (Op Or 2 2 26) later) (Op Or 2 2 26) (bool.or_left (begins_pair (Op Or 2 2 26) later || true) (precedes_pair later) (bool.or_right (begins_pair (Op Or 2 2 26) later) true refl))) e)
     (rest (here + 4 + 4) (Op Or 2 2 26 ∷ Op And 2 2 27 ∷ earlier)))
 
 -- ---- the expansion of an instruction
@@ -126,24 +127,16 @@ stack_pair_then law b at names here earlier more rest =
 -- V10 of an instruction directly before the pair
 before_pair : (b : BundlePlace) (here : ℕ) (earlier : List Instr) (i : Instr) (later : List Piece) → is_jump i ≡ false → precedes_pair later ≡ true → breaks_stack (place b here earlier i later) i ≡ false
 before_pair b here earlier i later j p =
-    well_written (place b here earlier i later) i (by_third (begins_pair i later) _ _ (ap (λ v. not v && precedes_pair later) j ∙ p))
+    well_written (place b here earlier i later) i (bool.or_right (begins_pair i later || ends_pair earlier i) _ (ap (λ v. not v && precedes_pair later) j ∙ p))
 
 -- what writes the stack pointer
 writer_passes : (b : BundlePlace) (here : ℕ) (earlier : List Instr) (i : Instr) (more : List Slot) → names_withheld i ≡ false → has_stack b.format ≡ true → writes_register 2 i ≡ true
     → stack.jumps_or_loads_x2 (Plain i) ≡ false → PassesBefore b here earlier i (stack.stack_pair ++ more)
-writer_passes b here earlier (Op op rd rs1 rs2) more h f w j later read e =
-    calm b here earlier (Op op rd rs1 rs2) later refl (writes_unreserved (Op op rd rs1 rs2) h) (before_pair b here earlier (Op op rd rs1 rs2) later refl (pair_read more later read)) e
-writer_passes b here earlier (OpImm op rd rs1 imm) more h f w j later read e =
-    calm b here earlier (OpImm op rd rs1 imm) later refl (writes_unreserved (OpImm op rd rs1 imm) h) (before_pair b here earlier (OpImm op rd rs1 imm) later refl (pair_read more later read)) e
-writer_passes b here earlier (Lui rd imm) more h f w j later read e =
-    calm b here earlier (Lui rd imm) later refl (writes_unreserved (Lui rd imm) h) (before_pair b here earlier (Lui rd imm) later refl (pair_read more later read)) e
-writer_passes b here earlier (Auipc rd imm) more h f w j later read e =
-    calm b here earlier (Auipc rd imm) later refl (writes_unreserved (Auipc rd imm) h) (before_pair b here earlier (Auipc rd imm) later refl (pair_read more later read)) e
 writer_passes b here earlier (Load kind rd a imm) more h f w j later read e =
     record {
       v3 = refl;
       v4 = writes_unreserved (Load kind rd a imm) h;
-      v5 = on_stack b a (follows_data_pair a earlier) (ap (λ v. v && (a == 2)) f ∙ not_false (a == 2) (second_false (rd == 2) (not (a == 2)) w j));
+      v5 = on_stack b a (follows_data_pair a earlier) (ap (λ v. v && (a == 2)) f ∙ bool.not-false (a == 2) (second_false (rd == 2) (not (a == 2)) w j));
       v6 = refl;
       v7 = refl;
       v8 = e;
@@ -156,6 +149,7 @@ writer_passes b here earlier (Branch cond rs1 rs2 offset) more h f w j later rea
 writer_passes b here earlier (Fence imm rd rs1) more h f w j later read e = cc
 writer_passes b here earlier Ecall more h f w j later read e = cc
 writer_passes b here earlier Ebreak more h f w j later read e = cc
+writer_passes b here earlier i more h f w j later read e = calm b here earlier i later refl (writes_unreserved i h) (before_pair b here earlier i later refl (pair_read more later read)) e
 
 -- an access on the stack pointer that doesn't write it
 access_passes : (b : BundlePlace) (here : ℕ) (earlier : List Instr) (i : Instr) (more : List Slot) → names_withheld i ≡ false → has_stack b.format ≡ true → stack.is_on_x2 i ≡ true
@@ -193,105 +187,95 @@ jump_passes b here earlier a rd more h w later read e =
       v10 = no_write (place b here (Op Or 31 31 24 ∷ Op And 31 a 25 ∷ earlier) (Jalr rd 31 (pos 0)) later) (Jalr rd 31 (pos 0)) w;
     }
 
-with_sum : SpellingsAreWide → (b : BundlePlace) (at : Bases) (names : List PlacedName) (here : ℕ) (earlier : List Instr) (rd a : ℕ) (imm : ℤ) (more : List Slot)
+with_sum : (b : BundlePlace) (at : Bases) (names : List PlacedName) (here : ℕ) (earlier : List Instr) (rd a : ℕ) (imm : ℤ) (more : List Slot)
     → is_withheld rd ≡ false → is_stack b.format rd ≡ false → IsCleanAfter b at names more
     → IsCleanly b at names here earlier (Wide (OpImm Addi 31 a imm) ∷ Wide (Op And 31 31 25) ∷ Wide (Op Or 31 31 24) ∷ jump_to_x31 rd ∷ more)
-with_sum law b at names here earlier rd a imm more h w rest =
-    wide law b at names here earlier (OpImm Addi 31 a imm) (Wide (Op And 31 31 25) ∷ Wide (Op Or 31 31 24) ∷ jump_to_x31 rd ∷ more)
+with_sum b at names here earlier rd a imm more h w rest =
+    wide b at names here earlier (OpImm Addi 31 a imm) (Wide (Op And 31 31 25) ∷ Wide (Op Or 31 31 24) ∷ jump_to_x31 rd ∷ more)
     (into_x31 b here earlier (OpImm Addi 31 a imm) (Wide (Op And 31 31 25) ∷ Wide (Op Or 31 31 24) ∷ jump_to_x31 rd ∷ more) refl refl)
-    (pair_then law b at names (here + 4) (OpImm Addi 31 a imm ∷ earlier) 31 25 24 (Jalr rd 31 (pos 0)) more
+    (pair_then b at names (here + 4) (OpImm Addi 31 a imm ∷ earlier) 31 25 24 (Jalr rd 31 (pos 0)) more
     (jump_passes b (here + 4 + 4 + 4) (OpImm Addi 31 a imm ∷ earlier) 31 rd more h w) rest)
 
-jump_clean : SpellingsAreWide → (b : BundlePlace) (at : Bases) (names : List PlacedName) (here : ℕ) (earlier : List Instr) (rd a : ℕ) (imm : ℤ) (more : List Slot)
+jump_clean : (b : BundlePlace) (at : Bases) (names : List PlacedName) (here : ℕ) (earlier : List Instr) (rd a : ℕ) (imm : ℤ) (more : List Slot)
     → is_withheld rd ≡ false → is_stack b.format rd ≡ false → IsCleanAfter b at names more → IsCleanly b at names here earlier (jump_slots rd a imm ++ more)
-jump_clean law b at names here earlier rd a (pos zero) more h w rest =
-    pair_then law b at names here earlier a 25 24 (Jalr rd 31 (pos 0)) more (jump_passes b (here + 4 + 4) earlier a rd more h w) rest
-jump_clean law b at names here earlier rd a (pos (suc n)) more h w rest = with_sum law b at names here earlier rd a (pos (suc n)) more h w rest
-jump_clean law b at names here earlier rd a (negsuc n) more h w rest = with_sum law b at names here earlier rd a (negsuc n) more h w rest
+jump_clean b at names here earlier rd a (pos zero) more h w rest =
+    pair_then b at names here earlier a 25 24 (Jalr rd 31 (pos 0)) more (jump_passes b (here + 4 + 4) earlier a rd more h w) rest
+jump_clean b at names here earlier rd a (pos (suc n)) more h w rest = with_sum b at names here earlier rd a (pos (suc n)) more h w rest
+jump_clean b at names here earlier rd a (negsuc n) more h w rest = with_sum b at names here earlier rd a (negsuc n) more h w rest
 
-masked_clean : SpellingsAreWide → (b : BundlePlace) (at : Bases) (names : List PlacedName) (here : ℕ) (earlier : List Instr) (rvc : Bool) (i : Instr) (count : ℕ) (expanded more : List Slot)
+masked_clean : (b : BundlePlace) (at : Bases) (names : List PlacedName) (here : ℕ) (earlier : List Instr) (rvc : Bool) (i : Instr) (count : ℕ) (expanded more : List Slot)
     → IsMasked rvc i expanded → IsBody count (Plain i) → names_withheld i ≡ false → is_ecall (Plain i) ≡ false → writes_stack b i ≡ false → IsCleanAfter b at names more
     → IsCleanly b at names here earlier (expanded ++ more)
-masked_clean law b at names here earlier rvc (Load kind rd a imm) count expanded more x body h c w rest =
+masked_clean b at names here earlier rvc (Load kind rd a imm) count expanded more x body h c w rest =
     subst (λ v. IsCleanly b at names here earlier (v ++ more)) (sym x)
-    (pair_then law b at names here earlier a 27 26 (Load kind rd 31 imm) more
+    (pair_then b at names here earlier a 27 26 (Load kind rd 31 imm) more
     (λ later read e. record {
       v3 = refl;
       v4 = writes_unreserved (Load kind rd a imm) h;
-      v5 = after_pair (is_stack b.format 31);
+      v5 = bool.not_from_true (is_stack b.format 31 || true) (bool.or_right (is_stack b.format 31) true refl);
       v6 = refl;
       v7 = refl;
       v8 = e;
       v10 = no_write (place b (here + 4 + 4) (Op Or 31 31 26 ∷ Op And 31 a 27 ∷ earlier) (Load kind rd 31 imm) later) (Load kind rd 31 imm) w;
     })
     rest)
-masked_clean law b at names here earlier rvc (Store width a rs2 imm) count expanded more x body h c w rest =
+masked_clean b at names here earlier rvc (Store width a rs2 imm) count expanded more x body h c w rest =
     subst (λ v. IsCleanly b at names here earlier (v ++ more)) (sym x)
-    (pair_then law b at names here earlier a 27 26 (Store width 31 rs2 imm) more
+    (pair_then b at names here earlier a 27 26 (Store width 31 rs2 imm) more
     (λ later read e. record {
       v3 = refl;
       v4 = refl;
-      v5 = after_pair (is_stack b.format 31);
+      v5 = bool.not_from_true (is_stack b.format 31 || true) (bool.or_right (is_stack b.format 31) true refl);
       v6 = refl;
       v7 = refl;
       v8 = e;
       v10 = no_write (place b (here + 4 + 4) (Op Or 31 31 26 ∷ Op And 31 a 27 ∷ earlier) (Store width 31 rs2 imm) later) (Store width 31 rs2 imm) w;
     })
     rest)
-masked_clean law b at names here earlier rvc (Jalr rd a imm) count expanded more x body h c w rest =
+masked_clean b at names here earlier rvc (Jalr rd a imm) count expanded more x body h c w rest =
     subst (λ v. IsCleanly b at names here earlier (v ++ more)) (sym x)
-    (jump_clean law b at names here earlier rd a imm more (or_left (is_withheld rd) (is_withheld a) h) w rest)
-masked_clean law b at names here earlier rvc (Op op rd rs1 rs2) count expanded more x body h c w rest =
-    alone law b at names here earlier rvc (Op op rd rs1 rs2) expanded more x (calm_passes b here earlier (Op op rd rs1 rs2) more refl h w) rest
-masked_clean law b at names here earlier rvc (OpImm op rd rs1 imm) count expanded more x body h c w rest =
-    alone law b at names here earlier rvc (OpImm op rd rs1 imm) expanded more x (calm_passes b here earlier (OpImm op rd rs1 imm) more refl h w) rest
-masked_clean law b at names here earlier rvc (Lui rd imm) count expanded more x body h c w rest =
-    alone law b at names here earlier rvc (Lui rd imm) expanded more x (calm_passes b here earlier (Lui rd imm) more refl h w) rest
-masked_clean law b at names here earlier rvc (Auipc rd imm) count expanded more x body h c w rest =
-    alone law b at names here earlier rvc (Auipc rd imm) expanded more x (calm_passes b here earlier (Auipc rd imm) more refl h w) rest
-masked_clean law b at names here earlier rvc (Fence imm rd rs1) count expanded more x body h c w rest =
-    alone law b at names here earlier rvc (Fence imm rd rs1) expanded more x (calm_passes b here earlier (Fence imm rd rs1) more refl h w) rest
-masked_clean law b at names here earlier rvc Ebreak count expanded more x body h c w rest =
-    alone law b at names here earlier rvc Ebreak expanded more x (calm_passes b here earlier Ebreak more refl h w) rest
-masked_clean law b at names here earlier rvc Ecall count expanded more x body h c w rest = absurd (let z : true ≡ false = c in cc)
-masked_clean law b at names here earlier rvc (Branch cond rs1 rs2 offset) count expanded more x body h c w rest = absurd body.1
-masked_clean law b at names here earlier rvc (Jal rd offset) count expanded more x body h c w rest = absurd body.1
+    (jump_clean b at names here earlier rd a imm more (or_left (is_withheld rd) (is_withheld a) h) w rest)
+masked_clean b at names here earlier rvc Ecall count expanded more x body h c w rest = absurd (let z : true ≡ false = c in cc)
+masked_clean b at names here earlier rvc (Branch cond rs1 rs2 offset) count expanded more x body h c w rest = absurd body.1
+masked_clean b at names here earlier rvc (Jal rd offset) count expanded more x body h c w rest = absurd body.1
+masked_clean b at names here earlier rvc i count expanded more x body h c w rest =
+    alone b at names here earlier rvc i expanded more x (calm_passes b here earlier i more refl h w) rest
 
 -- what writes the stack pointer, an access on it, and any other
-plain_clean : SpellingsAreWide → (b : BundlePlace) (at : Bases) (names : List PlacedName) (here : ℕ) (earlier : List Instr) (writes on rvc : Bool) (i : Instr) (count : ℕ) (expanded more : List Slot)
+plain_clean : (b : BundlePlace) (at : Bases) (names : List PlacedName) (here : ℕ) (earlier : List Instr) (writes on rvc : Bool) (i : Instr) (count : ℕ) (expanded more : List Slot)
     → stack.writes_stack b.format i ≡ writes → stack.is_on_stack b.format i ≡ on
     → MatchBool writes (expanded ≡ Wide i ∷ stack.stack_pair) (MatchBool on (IsAlone rvc i expanded) (IsMasked rvc i expanded))
     → IsBody count (Plain i) → names_withheld i ≡ false → is_ecall (Plain i) ≡ false → stack.is_stack_write b.format (Plain i) ≡ false → IsCleanAfter b at names more
     → IsCleanly b at names here earlier (expanded ++ more)
-plain_clean law b at names here earlier true on rvc i count expanded more w o x body h c s rest =
-    let both = both_true (has_stack b.format) (writes_register 2 i) w in
+plain_clean b at names here earlier true on rvc i count expanded more w o x body h c s rest =
+    let both = bool.and_parts (has_stack b.format) (writes_register 2 i) w in
     subst (λ v. IsCleanly b at names here earlier (v ++ more)) (sym x)
-    (wide law b at names here earlier i (stack.stack_pair ++ more)
+    (wide b at names here earlier i (stack.stack_pair ++ more)
     (writer_passes b here earlier i more h both.0 both.1 (second_false (has_stack b.format) (stack.jumps_or_loads_x2 (Plain i)) both.0 s))
-    (stack_pair_then law b at names (here + 4) (i ∷ earlier) more rest))
-plain_clean law b at names here earlier false true rvc i count expanded more w o x body h c s rest =
-    let both = both_true (has_stack b.format) (stack.is_on_x2 i) o in
-    alone law b at names here earlier rvc i expanded more x (access_passes b here earlier i more h both.0 both.1 w) rest
-plain_clean law b at names here earlier false false rvc i count expanded more w o x body h c s rest =
-    masked_clean law b at names here earlier rvc i count expanded more x body h c w rest
+    (stack_pair_then b at names (here + 4) (i ∷ earlier) more rest))
+plain_clean b at names here earlier false true rvc i count expanded more w o x body h c s rest =
+    let both = bool.and_parts (has_stack b.format) (stack.is_on_x2 i) o in
+    alone b at names here earlier rvc i expanded more x (access_passes b here earlier i more h both.0 both.1 w) rest
+plain_clean b at names here earlier false false rvc i count expanded more w o x body h c s rest =
+    masked_clean b at names here earlier rvc i count expanded more x body h c w rest
 
 -- an instruction made of a name's address, before the pair if it writes the stack pointer
-made_clean : SpellingsAreWide → (b : BundlePlace) (at : Bases) (names : List PlacedName) (here : ℕ) (earlier : List Instr) (writes : Bool) (rd : ℕ) (x : Slot) (f : ℕ → Instr) (o : Option ℕ) (more : List Slot)
+made_clean : (b : BundlePlace) (at : Bases) (names : List PlacedName) (here : ℕ) (earlier : List Instr) (writes : Bool) (rd : ℕ) (x : Slot) (f : ℕ → Instr) (o : Option ℕ) (more : List Slot)
     → is_stack b.format rd ≡ writes → resolved at names here x ≡ made_of f o → ((a : ℕ) → (is_calm (f a) ≡ true) × (is_jump (f a) ≡ false) × (destination (f a) ≡ Some rd) × (breaks_reserved (f a) ≡ false))
     → ((i : Instr) → IsReadAs x (record { instr = i; size = slot_size x })) → IsCleanAfter b at names more
     → IsCleanly b at names here earlier (x ∷ (stack.put_back writes ++ more))
-made_clean law b at names here earlier true rd x f o more w r calmly own rest =
-    slot_step law b at names here earlier x (stack.stack_pair ++ more) (λ i q.
+made_clean b at names here earlier true rd x f o more w r calmly own rest =
+    slot_step b at names here earlier x (stack.stack_pair ++ more) (λ i q.
     let m = made f o i (sym r ∙ q) in
     let k = calmly m.0 in
     record {
       own = own i;
       passes = subst (λ j. PassesBefore b here earlier j (stack.stack_pair ++ more)) (sym m.2)
           (λ later read e. calm b here earlier (f m.0) later k.0 k.3 (before_pair b here earlier (f m.0) later k.1 (pair_read more later read)) e);
-      rest = stack_pair_then law b at names (here + slot_size x) (i ∷ earlier) more rest;
+      rest = stack_pair_then b at names (here + slot_size x) (i ∷ earlier) more rest;
     })
-made_clean law b at names here earlier false rd x f o more w r calmly own rest =
-    slot_step law b at names here earlier x more (λ i q.
+made_clean b at names here earlier false rd x f o more w r calmly own rest =
+    slot_step b at names here earlier x more (λ i q.
     let m = made f o i (sym r ∙ q) in
     let k = calmly m.0 in
     record {
@@ -301,20 +285,20 @@ made_clean law b at names here earlier false rd x f o more w r calmly own rest =
       rest = rest (here + slot_size x) (i ∷ earlier);
     })
 
-body_clean : SpellingsAreWide → (b : BundlePlace) (at : Bases) (names : List PlacedName) → AreStarts b at names → (here : ℕ) (earlier : List Instr) (line : ℕ) (rvc : Bool) (body : Body) (count : ℕ)
+body_clean : (b : BundlePlace) (at : Bases) (names : List PlacedName) → AreStarts b at names → (here : ℕ) (earlier : List Instr) (line : ℕ) (rvc : Bool) (body : Body) (count : ℕ)
     (expanded more : List Slot) → item_names_withheld body ≡ false → is_ecall body ≡ false → stack.is_stack_write b.format body ≡ false → IsBody count body → IsExpansionOf b.format line rvc body expanded
     → IsCleanAfter b at names more → IsCleanly b at names here earlier (expanded ++ more)
-body_clean law b at names starts here earlier line rvc (Plain i) count expanded more h c s is x rest =
-    plain_clean law b at names here earlier (stack.writes_stack b.format i) (stack.is_on_stack b.format i) rvc i count expanded more refl refl x is h c s rest
-body_clean law b at names starts here earlier line rvc (To j k) count expanded more h c s is x rest =
-    subst (λ v. IsCleanly b at names here earlier (v ++ more)) (sym x) (jump_to law b at names starts here earlier j k line count more h s is rest)
+body_clean b at names starts here earlier line rvc (Plain i) count expanded more h c s is x rest =
+    plain_clean b at names here earlier (stack.writes_stack b.format i) (stack.is_on_stack b.format i) rvc i count expanded more refl refl x is h c s rest
+body_clean b at names starts here earlier line rvc (To j k) count expanded more h c s is x rest =
+    subst (λ v. IsCleanly b at names here earlier (v ++ more)) (sym x) (jump_to b at names starts here earlier j k line count more h s is rest)
   where
-    jump_to : SpellingsAreWide → (b : BundlePlace) (at : Bases) (names : List PlacedName) → AreStarts b at names → (here : ℕ) (earlier : List Instr) (j : Instr) (k line count : ℕ) (more : List Slot)
+    jump_to : (b : BundlePlace) (at : Bases) (names : List PlacedName) → AreStarts b at names → (here : ℕ) (earlier : List Instr) (j : Instr) (k line count : ℕ) (more : List Slot)
         → names_withheld j ≡ false → stack.is_stack_write b.format (To j k) ≡ false → IsBody count (To j k) → IsCleanAfter b at names more → IsCleanly b at names here earlier (Jump j k line ∷ more)
-    jump_to law b at names starts here earlier j k line count more h s is rest room bytes =
-        let sized = size_cons (Jump j k line) more in
+    jump_to b at names starts here earlier j k line count more h s is rest room bytes =
+        let sized = size_of-cons (Jump j k line) more in
         let low : here < 2 ^ 32 = omega arith in
-        slot_step law b at names here earlier (Jump j k line) more (λ i q.
+        slot_step b at names here earlier (Jump j k line) more (λ i q.
         let m = made (λ to. with_offset (pos to -ℤ pos here) j) (target_at at names k) i q in
         let t = starts k m.0 m.1 in
         let l : offset_by here (pos m.0 -ℤ pos here) ≡ m.0 = lands (pos m.0 -ℤ pos here) here m.0 refl low t.1 in
@@ -325,34 +309,34 @@ body_clean law b at names starts here earlier line rvc (To j k) count expanded m
           rest = rest (here + 4) (i ∷ earlier);
         })
         room bytes
-body_clean law b at names starts here earlier line rvc (High rd k) count expanded more h c s is x rest =
+body_clean b at names starts here earlier line rvc (High rd k) count expanded more h c s is x rest =
     subst (λ v. IsCleanly b at names here earlier (v ++ more)) (sym x)
-    (made_clean law b at names here earlier (is_stack b.format rd) rd (Upper rd k line) (λ address. Lui rd (upper (pos address))) (address_at at names k) more refl refl
+    (made_clean b at names here earlier (is_stack b.format rd) rd (Upper rd k line) (λ address. Lui rd (upper (pos address))) (address_at at names k) more refl refl
     (λ a. (refl, refl, refl, unreserved rd h)) (λ i. tt) rest)
-body_clean law b at names starts here earlier line rvc (Low rd k) count expanded more h c s is x rest =
+body_clean b at names starts here earlier line rvc (Low rd k) count expanded more h c s is x rest =
     subst (λ v. IsCleanly b at names here earlier (v ++ more)) (sym x)
-    (made_clean law b at names here earlier (is_stack b.format rd) rd (Lower rd k line) (λ address. OpImm Addi rd rd (lower (pos address))) (address_at at names k) more refl refl
+    (made_clean b at names here earlier (is_stack b.format rd) rd (Lower rd k line) (λ address. OpImm Addi rd rd (lower (pos address))) (address_at at names k) more refl refl
     (λ a. (refl, refl, refl, unreserved rd h)) (λ i. tt) rest)
 
 -- ---- whole expansions
 
 -- slots that are whole expansions, with what is clean after them, are read whole, without a finding
-pub clean : SpellingsAreWide → (b : BundlePlace) (at : Bases) (names : List PlacedName) → AreStarts b at names → (count : ℕ) (slots more : List Slot)
+pub clean : (b : BundlePlace) (at : Bases) (names : List PlacedName) → AreStarts b at names → (count : ℕ) (slots more : List Slot)
     → AreWhole b.format count slots → IsCleanAfter b at names more → IsCleanAfter b at names (slots ++ more)
-clean law b at names starts count _ more nothing rest here earlier = rest here earlier
-clean law b at names starts count _ more (padding slots w) rest here earlier =
-    known law b at names here earlier c_nop (OpImm Addi 0 0 (pos 0)) (slots ++ more) refl tt
-    (calm_passes b here earlier (OpImm Addi 0 0 (pos 0)) (slots ++ more) refl refl (and_false (has_stack b.format)))
-    (clean law b at names starts count slots more w rest (here + 2) (OpImm Addi 0 0 (pos 0) ∷ earlier))
-clean law b at names starts count _ more (whole_expansion x expanded slots p is e w) rest here earlier =
+clean b at names starts count _ more nothing rest here earlier = rest here earlier
+clean b at names starts count _ more (padding slots w) rest here earlier =
+    known b at names here earlier c_nop (OpImm Addi 0 0 (pos 0)) (slots ++ more) refl tt
+    (calm_passes b here earlier (OpImm Addi 0 0 (pos 0)) (slots ++ more) refl refl (bool.and_right (has_stack b.format) false refl))
+    (clean b at names starts count slots more w rest (here + 2) (OpImm Addi 0 0 (pos 0) ∷ earlier))
+clean b at names starts count _ more (whole_expansion x expanded slots p is e w) rest here earlier =
     subst (IsCleanly b at names here earlier) (sym (append_assoc expanded slots more))
-    (body_clean law b at names starts here earlier x.line x.rvc x.body count expanded (slots ++ more) p.operands p.no_ecall p.no_stack_write is e
-    (clean law b at names starts count slots more w rest))
+    (body_clean b at names starts here earlier x.line x.rvc x.body count expanded (slots ++ more) p.operands p.no_ecall p.no_stack_write is e
+    (clean b at names starts count slots more w rest))
 
 -- c.ebreaks are
-pub clean_fill : SpellingsAreWide → (b : BundlePlace) (at : Bases) (names : List PlacedName) (n : ℕ) → IsCleanAfter b at names (replicate n c_ebreak)
-clean_fill law b at names zero here earlier room bytes s =
+pub clean_fill : (b : BundlePlace) (at : Bases) (names : List PlacedName) (n : ℕ) → IsCleanAfter b at names (replicate n c_ebreak)
+clean_fill b at names zero here earlier room bytes s =
     record { reading = []; is_reading = tt; nothing_left = s; count = refl; read = tt; ending = λ _. refl; length_is = ap length s; found = λ _. refl }
-clean_fill law b at names (suc n) here earlier room bytes s =
-    known law b at names here earlier c_ebreak Ebreak (replicate n c_ebreak) refl tt (calm_passes b here earlier Ebreak (replicate n c_ebreak) refl refl (and_false (has_stack b.format)))
-    (clean_fill law b at names n (here + 2) (Ebreak ∷ earlier)) room bytes s
+clean_fill b at names (suc n) here earlier room bytes s =
+    known b at names here earlier c_ebreak Ebreak (replicate n c_ebreak) refl tt (calm_passes b here earlier Ebreak (replicate n c_ebreak) refl refl (bool.and_right (has_stack b.format) false refl))
+    (clean_fill b at names n (here + 2) (Ebreak ∷ earlier)) room bytes s

@@ -2,12 +2,12 @@
 use Rattle.std.proofs.Common.{◌≡◌, ℕ, ◌+◌, ◌^◌, ◌<◌, List, [], ◌∷◌, ◌++◌, length, take, drop, Option, Some, None, Bool, true, false, refl, sym, ap, ◌∙◌, subst, arith, length-append}
 use Rattle.std.specs.Prelude.{ℤ, pos, negsuc, ◌+ℤ◌, ◌-ℤ◌, ◌==◌, ◌&&◌, ◌||◌, not}
 use Rattle.std.proofs.Math.Seq.{take-append_seam, drop-append_seam}
+use Rattle.std.proofs.lemmas.Bool.{and_right, or_parts}
 use Rattle.std.proofs.lemmas.Int.{ints}
 use Rattle.rv_word.specs.Numbers.{modulo, offset_by}
 use Rattle.rv_word.specs.declared.instr.RegOp.TheVariants.{And, Or}
 use Rattle.rv_word.specs.declared.instr.Instr.{Instr}
-use Rattle.rv_word.specs.declared.instr.Instr.TheVariants.{Op, OpImm, Load, Store, Branch, Jal, Jalr, Lui, Auipc, Fence, Ecall, Ebreak}
-use Rattle.rv_word.specs.Laws.{SpellingsAreWide}
+use Rattle.rv_word.specs.declared.instr.Instr.TheVariants.{Op, OpImm, Load, Branch, Jal, Jalr, Lui, Auipc, Fence, Ebreak}
 use Rattle.rv_word.specs.Writes.{writes_register}
 use Rattle.rv_comp.specs.declared.form.Form16.TheVariants.{CEbreak}
 use Rattle.rv_comp.specs.Fronts.{Spells}
@@ -23,7 +23,7 @@ use Rattle.sfi_scan.specs.Stack.{writes_stack, begins_pair, precedes_pair}
 use Rattle.sfi_scan.specs.Rules.{Place, is_empty, is_bundle_start, breaks_ecall, breaks_reserved, breaks_access, breaks_jump, breaks_target, breaks_end, breaks_stack, may_write_stack, ends_region, is_last_bundle}
 use Rattle.sfi_scan.specs.Findings.{lowest, all_rules, findings_from}
 use Rattle.sfi_rewrite.specs.declared.slot.Slot.{Slot}
-use Rattle.sfi_rewrite.specs.declared.slot.Slot.TheVariants.{Wide, Short, Jump, Upper, Lower}
+use Rattle.sfi_rewrite.specs.declared.slot.Slot.TheVariants.{Wide, Short}
 use Rattle.sfi_rewrite.specs.declared.placed.PlacedName.{PlacedName}
 use Rattle.sfi_rewrite.specs.Registers.{names_withheld}
 use Rattle.sfi_rewrite.specs.Stack as stack
@@ -32,7 +32,7 @@ use Rattle.sfi_link.specs.declared.bases.Bases.{Bases}
 use Rattle.sfi_link.specs.Addresses.{target_at, with_offset}
 use Rattle.sfi_link.specs.Code.{resolved, made_of, IsSlot}
 use Rattle.sfi_link.proofs.Written.{short_spells, wide_spells, spelled_length}
-use Rattle.sfi_link.proofs.Sizes.{size_cons}
+use Rattle.sfi_rewrite.proofs.Sizes.{size_of-cons}
 
 -- ---- what is asked of names, and what of ends
 
@@ -97,17 +97,13 @@ pub record Passes (x : Place) : Type 0 where
 none_lowest : (x : Place) → Passes x → lowest x all_rules ≡ []
 none_lowest x h = simp (h.v3, h.v4, h.v5, h.v6, h.v7, h.v8, h.v10)
 
-pub and_false : (a : Bool) → (a && false) ≡ false
-and_false true = refl
-and_false false = refl
-
 end_passes : (a : Bool) (x : Piece) (later : List Piece) → (a && not (ends_well (x ∷ later))) ≡ false → (a && (true && is_empty later) && not (ends_region x.instr)) ≡ false
 end_passes false x later h = refl
 end_passes true x [] h = h
 end_passes true x (y ∷ later) h = refl
 
 end_later : (a : Bool) (x : Piece) (later : List Piece) → (a && not (ends_well (x ∷ later))) ≡ false → (a && not (ends_well later)) ≡ false
-end_later a x [] h = and_false a
+end_later a x [] h = and_right a false refl
 end_later a x (y ∷ later) h = h
 
 -- the place of a piece in a bundle that is read whole
@@ -115,8 +111,7 @@ abbrev pub place : BundlePlace → ℕ → List Instr → Instr → List Piece �
 place b here earlier i later = record { bundle = b; address = here; earlier = earlier; instr = i; later = later; whole = true }
 
 pub or_left : (a b : Bool) → (a || b) ≡ false → a ≡ false
-or_left false b h = refl
-or_left true b h = cc
+or_left a b h = (or_parts a b h).0
 
 pub unreserved : (r : ℕ) → is_withheld r ≡ false → is_reserved r ≡ false
 unreserved r h = or_left (is_reserved r) (r == 31) h
@@ -136,15 +131,11 @@ pub writes_unreserved : (i : Instr) → names_withheld i ≡ false → breaks_re
 writes_unreserved (Op op rd rs1 rs2) h = unreserved rd (or_left (is_withheld rd) (is_withheld rs1) (or_left (is_withheld rd || is_withheld rs1) (is_withheld rs2) h))
 writes_unreserved (OpImm op rd rs1 imm) h = unreserved rd (or_left (is_withheld rd) (is_withheld rs1) h)
 writes_unreserved (Load kind rd rs1 imm) h = unreserved rd (or_left (is_withheld rd) (is_withheld rs1) h)
-writes_unreserved (Store width rs1 rs2 imm) h = refl
-writes_unreserved (Branch cond rs1 rs2 offset) h = refl
 writes_unreserved (Jal rd offset) h = unreserved rd h
 writes_unreserved (Jalr rd rs1 imm) h = unreserved rd (or_left (is_withheld rd) (is_withheld rs1) h)
 writes_unreserved (Lui rd imm) h = unreserved rd h
 writes_unreserved (Auipc rd imm) h = unreserved rd h
-writes_unreserved (Fence imm rd rs1) h = refl
-writes_unreserved Ecall h = refl
-writes_unreserved Ebreak h = refl
+writes_unreserved _ h = refl
 
 pub calm : (b : BundlePlace) (here : ℕ) (earlier : List Instr) (i : Instr) (later : List Piece) → is_calm i ≡ true → breaks_reserved i ≡ false → breaks_stack (place b here earlier i later) i ≡ false
     → breaks_end (place b here earlier i later) i ≡ false → Passes (place b here earlier i later)
@@ -164,25 +155,11 @@ no_write x i h = ap (λ w. w && not (may_write_stack x i)) h
 
 -- above all of what has no rd
 unwritten : (x : Place) (i : Instr) → writes_register 2 i ≡ false → breaks_stack x i ≡ false
-unwritten x i h = no_write x i (ap (λ w. has_stack x.bundle.format && w) h ∙ and_false (has_stack x.bundle.format))
+unwritten x i h = no_write x i (ap (λ w. has_stack x.bundle.format && w) h ∙ and_right (has_stack x.bundle.format) false refl)
 
 -- and of what may
 pub well_written : (x : Place) (i : Instr) → may_write_stack x i ≡ true → breaks_stack x i ≡ false
-well_written x i h = ap (λ m. writes_stack x.bundle i && not m) h ∙ and_false (writes_stack x.bundle i)
-
-pub by_first : (p q r : Bool) → p ≡ true → (p || q || r) ≡ true
-by_first true q r h = refl
-by_first false q r h = cc
-
-pub by_second : (p q r : Bool) → q ≡ true → (p || q || r) ≡ true
-by_second true q r h = refl
-by_second false true r h = refl
-by_second false false r h = cc
-
-pub by_third : (p q r : Bool) → r ≡ true → (p || q || r) ≡ true
-by_third true q r h = refl
-by_third false true r h = refl
-by_third false false r h = h
+well_written x i h = ap (λ m. writes_stack x.bundle i && not m) h ∙ and_right (writes_stack x.bundle i) false refl
 
 -- the pair directly after is read
 pub pair_read : (more : List Slot) (later : List Piece) → AreReadAs (stack.stack_pair ++ more) later → precedes_pair later ≡ true
@@ -195,26 +172,13 @@ pub or_read : (more : List Slot) (later : List Piece) → AreReadAs (Wide (Op Or
 or_read more [] h = absurd h
 or_read more (y ∷ later) h = ap (λ i. is_placing 26 2 i) h.0
 
-pub both_true : (a b : Bool) → (a && b) ≡ true → (a ≡ true) × (b ≡ true)
-both_true true b h = (refl, h)
-both_true false b h = cc
-
 pub second_false : (a b : Bool) → a ≡ true → (a && b) ≡ false → b ≡ false
 second_false true b t h = h
 second_false false b t h = cc
 
-pub not_false : (a : Bool) → not a ≡ false → a ≡ true
-not_false true h = refl
-not_false false h = cc
-
 -- an access on the stack pointer
 pub on_stack : (b : BundlePlace) (a : ℕ) (p : Bool) → is_stack b.format a ≡ true → not (is_stack b.format a || p) ≡ false
 on_stack b a p h = ap (λ v. not (v || p)) h
-
--- an access after the pair
-pub after_pair : (v : Bool) → not (v || true) ≡ false
-after_pair true = refl
-after_pair false = refl
 
 back_to : (n here a : ℕ) (w : ℤ) → negsuc n ≡ pos a -ℤ pos here → w ≡ pos here +ℤ negsuc n → here < 2 ^ 32 → a < 2 ^ 32 → modulo 32 w ≡ a
 back_to n here a (pos k) e f h g = omega (arith, ints)
@@ -233,16 +197,7 @@ direct b here earlier (Jal rd offset) z later names name d h w s e =
 direct b here earlier (Branch cond rs1 rs2 offset) z later names name d h w s e =
     let x = place b here earlier (Branch cond rs1 rs2 z) later in
     record { v3 = refl; v4 = refl; v5 = refl; v6 = refl; v7 = ap not s; v8 = e; v10 = unwritten x x.instr refl }
-direct b here earlier (Op op rd rs1 rs2) z later names name d h w s e = absurd d.1
-direct b here earlier (OpImm op rd rs1 imm) z later names name d h w s e = absurd d.1
-direct b here earlier (Load kind rd rs1 imm) z later names name d h w s e = absurd d.1
-direct b here earlier (Store width rs1 rs2 imm) z later names name d h w s e = absurd d.1
-direct b here earlier (Jalr rd rs1 imm) z later names name d h w s e = absurd d.1
-direct b here earlier (Lui rd imm) z later names name d h w s e = absurd d.1
-direct b here earlier (Auipc rd imm) z later names name d h w s e = absurd d.1
-direct b here earlier (Fence imm rd rs1) z later names name d h w s e = absurd d.1
-direct b here earlier Ecall z later names name d h w s e = absurd d.1
-direct b here earlier Ebreak z later names name d h w s e = absurd d.1
+direct b here earlier _ z later names name d h w s e = absurd d.1
 
 -- ---- a reading, place by place
 
@@ -269,7 +224,7 @@ pub step : (b : BundlePlace) (here : ℕ) (earlier : List Instr) (bytes front re
     → IsCleanFrom b (here + n) (i ∷ earlier) slots rest → PassesBefore b here earlier i slots → IsCleanFrom b here earlier (x ∷ slots) bytes
 step b here earlier bytes front rest i n s e x slots same own one c passes =
     let counted = c.count in
-    let sized = size_cons x slots in
+    let sized = size_of-cons x slots in
     let long = c.length_is in
     let full = spelled_length front i n s in
     let both : length bytes ≡ length front + length rest = ap length e ∙ length-append front rest in
@@ -300,13 +255,10 @@ made f None i e = cc
 made f (Some a) i e = (a, refl, sym (some_same (f a) i e))
 
 -- the bytes of a slot spell its instruction
-pub slot_spells : SpellingsAreWide → (at : Bases) (names : List PlacedName) (here : ℕ) (s : Slot) (bytes : List ℕ) (x : IsSlot at names here s bytes) → Spells bytes x.instr (slot_size s)
-slot_spells law at names here (Wide j) bytes x = subst (λ (l : List ℕ). Spells l x.instr 4) (sym x.spelled.1) (wide_spells law x.instr x.spelled.0)
-slot_spells law at names here (Short f) bytes x =
+pub slot_spells : (at : Bases) (names : List PlacedName) (here : ℕ) (s : Slot) (bytes : List ℕ) (x : IsSlot at names here s bytes) → Spells bytes x.instr (slot_size s)
+slot_spells at names here (Short f) bytes x =
     subst (λ (i : Instr). Spells bytes i 2) (some_same (expansion f) x.instr x.resolves) (subst (λ (l : List ℕ). Spells l (expansion f) 2) (sym x.spelled.1) (short_spells f x.spelled.0))
-slot_spells law at names here (Jump j k line) bytes x = subst (λ (l : List ℕ). Spells l x.instr 4) (sym x.spelled.1) (wide_spells law x.instr x.spelled.0)
-slot_spells law at names here (Upper rd k line) bytes x = subst (λ (l : List ℕ). Spells l x.instr 4) (sym x.spelled.1) (wide_spells law x.instr x.spelled.0)
-slot_spells law at names here (Lower rd k line) bytes x = subst (λ (l : List ℕ). Spells l x.instr 4) (sym x.spelled.1) (wide_spells law x.instr x.spelled.0)
+slot_spells at names here _ bytes x = subst (λ (l : List ℕ). Spells l x.instr 4) (sym x.spelled.1) (wide_spells x.instr x.spelled.0)
 
 pub lone_ends : (at : Bases) (names : List PlacedName) (here : ℕ) (s : Slot) (i : Instr) → resolved at names here s ≡ Some i → is_end s ≡ true → ends_region i ≡ true
 lone_ends at names here (Short CEbreak) i r h = ap ends_region (sym (some_same Ebreak i r))

@@ -1,23 +1,20 @@
 -- What is placed, filled up with c.ebreaks, is full bundles.
 use Rattle.std.proofs.Common.{◌≡◌, ℕ, zero, suc, ◌+◌, ◌-◌, ◌*◌, ◌/◌, ◌<◌, List, [], ◌∷◌, ◌++◌, length, get_or, true, refl, sym, ap, ◌∙◌, arith, append_assoc, append-nil, replicate}
 use Rattle.std.specs.List.{All}
-use Rattle.std.proofs.lemmas.List.{length-replicate, get_or-replicate}
-use Rattle.std.proofs.lemmas.List.Elements.{All-head, All-tail, All-nil, All-cons}
+use Rattle.std.proofs.lemmas.List.{length-replicate, get_or-replicate, replicate-append-replicate}
+use Rattle.std.proofs.lemmas.List.Elements.{All-head, All-tail, All-cons, All-replicate}
 use Rattle.sfi_policy.specs.declared.format.Format.{Format}
 use Rattle.sfi_rewrite.specs.declared.slot.Slot.{Slot}
 use Rattle.sfi_rewrite.specs.Slots.{size_of, slots_of}
 use Rattle.sfi_rewrite.specs.Placement.{AreBundles}
 use Rattle.sfi_rewrite.specs.Placed.{AreWhole, nothing}
 use Rattle.sfi_link.specs.Linked.{c_ebreak}
-use Rattle.sfi_link.proofs.Sizes.{size_of-append, size_even, size_fill}
+use Rattle.sfi_rewrite.proofs.Sizes.{size_of-append, size_even}
+use Rattle.sfi_link.proofs.Sizes.{size_fill}
 use Rattle.sfi_link.proofs.CleanPlaces.{ends_slots}
 use Rattle.sfi_link.proofs.Region.{IsFull}
 
 -- ---- c.ebreaks
-
-replicate-add : {X : Type 0} (m n : ℕ) (x : X) → replicate (m + n) x ≡ replicate m x ++ replicate n x
-replicate-add zero n x = ap (λ k. replicate k x) (let e : 0 + n ≡ n = omega arith in e)
-replicate-add (suc m) n x = ap (λ k. replicate k x) (let e : suc m + n ≡ suc (m + n) = omega arith in e) ∙ ap (λ l. x ∷ l) (replicate-add m n x)
 
 -- a bundle of c.ebreaks
 abbrev eight : List Slot
@@ -26,12 +23,10 @@ eight = replicate 8 c_ebreak
 eights : (m : ℕ) → slots_of (replicate m eight) ≡ replicate (8 * m) c_ebreak
 eights zero = refl
 eights (suc m) =
-    ap (λ l. eight ++ l) (eights m) ∙ sym (replicate-add 8 (8 * m) c_ebreak) ∙ ap (λ k. replicate k c_ebreak) (let e : 8 + 8 * m ≡ 8 * suc m = omega arith in e)
+    ap (λ l. eight ++ l) (eights m) ∙ replicate-append-replicate 8 (8 * m) c_ebreak ∙ ap (λ k. replicate k c_ebreak) (let e : 8 + 8 * m ≡ 8 * suc m = omega arith in e)
 
 eights_full : (f : Format) (c m : ℕ) → All (IsFull f c) (replicate m eight)
-eights_full f c zero = All-nil (IsFull f c)
-eights_full f c (suc m) =
-    All-cons (IsFull f c) eight (replicate m eight) (record { size = size_fill 8; front = []; fill = 8; shape = refl; whole = nothing }) (eights_full f c m)
+eights_full f c m = All-replicate (IsFull f c) m eight (record { size = size_fill 8; front = []; fill = 8; shape = refl; whole = nothing })
 
 ends_fill : (xs : List Slot) (n : ℕ) → 0 < n → ends_slots (xs ++ replicate n c_ebreak) ≡ true
 ends_fill xs zero h = absurd (omega arith)
@@ -59,7 +54,7 @@ filled_one f c b w j m fill n size sum count some =
     let flat : slots_of (first ∷ replicate m eight) ≡ slots_of (b ∷ []) ++ replicate fill c_ebreak =
     append_assoc b (replicate j c_ebreak) (slots_of (replicate m eight))
     ∙ ap (λ l. b ++ (replicate j c_ebreak ++ l)) (eights m)
-    ∙ ap (λ l. b ++ l) (sym (replicate-add j (8 * m) c_ebreak) ∙ ap (λ k. replicate k c_ebreak) (sym sum))
+    ∙ ap (λ l. b ++ l) ((replicate-append-replicate j (8 * m) c_ebreak) ∙ ap (λ k. replicate k c_ebreak) (sym sum))
     ∙ ap (λ l. l ++ replicate fill c_ebreak) (sym (append-nil b)) in
     let many = length-replicate m eight in
     record {

@@ -4,8 +4,6 @@ use Rattle.std.specs.Prelude.{slice_get}
 use Rattle.std.specs.List.{All, repeat}
 use Rattle.std.proofs.lemmas.List.Elements.{All-head, All-tail}
 use Rattle.std.proofs.lemmas.Option.{slice_get_within, get_or_from_slice_get}
-use Rattle.rv_word.specs.Laws.{SpellingsAreWide}
-use Rattle.rv_comp.specs.Laws.{OneSpelling, TwoLengths}
 use Rattle.sfi_policy.specs.declared.format.Format.{Format}
 use Rattle.sfi_image.specs.Spelling.{Part}
 use Rattle.sfi_image.specs.Gates.{is_gate_of}
@@ -13,7 +11,7 @@ use Rattle.sfi_image.specs.Regions.{IsBundleStart}
 use Rattle.sfi_policy.specs.Pairs.{stub}
 use Rattle.sfi_scan.specs.Bundles.{place_of}
 use Rattle.sfi_scan.specs.Findings.{AreFindings, AreFindingsFrom}
-use Rattle.sfi_scan.specs.Laws.{SameBundleStarts}
+use Rattle.sfi_scan.proofs.Facts.{same_bundle_starts}
 use Rattle.sfi_rewrite.specs.declared.slot.Slot.{Slot}
 use Rattle.sfi_rewrite.specs.declared.placed.PlacedName.{PlacedName}
 use Rattle.sfi_rewrite.specs.declared.placed.PlacedName.TheVariants.{Gate, Code, Data, Unknown}
@@ -24,8 +22,9 @@ use Rattle.sfi_place.specs.declared.place.Place.{Place}
 use Rattle.sfi_link.specs.Addresses.{bases_of, of_name, target_of}
 use Rattle.sfi_link.specs.Code.{AreSlots}
 use Rattle.sfi_link.specs.Linked.{c_ebreak, needed, gates_from, IsLinked, AreLinkedFrom}
-use Rattle.sfi_link.proofs.Sizes.{size_of-append, size_fill}
-use Rattle.sfi_link.proofs.CleanPlaces.{AreStarts}
+use Rattle.sfi_rewrite.proofs.Sizes.{size_of-append}
+use Rattle.sfi_link.proofs.Sizes.{size_fill}
+use Rattle.sfi_link.proofs.CleanPlaces.{AreStarts, some_same}
 use Rattle.sfi_link.proofs.Region.{IsClosed, closed_is_clean, length_stubs}
 use Rattle.sfi_link.proofs.Filled.{filled}
 use Rattle.sfi_link.proofs.Parts.{lies_well, sixteens, slots_length, listed_at, listed_only}
@@ -36,9 +35,6 @@ use Rattle.sfi_link.proofs.Parts.{lies_well, sixteens, slots_length, listed_at, 
 of_place : (f : PlacedName → Option ℕ) (o : Option PlacedName) (a : ℕ) → of_name f o ≡ Some a → (n : PlacedName) × (o ≡ Some n) × (f n ≡ Some a)
 of_place f None a e = cc
 of_place f (Some n) a e = (n, refl, e)
-
-some_same : (x y : ℕ) → Some x ≡ Some y → x ≡ y
-some_same x y e = cc
 
 -- the target of a jump to a name is a bundle start
 target_starts : (given : List Place) → (number : ℕ) (p : Placement) (q : Part) → IsLinked given number p q → (n : PlacedName) → IsPlacedThere p n → (to : ℕ) → target_of (bases_of given number p) n ≡ Some to
@@ -66,19 +62,19 @@ target_starts given number p q linked (Code offset) there to e =
 target_starts given number p q linked (Data offset) there to e = cc
 target_starts given number p q linked Unknown there to e = cc
 
-are_starts : (given : List Place) → SameBundleStarts → (number : ℕ) (p : Placement) (q : Part) → IsPlacedPart p → IsLinked given number p q → (sandbox : ℕ) → AreStarts (place_of sandbox q 0) (bases_of given number p) p.names
-are_starts given law number p q placed linked sandbox place to e =
+are_starts : (given : List Place) → (number : ℕ) (p : Placement) (q : Part) → IsPlacedPart p → IsLinked given number p q → (sandbox : ℕ) → AreStarts (place_of sandbox q 0) (bases_of given number p) p.names
+are_starts given number p q placed linked sandbox place to e =
     let found = of_place (target_of (bases_of given number p)) (slice_get p.names place) to e in
     let within = slice_get_within p.names place found.0 found.1 in
     let there : IsPlacedThere p found.0 = subst (IsPlacedThere p) (get_or_from_slice_get p.names place found.0 found.0 found.1) (placed.names place found.0 within) in
     let start = target_starts given number p q linked found.0 there to found.2 in
-    ((law (place_of sandbox q 0) to).1 start.0, start.1)
+    ((same_bundle_starts (place_of sandbox q 0) to).1 start.0, start.1)
 
 -- ---- a sandbox
 
-closed : (given : List Place) → SameBundleStarts → (number : ℕ) (p : Placement) (q : Part) → IsPlacedPart p → IsLinked given number p q
+closed : (given : List Place) → (number : ℕ) (p : Placement) (q : Part) → IsPlacedPart p → IsLinked given number p q
     → (full : List (List Slot)) × IsClosed q (bases_of given number p) p.names (length p.gates) full × ((bases_of given number p).start + 16 * length full ≤ 2 ^ 32)
-closed given law number p q placed linked =
+closed given number p q placed linked =
     let code = linked.code in
     let room = code.size.has_room.room in
     let most = code.size.has_room.at_most in
@@ -88,13 +84,13 @@ closed given law number p q placed linked =
     let gates = linked.gates in
     let start = linked.start in
     let counted = sixteens p.format (needed p) (length q.code) code.size.has_room in
-    let sixteen = counted.is in
+    let sixteen = counted.1 in
     let long = ap length code.code_is ∙ length-append (repeat (length p.gates) stub) code.bytes in
     let stubs = length_stubs (length p.gates) in
     let bytes = slots_length _ _ _ _ code.bytes code.slots in
     let sized = size_of-append (slots_of p.bundles) (replicate code.fill c_ebreak) in
     let fill = size_fill code.fill in
-    let n : ℕ = counted.count - length p.gates in
+    let n : ℕ = counted.0 - length p.gates in
     let whole = filled q.format (length p.names) p.bundles placed.bundles (subst (λ (f : Format). All (AreWhole f (length p.names)) p.bundles) (sym linked.format) placed.whole) code.fill n (omega arith) (omega arith) in
     let count = whole.count in
     let at = bases_of given number p in
@@ -102,7 +98,7 @@ closed given law number p q placed linked =
     λ k. ap (λ gs. is_gate_of gs (q.code_base + 16 * k)) gates ∙ ap (λ a. is_gate_of (gates_from at.code p.gates) (a + 16 * k)) base in (
       whole.full,
       record {
-        starts = are_starts given law number p q placed linked;
+        starts = are_starts given number p q placed linked;
         start = omega arith;
         room = omega arith;
         bytes = code.bytes;
@@ -116,14 +112,13 @@ closed given law number p q placed linked =
       omega arith,
     )
 
-pub linked_is_clean : SpellingsAreWide → OneSpelling → TwoLengths → SameBundleStarts → (given : List Place) (number : ℕ) (p : Placement) (q : Part) → IsPlacedPart p → IsLinked given number p q → AreFindings number q []
-linked_is_clean law one two starts given number p q placed linked =
-    let c = closed given starts number p q placed linked in
-    closed_is_clean law one two number q (bases_of given number p) p.names (length p.gates) c.0 c.1 c.2
+pub linked_is_clean : (given : List Place) (number : ℕ) (p : Placement) (q : Part) → IsPlacedPart p → IsLinked given number p q → AreFindings number q []
+linked_is_clean given number p q placed linked =
+    let c = closed given number p q placed linked in
+    closed_is_clean number q (bases_of given number p) p.names (length p.gates) c.0 c.1 c.2
 
-pub all_are_clean : (given : List Place) → ((place : List Place) (number : ℕ) (p : Placement) (q : Part) → IsPlacedPart p → IsLinked place number p q → AreFindings number q [])
-    → (number : ℕ) (placed : List Placement) (parts : List Part) → All IsPlacedPart placed → AreLinkedFrom given number placed parts → AreFindingsFrom number parts []
-all_are_clean given each number [] parts all linked = subst (λ qs. AreFindingsFrom number qs []) (sym linked) refl
-all_are_clean given each number (p ∷ placed) [] all linked = absurd linked
-all_are_clean given each number (p ∷ placed) (q ∷ parts) all linked =
-    ([], [], each given number p q (All-head IsPlacedPart p placed all) linked.0, all_are_clean given each (number + 1) placed parts (All-tail IsPlacedPart p placed all) linked.1, refl)
+pub all_are_clean : (given : List Place) (number : ℕ) (placed : List Placement) (parts : List Part) → All IsPlacedPart placed → AreLinkedFrom given number placed parts → AreFindingsFrom number parts []
+all_are_clean given number [] parts all linked = subst (λ qs. AreFindingsFrom number qs []) (sym linked) refl
+all_are_clean given number (p ∷ placed) [] all linked = absurd linked
+all_are_clean given number (p ∷ placed) (q ∷ parts) all linked =
+    ([], [], linked_is_clean given number p q (All-head IsPlacedPart p placed all) linked.0, all_are_clean given (number + 1) placed parts (All-tail IsPlacedPart p placed all) linked.1, refl)

@@ -16,6 +16,7 @@ use Rattle.rv_source.specs.Source.{Sandbox}
 use Rattle.sfi_image.specs.declared.span.Span.{Span}
 use Rattle.sfi_image.specs.Spelling.{Part, spelling, fields_of}
 use Rattle.sfi_image.specs.Bounded.{IsBounded}
+use Rattle.sfi_image.proofs.Formats.{code_at_most}
 use Rattle.sfi_image.proofs.SpanLists.{front_apart}
 use Rattle.sfi_policy.specs.Pairs.{stub}
 use Rattle.sfi_rewrite.specs.declared.placed.PlacedName.{PlacedName}
@@ -39,9 +40,9 @@ use Rattle.sfi_link.specs.private.Near.{IsNear, AreNear, HasRoomFor, AreWritten,
 use Rattle.sfi_link.specs.Answers.{UnlessMemory, AnswersBytes, AnswersFault}
 use Rattle.sfi_link.specs.private.Answers.{Links}
 use Rattle.sfi_link.proofs.Unless.{memory_or, then_unless}
-use Rattle.sfi_link.proofs.Sizes.{size_even}
+use Rattle.sfi_rewrite.proofs.Sizes.{size_even}
 use Rattle.sfi_link.proofs.Region.{length_stubs}
-use Rattle.sfi_link.proofs.Parts.{sixteens, code_at_most, well_placed}
+use Rattle.sfi_link.proofs.Parts.{sixteens, well_placed}
 use Rattle.sfi_link.proofs.Pushed.{slots-append, split_at, written_length, fill_slots}
 use Rattle.sfi_link.proofs.OneLinking.{one_size, own_spans, one_linking, one_fault, never_both}
 
@@ -89,13 +90,13 @@ no_room f needed size large h = let a = h.room in let b = h.at_most in omega ari
 near_name : (given : List Place) (number : ℕ) (p : Placement) (size : ℕ) → IsPlacedPart p → HasRoom p.format (needed p) size → IsRightPlace p size (place_of given number) → (n : PlacedName) → IsPlacedThere p n
     → IsNear (bases_of given number p) n
 near_name given number p size placed room lies (name.Gate k) there =
-    let end = (well_placed p size (place_of given number) room lies).0 in
+    let end = (well_placed p size (place_of given number) lies).0 in
     let fits = room.room in
     let most = room.at_most in
     let bound = code_at_most p.format in
     record { fits = omega arith; within = (omega arith, omega arith) }
 near_name given number p size placed room lies (name.Code place) there =
-    let end = (well_placed p size (place_of given number) room lies).0 in
+    let end = (well_placed p size (place_of given number) lies).0 in
     let fits = room.room in
     let most = room.at_most in
     let bound = code_at_most p.format in
@@ -126,7 +127,7 @@ pub linked_code : (given : List Place) → (number : ℕ) (p : Placement) (at : 
     → IsLinkedCode given number p code
 linked_code given number p at size fill stubs now code is sized stubs_are written count code_is =
     let room = sized.has_room.room in
-    let sixteen = (sixteens p.format (needed p) size sized.has_room).is in
+    let sixteen = (sixteens p.format (needed p) size sized.has_room).1 in
     let stubs_long : length stubs ≡ 16 * length p.gates = ap length stubs_are ∙ length_stubs (length p.gates) in
     let now_long = written_length at p.names (slots_of p.bundles) stubs now written in
     let even = size_even (slots_of p.bundles) in
@@ -159,7 +160,7 @@ pub code_room : (given : List Place) (number : ℕ) (p : Placement) (at : Bases)
 code_room given number p at size stubs room lies is stubs_are =
     let a = ap length stubs_are ∙ length_stubs (length p.gates) in
     let b = ap (λ (b : Bases). b.code) is in
-    let end = (well_placed p size (place_of given number) room lies).0 in
+    let end = (well_placed p size (place_of given number) lies).0 in
     let fits = room.room in
     let most = room.at_most in
     let bound = code_at_most p.format in
@@ -314,9 +315,6 @@ linked_apart given ps cs qs codes linked = subst (λ l. AllPairs AreApart (spans
 
 pub are_linked : (given : List Place) (ps qs : List Placement) (cs : List (List ℕ)) (parts : List Part) → ps ≡ qs → length given ≤ length ps → AreCodes given ps cs → AreLinkedFrom given 0 ps parts → AreLinked given qs parts
 are_linked given ps qs cs parts same used codes each = subst (λ (l : List Placement). AreLinked given l parts) same (record { used = used; each = each; apart = linked_apart given ps cs parts codes each })
-
-pub all_refused : (given : List Place) → (placed : List Placement) (f : LinkFault) → length placed ≤ 16 → length given ≤ length placed → UnlessMemory (IsPartFault given 0 [] placed) f → UnlessMemory (IsLinkFault given placed) f
-all_refused given placed f few used h = then_unless (IsPartFault given 0 [] placed) (IsLinkFault given placed) (λ g x. inr (inr (few, used, x))) f h
 
 -- ---- what a linker answers that way
 

@@ -3,20 +3,17 @@ use Rattle.std.proofs.Common.{◌≡◌, ℕ, zero, suc, ◌+◌, ◌<◌, List,
 use Rattle.std.specs.Prelude.{slice_get, Result, Ok, Err, IfOk, IfErr}
 use Rattle.std.proofs.lemmas.List.{append-nil, append_assoc}
 use Rattle.rv_source.specs.Source.{Sandbox}
-use Rattle.rv_text.specs.Laws as texts
+use Rattle.rv_text.proofs.Facts.{one_source}
 use Rattle.sfi_rewrite.specs.declared.placed.PlacedName.{PlacedName}
 use Rattle.sfi_rewrite.specs.Placement.{Placement}
-use Rattle.sfi_rewrite.specs.Laws as sources
 use Rattle.sfi_link.specs.declared.bases.Bases.{Bases}
 use Rattle.sfi_link.specs.declared.build_fault.BuildFault.{BuildFault}
 use Rattle.sfi_place.specs.declared.place.Place.{Place}
 use Rattle.sfi_link.specs.Addresses.{bases_of}
 use Rattle.sfi_image.specs.Spelling.{Part}
-use Rattle.sfi_link.specs.Laws as links
 use Rattle.sfi_link.specs.Linked.{IsLinked, AreLinkedFrom}
 use Rattle.sfi_link.specs.Texts.{IsBuildFault, IsWantOfMemory}
 use Rattle.sfi_link.specs.Names.{MapEntry, entry_of, entries_of, texts_of, map_from, IsTextMap, AnswersMap, AnswersMapFault}
-use Rattle.sfi_link.specs.private.Names.{Maps}
 use Rattle.sfi_link.proofs.Building.{same_placed, never_built, one_build_fault}
 
 -- ---- the names of one sandbox
@@ -82,33 +79,22 @@ linked_at given number (suc k) n (r ∷ ps) (q ∷ qs) p e lt is all = linked_at
 
 -- ---- one map, or one fault
 
-module _ (source_law : texts.OneSource) (fault_law : texts.OneFault) (meant_law : texts.MeantHasNoFault) (rewriting_law : sources.OneRewriting) (rewrite_law : sources.OneFault) (never_law : sources.NeverBoth)
-    (image_law : links.OneImage) (link_law : links.OneFault) (image_has_no_fault : links.ImageHasNoFault) where
-  one_map : (given : List Place) (text : List ℕ) (xs ys : List MapEntry) → IsTextMap given text xs → IsTextMap given text ys → xs ≡ ys
-  one_map given text xs ys a b =
-      let source = source_law text a.build.source b.build.source a.build.means b.build.means in
-      let placed =
-      same_placed source_law fault_law meant_law rewriting_law rewrite_law never_law image_law link_law image_has_no_fault text a.build.source b.build.source a.build.placed b.build.placed
-      a.build.means b.build.means a.build.rewritten b.build.rewritten in
-      a.entries_are ∙ ap (λ s. map_from given 0 s a.build.placed) source ∙ ap (λ p. map_from given 0 b.build.source p) placed ∙ sym b.entries_are
+one_map : (given : List Place) (text : List ℕ) (xs ys : List MapEntry) → IsTextMap given text xs → IsTextMap given text ys → xs ≡ ys
+one_map given text xs ys a b =
+    let source = one_source text a.build.source b.build.source a.build.means b.build.means in
+    let placed =
+    same_placed text a.build.source b.build.source a.build.placed b.build.placed a.build.means b.build.means a.build.rewritten b.build.rewritten in
+    a.entries_are ∙ ap (λ s. map_from given 0 s a.build.placed) source ∙ ap (λ p. map_from given 0 b.build.source p) placed ∙ sym b.entries_are
 
-  pub only_mapped : (given : List Place) (text : List ℕ) (r : Result (Vec MapEntry Global) BuildFault) → Maps given text r → (entries : List MapEntry) → IsTextMap given text entries → AnswersMap entries r
-  only_mapped given text (Ok v) h entries is = one_map given text v.items entries h is
-  only_mapped given text (Err f) (inl h) entries is = h
-  only_mapped given text (Err f) (inr h) entries is =
-      absurd (never_built source_law fault_law meant_law rewriting_law rewrite_law never_law image_law link_law image_has_no_fault given text is.bytes f is.build h)
+pub only_mapped : (given : List Place) (text : List ℕ) (r : Result (Vec MapEntry Global) BuildFault) → IfOk r (λ v. IsTextMap given text v.items) → IfErr r (λ f. IsWantOfMemory f ⊎ IsBuildFault given text f) → (entries : List MapEntry) → IsTextMap given text entries → AnswersMap entries r
+only_mapped given text (Ok v) h wrong entries is = one_map given text v.items entries h is
+only_mapped given text (Err f) ok (inl h) entries is = h
+only_mapped given text (Err f) ok (inr h) entries is =
+    absurd (never_built given text is.bytes f is.build h)
 
-  pub only_fault : (given : List Place) (text : List ℕ) (r : Result (Vec MapEntry Global) BuildFault) → Maps given text r → (f : BuildFault) → IsBuildFault given text f → AnswersMapFault f r
-  only_fault given text (Ok v) h f is =
-      absurd (never_built source_law fault_law meant_law rewriting_law rewrite_law never_law image_law link_law image_has_no_fault given text h.bytes f h.build is)
-  only_fault given text (Err g) (inl h) f is = inr h
-  only_fault given text (Err g) (inr h) f is =
-      inl (one_build_fault source_law fault_law meant_law rewriting_law rewrite_law never_law image_law link_law image_has_no_fault given text g f h is)
-
-pub means_mapped : (given : List Place) (text : List ℕ) (r : Result (Vec MapEntry Global) BuildFault) → Maps given text r → IfOk r (λ v. IsTextMap given text v.items)
-means_mapped given text (Ok v) h = h
-means_mapped given text (Err f) h = tt
-
-pub means_fault : (given : List Place) (text : List ℕ) (r : Result (Vec MapEntry Global) BuildFault) → Maps given text r → IfErr r (λ f. IsWantOfMemory f ⊎ IsBuildFault given text f)
-means_fault given text (Ok v) h = tt
-means_fault given text (Err f) h = h
+pub only_map_fault : (given : List Place) (text : List ℕ) (r : Result (Vec MapEntry Global) BuildFault) → IfOk r (λ v. IsTextMap given text v.items) → IfErr r (λ f. IsWantOfMemory f ⊎ IsBuildFault given text f) → (f : BuildFault) → IsBuildFault given text f → AnswersMapFault f r
+only_map_fault given text (Ok v) h wrong f is =
+    absurd (never_built given text h.bytes f h.build is)
+only_map_fault given text (Err g) ok (inl h) f is = inr h
+only_map_fault given text (Err g) ok (inr h) f is =
+    inl (one_build_fault given text g f h is)

@@ -1,8 +1,9 @@
 -- One list of sandboxes is made of what is placed, or it has one fault.
-use Rattle.std.proofs.Common.{append_assoc, ◌≡◌, ℕ, ◌+◌, ◌*◌, ◌≤◌, List, [], ◌∷◌, ◌++◌, length, replicate, Option, Some, None, refl, sym, ap, ◌∙◌, subst, arith, inl, inr, length-append}
+use Rattle.std.proofs.Common.{append_assoc, ◌≡◌, ℕ, ◌+◌, ◌*◌, ◌≤◌, List, [], ◌∷◌, ◌++◌, length, replicate, Option, Some, None, sym, ap, ◌∙◌, subst, arith, inl, inr, length-append}
 use Rattle.std.specs.Prelude.{pos, ◌-ℤ◌}
 use Rattle.std.specs.List.{repeat}
 use Rattle.std.specs.Int.{w32, to_le_bytes}
+use Rattle.std.proofs.lemmas.Option.{none-some}
 use Rattle.rv_word.specs.declared.instr.Instr.{Instr}
 use Rattle.rv_word.specs.Spelling.{InRange, spelling}
 use Rattle.sfi_policy.specs.declared.format.Format.{Format}
@@ -26,21 +27,17 @@ use Rattle.sfi_image.proofs.SpanLists.{front_apart}
 use Rattle.std.specs.List.{AllPairs}
 use Rattle.sfi_link.specs.Linked.{c_ebreak, needed, IsCodeSize, IsLinkedCode, IsLinked, AreLinkedFrom, AreLinked}
 use Rattle.sfi_link.specs.Faults.{HasSlotFault, IsSlotFault, HasPartFault, IsPartFault, IsLinkFault}
-use Rattle.sfi_link.proofs.Sizes.{size_of-append, size_fill}
+use Rattle.sfi_rewrite.proofs.Sizes.{size_of-append}
+use Rattle.sfi_link.proofs.Sizes.{size_fill}
+use Rattle.sfi_link.proofs.CleanPlaces.{some_same}
 use Rattle.sfi_link.proofs.Region.{length_stubs}
 use Rattle.sfi_link.proofs.Parts.{slots_length}
 
 -- ---- bytes
 
-some_same : {X : Type 0} (x y : X) → Some x ≡ Some y → x ≡ y
-some_same x y e = cc
-
 one_slot : (at : Bases) (names : List PlacedName) (here : ℕ) (s : Slot) (xs ys : List ℕ) → IsSlot at names here s xs → IsSlot at names here s ys → xs ≡ ys
 one_slot at names here (Short f) xs ys a b = a.spelled.1 ∙ sym b.spelled.1
-one_slot at names here (Wide i) xs ys a b = a.spelled.1 ∙ ap (λ j. to_le_bytes w32 (spelling j)) (some_same a.instr b.instr (sym a.resolves ∙ b.resolves)) ∙ sym b.spelled.1
-one_slot at names here (Jump i k line) xs ys a b = a.spelled.1 ∙ ap (λ j. to_le_bytes w32 (spelling j)) (some_same a.instr b.instr (sym a.resolves ∙ b.resolves)) ∙ sym b.spelled.1
-one_slot at names here (Upper rd k line) xs ys a b = a.spelled.1 ∙ ap (λ j. to_le_bytes w32 (spelling j)) (some_same a.instr b.instr (sym a.resolves ∙ b.resolves)) ∙ sym b.spelled.1
-one_slot at names here (Lower rd k line) xs ys a b = a.spelled.1 ∙ ap (λ j. to_le_bytes w32 (spelling j)) (some_same a.instr b.instr (sym a.resolves ∙ b.resolves)) ∙ sym b.spelled.1
+one_slot at names here _ xs ys a b = a.spelled.1 ∙ ap (λ j. to_le_bytes w32 (spelling j)) (some_same a.instr b.instr (sym a.resolves ∙ b.resolves)) ∙ sym b.spelled.1
 
 one_slots : (at : Bases) (names : List PlacedName) (here : ℕ) (slots : List Slot) (xs ys : List ℕ) → AreSlots at names here slots xs → AreSlots at names here slots ys → xs ≡ ys
 one_slots at names here [] xs ys a b = a ∙ sym b
@@ -88,9 +85,6 @@ one_linking given number (p ∷ placed) (q ∷ parts) (r ∷ others) a b =
 
 -- ---- faults of a slot
 
-none_some : {X : Type 0} (o : Option X) (x : X) → o ≡ None → o ≡ Some x → ⊥
-none_some o x a b = let e : None ≡ Some x = sym a ∙ b in cc
-
 made_none : (f : ℕ → Instr) (o : Option ℕ) (i : Instr) → o ≡ None → made_of f o ≡ Some i → ⊥
 made_none f None i a b = cc
 made_none f (Some x) i a b = cc
@@ -114,8 +108,8 @@ one_of_slot : (at : Bases) (names : List PlacedName) (here : ℕ) (s : Slot) (f 
 one_of_slot at names here (Wide i) f g a b = absurd a
 one_of_slot at names here (Short form) f g a b = absurd a
 one_of_slot at names here (Jump i k line) f g (inl a) (inl b) = a.1 ∙ sym b.1
-one_of_slot at names here (Jump i k line) f g (inl a) (inr b) = absurd (none_some (target_at at names k) b.0 a.0 b.1)
-one_of_slot at names here (Jump i k line) f g (inr a) (inl b) = absurd (none_some (target_at at names k) a.0 b.0 a.1)
+one_of_slot at names here (Jump i k line) f g (inl a) (inr b) = absurd (none-some b.0 (sym a.0 ∙ b.1))
+one_of_slot at names here (Jump i k line) f g (inr a) (inl b) = absurd (none-some a.0 (sym b.0 ∙ a.1))
 one_of_slot at names here (Jump i k line) f g (inr a) (inr b) = a.3 ∙ sym b.3
 one_of_slot at names here (Upper rd k line) f g a b = a.1 ∙ sym b.1
 one_of_slot at names here (Lower rd k line) f g a b = a.1 ∙ sym b.1

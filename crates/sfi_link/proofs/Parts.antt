@@ -1,25 +1,22 @@
 -- What is made of a placed sandbox has a right layout.
-use Rattle.std.proofs.Common.{◌≡◌, ℕ, zero, suc, ◌+◌, ◌-◌, ◌*◌, ◌%◌, ◌^◌, ◌<◌, ◌≤◌, ◌==◌, List, [], ◌∷◌, length, get_or, Bool, true, false, refl, sym, ap, ◌∙◌, subst, arith, ◌⊎◌, inl, inr, length-append}
-use Rattle.std.specs.Prelude.{◌||◌}
+use Rattle.std.proofs.Common.{◌≡◌, ℕ, zero, suc, ◌+◌, ◌*◌, ◌%◌, ◌^◌, ◌<◌, ◌≤◌, ◌==◌, List, [], ◌∷◌, length, get_or, true, refl, sym, ap, ◌∙◌, subst, arith, inl, inr, length-append}
 use Rattle.std.specs.List.{All, AllPairs}
-use Rattle.std.proofs.lemmas.Bool.{cases_lt, eq-eqb, eqb-true}
-use Rattle.std.proofs.lemmas.Nat.{pow-add, pow_below}
+use Rattle.std.proofs.lemmas.Bool.{eq-eqb, eqb-true, or_right, or_cases}
 use Rattle.std.proofs.lemmas.List.Elements.{All-nil, All-cons, All-head, All-tail}
 use Rattle.std.proofs.lemmas.List.Kept.{AllPairs-cons}
 use Rattle.std.proofs.lemmas.Option.{slice_get-get_or}
 use Rattle.sfi_policy.specs.declared.format.Format.{Format}
-use Rattle.sfi_policy.specs.declared.format.Format.TheVariants.{Sfi1, Sfi2}
-use Rattle.sfi_policy.specs.Formats.{code_most}
 use Rattle.rv_source.specs.declared.item.SourceGate.{SourceGate}
 use Rattle.sfi_rewrite.specs.Placed as placements
 use Rattle.sfi_image.specs.declared.span.Span.{Span}
 use Rattle.sfi_image.specs.Spelling.{Part, format_of}
 use Rattle.sfi_image.specs.Spans.{code_region}
-use Rattle.sfi_image.specs.Regions.{IsRegion, IsCodeRegion, IsDataRegion, HasGuardRoom, IsBundleStart}
+use Rattle.sfi_image.specs.Regions.{IsCodeRegion, IsDataRegion, HasGuardRoom, IsBundleStart}
 use Rattle.sfi_image.specs.Gates.{is_gate_of}
 use Rattle.sfi_image.specs.Parts.{IsRightPart, IsRightLayout, AreOf}
+use Rattle.sfi_image.proofs.Bundles.{whole_bundles}
 use Rattle.sfi_rewrite.specs.declared.slot.Slot.{Slot}
-use Rattle.sfi_rewrite.specs.declared.slot.Slot.TheVariants.{Wide, Short, Jump, Upper, Lower}
+use Rattle.sfi_rewrite.specs.declared.slot.Slot.TheVariants.{Wide}
 use Rattle.sfi_rewrite.specs.declared.placed.PlacedName.{PlacedName}
 use Rattle.sfi_rewrite.specs.Slots.{slot_size, size_of}
 use Rattle.sfi_rewrite.specs.Placement.{Placement}
@@ -31,55 +28,28 @@ use Rattle.sfi_link.specs.Code.{IsSlot, AreSlots}
 use Rattle.sfi_place.specs.Places.{place_of}
 use Rattle.sfi_link.specs.Lying.{IsRightPlace}
 use Rattle.sfi_link.specs.Linked.{needed, HasRoom, gates_from, IsLinked, AreLinkedFrom, AreLinked}
-use Rattle.sfi_link.proofs.Sizes.{size_cons}
+use Rattle.sfi_rewrite.proofs.Sizes.{size_of-cons}
 
--- ---- powers of two
+-- ---- code regions
 
-exponent_le : (k j : ℕ) → 2 ^ k ≤ 2 ^ j → k ≤ j
-exponent_le k j h = elim (cases_lt j k) [ inl less ↦ (let below : 2 ^ j < 2 ^ k = pow_below j k less in omega arith) | inr more ↦ more ]
-
--- a power of two up to another divides it
-divides : (k j : ℕ) → 2 ^ k ≤ 2 ^ j → 2 ^ j ≡ 2 ^ (j - k) * 2 ^ k
-divides k j h =
-    let le = exponent_le k j h in
-    let sum : j ≡ (j - k) + k = omega arith in
-    ap (λ n. 2 ^ n) sum ∙ pow-add 2 (j - k) k
-
--- a size from 256 on is a multiple of 16
-pub record InSixteens (size : ℕ) : Type 0 where
-  pub count : ℕ
-  pub is : size ≡ 16 * count
-
--- no code region is larger
-pub code_at_most : (f : Format) → code_most f ≤ 1048576
-code_at_most Sfi1 = omega arith
-code_at_most Sfi2 = omega arith
-
-pub sixteens : (f : Format) (bytes size : ℕ) → HasRoom f bytes size → InSixteens size
+-- a code region's size is a multiple of 16
+pub sixteens : (f : Format) (bytes size : ℕ) → HasRoom f bytes size → (count : ℕ) × (size ≡ 16 * count)
 sixteens f bytes size h =
-    let low = h.at_least in
-    let is = h.size_is in
-    let four : 2 ^ 4 ≤ 2 ^ h.power = omega arith in
-    record { count = 2 ^ (h.power - 4); is = is ∙ divides 4 h.power four ∙ turned (2 ^ (h.power - 4)) }
-  where
-    turned : (a : ℕ) → a * 2 ^ 4 ≡ 16 * a
-    turned a = omega arith
+    let whole = whole_bundles f 0 size (omega arith) (record { power = h.power; multiple = 0; size_is = h.size_is; base_is = omega arith; at_least = h.at_least; at_most = h.at_most }) in
+    (whole.0, whole.2)
 
 -- ---- sizes
 
 slot_length : (at : Bases) (names : List PlacedName) (here : ℕ) (s : Slot) (bytes : List ℕ) → IsSlot at names here s bytes → length bytes ≡ slot_size s
 slot_length at names here (Wide i) bytes x = ap length x.spelled.1
-slot_length at names here (Short f) bytes x = ap length x.spelled.1
-slot_length at names here (Jump i k line) bytes x = ap length x.spelled.1
-slot_length at names here (Upper rd k line) bytes x = ap length x.spelled.1
-slot_length at names here (Lower rd k line) bytes x = ap length x.spelled.1
+slot_length at names here _ bytes x = ap length x.spelled.1
 
 pub slots_length : (at : Bases) (names : List PlacedName) (here : ℕ) (slots : List Slot) (bytes : List ℕ) → AreSlots at names here slots bytes → length bytes ≡ size_of slots
 slots_length at names here [] bytes e = ap length e
 slots_length at names here (s ∷ slots) bytes (front, rest, one, others, e) =
     let a = slot_length at names here s front one in
     let b = slots_length at names (here + slot_size s) slots rest others in
-    let c = size_cons s slots in
+    let c = size_of-cons s slots in
     let d = ap length e ∙ length-append front rest in
     omega arith
 
@@ -121,10 +91,6 @@ listed_at address (g ∷ gs) (suc k) lt =
     let h = listed_at (address + 16) gs k (omega arith) in
     let e : address + 16 + 16 * k ≡ address + 16 * suc k = omega arith in
     or_right (address == address + 16 * suc k) _ (ap (is_gate_of (gates_from (address + 16) gs)) (sym e) ∙ h)
-  where
-    or_right : (a b : Bool) → b ≡ true → (a || b) ≡ true
-    or_right true b h = refl
-    or_right false b h = h
 
 pub listed_only : (address : ℕ) (gs : List SourceGate) (k : ℕ) → is_gate_of (gates_from address gs) (address + 16 * k) ≡ true → k < length gs
 listed_only address [] k h = absurd cc
@@ -137,68 +103,30 @@ listed_only address (g ∷ gs) (suc k) h =
           let less = listed_only (address + 16) gs k (ap (is_gate_of (gates_from (address + 16) gs)) (sym e) ∙ later) in
           omega arith
     ]
-  where
-    or_cases : (a b : Bool) → (a || b) ≡ true → (a ≡ true) ⊎ (b ≡ true)
-    or_cases true b h = inl refl
-    or_cases false b h = inr h
 
 -- ---- a sandbox
 
 services : (p : Placement) → IsPlacedPart p → All (λ g. g.service ≤ 5) p.gates
 services p placed k d lt = (placed.gates k (get_or p.gates k d) (slice_get-get_or p.gates k d lt)).service
 
--- a region below 2 ^ 32 ends there at the latest
-region_end : (base size count least most : ℕ) → IsRegion base size least most → size ≤ 1048576 → base < 2 ^ 32 → base + size ≤ 2 ^ 32
-region_end base size count least most r small low =
-    let fits : 2 ^ r.power ≤ 2 ^ 32 = (let is = r.size_is in omega arith) in
-    let d : ℕ = 2 ^ (32 - r.power) in
-    let all : 2 ^ 32 ≡ d * size = divides r.power 32 fits ∙ ap (λ n. d * n) (sym r.size_is) in
-    let is = r.base_is in
-    elim (cases_lt r.multiple d) [
-      | inl less ↦ (let more = one_more r.multiple d size less in omega (arith, all, is, more))
-      | inr from ↦ absurd (let more = no_less r.multiple d size from in omega (arith, all, is, more, low))
-    ]
-  where
-    no_less : (m d s : ℕ) → d ≤ m → d * s ≤ m * s
-    no_less m d s le =
-        let sum : m * s ≡ d * s + (m - d) * s = ap (λ n. n * s) (let e : m ≡ d + (m - d) = omega arith in e) ∙ spread d (m - d) s in
-        omega (arith, sum)
-      where
-        spread : (a b c : ℕ) → (a + b) * c ≡ a * c + b * c
-        spread a b c = omega arith
-
-    one_more : (m d s : ℕ) → m < d → m * s + s ≤ d * s
-    one_more m d s lt =
-        let sum : (m + 1) * s ≡ m * s + s = omega arith in
-        let le = no_less d (m + 1) s (let h : m + 1 ≤ d = omega arith in h) in
-        omega (arith, sum, le)
-
 -- its code ends at 2 ^ 32 at the latest, and begins with a bundle
 pub record LiesWell (q : Part) : Type 0 where
   pub end : q.code_base + length q.code ≤ 2 ^ 32
   pub even : q.code_base % 16 ≡ 0
 
-pub well_placed : (p : Placement) (size : ℕ) (place : Place) → HasRoom p.format (needed p) size → IsRightPlace p size place → (place.code_base + size ≤ 2 ^ 32) × (place.code_base % 16 ≡ 0)
-well_placed p size place room lies =
-    let most = room.at_most in
-    let bound = code_at_most p.format in
-    let counted = sixteens p.format (needed p) size room in
-    let even : place.code_base ≡ 16 * (lies.code.multiple * counted.count) = lies.code.base_is ∙ ap (λ n. lies.code.multiple * n) counted.is ∙ shuffled lies.code.multiple counted.count in
-    (region_end place.code_base size 0 _ _ lies.code (omega arith) lies.word, omega (arith, even))
-  where
-    shuffled : (m c : ℕ) → m * (16 * c) ≡ 16 * (m * c)
-    shuffled m c = omega arith
+pub well_placed : (p : Placement) (size : ℕ) (place : Place) → IsRightPlace p size place → (place.code_base + size ≤ 2 ^ 32) × (place.code_base % 16 ≡ 0)
+well_placed p size place lies = let whole = whole_bundles p.format place.code_base size lies.word lies.code in (whole.4, omega (arith, whole.3))
 
 -- the sandbox starts below 2 ^ 32
 pub start_fits : (given : List Place) (number : ℕ) (p : Placement) (size : ℕ) → HasRoom p.format (needed p) size → IsRightPlace p size (place_of given number) → (bases_of given number p).start < 2 ^ 32
 start_fits given number p size room lies =
-    let end = (well_placed p size (place_of given number) room lies).0 in
+    let end = (well_placed p size (place_of given number) lies).0 in
     let fits = room.room in
     omega arith
 
 pub lies_well : (given : List Place) → (number : ℕ) (p : Placement) (q : Part) → IsLinked given number p q → LiesWell q
 lies_well given number p q linked =
-    let well = well_placed p (length q.code) (place_of given number) linked.code.size.has_room linked.lies in
+    let well = well_placed p (length q.code) (place_of given number) linked.lies in
     let base = linked.code_base in
     record { end = omega (arith, base, well.0); even = ap (λ n. n % 16) base ∙ well.1 }
 

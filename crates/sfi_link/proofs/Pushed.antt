@@ -27,7 +27,7 @@ use Rattle.sfi_link.specs.private.Near.{HasRoomFor, IsPushed, AreWritten}
 use Rattle.sfi_link.specs.Faults.{HasSlotFault, IsSlotFault}
 use Rattle.sfi_link.specs.Answers.{UnlessMemory}
 use Rattle.sfi_link.proofs.Unless.{then_unless}
-use Rattle.sfi_link.proofs.Sizes.{size_cons, size_of-append}
+use Rattle.sfi_rewrite.proofs.Sizes.{size_of-cons, size_of-append}
 use Rattle.sfi_link.proofs.Parts.{slots_length}
 
 lower_fits : (z : ℤ) → IsImm12 (lower z)
@@ -56,7 +56,7 @@ slots-append at names here [] ys f r a b =
     let e : here + size_of [] ≡ here = omega arith in
     subst (λ (l : List ℕ). AreSlots at names here ys (l ++ r)) (sym a) (subst (λ n. AreSlots at names n ys r) e b)
 slots-append at names here (x ∷ xs) ys f r (front, rest, one, others, e) b =
-    let z = size_cons x xs in
+    let z = size_of-cons x xs in
     let n : here + size_of (x ∷ xs) ≡ here + slot_size x + size_of xs = omega arith in
     (front, rest ++ r, one, slots-append at names (here + slot_size x) xs ys rest r others (subst (λ m. AreSlots at names m ys r) n b), ap (λ l. l ++ r) e ∙ append_assoc front rest r)
 
@@ -92,7 +92,7 @@ fault_before at names here (s ∷ ys) zs f (inr (bytes, one, later)) = inr (byte
 fault_behind : (at : Bases) (names : List PlacedName) (here : ℕ) (xs ys : List Slot) (bytes : List ℕ) (f : LinkFault) → AreSlots at names here xs bytes → IsSlotFault at names (here + size_of xs) ys f → IsSlotFault at names here (xs ++ ys) f
 fault_behind at names here [] ys bytes f none x = let e : here + size_of [] ≡ here = omega arith in subst (λ n. IsSlotFault at names n ys f) e x
 fault_behind at names here (s ∷ xs) ys bytes f (front, rest, one, others, e) x =
-    let z = size_cons s xs in
+    let z = size_of-cons s xs in
     let n : here + size_of (s ∷ xs) ≡ here + slot_size s + size_of xs = omega arith in
     inr (front, one, fault_behind at names (here + slot_size s) xs ys rest f others (subst (λ m. IsSlotFault at names m ys f) n x))
 

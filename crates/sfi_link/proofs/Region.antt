@@ -2,16 +2,14 @@
 use Rattle.std.proofs.Common.{◌≡◌, ℕ, zero, suc, ◌+◌, ◌-◌, ◌*◌, ◌^◌, ◌<◌, ◌≤◌, List, [], ◌∷◌, ◌++◌, length, take, drop, get_or, Bool, true, false, refl, sym, ap, ◌∙◌, subst, arith, inl, inr, length-append, append_assoc, replicate}
 use Rattle.std.specs.Prelude.{◌==◌, ◌&&◌, not, pos}
 use Rattle.std.specs.List.{All, flat_map, repeat}
-use Rattle.std.proofs.lemmas.Bool.{eqb-true, cases_lt}
+use Rattle.std.proofs.lemmas.Bool.{cases_lt, cases_eq, ne_eqb, and_left, and_right, not_from_true}
 use Rattle.std.proofs.lemmas.Int.{ints}
 use Rattle.std.proofs.lemmas.List.{length-replicate, get_or-replicate, get_or_append_left, get_or-append-add}
-use Rattle.std.proofs.lemmas.List.Elements.{All-head, All-tail, All-nil, All-cons, All-append}
+use Rattle.std.proofs.lemmas.List.Elements.{All-head, All-tail, All-nil, All-cons, All-append, All-replicate}
 use Rattle.std.proofs.Math.Seq.{take-append_seam, drop-append-add}
 use Rattle.rv_word.specs.declared.instr.RegOp.TheVariants.{And, Or}
 use Rattle.rv_word.specs.declared.instr.Instr.TheVariants.{Op, Jalr, Ecall}
 use Rattle.rv_word.specs.Spelling.{InRange, spelling}
-use Rattle.rv_word.specs.Laws.{SpellingsAreWide}
-use Rattle.rv_comp.specs.Laws.{OneSpelling, TwoLengths}
 use Rattle.sfi_policy.specs.declared.format.Format.{Format}
 use Rattle.rv_word.specs.declared.instr.Instr.{Instr}
 use Rattle.sfi_policy.specs.Formats.{has_stack}
@@ -32,8 +30,8 @@ use Rattle.sfi_link.specs.declared.bases.Bases.{Bases}
 use Rattle.sfi_link.specs.Code.{AreSlots}
 use Rattle.sfi_link.proofs.Written.{wide_spells}
 use Rattle.sfi_link.proofs.Stuck.{whole_is_longest}
-use Rattle.sfi_link.proofs.Sizes.{size_cons}
-use Rattle.sfi_link.proofs.CleanPlaces.{AreStarts, ends_slots, ends_well, IsEndFine, IsCleanFrom, and_false}
+use Rattle.sfi_rewrite.proofs.Sizes.{size_of-cons}
+use Rattle.sfi_link.proofs.CleanPlaces.{AreStarts, ends_slots, ends_well, IsEndFine, IsCleanFrom}
 use Rattle.sfi_link.proofs.Clean.{IsCleanly, clean, clean_fill}
 
 -- ---- bundles by their number
@@ -97,7 +95,7 @@ cut at names here [] ys bytes s =
     record { front = []; rest = bytes; whole = refl; first = refl; second = subst (λ n. AreSlots at names n ys bytes) e s }
 cut at names here (x ∷ xs) ys bytes (f, r, one, others, e) =
     let c = cut at names (here + slot_size x) xs ys r others in
-    let z = size_cons x xs in
+    let z = size_of-cons x xs in
     let n : here + slot_size x + size_of xs ≡ here + size_of (x ∷ xs) = omega arith in
     record {
       front = f ++ c.front;
@@ -128,22 +126,22 @@ pub record AreChunks (b : BundlePlace) (here : ℕ) (full : List (List Slot)) (b
   pub all : All IsChunk chunks
   pub each : (k : ℕ) (listed : Bool) → k < length full → IsCleanFrom (record b { address = here + 16 * k; listed = listed }) (here + 16 * k) [] (get_or full k []) (get_or chunks k [])
 
-full_clean : SpellingsAreWide → (b : BundlePlace) (at : Bases) (names : List PlacedName) → AreStarts b at names → (count : ℕ) (x : List Slot) → IsFull b.format count x
+full_clean : (b : BundlePlace) (at : Bases) (names : List PlacedName) → AreStarts b at names → (count : ℕ) (x : List Slot) → IsFull b.format count x
     → (here : ℕ) (earlier : List Instr) → IsCleanly b at names here earlier x
-full_clean law b at names starts count x f here earlier =
+full_clean b at names starts count x f here earlier =
     subst (IsCleanly b at names here earlier) (sym f.shape)
-    (clean law b at names starts count f.front (replicate f.fill c_ebreak) f.whole (clean_fill law b at names f.fill) here earlier)
+    (clean b at names starts count f.front (replicate f.fill c_ebreak) f.whole (clean_fill b at names f.fill) here earlier)
 
-chunked : SpellingsAreWide → (b : BundlePlace) (at : Bases) (names : List PlacedName) → AreStarts b at names → (here count : ℕ) (full : List (List Slot)) (bytes : List ℕ) → All (IsFull b.format count) full
+chunked : (b : BundlePlace) (at : Bases) (names : List PlacedName) → AreStarts b at names → (here count : ℕ) (full : List (List Slot)) (bytes : List ℕ) → All (IsFull b.format count) full
     → AreSlots at names here (slots_of full) bytes → here + 16 * length full ≤ 2 ^ 32 → AreChunks b here full bytes
-chunked law b at names starts here count [] bytes all s room = record { chunks = []; whole = s; count = refl; all = All-nil IsChunk; each = λ k l h. absurd (omega arith) }
-chunked law b at names starts here count (x ∷ full) bytes all s room =
+chunked b at names starts here count [] bytes all s room = record { chunks = []; whole = s; count = refl; all = All-nil IsChunk; each = λ k l h. absurd (omega arith) }
+chunked b at names starts here count (x ∷ full) bytes all s room =
     let f = All-head (IsFull b.format count) x full all in
     let c = cut at names here x (slots_of full) bytes s in
     let z = f.size in
     let n : here + size_of x ≡ here + 16 = omega arith in
-    let more = chunked law b at names starts (here + 16) count full c.rest (All-tail (IsFull b.format count) x full all) (subst (λ m. AreSlots at names m (slots_of full) c.rest) n c.second) (omega arith) in
-    let one = λ (l : Bool). full_clean law (record b { address = here; listed = l }) at names starts count x f here [] (omega arith) c.front c.first in
+    let more = chunked b at names starts (here + 16) count full c.rest (All-tail (IsFull b.format count) x full all) (subst (λ m. AreSlots at names m (slots_of full) c.rest) n c.second) (omega arith) in
+    let one = λ (l : Bool). full_clean (record b { address = here; listed = l }) at names starts count x f here [] (omega arith) c.front c.first in
     record {
       chunks = c.front ∷ more.chunks;
       whole = c.whole ∙ ap (λ l. c.front ++ l) more.whole;
@@ -163,57 +161,46 @@ chunked law b at names starts here count (x ∷ full) bytes all s room =
         subst (λ m. IsCleanFrom (record b { address = m; listed = l }) m [] (get_or full k []) (get_or more.chunks k [])) e (more.each k l (omega arith))
 
 -- the findings of a bundle that is read whole without any
-clean_bundle : OneSpelling → TwoLengths → (b : BundlePlace) (slots : List Slot) (bytes : List ℕ) → (b.listed ≡ true → bytes ≡ stub) → (c : IsCleanFrom b b.address [] slots bytes) → IsEndFine b c.reading
+clean_bundle : (b : BundlePlace) (slots : List Slot) (bytes : List ℕ) → (b.listed ≡ true → bytes ≡ stub) → (c : IsCleanFrom b b.address [] slots bytes) → IsEndFine b c.reading
     → AreBundleFindings b bytes []
-clean_bundle one two b slots bytes listed c fine =
+clean_bundle b slots bytes listed c fine =
     let P : List ℕ → Type 0 = λ rest. [] ≡ findings_from b (is_empty rest) b.address [] c.reading ++ rest_finding b (b.address + (length bytes - length rest)) rest in
     inr (
       listed,
       record {
         reading = c.reading;
-        longest = whole_is_longest one two bytes c.reading c.is_reading c.nothing_left;
+        longest = whole_is_longest bytes c.reading c.is_reading c.nothing_left;
         found_is = subst P (sym c.nothing_left) (rw (c.found fine) refl);
       },
     )
 
 end_fine : (m n : ℕ) (w : Bool) → (m ≡ n → w ≡ true) → ((m == n) && not w) ≡ false
-end_fine m n w f = go (m == n) w (λ h. f (eqb-true m n h))
-  where
-    go : (t w : Bool) → (t ≡ true → w ≡ true) → (t && not w) ≡ false
-    go false w f = refl
-    go true w f = ap not (f refl)
+end_fine m n w f = elim (cases_eq m n) [ inl same ↦ and_right (m == n) (not w) (not_from_true w (f same)) | inr other ↦ and_left (m == n) (not w) (ne_eqb m n other) ]
 
 -- ---- stubs
 
 abbrev stub_pieces : List Piece
 stub_pieces = record { instr = Ecall; size = 4 } ∷ record { instr = Op And 31 1 25; size = 4 } ∷ record { instr = Op Or 31 31 24; size = 4 } ∷ record { instr = Jalr 0 31 (pos 0); size = 4 } ∷ []
 
-stub_read : SpellingsAreWide → IsReading stub stub_pieces
+stub_read : IsReading stub stub_pieces
 unfolding spelling InRange
-stub_read law = (
-  wide_spells law Ecall tt,
+stub_read = (
+  wide_spells Ecall tt,
   (
-    wide_spells law (Op And 31 1 25) (omega arith, omega arith, omega arith),
+    wide_spells (Op And 31 1 25) (omega arith, omega arith, omega arith),
     (
-      wide_spells law (Op Or 31 31 24) (omega arith, omega arith, omega arith),
-      (wide_spells law (Jalr 0 31 (pos 0)) (omega arith, omega arith, (omega (arith, ints), omega (arith, ints))), tt),
+      wide_spells (Op Or 31 31 24) (omega arith, omega arith, omega arith),
+      (wide_spells (Jalr 0 31 (pos 0)) (omega arith, omega arith, (omega (arith, ints), omega (arith, ints))), tt),
     ),
   ),
 )
 
-never : (m n : ℕ) → (m ≡ n → ⊥) → (m == n) ≡ false
-never m n h = go (m == n) (λ t. h (eqb-true m n t))
-  where
-    go : (t : Bool) → (t ≡ true → ⊥) → t ≡ false
-    go true h = absurd (h refl)
-    go false h = refl
-
-stub_clean : SpellingsAreWide → OneSpelling → TwoLengths → (b : BundlePlace) → b.listed ≡ true → (b.address + 16 ≡ b.code_base + b.code_size → ⊥) → AreBundleFindings b stub []
-stub_clean law one two b g last =
-    let nv : is_last_bundle b ≡ false = never (b.address + 16) (b.code_base + b.code_size) last in
+stub_clean : (b : BundlePlace) → b.listed ≡ true → (b.address + 16 ≡ b.code_base + b.code_size → ⊥) → AreBundleFindings b stub []
+stub_clean b g last =
+    let nv : is_last_bundle b ≡ false = ne_eqb (b.address + 16) (b.code_base + b.code_size) last in
     inr (
       λ _. refl,
-      record { reading = stub_pieces; longest = whole_is_longest one two stub stub_pieces (stub_read law) refl; found_is = simp (g, nv, and_false (has_stack b.format)) },
+      record { reading = stub_pieces; longest = whole_is_longest stub stub_pieces (stub_read) refl; found_is = simp (g, nv, and_right (has_stack b.format) false refl) },
     )
 
 -- ---- the whole region
@@ -222,12 +209,8 @@ stubs_are : (n : ℕ) → repeat n stub ≡ join (replicate n stub)
 stubs_are zero = refl
 stubs_are (suc n) = ap (λ l. stub ++ l) (stubs_are n)
 
-stub_chunks : (n : ℕ) → All IsChunk (replicate n stub)
-stub_chunks zero = All-nil IsChunk
-stub_chunks (suc n) = All-cons IsChunk stub (replicate n stub) refl (stub_chunks n)
-
 pub length_stubs : (n : ℕ) → length (repeat n stub) ≡ 16 * n
-length_stubs n = let a = ap length (stubs_are n) in let b = length-join (replicate n stub) (stub_chunks n) in let c = length-replicate n stub in omega arith
+length_stubs n = let a = ap length (stubs_are n) in let b = length-join (replicate n stub) (All-replicate IsChunk n stub refl) in let c = length-replicate n stub in omega arith
 
 -- the code is stubs, one a gate, and then full bundles, the last of which ends in c.ebreak
 pub record IsClosed (p : Part) (at : Bases) (names : List PlacedName) (stubs : ℕ) (full : List (List Slot)) : Type 0 where
@@ -247,14 +230,14 @@ region_size : (p : Part) (stubs : ℕ) (full : List (List Slot)) (bytes : List �
 region_size p stubs full bytes e n =
     let a = ap length (e ∙ ap (λ l. l ++ bytes) (stubs_are stubs)) in
     let b = length-append (join (replicate stubs stub)) bytes in
-    let c = length-join (replicate stubs stub) (stub_chunks stubs) in
+    let c = length-join (replicate stubs stub) (All-replicate IsChunk stubs stub refl) in
     let d = length-replicate stubs stub in
     omega (arith, a, b, c, d, n)
 
-pub closed_is_clean : SpellingsAreWide → OneSpelling → TwoLengths → (sandbox : ℕ) (p : Part) (at : Bases) (names : List PlacedName) (stubs : ℕ) (full : List (List Slot)) → IsClosed p at names stubs full
+pub closed_is_clean : (sandbox : ℕ) (p : Part) (at : Bases) (names : List PlacedName) (stubs : ℕ) (full : List (List Slot)) → IsClosed p at names stubs full
     → at.start + 16 * length full ≤ 2 ^ 32 → AreFindings sandbox p []
-closed_is_clean law one two sandbox p at names stubs full h fits =
-    let c = chunked law (place_of sandbox p 0) at names (h.starts sandbox) at.start (length names) full h.bytes h.all h.slots fits in
+closed_is_clean sandbox p at names stubs full h fits =
+    let c = chunked (place_of sandbox p 0) at names (h.starts sandbox) at.start (length names) full h.bytes h.all h.slots fits in
     let count = c.count in
     let start = h.start in
     let some = h.some in
@@ -265,11 +248,11 @@ closed_is_clean law one two sandbox p at names stubs full h fits =
     let all_many : length (replicate stubs stub ++ c.chunks) ≡ length (replicate stubs stub) + length c.chunks = length-append (replicate stubs stub) c.chunks in
     let code : p.code ≡ join (replicate stubs stub ++ c.chunks) =
     h.code ∙ ap (λ l. repeat stubs stub ++ l) c.whole ∙ ap (λ l. l ++ join c.chunks) (stubs_are stubs) ∙ sym (join-append (replicate stubs stub) c.chunks) in
-    none_of_region sandbox p (replicate stubs stub ++ c.chunks) code (All-append IsChunk (replicate stubs stub) c.chunks (stub_chunks stubs) c.all)
+    none_of_region sandbox p (replicate stubs stub ++ c.chunks) code (All-append IsChunk (replicate stubs stub) c.chunks (All-replicate IsChunk stubs stub refl) c.all)
     (λ k less. elim (cases_lt k stubs) [
       | inl low ↦
           let e : get_or (replicate stubs stub ++ c.chunks) k [] ≡ stub = get_or_append_left (replicate stubs stub) c.chunks [] k (omega arith) ∙ get_or-replicate stubs k stub [] low in
-          subst (λ (l : List ℕ). AreBundleFindings (place_of sandbox p k) l []) (sym e) (stub_clean law one two (place_of sandbox p k) ((h.listed k).1 low) (λ x. omega arith))
+          subst (λ (l : List ℕ). AreBundleFindings (place_of sandbox p k) l []) (sym e) (stub_clean (place_of sandbox p k) ((h.listed k).1 low) (λ x. omega arith))
       | inr high ↦
           let j : k ≡ length (replicate stubs stub) + (k - stubs) = omega arith in
           let e : get_or (replicate stubs stub ++ c.chunks) k [] ≡ get_or c.chunks (k - stubs) [] = ap (λ n. get_or (replicate stubs stub ++ c.chunks) n []) j ∙ get_or-append-add (replicate stubs stub) c.chunks (k - stubs) [] in
@@ -278,7 +261,7 @@ closed_is_clean law one two sandbox p at names stubs full h fits =
           let listed = is_gate_of p.gates (p.code_base + 16 * k) in
           let clean_one : IsCleanFrom (place_of sandbox p k) (p.code_base + 16 * k) [] (get_or full (k - stubs) []) (get_or c.chunks (k - stubs) []) =
           subst (λ m. IsCleanFrom (record (place_of sandbox p 0) { address = m; listed = listed }) m [] (get_or full (k - stubs) []) (get_or c.chunks (k - stubs) [])) a (c.each (k - stubs) listed inside) in
-          let found = clean_bundle one two (place_of sandbox p k) (get_or full (k - stubs) []) (get_or c.chunks (k - stubs) [])
+          let found = clean_bundle (place_of sandbox p k) (get_or full (k - stubs) []) (get_or c.chunks (k - stubs) [])
           (λ g. absurd (let low : k < stubs = (h.listed k).0 g in omega arith))
           clean_one
           (end_fine (p.code_base + 16 * k + 16) (p.code_base + length p.code) (ends_well clean_one.reading) (λ x. clean_one.ending (h.ends (k - stubs) (omega arith)))) in

@@ -4,7 +4,7 @@ use Rattle.std.specs.Prelude.{slice_index, pos, ℤ, negsuc, zero, suc, ◌-ℤ�
 use Rattle.std.specs.List.{repeat, All}
 use Rattle.std.proofs.lemmas.List.{get_or_append_left, get_or-append-add}
 use Rattle.rv_word.specs.declared.instr.Instr.{Instr}
-use Rattle.rv_word.specs.declared.instr.Instr.TheVariants.{Op, OpImm, Load, Store, Branch, Jal, Jalr, Lui, Auipc, Fence, Ecall, Ebreak}
+use Rattle.rv_word.specs.declared.instr.Instr.TheVariants.{OpImm, Load, Store, Branch, Jal, Jalr, Lui}
 use Rattle.rv_word.specs.declared.instr.ImmOp.TheVariants.{Addi}
 use Rattle.sfi_policy.specs.declared.format.Format.{Format}
 use Rattle.sfi_policy.specs.Formats.{is_stack}
@@ -18,27 +18,27 @@ use Rattle.rv_source.specs.Source.{Sandbox, IsSandbox, IsBody}
 use Rattle.sfi_image.specs.Spelling.{Part}
 use Rattle.sfi_image.specs.Parts.{IsRightPart}
 use Rattle.sfi_policy.specs.Pairs.{stub}
-use Rattle.sfi_rewrite.specs.Laws.{RewrittenIsTransparent}
 use Rattle.sfi_rewrite.specs.declared.slot.Slot.{Slot}
 use Rattle.sfi_rewrite.specs.declared.slot.Slot.TheVariants.{Wide, Short}
 use Rattle.sfi_rewrite.specs.declared.placed.PlacedName.{PlacedName}
-use Rattle.sfi_rewrite.specs.Slots.{slot_size, size_of, slots_of, c_nop}
+use Rattle.sfi_rewrite.specs.Slots.{size_of, slots_of, c_nop}
 use Rattle.sfi_rewrite.specs.Stack.{writes_stack, is_on_stack, stack_pair, put_back}
 use Rattle.sfi_rewrite.specs.Expansion.{jump_slots, IsAlone, IsMasked, IsExpansionOf}
 use Rattle.sfi_rewrite.specs.Placement.{Placement}
 use Rattle.sfi_rewrite.specs.Rewriting.{IsRewritten, AreRewritten}
 use Rattle.sfi_rewrite.specs.Transparency.{IsAimed, MayBe}
+use Rattle.sfi_rewrite.proofs.Facts.{rewritten_is_transparent}
 use Rattle.sfi_place.specs.declared.place.Place.{Place}
 use Rattle.sfi_link.specs.declared.bases.Bases.{Bases}
 use Rattle.sfi_link.specs.Addresses.{bases_of, with_offset, target_at, address_at}
 use Rattle.sfi_link.specs.Code.{AreSlots}
 use Rattle.sfi_link.specs.Linked.{c_ebreak, IsLinked, AreLinkedFrom}
-use Rattle.sfi_link.specs.Standing.{AreResolvedTo, LinkedSlotsStand, RunsAs, LinkedRunsAs, LinkedImagesRunAs, SandboxesRunAs}
+use Rattle.sfi_link.specs.Standing.{AreResolvedTo, RunsAs, LinkedRunsAs, LinkedImagesRunAs, SandboxesRunAs}
 use Rattle.sfi_link.proofs.CleanPlaces.{made}
+use Rattle.sfi_link.proofs.SlotsThere.{slots_there}
 use Rattle.sfi_link.proofs.Region.{AreCut, cut, length_stubs}
-use Rattle.sfi_link.proofs.Sizes.{size_of-append}
+use Rattle.sfi_rewrite.proofs.Sizes.{size_of-append, size_nops}
 use Rattle.sfi_link.proofs.Parts.{slots_length, lies_well, linked_right}
-use Rattle.std.proofs.lemmas.List.Folds.{sum_by-replicate}
 use Rattle.std.proofs.lemmas.List.Elements.{All-head, All-tail}
 
 -- ---- which instruction an item becomes
@@ -64,16 +64,7 @@ jumping at names here rd a (negsuc n) slots e = plainly at names here (Jalr rd a
 aimed : (j i : Instr) (z : ℤ) (count name : ℕ) → IsBody count (To j name) → i ≡ with_offset z j → IsAimed j i
 aimed (Jal rd offset) i z count name b e = (z, e)
 aimed (Branch cond rs1 rs2 offset) i z count name b e = (z, e)
-aimed (Op op rd rs1 rs2) i z count name b e = absurd b.1
-aimed (OpImm op rd rs1 imm) i z count name b e = absurd b.1
-aimed (Load kind rd rs1 imm) i z count name b e = absurd b.1
-aimed (Store width rs1 rs2 imm) i z count name b e = absurd b.1
-aimed (Jalr rd rs1 imm) i z count name b e = absurd b.1
-aimed (Lui rd imm) i z count name b e = absurd b.1
-aimed (Auipc rd imm) i z count name b e = absurd b.1
-aimed (Fence imm rd rs1) i z count name b e = absurd b.1
-aimed Ecall i z count name b e = absurd b.1
-aimed Ebreak i z count name b e = absurd b.1
+aimed _ i z count name b e = absurd b.1
 
 -- the pair that puts the stack pointer back waits for no name
 pair_for : (at : Bases) (names : List PlacedName) (here : ℕ) (i : Instr) (writes : Bool) → AreResolvedTo at names here i (put_back writes)
@@ -84,15 +75,7 @@ masked : (at : Bases) (names : List PlacedName) (here : ℕ) (rvc : Bool) (i : I
 masked at names here rvc (Load kind rd a imm) slots e = plainly at names here (Load kind rd a imm) slots _ e (tt, (tt, (tt, tt)))
 masked at names here rvc (Store width a rs2 imm) slots e = plainly at names here (Store width a rs2 imm) slots _ e (tt, (tt, (tt, tt)))
 masked at names here rvc (Jalr rd a imm) slots e = jumping at names here rd a imm slots e
-masked at names here rvc (Op op rd rs1 rs2) slots e = alone at names here rvc (Op op rd rs1 rs2) slots e
-masked at names here rvc (OpImm op rd rs1 imm) slots e = alone at names here rvc (OpImm op rd rs1 imm) slots e
-masked at names here rvc (Branch cond rs1 rs2 offset) slots e = alone at names here rvc (Branch cond rs1 rs2 offset) slots e
-masked at names here rvc (Jal rd offset) slots e = alone at names here rvc (Jal rd offset) slots e
-masked at names here rvc (Lui rd imm) slots e = alone at names here rvc (Lui rd imm) slots e
-masked at names here rvc (Auipc rd imm) slots e = alone at names here rvc (Auipc rd imm) slots e
-masked at names here rvc (Fence imm rd rs1) slots e = alone at names here rvc (Fence imm rd rs1) slots e
-masked at names here rvc Ecall slots e = alone at names here rvc Ecall slots e
-masked at names here rvc Ebreak slots e = alone at names here rvc Ebreak slots e
+masked at names here rvc i slots e = alone at names here rvc i slots e
 
 plain : (at : Bases) (names : List PlacedName) (here : ℕ) (writes on rvc : Bool) (i : Instr) (slots : List Slot)
     → MatchBool writes (slots ≡ Wide i ∷ stack_pair) (MatchBool on (IsAlone rvc i slots) (IsMasked rvc i slots)) → Becomes at names here (Plain i) slots
@@ -131,9 +114,6 @@ held_inside m base pc front mid rest all holds e fits at = record {
       ap (byte_at m) a ∙ holds.each (length front + k) (omega arith) ∙ ap Some b;
 }
 
-nops_size : (n : ℕ) → size_of (replicate n c_nop) ≡ 2 * n
-nops_size n = let e = sum_by-replicate slot_size n c_nop in omega arith
-
 regroup : (before nops expanded after fill : List Slot) → (before ++ (nops ++ (expanded ++ after))) ++ fill ≡ (before ++ nops) ++ (expanded ++ (after ++ fill))
 regroup before nops expanded after fill =
     append_assoc before (nops ++ (expanded ++ after)) fill
@@ -143,10 +123,10 @@ regroup before nops expanded after fill =
 regroup_bytes : (stubs front mid rest bytes more : List ℕ) → bytes ≡ front ++ more → more ≡ mid ++ rest → stubs ++ bytes ≡ (stubs ++ front) ++ (mid ++ rest)
 regroup_bytes stubs front mid rest bytes more e f = ap (λ v. stubs ++ v) (e ∙ ap (λ v. front ++ v) f) ∙ sym (append_assoc stubs front (mid ++ rest))
 
-item_runs_as : (given : List Place) → RewrittenIsTransparent → LinkedSlotsStand → (number : ℕ) (s : Sandbox) (p : Placement) (q : Part) (k : ℕ) (x : Item) → IsSandbox s → IsRewritten s p → IsRightPart q
+item_runs_as : (given : List Place) → (number : ℕ) (s : Sandbox) (p : Placement) (q : Part) (k : ℕ) (x : Item) → IsSandbox s → IsRewritten s p → IsRightPart q
     → IsLinked given number p q → slice_get s.items k ≡ Some x → RunsAs given number s.format s.items p q k x
-item_runs_as given law stand number s p q k x sandbox r right linked at =
-    let st = law s p r k x at in
+item_runs_as given number s p q k x sandbox r right linked at =
+    let st = rewritten_is_transparent s p r k x at in
     let b = bases_of given number p in
     let lead = st.before ++ replicate st.nops c_nop in
     let fill = replicate linked.code.fill c_ebreak in
@@ -165,14 +145,14 @@ item_runs_as given law stand number s p q k x sandbox r right linked at =
     ∙ (let a = length_stubs (length p.gates) in
     let c = slots_length b p.names b.start lead one.front one.first in
     let d = size_of-append st.before (replicate st.nops c_nop) in
-    let e = nops_size st.nops in
+    let e = size_nops st.nops in
     omega arith) in
     let mid_size : length two.front ≡ size_of st.expanded = slots_length b p.names here st.expanded two.front two.first in
     let fits : q.code_base + length q.code ≤ 2 ^ 32 = (lies_well given number p q linked).end in
     let place : here ≡ q.start + (size_of st.before + 2 * st.nops) =
     (let a = linked.start in
     let d = size_of-append st.before (replicate st.nops c_nop) in
-    let e = nops_size st.nops in
+    let e = size_nops st.nops in
     omega arith) in
     let start : q.start ≡ q.code_base + 16 * length p.gates = (let a = linked.start in let c = linked.code_base in omega arith) in
     record {
@@ -185,36 +165,36 @@ item_runs_as given law stand number s p q k x sandbox r right linked at =
           let there : t.hart.pc ≡ q.code_base + length (stubs ++ one.front) = omega arith in
           let held : Holds t.memory t.hart.pc (size_of st.expanded) two.front =
           subst (λ (n : ℕ). Holds t.memory t.hart.pc n two.front) mid_size (held_inside t.memory q.code_base t.hart.pc (stubs ++ one.front) two.front two.rest q.code code all fits there) in
-          stand b p.names here is.instr st.expanded two.front t two.first is.goes held;
+          slots_there b p.names here is.instr st.expanded two.front t two.first is.goes held;
     }
 
-pub runs_as : RewrittenIsTransparent → LinkedSlotsStand → LinkedRunsAs
-runs_as law stand given number s p q k x sandbox r placed linked at =
-    item_runs_as given law stand number s p q k x sandbox r (linked_right given number p q placed linked) linked at
+pub runs_as : LinkedRunsAs
+runs_as given number s p q k x sandbox r placed linked at =
+    item_runs_as given number s p q k x sandbox r (linked_right given number p q placed linked) linked at
 
 -- ---- a build
 
-sandboxes_run_as : (given : List Place) → RewrittenIsTransparent → LinkedSlotsStand → (number : ℕ) (source : List Sandbox) (placed : List Placement) (parts : List Part) → All IsSandbox source → AreRewritten source placed
+sandboxes_run_as : (given : List Place) → (number : ℕ) (source : List Sandbox) (placed : List Placement) (parts : List Part) → All IsSandbox source → AreRewritten source placed
     → All IsRightPart parts → AreLinkedFrom given number placed parts → SandboxesRunAs given number source parts
-sandboxes_run_as given law stand number [] [] parts sandboxes rewritten right linked = linked
-sandboxes_run_as given law stand number [] (p ∷ placed) parts sandboxes rewritten right linked = absurd rewritten
-sandboxes_run_as given law stand number (s ∷ source) [] parts sandboxes rewritten right linked = absurd rewritten
-sandboxes_run_as given law stand number (s ∷ source) (p ∷ placed) [] sandboxes rewritten right linked = absurd linked
-sandboxes_run_as given law stand number (s ∷ source) (p ∷ placed) (q ∷ parts) sandboxes rewritten right linked = (
+sandboxes_run_as given number [] [] parts sandboxes rewritten right linked = linked
+sandboxes_run_as given number [] (p ∷ placed) parts sandboxes rewritten right linked = absurd rewritten
+sandboxes_run_as given number (s ∷ source) [] parts sandboxes rewritten right linked = absurd rewritten
+sandboxes_run_as given number (s ∷ source) (p ∷ placed) [] sandboxes rewritten right linked = absurd linked
+sandboxes_run_as given number (s ∷ source) (p ∷ placed) (q ∷ parts) sandboxes rewritten right linked = (
   record {
     placed = p;
     placement = rewritten.0.placement;
     linked = linked.0;
-    each = λ k x at. item_runs_as given law stand number s p q k x (All-head IsSandbox s source sandboxes) rewritten.0 (All-head IsRightPart q parts right) linked.0 at;
+    each = λ k x at. item_runs_as given number s p q k x (All-head IsSandbox s source sandboxes) rewritten.0 (All-head IsRightPart q parts right) linked.0 at;
   },
-  sandboxes_run_as given law stand (number + 1) source placed parts (All-tail IsSandbox s source sandboxes) rewritten.1 (All-tail IsRightPart q parts right) linked.1,
+  sandboxes_run_as given (number + 1) source placed parts (All-tail IsSandbox s source sandboxes) rewritten.1 (All-tail IsRightPart q parts right) linked.1,
 )
 
-pub images_run_as : RewrittenIsTransparent → LinkedSlotsStand → LinkedImagesRunAs
-images_run_as law stand given source placed bytes right rewritten image =
+pub images_run_as : LinkedImagesRunAs
+images_run_as given source placed bytes right rewritten image =
     let layout = image.image.layout in
     record {
       parts = image.parts;
       image = image.image;
-      each = sandboxes_run_as given law stand 0 source placed image.parts right.each rewritten layout.right.each image.linked.each;
+      each = sandboxes_run_as given 0 source placed image.parts right.each rewritten layout.right.each image.linked.each;
     }

@@ -3,29 +3,26 @@ use Rattle.std.proofs.Common.{◌≡◌, ℕ, ◌+◌, List, [], ◌∷◌, ◌+
 use Rattle.std.specs.Prelude.{slice_index}
 use Rattle.std.proofs.lemmas.List.{get_or_append_left, get_or-append-add}
 use Rattle.rv_word.specs.declared.instr.Instr.{Instr}
-use Rattle.rv_word.specs.Laws.{SpellingsAreWide}
 use Rattle.rv_comp.specs.Fronts.{Spells}
 use Rattle.rv_comp.specs.Table.{expansion}
 use Rattle.rv_mem.specs.Bytes.{Bytes, byte_at, address_after}
-use Rattle.rv_mem.specs.Laws.{Holds, ReadIsHeld}
+use Rattle.rv_mem.specs.Laws.{Holds}
+use Rattle.rv_mem.proofs.Facts.{read_is_held}
 use Rattle.rv_step.specs.State.{State}
 use Rattle.rv_step.specs.Step.{Stands}
 use Rattle.rv_step.specs.Steps.{further}
 use Rattle.sfi_rewrite.specs.declared.slot.Slot.{Slot}
-use Rattle.sfi_rewrite.specs.declared.slot.Slot.TheVariants.{Wide, Short, Jump, Upper, Lower}
+use Rattle.sfi_rewrite.specs.declared.slot.Slot.TheVariants.{Wide, Short}
 use Rattle.sfi_rewrite.specs.declared.placed.PlacedName.{PlacedName}
 use Rattle.sfi_rewrite.specs.Slots.{slot_size, size_of}
-use Rattle.sfi_rewrite.specs.Transparency.{SlotStands}
+use Rattle.sfi_rewrite.specs.Transparency.{SlotStands, SlotsStand}
 use Rattle.sfi_link.specs.declared.bases.Bases.{Bases}
-use Rattle.sfi_link.specs.Code.{IsSlot}
-use Rattle.sfi_link.specs.Standing.{IsResolvedTo, LinkedSlotsStand}
+use Rattle.sfi_link.specs.Code.{IsSlot, AreSlots}
+use Rattle.sfi_link.specs.Standing.{IsResolvedTo, AreResolvedTo}
 use Rattle.sfi_link.proofs.Written.{spelled_length}
-use Rattle.sfi_link.proofs.CleanPlaces.{slot_spells}
-use Rattle.sfi_link.proofs.Sizes.{size_cons}
+use Rattle.sfi_link.proofs.CleanPlaces.{slot_spells, some_same}
+use Rattle.sfi_rewrite.proofs.Sizes.{size_of-cons}
 use Rattle.sfi_link.proofs.Parts.{slots_length}
-
-same : {X : Type 0} (x y : X) → Some x ≡ Some y → x ≡ y
-same x y e = cc
 
 -- ---- memory
 
@@ -48,30 +45,29 @@ held_rest m at n more front rest count others h = record {
 
 -- ---- one slot
 
-stands_one : ReadIsHeld → (s : State) (i : Instr) (n : ℕ) (bytes : List ℕ) → Holds s.memory s.hart.pc n bytes → Spells bytes i n → Stands s i n
-stands_one law s i n bytes h spelled = record { bytes = bytes; there = (law s.memory s.hart.pc n bytes).1 h; spelled = spelled }
+stands_one : (s : State) (i : Instr) (n : ℕ) (bytes : List ℕ) → Holds s.memory s.hart.pc n bytes → Spells bytes i n → Stands s i n
+stands_one s i n bytes h spelled = record { bytes = bytes; there = (read_is_held s.memory s.hart.pc n bytes).1 h; spelled = spelled }
 
 slot_there : (at : Bases) (names : List PlacedName) (here : ℕ) (i : Instr) (x : Slot) (bytes : List ℕ) (s : State) (is : IsSlot at names here x bytes) → IsResolvedTo at names here i x
     → Stands s is.instr (slot_size x) → SlotStands i s x
-slot_there at names here i (Wide j) bytes s is goes st = subst (λ (k : Instr). Stands s k 4) (sym (same j is.instr is.resolves)) st
-slot_there at names here i (Short f) bytes s is goes st = subst (λ (k : Instr). Stands s k 2) (sym (same (expansion f) is.instr is.resolves)) st
-slot_there at names here i (Jump j name line) bytes s is goes st = subst (λ (k : Instr). Stands s k 4) (same is.instr i (sym is.resolves ∙ goes)) st
-slot_there at names here i (Upper rd name line) bytes s is goes st = subst (λ (k : Instr). Stands s k 4) (same is.instr i (sym is.resolves ∙ goes)) st
-slot_there at names here i (Lower rd name line) bytes s is goes st = subst (λ (k : Instr). Stands s k 4) (same is.instr i (sym is.resolves ∙ goes)) st
+slot_there at names here i (Wide j) bytes s is goes st = subst (λ (k : Instr). Stands s k 4) (sym (some_same j is.instr is.resolves)) st
+slot_there at names here i (Short f) bytes s is goes st = subst (λ (k : Instr). Stands s k 2) (sym (some_same (expansion f) is.instr is.resolves)) st
+slot_there at names here i _ bytes s is goes st = subst (λ (k : Instr). Stands s k 4) (some_same is.instr i (sym is.resolves ∙ goes)) st
 
 -- ---- slots
 
-pub slots_there : SpellingsAreWide → ReadIsHeld → LinkedSlotsStand
-slots_there law held at names here i [] bytes s h goes m = tt
-slots_there law held at names here i (x ∷ slots) bytes s h goes m =
+pub slots_there : (at : Bases) (names : List PlacedName) (here : ℕ) (i : Instr) (slots : List Slot) (bytes : List ℕ) (s : State)
+    → AreSlots at names here slots bytes → AreResolvedTo at names here i slots → Holds s.memory s.hart.pc (size_of slots) bytes → SlotsStand i s slots
+slots_there at names here i [] bytes s h goes m = tt
+slots_there at names here i (x ∷ slots) bytes s h goes m =
     let front = h.0 in
     let rest = h.1 in
-    let spelled = slot_spells law at names here x front h.2 in
+    let spelled = slot_spells at names here x front h.2 in
     let count = spelled_length front h.2.instr (slot_size x) spelled in
     let others = slots_length at names (here + slot_size x) slots rest h.3 in
-    let size = size_cons x slots in
+    let size = size_of-cons x slots in
     let all : Holds s.memory s.hart.pc (slot_size x + size_of slots) (front ++ rest) = subst (λ (n : ℕ). Holds s.memory s.hart.pc n (front ++ rest)) size (subst (λ (l : List ℕ). Holds s.memory s.hart.pc (size_of (x ∷ slots)) l) h.4 m) in (
-      slot_there at names here i x front s h.2 goes.0 (stands_one held s h.2.instr (slot_size x) front (held_front s.memory s.hart.pc (slot_size x) (size_of slots) front rest count all) spelled),
-      slots_there law held at names (here + slot_size x) i slots rest (further s (slot_size x)) h.3 goes.1
+      slot_there at names here i x front s h.2 goes.0 (stands_one s h.2.instr (slot_size x) front (held_front s.memory s.hart.pc (slot_size x) (size_of slots) front rest count all) spelled),
+      slots_there at names (here + slot_size x) i slots rest (further s (slot_size x)) h.3 goes.1
           (held_rest s.memory s.hart.pc (slot_size x) (size_of slots) front rest count others all),
     )

@@ -9,7 +9,7 @@ use Rattle.std.proofs.lemmas.Int.{ints}
 use Rattle.std.proofs.lemmas.List.{append-nil, append_assoc}
 use Rattle.std.proofs.lemmas.List.Elements.{All-head, All-tail}
 use Rattle.rv_word.specs.declared.instr.Instr.{Instr}
-use Rattle.rv_word.specs.declared.instr.Instr.TheVariants.{Op, OpImm, Load, Store, Branch, Jal, Jalr, Lui, Auipc, Fence, Ecall, Ebreak}
+use Rattle.rv_word.specs.declared.instr.Instr.TheVariants.{OpImm, Branch, Jal, Lui}
 use Rattle.rv_word.specs.declared.instr.ImmOp.TheVariants.{Addi}
 use Rattle.rv_word.specs.Numbers.{modulo, minus, IsBetween, IsEven}
 use Rattle.rv_word.specs.Spelling.{InRange, IsReg, IsBranchOffset, IsJumpOffset, spelling}
@@ -43,10 +43,11 @@ use Rattle.sfi_link.specs.Code.{made_of, IsSlot, AreSlots}
 use Rattle.sfi_link.specs.Linked.{needed, HasRoom, IsCodeSize, IsLinkedCode, IsLinked, AreLinkedFrom, AreLinked}
 use Rattle.sfi_link.specs.private.Near.{AreWritten}
 use Rattle.sfi_link.specs.Faults.{MayLie, HasSlotFault, IsSlotFault, HasPartFault, IsPartFault}
-use Rattle.sfi_link.specs.Laws.{LinkedIsClean, LinkedIsRight, SomeLinking}
+use Rattle.sfi_link.specs.Laws.{SomeLinking}
 use Rattle.sfi_link.proofs.Region.{length_stubs}
-use Rattle.sfi_link.proofs.Parts.{code_at_most}
+use Rattle.sfi_image.proofs.Formats.{code_at_most}
 use Rattle.sfi_link.proofs.LinkedClean.{all_are_clean}
+use Rattle.sfi_link.proofs.Parts.{linked_is_right}
 use Rattle.sfi_link.proofs.Pushed.{low_in_range}
 use Rattle.sfi_link.proofs.Linking.{small_size, least_size, no_room, linked_code, pair, part_of}
 
@@ -73,16 +74,7 @@ reaches_or_not : (z : ℤ) (i : Instr) → InRange i → InRange (with_offset z 
 unfolding InRange
 reaches_or_not z (Jal rd offset) h = elim (jump_or_not z) [ inl near ↦ inl (h.0, near) | inr far ↦ inr (λ g. far g.1) ]
 reaches_or_not z (Branch cond rs1 rs2 offset) h = elim (branch_or_not z) [ inl near ↦ inl (h.0, h.1, near) | inr far ↦ inr (λ g. far g.2) ]
-reaches_or_not z (Op op rd rs1 rs2) h = inl h
-reaches_or_not z (OpImm op rd rs1 imm) h = inl h
-reaches_or_not z (Load kind rd rs1 imm) h = inl h
-reaches_or_not z (Store width rs1 rs2 imm) h = inl h
-reaches_or_not z (Jalr rd rs1 imm) h = inl h
-reaches_or_not z (Lui rd imm) h = inl h
-reaches_or_not z (Auipc rd imm) h = inl h
-reaches_or_not z (Fence imm rd rs1) h = inl h
-reaches_or_not z Ecall h = inl h
-reaches_or_not z Ebreak h = inl h
+reaches_or_not z _ h = inl h
 
 -- ---- a slot
 
@@ -265,8 +257,8 @@ parts_or_fault given number before (p ∷ placed) right apart =
 none_apart : AllPairs AreApart []
 none_apart = λ i j d lt within. absurd (omega arith)
 
-pub some_linking : LinkedIsClean → LinkedIsRight → SomeLinking
-some_linking clean right given placed is =
+pub some_linking : SomeLinking
+some_linking given placed is =
     elim (cases_lt 16 (length placed)) [
       | inl many ↦ inr (TooManySandboxes, inl (many, refl))
       | inr few ↦ elim (cases_lt (length placed) (length given)) [
@@ -280,8 +272,8 @@ some_linking clean right given placed is =
                 record {
                   parts = made.0;
                   linked = linked;
-                  image = record { bytes_are = refl; layout = right given placed made.0 is few linked };
-                  none_found = all_are_clean given clean 0 placed made.0 is.each made.1;
+                  image = record { bytes_are = refl; layout = linked_is_right given placed made.0 is few linked };
+                  none_found = all_are_clean given 0 placed made.0 is.each made.1;
                 },
               )
         ]

@@ -1,38 +1,30 @@
 -- A reading that can't go on is the longest.
-use Rattle.std.proofs.Common.{◌≡◌, ◌∙◌, ℕ, ◌≤◌, List, [], ◌∷◌, length, take, drop, sym, ap, subst, arith, length-take, get_or-take, ⊎_elim}
+use Rattle.std.proofs.Common.{◌≡◌, ℕ, ◌≤◌, List, [], ◌∷◌, length, take, drop, sym, ap, subst, arith, length-take, ⊎_elim}
 use Rattle.rv_comp.specs.Fronts.{Spells}
-use Rattle.rv_comp.specs.Laws.{OneSpelling, TwoLengths}
+use Rattle.rv_comp.proofs.Facts.{one_spelling, two_lengths}
 use Rattle.sfi_scan.specs.Readings.{Piece, IsReading, IsLongestReading, rest_of}
+use Rattle.sfi_scan.proofs.Readings.{front_one}
 use Rattle.sfi_link.proofs.Written.{spelled_length}
 
--- the front of a list of bytes spells one instruction at most
-front_one : OneSpelling → (bytes : List ℕ) (x y : Piece) → Spells (take x.size bytes) x.instr x.size → Spells (take y.size bytes) y.instr y.size → x ≡ y
-front_one law bytes x y a b =
-    let e = law (take x.size bytes) (take y.size bytes) x.instr y.instr x.size y.size a b (λ k h g. get_or-take x.size bytes k 0 h ∙ sym (get_or-take y.size bytes k 0 g)) in
-    same x y e.0 e.1
-  where
-    same : (x y : Piece) → x.instr ≡ y.instr → x.size ≡ y.size → x ≡ y
-    same x y e f = λ i. record { instr = e i; size = f i }
-
 -- nothing is spelled at the front of no bytes
-nothing_there : TwoLengths → (x : Piece) → Spells (take x.size []) x.instr x.size → ⊥
-nothing_there law x h =
+nothing_there : (x : Piece) → Spells (take x.size []) x.instr x.size → ⊥
+nothing_there x h =
     let cut = length-take x.size (none) in
     let all = spelled_length (take x.size none) x.instr x.size h in
-    ⊎_elim (λ (e : x.size ≡ 2). omega (arith, cut, all, e)) (λ (e : x.size ≡ 4). omega (arith, cut, all, e)) (law (take x.size none) x.instr x.size h)
+    ⊎_elim (λ (e : x.size ≡ 2). omega (arith, cut, all, e)) (λ (e : x.size ≡ 4). omega (arith, cut, all, e)) (two_lengths (take x.size none) x.instr x.size h)
   where
     none : List ℕ
     none = []
 
 -- a reading that leaves nothing is the longest
-pub whole_is_longest : OneSpelling → TwoLengths → (bytes : List ℕ) (reading : List Piece) → IsReading bytes reading → rest_of bytes reading ≡ [] → IsLongestReading bytes reading
-whole_is_longest one two bytes reading is whole = record { is_reading = is; longest = λ other h. no_more bytes reading other is whole h }
+pub whole_is_longest : (bytes : List ℕ) (reading : List Piece) → IsReading bytes reading → rest_of bytes reading ≡ [] → IsLongestReading bytes reading
+whole_is_longest bytes reading is whole = record { is_reading = is; longest = λ other h. no_more bytes reading other is whole h }
   where
     no_more : (bytes : List ℕ) (reading other : List Piece) → IsReading bytes reading → rest_of bytes reading ≡ [] → IsReading bytes other → length other ≤ length reading
     no_more bytes reading [] is whole h = omega arith
-    no_more bytes [] (y ∷ other) is whole h = absurd (nothing_there two y (subst (λ (l : List ℕ). Spells (take y.size l) y.instr y.size) whole h.0))
+    no_more bytes [] (y ∷ other) is whole h = absurd (nothing_there y (subst (λ (l : List ℕ). Spells (take y.size l) y.instr y.size) whole h.0))
     no_more bytes (x ∷ reading) (y ∷ other) is whole h =
-        let e = front_one one bytes x y is.0 h.0 in
+        let e = front_one one_spelling bytes x y is.0 h.0 in
         let n : drop y.size bytes ≡ drop x.size bytes = ap (λ (z : Piece). drop z.size bytes) (sym e) in
         let more = no_more (drop x.size bytes) reading other is.1 whole (subst (λ (l : List ℕ). IsReading l other) n h.1) in
         omega arith

@@ -6,14 +6,14 @@ use Rattle.std.proofs.lemmas.Bool.{and_parts, ltb-true}
 use Rattle.std.proofs.lemmas.Nat.{from_le_bytes-to_le_bytes_2, from_le_bytes-to_le_bytes_4}
 use Rattle.std.proofs.lemmas.Nat.Bits.{bit_at-lt}
 use Rattle.rv_word.specs.declared.instr.Instr.{Instr}
-use Rattle.rv_word.specs.Laws.{SpellingsAreWide}
+use Rattle.rv_word.proofs.Facts.{spellings_are_wide}
 use Rattle.rv_word.specs.Spelling.{InRange, spelling}
 use Rattle.rv_comp.specs.Bits.{Bit, is, bit_of, Fields, number_after, field_value}
 use Rattle.rv_comp.specs.Table.{row, allowed, fields_of, expansion}
 use Rattle.rv_comp.specs.Halfwords.{halfword_of}
 use Rattle.rv_comp.specs.Fronts.{Spells}
 use Rattle.rv_comp.specs.declared.form.Form16.{Form16}
-use Rattle.rv_comp.specs.declared.form.Form16.TheVariants.{CAddi4spn, CLw, CSw, CAddi, CJal, CLi, CAddi16sp, CLui, CSrli, CSrai, CAndi, CSub, CXor, COr, CAnd, CJ, CBeqz, CBnez, CSlli, CLwsp, CJr, CJalr, CMv, CAdd, CEbreak, CSwsp}
+use Rattle.rv_comp.specs.declared.form.Form16.TheVariants.{CAddi4spn}
 
 -- ---- a row of 16 bits makes a number of 16 bits
 
@@ -40,31 +40,7 @@ below v (bit_of f k ∷ bs) n m lt t =
 rows : (f : Form16) → (are_bits (row f) ≡ true) × (doubled 1 (row f) ≡ 65536)
 unfolding are_bits doubled
 rows (CAddi4spn _ _) = (refl, refl)
-rows (CLw _ _ _) = (refl, refl)
-rows (CSw _ _ _) = (refl, refl)
-rows (CAddi _ _) = (refl, refl)
-rows (CJal _) = (refl, refl)
-rows (CLi _ _) = (refl, refl)
-rows (CAddi16sp _) = (refl, refl)
-rows (CLui _ _) = (refl, refl)
-rows (CSrli _ _) = (refl, refl)
-rows (CSrai _ _) = (refl, refl)
-rows (CAndi _ _) = (refl, refl)
-rows (CSub _ _) = (refl, refl)
-rows (CXor _ _) = (refl, refl)
-rows (COr _ _) = (refl, refl)
-rows (CAnd _ _) = (refl, refl)
-rows (CJ _) = (refl, refl)
-rows (CBeqz _ _) = (refl, refl)
-rows (CBnez _ _) = (refl, refl)
-rows (CSlli _ _) = (refl, refl)
-rows (CLwsp _ _) = (refl, refl)
-rows (CJr _) = (refl, refl)
-rows (CJalr _) = (refl, refl)
-rows (CMv _ _) = (refl, refl)
-rows (CAdd _ _) = (refl, refl)
-rows CEbreak = (refl, refl)
-rows (CSwsp _ _) = (refl, refl)
+rows _ = (refl, refl)
 
 halfword_fits : (f : Form16) → halfword_of f < 2 ^ 16
 halfword_fits f =
@@ -87,11 +63,11 @@ short_spells f ok = inl (record {
 })
 
 -- the four bytes of an instruction
-pub wide_spells : SpellingsAreWide → (i : Instr) → InRange i → Spells (to_le_bytes w32 (spelling i)) i 4
-wide_spells law i ok = inr (record {
+pub wide_spells : (i : Instr) → InRange i → Spells (to_le_bytes w32 (spelling i)) i 4
+wide_spells i ok = inr (record {
   size = refl;
   all = refl;
-  spelled = (ok, from_le_bytes-to_le_bytes_4 (spelling i) (law (spelling i) i (ok, refl)).0);
+  spelled = (ok, from_le_bytes-to_le_bytes_4 (spelling i) (spellings_are_wide (spelling i) i (ok, refl)).0);
 })
 
 -- what is spelled has the length

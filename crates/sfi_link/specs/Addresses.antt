@@ -1,7 +1,7 @@
 -- Addresses for names.
 use Rattle.std.specs.Prelude.{ℕ, ◌+◌, ◌*◌, ℤ, List, length, slice_get, Option, Some, None}
 use Rattle.rv_word.specs.declared.instr.Instr.{Instr}
-use Rattle.rv_word.specs.declared.instr.Instr.TheVariants.{Op, OpImm, Load, Store, Branch, Jal, Jalr, Lui, Auipc, Fence, Ecall, Ebreak}
+use Rattle.rv_word.specs.declared.instr.Instr.TheVariants.{Branch, Jal}
 use Rattle.sfi_policy.specs.Limits.{bundle_size}
 use Rattle.sfi_place.specs.declared.place.Place.{Place}
 use Rattle.sfi_place.specs.Places.{place_of}
@@ -58,17 +58,8 @@ target_at at names place = of_name (target_of at) (slice_get names place)
 
 -- ---- in instructions
 
--- the jal or branch with this offset
+-- the jal or branch with this offset; any other instruction stays as it is
 abbrev pub with_offset : ℤ → Instr → Instr
 with_offset z (Jal rd offset) = Jal rd z
 with_offset z (Branch cond rs1 rs2 offset) = Branch cond rs1 rs2 z
-with_offset z (Op op rd rs1 rs2) = Op op rd rs1 rs2
-with_offset z (OpImm op rd rs1 imm) = OpImm op rd rs1 imm
-with_offset z (Load kind rd rs1 imm) = Load kind rd rs1 imm
-with_offset z (Store width rs1 rs2 imm) = Store width rs1 rs2 imm
-with_offset z (Jalr rd rs1 imm) = Jalr rd rs1 imm
-with_offset z (Lui rd imm) = Lui rd imm
-with_offset z (Auipc rd imm) = Auipc rd imm
-with_offset z (Fence imm rd rs1) = Fence imm rd rs1
-with_offset z Ecall = Ecall
-with_offset z Ebreak = Ebreak
+with_offset z i = i

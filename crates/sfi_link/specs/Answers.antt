@@ -2,16 +2,12 @@
 use Rattle.std.specs.Prelude.{◌≡◌, ◌⊎◌, ℕ, List, Result, Ok, Err, Vec}
 use Rattle.std.specs.Global.{Global}
 use Rattle.sfi_link.specs.declared.fault.LinkFault.{LinkFault}
-use Rattle.sfi_link.specs.declared.fault.LinkFault.TheVariants.{UnknownName, BranchReach, TooLarge, TooManySandboxes, Memory, Place}
+use Rattle.sfi_link.specs.declared.fault.LinkFault.TheVariants.{Memory}
 
 -- what is said of a fault, where that isn't want of memory
 abbrev pub UnlessMemory : (LinkFault → Type 0) → LinkFault → Type 0
-UnlessMemory P (UnknownName line) = P (UnknownName line)
-UnlessMemory P (BranchReach line) = P (BranchReach line)
-UnlessMemory P (TooLarge sandbox) = P (TooLarge sandbox)
-UnlessMemory P TooManySandboxes = P TooManySandboxes
 UnlessMemory P Memory = Unit {0}
-UnlessMemory P (Place sandbox) = P (Place sandbox)
+UnlessMemory P f = P f
 
 -- the answer is these bytes, or memory ran out
 abbrev pub AnswersBytes : List ℕ → Result (Vec ℕ Global) LinkFault → Type 0

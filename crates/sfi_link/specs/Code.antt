@@ -38,11 +38,8 @@ IsWord bytes i = InRange i × (bytes ≡ to_le_bytes w32 (spelling i))
 
 -- the bytes of the slot with that instruction: a form's are those of its own row
 abbrev pub AreSlotBytes : List ℕ → Slot → Instr → Type 0
-AreSlotBytes bytes (Wide j) i = IsWord bytes i
 AreSlotBytes bytes (Short f) i = IsTrue (allowed f) × (bytes ≡ to_le_bytes w16 (halfword_of f))
-AreSlotBytes bytes (Jump j name line) i = IsWord bytes i
-AreSlotBytes bytes (Upper rd name line) i = IsWord bytes i
-AreSlotBytes bytes (Lower rd name line) i = IsWord bytes i
+AreSlotBytes bytes _ i = IsWord bytes i
 
 -- the bytes of the slot that stands at `here`
 pub record IsSlot (at : Bases) (names : List PlacedName) (here : ℕ) (s : Slot)

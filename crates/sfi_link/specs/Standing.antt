@@ -12,7 +12,7 @@ use Rattle.sfi_image.specs.Spans.{code_region, data_region}
 use Rattle.sfi_image.specs.Images.{IsImage}
 use Rattle.sfi_place.specs.declared.place.Place.{Place}
 use Rattle.sfi_rewrite.specs.declared.slot.Slot.{Slot}
-use Rattle.sfi_rewrite.specs.declared.slot.Slot.TheVariants.{Wide, Short, Jump, Upper, Lower}
+use Rattle.sfi_rewrite.specs.declared.slot.Slot.TheVariants.{Wide, Short}
 use Rattle.sfi_rewrite.specs.declared.placed.PlacedName.{PlacedName}
 use Rattle.sfi_rewrite.specs.Slots.{slot_size, size_of}
 use Rattle.sfi_rewrite.specs.Placement.{Placement, IsPlacement}
@@ -21,7 +21,7 @@ use Rattle.sfi_rewrite.specs.Rewriting.{IsRewritten, AreRewritten}
 use Rattle.sfi_rewrite.specs.Transparency.{AreRegions, SlotsStand, MayBe, StandsTransparent}
 use Rattle.sfi_link.specs.declared.bases.Bases.{Bases}
 use Rattle.sfi_link.specs.Addresses.{bases_of}
-use Rattle.sfi_link.specs.Code.{resolved, AreSlots}
+use Rattle.sfi_link.specs.Code.{resolved}
 use Rattle.sfi_link.specs.Linked.{IsLinked}
 use Rattle.sfi_link.specs.Building.{IsLinkedImage}
 
@@ -29,25 +29,13 @@ use Rattle.sfi_link.specs.Building.{IsLinkedImage}
 abbrev pub IsResolvedTo : Bases → List PlacedName → ℕ → Instr → Slot → Type 0
 IsResolvedTo at names here i (Wide j) = Unit {0}
 IsResolvedTo at names here i (Short f) = Unit {0}
-IsResolvedTo at names here i (Jump j name line) = resolved at names here (Jump j name line) ≡ Some i
-IsResolvedTo at names here i (Upper rd name line) =
-    resolved at names here (Upper rd name line) ≡ Some i
-IsResolvedTo at names here i (Lower rd name line) =
-    resolved at names here (Lower rd name line) ≡ Some i
+IsResolvedTo at names here i s = resolved at names here s ≡ Some i
 
 -- the same of slots that stand one after another, from `here` on
 abbrev pub AreResolvedTo : Bases → List PlacedName → ℕ → Instr → List Slot → Type 0
 AreResolvedTo at names here i [] = Unit {0}
 AreResolvedTo at names here i (x ∷ slots) =
     IsResolvedTo at names here i x × AreResolvedTo at names (here + slot_size x) i slots
-
--- where a memory holds the bytes of slots from pc on, the slots stand there
-abbrev pub LinkedSlotsStand : Type 0
-LinkedSlotsStand =
-    (at : Bases) (names : List PlacedName) (here : ℕ) (i : Instr) (slots : List Slot)
-    (bytes : List ℕ) (s : State)
-    → AreSlots at names here slots bytes → AreResolvedTo at names here i slots
-    → Holds s.memory s.hart.pc (size_of slots) bytes → SlotsStand i s slots
 
 -- ---- the source in the image
 

@@ -1,5 +1,4 @@
 -- Words that private contracts and proofs alone cite: no public statement rests on them.
 pub mod Answers
 pub mod Near
-pub mod Texts
 pub mod Names

@@ -8,23 +8,18 @@ ghost use Rattle.sfi_link.specs.declared.build_fault.BuildFault.TheVariants.{Tex
 ghost use Rattle.sfi_link.specs.Building.{IsBuild};
 ghost use Rattle.sfi_link.specs.Standing.{ImageRunsAs};
 ghost use Rattle.sfi_link.specs.Texts.{IsTextBuild, IsCleanImage, IsBuildFault, IsWantOfMemory, AnswersBuild, AnswersBuildFault};
-ghost use Rattle.sfi_link.specs.private.Texts.{Builds};
 
 use crate::build_fault::BuildFault;
-use crate::laws::{linked_runs_as, one_linking};
 use crate::linker::link_at;
-use rv_text::laws::{
-    meant_has_no_fault, one_fault as one_text_fault, one_source, sources_are_right,
-};
 use rv_text::parse_source;
 use sfi_place::Place;
-use sfi_rewrite::laws::{never_both, one_fault as one_source_fault, one_rewriting};
 use sfi_rewrite::rewrite;
 use std::alloc::Global;
 
 // The build of the text, or its fault.
 fn build_of(alloc: Global, text: &str, places: &[Place]) -> Result<Vec<u8>, BuildFault>
-    ensures builds { Builds places.now text.now result }
+    ensures built { IfOk result (λ bytes. IsTextBuild places.now text.now bytes.items) }
+    ensures fault { IfErr result (λ f. IsWantOfMemory f ⊎ IsBuildFault places.now text.now f) }
     ensures too_long { most_bytes < length text.now → result ≡ Err (Text (first_line Limit)) }
 {
     let source = parse_source(alloc, text)?;
@@ -54,17 +49,6 @@ pub fn build_at(alloc: Global, text: &str, places: &[Place]) -> Result<Vec<u8>, 
     // Of a text above its limit, whatever memory there is.
     ensures too_long { most_bytes < length text.now → result ≡ Err (Text (first_line Limit)) }
 {
-    // The laws that the contract rests on: these calls do nothing.
-    one_source();
-    sources_are_right();
-    one_text_fault();
-    meant_has_no_fault();
-    one_rewriting();
-    one_source_fault();
-    never_both();
-    one_linking();
-    linked_runs_as();
-
     build_of(alloc, text, places)
 }
 

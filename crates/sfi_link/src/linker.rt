@@ -19,7 +19,6 @@ ghost use Rattle.sfi_link.specs.Answers.{UnlessMemory, AnswersBytes, AnswersFaul
 use crate::bases::bases_of;
 use crate::code_region::linked_code;
 use crate::fault::LinkFault;
-use crate::laws::{linked_is_clean, linked_is_right, one_linking};
 use rv_source::SourceGate;
 use sfi_image::{Gate, ImageFault, SandboxPart, write_image_as};
 use sfi_place::Place;
@@ -121,10 +120,6 @@ fn image_of(alloc: Global, placed: &Placed, places: &[Place]) -> Result<Vec<u8>,
         (IsLinkFault places.now placed.now) result }
     ensures too_many { sandboxes_most < length placed.now → result ≡ Err TooManySandboxes }
 {
-    // The laws that the contract rests on: these calls do nothing.
-    linked_is_right();
-    linked_is_clean();
-
     let format = placed.format();
     let placed = placed.parts();
     if placed.len() > SANDBOX_COUNT_MOST {
@@ -165,9 +160,6 @@ pub fn link_at(alloc: Global, placed: &Placed, places: &[Place]) -> Result<Vec<u
     ensures build { (source : List Sandbox) → ArePlacements source placed.now
         → IfOk result (λ bytes. IsBuild places.now source bytes.items) }
 {
-    // The laws that the contract rests on: this call does nothing.
-    one_linking();
-
     image_of(alloc, placed, places)
 }
 

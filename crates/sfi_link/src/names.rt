@@ -9,20 +9,17 @@ ghost use Rattle.sfi_link.specs.declared.build_fault.BuildFault.{BuildFault};
 ghost use Rattle.sfi_link.specs.declared.build_fault.BuildFault.TheVariants.{Text, Link};
 ghost use Rattle.sfi_link.specs.Names.{MapEntry, entries_of, map_from, IsTextMap, AnswersMap, AnswersMapFault};
 ghost use Rattle.sfi_link.specs.Texts.{IsBuildFault, IsWantOfMemory};
-ghost use Rattle.sfi_link.specs.private.Names.{CanBeLinked, Maps};
+ghost use Rattle.sfi_link.specs.private.Names.{CanBeLinked};
 ghost use Rattle.sfi_link.specs.private.Near.{AreNear};
 
 use crate::address::address_of;
 use crate::bases::{Bases, bases_of};
 use crate::build_fault::BuildFault;
 use crate::fault::LinkFault;
-use crate::laws::one_linking;
 use crate::linker::link_at;
 use rv_source::{Names, SourcePart};
-use rv_text::laws::{meant_has_no_fault, one_fault as one_text_fault, one_source};
 use rv_text::parse_source;
 use sfi_place::Place;
-use sfi_rewrite::laws::{never_both, one_fault as one_source_fault, one_rewriting};
 use sfi_rewrite::{PlacedName, PlacedPart, rewrite};
 use std::alloc::{AllocError, Global};
 use std::marker::Model;
@@ -133,7 +130,8 @@ fn names_of(
 
 // The names of the text, or its fault.
 fn map_of(alloc: Global, text: &str, places: &[Place]) -> Result<Vec<NameAddress>, BuildFault>
-    ensures maps { Maps places.now text.now result }
+    ensures mapped { IfOk result (λ entries. IsTextMap places.now text.now entries.items) }
+    ensures fault { IfErr result (λ f. IsWantOfMemory f ⊎ IsBuildFault places.now text.now f) }
     ensures too_long { most_bytes < length text.now → result ≡ Err (Text (first_line Limit)) }
 {
     let source = parse_source(alloc, text)?;
@@ -159,14 +157,5 @@ pub fn names_at(alloc: Global, text: &str, places: &[Place]) -> Result<Vec<NameA
     // Of a text above its limit, whatever memory there is.
     ensures too_long { most_bytes < length text.now → result ≡ Err (Text (first_line Limit)) }
 {
-    // The laws that the contract rests on: these calls do nothing.
-    one_source();
-    one_text_fault();
-    meant_has_no_fault();
-    one_rewriting();
-    one_source_fault();
-    never_both();
-    one_linking();
-
     map_of(alloc, text, places)
 }

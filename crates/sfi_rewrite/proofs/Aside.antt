@@ -1,6 +1,6 @@
 -- Harts that differ in x31 alone, and what an instruction does from them.
 use Rattle.std.proofs.Common.{◌≡◌, ◌≢◌, ℕ, ◌+◌, ◌%◌, ◌^◌, ◌<◌, ◌==◌, Bool, true, false, cond, List, length, length-set, set, get_or, Option, Some, None, is_some, refl, sym, ap, ◌∙◌, subst, arith, ⊎_elim, ℤ, pos, negsuc, ◌+ℤ◌}
-use Rattle.std.proofs.lemmas.Bool.{cond-false, ne_eqb, cases_lt, eqb-true, eqb-false}
+use Rattle.std.proofs.lemmas.Bool.{cases_lt, eqb-true, eqb-false}
 use Rattle.std.proofs.lemmas.Int.{ints}
 use Rattle.std.proofs.lemmas.List.{get_or-set_same, get_or-set_other, get_or_past}
 use Rattle.rv_word.specs.Numbers.{offset_by}
@@ -13,18 +13,10 @@ use Rattle.rv_step.specs.declared.outcome.Cause.TheVariants as cause
 use Rattle.rv_step.specs.State.{Hart, register, with_register, with_pc, past, even_of}
 use Rattle.rv_step.specs.Step.{next, unchanged, after_load, effect}
 use Rattle.rv_step.specs.Values.{word, load_size, store_size}
+use Rattle.rv_step.proofs.Pairs.{written_list, written_elsewhere}
 use Rattle.sfi_rewrite.specs.Transparency.{IsSameAside}
 
 -- ---- registers
-
-written_list : (h : Hart) (t v : ℕ) → t ≢ 0 → (with_register h t v).registers ≡ set h.registers t v
-written_list h t v ne = cond-false (t == 0) h.registers (set h.registers t v) (ne_eqb t 0 ne)
-
-pub written_here : (h : Hart) (t v : ℕ) → t ≢ 0 → t < length h.registers → register (with_register h t v) t ≡ v
-written_here h t v ne within = ap (λ (l : List ℕ). get_or l t 0) (written_list h t v ne) ∙ get_or-set_same h.registers t v 0 within
-
-pub written_elsewhere : (h : Hart) (t v x : ℕ) → t ≢ 0 → x ≢ t → register (with_register h t v) x ≡ register h x
-written_elsewhere h t v x ne other = ap (λ (l : List ℕ). get_or l x 0) (written_list h t v ne) ∙ get_or-set_other h.registers t x v 0 other
 
 pub written_count : (h : Hart) (t v : ℕ) → t ≢ 0 → length (with_register h t v).registers ≡ length h.registers
 written_count h t v ne = ap (λ (l : List ℕ). length l) (written_list h t v ne) ∙ length-set h.registers t v

@@ -3,7 +3,7 @@ use Rattle.std.proofs.Common.{◌≡◌, ℕ, zero, suc, ◌+◌, ◌*◌, ◌<�
 use Rattle.std.proofs.lemmas.Int.{ints}
 use Rattle.std.specs.Prelude.{ℤ, pos, negsuc, Bool, true, false, MatchBool}
 use Rattle.std.specs.List.{All}
-use Rattle.std.proofs.lemmas.List.Elements.{All-nil, All-cons, All-append, All-head, All-tail}
+use Rattle.std.proofs.lemmas.List.Elements.{All-nil, All-cons, All-append, All-head, All-tail, All-replicate}
 use Rattle.rv_word.specs.declared.instr.Instr.{Instr}
 use Rattle.rv_word.specs.declared.instr.RegOp.TheVariants.{And, Or}
 use Rattle.rv_word.specs.declared.instr.ImmOp.TheVariants.{Addi}
@@ -32,9 +32,6 @@ pub record IsKnown (count : ℕ) (s : Slot) : Type 0 where
 one : (count : ℕ) (s : Slot) → IsKnown count s → All (IsKnown count) (s ∷ [])
 one count s h = All-cons (IsKnown count) s [] h (All-nil (IsKnown count))
 
-more : (count : ℕ) (s : Slot) (slots : List Slot) → IsKnown count s → All (IsKnown count) slots → All (IsKnown count) (s ∷ slots)
-more count s slots h g = All-cons (IsKnown count) s slots h g
-
 zero_fits : IsImm12 (pos 0)
 zero_fits = (omega (arith, ints), omega (arith, ints))
 
@@ -50,7 +47,7 @@ alone_known count true i slots e h =
     ]
 
 three : (count : ℕ) (a b c : Slot) → IsKnown count a → IsKnown count b → IsKnown count c → All (IsKnown count) (a ∷ b ∷ c ∷ [])
-three count a b c h g k = more count a (b ∷ c ∷ []) h (more count b (c ∷ []) g (one count c k))
+three count a b c h g k = All-cons (IsKnown count) a (b ∷ c ∷ []) h (All-cons (IsKnown count) b (c ∷ []) g (one count c k))
 
 masked : (count a mask : ℕ) → a < 32 → mask < 32 → IsKnown count (Wide (Op And 31 a mask))
 unfolding InRange
@@ -83,9 +80,9 @@ code_known count rd a d h =
 jump_known : (count rd a : ℕ) (imm : ℤ) (slots : List Slot) → slots ≡ jump_slots rd a imm → rd < 32 → a < 32 → IsImm12 imm → All (IsKnown count) slots
 jump_known count rd a (pos zero) slots e d h i = rw e (code_known count rd a d h)
 jump_known count rd a (pos (suc n)) slots e d h i =
-    rw e (more count (Wide (OpImm Addi 31 a (pos (suc n)))) (code_pair_slots 31 ++ jump_to_x31 rd ∷ []) (summed count a (pos (suc n)) h i) (code_known count rd 31 d (omega arith)))
+    rw e (All-cons (IsKnown count) (Wide (OpImm Addi 31 a (pos (suc n)))) (code_pair_slots 31 ++ jump_to_x31 rd ∷ []) (summed count a (pos (suc n)) h i) (code_known count rd 31 d (omega arith)))
 jump_known count rd a (negsuc n) slots e d h i =
-    rw e (more count (Wide (OpImm Addi 31 a (negsuc n))) (code_pair_slots 31 ++ jump_to_x31 rd ∷ []) (summed count a (negsuc n) h i) (code_known count rd 31 d (omega arith)))
+    rw e (All-cons (IsKnown count) (Wide (OpImm Addi 31 a (negsuc n))) (code_pair_slots 31 ++ jump_to_x31 rd ∷ []) (summed count a (negsuc n) h i) (code_known count rd 31 d (omega arith)))
 
 masked_known : (rvc : Bool) (i : Instr) (count : ℕ) (slots : List Slot) → IsMasked rvc i slots → InRange i → All (IsKnown count) slots
 unfolding InRange
@@ -99,7 +96,7 @@ masked_known rvc other count slots e b = alone_known count rvc other slots e b
 pair_known : (count : ℕ) → All (IsKnown count) stack_pair
 unfolding InRange
 pair_known count =
-    more count (Wide (Op And 2 2 27)) (Wide (Op Or 2 2 26) ∷ []) (record { encodes = (omega arith, omega arith, omega arith); name = tt })
+    All-cons (IsKnown count) (Wide (Op And 2 2 27)) (Wide (Op Or 2 2 26) ∷ []) (record { encodes = (omega arith, omega arith, omega arith); name = tt })
     (one count (Wide (Op Or 2 2 26)) (record { encodes = (omega arith, omega arith, omega arith); name = tt }))
 
 put_back_known : (count : ℕ) (writes : Bool) → All (IsKnown count) (put_back writes)
@@ -108,7 +105,7 @@ put_back_known count true = pair_known count
 
 plain_known : (writes on rvc : Bool) (i : Instr) (count : ℕ) (slots : List Slot)
     → MatchBool writes (slots ≡ Wide i ∷ stack_pair) (MatchBool on (IsAlone rvc i slots) (IsMasked rvc i slots)) → InRange i → All (IsKnown count) slots
-plain_known true on rvc i count slots e h = rw e (more count (Wide i) stack_pair (wide_known count i h) (pair_known count))
+plain_known true on rvc i count slots e h = rw e (All-cons (IsKnown count) (Wide i) stack_pair (wide_known count i h) (pair_known count))
 plain_known false true rvc i count slots e h = alone_known count rvc i slots e h
 plain_known false false rvc i count slots e h = masked_known rvc i count slots e h
 
@@ -117,13 +114,12 @@ expansion_known : (f : Format) (line : ℕ) (rvc : Bool) (body : Body) (count : 
 expansion_known f line rvc (Plain i) count slots e b = plain_known (writes_stack f i) (is_on_stack f i) rvc i count slots e b.0
 expansion_known f line rvc (To i name) count slots e b = rw e (one count (Jump i name line) (record { encodes = b.0; name = b.2 }))
 expansion_known f line rvc (High rd name) count slots e b =
-    rw e (more count (Upper rd name line) (put_back (is_stack f rd)) (record { encodes = b.0; name = b.1 }) (put_back_known count (is_stack f rd)))
+    rw e (All-cons (IsKnown count) (Upper rd name line) (put_back (is_stack f rd)) (record { encodes = b.0; name = b.1 }) (put_back_known count (is_stack f rd)))
 expansion_known f line rvc (Low rd name) count slots e b =
-    rw e (more count (Lower rd name line) (put_back (is_stack f rd)) (record { encodes = b.0; name = b.1 }) (put_back_known count (is_stack f rd)))
+    rw e (All-cons (IsKnown count) (Lower rd name line) (put_back (is_stack f rd)) (record { encodes = b.0; name = b.1 }) (put_back_known count (is_stack f rd)))
 
 pub nops_known : (count n : ℕ) → All (IsKnown count) (replicate n c_nop)
-nops_known count zero = All-nil (IsKnown count)
-nops_known count (suc n) = more count c_nop (replicate n c_nop) (record { encodes = refl; name = tt }) (nops_known count n)
+nops_known count n = All-replicate (IsKnown count) n c_nop (record { encodes = refl; name = tt })
 
 pub laid_known : (f : Format) (count end : ℕ) (items : List Item) (slots : List Slot) → AreLaidFrom f end items slots → All (λ x. IsBody count x.body) items → All (IsKnown count) slots
 laid_known f count end [] slots l b = rw l (All-nil (IsKnown count))

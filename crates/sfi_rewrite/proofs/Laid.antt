@@ -4,7 +4,7 @@ use Rattle.std.specs.Prelude.{Bool, true, false, MatchBool}
 use Rattle.rv_word.specs.declared.instr.Instr.{Instr}
 use Rattle.rv_word.specs.declared.instr.Instr.TheVariants.{Load, Store, Jalr}
 use Rattle.rv_comp.specs.declared.form.Form16.{Form16}
-use Rattle.rv_comp.specs.Laws.{OneFirstForm}
+use Rattle.rv_comp.proofs.Facts.{one_first_form}
 use Rattle.sfi_policy.specs.declared.format.Format.{Format}
 use Rattle.rv_source.specs.declared.item.Item.{Item}
 use Rattle.rv_source.specs.declared.item.Body.{Body}
@@ -83,36 +83,36 @@ laid_split f end (x ∷ items) (suc k) slots l =
 
 -- ---- one way
 
-alone_one_way : OneFirstForm → (rvc : Bool) (i : Instr) (a b : List Slot) → IsAlone rvc i a → IsAlone rvc i b → a ≡ b
-alone_one_way one false i a b x y = x ∙ sym y
-alone_one_way one true i a b x y = cases x y
+alone_one_way : (rvc : Bool) (i : Instr) (a b : List Slot) → IsAlone rvc i a → IsAlone rvc i b → a ≡ b
+alone_one_way false i a b x y = x ∙ sym y
+alone_one_way true i a b x y = cases x y
   where
     cases : IsAlone true i a → IsAlone true i b → a ≡ b
-    cases (inl x) (inl y) = x.2 ∙ ap (λ (f : Form16). Short f ∷ []) (one i x.0 y.0 x.1 y.1) ∙ sym y.2
+    cases (inl x) (inl y) = x.2 ∙ ap (λ (f : Form16). Short f ∷ []) (one_first_form i x.0 y.0 x.1 y.1) ∙ sym y.2
     cases (inl x) (inr y) = absurd (y.0 x.0 x.1.meets x.1.expands)
     cases (inr x) (inl y) = absurd (x.0 y.0 y.1.meets y.1.expands)
     cases (inr x) (inr y) = x.1 ∙ sym y.1
 
-masked_one_way : OneFirstForm → (rvc : Bool) (i : Instr) (a b : List Slot) → IsMasked rvc i a → IsMasked rvc i b → a ≡ b
-masked_one_way one rvc (Load kind rd rs1 imm) a b x y = x ∙ sym y
-masked_one_way one rvc (Store width rs1 rs2 imm) a b x y = x ∙ sym y
-masked_one_way one rvc (Jalr rd rs1 imm) a b x y = x ∙ sym y
-masked_one_way one rvc other a b x y = alone_one_way one rvc other a b x y
+masked_one_way : (rvc : Bool) (i : Instr) (a b : List Slot) → IsMasked rvc i a → IsMasked rvc i b → a ≡ b
+masked_one_way rvc (Load kind rd rs1 imm) a b x y = x ∙ sym y
+masked_one_way rvc (Store width rs1 rs2 imm) a b x y = x ∙ sym y
+masked_one_way rvc (Jalr rd rs1 imm) a b x y = x ∙ sym y
+masked_one_way rvc other a b x y = alone_one_way rvc other a b x y
 
-plain_one_way : OneFirstForm → (writes on rvc : Bool) (i : Instr) (a b : List Slot)
+plain_one_way : (writes on rvc : Bool) (i : Instr) (a b : List Slot)
     → MatchBool writes (a ≡ Wide i ∷ stack_pair) (MatchBool on (IsAlone rvc i a) (IsMasked rvc i a))
     → MatchBool writes (b ≡ Wide i ∷ stack_pair) (MatchBool on (IsAlone rvc i b) (IsMasked rvc i b)) → a ≡ b
-plain_one_way one true on rvc i a b x y = x ∙ sym y
-plain_one_way one false true rvc i a b x y = alone_one_way one rvc i a b x y
-plain_one_way one false false rvc i a b x y = masked_one_way one rvc i a b x y
+plain_one_way true on rvc i a b x y = x ∙ sym y
+plain_one_way false true rvc i a b x y = alone_one_way rvc i a b x y
+plain_one_way false false rvc i a b x y = masked_one_way rvc i a b x y
 
-expansion_of_one_way : OneFirstForm → (f : Format) (line : ℕ) (rvc : Bool) (body : Body) (a b : List Slot)
+expansion_of_one_way : (f : Format) (line : ℕ) (rvc : Bool) (body : Body) (a b : List Slot)
     → IsExpansionOf f line rvc body a → IsExpansionOf f line rvc body b → a ≡ b
-expansion_of_one_way one f line rvc (Plain i) a b x y = plain_one_way one (writes_stack f i) (is_on_stack f i) rvc i a b x y
-expansion_of_one_way one f line rvc _ a b x y = x ∙ sym y
+expansion_of_one_way f line rvc (Plain i) a b x y = plain_one_way (writes_stack f i) (is_on_stack f i) rvc i a b x y
+expansion_of_one_way f line rvc _ a b x y = x ∙ sym y
 
-pub expansion_one_way : OneFirstForm → (f : Format) (x : Item) (a b : List Slot) → IsExpansion f x a → IsExpansion f x b → a ≡ b
-expansion_one_way one f x a b h g = expansion_of_one_way one f x.line x.rvc x.body a b h g
+pub expansion_one_way : (f : Format) (x : Item) (a b : List Slot) → IsExpansion f x a → IsExpansion f x b → a ≡ b
+expansion_one_way f x a b h g = expansion_of_one_way f x.line x.rvc x.body a b h g
 
 gap_one_way : (end : ℕ) (labelled call : Bool) (size m n : ℕ) → FillsGap end labelled call size m → FillsGap end labelled call size n → m ≡ n
 gap_one_way end labelled call size m n a b =
@@ -125,20 +125,20 @@ pub record SameNext (m n : ℕ) (a b : List Slot) : Type 0 where
   pub nops : m ≡ n
   pub expanded : a ≡ b
 
-pub next_one_way : OneFirstForm → (f : Format) (end : ℕ) (x : Item) (m n : ℕ) (a b : List Slot) → IsNext f end x m a → IsNext f end x n b → SameNext m n a b
-next_one_way one f end x m n a b s t =
-    let e = expansion_one_way one f x a b s.expansion t.expansion in
+pub next_one_way : (f : Format) (end : ℕ) (x : Item) (m n : ℕ) (a b : List Slot) → IsNext f end x m a → IsNext f end x n b → SameNext m n a b
+next_one_way f end x m n a b s t =
+    let e = expansion_one_way f x a b s.expansion t.expansion in
     record {
       nops = gap_one_way end x.labelled (is_call x.body) (size_of b) m n (subst (λ (c : List Slot). FillsGap end x.labelled (is_call x.body) (size_of c) m) e s.gap) t.gap;
       expanded = e;
     }
 
-pub laid_one_way : OneFirstForm → (f : Format) (end : ℕ) (items : List Item) (a b : List Slot) → AreLaidFrom f end items a → AreLaidFrom f end items b → a ≡ b
-laid_one_way one f end [] a b x y = x ∙ sym y
-laid_one_way one f end (i ∷ items) a b x y =
-    let same = next_one_way one f end i x.0 y.0 x.1 y.1 x.3 y.3 in
+pub laid_one_way : (f : Format) (end : ℕ) (items : List Item) (a b : List Slot) → AreLaidFrom f end items a → AreLaidFrom f end items b → a ≡ b
+laid_one_way f end [] a b x y = x ∙ sym y
+laid_one_way f end (i ∷ items) a b x y =
+    let same = next_one_way f end i x.0 y.0 x.1 y.1 x.3 y.3 in
     let e : end + 2 * y.0 + size_of y.1 ≡ end + 2 * x.0 + size_of x.1 = (let h = same.nops in let g = ap size_of same.expanded in omega arith) in
-    let rest = laid_one_way one f (end + 2 * x.0 + size_of x.1) items x.2 y.2 x.5 (subst (λ (m : ℕ). AreLaidFrom f m items y.2) e y.5) in
+    let rest = laid_one_way f (end + 2 * x.0 + size_of x.1) items x.2 y.2 x.5 (subst (λ (m : ℕ). AreLaidFrom f m items y.2) e y.5) in
     x.4
     ∙ ap (λ (n : ℕ). replicate n c_nop ++ (x.1 ++ x.2)) same.nops
     ∙ ap (λ (s : List Slot). replicate y.0 c_nop ++ (s ++ x.2)) same.expanded

@@ -17,3 +17,4 @@ pub mod StackKept
 pub mod Standing
 pub mod Samples
 pub mod SomeRewriting
+pub mod Facts

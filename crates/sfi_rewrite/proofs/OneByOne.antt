@@ -1,7 +1,7 @@
 -- One item after another.
 use Rattle.std.proofs.Common.{◌≡◌, ℕ, ◌+◌, ◌*◌, ◌%◌, ◌<◌, ◌≤◌, List, [], ◌∷◌, ◌++◌, length, take, get_or, replicate, refl, sym, ap, ◌∙◌, subst, arith, Some, append_assoc, inl, inr, length-append}
 use Rattle.std.specs.Prelude.{Bool, slice_get}
-use Rattle.std.proofs.lemmas.List.{take_more, take_all, get_or_append_left, get_or_push}
+use Rattle.std.proofs.lemmas.List.{take_more, get_or_append_left, get_or_push}
 use Rattle.std.proofs.lemmas.List.Elements.{All-push, All-nil}
 use Rattle.std.proofs.lemmas.Bool.{cases_lt}
 use Rattle.std.proofs.lemmas.Option.{slice_get-get_or}
@@ -160,9 +160,6 @@ pub found_fault : (format : Format) (sandbox end : ℕ) (x : Item) (f : RewriteF
 found_fault format sandbox end x (TooLarge number) h = absurd h
 found_fault format sandbox end x Memory h = tt
 found_fault format sandbox end x _ h = h
-
-pub all_faultless : (f : Format) (items : List Item) (k : ℕ) (code : List Slot) → length items ≤ k → AreFaultless f (take k items) code → AreFaultless f items code
-all_faultless f items k code h l = subst (λ (v : List Item). AreFaultless f v code) (take_all k items h) l
 
 pub body_at : (items : List Item) (k : ℕ) (x : Item) → k < length items → x ≡ get_or items k x → HaveBodies items → (count : ℕ) × IsBody count x.body
 body_at items k x h e b = subst (λ (y : Item). (count : ℕ) × IsBody count y.body) (sym e) (b k x h)

@@ -6,7 +6,6 @@ use Rattle.std.proofs.Math.Seq.{drop-cons}
 use Rattle.std.proofs.lemmas.Bool.{cases_order}
 use Rattle.std.proofs.lemmas.List.{get_or-take, take-take, take_all, length-take-le}
 use Rattle.std.proofs.lemmas.Option.{slice_get_within, get_or_from_slice_get}
-use Rattle.rv_comp.specs.Laws.{OneFirstForm}
 use Rattle.sfi_policy.specs.declared.format.Format.{Format}
 use Rattle.rv_source.specs.declared.item.Item.{Item}
 use Rattle.rv_source.specs.Source.{Sandbox}
@@ -38,30 +37,27 @@ fault_one_way format sandbox end x (Ecall line) (TooLarge number) h k = absurd (
 fault_one_way format sandbox end x (TooLarge number) (ReservedRegister other) h k = absurd (both_ways _ k.0 h.0.operands)
 fault_one_way format sandbox end x (TooLarge number) (Ecall other) h k = absurd (both_ways _ k.1 h.0.no_ecall)
 fault_one_way format sandbox end x (TooLarge number) (TooLarge other) h k = ap TooLarge (h.2 ∙ sym k.2)
-fault_one_way format sandbox end x (ReservedRegister line) Memory h k = absurd k
-fault_one_way format sandbox end x (Ecall line) Memory h k = absurd k
-fault_one_way format sandbox end x (TooLarge number) Memory h k = absurd k
 fault_one_way format sandbox end x (StackWrite line) (ReservedRegister other) h k = absurd (both_ways _ k.0 h.0)
 fault_one_way format sandbox end x (StackWrite line) (Ecall other) h k = absurd (both_ways _ k.1 h.1)
 fault_one_way format sandbox end x (StackWrite line) (StackWrite other) h k = ap StackWrite (h.3 ∙ sym k.3)
 fault_one_way format sandbox end x (StackWrite line) (TooLarge number) h k = absurd (both_ways _ h.2 k.0.no_stack_write)
-fault_one_way format sandbox end x (StackWrite line) Memory h k = absurd k
 fault_one_way format sandbox end x (ReservedRegister line) (StackWrite other) h k = absurd (both_ways _ h.0 k.0)
 fault_one_way format sandbox end x (Ecall line) (StackWrite other) h k = absurd (both_ways _ h.1 k.1)
 fault_one_way format sandbox end x (TooLarge number) (StackWrite other) h k = absurd (both_ways _ k.2 h.0.no_stack_write)
 fault_one_way format sandbox end x Memory g h k = absurd h
+fault_one_way format sandbox end x _ _ h k = absurd k
 
 -- no item of some without a fault is too large
-fits_at : OneFirstForm → (format : Format) (items : List Item) (slots before : List Slot) (k : ℕ) (x : Item)
+fits_at : (format : Format) (items : List Item) (slots before : List Slot) (k : ℕ) (x : Item)
     → AreFaultless format items slots → k < length items → get_or items k x ≡ x → AreLaidFrom format 0 (take k items) before → IsTooLarge format (size_of before) x → ⊥
-fits_at law format items slots before k x f h at b t =
+fits_at format items slots before k x f h at b t =
     let s = laid_split format 0 items k slots f.laid in
-    let same : s.front ≡ before = laid_one_way law format 0 (take k items) s.front before s.before b in
+    let same : s.front ≡ before = laid_one_way format 0 (take k items) s.front before s.before b in
     let from : drop k items ≡ x ∷ drop (suc k) items = drop-cons items k x h ∙ ap (λ y. y ∷ drop (suc k) items) at in
     let after : AreLaidFrom format (size_of before) (x ∷ drop (suc k) items) s.back =
     subst (λ (n : ℕ). AreLaidFrom format n (x ∷ drop (suc k) items) s.back) (let z = ap size_of same in let g : 0 + size_of s.front ≡ size_of before = omega arith in g)
     (subst (λ (v : List Item). AreLaidFrom format (0 + size_of s.front) v s.back) from s.after) in
-    let next = next_one_way law format (size_of before) x after.0 t.nops after.1 t.expanded after.3 t.next in
+    let next = next_one_way format (size_of before) x after.0 t.nops after.1 t.expanded after.3 t.next in
     let nops = next.nops in
     let some = (expansion_one format x after.1 after.3.expansion).some in
     let all = ap size_of s.both ∙ size_of-append s.front s.back in
@@ -71,70 +67,70 @@ fits_at law format items slots before k x f h at b t =
     let beyond = t.beyond in
     omega arith
 
-no_fault_in : OneFirstForm → (format : Format) (sandbox : ℕ) (items : List Item) (slots before : List Slot) (k : ℕ) (x : Item) (f : RewriteFault)
+no_fault_in : (format : Format) (sandbox : ℕ) (items : List Item) (slots before : List Slot) (k : ℕ) (x : Item) (f : RewriteFault)
     → AreFaultless format items slots → k < length items → get_or items k x ≡ x → AreLaidFrom format 0 (take k items) before → HasFault format sandbox (size_of before) x f → ⊥
-no_fault_in law format sandbox items slots before k x (ReservedRegister line) a h at b f =
+no_fault_in format sandbox items slots before k x (ReservedRegister line) a h at b f =
     both_ways _ f.0 (subst (λ (y : Item). IsPermitted format y) at (a.permitted k x h)).operands
-no_fault_in law format sandbox items slots before k x (Ecall line) a h at b f = both_ways _ f.1 (subst (λ (y : Item). IsPermitted format y) at (a.permitted k x h)).no_ecall
-no_fault_in law format sandbox items slots before k x (StackWrite line) a h at b f =
+no_fault_in format sandbox items slots before k x (Ecall line) a h at b f = both_ways _ f.1 (subst (λ (y : Item). IsPermitted format y) at (a.permitted k x h)).no_ecall
+no_fault_in format sandbox items slots before k x (StackWrite line) a h at b f =
     both_ways _ f.2 (subst (λ (y : Item). IsPermitted format y) at (a.permitted k x h)).no_stack_write
-no_fault_in law format sandbox items slots before k x (TooLarge number) a h at b f = fits_at law format items slots before k x a h at b f.1
-no_fault_in law format sandbox items slots before k x Memory a h at b f = f
+no_fault_in format sandbox items slots before k x (TooLarge number) a h at b f = fits_at format items slots before k x a h at b f.1
+no_fault_in format sandbox items slots before k x Memory a h at b f = f
 
 -- a fault's item doesn't stand before what has no fault
-item_before : OneFirstForm → (format : Format) (sandbox : ℕ) (items : List Item) (f : RewriteFault) (j : ℕ) (slots : List Slot)
+item_before : (format : Format) (sandbox : ℕ) (items : List Item) (f : RewriteFault) (j : ℕ) (slots : List Slot)
     → (a : IsItemFault format sandbox items f) → AreFaultless format (take j items) slots → a.index < j → j ≤ length items → ⊥
-item_before law format sandbox items f j slots a g low high =
+item_before format sandbox items f j slots a g low high =
     let l = length-take-le j items high in
-    no_fault_in law format sandbox (take j items) slots a.before a.index a.item f g (omega arith) (get_or-take j items a.index a.item low ∙ get_or_from_slice_get items a.index a.item a.item a.at)
+    no_fault_in format sandbox (take j items) slots a.before a.index a.item f g (omega arith) (get_or-take j items a.index a.item low ∙ get_or_from_slice_get items a.index a.item a.item a.at)
     (subst (λ (v : List Item). AreLaidFrom format 0 v a.before) (sym (take-take a.index j items (omega arith))) a.faultless.laid) a.has
 
-pub item_fault_one_way : OneFirstForm → (format : Format) (sandbox : ℕ) (items : List Item) (f g : RewriteFault) → IsItemFault format sandbox items f → IsItemFault format sandbox items g → f ≡ g
-item_fault_one_way law format sandbox items f g a b =
+pub item_fault_one_way : (format : Format) (sandbox : ℕ) (items : List Item) (f g : RewriteFault) → IsItemFault format sandbox items f → IsItemFault format sandbox items g → f ≡ g
+item_fault_one_way format sandbox items f g a b =
     elim (cases_order a.index b.index) [
       | inl e ↦
           let i : Some a.item ≡ Some b.item = sym a.at ∙ ap (λ (k : ℕ). slice_get items k) e ∙ b.at in
           let x : a.item ≡ b.item = cc in
           let l : AreLaidFrom format 0 (take b.index items) a.before = subst (λ (k : ℕ). AreLaidFrom format 0 (take k items) a.before) e a.faultless.laid in
-          let same : a.before ≡ b.before = laid_one_way law format 0 (take b.index items) a.before b.before l b.faultless.laid in
+          let same : a.before ≡ b.before = laid_one_way format 0 (take b.index items) a.before b.before l b.faultless.laid in
           fault_one_way format sandbox (size_of b.before) b.item f g
           (subst (λ (y : Item). HasFault format sandbox (size_of b.before) y f) x (subst (λ (v : List Slot). HasFault format sandbox (size_of v) a.item f) same a.has)) b.has
       | inr other ↦
           let m = slice_get_within items a.index a.item a.at in
           let n = slice_get_within items b.index b.item b.at in
           elim other [
-            | inl low ↦ absurd (item_before law format sandbox items f b.index b.before a b.faultless low (omega arith))
-            | inr low ↦ absurd (item_before law format sandbox items g a.index a.before b a.faultless low (omega arith))
+            | inl low ↦ absurd (item_before format sandbox items f b.index b.before a b.faultless low (omega arith))
+            | inr low ↦ absurd (item_before format sandbox items g a.index a.before b a.faultless low (omega arith))
           ]
     ]
 
-pub faultless_has_none : OneFirstForm → (sandbox : ℕ) (s : Sandbox) (f : RewriteFault) → IsFaultless s → IsItemFault s.format sandbox s.items f → ⊥
-faultless_has_none law sandbox s f l a =
+pub faultless_has_none : (sandbox : ℕ) (s : Sandbox) (f : RewriteFault) → IsFaultless s → IsItemFault s.format sandbox s.items f → ⊥
+faultless_has_none sandbox s f l a =
     let all = subst (λ (v : List Item). AreFaultless s.format v l.slots) (sym (take_all (length s.items) s.items (omega arith))) l.items in
-    item_before law s.format sandbox s.items f (length s.items) l.slots a all (slice_get_within s.items a.index a.item a.at) (omega arith)
+    item_before s.format sandbox s.items f (length s.items) l.slots a all (slice_get_within s.items a.index a.item a.at) (omega arith)
 
 -- ---- sandboxes
 
-sandbox_before : OneFirstForm → (source : List Sandbox) (f : RewriteFault) (j : ℕ) → (a : IsSourceFault source f) → All IsFaultless (take j source) → a.number < j → j ≤ length source → ⊥
-sandbox_before law source f j a g low high =
+sandbox_before : (source : List Sandbox) (f : RewriteFault) (j : ℕ) → (a : IsSourceFault source f) → All IsFaultless (take j source) → a.number < j → j ≤ length source → ⊥
+sandbox_before source f j a g low high =
     let l = length-take-le j source high in
     let at = get_or-take j source a.number a.sandbox low ∙ get_or_from_slice_get source a.number a.sandbox a.sandbox a.at in
-    faultless_has_none law a.number a.sandbox f (subst (λ (s : Sandbox). IsFaultless s) at (g a.number a.sandbox (omega arith))) a.has
+    faultless_has_none a.number a.sandbox f (subst (λ (s : Sandbox). IsFaultless s) at (g a.number a.sandbox (omega arith))) a.has
 
-pub source_fault_one_way : OneFirstForm → (source : List Sandbox) (f g : RewriteFault) → IsSourceFault source f → IsSourceFault source g → f ≡ g
-source_fault_one_way law source f g a b =
+pub source_fault_one_way : (source : List Sandbox) (f g : RewriteFault) → IsSourceFault source f → IsSourceFault source g → f ≡ g
+source_fault_one_way source f g a b =
     elim (cases_order a.number b.number) [
       | inl e ↦
           let i : Some a.sandbox ≡ Some b.sandbox = sym a.at ∙ ap (λ (k : ℕ). slice_get source k) e ∙ b.at in
           let s : a.sandbox ≡ b.sandbox = cc in
-          item_fault_one_way law b.sandbox.format b.number b.sandbox.items f g
+          item_fault_one_way b.sandbox.format b.number b.sandbox.items f g
           (subst (λ (n : ℕ). IsItemFault b.sandbox.format n b.sandbox.items f) e (subst (λ (v : Sandbox). IsItemFault v.format a.number v.items f) s a.has)) b.has
       | inr other ↦
           let m = slice_get_within source a.number a.sandbox a.at in
           let n = slice_get_within source b.number b.sandbox b.at in
           elim other [
-            | inl low ↦ absurd (sandbox_before law source f b.number a b.before low (omega arith))
-            | inr low ↦ absurd (sandbox_before law source g a.number b a.before low (omega arith))
+            | inl low ↦ absurd (sandbox_before source f b.number a b.before low (omega arith))
+            | inr low ↦ absurd (sandbox_before source g a.number b a.before low (omega arith))
           ]
     ]
 
@@ -146,8 +142,8 @@ each_faultless (s ∷ source) [] z k d h = absurd z
 each_faultless (s ∷ source) (p ∷ placed) z zero d h = z.0.faultless
 each_faultless (s ∷ source) (p ∷ placed) z (suc k) d h = each_faultless source placed z.1 k d (omega arith)
 
-pub rewritten_has_none : OneFirstForm → (source : List Sandbox) (placed : List Placement) (f : RewriteFault) → AllZip IsRewritten source placed → IsSourceFault source f → ⊥
-rewritten_has_none law source placed f z a =
+pub rewritten_has_none : (source : List Sandbox) (placed : List Placement) (f : RewriteFault) → AllZip IsRewritten source placed → IsSourceFault source f → ⊥
+rewritten_has_none source placed f z a =
     let at = get_or_from_slice_get source a.number a.sandbox a.sandbox a.at in
     let l = slice_get_within source a.number a.sandbox a.at in
-    faultless_has_none law a.number a.sandbox f (subst (λ (s : Sandbox). IsFaultless s) at (each_faultless source placed z a.number a.sandbox l)) a.has
+    faultless_has_none a.number a.sandbox f (subst (λ (s : Sandbox). IsFaultless s) at (each_faultless source placed z a.number a.sandbox l)) a.has

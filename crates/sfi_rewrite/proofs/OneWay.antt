@@ -1,7 +1,6 @@
 -- A sandbox has one placement.
 use Rattle.std.proofs.Common.{◌≡◌, ℕ, ◌<◌, ◌≤◌, List, [], ◌∷◌, ◌++◌, take, replicate, refl, sym, ap, ◌∙◌, subst, arith, append-nil}
 use Rattle.std.specs.List.{AllZip}
-use Rattle.rv_comp.specs.Laws.{OneFirstForm}
 use Rattle.sfi_policy.specs.declared.format.Format.{Format}
 use Rattle.rv_source.specs.declared.item.Item.{Item}
 use Rattle.rv_source.specs.declared.item.Named.{Named}
@@ -91,20 +90,20 @@ bundles_one_way (b ∷ bs) (c ∷ cs) h g e =
 
 -- ---- names
 
-name_one_way : OneFirstForm → (f : Format) (items : List Item) (n : Named) (a b : PlacedName) → IsPlacedName f items n a → IsPlacedName f items n b → a ≡ b
-name_one_way law f items (Code k) a b x y =
-    let same = laid_one_way law f 0 (take k items) x.1.0 y.1.0 x.1.1 y.1.1 in
+name_one_way : (f : Format) (items : List Item) (n : Named) (a b : PlacedName) → IsPlacedName f items n a → IsPlacedName f items n b → a ≡ b
+name_one_way f items (Code k) a b x y =
+    let same = laid_one_way f 0 (take k items) x.1.0 y.1.0 x.1.1 y.1.1 in
     x.2 ∙ ap placed.Code (x.1.2 ∙ ap (λ v. next_bundle (size_of v)) same ∙ sym y.1.2) ∙ sym y.2
-name_one_way law f items _ a b x y = x ∙ sym y
+name_one_way f items _ a b x y = x ∙ sym y
 
-names_one_way : OneFirstForm → (f : Format) (items : List Item) (names : List Named) (a b : List PlacedName) → AllZip (IsPlacedName f items) names a → AllZip (IsPlacedName f items) names b → a ≡ b
-names_one_way law f items [] [] [] x y = refl
-names_one_way law f items [] [] (n ∷ b) x y = absurd y
-names_one_way law f items [] (m ∷ a) b x y = absurd x
-names_one_way law f items (i ∷ names) [] b x y = absurd x
-names_one_way law f items (i ∷ names) (m ∷ a) [] x y = absurd y
-names_one_way law f items (i ∷ names) (m ∷ a) (n ∷ b) x y =
-    ap (λ v. v ∷ a) (name_one_way law f items i m n x.0 y.0) ∙ ap (λ v. n ∷ v) (names_one_way law f items names a b x.1 y.1)
+names_one_way : (f : Format) (items : List Item) (names : List Named) (a b : List PlacedName) → AllZip (IsPlacedName f items) names a → AllZip (IsPlacedName f items) names b → a ≡ b
+names_one_way f items [] [] [] x y = refl
+names_one_way f items [] [] (n ∷ b) x y = absurd y
+names_one_way f items [] (m ∷ a) b x y = absurd x
+names_one_way f items (i ∷ names) [] b x y = absurd x
+names_one_way f items (i ∷ names) (m ∷ a) [] x y = absurd y
+names_one_way f items (i ∷ names) (m ∷ a) (n ∷ b) x y =
+    ap (λ v. v ∷ a) (name_one_way f items i m n x.0 y.0) ∙ ap (λ v. n ∷ v) (names_one_way f items names a b x.1 y.1)
 
 -- ---- placements
 
@@ -123,19 +122,19 @@ same_placement p q f d g n b c =
     ∙ ap (λ (v : List ℕ). record p { format = q.format; data_size = q.data_size; gates = q.gates; names = q.names; bytes = v }) b
     ∙ ap (λ (v : List (List Slot)). record q { bundles = v }) c
 
-pub placement_one_way : OneFirstForm → (s : Sandbox) (p q : Placement) → IsPlacement s p → IsPlacement s q → p ≡ q
-placement_one_way law s p q a b =
-    let slots = laid_one_way law s.format 0 s.items a.slots b.slots a.laid b.laid in
+pub placement_one_way : (s : Sandbox) (p q : Placement) → IsPlacement s p → IsPlacement s q → p ≡ q
+placement_one_way s p q a b =
+    let slots = laid_one_way s.format 0 s.items a.slots b.slots a.laid b.laid in
     let nops = end_one_way (size_of b.slots) (HasEndLabel s) a.nops b.nops (subst (λ (v : List Slot). FillsEnd (size_of v) (HasEndLabel s) a.nops) slots a.end) b.end in
     let code = a.code ∙ ap (λ (v : List Slot). v ++ replicate a.nops c_nop) slots ∙ ap (λ (n : ℕ). b.slots ++ replicate n c_nop) nops ∙ sym b.code in
-    same_placement p q (a.format ∙ sym b.format) (a.data_size ∙ sym b.data_size) (a.gates ∙ sym b.gates) (names_one_way law s.format s.items (named s) p.names q.names a.names b.names)
+    same_placement p q (a.format ∙ sym b.format) (a.data_size ∙ sym b.data_size) (a.gates ∙ sym b.gates) (names_one_way s.format s.items (named s) p.names q.names a.names b.names)
     (a.bytes ∙ sym b.bytes) (bundles_one_way p.bundles q.bundles a.bundles b.bundles code)
 
-pub rewriting_one_way : OneFirstForm → (source : List Sandbox) (a b : List Placement) → AllZip IsRewritten source a → AllZip IsRewritten source b → a ≡ b
-rewriting_one_way law [] [] [] x y = refl
-rewriting_one_way law [] [] (q ∷ b) x y = absurd y
-rewriting_one_way law [] (p ∷ a) b x y = absurd x
-rewriting_one_way law (s ∷ source) [] b x y = absurd x
-rewriting_one_way law (s ∷ source) (p ∷ a) [] x y = absurd y
-rewriting_one_way law (s ∷ source) (p ∷ a) (q ∷ b) x y =
-    ap (λ v. v ∷ a) (placement_one_way law s p q x.0.placement y.0.placement) ∙ ap (λ v. q ∷ v) (rewriting_one_way law source a b x.1 y.1)
+pub rewriting_one_way : (source : List Sandbox) (a b : List Placement) → AllZip IsRewritten source a → AllZip IsRewritten source b → a ≡ b
+rewriting_one_way [] [] [] x y = refl
+rewriting_one_way [] [] (q ∷ b) x y = absurd y
+rewriting_one_way [] (p ∷ a) b x y = absurd x
+rewriting_one_way (s ∷ source) [] b x y = absurd x
+rewriting_one_way (s ∷ source) (p ∷ a) [] x y = absurd y
+rewriting_one_way (s ∷ source) (p ∷ a) (q ∷ b) x y =
+    ap (λ v. v ∷ a) (placement_one_way s p q x.0.placement y.0.placement) ∙ ap (λ v. q ∷ v) (rewriting_one_way source a b x.1 y.1)

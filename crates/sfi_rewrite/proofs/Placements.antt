@@ -10,7 +10,6 @@ use Rattle.std.proofs.lemmas.List.Elements.{All-nil, All-cons, All-append, All-h
 use Rattle.std.proofs.lemmas.Option.{slice_get-get_or}
 use Rattle.std.proofs.lemmas.Slice.Zip.{AllZip-left, AllZip-long}
 use Rattle.rv_word.specs.declared.instr.Instr.TheVariants.{Ecall}
-use Rattle.rv_comp.specs.Laws.{OneFirstForm}
 use Rattle.sfi_policy.specs.declared.format.Format.{Format}
 use Rattle.sfi_policy.specs.Formats.{code_most}
 use Rattle.rv_source.specs.declared.item.Item.{Item}
@@ -60,11 +59,11 @@ end_size slots code nops e =
     omega arith
 
 -- a label before an item stands no later than its expansion
-label_before : OneFirstForm → (f : Format) (items : List Item) (slots before : List Slot) (k place : ℕ)
+label_before : (f : Format) (items : List Item) (slots before : List Slot) (k place : ℕ)
     → AreLaid f items slots → k < length items → IsTrue (get_or items k other_item).labelled → AreLaid f (take k items) before → place ≡ next_bundle (size_of before) → Within place (size_of slots)
-label_before law f items slots before k place l h labelled b p =
+label_before f items slots before k place l h labelled b p =
     let s = laid_split f 0 items k slots l in
-    let same : s.front ≡ before = laid_one_way law f 0 (take k items) s.front before s.before b in
+    let same : s.front ≡ before = laid_one_way f 0 (take k items) s.front before s.before b in
     let x = get_or items k other_item in
     let after : AreLaidFrom f (0 + size_of s.front) (x ∷ drop (suc k) items) s.back = subst (λ (v : List Item). AreLaidFrom f (0 + size_of s.front) v s.back) (drop-cons items k other_item h) s.after in
     let starts = after.3.gap.stands.at_label labelled in
@@ -74,30 +73,30 @@ label_before law f items slots before k place l h labelled b p =
     record { aligned = omega arith; below = omega arith }
 
 -- a label at the end of the code stands no later than the fill
-label_last : OneFirstForm → (s : Sandbox) (slots before : List Slot) (nops k place : ℕ)
+label_last : (s : Sandbox) (slots before : List Slot) (nops k place : ℕ)
     → AreLaid s.format s.items slots → length s.items ≤ k → k ≤ length s.items → Contains (named s) (Code k) → FillsEnd (size_of slots) (HasEndLabel s) nops
     → AreLaid s.format (take k s.items) before → place ≡ next_bundle (size_of before) → Within place (size_of slots + 2 * nops)
-label_last law s slots before nops k place l low high c end b p =
+label_last s slots before nops k place l low high c end b p =
     let at : k ≡ length s.items = omega arith in
     let has : HasEndLabel s = subst (λ (m : ℕ). Contains (named s) (Code m)) at c in
     let e : take k s.items ≡ s.items = take_all k s.items low in
-    let same : before ≡ slots = laid_one_way law s.format 0 s.items before slots (subst (λ (v : List Item). AreLaid s.format v before) e b) l in
+    let same : before ≡ slots = laid_one_way s.format 0 s.items before slots (subst (λ (v : List Item). AreLaid s.format v before) e b) l in
     let f = ap size_of same in
     let enough = end.enough has in
     record { aligned = omega arith; below = omega arith }
 
-label_within : OneFirstForm → (s : Sandbox) (slots : List Slot) (nops k place : ℕ)
+label_within : (s : Sandbox) (slots : List Slot) (nops k place : ℕ)
     → IsSandbox s → AreLaid s.format s.items slots → FillsEnd (size_of slots) (HasEndLabel s) nops → k ≤ length s.items → Contains (named s) (Code k) → IsLabelAt s.format s.items k place
     → Within place (size_of slots + 2 * nops)
-label_within law s slots nops k place h l end high c at =
+label_within s slots nops k place h l end high c at =
     elim (cases_lt k (length s.items)) [
       | inl low ↦
           let x = get_or s.items k other_item in
           let is = h.items k x (slice_get-get_or s.items k other_item low) in
-          let w = label_before law s.format s.items slots at.0 k place l low (is.labelled.1 c) at.1 at.2 in
+          let w = label_before s.format s.items slots at.0 k place l low (is.labelled.1 c) at.1 at.2 in
           let b = w.below in
           record { aligned = w.aligned; below = omega arith }
-      | inr low ↦ label_last law s slots at.0 nops k place l low high c end at.1 at.2
+      | inr low ↦ label_last s slots at.0 nops k place l low high c end at.1 at.2
     ]
 
 -- ---- names
@@ -106,17 +105,17 @@ record IsNameOf (s : Sandbox) (n : Named) : Type 0 where
   there : IsThere s n
   contained : Contains (named s) n
 
-name_there : OneFirstForm → (s : Sandbox) (p : Placement) (slots : List Slot) (nops : ℕ) (n : Named) (m : PlacedName)
+name_there : (s : Sandbox) (p : Placement) (slots : List Slot) (nops : ℕ) (n : Named) (m : PlacedName)
     → IsSandbox s → AreLaid s.format s.items slots → FillsEnd (size_of slots) (HasEndLabel s) nops → slots_of p.bundles ≡ slots ++ replicate nops c_nop
     → p.gates ≡ s.gates → p.bytes ≡ s.bytes → IsNameOf s n → IsPlacedName s.format s.items n m → IsPlacedThere p m
-name_there law s p slots nops (Gate k) m h l end e g b n is = rw is (rw g (n.there))
-name_there law s p slots nops (Code k) m h l end e g b n is =
-    let w = label_within law s slots nops k is.0 h l end n.there n.contained is.1 in
+name_there s p slots nops (Gate k) m h l end e g b n is = rw is (rw g (n.there))
+name_there s p slots nops (Code k) m h l end e g b n is =
+    let w = label_within s slots nops k is.0 h l end n.there n.contained is.1 in
     let z = end_size slots (slots_of p.bundles) nops e in
     let low = w.below in
     rw (is.2) (w.aligned, omega arith)
-name_there law s p slots nops (Data offset) m h l end e g b n is = rw is (rw b (n.there))
-name_there law s p slots nops Unknown m h l end e g b n is = rw is tt
+name_there s p slots nops (Data offset) m h l end e g b n is = rw is (rw b (n.there))
+name_there s p slots nops Unknown m h l end e g b n is = rw is tt
 
 zip_all : {A B : Type 0} (R : A → B → Type 0) (P : A → Type 0) (Q : B → Type 0) (xs : List A) (ys : List B)
     → AllZip R xs ys → All P xs → ((x : A) (y : B) → P x → R x y → Q y) → All Q ys
@@ -153,11 +152,11 @@ end_fits format slots labelled nops f h =
     let few = f.fewest n (λ _. omega arith) in
     omega arith
 
-pub placed_part : OneFirstForm → (s : Sandbox) (p : Placement) → IsSandbox s → IsRewritten s p → IsPlacedPart p
-placed_part law s p h r =
+pub placed_part : (s : Sandbox) (p : Placement) → IsSandbox s → IsRewritten s p → IsPlacedPart p
+placed_part s p h r =
     let is = r.placement in
     let all = r.faultless in
-    let same : is.slots ≡ all.slots = laid_one_way law s.format 0 s.items is.slots all.slots is.laid all.items.laid in
+    let same : is.slots ≡ all.slots = laid_one_way s.format 0 s.items is.slots all.slots is.laid all.items.laid in
     let fits = all.items.fits in
     let size = end_size is.slots (slots_of p.bundles) is.nops is.code in
     let end = end_fits s.format is.slots (HasEndLabel s) is.nops is.end (let z = ap size_of same in omega arith) in
@@ -172,7 +171,7 @@ placed_part law s p h r =
       gates = λ k g e. gate_in s p k g h is.names (ap (λ v. slice_get v k) (sym is.gates) ∙ e);
       names =
           zip_all (IsPlacedName s.format s.items) (IsNameOf s) (IsPlacedThere p) (named s) p.names is.names (names_of s h)
-          (λ n m of at. name_there law s p is.slots is.nops n m h is.laid is.end is.code is.gates is.bytes of at);
+          (λ n m of at. name_there s p is.slots is.nops n m h is.laid is.end is.code is.gates is.bytes of at);
       byte_count = rw (is.bytes, is.data_size) h.byte_count;
       bytes = rw (is.bytes) h.bytes;
       bundles = is.bundles;
@@ -184,8 +183,8 @@ placed_part law s p h r =
       names_known = λ k d l. (known k d l).name;
     }
 
-pub placed_parts : OneFirstForm → (source : List Sandbox) (placed : List Placement) → All IsSandbox source → AllZip IsRewritten source placed → All IsPlacedPart placed
-placed_parts law source placed right z = zip_all IsRewritten IsSandbox IsPlacedPart source placed z right (λ s p h r. placed_part law s p h r)
+pub placed_parts : (source : List Sandbox) (placed : List Placement) → All IsSandbox source → AllZip IsRewritten source placed → All IsPlacedPart placed
+placed_parts source placed right z = zip_all IsRewritten IsSandbox IsPlacedPart source placed z right (λ s p h r. placed_part s p h r)
 
 -- ---- from the fields of what was placed
 

@@ -16,7 +16,7 @@ use Rattle.rv_word.specs.Spelling.{spelling, InRange}
 use Rattle.rv_comp.specs.Fronts.{Spells}
 use Rattle.sfi_policy.specs.declared.format.Format.TheVariants.{Sfi2}
 use Rattle.rv_mem.specs.Bytes.{Bytes, IsMemory, byte_at, bytes_at, addresses, address_after, with_bytes, number_of}
-use Rattle.rv_mem.specs.Laws.{AddressesAreThese, OthersStay, ReadIsHeld, WrittenIsThere}
+use Rattle.rv_mem.proofs.Facts.{addresses_are_these, others_stay, read_is_held, written_is_there}
 use Rattle.rv_step.specs.declared.outcome.Outcome.TheVariants.{Next}
 use Rattle.rv_step.specs.State.{Hart, IsHart}
 use Rattle.rv_step.specs.Step.{Stands, effect, after_load}
@@ -132,28 +132,22 @@ push_small = each_below 256 push_words (omega arith) refl
 
 -- ---- the memory
 
-pub record Laws : Type 0 where
-  pub these : AddressesAreThese
-  pub stay : OthersStay
-  pub held : ReadIsHeld
-  pub written : WrittenIsThere
-
 -- the memory with more bytes, from base on
 placed : Bytes → ℕ → List ℕ → Bytes
 placed m base bytes = with_bytes m (addresses base (length bytes)) bytes
 
-module _ (laws : Laws) (m : Bytes) (base : ℕ) (bytes : List ℕ) (fits : base + length bytes ≤ 2 ^ 32) where
+module _ (m : Bytes) (base : ℕ) (bytes : List ℕ) (fits : base + length bytes ≤ 2 ^ 32) where
   there : (k : ℕ) → k < length bytes → byte_at (placed m base bytes) (base + k) ≡ Some (slice_index bytes k)
   unfolding placed
-  there k below = laws.written m base bytes k fits below
+  there k below = written_is_there m base bytes k fits below
 
   elsewhere : (a : ℕ) → (base ≤ a → a < base + length bytes → ⊥) → byte_at (placed m base bytes) a ≡ byte_at m a
   unfolding placed
-  elsewhere a out = laws.stay m (addresses base (length bytes)) bytes a not_there
+  elsewhere a out = others_stay m (addresses base (length bytes)) bytes a not_there
     where
       not_there : Contains (addresses base (length bytes)) a → ⊥
       not_there c =
-          let x = (laws.these base (length bytes) a).0 c in
+          let x = (addresses_are_these base (length bytes) a).0 c in
           let k = x.0 in
           let below : k < length bytes = x.1 in
           let is : a ≡ (base + k) % 2 ^ 32 = x.2 in
@@ -198,48 +192,48 @@ with_data = placed empty 0x01800010 four_zeros
 abbrev with_code : List ℕ → Bytes
 with_code bytes = placed with_data 0x01000000 bytes
 
-module _ (laws : Laws) (bytes : List ℕ) (size : length bytes ≡ 12) where
+module _ (bytes : List ℕ) (size : length bytes ≡ 12) where
   fits : 0x01000000 + length bytes ≤ 2 ^ 32
   fits = omega (arith, size)
 
   is_memory : ((k : ℕ) → slice_index bytes k < 256) → IsMemory (with_code bytes)
   is_memory small =
-      placed_is laws with_data 0x01000000 bytes fits
-      (placed_is laws empty 0x01800010 four_zeros (omega arith) empty_is (each_below 256 four_zeros (omega arith) refl))
+      placed_is with_data 0x01000000 bytes fits
+      (placed_is empty 0x01800010 four_zeros (omega arith) empty_is (each_below 256 four_zeros (omega arith) refl))
       small
 
   stands : (at : ℕ) (i : Instr) → at + 4 ≤ 12 → length (take 4 (drop at bytes)) ≡ 4 → Spells (take 4 (drop at bytes)) i 4
       → Stands (record { hart = hart (0x01000000 + at); memory = with_code bytes }) i 4
   stands at i within four spelled = record {
     bytes = take 4 (drop at bytes);
-    there = (laws.held (with_code bytes) (0x01000000 + at) 4 (take 4 (drop at bytes))).1 (record { count = four; each = each });
+    there = (read_is_held (with_code bytes) (0x01000000 + at) 4 (take 4 (drop at bytes))).1 (record { count = four; each = each });
     spelled = spelled;
   }
     where
       each : (k : ℕ) → k < 4 → byte_at (with_code bytes) (address_after (0x01000000 + at) k) ≡ Some (slice_index (take 4 (drop at bytes)) k)
       each k few =
           let e : (0x01000000 + at + k) % 2 ^ 32 ≡ 0x01000000 + (at + k) = omega arith in
-          ap (byte_at (with_code bytes)) e ∙ there laws with_data 0x01000000 bytes fits (at + k) (omega (arith, size))
+          ap (byte_at (with_code bytes)) e ∙ there with_data 0x01000000 bytes fits (at + k) (omega (arith, size))
           ∙ ap Some (sym (get_or-take 4 (drop at bytes) k 0 few ∙ get_or-drop at bytes k 0))
 
   -- the four bytes of data are there
   has_data : bytes_at (with_code bytes) (addresses 0x01800010 4) ≡ Some four_zeros
-  has_data = (laws.held (with_code bytes) 0x01800010 4 four_zeros).1 (record { count = refl; each = each })
+  has_data = (read_is_held (with_code bytes) 0x01800010 4 four_zeros).1 (record { count = refl; each = each })
     where
       each : (k : ℕ) → k < 4 → byte_at (with_code bytes) (address_after 0x01800010 k) ≡ Some (slice_index four_zeros k)
       each k few =
           let e : (0x01800010 + k) % 2 ^ 32 ≡ 0x01800010 + k = omega arith in
           ap (byte_at (with_code bytes)) e
-          ∙ elsewhere laws with_data 0x01000000 bytes fits (0x01800010 + k) (λ from below. omega (arith, size))
-          ∙ there laws empty 0x01800010 four_zeros (omega arith) k few
+          ∙ elsewhere with_data 0x01000000 bytes fits (0x01800010 + k) (λ from below. omega (arith, size))
+          ∙ there empty 0x01800010 four_zeros (omega arith) k few
 
   load_done : (effect sample_load 4 (hart 0x01000000) (with_code bytes)).outcome ≡ Next
   load_done = ap (λ (o : Option (List ℕ)). (after_load (option_map number_of o) Lw 10 0x01800010 4 (hart 0x01000000) (with_code bytes)).outcome) has_data
 
 -- ---- the three
 
-load_met : Laws → MeetsTransparent Sfi2 sample_load
-load_met laws = record {
+load_met : MeetsTransparent Sfi2 sample_load
+load_met = record {
   writes = refl;
   slots = Wide (Op And 31 11 27) ∷ Wide (Op Or 31 31 26) ∷ Wide (Load Lw 10 31 (pos 0)) ∷ [];
   expansion = refl;
@@ -247,21 +241,21 @@ load_met laws = record {
   data_at = data_at;
   state = record { hart = hart 0x01000000; memory = with_code load_words };
   asked =
-      let first = stands laws load_words refl 0 (Op And 31 11 27) (omega arith) refl and_data in
-      let second = stands laws load_words refl 4 (Op Or 31 31 26) (omega arith) refl or_data in
-      let third = stands laws load_words refl 8 (Load Lw 10 31 (pos 0)) (omega arith) refl load_x31 in
+      let first = stands load_words refl 0 (Op And 31 11 27) (omega arith) refl and_data in
+      let second = stands load_words refl 4 (Op Or 31 31 26) (omega arith) refl or_data in
+      let third = stands load_words refl 8 (Load Lw 10 31 (pos 0)) (omega arith) refl load_x31 in
       record {
         regions = regions;
-        is_state = record { hart = is_hart; memory = is_memory laws load_words refl load_small };
+        is_state = record { hart = is_hart; memory = is_memory load_words refl load_small };
         reserved = reserved;
         stand = (first, (second, (third, tt)));
       };
   keeps = (omega arith, omega arith);
-  done = load_done laws load_words refl;
+  done = load_done load_words refl;
 }
 
-jump_met : Laws → MeetsTransparent Sfi2 sample_jump
-jump_met laws = record {
+jump_met : MeetsTransparent Sfi2 sample_jump
+jump_met = record {
   writes = refl;
   slots = Wide (Op And 31 12 25) ∷ Wide (Op Or 31 31 24) ∷ Wide (Jalr 1 31 (pos 0)) ∷ [];
   expansion = refl;
@@ -269,12 +263,12 @@ jump_met laws = record {
   data_at = data_at;
   state = record { hart = hart 0x01000000; memory = with_code jump_words };
   asked =
-      let first = stands laws jump_words refl 0 (Op And 31 12 25) (omega arith) refl and_code in
-      let second = stands laws jump_words refl 4 (Op Or 31 31 24) (omega arith) refl or_code in
-      let third = stands laws jump_words refl 8 (Jalr 1 31 (pos 0)) (omega arith) refl jump_x31 in
+      let first = stands jump_words refl 0 (Op And 31 12 25) (omega arith) refl and_code in
+      let second = stands jump_words refl 4 (Op Or 31 31 24) (omega arith) refl or_code in
+      let third = stands jump_words refl 8 (Jalr 1 31 (pos 0)) (omega arith) refl jump_x31 in
       record {
         regions = regions;
-        is_state = record { hart = is_hart; memory = is_memory laws jump_words refl jump_small };
+        is_state = record { hart = is_hart; memory = is_memory jump_words refl jump_small };
         reserved = reserved;
         stand = (first, (second, (third, tt)));
       };
@@ -282,8 +276,8 @@ jump_met laws = record {
   done = refl;
 }
 
-push_met : Laws → MeetsKeepsStack Sfi2 sample_push
-push_met laws = record {
+push_met : MeetsKeepsStack Sfi2 sample_push
+push_met = record {
   writes = refl;
   slots = Wide sample_push ∷ Wide (Op And 2 2 27) ∷ Wide (Op Or 2 2 26) ∷ [];
   expansion = refl;
@@ -291,12 +285,12 @@ push_met laws = record {
   data_at = data_at;
   state = record { hart = hart 0x01000000; memory = with_code push_words };
   asked =
-      let first = stands laws push_words refl 0 sample_push (omega arith) refl push in
-      let second = stands laws push_words refl 4 (Op And 2 2 27) (omega arith) refl and_stack in
-      let third = stands laws push_words refl 8 (Op Or 2 2 26) (omega arith) refl or_stack in
+      let first = stands push_words refl 0 sample_push (omega arith) refl push in
+      let second = stands push_words refl 4 (Op And 2 2 27) (omega arith) refl and_stack in
+      let third = stands push_words refl 8 (Op Or 2 2 26) (omega arith) refl or_stack in
       record {
         regions = regions;
-        is_state = record { hart = is_hart; memory = is_memory laws push_words refl push_small };
+        is_state = record { hart = is_hart; memory = is_memory push_words refl push_small };
         reserved = reserved;
         stand = (first, (second, (third, tt)));
       };
@@ -304,5 +298,5 @@ push_met laws = record {
   stays = (omega arith, omega arith);
 }
 
-pub met : Laws → TransparencyCanBeMet
-met laws = (load_met laws, jump_met laws, push_met laws)
+pub met : TransparencyCanBeMet
+met = (load_met, jump_met, push_met)

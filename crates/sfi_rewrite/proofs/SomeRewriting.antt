@@ -2,14 +2,14 @@
 use Rattle.std.proofs.Common.{◌≡◌, ℕ, zero, suc, ◌+◌, ◌-◌, ◌*◌, ◌/◌, ◌%◌, ◌<◌, ◌≤◌, List, [], ◌∷◌, ◌++◌, length, take, get_or, replicate, Some, refl, sym, ap, ◌∙◌, subst, arith, append_assoc, append-nil, inl, inr, ◌⊎◌}
 use Rattle.std.specs.Prelude.{Bool, true, false, MatchBool, Contains}
 use Rattle.std.specs.List.{AllZip}
-use Rattle.std.proofs.lemmas.Bool.{cases_lt, cases_eq}
-use Rattle.std.proofs.lemmas.List.{take_all}
+use Rattle.std.proofs.lemmas.Bool.{cases_lt, cases_eq, cases_Bool, false≢true}
+use Rattle.std.proofs.lemmas.List.{take_all, get_or_default}
 use Rattle.std.proofs.lemmas.List.Elements.{Contains-append_right}
 use Rattle.std.proofs.lemmas.Map.Made.{Contains-tail}
 use Rattle.std.proofs.lemmas.Option.{slice_get-get_or}
 use Rattle.rv_word.specs.declared.instr.Instr.{Instr}
 use Rattle.rv_word.specs.declared.instr.Instr.TheVariants.{Load, Store, Jalr, Ecall}
-use Rattle.rv_comp.specs.Laws.{SomeFirstForm}
+use Rattle.rv_comp.proofs.Facts.{some_first_form}
 use Rattle.sfi_policy.specs.declared.format.Format.{Format}
 use Rattle.sfi_policy.specs.declared.format.Format.TheVariants.{Sfi1}
 use Rattle.sfi_policy.specs.Formats.{code_most, is_stack}
@@ -45,39 +45,36 @@ use Rattle.sfi_rewrite.proofs.Sources.{faulty, parts_push}
 
 -- ---- the expansion of an item
 
-some_alone : SomeFirstForm → (rvc : Bool) (i : Instr) → (slots : List Slot) × IsAlone rvc i slots
-some_alone law false i = (Wide i ∷ [], refl)
-some_alone law true i =
-    elim (law i) [
+some_alone : (rvc : Bool) (i : Instr) → (slots : List Slot) × IsAlone rvc i slots
+some_alone false i = (Wide i ∷ [], refl)
+some_alone true i =
+    elim (some_first_form i) [
       | inl form ↦ (Short form.0 ∷ [], inl (form.0, form.1, refl))
       | inr none ↦ (Wide i ∷ [], inr (none, refl))
     ]
 
-some_masked : SomeFirstForm → (rvc : Bool) (i : Instr) → (slots : List Slot) × IsMasked rvc i slots
-some_masked law rvc (Load kind rd a imm) = (data_pair_slots a ++ Wide (Load kind rd 31 imm) ∷ [], refl)
-some_masked law rvc (Store width a rs2 imm) = (data_pair_slots a ++ Wide (Store width 31 rs2 imm) ∷ [], refl)
-some_masked law rvc (Jalr rd a imm) = (jump_slots rd a imm, refl)
-some_masked law rvc other = some_alone law rvc other
+some_masked : (rvc : Bool) (i : Instr) → (slots : List Slot) × IsMasked rvc i slots
+some_masked rvc (Load kind rd a imm) = (data_pair_slots a ++ Wide (Load kind rd 31 imm) ∷ [], refl)
+some_masked rvc (Store width a rs2 imm) = (data_pair_slots a ++ Wide (Store width 31 rs2 imm) ∷ [], refl)
+some_masked rvc (Jalr rd a imm) = (jump_slots rd a imm, refl)
+some_masked rvc other = some_alone rvc other
 
-some_plain : SomeFirstForm → (writes on rvc : Bool) (i : Instr)
+some_plain : (writes on rvc : Bool) (i : Instr)
     → (slots : List Slot) × MatchBool writes (slots ≡ Wide i ∷ stack_pair) (MatchBool on (IsAlone rvc i slots) (IsMasked rvc i slots))
-some_plain law true on rvc i = (Wide i ∷ stack_pair, refl)
-some_plain law false true rvc i = some_alone law rvc i
-some_plain law false false rvc i = some_masked law rvc i
+some_plain true on rvc i = (Wide i ∷ stack_pair, refl)
+some_plain false true rvc i = some_alone rvc i
+some_plain false false rvc i = some_masked rvc i
 
-some_expansion_of : SomeFirstForm → (f : Format) (line : ℕ) (rvc : Bool) (body : Body) → (slots : List Slot) × IsExpansionOf f line rvc body slots
-some_expansion_of law f line rvc (Plain i) = some_plain law (writes_stack f i) (is_on_stack f i) rvc i
-some_expansion_of law f line rvc (To i name) = (Jump i name line ∷ [], refl)
-some_expansion_of law f line rvc (High rd name) = (Upper rd name line ∷ put_back (is_stack f rd), refl)
-some_expansion_of law f line rvc (Low rd name) = (Lower rd name line ∷ put_back (is_stack f rd), refl)
+some_expansion_of : (f : Format) (line : ℕ) (rvc : Bool) (body : Body) → (slots : List Slot) × IsExpansionOf f line rvc body slots
+some_expansion_of f line rvc (Plain i) = some_plain (writes_stack f i) (is_on_stack f i) rvc i
+some_expansion_of f line rvc (To i name) = (Jump i name line ∷ [], refl)
+some_expansion_of f line rvc (High rd name) = (Upper rd name line ∷ put_back (is_stack f rd), refl)
+some_expansion_of f line rvc (Low rd name) = (Lower rd name line ∷ put_back (is_stack f rd), refl)
 
-some_expansion : SomeFirstForm → (f : Format) (x : Item) → (slots : List Slot) × IsExpansion f x slots
-some_expansion law f x = some_expansion_of law f x.line x.rvc x.body
+some_expansion : (f : Format) (x : Item) → (slots : List Slot) × IsExpansion f x slots
+some_expansion f x = some_expansion_of f x.line x.rvc x.body
 
 -- ---- its place
-
-not_so : false ≡ true → ⊥
-not_so e = cc
 
 -- where neither a label nor a call asks for more
 gap_free : (end size : ℕ) → end % 2 ≡ 0 → size ≤ 16 → (nops : ℕ) × FillsGap end false false size nops
@@ -88,65 +85,52 @@ gap_free end size even few =
           let at : end + 2 * ((16 - end % 16) / 2) ≡ end - end % 16 + 16 = omega arith in (
             nops,
             record {
-              stands = record { after = omega arith; at_label = λ t. absurd (not_so t); in_bundle = omega arith; returns = λ t. absurd (not_so t) };
+              stands = record { after = omega arith; at_label = λ t. absurd (false≢true t); in_bundle = omega arith; returns = λ t. absurd (false≢true t) };
               first = λ here m. let a = m.after in let b = m.in_bundle in omega arith;
             },
           )
       | inr within ↦ (
         0,
         record {
-          stands = record { after = omega arith; at_label = λ t. absurd (not_so t); in_bundle = omega arith; returns = λ t. absurd (not_so t) };
+          stands = record { after = omega arith; at_label = λ t. absurd (false≢true t); in_bundle = omega arith; returns = λ t. absurd (false≢true t) };
           first = λ here m. let a = m.after in omega arith;
         },
       )
     ]
 
-gap_labelled : (end size : ℕ) → end % 2 ≡ 0 → size ≤ 16 → (nops : ℕ) × FillsGap end true false size nops
-gap_labelled end size even few =
-    let at : end + 2 * ((next_bundle end - end) / 2) ≡ next_bundle end = omega arith in (
-      (next_bundle end - end) / 2,
-      record {
-        stands = record { after = omega arith; at_label = λ t. omega arith; in_bundle = omega arith; returns = λ t. absurd (not_so t) };
-        first = λ here m. let a = m.at_label refl in omega arith;
-      },
-    )
-
 gap_call : (end size : ℕ) → end % 2 ≡ 0 → size % 2 ≡ 0 → 0 < size → size ≤ 16 → (nops : ℕ) × FillsGap end false true size nops
 gap_call end size even even_size some few =
-    elim (cases_lt 16 (end % 16 + size)) [
-      | inl over ↦
-          let at : end + 2 * ((32 - size - end % 16) / 2) ≡ end - end % 16 + (32 - size) = omega arith in (
-            (32 - size - end % 16) / 2,
-            record {
-              stands = record { after = omega arith; at_label = λ t. absurd (not_so t); in_bundle = omega arith; returns = λ t. omega arith };
-              first = λ here m. let a = m.after in let b = m.in_bundle in let c = m.returns refl in omega arith;
-            },
-          )
-      | inr within ↦
-          let at : end + 2 * ((16 - size - end % 16) / 2) ≡ end - end % 16 + (16 - size) = omega arith in (
-            (16 - size - end % 16) / 2,
-            record {
-              stands = record { after = omega arith; at_label = λ t. absurd (not_so t); in_bundle = omega arith; returns = λ t. omega arith };
-              first = λ here m. let a = m.after in let b = m.in_bundle in let c = m.returns refl in omega arith;
-            },
-          )
-    ]
-
-gap_both : (end size : ℕ) → end % 2 ≡ 0 → size % 2 ≡ 0 → 0 < size → size ≤ 16 → (nops : ℕ) × FillsGap end true true size nops
-gap_both end size even even_size some few =
-    let at : end + 2 * ((next_bundle end + (16 - size) - end) / 2) ≡ next_bundle end + (16 - size) = omega arith in (
-      (next_bundle end + (16 - size) - end) / 2,
+    let nops = (16 - (end + size) % 16) % 16 / 2 in
+    let whole : (end + 2 * nops + size) % 16 ≡ 0 = omega arith in (
+      nops,
       record {
-        stands = record { after = omega arith; at_label = λ t. omega arith; in_bundle = omega arith; returns = λ t. omega arith };
-        first = λ here m. let a = m.at_label refl in let b = m.in_bundle in let c = m.returns refl in omega arith;
+        stands = record { after = omega arith; at_label = λ t. absurd (false≢true t); in_bundle = omega arith; returns = λ t. whole };
+        first = λ here m. let a = m.after in let c = m.returns refl in omega arith;
       },
     )
 
+-- a label asks for its bundle start first
+gap_labelled : (end size nops : ℕ) (call : Bool) → end % 2 ≡ 0 → FillsGap (next_bundle end) false call size nops → FillsGap end true call size ((next_bundle end - end) / 2 + nops)
+gap_labelled end size nops call even g =
+    let at : next_bundle end + 2 * nops ≡ end + 2 * ((next_bundle end - end) / 2 + nops) = omega arith in record {
+      stands = record {
+        after = omega arith;
+        at_label = λ t. omega arith;
+        in_bundle = subst (λ (n : ℕ). n % 16 + size ≤ 16) at g.stands.in_bundle;
+        returns = λ t. subst (λ (n : ℕ). (n + size) % 16 ≡ 0) at (g.stands.returns t);
+      };
+      first = λ here m. let low = g.first here (record { after = m.at_label refl; at_label = λ t. absurd (false≢true t); in_bundle = m.in_bundle; returns = m.returns }) in omega arith;
+    }
+
+gap_unlabelled : (end : ℕ) (call : Bool) (size : ℕ) → end % 2 ≡ 0 → size % 2 ≡ 0 → 0 < size → size ≤ 16 → (nops : ℕ) × FillsGap end false call size nops
+gap_unlabelled end false size even even_size some few = gap_free end size even few
+gap_unlabelled end true size even even_size some few = gap_call end size even even_size some few
+
 some_gap : (end : ℕ) (labelled call : Bool) (size : ℕ) → end % 2 ≡ 0 → size % 2 ≡ 0 → 0 < size → size ≤ 16 → (nops : ℕ) × FillsGap end labelled call size nops
-some_gap end false false size even even_size some few = gap_free end size even few
-some_gap end true false size even even_size some few = gap_labelled end size even few
-some_gap end false true size even even_size some few = gap_call end size even even_size some few
-some_gap end true true size even even_size some few = gap_both end size even even_size some few
+some_gap end false call size even even_size some few = gap_unlabelled end call size even even_size some few
+some_gap end true call size even even_size some few =
+    let after = gap_unlabelled (next_bundle end) call size (omega arith) even_size some few in
+    ((next_bundle end - end) / 2 + after.0, gap_labelled end size after.0 call even after.1)
 
 -- ---- bundles
 
@@ -179,17 +163,13 @@ push_nops (suc n) code b =
 
 -- ---- an item after others
 
-two_ways : (b : Bool) → (b ≡ true) ⊎ (b ≡ false)
-two_ways true = inl refl
-two_ways false = inr refl
-
 permitted_or_not : (f : Format) (sandbox end : ℕ) (x : Item) → IsPermitted f x ⊎ ((e : RewriteFault) × HasFault f sandbox end x e)
 permitted_or_not f sandbox end x =
-    elim (two_ways (item_names_withheld x.body)) [
+    elim (cases_Bool (item_names_withheld x.body)) [
       | inl names ↦ inr (fault.ReservedRegister x.line, (names, refl))
-      | inr none ↦ elim (two_ways (is_ecall x.body)) [
+      | inr none ↦ elim (cases_Bool (is_ecall x.body)) [
         | inl calls ↦ inr (fault.Ecall x.line, (none, calls, refl))
-        | inr quiet ↦ elim (two_ways (is_stack_write f x.body)) [
+        | inr quiet ↦ elim (cases_Bool (is_stack_write f x.body)) [
           | inl writes ↦ inr (fault.StackWrite x.line, (none, quiet, writes, refl))
           | inr not ↦ inl (record { operands = none; no_ecall = quiet; no_stack_write = not })
         ]
@@ -202,10 +182,10 @@ record Longer (f : Format) (code : List Slot) (x : Item) : Type 0 where
   next : HasNext f code x now
   bundled : InBundles now
 
-next_or_large : SomeFirstForm → (f : Format) (sandbox : ℕ) (code : List Slot) (x : Item) → InBundles code → IsPermitted f x
+next_or_large : (f : Format) (sandbox : ℕ) (code : List Slot) (x : Item) → InBundles code → IsPermitted f x
     → Longer f code x ⊎ ((e : RewriteFault) × HasFault f sandbox (size_of code) x e)
-next_or_large law f sandbox code x b p =
-    let made = some_expansion law f x in
+next_or_large f sandbox code x b p =
+    let made = some_expansion f x in
     let slots = made.0 in
     let one = expansion_one f x slots made.1 in
     let gap = some_gap (size_of code) x.labelled (is_call x.body) (size_of slots) (size_even code) (size_even slots) one.some one.few in
@@ -236,33 +216,30 @@ record Laid (f : Format) (items : List Item) : Type 0 where
 any_item : Item
 any_item = record { line = 0; labelled = false; rvc = false; body = Plain Ecall }
 
-same_there : {X : Type 0} (xs : List X) (k : ℕ) (d : X) → k < length xs → get_or xs k d ≡ get_or xs k (get_or xs k d)
-same_there xs k d lt = let e : Some (get_or xs k d) ≡ Some (get_or xs k (get_or xs k d)) = sym (slice_get-get_or xs k d lt) ∙ slice_get-get_or xs k (get_or xs k d) lt in cc
-
-items_on : SomeFirstForm → (f : Format) (sandbox : ℕ) (items : List Item) (d k : ℕ) → k + d ≡ length items → Laid f (take k items)
+items_on : (f : Format) (sandbox : ℕ) (items : List Item) (d k : ℕ) → k + d ≡ length items → Laid f (take k items)
     → Laid f items ⊎ ((e : RewriteFault) × IsItemFault f sandbox items e)
-items_on law f sandbox items zero k all l = inl (subst (Laid f) (take_all k items (omega arith)) l)
-items_on law f sandbox items (suc d) k all l =
+items_on f sandbox items zero k all l = inl (subst (Laid f) (take_all k items (omega arith)) l)
+items_on f sandbox items (suc d) k all l =
     let lt : k < length items = omega arith in
     let x = get_or items k any_item in
     let there = slice_get-get_or items k any_item lt in
     elim (permitted_or_not f sandbox (size_of l.code) x) [
       | inr wrong ↦ inr (wrong.0, record { index = k; item = x; at = there; before = l.code; faultless = l.faultless; has = wrong.1 })
-      | inl right ↦ elim (next_or_large law f sandbox l.code x l.bundled right) [
+      | inl right ↦ elim (next_or_large f sandbox l.code x l.bundled right) [
         | inr wrong ↦ inr (wrong.0, record { index = k; item = x; at = there; before = l.code; faultless = l.faultless; has = wrong.1 })
         | inl longer ↦
-            items_on law f sandbox items d (k + 1) (omega arith)
+            items_on f sandbox items d (k + 1) (omega arith)
             (record {
               code = longer.now;
-              faultless = one_more f items k x l.code longer.now lt (same_there items k any_item lt) l.faultless right longer.next;
+              faultless = one_more f items k x l.code longer.now lt (get_or_default items k any_item x lt) l.faultless right longer.next;
               bundled = longer.bundled;
             })
       ]
     ]
 
-laid_or_fault : SomeFirstForm → (f : Format) (sandbox : ℕ) (items : List Item) → Laid f items ⊎ ((e : RewriteFault) × IsItemFault f sandbox items e)
-laid_or_fault law f sandbox items =
-    items_on law f sandbox items (length items) 0 (omega arith) (record { code = []; faultless = none_faultless f items [] refl; bundled = record { bundles = []; whole = refl; right = tt } })
+laid_or_fault : (f : Format) (sandbox : ℕ) (items : List Item) → Laid f items ⊎ ((e : RewriteFault) × IsItemFault f sandbox items e)
+laid_or_fault f sandbox items =
+    items_on f sandbox items (length items) 0 (omega arith) (record { code = []; faultless = none_faultless f items [] refl; bundled = record { bundles = []; whole = refl; right = tt } })
 
 -- ---- a sandbox
 
@@ -332,19 +309,19 @@ part_made s l =
 any_sandbox : Sandbox
 any_sandbox = record { format = Sfi1; data_size = 0; gates = []; names = []; items = []; bytes = [] }
 
-sandboxes_on : SomeFirstForm → (source : List Sandbox) (d k : ℕ) (placed : List Placement) → k + d ≡ length source → AllZip IsRewritten (take k source) placed
+sandboxes_on : (source : List Sandbox) (d k : ℕ) (placed : List Placement) → k + d ≡ length source → AllZip IsRewritten (take k source) placed
     → ((all : List Placement) × AreRewritten source all) ⊎ ((e : RewriteFault) × IsSourceFault source e)
-sandboxes_on law source zero k placed all z = inl (placed, subst (λ (v : List Sandbox). AllZip IsRewritten v placed) (take_all k source (omega arith)) z)
-sandboxes_on law source (suc d) k placed all z =
+sandboxes_on source zero k placed all z = inl (placed, subst (λ (v : List Sandbox). AllZip IsRewritten v placed) (take_all k source (omega arith)) z)
+sandboxes_on source (suc d) k placed all z =
     let lt : k < length source = omega arith in
     let s = get_or source k any_sandbox in
-    let same = same_there source k any_sandbox lt in
-    elim (laid_or_fault law s.format k s.items) [
+    let same = get_or_default source k any_sandbox s lt in
+    elim (laid_or_fault s.format k s.items) [
       | inr wrong ↦ inr (wrong.0, faulty source k k s placed wrong.0 lt same z refl wrong.1)
       | inl laid ↦
           let made = part_made s laid in
-          sandboxes_on law source d (k + 1) (placed ++ made.0 ∷ []) (omega arith) (parts_push source k s placed (placed ++ made.0 ∷ []) made.0 lt same z made.1 refl)
+          sandboxes_on source d (k + 1) (placed ++ made.0 ∷ []) (omega arith) (parts_push source k s placed (placed ++ made.0 ∷ []) made.0 lt same z made.1 refl)
     ]
 
-pub some_rewriting : SomeFirstForm → SomeRewriting
-some_rewriting law source = sandboxes_on law source (length source) 0 [] (omega arith) tt
+pub some_rewriting : SomeRewriting
+some_rewriting source = sandboxes_on source (length source) 0 [] (omega arith) tt

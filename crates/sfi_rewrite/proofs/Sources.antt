@@ -14,9 +14,8 @@ use Rattle.sfi_rewrite.specs.declared.fault.RewriteFault.TheVariants.{Memory}
 use Rattle.sfi_rewrite.specs.Placement.{Placement}
 use Rattle.sfi_rewrite.specs.Placed.{IsPlacedPart, IsPlaced, AreOf, format_of}
 use Rattle.sfi_rewrite.specs.Faults.{UnlessMemory, IsItemFault, IsSourceFault}
-use Rattle.sfi_rewrite.specs.Laws.{OneFault}
 use Rattle.sfi_rewrite.specs.Rewriting.{IsRewritten, AnswersFault}
-use Rattle.sfi_rewrite.proofs.OneFault.{each_faultless}
+use Rattle.sfi_rewrite.proofs.OneFault.{each_faultless, source_fault_one_way}
 use Rattle.sfi_rewrite.proofs.PlacedNames.{zip_push}
 
 pub faulty : (source : List Sandbox) (k n : ℕ) (s : Sandbox) (placed : List Placement) (f : RewriteFault)
@@ -60,6 +59,6 @@ is_placed source placed s z a =
     let one = s.at_least_one in
     record { at_least_one = omega arith; each = a; one_format = all_one (text.format_of source) placed (placed_of (text.format_of source) source placed s.one_format z) }
 
-pub fault_answered : OneFault → (source : List Sandbox) (f e : RewriteFault) → UnlessMemory (IsSourceFault source) e → IsSourceFault source f → AnswersFault f (Err e)
-fault_answered one source f Memory h g = inr refl
-fault_answered one source f other h g = inl (ap Err (one source other f h g))
+pub fault_answered : (source : List Sandbox) (f e : RewriteFault) → UnlessMemory (IsSourceFault source) e → IsSourceFault source f → AnswersFault f (Err e)
+fault_answered source f Memory h g = inr refl
+fault_answered source f other h g = inl (ap Err (source_fault_one_way source other f h g))

@@ -1,7 +1,7 @@
 -- What each expansion does.
 use Rattle.std.proofs.Common.{◌≡◌, ◌≢◌, ℕ, ◌+◌, ◌==◌, ◌&&◌, List, [], ◌∷◌, set, get_or, Bool, true, false, cond, Option, Some, None, refl, sym, ap, ◌∙◌, subst, arith}
 use Rattle.std.specs.Prelude.{bit_and, bit_or, MatchBool}
-use Rattle.std.proofs.lemmas.Bool.{eqb-true, true≢false}
+use Rattle.std.proofs.lemmas.Bool.{eqb-true, true≢false, and_parts, and_right}
 use Rattle.std.proofs.lemmas.List.{set-get_or}
 use Rattle.rv_word.specs.Numbers.{offset_by}
 use Rattle.rv_word.specs.Writes.{writes_register}
@@ -14,11 +14,12 @@ use Rattle.sfi_policy.specs.declared.format.Format.{Format}
 use Rattle.sfi_policy.specs.Formats.{has_stack, is_stack}
 use Rattle.rv_mem.specs.Bytes.{Bytes, address_after, loaded}
 use Rattle.rv_step.specs.declared.outcome.Outcome.TheVariants.{Next}
-use Rattle.rv_step.specs.Laws.{PairLeaves, StepKeepsState}
 use Rattle.rv_step.specs.State.{Hart, State, IsState, register, with_register, with_pc, past}
 use Rattle.rv_step.specs.Step.{Stepped, Stands, after_load, effect, IsStep}
 use Rattle.rv_step.specs.Steps.{further, StandInRow, LeadsTo, LeadTo}
 use Rattle.rv_step.specs.Values.{load_size}
+use Rattle.rv_step.proofs.Facts.{pair_leaves, step_keeps_state}
+use Rattle.rv_step.proofs.Pairs.{written_elsewhere}
 use Rattle.rv_source.specs.declared.item.Body.{Body}
 use Rattle.rv_source.specs.declared.item.Body.TheVariants.{Plain, To, High, Low}
 use Rattle.sfi_image.specs.declared.span.Span.{Span}
@@ -31,8 +32,7 @@ use Rattle.sfi_rewrite.specs.Expansion.{IsAlone, IsMasked, IsExpansionOf}
 use Rattle.sfi_rewrite.specs.Stack.{writes_stack, is_on_stack, is_stack_write, jumps_or_loads_x2, stack_pair, put_back}
 use Rattle.sfi_rewrite.specs.Laws.{ExpansionsAreTransparent}
 use Rattle.sfi_rewrite.specs.Transparency.{AreRegions, HasReserved, SlotStands, IsTransparent, at_pc, KeepsStack, ActsAs, IsAimed, MayBe}
-use Rattle.sfi_rewrite.proofs.Aside.{written_elsewhere}
-use Rattle.sfi_rewrite.proofs.Transparent.{stands_at, does, unmasked_data, alone_transparent, named_transparent, of_masked}
+use Rattle.sfi_rewrite.proofs.Transparent.{stands_at, does, twelve, unmasked_data, alone_transparent, named_transparent, of_masked}
 
 abbrev is_jump : Instr → Bool
 is_jump (Jal rd offset) = true
@@ -72,15 +72,12 @@ kept false l t = set-get_or l t 0
 written_same : (h : Hart) (t pc : ℕ) → with_register (with_pc h pc) t (register h t) ≡ with_pc h pc
 written_same h t pc = ap (λ (l : List ℕ). let k : Hart = record { pc = pc; registers = l } in k) (kept (t == 0) h.registers t)
 
-twelve : (pc : ℕ) → address_after (address_after pc 4) 8 ≡ address_after pc 12
-twelve pc = omega arith
-
 -- from the state after i, of which we know that it is s with x2 written
-from_there : PairLeaves → (c d : Span) (s one : State) (v : ℕ) → AreRegions c d → IsState one → HasReserved c d s.hart
+from_there : (c d : Span) (s one : State) (v : ℕ) → AreRegions c d → IsState one → HasReserved c d s.hart
     → one ≡ record { hart = with_register (past s.hart 4) 2 v; memory = s.memory }
     → Stands (further s 4) (Op And 2 2 27) 4 → Stands (further (further s 4) 4) (Op Or 2 2 26) 4
     → Holds d (register one.hart 2) → LeadTo 2 one (at_pc one (address_after s.hart.pc 12))
-from_there pair c d s one v regions is reserved e second third held =
+from_there c d s one v regions is reserved e second third held =
     let h = one.hart in
     let pc : h.pc ≡ address_after s.hart.pc 4 = ap (λ (x : State). x.hart.pc) e in
     let memory : one.memory ≡ s.memory = ap (λ (x : State). x.memory) e in
@@ -97,7 +94,7 @@ from_there pair c d s one v regions is reserved e second third held =
       stands_at (further s 4) one (Op And 2 2 27) 4 pc memory second,
       (stands_at (further (further s 4) 4) (further one 4) (Op Or 2 2 26) 4 (ap (λ p. address_after p 4) pc) memory third, tt),
     ) in
-    let left = pair one 2 2 27 26 is (λ z. omega arith) (λ z. omega arith) row in
+    let left = pair_leaves one 2 2 27 26 is (λ z. omega arith) (λ z. omega arith) row in
     let value = unmasked_data c d h (register h 2) regions now held in
     let end : address_after h.pc 8 ≡ address_after s.hart.pc 12 = ap (λ p. address_after p 8) pc ∙ twelve s.hart.pc in
     let state : with_register (past h 8) 2 (bit_or (bit_and (register h 2) (register h 27)) (register h 26)) ≡ with_pc h (address_after s.hart.pc 12) =
@@ -108,9 +105,9 @@ done_is : (x : Stepped) → x.outcome ≡ Next → x ≡ record { outcome = Next
 done_is x e = ap (λ o. let y : Stepped = record { outcome = o; state = x.state } in y) e
 
 -- i and the pair
-keeps_stack : PairLeaves → StepKeepsState → (i : Instr) (x : Slot) → writes_register 2 i ≡ true → is_jump i ≡ false → slot_size x ≡ 4 → ((s : State) → SlotStands i s x → Stands s i 4)
+keeps_stack : (i : Instr) (x : Slot) → writes_register 2 i ≡ true → is_jump i ≡ false → slot_size x ≡ 4 → ((s : State) → SlotStands i s x → Stands s i 4)
     → KeepsStack i (x ∷ stack_pair)
-keeps_stack pair keeps i x writes no_jump size stands = record {
+keeps_stack i x writes no_jump size stands = record {
   does = λ c d s asked done after.
       let regions = asked.regions in let is = asked.is_state in let reserved = asked.reserved in let stand = asked.stand in
       let r = effect i 4 s.hart s.memory in
@@ -120,18 +117,18 @@ keeps_stack pair keeps i x writes no_jump size stands = record {
       let third : Stands (further (further s 4) 4) (Op Or 2 2 26) 4 = subst (λ (n : ℕ). Stands (further (further s n) 4) (Op Or 2 2 26) 4) size stand.1.1.0 in
       let end : 12 ≡ 0 + slot_size x + 4 + 4 = omega arith in
       subst (λ (n : ℕ). LeadTo 3 s (at_pc r.state (address_after s.hart.pc n))) end
-      (r.state, step, from_there pair c d s r.state only.value regions (keeps s _ is step) reserved only.state second third after);
+      (r.state, step, from_there c d s r.state only.value regions (step_keeps_state s _ is step) reserved only.state second third after);
 }
 
 -- ---- the expansions
 
 -- an instruction: it writes the stack pointer, is an access on it, or neither
-of_plain : PairLeaves → StepKeepsState → (writes on rvc : Bool) (i : Instr) (slots : List Slot) → (writes ≡ true → (writes_register 2 i ≡ true) × (is_jump i ≡ false)) → names_withheld i ≡ false
+of_plain : (writes on rvc : Bool) (i : Instr) (slots : List Slot) → (writes ≡ true → (writes_register 2 i ≡ true) × (is_jump i ≡ false)) → names_withheld i ≡ false
     → MatchBool writes (slots ≡ Wide i ∷ stack_pair) (MatchBool on (IsAlone rvc i slots) (IsMasked rvc i slots)) → MatchBool writes (KeepsStack i slots) (IsTransparent i slots)
-of_plain pair keeps true on rvc i slots w n h =
-    subst (λ (l : List Slot). KeepsStack i l) (sym h) (keeps_stack pair keeps i (Wide i) (w refl).0 (w refl).1 refl (λ s st. st))
-of_plain pair keeps false true rvc i slots w n h = alone_transparent rvc i slots h
-of_plain pair keeps false false rvc i slots w n h = of_masked pair keeps rvc i slots n h
+of_plain true on rvc i slots w n h =
+    subst (λ (l : List Slot). KeepsStack i l) (sym h) (keeps_stack i (Wide i) (w refl).0 (w refl).1 refl (λ s st. st))
+of_plain false true rvc i slots w n h = alone_transparent rvc i slots h
+of_plain false false rvc i slots w n h = of_masked rvc i slots n h
 
 no_jump_writes : (i : Instr) → jumps_or_loads_x2 (Plain i) ≡ false → writes_register 2 i ≡ true → is_jump i ≡ false
 no_jump_writes (Jal rd offset) h w = absurd (true≢false (sym w ∙ h))
@@ -144,17 +141,13 @@ writer true i h w = (w, no_jump_writes i h w)
 writer false i h w = cc
 
 -- a half of an address, to the stack pointer or to another register
-at_half : PairLeaves → StepKeepsState → (has : Bool) (i : Instr) (rd : ℕ) (x : Slot) (slots : List Slot) → writes_register 2 i ≡ (rd == 2) → is_jump i ≡ false → slot_size x ≡ 4
+at_half : (has : Bool) (i : Instr) (rd : ℕ) (x : Slot) (slots : List Slot) → writes_register 2 i ≡ (rd == 2) → is_jump i ≡ false → slot_size x ≡ 4
     → ((s : State) → SlotStands i s x → Stands s i 4) → slots ≡ x ∷ put_back (has && (rd == 2)) → MatchBool (has && writes_register 2 i) (KeepsStack i slots) (IsTransparent i slots)
-at_half pair keeps has i rd x slots e no_jump size stands h =
-    subst (λ (b : Bool). MatchBool (has && b) (KeepsStack i slots) (IsTransparent i slots)) (sym e) (cases (has && (rd == 2)) (λ both. e ∙ second has (rd == 2) both) h)
+at_half has i rd x slots e no_jump size stands h =
+    subst (λ (b : Bool). MatchBool (has && b) (KeepsStack i slots) (IsTransparent i slots)) (sym e) (cases (has && (rd == 2)) (λ both. e ∙ (and_parts has (rd == 2) both).1) h)
   where
-    second : (a b : Bool) → (a && b) ≡ true → b ≡ true
-    second true b z = z
-    second false b z = cc
-
     cases : (b : Bool) → (b ≡ true → writes_register 2 i ≡ true) → slots ≡ x ∷ put_back b → MatchBool b (KeepsStack i slots) (IsTransparent i slots)
-    cases true w z = subst (λ (l : List Slot). KeepsStack i l) (sym z) (keeps_stack pair keeps i x (w refl) no_jump size stands)
+    cases true w z = subst (λ (l : List Slot). KeepsStack i l) (sym z) (keeps_stack i x (w refl) no_jump size stands)
     cases false w z = subst (λ (l : List Slot). IsTransparent i l) (sym z) (named_transparent i x size stands)
 
 -- a jump or a branch to a name doesn't write the stack pointer
@@ -162,29 +155,25 @@ aimed : (b : Bool) (j i : Instr) (name line : ℕ) (slots : List Slot) → b ≡
 aimed true j i name line slots f h = absurd (true≢false f)
 aimed false j i name line slots f h = subst (λ (l : List Slot). IsTransparent i l) (sym h) (named_transparent i (Jump j name line) refl (λ s st. st))
 
-none_written : (a : Bool) → (a && false) ≡ false
-none_written true = refl
-none_written false = refl
-
 to_name : (f : Format) (j i : Instr) (name line : ℕ) (slots : List Slot) → IsAimed j i → is_stack_write f (To j name) ≡ false → slots ≡ Jump j name line ∷ [] → ActsAs f i slots
 to_name f (Jal rd offset) i name line slots a w h =
     subst (λ (k : Instr). ActsAs f k slots) (sym a.1) (aimed (is_stack f rd) (Jal rd offset) (Jal rd a.0) name line slots w h)
 to_name f (Branch cond rs1 rs2 offset) i name line slots a w h =
     subst (λ (k : Instr). ActsAs f k slots) (sym a.1)
-    (aimed (writes_stack f (Branch cond rs1 rs2 a.0)) (Branch cond rs1 rs2 offset) (Branch cond rs1 rs2 a.0) name line slots (none_written (has_stack f)) h)
+    (aimed (writes_stack f (Branch cond rs1 rs2 a.0)) (Branch cond rs1 rs2 offset) (Branch cond rs1 rs2 a.0) name line slots (and_right (has_stack f) false refl) h)
 to_name f _ i name line slots a w h = absurd a
 
-of_body : PairLeaves → StepKeepsState → (f : Format) (line : ℕ) (rvc : Bool) (body : Body) (i : Instr) (slots : List Slot) → MayBe body i → item_names_withheld body ≡ false
+of_body : (f : Format) (line : ℕ) (rvc : Bool) (body : Body) (i : Instr) (slots : List Slot) → MayBe body i → item_names_withheld body ≡ false
     → is_stack_write f body ≡ false → IsExpansionOf f line rvc body slots → ActsAs f i slots
-of_body pair keeps f line rvc (Plain j) i slots be n w h =
-    subst (λ (k : Instr). ActsAs f k slots) (sym be) (of_plain pair keeps (writes_stack f j) (is_on_stack f j) rvc j slots (writer (has_stack f) j w) n h)
-of_body pair keeps f line rvc (To j name) i slots be n w h = to_name f j i name line slots be w h
-of_body pair keeps f line rvc (High rd name) i slots be n w h =
+of_body f line rvc (Plain j) i slots be n w h =
+    subst (λ (k : Instr). ActsAs f k slots) (sym be) (of_plain (writes_stack f j) (is_on_stack f j) rvc j slots (writer (has_stack f) j w) n h)
+of_body f line rvc (To j name) i slots be n w h = to_name f j i name line slots be w h
+of_body f line rvc (High rd name) i slots be n w h =
     subst (λ (k : Instr). ActsAs f k slots) (sym be.1)
-    (at_half pair keeps (has_stack f) (Lui rd be.0) rd (Upper rd name line) slots refl refl refl (λ s st. st) h)
-of_body pair keeps f line rvc (Low rd name) i slots be n w h =
+    (at_half (has_stack f) (Lui rd be.0) rd (Upper rd name line) slots refl refl refl (λ s st. st) h)
+of_body f line rvc (Low rd name) i slots be n w h =
     subst (λ (k : Instr). ActsAs f k slots) (sym be.1)
-    (at_half pair keeps (has_stack f) (OpImm Addi rd rd be.0) rd (Lower rd name line) slots refl refl refl (λ s st. st) h)
+    (at_half (has_stack f) (OpImm Addi rd rd be.0) rd (Lower rd name line) slots refl refl refl (λ s st. st) h)
 
-pub all_transparent : PairLeaves → StepKeepsState → ExpansionsAreTransparent
-all_transparent pair keeps f x i slots be p h = of_body pair keeps f x.line x.rvc x.body i slots be p.operands p.no_stack_write h
+pub all_transparent : ExpansionsAreTransparent
+all_transparent f x i slots be p h = of_body f x.line x.rvc x.body i slots be p.operands p.no_stack_write h

@@ -12,17 +12,18 @@ use Rattle.sfi_rewrite.specs.Places.{AreLaidFrom}
 use Rattle.sfi_rewrite.specs.Placement.{Placement}
 use Rattle.sfi_rewrite.specs.Faults.{IsPermitted}
 use Rattle.sfi_rewrite.specs.Rewriting.{IsRewritten}
-use Rattle.sfi_rewrite.specs.Laws.{ExpansionsAreTransparent, RewrittenIsTransparent}
+use Rattle.sfi_rewrite.specs.Laws.{RewrittenIsTransparent}
 use Rattle.sfi_rewrite.specs.Transparency.{StandTransparent}
 use Rattle.sfi_rewrite.proofs.Laid.{laid_split}
+use Rattle.sfi_rewrite.proofs.StackKept.{all_transparent}
 
 apart : (front nops expanded rest pad : List Slot) → (front ++ (nops ++ (expanded ++ rest))) ++ pad ≡ front ++ (nops ++ (expanded ++ (rest ++ pad)))
 apart front nops expanded rest pad =
     append_assoc front (nops ++ (expanded ++ rest)) pad
     ∙ ap (λ v. front ++ v) (append_assoc nops (expanded ++ rest) pad ∙ ap (λ v. nops ++ v) (append_assoc expanded rest pad))
 
-pub stand_transparent : ExpansionsAreTransparent → RewrittenIsTransparent
-stand_transparent law s p r k x at =
+pub stand_transparent : RewrittenIsTransparent
+stand_transparent s p r k x at =
     let q = r.placement in
     let split = laid_split s.format 0 s.items k q.slots q.laid in
     let within : k < length s.items = slice_get_within s.items k x at in
@@ -42,12 +43,12 @@ stand_transparent law s p r k x at =
       placed =
           q.code ∙ ap (λ v. v ++ replicate q.nops c_nop) (split.both ∙ ap (λ v. split.front ++ v) after.4)
           ∙ apart split.front (replicate after.0 c_nop) after.1 after.2 (replicate q.nops c_nop);
-      transparent = λ i be. law s.format x i after.1 be is after.3.expansion;
+      transparent = λ i be. all_transparent s.format x i after.1 be is after.3.expansion;
     }
 
 -- so does each of all sandboxes
-pub all_stand : RewrittenIsTransparent → (source : List Sandbox) (placed : List Placement) → AllZip IsRewritten source placed → AllZip StandTransparent source placed
-all_stand law [] [] z = z
-all_stand law [] (p ∷ placed) z = absurd z
-all_stand law (s ∷ source) [] z = absurd z
-all_stand law (s ∷ source) (p ∷ placed) z = (law s p z.0, all_stand law source placed z.1)
+pub all_stand : (source : List Sandbox) (placed : List Placement) → AllZip IsRewritten source placed → AllZip StandTransparent source placed
+all_stand [] [] z = z
+all_stand [] (p ∷ placed) z = absurd z
+all_stand (s ∷ source) [] z = absurd z
+all_stand (s ∷ source) (p ∷ placed) z = (stand_transparent s p z.0, all_stand source placed z.1)

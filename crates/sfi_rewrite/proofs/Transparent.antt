@@ -14,10 +14,11 @@ use Rattle.rv_comp.specs.declared.form.Form16.{Form16}
 use Rattle.rv_comp.specs.Table.{expansion}
 use Rattle.sfi_policy.specs.Formats.{code_most}
 use Rattle.rv_mem.specs.Bytes.{address_after}
-use Rattle.rv_step.specs.Laws.{PairLeaves, StepKeepsState}
 use Rattle.rv_step.specs.State.{Hart, State, IsState, register, with_register, with_pc}
 use Rattle.rv_step.specs.Step.{Stands, effect, IsStep}
 use Rattle.rv_step.specs.Steps.{further, StandInRow, LeadsTo, LeadTo}
+use Rattle.rv_step.proofs.Facts.{pair_leaves, step_keeps_state}
+use Rattle.rv_step.proofs.Pairs.{written_here}
 use Rattle.sfi_image.specs.declared.span.Span.{Span}
 use Rattle.sfi_image.specs.Spans.{Holds}
 use Rattle.sfi_image.specs.Regions.{IsBundleStart}
@@ -29,7 +30,7 @@ use Rattle.sfi_rewrite.specs.Slots.{slot_size}
 use Rattle.sfi_rewrite.specs.Expansion.{data_pair_slots, code_pair_slots, jump_to_x31, jump_slots, IsAlone, IsMasked}
 use Rattle.sfi_rewrite.specs.Transparency.{AreRegions, HasReserved, SlotStands, IsSameAside, DoesAs, IsTransparent}
 use Rattle.sfi_rewrite.proofs.Unmoved.{unmoved_data, unmoved_code}
-use Rattle.sfi_rewrite.proofs.Aside.{Aside, aside_scratch, written_here, loads_same, stores_same, jumps_same, plus_zero, added, plus_fits}
+use Rattle.sfi_rewrite.proofs.Aside.{Aside, aside_scratch, loads_same, stores_same, jumps_same, plus_zero, added, plus_fits}
 
 -- ---- what stands at a pc
 
@@ -50,10 +51,10 @@ not_withheld r h = λ e. cc
 -- ---- a pair at pc
 
 -- after a pair on x31 whose masked value is v
-pair_to : PairLeaves → (s : State) (a mask base v : ℕ) → IsState s → base ≢ 31 → StandInRow s (Op And 31 a mask ∷ Op Or 31 31 base ∷ [])
+pair_to : (s : State) (a mask base v : ℕ) → IsState s → base ≢ 31 → StandInRow s (Op And 31 a mask ∷ Op Or 31 31 base ∷ [])
     → bit_or (bit_and (register s.hart a) (register s.hart mask)) (register s.hart base) ≡ v → LeadTo 2 s (scratched s (address_after s.hart.pc 8) v)
-pair_to pair s a mask base v is apart stand e =
-    subst (λ (n : ℕ). LeadTo 2 s (scratched s (address_after s.hart.pc 8) n)) e (pair s 31 a mask base is (λ z. omega arith) apart stand)
+pair_to s a mask base v is apart stand e =
+    subst (λ (n : ℕ). LeadTo 2 s (scratched s (address_after s.hart.pc 8) n)) e (pair_leaves s 31 a mask base is (λ z. omega arith) apart stand)
 
 pub unmasked_data : (c d : Span) (h : Hart) (x : ℕ) → AreRegions c d → HasReserved c d h → Holds d x → bit_or (bit_and x (register h 27)) (register h 26) ≡ x
 unmasked_data c d h x regions reserved held =
@@ -68,7 +69,7 @@ unmasked_code c d h x regions reserved start =
 eight : (pc : ℕ) → address_after (address_after pc 4) 4 ≡ address_after pc 8
 eight pc = omega arith
 
-twelve : (pc : ℕ) → address_after (address_after pc 4) 8 ≡ address_after pc 12
+pub twelve : (pc : ℕ) → address_after (address_after pc 4) 8 ≡ address_after pc 12
 twelve pc = omega arith
 
 scratch_is : (s : State) (pc v : ℕ) → IsState s → register (scratched s pc v).hart 31 ≡ v
@@ -82,17 +83,17 @@ DoesFor s i j v =
     (h : Hart) → Aside h (with_pc s.hart h.pc) → register h 31 ≡ v → IsSameAside (effect j 4 h s.memory) (effect i 4 (with_pc s.hart h.pc) s.memory)
 
 -- three slots: the last does from after the pair what i does
-after_pair : PairLeaves → (s : State) (i j : Instr) (a mask base v : ℕ) → IsState s → base ≢ 31
+after_pair : (s : State) (i j : Instr) (a mask base v : ℕ) → IsState s → base ≢ 31
     → Stands s (Op And 31 a mask) 4 → Stands (further s 4) (Op Or 31 31 base) 4 → Stands (further (further s 4) 4) j 4
     → bit_or (bit_and (register s.hart a) (register s.hart mask)) (register s.hart base) ≡ v
     → DoesFor s i j v
     → DoesAs s i (Wide (Op And 31 a mask) ∷ Wide (Op Or 31 31 base) ∷ []) (Wide j)
-after_pair pair s i j a mask base v is apart first second third e same =
+after_pair s i j a mask base v is apart first second third e same =
     let pc = address_after s.hart.pc 8 in
     let there = scratched s pc v in
     record {
       there = there;
-      leads = pair_to pair s a mask base v is apart (first, (second, tt)) e;
+      leads = pair_to s a mask base v is apart (first, (second, tt)) e;
       place = refl;
       result = effect j 4 there.hart s.memory;
       step = does there j 4 (stands_at (further (further s 4) 4) there j 4 (sym (eight s.hart.pc)) refl third);
@@ -107,19 +108,19 @@ aside_twice s p q v w =
     record { pc = refl; count = two.count ∙ one.count; registers = λ x ne. two.registers x ne ∙ one.registers x ne }
 
 -- four slots: the sum goes before the pair
-after_sum : PairLeaves → StepKeepsState → (s : State) (i j : Instr) (a mask base : ℕ) (imm : ℤ) → IsState s → mask ≢ 31 → base ≢ 31
+after_sum : (s : State) (i j : Instr) (a mask base : ℕ) (imm : ℤ) → IsState s → mask ≢ 31 → base ≢ 31
     → Stands s (OpImm Addi 31 a imm) 4 → Stands (further s 4) (Op And 31 31 mask) 4 → Stands (further (further s 4) 4) (Op Or 31 31 base) 4 → Stands (further (further (further s 4) 4) 4) j 4
     → bit_or (bit_and (offset_by (register s.hart a) imm) (register s.hart mask)) (register s.hart base) ≡ offset_by (register s.hart a) imm
     → DoesFor s i j (offset_by (register s.hart a) imm)
     → DoesAs s i (Wide (OpImm Addi 31 a imm) ∷ Wide (Op And 31 31 mask) ∷ Wide (Op Or 31 31 base) ∷ []) (Wide j)
-after_sum pair keeps s i j a mask base imm is ne apart first second third fourth e same =
+after_sum s i j a mask base imm is ne apart first second third fourth e same =
     let v = offset_by (register s.hart a) imm in
     let p = address_after s.hart.pc 4 in
     let q = address_after p 8 in
     let one = scratched s p v in
     let there = scratched one q v in
     let step : LeadsTo s one = subst (λ (n : ℕ). LeadsTo s (scratched s p n)) (added (register s.hart a) imm) (does s (OpImm Addi 31 a imm) 4 first) in
-    let is_one : IsState one = keeps s _ is step in
+    let is_one : IsState one = step_keeps_state s _ is step in
     let aside = aside_scratch s.hart v p in
     let value : bit_or (bit_and (register one.hart 31) (register one.hart mask)) (register one.hart base) ≡ v =
     ap (λ n. bit_or (bit_and n (register one.hart mask)) (register one.hart base)) (scratch_is s p v is)
@@ -130,7 +131,7 @@ after_sum pair keeps s i j a mask base imm is ne apart first second third fourth
     (stands_at (further s 4) one (Op And 31 31 mask) 4 refl refl second, (stands_at (further (further s 4) 4) (further one 4) (Op Or 31 31 base) 4 refl refl third, tt)) in
     record {
       there = there;
-      leads = (one, step, pair_to pair one 31 mask base v is_one apart row value);
+      leads = (one, step, pair_to one 31 mask base v is_one apart row value);
       place = twelve s.hart.pc;
       result = effect j 4 there.hart s.memory;
       step = does there j 4 (stands_at (further (further (further s 4) 4) 4) there j 4 (sym (eight p)) refl fourth);
@@ -139,33 +140,33 @@ after_sum pair keeps s i j a mask base imm is ne apart first second third fourth
 
 -- ---- the expansions
 
-load_transparent : PairLeaves → (kind : LoadKind) (rd a : ℕ) (imm : ℤ) → IsTransparent (Load kind rd a imm) (data_pair_slots a ++ Wide (Load kind rd 31 imm) ∷ [])
-load_transparent pair kind rd a imm = record {
+load_transparent : (kind : LoadKind) (rd a : ℕ) (imm : ℤ) → IsTransparent (Load kind rd a imm) (data_pair_slots a ++ Wide (Load kind rd 31 imm) ∷ [])
+load_transparent kind rd a imm = record {
   before = data_pair_slots a;
   last = Wide (Load kind rd 31 imm);
   slots_are = refl;
   does = λ c d s asked keeps.
       let regions = asked.regions in let is = asked.is_state in let reserved = asked.reserved in let stand = asked.stand in
-      after_pair pair s (Load kind rd a imm) (Load kind rd 31 imm) a 27 26 (register s.hart a) is (λ z. omega arith) stand.0 stand.1.0 stand.1.1.0
+      after_pair s (Load kind rd a imm) (Load kind rd 31 imm) a 27 26 (register s.hart a) is (λ z. omega arith) stand.0 stand.1.0 stand.1.1.0
       (unmasked_data c d s.hart (register s.hart a) regions reserved keeps)
       (λ h aside e. loads_same kind rd a imm h (with_pc s.hart h.pc) s.memory aside e);
 }
 
-store_transparent : PairLeaves → (width : StoreWidth) (a rs2 : ℕ) (imm : ℤ) → rs2 ≢ 31 → IsTransparent (Store width a rs2 imm) (data_pair_slots a ++ Wide (Store width 31 rs2 imm) ∷ [])
-store_transparent pair width a rs2 imm ne = record {
+store_transparent : (width : StoreWidth) (a rs2 : ℕ) (imm : ℤ) → rs2 ≢ 31 → IsTransparent (Store width a rs2 imm) (data_pair_slots a ++ Wide (Store width 31 rs2 imm) ∷ [])
+store_transparent width a rs2 imm ne = record {
   before = data_pair_slots a;
   last = Wide (Store width 31 rs2 imm);
   slots_are = refl;
   does = λ c d s asked keeps.
       let regions = asked.regions in let is = asked.is_state in let reserved = asked.reserved in let stand = asked.stand in
-      after_pair pair s (Store width a rs2 imm) (Store width 31 rs2 imm) a 27 26 (register s.hart a) is (λ z. omega arith) stand.0 stand.1.0 stand.1.1.0
+      after_pair s (Store width a rs2 imm) (Store width 31 rs2 imm) a 27 26 (register s.hart a) is (λ z. omega arith) stand.0 stand.1.0 stand.1.1.0
       (unmasked_data c d s.hart (register s.hart a) regions reserved keeps)
       (λ h aside e. stores_same width a rs2 imm h (with_pc s.hart h.pc) s.memory aside e ne);
 }
 
 -- a jump's offset is 0
-jump_transparent : PairLeaves → (rd a : ℕ) → IsTransparent (Jalr rd a (pos 0)) (code_pair_slots a ++ jump_to_x31 rd ∷ [])
-jump_transparent pair rd a = record {
+jump_transparent : (rd a : ℕ) → IsTransparent (Jalr rd a (pos 0)) (code_pair_slots a ++ jump_to_x31 rd ∷ [])
+jump_transparent rd a = record {
   before = code_pair_slots a;
   last = jump_to_x31 rd;
   slots_are = refl;
@@ -173,29 +174,29 @@ jump_transparent pair rd a = record {
       let regions = asked.regions in let is = asked.is_state in let reserved = asked.reserved in let stand = asked.stand in
       let v = register s.hart a in
       let to = plus_zero v (is.hart.words a) in
-      after_pair pair s (Jalr rd a (pos 0)) (Jalr rd 31 (pos 0)) a 25 24 v is (λ z. omega arith) stand.0 stand.1.0 stand.1.1.0
+      after_pair s (Jalr rd a (pos 0)) (Jalr rd 31 (pos 0)) a 25 24 v is (λ z. omega arith) stand.0 stand.1.0 stand.1.1.0
       (unmasked_code c d s.hart v regions reserved (subst (λ (n : ℕ). IsBundleStart c n) to keeps))
       (λ h aside e. jumps_same rd a (pos 0) h (with_pc s.hart h.pc) s.memory aside (ap (λ n. offset_by n (pos 0)) e));
 }
 
 -- it isn't
-sum_transparent : PairLeaves → StepKeepsState → (rd a : ℕ) (imm : ℤ) → IsTransparent (Jalr rd a imm) (Wide (OpImm Addi 31 a imm) ∷ (code_pair_slots 31 ++ jump_to_x31 rd ∷ []))
-sum_transparent pair keeps rd a imm = record {
+sum_transparent : (rd a : ℕ) (imm : ℤ) → IsTransparent (Jalr rd a imm) (Wide (OpImm Addi 31 a imm) ∷ (code_pair_slots 31 ++ jump_to_x31 rd ∷ []))
+sum_transparent rd a imm = record {
   before = Wide (OpImm Addi 31 a imm) ∷ code_pair_slots 31;
   last = jump_to_x31 rd;
   slots_are = refl;
   does = λ c d s asked keep.
       let regions = asked.regions in let is = asked.is_state in let reserved = asked.reserved in let stand = asked.stand in
       let v = offset_by (register s.hart a) imm in
-      after_sum pair keeps s (Jalr rd a imm) (Jalr rd 31 (pos 0)) a 25 24 imm is (λ z. omega arith) (λ z. omega arith) stand.0 stand.1.0 stand.1.1.0 stand.1.1.1.0
+      after_sum s (Jalr rd a imm) (Jalr rd 31 (pos 0)) a 25 24 imm is (λ z. omega arith) (λ z. omega arith) stand.0 stand.1.0 stand.1.1.0 stand.1.1.1.0
       (unmasked_code c d s.hart v regions reserved keep)
       (λ h aside e. jumps_same rd a imm h (with_pc s.hart h.pc) s.memory aside (ap (λ n. offset_by n (pos 0)) e ∙ plus_zero v (plus_fits (register s.hart a) imm)));
 }
 
-jumps_transparent : PairLeaves → StepKeepsState → (rd a : ℕ) (imm : ℤ) → IsTransparent (Jalr rd a imm) (jump_slots rd a imm)
-jumps_transparent pair keeps rd a (pos zero) = jump_transparent pair rd a
-jumps_transparent pair keeps rd a (pos (suc n)) = sum_transparent pair keeps rd a (pos (suc n))
-jumps_transparent pair keeps rd a (negsuc n) = sum_transparent pair keeps rd a (negsuc n)
+jumps_transparent : (rd a : ℕ) (imm : ℤ) → IsTransparent (Jalr rd a imm) (jump_slots rd a imm)
+jumps_transparent rd a (pos zero) = jump_transparent rd a
+jumps_transparent rd a (pos (suc n)) = sum_transparent rd a (pos (suc n))
+jumps_transparent rd a (negsuc n) = sum_transparent rd a (negsuc n)
 
 -- ---- an instruction that is its own expansion
 
@@ -238,11 +239,11 @@ named_transparent i x size stands = one_transparent i x (λ s stand. subst (λ (
 
 -- ---- any expansion
 
-pub of_masked : PairLeaves → StepKeepsState → (rvc : Bool) (i : Instr) (slots : List Slot)
+pub of_masked : (rvc : Bool) (i : Instr) (slots : List Slot)
     → names_withheld i ≡ false → IsMasked rvc i slots → IsTransparent i slots
-of_masked pair keeps rvc (Load kind rd a imm) slots n e = subst (λ (l : List Slot). IsTransparent (Load kind rd a imm) l) (sym e) (load_transparent pair kind rd a imm)
-of_masked pair keeps rvc (Store width a rs2 imm) slots n e =
+of_masked rvc (Load kind rd a imm) slots n e = subst (λ (l : List Slot). IsTransparent (Load kind rd a imm) l) (sym e) (load_transparent kind rd a imm)
+of_masked rvc (Store width a rs2 imm) slots n e =
     let h = or_parts (is_withheld a) (is_withheld rs2) n in
-    subst (λ (l : List Slot). IsTransparent (Store width a rs2 imm) l) (sym e) (store_transparent pair width a rs2 imm (not_withheld rs2 h.1))
-of_masked pair keeps rvc (Jalr rd a imm) slots n e = subst (λ (l : List Slot). IsTransparent (Jalr rd a imm) l) (sym e) (jumps_transparent pair keeps rd a imm)
-of_masked pair keeps rvc other slots n e = alone_transparent rvc other slots e
+    subst (λ (l : List Slot). IsTransparent (Store width a rs2 imm) l) (sym e) (store_transparent width a rs2 imm (not_withheld rs2 h.1))
+of_masked rvc (Jalr rd a imm) slots n e = subst (λ (l : List Slot). IsTransparent (Jalr rd a imm) l) (sym e) (jumps_transparent rd a imm)
+of_masked rvc other slots n e = alone_transparent rvc other slots e

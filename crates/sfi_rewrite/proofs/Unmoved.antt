@@ -5,12 +5,10 @@ use Rattle.std.proofs.lemmas.Nat.{and_mask, or_shifted, or_comm, mod-mul-add, po
 use Rattle.std.proofs.lemmas.Nat.Bits.{and_high}
 use Rattle.std.proofs.lemmas.Bool.{cases_lt}
 use Rattle.sfi_image.specs.Regions.{IsRegion}
+use Rattle.sfi_image.proofs.Bundles.{exponent_le}
 
 in_block : (q k r : ℕ) → r < 2 ^ k → bit_or r (q * 2 ^ k) ≡ q * 2 ^ k + r
 in_block q k r h = or_comm r (q * 2 ^ k) ∙ or_shifted q k r h
-
-power_at_least : (k j : ℕ) → 2 ^ j ≤ 2 ^ k → j ≤ k
-power_at_least k j h = ⊎_elim (λ less. let below : 2 ^ k < 2 ^ j = pow_below k j less in omega arith) (λ more. more) (cases_lt k j)
 
 -- a number in the block of that many is its rest
 rest_of : (q b x : ℕ) → q * b ≤ x → x < q * b + b → x % b ≡ x - q * b
@@ -38,7 +36,7 @@ unmoved_code base size most x region from below aligned =
     let q = region.multiple in
     let size_is : size ≡ 2 ^ k = region.size_is in
     let at_least : 256 ≤ size = region.at_least in
-    let wide : 8 ≤ k = power_at_least k 8 (omega arith) in
+    let wide : 8 ≤ k = exponent_le 8 k (omega arith) in
     let j = k - 4 in
     let k_is : k ≡ j + 4 = omega arith in
     let power : 2 ^ k ≡ 2 ^ j * 16 = ap (λ n. 2 ^ n) k_is ∙ pow-add 2 j 4 in

@@ -54,20 +54,14 @@ HasItemFault f x Memory = ⊥
 
 -- the first fault of the item, which stands after that end in the sandbox of that number
 abbrev pub HasFault : Format → ℕ → ℕ → Item → RewriteFault → Type 0
-HasFault f sandbox end x (ReservedRegister line) = HasItemFault f x (ReservedRegister line)
-HasFault f sandbox end x (Ecall line) = HasItemFault f x (Ecall line)
-HasFault f sandbox end x (StackWrite line) = HasItemFault f x (StackWrite line)
 HasFault f sandbox end x (TooLarge number) =
     IsPermitted f x × IsTooLarge f end x × (number ≡ sandbox)
-HasFault f sandbox end x Memory = ⊥
+HasFault f sandbox end x fault = HasItemFault f x fault
 
 -- what is said of a fault, where that isn't want of memory
 abbrev pub UnlessMemory : (RewriteFault → Type 0) → RewriteFault → Type 0
-UnlessMemory P (ReservedRegister line) = P (ReservedRegister line)
-UnlessMemory P (Ecall line) = P (Ecall line)
-UnlessMemory P (StackWrite line) = P (StackWrite line)
-UnlessMemory P (TooLarge sandbox) = P (TooLarge sandbox)
 UnlessMemory P Memory = Unit {0}
+UnlessMemory P f = P f
 
 -- the first item that has a fault has this one
 pub record IsItemFault (format : Format) (sandbox : ℕ) (items : List Item)

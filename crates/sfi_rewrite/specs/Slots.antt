@@ -3,15 +3,12 @@ use Rattle.std.specs.Prelude.{ℕ, List, pos, sum_by}
 use Rattle.std.specs.List.{flat_map}
 use Rattle.rv_comp.specs.declared.form.Form16.TheVariants.{CAddi}
 use Rattle.sfi_rewrite.specs.declared.slot.Slot.{Slot}
-use Rattle.sfi_rewrite.specs.declared.slot.Slot.TheVariants.{Wide, Short, Jump, Upper, Lower}
+use Rattle.sfi_rewrite.specs.declared.slot.Slot.TheVariants.{Short}
 
 -- the bytes of one slot
 abbrev pub slot_size : Slot → ℕ
-slot_size (Wide i) = 4
 slot_size (Short f) = 2
-slot_size (Jump i name line) = 4
-slot_size (Upper rd name line) = 4
-slot_size (Lower rd name line) = 4
+slot_size _ = 4
 
 -- the bytes of slots together
 abbrev pub size_of : List Slot → ℕ

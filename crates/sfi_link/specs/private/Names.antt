@@ -1,19 +1,9 @@
 -- Words of private contracts and proofs, beside those of Names.antt.
-use Rattle.std.specs.Prelude.{◌⊎◌, ℕ, List, Result, Ok, Err, Vec}
-use Rattle.std.specs.Global.{Global}
+use Rattle.std.specs.Prelude.{List}
 use Rattle.sfi_image.specs.Spelling.{Part}
 use Rattle.sfi_place.specs.declared.place.Place.{Place}
 use Rattle.sfi_rewrite.specs.Placement.{Placement}
-use Rattle.sfi_link.specs.declared.build_fault.BuildFault.{BuildFault}
 use Rattle.sfi_link.specs.Linked.{AreLinkedFrom}
-use Rattle.sfi_link.specs.Texts.{IsBuildFault, IsWantOfMemory}
-use Rattle.sfi_link.specs.Names.{MapEntry, IsTextMap}
-
--- the names that were found are the text's map, or it has the fault, or memory ran out:
--- a word of a private contract
-abbrev pub Maps : List Place → List ℕ → Result (Vec MapEntry Global) BuildFault → Type 0
-Maps given text (Ok v) = IsTextMap given text v.items
-Maps given text (Err f) = IsWantOfMemory f ⊎ IsBuildFault given text f
 
 -- the placed sandboxes make those of an image at the given places
 abbrev pub CanBeLinked : List Place → List Placement → Type 0

@@ -1,11 +1,11 @@
 use Rattle.std.proofs.Common.{◌≡◌, ◌<◌, take, List, [], ◌∷◌, ◌++◌, false, ℕ, eqb, sym, ap, subst, arith, append_assoc, ◌∙◌}
-use Rattle.std.proofs.lemmas.List.{take-map, length-map}
+use Rattle.std.proofs.lemmas.List.{take_all, take-map, length-map}
 use Rattle.std.proofs.lemmas.Bool.{eq-eqb}
 use Rattle.sfi_image.specs.declared.span.Span.{Span}
 use Rattle.sfi_image.specs.Spelling.{Part, view, views}
 use Rattle.sfi_image.specs.Parts.{AreRight}
 use Rattle.sfi_image.proofs.Views.{views_of}
-use Rattle.sfi_image.proofs.Refused.{StartRight, StartRight-push, start_right, wrong_part, map_at, map_more_at, take_whole}
+use Rattle.sfi_image.proofs.Refused.{StartRight, StartRight-push, start_right, wrong_part, map_at, map_more_at}
 use Rattle.sfi_image.proofs.layout.check_layout.Goals as goal
 
 not_eq_zero : (n : ℕ) → eqb n 0 ≡ false → 0 < n
@@ -35,7 +35,7 @@ loop-part-preserved c =
 pub returns-clause-right : goal.returns-clause-right
 returns-clause-right c =
     let ps = c.args.parts.now in
-    let whole : take c.loop-part.part-index ps ≡ ps = take_whole ps c.loop-part.part-index (omega arith) (omega arith) in
+    let whole : take c.loop-part.part-index ps ≡ ps = take_all c.loop-part.part-index ps (omega arith) in
     let same = length-map ps (view c.args.format) in
     record {
       at_least_one = (let some = not_eq_zero _ (sym c.is_empty.ensures ∙ c.if-is_empty.false) in omega arith);

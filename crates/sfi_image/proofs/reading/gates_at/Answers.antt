@@ -1,10 +1,10 @@
-use Rattle.std.proofs.Common.{◌≡◌, ◌∙◌, ◌++◌, ◌<◌, ◌+◌, ℕ, List, length, sym, ap, arith}
+use Rattle.std.proofs.Common.{[], ◌≡◌, ◌∙◌, ◌++◌, ◌<◌, ◌+◌, ℕ, List, length, sym, ap, arith}
 use Rattle.std.specs.List.{flat_map}
 use Rattle.std.proofs.lemmas.List.{length_push}
 use Rattle.std.proofs.lemmas.Result.{err_from_is_err_and}
 use Rattle.sfi_image.specs.Spelling.{gate}
 use Rattle.sfi_image.specs.Fronts.Front.{InGates}
-use Rattle.sfi_image.proofs.GateLists.{flat_push}
+use Rattle.sfi_image.proofs.GateLists.{flat_split}
 use Rattle.sfi_image.proofs.Steps.{no_rest}
 use Rattle.sfi_image.proofs.Parsing.{at_gate, gate_taken, gates_fault}
 use Rattle.sfi_image.proofs.reading.gates_at.Goals as goal
@@ -29,7 +29,7 @@ loop-preserved c =
     let taken0 = c.in_ok-front.ensures (InGates c.requires.0 c.requires.1 c.args.seven.now gs) at0 in
     let e : s ≡ gate g = no_rest s (gate g) _ c.gate_at.ensures.front (let len = c.gate_at.ensures.len in let l = taken0.1 in omega arith) in
     rw (items) (record {
-      bytes = i.bytes ∙ ap (λ (l : List ℕ). flat_map gate gs ++ l) (taken0.0 ∙ ap (λ (l : List ℕ). l ++ c.in_ok-front.after.now) e) ∙ sym (flat_push gate gs g c.in_ok-front.after.now);
+      bytes = i.bytes ∙ ap (λ (l : List ℕ). flat_map gate gs ++ l) (taken0.0 ∙ ap (λ (l : List ℕ). l ++ c.in_ok-front.after.now) e) ∙ sym (flat_split gate gs g [] c.in_ok-front.after.now);
       stands = λ n ps h.
           let at = at_gate c.loop.reader n ps c.args.seven.now gs (i.stands n ps h) lt in
           let taken = c.in_ok-front.ensures (InGates n ps c.args.seven.now gs) at in

@@ -1,12 +1,12 @@
 use Rattle.std.proofs.Common.{◌≡◌, sym, subst, arith, ap, ◌∙◌, append_assoc, ◌++◌, take, length, List}
 use Rattle.std.specs.List.{flat_map}
-use Rattle.std.proofs.lemmas.List.{length-map}
+use Rattle.std.proofs.lemmas.List.{take_all, length-map}
 use Rattle.sfi_policy.specs.Formats.{magic}
 use Rattle.sfi_image.specs.declared.part.SandboxPart.{SandboxPart}
 use Rattle.sfi_image.specs.Spelling.{view, views, part, spelling, format_of, number}
 use Rattle.sfi_image.specs.Parts.{IsRightPart}
 use Rattle.sfi_image.proofs.Views.{format_is}
-use Rattle.sfi_image.proofs.Refused.{map_at, take_whole}
+use Rattle.sfi_image.proofs.Refused.{map_at}
 use Rattle.sfi_image.proofs.writing.write_right.Goals as goal
 
 pub push_part-requires : goal.push_part-requires
@@ -20,7 +20,7 @@ pub returns : goal.returns
 unfolding spelling
 returns c =
     let ps = c.args.parts.now in
-    let whole : take c.loop-one.one-index ps ≡ ps = take_whole ps c.loop-one.one-index (omega arith) (omega arith) in
+    let whole : take c.loop-one.one-index ps ≡ ps = take_all c.loop-one.one-index ps (omega arith) in
     let same = length-map ps (view c.args.format) in
     let front : c.extend_from_slice.new.self.items ≡ magic c.args.format = c.in_ok-extend_from_slice.ensures.items ∙ ap (λ l. l ++ c.magic.result) c.new-bytes.ensures.items ∙ c.magic.ensures in
     let kind : magic (format_of (views c.args.format ps)) ≡ magic c.args.format = ap magic (format_is c.args.format ps c.requires.at_least_one) in

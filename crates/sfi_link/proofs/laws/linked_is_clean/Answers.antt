@@ -2,4 +2,4 @@ use Rattle.sfi_link.proofs.LinkedClean.{linked_is_clean}
 use Rattle.sfi_link.proofs.laws.linked_is_clean.Goals as goal
 
 pub returns : goal.returns
-returns c = linked_is_clean c.spellings_are_wide.ensures c.one_spelling.ensures c.two_lengths.ensures c.same_bundle_starts.ensures
+returns c = linked_is_clean

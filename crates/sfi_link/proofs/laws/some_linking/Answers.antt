@@ -2,4 +2,4 @@ use Rattle.sfi_link.proofs.SomeLinking.{some_linking}
 use Rattle.sfi_link.proofs.laws.some_linking.Goals as goal
 
 pub returns : goal.returns
-returns c = some_linking c.linked_is_clean.ensures c.linked_is_right.ensures
+returns c = some_linking

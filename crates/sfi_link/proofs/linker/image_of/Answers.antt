@@ -4,6 +4,7 @@ use Rattle.sfi_image.specs.declared.fault.ImageFault.TheVariants.{Memory}
 use Rattle.sfi_rewrite.specs.Placement.{Placement}
 use Rattle.sfi_link.proofs.Linking.{are_linked}
 use Rattle.sfi_link.proofs.LinkedClean.{all_are_clean}
+use Rattle.sfi_link.proofs.Parts.{linked_is_right}
 use Rattle.sfi_link.proofs.linker.image_of.Goals as goal
 
 pub returns-in-Ok-clause-links : goal.returns-in-Ok-clause-links
@@ -14,7 +15,7 @@ returns-in-Ok-clause-links c =
       parts = parts;
       linked = linked;
       image = rw c.deref-2.ensures.value at c.in-Ok.ensures.image;
-      none_found = all_are_clean c.args.places.now c.linked_is_clean.ensures 0 c.args.placed.now parts c.parts-placed.ensures.right.each linked.each;
+      none_found = all_are_clean c.args.places.now 0 c.args.placed.now parts c.parts-placed.ensures.right.each linked.each;
     }
 
 pub unreachable-requires : goal.unreachable-requires
@@ -22,7 +23,7 @@ unreachable-requires c =
     let parts = views c.format-format.result c.in_ok-parts.parts.items in
     let linked = are_linked c.args.places.now _ _ _ parts c.parts-placed.ensures.parts (omega arith) c.in_ok-codes.ensures c.in_ok-parts.ensures in
     let count = ap (λ (l : List Placement). length l) c.parts-placed.ensures.parts in
-    let layout = c.linked_is_right.ensures c.args.places.now c.args.placed.now parts c.parts-placed.ensures.right (omega arith) linked in
+    let layout = linked_is_right c.args.places.now c.args.placed.now parts c.parts-placed.ensures.right (omega arith) linked in
     let memory : c.in-Err-Layout.field-0 ≡ Memory = (rw c.deref-2.ensures.value at c.in-Err-Layout.ensures.only_image) layout in
     let e = sym c.in-Err-Layout.field-0-is ∙ memory in
     cc

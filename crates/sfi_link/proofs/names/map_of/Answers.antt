@@ -15,8 +15,8 @@ names_of-requires-clause-linked c =
     let image = c.in_ok-link_at.ensures.image in
     subst (λ (ps : List Placement). CanBeLinked c.args.places.now ps) (sym c.parts-2.ensures.parts) (image.parts, image.linked.each)
 
-pub returns-clause-maps : goal.returns-clause-maps
-returns-clause-maps c = record {
+pub returns-clause-mapped : goal.returns-clause-mapped
+returns-clause-mapped c = record {
   bytes = c.in_ok-link_at.field-0.items;
   build = record {
     source = _;

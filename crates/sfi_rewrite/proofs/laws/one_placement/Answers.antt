@@ -2,4 +2,4 @@ use Rattle.sfi_rewrite.proofs.OneWay.{placement_one_way}
 use Rattle.sfi_rewrite.proofs.laws.one_placement.Goals as goal
 
 pub returns : goal.returns
-returns c = placement_one_way c.one_first_form.ensures
+returns c = placement_one_way

@@ -1,6 +1,5 @@
-use Rattle.sfi_rewrite.proofs.Placements.{placed_parts}
-use Rattle.sfi_rewrite.proofs.Sources.{is_placed}
+use Rattle.sfi_rewrite.proofs.Facts.{rewritten_is_placed}
 use Rattle.sfi_rewrite.proofs.laws.rewritten_is_placed.Goals as goal
 
 pub returns : goal.returns
-returns c source placed right z = is_placed source placed right z (placed_parts c.one_first_form.ensures source placed right.each z)
+returns c = rewritten_is_placed

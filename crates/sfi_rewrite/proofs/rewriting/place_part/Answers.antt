@@ -31,4 +31,4 @@ returns-clause-rewritten c = made c
 
 pub returns-clause-right : goal.returns-clause-right
 returns-clause-right c =
-    placed_part c.one_first_form.ensures c.args.part.now c.new.result c.requires (made c)
+    placed_part c.args.part.now c.new.result c.requires (made c)

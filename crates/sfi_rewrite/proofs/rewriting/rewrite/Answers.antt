@@ -3,6 +3,7 @@ use Rattle.std.specs.List.{AllZip}
 use Rattle.std.proofs.lemmas.Result.{err_from_is_err_and}
 use Rattle.sfi_rewrite.specs.Faults.{UnlessMemory, IsSourceFault}
 use Rattle.sfi_rewrite.specs.Rewriting.{IsRewritten}
+use Rattle.sfi_rewrite.proofs.OneFault.{rewritten_has_none}
 use Rattle.sfi_rewrite.proofs.Standing.{all_stand}
 use Rattle.sfi_rewrite.proofs.Sources.{is_placed, fault_answered}
 use Rattle.sfi_rewrite.proofs.rewriting.rewrite.Goals as goal
@@ -11,7 +12,7 @@ pub returns-in_err-place_parts-clause-only_fault : goal.returns-in_err-place_par
 returns-in_err-place_parts-clause-only_fault c fault is =
     let p = err_from_is_err_and c.from_residual.result c.from_residual.ensures.1 in
     rw (p.1, p.2)
-    (fault_answered c.one_fault.ensures c.args.source.now fault c.in_err-place_parts.field-0.0
+    (fault_answered c.args.source.now fault c.in_err-place_parts.field-0.0
     (subst (λ v. UnlessMemory (IsSourceFault v) c.in_err-place_parts.field-0.0) c.parts.ensures.parts c.in_err-place_parts.ensures.refused) is)
 
 pub new-requires : goal.new-requires
@@ -22,11 +23,11 @@ new-requires c =
 
 pub returns-clause-only_fault : goal.returns-clause-only_fault
 returns-clause-only_fault c fault is =
-    absurd (c.never_both.ensures c.args.source.now c.in_ok-place_parts.field-0.items fault
+    absurd (rewritten_has_none c.args.source.now c.in_ok-place_parts.field-0.items fault
     (subst (λ v. AllZip IsRewritten v c.in_ok-place_parts.field-0.items) c.parts.ensures.parts c.in_ok-place_parts.ensures.rewritten) is)
 
 pub returns-clause-transparent : goal.returns-clause-transparent
 returns-clause-transparent c =
-    all_stand c.rewritten_is_transparent.ensures c.args.source.now c.new.result
+    all_stand c.args.source.now c.new.result
     (subst (λ v. AllZip IsRewritten c.args.source.now v) (sym c.new.ensures)
     (subst (λ v. AllZip IsRewritten v c.in_ok-place_parts.field-0.items) c.parts.ensures.parts c.in_ok-place_parts.ensures.rewritten))
