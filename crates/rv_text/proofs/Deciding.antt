@@ -20,39 +20,16 @@ use Rattle.rv_text.specs.Tokens.{is_space, IsBlank, IsMagnitude, IsNumber, Takes
 use Rattle.rv_source.specs.Names.{begins_name, continues_name, IsName, begins_label, IsLabel}
 use Rattle.rv_text.specs.Forms.{IsNumberOf}
 use Rattle.rv_text.specs.Keywords.{keyword_name}
-use Rattle.rv_text.specs.private.Lookup.{find_register, candidate}
+use Rattle.rv_text.specs.private.Lookup.{candidate}
 use Rattle.rv_text.specs.Operands.{OperandValues, Stands, mode_name}
 use Rattle.rv_text.specs.private.Scan.{body_of, token_len}
 use Rattle.rv_text.specs.Statement.{operands}
-use Rattle.rv_text.proofs.Keywords.{none_of_none, none_of_other}
-use Rattle.rv_text.proofs.RegisterNames.{register_found, register_none}
+use Rattle.rv_text.proofs.Keywords.{none_of_other}
+use Rattle.rv_text.proofs.Decided.{Decided, decided_both, decided_le, decided_bit, decided_same}
+use Rattle.rv_text.proofs.RegisterNames.{register_or_not}
 use Rattle.rv_text.proofs.Numbers.{number_unique}
 use Rattle.rv_text.proofs.Powers.{power_test}
 use Rattle.rv_text.proofs.Taking.{takes_found, body_blank, stuck}
-
-abbrev pub Decided : Type 0 → Type 0
-Decided P = P ⊎ (P → ⊥)
-
-pub decided_both : {P Q : Type 0} → Decided P → Decided Q → Decided (P × Q)
-decided_both (inl p) (inl q) = inl (p, q)
-decided_both (inl p) (inr q) = inr (λ both. q both.1)
-decided_both (inr p) q = inr (λ both. p both.0)
-
-pub decided_le : (a b : ℕ) → Decided (a ≤ b)
-decided_le a b = elim (cases_lt b a) [ inl more ↦ inr (λ h. omega arith) | inr le ↦ inl le ]
-
-pub decided_bit : (b c : Bool) → Decided (b ≡ c)
-decided_bit true true = inl refl
-decided_bit true false = inr (λ e. false≢true (sym e))
-decided_bit false true = inr (λ e. false≢true e)
-decided_bit false false = inl refl
-
-pub decided_same : (xs ys : List ℕ) → Decided (xs ≡ ys)
-decided_same xs ys =
-    elim (decided_bit (bytes_eq xs ys) true) [
-      | inl is ↦ inl ((bytes_eq-Decides xs ys).0 is)
-      | inr not ↦ inr (λ e. not ((bytes_eq-Decides xs ys).1 e))
-    ]
 
 decided_between : (low high z : ℤ) → Decided (IsBetween low high z)
 decided_between low high z = decided_both (le low z) (le z high)
@@ -93,15 +70,11 @@ pub label_or_not : (text : List ℕ) → Decided (IsLabel text)
 label_or_not text = decided_both (name_or_not text) (decided_bit (begins_label text) true)
 
 pub keyword_or_not : (text : List ℕ) → ((k : Keyword) × (keyword_name k ≡ text)) ⊎ ((k : Keyword) → keyword_name k ≡ text → ⊥)
-keyword_or_not text = by (candidate text) refl
-  where
-    by : (o : Option Keyword) → candidate text ≡ o → ((k : Keyword) × (keyword_name k ≡ text)) ⊎ ((k : Keyword) → keyword_name k ≡ text → ⊥)
-    by None is = inr (none_of_none text None (sym is) refl)
-    by (Some k) is =
-        elim (decided_same (keyword_name k) text) [
-          | inl named ↦ inl (k, named)
-          | inr other ↦ inr (none_of_other text (Some k) k (sym is) refl other)
-        ]
+keyword_or_not text =
+    elim (decided_same (keyword_name (candidate text)) text) [
+      | inl named ↦ inl (candidate text, named)
+      | inr other ↦ inr (none_of_other text (candidate text) refl other)
+    ]
 
 -- ---- numbers
 
@@ -210,13 +183,6 @@ written_or_not kind token =
 abbrev StandsOrNot : Part → List ℕ → Type 0
 StandsOrNot part token = ((o : OperandValues) × Stands o part token) ⊎ ((o : OperandValues) → Stands o part token → ⊥)
 
-register_or_not : (token : List ℕ) → ((r : ℕ) × (find_register token ≡ Some r)) ⊎ (find_register token ≡ None)
-register_or_not token = by (find_register token) refl
-  where
-    by : (o : Option ℕ) → find_register token ≡ o → ((r : ℕ) × (find_register token ≡ Some r)) ⊎ (find_register token ≡ None)
-    by None is = inr is
-    by (Some r) is = inl (r, is)
-
 no_mode : (token : List ℕ) → (token ≡ mode_name true → ⊥) → (token ≡ mode_name false → ⊥) → (rvc : Bool) → token ≡ mode_name rvc → ⊥
 no_mode token rvc norvc true is = rvc is
 no_mode token rvc norvc false is = norvc is
@@ -234,18 +200,18 @@ mode_or_not token =
 pub stands_or_not : (part : Part) (token : List ℕ) → StandsOrNot part token
 stands_or_not Rd token =
     elim (register_or_not token) [
-      | inl found ↦ inl (operands found.0 0 0 (pos 0), register_found token found.0 found.1)
-      | inr none ↦ inr (λ o. register_none token None (sym none) refl o.rd)
+      | inl found ↦ inl (operands found.0 0 0 (pos 0), found.1)
+      | inr none ↦ inr (λ o. none o.rd)
     ]
 stands_or_not Rs1 token =
     elim (register_or_not token) [
-      | inl found ↦ inl (operands 0 found.0 0 (pos 0), register_found token found.0 found.1)
-      | inr none ↦ inr (λ o. register_none token None (sym none) refl o.rs1)
+      | inl found ↦ inl (operands 0 found.0 0 (pos 0), found.1)
+      | inr none ↦ inr (λ o. none o.rs1)
     ]
 stands_or_not Rs2 token =
     elim (register_or_not token) [
-      | inl found ↦ inl (operands 0 0 found.0 (pos 0), register_found token found.0 found.1)
-      | inr none ↦ inr (λ o. register_none token None (sym none) refl o.rs2)
+      | inl found ↦ inl (operands 0 0 found.0 (pos 0), found.1)
+      | inr none ↦ inr (λ o. none o.rs2)
     ]
 stands_or_not (Number kind) token =
     elim (written_or_not kind token) [

@@ -26,6 +26,7 @@ pub mod Lines
 pub mod Longest
 pub mod Printing
 pub mod RoundTrip
+pub mod Decided
 pub mod Deciding
 pub mod SomeStatement
 pub mod SomeSource

@@ -12,13 +12,10 @@ use Rattle.rv_text.specs.Forms.{form_of}
 use Rattle.rv_text.specs.Operands.{OperandValues, Stands, HasForm, mode_name}
 use Rattle.rv_text.specs.private.Reading.{Reads, SameAt, AgreesOn, FollowsName, FollowsToken}
 use Rattle.rv_text.specs.Statement.{mnemonic_of, operands_of, Means}
-use Rattle.rv_text.proofs.RegisterNames.{register_own}
+use Rattle.rv_text.proofs.RegisterNames.{register_unique}
 use Rattle.rv_text.proofs.Numbers.{number_unique}
 use Rattle.rv_text.proofs.Taking.{takes_unique}
 use Rattle.rv_text.proofs.Forms.{stands_by_operand}
-
-pub register_unique : (text : List ℕ) (r s : ℕ) → IsRegister text r → IsRegister text s → r ≡ s
-register_unique text r s h k = let e : Some r ≡ Some s = sym (register_own text r h) ∙ register_own text s k in cc
 
 mode_unique : (a b : Bool) → mode_name a ≡ mode_name b → a ≡ b
 mode_unique true true h = refl

@@ -32,7 +32,8 @@ use Rattle.rv_text.proofs.LabelReading.{other_name, no_colon, one_more, label_sh
 use Rattle.rv_text.proofs.Meaning.{means}
 use Rattle.rv_text.proofs.Right.{after_right, after_place}
 use Rattle.rv_text.proofs.Taking.{takes_unique, blank_takes_none}
-use Rattle.rv_text.proofs.Deciding.{Decided, decided_both, decided_le, decided_bit, decided_same, next, name_or_not, label_or_not, keyword_or_not}
+use Rattle.rv_text.proofs.Decided.{Decided, decided_both, decided_le, decided_bit, decided_same}
+use Rattle.rv_text.proofs.Deciding.{next, name_or_not, label_or_not, keyword_or_not}
 use Rattle.rv_text.proofs.SomeStatement.{follows_or_departs, states_or_refused}
 
 -- ---- one instruction

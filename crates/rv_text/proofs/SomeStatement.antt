@@ -34,7 +34,8 @@ use Rattle.rv_text.proofs.Forms.{stands_by_operand, reads_part, more_has_no_repe
 use Rattle.rv_text.proofs.Lines.{reads_states}
 use Rattle.rv_text.proofs.Meaning.{follows}
 use Rattle.rv_text.proofs.Taking.{takes_shorter}
-use Rattle.rv_text.proofs.Deciding.{Decided, decided_both, decided_same, next, blank_or_not, written_or_not, stands_or_not}
+use Rattle.rv_text.proofs.Decided.{Decided, decided_both, decided_same}
+use Rattle.rv_text.proofs.Deciding.{next, blank_or_not, written_or_not, stands_or_not}
 
 -- ---- the operands of a form
 

@@ -8,30 +8,23 @@ use thiserror::Error;
 
 /// Why a text means nothing. Its text is its bare name.
 #[derive(Clone, Copy, Debug, PartialEq, Eq, Error)]
+#[error("{:?}", self)]
 pub enum TextCause {
     /// No token can be formed, or a statement's first name is none that is known.
-    #[error("Word")]
     Word,
     /// Something else stands in a register's place.
-    #[error("Register")]
     Register,
     /// Something else stands in a number's place, or a number that is out of its range.
-    #[error("Number")]
     Number,
     /// A token is missing, is too many, or isn't the expected name or mark.
-    #[error("Operands")]
     Operands,
     /// The name is there already.
-    #[error("LabelTwice")]
     LabelTwice,
     /// The statement may not stand there.
-    #[error("Directive")]
     Directive,
     /// Something is longer or more than is allowed.
-    #[error("Limit")]
     Limit,
     /// Memory was refused.
-    #[error("Memory")]
     Memory,
 }
 
