@@ -4,11 +4,11 @@ ghost use Rattle.rv_text.specs.declared.cause.TextCause.TheVariants as cause;
 ghost use Rattle.rv_text.specs.Causes.{cause_number};
 
 use std::alloc::{AllocError, AllocFailed};
-use thiserror::Error;
+use std::error::Error;
+use std::fmt;
 
 /// Why a text means nothing. Its text is its bare name.
-#[derive(Clone, Copy, Debug, PartialEq, Eq, Error)]
-#[error("{:?}", self)]
+#[derive(Clone, Copy, Debug, PartialEq, Eq)]
 pub enum TextCause {
     /// No token can be formed, or a statement's first name is none that is known.
     Word,
@@ -45,6 +45,14 @@ impl TextCause {
         }
     }
 }
+
+impl fmt::Display for TextCause {
+    fn fmt<W: fmt::Write>(&self, f: &mut fmt::Formatter<W>) -> fmt::Result {
+        fmt::Debug::fmt(self, f)
+    }
+}
+
+impl Error for TextCause {}
 
 impl From<AllocError> for TextCause {
     ghost from_gives = { λ _ e. e ≡ cause.Memory };
