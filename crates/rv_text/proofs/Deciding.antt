@@ -158,12 +158,8 @@ data_size_or_not (pos n) =
     ]
 
 kind_or_not : (kind : NumberKind) (z : ℤ) → Decided (IsNumberOf kind z)
-kind_or_not Immediate z = decided_between _ _ z
-kind_or_not ShiftAmount z = decided_between _ _ z
 kind_or_not BranchOffset z = decided_both (decided_between _ _ z) (cases_eq (modulo 1 z) 0)
 kind_or_not JumpOffset z = decided_both (decided_between _ _ z) (cases_eq (modulo 1 z) 0)
-kind_or_not Upper z = decided_between _ _ z
-kind_or_not FenceFields z = decided_between _ _ z
 kind_or_not DataSize z = data_size_or_not z
 kind_or_not _ z = decided_between _ _ z
 

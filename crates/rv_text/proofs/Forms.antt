@@ -4,7 +4,7 @@ use Rattle.std.specs.Prelude.{IsTrue, ◌==◌}
 use Rattle.std.proofs.lemmas.Bool.{and_parts, or_cases, not-true}
 use Rattle.std.proofs.lemmas.Bool.Decides.{nat_tests}
 use Rattle.rv_text.specs.declared.form.Part.{Part}
-use Rattle.rv_text.specs.declared.form.Part.TheVariants.{Rd, Rs1, Rs2, Number, Name, Mode}
+use Rattle.rv_text.specs.declared.form.Part.TheVariants.{Rd, Rs1, Rs2, Number, Name, Mode, Comma, Open, Close}
 use Rattle.rv_text.specs.declared.cause.TextCause.{TextCause}
 use Rattle.rv_text.specs.declared.cause.TextCause.TheVariants as cause
 use Rattle.rv_text.specs.Registers.{IsRegister}
@@ -26,22 +26,16 @@ stands_by_operand a b _ token e h = h
 
 -- a mark has one operand
 same_at_mark : (a b : OperandValues) (part : Part) → nat_lt 5 (slot part) ≡ true → SameAt part a b
-same_at_mark a b Rd h = cc
-same_at_mark a b Rs1 h = cc
-same_at_mark a b Rs2 h = cc
-same_at_mark a b (Number kind) h = cc
-same_at_mark a b Name h = cc
-same_at_mark a b Mode h = cc
-same_at_mark a b _ h = tt
+same_at_mark a b Comma h = tt
+same_at_mark a b Open h = tt
+same_at_mark a b Close h = tt
+same_at_mark a b _ h = cc
 
 same_through : (part : Part) (a b c : OperandValues) → SameAt part a b → SameAt part b c → SameAt part a c
-same_through Rd a b c e f = e ∙ f
-same_through Rs1 a b c e f = e ∙ f
-same_through Rs2 a b c e f = e ∙ f
-same_through (Number kind) a b c e f = e ∙ f
-same_through Name a b c e f = e ∙ f
-same_through Mode a b c e f = e ∙ f
-same_through _ a b c e f = tt
+same_through Comma a b c e f = tt
+same_through Open a b c e f = tt
+same_through Close a b c e f = tt
+same_through _ a b c e f = e ∙ f
 
 -- what is read at the part first stays while the rest is read
 pub reads_part : (first all : OperandValues) (part : Part) (form : List Part) (text token rest : List ℕ) → has_no_repeat (part ∷ form) ≡ true → Takes text token rest → Stands first part token → Reads all form rest → ((p : Part) → IsTrue (is_fresh p form) → SameAt p all first) → Reads all (part ∷ form) text

@@ -24,22 +24,14 @@ use Rattle.rv_text.specs.private.Lookup.{hash, candidate, mnemonic_in}
 candidate_own : (k : Keyword) → candidate (keyword_name k) ≡ k
 unfolding candidate hash
 candidate_own (keyword.Instr (Op Add)) = refl
-candidate_own (keyword.Instr (Op _)) = refl
 candidate_own (keyword.Instr (OpImm Addi)) = refl
-candidate_own (keyword.Instr (OpImm _)) = refl
 candidate_own (keyword.Instr (Load Lb)) = refl
-candidate_own (keyword.Instr (Load _)) = refl
 candidate_own (keyword.Instr (Store Sb)) = refl
-candidate_own (keyword.Instr (Store _)) = refl
 candidate_own (keyword.Instr (Branch Beq)) = refl
-candidate_own (keyword.Instr (Branch _)) = refl
-candidate_own (keyword.Instr _) = refl
 candidate_own (keyword.Pseudo Nop) = refl
-candidate_own (keyword.Pseudo _) = refl
 candidate_own (keyword.Directive Sandbox) = refl
-candidate_own (keyword.Directive _) = refl
 candidate_own (keyword.Numbers Word) = refl
-candidate_own (keyword.Numbers _) = refl
+candidate_own _ = refl
 
 -- a name has one keyword
 pub keyword_unique : (j k : Keyword) → keyword_name j ≡ keyword_name k → j ≡ k
@@ -68,13 +60,9 @@ at_hash text h d e lt =
 pub mnemonic_of_name : (text : List ℕ) (k : Keyword) (r : Option Mnemonic) → r ≡ mnemonic_in k → keyword_name k ≡ text → IfSome r (λ m. name_of m ≡ text)
 mnemonic_of_name text k None e named = tt
 mnemonic_of_name text (keyword.Instr n) (Some m) e named = let same : m ≡ n = cc in ap name_of same ∙ named
-mnemonic_of_name text (keyword.Pseudo p) (Some m) e named = cc
-mnemonic_of_name text (keyword.Directive d) (Some m) e named = cc
-mnemonic_of_name text (keyword.Numbers w) (Some m) e named = cc
+mnemonic_of_name text _ (Some m) e named = cc
 
 pub no_mnemonic_of_name : (text : List ℕ) (k : Keyword) (r : Option Mnemonic) → r ≡ mnemonic_in k → keyword_name k ≡ text → IfNone r ((m : Mnemonic) → name_of m ≡ text → ⊥)
 no_mnemonic_of_name text k (Some m) e named = tt
-no_mnemonic_of_name text (keyword.Instr n) None e named = λ m h. cc
-no_mnemonic_of_name text (keyword.Pseudo p) None e named = λ m h. let same : keyword.Instr m ≡ keyword.Pseudo p = keyword_unique (keyword.Instr m) (keyword.Pseudo p) (h ∙ sym named) in cc
-no_mnemonic_of_name text (keyword.Directive d) None e named = λ m h. let same : keyword.Instr m ≡ keyword.Directive d = keyword_unique (keyword.Instr m) (keyword.Directive d) (h ∙ sym named) in cc
-no_mnemonic_of_name text (keyword.Numbers w) None e named = λ m h. let same : keyword.Instr m ≡ keyword.Numbers w = keyword_unique (keyword.Instr m) (keyword.Numbers w) (h ∙ sym named) in cc
+no_mnemonic_of_name text k None e named = λ m h.
+    let some : Some m ≡ mnemonic_in k = ap mnemonic_in (keyword_unique (keyword.Instr m) k (h ∙ sym named)) in cc

@@ -4,7 +4,6 @@ pub mod TextLines
 pub mod Counting
 pub mod RightSources
 pub mod RightTexts
-pub mod KeywordNames
 pub mod OneSource
 pub mod Lexing
 pub mod Taking

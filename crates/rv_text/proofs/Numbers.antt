@@ -54,11 +54,5 @@ number_unique text y z (inr (m, ds, f, k, g)) (inr (n, es, i, l, j)) =
 
 -- a number of any kind is one that 32 bits hold
 pub kind_in_reach : (kind : NumberKind) (z : ℤ) → IsNumberOf kind z → IsInReach z
-kind_in_reach Immediate z h = (omega (arith, ints), omega (arith, ints))
-kind_in_reach ShiftAmount z h = (omega (arith, ints), omega (arith, ints))
-kind_in_reach BranchOffset z h = (omega (arith, ints), omega (arith, ints))
-kind_in_reach JumpOffset z h = (omega (arith, ints), omega (arith, ints))
-kind_in_reach Upper z h = (omega (arith, ints), omega (arith, ints))
-kind_in_reach FenceFields z h = (omega (arith, ints), omega (arith, ints))
 kind_in_reach DataSize z (size, is, h) = (omega (arith, ints, h.at_most), omega (arith, ints, h.at_most))
 kind_in_reach _ z h = (omega (arith, ints), omega (arith, ints))

@@ -15,6 +15,12 @@ use Rattle.rv_word.specs.declared.instr.StoreWidth.TheVariants.{Sb}
 use Rattle.rv_word.specs.declared.instr.Cond.TheVariants.{Beq}
 use Rattle.rv_text.specs.declared.mnemonic.Mnemonic.{Mnemonic}
 use Rattle.rv_text.specs.declared.mnemonic.Mnemonic.TheVariants.{Op, OpImm, Load, Store, Branch}
+use Rattle.rv_text.specs.declared.keyword.Keyword.{Keyword}
+use Rattle.rv_text.specs.declared.keyword.Keyword.TheVariants as keyword
+use Rattle.rv_text.specs.declared.keyword.Pseudo.TheVariants.{Nop}
+use Rattle.rv_text.specs.declared.keyword.Directive.TheVariants.{Sandbox}
+use Rattle.rv_text.specs.declared.keyword.DataWidth.TheVariants.{Word}
+use Rattle.rv_text.specs.Keywords.{keyword_name}
 use Rattle.rv_text.specs.declared.form.NumberKind.{NumberKind}
 use Rattle.rv_text.specs.declared.form.NumberKind.TheVariants.{Upper}
 use Rattle.rv_text.specs.Tokens.{IsNumber, IsToken}
@@ -40,21 +46,23 @@ pub name_from : (text : List ℕ) → is_name text ≡ true → IsName text
 name_from [] h = absurd (false≢true h)
 name_from (c ∷ cs) h = let parts = and_parts _ _ h in (parts.0, all_pass continues_name cs parts.1)
 
-mnemonic_is_name : (m : Mnemonic) → is_name (name_of m) ≡ true
-mnemonic_is_name (Op Add) = refl
-mnemonic_is_name (Op _) = refl
-mnemonic_is_name (OpImm Addi) = refl
-mnemonic_is_name (OpImm _) = refl
-mnemonic_is_name (Load Lb) = refl
-mnemonic_is_name (Load _) = refl
-mnemonic_is_name (Store Sb) = refl
-mnemonic_is_name (Store _) = refl
-mnemonic_is_name (Branch Beq) = refl
-mnemonic_is_name (Branch _) = refl
-mnemonic_is_name _ = refl
+-- the first words of statements are names, by computation
+keyword_is_name : (k : Keyword) → is_name (keyword_name k) ≡ true
+keyword_is_name (keyword.Instr (Op Add)) = refl
+keyword_is_name (keyword.Instr (OpImm Addi)) = refl
+keyword_is_name (keyword.Instr (Load Lb)) = refl
+keyword_is_name (keyword.Instr (Store Sb)) = refl
+keyword_is_name (keyword.Instr (Branch Beq)) = refl
+keyword_is_name (keyword.Pseudo Nop) = refl
+keyword_is_name (keyword.Directive Sandbox) = refl
+keyword_is_name (keyword.Numbers Word) = refl
+keyword_is_name _ = refl
+
+pub keyword_named : (k : Keyword) → IsName (keyword_name k)
+keyword_named k = name_from (keyword_name k) (keyword_is_name k)
 
 pub name_is_name : (m : Mnemonic) → IsName (name_of m)
-name_is_name m = name_from (name_of m) (mnemonic_is_name m)
+name_is_name m = keyword_named (keyword.Instr m)
 
 pub name_token : (m : Mnemonic) → IsToken (name_of m)
 name_token m = inl (name_is_name m)

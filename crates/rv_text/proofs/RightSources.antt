@@ -120,22 +120,16 @@ begun_right format size h = record {
 
 -- the kinds of what a name names differ
 abbrev pub is_known : Named → Bool
-is_known (Gate k) = true
-is_known (Code k) = true
-is_known (Data o) = true
 is_known Unknown = false
+is_known _ = true
 
 abbrev is_code : Named → Bool
-is_code (Gate k) = false
 is_code (Code k) = true
-is_code (Data o) = false
-is_code Unknown = false
+is_code _ = false
 
 abbrev code_place : Named → ℕ
-code_place (Gate k) = 0
 code_place (Code k) = k
-code_place (Data o) = 0
-code_place Unknown = 0
+code_place _ = 0
 
 pub known : (what : Named) → is_known what ≡ true → what ≢ Unknown
 known what h e = true≢false (sym h ∙ ap is_known e)

@@ -94,12 +94,7 @@ module _ (met_law : MetNamesStay) (new_law : NewNamesNameNothing) where
   -- a statement leaves the sandbox's format
   stays_of : (line : ℕ) (s : StatedWithin) (b : Begun) (said : Option Format) → IsOf said b.sandbox → IsOf said (with_stated line s b).sandbox
   stays_of line (gate name service) b said h = h
-  stays_of line (compressed rvc) b said h = h
-  stays_of line data_part b said h = h
-  stays_of line (bytes values) b said h = h
-  stays_of line (plain instrs) b said h = h
-  stays_of line (jump i name) b said h = h
-  stays_of line (address rd name) b said h = h
+  stays_of line _ b said h = h
 
   goes_on : (line : ℕ) (s : StatedWithin) (old new : SoFar) → IsRightWithin s
       → ((b : Begun) (name : List ℕ) (service : ℕ) → old.begun ≡ Some b → s ≡ gate name service → IsFree name b)
@@ -147,20 +142,9 @@ module _ (met_law : MetNamesStay) (new_law : NewNamesNameNothing) where
       goes_on line what old new right (λ b name service is e. free b name service is (ap within e)) does so_far
 
   -- a keyword that stands where gates do is that of a gate
-  abbrev place_number : Place → ℕ
-  place_number place.Outside = 0
-  place_number place.Gates = 1
-  place_number place.Code = 2
-  place_number place.Data = 3
-  place_number place.Head = 4
-
-  gate_keyword : (k : Keyword) → place_number (place_of_keyword k) ≡ 1 → k ≡ keyword.Directive directive.Gate
-  gate_keyword (keyword.Instr name) h = absurd (omega (arith, h))
-  gate_keyword (keyword.Pseudo name) h = absurd (omega (arith, h))
-  gate_keyword (keyword.Directive directive.Format) h = absurd (omega (arith, h))
-  gate_keyword (keyword.Directive directive.Sandbox) h = absurd (omega (arith, h))
+  gate_keyword : (k : Keyword) → place_of_keyword k ≡ place.Gates → k ≡ keyword.Directive directive.Gate
   gate_keyword (keyword.Directive directive.Gate) h = refl
-  gate_keyword _ h = absurd (omega (arith, h))
+  gate_keyword _ h = cc
 
   abbrev gate_name_of : Stated → List ℕ
   gate_name_of (within (gate name service)) = name
@@ -189,7 +173,7 @@ module _ (met_law : MetNamesStay) (new_law : NewNamesNameNothing) where
       free : (b : Begun) (name : List ℕ) (service : ℕ) → old.begun ≡ Some b → s ≡ within (gate name service) → IsFree name b
       free b name service is gate_is =
           let at : place_of_keyword k ≡ place.Gates = after_place k tokens s after_k ∙ ap place_of_stated gate_is in
-          let key = gate_keyword k (ap place_number at) in
+          let key = gate_keyword k at in
           let states : StatesAfter (keyword.Directive directive.Gate) text (within (gate name service)) =
           subst (λ t. StatesAfter (keyword.Directive directive.Gate) text t) gate_is (subst (λ q. StatesAfter q text s) key (tokens, are, after_k)) in
           let begins = gate_begins text name service states in

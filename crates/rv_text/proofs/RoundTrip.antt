@@ -1,5 +1,5 @@
 -- A printed instruction reads back, part by part.
-use Rattle.std.proofs.Common.{◌≡◌, ℕ, Bool, true, false, ◌&&◌, ◌||◌, List, [], ◌∷◌, ◌++◌, inl, inr, refl, sym, subst}
+use Rattle.std.proofs.Common.{◌≡◌, ℕ, Bool, true, false, nat_lt, ◌&&◌, ◌||◌, List, [], ◌∷◌, ◌++◌, inl, inr, refl, sym, subst}
 use Rattle.std.specs.Prelude.{codes}
 use Rattle.std.specs.List.{flat_map}
 use Rattle.std.proofs.lemmas.Bool.{and_parts}
@@ -14,7 +14,7 @@ use Rattle.rv_text.specs.Tokens.{IsBlank, IsToken, Takes}
 use Rattle.rv_text.specs.Mnemonics.{name_of}
 use Rattle.rv_text.specs.Forms.{form_of}
 use Rattle.rv_text.specs.Operands.{OperandValues, Stands, mode_name}
-use Rattle.rv_text.specs.private.Reading.{Reads, AllSuit}
+use Rattle.rv_text.specs.private.Reading.{Reads, AllSuit, slot}
 use Rattle.rv_text.specs.Statement.{mnemonic_of, operands_of, Means}
 use Rattle.rv_text.specs.Printed.{part_text, operands_text, printed}
 use Rattle.rv_text.specs.Laws.{PrintedReadsBack}
@@ -24,13 +24,7 @@ use Rattle.rv_text.proofs.Longest.{Ends, takes_word, takes_mark}
 use Rattle.rv_text.proofs.Printing.{name_token, register_token, printed_number}
 
 abbrev is_mark_part : Part → Bool
-is_mark_part Rd = false
-is_mark_part Rs1 = false
-is_mark_part Rs2 = false
-is_mark_part (Number kind) = false
-is_mark_part Name = false
-is_mark_part Mode = false
-is_mark_part _ = true
+is_mark_part part = nat_lt 5 (slot part)
 
 -- the form begins with a mark, if with anything
 abbrev may_follow : List Part → Bool
@@ -44,10 +38,6 @@ is_spaced (part ∷ form) = (is_mark_part part || may_follow form) && is_spaced 
 
 form_is_spaced : (m : Mnemonic) → is_spaced (form_of m) ≡ true
 form_is_spaced (mnemonic.Op op) = refl
-form_is_spaced (mnemonic.OpImm op) = refl
-form_is_spaced (mnemonic.Load kind) = refl
-form_is_spaced (mnemonic.Store width) = refl
-form_is_spaced (mnemonic.Branch cond) = refl
 form_is_spaced _ = refl
 
 operands_end : (o : OperandValues) (form : List Part) → may_follow form ≡ true → Ends (flat_map (part_text o) form)

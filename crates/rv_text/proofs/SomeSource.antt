@@ -88,10 +88,8 @@ may_or_not place.Code s = begun_and s.begun (λ b. b.in_data) _
 may_or_not place.Data s = begun_and s.begun (λ b. b.in_data) _
 
 unknown_or_not : (what : Named) → Decided (what ≡ Unknown)
-unknown_or_not (Gate k) = inr (λ e. cc)
-unknown_or_not (Code k) = inr (λ e. cc)
-unknown_or_not (Data offset) = inr (λ e. cc)
 unknown_or_not Unknown = inl refl
+unknown_or_not _ = inr (λ e. cc)
 
 free_or_not : (name : List ℕ) (b : Begun) → Decided (IsFree name b)
 free_or_not name b = unknown_or_not (meaning b.sandbox.names name)
@@ -192,13 +190,9 @@ twice_or_not : (k : Keyword) (s : SoFar) (text : List ℕ) → Decided (IsGateTw
 twice_or_not k s text = decided_both (gate_or_not k) (begun_or_not s text)
 
 fits_or_not : (what : StatedWithin) (b : Begun) → Decided (Fits what b)
-fits_or_not (gate name service) b = decided_le _ _
 fits_or_not (compressed rvc) b = inl tt
 fits_or_not data_part b = inl tt
-fits_or_not (bytes values) b = decided_le _ _
-fits_or_not (plain instrs) b = decided_le _ _
-fits_or_not (jump instr name) b = decided_le _ _
-fits_or_not (address rd name) b = decided_le _ _
+fits_or_not _ b = decided_le _ _
 
 -- within a sandbox there is one begun last
 begun_of : (o : Option Begun) (P : Begun → Type 0) → IsSomeAnd o P → (b : Begun) × (o ≡ Some b)
@@ -207,12 +201,7 @@ begun_of (Some b) P h = (b, refl)
 
 begun_within : (what : StatedWithin) (s : SoFar) → MayCome (place_within what) s → (b : Begun) × (s.begun ≡ Some b)
 begun_within (gate name service) s may = begun_of s.begun _ may
-begun_within (compressed rvc) s may = begun_of s.begun _ may
-begun_within data_part s may = begun_of s.begun _ may
-begun_within (bytes values) s may = begun_of s.begun _ may
-begun_within (plain instrs) s may = begun_of s.begun _ may
-begun_within (jump instr name) s may = begun_of s.begun _ may
-begun_within (address rd name) s may = begun_of s.begun _ may
+begun_within _ s may = begun_of s.begun _ may
 
 does_or_full : (line : ℕ) (st : Stated) (s : SoFar) → IsRightStatement st → MayCome (place_of_stated st) s → ((new : SoFar) × Does line st s new) ⊎ HasNoRoom st s
 does_or_full line (format number) s right may =

@@ -50,39 +50,28 @@ put Mode first o = record o { compressed = first.compressed }
 put _ first o = o
 
 put_same : (part : Part) (first o : OperandValues) → SameAt part (put part first o) first
-put_same Rd first o = refl
-put_same Rs1 first o = refl
-put_same Rs2 first o = refl
-put_same (Number kind) first o = refl
-put_same Name first o = refl
-put_same Mode first o = refl
-put_same _ first o = tt
+put_same Comma first o = tt
+put_same Open first o = tt
+put_same Close first o = tt
+put_same _ first o = refl
 
 put_others : (part p : Part) (first o : OperandValues) → slot p ≢ slot part → SameAt p (put part first o) o
 put_others part Comma first o h = tt
 put_others part Open first o h = tt
 put_others part Close first o h = tt
 put_others Rd Rd first o h = absurd (h refl)
-put_others part Rd first o h = refl
 put_others Rs1 Rs1 first o h = absurd (h refl)
-put_others part Rs1 first o h = refl
 put_others Rs2 Rs2 first o h = absurd (h refl)
-put_others part Rs2 first o h = refl
 put_others (Number kind) (Number other) first o h = absurd (h refl)
-put_others part (Number other) first o h = refl
 put_others Name Name first o h = absurd (h refl)
-put_others part Name first o h = refl
 put_others Mode Mode first o h = absurd (h refl)
-put_others part Mode first o h = refl
+put_others _ _ first o h = refl
 
 same_self : (part : Part) (o : OperandValues) → SameAt part o o
-same_self Rd o = refl
-same_self Rs1 o = refl
-same_self Rs2 o = refl
-same_self (Number kind) o = refl
-same_self Name o = refl
-same_self Mode o = refl
-same_self _ o = tt
+same_self Comma o = tt
+same_self Open o = tt
+same_self Close o = tt
+same_self _ o = refl
 
 -- the operands that the text gives at the form, which keep the old ones elsewhere
 record Filled (old : OperandValues) (form : List Part) (text : List ℕ) : Type 0 where
