@@ -1,5 +1,5 @@
 -- The text after a keyword states something, or is refused.
-use Rattle.std.proofs.Common.{◌≡◌, ◌≢◌, ℕ, zero, suc, ◌≤◌, true, List, [], ◌∷◌, length, ◌⊎◌, inl, inr, refl, sym, arith, ℤ, pos, negsuc}
+use Rattle.std.proofs.Common.{◌≡◌, ◌≢◌, ℕ, zero, suc, ◌≤◌, true, List, [], ◌∷◌, length, ◌⊎◌, inl, inr, refl, sym, arith, rules, ℤ, pos, negsuc}
 use Rattle.std.specs.Prelude.{IsTrue, codes}
 use Rattle.std.specs.List.{flat_map}
 use Rattle.std.proofs.lemmas.Int.{ints}
@@ -33,6 +33,7 @@ use Rattle.rv_text.specs.Stated.{Stated, within, plain, bytes}
 use Rattle.rv_text.proofs.Forms.{stands_by_operand, reads_part, more_has_no_repeat, keeps_part, reads_fit}
 use Rattle.rv_text.proofs.Lines.{reads_states}
 use Rattle.rv_text.proofs.Meaning.{follows}
+use Rattle.rv_text.proofs.OneMeaning.{natural, made}
 use Rattle.rv_text.proofs.Taking.{takes_shorter}
 use Rattle.rv_text.proofs.Decided.{Decided, decided_both, decided_same}
 use Rattle.rv_text.proofs.Deciding.{next, blank_or_not, written_or_not, stands_or_not}
@@ -123,28 +124,19 @@ row_or_depart form states text fresh =
 -- ---- an instruction
 
 -- the instruction of a name with operands that fit its form
-record Made (name : Mnemonic) (o : OperandValues) : Type 0 where
-  instr : Instr
-  named : mnemonic_of instr ≡ name
-  agrees : AgreesOn (form_of name) (operands_of instr) o
+natural_is : (most z : ℤ) → IsBetween (pos 0) most z → pos (natural z) ≡ z
+natural_is most (pos n) h = refl
+natural_is most (negsuc n) h = let low = h.0 in absurd (omega (arith, ints))
 
-natural_made : (most z : ℤ) → IsBetween (pos 0) most z → (n : ℕ) × (pos n ≡ z)
-natural_made most (pos n) h = (n, refl)
-natural_made most (negsuc n) h = let low = h.0 in absurd (omega (arith, ints))
+made_named : (name : Mnemonic) (o : OperandValues) → mnemonic_of (made name o) ≡ name
+made_named (mnemonic.Op op) o = refl
+made_named _ o = refl
 
-made : (name : Mnemonic) (o : OperandValues) → AllSuit o (form_of name) → Made name o
-made (mnemonic.Op op) o h = record { instr = instr.Op op o.rd o.rs1 o.rs2; named = refl; agrees = (refl, (tt, (refl, (tt, (refl, tt))))) }
-made (mnemonic.OpImm op) o h = record { instr = instr.OpImm op o.rd o.rs1 o.number; named = refl; agrees = (refl, (tt, (refl, (tt, (refl, tt))))) }
-made (mnemonic.Load kind) o h = record { instr = instr.Load kind o.rd o.rs1 o.number; named = refl; agrees = (refl, (tt, (refl, (tt, (refl, (tt, tt)))))) }
-made (mnemonic.Store width) o h = record { instr = instr.Store width o.rs1 o.rs2 o.number; named = refl; agrees = (refl, (tt, (refl, (tt, (refl, (tt, tt)))))) }
-made (mnemonic.Branch cond) o h = record { instr = instr.Branch cond o.rs1 o.rs2 o.number; named = refl; agrees = (refl, (tt, (refl, (tt, (refl, tt))))) }
-made mnemonic.Jal o h = record { instr = instr.Jal o.rd o.number; named = refl; agrees = (refl, (tt, (refl, tt))) }
-made mnemonic.Jalr o h = record { instr = instr.Jalr o.rd o.rs1 o.number; named = refl; agrees = (refl, (tt, (refl, (tt, (refl, (tt, tt)))))) }
-made mnemonic.Lui o h = let u = natural_made _ o.number h.1.1.0 in record { instr = instr.Lui o.rd u.0; named = refl; agrees = (refl, (tt, (u.1, tt))) }
-made mnemonic.Auipc o h = let u = natural_made _ o.number h.1.1.0 in record { instr = instr.Auipc o.rd u.0; named = refl; agrees = (refl, (tt, (u.1, tt))) }
-made mnemonic.Fence o h = let u = natural_made _ o.number h.0 in record { instr = instr.Fence u.0 o.rd o.rs1; named = refl; agrees = (u.1, (tt, (refl, (tt, (refl, tt))))) }
-made mnemonic.Ecall o h = record { instr = instr.Ecall; named = refl; agrees = tt }
-made mnemonic.Ebreak o h = record { instr = instr.Ebreak; named = refl; agrees = tt }
+made_fits : (name : Mnemonic) (o : OperandValues) → AllSuit o (form_of name) → AgreesOn (form_of name) (operands_of (made name o)) o
+made_fits mnemonic.Lui o h = (refl, (tt, (natural_is _ o.number h.1.1.0, tt)))
+made_fits mnemonic.Auipc o h = (refl, (tt, (natural_is _ o.number h.1.1.0, tt)))
+made_fits mnemonic.Fence o h = (natural_is _ o.number h.0, (tt, (refl, (tt, (refl, tt)))))
+made_fits _ o h = search rules
 
 no_repeat : (name : Mnemonic) → has_no_repeat (form_of name) ≡ true
 no_repeat (mnemonic.Op op) = refl
@@ -164,7 +156,7 @@ follows_or_departs name text =
       | inl bare ↦ inl (full_fence, (sym bare.0, inr (refl, bare.1)))
       | inr other ↦ elim (read_or_depart (form_of name) text (no_repeat name)) [
         | inr (e, departs) ↦ inr (e, (other, departs))
-        | inl (o, reads) ↦ let m = made name o (reads_fit o (form_of name) text reads) in inl (m.instr, follows text name o m.instr reads m.named m.agrees)
+        | inl (o, reads) ↦ inl (made name o, follows text name o (made name o) reads (made_named name o) (made_fits name o (reads_fit o (form_of name) text reads)))
       ]
     ]
 
