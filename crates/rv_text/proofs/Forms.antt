@@ -1,5 +1,5 @@
 -- How operands are read, part by part.
-use Rattle.std.proofs.Common.{◌≡◌, ℕ, true, false, List, [], ◌∷◌, length, inl, inr, ◌≤◌, refl, sym, ap, ◌∙◌, subst, arith, ℤ, nat_lt, Result, Ok, Err, OnOk, IfErr}
+use Rattle.std.proofs.Common.{◌≡◌, ℕ, true, false, List, [], ◌∷◌, length, inl, inr, ◌≤◌, refl, sym, ap, ◌∙◌, subst, arith, rules, ℤ, nat_lt, Result, Ok, Err, OnOk, IfErr}
 use Rattle.std.specs.Prelude.{IsTrue, ◌==◌}
 use Rattle.std.proofs.lemmas.Bool.{and_parts, or_cases, not-true}
 use Rattle.std.proofs.lemmas.Bool.Decides.{nat_tests}
@@ -16,13 +16,10 @@ use Rattle.rv_text.specs.private.Reading.{Reads, SameAt, Suits, AllSuit, slot, i
 
 -- a token stands at a part by the operand there
 pub stands_by_operand : (a b : OperandValues) (part : Part) (token : List ℕ) → SameAt part a b → Stands b part token → Stands a part token
-stands_by_operand a b Rd token e h = subst (IsRegister token) (sym e) h
-stands_by_operand a b Rs1 token e h = subst (IsRegister token) (sym e) h
-stands_by_operand a b Rs2 token e h = subst (IsRegister token) (sym e) h
-stands_by_operand a b (Number kind) token e h = subst (λ (z : ℤ). IsNumber token z × IsNumberOf kind z) (sym e) h
-stands_by_operand a b Name token e h = (h.0, h.1, h.2 ∙ sym e)
-stands_by_operand a b Mode token e h = h ∙ ap mode_name (sym e)
-stands_by_operand a b _ token e h = h
+stands_by_operand a b Comma token e h = h
+stands_by_operand a b Open token e h = h
+stands_by_operand a b Close token e h = h
+stands_by_operand a b _ token e h = rw e h
 
 -- a mark has one operand
 same_at_mark : (a b : OperandValues) (part : Part) → nat_lt 5 (slot part) ≡ true → SameAt part a b
@@ -95,12 +92,8 @@ module _ (whole : List Part) (part : Part) (form : List Part) (same : whole ≡ 
 
 -- what is read fits its form
 pub stands_suits : (o : OperandValues) (part : Part) (token : List ℕ) → Stands o part token → Suits o part
-stands_suits o Rd token h = h.0
-stands_suits o Rs1 token h = h.0
-stands_suits o Rs2 token h = h.0
-stands_suits o (Number kind) token h = h.1
 stands_suits o Name token h = (subst IsLabel h.2 h.0, subst (λ (t : List ℕ). length t ≤ 64) h.2 h.1)
-stands_suits o _ token h = tt
+stands_suits o _ token h = search rules
 
 pub reads_fit : (o : OperandValues) (form : List Part) (text : List ℕ) → Reads o form text → AllSuit o form
 reads_fit o [] text h = tt

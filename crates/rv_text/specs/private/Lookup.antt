@@ -36,6 +36,4 @@ candidate text = slice_index_or ALL.now (slice_index PLACES.now (hash 57 103 tex
 -- the mnemonic that a keyword is
 abbrev pub mnemonic_in : Keyword → Option Mnemonic
 mnemonic_in (keyword.Instr m) = Some m
-mnemonic_in (keyword.Pseudo p) = None
-mnemonic_in (keyword.Directive d) = None
-mnemonic_in (keyword.Numbers w) = None
+mnemonic_in _ = None
