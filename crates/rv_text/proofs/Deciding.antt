@@ -16,7 +16,7 @@ use Rattle.rv_text.specs.declared.form.NumberKind.TheVariants.{Immediate, ShiftA
 use Rattle.rv_text.specs.declared.form.Part.{Part}
 use Rattle.rv_text.specs.declared.form.Part.TheVariants.{Rd, Rs1, Rs2, Number, Name, Mode, Comma, Open, Close}
 use Rattle.rv_text.specs.declared.keyword.Keyword.{Keyword}
-use Rattle.rv_text.specs.Tokens.{is_space, IsBlank, IsMagnitude, IsNumber, Takes, IsStuck}
+use Rattle.rv_text.specs.Tokens.{IsBlank, is_mark, IsMark, IsNumber, IsToken, Takes, IsStuck}
 use Rattle.rv_source.specs.Names.{begins_name, continues_name, IsName, begins_label, IsLabel}
 use Rattle.rv_text.specs.Forms.{IsNumberOf}
 use Rattle.rv_text.specs.Keywords.{keyword_name}
@@ -27,6 +27,7 @@ use Rattle.rv_text.specs.Statement.{operands}
 use Rattle.rv_text.proofs.Keywords.{none_of_other}
 use Rattle.rv_text.proofs.Decided.{Decided, decided_both, decided_le, decided_bit, decided_same}
 use Rattle.rv_text.proofs.RegisterNames.{register_or_not}
+use Rattle.rv_text.proofs.Lexing.{digit_first, digit_begins_no_name, mark_begins_no_name}
 use Rattle.rv_text.proofs.Numbers.{number_unique}
 use Rattle.rv_text.proofs.Powers.{power_test}
 use Rattle.rv_text.proofs.Taking.{takes_found, body_blank, stuck}
@@ -55,19 +56,28 @@ next text =
 
 -- ---- names
 
-passes_or_not : (p : ℕ → Bool) (text : List ℕ) → Decided (AllByRecursion (λ c. IsTrue (p c)) text)
-passes_or_not p [] = inl tt
-passes_or_not p (c ∷ cs) = decided_both (decided_bit (p c) true) (passes_or_not p cs)
+number_no_name : (text : List ℕ) (z : ℤ) → IsNumber text z → IsName text → ⊥
+number_no_name [] z h name = name
+number_no_name (c ∷ cs) z (inl (n, h, e)) name = false≢true (sym (digit_begins_no_name c (digit_first c cs n h)).0 ∙ name.0)
+number_no_name (c ∷ cs) z (inr (n, ds, e, h, v)) name = let first : c ≡ 45 = cc in false≢true (subst (λ x. begins_name x ≡ true) first name.0)
 
-pub blank_or_not : (text : List ℕ) → Decided (IsBlank text)
-blank_or_not text = passes_or_not is_space text
+mark_no_name : (text : List ℕ) → IsMark text → IsName text → ⊥
+mark_no_name [] m name = name
+mark_no_name (c ∷ cs) (d, mark, e) name = let same : c ≡ d = cc in false≢true (sym (mark_begins_no_name d mark) ∙ subst (λ x. begins_name x ≡ true) same name.0)
 
-pub name_or_not : (text : List ℕ) → Decided (IsName text)
-name_or_not [] = inr (λ h. h)
-name_or_not (c ∷ cs) = decided_both (decided_bit (begins_name c) true) (passes_or_not continues_name cs)
+mark_no_number : (text : List ℕ) (z : ℤ) → IsMark text → IsNumber text z → ⊥
+mark_no_number [] z (d, mark, e) h = cc
+mark_no_number (c ∷ cs) z (d, mark, e) (inl (n, h, v)) =
+    let same : d ≡ c = cc in false≢true (sym (digit_begins_no_name c (digit_first c cs n h)).1 ∙ subst (λ x. is_mark x ≡ true) same mark)
+mark_no_number (c ∷ cs) z (d, mark, e) (inr (n, ds, f, h, v)) = let first : d ≡ 45 = cc in false≢true (subst (λ x. is_mark x ≡ true) first mark)
 
-pub label_or_not : (text : List ℕ) → Decided (IsLabel text)
-label_or_not text = decided_both (name_or_not text) (decided_bit (begins_label text) true)
+pub name_or_not : (token : List ℕ) → IsToken token → Decided (IsName token)
+name_or_not token (inl name) = inl name
+name_or_not token (inr (inl (z, number))) = inr (number_no_name token z number)
+name_or_not token (inr (inr mark)) = inr (mark_no_name token mark)
+
+pub label_or_not : (token : List ℕ) → IsToken token → Decided (IsLabel token)
+label_or_not token is_token = decided_both (name_or_not token is_token) (decided_bit (begins_label token) true)
 
 pub keyword_or_not : (text : List ℕ) → ((k : Keyword) × (keyword_name k ≡ text)) ⊎ ((k : Keyword) → keyword_name k ≡ text → ⊥)
 keyword_or_not text =
@@ -78,68 +88,10 @@ keyword_or_not text =
 
 -- ---- numbers
 
-digits_or_not : (radix : ℕ) (text : List ℕ) → Decided (AllDigits radix text)
-digits_or_not radix [] = inl tt
-digits_or_not radix (c ∷ cs) =
-    decided_both
-    (elim (cases_lt (digit_value c) radix) as (λ _. Decided (digit_value c < radix)) [ inl less ↦ inl less | inr more ↦ inr (λ h. omega arith) ])
-    (digits_or_not radix cs)
-
-numeral_or_not : (radix : ℕ) (text : List ℕ) → Decided (IsNumeral radix text)
-numeral_or_not radix [] = inr (λ h. let some = h.0 in omega arith)
-numeral_or_not radix (c ∷ cs) = decided_both (inl (omega arith)) (digits_or_not radix (c ∷ cs))
-
-abbrev MagnitudeOrNot : List ℕ → Type 0
-MagnitudeOrNot text = ((n : ℕ) × IsMagnitude text n) ⊎ ((n : ℕ) → IsMagnitude text n → ⊥)
-
-magnitude_none : (text : List ℕ) → (IsNumeral 10 text → ⊥) → ((digits : List ℕ) → text ≡ codes "0x" ++ digits → IsNumeral 16 digits → ⊥) → (n : ℕ) → IsMagnitude text n → ⊥
-magnitude_none text decimal hex n (inl h) = decimal h.0
-magnitude_none text decimal hex n (inr (digits, e, h, v)) = hex digits e h
-
-hex_or_not : (text : List ℕ) → (IsNumeral 10 text → ⊥) → MagnitudeOrNot text
-hex_or_not text decimal =
-    elim (decided_same (take 2 text) (codes "0x")) [
-      | inr other ↦ inr (magnitude_none text decimal (λ digits e h. other (ap (λ t. take 2 t) e)))
-      | inl front ↦
-          let whole : text ≡ codes "0x" ++ drop 2 text = sym (take-append-drop 2 text) ∙ ap (λ t. t ++ drop 2 text) front in
-          elim (numeral_or_not 16 (drop 2 text)) [
-            | inl h ↦ inl (digits_value 16 (drop 2 text), inr (drop 2 text, whole, h, refl))
-            | inr none ↦ inr (magnitude_none text decimal (λ digits e h. none (subst (IsNumeral 16) (sym (ap (λ t. drop 2 t) e)) h)))
-          ]
-    ]
-
-magnitude_or_not : (text : List ℕ) → MagnitudeOrNot text
-magnitude_or_not text =
-    elim (numeral_or_not 10 text) [
-      | inl h ↦ inl (digits_value 10 text, inl (h, refl))
-      | inr decimal ↦ hex_or_not text decimal
-    ]
-
-abbrev pub NumberOrNot : List ℕ → Type 0
-NumberOrNot text = ((z : ℤ) × IsNumber text z) ⊎ ((z : ℤ) → IsNumber text z → ⊥)
-
-number_none : (text : List ℕ) → ((n : ℕ) → IsMagnitude text n → ⊥) → ((n : ℕ) (digits : List ℕ) → text ≡ codes "-" ++ digits → IsMagnitude digits n → ⊥) → (z : ℤ) → IsNumber text z → ⊥
-number_none text plain signed z (inl (n, h, v)) = plain n h
-number_none text plain signed z (inr (n, digits, e, h, v)) = signed n digits e h
-
-signed_or_not : (text : List ℕ) → ((n : ℕ) → IsMagnitude text n → ⊥) → NumberOrNot text
-signed_or_not text plain =
-    elim (decided_same (take 1 text) (codes "-")) [
-      | inr other ↦ inr (number_none text plain (λ n digits e h. other (ap (λ t. take 1 t) e)))
-      | inl front ↦
-          let whole : text ≡ codes "-" ++ drop 1 text = sym (take-append-drop 1 text) ∙ ap (λ t. t ++ drop 1 text) front in
-          elim (magnitude_or_not (drop 1 text)) [
-            | inl h ↦ inl (neg_ℤ (pos h.0), inr (h.0, drop 1 text, whole, h.1, refl))
-            | inr none ↦ inr (number_none text plain (λ n digits e h. none n (subst (λ t. IsMagnitude t n) (sym (ap (λ t. drop 1 t) e)) h)))
-          ]
-    ]
-
-number_or_not : (text : List ℕ) → NumberOrNot text
-number_or_not text =
-    elim (magnitude_or_not text) [
-      | inl h ↦ inl (pos h.0, inl (h.0, h.1, refl))
-      | inr plain ↦ signed_or_not text plain
-    ]
+number_or_not : (token : List ℕ) → IsToken token → ((z : ℤ) × IsNumber token z) ⊎ ((z : ℤ) → IsNumber token z → ⊥)
+number_or_not token (inl name) = inr (λ z h. number_no_name token z h name)
+number_or_not token (inr (inl number)) = inl number
+number_or_not token (inr (inr mark)) = inr (λ z h. mark_no_number token z mark h)
 
 size_or_not : (n : ℕ) → Decided (IsDataSize n)
 size_or_not n =
@@ -164,9 +116,9 @@ kind_or_not DataSize z = data_size_or_not z
 kind_or_not _ z = decided_between _ _ z
 
 -- the token writes a number of this kind
-pub written_or_not : (kind : NumberKind) (token : List ℕ) → ((z : ℤ) × (IsNumber token z × IsNumberOf kind z)) ⊎ ((z : ℤ) → IsNumber token z → IsNumberOf kind z → ⊥)
-written_or_not kind token =
-    elim (number_or_not token) [
+pub written_or_not : (kind : NumberKind) (token : List ℕ) → IsToken token → ((z : ℤ) × (IsNumber token z × IsNumberOf kind z)) ⊎ ((z : ℤ) → IsNumber token z → IsNumberOf kind z → ⊥)
+written_or_not kind token is_token =
+    elim (number_or_not token is_token) [
       | inr none ↦ inr (λ z h k. none z h)
       | inl found ↦ elim (kind_or_not kind found.0) [
         | inl of ↦ inl (found.0, (found.1, of))
@@ -193,33 +145,33 @@ mode_or_not token =
       ]
     ]
 
-pub stands_or_not : (part : Part) (token : List ℕ) → StandsOrNot part token
-stands_or_not Rd token =
+pub stands_or_not : (part : Part) (token : List ℕ) → IsToken token → StandsOrNot part token
+stands_or_not Rd token is_token =
     elim (register_or_not token) [
       | inl found ↦ inl (operands found.0 0 0 (pos 0), found.1)
       | inr none ↦ inr (λ o. none o.rd)
     ]
-stands_or_not Rs1 token =
+stands_or_not Rs1 token is_token =
     elim (register_or_not token) [
       | inl found ↦ inl (operands 0 found.0 0 (pos 0), found.1)
       | inr none ↦ inr (λ o. none o.rs1)
     ]
-stands_or_not Rs2 token =
+stands_or_not Rs2 token is_token =
     elim (register_or_not token) [
       | inl found ↦ inl (operands 0 0 found.0 (pos 0), found.1)
       | inr none ↦ inr (λ o. none o.rs2)
     ]
-stands_or_not (Number kind) token =
-    elim (written_or_not kind token) [
+stands_or_not (Number kind) token is_token =
+    elim (written_or_not kind token is_token) [
       | inl found ↦ inl (operands 0 0 0 found.0, found.1)
       | inr none ↦ inr (λ o h. none o.number h.0 h.1)
     ]
-stands_or_not Name token =
-    elim (decided_both (label_or_not token) (decided_le (length token) 64)) [
+stands_or_not Name token is_token =
+    elim (decided_both (label_or_not token is_token) (decided_le (length token) 64)) [
       | inl is ↦ inl (record (operands 0 0 0 (pos 0)) { name = token }, (is.0, is.1, refl))
       | inr not ↦ inr (λ o h. not (h.0, h.1))
     ]
-stands_or_not Mode token = mode_or_not token
-stands_or_not Comma token = elim (decided_same token (codes ",")) [ inl is ↦ inl (operands 0 0 0 (pos 0), is) | inr not ↦ inr (λ o h. not h) ]
-stands_or_not Open token = elim (decided_same token (codes "(")) [ inl is ↦ inl (operands 0 0 0 (pos 0), is) | inr not ↦ inr (λ o h. not h) ]
-stands_or_not Close token = elim (decided_same token (codes ")")) [ inl is ↦ inl (operands 0 0 0 (pos 0), is) | inr not ↦ inr (λ o h. not h) ]
+stands_or_not Mode token is_token = mode_or_not token
+stands_or_not Comma token is_token = elim (decided_same token (codes ",")) [ inl is ↦ inl (operands 0 0 0 (pos 0), is) | inr not ↦ inr (λ o h. not h) ]
+stands_or_not Open token is_token = elim (decided_same token (codes "(")) [ inl is ↦ inl (operands 0 0 0 (pos 0), is) | inr not ↦ inr (λ o h. not h) ]
+stands_or_not Close token is_token = elim (decided_same token (codes ")")) [ inl is ↦ inl (operands 0 0 0 (pos 0), is) | inr not ↦ inr (λ o h. not h) ]

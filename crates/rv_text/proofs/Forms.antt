@@ -3,6 +3,7 @@ use Rattle.std.proofs.Common.{◌≡◌, ℕ, true, false, List, [], ◌∷◌, 
 use Rattle.std.specs.Prelude.{IsTrue, ◌==◌}
 use Rattle.std.proofs.lemmas.Bool.{and_parts, or_cases, not-true}
 use Rattle.std.proofs.lemmas.Bool.Decides.{nat_tests}
+use Rattle.std.proofs.lemmas.Result.{on_ok_weaker}
 use Rattle.rv_text.specs.declared.form.Part.{Part}
 use Rattle.rv_text.specs.declared.form.Part.TheVariants.{Rd, Rs1, Rs2, Number, Name, Mode, Comma, Open, Close}
 use Rattle.rv_text.specs.declared.cause.TextCause.{TextCause}
@@ -65,10 +66,7 @@ module _ {A : Type 0} (r : Result A TextCause) (whole : List Part) (part : Part)
   pub keeps_result : (old : OperandValues) → KeepsOthers part old first
       → OnOk r ((p : Part) → IsTrue (is_fresh p form) → SameAt p all first) → OnOk r ((p : Part) → IsTrue (is_fresh p whole) → SameAt p all old)
   keeps_result old others keeps =
-      elim r as (λ o. OnOk o ((p : Part) → IsTrue (is_fresh p form) → SameAt p all first) → OnOk o ((p : Part) → IsTrue (is_fresh p whole) → SameAt p all old)) [
-        | Ok u ↦ λ k. subst (λ f. (p : Part) → IsTrue (is_fresh p f) → SameAt p all old) (sym same) (keeps_part old first all part form others k)
-        | Err e ↦ λ k. tt
-      ] keeps
+      on_ok_weaker r (λ k. subst (λ f. (p : Part) → IsTrue (is_fresh p f) → SameAt p all old) (sym same) (keeps_part old first all part form others k)) keeps
 
 -- the causes for which a text departs from a form
 pub departs_stuck : (form : List Part) (text : List ℕ) → IsStuck text → Departs form text cause.Word

@@ -151,7 +151,7 @@ token_at_sign : (cs : List ℕ) → token_len (45 ∷ cs) ≡ after_sign (magnit
 unfolding token_len
 token_at_sign cs = refl
 
-digit_first : (c : ℕ) (cs : List ℕ) (n : ℕ) → IsMagnitude (c ∷ cs) n → is_ascii_digit c ≡ true
+pub digit_first : (c : ℕ) (cs : List ℕ) (n : ℕ) → IsMagnitude (c ∷ cs) n → is_ascii_digit c ≡ true
 digit_first c cs n (inl h) = digit_is c h.0.1.0
 digit_first c cs n (inr (ds, e, h, v)) = let first : c ≡ 48 = cc in rw first refl
 

@@ -2,6 +2,7 @@
 use Rattle.std.proofs.Common.{◌≡◌, ℕ, List, [], ◌∷◌, ◌⊎◌, inl, inr, refl, sym, ap, ◌∙◌, subst, ℤ, pos, Result, Ok, Err, IfOk}
 use Rattle.std.specs.Prelude.{IfErr, MatchResult, unsigned_abs, replicate}
 use Rattle.std.specs.List.{flat_map}
+use Rattle.std.proofs.lemmas.Result.{IfOk-weaker}
 use Rattle.rv_word.specs.declared.instr.Instr.{Instr}
 use Rattle.rv_word.specs.declared.instr.Instr.TheVariants as instr
 use Rattle.rv_word.specs.declared.instr.Cond.{Cond}
@@ -185,12 +186,10 @@ states_not k text s e h r = reads_not k text s e (states_reads k text s h) r
 -- what the code's answer says of the text after a keyword
 module _ (k : Keyword) (text : List ℕ) where
   pub answer_states : (r : Result Statement TextCause) → IfOk r (λ s. ReadsAfter k text (stated s)) → IfOk r (λ s. StatesAfter k text (stated s))
-  answer_states (Ok s) h = reads_states k text (stated s) h
-  answer_states (Err e) h = tt
+  answer_states r h = IfOk-weaker r _ _ (λ s. reads_states k text (stated s)) h
 
   pub answer_right : (r : Result Statement TextCause) → IfOk r (λ s. ReadsAfter k text (stated s)) → IfOk r (λ s. IsRightStatement (stated s))
-  answer_right (Ok s) h = let states = reads_states k text (stated s) h in after_right k states.0 (stated s) states.2
-  answer_right (Err e) h = tt
+  answer_right r h = IfOk-weaker r _ _ (λ s h. let states = reads_states k text (stated s) h in after_right k states.0 (stated s) states.2) h
 
   pub answer_only : (r : Result Statement TextCause) → IfOk r (λ s. ReadsAfter k text (stated s)) → IfErr r (λ e. (e ≡ cause.Memory) ⊎ RefusedWith k text e) → (s : Stated) → StatesAfter k text s → MatchResult r (λ t. stated t ≡ s) (λ e. e ≡ cause.Memory)
   answer_only (Ok t) h c s states = reads_one k text (stated t) s h (states_reads k text s states)

@@ -1,5 +1,6 @@
 -- What the text after an instruction's name has to do with what the whole text means.
 use Rattle.std.proofs.Common.{◌≡◌, ℕ, List, [], ◌∷◌, inl, inr, refl, sym, ap, ◌∙◌, subst, Bool, true, false, Some, Result, Ok, Err, IfOk}
+use Rattle.std.proofs.lemmas.Result.{IfOk-weaker}
 use Rattle.rv_word.specs.declared.instr.Instr.{Instr}
 use Rattle.rv_text.specs.declared.cause.TextCause.{TextCause}
 use Rattle.rv_text.specs.declared.mnemonic.Mnemonic.{Mnemonic}
@@ -87,5 +88,4 @@ follows rest name o i reads same agrees =
 
 -- what has the name of a mnemonic has the token
 pub token_follows : (r : Result Instr TextCause) (token rest : List ℕ) (name : Mnemonic) → name_of name ≡ token → IfOk r (λ i. FollowsName rest name i) → IfOk r (λ i. FollowsToken token rest i)
-token_follows (Ok i) token rest name named h = (ap name_of h.0 ∙ named, h.1)
-token_follows (Err e) token rest name named h = tt
+token_follows r token rest name named h = IfOk-weaker r _ _ (λ i h. (ap name_of h.0 ∙ named, h.1)) h

@@ -55,7 +55,7 @@ some_meaning text =
       | inr (inl blank) ↦ inr (cause.Operands, inr (inl (blank, refl)))
       | inr (inr stuck) ↦ inr (cause.Word, inl (stuck, refl))
       | inl (token, rest, takes) ↦ elim (mnemonic_or_not token) [
-        | inr none ↦ elim (name_or_not token) [
+        | inr none ↦ elim (name_or_not token takes.is_token) [
           | inl is ↦ inr (cause.Word, inr (inr (token, rest, takes, inr (inl ((is, none), refl)))))
           | inr not ↦ inr (cause.Operands, inr (inr (token, rest, takes, inl (not, refl))))
         ]
@@ -101,7 +101,7 @@ name_or_none text =
     elim (next text) [
       | inr (inl blank) ↦ inr (λ name rest begins. blank_takes_none text name rest blank begins.0)
       | inr (inr stuck) ↦ inr (λ name rest begins. stuck.nothing name rest begins.0)
-      | inl (token, rest, takes) ↦ elim (label_or_not token) [
+      | inl (token, rest, takes) ↦ elim (label_or_not token takes.is_token) [
         | inl is ↦ inl (token, rest, (takes, is))
         | inr not ↦ inr (other_name text token rest takes not)
       ]
@@ -244,7 +244,7 @@ rest_or_refused line s text =
       | inr (inl blank) ↦ inl (s, inl (blank, refl))
       | inr (inr stuck) ↦ inr (cause.Word, inl (stuck, refl))
       | inl (token, rest, takes) ↦ elim (keyword_or_not token) [
-        | inr none ↦ elim (name_or_not token) [
+        | inr none ↦ elim (name_or_not token takes.is_token) [
           | inl is ↦ inr (cause.Word, inr (token, rest, takes, inl (inr ((is, none), refl))))
           | inr not ↦ inr (cause.Operands, inr (token, rest, takes, inl (inl (not, refl))))
         ]

@@ -34,9 +34,9 @@ use Rattle.rv_text.proofs.Forms.{stands_by_operand, reads_part, more_has_no_repe
 use Rattle.rv_text.proofs.Lines.{reads_states}
 use Rattle.rv_text.proofs.Meaning.{follows}
 use Rattle.rv_text.proofs.OneMeaning.{natural, made}
-use Rattle.rv_text.proofs.Taking.{takes_shorter}
+use Rattle.rv_text.proofs.Taking.{takes_shorter, blank_takes_none}
 use Rattle.rv_text.proofs.Decided.{Decided, decided_both, decided_same}
-use Rattle.rv_text.proofs.Deciding.{next, blank_or_not, written_or_not, stands_or_not}
+use Rattle.rv_text.proofs.Deciding.{next, written_or_not, stands_or_not}
 
 -- ---- the operands of a form
 
@@ -91,7 +91,7 @@ fill_or_depart old (part ∷ form) text fresh =
     elim (next text) [
       | inr (inl blank) ↦ inr (cause.Operands, inr (inl (blank, refl)))
       | inr (inr stuck) ↦ inr (cause.Word, inl (stuck, refl))
-      | inl (token, rest, takes) ↦ elim (stands_or_not part token) [
+      | inl (token, rest, takes) ↦ elim (stands_or_not part token takes.is_token) [
         | inr none ↦ inr (part_cause part token, inr (inr (token, rest, takes, inl (none, refl))))
         | inl (one, stands) ↦
             let first = put part one old in
@@ -147,7 +147,11 @@ fence_or_not mnemonic.Fence = inl refl
 fence_or_not _ = inr (λ e. cc)
 
 bare_or_not : (name : Mnemonic) (text : List ℕ) → Decided (IsBareFence name text)
-bare_or_not name text = decided_both (fence_or_not name) (blank_or_not text)
+bare_or_not name text = decided_both (fence_or_not name) (elim (next text) as (λ _. Decided (IsBlank text)) [
+  | inl (token, rest, takes) ↦ inr (λ blank. blank_takes_none text token rest blank takes)
+  | inr (inl blank) ↦ inl blank
+  | inr (inr stuck) ↦ inr stuck.something
+])
 
 -- the text after a name gives its operands, or departs from them
 pub follows_or_departs : (name : Mnemonic) (text : List ℕ) → ((i : Instr) × FollowsName text name i) ⊎ ((e : TextCause) × OperandsDepart name text e)
@@ -180,7 +184,7 @@ number_or_departs kind text =
     elim (next text) [
       | inr (inl blank) ↦ inr (cause.Operands, inr (inl (blank, refl)))
       | inr (inr stuck) ↦ inr (cause.Word, inl (stuck, refl))
-      | inl (token, rest, takes) ↦ elim (written_or_not kind token) [
+      | inl (token, rest, takes) ↦ elim (written_or_not kind token takes.is_token) [
         | inl (z, writes) ↦ inl (z, rest, (token, takes, writes))
         | inr none ↦ inr (cause.Number, inr (inr (token, rest, takes, (λ o h. none o.number h.0 h.1, refl))))
       ]
