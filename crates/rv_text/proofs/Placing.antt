@@ -44,7 +44,7 @@ placed_keeps (e ∷ es) name what other free differs (inr h) =
     elim (cases_Bool (bytes_eq name e.0)) [ inl is ↦ rw is (inr h) | inr not ↦ rw not (inr (placed_keeps es name what other (rw not at free) differs h)) ]
 
 -- and nothing else is named
-pub placed_only : (names : List (List ℕ × Named)) (name : List ℕ) (what other : Named)
+placed_only : (names : List (List ℕ × Named)) (name : List ℕ) (what other : Named)
     → Has (placed names name what) other → Has names other ⊎ (what ≡ other)
 placed_only [] name what other (inl is) = inr is
 placed_only [] name what other (inr h) = absurd h
@@ -56,6 +56,9 @@ placed_only (e ∷ es) name what other h = by (bytes_eq name e.0) (placed_only e
     by true more (inr h) = inl (inr h)
     by false more (inl is) = inl (inl is)
     by false more (inr h) = elim (more h) [ inl k ↦ inl (inr k) | inr is ↦ inr is ]
+
+pub placed_back : (names : List (List ℕ × Named)) (name : List ℕ) (what other : Named) → what ≢ other → Has (placed names name what) other → Has names other
+placed_back names name what other apart h = elim (placed_only names name what other h) [ inl k ↦ k | inr is ↦ absurd (apart is) ]
 
 -- the place of the name that is placed
 pub placed_at : (names : List (List ℕ × Named)) (name : List ℕ) (what : Named)

@@ -30,7 +30,7 @@ use Rattle.rv_text.specs.Registers.{x_name}
 use Rattle.rv_text.specs.Mnemonics.{name_of}
 use Rattle.rv_text.specs.Forms.{IsNumberOf}
 use Rattle.rv_text.specs.Printed.{number_text}
-use Rattle.rv_text.proofs.Lexing.{Passes, numeral_passes}
+use Rattle.rv_text.proofs.Lexing.{Passes, all_by, numeral_passes}
 use Rattle.rv_text.proofs.Numbers.{kind_in_reach}
 
 -- each name begins with a letter, and goes on with letters, digits, `_` and `.`
@@ -70,14 +70,10 @@ name_token m = inl (name_is_name m)
 digit_continues : (c : ℕ) → is_ascii_digit c ≡ true → continues_name c ≡ true
 digit_continues c h = grind (arith, nat_tests)
 
-digits_continue : (text : List ℕ) → Passes is_ascii_digit text → Passes continues_name text
-digits_continue [] h = tt
-digits_continue (c ∷ cs) h = (digit_continues c h.0, digits_continue cs h.1)
-
 pub register_token : (r : ℕ) → r < 32 → IsToken (x_name r)
 register_token r lt =
     let numeral = decimal_is_IsNumeral r (omega arith) in
-    inl (refl, digits_continue (decimal r) (numeral_passes (decimal r) numeral.0.1))
+    inl (refl, all_by _ _ digit_continues (decimal r) (numeral_passes (decimal r) numeral.0.1))
 
 decimal_number : (z : ℤ) → IsInReach z → IsNumber (signed_decimal z) z
 decimal_number (pos n) h = let numeral = decimal_is_IsNumeral n (omega (arith, ints)) in inl (n, inl (numeral.0, sym numeral.1), refl)

@@ -32,7 +32,7 @@ use Rattle.rv_text.specs.Laws.{SourcesAreRight}
 use Rattle.rv_text.proofs.Placing.{place_among}
 use Rattle.rv_text.proofs.Counting.{few_sandboxes}
 use Rattle.rv_text.proofs.Right.{after_right, after_place}
-use Rattle.rv_text.proofs.RightSources.{IsDraft, known, all_append, finished, begun_right, label_right, met_right, bodies_right, bytes_right, gate_right}
+use Rattle.rv_text.proofs.RightSources.{IsDraft, all_append, finished, begun_right, label_right, met_right, bodies_right, bytes_right, gate_right}
 
 -- the sandbox is of the format that the text has said, or of SFI1
 abbrev IsOf : Option Format → Sandbox → Type 0
@@ -164,7 +164,7 @@ module _ (met_law : MetNamesStay) (new_law : NewNamesNameNothing) where
     where
       decide : (what : Named) → meaning b.sandbox.names name ≡ what → IsFree name b
       decide Unknown is = is
-      decide _ is = absurd (none (name, rest, begins, λ free. known _ refl (sym is ∙ free)))
+      decide _ is = absurd (none (name, rest, begins, λ free. cc))
 
   after_leads : (k : Keyword) (line : ℕ) (old new : SoFar) (text : List ℕ) → LeadsAfter k line old text new → IsRightSoFar old → IsRightSoFar new
   after_leads k line old new text (stands, once, (s, (tokens, are, after_k), does)) so_far =
