@@ -1,13 +1,5 @@
 -- What an answer says of a text where it means the instruction, or is refused for the cause.
-use Rattle.std.proofs.Common.{◌≡◌, ℕ, List, inr, ap, Result, Ok, Err, IfOk}
-use Rattle.std.specs.Prelude.{IfErr}
-use Rattle.std.proofs.lemmas.Result.{IfOk-weaker}
-use Rattle.rv_word.specs.declared.instr.Instr.{Instr}
-use Rattle.rv_word.specs.Spelling.{InRange}
-use Rattle.rv_text.specs.declared.cause.TextCause.{TextCause}
-use Rattle.rv_text.specs.Tokens.{Takes}
-use Rattle.rv_text.specs.private.Reading.{FollowsToken}
-use Rattle.rv_text.specs.Statement.{Means, Refused, RefusedAt}
+use Rattle.rv_text.proofs.Words.{◌≡◌, ℕ, List, inr, ap, Result, Ok, Err, IfOk, IfErr, IfOk-weaker, Instr, InRange, TextCause, Takes, FollowsToken, Means, Refused, RefusedAt}
 use Rattle.rv_text.proofs.Meaning.{means}
 use Rattle.rv_text.proofs.OneMeaning.{one_meaning, in_range}
 use Rattle.rv_text.proofs.Refusals.{one_cause, meant_is_not_refused}

@@ -1,29 +1,5 @@
 -- Each token is what a part of a statement asks for, or isn't.
-use Rattle.std.proofs.Common.{◌≡◌, ℕ, ◌<◌, ◌≤◌, Bool, true, false, List, [], ◌∷◌, ◌++◌, length, take, drop, ◌⊎◌, inl, inr, refl, sym, ap, ◌∙◌, subst, arith, ℤ, pos, negsuc, neg_ℤ, Option, Some, None, bytes_eq}
-use Rattle.std.specs.Prelude.{IsTrue, codes, ◌≤ℤ◌}
-use Rattle.std.specs.List.{AllByRecursion}
-use Rattle.std.specs.Char.{digit_value}
-use Rattle.std.specs.Int.{is_power_of_two}
-use Rattle.std.specs.Str.Parse.{IsNumeral, AllDigits, digits_value}
-use Rattle.std.proofs.lemmas.Bool.{cases_lt, cases_eq, false≢true}
-use Rattle.std.proofs.lemmas.Int.{ints}
-use Rattle.std.proofs.lemmas.List.{take-append-drop}
-use Rattle.std.proofs.lemmas.Slice.Eq.{bytes_eq-Decides}
-use Rattle.rv_word.specs.Numbers.{modulo, IsBetween}
-use Rattle.rv_source.specs.Source.{IsDataSize}
-use Rattle.rv_text.specs.declared.form.NumberKind.{NumberKind}
-use Rattle.rv_text.specs.declared.form.NumberKind.TheVariants.{Immediate, ShiftAmount, BranchOffset, JumpOffset, Upper, FenceFields, DataSize}
-use Rattle.rv_text.specs.declared.form.Part.{Part}
-use Rattle.rv_text.specs.declared.form.Part.TheVariants.{Rd, Rs1, Rs2, Number, Name, Mode, Comma, Open, Close}
-use Rattle.rv_text.specs.declared.keyword.Keyword.{Keyword}
-use Rattle.rv_text.specs.Tokens.{IsBlank, is_mark, IsMark, IsNumber, IsToken, Takes, IsStuck}
-use Rattle.rv_source.specs.Names.{begins_name, continues_name, IsName, begins_label, IsLabel}
-use Rattle.rv_text.specs.Forms.{IsNumberOf}
-use Rattle.rv_text.specs.Keywords.{keyword_name}
-use Rattle.rv_text.specs.private.Lookup.{candidate}
-use Rattle.rv_text.specs.Operands.{OperandValues, Stands, mode_name}
-use Rattle.rv_text.specs.private.Scan.{body_of, token_len}
-use Rattle.rv_text.specs.Statement.{operands}
+use Rattle.rv_text.proofs.Words.{◌≡◌, ℕ, ◌<◌, ◌≤◌, Bool, true, false, List, [], ◌∷◌, ◌++◌, length, take, drop, ◌⊎◌, inl, inr, refl, sym, ap, ◌∙◌, subst, arith, ℤ, pos, negsuc, neg_ℤ, Option, Some, None, bytes_eq, IsTrue, codes, ◌≤ℤ◌, AllByRecursion, digit_value, is_power_of_two, IsNumeral, AllDigits, digits_value, cases_lt, cases_eq, false≢true, ints, take-append-drop, bytes_eq-Decides, modulo, IsBetween, IsDataSize, NumberKind, Immediate, ShiftAmount, BranchOffset, JumpOffset, Upper, FenceFields, DataSize, Part, Rd, Rs1, Rs2, Number, Name, Mode, Comma, Open, Close, Keyword, IsBlank, is_mark, IsMark, IsNumber, IsToken, Takes, IsStuck, begins_name, continues_name, IsName, begins_label, IsLabel, IsNumberOf, keyword_name, candidate, OperandValues, Stands, mode_name, body_of, token_len, operands}
 use Rattle.rv_text.proofs.Keywords.{none_of_other}
 use Rattle.rv_text.proofs.Decided.{Decided, decided_both, decided_le, decided_bit, decided_same}
 use Rattle.rv_text.proofs.RegisterNames.{register_or_not}

@@ -1,19 +1,6 @@
 -- How operands are read, part by part.
-use Rattle.std.proofs.Common.{◌≡◌, ℕ, true, false, List, [], ◌∷◌, length, inl, inr, ◌≤◌, refl, sym, ap, ◌∙◌, subst, arith, rules, ℤ, nat_lt, Result, Ok, Err, OnOk, IfErr}
-use Rattle.std.specs.Prelude.{IsTrue, ◌==◌}
-use Rattle.std.proofs.lemmas.Bool.{and_parts, or_cases, not-true}
-use Rattle.std.proofs.lemmas.Bool.Decides.{nat_tests}
-use Rattle.std.proofs.lemmas.Result.{on_ok_weaker}
-use Rattle.rv_text.specs.declared.form.Part.{Part}
-use Rattle.rv_text.specs.declared.form.Part.TheVariants.{Rd, Rs1, Rs2, Number, Name, Mode, Comma, Open, Close}
-use Rattle.rv_text.specs.declared.cause.TextCause.{TextCause}
+use Rattle.rv_text.proofs.Words.{◌≡◌, ℕ, true, false, List, [], ◌∷◌, length, inl, inr, ◌≤◌, refl, sym, ap, ◌∙◌, subst, arith, rules, ℤ, nat_lt, Result, Ok, Err, OnOk, IfErr, IsTrue, ◌==◌, and_parts, or_cases, not-true, nat_tests, on_ok_weaker, Part, Rd, Rs1, Rs2, Number, Name, Mode, Comma, Open, Close, TextCause, IsRegister, Takes, IsBlank, IsStuck, IsNumber, IsLabel, IsNumberOf, OperandValues, Stands, Departs, part_cause, mode_name, Reads, SameAt, Suits, AllSuit, slot, is_fresh, has_no_repeat, KeepsOthers}
 use Rattle.rv_text.specs.declared.cause.TextCause.TheVariants as cause
-use Rattle.rv_text.specs.Registers.{IsRegister}
-use Rattle.rv_text.specs.Tokens.{Takes, IsBlank, IsStuck, IsNumber}
-use Rattle.rv_source.specs.Names.{IsLabel}
-use Rattle.rv_text.specs.Forms.{IsNumberOf}
-use Rattle.rv_text.specs.Operands.{OperandValues, Stands, Departs, part_cause, mode_name}
-use Rattle.rv_text.specs.private.Reading.{Reads, SameAt, Suits, AllSuit, slot, is_fresh, has_no_repeat, KeepsOthers}
 
 -- a token stands at a part by the operand there
 pub stands_by_operand : (a b : OperandValues) (part : Part) (token : List ℕ) → SameAt part a b → Stands b part token → Stands a part token

@@ -1,3 +1,4 @@
+pub mod Words
 pub mod LabelReading
 pub mod Placing
 pub mod TextLines

@@ -1,38 +1,10 @@
 -- A line states one thing, or nothing for one cause.
-use Rattle.std.proofs.Common.{◌≡◌, ℕ, List, [], ◌∷◌, ◌⊎◌, inl, inr, refl, sym, ap, ◌∙◌, subst, ℤ, pos, Result, Ok, Err, IfOk}
-use Rattle.std.specs.Prelude.{IfErr, MatchResult, unsigned_abs, replicate}
-use Rattle.std.specs.List.{flat_map}
-use Rattle.std.proofs.lemmas.Result.{IfOk-weaker}
-use Rattle.rv_word.specs.declared.instr.Instr.{Instr}
+use Rattle.rv_text.proofs.Words.{◌≡◌, ℕ, List, [], ◌∷◌, ◌⊎◌, inl, inr, refl, sym, ap, ◌∙◌, subst, ℤ, pos, Result, Ok, Err, IfOk, IfErr, MatchResult, unsigned_abs, replicate, flat_map, IfOk-weaker, Instr, Cond, Beq, Bne, Addi, TextCause, Mnemonic, Part, Directive, Pseudo, Nop, Ret, Li, Mv, Jr, J, Call, Beqz, Bnez, La, DataWidth, Keyword, Statement, IsBlank, AreTokens, LeadsTo, name_of, form_of, OperandValues, Departs, mnemonic_of, operands_of, Spells, OperandsDepart, Reads, AgreesOn, FollowsName, directive_form, directive_states, pseudo_form, pseudo_states, branch_form, branch_states, jal_form, jal_states, data_kind, constant, data_bytes, Writes, AreMore, IsRow, IsData, StatesAfter, InstrDeparts, RefusedWith, ReadsRow, ReadsInstr, ReadsAfter, ReadsList, Stated, format, sandbox, within, gate, compressed, bytes, plain, jump, address, stated, IsRightStatement}
 use Rattle.rv_word.specs.declared.instr.Instr.TheVariants as instr
-use Rattle.rv_word.specs.declared.instr.Cond.{Cond}
-use Rattle.rv_word.specs.declared.instr.Cond.TheVariants.{Beq, Bne}
-use Rattle.rv_word.specs.declared.instr.ImmOp.TheVariants.{Addi}
-use Rattle.rv_text.specs.declared.cause.TextCause.{TextCause}
 use Rattle.rv_text.specs.declared.cause.TextCause.TheVariants as cause
-use Rattle.rv_text.specs.declared.mnemonic.Mnemonic.{Mnemonic}
 use Rattle.rv_text.specs.declared.mnemonic.Mnemonic.TheVariants as mnemonic
-use Rattle.rv_text.specs.declared.form.Part.{Part}
-use Rattle.rv_text.specs.declared.keyword.Directive.{Directive}
 use Rattle.rv_text.specs.declared.keyword.Directive.TheVariants as directive
-use Rattle.rv_text.specs.declared.keyword.Pseudo.{Pseudo}
-use Rattle.rv_text.specs.declared.keyword.Pseudo.TheVariants.{Nop, Ret, Li, Mv, Jr, J, Call, Beqz, Bnez, La}
-use Rattle.rv_text.specs.declared.keyword.DataWidth.{DataWidth}
-use Rattle.rv_text.specs.declared.keyword.Keyword.{Keyword}
 use Rattle.rv_text.specs.declared.keyword.Keyword.TheVariants as keyword
-use Rattle.rv_text.specs.declared.statement.Statement.{Statement}
-use Rattle.rv_text.specs.Tokens.{IsBlank, AreTokens, LeadsTo}
-use Rattle.rv_text.specs.Mnemonics.{name_of}
-use Rattle.rv_text.specs.Forms.{form_of}
-use Rattle.rv_text.specs.Operands.{OperandValues, Departs}
-use Rattle.rv_text.specs.Statement.{mnemonic_of, operands_of, Spells, OperandsDepart}
-use Rattle.rv_text.specs.private.Reading.{Reads, AgreesOn, FollowsName}
-use Rattle.rv_text.specs.Keywords.{directive_form, directive_states, pseudo_form, pseudo_states, branch_form, branch_states, jal_form, jal_states, data_kind}
-use Rattle.rv_text.specs.Constants.{constant, data_bytes}
-use Rattle.rv_text.specs.Lines.{Writes, AreMore, IsRow, IsData, StatesAfter, InstrDeparts, RefusedWith}
-use Rattle.rv_text.specs.private.Lists.{ReadsRow, ReadsInstr, ReadsAfter, ReadsList}
-use Rattle.rv_text.specs.Stated.{Stated, format, sandbox, within, gate, compressed, bytes, plain, jump, address}
-use Rattle.rv_text.specs.private.Stated.{stated, IsRightStatement}
 use Rattle.rv_text.proofs.Keywords.{name_unique}
 use Rattle.rv_text.proofs.Meaning.{tokens_of, from_tokens, agree}
 use Rattle.rv_text.proofs.OneMeaning.{follows_one}

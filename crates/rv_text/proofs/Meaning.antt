@@ -1,18 +1,5 @@
 -- What the text after an instruction's name has to do with what the whole text means.
-use Rattle.std.proofs.Common.{◌≡◌, ℕ, List, [], ◌∷◌, inl, inr, refl, sym, ap, ◌∙◌, subst, Bool, true, false, Some, Result, Ok, Err, IfOk}
-use Rattle.std.proofs.lemmas.Result.{IfOk-weaker}
-use Rattle.rv_word.specs.declared.instr.Instr.{Instr}
-use Rattle.rv_text.specs.declared.cause.TextCause.{TextCause}
-use Rattle.rv_text.specs.declared.mnemonic.Mnemonic.{Mnemonic}
-use Rattle.rv_text.specs.declared.form.Part.{Part}
-use Rattle.rv_text.specs.declared.form.Part.TheVariants.{Rd, Rs1, Rs2, Number, Name, Mode}
-use Rattle.rv_text.specs.Tokens.{Takes, IsBlank, LeadsTo, AreTokens}
-use Rattle.rv_text.specs.Registers.{IsRegister}
-use Rattle.rv_text.specs.Mnemonics.{name_of}
-use Rattle.rv_text.specs.Forms.{form_of}
-use Rattle.rv_text.specs.Operands.{OperandValues, Stands, HasForm, mode_name}
-use Rattle.rv_text.specs.private.Reading.{Reads, SameAt, AgreesOn, FollowsName, FollowsToken}
-use Rattle.rv_text.specs.Statement.{mnemonic_of, operands_of, Means}
+use Rattle.rv_text.proofs.Words.{◌≡◌, ℕ, List, [], ◌∷◌, inl, inr, refl, sym, ap, ◌∙◌, subst, Bool, true, false, Some, Result, Ok, Err, IfOk, IfOk-weaker, Instr, TextCause, Mnemonic, Part, Rd, Rs1, Rs2, Number, Name, Mode, Takes, IsBlank, LeadsTo, AreTokens, IsRegister, name_of, form_of, OperandValues, Stands, HasForm, mode_name, Reads, SameAt, AgreesOn, FollowsName, FollowsToken, mnemonic_of, operands_of, Means}
 use Rattle.rv_text.proofs.RegisterNames.{register_unique}
 use Rattle.rv_text.proofs.Numbers.{number_unique}
 use Rattle.rv_text.proofs.Taking.{takes_unique}

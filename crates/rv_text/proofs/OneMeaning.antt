@@ -1,16 +1,7 @@
 -- A text means one instruction at most, and that is in range.
-use Rattle.std.proofs.Common.{◌≡◌, ℕ, List, inl, inr, refl, sym, ap, ◌∙◌, subst, ℤ, pos, negsuc}
-use Rattle.rv_word.specs.declared.instr.Instr.{Instr}
+use Rattle.rv_text.proofs.Words.{◌≡◌, ℕ, List, inl, inr, refl, sym, ap, ◌∙◌, subst, ℤ, pos, negsuc, Instr, InRange, Mnemonic, OperandValues, IsBlank, form_of, Reads, AgreesOn, Follows, mnemonic_of, operands_of, OneMeaning, MeaningsAreInRange}
 use Rattle.rv_word.specs.declared.instr.Instr.TheVariants as instr
-use Rattle.rv_word.specs.Spelling.{InRange}
-use Rattle.rv_text.specs.declared.mnemonic.Mnemonic.{Mnemonic}
 use Rattle.rv_text.specs.declared.mnemonic.Mnemonic.TheVariants as mnemonic
-use Rattle.rv_text.specs.Operands.{OperandValues}
-use Rattle.rv_text.specs.Tokens.{IsBlank}
-use Rattle.rv_text.specs.Forms.{form_of}
-use Rattle.rv_text.specs.private.Reading.{Reads, AgreesOn, Follows}
-use Rattle.rv_text.specs.Statement.{mnemonic_of, operands_of}
-use Rattle.rv_text.specs.Laws.{OneMeaning, MeaningsAreInRange}
 use Rattle.rv_text.proofs.Keywords.{name_unique}
 use Rattle.rv_text.proofs.Taking.{blank_takes_none}
 use Rattle.rv_text.proofs.Forms.{reads_fit}

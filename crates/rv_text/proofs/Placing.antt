@@ -1,13 +1,6 @@
 -- What placing a name changes in the table of names, and what it leaves.
-use Rattle.std.proofs.Common.{◌≡◌, ◌≢◌, refl, sym, subst, ◌∙◌, ℕ, zero, suc, ◌+◌, ◌<◌, ◌≤◌, ◌⊎◌, inl, inr, Bool, true, false, if◌then◌else◌, List, [], ◌∷◌, Some, map, slice_get, length, Contains, arith}
-use Rattle.std.specs.List.{IsDistinct, AllByRecursion}
-use Rattle.std.specs.Str.{bytes_eq}
-use Rattle.std.proofs.lemmas.Option.{same_Some, none-some}
-use Rattle.std.proofs.lemmas.Bool.{cases_Bool, false≢true}
-use Rattle.std.proofs.lemmas.Slice.Eq.{bytes_eq-Decides}
-use Rattle.rv_source.specs.declared.item.Named.{Named}
-use Rattle.rv_source.specs.declared.item.Named.TheVariants.{Unknown}
-use Rattle.rv_source.specs.NameTable.{meaning, place_of, placed}
+use Rattle.rv_text.proofs.Words.{◌≡◌, ◌≢◌, refl, sym, subst, ◌∙◌, ℕ, zero, suc, ◌+◌, ◌<◌, ◌≤◌, ◌⊎◌, inl, inr, Bool, true, false, if◌then◌else◌, List, [], ◌∷◌, Some, map, slice_get, length, Contains, arith, AllByRecursion, bytes_eq, same_Some, none-some, cases_Bool, false≢true, bytes_eq-Decides, Named, Unknown, meaning, place_of, placed}
+use Rattle.std.specs.List.{IsDistinct}
 
 -- the next number
 next : (n : ℕ) → suc n ≡ 1 + n

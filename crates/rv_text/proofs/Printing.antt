@@ -1,35 +1,7 @@
 -- What a printed word of each kind is: a name, a register, a decimal or a hexadecimal number.
-use Rattle.std.proofs.Common.{◌≡◌, ℕ, ◌<◌, ◌^◌, Bool, true, false, ◌&&◌, List, [], ◌∷◌, ◌++◌, inl, inr, refl, sym, arith, suc, ℤ, pos, negsuc}
-use Rattle.std.specs.Prelude.{codes}
-use Rattle.std.specs.List.{list_all}
-use Rattle.std.specs.Fmt.{decimal, signed_decimal, digits}
-use Rattle.std.specs.Char.{is_ascii_digit}
-use Rattle.std.proofs.lemmas.Fmt.{decimal_is_IsNumeral, digits_is_IsNumeral}
-use Rattle.std.proofs.lemmas.Int.{ints}
-use Rattle.std.proofs.lemmas.Bool.{and_parts, false≢true}
-use Rattle.std.proofs.lemmas.Bool.Decides.{nat_tests}
-use Rattle.rv_word.specs.declared.instr.RegOp.TheVariants.{Add}
-use Rattle.rv_word.specs.declared.instr.ImmOp.TheVariants.{Addi}
-use Rattle.rv_word.specs.declared.instr.LoadKind.TheVariants.{Lb}
-use Rattle.rv_word.specs.declared.instr.StoreWidth.TheVariants.{Sb}
-use Rattle.rv_word.specs.declared.instr.Cond.TheVariants.{Beq}
-use Rattle.rv_text.specs.declared.mnemonic.Mnemonic.{Mnemonic}
-use Rattle.rv_text.specs.declared.mnemonic.Mnemonic.TheVariants.{Op, OpImm, Load, Store, Branch}
-use Rattle.rv_text.specs.declared.keyword.Keyword.{Keyword}
+use Rattle.rv_text.proofs.Words.{◌≡◌, ℕ, ◌<◌, ◌^◌, Bool, true, false, ◌&&◌, List, [], ◌∷◌, ◌++◌, inl, inr, refl, sym, arith, suc, ℤ, pos, negsuc, codes, list_all, decimal, signed_decimal, digits, is_ascii_digit, decimal_is_IsNumeral, digits_is_IsNumeral, ints, and_parts, false≢true, nat_tests, Add, Addi, Lb, Sb, Beq, Mnemonic, Op, OpImm, Load, Store, Branch, Keyword, Nop, Word, keyword_name, NumberKind, Upper, IsNumber, IsToken, IsInReach, begins_name, continues_name, IsName, x_name, name_of, IsNumberOf, number_text}
 use Rattle.rv_text.specs.declared.keyword.Keyword.TheVariants as keyword
-use Rattle.rv_text.specs.declared.keyword.Pseudo.TheVariants.{Nop}
 use Rattle.rv_text.specs.declared.keyword.Directive.TheVariants.{Sandbox}
-use Rattle.rv_text.specs.declared.keyword.DataWidth.TheVariants.{Word}
-use Rattle.rv_text.specs.Keywords.{keyword_name}
-use Rattle.rv_text.specs.declared.form.NumberKind.{NumberKind}
-use Rattle.rv_text.specs.declared.form.NumberKind.TheVariants.{Upper}
-use Rattle.rv_text.specs.Tokens.{IsNumber, IsToken}
-use Rattle.rv_text.specs.private.Numbers.{IsInReach}
-use Rattle.rv_source.specs.Names.{begins_name, continues_name, IsName}
-use Rattle.rv_text.specs.Registers.{x_name}
-use Rattle.rv_text.specs.Mnemonics.{name_of}
-use Rattle.rv_text.specs.Forms.{IsNumberOf}
-use Rattle.rv_text.specs.Printed.{number_text}
 use Rattle.rv_text.proofs.Lexing.{Passes, all_by, numeral_passes}
 use Rattle.rv_text.proofs.Numbers.{kind_in_reach}
 

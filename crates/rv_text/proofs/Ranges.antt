@@ -1,16 +1,7 @@
 -- An instruction is in range where its operands fit its form.
-use Rattle.std.proofs.Common.{ℕ, ◌<◌, ◌^◌, Bool, true, false, arith, rules, ℤ, pos}
-use Rattle.std.specs.Prelude.{MatchBool, if◌then◌else◌}
-use Rattle.std.proofs.lemmas.Int.{ints}
-use Rattle.rv_word.specs.declared.instr.Instr.{Instr}
+use Rattle.rv_text.proofs.Words.{ℕ, ◌<◌, ◌^◌, Bool, true, false, arith, rules, ℤ, pos, MatchBool, if◌then◌else◌, ints, Instr, is_shift, IsBetween, IsImm12, Immediate, ShiftAmount, IsNumberOf, form_of, AllSuit, mnemonic_of, operands_of, full_fence}
 use Rattle.rv_word.specs.declared.instr.Instr.TheVariants as instr
-use Rattle.rv_word.specs.Functs.{is_shift}
-use Rattle.rv_word.specs.Numbers.{IsBetween}
-use Rattle.rv_word.specs.Spelling.{InRange, IsImm12}
-use Rattle.rv_text.specs.declared.form.NumberKind.TheVariants.{Immediate, ShiftAmount}
-use Rattle.rv_text.specs.Forms.{IsNumberOf, form_of}
-use Rattle.rv_text.specs.private.Reading.{AllSuit}
-use Rattle.rv_text.specs.Statement.{mnemonic_of, operands_of, full_fence}
+use Rattle.rv_word.specs.Spelling.{InRange}
 
 abbrev IsImmediate : Bool → ℤ → Type 0
 IsImmediate shift z = MatchBool shift (IsBetween (pos 0) (pos 31) z) (IsImm12 z)

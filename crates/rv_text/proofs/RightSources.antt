@@ -1,25 +1,6 @@
 -- What a text means is right: each sandbox is within its limits, and its names, gates and items fit each other.
-use Rattle.std.proofs.Common.{◌≡◌, ◌≢◌, ◌↔◌, refl, sym, ap, subst, ◌∙◌, ℕ, zero, suc, ◌+◌, ◌<◌, ◌≤◌, ◌⊎◌, inl, inr, Bool, true, false, not, ◌||◌, IsTrue, true≢false, if◌then◌else◌, List, [], ◌∷◌, ◌++◌, Some, map, slice_get, length, length-append, nat_lt, arith}
-use Rattle.std.specs.List.{IsDistinct, AllByRecursion}
-use Rattle.std.specs.Str.{bytes_eq}
-use Rattle.std.proofs.lemmas.Option.{same_Some, none-some, slice_get_within}
-use Rattle.std.proofs.lemmas.Bool.{cases_lt}
-use Rattle.std.proofs.lemmas.List.Elements.{All-from_recursion}
-use Rattle.std.proofs.lemmas.Map.Made.{AllPairs-from_IsDistinct}
-use Rattle.std.proofs.lemmas.Slice.Eq.{bytes_eq-Decides}
-use Rattle.sfi_policy.specs.declared.format.Format.{Format}
-use Rattle.rv_source.specs.Laws.{MetNamesStay, NewNamesNameNothing}
-use Rattle.rv_source.specs.declared.item.Named.{Named}
-use Rattle.rv_source.specs.declared.item.Named.TheVariants.{Gate, Code, Data, Unknown}
-use Rattle.rv_source.specs.declared.item.Body.{Body}
-use Rattle.rv_source.specs.declared.item.Body.TheVariants.{Plain, To, High, Low}
-use Rattle.rv_source.specs.declared.item.Item.{Item}
-use Rattle.rv_source.specs.declared.item.SourceGate.{SourceGate}
-use Rattle.rv_source.specs.Names.{IsShortLabel}
-use Rattle.rv_source.specs.NameTable.{place_of, placed, met}
-use Rattle.rv_source.specs.Source.{Sandbox, IsDataSize, IsBody, IsThere, IsEntry, IsGate, IsSandbox}
-use Rattle.rv_text.specs.SoFar.{Begun, begin, with_names, with_label, with_gate, items_of, with_bodies, with_bytes}
-use Rattle.rv_text.specs.Effects.{IsFree}
+use Rattle.rv_text.proofs.Words.{◌≡◌, ◌≢◌, ◌↔◌, refl, sym, ap, subst, ◌∙◌, ℕ, zero, suc, ◌+◌, ◌<◌, ◌≤◌, ◌⊎◌, inl, inr, Bool, true, false, not, ◌||◌, IsTrue, true≢false, if◌then◌else◌, List, [], ◌∷◌, ◌++◌, Some, map, slice_get, length, length-append, nat_lt, arith, AllByRecursion, bytes_eq, same_Some, none-some, slice_get_within, cases_lt, All-from_recursion, AllPairs-from_IsDistinct, bytes_eq-Decides, Format, MetNamesStay, NewNamesNameNothing, Named, Gate, Code, Data, Unknown, Body, Plain, To, High, Low, Item, SourceGate, IsShortLabel, place_of, placed, met, Sandbox, IsDataSize, IsBody, IsThere, IsEntry, IsGate, IsSandbox, Begun, begin, with_names, with_label, with_gate, items_of, with_bodies, with_bytes, IsFree}
+use Rattle.std.specs.List.{IsDistinct}
 use Rattle.rv_text.proofs.Lexing.{all_by}
 use Rattle.rv_text.proofs.Placing.{Has, has_contained, contained_has, placed_has, placed_keeps, placed_back, placed_at, placed_stays, placed_all, placed_grows, placed_differ}
 

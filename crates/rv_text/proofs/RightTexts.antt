@@ -1,34 +1,8 @@
 -- What a text means is right: by its lines, from nothing.
-use Rattle.std.proofs.Common.{◌≡◌, refl, sym, ap, subst, ◌∙◌, ℕ, ◌+◌, inl, inr, List, [], ◌∷◌, ◌++◌, Option, None, Some, map, length, length-append, arith}
-use Rattle.std.proofs.lemmas.List.{length-map}
-use Rattle.std.proofs.lemmas.List.Elements.{All-from_recursion, recursion_from_All}
-use Rattle.std.specs.List.{All, AllByRecursion}
-use Rattle.std.proofs.lemmas.Option.{same_Some, none-some}
-use Rattle.sfi_policy.specs.declared.format.Format.{Format}
-use Rattle.rv_word.specs.declared.instr.Instr.{Instr}
-use Rattle.rv_word.specs.Spelling.{InRange}
-use Rattle.rv_source.specs.declared.item.Named.{Named}
-use Rattle.rv_source.specs.declared.item.Named.TheVariants.{Unknown}
-use Rattle.rv_source.specs.declared.item.Body.TheVariants.{Plain, To, High, Low}
+use Rattle.rv_text.proofs.Words.{◌≡◌, refl, sym, ap, subst, ◌∙◌, ℕ, ◌+◌, inl, inr, List, [], ◌∷◌, ◌++◌, Option, None, Some, map, length, length-append, arith, length-map, All-from_recursion, recursion_from_All, All, AllByRecursion, same_Some, none-some, Format, Instr, InRange, Named, Unknown, Plain, To, High, Low, Keyword, Place, Takes, IsLabel, place_of_keyword, StatesAfter, Stated, format, sandbox, within, StatedWithin, gate, compressed, data_part, bytes, plain, jump, address, IsRightWithin, IsRightStatement, place_of_stated, meaning, place_of, met, IsStraight, Sandbox, IsBody, IsSandbox, AreOf, format_of, Begun, SoFar, format_or_sfi1, with_label, with_names, nothing, last_sandbox, sandboxes, IsFree, Labels, Fits, MayCome, GoesOn, Does, with_stated, BeginsWithName, LabelsLead, IsTaken, LeadsAfter, RestLeads, Leads, uncommented, lines, LinesLead, MetNamesStay, NewNamesNameNothing, SourcesAreRight}
 use Rattle.rv_text.specs.declared.keyword.Directive.TheVariants as directive
-use Rattle.rv_text.specs.declared.keyword.Keyword.{Keyword}
 use Rattle.rv_text.specs.declared.keyword.Keyword.TheVariants as keyword
-use Rattle.rv_text.specs.declared.statement.Place.{Place}
 use Rattle.rv_text.specs.declared.statement.Place.TheVariants as place
-use Rattle.rv_text.specs.Tokens.{Takes}
-use Rattle.rv_source.specs.Names.{IsLabel}
-use Rattle.rv_text.specs.Keywords.{place_of_keyword}
-use Rattle.rv_text.specs.Lines.{StatesAfter}
-use Rattle.rv_text.specs.Stated.{Stated, format, sandbox, within, StatedWithin, gate, compressed, data_part, bytes, plain, jump, address}
-use Rattle.rv_text.specs.private.Stated.{IsRightWithin, IsRightStatement, place_of_stated}
-use Rattle.rv_source.specs.NameTable.{meaning, place_of, met}
-use Rattle.rv_source.specs.Source.{IsStraight, Sandbox, IsBody, IsSandbox, AreOf, format_of}
-use Rattle.rv_text.specs.SoFar.{Begun, SoFar, format_or_sfi1, with_label, with_names, nothing, last_sandbox, sandboxes}
-use Rattle.rv_text.specs.Effects.{IsFree, Labels, Fits, MayCome, GoesOn, Does, with_stated}
-use Rattle.rv_text.specs.Leads.{BeginsWithName, LabelsLead, IsTaken, LeadsAfter, RestLeads, Leads}
-use Rattle.rv_text.specs.Texts.{uncommented, lines, LinesLead}
-use Rattle.rv_source.specs.Laws.{MetNamesStay, NewNamesNameNothing}
-use Rattle.rv_text.specs.Laws.{SourcesAreRight}
 use Rattle.rv_text.proofs.Placing.{place_among}
 use Rattle.rv_text.proofs.Counting.{few_sandboxes}
 use Rattle.rv_text.proofs.Right.{after_right, after_place}

@@ -1,23 +1,6 @@
 -- A printed instruction reads back, part by part.
-use Rattle.std.proofs.Common.{◌≡◌, ℕ, Bool, true, false, nat_lt, ◌&&◌, ◌||◌, List, [], ◌∷◌, ◌++◌, inl, inr, refl, sym, subst}
-use Rattle.std.specs.Prelude.{codes}
-use Rattle.std.specs.List.{flat_map}
-use Rattle.std.proofs.lemmas.Bool.{and_parts}
-use Rattle.std.proofs.lemmas.List.{append-nil}
-use Rattle.rv_word.specs.declared.instr.Instr.{Instr}
-use Rattle.rv_word.specs.Spelling.{InRange}
-use Rattle.rv_text.specs.declared.mnemonic.Mnemonic.{Mnemonic}
+use Rattle.rv_text.proofs.Words.{◌≡◌, ℕ, Bool, true, false, nat_lt, ◌&&◌, ◌||◌, List, [], ◌∷◌, ◌++◌, inl, inr, refl, sym, subst, codes, flat_map, and_parts, append-nil, Instr, InRange, Mnemonic, Part, Rd, Rs1, Rs2, Number, Name, Mode, Comma, Open, Close, IsBlank, IsToken, Takes, name_of, form_of, OperandValues, Stands, mode_name, Reads, AllSuit, slot, mnemonic_of, operands_of, Means, part_text, operands_text, printed, PrintedReadsBack}
 use Rattle.rv_text.specs.declared.mnemonic.Mnemonic.TheVariants as mnemonic
-use Rattle.rv_text.specs.declared.form.Part.{Part}
-use Rattle.rv_text.specs.declared.form.Part.TheVariants.{Rd, Rs1, Rs2, Number, Name, Mode, Comma, Open, Close}
-use Rattle.rv_text.specs.Tokens.{IsBlank, IsToken, Takes}
-use Rattle.rv_text.specs.Mnemonics.{name_of}
-use Rattle.rv_text.specs.Forms.{form_of}
-use Rattle.rv_text.specs.Operands.{OperandValues, Stands, mode_name}
-use Rattle.rv_text.specs.private.Reading.{Reads, AllSuit, slot}
-use Rattle.rv_text.specs.Statement.{mnemonic_of, operands_of, Means}
-use Rattle.rv_text.specs.Printed.{part_text, operands_text, printed}
-use Rattle.rv_text.specs.Laws.{PrintedReadsBack}
 use Rattle.rv_text.proofs.Ranges.{in_range_fits}
 use Rattle.rv_text.proofs.Meaning.{means}
 use Rattle.rv_text.proofs.Longest.{Ends, takes_word, takes_mark}

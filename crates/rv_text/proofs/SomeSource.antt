@@ -1,32 +1,9 @@
 -- A text means an instruction or is refused; a text means a source or has a fault.
-use Rattle.std.proofs.Common.{◌≡◌, ℕ, zero, suc, ◌+◌, ◌≤◌, Bool, List, [], ◌∷◌, ◌++◌, length, ◌⊎◌, inl, inr, refl, sym, ◌∙◌, subst, arith, Option, Some, None}
-use Rattle.std.specs.Prelude.{codes}
-use Rattle.std.specs.Option.{IsSomeAnd}
-use Rattle.std.proofs.lemmas.Bool.{cases_lt, cases_eq}
-use Rattle.std.proofs.lemmas.Option.{same_Some, none-some}
-use Rattle.sfi_policy.specs.declared.format.Format.TheVariants.{Sfi1, Sfi2}
-use Rattle.rv_source.specs.declared.item.Named.{Named}
-use Rattle.rv_source.specs.declared.item.Named.TheVariants.{Gate, Code, Data, Unknown}
-use Rattle.rv_source.specs.NameTable.{meaning}
-use Rattle.rv_text.specs.declared.cause.TextCause.{TextCause}
+use Rattle.rv_text.proofs.Words.{◌≡◌, ℕ, zero, suc, ◌+◌, ◌≤◌, Bool, List, [], ◌∷◌, ◌++◌, length, ◌⊎◌, inl, inr, refl, sym, ◌∙◌, subst, arith, Option, Some, None, codes, IsSomeAnd, cases_lt, cases_eq, same_Some, none-some, Sfi1, Sfi2, Named, Gate, Code, Data, Unknown, meaning, TextCause, TextFault, Keyword, Mnemonic, Place, Takes, name_of, keyword_name, place_of_keyword, Stated, StatedWithin, format, sandbox, within, gate, compressed, data_part, bytes, plain, jump, address, IsRightStatement, place_within, place_of_stated, Begun, SoFar, nothing, sandboxes, begin, format_or_sfi1, with_label, IsFree, Labels, RefusesLabel, MayCome, Fits, with_stated, Does, HasNoRoom, BeginsWithName, BeginsWithLabel, HasNoLabel, LabelsLead, PassesLabels, IsTaken, IsGateTwice, LeadsAfter, RestLeads, Leads, LabelRefused, RefusedAfter, StatementRefused, LineRefused, most_bytes, lines, uncommented, LinesLead, FirstRefused, first_line, SomeMeaning, SomeSource}
 use Rattle.rv_text.specs.declared.cause.TextCause.TheVariants as cause
-use Rattle.rv_text.specs.declared.fault.TextFault.{TextFault}
 use Rattle.rv_text.specs.declared.keyword.Directive.TheVariants as directive
-use Rattle.rv_text.specs.declared.keyword.Keyword.{Keyword}
 use Rattle.rv_text.specs.declared.keyword.Keyword.TheVariants as keyword
-use Rattle.rv_text.specs.declared.mnemonic.Mnemonic.{Mnemonic}
-use Rattle.rv_text.specs.declared.statement.Place.{Place}
 use Rattle.rv_text.specs.declared.statement.Place.TheVariants as place
-use Rattle.rv_text.specs.Tokens.{Takes}
-use Rattle.rv_text.specs.Mnemonics.{name_of}
-use Rattle.rv_text.specs.Keywords.{keyword_name, place_of_keyword}
-use Rattle.rv_text.specs.Stated.{Stated, StatedWithin, format, sandbox, within, gate, compressed, data_part, bytes, plain, jump, address}
-use Rattle.rv_text.specs.private.Stated.{IsRightStatement, place_within, place_of_stated}
-use Rattle.rv_text.specs.SoFar.{Begun, SoFar, nothing, sandboxes, begin, format_or_sfi1, with_label}
-use Rattle.rv_text.specs.Effects.{IsFree, Labels, RefusesLabel, MayCome, Fits, with_stated, Does, HasNoRoom}
-use Rattle.rv_text.specs.Leads.{BeginsWithName, BeginsWithLabel, HasNoLabel, LabelsLead, PassesLabels, IsTaken, IsGateTwice, LeadsAfter, RestLeads, Leads, LabelRefused, RefusedAfter, StatementRefused, LineRefused}
-use Rattle.rv_text.specs.Texts.{most_bytes, lines, uncommented, LinesLead, FirstRefused, first_line}
-use Rattle.rv_text.specs.Laws.{SomeMeaning, SomeSource}
 use Rattle.rv_text.proofs.Keywords.{no_mnemonic_of_name}
 use Rattle.rv_text.proofs.LabelReading.{other_name, no_colon, one_more, label_shortens}
 use Rattle.rv_text.proofs.Meaning.{means}

@@ -1,35 +1,10 @@
 -- The text after a keyword states something, or is refused.
-use Rattle.std.proofs.Common.{◌≡◌, ◌≢◌, ℕ, zero, suc, ◌≤◌, true, List, [], ◌∷◌, length, ◌⊎◌, inl, inr, refl, sym, arith, rules, ℤ, pos, negsuc}
-use Rattle.std.specs.Prelude.{IsTrue, codes}
-use Rattle.std.specs.List.{flat_map}
-use Rattle.std.proofs.lemmas.Int.{ints}
-use Rattle.rv_word.specs.declared.instr.Instr.{Instr}
+use Rattle.rv_text.proofs.Words.{◌≡◌, ◌≢◌, ℕ, zero, suc, ◌≤◌, true, List, [], ◌∷◌, length, ◌⊎◌, inl, inr, refl, sym, arith, rules, ℤ, pos, negsuc, IsTrue, codes, flat_map, ints, Instr, IsBetween, TextCause, Mnemonic, NumberKind, Part, Rd, Rs1, Rs2, Number, Name, Mode, Comma, Open, Close, Directive, Pseudo, Nop, DataWidth, Keyword, IsBlank, form_of, data_bytes, OperandValues, Departs, part_cause, mnemonic_of, operands, operands_of, full_fence, IsBareFence, OperandsDepart, Reads, SameAt, AgreesOn, AllSuit, FollowsName, slot, is_fresh, has_no_repeat, directive_form, directive_states, pseudo_form, pseudo_states, branch_form, branch_states, jal_form, jal_states, data_kind, StatesAfter, LeadsByMore, NumberDeparts, ListDeparts, InstrDeparts, RefusedWith, ReadsNumber, ReadsList, MoreDepartsAfter, ReadsRow, ReadsInstr, ReadsAfter, Stated, within, plain, bytes}
 use Rattle.rv_word.specs.declared.instr.Instr.TheVariants as instr
-use Rattle.rv_word.specs.Numbers.{IsBetween}
-use Rattle.rv_text.specs.declared.cause.TextCause.{TextCause}
 use Rattle.rv_text.specs.declared.cause.TextCause.TheVariants as cause
-use Rattle.rv_text.specs.declared.mnemonic.Mnemonic.{Mnemonic}
 use Rattle.rv_text.specs.declared.mnemonic.Mnemonic.TheVariants as mnemonic
-use Rattle.rv_text.specs.declared.form.NumberKind.{NumberKind}
-use Rattle.rv_text.specs.declared.form.Part.{Part}
-use Rattle.rv_text.specs.declared.form.Part.TheVariants.{Rd, Rs1, Rs2, Number, Name, Mode, Comma, Open, Close}
-use Rattle.rv_text.specs.declared.keyword.Directive.{Directive}
 use Rattle.rv_text.specs.declared.keyword.Directive.TheVariants as directive
-use Rattle.rv_text.specs.declared.keyword.Pseudo.{Pseudo}
-use Rattle.rv_text.specs.declared.keyword.Pseudo.TheVariants.{Nop}
-use Rattle.rv_text.specs.declared.keyword.DataWidth.{DataWidth}
-use Rattle.rv_text.specs.declared.keyword.Keyword.{Keyword}
 use Rattle.rv_text.specs.declared.keyword.Keyword.TheVariants as keyword
-use Rattle.rv_text.specs.Tokens.{IsBlank}
-use Rattle.rv_text.specs.Forms.{form_of}
-use Rattle.rv_text.specs.Constants.{data_bytes}
-use Rattle.rv_text.specs.Operands.{OperandValues, Departs, part_cause}
-use Rattle.rv_text.specs.Statement.{mnemonic_of, operands, operands_of, full_fence, IsBareFence, OperandsDepart}
-use Rattle.rv_text.specs.private.Reading.{Reads, SameAt, AgreesOn, AllSuit, FollowsName, slot, is_fresh, has_no_repeat}
-use Rattle.rv_text.specs.Keywords.{directive_form, directive_states, pseudo_form, pseudo_states, branch_form, branch_states, jal_form, jal_states, data_kind}
-use Rattle.rv_text.specs.Lines.{StatesAfter, LeadsByMore, NumberDeparts, ListDeparts, InstrDeparts, RefusedWith}
-use Rattle.rv_text.specs.private.Lists.{ReadsNumber, ReadsList, MoreDepartsAfter, ReadsRow, ReadsInstr, ReadsAfter}
-use Rattle.rv_text.specs.Stated.{Stated, within, plain, bytes}
 use Rattle.rv_text.proofs.Forms.{stands_by_operand, reads_part, more_has_no_repeat, keeps_part, reads_fit}
 use Rattle.rv_text.proofs.Lines.{reads_states}
 use Rattle.rv_text.proofs.Meaning.{follows}
