@@ -26,7 +26,7 @@ pub use Rattle.std.specs.Int.{is_power_of_two, IsPowerOfTwo}
 pub use Rattle.std.specs.Int.Count.{ones_step}
 pub use Rattle.std.specs.List.{AllByRecursion, prefix_len, flat_map, list_all, range_with_len, All, before_first, after_first}
 pub use Rattle.std.specs.Option.{IsSomeAnd}
-pub use Rattle.std.specs.Prelude.{◌≤ℤ◌, MatchResult, unsigned_abs, replicate, count_ones, MatchBool}
+pub use Rattle.std.specs.Prelude.{◌≤ℤ◌, MatchResult, unsigned_abs, count_ones, MatchBool}
 pub use Rattle.std.specs.Str.{IsUtf8, IsCharBoundary}
 pub use Rattle.std.specs.Str.Parse.{IsNumeral, AllDigits, digits_value}
 pub use Rattle.rv_source.specs.Halves.{rounded, upper, lower}
@@ -60,7 +60,7 @@ pub use Rattle.rv_text.specs.Tokens.{Takes, IsBlank, is_mark, IsMark, IsNumber, 
 pub use Rattle.rv_text.specs.declared.cause.TextCause.{TextCause}
 pub use Rattle.rv_text.specs.declared.fault.TextFault.{TextFault}
 pub use Rattle.rv_text.specs.declared.form.NumberKind.{NumberKind}
-pub use Rattle.rv_text.specs.declared.form.NumberKind.TheVariants.{Immediate, ShiftAmount, BranchOffset, JumpOffset, Upper, FenceFields, DataSize}
+pub use Rattle.rv_text.specs.declared.form.NumberKind.TheVariants.{Immediate, ShiftAmount, BranchOffset, JumpOffset, Upper, DataSize}
 pub use Rattle.rv_text.specs.declared.form.Part.{Part}
 pub use Rattle.rv_text.specs.declared.form.Part.TheVariants.{Rd, Rs1, Rs2, Number, Name, Mode, Comma, Open, Close}
 pub use Rattle.rv_text.specs.declared.keyword.DataWidth.{DataWidth}
@@ -85,7 +85,7 @@ pub use Rattle.rv_word.specs.Functs.{is_shift}
 pub use Rattle.rv_word.specs.Numbers.{modulo, IsBetween}
 pub use Rattle.rv_word.specs.Spelling.{InRange, IsImm12}
 pub use Rattle.rv_word.specs.declared.instr.Cond.{Cond}
-pub use Rattle.rv_word.specs.declared.instr.Cond.TheVariants.{Beq, Bne}
+pub use Rattle.rv_word.specs.declared.instr.Cond.TheVariants.{Beq}
 pub use Rattle.rv_word.specs.declared.instr.ImmOp.TheVariants.{Addi}
 pub use Rattle.rv_word.specs.declared.instr.Instr.{Instr}
 pub use Rattle.rv_word.specs.declared.instr.LoadKind.TheVariants.{Lb}
