@@ -1,20 +1,12 @@
 -- What an answer says of a text where it means the instruction, or is refused for the cause.
-use Rattle.std.proofs.Common.{◌≡◌, ℕ, List, inr, ap, Result, Ok, Err, IfOk}
-use Rattle.std.specs.Prelude.{IfErr}
-use Rattle.rv_word.specs.declared.instr.Instr.{Instr}
-use Rattle.rv_word.specs.Spelling.{InRange}
-use Rattle.rv_text.specs.declared.cause.TextCause.{TextCause}
-use Rattle.rv_text.specs.Tokens.{Takes}
-use Rattle.rv_text.specs.private.Reading.{FollowsToken}
-use Rattle.rv_text.specs.Statement.{Means, Refused, RefusedAt}
+use Rattle.rv_text.proofs.Words.{◌≡◌, ℕ, List, inr, ap, Result, Ok, Err, IfOk, IfErr, IfOk-weaker, Instr, InRange, TextCause, Takes, FollowsToken, Means, Refused, RefusedAt}
 use Rattle.rv_text.proofs.Meaning.{means}
 use Rattle.rv_text.proofs.OneMeaning.{one_meaning, in_range}
 use Rattle.rv_text.proofs.Refusals.{one_cause, meant_is_not_refused}
 
 module _ (text token rest : List ℕ) (takes : Takes text token rest) where
   pub token_means : (r : Result Instr TextCause) → IfOk r (λ i. FollowsToken token rest i) → IfOk r (λ i. Means text i)
-  token_means (Ok i) h = means text token rest i takes h
-  token_means (Err e) h = tt
+  token_means r h = IfOk-weaker r _ _ (λ i. means text token rest i takes) h
 
   pub token_cause : (r : Result Instr TextCause) → IfErr r (λ e. RefusedAt token rest e) → IfErr r (λ e. Refused text e)
   token_cause (Ok i) h = tt
@@ -30,5 +22,4 @@ module _ (text : List ℕ) where
   only_cause (Err e) h k f refused = ap Err (one_cause text e f k refused)
 
   pub means_in_range : (r : Result Instr TextCause) → IfOk r (λ i. Means text i) → IfOk r (λ i. InRange i)
-  means_in_range (Ok i) h = in_range text i h
-  means_in_range (Err e) h = tt
+  means_in_range r h = IfOk-weaker r _ _ (in_range text) h

@@ -1,12 +1,5 @@
 -- A text has no more sandboxes than lines.
-use Rattle.std.proofs.Common.{◌≡◌, sym, ap, ◌∙◌, ℕ, ◌+◌, ◌^◌, ◌≤◌, inl, inr, List, [], ◌∷◌, ◌++◌, Option, Some, length, length-append, ◌==◌, arith}
-use Rattle.std.proofs.lemmas.List.Splits.{length-slice_split}
-use Rattle.std.proofs.lemmas.List.Sums.{count_by-le-length}
-use Rattle.rv_text.specs.SoFar.{Begun, SoFar, nothing, begin, format_or_sfi1, last_sandbox, sandboxes}
-use Rattle.rv_text.specs.Stated.{Stated, format, sandbox, within}
-use Rattle.rv_text.specs.Effects.{Does}
-use Rattle.rv_text.specs.Leads.{LabelsLead, RestLeads}
-use Rattle.rv_text.specs.Texts.{uncommented, lines, LinesLead, LeadsFromNothing}
+use Rattle.rv_text.proofs.Words.{◌≡◌, sym, ap, ◌∙◌, ℕ, ◌+◌, ◌^◌, ◌≤◌, inl, inr, List, [], ◌∷◌, ◌++◌, Option, Some, length, length-append, ◌==◌, arith, length-slice_split, count_by-le-length, Begun, SoFar, nothing, begin, format_or_sfi1, last_sandbox, sandboxes, Stated, format, sandbox, within, Does, LabelsLead, RestLeads, uncommented, lines, LinesLead, LeadsFromNothing}
 
 -- how many sandboxes have been begun
 abbrev count : SoFar → ℕ

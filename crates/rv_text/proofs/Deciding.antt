@@ -1,58 +1,12 @@
 -- Each token is what a part of a statement asks for, or isn't.
-use Rattle.std.proofs.Common.{◌≡◌, ℕ, ◌<◌, ◌≤◌, Bool, true, false, List, [], ◌∷◌, ◌++◌, length, take, drop, ◌⊎◌, inl, inr, refl, sym, ap, ◌∙◌, subst, arith, ℤ, pos, negsuc, neg_ℤ, Option, Some, None, bytes_eq}
-use Rattle.std.specs.Prelude.{IsTrue, codes, ◌≤ℤ◌}
-use Rattle.std.specs.List.{AllByRecursion}
-use Rattle.std.specs.Char.{digit_value}
-use Rattle.std.specs.Int.{is_power_of_two}
-use Rattle.std.specs.Str.Parse.{IsNumeral, AllDigits, digits_value}
-use Rattle.std.proofs.lemmas.Bool.{cases_lt, cases_eq, false≢true}
-use Rattle.std.proofs.lemmas.Int.{ints}
-use Rattle.std.proofs.lemmas.List.{take-append-drop}
-use Rattle.std.proofs.lemmas.Slice.Eq.{bytes_eq-Decides}
-use Rattle.rv_word.specs.Numbers.{modulo, IsBetween}
-use Rattle.rv_source.specs.Source.{IsDataSize}
-use Rattle.rv_text.specs.declared.form.NumberKind.{NumberKind}
-use Rattle.rv_text.specs.declared.form.NumberKind.TheVariants.{Immediate, ShiftAmount, BranchOffset, JumpOffset, Upper, FenceFields, DataSize}
-use Rattle.rv_text.specs.declared.form.Part.{Part}
-use Rattle.rv_text.specs.declared.form.Part.TheVariants.{Rd, Rs1, Rs2, Number, Name, Mode, Comma, Open, Close}
-use Rattle.rv_text.specs.declared.keyword.Keyword.{Keyword}
-use Rattle.rv_text.specs.Tokens.{is_space, IsBlank, IsMagnitude, IsNumber, Takes, IsStuck}
-use Rattle.rv_source.specs.Names.{begins_name, continues_name, IsName, begins_label, IsLabel}
-use Rattle.rv_text.specs.Forms.{IsNumberOf}
-use Rattle.rv_text.specs.Keywords.{keyword_name}
-use Rattle.rv_text.specs.private.Lookup.{find_register, candidate}
-use Rattle.rv_text.specs.Operands.{OperandValues, Stands, mode_name}
-use Rattle.rv_text.specs.private.Scan.{body_of, token_len}
-use Rattle.rv_text.specs.Statement.{operands}
-use Rattle.rv_text.proofs.Keywords.{none_of_none, none_of_other}
-use Rattle.rv_text.proofs.RegisterNames.{register_found, register_none}
+use Rattle.rv_text.proofs.Words.{◌≡◌, ℕ, Bool, true, false, List, [], ◌∷◌, length, take, drop, ◌⊎◌, inl, inr, refl, sym, ◌∙◌, subst, arith, ℤ, pos, negsuc, codes, ◌≤ℤ◌, is_power_of_two, cases_lt, cases_eq, false≢true, ints, modulo, IsBetween, IsDataSize, NumberKind, BranchOffset, JumpOffset, DataSize, Part, Rd, Rs1, Rs2, Number, Name, Mode, Comma, Open, Close, Keyword, IsBlank, is_mark, IsMark, IsNumber, IsToken, Takes, IsStuck, begins_name, IsName, begins_label, IsLabel, IsNumberOf, keyword_name, candidate, OperandValues, Stands, mode_name, body_of, token_len, operands}
+use Rattle.rv_text.proofs.Keywords.{none_of_other}
+use Rattle.rv_text.proofs.Decided.{Decided, decided_both, decided_le, decided_bit, decided_same}
+use Rattle.rv_text.proofs.RegisterNames.{register_or_not}
+use Rattle.rv_text.proofs.Lexing.{digit_first, digit_begins_no_name, mark_begins_no_name}
 use Rattle.rv_text.proofs.Numbers.{number_unique}
 use Rattle.rv_text.proofs.Powers.{power_test}
 use Rattle.rv_text.proofs.Taking.{takes_found, body_blank, stuck}
-
-abbrev pub Decided : Type 0 → Type 0
-Decided P = P ⊎ (P → ⊥)
-
-pub decided_both : {P Q : Type 0} → Decided P → Decided Q → Decided (P × Q)
-decided_both (inl p) (inl q) = inl (p, q)
-decided_both (inl p) (inr q) = inr (λ both. q both.1)
-decided_both (inr p) q = inr (λ both. p both.0)
-
-pub decided_le : (a b : ℕ) → Decided (a ≤ b)
-decided_le a b = elim (cases_lt b a) [ inl more ↦ inr (λ h. omega arith) | inr le ↦ inl le ]
-
-pub decided_bit : (b c : Bool) → Decided (b ≡ c)
-decided_bit true true = inl refl
-decided_bit true false = inr (λ e. false≢true (sym e))
-decided_bit false true = inr (λ e. false≢true e)
-decided_bit false false = inl refl
-
-pub decided_same : (xs ys : List ℕ) → Decided (xs ≡ ys)
-decided_same xs ys =
-    elim (decided_bit (bytes_eq xs ys) true) [
-      | inl is ↦ inl ((bytes_eq-Decides xs ys).0 is)
-      | inr not ↦ inr (λ e. not ((bytes_eq-Decides xs ys).1 e))
-    ]
 
 decided_between : (low high z : ℤ) → Decided (IsBetween low high z)
 decided_between low high z = decided_both (le low z) (le z high)
@@ -78,95 +32,42 @@ next text =
 
 -- ---- names
 
-passes_or_not : (p : ℕ → Bool) (text : List ℕ) → Decided (AllByRecursion (λ c. IsTrue (p c)) text)
-passes_or_not p [] = inl tt
-passes_or_not p (c ∷ cs) = decided_both (decided_bit (p c) true) (passes_or_not p cs)
+number_no_name : (text : List ℕ) (z : ℤ) → IsNumber text z → IsName text → ⊥
+number_no_name [] z h name = name
+number_no_name (c ∷ cs) z (inl (n, h, e)) name = false≢true (sym (digit_begins_no_name c (digit_first c cs n h)).0 ∙ name.0)
+number_no_name (c ∷ cs) z (inr (n, ds, e, h, v)) name = let first : c ≡ 45 = cc in false≢true (subst (λ x. begins_name x ≡ true) first name.0)
 
-pub blank_or_not : (text : List ℕ) → Decided (IsBlank text)
-blank_or_not text = passes_or_not is_space text
+mark_no_name : (text : List ℕ) → IsMark text → IsName text → ⊥
+mark_no_name [] m name = name
+mark_no_name (c ∷ cs) (d, mark, e) name = let same : c ≡ d = cc in false≢true (sym (mark_begins_no_name d mark) ∙ subst (λ x. begins_name x ≡ true) same name.0)
 
-pub name_or_not : (text : List ℕ) → Decided (IsName text)
-name_or_not [] = inr (λ h. h)
-name_or_not (c ∷ cs) = decided_both (decided_bit (begins_name c) true) (passes_or_not continues_name cs)
+mark_no_number : (text : List ℕ) (z : ℤ) → IsMark text → IsNumber text z → ⊥
+mark_no_number [] z (d, mark, e) h = cc
+mark_no_number (c ∷ cs) z (d, mark, e) (inl (n, h, v)) =
+    let same : d ≡ c = cc in false≢true (sym (digit_begins_no_name c (digit_first c cs n h)).1 ∙ subst (λ x. is_mark x ≡ true) same mark)
+mark_no_number (c ∷ cs) z (d, mark, e) (inr (n, ds, f, h, v)) = let first : d ≡ 45 = cc in false≢true (subst (λ x. is_mark x ≡ true) first mark)
 
-pub label_or_not : (text : List ℕ) → Decided (IsLabel text)
-label_or_not text = decided_both (name_or_not text) (decided_bit (begins_label text) true)
+pub name_or_not : (token : List ℕ) → IsToken token → Decided (IsName token)
+name_or_not token (inl name) = inl name
+name_or_not token (inr (inl (z, number))) = inr (number_no_name token z number)
+name_or_not token (inr (inr mark)) = inr (mark_no_name token mark)
+
+pub label_or_not : (token : List ℕ) → IsToken token → Decided (IsLabel token)
+label_or_not token is_token = decided_both (name_or_not token is_token) (decided_bit (begins_label token) true)
 
 pub keyword_or_not : (text : List ℕ) → ((k : Keyword) × (keyword_name k ≡ text)) ⊎ ((k : Keyword) → keyword_name k ≡ text → ⊥)
-keyword_or_not text = by (candidate text) refl
-  where
-    by : (o : Option Keyword) → candidate text ≡ o → ((k : Keyword) × (keyword_name k ≡ text)) ⊎ ((k : Keyword) → keyword_name k ≡ text → ⊥)
-    by None is = inr (none_of_none text None (sym is) refl)
-    by (Some k) is =
-        elim (decided_same (keyword_name k) text) [
-          | inl named ↦ inl (k, named)
-          | inr other ↦ inr (none_of_other text (Some k) k (sym is) refl other)
-        ]
+keyword_or_not text =
+    elim (decided_same (keyword_name (candidate text)) text) [
+      | inl named ↦ inl (candidate text, named)
+      | inr other ↦ inr (none_of_other text (candidate text) refl other)
+    ]
 
 -- ---- numbers
 
-digits_or_not : (radix : ℕ) (text : List ℕ) → Decided (AllDigits radix text)
-digits_or_not radix [] = inl tt
-digits_or_not radix (c ∷ cs) =
-    decided_both
-    (elim (cases_lt (digit_value c) radix) as (λ _. Decided (digit_value c < radix)) [ inl less ↦ inl less | inr more ↦ inr (λ h. omega arith) ])
-    (digits_or_not radix cs)
-
-numeral_or_not : (radix : ℕ) (text : List ℕ) → Decided (IsNumeral radix text)
-numeral_or_not radix [] = inr (λ h. let some = h.0 in omega arith)
-numeral_or_not radix (c ∷ cs) = decided_both (inl (omega arith)) (digits_or_not radix (c ∷ cs))
-
-abbrev MagnitudeOrNot : List ℕ → Type 0
-MagnitudeOrNot text = ((n : ℕ) × IsMagnitude text n) ⊎ ((n : ℕ) → IsMagnitude text n → ⊥)
-
-magnitude_none : (text : List ℕ) → (IsNumeral 10 text → ⊥) → ((digits : List ℕ) → text ≡ codes "0x" ++ digits → IsNumeral 16 digits → ⊥) → (n : ℕ) → IsMagnitude text n → ⊥
-magnitude_none text decimal hex n (inl h) = decimal h.0
-magnitude_none text decimal hex n (inr (digits, e, h, v)) = hex digits e h
-
-hex_or_not : (text : List ℕ) → (IsNumeral 10 text → ⊥) → MagnitudeOrNot text
-hex_or_not text decimal =
-    elim (decided_same (take 2 text) (codes "0x")) [
-      | inr other ↦ inr (magnitude_none text decimal (λ digits e h. other (ap (λ t. take 2 t) e)))
-      | inl front ↦
-          let whole : text ≡ codes "0x" ++ drop 2 text = sym (take-append-drop 2 text) ∙ ap (λ t. t ++ drop 2 text) front in
-          elim (numeral_or_not 16 (drop 2 text)) [
-            | inl h ↦ inl (digits_value 16 (drop 2 text), inr (drop 2 text, whole, h, refl))
-            | inr none ↦ inr (magnitude_none text decimal (λ digits e h. none (subst (IsNumeral 16) (sym (ap (λ t. drop 2 t) e)) h)))
-          ]
-    ]
-
-magnitude_or_not : (text : List ℕ) → MagnitudeOrNot text
-magnitude_or_not text =
-    elim (numeral_or_not 10 text) [
-      | inl h ↦ inl (digits_value 10 text, inl (h, refl))
-      | inr decimal ↦ hex_or_not text decimal
-    ]
-
-abbrev pub NumberOrNot : List ℕ → Type 0
-NumberOrNot text = ((z : ℤ) × IsNumber text z) ⊎ ((z : ℤ) → IsNumber text z → ⊥)
-
-number_none : (text : List ℕ) → ((n : ℕ) → IsMagnitude text n → ⊥) → ((n : ℕ) (digits : List ℕ) → text ≡ codes "-" ++ digits → IsMagnitude digits n → ⊥) → (z : ℤ) → IsNumber text z → ⊥
-number_none text plain signed z (inl (n, h, v)) = plain n h
-number_none text plain signed z (inr (n, digits, e, h, v)) = signed n digits e h
-
-signed_or_not : (text : List ℕ) → ((n : ℕ) → IsMagnitude text n → ⊥) → NumberOrNot text
-signed_or_not text plain =
-    elim (decided_same (take 1 text) (codes "-")) [
-      | inr other ↦ inr (number_none text plain (λ n digits e h. other (ap (λ t. take 1 t) e)))
-      | inl front ↦
-          let whole : text ≡ codes "-" ++ drop 1 text = sym (take-append-drop 1 text) ∙ ap (λ t. t ++ drop 1 text) front in
-          elim (magnitude_or_not (drop 1 text)) [
-            | inl h ↦ inl (neg_ℤ (pos h.0), inr (h.0, drop 1 text, whole, h.1, refl))
-            | inr none ↦ inr (number_none text plain (λ n digits e h. none n (subst (λ t. IsMagnitude t n) (sym (ap (λ t. drop 1 t) e)) h)))
-          ]
-    ]
-
-number_or_not : (text : List ℕ) → NumberOrNot text
-number_or_not text =
-    elim (magnitude_or_not text) [
-      | inl h ↦ inl (pos h.0, inl (h.0, h.1, refl))
-      | inr plain ↦ signed_or_not text plain
-    ]
+number_or_not : (token : List ℕ) → IsToken token → ((z : ℤ) × IsNumber token z) ⊎ ((z : ℤ) → IsNumber token z → ⊥)
+number_or_not token (inl name) = inr (λ z h. number_no_name token z h name)
+number_or_not token (inr (inl number)) = inl number
+number_or_not token (inr (inr mark)) = inr (λ z h. mark_no_number token z mark h)
 
 size_or_not : (n : ℕ) → Decided (IsDataSize n)
 size_or_not n =
@@ -185,19 +86,15 @@ data_size_or_not (pos n) =
     ]
 
 kind_or_not : (kind : NumberKind) (z : ℤ) → Decided (IsNumberOf kind z)
-kind_or_not Immediate z = decided_between _ _ z
-kind_or_not ShiftAmount z = decided_between _ _ z
 kind_or_not BranchOffset z = decided_both (decided_between _ _ z) (cases_eq (modulo 1 z) 0)
 kind_or_not JumpOffset z = decided_both (decided_between _ _ z) (cases_eq (modulo 1 z) 0)
-kind_or_not Upper z = decided_between _ _ z
-kind_or_not FenceFields z = decided_between _ _ z
 kind_or_not DataSize z = data_size_or_not z
 kind_or_not _ z = decided_between _ _ z
 
 -- the token writes a number of this kind
-pub written_or_not : (kind : NumberKind) (token : List ℕ) → ((z : ℤ) × (IsNumber token z × IsNumberOf kind z)) ⊎ ((z : ℤ) → IsNumber token z → IsNumberOf kind z → ⊥)
-written_or_not kind token =
-    elim (number_or_not token) [
+pub written_or_not : (kind : NumberKind) (token : List ℕ) → IsToken token → ((z : ℤ) × (IsNumber token z × IsNumberOf kind z)) ⊎ ((z : ℤ) → IsNumber token z → IsNumberOf kind z → ⊥)
+written_or_not kind token is_token =
+    elim (number_or_not token is_token) [
       | inr none ↦ inr (λ z h k. none z h)
       | inl found ↦ elim (kind_or_not kind found.0) [
         | inl of ↦ inl (found.0, (found.1, of))
@@ -209,13 +106,6 @@ written_or_not kind token =
 
 abbrev StandsOrNot : Part → List ℕ → Type 0
 StandsOrNot part token = ((o : OperandValues) × Stands o part token) ⊎ ((o : OperandValues) → Stands o part token → ⊥)
-
-register_or_not : (token : List ℕ) → ((r : ℕ) × (find_register token ≡ Some r)) ⊎ (find_register token ≡ None)
-register_or_not token = by (find_register token) refl
-  where
-    by : (o : Option ℕ) → find_register token ≡ o → ((r : ℕ) × (find_register token ≡ Some r)) ⊎ (find_register token ≡ None)
-    by None is = inr is
-    by (Some r) is = inl (r, is)
 
 no_mode : (token : List ℕ) → (token ≡ mode_name true → ⊥) → (token ≡ mode_name false → ⊥) → (rvc : Bool) → token ≡ mode_name rvc → ⊥
 no_mode token rvc norvc true is = rvc is
@@ -231,33 +121,33 @@ mode_or_not token =
       ]
     ]
 
-pub stands_or_not : (part : Part) (token : List ℕ) → StandsOrNot part token
-stands_or_not Rd token =
+pub stands_or_not : (part : Part) (token : List ℕ) → IsToken token → StandsOrNot part token
+stands_or_not Rd token is_token =
     elim (register_or_not token) [
-      | inl found ↦ inl (operands found.0 0 0 (pos 0), register_found token found.0 found.1)
-      | inr none ↦ inr (λ o. register_none token None (sym none) refl o.rd)
+      | inl found ↦ inl (operands found.0 0 0 (pos 0), found.1)
+      | inr none ↦ inr (λ o. none o.rd)
     ]
-stands_or_not Rs1 token =
+stands_or_not Rs1 token is_token =
     elim (register_or_not token) [
-      | inl found ↦ inl (operands 0 found.0 0 (pos 0), register_found token found.0 found.1)
-      | inr none ↦ inr (λ o. register_none token None (sym none) refl o.rs1)
+      | inl found ↦ inl (operands 0 found.0 0 (pos 0), found.1)
+      | inr none ↦ inr (λ o. none o.rs1)
     ]
-stands_or_not Rs2 token =
+stands_or_not Rs2 token is_token =
     elim (register_or_not token) [
-      | inl found ↦ inl (operands 0 0 found.0 (pos 0), register_found token found.0 found.1)
-      | inr none ↦ inr (λ o. register_none token None (sym none) refl o.rs2)
+      | inl found ↦ inl (operands 0 0 found.0 (pos 0), found.1)
+      | inr none ↦ inr (λ o. none o.rs2)
     ]
-stands_or_not (Number kind) token =
-    elim (written_or_not kind token) [
+stands_or_not (Number kind) token is_token =
+    elim (written_or_not kind token is_token) [
       | inl found ↦ inl (operands 0 0 0 found.0, found.1)
       | inr none ↦ inr (λ o h. none o.number h.0 h.1)
     ]
-stands_or_not Name token =
-    elim (decided_both (label_or_not token) (decided_le (length token) 64)) [
+stands_or_not Name token is_token =
+    elim (decided_both (label_or_not token is_token) (decided_le (length token) 64)) [
       | inl is ↦ inl (record (operands 0 0 0 (pos 0)) { name = token }, (is.0, is.1, refl))
       | inr not ↦ inr (λ o h. not (h.0, h.1))
     ]
-stands_or_not Mode token = mode_or_not token
-stands_or_not Comma token = elim (decided_same token (codes ",")) [ inl is ↦ inl (operands 0 0 0 (pos 0), is) | inr not ↦ inr (λ o h. not h) ]
-stands_or_not Open token = elim (decided_same token (codes "(")) [ inl is ↦ inl (operands 0 0 0 (pos 0), is) | inr not ↦ inr (λ o h. not h) ]
-stands_or_not Close token = elim (decided_same token (codes ")")) [ inl is ↦ inl (operands 0 0 0 (pos 0), is) | inr not ↦ inr (λ o h. not h) ]
+stands_or_not Mode token is_token = mode_or_not token
+stands_or_not Comma token is_token = elim (decided_same token (codes ",")) [ inl is ↦ inl (operands 0 0 0 (pos 0), is) | inr not ↦ inr (λ o h. not h) ]
+stands_or_not Open token is_token = elim (decided_same token (codes "(")) [ inl is ↦ inl (operands 0 0 0 (pos 0), is) | inr not ↦ inr (λ o h. not h) ]
+stands_or_not Close token is_token = elim (decided_same token (codes ")")) [ inl is ↦ inl (operands 0 0 0 (pos 0), is) | inr not ↦ inr (λ o h. not h) ]

@@ -1,47 +1,26 @@
 -- How operands are read, part by part.
-use Rattle.std.proofs.Common.{◌≡◌, ℕ, true, false, List, [], ◌∷◌, length, inl, inr, ◌≤◌, refl, sym, ap, ◌∙◌, subst, arith, ℤ, nat_lt, Result, Ok, Err, OnOk, IfErr}
-use Rattle.std.specs.Prelude.{IsTrue, ◌==◌}
-use Rattle.std.proofs.lemmas.Bool.{and_parts, or_cases, not-true}
-use Rattle.std.proofs.lemmas.Bool.Decides.{nat_tests}
-use Rattle.rv_text.specs.declared.form.Part.{Part}
-use Rattle.rv_text.specs.declared.form.Part.TheVariants.{Rd, Rs1, Rs2, Number, Name, Mode}
-use Rattle.rv_text.specs.declared.cause.TextCause.{TextCause}
+use Rattle.rv_text.proofs.Words.{◌≡◌, ℕ, true, false, List, [], ◌∷◌, length, inl, inr, ◌≤◌, refl, sym, ◌∙◌, subst, arith, rules, nat_lt, Result, Ok, Err, OnOk, IfErr, IsTrue, ◌==◌, and_parts, or_cases, not-true, nat_tests, on_ok_weaker, Part, Name, Comma, Open, Close, TextCause, Takes, IsBlank, IsStuck, IsLabel, OperandValues, Stands, Departs, part_cause, Reads, SameAt, Suits, AllSuit, slot, is_fresh, has_no_repeat, KeepsOthers}
 use Rattle.rv_text.specs.declared.cause.TextCause.TheVariants as cause
-use Rattle.rv_text.specs.Registers.{IsRegister}
-use Rattle.rv_text.specs.Tokens.{Takes, IsBlank, IsStuck, IsNumber}
-use Rattle.rv_source.specs.Names.{IsLabel}
-use Rattle.rv_text.specs.Forms.{IsNumberOf}
-use Rattle.rv_text.specs.Operands.{OperandValues, Stands, Departs, part_cause, mode_name}
-use Rattle.rv_text.specs.private.Reading.{Reads, SameAt, Suits, AllSuit, slot, is_fresh, has_no_repeat, KeepsOthers}
 
 -- a token stands at a part by the operand there
 pub stands_by_operand : (a b : OperandValues) (part : Part) (token : List ℕ) → SameAt part a b → Stands b part token → Stands a part token
-stands_by_operand a b Rd token e h = subst (IsRegister token) (sym e) h
-stands_by_operand a b Rs1 token e h = subst (IsRegister token) (sym e) h
-stands_by_operand a b Rs2 token e h = subst (IsRegister token) (sym e) h
-stands_by_operand a b (Number kind) token e h = subst (λ (z : ℤ). IsNumber token z × IsNumberOf kind z) (sym e) h
-stands_by_operand a b Name token e h = (h.0, h.1, h.2 ∙ sym e)
-stands_by_operand a b Mode token e h = h ∙ ap mode_name (sym e)
-stands_by_operand a b _ token e h = h
+stands_by_operand a b Comma token e h = h
+stands_by_operand a b Open token e h = h
+stands_by_operand a b Close token e h = h
+stands_by_operand a b _ token e h = rw e h
 
 -- a mark has one operand
 same_at_mark : (a b : OperandValues) (part : Part) → nat_lt 5 (slot part) ≡ true → SameAt part a b
-same_at_mark a b Rd h = cc
-same_at_mark a b Rs1 h = cc
-same_at_mark a b Rs2 h = cc
-same_at_mark a b (Number kind) h = cc
-same_at_mark a b Name h = cc
-same_at_mark a b Mode h = cc
-same_at_mark a b _ h = tt
+same_at_mark a b Comma h = tt
+same_at_mark a b Open h = tt
+same_at_mark a b Close h = tt
+same_at_mark a b _ h = cc
 
 same_through : (part : Part) (a b c : OperandValues) → SameAt part a b → SameAt part b c → SameAt part a c
-same_through Rd a b c e f = e ∙ f
-same_through Rs1 a b c e f = e ∙ f
-same_through Rs2 a b c e f = e ∙ f
-same_through (Number kind) a b c e f = e ∙ f
-same_through Name a b c e f = e ∙ f
-same_through Mode a b c e f = e ∙ f
-same_through _ a b c e f = tt
+same_through Comma a b c e f = tt
+same_through Open a b c e f = tt
+same_through Close a b c e f = tt
+same_through _ a b c e f = e ∙ f
 
 -- what is read at the part first stays while the rest is read
 pub reads_part : (first all : OperandValues) (part : Part) (form : List Part) (text token rest : List ℕ) → has_no_repeat (part ∷ form) ≡ true → Takes text token rest → Stands first part token → Reads all form rest → ((p : Part) → IsTrue (is_fresh p form) → SameAt p all first) → Reads all (part ∷ form) text
@@ -74,10 +53,7 @@ module _ {A : Type 0} (r : Result A TextCause) (whole : List Part) (part : Part)
   pub keeps_result : (old : OperandValues) → KeepsOthers part old first
       → OnOk r ((p : Part) → IsTrue (is_fresh p form) → SameAt p all first) → OnOk r ((p : Part) → IsTrue (is_fresh p whole) → SameAt p all old)
   keeps_result old others keeps =
-      elim r as (λ o. OnOk o ((p : Part) → IsTrue (is_fresh p form) → SameAt p all first) → OnOk o ((p : Part) → IsTrue (is_fresh p whole) → SameAt p all old)) [
-        | Ok u ↦ λ k. subst (λ f. (p : Part) → IsTrue (is_fresh p f) → SameAt p all old) (sym same) (keeps_part old first all part form others k)
-        | Err e ↦ λ k. tt
-      ] keeps
+      on_ok_weaker r (λ k. subst (λ f. (p : Part) → IsTrue (is_fresh p f) → SameAt p all old) (sym same) (keeps_part old first all part form others k)) keeps
 
 -- the causes for which a text departs from a form
 pub departs_stuck : (form : List Part) (text : List ℕ) → IsStuck text → Departs form text cause.Word
@@ -101,12 +77,8 @@ module _ (whole : List Part) (part : Part) (form : List Part) (same : whole ≡ 
 
 -- what is read fits its form
 pub stands_suits : (o : OperandValues) (part : Part) (token : List ℕ) → Stands o part token → Suits o part
-stands_suits o Rd token h = h.0
-stands_suits o Rs1 token h = h.0
-stands_suits o Rs2 token h = h.0
-stands_suits o (Number kind) token h = h.1
 stands_suits o Name token h = (subst IsLabel h.2 h.0, subst (λ (t : List ℕ). length t ≤ 64) h.2 h.1)
-stands_suits o _ token h = tt
+stands_suits o _ token h = search rules
 
 pub reads_fit : (o : OperandValues) (form : List Part) (text : List ℕ) → Reads o form text → AllSuit o form
 reads_fit o [] text h = tt

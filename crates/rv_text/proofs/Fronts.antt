@@ -1,8 +1,5 @@
 -- A text has one first token, and what is refused there has one cause, if what that token says has one.
-use Rattle.std.proofs.Common.{◌≡◌, ℕ, List, ◌⊎◌, inl, inr, sym, ◌∙◌, subst₂}
-use Rattle.rv_text.specs.declared.cause.TextCause.{TextCause}
-use Rattle.rv_text.specs.Tokens.{Takes}
-use Rattle.rv_text.specs.Operands.{Unformed, Missing}
+use Rattle.rv_text.proofs.Words.{◌≡◌, ℕ, List, ◌⊎◌, inl, inr, sym, ◌∙◌, subst₂, TextCause, Takes, Unformed, Missing}
 use Rattle.rv_text.proofs.Taking.{takes_unique, blank_takes_none}
 
 -- this holds for one cause at most

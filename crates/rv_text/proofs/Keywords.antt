@@ -1,50 +1,26 @@
 -- The table of keywords finds just those that the definitions give.
-use Rattle.std.proofs.Common.{◌≡◌, ℕ, ◌<◌, ◌≤◌, List, sym, ap, ◌∙◌, Option, Some, None, IfSome, IfNone, refl, slice_index_or}
-use Rattle.std.specs.Prelude.{slice_get, slice_index}
-use Rattle.std.proofs.lemmas.Option.{slice_get-get_or, slice_get_past}
-use Rattle.rv_word.specs.declared.instr.RegOp.TheVariants.{Add}
-use Rattle.rv_word.specs.declared.instr.ImmOp.TheVariants.{Addi}
-use Rattle.rv_word.specs.declared.instr.LoadKind.TheVariants.{Lb}
-use Rattle.rv_word.specs.declared.instr.StoreWidth.TheVariants.{Sb}
-use Rattle.rv_word.specs.declared.instr.Cond.TheVariants.{Beq}
-use Rattle.rv_text.specs.declared.mnemonic.Mnemonic.{Mnemonic}
-use Rattle.rv_text.specs.declared.mnemonic.Mnemonic.TheVariants.{Op, OpImm, Load, Store, Branch}
-use Rattle.rv_text.specs.declared.keyword.Keyword.{Keyword}
+use Rattle.rv_text.proofs.Words.{◌≡◌, ℕ, ◌<◌, nat_lt, List, sym, ap, ◌∙◌, Option, Some, None, IfSome, IfNone, refl, slice_index, slice_index_or, slice_get-get_or, same_Some, ltb-true, ALL, PLACES, Add, Addi, Lb, Sb, Beq, Mnemonic, Op, OpImm, Load, Store, Branch, Jal, Keyword, Nop, Word, name_of, keyword_name, mnemonic_in}
+use Rattle.rv_text.proofs.RegisterNames.{below}
 use Rattle.rv_text.specs.declared.keyword.Keyword.TheVariants as keyword
-use Rattle.rv_text.specs.declared.keyword.Pseudo.TheVariants.{Nop}
 use Rattle.rv_text.specs.declared.keyword.Directive.TheVariants.{Sandbox}
-use Rattle.rv_text.specs.declared.keyword.DataWidth.TheVariants.{Word}
-use Rattle.rv_text.specs.declared.keyword.TheConstants.{ALL, PLACES}
-use Rattle.rv_text.specs.Mnemonics.{name_of}
-use Rattle.rv_text.specs.Keywords.{keyword_name}
-use Rattle.rv_text.specs.private.Lookup.{hash, candidate, mnemonic_in}
+use Rattle.rv_text.specs.private.Lookup.{hash, candidate}
 
 -- each keyword is the candidate of its name, by computation
-candidate_own : (k : Keyword) → candidate (keyword_name k) ≡ Some k
+candidate_own : (k : Keyword) → candidate (keyword_name k) ≡ k
 unfolding candidate hash
 candidate_own (keyword.Instr (Op Add)) = refl
-candidate_own (keyword.Instr (Op _)) = refl
 candidate_own (keyword.Instr (OpImm Addi)) = refl
-candidate_own (keyword.Instr (OpImm _)) = refl
 candidate_own (keyword.Instr (Load Lb)) = refl
-candidate_own (keyword.Instr (Load _)) = refl
 candidate_own (keyword.Instr (Store Sb)) = refl
-candidate_own (keyword.Instr (Store _)) = refl
 candidate_own (keyword.Instr (Branch Beq)) = refl
-candidate_own (keyword.Instr (Branch _)) = refl
-candidate_own (keyword.Instr _) = refl
 candidate_own (keyword.Pseudo Nop) = refl
-candidate_own (keyword.Pseudo _) = refl
 candidate_own (keyword.Directive Sandbox) = refl
-candidate_own (keyword.Directive _) = refl
 candidate_own (keyword.Numbers Word) = refl
-candidate_own (keyword.Numbers _) = refl
+candidate_own _ = refl
 
 -- a name has one keyword
 pub keyword_unique : (j k : Keyword) → keyword_name j ≡ keyword_name k → j ≡ k
-keyword_unique j k e =
-    let t : Some j ≡ Some k = sym (candidate_own j) ∙ ap candidate e ∙ candidate_own k in
-    cc
+keyword_unique j k e = sym (candidate_own j) ∙ ap candidate e ∙ candidate_own k
 
 -- and one mnemonic
 pub name_unique : (m n : Mnemonic) → name_of m ≡ name_of n → m ≡ n
@@ -52,42 +28,26 @@ name_unique m n e =
     let same : keyword.Instr m ≡ keyword.Instr n = keyword_unique (keyword.Instr m) (keyword.Instr n) e in
     cc
 
--- a text of which there is no candidate is no keyword
-pub none_of_none : (text : List ℕ) (o : Option Keyword) → o ≡ candidate text → o ≡ None → (k : Keyword) → keyword_name k ≡ text → ⊥
-none_of_none text o e none k named =
-    let t : None ≡ Some k = sym none ∙ e ∙ ap candidate (sym named) ∙ candidate_own k in
-    cc
-
--- nor is one whose candidate has another name
-pub none_of_other : (text : List ℕ) (o : Option Keyword) (found : Keyword) → o ≡ candidate text → o ≡ Some found → (keyword_name found ≡ text → ⊥)
-    → (k : Keyword) → keyword_name k ≡ text → ⊥
-none_of_other text o found e is other k named =
-    let t : Some found ≡ Some k = sym is ∙ e ∙ ap candidate (sym named) ∙ candidate_own k in
-    let same : found ≡ k = cc in
-    other (ap keyword_name same ∙ named)
+-- a text whose candidate has another name is no keyword
+pub none_of_other : (text : List ℕ) (found : Keyword) → found ≡ candidate text → (keyword_name found ≡ text → ⊥) → (k : Keyword) → keyword_name k ≡ text → ⊥
+none_of_other text found e other k named = other (ap keyword_name (e ∙ ap candidate (sym named) ∙ candidate_own k) ∙ named)
 
 -- what the tables give at the hash
-at_hash : (text : List ℕ) (h : ℕ) → h ≡ hash text → slice_get ALL (slice_index PLACES h) ≡ candidate text
+pub place_small : (h : ℕ) → h < 256 → slice_index PLACES.now h < 67
+place_small h lt = ltb-true _ _ (below 256 (λ k. nat_lt (slice_index PLACES.now k) 67) refl h lt)
+
+pub at_hash : (text : List ℕ) (h : ℕ) (d : Keyword) → h ≡ hash 57 103 text → h < 256 → slice_index_or ALL.now (slice_index PLACES.now h) d ≡ candidate text
 unfolding candidate
-at_hash text h e = ap (λ n. slice_get ALL (slice_index PLACES n)) e
-
-pub inside : (text : List ℕ) (h : ℕ) (d : Keyword) → h ≡ hash text → slice_index PLACES h < 67 → Some (slice_index_or ALL (slice_index PLACES h) d) ≡ candidate text
-inside text h d e lt = sym (slice_get-get_or ALL (slice_index PLACES h) d lt) ∙ at_hash text h e
-
-pub outside : (text : List ℕ) (h : ℕ) → h ≡ hash text → 67 ≤ slice_index PLACES h → None ≡ candidate text
-outside text h e ge = sym (slice_get_past ALL (slice_index PLACES h) ge) ∙ at_hash text h e
+at_hash text h d e lt =
+    same_Some _ _ (sym (slice_get-get_or ALL.now _ d (place_small h lt)) ∙ slice_get-get_or ALL.now _ (keyword.Instr Jal) (place_small h lt)) ∙ ap (λ n. slice_index_or ALL.now (slice_index PLACES.now n) (keyword.Instr Jal)) e
 
 -- the mnemonic of this name is the keyword of this name, if that is one
 pub mnemonic_of_name : (text : List ℕ) (k : Keyword) (r : Option Mnemonic) → r ≡ mnemonic_in k → keyword_name k ≡ text → IfSome r (λ m. name_of m ≡ text)
 mnemonic_of_name text k None e named = tt
 mnemonic_of_name text (keyword.Instr n) (Some m) e named = let same : m ≡ n = cc in ap name_of same ∙ named
-mnemonic_of_name text (keyword.Pseudo p) (Some m) e named = cc
-mnemonic_of_name text (keyword.Directive d) (Some m) e named = cc
-mnemonic_of_name text (keyword.Numbers w) (Some m) e named = cc
+mnemonic_of_name text _ (Some m) e named = cc
 
 pub no_mnemonic_of_name : (text : List ℕ) (k : Keyword) (r : Option Mnemonic) → r ≡ mnemonic_in k → keyword_name k ≡ text → IfNone r ((m : Mnemonic) → name_of m ≡ text → ⊥)
 no_mnemonic_of_name text k (Some m) e named = tt
-no_mnemonic_of_name text (keyword.Instr n) None e named = λ m h. cc
-no_mnemonic_of_name text (keyword.Pseudo p) None e named = λ m h. let same : keyword.Instr m ≡ keyword.Pseudo p = keyword_unique (keyword.Instr m) (keyword.Pseudo p) (h ∙ sym named) in cc
-no_mnemonic_of_name text (keyword.Directive d) None e named = λ m h. let same : keyword.Instr m ≡ keyword.Directive d = keyword_unique (keyword.Instr m) (keyword.Directive d) (h ∙ sym named) in cc
-no_mnemonic_of_name text (keyword.Numbers w) None e named = λ m h. let same : keyword.Instr m ≡ keyword.Numbers w = keyword_unique (keyword.Instr m) (keyword.Numbers w) (h ∙ sym named) in cc
+no_mnemonic_of_name text k None e named = λ m h.
+    let some : Some m ≡ mnemonic_in k = ap mnemonic_in (keyword_unique (keyword.Instr m) k (h ∙ sym named)) in cc

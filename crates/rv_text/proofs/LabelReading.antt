@@ -1,13 +1,6 @@
 -- What is read of labels at the front of a line.
-use Rattle.std.proofs.Common.{◌≡◌, ◌↔◌, refl, sym, ap, subst, ℕ, Bool, true, false, not, IsTrue, List, [], ◌∷◌, ◌++◌, true≢false, codes, length, arith, ◌<◌, ◌⊎◌, inl, inr, ◌∙◌, take, drop, Option, Some, None, Bor, MatchOption}
-use Rattle.rv_text.specs.Tokens.{Takes}
-use Rattle.rv_source.specs.Names.{IsLabel}
-use Rattle.rv_text.specs.SoFar.{Begun, SoFar}
-use Rattle.rv_text.specs.Effects.{IsFree, Labels, RefusesLabel}
-use Rattle.rv_text.specs.Leads.{BeginsWithName, BeginsWithLabel, HasNoLabel, LabelsLead, IsTaken, LabelRefused}
-use Rattle.rv_text.specs.declared.cause.TextCause.{TextCause}
+use Rattle.rv_text.proofs.Words.{◌≡◌, ◌↔◌, refl, sym, ap, subst, ℕ, Bool, true, false, not, IsTrue, List, [], ◌∷◌, ◌++◌, true≢false, codes, length, arith, ◌<◌, ◌⊎◌, inl, inr, ◌∙◌, take, drop, Option, Some, None, Bor, MatchOption, Takes, IsLabel, Begun, SoFar, IsFree, Labels, RefusesLabel, BeginsWithName, BeginsWithLabel, HasNoLabel, LabelsLead, IsTaken, LabelRefused, TextCause, body_of, token_len}
 use Rattle.rv_text.specs.declared.cause.TextCause.TheVariants as cause
-use Rattle.rv_text.specs.private.Scan.{body_of, token_len}
 use Rattle.rv_text.proofs.Taking.{takes_unique, takes_body, takes_found, takes_shorter}
 use Rattle.rv_text.proofs.Lexing.{token_at_mark}
 

@@ -1,18 +1,11 @@
 -- The token length that the lexer computes is that of the longest token.
-use Rattle.std.proofs.Common.{◌≡◌, ℕ, ◌+◌, ◌<◌, ◌≤◌, Bool, true, false, cond, List, [], ◌∷◌, ◌++◌, length, get_or, take, drop, inl, inr, ⊎_elim, refl, sym, ap, ◌∙◌, subst, arith, lit<, length-append, zero, suc, pos, neg_ℤ}
-use Rattle.std.specs.Prelude.{IsTrue, ◌==◌}
-use Rattle.std.specs.List.{AllByRecursion, prefix_len}
-use Rattle.std.specs.Char.{is_ascii_digit, is_ascii_hexdigit, digit_value}
-use Rattle.std.specs.Str.Parse.{IsNumeral, AllDigits, digits_value}
-use Rattle.std.proofs.lemmas.List.Sums.{prefix_len-le-length}
-use Rattle.std.specs.Str.{IsUtf8, IsCharBoundary}
-use Rattle.std.proofs.lemmas.Str.{IsCharBoundary-start, IsCharBoundary-after_ascii}
-use Rattle.std.proofs.lemmas.List.Folds.{length-prefix_len}
-use Rattle.std.proofs.lemmas.Bool.{cases_Bool, cond_both, eqb-true}
-use Rattle.std.proofs.lemmas.Bool.Decides.{nat_tests}
-use Rattle.rv_text.specs.Tokens.{is_space, IsBlank, IsMagnitude, is_mark, IsToken}
-use Rattle.rv_source.specs.Names.{begins_name, continues_name}
-use Rattle.rv_text.specs.private.Scan.{begins_hex, magnitude_len, after_sign, token_len}
+use Rattle.rv_text.proofs.Words.{◌≡◌, ℕ, ◌+◌, ◌<◌, ◌≤◌, Bool, true, false, cond, List, [], ◌∷◌, ◌++◌, length, get_or, take, drop, inl, inr, ⊎_elim, refl, sym, ap, ◌∙◌, subst, arith, lit<, length-append, zero, suc, pos, neg_ℤ, IsTrue, ◌==◌, AllByRecursion, prefix_len, is_ascii_digit, is_ascii_hexdigit, digit_value, IsNumeral, AllDigits, digits_value, prefix_len-le-length, IsUtf8, IsCharBoundary, IsCharBoundary-start, IsCharBoundary-after_ascii, length-prefix_len, cases_Bool, cond_both, eqb-true, nat_tests, is_space, IsBlank, IsMagnitude, is_mark, IsToken, begins_name, continues_name, begins_hex, after_sign}
+use Rattle.rv_text.specs.private.Scan.{magnitude_len, token_len}
+
+-- what holds of each, and what it implies
+pub all_by : {X : Type 0} (P Q : X → Type 0) → ((x : X) → P x → Q x) → (xs : List X) → AllByRecursion P xs → AllByRecursion Q xs
+all_by P Q f [] h = tt
+all_by P Q f (x ∷ xs) h = (f x h.0, all_by P Q f xs h.1)
 
 -- each byte passes the test
 abbrev pub Passes : (ℕ → Bool) → List ℕ → Type 0
@@ -50,20 +43,16 @@ pub mark_begins_no_name : (c : ℕ) → is_mark c ≡ true → begins_name c ≡
 mark_begins_no_name c h = grind (arith, nat_tests)
 
 pub numeral_passes : (ds : List ℕ) → AllDigits 10 ds → Passes is_ascii_digit ds
-numeral_passes [] h = tt
-numeral_passes (c ∷ cs) h = (digit_is c h.0, numeral_passes cs h.1)
+numeral_passes ds h = all_by _ _ digit_is ds h
 
 pub numeral_from : (ds : List ℕ) → Passes is_ascii_digit ds → AllDigits 10 ds
-numeral_from [] h = tt
-numeral_from (c ∷ cs) h = (digit_below c h.0, numeral_from cs h.1)
+numeral_from ds h = all_by _ _ digit_below ds h
 
 pub hex_passes : (ds : List ℕ) → AllDigits 16 ds → Passes is_ascii_hexdigit ds
-hex_passes [] h = tt
-hex_passes (c ∷ cs) h = (hex_digit_is c h.0, hex_passes cs h.1)
+hex_passes ds h = all_by _ _ hex_digit_is ds h
 
 pub hex_from : (ds : List ℕ) → Passes is_ascii_hexdigit ds → AllDigits 16 ds
-hex_from [] h = tt
-hex_from (c ∷ cs) h = (hex_digit_below c h.0, hex_from cs h.1)
+hex_from ds h = all_by _ _ hex_digit_below ds h
 
 -- a text of digits alone that begins `0x` when something follows it is the one digit
 digits_before_x : (c : ℕ) (cs more : List ℕ) → Passes is_ascii_digit (c ∷ cs) → begins_hex (c ∷ cs ++ more) ≡ true → length (c ∷ cs) ≡ 1
@@ -151,7 +140,7 @@ token_at_sign : (cs : List ℕ) → token_len (45 ∷ cs) ≡ after_sign (magnit
 unfolding token_len
 token_at_sign cs = refl
 
-digit_first : (c : ℕ) (cs : List ℕ) (n : ℕ) → IsMagnitude (c ∷ cs) n → is_ascii_digit c ≡ true
+pub digit_first : (c : ℕ) (cs : List ℕ) (n : ℕ) → IsMagnitude (c ∷ cs) n → is_ascii_digit c ≡ true
 digit_first c cs n (inl h) = digit_is c h.0.1.0
 digit_first c cs n (inr (ds, e, h, v)) = let first : c ≡ 48 = cc in rw first refl
 
@@ -243,10 +232,6 @@ token_len-le (c ∷ cs) =
 abbrev pub AllAscii : List ℕ → Type 0
 AllAscii text = AllByRecursion (λ c. c < 128) text
 
-passes_ascii : (p : ℕ → Bool) → ((c : ℕ) → p c ≡ true → c < 128) → (text : List ℕ) → Passes p text → AllAscii text
-passes_ascii p f [] h = tt
-passes_ascii p f (c ∷ cs) h = (f c h.0, passes_ascii p f cs h.1)
-
 begins_ascii : (c : ℕ) → begins_name c ≡ true → c < 128
 begins_ascii c h = grind (arith, nat_tests)
 
@@ -266,18 +251,18 @@ pub space_ascii : (c : ℕ) → is_space c ≡ true → c < 128
 space_ascii c h = grind (arith, nat_tests)
 
 magnitude_ascii : (text : List ℕ) (n : ℕ) → IsMagnitude text n → AllAscii text
-magnitude_ascii text n (inl h) = passes_ascii is_ascii_digit digit_ascii text (numeral_passes text h.0.1)
-magnitude_ascii text n (inr (ds, e, h, v)) = rw e (lit< tt, (lit< tt, passes_ascii is_ascii_hexdigit hex_ascii ds (hex_passes ds h.1)))
+magnitude_ascii text n (inl h) = all_by _ (λ c. c < 128) digit_ascii text (numeral_passes text h.0.1)
+magnitude_ascii text n (inr (ds, e, h, v)) = rw e (lit< tt, (lit< tt, all_by _ (λ c. c < 128) hex_ascii ds (hex_passes ds h.1)))
 
 pub token_ascii : (token : List ℕ) → IsToken token → AllAscii token
 token_ascii [] (inl name) = absurd name
-token_ascii (c ∷ cs) (inl name) = (begins_ascii c name.0, passes_ascii continues_name continues_ascii cs name.1)
+token_ascii (c ∷ cs) (inl name) = (begins_ascii c name.0, all_by _ (λ c. c < 128) continues_ascii cs name.1)
 token_ascii token (inr (inl (z, inl (n, h, e)))) = magnitude_ascii token n h
 token_ascii token (inr (inl (z, inr (n, digits, e, h, v)))) = rw e (lit< tt, magnitude_ascii digits n h)
 token_ascii token (inr (inr (c, h, e))) = rw e (mark_ascii c h, tt)
 
 pub blank_ascii : (text : List ℕ) → IsBlank text → AllAscii text
-blank_ascii text h = passes_ascii is_space space_ascii text h
+blank_ascii text h = all_by _ (λ c. c < 128) space_ascii text h
 
 last_ascii : (c : ℕ) (cs rest : List ℕ) → AllAscii (c ∷ cs) → get_or ((c ∷ cs) ++ rest) (length cs) 0 < 128
 last_ascii c [] rest h = h.0

@@ -1,10 +1,10 @@
+pub mod Words
 pub mod LabelReading
 pub mod Placing
 pub mod TextLines
 pub mod Counting
 pub mod RightSources
 pub mod RightTexts
-pub mod KeywordNames
 pub mod OneSource
 pub mod Lexing
 pub mod Taking
@@ -26,6 +26,7 @@ pub mod Lines
 pub mod Longest
 pub mod Printing
 pub mod RoundTrip
+pub mod Decided
 pub mod Deciding
 pub mod SomeStatement
 pub mod SomeSource

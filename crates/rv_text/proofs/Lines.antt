@@ -1,37 +1,9 @@
 -- A line states one thing, or nothing for one cause.
-use Rattle.std.proofs.Common.{◌≡◌, ℕ, List, [], ◌∷◌, ◌⊎◌, inl, inr, refl, sym, ap, ◌∙◌, subst, ℤ, pos, Result, Ok, Err, IfOk}
-use Rattle.std.specs.Prelude.{IfErr, MatchResult, unsigned_abs, replicate}
-use Rattle.std.specs.List.{flat_map}
-use Rattle.rv_word.specs.declared.instr.Instr.{Instr}
-use Rattle.rv_word.specs.declared.instr.Instr.TheVariants as instr
-use Rattle.rv_word.specs.declared.instr.Cond.{Cond}
-use Rattle.rv_word.specs.declared.instr.Cond.TheVariants.{Beq, Bne}
-use Rattle.rv_word.specs.declared.instr.ImmOp.TheVariants.{Addi}
-use Rattle.rv_text.specs.declared.cause.TextCause.{TextCause}
+use Rattle.rv_text.proofs.Words.{◌≡◌, ℕ, List, [], ◌∷◌, ◌⊎◌, inl, inr, refl, sym, ap, ◌∙◌, subst, ℤ, Result, Ok, Err, IfOk, IfErr, MatchResult, flat_map, IfOk-weaker, Instr, Cond, TextCause, Mnemonic, Part, Directive, Pseudo, Nop, Ret, DataWidth, Keyword, Statement, IsBlank, AreTokens, LeadsTo, name_of, form_of, OperandValues, Departs, mnemonic_of, operands_of, Spells, OperandsDepart, Reads, AgreesOn, FollowsName, directive_form, directive_states, pseudo_form, pseudo_states, branch_form, branch_states, jal_form, jal_states, data_kind, data_bytes, Writes, AreMore, IsRow, IsData, StatesAfter, InstrDeparts, RefusedWith, ReadsRow, ReadsInstr, ReadsAfter, ReadsList, Stated, within, bytes, plain, stated, IsRightStatement}
 use Rattle.rv_text.specs.declared.cause.TextCause.TheVariants as cause
-use Rattle.rv_text.specs.declared.mnemonic.Mnemonic.{Mnemonic}
 use Rattle.rv_text.specs.declared.mnemonic.Mnemonic.TheVariants as mnemonic
-use Rattle.rv_text.specs.declared.form.Part.{Part}
-use Rattle.rv_text.specs.declared.keyword.Directive.{Directive}
 use Rattle.rv_text.specs.declared.keyword.Directive.TheVariants as directive
-use Rattle.rv_text.specs.declared.keyword.Pseudo.{Pseudo}
-use Rattle.rv_text.specs.declared.keyword.Pseudo.TheVariants.{Nop, Ret, Li, Mv, Jr, J, Call, Beqz, Bnez, La}
-use Rattle.rv_text.specs.declared.keyword.DataWidth.{DataWidth}
-use Rattle.rv_text.specs.declared.keyword.Keyword.{Keyword}
 use Rattle.rv_text.specs.declared.keyword.Keyword.TheVariants as keyword
-use Rattle.rv_text.specs.declared.statement.Statement.{Statement}
-use Rattle.rv_text.specs.Tokens.{IsBlank, AreTokens, LeadsTo}
-use Rattle.rv_text.specs.Mnemonics.{name_of}
-use Rattle.rv_text.specs.Forms.{form_of}
-use Rattle.rv_text.specs.Operands.{OperandValues, Departs}
-use Rattle.rv_text.specs.Statement.{mnemonic_of, operands_of, Spells, OperandsDepart}
-use Rattle.rv_text.specs.private.Reading.{Reads, AgreesOn, FollowsName}
-use Rattle.rv_text.specs.Keywords.{directive_form, directive_states, pseudo_form, pseudo_states, branch_form, branch_states, jal_form, jal_states, data_kind}
-use Rattle.rv_text.specs.Constants.{constant, data_bytes}
-use Rattle.rv_text.specs.Lines.{Writes, AreMore, IsRow, IsData, StatesAfter, InstrDeparts, RefusedWith}
-use Rattle.rv_text.specs.private.Lists.{ReadsRow, ReadsInstr, ReadsAfter, ReadsList}
-use Rattle.rv_text.specs.Stated.{Stated, format, sandbox, within, gate, compressed, bytes, plain, jump, address}
-use Rattle.rv_text.specs.private.Stated.{stated, IsRightStatement}
 use Rattle.rv_text.proofs.Keywords.{name_unique}
 use Rattle.rv_text.proofs.Meaning.{tokens_of, from_tokens, agree}
 use Rattle.rv_text.proofs.OneMeaning.{follows_one}
@@ -117,30 +89,19 @@ states_reads (keyword.Numbers width) text s (ts, are, h) = list_reads width ts t
 
 -- what a row states is by the operands of its form alone
 directive_agrees : (d : Directive) (a b : OperandValues) → AgreesOn (directive_form d) a b → directive_states d a ≡ directive_states d b
-directive_agrees directive.Format a b h = λ i. format (unsigned_abs (h.0 i))
-directive_agrees directive.Sandbox a b h = λ i. sandbox (unsigned_abs (h.0 i))
-directive_agrees directive.Gate a b h = λ i. within (gate (h.0 i) (unsigned_abs (h.1.0 i)))
-directive_agrees directive.Option a b h = λ i. within (compressed (h.0 i))
 directive_agrees directive.Data a b h = refl
-directive_agrees directive.Zero a b h = λ i. within (bytes (replicate (unsigned_abs (h.0 i)) 0))
+directive_agrees _ a b h = cc
 
 pseudo_agrees : (p : Pseudo) (a b : OperandValues) → AgreesOn (pseudo_form p) a b → pseudo_states p a ≡ pseudo_states p b
 pseudo_agrees Nop a b h = refl
 pseudo_agrees Ret a b h = refl
-pseudo_agrees Li a b h = λ i. within (plain (constant (h.0 i) (h.1.1.0 i)))
-pseudo_agrees Mv a b h = λ i. within (plain (instr.OpImm Addi (h.0 i) (h.1.1.0 i) (pos 0) ∷ []))
-pseudo_agrees Jr a b h = λ i. within (plain (instr.Jalr 0 (h.0 i) (pos 0) ∷ []))
-pseudo_agrees J a b h = λ i. within (jump (instr.Jal 0 (pos 0)) (h.0 i))
-pseudo_agrees Call a b h = λ i. within (jump (instr.Jal 1 (pos 0)) (h.0 i))
-pseudo_agrees Beqz a b h = λ i. within (jump (instr.Branch Beq (h.0 i) 0 (pos 0)) (h.1.1.0 i))
-pseudo_agrees Bnez a b h = λ i. within (jump (instr.Branch Bne (h.0 i) 0 (pos 0)) (h.1.1.0 i))
-pseudo_agrees La a b h = λ i. within (address (h.0 i) (h.1.1.0 i))
+pseudo_agrees _ a b h = cc
 
 branch_agrees : (cond : Cond) (a b : OperandValues) → AgreesOn branch_form a b → branch_states cond a ≡ branch_states cond b
-branch_agrees cond a b h = λ i. within (jump (instr.Branch cond (h.0 i) (h.1.1.0 i) (pos 0)) (h.1.1.1.1.0 i))
+branch_agrees cond a b h = cc
 
 jal_agrees : (a b : OperandValues) → AgreesOn jal_form a b → jal_states a ≡ jal_states b
-jal_agrees a b h = λ i. within (jump (instr.Jal (h.0 i) (pos 0)) (h.1.1.0 i))
+jal_agrees a b h = cc
 
 row_one : (form : List Part) (states : OperandValues → Stated) → ((a b : OperandValues) → AgreesOn form a b → states a ≡ states b) → (text : List ℕ) (s t : Stated) → ReadsRow form states text s → ReadsRow form states text t → s ≡ t
 row_one form states agrees text s t (o, reads, e) (p, read, f) = e ∙ agrees o p (agree o p form text reads read) ∙ sym f
@@ -196,12 +157,10 @@ states_not k text s e h r = reads_not k text s e (states_reads k text s h) r
 -- what the code's answer says of the text after a keyword
 module _ (k : Keyword) (text : List ℕ) where
   pub answer_states : (r : Result Statement TextCause) → IfOk r (λ s. ReadsAfter k text (stated s)) → IfOk r (λ s. StatesAfter k text (stated s))
-  answer_states (Ok s) h = reads_states k text (stated s) h
-  answer_states (Err e) h = tt
+  answer_states r h = IfOk-weaker r _ _ (λ s. reads_states k text (stated s)) h
 
   pub answer_right : (r : Result Statement TextCause) → IfOk r (λ s. ReadsAfter k text (stated s)) → IfOk r (λ s. IsRightStatement (stated s))
-  answer_right (Ok s) h = let states = reads_states k text (stated s) h in after_right k states.0 (stated s) states.2
-  answer_right (Err e) h = tt
+  answer_right r h = IfOk-weaker r _ _ (λ s h. let states = reads_states k text (stated s) h in after_right k states.0 (stated s) states.2) h
 
   pub answer_only : (r : Result Statement TextCause) → IfOk r (λ s. ReadsAfter k text (stated s)) → IfErr r (λ e. (e ≡ cause.Memory) ⊎ RefusedWith k text e) → (s : Stated) → StatesAfter k text s → MatchResult r (λ t. stated t ≡ s) (λ e. e ≡ cause.Memory)
   answer_only (Ok t) h c s states = reads_one k text (stated t) s h (states_reads k text s states)

@@ -1,21 +1,6 @@
 -- A list of data is read in one way.
-use Rattle.std.proofs.Common.{◌≡◌, ℕ, List, [], ◌∷◌, ◌++◌, ◌⊎◌, inl, inr, refl, sym, ap, ◌∙◌, subst, arith, ℤ, pos, Some}
-use Rattle.std.specs.Prelude.{codes}
-use Rattle.std.specs.List.{flat_map}
-use Rattle.std.proofs.lemmas.List.{flat_map_more}
-use Rattle.rv_text.specs.declared.cause.TextCause.{TextCause}
+use Rattle.rv_text.proofs.Words.{◌≡◌, ℕ, List, [], ◌∷◌, ◌++◌, ◌⊎◌, inl, inr, refl, sym, ap, ◌∙◌, subst, ℤ, pos, Some, codes, flat_map, flat_map_more, TextCause, NumberKind, Number, Comma, DataWidth, Takes, IsBlank, AreTokens, IsNumber, IsNumberOf, Differs, data_kind, data_bytes, operands, Writes, AreMore, LeadsByMore, NumberDeparts, MoreDeparts, ListDeparts, ReadsNumber, ReadsList, ReadsAnother}
 use Rattle.rv_text.specs.declared.cause.TextCause.TheVariants as cause
-use Rattle.rv_text.specs.declared.form.NumberKind.{NumberKind}
-use Rattle.rv_text.specs.declared.form.Part.TheVariants.{Number, Comma}
-use Rattle.rv_text.specs.declared.keyword.DataWidth.{DataWidth}
-use Rattle.rv_text.specs.Tokens.{Takes, IsBlank, AreTokens, IsNumber}
-use Rattle.rv_text.specs.Forms.{IsNumberOf}
-use Rattle.rv_text.specs.Operands.{Differs}
-use Rattle.rv_text.specs.Keywords.{data_kind}
-use Rattle.rv_text.specs.Constants.{data_bytes}
-use Rattle.rv_text.specs.Statement.{operands}
-use Rattle.rv_text.specs.Lines.{Writes, AreMore, LeadsByMore, NumberDeparts, MoreDeparts, ListDeparts}
-use Rattle.rv_text.specs.private.Lists.{ReadsNumber, ReadsList, ReadsAnother}
 use Rattle.rv_text.proofs.Numbers.{number_unique}
 use Rattle.rv_text.proofs.Taking.{takes_unique, blank_takes_none}
 use Rattle.rv_text.proofs.Fronts.{One, either_one, along, token_at, front_at, token_one, front_one}

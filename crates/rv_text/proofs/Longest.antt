@@ -1,13 +1,6 @@
 -- Where a token ends: at a mark, at a space, at the end of the text.
-use Rattle.std.proofs.Common.{◌≡◌, ℕ, ◌≤◌, Bool, true, false, ◌||◌, List, [], ◌∷◌, ◌++◌, length, length-append, ◌⊎◌, inl, inr, ⊎_elim, refl, sym, ap, ◌∙◌, subst, arith}
-use Rattle.std.specs.List.{AllByRecursion}
-use Rattle.std.specs.Char.{is_ascii_digit, is_ascii_hexdigit}
-use Rattle.std.proofs.lemmas.Bool.Decides.{nat_tests}
-use Rattle.std.proofs.lemmas.Bool.{false≢true}
-use Rattle.rv_text.specs.Tokens.{is_space, IsBlank, IsMagnitude, is_mark, IsToken, Takes}
-use Rattle.rv_source.specs.Names.{begins_name, continues_name}
-use Rattle.rv_text.specs.private.Scan.{token_len}
-use Rattle.rv_text.proofs.Lexing.{Passes, numeral_passes, hex_passes, token_within, token_at_mark}
+use Rattle.rv_text.proofs.Words.{◌≡◌, ℕ, ◌≤◌, Bool, true, false, ◌||◌, List, [], ◌∷◌, ◌++◌, length, length-append, ◌⊎◌, inl, inr, ⊎_elim, refl, sym, ap, ◌∙◌, subst, arith, AllByRecursion, is_ascii_digit, is_ascii_hexdigit, nat_tests, false≢true, is_space, IsBlank, IsMagnitude, is_mark, IsToken, Takes, begins_name, continues_name, token_len}
+use Rattle.rv_text.proofs.Lexing.{all_by, numeral_passes, hex_passes, token_within, token_at_mark}
 
 -- a mark or a space ends the token before it
 abbrev pub ends_word : ℕ → Bool
@@ -15,10 +8,6 @@ ends_word c = is_mark c || is_space c
 
 abbrev Plain : List ℕ → Type 0
 Plain text = AllByRecursion (λ c. ends_word c ≡ false) text
-
-plain_from : (p : ℕ → Bool) → ((c : ℕ) → p c ≡ true → ends_word c ≡ false) → (text : List ℕ) → Passes p text → Plain text
-plain_from p f [] h = tt
-plain_from p f (c ∷ cs) h = (f c h.0, plain_from p f cs h.1)
 
 begins_plain : (c : ℕ) → begins_name c ≡ true → ends_word c ≡ false
 begins_plain c h = grind (arith, nat_tests)
@@ -33,13 +22,13 @@ hex_plain : (c : ℕ) → is_ascii_hexdigit c ≡ true → ends_word c ≡ false
 hex_plain c h = grind (arith, nat_tests)
 
 magnitude_plain : (text : List ℕ) (n : ℕ) → IsMagnitude text n → Plain text
-magnitude_plain text n (inl h) = plain_from is_ascii_digit digit_plain text (numeral_passes text h.0.1)
-magnitude_plain text n (inr (ds, e, h, v)) = rw e (refl, (refl, plain_from is_ascii_hexdigit hex_plain ds (hex_passes ds h.1)))
+magnitude_plain text n (inl h) = all_by _ (λ c. ends_word c ≡ false) digit_plain text (numeral_passes text h.0.1)
+magnitude_plain text n (inr (ds, e, h, v)) = rw e (refl, (refl, all_by _ (λ c. ends_word c ≡ false) hex_plain ds (hex_passes ds h.1)))
 
 -- a token is one mark, or has none and no space
 token_plain : (token : List ℕ) → IsToken token → Plain token ⊎ (length token ≡ 1)
 token_plain [] (inl name) = absurd name
-token_plain (c ∷ cs) (inl name) = inl (begins_plain c name.0, plain_from continues_name continues_plain cs name.1)
+token_plain (c ∷ cs) (inl name) = inl (begins_plain c name.0, all_by _ (λ c. ends_word c ≡ false) continues_plain cs name.1)
 token_plain token (inr (inl (z, inl (n, h, e)))) = inl (magnitude_plain token n h)
 token_plain token (inr (inl (z, inr (n, digits, e, h, v)))) = inl (rw e (refl, magnitude_plain digits n h))
 token_plain token (inr (inr (c, h, e))) = inr (ap length e ∙ omega arith)

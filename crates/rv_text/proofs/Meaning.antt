@@ -1,24 +1,9 @@
 -- What the text after an instruction's name has to do with what the whole text means.
-use Rattle.std.proofs.Common.{◌≡◌, ℕ, List, [], ◌∷◌, inl, inr, refl, sym, ap, ◌∙◌, subst, Bool, true, false, Some, Result, Ok, Err, IfOk}
-use Rattle.rv_word.specs.declared.instr.Instr.{Instr}
-use Rattle.rv_text.specs.declared.cause.TextCause.{TextCause}
-use Rattle.rv_text.specs.declared.mnemonic.Mnemonic.{Mnemonic}
-use Rattle.rv_text.specs.declared.form.Part.{Part}
-use Rattle.rv_text.specs.declared.form.Part.TheVariants.{Rd, Rs1, Rs2, Number, Name, Mode}
-use Rattle.rv_text.specs.Tokens.{Takes, IsBlank, LeadsTo, AreTokens}
-use Rattle.rv_text.specs.Registers.{IsRegister}
-use Rattle.rv_text.specs.Mnemonics.{name_of}
-use Rattle.rv_text.specs.Forms.{form_of}
-use Rattle.rv_text.specs.Operands.{OperandValues, Stands, HasForm, mode_name}
-use Rattle.rv_text.specs.private.Reading.{Reads, SameAt, AgreesOn, FollowsName, FollowsToken}
-use Rattle.rv_text.specs.Statement.{mnemonic_of, operands_of, Means}
-use Rattle.rv_text.proofs.RegisterNames.{register_own}
+use Rattle.rv_text.proofs.Words.{◌≡◌, ℕ, List, [], ◌∷◌, inl, inr, refl, sym, ap, ◌∙◌, subst, Bool, true, false, Result, IfOk, IfOk-weaker, Instr, TextCause, Mnemonic, Part, Rd, Rs1, Rs2, Number, Name, Mode, Takes, IsBlank, LeadsTo, AreTokens, name_of, form_of, OperandValues, Stands, HasForm, mode_name, Reads, SameAt, AgreesOn, FollowsName, FollowsToken, mnemonic_of, operands_of, Means}
+use Rattle.rv_text.proofs.RegisterNames.{register_unique}
 use Rattle.rv_text.proofs.Numbers.{number_unique}
 use Rattle.rv_text.proofs.Taking.{takes_unique}
 use Rattle.rv_text.proofs.Forms.{stands_by_operand}
-
-pub register_unique : (text : List ℕ) (r s : ℕ) → IsRegister text r → IsRegister text s → r ≡ s
-register_unique text r s h k = let e : Some r ≡ Some s = sym (register_own text r h) ∙ register_own text s k in cc
 
 mode_unique : (a b : Bool) → mode_name a ≡ mode_name b → a ≡ b
 mode_unique true true h = refl
@@ -90,5 +75,4 @@ follows rest name o i reads same agrees =
 
 -- what has the name of a mnemonic has the token
 pub token_follows : (r : Result Instr TextCause) (token rest : List ℕ) (name : Mnemonic) → name_of name ≡ token → IfOk r (λ i. FollowsName rest name i) → IfOk r (λ i. FollowsToken token rest i)
-token_follows (Ok i) token rest name named h = (ap name_of h.0 ∙ named, h.1)
-token_follows (Err e) token rest name named h = tt
+token_follows r token rest name named h = IfOk-weaker r _ _ (λ i h. (ap name_of h.0 ∙ named, h.1)) h

@@ -1,14 +1,5 @@
 -- A text writes one number, and one whose digits write none of 64 bits writes none that 32 bits hold.
-use Rattle.std.proofs.Common.{◌≡◌, ℕ, ◌<◌, ◌^◌, List, ◌∷◌, ◌++◌, inl, inr, get_or, sym, ap, ◌∙◌, subst, arith, ℤ, pos, neg_ℤ}
-use Rattle.std.specs.Prelude.{codes}
-use Rattle.std.proofs.lemmas.Int.{ints}
-use Rattle.std.proofs.lemmas.Bool.Decides.{nat_tests}
-use Rattle.std.specs.Str.Parse.{AllDigits, digits_value}
-use Rattle.rv_text.specs.Tokens.{IsMagnitude, IsNumber}
-use Rattle.rv_text.specs.private.Numbers.{IsInReach}
-use Rattle.rv_text.specs.declared.form.NumberKind.{NumberKind}
-use Rattle.rv_text.specs.declared.form.NumberKind.TheVariants.{Immediate, ShiftAmount, BranchOffset, JumpOffset, Upper, FenceFields, DataSize}
-use Rattle.rv_text.specs.Forms.{IsNumberOf}
+use Rattle.rv_text.proofs.Words.{◌≡◌, ℕ, ◌<◌, ◌^◌, List, ◌∷◌, ◌++◌, inl, inr, get_or, sym, ap, ◌∙◌, subst, arith, ℤ, pos, neg_ℤ, codes, ints, nat_tests, AllDigits, digits_value, IsMagnitude, IsNumber, IsInReach, NumberKind, DataSize, IsNumberOf}
 
 abbrev WritesNone : List ℕ → Type 0
 WritesNone text = (n : ℕ) → IsMagnitude text n → n < 2 ^ 64 → ⊥
@@ -54,11 +45,5 @@ number_unique text y z (inr (m, ds, f, k, g)) (inr (n, es, i, l, j)) =
 
 -- a number of any kind is one that 32 bits hold
 pub kind_in_reach : (kind : NumberKind) (z : ℤ) → IsNumberOf kind z → IsInReach z
-kind_in_reach Immediate z h = (omega (arith, ints), omega (arith, ints))
-kind_in_reach ShiftAmount z h = (omega (arith, ints), omega (arith, ints))
-kind_in_reach BranchOffset z h = (omega (arith, ints), omega (arith, ints))
-kind_in_reach JumpOffset z h = (omega (arith, ints), omega (arith, ints))
-kind_in_reach Upper z h = (omega (arith, ints), omega (arith, ints))
-kind_in_reach FenceFields z h = (omega (arith, ints), omega (arith, ints))
 kind_in_reach DataSize z (size, is, h) = (omega (arith, ints, h.at_most), omega (arith, ints, h.at_most))
 kind_in_reach _ z h = (omega (arith, ints), omega (arith, ints))

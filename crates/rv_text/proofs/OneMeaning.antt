@@ -1,16 +1,7 @@
 -- A text means one instruction at most, and that is in range.
-use Rattle.std.proofs.Common.{◌≡◌, ℕ, List, inl, inr, refl, sym, ap, ◌∙◌, subst, ℤ, pos, negsuc}
-use Rattle.rv_word.specs.declared.instr.Instr.{Instr}
+use Rattle.rv_text.proofs.Words.{◌≡◌, ℕ, List, inl, inr, refl, sym, ap, ◌∙◌, subst, ℤ, pos, negsuc, Instr, InRange, Mnemonic, OperandValues, IsBlank, form_of, Reads, AgreesOn, Follows, mnemonic_of, operands_of, OneMeaning, MeaningsAreInRange}
 use Rattle.rv_word.specs.declared.instr.Instr.TheVariants as instr
-use Rattle.rv_word.specs.Spelling.{InRange}
-use Rattle.rv_text.specs.declared.mnemonic.Mnemonic.{Mnemonic}
 use Rattle.rv_text.specs.declared.mnemonic.Mnemonic.TheVariants as mnemonic
-use Rattle.rv_text.specs.Operands.{OperandValues}
-use Rattle.rv_text.specs.Tokens.{IsBlank}
-use Rattle.rv_text.specs.Forms.{form_of}
-use Rattle.rv_text.specs.private.Reading.{Reads, AgreesOn, Follows}
-use Rattle.rv_text.specs.Statement.{mnemonic_of, operands_of}
-use Rattle.rv_text.specs.Laws.{OneMeaning, MeaningsAreInRange}
 use Rattle.rv_text.proofs.Keywords.{name_unique}
 use Rattle.rv_text.proofs.Taking.{blank_takes_none}
 use Rattle.rv_text.proofs.Forms.{reads_fit}
@@ -18,11 +9,11 @@ use Rattle.rv_text.proofs.Ranges.{fits_in_range, full_fence_in_range}
 use Rattle.rv_text.proofs.Meaning.{agree, meant, first_token}
 
 -- an instruction is what its mnemonic and its operands make
-abbrev natural : ℤ → ℕ
+abbrev pub natural : ℤ → ℕ
 natural (pos n) = n
 natural (negsuc n) = 0
 
-abbrev made : Mnemonic → OperandValues → Instr
+abbrev pub made : Mnemonic → OperandValues → Instr
 made (mnemonic.Op op) o = instr.Op op o.rd o.rs1 o.rs2
 made (mnemonic.OpImm op) o = instr.OpImm op o.rd o.rs1 o.number
 made (mnemonic.Load kind) o = instr.Load kind o.rd o.rs1 o.number
@@ -41,18 +32,9 @@ made_own (instr.Op op rd rs1 rs2) = refl
 made_own _ = refl
 
 made_agrees : (m : Mnemonic) (a b : OperandValues) → AgreesOn (form_of m) a b → made m a ≡ made m b
-made_agrees (mnemonic.Op op) a b h = λ i. instr.Op op (h.0 i) (h.1.1.0 i) (h.1.1.1.1.0 i)
-made_agrees (mnemonic.OpImm op) a b h = λ i. instr.OpImm op (h.0 i) (h.1.1.0 i) (h.1.1.1.1.0 i)
-made_agrees (mnemonic.Load kind) a b h = λ i. instr.Load kind (h.0 i) (h.1.1.1.1.0 i) (h.1.1.0 i)
-made_agrees (mnemonic.Store width) a b h = λ i. instr.Store width (h.1.1.1.1.0 i) (h.0 i) (h.1.1.0 i)
-made_agrees (mnemonic.Branch cond) a b h = λ i. instr.Branch cond (h.0 i) (h.1.1.0 i) (h.1.1.1.1.0 i)
-made_agrees mnemonic.Jal a b h = λ i. instr.Jal (h.0 i) (h.1.1.0 i)
-made_agrees mnemonic.Jalr a b h = λ i. instr.Jalr (h.0 i) (h.1.1.1.1.0 i) (h.1.1.0 i)
-made_agrees mnemonic.Lui a b h = λ i. instr.Lui (h.0 i) (natural (h.1.1.0 i))
-made_agrees mnemonic.Auipc a b h = λ i. instr.Auipc (h.0 i) (natural (h.1.1.0 i))
-made_agrees mnemonic.Fence a b h = λ i. instr.Fence (natural (h.0 i)) (h.1.1.0 i) (h.1.1.1.1.0 i)
 made_agrees mnemonic.Ecall a b h = refl
 made_agrees mnemonic.Ebreak a b h = refl
+made_agrees _ a b h = cc
 
 same_instr : (i j : Instr) → mnemonic_of j ≡ mnemonic_of i → AgreesOn (form_of (mnemonic_of i)) (operands_of i) (operands_of j) → i ≡ j
 same_instr i j same h =

@@ -1,26 +1,10 @@
 -- A line leads to one source so far at most, or is refused for one cause at most, and never both; so a text has one meaning or one fault at most.
-use Rattle.std.proofs.Common.{◌≡◌, refl, sym, ap, subst, subst₂, ◌∙◌, ℕ, ◌+◌, ◌⊎◌, inl, inr, List, [], ◌∷◌, Some, arith, codes}
-use Rattle.std.proofs.lemmas.Option.{same_Some, none-some}
-use Rattle.sfi_policy.specs.declared.format.Format.{Format}
-use Rattle.sfi_policy.specs.declared.format.Format.TheVariants.{Sfi1, Sfi2}
-use Rattle.rv_text.specs.declared.cause.TextCause.{TextCause}
+use Rattle.rv_text.proofs.Words.{◌≡◌, refl, sym, ap, subst, subst₂, ◌∙◌, ℕ, ◌+◌, ◌⊎◌, inl, inr, List, [], ◌∷◌, Some, arith, codes, same_Some, none-some, Format, Sfi1, Sfi2, TextCause, TextFault, Keyword, Takes, IsName, keyword_name, RefusedWith, NameRefused, Stated, number_of_format, format, sandbox, within, StatedWithin, SoFar, with_label, nothing, sandboxes, IsFree, Fits, Labels, RefusesLabel, GoesOn, Does, with_stated, HasNoRoom, BeginsWithLabel, HasNoLabel, LabelsLead, PassesLabels, LeadsAfter, RestLeads, LabelRefused, PassesLimit, OperandsRefused, RefusedAfter, RefusedFrom, StatementRefused, uncommented, lines, LinesLead, FirstRefused, LeadsOnce, LeadingIsNotRefused, RefusedOnce, OneSource, OneFault, MeantHasNoFault}
 use Rattle.rv_text.specs.declared.cause.TextCause.TheVariants as cause
-use Rattle.rv_text.specs.declared.fault.TextFault.{TextFault}
-use Rattle.rv_text.specs.declared.keyword.Keyword.{Keyword}
-use Rattle.rv_text.specs.Tokens.{Takes}
-use Rattle.rv_source.specs.Names.{IsName}
-use Rattle.rv_text.specs.Keywords.{keyword_name}
-use Rattle.rv_text.specs.Lines.{RefusedWith, NameRefused}
-use Rattle.rv_text.specs.Stated.{Stated, number_of_format, format, sandbox, within, StatedWithin}
-use Rattle.rv_text.specs.SoFar.{SoFar, with_label, nothing, sandboxes}
-use Rattle.rv_text.specs.Effects.{IsFree, Fits, Labels, RefusesLabel, GoesOn, Does, with_stated, HasNoRoom}
-use Rattle.rv_text.specs.Leads.{BeginsWithLabel, HasNoLabel, LabelsLead, PassesLabels, LeadsAfter, RestLeads, LabelRefused, PassesLimit, OperandsRefused, RefusedAfter, RefusedFrom, StatementRefused}
-use Rattle.rv_text.specs.Texts.{uncommented, lines, LinesLead, FirstRefused}
-use Rattle.rv_text.specs.Laws.{LeadsOnce, LeadingIsNotRefused, RefusedOnce, OneSource, OneFault, MeantHasNoFault}
 use Rattle.rv_text.proofs.Taking.{takes_unique, blank_takes_none}
 use Rattle.rv_text.proofs.Fronts.{One, either_one, token_at, token_one}
 use Rattle.rv_text.proofs.Keywords.{keyword_unique}
-use Rattle.rv_text.proofs.KeywordNames.{keyword_named}
+use Rattle.rv_text.proofs.Printing.{keyword_named}
 use Rattle.rv_text.proofs.Lines.{states_one, states_not, refused_one}
 
 -- Labels.

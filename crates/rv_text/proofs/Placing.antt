@@ -1,12 +1,6 @@
 -- What placing a name changes in the table of names, and what it leaves.
-use Rattle.std.proofs.Common.{◌≡◌, ◌≢◌, refl, sym, subst, ◌∙◌, ℕ, zero, suc, ◌+◌, ◌<◌, ◌≤◌, ◌⊎◌, inl, inr, Bool, true, false, if◌then◌else◌, List, [], ◌∷◌, Some, map, slice_get, length, Contains, arith}
-use Rattle.std.specs.List.{IsDistinct, AllByRecursion}
-use Rattle.std.specs.Str.{bytes_eq}
-use Rattle.std.proofs.lemmas.Option.{same_Some, none-some}
-use Rattle.std.proofs.lemmas.Slice.Eq.{bytes_eq-Decides}
-use Rattle.rv_source.specs.declared.item.Named.{Named}
-use Rattle.rv_source.specs.declared.item.Named.TheVariants.{Unknown}
-use Rattle.rv_source.specs.NameTable.{meaning, place_of, placed}
+use Rattle.rv_text.proofs.Words.{◌≡◌, ◌≢◌, refl, sym, subst, ◌∙◌, ℕ, zero, suc, ◌+◌, ◌<◌, ◌≤◌, ◌⊎◌, inl, inr, Bool, true, false, if◌then◌else◌, List, [], ◌∷◌, Some, map, slice_get, length, Contains, arith, AllByRecursion, bytes_eq, same_Some, none-some, cases_Bool, false≢true, bytes_eq-Decides, Named, Unknown, meaning, place_of, placed}
+use Rattle.std.specs.List.{IsDistinct}
 
 -- the next number
 next : (n : ℕ) → suc n ≡ 1 + n
@@ -31,28 +25,19 @@ contained_has (e ∷ es) what (suc k, within, is) = inr (contained_has es what (
 -- the name that is placed names that
 pub placed_has : (names : List (List ℕ × Named)) (name : List ℕ) (what : Named) → Has (placed names name what) what
 placed_has [] name what = inl refl
-placed_has (e ∷ es) name what = by (bytes_eq name e.0) (placed_has es name what)
-  where
-    by : (b : Bool) → Has (placed es name what) what → Has (if b then (name, what) ∷ es else e ∷ placed es name what) what
-    by true more = inl refl
-    by false more = inr more
+placed_has (e ∷ es) name what = elim (cases_Bool (bytes_eq name e.0)) [ inl is ↦ rw is (inl refl) | inr not ↦ rw not (inr (placed_has es name what)) ]
 
 -- what another names is still named, where the name was free
 pub placed_keeps : (names : List (List ℕ × Named)) (name : List ℕ) (what other : Named) → meaning names name ≡ Unknown → other ≢ Unknown
     → Has names other → Has (placed names name what) other
 placed_keeps [] name what other free differs h = absurd h
-placed_keeps (e ∷ es) name what other free differs h = by (bytes_eq name e.0) (placed_keeps es name what other) free h
-  where
-    by : (b : Bool) → (meaning es name ≡ Unknown → other ≢ Unknown → Has es other → Has (placed es name what) other)
-        → (if b then e.1 else meaning es name) ≡ Unknown → Has (e ∷ es) other
-        → Has (if b then (name, what) ∷ es else e ∷ placed es name what) other
-    by true more free (inl is) = absurd (differs (sym is ∙ free))
-    by true more free (inr h) = inr h
-    by false more free (inl is) = inl is
-    by false more free (inr h) = inr (more free differs h)
+placed_keeps (e ∷ es) name what other free differs (inl at) =
+    elim (cases_Bool (bytes_eq name e.0)) [ inl is ↦ absurd (differs (sym at ∙ (rw is at free))) | inr not ↦ rw not (inl at) ]
+placed_keeps (e ∷ es) name what other free differs (inr h) =
+    elim (cases_Bool (bytes_eq name e.0)) [ inl is ↦ rw is (inr h) | inr not ↦ rw not (inr (placed_keeps es name what other (rw not at free) differs h)) ]
 
 -- and nothing else is named
-pub placed_only : (names : List (List ℕ × Named)) (name : List ℕ) (what other : Named)
+placed_only : (names : List (List ℕ × Named)) (name : List ℕ) (what other : Named)
     → Has (placed names name what) other → Has names other ⊎ (what ≡ other)
 placed_only [] name what other (inl is) = inr is
 placed_only [] name what other (inr h) = absurd h
@@ -63,99 +48,63 @@ placed_only (e ∷ es) name what other h = by (bytes_eq name e.0) (placed_only e
     by true more (inl is) = inr is
     by true more (inr h) = inl (inr h)
     by false more (inl is) = inl (inl is)
-    by false more (inr h) = up (more h)
-      where
-        up : Has es other ⊎ (what ≡ other) → Has (e ∷ es) other ⊎ (what ≡ other)
-        up (inl k) = inl (inr k)
-        up (inr is) = inr is
+    by false more (inr h) = elim (more h) [ inl k ↦ inl (inr k) | inr is ↦ inr is ]
+
+pub placed_back : (names : List (List ℕ × Named)) (name : List ℕ) (what other : Named) → what ≢ other → Has (placed names name what) other → Has names other
+placed_back names name what other apart h = elim (placed_only names name what other h) [ inl k ↦ k | inr is ↦ absurd (apart is) ]
 
 -- the place of the name that is placed
 pub placed_at : (names : List (List ℕ × Named)) (name : List ℕ) (what : Named)
     → slice_get (map (λ e. e.1) (placed names name what)) (place_of names name) ≡ Some what
 placed_at [] name what = refl
-placed_at (e ∷ es) name what = by (bytes_eq name e.0) (placed_at es name what)
-  where
-    by : (b : Bool) → slice_get (map (λ e. e.1) (placed es name what)) (place_of es name) ≡ Some what
-        → slice_get (map (λ e. e.1) (if b then (name, what) ∷ es else e ∷ placed es name what)) (if b then 0 else 1 + place_of es name) ≡ Some what
-    by true more = refl
-    by false more = subst (λ n. slice_get (map (λ e. e.1) (e ∷ placed es name what)) n ≡ Some what) (next (place_of es name)) more
+placed_at (e ∷ es) name what = elim (cases_Bool (bytes_eq name e.0)) [ inl is ↦ rw is refl | inr not ↦ rw (not, ← next) (placed_at es name what) ]
 
 -- the others keep theirs
 pub placed_stays : (names : List (List ℕ × Named)) (name : List ℕ) (what other : Named) (k : ℕ) → meaning names name ≡ Unknown → other ≢ Unknown
     → slice_get (map (λ e. e.1) names) k ≡ Some other → slice_get (map (λ e. e.1) (placed names name what)) k ≡ Some other
 placed_stays [] name what other k free differs h = absurd (none-some other h)
-placed_stays (e ∷ es) name what other zero free differs h = by (bytes_eq name e.0) free
-  where
-    by : (b : Bool) → (if b then e.1 else meaning es name) ≡ Unknown
-        → slice_get (map (λ e. e.1) (if b then (name, what) ∷ es else e ∷ placed es name what)) 0 ≡ Some other
-    by true free = absurd (differs (sym (same_Some _ _ h) ∙ free))
-    by false free = h
-placed_stays (e ∷ es) name what other (suc k) free differs h = by (bytes_eq name e.0) (placed_stays es name what other k) free
-  where
-    by : (b : Bool) → (meaning es name ≡ Unknown → other ≢ Unknown → slice_get (map (λ e. e.1) es) k ≡ Some other
-        → slice_get (map (λ e. e.1) (placed es name what)) k ≡ Some other)
-        → (if b then e.1 else meaning es name) ≡ Unknown
-        → slice_get (map (λ e. e.1) (if b then (name, what) ∷ es else e ∷ placed es name what)) (suc k) ≡ Some other
-    by true more free = h
-    by false more free = more free differs h
+placed_stays (e ∷ es) name what other zero free differs h =
+    elim (cases_Bool (bytes_eq name e.0)) [ inl is ↦ absurd (differs (sym (same_Some _ _ h) ∙ (rw is at free))) | inr not ↦ rw not h ]
+placed_stays (e ∷ es) name what other (suc k) free differs h =
+    elim (cases_Bool (bytes_eq name e.0)) [ inl is ↦ rw is h | inr not ↦ rw not (placed_stays es name what other k (rw not at free) differs h) ]
 
 -- what holds of each entry, and of the new one, holds of each afterwards
 pub placed_all : (P : List ℕ × Named → Type 0) (names : List (List ℕ × Named)) (name : List ℕ) (what : Named)
     → AllByRecursion P names → P (name, what) → AllByRecursion P (placed names name what)
 placed_all P [] name what h new = (new, tt)
-placed_all P (e ∷ es) name what h new = by (bytes_eq name e.0) (placed_all P es name what h.1 new)
-  where
-    by : (b : Bool) → AllByRecursion P (placed es name what) → AllByRecursion P (if b then (name, what) ∷ es else e ∷ placed es name what)
-    by true more = (new, h.1)
-    by false more = (h.0, more)
+placed_all P (e ∷ es) name what h new =
+    elim (cases_Bool (bytes_eq name e.0)) [ inl is ↦ rw is (new, h.1) | inr not ↦ rw not (h.0, placed_all P es name what h.1 new) ]
 
 -- there are as many names, or one more
 pub placed_grows : (names : List (List ℕ × Named)) (name : List ℕ) (what : Named) → length names ≤ length (placed names name what)
 placed_grows [] name what = omega arith
-placed_grows (e ∷ es) name what = by (bytes_eq name e.0) (placed_grows es name what)
-  where
-    by : (b : Bool) → length es ≤ length (placed es name what) → length (e ∷ es) ≤ length (if b then (name, what) ∷ es else e ∷ placed es name what)
-    by true more = omega arith
-    by false more = omega (arith, more)
+placed_grows (e ∷ es) name what = elim (cases_Bool (bytes_eq name e.0)) [ inl is ↦ rw is (omega arith) | inr not ↦ rw not (omega (arith, placed_grows es name what)) ]
 
 -- the place is one of them afterwards
 pub place_among : (names : List (List ℕ × Named)) (name : List ℕ) (what : Named) → place_of names name < length (placed names name what)
 place_among [] name what = omega arith
-place_among (e ∷ es) name what = by (bytes_eq name e.0) (place_among es name what)
-  where
-    by : (b : Bool) → place_of es name < length (placed es name what)
-        → (if b then 0 else 1 + place_of es name) < length (if b then (name, what) ∷ es else e ∷ placed es name what)
-    by true more = omega arith
-    by false more = omega (arith, more)
+place_among (e ∷ es) name what = elim (cases_Bool (bytes_eq name e.0)) [ inl is ↦ rw is (omega arith) | inr not ↦ rw not (omega (arith, place_among es name what)) ]
 
 -- a text that differs from each name and from the new one differs from each afterwards
 placed_apart : (text : List ℕ) (names : List (List ℕ × Named)) (name : List ℕ) (what : Named)
     → AllByRecursion (λ t. bytes_eq text t ≡ false) (map (λ e. e.0) names) → bytes_eq text name ≡ false
     → AllByRecursion (λ t. bytes_eq text t ≡ false) (map (λ e. e.0) (placed names name what))
 placed_apart text [] name what h new = (new, tt)
-placed_apart text (e ∷ es) name what h new = by (bytes_eq name e.0) (placed_apart text es name what h.1 new)
-  where
-    by : (b : Bool) → AllByRecursion (λ t. bytes_eq text t ≡ false) (map (λ e. e.0) (placed es name what))
-        → AllByRecursion (λ t. bytes_eq text t ≡ false) (map (λ e. e.0) (if b then (name, what) ∷ es else e ∷ placed es name what))
-    by true more = (new, h.1)
-    by false more = (h.0, more)
+placed_apart text (e ∷ es) name what h new =
+    elim (cases_Bool (bytes_eq name e.0)) [ inl is ↦ rw is (new, h.1) | inr not ↦ rw not (h.0, placed_apart text es name what h.1 new) ]
 
 -- texts that differ, the other way round
 flipped : (x y : List ℕ) → bytes_eq x y ≡ false → bytes_eq y x ≡ false
-flipped x y h = by (bytes_eq y x) refl
-  where
-    by : (b : Bool) → bytes_eq y x ≡ b → b ≡ false
-    by true is = sym ((bytes_eq-Decides x y).1 (sym ((bytes_eq-Decides y x).0 is))) ∙ h
-    by false is = refl
+flipped x y h =
+    elim (cases_Bool (bytes_eq y x)) [ inl is ↦ absurd (false≢true (sym h ∙ (bytes_eq-Decides x y).1 (sym ((bytes_eq-Decides y x).0 is)))) | inr not ↦ not ]
 
 -- the names still differ
 pub placed_differ : (names : List (List ℕ × Named)) (name : List ℕ) (what : Named)
     → IsDistinct bytes_eq (map (λ e. e.0) names) → IsDistinct bytes_eq (map (λ e. e.0) (placed names name what))
 unfolding IsDistinct
 placed_differ [] name what h = (tt, tt)
-placed_differ (e ∷ es) name what h = by (bytes_eq name e.0) refl (placed_differ es name what h.1)
-  where
-    by : (b : Bool) → bytes_eq name e.0 ≡ b → IsDistinct bytes_eq (map (λ e. e.0) (placed es name what))
-        → IsDistinct bytes_eq (map (λ e. e.0) (if b then (name, what) ∷ es else e ∷ placed es name what))
-    by true is more = (subst (λ t. AllByRecursion (λ y. bytes_eq t y ≡ false) (map (λ e. e.0) es)) (sym ((bytes_eq-Decides name e.0).0 is)) h.0, h.1)
-    by false is more = (placed_apart e.0 es name what h.0 (flipped name e.0 is), more)
+placed_differ (e ∷ es) name what h =
+    elim (cases_Bool (bytes_eq name e.0)) [
+      | inl is ↦ rw is (subst (λ t. AllByRecursion (λ y. bytes_eq t y ≡ false) (map (λ e. e.0) es)) (sym ((bytes_eq-Decides name e.0).0 is)) h.0, h.1)
+      | inr not ↦ rw not (placed_apart e.0 es name what h.0 (flipped name e.0 not), placed_differ es name what h.1)
+    ]

@@ -1,11 +1,6 @@
 -- A number is a power of two where one of its bits is set.
-use Rattle.std.proofs.Common.{◌≡◌, ℕ, zero, suc, ◌/◌, ◌%◌, ◌^◌, ◌≤◌, ap, ◌∙◌, refl, sym, arith, inl, inr, Bool}
-use Rattle.std.specs.Prelude.{IsTrue, ◌↔◌, count_ones}
-use Rattle.std.specs.Int.{IsPowerOfTwo, is_power_of_two}
-use Rattle.std.specs.Int.Count.{ones_step, ones, ones_in}
-use Rattle.std.proofs.lemmas.Nat.{zero_from_ones, ones_le_self}
-use Rattle.std.proofs.Math.Nat.{pow-suc}
-use Rattle.std.proofs.lemmas.Bool.{cases_lt, eqb-true, eq-eqb}
+use Rattle.rv_text.proofs.Words.{◌≡◌, ℕ, zero, suc, ◌/◌, ◌%◌, ◌^◌, ◌≤◌, ap, ◌∙◌, refl, sym, arith, inl, inr, Bool, IsTrue, ◌↔◌, count_ones, IsPowerOfTwo, is_power_of_two, ones_step, zero_from_ones, ones_le_self, pow-suc, cases_lt, eqb-true, eq-eqb}
+use Rattle.std.specs.Int.Count.{ones, ones_in}
 
 power_by : (d n : ℕ) → n ≤ d → count_ones n ≡ 1 → IsPowerOfTwo n
 power_by zero n le e = absurd (omega (arith, ones_le_self n))

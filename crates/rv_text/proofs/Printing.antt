@@ -1,30 +1,8 @@
 -- What a printed word of each kind is: a name, a register, a decimal or a hexadecimal number.
-use Rattle.std.proofs.Common.{◌≡◌, ℕ, ◌<◌, ◌^◌, Bool, true, false, ◌&&◌, List, [], ◌∷◌, ◌++◌, inl, inr, refl, sym, arith, suc, ℤ, pos, negsuc}
-use Rattle.std.specs.Prelude.{codes}
-use Rattle.std.specs.List.{list_all}
-use Rattle.std.specs.Fmt.{decimal, signed_decimal, digits}
-use Rattle.std.specs.Char.{is_ascii_digit}
-use Rattle.std.proofs.lemmas.Fmt.{decimal_is_IsNumeral, digits_is_IsNumeral}
-use Rattle.std.proofs.lemmas.Int.{ints}
-use Rattle.std.proofs.lemmas.Bool.{and_parts, false≢true}
-use Rattle.std.proofs.lemmas.Bool.Decides.{nat_tests}
-use Rattle.rv_word.specs.declared.instr.RegOp.TheVariants.{Add}
-use Rattle.rv_word.specs.declared.instr.ImmOp.TheVariants.{Addi}
-use Rattle.rv_word.specs.declared.instr.LoadKind.TheVariants.{Lb}
-use Rattle.rv_word.specs.declared.instr.StoreWidth.TheVariants.{Sb}
-use Rattle.rv_word.specs.declared.instr.Cond.TheVariants.{Beq}
-use Rattle.rv_text.specs.declared.mnemonic.Mnemonic.{Mnemonic}
-use Rattle.rv_text.specs.declared.mnemonic.Mnemonic.TheVariants.{Op, OpImm, Load, Store, Branch}
-use Rattle.rv_text.specs.declared.form.NumberKind.{NumberKind}
-use Rattle.rv_text.specs.declared.form.NumberKind.TheVariants.{Upper}
-use Rattle.rv_text.specs.Tokens.{IsNumber, IsToken}
-use Rattle.rv_text.specs.private.Numbers.{IsInReach}
-use Rattle.rv_source.specs.Names.{begins_name, continues_name, IsName}
-use Rattle.rv_text.specs.Registers.{x_name}
-use Rattle.rv_text.specs.Mnemonics.{name_of}
-use Rattle.rv_text.specs.Forms.{IsNumberOf}
-use Rattle.rv_text.specs.Printed.{number_text}
-use Rattle.rv_text.proofs.Lexing.{Passes, numeral_passes}
+use Rattle.rv_text.proofs.Words.{◌≡◌, ℕ, ◌<◌, ◌^◌, Bool, true, false, ◌&&◌, List, [], ◌∷◌, ◌++◌, inl, inr, refl, sym, arith, suc, ℤ, pos, negsuc, codes, list_all, decimal, signed_decimal, digits, is_ascii_digit, decimal_is_IsNumeral, digits_is_IsNumeral, ints, and_parts, false≢true, nat_tests, Add, Addi, Lb, Sb, Beq, Mnemonic, Op, OpImm, Load, Store, Branch, Keyword, Nop, Word, keyword_name, NumberKind, Upper, IsNumber, IsToken, IsInReach, begins_name, continues_name, IsName, x_name, name_of, IsNumberOf, number_text}
+use Rattle.rv_text.specs.declared.keyword.Keyword.TheVariants as keyword
+use Rattle.rv_text.specs.declared.keyword.Directive.TheVariants.{Sandbox}
+use Rattle.rv_text.proofs.Lexing.{Passes, all_by, numeral_passes}
 use Rattle.rv_text.proofs.Numbers.{kind_in_reach}
 
 -- each name begins with a letter, and goes on with letters, digits, `_` and `.`
@@ -40,21 +18,23 @@ pub name_from : (text : List ℕ) → is_name text ≡ true → IsName text
 name_from [] h = absurd (false≢true h)
 name_from (c ∷ cs) h = let parts = and_parts _ _ h in (parts.0, all_pass continues_name cs parts.1)
 
-mnemonic_is_name : (m : Mnemonic) → is_name (name_of m) ≡ true
-mnemonic_is_name (Op Add) = refl
-mnemonic_is_name (Op _) = refl
-mnemonic_is_name (OpImm Addi) = refl
-mnemonic_is_name (OpImm _) = refl
-mnemonic_is_name (Load Lb) = refl
-mnemonic_is_name (Load _) = refl
-mnemonic_is_name (Store Sb) = refl
-mnemonic_is_name (Store _) = refl
-mnemonic_is_name (Branch Beq) = refl
-mnemonic_is_name (Branch _) = refl
-mnemonic_is_name _ = refl
+-- the first words of statements are names, by computation
+keyword_is_name : (k : Keyword) → is_name (keyword_name k) ≡ true
+keyword_is_name (keyword.Instr (Op Add)) = refl
+keyword_is_name (keyword.Instr (OpImm Addi)) = refl
+keyword_is_name (keyword.Instr (Load Lb)) = refl
+keyword_is_name (keyword.Instr (Store Sb)) = refl
+keyword_is_name (keyword.Instr (Branch Beq)) = refl
+keyword_is_name (keyword.Pseudo Nop) = refl
+keyword_is_name (keyword.Directive Sandbox) = refl
+keyword_is_name (keyword.Numbers Word) = refl
+keyword_is_name _ = refl
+
+pub keyword_named : (k : Keyword) → IsName (keyword_name k)
+keyword_named k = name_from (keyword_name k) (keyword_is_name k)
 
 pub name_is_name : (m : Mnemonic) → IsName (name_of m)
-name_is_name m = name_from (name_of m) (mnemonic_is_name m)
+name_is_name m = keyword_named (keyword.Instr m)
 
 pub name_token : (m : Mnemonic) → IsToken (name_of m)
 name_token m = inl (name_is_name m)
@@ -62,14 +42,10 @@ name_token m = inl (name_is_name m)
 digit_continues : (c : ℕ) → is_ascii_digit c ≡ true → continues_name c ≡ true
 digit_continues c h = grind (arith, nat_tests)
 
-digits_continue : (text : List ℕ) → Passes is_ascii_digit text → Passes continues_name text
-digits_continue [] h = tt
-digits_continue (c ∷ cs) h = (digit_continues c h.0, digits_continue cs h.1)
-
 pub register_token : (r : ℕ) → r < 32 → IsToken (x_name r)
 register_token r lt =
     let numeral = decimal_is_IsNumeral r (omega arith) in
-    inl (refl, digits_continue (decimal r) (numeral_passes (decimal r) numeral.0.1))
+    inl (refl, all_by _ _ digit_continues (decimal r) (numeral_passes (decimal r) numeral.0.1))
 
 decimal_number : (z : ℤ) → IsInReach z → IsNumber (signed_decimal z) z
 decimal_number (pos n) h = let numeral = decimal_is_IsNumeral n (omega (arith, ints)) in inl (n, inl (numeral.0, sym numeral.1), refl)

@@ -1,16 +1,7 @@
 -- An instruction is in range where its operands fit its form.
-use Rattle.std.proofs.Common.{ℕ, ◌<◌, ◌^◌, Bool, true, false, arith, ℤ, pos}
-use Rattle.std.specs.Prelude.{MatchBool, if◌then◌else◌}
-use Rattle.std.proofs.lemmas.Int.{ints}
-use Rattle.rv_word.specs.declared.instr.Instr.{Instr}
+use Rattle.rv_text.proofs.Words.{ℕ, ◌<◌, ◌^◌, Bool, true, false, arith, rules, ℤ, pos, MatchBool, if◌then◌else◌, ints, Instr, is_shift, IsBetween, IsImm12, Immediate, ShiftAmount, IsNumberOf, form_of, AllSuit, mnemonic_of, operands_of, full_fence}
 use Rattle.rv_word.specs.declared.instr.Instr.TheVariants as instr
-use Rattle.rv_word.specs.Functs.{is_shift}
-use Rattle.rv_word.specs.Numbers.{IsBetween}
-use Rattle.rv_word.specs.Spelling.{InRange, IsImm12}
-use Rattle.rv_text.specs.declared.form.NumberKind.TheVariants.{Immediate, ShiftAmount}
-use Rattle.rv_text.specs.Forms.{IsNumberOf, form_of}
-use Rattle.rv_text.specs.private.Reading.{AllSuit}
-use Rattle.rv_text.specs.Statement.{mnemonic_of, operands_of, full_fence}
+use Rattle.rv_word.specs.Spelling.{InRange}
 
 abbrev IsImmediate : Bool → ℤ → Type 0
 IsImmediate shift z = MatchBool shift (IsBetween (pos 0) (pos 31) z) (IsImm12 z)
@@ -37,33 +28,19 @@ fence_between n h = (omega (arith, ints), omega (arith, ints))
 
 pub fits_in_range : (i : Instr) → AllSuit (operands_of i) (form_of (mnemonic_of i)) → InRange i
 unfolding InRange
-fits_in_range (instr.Op op rd rs1 rs2) h = (h.0, h.1.1.0, h.1.1.1.1.0)
 fits_in_range (instr.OpImm op rd rs1 imm) h = (h.0, h.1.1.0, kind_immediate (is_shift op) imm h.1.1.1.1.0)
-fits_in_range (instr.Load kind rd rs1 imm) h = (h.0, h.1.1.1.1.0, h.1.1.0)
-fits_in_range (instr.Store width rs1 rs2 imm) h = (h.1.1.1.1.0, h.0, h.1.1.0)
-fits_in_range (instr.Branch cond rs1 rs2 offset) h = (h.0, h.1.1.0, h.1.1.1.1.0)
-fits_in_range (instr.Jal rd offset) h = (h.0, h.1.1.0)
-fits_in_range (instr.Jalr rd rs1 imm) h = (h.0, h.1.1.1.1.0, h.1.1.0)
 fits_in_range (instr.Lui rd imm) h = (h.0, below_upper imm h.1.1.0)
 fits_in_range (instr.Auipc rd imm) h = (h.0, below_upper imm h.1.1.0)
 fits_in_range (instr.Fence imm rd rs1) h = (below_fence imm h.0, h.1.1.0, h.1.1.1.1.0)
-fits_in_range instr.Ecall h = tt
-fits_in_range instr.Ebreak h = tt
+fits_in_range _ h = search rules
 
 pub in_range_fits : (i : Instr) → InRange i → AllSuit (operands_of i) (form_of (mnemonic_of i))
 unfolding InRange
-in_range_fits (instr.Op op rd rs1 rs2) h = (h.0, (tt, (h.1, (tt, (h.2, tt)))))
 in_range_fits (instr.OpImm op rd rs1 imm) h = (h.0, (tt, (h.1, (tt, (immediate_kinds (is_shift op) imm h.2, tt)))))
-in_range_fits (instr.Load kind rd rs1 imm) h = (h.0, (tt, (h.2, (tt, (h.1, (tt, tt))))))
-in_range_fits (instr.Store width rs1 rs2 imm) h = (h.1, (tt, (h.2, (tt, (h.0, (tt, tt))))))
-in_range_fits (instr.Branch cond rs1 rs2 offset) h = (h.0, (tt, (h.1, (tt, (h.2, tt)))))
-in_range_fits (instr.Jal rd offset) h = (h.0, (tt, (h.1, tt)))
-in_range_fits (instr.Jalr rd rs1 imm) h = (h.0, (tt, (h.2, (tt, (h.1, (tt, tt))))))
 in_range_fits (instr.Lui rd imm) h = (h.0, (tt, (upper_between imm h.1, tt)))
 in_range_fits (instr.Auipc rd imm) h = (h.0, (tt, (upper_between imm h.1, tt)))
 in_range_fits (instr.Fence imm rd rs1) h = (fence_between imm h.0, (tt, (h.1, (tt, (h.2, tt)))))
-in_range_fits instr.Ecall h = tt
-in_range_fits instr.Ebreak h = tt
+in_range_fits _ h = search rules
 
 pub full_fence_in_range : InRange full_fence
 unfolding InRange

@@ -1,17 +1,6 @@
 -- A text is refused for one cause at most, and for none where it means an instruction.
-use Rattle.std.proofs.Common.{◌≡◌, ℕ, List, [], ◌∷◌, ◌⊎◌, inl, inr, sym, ap, ◌∙◌, subst}
-use Rattle.rv_word.specs.declared.instr.Instr.{Instr}
-use Rattle.rv_text.specs.declared.cause.TextCause.{TextCause}
+use Rattle.rv_text.proofs.Words.{◌≡◌, ℕ, List, [], ◌∷◌, ◌⊎◌, inl, inr, sym, ap, ◌∙◌, subst, Instr, TextCause, Mnemonic, Part, IsName, name_of, form_of, OperandValues, Stands, Differs, Departs, Reads, FollowsToken, mnemonic_of, operands_of, OperandsDepart, RefusedAt, OneCause, MeantIsNotRefused}
 use Rattle.rv_text.specs.declared.cause.TextCause.TheVariants as cause
-use Rattle.rv_text.specs.declared.mnemonic.Mnemonic.{Mnemonic}
-use Rattle.rv_text.specs.declared.form.Part.{Part}
-use Rattle.rv_source.specs.Names.{IsName}
-use Rattle.rv_text.specs.Mnemonics.{name_of}
-use Rattle.rv_text.specs.Forms.{form_of}
-use Rattle.rv_text.specs.Operands.{OperandValues, Stands, Differs, Departs}
-use Rattle.rv_text.specs.private.Reading.{Reads, FollowsToken}
-use Rattle.rv_text.specs.Statement.{mnemonic_of, operands_of, OperandsDepart, RefusedAt}
-use Rattle.rv_text.specs.Laws.{OneCause, MeantIsNotRefused}
 use Rattle.rv_text.proofs.Keywords.{name_unique}
 use Rattle.rv_text.proofs.Taking.{takes_unique, blank_takes_none}
 use Rattle.rv_text.proofs.Fronts.{One, either_one, fixed_one, token_one, front_at, front_one}

@@ -1,40 +1,11 @@
 -- What a line states is in range.
-use Rattle.std.proofs.Common.{◌≡◌, ℕ, ◌^◌, ◌<◌, ◌≤◌, Bool, true, false, cond, List, [], ◌∷◌, length, inl, inr, refl, sym, ap, ◌∙◌, subst, arith, ℤ, pos, negsuc, ◌+ℤ◌}
-use Rattle.std.specs.Prelude.{unsigned_abs, ◌==◌}
-use Rattle.std.specs.List.{All, flat_map}
-use Rattle.std.proofs.lemmas.Int.{ints}
-use Rattle.std.proofs.lemmas.List.Elements.{All-nil, All-cons, All-append, All-replicate, All-from_recursion}
-use Rattle.rv_word.specs.declared.instr.Instr.{Instr}
+use Rattle.rv_text.proofs.Words.{◌≡◌, ℕ, ◌^◌, ◌<◌, ◌≤◌, Bool, true, false, cond, List, [], ◌∷◌, length, inl, inr, refl, sym, ap, ◌∙◌, subst, arith, ℤ, pos, negsuc, ◌+ℤ◌, unsigned_abs, ◌==◌, All, flat_map, ints, All-nil, All-cons, All-append, All-replicate, All-from_recursion, Instr, Addi, Cond, modulo, IsImm12, Mnemonic, Part, Directive, Pseudo, Nop, Ret, Li, Mv, Jr, J, Call, Beqz, Bnez, La, DataWidth, Word, Half, Byte, Keyword, IsDataSize, IsStraight, Place, name_of, form_of, IsNumberOf, OperandValues, HasForm, AllSuit, mnemonic_of, operands_of, Spells, upper, lower, is_small, add_lower, constant, data_bytes, directive_form, directive_states, pseudo_form, pseudo_states, branch_form, branch_states, jal_form, jal_states, place_of_keyword, IsRow, After, Stated, within, plain, IsRightStatement, place_of_stated}
 use Rattle.rv_word.specs.declared.instr.Instr.TheVariants as instr
-use Rattle.rv_word.specs.declared.instr.ImmOp.TheVariants.{Addi}
-use Rattle.rv_word.specs.declared.instr.Cond.{Cond}
-use Rattle.rv_word.specs.Numbers.{modulo}
-use Rattle.rv_word.specs.Spelling.{InRange, IsImm12}
-use Rattle.rv_text.specs.declared.mnemonic.Mnemonic.{Mnemonic}
+use Rattle.rv_word.specs.Spelling.{InRange}
 use Rattle.rv_text.specs.declared.mnemonic.Mnemonic.TheVariants as mnemonic
-use Rattle.rv_text.specs.declared.form.Part.{Part}
-use Rattle.rv_text.specs.declared.keyword.Directive.{Directive}
 use Rattle.rv_text.specs.declared.keyword.Directive.TheVariants as directive
-use Rattle.rv_text.specs.declared.keyword.Pseudo.{Pseudo}
-use Rattle.rv_text.specs.declared.keyword.Pseudo.TheVariants.{Nop, Ret, Li, Mv, Jr, J, Call, Beqz, Bnez, La}
-use Rattle.rv_text.specs.declared.keyword.DataWidth.{DataWidth}
-use Rattle.rv_text.specs.declared.keyword.DataWidth.TheVariants.{Word, Half, Byte}
-use Rattle.rv_text.specs.declared.keyword.Keyword.{Keyword}
 use Rattle.rv_text.specs.declared.keyword.Keyword.TheVariants as keyword
 use Rattle.rv_text.specs.declared.form.NumberKind.TheVariants as kind
-use Rattle.rv_source.specs.Source.{IsDataSize, IsStraight}
-use Rattle.rv_text.specs.declared.statement.Place.{Place}
-use Rattle.rv_text.specs.Mnemonics.{name_of}
-use Rattle.rv_text.specs.Forms.{form_of, IsNumberOf}
-use Rattle.rv_text.specs.Operands.{OperandValues, HasForm}
-use Rattle.rv_text.specs.private.Reading.{AllSuit}
-use Rattle.rv_text.specs.Statement.{mnemonic_of, operands_of, Spells}
-use Rattle.rv_source.specs.Halves.{upper, lower}
-use Rattle.rv_text.specs.Constants.{is_small, add_lower, constant, data_bytes}
-use Rattle.rv_text.specs.Keywords.{directive_form, directive_states, pseudo_form, pseudo_states, branch_form, branch_states, jal_form, jal_states, place_of_keyword}
-use Rattle.rv_text.specs.Lines.{IsRow, After}
-use Rattle.rv_text.specs.Stated.{Stated, within, plain}
-use Rattle.rv_text.specs.private.Stated.{IsRightStatement, place_of_stated}
 use Rattle.rv_text.proofs.Keywords.{name_unique}
 use Rattle.rv_text.proofs.Forms.{stands_suits}
 use Rattle.rv_text.proofs.Ranges.{fits_in_range, full_fence_in_range}

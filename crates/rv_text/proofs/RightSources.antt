@@ -1,26 +1,8 @@
 -- What a text means is right: each sandbox is within its limits, and its names, gates and items fit each other.
-use Rattle.std.proofs.Common.{◌≡◌, ◌≢◌, ◌↔◌, refl, sym, ap, subst, ◌∙◌, ℕ, zero, suc, ◌+◌, ◌<◌, ◌≤◌, ◌⊎◌, inl, inr, Bool, true, false, not, ◌||◌, IsTrue, true≢false, if◌then◌else◌, List, [], ◌∷◌, ◌++◌, Some, map, slice_get, length, length-append, nat_lt, arith}
-use Rattle.std.specs.List.{IsDistinct, AllByRecursion}
-use Rattle.std.specs.Str.{bytes_eq}
-use Rattle.std.proofs.lemmas.Option.{same_Some, none-some, slice_get_within}
-use Rattle.std.proofs.lemmas.Bool.Decides.{nat_tests}
-use Rattle.std.proofs.lemmas.List.Elements.{All-from_recursion}
-use Rattle.std.proofs.lemmas.Map.Made.{AllPairs-from_IsDistinct}
-use Rattle.std.proofs.lemmas.Slice.Eq.{bytes_eq-Decides}
-use Rattle.sfi_policy.specs.declared.format.Format.{Format}
-use Rattle.rv_source.specs.Laws.{MetNamesStay, NewNamesNameNothing}
-use Rattle.rv_source.specs.declared.item.Named.{Named}
-use Rattle.rv_source.specs.declared.item.Named.TheVariants.{Gate, Code, Data, Unknown}
-use Rattle.rv_source.specs.declared.item.Body.{Body}
-use Rattle.rv_source.specs.declared.item.Body.TheVariants.{Plain, To, High, Low}
-use Rattle.rv_source.specs.declared.item.Item.{Item}
-use Rattle.rv_source.specs.declared.item.SourceGate.{SourceGate}
-use Rattle.rv_source.specs.Names.{IsShortLabel}
-use Rattle.rv_source.specs.NameTable.{place_of, placed, met}
-use Rattle.rv_source.specs.Source.{Sandbox, IsDataSize, IsBody, IsThere, IsEntry, IsGate, IsSandbox}
-use Rattle.rv_text.specs.SoFar.{Begun, begin, with_names, with_label, with_gate, items_of, with_bodies, with_bytes}
-use Rattle.rv_text.specs.Effects.{IsFree}
-use Rattle.rv_text.proofs.Placing.{Has, has_contained, contained_has, placed_has, placed_keeps, placed_only, placed_at, placed_stays, placed_all, placed_grows, placed_differ}
+use Rattle.rv_text.proofs.Words.{◌≡◌, ◌≢◌, ◌↔◌, refl, sym, ap, subst, ◌∙◌, ℕ, zero, suc, ◌+◌, ◌<◌, ◌≤◌, ◌⊎◌, inl, inr, Bool, true, false, not, ◌||◌, IsTrue, true≢false, if◌then◌else◌, List, [], ◌∷◌, ◌++◌, Some, map, slice_get, length, length-append, arith, AllByRecursion, bytes_eq, same_Some, none-some, slice_get_within, cases_lt, All-from_recursion, AllPairs-from_IsDistinct, bytes_eq-Decides, Format, MetNamesStay, NewNamesNameNothing, Named, Gate, Code, Data, Unknown, Body, Plain, To, High, Low, Item, SourceGate, IsShortLabel, place_of, placed, met, Sandbox, IsDataSize, IsBody, IsThere, IsEntry, IsGate, IsSandbox, Begun, begin, with_names, with_label, with_gate, items_of, with_bodies, with_bytes, IsFree}
+use Rattle.std.specs.List.{IsDistinct}
+use Rattle.rv_text.proofs.Lexing.{all_by}
+use Rattle.rv_text.proofs.Placing.{Has, has_contained, contained_has, placed_has, placed_keeps, placed_back, placed_at, placed_stays, placed_all, placed_grows, placed_differ}
 
 -- the item of this number fits the names
 pub record IsDraftItem (s : Sandbox) (k : ℕ) (i : Item) : Type 0 where
@@ -40,11 +22,7 @@ pub record IsDraft (b : Begun) : Type 0 where
   pub byte_count : length b.sandbox.bytes ≤ b.sandbox.data_size
   pub bytes : AllByRecursion (λ v. v < 256) b.sandbox.bytes
 
--- what holds of each, and what it implies
-all_by : {X : Type 0} (P Q : X → Type 0) → ((x : X) → P x → Q x) → (xs : List X) → AllByRecursion P xs → AllByRecursion Q xs
-all_by P Q f [] h = tt
-all_by P Q f (x ∷ xs) h = (f x h.0, all_by P Q f xs h.1)
-
+-- what holds of each of two lists holds of each of both
 pub all_append : {X : Type 0} (P : X → Type 0) (xs ys : List X) → AllByRecursion P xs → AllByRecursion P ys → AllByRecursion P (xs ++ ys)
 all_append P [] ys h k = k
 all_append P (x ∷ xs) ys h k = (h.0, all_append P xs ys h.1 k)
@@ -118,36 +96,18 @@ begun_right format size h = record {
   bytes = tt;
 }
 
--- the kinds of what a name names differ
-abbrev pub is_known : Named → Bool
-is_known (Gate k) = true
-is_known (Code k) = true
-is_known (Data o) = true
-is_known Unknown = false
-
-abbrev is_code : Named → Bool
-is_code (Gate k) = false
-is_code (Code k) = true
-is_code (Data o) = false
-is_code Unknown = false
-
-abbrev code_place : Named → ℕ
-code_place (Gate k) = 0
-code_place (Code k) = k
-code_place (Data o) = 0
-code_place Unknown = 0
-
-pub known : (what : Named) → is_known what ≡ true → what ≢ Unknown
-known what h e = true≢false (sym h ∙ ap is_known e)
-
-no_code : (what : Named) (k : ℕ) → is_code what ≡ false → what ≢ Code k
-no_code what k h e = true≢false (sym (ap is_code e) ∙ h)
-
 -- what a name names is there
 has_there : (s : Sandbox) (names : List (List ℕ × Named)) (what : Named) → AllByRecursion (IsEntry s) names → Has names what → IsThere s what
 has_there s [] what all h = absurd h
 has_there s (e ∷ es) what all (inl is) = subst (IsThere s) is all.0.there
 has_there s (e ∷ es) what all (inr h) = has_there s es what all.1 h
+
+-- the places of items that names name are the same where a free name is placed that names another thing
+code_stays : (b : Begun) (name : List ℕ) (what : Named) (k : ℕ) → IsFree name b → what ≢ Code k → Has b.sandbox.names (Code k) ↔ Has (placed b.sandbox.names name what) (Code k)
+code_stays b name what k free apart = (placed_keeps b.sandbox.names name what (Code k) free (λ e. cc), placed_back b.sandbox.names name what (Code k) apart)
+
+through : {A B C : Type 0} → A ↔ B → B ↔ C → A ↔ C
+through f g = (λ a. g.0 (f.0 a), λ c. f.1 (g.1 c))
 
 -- a name that is free is placed, where what it names is there and is no item's place
 placed_right : (b : Begun) (d : IsDraft b) (name : List ℕ) (what : Named) (labelled opened : Bool)
@@ -158,13 +118,12 @@ placed_right : (b : Begun) (d : IsDraft b) (name : List ℕ) (what : Named) (lab
 placed_right b d name what labelled opened free is_label there apart flag =
     let names = placed b.sandbox.names name what in
     let s : Sandbox = record b.sandbox { names = names } in
-    let keeps : (k : ℕ) → Has b.sandbox.names (Code k) → Has names (Code k) = λ k h. placed_keeps b.sandbox.names name what (Code k) free (known (Code k) refl) h in
     record {
       data_size = d.data_size;
       gate_count = d.gate_count;
       gates = λ k g at. record {
         service = (d.gates k g at).service;
-        name = placed_stays b.sandbox.names name what (Gate k) g.name free (known (Gate k) refl) (d.gates k g at).name;
+        name = placed_stays b.sandbox.names name what (Gate k) g.name free (λ e. cc) (d.gates k g at).name;
       };
       names = placed_all (IsEntry s) b.sandbox.names name what
           (all_by (IsEntry b.sandbox) (IsEntry s) (λ e h. entry_stays b.sandbox s (omega arith) (omega arith) (omega arith) e h) b.sandbox.names d.names)
@@ -172,40 +131,18 @@ placed_right b d name what labelled opened free is_label there apart flag =
       differ = placed_differ b.sandbox.names name what d.differ;
       item_count = d.item_count;
       items = λ k i at. record {
-        labelled = (
-          λ h. keeps k ((d.items k i at).labelled.0 h),
-          λ h. (d.items k i at).labelled.1 (back k (apart k (slice_get_within b.sandbox.items k i at)) (placed_only b.sandbox.names name what (Code k) h)),
-        );
+        labelled = through (d.items k i at).labelled (code_stays b name what k free (apart k (slice_get_within b.sandbox.items k i at)));
         body = body_stays (length b.sandbox.names) (length names) i.body (placed_grows b.sandbox.names name what) (d.items k i at).body;
       };
       labelled = flag;
       byte_count = d.byte_count;
       bytes = d.bytes;
     }
-  where
-    back : (k : ℕ) → what ≢ Code k → Has b.sandbox.names (Code k) ⊎ (what ≡ Code k) → Has b.sandbox.names (Code k)
-    back k other (inl h) = h
-    back k other (inr is) = absurd (other is)
-
--- the label of the next item stays as it was, where another thing is named
-flag_stays : (b : Begun) (d : IsDraft b) (name : List ℕ) (what : Named) → IsFree name b → is_code what ≡ false
-    → IsTrue b.labelled ↔ Has (placed b.sandbox.names name what) (Code (length b.sandbox.items))
-flag_stays b d name what free other = (
-  λ h. placed_keeps b.sandbox.names name what (Code (length b.sandbox.items)) free (known (Code (length b.sandbox.items)) refl) (d.labelled.0 h),
-  λ h. d.labelled.1 (back (placed_only b.sandbox.names name what (Code (length b.sandbox.items)) h)),
-)
-  where
-    back : Has b.sandbox.names (Code (length b.sandbox.items)) ⊎ (what ≡ Code (length b.sandbox.items)) → Has b.sandbox.names (Code (length b.sandbox.items))
-    back (inl h) = h
-    back (inr is) = absurd (no_code what (length b.sandbox.items) other is)
 
 -- a label after the instructions, or after the data
 pub label_right : (b : Begun) (d : IsDraft b) (name : List ℕ) → IsFree name b → IsShortLabel name → IsDraft (with_label name b)
 label_right b d name free is_label = by b.in_data
   where
-    next : ℕ
-    next = length b.sandbox.items
-
     or_true : (a : Bool) → IsTrue (a || true)
     or_true true = refl
     or_true false = refl
@@ -215,25 +152,22 @@ label_right b d name free is_label = by b.in_data
     or_false false = (λ h. h, λ h. h)
 
     by : (ended : Bool) → IsDraft (record (with_names (placed b.sandbox.names name (if ended then Data (length b.sandbox.bytes) else Code (length b.sandbox.items))) b) { labelled = b.labelled || not ended; opened = true })
-    by true = placed_right b d name (Data (length b.sandbox.bytes)) (b.labelled || false) true free is_label (omega arith)
-        (λ k within. no_code (Data (length b.sandbox.bytes)) k refl) (
-          λ h. (flag_stays b d name (Data (length b.sandbox.bytes)) free refl).0 ((or_false b.labelled).0 h),
-          λ h. (or_false b.labelled).1 ((flag_stays b d name (Data (length b.sandbox.bytes)) free refl).1 h),
-        )
+    by true = placed_right b d name (Data (length b.sandbox.bytes)) (b.labelled || false) true free is_label (omega arith) (λ k within e. cc)
+        (through (or_false b.labelled) (through d.labelled (code_stays b name (Data (length b.sandbox.bytes)) (length b.sandbox.items) free (λ e. cc))))
     by false = placed_right b d name (Code (length b.sandbox.items)) (b.labelled || true) true free is_label (omega arith)
-        (λ k within e. omega (arith, within, ap code_place e))
+        (λ k within e. let same : length b.sandbox.items ≡ k = cc in omega (arith, within))
         (λ h. placed_has b.sandbox.names name (Code (length b.sandbox.items)), λ h. or_true b.labelled)
 
 -- a name that an instruction goes to
 pub met_right : MetNamesStay → NewNamesNameNothing → (b : Begun) (d : IsDraft b) (name : List ℕ) → IsShortLabel name → IsDraft (with_names (met b.sandbox.names name) b)
-met_right met_law new_law b d name is_label = by (nat_lt (place_of b.sandbox.names name) (length b.sandbox.names)) refl
-  where
-    by : (there : Bool) → nat_lt (place_of b.sandbox.names name) (length b.sandbox.names) ≡ there → IsDraft (with_names (met b.sandbox.names name) b)
-    by true is = subst (λ names. IsDraft (with_names names b)) (met_law b.sandbox.names name (grind (arith, nat_tests, is))) d
-    by false is =
-        let free : IsFree name b = new_law b.sandbox.names name (grind (arith, nat_tests, is)) in
-        subst (λ what. IsDraft (with_names (placed b.sandbox.names name what) b)) (sym free)
-        (placed_right b d name Unknown b.labelled b.opened free is_label tt (λ k within. no_code Unknown k refl) (flag_stays b d name Unknown free refl))
+met_right met_law new_law b d name is_label =
+    elim (cases_lt (place_of b.sandbox.names name) (length b.sandbox.names)) [
+      | inl there ↦ subst (λ names. IsDraft (with_names names b)) (met_law b.sandbox.names name there) d
+      | inr none ↦
+          let free : IsFree name b = new_law b.sandbox.names name none in
+          subst (λ what. IsDraft (with_names (placed b.sandbox.names name what) b)) (sym free)
+          (placed_right b d name Unknown b.labelled b.opened free is_label tt (λ k within e. cc) (through d.labelled (code_stays b name Unknown (length b.sandbox.items) free (λ e. cc))))
+    ]
 
 -- the items of a line's bodies: the first has the label, if there is one
 item_at : (n line : ℕ) (rvc labelled : Bool) (bodies : List Body) (j : ℕ) (i : Item) → AllByRecursion (IsBody n) bodies
@@ -323,8 +257,7 @@ gate_right name service b d free is_label known_service fits =
     let added : SourceGate = record { name = place_of b.sandbox.names name; service = service } in
     let s : Sandbox = record b.sandbox { names = names; gates = b.sandbox.gates ++ added ∷ [] } in
     let long : length s.gates ≡ length b.sandbox.gates + 1 = length-append b.sandbox.gates (added ∷ []) in
-    let flags : (k : ℕ) → (Has b.sandbox.names (Code k) → Has names (Code k)) × (Has names (Code k) → Has b.sandbox.names (Code k)) =
-    λ k. (placed_keeps b.sandbox.names name what (Code k) free (known (Code k) refl), λ h. back k (placed_only b.sandbox.names name what (Code k) h)) in
+    let stays : (k : ℕ) → Has b.sandbox.names (Code k) ↔ Has names (Code k) = λ k. code_stays b name what k free (λ e. cc) in
     record {
       data_size = d.data_size;
       gate_count = omega (arith, long, fits);
@@ -335,25 +268,21 @@ gate_right name service b d free is_label known_service fits =
       differ = placed_differ b.sandbox.names name what d.differ;
       item_count = d.item_count;
       items = λ k i at. record {
-        labelled = (λ h. (flags k).0 ((d.items k i at).labelled.0 h), λ h. (d.items k i at).labelled.1 ((flags k).1 h));
+        labelled = through (d.items k i at).labelled (stays k);
         body = body_stays (length b.sandbox.names) (length names) i.body (placed_grows b.sandbox.names name what) (d.items k i at).body;
       };
-      labelled = (λ h. (flags (length b.sandbox.items)).0 (d.labelled.0 h), λ h. d.labelled.1 ((flags (length b.sandbox.items)).1 h));
+      labelled = through d.labelled (stays (length b.sandbox.items));
       byte_count = d.byte_count;
       bytes = d.bytes;
     }
   where
-    back : (k : ℕ) → Has b.sandbox.names (Code k) ⊎ (Gate (length b.sandbox.gates) ≡ Code k) → Has b.sandbox.names (Code k)
-    back k (inl h) = h
-    back k (inr is) = absurd (no_code (Gate (length b.sandbox.gates)) k refl is)
-
     gate : (k : ℕ) (g : SourceGate)
         → (slice_get b.sandbox.gates k ≡ Some g × (k < length b.sandbox.gates))
         ⊎ ((j : ℕ) × (k ≡ length b.sandbox.gates + j) × (slice_get (record { name = place_of b.sandbox.names name; service = service } ∷ []) j ≡ Some g))
         → IsGate (with_gate name service b).sandbox k g
     gate k g (inl p) = record {
       service = (d.gates k g p.0).service;
-      name = placed_stays b.sandbox.names name (Gate (length b.sandbox.gates)) (Gate k) g.name free (known (Gate k) refl) (d.gates k g p.0).name;
+      name = placed_stays b.sandbox.names name (Gate (length b.sandbox.gates)) (Gate k) g.name free (λ e. cc) (d.gates k g p.0).name;
     }
     gate k g (inr (zero, at, is)) =
         let same = same_Some _ _ is in

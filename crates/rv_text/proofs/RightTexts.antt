@@ -1,38 +1,12 @@
 -- What a text means is right: by its lines, from nothing.
-use Rattle.std.proofs.Common.{◌≡◌, refl, sym, ap, subst, ◌∙◌, ℕ, ◌+◌, inl, inr, List, [], ◌∷◌, ◌++◌, Option, None, Some, map, length, length-append, arith}
-use Rattle.std.proofs.lemmas.List.{length-map}
-use Rattle.std.proofs.lemmas.List.Elements.{All-from_recursion, recursion_from_All}
-use Rattle.std.specs.List.{All, AllByRecursion}
-use Rattle.std.proofs.lemmas.Option.{same_Some, none-some}
-use Rattle.sfi_policy.specs.declared.format.Format.{Format}
-use Rattle.rv_word.specs.declared.instr.Instr.{Instr}
-use Rattle.rv_word.specs.Spelling.{InRange}
-use Rattle.rv_source.specs.declared.item.Named.{Named}
-use Rattle.rv_source.specs.declared.item.Named.TheVariants.{Unknown}
-use Rattle.rv_source.specs.declared.item.Body.TheVariants.{Plain, To, High, Low}
+use Rattle.rv_text.proofs.Words.{◌≡◌, refl, sym, ap, subst, ◌∙◌, ℕ, ◌+◌, inl, inr, List, [], ◌∷◌, ◌++◌, Option, None, Some, map, length, length-append, arith, length-map, All-from_recursion, recursion_from_All, All, AllByRecursion, same_Some, none-some, Format, Instr, InRange, Named, Unknown, Plain, To, High, Low, Keyword, Takes, IsLabel, place_of_keyword, StatesAfter, Stated, format, sandbox, within, StatedWithin, gate, compressed, data_part, bytes, plain, jump, address, IsRightWithin, IsRightStatement, place_of_stated, meaning, place_of, met, IsStraight, Sandbox, IsBody, IsSandbox, AreOf, format_of, Begun, SoFar, format_or_sfi1, with_label, with_names, nothing, last_sandbox, sandboxes, IsFree, Labels, Fits, MayCome, GoesOn, Does, with_stated, BeginsWithName, LabelsLead, IsTaken, LeadsAfter, RestLeads, Leads, uncommented, lines, LinesLead, MetNamesStay, NewNamesNameNothing, SourcesAreRight}
 use Rattle.rv_text.specs.declared.keyword.Directive.TheVariants as directive
-use Rattle.rv_text.specs.declared.keyword.Keyword.{Keyword}
 use Rattle.rv_text.specs.declared.keyword.Keyword.TheVariants as keyword
-use Rattle.rv_text.specs.declared.statement.Place.{Place}
 use Rattle.rv_text.specs.declared.statement.Place.TheVariants as place
-use Rattle.rv_text.specs.Tokens.{Takes}
-use Rattle.rv_source.specs.Names.{IsLabel}
-use Rattle.rv_text.specs.Keywords.{place_of_keyword}
-use Rattle.rv_text.specs.Lines.{StatesAfter}
-use Rattle.rv_text.specs.Stated.{Stated, format, sandbox, within, StatedWithin, gate, compressed, data_part, bytes, plain, jump, address}
-use Rattle.rv_text.specs.private.Stated.{IsRightWithin, IsRightStatement, place_of_stated}
-use Rattle.rv_source.specs.NameTable.{meaning, place_of, met}
-use Rattle.rv_source.specs.Source.{IsStraight, Sandbox, IsBody, IsSandbox, AreOf, format_of}
-use Rattle.rv_text.specs.SoFar.{Begun, SoFar, format_or_sfi1, with_label, with_names, nothing, last_sandbox, sandboxes}
-use Rattle.rv_text.specs.Effects.{IsFree, Labels, Fits, MayCome, GoesOn, Does, with_stated}
-use Rattle.rv_text.specs.Leads.{BeginsWithName, LabelsLead, IsTaken, LeadsAfter, RestLeads, Leads}
-use Rattle.rv_text.specs.Texts.{uncommented, lines, LinesLead}
-use Rattle.rv_source.specs.Laws.{MetNamesStay, NewNamesNameNothing}
-use Rattle.rv_text.specs.Laws.{SourcesAreRight}
 use Rattle.rv_text.proofs.Placing.{place_among}
 use Rattle.rv_text.proofs.Counting.{few_sandboxes}
 use Rattle.rv_text.proofs.Right.{after_right, after_place}
-use Rattle.rv_text.proofs.RightSources.{IsDraft, known, all_append, finished, begun_right, label_right, met_right, bodies_right, bytes_right, gate_right}
+use Rattle.rv_text.proofs.RightSources.{IsDraft, all_append, finished, begun_right, label_right, met_right, bodies_right, bytes_right, gate_right}
 
 -- the sandbox is of the format that the text has said, or of SFI1
 abbrev IsOf : Option Format → Sandbox → Type 0
@@ -94,12 +68,7 @@ module _ (met_law : MetNamesStay) (new_law : NewNamesNameNothing) where
   -- a statement leaves the sandbox's format
   stays_of : (line : ℕ) (s : StatedWithin) (b : Begun) (said : Option Format) → IsOf said b.sandbox → IsOf said (with_stated line s b).sandbox
   stays_of line (gate name service) b said h = h
-  stays_of line (compressed rvc) b said h = h
-  stays_of line data_part b said h = h
-  stays_of line (bytes values) b said h = h
-  stays_of line (plain instrs) b said h = h
-  stays_of line (jump i name) b said h = h
-  stays_of line (address rd name) b said h = h
+  stays_of line _ b said h = h
 
   goes_on : (line : ℕ) (s : StatedWithin) (old new : SoFar) → IsRightWithin s
       → ((b : Begun) (name : List ℕ) (service : ℕ) → old.begun ≡ Some b → s ≡ gate name service → IsFree name b)
@@ -147,20 +116,9 @@ module _ (met_law : MetNamesStay) (new_law : NewNamesNameNothing) where
       goes_on line what old new right (λ b name service is e. free b name service is (ap within e)) does so_far
 
   -- a keyword that stands where gates do is that of a gate
-  abbrev place_number : Place → ℕ
-  place_number place.Outside = 0
-  place_number place.Gates = 1
-  place_number place.Code = 2
-  place_number place.Data = 3
-  place_number place.Head = 4
-
-  gate_keyword : (k : Keyword) → place_number (place_of_keyword k) ≡ 1 → k ≡ keyword.Directive directive.Gate
-  gate_keyword (keyword.Instr name) h = absurd (omega (arith, h))
-  gate_keyword (keyword.Pseudo name) h = absurd (omega (arith, h))
-  gate_keyword (keyword.Directive directive.Format) h = absurd (omega (arith, h))
-  gate_keyword (keyword.Directive directive.Sandbox) h = absurd (omega (arith, h))
+  gate_keyword : (k : Keyword) → place_of_keyword k ≡ place.Gates → k ≡ keyword.Directive directive.Gate
   gate_keyword (keyword.Directive directive.Gate) h = refl
-  gate_keyword _ h = absurd (omega (arith, h))
+  gate_keyword _ h = cc
 
   abbrev gate_name_of : Stated → List ℕ
   gate_name_of (within (gate name service)) = name
@@ -180,7 +138,7 @@ module _ (met_law : MetNamesStay) (new_law : NewNamesNameNothing) where
     where
       decide : (what : Named) → meaning b.sandbox.names name ≡ what → IsFree name b
       decide Unknown is = is
-      decide _ is = absurd (none (name, rest, begins, λ free. known _ refl (sym is ∙ free)))
+      decide _ is = absurd (none (name, rest, begins, λ free. cc))
 
   after_leads : (k : Keyword) (line : ℕ) (old new : SoFar) (text : List ℕ) → LeadsAfter k line old text new → IsRightSoFar old → IsRightSoFar new
   after_leads k line old new text (stands, once, (s, (tokens, are, after_k), does)) so_far =
@@ -189,7 +147,7 @@ module _ (met_law : MetNamesStay) (new_law : NewNamesNameNothing) where
       free : (b : Begun) (name : List ℕ) (service : ℕ) → old.begun ≡ Some b → s ≡ within (gate name service) → IsFree name b
       free b name service is gate_is =
           let at : place_of_keyword k ≡ place.Gates = after_place k tokens s after_k ∙ ap place_of_stated gate_is in
-          let key = gate_keyword k (ap place_number at) in
+          let key = gate_keyword k at in
           let states : StatesAfter (keyword.Directive directive.Gate) text (within (gate name service)) =
           subst (λ t. StatesAfter (keyword.Directive directive.Gate) text t) gate_is (subst (λ q. StatesAfter q text s) key (tokens, are, after_k)) in
           let begins = gate_begins text name service states in

@@ -1,36 +1,13 @@
 -- A printed instruction reads back, part by part.
-use Rattle.std.proofs.Common.{◌≡◌, ℕ, Bool, true, false, ◌&&◌, ◌||◌, List, [], ◌∷◌, ◌++◌, inl, inr, refl, sym, subst}
-use Rattle.std.specs.Prelude.{codes}
-use Rattle.std.specs.List.{flat_map}
-use Rattle.std.proofs.lemmas.Bool.{and_parts}
-use Rattle.std.proofs.lemmas.List.{append-nil}
-use Rattle.rv_word.specs.declared.instr.Instr.{Instr}
-use Rattle.rv_word.specs.Spelling.{InRange}
-use Rattle.rv_text.specs.declared.mnemonic.Mnemonic.{Mnemonic}
+use Rattle.rv_text.proofs.Words.{◌≡◌, ℕ, Bool, true, false, nat_lt, ◌&&◌, ◌||◌, List, [], ◌∷◌, ◌++◌, inl, inr, refl, sym, subst, codes, flat_map, and_parts, append-nil, Instr, InRange, Mnemonic, Part, Rd, Rs1, Rs2, Number, Name, Mode, Comma, Open, Close, IsBlank, IsToken, Takes, name_of, form_of, OperandValues, Stands, mode_name, Reads, AllSuit, slot, mnemonic_of, operands_of, Means, part_text, operands_text, printed, PrintedReadsBack}
 use Rattle.rv_text.specs.declared.mnemonic.Mnemonic.TheVariants as mnemonic
-use Rattle.rv_text.specs.declared.form.Part.{Part}
-use Rattle.rv_text.specs.declared.form.Part.TheVariants.{Rd, Rs1, Rs2, Number, Name, Mode, Comma, Open, Close}
-use Rattle.rv_text.specs.Tokens.{IsBlank, IsToken, Takes}
-use Rattle.rv_text.specs.Mnemonics.{name_of}
-use Rattle.rv_text.specs.Forms.{form_of}
-use Rattle.rv_text.specs.Operands.{OperandValues, Stands, mode_name}
-use Rattle.rv_text.specs.private.Reading.{Reads, AllSuit}
-use Rattle.rv_text.specs.Statement.{mnemonic_of, operands_of, Means}
-use Rattle.rv_text.specs.Printed.{part_text, operands_text, printed}
-use Rattle.rv_text.specs.Laws.{PrintedReadsBack}
 use Rattle.rv_text.proofs.Ranges.{in_range_fits}
 use Rattle.rv_text.proofs.Meaning.{means}
 use Rattle.rv_text.proofs.Longest.{Ends, takes_word, takes_mark}
 use Rattle.rv_text.proofs.Printing.{name_token, register_token, printed_number}
 
 abbrev is_mark_part : Part → Bool
-is_mark_part Rd = false
-is_mark_part Rs1 = false
-is_mark_part Rs2 = false
-is_mark_part (Number kind) = false
-is_mark_part Name = false
-is_mark_part Mode = false
-is_mark_part _ = true
+is_mark_part part = nat_lt 5 (slot part)
 
 -- the form begins with a mark, if with anything
 abbrev may_follow : List Part → Bool
@@ -44,10 +21,6 @@ is_spaced (part ∷ form) = (is_mark_part part || may_follow form) && is_spaced 
 
 form_is_spaced : (m : Mnemonic) → is_spaced (form_of m) ≡ true
 form_is_spaced (mnemonic.Op op) = refl
-form_is_spaced (mnemonic.OpImm op) = refl
-form_is_spaced (mnemonic.Load kind) = refl
-form_is_spaced (mnemonic.Store width) = refl
-form_is_spaced (mnemonic.Branch cond) = refl
 form_is_spaced _ = refl
 
 operands_end : (o : OperandValues) (form : List Part) → may_follow form ≡ true → Ends (flat_map (part_text o) form)

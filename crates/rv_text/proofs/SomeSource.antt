@@ -1,38 +1,16 @@
 -- A text means an instruction or is refused; a text means a source or has a fault.
-use Rattle.std.proofs.Common.{◌≡◌, ℕ, zero, suc, ◌+◌, ◌≤◌, Bool, List, [], ◌∷◌, ◌++◌, length, ◌⊎◌, inl, inr, refl, sym, ◌∙◌, subst, arith, Option, Some, None}
-use Rattle.std.specs.Prelude.{codes}
-use Rattle.std.specs.Option.{IsSomeAnd}
-use Rattle.std.proofs.lemmas.Bool.{cases_lt, cases_eq}
-use Rattle.std.proofs.lemmas.Option.{same_Some, none-some}
-use Rattle.sfi_policy.specs.declared.format.Format.TheVariants.{Sfi1, Sfi2}
-use Rattle.rv_source.specs.declared.item.Named.{Named}
-use Rattle.rv_source.specs.declared.item.Named.TheVariants.{Gate, Code, Data, Unknown}
-use Rattle.rv_source.specs.NameTable.{meaning}
-use Rattle.rv_text.specs.declared.cause.TextCause.{TextCause}
+use Rattle.rv_text.proofs.Words.{◌≡◌, ℕ, zero, suc, ◌+◌, ◌≤◌, Bool, List, [], ◌∷◌, ◌++◌, length, ◌⊎◌, inl, inr, refl, sym, ◌∙◌, subst, arith, Option, Some, None, codes, IsSomeAnd, cases_lt, cases_eq, same_Some, none-some, Sfi1, Sfi2, Named, Unknown, meaning, TextCause, TextFault, Keyword, Mnemonic, Place, Takes, name_of, keyword_name, place_of_keyword, Stated, StatedWithin, format, sandbox, within, gate, compressed, data_part, IsRightStatement, place_within, place_of_stated, Begun, SoFar, nothing, sandboxes, begin, format_or_sfi1, with_label, IsFree, Labels, RefusesLabel, MayCome, Fits, with_stated, Does, HasNoRoom, BeginsWithName, BeginsWithLabel, HasNoLabel, LabelsLead, PassesLabels, IsTaken, IsGateTwice, LeadsAfter, RestLeads, Leads, LabelRefused, RefusedAfter, StatementRefused, LineRefused, most_bytes, lines, uncommented, LinesLead, FirstRefused, first_line, SomeMeaning, SomeSource}
 use Rattle.rv_text.specs.declared.cause.TextCause.TheVariants as cause
-use Rattle.rv_text.specs.declared.fault.TextFault.{TextFault}
 use Rattle.rv_text.specs.declared.keyword.Directive.TheVariants as directive
-use Rattle.rv_text.specs.declared.keyword.Keyword.{Keyword}
 use Rattle.rv_text.specs.declared.keyword.Keyword.TheVariants as keyword
-use Rattle.rv_text.specs.declared.mnemonic.Mnemonic.{Mnemonic}
-use Rattle.rv_text.specs.declared.statement.Place.{Place}
 use Rattle.rv_text.specs.declared.statement.Place.TheVariants as place
-use Rattle.rv_text.specs.Tokens.{Takes}
-use Rattle.rv_text.specs.Mnemonics.{name_of}
-use Rattle.rv_text.specs.Keywords.{keyword_name, place_of_keyword}
-use Rattle.rv_text.specs.Stated.{Stated, StatedWithin, format, sandbox, within, gate, compressed, data_part, bytes, plain, jump, address}
-use Rattle.rv_text.specs.private.Stated.{IsRightStatement, place_within, place_of_stated}
-use Rattle.rv_text.specs.SoFar.{Begun, SoFar, nothing, sandboxes, begin, format_or_sfi1, with_label}
-use Rattle.rv_text.specs.Effects.{IsFree, Labels, RefusesLabel, MayCome, Fits, with_stated, Does, HasNoRoom}
-use Rattle.rv_text.specs.Leads.{BeginsWithName, BeginsWithLabel, HasNoLabel, LabelsLead, PassesLabels, IsTaken, IsGateTwice, LeadsAfter, RestLeads, Leads, LabelRefused, RefusedAfter, StatementRefused, LineRefused}
-use Rattle.rv_text.specs.Texts.{most_bytes, lines, uncommented, LinesLead, FirstRefused, first_line}
-use Rattle.rv_text.specs.Laws.{SomeMeaning, SomeSource}
 use Rattle.rv_text.proofs.Keywords.{no_mnemonic_of_name}
 use Rattle.rv_text.proofs.LabelReading.{other_name, no_colon, one_more, label_shortens}
 use Rattle.rv_text.proofs.Meaning.{means}
 use Rattle.rv_text.proofs.Right.{after_right, after_place}
 use Rattle.rv_text.proofs.Taking.{takes_unique, blank_takes_none}
-use Rattle.rv_text.proofs.Deciding.{Decided, decided_both, decided_le, decided_bit, decided_same, next, name_or_not, label_or_not, keyword_or_not}
+use Rattle.rv_text.proofs.Decided.{Decided, decided_both, decided_le, decided_bit, decided_same}
+use Rattle.rv_text.proofs.Deciding.{next, name_or_not, label_or_not, keyword_or_not}
 use Rattle.rv_text.proofs.SomeStatement.{follows_or_departs, states_or_refused}
 
 -- ---- one instruction
@@ -54,7 +32,7 @@ some_meaning text =
       | inr (inl blank) ↦ inr (cause.Operands, inr (inl (blank, refl)))
       | inr (inr stuck) ↦ inr (cause.Word, inl (stuck, refl))
       | inl (token, rest, takes) ↦ elim (mnemonic_or_not token) [
-        | inr none ↦ elim (name_or_not token) [
+        | inr none ↦ elim (name_or_not token takes.is_token) [
           | inl is ↦ inr (cause.Word, inr (inr (token, rest, takes, inr (inl ((is, none), refl)))))
           | inr not ↦ inr (cause.Operands, inr (inr (token, rest, takes, inl (not, refl))))
         ]
@@ -87,10 +65,8 @@ may_or_not place.Code s = begun_and s.begun (λ b. b.in_data) _
 may_or_not place.Data s = begun_and s.begun (λ b. b.in_data) _
 
 unknown_or_not : (what : Named) → Decided (what ≡ Unknown)
-unknown_or_not (Gate k) = inr (λ e. cc)
-unknown_or_not (Code k) = inr (λ e. cc)
-unknown_or_not (Data offset) = inr (λ e. cc)
 unknown_or_not Unknown = inl refl
+unknown_or_not _ = inr (λ e. cc)
 
 free_or_not : (name : List ℕ) (b : Begun) → Decided (IsFree name b)
 free_or_not name b = unknown_or_not (meaning b.sandbox.names name)
@@ -102,7 +78,7 @@ name_or_none text =
     elim (next text) [
       | inr (inl blank) ↦ inr (λ name rest begins. blank_takes_none text name rest blank begins.0)
       | inr (inr stuck) ↦ inr (λ name rest begins. stuck.nothing name rest begins.0)
-      | inl (token, rest, takes) ↦ elim (label_or_not token) [
+      | inl (token, rest, takes) ↦ elim (label_or_not token takes.is_token) [
         | inl is ↦ inl (token, rest, (takes, is))
         | inr not ↦ inr (other_name text token rest takes not)
       ]
@@ -191,13 +167,9 @@ twice_or_not : (k : Keyword) (s : SoFar) (text : List ℕ) → Decided (IsGateTw
 twice_or_not k s text = decided_both (gate_or_not k) (begun_or_not s text)
 
 fits_or_not : (what : StatedWithin) (b : Begun) → Decided (Fits what b)
-fits_or_not (gate name service) b = decided_le _ _
 fits_or_not (compressed rvc) b = inl tt
 fits_or_not data_part b = inl tt
-fits_or_not (bytes values) b = decided_le _ _
-fits_or_not (plain instrs) b = decided_le _ _
-fits_or_not (jump instr name) b = decided_le _ _
-fits_or_not (address rd name) b = decided_le _ _
+fits_or_not _ b = decided_le _ _
 
 -- within a sandbox there is one begun last
 begun_of : (o : Option Begun) (P : Begun → Type 0) → IsSomeAnd o P → (b : Begun) × (o ≡ Some b)
@@ -206,12 +178,7 @@ begun_of (Some b) P h = (b, refl)
 
 begun_within : (what : StatedWithin) (s : SoFar) → MayCome (place_within what) s → (b : Begun) × (s.begun ≡ Some b)
 begun_within (gate name service) s may = begun_of s.begun _ may
-begun_within (compressed rvc) s may = begun_of s.begun _ may
-begun_within data_part s may = begun_of s.begun _ may
-begun_within (bytes values) s may = begun_of s.begun _ may
-begun_within (plain instrs) s may = begun_of s.begun _ may
-begun_within (jump instr name) s may = begun_of s.begun _ may
-begun_within (address rd name) s may = begun_of s.begun _ may
+begun_within _ s may = begun_of s.begun _ may
 
 does_or_full : (line : ℕ) (st : Stated) (s : SoFar) → IsRightStatement st → MayCome (place_of_stated st) s → ((new : SoFar) × Does line st s new) ⊎ HasNoRoom st s
 does_or_full line (format number) s right may =
@@ -254,7 +221,7 @@ rest_or_refused line s text =
       | inr (inl blank) ↦ inl (s, inl (blank, refl))
       | inr (inr stuck) ↦ inr (cause.Word, inl (stuck, refl))
       | inl (token, rest, takes) ↦ elim (keyword_or_not token) [
-        | inr none ↦ elim (name_or_not token) [
+        | inr none ↦ elim (name_or_not token takes.is_token) [
           | inl is ↦ inr (cause.Word, inr (token, rest, takes, inl (inr ((is, none), refl))))
           | inr not ↦ inr (cause.Operands, inr (token, rest, takes, inl (inl (not, refl))))
         ]

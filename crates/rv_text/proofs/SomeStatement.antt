@@ -1,40 +1,16 @@
 -- The text after a keyword states something, or is refused.
-use Rattle.std.proofs.Common.{◌≡◌, ◌≢◌, ℕ, zero, suc, ◌≤◌, true, List, [], ◌∷◌, length, ◌⊎◌, inl, inr, refl, sym, arith, ℤ, pos, negsuc}
-use Rattle.std.specs.Prelude.{IsTrue, codes}
-use Rattle.std.specs.List.{flat_map}
-use Rattle.std.proofs.lemmas.Int.{ints}
-use Rattle.rv_word.specs.declared.instr.Instr.{Instr}
-use Rattle.rv_word.specs.declared.instr.Instr.TheVariants as instr
-use Rattle.rv_word.specs.Numbers.{IsBetween}
-use Rattle.rv_text.specs.declared.cause.TextCause.{TextCause}
+use Rattle.rv_text.proofs.Words.{◌≡◌, ◌≢◌, ℕ, zero, suc, ◌≤◌, true, List, [], ◌∷◌, length, ◌⊎◌, inl, inr, refl, sym, arith, rules, ℤ, pos, negsuc, IsTrue, codes, flat_map, ints, Instr, IsBetween, TextCause, Mnemonic, NumberKind, Part, Rd, Rs1, Rs2, Number, Name, Mode, Comma, Open, Close, Directive, Pseudo, Nop, DataWidth, Keyword, IsBlank, form_of, data_bytes, OperandValues, Departs, part_cause, mnemonic_of, operands, operands_of, full_fence, IsBareFence, OperandsDepart, Reads, SameAt, AgreesOn, AllSuit, FollowsName, slot, is_fresh, has_no_repeat, directive_form, directive_states, pseudo_form, pseudo_states, branch_form, branch_states, jal_form, jal_states, data_kind, StatesAfter, LeadsByMore, NumberDeparts, ListDeparts, InstrDeparts, RefusedWith, ReadsNumber, ReadsList, MoreDepartsAfter, ReadsRow, ReadsInstr, ReadsAfter, Stated, within, plain, bytes}
 use Rattle.rv_text.specs.declared.cause.TextCause.TheVariants as cause
-use Rattle.rv_text.specs.declared.mnemonic.Mnemonic.{Mnemonic}
 use Rattle.rv_text.specs.declared.mnemonic.Mnemonic.TheVariants as mnemonic
-use Rattle.rv_text.specs.declared.form.NumberKind.{NumberKind}
-use Rattle.rv_text.specs.declared.form.Part.{Part}
-use Rattle.rv_text.specs.declared.form.Part.TheVariants.{Rd, Rs1, Rs2, Number, Name, Mode, Comma, Open, Close}
-use Rattle.rv_text.specs.declared.keyword.Directive.{Directive}
 use Rattle.rv_text.specs.declared.keyword.Directive.TheVariants as directive
-use Rattle.rv_text.specs.declared.keyword.Pseudo.{Pseudo}
-use Rattle.rv_text.specs.declared.keyword.Pseudo.TheVariants.{Nop}
-use Rattle.rv_text.specs.declared.keyword.DataWidth.{DataWidth}
-use Rattle.rv_text.specs.declared.keyword.Keyword.{Keyword}
 use Rattle.rv_text.specs.declared.keyword.Keyword.TheVariants as keyword
-use Rattle.rv_text.specs.Tokens.{IsBlank}
-use Rattle.rv_text.specs.Forms.{form_of}
-use Rattle.rv_text.specs.Constants.{data_bytes}
-use Rattle.rv_text.specs.Operands.{OperandValues, Departs, part_cause}
-use Rattle.rv_text.specs.Statement.{mnemonic_of, operands, operands_of, full_fence, IsBareFence, OperandsDepart}
-use Rattle.rv_text.specs.private.Reading.{Reads, SameAt, AgreesOn, AllSuit, FollowsName, slot, is_fresh, has_no_repeat}
-use Rattle.rv_text.specs.Keywords.{directive_form, directive_states, pseudo_form, pseudo_states, branch_form, branch_states, jal_form, jal_states, data_kind}
-use Rattle.rv_text.specs.Lines.{StatesAfter, LeadsByMore, NumberDeparts, ListDeparts, InstrDeparts, RefusedWith}
-use Rattle.rv_text.specs.private.Lists.{ReadsNumber, ReadsList, MoreDepartsAfter, ReadsRow, ReadsInstr, ReadsAfter}
-use Rattle.rv_text.specs.Stated.{Stated, within, plain, bytes}
 use Rattle.rv_text.proofs.Forms.{stands_by_operand, reads_part, more_has_no_repeat, keeps_part, reads_fit}
 use Rattle.rv_text.proofs.Lines.{reads_states}
 use Rattle.rv_text.proofs.Meaning.{follows}
-use Rattle.rv_text.proofs.Taking.{takes_shorter}
-use Rattle.rv_text.proofs.Deciding.{Decided, decided_both, decided_same, next, blank_or_not, written_or_not, stands_or_not}
+use Rattle.rv_text.proofs.OneMeaning.{natural, made}
+use Rattle.rv_text.proofs.Taking.{takes_shorter, blank_takes_none}
+use Rattle.rv_text.proofs.Decided.{Decided, decided_both, decided_same}
+use Rattle.rv_text.proofs.Deciding.{next, written_or_not, stands_or_not}
 
 -- ---- the operands of a form
 
@@ -49,39 +25,28 @@ put Mode first o = record o { compressed = first.compressed }
 put _ first o = o
 
 put_same : (part : Part) (first o : OperandValues) → SameAt part (put part first o) first
-put_same Rd first o = refl
-put_same Rs1 first o = refl
-put_same Rs2 first o = refl
-put_same (Number kind) first o = refl
-put_same Name first o = refl
-put_same Mode first o = refl
-put_same _ first o = tt
+put_same Comma first o = tt
+put_same Open first o = tt
+put_same Close first o = tt
+put_same _ first o = refl
 
 put_others : (part p : Part) (first o : OperandValues) → slot p ≢ slot part → SameAt p (put part first o) o
 put_others part Comma first o h = tt
 put_others part Open first o h = tt
 put_others part Close first o h = tt
 put_others Rd Rd first o h = absurd (h refl)
-put_others part Rd first o h = refl
 put_others Rs1 Rs1 first o h = absurd (h refl)
-put_others part Rs1 first o h = refl
 put_others Rs2 Rs2 first o h = absurd (h refl)
-put_others part Rs2 first o h = refl
 put_others (Number kind) (Number other) first o h = absurd (h refl)
-put_others part (Number other) first o h = refl
 put_others Name Name first o h = absurd (h refl)
-put_others part Name first o h = refl
 put_others Mode Mode first o h = absurd (h refl)
-put_others part Mode first o h = refl
+put_others _ _ first o h = refl
 
 same_self : (part : Part) (o : OperandValues) → SameAt part o o
-same_self Rd o = refl
-same_self Rs1 o = refl
-same_self Rs2 o = refl
-same_self (Number kind) o = refl
-same_self Name o = refl
-same_self Mode o = refl
-same_self _ o = tt
+same_self Comma o = tt
+same_self Open o = tt
+same_self Close o = tt
+same_self _ o = refl
 
 -- the operands that the text gives at the form, which keep the old ones elsewhere
 record Filled (old : OperandValues) (form : List Part) (text : List ℕ) : Type 0 where
@@ -100,7 +65,7 @@ fill_or_depart old (part ∷ form) text fresh =
     elim (next text) [
       | inr (inl blank) ↦ inr (cause.Operands, inr (inl (blank, refl)))
       | inr (inr stuck) ↦ inr (cause.Word, inl (stuck, refl))
-      | inl (token, rest, takes) ↦ elim (stands_or_not part token) [
+      | inl (token, rest, takes) ↦ elim (stands_or_not part token takes.is_token) [
         | inr none ↦ inr (part_cause part token, inr (inr (token, rest, takes, inl (none, refl))))
         | inl (one, stands) ↦
             let first = put part one old in
@@ -133,28 +98,19 @@ row_or_depart form states text fresh =
 -- ---- an instruction
 
 -- the instruction of a name with operands that fit its form
-record Made (name : Mnemonic) (o : OperandValues) : Type 0 where
-  instr : Instr
-  named : mnemonic_of instr ≡ name
-  agrees : AgreesOn (form_of name) (operands_of instr) o
+natural_is : (most z : ℤ) → IsBetween (pos 0) most z → pos (natural z) ≡ z
+natural_is most (pos n) h = refl
+natural_is most (negsuc n) h = let low = h.0 in absurd (omega (arith, ints))
 
-natural_made : (most z : ℤ) → IsBetween (pos 0) most z → (n : ℕ) × (pos n ≡ z)
-natural_made most (pos n) h = (n, refl)
-natural_made most (negsuc n) h = let low = h.0 in absurd (omega (arith, ints))
+made_named : (name : Mnemonic) (o : OperandValues) → mnemonic_of (made name o) ≡ name
+made_named (mnemonic.Op op) o = refl
+made_named _ o = refl
 
-made : (name : Mnemonic) (o : OperandValues) → AllSuit o (form_of name) → Made name o
-made (mnemonic.Op op) o h = record { instr = instr.Op op o.rd o.rs1 o.rs2; named = refl; agrees = (refl, (tt, (refl, (tt, (refl, tt))))) }
-made (mnemonic.OpImm op) o h = record { instr = instr.OpImm op o.rd o.rs1 o.number; named = refl; agrees = (refl, (tt, (refl, (tt, (refl, tt))))) }
-made (mnemonic.Load kind) o h = record { instr = instr.Load kind o.rd o.rs1 o.number; named = refl; agrees = (refl, (tt, (refl, (tt, (refl, (tt, tt)))))) }
-made (mnemonic.Store width) o h = record { instr = instr.Store width o.rs1 o.rs2 o.number; named = refl; agrees = (refl, (tt, (refl, (tt, (refl, (tt, tt)))))) }
-made (mnemonic.Branch cond) o h = record { instr = instr.Branch cond o.rs1 o.rs2 o.number; named = refl; agrees = (refl, (tt, (refl, (tt, (refl, tt))))) }
-made mnemonic.Jal o h = record { instr = instr.Jal o.rd o.number; named = refl; agrees = (refl, (tt, (refl, tt))) }
-made mnemonic.Jalr o h = record { instr = instr.Jalr o.rd o.rs1 o.number; named = refl; agrees = (refl, (tt, (refl, (tt, (refl, (tt, tt)))))) }
-made mnemonic.Lui o h = let u = natural_made _ o.number h.1.1.0 in record { instr = instr.Lui o.rd u.0; named = refl; agrees = (refl, (tt, (u.1, tt))) }
-made mnemonic.Auipc o h = let u = natural_made _ o.number h.1.1.0 in record { instr = instr.Auipc o.rd u.0; named = refl; agrees = (refl, (tt, (u.1, tt))) }
-made mnemonic.Fence o h = let u = natural_made _ o.number h.0 in record { instr = instr.Fence u.0 o.rd o.rs1; named = refl; agrees = (u.1, (tt, (refl, (tt, (refl, tt))))) }
-made mnemonic.Ecall o h = record { instr = instr.Ecall; named = refl; agrees = tt }
-made mnemonic.Ebreak o h = record { instr = instr.Ebreak; named = refl; agrees = tt }
+made_fits : (name : Mnemonic) (o : OperandValues) → AllSuit o (form_of name) → AgreesOn (form_of name) (operands_of (made name o)) o
+made_fits mnemonic.Lui o h = (refl, (tt, (natural_is _ o.number h.1.1.0, tt)))
+made_fits mnemonic.Auipc o h = (refl, (tt, (natural_is _ o.number h.1.1.0, tt)))
+made_fits mnemonic.Fence o h = (natural_is _ o.number h.0, (tt, (refl, (tt, (refl, tt)))))
+made_fits _ o h = search rules
 
 no_repeat : (name : Mnemonic) → has_no_repeat (form_of name) ≡ true
 no_repeat (mnemonic.Op op) = refl
@@ -165,7 +121,11 @@ fence_or_not mnemonic.Fence = inl refl
 fence_or_not _ = inr (λ e. cc)
 
 bare_or_not : (name : Mnemonic) (text : List ℕ) → Decided (IsBareFence name text)
-bare_or_not name text = decided_both (fence_or_not name) (blank_or_not text)
+bare_or_not name text = decided_both (fence_or_not name) (elim (next text) as (λ _. Decided (IsBlank text)) [
+  | inl (token, rest, takes) ↦ inr (λ blank. blank_takes_none text token rest blank takes)
+  | inr (inl blank) ↦ inl blank
+  | inr (inr stuck) ↦ inr stuck.something
+])
 
 -- the text after a name gives its operands, or departs from them
 pub follows_or_departs : (name : Mnemonic) (text : List ℕ) → ((i : Instr) × FollowsName text name i) ⊎ ((e : TextCause) × OperandsDepart name text e)
@@ -174,7 +134,7 @@ follows_or_departs name text =
       | inl bare ↦ inl (full_fence, (sym bare.0, inr (refl, bare.1)))
       | inr other ↦ elim (read_or_depart (form_of name) text (no_repeat name)) [
         | inr (e, departs) ↦ inr (e, (other, departs))
-        | inl (o, reads) ↦ let m = made name o (reads_fit o (form_of name) text reads) in inl (m.instr, follows text name o m.instr reads m.named m.agrees)
+        | inl (o, reads) ↦ inl (made name o, follows text name o (made name o) reads (made_named name o) (made_fits name o (reads_fit o (form_of name) text reads)))
       ]
     ]
 
@@ -198,7 +158,7 @@ number_or_departs kind text =
     elim (next text) [
       | inr (inl blank) ↦ inr (cause.Operands, inr (inl (blank, refl)))
       | inr (inr stuck) ↦ inr (cause.Word, inl (stuck, refl))
-      | inl (token, rest, takes) ↦ elim (written_or_not kind token) [
+      | inl (token, rest, takes) ↦ elim (written_or_not kind token takes.is_token) [
         | inl (z, writes) ↦ inl (z, rest, (token, takes, writes))
         | inr none ↦ inr (cause.Number, inr (inr (token, rest, takes, (λ o h. none o.number h.0 h.1, refl))))
       ]

@@ -1,19 +1,6 @@
 -- Reading a text line by line.
-use Rattle.std.proofs.Common.{◌≡◌, sym, ap, subst, ◌∙◌, ℕ, ◌⊎◌, inl, inr, List, [], ◌∷◌, length, length-append, ◌==◌, Option, None, Some, Bor, Result, Ok, Err, IfOk, IfErr, arith}
-use Rattle.std.specs.Prelude.{MatchOption, MatchResult}
-use Rattle.std.specs.List.{before_first, after_first}
-use Rattle.std.proofs.lemmas.List.Sums.{fails_before_first, split_at_first}
-use Rattle.std.proofs.lemmas.List.Splits.{slice_split_none, slice_split_first}
-use Rattle.std.proofs.lemmas.Str.Pattern.{IsSplitOnceResult, split_once_first}
-use Rattle.rv_text.specs.declared.cause.TextCause.{TextCause}
+use Rattle.rv_text.proofs.Words.{◌≡◌, sym, ap, subst, ◌∙◌, ℕ, ◌⊎◌, inl, inr, List, [], ◌∷◌, length, length-append, ◌==◌, Option, None, Some, Bor, Result, Ok, Err, IfOk, IfErr, arith, MatchOption, MatchResult, before_first, after_first, fails_before_first, split_at_first, slice_split_none, slice_split_first, IsSplitOnceResult, split_once_first, TextCause, Sandbox, TextFault, memory, SoFar, LineRefused, lines, uncommented, LinesLead, LineFault, FirstRefused, MeansSource, IsFault, BeginsWithLine}
 use Rattle.rv_text.specs.declared.cause.TextCause.TheVariants as cause
-use Rattle.rv_source.specs.Source.{Sandbox}
-use Rattle.rv_text.specs.declared.fault.TextFault.{TextFault}
-use Rattle.rv_text.specs.Causes.{memory}
-use Rattle.rv_text.specs.SoFar.{SoFar}
-use Rattle.rv_text.specs.Leads.{LineRefused}
-use Rattle.rv_text.specs.Texts.{lines, uncommented, LinesLead, LineFault, FirstRefused, MeansSource, IsFault}
-use Rattle.rv_text.specs.private.Texts.{BeginsWithLine}
 use Rattle.rv_text.proofs.OneSource.{one_source, one_fault, meant_has_no_fault}
 
 -- what the lines that are left lead to, all lines lead to from the first source so far; and so with their fault

@@ -45,12 +45,11 @@ MayCome place.Data s = IsSomeAnd s.begun (λ b. b.in_data ≡ true)
 -- of bytes those that it was begun with
 abbrev pub Fits : StatedWithin → Begun → Type 0
 Fits (gate name service) b = length b.sandbox.gates + 1 ≤ gates_most
-Fits (compressed rvc) b = Unit {0}
-Fits data_part b = Unit {0}
 Fits (bytes values) b = length b.sandbox.bytes + length values ≤ b.sandbox.data_size
 Fits (plain instrs) b = length b.sandbox.items + length instrs ≤ items_most
 Fits (jump instr name) b = length b.sandbox.items + 1 ≤ items_most
 Fits (address rd name) b = length b.sandbox.items + 2 ≤ items_most
+Fits _ b = Unit {0}
 
 -- the sandbox after a statement of a line; a name that an instruction goes to is met
 abbrev pub with_stated : ℕ → StatedWithin → Begun → Begun
@@ -82,6 +81,5 @@ Does line (within what) old new = GoesOn line what old new
 
 -- the sandbox begun last has no room for what is stated within it
 abbrev pub HasNoRoom : Stated → SoFar → Type 0
-HasNoRoom (format number) old = ⊥
-HasNoRoom (sandbox size) old = ⊥
 HasNoRoom (within what) old = (b : Begun) × (old.begun ≡ Some b) × (Fits what b → ⊥)
+HasNoRoom _ old = ⊥

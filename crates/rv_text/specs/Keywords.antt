@@ -119,12 +119,9 @@ keyword_name (keyword.Numbers width) = data_name width
 
 -- where a statement of this name may come
 abbrev pub place_of_keyword : Keyword → Place
-place_of_keyword (keyword.Instr name) = place.Code
-place_of_keyword (keyword.Pseudo name) = place.Code
 place_of_keyword (keyword.Directive directive.Format) = place.Head
 place_of_keyword (keyword.Directive directive.Sandbox) = place.Outside
 place_of_keyword (keyword.Directive directive.Gate) = place.Gates
-place_of_keyword (keyword.Directive directive.Option) = place.Code
-place_of_keyword (keyword.Directive directive.Data) = place.Code
 place_of_keyword (keyword.Directive directive.Zero) = place.Data
 place_of_keyword (keyword.Numbers width) = place.Data
+place_of_keyword _ = place.Code

@@ -41,17 +41,14 @@ Writes kind token z = IsNumber token z × IsNumberOf kind z
 -- the tokens are such numbers, each after a comma
 abbrev pub AreMore : NumberKind → List ℤ → List (List ℕ) → Type 0
 AreMore kind [] [] = Unit {0}
-AreMore kind [] (token ∷ tokens) = ⊥
-AreMore kind (z ∷ numbers) [] = ⊥
-AreMore kind (z ∷ numbers) (comma ∷ []) = ⊥
 AreMore kind (z ∷ numbers) (comma ∷ token ∷ tokens) =
     (comma ≡ codes ",") × Writes kind token z × AreMore kind numbers tokens
+AreMore kind _ _ = ⊥
 
 -- the tokens are such numbers with commas between, one at least
 abbrev pub AreNumbers : NumberKind → List ℤ → List (List ℕ) → Type 0
-AreNumbers kind [] tokens = ⊥
-AreNumbers kind (z ∷ numbers) [] = ⊥
 AreNumbers kind (z ∷ numbers) (token ∷ tokens) = Writes kind token z × AreMore kind numbers tokens
+AreNumbers kind _ _ = ⊥
 
 -- the tokens are a list of data of this width
 abbrev pub IsData : DataWidth → List (List ℕ) → Stated → Type 0

@@ -39,9 +39,8 @@ Stands o Close token = token ≡ codes ")"
 -- the tokens stand at the parts of the form, one each
 abbrev pub HasForm : OperandValues → List Part → List (List ℕ) → Type 0
 HasForm o [] [] = Unit {0}
-HasForm o [] (token ∷ tokens) = ⊥
-HasForm o (part ∷ form) [] = ⊥
 HasForm o (part ∷ form) (token ∷ tokens) = Stands o part token × HasForm o form tokens
+HasForm o _ _ = ⊥
 
 -- the cause where this token stands in a name's place and isn't one, or is too long
 abbrev pub label_cause : List ℕ → TextCause
@@ -54,10 +53,7 @@ part_cause Rs1 token = cause.Register
 part_cause Rs2 token = cause.Register
 part_cause (Number kind) token = cause.Number
 part_cause Name token = label_cause token
-part_cause Mode token = cause.Operands
-part_cause Comma token = cause.Operands
-part_cause Open token = cause.Operands
-part_cause Close token = cause.Operands
+part_cause _ token = cause.Operands
 
 -- no token can be formed at the front of the text
 abbrev pub Unformed : List ℕ → TextCause → Type 0

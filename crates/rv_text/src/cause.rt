@@ -4,34 +4,27 @@ ghost use Rattle.rv_text.specs.declared.cause.TextCause.TheVariants as cause;
 ghost use Rattle.rv_text.specs.Causes.{cause_number};
 
 use std::alloc::{AllocError, AllocFailed};
-use thiserror::Error;
+use std::error::Error;
+use std::fmt;
 
 /// Why a text means nothing. Its text is its bare name.
-#[derive(Clone, Copy, Debug, PartialEq, Eq, Error)]
+#[derive(Clone, Copy, Debug, PartialEq, Eq)]
 pub enum TextCause {
     /// No token can be formed, or a statement's first name is none that is known.
-    #[error("Word")]
     Word,
     /// Something else stands in a register's place.
-    #[error("Register")]
     Register,
     /// Something else stands in a number's place, or a number that is out of its range.
-    #[error("Number")]
     Number,
     /// A token is missing, is too many, or isn't the expected name or mark.
-    #[error("Operands")]
     Operands,
     /// The name is there already.
-    #[error("LabelTwice")]
     LabelTwice,
     /// The statement may not stand there.
-    #[error("Directive")]
     Directive,
     /// Something is longer or more than is allowed.
-    #[error("Limit")]
     Limit,
     /// Memory was refused.
-    #[error("Memory")]
     Memory,
 }
 
@@ -52,6 +45,14 @@ impl TextCause {
         }
     }
 }
+
+impl fmt::Display for TextCause {
+    fn fmt<W: fmt::Write>(&self, f: &mut fmt::Formatter<W>) -> fmt::Result {
+        fmt::Debug::fmt(self, f)
+    }
+}
+
+impl Error for TextCause {}
 
 impl From<AllocError> for TextCause {
     ghost from_gives = { λ _ e. e ≡ cause.Memory };

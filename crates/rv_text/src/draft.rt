@@ -217,15 +217,15 @@ impl Draft {
         &mut self,
         alloc: Global,
         line: u32,
-        statement: SandboxStatement<'_>,
+        statement: &SandboxStatement<'_>,
     ) -> Result<(), TextCause>
-        ensures fits { OnOk result (Fits (stated_within statement.entry) self.old) }
+        ensures fits { OnOk result (Fits (stated_within statement.now) self.old) }
         ensures after { OnOk result
-            (self.new ≡ with_stated line (stated_within statement.entry) self.old) }
+            (self.new ≡ with_stated line (stated_within statement.now) self.old) }
         ensures cause { IfErr result (λ e. (e ≡ cause.Memory)
-            ⊎ ((Fits (stated_within statement.entry) self.old → ⊥) × (e ≡ cause.Limit))) }
+            ⊎ ((Fits (stated_within statement.now) self.old → ⊥) × (e ≡ cause.Limit))) }
     {
-        match statement {
+        match *statement {
             SandboxStatement::Gate { name, service } => self.gate(alloc, name, service),
             SandboxStatement::Compressed(rvc) => {
                 self.set_rvc(rvc);
@@ -235,7 +235,7 @@ impl Draft {
                 self.begin_data();
                 Ok(())
             }
-            SandboxStatement::Bytes(bytes) => self.push_bytes(&bytes),
+            SandboxStatement::Bytes(ref bytes) => self.push_bytes(bytes),
             SandboxStatement::Zeros(count) => self.push_zeros(count),
             SandboxStatement::One(instr) => self.push(line, Body::Plain(instr)),
             SandboxStatement::Two(first, second) => {

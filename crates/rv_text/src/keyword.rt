@@ -142,7 +142,7 @@ impl DataWidth {
 }
 
 /// Every keyword.
-const ALL: [Keyword; 67] = [
+const ALL: &[Keyword; 67] = &[
     Keyword::Instr(Mnemonic::Op(RegOp::Add)),
     Keyword::Instr(Mnemonic::Op(RegOp::Sub)),
     Keyword::Instr(Mnemonic::Op(RegOp::Sll)),
@@ -212,43 +212,41 @@ const ALL: [Keyword; 67] = [
     Keyword::Numbers(DataWidth::Byte),
 ];
 
-/// By the hash of a name, the place in [`ALL`] of the keyword that alone can have the name;
-/// 67 where none can.
-const PLACES: [u8; 256] = [
-    67, 67, 67, 67, 67, 28, 50, 67, 67, 67, 67, 67, 67, 67, 30, 64, 67, 67, 67, 67, 29, 63, 42, 24,
-    67, 67, 67, 10, 58, 67, 67, 67, 67, 67, 2, 67, 67, 67, 48, 21, 67, 67, 3, 67, 67, 55, 67, 12,
-    67, 67, 59, 67, 67, 67, 40, 67, 13, 67, 67, 67, 67, 67, 20, 67, 60, 52, 67, 67, 8, 11, 67, 67,
-    67, 67, 67, 67, 67, 67, 67, 19, 26, 67, 56, 67, 67, 67, 67, 67, 14, 53, 67, 4, 67, 67, 67, 67,
-    67, 67, 67, 23, 67, 67, 67, 67, 36, 67, 67, 67, 67, 67, 67, 67, 45, 67, 67, 47, 39, 67, 67, 67,
-    31, 67, 51, 67, 67, 67, 67, 44, 65, 7, 61, 67, 67, 66, 67, 67, 67, 67, 46, 67, 6, 67, 67, 67,
-    67, 67, 5, 67, 67, 67, 67, 38, 67, 67, 67, 67, 67, 67, 67, 67, 67, 67, 67, 67, 67, 67, 67, 43,
-    67, 37, 67, 67, 67, 67, 67, 67, 67, 67, 67, 67, 67, 67, 67, 1, 67, 67, 67, 67, 41, 25, 67, 67,
-    67, 67, 67, 67, 67, 22, 67, 67, 67, 67, 67, 67, 67, 67, 67, 54, 32, 67, 67, 67, 67, 35, 33, 62,
-    67, 67, 67, 67, 67, 15, 67, 67, 67, 16, 67, 67, 67, 34, 67, 67, 49, 67, 67, 67, 67, 67, 67, 67,
-    0, 67, 67, 67, 67, 67, 9, 67, 67, 18, 67, 67, 17, 67, 57, 27,
+/// By the hash of a name, the place in [`ALL`] of the keyword that alone can have the name.
+const PLACES: &[u8; 256] = &[
+    0, 0, 0, 0, 0, 28, 50, 0, 0, 0, 0, 0, 0, 0, 30, 64, 0, 0, 0, 0, 29, 63, 42, 24, 0, 0, 0, 10,
+    58, 0, 0, 0, 0, 0, 2, 0, 0, 0, 48, 21, 0, 0, 3, 0, 0, 55, 0, 12, 0, 0, 59, 0, 0, 0, 40, 0, 13,
+    0, 0, 0, 0, 0, 20, 0, 60, 52, 0, 0, 8, 11, 0, 0, 0, 0, 0, 0, 0, 0, 0, 19, 26, 0, 56, 0, 0, 0,
+    0, 0, 14, 53, 0, 4, 0, 0, 0, 0, 0, 0, 0, 23, 0, 0, 0, 0, 36, 0, 0, 0, 0, 0, 0, 0, 45, 0, 0, 47,
+    39, 0, 0, 0, 31, 0, 51, 0, 0, 0, 0, 44, 65, 7, 61, 0, 0, 66, 0, 0, 0, 0, 46, 0, 6, 0, 0, 0, 0,
+    0, 5, 0, 0, 0, 0, 38, 0, 0, 0, 0, 0, 0, 0, 0, 0, 0, 0, 0, 0, 0, 0, 43, 0, 37, 0, 0, 0, 0, 0, 0,
+    0, 0, 0, 0, 0, 0, 0, 1, 0, 0, 0, 0, 41, 25, 0, 0, 0, 0, 0, 0, 0, 22, 0, 0, 0, 0, 0, 0, 0, 0, 0,
+    54, 32, 0, 0, 0, 0, 35, 33, 62, 0, 0, 0, 0, 0, 15, 0, 0, 0, 16, 0, 0, 0, 34, 0, 0, 49, 0, 0, 0,
+    0, 0, 0, 0, 0, 0, 0, 0, 0, 0, 9, 0, 0, 18, 0, 0, 17, 0, 57, 27,
 ];
 
-/// The hash of a name: 57, and then for each byte 103 times what was there before and the byte,
-/// modulo 256. The two numbers were found by trial: by them no two keywords have one hash.
+/// The hash of a name: the seed, and then for each byte the factor times what was there before and
+/// the byte, modulo 256.
 #[tactic(auto, using(std::proofs::lemmas::List::Sums::fold_more), unfolding(crate::specs::private::Lookup::hash))]
-fn hash(name: &str) -> usize
-    ensures value { result ≡ hash name.now }
+pub fn hash(seed: usize, factor: usize, name: &str) -> usize
+    requires seed { seed < 256 }
+    requires factor { factor < 256 }
+    ensures value { result ≡ hash seed factor name.now }
     ensures small { result < 256 }
 {
-    let mut hash = 57;
+    let mut hash = seed;
     for byte in name.as_bytes() {
-        hash = (hash * 103 + usize::from(*byte)) % 256;
+        hash = (hash * factor + usize::from(*byte)) % 256;
     }
     hash
 }
 
-/// The keyword that alone can have this name.
-#[tactic(auto, using(crate::proofs::Keywords::inside, crate::proofs::Keywords::outside))]
-fn candidate(name: &str) -> Option<Keyword>
+/// The keyword that alone can have this name. The two numbers were found by trial: by them no two
+/// keywords have one hash.
+fn candidate(name: &str) -> Keyword
     ensures { result ≡ candidate name.now }
 {
-    let place = PLACES[hash(name)] as usize;
-    if place < 67 { Some(ALL[place]) } else { None }
+    ALL[PLACES[hash(57, 103, name)] as usize]
 }
 
 impl Keyword {
@@ -269,15 +267,11 @@ impl Keyword {
         ensures some { IfSome result (λ k. keyword_name k ≡ name.now) }
         ensures none { IfNone result ((k : Keyword) → keyword_name k ≡ name.now → ⊥) }
     {
-        match candidate(name) {
-            Some(keyword) => {
-                if keyword.name() == name {
-                    Some(keyword)
-                } else {
-                    None
-                }
-            }
-            None => None,
+        let keyword = candidate(name);
+        if keyword.name() == name {
+            Some(keyword)
+        } else {
+            None
         }
     }
 

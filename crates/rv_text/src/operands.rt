@@ -29,74 +29,49 @@ pub fn x0() -> Reg
 }
 
 impl<'a> Operands<'a> {
+    /// These registers and this number.
+    fn new(rd: Reg, rs1: Reg, rs2: Reg, number: i64) -> Self
+        ensures { values_of result ≡ operands rd rs1 rs2 number }
+    {
+        Operands {
+            rd,
+            rs1,
+            rs2,
+            number,
+            name: "",
+            compressed: false,
+        }
+    }
+
     /// No operands.
     pub fn none() -> Self
         ensures { values_of result ≡ operands 0 0 0 (pos 0) }
     {
-        Operands {
-            rd: x0(),
-            rs1: x0(),
-            rs2: x0(),
-            number: 0,
-            name: "",
-            compressed: false,
-        }
+        Operands::new(x0(), x0(), x0(), 0)
     }
 
     /// The instruction's operands.
     pub fn of(instr: &Instr) -> Self
         ensures { values_of result ≡ operands_of instr.now }
     {
-        let none = Operands::none();
         match *instr {
-            Instr::Op { rd, rs1, rs2, .. } => Operands {
-                rd,
-                rs1,
-                rs2,
-                ..none
-            },
+            Instr::Op { rd, rs1, rs2, .. } => Operands::new(rd, rs1, rs2, 0),
             Instr::OpImm { rd, rs1, imm, .. }
             | Instr::Load { rd, rs1, imm, .. }
-            | Instr::Jalr { rd, rs1, imm } => Operands {
-                rd,
-                rs1,
-                number: i64::from(imm),
-                ..none
-            },
-            Instr::Store { rs1, rs2, imm, .. } => Operands {
-                rs1,
-                rs2,
-                number: i64::from(imm),
-                ..none
-            },
+            | Instr::Jalr { rd, rs1, imm } => Operands::new(rd, rs1, x0(), i64::from(imm)),
+            Instr::Store { rs1, rs2, imm, .. } => Operands::new(x0(), rs1, rs2, i64::from(imm)),
             Instr::Branch {
                 rs1,
                 rs2,
                 offset,
                 ..
-            } => Operands {
-                rs1,
-                rs2,
-                number: i64::from(offset),
-                ..none
-            },
-            Instr::Jal { rd, offset } => Operands {
-                rd,
-                number: i64::from(offset),
-                ..none
-            },
-            Instr::Lui { rd, imm } | Instr::Auipc { rd, imm } => Operands {
-                rd,
-                number: i64::from(imm),
-                ..none
-            },
-            Instr::Fence { imm, rd, rs1 } => Operands {
-                rd,
-                rs1,
-                number: i64::from(imm),
-                ..none
-            },
-            Instr::Ecall | Instr::Ebreak => none,
+            } => { Operands::new(x0(), rs1, rs2, i64::from(offset)) }
+            Instr::Jal { rd, offset } => Operands::new(rd, x0(), x0(), i64::from(offset)),
+            Instr::Lui { rd, imm } | Instr::Auipc { rd, imm } => {
+                Operands::new(rd, x0(), x0(), i64::from(imm))
+            }
+            Instr::Fence { imm, rd, rs1 } => Operands::new(rd, rs1, x0(), i64::from(imm)),
+            Instr::Ecall | Instr::Ebreak => Operands::none(),
         }
     }
 

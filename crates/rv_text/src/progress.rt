@@ -221,18 +221,23 @@ impl Progress {
     }
 
     /// Does what a statement of this line states, which may come here.
-    fn state(&mut self, alloc: Global, line: u32, statement: Statement<'_>) -> Result<(), TextCause>
-        requires { MayCome (place_of_stated (stated statement)) self.old }
-        ensures does { OnOk result (Does line (stated statement.entry) self.old self.new) }
+    fn state(
+        &mut self,
+        alloc: Global,
+        line: u32,
+        statement: &Statement<'_>,
+    ) -> Result<(), TextCause>
+        requires { MayCome (place_of_stated (stated statement.now)) self.old }
+        ensures does { OnOk result (Does line (stated statement.now) self.old self.new) }
         ensures cause { IfErr result (λ e. (e ≡ cause.Memory)
-            ⊎ (HasNoRoom (stated statement.entry) self.old × (e ≡ cause.Limit))) }
+            ⊎ (HasNoRoom (stated statement.now) self.old × (e ≡ cause.Limit))) }
     {
         match statement {
             Statement::Format(format) => {
-                self.format = Some(format);
+                self.format = Some(*format);
                 Ok(())
             }
-            Statement::Sandbox { data_size } => self.begin(alloc, data_size),
+            Statement::Sandbox { data_size } => self.begin(alloc, *data_size),
             Statement::Within(what) => match &mut self.begun {
                 Some(draft) => draft.state(alloc, line, what),
                 None => Err(TextCause::Directive),
@@ -259,7 +264,7 @@ impl Progress {
             return Err(TextCause::LabelTwice);
         }
         let statement = read_statement(alloc, keyword, text)?;
-        self.state(alloc, line, statement)
+        self.state(alloc, line, &statement)
     }
 
     /// Does what a statement with this first token and this rest states.

@@ -1,73 +1,65 @@
 //! The names of the registers: x0 to x31, and those of the ABI.
-ghost use Rattle.std.specs.Prelude.{◌≡◌, ◌<◌, ℕ, IfSome, IfNone};
+ghost use Rattle.std.specs.Prelude.{◌≡◌, ◌<◌, ℕ, map, IfSome, IfNone};
 ghost use Rattle.rv_text.specs.Registers.{IsRegister};
-ghost use Rattle.rv_text.specs.private.Lookup.{of_number, pointer, of_two, of_three, find_register};
+ghost use Rattle.rv_text.specs.private.Lookup.{register_names, name_place, name_at, register_at};
 
+use crate::keyword::hash;
 use rv_word::Reg;
 
-/// The register of a letter and a number: x0 to x31, a0 to a7, s0 to s11, t0 to t6.
-fn of_number(letter: u8, number: u8) -> Option<u8>
-    ensures { result ≡ of_number letter number }
+/// Every name: x0 to x31, those of the ABI in the same order, and fp, a third name of x8.
+const NAMES: &[&str; 65] = &[
+    "x0", "x1", "x2", "x3", "x4", "x5", "x6", "x7", "x8", "x9", "x10", "x11", "x12", "x13", "x14",
+    "x15", "x16", "x17", "x18", "x19", "x20", "x21", "x22", "x23", "x24", "x25", "x26", "x27",
+    "x28", "x29", "x30", "x31", "zero", "ra", "sp", "gp", "tp", "t0", "t1", "t2", "s0", "s1", "a0",
+    "a1", "a2", "a3", "a4", "a5", "a6", "a7", "s2", "s3", "s4", "s5", "s6", "s7", "s8", "s9",
+    "s10", "s11", "t3", "t4", "t5", "t6", "fp",
+];
+
+fn names() -> &'static [&'static str; 65]
+    ensures { map (λ name. name.now) result.now ≡ register_names }
 {
-    match letter {
-        b'x' if number < 32 => Some(number),
-        b'a' if number < 8 => Some(number + 10),
-        b's' if number < 2 => Some(number + 8),
-        b's' if number < 12 => Some(number + 16),
-        b't' if number < 3 => Some(number + 5),
-        b't' if number < 7 => Some(number + 25),
-        _ => None,
-    }
+    NAMES
 }
 
-/// The register of the pointer of this letter: sp, gp, tp, and fp, a third name of x8.
-fn pointer(letter: u8) -> Option<u8>
-    ensures { result ≡ pointer letter }
+/// By the hash of a name, the place in `names` that alone can have the name.
+const PLACES: &[u8; 256] = &[
+    13, 14, 15, 16, 17, 18, 19, 0, 0, 0, 0, 0, 0, 0, 0, 34, 0, 0, 0, 0, 0, 0, 0, 0, 0, 0, 0, 0, 0,
+    0, 0, 0, 0, 0, 20, 21, 22, 23, 24, 25, 26, 27, 28, 29, 0, 0, 64, 0, 0, 0, 0, 0, 36, 42, 43, 44,
+    45, 46, 47, 48, 49, 0, 0, 0, 58, 59, 0, 0, 0, 0, 0, 30, 31, 0, 0, 0, 0, 0, 0, 0, 0, 0, 0, 35,
+    0, 0, 0, 0, 32, 0, 0, 0, 0, 0, 0, 0, 0, 0, 0, 0, 0, 0, 0, 0, 0, 0, 0, 0, 0, 0, 0, 0, 0, 0, 0,
+    0, 0, 0, 0, 0, 0, 0, 0, 0, 0, 0, 0, 0, 0, 0, 0, 0, 0, 0, 0, 0, 0, 1, 2, 3, 4, 5, 6, 7, 8, 9, 0,
+    0, 0, 0, 0, 0, 0, 0, 0, 0, 0, 0, 0, 0, 0, 0, 0, 0, 0, 0, 0, 0, 0, 0, 0, 0, 0, 0, 0, 0, 0, 0, 0,
+    0, 0, 0, 0, 0, 0, 0, 0, 0, 0, 0, 0, 0, 0, 0, 0, 0, 0, 0, 0, 0, 0, 0, 0, 0, 0, 0, 0, 40, 41, 50,
+    51, 52, 53, 54, 55, 56, 57, 0, 0, 33, 0, 0, 0, 0, 0, 0, 0, 0, 0, 0, 0, 0, 0, 0, 0, 0, 0, 0, 0,
+    0, 0, 0, 0, 0, 37, 38, 39, 60, 61, 62, 63, 0, 0, 10, 11, 12,
+];
+
+/// The place in `names` that alone can have this name. The two numbers were found by trial: by
+/// them no two names have one hash.
+#[tactic(auto, using(crate::proofs::RegisterNames::at_hash))]
+fn name_place(name: &str) -> usize
+    ensures value { result ≡ name_place name.now }
+    ensures small { result < 65 }
 {
-    match letter {
-        b's' => Some(2),
-        b'g' => Some(3),
-        b't' => Some(4),
-        b'f' => Some(8),
-        _ => None,
-    }
+    PLACES[hash(0, 37, name)] as usize
 }
 
-/// The register of a name of two bytes.
-fn of_two(letter: u8, last: u8) -> Option<u8>
-    ensures { result ≡ of_two letter last }
+/// The name at this place.
+fn name_at(place: usize) -> &'static str
+    requires { place < 65 }
+    ensures { result.now ≡ name_at place }
 {
-    if last.is_ascii_digit() {
-        of_number(letter, last - b'0')
-    } else if last == b'p' {
-        pointer(letter)
-    } else if letter == b'r' && last == b'a' {
-        Some(1)
+    names()[place]
+}
+
+/// The register of the name at this place.
+fn register_at(place: usize) -> Reg
+    ensures { result ≡ register_at place }
+{
+    if place == 64 {
+        Reg::numbered(8)
     } else {
-        None
-    }
-}
-
-/// The register of a name of three bytes: of a letter and a number from 10 on.
-fn of_three(letter: u8, tens: u8, units: u8) -> Option<u8>
-    ensures { result ≡ of_three letter tens units }
-{
-    if tens.is_ascii_digit() && tens != b'0' && units.is_ascii_digit() {
-        of_number(letter, 10 * (tens - b'0') + (units - b'0'))
-    } else {
-        None
-    }
-}
-
-/// The number of the register of this name.
-#[tactic(auto, unfolding(crate::specs::private::Lookup::find_register))]
-fn number_of(name: &str) -> Option<u8>
-    ensures { result ≡ find_register name.now }
-{
-    match name.as_bytes() {
-        [letter, last] => of_two(*letter, *last),
-        [letter, tens, units] => of_three(*letter, *tens, *units),
-        _ => { if name == "zero" { Some(0) } else { None } }
+        Reg::numbered((place % 32) as u8)
     }
 }
 
@@ -76,8 +68,10 @@ pub fn register(name: &str) -> Option<Reg>
     ensures some { IfSome result (λ r. IsRegister name.now r) }
     ensures none { IfNone result ((r : ℕ) → IsRegister name.now r → ⊥) }
 {
-    match number_of(name) {
-        Some(k) => Reg::new(k),
-        None => None,
+    let place = name_place(name);
+    if name_at(place) == name {
+        Some(register_at(place))
+    } else {
+        None
     }
 }

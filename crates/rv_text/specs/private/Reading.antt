@@ -28,9 +28,7 @@ SameAt Rs2 a b = a.rs2 ≡ b.rs2
 SameAt (Number kind) a b = a.number ≡ b.number
 SameAt Name a b = a.name ≡ b.name
 SameAt Mode a b = a.compressed ≡ b.compressed
-SameAt Comma a b = Unit {0}
-SameAt Open a b = Unit {0}
-SameAt Close a b = Unit {0}
+SameAt _ a b = Unit {0}
 
 -- two statements have the same operands at the parts of a form
 abbrev pub AgreesOn : List Part → OperandValues → OperandValues → Type 0
@@ -55,10 +53,7 @@ Suits o Rs1 = o.rs1 < 32
 Suits o Rs2 = o.rs2 < 32
 Suits o (Number kind) = IsNumberOf kind o.number
 Suits o Name = IsLabel o.name × (length o.name ≤ name_most)
-Suits o Mode = Unit {0}
-Suits o Comma = Unit {0}
-Suits o Open = Unit {0}
-Suits o Close = Unit {0}
+Suits o _ = Unit {0}
 
 -- each operand that the form names is one that can stand there
 abbrev pub AllSuit : OperandValues → List Part → Type 0

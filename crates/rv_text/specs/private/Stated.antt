@@ -35,12 +35,11 @@ stated (statement.Within what) = within (stated_within what)
 -- and none stands among the others
 abbrev pub IsRightWithin : StatedWithin → Type 0
 IsRightWithin (gate name service) = IsShortLabel name × (service ≤ service_most)
-IsRightWithin (compressed rvc) = Unit {0}
-IsRightWithin data_part = Unit {0}
 IsRightWithin (bytes values) = All (λ b. b < 256) values
 IsRightWithin (plain instrs) = (1 ≤ length instrs) × All (λ i. InRange i × IsStraight i) instrs
 IsRightWithin (jump i name) = InRange i × IsOpen i × IsShortLabel name
 IsRightWithin (address rd name) = IsReg rd × IsShortLabel name
+IsRightWithin _ = Unit {0}
 
 -- a format has the number, and a sandbox begins with a number of data bytes that it may have
 abbrev pub IsRightStatement : Stated → Type 0
@@ -51,12 +50,8 @@ IsRightStatement (within what) = IsRightWithin what
 -- where each statement within a sandbox may come
 abbrev pub place_within : StatedWithin → Place
 place_within (gate name service) = place.Gates
-place_within (compressed rvc) = place.Code
-place_within data_part = place.Code
 place_within (bytes values) = place.Data
-place_within (plain instrs) = place.Code
-place_within (jump instr name) = place.Code
-place_within (address rd name) = place.Code
+place_within _ = place.Code
 
 -- where each statement may come
 abbrev pub place_of_stated : Stated → Place

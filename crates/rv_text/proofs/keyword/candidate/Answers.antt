@@ -1,5 +1,8 @@
-use Rattle.rv_text.proofs.Keywords.{inside}
+use Rattle.rv_text.proofs.Keywords.{place_small, at_hash}
 use Rattle.rv_text.proofs.keyword.candidate.Goals as goal
 
-pub returns-then-place-lt67 : goal.returns-then-place-lt67
-returns-then-place-lt67 c = inside c.args.name.now c.hash.result _ c.hash.ensures.value c.if-place-lt67.true
+pub bounds-hash-2 : goal.bounds-hash-2
+bounds-hash-2 c = place_small _ c.hash.ensures.small
+
+pub returns : goal.returns
+returns c = at_hash _ _ _ c.hash.ensures.value c.hash.ensures.small

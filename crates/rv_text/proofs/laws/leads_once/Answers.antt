@@ -1,5 +1,2 @@
-use Rattle.rv_text.proofs.OneSource.{leads_once}
-use Rattle.rv_text.proofs.laws.leads_once.Goals as goal
-
-pub returns : goal.returns
-returns c = leads_once
+pub returns : Rattle.rv_text.proofs.laws.leads_once.Goals.returns
+returns c = Rattle.rv_text.proofs.OneSource.leads_once

@@ -1,5 +1,2 @@
-use Rattle.rv_text.proofs.OneMeaning.{one_meaning}
-use Rattle.rv_text.proofs.laws.one_meaning.Goals as goal
-
-pub returns : goal.returns
-returns c = one_meaning
+pub returns : Rattle.rv_text.proofs.laws.one_meaning.Goals.returns
+returns c = Rattle.rv_text.proofs.OneMeaning.one_meaning

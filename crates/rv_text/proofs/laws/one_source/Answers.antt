@@ -1,5 +1,2 @@
-use Rattle.rv_text.proofs.OneSource.{one_source}
-use Rattle.rv_text.proofs.laws.one_source.Goals as goal
-
-pub returns : goal.returns
-returns c = one_source
+pub returns : Rattle.rv_text.proofs.laws.one_source.Goals.returns
+returns c = Rattle.rv_text.proofs.OneSource.one_source

@@ -1,5 +1,2 @@
-use Rattle.rv_text.proofs.OneSource.{refused_once}
-use Rattle.rv_text.proofs.laws.refused_once.Goals as goal
-
-pub returns : goal.returns
-returns c = refused_once
+pub returns : Rattle.rv_text.proofs.laws.refused_once.Goals.returns
+returns c = Rattle.rv_text.proofs.OneSource.refused_once

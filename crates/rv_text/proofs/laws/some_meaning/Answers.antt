@@ -1,5 +1,2 @@
-use Rattle.rv_text.proofs.SomeSource.{some_meaning}
-use Rattle.rv_text.proofs.laws.some_meaning.Goals as goal
-
-pub returns : goal.returns
-returns c = some_meaning
+pub returns : Rattle.rv_text.proofs.laws.some_meaning.Goals.returns
+returns c = Rattle.rv_text.proofs.SomeSource.some_meaning

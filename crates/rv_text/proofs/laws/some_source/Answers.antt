@@ -1,5 +1,2 @@
-use Rattle.rv_text.proofs.SomeSource.{some_source}
-use Rattle.rv_text.proofs.laws.some_source.Goals as goal
-
-pub returns : goal.returns
-returns c = some_source
+pub returns : Rattle.rv_text.proofs.laws.some_source.Goals.returns
+returns c = Rattle.rv_text.proofs.SomeSource.some_source

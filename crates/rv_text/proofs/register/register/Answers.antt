@@ -1,12 +1,11 @@
-use Rattle.std.proofs.Common.{sym, ◌∙◌}
-use Rattle.rv_text.proofs.RegisterNames.{register_found, register_if, register_if_none, register_none}
+use Rattle.std.proofs.Common.{sym, ◌∙◌, true≢false}
+use Rattle.std.proofs.lemmas.Slice.Eq.{bytes_eq-Decides}
+use Rattle.rv_text.proofs.RegisterNames.{some_name, no_name}
 use Rattle.rv_text.proofs.register.register.Goals as goal
 
-pub returns-in-Some-clause-some : goal.returns-in-Some-clause-some
-returns-in-Some-clause-some c = register_if _ _ _ (register_found c.args.name.now c.in-Some.k (sym c.number_of.ensures ∙ c.in-Some.is)) c.new.ensures
+pub returns-then-eq-clause-some : goal.returns-then-eq-clause-some
+returns-then-eq-clause-some c = some_name _ _ _ c.name_place-place.ensures.small c.register_at.ensures (sym c.name_at.ensures ∙ (bytes_eq-Decides _ _).0 (sym c.if-eq.ensures))
 
-pub returns-in-Some-clause-none : goal.returns-in-Some-clause-none
-returns-in-Some-clause-none c = register_if_none _ _ _ (register_found c.args.name.now c.in-Some.k (sym c.number_of.ensures ∙ c.in-Some.is)) c.new.ensures
-
-pub returns-in-None-clause-none : goal.returns-in-None-clause-none
-returns-in-None-clause-none c = register_none c.args.name.now c.number_of.result c.number_of.ensures c.in-None.is
+pub returns-else-eq-clause-none : goal.returns-else-eq-clause-none
+returns-else-eq-clause-none c =
+    no_name _ _ c.name_place-place.ensures.value (λ is. true≢false (sym ((bytes_eq-Decides _ _).1 (c.name_at.ensures ∙ is)) ∙ sym c.if-eq.ensures))
