@@ -4,7 +4,6 @@ use borrow.Author.Tests.{ne_eqb}
 use denote.Ref.{Bor}
 use Rattle.std.proofs.Math.Nat.{pow-le-pow_right}
 use Rattle.std.proofs.Math.Seq.{take-append_seam, drop-append-add}
-use Rattle.std.proofs.lemmas.List.{map-append, take_more}
 use Rattle.std.proofs.lemmas.Int.Digits.{digits_value-lt}
 use Rattle.std.proofs.lemmas.Str.Parse.{without_leading_plus_none}
 use Rattle.std.specs.Char.{digit_value}
@@ -12,6 +11,7 @@ use Rattle.std.specs.List.{after_first, before_first, position_or_len}
 use Rattle.std.specs.Prelude.{◌==◌}
 use Rattle.std.specs.Str.Parse.{AllDigits, IsNumeral, digits_value, without_leading_plus}
 use Rattle.clap.specs.Walk.{Text}
+use Rattle.sfi_command.proofs.Rows.{map-take_more}
 use Rattle.sfi_command.specs.Numbers.{number_of}
 use Rattle.sfi_command.specs.declared.job.JobFault.{JobFault}
 use Rattle.sfi_command.specs.declared.job.JobFault.TheVariants.{Usage, Hex, Memory}
@@ -103,6 +103,5 @@ pub one_more_read : (texts : List (Bor Text)) (k : ℕ) (d : Bor Text) (places :
     → SpellPlaces (map (λ t. t.now) (take k texts)) places → SpellsPlace (get_or texts k d).now place
     → SpellPlaces (map (λ t. t.now) (take (k + 1) texts)) (places ++ (place ∷ []))
 one_more_read texts k d places place within are is =
-    let more : map (λ (t : Bor Text). t.now) (take (k + 1) texts) ≡ map (λ t. t.now) (take k texts) ++ ((get_or texts k d).now ∷ []) =
-    ap (map (λ (t : Bor Text). t.now)) (take_more texts k d within) ∙ map-append (λ (t : Bor Text). t.now) (take k texts) (get_or texts k d ∷ []) in
+    let more = map-take_more (λ (t : Bor Text). t.now) texts k d within in
     subst (λ (ts : List Text). SpellPlaces ts (places ++ (place ∷ []))) (sym more) (one_more (map (λ t. t.now) (take k texts)) places _ place are is)

@@ -12,171 +12,16 @@ ghost use Rattle.sfi_command.specs.private.Command.{IsCommandOf, IsFaultOfNamed,
 ghost use Rattle.sfi_command.specs.private.Places.{ArePlacesFault};
 ghost use Rattle.sfi_command.specs.Numbers.{number_of};
 
-use crate::help;
+use crate::commands::{QUANTUM_MOST, ROUNDS_MOST, program};
 use crate::job::{Job, JobFault, usage_fault};
 use crate::places::parse_places;
 use clap::error::ErrorKind;
-use clap::{Arg, ArgAction, ArgMatches, Command, Error, value_parser};
+use clap::{ArgMatches, Error};
 use hex::FromHexError;
 use sfi_place::Place;
-use std::alloc::{AllocError, Global};
-
-const ROUNDS_MOST: u32 = 10000;
-
-const QUANTUM_MOST: u32 = 1000000;
+use std::alloc::Global;
 
 const RAW_REPORT: &str = "error: '--raw' and '--report' cannot be used together\n";
-
-/// A command without options, with the line that says what it does and the notes at the end of its
-/// help.
-fn command_named<'a>(alloc: Global, name: &'a str, about: &'a str, notes: &'a str) -> Command<'a>
-    ensures app { app_of result ≡ new_app name.now }
-    ensures local { (out-Command result).has_globals ≡ false }
-{
-    Command::new(alloc, name).about(about).after_help(notes)
-}
-
-/// An option of this name that takes no value.
-fn flag<'a>(alloc: Global, name: &'a str, about: &'a str) -> Arg<'a>
-    ensures rule { rule_of result ≡ flag_rule name.now }
-    ensures local { result.global ≡ false }
-{
-    Arg::new(alloc, name)
-        .long(name)
-        .action(ArgAction::SetTrue)
-        .help(about)
-}
-
-/// `check [--raw] [--report]`.
-fn check_command<'a>(alloc: Global) -> Result<Command<'a>, AllocError>
-    ensures { IfOk result (IsCommandOf check) }
-{
-    command_named(alloc, "check", help::CHECK, help::CHECK_NOTES)
-        .arg(flag(alloc, "raw", help::CHECK_RAW))?
-        .arg(flag(alloc, "report", help::CHECK_REPORT))
-}
-
-/// `dis`.
-fn dis_command<'a>(alloc: Global) -> Result<Command<'a>, AllocError>
-    ensures { IfOk result (IsCommandOf dis) }
-{
-    Ok(command_named(alloc, "dis", help::DIS, help::DIS_NOTES))
-}
-
-/// `--at CODE:DATA`, which may be given again and again.
-fn places_arg<'a>(alloc: Global) -> Arg<'a>
-    ensures rule { rule_of result ≡ places_rule }
-    ensures local { result.global ≡ false }
-{
-    Arg::new(alloc, "at")
-        .long("at")
-        .action(ArgAction::Append)
-        .value_name("CODE:DATA")
-        .help(help::PLACES)
-}
-
-/// `build [--at CODE:DATA]..`.
-fn build_command<'a>(alloc: Global) -> Result<Command<'a>, AllocError>
-    ensures { IfOk result (IsCommandOf build) }
-{
-    let build = command_named(alloc, "build", help::BUILD, help::BUILD_NOTES);
-    build.arg(places_arg(alloc))
-}
-
-/// `map [--at CODE:DATA]..`.
-fn map_command<'a>(alloc: Global) -> Result<Command<'a>, AllocError>
-    ensures { IfOk result (IsCommandOf map_names) }
-{
-    let map = command_named(alloc, "map", help::MAP, help::MAP_NOTES);
-    map.arg(places_arg(alloc))
-}
-
-/// `--rounds N`.
-fn rounds_arg<'a>(alloc: Global) -> Arg<'a>
-    ensures rule { rule_of result ≡ count_rule (codes "rounds") (codes "1") rounds_most }
-    ensures local { result.global ≡ false }
-{
-    Arg::new(alloc, "rounds")
-        .long("rounds")
-        .default_value("1")
-        .value_parser(value_parser!(u32).range(1..=10000))
-        .value_name("N")
-        .help(help::RUN_ROUNDS)
-}
-
-/// `--quantum Q`.
-fn quantum_arg<'a>(alloc: Global) -> Arg<'a>
-    ensures rule { rule_of result ≡ count_rule (codes "quantum") (codes "1000") quantum_most }
-    ensures local { result.global ≡ false }
-{
-    Arg::new(alloc, "quantum")
-        .long("quantum")
-        .default_value("1000")
-        .value_parser(value_parser!(u32).range(1..=1000000))
-        .value_name("Q")
-        .help(help::RUN_QUANTUM)
-}
-
-/// `--input HEX`.
-fn input_arg<'a>(alloc: Global) -> Arg<'a>
-    ensures rule { rule_of result ≡ input_rule }
-    ensures local { result.global ≡ false }
-{
-    Arg::new(alloc, "input")
-        .long("input")
-        .value_name("HEX")
-        .help(help::RUN_INPUT)
-}
-
-/// `run [--rounds N] [--quantum Q] [--input HEX] [--report]`.
-fn run_command<'a>(alloc: Global) -> Result<Command<'a>, AllocError>
-    ensures { IfOk result (IsCommandOf run) }
-{
-    command_named(alloc, "run", help::RUN, help::RUN_NOTES)
-        .arg(rounds_arg(alloc))?
-        .arg(quantum_arg(alloc))?
-        .arg(input_arg(alloc))?
-        .arg(flag(alloc, "report", help::RUN_REPORT))
-}
-
-/// `convert`.
-fn convert_command<'a>(alloc: Global) -> Result<Command<'a>, AllocError>
-    ensures { IfOk result (IsCommandOf convert) }
-{
-    Ok(command_named(alloc, "convert", help::CONVERT, help::CONVERT_NOTES))
-}
-
-/// The program without its subcommands.
-fn program_command<'a>(alloc: Global) -> Command<'a>
-    ensures { app_of result ≡ program }
-{
-    command_named(alloc, "sfi", help::PROGRAM, help::PROGRAM_NOTES)
-        .version(help::VERSION)
-        .subcommand_required(true)
-}
-
-/// The command with a subcommand more.
-fn with_subcommand<'a>(
-    command: Command<'a>,
-    subcommand: Result<Command<'a>, AllocError>,
-) -> Result<Command<'a>, AllocError>
-    ensures { (s : Shape) → IfOk subcommand.entry (IsCommandOf s)
-        → IfOk result (λ c. app_of c ≡ with_subcommand (app_of command.entry) s) }
-{
-    command.subcommand(subcommand?)
-}
-
-/// The program with its subcommands.
-fn command<'a>(alloc: Global) -> Result<Command<'a>, AllocError>
-    ensures { IfOk result (λ c. app_of c ≡ sfi) }
-{
-    let program = with_subcommand(program_command(alloc), check_command(alloc))?;
-    let program = with_subcommand(program, dis_command(alloc))?;
-    let program = with_subcommand(program, build_command(alloc))?;
-    let program = with_subcommand(program, map_command(alloc))?;
-    let program = with_subcommand(program, run_command(alloc))?;
-    with_subcommand(program, convert_command(alloc))
-}
 
 /// What is printed for words that don't parse, or ask for help or the version.
 fn usage(alloc: Global, error: Error) -> JobFault
@@ -326,25 +171,15 @@ fn job_named(alloc: Global, name: &str, found: &ArgMatches<'_>) -> Result<Job, J
     ensures job { IfOk result (Names (Some (name.now, rows_of (found_of found.now)))) }
     ensures fault { IfErr result (IsFaultOfNamed (Some (name.now, rows_of (found_of found.now)))) }
 {
-    if name == "check" {
-        return check_of(alloc, found);
+    match name {
+        "check" => check_of(alloc, found),
+        "dis" => Ok(Job::Dis),
+        "build" => build_of(alloc, found),
+        "map" => map_of(alloc, found),
+        "run" => run_of(alloc, found),
+        "convert" => Ok(Job::Convert),
+        _ => Err(no_command(alloc)),
     }
-    if name == "dis" {
-        return Ok(Job::Dis);
-    }
-    if name == "build" {
-        return build_of(alloc, found);
-    }
-    if name == "map" {
-        return map_of(alloc, found);
-    }
-    if name == "run" {
-        return run_of(alloc, found);
-    }
-    if name == "convert" {
-        return Ok(Job::Convert);
-    }
-    Err(no_command(alloc))
 }
 
 /// The job that the words ask for. The first word is the program's name, as `env::args` gives it.
@@ -356,8 +191,8 @@ pub fn job_of(alloc: Global, words: &[String]) -> Result<Job, JobFault>
     ensures job { IfOk result (Asks (map string_bytes words.now)) }
     ensures fault { IfErr result (IsFaultOf (map string_bytes words.now)) }
 {
-    let command = command(alloc)?;
-    let matches = match command.try_get_matches_from(words) {
+    let program = program(alloc)?;
+    let matches = match program.try_get_matches_from(words) {
         Ok(matches) => matches,
         Err(error) => return Err(usage(alloc, error)),
     };

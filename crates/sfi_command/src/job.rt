@@ -10,7 +10,7 @@ use std::alloc::{AllocError, Global};
 use thiserror::Error;
 
 /// A command with its options as values.
-#[derive(Debug, Drop)]
+#[derive(Drop)]
 pub enum Job {
     /// Is the image accepted? Its bytes come as hexadecimal text, or as they are.
     Check {
@@ -69,7 +69,7 @@ pub enum JobFault {
     #[error("{0}")]
     Usage(String),
     /// The words parse, and the text of `--input` spells no bytes.
-    #[error("{}", HEX_LINE.trim_ascii_end())]
+    #[error("option fault hex")]
     Hex,
     /// An allocation was refused.
     #[error("out of memory")]

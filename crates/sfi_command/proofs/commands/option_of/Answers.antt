@@ -1,0 +1,36 @@
+use Rattle.std.proofs.Common.{◌≡◌, ◌∙◌, Option, Some, [], ◌∷◌, ap, rules, sym}
+use Rattle.std.specs.Prelude.{pos}
+use Rattle.clap.specs.Walk.{Rule, rule_of}
+use Rattle.clap.specs.declared.builder.action.ArgAction.TheVariants.{Append, SetTrue}
+use Rattle.clap.specs.declared.builder.value_parser.ValueParser.{ValueParser}
+use Rattle.clap.specs.declared.builder.value_parser.ValueParser.TheVariants.{Signed}
+use Rattle.sfi_command.specs.private.Rows.{rule_taking}
+use Rattle.sfi_command.proofs.commands.option_of.Goals as goal
+
+pub returns-in-Nothing-clause-rule : goal.returns-in-Nothing-clause-rule
+returns-in-Nothing-clause-rule c =
+    ap rule_of c.action.ensures ∙ ap (λ (r : Rule). record r { action = Some SetTrue }) c.option_named-option.ensures.rule
+    ∙ ap (rule_taking c.args.row.now.name.now) (sym c.in-Nothing.is)
+
+pub returns-in-Text-clause-rule : goal.returns-in-Text-clause-rule
+returns-in-Text-clause-rule c =
+    ap rule_of c.value_name.ensures ∙ ap (λ (r : Rule). record r { value_names = 1 }) c.option_named-option.ensures.rule
+    ∙ ap (rule_taking c.args.row.now.name.now) (sym c.in-Text.is)
+
+pub returns-in-Texts-clause-rule : goal.returns-in-Texts-clause-rule
+returns-in-Texts-clause-rule c =
+    ap rule_of c.action-in-Texts.ensures
+    ∙ ap (λ (r : Rule). record r { action = Some Append })
+    (ap rule_of c.value_name-in-Texts.ensures ∙ ap (λ (r : Rule). record r { value_names = 1 }) c.option_named-option.ensures.rule)
+    ∙ ap (rule_taking c.args.row.now.name.now) (sym c.in-Texts.is)
+
+pub returns-in-Count-clause-rule : goal.returns-in-Count-clause-rule
+returns-in-Count-clause-rule c =
+    let parser : c.value_parser-in-Count.result.value_parser ≡ Some (Signed (pos 1) (pos c.in-Count.most)) = search rules in
+    ap rule_of c.value_parser-in-Count.ensures.others
+    ∙ ap (λ (p : Option ValueParser). record (rule_of c.default_value.result) { parser = p }) parser
+    ∙ ap (λ (r : Rule). record r { parser = Some (Signed (pos 1) (pos c.in-Count.most)) })
+    (ap rule_of c.default_value.ensures
+    ∙ ap (λ (r : Rule). record r { defaults = c.in-Count.usual.now ∷ [] })
+    (ap rule_of c.value_name-in-Count.ensures ∙ ap (λ (r : Rule). record r { value_names = 1 }) c.option_named-option.ensures.rule))
+    ∙ ap (rule_taking c.args.row.now.name.now) (sym c.in-Count.is)

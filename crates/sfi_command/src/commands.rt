@@ -1,0 +1,204 @@
+//! The commands and their options, and the command line that they make.
+
+ghost use Rattle.std.specs.Prelude.{◌≡◌, IfOk, false, map};
+ghost use Rattle.clap.specs.Simple.{app_of, new_app};
+ghost use Rattle.clap.specs.Walk.{rule_of};
+ghost use Rattle.clap.specs.declared.builder.command.Command.TheViews.{out-Command};
+ghost use Rattle.sfi_command.specs.Command.{program, sfi};
+ghost use Rattle.sfi_command.specs.private.Command.{IsCommandOf};
+ghost use Rattle.sfi_command.specs.private.Rows.{named_rule, rule_of_row, shape_of_row, with_all};
+
+use crate::help;
+use clap::{Arg, ArgAction, Command, value_parser};
+use std::alloc::{AllocError, Global};
+
+pub(crate) const ROUNDS_MOST: u32 = 10000;
+
+pub(crate) const QUANTUM_MOST: u32 = 1000000;
+
+/// What an option takes. Help calls a value by the word.
+#[derive(Clone, Copy)]
+enum Takes<'a> {
+    Nothing,
+    Text(&'a str),
+    /// A text, and the option may be given again and again.
+    Texts(&'a str),
+    /// A number from 1 to the most, which is the usual one where the option isn't given.
+    Count {
+        word: &'a str,
+        usual: &'a str,
+        most: u32,
+    },
+}
+
+/// An option, with the line that help has for it.
+struct OptionRow<'a> {
+    name: &'a str,
+    takes: Takes<'a>,
+    about: &'a str,
+}
+
+/// A command, with the line that says what it does and the notes at the end of its help.
+struct CommandRow<'a> {
+    name: &'a str,
+    about: &'a str,
+    notes: &'a str,
+    options: &'a [OptionRow<'a>],
+}
+
+const PLACES: OptionRow = OptionRow {
+    name: "at",
+    takes: Takes::Texts("CODE:DATA"),
+    about: help::PLACES,
+};
+
+const COMMANDS: &[CommandRow] = &[
+    CommandRow {
+        name: "check",
+        about: help::CHECK,
+        notes: help::CHECK_NOTES,
+        options: &[
+            OptionRow {
+                name: "raw",
+                takes: Takes::Nothing,
+                about: help::CHECK_RAW,
+            },
+            OptionRow {
+                name: "report",
+                takes: Takes::Nothing,
+                about: help::CHECK_REPORT,
+            },
+        ],
+    },
+    CommandRow {
+        name: "dis",
+        about: help::DIS,
+        notes: help::DIS_NOTES,
+        options: &[],
+    },
+    CommandRow {
+        name: "build",
+        about: help::BUILD,
+        notes: help::BUILD_NOTES,
+        options: &[PLACES],
+    },
+    CommandRow {
+        name: "map",
+        about: help::MAP,
+        notes: help::MAP_NOTES,
+        options: &[PLACES],
+    },
+    CommandRow {
+        name: "run",
+        about: help::RUN,
+        notes: help::RUN_NOTES,
+        options: &[
+            OptionRow {
+                name: "rounds",
+                takes: Takes::Count {
+                    word: "N",
+                    usual: "1",
+                    most: ROUNDS_MOST,
+                },
+                about: help::RUN_ROUNDS,
+            },
+            OptionRow {
+                name: "quantum",
+                takes: Takes::Count {
+                    word: "Q",
+                    usual: "1000",
+                    most: QUANTUM_MOST,
+                },
+                about: help::RUN_QUANTUM,
+            },
+            OptionRow {
+                name: "input",
+                takes: Takes::Text("HEX"),
+                about: help::RUN_INPUT,
+            },
+            OptionRow {
+                name: "report",
+                takes: Takes::Nothing,
+                about: help::RUN_REPORT,
+            },
+        ],
+    },
+    CommandRow {
+        name: "convert",
+        about: help::CONVERT,
+        notes: help::CONVERT_NOTES,
+        options: &[],
+    },
+];
+
+/// An option of this name, with the line that help has for it.
+fn option_named<'a>(alloc: Global, name: &'a str, about: &'a str) -> Arg<'a>
+    ensures rule { rule_of result ≡ named_rule name.now }
+    ensures local { result.global ≡ false }
+{
+    Arg::new(alloc, name).long(name).help(about)
+}
+
+/// The option of this row.
+fn option_of<'a>(alloc: Global, row: &OptionRow<'a>) -> Arg<'a>
+    ensures rule { rule_of result ≡ rule_of_row row.now }
+    ensures local { result.global ≡ false }
+{
+    let option = option_named(alloc, row.name, row.about);
+    match row.takes {
+        Takes::Nothing => option.action(ArgAction::SetTrue),
+        Takes::Text(word) => option.value_name(word),
+        Takes::Texts(word) => option.value_name(word).action(ArgAction::Append),
+        Takes::Count { word, usual, most } => option
+            .value_name(word)
+            .default_value(usual)
+            .value_parser(value_parser!(u32).range(1..=i64::from(most))),
+    }
+}
+
+/// A command without options, with the line that says what it does and the notes at the end of its
+/// help.
+fn command_named<'a>(alloc: Global, name: &'a str, about: &'a str, notes: &'a str) -> Command<'a>
+    ensures app { app_of result ≡ new_app name.now }
+    ensures local { (out-Command result).has_globals ≡ false }
+{
+    Command::new(alloc, name).about(about).after_help(notes)
+}
+
+/// The command of this row, with its options.
+fn command_of<'a>(alloc: Global, row: &CommandRow<'a>) -> Result<Command<'a>, AllocError>
+    ensures { IfOk result (IsCommandOf (shape_of_row row.now)) }
+{
+    let mut command = command_named(alloc, row.name, row.about, row.notes);
+    for option in row.options {
+        command = command.arg(option_of(alloc, option))?;
+    }
+    Ok(command)
+}
+
+/// The program without its subcommands.
+fn program_alone<'a>(alloc: Global) -> Command<'a>
+    ensures { app_of result ≡ program }
+{
+    command_named(alloc, "sfi", help::PROGRAM, help::PROGRAM_NOTES)
+        .version(help::VERSION)
+        .subcommand_required(true)
+}
+
+/// The program with a subcommand for each row.
+fn program_with<'a>(alloc: Global, rows: &[CommandRow<'a>]) -> Result<Command<'a>, AllocError>
+    ensures { IfOk result (λ c. app_of c ≡ with_all program (map shape_of_row rows.now)) }
+{
+    let mut program = program_alone(alloc);
+    for row in rows {
+        program = program.subcommand(command_of(alloc, row)?)?;
+    }
+    Ok(program)
+}
+
+/// The program with its subcommands.
+pub(crate) fn program<'a>(alloc: Global) -> Result<Command<'a>, AllocError>
+    ensures { IfOk result (λ c. app_of c ≡ sfi) }
+{
+    program_with(alloc, COMMANDS)
+}
