@@ -6,7 +6,6 @@ use Rattle.std.specs.Prelude.{slice_index, slice_set, cond}
 use Rattle.std.specs.FinMap.{empty}
 use Rattle.std.proofs.lemmas.List.{map-set, take_more, take_all, length-take-le}
 use Rattle.rv_mem.specs.Bytes.{Bytes, IsMemory}
-use Rattle.rv_mem.specs.Laws.{ReadIsHeld}
 use Rattle.rv_step.specs.State.{Hart, IsHart, with_register}
 use Rattle.sfi_image.specs.Parts.{IsRightLayout}
 use Rattle.sfi_image.specs.Regions.{IsBundleStart}
@@ -198,7 +197,7 @@ module _ (m : Bytes) (s : Seat) (seat : IsSafeSeat m s) where
 
 -- ---- a world in which it did
 
-module _ (held : ReadIsHeld) (on : GoesOnSafely) (m : Bytes) (items : List Sandbox) (programs : List Program) (i : ℕ) (x new : Sandbox)
+module _ (on : GoesOnSafely) (m : Bytes) (items : List Sandbox) (programs : List Program) (i : ℕ) (x new : Sandbox)
     (world : IsSafeWorld (world_of m items)) (decoded : AreDecoded (world_of m items) programs) (enterable : AreEnterable (world_of m items)) (at : slice_get items i ≡ Some x)
     (pc : ℕ) (arguments : List ℕ) (few : length arguments ≤ 8) (start : IsBundleStart (seat_of x).bounds.code pc)
     (is : seat_of new ≡ entered_seat (seat_of x) pc arguments) (hart : IsHart new.cpu) where
@@ -215,7 +214,7 @@ module _ (held : ReadIsHeld) (on : GoesOnSafely) (m : Bytes) (items : List Sandb
   safe = subst (IsSafeSeat m) (sym is) (entered_safe m (seat_of x) seat (enterable i (seat_of x) there) pc arguments few start hart_is)
 
   pub has_entered : (w : Sandboxes) → world_of m items ≡ w → AfterTurn w programs i (slot_of m (seat_of x)) (slot_of m (seat_of new)) (world_of m (set items i new))
-  has_entered w view = turn_taken held on m m items programs i x new (world, decoded) at (ap (λ (s : Seat). s.bounds) is) safe (λ a out. refl) w view
+  has_entered w view = turn_taken on m m items programs i x new (world, decoded) at (ap (λ (s : Seat). s.bounds) is) safe (λ a out. refl) w view
 
   seats_are : seats_of (set items i new) ≡ set (seats_of items) i (entered_seat (seat_of x) pc arguments)
   seats_are = map-set seat_of items i new ∙ ap (λ (s : Seat). set (seats_of items) i s) is

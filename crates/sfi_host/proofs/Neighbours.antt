@@ -1,6 +1,7 @@
 -- What the turn of one sandbox leaves of the others.
-use Rattle.std.proofs.Common.{◌≡◌, ◌≢◌, ℕ, zero, suc, ◌+◌, ◌-◌, ◌<◌, ◌≤◌, ◌==◌, ◌⊎◌, ⊎_elim, true, false, List, [], ◌∷◌, map, set, Some, is_some, slice_get, refl, sym, ap, ◌∙◌, subst, arith}
-use Rattle.std.proofs.lemmas.Bool.{eqb-true, eqb-false}
+use Rattle.std.proofs.Common.{◌≡◌, ◌≢◌, ℕ, zero, suc, ◌+◌, ◌-◌, ◌<◌, ◌≤◌, ◌⊎◌, inl, inr, ⊎_elim, List, [], ◌∷◌, map, set, Some, is_some, slice_get, refl, sym, ap, ◌∙◌, subst, arith}
+use Rattle.std.proofs.lemmas.Bool.{cases_eq}
+use Rattle.std.proofs.lemmas.Option.{same_Some}
 use Rattle.rv_mem.specs.Bytes.{Bytes, IsMemory, byte_at}
 use Rattle.sfi_image.specs.Spelling.{Part}
 use Rattle.sfi_image.specs.Spans.{Holds}
@@ -30,6 +31,13 @@ get_set_other (z ∷ xs) zero zero y n = absurd (n refl)
 get_set_other (z ∷ xs) zero (suc j) y n = refl
 get_set_other (z ∷ xs) (suc i) zero y n = refl
 get_set_other (z ∷ xs) (suc i) (suc j) y n = get_set_other xs i j y (λ e. n (ap suc e))
+
+-- what stands at a place where one was set
+pub set_found : {A : Type 0} (xs : List A) (i : ℕ) (x new : A) → slice_get xs i ≡ Some x → (j : ℕ) (y : A) → slice_get (set xs i new) j ≡ Some y → ((j ≡ i) × (y ≡ new)) ⊎ ((j ≢ i) × (slice_get xs j ≡ Some y))
+set_found xs i x new at j y e = ⊎_elim
+    (λ (same : j ≡ i). inl (same, same_Some y new (sym e ∙ ap (slice_get (set xs i new)) same ∙ get_set_same xs i x new at)))
+    (λ (other : j ≢ i). inr (other, sym (get_set_other xs i j new other) ∙ e))
+    (cases_eq j i)
 
 -- ---- one of the others
 
@@ -82,29 +90,19 @@ module _ (m n : Bytes) (seats : List Seat) (i : ℕ) (s new : Seat) (world : IsS
   slots_are = set_slots m n seats i new (λ j t ne e. other_same m n s.bounds left t (world.each j t e) (world.others i j s t (λ z. ne (sym z)) at e))
 
   module _ (on : GoesOnSafely) (safe : IsSafeSeat n new) (bounds : new.bounds ≡ s.bounds) where
-    -- what stands at a place
-    found : (j : ℕ) (t : Seat) → slice_get (set seats i new) j ≡ Some t → ((j ≡ i) × (t ≡ new)) ⊎ ((j ≢ i) × (slice_get seats j ≡ Some t))
-    found j t e = elim (j == i) as (λ b. (j == i) ≡ b → ((j ≡ i) × (t ≡ new)) ⊎ ((j ≢ i) × (slice_get seats j ≡ Some t))) [
-      | true ↦ λ b.
-          let same : j ≡ i = eqb-true j i b in
-          let here : slice_get (set seats i new) j ≡ Some new = ap (slice_get (set seats i new)) same ∙ get_set_same seats i s new at in
-          Rattle.std.proofs.Common.inl (same, (let f : Some t ≡ Some new = sym e ∙ here in let g : t ≡ new = cc in g))
-      | false ↦ λ b. Rattle.std.proofs.Common.inr (eqb-false j i b, sym (get_set_other seats i j new (eqb-false j i b)) ∙ e)
-    ] refl
-
     -- the seat before, with the same bounds
     old_at : (j : ℕ) (t : Seat) → slice_get (set seats i new) j ≡ Some t → (u : Seat) × (slice_get seats j ≡ Some u) × (t.bounds ≡ u.bounds)
     old_at j t e = ⊎_elim
         (λ (x : (j ≡ i) × (t ≡ new)). (s, ap (slice_get seats) x.0 ∙ at, ap (λ (y : Seat). y.bounds) x.1 ∙ bounds))
         (λ (y : (j ≢ i) × (slice_get seats j ≡ Some t)). (t, y.1, refl))
-        (found j t e)
+        (set_found seats i s new at j t e)
 
     pub world_safe : IsSafeWorld (record { bytes = n; seats = set seats i new })
     world_safe = record {
       each = λ j t e. ⊎_elim
           (λ (x : (j ≡ i) × (t ≡ new)). subst (λ (y : Seat). IsSafeSeat n y) (sym x.1) safe)
           (λ (y : (j ≢ i) × (slice_get seats j ≡ Some t)). other_safe m n s.bounds left t (world.each j t y.1) (world.others i j s t (λ z. y.0 (sym z)) at y.1) on safe.state.memory)
-          (found j t e);
+          (set_found seats i s new at j t e);
       others = λ j k t u ne e f.
           let a = old_at j t e in
           let b = old_at k u f in

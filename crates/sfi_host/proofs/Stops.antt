@@ -21,6 +21,7 @@ use Rattle.rv_step.specs.State.{Hart, register}
 use Rattle.rv_step.specs.Step.{Stepped, Stands, IsStep, next, unchanged, after_load, effect}
 use Rattle.rv_step.specs.Values.{load_size, store_size}
 use Rattle.sfi_image.specs.declared.part.Gate.{Gate}
+use Rattle.sfi_image.specs.declared.span.Span.{Span}
 use Rattle.sfi_image.specs.Spans.{Holds, InGuards}
 use Rattle.sfi_check.specs.Regions.{InData, InGuard, IsGate}
 use Rattle.sfi_check.specs.Runs.{Steps}
@@ -52,23 +53,24 @@ same_at m n (x ∷ xs) same =
     ap (λ (o : Option ℕ). in_front o (bytes_at n xs)) (same x (first_of x xs))
     ∙ ap (λ (o : Option (List ℕ)). in_front (byte_at m x) o) (same_at m n xs (λ a h. same a (later_of x xs a h)))
 
+pub stands_still : (code : Span) (m n : Bytes) → ((a : ℕ) → Holds code a → byte_at n a ≡ byte_at m a) → (h k : Hart) (i : Instr) (size : ℕ) → k.pc ≡ h.pc → Stands (record { hart = h; memory = m }) i size
+    → ((j : ℕ) → j < size → Holds code (address_after h.pc j)) → Stands (record { hart = k; memory = n }) i size
+stands_still code m n same h k i size pc stands within = record {
+  bytes = stands.bytes;
+  there = ap (λ (p : ℕ). bytes_at n (addresses p size)) pc
+      ∙ same_at m n (addresses h.pc size) (λ a c. let x = one_address h.pc size a c in same a (subst (λ (y : ℕ). Holds code y) (sym x.2) (within x.0 x.1)))
+      ∙ stands.there;
+  spelled = stands.spelled;
+}
+
 module _ (b : Bounds) (m n : Bytes) (same : (a : ℕ) → Holds b.code a → byte_at n a ≡ byte_at m a) where
   -- at the same pc
   pub at_still : (h k : Hart) (i : Instr) → k.pc ≡ h.pc → IsAt b (record { hart = h; memory = m }) i → IsAt b (record { hart = k; memory = n }) i
-  at_still h k i pc is =
-      subst (λ (p : ℕ). IsAt b (record { hart = record { pc = p; registers = k.registers }; memory = n }) i) (sym pc)
-      (record {
-        size = is.size;
-        stands = record {
-          bytes = is.stands.bytes;
-          there = same_at m n (addresses h.pc is.size) (λ a c.
-              let x = one_address h.pc is.size a c in
-              same a (subst (λ (y : ℕ). Holds b.code y) (sym x.2) (is.within x.0 x.1)))
-              ∙ is.stands.there;
-          spelled = is.stands.spelled;
-        };
-        within = is.within;
-      })
+  at_still h k i pc is = record {
+    size = is.size;
+    stands = stands_still b.code m n same h k i is.size pc is.stands is.within;
+    within = λ j below. subst (λ (p : ℕ). Holds b.code (address_after p j)) (sym pc) (is.within j below);
+  }
 
   pub at_gate_still : (h k : Hart) → k.pc ≡ h.pc → IsAtGate b (record { hart = h; memory = m }) → IsAtGate b (record { hart = k; memory = n })
   at_gate_still h k pc is = record {

@@ -17,7 +17,7 @@ ghost use Rattle.sfi_host.specs.Loading.{first_seat, with_parts, AreEntered, Hav
 ghost use Rattle.sfi_host.specs.Worlds.{slots_of, status_at, steps_at, data_byte_of, HaveStoppedThemselves, IsSafeWorld, StaysOutsideData};
 
 use crate::gates::Gates;
-use crate::laws::{joined_moves, neighbours_are_changes};
+use crate::laws::joined_moves;
 use crate::loading::load_parts;
 use crate::program::{Program, decode_all};
 use crate::region::Region;
@@ -26,7 +26,7 @@ use crate::sandbox::Sandbox;
 use crate::status::Status;
 use crate::turn::{RunAnswer, StepResult, Turn};
 use rv_mem::Memory;
-use rv_mem::laws::{addresses_are_these, others_stay, read_is_held, written_is_there};
+use rv_mem::laws::{addresses_are_these, others_stay, written_is_there};
 use rv_step::Cpu;
 use sfi_check::Accepted;
 use sfi_check::laws::goes_on_safely;
@@ -161,9 +161,8 @@ impl<M: Memory> World<M> {
             → IsCutJoint machine G.answer G.may_refuse (turn ∷ []) (slots_of self.old) gates.old 0
             (slots_of self.new) gates.new }
     {
-        // The laws that the contract rests on: these calls do nothing.
+        // The law that the contract rests on: this call does nothing.
         goes_on_safely();
-        read_is_held();
 
         let place = turn.sandbox as usize;
         if place >= self.sandboxes.len() {
@@ -249,10 +248,8 @@ impl<M: Memory> World<M> {
         ensures changes { AreChanges self.old self.new }
         ensures safe { IsSafeWorld self.new }
     {
-        // The laws that the contract rests on: these calls do nothing.
+        // The law that the contract rests on: this call does nothing.
         goes_on_safely();
-        read_is_held();
-        neighbours_are_changes();
 
         let place = i as usize;
         if place >= self.sandboxes.len() {
@@ -284,9 +281,8 @@ impl<M: Memory> World<M> {
         ensures entry { OnTrue result (IsAtEntry self.new i) }
         ensures safe { IsSafeWorld self.new }
     {
-        // The laws that the contract rests on: these calls do nothing.
+        // The law that the contract rests on: this call does nothing.
         goes_on_safely();
-        read_is_held();
 
         let place = i as usize;
         if place >= self.sandboxes.len() {

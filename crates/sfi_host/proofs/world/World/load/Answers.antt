@@ -1,4 +1,4 @@
-use Rattle.std.proofs.Common.{◌≡◌, List, map, sym, ap, ◌∙◌, subst}
+use Rattle.std.proofs.Common.{◌≡◌, List, length, map, sym, ap, ◌∙◌, subst}
 use Rattle.std.specs.FinMap.{empty}
 use Rattle.sfi_policy.specs.declared.format.Format.{Format}
 use Rattle.rv_mem.specs.Bytes.{Bytes, IsMemory}
@@ -38,7 +38,7 @@ invariant_of-result g c =
           (world_safe laws ps c.image-image.ensures.clean.layout memory c.image-image.ensures.safe c.image-image.ensures.calls)),
       subst (λ (all : List Seat). AreDecoded (record { bytes = n; seats = all }) c.in_ok-programs.programs.items) (sym seats)
           (first_decoded ps n c.in_ok-programs.programs.items
-          (subst (λ (qs : List Part). AreProgramsOf qs c.in_ok-programs.programs.items) parts-2 (c.in_ok-programs.ensures c.format.result))
+          (subst (λ (qs : List Part). AreProgramsOf qs (length qs) c.in_ok-programs.programs.items) parts-2 (c.in_ok-programs.ensures c.format.result))
           (subst (λ (m : Bytes). AreEntered ps m) (sym bytes) (entered laws ps c.image-image.ensures.clean.layout memory))),
       subst (λ (m : Bytes). AreEnterable (record { bytes = m; seats = seats_of c.in_ok-sandboxes.sandboxes.items })) (sym bytes)
           (subst (λ (all : List Seat). AreEnterable (record { bytes = with_parts empty ps; seats = all })) (sym seats)
