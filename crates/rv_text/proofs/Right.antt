@@ -1,4 +1,5 @@
 -- What a line states is in range.
+use Rattle.sfi_policy.specs.Limits.{service_most}
 use Rattle.rv_text.proofs.Words.{◌≡◌, ℕ, ◌^◌, ◌<◌, ◌≤◌, Bool, true, false, cond, List, [], ◌∷◌, length, inl, inr, refl, sym, ap, ◌∙◌, subst, arith, ℤ, pos, negsuc, ◌+ℤ◌, unsigned_abs, ◌==◌, All, flat_map, ints, All-nil, All-cons, All-append, All-replicate, All-from_recursion, Instr, Addi, Cond, modulo, IsImm12, Mnemonic, Part, Directive, Pseudo, Nop, Ret, Li, Mv, Jr, J, Call, Beqz, Bnez, La, DataWidth, Word, Half, Byte, Keyword, IsDataSize, IsStraight, Place, name_of, form_of, IsNumberOf, OperandValues, HasForm, AllSuit, mnemonic_of, operands_of, Spells, upper, lower, is_small, add_lower, constant, data_bytes, directive_form, directive_states, pseudo_form, pseudo_states, branch_form, branch_states, jal_form, jal_states, place_of_keyword, IsRow, After, Stated, within, plain, IsRightStatement, place_of_stated}
 use Rattle.rv_word.specs.declared.instr.Instr.TheVariants as instr
 use Rattle.rv_word.specs.Spelling.{InRange}
@@ -90,7 +91,7 @@ list_right width (z ∷ numbers) = All-append IsByte (data_bytes width z) (flat_
 natural_size : (z : ℤ) → IsNumberOf kind.DataSize z → IsDataSize (unsigned_abs z)
 natural_size z (size, is, h) = subst (λ (x : ℤ). IsDataSize (unsigned_abs x)) (sym is) h
 
-natural_service : (z : ℤ) → IsNumberOf kind.Service z → unsigned_abs z ≤ 5
+natural_service : (z : ℤ) → IsNumberOf kind.Service z → unsigned_abs z ≤ service_most
 natural_service (pos n) h = omega (arith, ints)
 natural_service (negsuc n) h = omega (arith, ints)
 

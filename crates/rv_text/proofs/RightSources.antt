@@ -1,6 +1,7 @@
 -- What a text means is right: each sandbox is within its limits, and its names, gates and items fit each other.
 use Rattle.rv_text.proofs.Words.{◌≡◌, ◌≢◌, ◌↔◌, refl, sym, ap, subst, ◌∙◌, ℕ, zero, suc, ◌+◌, ◌<◌, ◌≤◌, ◌⊎◌, inl, inr, Bool, true, false, not, ◌||◌, IsTrue, true≢false, if◌then◌else◌, List, [], ◌∷◌, ◌++◌, Some, map, slice_get, length, length-append, arith, AllByRecursion, bytes_eq, same_Some, none-some, slice_get_within, cases_lt, All-from_recursion, AllPairs-from_IsDistinct, bytes_eq-Decides, Format, MetNamesStay, NewNamesNameNothing, Named, Gate, Code, Data, Unknown, Body, Plain, To, High, Low, Item, SourceGate, IsShortLabel, place_of, placed, met, Sandbox, IsDataSize, IsBody, IsThere, IsEntry, IsGate, IsSandbox, Begun, begin, with_names, with_label, with_gate, items_of, with_bodies, with_bytes, IsFree}
 use Rattle.std.specs.List.{IsDistinct}
+use Rattle.sfi_policy.specs.Limits.{service_most}
 use Rattle.rv_text.proofs.Lexing.{all_by}
 use Rattle.rv_text.proofs.Placing.{Has, has_contained, contained_has, placed_has, placed_keeps, placed_back, placed_at, placed_stays, placed_all, placed_grows, placed_differ}
 
@@ -249,7 +250,7 @@ bytes_right values b d all fits =
     }
 
 -- one more gate
-pub gate_right : (name : List ℕ) (service : ℕ) (b : Begun) (d : IsDraft b) → IsFree name b → IsShortLabel name → service ≤ 5
+pub gate_right : (name : List ℕ) (service : ℕ) (b : Begun) (d : IsDraft b) → IsFree name b → IsShortLabel name → service ≤ service_most
     → length b.sandbox.gates + 1 ≤ 64 → IsDraft (with_gate name service b)
 gate_right name service b d free is_label known_service fits =
     let what = Gate (length b.sandbox.gates) in
@@ -288,7 +289,7 @@ gate_right name service b d free is_label known_service fits =
         let same = same_Some _ _ is in
         let number : k ≡ length b.sandbox.gates = omega (arith, at) in
         record {
-          service = subst (λ x. x.service ≤ 5) same known_service;
+          service = subst (λ x. x.service ≤ service_most) same known_service;
           name = subst (λ x. slice_get (map (λ e. e.1) (placed b.sandbox.names name (Gate (length b.sandbox.gates)))) x.name ≡ Some (Gate k)) same
               (placed_at b.sandbox.names name (Gate (length b.sandbox.gates)) ∙ ap (λ n. Some (Gate n)) (sym number));
         }

@@ -5,6 +5,7 @@ use Rattle.std.specs.List.{All, flat_map}
 use Rattle.std.proofs.lemmas.List.{length-append, append-nil}
 use Rattle.std.proofs.lemmas.Option.{slice_get_within}
 use Rattle.std.proofs.lemmas.List.Elements.{All-head, All-tail}
+use Rattle.sfi_policy.specs.Limits.{service_most}
 use Rattle.sfi_policy.specs.declared.format.Format.{Format}
 use Rattle.sfi_policy.specs.declared.format.Format.TheVariants.{Sfi1, Sfi2}
 use Rattle.sfi_policy.specs.Formats.{magic, code_most}
@@ -245,7 +246,7 @@ one_gate law bytes n index p g t h at is_g =
     let code : t.code_offset ≡ at.offset + 28 + 8 * length p.gates = ap (λ (u : SfiPart). u.code_offset) at.told_is in
     let place : at.offset + 28 + 8 * index ≡ t.code_offset - 8 * (t.gates - index) = omega arith in
     let start = (all_at (λ (x : Gate). IsBundleStart (code_region p) x.address) p.gates index g right.gates.starts is_g).held in
-    let service = all_at (λ (x : Gate). x.service ≤ 5) p.gates index g right.gates.services is_g in
+    let service = all_at (λ (x : Gate). x.service ≤ service_most) p.gates index g right.gates.services is_g in
     record {
       few = omega arith;
       room = omega arith;

@@ -3,6 +3,7 @@ use Rattle.std.proofs.Common.{◌≡◌, ◌≢◌, ℕ, zero, suc, ◌+◌, ◌
 use Rattle.std.specs.Prelude.{pos, slice_index}
 use Rattle.std.specs.List.{All}
 use Rattle.std.proofs.lemmas.Int.{ints}
+use Rattle.sfi_policy.specs.Limits.{service_most}
 use Rattle.rv_word.specs.declared.instr.Instr.{Instr}
 use Rattle.rv_word.specs.declared.instr.RegOp.TheVariants.{And, Or}
 use Rattle.rv_word.specs.declared.instr.StoreWidth.TheVariants.{Sw}
@@ -211,7 +212,7 @@ gate_sample = record {
     starts zero d below = record { held = (omega arith, omega arith); aligned = refl }
     starts (suc k) d below = absurd (omega arith)
 
-    services : All (λ g. g.service ≤ 5) gate_comes_back_elsewhere.gates
+    services : All (λ g. g.service ≤ service_most) gate_comes_back_elsewhere.gates
     services zero d below = omega arith
     services (suc k) d below = absurd (omega arith)
 

@@ -12,7 +12,7 @@ use Rattle.sfi_image.specs.declared.span.Span.{Span}
 use Rattle.sfi_image.specs.declared.fault.LayoutFault.{LayoutFault}
 use Rattle.sfi_image.specs.Spans.{Holds, AreApart, code_span, spans_of}
 use Rattle.sfi_image.specs.Regions.{IsRegion, HasGuardRoom, IsBundleStart}
-use Rattle.sfi_policy.specs.Limits.{gates_most}
+use Rattle.sfi_policy.specs.Limits.{gates_most, service_most}
 use Rattle.sfi_image.specs.Gates.{AreGates}
 use Rattle.sfi_image.specs.Tests.{FieldTest, Passes, IsFirstFault, fault_of}
 use Rattle.sfi_image.specs.Tests.FieldTest.{Code, Data, GuardRoom, Start, Gates, Init, Overlap}
@@ -136,7 +136,7 @@ decided_bundle_start region at =
 pub decided_gates : (region : Span) (gs : List Gate) → Decided (AreGates region gs)
 decided_gates region gs =
     let starts = decided_all (λ (g : Gate). IsBundleStart region g.address) (λ g. decided_bundle_start region g.address) gs in
-    let services = decided_all (λ (g : Gate). g.service ≤ 5) (λ g. decided_le g.service 5) gs in
+    let services = decided_all (λ (g : Gate). g.service ≤ service_most) (λ g. decided_le g.service service_most) gs in
     let ascending = decided_pairs (λ (g h : Gate). g.address < h.address) (λ g h. decided_lt g.address h.address) gs in
     elim (decided_both starts (decided_both services ascending)) [
       | inl all ↦ inl (record { starts = all.0; services = all.1.0; ascending = all.1.1 })

@@ -9,6 +9,7 @@ use Rattle.std.proofs.lemmas.List.{length-map, length_push, length-append, get_o
 use Rattle.std.proofs.lemmas.Option.{get_or_from_slice_get, slice_get_within, slice_get-map}
 use Rattle.std.proofs.lemmas.List.Elements.{All-push}
 use Rattle.std.proofs.lemmas.List.Quantifiers.{all_pairs_push}
+use Rattle.sfi_policy.specs.Limits.{service_most}
 use Rattle.sfi_image.specs.declared.part.Gate.{Gate}
 use Rattle.sfi_image.specs.declared.fields.Fields.{Fields}
 use Rattle.sfi_image.specs.declared.span.Span.{Span}
@@ -46,11 +47,11 @@ above_last_address gs addresses at last e ascending is =
     found (Some g) a e = (g, refl, cc)
 
 -- a gate that passes its tests may come next
-pub next_gate : (region : Span) (gs : List Gate) (g : Gate) → AreGates region gs → IsBundleStart region g.address → g.service ≤ 5
+pub next_gate : (region : Span) (gs : List Gate) (g : Gate) → AreGates region gs → IsBundleStart region g.address → g.service ≤ service_most
     → All (λ h. h.address < g.address) gs → AreGates region (gs ++ g ∷ [])
 next_gate region gs g are start service above = record {
   starts = All-push (λ h. IsBundleStart region h.address) gs g are.starts start;
-  services = All-push (λ h. h.service ≤ 5) gs g are.services service;
+  services = All-push (λ h. h.service ≤ service_most) gs g are.services service;
   ascending = all_pairs_push (λ h i. h.address < i.address) gs g are.ascending above;
 }
 

@@ -5,6 +5,7 @@ use Rattle.std.proofs.lemmas.Bool.{eq-eqb, eqb-true, or_right, or_cases}
 use Rattle.std.proofs.lemmas.List.Elements.{All-nil, All-cons, All-head, All-tail}
 use Rattle.std.proofs.lemmas.List.Kept.{AllPairs-cons}
 use Rattle.std.proofs.lemmas.Option.{slice_get-get_or}
+use Rattle.sfi_policy.specs.Limits.{service_most}
 use Rattle.sfi_policy.specs.declared.format.Format.{Format}
 use Rattle.rv_source.specs.declared.item.SourceGate.{SourceGate}
 use Rattle.sfi_rewrite.specs.Placed as placements
@@ -67,10 +68,10 @@ starts_right region address (g ∷ gs) even low high =
     All-cons (λ g. IsBundleStart region g.address) _ (gates_from (address + stub_size) gs) (record { held = (low, omega arith); aligned = even })
     (starts_right region (address + stub_size) gs (omega arith) (omega arith) (omega arith))
 
-services_right : (address : ℕ) (gs : List SourceGate) → All (λ g. g.service ≤ 5) gs → All (λ g. g.service ≤ 5) (gates_from address gs)
-services_right address [] all = All-nil (λ g. g.service ≤ 5)
+services_right : (address : ℕ) (gs : List SourceGate) → All (λ g. g.service ≤ service_most) gs → All (λ g. g.service ≤ service_most) (gates_from address gs)
+services_right address [] all = All-nil (λ g. g.service ≤ service_most)
 services_right address (g ∷ gs) all =
-    All-cons (λ g. g.service ≤ 5) _ (gates_from (address + stub_size) gs) (All-head (λ g. g.service ≤ 5) g gs all) (services_right (address + stub_size) gs (All-tail (λ g. g.service ≤ 5) g gs all))
+    All-cons (λ g. g.service ≤ service_most) _ (gates_from (address + stub_size) gs) (All-head (λ g. g.service ≤ service_most) g gs all) (services_right (address + stub_size) gs (All-tail (λ g. g.service ≤ service_most) g gs all))
 
 ascending : (address : ℕ) (gs : List SourceGate) → AllPairs (λ g h. g.address < h.address) (gates_from address gs)
 ascending address [] = λ i j d lt within. absurd (omega arith)
@@ -106,7 +107,7 @@ listed_only address (g ∷ gs) (suc k) h =
 
 -- ---- a sandbox
 
-services : (p : Placement) → IsPlacedPart p → All (λ g. g.service ≤ 5) p.gates
+services : (p : Placement) → IsPlacedPart p → All (λ g. g.service ≤ service_most) p.gates
 services p placed k d lt = (placed.gates k (get_or p.gates k d) (slice_get-get_or p.gates k d lt)).service
 
 -- its code ends at 2 ^ 32 at the latest, and begins with a bundle
@@ -148,7 +149,7 @@ linked_right given number p q placed linked =
     let region : Span = code_region q in
     let starts : All (λ g. IsBundleStart region g.address) q.gates =
     subst (λ gs. All (λ g. IsBundleStart region g.address) gs) (sym gates_are) (starts_right region (bases_of given number p).code p.gates (omega arith) (omega arith) (omega arith)) in
-    let serve : All (λ g. g.service ≤ 5) q.gates = subst (λ gs. All (λ g. g.service ≤ 5) gs) (sym gates_are) (services_right (bases_of given number p).code p.gates (services p placed)) in
+    let serve : All (λ g. g.service ≤ service_most) q.gates = subst (λ gs. All (λ g. g.service ≤ service_most) gs) (sym gates_are) (services_right (bases_of given number p).code p.gates (services p placed)) in
     let count : length q.gates ≡ length p.gates = ap length gates_are ∙ gates_len in
     let few_init : length q.init ≡ length p.bytes = ap length linked.init in
     record {
