@@ -1,6 +1,6 @@
 -- What a line states is in range.
+use Rattle.rv_text.proofs.Words.{rules, ◌≡◌, ℕ, ◌^◌, ◌<◌, ◌≤◌, Bool, true, false, cond, List, [], ◌∷◌, length, inl, inr, refl, sym, ap, ◌∙◌, subst, arith, ℤ, pos, negsuc, ◌+ℤ◌, unsigned_abs, ◌==◌, All, flat_map, ints, All-nil, All-cons, All-append, All-replicate, All-from_recursion, Instr, Addi, Cond, modulo, IsImm12, Mnemonic, Part, Directive, Pseudo, Nop, Ret, Li, Mv, Jr, J, Call, Beqz, Bnez, La, DataWidth, Word, Half, Byte, Keyword, IsDataSize, IsStraight, Place, name_of, form_of, IsNumberOf, OperandValues, HasForm, AllSuit, mnemonic_of, operands_of, Spells, upper, lower, is_small, add_lower, constant, data_bytes, directive_form, directive_states, pseudo_form, pseudo_states, branch_form, branch_states, jal_form, jal_states, place_of_keyword, IsRow, After, Stated, within, plain, IsRightStatement, place_of_stated}
 use Rattle.sfi_policy.specs.Limits.{service_most}
-use Rattle.rv_text.proofs.Words.{◌≡◌, ℕ, ◌^◌, ◌<◌, ◌≤◌, Bool, true, false, cond, List, [], ◌∷◌, length, inl, inr, refl, sym, ap, ◌∙◌, subst, arith, ℤ, pos, negsuc, ◌+ℤ◌, unsigned_abs, ◌==◌, All, flat_map, ints, All-nil, All-cons, All-append, All-replicate, All-from_recursion, Instr, Addi, Cond, modulo, IsImm12, Mnemonic, Part, Directive, Pseudo, Nop, Ret, Li, Mv, Jr, J, Call, Beqz, Bnez, La, DataWidth, Word, Half, Byte, Keyword, IsDataSize, IsStraight, Place, name_of, form_of, IsNumberOf, OperandValues, HasForm, AllSuit, mnemonic_of, operands_of, Spells, upper, lower, is_small, add_lower, constant, data_bytes, directive_form, directive_states, pseudo_form, pseudo_states, branch_form, branch_states, jal_form, jal_states, place_of_keyword, IsRow, After, Stated, within, plain, IsRightStatement, place_of_stated}
 use Rattle.rv_word.specs.declared.instr.Instr.TheVariants as instr
 use Rattle.rv_word.specs.Spelling.{InRange}
 use Rattle.rv_text.specs.declared.mnemonic.Mnemonic.TheVariants as mnemonic
@@ -107,17 +107,11 @@ directive_right directive.Option o h = tt
 directive_right directive.Data o h = tt
 directive_right directive.Zero o h = All-replicate IsByte (unsigned_abs o.number) 0 (omega arith)
 
+ruleset made_right = (one_right, add_in_range, jump_in_range, jal_in_range, branch_in_range, zero_imm)
+
 pseudo_right : (p : Pseudo) (o : OperandValues) → AllSuit o (pseudo_form p) → IsRightStatement (pseudo_states p o)
-pseudo_right Nop o h = one_right _ (add_in_range 0 0 (pos 0) (omega arith) (omega arith) zero_imm) tt
-pseudo_right Ret o h = one_right _ (jump_in_range 0 1 (omega arith) (omega arith)) tt
 pseudo_right Li o h = constant_right o.rd o.number h.0
-pseudo_right Mv o h = one_right _ (add_in_range o.rd o.rs1 (pos 0) h.0 h.1.1.0 zero_imm) tt
-pseudo_right Jr o h = one_right _ (jump_in_range 0 o.rs1 (omega arith) h.0) tt
-pseudo_right J o h = (jal_in_range 0 (omega arith), refl, h.0)
-pseudo_right Call o h = (jal_in_range 1 (omega arith), refl, h.0)
-pseudo_right Beqz o h = (branch_in_range _ o.rs1 0 h.0 (omega arith), refl, h.1.1.0)
-pseudo_right Bnez o h = (branch_in_range _ o.rs1 0 h.0 (omega arith), refl, h.1.1.0)
-pseudo_right La o h = (h.0, h.1.1.0)
+pseudo_right _ o h = search (rules, made_right)
 
 branch_right : (cond : Cond) (o : OperandValues) → AllSuit o branch_form → IsRightStatement (branch_states cond o)
 branch_right cond o h = (branch_in_range cond o.rs1 o.rs2 h.0 h.1.1.0, refl, h.1.1.1.1.0)

@@ -1,5 +1,2 @@
-use Rattle.rv_text.proofs.Meaning.{token_follows}
-use Rattle.rv_text.proofs.parse.after_token.Goals as goal
-
-pub returns-in-Some-clause-ok : goal.returns-in-Some-clause-ok
-returns-in-Some-clause-ok c = token_follows c.after_name.result _ _ _ c.in-Some.ensures.some c.after_name.ensures.ok
+pub returns-in-Some-clause-ok : Rattle.rv_text.proofs.parse.after_token.Goals.returns-in-Some-clause-ok
+returns-in-Some-clause-ok c = Rattle.rv_text.proofs.Meaning.token_follows c.after_name.result _ _ _ c.in-Some.ensures.some c.after_name.ensures.ok

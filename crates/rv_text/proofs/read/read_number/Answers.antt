@@ -1,5 +1,2 @@
-use Rattle.rv_text.proofs.Numbers.{kind_in_reach}
-use Rattle.rv_text.proofs.read.read_number.Goals as goal
-
-pub returns-in-None-clause-err : goal.returns-in-None-clause-err
-returns-in-None-clause-err c = λ z h k. c.in-None.ensures.none z h (kind_in_reach c.args.kind z k)
+pub returns-in-None-clause-err : Rattle.rv_text.proofs.read.read_number.Goals.returns-in-None-clause-err
+returns-in-None-clause-err c = λ z h k. c.in-None.ensures.none z h (Rattle.rv_text.proofs.Numbers.kind_in_reach c.args.kind z k)
