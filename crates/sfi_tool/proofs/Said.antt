@@ -1,5 +1,5 @@
 -- What is said of the sandboxes after all rounds is said of their run.
-use Rattle.std.proofs.Common.{◌≡◌, ℕ, List, length, map, Bool, true, false, None, sym, ap, ◌∙◌, subst, ◌++◌}
+use Rattle.std.proofs.Common.{◌≡◌, ℕ, List, length, map, Bool, true, None, sym, ap, ◌∙◌, subst, ◌++◌}
 use Rattle.std.specs.FinMap.{empty}
 use Rattle.rv_mem.specs.Bytes.{Bytes}
 use Rattle.sfi_image.specs.Spelling.{Part}
@@ -28,12 +28,7 @@ said_of_run report machine rounds quantum given ps count w c slots host text e s
     subst (λ (x : List Slot). IsRunTextOf report ps x (run_of machine rounds quantum given ps).host.host text) (j.slots ∙ ap (λ r. r.slots) same)
     (subst (λ (x : ConsoleState). IsRunTextOf report ps slots x text) (j.host ∙ ap (λ r. r.host.host) same) h)
 
--- the lines alone, and with what is told
-pub lines_alone : (report : Bool) (ps : List Part) (slots : List Slot) (host : ConsoleState) (count : ℕ) (text : List ℕ) → report ≡ false → count ≡ length ps
-    → text ≡ run_lines count slots host → IsRunTextOf report ps slots host text
-lines_alone report ps slots host count text is e h =
-    subst (λ (r : Bool). IsRunTextOf r ps slots host text) (sym is) (h ∙ ap (λ n. run_lines n slots host) e)
-
+-- the lines with what is told
 pub lines_and_told : (report : Bool) (ps : List Part) (slots : List Slot) (host : ConsoleState) (count : ℕ) (lines text : List ℕ) → report ≡ true → count ≡ length ps
     → lines ≡ run_lines count slots host → Adds lines text (AreTold count ps slots) → IsRunTextOf report ps slots host text
 lines_and_told report ps slots host count lines text is e h a =

@@ -21,15 +21,6 @@ use Rattle.sfi_tool.specs.private.Told.{Adds}
 pub adds_nothing : (old : List ℕ) (is : List ℕ → Type 0) → is [] → Adds old old is
 adds_nothing old is h = record { text = []; text_is = h; new_is = sym (append-nil old) }
 
--- there is no such sandbox
-pub no_status : (sandbox : ℕ) (p : Part) (o : Option Slot) → None ≡ option_map (λ (s : Slot). s.status) o → IsToldOf sandbox (Some p) o []
-no_status sandbox p None e = refl
-no_status sandbox p (Some s) e = absurd (cc)
-
-pub no_hart : (sandbox : ℕ) (p : Part) (o : Option Slot) → None ≡ option_map (λ (s : Slot). s.hart) o → IsToldOf sandbox (Some p) o []
-no_hart sandbox p None e = refl
-no_hart sandbox p (Some s) e = absurd (cc)
-
 -- it has exited
 pub exited : (sandbox : ℕ) (p : Part) (o : Option Slot) (n : ℕ) → Some (Exited n) ≡ option_map (λ (s : Slot). s.status) o → IsToldOf sandbox (Some p) o []
 exited sandbox p None n e = absurd (cc)
