@@ -1,6 +1,5 @@
 -- What holds of every spelling, in two bytes or four: the laws, for proofs here and in the crates above.
 use Rattle.rv_comp.specs.Laws.{OneSpelling, TwoLengths, EcallIsWide, SpelledInRange, OneFront, SomeFront, OneFirstForm, SomeFirstForm, HalfwordsAreOutlined}
-use Rattle.rv_word.proofs.Facts as words
 use Rattle.rv_comp.proofs.Firsts.{first_one, some_first}
 use Rattle.rv_comp.proofs.Found as found
 use Rattle.rv_comp.proofs.Fronts.{front_one}
@@ -9,7 +8,7 @@ use Rattle.rv_comp.proofs.Reach as reach
 use Rattle.rv_comp.proofs.Spellings.{spelled_one, spelled_lengths, ecall_length}
 
 pub one_spelling : OneSpelling
-one_spelling = spelled_one words.spellings_are_wide words.one_spelling
+one_spelling = spelled_one
 
 pub two_lengths : TwoLengths
 two_lengths = spelled_lengths
@@ -21,10 +20,10 @@ pub spelled_in_range : SpelledInRange
 spelled_in_range = reach.spelled_in_range
 
 pub one_front : OneFront
-one_front = front_one one_spelling
+one_front = front_one
 
 pub some_front : SomeFront
-some_front = found.some_front words.spellings_are_wide words.word_is_decided
+some_front = found.some_front
 
 pub one_first_form : OneFirstForm
 one_first_form = first_one

@@ -1,7 +1,5 @@
 -- What holds of every step: the laws, for proofs here and in the crates above.
 use Rattle.rv_step.specs.Laws.{OneInstruction, AtPcIsFront, OneStep, SomeStep, StepIsEffect, StepKeepsState, StoppedStays, OtherBytesStay, OtherRegistersStay, AccessedIsThere, NoByteGoes, CallsAreEcalls, AgreeingStandsToo, AgreeingStepsAreSame, PairLeaves}
-use Rattle.rv_comp.proofs.Facts.{one_spelling, two_lengths, spelled_in_range, one_front, some_front}
-use Rattle.rv_mem.proofs.Facts.{addresses_are_these, read_is_held, others_stay, write_keeps_memory}
 use Rattle.rv_step.proofs.Agreeing.{agree_same, stands_too}
 use Rattle.rv_step.proofs.Calls.{ecall_at, none_goes}
 use Rattle.rv_step.proofs.Pairs.{pair_left}
@@ -11,34 +9,34 @@ use Rattle.rv_step.proofs.Standing.{at_pc_front}
 use Rattle.rv_step.proofs.Steps.{effect_of, stays, other_bytes, step_some, step_one, all_found, keeps_state}
 
 pub one_instruction : OneInstruction
-one_instruction = instruction_one one_spelling read_is_held
+one_instruction = instruction_one
 
 pub at_pc_is_front : AtPcIsFront
-at_pc_is_front = at_pc_front two_lengths
+at_pc_is_front = at_pc_front
 
 pub one_step : OneStep
-one_step = step_one at_pc_is_front one_front
+one_step = step_one
 
 pub some_step : SomeStep
-some_step = step_some at_pc_is_front some_front
+some_step = step_some
 
 pub step_is_effect : StepIsEffect
-step_is_effect = effect_of at_pc_is_front one_front
+step_is_effect = effect_of
 
 pub step_keeps_state : StepKeepsState
-step_keeps_state = keeps_state read_is_held write_keeps_memory spelled_in_range two_lengths
+step_keeps_state = keeps_state
 
 pub stopped_stays : StoppedStays
 stopped_stays = stays
 
 pub other_bytes_stay : OtherBytesStay
-other_bytes_stay = other_bytes others_stay step_is_effect
+other_bytes_stay = other_bytes
 
 pub other_registers_stay : OtherRegistersStay
-other_registers_stay = other_registers step_is_effect
+other_registers_stay = other_registers
 
 pub accessed_is_there : AccessedIsThere
-accessed_is_there = all_found addresses_are_these read_is_held step_is_effect
+accessed_is_there = all_found
 
 pub no_byte_goes : NoByteGoes
 no_byte_goes = none_goes
@@ -50,7 +48,7 @@ pub agreeing_stands_too : AgreeingStandsToo
 agreeing_stands_too = stands_too
 
 pub agreeing_steps_are_same : AgreeingStepsAreSame
-agreeing_steps_are_same = agree_same step_is_effect
+agreeing_steps_are_same = agree_same
 
 pub pair_leaves : PairLeaves
-pair_leaves = pair_left spelled_in_range
+pair_leaves = pair_left

@@ -3,7 +3,6 @@ use Rattle.std.proofs.Common.{[], refl, ◌+◌, ◌%◌, ◌==◌, ◌&&◌, na
 use Rattle.std.proofs.lemmas.Bool.{and_parts, and_from, leb-true, ltb-true, eqb-true, le-leb, lt-ltb, eq-eqb}
 use Rattle.sfi_policy.specs.Limits.{bundle_size}
 use Rattle.sfi_scan.specs.Laws.{SameBundleStarts, OneLongestReading, OneBundleList, OneList, OneImageList, FirstFormatHasNoStack, FirstFormatFindsNoV10, CleanBreaksStackAlone}
-use Rattle.rv_comp.proofs.Facts.{one_spelling}
 use Rattle.sfi_scan.proofs.FirstFormat as first
 use Rattle.sfi_scan.proofs.OneList as lists
 use Rattle.sfi_scan.proofs.Readings.{longest_one}
@@ -22,16 +21,16 @@ same_bundle_starts b at = (
 )
 
 pub one_longest_reading : OneLongestReading
-one_longest_reading = longest_one one_spelling
+one_longest_reading = longest_one
 
 pub one_bundle_list : OneBundleList
-one_bundle_list = lists.one_bundle_list one_spelling
+one_bundle_list = lists.one_bundle_list
 
 pub one_list : OneList
-one_list = lists.one_list one_spelling
+one_list = lists.one_list
 
 pub one_image_list : OneImageList
-one_image_list = lists.one_image_list one_spelling 0
+one_image_list = lists.one_image_list 0
 
 pub first_format_has_no_stack : FirstFormatHasNoStack
 first_format_has_no_stack = first.first_format_has_no_stack
@@ -40,4 +39,4 @@ pub first_format_finds_no_v10 : FirstFormatFindsNoV10
 first_format_finds_no_v10 = first.first_format_finds_no_v10
 
 pub clean_breaks_stack_alone : CleanBreaksStackAlone
-clean_breaks_stack_alone ps found clean second = image_of_stack one_spelling 0 ps [] found refl clean second
+clean_breaks_stack_alone ps found clean second = image_of_stack 0 ps [] found refl clean second
