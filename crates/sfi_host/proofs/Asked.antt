@@ -1,55 +1,37 @@
 -- What a world answers of a sandbox.
 use Rattle.std.proofs.Common.{◌≡◌, ℕ, zero, suc, ◌↔◌, ◌<◌, List, [], ◌∷◌, length, get_or, Option, Some, None, IsSome, slice_get, refl, sym, ap, ◌∙◌, subst}
 use Rattle.std.specs.Option.{option_map}
-use Rattle.std.proofs.lemmas.Option.{slice_get-get_or}
+use Rattle.std.proofs.lemmas.Option.{slice_get-get_or, slice_get-map}
 use Rattle.std.specs.List.{range_with_len}
 use Rattle.rv_mem.specs.Bytes.{Bytes, byte_at, bytes_at}
 use Rattle.sfi_image.specs.Spans.{Holds}
 use Rattle.sfi_host.specs.declared.sandbox.Sandbox.{Sandbox}
 use Rattle.sfi_host.specs.Regions.{span_of, bytes_in}
 use Rattle.sfi_host.specs.Changing.{data_bytes_of}
-use Rattle.sfi_host.specs.Reading.{hart_at, data_region_at}
 use Rattle.sfi_host.specs.Slots.{Slot}
 use Rattle.sfi_host.specs.Sandboxes.{seat_of, seats_of, world_of}
 use Rattle.sfi_host.specs.Worlds.{Sandboxes, slot_of, slots_of, status_at, steps_at, data_byte_of}
 use Rattle.sfi_host.proofs.Leaving.{data_of_own}
+use Rattle.sfi_host.proofs.SameWorld.{get_map}
 
 -- the slot of a sandbox
 pub slot_at : (m : Bytes) (all : List Sandbox) (i : ℕ) (s : Sandbox) → slice_get all i ≡ Some s → slice_get (slots_of (world_of m all)) i ≡ Some (slot_of m (seat_of s))
-slot_at m [] i s e = absurd (cc)
-slot_at m (x ∷ all) zero s e = let same : x ≡ s = cc in ap (λ (y : Sandbox). Some (slot_of m (seat_of y))) same
-slot_at m (x ∷ all) (suc i) s e = slot_at m all i s e
+slot_at m all i s e = get_map (slot_of m) (seats_of all) i (seat_of s) (get_map seat_of all i s e)
 
 pub no_slot : (m : Bytes) (all : List Sandbox) (i : ℕ) → slice_get all i ≡ None → slice_get (slots_of (world_of m all)) i ≡ None
-no_slot m [] i e = refl
-no_slot m (x ∷ all) zero e = absurd (cc)
-no_slot m (x ∷ all) (suc i) e = no_slot m all i e
+no_slot m all i e = slice_get-map (slot_of m) (seats_of all) i ∙ ap (option_map (slot_of m)) (slice_get-map seat_of all i ∙ ap (option_map seat_of) e)
 
 pub seat_at : (all : List Sandbox) (i : ℕ) (s : Sandbox) → slice_get all i ≡ Some s → slice_get (seats_of all) i ≡ Some (seat_of s)
-seat_at [] i s e = absurd (cc)
-seat_at (x ∷ all) zero s e = let same : x ≡ s = cc in ap (λ (y : Sandbox). Some (seat_of y)) same
-seat_at (x ∷ all) (suc i) s e = seat_at all i s e
+seat_at all i s e = get_map seat_of all i s e
 
 -- what a look-up found is there
 pub found : {A : Type 0} (all seen : List A) (i : ℕ) (s : A) → seen ≡ all → i < length seen → s ≡ get_or seen i s → slice_get all i ≡ Some s
 found all seen i s e below is = ap (λ (l : List _). slice_get l i) (sym e) ∙ slice_get-get_or seen i s below ∙ ap Some (sym is)
 
 module _ (w : Sandboxes) (m : Bytes) (all : List Sandbox) (is : world_of m all ≡ w) (i : ℕ) where
-  pub status_is : (s : Sandbox) → slice_get all i ≡ Some s → Some s.status ≡ status_at (slots_of w) i
-  status_is s e =
-      sym (ap (λ (x : Sandboxes). status_at (slots_of x) i) (sym is) ∙ ap (λ (o : Option Slot). option_map (λ (y : Slot). y.status) o) (slot_at m all i s e))
-
-  pub steps_is : (s : Sandbox) → slice_get all i ≡ Some s → Some s.steps ≡ steps_at (slots_of w) i
-  steps_is s e =
-      sym (ap (λ (x : Sandboxes). steps_at (slots_of x) i) (sym is) ∙ ap (λ (o : Option Slot). option_map (λ (y : Slot). y.steps) o) (slot_at m all i s e))
-
-  pub hart_is : (s : Sandbox) → slice_get all i ≡ Some s → Some s.cpu ≡ hart_at (slots_of w) i
-  hart_is s e =
-      sym (ap (λ (x : Sandboxes). hart_at (slots_of x) i) (sym is) ∙ ap (λ (o : Option Slot). option_map (λ (y : Slot). y.hart) o) (slot_at m all i s e))
-
-  pub data_region_is : (s : Sandbox) → slice_get all i ≡ Some s → Some (span_of s.data) ≡ data_region_at (slots_of w) i
-  data_region_is s e =
-      sym (ap (λ (x : Sandboxes). data_region_at (slots_of x) i) (sym is) ∙ ap (λ (o : Option Slot). option_map (λ (y : Slot). y.bounds.data) o) (slot_at m all i s e))
+  -- what the slot has
+  pub got : {A : Type 0} (f : Slot → A) (s : Sandbox) → slice_get all i ≡ Some s → Some (f (slot_of m (seat_of s))) ≡ option_map f (slice_get (slots_of w) i)
+  got f s e = sym (ap (λ (x : Sandboxes). option_map f (slice_get (slots_of x) i)) (sym is) ∙ ap (option_map f) (slot_at m all i s e))
 
   pub slot_is : (s : Sandbox) → slice_get all i ≡ Some s → slice_get (slots_of w) i ≡ Some (slot_of m (seat_of s))
   slot_is s e = ap (λ (x : Sandboxes). slice_get (slots_of x) i) (sym is) ∙ slot_at m all i s e

@@ -19,35 +19,56 @@ use Rattle.sfi_check.specs.Stack.{CallsWithStack, AllCallWithStack}
 use Rattle.sfi_host.specs.declared.program.Program.{Program}
 use Rattle.sfi_host.specs.declared.sandbox.Sandbox.{Sandbox}
 use Rattle.sfi_host.specs.Entering.{MayEnter, MayEnterAt, fresh_hart, with_registers, entered_hart, entered_seat, with_entry_of, with_entry, IsAtEntry, IsEnterable, AreEnterable}
-use Rattle.sfi_host.specs.Loading.{first_seat, with_parts}
+use Rattle.sfi_host.specs.Loading.{first_seat, with_parts, AreEntered, HaveFirstData}
 use Rattle.sfi_host.specs.Programs.{AreDecoded}
 use Rattle.sfi_host.specs.Sandboxes.{seat_of, seats_of, world_of}
 use Rattle.sfi_host.specs.Slots.{Bounds, Slot, bounds_of}
 use Rattle.sfi_host.specs.Worlds.{Seat, Sandboxes, slot_of, slots_of, state_in, IsSafeSeat, IsSafeWorld, StaysOutsideData}
+use Rattle.sfi_host.specs.private.Programs.{AreProgramsOf}
 use Rattle.sfi_host.specs.private.Sandboxes.{bounds_in}
 use Rattle.sfi_host.proofs.Asked.{seat_at, slot_is, no_slot}
+use Rattle.sfi_host.proofs.Decoding.{first_decoded}
 use Rattle.sfi_host.proofs.Entered.{Laws, lie_apart}
 use Rattle.sfi_host.proofs.Neighbours.{get_set_same}
 use Rattle.sfi_host.proofs.SafeSeats as keep
 use Rattle.sfi_host.proofs.SameWorld.{get_map}
 use Rattle.sfi_host.proofs.Taking.{AfterTurn, turn_taken}
-use Rattle.sfi_host.proofs.Worlds.{map_get, entered}
+use Rattle.sfi_host.proofs.Worlds.{map_get, entered, first_data_there, world_safe}
 
 -- ---- each sandbox of a world may be entered
 
-pub first_enterable : (laws : Laws) (ps : List Part) (layout : IsRightLayout ps) (memory : IsMemory (with_parts empty ps)) → AllRunSafely ps → AllCallWithStack ps
-    → AreEnterable (record { bytes = with_parts empty ps; seats = map first_seat ps })
-first_enterable laws ps layout memory safe calls i s e =
-    let x = map_get first_seat ps i s e in
-    let p = x.0 in
-    record {
-      part = p;
-      bounds = ap (λ (t : Seat). t.bounds) x.2;
-      right = (lie_apart ps layout).each i p x.1;
-      code = (entered laws ps layout memory i p x.1).code;
-      runs = subst (λ (q : Part). RunsSafely q) (get_or_from_slice_get ps i p p x.1) (safe.each i p (slice_get_within ps i p x.1));
-      calls = subst (λ (q : Part). CallsWithStack q) (get_or_from_slice_get ps i p p x.1) (calls.each i p (slice_get_within ps i p x.1));
-    }
+-- the world of an image at first, with the programs of its parts
+pub record IsFirst (ps : List Part) (m : Bytes) (seats : List Seat) (programs : List Program) : Type 0 where
+  pub safe : IsSafeWorld (record { bytes = m; seats = seats })
+  pub decoded : AreDecoded (record { bytes = m; seats = seats }) programs
+  pub enterable : AreEnterable (record { bytes = m; seats = seats })
+  pub entered : AreEntered ps m
+  pub first_data : HaveFirstData ps m
+
+pub is_first : (laws : Laws) (ps : List Part) → IsRightLayout ps → AllRunSafely ps → AllCallWithStack ps
+    → (m : Bytes) (seats : List Seat) (programs : List Program) → IsMemory m → m ≡ with_parts empty ps → seats ≡ map first_seat ps → AreProgramsOf ps (length ps) programs → IsFirst ps m seats programs
+is_first laws ps layout safe calls m seats programs is_memory bytes are made =
+    let memory : IsMemory (with_parts empty ps) = subst IsMemory bytes is_memory in
+    let entries = entered laws ps layout memory in
+    subst (λ (n : Bytes). IsFirst ps n seats programs) (sym bytes)
+    (subst (λ (all : List Seat). IsFirst ps (with_parts empty ps) all programs) (sym are)
+    (record {
+      safe = world_safe laws ps layout memory safe calls;
+      decoded = first_decoded ps (with_parts empty ps) programs made entries;
+      enterable = λ i s e.
+          let x = map_get first_seat ps i s e in
+          let p = x.0 in
+          record {
+            part = p;
+            bounds = ap (λ (t : Seat). t.bounds) x.2;
+            right = (lie_apart ps layout).each i p x.1;
+            code = (entries i p x.1).code;
+            runs = subst (λ (q : Part). RunsSafely q) (get_or_from_slice_get ps i p p x.1) (safe.each i p (slice_get_within ps i p x.1));
+            calls = subst (λ (q : Part). CallsWithStack q) (get_or_from_slice_get ps i p p x.1) (calls.each i p (slice_get_within ps i p x.1));
+          };
+      entered = entries;
+      first_data = first_data_there laws ps layout;
+    }))
 
 -- no code lies in the data of any
 module _ (w : Sandboxes) (safe : IsSafeWorld w) (i : ℕ) (s : Seat) (at : slice_get w.seats i ≡ Some s) (p : Part) (is : s.bounds ≡ bounds_of p) (a : ℕ) (inside : InCode p a) where

@@ -67,6 +67,9 @@ some_at o b e = ap is_some e
 first_stack : (p : Part) → IsRightPart p → InData p (slice_index (first_hart p).registers 2)
 first_stack p right = let least = right.data_placed.at_least in (omega arith, omega arith)
 
+pub first_data_there : (laws : Laws) (ps : List Part) → IsRightLayout ps → HaveFirstData ps (with_parts empty ps)
+first_data_there laws ps layout i p e k below = has_data laws ps empty i p (lie_apart ps layout) e k below
+
 module _ (laws : Laws) (ps : List Part) (layout : IsRightLayout ps) (memory : IsMemory (with_parts empty ps)) where
   pub entered : AreEntered ps (with_parts empty ps)
   entered i p e =
@@ -79,9 +82,6 @@ module _ (laws : Laws) (ps : List Part) (layout : IsRightLayout ps) (memory : Is
         code = has_code laws ps empty i p lie e;
         guards = has_empty_guards laws ps i p lie e;
       }
-
-  pub first_data_there : HaveFirstData ps (with_parts empty ps)
-  first_data_there i p e k below = has_data laws ps empty i p (lie_apart ps layout) e k below
 
   seat_safe : AllRunSafely ps → AllCallWithStack ps → (i : ℕ) (p : Part) → slice_get ps i ≡ Some p → IsSafeSeat (with_parts empty ps) (first_seat p)
   seat_safe safe calls i p e =
