@@ -13,7 +13,7 @@ use Rattle.sfi_image.specs.declared.want.Next.TheVariants as next
 use Rattle.sfi_image.specs.Spelling.{Part, number, fields, gate, part, IsWord, AreFieldWords, AreGateWords}
 use Rattle.sfi_image.specs.Faults.{IsFault}
 use Rattle.sfi_image.specs.Fronts.{Front, front, head, want_of, IsLess, part_of, after_parts, after_init, after_code, after_gates, HasFaultWhateverFollows}
-use Rattle.sfi_image.specs.Fronts.Front.{Empty, AfterMagic, AfterCount, InGates, InCode, InInit, Whole}
+use Rattle.sfi_image.specs.Fronts.Front.{AfterMagic, AfterCount, InGates, InCode, InInit, Whole}
 use Rattle.sfi_image.specs.Keeping.{ReaderState, StandsFor, Leads}
 use Rattle.sfi_image.specs.private.Keeping.{MayTake, next_code}
 use Rattle.sfi_image.proofs.Following.{head_push}

@@ -13,7 +13,7 @@ use Rattle.sfi_image.specs.Spans.{AreApart, spans, spans_of}
 use Rattle.sfi_image.specs.Bounded.{IsBounded}
 use Rattle.sfi_image.specs.Parts.{IsRightPart}
 use Rattle.sfi_image.specs.Fronts.{Front, want_of, IsLengthOf}
-use Rattle.sfi_image.specs.Fronts.Front.{Empty, AfterMagic, AfterCount, InGates, InCode, InInit, Whole}
+use Rattle.sfi_image.specs.Fronts.Front.{AfterCount, InGates, InCode, InInit, Whole}
 use Rattle.sfi_image.specs.Keeping.{ReaderState, StandsFor, IsReader}
 use Rattle.sfi_image.specs.private.Keeping.{MayTake, is_first}
 use Rattle.sfi_image.proofs.PartLists.{right_bounded}

@@ -4,7 +4,7 @@ use Rattle.std.proofs.lemmas.Bool.{eq-eqb, ne_eqb}
 use Rattle.std.proofs.lemmas.List.{length-append}
 use Rattle.sfi_image.specs.Spans.{spans}
 use Rattle.sfi_image.specs.Fronts.{Front, ArePlainNext, after_code}
-use Rattle.sfi_image.specs.Fronts.Front.{Empty, AfterMagic, AfterCount, InGates, InCode, InInit, Whole}
+use Rattle.sfi_image.specs.Fronts.Front.{InCode}
 use Rattle.sfi_image.specs.Keeping.{ReaderState, StandsFor, Leads, AreAhead, is_one_of}
 use Rattle.sfi_image.specs.private.Keeping.{AreFrom, HasPlain}
 use Rattle.sfi_image.proofs.Standing.{region, none_before, leads, code_stand}

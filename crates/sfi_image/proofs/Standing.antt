@@ -3,7 +3,6 @@ use Rattle.std.proofs.Common.{◌≡◌, ℕ, zero, suc, ◌+◌, ◌*◌, ◌%�
 use Rattle.std.proofs.Math.Bool.{or-false}
 use Rattle.std.proofs.lemmas.Bool.Decides.{eqb_tells}
 use Rattle.std.specs.List.{All, AllPairs}
-use Rattle.std.specs.Prelude.{◌||◌}
 use Rattle.std.proofs.lemmas.Bool.{eqb-true, eqb-false, ne_eqb}
 use Rattle.std.proofs.lemmas.List.{length_push, drop-drop}
 use Rattle.sfi_policy.specs.declared.format.Format.{Format}
@@ -18,7 +17,7 @@ use Rattle.sfi_image.specs.Gates.{AreGates, is_gate_of}
 use Rattle.sfi_image.specs.Parts.{AreOf, AreRight}
 use Rattle.sfi_image.specs.Tests.{IsFirstFault, field_tests}
 use Rattle.sfi_image.specs.Fronts.{Front, IsHead, IsOpened, IsRightFront, part_of, after_parts, after_init, after_code, after_gates, Follows}
-use Rattle.sfi_image.specs.Fronts.Front.{Empty, AfterMagic, AfterCount, InGates, InCode, InInit, Whole}
+use Rattle.sfi_image.specs.Fronts.Front.{Empty, AfterMagic, AfterCount}
 use Rattle.sfi_image.specs.Keeping.{ReaderState, KeepsHead, KeepsFields, StandsFor, KeepsCode, IsReader, Leads, AreAhead, AreRest, is_one_of}
 use Rattle.sfi_image.specs.private.Keeping.{next_part, next_init, next_code, next_gate, is_first}
 use Rattle.sfi_image.proofs.FieldTests.{all_pass}

@@ -18,7 +18,7 @@ use Rattle.sfi_image.specs.Gates.{AreGates}
 use Rattle.sfi_image.specs.Tests.{IsFirstFault, field_tests}
 use Rattle.sfi_image.specs.Faults.{IsFault, IsPartFault, IsGateShort, IsGateWrong, AreContentsShort}
 use Rattle.sfi_image.specs.Fronts.{Front, front, head, IsHead, IsOpened, after_init, after_code, after_gates, HasFaultWhateverFollows}
-use Rattle.sfi_image.specs.Fronts.Front.{Empty, AfterMagic, AfterCount, InGates, InCode, InInit, Whole}
+use Rattle.sfi_image.specs.Fronts.Front.{Empty, AfterMagic, AfterCount, InGates, InCode, InInit}
 use Rattle.sfi_image.specs.Keeping.{ReaderState, StandsFor, Leads}
 use Rattle.sfi_image.specs.private.Keeping.{next_init, next_code, next_gate, is_first}
 use Rattle.sfi_image.proofs.Standing.{leads, gates_stand, code_stand, init_stand, region, rest_after}

@@ -36,9 +36,8 @@ use Rattle.sfi_link.specs.Code.{AreSlots}
 use Rattle.sfi_link.specs.Linked.{c_ebreak, needed, HasRoom, IsCodeSize, gates_from, IsLinkedCode, IsLinked, AreLinkedFrom, AreLinked}
 use Rattle.sfi_link.specs.Building.{IsLinkedImage, ArePlacements, IsBuild}
 use Rattle.sfi_link.specs.Faults.{MayLie, IsSlotFault, HasPartFault, IsPartFault, IsLinkFault}
-use Rattle.sfi_link.specs.private.Near.{IsNear, AreNear, HasRoomFor, AreWritten, LiesBeside, IsCodeBeside, AreCodes}
+use Rattle.sfi_link.specs.private.Near.{IsNear, AreNear, HasRoomFor, AreWritten, LiesBeside, IsCodeBeside, AreCodes, Links}
 use Rattle.sfi_link.specs.Answers.{UnlessMemory, AnswersBytes, AnswersFault}
-use Rattle.sfi_link.specs.private.Answers.{Links}
 use Rattle.sfi_link.proofs.Unless.{memory_or, then_unless}
 use Rattle.sfi_rewrite.proofs.Sizes.{size_even}
 use Rattle.sfi_link.proofs.Region.{length_stubs}

@@ -1,4 +1,2 @@
 -- Words that private contracts and proofs alone cite: no public statement rests on them.
-pub mod Answers
 pub mod Near
-pub mod Names

@@ -10,10 +10,9 @@ ghost use Rattle.rv_comp.specs.Halfwords.{halfword_of};
 ghost use Rattle.sfi_rewrite.specs.Slots.{size_of, slots_of};
 ghost use Rattle.sfi_rewrite.specs.Placed.{Encodes};
 ghost use Rattle.rv_source.specs.Halves.{lower};
-ghost use Rattle.sfi_link.specs.private.Near.{HasRoomFor, AreNear, IsPushed, AreWritten};
+ghost use Rattle.sfi_link.specs.private.Near.{HasRoomFor, AreNear, IsPushed, AreWritten, Links};
 ghost use Rattle.sfi_link.specs.Faults.{HasSlotFault, IsSlotFault};
 ghost use Rattle.sfi_rewrite.specs.declared.slot.Slot.TheVariants.{Jump, Upper, Lower};
-ghost use Rattle.sfi_link.specs.private.Answers.{Links};
 
 use crate::address::{address_at, distance, lower, target_at, upper, with_offset};
 use crate::bases::Bases;

@@ -11,8 +11,7 @@ ghost use Rattle.sfi_image.specs.Spans.{AreApart};
 ghost use Rattle.sfi_link.specs.Linked.{needed, HasRoom, IsCodeSize};
 ghost use Rattle.sfi_link.specs.Faults.{HasPartFault};
 ghost use Rattle.sfi_policy.specs.Limits.{sandboxes_most};
-ghost use Rattle.sfi_link.specs.private.Near.{IsCodeBeside};
-ghost use Rattle.sfi_link.specs.private.Answers.{Links};
+ghost use Rattle.sfi_link.specs.private.Near.{IsCodeBeside, Links};
 
 use crate::bases::bases_of;
 use crate::code::push_bundles;

@@ -12,8 +12,7 @@ ghost use Rattle.sfi_link.specs.Linked.{gates_from, IsLinkedCode, IsLinked, AreL
 ghost use Rattle.sfi_link.specs.Building.{IsLinkedImage, ArePlacements, IsBuild};
 ghost use Rattle.sfi_policy.specs.Limits.{bundle_size, gates_most, sandboxes_most};
 ghost use Rattle.sfi_link.specs.Faults.{IsPartFault, IsLinkFault};
-ghost use Rattle.sfi_link.specs.private.Near.{AreCodes, contents};
-ghost use Rattle.sfi_link.specs.private.Answers.{Links};
+ghost use Rattle.sfi_link.specs.private.Near.{AreCodes, contents, Links};
 ghost use Rattle.sfi_link.specs.Answers.{UnlessMemory, AnswersBytes, AnswersFault};
 
 use crate::bases::bases_of;

@@ -9,7 +9,8 @@ ghost use Rattle.sfi_link.specs.declared.build_fault.BuildFault.{BuildFault};
 ghost use Rattle.sfi_link.specs.declared.build_fault.BuildFault.TheVariants.{Text, Link};
 ghost use Rattle.sfi_link.specs.Names.{MapEntry, entries_of, map_from, IsTextMap, AnswersMap, AnswersMapFault};
 ghost use Rattle.sfi_link.specs.Texts.{IsBuildFault, IsWantOfMemory};
-ghost use Rattle.sfi_link.specs.private.Names.{CanBeLinked};
+ghost use Rattle.sfi_image.specs.Spelling.{Part};
+ghost use Rattle.sfi_link.specs.Linked.{AreLinkedFrom};
 ghost use Rattle.sfi_link.specs.private.Near.{AreNear};
 
 use crate::address::address_of;
@@ -114,7 +115,7 @@ fn names_of(
     requires few { length placed.now ≤ sandboxes_most }
     requires right { All IsPlacedPart placed.now }
     requires each { length source.now ≡ length placed.now }
-    requires linked { CanBeLinked given.now placed.now }
+    requires linked { (parts : List Part) × AreLinkedFrom given.now 0 placed.now parts }
     ensures names { IfOk result
         (λ names. names.items ≡ map_from given.now 0 source.now placed.now) }
     ensures memory { IfErr result (λ f. IsWantOfMemory (Link f)) }

@@ -8,6 +8,9 @@ use Rattle.std.specs.Option.{option_map}
 use Rattle.std.specs.Ordering.{nat_cmp}
 use Rattle.std.proofs.lemmas.Bool.{and_parts, ltb-true, cases_lt}
 use Rattle.std.proofs.lemmas.Int.{ints}
+use Rattle.std.proofs.lemmas.Nat.{from_le_bytes-to_le_bytes_4}
+use Rattle.rv_word.specs.declared.instr.RegOp.{RegOp}
+use Rattle.rv_word.proofs.Facts.{spellings_are_wide}
 use Rattle.rv_word.specs.declared.instr.RegOp.TheVariants.{And, Or}
 use Rattle.rv_word.specs.declared.instr.LoadKind.TheVariants.{Lw}
 use Rattle.rv_word.specs.declared.instr.Instr.{Instr}
@@ -22,7 +25,7 @@ use Rattle.rv_step.specs.State.{Hart, IsHart}
 use Rattle.rv_step.specs.Step.{Stands, effect, after_load}
 use Rattle.sfi_image.specs.declared.span.Span.{Span}
 use Rattle.sfi_rewrite.specs.declared.slot.Slot.TheVariants.{Wide}
-use Rattle.sfi_rewrite.specs.Transparency.{AreRegions, HasReserved}
+use Rattle.sfi_rewrite.specs.Transparency.{AreRegions, HasReserved, IsAskedOf}
 use Rattle.sfi_rewrite.specs.Samples.{MeetsTransparent, MeetsKeepsStack, sample_load, sample_jump, sample_push}
 use Rattle.sfi_rewrite.specs.Laws.{TransparencyCanBeMet}
 
@@ -73,25 +76,16 @@ IsSpelled i = Spells (to_le_bytes w32 (spelling i)) i 4
 abbrev words_of : List Instr → List ℕ
 words_of is = flat_map (λ i. to_le_bytes w32 (spelling i)) is
 
-and_data : IsSpelled (Op And 31 11 27)
-unfolding spelling InRange
-and_data = inr (record { size = refl; all = refl; spelled = ((omega arith, omega arith, omega arith), refl) })
-
-or_data : IsSpelled (Op Or 31 31 26)
-unfolding spelling InRange
-or_data = inr (record { size = refl; all = refl; spelled = ((omega arith, omega arith, omega arith), refl) })
+op_spelled : (op : RegOp) (rd a b : ℕ) → rd < 32 → a < 32 → b < 32 → IsSpelled (Op op rd a b)
+unfolding InRange
+op_spelled op rd a b d g h =
+    let i = Op op rd a b in
+    let ok : InRange i = (d, g, h) in
+    inr (record { size = refl; all = refl; spelled = (ok, from_le_bytes-to_le_bytes_4 (spelling i) (spellings_are_wide (spelling i) i (ok, refl)).0) })
 
 load_x31 : IsSpelled (Load Lw 10 31 (pos 0))
 unfolding spelling InRange
 load_x31 = inr (record { size = refl; all = refl; spelled = ((omega arith, omega arith, (omega (arith, ints), omega (arith, ints))), refl) })
-
-and_code : IsSpelled (Op And 31 12 25)
-unfolding spelling InRange
-and_code = inr (record { size = refl; all = refl; spelled = ((omega arith, omega arith, omega arith), refl) })
-
-or_code : IsSpelled (Op Or 31 31 24)
-unfolding spelling InRange
-or_code = inr (record { size = refl; all = refl; spelled = ((omega arith, omega arith, omega arith), refl) })
 
 jump_x31 : IsSpelled (Jalr 1 31 (pos 0))
 unfolding spelling InRange
@@ -100,14 +94,6 @@ jump_x31 = inr (record { size = refl; all = refl; spelled = ((omega arith, omega
 push : IsSpelled sample_push
 unfolding spelling InRange
 push = inr (record { size = refl; all = refl; spelled = ((omega arith, omega arith, (omega (arith, ints), omega (arith, ints))), refl) })
-
-and_stack : IsSpelled (Op And 2 2 27)
-unfolding spelling InRange
-and_stack = inr (record { size = refl; all = refl; spelled = ((omega arith, omega arith, omega arith), refl) })
-
-or_stack : IsSpelled (Op Or 2 2 26)
-unfolding spelling InRange
-or_stack = inr (record { size = refl; all = refl; spelled = ((omega arith, omega arith, omega arith), refl) })
 
 abbrev load_words : List ℕ
 load_words = words_of (Op And 31 11 27 ∷ Op Or 31 31 26 ∷ Load Lw 10 31 (pos 0) ∷ [])
@@ -230,6 +216,17 @@ module _ (bytes : List ℕ) (size : length bytes ≡ 12) where
   load_done : (effect sample_load 4 (hart 0x01000000) (with_code bytes)).outcome ≡ Next
   load_done = ap (λ (o : Option (List ℕ)). (after_load (option_map number_of o) Lw 10 0x01800010 4 (hart 0x01000000) (with_code bytes)).outcome) has_data
 
+-- three instructions that stand at the code base, for one
+asked_of : (i j k l : Instr) → IsSpelled j → IsSpelled k → IsSpelled l → ((n : ℕ) → slice_index (words_of (j ∷ k ∷ l ∷ [])) n < 256)
+    → IsAskedOf i (Wide j ∷ Wide k ∷ Wide l ∷ []) code_at data_at (record { hart = hart 0x01000000; memory = with_code (words_of (j ∷ k ∷ l ∷ [])) })
+asked_of i j k l first second third small =
+    let words = words_of (j ∷ k ∷ l ∷ []) in record {
+      regions = regions;
+      is_state = record { hart = is_hart; memory = is_memory words refl small };
+      reserved = reserved;
+      stand = (stands words refl 0 j (omega arith) refl first, (stands words refl 4 k (omega arith) refl second, (stands words refl 8 l (omega arith) refl third, tt)));
+    }
+
 -- ---- the three
 
 load_met : MeetsTransparent Sfi2 sample_load
@@ -240,16 +237,7 @@ load_met = record {
   code_at = code_at;
   data_at = data_at;
   state = record { hart = hart 0x01000000; memory = with_code load_words };
-  asked =
-      let first = stands load_words refl 0 (Op And 31 11 27) (omega arith) refl and_data in
-      let second = stands load_words refl 4 (Op Or 31 31 26) (omega arith) refl or_data in
-      let third = stands load_words refl 8 (Load Lw 10 31 (pos 0)) (omega arith) refl load_x31 in
-      record {
-        regions = regions;
-        is_state = record { hart = is_hart; memory = is_memory load_words refl load_small };
-        reserved = reserved;
-        stand = (first, (second, (third, tt)));
-      };
+  asked = asked_of sample_load (Op And 31 11 27) (Op Or 31 31 26) (Load Lw 10 31 (pos 0)) (op_spelled And 31 11 27 (omega arith) (omega arith) (omega arith)) (op_spelled Or 31 31 26 (omega arith) (omega arith) (omega arith)) load_x31 load_small;
   keeps = (omega arith, omega arith);
   done = load_done load_words refl;
 }
@@ -262,16 +250,7 @@ jump_met = record {
   code_at = code_at;
   data_at = data_at;
   state = record { hart = hart 0x01000000; memory = with_code jump_words };
-  asked =
-      let first = stands jump_words refl 0 (Op And 31 12 25) (omega arith) refl and_code in
-      let second = stands jump_words refl 4 (Op Or 31 31 24) (omega arith) refl or_code in
-      let third = stands jump_words refl 8 (Jalr 1 31 (pos 0)) (omega arith) refl jump_x31 in
-      record {
-        regions = regions;
-        is_state = record { hart = is_hart; memory = is_memory jump_words refl jump_small };
-        reserved = reserved;
-        stand = (first, (second, (third, tt)));
-      };
+  asked = asked_of sample_jump (Op And 31 12 25) (Op Or 31 31 24) (Jalr 1 31 (pos 0)) (op_spelled And 31 12 25 (omega arith) (omega arith) (omega arith)) (op_spelled Or 31 31 24 (omega arith) (omega arith) (omega arith)) jump_x31 jump_small;
   keeps = record { held = (omega arith, omega arith); aligned = refl };
   done = refl;
 }
@@ -284,16 +263,7 @@ push_met = record {
   code_at = code_at;
   data_at = data_at;
   state = record { hart = hart 0x01000000; memory = with_code push_words };
-  asked =
-      let first = stands push_words refl 0 sample_push (omega arith) refl push in
-      let second = stands push_words refl 4 (Op And 2 2 27) (omega arith) refl and_stack in
-      let third = stands push_words refl 8 (Op Or 2 2 26) (omega arith) refl or_stack in
-      record {
-        regions = regions;
-        is_state = record { hart = is_hart; memory = is_memory push_words refl push_small };
-        reserved = reserved;
-        stand = (first, (second, (third, tt)));
-      };
+  asked = asked_of sample_push sample_push (Op And 2 2 27) (Op Or 2 2 26) push (op_spelled And 2 2 27 (omega arith) (omega arith) (omega arith)) (op_spelled Or 2 2 26 (omega arith) (omega arith) (omega arith)) push_small;
   done = refl;
   stays = (omega arith, omega arith);
 }

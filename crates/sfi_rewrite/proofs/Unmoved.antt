@@ -1,9 +1,8 @@
 -- A number that lies in a region stays as it is under the region's mask and bits.
-use Rattle.std.proofs.Common.{◌≡◌, ℕ, ◌+◌, ◌-◌, ◌*◌, ◌/◌, ◌%◌, ◌^◌, ◌<◌, ◌≤◌, ap, ◌∙◌, ⊎_elim, arith}
+use Rattle.std.proofs.Common.{◌≡◌, ℕ, ◌+◌, ◌-◌, ◌*◌, ◌/◌, ◌%◌, ◌^◌, ◌<◌, ◌≤◌, ap, ◌∙◌, arith}
 use Rattle.std.specs.Int.Bits.{bit_and, bit_or}
-use Rattle.std.proofs.lemmas.Nat.{and_mask, or_shifted, or_comm, mod-mul-add, pow-add, pow_below}
+use Rattle.std.proofs.lemmas.Nat.{and_mask, or_shifted, or_comm, mod-mul-add, pow-add}
 use Rattle.std.proofs.lemmas.Nat.Bits.{and_high}
-use Rattle.std.proofs.lemmas.Bool.{cases_lt}
 use Rattle.sfi_image.specs.Regions.{IsRegion}
 use Rattle.sfi_image.proofs.Bundles.{exponent_le}
 

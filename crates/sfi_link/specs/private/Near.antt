@@ -1,5 +1,5 @@
--- Words of private contracts: what fits the linker's numbers, and what is written so far.
-use Rattle.std.specs.Prelude.{◌≡◌, ℕ, ◌+◌, ◌^◌, ◌<◌, ◌≤◌, List, ◌++◌, length, map, IfSome, Vec}
+-- Words of private contracts: what fits the linker's numbers, what is written so far, and what a step answers.
+use Rattle.std.specs.Prelude.{◌≡◌, ℕ, ◌+◌, ◌^◌, ◌<◌, ◌≤◌, List, ◌++◌, length, map, IfSome, Result, Ok, Err, Vec}
 use Rattle.std.specs.List.{All, AllPairs}
 use Rattle.std.specs.Global.{Global}
 use Rattle.sfi_policy.specs.declared.format.Format.TheVariants.{Sfi2}
@@ -14,6 +14,8 @@ use Rattle.sfi_rewrite.specs.declared.slot.Slot.{Slot}
 use Rattle.sfi_rewrite.specs.declared.placed.PlacedName.{PlacedName}
 use Rattle.sfi_rewrite.specs.Placement.{Placement}
 use Rattle.sfi_link.specs.declared.bases.Bases.{Bases}
+use Rattle.sfi_link.specs.declared.fault.LinkFault.{LinkFault}
+use Rattle.sfi_link.specs.Answers.{UnlessMemory}
 use Rattle.sfi_link.specs.Code.{IsSlot, AreSlots}
 use Rattle.sfi_link.specs.Addresses.{address_of, target_of}
 use Rattle.sfi_link.specs.Lying.{IsRightPlace, spans_at}
@@ -75,3 +77,8 @@ pub record AreCodes (given : List Place) (placed : List Placement)
 -- the bytes of each
 abbrev pub contents : List (Vec ℕ Global) → List (List ℕ)
 contents codes = map (λ code. code.items) codes
+
+-- the value that was made meets Made, or the fault meets Faulty, or memory ran out
+abbrev pub Links : {X : Type 0} → (X → Type 0) → (LinkFault → Type 0) → Result X LinkFault → Type 0
+Links Made Faulty (Ok x) = Made x
+Links Made Faulty (Err f) = UnlessMemory Faulty f

@@ -3,7 +3,8 @@ use Rattle.std.proofs.lemmas.Slice.Zip.{AllZip-long}
 use Rattle.sfi_rewrite.specs.Rewriting.{IsRewritten}
 use Rattle.sfi_rewrite.specs.Placement.{Placement}
 use Rattle.sfi_link.specs.Names.{map_from}
-use Rattle.sfi_link.specs.private.Names.{CanBeLinked}
+use Rattle.sfi_image.specs.Spelling.{Part}
+use Rattle.sfi_link.specs.Linked.{AreLinkedFrom}
 use Rattle.sfi_link.proofs.names.map_of.Goals as goal
 
 pub names_of-requires-clause-each : goal.names_of-requires-clause-each
@@ -13,7 +14,7 @@ names_of-requires-clause-each c =
 pub names_of-requires-clause-linked : goal.names_of-requires-clause-linked
 names_of-requires-clause-linked c =
     let image = c.in_ok-link_at.ensures.image in
-    subst (λ (ps : List Placement). CanBeLinked c.args.places.now ps) (sym c.parts-2.ensures.parts) (image.parts, image.linked.each)
+    subst (λ (ps : List Placement). (parts : List Part) × AreLinkedFrom c.args.places.now 0 ps parts) (sym c.parts-2.ensures.parts) (image.parts, image.linked.each)
 
 pub returns-clause-mapped : goal.returns-clause-mapped
 returns-clause-mapped c = record {
