@@ -9,7 +9,6 @@ use Rattle.rv_word.specs.declared.instr.Instr.{Instr}
 use Rattle.rv_word.specs.declared.length.Length.{Length}
 use Rattle.rv_word.specs.declared.length.Length.TheVariants.{Short, Wide, Longer}
 use Rattle.rv_word.specs.Lengths.{length_of}
-use Rattle.rv_word.specs.Laws.{SpellingsAreWide}
 use Rattle.rv_word.specs.Numbers.{bits}
 use Rattle.rv_word.specs.Spelling.{IsWordOf}
 use Rattle.rv_comp.specs.Halfwords.{IsShortSpelling}
@@ -17,6 +16,7 @@ use Rattle.rv_comp.specs.mirror.Decoding.{decoded}
 use Rattle.rv_comp.specs.Fronts.{SpellsShort, SpellsWide}
 use Rattle.rv_comp.specs.declared.form.Form16.{Form16}
 use Rattle.rv_comp.proofs.Exact.{decoded_only}
+use Rattle.rv_word.proofs.Facts.{spellings_are_wide}
 
 -- ---- lists
 
@@ -85,8 +85,8 @@ pub short_length : (h : ℕ) (i : Instr) → IsShortSpelling h i → length_of h
 short_length h i s = rw (ne_eqb (bits h 1 0) 3 (short_low h i s)) refl
 
 -- a word that spells an instruction begins with a halfword that tells 32 bits
-pub wide_length : SpellingsAreWide → (word first : ℕ) (i : Instr) → IsWordOf word i → word % 2 ^ 16 ≡ first → length_of first ≡ Wide
-wide_length law word first i w e = ap length_of (sym e) ∙ (law word i w).1
+pub wide_length : (word first : ℕ) (i : Instr) → IsWordOf word i → word % 2 ^ 16 ≡ first → length_of first ≡ Wide
+wide_length word first i w e = ap length_of (sym e) ∙ (spellings_are_wide word i w).1
 
 pub not_both : (l : Length) → l ≡ Short → l ≡ Wide → ⊥
 not_both l a b = cc
@@ -105,7 +105,7 @@ same_length h k e =
     rw (low, middle) refl
 
 -- the first halfword tells the length of the word that begins with it
-pub wide_first : SpellingsAreWide → (bs : List ℕ) (n first : ℕ) (i : Instr) → first ≡ from_le_bytes w16 (first_two bs) → SpellsWide (take n bs) i n → length_of first ≡ Wide
-wide_first law bs n first i e s =
+pub wide_first : (bs : List ℕ) (n first : ℕ) (i : Instr) → first ≡ from_le_bytes w16 (first_two bs) → SpellsWide (take n bs) i n → length_of first ≡ Wide
+wide_first bs n first i e s =
     let word = from_le_bytes w32 (first_four bs) in
-    same_length first (word % 2 ^ 16) (omega arith) ∙ (law word i (wide_at bs n i s)).1
+    same_length first (word % 2 ^ 16) (omega arith) ∙ (spellings_are_wide word i (wide_at bs n i s)).1

@@ -6,7 +6,6 @@ use Rattle.rv_word.specs.declared.instr.Instr.{Instr}
 use Rattle.rv_word.specs.declared.length.Length.{Length}
 use Rattle.rv_word.specs.declared.length.Length.TheVariants as lengths
 use Rattle.rv_word.specs.Lengths.{length_of}
-use Rattle.rv_word.specs.Laws.{SpellingsAreWide, WordIsDecided}
 use Rattle.rv_word.specs.Spelling.{IsWordOf}
 use Rattle.rv_comp.specs.Table.{allowed, expansion}
 use Rattle.rv_comp.specs.Halfwords.{halfword_of, IsHalfwordOf, IsShortSpelling}
@@ -21,6 +20,7 @@ use Rattle.rv_comp.proofs.Exact.{decoded_only}
 use Rattle.rv_comp.proofs.Bytes.{first_two, first_four, none_some}
 use Rattle.rv_comp.proofs.Spellings.{some_one}
 use Rattle.rv_comp.proofs.Fronts.{halfword_front, word_front, longer_front, cut_front}
+use Rattle.rv_word.proofs.Facts.{word_is_decided}
 
 -- ---- what a halfword or a word alone spells
 
@@ -56,24 +56,24 @@ abbrev Found : List ℕ → Type 0
 Found bs = (front : Front) × IsFront bs front
 
 -- by the length that the first halfword tells
-by_first : SpellingsAreWide → WordIsDecided → (bs : List ℕ) (l : Length) → 2 ≤ length bs → length_of (from_le_bytes w16 (first_two bs)) ≡ l → Found bs
-by_first law decided bs lengths.Short long is =
+by_first : (bs : List ℕ) (l : Length) → 2 ≤ length bs → length_of (from_le_bytes w16 (first_two bs)) ≡ l → Found bs
+by_first bs lengths.Short long is =
     let first = from_le_bytes w16 (first_two bs) in
     let only = only_front (IsShortSpelling first) 2 (form_decides first (decoded first) refl) in
-    (only.0, halfword_front law bs first only.0 long refl is only.1)
-by_first law decided bs lengths.Wide long is =
+    (only.0, halfword_front bs first only.0 long refl is only.1)
+by_first bs lengths.Wide long is =
     let first = from_le_bytes w16 (first_two bs) in
     let word = from_le_bytes w32 (first_four bs) in
-    let only = only_front (IsWordOf word) 4 (decided word) in
+    let only = only_front (IsWordOf word) 4 (word_is_decided word) in
     elim (cases_lt (length bs) 4) [
       | inl few ↦ (Short, cut_front bs first long few refl is)
       | inr enough ↦ (only.0, word_front bs first word only.0 enough refl refl is only.1)
     ]
-by_first law decided bs lengths.Longer long is =
-    (Bad, longer_front law bs (from_le_bytes w16 (first_two bs)) long refl is)
+by_first bs lengths.Longer long is =
+    (Bad, longer_front bs (from_le_bytes w16 (first_two bs)) long refl is)
 
-pub some_front : SpellingsAreWide → WordIsDecided → SomeFront
-some_front law decided bs = elim (cases_lt (length bs) 2) [
+pub some_front : SomeFront
+some_front bs = elim (cases_lt (length bs) 2) [
   | inl few ↦ (Short, inl few)
-  | inr long ↦ by_first law decided bs (length_of (from_le_bytes w16 (first_two bs))) long refl
+  | inr long ↦ by_first bs (length_of (from_le_bytes w16 (first_two bs))) long refl
 ]

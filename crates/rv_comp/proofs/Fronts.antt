@@ -6,15 +6,15 @@ use Rattle.std.specs.Int.{w16, w32, from_le_bytes}
 use Rattle.rv_word.specs.declared.instr.Instr.{Instr}
 use Rattle.rv_word.specs.declared.length.Length.TheVariants as lengths
 use Rattle.rv_word.specs.Lengths.{length_of}
-use Rattle.rv_word.specs.Laws.{SpellingsAreWide}
 use Rattle.rv_word.specs.Spelling.{IsWordOf}
 use Rattle.rv_comp.specs.Halfwords.{IsShortSpelling}
 use Rattle.rv_comp.specs.Fronts.{Spells, IsCutShort, SpellsNothing, IsFront}
 use Rattle.rv_comp.specs.private.Fronts.{IsOnlyFront}
-use Rattle.rv_comp.specs.Laws.{OneSpelling, OneFront}
+use Rattle.rv_comp.specs.Laws.{OneFront}
 use Rattle.rv_comp.specs.declared.front.Front.{Front}
 use Rattle.rv_comp.specs.declared.front.Front.TheVariants.{Read, Short, Bad}
 use Rattle.rv_comp.proofs.Bytes.{first_two, first_four, two_bytes, four_bytes, short_long, wide_long, short_at, wide_at, wide_first, short_length, not_both, not_short_longer, not_wide_longer}
+use Rattle.rv_comp.proofs.Spellings.{spelled_one}
 
 -- ---- one front
 
@@ -33,16 +33,16 @@ take_at bs m n k a b = get_or-take m bs k 0 a ∙ sym (get_or-take n bs k 0 b)
 same_read : (i j : Instr) (m n : ℕ) → (i ≡ j) × (m ≡ n) → Read i m ≡ Read j n
 same_read i j m n (same, size) = cc
 
-pub front_one : OneSpelling → OneFront
-front_one one bs (Read i m) (Read j n) s t = same_read i j m n (one (take m bs) (take n bs) i j m n s t (take_at bs m n))
-front_one one bs (Read i m) Short s t = absurd (whole bs i m s t)
-front_one one bs (Read i m) Bad s t = absurd (t.unspelled i m s)
-front_one one bs Short (Read j n) s t = absurd (whole bs j n t s)
-front_one one bs Short Short s t = refl
-front_one one bs Short Bad s t = absurd (t.enough s)
-front_one one bs Bad (Read j n) s t = absurd (s.unspelled j n t)
-front_one one bs Bad Short s t = absurd (s.enough t)
-front_one one bs Bad Bad s t = refl
+pub front_one : OneFront
+front_one bs (Read i m) (Read j n) s t = same_read i j m n (spelled_one (take m bs) (take n bs) i j m n s t (take_at bs m n))
+front_one bs (Read i m) Short s t = absurd (whole bs i m s t)
+front_one bs (Read i m) Bad s t = absurd (t.unspelled i m s)
+front_one bs Short (Read j n) s t = absurd (whole bs j n t s)
+front_one bs Short Short s t = refl
+front_one bs Short Bad s t = absurd (t.enough s)
+front_one bs Bad (Read j n) s t = absurd (s.unspelled j n t)
+front_one bs Bad Short s t = absurd (s.enough t)
+front_one bs Bad Bad s t = refl
 
 -- ---- the front by its first halfword
 
@@ -51,16 +51,16 @@ uncut : (bs : List ℕ) (first : ℕ) → 2 ≤ length bs → first ≡ from_le_
 uncut bs first long e h (inl few) = omega arith
 uncut bs first long e h (inr cut) = h cut.0 (ap length_of (e ∙ ap (from_le_bytes w16) (sym (two_bytes bs long))) ∙ cut.1)
 
-pub halfword_front : SpellingsAreWide → (bs : List ℕ) (first : ℕ) (front : Front) → 2 ≤ length bs → first ≡ from_le_bytes w16 (first_two bs) → length_of first ≡ lengths.Short → IsOnlyFront (λ i. IsShortSpelling first i) 2 front → IsFront bs front
-halfword_front law bs first (Read i n) long e is (size, spelled) =
+pub halfword_front : (bs : List ℕ) (first : ℕ) (front : Front) → 2 ≤ length bs → first ≡ from_le_bytes w16 (first_two bs) → length_of first ≡ lengths.Short → IsOnlyFront (λ i. IsShortSpelling first i) 2 front → IsFront bs front
+halfword_front bs first (Read i n) long e is (size, spelled) =
     let t : take n bs ≡ first_two bs = ap (λ (k : ℕ). take k bs) size ∙ two_bytes bs long in
     inl (record {
       size = size;
       all = ap length t;
       spelled = subst (λ (h : ℕ). IsShortSpelling h i) (e ∙ ap (from_le_bytes w16) (sym t)) spelled;
     })
-halfword_front law bs first Short long e is never = absurd never
-halfword_front law bs first Bad long e is none =
+halfword_front bs first Short long e is never = absurd never
+halfword_front bs first Bad long e is none =
     record {
       enough = uncut bs first long e (λ few wide. not_both _ is wide);
       unspelled = unspelled;
@@ -68,7 +68,7 @@ halfword_front law bs first Bad long e is none =
   where
     unspelled : (i : Instr) (n : ℕ) → Spells (take n bs) i n → ⊥
     unspelled i n (inl s) = none i (short_at bs n first i long e s)
-    unspelled i n (inr s) = not_both _ is (wide_first law bs n first i e s)
+    unspelled i n (inr s) = not_both _ is (wide_first bs n first i e s)
 
 pub word_front : (bs : List ℕ) (first word : ℕ) (front : Front) → 4 ≤ length bs → first ≡ from_le_bytes w16 (first_two bs) → word ≡ from_le_bytes w32 (first_four bs) → length_of first ≡ lengths.Wide → IsOnlyFront (λ i. IsWordOf word i) 4 front → IsFront bs front
 word_front bs first word (Read i n) long e f is (size, spelled) =
@@ -89,8 +89,8 @@ word_front bs first word Bad long e f is none =
     unspelled i n (inl s) = not_both _ (short_length first i (short_at bs n first i (omega arith) e s)) is
     unspelled i n (inr s) = none i (subst (λ (w : ℕ). IsWordOf w i) (sym f) (wide_at bs n i s))
 
-pub longer_front : SpellingsAreWide → (bs : List ℕ) (first : ℕ) → 2 ≤ length bs → first ≡ from_le_bytes w16 (first_two bs) → length_of first ≡ lengths.Longer → SpellsNothing bs
-longer_front law bs first long e is =
+pub longer_front : (bs : List ℕ) (first : ℕ) → 2 ≤ length bs → first ≡ from_le_bytes w16 (first_two bs) → length_of first ≡ lengths.Longer → SpellsNothing bs
+longer_front bs first long e is =
     record {
       enough = uncut bs first long e (λ few wide. not_wide_longer _ wide is);
       unspelled = unspelled;
@@ -98,7 +98,7 @@ longer_front law bs first long e is =
   where
     unspelled : (i : Instr) (n : ℕ) → Spells (take n bs) i n → ⊥
     unspelled i n (inl s) = not_short_longer _ (short_length first i (short_at bs n first i long e s)) is
-    unspelled i n (inr s) = not_wide_longer _ (wide_first law bs n first i e s) is
+    unspelled i n (inr s) = not_wide_longer _ (wide_first bs n first i e s) is
 
 pub cut_front : (bs : List ℕ) (first : ℕ) → 2 ≤ length bs → length bs < 4 → first ≡ from_le_bytes w16 (first_two bs) → length_of first ≡ lengths.Wide → IsCutShort bs
 cut_front bs first long few e is = inr (few, ap length_of (ap (from_le_bytes w16) (two_bytes bs long) ∙ sym e) ∙ is)

@@ -12,3 +12,4 @@ pub mod Rows
 pub mod Same
 pub mod Spellings
 pub mod Whole
+pub mod Facts

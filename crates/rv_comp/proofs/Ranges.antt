@@ -66,10 +66,3 @@ at_signed n m s lt e two (negsuc k) h =
   where
     total : (m q r k n : ℕ) → (q + r) * m ≡ n → m * q ≡ k → m * r + k ≡ n
     total m q r k n e w = omega arith
-
-pub two_halves : (n : ℕ) → 0 < n → 2 * 2 ^ (n - 1) ≡ 2 ^ n
-two_halves zero h = absurd (omega arith)
-two_halves (suc n) h = let e : suc n - 1 ≡ n = omega arith in rw (e, pow-suc) (omega arith)
-
-pub half_small : (n : ℕ) → n ≤ 16 → 2 ^ (n - 1) ≤ 32768
-half_small n h = let l : n - 1 ≤ 15 = omega arith in pow_mono l

@@ -4,8 +4,6 @@ use Rattle.std.specs.Prelude.{slice_index}
 use Rattle.std.specs.Int.{w16, w32, from_le_bytes}
 use Rattle.rv_word.specs.declared.instr.Instr.{Instr}
 use Rattle.rv_word.specs.declared.instr.Instr.TheVariants.{Ecall}
-use Rattle.rv_word.specs.Laws.{SpellingsAreWide}
-use Rattle.rv_word.specs.Laws as words
 use Rattle.rv_word.specs.Spelling.{IsWordOf}
 use Rattle.rv_comp.specs.Table.{expansion}
 use Rattle.rv_comp.specs.Halfwords.{IsShortSpelling}
@@ -15,6 +13,7 @@ use Rattle.rv_comp.specs.declared.form.Form16.{Form16}
 use Rattle.rv_comp.specs.declared.form.Form16.TheVariants.{CEbreak}
 use Rattle.rv_comp.proofs.Exact.{decoded_only}
 use Rattle.rv_comp.proofs.Bytes.{short_length, wide_length, same_length, not_both}
+use Rattle.rv_word.proofs.Facts.{one_spelling}
 
 pub some_one : (o : Option Form16) (f g : Form16) → o ≡ Some f → o ≡ Some g → f ≡ g
 some_one o f g a b = cc
@@ -27,8 +26,8 @@ short_one h k i j s t e =
     let same = some_one (decoded h) s.form t.form f (ap decoded e ∙ g) in
     sym s.expands ∙ ap expansion same ∙ t.expands
 
-word_one : words.OneSpelling → (v w : ℕ) (i j : Instr) → IsWordOf v i → IsWordOf w j → v ≡ w → i ≡ j
-word_one law v w i j s t e = law v i j s (subst (λ (x : ℕ). IsWordOf x j) (sym e) t)
+word_one : (v w : ℕ) (i j : Instr) → IsWordOf v i → IsWordOf w j → v ≡ w → i ≡ j
+word_one v w i j s t e = one_spelling v i j s (subst (λ (x : ℕ). IsWordOf x j) (sym e) t)
 
 abbrev AgreeBelow : ℕ → List ℕ → List ℕ → Type 0
 AgreeBelow n xs ys = (k : ℕ) → k < n → slice_index xs k ≡ slice_index ys k
@@ -48,24 +47,24 @@ same_word xs ys same =
     omega arith
 
 -- the first byte tells the length
-apart : SpellingsAreWide → (xs ys : List ℕ) (i j : Instr) → IsShortSpelling (from_le_bytes w16 xs) i → IsWordOf (from_le_bytes w32 ys) j → slice_index xs 0 ≡ slice_index ys 0 → ⊥
-apart law xs ys i j s t e =
+apart : (xs ys : List ℕ) (i j : Instr) → IsShortSpelling (from_le_bytes w16 xs) i → IsWordOf (from_le_bytes w32 ys) j → slice_index xs 0 ≡ slice_index ys 0 → ⊥
+apart xs ys i j s t e =
     let short = short_length (from_le_bytes w16 xs) i s in
-    let wide = wide_length law (from_le_bytes w32 ys) (from_le_bytes w32 ys % 2 ^ 16) j t refl in
+    let wide = wide_length (from_le_bytes w32 ys) (from_le_bytes w32 ys % 2 ^ 16) j t refl in
     let same = same_length (from_le_bytes w16 xs) (from_le_bytes w32 ys % 2 ^ 16) (omega arith) in
     not_both _ short (same ∙ wide)
 
-pub spelled_one : SpellingsAreWide → words.OneSpelling → OneSpelling
-spelled_one law one xs ys i j m n (inl s) (inl t) same =
+pub spelled_one : OneSpelling
+spelled_one xs ys i j m n (inl s) (inl t) same =
     let agree : AgreeBelow 2 xs ys = λ k h. same k (let size = s.size in omega arith) (let size = t.size in omega arith) in
     (short_one _ _ i j s.spelled t.spelled (same_halfword xs ys agree), s.size ∙ sym t.size)
-spelled_one law one xs ys i j m n (inl s) (inr t) same =
-    absurd (apart law xs ys i j s.spelled t.spelled (same 0 (let size = s.size in omega arith) (let size = t.size in omega arith)))
-spelled_one law one xs ys i j m n (inr s) (inl t) same =
-    absurd (apart law ys xs j i t.spelled s.spelled (sym (same 0 (let size = s.size in omega arith) (let size = t.size in omega arith))))
-spelled_one law one xs ys i j m n (inr s) (inr t) same =
+spelled_one xs ys i j m n (inl s) (inr t) same =
+    absurd (apart xs ys i j s.spelled t.spelled (same 0 (let size = s.size in omega arith) (let size = t.size in omega arith)))
+spelled_one xs ys i j m n (inr s) (inl t) same =
+    absurd (apart ys xs j i t.spelled s.spelled (sym (same 0 (let size = s.size in omega arith) (let size = t.size in omega arith))))
+spelled_one xs ys i j m n (inr s) (inr t) same =
     let agree : AgreeBelow 4 xs ys = λ k h. same k (let size = s.size in omega arith) (let size = t.size in omega arith) in
-    (word_one one _ _ i j s.spelled t.spelled (same_word xs ys agree), s.size ∙ sym t.size)
+    (word_one _ _ i j s.spelled t.spelled (same_word xs ys agree), s.size ∙ sym t.size)
 
 pub spelled_lengths : TwoLengths
 spelled_lengths bytes i n (inl s) = inl s.size

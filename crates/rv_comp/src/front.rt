@@ -6,8 +6,6 @@ ghost use Rattle.rv_comp.specs.private.Fronts.{IsOnlyFront};
 ghost use Rattle.rv_word.specs.Spelling.{IsWordOf};
 
 use crate::decode::decode16;
-use crate::laws::one_front;
-use rv_word::laws::spellings_are_wide;
 use rv_word::{Instr, Length, decode32, size_of_first};
 
 /// What stands at the front of a list of bytes.
@@ -44,9 +42,6 @@ fn read_cut_front(bytes: &[u8]) -> Front
     requires { length bytes.now < 4 }
     ensures { IsFront bytes.now result }
 {
-    // The law that the contract rests on: the call does nothing.
-    spellings_are_wide();
-
     if bytes.len() < 2 {
         return Front::Short;
     }
@@ -63,10 +58,6 @@ pub fn read_front(bytes: &[u8]) -> Front
     ensures front { IsFront bytes.now result }
     ensures only { (front : Front) → IsFront bytes.now front → result ≡ front }
 {
-    // The laws that the contract rests on: these calls do nothing.
-    spellings_are_wide();
-    one_front();
-
     if bytes.len() < 4 {
         return read_cut_front(bytes);
     }

@@ -1,14 +1,11 @@
-//! What holds of every spelling. A caller calls one to have its statement at hand.
+//! What holds of every spelling. Each law is a lemma too, in proofs/Facts.
 ghost use Rattle.rv_comp.specs.Laws.{OneSpelling, TwoLengths, EcallIsWide, SpelledInRange, OneFront, SomeFront, OneFirstForm, SomeFirstForm, HalfwordsAreOutlined};
 
 /// Two lists of bytes that agree as far as both spellings go spell one instruction, with one
 /// length.
 pub fn one_spelling()
     ensures { OneSpelling }
-{
-    rv_word::laws::one_spelling();
-    rv_word::laws::spellings_are_wide();
-}
+{}
 
 /// An instruction has two bytes or four.
 pub fn two_lengths()
@@ -29,18 +26,13 @@ pub fn spelled_in_range()
 #[tactic(auto, using(crate::proofs::Fronts::front_one))]
 pub fn one_front()
     ensures { OneFront }
-{
-    one_spelling();
-}
+{}
 
 /// Each list of bytes has a front.
 #[tactic(auto, using(crate::proofs::Found::some_front))]
 pub fn some_front()
     ensures { SomeFront }
-{
-    rv_word::laws::spellings_are_wide();
-    rv_word::laws::word_is_decided();
-}
+{}
 
 /// An instruction has one first form at most.
 #[tactic(auto, using(crate::proofs::Firsts::first_one))]

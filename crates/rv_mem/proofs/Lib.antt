@@ -5,3 +5,4 @@ pub mod PageRuns
 pub mod PageWrites
 pub mod Paging
 pub mod Ranges
+pub mod Facts

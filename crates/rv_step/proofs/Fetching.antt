@@ -6,15 +6,15 @@ use Rattle.std.specs.Option.{option_map}
 use Rattle.rv_word.specs.declared.instr.Instr.{Instr}
 use Rattle.rv_word.specs.declared.length.Length.TheVariants.{Wide}
 use Rattle.rv_word.specs.Lengths.{length_of}
-use Rattle.rv_word.specs.Laws.{SpellingsAreWide}
 use Rattle.rv_comp.specs.declared.front.Front.{Front}
 use Rattle.rv_comp.specs.declared.front.Front.TheVariants.{Read, Short, Bad}
 use Rattle.rv_comp.specs.Fronts.{Spells, SpellsNothing, IsCutShort, IsFront}
-use Rattle.rv_comp.specs.Laws.{TwoLengths}
 use Rattle.rv_mem.specs.Bytes.{Bytes, IsMemory, byte_at, address_after, addresses, in_front, number_of, loaded}
 use Rattle.rv_step.specs.State.{State}
 use Rattle.rv_step.specs.Step.{present_then, present_at, IsAtPc}
 use Rattle.rv_step.proofs.Standing.{from_front}
+use Rattle.rv_comp.proofs.Facts.{two_lengths}
+use Rattle.rv_word.proofs.Facts.{spellings_are_wide}
 
 -- the two bytes of a parcel
 abbrev pub parcel : ℕ → List ℕ
@@ -89,20 +89,20 @@ word_begins : (a b c d : ℕ) → a < 256 → b < 256 → from_le_bytes w32 (a �
 word_begins a b c d f g = omega arith
 
 -- four bytes that are spelled begin with a wide halfword
-wide_first : SpellingsAreWide → (a b : ℕ) (rest : List ℕ) (i : Instr) → a < 256 → b < 256 → Spells (take 4 (a ∷ b ∷ rest)) i 4 → length_of (from_le_bytes w16 (a ∷ b ∷ [])) ≡ Wide
-wide_first law a b rest i f g (inl s) = let e = s.size in absurd (omega arith)
-wide_first law a b [] i f g (inr s) = let e = s.all in absurd (omega arith)
-wide_first law a b (c ∷ []) i f g (inr s) = let e = s.all in absurd (omega arith)
-wide_first law a b (c ∷ d ∷ rest) i f g (inr s) =
-    ap length_of (sym (word_begins a b c d f g)) ∙ (law (from_le_bytes w32 (a ∷ b ∷ c ∷ d ∷ [])) i s.spelled).1
+wide_first : (a b : ℕ) (rest : List ℕ) (i : Instr) → a < 256 → b < 256 → Spells (take 4 (a ∷ b ∷ rest)) i 4 → length_of (from_le_bytes w16 (a ∷ b ∷ [])) ≡ Wide
+wide_first a b rest i f g (inl s) = let e = s.size in absurd (omega arith)
+wide_first a b [] i f g (inr s) = let e = s.all in absurd (omega arith)
+wide_first a b (c ∷ []) i f g (inr s) = let e = s.all in absurd (omega arith)
+wide_first a b (c ∷ d ∷ rest) i f g (inr s) =
+    ap length_of (sym (word_begins a b c d f g)) ∙ (spellings_are_wide (from_le_bytes w32 (a ∷ b ∷ c ∷ d ∷ [])) i s.spelled).1
 
 two_read : (a b : ℕ) (rest : List ℕ) (i : Instr) (n : ℕ) → (n ≡ 2) ⊎ (n ≡ 4) → Spells (take n (a ∷ b ∷ [])) i n → Spells (take n (a ∷ b ∷ rest)) i n
 two_read a b rest i n (inl e) spelled =
     subst (λ (k : ℕ). Spells (take k (a ∷ b ∷ rest)) i k) (sym e) (subst (λ (k : ℕ). Spells (take k (a ∷ b ∷ [])) i k) e spelled)
 two_read a b rest i n (inr e) spelled = absurd (not_four a b i (subst (λ (k : ℕ). Spells (take k (a ∷ b ∷ [])) i k) e spelled))
 
-two_bad : SpellingsAreWide → TwoLengths → (a b : ℕ) (rest : List ℕ) → a < 256 → b < 256 → SpellsNothing (a ∷ b ∷ []) → SpellsNothing (a ∷ b ∷ rest)
-two_bad law lengths a b rest f g none = record { enough = enough; unspelled = λ i n spelled. unspelled i n (lengths _ i n spelled) spelled }
+two_bad : (a b : ℕ) (rest : List ℕ) → a < 256 → b < 256 → SpellsNothing (a ∷ b ∷ []) → SpellsNothing (a ∷ b ∷ rest)
+two_bad a b rest f g none = record { enough = enough; unspelled = λ i n spelled. unspelled i n (two_lengths _ i n spelled) spelled }
   where
     enough : IsCutShort (a ∷ b ∷ rest) → ⊥
     enough (inl less) = omega arith
@@ -111,13 +111,13 @@ two_bad law lengths a b rest f g none = record { enough = enough; unspelled = λ
     unspelled : (i : Instr) (n : ℕ) → (n ≡ 2) ⊎ (n ≡ 4) → Spells (take n (a ∷ b ∷ rest)) i n → ⊥
     unspelled i n (inl e) spelled = none.unspelled i 2 (subst (λ (k : ℕ). Spells (take k (a ∷ b ∷ rest)) i k) e spelled)
     unspelled i n (inr e) spelled =
-        none.enough (inr (omega arith, wide_first law a b rest i f g (subst (λ (k : ℕ). Spells (take k (a ∷ b ∷ rest)) i k) e spelled)))
+        none.enough (inr (omega arith, wide_first a b rest i f g (subst (λ (k : ℕ). Spells (take k (a ∷ b ∷ rest)) i k) e spelled)))
 
 -- the front of two bytes, where they are not cut short, is that of all that begin with them
-two_tell : SpellingsAreWide → TwoLengths → (a b : ℕ) (rest : List ℕ) (front : Front) → a < 256 → b < 256 → IsFront (a ∷ b ∷ []) front → (front ≡ Short → ⊥) → IsFront (a ∷ b ∷ rest) front
-two_tell law lengths a b rest (Read i n) f g front asks = two_read a b rest i n (lengths (take n (a ∷ b ∷ [])) i n front) front
-two_tell law lengths a b rest Short f g front asks = absurd (asks refl)
-two_tell law lengths a b rest Bad f g front asks = two_bad law lengths a b rest f g front
+two_tell : (a b : ℕ) (rest : List ℕ) (front : Front) → a < 256 → b < 256 → IsFront (a ∷ b ∷ []) front → (front ≡ Short → ⊥) → IsFront (a ∷ b ∷ rest) front
+two_tell a b rest (Read i n) f g front asks = two_read a b rest i n (two_lengths (take n (a ∷ b ∷ [])) i n front) front
+two_tell a b rest Short f g front asks = absurd (asks refl)
+two_tell a b rest Bad f g front asks = two_bad a b rest f g front
 
 still_short : (a b : ℕ) (rest : List ℕ) → length rest < 2 → IsCutShort (a ∷ b ∷ []) → IsCutShort (a ∷ b ∷ rest)
 still_short a b rest less (inl none) = absurd (omega arith)
@@ -130,11 +130,11 @@ pub no_parcel : (s : State) → None ≡ loaded s.memory s.hart.pc 2 → IsAtPc 
 no_parcel s e = inl (few _ _ _ e)
 
 -- the first parcel tells all
-pub told : SpellingsAreWide → TwoLengths → (s : State) (low : ℕ) (f : Front) → IsMemory s.memory → Some low ≡ loaded s.memory s.hart.pc 2 → IsFront (parcel low) f → (f ≡ Short → ⊥) → IsAtPc s f
-told law lengths s low f is e front asks =
+pub told : (s : State) (low : ℕ) (f : Front) → IsMemory s.memory → Some low ≡ loaded s.memory s.hart.pc 2 → IsFront (parcel low) f → (f ≡ Short → ⊥) → IsAtPc s f
+told s low f is e front asks =
     let begins = first_parcel s.memory s.hart.pc low (has_parcel s.memory s.hart.pc low is e) in
-    from_front lengths s f (subst (λ (bs : List ℕ). IsFront bs f) (sym begins)
-    (two_tell law lengths (low % 256) (low / 256 % 256) (second s.memory s.hart.pc) f (omega arith) (omega arith) front asks))
+    from_front s f (subst (λ (bs : List ℕ). IsFront bs f) (sym begins)
+    (two_tell (low % 256) (low / 256 % 256) (second s.memory s.hart.pc) f (omega arith) (omega arith) front asks))
 
 -- the second one is missing
 pub cut_short : (s : State) (low : ℕ) (f : Front) → IsMemory s.memory → Some low ≡ loaded s.memory s.hart.pc 2 → f ≡ Short → IsFront (parcel low) f
@@ -145,8 +145,8 @@ cut_short s low f is e short front missing =
     (still_short (low % 256) (low / 256 % 256) (second s.memory s.hart.pc) (few _ _ [] (second_none s.memory s.hart.pc missing)) (subst (λ (t : Front). IsFront (parcel low) t) short front))
 
 -- both are there
-pub both : TwoLengths → (s : State) (low high : ℕ) (f : Front) → IsMemory s.memory → Some low ≡ loaded s.memory s.hart.pc 2 → Some high ≡ loaded s.memory (address_after s.hart.pc 2) 2
+pub both : (s : State) (low high : ℕ) (f : Front) → IsMemory s.memory → Some low ≡ loaded s.memory s.hart.pc 2 → Some high ≡ loaded s.memory (address_after s.hart.pc 2) 2
     → IsFront (low % 256 ∷ low / 256 % 256 ∷ parcel high) f → IsAtPc s f
-both lengths s low high f is e g front =
+both s low high f is e g front =
     let all = two_parcels s.memory s.hart.pc low high (has_parcel s.memory s.hart.pc low is e) (has_parcel s.memory (address_after s.hart.pc 2) high is g) in
-    from_front lengths s f (subst (λ (bs : List ℕ). IsFront bs f) (sym all) front)
+    from_front s f (subst (λ (bs : List ℕ). IsFront bs f) (sym all) front)

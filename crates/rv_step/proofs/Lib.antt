@@ -10,3 +10,4 @@ pub mod Registers
 pub mod Standing
 pub mod Steps
 pub mod Pairs
+pub mod Facts

@@ -9,10 +9,11 @@ use Rattle.rv_word.specs.Numbers.{offset_by}
 use Rattle.rv_mem.specs.Bytes.{Bytes, bytes_at, addresses, loaded}
 use Rattle.rv_step.specs.declared.outcome.Outcome.TheVariants.{Trap}
 use Rattle.rv_step.specs.declared.outcome.Cause.TheVariants as cause
-use Rattle.rv_step.specs.Laws.{StepIsEffect, OtherRegistersStay}
+use Rattle.rv_step.specs.Laws.{OtherRegistersStay}
 use Rattle.rv_step.specs.State.{Hart, register, with_register, with_pc, past}
 use Rattle.rv_step.specs.Step.{Stepped, next, unchanged, after_load, effect}
 use Rattle.rv_step.specs.Values.{load_size, store_size, is_taken}
+use Rattle.rv_step.proofs.Steps.{effect_of}
 
 chosen : (b : Bool) (l : List ℕ) (rd v x : ℕ) → cond b None (Some rd) ≢ Some x → get_or (cond b l (set l rd v)) x 0 ≡ get_or l x 0
 chosen true l rd v x other = refl
@@ -45,6 +46,6 @@ effect_stays (Lui rd imm) n h m x other = wrote h rd _ x other
 effect_stays (Auipc rd imm) n h m x other = wrote h rd _ x other
 effect_stays _ n h m x other = refl
 
-pub other_registers : StepIsEffect → OtherRegistersStay
-other_registers law s i n r x st step other =
-    ap (λ (q : Stepped). register q.state.hart x) (law s i n r st step) ∙ effect_stays i n s.hart s.memory x other
+pub other_registers : OtherRegistersStay
+other_registers s i n r x st step other =
+    ap (λ (q : Stepped). register q.state.hart x) (effect_of s i n r st step) ∙ effect_stays i n s.hart s.memory x other

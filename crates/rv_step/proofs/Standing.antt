@@ -5,11 +5,11 @@ use Rattle.rv_word.specs.declared.instr.Instr.{Instr}
 use Rattle.rv_comp.specs.declared.front.Front.{Front}
 use Rattle.rv_comp.specs.declared.front.Front.TheVariants.{Read, Short, Bad}
 use Rattle.rv_comp.specs.Fronts.{Spells, IsFront}
-use Rattle.rv_comp.specs.Laws.{TwoLengths}
 use Rattle.rv_mem.specs.Bytes.{Bytes, byte_at, bytes_at, address_after, addresses, in_front}
 use Rattle.rv_step.specs.Laws.{AtPcIsFront}
 use Rattle.rv_step.specs.State.{State}
 use Rattle.rv_step.specs.Step.{Stands, present_then, present_at, bytes_at_pc, IsAtPc}
+use Rattle.rv_comp.proofs.Facts.{two_lengths}
 
 -- ---- runs of bytes
 
@@ -46,8 +46,8 @@ abbrev last_two : ℕ → List ℕ
 last_two pc = map (address_after pc) (range_with_len 2 2)
 
 -- the bytes from pc on spell what stands there
-spelled_at : TwoLengths → (s : State) (i : Instr) (n : ℕ) → Stands s i n → Spells (take n (bytes_at_pc s)) i n
-spelled_at lengths s i n st = subst (λ (bs : List ℕ). Spells bs i n) (sym (of (lengths st.bytes i n st.spelled))) st.spelled
+spelled_at : (s : State) (i : Instr) (n : ℕ) → Stands s i n → Spells (take n (bytes_at_pc s)) i n
+spelled_at s i n st = subst (λ (bs : List ℕ). Spells bs i n) (sym (of (two_lengths st.bytes i n st.spelled))) st.spelled
   where
     there : (k : ℕ) → n ≡ k → bytes_at s.memory (addresses s.hart.pc k) ≡ Some st.bytes
     there k e = ap (λ (j : ℕ). bytes_at s.memory (addresses s.hart.pc j)) (sym e) ∙ st.there
@@ -57,8 +57,8 @@ spelled_at lengths s i n st = subst (λ (bs : List ℕ). Spells bs i n) (sym (of
     of (inr e) = ap (λ (j : ℕ). take j (bytes_at_pc s)) e ∙ begins s.memory (addresses s.hart.pc 4) [] st.bytes (there 4 e)
 
 -- what the bytes from pc on spell stands there
-stands_at : TwoLengths → (s : State) (i : Instr) (n : ℕ) → Spells (take n (bytes_at_pc s)) i n → Stands s i n
-stands_at lengths s i n spelled = record { bytes = take n (bytes_at_pc s); there = of (lengths (take n (bytes_at_pc s)) i n spelled); spelled = spelled }
+stands_at : (s : State) (i : Instr) (n : ℕ) → Spells (take n (bytes_at_pc s)) i n → Stands s i n
+stands_at s i n spelled = record { bytes = take n (bytes_at_pc s); there = of (two_lengths (take n (bytes_at_pc s)) i n spelled); spelled = spelled }
   where
     enough : (k : ℕ) → n ≡ k → length (take k (bytes_at_pc s)) ≡ k
     enough k e = subst (λ (j : ℕ). length (take j (bytes_at_pc s)) ≡ j) e (spelled_size _ i n spelled)
@@ -72,15 +72,15 @@ stands_at lengths s i n spelled = record { bytes = take n (bytes_at_pc s); there
 
 -- ---- what is at pc
 
-to_front : TwoLengths → (s : State) (f : Front) → IsAtPc s f → IsFront (bytes_at_pc s) f
-to_front lengths s (Read i n) at = spelled_at lengths s i n at
-to_front lengths s Short at = at
-to_front lengths s Bad at = at
+to_front : (s : State) (f : Front) → IsAtPc s f → IsFront (bytes_at_pc s) f
+to_front s (Read i n) at = spelled_at s i n at
+to_front s Short at = at
+to_front s Bad at = at
 
-pub from_front : TwoLengths → (s : State) (f : Front) → IsFront (bytes_at_pc s) f → IsAtPc s f
-from_front lengths s (Read i n) front = stands_at lengths s i n front
-from_front lengths s Short front = front
-from_front lengths s Bad front = front
+pub from_front : (s : State) (f : Front) → IsFront (bytes_at_pc s) f → IsAtPc s f
+from_front s (Read i n) front = stands_at s i n front
+from_front s Short front = front
+from_front s Bad front = front
 
-pub at_pc_front : TwoLengths → AtPcIsFront
-at_pc_front lengths s f = (to_front lengths s f, from_front lengths s f)
+pub at_pc_front : AtPcIsFront
+at_pc_front s f = (to_front s f, from_front s f)

@@ -10,37 +10,38 @@ use Rattle.rv_word.specs.Spelling.{InRange}
 use Rattle.rv_word.specs.Numbers.{offset_by}
 use Rattle.rv_comp.specs.declared.front.Front.{Front}
 use Rattle.rv_comp.specs.declared.front.Front.TheVariants.{Read, Short, Bad}
-use Rattle.rv_comp.specs.Laws.{TwoLengths, SpelledInRange, OneFront, SomeFront}
 use Rattle.rv_mem.specs.Bytes.{Bytes, byte_at, bytes_at, addresses, number_of, loaded, stored}
-use Rattle.rv_mem.specs.Laws.{AddressesAreThese, ReadIsHeld, OthersStay, WriteKeepsMemory}
 use Rattle.rv_step.specs.declared.outcome.Outcome.TheVariants.{Next, Trap}
 use Rattle.rv_step.specs.declared.outcome.Cause.TheVariants as cause
 use Rattle.rv_step.specs.Access.{Accesses}
-use Rattle.rv_step.specs.Laws.{AtPcIsFront, OneStep, SomeStep, StepIsEffect, StepKeepsState, StoppedStays, OtherBytesStay, AccessedIsThere}
+use Rattle.rv_step.specs.Laws.{OneStep, SomeStep, StepIsEffect, StepKeepsState, StoppedStays, OtherBytesStay, AccessedIsThere}
 use Rattle.rv_step.specs.State.{Hart, State, IsHart, IsState, register, past}
 use Rattle.rv_step.specs.Step.{Stepped, next, unchanged, after_load, effect, bytes_at_pc, IsAtPc, after_front}
 use Rattle.rv_step.specs.Values.{register_op, load_size, store_size}
 use Rattle.rv_step.proofs.Harts.{pc_is, after_is, register_is, moved_is}
 use Rattle.rv_step.proofs.Memories.{stored_is, loaded_fits}
 use Rattle.rv_step.proofs.Numbers.{word_fits, offset_even, result_fits, extended_fits, branch_is_even, jump_is_even}
+use Rattle.rv_comp.proofs.Facts.{one_front, some_front, spelled_in_range, two_lengths}
+use Rattle.rv_mem.proofs.Facts.{addresses_are_these, others_stay, read_is_held}
+use Rattle.rv_step.proofs.Standing.{at_pc_front}
 
 -- ---- one step
 
-same_front : AtPcIsFront → OneFront → (s : State) (f g : Front) → IsAtPc s f → IsAtPc s g → f ≡ g
-same_front at one s f g a b = one (bytes_at_pc s) f g ((at s f).0 a) ((at s g).0 b)
+same_front : (s : State) (f g : Front) → IsAtPc s f → IsAtPc s g → f ≡ g
+same_front s f g a b = one_front (bytes_at_pc s) f g ((at_pc_front s f).0 a) ((at_pc_front s g).0 b)
 
-pub step_one : AtPcIsFront → OneFront → OneStep
-step_one at one s r q a b =
-    a.result ∙ ap (λ (f : Front). after_front f s.hart s.memory) (same_front at one s a.front b.front a.at_pc b.at_pc) ∙ sym b.result
+pub step_one : OneStep
+step_one s r q a b =
+    a.result ∙ ap (λ (f : Front). after_front f s.hart s.memory) (same_front s a.front b.front a.at_pc b.at_pc) ∙ sym b.result
 
-pub effect_of : AtPcIsFront → OneFront → StepIsEffect
-effect_of at one s i n r st step =
-    step.result ∙ ap (λ (f : Front). after_front f s.hart s.memory) (same_front at one s step.front (Read i n) step.at_pc st)
+pub effect_of : StepIsEffect
+effect_of s i n r st step =
+    step.result ∙ ap (λ (f : Front). after_front f s.hart s.memory) (same_front s step.front (Read i n) step.at_pc st)
 
-pub step_some : AtPcIsFront → SomeFront → SomeStep
-step_some at some s =
-    let here = some (bytes_at_pc s) in
-    (after_front here.0 s.hart s.memory, record { front = here.0; at_pc = (at s here.0).1 here.1; result = refl })
+pub step_some : SomeStep
+step_some s =
+    let here = some_front (bytes_at_pc s) in
+    (after_front here.0 s.hart s.memory, record { front = here.0; at_pc = (at_pc_front s here.0).1 here.1; result = refl })
 
 -- ---- a step that isn't done
 
@@ -75,18 +76,18 @@ load_keeps : (o : Option ℕ) (kind : LoadKind) (rd at n : ℕ) (h : Hart) (m : 
 load_keeps None kind rd at n h m = refl
 load_keeps (Some v) kind rd at n h m = refl
 
-store_keeps : OthersStay → (b : Bool) (at size v : ℕ) (k h : Hart) (m : Bytes) (q : ℕ) → (Contains (addresses at size) q → ⊥) → byte_at (cond b (next k (stored m at size v)) (unchanged (Trap cause.Store at) h m)).state.memory q ≡ byte_at m q
-store_keeps others true at size v k h m q apart = others m (addresses at size) _ q apart
-store_keeps others false at size v k h m q apart = refl
+store_keeps : (b : Bool) (at size v : ℕ) (k h : Hart) (m : Bytes) (q : ℕ) → (Contains (addresses at size) q → ⊥) → byte_at (cond b (next k (stored m at size v)) (unchanged (Trap cause.Store at) h m)).state.memory q ≡ byte_at m q
+store_keeps true at size v k h m q apart = others_stay m (addresses at size) _ q apart
+store_keeps false at size v k h m q apart = refl
 
-effect_keeps : OthersStay → (i : Instr) (n : ℕ) (h : Hart) (m : Bytes) (q : ℕ) → (Accesses i h q → ⊥) → byte_at (effect i n h m).state.memory q ≡ byte_at m q
-effect_keeps others (Load kind rd rs1 imm) n h m q apart = ap (λ (w : Bytes). byte_at w q) (load_keeps (loaded m (offset_by (register h rs1) imm) (load_size kind)) kind rd _ n h m)
-effect_keeps others (Store width rs1 rs2 imm) n h m q apart = store_keeps others (is_some (bytes_at m (addresses (offset_by (register h rs1) imm) (store_size width)))) _ (store_size width) _ _ h m q apart
-effect_keeps others _ n h m q apart = refl
+effect_keeps : (i : Instr) (n : ℕ) (h : Hart) (m : Bytes) (q : ℕ) → (Accesses i h q → ⊥) → byte_at (effect i n h m).state.memory q ≡ byte_at m q
+effect_keeps (Load kind rd rs1 imm) n h m q apart = ap (λ (w : Bytes). byte_at w q) (load_keeps (loaded m (offset_by (register h rs1) imm) (load_size kind)) kind rd _ n h m)
+effect_keeps (Store width rs1 rs2 imm) n h m q apart = store_keeps (is_some (bytes_at m (addresses (offset_by (register h rs1) imm) (store_size width)))) _ (store_size width) _ _ h m q apart
+effect_keeps _ n h m q apart = refl
 
-pub other_bytes : OthersStay → StepIsEffect → OtherBytesStay
-other_bytes others is s i n r q st step apart =
-    ap (λ (x : Stepped). byte_at x.state.memory q) (is s i n r st step) ∙ effect_keeps others i n s.hart s.memory q apart
+pub other_bytes : OtherBytesStay
+other_bytes s i n r q st step apart =
+    ap (λ (x : Stepped). byte_at x.state.memory q) (effect_of s i n r st step) ∙ effect_keeps i n s.hart s.memory q apart
 
 -- ---- what a step that is done found
 
@@ -98,23 +99,23 @@ store_found : (b : Bool) (at : ℕ) (k : Hart) (w : Bytes) (h : Hart) (m : Bytes
 store_found true at k w h m done = refl
 store_found false at k w h m done = absurd (cc)
 
-found : AddressesAreThese → ReadIsHeld → (m : Bytes) (at n : ℕ) (o : Option (List ℕ)) (q : ℕ) → bytes_at m (addresses at n) ≡ o → IsSome o → Contains (addresses at n) q → IsSome (byte_at m q)
-found these held m at n None q e some has = absurd (cc)
-found these held m at n (Some bs) q e some has =
-    let one = (these at n q).0 has in
-    ap (λ (a : ℕ). is_some (byte_at m a)) one.2 ∙ ap is_some (((held m at n bs).0 e).each one.0 one.1)
+found : (m : Bytes) (at n : ℕ) (o : Option (List ℕ)) (q : ℕ) → bytes_at m (addresses at n) ≡ o → IsSome o → Contains (addresses at n) q → IsSome (byte_at m q)
+found m at n None q e some has = absurd (cc)
+found m at n (Some bs) q e some has =
+    let one = (addresses_are_these at n q).0 has in
+    ap (λ (a : ℕ). is_some (byte_at m a)) one.2 ∙ ap is_some (((read_is_held m at n bs).0 e).each one.0 one.1)
 
-effect_found : AddressesAreThese → ReadIsHeld → (i : Instr) (n : ℕ) (h : Hart) (m : Bytes) (q : ℕ) → (effect i n h m).outcome ≡ Next → Accesses i h q → IsSome (byte_at m q)
-effect_found these held (Load kind rd rs1 imm) n h m q done has =
-    found these held m (offset_by (register h rs1) imm) (load_size kind) (bytes_at m (addresses (offset_by (register h rs1) imm) (load_size kind))) q refl (load_found _ kind rd _ n h m done) has
-effect_found these held (Store width rs1 rs2 imm) n h m q done has =
-    found these held m (offset_by (register h rs1) imm) (store_size width) (bytes_at m (addresses (offset_by (register h rs1) imm) (store_size width))) q refl (store_found _ _ _ _ h m done) has
-effect_found these held (Op op rd rs1 rs2) n h m q done (k, below, is) = absurd (omega arith)
-effect_found these held _ n h m q done (k, below, is) = absurd (omega arith)
+effect_found : (i : Instr) (n : ℕ) (h : Hart) (m : Bytes) (q : ℕ) → (effect i n h m).outcome ≡ Next → Accesses i h q → IsSome (byte_at m q)
+effect_found (Load kind rd rs1 imm) n h m q done has =
+    found m (offset_by (register h rs1) imm) (load_size kind) (bytes_at m (addresses (offset_by (register h rs1) imm) (load_size kind))) q refl (load_found _ kind rd _ n h m done) has
+effect_found (Store width rs1 rs2 imm) n h m q done has =
+    found m (offset_by (register h rs1) imm) (store_size width) (bytes_at m (addresses (offset_by (register h rs1) imm) (store_size width))) q refl (store_found _ _ _ _ h m done) has
+effect_found (Op op rd rs1 rs2) n h m q done (k, below, is) = absurd (omega arith)
+effect_found _ n h m q done (k, below, is) = absurd (omega arith)
 
-pub all_found : AddressesAreThese → ReadIsHeld → StepIsEffect → AccessedIsThere
-all_found these held is s i n r q st step done has =
-    effect_found these held i n s.hart s.memory q (ap (λ (x : Stepped). x.outcome) (sym (is s i n r st step)) ∙ done) has
+pub all_found : AccessedIsThere
+all_found s i n r q st step done has =
+    effect_found i n s.hart s.memory q (ap (λ (x : Stepped). x.outcome) (sym (effect_of s i n r st step)) ∙ done) has
 
 -- ---- a step keeps what holds of states
 
@@ -129,9 +130,9 @@ load_state (Some v) kind rd at n s is even fits = record {
   memory = is.memory;
 }
 
-store_state : WriteKeepsMemory → (b : Bool) (width : StoreWidth) (at v n : ℕ) (s : State) → IsState s → n % 2 ≡ 0 → IsState (cond b (next (past s.hart n) (stored s.memory at (store_size width) v)) (unchanged (Trap cause.Store at) s.hart s.memory)).state
-store_state kept true width at v n s is even = record { hart = after_is s.hart n is.hart even; memory = stored_is kept s.memory at v width is.memory }
-store_state kept false width at v n s is even = is
+store_state : (b : Bool) (width : StoreWidth) (at v n : ℕ) (s : State) → IsState s → n % 2 ≡ 0 → IsState (cond b (next (past s.hart n) (stored s.memory at (store_size width) v)) (unchanged (Trap cause.Store at) s.hart s.memory)).state
+store_state true width at v n s is even = record { hart = after_is s.hart n is.hart even; memory = stored_is s.memory at v width is.memory }
+store_state false width at v n s is even = is
 
 either : (b : Bool) (h k : Hart) → IsHart h → IsHart k → IsHart (cond b h k)
 either true h k f g = f
@@ -143,40 +144,40 @@ cleared_even n = omega arith
 cleared_fits : (n : ℕ) → n < 2 ^ 32 → n - n % 2 < 2 ^ 32
 cleared_fits n h = omega arith
 
-effect_state : ReadIsHeld → WriteKeepsMemory → (i : Instr) (n : ℕ) (s : State) → IsState s → InRange i → n % 2 ≡ 0 → IsState (effect i n s.hart s.memory).state
-effect_state held kept (Op op rd rs1 rs2) n s is range even = record {
+effect_state : (i : Instr) (n : ℕ) (s : State) → IsState s → InRange i → n % 2 ≡ 0 → IsState (effect i n s.hart s.memory).state
+effect_state (Op op rd rs1 rs2) n s is range even = record {
   hart = register_is _ rd _ (after_is s.hart n is.hart even) (result_fits op _ _ (is.hart.words rs1) (is.hart.words rs2));
   memory = is.memory;
 }
-effect_state held kept (OpImm op rd rs1 imm) n s is range even = record {
+effect_state (OpImm op rd rs1 imm) n s is range even = record {
   hart = register_is _ rd _ (after_is s.hart n is.hart even) (result_fits (register_op op) _ _ (is.hart.words rs1) (word_fits imm));
   memory = is.memory;
 }
-effect_state held kept (Load kind rd rs1 imm) n s is range even = load_state _ kind rd _ n s is even (λ v. loaded_fits held s.memory _ v kind is.memory)
-effect_state held kept (Store width rs1 rs2 imm) n s is range even = store_state kept _ width _ _ n s is even
-effect_state held kept (Branch cond rs1 rs2 offset) n s is range even = record {
+effect_state (Load kind rd rs1 imm) n s is range even = load_state _ kind rd _ n s is even (λ v. loaded_fits s.memory _ v kind is.memory)
+effect_state (Store width rs1 rs2 imm) n s is range even = store_state _ width _ _ n s is even
+effect_state (Branch cond rs1 rs2 offset) n s is range even = record {
   hart = either _ _ _ (pc_is s.hart _ is.hart (offset_even s.hart.pc offset is.hart.even (branch_is_even _ cond rs1 rs2 offset range refl)) (word_fits _)) (after_is s.hart n is.hart even);
   memory = is.memory;
 }
-effect_state held kept (Jal rd offset) n s is range even = record {
+effect_state (Jal rd offset) n s is range even = record {
   hart = moved_is s.hart rd _ _ is.hart (omega arith) (offset_even s.hart.pc offset is.hart.even (jump_is_even _ rd offset range refl)) (word_fits _);
   memory = is.memory;
 }
-effect_state held kept (Jalr rd rs1 imm) n s is range even = record {
+effect_state (Jalr rd rs1 imm) n s is range even = record {
   hart = moved_is s.hart rd _ _ is.hart (omega arith) (cleared_even (offset_by (register s.hart rs1) imm)) (cleared_fits (offset_by (register s.hart rs1) imm) (word_fits _));
   memory = is.memory;
 }
-effect_state held kept (Lui rd imm) n s is range even = record { hart = register_is _ rd _ (after_is s.hart n is.hart even) (omega arith); memory = is.memory }
-effect_state held kept (Auipc rd imm) n s is range even = record { hart = register_is _ rd _ (after_is s.hart n is.hart even) (omega arith); memory = is.memory }
-effect_state held kept (Fence imm rd rs1) n s is range even = record { hart = after_is s.hart n is.hart even; memory = is.memory }
-effect_state held kept Ecall n s is range even = is
-effect_state held kept Ebreak n s is range even = is
+effect_state (Lui rd imm) n s is range even = record { hart = register_is _ rd _ (after_is s.hart n is.hart even) (omega arith); memory = is.memory }
+effect_state (Auipc rd imm) n s is range even = record { hart = register_is _ rd _ (after_is s.hart n is.hart even) (omega arith); memory = is.memory }
+effect_state (Fence imm rd rs1) n s is range even = record { hart = after_is s.hart n is.hart even; memory = is.memory }
+effect_state Ecall n s is range even = is
+effect_state Ebreak n s is range even = is
 
-front_state : ReadIsHeld → WriteKeepsMemory → SpelledInRange → TwoLengths → (s : State) (f : Front) → IsState s → IsAtPc s f → IsState (after_front f s.hart s.memory).state
-front_state held kept range lengths s (Read i n) is st = effect_state held kept i n s is (range st.bytes i n st.spelled) (size_even n (lengths st.bytes i n st.spelled))
-front_state held kept range lengths s Short is st = is
-front_state held kept range lengths s Bad is st = is
+front_state : (s : State) (f : Front) → IsState s → IsAtPc s f → IsState (after_front f s.hart s.memory).state
+front_state s (Read i n) is st = effect_state i n s is (spelled_in_range st.bytes i n st.spelled) (size_even n (two_lengths st.bytes i n st.spelled))
+front_state s Short is st = is
+front_state s Bad is st = is
 
-pub keeps_state : ReadIsHeld → WriteKeepsMemory → SpelledInRange → TwoLengths → StepKeepsState
-keeps_state held kept range lengths s r is step =
-    subst (λ (x : Stepped). IsState x.state) (sym step.result) (front_state held kept range lengths s step.front is step.at_pc)
+pub keeps_state : StepKeepsState
+keeps_state s r is step =
+    subst (λ (x : Stepped). IsState x.state) (sym step.result) (front_state s step.front is step.at_pc)

@@ -3,19 +3,13 @@ ghost use Rattle.rv_step.specs.State.{State};
 ghost use Rattle.rv_step.specs.Step.{IsAtPc};
 
 use crate::cpu::Cpu;
-use rv_comp::laws::two_lengths;
 use rv_comp::{Front, read_front};
 use rv_mem::Memory;
-use rv_word::laws::spellings_are_wide;
 
 /// What is at pc. The second parcel is read where the first one asks for it alone.
 pub fn fetch<M: Memory>(cpu: &Cpu, memory: &M) -> Front
     ensures { IsAtPc (record { hart = cpu.now; memory = M.bytes memory.now }) result }
 {
-    // The laws that the contract rests on: these calls do nothing.
-    spellings_are_wide();
-    two_lengths();
-
     let pc = cpu.pc();
     let Some(low) = memory.fetch16(pc) else {
         return Front::Short;

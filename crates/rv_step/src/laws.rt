@@ -1,57 +1,35 @@
-//! What holds of every step. A call costs nothing.
+//! What holds of every step. Each law is a lemma too, in proofs/Facts.
 ghost use Rattle.rv_step.specs.Laws.{OneInstruction, AtPcIsFront, OneStep, SomeStep, StepIsEffect, StepKeepsState, StoppedStays, OtherBytesStay, OtherRegistersStay, AccessedIsThere, NoByteGoes, CallsAreEcalls, AgreeingStandsToo, AgreeingStepsAreSame, PairLeaves};
-
-use rv_comp::laws::{one_front, one_spelling, some_front, spelled_in_range, two_lengths};
-use rv_mem::laws::{addresses_are_these, others_stay, read_is_held, write_keeps_memory};
 
 /// One instruction at most stands at pc.
 pub fn one_instruction()
     ensures { OneInstruction }
-{
-    one_spelling();
-    read_is_held();
-}
+{}
 
 /// What is at pc is the front of the bytes from pc on.
 pub fn at_pc_is_front()
     ensures { AtPcIsFront }
-{
-    two_lengths();
-}
+{}
 
 /// From a state a step comes to one thing at most.
 pub fn one_step()
     ensures { OneStep }
-{
-    at_pc_is_front();
-    one_front();
-}
+{}
 
 /// From each state a step comes to something.
 pub fn some_step()
     ensures { SomeStep }
-{
-    at_pc_is_front();
-    some_front();
-}
+{}
 
 /// A step does what the instruction at pc does.
 pub fn step_is_effect()
     ensures { StepIsEffect }
-{
-    at_pc_is_front();
-    one_front();
-}
+{}
 
 /// A step leads from a state to a state.
 pub fn step_keeps_state()
     ensures { StepKeepsState }
-{
-    read_is_held();
-    write_keeps_memory();
-    spelled_in_range();
-    two_lengths();
-}
+{}
 
 /// A step that isn't done leaves the state as it was.
 pub fn stopped_stays()
@@ -61,26 +39,17 @@ pub fn stopped_stays()
 /// A step changes no byte that its instruction doesn't access.
 pub fn other_bytes_stay()
     ensures { OtherBytesStay }
-{
-    others_stay();
-    step_is_effect();
-}
+{}
 
 /// A step changes no register but the one that its instruction writes.
 pub fn other_registers_stay()
     ensures { OtherRegistersStay }
-{
-    step_is_effect();
-}
+{}
 
 /// A step that is done found every byte that its instruction accesses.
 pub fn accessed_is_there()
     ensures { AccessedIsThere }
-{
-    addresses_are_these();
-    read_is_held();
-    step_is_effect();
-}
+{}
 
 /// A step takes no byte away.
 pub fn no_byte_goes()
@@ -101,13 +70,9 @@ pub fn agreeing_stands_too()
 /// and on the bytes of its instruction and of that one's access.
 pub fn agreeing_steps_are_same()
     ensures { AgreeingStepsAreSame }
-{
-    step_is_effect();
-}
+{}
 
 /// What `and t, a, mask` and `or t, t, base` leave.
 pub fn pair_leaves()
     ensures { PairLeaves }
-{
-    spelled_in_range();
-}
+{}

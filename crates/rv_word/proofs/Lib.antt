@@ -7,3 +7,4 @@ mod OneSpelling
 mod Outlined
 mod Accessed
 mod Tables
+pub mod Facts

@@ -59,12 +59,6 @@ unfolding cut opcode_of
 no_imm p fits o none no_shift (OpImm op rd rs1 z) w = no_imm_op p op rd rs1 z (cut_is p fits (OpImm op rd rs1 z) w) none no_shift
 no_imm p fits o none no_shift i w = omega (arith, opcode_is p fits i w)
 
-pub no_system : (p : Parts) → Fits p → p.opcode ≡ 0b1110011 → word_of p ≢ 0x00000073 → word_of p ≢ 0x00100073 → SpellsNone (word_of p)
-unfolding opcode_of spelling
-no_system p fits o ecall ebreak Ecall w = ecall w.1
-no_system p fits o ecall ebreak Ebreak w = ebreak w.1
-no_system p fits o ecall ebreak i w = omega (arith, opcode_is p fits i w)
-
 pub no_opcode : (p : Parts) → Fits p → p.opcode ≢ 51 → p.opcode ≢ 19 → p.opcode ≢ 3 → p.opcode ≢ 35 → p.opcode ≢ 99 →
     p.opcode ≢ 111 → p.opcode ≢ 103 → p.opcode ≢ 55 → p.opcode ≢ 23 → p.opcode ≢ 15 → p.opcode ≢ 115 → SpellsNone (word_of p)
 unfolding opcode_of

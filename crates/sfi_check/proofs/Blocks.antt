@@ -41,24 +41,6 @@ adds_of t u v sandbox n found is a few =
 
 -- ---- places
 
-pub within_block : (b : BundlePlace) (x : Front) → IsWithin b → IsPlainFrom b 8 x → IsWithinBlock b
-within_block b Empty h from = absurd from.plain
-within_block b (AfterMagic kind) h from = absurd from.plain
-within_block b (AfterCount kind n ps) h from = absurd from.plain
-within_block b (InGates n ps f gs) h from = absurd from.plain
-within_block b (InCode n ps f gs code) h from =
-    let w = from.want in
-    let at : b.address ≡ f.code_base + length code = cc in
-    let base : b.code_base ≡ f.code_base = cc in
-    let size : b.code_size ≡ f.code_size = cc in
-    let last = from.plain.before_last in
-    record { base = h.base; end = omega arith; addresses = h.addresses }
-within_block b (InInit n ps f gs code init) h from = absurd from.plain
-within_block b (Whole ps) h from = absurd from.plain
-
-pub within_at : (b : BundlePlace) (i : ℕ) → IsWithinBlock b → i < 8 → IsWithin (bundle_at b i)
-within_at b i h less = record { base = omega (arith, h.base); end = omega (arith, h.end); addresses = h.addresses }
-
 -- a bundle of a block
 pub chunk_at : (count k : ℕ) (xs : List ℕ) → k < count → get_or (first_chunks 16 count xs) k [] ≡ block_bundle xs k
 chunk_at zero k xs h = absurd (omega arith)

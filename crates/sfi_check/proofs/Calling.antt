@@ -2,42 +2,42 @@
 use Rattle.std.proofs.Common.{◌≡◌, ℕ, zero, suc, ◌+◌, List, [], ◌∷◌, Option, Some, None, refl, sym, ap, ◌∙◌, subst, arith}
 use Rattle.std.specs.List.{All}
 use Rattle.rv_word.specs.declared.instr.Instr.TheVariants.{Ecall}
-use Rattle.rv_step.specs.Laws.{OneInstruction}
 use Rattle.rv_step.specs.State.{State}
 use Rattle.rv_step.specs.Step.{Stands}
 use Rattle.sfi_image.specs.Spelling.{Part}
 use Rattle.sfi_image.specs.Parts.{AreRight}
-use Rattle.sfi_image.specs.Laws.{WholeBundles}
 use Rattle.sfi_scan.specs.declared.finding.Finding.{Finding}
 use Rattle.sfi_scan.specs.Findings.{AreFindings, AreFindingsFrom}
 use Rattle.sfi_check.specs.Regions.{StackInData}
 use Rattle.sfi_check.specs.Runs.{Turn, IsRun, after_turn}
 use Rattle.sfi_check.specs.Stack.{after_turns, CallsWithStack, AllCallWithStack}
 use Rattle.sfi_check.specs.Places.{IsCleanPart, IsGood, IsGoodIf}
-use Rattle.sfi_check.specs.Laws.{TurnKeeps, EntryIsGood, CleanCallsWithStack, GoesOnSafely}
+use Rattle.sfi_check.specs.Laws.{CleanCallsWithStack, GoesOnSafely}
 use Rattle.sfi_check.specs.Verdict.{IsClean}
 use Rattle.sfi_check.proofs.Places.{nothing_before, present}
 use Rattle.sfi_check.proofs.Stacking.{is_of_pair, stack_here}
 use Rattle.sfi_check.proofs.Safe.{stays_safe, first_apart, others_right}
+use Rattle.rv_step.proofs.Facts.{one_instruction}
+use Rattle.sfi_check.proofs.TurnInvariant.{turn_keeps, entry_good}
 
-good_calls : WholeBundles → OneInstruction → (sandbox : ℕ) (p : Part) (s : State) (n : ℕ) → IsCleanPart sandbox p → IsGood sandbox p s → Stands s Ecall n → StackInData p s.hart.registers
-good_calls bundles law sandbox p s n clean good stands =
+good_calls : (sandbox : ℕ) (p : Part) (s : State) (n : ℕ) → IsCleanPart sandbox p → IsGood sandbox p s → Stands s Ecall n → StackInData p s.hart.registers
+good_calls sandbox p s n clean good stands =
     let at = good.place in
-    let e = law s Ecall at.here.instr n at.here.size stands (present sandbox p s.hart clean at bundles s.memory good.kept.code) in
+    let e = one_instruction s Ecall at.here.instr n at.here.size stands (present sandbox p s.hart clean at s.memory good.kept.code) in
     stack_here p at.earlier at.here at.later s.hart.registers (sym (ap is_of_pair e.0)) at.stack
 
-module _ (keeps : TurnKeeps) (sandbox : ℕ) (p : Part) (clean : IsCleanPart sandbox p) where
+module _ (sandbox : ℕ) (p : Part) (clean : IsCleanPart sandbox p) where
   run_good : (turns : List Turn) (o : Option State) → IsGoodIf sandbox p o → IsRun p o turns → IsGoodIf sandbox p (after_turns o turns)
   run_good [] o good run = good
   run_good (turn ∷ turns) None good run = tt
-  run_good (turn ∷ turns) (Some s) good run = run_good turns (after_turn turn) (keeps sandbox p s turn clean good run.0).2 run.1
+  run_good (turn ∷ turns) (Some s) good run = run_good turns (after_turn turn) (turn_keeps sandbox p s turn clean good run.0).2 run.1
 
-pub clean_calls : WholeBundles → OneInstruction → TurnKeeps → EntryIsGood → CleanCallsWithStack
-clean_calls bundles one keeps entries sandbox p clean = record {
+pub clean_calls : CleanCallsWithStack
+clean_calls sandbox p clean = record {
   from = λ s entry. record {
     lies = λ turns at n run after stands.
-        good_calls bundles one sandbox p at n clean
-        (subst (λ (o : Option State). IsGoodIf sandbox p o) after (run_good keeps sandbox p clean turns (Some s) (entries sandbox p s clean entry) run)) stands;
+        good_calls sandbox p at n clean
+        (subst (λ (o : Option State). IsGoodIf sandbox p o) after (run_good sandbox p clean turns (Some s) (entry_good sandbox p s clean entry) run)) stands;
   };
 }
 
@@ -50,18 +50,18 @@ goes_on p s after turn from h e = record {
   };
 }
 
-each_calls : CleanCallsWithStack → (sandbox : ℕ) (ps : List Part) (found : List Finding) → AreRight ps → found ≡ [] → AreFindingsFrom sandbox ps found → All CallsWithStack ps
-each_calls law sandbox [] found right none h k d below = absurd (omega arith)
-each_calls law sandbox (p ∷ ps) found right none h zero d below =
+each_calls : (sandbox : ℕ) (ps : List Part) (found : List Finding) → AreRight ps → found ≡ [] → AreFindingsFrom sandbox ps found → All CallsWithStack ps
+each_calls sandbox [] found right none h k d below = absurd (omega arith)
+each_calls sandbox (p ∷ ps) found right none h zero d below =
     let both = nothing_before h.0 h.1 (sym h.4 ∙ none) in
-    law sandbox p (record {
+    clean_calls sandbox p (record {
       right = right.each 0 d below;
       apart = first_apart p ps right;
       none_found = subst (λ (l : List Finding). AreFindings sandbox p l) both.0 h.2;
     })
-each_calls law sandbox (p ∷ ps) found right none h (suc k) d below =
+each_calls sandbox (p ∷ ps) found right none h (suc k) d below =
     let both = nothing_before h.0 h.1 (sym h.4 ∙ none) in
-    each_calls law (sandbox + 1) ps h.1 (others_right p ps right) both.1 h.3 k d (omega (arith, below))
+    each_calls (sandbox + 1) ps h.1 (others_right p ps right) both.1 h.3 k d (omega (arith, below))
 
-pub all_call : CleanCallsWithStack → (ps : List Part) → IsClean ps → AllCallWithStack ps
-all_call law ps clean = record { each = each_calls law 0 ps [] clean.layout.right refl clean.none_found }
+pub all_call : (ps : List Part) → IsClean ps → AllCallWithStack ps
+all_call ps clean = record { each = each_calls 0 ps [] clean.layout.right refl clean.none_found }

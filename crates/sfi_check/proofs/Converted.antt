@@ -68,16 +68,6 @@ refused_findings found (Layout j) h = h
 refused_findings found (Findings others) h = h
 refused_findings found Memory h = h
 
-pub refused_stack : (found : List Finding) (ps : List Part) (r : Refusal) → verdict.AnswersAccepted ps (Err r) → AnswersStack found (Err (fault_of r))
-refused_stack found ps (Layout j) h = absurd h
-refused_stack found ps (Findings others) h = absurd h
-refused_stack found ps Memory h = h
-
-pub refused_conversion : (new : List ℕ) (ps : List Part) (r : Refusal) → verdict.AnswersAccepted ps (Err r) → AnswersConversion new (Err (fault_of r))
-refused_conversion new ps (Layout j) h = absurd h
-refused_conversion new ps (Findings others) h = absurd h
-refused_conversion new ps Memory h = h
-
 -- ---- what is accepted
 
 pub seen_as : (f g : Format) (items : List SandboxPart) (ps : List Part) → views f items ≡ ps → views g items ≡ all_in_format g ps

@@ -28,10 +28,10 @@ use Rattle.sfi_scan.specs.Stack.{writes_stack, is_jump}
 use Rattle.sfi_scan.specs.Rules.{Place, is_empty, is_bundle_start, breaks_ecall, breaks_reserved, breaks_access, breaks_jump, breaks_target, breaks_stack, may_access, ends_region}
 use Rattle.sfi_check.specs.Regions.{InData, InGuard, IsGate, HasReserved, StackInData}
 use Rattle.sfi_check.specs.Leaving.{Leaves, WritesResult}
-use Rattle.sfi_check.specs.Laws.{InstructionLeaves}
 use Rattle.sfi_check.specs.Places.{StackInDataBefore, IsAtPlace}
 use Rattle.sfi_check.proofs.Accessing.{near_access, load_most, store_most, load_range, store_range, kept, count_kept, reserved_kept}
 use Rattle.sfi_check.proofs.Stacking.{is_of_pair, stack_here, stack_after, jump_keeps}
+use Rattle.sfi_check.proofs.PairResult.{leaves_after}
 
 -- what is used of the place where a step begins, for the instruction there
 pub record Here (sandbox : ℕ) (p : Part) (h : Hart) (i : Instr) (n : ℕ) : Type 0 where
@@ -124,7 +124,7 @@ no_call Ebreak n h m a (k, below, is) e = omega arith
 
 -- ---- each instruction
 
-module _ (law : InstructionLeaves) (sandbox : ℕ) (p : Part) (h : Hart) (m : Bytes) (right : IsRightPart p) (count : length h.registers ≡ 32) (reserved : HasReserved p h.registers) where
+module _ (sandbox : ℕ) (p : Part) (h : Hart) (m : Bytes) (right : IsRightPart p) (count : length h.registers ≡ 32) (reserved : HasReserved p h.registers) where
   good_writing : (pc rd value : ℕ) → is_reserved rd ≡ false → IsAtPlace sandbox p (with_register (with_pc h pc) rd value) → IsGoodHart sandbox p (with_register (with_pc h pc) rd value)
   good_writing pc rd value free place = record {
     count = count_kept rd value (with_pc h pc) ∙ count;
@@ -136,7 +136,7 @@ module _ (law : InstructionLeaves) (sandbox : ℕ) (p : Part) (h : Hart) (m : By
   good_moving pc place = record { count = count; reserved = reserved; place = place }
 
   leaves_writing : (h' : Hart) (i : Instr) (n : ℕ) (here : Here sandbox p h i n) → WritesResult i h h' → Leaves p (i ∷ here.place.earlier) h'.registers
-  leaves_writing h' i n here writes = law p h h' i here.place.earlier right count reserved here.range writes here.leaves
+  leaves_writing h' i n here writes = leaves_after p h h' i here.place.earlier right count reserved here.range writes here.leaves
 
   -- a write of another register keeps the stack pointer
   keeps : (b : BundlePlace) (i : Instr) (rd value : ℕ) (k : Hart) → destination i ≡ Some rd → has_stack b.format ≡ true → writes_stack b i ≡ false

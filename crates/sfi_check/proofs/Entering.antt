@@ -8,12 +8,12 @@ use Rattle.rv_mem.specs.Bytes.{Bytes, IsMemory, byte_at}
 use Rattle.sfi_image.specs.Spelling.{Part}
 use Rattle.sfi_image.specs.Spans.{AreApart, code_region, guarded_region}
 use Rattle.sfi_image.specs.Parts.{IsRightPart}
-use Rattle.sfi_image.specs.Laws.{WholeBundles}
 use Rattle.rv_step.specs.State.{Hart, IsHart}
 use Rattle.sfi_image.specs.Regions.{IsBundleStart}
 use Rattle.sfi_check.specs.Regions.{InGuard, HasReserved, StackInData}
 use Rattle.sfi_check.specs.Runs.{IsEntry}
 use Rattle.sfi_check.specs.Laws.{CanBeEntered}
+use Rattle.sfi_image.proofs.Facts.{code_ends}
 
 -- bytes from an address on, and nothing else
 bytes_from : ℕ → List ℕ → Bytes
@@ -104,5 +104,5 @@ entered_at p end h right apart small hart start reserved stack = (
   },
 )
 
-pub entered : WholeBundles → CanBeEntered
-entered law p h right = entered_at p (law p.format p.code_base (length p.code) right.code_base right.code_placed).4 h right
+pub entered : CanBeEntered
+entered p h right = entered_at p (code_ends p right) h right

@@ -13,7 +13,6 @@ use Rattle.sfi_image.specs.Keeping.{ReaderState, StandsFor}
 use Rattle.sfi_check.specs.declared.feed.Feed.{Feed}
 use Rattle.sfi_check.specs.declared.stream_answer.StreamAnswer.TheVariants as answers
 use Rattle.sfi_check.specs.declared.tally.Tally.{Tally}
-use Rattle.sfi_check.specs.private.Laws.{StreamLaws}
 use Rattle.sfi_check.specs.private.Tallies.{IsSoFar, IsCut, verdict_of}
 use Rattle.sfi_check.specs.Feeds.{IsFed, IsFedBy, IsHeld}
 use Rattle.sfi_check.specs.Streams.{IsVerdictOn}
@@ -35,8 +34,8 @@ fault_more bytes more number h = (h.0, h.1, λ tail. subst (λ (l : List ℕ). I
 pub at_reader : (r s : ReaderState) (t u : Tally) (bytes : List ℕ) → r ≡ s → t ≡ u → IsSoFar (λ found. Unit {0}) s u bytes → IsSoFar (λ found. Unit {0}) r t bytes
 at_reader r s t u bytes a b h = rw (a, b) h
 
-pub answered_fault : StreamLaws → (bytes : List ℕ) (number : ℕ) → HasFaultNumberWhateverFollows bytes number → IsVerdictOn bytes true (answers.Layout number)
-answered_fault laws bytes number h = on_fault laws.reading bytes h.0 number h.1 (subst (λ (l : List ℕ). IsFault l h.0) (append-nil bytes) (h.2 []))
+pub answered_fault : (bytes : List ℕ) (number : ℕ) → HasFaultNumberWhateverFollows bytes number → IsVerdictOn bytes true (answers.Layout number)
+answered_fault bytes number h = on_fault bytes h.0 number h.1 (subst (λ (l : List ℕ). IsFault l h.0) (append-nil bytes) (h.2 []))
 
 is_end : (r : ReaderState) (x : Front) → StandsFor r x → wants.End ≡ want_of x → r.next ≡ next.End
 is_end r Empty h w = absurd cc
@@ -56,11 +55,11 @@ none_held f bytes h w = elim h.rests [
   | inr end ↦ end.1
 ]
 
-pub answered_whole : StreamLaws → (f : Feed) (bytes : List ℕ) → IsHeld f bytes → ((x : Front) → StandsFor f.reader x → wants.End ≡ want_of x) → IsVerdictOn bytes true (verdict_of f.tally)
-answered_whole laws f bytes h want =
+pub answered_whole : (f : Feed) (bytes : List ℕ) → IsHeld f bytes → ((x : Front) → StandsFor f.reader x → wants.End ≡ want_of x) → IsVerdictOn bytes true (verdict_of f.tally)
+answered_whole f bytes h want =
     let w = want h.at.at h.at.stands in
     let same : bytes ≡ h.so_far = h.bytes_are ∙ ap (λ (k : ℕ). h.so_far ++ take k f.held) (none_held f bytes h w) ∙ append-nil h.so_far in
-    subst (λ (l : List ℕ). IsVerdictOn l true (verdict_of f.tally)) (sym same) (ended_whole laws f.reader f.tally h.so_far h.at (is_end f.reader h.at.at h.at.stands w)).1
+    subst (λ (l : List ℕ). IsVerdictOn l true (verdict_of f.tally)) (sym same) (ended_whole f.reader f.tally h.so_far h.at (is_end f.reader h.at.at h.at.stands w)).1
 
 is_whole : (r : ReaderState) (x : Front) → StandsFor r x → r.next ≡ next.End → wants.End ≡ want_of x
 is_whole r Empty h e = let n = h.kept.0 in absurd cc
@@ -71,14 +70,14 @@ is_whole r (InCode n ps f gs code) h e = let m = h.kept.0 in absurd cc
 is_whole r (InInit n ps f gs code init) h e = let m = h.kept.0 in absurd cc
 is_whole r (Whole ps) h e = refl
 
-pub answered_short : StreamLaws → (f : Feed) (bytes : List ℕ) (h : IsHeld f bytes) → (wants.End ≡ want_of h.at.at → ⊥) → IsVerdictOn bytes true (answers.Layout 3)
-answered_short laws f bytes h never = elim h.rests [
+pub answered_short : (f : Feed) (bytes : List ℕ) (h : IsHeld f bytes) → (wants.End ≡ want_of h.at.at → ⊥) → IsVerdictOn bytes true (answers.Layout 3)
+answered_short f bytes h never = elim h.rests [
   | inl cut ↦
       (let few = cut.few in
       let long = h.long in
       let len : length (take f.count f.held) ≡ f.count = omega (arith, length-take f.count f.held) in
       subst (λ (l : List ℕ). IsVerdictOn l true (answers.Layout 3)) (sym h.bytes_are)
-      (ended_short laws f.reader f.tally h.so_far (take f.count f.held) h.at (subst (λ (k : ℕ). IsCut f.reader k) (sym len) cut)))
+      (ended_short f.reader f.tally h.so_far (take f.count f.held) h.at (subst (λ (k : ℕ). IsCut f.reader k) (sym len) cut)))
   | inr end ↦ absurd (never (is_whole f.reader h.at.at h.at.stands end.0))
 ]
 

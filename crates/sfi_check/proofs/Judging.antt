@@ -14,12 +14,12 @@ use Rattle.sfi_scan.specs.Findings.{AreImageFindings}
 use Rattle.sfi_check.specs.declared.stream_answer.StreamAnswer.{StreamAnswer}
 use Rattle.sfi_check.specs.declared.stream_answer.StreamAnswer.TheVariants as answers
 use Rattle.sfi_check.specs.declared.tally.Tally.{Tally}
-use Rattle.sfi_check.specs.private.Laws.{StreamLaws}
 use Rattle.sfi_check.specs.private.Tallies.{Tallies, IsSoFar, IsCut, verdict_by, verdict_of}
 use Rattle.sfi_check.specs.Verdict.{HasFindings}
 use Rattle.sfi_check.specs.Streams.{IsVerdictOn, AreHandedOver}
 use Rattle.sfi_check.proofs.OneVerdict.{on_fault, on_accepted, on_findings}
 use Rattle.sfi_check.proofs.Safe.{all_safe}
+use Rattle.sfi_image.proofs.Facts.{cut_short, trails, whole_is_image}
 
 -- ---- before the end
 
@@ -49,14 +49,14 @@ judged_failed bytes = record {
 abbrev pub IsJudgedWhole : (List Finding → Type 0) → List ℕ → StreamAnswer → Type 0
 IsJudgedWhole told bytes answer = (found : List Finding) × IsVerdictOn bytes true answer × told found × AreHandedOver bytes found answer
 
-pub judged_whole : {T : List Finding → Type 0} → StreamLaws → (bytes : List ℕ) (ps : List Part) (t : Tally) → IsImage bytes ps → Tallies T t (Whole ps) → IsJudgedWhole T bytes (verdict_of t)
-judged_whole {T} laws bytes ps t image k = by k.found k.told_is k.found_are k.count k.first
+pub judged_whole : {T : List Finding → Type 0} → (bytes : List ℕ) (ps : List Part) (t : Tally) → IsImage bytes ps → Tallies T t (Whole ps) → IsJudgedWhole T bytes (verdict_of t)
+judged_whole {T} bytes ps t image k = by k.found k.told_is k.found_are k.count k.first
   where
     by : (found : List Finding) → T found → AreImageFindings ps found → t.count ≡ length found → t.first ≡ slice_get found 0 → IsJudgedWhole T bytes (verdict_of t)
     by [] told are count first =
         subst (λ (o : Option Finding). IsJudgedWhole T bytes (verdict_by o t)) (sym first) (
           [],
-          on_accepted laws.reading bytes ps t.sandboxes t.bundles (record { image = image; none_found = are }) k.sandboxes k.bundles (all_safe laws.safe ps (record { layout = image.layout; none_found = are })),
+          on_accepted bytes ps t.sandboxes t.bundles (record { image = image; none_found = are }) k.sandboxes k.bundles (all_safe ps (record { layout = image.layout; none_found = are })),
           told,
           record { findings = tt; accepted = refl },
         )
@@ -64,7 +64,7 @@ judged_whole {T} laws bytes ps t image k = by k.found k.told_is k.found_are k.co
         let has : HasFindings bytes (x ∷ xs) = record { parts = ps; image = image; found_are = are; some = λ e. absurd cc } in
         subst (λ (o : Option Finding). IsJudgedWhole T bytes (verdict_by o t)) (sym first) (
           x ∷ xs,
-          on_findings laws.reading bytes (x ∷ xs) t.count x has (record { count_is = count; first_is = refl }),
+          on_findings bytes (x ∷ xs) t.count x has (record { count_is = count; first_is = refl }),
           told,
           record { findings = has; accepted = tt },
         )
@@ -82,20 +82,20 @@ at_whole r t bytes (InInit n ps f gs code init) h e k is = let n = h.kept.0 in a
 at_whole r t bytes (Whole ps) h e k is = (ps, e, h, k)
 
 -- the stream ends where the image does
-pub ended_whole : {T : List Finding → Type 0} → StreamLaws → (r : ReaderState) (t : Tally) (bytes : List ℕ) → IsSoFar T r t bytes → r.next ≡ next.End → IsJudgedWhole T bytes (verdict_of t)
-ended_whole laws r t bytes h is =
+pub ended_whole : {T : List Finding → Type 0} → (r : ReaderState) (t : Tally) (bytes : List ℕ) → IsSoFar T r t bytes → r.next ≡ next.End → IsJudgedWhole T bytes (verdict_of t)
+ended_whole r t bytes h is =
     let w = at_whole r t bytes h.at h.stands h.bytes_are h.tallies is in
-    judged_whole laws bytes w.0 t (subst (λ (l : List ℕ). IsImage l w.0) (sym w.1) (laws.whole w.0 w.2.right)) w.3
+    judged_whole bytes w.0 t (subst (λ (l : List ℕ). IsImage l w.0) (sym w.1) (whole_is_image w.0 w.2.right)) w.3
 
 -- it goes on after the image
-pub trailing : {T : List Finding → Type 0} → StreamLaws → (r : ReaderState) (t : Tally) (bytes rest : List ℕ) → IsSoFar T r t bytes → r.next ≡ next.End → 0 < length rest → HasFaultNumberWhateverFollows (bytes ++ rest) 11
-trailing laws r t bytes rest h is some =
+pub trailing : {T : List Finding → Type 0} → (r : ReaderState) (t : Tally) (bytes rest : List ℕ) → IsSoFar T r t bytes → r.next ≡ next.End → 0 < length rest → HasFaultNumberWhateverFollows (bytes ++ rest) 11
+trailing r t bytes rest h is some =
     let w = at_whole r t bytes h.at h.stands h.bytes_are h.tallies is in (
       faults.Trailing,
       refl,
       λ more.
           let regroup : (bytes ++ rest) ++ more ≡ front (Whole w.0) ++ (rest ++ more) = append_assoc bytes rest more ∙ ap (λ (l : List ℕ). l ++ (rest ++ more)) w.1 in
-          rw (regroup) (laws.trails w.0 (rest ++ more) w.2.right (longer rest more some)),
+          rw (regroup) (trails w.0 (rest ++ more) w.2.right (longer rest more some)),
     )
   where
     longer : (xs ys : List ℕ) → 0 < length xs → 0 < length (xs ++ ys)
@@ -103,9 +103,9 @@ trailing laws r t bytes rest h is some =
     longer (x ∷ xs) ys s = omega arith
 
 -- it ends before what comes next is whole
-pub ended_short : {T : List Finding → Type 0} → StreamLaws → (r : ReaderState) (t : Tally) (bytes rest : List ℕ) → IsSoFar T r t bytes → IsCut r (length rest) → IsVerdictOn (bytes ++ rest) true (answers.Layout 3)
-ended_short laws r t bytes rest h cut =
-    on_fault laws.reading (bytes ++ rest) faults.Short 3 refl (subst (λ (l : List ℕ). IsFault (l ++ rest) faults.Short) (sym h.bytes_are) (laws.cut h.at rest h.stands.right (cut.less h.at h.stands)))
+pub ended_short : {T : List Finding → Type 0} → (r : ReaderState) (t : Tally) (bytes rest : List ℕ) → IsSoFar T r t bytes → IsCut r (length rest) → IsVerdictOn (bytes ++ rest) true (answers.Layout 3)
+ended_short r t bytes rest h cut =
+    on_fault (bytes ++ rest) faults.Short 3 refl (subst (λ (l : List ℕ). IsFault (l ++ rest) faults.Short) (sym h.bytes_are) (cut_short h.at rest h.stands.right (cut.less h.at h.stands)))
 
 -- before the first byte
 pub nothing_yet : {T : List Finding → Type 0} (r : ReaderState) (t : Tally) → StandsFor r Empty → t.sandboxes ≡ 0 → t.bundles ≡ 0 → t.count ≡ 0 → t.first ≡ None → T [] → IsSoFar T r t []

@@ -9,7 +9,6 @@ use Rattle.sfi_image.specs.declared.want.Want.TheVariants as wants
 use Rattle.sfi_image.specs.Spans.{spans}
 use Rattle.sfi_image.specs.Regions.{IsCodeRegion}
 use Rattle.sfi_image.specs.Tests.{IsFirstFault, field_tests}
-use Rattle.sfi_image.specs.Laws.{WholeBundles}
 use Rattle.sfi_image.specs.Fronts.{Front, front, IsRightFront, want_of, IsLengthOf, HasFaultNumberWhateverFollows}
 use Rattle.sfi_image.specs.Fronts.Front.{Empty, AfterMagic, AfterCount, InGates, InCode, InInit, Whole}
 use Rattle.sfi_image.specs.Keeping.{ReaderState, StandsFor, Leads, left}
@@ -20,27 +19,28 @@ use Rattle.sfi_scan.specs.Findings.{AreBundleFindings}
 use Rattle.sfi_check.specs.declared.tally.Tally.{Tally}
 use Rattle.sfi_check.specs.private.Tallies.{IsSoFar, IsTold, want_at}
 use Rattle.sfi_check.proofs.Tallying.{field_tallies, bundle_tallies, init_tallies, fault_onwards, Adds}
+use Rattle.sfi_image.proofs.Facts.{whole_bundles}
 
 code_test : (before : List Span) (f : Fields) → IsFirstFault before f field_tests None → IsCodeRegion f.format f.code_base f.code_size
 code_test before f (inl h) = h.0
 code_test before f (inr h) = let e = h.1 in absurd cc
 
-pub bundle_within : WholeBundles → (x : Front) (b : BundlePlace) → IsRightFront x → want_at b ≡ want_of x → IsWithin b
-bundle_within law Empty b right w = absurd cc
-bundle_within law (AfterMagic kind) b right w = absurd cc
-bundle_within law (AfterCount kind n ps) b right w = absurd cc
-bundle_within law (InGates n ps f gs) b right w = absurd cc
-bundle_within law (InCode n ps f gs code) b right w =
+pub bundle_within : (x : Front) (b : BundlePlace) → IsRightFront x → want_at b ≡ want_of x → IsWithin b
+bundle_within Empty b right w = absurd cc
+bundle_within (AfterMagic kind) b right w = absurd cc
+bundle_within (AfterCount kind n ps) b right w = absurd cc
+bundle_within (InGates n ps f gs) b right w = absurd cc
+bundle_within (InCode n ps f gs code) b right w =
     let at : b.address ≡ f.code_base + length code = cc in
     let base : b.code_base ≡ f.code_base = cc in
     let size : b.code_size ≡ f.code_size = cc in
-    let placed = law f.format f.code_base f.code_size right.0.words.code_base (code_test (spans ps) f right.0.passed) in
+    let placed = whole_bundles f.format f.code_base f.code_size right.0.words.code_base (code_test (spans ps) f right.0.passed) in
     let whole = placed.2 in
     let even = right.2 in
     let inside = right.3 in
     record { base = omega arith; end = omega arith; addresses = omega (arith, placed.4) }
-bundle_within law (InInit n ps f gs code init) b right w = absurd cc
-bundle_within law (Whole ps) b right w = absurd cc
+bundle_within (InInit n ps f gs code init) b right w = absurd cc
+bundle_within (Whole ps) b right w = absurd cc
 
 pub bundle_sandbox : (x : Front) (b : BundlePlace) → IsRightFront x → want_at b ≡ want_of x → b.sandbox < 16
 bundle_sandbox Empty b right w = absurd cc

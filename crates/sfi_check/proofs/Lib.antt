@@ -29,3 +29,4 @@ pub mod Chains
 pub mod Judging
 pub mod Pieces
 pub mod Converted
+pub mod Facts

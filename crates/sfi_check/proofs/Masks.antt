@@ -21,9 +21,6 @@ in_block q k r h = or_comm r (q * 2 ^ k) ∙ or_shifted q k r h
 power_at_least : (k j : ℕ) → 2 ^ j ≤ 2 ^ k → j ≤ k
 power_at_least k j h = ⊎_elim (λ less. let below : 2 ^ k < 2 ^ j = pow_below k j less in omega arith) (λ more. more) (cases_lt k j)
 
-power_at_most : (k j : ℕ) → 2 ^ k ≤ 2 ^ j → k ≤ j
-power_at_most k j h = power_at_least j k h
-
 pub record IsPlaced (base size a : ℕ) : Type 0 where
   pub from : base ≤ a
   pub below : a < base + size

@@ -7,9 +7,7 @@ use Rattle.rv_word.specs.declared.instr.Instr.{Instr}
 use Rattle.rv_word.specs.declared.instr.RegOp.TheVariants.{And, Or}
 use Rattle.rv_word.specs.declared.instr.StoreWidth.TheVariants.{Sw}
 use Rattle.rv_word.specs.declared.instr.Instr.TheVariants.{Op, Store, Jalr, Ecall, Ebreak}
-use Rattle.rv_word.specs.Laws.{SpellingsAreWide}
 use Rattle.rv_word.specs.Spelling.{spelling, InRange}
-use Rattle.rv_comp.specs.Laws.{OneSpelling}
 use Rattle.rv_comp.specs.Fronts.{Spells}
 use Rattle.rv_comp.specs.declared.form.Form16.TheVariants.{CAddi}
 use Rattle.sfi_policy.specs.declared.format.Format.TheVariants.{Sfi1}
@@ -31,7 +29,8 @@ use Rattle.sfi_check.specs.Needed.{IsNeeded, EachRuleIsNeeded}
 use Rattle.sfi_check.proofs.Readings.{IsSpelled, BeginsNothing, nothing_begins, ebreak_spelled, four, read_bundle, four_words, four_longest, wide, all_findings, quiet, none_listed}
 use Rattle.sfi_check.proofs.Samples.{IsSample, without_gates, refused, hart, is_hart, first, enters, bytes_there, stands, then_turn, then_step, step_here, accesses_far, nothing_here, has_left, far, past_end}
 use Rattle.sfi_check.proofs.Undecodable.{ones_begin_nothing}
-use Rattle.sfi_check.proofs.Needed.{ecall_spelled, or_code, jalr_past}
+use Rattle.sfi_check.proofs.Needed.{ecall_spelled, or_code, jalr_past, ecall_at_no_gate_unsafe, written_rd_forgotten_unsafe, pair_on_x0_unsafe, jalr_offset_ignored_unsafe, jump_to_any_start_unsafe, stack_not_put_back_unsafe}
+use Rattle.rv_comp.proofs.Facts.{one_spelling}
 
 -- the word of an ebreak
 abbrev brk : ℕ
@@ -46,37 +45,37 @@ nop_spelled = inr (record { size = refl; all = refl; spelled = ((omega arith, om
 ones_sample : IsSample undecodable
 ones_sample = without_gates undecodable refl refl refl
 
-ones_alone : OneSpelling → SpellingsAreWide → AreFindings 0 (sandbox undecodable) (record { sandbox = 0; address = 0x01000000; rule = V1 } ∷ [])
-ones_alone law wide =
-    all_findings law Sfi1 [] 0xffffffff brk brk brk brk brk brk brk brk brk brk brk none_listed (record { sandbox = 0; address = 0x01000000; rule = V1 } ∷ []) [] []
-    (read_bundle law (place_of 0 (sandbox undecodable) 0) (bundle_bytes (sandbox undecodable) 0) [] (bundle_bytes (sandbox undecodable) 0) (record { sandbox = 0; address = 0x01000000; rule = V1 } ∷ []) refl tt refl
-    (ones_begin_nothing wide (drop 4 (bundle_bytes (sandbox undecodable) 0))) refl)
-    (quiet law Sfi1 [] 0xffffffff brk brk brk brk brk brk brk brk brk brk brk none_listed 0 refl refl refl)
-    (quiet law Sfi1 [] 0xffffffff brk brk brk brk brk brk brk brk brk brk brk none_listed 14 refl refl refl)
+ones_alone : AreFindings 0 (sandbox undecodable) (record { sandbox = 0; address = 0x01000000; rule = V1 } ∷ [])
+ones_alone =
+    all_findings Sfi1 [] 0xffffffff brk brk brk brk brk brk brk brk brk brk brk none_listed (record { sandbox = 0; address = 0x01000000; rule = V1 } ∷ []) [] []
+    (read_bundle (place_of 0 (sandbox undecodable) 0) (bundle_bytes (sandbox undecodable) 0) [] (bundle_bytes (sandbox undecodable) 0) (record { sandbox = 0; address = 0x01000000; rule = V1 } ∷ []) refl tt refl
+    (ones_begin_nothing (drop 4 (bundle_bytes (sandbox undecodable) 0))) refl)
+    (quiet Sfi1 [] 0xffffffff brk brk brk brk brk brk brk brk brk brk brk none_listed 0 refl refl refl)
+    (quiet Sfi1 [] 0xffffffff brk brk brk brk brk brk brk brk brk brk brk none_listed 14 refl refl refl)
 
-ones_stand : SpellingsAreWide → (m : Bytes) → HasCode (sandbox undecodable) m → (i : Instr) (n : ℕ) → Stands (first 0x01000000 m) i n → ⊥
-ones_stand wide m code i n st = by st.spelled
+ones_stand : (m : Bytes) → HasCode (sandbox undecodable) m → (i : Instr) (n : ℕ) → Stands (first 0x01000000 m) i n → ⊥
+ones_stand m code i n st = by st.spelled
   where
     here : n ≤ 256 → ⊥
     here few =
         let there = bytes_there undecodable ones_sample m code (hart 0x01000000 0x01800000 0) 0 n refl (omega (arith, few)) in
         let both : Some (take n (sandbox undecodable).code) ≡ Some st.bytes = sym there ∙ st.there in
         let same : take n (sandbox undecodable).code ≡ st.bytes = cc in
-        ones_begin_nothing wide (drop 4 (sandbox undecodable).code) (record { instr = i; size = n }) (subst (λ (bytes : List ℕ). Spells bytes i n) (sym same) st.spelled)
+        ones_begin_nothing (drop 4 (sandbox undecodable).code) (record { instr = i; size = n }) (subst (λ (bytes : List ℕ). Spells bytes i n) (sym same) st.spelled)
 
     by : Spells st.bytes i n → ⊥
     by (inl s) = let size = s.size in here (omega (arith, size))
     by (inr s) = let size = s.size in here (omega (arith, size))
 
-pub undecodable_unsafe : OneSpelling → SpellingsAreWide → IsNeeded V1 0x01000000 (sandbox undecodable)
-undecodable_unsafe law wide =
+pub undecodable_unsafe : IsNeeded V1 0x01000000 (sandbox undecodable)
+undecodable_unsafe =
     let e = enters undecodable ones_sample 0 (omega arith) in
     record {
-      refused = refused undecodable ones_sample (record { sandbox = 0; address = 0x01000000; rule = V1 }) (ones_alone law wide);
+      refused = refused undecodable ones_sample (record { sandbox = 0; address = 0x01000000; rule = V1 }) (ones_alone);
       no_other = tt;
       entry = first 0x01000000 e.0;
       is_entry = e.1;
-      runs_unsafely = nothing_here (sandbox undecodable) e.0 (hart 0x01000000 0x01800000 0) (ones_stand wide e.0 e.1.code);
+      runs_unsafely = nothing_here (sandbox undecodable) e.0 (hart 0x01000000 0x01800000 0) (ones_stand e.0 e.1.code);
     }
 
 -- ---- a store that crosses a bundle's end
@@ -97,10 +96,10 @@ unfolding spelling InRange
 nop_next = inr (record { size = refl; all = refl; spelled = ((omega arith, omega arith, (omega (arith, ints), omega (arith, ints))), refl) })
 
 -- its first two alone begin no instruction, since the four spell one of four bytes
-pub half_begins_nothing : OneSpelling → BeginsNothing (0x23 ∷ 0x20 ∷ [])
-half_begins_nothing law y (inl s) =
+pub half_begins_nothing : BeginsNothing (0x23 ∷ 0x20 ∷ [])
+half_begins_nothing y (inl s) =
     let two = s.size in
-    let one = law (take y.size (0x23 ∷ 0x20 ∷ [])) (0x23 ∷ 0x20 ∷ 0x13 ∷ 0x00 ∷ []) y.instr (Store Sw 6 1 (pos 0)) y.size 4 (inl s) store_across (λ k h g. get_or-take y.size (0x23 ∷ 0x20 ∷ []) k 0 h ∙ agree k (omega (arith, two, h))) in
+    let one = one_spelling (take y.size (0x23 ∷ 0x20 ∷ [])) (0x23 ∷ 0x20 ∷ 0x13 ∷ 0x00 ∷ []) y.instr (Store Sw 6 1 (pos 0)) y.size 4 (inl s) store_across (λ k h g. get_or-take y.size (0x23 ∷ 0x20 ∷ []) k 0 h ∙ agree k (omega (arith, two, h))) in
     let four = one.1 in
     omega (arith, two, four)
   where
@@ -108,7 +107,7 @@ half_begins_nothing law y (inl s) =
     agree zero h = refl
     agree (suc zero) h = refl
     agree (suc (suc k)) h = absurd (omega arith)
-half_begins_nothing law y (inr s) =
+half_begins_nothing y (inr s) =
     let all : length {A = ℕ} (take 4 (0x23 ∷ 0x20 ∷ [])) ≡ 4 = subst (λ (n : ℕ). length {A = ℕ} (take n (0x23 ∷ 0x20 ∷ [])) ≡ 4) s.size s.all in
     absurd (omega (arith, all))
 
@@ -116,19 +115,19 @@ half_begins_nothing law y (inr s) =
 abbrev four_nops : List Piece
 four_nops = record { instr = nop; size = 4 } ∷ record { instr = nop; size = 4 } ∷ record { instr = nop; size = 4 } ∷ record { instr = nop; size = 2 } ∷ []
 
-crossing_alone : OneSpelling → AreFindings 0 (sandbox crossing_store) (record { sandbox = 0; address = 0x0100000e; rule = V2 } ∷ [])
-crossing_alone law =
+crossing_alone : AreFindings 0 (sandbox crossing_store) (record { sandbox = 0; address = 0x0100000e; rule = V2 } ∷ [])
+crossing_alone =
     let x = record { sandbox = 0; address = 0x0100000e; rule = V2 } ∷ [] in
     let n = spelling nop in
     let place = place_of 0 (sandbox crossing_store) in
     let bytes = bundle_bytes (sandbox crossing_store) in
-    all_findings law Sfi1 [] n n n 0x20230001 0x00000013 brk brk brk brk brk brk brk none_listed x [] []
-    (read_bundle law (place 0) (bytes 0) four_nops (0x23 ∷ 0x20 ∷ []) x refl (nop_spelled, (nop_spelled, (nop_spelled, (short_nop, tt)))) refl (half_begins_nothing law) refl)
-    (read_bundle law (place 1) (bytes 1) (four nop Ebreak Ebreak Ebreak) [] [] refl (nop_next, (ebreak_spelled, (ebreak_spelled, (ebreak_spelled, tt)))) refl (nothing_begins [] refl) refl)
-    (quiet law Sfi1 [] n n n 0x20230001 0x00000013 brk brk brk brk brk brk brk none_listed 14 refl refl refl)
+    all_findings Sfi1 [] n n n 0x20230001 0x00000013 brk brk brk brk brk brk brk none_listed x [] []
+    (read_bundle (place 0) (bytes 0) four_nops (0x23 ∷ 0x20 ∷ []) x refl (nop_spelled, (nop_spelled, (nop_spelled, (short_nop, tt)))) refl (half_begins_nothing) refl)
+    (read_bundle (place 1) (bytes 1) (four nop Ebreak Ebreak Ebreak) [] [] refl (nop_next, (ebreak_spelled, (ebreak_spelled, (ebreak_spelled, tt)))) refl (nothing_begins [] refl) refl)
+    (quiet Sfi1 [] n n n 0x20230001 0x00000013 brk brk brk brk brk brk brk none_listed 14 refl refl refl)
 
-pub crossing_store_unsafe : OneSpelling → IsNeeded V2 0x0100000e (sandbox crossing_store)
-crossing_store_unsafe law =
+pub crossing_store_unsafe : IsNeeded V2 0x0100000e (sandbox crossing_store)
+crossing_store_unsafe =
     let e = enters crossing_store crossing_sample 0 (omega arith) in
     let p = sandbox crossing_store in
     let here = stands crossing_store crossing_sample e.0 e.1.code in
@@ -138,7 +137,7 @@ crossing_store_unsafe law =
     let at3 = here (hart 0x0100000c 0x01800000 0) 12 2 nop refl (omega arith) short_nop in
     let at4 = here (hart 0x0100000e 0x01800000 0) 14 4 (Store Sw 6 1 (pos 0)) refl (omega arith) store_across in
     record {
-      refused = refused crossing_store crossing_sample (record { sandbox = 0; address = 0x0100000e; rule = V2 }) (crossing_alone law);
+      refused = refused crossing_store crossing_sample (record { sandbox = 0; address = 0x0100000e; rule = V2 }) (crossing_alone);
       no_other = tt;
       entry = first 0x01000000 e.0;
       is_entry = e.1;
@@ -154,18 +153,18 @@ crossing_store_unsafe law =
 end_sample : IsSample running_off_the_end
 end_sample = without_gates running_off_the_end refl refl refl
 
-end_alone : OneSpelling → AreFindings 0 (sandbox running_off_the_end) (record { sandbox = 0; address = 0x010000fc; rule = V8 } ∷ [])
-end_alone law =
+end_alone : AreFindings 0 (sandbox running_off_the_end) (record { sandbox = 0; address = 0x010000fc; rule = V8 } ∷ [])
+end_alone =
     let x = record { sandbox = 0; address = 0x010000fc; rule = V8 } ∷ [] in
     let n = spelling nop in
     let p = sandbox running_off_the_end in
-    all_findings law Sfi1 [] brk brk brk brk brk brk brk brk n n n n none_listed [] [] x
-    (four_words law (place_of 0 p 0) (bundle_bytes p 0) Ebreak Ebreak Ebreak Ebreak [] refl refl ebreak_spelled ebreak_spelled ebreak_spelled ebreak_spelled refl)
-    (quiet law Sfi1 [] brk brk brk brk brk brk brk brk n n n n none_listed 0 refl refl refl)
-    (four_words law (place_of 0 p 15) (bundle_bytes p 15) nop nop nop nop x refl refl nop_spelled nop_spelled nop_spelled nop_spelled refl)
+    all_findings Sfi1 [] brk brk brk brk brk brk brk brk n n n n none_listed [] [] x
+    (four_words (place_of 0 p 0) (bundle_bytes p 0) Ebreak Ebreak Ebreak Ebreak [] refl refl ebreak_spelled ebreak_spelled ebreak_spelled ebreak_spelled refl)
+    (quiet Sfi1 [] brk brk brk brk brk brk brk brk n n n n none_listed 0 refl refl refl)
+    (four_words (place_of 0 p 15) (bundle_bytes p 15) nop nop nop nop x refl refl nop_spelled nop_spelled nop_spelled nop_spelled refl)
 
-pub running_off_the_end_unsafe : OneSpelling → IsNeeded V8 0x010000fc (sandbox running_off_the_end)
-running_off_the_end_unsafe law =
+pub running_off_the_end_unsafe : IsNeeded V8 0x010000fc (sandbox running_off_the_end)
+running_off_the_end_unsafe =
     let e = enters running_off_the_end end_sample 15 (omega arith) in
     let p = sandbox running_off_the_end in
     let here = stands running_off_the_end end_sample e.0 e.1.code in
@@ -174,13 +173,13 @@ running_off_the_end_unsafe law =
     let at2 = here (hart 0x010000f8 0x01800000 0) 248 4 nop refl (omega arith) nop_spelled in
     let at3 = here (hart 0x010000fc 0x01800000 0) 252 4 nop refl (omega arith) nop_spelled in
     record {
-      refused = refused running_off_the_end end_sample (record { sandbox = 0; address = 0x010000fc; rule = V8 }) (end_alone law);
+      refused = refused running_off_the_end end_sample (record { sandbox = 0; address = 0x010000fc; rule = V8 }) (end_alone);
       no_other = record {
         number = 15;
         earlier = wide nop ∷ wide nop ∷ wide nop ∷ [];
         here = wide nop;
         later = [];
-        longest = four_longest law (bundle_bytes (sandbox running_off_the_end) 15) nop nop nop nop refl nop_spelled nop_spelled nop_spelled nop_spelled;
+        longest = four_longest (bundle_bytes (sandbox running_off_the_end) 15) nop nop nop nop refl nop_spelled nop_spelled nop_spelled nop_spelled;
         address_is = refl;
         broken = refl;
       };
@@ -227,14 +226,14 @@ not_stub : bundle_bytes (sandbox gate_comes_back_elsewhere) 0 ≢ stub
 unfolding spelling
 not_stub e = let last : 1 ≡ 0 = ap (λ (bytes : List ℕ). slice_index bytes 15) e in absurd (omega (arith, last))
 
-gate_alone : OneSpelling → AreFindings 0 (sandbox gate_comes_back_elsewhere) (record { sandbox = 0; address = 0x01000000; rule = V9 } ∷ [])
-gate_alone law =
+gate_alone : AreFindings 0 (sandbox gate_comes_back_elsewhere) (record { sandbox = 0; address = 0x01000000; rule = V9 } ∷ [])
+gate_alone =
     let p = sandbox gate_comes_back_elsewhere in
     let gates = gate_comes_back_elsewhere.gates in
-    all_findings law Sfi1 gates (spelling Ecall) (spelling (Op And 31 1 25)) (spelling (Op Or 31 31 24)) (spelling (Jalr 0 31 (pos 16))) brk brk brk brk brk brk brk brk others_unlisted (record { sandbox = 0; address = 0x01000000; rule = V9 } ∷ []) [] []
+    all_findings Sfi1 gates (spelling Ecall) (spelling (Op And 31 1 25)) (spelling (Op Or 31 31 24)) (spelling (Jalr 0 31 (pos 16))) brk brk brk brk brk brk brk brk others_unlisted (record { sandbox = 0; address = 0x01000000; rule = V9 } ∷ []) [] []
     (inl (refl, not_stub, refl))
-    (quiet law Sfi1 gates (spelling Ecall) (spelling (Op And 31 1 25)) (spelling (Op Or 31 31 24)) (spelling (Jalr 0 31 (pos 16))) brk brk brk brk brk brk brk brk others_unlisted 0 refl refl refl)
-    (quiet law Sfi1 gates (spelling Ecall) (spelling (Op And 31 1 25)) (spelling (Op Or 31 31 24)) (spelling (Jalr 0 31 (pos 16))) brk brk brk brk brk brk brk brk others_unlisted 14 refl refl refl)
+    (quiet Sfi1 gates (spelling Ecall) (spelling (Op And 31 1 25)) (spelling (Op Or 31 31 24)) (spelling (Jalr 0 31 (pos 16))) brk brk brk brk brk brk brk brk others_unlisted 0 refl refl refl)
+    (quiet Sfi1 gates (spelling Ecall) (spelling (Op And 31 1 25)) (spelling (Op Or 31 31 24)) (spelling (Jalr 0 31 (pos 16))) brk brk brk brk brk brk brk brk others_unlisted 14 refl refl refl)
 
 -- the host answers nothing, and goes on after the ecall
 silent_reply : (m : Bytes) → IsEntry (sandbox gate_comes_back_elsewhere) (first 0x01000000 m) → IsReply (sandbox gate_comes_back_elsewhere) (first 0x01000000 m) (first 0x01000004 m)
@@ -248,8 +247,8 @@ silent_reply m entry = record {
   bytes = record { code = λ a inside. refl; guards = λ a guard none. none };
 }
 
-pub gate_comes_back_elsewhere_unsafe : OneSpelling → IsNeeded V9 0x01000000 (sandbox gate_comes_back_elsewhere)
-gate_comes_back_elsewhere_unsafe law =
+pub gate_comes_back_elsewhere_unsafe : IsNeeded V9 0x01000000 (sandbox gate_comes_back_elsewhere)
+gate_comes_back_elsewhere_unsafe =
     let e = enters gate_comes_back_elsewhere gate_sample 0 (omega arith) in
     let p = sandbox gate_comes_back_elsewhere in
     let here = stands gate_comes_back_elsewhere gate_sample e.0 e.1.code in
@@ -258,7 +257,7 @@ gate_comes_back_elsewhere_unsafe law =
     let at2 = here (hart 0x01000008 0x01800000 240) 8 4 (Op Or 31 31 24) refl (omega arith) or_code in
     let at3 = here (hart 0x0100000c 0x01800000 0x010000f0) 12 4 (Jalr 0 31 (pos 16)) refl (omega arith) jalr_past in
     record {
-      refused = refused gate_comes_back_elsewhere gate_sample (record { sandbox = 0; address = 0x01000000; rule = V9 }) (gate_alone law);
+      refused = refused gate_comes_back_elsewhere gate_sample (record { sandbox = 0; address = 0x01000000; rule = V9 }) (gate_alone);
       no_other = tt;
       entry = first 0x01000000 e.0;
       is_entry = e.1;
@@ -273,16 +272,14 @@ gate_comes_back_elsewhere_unsafe law =
 
 -- ---- all ten
 
-pub each_rule : IsNeeded V1 0x01000000 (sandbox undecodable) → IsNeeded V2 0x0100000e (sandbox crossing_store) → IsNeeded V3 0x01000000 (sandbox ecall_at_no_gate) → IsNeeded V4 0x01000000 (sandbox written_rd_forgotten)
-    → IsNeeded V5 0x01000008 (sandbox pair_on_x0) → IsNeeded V6 0x01000008 (sandbox jalr_offset_ignored) → IsNeeded V7 0x01000010 (sandbox jump_to_any_start) → IsNeeded V8 0x010000fc (sandbox running_off_the_end)
-    → IsNeeded V9 0x01000000 (sandbox gate_comes_back_elsewhere) → IsNeeded V10 0x01000000 (sandbox stack_not_put_back) → EachRuleIsNeeded
-each_rule a b c d e f g h i j V1 = (0x01000000, sandbox undecodable, a)
-each_rule a b c d e f g h i j V2 = (0x0100000e, sandbox crossing_store, b)
-each_rule a b c d e f g h i j V3 = (0x01000000, sandbox ecall_at_no_gate, c)
-each_rule a b c d e f g h i j V4 = (0x01000000, sandbox written_rd_forgotten, d)
-each_rule a b c d e f g h i j V5 = (0x01000008, sandbox pair_on_x0, e)
-each_rule a b c d e f g h i j V6 = (0x01000008, sandbox jalr_offset_ignored, f)
-each_rule a b c d e f g h i j V7 = (0x01000010, sandbox jump_to_any_start, g)
-each_rule a b c d e f g h i j V8 = (0x010000fc, sandbox running_off_the_end, h)
-each_rule a b c d e f g h i j V9 = (0x01000000, sandbox gate_comes_back_elsewhere, i)
-each_rule a b c d e f g h i j V10 = (0x01000000, sandbox stack_not_put_back, j)
+pub each_rule : EachRuleIsNeeded
+each_rule V1 = (0x01000000, sandbox undecodable, undecodable_unsafe)
+each_rule V2 = (0x0100000e, sandbox crossing_store, crossing_store_unsafe)
+each_rule V3 = (0x01000000, sandbox ecall_at_no_gate, ecall_at_no_gate_unsafe)
+each_rule V4 = (0x01000000, sandbox written_rd_forgotten, written_rd_forgotten_unsafe)
+each_rule V5 = (0x01000008, sandbox pair_on_x0, pair_on_x0_unsafe)
+each_rule V6 = (0x01000008, sandbox jalr_offset_ignored, jalr_offset_ignored_unsafe)
+each_rule V7 = (0x01000010, sandbox jump_to_any_start, jump_to_any_start_unsafe)
+each_rule V8 = (0x010000fc, sandbox running_off_the_end, running_off_the_end_unsafe)
+each_rule V9 = (0x01000000, sandbox gate_comes_back_elsewhere, gate_comes_back_elsewhere_unsafe)
+each_rule V10 = (0x01000000, sandbox stack_not_put_back, stack_not_put_back_unsafe)

@@ -6,7 +6,6 @@ use Rattle.rv_comp.specs.Fronts.{Spells}
 use Rattle.rv_mem.specs.Bytes.{address_after}
 use Rattle.rv_step.specs.State.{Hart}
 use Rattle.sfi_image.specs.Spelling.{Part}
-use Rattle.sfi_image.specs.Laws.{WholeBundles}
 use Rattle.sfi_scan.specs.declared.rule.Rule.TheVariants.{V3, V4, V5, V6, V7, V8, V9, V10}
 use Rattle.sfi_scan.specs.declared.finding.Finding.{Finding}
 use Rattle.sfi_scan.specs.Bundles.{place_of, bundle_bytes}
@@ -15,7 +14,8 @@ use Rattle.sfi_scan.specs.Rules.{Place, breaks, breaks_ecall, breaks_reserved, b
 use Rattle.sfi_scan.specs.Findings.{lowest, all_rules, findings_from}
 use Rattle.sfi_check.specs.Leaving.{Leaves}
 use Rattle.sfi_check.specs.Places.{IsCleanPart, StackInDataBefore, IsAtPlace}
-use Rattle.sfi_check.proofs.Places.{spelled_length, spelled_some, nothing_before, at_start, bundle_length, here_within, code_end}
+use Rattle.sfi_check.proofs.Places.{spelled_length, spelled_some, nothing_before, at_start, bundle_length, here_within}
+use Rattle.sfi_image.proofs.Facts.{whole_bundles, code_ends}
 
 -- none of the rules is broken at a place
 pub record KeepsRules (x : Place) : Type 0 where
@@ -82,14 +82,14 @@ something_left bytes x h =
 
 module _ (sandbox : ℕ) (p : Part) (h h' : Hart) (clean : IsCleanPart sandbox p) (at : IsAtPlace sandbox p h) where
   -- after the last piece of a bundle that is not the region's last
-  over_the_end : WholeBundles → at.later ≡ [] → h'.pc ≡ address_after h.pc at.here.size → ends_region at.here.instr ≡ false → StackInDataBefore p (at.here.instr ∷ at.earlier) at.later h'.registers → IsAtPlace sandbox p h'
-  over_the_end law nil pc' goes stack =
+  over_the_end : at.later ≡ [] → h'.pc ≡ address_after h.pc at.here.size → ends_region at.here.instr ≡ false → StackInDataBefore p (at.here.instr ∷ at.earlier) at.later h'.registers → IsAtPlace sandbox p h'
+  over_the_end nil pc' goes stack =
       let b = at.number in
       let size = here_within sandbox p h clean at in
-      let end = code_end law sandbox p clean in
+      let end = code_ends p clean.right in
       let pc : h.pc ≡ p.code_base + 16 * b + at.offset = at.pc in
       let within : 16 * b + 16 ≤ length p.code = at.within in
-      let bundles = law p.format p.code_base (length p.code) clean.right.code_base clean.right.code_placed in
+      let bundles = whole_bundles p.format p.code_base (length p.code) clean.right.code_base clean.right.code_placed in
       let base_is : p.code_base ≡ 16 * bundles.1 = bundles.3 in
       let size_is : length p.code ≡ 16 * bundles.0 = bundles.2 in
       let gone : drop at.here.size (drop at.offset (bundle_bytes p b)) ≡ [] =
@@ -105,15 +105,15 @@ module _ (sandbox : ℕ) (p : Part) (h h' : Hart) (clean : IsCleanPart sandbox p
       let other : p.code_base + 16 * b + 16 ≢ p.code_base + length p.code = eqb-false _ _ not_last in
       let next : p.code_base + 16 * b + 16 < p.code_base + length p.code = omega arith in
       let to : h'.pc ≡ p.code_base + 16 * b + 16 = pc' ∙ omega arith in
-      at_start law sandbox p h' clean (record { held = (omega arith, omega arith); aligned = omega arith }) (subst (λ (l : List Piece). StackInDataBefore p (at.here.instr ∷ at.earlier) l h'.registers) nil stack)
+      at_start sandbox p h' clean (record { held = (omega arith, omega arith); aligned = omega arith }) (subst (λ (l : List Piece). StackInDataBefore p (at.here.instr ∷ at.earlier) l h'.registers) nil stack)
 
   -- before another piece of the same bundle
-  to_the_next : WholeBundles → (x : Piece) (later : List Piece) → at.later ≡ x ∷ later → h'.pc ≡ address_after h.pc at.here.size → Leaves p (at.here.instr ∷ at.earlier) h'.registers → StackInDataBefore p (at.here.instr ∷ at.earlier) at.later h'.registers → IsAtPlace sandbox p h'
+  to_the_next : (x : Piece) (later : List Piece) → at.later ≡ x ∷ later → h'.pc ≡ address_after h.pc at.here.size → Leaves p (at.here.instr ∷ at.earlier) h'.registers → StackInDataBefore p (at.here.instr ∷ at.earlier) at.later h'.registers → IsAtPlace sandbox p h'
   unfolding later_clean
-  to_the_next law x later is pc' leaves stack =
+  to_the_next x later is pc' leaves stack =
       let b = at.number in
       let size = here_within sandbox p h clean at in
-      let end = code_end law sandbox p clean in
+      let end = code_ends p clean.right in
       let pc : h.pc ≡ p.code_base + 16 * b + at.offset = at.pc in
       let within : 16 * b + 16 ≤ length p.code = at.within in
       let moved : drop at.here.size (drop at.offset (bundle_bytes p b)) ≡ drop (at.offset + at.here.size) (bundle_bytes p b) = drop-drop at.here.size at.offset (bundle_bytes p b) in
@@ -141,9 +141,9 @@ module _ (sandbox : ℕ) (p : Part) (h h' : Hart) (clean : IsCleanPart sandbox p
       }
 
   -- to what is after an instruction that does not end a region
-  pub goes_on : WholeBundles → h'.pc ≡ address_after h.pc at.here.size → ends_region at.here.instr ≡ false → Leaves p (at.here.instr ∷ at.earlier) h'.registers → StackInDataBefore p (at.here.instr ∷ at.earlier) at.later h'.registers → IsAtPlace sandbox p h'
-  goes_on law pc' goes leaves stack = by_later at.later refl
+  pub goes_on : h'.pc ≡ address_after h.pc at.here.size → ends_region at.here.instr ≡ false → Leaves p (at.here.instr ∷ at.earlier) h'.registers → StackInDataBefore p (at.here.instr ∷ at.earlier) at.later h'.registers → IsAtPlace sandbox p h'
+  goes_on pc' goes leaves stack = by_later at.later refl
     where
       by_later : (later : List Piece) → at.later ≡ later → IsAtPlace sandbox p h'
-      by_later [] is = over_the_end law is pc' goes stack
-      by_later (x ∷ later) is = to_the_next law x later is pc' leaves stack
+      by_later [] is = over_the_end is pc' goes stack
+      by_later (x ∷ later) is = to_the_next x later is pc' leaves stack

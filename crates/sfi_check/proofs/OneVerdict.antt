@@ -7,10 +7,8 @@ use Rattle.sfi_image.specs.Spelling.{Part}
 use Rattle.sfi_image.specs.Images.{IsImage}
 use Rattle.sfi_image.specs.Faults.{IsFault, number_of}
 use Rattle.sfi_image.specs.Fronts.{HasFaultNumberWhateverFollows}
-use Rattle.sfi_image.specs.Laws.{OneImage}
 use Rattle.sfi_scan.specs.declared.finding.Finding.{Finding}
 use Rattle.sfi_scan.specs.Findings.{AreImageFindings}
-use Rattle.sfi_scan.specs.Laws.{OneImageList}
 use Rattle.sfi_check.specs.declared.refusal.Refusal.{Refusal}
 use Rattle.sfi_check.specs.declared.refusal.Refusal.TheVariants.{Layout, Findings, Memory}
 use Rattle.sfi_check.specs.declared.stream_answer.StreamAnswer.{StreamAnswer}
@@ -19,32 +17,34 @@ use Rattle.sfi_check.specs.Safety.{AllRunSafely}
 use Rattle.sfi_check.specs.Verdict.{IsAccepted, HasFindings, bundle_count}
 use Rattle.sfi_check.specs.Streams.{IsVerdictOn, IsFaultOf, AreCounted}
 use Rattle.sfi_check.specs.OneVerdict.{Answers, IsReadOf, SaysSame, OneListOfFindings, NeverAcceptedWithFindings, VerdictIsOnAll, OneVerdict, StreamSaysSame}
-use Rattle.sfi_check.specs.private.Laws.{ReadingLaws}
+use Rattle.sfi_image.proofs.Facts.{one_image, one_fault}
+use Rattle.sfi_image.proofs.Facts as image_facts
+use Rattle.sfi_scan.proofs.Facts.{one_image_list}
 
 -- ---- findings
 
 -- they are those of the one list of parts that the bytes have
-on_one_image : OneImage → (bytes : List ℕ) (ps : List Part) (found : List Finding) → IsImage bytes ps → HasFindings bytes found → AreImageFindings ps found
-on_one_image images bytes ps found image h =
-    subst (λ (qs : List Part). AreImageFindings qs found) (images bytes h.parts ps h.image image) h.found_are
+on_one_image : (bytes : List ℕ) (ps : List Part) (found : List Finding) → IsImage bytes ps → HasFindings bytes found → AreImageFindings ps found
+on_one_image bytes ps found image h =
+    subst (λ (qs : List Part). AreImageFindings qs found) (one_image bytes h.parts ps h.image image) h.found_are
 
-pub one_list : OneImage → OneImageList → OneListOfFindings
-one_list images lists bytes found others h g = lists h.parts found others h.found_are (on_one_image images bytes h.parts others h.image g)
+pub one_list : OneListOfFindings
+one_list bytes found others h g = one_image_list h.parts found others h.found_are (on_one_image bytes h.parts others h.image g)
 
-pub never_both : OneImage → OneImageList → NeverAcceptedWithFindings
-never_both images lists bytes ps found ok h = h.some (lists ps found [] (on_one_image images bytes ps found ok.image h) ok.none_found)
+pub never_both : NeverAcceptedWithFindings
+never_both bytes ps found ok h = h.some (one_image_list ps found [] (on_one_image bytes ps found ok.image h) ok.none_found)
 
 -- ---- the verdict, by what the bytes are
 
-module _ (laws : ReadingLaws) (bytes : List ℕ) where
+module _ (bytes : List ℕ) where
   pub on_fault : (k : LayoutFault) (number : ℕ) → number_of k ≡ number → IsFault bytes k → IsVerdictOn bytes true (answers.Layout number)
   on_fault k number e wrong = record {
     layout = inl (refl, (k, e, wrong));
     findings = tt;
     accepted = tt;
-    only_layout = λ _ j bad. ap (λ (n : ℕ). answers.Layout n) (sym e ∙ ap number_of (laws.faults bytes k j wrong bad));
-    only_findings = λ _ found has first is. absurd (laws.either bytes has.parts k has.image wrong);
-    only_accepted = λ _ ps ok. absurd (laws.either bytes ps k ok.image wrong);
+    only_layout = λ _ j bad. ap (λ (n : ℕ). answers.Layout n) (sym e ∙ ap number_of (one_fault bytes k j wrong bad));
+    only_findings = λ _ found has first is. absurd (image_facts.never_both bytes has.parts k has.image wrong);
+    only_accepted = λ _ ps ok. absurd (image_facts.never_both bytes ps k ok.image wrong);
   }
 
   pub on_accepted : (ps : List Part) (sandboxes bundles : ℕ) → IsAccepted bytes ps → sandboxes ≡ length ps → bundles ≡ bundle_count ps → AllRunSafely ps
@@ -53,10 +53,10 @@ module _ (laws : ReadingLaws) (bytes : List ℕ) where
     layout = tt;
     findings = tt;
     accepted = (refl, ps, ok, s, b, safe);
-    only_layout = λ _ k wrong. absurd (laws.either bytes ps k ok.image wrong);
-    only_findings = λ _ found has first is. absurd (laws.never_both bytes ps found ok has);
+    only_layout = λ _ k wrong. absurd (image_facts.never_both bytes ps k ok.image wrong);
+    only_findings = λ _ found has first is. absurd (never_both bytes ps found ok has);
     only_accepted = λ _ qs fine.
-        let same = laws.images bytes ps qs ok.image fine.image in
+        let same = one_image bytes ps qs ok.image fine.image in
         rw (s, b, same) refl;
   }
 
@@ -65,14 +65,14 @@ module _ (laws : ReadingLaws) (bytes : List ℕ) where
     layout = tt;
     findings = (refl, found, has, counted);
     accepted = tt;
-    only_layout = λ _ k wrong. absurd (laws.either bytes has.parts k has.image wrong);
+    only_layout = λ _ k wrong. absurd (image_facts.never_both bytes has.parts k has.image wrong);
     only_findings = λ _ others have other is.
-        let same = laws.lists bytes found others has have in
+        let same = one_list bytes found others has have in
         let here : Some first ≡ Some other = sym counted.first_is ∙ ap (λ (l : List Finding). slice_get l 0) same ∙ is in
         let head : first ≡ other = cc in
         let n : count ≡ length others = counted.count_is ∙ ap length same in
         rw (n, head) refl;
-    only_accepted = λ _ ps ok. absurd (laws.never_both bytes ps found ok has);
+    only_accepted = λ _ ps ok. absurd (never_both bytes ps found ok has);
   }
 
 -- ---- after a beginning of the bytes
@@ -85,16 +85,16 @@ module _ (bytes read : List ℕ) (ends : Bool) (of : IsReadOf bytes read ends) w
   fault number (inl (e, h)) = subst (λ (l : List ℕ). IsFaultOf l number) (whole e) h
   fault number (inr (k, is, h)) = (k, is, subst (λ (l : List ℕ). IsFault l k) (sym of.bytes_are) (h of.unread))
 
-  on_all : ReadingLaws → (said : StreamAnswer) → IsVerdictOn read ends said → said ≢ answers.ReadFault → IsVerdictOn bytes true said
-  on_all laws (answers.Accepted sandboxes bundles) h came =
-      let a = h.accepted in on_accepted laws bytes a.1 sandboxes bundles (subst (λ (l : List ℕ). IsAccepted l a.1) (whole a.0) a.2) a.3 a.4 a.5
-  on_all laws (answers.Layout number) h came = let k = fault number h.layout in on_fault laws bytes k.0 number k.1 k.2
-  on_all laws (answers.Findings count first) h came =
-      let f = h.findings in on_findings laws bytes f.1 count first (subst (λ (l : List ℕ). HasFindings l f.1) (whole f.0) f.2) f.3
-  on_all laws answers.ReadFault h came = absurd (came refl)
+  on_all : (said : StreamAnswer) → IsVerdictOn read ends said → said ≢ answers.ReadFault → IsVerdictOn bytes true said
+  on_all (answers.Accepted sandboxes bundles) h came =
+      let a = h.accepted in on_accepted bytes a.1 sandboxes bundles (subst (λ (l : List ℕ). IsAccepted l a.1) (whole a.0) a.2) a.3 a.4 a.5
+  on_all (answers.Layout number) h came = let k = fault number h.layout in on_fault bytes k.0 number k.1 k.2
+  on_all (answers.Findings count first) h came =
+      let f = h.findings in on_findings bytes f.1 count first (subst (λ (l : List ℕ). HasFindings l f.1) (whole f.0) f.2) f.3
+  on_all answers.ReadFault h came = absurd (came refl)
 
-pub verdict_is_on_all : ReadingLaws → VerdictIsOnAll
-verdict_is_on_all laws bytes read ends said of h came = on_all bytes read ends of laws said h came
+pub verdict_is_on_all : VerdictIsOnAll
+verdict_is_on_all bytes read ends said of h came = on_all bytes read ends of said h came
 
 -- ---- so there is one
 
@@ -122,9 +122,9 @@ module _ (bytes : List ℕ) where
           (x, head, g.only_findings refl found.items has x head)
   same (Err Memory) said h g = tt
 
-pub one_verdict : VerdictIsOnAll → OneVerdict
-one_verdict law bytes read others ends stops said told of other h g came arrived =
-    one bytes said told (law bytes read ends said of h came) (law bytes others stops told other g arrived) came
+pub one_verdict : OneVerdict
+one_verdict bytes read others ends stops said told of other h g came arrived =
+    one bytes said told (verdict_is_on_all bytes read ends said of h came) (verdict_is_on_all bytes others stops told other g arrived) came
 
-pub stream_says_same : VerdictIsOnAll → StreamSaysSame
-stream_says_same law bytes read ends answer said h of g came = same bytes answer said h (law bytes read ends said of g came)
+pub stream_says_same : StreamSaysSame
+stream_says_same bytes read ends answer said h of g came = same bytes answer said h (verdict_is_on_all bytes read ends said of g came)

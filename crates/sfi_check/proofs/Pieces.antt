@@ -9,7 +9,6 @@ use Rattle.sfi_check.specs.declared.progress.Progress.TheVariants as ways
 use Rattle.sfi_check.specs.declared.stream_answer.StreamAnswer.{StreamAnswer}
 use Rattle.sfi_check.specs.declared.stream_answer.StreamAnswer.TheVariants as answers
 use Rattle.sfi_check.specs.declared.tally.Tally.{Tally}
-use Rattle.sfi_check.specs.private.Laws.{StreamLaws}
 use Rattle.sfi_check.specs.private.Tallies.{IsSoFar, IsCut, IsTold, Goes, verdict_of}
 use Rattle.sfi_check.specs.Streams.{IsVerdictOn, AreHandedOver}
 use Rattle.sfi_check.proofs.Leading.{fault_on}
@@ -46,7 +45,7 @@ module _ {S : Type 0} {reads : S → ℕ → Option (List ℕ) → S → Type 0}
   pub faulty : (number : ℕ) → HasFaultNumberWhateverFollows (i.so_far ++ rest) number × IsTold told → IsJudged t (answers.Layout number)
   faulty number h = (i.so_far ++ rest, false, h.1.0, i.streams, judged_onwards (i.so_far ++ rest) number h.0, h.1.1, record { findings = tt; accepted = tt })
 
-  module _ (laws : StreamLaws) (after : ReaderState) (found : Tally) (at : ℕ) where
+  module _ (after : ReaderState) (found : Tally) (at : ℕ) where
     -- the image is whole, and more is held
     pub more_held : Goes told reader after found i.so_far rest (ways.Whole at) → at < held → IsJudged t (answers.Layout 11)
     more_held whole more =
@@ -56,7 +55,7 @@ module _ {S : Type 0} {reads : S → ℕ → Option (List ℕ) → S → Type 0}
           false,
           whole.1.tallies.found,
           i.streams,
-          judged_onwards (i.so_far ++ rest) 11 (fault_on i.so_far at 11 rest (trailing laws after found (i.so_far ++ take at rest) (drop at rest) whole.1 whole.2 some)),
+          judged_onwards (i.so_far ++ rest) 11 (fault_on i.so_far at 11 rest (trailing after found (i.so_far ++ take at rest) (drop at rest) whole.1 whole.2 some)),
           whole.1.tallies.told_is,
           record { findings = tt; accepted = tt },
         )
@@ -72,7 +71,7 @@ module _ {S : Type 0} {reads : S → ℕ → Option (List ℕ) → S → Type 0}
       whole.1.tallies.found,
       some_read reads s t u (i.so_far ++ rest) more 4096 i.streams read (omega arith) some,
       judged_onwards ((i.so_far ++ rest) ++ more) 11
-          (trailing laws after found (i.so_far ++ rest) more (subst (λ (l : List ℕ). IsSoFar told after found (i.so_far ++ l)) (all_taken all) whole.1) whole.2 some),
+          (trailing after found (i.so_far ++ rest) more (subst (λ (l : List ℕ). IsSoFar told after found (i.so_far ++ l)) (all_taken all) whole.1) whole.2 some),
       whole.1.tallies.told_is,
       record { findings = tt; accepted = tt },
     )
@@ -80,7 +79,7 @@ module _ {S : Type 0} {reads : S → ℕ → Option (List ℕ) → S → Type 0}
     -- or the stream ends there
     pub ends_whole : Goes told reader after found i.so_far rest (ways.Whole at) → held ≤ at → (u : S) → reads t 4096 (Some []) u → IsJudged u (verdict_of found)
     ends_whole whole all u read =
-        let j = subst (λ (l : List ℕ). IsJudgedWhole told (i.so_far ++ l) (verdict_of found)) (all_taken all) (ended_whole laws after found (i.so_far ++ take at rest) whole.1 whole.2) in (
+        let j = subst (λ (l : List ℕ). IsJudgedWhole told (i.so_far ++ l) (verdict_of found)) (all_taken all) (ended_whole after found (i.so_far ++ take at rest) whole.1 whole.2) in (
           i.so_far ++ rest,
           true,
           j.0,
@@ -99,7 +98,7 @@ module _ {S : Type 0} {reads : S → ℕ → Option (List ℕ) → S → Type 0}
           true,
           cut.1.tallies.found,
           end_read reads s t u (i.so_far ++ rest) n i.streams read few some,
-          subst (λ (l : List ℕ). IsVerdictOn l true (answers.Layout 3)) whole (ended_short laws after found (i.so_far ++ take at rest) (drop at rest) cut.1 short),
+          subst (λ (l : List ℕ). IsVerdictOn l true (answers.Layout 3)) whole (ended_short after found (i.so_far ++ take at rest) (drop at rest) cut.1 short),
           cut.1.tallies.told_is,
           record { findings = tt; accepted = tt },
         )

@@ -11,7 +11,6 @@ use Rattle.rv_step.specs.Step.{Stands}
 use Rattle.sfi_image.specs.Spelling.{Part}
 use Rattle.sfi_image.specs.Spans.{code_region}
 use Rattle.sfi_image.specs.Regions.{IsBundleStart}
-use Rattle.sfi_image.specs.Laws.{WholeBundles}
 use Rattle.sfi_scan.specs.declared.bundle.BundlePlace.{BundlePlace}
 use Rattle.sfi_scan.specs.declared.finding.Finding.{Finding}
 use Rattle.sfi_scan.specs.Bundles.{place_of, bundle_bytes}
@@ -21,6 +20,7 @@ use Rattle.sfi_scan.specs.Findings.{findings_from, rest_finding, AreReadingFindi
 use Rattle.sfi_check.specs.Regions.{InCode, StackInData, HasCode}
 use Rattle.sfi_check.specs.Places.{IsCleanPart, IsAtPlace}
 use Rattle.sfi_check.proofs.PairResult.{leaves_nothing}
+use Rattle.sfi_image.proofs.Facts.{whole_bundles, code_ends}
 
 -- ---- spellings
 
@@ -70,9 +70,6 @@ all_clean b bytes found =
 pub bundle_length : (p : Part) (b : ℕ) → 16 * b + 16 ≤ length p.code → length (bundle_bytes p b) ≡ 16
 bundle_length p b within = simp (length-take, length-drop) (omega arith)
 
-pub code_end : WholeBundles → (sandbox : ℕ) (p : Part) → IsCleanPart sandbox p → p.code_base + length p.code ≤ 2 ^ 32
-code_end law sandbox p clean = (law p.format p.code_base (length p.code) clean.right.code_base clean.right.code_placed).4
-
 -- a reading that leaves nothing has a first piece
 at_first : (sandbox : ℕ) (p : Part) (h : Hart) (b : ℕ) → 16 * b + 16 ≤ length p.code → h.pc ≡ p.code_base + 16 * b → length (bundle_bytes p b) ≡ 16
     → StackInData p h.registers → (reading : List Piece) → IsReading (bundle_bytes p b) reading → rest_of (bundle_bytes p b) reading ≡ [] → findings_from (place_of sandbox p b) true (p.code_base + 16 * b) [] reading ≡ [] → IsAtPlace sandbox p h
@@ -94,9 +91,9 @@ at_first sandbox p h b within pc size stack (here ∷ later) is whole clean = re
 }
 
 -- at a bundle start
-pub at_start : WholeBundles → (sandbox : ℕ) (p : Part) (h : Hart) → IsCleanPart sandbox p → IsBundleStart (code_region p) h.pc → StackInData p h.registers → IsAtPlace sandbox p h
-at_start law sandbox p h clean start stack =
-    let bundles = law p.format p.code_base (length p.code) clean.right.code_base clean.right.code_placed in
+pub at_start : (sandbox : ℕ) (p : Part) (h : Hart) → IsCleanPart sandbox p → IsBundleStart (code_region p) h.pc → StackInData p h.registers → IsAtPlace sandbox p h
+at_start sandbox p h clean start stack =
+    let bundles = whole_bundles p.format p.code_base (length p.code) clean.right.code_base clean.right.code_placed in
     let base_is : p.code_base ≡ 16 * bundles.1 = bundles.3 in
     let from : p.code_base ≤ h.pc = start.held.0 in
     let below : h.pc < p.code_base + length p.code = start.held.1 in
@@ -159,12 +156,12 @@ module _ (sandbox : ℕ) (p : Part) (h : Hart) (clean : IsCleanPart sandbox p) (
       ∙ get_or-drop (16 * at.number) p.code (at.offset + k) 0
       ∙ ap (λ n. get_or p.code n 0) place
 
-  there_here : WholeBundles → (m : Bytes) → HasCode p m → (k : ℕ) → k < length bytes_here → byte_at m (address_after h.pc k) ≡ Some (slice_index bytes_here k)
-  there_here law m code k below =
+  there_here : (m : Bytes) → HasCode p m → (k : ℕ) → k < length bytes_here → byte_at m (address_after h.pc k) ≡ Some (slice_index bytes_here k)
+  there_here m code k below =
       let size = here_within in
       let below' : k < at.here.size = subst (λ n. k < n) length_here below in
       let within : 16 * at.number + 16 ≤ length p.code = at.within in
-      let end = code_end law sandbox p clean in
+      let end = code_ends p clean.right in
       let pc : h.pc ≡ p.code_base + 16 * at.number + at.offset = at.pc in
       let j = 16 * at.number + at.offset + k in
       let same : address_after h.pc k ≡ p.code_base + j = omega arith in
@@ -179,19 +176,19 @@ module _ (sandbox : ℕ) (p : Part) (h : Hart) (clean : IsCleanPart sandbox p) (
       let within : 16 * at.number + 16 ≤ length p.code = at.within in
       (omega arith, omega arith)
 
-  pub byte_in_code : WholeBundles → (k : ℕ) → k < at.here.size → InCode p (address_after h.pc k)
-  byte_in_code law k below =
+  pub byte_in_code : (k : ℕ) → k < at.here.size → InCode p (address_after h.pc k)
+  byte_in_code k below =
       let size = here_within in
-      let end = code_end law sandbox p clean in
+      let end = code_ends p clean.right in
       let pc : h.pc ≡ p.code_base + 16 * at.number + at.offset = at.pc in
       let within : 16 * at.number + 16 ≤ length p.code = at.within in
       let e : address_after h.pc k ≡ h.pc + k = omega arith in
       (omega arith, omega arith)
 
-  read_here : WholeBundles → (m : Bytes) → HasCode p m → bytes_at m (addresses h.pc at.here.size) ≡ Some bytes_here
-  read_here law m code =
+  read_here : (m : Bytes) → HasCode p m → bytes_at m (addresses h.pc at.here.size) ≡ Some bytes_here
+  read_here m code =
       subst (λ (n : ℕ). bytes_at m (addresses h.pc n) ≡ Some bytes_here) length_here
-      (read_all m (address_after h.pc) 0 bytes_here (λ k below. let e : k ≡ 0 + k = omega arith in subst (λ (j : ℕ). byte_at m (address_after h.pc j) ≡ Some (slice_index bytes_here k)) e (there_here law m code k below)))
+      (read_all m (address_after h.pc) 0 bytes_here (λ k below. let e : k ≡ 0 + k = omega arith in subst (λ (j : ℕ). byte_at m (address_after h.pc j) ≡ Some (slice_index bytes_here k)) e (there_here m code k below)))
 
-  pub present : WholeBundles → (m : Bytes) → HasCode p m → Stands (record { hart = h; memory = m }) at.here.instr at.here.size
-  present law m code = record { bytes = bytes_here; there = read_here law m code; spelled = spelled_here }
+  pub present : (m : Bytes) → HasCode p m → Stands (record { hart = h; memory = m }) at.here.instr at.here.size
+  present m code = record { bytes = bytes_here; there = read_here m code; spelled = spelled_here }

@@ -11,7 +11,6 @@ use Rattle.rv_word.specs.declared.instr.Instr.{Instr}
 use Rattle.rv_word.specs.declared.instr.Instr.TheVariants.{Ebreak}
 use Rattle.rv_word.specs.Spelling.{spelling, InRange}
 use Rattle.rv_comp.specs.Fronts.{Spells}
-use Rattle.rv_comp.specs.Laws.{OneSpelling}
 use Rattle.sfi_scan.specs.declared.bundle.BundlePlace.{BundlePlace}
 use Rattle.sfi_scan.specs.declared.finding.Finding.{Finding}
 use Rattle.sfi_scan.specs.Bundles.{place_of, bundle_bytes}
@@ -20,6 +19,7 @@ use Rattle.sfi_scan.specs.Rules.{is_empty}
 use Rattle.sfi_scan.specs.Findings.{findings_from, rest_finding, AreBundleFindings, AreFindingsOfFirst, AreFindings}
 use Rattle.sfi_check.specs.Samples.{Sample, sandbox, words_of, bytes_of, code_as}
 use Rattle.sfi_check.proofs.Places.{spelled_length, spelled_some}
+use Rattle.rv_comp.proofs.Facts.{one_spelling}
 
 -- nothing is spelled by no bytes
 none_spelled : (bytes : List ℕ) (y : Piece) → bytes ≡ [] → Spells (take y.size bytes) y.instr y.size → ⊥
@@ -38,23 +38,23 @@ pub nothing_begins : (bytes : List ℕ) → bytes ≡ [] → BeginsNothing bytes
 nothing_begins bytes e = λ y s. none_spelled bytes y e s
 
 -- no reading has more pieces than one after which no instruction begins
-most : OneSpelling → (bytes : List ℕ) (xs ys : List Piece) → IsReading bytes xs → BeginsNothing (rest_of bytes xs) → IsReading bytes ys → length ys ≤ length xs
-most law bytes [] [] a end b = omega arith
-most law bytes [] (y ∷ ys) a end b = absurd (end y b.0)
-most law bytes (x ∷ xs) [] a end b = omega arith
-most law bytes (x ∷ xs) (y ∷ ys) a end b =
-    let e = law (take x.size bytes) (take y.size bytes) x.instr y.instr x.size y.size a.0 b.0 (λ k h g. get_or-take x.size bytes k 0 h ∙ sym (get_or-take y.size bytes k 0 g)) in
-    let rest = most law (drop x.size bytes) xs ys a.1 end (subst (λ (n : ℕ). IsReading (drop n bytes) ys) (sym e.1) b.1) in
+most : (bytes : List ℕ) (xs ys : List Piece) → IsReading bytes xs → BeginsNothing (rest_of bytes xs) → IsReading bytes ys → length ys ≤ length xs
+most bytes [] [] a end b = omega arith
+most bytes [] (y ∷ ys) a end b = absurd (end y b.0)
+most bytes (x ∷ xs) [] a end b = omega arith
+most bytes (x ∷ xs) (y ∷ ys) a end b =
+    let e = one_spelling (take x.size bytes) (take y.size bytes) x.instr y.instr x.size y.size a.0 b.0 (λ k h g. get_or-take x.size bytes k 0 h ∙ sym (get_or-take y.size bytes k 0 g)) in
+    let rest = most (drop x.size bytes) xs ys a.1 end (subst (λ (n : ℕ). IsReading (drop n bytes) ys) (sym e.1) b.1) in
     omega (arith, rest)
 
 -- a bundle that is no gate's has the findings of its reading and of what that leaves
-pub read_bundle : OneSpelling → (b : BundlePlace) (bytes : List ℕ) (reading : List Piece) (rest : List ℕ) (found : List Finding) → b.listed ≡ false → IsReading bytes reading → rest_of bytes reading ≡ rest → BeginsNothing rest
+pub read_bundle : (b : BundlePlace) (bytes : List ℕ) (reading : List Piece) (rest : List ℕ) (found : List Finding) → b.listed ≡ false → IsReading bytes reading → rest_of bytes reading ≡ rest → BeginsNothing rest
     → findings_from b (is_empty rest) b.address [] reading ++ rest_finding b (b.address + (length bytes - length rest)) rest ≡ found → AreBundleFindings b bytes found
-read_bundle law b bytes reading rest found unlisted is left end e = inr (
+read_bundle b bytes reading rest found unlisted is left end e = inr (
   (λ listed. absurd (false≢true (sym unlisted ∙ listed))),
   record {
     reading = reading;
-    longest = record { is_reading = is; longest = λ other h. most law bytes reading other is (subst BeginsNothing (sym left) end) h };
+    longest = record { is_reading = is; longest = λ other h. most bytes reading other is (subst BeginsNothing (sym left) end) h };
     found_is = sym (subst (λ (rest : List ℕ). findings_from b (is_empty rest) b.address [] reading ++ rest_finding b (b.address + (length bytes - length rest)) rest ≡ found) (sym left) e);
   },
 )
@@ -73,18 +73,18 @@ pub ebreak_spelled : IsSpelled Ebreak
 unfolding spelling InRange
 ebreak_spelled = inr (record { size = refl; all = refl; spelled = (tt, refl) })
 
-pub four_words : OneSpelling → (place : BundlePlace) (bytes : List ℕ) (a b c d : Instr) (found : List Finding) → place.listed ≡ false → bytes_of (words_of (a ∷ b ∷ c ∷ d ∷ [])) ≡ bytes
+pub four_words : (place : BundlePlace) (bytes : List ℕ) (a b c d : Instr) (found : List Finding) → place.listed ≡ false → bytes_of (words_of (a ∷ b ∷ c ∷ d ∷ [])) ≡ bytes
     → IsSpelled a → IsSpelled b → IsSpelled c → IsSpelled d → findings_from place true place.address [] (four a b c d) ≡ found → AreBundleFindings place bytes found
-four_words law place bytes a b c d found unlisted is sa sb sc sd e =
+four_words place bytes a b c d found unlisted is sa sb sc sd e =
     subst (λ (l : List ℕ). AreBundleFindings place l found) is
-    (read_bundle law place (bytes_of (words_of (a ∷ b ∷ c ∷ d ∷ []))) (four a b c d) [] found unlisted (sa, (sb, (sc, (sd, tt)))) refl (nothing_begins [] refl) (append-nil (findings_from place true place.address [] (four a b c d)) ∙ e))
+    (read_bundle place (bytes_of (words_of (a ∷ b ∷ c ∷ d ∷ []))) (four a b c d) [] found unlisted (sa, (sb, (sc, (sd, tt)))) refl (nothing_begins [] refl) (append-nil (findings_from place true place.address [] (four a b c d)) ∙ e))
 
 -- such a bundle is read as these four
-pub four_longest : OneSpelling → (bytes : List ℕ) (a b c d : Instr) → bytes_of (words_of (a ∷ b ∷ c ∷ d ∷ [])) ≡ bytes → IsSpelled a → IsSpelled b → IsSpelled c → IsSpelled d → IsLongestReading bytes (four a b c d)
-four_longest law bytes a b c d is sa sb sc sd =
+pub four_longest : (bytes : List ℕ) (a b c d : Instr) → bytes_of (words_of (a ∷ b ∷ c ∷ d ∷ [])) ≡ bytes → IsSpelled a → IsSpelled b → IsSpelled c → IsSpelled d → IsLongestReading bytes (four a b c d)
+four_longest bytes a b c d is sa sb sc sd =
     subst (λ (l : List ℕ). IsLongestReading l (four a b c d)) is (record {
       is_reading = (sa, (sb, (sc, (sd, tt))));
-      longest = λ other h. most law (bytes_of (words_of (a ∷ b ∷ c ∷ d ∷ []))) (four a b c d) other (sa, (sb, (sc, (sd, tt)))) (nothing_begins [] refl) h;
+      longest = λ other h. most (bytes_of (words_of (a ∷ b ∷ c ∷ d ∷ []))) (four a b c d) other (sa, (sb, (sc, (sd, tt)))) (nothing_begins [] refl) h;
     })
 
 abbrev pub wide : Instr → Piece
@@ -92,7 +92,7 @@ wide i = record { instr = i; size = 4 }
 
 -- ---- samples
 
-module _ (law : OneSpelling) (format : Format) (gates : List Gate) (a b c d e f g h i j k l : ℕ) (unlisted : (n : ℕ) → is_gate_of gates (0x01000000 + 16 * suc n) ≡ false) where
+module _ (format : Format) (gates : List Gate) (a b c d e f g h i j k l : ℕ) (unlisted : (n : ℕ) → is_gate_of gates (0x01000000 + 16 * suc n) ≡ false) where
   abbrev s : Sample
   s = record { format = format; gates = gates; first_words = a ∷ b ∷ c ∷ d ∷ e ∷ f ∷ g ∷ h ∷ []; last_words = i ∷ j ∷ k ∷ l ∷ [] }
 
@@ -107,7 +107,7 @@ module _ (law : OneSpelling) (format : Format) (gates : List Gate) (a b c d e f 
   pub quiet : (n : ℕ) → bytes_of (words_of (Ebreak ∷ Ebreak ∷ Ebreak ∷ Ebreak ∷ [])) ≡ bundle_bytes (sandbox s) (suc n) → IsQuiet (suc n) Sfi1 → IsQuiet (suc n) Sfi2
       → AreBundleFindings (place_of 0 (sandbox s) (suc n)) (bundle_bytes (sandbox s) (suc n)) []
   quiet n bytes one two =
-      four_words law (place_of 0 (sandbox s) (suc n)) (bundle_bytes (sandbox s) (suc n)) Ebreak Ebreak Ebreak Ebreak [] (unlisted n) bytes ebreak_spelled ebreak_spelled ebreak_spelled ebreak_spelled (in_each (suc n) format one two)
+      four_words (place_of 0 (sandbox s) (suc n)) (bundle_bytes (sandbox s) (suc n)) Ebreak Ebreak Ebreak Ebreak [] (unlisted n) bytes ebreak_spelled ebreak_spelled ebreak_spelled ebreak_spelled (in_each (suc n) format one two)
 
   -- one bundle of ebreaks more
   more : (n : ℕ) (found : List Finding) → bytes_of (words_of (Ebreak ∷ Ebreak ∷ Ebreak ∷ Ebreak ∷ [])) ≡ bundle_bytes (sandbox s) (suc n) → IsQuiet (suc n) Sfi1 → IsQuiet (suc n) Sfi2
@@ -129,7 +129,7 @@ pub none_listed : (n : ℕ) → is_gate_of [] (0x01000000 + 16 * suc n) ≡ fals
 none_listed n = refl
 
 -- where it is 8 instructions and then ebreaks, they are those of the two bundles of the 8
-module _ (law : OneSpelling) (format : Format) (a b c d e f g h : Instr) where
+module _ (format : Format) (a b c d e f g h : Instr) where
   abbrev is : Sample
   is = code_as format (a ∷ b ∷ c ∷ d ∷ e ∷ f ∷ g ∷ h ∷ [])
 
@@ -138,7 +138,7 @@ module _ (law : OneSpelling) (format : Format) (a b c d e f g h : Instr) where
   code_findings x y sa sb sc sd se sf sg sh first second =
       let last = spelling Ebreak in
       subst (AreFindings 0 (sandbox is)) (append-nil (x ++ y))
-      (all_findings law format [] (spelling a) (spelling b) (spelling c) (spelling d) (spelling e) (spelling f) (spelling g) (spelling h) last last last last none_listed x y []
-      (four_words law (place_of 0 (sandbox is) 0) (bundle_bytes (sandbox is) 0) a b c d x refl refl sa sb sc sd first)
-      (four_words law (place_of 0 (sandbox is) 1) (bundle_bytes (sandbox is) 1) e f g h y refl refl se sf sg sh second)
-      (quiet law format [] (spelling a) (spelling b) (spelling c) (spelling d) (spelling e) (spelling f) (spelling g) (spelling h) last last last last none_listed 14 refl refl refl))
+      (all_findings format [] (spelling a) (spelling b) (spelling c) (spelling d) (spelling e) (spelling f) (spelling g) (spelling h) last last last last none_listed x y []
+      (four_words (place_of 0 (sandbox is) 0) (bundle_bytes (sandbox is) 0) a b c d x refl refl sa sb sc sd first)
+      (four_words (place_of 0 (sandbox is) 1) (bundle_bytes (sandbox is) 1) e f g h y refl refl se sf sg sh second)
+      (quiet format [] (spelling a) (spelling b) (spelling c) (spelling d) (spelling e) (spelling f) (spelling g) (spelling h) last last last last none_listed 14 refl refl refl))

@@ -10,7 +10,6 @@ use Rattle.rv_mem.specs.Bytes.{Bytes, bytes_at, addresses, loaded}
 use Rattle.rv_step.specs.declared.outcome.Outcome.{Outcome}
 use Rattle.rv_step.specs.declared.outcome.Outcome.TheVariants.{Next, Call, Trap}
 use Rattle.rv_step.specs.declared.outcome.Cause.TheVariants as cause
-use Rattle.rv_step.specs.Laws.{StepIsEffect}
 use Rattle.rv_step.specs.State.{Hart, State, register}
 use Rattle.rv_step.specs.Step.{Stepped, IsStep, effect, after_load, next, unchanged}
 use Rattle.rv_step.specs.Values.{load_size, store_size}
@@ -22,9 +21,11 @@ use Rattle.sfi_scan.specs.Findings.{AreFindings, AreFindingsFrom}
 use Rattle.sfi_check.specs.Runs.{IsRun}
 use Rattle.sfi_check.specs.Safety.{IsSafeRun, RunsSafelyFrom, RunsSafely, AllRunSafely}
 use Rattle.sfi_check.specs.Stack.{AllCallWithStack}
-use Rattle.sfi_check.specs.Laws.{CleanRunsSafely, SafeTurns, SafeStaysSafe, SafeFetches}
+use Rattle.sfi_check.specs.Laws.{SafeTurns, SafeStaysSafe, SafeFetches}
 use Rattle.sfi_check.specs.Verdict.{IsClean, MayRun}
 use Rattle.sfi_check.proofs.Places.{nothing_before}
+use Rattle.rv_step.proofs.Facts.{step_is_effect}
+use Rattle.sfi_check.proofs.TurnInvariant.{runs_safely}
 
 -- ---- from a state on
 
@@ -70,15 +71,15 @@ effect_fetch (Fence imm rd rs1) n h m f = f
 effect_fetch Ecall n h m f = f
 effect_fetch Ebreak n h m f = f
 
-never : StepIsEffect → (p : Part) (s : State) (r : Stepped) → RunsSafelyFrom p s → IsStep s r → IsFetch r.outcome → ⊥
-never is p s r from step f =
+never : (p : Part) (s : State) (r : Stepped) → RunsSafelyFrom p s → IsStep s r → IsFetch r.outcome → ⊥
+never p s r from step f =
     let at = (from.safe [] tt).present in
-    effect_fetch at.instr at.size s.hart s.memory (subst (λ (x : Stepped). IsFetch x.outcome) (is s at.instr at.size r at.stands step) f)
+    effect_fetch at.instr at.size s.hart s.memory (subst (λ (x : Stepped). IsFetch x.outcome) (step_is_effect s at.instr at.size r at.stands step) f)
 
-pub fetches : StepIsEffect → SafeFetches
-fetches is p s r at from step = (
-  λ e. never is p s r from step (subst (λ (o : Outcome). IsFetch o) (sym e) tt),
-  λ e. never is p s r from step (subst (λ (o : Outcome). IsFetch o) (sym e) tt),
+pub fetches : SafeFetches
+fetches p s r at from step = (
+  λ e. never p s r from step (subst (λ (o : Outcome). IsFetch o) (sym e) tt),
+  λ e. never p s r from step (subst (λ (o : Outcome). IsFetch o) (sym e) tt),
 )
 
 -- ---- images
@@ -93,21 +94,21 @@ others_right p ps right = record {
   apart = λ i j d less below. right.apart (suc (suc i)) (suc (suc j)) d (omega (arith, less)) (omega (arith, below));
 }
 
-each_safe : CleanRunsSafely → (sandbox : ℕ) (ps : List Part) (found : List Finding) → AreRight ps → found ≡ [] → AreFindingsFrom sandbox ps found → All RunsSafely ps
-each_safe law sandbox [] found right none h k d below = absurd (omega arith)
-each_safe law sandbox (p ∷ ps) found right none h zero d below =
+each_safe : (sandbox : ℕ) (ps : List Part) (found : List Finding) → AreRight ps → found ≡ [] → AreFindingsFrom sandbox ps found → All RunsSafely ps
+each_safe sandbox [] found right none h k d below = absurd (omega arith)
+each_safe sandbox (p ∷ ps) found right none h zero d below =
     let both = nothing_before h.0 h.1 (sym h.4 ∙ none) in
-    law sandbox p (record {
+    runs_safely sandbox p (record {
       right = right.each 0 d below;
       apart = first_apart p ps right;
       none_found = subst (λ (l : List Finding). AreFindings sandbox p l) both.0 h.2;
     })
-each_safe law sandbox (p ∷ ps) found right none h (suc k) d below =
+each_safe sandbox (p ∷ ps) found right none h (suc k) d below =
     let both = nothing_before h.0 h.1 (sym h.4 ∙ none) in
-    each_safe law (sandbox + 1) ps h.1 (others_right p ps right) both.1 h.3 k d (omega (arith, below))
+    each_safe (sandbox + 1) ps h.1 (others_right p ps right) both.1 h.3 k d (omega (arith, below))
 
-pub all_safe : CleanRunsSafely → (ps : List Part) → IsClean ps → AllRunSafely ps
-all_safe law ps clean = record { each = each_safe law 0 ps [] clean.layout.right refl clean.none_found }
+pub all_safe : (ps : List Part) → IsClean ps → AllRunSafely ps
+all_safe ps clean = record { each = each_safe 0 ps [] clean.layout.right refl clean.none_found }
 
-pub may_run : CleanRunsSafely → (ps : List Part) → IsClean ps → AllCallWithStack ps → MayRun ps
-may_run law ps clean calls = record { clean = clean; safe = all_safe law ps clean; calls = calls }
+pub may_run : (ps : List Part) → IsClean ps → AllCallWithStack ps → MayRun ps
+may_run ps clean calls = record { clean = clean; safe = all_safe ps clean; calls = calls }

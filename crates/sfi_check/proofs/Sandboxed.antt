@@ -8,7 +8,6 @@ use Rattle.rv_word.specs.declared.instr.StoreWidth.TheVariants.{Sb}
 use Rattle.rv_word.specs.declared.instr.Instr.TheVariants.{Op, Store, Jal, Ebreak}
 use Rattle.rv_word.specs.Numbers.{minus}
 use Rattle.rv_word.specs.Spelling.{spelling, InRange}
-use Rattle.rv_comp.specs.Laws.{OneSpelling}
 use Rattle.sfi_policy.specs.declared.format.Format.TheVariants.{Sfi1}
 use Rattle.rv_mem.specs.Bytes.{Bytes, byte_at, in_front, stored}
 use Rattle.rv_step.specs.declared.outcome.Outcome.TheVariants.{Trap}
@@ -44,17 +43,17 @@ jump_there : IsSpelled (Jal 0 (minus 12))
 unfolding spelling InRange
 jump_there = inr (record { size = refl; all = refl; spelled = ((omega arith, ((omega (arith, ints), omega (arith, ints)), refl)), refl) })
 
-no_finding : OneSpelling → AreFindings 0 p []
-no_finding law =
-    code_findings law Sfi1 (Op And 31 10 27) (Op Or 31 31 26) (Store Sb 31 10 (pos 0)) (Jal 0 (minus 12)) Ebreak Ebreak Ebreak Ebreak [] []
+no_finding : AreFindings 0 p []
+no_finding =
+    code_findings Sfi1 (Op And 31 10 27) (Op Or 31 31 26) (Store Sb 31 10 (pos 0)) (Jal 0 (minus 12)) Ebreak Ebreak Ebreak Ebreak [] []
     and_data or_data store_there jump_there ebreak_spelled ebreak_spelled ebreak_spelled ebreak_spelled refl refl
 
 -- ---- the image
 
-pub accepted : OneSpelling → IsAccepted (image.spelling (p ∷ [])) (p ∷ [])
-accepted law = record {
+pub accepted : IsAccepted (image.spelling (p ∷ [])) (p ∷ [])
+accepted = record {
   image = record { bytes_are = refl; layout = right_layout sandboxed_store is_sample };
-  none_found = ([], [], no_finding law, refl, refl);
+  none_found = ([], [], no_finding, refl, refl);
 }
 
 -- ---- the run
@@ -126,5 +125,5 @@ stores =
       after = ap (λ (r : Stepped). byte_at r.state.memory 0x018000f0) done ∙ store_is e.0 e.1.code e.1.guards;
     }
 
-pub accepted_and_runs : OneSpelling → IsAcceptedAndRuns p
-accepted_and_runs law = record { bytes = image.spelling (p ∷ []); accepted = accepted law; stores = stores }
+pub accepted_and_runs : IsAcceptedAndRuns p
+accepted_and_runs = record { bytes = image.spelling (p ∷ []); accepted = accepted; stores = stores }

@@ -3,19 +3,16 @@ use Rattle.std.proofs.Common.{◌≡◌, ℕ, suc, ◌+◌, ◌*◌, ◌%◌, �
 use Rattle.std.specs.Prelude.{slice_get, nat_lt, nat_le, IsSome}
 use Rattle.std.proofs.lemmas.Bool.{and_parts, or_cases, eqb-true, leb-true, ltb-true, false≢true}
 use Rattle.rv_word.specs.declared.instr.Instr.{Instr}
-use Rattle.rv_comp.specs.Laws.{SpelledInRange, EcallIsWide}
 use Rattle.rv_mem.specs.Bytes.{byte_at}
 use Rattle.rv_step.specs.declared.outcome.Outcome.{Outcome}
 use Rattle.rv_step.specs.declared.outcome.Outcome.TheVariants.{Next, Call, Trap}
 use Rattle.rv_step.specs.Access.{Accesses}
-use Rattle.rv_step.specs.Laws.{OneInstruction, StepIsEffect, StoppedStays, OtherBytesStay, AccessedIsThere}
 use Rattle.rv_step.specs.State.{State}
 use Rattle.rv_step.specs.Step.{Stepped, Stands, IsStep, effect}
 use Rattle.sfi_image.specs.declared.part.Gate.{Gate}
 use Rattle.sfi_image.specs.Spelling.{Part}
 use Rattle.sfi_image.specs.Spans.{Holds, code_region, guarded_region}
 use Rattle.sfi_image.specs.Regions.{IsBundleStart}
-use Rattle.sfi_image.specs.Laws.{WholeBundles}
 use Rattle.sfi_image.specs.Parts.{IsRightPart}
 use Rattle.sfi_image.specs.Gates.{is_gate_of}
 use Rattle.sfi_scan.specs.Bundles.{place_of}
@@ -23,24 +20,14 @@ use Rattle.sfi_scan.specs.Rules.{is_empty, is_bundle_start}
 use Rattle.sfi_check.specs.Regions.{InData, InGuard, IsGate, HasCode, HasEmptyGuards}
 use Rattle.sfi_check.specs.Runs.{after_step}
 use Rattle.sfi_check.specs.Safety.{IsSafeStep, IsTrap}
-use Rattle.sfi_check.specs.Laws.{InstructionLeaves}
 use Rattle.sfi_check.specs.Places.{IsCleanPart, IsGood, IsGoodIf}
-use Rattle.sfi_check.proofs.Places.{code_end, pc_in_code, present}
+use Rattle.sfi_check.proofs.Places.{pc_in_code, present}
 use Rattle.sfi_check.proofs.NextPlace.{place_here, rules_kept, goes_on}
 use Rattle.sfi_check.proofs.Effects.{Here, Leads, accesses_near, no_call, leads}
 use Rattle.sfi_check.proofs.Places.{at_start}
-
--- the laws of spellings, of the machine and of pairs that are used
-pub record Machine : Type 0 where
-  pub one : OneInstruction
-  pub effect_is : StepIsEffect
-  pub stays : StoppedStays
-  pub others : OtherBytesStay
-  pub found : AccessedIsThere
-  pub range : SpelledInRange
-  pub wide : EcallIsWide
-  pub leaves : InstructionLeaves
-  pub bundles : WholeBundles
+use Rattle.rv_comp.proofs.Facts.{spelled_in_range}
+use Rattle.rv_step.proofs.Facts.{one_instruction, step_is_effect, stopped_stays, other_bytes_stay, accessed_is_there}
+use Rattle.sfi_image.proofs.Facts.{code_ends}
 
 -- ---- regions
 
@@ -73,26 +60,26 @@ none_there (Some b) some e = cc
 
 -- ---- the step
 
-module _ (laws : Machine) (sandbox : ℕ) (p : Part) (s : State) (clean : IsCleanPart sandbox p) (good : IsGood sandbox p s) where
+module _ (sandbox : ℕ) (p : Part) (s : State) (clean : IsCleanPart sandbox p) (good : IsGood sandbox p s) where
   pub stands_here : Stands s good.place.here.instr good.place.here.size
-  stands_here = present sandbox p s.hart clean good.place laws.bundles s.memory good.kept.code
+  stands_here = present sandbox p s.hart clean good.place s.memory good.kept.code
 
   pub only : (i : Instr) (n : ℕ) → Stands s i n → (i ≡ good.place.here.instr) × (n ≡ good.place.here.size)
-  only i n stands = laws.one s i good.place.here.instr n good.place.here.size stands stands_here
+  only i n stands = one_instruction s i good.place.here.instr n good.place.here.size stands stands_here
 
   here : Here sandbox p s.hart good.place.here.instr good.place.here.size
   here =
       let at = good.place in
       let rules = rules_kept sandbox p s.hart at in
       let inside = pc_in_code sandbox p s.hart clean at in
-      let end : p.code_base + length p.code ≤ 2 ^ 32 = code_end laws.bundles sandbox p clean in
+      let end : p.code_base + length p.code ≤ 2 ^ 32 = code_ends p clean.right in
       let below : s.hart.pc < p.code_base + length p.code = inside.1 in
       record {
         place = place_here sandbox p s.hart at;
         address = sym at.pc;
         pc = omega arith;
         end = end;
-        range = laws.range stands_here.bytes at.here.instr at.here.size stands_here.spelled;
+        range = spelled_in_range stands_here.bytes at.here.instr at.here.size stands_here.spelled;
         leaves = at.leaves;
         ecall = rules.ecall;
         reserved = rules.reserved;
@@ -106,8 +93,8 @@ module _ (laws : Machine) (sandbox : ℕ) (p : Part) (s : State) (clean : IsClea
             let first : p.code_base + 16 * at.number ≡ s.hart.pc = sym (at.pc ∙ ap (λ (n : ℕ). p.code_base + 16 * at.number + n) (at.first (no_earlier at.earlier e)) ∙ add-zero (p.code_base + 16 * at.number)) in
             subst (λ (a : ℕ). IsGate p a) first (gate_of p.gates (p.code_base + 16 * at.number) listed);
         is_start = bundle_start sandbox p at.number;
-        goes = λ h' pc goes leaves stack. goes_on sandbox p s.hart h' clean at laws.bundles pc goes leaves stack;
-        start = λ h' start stack. at_start laws.bundles sandbox p h' clean start stack;
+        goes = λ h' pc goes leaves stack. goes_on sandbox p s.hart h' clean at pc goes leaves stack;
+        start = λ h' start stack. at_start sandbox p h' clean start stack;
       }
 
   near_here : (a : ℕ) → Accesses good.place.here.instr s.hart a → InData p a ⊎ InGuard p a
@@ -116,27 +103,27 @@ module _ (laws : Machine) (sandbox : ℕ) (p : Part) (s : State) (clean : IsClea
   module _ (r : Stepped) (step : IsStep s r) where
     -- a step has the effect of the instruction that the reading has there
     step_is : r ≡ effect good.place.here.instr good.place.here.size s.hart s.memory
-    step_is = laws.effect_is s good.place.here.instr good.place.here.size r stands_here step
+    step_is = step_is_effect s good.place.here.instr good.place.here.size r stands_here step
 
     step_leads : Leads sandbox p s.hart r.outcome r.state.hart
     step_leads =
         subst (λ (x : Stepped). Leads sandbox p s.hart x.outcome x.state.hart) (sym step_is)
-        (leads laws.leaves sandbox p s.hart s.memory clean.right good.kept.count good.kept.reserved good.place.here.instr good.place.here.size here)
+        (leads sandbox p s.hart s.memory clean.right good.kept.count good.kept.reserved good.place.here.instr good.place.here.size here)
 
     -- what a step that is done found is in no guard
     not_in_guard : r.outcome ≡ Next → (a : ℕ) → Accesses good.place.here.instr s.hart a → InGuard p a → ⊥
     not_in_guard done a has guard =
-        none_there (byte_at s.memory a) (laws.found s good.place.here.instr good.place.here.size r a stands_here step done has) (good.kept.guards a guard)
+        none_there (byte_at s.memory a) (accessed_is_there s good.place.here.instr good.place.here.size r a stands_here step done has) (good.kept.guards a guard)
 
     code_stays : HasCode p r.state.memory
     code_stays k below =
-        laws.others s good.place.here.instr good.place.here.size r (p.code_base + k) stands_here step
+        other_bytes_stay s good.place.here.instr good.place.here.size r (p.code_base + k) stands_here step
         (λ has. clean.apart (p.code_base + k) (omega arith, omega (arith, below)) (guarded p (p.code_base + k) clean.right (near_here (p.code_base + k) has)))
         ∙ good.kept.code k below
 
     guards_stay : r.outcome ≡ Next → HasEmptyGuards p r.state.memory
     guards_stay done a guard =
-        laws.others s good.place.here.instr good.place.here.size r a stands_here step (λ has. not_in_guard done a has guard)
+        other_bytes_stay s good.place.here.instr good.place.here.size r a stands_here step (λ has. not_in_guard done a has guard)
         ∙ good.kept.guards a guard
 
     by_outcome : (o : Outcome) → r.outcome ≡ o → Leads sandbox p s.hart o r.state.hart → IsGoodIf sandbox p (after_step o r.state)
@@ -144,7 +131,7 @@ module _ (laws : Machine) (sandbox : ℕ) (p : Part) (s : State) (clean : IsClea
       kept = record { count = led.count; reserved = led.reserved; code = code_stays; guards = guards_stay e };
       place = led.place;
     }
-    by_outcome Call e led = subst (λ (x : State). IsGood sandbox p x) (sym (laws.stays s r step (λ done. let clash : Next ≡ Call = sym done ∙ e in cc))) good
+    by_outcome Call e led = subst (λ (x : State). IsGood sandbox p x) (sym (stopped_stays s r step (λ done. let clash : Next ≡ Call = sym done ∙ e in cc))) good
     by_outcome (Trap cause at) e led = tt
 
     pub step_good : IsGoodIf sandbox p (after_step r.outcome r.state)

@@ -2,13 +2,10 @@
 use Rattle.std.proofs.Common.{◌≡◌, ℕ, zero, suc, ◌+◌, ◌-◌, ◌*◌, ◌/◌, ◌<◌, List, [], ◌∷◌, take, drop, Some, refl, sym, ap, ◌∙◌, subst, arith}
 use Rattle.rv_word.specs.declared.instr.Instr.{Instr}
 use Rattle.rv_word.specs.declared.instr.Instr.TheVariants.{Ecall, Ebreak}
-use Rattle.rv_word.specs.Laws.{SpellingsAreWide}
 use Rattle.rv_word.specs.Spelling.{spelling}
 use Rattle.rv_comp.specs.Fronts.{Spells}
-use Rattle.rv_comp.specs.Laws.{OneSpelling}
 use Rattle.sfi_policy.specs.declared.format.Format.TheVariants.{Sfi1}
 use Rattle.rv_step.specs.Access.{Accesses}
-use Rattle.rv_step.specs.Laws.{OneInstruction, StepIsEffect}
 use Rattle.rv_step.specs.State.{State}
 use Rattle.rv_step.specs.Step.{Stepped, Stands, IsStep, effect}
 use Rattle.rv_step.specs.declared.outcome.Outcome.TheVariants.{Call, Trap}
@@ -26,12 +23,13 @@ use Rattle.sfi_check.proofs.Samples.{IsSample, without_gates, size, refused, sta
 use Rattle.sfi_check.proofs.Undecodable.{ones_begin_nothing}
 use Rattle.sfi_check.proofs.Needed.{ecall_spelled}
 use Rattle.sfi_check.proofs.NeededBundles.{nop_spelled, short_nop, half_begins_nothing}
+use Rattle.rv_step.proofs.Facts.{one_instruction, step_is_effect}
 
 -- an ebreak stands at that offset of the code
 abbrev StopsAt : Sample → ℕ → Type 0
 StopsAt s n = Spells (take 4 (drop (16 * n) (sandbox s).code)) Ebreak 4
 
-module _ (one : OneInstruction) (by_effect : StepIsEffect) (s : Sample) (is : IsSample s) (stops : (n : ℕ) → n < 16 → StopsAt s n) where
+module _ (s : Sample) (is : IsSample s) (stops : (n : ℕ) → n < 16 → StopsAt s n) where
   -- it stands at the start of a bundle, with the code as it was
   record IsStopped (t : State) : Type 0 where
     code : HasCode (sandbox s) t.memory
@@ -43,7 +41,7 @@ module _ (one : OneInstruction) (by_effect : StepIsEffect) (s : Sample) (is : Is
   ebreak_here t h = let few = h.few in stands s is t.memory h.code t.hart (16 * h.number) 4 Ebreak h.pc (omega (arith, few)) (stops h.number h.few)
 
   only : (t : State) (i : Instr) (n : ℕ) → IsStopped t → Stands t i n → (i ≡ Ebreak) × (n ≡ 4)
-  only t i n h there = one t i Ebreak n 4 there (ebreak_here t h)
+  only t i n h there = one_instruction t i Ebreak n 4 there (ebreak_here t h)
 
   state_safe : (t : State) → IsStopped t → IsSafeState (sandbox s) t
   state_safe t h =
@@ -64,7 +62,7 @@ module _ (one : OneInstruction) (by_effect : StepIsEffect) (s : Sample) (is : Is
       omega (arith, below)
 
   step_stops : (t : State) (r : Stepped) → IsStopped t → IsStep t r → r ≡ effect Ebreak 4 t.hart t.memory
-  step_stops t r h step = by_effect t Ebreak 4 r (ebreak_here t h) step
+  step_stops t r h step = step_is_effect t Ebreak 4 r (ebreak_here t h) step
 
   step_safe : (t : State) (r : Stepped) → IsStopped t → IsStep t r → IsSafeStep (sandbox s) t r
   step_safe t r h step = record {
@@ -137,60 +135,59 @@ module _ (b c d f g h j k l : ℕ) where
   stops : (n : ℕ) → n < 16 → StopsAt stopping n
   stops = sixteen (StopsAt stopping) ebreak_spelled ebreak_spelled ebreak_spelled ebreak_spelled ebreak_spelled ebreak_spelled ebreak_spelled ebreak_spelled ebreak_spelled ebreak_spelled ebreak_spelled ebreak_spelled ebreak_spelled ebreak_spelled ebreak_spelled ebreak_spelled
 
-module _ (law : OneSpelling) (widths : SpellingsAreWide) (one : OneInstruction) (by_effect : StepIsEffect) where
-  pub undecodable_stricter : IsStricter V1 0x01000004 (sandbox undecodable_after_ebreak)
-  undecodable_stricter =
-      let s = undecodable_after_ebreak in
-      let is : IsSample s = without_gates s refl refl refl in
-      let x : Finding = record { sandbox = 0; address = 0x01000004; rule = V1 } in
-      let bytes = bundle_bytes (sandbox s) 0 in
-      record {
-        refused = refused s is x
-            (all_findings law Sfi1 [] brk 0xffffffff brk brk brk brk brk brk brk brk brk brk none_listed (x ∷ []) [] []
-            (read_bundle law (place_of 0 (sandbox s) 0) bytes (wide Ebreak ∷ []) (drop 4 bytes) (x ∷ []) refl (ebreak_spelled, tt) refl (ones_begin_nothing widths (drop 8 bytes)) refl)
-            (quiet law Sfi1 [] brk 0xffffffff brk brk brk brk brk brk brk brk brk brk none_listed 0 refl refl refl)
-            (quiet law Sfi1 [] brk 0xffffffff brk brk brk brk brk brk brk brk brk brk none_listed 14 refl refl refl));
-        safe = stopping_is_safe one by_effect s is (stops 0xffffffff brk brk brk brk brk brk brk brk);
-      }
+pub undecodable_stricter : IsStricter V1 0x01000004 (sandbox undecodable_after_ebreak)
+undecodable_stricter =
+    let s = undecodable_after_ebreak in
+    let is : IsSample s = without_gates s refl refl refl in
+    let x : Finding = record { sandbox = 0; address = 0x01000004; rule = V1 } in
+    let bytes = bundle_bytes (sandbox s) 0 in
+    record {
+      refused = refused s is x
+          (all_findings Sfi1 [] brk 0xffffffff brk brk brk brk brk brk brk brk brk brk none_listed (x ∷ []) [] []
+          (read_bundle (place_of 0 (sandbox s) 0) bytes (wide Ebreak ∷ []) (drop 4 bytes) (x ∷ []) refl (ebreak_spelled, tt) refl (ones_begin_nothing (drop 8 bytes)) refl)
+          (quiet Sfi1 [] brk 0xffffffff brk brk brk brk brk brk brk brk brk brk none_listed 0 refl refl refl)
+          (quiet Sfi1 [] brk 0xffffffff brk brk brk brk brk brk brk brk brk brk none_listed 14 refl refl refl));
+      safe = stopping_is_safe s is (stops 0xffffffff brk brk brk brk brk brk brk brk);
+    }
 
-  pub crossing_stricter : IsStricter V2 0x0100000e (sandbox crossing_after_ebreak)
-  crossing_stricter =
-      let s = crossing_after_ebreak in
-      let is : IsSample s = without_gates s refl refl refl in
-      let x : Finding = record { sandbox = 0; address = 0x0100000e; rule = V2 } in
-      let n = spelling nop in
-      record {
-        refused = refused s is x
-            (all_findings law Sfi1 [] brk n n 0x20230001 brk brk brk brk brk brk brk brk none_listed (x ∷ []) [] []
-            (read_bundle law (place_of 0 (sandbox s) 0) (bundle_bytes (sandbox s) 0) (wide Ebreak ∷ wide nop ∷ wide nop ∷ record { instr = nop; size = 2 } ∷ []) (0x23 ∷ 0x20 ∷ []) (x ∷ []) refl
-            (ebreak_spelled, (nop_spelled, (nop_spelled, (short_nop, tt)))) refl (half_begins_nothing law) refl)
-            (quiet law Sfi1 [] brk n n 0x20230001 brk brk brk brk brk brk brk brk none_listed 0 refl refl refl)
-            (quiet law Sfi1 [] brk n n 0x20230001 brk brk brk brk brk brk brk brk none_listed 14 refl refl refl));
-        safe = stopping_is_safe one by_effect s is (stops n n 0x20230001 brk brk brk brk brk brk);
-      }
+pub crossing_stricter : IsStricter V2 0x0100000e (sandbox crossing_after_ebreak)
+crossing_stricter =
+    let s = crossing_after_ebreak in
+    let is : IsSample s = without_gates s refl refl refl in
+    let x : Finding = record { sandbox = 0; address = 0x0100000e; rule = V2 } in
+    let n = spelling nop in
+    record {
+      refused = refused s is x
+          (all_findings Sfi1 [] brk n n 0x20230001 brk brk brk brk brk brk brk brk none_listed (x ∷ []) [] []
+          (read_bundle (place_of 0 (sandbox s) 0) (bundle_bytes (sandbox s) 0) (wide Ebreak ∷ wide nop ∷ wide nop ∷ record { instr = nop; size = 2 } ∷ []) (0x23 ∷ 0x20 ∷ []) (x ∷ []) refl
+          (ebreak_spelled, (nop_spelled, (nop_spelled, (short_nop, tt)))) refl (half_begins_nothing) refl)
+          (quiet Sfi1 [] brk n n 0x20230001 brk brk brk brk brk brk brk brk none_listed 0 refl refl refl)
+          (quiet Sfi1 [] brk n n 0x20230001 brk brk brk brk brk brk brk brk none_listed 14 refl refl refl));
+      safe = stopping_is_safe s is (stops n n 0x20230001 brk brk brk brk brk brk);
+    }
 
-  pub ecall_stricter : IsStricter V3 0x01000004 (sandbox ecall_after_ebreak)
-  ecall_stricter =
-      let s = ecall_after_ebreak in
-      let is : IsSample s = without_gates s refl refl refl in
-      let x : Finding = record { sandbox = 0; address = 0x01000004; rule = V3 } in
-      record {
-        refused = refused s is x
-            (code_findings law Sfi1 Ebreak Ecall Ebreak Ebreak Ebreak Ebreak Ebreak Ebreak (x ∷ []) [] ebreak_spelled ecall_spelled ebreak_spelled ebreak_spelled ebreak_spelled ebreak_spelled ebreak_spelled ebreak_spelled refl refl);
-        safe = stopping_is_safe one by_effect s is (stops (spelling Ecall) brk brk brk brk brk brk brk brk);
-      }
+pub ecall_stricter : IsStricter V3 0x01000004 (sandbox ecall_after_ebreak)
+ecall_stricter =
+    let s = ecall_after_ebreak in
+    let is : IsSample s = without_gates s refl refl refl in
+    let x : Finding = record { sandbox = 0; address = 0x01000004; rule = V3 } in
+    record {
+      refused = refused s is x
+          (code_findings Sfi1 Ebreak Ecall Ebreak Ebreak Ebreak Ebreak Ebreak Ebreak (x ∷ []) [] ebreak_spelled ecall_spelled ebreak_spelled ebreak_spelled ebreak_spelled ebreak_spelled ebreak_spelled ebreak_spelled refl refl);
+      safe = stopping_is_safe s is (stops (spelling Ecall) brk brk brk brk brk brk brk brk);
+    }
 
-  pub nops_stricter : IsStricter V8 0x010000fc (sandbox nops_after_ebreak)
-  nops_stricter =
-      let s = nops_after_ebreak in
-      let is : IsSample s = without_gates s refl refl refl in
-      let x : Finding = record { sandbox = 0; address = 0x010000fc; rule = V8 } in
-      let n = spelling nop in
-      record {
-        refused = refused s is x
-            (all_findings law Sfi1 [] brk brk brk brk brk brk brk brk brk n n n none_listed [] [] (x ∷ [])
-            (four_words law (place_of 0 (sandbox s) 0) (bundle_bytes (sandbox s) 0) Ebreak Ebreak Ebreak Ebreak [] refl refl ebreak_spelled ebreak_spelled ebreak_spelled ebreak_spelled refl)
-            (quiet law Sfi1 [] brk brk brk brk brk brk brk brk brk n n n none_listed 0 refl refl refl)
-            (four_words law (place_of 0 (sandbox s) 15) (bundle_bytes (sandbox s) 15) Ebreak nop nop nop (x ∷ []) refl refl ebreak_spelled nop_spelled nop_spelled nop_spelled refl));
-        safe = stopping_is_safe one by_effect s is (stops brk brk brk brk brk brk n n n);
-      }
+pub nops_stricter : IsStricter V8 0x010000fc (sandbox nops_after_ebreak)
+nops_stricter =
+    let s = nops_after_ebreak in
+    let is : IsSample s = without_gates s refl refl refl in
+    let x : Finding = record { sandbox = 0; address = 0x010000fc; rule = V8 } in
+    let n = spelling nop in
+    record {
+      refused = refused s is x
+          (all_findings Sfi1 [] brk brk brk brk brk brk brk brk brk n n n none_listed [] [] (x ∷ [])
+          (four_words (place_of 0 (sandbox s) 0) (bundle_bytes (sandbox s) 0) Ebreak Ebreak Ebreak Ebreak [] refl refl ebreak_spelled ebreak_spelled ebreak_spelled ebreak_spelled refl)
+          (quiet Sfi1 [] brk brk brk brk brk brk brk brk brk n n n none_listed 0 refl refl refl)
+          (four_words (place_of 0 (sandbox s) 15) (bundle_bytes (sandbox s) 15) Ebreak nop nop nop (x ∷ []) refl refl ebreak_spelled nop_spelled nop_spelled nop_spelled refl));
+      safe = stopping_is_safe s is (stops brk brk brk brk brk brk n n n);
+    }

@@ -3,7 +3,6 @@ use Rattle.std.proofs.Common.{◌≡◌, ℕ, ◌+◌, ◌*◌, ◌<◌, List, [
 use Rattle.std.specs.Int.{w16, w32, from_le_bytes}
 use Rattle.rv_word.specs.declared.instr.Instr.{Instr}
 use Rattle.rv_word.specs.declared.length.Length.TheVariants.{Wide, Longer}
-use Rattle.rv_word.specs.Laws.{SpellingsAreWide}
 use Rattle.rv_word.specs.Spelling.{IsWordOf}
 use Rattle.rv_comp.specs.Bits.{Bit, Fields, is, bit_value, number_after}
 use Rattle.rv_comp.specs.Halfwords.{IsShortSpelling}
@@ -11,6 +10,7 @@ use Rattle.rv_comp.specs.Table.{row, fields_of}
 use Rattle.rv_comp.specs.declared.form.Form16.{Form16}
 use Rattle.rv_comp.specs.declared.form.Form16.TheVariants.{CAddi4spn, CLw, CSw, CAddi, CJal, CLi, CAddi16sp, CLui, CSrli, CSrai, CAndi, CSub, CXor, COr, CAnd, CJ, CBeqz, CBnez, CSlli, CLwsp, CJr, CJalr, CMv, CAdd, CEbreak, CSwsp}
 use Rattle.sfi_check.proofs.Readings.{BeginsNothing}
+use Rattle.rv_word.proofs.Facts.{spellings_are_wide}
 
 -- a row's last two bits, which are not both 1
 record Ending (f : Form16) : Type 0 where
@@ -60,9 +60,9 @@ halfword_of_ones i s =
     let less = end.less in
     omega (arith, number, less)
 
-word_of_ones : SpellingsAreWide → (i : Instr) → IsWordOf 0xffffffff i → ⊥
-word_of_ones law i s = let wide : Longer ≡ Wide = (law 0xffffffff i s).1 in cc
+word_of_ones : (i : Instr) → IsWordOf 0xffffffff i → ⊥
+word_of_ones i s = let wide : Longer ≡ Wide = (spellings_are_wide 0xffffffff i s).1 in cc
 
-pub ones_begin_nothing : SpellingsAreWide → (rest : List ℕ) → BeginsNothing (255 ∷ 255 ∷ 255 ∷ 255 ∷ rest)
-ones_begin_nothing law rest y (inl s) = halfword_of_ones y.instr (subst (λ (n : ℕ). IsShortSpelling (from_le_bytes w16 (take n (255 ∷ 255 ∷ 255 ∷ 255 ∷ rest))) y.instr) s.size s.spelled)
-ones_begin_nothing law rest y (inr s) = word_of_ones law y.instr (subst (λ (n : ℕ). IsWordOf (from_le_bytes w32 (take n (255 ∷ 255 ∷ 255 ∷ 255 ∷ rest))) y.instr) s.size s.spelled)
+pub ones_begin_nothing : (rest : List ℕ) → BeginsNothing (255 ∷ 255 ∷ 255 ∷ 255 ∷ rest)
+ones_begin_nothing rest y (inl s) = halfword_of_ones y.instr (subst (λ (n : ℕ). IsShortSpelling (from_le_bytes w16 (take n (255 ∷ 255 ∷ 255 ∷ 255 ∷ rest))) y.instr) s.size s.spelled)
+ones_begin_nothing rest y (inr s) = word_of_ones y.instr (subst (λ (n : ℕ). IsWordOf (from_le_bytes w32 (take n (255 ∷ 255 ∷ 255 ∷ 255 ∷ rest))) y.instr) s.size s.spelled)

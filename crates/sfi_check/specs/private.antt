@@ -1,5 +1,4 @@
 -- Words that private contracts and proofs alone cite: no public statement rests on them.
 pub mod Converting
-pub mod Laws
 pub mod Tallies
 pub mod Verdict

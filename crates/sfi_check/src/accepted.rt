@@ -7,7 +7,6 @@ ghost use Rattle.sfi_check.specs.Safety.{AllRunSafely};
 ghost use Rattle.sfi_check.specs.Stack.{AllCallWithStack};
 ghost use Rattle.sfi_check.specs.Verdict.{IsClean, bundle_count};
 
-use crate::laws::{clean_calls_with_stack, clean_runs_safely};
 use sfi_image::{Image, SandboxPart};
 use sfi_policy::BUNDLE_BYTES;
 use std::marker::Model;
@@ -36,10 +35,6 @@ impl<'a> Accepted<'a> {
         requires { IsClean image }
         ensures { result ≡ image.entry }
     {
-        // The laws that the invariant rests on: these calls do nothing.
-        clean_runs_safely();
-        clean_calls_with_stack();
-
         Accepted { image }
     }
 

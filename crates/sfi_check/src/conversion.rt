@@ -13,10 +13,9 @@ ghost use Rattle.sfi_check.specs.private.Converting.{ChecksStack, Converts};
 use crate::accepted::Accepted;
 use crate::refusal::Refusal;
 use crate::verdict::{check, findings_as};
-use sfi_image::{SandboxPart, right_in_second, write_image_as};
+use sfi_image::{SandboxPart, write_image_as};
 use sfi_policy::Format;
 use sfi_scan::Finding;
-use sfi_scan::laws::{clean_breaks_stack_alone, one_image_list};
 use std::alloc::Global;
 use thiserror::Error;
 
@@ -85,9 +84,6 @@ fn check_stack(alloc: Global, parts: &[SandboxPart<'_>]) -> Result<(), ConvertFa
 fn convert_accepted(alloc: Global, accepted: &Accepted<'_>) -> Result<Vec<u8>, ConvertFault>
     ensures { Converts accepted.now result }
 {
-    // The law that the contract rests on: this call does nothing.
-    right_in_second();
-
     let parts = accepted.image().parts();
     check_stack(alloc, parts)?;
     let Ok(bytes) = write_image_as(alloc, Format::Sfi2, parts) else {
@@ -100,6 +96,7 @@ fn convert_accepted(alloc: Global, accepted: &Accepted<'_>) -> Result<Vec<u8>, C
 /// they break one of its rules.
 ///
 /// What it makes is an accepted image: `check` refuses it for want of memory alone.
+#[tactic(auto, using(sfi_scan::proofs::Facts::one_image_list, sfi_scan::proofs::Facts::clean_breaks_stack_alone))]
 pub fn convert(alloc: Global, bytes: &[u8]) -> Result<Vec<u8>, ConvertFault>
     // What each answer means.
     ensures converted { IfOk result (λ new. IsConversion bytes.now new.items) }
@@ -117,10 +114,6 @@ pub fn convert(alloc: Global, bytes: &[u8]) -> Result<Vec<u8>, ConvertFault>
     ensures only_converted { (new : List ℕ) → IsConversion bytes.now new
         → AnswersConversion new result }
 {
-    // The laws that the contract rests on: these calls do nothing.
-    one_image_list();
-    clean_breaks_stack_alone();
-
     if Format::Sfi2.begins(bytes) {
         return Err(ConvertFault::NotOld);
     }

@@ -6,7 +6,7 @@ ghost use Rattle.sfi_check.specs.Feeds.{IsFed, IsReading};
 use crate::code::BUNDLE_BY_BUNDLE;
 use crate::progress::Progress;
 use crate::sink::Nowhere;
-use crate::stream::{stream_laws, take_piece, verdict};
+use crate::stream::{take_piece, verdict};
 use crate::stream_answer::StreamAnswer;
 use crate::tally::Tally;
 use sfi_image::{LayoutReader, Want};
@@ -75,9 +75,6 @@ impl Feed {
         ensures { (so_far : List ℕ) → IsReading self.old so_far
             → IsFed self.new (so_far ++ bytes.now) }
     {
-        // The laws that the contract rests on: this call does nothing.
-        stream_laws();
-
         match take_piece::<Nowhere, BUNDLE_BY_BUNDLE>(
             &mut self.reader,
             &mut self.tally,
@@ -139,9 +136,6 @@ impl Feed {
         ensures judged { (bytes : List ℕ) → IsFed self.now bytes → IsVerdictOn bytes true result }
         ensures read { result ≢ StreamAnswer.ReadFault }
     {
-        // The laws that the contract rests on: this call does nothing.
-        stream_laws();
-
         if let Some(number) = self.fault {
             return StreamAnswer::Layout(number);
         }

@@ -2,19 +2,15 @@
 ghost use Rattle.std.specs.Prelude.{◌≡◌, ◌↔◌, ℕ, ◌+◌, ◌-◌, ◌<◌, ◌≤◌, List, Bool, true, false, length, take, drop, Some, None, IfOk, OnErr};
 ghost use Rattle.sfi_image.specs.Sources.{Streams};
 ghost use Rattle.sfi_scan.specs.declared.finding.Finding.{Finding};
-ghost use Rattle.sfi_check.specs.private.Laws.{StreamLaws};
 ghost use Rattle.sfi_check.specs.private.Tallies.{IsSoFar, Steps, Goes, verdict_of};
 ghost use Rattle.sfi_check.specs.Streams.{IsVerdictOn, AreHandedOver};
 
 use crate::code::{IN_BLOCKS, take_code};
-use crate::laws::{clean_runs_safely, one_list_of_findings};
 use crate::progress::{Progress, Step};
 use crate::sink::{FindingSink, Nowhere};
 use crate::stream_answer::StreamAnswer;
 use crate::tally::Tally;
-use sfi_image::{
-    ByteSource, LayoutReader, ReadFault, Want, front_ends, one_reading, whole_bundles,
-};
+use sfi_image::{ByteSource, LayoutReader, ReadFault, Want};
 use sfi_scan::{BundleFindings, BundlePlace};
 
 /// How many bytes are read at a time, at most.
@@ -36,9 +32,6 @@ fn step<F: FindingSink, const BLOCKS: bool>(
         → Steps (λ found. F.takes first found sink.new)
         reader.old reader.new tally.new so_far rest.now result }
 {
-    // The law that the contract rests on: the call does nothing.
-    whole_bundles();
-
     match reader.wants() {
         Want::Field(len) => {
             if rest.len() < len {
@@ -150,16 +143,6 @@ fn read_more<S: ByteSource>(
     source.read_some(&mut piece[held..])
 }
 
-/// The laws that the verdict on a stream rests on. The call does nothing.
-pub(crate) fn stream_laws()
-    ensures { StreamLaws }
-{
-    one_reading();
-    one_list_of_findings();
-    clean_runs_safely();
-    front_ends();
-}
-
 /// Accepts the bytes of the stream, or says why not, and hands the findings to the sink on the way,
 /// by sandbox and then by address. It takes no memory, and reads at most 4096 bytes at a time, to a
 /// fault of the layout or to the end. Of bytes that it finds to be no image, or after a read that
@@ -174,9 +157,6 @@ pub fn check_stream_into<S: ByteSource, F: FindingSink>(
         × F.takes sink.old found sink.new × AreHandedOver bytes found result }
     ensures failed { (result ≡ StreamAnswer.ReadFault) ↔ (S.has_failed source.new ≡ true) }
 {
-    // The laws that the contract rests on: the call does nothing.
-    stream_laws();
-
     let mut reader = LayoutReader::new();
     let mut tally = Tally {
         sandboxes: 0,

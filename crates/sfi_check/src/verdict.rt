@@ -13,9 +13,8 @@ ghost use Rattle.sfi_check.specs.Verdict.{IsAccepted, HasFindings, AnswersLayout
 
 use crate::accepted::Accepted;
 use crate::refusal::Refusal;
-use sfi_image::{Image, SandboxPart, one_reading, parse_image};
+use sfi_image::{Image, SandboxPart, parse_image};
 use sfi_policy::Format;
-use sfi_scan::laws::one_image_list;
 use sfi_scan::{Finding, scan_part_as};
 use std::alloc::{AllocError, Global};
 
@@ -61,6 +60,7 @@ fn judge<'a>(alloc: Global, image: Image<'a>) -> Result<Accepted<'a>, Refusal>
 ///
 /// The verdict rests on the bytes alone. Want of memory is the one answer that the bytes don't
 /// determine.
+#[tactic(auto, using(sfi_image::proofs::Facts::one_image, sfi_scan::proofs::Facts::one_image_list))]
 pub fn check<'a>(alloc: Global, bytes: &'a [u8]) -> Result<Accepted<'a>, Refusal>
     // What each answer means.
     ensures layout { IfErr result (IfLayoutFault (IsFault bytes.entry.now)) }
@@ -77,10 +77,6 @@ pub fn check<'a>(alloc: Global, bytes: &'a [u8]) -> Result<Accepted<'a>, Refusal
     // What acceptance is worth: every run from every entry of every sandbox is safe.
     ensures safe { IfOk result (λ ps. AllRunSafely ps) }
 {
-    // The laws that the contract rests on: these calls do nothing.
-    one_reading();
-    one_image_list();
-
     match parse_image(alloc, bytes) {
         Ok(image) => judge(alloc, image),
         Err(fault) => Err(Refusal::from(fault)),

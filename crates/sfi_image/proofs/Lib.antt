@@ -23,3 +23,4 @@ pub mod Plain
 pub mod Ending
 pub mod Parsing
 pub mod Second
+pub mod Facts

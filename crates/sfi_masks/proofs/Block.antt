@@ -3,7 +3,6 @@ use Rattle.std.proofs.Common.{◌≡◌, ℕ, ◌+◌, ◌*◌, ◌/◌, ◌%◌
 use Rattle.std.specs.Prelude.{slice_index}
 use Rattle.std.proofs.lemmas.Bool.{cases_eq}
 use Rattle.std.proofs.lemmas.List.{get_or-take, get_or-drop}
-use Rattle.rv_comp.specs.Laws.{HalfwordsAreOutlined}
 use Rattle.sfi_masks.specs.declared.masks.Masks.{Masks}
 use Rattle.sfi_masks.specs.Masks.{half_at, is_in, AreMasks, IsFreeHalf, IsFreeWord, IsFreeAccess}
 use Rattle.sfi_masks.specs.private.Seen.{AreSeen, of_four, free_classes, access_classes}
@@ -69,7 +68,7 @@ module _ (stack : Bool) (block : List ℕ) (first second third fourth : Masks) w
       (moved stack _ _ third (λ k h. get_or-take 32 (drop 64 block) k 0 h ∙ get_or-drop 64 block k 0) c)
       (moved stack _ _ fourth (λ k h. get_or-take 32 (drop 96 block) k 0 h ∙ get_or-drop 96 block k 0) d)
 
-  module _ (law : HalfwordsAreOutlined) (fits : (k : ℕ) → byte k < 256) (quarter_at : (q : ℕ) → q < 4 → Quarter q) (m : Masks)
+  module _ (fits : (k : ℕ) → byte k < 256) (quarter_at : (q : ℕ) → q < 4 → Quarter q) (m : Masks)
       (long_is : (i : ℕ) → i < 64 → is_in m.long i ≡ is_in (of_quarters (λ x. x.long) (i / 16)) (i % 16))
       (free_is : (i : ℕ) → i < 64 → is_in m.free i ≡ is_in (of_quarters (λ x. x.free) (i / 16)) (i % 16))
       (access_is : (i : ℕ) → i < 64 → is_in m.access i ≡ is_in (of_quarters (λ x. x.access) (i / 16)) (i % 16)) where
@@ -113,7 +112,7 @@ module _ (stack : Bool) (block : List ℕ) (first second third fourth : Masks) w
           let low : byte (2 * i) % 4 ≡ half_at block i % 4 = omega arith in
           long_at i h ∙ ap (λ n. n == 3) low;
       short = λ i h free long. subst (IsFreeHalf stack) (sym (half_is block i))
-          (free_half law stack (byte (2 * i)) (byte (2 * i + 1)) (next i) (fits (2 * i)) (fits (2 * i + 1)) (fits _) (sym (long_at i h) ∙ long) (not_false _ (sym (free_at i h) ∙ free)));
+          (free_half stack (byte (2 * i)) (byte (2 * i + 1)) (next i) (fits (2 * i)) (fits (2 * i + 1)) (fits _) (sym (long_at i h) ∙ long) (not_false _ (sym (free_at i h) ∙ free)));
       word = λ i inside h free long. subst (IsFreeWord stack) (sym (word_is block i))
           (free_word stack (byte (2 * i)) (byte (2 * i + 1)) (byte (2 * i + 2)) (byte (2 * i + 3)) (fits (2 * i)) (fits (2 * i + 1)) (fits (2 * i + 2)) (fits (2 * i + 3)) (sym (long_at i h) ∙ long)
           (ap (λ n. free_classes stack (byte (2 * i)) (byte (2 * i + 1)) n == 0) (sym (place_next i inside)) ∙ not_false _ (sym (free_at i h) ∙ free)));

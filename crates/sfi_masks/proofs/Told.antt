@@ -10,12 +10,12 @@ use Rattle.rv_word.specs.Accesses.{IsAccessOf}
 use Rattle.rv_word.specs.Formats.{r_format}
 use Rattle.rv_word.specs.Outlines.{IsWordThat}
 use Rattle.rv_comp.specs.Halfwords.{IsHalfwordThat}
-use Rattle.rv_comp.specs.Laws.{HalfwordsAreOutlined}
 use Rattle.rv_comp.specs.mirror.Outlining.{outlined}
 use Rattle.sfi_masks.specs.Masks.{half_at, word_at, may_write, is_free, IsFreeHalf, IsFreeWord, IsFreeAccess}
 use Rattle.sfi_masks.specs.private.Seen.{free_classes, access_classes}
 use Rattle.sfi_masks.proofs.Fields.{computes, accesses, that_computes, that_accesses}
 use Rattle.sfi_masks.proofs.Cells.{opcode, rd, funct3, is_free_half, is_free_word, begins_free, begins_access, free_begins, access_begins}
+use Rattle.rv_comp.proofs.Facts.{halfwords_are_outlined}
 
 -- ---- a halfword and a word of bytes
 
@@ -43,11 +43,11 @@ free_outline : (stack : Bool) (half : ℕ) (o : Option Outline) → IfSome o (Is
 free_outline stack half (Some o) that free = record { instr = that.instr; spelled = that.spelled; free = ap (is_free stack) that.does ∙ free }
 free_outline stack half None that free = absurd cc
 
-pub free_half : HalfwordsAreOutlined → (stack : Bool) (low high next : ℕ) → low < 256 → high < 256 → next < 256 → (low % 4 == 3) ≡ false
+pub free_half : (stack : Bool) (low high next : ℕ) → low < 256 → high < 256 → next < 256 → (low % 4 == 3) ≡ false
     → (free_classes stack low high next == 0) ≡ false → IsFreeHalf stack (low + 256 * high)
 unfolding begins_free
-free_half law stack low high next l h n short some =
-    free_outline stack (low + 256 * high) (outlined (low + 256 * high)) (law (low + 256 * high) (omega arith)).0 (by (low % 4 == 3) short (free_begins stack low high l h next n some))
+free_half stack low high next l h n short some =
+    free_outline stack (low + 256 * high) (outlined (low + 256 * high)) (halfwords_are_outlined (low + 256 * high) (omega arith)).0 (by (low % 4 == 3) short (free_begins stack low high l h next n some))
   where
     by : (b : Bool) → b ≡ false → (elim b [ true ↦ is_free_word stack low high (next / 2) | false ↦ is_free_half stack (outlined (low + 256 * high)) ]) ≡ true
         → is_free_half stack (outlined (low + 256 * high)) ≡ true

@@ -59,9 +59,6 @@ fn joined(a: u64, b: u64, c: u64, d: u64) -> u64
 fn masks_in<const STACK: bool>(block: &[u8; BLOCK_BYTES]) -> Masks
     ensures { AreMasks STACK block.now result }
 {
-    // The law that the contract rests on: the call does nothing.
-    rv_comp::laws::halfwords_are_outlined();
-
     let first = masks_of_quarter(STACK, &block[..32]);
     let second = masks_of_quarter(STACK, &block[32..64]);
     let third = masks_of_quarter(STACK, &block[64..96]);

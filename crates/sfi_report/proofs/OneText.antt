@@ -1,7 +1,6 @@
 -- Findings have one report, an image has one listing, and the state of a sandbox one text.
 use Rattle.std.proofs.Common.{◌≡◌, ℕ, zero, suc, ◌+◌, ◌-◌, ◌*◌, List, [], ◌∷◌, ◌++◌, take, drop, sym, ap, ◌∙◌, subst, arith, get_or-take, Some}
 use Rattle.std.specs.List.{flat_map}
-use Rattle.rv_comp.specs.Laws.{OneFront, OneSpelling}
 use Rattle.rv_comp.specs.declared.front.Front.{Front}
 use Rattle.rv_text.specs.Printed.{printed}
 use Rattle.sfi_image.specs.Spelling.{Part, format_of}
@@ -9,83 +8,84 @@ use Rattle.sfi_scan.specs.declared.finding.Finding.{Finding}
 use Rattle.sfi_scan.specs.declared.rule.Rule.{Rule}
 use Rattle.sfi_scan.specs.declared.rule.Rule.TheVariants.{V1, V2, V3, V4, V5, V6, V7, V8, V9, V10}
 use Rattle.sfi_scan.specs.Bundles.{bundle_bytes}
-use Rattle.sfi_scan.specs.Laws.{OneLongestReading}
 use Rattle.sfi_report.specs.Digits.{line_end}
 use Rattle.sfi_report.specs.Report.{IsInstructionText, IsPlaceText, line_front, IsFindingLine}
 use Rattle.sfi_report.specs.Listing.{reading_lines, sandbox_line, gate_line, format_line, IsBundleListing, IsListingOfFirst, IsCodeListing, IsSandboxListing, IsListingFrom}
 use Rattle.sfi_report.specs.State.{code_from, place_line, registers_text, state_front}
 use Rattle.sfi_report.specs.Laws.{OneReport, OneListing, OneState}
+use Rattle.rv_comp.proofs.Facts.{one_front, one_spelling}
+use Rattle.sfi_scan.proofs.Facts.{one_longest_reading}
 
 -- ---- reports
 
-one_instruction : OneSpelling → (code text other : List ℕ) → IsInstructionText code text → IsInstructionText code other → text ≡ other
-one_instruction law code text other a b =
-    let same = law (take a.1 code) (take b.1 code) a.0 b.0 a.1 b.1 a.2 b.2 (λ k h g. get_or-take a.1 code k 0 h ∙ sym (get_or-take b.1 code k 0 g)) in
+one_instruction : (code text other : List ℕ) → IsInstructionText code text → IsInstructionText code other → text ≡ other
+one_instruction code text other a b =
+    let same = one_spelling (take a.1 code) (take b.1 code) a.0 b.0 a.1 b.1 a.2 b.2 (λ k h g. get_or-take a.1 code k 0 h ∙ sym (get_or-take b.1 code k 0 g)) in
     a.3 ∙ ap printed same.0 ∙ sym b.3
 
-one_place : OneSpelling → (rule : Rule) (code text other : List ℕ) → IsPlaceText rule code text → IsPlaceText rule code other → text ≡ other
-one_place law V1 code text other a b = a ∙ sym b
-one_place law V2 code text other a b = a ∙ sym b
-one_place law V3 code text other a b = one_instruction law code text other a b
-one_place law V4 code text other a b = one_instruction law code text other a b
-one_place law V5 code text other a b = one_instruction law code text other a b
-one_place law V6 code text other a b = one_instruction law code text other a b
-one_place law V7 code text other a b = one_instruction law code text other a b
-one_place law V8 code text other a b = one_instruction law code text other a b
-one_place law V9 code text other a b = a ∙ sym b
-one_place law V10 code text other a b = one_instruction law code text other a b
+one_place : (rule : Rule) (code text other : List ℕ) → IsPlaceText rule code text → IsPlaceText rule code other → text ≡ other
+one_place V1 code text other a b = a ∙ sym b
+one_place V2 code text other a b = a ∙ sym b
+one_place V3 code text other a b = one_instruction code text other a b
+one_place V4 code text other a b = one_instruction code text other a b
+one_place V5 code text other a b = one_instruction code text other a b
+one_place V6 code text other a b = one_instruction code text other a b
+one_place V7 code text other a b = one_instruction code text other a b
+one_place V8 code text other a b = one_instruction code text other a b
+one_place V9 code text other a b = a ∙ sym b
+one_place V10 code text other a b = one_instruction code text other a b
 
-one_line : OneSpelling → (ps : List Part) (f : Finding) (line other : List ℕ) → IsFindingLine ps f line → IsFindingLine ps f other → line ≡ other
-one_line law ps f line other a b =
+one_line : (ps : List Part) (f : Finding) (line other : List ℕ) → IsFindingLine ps f line → IsFindingLine ps f other → line ≡ other
+one_line ps f line other a b =
     let whole : Some b.part ≡ Some a.part = sym b.part_is ∙ a.part_is in
     let part : b.part ≡ a.part = cc in
     let placed = subst (λ (p : Part). IsPlaceText f.rule (drop (f.address - p.code_base) p.code) b.place) part b.place_is in
-    let place = one_place law f.rule (drop (f.address - a.part.code_base) a.part.code) a.place b.place a.place_is placed in
+    let place = one_place f.rule (drop (f.address - a.part.code_base) a.part.code) a.place b.place a.place_is placed in
     a.line_is ∙ ap (λ t. line_front f ++ t ++ line_end) place ∙ sym b.line_is
 
-pub one_report : OneSpelling → OneReport
-one_report law ps [] text other a b = a ∙ sym b
-one_report law ps (f ∷ found) text other a b =
-    let line = one_line law ps f a.0 b.0 a.2 b.2 in
-    let rest = one_report law ps found a.1 b.1 a.3 b.3 in
+pub one_report : OneReport
+one_report ps [] text other a b = a ∙ sym b
+one_report ps (f ∷ found) text other a b =
+    let line = one_line ps f a.0 b.0 a.2 b.2 in
+    let rest = one_report ps found a.1 b.1 a.3 b.3 in
     a.4 ∙ ap (λ l. l ++ a.1) line ∙ ap (λ l. b.0 ++ l) rest ∙ sym b.4
 
 -- ---- listings
 
-one_bundle : OneLongestReading → (at : ℕ) (bytes text other : List ℕ) → IsBundleListing at bytes text → IsBundleListing at bytes other → text ≡ other
-one_bundle law at bytes text other a b = a.text_is ∙ ap (reading_lines at bytes) (law bytes a.reading b.reading a.longest b.longest) ∙ sym b.text_is
+one_bundle : (at : ℕ) (bytes text other : List ℕ) → IsBundleListing at bytes text → IsBundleListing at bytes other → text ≡ other
+one_bundle at bytes text other a b = a.text_is ∙ ap (reading_lines at bytes) (one_longest_reading bytes a.reading b.reading a.longest b.longest) ∙ sym b.text_is
 
-one_of_first : OneLongestReading → (p : Part) (n : ℕ) (text other : List ℕ) → IsListingOfFirst p n text → IsListingOfFirst p n other → text ≡ other
-one_of_first law p zero text other a b = a ∙ sym b
-one_of_first law p (suc n) text other a b =
-    let front = one_of_first law p n a.0 b.0 a.2 b.2 in
-    let last = one_bundle law (p.code_base + 16 * n) (bundle_bytes p n) a.1 b.1 a.3 b.3 in
+one_of_first : (p : Part) (n : ℕ) (text other : List ℕ) → IsListingOfFirst p n text → IsListingOfFirst p n other → text ≡ other
+one_of_first p zero text other a b = a ∙ sym b
+one_of_first p (suc n) text other a b =
+    let front = one_of_first p n a.0 b.0 a.2 b.2 in
+    let last = one_bundle (p.code_base + 16 * n) (bundle_bytes p n) a.1 b.1 a.3 b.3 in
     a.4 ∙ ap (λ l. l ++ a.1) front ∙ ap (λ l. b.0 ++ l) last ∙ sym b.4
 
-one_code : OneLongestReading → (p : Part) (text other : List ℕ) → IsCodeListing p text → IsCodeListing p other → text ≡ other
-one_code law p text other a b =
+one_code : (p : Part) (text other : List ℕ) → IsCodeListing p text → IsCodeListing p other → text ≡ other
+one_code p text other a b =
     let same : a.bundles ≡ b.bundles = let e = a.whole in let f = b.whole in omega arith in
-    one_of_first law p b.bundles text other (subst (λ n. IsListingOfFirst p n text) same a.text_is) b.text_is
+    one_of_first p b.bundles text other (subst (λ n. IsListingOfFirst p n text) same a.text_is) b.text_is
 
-one_sandbox : OneLongestReading → (sandbox : ℕ) (p : Part) (text other : List ℕ) → IsSandboxListing sandbox p text → IsSandboxListing sandbox p other → text ≡ other
-one_sandbox law sandbox p text other a b =
-    a.text_is ∙ ap (λ l. sandbox_line sandbox p ++ flat_map gate_line p.gates ++ l) (one_code law p a.code b.code a.code_is b.code_is) ∙ sym b.text_is
+one_sandbox : (sandbox : ℕ) (p : Part) (text other : List ℕ) → IsSandboxListing sandbox p text → IsSandboxListing sandbox p other → text ≡ other
+one_sandbox sandbox p text other a b =
+    a.text_is ∙ ap (λ l. sandbox_line sandbox p ++ flat_map gate_line p.gates ++ l) (one_code p a.code b.code a.code_is b.code_is) ∙ sym b.text_is
 
-one_from : OneLongestReading → (sandbox : ℕ) (ps : List Part) (text other : List ℕ) → IsListingFrom sandbox ps text → IsListingFrom sandbox ps other → text ≡ other
-one_from law sandbox [] text other a b = a ∙ sym b
-one_from law sandbox (p ∷ ps) text other a b =
-    let front = one_sandbox law sandbox p a.0 b.0 a.2 b.2 in
-    let rest = one_from law (sandbox + 1) ps a.1 b.1 a.3 b.3 in
+one_from : (sandbox : ℕ) (ps : List Part) (text other : List ℕ) → IsListingFrom sandbox ps text → IsListingFrom sandbox ps other → text ≡ other
+one_from sandbox [] text other a b = a ∙ sym b
+one_from sandbox (p ∷ ps) text other a b =
+    let front = one_sandbox sandbox p a.0 b.0 a.2 b.2 in
+    let rest = one_from (sandbox + 1) ps a.1 b.1 a.3 b.3 in
     a.4 ∙ ap (λ l. l ++ a.1) front ∙ ap (λ l. b.0 ++ l) rest ∙ sym b.4
 
-pub one_listing : OneLongestReading → OneListing
-one_listing law ps text other a b = a.2 ∙ ap (λ l. format_line (format_of ps) ++ l) (one_from law 0 ps a.0 b.0 a.1 b.1) ∙ sym b.2
+pub one_listing : OneListing
+one_listing ps text other a b = a.2 ∙ ap (λ l. format_line (format_of ps) ++ l) (one_from 0 ps a.0 b.0 a.1 b.1) ∙ sym b.2
 
 -- ---- states
 
-pub one_state : OneFront → OneState
-one_state law sandbox p h text other a b =
-    let same = law (code_from p h.pc) a.front b.front a.front_is b.front_is in
+pub one_state : OneState
+one_state sandbox p h text other a b =
+    let same = one_front (code_from p h.pc) a.front b.front a.front_is b.front_is in
     a.text_is
     ∙ ap (λ (f : Front). state_front sandbox ++ place_line h.pc (code_from p h.pc) f ++ registers_text h 31) same
     ∙ sym b.text_is

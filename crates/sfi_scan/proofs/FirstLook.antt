@@ -12,7 +12,6 @@ use Rattle.rv_word.specs.declared.outline.Outline.{Outline}
 use Rattle.rv_word.specs.declared.outline.Outline.TheVariants.{Computes, Loads}
 use Rattle.rv_word.specs.Outlines.{outline}
 use Rattle.rv_word.specs.Spelling.{spelling, IsWordOf}
-use Rattle.rv_word.specs.Laws.{OneSpelling}
 use Rattle.sfi_policy.specs.Formats.{has_stack, is_stack}
 use Rattle.sfi_scan.specs.declared.bundle.BundlePlace.{BundlePlace}
 use Rattle.sfi_scan.specs.declared.clean.Words.{Words}
@@ -24,6 +23,7 @@ use Rattle.sfi_scan.specs.Rules.{Place, is_last_bundle, is_bundle_start, may_acc
 use Rattle.sfi_scan.specs.Findings.{lowest, all_rules}
 use Rattle.sfi_scan.specs.private.FirstLook.{IsWordOr0, AreBefore, is_protected, is_clean, is_zero}
 use Rattle.sfi_scan.specs.private.Near.{near}
+use Rattle.rv_word.proofs.Facts.{one_spelling}
 
 -- ---- pairs
 
@@ -37,13 +37,13 @@ unfolding spelling
 op_word t a m = (λ e. omega arith, λ e. omega arith)
 
 -- an instruction beside a word is that of the word
-beside_is : OneSpelling → (word : ℕ) (i : Instr) (o : Option Instr) → IsWordOf word i → (spelling i ≡ 0 → ⊥) → IsWordOr0 word o → o ≡ Some i
-beside_is law word i None is some near = absurd (some (sym is.1 ∙ near))
-beside_is law word i (Some j) is some (inl none) = absurd (some (sym is.1 ∙ none))
-beside_is law word i (Some j) is some (inr other) = ap Some (law word j i other is)
+beside_is : (word : ℕ) (i : Instr) (o : Option Instr) → IsWordOf word i → (spelling i ≡ 0 → ⊥) → IsWordOr0 word o → o ≡ Some i
+beside_is word i None is some near = absurd (some (sym is.1 ∙ near))
+beside_is word i (Some j) is some (inl none) = absurd (some (sym is.1 ∙ none))
+beside_is word i (Some j) is some (inr other) = ap Some (one_spelling word j i other is)
 
-pub masking_before : OneSpelling → (word a : ℕ) (o : Option Instr) → IsWordOf word (Op And 2 a 27) → IsWordOr0 word o → o ≡ Some (Op And 2 a 27)
-masking_before law word a o is near = beside_is law word (Op And 2 a 27) o is (op_word 2 a 27).0 near
+pub masking_before : (word a : ℕ) (o : Option Instr) → IsWordOf word (Op And 2 a 27) → IsWordOr0 word o → o ≡ Some (Op And 2 a 27)
+masking_before word a o is near = beside_is word (Op And 2 a 27) o is (op_word 2 a 27).0 near
 
 -- the two nearest are the two that are known
 two_near : (earlier : List Instr) (i j : Instr) → (near earlier).first ≡ Some i → (near earlier).second ≡ Some j → (rest : List Instr) × (earlier ≡ j ∷ i ∷ rest)
@@ -54,20 +54,20 @@ two_near (b ∷ a ∷ rest) i j e f = (rest, (let x : a ≡ i = cc in let y : b 
 both_pair : (m b t a : ℕ) (rest : List Instr) → (t == 0) ≡ false → is_reserved t ≡ false → follows_pair m b t (Op Or t t b ∷ Op And t a m ∷ rest) ≡ true
 both_pair m b t a rest zero reserved = rw (eq-eqb t t refl, eq-eqb m m refl, eq-eqb b b refl, zero, reserved) refl
 
-pub pair_is : OneSpelling → (words : Words) (m b t a : ℕ) (earlier : List Instr) → IsWordOf words.first (Op And t a m) → IsWordOf words.second (Op Or t t b)
+pub pair_is : (words : Words) (m b t a : ℕ) (earlier : List Instr) → IsWordOf words.first (Op And t a m) → IsWordOf words.second (Op Or t t b)
     → (t == 0) ≡ false → is_reserved t ≡ false → AreBefore words (near earlier) → follows_pair m b t earlier ≡ true
-pair_is law words m b t a earlier first second zero reserved are =
-    let masking = beside_is law words.first (Op And t a m) (near earlier).first first (op_word t a m).0 are.first in
-    let placing = beside_is law words.second (Op Or t t b) (near earlier).second second (op_word t t b).1 are.second in
+pair_is words m b t a earlier first second zero reserved are =
+    let masking = beside_is words.first (Op And t a m) (near earlier).first first (op_word t a m).0 are.first in
+    let placing = beside_is words.second (Op Or t t b) (near earlier).second second (op_word t t b).1 are.second in
     let whole = two_near earlier (Op And t a m) (Op Or t t b) masking placing in
     ap (follows_pair m b t) whole.1 ∙ both_pair m b t a whole.0 zero reserved
 
-pub pair_told : OneSpelling → (words : Words) (m b t a : ℕ) → IsWordOf words.first (Op And t a m) → IsWordOf words.second (Op Or t t b)
+pub pair_told : (words : Words) (m b t a : ℕ) → IsWordOf words.first (Op And t a m) → IsWordOf words.second (Op Or t t b)
     → (counts : Bool) → counts ≡ (not (t == 0) && not (is_reserved t)) → (earlier : List Instr) → AreBefore words (near earlier) → OnTrue counts (follows_pair m b t earlier ≡ true)
-pair_told law words m b t a first second false e earlier are = tt
-pair_told law words m b t a first second true e earlier are =
+pair_told words m b t a first second false e earlier are = tt
+pair_told words m b t a first second true e earlier are =
     let both = and_parts (not (t == 0)) (not (is_reserved t)) (sym e) in
-    pair_is law words m b t a earlier first second (not_is (t == 0) both.0) (not_is (is_reserved t) both.1) are
+    pair_is words m b t a earlier first second (not_is (t == 0) both.0) (not_is (is_reserved t) both.1) are
 
 -- ---- rules
 

@@ -3,8 +3,6 @@ use Rattle.std.proofs.Common.{◌≡◌, ℕ, zero, suc, ◌+◌, ◌-◌, ◌*�
 use Rattle.std.proofs.lemmas.Bool.{cases_order, ne_eqb}
 use Rattle.std.proofs.lemmas.List.{length-take, drop-take, take-take, drop-drop}
 use Rattle.rv_word.specs.declared.instr.Instr.{Instr}
-use Rattle.rv_comp.specs.Laws.{OneSpelling}
-use Rattle.rv_word.specs.Laws.{OneSpelling as OneSpellingOfWords}
 use Rattle.sfi_policy.specs.Formats.{has_stack}
 use Rattle.sfi_masks.specs.Masks.{is_in}
 use Rattle.sfi_scan.specs.declared.bundle.BundlePlace.{BundlePlace}
@@ -93,14 +91,14 @@ record Next (b : BundlePlace) (bytes : List ℕ) (starts words k j : ℕ) : Type
   start : place < 8 → is_in starts (8 * k + place) ≡ true
   reached : Reached b bytes words k place
 
-after_half : OneSpelling → (b : BundlePlace) (block : List ℕ) (starts words after k j : ℕ) → length block ≡ 128 → k < 8 → is_last_bundle (bundle_at b k) ≡ false → AreStarts starts words
+after_half : (b : BundlePlace) (block : List ℕ) (starts words after k j : ℕ) → length block ≡ 128 → k < 8 → is_last_bundle (bundle_at b k) ≡ false → AreStarts starts words
     → j < 8 → is_in starts (8 * k + j) ≡ true → is_in words (8 * k + j) ≡ false → (r : Reached (bundle_at b k) (block_bundle block k) words k j)
     → IsCleanOne (bundle_at b k) ((bundle_at b k).address + 2 * j) (AreWordsFrom (block_bundle block k) (2 * j) r.from) (IsSpelledAt false (block_bundle block k) (2 * j))
     → Next (bundle_at b k) (block_bundle block k) starts words k j
-after_half law b block starts words after k j count below last marks lt start short r one =
+after_half b block starts words after k j count below last marks lt start short r one =
     let c = bundle_at b k in
     let bytes = block_bundle block k in
-    let on = looks_half law c bytes (2 * j) r.from _ (count_of block k count below) (omega (arith, lt)) last r.looks refl one in
+    let on = looks_half c bytes (2 * j) r.from _ (count_of block k count below) (omega (arith, lt)) last r.looks refl one in
     let e : 2 * j + 2 ≡ 2 * (j + 1) = omega arith in
     let stuck : (m : ℕ) → m + 1 ≡ j → is_in words (8 * k + m) ≡ true → ⊥ =
     λ m same w.
@@ -170,21 +168,21 @@ clean_in b block wide after k j lt clean =
     let f : i % 8 ≡ j = omega (arith, lt) in
     subst (λ m. IsCleanIn b block wide after i k (2 * m)) f (subst (λ m. IsCleanIn b block wide after i m (offset i)) e clean)
 
-after_clean : OneSpelling → (b : BundlePlace) (block : List ℕ) (starts words after k j : ℕ) → length block ≡ 128 → k < 8 → is_last_bundle (bundle_at b k) ≡ false → AreStarts starts words → AreAfterTwo words after
+after_clean : (b : BundlePlace) (block : List ℕ) (starts words after k j : ℕ) → length block ≡ 128 → k < 8 → is_last_bundle (bundle_at b k) ≡ false → AreStarts starts words → AreAfterTwo words after
     → j < 8 → is_in starts (8 * k + j) ≡ true → IsCleanAt b block (is_in words (8 * k + j)) after (8 * k + j)
     → Reached (bundle_at b k) (block_bundle block k) words k j → Next (bundle_at b k) (block_bundle block k) starts words k j
-after_clean law b block starts words after k j count below last marks two lt start clean r =
+after_clean b block starts words after k j count below last marks two lt start clean r =
     by (is_in words (8 * k + j)) refl (clean_in b block (is_in words (8 * k + j)) after k j lt clean)
   where
     by : (w : Bool) → is_in words (8 * k + j) ≡ w → IsCleanIn b block w after (8 * k + j) k (2 * j) → Next (bundle_at b k) (block_bundle block k) starts words k j
     by false e one =
-        after_half law b block starts words after k j count below last marks lt start e r
+        after_half b block starts words after k j count below last marks lt start e r
         (loosen (bundle_at b k) _ (block_bundle block k) (2 * j) r.from _ (IsSpelledAt false (block_bundle block k) (2 * j)) (known_from (bundle_at b k) (block_bundle block k) words after k j below lt two r) one)
     by true e one =
         let inside = marks.inside (8 * k + j) (omega (arith, below, lt)) e in
         let known = loosen (bundle_at b k) _ (block_bundle block k) (2 * j) r.from _ (IsSpelledAt true (block_bundle block k) (2 * j)) (known_from (bundle_at b k) (block_bundle block k) words after k j below lt two r) one in
         after_word b block starts words k j below marks (omega (arith, inside, lt)) e r
-        (looks_word law (bundle_at b k) (block_bundle block k) (2 * j) r.from _ (count_of block k count below) (omega (arith, inside, lt)) last r.looks refl known)
+        (looks_word (bundle_at b k) (block_bundle block k) (2 * j) r.from _ (count_of block k count below) (omega (arith, inside, lt)) last r.looks refl known)
 
 -- ---- the stack pointer written, and put back
 
@@ -197,17 +195,17 @@ record WritesFrom (bytes : List ℕ) (at : ℕ) : Type 0 where
 writes_from : (block : List ℕ) (words i k at : ℕ) → i / 8 ≡ k → offset i ≡ at → IsWritten block words i → WritesFrom (block_bundle block k) at
 writes_from block words i k at e f w = subst (λ n. WritesFrom (block_bundle block n) at) e (subst (λ n. WritesFrom (block_bundle block (i / 8)) n) f (record { low = let low = w.low in omega (arith, low); write = w.write; pair = w.pair }))
 
-after_write : OneSpelling → OneSpellingOfWords → (b : BundlePlace) (block : List ℕ) (starts words k j : ℕ) → length block ≡ 128 → k < 8 → is_last_bundle (bundle_at b k) ≡ false → has_stack b.format ≡ true
+after_write : (b : BundlePlace) (block : List ℕ) (starts words k j : ℕ) → length block ≡ 128 → k < 8 → is_last_bundle (bundle_at b k) ≡ false → has_stack b.format ≡ true
     → AreStarts starts words → j < 8 → IsOfWrite block words (8 * k + j)
     → Reached (bundle_at b k) (block_bundle block k) words k j → Next (bundle_at b k) (block_bundle block k) starts words k j
-after_write law law_of_words b block starts words k j count below last has marks lt (i, w, inl e) r =
+after_write b block starts words k j count below last has marks lt (i, w, inl e) r =
     let c = bundle_at b k in
     let bytes = block_bundle block k in
     let low = w.low in
     let x = writes_from block words i k (2 * j) (omega (arith, e, lt)) (omega (arith, e, lt)) w in
     after_word b block starts words k j below marks (omega (arith, low, e, lt)) (ap (is_in words) e ∙ w.first) r
-    (looks_write law c bytes (2 * j) r.from (count_of block k count below) x.low last has r.looks x.write x.pair)
-after_write law law_of_words b block starts words k j count below last has marks lt (i, w, inr (inl e)) r =
+    (looks_write c bytes (2 * j) r.from (count_of block k count below) x.low last has r.looks x.write x.pair)
+after_write b block starts words k j count below last has marks lt (i, w, inr (inl e)) r =
     let c = bundle_at b k in
     let bytes = block_bundle block k in
     let low = w.low in
@@ -216,8 +214,8 @@ after_write law law_of_words b block starts words k j count below last has marks
     let g : 2 * (j - 2) + 8 ≡ 2 * j + 4 = omega (arith, e, lt, low) in
     let pair = subst (λ m. AreStackPair (word_at bytes (2 * j)) (word_at bytes m)) g (subst (λ m. AreStackPair (word_at bytes m) (word_at bytes (2 * (j - 2) + 8))) f x.pair) in
     after_word b block starts words k j below marks (omega (arith, low, e, lt)) (ap (is_in words) e ∙ w.second) r
-    (looks_masking law c bytes (2 * j) r.from (count_of block k count below) (omega (arith, low, e, lt)) last has r.looks pair)
-after_write law law_of_words b block starts words k j count below last has marks lt (i, w, inr (inr e)) r =
+    (looks_masking c bytes (2 * j) r.from (count_of block k count below) (omega (arith, low, e, lt)) last has r.looks pair)
+after_write b block starts words k j count below last has marks lt (i, w, inr (inr e)) r =
     let c = bundle_at b k in
     let bytes = block_bundle block k in
     let low = w.low in
@@ -231,7 +229,7 @@ after_write law law_of_words b block starts words k j count below last has marks
     let near = r.one (j - 2) (omega (arith, e, lt, low)) (ap (is_in words) before ∙ w.second) in
     let here = subst (λ m. Looks c bytes m r.from) (sym h) r.looks in
     after_word b block starts words k j below marks (omega (arith, low, e, lt)) (ap (is_in words) e ∙ w.third) r
-    (subst (λ m. Looks c bytes (m + 4) r.from) h (looks_placing law law_of_words c bytes at r.from (count_of block k count below) (omega (arith, low, e, lt)) last has (omega (arith, near, h)) here pair))
+    (subst (λ m. Looks c bytes (m + 4) r.from) h (looks_placing c bytes at r.from (count_of block k count below) (omega (arith, low, e, lt)) last has (omega (arith, near, h)) here pair))
 
 -- ---- a bundle
 
@@ -239,17 +237,17 @@ after_write law law_of_words b block starts words k j count below last has marks
 abbrev pub IsQuietAt : BundlePlace → List ℕ → ℕ → ℕ → ℕ → Type 0
 IsQuietAt b block words after i = IsCleanAt b block (is_in words i) after i ⊎ ((has_stack b.format ≡ true) × IsOfWrite block words i)
 
-advance : OneSpelling → OneSpellingOfWords → (b : BundlePlace) (block : List ℕ) (starts words after k j : ℕ) → length block ≡ 128 → k < 8 → is_last_bundle (bundle_at b k) ≡ false → AreStarts starts words → AreAfterTwo words after
+advance : (b : BundlePlace) (block : List ℕ) (starts words after k j : ℕ) → length block ≡ 128 → k < 8 → is_last_bundle (bundle_at b k) ≡ false → AreStarts starts words → AreAfterTwo words after
     → j < 8 → is_in starts (8 * k + j) ≡ true → IsQuietAt b block words after (8 * k + j)
     → Reached (bundle_at b k) (block_bundle block k) words k j → Next (bundle_at b k) (block_bundle block k) starts words k j
-advance law law_of_words b block starts words after k j count below last marks two lt start (inl clean) r = after_clean law b block starts words after k j count below last marks two lt start clean r
-advance law law_of_words b block starts words after k j count below last marks two lt start (inr write) r = after_write law law_of_words b block starts words k j count below last write.0 marks lt write.1 r
+advance b block starts words after k j count below last marks two lt start (inl clean) r = after_clean b block starts words after k j count below last marks two lt start clean r
+advance b block starts words after k j count below last marks two lt start (inr write) r = after_write b block starts words k j count below last write.0 marks lt write.1 r
 
 -- a bundle with nothing else at its starts has no findings
-pub joined : OneSpelling → OneSpellingOfWords → (b : BundlePlace) (block : List ℕ) (starts words after k : ℕ) → length block ≡ 128 → k < 8 → IsWithinBlock b → AreStarts starts words → AreAfterTwo words after
+pub joined : (b : BundlePlace) (block : List ℕ) (starts words after k : ℕ) → length block ≡ 128 → k < 8 → IsWithinBlock b → AreStarts starts words → AreAfterTwo words after
     → ((j : ℕ) → j < 8 → is_in starts (8 * k + j) ≡ true → IsQuietAt b block words after (8 * k + j))
     → AreReadingFindings (bundle_at b k) (block_bundle block k) []
-joined law law_of_words b block starts words after k count below within marks two clean =
+joined b block starts words after k count below within marks two clean =
     let e : 8 * k % 8 ≡ 0 = omega arith in
     walk 8 0 (omega arith) (omega arith) (λ lt. let f : 8 * k + 0 ≡ 8 * k = omega arith in ap (is_in starts) f ∙ marks.first (8 * k) (omega (arith, below)) e) (reached_first (bundle_at b k) (block_bundle block k) words k)
   where
@@ -265,5 +263,5 @@ joined law law_of_words b block starts words after k count below within marks tw
         by rest (inl e) = done j (omega (arith, e)) r
         by rest (inr (inr g)) = done j (omega (arith, g)) r
         by rest (inr (inl lt)) =
-            let on = advance law law_of_words b block starts words after k j count below (not_last b k within below) marks two lt (start lt) (clean j lt (start lt)) r in
+            let on = advance b block starts words after k j count below (not_last b k within below) marks two lt (start lt) (clean j lt (start lt)) r in
             rest on.place (omega (arith, enough, on.further)) on.within on.start on.reached

@@ -16,3 +16,4 @@ pub mod Second
 pub mod Seen
 pub mod Starts
 pub mod Table16
+pub mod Facts

@@ -6,8 +6,6 @@ use Rattle.rv_word.specs.Outlines.{outline}
 use Rattle.rv_word.specs.Spelling.{IsWordOf}
 use Rattle.rv_comp.specs.Halfwords.{IsShortSpelling}
 use Rattle.rv_comp.specs.Fronts.{Spells}
-use Rattle.rv_comp.specs.Laws.{OneSpelling}
-use Rattle.rv_word.specs.Laws.{OneSpelling as OneSpellingOfWords}
 use Rattle.rv_comp.specs.declared.front.Front.TheVariants.{Read}
 use Rattle.sfi_policy.specs.Formats.{has_stack}
 use Rattle.sfi_scan.specs.declared.before.Before.{Before}
@@ -58,21 +56,21 @@ near_step i (a ∷ []) = refl
 near_step i (a ∷ b ∷ earlier) = refl
 
 -- what the front of the bytes spells is the only thing that it spells
-only_here : OneSpelling → (bytes : List ℕ) (i : Instr) (n : ℕ) → Spells (take n bytes) i n → IsOnly bytes i n
-only_here law bytes i n spelled j m s = ap (λ (x : Piece). Read x.instr x.size) (front_one law bytes (record { instr = i; size = n }) (record { instr = j; size = m }) spelled s)
+only_here : (bytes : List ℕ) (i : Instr) (n : ℕ) → Spells (take n bytes) i n → IsOnly bytes i n
+only_here bytes i n spelled j m s = ap (λ (x : Piece). Read x.instr x.size) (front_one bytes (record { instr = i; size = n }) (record { instr = j; size = m }) spelled s)
 
 -- after an instruction of n bytes that breaks no rule
-looks_quiet : OneSpelling → (b : BundlePlace) (bytes : List ℕ) (at n from after_from : ℕ) (i : Instr)
+looks_quiet : (b : BundlePlace) (bytes : List ℕ) (at n from after_from : ℕ) (i : Instr)
     → length bytes ≡ 16 → (l : Looks b bytes at from)
     → Spells (take n (drop at bytes)) i n
     → ((x : Place) → x.bundle ≡ b → x.address ≡ b.address + at → near x.earlier ≡ l.before → x.instr ≡ i → IsLongestReading (drop (at + n) bytes) x.later → lowest x all_rules ≡ [])
     → AreWordsFrom bytes (at + n) after_from (record { first = l.before.second; second = Some i }) → after_from ≤ at + n
     → (after_it : Looks b bytes (at + n) after_from) × (after_it.before.second ≡ Some i)
-looks_quiet law b bytes at n from after_from i count l spelled quiet words order =
+looks_quiet b bytes at n from after_from i count l spelled quiet words order =
     let after_it : Before = record { first = l.before.second; second = Some i } in (
       record {
         before = after_it;
-        so_far = next b bytes at n l.before after_it [] i None count l.so_far spelled (only_here law (drop at bytes) i n spelled)
+        so_far = next b bytes at n l.before after_it [] i None count l.so_far spelled (only_here (drop at bytes) i n spelled)
             (λ x place address near_is instr whole longest. quiet x place address near_is instr longest)
             (λ earlier h. sym (near_step i earlier ∙ ap (λ (y : Before). record { first = y.second; second = Some i }) h));
         words_are = words;
@@ -82,14 +80,14 @@ looks_quiet law b bytes at n from after_from i count l spelled quiet words order
     )
 
 -- so is one that the look knows
-looks_after : OneSpelling → (b : BundlePlace) (bytes : List ℕ) (at n from after_from : ℕ) (i : Instr)
+looks_after : (b : BundlePlace) (bytes : List ℕ) (at n from after_from : ℕ) (i : Instr)
     → length bytes ≡ 16 → is_last_bundle b ≡ false → (l : Looks b bytes at from)
     → Spells (take n (drop at bytes)) i n
     → ((earlier : List Instr) → AreWordsFrom bytes at from (near earlier) → is_clean b (b.address + at) earlier (outline i) ≡ true)
     → AreWordsFrom bytes (at + n) after_from (record { first = l.before.second; second = Some i }) → after_from ≤ at + n
     → Looks b bytes (at + n) after_from
-looks_after law b bytes at n from after_from i count last l spelled clean words order =
-    (looks_quiet law b bytes at n from after_from i count l spelled
+looks_after b bytes at n from after_from i count last l spelled clean words order =
+    (looks_quiet b bytes at n from after_from i count l spelled
     (λ x place address near_is instr longest.
     clean_is x (ap is_last_bundle place ∙ last)
     (ap (λ (y : BundlePlace). is_clean y x.address x.earlier (outline x.instr)) place
@@ -99,15 +97,15 @@ looks_after law b bytes at n from after_from i count last l spelled clean words 
     words order).0
 
 -- after a halfword
-pub looks_half : OneSpelling → (b : BundlePlace) (bytes : List ℕ) (at from half : ℕ)
+pub looks_half : (b : BundlePlace) (bytes : List ℕ) (at from half : ℕ)
     → length bytes ≡ 16 → at < 16 → is_last_bundle b ≡ false → Looks b bytes at from
     → half ≡ half_at bytes at → IsCleanOne b (b.address + at) (AreWordsFrom bytes at from) (IsShortSpelling half)
     → Looks b bytes (at + 2) (at + 2)
-looks_half law b bytes at from half count below last l half_is one =
+looks_half b bytes at from half count below last l half_is one =
     let even = l.so_far.even in
     let long : 2 ≤ length (drop at bytes) = omega (arith, length-drop at bytes) in
     let spelled : Spells (take 2 (drop at bytes)) one.instr 2 = inl (record { size = refl; all = omega (arith, length-take 2 (drop at bytes)); spelled = subst (λ h. IsShortSpelling h one.instr) half_is one.spelled }) in
-    looks_after law b bytes at 2 from (at + 2) one.instr count last l spelled one.clean (none_from bytes (at + 2) _) (omega arith)
+    looks_after b bytes at 2 from (at + 2) one.instr count last l spelled one.clean (none_from bytes (at + 2) _) (omega arith)
 
 -- the word at a place spells its instruction there
 spelled_at : (bytes : List ℕ) (at : ℕ) (i : Instr) → length bytes ≡ 16 → at ≤ 12 → IsWordOf (word_at bytes at) i → Spells (take 4 (drop at bytes)) i 4
@@ -116,32 +114,32 @@ spelled_at bytes at i count below is =
     inr (record { size = refl; all = omega (arith, length-take 4 (drop at bytes)); spelled = is })
 
 -- after a word
-pub looks_word : OneSpelling → (b : BundlePlace) (bytes : List ℕ) (at from word : ℕ)
+pub looks_word : (b : BundlePlace) (bytes : List ℕ) (at from word : ℕ)
     → length bytes ≡ 16 → at ≤ 12 → is_last_bundle b ≡ false → Looks b bytes at from
     → word ≡ word_at bytes at → IsCleanOne b (b.address + at) (AreWordsFrom bytes at from) (IsWordOf word)
     → Looks b bytes (at + 4) from
-looks_word law b bytes at from word count below last l word_is one =
+looks_word b bytes at from word count below last l word_is one =
     let order = l.order in
     let is = subst (λ h. IsWordOf h one.instr) word_is one.spelled in
-    looks_after law b bytes at 4 from from one.instr count last l (spelled_at bytes at one.instr count below is) one.clean
+    looks_after b bytes at 4 from from one.instr count last l (spelled_at bytes at one.instr count below is) one.clean
     (word_more bytes at from l.before one.instr l.words_are is) (omega arith)
 
 -- ---- the stack pointer written, and put back
 
 -- a word that stands where it may write the stack pointer
-looks_as : OneSpelling → (b : BundlePlace) (bytes : List ℕ) (at from : ℕ) (i : Instr) → length bytes ≡ 16 → at ≤ 12 → (l : Looks b bytes at from) → IsWordOf (word_at bytes at) i
+looks_as : (b : BundlePlace) (bytes : List ℕ) (at from : ℕ) (i : Instr) → length bytes ≡ 16 → at ≤ 12 → (l : Looks b bytes at from) → IsWordOf (word_at bytes at) i
     → ((x : Place) → x.bundle ≡ b → near x.earlier ≡ l.before → x.instr ≡ i → IsLongestReading (drop (at + 4) bytes) x.later → lowest x all_rules ≡ [])
     → Looks b bytes (at + 4) from
-looks_as law b bytes at from i count below l is quiet =
+looks_as b bytes at from i count below l is quiet =
     let order = l.order in
-    (looks_quiet law b bytes at 4 from from i count l (spelled_at bytes at i count below is)
+    (looks_quiet b bytes at 4 from from i count l (spelled_at bytes at i count below is)
     (λ x place address near_is instr longest. quiet x place near_is instr longest)
     (word_more bytes at from l.before i l.words_are is) (omega arith)).0
 
 -- what the rest of the bytes begins with, where a word stands there
-ahead_is : OneSpelling → (bytes : List ℕ) (at : ℕ) (i : Instr) → length bytes ≡ 16 → at ≤ 12 → IsWordOf (word_at bytes at) i → (later : List Piece) → IsLongestReading (drop at bytes) later → Begins (drop at bytes) i 4 later
-ahead_is law bytes at i count below is later longest =
-    let here = spelled_at bytes at i count below is in begins (drop at bytes) i 4 here (only_here law (drop at bytes) i 4 here) later longest
+ahead_is : (bytes : List ℕ) (at : ℕ) (i : Instr) → length bytes ≡ 16 → at ≤ 12 → IsWordOf (word_at bytes at) i → (later : List Piece) → IsLongestReading (drop at bytes) later → Begins (drop at bytes) i 4 later
+ahead_is bytes at i count below is later longest =
+    let here = spelled_at bytes at i count below is in begins (drop at bytes) i 4 here (only_here (drop at bytes) i 4 here) later longest
 
 abbrev masking : ℕ → Instr
 masking any = Op And 2 any 27
@@ -150,51 +148,51 @@ abbrev placing : Instr
 placing = Op Or 2 2 26
 
 -- where the pair's second word comes next, it is begun
-begins_there : OneSpelling → (bytes : List ℕ) (at any : ℕ) → length bytes ≡ 16 → at ≤ 12 → IsWordOf (word_at bytes at) placing → (later : List Piece) → IsLongestReading (drop at bytes) later → begins_pair (masking any) later ≡ true
-begins_there law bytes at any count below is later longest = ap (begins_pair (masking any)) (ahead_is law bytes at placing count below is later longest).is
+begins_there : (bytes : List ℕ) (at any : ℕ) → length bytes ≡ 16 → at ≤ 12 → IsWordOf (word_at bytes at) placing → (later : List Piece) → IsLongestReading (drop at bytes) later → begins_pair (masking any) later ≡ true
+begins_there bytes at any count below is later longest = ap (begins_pair (masking any)) (ahead_is bytes at placing count below is later longest).is
 
 in_place : (b : BundlePlace) (x : Place) → is_last_bundle b ≡ false → has_stack b.format ≡ true → x.bundle ≡ b → (is_last_bundle x.bundle ≡ false) × (has_stack x.bundle.format ≡ true)
 in_place b x last has place = (ap is_last_bundle place ∙ last, ap (λ (y : BundlePlace). has_stack y.format) place ∙ has)
 
-pub looks_write : OneSpelling → (b : BundlePlace) (bytes : List ℕ) (at from : ℕ) → length bytes ≡ 16 → at ≤ 4 → is_last_bundle b ≡ false → has_stack b.format ≡ true → Looks b bytes at from
+pub looks_write : (b : BundlePlace) (bytes : List ℕ) (at from : ℕ) → length bytes ≡ 16 → at ≤ 4 → is_last_bundle b ≡ false → has_stack b.format ≡ true → Looks b bytes at from
     → IsStackWrite (word_at bytes at) → AreStackPair (word_at bytes (at + 4)) (word_at bytes (at + 8)) → Looks b bytes (at + 4) from
-looks_write law b bytes at from count below last has l write pair =
+looks_write b bytes at from count below last has l write pair =
     let eight : at + 8 ≡ at + 4 + 4 = omega arith in
     let second : IsWordOf (word_at bytes (at + 4 + 4)) placing = subst (λ k. IsWordOf (word_at bytes k) placing) eight pair.placing in
-    looks_as law b bytes at from write.instr count (omega arith) l write.spelled
+    looks_as b bytes at from write.instr count (omega arith) l write.spelled
     (λ x place near_is instr longest.
-    let y = ahead_is law bytes (at + 4) (masking pair.any) count (omega arith) pair.masking x.later longest in
+    let y = ahead_is bytes (at + 4) (masking pair.any) count (omega arith) pair.masking x.later longest in
     let rest = subst (λ (r : List ℕ). IsLongestReading r y.rest) (drop-drop 4 (at + 4) bytes) y.longest in
     let there = in_place b x last has place in
-    write_quiet x there.0 there.1 (kind_of x.instr write.instr instr write.kind) (ap precedes_pair y.is ∙ begins_there law bytes (at + 4 + 4) pair.any count (omega arith) second y.rest rest))
+    write_quiet x there.0 there.1 (kind_of x.instr write.instr instr write.kind) (ap precedes_pair y.is ∙ begins_there bytes (at + 4 + 4) pair.any count (omega arith) second y.rest rest))
 
-pub looks_masking : OneSpelling → (b : BundlePlace) (bytes : List ℕ) (at from : ℕ) → length bytes ≡ 16 → at ≤ 8 → is_last_bundle b ≡ false → has_stack b.format ≡ true → Looks b bytes at from
+pub looks_masking : (b : BundlePlace) (bytes : List ℕ) (at from : ℕ) → length bytes ≡ 16 → at ≤ 8 → is_last_bundle b ≡ false → has_stack b.format ≡ true → Looks b bytes at from
     → AreStackPair (word_at bytes at) (word_at bytes (at + 4)) → Looks b bytes (at + 4) from
-looks_masking law b bytes at from count below last has l pair =
-    looks_as law b bytes at from (masking pair.any) count (omega arith) l pair.masking
+looks_masking b bytes at from count below last has l pair =
+    looks_as b bytes at from (masking pair.any) count (omega arith) l pair.masking
     (λ x place near_is instr longest.
     let there = in_place b x last has place in
-    masking_quiet x pair.any there.0 there.1 instr (begins_there law bytes (at + 4) pair.any count (omega arith) pair.placing x.later longest))
+    masking_quiet x pair.any there.0 there.1 instr (begins_there bytes (at + 4) pair.any count (omega arith) pair.placing x.later longest))
 
-pub looks_placing : OneSpelling → OneSpellingOfWords → (b : BundlePlace) (bytes : List ℕ) (at from : ℕ) → length bytes ≡ 16 → at + 4 ≤ 12 → is_last_bundle b ≡ false → has_stack b.format ≡ true → from ≤ at → Looks b bytes (at + 4) from
+pub looks_placing : (b : BundlePlace) (bytes : List ℕ) (at from : ℕ) → length bytes ≡ 16 → at + 4 ≤ 12 → is_last_bundle b ≡ false → has_stack b.format ≡ true → from ≤ at → Looks b bytes (at + 4) from
     → AreStackPair (word_at bytes at) (word_at bytes (at + 4)) → Looks b bytes (at + 4 + 4) from
-looks_placing law words b bytes at from count below last has order l pair =
-    let before = masking_before words (word_at bytes at) pair.any l.before.second pair.masking (l.words_are.second at order (omega arith)) in
-    looks_as law b bytes (at + 4) from placing count below l pair.placing
+looks_placing b bytes at from count below last has order l pair =
+    let before = masking_before (word_at bytes at) pair.any l.before.second pair.masking (l.words_are.second at order (omega arith)) in
+    looks_as b bytes (at + 4) from placing count below l pair.placing
     (λ x place near_is instr longest.
     let there = in_place b x last has place in
     placing_quiet x pair.any there.0 there.1 instr (ap (λ (y : Before). y.second) near_is ∙ before))
 
-pub looks_written : OneSpelling → OneSpellingOfWords → (b : BundlePlace) (bytes : List ℕ) (at from : ℕ)
+pub looks_written : (b : BundlePlace) (bytes : List ℕ) (at from : ℕ)
     → length bytes ≡ 16 → at ≤ 4 → is_last_bundle b ≡ false → has_stack b.format ≡ true → Looks b bytes at from
     → IsStackWrite (word_at bytes at) → AreStackPair (word_at bytes (at + 4)) (word_at bytes (at + 8))
     → Looks b bytes (at + 12) from
-looks_written law words b bytes at from count below last has l write pair =
+looks_written b bytes at from count below last has l write pair =
     let order = l.order in
     let eight : at + 8 ≡ at + 4 + 4 = omega arith in
     let twelve : at + 4 + 4 + 4 ≡ at + 12 = omega arith in
     let both : AreStackPair (word_at bytes (at + 4)) (word_at bytes (at + 4 + 4)) = subst (λ k. AreStackPair (word_at bytes (at + 4)) (word_at bytes k)) eight pair in
-    let one = looks_write law b bytes at from count below last has l write pair in
-    let two = looks_masking law b bytes (at + 4) from count (omega arith) last has one both in
-    let three = looks_placing law words b bytes (at + 4) from count (omega arith) last has (omega arith) two both in
+    let one = looks_write b bytes at from count below last has l write pair in
+    let two = looks_masking b bytes (at + 4) from count (omega arith) last has one both in
+    let three = looks_placing b bytes (at + 4) from count (omega arith) last has (omega arith) two both in
     subst (λ k. Looks b bytes k from) twelve three

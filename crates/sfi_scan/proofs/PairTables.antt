@@ -7,7 +7,6 @@ use Rattle.std.proofs.lemmas.Nat.{and_mask, and_block, and_le_r}
 use Rattle.rv_word.specs.declared.instr.Instr.{Instr}
 use Rattle.rv_word.specs.declared.instr.Instr.TheVariants.{Op}
 use Rattle.rv_word.specs.declared.instr.RegOp.TheVariants.{And, Or}
-use Rattle.rv_word.specs.Laws.{OneSpelling}
 use Rattle.rv_word.specs.Spelling.{spelling, InRange, IsWordOf}
 use Rattle.sfi_policy.specs.Registers.{is_reserved}
 use Rattle.sfi_scan.specs.declared.pair_words.TheConstants.{MASKING, PLACING}
@@ -15,6 +14,7 @@ use Rattle.sfi_scan.specs.Pairs.{follows_pair}
 use Rattle.sfi_scan.specs.private.FirstLook.{AreBefore}
 use Rattle.sfi_scan.specs.private.Near.{near}
 use Rattle.sfi_scan.proofs.FirstLook.{pair_told}
+use Rattle.rv_word.proofs.Facts.{one_spelling}
 
 -- a register's entries are the words of its pair, or it may have none
 abbrev is_target : ℕ → Bool
@@ -63,11 +63,11 @@ second : (a b : Bool) → a ≡ false → (a || b) ≡ true → b ≡ true
 second true b e h = cc
 second false b e h = h
 
-words_told : OneSpelling → (words_first words_second t : ℕ) → words_first < 2 ^ 32 → t < 32
+words_told : (words_first words_second t : ℕ) → words_first < 2 ^ 32 → t < 32
     → bit_and words_first kept ≡ slice_index MASKING t → words_second ≡ slice_index PLACING t
     → (earlier : List Instr) → AreBefore (record { first = words_first; second = words_second }) (near earlier) → follows_pair 27 26 t earlier ≡ true
 unfolding is_right
-words_told law first last t fits lt masking placing earlier are = by (slice_index MASKING t == 0xffff_ffff) refl
+words_told first last t fits lt masking placing earlier are = by (slice_index MASKING t == 0xffff_ffff) refl
   where
     by : (none : Bool) → (slice_index MASKING t == 0xffff_ffff) ≡ none → follows_pair 27 26 t earlier ≡ true
     by true f = absurd (too_large first (masking ∙ eqb-true _ _ f))
@@ -75,13 +75,13 @@ words_told law first last t fits lt masking placing earlier are = by (slice_inde
         let right = second _ _ f (all_right t lt) in
         let both = and_parts (is_target t) _ right in
         let words = and_parts (slice_index MASKING t == spelling (Op And t 0 27)) (slice_index PLACING t == spelling (Op Or t t 26)) both.1 in
-        pair_told law (record { first = first; second = last }) 27 26 t (any_of first)
+        pair_told (record { first = first; second = last }) 27 26 t (any_of first)
         (masking_word first t fits lt (masking ∙ eqb-true _ _ words.0)) (placing_word last t lt (placing ∙ eqb-true _ _ words.1))
         true (sym both.0) earlier are
 
-pub data_pair_told : OneSpelling → (first last t place : ℕ) → place ≡ t → first < 2 ^ 32 → t < 32
+pub data_pair_told : (first last t place : ℕ) → place ≡ t → first < 2 ^ 32 → t < 32
     → bit_and first kept ≡ slice_index MASKING place → (b : Bool) → b ≡ nat_eq last (slice_index PLACING place)
     → (earlier : List Instr) → AreBefore (record { first = first; second = last }) (near earlier) → OnTrue b (follows_pair 27 26 t earlier ≡ true)
-data_pair_told law first last t place is fits lt masking false e earlier are = tt
-data_pair_told law first last t place is fits lt masking true e earlier are =
-    words_told law first last t fits lt (masking ∙ ap (slice_index MASKING) is) (eqb-true _ _ (sym e) ∙ ap (slice_index PLACING) is) earlier are
+data_pair_told first last t place is fits lt masking false e earlier are = tt
+data_pair_told first last t place is fits lt masking true e earlier are =
+    words_told first last t fits lt (masking ∙ ap (slice_index MASKING) is) (eqb-true _ _ (sym e) ∙ ap (slice_index PLACING) is) earlier are

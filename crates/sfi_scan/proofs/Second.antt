@@ -4,7 +4,6 @@ use Rattle.std.specs.List.{All}
 use Rattle.std.proofs.lemmas.List.Elements.{All-append, All-nil, All-push}
 use Rattle.rv_word.specs.declared.instr.Instr.{Instr}
 use Rattle.rv_word.specs.declared.instr.Instr.TheVariants.{Load, Store, Branch, Jal, Jalr, Ecall}
-use Rattle.rv_comp.specs.Laws.{OneSpelling}
 use Rattle.sfi_policy.specs.declared.format.Format.{Format}
 use Rattle.sfi_policy.specs.declared.format.Format.TheVariants.{Sfi1, Sfi2}
 use Rattle.sfi_policy.specs.Formats.{has_stack}
@@ -134,30 +133,30 @@ is_judged : (b : BundlePlace) (bytes : List ℕ) (found : List Finding) (x : Are
 unfolding judged
 is_judged b bytes found x = x.found_is
 
-bundle_of_stack : OneSpelling → (b : BundlePlace) (bytes : List ℕ) (clean found : List Finding) → clean ≡ [] → AreBundleFindings b bytes clean → AreBundleFindings (second_bundle b) bytes found → OfStack found
-bundle_of_stack law b bytes clean found e (inl x) y = absurd (let z = sym x.2 ∙ e in cc)
-bundle_of_stack law b bytes clean found e (inr x) (inl y) = absurd (y.1 (x.0 y.0))
-bundle_of_stack law b bytes clean found e (inr x) (inr y) =
+bundle_of_stack : (b : BundlePlace) (bytes : List ℕ) (clean found : List Finding) → clean ≡ [] → AreBundleFindings b bytes clean → AreBundleFindings (second_bundle b) bytes found → OfStack found
+bundle_of_stack b bytes clean found e (inl x) y = absurd (let z = sym x.2 ∙ e in cc)
+bundle_of_stack b bytes clean found e (inr x) (inl y) = absurd (y.1 (x.0 y.0))
+bundle_of_stack b bytes clean found e (inr x) (inr y) =
     let r = x.1 in
     let s = y.1 in
-    let same : r.reading ≡ s.reading = longest_one law bytes r.reading s.reading r.longest s.longest in
+    let same : r.reading ≡ s.reading = longest_one bytes r.reading s.reading r.longest s.longest in
     let here = reading_of_stack b bytes r.reading (sym (is_judged b bytes clean r) ∙ e) in
     subst OfStack (sym (is_judged (second_bundle b) bytes found s)) (subst (λ (v : List Piece). OfStack (judged (second_bundle b) bytes v)) same here)
 
-first_of_stack : OneSpelling → (sandbox : ℕ) (p : Part) (n : ℕ) (clean found : List Finding) → clean ≡ [] → AreFindingsOfFirst sandbox p n clean → AreFindingsOfFirst sandbox (in_format Sfi2 p) n found → OfStack found
-first_of_stack law sandbox p zero clean found e x y = subst OfStack (sym y) none
-first_of_stack law sandbox p (suc n) clean found e x y =
+first_of_stack : (sandbox : ℕ) (p : Part) (n : ℕ) (clean found : List Finding) → clean ≡ [] → AreFindingsOfFirst sandbox p n clean → AreFindingsOfFirst sandbox (in_format Sfi2 p) n found → OfStack found
+first_of_stack sandbox p zero clean found e x y = subst OfStack (sym y) none
+first_of_stack sandbox p (suc n) clean found e x y =
     let z = two_empty x.0 x.1 (sym x.4 ∙ e) in
     subst OfStack (sym y.4)
-    (both y.0 y.1 (first_of_stack law sandbox p n x.0 y.0 z.0 x.2 y.2) (bundle_of_stack law (place_of sandbox p n) (bundle_bytes p n) x.1 y.1 z.1 x.3 y.3))
+    (both y.0 y.1 (first_of_stack sandbox p n x.0 y.0 z.0 x.2 y.2) (bundle_of_stack (place_of sandbox p n) (bundle_bytes p n) x.1 y.1 z.1 x.3 y.3))
 
-part_of_stack : OneSpelling → (sandbox : ℕ) (p : Part) (clean found : List Finding) → clean ≡ [] → AreFindings sandbox p clean → AreFindings sandbox (in_format Sfi2 p) found → OfStack found
-part_of_stack law sandbox p clean found e x y =
+part_of_stack : (sandbox : ℕ) (p : Part) (clean found : List Finding) → clean ≡ [] → AreFindings sandbox p clean → AreFindings sandbox (in_format Sfi2 p) found → OfStack found
+part_of_stack sandbox p clean found e x y =
     let same : x.0 ≡ y.0 = let e = x.1 in let f = y.1 in omega arith in
-    first_of_stack law sandbox p y.0 clean found e (subst (λ n. AreFindingsOfFirst sandbox p n clean) same x.2) y.2
+    first_of_stack sandbox p y.0 clean found e (subst (λ n. AreFindingsOfFirst sandbox p n clean) same x.2) y.2
 
-pub image_of_stack : OneSpelling → (sandbox : ℕ) (ps : List Part) (clean found : List Finding) → clean ≡ [] → AreFindingsFrom sandbox ps clean → AreFindingsFrom sandbox (all_in_format Sfi2 ps) found → OfStack found
-image_of_stack law sandbox [] clean found e x y = subst OfStack (sym y) none
-image_of_stack law sandbox (p ∷ ps) clean found e x y =
+pub image_of_stack : (sandbox : ℕ) (ps : List Part) (clean found : List Finding) → clean ≡ [] → AreFindingsFrom sandbox ps clean → AreFindingsFrom sandbox (all_in_format Sfi2 ps) found → OfStack found
+image_of_stack sandbox [] clean found e x y = subst OfStack (sym y) none
+image_of_stack sandbox (p ∷ ps) clean found e x y =
     let z = two_empty x.0 x.1 (sym x.4 ∙ e) in
-    subst OfStack (sym y.4) (both y.0 y.1 (part_of_stack law sandbox p x.0 y.0 z.0 x.2 y.2) (image_of_stack law (sandbox + 1) ps x.1 y.1 z.1 x.3 y.3))
+    subst OfStack (sym y.4) (both y.0 y.1 (part_of_stack sandbox p x.0 y.0 z.0 x.2 y.2) (image_of_stack (sandbox + 1) ps x.1 y.1 z.1 x.3 y.3))

@@ -11,7 +11,6 @@ use Rattle.rv_word.specs.Accesses.{access, IsAccessOf}
 use Rattle.rv_word.specs.Outlines.{outline, IsWordThat}
 use Rattle.rv_word.specs.Spelling.{IsWordOf}
 use Rattle.rv_comp.specs.Halfwords.{IsHalfwordThat, IsShortSpelling}
-use Rattle.rv_comp.specs.Laws.{HalfwordsAreOutlined}
 use Rattle.rv_comp.specs.mirror.Decoding.{extended, jump_offset, branch_offset}
 use Rattle.rv_comp.specs.mirror.Outlining.{row_of, jump, jump_or_stop, outlined}
 use Rattle.sfi_policy.specs.Formats.{has_stack}
@@ -26,6 +25,7 @@ use Rattle.rv_word.specs.declared.access.Access.{Access}
 use Rattle.rv_word.specs.declared.instr.Instr.{Instr}
 use Rattle.rv_word.specs.declared.instr.Instr.TheVariants.{Load, Store}
 use Rattle.sfi_scan.specs.declared.computing.TheConstants.{COMPUTING}
+use Rattle.rv_comp.proofs.Facts.{halfwords_are_outlined}
 
 -- it computes into a register that is not reserved, and into x2 only where the halfword names it in bits 11:7
 abbrev is_free : Bool → Option Outline → Bool
@@ -84,23 +84,23 @@ free_of b h (Some (Computes rd)) is e none =
     record { rd = rd; does = is; free = not_protected b rd (h / 128 % 32 == 2) both.0 both.1 none }
 free_of b h _ is e none = cc
 
-pub free_half : HalfwordsAreOutlined → (b : BundlePlace) (h : ℕ) → h < 2 ^ 16 → (bit_and h (slice_index COMPUTING (h / 512 * 4 + h % 4)) == 0) ≡ false
+pub free_half : (b : BundlePlace) (h : ℕ) → h < 2 ^ 16 → (bit_and h (slice_index COMPUTING (h / 512 * 4 + h % 4)) == 0) ≡ false
     → (has_stack b.format && (h / 128 % 32 == 2)) ≡ false → IsFreeHalf b h
 unfolding passes
-free_half law b h lt some none =
+free_half b h lt some none =
     let p = h / 512 * 4 + h % 4 in
     let at : passes (slice_index COMPUTING p) h ≡ true = subst (λ k. passes (slice_index COMPUTING p) k ≡ true) (whole h) (row_at p (h / 4 % 128) (omega (arith, lt)) (omega arith)) in
-    free_of b h (outlined h) (law h lt).0 (second _ _ some at) none
+    free_of b h (outlined h) (halfwords_are_outlined h lt).0 (second _ _ some at) none
 
 low_two : (h : ℕ) → bit_and h 3 ≡ h % 4
 low_two h = and_mask h 2
 
 -- what the code tells, where it tells it under r
-pub free_told : HalfwordsAreOutlined → (h : ℕ) → h < 2 ^ 16 → bit_and h (slice_index COMPUTING (h / 512 * 4 + bit_and h 3)) ≢ 0
+pub free_told : (h : ℕ) → h < 2 ^ 16 → bit_and h (slice_index COMPUTING (h / 512 * 4 + bit_and h 3)) ≢ 0
     → (b : BundlePlace) (stack : Bool) → stack ≡ has_stack b.format → (r : Bool) → (r ≡ true → (stack && (h / 128 % 32 == 2)) ≡ false) → OnTrue r (IsFreeHalf b h)
-free_told law h lt some b stack is false none = tt
-free_told law h lt some b stack is true none =
-    free_half law b h lt (ap (λ k. bit_and h (slice_index COMPUTING (h / 512 * 4 + k)) == 0) (sym (low_two h)) ∙ ne_eqb _ 0 some)
+free_told h lt some b stack is false none = tt
+free_told h lt some b stack is true none =
+    free_half b h lt (ap (λ k. bit_and h (slice_index COMPUTING (h / 512 * 4 + k)) == 0) (sym (low_two h)) ∙ ne_eqb _ 0 some)
     (ap (λ s. s && (h / 128 % 32 == 2)) (sym is) ∙ none refl)
 
 pub no_stack : (s t : Bool) → not s ≡ true → (s && t) ≡ false

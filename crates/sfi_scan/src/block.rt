@@ -285,10 +285,6 @@ fn unclean(place: &BundlePlace, stack: bool, block: &[u8; BLOCK_BYTES]) -> u64
     ensures { (k : ℕ) → k < 8 → ((j : ℕ) → j < 8 → is_in result (8 * k + j) ≡ false) →
         AreReadingFindings (bundle_at place.now k) (block_bundle block.now k) [] }
 {
-    // The laws that the contract rests on: the calls do nothing.
-    rv_comp::laws::one_spelling();
-    rv_word::laws::one_spelling();
-
     let masks = masks_of(stack, block);
     let starts = starts_of(masks.long);
     if !are_starts(starts, masks.long) {

@@ -87,9 +87,6 @@ impl Words {
         ensures { (earlier : List Instr) → AreBefore self (near earlier) →
             OnTrue result (follows_pair pair.mask pair.base target earlier ≡ true) }
     {
-        // The law that the contract rests on: the call does nothing.
-        rv_word::laws::one_spelling();
-
         let (mask, base) = (Reg::numbered(pair.mask), Reg::numbered(pair.base));
         let any = Reg::numbered((self.first >> 15 & 0b11111) as u8);
         let placing = op_word(RegOp::Or, target, target, base);
@@ -320,10 +317,6 @@ fn looks_clean(place: &BundlePlace, stack: bool, bytes: &[u8; BUNDLE_BYTES]) -> 
     requires stack { stack ≡ has_stack place.now.format }
     ensures { OnTrue result (AreReadingFindings place.now bytes.now []) }
 {
-    // The laws that the contract rests on: the calls do nothing.
-    rv_comp::laws::one_spelling();
-    rv_word::laws::one_spelling();
-
     // The region's end has a rule of its own.
     if is_last_bundle(place) {
         return false;

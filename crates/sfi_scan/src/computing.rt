@@ -52,9 +52,6 @@ pub(crate) fn is_free_half(stack: bool, halfword: u16) -> bool
     ensures { (b : BundlePlace) → stack ≡ has_stack b.format →
         OnTrue result (IsFreeHalf b halfword) }
 {
-    // The law that the contract rests on: the call does nothing.
-    rv_comp::laws::halfwords_are_outlined();
-
     let place = (halfword >> 9) as usize * 4 + (halfword & 0b11) as usize;
     if halfword & COMPUTING[place] == 0 {
         return false;

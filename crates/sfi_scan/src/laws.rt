@@ -1,7 +1,5 @@
-//! What holds of readings, rules and findings. A call costs nothing.
+//! What holds of readings, rules and findings. Each law is a lemma too, in proofs/Facts.
 ghost use Rattle.sfi_scan.specs.Laws.{SameBundleStarts, OneLongestReading, OneBundleList, OneList, OneImageList, FirstFormatHasNoStack, FirstFormatFindsNoV10, CleanBreaksStackAlone};
-
-use rv_comp::laws::one_spelling;
 
 /// The rules' bundle starts are those of the image's code region.
 pub fn same_bundle_starts()
@@ -11,30 +9,22 @@ pub fn same_bundle_starts()
 /// A list of bytes has at most one longest reading.
 pub fn one_longest_reading()
     ensures { OneLongestReading }
-{
-    one_spelling();
-}
+{}
 
 /// A bundle has at most one list of findings.
 pub fn one_bundle_list()
     ensures { OneBundleList }
-{
-    one_spelling();
-}
+{}
 
 /// A part has at most one list of findings.
 pub fn one_list()
     ensures { OneList }
-{
-    one_spelling();
-}
+{}
 
 /// An image has at most one list of findings.
 pub fn one_image_list()
     ensures { OneImageList }
-{
-    one_spelling();
-}
+{}
 
 /// In the first format an access on x2 is one like any other, and no place breaks V10.
 pub fn first_format_has_no_stack()
@@ -49,6 +39,4 @@ pub fn first_format_finds_no_v10()
 /// Where no rule is broken, the second format's findings of the same sandboxes are V10 alone.
 pub fn clean_breaks_stack_alone()
     ensures { CleanBreaksStackAlone }
-{
-    one_spelling();
-}
+{}

@@ -59,9 +59,6 @@ pub(crate) fn are_data_pair(first: u32, second: u32, target: Reg) -> bool
         AreBefore (record { first = first; second = second }) (near earlier) →
         OnTrue result (follows_data_pair target earlier ≡ true) }
 {
-    // The law that the contract rests on: the call does nothing.
-    rv_word::laws::one_spelling();
-
     let place = target.number() as usize;
     if first & !OPERAND != MASKING[place] {
         return false;

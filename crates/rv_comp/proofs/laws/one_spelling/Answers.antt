@@ -2,4 +2,4 @@ use Rattle.rv_comp.proofs.Spellings.{spelled_one}
 use Rattle.rv_comp.proofs.laws.one_spelling.Goals as goal
 
 pub returns : goal.returns
-returns c = spelled_one c.spellings_are_wide.ensures c.one_spelling.ensures
+returns c = spelled_one

@@ -10,7 +10,7 @@ returns-in_default g c =
 pub returns-in_default-first : goal.returns-in_default-first
 returns-in_default-first g c =
     let s : State = record { hart = c.args.cpu.now; memory = g.M.Memory.bytes c.args.memory.now } in
-    told c.spellings_are_wide.ensures c.two_lengths.ensures s c.in-Some.low c.read_front-first.result (g.met.M.Memory.in_range c.args.memory.now)
+    told s c.in-Some.low c.read_front-first.result (g.met.M.Memory.in_range c.args.memory.now)
     (rw c.pc-pc.ensures.value at c.in-Some.ensures.value) (rw c.to_le_bytes.ensures at c.read_front-first.ensures.front) c.in_default-first.not-Short
 
 pub returns-in_default-fetch16 : goal.returns-in_default-fetch16
@@ -23,6 +23,6 @@ returns-in_default-fetch16 g c =
 pub returns : goal.returns
 returns g c =
     let s : State = record { hart = c.args.cpu.now; memory = g.M.Memory.bytes c.args.memory.now } in
-    both c.two_lengths.ensures s c.in-Some.low c.in-Some-fetch16.high c.read_front.result (g.met.M.Memory.in_range c.args.memory.now)
+    both s c.in-Some.low c.in-Some-fetch16.high c.read_front.result (g.met.M.Memory.in_range c.args.memory.now)
     (rw c.pc-pc.ensures.value at c.in-Some.ensures.value) (rw c.pc-pc.ensures.value at c.in-Some-fetch16.ensures.value)
     (rw (c.to_le_bytes.ensures, c.to_le_bytes-2.ensures) at c.read_front.ensures.front)

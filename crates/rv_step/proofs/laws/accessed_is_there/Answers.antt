@@ -2,4 +2,4 @@ use Rattle.rv_step.proofs.Steps.{all_found}
 use Rattle.rv_step.proofs.laws.accessed_is_there.Goals as goal
 
 pub returns : goal.returns
-returns c = all_found c.addresses_are_these.ensures c.read_is_held.ensures c.step_is_effect.ensures
+returns c = all_found

@@ -2,4 +2,4 @@ use Rattle.rv_step.proofs.Steps.{step_one}
 use Rattle.rv_step.proofs.laws.one_step.Goals as goal
 
 pub returns : goal.returns
-returns c = step_one c.at_pc_is_front.ensures c.one_front.ensures
+returns c = step_one

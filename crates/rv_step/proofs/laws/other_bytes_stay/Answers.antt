@@ -2,4 +2,4 @@ use Rattle.rv_step.proofs.Steps.{other_bytes}
 use Rattle.rv_step.proofs.laws.other_bytes_stay.Goals as goal
 
 pub returns : goal.returns
-returns c = other_bytes c.others_stay.ensures c.step_is_effect.ensures
+returns c = other_bytes

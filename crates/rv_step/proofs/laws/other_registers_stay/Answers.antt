@@ -2,4 +2,4 @@ use Rattle.rv_step.proofs.Registers.{other_registers}
 use Rattle.rv_step.proofs.laws.other_registers_stay.Goals as goal
 
 pub returns : goal.returns
-returns c = other_registers c.step_is_effect.ensures
+returns c = other_registers

@@ -2,4 +2,4 @@ use Rattle.rv_step.proofs.Pairs.{pair_left}
 use Rattle.rv_step.proofs.laws.pair_leaves.Goals as goal
 
 pub returns : goal.returns
-returns c = pair_left c.spelled_in_range.ensures
+returns c = pair_left

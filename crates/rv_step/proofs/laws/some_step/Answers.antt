@@ -2,4 +2,4 @@ use Rattle.rv_step.proofs.Steps.{step_some}
 use Rattle.rv_step.proofs.laws.some_step.Goals as goal
 
 pub returns : goal.returns
-returns c = step_some c.at_pc_is_front.ensures c.some_front.ensures
+returns c = step_some

@@ -1,5 +1,5 @@
-use Rattle.sfi_check.proofs.Calling.{goes_on}
+use Rattle.sfi_check.proofs.Facts.{goes_on_safely}
 use Rattle.sfi_check.proofs.laws.goes_on_safely.Goals as goal
 
 pub returns : goal.returns
-returns c = goes_on
+returns c = goes_on_safely

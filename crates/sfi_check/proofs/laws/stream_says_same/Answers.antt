@@ -1,5 +1,5 @@
-use Rattle.sfi_check.proofs.OneVerdict.{stream_says_same}
+use Rattle.sfi_check.proofs.Facts.{stream_says_same}
 use Rattle.sfi_check.proofs.laws.stream_says_same.Goals as goal
 
 pub returns : goal.returns
-returns c = stream_says_same c.verdict_is_on_all.ensures
+returns c = stream_says_same

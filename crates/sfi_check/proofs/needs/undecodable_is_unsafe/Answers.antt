@@ -2,4 +2,4 @@ use Rattle.sfi_check.proofs.NeededBundles.{undecodable_unsafe}
 use Rattle.sfi_check.proofs.needs.undecodable_is_unsafe.Goals as goal
 
 pub returns : goal.returns
-returns c = undecodable_unsafe c.one_spelling.ensures c.spellings_are_wide.ensures
+returns c = undecodable_unsafe

@@ -27,7 +27,7 @@ returns-in-Fault-clause-judged g c =
 pub returns-then-at-held-clause-judged : goal.returns-then-at-held-clause-judged
 returns-then-at-held-clause-judged g c =
     let i = c.pieces.invariant.between in
-    more_held i (λ found. g.F.FindingSink.takes c.args.sink.now found c.take_piece.new.sink) c.stream_laws.ensures
+    more_held i (λ found. g.F.FindingSink.takes c.args.sink.now found c.take_piece.new.sink)
     c.take_piece.new.reader c.take_piece.new.tally c.in-Whole.at (c.in-Whole.ensures c.args.sink.now i.so_far i.at) c.if-at-held.true
 
 pub returns-in-Ok-eq0-clause-judged : goal.returns-in-Ok-eq0-clause-judged
@@ -38,7 +38,7 @@ returns-in-Ok-eq0-clause-judged g c =
     subst (λ (k : ℕ). reads c.pieces.source k (Some []) c.read_more.new.source) i.long
     (subst (λ (k : ℕ). reads c.pieces.source (length c.pieces.piece) (Some (take k c.read_more.new.piece)) c.read_more.new.source) c.in-Ok-eq0.field-0-test c.in-Ok-eq0.ensures.some) in
     subst (λ (a : StreamAnswer). IsJudged i (λ found. g.F.FindingSink.takes c.args.sink.now found c.take_piece.new.sink) c.read_more.new.source a) (sym c.verdict.ensures)
-    (ends_whole i (λ found. g.F.FindingSink.takes c.args.sink.now found c.take_piece.new.sink) c.stream_laws.ensures
+    (ends_whole i (λ found. g.F.FindingSink.takes c.args.sink.now found c.take_piece.new.sink)
     c.take_piece.new.reader c.take_piece.new.tally c.in-Whole.at (c.in-Whole.ensures c.args.sink.now i.so_far i.at) c.if-at-held.false c.read_more.new.source read)
 
 pub returns-in-Ok-clause-judged : goal.returns-in-Ok-clause-judged
@@ -51,7 +51,7 @@ returns-in-Ok-clause-judged g c =
     let some : 0 < length more = omega (arith, length-take c.in-Ok.field-0 c.read_more.new.piece, c.read_more.array_long) in
     let read : reads c.pieces.source 4096 (Some more) c.read_more.new.source =
     subst (λ (k : ℕ). reads c.pieces.source k (Some more) c.read_more.new.source) i.long c.in-Ok.ensures.some in
-    more_read i (λ found. g.F.FindingSink.takes c.args.sink.now found c.take_piece.new.sink) c.stream_laws.ensures
+    more_read i (λ found. g.F.FindingSink.takes c.args.sink.now found c.take_piece.new.sink)
     c.take_piece.new.reader c.take_piece.new.tally c.in-Whole.at (c.in-Whole.ensures c.args.sink.now i.so_far i.at) c.if-at-held.false c.read_more.new.source more read some
 
 pub returns-in-Err-clause-judged : goal.returns-in-Err-clause-judged
@@ -74,7 +74,7 @@ returns-in-Ok-eq0-read_more-clause-judged g c =
     (omega (arith, length-drop (c.pieces.held - c.in-More.at) c.move_to_front.new.piece, c.move_to_front.array_long), omega (arith, length-drop (c.pieces.held - c.in-More.at) c.move_to_front.new.piece, c.move_to_front.array_long)) in
     let read : reads c.pieces.source (length left) (Some []) c.read_more-in-More.new.source =
     subst (λ (k : ℕ). reads c.pieces.source (length left) (Some (take k (drop (c.pieces.held - c.in-More.at) c.read_more-in-More.new.piece))) c.read_more-in-More.new.source) c.in-Ok-eq0-read_more.field-0-test c.in-Ok-eq0-read_more.ensures.some in
-    ends_short i (λ found. g.F.FindingSink.takes c.args.sink.now found c.take_piece.new.sink) c.stream_laws.ensures
+    ends_short i (λ found. g.F.FindingSink.takes c.args.sink.now found c.take_piece.new.sink)
     c.take_piece.new.reader c.take_piece.new.tally c.in-More.at cut c.read_more-in-More.new.source (length left) read room.1 room.0
 
 pub returns-in-Err-read_more-clause-judged : goal.returns-in-Err-read_more-clause-judged
@@ -120,7 +120,7 @@ pieces-preserved g c =
     let on : take (n + c.in-Ok-read_more.count) new ≡ drop c.in-More.at (take c.pieces.held c.pieces.piece) ++ more =
     take_on n c.in-Ok-read_more.count new (omega arith) ∙ ap (λ (l : List ℕ). l ++ more) front in
     record {
-      between = reads_on i (λ found. g.F.FindingSink.takes c.args.sink.now found c.take_piece.new.sink) c.stream_laws.ensures
+      between = reads_on i (λ found. g.F.FindingSink.takes c.args.sink.now found c.take_piece.new.sink)
           c.take_piece.new.reader c.take_piece.new.tally c.in-More.at cut c.read_more-in-More.new.source (length left) more c.in-Ok-read_more.ensures.some room some new (n + c.in-Ok-read_more.count) on bound long;
       live = g.met.S.ByteSource.stays c.pieces.source c.read_more-in-More.new.source (length left) more c.in-Ok-read_more.ensures.some ∙ c.pieces.invariant.live;
     }

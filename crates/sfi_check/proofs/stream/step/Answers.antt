@@ -54,4 +54,4 @@ returns-in-None-take g c = λ first so_far h.
 pub take_code-requires-clause-within : goal.take_code-requires-clause-within
 take_code-requires-clause-within g c =
     let h = c.requires.2 in
-    bundle_within c.whole_bundles.ensures h.at _ h.stands.right (c.in-Bundle.ensures.want h.at h.stands)
+    bundle_within h.at _ h.stands.right (c.in-Bundle.ensures.want h.at h.stands)

@@ -6,9 +6,10 @@ use Rattle.sfi_check.specs.Refusals.{IfLayoutFault}
 use Rattle.sfi_check.specs.Verdict.{AnswersLayout}
 use Rattle.sfi_check.proofs.Verdicts.{fault_means, fault_layout}
 use Rattle.sfi_check.proofs.verdict.check.Goals as goal
+use Rattle.sfi_image.proofs.Facts.{never_both, one_fault}
 
 pub returns-in-Ok-clause-only_layout : goal.returns-in-Ok-clause-only_layout
-returns-in-Ok-clause-only_layout c = λ k fault. absurd (c.one_reading.ensures.either c.args.bytes.now c.in-Ok.image k c.in-Ok.ensures.image fault)
+returns-in-Ok-clause-only_layout c = λ k fault. absurd (never_both c.args.bytes.now c.in-Ok.image k c.in-Ok.ensures.image fault)
 
 pub returns-in-Err-clause-layout : goal.returns-in-Err-clause-layout
 returns-in-Err-clause-layout c =
@@ -16,4 +17,4 @@ returns-in-Err-clause-layout c =
 
 pub returns-in-Err-clause-only_layout : goal.returns-in-Err-clause-only_layout
 returns-in-Err-clause-only_layout c =
-    λ k is. subst (λ (r : Refusal). AnswersLayout {A = List Part} k (Err r)) (sym c.from.ensures) (fault_layout c.args.bytes.now c.in-Err.fault (c.one_reading.ensures.faults c.args.bytes.now) c.in-Err.ensures.fault k is)
+    λ k is. subst (λ (r : Refusal). AnswersLayout {A = List Part} k (Err r)) (sym c.from.ensures) (fault_layout c.args.bytes.now c.in-Err.fault (one_fault c.args.bytes.now) c.in-Err.ensures.fault k is)

@@ -8,5 +8,5 @@ returns g c =
     let d = c.masks_of_quarter-third in
     let e = c.masks_of_quarter-fourth in
     let block = c.args.block.now in
-    are_masks _ block a.result b.result d.result e.result c.halfwords_are_outlined.ensures c.fits-block
+    are_masks _ block a.result b.result d.result e.result c.fits-block
     (are_quarters _ block a.result b.result d.result e.result a.ensures b.ensures d.ensures e.ensures) _ c.joined.ensures c.joined-2.ensures c.joined-3.ensures

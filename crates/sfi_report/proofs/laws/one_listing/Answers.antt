@@ -2,4 +2,4 @@ use Rattle.sfi_report.proofs.OneText.{one_listing}
 use Rattle.sfi_report.proofs.laws.one_listing.Goals as goal
 
 pub returns : goal.returns
-returns c = one_listing c.one_longest_reading.ensures
+returns c = one_listing

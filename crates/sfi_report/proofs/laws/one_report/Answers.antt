@@ -2,4 +2,4 @@ use Rattle.sfi_report.proofs.OneText.{one_report}
 use Rattle.sfi_report.proofs.laws.one_report.Goals as goal
 
 pub returns : goal.returns
-returns c = one_report c.one_spelling.ensures
+returns c = one_report

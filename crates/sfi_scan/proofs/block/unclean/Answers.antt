@@ -14,7 +14,7 @@ pub returns-then-left-eq0 : goal.returns-then-left-eq0
 returns-then-left-eq0 c k lt none =
     let starts = c.starts_of-starts.result in
     let words = bit_and starts c.masks_of-masks.result.long in
-    joined c.one_spelling.ensures c.one_spelling-2.ensures c.args.place.now c.args.block.now starts words _ k c.told-block lt c.requires.within c.if-not-are_starts.ensures (after_two_is words)
+    joined c.args.place.now c.args.block.now starts words _ k c.told-block lt c.requires.within c.if-not-are_starts.ensures (after_two_is words)
     (λ j below start.
     let out = ap (λ m. is_in m (8 * k + j)) c.if-left-eq0.true ∙ in_zero (8 * k + j) in
     inl (free_start c.args.place.now c.args.block.now c.args.stack starts c.masks_of-masks.result _ c.without-left.result (8 * k + j) c.requires.stack c.masks_of-masks.ensures c.if-not-are_starts.ensures c.without-left.ensures
@@ -33,7 +33,7 @@ pub returns : goal.returns
 returns c k lt none =
     let starts = c.starts_of-starts.result in
     let words = bit_and starts c.masks_of-masks.result.long in
-    joined c.one_spelling.ensures c.one_spelling-2.ensures c.args.place.now c.args.block.now starts words c.after_two-after.result k c.told-block lt c.requires.within c.if-not-are_starts.ensures c.after_two-after.ensures
+    joined c.args.place.now c.args.block.now starts words c.after_two-after.result k c.told-block lt c.requires.within c.if-not-are_starts.ensures c.after_two-after.ensures
     (λ j below start.
     seen c.args.place.now c.args.block.now c.args.stack starts c.masks_of-masks.result c.after_two-after.result c.without-left.result c.clean_accesses-accesses.result c.without-others.result c.clean_others.result c.without-rest.result c.stack_writes.result c.without.result (8 * k + j)
     c.requires.stack c.masks_of-masks.ensures c.if-not-are_starts.ensures c.without-left.ensures c.without-others.ensures c.without-rest.ensures c.without.ensures (omega (arith, lt, below))

@@ -8,12 +8,12 @@ loop-at-init c = looks_first c.args.place.now c.args.bytes.now
 
 pub loop-at-preserved-then-halfword-ne3 : goal.loop-at-preserved-then-halfword-ne3
 loop-at-preserved-then-halfword-ne3 c =
-    looks_half c.one_spelling.ensures c.args.place.now c.args.bytes.now c.loop-at.at c.loop-at.from c.half_at-halfword.result c.told-bytes c.loop-at-test.true (sym c.if-is_last_bundle.ensures) c.loop-at.invariant
+    looks_half c.args.place.now c.args.bytes.now c.loop-at.at c.loop-at.from c.half_at-halfword.result c.told-bytes c.loop-at-test.true (sym c.if-is_last_bundle.ensures) c.loop-at.invariant
     c.half_at-halfword.ensures c.if-not-is_clean_half.ensures
 
 pub loop-at-preserved-then-is_stack_written : goal.loop-at-preserved-then-is_stack_written
 loop-at-preserved-then-is_stack_written c =
-    looks_written c.one_spelling.ensures c.one_spelling-2.ensures c.args.place.now c.args.bytes.now c.loop-at.at c.loop-at.from c.told-bytes c.if-at-le4.true (sym c.if-is_last_bundle.ensures) (sym c.requires.stack ∙ c.if-stack.true) c.loop-at.invariant
+    looks_written c.args.place.now c.args.bytes.now c.loop-at.at c.loop-at.from c.told-bytes c.if-at-le4.true (sym c.if-is_last_bundle.ensures) (sym c.requires.stack ∙ c.if-stack.true) c.loop-at.invariant
     c.if-is_stack_written.ensures.write c.if-is_stack_written.ensures.pair
 
 pub loop-at-preserved : goal.loop-at-preserved

@@ -3,4 +3,4 @@ use Rattle.sfi_check.proofs.Safe.{may_run}
 use Rattle.sfi_check.proofs.accepted.Accepted.new.Goals as goal
 
 pub invariant_of-result : goal.invariant_of-result
-invariant_of-result c = may_run c.clean_runs_safely.ensures c.args.image c.requires (all_call c.clean_calls_with_stack.ensures c.args.image c.requires)
+invariant_of-result c = may_run c.args.image c.requires (all_call c.args.image c.requires)

@@ -5,16 +5,16 @@ use Rattle.sfi_check.proofs.Feeding.{answered_fault, answered_whole, answered_sh
 use Rattle.sfi_check.proofs.feed.Feed.answer.Goals as goal
 
 pub returns-in-Some-clause-judged : goal.returns-in-Some-clause-judged
-returns-in-Some-clause-judged c = λ bytes h. answered_fault c.stream_laws.ensures bytes c.in-Some.number (fed_fault c.args.self.now bytes c.in-Some.number c.in-Some.is h)
+returns-in-Some-clause-judged c = λ bytes h. answered_fault bytes c.in-Some.number (fed_fault c.args.self.now bytes c.in-Some.number c.in-Some.is h)
 
 pub returns-in-End-clause-judged : goal.returns-in-End-clause-judged
 returns-in-End-clause-judged c = λ bytes h.
     let none = c.in_default.is in
     subst (λ (a : StreamAnswer). IsVerdictOn bytes true a) (sym c.verdict.ensures)
-    (answered_whole c.stream_laws.ensures c.args.self.now bytes (fed_held c.args.self.now bytes none h) (λ x stands. sym c.in-End.is ∙ c.wants.ensures.want x stands))
+    (answered_whole c.args.self.now bytes (fed_held c.args.self.now bytes none h) (λ x stands. sym c.in-End.is ∙ c.wants.ensures.want x stands))
 
 pub returns-in_default-wants-clause-judged : goal.returns-in_default-wants-clause-judged
 returns-in_default-wants-clause-judged c = λ bytes h.
     let none = c.in_default.is in
     let held = fed_held c.args.self.now bytes none h in
-    answered_short c.stream_laws.ensures c.args.self.now bytes held (λ w. c.in_default-wants.not-End (c.wants.ensures.want held.at.at held.at.stands ∙ sym w))
+    answered_short c.args.self.now bytes held (λ w. c.in_default-wants.not-End (c.wants.ensures.want held.at.at held.at.stands ∙ sym w))

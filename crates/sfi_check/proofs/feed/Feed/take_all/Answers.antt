@@ -25,7 +25,7 @@ returns-then-at-bytes c = λ so_far h.
     let whole = c.in-Whole.ensures (record {}) so_far h in
     let rest = drop c.in-Whole.at c.args.bytes.now in
     let some : 0 < length rest = omega (arith, length-drop c.in-Whole.at c.args.bytes.now) in
-    fault_on so_far c.in-Whole.at 11 c.args.bytes.now (trailing c.stream_laws.ensures _ _ (so_far ++ take c.in-Whole.at c.args.bytes.now) rest whole.1 whole.2 some)
+    fault_on so_far c.in-Whole.at 11 c.args.bytes.now (trailing _ _ (so_far ++ take c.in-Whole.at c.args.bytes.now) rest whole.1 whole.2 some)
 
 pub returns-else-at-bytes : goal.returns-else-at-bytes
 returns-else-at-bytes c = λ so_far h.
