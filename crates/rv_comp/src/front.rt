@@ -54,6 +54,7 @@ fn read_cut_front(bytes: &[u8]) -> Front
 }
 
 /// The instruction at the front of the bytes. What follows it makes no difference.
+#[tactic(auto, using(crate::proofs::Fronts::front_one))]
 pub fn read_front(bytes: &[u8]) -> Front
     ensures front { IsFront bytes.now result }
     ensures only { (front : Front) → IsFront bytes.now front → result ≡ front }
