@@ -46,7 +46,7 @@ free_at b block stack starts m after i is are marks lt start free = by (is_in (b
     long = in_and starts m.long i ∙ ap (λ p. p && is_in m.long i) start
 
     by : (w : Bool) → is_in (bit_and starts m.long) i ≡ w → IsCleanAt b block w after i
-    by false e = free_half block stack after i is (are.short i lt free (sym long ∙ e))
+    by false e = free_half b block stack after i is (are.short i lt free (sym long ∙ e))
     by true e = let inside = marks.inside i lt e in free_word b block stack after i inside is (are.word i inside lt free (sym long ∙ e))
 
 pub free_start : (b : BundlePlace) (block : List ℕ) (stack : Bool) (starts : ℕ) (m : Masks) (after left i : ℕ) → stack ≡ has_stack b.format → AreMasks stack block m → AreStarts starts (bit_and starts m.long)

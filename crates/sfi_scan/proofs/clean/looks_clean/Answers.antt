@@ -18,7 +18,7 @@ loop-at-preserved-then-is_stack_written c =
 
 pub loop-at-preserved : goal.loop-at-preserved
 loop-at-preserved c =
-    looks_word c.one_spelling.ensures c.args.place.now c.args.bytes.now c.loop-at.at c.loop-at.from c.word_at.result c.told-bytes (let high = c.if-at-gt12.false in omega arith) (sym c.if-is_last_bundle.ensures) c.loop-at.invariant
+    looks_word c.args.place.now c.args.bytes.now c.loop-at.at c.loop-at.from c.word_at.result c.told-bytes (let high = c.if-at-gt12.false in omega arith) (sym c.if-is_last_bundle.ensures) c.loop-at.invariant
     c.word_at.ensures c.if-not-is_clean_word.ensures
 
 pub returns : goal.returns
