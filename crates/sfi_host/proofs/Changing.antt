@@ -4,7 +4,6 @@ use Rattle.std.proofs.lemmas.Bool.{cases_eq}
 use Rattle.std.proofs.lemmas.Option.{same_Some}
 use Rattle.rv_mem.specs.Bytes.{Bytes, IsMemory}
 use Rattle.sfi_image.specs.Spelling.{Part}
-use Rattle.sfi_check.specs.Laws.{GoesOnSafely}
 use Rattle.sfi_check.specs.Runs.{IsChange}
 use Rattle.sfi_host.specs.declared.program.Program.{Program}
 use Rattle.sfi_host.specs.declared.sandbox.Sandbox.{Sandbox}
@@ -28,7 +27,7 @@ others_same w i new o slots j other = ap (λ (l : List Slot). slice_get l j) slo
 pub whole_at : (m : Bytes) (items : List Sandbox) (i : ℕ) (x : Sandbox) → IsSafeWorld (world_of m items) → slice_get items i ≡ Some x → IsWhole (seat_of x).bounds.data (bytes_in (seat_of x).bounds.data m)
 whole_at m items i x world at = whole_in (seat_of x).bounds.data m (world.each i (seat_of x) (seat_at items i x at)).has_data
 
-module _ (on : GoesOnSafely) (m n : Bytes) (items : List Sandbox) (programs : List Program) (i : ℕ) (x : Sandbox)
+module _ (m n : Bytes) (items : List Sandbox) (programs : List Program) (i : ℕ) (x : Sandbox)
     (world : IsSafeWorld (world_of m items)) (decoded : AreDecoded (world_of m items) programs) (at : slice_get items i ≡ Some x) (memory : IsMemory n)
     (out : bytes_outside (seat_of x).bounds.data n ≡ bytes_outside (seat_of x).bounds.data m)
     (whole : IsWhole (seat_of x).bounds.data (bytes_in (seat_of x).bounds.data m) → IsWhole (seat_of x).bounds.data (bytes_in (seat_of x).bounds.data n)) where
@@ -42,12 +41,12 @@ module _ (on : GoesOnSafely) (m n : Bytes) (items : List Sandbox) (programs : Li
   others = stays_outside (seat_of x).bounds.data m n out
 
   safe : IsSafeSeat n (seat_of x)
-  safe = keep.own_changed m (seat_of x) seat on n memory others (whole_of (seat_of x).bounds.data n (whole (whole_in (seat_of x).bounds.data m seat.has_data)))
+  safe = keep.own_changed m (seat_of x) seat n memory others (whole_of (seat_of x).bounds.data n (whole (whole_in (seat_of x).bounds.data m seat.has_data)))
 
   pub data_written : (w : Sandboxes) → world_of m items ≡ w → AfterTurn w programs i (slot_of m (seat_of x)) (slot_of n (seat_of x)) (world_of n items)
   data_written w view =
       subst (λ (l : List Sandbox). AfterTurn w programs i (slot_of m (seat_of x)) (slot_of n (seat_of x)) (world_of n l)) (set_itself items i x at)
-      (turn_taken on m n items programs i x x (world, decoded) at refl safe others w view)
+      (turn_taken m n items programs i x x (world, decoded) at refl safe others w view)
 
   own_change : (j : ℕ) (s : Seat) (p : Part) → j ≡ i → slice_get (seats_of items) j ≡ Some s → s.bounds ≡ bounds_of p → IsChange p (state_in m s) (state_in n s)
   own_change j s p h e is =

@@ -8,12 +8,12 @@ use Rattle.std.specs.Ordering.{nat_cmp}
 use Rattle.std.specs.FinMap.{empty, get-empty}
 use Rattle.std.proofs.lemmas.Bool.{cases_lt, eqb-true, eqb-false}
 use Rattle.rv_mem.specs.Bytes.{Bytes, byte_at, addresses, with_bytes, added}
-use Rattle.rv_mem.specs.Laws.{AddressesAreThese, OthersStay, WrittenIsThere}
+use Rattle.rv_mem.proofs.Facts.{addresses_are_these, others_stay, written_is_there}
 use Rattle.sfi_image.specs.declared.span.Span.{Span}
 use Rattle.sfi_image.specs.Spelling.{Part}
 use Rattle.sfi_image.specs.Spans.{Holds, AreApart, code_region, guarded_region, spans}
 use Rattle.sfi_image.specs.Parts.{IsRightPart, IsRightLayout}
-use Rattle.sfi_image.specs.Laws.{CodeEnds}
+use Rattle.sfi_image.proofs.Facts.{code_ends}
 use Rattle.sfi_check.specs.Regions.{InCode, InData, InGuard}
 use Rattle.sfi_host.specs.Loading.{first_data, with_part, with_parts}
 
@@ -111,12 +111,6 @@ tail p ps lie = record {
 
 -- ---- what is added
 
-pub record Laws : Type 0 where
-  pub these : AddressesAreThese
-  pub stay : OthersStay
-  pub written : WrittenIsThere
-  pub ends : CodeEnds
-
 abbrev region : ℕ → ℕ → Span
 region base size = record { base = base; size = size }
 
@@ -131,96 +125,95 @@ guard_not_data : (p : Part) (a : ℕ) → IsRightPart p → InGuard p a → InDa
 guard_not_data p a right (inl low) h = let room : 4096 ≤ p.data_base = right.guard_room.below in omega arith
 guard_not_data p a right (inr high) h = omega arith
 
-module _ (laws : Laws) where
-  at_region : (base size a : ℕ) → base + size ≤ 2 ^ 32 → Contains (addresses base size) a → Holds (region base size) a
-  at_region base size a fits c =
-      let x = (laws.these base size a).0 c in
-      let k = x.0 in
-      let below : k < size = x.1 in
-      let is : a ≡ (base + k) % 2 ^ 32 = x.2 in
-      (omega arith, omega arith)
+at_region : (base size a : ℕ) → base + size ≤ 2 ^ 32 → Contains (addresses base size) a → Holds (region base size) a
+at_region base size a fits c =
+    let x = (addresses_are_these base size a).0 c in
+    let k = x.0 in
+    let below : k < size = x.1 in
+    let is : a ≡ (base + k) % 2 ^ 32 = x.2 in
+    (omega arith, omega arith)
 
-  added_outside : (m : Bytes) (base size : ℕ) (front : List ℕ) (a : ℕ) → base + size ≤ 2 ^ 32 → (Holds (region base size) a → ⊥) → byte_at (added m base size front) a ≡ byte_at m a
-  added_outside m base size front a fits out = laws.stay m (addresses base size) (front ++ replicate (size - length front) 0) a (λ c. out (at_region base size a fits c))
+added_outside : (m : Bytes) (base size : ℕ) (front : List ℕ) (a : ℕ) → base + size ≤ 2 ^ 32 → (Holds (region base size) a → ⊥) → byte_at (added m base size front) a ≡ byte_at m a
+added_outside m base size front a fits out = others_stay m (addresses base size) (front ++ replicate (size - length front) 0) a (λ c. out (at_region base size a fits c))
 
-  added_inside : (m : Bytes) (base size : ℕ) (front : List ℕ) (k : ℕ) → length front ≤ size → base + size ≤ 2 ^ 32 → k < size
-      → byte_at (added m base size front) (base + k) ≡ Some (slice_index (front ++ replicate (size - length front) 0) k)
-  added_inside m base size front k room fits below =
-      let bytes = front ++ replicate (size - length front) 0 in
-      let z : length {A = ℕ} (replicate (size - length front) 0) ≡ size - length front = length-replicate (size - length front) 0 in
-      let e : length (front ++ replicate (size - length front) 0) ≡ size = omega (arith, length-append front (replicate (size - length front) 0)) in
-      subst (λ (n : ℕ). byte_at (with_bytes m (addresses base n) bytes) (base + k) ≡ Some (slice_index bytes k)) e (laws.written m base bytes k (omega arith) (omega arith))
+added_inside : (m : Bytes) (base size : ℕ) (front : List ℕ) (k : ℕ) → length front ≤ size → base + size ≤ 2 ^ 32 → k < size
+    → byte_at (added m base size front) (base + k) ≡ Some (slice_index (front ++ replicate (size - length front) 0) k)
+added_inside m base size front k room fits below =
+    let bytes = front ++ replicate (size - length front) 0 in
+    let z : length {A = ℕ} (replicate (size - length front) 0) ≡ size - length front = length-replicate (size - length front) 0 in
+    let e : length (front ++ replicate (size - length front) 0) ≡ size = omega (arith, length-append front (replicate (size - length front) 0)) in
+    subst (λ (n : ℕ). byte_at (with_bytes m (addresses base n) bytes) (base + k) ≡ Some (slice_index bytes k)) e (written_is_there m base bytes k (omega arith) (omega arith))
 
-  -- ---- one sandbox
+-- ---- one sandbox
 
-  module _ (m : Bytes) (p : Part) (right : IsRightPart p) where
-    code_fits : p.code_base + length p.code ≤ 2 ^ 32
-    code_fits = laws.ends p right
+module _ (m : Bytes) (p : Part) (right : IsRightPart p) where
+  code_fits : p.code_base + length p.code ≤ 2 ^ 32
+  code_fits = code_ends p right
 
-    data_fits : p.data_base + p.data_size ≤ 2 ^ 32
-    data_fits = let above : p.data_base + p.data_size + 4096 ≤ 2 ^ 32 = right.guard_room.above in omega arith
+  data_fits : p.data_base + p.data_size ≤ 2 ^ 32
+  data_fits = let above : p.data_base + p.data_size + 4096 ≤ 2 ^ 32 = right.guard_room.above in omega arith
 
-    part_outside : (a : ℕ) → (InCode p a → ⊥) → (InData p a → ⊥) → byte_at (with_part m p) a ≡ byte_at m a
-    part_outside a no_code no_data =
-        added_outside (added m p.code_base (length p.code) p.code) p.data_base p.data_size p.init a data_fits no_data
-        ∙ added_outside m p.code_base (length p.code) p.code a code_fits no_code
+  part_outside : (a : ℕ) → (InCode p a → ⊥) → (InData p a → ⊥) → byte_at (with_part m p) a ≡ byte_at m a
+  part_outside a no_code no_data =
+      added_outside (added m p.code_base (length p.code) p.code) p.data_base p.data_size p.init a data_fits no_data
+      ∙ added_outside m p.code_base (length p.code) p.code a code_fits no_code
 
-    part_code : AreApart (code_region p) (guarded_region p) → (k : ℕ) → k < length p.code → byte_at (with_part m p) (p.code_base + k) ≡ Some (slice_index p.code k)
-    part_code apart k below =
-        added_outside (added m p.code_base (length p.code) p.code) p.data_base p.data_size p.init (p.code_base + k) data_fits
-        (λ h. apart (p.code_base + k) (omega arith, omega (arith, below)) (data_guarded p (p.code_base + k) right h))
-        ∙ added_inside m p.code_base (length p.code) p.code k (omega arith) code_fits below
-        ∙ ap Some (front_index p.code (replicate (length p.code - length p.code) 0) k below)
+  part_code : AreApart (code_region p) (guarded_region p) → (k : ℕ) → k < length p.code → byte_at (with_part m p) (p.code_base + k) ≡ Some (slice_index p.code k)
+  part_code apart k below =
+      added_outside (added m p.code_base (length p.code) p.code) p.data_base p.data_size p.init (p.code_base + k) data_fits
+      (λ h. apart (p.code_base + k) (omega arith, omega (arith, below)) (data_guarded p (p.code_base + k) right h))
+      ∙ added_inside m p.code_base (length p.code) p.code k (omega arith) code_fits below
+      ∙ ap Some (front_index p.code (replicate (length p.code - length p.code) 0) k below)
 
-    part_data : (k : ℕ) → k < p.data_size → byte_at (with_part m p) (p.data_base + k) ≡ Some (slice_index (first_data p) k)
-    part_data k below = added_inside (added m p.code_base (length p.code) p.code) p.data_base p.data_size p.init k right.init_len data_fits below
+  part_data : (k : ℕ) → k < p.data_size → byte_at (with_part m p) (p.data_base + k) ≡ Some (slice_index (first_data p) k)
+  part_data k below = added_inside (added m p.code_base (length p.code) p.code) p.data_base p.data_size p.init k right.init_len data_fits below
 
-  -- ---- all of them
+-- ---- all of them
 
-  all_outside : (ps : List Part) (m : Bytes) (a : ℕ) → LieApart ps → ((i : ℕ) (q : Part) → slice_get ps i ≡ Some q → (InCode q a → ⊥) × (InData q a → ⊥)) → byte_at (with_parts m ps) a ≡ byte_at m a
-  all_outside [] m a lie out = refl
-  all_outside (p ∷ ps) m a lie out =
-      all_outside ps (with_part m p) a (tail p ps lie) (λ i q e. out (suc i) q e)
-      ∙ part_outside m p (lie.each 0 p refl) a (out 0 p refl).0 (out 0 p refl).1
+all_outside : (ps : List Part) (m : Bytes) (a : ℕ) → LieApart ps → ((i : ℕ) (q : Part) → slice_get ps i ≡ Some q → (InCode q a → ⊥) × (InData q a → ⊥)) → byte_at (with_parts m ps) a ≡ byte_at m a
+all_outside [] m a lie out = refl
+all_outside (p ∷ ps) m a lie out =
+    all_outside ps (with_part m p) a (tail p ps lie) (λ i q e. out (suc i) q e)
+    ∙ part_outside m p (lie.each 0 p refl) a (out 0 p refl).0 (out 0 p refl).1
 
-  -- what one sandbox has at an address, those after it leave
-  left : (p : Part) (ps : List Part) (m : Bytes) (a : ℕ) → LieApart (p ∷ ps) → (InCode p a ⊎ InData p a) → byte_at (with_parts (with_part m p) ps) a ≡ byte_at (with_part m p) a
-  left p ps m a lie h = all_outside ps (with_part m p) a (tail p ps lie) (λ i q e.
-      let apart : Apart p q = lie.others 0 (suc i) p q (λ z. omega arith) refl e in
-      let mine = lie.each 0 p refl in
-      let its = lie.each (suc i) q e in
-      ⊎_elim
-      (λ (c : InCode p a). (λ k. apart.code_code a c k, λ k. apart.code_guarded a c (data_guarded q a its k)))
-      (λ (d : InData p a). (λ k. apart.guarded_code a (data_guarded p a mine d) k, λ k. apart.guarded_guarded a (data_guarded p a mine d) (data_guarded q a its k)))
-      h)
+-- what one sandbox has at an address, those after it leave
+left : (p : Part) (ps : List Part) (m : Bytes) (a : ℕ) → LieApart (p ∷ ps) → (InCode p a ⊎ InData p a) → byte_at (with_parts (with_part m p) ps) a ≡ byte_at (with_part m p) a
+left p ps m a lie h = all_outside ps (with_part m p) a (tail p ps lie) (λ i q e.
+    let apart : Apart p q = lie.others 0 (suc i) p q (λ z. omega arith) refl e in
+    let mine = lie.each 0 p refl in
+    let its = lie.each (suc i) q e in
+    ⊎_elim
+    (λ (c : InCode p a). (λ k. apart.code_code a c k, λ k. apart.code_guarded a c (data_guarded q a its k)))
+    (λ (d : InData p a). (λ k. apart.guarded_code a (data_guarded p a mine d) k, λ k. apart.guarded_guarded a (data_guarded p a mine d) (data_guarded q a its k)))
+    h)
 
-  pub has_code : (ps : List Part) (m : Bytes) (i : ℕ) (p : Part) → LieApart ps → slice_get ps i ≡ Some p → (k : ℕ) → k < length p.code → byte_at (with_parts m ps) (p.code_base + k) ≡ Some (slice_index p.code k)
-  has_code [] m i p lie e k below = absurd (cc)
-  has_code (q ∷ ps) m zero p lie e k below =
-      let same : q ≡ p = cc in
-      let at : (j : ℕ) → j < length q.code → byte_at (with_parts m (q ∷ ps)) (q.code_base + j) ≡ Some (slice_index q.code j) =
-      λ j less. left q ps m (q.code_base + j) lie (inl (omega arith, omega (arith, less))) ∙ part_code m q (lie.each 0 q refl) (lie.own 0 q refl) j less in
-      (subst (λ (x : Part). (j : ℕ) → j < length x.code → byte_at (with_parts m (q ∷ ps)) (x.code_base + j) ≡ Some (slice_index x.code j)) same at) k below
-  has_code (q ∷ ps) m (suc i) p lie e k below = has_code ps (with_part m q) i p (tail q ps lie) e k below
+pub has_code : (ps : List Part) (m : Bytes) (i : ℕ) (p : Part) → LieApart ps → slice_get ps i ≡ Some p → (k : ℕ) → k < length p.code → byte_at (with_parts m ps) (p.code_base + k) ≡ Some (slice_index p.code k)
+has_code [] m i p lie e k below = absurd (cc)
+has_code (q ∷ ps) m zero p lie e k below =
+    let same : q ≡ p = cc in
+    let at : (j : ℕ) → j < length q.code → byte_at (with_parts m (q ∷ ps)) (q.code_base + j) ≡ Some (slice_index q.code j) =
+    λ j less. left q ps m (q.code_base + j) lie (inl (omega arith, omega (arith, less))) ∙ part_code m q (lie.each 0 q refl) (lie.own 0 q refl) j less in
+    (subst (λ (x : Part). (j : ℕ) → j < length x.code → byte_at (with_parts m (q ∷ ps)) (x.code_base + j) ≡ Some (slice_index x.code j)) same at) k below
+has_code (q ∷ ps) m (suc i) p lie e k below = has_code ps (with_part m q) i p (tail q ps lie) e k below
 
-  pub has_data : (ps : List Part) (m : Bytes) (i : ℕ) (p : Part) → LieApart ps → slice_get ps i ≡ Some p → (k : ℕ) → k < p.data_size → byte_at (with_parts m ps) (p.data_base + k) ≡ Some (slice_index (first_data p) k)
-  has_data [] m i p lie e k below = absurd (cc)
-  has_data (q ∷ ps) m zero p lie e k below =
-      let same : q ≡ p = cc in
-      let at : (j : ℕ) → j < q.data_size → byte_at (with_parts m (q ∷ ps)) (q.data_base + j) ≡ Some (slice_index (first_data q) j) =
-      λ j less. left q ps m (q.data_base + j) lie (inr (omega arith, omega (arith, less))) ∙ part_data m q (lie.each 0 q refl) j less in
-      (subst (λ (x : Part). (j : ℕ) → j < x.data_size → byte_at (with_parts m (q ∷ ps)) (x.data_base + j) ≡ Some (slice_index (first_data x) j)) same at) k below
-  has_data (q ∷ ps) m (suc i) p lie e k below = has_data ps (with_part m q) i p (tail q ps lie) e k below
+pub has_data : (ps : List Part) (m : Bytes) (i : ℕ) (p : Part) → LieApart ps → slice_get ps i ≡ Some p → (k : ℕ) → k < p.data_size → byte_at (with_parts m ps) (p.data_base + k) ≡ Some (slice_index (first_data p) k)
+has_data [] m i p lie e k below = absurd (cc)
+has_data (q ∷ ps) m zero p lie e k below =
+    let same : q ≡ p = cc in
+    let at : (j : ℕ) → j < q.data_size → byte_at (with_parts m (q ∷ ps)) (q.data_base + j) ≡ Some (slice_index (first_data q) j) =
+    λ j less. left q ps m (q.data_base + j) lie (inr (omega arith, omega (arith, less))) ∙ part_data m q (lie.each 0 q refl) j less in
+    (subst (λ (x : Part). (j : ℕ) → j < x.data_size → byte_at (with_parts m (q ∷ ps)) (x.data_base + j) ≡ Some (slice_index (first_data x) j)) same at) k below
+has_data (q ∷ ps) m (suc i) p lie e k below = has_data ps (with_part m q) i p (tail q ps lie) e k below
 
-  same_part : (ps : List Part) (i j : ℕ) (p q : Part) → i ≡ j → slice_get ps i ≡ Some p → slice_get ps j ≡ Some q → q ≡ p
-  same_part ps i j p q same e f = let g : slice_get ps j ≡ Some p = ap (slice_get ps) (sym same) ∙ e in cc
+same_part : (ps : List Part) (i j : ℕ) (p q : Part) → i ≡ j → slice_get ps i ≡ Some p → slice_get ps j ≡ Some q → q ≡ p
+same_part ps i j p q same e f = let g : slice_get ps j ≡ Some p = ap (slice_get ps) (sym same) ∙ e in cc
 
-  pub has_empty_guards : (ps : List Part) (i : ℕ) (p : Part) → LieApart ps → slice_get ps i ≡ Some p → (a : ℕ) → InGuard p a → byte_at (with_parts empty ps) a ≡ None
-  has_empty_guards ps i p lie e a guard =
-      all_outside ps empty a lie (λ j q f. elim (i == j) as (λ t. (i == j) ≡ t → (InCode q a → ⊥) × (InData q a → ⊥)) [
-        | true ↦ λ t. subst (λ (x : Part). (InCode x a → ⊥) × (InData x a → ⊥)) (sym (same_part ps i j p q (eqb-true i j t) e f))
-            (λ c. lie.own i p e a c (guard_in p a (lie.each i p e) guard), λ d. guard_not_data p a (lie.each i p e) guard d)
-        | false ↦ λ t. let apart : Apart p q = lie.others i j p q (eqb-false i j t) e f in
-            (λ c. apart.guarded_code a (guard_in p a (lie.each i p e) guard) c, λ d. apart.guarded_guarded a (guard_in p a (lie.each i p e) guard) (data_guarded q a (lie.each j q f) d))
-      ] refl)
-      ∙ get-empty nat_cmp a
+pub has_empty_guards : (ps : List Part) (i : ℕ) (p : Part) → LieApart ps → slice_get ps i ≡ Some p → (a : ℕ) → InGuard p a → byte_at (with_parts empty ps) a ≡ None
+has_empty_guards ps i p lie e a guard =
+    all_outside ps empty a lie (λ j q f. elim (i == j) as (λ t. (i == j) ≡ t → (InCode q a → ⊥) × (InData q a → ⊥)) [
+      | true ↦ λ t. subst (λ (x : Part). (InCode x a → ⊥) × (InData x a → ⊥)) (sym (same_part ps i j p q (eqb-true i j t) e f))
+          (λ c. lie.own i p e a c (guard_in p a (lie.each i p e) guard), λ d. guard_not_data p a (lie.each i p e) guard d)
+      | false ↦ λ t. let apart : Apart p q = lie.others i j p q (eqb-false i j t) e f in
+          (λ c. apart.guarded_code a (guard_in p a (lie.each i p e) guard) c, λ d. apart.guarded_guarded a (guard_in p a (lie.each i p e) guard) (data_guarded q a (lie.each j q f) d))
+    ] refl)
+    ∙ get-empty nat_cmp a

@@ -11,7 +11,6 @@ use Rattle.sfi_image.specs.Parts.{IsRightLayout}
 use Rattle.sfi_image.specs.Regions.{IsBundleStart}
 use Rattle.sfi_image.specs.Spans.{Holds, InGuards, AreApart, with_guards, code_region}
 use Rattle.sfi_image.specs.Spelling.{Part}
-use Rattle.sfi_check.specs.Laws.{GoesOnSafely}
 use Rattle.sfi_check.specs.Regions.{InCode, InGuard, HasCode}
 use Rattle.sfi_check.specs.Runs.{IsEntry}
 use Rattle.sfi_check.specs.Safety.{RunsSafely, AllRunSafely}
@@ -28,7 +27,7 @@ use Rattle.sfi_host.specs.private.Programs.{AreProgramsOf}
 use Rattle.sfi_host.specs.private.Sandboxes.{bounds_in}
 use Rattle.sfi_host.proofs.Asked.{seat_at, slot_is, no_slot}
 use Rattle.sfi_host.proofs.Decoding.{first_decoded}
-use Rattle.sfi_host.proofs.Entered.{Laws, lie_apart}
+use Rattle.sfi_host.proofs.Entered.{lie_apart}
 use Rattle.sfi_host.proofs.Neighbours.{get_set_same}
 use Rattle.sfi_host.proofs.SafeSeats as keep
 use Rattle.sfi_host.proofs.SameWorld.{get_map}
@@ -45,15 +44,15 @@ pub record IsFirst (ps : List Part) (m : Bytes) (seats : List Seat) (programs : 
   pub entered : AreEntered ps m
   pub first_data : HaveFirstData ps m
 
-pub is_first : (laws : Laws) (ps : List Part) → IsRightLayout ps → AllRunSafely ps → AllCallWithStack ps
+pub is_first : (ps : List Part) → IsRightLayout ps → AllRunSafely ps → AllCallWithStack ps
     → (m : Bytes) (seats : List Seat) (programs : List Program) → IsMemory m → m ≡ with_parts empty ps → seats ≡ map first_seat ps → AreProgramsOf ps (length ps) programs → IsFirst ps m seats programs
-is_first laws ps layout safe calls m seats programs is_memory bytes are made =
+is_first ps layout safe calls m seats programs is_memory bytes are made =
     let memory : IsMemory (with_parts empty ps) = subst IsMemory bytes is_memory in
-    let entries = entered laws ps layout memory in
+    let entries = entered ps layout memory in
     subst (λ (n : Bytes). IsFirst ps n seats programs) (sym bytes)
     (subst (λ (all : List Seat). IsFirst ps (with_parts empty ps) all programs) (sym are)
     (record {
-      safe = world_safe laws ps layout memory safe calls;
+      safe = world_safe ps layout memory safe calls;
       decoded = first_decoded ps (with_parts empty ps) programs made entries;
       enterable = λ i s e.
           let x = map_get first_seat ps i s e in
@@ -67,7 +66,7 @@ is_first laws ps layout safe calls m seats programs is_memory bytes are made =
             calls = subst (λ (q : Part). CallsWithStack q) (get_or_from_slice_get ps i p p x.1) (calls.each i p (slice_get_within ps i p x.1));
           };
       entered = entries;
-      first_data = first_data_there laws ps layout;
+      first_data = first_data_there ps layout;
     }))
 
 -- no code lies in the data of any
@@ -218,7 +217,7 @@ module _ (m : Bytes) (s : Seat) (seat : IsSafeSeat m s) where
 
 -- ---- a world in which it did
 
-module _ (on : GoesOnSafely) (m : Bytes) (items : List Sandbox) (programs : List Program) (i : ℕ) (x new : Sandbox)
+module _ (m : Bytes) (items : List Sandbox) (programs : List Program) (i : ℕ) (x new : Sandbox)
     (world : IsSafeWorld (world_of m items)) (decoded : AreDecoded (world_of m items) programs) (enterable : AreEnterable (world_of m items)) (at : slice_get items i ≡ Some x)
     (pc : ℕ) (arguments : List ℕ) (few : length arguments ≤ 8) (start : IsBundleStart (seat_of x).bounds.code pc)
     (is : seat_of new ≡ entered_seat (seat_of x) pc arguments) (hart : IsHart new.cpu) where
@@ -235,7 +234,7 @@ module _ (on : GoesOnSafely) (m : Bytes) (items : List Sandbox) (programs : List
   safe = subst (IsSafeSeat m) (sym is) (entered_safe m (seat_of x) seat (enterable i (seat_of x) there) pc arguments few start hart_is)
 
   pub has_entered : (w : Sandboxes) → world_of m items ≡ w → AfterTurn w programs i (slot_of m (seat_of x)) (slot_of m (seat_of new)) (world_of m (set items i new))
-  has_entered w view = turn_taken on m m items programs i x new (world, decoded) at (ap (λ (s : Seat). s.bounds) is) safe (λ a out. refl) w view
+  has_entered w view = turn_taken m m items programs i x new (world, decoded) at (ap (λ (s : Seat). s.bounds) is) safe (λ a out. refl) w view
 
   seats_are : seats_of (set items i new) ≡ set (seats_of items) i (entered_seat (seat_of x) pc arguments)
   seats_are = map-set seat_of items i new ∙ ap (λ (s : Seat). set (seats_of items) i s) is

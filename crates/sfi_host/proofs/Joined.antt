@@ -12,7 +12,6 @@ use Rattle.rv_step.specs.declared.outcome.Outcome.TheVariants as outcome
 use Rattle.rv_step.specs.State.{State}
 use Rattle.rv_step.specs.Step.{Stepped, Stands, IsStep}
 use Rattle.sfi_image.specs.Spelling.{Part}
-use Rattle.sfi_check.specs.Laws.{GoesOnSafely}
 use Rattle.sfi_check.specs.Runs.{IsReply, IsTurn, after_step as step_to, after_turn as goes_to}
 use Rattle.sfi_host.specs.declared.status.Status.{Status}
 use Rattle.sfi_host.specs.declared.status.Status.TheVariants.{Ready, Exited, Trapped}
@@ -24,11 +23,12 @@ use Rattle.sfi_host.specs.Regions.{is_in, IsWhole}
 use Rattle.sfi_host.specs.Slots.{Bounds, Slot, bounds_of, one_more, is_own, own}
 use Rattle.sfi_host.specs.Joint.{Machine, IsMachine, word, is_byte, with_arguments, with_data, after_way, status_after, replied, Moved, moved, still, after_answer, after_step, after_replies, next_after, and_more, turned, Given, given, Joined, joined, after_turn, and_plan, turn_and, call_of}
 use Rattle.sfi_host.specs.Worlds.{Seat, Sandboxes, slot_of, slots_of, state_in, IsSafeSeat, IsSafeWorld, StaysOutside}
-use Rattle.sfi_host.specs.Steps.{IsOwnStep, StepsAreOwn}
+use Rattle.sfi_host.specs.Steps.{IsOwnStep}
 use Rattle.sfi_host.specs.Moves.{StepsAlone, Move, after_move, IsTurnsShare, AreShares, all_of, given_in, ComeTo, HaveRun, JoinedMoves, JointMoves}
 use Rattle.sfi_host.proofs.Leaving.{get_with_data}
 use Rattle.sfi_host.proofs.Moves.{turn_of, Taken, IsTaken, AreTaken, are_moves, taken_follow, safe_after, slots_after, are_runs, safe_runs}
 use Rattle.sfi_host.proofs.Neighbours.{get_set_same, set_itself}
+use Rattle.sfi_host.proofs.OwnSteps.{steps_own}
 use Rattle.sfi_host.proofs.Plans.{joined_nil, joined_cons}
 use Rattle.sfi_host.proofs.RegionBytes.{get_kept, same_bytes, is_in-true}
 use Rattle.sfi_host.proofs.SafeSeats as keep
@@ -151,7 +151,7 @@ way_goes (Exit n) e = let z : TurnEnds ≡ RunEnds = e in cc
 low : (n : ℕ) → word n < 2 ^ 32
 low n = omega arith
 
-module _ (on : GoesOnSafely) (steps_own : StepsAreOwn) (machine : Machine) (is : IsMachine machine) where
+module _ (machine : Machine) (is : IsMachine machine) where
   abbrev Comes : {S : Type 0} → ℕ → Bytes → Seat → Moved S → Type 0
   Comes i m s mv = MovesTo machine i m s mv ⊎ Rests m s mv
 
@@ -252,7 +252,7 @@ module _ (on : GoesOnSafely) (steps_own : StepsAreOwn) (machine : Machine) (is :
         step = λ none. absurd (cc);
         others = others;
         bounds = refl;
-        safe = keep.answered_safe on m s seat ready stands.0 stands.1 n memory others whole (word a.reply.a0) (word a.reply.a1) (low a.reply.a0) (low a.reply.a1) w;
+        safe = keep.answered_safe m s seat ready stands.0 stands.1 n memory others whole (word a.reply.a0) (word a.reply.a1) (low a.reply.a0) (low a.reply.a1) w;
         is_turn = is_turn;
         leads = leads;
       }
@@ -328,7 +328,7 @@ module _ (on : GoesOnSafely) (steps_own : StepsAreOwn) (machine : Machine) (is :
       one = record { seat = s; there = at; ready = ready; taken = to.taken }
 
       next_slots : slots_of (after_move w v) ≡ set (slots_of w) i mv.slot
-      next_slots = slots_after on machine w v world one ∙ ap (λ (x : Slot). set (slots_of w) i x) to.slot
+      next_slots = slots_after machine w v world one ∙ ap (λ (x : Slot). set (slots_of w) i x) to.slot
 
       one_moves : (k : ℕ) → TurnMoves i (suc k) w mv
       one_moves k = record {
@@ -345,7 +345,7 @@ module _ (on : GoesOnSafely) (steps_own : StepsAreOwn) (machine : Machine) (is :
           → TurnMoves i (suc k) w (after_replies mv.replies (rest mv.slot mv.host))
       more_moves k rest goal =
           let more : TurnMoves i k (after_move w v) (rest mv.slot mv.host) = subst (λ (y : Slot). TurnMoves i k (after_move w v) (rest y mv.host)) to.slot
-          (goal (after_move w v) to.t mv.host (safe_after on machine w v world one) (get_set_same w.seats i s to.t at)) in
+          (goal (after_move w v) to.t mv.host (safe_after machine w v world one) (get_set_same w.seats i s to.t at)) in
           let last = rest mv.slot mv.host in
           record {
             moves = v ∷ more.moves;
@@ -416,7 +416,7 @@ module _ (on : GoesOnSafely) (steps_own : StepsAreOwn) (machine : Machine) (is :
         goes_on : After first.moves (λ rest. after_turn (given t.sandbox mv.replies) (joined machine host rest (set (slots_of w) t.sandbox mv.slot) mv.host))
         goes_on =
             let later : PlanMoves plan first.n (first_turns plan (set (slots_of w) t.sandbox mv.slot) mv.host) =
-            subst (λ (l : List Slot). PlanMoves plan first.n (first_turns plan l mv.host)) first.slots (goal first.n mv.host (are_runs on machine first.moves w first.n world first.taken).safe_world) in (
+            subst (λ (l : List Slot). PlanMoves plan first.n (first_turns plan l mv.host)) first.slots (goal first.n mv.host (are_runs machine first.moves w first.n world first.taken).safe_world) in (
               later.0,
               later.1,
               λ k.
@@ -458,20 +458,20 @@ module _ (on : GoesOnSafely) (steps_own : StepsAreOwn) (machine : Machine) (is :
 
 -- ---- the law
 
-module _ {S : Type 0} (on : GoesOnSafely) (own : StepsAreOwn) (machine : Machine) (host : Host S) (plan : List PlanTurn) (w : Sandboxes) (s : S) (is : IsMachine machine) (world : IsSafeWorld w) where
+module _ {S : Type 0} (machine : Machine) (host : Host S) (plan : List PlanTurn) (w : Sandboxes) (s : S) (is : IsMachine machine) (world : IsSafeWorld w) where
   abbrev Leads : List Move → List PlanTurn → Type 0
-  Leads moves part = LeadTo on own machine is w moves (joined machine host part (slots_of w) s)
+  Leads moves part = LeadTo machine is w moves (joined machine host part (slots_of w) s)
 
   come : (moves : List Move) (part : List PlanTurn) (l : Leads moves part) → ComeTo machine w moves l.n (joined machine host part (slots_of w) s)
-  come moves part l = record { lead = are_moves on machine moves w l.n world l.taken; slots = l.slots; replies = l.replies }
+  come moves part l = record { lead = are_moves machine moves w l.n world l.taken; slots = l.slots; replies = l.replies }
 
   are_joined : (n : Sandboxes) × HaveRun machine plan w n (λ part. joined machine host part (slots_of w) s)
   are_joined =
-      let p = plan_moves on own machine is host plan w s world in
+      let p = plan_moves machine is host plan w s world in
       let moves = all_of p.0 in
       let all : Leads moves plan = subst (λ (l : List (List Move)). Leads (all_of l) plan) (take_all (length plan) p.0 (omega (arith, as_many plan p.0 p.1)))
       (subst (λ (part : List PlanTurn). Leads (all_of (take (length plan) p.0)) part) (take_all (length plan) plan (omega arith)) (p.2 (length plan))) in
-      let runs = are_runs on machine moves w all.n world all.taken in (
+      let runs = are_runs machine moves w all.n world all.taken in (
         all.n,
         record {
           shares = p.0;
@@ -479,12 +479,12 @@ module _ {S : Type 0} (on : GoesOnSafely) (own : StepsAreOwn) (machine : Machine
           first = λ k. let l = p.2 k in (l.n, come (all_of (take k p.0)) (take k plan) l);
           whole = come moves plan all;
           runs = runs;
-          safe_runs = safe_runs on machine moves w all.n world runs;
+          safe_runs = safe_runs machine moves w all.n world runs;
         },
       )
 
-pub joined_are : {S : Type 0} → GoesOnSafely → StepsAreOwn → JoinedMoves S
-joined_are on own machine host plan w s is world = are_joined on own machine host plan w s is world
+pub joined_are : {S : Type 0} → JoinedMoves S
+joined_are machine host plan w s is world = are_joined machine host plan w s is world
 
-pub joint_are : {S : Type 0} → GoesOnSafely → StepsAreOwn → JointMoves S
-joint_are on own machine answer plan w s limit = joined_are on own machine (limited answer) plan w (record { host = s; left = limit })
+pub joint_are : {S : Type 0} → JointMoves S
+joint_are machine answer plan w s limit = joined_are machine (limited answer) plan w (record { host = s; left = limit })

@@ -7,7 +7,6 @@ use Rattle.rv_step.specs.State.{State}
 use Rattle.sfi_image.specs.Spelling.{Part}
 use Rattle.sfi_check.specs.Runs.{Turn, Changes, KeepsBytes, IsTurn, IsRun, after_turn}
 use Rattle.sfi_check.specs.Stack.{after_turns}
-use Rattle.sfi_check.specs.Laws.{GoesOnSafely}
 use Rattle.sfi_host.specs.declared.status.Status.{Status}
 use Rattle.sfi_host.specs.declared.status.Status.TheVariants.{Ready, Exited, Trapped}
 use Rattle.sfi_host.specs.Slots.{Slot, bounds_of}
@@ -64,10 +63,10 @@ by_status P turn later (Trapped cause at) on last = last (λ e. cc)
 
 -- ---- one move, and what comes then
 
-module _ (on : GoesOnSafely) (machine : Machine) where
+module _ (machine : Machine) where
   module _ (w : Sandboxes) (v : Move) (world : IsSafeWorld w) (one : IsTaken machine w v) where
     pub safe_after : IsSafeWorld (after_move w v)
-    safe_after = world_safe w.bytes v.bytes w.seats v.number one.seat v.seat world one.there one.taken.others on one.taken.safe one.taken.bounds
+    safe_after = world_safe w.bytes v.bytes w.seats v.number one.seat v.seat world one.there one.taken.others one.taken.safe one.taken.bounds
 
     pub slots_after : slots_of (after_move w v) ≡ set (slots_of w) v.number (slot_of v.bytes v.seat)
     slots_after = slots_are w.bytes v.bytes w.seats v.number one.seat v.seat world one.there one.taken.others

@@ -6,7 +6,6 @@ use Rattle.rv_mem.specs.Bytes.{Bytes, IsMemory, byte_at}
 use Rattle.sfi_image.specs.Spelling.{Part}
 use Rattle.sfi_image.specs.Spans.{Holds}
 use Rattle.sfi_check.specs.Runs.{KeepsBytes}
-use Rattle.sfi_check.specs.Laws.{GoesOnSafely}
 use Rattle.sfi_host.specs.Laws.{NeighboursAreChanges}
 use Rattle.sfi_host.specs.Slots.{Bounds, bounds_of, own, Slot}
 use Rattle.sfi_host.specs.Worlds.{Seat, slot_of, slots_of, IsSafeSeat, LiesOutside, IsSafeWorld, StaysOutside}
@@ -56,8 +55,8 @@ module _ (m n : Bytes) (b : Bounds) (left : StaysOutside b.data m n) (t : Seat) 
   }
 
   -- it is safe as before
-  pub other_safe : GoesOnSafely → IsMemory n → IsSafeSeat n t
-  other_safe on memory = keep.changed m t seat on n memory (others_kept seat.part seat.bounds)
+  pub other_safe : IsMemory n → IsSafeSeat n t
+  other_safe memory = keep.changed m t seat n memory (others_kept seat.part seat.bounds)
       (λ a h. ap is_some (data_same a h) ∙ seat.has_data a h)
 
   -- and its slot is the same
@@ -89,7 +88,7 @@ module _ (m n : Bytes) (seats : List Seat) (i : ℕ) (s new : Seat) (world : IsS
   pub slots_are : slots_of (record { bytes = n; seats = set seats i new }) ≡ set (slots_of (record { bytes = m; seats = seats })) i (slot_of n new)
   slots_are = set_slots m n seats i new (λ j t ne e. other_same m n s.bounds left t (world.each j t e) (world.others i j s t (λ z. ne (sym z)) at e))
 
-  module _ (on : GoesOnSafely) (safe : IsSafeSeat n new) (bounds : new.bounds ≡ s.bounds) where
+  module _ (safe : IsSafeSeat n new) (bounds : new.bounds ≡ s.bounds) where
     -- the seat before, with the same bounds
     old_at : (j : ℕ) (t : Seat) → slice_get (set seats i new) j ≡ Some t → (u : Seat) × (slice_get seats j ≡ Some u) × (t.bounds ≡ u.bounds)
     old_at j t e = ⊎_elim
@@ -101,7 +100,7 @@ module _ (m n : Bytes) (seats : List Seat) (i : ℕ) (s new : Seat) (world : IsS
     world_safe = record {
       each = λ j t e. ⊎_elim
           (λ (x : (j ≡ i) × (t ≡ new)). subst (λ (y : Seat). IsSafeSeat n y) (sym x.1) safe)
-          (λ (y : (j ≢ i) × (slice_get seats j ≡ Some t)). other_safe m n s.bounds left t (world.each j t y.1) (world.others i j s t (λ z. y.0 (sym z)) at y.1) on safe.state.memory)
+          (λ (y : (j ≢ i) × (slice_get seats j ≡ Some t)). other_safe m n s.bounds left t (world.each j t y.1) (world.others i j s t (λ z. y.0 (sym z)) at y.1) safe.state.memory)
           (set_found seats i s new at j t e);
       others = λ j k t u ne e f.
           let a = old_at j t e in

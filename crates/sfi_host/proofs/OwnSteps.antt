@@ -5,14 +5,15 @@ use Rattle.rv_mem.specs.Bytes.{Bytes, byte_at}
 use Rattle.rv_step.specs.declared.outcome.Outcome.{Outcome}
 use Rattle.rv_step.specs.declared.outcome.Outcome.TheVariants.{Next, Call, Trap}
 use Rattle.rv_step.specs.Access.{Accesses}
-use Rattle.rv_step.specs.Laws.{AgreeHere, IsSameStep, AgreeingStandsToo, AgreeingStepsAreSame, OtherBytesStay, StoppedStays, StepKeepsState, NoByteGoes, CallsAreEcalls, StepIsEffect}
+use Rattle.rv_step.specs.Laws.{AgreeHere, IsSameStep}
+use Rattle.rv_step.proofs.Facts.{agreeing_stands_too, agreeing_steps_are_same, other_bytes_stay, stopped_stays, step_keeps_state, no_byte_goes, calls_are_ecalls}
 use Rattle.rv_step.specs.State.{Hart, State}
 use Rattle.rv_step.specs.Step.{Stepped, Stands, IsStep}
 use Rattle.sfi_image.specs.Spans.{Holds}
 use Rattle.sfi_check.specs.Regions.{InCode, InData, InGuard}
 use Rattle.sfi_check.specs.Runs.{Steps, after_step}
 use Rattle.sfi_check.specs.Safety.{IsSafeState, IsSafeStep, IsTrap, RunsSafelyFrom}
-use Rattle.sfi_check.specs.Laws.{SafeTurns, GoesOnSafely}
+use Rattle.sfi_check.proofs.Facts.{safe_turns, goes_on_safely}
 use Rattle.sfi_host.specs.declared.status.Status.TheVariants.{Ready}
 use Rattle.sfi_host.specs.Regions.{is_in}
 use Rattle.sfi_host.specs.Slots.{Bounds, is_own, own, state_of}
@@ -48,19 +49,7 @@ same_own b w m there missing = same_bytes w (own b m) (λ a.
       | false ↦ λ t. missing a t ∙ sym (own_missing b m a t)
     ] refl)
 
--- ---- what the law needs
-
-pub record Laws : Type 0 where
-  pub stands : AgreeingStandsToo
-  pub agree : AgreeingStepsAreSame
-  pub others : OtherBytesStay
-  pub stops : StoppedStays
-  pub keeps : StepKeepsState
-  pub none_goes : NoByteGoes
-  pub ecalls : CallsAreEcalls
-  pub effect : StepIsEffect
-  pub turns : SafeTurns
-  pub on : GoesOnSafely
+-- ---- outcomes
 
 pub true_false : (b : Bool) → b ≡ true → b ≡ false → ⊥
 true_false b t f = cc
@@ -79,12 +68,12 @@ is_trap_not Next e t = t
 is_trap_not Call e t = t
 is_trap_not (Trap cause at) e t = cc
 
-module _ (laws : Laws) (m : Bytes) (s : Seat) (r : Stepped) (seat : IsSafeSeat m s) (ready : s.status ≡ Ready) (step : IsStep (state_in m s) r) where
+module _ (m : Bytes) (s : Seat) (r : Stepped) (seat : IsSafeSeat m s) (ready : s.status ≡ Ready) (step : IsStep (state_in m s) r) where
   from : RunsSafelyFrom seat.part (state_in m s)
   from = (seat.safe ready).safe
 
   both : IsSafeState seat.part (state_in m s) × IsSafeStep seat.part (state_in m s) r
-  both = laws.turns seat.part (state_in m s) (Steps r) from step
+  both = safe_turns seat.part (state_in m s) (Steps r) from step
 
   in_data : (a : ℕ) → InData seat.part a → Holds s.bounds.data a
   in_data a h = subst (λ (b : Bounds). Holds b.data a) (sym seat.bounds) h
@@ -156,22 +145,22 @@ module _ (laws : Laws) (m : Bytes) (s : Seat) (r : Stepped) (seat : IsSafeSeat m
   stays_outside a out =
       let here = both.0.present in
       by_outcome
-      (λ done. laws.others (state_in m s) here.instr here.size r a here.stands step (λ accesses. out (data_alone done a accesses)))
-      (λ stopped. ap (λ (x : State). byte_at x.memory a) (laws.stops (state_in m s) r step stopped))
+      (λ done. other_bytes_stay (state_in m s) here.instr here.size r a here.stands step (λ accesses. out (data_alone done a accesses)))
+      (λ stopped. ap (λ (x : State). byte_at x.memory a) (stopped_stays (state_in m s) r step stopped))
 
   safe_next : r.outcome ≡ Next → (steps : ℕ) → IsSafeSeat r.state.memory (stepped_seat s r steps)
   safe_next done steps = record {
     part = seat.part;
     bounds = seat.bounds;
     right = seat.right;
-    state = laws.keeps (state_in m s) r seat.state step;
+    state = step_keeps_state (state_in m s) r seat.state step;
     apart = seat.apart;
     code = λ k below.
         let there = code_at seat.part k below in
         stays_outside (seat.part.code_base + k) (λ inside. data_not_code _ (data_in _ inside) there) ∙ seat.code k below;
     guards = λ a guard. stays_outside a (λ inside. guard_not_data a guard (data_in a inside)) ∙ seat.guards a guard;
-    has_data = λ a inside. laws.none_goes (state_in m s) r a step (seat.has_data a inside);
-    safe = λ e. laws.on seat.part (state_in m s) r.state (Steps r) (seat.safe ready) step (ap (λ (o : Outcome). after_step o r.state) done);
+    has_data = λ a inside. no_byte_goes (state_in m s) r a step (seat.has_data a inside);
+    safe = λ e. goes_on_safely seat.part (state_in m s) r.state (Steps r) (seat.safe ready) step (ap (λ (o : Outcome). after_step o r.state) done);
     stopped = tt;
   }
 
@@ -179,16 +168,16 @@ module _ (laws : Laws) (m : Bytes) (s : Seat) (r : Stepped) (seat : IsSafeSeat m
 
   module _ (machine : Machine) (is : IsMachine machine) where
     same : IsSameStep (state_in m s) (state_of (slot_of m s)) r (machine (state_of (slot_of m s)))
-    same = laws.agree (state_in m s) (state_of (slot_of m s)) both.0.present.instr both.0.present.size r (machine (state_of (slot_of m s))) agrees step (is.steps (state_of (slot_of m s)))
+    same = agreeing_steps_are_same (state_in m s) (state_of (slot_of m s)) both.0.present.instr both.0.present.size r (machine (state_of (slot_of m s))) agrees step (is.steps (state_of (slot_of m s)))
 
     nothing_else : (a : ℕ) → is_own s.bounds a ≡ false → byte_at (machine (state_of (slot_of m s))).state.memory a ≡ None
     nothing_else a out =
         let here = both.0.present in
-        let stands : Stands (state_of (slot_of m s)) here.instr here.size = laws.stands (state_in m s) (state_of (slot_of m s)) here.instr here.size agrees in
+        let stands : Stands (state_of (slot_of m s)) here.instr here.size = agreeing_stands_too (state_in m s) (state_of (slot_of m s)) here.instr here.size agrees in
         by_outcome
-        (λ done. laws.others (state_of (slot_of m s)) here.instr here.size (machine (state_of (slot_of m s))) a stands (is.steps (state_of (slot_of m s)))
+        (λ done. other_bytes_stay (state_of (slot_of m s)) here.instr here.size (machine (state_of (slot_of m s))) a stands (is.steps (state_of (slot_of m s)))
         (λ accesses. true_false (is_own s.bounds a) (own_data s.bounds a (data_alone done a accesses)) out) ∙ own_missing s.bounds m a out)
-        (λ stopped. ap (λ (x : State). byte_at x.memory a) (laws.stops (state_of (slot_of m s)) (machine (state_of (slot_of m s))) (is.steps (state_of (slot_of m s))) (λ e. stopped (sym same.outcome ∙ e)))
+        (λ stopped. ap (λ (x : State). byte_at x.memory a) (stopped_stays (state_of (slot_of m s)) (machine (state_of (slot_of m s))) (is.steps (state_of (slot_of m s))) (λ e. stopped (sym same.outcome ∙ e)))
         ∙ own_missing s.bounds m a out)
 
     alone : machine (state_of (slot_of m s)) ≡ own_step s.bounds r
@@ -200,10 +189,10 @@ module _ (laws : Laws) (m : Bytes) (s : Seat) (r : Stepped) (seat : IsSafeSeat m
     alone = alone;
     others = stays_outside;
     safe = safe_next;
-    stopped = laws.stops (state_in m s) r step;
-    called = laws.ecalls (state_in m s) r step;
-    trapped = trap_itself m s seat ready r both.1 laws.effect step;
+    stopped = stopped_stays (state_in m s) r step;
+    called = calls_are_ecalls (state_in m s) r step;
+    trapped = trap_itself m s seat ready r both.1 step;
   }
 
-pub steps_own : Laws → StepsAreOwn
-steps_own laws m s r seat ready step = own_is_step laws m s r seat ready step
+pub steps_own : StepsAreOwn
+steps_own m s r seat ready step = own_is_step m s r seat ready step

@@ -4,7 +4,6 @@ use Rattle.rv_mem.specs.Bytes.{Bytes, IsMemory}
 use Rattle.rv_word.specs.declared.instr.Instr.TheVariants.{Ecall}
 use Rattle.rv_step.specs.State.{Hart, past}
 use Rattle.rv_step.specs.Step.{Stands}
-use Rattle.sfi_check.specs.Laws.{GoesOnSafely}
 use Rattle.sfi_host.specs.declared.status.Status.{Status}
 use Rattle.sfi_host.specs.declared.status.Status.TheVariants.{Ready}
 use Rattle.sfi_host.specs.declared.gates.GateAnswer.{GateAnswer}
@@ -110,13 +109,13 @@ still_ready gate.Yield s t goes e more ready = absurd (cc)
 still_ready (gate.Exit n) s t goes e more ready = absurd (cc)
 still_ready gate.Memory s t goes e more ready = absurd (cc)
 
-pub safe_after : GoesOnSafely → (m n : Bytes) (s : Sandbox) (t : Told) (a : GateAnswer) (size : ℕ) → IsSafeSeat m (seat_of s) → s.status ≡ Ready → Stands (state_in m (seat_of s)) Ecall size
+pub safe_after : (m n : Bytes) (s : Sandbox) (t : Told) (a : GateAnswer) (size : ℕ) → IsSafeSeat m (seat_of s) → s.status ≡ Ready → Stands (state_in m (seat_of s)) Ecall size
     → IsMemory n → StaysOutside (seat_of s).bounds.data m n → IsWhole (seat_of s).bounds.data n → t.a0 < 2 ^ 32 → t.a1 < 2 ^ 32
     → IsSafeSeat n (seat_of (after_told a s t))
-safe_after on m n s t a size seat ready stands memory stays whole f g = by_answer a
+safe_after m n s t a size seat ready stands memory stays whole f g = by_answer a
   where
     after : (w : Way) → IsSafeSeat n (record { bounds = (seat_of s).bounds; hart = after_way w (with_arguments s.cpu t.a0 t.a1); status = status_after w; steps = one_more s.steps })
-    after = keep.answered_safe on m (seat_of s) seat ready size stands n memory stays whole t.a0 t.a1 f g
+    after = keep.answered_safe m (seat_of s) seat ready size stands n memory stays whole t.a0 t.a1 f g
 
     goes_on : IsSafeSeat n (seat_of (after_ecall s t))
     goes_on = subst (λ (x : Status). IsSafeSeat n (record { bounds = (seat_of s).bounds; hart = past (with_arguments s.cpu t.a0 t.a1) 4; status = x; steps = one_more s.steps })) (sym ready) (after Replied)
@@ -125,4 +124,4 @@ safe_after on m n s t a size seat ready stands memory stays whole f g = by_answe
     by_answer gate.Replied = goes_on
     by_answer gate.Yield = goes_on
     by_answer (gate.Exit k) = after (Exit k)
-    by_answer gate.Memory = keep.own_changed m (seat_of s) seat on n memory stays whole
+    by_answer gate.Memory = keep.own_changed m (seat_of s) seat n memory stays whole

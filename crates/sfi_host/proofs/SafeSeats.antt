@@ -11,7 +11,7 @@ use Rattle.sfi_image.specs.Spelling.{Part}
 use Rattle.sfi_image.specs.Spans.{Holds, AreApart, with_guards}
 use Rattle.sfi_check.specs.Regions.{InCode, InData, InGuard, HasCode, StackInData}
 use Rattle.sfi_check.specs.Runs.{Replies, Changes, KeepsBytes, KeepsReserved, IsReply}
-use Rattle.sfi_check.specs.Laws.{GoesOnSafely}
+use Rattle.sfi_check.proofs.Facts.{goes_on_safely}
 use Rattle.sfi_host.specs.declared.status.Status.TheVariants.{Ready}
 use Rattle.sfi_host.specs.Regions.{IsWhole}
 use Rattle.sfi_host.specs.Slots.{Bounds, bounds_of, one_more}
@@ -98,8 +98,8 @@ module _ (m : Bytes) (s : Seat) (seat : IsSafeSeat m s) where
 
   -- ---- a change by others
 
-  pub changed : GoesOnSafely → (n : Bytes) → IsMemory n → KeepsBytes seat.part m n → IsWhole s.bounds.data n → IsSafeSeat n s
-  changed on n memory keeps whole = record {
+  pub changed : (n : Bytes) → IsMemory n → KeepsBytes seat.part m n → IsWhole s.bounds.data n → IsSafeSeat n s
+  changed n memory keeps whole = record {
     part = seat.part;
     bounds = seat.bounds;
     right = seat.right;
@@ -108,7 +108,7 @@ module _ (m : Bytes) (s : Seat) (seat : IsSafeSeat m s) where
     code = code_stays seat.part m n keeps seat.code;
     guards = λ a guard. keeps.guards a guard (seat.guards a guard);
     has_data = whole;
-    safe = λ ready. on seat.part (state_in m s) (state_in n s) (Changes (state_in n s)) (seat.safe ready)
+    safe = λ ready. goes_on_safely seat.part (state_in m s) (state_in n s) (Changes (state_in n s)) (seat.safe ready)
         (record { pc = refl; registers = refl; bytes = keeps }) refl;
     stopped = stopped_still s.bounds m n (λ a inside. keeps.code a (in_part a inside)) s.hart s.status seat.stopped;
   }
@@ -117,16 +117,16 @@ module _ (m : Bytes) (s : Seat) (seat : IsSafeSeat m s) where
       in_part a inside = subst (λ (b : Bounds). Holds b.code a) seat.bounds inside
 
   -- the same, where all but its own data is left
-  pub own_changed : GoesOnSafely → (n : Bytes) → IsMemory n → StaysOutside s.bounds.data m n → IsWhole s.bounds.data n → IsSafeSeat n s
-  own_changed on n memory stays whole = changed on n memory (own_kept seat.part seat.bounds n stays) whole
+  pub own_changed : (n : Bytes) → IsMemory n → StaysOutside s.bounds.data m n → IsWhole s.bounds.data n → IsSafeSeat n s
+  own_changed n memory stays whole = changed n memory (own_kept seat.part seat.bounds n stays) whole
 
   -- ---- after a reply
 
-  replied : GoesOnSafely → s.status ≡ Ready → (size : ℕ) → Stands (state_in m s) Ecall size
+  replied : s.status ≡ Ready → (size : ℕ) → Stands (state_in m s) Ecall size
       → (n : Bytes) (h : Hart) (steps : ℕ) → IsMemory n → StaysOutside s.bounds.data m n → IsWhole s.bounds.data n
       → IsHart h → h.pc ≡ address_after s.hart.pc 4 → KeepsReserved s.hart h → slice_index h.registers 2 ≡ slice_index s.hart.registers 2
       → IsSafeSeat n (record { bounds = s.bounds; hart = h; status = Ready; steps = steps })
-  replied on ready size stands n h steps memory stays whole hart pc reserved stack = record {
+  replied ready size stands n h steps memory stays whole hart pc reserved stack = record {
     part = seat.part;
     bounds = seat.bounds;
     right = seat.right;
@@ -135,7 +135,7 @@ module _ (m : Bytes) (s : Seat) (seat : IsSafeSeat m s) where
     code = code_stays seat.part m n (own_kept seat.part seat.bounds n stays) seat.code;
     guards = λ a guard. (own_kept seat.part seat.bounds n stays).guards a guard (seat.guards a guard);
     has_data = whole;
-    safe = λ still. on seat.part (state_in m s) (record { hart = h; memory = n }) (Replies (record { hart = h; memory = n })) (seat.safe ready)
+    safe = λ still. goes_on_safely seat.part (state_in m s) (record { hart = h; memory = n }) (Replies (record { hart = h; memory = n })) (seat.safe ready)
         (is_reply seat.part seat.bounds size stands n h stays (record { hart = hart; memory = memory }) pc reserved (stack_kept seat.part seat.bounds (stack_lies seat.part seat.bounds ready size stands) h stack)) refl;
     stopped = tt;
   }
@@ -185,14 +185,14 @@ answered_is Yield h a0 a1 is f g = after_is _ 4 (arguments_are h a0 a1 is f g) r
 answered_is (Exit n) h a0 a1 is f g = arguments_are h a0 a1 is f g
 
 -- a ready sandbox is safe after the answer to its call
-pub answered_safe : GoesOnSafely → (m : Bytes) (s : Seat) → IsSafeSeat m s → s.status ≡ Ready → (size : ℕ) → Stands (state_in m s) Ecall size
+pub answered_safe : (m : Bytes) (s : Seat) → IsSafeSeat m s → s.status ≡ Ready → (size : ℕ) → Stands (state_in m s) Ecall size
     → (n : Bytes) → IsMemory n → StaysOutside s.bounds.data m n → IsWhole s.bounds.data n → (a0 a1 : ℕ) → a0 < 2 ^ 32 → a1 < 2 ^ 32
     → (w : Way) → IsSafeSeat n (record { bounds = s.bounds; hart = after_way w (with_arguments s.hart a0 a1); status = status_after w; steps = one_more s.steps })
-answered_safe on m s seat ready size stands n memory stays whole a0 a1 f g Replied =
-    replied m s seat on ready size stands n _ _ memory stays whole (answered_is Replied s.hart a0 a1 seat.state.hart f g) refl (arguments_keep s.hart a0 a1) (stack_argument s.hart a0 a1)
-answered_safe on m s seat ready size stands n memory stays whole a0 a1 f g Yield =
-    replied m s seat on ready size stands n _ _ memory stays whole (answered_is Yield s.hart a0 a1 seat.state.hart f g) refl (arguments_keep s.hart a0 a1) (stack_argument s.hart a0 a1)
-answered_safe on m s seat ready size stands n memory stays whole a0 a1 f g (Exit k) =
+answered_safe m s seat ready size stands n memory stays whole a0 a1 f g Replied =
+    replied m s seat ready size stands n _ _ memory stays whole (answered_is Replied s.hart a0 a1 seat.state.hart f g) refl (arguments_keep s.hart a0 a1) (stack_argument s.hart a0 a1)
+answered_safe m s seat ready size stands n memory stays whole a0 a1 f g Yield =
+    replied m s seat ready size stands n _ _ memory stays whole (answered_is Yield s.hart a0 a1 seat.state.hart f g) refl (arguments_keep s.hart a0 a1) (stack_argument s.hart a0 a1)
+answered_safe m s seat ready size stands n memory stays whole a0 a1 f g (Exit k) =
     halted m s seat n _ (record { hart = arguments_are s.hart a0 a1 seat.state.hart f g; memory = memory }) refl (λ e. cc)
     (at_gate_still s.bounds m n (code_same m s seat n stays) s.hart (with_arguments s.hart a0 a1) refl (at_gate m s seat ready size stands)) stays whole
 

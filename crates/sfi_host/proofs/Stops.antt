@@ -16,7 +16,7 @@ use Rattle.rv_step.specs.declared.outcome.Outcome.TheVariants.{Call, Trap}
 use Rattle.rv_step.specs.declared.outcome.Cause.{Cause}
 use Rattle.rv_step.specs.declared.outcome.Cause.TheVariants as cause
 use Rattle.rv_step.specs.Access.{accessed, Accesses}
-use Rattle.rv_step.specs.Laws.{StepIsEffect}
+use Rattle.rv_step.proofs.Facts.{step_is_effect}
 use Rattle.rv_step.specs.State.{Hart, register}
 use Rattle.rv_step.specs.Step.{Stepped, Stands, IsStep, next, unchanged, after_load, effect}
 use Rattle.rv_step.specs.Values.{load_size, store_size}
@@ -244,11 +244,11 @@ module _ (m : Bytes) (s : Seat) (seat : IsSafeSeat m s) (ready : s.status ≡ Re
         let y : s.hart.pc ≡ at = cc in
         subst (λ (q : Cause). Stops q at) x (at_pc Ebreak n stands, sym y)
 
-    pub trap_itself : StepIsEffect → IsStep (state_in m s) r → (c : Cause) (at : ℕ) → r.outcome ≡ Trap c at → StoppedItself s.bounds (state_in m s) (Trapped c at)
-    trap_itself is step c at e =
+    pub trap_itself : IsStep (state_in m s) r → (c : Cause) (at : ℕ) → r.outcome ≡ Trap c at → StoppedItself s.bounds (state_in m s) (Trapped c at)
+    trap_itself step c at e =
         let present = here.present in
         by_instr present.instr present.size present.stands c at
-        (ap (λ (x : Stepped). x.outcome) (sym (is (state_in m s) present.instr present.size r present.stands step)) ∙ e)
+        (ap (λ (x : Stepped). x.outcome) (sym (step_is_effect (state_in m s) present.instr present.size r present.stands step)) ∙ e)
 
 -- ---- a safe world
 

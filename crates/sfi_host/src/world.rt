@@ -17,7 +17,6 @@ ghost use Rattle.sfi_host.specs.Loading.{first_seat, with_parts, AreEntered, Hav
 ghost use Rattle.sfi_host.specs.Worlds.{slots_of, status_at, steps_at, data_byte_of, HaveStoppedThemselves, IsSafeWorld, StaysOutsideData};
 
 use crate::gates::Gates;
-use crate::laws::joined_moves;
 use crate::loading::load_parts;
 use crate::program::{Program, decode_all};
 use crate::region::Region;
@@ -26,11 +25,8 @@ use crate::sandbox::Sandbox;
 use crate::status::Status;
 use crate::turn::{RunAnswer, StepResult, Turn};
 use rv_mem::Memory;
-use rv_mem::laws::{addresses_are_these, others_stay, written_is_there};
 use rv_step::Cpu;
 use sfi_check::Accepted;
-use sfi_check::laws::goes_on_safely;
-use sfi_image::code_ends;
 use std::alloc::{AllocError, Global};
 use std::marker::Model;
 
@@ -84,12 +80,6 @@ impl<M: Memory> World<M> {
         // the premise of the laws on steps and neighbours.
         ensures safe { IfOk result (λ w. IsSafeWorld w) }
     {
-        // The laws that the contract rests on: these calls do nothing.
-        addresses_are_these();
-        others_stay();
-        written_is_there();
-        code_ends();
-
         let mut memory = memory;
         let image = accepted.image();
         let sandboxes = load_parts(alloc, image.format(), image.parts(), &mut memory)?;
@@ -136,8 +126,7 @@ impl<M: Memory> World<M> {
         // The turn that ended so is one of the plan.
         ensures place { (turn : ℕ) → result ≡ RunAnswer.Memory turn → turn < length plan.now }
     {
-        // What the contract rests on: these calls do nothing.
-        joined_moves::<G>();
+        // What the contract rests on: this call does nothing.
         self.stays_safe();
 
         for place in 0..plan.len() {
@@ -161,9 +150,6 @@ impl<M: Memory> World<M> {
             → IsCutJoint machine G.answer G.may_refuse (turn ∷ []) (slots_of self.old) gates.old 0
             (slots_of self.new) gates.new }
     {
-        // The law that the contract rests on: this call does nothing.
-        goes_on_safely();
-
         let place = turn.sandbox as usize;
         if place >= self.sandboxes.len() {
             return StepResult::TurnEnds;
@@ -248,9 +234,6 @@ impl<M: Memory> World<M> {
         ensures changes { AreChanges self.old self.new }
         ensures safe { IsSafeWorld self.new }
     {
-        // The law that the contract rests on: this call does nothing.
-        goes_on_safely();
-
         let place = i as usize;
         if place >= self.sandboxes.len() {
             return false;
@@ -281,9 +264,6 @@ impl<M: Memory> World<M> {
         ensures entry { OnTrue result (IsAtEntry self.new i) }
         ensures safe { IsSafeWorld self.new }
     {
-        // The law that the contract rests on: this call does nothing.
-        goes_on_safely();
-
         let place = i as usize;
         if place >= self.sandboxes.len() {
             return false;

@@ -26,7 +26,7 @@ returns-clause-safe g c =
     let n = g.M.Memory.bytes c.call_gate-told.new.memory in
     let told = c.call_gate-told.result in
     subst (λ (x : Sandbox). IsSafeSeat n (seat_of x)) (sym c.put_answer.ensures.after)
-    (safe_after c.goes_on_safely.ensures (g.M.Memory.bytes c.args.memory.now) n s told told.answer c.requires.called.0 c.requires.safe c.requires.ready c.requires.called.1
+    (safe_after (g.M.Memory.bytes c.args.memory.now) n s told told.answer c.requires.called.0 c.requires.safe c.requires.ready c.requires.called.1
     (g.met.M.Memory.in_range c.call_gate-told.new.memory)
     (stays_outside (seat_of s).bounds.data (g.M.Memory.bytes c.args.memory.now) n c.call_gate-told.ensures.outside)
     (whole_of (seat_of s).bounds.data n c.call_gate-told.ensures.has_data)

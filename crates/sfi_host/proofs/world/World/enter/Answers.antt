@@ -60,7 +60,7 @@ few g c = let many = c.told-arguments in omega (arith, many)
 
 after : (g : given.Over) (c : goal.After-self-1 g) → AfterTurn c.args.self.now c.self.inside.programs.items c.args.i (slot_of (g.M.Memory.bytes c.self.inside.memory) (seat_of c.index_mut.result.now))
     (slot_of (g.M.Memory.bytes c.self.inside.memory) (seat_of c.enter.new.self)) (world_of (g.M.Memory.bytes c.self.inside.memory) (set c.self.inside.sandboxes.items c.args.i c.enter.new.self))
-after g c = has_entered c.goes_on_safely.ensures (g.M.Memory.bytes c.self.inside.memory) c.self.inside.sandboxes.items c.self.inside.programs.items c.args.i c.index_mut.result.now c.enter.new.self
+after g c = has_entered (g.M.Memory.bytes c.self.inside.memory) c.self.inside.sandboxes.items c.self.inside.programs.items c.args.i c.index_mut.result.now c.enter.new.self
     c.self.invariant.0 c.self.invariant.1 c.self.invariant.2 (at g c) c.args.pc c.args.arguments.now (few g c) (may g c).start c.enter.ensures.entered c.enter.ensures.hart c.args.self.now c.self.view_is
 
 pub invariant_of-self : goal.invariant_of-self
@@ -74,7 +74,7 @@ returns-clause-may g c =
 
 pub returns-clause-done : goal.returns-clause-done
 returns-clause-done g c =
-    world_is c.goes_on_safely.ensures (g.M.Memory.bytes c.self.inside.memory) c.self.inside.sandboxes.items c.self.inside.programs.items c.args.i c.index_mut.result.now c.enter.new.self
+    world_is (g.M.Memory.bytes c.self.inside.memory) c.self.inside.sandboxes.items c.self.inside.programs.items c.args.i c.index_mut.result.now c.enter.new.self
     c.self.invariant.0 c.self.invariant.1 c.self.invariant.2 (at g c) c.args.pc c.args.arguments.now (few g c) (may g c).start c.enter.ensures.entered c.enter.ensures.hart c.args.self.now c.self.view_is
 
 pub returns-clause-others : goal.returns-clause-others
@@ -82,7 +82,7 @@ returns-clause-others g c = others_same c.args.self.now c.args.i _ _ (after g c)
 
 pub returns-clause-entry : goal.returns-clause-entry
 returns-clause-entry g c =
-    is_at_entry c.goes_on_safely.ensures (g.M.Memory.bytes c.self.inside.memory) c.self.inside.sandboxes.items c.self.inside.programs.items c.args.i c.index_mut.result.now c.enter.new.self
+    is_at_entry (g.M.Memory.bytes c.self.inside.memory) c.self.inside.sandboxes.items c.self.inside.programs.items c.args.i c.index_mut.result.now c.enter.new.self
     c.self.invariant.0 c.self.invariant.1 c.self.invariant.2 (at g c) c.args.pc c.args.arguments.now (few g c) (may g c).start c.enter.ensures.entered c.enter.ensures.hart
 
 pub returns-clause-safe : goal.returns-clause-safe

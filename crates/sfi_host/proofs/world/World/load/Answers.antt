@@ -22,8 +22,7 @@ first g c =
     let ps = c.args.accepted.now in
     let parts : views c.format.result c.parts.result.now ≡ ps = ap (λ (f : Format). views f c.parts.result.now) c.format.ensures ∙ c.parts.ensures.parts ∙ c.image-image.ensures.image in
     let parts-2 : views c.format.result c.parts-2.result.now ≡ ps = ap (λ (f : Format). views f c.parts-2.result.now) c.format.ensures ∙ c.parts-2.ensures.parts ∙ c.image-image.ensures.image in
-    is_first (record { these = c.addresses_are_these.ensures; stay = c.others_stay.ensures; written = c.written_is_there.ensures; ends = c.code_ends.ensures })
-    ps c.image-image.ensures.clean.layout c.image-image.ensures.safe c.image-image.ensures.calls
+    is_first ps c.image-image.ensures.clean.layout c.image-image.ensures.safe c.image-image.ensures.calls
     (g.M.Memory.bytes c.load_parts.new.memory) (seats_of c.in_ok-sandboxes.sandboxes.items) c.in_ok-programs.programs.items (g.met.M.Memory.in_range c.load_parts.new.memory)
     (c.in_ok-sandboxes.ensures.bytes ∙ ap (λ (m : Bytes). with_parts m (views c.format.result c.parts.result.now)) c.requires ∙ ap (λ (qs : List Part). with_parts empty qs) parts)
     (c.in_ok-sandboxes.ensures.seats ∙ ap (λ (qs : List Part). map first_seat qs) parts)

@@ -7,6 +7,7 @@ use Rattle.sfi_host.specs.Joint.{Machine, IsMachine}
 use Rattle.sfi_host.specs.Plans.{IsJoint, IsCutJoint}
 use Rattle.sfi_host.specs.Worlds.{slots_of, StaysOutsideData}
 use Rattle.sfi_host.proofs.Continuing.{next_taken, next_cut}
+use Rattle.sfi_host.proofs.Joined.{joint_are}
 use Rattle.sfi_host.proofs.Plans.{none_joint}
 use Rattle.sfi_host.proofs.SameWorld.{outside_more, world_runs}
 use Rattle.sfi_host.proofs.Stops.{have_stopped}
@@ -48,7 +49,7 @@ returns-clause-done g c e machine is = done g c machine is
 
 pub returns-clause-runs : goal.returns-clause-runs
 returns-clause-runs g c machine is =
-    world_runs c.joined_moves.ensures.limited machine is g.G.Gates.answer c.args.plan.now c.args.self.now c.loop-place.self c.args.gates.now c.stays_safe.ensures
+    world_runs joint_are machine is g.G.Gates.answer c.args.plan.now c.args.self.now c.loop-place.self c.args.gates.now c.stays_safe.ensures
     c.loop-place.invariant.bounds c.loop-place.invariant.outside None (done g c machine is).slots
 
 pub returns-clause-stops : goal.returns-clause-stops
@@ -74,7 +75,7 @@ returns-in-RunEnds-clause-runs g c machine is =
     let ended = cut g c machine is in
     record {
       cut = ended;
-      moved = world_runs c.joined_moves.ensures.limited machine is g.G.Gates.answer c.args.plan.now c.args.self.now c.take_turn.new.self c.args.gates.now c.stays_safe.ensures
+      moved = world_runs joint_are machine is g.G.Gates.answer c.args.plan.now c.args.self.now c.take_turn.new.self c.args.gates.now c.stays_safe.ensures
           (c.take_turn.ensures.bounds ∙ c.loop-place.invariant.bounds) (left g c) (Some ended.answered) ended.slots;
     }
 

@@ -45,7 +45,7 @@ taken g c =
     let items = c.self.inside.sandboxes.items in
     let i = c.args.turn.sandbox in
     let x = c.index_mut.result.now in
-    turn_taken c.goes_on_safely.ensures (g.M.Memory.bytes c.self.inside.memory) (g.M.Memory.bytes c.run_turn.new.memory) items c.self.inside.programs.items i x c.run_turn.new.sandbox
+    turn_taken (g.M.Memory.bytes c.self.inside.memory) (g.M.Memory.bytes c.run_turn.new.memory) items c.self.inside.programs.items i x c.run_turn.new.sandbox
     (c.self.invariant.0, c.self.invariant.1) (found items items i x refl (omega (arith, c.len.ensures, c.if-place-len.false)) c.index_mut.ensures.value) c.run_turn.ensures.bounds c.run_turn.ensures.safe c.run_turn.ensures.others
     c.args.self.now c.self.view_is
 

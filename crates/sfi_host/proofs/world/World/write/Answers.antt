@@ -51,7 +51,7 @@ returns-clause-there g c =
 
 after : (g : given.Over) (c : After-write g) → AfterTurn c.args.self.now c.self.inside.programs.items c.args.i (slot_of (g.M.Memory.bytes c.self.inside.memory) (seat_of c.index.result.now))
     (slot_of (g.M.Memory.bytes c.write.new.memory) (seat_of c.index.result.now)) (world_of (g.M.Memory.bytes c.write.new.memory) c.self.inside.sandboxes.items)
-after g c = data_written c.goes_on_safely.ensures (g.M.Memory.bytes c.self.inside.memory) (g.M.Memory.bytes c.write.new.memory)
+after g c = data_written (g.M.Memory.bytes c.self.inside.memory) (g.M.Memory.bytes c.write.new.memory)
     c.self.inside.sandboxes.items c.self.inside.programs.items c.args.i c.index.result.now c.self.invariant.0 c.self.invariant.1 (here g c)
     (g.met.M.Memory.in_range c.write.new.memory) c.write.ensures.outside c.write.ensures.whole c.args.self.now c.self.view_is
 
@@ -68,7 +68,7 @@ returns-clause-outside g c = (after g c).outside
 
 pub returns-clause-changes : goal.returns-clause-changes
 returns-clause-changes g c =
-    are_changes c.goes_on_safely.ensures (g.M.Memory.bytes c.self.inside.memory) (g.M.Memory.bytes c.write.new.memory)
+    are_changes (g.M.Memory.bytes c.self.inside.memory) (g.M.Memory.bytes c.write.new.memory)
     c.self.inside.sandboxes.items c.self.inside.programs.items c.args.i c.index.result.now c.self.invariant.0 c.self.invariant.1 (here g c)
     (g.met.M.Memory.in_range c.write.new.memory) c.write.ensures.outside c.write.ensures.whole c.args.self.now c.self.view_is
 
