@@ -1,7 +1,6 @@
 //! The command `convert`.
-use super::codes::{MOVES_STACK, STORES_ON_STACK};
-use super::image::{CODE, Edit, SFI2, SFI3, edited, end_in, image, put, same, text_of};
-use super::lines::{ACCEPTED, NO_MAGIC, ODD, REFUSED_V5, REFUSED_V10, SHORT};
+use super::image::{SFI2, edited, image, put, same, text_of};
+use super::lines::{ACCEPTED, ODD};
 use super::programs::{HI_IMAGE, HI_SAID};
 use super::{Outcome, run};
 use std::alloc::{AllocError, Global};
@@ -30,24 +29,6 @@ fn the_magic_changes_alone(rt: HostRuntime) -> Result<(), Fail> {
 #[test]
 fn no_conversion(rt: HostRuntime) -> Result<(), Fail> {
     let alloc = rt.alloc();
-    let rows: [(Edit<'_>, Edit<'_>, u8, &str); 7] = [
-        (put(CODE, MOVES_STACK), same(), 1, REFUSED_V10),
-        (put(CODE, STORES_ON_STACK), same(), 1, REFUSED_V5),
-        (put(0, SFI2), same(), 2, "convert fault 2 NotOld\n"),
-        (
-            put(0, SFI2),
-            end_in(40, "", 1),
-            2,
-            "convert fault 2 NotOld\n",
-        ),
-        (put(0, SFI3), same(), 2, NO_MAGIC),
-        (end_in(291, "", 1), same(), 2, SHORT),
-        (end_in(3, "", 1), same(), 2, SHORT),
-    ];
-    for (edit, other, status, line) in rows {
-        let text = image(alloc, &[edit, other])?;
-        assert!(rt; says(alloc, &text, status, line)?, "{line}");
-    }
     assert!(rt; says(alloc, b"5", 2, ODD)?);
     let Outcome {
         status,

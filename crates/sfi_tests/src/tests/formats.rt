@@ -1,147 +1,17 @@
 //! Both formats of images: what differs where x2 is a stack pointer.
-use super::codes::{
-    BASED_THEN_PAIR, BASED_TWICE, C_LWSP_X24, LINKED_THEN_PAIR, LOADED_THEN_PAIR, MASKED_THEN_PAIR,
-    MASKS_STACK, MOVED_NOP_PAIR, MOVED_THEN_PAIR, MOVES_STACK, STORES_ON_STACK,
-};
-use super::image::{CODE, Edit, FILL, SFI1, SFI2, image, image_bytes, put, text_of};
-use super::lines::{ACCEPTED, REFUSED_V4, REFUSED_V5, REFUSED_V10};
-use super::{Outcome, built_and_run, run};
+use super::codes::MASKS_STACK;
+use super::image::{CODE, Edit, FILL, SFI2, image, image_bytes, put, text_of};
+use super::{Outcome, run};
 use rv_text::{TextCause, TextFault, parse_source};
 use sfi_image::{parse_image, write_image_as};
 use sfi_policy::Format;
 use std::alloc::{AllocError, Global};
-use std::process::Abort;
 use std::test::Fail;
-
-// Digits from a place of the smallest image's code on, and the verdict in each format.
-#[derive(Clone, Copy, Debug)]
-struct Row<'a> {
-    name: &'a str,
-    at: usize,
-    digits: &'a str,
-    first: &'a str,
-    second: &'a str,
-}
-
-fn code<'a>(name: &'a str, digits: &'a str, first: &'a str, second: &'a str) -> Row<'a> {
-    Row {
-        name,
-        at: 0,
-        digits,
-        first,
-        second,
-    }
-}
-
-// The pair is `and x2, x2, x27`, `or x2, x2, x26`.
-fn rules() -> [Row<'static>; 17] {
-    [
-        code("c.swsp", STORES_ON_STACK, REFUSED_V5, ACCEPTED),
-        code("c.addi x2", MOVES_STACK, ACCEPTED, REFUSED_V10),
-        code(
-            "written before the pair",
-            MOVED_THEN_PAIR,
-            ACCEPTED,
-            ACCEPTED,
-        ),
-        Row {
-            name: "written before the next bundle's pair",
-            at: 12,
-            digits: MOVED_THEN_PAIR,
-            first: ACCEPTED,
-            second: "refused findings=1 first=V10 sandbox=0 at=0100000c\n",
-        },
-        code(
-            "a nop before the pair",
-            MOVED_NOP_PAIR,
-            ACCEPTED,
-            REFUSED_V10,
-        ),
-        code(
-            "loaded before the pair",
-            LOADED_THEN_PAIR,
-            REFUSED_V5,
-            ACCEPTED,
-        ),
-        code(
-            "c.lwsp x2 before the pair",
-            "02413371b1013361a1010290",
-            REFUSED_V5,
-            ACCEPTED,
-        ),
-        code("c.lwsp x2", "02410290", REFUSED_V5, REFUSED_V10),
-        code(
-            "jal x2 before the pair",
-            LINKED_THEN_PAIR,
-            ACCEPTED,
-            REFUSED_V10,
-        ),
-        code("half of the pair", MASKS_STACK, ACCEPTED, REFUSED_V10),
-        code(
-            "masked before the pair",
-            MASKED_THEN_PAIR,
-            ACCEPTED,
-            ACCEPTED,
-        ),
-        code("based before the pair", BASED_THEN_PAIR, ACCEPTED, ACCEPTED),
-        code(
-            "based twice",
-            BASED_TWICE,
-            ACCEPTED,
-            "refused findings=1 first=V10 sandbox=0 at=01000008\n",
-        ),
-        code("c.lwsp x24", C_LWSP_X24, REFUSED_V4, REFUSED_V4),
-        code("c.lwsp x25", "824c0290", REFUSED_V4, REFUSED_V4),
-        code("c.lwsp x26", "024d0290", REFUSED_V4, REFUSED_V4),
-        code("c.lwsp x27", "824d0290", REFUSED_V4, REFUSED_V4),
-    ]
-}
-
-// The status that goes with a verdict or a fault.
-fn status_of(line: &str) -> u8 {
-    if line.starts_with("accepted") {
-        0
-    } else if line.starts_with("layout") {
-        2
-    } else {
-        1
-    }
-}
 
 // What the command says of the image after the edits.
 fn answer(alloc: Global, line: &str, edits: &[Edit<'_>]) -> Result<Outcome, AllocError> {
     let digits = image(alloc, edits)?;
     run(alloc, line, digits.as_slice())
-}
-
-// The verdict or the fault of the image after the edits is this line, of its digits and of its
-// own bytes.
-pub(super) fn is_judged(
-    rt: &impl Abort,
-    alloc: Global,
-    name: &str,
-    edits: &[Edit<'_>],
-    wanted: &str,
-) -> Result<(), Fail> {
-    let Outcome { status, text } = answer(alloc, "sfi check", edits)?;
-    assert_eq!(rt; text.as_slice(), wanted.as_bytes(), "{name}");
-    assert_eq!(rt; status, status_of(wanted), "{name}");
-    let bytes = image_bytes(alloc, edits)?;
-    let Outcome { status, text } = run(alloc, "sfi check --raw", bytes.as_slice())?;
-    assert_eq!(rt; text.as_slice(), wanted.as_bytes(), "{name}");
-    assert_eq!(rt; status, status_of(wanted), "{name}");
-    Ok(())
-}
-
-#[test]
-fn verdicts(rt: HostRuntime) -> Result<(), Fail> {
-    for row in rules() {
-        for (magic, wanted) in [(SFI1, row.first), (SFI2, row.second)] {
-            let edits = [put(0, magic), put(CODE.saturating_add(row.at), row.digits)];
-            is_judged(&rt, rt.alloc(), row.name, &edits, wanted)?;
-        }
-    }
-    Ok(())
 }
 
 #[test]
@@ -220,36 +90,8 @@ fn images_are_built_to_the_letter(rt: HostRuntime) -> Result<(), Fail> {
 }
 
 #[test]
-fn a_stack_takes_fewer_steps(rt: HostRuntime) -> Result<(), Fail> {
+fn writes_of_the_first_format(rt: HostRuntime) -> Result<(), Fail> {
     let alloc = rt.alloc();
-    for (format, said) in [
-        ("", "sandbox=0 exit=5 steps=16 out=\n"),
-        (".format 1\n", "sandbox=0 exit=5 steps=16 out=\n"),
-        (".format 2\n", "sandbox=0 exit=5 steps=10 out=\n"),
-    ] {
-        let source = format!(in alloc; "{format}{STACKED}")?;
-        let Outcome { status, text } = built_and_run(alloc, source.as_str(), "sfi run")?;
-        assert_eq!(rt; text.as_slice(), said.as_bytes(), "{format}");
-        assert_eq!(rt; status, 0, "{format}");
-    }
-    Ok(())
-}
-
-#[test]
-fn writes_that_are_refused(rt: HostRuntime) -> Result<(), Fail> {
-    let alloc = rt.alloc();
-    for (statement, said) in [
-        ("lw sp, 0(a0)", "rewrite fault 5 StackWrite line 3\n"),
-        ("jalr sp, 0(a0)", "rewrite fault 5 StackWrite line 3\n"),
-        ("x: jal sp, x", "rewrite fault 5 StackWrite line 3\n"),
-        ("lw sp, 0(t6)", "rewrite fault 1 ReservedRegister line 3\n"),
-        ("jal sp, away", "rewrite fault 5 StackWrite line 3\n"),
-    ] {
-        let source = format!(in alloc; ".format 2\n.sandbox 256\n{statement}\n")?;
-        let Outcome { status, text } = run(alloc, "sfi build", source.as_bytes())?;
-        assert_eq!(rt; text.as_slice(), said.as_bytes(), "{statement}");
-        assert_eq!(rt; status, 2, "{statement}");
-    }
     for statement in ["lw sp, 0(a0)", "jalr sp, 0(a0)", "x: jal sp, x"] {
         let source = format!(in alloc; ".sandbox 256\n{statement}\n")?;
         let Outcome { status, text: _ } = run(alloc, "sfi build", source.as_bytes())?;

@@ -27,13 +27,6 @@ pub(super) const END: usize = 292;
 /// The place of the code in the smallest image.
 pub(super) const CODE: usize = 36;
 
-/// The head of a second sandbox, apart from the smallest image's: code at 02000000, data at
-/// 01802100.
-pub(super) const APART: &str = "00000002000100000021800100010000000000020000000000000000";
-
-/// The place of a second sandbox's code after its head, which stands at the smallest image's end.
-pub(super) const SECOND_CODE: usize = END + 28;
-
 /// Digits, so many times, in place of the bytes from one place to another.
 /// Places after the end stand for the end.
 #[derive(Clone, Copy, Debug)]

@@ -1,5 +1,4 @@
 //! The addresses of names.
-use super::{Outcome, run};
 use sfi_link::{Place, names_at};
 use sfi_rewrite::PlacedName;
 use std::test::Fail;
@@ -49,46 +48,5 @@ fn names_have_their_addresses(rt: HostRuntime) -> Result<(), Fail> {
     assert!(rt; matches!(usual[0].named(), PlacedName::Gate(0)));
     assert!(rt; matches!(usual[1].named(), PlacedName::Data(4)));
     assert!(rt; matches!(usual[2].named(), PlacedName::Code(32)));
-    Ok(())
-}
-
-// What the command prints: the lines, or the fault that `build` names.
-#[test]
-fn maps(rt: HostRuntime) -> Result<(), Fail> {
-    let alloc = rt.alloc();
-    let rows = [
-        (
-            "sfi map",
-            SOURCE,
-            0,
-            "sandbox=0 gate exit at=01000000\nsandbox=0 data text at=01800004\n\
-             sandbox=0 code end at=01000030\nsandbox=1 code end at=02000000\n",
-        ),
-        (
-            "sfi map --at 20500000:80000000",
-            SOURCE,
-            0,
-            "sandbox=0 gate exit at=20500000\nsandbox=0 data text at=80000004\n\
-             sandbox=0 code end at=20500030\nsandbox=1 code end at=02000000\n",
-        ),
-        ("sfi map", ".sandbox 256\nret\n", 0, ""),
-        (
-            "sfi map",
-            ".sandbox 256\nj nowhere\n",
-            2,
-            "link fault 1 UnknownName line 2\n",
-        ),
-        (
-            "sfi map --at 20500080:80000000",
-            SOURCE,
-            2,
-            "link fault 6 Place sandbox 0\n",
-        ),
-    ];
-    for (line, source, wanted_status, wanted) in rows {
-        let Outcome { status, text } = run(alloc, line, source.as_bytes())?;
-        assert_eq!(rt; text.as_slice(), wanted.as_bytes(), "{line}");
-        assert_eq!(rt; status, wanted_status, "{line}");
-    }
     Ok(())
 }

@@ -1,115 +1,12 @@
 //! Sandboxes of one image: the words that they post to one another,
 //! and data that only their own code reaches.
-use super::codes::{BARE_STORE, MASKED_STORE};
-use super::image::{EBREAK, FILL, text_of};
-use super::lines::REFUSED_V5;
 use super::{Outcome, built_and_run, run};
 use std::test::Fail;
-
-// The first posts 7 to the second, which takes it.
-const FORWARD: &str = ".sandbox 256
-.gate post 4
-.gate quit 0
-li a0, 1
-li a1, 7
-call post
-call quit
-.sandbox 256
-.gate take 5
-.gate quit 0
-call take
-call quit
-";
-
-// The second posts 7 to the first, which takes it if it comes early enough.
-const BACKWARD: &str = ".sandbox 256
-.gate take 5
-.gate quit 0
-call take
-call quit
-.sandbox 256
-.gate post 4
-.gate quit 0
-li a0, 0
-li a1, 7
-call post
-call quit
-";
-
-// The first stops at once. The second posts it 17 words, posts one to sandbox 2,
-// which isn't there, and puts the answers.
-const FULL: &str = ".sandbox 256
-ebreak
-.sandbox 256
-.gate post 4
-.gate put 1
-.gate quit 0
-        la   s0, answers
-        li   s1, 17
-again:  li   a0, 0
-        mv   a1, s1
-        call post
-        sw   a0, 0(s0)
-        addi s0, s0, 4
-        addi s1, s1, -1
-        bnez s1, again
-        li   a0, 2
-        call post
-        sw   a0, 0(s0)
-        la   a0, answers
-        li   a1, 72
-        call put
-        call quit
-.data
-answers: .zero 72
-";
-
-// It posts 5 and 6 to itself, takes both, and exits with 10 times the first plus the second's a1,
-// its own number plus 1.
-const ITSELF: &str = ".sandbox 256
-.gate post 4
-.gate take 5
-.gate quit 0
-        li   a0, 0
-        li   a1, 5
-        call post
-        li   a0, 0
-        li   a1, 6
-        call post
-        call take
-        li   t0, 10
-        mul  s0, a0, t0
-        call take
-        add  a0, s0, a1
-        call quit
-";
 
 #[test]
 fn words_are_exchanged(rt: HostRuntime) -> Result<(), Fail> {
     let alloc = rt.alloc();
     let rows = [
-        (
-            FORWARD,
-            "sfi run",
-            "sandbox=0 exit=0 steps=17 out=\nsandbox=1 exit=7 steps=19 out=\n",
-        ),
-        (
-            FORWARD,
-            "sfi run --rounds 1000 --quantum 1",
-            "sandbox=0 exit=0 steps=17 out=\nsandbox=1 exit=7 steps=19 out=\n",
-        ),
-        (
-            BACKWARD,
-            "sfi run",
-            "sandbox=0 exit=0 steps=19 out=\nsandbox=1 exit=0 steps=17 out=\n",
-        ),
-        (
-            BACKWARD,
-            "sfi run --rounds 1000 --quantum 1",
-            "sandbox=0 exit=7 steps=19 out=\nsandbox=1 exit=0 steps=17 out=\n",
-        ),
-        (FULL, "sfi run", FULL_SAID),
-        (ITSELF, "sfi run", ITSELF_SAID),
         (PRIMES, "sfi run --rounds 10000 --quantum 1", PRIMES_BY_1),
         (PRIMES, "sfi run --rounds 1000 --quantum 7", PRIMES_BY_7),
         (PRIMES, "sfi run --rounds 10 --quantum 1000", PRIMES_BY_1000),
@@ -126,56 +23,6 @@ fn words_are_exchanged(rt: HostRuntime) -> Result<(), Fail> {
     }
     Ok(())
 }
-
-// The head of the first of two sandboxes: code 256 bytes at 01000000, data 256 at 01800000, no
-// gates, no first data bytes.
-const TWO: &str = "534649310200000000000001000100000000800100010000000000010000000000000000";
-
-// The second, with its code at 02000000 and its data at 02800000, writes its two data bytes and
-// exits with the second. Its code, up to the fill.
-const WRITES_SECOND: &str =
-    "000000020001000000008002000100002000000202000000020000000000000201000000100000020000000073000000b3ff9001b3ef8f0167800f0073000000b3ff9001b3ef8f0167800f00370580021305050093052000eff05ffd37058002130505000100010001000100b37fb501b3efaf0103c51f00eff05ffc";
-
-const UNHARMED: &str =
-    "sandbox=0 trap=Break at=0100000c steps=3 out=\nsandbox=1 exit=105 steps=19 out=4869\n";
-
-#[test]
-fn a_store_stays_in_its_sandbox(rt: HostRuntime) -> Result<(), Fail> {
-    let alloc = rt.alloc();
-    let bare = [(BARE_STORE, 1), (EBREAK, 63)];
-    let masked = [(MASKED_STORE, 1), (EBREAK, 61)];
-    let rows = [
-        ("sfi check", bare, 1, REFUSED_V5),
-        ("sfi run --rounds 1000", bare, 1, REFUSED_V5),
-        ("sfi run --rounds 1000 --quantum 1", masked, 0, UNHARMED),
-        ("sfi run --rounds 1000 --quantum 3", masked, 0, UNHARMED),
-        ("sfi run --rounds 1000 --quantum 1000", masked, 0, UNHARMED),
-    ];
-    for (line, [first, rest], status, said) in rows {
-        let pieces = [
-            (TWO, 1),
-            first,
-            rest,
-            (WRITES_SECOND, 1),
-            (FILL, 88),
-            ("4869", 1),
-        ];
-        let input = text_of(alloc, &pieces)?;
-        let Outcome {
-            status: given,
-            text,
-        } = run(alloc, line, &input)?;
-        assert_eq!(rt; text.as_slice(), said.as_bytes(), "{line}");
-        assert_eq!(rt; given, status, "{line}");
-    }
-    Ok(())
-}
-
-// Sixteen answers 0, then 1, then ffffffff.
-const FULL_SAID: &str =
-    "sandbox=0 trap=Break at=01000000 steps=0 out=\nsandbox=1 exit=72 steps=287 out=0000000000000000000000000000000000000000000000000000000000000000000000000000000000000000000000000000000000000000000000000000000001000000ffffffff\n";
-
-const ITSELF_SAID: &str = "sandbox=0 exit=51 steps=45 out=\n";
 
 // The 25 primes below 100, a line each, of which the sum is 1060. They, and the steps, were
 // computed by a program in Python and an interpreter in C.

@@ -102,34 +102,6 @@ fn usual(rt: HostRuntime) -> Result<(), Fail> {
 
 const TWO: &str = ".sandbox 256\nret\n.sandbox 4096\nret\n";
 
-const AT_FIRST: &str = "link fault 6 Place sandbox 0\n";
-
-const AT_SECOND: &str = "link fault 6 Place sandbox 1\n";
-
-// Each sandbox has 256 bytes of code, and the guard zones have 4096 addresses each.
-#[test]
-fn no_places(rt: HostRuntime) -> Result<(), Fail> {
-    let alloc = rt.alloc();
-    let rows = [
-        ("20500080:80000000", AT_FIRST), // no multiple of the code's size
-        ("20500000:80000080", AT_FIRST), // nor of the data's
-        ("20500000:00000f00", AT_FIRST), // no room for a guard zone
-        ("20500000:fffff000", AT_FIRST),
-        ("20500000:20501000", AT_FIRST), // its guard zones meet its own code
-        ("20500000:80000000 --at 20500000:90000000", AT_SECOND), // code where code is
-        ("20500000:80000000 --at 20501000:80001000", AT_SECOND), // guard zones meet the first's
-        ("20500000:80000000 --at 80001000:90000000", AT_SECOND), // code in a guard zone
-        ("20500000:02800000", AT_SECOND), // the second one's usual data are there
-    ];
-    for (places, wanted) in rows {
-        let line = format!(in alloc; "sfi build --at {places}")?;
-        let Outcome { status, text } = run(alloc, line.as_str(), TWO.as_bytes())?;
-        assert_eq!(rt; text.as_slice(), wanted.as_bytes(), "{places}");
-        assert_eq!(rt; status, 2, "{places}");
-    }
-    Ok(())
-}
-
 // A place more than there are sandboxes.
 #[test]
 fn seventeen(rt: HostRuntime) -> Result<(), Fail> {
