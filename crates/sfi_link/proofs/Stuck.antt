@@ -1,7 +1,7 @@
 -- A reading that can't go on is the longest.
 use Rattle.std.proofs.Common.{◌≡◌, ℕ, ◌≤◌, List, [], ◌∷◌, length, take, drop, sym, ap, subst, arith, length-take, ⊎_elim}
 use Rattle.rv_comp.specs.Fronts.{Spells}
-use Rattle.rv_comp.proofs.Facts.{one_spelling, two_lengths}
+use Rattle.rv_comp.proofs.Facts.{two_lengths}
 use Rattle.sfi_scan.specs.Readings.{Piece, IsReading, IsLongestReading, rest_of}
 use Rattle.sfi_scan.proofs.Readings.{front_one}
 use Rattle.sfi_link.proofs.Written.{spelled_length}
@@ -24,7 +24,7 @@ whole_is_longest bytes reading is whole = record { is_reading = is; longest = λ
     no_more bytes reading [] is whole h = omega arith
     no_more bytes [] (y ∷ other) is whole h = absurd (nothing_there y (subst (λ (l : List ℕ). Spells (take y.size l) y.instr y.size) whole h.0))
     no_more bytes (x ∷ reading) (y ∷ other) is whole h =
-        let e = front_one one_spelling bytes x y is.0 h.0 in
+        let e = front_one bytes x y is.0 h.0 in
         let n : drop y.size bytes ≡ drop x.size bytes = ap (λ (z : Piece). drop z.size bytes) (sym e) in
         let more = no_more (drop x.size bytes) reading other is.1 whole (subst (λ (l : List ℕ). IsReading l other) n h.1) in
         omega arith
