@@ -2,8 +2,6 @@
 use Rattle.std.proofs.Common.{◌≡◌, ℕ, zero, suc, ◌+◌, ◌-◌, ◌*◌, ◌/◌, ◌%◌, ◌^◌, ◌<◌, ◌≤◌, true, cond, ◌==◌, ap, sym, ◌∙◌, pos, negsuc, ℤ, arith, eqb-true}
 use Rattle.std.proofs.lemmas.Bool.{and_parts, ltb-true, lt-ltb, le-ltb, cond-true, cond-false}
 use Rattle.std.proofs.lemmas.Nat.{div_below, div-add-mod'}
-use Rattle.std.proofs.Math.Nat.{pow-suc}
-use Rattle.std.proofs.Math.Pow.{pow_mono}
 use Rattle.std.specs.Prelude.{nat_lt}
 use Rattle.rv_comp.specs.Table.{is_unsigned, is_signed}
 

@@ -12,7 +12,7 @@ use Rattle.sfi_image.specs.Keeping.{ReaderState, StandsFor, Leads, left}
 use Rattle.sfi_scan.specs.declared.bundle.BundlePlace.{BundlePlace}
 use Rattle.sfi_scan.specs.declared.finding.Finding.{Finding}
 use Rattle.sfi_masks.specs.Masks.{is_in}
-use Rattle.sfi_scan.specs.Bundles.{IsWithin, IsWithinBlock, block_bundle, bundle_at}
+use Rattle.sfi_scan.specs.Bundles.{block_bundle, bundle_at}
 use Rattle.sfi_scan.specs.Findings.{AreBundleFindings, AreReadingFindings}
 use Rattle.sfi_check.specs.declared.tally.Tally.{Tally}
 use Rattle.sfi_check.specs.private.Tallies.{AddsFindings, AreFindingsOfPlain, AreFindingsSoFar, IsPlainFrom, IsSoFar, Tallies, findings_most}

@@ -20,7 +20,7 @@ use Rattle.sfi_check.specs.Verdict.{IsAccepted, HasFindings}
 use Rattle.sfi_check.specs.declared.conversion.ConvertFault.{ConvertFault}
 use Rattle.sfi_check.specs.declared.conversion.ConvertFault.TheVariants as convert
 use Rattle.sfi_check.specs.declared.conversion.ConvertFault.TheVariants.{Refused, NotOld, Stack}
-use Rattle.sfi_check.specs.Converting.{IsSecond, IsConversion, IsConvertFault, fault_of, AnswersLayout, AnswersFindings, AnswersStack, AnswersConversion}
+use Rattle.sfi_check.specs.Converting.{IsSecond, IsConversion, IsConvertFault, fault_of, AnswersLayout, AnswersFindings}
 use Rattle.sfi_check.specs.private.Converting.{IsStackOf, Converts}
 
 -- ---- formats
