@@ -16,6 +16,7 @@
 //! The image is the smallest one before the edits, which are made one after another.
 mod formats;
 mod images;
+mod lengths;
 mod limits;
 mod reports;
 mod runs;
@@ -182,15 +183,15 @@ fn image_limits(rt: HostRuntime) -> Result<(), Fail> {
 
 #[test]
 fn text_limits(rt: HostRuntime) -> Result<(), Fail> {
-    try_rows(&rt, rt.alloc(), limits::TEXTS, 15)
+    try_rows(&rt, rt.alloc(), lengths::TEXTS, 15)
 }
 
 #[test]
 fn long_texts(rt: HostRuntime) -> Result<(), Fail> {
-    try_rows(&rt, rt.alloc(), limits::LONG_TEXTS, 2)
+    try_rows(&rt, rt.alloc(), lengths::LONG_TEXTS, 2)
 }
 
 #[test]
 fn too_long_texts(rt: HostRuntime) -> Result<(), Fail> {
-    try_rows(&rt, rt.alloc(), limits::TOO_LONG_TEXTS, 2)
+    try_rows(&rt, rt.alloc(), lengths::TOO_LONG_TEXTS, 2)
 }
