@@ -1,6 +1,7 @@
 -- The sandbox of a function before a call, at its entry, and after its turn.
 use Rattle.std.proofs.Common.{◌≡◌, ◌≢◌, ⊎_elim, ℕ, zero, suc, ◌+◌, ◌^◌, ◌<◌, ◌≤◌, Bool, List, [], ◌∷◌, map, set, Option, Some, None, IsSome, is_some, slice_get, refl, sym, ap, ◌∙◌, subst, arith}
 use Rattle.std.specs.List.{range_with_len}
+use Rattle.std.proofs.lemmas.Bool.{cases_eq}
 use Rattle.rv_mem.specs.Bytes.{Bytes, bytes_at}
 use Rattle.sfi_image.specs.declared.span.Span.{Span}
 use Rattle.sfi_image.specs.Regions.{IsBundleStart}
@@ -19,7 +20,6 @@ use Rattle.sfi_host.specs.Plans.{IsJoint, IsCutJoint}
 use Rattle.sfi_host.specs.Regions.{bytes_in, IsWhole}
 use Rattle.sfi_host.specs.Slots.{Bounds, Slot}
 use Rattle.sfi_host.specs.Worlds.{Seat, Sandboxes, slot_of, slots_of, IsSafeWorld, StaysOutsideData}
-use Rattle.sfi_host.proofs.Decoding.{eq_or}
 use Rattle.sfi_host.proofs.Leaving.{data_of_own, whole_in}
 use Rattle.sfi_host.proofs.Neighbours.{get_set_same, get_set_other}
 use Rattle.sfi_host.proofs.Plans.{joined_cons, joined_nil}
@@ -111,7 +111,7 @@ entered_lie w m i pc arguments s e j x at = ⊎_elim
     let is : x ≡ entered_seat s pc arguments = cc in
     (s, ap (slice_get w.seats) same ∙ e, sym (ap (λ (y : Seat). y.bounds) is)))
     (λ (other : j ≢ i). (x, sym (get_set_other w.seats i j (entered_seat s pc arguments) other) ∙ at, refl))
-    (eq_or i j)
+    (cases_eq j i)
 
 -- what stays outside the data then stays outside the data before
 pub outside_too : (w v : Sandboxes) (later : Bytes) → LieThere w v → StaysOutsideData w v.bytes → StaysOutsideData v later → StaysOutsideData w later
