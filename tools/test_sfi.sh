@@ -174,6 +174,7 @@ interrupted() {
     kill -TERM -- "-$process"
     wait "$process" 2>>"$room/errors"
     rm "$room/hold"
+    await test ! -e "$out/sfi.begun" # each process of the group ends in its own time
     found=$(ls "$out")
     [ ! -e "$out/sfi.begun" ]
     report $? "an interrupted build leaves no file of its own" "$found"
