@@ -1,20 +1,6 @@
 -- The first bytes of a list, the halfword and the word that they are, and what their low bits tell.
-use Rattle.std.proofs.Common.{◌≡◌, ℕ, ◌%◌, ◌^◌, ◌<◌, ◌≤◌, refl, ap, subst, sym, ◌∙◌, Option, Some, None, List, [], ◌∷◌, length, get_or, take, arith, ◌≢◌}
-use Rattle.std.proofs.lemmas.Bool.{ne_eqb}
-use Rattle.std.proofs.lemmas.List.{length-take}
-use Rattle.std.proofs.lemmas.Nat.{and_mask}
-use Rattle.std.specs.Prelude.{bit_and}
-use Rattle.std.specs.Int.{w16, w32, from_le_bytes}
-use Rattle.rv_word.specs.declared.instr.Instr.{Instr}
-use Rattle.rv_word.specs.declared.length.Length.{Length}
-use Rattle.rv_word.specs.declared.length.Length.TheVariants.{Short, Wide, Longer}
-use Rattle.rv_word.specs.Lengths.{length_of}
-use Rattle.rv_word.specs.Numbers.{bits}
-use Rattle.rv_word.specs.Spelling.{IsWordOf}
-use Rattle.rv_comp.specs.Halfwords.{IsShortSpelling}
-use Rattle.rv_comp.specs.mirror.Decoding.{decoded}
-use Rattle.rv_comp.specs.Fronts.{SpellsShort, SpellsWide}
-use Rattle.rv_comp.specs.declared.form.Form16.{Form16}
+use Rattle.rv_comp.proofs.Prelude.{◌≡◌, ℕ, ◌%◌, ◌^◌, ◌<◌, ◌≤◌, refl, ap, subst, sym, ◌∙◌, Option, Some, None, List, [], ◌∷◌, length, get_or, take, arith, ◌≢◌, ne_eqb, length-take, and_mask, bit_and, w16, w32, from_le_bytes, Instr, Length, Wide, Longer, length_of, bits, IsWordOf, IsShortSpelling, decoded, SpellsShort, SpellsWide, Form16}
+use Rattle.rv_word.specs.declared.length.Length.TheVariants.{Short}
 use Rattle.rv_comp.proofs.Exact.{decoded_only}
 use Rattle.rv_word.proofs.Facts.{spellings_are_wide}
 

@@ -1,11 +1,5 @@
 -- What the decoder and the encoder compute is the table.
-use Rattle.std.proofs.Common.{◌≡◌, ℕ, ◌^◌, ◌<◌, true, ◌==◌, ap, ◌∙◌, Option, Some, None, eqb-true}
-use Rattle.std.proofs.lemmas.Bool.{and_parts}
-use Rattle.std.specs.Prelude.{IfSome}
-use Rattle.rv_comp.specs.Halfwords.{halfword_of, IsHalfwordOf}
-use Rattle.rv_comp.specs.Table.{allowed}
-use Rattle.rv_comp.specs.mirror.Decoding.{decoded}
-use Rattle.rv_comp.specs.declared.form.Form16.{Form16}
+use Rattle.rv_comp.proofs.Prelude.{◌≡◌, ℕ, ◌^◌, ◌<◌, true, ◌==◌, ap, ◌∙◌, Option, Some, None, eqb-true, and_parts, IfSome, halfword_of, IsHalfwordOf, allowed, decoded, Form16}
 use Rattle.rv_comp.proofs.Whole.{spells, all_read}
 use Rattle.rv_comp.proofs.Boxes.{agreed}
 

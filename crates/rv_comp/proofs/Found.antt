@@ -1,21 +1,6 @@
 -- Each list of bytes has a front: a halfword and a word spell something or nothing.
-use Rattle.std.proofs.Common.{◌≡◌, ℕ, ◌≤◌, ◌⊎◌, inl, inr, Bool, true, false, refl, subst, Option, Some, None, List, length}
-use Rattle.std.proofs.lemmas.Bool.{cases_lt, cases_eq, cases_Bool}
-use Rattle.std.specs.Int.{w16, w32, from_le_bytes}
-use Rattle.rv_word.specs.declared.instr.Instr.{Instr}
-use Rattle.rv_word.specs.declared.length.Length.{Length}
+use Rattle.rv_comp.proofs.Prelude.{◌≡◌, ℕ, ◌≤◌, ◌⊎◌, inl, inr, Bool, true, false, refl, subst, Option, Some, None, List, length, cases_lt, cases_eq, cases_Bool, w16, w32, from_le_bytes, Instr, Length, length_of, IsWordOf, allowed, expansion, halfword_of, IsHalfwordOf, IsShortSpelling, IsFront, IsOnlyFront, SomeFront, decoded, Form16, Front, Read, Short, Bad}
 use Rattle.rv_word.specs.declared.length.Length.TheVariants as lengths
-use Rattle.rv_word.specs.Lengths.{length_of}
-use Rattle.rv_word.specs.Spelling.{IsWordOf}
-use Rattle.rv_comp.specs.Table.{allowed, expansion}
-use Rattle.rv_comp.specs.Halfwords.{halfword_of, IsHalfwordOf, IsShortSpelling}
-use Rattle.rv_comp.specs.Fronts.{IsFront}
-use Rattle.rv_comp.specs.private.Fronts.{IsOnlyFront}
-use Rattle.rv_comp.specs.Laws.{SomeFront}
-use Rattle.rv_comp.specs.mirror.Decoding.{decoded}
-use Rattle.rv_comp.specs.declared.form.Form16.{Form16}
-use Rattle.rv_comp.specs.declared.front.Front.{Front}
-use Rattle.rv_comp.specs.declared.front.Front.TheVariants.{Read, Short, Bad}
 use Rattle.rv_comp.proofs.Exact.{decoded_only}
 use Rattle.rv_comp.proofs.Bytes.{first_two, first_four, none_some}
 use Rattle.rv_comp.proofs.Spellings.{some_one}

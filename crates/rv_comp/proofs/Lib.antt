@@ -1,3 +1,4 @@
+pub mod Prelude
 pub mod Boxes
 pub mod Bytes
 pub mod Exact

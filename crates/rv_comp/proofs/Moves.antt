@@ -1,8 +1,5 @@
 -- A shift and a mask take bits out of a number.
-use Rattle.std.proofs.Common.{◌≡◌, ℕ, ◌-◌, ◌*◌, ◌%◌, ◌^◌, ◌≤◌, ap, ◌∙◌, arith}
-use Rattle.std.proofs.lemmas.Nat.{and_mask}
-use Rattle.std.proofs.Math.Pow.{pow_mono}
-use Rattle.std.specs.Prelude.{bit_and}
+use Rattle.rv_comp.proofs.Prelude.{◌≡◌, ℕ, ◌-◌, ◌*◌, ◌%◌, ◌^◌, ◌≤◌, ap, ◌∙◌, arith, and_mask, pow_mono, bit_and}
 
 pub masked : (n k : ℕ) → k ≤ 15 → bit_and n (1 * 2 ^ k % 65536 - 1) ≡ n % 2 ^ k
 masked n k h =

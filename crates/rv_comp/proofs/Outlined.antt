@@ -1,14 +1,5 @@
 -- What the outline tells of a halfword.
-use Rattle.std.proofs.Common.{◌≡◌, ℕ, ◌<◌, ◌^◌, refl, ap, sym, subst, ◌∙◌, Option, Some, None, IfSome}
-use Rattle.std.specs.Option.{option_map}
-use Rattle.rv_word.specs.declared.instr.Instr.{Instr}
-use Rattle.rv_word.specs.declared.outline.Outline.{Outline}
-use Rattle.rv_word.specs.Outlines.{outline}
-use Rattle.rv_comp.specs.Table.{expansion}
-use Rattle.rv_comp.specs.Halfwords.{IsHalfwordOf, IsShortSpelling, IsHalfwordThat}
-use Rattle.rv_comp.specs.declared.form.Form16.{Form16}
-use Rattle.rv_comp.specs.mirror.Decoding.{decoded}
-use Rattle.rv_comp.specs.mirror.Outlining.{outlined}
+use Rattle.rv_comp.proofs.Prelude.{◌≡◌, ℕ, ◌<◌, ◌^◌, refl, ap, sym, subst, ◌∙◌, Option, Some, None, IfSome, option_map, Instr, Outline, outline, expansion, IsHalfwordOf, IsShortSpelling, IsHalfwordThat, Form16, decoded, outlined}
 use Rattle.rv_comp.proofs.Exact.{decoded_found, decoded_only}
 use Rattle.rv_comp.proofs.Whole.{does, all_read}
 

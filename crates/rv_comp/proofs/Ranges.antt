@@ -1,9 +1,5 @@
 -- The values of an immediate, counted.
-use Rattle.std.proofs.Common.{◌≡◌, ℕ, zero, suc, ◌+◌, ◌-◌, ◌*◌, ◌/◌, ◌%◌, ◌^◌, ◌<◌, ◌≤◌, true, cond, ◌==◌, ap, sym, ◌∙◌, pos, negsuc, ℤ, arith, eqb-true}
-use Rattle.std.proofs.lemmas.Bool.{and_parts, ltb-true, lt-ltb, le-ltb, cond-true, cond-false}
-use Rattle.std.proofs.lemmas.Nat.{div_below, div-add-mod'}
-use Rattle.std.specs.Prelude.{nat_lt}
-use Rattle.rv_comp.specs.Table.{is_unsigned, is_signed}
+use Rattle.rv_comp.proofs.Prelude.{◌≡◌, ℕ, zero, suc, ◌+◌, ◌-◌, ◌*◌, ◌/◌, ◌%◌, ◌^◌, ◌<◌, ◌≤◌, true, cond, ◌==◌, ap, sym, ◌∙◌, pos, negsuc, ℤ, arith, eqb-true, and_parts, ltb-true, lt-ltb, le-ltb, cond-true, cond-false, div_below, div-add-mod', nat_lt, is_unsigned, is_signed}
 
 -- the multiple of m with this number, of those that n bits hold
 unfoldable pub signed_at : ℕ → ℕ → ℕ → ℤ

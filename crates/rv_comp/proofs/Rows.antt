@@ -1,17 +1,8 @@
 -- The rows that the code has are those of the table.
-use Rattle.std.proofs.Common.{◌≡◌, ℕ, ◌+◌, ◌*◌, ◌^◌, ◌<◌, true, refl, ap, ap₂, subst, sym, ◌∙◌, List, ◌∷◌, ◌≤◌, map, drop, suc, slice_index_or, length, arith}
-use Rattle.std.proofs.Math.Seq.{drop-cons, drop-length}
-use Rattle.std.proofs.Math.Pow.{pow_mono}
-use Rattle.std.proofs.Math.Nat.{pow-suc}
-use Rattle.rv_comp.specs.Bits as table
-use Rattle.rv_comp.specs.Table.{row, fields_of, place}
-use Rattle.rv_comp.specs.Halfwords.{halfword_of}
-use Rattle.rv_comp.specs.mirror.Encoding.{row_bit, row_fields, row_number, is_low, AreLow}
-use Rattle.rv_comp.specs.declared.form.Form16.{Form16}
-use Rattle.rv_comp.specs.declared.form.Form16.TheVariants.{CEbreak}
+use Rattle.rv_comp.proofs.Prelude.{◌≡◌, ℕ, ◌+◌, ◌*◌, ◌^◌, ◌<◌, true, refl, ap, ap₂, subst, sym, ◌∙◌, List, ◌∷◌, ◌≤◌, map, drop, suc, slice_index_or, length, arith, drop-cons, drop-length, pow_mono, pow-suc, row, fields_of, place, halfword_of, row_bit, row_fields, row_number, is_low, AreLow, Form16, CEbreak, ROWS}
 use Rattle.rv_comp.specs.declared.encode.Fields.{Fields}
+use Rattle.rv_comp.specs.Bits as table
 use Rattle.rv_comp.specs.declared.encode.rows.Bit as coded
-use Rattle.rv_comp.specs.declared.encode.rows.TheConstants.{ROWS}
 use Rattle.rv_comp.proofs.Whole.{all_below, all_below_at}
 
 -- ---- a row's number, bit by bit

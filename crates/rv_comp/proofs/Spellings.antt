@@ -1,19 +1,8 @@
 -- A list of bytes begins with at most one spelling.
-use Rattle.std.proofs.Common.{◌≡◌, ℕ, ◌%◌, ◌^◌, ◌<◌, refl, ap, subst, sym, ◌∙◌, Option, Some, List, arith, inl, inr}
-use Rattle.std.specs.Prelude.{slice_index}
-use Rattle.std.specs.Int.{w16, w32, from_le_bytes}
-use Rattle.rv_word.specs.declared.instr.Instr.{Instr}
-use Rattle.rv_word.specs.declared.instr.Instr.TheVariants.{Ecall}
-use Rattle.rv_word.specs.Spelling.{IsWordOf}
-use Rattle.rv_comp.specs.Table.{expansion}
-use Rattle.rv_comp.specs.Halfwords.{IsShortSpelling}
-use Rattle.rv_comp.specs.Laws.{OneSpelling, TwoLengths, EcallIsWide}
-use Rattle.rv_comp.specs.mirror.Decoding.{decoded}
-use Rattle.rv_comp.specs.declared.form.Form16.{Form16}
-use Rattle.rv_comp.specs.declared.form.Form16.TheVariants.{CEbreak}
+use Rattle.rv_comp.proofs.Prelude.{◌≡◌, ℕ, ◌%◌, ◌^◌, ◌<◌, refl, ap, subst, sym, ◌∙◌, Option, Some, List, arith, inl, inr, slice_index, w16, w32, from_le_bytes, Instr, Ecall, IsWordOf, expansion, IsShortSpelling, OneSpelling, TwoLengths, EcallIsWide, decoded, Form16, CEbreak, length, InRange, spelling, Spells, to_le_bytes, from_le_bytes-to_le_bytes_4}
 use Rattle.rv_comp.proofs.Exact.{decoded_only}
 use Rattle.rv_comp.proofs.Bytes.{short_length, wide_length, same_length, not_both}
-use Rattle.rv_word.proofs.Facts.{one_spelling}
+use Rattle.rv_word.proofs.Facts.{one_spelling, spellings_are_wide}
 
 pub some_one : (o : Option Form16) (f g : Form16) → o ≡ Some f → o ≡ Some g → f ≡ g
 some_one o f g a b = cc
@@ -77,3 +66,19 @@ no_ecall _ e = cc
 pub ecall_length : EcallIsWide
 ecall_length bytes n (inl s) = let f = s.spelled in absurd (no_ecall f.form f.expands)
 ecall_length bytes n (inr s) = s.size
+
+-- the bytes of an instruction's word spell it
+pub word_spells : (i : Instr) → InRange i → Spells (to_le_bytes w32 (spelling i)) i 4
+word_spells i ok = inr (record {
+  size = refl;
+  all = refl;
+  spelled = (ok, from_le_bytes-to_le_bytes_4 (spelling i) (spellings_are_wide (spelling i) i (ok, refl)).0);
+})
+
+pub spelled_length : (bytes : List ℕ) (i : Instr) (n : ℕ) → Spells bytes i n → length bytes ≡ n
+spelled_length bytes i n (inl s) = s.all ∙ sym s.size
+spelled_length bytes i n (inr s) = s.all ∙ sym s.size
+
+pub spelled_some : (bytes : List ℕ) (i : Instr) (n : ℕ) → Spells bytes i n → 0 < n
+spelled_some bytes i n (inl s) = omega (arith, s.size)
+spelled_some bytes i n (inr s) = omega (arith, s.size)

@@ -1,15 +1,5 @@
 -- Bytes that are read from addresses and written to them.
-use Rattle.std.proofs.Common.{◌≡◌, ◌≢◌, ℕ, zero, suc, ◌+◌, ◌-◌, ◌^◌, ◌<◌, ◌==◌, Bool, true, false, cond, eqb-true, subst, List, [], ◌∷◌, length, map, Option, Some, None, IsSome, is_some, slice_index, add-zero, refl, sym, ap, ◌∙◌, arith}
-use Rattle.std.proofs.lemmas.Grind.{common_steps}
-use Rattle.std.proofs.lemmas.List.FromFn.{length-map-range_with_len, get_or-map-range_with_len}
-use Rattle.std.proofs.lemmas.Option.{slice_get-get_or}
-use Rattle.std.specs.Cmp.{nat_cmp_total, unsigned_tied}
-use Rattle.std.specs.FinMap.{insert, get-insert}
-use Rattle.std.specs.List.{range_with_len, Contains}
-use Rattle.std.specs.Option.{option_or}
-use Rattle.rv_mem.specs.Bytes.{Bytes, byte_at, bytes_at, address_after, addresses, in_front}
-use Rattle.rv_mem.specs.Laws.{AddressesAreThese, Holds, ReadIsHeld, OthersStay, WrittenIsThere, WriteKeepsMemory}
-use Rattle.rv_mem.specs.private.Segment.{byte_in}
+use Rattle.rv_mem.proofs.Prelude.{◌≡◌, ◌≢◌, ℕ, zero, suc, ◌+◌, ◌-◌, ◌^◌, ◌<◌, ◌==◌, Bool, true, false, cond, eqb-true, subst, List, [], ◌∷◌, length, map, Option, Some, None, IsSome, is_some, slice_index, add-zero, refl, sym, ap, ◌∙◌, arith, common_steps, length-map-range_with_len, get_or-map-range_with_len, slice_get-get_or, nat_cmp_total, unsigned_tied, insert, get-insert, range_with_len, Contains, option_or, Bytes, byte_at, bytes_at, address_after, addresses, in_front, AddressesAreThese, Holds, ReadIsHeld, OthersStay, WrittenIsThere, WriteKeepsMemory, byte_in}
 use Rattle.rv_mem.proofs.Lookups.{get_with}
 
 -- ---- reading

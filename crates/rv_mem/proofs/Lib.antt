@@ -1,3 +1,4 @@
+pub mod Prelude
 pub mod Accesses
 pub mod Lookups
 pub mod PageReads

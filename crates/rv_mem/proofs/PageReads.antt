@@ -1,9 +1,5 @@
 -- Pages: the halfword and the word that stand at an address.
-use Rattle.std.proofs.Common.{◌^◌, ◌≡◌, ◌≢◌, ℕ, ◌+◌, ◌*◌, ◌/◌, ◌%◌, ◌<◌, ◌≤◌, ⊎_elim, get_or, length, List, [], ◌∷◌, Option, Some, None, refl, sym, ap, ◌∙◌, arith}
-use Rattle.std.specs.Prelude.{slice_index}
-use Rattle.std.specs.Option.{option_map}
-use Rattle.rv_mem.specs.Bytes.{byte_at, bytes_at, in_front, number_of, address_after, loaded}
-use Rattle.rv_mem.specs.Frames.{frame_of, cell, cell_at, ArePages, values_of}
+use Rattle.rv_mem.proofs.Prelude.{◌^◌, ◌≡◌, ◌≢◌, ℕ, ◌+◌, ◌*◌, ◌/◌, ◌%◌, ◌<◌, ◌≤◌, ⊎_elim, get_or, length, List, [], ◌∷◌, Option, Some, None, refl, sym, ap, ◌∙◌, arith, slice_index, option_map, byte_at, bytes_at, in_front, number_of, address_after, loaded, frame_of, cell, cell_at, ArePages, values_of}
 use Rattle.rv_mem.proofs.Paging.{is_marked, get_pages, read_is, one_or_not, missing, small_byte}
 
 -- ---- a halfword in one page

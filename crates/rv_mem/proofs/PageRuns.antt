@@ -1,19 +1,5 @@
 -- Pages: runs of bytes, and their marks.
-use Rattle.std.proofs.Common.{eqb-true, ◌^◌, ◌≡◌, ◌≢◌, ℕ, ◌+◌, ◌-◌, ◌*◌, ◌/◌, ◌%◌, ◌<◌, ◌≤◌, ◌==◌, ◌⊎◌, inl, inr, ⊎_elim, true, false, cond, zero, suc, nat_lt, length, List, [], ◌∷◌, ◌++◌, Option, Some, None, refl, sym, ap, ◌∙◌, subst, arith}
-use Rattle.std.proofs.lemmas.Bool.{eqb-false}
-use Rattle.std.specs.Prelude.{slice_index, replicate}
-use Rattle.std.specs.Option.{option_or}
-use Rattle.std.specs.Cmp.{nat_cmp_total}
-use Rattle.std.specs.FinMap.{get, same_map, nat_cmp-IsAntisymmetric}
-use Rattle.rv_mem.specs.Bytes.{Bytes, byte_at, address_after, addresses}
-use Rattle.rv_mem.specs.private.Frames.{run_of, Puts, MarksRun}
-use Rattle.rv_mem.specs.Frames.{frame_of, cell, cell_at, ArePages, values_of}
-use Rattle.std.specs.Prelude.{slice_get}
-use Rattle.std.proofs.lemmas.Option.{slice_get-get_or, slice_get_past}
-use Rattle.std.proofs.lemmas.List.{length-replicate}
-use Rattle.std.proofs.Common.{add-zero, length-append}
-use Rattle.rv_mem.specs.Bytes.{with_bytes, added}
-use Rattle.rv_mem.specs.private.Segment.{byte_in}
+use Rattle.rv_mem.proofs.Prelude.{eqb-true, ◌^◌, ◌≡◌, ◌≢◌, ℕ, ◌+◌, ◌-◌, ◌*◌, ◌/◌, ◌%◌, ◌<◌, ◌≤◌, ◌==◌, ◌⊎◌, inl, inr, ⊎_elim, true, false, cond, zero, suc, nat_lt, length, List, [], ◌∷◌, ◌++◌, Option, Some, None, refl, sym, ap, ◌∙◌, subst, arith, eqb-false, slice_index, replicate, option_or, nat_cmp_total, get, same_map, nat_cmp-IsAntisymmetric, Bytes, byte_at, address_after, addresses, run_of, Puts, MarksRun, frame_of, cell, cell_at, ArePages, values_of, slice_get, slice_get-get_or, slice_get_past, length-replicate, add-zero, length-append, with_bytes, added, byte_in}
 use Rattle.rv_mem.proofs.Lookups.{get_with}
 use Rattle.rv_mem.proofs.Paging.{is_marked, no_frame, get_pages}
 

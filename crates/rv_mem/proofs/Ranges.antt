@@ -1,12 +1,5 @@
 -- Ranges of addresses that go round past the last one.
-use Rattle.std.proofs.Common.{zero, suc, [], ◌∷◌, ◌++◌, length, replicate, get_or, length-append, ◌≡◌, ℕ, ◌+◌, ◌-◌, ◌%◌, ◌^◌, ◌<◌, ◌≤◌, min, Bool, true, false, List, IsSome, subst, sym, ap, ◌∙◌, arith}
-use Rattle.std.proofs.lemmas.List.{length-replicate}
-use Rattle.std.specs.Bool.{OnTrue, OnFalse}
-use Rattle.rv_mem.specs.declared.segment.Segment.{Segment}
-use Rattle.rv_mem.specs.Bytes.{Bytes, byte_at, Overlaps, IsFree, added, addresses, with_bytes}
-use Rattle.rv_mem.specs.Segment.{bytes_among}
-use Rattle.rv_mem.specs.private.Segment.{byte_among}
-use Rattle.rv_mem.specs.private.Ranges.{HasIn, HasNone}
+use Rattle.rv_mem.proofs.Prelude.{zero, suc, [], ◌∷◌, ◌++◌, length, replicate, get_or, length-append, ◌≡◌, ℕ, ◌+◌, ◌-◌, ◌%◌, ◌^◌, ◌<◌, ◌≤◌, min, Bool, true, false, List, IsSome, subst, sym, ap, ◌∙◌, arith, length-replicate, OnTrue, OnFalse, Segment, Bytes, byte_at, Overlaps, IsFree, added, addresses, with_bytes, bytes_among, byte_among, HasIn, HasNone}
 use Rattle.rv_mem.proofs.Lookups.{get_among, push_free}
 
 pub found_in : (r : Bool) (ss : List Segment) (from to : ℕ) → OnTrue r (HasIn (byte_among ss) from to) → OnTrue r (HasIn (byte_at (bytes_among ss)) from to)

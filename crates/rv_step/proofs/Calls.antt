@@ -1,19 +1,6 @@
 -- Which step calls, and that no step takes a byte away.
-use Rattle.std.proofs.Common.{◌≡◌, ℕ, ◌==◌, Bool, true, false, cond, List, [], ◌∷◌, Option, Some, None, IsSome, is_some, refl, sym, ap, subst, ◌∙◌}
-use Rattle.std.specs.FinMap.{insert}
-use Rattle.rv_word.specs.declared.instr.Instr.{Instr}
-use Rattle.rv_word.specs.declared.instr.Instr.TheVariants.{Load, Store, Ecall}
-use Rattle.rv_word.specs.declared.instr.LoadKind.{LoadKind}
-use Rattle.rv_word.specs.Numbers.{offset_by}
-use Rattle.rv_comp.specs.declared.front.Front.{Front}
-use Rattle.rv_comp.specs.declared.front.Front.TheVariants.{Read, Short, Bad}
-use Rattle.rv_mem.specs.Bytes.{Bytes, byte_at, bytes_at, addresses, with_bytes, loaded, stored}
-use Rattle.rv_step.specs.declared.outcome.Outcome.TheVariants.{Call, Trap}
+use Rattle.rv_step.proofs.Prelude.{◌≡◌, ℕ, ◌==◌, Bool, true, false, cond, List, [], ◌∷◌, Option, Some, None, IsSome, is_some, refl, sym, ap, subst, ◌∙◌, insert, Instr, Load, Store, Ecall, LoadKind, offset_by, Front, Read, Short, Bad, Bytes, byte_at, bytes_at, addresses, with_bytes, loaded, stored, Call, Trap, NoByteGoes, CallsAreEcalls, Hart, State, register, Stepped, Stands, next, unchanged, after_load, effect, IsAtPc, after_front, load_size, store_size}
 use Rattle.rv_step.specs.declared.outcome.Cause.TheVariants as cause
-use Rattle.rv_step.specs.Laws.{NoByteGoes, CallsAreEcalls}
-use Rattle.rv_step.specs.State.{Hart, State, register}
-use Rattle.rv_step.specs.Step.{Stepped, Stands, next, unchanged, after_load, effect, IsAtPc, after_front}
-use Rattle.rv_step.specs.Values.{load_size, store_size}
 use Rattle.rv_step.proofs.Bytes.{byte_at-insert}
 
 -- ---- no byte goes

@@ -1,17 +1,5 @@
 -- What is at pc, by one parcel and by two.
-use Rattle.std.proofs.Common.{◌≡◌, ℕ, ◌+◌, ◌*◌, ◌/◌, ◌%◌, ◌^◌, ◌<◌, List, [], ◌∷◌, length, map, take, Option, Some, None, refl, sym, ap, ◌∙◌, subst, arith, inl, inr, ◌⊎◌}
-use Rattle.std.specs.Int.{w16, w32, from_le_bytes}
-use Rattle.std.specs.List.{range_with_len}
-use Rattle.std.specs.Option.{option_map}
-use Rattle.rv_word.specs.declared.instr.Instr.{Instr}
-use Rattle.rv_word.specs.declared.length.Length.TheVariants.{Wide}
-use Rattle.rv_word.specs.Lengths.{length_of}
-use Rattle.rv_comp.specs.declared.front.Front.{Front}
-use Rattle.rv_comp.specs.declared.front.Front.TheVariants.{Read, Short, Bad}
-use Rattle.rv_comp.specs.Fronts.{Spells, SpellsNothing, IsCutShort, IsFront}
-use Rattle.rv_mem.specs.Bytes.{Bytes, IsMemory, byte_at, address_after, addresses, in_front, number_of, loaded}
-use Rattle.rv_step.specs.State.{State}
-use Rattle.rv_step.specs.Step.{present_then, present_at, IsAtPc}
+use Rattle.rv_step.proofs.Prelude.{◌≡◌, ℕ, ◌+◌, ◌*◌, ◌/◌, ◌%◌, ◌^◌, ◌<◌, List, [], ◌∷◌, length, map, take, Option, Some, None, refl, sym, ap, ◌∙◌, subst, arith, inl, inr, ◌⊎◌, w16, w32, from_le_bytes, range_with_len, option_map, Instr, Wide, length_of, Front, Read, Short, Bad, Spells, SpellsNothing, IsCutShort, IsFront, Bytes, IsMemory, byte_at, address_after, addresses, in_front, number_of, loaded, State, present_then, present_at, IsAtPc}
 use Rattle.rv_step.proofs.Standing.{from_front}
 use Rattle.rv_comp.proofs.Facts.{two_lengths}
 use Rattle.rv_word.proofs.Facts.{spellings_are_wide}

@@ -1,3 +1,4 @@
+pub mod Prelude
 pub mod Agreeing
 pub mod Bytes
 pub mod Calls

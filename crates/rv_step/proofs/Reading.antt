@@ -1,10 +1,5 @@
 -- The instruction at pc, by its bytes.
-use Rattle.std.proofs.Common.{◌≡◌, ℕ, ◌<◌, Option, Some, slice_index}
-use Rattle.rv_word.specs.declared.instr.Instr.{Instr}
-use Rattle.rv_mem.specs.Bytes.{byte_at, address_after}
-use Rattle.rv_step.specs.Laws.{OneInstruction}
-use Rattle.rv_step.specs.State.{State}
-use Rattle.rv_step.specs.Step.{Stands}
+use Rattle.rv_step.proofs.Prelude.{◌≡◌, ℕ, ◌<◌, Option, Some, slice_index, Instr, byte_at, address_after, OneInstruction, State, Stands}
 use Rattle.rv_comp.proofs.Facts.{one_spelling}
 use Rattle.rv_mem.proofs.Facts.{read_is_held}
 

@@ -1,18 +1,6 @@
 -- What a step leaves of the registers.
-use Rattle.std.proofs.Common.{◌≡◌, ◌≢◌, ℕ, ◌==◌, Bool, true, false, cond, List, set, get_or, Option, Some, None, is_some, refl, sym, ap, ◌∙◌}
-use Rattle.std.proofs.lemmas.List.{get_or-set_other}
-use Rattle.rv_word.specs.declared.instr.Instr.{Instr}
-use Rattle.rv_word.specs.declared.instr.Instr.TheVariants.{Op, OpImm, Load, Store, Branch, Jal, Jalr, Lui, Auipc}
-use Rattle.rv_word.specs.declared.instr.LoadKind.{LoadKind}
-use Rattle.rv_word.specs.Writes.{unless_x0, written}
-use Rattle.rv_word.specs.Numbers.{offset_by}
-use Rattle.rv_mem.specs.Bytes.{Bytes, bytes_at, addresses, loaded}
-use Rattle.rv_step.specs.declared.outcome.Outcome.TheVariants.{Trap}
+use Rattle.rv_step.proofs.Prelude.{◌≡◌, ◌≢◌, ℕ, ◌==◌, Bool, true, false, cond, List, set, get_or, Option, Some, None, is_some, refl, sym, ap, ◌∙◌, get_or-set_other, Instr, Op, OpImm, Load, Store, Branch, Jal, Jalr, Lui, Auipc, LoadKind, unless_x0, written, offset_by, Bytes, bytes_at, addresses, loaded, Trap, OtherRegistersStay, Hart, register, with_register, with_pc, past, Stepped, next, unchanged, after_load, effect, load_size, store_size, is_taken}
 use Rattle.rv_step.specs.declared.outcome.Cause.TheVariants as cause
-use Rattle.rv_step.specs.Laws.{OtherRegistersStay}
-use Rattle.rv_step.specs.State.{Hart, register, with_register, with_pc, past}
-use Rattle.rv_step.specs.Step.{Stepped, next, unchanged, after_load, effect}
-use Rattle.rv_step.specs.Values.{load_size, store_size, is_taken}
 use Rattle.rv_step.proofs.Steps.{effect_of}
 
 chosen : (b : Bool) (l : List ℕ) (rd v x : ℕ) → cond b None (Some rd) ≢ Some x → get_or (cond b l (set l rd v)) x 0 ≡ get_or l x 0

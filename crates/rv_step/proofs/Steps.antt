@@ -1,23 +1,6 @@
 -- What a step comes to.
-use Rattle.std.proofs.Common.{◌≡◌, ◌≢◌, ℕ, ◌-◌, ◌%◌, ◌^◌, ◌<◌, ◌⊎◌, inl, inr, Bool, true, false, cond, List, Option, Some, None, is_some, IsSome, refl, sym, ap, subst, ◌∙◌, arith}
-use Rattle.std.specs.List.{Contains}
-use Rattle.std.specs.Option.{option_map}
-use Rattle.rv_word.specs.declared.instr.Instr.{Instr}
-use Rattle.rv_word.specs.declared.instr.Instr.TheVariants.{Op, OpImm, Load, Store, Branch, Jal, Jalr, Lui, Auipc, Fence, Ecall, Ebreak}
-use Rattle.rv_word.specs.declared.instr.LoadKind.{LoadKind}
-use Rattle.rv_word.specs.declared.instr.StoreWidth.{StoreWidth}
-use Rattle.rv_word.specs.Spelling.{InRange}
-use Rattle.rv_word.specs.Numbers.{offset_by}
-use Rattle.rv_comp.specs.declared.front.Front.{Front}
-use Rattle.rv_comp.specs.declared.front.Front.TheVariants.{Read, Short, Bad}
-use Rattle.rv_mem.specs.Bytes.{Bytes, byte_at, bytes_at, addresses, number_of, loaded, stored}
-use Rattle.rv_step.specs.declared.outcome.Outcome.TheVariants.{Next, Trap}
+use Rattle.rv_step.proofs.Prelude.{◌≡◌, ◌≢◌, ℕ, ◌-◌, ◌%◌, ◌^◌, ◌<◌, ◌⊎◌, inl, inr, Bool, true, false, cond, List, Option, Some, None, is_some, IsSome, refl, sym, ap, subst, ◌∙◌, arith, Contains, option_map, Instr, Op, OpImm, Load, Store, Branch, Jal, Jalr, Lui, Auipc, Fence, Ecall, Ebreak, LoadKind, StoreWidth, InRange, offset_by, Front, Read, Short, Bad, Bytes, byte_at, bytes_at, addresses, number_of, loaded, stored, Next, Trap, Accesses, OneStep, SomeStep, StepIsEffect, StepKeepsState, StoppedStays, OtherBytesStay, AccessedIsThere, Hart, State, IsHart, IsState, register, past, Stepped, next, unchanged, after_load, effect, bytes_at_pc, IsAtPc, after_front, register_op, load_size, store_size}
 use Rattle.rv_step.specs.declared.outcome.Cause.TheVariants as cause
-use Rattle.rv_step.specs.Access.{Accesses}
-use Rattle.rv_step.specs.Laws.{OneStep, SomeStep, StepIsEffect, StepKeepsState, StoppedStays, OtherBytesStay, AccessedIsThere}
-use Rattle.rv_step.specs.State.{Hart, State, IsHart, IsState, register, past}
-use Rattle.rv_step.specs.Step.{Stepped, next, unchanged, after_load, effect, bytes_at_pc, IsAtPc, after_front}
-use Rattle.rv_step.specs.Values.{register_op, load_size, store_size}
 use Rattle.rv_step.proofs.Harts.{pc_is, after_is, register_is, moved_is}
 use Rattle.rv_step.proofs.Memories.{stored_is, loaded_fits}
 use Rattle.rv_step.proofs.Numbers.{word_fits, offset_even, result_fits, extended_fits, branch_is_even, jump_is_even}

@@ -1,5 +1,5 @@
 -- What an answer says of a text where it means the instruction, or is refused for the cause.
-use Rattle.rv_text.proofs.Words.{◌≡◌, ℕ, List, inr, ap, Result, Ok, Err, IfOk, IfErr, IfOk-weaker, Instr, InRange, TextCause, Takes, FollowsToken, Means, Refused, RefusedAt}
+use Rattle.rv_text.proofs.Prelude.{◌≡◌, ℕ, List, inr, ap, Result, Ok, Err, IfOk, IfErr, IfOk-weaker, Instr, InRange, TextCause, Takes, FollowsToken, Means, Refused, RefusedAt}
 use Rattle.rv_text.proofs.Meaning.{means}
 use Rattle.rv_text.proofs.OneMeaning.{one_meaning, in_range}
 use Rattle.rv_text.proofs.Refusals.{one_cause, meant_is_not_refused}

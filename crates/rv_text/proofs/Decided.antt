@@ -1,5 +1,5 @@
 -- What holds or does not.
-use Rattle.rv_text.proofs.Words.{◌≡◌, ℕ, ◌≤◌, Bool, true, false, List, ◌⊎◌, inl, inr, refl, sym, arith, bytes_eq, cases_lt, false≢true, bytes_eq-Decides}
+use Rattle.rv_text.proofs.Prelude.{◌≡◌, ℕ, ◌≤◌, Bool, true, false, List, ◌⊎◌, inl, inr, refl, sym, arith, bytes_eq, cases_lt, false≢true, bytes_eq-Decides}
 
 abbrev pub Decided : Type 0 → Type 0
 Decided P = P ⊎ (P → ⊥)

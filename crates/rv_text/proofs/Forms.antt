@@ -1,5 +1,5 @@
 -- How operands are read, part by part.
-use Rattle.rv_text.proofs.Words.{◌≡◌, ℕ, true, false, List, [], ◌∷◌, length, inl, inr, ◌≤◌, refl, sym, ◌∙◌, subst, arith, rules, nat_lt, Result, Ok, Err, OnOk, IfErr, IsTrue, ◌==◌, and_parts, or_cases, not-true, nat_tests, on_ok_weaker, Part, Name, Comma, Open, Close, TextCause, Takes, IsBlank, IsStuck, IsLabel, OperandValues, Stands, Departs, part_cause, Reads, SameAt, Suits, AllSuit, slot, is_fresh, has_no_repeat, KeepsOthers}
+use Rattle.rv_text.proofs.Prelude.{◌≡◌, ℕ, true, false, List, [], ◌∷◌, length, inl, inr, ◌≤◌, refl, sym, ◌∙◌, subst, arith, rules, nat_lt, Result, Ok, Err, OnOk, IfErr, IsTrue, ◌==◌, and_parts, or_cases, not-true, nat_tests, on_ok_weaker, Part, Name, Comma, Open, Close, TextCause, Takes, IsBlank, IsStuck, IsLabel, OperandValues, Stands, Departs, part_cause, Reads, SameAt, Suits, AllSuit, slot, is_fresh, has_no_repeat, KeepsOthers}
 use Rattle.rv_text.specs.declared.cause.TextCause.TheVariants as cause
 
 -- a token stands at a part by the operand there

@@ -1,5 +1,5 @@
 -- A text has one first token, and what is refused there has one cause, if what that token says has one.
-use Rattle.rv_text.proofs.Words.{◌≡◌, ℕ, List, ◌⊎◌, inl, inr, sym, ◌∙◌, subst₂, TextCause, Takes, Unformed, Missing}
+use Rattle.rv_text.proofs.Prelude.{◌≡◌, ℕ, List, ◌⊎◌, inl, inr, sym, ◌∙◌, subst₂, TextCause, Takes, Unformed, Missing}
 use Rattle.rv_text.proofs.Taking.{takes_unique, blank_takes_none}
 
 -- this holds for one cause at most

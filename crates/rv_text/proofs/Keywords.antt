@@ -1,5 +1,5 @@
 -- The table of keywords finds just those that the definitions give.
-use Rattle.rv_text.proofs.Words.{◌≡◌, ℕ, ◌<◌, nat_lt, List, sym, ap, ◌∙◌, Option, Some, None, IfSome, IfNone, refl, slice_index, slice_index_or, slice_get-get_or, same_Some, ltb-true, ALL, PLACES, Add, Addi, Lb, Sb, Beq, Mnemonic, Op, OpImm, Load, Store, Branch, Jal, Keyword, Nop, Word, name_of, keyword_name, mnemonic_in}
+use Rattle.rv_text.proofs.Prelude.{◌≡◌, ℕ, ◌<◌, nat_lt, List, sym, ap, ◌∙◌, Option, Some, None, IfSome, IfNone, refl, slice_index, slice_index_or, slice_get-get_or, same_Some, ltb-true, ALL, PLACES, Add, Addi, Lb, Sb, Beq, Mnemonic, Op, OpImm, Load, Store, Branch, Jal, Keyword, Nop, Word, name_of, keyword_name, mnemonic_in}
 use Rattle.rv_text.proofs.RegisterNames.{below}
 use Rattle.rv_text.specs.declared.keyword.Keyword.TheVariants as keyword
 use Rattle.rv_text.specs.declared.keyword.Directive.TheVariants.{Sandbox}

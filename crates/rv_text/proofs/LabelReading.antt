@@ -1,5 +1,5 @@
 -- What is read of labels at the front of a line.
-use Rattle.rv_text.proofs.Words.{◌≡◌, ◌↔◌, refl, sym, ap, subst, ℕ, Bool, true, false, not, IsTrue, List, [], ◌∷◌, ◌++◌, true≢false, codes, length, arith, ◌<◌, ◌⊎◌, inl, inr, ◌∙◌, take, drop, Option, Some, None, Bor, MatchOption, Takes, IsLabel, Begun, SoFar, IsFree, Labels, RefusesLabel, BeginsWithName, BeginsWithLabel, HasNoLabel, LabelsLead, IsTaken, LabelRefused, TextCause, body_of, token_len}
+use Rattle.rv_text.proofs.Prelude.{◌≡◌, ◌↔◌, refl, sym, ap, subst, ℕ, Bool, true, false, not, IsTrue, List, [], ◌∷◌, ◌++◌, true≢false, codes, length, arith, ◌<◌, ◌⊎◌, inl, inr, ◌∙◌, take, drop, Option, Some, None, Bor, MatchOption, Takes, IsLabel, Begun, SoFar, IsFree, Labels, RefusesLabel, BeginsWithName, BeginsWithLabel, HasNoLabel, LabelsLead, IsTaken, LabelRefused, TextCause, body_of, token_len}
 use Rattle.rv_text.specs.declared.cause.TextCause.TheVariants as cause
 use Rattle.rv_text.proofs.Taking.{takes_unique, takes_body, takes_found, takes_shorter}
 use Rattle.rv_text.proofs.Lexing.{token_at_mark}

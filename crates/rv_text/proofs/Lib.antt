@@ -1,4 +1,4 @@
-pub mod Words
+pub mod Prelude
 pub mod LabelReading
 pub mod Placing
 pub mod TextLines

@@ -1,5 +1,5 @@
 -- What the text after an instruction's name has to do with what the whole text means.
-use Rattle.rv_text.proofs.Words.{◌≡◌, ℕ, List, [], ◌∷◌, inl, inr, refl, sym, ap, ◌∙◌, subst, Bool, true, false, Result, IfOk, IfOk-weaker, Instr, TextCause, Mnemonic, Part, Rd, Rs1, Rs2, Number, Name, Mode, Takes, IsBlank, LeadsTo, AreTokens, name_of, form_of, OperandValues, Stands, HasForm, mode_name, Reads, SameAt, AgreesOn, FollowsName, FollowsToken, mnemonic_of, operands_of, Means}
+use Rattle.rv_text.proofs.Prelude.{◌≡◌, ℕ, List, [], ◌∷◌, inl, inr, refl, sym, ap, ◌∙◌, subst, Bool, true, false, Result, IfOk, IfOk-weaker, Instr, TextCause, Mnemonic, Part, Rd, Rs1, Rs2, Number, Name, Mode, Takes, IsBlank, LeadsTo, AreTokens, name_of, form_of, OperandValues, Stands, HasForm, mode_name, Reads, SameAt, AgreesOn, FollowsName, FollowsToken, mnemonic_of, operands_of, Means}
 use Rattle.rv_text.proofs.RegisterNames.{register_unique}
 use Rattle.rv_text.proofs.Numbers.{number_unique}
 use Rattle.rv_text.proofs.Taking.{takes_unique}

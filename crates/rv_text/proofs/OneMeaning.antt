@@ -1,5 +1,5 @@
 -- A text means one instruction at most, and that is in range.
-use Rattle.rv_text.proofs.Words.{◌≡◌, ℕ, List, inl, inr, refl, sym, ap, ◌∙◌, subst, ℤ, pos, negsuc, Instr, InRange, Mnemonic, OperandValues, IsBlank, form_of, Reads, AgreesOn, Follows, mnemonic_of, operands_of, OneMeaning, MeaningsAreInRange}
+use Rattle.rv_text.proofs.Prelude.{◌≡◌, ℕ, List, inl, inr, refl, sym, ap, ◌∙◌, subst, ℤ, pos, negsuc, Instr, InRange, Mnemonic, OperandValues, IsBlank, form_of, Reads, AgreesOn, Follows, mnemonic_of, operands_of, OneMeaning, MeaningsAreInRange}
 use Rattle.rv_word.specs.declared.instr.Instr.TheVariants as instr
 use Rattle.rv_text.specs.declared.mnemonic.Mnemonic.TheVariants as mnemonic
 use Rattle.rv_text.proofs.Keywords.{name_unique}

@@ -1,5 +1,5 @@
 -- What placing a name changes in the table of names, and what it leaves.
-use Rattle.rv_text.proofs.Words.{◌≡◌, ◌≢◌, refl, sym, subst, ◌∙◌, ℕ, zero, suc, ◌+◌, ◌<◌, ◌≤◌, ◌⊎◌, inl, inr, Bool, true, false, if◌then◌else◌, List, [], ◌∷◌, Some, map, slice_get, length, Contains, arith, AllByRecursion, bytes_eq, same_Some, none-some, cases_Bool, false≢true, bytes_eq-Decides, Named, Unknown, meaning, place_of, placed}
+use Rattle.rv_text.proofs.Prelude.{◌≡◌, ◌≢◌, refl, sym, subst, ◌∙◌, ℕ, zero, suc, ◌+◌, ◌<◌, ◌≤◌, ◌⊎◌, inl, inr, Bool, true, false, if◌then◌else◌, List, [], ◌∷◌, Some, map, slice_get, length, Contains, arith, AllByRecursion, bytes_eq, same_Some, none-some, cases_Bool, false≢true, bytes_eq-Decides, Named, Unknown, meaning, place_of, placed}
 use Rattle.std.specs.List.{IsDistinct}
 
 -- the next number

@@ -1,5 +1,5 @@
 -- What a printed word of each kind is: a name, a register, a decimal or a hexadecimal number.
-use Rattle.rv_text.proofs.Words.{◌≡◌, ℕ, ◌<◌, ◌^◌, Bool, true, false, ◌&&◌, List, [], ◌∷◌, ◌++◌, inl, inr, refl, sym, arith, suc, ℤ, pos, negsuc, codes, list_all, decimal, signed_decimal, digits, is_ascii_digit, decimal_is_IsNumeral, digits_is_IsNumeral, ints, and_parts, false≢true, nat_tests, Add, Addi, Lb, Sb, Beq, Mnemonic, Op, OpImm, Load, Store, Branch, Keyword, Nop, Word, keyword_name, NumberKind, Upper, IsNumber, IsToken, IsInReach, begins_name, continues_name, IsName, x_name, name_of, IsNumberOf, number_text}
+use Rattle.rv_text.proofs.Prelude.{◌≡◌, ℕ, ◌<◌, ◌^◌, Bool, true, false, ◌&&◌, List, [], ◌∷◌, ◌++◌, inl, inr, refl, sym, arith, suc, ℤ, pos, negsuc, codes, list_all, decimal, signed_decimal, digits, is_ascii_digit, decimal_is_IsNumeral, digits_is_IsNumeral, ints, and_parts, false≢true, nat_tests, Add, Addi, Lb, Sb, Beq, Mnemonic, Op, OpImm, Load, Store, Branch, Keyword, Nop, Word, keyword_name, NumberKind, Upper, IsNumber, IsToken, IsInReach, begins_name, continues_name, IsName, x_name, name_of, IsNumberOf, number_text}
 use Rattle.rv_text.specs.declared.keyword.Keyword.TheVariants as keyword
 use Rattle.rv_text.specs.declared.keyword.Directive.TheVariants.{Sandbox}
 use Rattle.rv_text.proofs.Lexing.{Passes, all_by, numeral_passes}

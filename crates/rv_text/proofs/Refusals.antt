@@ -1,5 +1,5 @@
 -- A text is refused for one cause at most, and for none where it means an instruction.
-use Rattle.rv_text.proofs.Words.{◌≡◌, ℕ, List, [], ◌∷◌, ◌⊎◌, inl, inr, sym, ap, ◌∙◌, subst, Instr, TextCause, Mnemonic, Part, IsName, name_of, form_of, OperandValues, Stands, Differs, Departs, Reads, FollowsToken, mnemonic_of, operands_of, OperandsDepart, RefusedAt, OneCause, MeantIsNotRefused}
+use Rattle.rv_text.proofs.Prelude.{◌≡◌, ℕ, List, [], ◌∷◌, ◌⊎◌, inl, inr, sym, ap, ◌∙◌, subst, Instr, TextCause, Mnemonic, Part, IsName, name_of, form_of, OperandValues, Stands, Differs, Departs, Reads, FollowsToken, mnemonic_of, operands_of, OperandsDepart, RefusedAt, OneCause, MeantIsNotRefused}
 use Rattle.rv_text.specs.declared.cause.TextCause.TheVariants as cause
 use Rattle.rv_text.proofs.Keywords.{name_unique}
 use Rattle.rv_text.proofs.Taking.{takes_unique, blank_takes_none}

@@ -1,5 +1,5 @@
 -- The table of the names of registers has just those that the definitions give.
-use Rattle.rv_text.proofs.Words.{◌≡◌, ℕ, ◌+◌, ◌*◌, ◌%◌, ◌<◌, Bool, true, ◌&&◌, ◌||◌, List, [], ◌∷◌, map, get_or, slice_index, slice_index_or, length, zero, suc, ◌⊎◌, inl, inr, ⊎_elim, refl, sym, ap, ◌∙◌, subst, subst₂, arith, zero-add, Some, bytes_eq, nat_lt, codes, ◌==◌, list_all, range_with_len, bytes_eq-Decides, length-range_with_len, get_or-range_with_len, AllPass-from_list_all, get_or_from_slice_get, slice_get-get_or, and_parts, ltb-true, eqb-true, or_cases, abi_names, x_name, IsRegister, register_names, name_at, register_at}
+use Rattle.rv_text.proofs.Prelude.{◌≡◌, ℕ, ◌+◌, ◌*◌, ◌%◌, ◌<◌, Bool, true, ◌&&◌, ◌||◌, List, [], ◌∷◌, map, get_or, slice_index, slice_index_or, length, zero, suc, ◌⊎◌, inl, inr, ⊎_elim, refl, sym, ap, ◌∙◌, subst, subst₂, arith, zero-add, Some, bytes_eq, nat_lt, codes, ◌==◌, list_all, range_with_len, bytes_eq-Decides, length-range_with_len, get_or-range_with_len, AllPass-from_list_all, get_or_from_slice_get, slice_get-get_or, and_parts, ltb-true, eqb-true, or_cases, abi_names, x_name, IsRegister, register_names, name_at, register_at}
 use Rattle.std.specs.Fmt.{digits}
 use Rattle.rv_text.proofs.Decided.{decided_same}
 use Rattle.rv_text.specs.declared.register.TheConstants.{PLACES}

@@ -1,20 +1,5 @@
 -- What was told to load or store does, and nothing else.
-use Rattle.std.proofs.Common.{◌≡◌, ℕ, ◌+◌, ◌*◌, ◌^◌, ◌<◌, Bool, true, false, ◌&&◌, ◌==◌, Some, None, refl, sym, ap, ◌∙◌, subst, inl, inr, arith, eqb-true}
-use Rattle.std.specs.Prelude.{◌||◌, not, nat_lt, if◌then◌else◌}
-use Rattle.std.proofs.lemmas.Bool.{and_parts, cases_eq, ltb-true}
-use Rattle.rv_word.specs.declared.access.Access.{Access}
-use Rattle.rv_word.specs.declared.parts.Parts.{Parts}
-use Rattle.rv_word.specs.declared.instr.LoadKind.{LoadKind}
-use Rattle.rv_word.specs.declared.instr.LoadKind.TheVariants.{Lb, Lh, Lw, Lbu, Lhu}
-use Rattle.rv_word.specs.declared.instr.StoreWidth.{StoreWidth}
-use Rattle.rv_word.specs.declared.instr.StoreWidth.TheVariants.{Sb, Sh, Sw}
-use Rattle.rv_word.specs.declared.instr.Instr.{Instr}
-use Rattle.rv_word.specs.declared.instr.Instr.TheVariants.{Load, Store}
-use Rattle.rv_word.specs.Numbers.{bits}
-use Rattle.rv_word.specs.Functs.{load_funct3, store_funct3}
-use Rattle.rv_word.specs.Accesses.{access, IsAccessOf}
-use Rattle.rv_word.specs.Spelling.{spelling, InRange, IsWordOf}
-use Rattle.rv_word.specs.private.Parts.{word_of, Fits, is_access}
+use Rattle.rv_word.proofs.Prelude.{◌≡◌, ℕ, ◌+◌, ◌*◌, ◌^◌, ◌<◌, Bool, true, false, ◌&&◌, ◌==◌, Some, None, refl, sym, ap, ◌∙◌, subst, inl, inr, arith, eqb-true, ◌||◌, not, nat_lt, if◌then◌else◌, and_parts, cases_eq, ltb-true, Access, Parts, LoadKind, Lb, Lh, Lw, Lbu, Lhu, StoreWidth, Sb, Sh, Sw, Instr, Load, Store, bits, load_funct3, store_funct3, access, IsAccessOf, spelling, InRange, IsWordOf, word_of, Fits, is_access}
 use Rattle.rv_word.proofs.Cut.{cut, cut_is}
 use Rattle.rv_word.proofs.OneSpelling.{one_spelling}
 use Rattle.rv_word.proofs.Tables.{imm12_of}

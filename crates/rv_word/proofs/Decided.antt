@@ -1,17 +1,5 @@
 -- Whether a number spells an instruction, decided: the one that its parts read as, or none.
-use Rattle.std.proofs.Common.{◌≡◌, ℕ, ◌/◌, ◌%◌, ◌^◌, ◌<◌, ◌⊎◌, inl, inr, ℤ, pos, negsuc, Bool, true, false, Option, Some, None, arith, refl, ap, subst, ◌∙◌}
-use Rattle.std.specs.Prelude.{◌≤ℤ◌, MatchBool}
-use Rattle.std.proofs.lemmas.Bool.{cases_lt, cases_eq}
-use Rattle.std.proofs.lemmas.Int.{ints}
-use Rattle.rv_word.specs.declared.parts.Parts.{Parts}
-use Rattle.rv_word.specs.declared.instr.ImmOp.{ImmOp}
-use Rattle.rv_word.specs.declared.instr.Instr.{Instr}
-use Rattle.rv_word.specs.declared.instr.Instr.TheVariants.{Op, OpImm, Load, Store, Branch, Jal, Jalr, Lui, Auipc, Fence, Ecall, Ebreak}
-use Rattle.rv_word.specs.Numbers.{modulo, minus, IsBetween, IsEven}
-use Rattle.rv_word.specs.Functs.{is_shift}
-use Rattle.rv_word.specs.Spelling.{spelling, InRange, IsWordOf, IsImm12, IsImmOf, IsBranchOffset, IsJumpOffset}
-use Rattle.rv_word.specs.Laws.{WordIsDecided}
-use Rattle.rv_word.specs.private.Parts.{word_of, Fits, SpellsNone}
+use Rattle.rv_word.proofs.Prelude.{◌≡◌, ℕ, ◌/◌, ◌%◌, ◌^◌, ◌<◌, ◌⊎◌, inl, inr, ℤ, pos, negsuc, Bool, true, false, Option, Some, None, arith, refl, ap, subst, ◌∙◌, ◌≤ℤ◌, MatchBool, cases_lt, cases_eq, ints, Parts, ImmOp, Instr, Op, OpImm, Load, Store, Branch, Jal, Jalr, Lui, Auipc, Fence, Ecall, Ebreak, modulo, minus, IsBetween, IsEven, is_shift, spelling, InRange, IsWordOf, IsImm12, IsImmOf, IsBranchOffset, IsJumpOffset, WordIsDecided, word_of, Fits, SpellsNone}
 use Rattle.rv_word.proofs.Cut.{parts, cut_is}
 use Rattle.rv_word.proofs.OneSpelling.{read, cut_read}
 use Rattle.rv_word.proofs.Wide.{are_wide}

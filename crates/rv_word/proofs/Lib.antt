@@ -7,4 +7,5 @@ mod OneSpelling
 mod Outlined
 mod Accessed
 mod Tables
+pub mod Prelude
 pub mod Facts

@@ -1,16 +1,5 @@
 -- Words that spell no instruction.
-use Rattle.std.proofs.Common.{◌≡◌, ℕ, ℤ, arith, refl, sym, ap, ◌≢◌, true, false, Option, Some, None, IfNone}
-use Rattle.rv_word.specs.declared.parts.Parts.{Parts}
-use Rattle.rv_word.specs.declared.instr.RegOp.{RegOp}
-use Rattle.rv_word.specs.declared.instr.ImmOp.{ImmOp}
-use Rattle.rv_word.specs.declared.instr.ImmOp.TheVariants.{Slli, Srli, Srai}
-use Rattle.rv_word.specs.declared.instr.LoadKind.{LoadKind}
-use Rattle.rv_word.specs.declared.instr.StoreWidth.{StoreWidth}
-use Rattle.rv_word.specs.declared.instr.Cond.{Cond}
-use Rattle.rv_word.specs.declared.instr.Instr.TheVariants.{Op, OpImm, Load, Store, Branch, Jal, Jalr, Lui, Auipc, Fence, Ecall, Ebreak}
-use Rattle.rv_word.specs.Functs.{op_funct3, op_funct7, imm_funct3, is_shift, shift_funct7, load_funct3, store_funct3, cond_funct3}
-use Rattle.rv_word.specs.Spelling.{spelling}
-use Rattle.rv_word.specs.private.Parts.{word_of, Fits, SpellsNone}
+use Rattle.rv_word.proofs.Prelude.{◌≡◌, ℕ, ℤ, arith, refl, sym, ap, ◌≢◌, true, false, Option, Some, None, IfNone, Parts, RegOp, ImmOp, Slli, Srli, Srai, LoadKind, StoreWidth, Cond, Op, OpImm, Load, Store, Branch, Jal, Jalr, Lui, Auipc, Fence, Ecall, Ebreak, op_funct3, op_funct7, imm_funct3, is_shift, shift_funct7, load_funct3, store_funct3, cond_funct3, word_of, Fits, SpellsNone}
 use Rattle.rv_word.proofs.Cut.{parts, cut, imm_cut, cut_is, opcode_of, opcode_is}
 
 -- the fields of two equal cuts are equal

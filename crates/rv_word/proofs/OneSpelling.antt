@@ -1,25 +1,5 @@
 -- No two instructions have one spelling: read is the way back from the parts.
-use Rattle.std.proofs.Common.{◌≡◌, ℕ, ◌+◌, ◌-◌, ◌*◌, ◌/◌, ◌%◌, ℤ, pos, negsuc, arith, refl, sym, ap, ◌∙◌, Option, Some, None, nat_lt, List, [], ◌∷◌, ◌==◌, ◌&&◌, if◌then◌else◌}
-use Rattle.std.specs.Option.{option_map}
-use Rattle.rv_word.specs.declared.parts.Parts.{Parts}
-use Rattle.rv_word.specs.declared.instr.RegOp.{RegOp}
-use Rattle.rv_word.specs.declared.instr.RegOp.TheVariants.{Add, Sub, Sll, Slt, Sltu, Xor, Srl, Sra, Or, And, Mul, Mulh, Mulhsu, Mulhu, Div, Divu, Rem, Remu}
-use Rattle.rv_word.specs.declared.instr.ImmOp.{ImmOp}
-use Rattle.rv_word.specs.declared.instr.ImmOp.TheVariants.{Addi, Slti, Sltiu, Xori, Ori, Andi, Slli, Srli, Srai}
-use Rattle.rv_word.specs.declared.instr.LoadKind.{LoadKind}
-use Rattle.rv_word.specs.declared.instr.LoadKind.TheVariants.{Lb, Lh, Lw, Lbu, Lhu}
-use Rattle.rv_word.specs.declared.instr.StoreWidth.{StoreWidth}
-use Rattle.rv_word.specs.declared.instr.StoreWidth.TheVariants.{Sb, Sh, Sw}
-use Rattle.rv_word.specs.declared.instr.Cond.{Cond}
-use Rattle.rv_word.specs.declared.instr.Cond.TheVariants.{Beq, Bne, Blt, Bge, Bltu, Bgeu}
-use Rattle.rv_word.specs.declared.instr.Instr.{Instr}
-use Rattle.rv_word.specs.declared.instr.Instr.TheVariants.{Op, OpImm, Load, Store, Branch, Jal, Jalr, Lui, Auipc, Fence, Ecall, Ebreak}
-use Rattle.rv_word.specs.Numbers.{modulo, bits, minus, IsBetween, IsEven}
-use Rattle.rv_word.specs.Functs.{op_funct3, op_funct7, imm_funct3, load_funct3, store_funct3, cond_funct3}
-use Rattle.rv_word.specs.Spelling.{spelling, InRange, IsImm12, IsImmOf}
-use Rattle.rv_word.specs.Laws.{OneSpelling}
-use Rattle.rv_word.specs.private.Parts.{word_of}
-use Rattle.std.specs.List.{find}
+use Rattle.rv_word.proofs.Prelude.{◌≡◌, ℕ, ◌+◌, ◌-◌, ◌*◌, ◌/◌, ◌%◌, ℤ, pos, negsuc, arith, refl, sym, ap, ◌∙◌, Option, Some, None, nat_lt, List, [], ◌∷◌, ◌==◌, ◌&&◌, if◌then◌else◌, option_map, Parts, RegOp, Add, Sub, Sll, Slt, Sltu, Xor, Srl, Sra, Or, And, Mul, Mulh, Mulhsu, Mulhu, Div, Divu, Rem, Remu, ImmOp, Addi, Slti, Sltiu, Xori, Ori, Andi, Slli, Srli, Srai, LoadKind, Lb, Lh, Lw, Lbu, Lhu, StoreWidth, Sb, Sh, Sw, Cond, Beq, Bne, Blt, Bge, Bltu, Bgeu, Instr, Op, OpImm, Load, Store, Branch, Jal, Jalr, Lui, Auipc, Fence, Ecall, Ebreak, modulo, bits, minus, IsBetween, IsEven, op_funct3, op_funct7, imm_funct3, load_funct3, store_funct3, cond_funct3, spelling, InRange, IsImm12, IsImmOf, OneSpelling, word_of, find}
 use Rattle.rv_word.proofs.Cut.{parts, cut, imm_cut, cut_fits, cut_sum, cut_is}
 
 -- the number whose two's complement is n, where half is the least n that stands for a negative number

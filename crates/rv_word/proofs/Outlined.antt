@@ -1,11 +1,5 @@
 -- What was decoded, as its outline.
-use Rattle.std.proofs.Common.{◌≡◌, ℕ, Option, Some, None, IfSome, IfNone, subst, refl, sym, ap, ◌∙◌}
-use Rattle.std.specs.Option.{option_map}
-use Rattle.rv_word.specs.declared.instr.Instr.{Instr}
-use Rattle.rv_word.specs.declared.outline.Outline.{Outline}
-use Rattle.rv_word.specs.Outlines.{outline, IsWordThat}
-use Rattle.rv_word.specs.private.Parts.{SpellsNone}
-use Rattle.rv_word.specs.Spelling.{IsWordOf}
+use Rattle.rv_word.proofs.Prelude.{◌≡◌, ℕ, Option, Some, None, IfSome, IfNone, subst, refl, sym, ap, ◌∙◌, option_map, Instr, Outline, outline, IsWordThat, SpellsNone, IsWordOf}
 
 mapped_found : (word : ℕ) (o : Option Instr) → IfSome o (IsWordOf word) → IfSome (option_map outline o) (IsWordThat word)
 mapped_found word (Some i) is = record { instr = i; spelled = is; does = refl }

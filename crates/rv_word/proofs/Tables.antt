@@ -1,24 +1,5 @@
 -- The tables of what computes, seen right at each opcode, funct3 and funct7.
-use Rattle.std.proofs.Common.{◌≡◌, ℕ, ◌+◌, ◌-◌, ◌*◌, ◌/◌, ◌%◌, ◌<◌, ◌^◌, Bool, true, false, ◌&&◌, ◌==◌, ℤ, pos, negsuc, refl, sym, ap, ◌∙◌, subst, inl, inr, arith, eqb-true, eq-eqb, Option, Some, None, bit_and}
-use Rattle.std.specs.Prelude.{slice_index, not, if◌then◌else◌}
-use Rattle.std.specs.Bool.{OnTrue}
-use Rattle.std.proofs.lemmas.Bool.{agree_below, agree_below_at, and_parts, cases_lt}
-use Rattle.std.proofs.lemmas.Int.{ints}
-use Rattle.std.proofs.lemmas.Nat.{and_mask}
-use Rattle.rv_word.specs.declared.parts.Parts.{Parts}
-use Rattle.rv_word.specs.declared.computing.TheConstants.{COMPUTING, CLASSES}
-use Rattle.rv_word.specs.declared.instr.RegOp.{RegOp}
-use Rattle.rv_word.specs.declared.instr.RegOp.TheVariants.{Add}
-use Rattle.rv_word.specs.declared.instr.ImmOp.{ImmOp}
-use Rattle.rv_word.specs.declared.instr.ImmOp.TheVariants.{Addi}
-use Rattle.rv_word.specs.declared.instr.Instr.{Instr}
-use Rattle.rv_word.specs.declared.instr.Instr.TheVariants.{Op, OpImm, Lui, Auipc}
-use Rattle.rv_word.specs.declared.outline.Outline.TheVariants.{Computes}
-use Rattle.rv_word.specs.Numbers.{modulo, bits}
-use Rattle.rv_word.specs.Functs.{op_funct3, op_funct7, imm_funct3, is_shift, shift_funct7}
-use Rattle.rv_word.specs.Outlines.{outline, IsWordThat}
-use Rattle.rv_word.specs.Spelling.{spelling, InRange, IsWordOf, IsImm12}
-use Rattle.rv_word.specs.private.Parts.{word_of, Fits}
+use Rattle.rv_word.proofs.Prelude.{◌≡◌, ℕ, ◌+◌, ◌-◌, ◌*◌, ◌/◌, ◌%◌, ◌<◌, ◌^◌, Bool, true, false, ◌&&◌, ◌==◌, ℤ, pos, negsuc, refl, sym, ap, ◌∙◌, subst, inl, inr, arith, eqb-true, eq-eqb, Option, Some, None, bit_and, slice_index, not, if◌then◌else◌, OnTrue, agree_below, agree_below_at, and_parts, cases_lt, ints, and_mask, Parts, COMPUTING, CLASSES, RegOp, Add, ImmOp, Addi, Instr, Op, OpImm, Lui, Auipc, Computes, modulo, bits, op_funct3, op_funct7, imm_funct3, is_shift, shift_funct7, outline, IsWordThat, spelling, InRange, IsWordOf, IsImm12, word_of, Fits}
 use Rattle.rv_word.proofs.Cut.{cut, imm_cut, cut_is}
 use Rattle.rv_word.proofs.OneSpelling.{op_at, imm_op_at, shift_at}
 

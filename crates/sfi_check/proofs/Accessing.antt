@@ -1,25 +1,5 @@
 -- Where an access through a register that points into the data falls, and which registers a write leaves alone.
-use Rattle.std.proofs.Common.{◌≡◌, ◌≢◌, ℕ, suc, ◌+◌, ◌-◌, ◌%◌, ◌^◌, ◌<◌, ◌≤◌, ◌⊎◌, List, length, get_or, set, false, ◌||◌, ◌==◌, refl, sym, ◌∙◌, subst, inl, inr, ⊎_elim, arith}
-use Rattle.std.specs.Prelude.{ℤ, pos, negsuc, ◌+ℤ◌, slice_index}
-use Rattle.std.specs.List.{Contains, range_with_len}
-use Rattle.std.proofs.lemmas.Int.{ints}
-use Rattle.std.proofs.lemmas.Bool.{cases_lt, or_parts, eqb-false, cond_both}
-use Rattle.std.proofs.lemmas.List.{get_or-set_other, length-set, length-map}
-use Rattle.std.proofs.lemmas.List.FromFn.{length-range_with_len, get_or-map-range_with_len}
-use Rattle.rv_word.specs.Numbers.{offset_by}
-use Rattle.rv_word.specs.declared.instr.Instr.TheVariants.{Load, Store}
-use Rattle.rv_word.specs.declared.instr.LoadKind.{LoadKind}
-use Rattle.rv_word.specs.declared.instr.LoadKind.TheVariants.{Lb, Lh, Lw, Lbu, Lhu}
-use Rattle.rv_word.specs.declared.instr.StoreWidth.{StoreWidth}
-use Rattle.rv_word.specs.declared.instr.StoreWidth.TheVariants.{Sb, Sh, Sw}
-use Rattle.rv_word.specs.Spelling.{InRange, IsImm12}
-use Rattle.rv_mem.specs.Bytes.{address_after, addresses}
-use Rattle.rv_step.specs.State.{Hart, with_register}
-use Rattle.rv_step.specs.Values.{word, load_size, store_size}
-use Rattle.sfi_image.specs.Spelling.{Part}
-use Rattle.sfi_image.specs.Parts.{IsRightPart}
-use Rattle.sfi_policy.specs.Registers.{is_reserved}
-use Rattle.sfi_check.specs.Regions.{InData, InGuard, HasReserved}
+use Rattle.sfi_check.proofs.Prelude.{◌≡◌, ◌≢◌, ℕ, suc, ◌+◌, ◌-◌, ◌%◌, ◌^◌, ◌<◌, ◌≤◌, ◌⊎◌, List, length, get_or, set, false, ◌||◌, ◌==◌, refl, sym, ◌∙◌, subst, inl, inr, ⊎_elim, arith, ℤ, pos, negsuc, ◌+ℤ◌, slice_index, Contains, range_with_len, ints, cases_lt, or_parts, eqb-false, cond_both, get_or-set_other, length-set, length-map, length-range_with_len, get_or-map-range_with_len, offset_by, Load, Store, LoadKind, Lb, Lh, Lw, Lbu, Lhu, StoreWidth, Sb, Sh, Sw, InRange, IsImm12, address_after, addresses, Hart, with_register, word, load_size, store_size, Part, IsRightPart, is_reserved, InData, InGuard, HasReserved}
 
 -- ---- sums
 

@@ -1,21 +1,5 @@
 -- A block of plain bundles: its findings, and the tally with them.
-use Rattle.std.proofs.Common.{◌≡◌, ℕ, zero, suc, ◌+◌, ◌*◌, ◌<◌, ◌≤◌, Bool, true, false, List, [], ◌++◌, length, get_or, take, drop, refl, sym, ap, ◌∙◌, subst, arith, append_assoc, inr}
-use Rattle.std.specs.Prelude.{slice_get}
-use Rattle.std.specs.Simd.{first_chunks}
-use Rattle.std.proofs.lemmas.List.{length-append, length-take, length-drop, drop-drop, append-nil, take_all}
-use Rattle.sfi_image.specs.declared.part.Gate.{Gate}
-use Rattle.sfi_image.specs.declared.fields.Fields.{Fields}
-use Rattle.sfi_image.specs.Gates.{is_gate_of}
-use Rattle.sfi_image.specs.Fronts.{Front, ArePlain, Follows}
-use Rattle.sfi_image.specs.Fronts.Front.{Empty, AfterMagic, AfterCount, InGates, InCode, InInit, Whole}
-use Rattle.sfi_image.specs.Keeping.{ReaderState, StandsFor, Leads, left}
-use Rattle.sfi_scan.specs.declared.bundle.BundlePlace.{BundlePlace}
-use Rattle.sfi_scan.specs.declared.finding.Finding.{Finding}
-use Rattle.sfi_masks.specs.Masks.{is_in}
-use Rattle.sfi_scan.specs.Bundles.{block_bundle, bundle_at}
-use Rattle.sfi_scan.specs.Findings.{AreBundleFindings, AreReadingFindings}
-use Rattle.sfi_check.specs.declared.tally.Tally.{Tally}
-use Rattle.sfi_check.specs.private.Tallies.{AddsFindings, AreFindingsOfPlain, AreFindingsSoFar, IsPlainFrom, IsSoFar, Tallies, findings_most}
+use Rattle.sfi_check.proofs.Prelude.{◌≡◌, ℕ, zero, suc, ◌+◌, ◌*◌, ◌<◌, ◌≤◌, Bool, true, false, List, [], ◌++◌, length, get_or, take, drop, refl, sym, ap, ◌∙◌, subst, arith, append_assoc, inr, slice_get, first_chunks, length-append, length-take, length-drop, drop-drop, append-nil, take_all, Gate, Fields, is_gate_of, Front, ArePlain, Follows, Empty, AfterMagic, AfterCount, InGates, InCode, InInit, Whole, ReaderState, StandsFor, Leads, left, BundlePlace, Finding, is_in, block_bundle, bundle_at, AreBundleFindings, AreReadingFindings, Tally, AddsFindings, AreFindingsOfPlain, AreFindingsSoFar, IsPlainFrom, IsSoFar, Tallies, findings_most}
 use Rattle.sfi_check.proofs.Tallying.{Adds, bundle_more, same_place, code_tallies}
 use Rattle.sfi_check.proofs.Leading.{joined, take_on}
 

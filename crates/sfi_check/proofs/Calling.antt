@@ -1,19 +1,5 @@
 -- Accepted code calls with its stack pointer in the data region.
-use Rattle.std.proofs.Common.{◌≡◌, ℕ, zero, suc, ◌+◌, List, [], ◌∷◌, Option, Some, None, refl, sym, ap, ◌∙◌, subst, arith}
-use Rattle.std.specs.List.{All}
-use Rattle.rv_word.specs.declared.instr.Instr.TheVariants.{Ecall}
-use Rattle.rv_step.specs.State.{State}
-use Rattle.rv_step.specs.Step.{Stands}
-use Rattle.sfi_image.specs.Spelling.{Part}
-use Rattle.sfi_image.specs.Parts.{AreRight}
-use Rattle.sfi_scan.specs.declared.finding.Finding.{Finding}
-use Rattle.sfi_scan.specs.Findings.{AreFindings, AreFindingsFrom}
-use Rattle.sfi_check.specs.Regions.{StackInData}
-use Rattle.sfi_check.specs.Runs.{Turn, IsRun, after_turn}
-use Rattle.sfi_check.specs.Stack.{after_turns, CallsWithStack, AllCallWithStack}
-use Rattle.sfi_check.specs.Places.{IsCleanPart, IsGood, IsGoodIf}
-use Rattle.sfi_check.specs.Laws.{CleanCallsWithStack, GoesOnSafely}
-use Rattle.sfi_check.specs.Verdict.{IsClean}
+use Rattle.sfi_check.proofs.Prelude.{◌≡◌, ℕ, zero, suc, ◌+◌, List, [], ◌∷◌, Option, Some, None, refl, sym, ap, ◌∙◌, subst, arith, All, Ecall, State, Stands, Part, AreRight, Finding, AreFindings, AreFindingsFrom, StackInData, Turn, IsRun, after_turn, after_turns, CallsWithStack, AllCallWithStack, IsCleanPart, IsGood, IsGoodIf, CleanCallsWithStack, GoesOnSafely, IsClean}
 use Rattle.sfi_check.proofs.Places.{nothing_before, present}
 use Rattle.sfi_check.proofs.Stacking.{is_of_pair, stack_here}
 use Rattle.sfi_check.proofs.Safe.{stays_safe, first_apart, others_right}

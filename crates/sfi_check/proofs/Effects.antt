@@ -1,34 +1,6 @@
 -- What each instruction at a place without a finding does: it accesses the data and the guards, calls at a gate, and goes on to a place.
-use Rattle.std.proofs.Common.{◌≡◌, ℕ, ◌+◌, ◌%◌, ◌^◌, ◌<◌, ◌≤◌, ◌⊎◌, ◌∷◌, length, Option, Some, None, Bool, true, false, cond, not, ◌==◌, refl, sym, ap, ◌∙◌, subst, ⊎_elim, arith}
-use Rattle.std.specs.Prelude.{◌&&◌, ℤ, pos, negsuc, is_some, slice_index}
-use Rattle.std.proofs.lemmas.Bool.{and_parts, or_cases, eqb-true, eqb-false, not-false}
-use Rattle.rv_word.specs.Numbers.{offset_by}
-use Rattle.rv_word.specs.declared.instr.Instr.{Instr}
-use Rattle.rv_word.specs.declared.instr.Instr.TheVariants.{Op, OpImm, Load, Store, Branch, Jal, Jalr, Lui, Auipc, Fence, Ecall, Ebreak}
-use Rattle.rv_word.specs.declared.instr.LoadKind.{LoadKind}
-use Rattle.rv_word.specs.Spelling.{InRange}
-use Rattle.rv_word.specs.Writes.{destination, is_register}
-use Rattle.sfi_policy.specs.Formats.{has_stack, is_stack}
-use Rattle.rv_mem.specs.Bytes.{Bytes, bytes_at, address_after, addresses, loaded, stored}
-use Rattle.rv_step.specs.declared.outcome.Outcome.{Outcome}
-use Rattle.rv_step.specs.declared.outcome.Outcome.TheVariants.{Next, Call, Trap}
+use Rattle.sfi_check.proofs.Prelude.{◌≡◌, ℕ, ◌+◌, ◌%◌, ◌^◌, ◌<◌, ◌≤◌, ◌⊎◌, ◌∷◌, length, Option, Some, None, Bool, true, false, cond, not, ◌==◌, refl, sym, ap, ◌∙◌, subst, ⊎_elim, arith, ◌&&◌, ℤ, pos, negsuc, is_some, slice_index, and_parts, or_cases, eqb-true, eqb-false, not-false, offset_by, Instr, Op, OpImm, Load, Store, Branch, Jal, Jalr, Lui, Auipc, Fence, Ecall, Ebreak, LoadKind, InRange, destination, is_register, has_stack, is_stack, Bytes, bytes_at, address_after, addresses, loaded, stored, Outcome, Next, Call, Trap, Accesses, Hart, register, with_register, with_pc, past, even_of, effect, after_load, next, unchanged, load_size, store_size, extended, is_taken, Part, code_region, IsBundleStart, IsRightPart, BundlePlace, is_reserved, follows_data_pair, follows_code_pair, writes_stack, is_jump, Place, is_empty, is_bundle_start, breaks_ecall, breaks_reserved, breaks_access, breaks_jump, breaks_target, breaks_stack, may_access, ends_region, InData, InGuard, IsGate, HasReserved, StackInData, Leaves, WritesResult, StackInDataBefore, IsAtPlace}
 use Rattle.rv_step.specs.declared.outcome.Cause.TheVariants as cause
-use Rattle.rv_step.specs.Access.{Accesses}
-use Rattle.rv_step.specs.State.{Hart, register, with_register, with_pc, past, even_of}
-use Rattle.rv_step.specs.Step.{effect, after_load, next, unchanged}
-use Rattle.rv_step.specs.Values.{load_size, store_size, extended, is_taken}
-use Rattle.sfi_image.specs.Spelling.{Part}
-use Rattle.sfi_image.specs.Spans.{code_region}
-use Rattle.sfi_image.specs.Regions.{IsBundleStart}
-use Rattle.sfi_image.specs.Parts.{IsRightPart}
-use Rattle.sfi_scan.specs.declared.bundle.BundlePlace.{BundlePlace}
-use Rattle.sfi_policy.specs.Registers.{is_reserved}
-use Rattle.sfi_scan.specs.Pairs.{follows_data_pair, follows_code_pair}
-use Rattle.sfi_scan.specs.Stack.{writes_stack, is_jump}
-use Rattle.sfi_scan.specs.Rules.{Place, is_empty, is_bundle_start, breaks_ecall, breaks_reserved, breaks_access, breaks_jump, breaks_target, breaks_stack, may_access, ends_region}
-use Rattle.sfi_check.specs.Regions.{InData, InGuard, IsGate, HasReserved, StackInData}
-use Rattle.sfi_check.specs.Leaving.{Leaves, WritesResult}
-use Rattle.sfi_check.specs.Places.{StackInDataBefore, IsAtPlace}
 use Rattle.sfi_check.proofs.Accessing.{near_access, load_most, store_most, load_range, store_range, kept, count_kept, reserved_kept}
 use Rattle.sfi_check.proofs.Stacking.{is_of_pair, stack_here, stack_after, jump_keeps}
 use Rattle.sfi_check.proofs.PairResult.{leaves_after}

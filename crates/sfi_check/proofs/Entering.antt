@@ -1,18 +1,5 @@
 -- A sandbox with a right layout can be entered.
-use Rattle.std.proofs.Common.{◌≡◌, ◌≢◌, ℕ, zero, suc, ◌+◌, ◌-◌, ◌%◌, ◌^◌, ◌<◌, ◌≤◌, ◌==◌, ◌⊎◌, Bool, true, false, cond, List, [], ◌∷◌, length, Option, Some, None, inl, inr, refl, sym, ap, subst, ◌∙◌, arith}
-use Rattle.std.specs.Prelude.{slice_index}
-use Rattle.std.specs.Cmp.{nat_cmp_total, unsigned_tied}
-use Rattle.std.specs.Ordering.{nat_cmp}
-use Rattle.std.specs.FinMap.{empty, get-empty, insert, get-insert}
-use Rattle.rv_mem.specs.Bytes.{Bytes, IsMemory, byte_at}
-use Rattle.sfi_image.specs.Spelling.{Part}
-use Rattle.sfi_image.specs.Spans.{AreApart, code_region, guarded_region}
-use Rattle.sfi_image.specs.Parts.{IsRightPart}
-use Rattle.rv_step.specs.State.{Hart, IsHart}
-use Rattle.sfi_image.specs.Regions.{IsBundleStart}
-use Rattle.sfi_check.specs.Regions.{InGuard, HasReserved, StackInData}
-use Rattle.sfi_check.specs.Runs.{IsEntry}
-use Rattle.sfi_check.specs.Laws.{CanBeEntered}
+use Rattle.sfi_check.proofs.Prelude.{◌≡◌, ◌≢◌, ℕ, zero, suc, ◌+◌, ◌-◌, ◌^◌, ◌<◌, ◌≤◌, ◌==◌, ◌⊎◌, Bool, true, false, cond, List, [], ◌∷◌, length, Option, Some, None, inl, inr, refl, sym, ap, subst, ◌∙◌, arith, slice_index, nat_cmp_total, unsigned_tied, nat_cmp, empty, get-empty, insert, get-insert, Bytes, IsMemory, byte_at, Part, AreApart, code_region, guarded_region, IsRightPart, Hart, IsHart, IsBundleStart, InGuard, HasReserved, StackInData, IsEntry, CanBeEntered}
 use Rattle.sfi_image.proofs.Facts.{code_ends}
 
 -- bytes from an address on, and nothing else

@@ -1,21 +1,8 @@
 -- What a feed holds.
-use Rattle.std.proofs.Common.{◌≡◌, ◌∙◌, ◌≤◌, ◌+◌, ℕ, List, [], ◌++◌, true, false, refl, Option, None, Some, take, length, sym, ap, subst, arith, inl, inr, append_assoc}
-use Rattle.std.specs.Prelude.{is_some}
-use Rattle.std.proofs.lemmas.List.{append-nil, length-take, length-append}
-use Rattle.std.proofs.Math.Seq.{take-append_seam}
-use Rattle.sfi_image.specs.declared.want.Want.{Want}
+use Rattle.sfi_check.proofs.Prelude.{◌≡◌, ◌∙◌, ◌≤◌, ◌+◌, ℕ, List, [], ◌++◌, true, false, refl, Option, None, Some, take, length, sym, ap, subst, arith, inl, inr, append_assoc, is_some, append-nil, length-take, length-append, take-append_seam, Want, IsFault, Front, want_of, IsLess, HasFaultNumberWhateverFollows, Empty, AfterMagic, AfterCount, InGates, InCode, InInit, Whole, ReaderState, StandsFor, Feed, Tally, IsSoFar, IsCut, verdict_of, IsFed, IsFedBy, IsHeld, IsVerdictOn}
 use Rattle.sfi_image.specs.declared.want.Want.TheVariants as wants
 use Rattle.sfi_image.specs.declared.want.Next.TheVariants as next
-use Rattle.sfi_image.specs.Faults.{IsFault}
-use Rattle.sfi_image.specs.Fronts.{Front, want_of, IsLess, HasFaultNumberWhateverFollows}
-use Rattle.sfi_image.specs.Fronts.Front.{Empty, AfterMagic, AfterCount, InGates, InCode, InInit, Whole}
-use Rattle.sfi_image.specs.Keeping.{ReaderState, StandsFor}
-use Rattle.sfi_check.specs.declared.feed.Feed.{Feed}
 use Rattle.sfi_check.specs.declared.stream_answer.StreamAnswer.TheVariants as answers
-use Rattle.sfi_check.specs.declared.tally.Tally.{Tally}
-use Rattle.sfi_check.specs.private.Tallies.{IsSoFar, IsCut, verdict_of}
-use Rattle.sfi_check.specs.Feeds.{IsFed, IsFedBy, IsHeld}
-use Rattle.sfi_check.specs.Streams.{IsVerdictOn}
 use Rattle.sfi_check.proofs.OneVerdict.{on_fault}
 use Rattle.sfi_check.proofs.Judging.{ended_whole, ended_short}
 

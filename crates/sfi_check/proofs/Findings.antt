@@ -1,13 +1,5 @@
 -- The findings of one sandbox more.
-use Rattle.std.proofs.Common.{◌≡◌, ℕ, ◌+◌, ◌<◌, ◌≤◌, List, [], ◌∷◌, ◌++◌, length, get_or, take, refl, sym, ap, ◌∙◌, subst, arith, append_assoc, add-zero}
-use Rattle.std.specs.List.{All}
-use Rattle.std.proofs.lemmas.List.{take_more, append-nil, take_all, length-map, length-take, get_or-map}
-use Rattle.sfi_policy.specs.declared.format.Format.{Format}
-use Rattle.sfi_image.specs.declared.part.SandboxPart.{SandboxPart}
-use Rattle.sfi_image.specs.Spelling.{Part, view, views}
-use Rattle.sfi_image.specs.Parts.{IsRightPart, IsRightLayout}
-use Rattle.sfi_scan.specs.declared.finding.Finding.{Finding}
-use Rattle.sfi_scan.specs.Findings.{AreFindings, AreFindingsFrom, AreImageFindings}
+use Rattle.sfi_check.proofs.Prelude.{◌≡◌, ℕ, ◌+◌, ◌<◌, ◌≤◌, List, [], ◌∷◌, ◌++◌, length, get_or, take, refl, sym, ap, ◌∙◌, subst, arith, append_assoc, add-zero, All, take_more, append-nil, take_all, length-map, length-take, get_or-map, Format, SandboxPart, Part, view, views, IsRightPart, IsRightLayout, Finding, AreFindings, AreFindingsFrom, AreImageFindings}
 
 pub findings_append : (n m : ℕ) (parts : List Part) (p : Part) (found last : List Finding) → AreFindingsFrom n parts found → AreFindings m p last → m ≡ n + length parts → AreFindingsFrom n (parts ++ p ∷ []) (found ++ last)
 findings_append n m [] p found last h here e =

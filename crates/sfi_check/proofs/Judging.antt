@@ -1,22 +1,8 @@
 -- The answer on a stream.
-use Rattle.std.proofs.Common.{◌≡◌, ℕ, ◌<◌, true, false, List, [], ◌∷◌, ◌++◌, length, Option, None, refl, sym, ap, ◌∙◌, subst, arith, append_assoc, inr}
-use Rattle.std.specs.Prelude.{slice_get}
+use Rattle.sfi_check.proofs.Prelude.{◌≡◌, ℕ, ◌<◌, true, false, List, [], ◌∷◌, ◌++◌, length, Option, None, refl, sym, ap, ◌∙◌, subst, arith, append_assoc, inr, slice_get, Part, IsFault, IsImage, Front, front, HasFaultNumberWhateverFollows, Empty, AfterMagic, AfterCount, InGates, InCode, InInit, Whole, ReaderState, StandsFor, left, left_most, Finding, AreImageFindings, StreamAnswer, Tally, Tallies, IsSoFar, IsCut, verdict_by, verdict_of, HasFindings, IsVerdictOn, AreHandedOver}
 use Rattle.sfi_image.specs.declared.fault.LayoutFault.TheVariants as faults
 use Rattle.sfi_image.specs.declared.want.Next.TheVariants as next
-use Rattle.sfi_image.specs.Spelling.{Part}
-use Rattle.sfi_image.specs.Faults.{IsFault}
-use Rattle.sfi_image.specs.Images.{IsImage}
-use Rattle.sfi_image.specs.Fronts.{Front, front, HasFaultNumberWhateverFollows}
-use Rattle.sfi_image.specs.Fronts.Front.{Empty, AfterMagic, AfterCount, InGates, InCode, InInit, Whole}
-use Rattle.sfi_image.specs.Keeping.{ReaderState, StandsFor, left, left_most}
-use Rattle.sfi_scan.specs.declared.finding.Finding.{Finding}
-use Rattle.sfi_scan.specs.Findings.{AreImageFindings}
-use Rattle.sfi_check.specs.declared.stream_answer.StreamAnswer.{StreamAnswer}
 use Rattle.sfi_check.specs.declared.stream_answer.StreamAnswer.TheVariants as answers
-use Rattle.sfi_check.specs.declared.tally.Tally.{Tally}
-use Rattle.sfi_check.specs.private.Tallies.{Tallies, IsSoFar, IsCut, verdict_by, verdict_of}
-use Rattle.sfi_check.specs.Verdict.{HasFindings}
-use Rattle.sfi_check.specs.Streams.{IsVerdictOn, AreHandedOver}
 use Rattle.sfi_check.proofs.OneVerdict.{on_fault, on_accepted, on_findings}
 use Rattle.sfi_check.proofs.Safe.{all_safe}
 use Rattle.sfi_image.proofs.Facts.{cut_short, trails, whole_is_image}

@@ -1,3 +1,4 @@
+pub mod Prelude
 pub mod Accessing
 pub mod Counts
 pub mod Effects

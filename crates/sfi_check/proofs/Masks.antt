@@ -1,13 +1,5 @@
 -- A mask and an or put any number into a region.
-use Rattle.std.proofs.Common.{◌≡◌, ℕ, ◌+◌, ◌-◌, ◌*◌, ◌/◌, ◌%◌, ◌^◌, ◌<◌, ◌≤◌, ap, ◌∙◌, ⊎_elim, arith}
-use Rattle.std.specs.Int.Bits.{bit_and, bit_or}
-use Rattle.std.proofs.lemmas.Nat.{and_mask, or_shifted, or_comm, mod_below, pow_pos, pow-add, pow_below}
-use Rattle.std.proofs.lemmas.Nat.Bits.{and_high}
-use Rattle.std.proofs.lemmas.Bool.{cases_lt}
-use Rattle.sfi_policy.specs.declared.format.Format.{Format}
-use Rattle.sfi_policy.specs.declared.format.Format.TheVariants.{Sfi1, Sfi2}
-use Rattle.sfi_policy.specs.Formats.{code_most}
-use Rattle.sfi_image.specs.Regions.{IsRegion}
+use Rattle.sfi_check.proofs.Prelude.{◌≡◌, ℕ, ◌+◌, ◌-◌, ◌*◌, ◌/◌, ◌%◌, ◌^◌, ◌<◌, ◌≤◌, ap, ◌∙◌, ⊎_elim, arith, bit_and, bit_or, and_mask, or_shifted, or_comm, mod_below, pow_pos, pow-add, pow_below, and_high, cases_lt, Format, Sfi1, Sfi2, code_most, IsRegion}
 
 -- no code region is larger than this
 pub code_at_most : (format : Format) → code_most format ≤ 1048576

@@ -1,21 +1,9 @@
 -- What a place without a finding keeps, and that the machine goes on from it to a place again.
-use Rattle.std.proofs.Common.{◌≡◌, ◌≢◌, ℕ, ◌+◌, ◌*◌, ◌<◌, ◌≤◌, List, [], ◌∷◌, length, take, drop, Bool, true, false, not, ◌&&◌, ◌==◌, refl, ap, ◌∙◌, subst, arith, length-take, length-drop}
-use Rattle.std.proofs.lemmas.Bool.{eqb-false}
-use Rattle.std.proofs.lemmas.List.{drop-drop}
-use Rattle.rv_comp.specs.Fronts.{Spells}
-use Rattle.rv_mem.specs.Bytes.{address_after}
-use Rattle.rv_step.specs.State.{Hart}
-use Rattle.sfi_image.specs.Spelling.{Part}
-use Rattle.sfi_scan.specs.declared.rule.Rule.TheVariants.{V3, V4, V5, V6, V7, V8, V10}
-use Rattle.sfi_scan.specs.Bundles.{place_of, bundle_bytes}
-use Rattle.sfi_scan.specs.Readings.{Piece, IsReading, rest_of}
-use Rattle.sfi_scan.specs.Rules.{Place, breaks_ecall, breaks_reserved, breaks_access, breaks_jump, breaks_target, breaks_end, breaks_stack, ends_region, is_empty}
-use Rattle.sfi_scan.specs.Findings.{lowest, all_rules, findings_from}
-use Rattle.sfi_check.specs.Leaving.{Leaves}
-use Rattle.sfi_check.specs.Places.{IsCleanPart, StackInDataBefore, IsAtPlace}
+use Rattle.sfi_check.proofs.Prelude.{◌≡◌, ◌≢◌, ℕ, ◌+◌, ◌*◌, ◌<◌, ◌≤◌, List, [], ◌∷◌, length, take, drop, Bool, true, false, not, ◌&&◌, ◌==◌, refl, ap, ◌∙◌, subst, arith, eqb-false, drop-drop, Spells, address_after, Hart, Part, V3, V4, V5, V6, V7, V8, V10, place_of, bundle_bytes, Piece, IsReading, rest_of, Place, breaks_ecall, breaks_reserved, breaks_access, breaks_jump, breaks_target, breaks_end, breaks_stack, ends_region, is_empty, lowest, all_rules, findings_from, Leaves, IsCleanPart, StackInDataBefore, IsAtPlace}
+use Rattle.std.proofs.Common.{length-take, length-drop}
 use Rattle.sfi_scan.proofs.Lowest.{kept}
 use Rattle.sfi_image.proofs.Facts.{whole_bundles, code_ends}
-use Rattle.sfi_check.proofs.Places.{spelled_length, spelled_some, nothing_before, at_start, bundle_length, here_within}
+use Rattle.sfi_check.proofs.Places.{nothing_before, at_start, bundle_length, here_within}
 
 -- none of the rules is broken at a place
 pub record KeepsRules (x : Place) : Type 0 where

@@ -1,22 +1,6 @@
 -- Bytes have one verdict.
-use Rattle.std.proofs.Common.{◌≡◌, ◌≢◌, ℕ, List, [], ◌∷◌, ◌++◌, Bool, true, length, Some, Result, Ok, Err, refl, sym, ap, ◌∙◌, subst, inl, inr, ◌⊎◌}
-use Rattle.std.specs.Prelude.{slice_get}
-use Rattle.std.proofs.lemmas.List.{append-nil}
-use Rattle.sfi_image.specs.declared.fault.LayoutFault.{LayoutFault}
-use Rattle.sfi_image.specs.Spelling.{Part}
-use Rattle.sfi_image.specs.Images.{IsImage}
-use Rattle.sfi_image.specs.Faults.{IsFault, number_of}
-use Rattle.sfi_image.specs.Fronts.{HasFaultNumberWhateverFollows}
-use Rattle.sfi_scan.specs.declared.finding.Finding.{Finding}
-use Rattle.sfi_scan.specs.Findings.{AreImageFindings}
-use Rattle.sfi_check.specs.declared.refusal.Refusal.{Refusal}
-use Rattle.sfi_check.specs.declared.refusal.Refusal.TheVariants.{Layout, Findings, Memory}
-use Rattle.sfi_check.specs.declared.stream_answer.StreamAnswer.{StreamAnswer}
+use Rattle.sfi_check.proofs.Prelude.{◌≡◌, ◌≢◌, ℕ, List, [], ◌∷◌, ◌++◌, Bool, true, length, Some, Result, Ok, Err, refl, sym, ap, ◌∙◌, subst, inl, inr, ◌⊎◌, slice_get, append-nil, LayoutFault, Part, IsImage, IsFault, number_of, HasFaultNumberWhateverFollows, Finding, AreImageFindings, Refusal, Layout, Findings, Memory, StreamAnswer, AllRunSafely, IsAccepted, HasFindings, bundle_count, IsVerdictOn, IsFaultOf, AreCounted, Answers, IsReadOf, SaysSame, OneListOfFindings, NeverAcceptedWithFindings, VerdictIsOnAll, OneVerdict, StreamSaysSame}
 use Rattle.sfi_check.specs.declared.stream_answer.StreamAnswer.TheVariants as answers
-use Rattle.sfi_check.specs.Safety.{AllRunSafely}
-use Rattle.sfi_check.specs.Verdict.{IsAccepted, HasFindings, bundle_count}
-use Rattle.sfi_check.specs.Streams.{IsVerdictOn, IsFaultOf, AreCounted}
-use Rattle.sfi_check.specs.OneVerdict.{Answers, IsReadOf, SaysSame, OneListOfFindings, NeverAcceptedWithFindings, VerdictIsOnAll, OneVerdict, StreamSaysSame}
 use Rattle.sfi_image.proofs.Facts.{one_image, one_fault}
 use Rattle.sfi_image.proofs.Facts as image_facts
 use Rattle.sfi_scan.proofs.Facts.{one_image_list}

@@ -1,25 +1,6 @@
 -- After an instruction the registers hold what it and the one before it leave: of a pair, an address of its region.
-use Rattle.std.proofs.Common.{◌≡◌, ◌≢◌, ℕ, ◌-◌, ◌<◌, List, [], ◌∷◌, length, get_or, set, true, not, ◌&&◌, ◌==◌, refl, sym, ap, ◌∙◌, subst, arith}
-use Rattle.std.specs.Prelude.{bit_and, bit_or, slice_index}
-use Rattle.std.proofs.lemmas.Bool.{and_parts, and_from, cond-false, ne_eqb, not-true, false≢true, eqb-false}
-use Rattle.std.proofs.lemmas.List.{get_or-set_same}
-use Rattle.rv_word.specs.declared.instr.RegOp.TheVariants.{And, Or}
-use Rattle.rv_word.specs.declared.instr.RegOp.{RegOp}
-use Rattle.rv_word.specs.declared.instr.Instr.{Instr}
-use Rattle.rv_word.specs.declared.instr.Instr.TheVariants.{Op}
-use Rattle.rv_word.specs.Spelling.{InRange}
-use Rattle.sfi_policy.specs.Formats.{code_most}
-use Rattle.rv_step.specs.State.{Hart, register, with_register}
-use Rattle.rv_step.specs.Values.{result_of}
-use Rattle.sfi_image.specs.Spelling.{Part}
-use Rattle.sfi_image.specs.Spans.{code_region}
-use Rattle.sfi_image.specs.Regions.{IsBundleStart}
-use Rattle.sfi_policy.specs.Pairs.{masking_instr, placing_instr, is_masking, is_placing}
-use Rattle.sfi_policy.specs.Registers.{is_reserved}
-use Rattle.sfi_scan.specs.Pairs.{follows_pair}
-use Rattle.sfi_check.specs.Regions.{InData}
-use Rattle.sfi_check.specs.Leaving.{Leaves, follows_mask, WritesResult}
-use Rattle.sfi_check.specs.Laws.{InstructionLeaves}
+use Rattle.sfi_check.proofs.Prelude.{◌≡◌, ◌≢◌, ℕ, ◌-◌, ◌<◌, List, [], ◌∷◌, length, get_or, set, true, not, ◌&&◌, ◌==◌, refl, sym, ap, ◌∙◌, subst, arith, slice_index, and_parts, and_from, cond-false, ne_eqb, not-true, false≢true, eqb-false, get_or-set_same, And, Or, RegOp, Instr, Op, InRange, code_most, Hart, register, with_register, result_of, Part, code_region, IsBundleStart, masking_instr, placing_instr, is_masking, is_placing, is_reserved, follows_pair, InData, Leaves, follows_mask, WritesResult, InstructionLeaves}
+use Rattle.std.specs.Prelude.{bit_and, bit_or}
 use Rattle.sfi_check.proofs.Masks.{masked_data, masked_code}
 use Rattle.sfi_policy.proofs.Facts.{pairs_are_found}
 

@@ -1,16 +1,7 @@
 -- The loop over a stream's pieces: what it keeps, and what each of its ends answers.
-use Rattle.std.proofs.Common.{◌≡◌, ◌∙◌, ◌≤◌, ◌<◌, ◌++◌, ℕ, List, [], Bool, true, false, take, drop, length, Option, Some, None, sym, ap, subst, arith, append_assoc}
-use Rattle.std.proofs.lemmas.List.{length-drop, length-take, take-append-drop, take_all}
-use Rattle.sfi_image.specs.Keeping.{ReaderState}
-use Rattle.sfi_image.specs.Fronts.{HasFaultNumberWhateverFollows}
-use Rattle.sfi_image.specs.Sources.{Streams}
-use Rattle.sfi_scan.specs.declared.finding.Finding.{Finding}
+use Rattle.sfi_check.proofs.Prelude.{◌≡◌, ◌∙◌, ◌≤◌, ◌<◌, ◌++◌, ℕ, List, [], Bool, true, false, take, drop, length, Option, Some, None, sym, ap, subst, arith, append_assoc, length-drop, length-take, take-append-drop, take_all, ReaderState, HasFaultNumberWhateverFollows, Streams, Finding, StreamAnswer, Tally, IsSoFar, IsCut, IsTold, Goes, verdict_of, IsVerdictOn, AreHandedOver}
 use Rattle.sfi_check.specs.declared.progress.Progress.TheVariants as ways
-use Rattle.sfi_check.specs.declared.stream_answer.StreamAnswer.{StreamAnswer}
 use Rattle.sfi_check.specs.declared.stream_answer.StreamAnswer.TheVariants as answers
-use Rattle.sfi_check.specs.declared.tally.Tally.{Tally}
-use Rattle.sfi_check.specs.private.Tallies.{IsSoFar, IsCut, IsTold, Goes, verdict_of}
-use Rattle.sfi_check.specs.Streams.{IsVerdictOn, AreHandedOver}
 use Rattle.sfi_check.proofs.Leading.{fault_on}
 use Rattle.sfi_check.proofs.Judging.{IsJudgedWhole, judged_onwards, judged_failed, ended_whole, trailing, ended_short}
 use Rattle.sfi_check.proofs.Chains.{some_read, end_read, failed_read}

@@ -1,36 +1,11 @@
 -- A hart at a bundle start is at that bundle's first piece, and the one instruction there is the reading's.
-use Rattle.std.proofs.Common.{◌≡◌, ℕ, zero, suc, ◌+◌, ◌-◌, ◌*◌, ◌/◌, ◌%◌, ◌<◌, ◌≤◌, List, [], ◌∷◌, ◌++◌, length, map, get_or, take, drop, Some, true, refl, sym, ap, ◌∙◌, subst, inl, inr, ⊎_elim, arith, length-take, length-drop, get_or-drop, get_or-take, add-zero}
-use Rattle.std.specs.Prelude.{slice_index}
-use Rattle.std.specs.List.{range_with_len}
-use Rattle.std.proofs.lemmas.Bool.{cases_lt}
-use Rattle.rv_word.specs.declared.instr.Instr.{Instr}
-use Rattle.rv_comp.specs.Fronts.{Spells}
-use Rattle.rv_mem.specs.Bytes.{Bytes, byte_at, bytes_at, address_after, addresses}
-use Rattle.rv_step.specs.State.{Hart}
-use Rattle.rv_step.specs.Step.{Stands}
-use Rattle.sfi_image.specs.Spelling.{Part}
-use Rattle.sfi_image.specs.Spans.{code_region}
-use Rattle.sfi_image.specs.Regions.{IsBundleStart}
-use Rattle.sfi_scan.specs.declared.bundle.BundlePlace.{BundlePlace}
-use Rattle.sfi_scan.specs.declared.finding.Finding.{Finding}
-use Rattle.sfi_scan.specs.Bundles.{place_of, bundle_bytes}
-use Rattle.sfi_scan.specs.Readings.{Piece, IsReading, rest_of}
-use Rattle.sfi_scan.specs.Rules.{is_empty}
-use Rattle.sfi_scan.specs.Findings.{findings_from, rest_finding, AreReadingFindings, AreBundleFindings, AreFindingsOfFirst}
-use Rattle.sfi_check.specs.Regions.{InCode, StackInData, HasCode}
-use Rattle.sfi_check.specs.Places.{IsCleanPart, IsAtPlace}
+use Rattle.sfi_check.proofs.Prelude.{◌≡◌, ℕ, zero, suc, ◌+◌, ◌-◌, ◌*◌, ◌/◌, ◌%◌, ◌<◌, ◌≤◌, List, [], ◌∷◌, ◌++◌, length, map, get_or, take, drop, Some, true, refl, sym, ap, ◌∙◌, subst, inl, inr, ⊎_elim, arith, get_or-drop, get_or-take, add-zero, slice_index, range_with_len, cases_lt, Spells, Bytes, byte_at, bytes_at, address_after, addresses, Hart, Stands, Part, code_region, IsBundleStart, BundlePlace, Finding, place_of, bundle_bytes, Piece, IsReading, rest_of, is_empty, findings_from, rest_finding, AreReadingFindings, AreBundleFindings, AreFindingsOfFirst, StackInData, HasCode, IsCleanPart, IsAtPlace}
+use Rattle.std.proofs.Common.{length-take, length-drop}
+use Rattle.sfi_check.specs.Regions.{InCode}
 use Rattle.sfi_check.proofs.PairResult.{leaves_nothing}
 use Rattle.sfi_image.proofs.Facts.{whole_bundles, code_ends}
 
 -- ---- spellings
-
-pub spelled_length : (bytes : List ℕ) (i : Instr) (n : ℕ) → Spells bytes i n → length bytes ≡ n
-spelled_length bytes i n (inl x) = x.all ∙ sym x.size
-spelled_length bytes i n (inr x) = x.all ∙ sym x.size
-
-pub spelled_some : (bytes : List ℕ) (i : Instr) (n : ℕ) → Spells bytes i n → 0 < n
-spelled_some bytes i n (inl x) = omega (arith, x.size)
-spelled_some bytes i n (inr x) = omega (arith, x.size)
 
 -- ---- a bundle without a finding
 

@@ -1,25 +1,7 @@
 -- What the samples' bundles are read as, and the findings of a sample.
-use Rattle.sfi_policy.specs.declared.format.Format.{Format}
-use Rattle.sfi_policy.specs.declared.format.Format.TheVariants.{Sfi1, Sfi2}
-use Rattle.sfi_image.specs.declared.part.Gate.{Gate}
-use Rattle.sfi_image.specs.Gates.{is_gate_of}
-use Rattle.std.proofs.Common.{◌≡◌, ℕ, suc, ◌+◌, ◌-◌, ◌*◌, ◌≤◌, List, [], ◌∷◌, ◌++◌, length, take, drop, true, false, refl, sym, ap, ◌∙◌, subst, inr, arith, get_or-take, length-take}
-use Rattle.std.specs.Int.{w32, to_le_bytes}
-use Rattle.std.proofs.lemmas.Bool.{false≢true}
-use Rattle.std.proofs.lemmas.List.{append-nil}
-use Rattle.rv_word.specs.declared.instr.Instr.{Instr}
-use Rattle.rv_word.specs.declared.instr.Instr.TheVariants.{Ebreak}
-use Rattle.rv_word.specs.Spelling.{spelling, InRange}
-use Rattle.rv_comp.specs.Fronts.{Spells}
-use Rattle.sfi_scan.specs.declared.bundle.BundlePlace.{BundlePlace}
-use Rattle.sfi_scan.specs.declared.finding.Finding.{Finding}
-use Rattle.sfi_scan.specs.Bundles.{place_of, bundle_bytes}
-use Rattle.sfi_scan.specs.Readings.{Piece, IsReading, IsLongestReading, rest_of}
-use Rattle.sfi_scan.specs.Rules.{is_empty}
-use Rattle.sfi_scan.specs.Findings.{findings_from, rest_finding, AreBundleFindings, AreFindingsOfFirst, AreFindings}
-use Rattle.sfi_check.specs.Samples.{Sample, sandbox, words_of, bytes_of, code_as}
-use Rattle.sfi_check.proofs.Places.{spelled_length, spelled_some}
-use Rattle.rv_comp.proofs.Facts.{one_spelling}
+use Rattle.sfi_check.proofs.Prelude.{Format, Sfi1, Sfi2, Gate, is_gate_of, ◌≡◌, ℕ, suc, ◌+◌, ◌-◌, ◌*◌, ◌≤◌, List, [], ◌∷◌, ◌++◌, length, take, drop, true, false, refl, sym, ap, ◌∙◌, subst, inr, arith, get_or-take, w32, to_le_bytes, false≢true, append-nil, Instr, Ebreak, spelling, InRange, Spells, BundlePlace, Finding, place_of, bundle_bytes, Piece, IsReading, IsLongestReading, rest_of, is_empty, findings_from, rest_finding, AreBundleFindings, AreFindingsOfFirst, AreFindings, Sample, sandbox, words_of, bytes_of, code_as, RegOp, StoreWidth, Op, Store, pos, nat_lt, ◌&&◌, and_parts, ltb-true, ints}
+use Rattle.std.proofs.Common.{length-take}
+use Rattle.rv_comp.proofs.Facts.{one_spelling, word_spells, spelled_length, spelled_some}
 
 -- nothing is spelled by no bytes
 none_spelled : (bytes : List ℕ) (y : Piece) → bytes ≡ [] → Spells (take y.size bytes) y.instr y.size → ⊥
@@ -65,13 +47,24 @@ read_bundle b bytes reading rest found unlisted is left end e = inr (
 abbrev pub IsSpelled : Instr → Type 0
 IsSpelled i = Spells (to_le_bytes w32 (spelling i)) i 4
 
+pub op_spelled : (op : RegOp) (rd a b : ℕ) → (nat_lt rd 32 && (nat_lt a 32 && nat_lt b 32)) ≡ true → IsSpelled (Op op rd a b)
+unfolding InRange
+op_spelled op rd a b e =
+    let x = and_parts (nat_lt rd 32) (nat_lt a 32 && nat_lt b 32) e in
+    let y = and_parts (nat_lt a 32) (nat_lt b 32) x.1 in
+    word_spells (Op op rd a b) (ltb-true rd 32 x.0, ltb-true a 32 y.0, ltb-true b 32 y.1)
+
+pub store_spelled : (width : StoreWidth) (a b : ℕ) → (nat_lt a 32 && nat_lt b 32) ≡ true → IsSpelled (Store width a b (pos 0))
+unfolding InRange
+store_spelled width a b e = let x = and_parts (nat_lt a 32) (nat_lt b 32) e in word_spells (Store width a b (pos 0)) (ltb-true a 32 x.0, ltb-true b 32 x.1, (omega (arith, ints), omega (arith, ints)))
+
+pub ebreak_spelled : IsSpelled Ebreak
+unfolding InRange
+ebreak_spelled = word_spells Ebreak tt
+
 abbrev pub four : Instr → Instr → Instr → Instr → List Piece
 four a b c d =
     record { instr = a; size = 4 } ∷ record { instr = b; size = 4 } ∷ record { instr = c; size = 4 } ∷ record { instr = d; size = 4 } ∷ []
-
-pub ebreak_spelled : IsSpelled Ebreak
-unfolding spelling InRange
-ebreak_spelled = inr (record { size = refl; all = refl; spelled = (tt, refl) })
 
 pub four_words : (place : BundlePlace) (bytes : List ℕ) (a b c d : Instr) (found : List Finding) → place.listed ≡ false → bytes_of (words_of (a ∷ b ∷ c ∷ d ∷ [])) ≡ bytes
     → IsSpelled a → IsSpelled b → IsSpelled c → IsSpelled d → findings_from place true place.address [] (four a b c d) ≡ found → AreBundleFindings place bytes found

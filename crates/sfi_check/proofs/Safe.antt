@@ -1,28 +1,6 @@
 -- What follows from that every run is safe, and that it is so of a clean image.
-use Rattle.std.proofs.Common.{◌≡◌, ℕ, zero, suc, ◌+◌, List, [], ◌∷◌, Option, Some, None, Bool, true, false, cond, refl, sym, ◌∙◌, subst, arith}
-use Rattle.std.specs.Prelude.{is_some}
-use Rattle.std.specs.List.{All}
-use Rattle.rv_word.specs.Numbers.{offset_by}
-use Rattle.rv_word.specs.declared.instr.Instr.{Instr}
-use Rattle.rv_word.specs.declared.instr.Instr.TheVariants.{Op, OpImm, Load, Store, Branch, Jal, Jalr, Lui, Auipc, Fence, Ecall, Ebreak}
-use Rattle.rv_word.specs.declared.instr.LoadKind.{LoadKind}
-use Rattle.rv_mem.specs.Bytes.{Bytes, bytes_at, addresses, loaded}
-use Rattle.rv_step.specs.declared.outcome.Outcome.{Outcome}
-use Rattle.rv_step.specs.declared.outcome.Outcome.TheVariants.{Next, Call, Trap}
+use Rattle.sfi_check.proofs.Prelude.{◌≡◌, ℕ, zero, suc, ◌+◌, List, [], ◌∷◌, Option, Some, None, Bool, true, false, cond, refl, sym, ◌∙◌, subst, arith, is_some, All, offset_by, Instr, Op, OpImm, Load, Store, Branch, Jal, Jalr, Lui, Auipc, Fence, Ecall, Ebreak, LoadKind, Bytes, bytes_at, addresses, loaded, Outcome, Next, Call, Trap, Hart, State, register, Stepped, IsStep, effect, after_load, next, unchanged, load_size, store_size, Part, AreApart, code_region, guarded_region, AreRight, Finding, AreFindings, AreFindingsFrom, IsRun, IsSafeRun, RunsSafelyFrom, RunsSafely, AllRunSafely, AllCallWithStack, SafeTurns, SafeStaysSafe, SafeFetches, IsClean, MayRun}
 use Rattle.rv_step.specs.declared.outcome.Cause.TheVariants as cause
-use Rattle.rv_step.specs.State.{Hart, State, register}
-use Rattle.rv_step.specs.Step.{Stepped, IsStep, effect, after_load, next, unchanged}
-use Rattle.rv_step.specs.Values.{load_size, store_size}
-use Rattle.sfi_image.specs.Spelling.{Part}
-use Rattle.sfi_image.specs.Spans.{AreApart, code_region, guarded_region}
-use Rattle.sfi_image.specs.Parts.{AreRight}
-use Rattle.sfi_scan.specs.declared.finding.Finding.{Finding}
-use Rattle.sfi_scan.specs.Findings.{AreFindings, AreFindingsFrom}
-use Rattle.sfi_check.specs.Runs.{IsRun}
-use Rattle.sfi_check.specs.Safety.{IsSafeRun, RunsSafelyFrom, RunsSafely, AllRunSafely}
-use Rattle.sfi_check.specs.Stack.{AllCallWithStack}
-use Rattle.sfi_check.specs.Laws.{SafeTurns, SafeStaysSafe, SafeFetches}
-use Rattle.sfi_check.specs.Verdict.{IsClean, MayRun}
 use Rattle.sfi_check.proofs.Places.{nothing_before}
 use Rattle.rv_step.proofs.Facts.{step_is_effect}
 use Rattle.sfi_check.proofs.TurnInvariant.{runs_safely}

@@ -1,34 +1,7 @@
 -- The samples: their layout, their image, where they are entered, and their steps.
-use Rattle.std.proofs.Common.{◌≡◌, ℕ, zero, suc, ◌+◌, ◌-◌, ◌*◌, ◌%◌, ◌^◌, ◌<◌, ◌≤◌, ◌⊎◌, List, [], ◌∷◌, ◌++◌, length, replicate, take, drop, Option, Some, inl, inr, refl, sym, ap, subst, ◌∙◌, arith, get_or, get_or-drop, get_or-take, length-append, length-take, length-drop}
-use Rattle.std.specs.Prelude.{slice_index, true, nat_lt}
-use Rattle.std.specs.List.{All, list_all}
-use Rattle.std.proofs.lemmas.Bool.{and_parts, ltb-true}
-use Rattle.rv_word.specs.declared.instr.Instr.{Instr}
-use Rattle.rv_word.specs.declared.instr.Instr.TheVariants.{Ecall, Ebreak}
-use Rattle.rv_comp.specs.Fronts.{Spells}
-use Rattle.rv_comp.specs.declared.front.Front.TheVariants.{Read}
-use Rattle.sfi_policy.specs.declared.format.Format.{Format}
-use Rattle.sfi_policy.specs.declared.format.Format.TheVariants.{Sfi1, Sfi2}
-use Rattle.sfi_policy.specs.Formats.{code_most}
-use Rattle.rv_mem.specs.Bytes.{Bytes, byte_at, bytes_at, addresses, address_after}
-use Rattle.rv_step.specs.Access.{Accesses}
-use Rattle.rv_step.specs.State.{Hart, IsHart, State}
-use Rattle.rv_step.specs.Step.{Stepped, Stands, IsStep, effect, next, unchanged}
-use Rattle.rv_step.specs.declared.outcome.Outcome.TheVariants.{Call}
-use Rattle.sfi_image.specs.declared.span.Span.{Span}
-use Rattle.sfi_policy.specs.Limits.{gates_most}
-use Rattle.sfi_image.specs.Gates.{AreGates}
-use Rattle.sfi_image.specs.Spelling.{Part, AreGateWords}
-use Rattle.sfi_image.specs.Spans.{AreApart, code_region, guarded_region}
-use Rattle.sfi_image.specs.Regions.{IsBundleStart}
-use Rattle.sfi_image.specs.Parts.{IsRightPart, IsRightLayout, AreOf}
-use Rattle.sfi_scan.specs.declared.finding.Finding.{Finding}
-use Rattle.sfi_scan.specs.Findings.{AreFindings}
-use Rattle.sfi_check.specs.Regions.{InCode, InData, InGuard, IsGate, HasReserved, HasCode}
-use Rattle.sfi_check.specs.Runs.{Turn, Steps, IsEntry, IsRun, IsTurn, after_turn, after_step}
-use Rattle.sfi_check.specs.Safety.{IsSafeRun}
-use Rattle.sfi_check.specs.Samples.{Sample, sandbox, bytes_of, words_of}
-use Rattle.sfi_check.specs.Needed.{HasOneFinding, HasUnsafeRun}
+use Rattle.sfi_check.proofs.Prelude.{◌≡◌, ℕ, zero, suc, ◌+◌, ◌-◌, ◌*◌, ◌%◌, ◌^◌, ◌<◌, ◌≤◌, ◌⊎◌, List, [], ◌∷◌, ◌++◌, length, replicate, take, drop, Option, Some, inl, inr, refl, sym, ap, subst, ◌∙◌, arith, get_or, get_or-drop, get_or-take, slice_index, true, nat_lt, All, list_all, and_parts, ltb-true, Instr, Ebreak, Spells, Read, Format, Sfi1, Sfi2, code_most, Bytes, byte_at, bytes_at, addresses, address_after, Accesses, Hart, IsHart, State, Stepped, Stands, IsStep, effect, next, unchanged, Call, Span, gates_most, AreGates, Part, AreGateWords, AreApart, code_region, guarded_region, IsBundleStart, IsRightPart, IsRightLayout, AreOf, Finding, AreFindings, InData, InGuard, IsGate, HasReserved, HasCode, Turn, Steps, IsEntry, IsRun, IsTurn, after_turn, after_step, IsSafeRun, Sample, sandbox, bytes_of, words_of, HasOneFinding, HasUnsafeRun, Rule, IsNeeded, BreaksNoOther}
+use Rattle.std.proofs.Common.{length-append, length-take, length-drop}
+use Rattle.sfi_check.specs.Regions.{InCode}
 use Rattle.sfi_check.proofs.Places.{read_all}
 use Rattle.sfi_check.proofs.Entering.{entered_at}
 
@@ -204,43 +177,54 @@ then_turn p s after turn is e rest = record {
   unsafe = λ safe. rest.unsafe (subst (λ (o : Option State). IsSafeRun p o rest.turns) e safe.2);
 }
 
-module _ (p : Part) (m : Bytes) where
-  pub step_here : (h : Hart) (i : Instr) (n : ℕ) → Stands (record { hart = h; memory = m }) i n → IsStep (record { hart = h; memory = m }) (effect i n h m)
-  step_here h i n stands = record { front = Read i n; at_pc = stands; result = refl }
+-- it has left the code
+pub has_left : (p : Part) (m : Bytes) (h : Hart) → (InCode p h.pc → ⊥) → HasUnsafeRun p (record { hart = h; memory = m })
+has_left p m h out = record { turns = []; run = tt; unsafe = λ safe. out safe.pc }
+
+-- with the code there, at an instruction of n bytes at that offset
+module _ (s : Sample) (is : IsSample s) (m : Bytes) (code : HasCode (sandbox s) m) (h : Hart) (at n : ℕ) (i : Instr) (pc : h.pc ≡ 0x01000000 + at) (within : at + n ≤ 256) (spelled : Spells (take n (drop at (sandbox s).code)) i n) where
+  pub step_at : IsStep (record { hart = h; memory = m }) (effect i n h m)
+  step_at = record { front = Read i n; at_pc = stands s is m code h at n i pc within spelled; result = refl }
 
   -- the step is done
-  pub then_step : (h h' : Hart) (i : Instr) (n : ℕ) → Stands (record { hart = h; memory = m }) i n → effect i n h m ≡ next h' m → HasUnsafeRun p (record { hart = h'; memory = m }) → HasUnsafeRun p (record { hart = h; memory = m })
-  then_step h h' i n stands e rest =
-      then_turn p (record { hart = h; memory = m }) (record { hart = h'; memory = m }) (Steps (effect i n h m)) (step_here h i n stands) (ap (λ (r : Stepped). after_step r.outcome r.state) e) rest
+  pub then_step : (h' : Hart) → effect i n h m ≡ next h' m → HasUnsafeRun (sandbox s) (record { hart = h'; memory = m }) → HasUnsafeRun (sandbox s) (record { hart = h; memory = m })
+  then_step h' e rest = then_turn (sandbox s) (record { hart = h; memory = m }) (record { hart = h'; memory = m }) (Steps (effect i n h m)) step_at (ap (λ (r : Stepped). after_step r.outcome r.state) e) rest
 
-  -- it accesses an address far from the data
-  pub accesses_far : (h : Hart) (i : Instr) (n a : ℕ) → Stands (record { hart = h; memory = m }) i n → Accesses i h a → (InData p a ⊎ InGuard p a → ⊥) → HasUnsafeRun p (record { hart = h; memory = m })
-  accesses_far h i n a stands has far = record {
+  -- it accesses an address far below the data
+  pub reaches : (a : ℕ) → Accesses i h a → a + 4096 < 0x01800000 → HasUnsafeRun (sandbox s) (record { hart = h; memory = m })
+  reaches a has below = record {
     turns = Steps (effect i n h m) ∷ [];
-    run = (step_here h i n stands, tt);
-    unsafe = λ safe. far (safe.1.within i n stands a has);
+    run = (step_at, tt);
+    unsafe = λ safe. far (safe.1.within i n (stands s is m code h at n i pc within spelled) a has);
   }
+    where
+      far : InData (sandbox s) a ⊎ InGuard (sandbox s) a → ⊥
+      far (inl (from, under)) = omega arith
+      far (inr (inl (from, under))) = omega arith
+      far (inr (inr (from, under))) = omega arith
 
   -- it is a call, and there is no gate
-  pub calls_elsewhere : (h : Hart) (n : ℕ) → Stands (record { hart = h; memory = m }) Ecall n → (IsGate p h.pc → ⊥) → HasUnsafeRun p (record { hart = h; memory = m })
-  calls_elsewhere h n stands nowhere = record {
-    turns = Steps (unchanged Call h m) ∷ [];
-    run = (step_here h Ecall n stands, tt);
-    unsafe = λ safe. nowhere (safe.1.called refl);
+  pub calls_elsewhere : effect i n h m ≡ unchanged Call h m → (IsGate (sandbox s) h.pc → ⊥) → HasUnsafeRun (sandbox s) (record { hart = h; memory = m })
+  calls_elsewhere e nowhere = record {
+    turns = Steps (effect i n h m) ∷ [];
+    run = (step_at, tt);
+    unsafe = λ safe. nowhere (safe.1.called (ap (λ (r : Stepped). r.outcome) e));
   }
-
-  -- no instruction stands there
-  pub nothing_here : (h : Hart) → ((i : Instr) (n : ℕ) → Stands (record { hart = h; memory = m }) i n → ⊥) → HasUnsafeRun p (record { hart = h; memory = m })
-  nothing_here h none = record { turns = []; run = tt; unsafe = λ safe. none safe.present.instr safe.present.size safe.present.stands }
-
-  -- it has left the code
-  pub has_left : (h : Hart) → (InCode p h.pc → ⊥) → HasUnsafeRun p (record { hart = h; memory = m })
-  has_left h out = record { turns = []; run = tt; unsafe = λ safe. out safe.pc }
-
-pub far : (s : Sample) (a : ℕ) → a + 4096 < 0x01800000 → InData (sandbox s) a ⊎ InGuard (sandbox s) a → ⊥
-far s a h (inl (from, below)) = omega arith
-far s a h (inr (inl (from, below))) = omega arith
-far s a h (inr (inr (from, below))) = omega arith
 
 pub past_end : (s : Sample) → IsSample s → InCode (sandbox s) 0x01000100 → ⊥
 past_end s is (from, below) = let size = size s is in omega arith
+
+-- ---- rules that are needed
+
+-- with that one finding, and a run from the bundle of that number that is not safe
+pub needed : (s : Sample) (is : IsSample s) (rule : Rule) (address n : ℕ) → n < 16 → AreFindings 0 (sandbox s) (record { sandbox = 0; address = address; rule = rule } ∷ []) → BreaksNoOther rule address (sandbox s)
+    → ((m : Bytes) → IsEntry (sandbox s) (first (0x01000000 + 16 * n) m) → HasUnsafeRun (sandbox s) (first (0x01000000 + 16 * n) m)) → IsNeeded rule address (sandbox s)
+needed s is rule address n few alone no_other runs =
+    let e = enters s is n few in
+    record {
+      refused = refused s is (record { sandbox = 0; address = address; rule = rule }) alone;
+      no_other = no_other;
+      entry = first (0x01000000 + 16 * n) e.0;
+      is_entry = e.1;
+      runs_unsafely = runs e.0 e.1;
+    }

@@ -1,31 +1,11 @@
 -- The accepted sample: no rule is broken in it, and it stores a byte.
-use Rattle.std.proofs.Common.{◌≡◌, ◌≢◌, ℕ, ◌+◌, [], ◌∷◌, cond, Some, None, refl, ap, ◌∙◌, inl, inr, arith}
-use Rattle.std.specs.Prelude.{pos, is_some}
-use Rattle.std.specs.FinMap.{insert}
-use Rattle.std.proofs.lemmas.Int.{ints}
-use Rattle.rv_word.specs.declared.instr.RegOp.TheVariants.{And, Or}
-use Rattle.rv_word.specs.declared.instr.StoreWidth.TheVariants.{Sb}
-use Rattle.rv_word.specs.declared.instr.Instr.TheVariants.{Op, Store, Jal, Ebreak}
-use Rattle.rv_word.specs.Numbers.{minus}
-use Rattle.rv_word.specs.Spelling.{spelling, InRange}
-use Rattle.sfi_policy.specs.declared.format.Format.TheVariants.{Sfi1}
-use Rattle.rv_mem.specs.Bytes.{Bytes, byte_at, in_front, stored}
-use Rattle.rv_step.specs.declared.outcome.Outcome.TheVariants.{Trap}
+use Rattle.sfi_check.proofs.Prelude.{◌≡◌, ◌≢◌, ℕ, ◌+◌, [], ◌∷◌, cond, Some, None, refl, ap, ◌∙◌, inl, inr, arith, pos, is_some, insert, ints, And, Or, Sb, Op, Store, Jal, Ebreak, minus, spelling, InRange, Sfi1, Bytes, byte_at, in_front, stored, Trap, past, Stepped, effect, next, unchanged, Part, AreFindings, InGuard, HasCode, KeepsBytes, StoresByte, IsAcceptedAndRuns, sandbox, sandboxed_store, IsAccepted}
 use Rattle.rv_step.specs.declared.outcome.Cause.TheVariants as cause
-use Rattle.rv_step.specs.State.{past}
-use Rattle.rv_step.specs.Step.{Stepped, effect, next, unchanged}
-use Rattle.sfi_image.specs.Spelling.{Part}
 use Rattle.sfi_image.specs.Spelling as image
-use Rattle.sfi_scan.specs.Findings.{AreFindings}
-use Rattle.sfi_check.specs.Regions.{InGuard, HasCode}
-use Rattle.sfi_check.specs.Runs.{KeepsBytes}
-use Rattle.sfi_check.specs.Needed.{StoresByte, IsAcceptedAndRuns}
-use Rattle.sfi_check.specs.Samples.{sandbox, sandboxed_store}
-use Rattle.sfi_check.specs.Verdict.{IsAccepted}
 use Rattle.sfi_check.proofs.Entering.{inserted_here, inserted_elsewhere}
-use Rattle.sfi_check.proofs.Readings.{IsSpelled, ebreak_spelled, code_findings}
-use Rattle.sfi_check.proofs.Needed.{and_data, or_data}
-use Rattle.sfi_check.proofs.Samples.{IsSample, without_gates, size, right_layout, hart, first, enters, stands, step_here}
+use Rattle.rv_comp.proofs.Facts.{word_spells}
+use Rattle.sfi_check.proofs.Readings.{IsSpelled, op_spelled, store_spelled, ebreak_spelled, code_findings}
+use Rattle.sfi_check.proofs.Samples.{IsSample, without_gates, size, right_layout, hart, first, enters, step_at}
 
 -- ---- the sample
 
@@ -35,18 +15,14 @@ p = sandbox sandboxed_store
 is_sample : IsSample sandboxed_store
 is_sample = without_gates sandboxed_store refl refl refl
 
-store_there : IsSpelled (Store Sb 31 10 (pos 0))
-unfolding spelling InRange
-store_there = inr (record { size = refl; all = refl; spelled = ((omega arith, omega arith, (omega (arith, ints), omega (arith, ints))), refl) })
-
 jump_there : IsSpelled (Jal 0 (minus 12))
-unfolding spelling InRange
-jump_there = inr (record { size = refl; all = refl; spelled = ((omega arith, ((omega (arith, ints), omega (arith, ints)), refl)), refl) })
+unfolding InRange
+jump_there = word_spells (Jal 0 (minus 12)) (omega arith, ((omega (arith, ints), omega (arith, ints)), refl))
 
 no_finding : AreFindings 0 p []
 no_finding =
     code_findings Sfi1 (Op And 31 10 27) (Op Or 31 31 26) (Store Sb 31 10 (pos 0)) (Jal 0 (minus 12)) Ebreak Ebreak Ebreak Ebreak [] []
-    and_data or_data store_there jump_there ebreak_spelled ebreak_spelled ebreak_spelled ebreak_spelled refl refl
+    (op_spelled And 31 10 27 refl) (op_spelled Or 31 31 26 refl) (store_spelled Sb 31 10 refl) jump_there ebreak_spelled ebreak_spelled ebreak_spelled ebreak_spelled refl refl
 
 -- ---- the image
 
@@ -96,10 +72,7 @@ stores : StoresByte p
 stores =
     let e = enters sandboxed_store is_sample 0 (omega arith) in
     let w = changed e.0 e.1.code e.1.guards in
-    let here = stands sandboxed_store is_sample w (changed_code e.0 e.1.code e.1.guards) in
-    let at0 = here (hart 0x01000000 0x01800000 0) 0 4 (Op And 31 10 27) refl (omega arith) and_data in
-    let at1 = here (hart 0x01000004 0x01800000 240) 4 4 (Op Or 31 31 26) refl (omega arith) or_data in
-    let at2 = here (hart 0x01000008 0x01800000 0x018000f0) 8 4 (Store Sb 31 10 (pos 0)) refl (omega arith) store_there in
+    let step = step_at sandboxed_store is_sample w (changed_code e.0 e.1.code e.1.guards) in
     let done = store_done e.0 e.1.code e.1.guards in
     record {
       entry = first 0x01000000 e.0;
@@ -111,10 +84,10 @@ stores =
       run = (
         record { pc = refl; registers = refl; bytes = keeps e.0 e.1.code e.1.guards },
         (
-          step_here p w (hart 0x01000000 0x01800000 0) (Op And 31 10 27) 4 at0,
+          step (hart 0x01000000 0x01800000 0) 0 4 (Op And 31 10 27) refl (omega arith) (op_spelled And 31 10 27 refl),
           (
-            step_here p w (hart 0x01000004 0x01800000 240) (Op Or 31 31 26) 4 at1,
-            (step_here p w (hart 0x01000008 0x01800000 0x018000f0) (Store Sb 31 10 (pos 0)) 4 at2, tt),
+            step (hart 0x01000004 0x01800000 240) 4 4 (Op Or 31 31 26) refl (omega arith) (op_spelled Or 31 31 26 refl),
+            (step (hart 0x01000008 0x01800000 0x018000f0) 8 4 (Store Sb 31 10 (pos 0)) refl (omega arith) (store_spelled Sb 31 10 refl), tt),
           ),
         ),
       );

@@ -1,21 +1,5 @@
 -- Where a format has a stack pointer, it lies in the data region, or is put there.
-use Rattle.std.proofs.Common.{◌≡◌, ℕ, List, [], ◌∷◌, true, false, Bool, not, ◌&&◌, ◌||◌, ◌==◌, refl, sym, ◌∙◌, subst, inl, inr, ⊎_elim}
-use Rattle.std.specs.Prelude.{slice_index}
-use Rattle.std.proofs.lemmas.Bool.{cases_Bool, and_parts, and_from, or_cases, or_left, or_right, not-false, false≢true}
-use Rattle.rv_word.specs.declared.instr.Instr.{Instr}
-use Rattle.rv_word.specs.declared.instr.Instr.TheVariants.{Op, OpImm, Load, Store, Branch, Jal, Jalr, Lui, Auipc, Fence, Ecall, Ebreak}
-use Rattle.rv_word.specs.declared.instr.RegOp.TheVariants.{And, Or}
-use Rattle.sfi_policy.specs.Formats.{has_stack}
-use Rattle.sfi_image.specs.Spelling.{Part}
-use Rattle.sfi_scan.specs.declared.bundle.BundlePlace.{BundlePlace}
-use Rattle.sfi_policy.specs.Pairs.{is_masking, is_placing}
-use Rattle.sfi_scan.specs.Pairs.{follows_data_pair}
-use Rattle.sfi_scan.specs.Readings.{Piece}
-use Rattle.sfi_scan.specs.Stack.{writes_stack, is_stack_pair, begins_pair, ends_pair, precedes_pair, is_jump}
-use Rattle.sfi_scan.specs.Rules.{Place, may_write_stack, breaks_stack}
-use Rattle.sfi_check.specs.Regions.{InData, StackInData}
-use Rattle.sfi_check.specs.Leaving.{Leaves}
-use Rattle.sfi_check.specs.Places.{StackInDataBefore}
+use Rattle.sfi_check.proofs.Prelude.{◌≡◌, ℕ, List, [], ◌∷◌, true, false, Bool, not, ◌&&◌, ◌||◌, ◌==◌, refl, sym, ◌∙◌, subst, inl, inr, ⊎_elim, slice_index, cases_Bool, and_parts, and_from, or_cases, or_left, or_right, not-false, false≢true, Instr, Op, OpImm, Load, Store, Branch, Jal, Jalr, Lui, Auipc, Fence, Ecall, Ebreak, And, Or, has_stack, Part, BundlePlace, is_masking, is_placing, follows_data_pair, Piece, writes_stack, is_stack_pair, begins_pair, ends_pair, precedes_pair, is_jump, Place, may_write_stack, breaks_stack, InData, StackInData, Leaves, StackInDataBefore}
 
 -- the instruction is one of the pair's two
 abbrev pub is_of_pair : Instr → Bool

@@ -1,26 +1,5 @@
 -- One step from a good state is safe, and leads to a good state.
-use Rattle.std.proofs.Common.{◌≡◌, ℕ, suc, ◌+◌, ◌*◌, ◌%◌, ◌^◌, ◌<◌, ◌≤◌, ◌⊎◌, List, [], ◌∷◌, length, Option, Some, None, true, ◌&&◌, ◌==◌, refl, sym, ap, ◌∙◌, subst, inl, inr, ⊎_elim, arith, add-zero}
-use Rattle.std.specs.Prelude.{slice_get, nat_lt, nat_le, IsSome}
-use Rattle.std.proofs.lemmas.Bool.{and_parts, or_cases, eqb-true, leb-true, ltb-true, false≢true}
-use Rattle.rv_word.specs.declared.instr.Instr.{Instr}
-use Rattle.rv_mem.specs.Bytes.{byte_at}
-use Rattle.rv_step.specs.declared.outcome.Outcome.{Outcome}
-use Rattle.rv_step.specs.declared.outcome.Outcome.TheVariants.{Next, Call, Trap}
-use Rattle.rv_step.specs.Access.{Accesses}
-use Rattle.rv_step.specs.State.{State}
-use Rattle.rv_step.specs.Step.{Stepped, Stands, IsStep, effect}
-use Rattle.sfi_image.specs.declared.part.Gate.{Gate}
-use Rattle.sfi_image.specs.Spelling.{Part}
-use Rattle.sfi_image.specs.Spans.{Holds, code_region, guarded_region}
-use Rattle.sfi_image.specs.Regions.{IsBundleStart}
-use Rattle.sfi_image.specs.Parts.{IsRightPart}
-use Rattle.sfi_image.specs.Gates.{is_gate_of}
-use Rattle.sfi_scan.specs.Bundles.{place_of}
-use Rattle.sfi_scan.specs.Rules.{is_empty, is_bundle_start}
-use Rattle.sfi_check.specs.Regions.{InData, InGuard, IsGate, HasCode, HasEmptyGuards}
-use Rattle.sfi_check.specs.Runs.{after_step}
-use Rattle.sfi_check.specs.Safety.{IsSafeStep, IsTrap}
-use Rattle.sfi_check.specs.Places.{IsCleanPart, IsGood, IsGoodIf}
+use Rattle.sfi_check.proofs.Prelude.{◌≡◌, ℕ, suc, ◌+◌, ◌*◌, ◌%◌, ◌^◌, ◌<◌, ◌≤◌, ◌⊎◌, List, [], ◌∷◌, length, Option, Some, None, true, ◌&&◌, ◌==◌, refl, sym, ap, ◌∙◌, subst, inl, inr, ⊎_elim, arith, add-zero, slice_get, nat_lt, nat_le, IsSome, and_parts, or_cases, eqb-true, leb-true, ltb-true, false≢true, Instr, byte_at, Outcome, Next, Call, Trap, Accesses, State, Stepped, Stands, IsStep, effect, Gate, Part, Holds, code_region, guarded_region, IsBundleStart, IsRightPart, is_gate_of, place_of, is_empty, is_bundle_start, InData, InGuard, IsGate, HasCode, HasEmptyGuards, after_step, IsSafeStep, IsTrap, IsCleanPart, IsGood, IsGoodIf}
 use Rattle.sfi_check.proofs.Places.{pc_in_code, present}
 use Rattle.sfi_check.proofs.NextPlace.{place_here, rules_kept, goes_on}
 use Rattle.sfi_check.proofs.Effects.{Here, Leads, accesses_near, no_call, leads}

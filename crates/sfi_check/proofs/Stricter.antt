@@ -1,23 +1,6 @@
 -- That some rules are stricter than safety asks: code that stops at each bundle start is safe, whatever stands after that.
-use Rattle.std.proofs.Common.{◌≡◌, ℕ, zero, suc, ◌+◌, ◌-◌, ◌*◌, ◌/◌, ◌<◌, List, [], ◌∷◌, take, drop, Some, refl, sym, ap, ◌∙◌, subst, arith}
-use Rattle.rv_word.specs.declared.instr.Instr.{Instr}
-use Rattle.rv_word.specs.declared.instr.Instr.TheVariants.{Ecall, Ebreak}
-use Rattle.rv_word.specs.Spelling.{spelling}
-use Rattle.rv_comp.specs.Fronts.{Spells}
-use Rattle.sfi_policy.specs.declared.format.Format.TheVariants.{Sfi1}
-use Rattle.rv_step.specs.Access.{Accesses}
-use Rattle.rv_step.specs.State.{State}
-use Rattle.rv_step.specs.Step.{Stepped, Stands, IsStep, effect}
-use Rattle.rv_step.specs.declared.outcome.Outcome.TheVariants.{Call, Trap}
+use Rattle.sfi_check.proofs.Prelude.{◌≡◌, ℕ, zero, suc, ◌+◌, ◌-◌, ◌*◌, ◌/◌, ◌<◌, List, [], ◌∷◌, take, drop, Some, refl, sym, ap, ◌∙◌, subst, arith, Instr, Ecall, Ebreak, spelling, Spells, Sfi1, Accesses, State, Stepped, Stands, IsStep, effect, Call, Trap, Finding, V1, V2, V3, V8, place_of, bundle_bytes, HasCode, Turn, Steps, Replies, Changes, IsRun, IsEntry, after_step, IsSafeState, IsSafeStep, IsSafeRun, RunsSafely, Sample, sandbox, nop, undecodable_after_ebreak, crossing_after_ebreak, ecall_after_ebreak, nops_after_ebreak, IsStricter}
 use Rattle.rv_step.specs.declared.outcome.Cause.TheVariants as cause
-use Rattle.sfi_scan.specs.declared.finding.Finding.{Finding}
-use Rattle.sfi_scan.specs.declared.rule.Rule.TheVariants.{V1, V2, V3, V8}
-use Rattle.sfi_scan.specs.Bundles.{place_of, bundle_bytes}
-use Rattle.sfi_check.specs.Regions.{HasCode}
-use Rattle.sfi_check.specs.Runs.{Turn, Steps, Replies, Changes, IsRun, IsEntry, after_step}
-use Rattle.sfi_check.specs.Safety.{IsSafeState, IsSafeStep, IsSafeRun, RunsSafely}
-use Rattle.sfi_check.specs.Samples.{Sample, sandbox, nop, undecodable_after_ebreak, crossing_after_ebreak, ecall_after_ebreak, nops_after_ebreak}
-use Rattle.sfi_check.specs.Needed.{IsStricter}
 use Rattle.sfi_check.proofs.Readings.{ebreak_spelled, read_bundle, four_words, code_findings, all_findings, quiet, none_listed, wide}
 use Rattle.sfi_check.proofs.Samples.{IsSample, without_gates, size, refused, stands}
 use Rattle.sfi_check.proofs.Undecodable.{ones_begin_nothing}

@@ -1,25 +1,6 @@
 -- The tally of a front and of the one that follows it.
-use Rattle.std.proofs.Common.{◌≡◌, ℕ, suc, ◌+◌, ◌*◌, ◌/◌, ◌<◌, ◌≤◌, eqb, Bool, List, [], ◌∷◌, ◌++◌, length, take, drop, refl, sym, ap, ◌∙◌, subst, arith, append_assoc, inl, inr}
-use Rattle.std.specs.Prelude.{slice_get}
-use Rattle.std.proofs.Math.Seq.{take-append_seam}
-use Rattle.std.proofs.lemmas.Bool.{cases_Bool, eqb-true}
-use Rattle.std.proofs.lemmas.List.{length-append, length_push, append-nil}
-use Rattle.std.proofs.lemmas.List.Sums.{sum_by-append}
-use Rattle.sfi_policy.specs.declared.format.Format.{Format}
-use Rattle.sfi_image.specs.declared.part.Gate.{Gate}
-use Rattle.sfi_image.specs.declared.fields.Fields.{Fields}
+use Rattle.sfi_check.proofs.Prelude.{◌≡◌, ℕ, suc, ◌+◌, ◌*◌, ◌/◌, ◌<◌, ◌≤◌, eqb, Bool, List, [], ◌∷◌, ◌++◌, length, take, drop, refl, sym, ap, ◌∙◌, subst, arith, append_assoc, inl, inr, slice_get, take-append_seam, cases_Bool, eqb-true, length-append, length_push, append-nil, sum_by-append, Format, Gate, Fields, Part, is_gate_of, Front, IsRightFront, want_of, part_of, after_parts, after_init, after_code, after_gates, Follows, HasFaultNumberWhateverFollows, Empty, AfterMagic, AfterCount, InGates, InCode, InInit, Whole, BundlePlace, Finding, place_of, bundle_bytes, AreBundleFindings, AreFindings, AreFindingsOfFirst, AreImageFindings, Tally, bundle_count, AreFindingsSoFar, AreFindingsWithin, findings_most, Tallies, want_at}
 use Rattle.sfi_image.specs.declared.want.Want.TheVariants as wants
-use Rattle.sfi_image.specs.Spelling.{Part}
-use Rattle.sfi_image.specs.Gates.{is_gate_of}
-use Rattle.sfi_image.specs.Fronts.{Front, IsRightFront, want_of, part_of, after_parts, after_init, after_code, after_gates, Follows, HasFaultNumberWhateverFollows}
-use Rattle.sfi_image.specs.Fronts.Front.{Empty, AfterMagic, AfterCount, InGates, InCode, InInit, Whole}
-use Rattle.sfi_scan.specs.declared.bundle.BundlePlace.{BundlePlace}
-use Rattle.sfi_scan.specs.declared.finding.Finding.{Finding}
-use Rattle.sfi_scan.specs.Bundles.{place_of, bundle_bytes}
-use Rattle.sfi_scan.specs.Findings.{AreBundleFindings, AreFindings, AreFindingsOfFirst, AreImageFindings}
-use Rattle.sfi_check.specs.declared.tally.Tally.{Tally}
-use Rattle.sfi_check.specs.Verdict.{bundle_count}
-use Rattle.sfi_check.specs.private.Tallies.{AreFindingsSoFar, AreFindingsWithin, findings_most, Tallies, want_at}
 use Rattle.sfi_check.proofs.Findings.{findings_append}
 
 -- ---- one bundle more

@@ -1,21 +1,5 @@
 -- Each turn keeps a good state, and so does each run.
-use Rattle.std.proofs.Common.{◌≡◌, ℕ, ◌+◌, ◌<◌, List, [], ◌∷◌, length, Option, Some, None, false, refl, sym, ap, ◌∙◌, subst, arith}
-use Rattle.rv_word.specs.declared.instr.Instr.{Instr}
-use Rattle.rv_word.specs.declared.instr.Instr.TheVariants.{Ecall}
-use Rattle.rv_word.specs.Spelling.{InRange}
-use Rattle.rv_mem.specs.Bytes.{Bytes, address_after}
-use Rattle.rv_step.specs.declared.outcome.Outcome.TheVariants.{Call}
-use Rattle.rv_comp.specs.declared.front.Front.TheVariants.{Read}
-use Rattle.rv_step.specs.State.{State}
-use Rattle.rv_step.specs.Step.{Stands, IsStep, unchanged}
-use Rattle.sfi_image.specs.Spelling.{Part}
-use Rattle.sfi_scan.specs.Rules.{ends_region}
-use Rattle.sfi_check.specs.Regions.{IsGate, HasCode, HasReserved, HasEmptyGuards}
-use Rattle.sfi_check.specs.Runs.{KeepsBytes, IsReply, IsChange, Turn, Steps, Replies, Changes, IsTurn, IsRun, after_turn}
-use Rattle.sfi_check.specs.Safety.{IsSafeState, IsSafeTurn, IsSafeRun}
-use Rattle.sfi_check.specs.Leaving.{Leaves}
-use Rattle.sfi_check.specs.Places.{StackInDataBefore, IsCleanPart, IsGood, IsGoodIf}
-use Rattle.sfi_check.specs.Laws.{EntryIsGood, TurnKeeps, CleanRunsSafely}
+use Rattle.sfi_check.proofs.Prelude.{◌≡◌, ℕ, ◌+◌, ◌<◌, List, [], ◌∷◌, length, Option, Some, None, false, refl, sym, ap, ◌∙◌, subst, arith, Instr, Ecall, InRange, Bytes, address_after, Call, Read, State, Stands, IsStep, unchanged, Part, ends_region, IsGate, HasCode, HasReserved, HasEmptyGuards, KeepsBytes, IsReply, IsChange, Turn, Steps, Replies, Changes, IsTurn, IsRun, after_turn, IsSafeState, IsSafeTurn, IsSafeRun, Leaves, StackInDataBefore, IsCleanPart, IsGood, IsGoodIf, EntryIsGood, TurnKeeps, CleanRunsSafely}
 use Rattle.sfi_check.proofs.Places.{at_start, pc_in_code, byte_in_code}
 use Rattle.sfi_check.proofs.NextPlace.{goes_on}
 use Rattle.sfi_check.proofs.Stacking.{stack_lies}

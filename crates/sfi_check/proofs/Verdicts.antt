@@ -1,13 +1,7 @@
 -- What the refusal of bytes with a fault says.
-use Rattle.std.proofs.Common.{◌≡◌, ℕ, List, Err}
-use Rattle.sfi_image.specs.declared.fault.LayoutFault.{LayoutFault}
-use Rattle.sfi_image.specs.declared.fault.ImageFault.{ImageFault}
-use Rattle.sfi_image.specs.declared.fault.ImageFault.TheVariants as image
-use Rattle.sfi_image.specs.Spelling.{Part}
-use Rattle.sfi_image.specs.Faults.{IsFault}
-use Rattle.sfi_image.specs.Outcome.{IfLayout}
-use Rattle.sfi_check.specs.Refusals.{refusal_of, IfLayoutFault}
+use Rattle.sfi_check.proofs.Prelude.{◌≡◌, ℕ, List, Err, LayoutFault, ImageFault, Part, IsFault, IfLayout, refusal_of, IfLayoutFault}
 use Rattle.sfi_check.specs.Verdict.{AnswersLayout}
+use Rattle.sfi_image.specs.declared.fault.ImageFault.TheVariants as image
 
 pub fault_means : (bytes : List ℕ) (f : ImageFault) → IfLayout f (λ k. IsFault bytes k) → IfLayoutFault (IsFault bytes) (refusal_of f)
 fault_means bytes (image.Layout k) h = h

@@ -1,14 +1,5 @@
 -- Code regions are whole bundles, and end within the addresses; so each number of a right sandbox has 32 bits.
-use Rattle.std.proofs.Common.{◌≡◌, ℕ, ◌+◌, ◌-◌, ◌*◌, ◌^◌, ◌<◌, ◌≤◌, ap, ◌∙◌, ⊎_elim, arith}
-use Rattle.std.proofs.lemmas.Nat.{pow-add, pow_below}
-use Rattle.std.proofs.lemmas.Bool.{cases_lt}
-use Rattle.sfi_policy.specs.declared.format.Format.{Format}
-use Rattle.sfi_policy.specs.Formats.{code_most}
-use Rattle.sfi_policy.specs.Limits.{bundle_size}
-use Rattle.sfi_image.specs.Spelling.{Part, AreWords}
-use Rattle.sfi_image.specs.Regions.{IsCodeRegion}
-use Rattle.sfi_image.specs.Parts.{IsRightPart}
-use Rattle.sfi_image.specs.Laws.{WholeBundles, CodeEnds}
+use Rattle.sfi_image.proofs.Prelude.{◌≡◌, ℕ, ◌+◌, ◌-◌, ◌*◌, ◌^◌, ◌<◌, ◌≤◌, ap, ◌∙◌, ⊎_elim, arith, pow-add, pow_below, cases_lt, Format, code_most, bundle_size, Part, AreWords, IsCodeRegion, IsRightPart, WholeBundles, CodeEnds}
 use Rattle.sfi_image.proofs.Formats.{code_at_most}
 
 -- powers of two in the order of their exponents

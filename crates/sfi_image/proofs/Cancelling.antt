@@ -1,15 +1,5 @@
 -- What is spelled at the front of bytes is determined by them.
-use Rattle.std.proofs.Common.{◌≡◌, ℕ, ◌+◌, List, [], ◌∷◌, ◌++◌, length, take, refl, sym, ap, ◌∙◌, arith, append_assoc, inl, inr, ◌⊎◌}
-use Rattle.std.specs.Int.{w32, to_le_bytes, from_le_bytes}
-use Rattle.std.specs.List.{All, flat_map}
-use Rattle.std.proofs.Math.Seq.{take-append_seam}
-use Rattle.std.proofs.lemmas.Nat.{from_le_bytes-to_le_bytes_4}
-use Rattle.std.proofs.lemmas.List.{append_cancel_left, length-append}
-use Rattle.std.proofs.lemmas.List.Elements.{All-head, All-tail}
-use Rattle.sfi_policy.specs.declared.format.Format.{Format}
-use Rattle.sfi_image.specs.declared.part.Gate.{Gate}
-use Rattle.sfi_image.specs.declared.fields.Fields.{Fields}
-use Rattle.sfi_image.specs.Spelling.{Part, fields_of, number, fields, gate, part, IsWord, AreFieldWords, AreGateWords, AreWords}
+use Rattle.sfi_image.proofs.Prelude.{◌≡◌, ℕ, ◌+◌, List, [], ◌∷◌, ◌++◌, length, take, refl, sym, ap, ◌∙◌, arith, append_assoc, inl, inr, ◌⊎◌, w32, to_le_bytes, from_le_bytes, All, flat_map, take-append_seam, from_le_bytes-to_le_bytes_4, append_cancel_left, length-append, All-head, All-tail, Format, Gate, Fields, Part, fields_of, number, fields, gate, part, IsWord, AreFieldWords, AreGateWords, AreWords}
 
 -- two fronts of one length are the same front
 pub same_front : (xs ys : List ℕ) (r s : List ℕ) → length xs ≡ length ys → xs ++ r ≡ ys ++ s → (xs ≡ ys) × (r ≡ s)

@@ -1,21 +1,5 @@
 -- Each test of a layout is passed or not.
-use Rattle.std.proofs.Common.{◌≡◌, ℕ, ◌+◌, ◌%◌, ◌<◌, ◌≤◌, List, [], ◌∷◌, ◌++◌, refl, arith, ◌⊎◌, inl, inr, suc, Option, Some, None}
-use Rattle.std.specs.Prelude.{count_ones}
-use Rattle.std.specs.List.{All, AllPairs}
-use Rattle.std.proofs.lemmas.Bool.{cases_lt, cases_eq, eqb-true, eq-eqb}
-use Rattle.std.proofs.lemmas.List.Elements.{All-nil, All-cons, All-head, All-tail}
-use Rattle.std.proofs.lemmas.List.Kept.{AllPairs-cons}
-use Rattle.sfi_policy.specs.Formats.{code_most}
-use Rattle.sfi_image.specs.declared.part.Gate.{Gate}
-use Rattle.sfi_image.specs.declared.fields.Fields.{Fields}
-use Rattle.sfi_image.specs.declared.span.Span.{Span}
-use Rattle.sfi_image.specs.declared.fault.LayoutFault.{LayoutFault}
-use Rattle.sfi_image.specs.Spans.{Holds, AreApart, code_span, spans_of}
-use Rattle.sfi_image.specs.Regions.{IsRegion, HasGuardRoom, IsBundleStart}
-use Rattle.sfi_policy.specs.Limits.{gates_most, service_most}
-use Rattle.sfi_image.specs.Gates.{AreGates}
-use Rattle.sfi_image.specs.Tests.{FieldTest, Passes, IsFirstFault, fault_of}
-use Rattle.sfi_image.specs.Tests.FieldTest.{Code, Data, GuardRoom, Start, Gates, Init, Overlap}
+use Rattle.sfi_image.proofs.Prelude.{◌≡◌, ℕ, ◌+◌, ◌%◌, ◌<◌, ◌≤◌, List, [], ◌∷◌, ◌++◌, refl, arith, ◌⊎◌, inl, inr, suc, Option, Some, None, count_ones, All, AllPairs, cases_lt, cases_eq, eqb-true, eq-eqb, All-nil, All-cons, All-head, All-tail, AllPairs-cons, code_most, Gate, Fields, Span, LayoutFault, Holds, AreApart, code_span, spans_of, IsRegion, HasGuardRoom, IsBundleStart, gates_most, service_most, AreGates, FieldTest, Passes, IsFirstFault, fault_of, Code, Data, GuardRoom, Start, Gates, Init, Overlap}
 use Rattle.sfi_image.proofs.Regions.{region_test, not_region}
 
 abbrev pub Decided : Type 0 → Type 0

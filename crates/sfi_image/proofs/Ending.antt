@@ -1,15 +1,6 @@
 -- Where bytes end after a front.
-use Rattle.std.proofs.Common.{◌≡◌, ℕ, ◌+◌, ◌<◌, List, ◌++◌, length, refl, arith, append_assoc, inl, inr}
-use Rattle.std.specs.List.{flat_map}
-use Rattle.std.proofs.lemmas.List.{length-append}
-use Rattle.sfi_image.specs.declared.part.Gate.{Gate}
-use Rattle.sfi_image.specs.declared.fields.Fields.{Fields}
+use Rattle.sfi_image.proofs.Prelude.{◌≡◌, ℕ, ◌+◌, ◌<◌, List, ◌++◌, length, refl, arith, append_assoc, inl, inr, flat_map, length-append, Gate, Fields, IsFault, Part, format_of, number, fields, gate, part, spelling, spans, front, head, IsRightFront, CutShort, Trails, WholeIsImage, Empty, AfterMagic, AfterCount, InGates, InCode, InInit, Whole}
 use Rattle.sfi_image.specs.declared.fault.LayoutFault.TheVariants as faults
-use Rattle.sfi_image.specs.Faults.{IsFault}
-use Rattle.sfi_image.specs.Spelling.{Part, format_of, number, fields, gate, part, spelling}
-use Rattle.sfi_image.specs.Spans.{spans}
-use Rattle.sfi_image.specs.Fronts.{front, head, IsRightFront, CutShort, Trails, WholeIsImage}
-use Rattle.sfi_image.specs.Fronts.Front.{Empty, AfterMagic, AfterCount, InGates, InCode, InInit, Whole}
 use Rattle.sfi_image.proofs.Standing.{region}
 use Rattle.sfi_image.proofs.Steps.{head_fault, body_fault}
 

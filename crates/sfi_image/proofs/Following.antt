@@ -1,19 +1,5 @@
 -- The bytes of fronts that follow one another, and that what they hold is right.
-use Rattle.std.proofs.Common.{◌≡◌, ℕ, ◌≤◌, List, [], ◌∷◌, ◌++◌, length, refl, sym, ap, ◌∙◌, subst, arith, append_assoc, inl, inr}
-use Rattle.std.proofs.lemmas.Bool.Decides.{eqb_tells}
-use Rattle.std.specs.List.{AllPairs, flat_map}
-use Rattle.std.proofs.lemmas.Grind.{flat_map-append}
-use Rattle.std.proofs.lemmas.List.{append-nil}
-use Rattle.std.proofs.lemmas.List.Elements.{All-push}
-use Rattle.sfi_policy.specs.declared.format.Format.{Format}
-use Rattle.sfi_policy.specs.Formats.{magic}
-use Rattle.sfi_image.specs.declared.part.Gate.{Gate}
-use Rattle.sfi_image.specs.declared.fields.Fields.{Fields}
-use Rattle.sfi_image.specs.Spelling.{Part, number, fields, fields_of, gate, part}
-use Rattle.sfi_image.specs.Spans.{AreApart, spans, spans_of}
-use Rattle.sfi_image.specs.Parts.{IsRightPart, AreOf}
-use Rattle.sfi_image.specs.Fronts.{Front, front, head, IsHead, IsOpened, IsRightFront, part_of, after_parts, after_init, after_code, after_gates, Follows}
-use Rattle.sfi_image.specs.Fronts.Front.{Empty, AfterMagic, AfterCount, InGates, InCode, InInit, Whole}
+use Rattle.sfi_image.proofs.Prelude.{◌≡◌, ℕ, ◌≤◌, List, [], ◌∷◌, ◌++◌, length, refl, sym, ap, ◌∙◌, subst, arith, append_assoc, inl, inr, eqb_tells, AllPairs, flat_map, flat_map-append, append-nil, All-push, Format, magic, Gate, Fields, Part, number, fields, fields_of, gate, part, AreApart, spans, spans_of, IsRightPart, AreOf, Front, front, head, IsHead, IsOpened, IsRightFront, part_of, after_parts, after_init, after_code, after_gates, Follows, Empty, AfterMagic, AfterCount, InGates, InCode, InInit, Whole}
 use Rattle.sfi_image.proofs.FieldTests.{right_part}
 use Rattle.sfi_image.proofs.Views.{same_format}
 use Rattle.sfi_image.proofs.PartLists.{spans_push}

@@ -1,8 +1,5 @@
 -- What holds of each format.
-use Rattle.std.proofs.Common.{◌≡◌, ℕ, ◌+◌, ◌≤◌, List, ◌++◌, length, get_or, take, refl, ap, arith}
-use Rattle.sfi_policy.specs.declared.format.Format.{Format}
-use Rattle.sfi_policy.specs.declared.format.Format.TheVariants.{Sfi1, Sfi2}
-use Rattle.sfi_policy.specs.Formats.{magic, code_most}
+use Rattle.sfi_image.proofs.Prelude.{◌≡◌, ℕ, ◌+◌, ◌≤◌, List, ◌++◌, length, get_or, take, refl, ap, arith, Format, Sfi1, Sfi2, magic, code_most}
 
 -- no code region is larger than this
 pub code_at_most : (f : Format) → code_most f ≤ 1048576

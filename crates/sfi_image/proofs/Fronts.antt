@@ -1,13 +1,5 @@
 -- What stands at the front of bytes that are long enough.
-use Rattle.std.proofs.Common.{◌≡◌, ℕ, ◌+◌, ◌<◌, ◌≤◌, List, ◌++◌, length, take, drop, refl, sym, ap, ◌∙◌, arith, inl, inr}
-use Rattle.std.specs.List.{All}
-use Rattle.std.proofs.lemmas.Bool.{cases_lt}
-use Rattle.std.proofs.lemmas.List.{take-append-drop, length-take, length-drop, get_or-drop, get_or_past}
-use Rattle.sfi_policy.specs.declared.format.Format.{Format}
-use Rattle.byteorder.specs.Endian.{little_number}
-use Rattle.sfi_image.specs.declared.part.Gate.{Gate}
-use Rattle.sfi_image.specs.declared.fields.Fields.{Fields}
-use Rattle.sfi_image.specs.Spelling.{number, fields, gate, IsWord, AreFieldWords, AreGateWords}
+use Rattle.sfi_image.proofs.Prelude.{◌≡◌, ℕ, ◌+◌, ◌<◌, ◌≤◌, List, ◌++◌, length, take, drop, refl, sym, ap, ◌∙◌, arith, inl, inr, All, cases_lt, take-append-drop, length-take, length-drop, get_or-drop, get_or_past, Format, little_number, Gate, Fields, number, fields, gate, IsWord, AreFieldWords, AreGateWords}
 use Rattle.sfi_image.proofs.Numbers.{IsBytes, IsBytes-take, number_of_bytes}
 use Rattle.sfi_image.proofs.Cancelling.{gate_split, fields_split}
 

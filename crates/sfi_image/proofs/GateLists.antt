@@ -1,22 +1,5 @@
 -- Gates that follow one another.
-use Rattle.std.proofs.Common.{◌≡◌, ℕ, ◌+◌, ◌-◌, ◌<◌, ◌≤◌, List, [], ◌∷◌, ◌++◌, length, map, get_or, refl, sym, ap, subst, ◌∙◌, arith, append_assoc, inl, inr, lt_trans, ltb}
-use Rattle.std.specs.Prelude.{◌↔◌, IsTrue, slice_get, Option, None, Some}
-use Rattle.std.specs.List.{All, AllPairs, flat_map}
-use Rattle.std.specs.Option.{option_map}
-use Rattle.std.proofs.lemmas.Bool.{cases_lt, ltb-true, lt-ltb}
-use Rattle.std.proofs.lemmas.Grind.{flat_map-append}
-use Rattle.std.proofs.lemmas.List.{length-map, length_push, length-append, get_or_append_left, get_or_push}
-use Rattle.std.proofs.lemmas.Option.{get_or_from_slice_get, slice_get_within, slice_get-map}
-use Rattle.std.proofs.lemmas.List.Elements.{All-push}
-use Rattle.std.proofs.lemmas.List.Quantifiers.{all_pairs_push}
-use Rattle.sfi_policy.specs.Limits.{service_most}
-use Rattle.sfi_image.specs.declared.part.Gate.{Gate}
-use Rattle.sfi_image.specs.declared.fields.Fields.{Fields}
-use Rattle.sfi_image.specs.declared.span.Span.{Span}
-use Rattle.sfi_image.specs.Spelling.{gate, AreGateWords}
-use Rattle.sfi_image.specs.Spans.{code_span}
-use Rattle.sfi_image.specs.Regions.{IsBundleStart}
-use Rattle.sfi_image.specs.Gates.{AreGates}
+use Rattle.sfi_image.proofs.Prelude.{◌≡◌, ℕ, ◌+◌, ◌-◌, ◌<◌, ◌≤◌, List, [], ◌∷◌, ◌++◌, length, map, get_or, refl, sym, ap, subst, ◌∙◌, arith, append_assoc, inl, inr, lt_trans, ltb, ◌↔◌, IsTrue, slice_get, Option, None, Some, All, AllPairs, flat_map, option_map, cases_lt, ltb-true, lt-ltb, flat_map-append, length-map, length_push, length-append, get_or_append_left, get_or_push, get_or_from_slice_get, slice_get_within, slice_get-map, All-push, all_pairs_push, service_most, Gate, Fields, Span, gate, AreGateWords, code_span, IsBundleStart, AreGates}
 
 -- above the last of ascending gates is above all
 pub above_last : (gs : List Gate) (at : ℕ) (g : Gate) → AllPairs (λ g h. g.address < h.address) gs → slice_get gs (length gs - 1) ≡ Some g

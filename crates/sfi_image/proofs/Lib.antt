@@ -1,3 +1,4 @@
+pub mod Prelude
 pub mod Numbers
 pub mod Regions
 pub mod GateLists

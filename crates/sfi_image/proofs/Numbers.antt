@@ -1,10 +1,5 @@
 -- Numbers and their bytes.
-use Rattle.std.proofs.Common.{◌≡◌, ℕ, ◌<◌, List, length, get_or, take, arith, inl, inr}
-use Rattle.std.proofs.lemmas.Nat.{le_bytes_4}
-use Rattle.std.proofs.lemmas.List.{get_or-take, get_or_past, length-take}
-use Rattle.std.proofs.lemmas.Bool.{cases_lt}
-use Rattle.byteorder.specs.Endian.{little_number}
-use Rattle.sfi_image.specs.Spelling.{number}
+use Rattle.sfi_image.proofs.Prelude.{◌≡◌, ℕ, ◌<◌, List, length, get_or, take, arith, inl, inr, le_bytes_4, get_or-take, get_or_past, length-take, cases_lt, little_number, number}
 
 abbrev pub IsBytes : List ℕ → Type 0
 IsBytes bytes = (i : ℕ) → get_or bytes i 0 < 256

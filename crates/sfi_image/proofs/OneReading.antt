@@ -1,25 +1,7 @@
 -- Bytes have one image or one fault.
-use Rattle.std.proofs.Common.{◌≡◌, ℕ, ◌+◌, ◌<◌, ◌≤◌, List, [], ◌∷◌, ◌++◌, length, take, refl, sym, ap, subst, ◌∙◌, arith, append_assoc, inl, inr, ◌⊎◌, Some, None, Option, Result, Ok, Err}
-use Rattle.std.specs.List.{All, AllPairs, flat_map}
-use Rattle.std.proofs.lemmas.Grind.{flat_map-append}
-use Rattle.std.proofs.lemmas.List.{length-append, append-nil}
-use Rattle.sfi_policy.specs.declared.format.Format.{Format}
-use Rattle.sfi_policy.specs.Formats.{magic}
-use Rattle.sfi_image.specs.declared.part.Gate.{Gate}
-use Rattle.sfi_image.specs.declared.fields.Fields.{Fields}
-use Rattle.sfi_image.specs.declared.span.Span.{Span}
-use Rattle.sfi_image.specs.declared.fault.LayoutFault.{LayoutFault}
-use Rattle.sfi_image.specs.declared.fault.LayoutFault.TheVariants.{Count, Short, Gates, Trailing}
-use Rattle.sfi_image.specs.declared.fault.ImageFault.{ImageFault}
+use Rattle.sfi_image.proofs.Prelude.{◌≡◌, ℕ, ◌+◌, ◌<◌, ◌≤◌, List, [], ◌∷◌, ◌++◌, length, take, refl, sym, ap, subst, ◌∙◌, arith, append_assoc, inl, inr, ◌⊎◌, Some, None, Option, Result, Ok, Err, All, AllPairs, flat_map, flat_map-append, length-append, append-nil, Format, magic, Gate, Fields, Span, LayoutFault, Count, Short, Trailing, ImageFault, Reads, Part, fields_of, format_of, number, gate, part, spelling, AreGateWords, AreApart, code_span, spans_of, spans, AreGates, IsRightPart, AreOf, AreRight, FieldTest, IsFirstFault, field_tests, IsImage, IsBodyFault, IsPartFault, ArePartsFault, IsCountFault, IsFault}
+use Rattle.sfi_image.specs.declared.fault.LayoutFault.TheVariants.{Gates}
 use Rattle.sfi_image.specs.declared.fault.ImageFault.TheVariants as errors
-use Rattle.sfi_image.specs.private.Outcome.{Reads}
-use Rattle.sfi_image.specs.Spelling.{Part, fields_of, format_of, number, gate, part, spelling, AreGateWords}
-use Rattle.sfi_image.specs.Spans.{AreApart, code_span, spans_of, spans}
-use Rattle.sfi_image.specs.Gates.{AreGates}
-use Rattle.sfi_image.specs.Parts.{IsRightPart, AreOf, AreRight}
-use Rattle.sfi_image.specs.Tests.{FieldTest, IsFirstFault, field_tests}
-use Rattle.sfi_image.specs.Images.{IsImage}
-use Rattle.sfi_image.specs.Faults.{IsBodyFault, IsPartFault, ArePartsFault, IsCountFault, IsFault}
 use Rattle.sfi_policy.proofs.Formats.{length_of_magic}
 use Rattle.sfi_image.proofs.Formats.{one_magic, length-magic, take-magic}
 use Rattle.sfi_image.proofs.GateLists.{front_gates}

@@ -1,25 +1,8 @@
 -- Sandboxes that are to be written have one fault at most, that of their bytes.
-use Rattle.std.proofs.Common.{◌≡◌, ℕ, ◌≤◌, List, [], ◌∷◌, ◌++◌, length, refl, sym, ap, subst, ◌∙◌, arith, append_assoc, append-nil, inl, inr, ◌⊎◌, Some, None, Result, Ok, Err}
-use Rattle.std.specs.Prelude.{IfErr}
-use Rattle.std.specs.List.{All, AllPairs, flat_map}
-use Rattle.std.proofs.lemmas.Grind.{flat_map-append}
-use Rattle.std.proofs.lemmas.List.{length-append}
-use Rattle.std.proofs.lemmas.List.Elements.{All-cons, All-head, All-tail}
-use Rattle.sfi_policy.specs.declared.format.Format.{Format}
-use Rattle.sfi_image.specs.declared.span.Span.{Span}
-use Rattle.sfi_image.specs.declared.fault.LayoutFault.{LayoutFault}
+use Rattle.sfi_image.proofs.Prelude.{◌≡◌, ℕ, ◌≤◌, List, [], ◌∷◌, ◌++◌, length, refl, sym, ap, subst, ◌∙◌, arith, append_assoc, inl, inr, ◌⊎◌, Some, None, Result, Ok, Err, IfErr, All, AllPairs, flat_map, flat_map-append, length-append, All-cons, All-head, All-tail, Format, Span, LayoutFault, ImageFault, Part, format_of, fields_of, gate, part, number, spelling, AreGateWords, AreWords, AreApart, code_region, spans_of, spans, AreGates, IsRightPart, AreOf, AreRight, IsRightLayout, field_tests, IsBodyFault, IsPartFault, ArePartsFault, IsFault, HasWrongGate, HasFault, HasWrongPart, HaveFault, IfLayout, Reads}
+use Rattle.std.proofs.Common.{append-nil}
 use Rattle.sfi_image.specs.declared.fault.LayoutFault.TheVariants as faults
-use Rattle.sfi_image.specs.declared.fault.ImageFault.{ImageFault}
 use Rattle.sfi_image.specs.declared.fault.ImageFault.TheVariants as errors
-use Rattle.sfi_image.specs.Spelling.{Part, format_of, fields_of, gate, part, number, spelling, AreGateWords, AreWords}
-use Rattle.sfi_image.specs.Spans.{AreApart, code_region, spans_of, spans}
-use Rattle.sfi_image.specs.Gates.{AreGates}
-use Rattle.sfi_image.specs.Parts.{IsRightPart, AreOf, AreRight, IsRightLayout}
-use Rattle.sfi_image.specs.Tests.{field_tests}
-use Rattle.sfi_image.specs.Faults.{IsBodyFault, IsPartFault, ArePartsFault, IsFault}
-use Rattle.sfi_image.specs.Writing.{HasWrongGate, HasFault, HasWrongPart, HaveFault}
-use Rattle.sfi_image.specs.Outcome.{IfLayout}
-use Rattle.sfi_image.specs.private.Outcome.{Reads}
 use Rattle.sfi_image.proofs.GateLists.{front_gates, flat_split}
 use Rattle.sfi_image.proofs.SpanLists.{front_apart}
 use Rattle.sfi_image.proofs.FieldTests.{part_passes}

@@ -1,28 +1,9 @@
 -- Reading an image by a reader: its faults and its parts.
-use Rattle.std.proofs.Common.{◌≡◌, ℕ, ◌+◌, ◌<◌, eqb, true, List, [], ◌∷◌, ◌++◌, length, cond, refl, sym, ap, ◌∙◌, subst, arith, append_assoc, inl, inr, Result, Ok, Err}
-use Rattle.std.proofs.lemmas.Bool.Decides.{eqb_tells}
-use Rattle.std.specs.List.{All, flat_map}
-use Rattle.std.proofs.lemmas.Bool.{eq-eqb}
-use Rattle.std.proofs.lemmas.List.{length-append, append-nil}
-use Rattle.sfi_policy.specs.declared.format.Format.{Format}
-use Rattle.sfi_policy.specs.Formats.{magic}
-use Rattle.sfi_image.specs.declared.part.Gate.{Gate}
-use Rattle.sfi_image.specs.declared.fields.Fields.{Fields}
-use Rattle.sfi_image.specs.declared.fault.LayoutFault.{LayoutFault}
+use Rattle.sfi_image.proofs.Prelude.{◌≡◌, ℕ, ◌+◌, ◌<◌, eqb, true, List, [], ◌∷◌, ◌++◌, length, cond, refl, sym, ap, ◌∙◌, subst, arith, append_assoc, inl, inr, Result, Ok, Err, eqb_tells, All, flat_map, eq-eqb, length-append, append-nil, Format, magic, Gate, Fields, LayoutFault, Part, number, fields, gate, part, IsWord, AreFieldWords, AreGateWords, IsFault, Front, front, head, want_of, IsLess, part_of, after_parts, after_init, after_code, after_gates, HasFaultWhateverFollows, AfterMagic, AfterCount, InGates, InCode, InInit, Whole, ReaderState, StandsFor, Leads, MayTake, next_code, ImageFault, IfLayout, Reads, All-head, All-tail}
 use Rattle.sfi_image.specs.declared.want.Next.TheVariants as next
-use Rattle.sfi_image.specs.Spelling.{Part, number, fields, gate, part, IsWord, AreFieldWords, AreGateWords}
-use Rattle.sfi_image.specs.Faults.{IsFault}
-use Rattle.sfi_image.specs.Fronts.{Front, front, head, want_of, IsLess, part_of, after_parts, after_init, after_code, after_gates, HasFaultWhateverFollows}
-use Rattle.sfi_image.specs.Fronts.Front.{AfterMagic, AfterCount, InGates, InCode, InInit, Whole}
-use Rattle.sfi_image.specs.Keeping.{ReaderState, StandsFor, Leads}
-use Rattle.sfi_image.specs.private.Keeping.{MayTake, next_code}
 use Rattle.sfi_image.proofs.Following.{head_push}
 use Rattle.sfi_image.proofs.Cancelling.{same_gate, same_fields, same_number}
-use Rattle.sfi_image.specs.declared.fault.ImageFault.{ImageFault}
 use Rattle.sfi_image.specs.declared.fault.ImageFault.TheVariants as errors
-use Rattle.sfi_image.specs.Outcome.{IfLayout}
-use Rattle.sfi_image.specs.private.Outcome.{Reads}
-use Rattle.std.proofs.lemmas.List.Elements.{All-head, All-tail}
 use Rattle.sfi_image.proofs.Standing.{leads, init_stand}
 
 -- a fault of the bytes taken is one of all of them

@@ -1,19 +1,5 @@
 -- Reading sandboxes one after the other.
-use Rattle.std.proofs.Common.{◌≡◌, ℕ, ◌+◌, ◌<◌, List, [], ◌∷◌, ◌++◌, length, refl, sym, ap, ◌∙◌, arith, append_assoc, inr, subst}
-use Rattle.std.specs.List.{All, AllPairs, flat_map}
-use Rattle.std.proofs.lemmas.Grind.{flat_map-append}
-use Rattle.std.proofs.lemmas.List.{length_push, append-nil}
-use Rattle.std.proofs.lemmas.List.Elements.{All-push, All-append, All-from_recursion}
-use Rattle.sfi_policy.specs.declared.format.Format.{Format}
-use Rattle.sfi_image.specs.declared.part.Gate.{Gate}
-use Rattle.sfi_image.specs.declared.fields.Fields.{Fields}
-use Rattle.sfi_image.specs.declared.span.Span.{Span}
-use Rattle.sfi_image.specs.declared.fault.LayoutFault.TheVariants.{Trailing}
-use Rattle.sfi_image.specs.Spelling.{Part, fields_of, fields, gate, part}
-use Rattle.sfi_image.specs.Spans.{AreApart, spans_of, spans}
-use Rattle.sfi_image.specs.Bounded.{IsBounded}
-use Rattle.sfi_image.specs.Parts.{IsRightPart, AreOf, AreRight}
-use Rattle.sfi_image.specs.Faults.{ArePartsFault}
+use Rattle.sfi_image.proofs.Prelude.{◌≡◌, ℕ, ◌+◌, ◌<◌, List, [], ◌∷◌, ◌++◌, length, refl, sym, ap, ◌∙◌, arith, append_assoc, inr, subst, All, AllPairs, flat_map, flat_map-append, length_push, append-nil, All-push, All-append, All-from_recursion, Format, Gate, Fields, Span, Trailing, Part, fields_of, fields, gate, part, AreApart, spans_of, spans, IsBounded, IsRightPart, AreOf, AreRight, ArePartsFault}
 use Rattle.sfi_image.proofs.Formats.{code_at_most}
 use Rattle.sfi_image.proofs.GateLists.{flat_split}
 

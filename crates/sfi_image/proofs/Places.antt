@@ -1,21 +1,7 @@
 -- What a reader stands for, by what it reads next; and what its numbers are there.
-use Rattle.std.proofs.Common.{◌≡◌, ℕ, ◌+◌, ◌-◌, ◌*◌, ◌^◌, ◌<◌, ◌≤◌, List, [], ◌∷◌, length, drop, refl, sym, ap, ◌∙◌, subst, arith, inl, inr}
-use Rattle.std.specs.List.{All, AllPairs}
-use Rattle.std.proofs.lemmas.List.{length-map}
-use Rattle.std.proofs.lemmas.List.Elements.{All-append, All-head, All-tail}
-use Rattle.sfi_policy.specs.declared.format.Format.{Format}
-use Rattle.sfi_image.specs.declared.part.Gate.{Gate}
-use Rattle.sfi_image.specs.declared.fields.Fields.{Fields}
+use Rattle.sfi_image.proofs.Prelude.{◌≡◌, ℕ, ◌+◌, ◌-◌, ◌*◌, ◌^◌, ◌<◌, ◌≤◌, List, [], ◌∷◌, length, drop, refl, sym, ap, ◌∙◌, subst, arith, inl, inr, All, AllPairs, length-map, All-append, All-head, All-tail, Format, Gate, Fields, Part, fields_of, AreApart, spans, spans_of, IsBounded, IsRightPart, Front, want_of, IsLengthOf, AfterCount, InGates, InCode, InInit, Whole, ReaderState, StandsFor, IsReader, MayTake, is_first}
 use Rattle.sfi_image.specs.declared.want.Next.TheVariants as next
 use Rattle.sfi_image.specs.declared.want.Want.TheVariants as wants
-use Rattle.sfi_image.specs.Spelling.{Part, fields_of}
-use Rattle.sfi_image.specs.Spans.{AreApart, spans, spans_of}
-use Rattle.sfi_image.specs.Bounded.{IsBounded}
-use Rattle.sfi_image.specs.Parts.{IsRightPart}
-use Rattle.sfi_image.specs.Fronts.{Front, want_of, IsLengthOf}
-use Rattle.sfi_image.specs.Fronts.Front.{AfterCount, InGates, InCode, InInit, Whole}
-use Rattle.sfi_image.specs.Keeping.{ReaderState, StandsFor, IsReader}
-use Rattle.sfi_image.specs.private.Keeping.{MayTake, is_first}
 use Rattle.sfi_image.proofs.PartLists.{right_bounded}
 use Rattle.sfi_image.proofs.Standing.{region, first_is}
 

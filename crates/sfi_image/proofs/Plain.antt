@@ -1,12 +1,5 @@
 -- Plain bundles: none of them at a gate, and none of them their region's last.
-use Rattle.std.proofs.Common.{◌≡◌, ℕ, ◌+◌, ◌-◌, ◌*◌, ◌/◌, ◌%◌, ◌<◌, eqb, true, false, List, [], ◌∷◌, ◌++◌, length, drop, refl, sym, ap, ◌∙◌, subst, arith}
-use Rattle.std.proofs.lemmas.Bool.{eq-eqb, ne_eqb}
-use Rattle.std.proofs.lemmas.List.{length-append}
-use Rattle.sfi_image.specs.Spans.{spans}
-use Rattle.sfi_image.specs.Fronts.{Front, ArePlainNext, after_code}
-use Rattle.sfi_image.specs.Fronts.Front.{InCode}
-use Rattle.sfi_image.specs.Keeping.{ReaderState, StandsFor, Leads, AreAhead, is_one_of}
-use Rattle.sfi_image.specs.private.Keeping.{AreFrom, HasPlain}
+use Rattle.sfi_image.proofs.Prelude.{◌≡◌, ℕ, ◌+◌, ◌-◌, ◌*◌, ◌/◌, ◌%◌, ◌<◌, eqb, true, false, List, [], ◌∷◌, ◌++◌, length, drop, refl, sym, ap, ◌∙◌, subst, arith, eq-eqb, ne_eqb, length-append, spans, Front, ArePlainNext, after_code, InCode, ReaderState, StandsFor, Leads, AreAhead, is_one_of, AreFrom, HasPlain}
 use Rattle.sfi_image.proofs.Standing.{region, none_before, leads, code_stand}
 
 -- ---- addresses ahead

@@ -1,28 +1,6 @@
 -- What is wrong with sandboxes that are to be written.
-use Rattle.std.proofs.Common.{suc, ◌≡◌, ℕ, ◌+◌, ◌<◌, ◌≤◌, ◌^◌, List, [], ◌∷◌, ◌++◌, length, get_or, map, take, drop, refl, sym, ap, subst, ◌∙◌, arith, inl, inr, ◌⊎◌, Some, None, Option}
-use Rattle.std.proofs.Math.Seq.{split_at}
-use Rattle.std.specs.List.{All, AllPairs}
-use Rattle.std.proofs.lemmas.List.{take_more, map_push}
-use Rattle.std.proofs.Math.ListN.{get_or-map}
-use Rattle.std.proofs.lemmas.List.Elements.{All-push, All-append}
-use Rattle.std.proofs.lemmas.Bool.{cases_lt}
-use Rattle.std.proofs.lemmas.Bool.Decides.{nat_tests}
-use Rattle.std.specs.Prelude.{nat_le, true, false}
-use Rattle.sfi_policy.specs.Formats.{code_most}
-use Rattle.sfi_image.specs.declared.part.Gate.{Gate}
-use Rattle.sfi_image.specs.declared.fields.Fields.{Fields}
-use Rattle.sfi_image.specs.declared.span.Span.{Span}
-use Rattle.sfi_image.specs.declared.fault.LayoutFault.{LayoutFault}
+use Rattle.sfi_image.proofs.Prelude.{suc, ◌≡◌, ℕ, ◌+◌, ◌<◌, ◌≤◌, ◌^◌, List, [], ◌∷◌, ◌++◌, length, get_or, map, take, drop, refl, sym, ap, subst, ◌∙◌, arith, inl, inr, ◌⊎◌, Some, None, Option, split_at, All, AllPairs, take_more, map_push, get_or-map, All-push, All-append, cases_lt, nat_tests, nat_le, true, false, code_most, Gate, Fields, Span, LayoutFault, Part, fields_of, AreFieldWords, AreGateWords, AreApart, code_span, code_region, spans_of, spans, IsBounded, gates_most, AreGates, IsRightPart, AreRight, IsFirstFault, field_tests, HasWrongGate, HasFault, HaveFault, capped, capped_fields}
 use Rattle.sfi_image.specs.declared.fault.LayoutFault.TheVariants as faults
-use Rattle.sfi_image.specs.Spelling.{Part, fields_of, AreFieldWords, AreGateWords}
-use Rattle.sfi_image.specs.Spans.{AreApart, code_span, code_region, spans_of, spans}
-use Rattle.sfi_image.specs.Bounded.{IsBounded}
-use Rattle.sfi_policy.specs.Limits.{gates_most}
-use Rattle.sfi_image.specs.Gates.{AreGates}
-use Rattle.sfi_image.specs.Parts.{IsRightPart, AreRight}
-use Rattle.sfi_image.specs.Tests.{IsFirstFault, field_tests}
-use Rattle.sfi_image.specs.Writing.{HasWrongGate, HasFault, HaveFault}
-use Rattle.sfi_image.specs.private.Writing.{capped, capped_fields}
 use Rattle.sfi_image.proofs.Formats.{code_at_most}
 use Rattle.sfi_image.proofs.Regions.{not_region}
 use Rattle.sfi_image.proofs.FieldTests.{right_part, all_pass}

@@ -1,14 +1,5 @@
 -- A right layout is one in the second format too: its code regions may be larger.
-use Rattle.std.proofs.Common.{◌≡◌, zero, suc, List, [], ◌∷◌, ◌++◌, length, refl, ap, subst, arith}
-use Rattle.std.specs.List.{All, AllPairs}
-use Rattle.std.proofs.lemmas.List.{length-map}
-use Rattle.std.proofs.lemmas.List.Elements.{All-map, All-weaker}
-use Rattle.sfi_policy.specs.declared.format.Format.TheVariants.{Sfi2}
-use Rattle.sfi_image.specs.declared.span.Span.{Span}
-use Rattle.sfi_image.specs.Spelling.{Part, format_of, fields_of}
-use Rattle.sfi_image.specs.InFormat.{in_format, all_in_format}
-use Rattle.sfi_image.specs.Spans.{AreApart, spans_of, spans}
-use Rattle.sfi_image.specs.Parts.{IsRightPart, AreOf, IsRightLayout}
+use Rattle.sfi_image.proofs.Prelude.{◌≡◌, zero, suc, List, [], ◌∷◌, ◌++◌, length, refl, ap, subst, arith, All, AllPairs, length-map, All-map, All-weaker, Sfi2, Span, Part, format_of, fields_of, in_format, all_in_format, AreApart, spans_of, spans, IsRightPart, AreOf, IsRightLayout}
 use Rattle.sfi_image.proofs.Formats.{code_at_most}
 
 part_in_second : (p : Part) → IsRightPart p → IsRightPart (in_format Sfi2 p)

@@ -1,24 +1,6 @@
 -- Bytes have an image or a fault.
-use Rattle.std.proofs.Common.{◌≡◌, ℕ, ◌+◌, ◌<◌, ◌≤◌, List, [], ◌∷◌, ◌++◌, length, take, drop, refl, sym, ap, subst, ◌∙◌, arith, zero, suc, inl, inr, ◌⊎◌, Some, None, Option}
-use Rattle.std.specs.List.{AllPairs, flat_map}
-use Rattle.std.proofs.lemmas.Bool.{cases_lt}
-use Rattle.std.proofs.lemmas.List.{take-append-drop, length-take, length-drop}
-use Rattle.std.proofs.lemmas.List.Elements.{All-nil}
-use Rattle.sfi_policy.specs.declared.format.Format.{Format}
-use Rattle.sfi_policy.specs.declared.format.Format.TheVariants.{Sfi1, Sfi2}
-use Rattle.sfi_policy.specs.Formats.{magic}
-use Rattle.sfi_image.specs.declared.part.Gate.{Gate}
-use Rattle.sfi_image.specs.declared.fields.Fields.{Fields}
-use Rattle.sfi_image.specs.declared.span.Span.{Span}
-use Rattle.sfi_image.specs.declared.fault.LayoutFault.{LayoutFault}
-use Rattle.sfi_image.specs.declared.fault.LayoutFault.TheVariants.{Magic, Count, Short, Gates, Trailing}
-use Rattle.sfi_image.specs.Spelling.{Part, fields_of, number, fields, part, AreFieldWords}
-use Rattle.sfi_image.specs.Spans.{AreApart, code_span, spans_of}
-use Rattle.sfi_image.specs.Parts.{IsRightPart, AreOf, AreRight}
-use Rattle.sfi_image.specs.Tests.{IsFirstFault, field_tests}
-use Rattle.sfi_image.specs.Images.{IsImage}
-use Rattle.sfi_image.specs.Faults.{IsBodyFault, IsPartFault, ArePartsFault, IsCountFault, IsFault}
-use Rattle.sfi_image.specs.Laws.{SomeReading}
+use Rattle.sfi_image.proofs.Prelude.{◌≡◌, ℕ, ◌+◌, ◌<◌, ◌≤◌, List, [], ◌∷◌, ◌++◌, length, take, drop, refl, sym, ap, subst, ◌∙◌, arith, zero, suc, inl, inr, ◌⊎◌, Some, None, Option, AllPairs, flat_map, cases_lt, take-append-drop, length-take, length-drop, All-nil, Format, Sfi1, Sfi2, magic, Gate, Fields, Span, LayoutFault, Magic, Count, Short, Trailing, Part, fields_of, number, fields, part, AreFieldWords, AreApart, code_span, spans_of, IsRightPart, AreOf, AreRight, IsFirstFault, field_tests, IsImage, IsBodyFault, IsPartFault, ArePartsFault, IsCountFault, IsFault, SomeReading}
+use Rattle.sfi_image.specs.declared.fault.LayoutFault.TheVariants.{Gates}
 use Rattle.sfi_image.proofs.Numbers.{IsBytes}
 use Rattle.sfi_image.proofs.GateLists.{GatesRead, GatesRead-push}
 use Rattle.sfi_image.proofs.FieldTests.{right_part}

@@ -1,11 +1,5 @@
 -- Spans that lie apart.
-use Rattle.std.proofs.Common.{◌≡◌, ℕ, ◌+◌, ◌-◌, ◌<◌, List, [], ◌∷◌, ◌++◌, length, get_or, refl, ap, ◌∙◌, arith, append_assoc, subst, below_more}
-use Rattle.std.specs.List.{All, AllPairs}
-use Rattle.std.proofs.lemmas.List.{length-append, get_or_append_left, get_or_default, get_or-append_right}
-use Rattle.std.proofs.lemmas.List.Elements.{All-push}
-use Rattle.std.proofs.lemmas.List.Quantifiers.{all_pairs_push}
-use Rattle.sfi_image.specs.declared.span.Span.{Span}
-use Rattle.sfi_image.specs.Spans.{AreApart}
+use Rattle.sfi_image.proofs.Prelude.{◌≡◌, ℕ, ◌+◌, ◌-◌, ◌<◌, List, [], ◌∷◌, ◌++◌, length, get_or, refl, ap, ◌∙◌, arith, append_assoc, subst, below_more, All, AllPairs, length-append, get_or_append_left, get_or_default, get_or-append_right, All-push, all_pairs_push, Span, AreApart}
 
 -- one more step over the spans before
 pub apart_more : (xs : List Span) (one : Span) (i : ℕ) (x : Span) → i < length xs → ((k : ℕ) (d : Span) → k < i → AreApart (get_or xs k d) one)

@@ -1,25 +1,6 @@
 -- What a reader stands for after each step.
-use Rattle.std.proofs.Common.{◌≡◌, ℕ, zero, suc, ◌+◌, ◌*◌, ◌%◌, ◌<◌, ◌≤◌, ◌==◌, Bool, true, false, ◌^◌, List, [], ◌∷◌, ◌++◌, length, map, drop, cond, refl, sym, ap, ◌∙◌, subst, arith, inl, inr, None}
-use Rattle.std.proofs.Math.Bool.{or-false}
-use Rattle.std.proofs.lemmas.Bool.Decides.{eqb_tells}
-use Rattle.std.specs.List.{All, AllPairs}
-use Rattle.std.proofs.lemmas.Bool.{eqb-true, eqb-false, ne_eqb}
-use Rattle.std.proofs.lemmas.List.{length_push, drop-drop}
-use Rattle.sfi_policy.specs.declared.format.Format.{Format}
-use Rattle.sfi_policy.specs.Formats.{magic}
-use Rattle.sfi_image.specs.declared.part.Gate.{Gate}
-use Rattle.sfi_image.specs.declared.fields.Fields.{Fields}
-use Rattle.sfi_image.specs.declared.span.Span.{Span}
+use Rattle.sfi_image.proofs.Prelude.{◌≡◌, ℕ, zero, suc, ◌+◌, ◌*◌, ◌%◌, ◌<◌, ◌≤◌, ◌==◌, Bool, true, false, ◌^◌, List, [], ◌∷◌, ◌++◌, length, map, drop, cond, refl, sym, ap, ◌∙◌, subst, arith, inl, inr, None, or-false, eqb_tells, All, AllPairs, eqb-true, eqb-false, ne_eqb, length_push, drop-drop, Format, magic, Gate, Fields, Span, Part, number, AreFieldWords, code_span, spans, spans_of, AreGates, is_gate_of, AreOf, AreRight, IsFirstFault, field_tests, Front, IsHead, IsOpened, IsRightFront, part_of, after_parts, after_init, after_code, after_gates, Follows, Empty, AfterMagic, AfterCount, ReaderState, KeepsHead, KeepsFields, StandsFor, KeepsCode, IsReader, Leads, AreAhead, AreRest, is_one_of, next_part, next_init, next_code, next_gate, is_first}
 use Rattle.sfi_image.specs.declared.want.Next.TheVariants as next
-use Rattle.sfi_image.specs.Spelling.{Part, number, AreFieldWords}
-use Rattle.sfi_image.specs.Spans.{code_span, spans, spans_of}
-use Rattle.sfi_image.specs.Gates.{AreGates, is_gate_of}
-use Rattle.sfi_image.specs.Parts.{AreOf, AreRight}
-use Rattle.sfi_image.specs.Tests.{IsFirstFault, field_tests}
-use Rattle.sfi_image.specs.Fronts.{Front, IsHead, IsOpened, IsRightFront, part_of, after_parts, after_init, after_code, after_gates, Follows}
-use Rattle.sfi_image.specs.Fronts.Front.{Empty, AfterMagic, AfterCount}
-use Rattle.sfi_image.specs.Keeping.{ReaderState, KeepsHead, KeepsFields, StandsFor, KeepsCode, IsReader, Leads, AreAhead, AreRest, is_one_of}
-use Rattle.sfi_image.specs.private.Keeping.{next_part, next_init, next_code, next_gate, is_first}
 use Rattle.sfi_image.proofs.FieldTests.{all_pass}
 use Rattle.sfi_image.proofs.PartLists.{spans_push}
 use Rattle.sfi_image.proofs.Bundles.{whole_bundles}

@@ -1,26 +1,7 @@
 -- Where each step leads, and which faults it meets.
-use Rattle.std.proofs.Common.{◌≡◌, ℕ, ◌+◌, ◌<◌, ◌≤◌, ◌⊎◌, List, [], ◌∷◌, ◌++◌, length, map, take, drop, cond, refl, sym, ap, ◌∙◌, subst, arith, append_assoc, inl, inr, None, Some}
-use Rattle.std.specs.List.{All, flat_map}
-use Rattle.std.proofs.Math.Seq.{take-append_seam}
-use Rattle.std.proofs.lemmas.List.{length-append, length_push, append-nil, map_push, length-map}
-use Rattle.std.proofs.lemmas.List.Elements.{All-push}
-use Rattle.sfi_policy.specs.declared.format.Format.{Format}
-use Rattle.sfi_policy.specs.Formats.{magic}
-use Rattle.sfi_image.specs.declared.part.Gate.{Gate}
-use Rattle.sfi_image.specs.declared.fields.Fields.{Fields}
-use Rattle.sfi_image.specs.declared.span.Span.{Span}
-use Rattle.sfi_image.specs.declared.fault.LayoutFault.{LayoutFault}
+use Rattle.sfi_image.proofs.Prelude.{◌≡◌, ℕ, ◌+◌, ◌<◌, ◌≤◌, ◌⊎◌, List, [], ◌∷◌, ◌++◌, length, map, take, drop, cond, refl, sym, ap, ◌∙◌, subst, arith, append_assoc, inl, inr, None, Some, All, flat_map, take-append_seam, length-append, length_push, append-nil, map_push, length-map, All-push, Format, magic, Gate, Fields, Span, LayoutFault, Part, number, fields, gate, part, IsWord, AreFieldWords, AreGateWords, code_span, spans, spans_of, AreGates, IsFirstFault, field_tests, IsFault, IsPartFault, IsGateShort, IsGateWrong, AreContentsShort, Front, front, head, IsHead, IsOpened, after_init, after_code, after_gates, HasFaultWhateverFollows, Empty, AfterMagic, AfterCount, InGates, InCode, InInit, ReaderState, StandsFor, Leads, next_init, next_code, next_gate, is_first}
 use Rattle.sfi_image.specs.declared.fault.LayoutFault.TheVariants as faults
 use Rattle.sfi_image.specs.declared.want.Next.TheVariants as next
-use Rattle.sfi_image.specs.Spelling.{Part, number, fields, gate, part, IsWord, AreFieldWords, AreGateWords}
-use Rattle.sfi_image.specs.Spans.{code_span, spans, spans_of}
-use Rattle.sfi_image.specs.Gates.{AreGates}
-use Rattle.sfi_image.specs.Tests.{IsFirstFault, field_tests}
-use Rattle.sfi_image.specs.Faults.{IsFault, IsPartFault, IsGateShort, IsGateWrong, AreContentsShort}
-use Rattle.sfi_image.specs.Fronts.{Front, front, head, IsHead, IsOpened, after_init, after_code, after_gates, HasFaultWhateverFollows}
-use Rattle.sfi_image.specs.Fronts.Front.{Empty, AfterMagic, AfterCount, InGates, InCode, InInit}
-use Rattle.sfi_image.specs.Keeping.{ReaderState, StandsFor, Leads}
-use Rattle.sfi_image.specs.private.Keeping.{next_init, next_code, next_gate, is_first}
 use Rattle.sfi_image.proofs.Standing.{leads, gates_stand, code_stand, init_stand, region, rest_after}
 
 none_gates : (region : Span) → AreGates region []

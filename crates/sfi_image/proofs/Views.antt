@@ -1,9 +1,5 @@
 -- Parts of one format.
-use Rattle.std.proofs.Common.{◌≡◌, zero, suc, ◌≤◌, List, [], ◌∷◌, length, refl, arith}
-use Rattle.sfi_policy.specs.declared.format.Format.{Format}
-use Rattle.sfi_image.specs.declared.part.SandboxPart.{SandboxPart}
-use Rattle.sfi_image.specs.Spelling.{Part, views, format_of}
-use Rattle.sfi_image.specs.Parts.{AreOf}
+use Rattle.sfi_image.proofs.Prelude.{◌≡◌, zero, suc, ◌≤◌, List, [], ◌∷◌, length, refl, arith, Format, SandboxPart, Part, views, format_of, AreOf}
 
 -- the first one tells it
 pub same_format : {format : Format} (ps : List Part) → AreOf format ps → 1 ≤ length ps → format_of ps ≡ format

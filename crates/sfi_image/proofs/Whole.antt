@@ -1,15 +1,5 @@
 -- The front of an image, and the whole.
-use Rattle.std.proofs.Common.{◌≡◌, ℕ, ◌≤◌, List, ◌++◌, length, take, drop, refl, sym, ◌∙◌, subst, arith, inl, inr}
-use Rattle.std.specs.List.{flat_map}
-use Rattle.std.proofs.lemmas.List.{take-append-drop}
-use Rattle.sfi_policy.specs.declared.format.Format.{Format}
-use Rattle.sfi_policy.specs.Formats.{magic}
-use Rattle.sfi_image.specs.declared.fault.LayoutFault.{LayoutFault}
-use Rattle.sfi_image.specs.declared.fault.LayoutFault.TheVariants.{Magic}
-use Rattle.sfi_image.specs.Spelling.{Part, number, part, spelling}
-use Rattle.sfi_image.specs.Parts.{AreOf, AreRight}
-use Rattle.sfi_image.specs.Images.{IsImage}
-use Rattle.sfi_image.specs.Faults.{IsCountFault, IsFault}
+use Rattle.sfi_image.proofs.Prelude.{◌≡◌, ℕ, ◌≤◌, List, ◌++◌, length, take, drop, refl, sym, ◌∙◌, subst, arith, inl, inr, flat_map, take-append-drop, Format, magic, LayoutFault, Magic, Part, number, part, spelling, AreOf, AreRight, IsImage, IsCountFault, IsFault}
 use Rattle.sfi_image.proofs.Views.{same_format}
 
 pub magic_wrong : (bytes front : List ℕ) → 4 ≤ length bytes → front ≡ take 4 bytes → ((format : Format) → front ≡ magic format → ⊥) → IsFault bytes Magic

@@ -1,36 +1,8 @@
 -- A bundle of whole expansions breaks no rule.
-use Rattle.std.proofs.Common.{◌≡◌, ℕ, zero, suc, ◌+◌, ◌^◌, ◌<◌, ◌≤◌, List, [], ◌∷◌, ◌++◌, length, Option, Some, None, Bool, true, false, refl, sym, ap, ◌∙◌, subst, arith, append_assoc, inl, inr, replicate}
-use Rattle.std.specs.Prelude.{ℤ, pos, negsuc, ◌-ℤ◌, ◌==◌, ◌&&◌, ◌||◌, not, MatchBool}
+use Rattle.sfi_link.proofs.Prelude.{◌≡◌, ℕ, zero, suc, ◌+◌, ◌^◌, ◌<◌, ◌≤◌, List, [], ◌∷◌, ◌++◌, length, Option, Some, None, Bool, true, false, refl, sym, ap, ◌∙◌, subst, arith, append_assoc, inl, inr, replicate, ℤ, pos, negsuc, ◌-ℤ◌, ◌==◌, ◌&&◌, ◌||◌, not, MatchBool, offset_by, And, Or, Addi, Instr, Op, OpImm, Load, Store, Branch, Jal, Jalr, Lui, Fence, Ecall, Ebreak, destination, is_register, writes_register, has_stack, is_stack, Body, Plain, To, High, Low, IsBody, BundlePlace, Piece, is_reserved, is_withheld, follows_data_pair, writes_stack, begins_pair, ends_pair, precedes_pair, is_jump, is_bundle_start, breaks_reserved, breaks_stack, upper, lower, Slot, Wide, Short, Jump, Upper, Lower, PlacedName, names_withheld, item_names_withheld, is_ecall, slot_size, size_of, c_nop, jump_to_x31, jump_slots, IsAlone, IsMasked, IsExpansionOf, AreWhole, nothing, padding, Bases, target_at, address_at, with_offset, c_ebreak, resolved, made_of, AreSlots}
+use Rattle.sfi_rewrite.specs.Placed.{expansion as whole_expansion}
 use Rattle.std.proofs.lemmas.Bool as bool
-use Rattle.rv_word.specs.Numbers.{offset_by}
-use Rattle.rv_word.specs.declared.instr.RegOp.TheVariants.{And, Or}
-use Rattle.rv_word.specs.declared.instr.ImmOp.TheVariants.{Addi}
-use Rattle.rv_word.specs.declared.instr.Instr.{Instr}
-use Rattle.rv_word.specs.declared.instr.Instr.TheVariants.{Op, OpImm, Load, Store, Branch, Jal, Jalr, Lui, Fence, Ecall, Ebreak}
-use Rattle.rv_word.specs.Writes.{destination, is_register, writes_register}
-use Rattle.sfi_policy.specs.Formats.{has_stack, is_stack}
-use Rattle.rv_source.specs.declared.item.Body.{Body}
-use Rattle.rv_source.specs.declared.item.Body.TheVariants.{Plain, To, High, Low}
-use Rattle.rv_source.specs.Source.{IsBody}
-use Rattle.sfi_scan.specs.declared.bundle.BundlePlace.{BundlePlace}
-use Rattle.sfi_scan.specs.Readings.{Piece}
-use Rattle.sfi_policy.specs.Registers.{is_reserved, is_withheld}
-use Rattle.sfi_scan.specs.Pairs.{follows_data_pair}
-use Rattle.sfi_scan.specs.Stack.{writes_stack, begins_pair, ends_pair, precedes_pair, is_jump}
-use Rattle.sfi_scan.specs.Rules.{is_bundle_start, breaks_reserved, breaks_stack}
-use Rattle.rv_source.specs.Halves.{upper, lower}
-use Rattle.sfi_rewrite.specs.declared.slot.Slot.{Slot}
-use Rattle.sfi_rewrite.specs.declared.slot.Slot.TheVariants.{Wide, Short, Jump, Upper, Lower}
-use Rattle.sfi_rewrite.specs.declared.placed.PlacedName.{PlacedName}
-use Rattle.sfi_rewrite.specs.Registers.{names_withheld, item_names_withheld, is_ecall}
 use Rattle.sfi_rewrite.specs.Stack as stack
-use Rattle.sfi_rewrite.specs.Slots.{slot_size, size_of, c_nop}
-use Rattle.sfi_rewrite.specs.Expansion.{jump_to_x31, jump_slots, IsAlone, IsMasked, IsExpansionOf}
-use Rattle.sfi_rewrite.specs.Placed.{AreWhole, nothing, padding, expansion as whole_expansion}
-use Rattle.sfi_link.specs.declared.bases.Bases.{Bases}
-use Rattle.sfi_link.specs.Addresses.{target_at, address_at, with_offset}
-use Rattle.sfi_link.specs.Linked.{c_ebreak}
-use Rattle.sfi_link.specs.Code.{resolved, made_of, AreSlots}
 use Rattle.sfi_rewrite.proofs.Sizes.{size_of-cons}
 use Rattle.sfi_link.proofs.Sizes.{slot_some}
 use Rattle.sfi_link.proofs.CleanPlaces.{AreStarts, IsReadAs, IsCleanFrom, place, or_left, unreserved, is_calm, writes_unreserved, calm, no_write, well_written, pair_read, or_read, second_false, on_stack, lands, direct, PassesBefore, step, some_same, made, slot_spells, lone_ends}

@@ -1,37 +1,9 @@
 -- No rule is broken at the place of an instruction.
-use Rattle.std.proofs.Common.{◌≡◌, ℕ, ◌+◌, ◌^◌, ◌<◌, List, [], ◌∷◌, ◌++◌, length, take, drop, Option, Some, None, Bool, true, false, refl, sym, ap, ◌∙◌, subst, arith, length-append}
-use Rattle.std.specs.Prelude.{ℤ, pos, negsuc, ◌+ℤ◌, ◌-ℤ◌, ◌==◌, ◌&&◌, ◌||◌, not}
-use Rattle.std.proofs.Math.Seq.{take-append_seam, drop-append_seam}
-use Rattle.std.proofs.lemmas.Bool.{and_right, or_parts}
-use Rattle.std.proofs.lemmas.Int.{ints}
-use Rattle.rv_word.specs.Numbers.{modulo, offset_by}
-use Rattle.rv_word.specs.declared.instr.RegOp.TheVariants.{And, Or}
-use Rattle.rv_word.specs.declared.instr.Instr.{Instr}
-use Rattle.rv_word.specs.declared.instr.Instr.TheVariants.{Op, OpImm, Load, Branch, Jal, Jalr, Lui, Auipc, Fence, Ebreak}
-use Rattle.rv_word.specs.Writes.{writes_register}
-use Rattle.rv_comp.specs.declared.form.Form16.TheVariants.{CEbreak}
-use Rattle.rv_comp.specs.Fronts.{Spells}
-use Rattle.rv_comp.specs.Table.{expansion}
-use Rattle.sfi_policy.specs.Formats.{has_stack, is_stack}
-use Rattle.rv_source.specs.declared.item.Body.TheVariants.{To}
-use Rattle.rv_source.specs.Source.{IsBody}
-use Rattle.sfi_scan.specs.declared.bundle.BundlePlace.{BundlePlace}
-use Rattle.sfi_scan.specs.Readings.{Piece, IsReading, rest_of}
-use Rattle.sfi_policy.specs.Pairs.{is_masking, is_placing}
-use Rattle.sfi_policy.specs.Registers.{is_reserved, is_withheld}
-use Rattle.sfi_scan.specs.Stack.{writes_stack, begins_pair, precedes_pair}
-use Rattle.sfi_scan.specs.Rules.{Place, is_empty, is_bundle_start, breaks_ecall, breaks_reserved, breaks_access, breaks_jump, breaks_target, breaks_end, breaks_stack, may_write_stack, ends_region, is_last_bundle}
-use Rattle.sfi_scan.specs.Findings.{lowest, all_rules, findings_from}
-use Rattle.sfi_rewrite.specs.declared.slot.Slot.{Slot}
-use Rattle.sfi_rewrite.specs.declared.slot.Slot.TheVariants.{Wide, Short}
-use Rattle.sfi_rewrite.specs.declared.placed.PlacedName.{PlacedName}
-use Rattle.sfi_rewrite.specs.Registers.{names_withheld}
+use Rattle.sfi_link.proofs.Prelude.{◌≡◌, ℕ, ◌+◌, ◌^◌, ◌<◌, List, [], ◌∷◌, ◌++◌, length, take, drop, Option, Some, None, Bool, true, false, refl, sym, ap, ◌∙◌, subst, arith, length-append, ℤ, pos, negsuc, ◌+ℤ◌, ◌-ℤ◌, ◌==◌, ◌&&◌, ◌||◌, not, take-append_seam, drop-append_seam, and_right, or_parts, ints, modulo, offset_by, And, Or, Instr, Op, OpImm, Load, Branch, Jal, Jalr, Lui, Auipc, Fence, Ebreak, writes_register, CEbreak, Spells, expansion, has_stack, is_stack, To, IsBody, BundlePlace, Piece, IsReading, rest_of, is_masking, is_placing, is_reserved, is_withheld, writes_stack, begins_pair, precedes_pair, is_empty, is_bundle_start, breaks_ecall, breaks_reserved, breaks_access, breaks_jump, breaks_target, breaks_end, breaks_stack, may_write_stack, ends_region, is_last_bundle, lowest, all_rules, findings_from, Slot, Wide, Short, PlacedName, names_withheld, slot_size, size_of, Bases, target_at, with_offset, resolved, made_of, IsSlot}
+use Rattle.sfi_scan.specs.Rules.{Place}
 use Rattle.sfi_rewrite.specs.Stack as stack
-use Rattle.sfi_rewrite.specs.Slots.{slot_size, size_of}
-use Rattle.sfi_link.specs.declared.bases.Bases.{Bases}
-use Rattle.sfi_link.specs.Addresses.{target_at, with_offset}
-use Rattle.sfi_link.specs.Code.{resolved, made_of, IsSlot}
-use Rattle.sfi_link.proofs.Written.{short_spells, wide_spells, spelled_length}
+use Rattle.rv_comp.proofs.Facts.{word_spells, spelled_length}
+use Rattle.sfi_link.proofs.Written.{short_spells}
 use Rattle.sfi_rewrite.proofs.Sizes.{size_of-cons}
 
 -- ---- what is asked of names, and what of ends
@@ -258,7 +230,7 @@ made f (Some a) i e = (a, refl, sym (some_same (f a) i e))
 pub slot_spells : (at : Bases) (names : List PlacedName) (here : ℕ) (s : Slot) (bytes : List ℕ) (x : IsSlot at names here s bytes) → Spells bytes x.instr (slot_size s)
 slot_spells at names here (Short f) bytes x =
     subst (λ (i : Instr). Spells bytes i 2) (some_same (expansion f) x.instr x.resolves) (subst (λ (l : List ℕ). Spells l (expansion f) 2) (sym x.spelled.1) (short_spells f x.spelled.0))
-slot_spells at names here _ bytes x = subst (λ (l : List ℕ). Spells l x.instr 4) (sym x.spelled.1) (wide_spells x.instr x.spelled.0)
+slot_spells at names here _ bytes x = subst (λ (l : List ℕ). Spells l x.instr 4) (sym x.spelled.1) (word_spells x.instr x.spelled.0)
 
 pub lone_ends : (at : Bases) (names : List PlacedName) (here : ℕ) (s : Slot) (i : Instr) → resolved at names here s ≡ Some i → is_end s ≡ true → ends_region i ≡ true
 lone_ends at names here (Short CEbreak) i r h = ap ends_region (sym (some_same Ebreak i r))

@@ -1,14 +1,5 @@
 -- What is placed, filled up with c.ebreaks, is full bundles.
-use Rattle.std.proofs.Common.{◌≡◌, ℕ, zero, suc, ◌+◌, ◌-◌, ◌*◌, ◌/◌, ◌<◌, List, [], ◌∷◌, ◌++◌, length, get_or, true, refl, sym, ap, ◌∙◌, arith, append_assoc, append-nil, replicate}
-use Rattle.std.specs.List.{All}
-use Rattle.std.proofs.lemmas.List.{length-replicate, get_or-replicate, replicate-append-replicate}
-use Rattle.std.proofs.lemmas.List.Elements.{All-head, All-tail, All-cons, All-replicate}
-use Rattle.sfi_policy.specs.declared.format.Format.{Format}
-use Rattle.sfi_rewrite.specs.declared.slot.Slot.{Slot}
-use Rattle.sfi_rewrite.specs.Slots.{size_of, slots_of}
-use Rattle.sfi_rewrite.specs.Placement.{AreBundles}
-use Rattle.sfi_rewrite.specs.Placed.{AreWhole, nothing}
-use Rattle.sfi_link.specs.Linked.{c_ebreak}
+use Rattle.sfi_link.proofs.Prelude.{◌≡◌, ℕ, zero, suc, ◌+◌, ◌-◌, ◌*◌, ◌/◌, ◌<◌, List, [], ◌∷◌, ◌++◌, length, get_or, true, refl, sym, ap, ◌∙◌, arith, append_assoc, append-nil, replicate, All, length-replicate, get_or-replicate, replicate-append-replicate, All-head, All-tail, All-cons, All-replicate, Format, Slot, size_of, slots_of, AreBundles, AreWhole, nothing, c_ebreak}
 use Rattle.sfi_rewrite.proofs.Sizes.{size_of-append, size_even}
 use Rattle.sfi_link.proofs.Sizes.{size_fill}
 use Rattle.sfi_link.proofs.CleanPlaces.{ends_slots}

@@ -1,14 +1,5 @@
 -- A sandbox that lies beside others.
-use Rattle.std.proofs.Common.{◌≡◌, ℕ, List, [], ◌∷◌, ◌++◌, sym, ◌∙◌, arith, append_assoc, subst}
-use Rattle.std.specs.List.{All, AllPairs}
-use Rattle.std.proofs.lemmas.List.Elements.{All-push}
-use Rattle.sfi_image.specs.declared.span.Span.{Span}
-use Rattle.sfi_image.specs.Bounded.{IsBounded}
-use Rattle.sfi_image.specs.Spans.{AreApart, with_guards}
-use Rattle.sfi_place.specs.declared.place.Place.{Place}
-use Rattle.sfi_rewrite.specs.Placement.{Placement}
-use Rattle.sfi_link.specs.Lying.{IsRightPlace, spans_at}
-use Rattle.sfi_link.specs.private.Near.{LiesBeside}
+use Rattle.sfi_link.proofs.Prelude.{◌≡◌, ℕ, List, [], ◌∷◌, ◌++◌, sym, ◌∙◌, arith, append_assoc, subst, All, AllPairs, All-push, Span, IsBounded, AreApart, with_guards, Place, Placement, IsRightPlace, spans_at, LiesBeside}
 use Rattle.sfi_image.proofs.Formats.{code_at_most}
 
 pub code_bounded : (p : Placement) (size : ℕ) (place : Place) → IsRightPlace p size place → IsBounded (record { base = place.code_base; size = size })

@@ -1,27 +1,7 @@
 -- What is made of a placed sandbox breaks no rule.
-use Rattle.std.proofs.Common.{◌≡◌, ℕ, ◌+◌, ◌-◌, ◌*◌, ◌^◌, ◌<◌, ◌≤◌, List, [], ◌∷◌, length, replicate, Option, Some, None, refl, sym, ap, ◌∙◌, subst, arith, length-append}
-use Rattle.std.specs.Prelude.{slice_get}
-use Rattle.std.specs.List.{All, repeat}
-use Rattle.std.proofs.lemmas.List.Elements.{All-head, All-tail}
-use Rattle.std.proofs.lemmas.Option.{slice_get_within, get_or_from_slice_get}
-use Rattle.sfi_policy.specs.declared.format.Format.{Format}
-use Rattle.sfi_image.specs.Spelling.{Part}
-use Rattle.sfi_image.specs.Gates.{is_gate_of}
-use Rattle.sfi_image.specs.Regions.{IsBundleStart}
-use Rattle.sfi_policy.specs.Pairs.{stub}
+use Rattle.sfi_link.proofs.Prelude.{◌≡◌, ℕ, ◌+◌, ◌-◌, ◌*◌, ◌^◌, ◌<◌, ◌≤◌, List, [], ◌∷◌, length, replicate, Option, Some, None, refl, sym, ap, ◌∙◌, subst, arith, length-append, slice_get, All, repeat, All-head, All-tail, slice_get_within, get_or_from_slice_get, Format, Part, is_gate_of, IsBundleStart, stub, AreFindings, AreFindingsFrom, Slot, PlacedName, Gate, Code, Data, Unknown, slots_of, Placement, AreWhole, IsPlacedPart, IsPlacedThere, Place, bases_of, of_name, target_of, AreSlots, c_ebreak, needed, gates_from, IsLinked, AreLinkedFrom}
 use Rattle.sfi_scan.specs.Bundles.{place_of}
-use Rattle.sfi_scan.specs.Findings.{AreFindings, AreFindingsFrom}
 use Rattle.sfi_scan.proofs.Facts.{same_bundle_starts}
-use Rattle.sfi_rewrite.specs.declared.slot.Slot.{Slot}
-use Rattle.sfi_rewrite.specs.declared.placed.PlacedName.{PlacedName}
-use Rattle.sfi_rewrite.specs.declared.placed.PlacedName.TheVariants.{Gate, Code, Data, Unknown}
-use Rattle.sfi_rewrite.specs.Slots.{slots_of}
-use Rattle.sfi_rewrite.specs.Placement.{Placement}
-use Rattle.sfi_rewrite.specs.Placed.{AreWhole, IsPlacedPart, IsPlacedThere}
-use Rattle.sfi_place.specs.declared.place.Place.{Place}
-use Rattle.sfi_link.specs.Addresses.{bases_of, of_name, target_of}
-use Rattle.sfi_link.specs.Code.{AreSlots}
-use Rattle.sfi_link.specs.Linked.{c_ebreak, needed, gates_from, IsLinked, AreLinkedFrom}
 use Rattle.sfi_rewrite.proofs.Sizes.{size_of-append}
 use Rattle.sfi_link.proofs.Sizes.{size_fill}
 use Rattle.sfi_link.proofs.CleanPlaces.{AreStarts, some_same}

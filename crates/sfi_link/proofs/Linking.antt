@@ -1,43 +1,10 @@
 -- From the code of each sandbox to the image.
-use Rattle.std.proofs.Common.{◌≡◌, ℕ, zero, suc, ◌+◌, ◌-◌, ◌*◌, ◌/◌, ◌^◌, ◌<◌, ◌≤◌, List, [], ◌∷◌, ◌++◌, length, take, drop, get_or, replicate, refl, sym, ap, ◌∙◌, subst, arith, append_assoc, append-nil, length-append, inl, inr, Vec, Global}
-use Rattle.std.specs.Prelude.{max, map, Result, Ok, Err, IfOk}
-use Rattle.std.specs.List.{All, AllPairs, repeat}
-use Rattle.std.proofs.Math.Nat.{pow-suc}
-use Rattle.std.proofs.Math.Pow.{pow_mono}
-use Rattle.std.proofs.lemmas.Bool.{cases_lt}
-use Rattle.std.proofs.lemmas.Grind.{flat_map-append}
-use Rattle.std.proofs.lemmas.List.{length-map, length-take-le, map_push}
-use Rattle.std.proofs.lemmas.List.Elements.{All-nil}
-use Rattle.sfi_policy.specs.declared.format.Format.{Format}
-use Rattle.sfi_policy.specs.declared.format.Format.TheVariants.{Sfi1, Sfi2}
-use Rattle.sfi_policy.specs.Formats.{code_most}
-use Rattle.rv_source.specs.declared.item.SourceGate.{SourceGate}
-use Rattle.rv_source.specs.Source.{Sandbox}
-use Rattle.sfi_image.specs.declared.span.Span.{Span}
-use Rattle.sfi_image.specs.Spelling.{Part, spelling, fields_of}
-use Rattle.sfi_image.specs.Bounded.{IsBounded}
+use Rattle.sfi_link.proofs.Prelude.{◌≡◌, ℕ, zero, suc, ◌+◌, ◌-◌, ◌*◌, ◌/◌, ◌^◌, ◌<◌, ◌≤◌, List, [], ◌∷◌, ◌++◌, length, take, drop, get_or, replicate, refl, sym, ap, ◌∙◌, subst, arith, append_assoc, append-nil, length-append, inl, inr, Vec, Global, max, map, Result, Ok, Err, IfOk, All, AllPairs, repeat, pow-suc, pow_mono, cases_lt, flat_map-append, length-map, length-take-le, map_push, All-nil, Format, Sfi1, Sfi2, code_most, SourceGate, Sandbox, Span, Part, fields_of, IsBounded, stub, PlacedName, size_of, slots_of, Placement, IsPlacedPart, IsPlacedThere, Place, Bases, LinkFault, place_of, IsRightPlace, spans_at, AreApart, spans, spans_of, bases_of, AreSlots, c_ebreak, needed, HasRoom, IsCodeSize, gates_from, IsLinkedCode, IsLinked, AreLinkedFrom, AreLinked, IsLinkedImage, ArePlacements, IsBuild, MayLie, IsSlotFault, HasPartFault, IsPartFault, IsLinkFault, IsNear, AreNear, HasRoomFor, AreWritten, LiesBeside, IsCodeBeside, AreCodes, Links, UnlessMemory, AnswersBytes, AnswersFault}
+use Rattle.sfi_image.specs.Spelling.{spelling}
 use Rattle.sfi_image.proofs.Formats.{code_at_most}
 use Rattle.sfi_image.proofs.SpanLists.{front_apart}
-use Rattle.sfi_policy.specs.Pairs.{stub}
-use Rattle.sfi_rewrite.specs.declared.placed.PlacedName.{PlacedName}
 use Rattle.sfi_rewrite.specs.declared.placed.PlacedName.TheVariants as name
-use Rattle.sfi_rewrite.specs.Slots.{size_of, slots_of}
-use Rattle.sfi_rewrite.specs.Placement.{Placement}
-use Rattle.sfi_rewrite.specs.Placed.{IsPlacedPart, IsPlacedThere}
-use Rattle.sfi_place.specs.declared.place.Place.{Place}
-use Rattle.sfi_link.specs.declared.bases.Bases.{Bases}
-use Rattle.sfi_link.specs.declared.fault.LinkFault.{LinkFault}
 use Rattle.sfi_link.specs.declared.fault.LinkFault.TheVariants as named
-use Rattle.sfi_place.specs.Places.{place_of}
-use Rattle.sfi_link.specs.Lying.{IsRightPlace, spans_at}
-use Rattle.sfi_image.specs.Spans.{AreApart, spans, spans_of}
-use Rattle.sfi_link.specs.Addresses.{bases_of}
-use Rattle.sfi_link.specs.Code.{AreSlots}
-use Rattle.sfi_link.specs.Linked.{c_ebreak, needed, HasRoom, IsCodeSize, gates_from, IsLinkedCode, IsLinked, AreLinkedFrom, AreLinked}
-use Rattle.sfi_link.specs.Building.{IsLinkedImage, ArePlacements, IsBuild}
-use Rattle.sfi_link.specs.Faults.{MayLie, IsSlotFault, HasPartFault, IsPartFault, IsLinkFault}
-use Rattle.sfi_link.specs.private.Near.{IsNear, AreNear, HasRoomFor, AreWritten, LiesBeside, IsCodeBeside, AreCodes, Links}
-use Rattle.sfi_link.specs.Answers.{UnlessMemory, AnswersBytes, AnswersFault}
 use Rattle.sfi_link.proofs.Unless.{memory_or, then_unless}
 use Rattle.sfi_rewrite.proofs.Sizes.{size_even}
 use Rattle.sfi_link.proofs.Region.{length_stubs}

@@ -1,32 +1,6 @@
 -- One list of sandboxes is made of what is placed, or it has one fault.
-use Rattle.std.proofs.Common.{append_assoc, ◌≡◌, ℕ, ◌+◌, ◌*◌, ◌≤◌, List, [], ◌∷◌, ◌++◌, length, replicate, Option, Some, None, sym, ap, ◌∙◌, subst, arith, inl, inr, length-append}
-use Rattle.std.specs.Prelude.{pos, ◌-ℤ◌}
-use Rattle.std.specs.List.{repeat}
-use Rattle.std.specs.Int.{w32, to_le_bytes}
-use Rattle.std.proofs.lemmas.Option.{none-some}
-use Rattle.rv_word.specs.declared.instr.Instr.{Instr}
-use Rattle.rv_word.specs.Spelling.{InRange, spelling}
-use Rattle.sfi_policy.specs.declared.format.Format.{Format}
-use Rattle.sfi_image.specs.Spelling.{Part, fields_of}
-use Rattle.sfi_policy.specs.Pairs.{stub}
-use Rattle.sfi_rewrite.specs.declared.slot.Slot.{Slot}
-use Rattle.sfi_rewrite.specs.declared.slot.Slot.TheVariants.{Wide, Short, Jump, Upper, Lower}
-use Rattle.sfi_rewrite.specs.declared.placed.PlacedName.{PlacedName}
-use Rattle.sfi_rewrite.specs.Slots.{slot_size, size_of, slots_of}
-use Rattle.sfi_rewrite.specs.Placement.{Placement}
-use Rattle.sfi_place.specs.declared.place.Place.{Place}
-use Rattle.sfi_link.specs.declared.bases.Bases.{Bases}
-use Rattle.sfi_link.specs.declared.fault.LinkFault.{LinkFault}
-use Rattle.sfi_link.specs.Addresses.{bases_of, address_at, target_at, with_offset}
-use Rattle.sfi_link.specs.Code.{made_of, IsSlot, AreSlots}
-use Rattle.sfi_place.specs.Places.{place_of}
-use Rattle.sfi_link.specs.Lying.{spans_at}
-use Rattle.sfi_image.specs.declared.span.Span.{Span}
-use Rattle.sfi_image.specs.Spans.{AreApart, with_guards, spans_of, spans}
+use Rattle.sfi_link.proofs.Prelude.{append_assoc, ◌≡◌, ℕ, ◌+◌, ◌*◌, ◌≤◌, List, [], ◌∷◌, ◌++◌, length, replicate, Option, Some, None, sym, ap, ◌∙◌, subst, arith, inl, inr, length-append, pos, ◌-ℤ◌, repeat, w32, to_le_bytes, none-some, Instr, InRange, spelling, Format, Part, fields_of, stub, Slot, Wide, Short, Jump, Upper, Lower, PlacedName, slot_size, size_of, slots_of, Placement, Place, Bases, LinkFault, bases_of, address_at, target_at, with_offset, made_of, IsSlot, AreSlots, place_of, spans_at, Span, AreApart, with_guards, spans_of, spans, AllPairs, c_ebreak, needed, IsCodeSize, IsLinkedCode, IsLinked, AreLinkedFrom, AreLinked, HasSlotFault, IsSlotFault, HasPartFault, IsPartFault, IsLinkFault}
 use Rattle.sfi_image.proofs.SpanLists.{front_apart}
-use Rattle.std.specs.List.{AllPairs}
-use Rattle.sfi_link.specs.Linked.{c_ebreak, needed, IsCodeSize, IsLinkedCode, IsLinked, AreLinkedFrom, AreLinked}
-use Rattle.sfi_link.specs.Faults.{HasSlotFault, IsSlotFault, HasPartFault, IsPartFault, IsLinkFault}
 use Rattle.sfi_rewrite.proofs.Sizes.{size_of-append}
 use Rattle.sfi_link.proofs.Sizes.{size_fill}
 use Rattle.sfi_link.proofs.CleanPlaces.{some_same}

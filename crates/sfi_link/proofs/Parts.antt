@@ -1,34 +1,7 @@
 -- What is made of a placed sandbox has a right layout.
-use Rattle.std.proofs.Common.{◌≡◌, ℕ, zero, suc, ◌+◌, ◌*◌, ◌%◌, ◌^◌, ◌<◌, ◌≤◌, ◌==◌, List, [], ◌∷◌, length, get_or, true, refl, sym, ap, ◌∙◌, subst, arith, inl, inr, length-append}
-use Rattle.std.specs.List.{All, AllPairs}
-use Rattle.std.proofs.lemmas.Bool.{eq-eqb, eqb-true, or_right, or_cases}
-use Rattle.std.proofs.lemmas.List.Elements.{All-nil, All-cons, All-head, All-tail}
-use Rattle.std.proofs.lemmas.List.Kept.{AllPairs-cons}
-use Rattle.std.proofs.lemmas.Option.{slice_get-get_or}
-use Rattle.sfi_policy.specs.Limits.{service_most}
-use Rattle.sfi_policy.specs.declared.format.Format.{Format}
-use Rattle.rv_source.specs.declared.item.SourceGate.{SourceGate}
+use Rattle.sfi_link.proofs.Prelude.{◌≡◌, ℕ, zero, suc, ◌+◌, ◌*◌, ◌%◌, ◌^◌, ◌<◌, ◌≤◌, ◌==◌, List, [], ◌∷◌, length, get_or, true, refl, sym, ap, ◌∙◌, subst, arith, inl, inr, length-append, All, AllPairs, eq-eqb, eqb-true, or_right, or_cases, All-nil, All-cons, All-head, All-tail, AllPairs-cons, slice_get-get_or, service_most, Format, SourceGate, Span, Part, format_of, code_region, IsCodeRegion, IsDataRegion, HasGuardRoom, IsBundleStart, is_gate_of, IsRightPart, IsRightLayout, AreOf, Slot, Wide, PlacedName, slot_size, size_of, Placement, IsPlacedPart, IsPlaced, Place, Bases, bases_of, stub_size, IsSlot, AreSlots, place_of, IsRightPlace, needed, HasRoom, gates_from, IsLinked, AreLinkedFrom, AreLinked}
 use Rattle.sfi_rewrite.specs.Placed as placements
-use Rattle.sfi_image.specs.declared.span.Span.{Span}
-use Rattle.sfi_image.specs.Spelling.{Part, format_of}
-use Rattle.sfi_image.specs.Spans.{code_region}
-use Rattle.sfi_image.specs.Regions.{IsCodeRegion, IsDataRegion, HasGuardRoom, IsBundleStart}
-use Rattle.sfi_image.specs.Gates.{is_gate_of}
-use Rattle.sfi_image.specs.Parts.{IsRightPart, IsRightLayout, AreOf}
 use Rattle.sfi_image.proofs.Bundles.{whole_bundles}
-use Rattle.sfi_rewrite.specs.declared.slot.Slot.{Slot}
-use Rattle.sfi_rewrite.specs.declared.slot.Slot.TheVariants.{Wide}
-use Rattle.sfi_rewrite.specs.declared.placed.PlacedName.{PlacedName}
-use Rattle.sfi_rewrite.specs.Slots.{slot_size, size_of}
-use Rattle.sfi_rewrite.specs.Placement.{Placement}
-use Rattle.sfi_rewrite.specs.Placed.{IsPlacedPart, IsPlaced}
-use Rattle.sfi_place.specs.declared.place.Place.{Place}
-use Rattle.sfi_link.specs.declared.bases.Bases.{Bases}
-use Rattle.sfi_link.specs.Addresses.{bases_of, stub_size}
-use Rattle.sfi_link.specs.Code.{IsSlot, AreSlots}
-use Rattle.sfi_place.specs.Places.{place_of}
-use Rattle.sfi_link.specs.Lying.{IsRightPlace}
-use Rattle.sfi_link.specs.Linked.{needed, HasRoom, gates_from, IsLinked, AreLinkedFrom, AreLinked}
 use Rattle.sfi_rewrite.proofs.Sizes.{size_of-cons}
 
 -- ---- code regions

@@ -1,31 +1,5 @@
 -- Slots written one after another.
-use Rattle.std.proofs.Common.{◌≡◌, ℕ, zero, suc, ◌+◌, ◌<◌, ◌≤◌, List, [], ◌∷◌, ◌++◌, length, take, drop, get_or, replicate, Some, refl, sym, ap, ◌∙◌, subst, arith, append_assoc, append-nil, length-append, drop-cons, add-one, inl, inr}
-use Rattle.std.specs.Prelude.{ℤ, pos}
-use Rattle.std.specs.List.{All, repeat}
-use Rattle.std.specs.Int.{w32, to_le_bytes}
-use Rattle.std.proofs.lemmas.Grind.{flat_map-append}
-use Rattle.std.proofs.lemmas.List.{take_more, take-append-drop, get_or_append_left, get_or-append-add}
-use Rattle.std.proofs.lemmas.List.Sums.{sum_by-take-le}
-use Rattle.std.proofs.lemmas.Int.{ints}
-use Rattle.rv_word.specs.declared.instr.Instr.{Instr}
-use Rattle.rv_word.specs.declared.instr.Instr.TheVariants.{OpImm}
-use Rattle.rv_word.specs.declared.instr.ImmOp.TheVariants.{Addi}
-use Rattle.rv_word.specs.Spelling.{InRange, IsReg, IsImm12, spelling}
-use Rattle.rv_comp.specs.declared.form.Form16.TheVariants.{CEbreak}
-use Rattle.rv_comp.specs.Table.{expansion}
-use Rattle.rv_source.specs.Halves.{lower}
-use Rattle.sfi_rewrite.specs.declared.slot.Slot.{Slot}
-use Rattle.sfi_rewrite.specs.declared.slot.Slot.TheVariants.{Lower}
-use Rattle.sfi_rewrite.specs.declared.placed.PlacedName.{PlacedName}
-use Rattle.sfi_rewrite.specs.Slots.{slot_size, size_of, slots_of}
-use Rattle.sfi_link.specs.declared.bases.Bases.{Bases}
-use Rattle.sfi_link.specs.declared.fault.LinkFault.{LinkFault}
-use Rattle.sfi_link.specs.Addresses.{address_at}
-use Rattle.sfi_link.specs.Code.{AreSlots, made_of}
-use Rattle.sfi_link.specs.Linked.{c_ebreak}
-use Rattle.sfi_link.specs.private.Near.{HasRoomFor, IsPushed, AreWritten}
-use Rattle.sfi_link.specs.Faults.{HasSlotFault, IsSlotFault}
-use Rattle.sfi_link.specs.Answers.{UnlessMemory}
+use Rattle.sfi_link.proofs.Prelude.{◌≡◌, ℕ, zero, suc, ◌+◌, ◌<◌, ◌≤◌, List, [], ◌∷◌, ◌++◌, length, take, drop, get_or, replicate, Some, refl, sym, ap, ◌∙◌, subst, arith, append_assoc, append-nil, length-append, drop-cons, add-one, inl, inr, ℤ, pos, All, repeat, w32, to_le_bytes, flat_map-append, take_more, take-append-drop, get_or_append_left, get_or-append-add, sum_by-take-le, ints, Instr, OpImm, Addi, InRange, IsReg, IsImm12, spelling, CEbreak, expansion, lower, Slot, Lower, PlacedName, slot_size, size_of, slots_of, Bases, LinkFault, address_at, AreSlots, made_of, c_ebreak, HasRoomFor, IsPushed, AreWritten, HasSlotFault, IsSlotFault, UnlessMemory}
 use Rattle.sfi_link.proofs.Unless.{then_unless}
 use Rattle.sfi_rewrite.proofs.Sizes.{size_of-cons, size_of-append}
 use Rattle.sfi_link.proofs.Parts.{slots_length}

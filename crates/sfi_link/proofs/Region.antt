@@ -1,34 +1,7 @@
 -- A region of clean bundles has no finding.
-use Rattle.std.proofs.Common.{◌≡◌, ℕ, zero, suc, ◌+◌, ◌-◌, ◌*◌, ◌^◌, ◌<◌, ◌≤◌, List, [], ◌∷◌, ◌++◌, length, take, drop, get_or, Bool, true, false, refl, sym, ap, ◌∙◌, subst, arith, inl, inr, length-append, append_assoc, replicate}
-use Rattle.std.specs.Prelude.{◌==◌, ◌&&◌, not, pos}
-use Rattle.std.specs.List.{All, flat_map, repeat}
-use Rattle.std.proofs.lemmas.Bool.{cases_lt, cases_eq, ne_eqb, and_left, and_right, not_from_true}
-use Rattle.std.proofs.lemmas.Int.{ints}
-use Rattle.std.proofs.lemmas.List.{length-replicate, get_or-replicate, get_or_append_left, get_or-append-add}
-use Rattle.std.proofs.lemmas.List.Elements.{All-head, All-tail, All-nil, All-cons, All-append, All-replicate}
-use Rattle.std.proofs.Math.Seq.{take-append_seam, drop-append-add}
-use Rattle.rv_word.specs.declared.instr.RegOp.TheVariants.{And, Or}
-use Rattle.rv_word.specs.declared.instr.Instr.TheVariants.{Op, Jalr, Ecall}
-use Rattle.rv_word.specs.Spelling.{InRange, spelling}
-use Rattle.sfi_policy.specs.declared.format.Format.{Format}
-use Rattle.rv_word.specs.declared.instr.Instr.{Instr}
-use Rattle.sfi_policy.specs.Formats.{has_stack}
-use Rattle.sfi_link.specs.Linked.{c_ebreak}
-use Rattle.sfi_image.specs.Spelling.{Part}
-use Rattle.sfi_image.specs.Gates.{is_gate_of}
-use Rattle.sfi_scan.specs.declared.bundle.BundlePlace.{BundlePlace}
-use Rattle.sfi_policy.specs.Pairs.{stub}
-use Rattle.sfi_scan.specs.Bundles.{place_of, bundle_bytes}
-use Rattle.sfi_scan.specs.Readings.{Piece, IsReading}
-use Rattle.sfi_scan.specs.Rules.{is_empty, is_last_bundle}
-use Rattle.sfi_scan.specs.Findings.{AreBundleFindings, AreFindingsOfFirst, AreFindings, findings_from, rest_finding}
-use Rattle.sfi_rewrite.specs.declared.slot.Slot.{Slot}
-use Rattle.sfi_rewrite.specs.declared.placed.PlacedName.{PlacedName}
-use Rattle.sfi_rewrite.specs.Slots.{slot_size, size_of, slots_of}
-use Rattle.sfi_rewrite.specs.Placed.{AreWhole}
-use Rattle.sfi_link.specs.declared.bases.Bases.{Bases}
-use Rattle.sfi_link.specs.Code.{AreSlots}
-use Rattle.sfi_link.proofs.Written.{wide_spells}
+use Rattle.sfi_link.proofs.Prelude.{◌≡◌, ℕ, zero, suc, ◌+◌, ◌-◌, ◌*◌, ◌^◌, ◌<◌, ◌≤◌, List, [], ◌∷◌, ◌++◌, length, take, drop, get_or, Bool, true, false, refl, sym, ap, ◌∙◌, subst, arith, inl, inr, length-append, append_assoc, replicate, ◌==◌, ◌&&◌, not, pos, All, flat_map, repeat, cases_lt, cases_eq, ne_eqb, and_left, and_right, not_from_true, ints, length-replicate, get_or-replicate, get_or_append_left, get_or-append-add, All-head, All-tail, All-nil, All-cons, All-append, All-replicate, take-append_seam, drop-append-add, And, Or, Op, Jalr, Ecall, InRange, spelling, Format, Instr, has_stack, c_ebreak, Part, is_gate_of, BundlePlace, stub, bundle_bytes, Piece, IsReading, is_empty, is_last_bundle, AreBundleFindings, AreFindingsOfFirst, AreFindings, findings_from, rest_finding, Slot, PlacedName, slot_size, size_of, slots_of, AreWhole, Bases, AreSlots}
+use Rattle.sfi_scan.specs.Bundles.{place_of}
+use Rattle.rv_comp.proofs.Facts.{word_spells}
 use Rattle.sfi_link.proofs.Stuck.{whole_is_longest}
 use Rattle.sfi_rewrite.proofs.Sizes.{size_of-cons}
 use Rattle.sfi_link.proofs.CleanPlaces.{AreStarts, ends_slots, ends_well, IsEndFine, IsCleanFrom}
@@ -185,12 +158,12 @@ stub_pieces = record { instr = Ecall; size = 4 } ∷ record { instr = Op And 31 
 stub_read : IsReading stub stub_pieces
 unfolding spelling InRange
 stub_read = (
-  wide_spells Ecall tt,
+  word_spells Ecall tt,
   (
-    wide_spells (Op And 31 1 25) (omega arith, omega arith, omega arith),
+    word_spells (Op And 31 1 25) (omega arith, omega arith, omega arith),
     (
-      wide_spells (Op Or 31 31 24) (omega arith, omega arith, omega arith),
-      (wide_spells (Jalr 0 31 (pos 0)) (omega arith, omega arith, (omega (arith, ints), omega (arith, ints))), tt),
+      word_spells (Op Or 31 31 24) (omega arith, omega arith, omega arith),
+      (word_spells (Jalr 0 31 (pos 0)) (omega arith, omega arith, (omega (arith, ints), omega (arith, ints))), tt),
     ),
   ),
 )

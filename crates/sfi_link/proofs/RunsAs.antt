@@ -1,45 +1,12 @@
 -- Each item of a source does in the image what its instruction does.
-use Rattle.std.proofs.Common.{◌≡◌, ℕ, ◌+◌, ◌*◌, ◌^◌, ◌≤◌, List, [], ◌∷◌, ◌++◌, length, length-append, replicate, Some, Bool, true, false, refl, sym, ap, ◌∙◌, subst, arith, append_assoc, inl, inr}
-use Rattle.std.specs.Prelude.{slice_index, pos, ℤ, negsuc, zero, suc, ◌-ℤ◌, MatchBool, slice_get}
-use Rattle.std.specs.List.{repeat, All}
-use Rattle.std.proofs.lemmas.List.{get_or_append_left, get_or-append-add}
-use Rattle.rv_word.specs.declared.instr.Instr.{Instr}
-use Rattle.rv_word.specs.declared.instr.Instr.TheVariants.{OpImm, Load, Store, Branch, Jal, Jalr, Lui}
-use Rattle.rv_word.specs.declared.instr.ImmOp.TheVariants.{Addi}
-use Rattle.sfi_policy.specs.declared.format.Format.{Format}
-use Rattle.sfi_policy.specs.Formats.{is_stack}
-use Rattle.rv_mem.specs.Bytes.{Bytes, byte_at, address_after}
-use Rattle.rv_mem.specs.Laws.{Holds}
-use Rattle.rv_source.specs.Halves.{upper, lower}
-use Rattle.rv_source.specs.declared.item.Body.{Body}
-use Rattle.rv_source.specs.declared.item.Body.TheVariants.{Plain, To, High, Low}
-use Rattle.rv_source.specs.declared.item.Item.{Item}
-use Rattle.rv_source.specs.Source.{Sandbox, IsSandbox, IsBody}
-use Rattle.sfi_image.specs.Spelling.{Part}
-use Rattle.sfi_image.specs.Parts.{IsRightPart}
-use Rattle.sfi_policy.specs.Pairs.{stub}
-use Rattle.sfi_rewrite.specs.declared.slot.Slot.{Slot}
-use Rattle.sfi_rewrite.specs.declared.slot.Slot.TheVariants.{Wide, Short}
-use Rattle.sfi_rewrite.specs.declared.placed.PlacedName.{PlacedName}
-use Rattle.sfi_rewrite.specs.Slots.{size_of, slots_of, c_nop}
-use Rattle.sfi_rewrite.specs.Stack.{writes_stack, is_on_stack, stack_pair, put_back}
-use Rattle.sfi_rewrite.specs.Expansion.{jump_slots, IsAlone, IsMasked, IsExpansionOf}
-use Rattle.sfi_rewrite.specs.Placement.{Placement}
-use Rattle.sfi_rewrite.specs.Rewriting.{IsRewritten, AreRewritten}
-use Rattle.sfi_rewrite.specs.Transparency.{IsAimed, MayBe}
+use Rattle.sfi_link.proofs.Prelude.{◌≡◌, ℕ, ◌+◌, ◌*◌, ◌^◌, ◌≤◌, List, [], ◌∷◌, ◌++◌, length, length-append, replicate, Some, Bool, true, false, refl, sym, ap, ◌∙◌, subst, arith, append_assoc, inl, inr, slice_index, pos, ℤ, negsuc, zero, suc, ◌-ℤ◌, MatchBool, slice_get, repeat, All, get_or_append_left, get_or-append-add, Instr, OpImm, Load, Store, Branch, Jal, Jalr, Lui, Addi, Format, is_stack, Bytes, byte_at, address_after, Holds, upper, lower, Body, Plain, To, High, Low, Item, Sandbox, IsSandbox, IsBody, Part, IsRightPart, stub, Slot, Wide, Short, PlacedName, size_of, slots_of, c_nop, is_on_stack, stack_pair, put_back, jump_slots, IsAlone, IsMasked, IsExpansionOf, Placement, IsRewritten, AreRewritten, IsAimed, MayBe, Place, Bases, bases_of, with_offset, target_at, address_at, AreSlots, c_ebreak, IsLinked, AreLinkedFrom, AreResolvedTo, RunsAs, LinkedRunsAs, LinkedImagesRunAs, SandboxesRunAs, All-head, All-tail}
+use Rattle.sfi_rewrite.specs.Stack.{writes_stack}
 use Rattle.sfi_rewrite.proofs.Facts.{rewritten_is_transparent}
-use Rattle.sfi_place.specs.declared.place.Place.{Place}
-use Rattle.sfi_link.specs.declared.bases.Bases.{Bases}
-use Rattle.sfi_link.specs.Addresses.{bases_of, with_offset, target_at, address_at}
-use Rattle.sfi_link.specs.Code.{AreSlots}
-use Rattle.sfi_link.specs.Linked.{c_ebreak, IsLinked, AreLinkedFrom}
-use Rattle.sfi_link.specs.Standing.{AreResolvedTo, RunsAs, LinkedRunsAs, LinkedImagesRunAs, SandboxesRunAs}
 use Rattle.sfi_link.proofs.CleanPlaces.{made}
 use Rattle.sfi_link.proofs.SlotsThere.{slots_there}
 use Rattle.sfi_link.proofs.Region.{AreCut, cut, length_stubs}
 use Rattle.sfi_rewrite.proofs.Sizes.{size_of-append, size_nops}
 use Rattle.sfi_link.proofs.Parts.{slots_length, lies_well, linked_right}
-use Rattle.std.proofs.lemmas.List.Elements.{All-head, All-tail}
 
 -- ---- which instruction an item becomes
 

@@ -1,12 +1,6 @@
 -- How many bytes slots take.
-use Rattle.std.proofs.Common.{◌≡◌, ℕ, ◌+◌, ◌*◌, ◌<◌, List, [], ◌∷◌, ◌++◌, length, replicate, subst, ap, ◌∙◌, arith}
-use Rattle.std.proofs.lemmas.List.Folds.{sum_by-replicate}
-use Rattle.sfi_rewrite.specs.declared.slot.Slot.{Slot}
-use Rattle.sfi_rewrite.specs.declared.slot.Slot.TheVariants.{Short}
-use Rattle.sfi_rewrite.specs.Slots.{slot_size, size_of, slots_of}
-use Rattle.sfi_rewrite.specs.Placement.{AreBundles}
+use Rattle.sfi_link.proofs.Prelude.{◌≡◌, ℕ, ◌+◌, ◌*◌, ◌<◌, List, [], ◌∷◌, ◌++◌, length, replicate, subst, ap, ◌∙◌, arith, sum_by-replicate, Slot, Short, slot_size, size_of, slots_of, AreBundles, c_ebreak}
 use Rattle.sfi_rewrite.proofs.Sizes.{size_of-append}
-use Rattle.sfi_link.specs.Linked.{c_ebreak}
 
 -- bundles that are full, and a last one
 full_and_last : (full : List (List Slot)) (last : List Slot) → AreBundles (full ++ last ∷ []) → size_of (slots_of (full ++ last ∷ [])) ≡ 16 * length full + size_of last

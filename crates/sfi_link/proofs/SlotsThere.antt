@@ -1,25 +1,7 @@
 -- Where a memory holds the linker's bytes of slots, the slots stand.
-use Rattle.std.proofs.Common.{◌≡◌, ℕ, ◌+◌, List, [], ◌∷◌, ◌++◌, length, Some, sym, ap, ◌∙◌, subst, arith}
-use Rattle.std.specs.Prelude.{slice_index}
-use Rattle.std.proofs.lemmas.List.{get_or_append_left, get_or-append-add}
-use Rattle.rv_word.specs.declared.instr.Instr.{Instr}
-use Rattle.rv_comp.specs.Fronts.{Spells}
-use Rattle.rv_comp.specs.Table.{expansion}
-use Rattle.rv_mem.specs.Bytes.{Bytes, byte_at, address_after}
-use Rattle.rv_mem.specs.Laws.{Holds}
+use Rattle.sfi_link.proofs.Prelude.{◌≡◌, ℕ, ◌+◌, List, [], ◌∷◌, ◌++◌, length, Some, sym, ap, ◌∙◌, subst, arith, slice_index, get_or_append_left, get_or-append-add, Instr, Spells, expansion, Bytes, byte_at, address_after, Holds, State, Stands, further, Slot, Wide, Short, PlacedName, slot_size, size_of, SlotStands, SlotsStand, Bases, IsSlot, AreSlots, IsResolvedTo, AreResolvedTo}
 use Rattle.rv_mem.proofs.Facts.{read_is_held}
-use Rattle.rv_step.specs.State.{State}
-use Rattle.rv_step.specs.Step.{Stands}
-use Rattle.rv_step.specs.Steps.{further}
-use Rattle.sfi_rewrite.specs.declared.slot.Slot.{Slot}
-use Rattle.sfi_rewrite.specs.declared.slot.Slot.TheVariants.{Wide, Short}
-use Rattle.sfi_rewrite.specs.declared.placed.PlacedName.{PlacedName}
-use Rattle.sfi_rewrite.specs.Slots.{slot_size, size_of}
-use Rattle.sfi_rewrite.specs.Transparency.{SlotStands, SlotsStand}
-use Rattle.sfi_link.specs.declared.bases.Bases.{Bases}
-use Rattle.sfi_link.specs.Code.{IsSlot, AreSlots}
-use Rattle.sfi_link.specs.Standing.{IsResolvedTo, AreResolvedTo}
-use Rattle.sfi_link.proofs.Written.{spelled_length}
+use Rattle.rv_comp.proofs.Facts.{spelled_length}
 use Rattle.sfi_link.proofs.CleanPlaces.{slot_spells, some_same}
 use Rattle.sfi_rewrite.proofs.Sizes.{size_of-cons}
 use Rattle.sfi_link.proofs.Parts.{slots_length}

@@ -1,49 +1,10 @@
 -- What is placed has an image, or a fault.
-use Rattle.std.proofs.Common.{◌≡◌, ℕ, zero, suc, ◌+◌, ◌-◌, ◌/◌, ◌^◌, ◌<◌, ◌≤◌, List, [], ◌∷◌, ◌++◌, length, Option, Some, None, refl, sym, ap, ◌∙◌, subst, arith, inl, inr, ◌⊎◌}
-use Rattle.std.specs.Prelude.{ℤ, pos, negsuc, ◌-ℤ◌}
-use Rattle.std.specs.List.{All, AllPairs, repeat}
-use Rattle.std.specs.Int.{w16, w32, to_le_bytes}
-use Rattle.std.proofs.Math.Nat.{pow-suc}
-use Rattle.std.proofs.lemmas.Bool.{cases_lt, cases_eq}
-use Rattle.std.proofs.lemmas.Int.{ints}
+use Rattle.sfi_link.proofs.Prelude.{◌≡◌, ℕ, zero, suc, ◌+◌, ◌-◌, ◌/◌, ◌^◌, ◌<◌, ◌≤◌, List, [], ◌∷◌, ◌++◌, length, Option, Some, None, refl, sym, ap, ◌∙◌, subst, arith, inl, inr, ◌⊎◌, ℤ, pos, negsuc, ◌-ℤ◌, All, AllPairs, repeat, w16, w32, to_le_bytes, pow-suc, cases_lt, cases_eq, ints, All-head, All-tail, Instr, OpImm, Branch, Jal, Lui, Addi, modulo, minus, IsBetween, IsEven, InRange, IsReg, IsBranchOffset, IsJumpOffset, spelling, expansion, halfword_of, Format, code_most, upper, lower, stub, Slot, Wide, Short, Jump, Upper, Lower, PlacedName, slot_size, slots_of, Placement, Encodes, IsPlacedPart, Bases, LinkFault, UnknownName, BranchReach, TooLarge, TooManySandboxes, data_most, Place, Span, AreApart, spans, place_of, IsRightPlace, spans_at, bases_of, address_at, target_at, with_offset, made_of, IsSlot, AreSlots, needed, HasRoom, IsCodeSize, IsLinkedCode, IsLinked, AreLinkedFrom, AreLinked, AreWritten, MayLie, HasSlotFault, IsSlotFault, HasPartFault, IsPartFault, SomeLinking}
 use Rattle.std.proofs.lemmas.List.{append-nil, append_assoc}
-use Rattle.std.proofs.lemmas.List.Elements.{All-head, All-tail}
-use Rattle.rv_word.specs.declared.instr.Instr.{Instr}
-use Rattle.rv_word.specs.declared.instr.Instr.TheVariants.{OpImm, Branch, Jal, Lui}
-use Rattle.rv_word.specs.declared.instr.ImmOp.TheVariants.{Addi}
-use Rattle.rv_word.specs.Numbers.{modulo, minus, IsBetween, IsEven}
-use Rattle.rv_word.specs.Spelling.{InRange, IsReg, IsBranchOffset, IsJumpOffset, spelling}
-use Rattle.rv_comp.specs.Table.{expansion}
-use Rattle.rv_comp.specs.Halfwords.{halfword_of}
-use Rattle.sfi_policy.specs.declared.format.Format.{Format}
-use Rattle.sfi_policy.specs.Formats.{code_most}
-use Rattle.rv_source.specs.Halves.{upper, lower}
 use Rattle.sfi_image.specs.Spelling as image
-use Rattle.sfi_policy.specs.Pairs.{stub}
-use Rattle.sfi_rewrite.specs.declared.slot.Slot.{Slot}
-use Rattle.sfi_rewrite.specs.declared.slot.Slot.TheVariants.{Wide, Short, Jump, Upper, Lower}
-use Rattle.sfi_rewrite.specs.declared.placed.PlacedName.{PlacedName}
-use Rattle.sfi_rewrite.specs.Slots.{slot_size, slots_of}
-use Rattle.sfi_rewrite.specs.Placement.{Placement}
-use Rattle.sfi_rewrite.specs.Placed.{Encodes, IsPlacedPart}
-use Rattle.sfi_link.specs.declared.bases.Bases.{Bases}
-use Rattle.sfi_link.specs.declared.fault.LinkFault.{LinkFault}
-use Rattle.sfi_link.specs.declared.fault.LinkFault.TheVariants.{UnknownName, BranchReach, TooLarge, TooManySandboxes}
 use Rattle.sfi_link.specs.declared.fault.LinkFault.TheVariants as named
-use Rattle.sfi_policy.specs.Limits.{data_most}
-use Rattle.sfi_place.specs.declared.place.Place.{Place}
-use Rattle.sfi_image.specs.declared.span.Span.{Span}
-use Rattle.sfi_image.specs.Spans.{AreApart, spans}
 use Rattle.sfi_image.proofs.Deciding.{Decided, decided_both, decided_lt, decided_pairs, decided_apart, decided_region, decided_guard_room}
-use Rattle.sfi_place.specs.Places.{place_of}
-use Rattle.sfi_link.specs.Lying.{IsRightPlace, spans_at}
 use Rattle.sfi_link.proofs.OneLinking.{one_size, own_spans}
-use Rattle.sfi_link.specs.Addresses.{bases_of, address_at, target_at, with_offset}
-use Rattle.sfi_link.specs.Code.{made_of, IsSlot, AreSlots}
-use Rattle.sfi_link.specs.Linked.{needed, HasRoom, IsCodeSize, IsLinkedCode, IsLinked, AreLinkedFrom, AreLinked}
-use Rattle.sfi_link.specs.private.Near.{AreWritten}
-use Rattle.sfi_link.specs.Faults.{MayLie, HasSlotFault, IsSlotFault, HasPartFault, IsPartFault}
-use Rattle.sfi_link.specs.Laws.{SomeLinking}
 use Rattle.sfi_link.proofs.Region.{length_stubs}
 use Rattle.sfi_image.proofs.Formats.{code_at_most}
 use Rattle.sfi_link.proofs.LinkedClean.{all_are_clean}

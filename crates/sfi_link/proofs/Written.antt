@@ -1,19 +1,6 @@
--- What is written of an instruction or a form spells it.
-use Rattle.std.proofs.Common.{◌≡◌, ℕ, ◌+◌, ◌*◌, ◌^◌, ◌<◌, List, [], ◌∷◌, Bool, true, length, refl, sym, subst, ◌∙◌, arith, inl, inr}
-use Rattle.std.specs.Prelude.{IsTrue, ◌&&◌, nat_lt}
-use Rattle.std.specs.Int.{w16, w32, bit_at, to_le_bytes}
-use Rattle.std.proofs.lemmas.Bool.{and_parts, ltb-true}
-use Rattle.std.proofs.lemmas.Nat.{from_le_bytes-to_le_bytes_2, from_le_bytes-to_le_bytes_4}
-use Rattle.std.proofs.lemmas.Nat.Bits.{bit_at-lt}
-use Rattle.rv_word.specs.declared.instr.Instr.{Instr}
-use Rattle.rv_word.proofs.Facts.{spellings_are_wide}
-use Rattle.rv_word.specs.Spelling.{InRange, spelling}
-use Rattle.rv_comp.specs.Bits.{Bit, is, bit_of, Fields, number_after, field_value}
-use Rattle.rv_comp.specs.Table.{row, allowed, fields_of, expansion}
-use Rattle.rv_comp.specs.Halfwords.{halfword_of}
-use Rattle.rv_comp.specs.Fronts.{Spells}
-use Rattle.rv_comp.specs.declared.form.Form16.{Form16}
-use Rattle.rv_comp.specs.declared.form.Form16.TheVariants.{CAddi4spn}
+-- What is written of a 16-bit form spells it.
+use Rattle.sfi_link.proofs.Prelude.{◌≡◌, ℕ, ◌+◌, ◌*◌, ◌^◌, ◌<◌, List, [], ◌∷◌, Bool, true, refl, subst, arith, inl, IsTrue, ◌&&◌, nat_lt, w16, bit_at, to_le_bytes, and_parts, ltb-true, from_le_bytes-to_le_bytes_2, bit_at-lt, Bit, is, bit_of, Fields, number_after, field_value, row, allowed, expansion, halfword_of, Spells, Form16, CAddi4spn}
+use Rattle.rv_comp.specs.Table.{fields_of}
 
 -- ---- a row of 16 bits makes a number of 16 bits
 
@@ -61,16 +48,3 @@ short_spells f ok = inl (record {
     expands = refl;
   };
 })
-
--- the four bytes of an instruction
-pub wide_spells : (i : Instr) → InRange i → Spells (to_le_bytes w32 (spelling i)) i 4
-wide_spells i ok = inr (record {
-  size = refl;
-  all = refl;
-  spelled = (ok, from_le_bytes-to_le_bytes_4 (spelling i) (spellings_are_wide (spelling i) i (ok, refl)).0);
-})
-
--- what is spelled has the length
-pub spelled_length : (bytes : List ℕ) (i : Instr) (n : ℕ) → Spells bytes i n → length bytes ≡ n
-spelled_length bytes i n (inl s) = s.all ∙ sym s.size
-spelled_length bytes i n (inr s) = s.all ∙ sym s.size

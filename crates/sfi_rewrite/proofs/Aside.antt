@@ -1,20 +1,7 @@
 -- Harts that differ in x31 alone, and what an instruction does from them.
-use Rattle.std.proofs.Common.{◌≡◌, ◌≢◌, ℕ, ◌+◌, ◌%◌, ◌^◌, ◌<◌, ◌==◌, Bool, true, false, cond, List, length, length-set, set, get_or, Option, Some, None, is_some, refl, sym, ap, ◌∙◌, subst, arith, ⊎_elim, ℤ, pos, negsuc, ◌+ℤ◌}
-use Rattle.std.proofs.lemmas.Bool.{cases_lt, eqb-true, eqb-false}
-use Rattle.std.proofs.lemmas.Int.{ints}
-use Rattle.std.proofs.lemmas.List.{get_or-set_same, get_or-set_other, get_or_past}
-use Rattle.rv_word.specs.Numbers.{offset_by}
-use Rattle.rv_word.specs.declared.instr.LoadKind.{LoadKind}
-use Rattle.rv_word.specs.declared.instr.StoreWidth.{StoreWidth}
-use Rattle.rv_word.specs.declared.instr.Instr.TheVariants.{Load, Store, Jalr}
-use Rattle.rv_mem.specs.Bytes.{Bytes, bytes_at, addresses, address_after, loaded, stored}
-use Rattle.rv_step.specs.declared.outcome.Outcome.TheVariants.{Trap}
+use Rattle.sfi_rewrite.proofs.Prelude.{◌≡◌, ◌≢◌, ℕ, ◌+◌, ◌%◌, ◌^◌, ◌<◌, ◌==◌, Bool, true, false, cond, List, length, length-set, set, get_or, Option, Some, None, is_some, refl, sym, ap, ◌∙◌, subst, arith, ⊎_elim, ℤ, pos, negsuc, ◌+ℤ◌, cases_lt, eqb-true, eqb-false, ints, get_or-set_same, get_or-set_other, get_or_past, offset_by, LoadKind, StoreWidth, Load, Store, Jalr, Bytes, bytes_at, addresses, address_after, loaded, stored, Trap, Hart, register, with_register, with_pc, past, even_of, next, unchanged, after_load, effect, word, load_size, store_size, IsSameAside}
 use Rattle.rv_step.specs.declared.outcome.Cause.TheVariants as cause
-use Rattle.rv_step.specs.State.{Hart, register, with_register, with_pc, past, even_of}
-use Rattle.rv_step.specs.Step.{next, unchanged, after_load, effect}
-use Rattle.rv_step.specs.Values.{word, load_size, store_size}
 use Rattle.rv_step.proofs.Pairs.{written_list, written_elsewhere}
-use Rattle.sfi_rewrite.specs.Transparency.{IsSameAside}
 
 -- ---- registers
 

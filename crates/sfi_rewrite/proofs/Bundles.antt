@@ -1,14 +1,5 @@
 -- Bundles of whole expansions.
-use Rattle.std.proofs.Common.{◌≡◌, replicate, ℕ, ◌+◌, ◌-◌, ◌<◌, ◌≤◌, ◌*◌, ◌%◌, List, [], ◌∷◌, ◌++◌, length, refl, sym, ap, ◌∙◌, subst, arith, append_assoc, append-nil, length-append, get_or, set}
-use Rattle.std.specs.List.{All}
-use Rattle.std.proofs.Math.Seq.{set-append_seam}
-use Rattle.std.proofs.lemmas.List.{get_or_push}
-use Rattle.std.proofs.lemmas.List.Elements.{All-push, All-nil, All-cons, All-head, All-tail}
-use Rattle.sfi_rewrite.specs.declared.slot.Slot.{Slot}
-use Rattle.sfi_policy.specs.Limits.{bundle_size}
-use Rattle.sfi_rewrite.specs.Slots.{size_of, slots_of, c_nop}
-use Rattle.sfi_rewrite.specs.Placement.{AreBundles}
-use Rattle.sfi_rewrite.specs.private.Filling.{IsFull, IsFilled, largest}
+use Rattle.sfi_rewrite.proofs.Prelude.{◌≡◌, replicate, ℕ, ◌+◌, ◌-◌, ◌<◌, ◌≤◌, ◌*◌, ◌%◌, List, [], ◌∷◌, ◌++◌, length, refl, sym, ap, ◌∙◌, subst, arith, append_assoc, append-nil, length-append, get_or, set, All, set-append_seam, get_or_push, All-push, All-nil, All-cons, All-head, All-tail, Slot, bundle_size, size_of, slots_of, c_nop, AreBundles, IsFull, IsFilled, largest}
 use Rattle.sfi_rewrite.proofs.Sizes.{size_of-append, sizes, size_even, size_nops}
 
 pub slots_of-push : (full : List (List Slot)) (b : List Slot) → slots_of (full ++ b ∷ []) ≡ slots_of full ++ b

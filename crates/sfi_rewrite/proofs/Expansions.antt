@@ -1,18 +1,5 @@
 -- How many bytes an expansion takes: some, and no more than a bundle.
-use Rattle.std.proofs.Common.{◌≡◌, ℕ, zero, suc, ◌<◌, ◌≤◌, List, [], ◌∷◌, Bool, true, false, arith, inl, inr}
-use Rattle.std.specs.Prelude.{ℤ, pos, negsuc, MatchBool}
-use Rattle.rv_word.specs.declared.instr.Instr.{Instr}
-use Rattle.rv_word.specs.declared.instr.Instr.TheVariants.{Load, Store, Jalr}
-use Rattle.sfi_policy.specs.declared.format.Format.{Format}
-use Rattle.sfi_policy.specs.Formats.{is_stack}
-use Rattle.rv_source.specs.declared.item.Body.{Body}
-use Rattle.rv_source.specs.declared.item.Body.TheVariants.{Plain, To, High, Low}
-use Rattle.rv_source.specs.declared.item.Item.{Item}
-use Rattle.sfi_rewrite.specs.declared.slot.Slot.{Slot}
-use Rattle.sfi_rewrite.specs.declared.slot.Slot.TheVariants.{Wide, Upper, Lower}
-use Rattle.sfi_rewrite.specs.Stack.{writes_stack, is_on_stack, stack_pair, put_back}
-use Rattle.sfi_rewrite.specs.Slots.{size_of}
-use Rattle.sfi_rewrite.specs.Expansion.{jump_slots, IsAlone, IsMasked, IsExpansionOf, IsExpansion}
+use Rattle.sfi_rewrite.proofs.Prelude.{◌≡◌, ℕ, zero, suc, ◌<◌, ◌≤◌, List, [], ◌∷◌, Bool, true, false, arith, inl, inr, ℤ, pos, negsuc, MatchBool, Instr, Load, Store, Jalr, Format, is_stack, Body, Plain, To, High, Low, Item, Slot, Wide, Upper, Lower, writes_stack, is_on_stack, stack_pair, put_back, size_of, jump_slots, IsAlone, IsMasked, IsExpansionOf, IsExpansion}
 
 -- slots that fit one bundle
 pub record IsOne (slots : List Slot) : Type 0 where

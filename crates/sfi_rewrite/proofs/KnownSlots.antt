@@ -1,29 +1,5 @@
 -- What is known of the slots of a sandbox's items: they encode, and their names are the sandbox's.
-use Rattle.std.proofs.Common.{◌≡◌, ℕ, zero, suc, ◌+◌, ◌*◌, ◌<◌, List, [], ◌∷◌, ◌++◌, replicate, refl, arith, inl, inr}
-use Rattle.std.proofs.lemmas.Int.{ints}
-use Rattle.std.specs.Prelude.{ℤ, pos, negsuc, Bool, true, false, MatchBool}
-use Rattle.std.specs.List.{All}
-use Rattle.std.proofs.lemmas.List.Elements.{All-nil, All-cons, All-append, All-head, All-tail, All-replicate}
-use Rattle.rv_word.specs.declared.instr.Instr.{Instr}
-use Rattle.rv_word.specs.declared.instr.RegOp.TheVariants.{And, Or}
-use Rattle.rv_word.specs.declared.instr.ImmOp.TheVariants.{Addi}
-use Rattle.rv_word.specs.declared.instr.LoadKind.{LoadKind}
-use Rattle.rv_word.specs.declared.instr.StoreWidth.{StoreWidth}
-use Rattle.rv_word.specs.declared.instr.Instr.TheVariants.{Op, OpImm, Load, Store, Jalr}
-use Rattle.rv_word.specs.Spelling.{InRange, IsImm12}
-use Rattle.sfi_policy.specs.declared.format.Format.{Format}
-use Rattle.sfi_policy.specs.Formats.{is_stack}
-use Rattle.rv_source.specs.declared.item.Item.{Item}
-use Rattle.rv_source.specs.declared.item.Body.{Body}
-use Rattle.rv_source.specs.declared.item.Body.TheVariants.{Plain, To, High, Low}
-use Rattle.rv_source.specs.Source.{IsBody}
-use Rattle.sfi_rewrite.specs.declared.slot.Slot.{Slot}
-use Rattle.sfi_rewrite.specs.declared.slot.Slot.TheVariants.{Wide, Short, Jump, Upper, Lower}
-use Rattle.sfi_rewrite.specs.Slots.{size_of, c_nop}
-use Rattle.sfi_rewrite.specs.Stack.{writes_stack, is_on_stack, stack_pair, put_back}
-use Rattle.sfi_rewrite.specs.Expansion.{code_pair_slots, jump_to_x31, jump_slots, IsAlone, IsMasked, IsExpansionOf}
-use Rattle.sfi_rewrite.specs.Places.{AreLaidFrom}
-use Rattle.sfi_rewrite.specs.Placed.{Encodes, IsNamedBelow}
+use Rattle.sfi_rewrite.proofs.Prelude.{◌≡◌, ℕ, zero, suc, ◌+◌, ◌*◌, ◌<◌, List, [], ◌∷◌, ◌++◌, replicate, refl, arith, inl, inr, ints, ℤ, pos, negsuc, Bool, true, false, MatchBool, All, All-nil, All-cons, All-append, All-head, All-tail, All-replicate, Instr, And, Or, Addi, LoadKind, StoreWidth, Op, OpImm, Load, Store, Jalr, InRange, IsImm12, Format, is_stack, Item, Body, Plain, To, High, Low, IsBody, Slot, Wide, Short, Jump, Upper, Lower, size_of, c_nop, writes_stack, is_on_stack, stack_pair, put_back, code_pair_slots, jump_to_x31, jump_slots, IsAlone, IsMasked, IsExpansionOf, AreLaidFrom, Encodes, IsNamedBelow}
 
 pub record IsKnown (count : ℕ) (s : Slot) : Type 0 where
   pub encodes : Encodes s

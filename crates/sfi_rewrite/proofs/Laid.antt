@@ -1,20 +1,6 @@
 -- What is laid from an end on: one more item, a beginning of the items, and that there is one way.
-use Rattle.std.proofs.Common.{◌≡◌, ℕ, zero, suc, ◌+◌, ◌*◌, List, [], ◌∷◌, ◌++◌, take, drop, replicate, refl, sym, ap, ◌∙◌, subst, arith, append_assoc, append-nil, inl, inr}
-use Rattle.std.specs.Prelude.{Bool, true, false, MatchBool}
-use Rattle.rv_word.specs.declared.instr.Instr.{Instr}
-use Rattle.rv_word.specs.declared.instr.Instr.TheVariants.{Load, Store, Jalr}
-use Rattle.rv_comp.specs.declared.form.Form16.{Form16}
+use Rattle.sfi_rewrite.proofs.Prelude.{◌≡◌, ℕ, zero, suc, ◌+◌, ◌*◌, List, [], ◌∷◌, ◌++◌, take, drop, replicate, refl, sym, ap, ◌∙◌, subst, arith, append_assoc, append-nil, inl, inr, Bool, true, false, MatchBool, Instr, Load, Store, Jalr, Form16, Format, Item, Body, Plain, Slot, Short, Wide, size_of, c_nop, writes_stack, is_on_stack, stack_pair, IsAlone, IsMasked, IsExpansionOf, IsExpansion, is_call, FillsGap, IsNext, AreLaidFrom}
 use Rattle.rv_comp.proofs.Facts.{one_first_form}
-use Rattle.sfi_policy.specs.declared.format.Format.{Format}
-use Rattle.rv_source.specs.declared.item.Item.{Item}
-use Rattle.rv_source.specs.declared.item.Body.{Body}
-use Rattle.rv_source.specs.declared.item.Body.TheVariants.{Plain}
-use Rattle.sfi_rewrite.specs.declared.slot.Slot.{Slot}
-use Rattle.sfi_rewrite.specs.declared.slot.Slot.TheVariants.{Short, Wide}
-use Rattle.sfi_rewrite.specs.Slots.{size_of, c_nop}
-use Rattle.sfi_rewrite.specs.Stack.{writes_stack, is_on_stack, stack_pair}
-use Rattle.sfi_rewrite.specs.Expansion.{IsAlone, IsMasked, IsExpansionOf, IsExpansion, is_call}
-use Rattle.sfi_rewrite.specs.Places.{FillsGap, IsNext, AreLaidFrom}
 use Rattle.sfi_rewrite.proofs.Sizes.{size_of-append, size_nops}
 
 -- the c.nops and the expansion, and what stands after them

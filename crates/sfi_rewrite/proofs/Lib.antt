@@ -1,3 +1,4 @@
+pub mod Prelude
 pub mod Sizes
 pub mod Bundles
 pub mod Expansions

@@ -1,23 +1,5 @@
 -- One item after another.
-use Rattle.std.proofs.Common.{◌≡◌, ℕ, ◌+◌, ◌*◌, ◌%◌, ◌<◌, ◌≤◌, List, [], ◌∷◌, ◌++◌, length, take, get_or, replicate, refl, sym, ap, ◌∙◌, subst, arith, Some, append_assoc, inl, inr, length-append}
-use Rattle.std.specs.Prelude.{Bool, slice_get}
-use Rattle.std.proofs.lemmas.List.{take_more, get_or_append_left, get_or_push}
-use Rattle.std.proofs.lemmas.List.Elements.{All-push, All-nil}
-use Rattle.std.proofs.lemmas.Bool.{cases_lt}
-use Rattle.std.proofs.lemmas.Option.{slice_get-get_or}
-use Rattle.sfi_policy.specs.declared.format.Format.{Format}
-use Rattle.sfi_policy.specs.declared.format.Format.TheVariants.{Sfi1, Sfi2}
-use Rattle.sfi_policy.specs.Formats.{code_most}
-use Rattle.rv_source.specs.declared.item.Item.{Item}
-use Rattle.rv_source.specs.Source.{IsBody}
-use Rattle.sfi_rewrite.specs.declared.slot.Slot.{Slot}
-use Rattle.sfi_rewrite.specs.declared.fault.RewriteFault.{RewriteFault}
-use Rattle.sfi_rewrite.specs.declared.fault.RewriteFault.TheVariants.{TooLarge, Memory}
-use Rattle.sfi_rewrite.specs.Slots.{size_of, c_nop}
-use Rattle.sfi_rewrite.specs.Expansion.{IsExpansion, is_call}
-use Rattle.sfi_rewrite.specs.Places.{next_bundle, FillsGap, IsNext, IsLabelAt}
-use Rattle.sfi_rewrite.specs.private.Filling.{HasNext, HaveBodies, AreLabels, largest}
-use Rattle.sfi_rewrite.specs.Faults.{IsPermitted, AreFaultless, IsTooLarge, HasItemFault, HasFault, UnlessMemory, IsItemFault}
+use Rattle.sfi_rewrite.proofs.Prelude.{◌≡◌, ℕ, ◌+◌, ◌*◌, ◌%◌, ◌<◌, ◌≤◌, List, [], ◌∷◌, ◌++◌, length, take, get_or, replicate, refl, sym, ap, ◌∙◌, subst, arith, Some, append_assoc, inl, inr, length-append, Bool, slice_get, take_more, get_or_append_left, get_or_push, All-push, All-nil, cases_lt, slice_get-get_or, Format, Sfi1, Sfi2, code_most, Item, IsBody, Slot, RewriteFault, TooLarge, Memory, size_of, c_nop, IsExpansion, is_call, next_bundle, FillsGap, IsNext, IsLabelAt, HasNext, HaveBodies, AreLabels, largest, IsPermitted, AreFaultless, IsTooLarge, HasItemFault, HasFault, UnlessMemory, IsItemFault}
 use Rattle.sfi_rewrite.proofs.Sizes.{size_of-append, size_even, size_nops}
 use Rattle.sfi_rewrite.proofs.Expansions.{IsOne, expansion_one}
 use Rattle.sfi_rewrite.proofs.Laid.{laid_push}

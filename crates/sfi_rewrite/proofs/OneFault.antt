@@ -1,22 +1,6 @@
 -- A source has one fault, or is rewritten.
-use Rattle.std.proofs.Common.{◌≡◌, ℕ, zero, suc, ◌+◌, ◌<◌, ◌≤◌, List, [], ◌∷◌, length, take, drop, get_or, sym, ap, ◌∙◌, subst, arith, Some, inl, inr}
-use Rattle.std.specs.Prelude.{Bool, true, false, slice_get}
-use Rattle.std.specs.List.{All, AllZip}
-use Rattle.std.proofs.Math.Seq.{drop-cons}
-use Rattle.std.proofs.lemmas.Bool.{cases_order}
-use Rattle.std.proofs.lemmas.List.{get_or-take, take-take, take_all, length-take-le}
-use Rattle.std.proofs.lemmas.Option.{slice_get_within, get_or_from_slice_get}
-use Rattle.sfi_policy.specs.declared.format.Format.{Format}
-use Rattle.rv_source.specs.declared.item.Item.{Item}
-use Rattle.rv_source.specs.Source.{Sandbox}
-use Rattle.sfi_rewrite.specs.declared.slot.Slot.{Slot}
-use Rattle.sfi_rewrite.specs.declared.fault.RewriteFault.{RewriteFault}
-use Rattle.sfi_rewrite.specs.declared.fault.RewriteFault.TheVariants.{ReservedRegister, Ecall, TooLarge, Memory, StackWrite}
-use Rattle.sfi_rewrite.specs.Slots.{size_of}
-use Rattle.sfi_rewrite.specs.Places.{AreLaidFrom}
-use Rattle.sfi_rewrite.specs.Placement.{Placement}
-use Rattle.sfi_rewrite.specs.Faults.{IsPermitted, AreFaultless, IsTooLarge, HasFault, IsItemFault, IsFaultless, IsSourceFault}
-use Rattle.sfi_rewrite.specs.Rewriting.{IsRewritten}
+use Rattle.sfi_rewrite.proofs.Prelude.{◌≡◌, ℕ, zero, suc, ◌+◌, ◌<◌, ◌≤◌, List, [], ◌∷◌, length, take, drop, get_or, sym, ap, ◌∙◌, subst, arith, Some, inl, inr, Bool, true, false, slice_get, All, AllZip, drop-cons, cases_order, get_or-take, take-take, take_all, length-take-le, slice_get_within, get_or_from_slice_get, Format, Item, Sandbox, Slot, RewriteFault, ReservedRegister, TooLarge, Memory, StackWrite, size_of, AreLaidFrom, Placement, IsPermitted, AreFaultless, IsTooLarge, HasFault, IsItemFault, IsFaultless, IsSourceFault, IsRewritten}
+use Rattle.sfi_rewrite.specs.declared.fault.RewriteFault.TheVariants.{Ecall}
 use Rattle.sfi_rewrite.proofs.Sizes.{size_of-append}
 use Rattle.sfi_rewrite.proofs.Expansions.{expansion_one}
 use Rattle.sfi_rewrite.proofs.Laid.{laid_split, laid_one_way, next_one_way, size_next}

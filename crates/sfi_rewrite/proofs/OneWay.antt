@@ -1,19 +1,6 @@
 -- A sandbox has one placement.
-use Rattle.std.proofs.Common.{◌≡◌, ℕ, ◌<◌, ◌≤◌, List, [], ◌∷◌, ◌++◌, take, replicate, refl, sym, ap, ◌∙◌, subst, arith, append-nil}
-use Rattle.std.specs.List.{AllZip}
-use Rattle.sfi_policy.specs.declared.format.Format.{Format}
-use Rattle.rv_source.specs.declared.item.Item.{Item}
-use Rattle.rv_source.specs.declared.item.Named.{Named}
-use Rattle.rv_source.specs.declared.item.Named.TheVariants.{Code}
-use Rattle.rv_source.specs.declared.item.SourceGate.{SourceGate}
-use Rattle.rv_source.specs.Source.{Sandbox, named}
-use Rattle.sfi_rewrite.specs.declared.slot.Slot.{Slot}
-use Rattle.sfi_rewrite.specs.declared.placed.PlacedName.{PlacedName}
+use Rattle.sfi_rewrite.proofs.Prelude.{◌≡◌, ℕ, ◌<◌, ◌≤◌, List, [], ◌∷◌, ◌++◌, take, replicate, refl, sym, ap, ◌∙◌, subst, arith, append-nil, AllZip, Format, Item, Named, Code, SourceGate, Sandbox, named, Slot, PlacedName, size_of, slots_of, c_nop, next_bundle, Placement, IsPlacedName, HasEndLabel, FillsEnd, AreBundles, IsPlacement, IsRewritten}
 use Rattle.sfi_rewrite.specs.declared.placed.PlacedName.TheVariants as placed
-use Rattle.sfi_rewrite.specs.Slots.{size_of, slots_of, c_nop}
-use Rattle.sfi_rewrite.specs.Places.{next_bundle}
-use Rattle.sfi_rewrite.specs.Placement.{Placement, IsPlacedName, HasEndLabel, FillsEnd, AreBundles, IsPlacement}
-use Rattle.sfi_rewrite.specs.Rewriting.{IsRewritten}
 use Rattle.sfi_rewrite.proofs.Sizes.{size_of-append, size_at_least, begins_with}
 use Rattle.sfi_rewrite.proofs.Laid.{laid_one_way}
 

@@ -1,32 +1,5 @@
 -- The placement of a sandbox keeps what the type of what is placed keeps.
-use Rattle.std.proofs.Common.{◌≡◌, ℕ, suc, ◌+◌, ◌-◌, ◌*◌, ◌/◌, ◌%◌, ◌<◌, ◌≤◌, List, [], ◌∷◌, ◌++◌, length, take, drop, get_or, replicate, refl, sym, ap, ◌∙◌, subst, arith, Some, None, Option, inl, inr}
-use Rattle.std.specs.Prelude.{slice_get, IsTrue, ◌↔◌, Contains, Bool, false, MatchOption}
-use Rattle.std.specs.List.{All, AllZip}
-use Rattle.std.specs.Option.{IsSomeAnd}
-use Rattle.std.proofs.Math.Seq.{drop-cons}
-use Rattle.std.proofs.lemmas.Bool.{cases_lt}
-use Rattle.std.proofs.lemmas.List.{take_all, length-map}
-use Rattle.std.proofs.lemmas.List.Elements.{All-nil, All-cons, All-append, All-head, All-tail, All-contains_itself}
-use Rattle.std.proofs.lemmas.Option.{slice_get-get_or}
-use Rattle.std.proofs.lemmas.Slice.Zip.{AllZip-left, AllZip-long}
-use Rattle.rv_word.specs.declared.instr.Instr.TheVariants.{Ecall}
-use Rattle.sfi_policy.specs.declared.format.Format.{Format}
-use Rattle.sfi_policy.specs.Formats.{code_most}
-use Rattle.rv_source.specs.declared.item.Item.{Item}
-use Rattle.rv_source.specs.declared.item.Body.TheVariants.{Plain}
-use Rattle.rv_source.specs.declared.item.Named.{Named}
-use Rattle.rv_source.specs.declared.item.Named.TheVariants.{Gate, Code, Data, Unknown}
-use Rattle.rv_source.specs.declared.item.SourceGate.{SourceGate}
-use Rattle.rv_source.specs.Source.{Sandbox, IsSandbox, IsThere, IsBody, named}
-use Rattle.sfi_rewrite.specs.declared.slot.Slot.{Slot}
-use Rattle.sfi_rewrite.specs.declared.placed.PlacedName.{PlacedName}
-use Rattle.sfi_rewrite.specs.Slots.{size_of, slots_of, c_nop}
-use Rattle.sfi_rewrite.specs.Places.{next_bundle, AreLaid, AreLaidFrom, IsLabelAt}
-use Rattle.sfi_rewrite.specs.Placement.{Placement, IsPlacedName, HasEndLabel, FillsEnd, AreBundles}
-use Rattle.sfi_rewrite.specs.Placed.{AreWhole, IsPlacedThere, IsPlacedGate, IsPlacedPart}
-use Rattle.sfi_rewrite.specs.private.Filling.{HaveBodies, HasEnd}
-use Rattle.sfi_rewrite.specs.Faults.{AreFaultless}
-use Rattle.sfi_rewrite.specs.Rewriting.{IsRewritten}
+use Rattle.sfi_rewrite.proofs.Prelude.{◌≡◌, ℕ, suc, ◌+◌, ◌-◌, ◌*◌, ◌/◌, ◌%◌, ◌<◌, ◌≤◌, List, [], ◌∷◌, ◌++◌, length, take, drop, get_or, replicate, refl, sym, ap, ◌∙◌, subst, arith, Some, None, Option, inl, inr, slice_get, IsTrue, ◌↔◌, Contains, Bool, false, MatchOption, All, AllZip, IsSomeAnd, drop-cons, cases_lt, take_all, length-map, All-nil, All-cons, All-append, All-head, All-tail, All-contains_itself, slice_get-get_or, AllZip-left, AllZip-long, Ecall, Format, code_most, Item, Plain, Named, Gate, Code, Data, Unknown, SourceGate, Sandbox, IsSandbox, IsThere, IsBody, named, Slot, PlacedName, size_of, slots_of, c_nop, next_bundle, AreLaid, AreLaidFrom, IsLabelAt, Placement, IsPlacedName, HasEndLabel, FillsEnd, AreBundles, AreWhole, IsPlacedThere, IsPlacedGate, IsPlacedPart, HaveBodies, HasEnd, AreFaultless, IsRewritten}
 use Rattle.sfi_rewrite.proofs.Sizes.{size_of-append, size_nops, size_even}
 use Rattle.sfi_rewrite.proofs.Laid.{laid_split, laid_one_way, size_next}
 use Rattle.sfi_rewrite.proofs.OneByOne.{whole_bundles}

@@ -1,33 +1,8 @@
 -- States in which the expansions of a load, of an indirect jump and of a write of the stack pointer stand.
-use Rattle.std.proofs.Common.{◌≡◌, ℕ, zero, suc, ◌+◌, ◌-◌, ◌%◌, ◌^◌, ◌<◌, ◌≤◌, List, [], ◌∷◌, ◌++◌, length, take, drop, replicate, true, Option, Some, None, inr, refl, sym, ap, subst, ◌∙◌, ⊎_elim, arith, get_or-drop, get_or-take}
-use Rattle.std.specs.Prelude.{slice_index, nat_lt, Contains, pos}
-use Rattle.std.specs.FinMap.{empty, get-empty}
-use Rattle.std.specs.Int.{w32, to_le_bytes}
-use Rattle.std.specs.List.{flat_map, list_all}
-use Rattle.std.specs.Option.{option_map}
-use Rattle.std.specs.Ordering.{nat_cmp}
-use Rattle.std.proofs.lemmas.Bool.{and_parts, ltb-true, cases_lt}
-use Rattle.std.proofs.lemmas.Int.{ints}
-use Rattle.std.proofs.lemmas.Nat.{from_le_bytes-to_le_bytes_4}
-use Rattle.rv_word.specs.declared.instr.RegOp.{RegOp}
-use Rattle.rv_word.proofs.Facts.{spellings_are_wide}
-use Rattle.rv_word.specs.declared.instr.RegOp.TheVariants.{And, Or}
-use Rattle.rv_word.specs.declared.instr.LoadKind.TheVariants.{Lw}
-use Rattle.rv_word.specs.declared.instr.Instr.{Instr}
-use Rattle.rv_word.specs.declared.instr.Instr.TheVariants.{Op, Load, Jalr}
-use Rattle.rv_word.specs.Spelling.{spelling, InRange}
-use Rattle.rv_comp.specs.Fronts.{Spells}
-use Rattle.sfi_policy.specs.declared.format.Format.TheVariants.{Sfi2}
-use Rattle.rv_mem.specs.Bytes.{Bytes, IsMemory, byte_at, bytes_at, addresses, address_after, with_bytes, number_of}
+use Rattle.sfi_rewrite.proofs.Prelude.{◌≡◌, ℕ, zero, suc, ◌+◌, ◌-◌, ◌%◌, ◌^◌, ◌<◌, ◌≤◌, List, [], ◌∷◌, ◌++◌, length, take, drop, replicate, true, Option, Some, None, refl, sym, ap, subst, ◌∙◌, ⊎_elim, arith, get_or-drop, slice_index, nat_lt, Contains, pos, empty, get-empty, w32, to_le_bytes, flat_map, list_all, option_map, nat_cmp, and_parts, ltb-true, cases_lt, ints, RegOp, And, Or, Lw, Instr, Op, Load, Jalr, spelling, InRange, Spells, Sfi2, Bytes, IsMemory, byte_at, bytes_at, addresses, address_after, with_bytes, number_of, Next, Hart, IsHart, Stands, effect, after_load, Span, Wide, AreRegions, HasReserved, IsAskedOf, MeetsTransparent, MeetsKeepsStack, sample_load, sample_jump, sample_push, TransparencyCanBeMet}
+use Rattle.std.proofs.Common.{get_or-take}
+use Rattle.rv_comp.proofs.Facts.{word_spells}
 use Rattle.rv_mem.proofs.Facts.{addresses_are_these, others_stay, read_is_held, written_is_there}
-use Rattle.rv_step.specs.declared.outcome.Outcome.TheVariants.{Next}
-use Rattle.rv_step.specs.State.{Hart, IsHart}
-use Rattle.rv_step.specs.Step.{Stands, effect, after_load}
-use Rattle.sfi_image.specs.declared.span.Span.{Span}
-use Rattle.sfi_rewrite.specs.declared.slot.Slot.TheVariants.{Wide}
-use Rattle.sfi_rewrite.specs.Transparency.{AreRegions, HasReserved, IsAskedOf}
-use Rattle.sfi_rewrite.specs.Samples.{MeetsTransparent, MeetsKeepsStack, sample_load, sample_jump, sample_push}
-use Rattle.sfi_rewrite.specs.Laws.{TransparencyCanBeMet}
 
 -- ---- the regions and the registers
 
@@ -78,22 +53,19 @@ words_of is = flat_map (λ i. to_le_bytes w32 (spelling i)) is
 
 op_spelled : (op : RegOp) (rd a b : ℕ) → rd < 32 → a < 32 → b < 32 → IsSpelled (Op op rd a b)
 unfolding InRange
-op_spelled op rd a b d g h =
-    let i = Op op rd a b in
-    let ok : InRange i = (d, g, h) in
-    inr (record { size = refl; all = refl; spelled = (ok, from_le_bytes-to_le_bytes_4 (spelling i) (spellings_are_wide (spelling i) i (ok, refl)).0) })
+op_spelled op rd a b d g h = word_spells (Op op rd a b) (d, g, h)
 
 load_x31 : IsSpelled (Load Lw 10 31 (pos 0))
-unfolding spelling InRange
-load_x31 = inr (record { size = refl; all = refl; spelled = ((omega arith, omega arith, (omega (arith, ints), omega (arith, ints))), refl) })
+unfolding InRange
+load_x31 = word_spells (Load Lw 10 31 (pos 0)) (omega arith, omega arith, (omega (arith, ints), omega (arith, ints)))
 
 jump_x31 : IsSpelled (Jalr 1 31 (pos 0))
-unfolding spelling InRange
-jump_x31 = inr (record { size = refl; all = refl; spelled = ((omega arith, omega arith, (omega (arith, ints), omega (arith, ints))), refl) })
+unfolding InRange
+jump_x31 = word_spells (Jalr 1 31 (pos 0)) (omega arith, omega arith, (omega (arith, ints), omega (arith, ints)))
 
 push : IsSpelled sample_push
-unfolding spelling InRange
-push = inr (record { size = refl; all = refl; spelled = ((omega arith, omega arith, (omega (arith, ints), omega (arith, ints))), refl) })
+unfolding InRange
+push = word_spells sample_push (omega arith, omega arith, (omega (arith, ints), omega (arith, ints)))
 
 abbrev load_words : List ℕ
 load_words = words_of (Op And 31 11 27 ∷ Op Or 31 31 26 ∷ Load Lw 10 31 (pos 0) ∷ [])

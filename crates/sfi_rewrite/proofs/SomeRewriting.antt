@@ -1,41 +1,8 @@
 -- A source is rewritten, or has a fault.
-use Rattle.std.proofs.Common.{◌≡◌, ℕ, zero, suc, ◌+◌, ◌-◌, ◌*◌, ◌/◌, ◌%◌, ◌<◌, ◌≤◌, List, [], ◌∷◌, ◌++◌, length, take, get_or, replicate, refl, sym, ap, ◌∙◌, subst, arith, append_assoc, append-nil, inl, inr, ◌⊎◌}
-use Rattle.std.specs.Prelude.{Bool, true, false, MatchBool, Contains}
-use Rattle.std.specs.List.{AllZip}
-use Rattle.std.proofs.lemmas.Bool.{cases_lt, cases_eq, cases_Bool, false≢true}
-use Rattle.std.proofs.lemmas.List.{take_all, get_or_default}
-use Rattle.std.proofs.lemmas.List.Elements.{Contains-append_right}
-use Rattle.std.proofs.lemmas.Map.Made.{Contains-tail}
-use Rattle.std.proofs.lemmas.Option.{slice_get-get_or}
-use Rattle.rv_word.specs.declared.instr.Instr.{Instr}
-use Rattle.rv_word.specs.declared.instr.Instr.TheVariants.{Load, Store, Jalr, Ecall}
+use Rattle.sfi_rewrite.proofs.Prelude.{◌≡◌, ℕ, zero, suc, ◌+◌, ◌-◌, ◌*◌, ◌/◌, ◌%◌, ◌<◌, ◌≤◌, List, [], ◌∷◌, ◌++◌, length, take, get_or, replicate, refl, sym, ap, ◌∙◌, subst, arith, append_assoc, append-nil, inl, inr, ◌⊎◌, Bool, true, false, MatchBool, Contains, AllZip, cases_lt, cases_eq, cases_Bool, false≢true, take_all, get_or_default, Contains-append_right, Contains-tail, slice_get-get_or, Instr, Load, Store, Jalr, Ecall, Format, Sfi1, code_most, is_stack, Item, Body, Plain, To, High, Low, Named, Gate, Code, Data, Unknown, Sandbox, named, Slot, Wide, Short, Jump, Upper, Lower, RewriteFault, PlacedName, bundle_size, size_of, slots_of, c_nop, writes_stack, is_on_stack, is_stack_write, stack_pair, put_back, item_names_withheld, is_ecall, data_pair_slots, jump_slots, IsAlone, IsMasked, IsExpansionOf, IsExpansion, is_call, next_bundle, FillsGap, AreLaid, Placement, IsPlacedName, HasEndLabel, FillsEnd, AreBundles, HasNext, IsPermitted, AreFaultless, HasFault, IsItemFault, IsSourceFault, IsRewritten, AreRewritten, SomeRewriting}
 use Rattle.rv_comp.proofs.Facts.{some_first_form}
-use Rattle.sfi_policy.specs.declared.format.Format.{Format}
-use Rattle.sfi_policy.specs.declared.format.Format.TheVariants.{Sfi1}
-use Rattle.sfi_policy.specs.Formats.{code_most, is_stack}
-use Rattle.rv_source.specs.declared.item.Item.{Item}
-use Rattle.rv_source.specs.declared.item.Body.{Body}
-use Rattle.rv_source.specs.declared.item.Body.TheVariants.{Plain, To, High, Low}
-use Rattle.rv_source.specs.declared.item.Named.{Named}
-use Rattle.rv_source.specs.declared.item.Named.TheVariants.{Gate, Code, Data, Unknown}
-use Rattle.rv_source.specs.Source.{Sandbox, named}
-use Rattle.sfi_rewrite.specs.declared.slot.Slot.{Slot}
-use Rattle.sfi_rewrite.specs.declared.slot.Slot.TheVariants.{Wide, Short, Jump, Upper, Lower}
-use Rattle.sfi_rewrite.specs.declared.fault.RewriteFault.{RewriteFault}
 use Rattle.sfi_rewrite.specs.declared.fault.RewriteFault.TheVariants as fault
-use Rattle.sfi_rewrite.specs.declared.placed.PlacedName.{PlacedName}
 use Rattle.sfi_rewrite.specs.declared.placed.PlacedName.TheVariants as placed
-use Rattle.sfi_policy.specs.Limits.{bundle_size}
-use Rattle.sfi_rewrite.specs.Slots.{size_of, slots_of, c_nop}
-use Rattle.sfi_rewrite.specs.Stack.{writes_stack, is_on_stack, is_stack_write, stack_pair, put_back}
-use Rattle.sfi_rewrite.specs.Registers.{item_names_withheld, is_ecall}
-use Rattle.sfi_rewrite.specs.Expansion.{data_pair_slots, jump_slots, IsAlone, IsMasked, IsExpansionOf, IsExpansion, is_call}
-use Rattle.sfi_rewrite.specs.Places.{next_bundle, FillsGap, AreLaid}
-use Rattle.sfi_rewrite.specs.Placement.{Placement, IsPlacedName, HasEndLabel, FillsEnd, AreBundles}
-use Rattle.sfi_rewrite.specs.private.Filling.{HasNext}
-use Rattle.sfi_rewrite.specs.Faults.{IsPermitted, AreFaultless, HasFault, IsItemFault, IsSourceFault}
-use Rattle.sfi_rewrite.specs.Rewriting.{IsRewritten, AreRewritten}
-use Rattle.sfi_rewrite.specs.Laws.{SomeRewriting}
 use Rattle.sfi_rewrite.proofs.Sizes.{size_even}
 use Rattle.sfi_rewrite.proofs.Expansions.{expansion_one}
 use Rattle.sfi_rewrite.proofs.Bundles.{slots_of-push, begun, grown, nop_fits}

@@ -1,20 +1,6 @@
 -- One sandbox after another.
-use Rattle.std.proofs.Common.{◌≡◌, ℕ, ◌+◌, ◌<◌, List, [], ◌∷◌, ◌++◌, length, take, get_or, refl, sym, ap, ◌∙◌, subst, arith, inl, inr, Some}
-use Rattle.std.specs.Prelude.{Err}
-use Rattle.std.specs.List.{All, AllZip}
-use Rattle.std.proofs.lemmas.List.{take_more}
-use Rattle.std.proofs.lemmas.List.Elements.{All-cons, All-head, All-tail}
-use Rattle.std.proofs.lemmas.Option.{slice_get-get_or}
-use Rattle.std.proofs.lemmas.Slice.Zip.{AllZip-long}
-use Rattle.sfi_policy.specs.declared.format.Format.{Format}
-use Rattle.rv_source.specs.Source.{Sandbox, IsSource}
+use Rattle.sfi_rewrite.proofs.Prelude.{◌≡◌, ℕ, ◌+◌, ◌<◌, List, [], ◌∷◌, ◌++◌, length, take, get_or, refl, sym, ap, ◌∙◌, subst, arith, inl, inr, Some, Err, All, AllZip, take_more, All-cons, All-head, All-tail, slice_get-get_or, AllZip-long, Format, Sandbox, IsSource, RewriteFault, Memory, Placement, IsPlacedPart, IsPlaced, AreOf, format_of, UnlessMemory, IsItemFault, IsSourceFault, IsRewritten, AnswersFault}
 use Rattle.rv_source.specs.Source as text
-use Rattle.sfi_rewrite.specs.declared.fault.RewriteFault.{RewriteFault}
-use Rattle.sfi_rewrite.specs.declared.fault.RewriteFault.TheVariants.{Memory}
-use Rattle.sfi_rewrite.specs.Placement.{Placement}
-use Rattle.sfi_rewrite.specs.Placed.{IsPlacedPart, IsPlaced, AreOf, format_of}
-use Rattle.sfi_rewrite.specs.Faults.{UnlessMemory, IsItemFault, IsSourceFault}
-use Rattle.sfi_rewrite.specs.Rewriting.{IsRewritten, AnswersFault}
 use Rattle.sfi_rewrite.proofs.OneFault.{each_faultless, source_fault_one_way}
 use Rattle.sfi_rewrite.proofs.PlacedNames.{zip_push}
 

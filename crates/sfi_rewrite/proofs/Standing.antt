@@ -1,19 +1,5 @@
 -- Each instruction of a source stands transparent in what is placed.
-use Rattle.std.proofs.Common.{◌≡◌, ℕ, ◌+◌, ◌<◌, List, [], ◌∷◌, ◌++◌, length, drop, replicate, ap, ◌∙◌, subst, arith, append_assoc}
-use Rattle.std.specs.List.{AllZip}
-use Rattle.std.proofs.lemmas.List.{drop_more}
-use Rattle.std.proofs.lemmas.List.Elements.{All-get_or}
-use Rattle.std.proofs.lemmas.Option.{get_or_from_slice_get, slice_get_within}
-use Rattle.rv_source.specs.declared.item.Item.{Item}
-use Rattle.rv_source.specs.Source.{Sandbox}
-use Rattle.sfi_rewrite.specs.declared.slot.Slot.{Slot}
-use Rattle.sfi_rewrite.specs.Slots.{size_of, c_nop}
-use Rattle.sfi_rewrite.specs.Places.{AreLaidFrom}
-use Rattle.sfi_rewrite.specs.Placement.{Placement}
-use Rattle.sfi_rewrite.specs.Faults.{IsPermitted}
-use Rattle.sfi_rewrite.specs.Rewriting.{IsRewritten}
-use Rattle.sfi_rewrite.specs.Laws.{RewrittenIsTransparent}
-use Rattle.sfi_rewrite.specs.Transparency.{StandTransparent}
+use Rattle.sfi_rewrite.proofs.Prelude.{◌≡◌, ℕ, ◌+◌, ◌<◌, List, [], ◌∷◌, ◌++◌, length, drop, replicate, ap, ◌∙◌, subst, arith, append_assoc, AllZip, drop_more, All-get_or, get_or_from_slice_get, slice_get_within, Item, Sandbox, Slot, size_of, c_nop, AreLaidFrom, Placement, IsPermitted, IsRewritten, RewrittenIsTransparent, StandTransparent}
 use Rattle.sfi_rewrite.proofs.Laid.{laid_split}
 use Rattle.sfi_rewrite.proofs.StackKept.{all_transparent}
 

@@ -1,9 +1,6 @@
 -- A number that lies in a region stays as it is under the region's mask and bits.
-use Rattle.std.proofs.Common.{◌≡◌, ℕ, ◌+◌, ◌-◌, ◌*◌, ◌/◌, ◌%◌, ◌^◌, ◌<◌, ◌≤◌, ap, ◌∙◌, arith}
+use Rattle.sfi_rewrite.proofs.Prelude.{◌≡◌, ℕ, ◌+◌, ◌-◌, ◌*◌, ◌/◌, ◌%◌, ◌^◌, ◌<◌, ◌≤◌, ap, ◌∙◌, arith, and_mask, or_shifted, or_comm, mod-mul-add, pow-add, and_high, IsRegion}
 use Rattle.std.specs.Int.Bits.{bit_and, bit_or}
-use Rattle.std.proofs.lemmas.Nat.{and_mask, or_shifted, or_comm, mod-mul-add, pow-add}
-use Rattle.std.proofs.lemmas.Nat.Bits.{and_high}
-use Rattle.sfi_image.specs.Regions.{IsRegion}
 use Rattle.sfi_image.proofs.Bundles.{exponent_le}
 
 in_block : (q k r : ℕ) → r < 2 ^ k → bit_or r (q * 2 ^ k) ≡ q * 2 ^ k + r

@@ -1,16 +1,6 @@
 -- The bundles of a placement are whole expansions and c.nops: no expansion was cut.
-use Rattle.std.proofs.Common.{◌≡◌, ℕ, zero, suc, ◌+◌, ◌*◌, ◌%◌, ◌<◌, ◌≤◌, List, [], ◌∷◌, ◌++◌, replicate, refl, sym, ap, ◌∙◌, subst, arith, append_assoc, append-nil}
-use Rattle.std.specs.List.{All}
-use Rattle.std.proofs.lemmas.List.Elements.{All-nil, All-cons, All-head, All-tail}
-use Rattle.sfi_policy.specs.declared.format.Format.{Format}
-use Rattle.rv_source.specs.declared.item.Item.{Item}
-use Rattle.rv_source.specs.Source.{IsBody}
-use Rattle.sfi_rewrite.specs.declared.slot.Slot.{Slot}
-use Rattle.sfi_rewrite.specs.Slots.{size_of, slots_of, c_nop}
-use Rattle.sfi_rewrite.specs.Places.{AreLaidFrom}
-use Rattle.sfi_rewrite.specs.Placement.{AreBundles}
-use Rattle.sfi_rewrite.specs.Faults.{IsPermitted}
-use Rattle.sfi_rewrite.specs.Placed.{AreWhole, nothing, padding, expansion}
+use Rattle.sfi_rewrite.proofs.Prelude.{◌≡◌, ℕ, zero, suc, ◌+◌, ◌*◌, ◌%◌, ◌<◌, ◌≤◌, List, [], ◌∷◌, ◌++◌, replicate, refl, sym, ap, ◌∙◌, subst, arith, append_assoc, append-nil, All, All-nil, All-cons, All-head, All-tail, Format, Item, IsBody, Slot, size_of, slots_of, c_nop, AreLaidFrom, AreBundles, IsPermitted, AreWhole, nothing, padding}
+use Rattle.sfi_rewrite.specs.Placed.{expansion}
 use Rattle.sfi_rewrite.proofs.Sizes.{size_of-append, size_even, size_at_least, begins_with}
 use Rattle.sfi_rewrite.proofs.Expansions.{expansion_one}
 use Rattle.sfi_rewrite.proofs.Laid.{size_next}

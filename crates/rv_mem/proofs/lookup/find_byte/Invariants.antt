@@ -1,5 +1,4 @@
-use Rattle.std.proofs.Common.{◌≡◌, drop}
-use Rattle.rv_mem.specs.private.Segment.{byte_among}
+use Rattle.rv_mem.proofs.Prelude.{◌≡◌, drop, byte_among}
 use Rattle.rv_mem.proofs.lookup.find_byte.Given as goal
 
 -- what is left of the segments tells what all have

@@ -1,7 +1,4 @@
-use Rattle.std.proofs.Common.{subst}
-use Rattle.rv_mem.specs.declared.segment.Segment.{Segment}
-use Rattle.rv_mem.specs.private.Segment.{byte_in}
-use Rattle.rv_mem.specs.private.Ranges.{HasIn, HasNone}
+use Rattle.rv_mem.proofs.Prelude.{subst, Segment, byte_in, HasIn, HasNone}
 use Rattle.rv_mem.proofs.Lookups.{found_later, none_later}
 use Rattle.rv_mem.proofs.lookup.has_in.Goals as goal
 

@@ -1,6 +1,4 @@
-use Rattle.std.proofs.Common.{take}
-use Rattle.rv_mem.specs.private.Segment.{byte_among}
-use Rattle.rv_mem.specs.private.Ranges.{HasNone}
+use Rattle.rv_mem.proofs.Prelude.{take, byte_among, HasNone}
 use Rattle.rv_mem.proofs.lookup.has_in.Given as goal
 
 -- the segments up to here have no address of the range

@@ -1,5 +1,4 @@
-use Rattle.std.proofs.Common.{ap, ◌∙◌, cond, ◌==◌, Some, rules, arith, ◌<◌, length}
-use Rattle.rv_mem.specs.private.Segment.{byte_among}
+use Rattle.rv_mem.proofs.Prelude.{ap, ◌∙◌, cond, ◌==◌, Some, rules, arith, ◌<◌, length, byte_among}
 use Rattle.rv_mem.proofs.Lookups.{none_more, among_at, puts_at}
 use Rattle.rv_mem.proofs.lookup.put_byte.Goals as goal
 

@@ -1,5 +1,4 @@
-use Rattle.std.proofs.Common.{◌≡◌, take, None}
-use Rattle.rv_mem.specs.private.Segment.{byte_among}
+use Rattle.rv_mem.proofs.Prelude.{◌≡◌, take, None, byte_among}
 use Rattle.rv_mem.proofs.lookup.put_byte.Given as goal
 
 -- the segments up to here don't have the address, and none has changed

@@ -1,6 +1,4 @@
-use Rattle.std.proofs.Common.{◌≡◌, ◌+◌, ◌-◌, ℕ, length, take, drop, subst, ap, ◌∙◌, arith, length-take, length-drop, get_or-take, get_or-drop}
-use Rattle.std.specs.Prelude.{slice_index}
-use Rattle.rv_mem.specs.private.Frames.{Puts}
+use Rattle.rv_mem.proofs.Prelude.{◌≡◌, ◌+◌, ◌-◌, ℕ, length, take, drop, subst, ap, ◌∙◌, arith, length-take, length-drop, get_or-take, get_or-drop, slice_index, Puts}
 use Rattle.rv_mem.proofs.Paging.{slice_past}
 use Rattle.rv_mem.proofs.PageRuns.{marks_run}
 use Rattle.rv_mem.proofs.pages.mark_cells.Goals as goal

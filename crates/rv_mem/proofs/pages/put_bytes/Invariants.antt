@@ -1,6 +1,4 @@
-use Rattle.std.proofs.Common.{◌<◌, ℕ}
-use Rattle.std.specs.Prelude.{slice_index}
-use Rattle.rv_mem.specs.private.Frames.{Puts}
+use Rattle.rv_mem.proofs.Prelude.{◌<◌, ℕ, slice_index, Puts}
 use Rattle.rv_mem.proofs.pages.put_bytes.Given as goal
 
 abbrev pub invariant-loop-j : goal.invariant-loop-j

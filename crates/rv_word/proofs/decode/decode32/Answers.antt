@@ -1,7 +1,4 @@
-use Rattle.std.proofs.Common.{◌≡◌, ℕ, ap, subst, Option, Some, None, IfSome, IfNone}
-use Rattle.rv_word.specs.declared.instr.Instr.{Instr}
-use Rattle.rv_word.specs.Spelling.{IsWordOf}
-use Rattle.rv_word.specs.private.Parts.{SpellsNone}
+use Rattle.rv_word.proofs.Prelude.{◌≡◌, ℕ, ap, subst, Option, Some, None, IfSome, IfNone, Instr, IsWordOf, SpellsNone}
 use Rattle.rv_word.proofs.OneSpelling.{one_spelling}
 use Rattle.rv_word.proofs.decode.decode32.Goals as goal
 

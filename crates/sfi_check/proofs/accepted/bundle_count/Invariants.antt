@@ -1,7 +1,4 @@
-use Rattle.std.proofs.Common.{◌≡◌, ◌*◌, ◌≤◌, take}
-use Rattle.sfi_policy.specs.declared.format.Format.{Format}
-use Rattle.sfi_image.specs.Spelling.{views}
-use Rattle.sfi_check.specs.Verdict.{bundle_count}
+use Rattle.sfi_check.proofs.Prelude.{◌≡◌, ◌*◌, ◌≤◌, take, Format, views, bundle_count}
 use Rattle.sfi_check.proofs.accepted.bundle_count.Given as goal
 
 -- the bundles of the parts so far, of which each has at most 4096

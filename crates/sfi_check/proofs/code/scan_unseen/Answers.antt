@@ -1,10 +1,4 @@
-use Rattle.std.proofs.Common.{◌∙◌, ◌+◌, ◌/◌, ◌<◌, ◌++◌, ℕ, List, [], length, get_or, refl, sym, ap, subst, arith}
-use Rattle.std.proofs.lemmas.List.{length-append, append-nil}
-use Rattle.sfi_scan.specs.declared.bundle.BundlePlace.{BundlePlace}
-use Rattle.sfi_scan.specs.Bundles.{bundle_at}
-use Rattle.sfi_scan.specs.Findings.{AreBundleFindings}
-use Rattle.sfi_check.specs.declared.tally.Tally.{Tally}
-use Rattle.sfi_check.specs.private.Tallies.{AddsFindings, AreFindingsOfPlain}
+use Rattle.sfi_check.proofs.Prelude.{◌∙◌, ◌+◌, ◌/◌, ◌<◌, ◌++◌, ℕ, List, [], length, get_or, refl, sym, ap, subst, arith, length-append, append-nil, BundlePlace, bundle_at, AreBundleFindings, Tally, AddsFindings, AreFindingsOfPlain}
 use Rattle.sfi_check.proofs.Blocks.{adds_more, one_found, reading_found, chunk_at}
 use Rattle.sfi_check.proofs.code.scan_unseen.Goals as goal
 use Rattle.sfi_check.proofs.code.scan_unseen.Goals.{then-not-has_bit, else-not-has_bit}

@@ -1,7 +1,4 @@
-use Rattle.std.proofs.Common.{◌≡◌, ℕ, List, [], true, sym, subst, arith}
-use Rattle.std.proofs.lemmas.List.{append-nil}
-use Rattle.sfi_scan.specs.declared.finding.Finding.{Finding}
-use Rattle.sfi_masks.specs.Masks.{is_in}
+use Rattle.sfi_check.proofs.Prelude.{◌≡◌, ℕ, List, [], true, sym, subst, arith, append-nil, Finding, is_in}
 use Rattle.sfi_check.proofs.Blocks.{adds_none, adds_of, all_set, block_step, none_found, reading_found}
 use Rattle.sfi_check.proofs.code.take_block.Goals as goal
 

@@ -1,6 +1,4 @@
-use Rattle.std.proofs.Common.{◌≡◌, ◌≤◌, ◌++◌, ℕ, List, length, ap, subst, arith}
-use Rattle.std.proofs.lemmas.List.{length-take}
-use Rattle.sfi_check.specs.private.Tallies.{IsSoFar}
+use Rattle.sfi_check.proofs.Prelude.{◌≡◌, ◌≤◌, ◌++◌, ℕ, List, length, ap, subst, arith, length-take, IsSoFar}
 use Rattle.sfi_check.proofs.Blocks.{adds_of}
 use Rattle.sfi_check.proofs.Leading.{bundle_sandbox, bundle_step, bundle_taken, step_fault}
 use Rattle.sfi_check.proofs.code.take_bundle.Goals as goal

@@ -1,5 +1,4 @@
-use Rattle.std.proofs.Common.{◌++◌, ℕ, List, subst, arith}
-use Rattle.sfi_check.specs.private.Tallies.{IsSoFar}
+use Rattle.sfi_check.proofs.Prelude.{◌++◌, ℕ, List, subst, arith, IsSoFar}
 use Rattle.sfi_check.proofs.code.take_code.Goals as goal
 
 pub take_block-requires-clause-next : goal.take_block-requires-clause-next

@@ -1,11 +1,4 @@
-use Rattle.std.proofs.Common.{◌≡◌, List, [], ◌∙◌, subst, sym}
-use Rattle.sfi_policy.specs.declared.format.Format.TheVariants.{Sfi2}
-use Rattle.sfi_image.specs.Spelling.{Part, views, format_of}
-use Rattle.sfi_image.specs.InFormat.{all_in_format}
-use Rattle.sfi_image.specs.Parts.{IsRightLayout}
-use Rattle.sfi_image.specs.Images.{IsImage}
-use Rattle.sfi_scan.specs.Findings.{AreImageFindings}
-use Rattle.sfi_check.specs.private.Converting.{IsStackOf}
+use Rattle.sfi_check.proofs.Prelude.{◌≡◌, List, [], ◌∙◌, subst, sym, Sfi2, Part, views, format_of, all_in_format, IsRightLayout, IsImage, AreImageFindings, IsStackOf}
 use Rattle.sfi_check.proofs.Converted.{seen_as, fault_converts}
 use Rattle.sfi_check.proofs.conversion.convert_accepted.Goals as goal
 use Rattle.sfi_image.proofs.Facts.{right_in_second}

@@ -1,6 +1,4 @@
-use Rattle.std.proofs.Common.{sym, ap, ◌∙◌}
-use Rattle.std.proofs.lemmas.Bool.{false≢true}
-use Rattle.sfi_policy.specs.Formats.{has_stack}
+use Rattle.sfi_check.proofs.Prelude.{sym, ap, ◌∙◌, false≢true, has_stack}
 use Rattle.sfi_check.proofs.laws.first_format_asks_no_stack.Goals as goal
 
 pub returns : goal.returns

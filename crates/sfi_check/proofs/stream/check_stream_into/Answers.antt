@@ -1,6 +1,4 @@
-use Rattle.std.proofs.Common.{◌≡◌, ◌∙◌, ◌≤◌, ◌<◌, ◌+◌, ◌-◌, ◌++◌, ℕ, List, [], take, drop, length, refl, sym, ap, subst, arith, inl, inr, Some, None}
-use Rattle.std.proofs.lemmas.List.{length-drop, length-take}
-use Rattle.sfi_check.specs.declared.stream_answer.StreamAnswer.{StreamAnswer}
+use Rattle.sfi_check.proofs.Prelude.{◌≡◌, ◌∙◌, ◌≤◌, ◌<◌, ◌+◌, ◌-◌, ◌++◌, ℕ, List, [], take, drop, length, refl, sym, ap, subst, arith, inl, inr, Some, None, length-drop, length-take, StreamAnswer}
 use Rattle.sfi_check.proofs.Leading.{take_on}
 use Rattle.sfi_check.proofs.Judging.{nothing_yet}
 use Rattle.sfi_check.proofs.Chains.{no_reads}

@@ -1,5 +1,4 @@
-use Rattle.std.proofs.Common.{◌≡◌, ◌+◌, ◌-◌, ◌*◌, false}
-use Rattle.sfi_image.specs.Keeping.{left}
+use Rattle.sfi_check.proofs.Prelude.{◌≡◌, ◌+◌, ◌-◌, ◌*◌, false, left}
 use Rattle.sfi_check.proofs.Pieces.{IsBetween}
 use Rattle.sfi_check.proofs.stream.check_stream_into.Given as goal
 

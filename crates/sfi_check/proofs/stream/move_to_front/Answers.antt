@@ -1,6 +1,4 @@
-use Rattle.std.proofs.Common.{◌≡◌, ◌∙◌, ◌+◌, ◌-◌, ◌++◌, ℕ, take, drop, length, sym, ap, arith}
-use Rattle.std.proofs.Math.Seq.{take-append_seam}
-use Rattle.std.proofs.lemmas.List.{length-take, length-drop, drop-take}
+use Rattle.sfi_check.proofs.Prelude.{◌≡◌, ◌∙◌, ◌+◌, ◌-◌, ◌++◌, ℕ, take, drop, length, sym, ap, arith, take-append_seam, length-take, length-drop, drop-take}
 use Rattle.sfi_check.proofs.stream.move_to_front.Goals as goal
 
 pub returns : goal.returns

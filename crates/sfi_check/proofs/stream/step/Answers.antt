@@ -1,6 +1,4 @@
-use Rattle.std.proofs.Common.{◌≡◌, ◌∙◌, ◌≤◌, ℕ, eqb, false, List, take, length, refl, sym, arith}
-use Rattle.std.proofs.lemmas.Bool.{eq-eqb}
-use Rattle.std.proofs.lemmas.List.{length-take}
+use Rattle.sfi_check.proofs.Prelude.{◌≡◌, ◌∙◌, ◌≤◌, ℕ, eqb, false, List, take, length, refl, sym, arith, eq-eqb, length-take}
 use Rattle.sfi_check.proofs.Leading.{bundle_within, field_len, init_some, field_taken, init_taken, field_step, init_step, step_fault}
 use Rattle.sfi_check.proofs.stream.step.Goals as goal
 use Rattle.sfi_check.proofs.stream.step.Goals.{then-rest-most, else-rest-most}

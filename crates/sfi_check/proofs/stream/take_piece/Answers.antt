@@ -1,7 +1,6 @@
-use Rattle.std.proofs.Common.{◌++◌, ℕ, List, take, subst, arith, inl, inr}
-use Rattle.std.proofs.lemmas.List.{length-drop}
+use Rattle.sfi_check.proofs.Prelude.{◌++◌, ℕ, List, take, subst, arith, inl, inr, length-drop, IsCut}
+use Rattle.sfi_check.specs.private.Tallies.{Steps}
 use Rattle.sfi_check.specs.declared.progress.Step.TheVariants as steps
-use Rattle.sfi_check.specs.private.Tallies.{IsCut, Steps}
 use Rattle.sfi_check.proofs.Leading.{tail_is, so_far_on, fault_on}
 use Rattle.sfi_check.proofs.stream.take_piece.Goals as goal
 

@@ -1,6 +1,4 @@
-use Rattle.std.proofs.Common.{◌≡◌, ◌⊎◌, ◌<◌, ◌≤◌, length, take}
-use Rattle.sfi_image.specs.Keeping.{left}
-use Rattle.sfi_check.specs.private.Tallies.{LeadsOn}
+use Rattle.sfi_check.proofs.Prelude.{◌≡◌, ◌⊎◌, ◌<◌, ◌≤◌, length, take, left, LeadsOn}
 use Rattle.sfi_check.proofs.stream.take_piece.Given as goal
 
 abbrev pub invariant-loop-len : goal.invariant-loop-len

@@ -1,8 +1,4 @@
-use Rattle.std.proofs.Common.{List, Err, sym, subst}
-use Rattle.sfi_image.specs.Spelling.{Part}
-use Rattle.sfi_image.specs.Faults.{IsFault}
-use Rattle.sfi_check.specs.declared.refusal.Refusal.{Refusal}
-use Rattle.sfi_check.specs.Refusals.{IfLayoutFault}
+use Rattle.sfi_check.proofs.Prelude.{List, Err, sym, subst, Part, IsFault, Refusal, IfLayoutFault}
 use Rattle.sfi_check.specs.Verdict.{AnswersLayout}
 use Rattle.sfi_check.proofs.Verdicts.{fault_means, fault_layout}
 use Rattle.sfi_check.proofs.verdict.check.Goals as goal

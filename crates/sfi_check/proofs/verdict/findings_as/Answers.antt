@@ -1,9 +1,4 @@
-use Rattle.std.proofs.Common.{◌+◌, List, ◌++◌, take, refl, ap, ◌∙◌, subst, sym}
-use Rattle.sfi_scan.specs.declared.finding.Finding.{Finding}
-use Rattle.sfi_image.specs.declared.part.SandboxPart.{SandboxPart}
-use Rattle.sfi_image.specs.Spelling.{view, views}
-use Rattle.sfi_image.specs.Parts.{IsRightPart}
-use Rattle.sfi_scan.specs.Findings.{AreFindings, AreImageFindings}
+use Rattle.sfi_check.proofs.Prelude.{◌+◌, List, ◌++◌, take, refl, ap, ◌∙◌, subst, sym, Finding, SandboxPart, view, views, IsRightPart, AreFindings, AreImageFindings}
 use Rattle.sfi_check.proofs.Findings.{right_at, one_more, in_the_end}
 use Rattle.sfi_check.proofs.verdict.findings_as.Goals as goal
 

@@ -1,6 +1,4 @@
-use Rattle.std.proofs.Common.{take}
-use Rattle.sfi_image.specs.Spelling.{views}
-use Rattle.sfi_scan.specs.Findings.{AreImageFindings}
+use Rattle.sfi_check.proofs.Prelude.{take, views, AreImageFindings}
 use Rattle.sfi_check.proofs.verdict.findings_as.Given as goal
 
 -- the findings of the sandboxes so far

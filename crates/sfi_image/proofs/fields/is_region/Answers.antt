@@ -1,5 +1,4 @@
-use Rattle.std.proofs.Common.{inl, inr, sym, ◌∙◌, ◌≡◌, true, arith}
-use Rattle.std.proofs.lemmas.Bool.{eqb-true, eq-eqb}
+use Rattle.sfi_image.proofs.Prelude.{inl, inr, sym, ◌∙◌, ◌≡◌, true, arith, eqb-true, eq-eqb}
 use Rattle.sfi_image.proofs.Regions.{region_test, not_region}
 use Rattle.sfi_image.proofs.fields.is_region.Goals as goal
 use Rattle.sfi_image.proofs.fields.is_region.Goals.{then-not-is_power_of_two-via-then-not-is_power_of_two, then-not-is_power_of_two-via-else-not-is_power_of_two+then-size-least, then-not-is_power_of_two-via-else-not-is_power_of_two+else-size-least+then-size-most}

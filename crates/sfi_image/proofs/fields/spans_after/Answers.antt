@@ -1,5 +1,4 @@
-use Rattle.std.proofs.Common.{◌≡◌, refl, inl, inr, arith, false, true, subst}
-use Rattle.sfi_image.specs.Regions.{IsRegion}
+use Rattle.sfi_image.proofs.Prelude.{◌≡◌, refl, inl, inr, arith, false, true, subst, IsRegion}
 use Rattle.sfi_image.proofs.FieldTests.{at_overlap}
 use Rattle.sfi_image.proofs.fields.spans_after.Goals as goal
 

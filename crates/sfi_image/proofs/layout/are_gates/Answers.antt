@@ -1,10 +1,4 @@
-use Rattle.std.proofs.Common.{refl, sym, subst}
-use Rattle.std.proofs.lemmas.List.{take_more}
-use Rattle.std.proofs.lemmas.List.Elements.{All-push}
-use Rattle.std.specs.List.{All}
-use Rattle.sfi_image.specs.Spelling.{AreGateWords}
-use Rattle.sfi_image.specs.Spans.{code_span}
-use Rattle.sfi_image.specs.Gates.{AreGates}
+use Rattle.sfi_image.proofs.Prelude.{refl, sym, subst, take_more, All-push, All, AreGateWords, code_span, AreGates}
 use Rattle.sfi_image.proofs.Refused.{wrong_gate, other_gate}
 use Rattle.sfi_image.proofs.layout.are_gates.Goals as goal
 

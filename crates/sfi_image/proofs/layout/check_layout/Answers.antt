@@ -1,9 +1,4 @@
-use Rattle.std.proofs.Common.{◌≡◌, ◌<◌, take, List, [], ◌∷◌, ◌++◌, false, ℕ, eqb, sym, ap, subst, arith, append_assoc, ◌∙◌}
-use Rattle.std.proofs.lemmas.List.{take_all, take-map, length-map}
-use Rattle.std.proofs.lemmas.Bool.{eq-eqb}
-use Rattle.sfi_image.specs.declared.span.Span.{Span}
-use Rattle.sfi_image.specs.Spelling.{Part, view, views}
-use Rattle.sfi_image.specs.Parts.{AreRight}
+use Rattle.sfi_image.proofs.Prelude.{◌≡◌, ◌<◌, take, List, [], ◌∷◌, ◌++◌, false, ℕ, eqb, sym, ap, subst, arith, append_assoc, ◌∙◌, take_all, take-map, length-map, eq-eqb, Span, Part, view, views, AreRight}
 use Rattle.sfi_image.proofs.Views.{views_of}
 use Rattle.sfi_image.proofs.Refused.{StartRight, StartRight-push, start_right, wrong_part, map_at, map_more_at}
 use Rattle.sfi_image.proofs.layout.check_layout.Goals as goal

@@ -1,5 +1,4 @@
-use Rattle.std.proofs.Common.{take}
-use Rattle.sfi_image.specs.Spelling.{views}
+use Rattle.sfi_image.proofs.Prelude.{take, views}
 use Rattle.sfi_image.proofs.Refused.{StartRight}
 use Rattle.sfi_image.proofs.layout.check_layout.Given as goal
 

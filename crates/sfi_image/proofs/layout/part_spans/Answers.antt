@@ -1,9 +1,4 @@
-use Rattle.std.proofs.Common.{◌≡◌, ◌∙◌, ◌∷◌, [], ap, subst}
-use Rattle.std.proofs.lemmas.Result.{err_from_is_err_and}
-use Rattle.sfi_image.specs.declared.fields.Fields.{Fields}
-use Rattle.sfi_image.specs.declared.span.Span.{Span}
-use Rattle.sfi_image.specs.Spelling.{AreFieldWords, view}
-use Rattle.sfi_image.specs.Spans.{code_span, guarded_span, spans_of}
+use Rattle.sfi_image.proofs.Prelude.{◌≡◌, ◌∙◌, ◌∷◌, [], ap, subst, err_from_is_err_and, Fields, Span, AreFieldWords, view, code_span, guarded_span, spans_of}
 use Rattle.sfi_image.proofs.Refused.{tests_failed, gates_failed, all_passed, same_spans}
 use Rattle.sfi_image.proofs.layout.part_spans.Goals as goal
 

@@ -1,8 +1,4 @@
-use Rattle.std.proofs.Common.{[], length, sym, ap, subst, arith}
-use Rattle.std.proofs.lemmas.List.{take-append-drop, length-take}
-use Rattle.sfi_image.specs.Fronts.{Front}
-use Rattle.sfi_image.specs.Fronts.Front.{InCode}
-use Rattle.sfi_image.specs.Keeping.{StandsFor}
+use Rattle.sfi_image.proofs.Prelude.{[], length, sym, ap, subst, arith, take-append-drop, length-take, Front, InCode, StandsFor}
 use Rattle.sfi_image.proofs.Ending.{code_short}
 use Rattle.sfi_image.proofs.reading.code_at.Goals as goal
 

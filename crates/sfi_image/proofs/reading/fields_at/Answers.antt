@@ -1,5 +1,4 @@
-use Rattle.std.proofs.Common.{append_assoc}
-use Rattle.sfi_image.specs.Spelling.{fields}
+use Rattle.sfi_image.proofs.Prelude.{append_assoc, fields}
 use Rattle.sfi_image.proofs.reading.fields_at.Goals as goal
 
 pub returns-clause-front : goal.returns-clause-front

@@ -1,7 +1,4 @@
-use Rattle.std.proofs.Common.{◌≡◌, ℕ, List}
-use Rattle.sfi_policy.specs.declared.format.Format.{Format}
-use Rattle.sfi_policy.specs.declared.format.Format.TheVariants.{Sfi1, Sfi2}
-use Rattle.sfi_policy.specs.Formats.{magic}
+use Rattle.sfi_image.proofs.Prelude.{◌≡◌, ℕ, List, Format, Sfi1, Sfi2, magic}
 
 neither : (front : List ℕ) → (front ≡ magic Sfi1 → ⊥) → (front ≡ magic Sfi2 → ⊥) → (format : Format) → front ≡ magic format → ⊥
 neither front one two Sfi1 = one

@@ -1,5 +1,4 @@
-use Rattle.std.proofs.Common.{append_assoc}
-use Rattle.sfi_image.specs.Spelling.{gate}
+use Rattle.sfi_image.proofs.Prelude.{append_assoc, gate}
 use Rattle.sfi_image.proofs.reading.gate_at.Goals as goal
 
 pub returns-clause-front : goal.returns-clause-front

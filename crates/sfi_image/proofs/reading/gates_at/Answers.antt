@@ -1,9 +1,4 @@
-use Rattle.std.proofs.Common.{[], ◌≡◌, ◌∙◌, ◌++◌, ◌<◌, ◌+◌, ℕ, List, length, sym, ap, arith}
-use Rattle.std.specs.List.{flat_map}
-use Rattle.std.proofs.lemmas.List.{length_push}
-use Rattle.std.proofs.lemmas.Result.{err_from_is_err_and}
-use Rattle.sfi_image.specs.Spelling.{gate}
-use Rattle.sfi_image.specs.Fronts.Front.{InGates}
+use Rattle.sfi_image.proofs.Prelude.{[], ◌≡◌, ◌∙◌, ◌++◌, ◌<◌, ◌+◌, ℕ, List, length, sym, ap, arith, flat_map, length_push, err_from_is_err_and, gate, InGates}
 use Rattle.sfi_image.proofs.GateLists.{flat_split}
 use Rattle.sfi_image.proofs.Steps.{no_rest}
 use Rattle.sfi_image.proofs.Parsing.{at_gate, gate_taken, gates_fault}

@@ -1,8 +1,4 @@
-use Rattle.std.proofs.Common.{◌≡◌, ◌++◌, ℕ, List, [], length}
-use Rattle.std.specs.List.{flat_map}
-use Rattle.sfi_image.specs.Spelling.{Part, gate}
-use Rattle.sfi_image.specs.Fronts.{after_gates}
-use Rattle.sfi_image.specs.Keeping.{StandsFor}
+use Rattle.sfi_image.proofs.Prelude.{◌≡◌, ◌++◌, ℕ, List, [], length, flat_map, Part, gate, after_gates, StandsFor}
 use Rattle.sfi_image.proofs.reading.gates_at.Given as goal
 
 abbrev pub invariant-loop : goal.invariant-loop

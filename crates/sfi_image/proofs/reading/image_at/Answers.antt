@@ -1,17 +1,4 @@
-use Rattle.std.proofs.Common.{◌≡◌, ◌∙◌, ◌++◌, ◌∷◌, ◌+◌, ◌<◌, eqb, false, ℕ, List, [], length, refl, sym, ap, subst, arith}
-use Rattle.std.proofs.lemmas.Bool.{eqb-true, eq-eqb}
-use Rattle.std.proofs.lemmas.Result.{err_from_is_err_and}
-use Rattle.std.proofs.lemmas.List.{map_push, length-map, length_push}
-use Rattle.sfi_policy.specs.declared.format.Format.{Format}
-use Rattle.sfi_policy.specs.Formats.{magic}
-use Rattle.sfi_image.specs.declared.fault.LayoutFault.TheVariants.{Trailing}
-use Rattle.sfi_image.specs.Spelling.{view, views, format_of, number}
-use Rattle.sfi_image.specs.Faults.{IsFault}
-use Rattle.sfi_image.specs.Images.{IsImage}
-use Rattle.sfi_image.specs.Outcome.{IfLayout}
-use Rattle.sfi_image.specs.Fronts.{Front, head}
-use Rattle.sfi_image.specs.Fronts.Front.{Empty, AfterMagic}
-use Rattle.sfi_image.specs.Keeping.{StandsFor}
+use Rattle.sfi_image.proofs.Prelude.{◌≡◌, ◌∙◌, ◌++◌, ◌∷◌, ◌+◌, ◌<◌, eqb, false, ℕ, List, [], length, refl, sym, ap, subst, arith, eqb-true, eq-eqb, err_from_is_err_and, map_push, length-map, length_push, Format, magic, Trailing, view, views, format_of, number, IsFault, IsImage, IfLayout, Front, head, Empty, AfterMagic, StandsFor}
 use Rattle.sfi_image.proofs.Views.{same_format, views_have}
 use Rattle.sfi_image.proofs.Steps.{no_rest}
 use Rattle.sfi_image.proofs.Ending.{trails, whole_is_image}

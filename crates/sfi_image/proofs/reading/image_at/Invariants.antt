@@ -1,7 +1,4 @@
-use Rattle.std.proofs.Common.{◌≡◌, ◌++◌, length}
-use Rattle.sfi_image.specs.Spelling.{views}
-use Rattle.sfi_image.specs.Fronts.{head, after_parts}
-use Rattle.sfi_image.specs.Keeping.{StandsFor}
+use Rattle.sfi_image.proofs.Prelude.{◌≡◌, ◌++◌, length, views, head, after_parts, StandsFor}
 use Rattle.sfi_image.proofs.reading.image_at.Given as goal
 
 abbrev pub invariant-loop : goal.invariant-loop

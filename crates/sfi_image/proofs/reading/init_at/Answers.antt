@@ -1,11 +1,4 @@
-use Rattle.std.proofs.Common.{◌≡◌, ◌++◌, ◌∷◌, ℕ, List, [], length, subst, arith}
-use Rattle.std.specs.List.{flat_map}
-use Rattle.std.proofs.lemmas.List.{append-nil}
-use Rattle.sfi_image.specs.Spelling.{fields, gate}
-use Rattle.sfi_image.specs.Faults.{IsFault}
-use Rattle.sfi_image.specs.Fronts.{Front, front, head, part_of, after_parts}
-use Rattle.sfi_image.specs.Fronts.Front.{InInit, InCode}
-use Rattle.sfi_image.specs.Keeping.{StandsFor, Leads}
+use Rattle.sfi_image.proofs.Prelude.{◌≡◌, ◌++◌, ◌∷◌, ℕ, List, [], length, subst, arith, flat_map, append-nil, fields, gate, IsFault, Front, front, head, part_of, after_parts, InInit, InCode, StandsFor, Leads}
 use Rattle.sfi_image.proofs.Parsing.{at_init, at_part, reads_weaker}
 use Rattle.sfi_image.proofs.reading.init_at.Goals as goal
 

@@ -1,7 +1,4 @@
-use Rattle.std.proofs.Common.{◌≡◌, sym, ◌∙◌, eqb}
-use Rattle.std.proofs.lemmas.Slice.Eq.{slice_eq-Decides}
-use Rattle.std.proofs.lemmas.Bool.Decides.{Decides-eqb}
-use Rattle.sfi_policy.specs.Formats.{magic}
+use Rattle.sfi_image.proofs.Prelude.{◌≡◌, sym, ◌∙◌, eqb, slice_eq-Decides, Decides-eqb, magic}
 use Rattle.sfi_image.proofs.reading.is_magic.Goals as goal
 
 pub returns : goal.returns

@@ -1,11 +1,4 @@
-use Rattle.std.proofs.Common.{◌≡◌, ◌∙◌, ◌++◌, ℕ, List, sym, ap, subst, arith}
-use Rattle.std.specs.List.{flat_map}
-use Rattle.std.proofs.lemmas.Result.{err_from_is_err_and}
-use Rattle.sfi_image.specs.Spelling.{fields, gate}
-use Rattle.sfi_image.specs.Faults.{IsFault}
-use Rattle.sfi_image.specs.Outcome.{IfLayout}
-use Rattle.sfi_image.specs.Fronts.{head}
-use Rattle.sfi_image.specs.Fronts.Front.{AfterCount}
+use Rattle.sfi_image.proofs.Prelude.{◌≡◌, ◌∙◌, ◌++◌, ℕ, List, sym, ap, subst, arith, flat_map, err_from_is_err_and, fields, gate, IsFault, IfLayout, head, AfterCount}
 use Rattle.sfi_image.proofs.Following.{part_bytes}
 use Rattle.sfi_image.proofs.Steps.{no_rest}
 use Rattle.sfi_image.proofs.Parsing.{fields_taken, whole_code, after_two, after_three, all_four}

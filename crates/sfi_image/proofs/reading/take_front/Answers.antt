@@ -1,5 +1,4 @@
-use Rattle.std.proofs.Common.{◌∙◌, ◌++◌, ℕ, List, length, drop, sym, ap}
-use Rattle.std.proofs.lemmas.List.{take-append-drop}
+use Rattle.sfi_image.proofs.Prelude.{◌∙◌, ◌++◌, ℕ, List, length, drop, sym, ap, take-append-drop}
 use Rattle.sfi_image.proofs.Ending.{cut_short}
 use Rattle.sfi_image.proofs.Parsing.{less_taken, fault_of_front}
 use Rattle.sfi_image.proofs.reading.take_front.Goals as goal

@@ -1,6 +1,4 @@
-use Rattle.std.proofs.Common.{◌≡◌, ◌++◌, take}
-use Rattle.std.specs.List.{flat_map}
-use Rattle.sfi_image.specs.Spelling.{gate}
+use Rattle.sfi_image.proofs.Prelude.{◌≡◌, ◌++◌, take, flat_map, gate}
 use Rattle.sfi_image.proofs.writing.push_gates.Given as goal
 
 abbrev pub invariant-loop-one : goal.invariant-loop-one

@@ -1,10 +1,4 @@
-use Rattle.std.proofs.Common.{◌≡◌, sym, subst, arith, ap, ◌∙◌, append_assoc, ◌++◌, take, length, List}
-use Rattle.std.specs.List.{flat_map}
-use Rattle.std.proofs.lemmas.List.{take_all, length-map}
-use Rattle.sfi_policy.specs.Formats.{magic}
-use Rattle.sfi_image.specs.declared.part.SandboxPart.{SandboxPart}
-use Rattle.sfi_image.specs.Spelling.{view, views, part, spelling, format_of, number}
-use Rattle.sfi_image.specs.Parts.{IsRightPart}
+use Rattle.sfi_image.proofs.Prelude.{◌≡◌, sym, subst, arith, ap, ◌∙◌, append_assoc, ◌++◌, take, length, List, flat_map, take_all, length-map, magic, SandboxPart, view, views, part, spelling, format_of, number, IsRightPart}
 use Rattle.sfi_image.proofs.Views.{format_is}
 use Rattle.sfi_image.proofs.Refused.{map_at}
 use Rattle.sfi_image.proofs.writing.write_right.Goals as goal

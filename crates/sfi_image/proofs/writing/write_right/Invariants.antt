@@ -1,7 +1,4 @@
-use Rattle.std.proofs.Common.{◌≡◌, ◌++◌, take}
-use Rattle.std.specs.List.{flat_map}
-use Rattle.sfi_policy.specs.declared.format.Format.{Format}
-use Rattle.sfi_image.specs.Spelling.{views, part}
+use Rattle.sfi_image.proofs.Prelude.{◌≡◌, ◌++◌, take, flat_map, Format, views, part}
 use Rattle.sfi_image.proofs.writing.write_right.Given as goal
 
 abbrev pub invariant-loop-one : goal.invariant-loop-one

@@ -1,5 +1,4 @@
-use Rattle.std.proofs.lemmas.Result.{err_from_is_err_and}
-use Rattle.sfi_rewrite.specs.Placed.{Encodes}
+use Rattle.sfi_link.proofs.Prelude.{err_from_is_err_and, Encodes}
 use Rattle.sfi_link.proofs.Pushed.{bundle_all, bundle_room, bundle_written, bundle_refused}
 use Rattle.sfi_link.proofs.code.push_bundles.Goals as goal
 

@@ -1,6 +1,4 @@
-use Rattle.std.proofs.Common.{take}
-use Rattle.sfi_rewrite.specs.Slots.{slots_of}
-use Rattle.sfi_link.specs.private.Near.{AreWritten}
+use Rattle.sfi_link.proofs.Prelude.{take, slots_of, AreWritten}
 use Rattle.sfi_link.proofs.code.push_bundles.Given as goal
 
 abbrev pub invariant-loop-bundle : goal.invariant-loop-bundle

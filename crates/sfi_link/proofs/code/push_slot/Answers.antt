@@ -1,12 +1,4 @@
-use Rattle.std.proofs.Common.{refl, sym, subst}
-use Rattle.std.specs.Int.{w16, to_le_bytes}
-use Rattle.rv_comp.specs.Table.{expansion}
-use Rattle.rv_comp.specs.Halfwords.{halfword_of}
-use Rattle.sfi_link.specs.Code.{IsSlot}
-use Rattle.sfi_rewrite.specs.declared.slot.Slot.{Slot}
-use Rattle.std.proofs.Common.{◌+◌, length}
-use Rattle.sfi_rewrite.specs.declared.slot.Slot.TheVariants.{Short}
-use Rattle.sfi_rewrite.specs.Placed.{Encodes}
+use Rattle.sfi_link.proofs.Prelude.{refl, sym, subst, w16, to_le_bytes, expansion, halfword_of, IsSlot, Slot, ◌+◌, length, Short, Encodes}
 use Rattle.sfi_link.proofs.code.push_slot.Goals as goal
 
 pub returns-in_ok-push_short-in-Short : goal.returns-in_ok-push_short-in-Short

@@ -1,5 +1,4 @@
-use Rattle.std.proofs.Common.{take}
-use Rattle.sfi_link.specs.private.Near.{AreWritten}
+use Rattle.sfi_link.proofs.Prelude.{take, AreWritten}
 use Rattle.sfi_link.proofs.code.push_slots.Given as goal
 
 abbrev pub invariant-loop-slot : goal.invariant-loop-slot

@@ -1,9 +1,4 @@
-use Rattle.std.proofs.Common.{◌≡◌, ◌++◌, ◌∙◌, length, inl, refl, sym, subst, ap, arith}
-use Rattle.std.specs.List.{repeat}
-use Rattle.std.proofs.lemmas.Bool.{OnTrue_at, OnFalse_at}
-use Rattle.std.proofs.lemmas.Result.{err_from_is_err_and}
-use Rattle.sfi_policy.specs.Pairs.{stub}
-use Rattle.sfi_link.specs.Linked.{HasRoom}
+use Rattle.sfi_link.proofs.Prelude.{◌≡◌, ◌++◌, ◌∙◌, length, inl, refl, sym, subst, ap, arith, repeat, OnTrue_at, OnFalse_at, err_from_is_err_and, stub, HasRoom}
 use Rattle.sfi_link.proofs.Parts.{start_fits}
 use Rattle.sfi_link.proofs.Linking.{near_of, code_room, place_refused, may_lie, part_refused, code_beside, written_within, linked_code}
 use Rattle.sfi_link.proofs.code_region.linked_code.Goals as goal

@@ -1,5 +1,4 @@
-use Rattle.std.proofs.Common.{◌++◌, ◌∙◌, ap, sym, append_assoc}
-use Rattle.std.specs.List.{repeat}
+use Rattle.sfi_link.proofs.Prelude.{◌++◌, ◌∙◌, ap, sym, append_assoc, repeat}
 use Rattle.sfi_link.proofs.Pushed.{repeat_more}
 use Rattle.sfi_link.proofs.code_region.push_copies.Goals as goal
 

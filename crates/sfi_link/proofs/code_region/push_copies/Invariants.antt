@@ -1,5 +1,4 @@
-use Rattle.std.proofs.Common.{◌≡◌, ◌++◌}
-use Rattle.std.specs.List.{repeat}
+use Rattle.sfi_link.proofs.Prelude.{◌≡◌, ◌++◌, repeat}
 use Rattle.sfi_link.proofs.code_region.push_copies.Given as goal
 
 abbrev pub invariant-loop : goal.invariant-loop

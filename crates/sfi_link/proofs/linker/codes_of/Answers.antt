@@ -1,10 +1,4 @@
-use Rattle.std.proofs.Common.{◌≡◌, ◌<◌, ◌++◌, [], ◌∷◌, List, ℕ, length, take, ap, sym, subst, ◌∙◌, arith}
-use Rattle.std.proofs.lemmas.Result.{err_from_is_err_and}
-use Rattle.std.proofs.lemmas.List.{map_push, length-take-le}
-use Rattle.std.specs.List.{AllPairs}
-use Rattle.sfi_image.specs.Spans.{AreApart}
-use Rattle.sfi_rewrite.specs.Placement.{Placement}
-use Rattle.sfi_link.specs.private.Near.{contents}
+use Rattle.sfi_link.proofs.Prelude.{◌≡◌, ◌<◌, ◌++◌, [], ◌∷◌, List, ℕ, length, take, ap, sym, subst, ◌∙◌, arith, err_from_is_err_and, map_push, length-take-le, AllPairs, AreApart, Placement, contents}
 use Rattle.sfi_link.proofs.Pushed.{take_one_more}
 use Rattle.sfi_link.proofs.Linking.{AreLaid, laid_more, none_laid, code_refused}
 use Rattle.sfi_link.proofs.linker.codes_of.Goals as goal

@@ -1,5 +1,4 @@
-use Rattle.std.proofs.Common.{take}
-use Rattle.sfi_link.specs.private.Near.{contents}
+use Rattle.sfi_link.proofs.Prelude.{take, contents}
 use Rattle.sfi_link.proofs.Linking.{AreLaid}
 use Rattle.sfi_link.proofs.linker.codes_of.Given as goal
 

@@ -1,7 +1,4 @@
-use Rattle.std.proofs.Common.{◌++◌, [], ◌∷◌, ◌+◌, ◌*◌, take, get_or, ap, sym, arith, ◌∙◌}
-use Rattle.std.proofs.lemmas.List.{length-take-le, take_more}
-use Rattle.rv_source.specs.declared.item.SourceGate.{SourceGate}
-use Rattle.sfi_link.specs.Linked.{gates_from}
+use Rattle.sfi_link.proofs.Prelude.{◌++◌, [], ◌∷◌, ◌+◌, ◌*◌, take, get_or, ap, sym, arith, ◌∙◌, length-take-le, take_more, SourceGate, gates_from}
 use Rattle.sfi_link.proofs.Linking.{gates_push}
 use Rattle.sfi_link.proofs.linker.gates_from.Goals as goal
 

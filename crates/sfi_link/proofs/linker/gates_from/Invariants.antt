@@ -1,5 +1,4 @@
-use Rattle.std.proofs.Common.{◌≡◌, take}
-use Rattle.sfi_link.specs.Linked.{gates_from}
+use Rattle.sfi_link.proofs.Prelude.{◌≡◌, take, gates_from}
 use Rattle.sfi_link.proofs.linker.gates_from.Given as goal
 
 abbrev pub invariant-loop-k : goal.invariant-loop-k

@@ -1,7 +1,5 @@
-use Rattle.std.proofs.Common.{◌≡◌, ◌∙◌, length, ap, arith, sym, List}
-use Rattle.sfi_image.specs.Spelling.{views}
+use Rattle.sfi_link.proofs.Prelude.{◌≡◌, ◌∙◌, length, ap, arith, sym, List, views, Placement}
 use Rattle.sfi_image.specs.declared.fault.ImageFault.TheVariants.{Memory}
-use Rattle.sfi_rewrite.specs.Placement.{Placement}
 use Rattle.sfi_link.proofs.Linking.{are_linked}
 use Rattle.sfi_link.proofs.LinkedClean.{all_are_clean}
 use Rattle.sfi_link.proofs.Parts.{linked_is_right}

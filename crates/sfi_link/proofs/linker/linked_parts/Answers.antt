@@ -1,11 +1,4 @@
-use Rattle.std.proofs.Common.{◌≡◌, ◌<◌, ◌++◌, [], ◌∷◌, List, length, take, get_or, ap, sym, subst, arith, ◌∙◌}
-use Rattle.std.proofs.lemmas.List.{map_push, length-map, length-take-le}
-use Rattle.std.proofs.Math.ListN.{get_or-map}
-use Rattle.sfi_policy.specs.declared.format.Format.{Format}
-use Rattle.sfi_image.specs.Spelling.{Part, view, views}
-use Rattle.sfi_rewrite.specs.Placement.{Placement}
-use Rattle.sfi_link.specs.Linked.{IsLinked, AreLinkedFrom}
-use Rattle.sfi_link.specs.private.Near.{contents}
+use Rattle.sfi_link.proofs.Prelude.{◌≡◌, ◌<◌, ◌++◌, [], ◌∷◌, List, length, take, get_or, ap, sym, subst, arith, ◌∙◌, map_push, length-map, length-take-le, get_or-map, Format, Part, view, views, Placement, IsLinked, AreLinkedFrom, contents}
 use Rattle.sfi_link.proofs.Pushed.{take_one_more}
 use Rattle.sfi_link.proofs.Linking.{linked_push, codes_length, code_at}
 use Rattle.sfi_link.proofs.linker.linked_parts.Goals as goal

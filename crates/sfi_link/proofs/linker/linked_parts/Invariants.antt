@@ -1,6 +1,4 @@
-use Rattle.std.proofs.Common.{take}
-use Rattle.sfi_image.specs.Spelling.{views}
-use Rattle.sfi_link.specs.Linked.{AreLinkedFrom}
+use Rattle.sfi_link.proofs.Prelude.{take, views, AreLinkedFrom}
 use Rattle.sfi_link.proofs.linker.linked_parts.Given as goal
 
 abbrev pub invariant-loop-number : goal.invariant-loop-number

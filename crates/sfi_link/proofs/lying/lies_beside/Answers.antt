@@ -1,7 +1,4 @@
-use Rattle.std.proofs.Common.{◌≡◌, ◌∙◌, ◌++◌, ◌∷◌, [], false, true, refl, sym, ap, subst, append_assoc}
-use Rattle.std.specs.List.{AllPairs}
-use Rattle.sfi_image.specs.Spans.{AreApart, with_guards}
-use Rattle.sfi_link.specs.Lying.{spans_at}
+use Rattle.sfi_link.proofs.Prelude.{◌≡◌, ◌∙◌, ◌++◌, ◌∷◌, [], false, true, refl, sym, ap, subst, append_assoc, AllPairs, AreApart, with_guards, spans_at}
 use Rattle.sfi_link.proofs.Lies.{lies_beside}
 use Rattle.sfi_link.proofs.lying.lies_beside.Goals as goal
 

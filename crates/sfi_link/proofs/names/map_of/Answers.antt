@@ -1,10 +1,4 @@
-use Rattle.std.proofs.Common.{◌∙◌, List, length, sym, ap, subst}
-use Rattle.std.proofs.lemmas.Slice.Zip.{AllZip-long}
-use Rattle.sfi_rewrite.specs.Rewriting.{IsRewritten}
-use Rattle.sfi_rewrite.specs.Placement.{Placement}
-use Rattle.sfi_link.specs.Names.{map_from}
-use Rattle.sfi_image.specs.Spelling.{Part}
-use Rattle.sfi_link.specs.Linked.{AreLinkedFrom}
+use Rattle.sfi_link.proofs.Prelude.{◌∙◌, List, length, sym, ap, subst, AllZip-long, IsRewritten, Placement, map_from, Part, AreLinkedFrom}
 use Rattle.sfi_link.proofs.names.map_of.Goals as goal
 
 pub names_of-requires-clause-each : goal.names_of-requires-clause-each

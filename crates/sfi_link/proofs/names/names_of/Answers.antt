@@ -1,7 +1,4 @@
-use Rattle.std.proofs.Common.{◌≡◌, ◌+◌, ◌++◌, ◌∙◌, map, take, suc, sym, subst, ap, arith}
-use Rattle.sfi_rewrite.specs.Placed.{IsPlacedPart}
-use Rattle.sfi_link.specs.Names.{entries_of, texts_of, map_from}
-use Rattle.sfi_link.specs.Addresses.{bases_of}
+use Rattle.sfi_link.proofs.Prelude.{◌≡◌, ◌+◌, ◌++◌, ◌∙◌, map, take, suc, sym, subst, ap, arith, IsPlacedPart, entries_of, texts_of, map_from, bases_of}
 use Rattle.sfi_link.proofs.Parts.{start_fits}
 use Rattle.sfi_link.proofs.Linking.{near_of}
 use Rattle.sfi_link.proofs.Mapping.{nothing_placed, map_more, linked_at}

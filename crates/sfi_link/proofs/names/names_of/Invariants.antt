@@ -1,5 +1,4 @@
-use Rattle.std.proofs.Common.{◌≡◌, take}
-use Rattle.sfi_link.specs.Names.{map_from}
+use Rattle.sfi_link.proofs.Prelude.{◌≡◌, take, map_from}
 use Rattle.sfi_link.proofs.names.names_of.Given as goal
 
 -- the sandboxes so far are listed

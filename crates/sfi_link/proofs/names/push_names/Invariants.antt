@@ -1,5 +1,4 @@
-use Rattle.std.proofs.Common.{◌≡◌, ◌++◌, map, take}
-use Rattle.sfi_link.specs.Names.{entries_of}
+use Rattle.sfi_link.proofs.Prelude.{◌≡◌, ◌++◌, map, take, entries_of}
 use Rattle.sfi_link.proofs.names.push_names.Given as goal
 
 -- the names so far are listed

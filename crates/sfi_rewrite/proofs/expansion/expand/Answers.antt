@@ -1,5 +1,4 @@
-use Rattle.std.proofs.Common.{sym, subst}
-use Rattle.sfi_rewrite.specs.Expansion.{IsExpansionOf}
+use Rattle.sfi_rewrite.proofs.Prelude.{sym, subst, IsExpansionOf}
 use Rattle.sfi_rewrite.proofs.expansion.expand.Goals as goal
 
 pub returns-in-Plain : goal.returns-in-Plain

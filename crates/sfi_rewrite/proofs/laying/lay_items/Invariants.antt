@@ -1,6 +1,4 @@
-use Rattle.std.proofs.Common.{◌≡◌, ℕ, ◌<◌, length, take, get_or}
-use Rattle.sfi_rewrite.specs.Places.{IsLabelAt}
-use Rattle.sfi_rewrite.specs.Faults.{AreFaultless}
+use Rattle.sfi_rewrite.proofs.Prelude.{◌≡◌, ℕ, ◌<◌, length, take, get_or, IsLabelAt, AreFaultless}
 use Rattle.sfi_rewrite.proofs.laying.lay_items.Given as goal
 
 abbrev pub invariant-loop-item : goal.invariant-loop-item

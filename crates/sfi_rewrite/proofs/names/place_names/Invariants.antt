@@ -1,7 +1,4 @@
-use Rattle.std.specs.List.{AllZip}
-use Rattle.std.proofs.Common.{take}
-use Rattle.rv_source.specs.Source.{named}
-use Rattle.sfi_rewrite.specs.Placement.{IsPlacedName}
+use Rattle.sfi_rewrite.proofs.Prelude.{AllZip, take, named, IsPlacedName}
 use Rattle.sfi_rewrite.proofs.names.place_names.Given as goal
 
 abbrev pub invariant-loop-place : goal.invariant-loop-place

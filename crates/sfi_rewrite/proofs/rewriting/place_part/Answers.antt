@@ -1,9 +1,4 @@
-use Rattle.std.proofs.Common.{◌∙◌, sym, ap, subst}
-use Rattle.std.specs.List.{AllZip}
-use Rattle.rv_source.specs.Source.{named}
-use Rattle.sfi_rewrite.specs.Slots.{slots_of}
-use Rattle.sfi_rewrite.specs.Placement.{IsPlacedName, AreBundles}
-use Rattle.sfi_rewrite.specs.Faults.{AreFaultless}
+use Rattle.sfi_rewrite.proofs.Prelude.{◌∙◌, sym, ap, subst, AllZip, named, slots_of, IsPlacedName, AreBundles, AreFaultless}
 use Rattle.sfi_rewrite.proofs.Placements.{have_bodies, placed_part, rewritten, end_of, copied}
 use Rattle.sfi_rewrite.proofs.rewriting.place_part.Goals as goal
 

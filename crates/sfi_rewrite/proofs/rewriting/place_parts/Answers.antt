@@ -1,7 +1,4 @@
-use Rattle.std.proofs.Common.{refl}
-use Rattle.std.proofs.lemmas.List.Elements.{All-push}
-use Rattle.std.proofs.lemmas.Result.{err_from_is_err_and}
-use Rattle.sfi_rewrite.specs.Placed.{IsPlacedPart}
+use Rattle.sfi_rewrite.proofs.Prelude.{refl, All-push, err_from_is_err_and, IsPlacedPart}
 use Rattle.sfi_rewrite.proofs.Sources.{source_fault, parts_push}
 use Rattle.sfi_rewrite.proofs.rewriting.place_parts.Goals as goal
 

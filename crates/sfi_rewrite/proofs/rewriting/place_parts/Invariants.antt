@@ -1,7 +1,4 @@
-use Rattle.std.specs.List.{All, AllZip}
-use Rattle.std.proofs.Common.{take}
-use Rattle.sfi_rewrite.specs.Placed.{IsPlacedPart}
-use Rattle.sfi_rewrite.specs.Rewriting.{IsRewritten}
+use Rattle.sfi_rewrite.proofs.Prelude.{All, AllZip, take, IsPlacedPart, IsRewritten}
 use Rattle.sfi_rewrite.proofs.rewriting.place_parts.Given as goal
 
 abbrev pub invariant-loop-number : goal.invariant-loop-number

@@ -1,8 +1,4 @@
-use Rattle.std.proofs.Common.{subst, sym}
-use Rattle.std.specs.List.{AllZip}
-use Rattle.std.proofs.lemmas.Result.{err_from_is_err_and}
-use Rattle.sfi_rewrite.specs.Faults.{UnlessMemory, IsSourceFault}
-use Rattle.sfi_rewrite.specs.Rewriting.{IsRewritten}
+use Rattle.sfi_rewrite.proofs.Prelude.{subst, sym, AllZip, err_from_is_err_and, UnlessMemory, IsSourceFault, IsRewritten}
 use Rattle.sfi_rewrite.proofs.OneFault.{rewritten_has_none}
 use Rattle.sfi_rewrite.proofs.Standing.{all_stand}
 use Rattle.sfi_rewrite.proofs.Sources.{is_placed, fault_answered}

@@ -1,5 +1,4 @@
-use Rattle.std.proofs.Common.{◌∙◌, ap}
-use Rattle.sfi_rewrite.specs.Slots.{slot_size}
+use Rattle.sfi_rewrite.proofs.Prelude.{◌∙◌, ap, slot_size}
 use Rattle.sfi_rewrite.proofs.Sizes.{size_step, size_fits}
 use Rattle.sfi_rewrite.proofs.slot.size_of.Goals as goal
 

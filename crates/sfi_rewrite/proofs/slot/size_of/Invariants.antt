@@ -1,5 +1,4 @@
-use Rattle.std.proofs.Common.{◌≡◌, take}
-use Rattle.sfi_rewrite.specs.Slots.{size_of}
+use Rattle.sfi_rewrite.proofs.Prelude.{◌≡◌, take, size_of}
 use Rattle.sfi_rewrite.proofs.slot.size_of.Given as goal
 
 abbrev pub invariant-loop-slot : goal.invariant-loop-slot

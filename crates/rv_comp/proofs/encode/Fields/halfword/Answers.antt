@@ -1,5 +1,4 @@
-use Rattle.std.proofs.Common.{arith, refl}
-use Rattle.rv_comp.specs.mirror.Encoding.{row_number}
+use Rattle.rv_comp.proofs.Prelude.{arith, refl, row_number}
 use Rattle.rv_comp.proofs.encode.Fields.halfword.Goals as goal
 
 pub loop-place-init : goal.loop-place-init

@@ -1,5 +1,4 @@
-use Rattle.std.proofs.Common.{◌≡◌, ◌<◌, ◌^◌, map}
-use Rattle.rv_comp.specs.mirror.Encoding.{row_bit, row_fields, row_number}
+use Rattle.rv_comp.proofs.Prelude.{◌≡◌, ◌<◌, ◌^◌, map, row_bit, row_fields, row_number}
 use Rattle.rv_comp.proofs.Rows.{rest_of}
 use Rattle.rv_comp.proofs.encode.Fields.halfword.Given as goal
 

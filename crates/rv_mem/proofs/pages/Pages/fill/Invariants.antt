@@ -1,6 +1,4 @@
-use Rattle.std.proofs.Common.{◌≡◌, ◌-◌, ◌≤◌, ℕ}
-use Rattle.rv_mem.specs.Bytes.{byte_at}
-use Rattle.rv_mem.specs.Pages.{bytes_of}
+use Rattle.rv_mem.proofs.Prelude.{◌≡◌, ◌-◌, ◌≤◌, ℕ, byte_at, bytes_of}
 use Rattle.rv_mem.proofs.PageRuns.{run_at}
 use Rattle.rv_mem.proofs.pages.Pages.fill.Given as goal
 

@@ -1,6 +1,4 @@
-use Rattle.std.proofs.Common.{◌≡◌, ◌≢◌, ◌/◌, ◌≤◌, ◌<◌, ℕ}
-use Rattle.std.specs.Prelude.{slice_index}
-use Rattle.rv_mem.specs.Pages.{bytes_of}
+use Rattle.rv_mem.proofs.Prelude.{◌≡◌, ◌≢◌, ◌/◌, ◌≤◌, ◌<◌, ℕ, slice_index, bytes_of}
 use Rattle.rv_mem.proofs.pages.Pages.make_pages.Given as goal
 
 abbrev pub invariant-loop-page : goal.invariant-loop-page

@@ -1,6 +1,4 @@
-use Rattle.std.proofs.Common.{◌+◌, ◌%◌, ◌^◌, ◌≤◌, ℕ, IsSome, subst, sym, refl, arith}
-use Rattle.rv_mem.specs.Bytes.{byte_at}
-use Rattle.rv_mem.specs.Pages.{bytes_of}
+use Rattle.rv_mem.proofs.Prelude.{◌+◌, ◌%◌, ◌^◌, ◌≤◌, ℕ, IsSome, subst, sym, refl, arith, byte_at, bytes_of}
 use Rattle.rv_mem.proofs.PageRuns.{after_run, none_further}
 use Rattle.rv_mem.proofs.pages.Pages.overlaps.Goals as goal
 

@@ -1,6 +1,4 @@
-use Rattle.std.proofs.Common.{◌≡◌, ◌-◌, ◌≤◌, ℕ, ◌<◌, None}
-use Rattle.rv_mem.specs.Bytes.{byte_at, address_after}
-use Rattle.rv_mem.specs.Pages.{bytes_of}
+use Rattle.rv_mem.proofs.Prelude.{◌≡◌, ◌-◌, ◌≤◌, ℕ, ◌<◌, None, byte_at, address_after, bytes_of}
 use Rattle.rv_mem.proofs.pages.Pages.overlaps.Given as goal
 
 abbrev pub invariant-loop-done : goal.invariant-loop-done

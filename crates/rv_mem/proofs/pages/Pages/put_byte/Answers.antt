@@ -1,6 +1,4 @@
-use Rattle.std.proofs.Common.{◌+◌, ◌%◌, set, arith, ◌≡◌, Option, ℕ, subst, IsSome}
-use Rattle.std.specs.Prelude.{IfSome}
-use Rattle.rv_mem.specs.Frames.{ArePages, cell_at, frame_of}
+use Rattle.rv_mem.proofs.Prelude.{◌+◌, ◌%◌, set, arith, ◌≡◌, Option, ℕ, subst, IsSome, IfSome, ArePages, cell_at, frame_of}
 use Rattle.rv_mem.proofs.Paging.{get_pages, some_if, memory_is, has_frame}
 use Rattle.rv_mem.proofs.PageWrites.{Sets, insert_set, are_set, sets_byte, mark_of}
 use Rattle.rv_mem.proofs.pages.Pages.put_byte.Goals as goal

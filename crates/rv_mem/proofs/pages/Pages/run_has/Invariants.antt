@@ -1,6 +1,4 @@
-use Rattle.std.proofs.Common.{◌≡◌, ◌+◌, ℕ, ◌<◌, None}
-use Rattle.rv_mem.specs.Bytes.{byte_at}
-use Rattle.rv_mem.specs.Pages.{bytes_of}
+use Rattle.rv_mem.proofs.Prelude.{◌≡◌, ◌+◌, ℕ, ◌<◌, None, byte_at, bytes_of}
 use Rattle.rv_mem.proofs.pages.Pages.run_has.Given as goal
 
 abbrev pub invariant-loop-j : goal.invariant-loop-j

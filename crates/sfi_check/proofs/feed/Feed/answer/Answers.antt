@@ -1,6 +1,4 @@
-use Rattle.std.proofs.Common.{◌∙◌, true, sym, subst}
-use Rattle.sfi_check.specs.declared.stream_answer.StreamAnswer.{StreamAnswer}
-use Rattle.sfi_check.specs.Streams.{IsVerdictOn}
+use Rattle.sfi_check.proofs.Prelude.{◌∙◌, true, sym, subst, StreamAnswer, IsVerdictOn}
 use Rattle.sfi_check.proofs.Feeding.{answered_fault, answered_whole, answered_short, fed_fault, fed_held}
 use Rattle.sfi_check.proofs.feed.Feed.answer.Goals as goal
 

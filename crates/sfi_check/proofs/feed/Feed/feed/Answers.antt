@@ -1,6 +1,4 @@
-use Rattle.std.proofs.Common.{◌≡◌, ◌∙◌, ◌++◌, ◌+◌, ◌-◌, ℕ, List, take, drop, length, sym, ap, subst, arith, append_assoc}
-use Rattle.std.proofs.lemmas.List.{length-drop}
-use Rattle.sfi_check.specs.Feeds.{IsFed}
+use Rattle.sfi_check.proofs.Prelude.{◌≡◌, ◌∙◌, ◌++◌, ◌+◌, ◌-◌, ℕ, List, take, drop, length, sym, ap, subst, arith, append_assoc, length-drop, IsFed}
 use Rattle.sfi_check.proofs.Leading.{tail_is, take_on}
 use Rattle.sfi_check.proofs.feed.Feed.feed.Goals as goal
 

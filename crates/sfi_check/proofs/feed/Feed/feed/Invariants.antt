@@ -1,5 +1,4 @@
-use Rattle.std.proofs.Common.{length, ◌-◌, ℕ, ◌≤◌, List, ◌++◌, take}
-use Rattle.sfi_check.specs.Feeds.{IsFed}
+use Rattle.sfi_check.proofs.Prelude.{length, ◌-◌, ℕ, ◌≤◌, List, ◌++◌, take, IsFed}
 use Rattle.sfi_check.proofs.feed.Feed.feed.Given as goal
 
 -- so many bytes of the piece are fed

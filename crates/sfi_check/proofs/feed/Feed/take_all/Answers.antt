@@ -1,5 +1,4 @@
-use Rattle.std.proofs.Common.{◌≡◌, ◌∙◌, ◌<◌, ◌-◌, ◌++◌, ℕ, List, take, drop, length, refl, sym, ap, arith, inl, inr, append_assoc}
-use Rattle.std.proofs.lemmas.List.{append-nil, length-drop, take-append-drop, take_all}
+use Rattle.sfi_check.proofs.Prelude.{◌≡◌, ◌∙◌, ◌<◌, ◌-◌, ◌++◌, ℕ, List, take, drop, length, refl, sym, ap, arith, inl, inr, append_assoc, append-nil, length-drop, take-append-drop, take_all}
 use Rattle.sfi_check.proofs.Feeding.{held_fed, at_reader}
 use Rattle.sfi_check.proofs.Leading.{tail_is, fault_on}
 use Rattle.sfi_check.proofs.Judging.{trailing}

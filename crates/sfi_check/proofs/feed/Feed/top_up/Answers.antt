@@ -1,6 +1,4 @@
-use Rattle.std.proofs.Common.{◌≡◌, ◌∙◌, inl, inr, ◌++◌, ◌≤◌, arith, List, ℕ, take, length, rules, sym, ap, subst, append_assoc}
-use Rattle.std.proofs.lemmas.List.{append-nil, take_all}
-use Rattle.sfi_check.specs.Feeds.{IsFed}
+use Rattle.sfi_check.proofs.Prelude.{◌≡◌, ◌∙◌, inl, inr, ◌++◌, ◌≤◌, arith, List, ℕ, take, length, rules, sym, ap, subst, append_assoc, append-nil, take_all, IsFed}
 use Rattle.sfi_check.proofs.Feeding.{joined_is, fed_after_fault, fed_held, no_fault}
 use Rattle.sfi_check.proofs.feed.Feed.top_up.Goals as goal
 

@@ -1,5 +1,4 @@
-use Rattle.std.proofs.Common.{sym, ◌∙◌, ap}
-use Rattle.sfi_image.specs.Spelling.{format_of}
+use Rattle.sfi_image.proofs.Prelude.{sym, ◌∙◌, ap, format_of}
 use Rattle.sfi_image.proofs.Views.{format_is}
 use Rattle.sfi_image.proofs.image.Image.format.Goals as goal
 

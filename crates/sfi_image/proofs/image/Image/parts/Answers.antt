@@ -1,6 +1,4 @@
-use Rattle.std.proofs.Common.{sym, ◌∙◌, ap}
-use Rattle.sfi_policy.specs.declared.format.Format.{Format}
-use Rattle.sfi_image.specs.Spelling.{views, format_of}
+use Rattle.sfi_image.proofs.Prelude.{sym, ◌∙◌, ap, Format, views, format_of}
 use Rattle.sfi_image.proofs.Views.{format_is}
 use Rattle.sfi_image.proofs.image.Image.parts.Goals as goal
 

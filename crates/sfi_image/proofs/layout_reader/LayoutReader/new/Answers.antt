@@ -1,5 +1,4 @@
-use Rattle.std.proofs.Common.{refl, inr}
-use Rattle.sfi_image.specs.Fronts.Front.{Empty}
+use Rattle.sfi_image.proofs.Prelude.{refl, inr, Empty}
 use Rattle.sfi_image.proofs.layout_reader.LayoutReader.new.Goals as goal
 
 pub invariant_of-result : goal.invariant_of-result

@@ -1,8 +1,5 @@
-use Rattle.std.proofs.Common.{◌≡◌, ◌∙◌, ◌+◌, cond, ap, drop, refl, sym, subst, arith, inl, inr, List, ℕ}
+use Rattle.sfi_image.proofs.Prelude.{◌≡◌, ◌∙◌, ◌+◌, cond, ap, drop, refl, sym, subst, arith, inl, inr, List, ℕ, ReaderState, StandsFor, is_first, kept}
 use Rattle.sfi_image.specs.declared.want.Next.TheVariants as next
-use Rattle.sfi_image.specs.Keeping.{ReaderState, StandsFor}
-use Rattle.sfi_image.specs.private.Keeping.{is_first}
-use Rattle.sfi_image.specs.Reader.{kept}
 use Rattle.sfi_image.proofs.Standing.{still_reader}
 use Rattle.sfi_image.proofs.Places.{code_next}
 use Rattle.sfi_image.proofs.Steps.{code_leads}

@@ -1,8 +1,5 @@
-use Rattle.std.proofs.Common.{◌≡◌, refl, sym, subst, inl, inr, arith}
+use Rattle.sfi_image.proofs.Prelude.{◌≡◌, refl, sym, subst, inl, inr, arith, number, ReaderState, StandsFor, kept}
 use Rattle.sfi_image.specs.declared.want.Next.TheVariants as next
-use Rattle.sfi_image.specs.Spelling.{number}
-use Rattle.sfi_image.specs.Keeping.{ReaderState, StandsFor}
-use Rattle.sfi_image.specs.Reader.{kept}
 use Rattle.sfi_image.proofs.Standing.{count_leads, still_reader}
 use Rattle.sfi_image.proofs.Steps.{count_fault, no_rest}
 use Rattle.sfi_image.proofs.layout_reader.LayoutReader.take_count.Goals as goal

@@ -1,15 +1,6 @@
-use Rattle.std.proofs.Common.{◌≡◌, ◌∙◌, ◌++◌, ◌∷◌, [], ap, length, refl, sym, subst, arith, inl, inr, List, append_assoc, None, Some}
-use Rattle.std.specs.List.{All, AllPairs}
+use Rattle.sfi_image.proofs.Prelude.{◌≡◌, ◌∙◌, ◌++◌, ◌∷◌, [], ap, length, refl, sym, subst, arith, inl, inr, List, append_assoc, None, Some, All, AllPairs, Span, fields, AreApart, code_span, IsBounded, IsFirstFault, field_tests, ReaderState, StandsFor, kept, length_push}
 use Rattle.sfi_image.specs.declared.want.Next.TheVariants as next
-use Rattle.sfi_image.specs.declared.span.Span.{Span}
-use Rattle.sfi_image.specs.Spelling.{fields}
-use Rattle.sfi_image.specs.Spans.{AreApart, code_span}
-use Rattle.sfi_image.specs.Bounded.{IsBounded}
-use Rattle.sfi_image.specs.Tests.{IsFirstFault, field_tests}
-use Rattle.sfi_image.specs.Keeping.{ReaderState, StandsFor}
-use Rattle.sfi_image.specs.Reader.{kept}
 use Rattle.sfi_image.proofs.Standing.{still_reader}
-use Rattle.std.proofs.lemmas.List.{length_push}
 use Rattle.sfi_image.proofs.Places.{fields_next}
 use Rattle.sfi_image.proofs.Steps.{fields_leads, fields_fault, no_rest}
 use Rattle.sfi_image.proofs.layout_reader.LayoutReader.take_fields.Goals as goal

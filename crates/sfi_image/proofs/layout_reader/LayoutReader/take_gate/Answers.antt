@@ -1,12 +1,5 @@
-use Rattle.std.proofs.Common.{◌≡◌, ◌∙◌, ◌++◌, ◌∷◌, [], ap, map, refl, sym, subst, arith, inl, inr, List, ℕ}
+use Rattle.sfi_image.proofs.Prelude.{◌≡◌, ◌∙◌, ◌++◌, ◌∷◌, [], ap, map, refl, sym, subst, arith, inl, inr, List, ℕ, Gate, gate, code_span, AreGates, ReaderState, StandsFor, next_gate, kept}
 use Rattle.sfi_image.specs.declared.want.Next.TheVariants as next
-use Rattle.sfi_image.specs.declared.part.Gate.{Gate}
-use Rattle.sfi_image.specs.Spelling.{gate}
-use Rattle.sfi_image.specs.Spans.{code_span}
-use Rattle.sfi_image.specs.Gates.{AreGates}
-use Rattle.sfi_image.specs.Keeping.{ReaderState, StandsFor}
-use Rattle.sfi_image.specs.private.Keeping.{next_gate}
-use Rattle.sfi_image.specs.Reader.{kept}
 use Rattle.sfi_image.proofs.Standing.{still_reader}
 use Rattle.sfi_image.proofs.Places.{gate_next}
 use Rattle.sfi_image.proofs.Steps.{gate_leads, gate_fault, no_rest}

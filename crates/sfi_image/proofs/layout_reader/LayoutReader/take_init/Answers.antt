@@ -1,7 +1,5 @@
-use Rattle.std.proofs.Common.{◌≡◌, ◌+◌, ◌≤◌, length, refl, sym, subst, arith, inl, inr}
+use Rattle.sfi_image.proofs.Prelude.{◌≡◌, ◌+◌, ◌≤◌, length, refl, sym, subst, arith, inl, inr, ReaderState, StandsFor, kept}
 use Rattle.sfi_image.specs.declared.want.Next.TheVariants as next
-use Rattle.sfi_image.specs.Keeping.{ReaderState, StandsFor}
-use Rattle.sfi_image.specs.Reader.{kept}
 use Rattle.sfi_image.proofs.Standing.{still_reader}
 use Rattle.sfi_image.proofs.Places.{init_next}
 use Rattle.sfi_image.proofs.Steps.{init_leads}

@@ -1,7 +1,5 @@
-use Rattle.std.proofs.Common.{◌≡◌, refl, sym, subst, inl, inr}
+use Rattle.sfi_image.proofs.Prelude.{◌≡◌, refl, sym, subst, inl, inr, ReaderState, StandsFor, kept}
 use Rattle.sfi_image.specs.declared.want.Next.TheVariants as next
-use Rattle.sfi_image.specs.Keeping.{ReaderState, StandsFor}
-use Rattle.sfi_image.specs.Reader.{kept}
 use Rattle.sfi_image.proofs.Standing.{magic_leads, still_reader}
 use Rattle.sfi_image.proofs.Steps.{magic_fault}
 use Rattle.sfi_image.proofs.layout_reader.LayoutReader.take_magic.Goals as goal

@@ -1,6 +1,4 @@
-use Rattle.std.proofs.Common.{sym, subst, refl}
-use Rattle.sfi_image.specs.Keeping.{ReaderState, StandsFor}
-use Rattle.sfi_image.specs.Reader.{kept}
+use Rattle.sfi_image.proofs.Prelude.{sym, subst, refl, ReaderState, StandsFor, kept}
 use Rattle.sfi_image.proofs.Standing.{still_reader}
 use Rattle.sfi_image.proofs.Plain.{plain_kept, plain_leads}
 use Rattle.sfi_image.proofs.layout_reader.LayoutReader.take_plain.Goals as goal

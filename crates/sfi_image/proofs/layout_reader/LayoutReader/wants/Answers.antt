@@ -1,8 +1,5 @@
-use Rattle.std.proofs.Common.{◌≡◌, ◌∙◌, ◌-◌, ◌+◌, ap, drop, sym, subst, arith, Bool, List, ℕ}
+use Rattle.sfi_image.proofs.Prelude.{◌≡◌, ◌∙◌, ◌-◌, ◌+◌, ap, drop, sym, subst, arith, Bool, List, ℕ, ReaderState, StandsFor, is_first, kept}
 use Rattle.sfi_image.specs.declared.want.Want.TheVariants as wants
-use Rattle.sfi_image.specs.Keeping.{ReaderState, StandsFor}
-use Rattle.sfi_image.specs.private.Keeping.{is_first}
-use Rattle.sfi_image.specs.Reader.{kept}
 use Rattle.sfi_image.proofs.Places.{wants_bundle, code_next}
 use Rattle.sfi_image.proofs.layout_reader.LayoutReader.wants.Goals as goal
 

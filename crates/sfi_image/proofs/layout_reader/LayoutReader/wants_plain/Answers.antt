@@ -1,7 +1,4 @@
-use Rattle.std.proofs.Common.{◌≡◌, ◌+◌, ◌*◌, ◌<◌, List, ℕ, IsTrue, ◌↔◌, refl, drop, sym, subst, arith}
-use Rattle.sfi_image.specs.Keeping.{ReaderState, StandsFor}
-use Rattle.sfi_image.specs.private.Keeping.{AreFrom}
-use Rattle.sfi_image.specs.Reader.{kept}
+use Rattle.sfi_image.proofs.Prelude.{◌≡◌, ◌+◌, ◌*◌, ◌<◌, List, ℕ, IsTrue, ◌↔◌, refl, drop, sym, subst, arith, ReaderState, StandsFor, AreFrom, kept}
 use Rattle.sfi_image.proofs.Plain.{plain_kept, kept_plain}
 use Rattle.sfi_image.proofs.layout_reader.LayoutReader.wants_plain.Goals as goal
 

@@ -1,5 +1,4 @@
-use Rattle.std.proofs.Common.{◌∙◌, ap}
-use Rattle.sfi_rewrite.specs.Slots.{size_of}
+use Rattle.sfi_rewrite.proofs.Prelude.{◌∙◌, ap, size_of}
 use Rattle.sfi_rewrite.proofs.filling.Filling.end.Goals as goal
 
 pub returns : goal.returns

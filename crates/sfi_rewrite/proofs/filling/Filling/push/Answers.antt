@@ -1,7 +1,4 @@
-use Rattle.std.proofs.Common.{List, set, sym, ap, ◌-◌, ◌+◌, ◌∙◌, subst}
-use Rattle.sfi_rewrite.specs.declared.slot.Slot.{Slot}
-use Rattle.sfi_rewrite.specs.Slots.{slots_of}
-use Rattle.sfi_rewrite.specs.private.Filling.{IsFilled}
+use Rattle.sfi_rewrite.proofs.Prelude.{List, set, sym, ap, ◌-◌, ◌+◌, ◌∙◌, subst, Slot, slots_of, IsFilled}
 use Rattle.sfi_rewrite.proofs.Bundles.{filled_begun, filled_grown}
 use Rattle.sfi_rewrite.proofs.filling.Filling.push.Goals as goal
 

@@ -1,5 +1,4 @@
-use Rattle.std.proofs.Common.{◌≡◌, ◌++◌, replicate}
-use Rattle.sfi_rewrite.specs.Slots.{c_nop}
+use Rattle.sfi_rewrite.proofs.Prelude.{◌≡◌, ◌++◌, replicate, c_nop}
 use Rattle.sfi_rewrite.proofs.filling.Filling.push_nops.Given as goal
 
 abbrev pub invariant-loop : goal.invariant-loop
