@@ -1,5 +1,13 @@
 -- The first form of an instruction is a form of it, and no earlier row has one.
-use Rattle.rv_comp.proofs.Prelude.{◌≡◌, ℕ, zero, ◌*◌, ◌/◌, ◌^◌, ◌<◌, ℤ, pos, Bool, true, false, not, cond, ◌&&◌, ◌==◌, refl, ap, ap₂, subst, sym, ◌∙◌, Option, Some, None, arith, eqb-true, ◌⊎◌, inl, inr, and_parts, ltb-true, leb-true, of_z-to_z, IfSome, IfNone, IsTrue, nat_lt, w32, cast_unsigned, cast_signed, Instr, Op, OpImm, Load, Store, Branch, Jal, Jalr, Lui, Ebreak, Add, Sub, Xor, Or, And, Addi, Andi, Slli, Srli, Srai, Lw, Sw, Beq, Bne, IsFirst, allowed, expansion, place, is_reg, is_signed, is_not_zero, taken, first_form, first_addi, upper_value, Form16, CAddi4spn, CLw, CSw, CAddi, CJal, CLi, CAddi16sp, CLui, CSrli, CSrai, CAndi, CSub, CXor, COr, CAnd, CJ, CBeqz, CBnez, CSlli, CLwsp, CJr, CJalr, CMv, CAdd, CSwsp}
+use Rattle.rv_comp.proofs.Prelude.{◌≡◌, ℕ, zero, ◌*◌, ◌/◌, ◌^◌, ◌<◌, ℤ, pos, Bool, true, false, not, cond, ◌&&◌, ◌==◌, refl, ap, ap₂, subst, sym, ◌∙◌, Option, Some, None, arith, eqb-true, ◌⊎◌, inl, inr, and_parts, ltb-true, leb-true, IfSome, IfNone, IsTrue, nat_lt, w32, cast_unsigned, cast_signed, Instr, IsFirst, allowed, expansion, place, is_reg, is_signed, is_not_zero, Form16, CAddi4spn, CLw, CSw, CAddi, CJal, CLi, CAddi16sp, CLui, CSrli, CSrai, CAndi, CSub, CXor, COr, CAnd, CJ, CBeqz, CBnez, CSlli, CLwsp, CJr, CJalr, CMv, CAdd, CSwsp}
+use Rattle.rv_comp.specs.mirror.First.{taken, first_form, first_addi, upper_value}
+use Rattle.rv_word.specs.declared.instr.Cond.TheVariants.{Beq, Bne}
+use Rattle.rv_word.specs.declared.instr.ImmOp.TheVariants.{Addi, Andi, Slli, Srli, Srai}
+use Rattle.rv_word.specs.declared.instr.Instr.TheVariants.{Op, OpImm, Load, Store, Branch, Jal, Jalr, Lui, Ebreak}
+use Rattle.rv_word.specs.declared.instr.LoadKind.TheVariants.{Lw}
+use Rattle.rv_word.specs.declared.instr.RegOp.TheVariants.{Add, Sub, Xor, Or, And}
+use Rattle.rv_word.specs.declared.instr.StoreWidth.TheVariants.{Sw}
+use Rattle.std.proofs.lemmas.Int.{of_z-to_z}
 use Rattle.rv_comp.proofs.Ranges.{signed_at, at_signed}
 use Rattle.rv_comp.proofs.Same.{form, same_int, same_int-true}
 use Rattle.rv_comp.proofs.Whole.{all_below, all_below_at}

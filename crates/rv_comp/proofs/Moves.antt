@@ -1,5 +1,6 @@
 -- A shift and a mask take bits out of a number.
-use Rattle.rv_comp.proofs.Prelude.{◌≡◌, ℕ, ◌-◌, ◌*◌, ◌%◌, ◌^◌, ◌≤◌, ap, ◌∙◌, arith, and_mask, pow_mono, bit_and}
+use Rattle.rv_comp.proofs.Prelude.{◌≡◌, ℕ, ◌-◌, ◌*◌, ◌%◌, ◌^◌, ◌≤◌, ap, ◌∙◌, arith, and_mask, bit_and}
+use Rattle.std.proofs.Math.Pow.{pow_mono}
 
 pub masked : (n k : ℕ) → k ≤ 15 → bit_and n (1 * 2 ^ k % 65536 - 1) ≡ n % 2 ^ k
 masked n k h =

@@ -1,5 +1,9 @@
 -- What the outline tells of a halfword.
-use Rattle.rv_comp.proofs.Prelude.{◌≡◌, ℕ, ◌<◌, ◌^◌, refl, ap, sym, subst, ◌∙◌, Option, Some, None, IfSome, option_map, Instr, Outline, outline, expansion, IsHalfwordOf, IsShortSpelling, IsHalfwordThat, Form16, decoded, outlined}
+use Rattle.rv_comp.proofs.Prelude.{◌≡◌, ℕ, ◌<◌, ◌^◌, refl, ap, sym, subst, ◌∙◌, Option, Some, None, IfSome, Instr, expansion, IsHalfwordOf, IsShortSpelling, IsHalfwordThat, Form16, decoded}
+use Rattle.rv_comp.specs.mirror.Outlining.{outlined}
+use Rattle.rv_word.specs.Outlines.{outline}
+use Rattle.rv_word.specs.declared.outline.Outline.{Outline}
+use Rattle.std.specs.Option.{option_map}
 use Rattle.rv_comp.proofs.Exact.{decoded_found, decoded_only}
 use Rattle.rv_comp.proofs.Whole.{does, all_read}
 

@@ -1,42 +1,16 @@
--- The words of definitions and of std that the proofs of this crate speak of.
+-- Words of std and of definitions that many proofs of this crate use.
 pub use Rattle.std.proofs.Common.{◌≡◌, subst, ℕ, ◌+◌, ◌-◌, ◌*◌, ◌^◌, ◌<◌, Bool, true, false, not, ◌&&◌, ◌==◌, refl, ap, sym, Option, Some, None, pos, ℤ, arith, ◌%◌, ◌≤◌, ◌∙◌, List, [], ◌∷◌, length, get_or, take, ◌≢◌, eqb-true, IfSome, zero, ◌/◌, cond, ap₂, ◌⊎◌, inl, inr, suc, negsuc, map, drop, slice_index_or, eqb}
 pub use Rattle.std.specs.Prelude.{nat_lt, nat_le, bit_and, IfNone, IsTrue, slice_index}
-pub use Rattle.std.proofs.Math.Nat.{pow-suc}
-pub use Rattle.std.proofs.Math.Pow.{pow_mono}
-pub use Rattle.std.proofs.Math.Seq.{drop-cons, drop-length}
 pub use Rattle.std.proofs.lemmas.Bool.{and_parts, ltb-true, ne_eqb, leb-true, cases_lt, cases_eq, cases_Bool, lt-ltb, le-ltb, cond-true, cond-false, agree_below, agree_below_at}
-pub use Rattle.std.proofs.lemmas.Int.{of_z-to_z, ints, to_z-of_z}
-pub use Rattle.std.proofs.lemmas.List.{length-take, get_or-take}
 pub use Rattle.std.proofs.lemmas.Nat.{and_mask, div_below, div-add-mod', from_le_bytes-to_le_bytes_4}
 pub use Rattle.std.specs.Int.{w16, w32, from_le_bytes, cast_unsigned, cast_signed, to_le_bytes}
-pub use Rattle.std.specs.Option.{option_map}
-pub use Rattle.rv_word.specs.Lengths.{length_of}
-pub use Rattle.rv_word.specs.Numbers.{bits, IsBetween, IsEven}
-pub use Rattle.rv_word.specs.Outlines.{outline}
 pub use Rattle.rv_word.specs.Spelling.{IsWordOf, InRange, IsImm12, IsBranchOffset, IsJumpOffset, spelling}
-pub use Rattle.rv_word.specs.declared.instr.Cond.TheVariants.{Beq, Bne}
-pub use Rattle.rv_word.specs.declared.instr.ImmOp.TheVariants.{Addi, Andi, Slli, Srli, Srai}
 pub use Rattle.rv_word.specs.declared.instr.Instr.{Instr}
-pub use Rattle.rv_word.specs.declared.instr.Instr.TheVariants.{Op, OpImm, Load, Store, Branch, Jal, Jalr, Lui, Ebreak, Ecall}
-pub use Rattle.rv_word.specs.declared.instr.LoadKind.TheVariants.{Lw}
-pub use Rattle.rv_word.specs.declared.instr.RegOp.TheVariants.{Add, Sub, Xor, Or, And}
-pub use Rattle.rv_word.specs.declared.instr.StoreWidth.TheVariants.{Sw}
-pub use Rattle.rv_word.specs.declared.length.Length.{Length}
-pub use Rattle.rv_word.specs.declared.length.Length.TheVariants.{Wide, Longer}
-pub use Rattle.rv_word.specs.declared.outline.Outline.{Outline}
-pub use Rattle.rv_word.specs.declared.outline.Outline.TheVariants.{Computes, Loads, Stores, Branches, Jumps, JumpsTo, Stops}
-pub use Rattle.rv_comp.specs.Bits.{Fields}
 pub use Rattle.rv_comp.specs.Fronts.{SpellsShort, SpellsWide, IsFront, Spells, IsCutShort, SpellsNothing}
 pub use Rattle.rv_comp.specs.Halfwords.{halfword_of, IsShortSpelling, IsHalfwordOf, IsFirst, IsHalfwordThat}
 pub use Rattle.rv_comp.specs.Laws.{SomeFront, OneFront, SpelledInRange, OneSpelling, TwoLengths, EcallIsWide}
 pub use Rattle.rv_comp.specs.Table.{allowed, expansion, place, is_reg, is_short_reg, is_unsigned, is_signed, is_not_zero, row, fields_of}
-pub use Rattle.rv_comp.specs.declared.encode.rows.TheConstants.{ROWS}
 pub use Rattle.rv_comp.specs.declared.form.Form16.{Form16}
 pub use Rattle.rv_comp.specs.declared.form.Form16.TheVariants.{CAddi4spn, CLw, CSw, CAddi, CJal, CLi, CAddi16sp, CLui, CSrli, CSrai, CAndi, CSub, CXor, COr, CAnd, CJ, CBeqz, CBnez, CSlli, CLwsp, CJr, CJalr, CMv, CAdd, CEbreak, CSwsp}
-pub use Rattle.rv_comp.specs.declared.front.Front.{Front}
-pub use Rattle.rv_comp.specs.declared.front.Front.TheVariants.{Read, Short, Bad}
 pub use Rattle.rv_comp.specs.mirror.Decoding.{decoded, quadrant0, quadrant1, quadrant2, arithmetic, upper, jump_or_move, extended, word_offset, six, jump_offset, branch_offset, stack_step, stack_address, load_offset, store_offset}
 pub use Rattle.rv_comp.specs.mirror.Encoding.{row_bit, row_fields, row_number, is_low, AreLow}
-pub use Rattle.rv_comp.specs.mirror.First.{first_form, first_addi, upper_value, taken}
-pub use Rattle.rv_comp.specs.mirror.Outlining.{outlined, row_of, jump, jump_or_stop}
-pub use Rattle.rv_comp.specs.private.Fronts.{IsOnlyFront}

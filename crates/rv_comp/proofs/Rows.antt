@@ -1,5 +1,9 @@
 -- The rows that the code has are those of the table.
-use Rattle.rv_comp.proofs.Prelude.{◌≡◌, ℕ, ◌+◌, ◌*◌, ◌^◌, ◌<◌, true, refl, ap, ap₂, subst, sym, ◌∙◌, List, ◌∷◌, ◌≤◌, map, drop, suc, slice_index_or, length, arith, drop-cons, drop-length, pow_mono, pow-suc, row, fields_of, place, halfword_of, row_bit, row_fields, row_number, is_low, AreLow, Form16, CEbreak, ROWS}
+use Rattle.rv_comp.proofs.Prelude.{◌≡◌, ℕ, ◌+◌, ◌*◌, ◌^◌, ◌<◌, true, refl, ap, ap₂, subst, sym, ◌∙◌, List, ◌∷◌, ◌≤◌, map, drop, suc, slice_index_or, length, arith, row, fields_of, place, halfword_of, row_bit, row_fields, row_number, is_low, AreLow, Form16, CEbreak}
+use Rattle.rv_comp.specs.declared.encode.rows.TheConstants.{ROWS}
+use Rattle.std.proofs.Math.Nat.{pow-suc}
+use Rattle.std.proofs.Math.Pow.{pow_mono}
+use Rattle.std.proofs.Math.Seq.{drop-cons, drop-length}
 use Rattle.rv_comp.specs.declared.encode.Fields.{Fields}
 use Rattle.rv_comp.specs.Bits as table
 use Rattle.rv_comp.specs.declared.encode.rows.Bit as coded

@@ -1,5 +1,6 @@
 -- A list of bytes begins with at most one spelling.
-use Rattle.rv_comp.proofs.Prelude.{◌≡◌, ℕ, ◌%◌, ◌^◌, ◌<◌, refl, ap, subst, sym, ◌∙◌, Option, Some, List, arith, inl, inr, slice_index, w16, w32, from_le_bytes, Instr, Ecall, IsWordOf, expansion, IsShortSpelling, OneSpelling, TwoLengths, EcallIsWide, decoded, Form16, CEbreak, length, InRange, spelling, Spells, to_le_bytes, from_le_bytes-to_le_bytes_4}
+use Rattle.rv_comp.proofs.Prelude.{◌≡◌, ℕ, ◌%◌, ◌^◌, ◌<◌, refl, ap, subst, sym, ◌∙◌, Option, Some, List, arith, inl, inr, slice_index, w16, w32, from_le_bytes, Instr, IsWordOf, expansion, IsShortSpelling, OneSpelling, TwoLengths, EcallIsWide, decoded, Form16, CEbreak, length, InRange, spelling, Spells, to_le_bytes, from_le_bytes-to_le_bytes_4}
+use Rattle.rv_word.specs.declared.instr.Instr.TheVariants.{Ecall}
 use Rattle.rv_comp.proofs.Exact.{decoded_only}
 use Rattle.rv_comp.proofs.Bytes.{short_length, wide_length, same_length, not_both}
 use Rattle.rv_word.proofs.Facts.{one_spelling, spellings_are_wide}

@@ -1,5 +1,10 @@
 -- Bytes that are read from addresses and written to them.
-use Rattle.rv_mem.proofs.Prelude.{◌≡◌, ◌≢◌, ℕ, zero, suc, ◌+◌, ◌-◌, ◌^◌, ◌<◌, ◌==◌, Bool, true, false, cond, eqb-true, subst, List, [], ◌∷◌, length, map, Option, Some, None, IsSome, is_some, slice_index, add-zero, refl, sym, ap, ◌∙◌, arith, common_steps, length-map-range_with_len, get_or-map-range_with_len, slice_get-get_or, nat_cmp_total, unsigned_tied, insert, get-insert, range_with_len, Contains, option_or, Bytes, byte_at, bytes_at, address_after, addresses, in_front, AddressesAreThese, Holds, ReadIsHeld, OthersStay, WrittenIsThere, WriteKeepsMemory, byte_in}
+use Rattle.rv_mem.proofs.Prelude.{◌≡◌, ◌≢◌, ℕ, zero, suc, ◌+◌, ◌-◌, ◌^◌, ◌<◌, ◌==◌, Bool, true, false, cond, eqb-true, subst, List, [], ◌∷◌, length, map, Option, Some, None, IsSome, is_some, slice_index, add-zero, refl, sym, ap, ◌∙◌, arith, nat_cmp_total, unsigned_tied, insert, get-insert, option_or, Bytes, byte_at, bytes_at, address_after, addresses, in_front, byte_in}
+use Rattle.rv_mem.specs.Laws.{AddressesAreThese, Holds, ReadIsHeld, OthersStay, WrittenIsThere, WriteKeepsMemory}
+use Rattle.std.proofs.lemmas.Grind.{common_steps}
+use Rattle.std.proofs.lemmas.List.FromFn.{length-map-range_with_len, get_or-map-range_with_len}
+use Rattle.std.proofs.lemmas.Option.{slice_get-get_or}
+use Rattle.std.specs.List.{range_with_len, Contains}
 use Rattle.rv_mem.proofs.Lookups.{get_with}
 
 -- ---- reading

@@ -1,5 +1,12 @@
 -- A look-up in the entries of segments.
-use Rattle.rv_mem.proofs.Prelude.{eqb-true, is_some, add-zero, ◌^◌, ◌≡◌, ℕ, ◌+◌, ◌-◌, ◌<◌, ◌≤◌, ◌==◌, Bool, true, false, cond, zero, suc, add-one, take, get_or, length, map, set, IsSome, IsTrue, ◌↔◌, subst, List, [], ◌∷◌, ◌++◌, Option, Some, None, refl, sym, ap, ◌∙◌, arith, nat_lt, slice_get, common_steps, range_with_len, option_or, nat_cmp, eq_by_cmp, nat_cmp_total, unsigned_tied, OnTrue, get, find, insert, get-from_entries, get-insert, same_map, nat_cmp-IsAntisymmetric, Segment, get_or_from_slice_get, Bytes, byte_at, IsMemory, address_after, addresses, with_bytes, entries_from, all_entries, bytes_among, byte_in, byte_among, HasIn, HasNone}
+use Rattle.rv_mem.proofs.Prelude.{eqb-true, is_some, add-zero, ◌^◌, ◌≡◌, ℕ, ◌+◌, ◌-◌, ◌<◌, ◌≤◌, ◌==◌, Bool, true, false, cond, zero, suc, add-one, take, get_or, length, map, set, IsSome, IsTrue, ◌↔◌, subst, List, [], ◌∷◌, ◌++◌, Option, Some, None, refl, sym, ap, ◌∙◌, arith, nat_lt, slice_get, option_or, nat_cmp_total, unsigned_tied, get, find, insert, get-from_entries, get-insert, same_map, nat_cmp-IsAntisymmetric, Bytes, byte_at, IsMemory, address_after, addresses, with_bytes, byte_in, byte_among, HasIn, HasNone}
+use Rattle.rv_mem.specs.Segment.{entries_from, all_entries, bytes_among}
+use Rattle.rv_mem.specs.declared.segment.Segment.{Segment}
+use Rattle.std.proofs.lemmas.Grind.{common_steps}
+use Rattle.std.proofs.lemmas.Option.{get_or_from_slice_get}
+use Rattle.std.specs.Bool.{OnTrue}
+use Rattle.std.specs.List.{range_with_len}
+use Rattle.std.specs.Ordering.{nat_cmp, eq_by_cmp}
 use Rattle.rv_mem.specs.private.Segment.{Puts}
 
 slice_get_first : (b : ℕ) (bs : List ℕ) (q base : ℕ) → q ≡ base → slice_get (b ∷ bs) (q - base) ≡ Some b

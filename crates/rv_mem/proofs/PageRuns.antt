@@ -1,5 +1,7 @@
 -- Pages: runs of bytes, and their marks.
-use Rattle.rv_mem.proofs.Prelude.{eqb-true, ◌^◌, ◌≡◌, ◌≢◌, ℕ, ◌+◌, ◌-◌, ◌*◌, ◌/◌, ◌%◌, ◌<◌, ◌≤◌, ◌==◌, ◌⊎◌, inl, inr, ⊎_elim, true, false, cond, zero, suc, nat_lt, length, List, [], ◌∷◌, ◌++◌, Option, Some, None, refl, sym, ap, ◌∙◌, subst, arith, eqb-false, slice_index, replicate, option_or, nat_cmp_total, get, same_map, nat_cmp-IsAntisymmetric, Bytes, byte_at, address_after, addresses, run_of, Puts, MarksRun, frame_of, cell, cell_at, ArePages, values_of, slice_get, slice_get-get_or, slice_get_past, length-replicate, add-zero, length-append, with_bytes, added, byte_in}
+use Rattle.rv_mem.proofs.Prelude.{eqb-true, ◌^◌, ◌≡◌, ◌≢◌, ℕ, ◌+◌, ◌-◌, ◌*◌, ◌/◌, ◌%◌, ◌<◌, ◌≤◌, ◌==◌, ◌⊎◌, inl, inr, ⊎_elim, true, false, cond, zero, suc, nat_lt, length, List, [], ◌∷◌, ◌++◌, Option, Some, None, refl, sym, ap, ◌∙◌, subst, arith, slice_index, replicate, option_or, nat_cmp_total, get, same_map, nat_cmp-IsAntisymmetric, Bytes, byte_at, address_after, addresses, run_of, Puts, MarksRun, frame_of, cell, cell_at, ArePages, values_of, slice_get, length-replicate, add-zero, length-append, with_bytes, added, byte_in}
+use Rattle.std.proofs.lemmas.Bool.{eqb-false}
+use Rattle.std.proofs.lemmas.Option.{slice_get-get_or, slice_get_past}
 use Rattle.rv_mem.proofs.Lookups.{get_with}
 use Rattle.rv_mem.proofs.Paging.{is_marked, no_frame, get_pages}
 

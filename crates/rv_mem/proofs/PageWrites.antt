@@ -1,5 +1,6 @@
 -- Pages: what the write of a byte or a word makes of them, and a new frame.
-use Rattle.rv_mem.proofs.Prelude.{eqb-true, is_some, ◌^◌, ◌≡◌, ◌≢◌, ℕ, ◌+◌, ◌*◌, ◌/◌, ◌%◌, ◌<◌, ◌≤◌, ◌==◌, true, false, cond, zero, suc, get_or, length, set, IsSome, List, [], ◌∷◌, Option, Some, None, refl, sym, ap, ◌∙◌, subst, arith, get_or-set_other, get_or-set_same, eqb-false, slice_index, nat_cmp_total, insert, same_map, nat_cmp-IsAntisymmetric, option_map, Bytes, byte_at, in_front, number_of, address_after, loaded, frame_of, cell, cell_at, ArePages, values_of}
+use Rattle.rv_mem.proofs.Prelude.{eqb-true, is_some, ◌^◌, ◌≡◌, ◌≢◌, ℕ, ◌+◌, ◌*◌, ◌/◌, ◌%◌, ◌<◌, ◌≤◌, ◌==◌, true, false, cond, zero, suc, get_or, length, set, IsSome, List, [], ◌∷◌, Option, Some, None, refl, sym, ap, ◌∙◌, subst, arith, get_or-set_other, get_or-set_same, slice_index, nat_cmp_total, insert, same_map, nat_cmp-IsAntisymmetric, option_map, Bytes, byte_at, in_front, number_of, address_after, loaded, frame_of, cell, cell_at, ArePages, values_of}
+use Rattle.std.proofs.lemmas.Bool.{eqb-false}
 use Rattle.rv_mem.proofs.Accesses.{byte_at-insert}
 use Rattle.rv_mem.proofs.Paging.{slice_past, within, unmarked, is_marked, marked, no_frame, get_pages, has_frame}
 use Rattle.rv_mem.proofs.PageReads.{byte_after}

@@ -1,5 +1,7 @@
 -- Pages: what they have at an address.
-use Rattle.rv_mem.proofs.Prelude.{eqb-true, is_some, ◌^◌, ◌≡◌, ◌≢◌, ℕ, ◌+◌, ◌/◌, ◌%◌, ◌<◌, ◌≤◌, ◌==◌, ◌⊎◌, inl, inr, Bool, true, false, cond, zero, suc, nat_lt, get_or, length, IsSome, List, [], ◌∷◌, Option, Some, None, refl, sym, ap, ◌∙◌, subst, arith, eqb-false, slice_index, option_or, nat_cmp, nat_cmp_total, empty, get-empty, same_map, nat_cmp-IsAntisymmetric, Bytes, byte_at, IsMemory, frame_of, cell, cell_at, ArePages, with_entry, values_below, values_of}
+use Rattle.rv_mem.proofs.Prelude.{eqb-true, is_some, ◌^◌, ◌≡◌, ◌≢◌, ℕ, ◌+◌, ◌/◌, ◌%◌, ◌<◌, ◌≤◌, ◌==◌, ◌⊎◌, inl, inr, Bool, true, false, cond, zero, suc, nat_lt, get_or, length, IsSome, List, [], ◌∷◌, Option, Some, None, refl, sym, ap, ◌∙◌, subst, arith, slice_index, option_or, nat_cmp_total, empty, get-empty, same_map, nat_cmp-IsAntisymmetric, Bytes, byte_at, IsMemory, frame_of, cell, cell_at, ArePages, with_entry, values_below, values_of}
+use Rattle.std.proofs.lemmas.Bool.{eqb-false}
+use Rattle.std.specs.Ordering.{nat_cmp}
 use Rattle.rv_mem.proofs.Accesses.{byte_at-insert}
 
 -- ---- a map from a function

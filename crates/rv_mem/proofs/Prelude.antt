@@ -1,25 +1,13 @@
--- The words of definitions and of std that the proofs of this crate speak of.
+-- Words of std and of definitions that many proofs of this crate use.
 pub use Rattle.std.proofs.Common.{◌≡◌, ◌≢◌, ℕ, zero, suc, ◌+◌, ◌-◌, ◌^◌, ◌<◌, ◌==◌, Bool, true, false, cond, eqb-true, subst, List, [], ◌∷◌, length, map, Option, Some, None, IsSome, is_some, slice_index, add-zero, refl, sym, ap, ◌∙◌, arith, ◌≤◌, add-one, take, get_or, set, IsTrue, ◌↔◌, ◌++◌, nat_lt, slice_get, ◌*◌, ◌/◌, ◌%◌, ⊎_elim, ◌⊎◌, inl, inr, replicate, length-append, get_or-set_other, get_or-set_same, min, drop, rules, length-take, length-drop, get_or-take, get_or-drop}
 pub use Rattle.std.specs.Prelude.{IfSome}
-pub use Rattle.std.proofs.lemmas.Bool.{eqb-false}
-pub use Rattle.std.proofs.lemmas.Grind.{common_steps}
 pub use Rattle.std.proofs.lemmas.List.{length-replicate, with_items_is}
-pub use Rattle.std.proofs.lemmas.List.FromFn.{length-map-range_with_len, get_or-map-range_with_len}
-pub use Rattle.std.proofs.lemmas.Option.{slice_get-get_or, get_or_from_slice_get, slice_get_past}
-pub use Rattle.std.specs.Bool.{OnTrue, OnFalse}
 pub use Rattle.std.specs.Cmp.{nat_cmp_total, unsigned_tied}
 pub use Rattle.std.specs.FinMap.{insert, get-insert, get, find, get-from_entries, same_map, nat_cmp-IsAntisymmetric, empty, get-empty}
-pub use Rattle.std.specs.Int.{bytes_low_first}
-pub use Rattle.std.specs.List.{range_with_len, Contains}
 pub use Rattle.std.specs.Option.{option_or, option_map}
-pub use Rattle.std.specs.Ordering.{nat_cmp, eq_by_cmp}
-pub use Rattle.std.specs.Vec.{with_items}
 pub use Rattle.rv_mem.specs.Bytes.{Bytes, byte_at, bytes_at, address_after, addresses, in_front, IsMemory, with_bytes, number_of, loaded, added, Overlaps, IsFree}
 pub use Rattle.rv_mem.specs.Frames.{frame_of, cell, cell_at, ArePages, values_of, with_entry, values_below}
-pub use Rattle.rv_mem.specs.Laws.{AddressesAreThese, Holds, ReadIsHeld, OthersStay, WrittenIsThere, WriteKeepsMemory}
 pub use Rattle.rv_mem.specs.Pages.{bytes_of}
-pub use Rattle.rv_mem.specs.Segment.{entries_from, all_entries, bytes_among}
-pub use Rattle.rv_mem.specs.declared.segment.Segment.{Segment}
 pub use Rattle.rv_mem.specs.private.Frames.{run_of, Puts, MarksRun, with_four}
 pub use Rattle.rv_mem.specs.private.Ranges.{HasIn, HasNone}
 pub use Rattle.rv_mem.specs.private.Segment.{byte_in, byte_among}

@@ -1,5 +1,8 @@
 -- Ranges of addresses that go round past the last one.
-use Rattle.rv_mem.proofs.Prelude.{zero, suc, [], ◌∷◌, ◌++◌, length, replicate, get_or, length-append, ◌≡◌, ℕ, ◌+◌, ◌-◌, ◌%◌, ◌^◌, ◌<◌, ◌≤◌, min, Bool, true, false, List, IsSome, subst, sym, ap, ◌∙◌, arith, length-replicate, OnTrue, OnFalse, Segment, Bytes, byte_at, Overlaps, IsFree, added, addresses, with_bytes, bytes_among, byte_among, HasIn, HasNone}
+use Rattle.rv_mem.proofs.Prelude.{zero, suc, [], ◌∷◌, ◌++◌, length, replicate, get_or, length-append, ◌≡◌, ℕ, ◌+◌, ◌-◌, ◌%◌, ◌^◌, ◌<◌, ◌≤◌, min, Bool, true, false, List, IsSome, subst, sym, ap, ◌∙◌, arith, length-replicate, Bytes, byte_at, Overlaps, IsFree, added, addresses, with_bytes, byte_among, HasIn, HasNone}
+use Rattle.rv_mem.specs.Segment.{bytes_among}
+use Rattle.rv_mem.specs.declared.segment.Segment.{Segment}
+use Rattle.std.specs.Bool.{OnTrue, OnFalse}
 use Rattle.rv_mem.proofs.Lookups.{get_among, push_free}
 
 pub found_in : (r : Bool) (ss : List Segment) (from to : ℕ) → OnTrue r (HasIn (byte_among ss) from to) → OnTrue r (HasIn (byte_at (bytes_among ss)) from to)

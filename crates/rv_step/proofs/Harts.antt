@@ -1,5 +1,6 @@
 -- Harts that a step makes.
-use Rattle.rv_step.proofs.Prelude.{◌≡◌, ◌≢◌, ℕ, zero, suc, ◌%◌, ◌^◌, ◌<◌, ◌==◌, Bool, true, false, cond, List, [], ◌∷◌, length-set, set, get_or, slice_set, refl, ◌∙◌, arith, get_or-set_other, address_after, Hart, IsHart, with_register, with_pc, past}
+use Rattle.rv_step.proofs.Prelude.{◌≡◌, ◌≢◌, ℕ, zero, suc, ◌%◌, ◌^◌, ◌<◌, ◌==◌, Bool, true, false, cond, List, [], ◌∷◌, length-set, set, get_or, slice_set, refl, ◌∙◌, arith, address_after, Hart, IsHart, with_register, with_pc, past}
+use Rattle.std.proofs.lemmas.List.{get_or-set_other}
 
 pub pc_is : (h : Hart) (pc : ℕ) → IsHart h → pc % 2 ≡ 0 → pc < 2 ^ 32 → IsHart (with_pc h pc)
 pc_is h pc is even fits = record { even = even; address = fits; count = is.count; words = is.words; zero = is.zero }

@@ -1,5 +1,9 @@
 -- Memories that a step reads and makes.
-use Rattle.rv_step.proofs.Prelude.{◌≡◌, ℕ, suc, ◌+◌, ◌*◌, ◌^◌, ◌<◌, List, [], ◌∷◌, length, Option, Some, None, slice_index, refl, subst, arith, pow-suc, option_map, LoadKind, Lb, Lh, Lw, Lbu, Lhu, StoreWidth, Sb, Sh, Sw, Bytes, IsMemory, bytes_at, addresses, number_of, loaded, stored, load_size, store_size}
+use Rattle.rv_step.proofs.Prelude.{◌≡◌, ℕ, suc, ◌+◌, ◌*◌, ◌^◌, ◌<◌, List, [], ◌∷◌, length, Option, Some, None, slice_index, refl, subst, arith, option_map, LoadKind, Bytes, IsMemory, bytes_at, addresses, number_of, loaded, stored, load_size, store_size}
+use Rattle.rv_word.specs.declared.instr.LoadKind.TheVariants.{Lb, Lh, Lw, Lbu, Lhu}
+use Rattle.rv_word.specs.declared.instr.StoreWidth.{StoreWidth}
+use Rattle.rv_word.specs.declared.instr.StoreWidth.TheVariants.{Sb, Sh, Sw}
+use Rattle.std.proofs.Math.Nat.{pow-suc}
 use Rattle.rv_mem.proofs.Facts.{read_is_held, write_keeps_memory}
 
 -- ---- bytes that are written

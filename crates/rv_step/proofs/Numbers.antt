@@ -1,5 +1,15 @@
 -- Numbers that fit, and even ones.
-use Rattle.rv_step.proofs.Prelude.{◌≡◌, ℕ, ◌*◌, ◌/◌, ◌%◌, ◌^◌, ◌<◌, ◌==◌, Bool, true, false, cond, ℤ, pos, negsuc, ◌+ℤ◌, suc, zero, replicate, slice_index, refl, arith, subst, from_bool, and_lt, div-le_self, ints, or_lt, xor_lt, mul-lt, RegOp, Add, Sll, Slt, Sltu, Xor, Srl, Or, And, Mul, Mulhu, Div, Divu, Rem, Remu, LoadKind, Lb, Lh, Cond, Instr, Branch, Jal, IsEven, offset_by, InRange, IsHart, word, result_of, load_size, extended}
+use Rattle.rv_step.proofs.Prelude.{◌≡◌, ℕ, ◌*◌, ◌/◌, ◌%◌, ◌^◌, ◌<◌, ◌==◌, Bool, true, false, cond, ℤ, pos, negsuc, ◌+ℤ◌, suc, zero, replicate, slice_index, refl, arith, subst, LoadKind, Instr, Branch, Jal, IsEven, offset_by, IsHart, word, result_of, load_size, extended}
+use Rattle.rv_word.specs.Spelling.{InRange}
+use Rattle.rv_word.specs.declared.instr.Cond.{Cond}
+use Rattle.rv_word.specs.declared.instr.LoadKind.TheVariants.{Lb, Lh}
+use Rattle.rv_word.specs.declared.instr.RegOp.{RegOp}
+use Rattle.rv_word.specs.declared.instr.RegOp.TheVariants.{Add, Sll, Slt, Sltu, Xor, Srl, Or, And, Mul, Mulhu, Div, Divu, Rem, Remu}
+use Rattle.std.proofs.Math.Nat.{div-le_self}
+use Rattle.std.proofs.lemmas.Int.{ints}
+use Rattle.std.proofs.lemmas.Nat.{or_lt, xor_lt, mul-lt}
+use Rattle.std.specs.Int.{from_bool}
+use Rattle.std.specs.Int.Bits.{and_lt}
 
 pub word_fits : (z : ℤ) → word z < 2 ^ 32
 word_fits (pos n) = omega arith

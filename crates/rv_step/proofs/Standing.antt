@@ -1,5 +1,6 @@
 -- The bytes from pc on, up to the first that is missing, and the instruction that they spell.
-use Rattle.rv_step.proofs.Prelude.{◌≡◌, ℕ, suc, ◌⊎◌, inl, inr, List, [], ◌∷◌, ◌++◌, length, map, take, Option, Some, None, refl, sym, ap, ◌∙◌, subst, arith, range_with_len, Instr, Front, Read, Short, Bad, Spells, IsFront, Bytes, byte_at, bytes_at, address_after, addresses, in_front, AtPcIsFront, State, Stands, present_then, present_at, bytes_at_pc, IsAtPc}
+use Rattle.rv_step.proofs.Prelude.{◌≡◌, ℕ, suc, ◌⊎◌, inl, inr, List, [], ◌∷◌, ◌++◌, length, map, take, Option, Some, None, refl, sym, ap, ◌∙◌, subst, arith, range_with_len, Instr, Front, Read, Short, Bad, Bytes, byte_at, bytes_at, address_after, addresses, in_front, AtPcIsFront, State, Stands, present_then, present_at, bytes_at_pc, IsAtPc}
+use Rattle.rv_comp.specs.Fronts.{Spells, IsFront}
 use Rattle.rv_comp.proofs.Facts.{two_lengths}
 
 -- ---- runs of bytes

@@ -1,5 +1,6 @@
 -- The two halves of a number add up to it.
-use Rattle.rv_text.proofs.Prelude.{◌≡◌, ℕ, ◌+◌, ◌-◌, ◌*◌, ◌/◌, ◌%◌, ◌^◌, ◌<◌, inl, inr, ap, ◌∙◌, arith, ℤ, pos, negsuc, ◌+ℤ◌, ◌-ℤ◌, ints, cases_lt, modulo, rounded, ConstantsAddUp}
+use Rattle.rv_text.proofs.Prelude.{◌≡◌, ℕ, ◌+◌, ◌-◌, ◌*◌, ◌/◌, ◌%◌, ◌^◌, ◌<◌, inl, inr, ap, ◌∙◌, arith, ℤ, pos, negsuc, ◌+ℤ◌, ◌-ℤ◌, ints, cases_lt, modulo, ConstantsAddUp}
+use Rattle.rv_source.specs.Halves.{rounded}
 
 -- 2048 less
 less : (r t : ℕ) → t < 2 ^ 32 → (t + 2048) % 2 ^ 32 ≡ r → modulo 32 (pos r -ℤ pos 2048) ≡ t

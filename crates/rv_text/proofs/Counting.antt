@@ -1,5 +1,6 @@
 -- A text has no more sandboxes than lines.
-use Rattle.rv_text.proofs.Prelude.{◌≡◌, sym, ap, ◌∙◌, ℕ, ◌+◌, ◌^◌, ◌≤◌, inl, inr, List, [], ◌∷◌, ◌++◌, Option, Some, length, length-append, ◌==◌, arith, length-slice_split, count_by-le-length, Begun, SoFar, nothing, begin, format_or_sfi1, last_sandbox, sandboxes, Stated, format, sandbox, within, Does, LabelsLead, RestLeads, uncommented, lines, LinesLead, LeadsFromNothing}
+use Rattle.rv_text.proofs.Prelude.{◌≡◌, sym, ap, ◌∙◌, ℕ, ◌+◌, ◌^◌, ◌≤◌, inl, inr, List, [], ◌∷◌, ◌++◌, Option, Some, length, length-append, ◌==◌, arith, count_by-le-length, Begun, SoFar, nothing, begin, format_or_sfi1, last_sandbox, sandboxes, Stated, format, sandbox, within, Does, LabelsLead, RestLeads, uncommented, lines, LinesLead, LeadsFromNothing}
+use Rattle.std.proofs.lemmas.List.Splits.{length-slice_split}
 
 -- how many sandboxes have been begun
 abbrev count : SoFar → ℕ

@@ -1,5 +1,7 @@
 -- Each token is what a part of a statement asks for, or isn't.
-use Rattle.rv_text.proofs.Prelude.{◌≡◌, ℕ, Bool, true, false, List, [], ◌∷◌, length, take, drop, ◌⊎◌, inl, inr, refl, sym, ◌∙◌, subst, arith, ℤ, pos, negsuc, codes, ◌≤ℤ◌, is_power_of_two, cases_lt, cases_eq, false≢true, ints, modulo, IsBetween, IsDataSize, NumberKind, BranchOffset, JumpOffset, DataSize, Part, Rd, Rs1, Rs2, Number, Name, Mode, Comma, Open, Close, Keyword, IsBlank, is_mark, IsMark, IsNumber, IsToken, Takes, IsStuck, begins_name, IsName, begins_label, IsLabel, IsNumberOf, keyword_name, candidate, OperandValues, Stands, mode_name, body_of, token_len, operands}
+use Rattle.rv_text.proofs.Prelude.{◌≡◌, ℕ, Bool, true, false, List, [], ◌∷◌, length, take, drop, ◌⊎◌, inl, inr, refl, sym, ◌∙◌, subst, arith, ℤ, pos, negsuc, codes, ◌≤ℤ◌, cases_lt, cases_eq, false≢true, ints, modulo, IsBetween, IsDataSize, NumberKind, BranchOffset, JumpOffset, DataSize, Part, Rd, Rs1, Rs2, Number, Name, Mode, Comma, Open, Close, Keyword, IsBlank, is_mark, IsMark, IsNumber, IsToken, Takes, IsStuck, begins_name, IsName, begins_label, IsLabel, IsNumberOf, keyword_name, OperandValues, Stands, mode_name, body_of, token_len, operands}
+use Rattle.rv_text.specs.private.Lookup.{candidate}
+use Rattle.std.specs.Int.{is_power_of_two}
 use Rattle.rv_text.proofs.Keywords.{none_of_other}
 use Rattle.rv_text.proofs.Decided.{Decided, decided_both, decided_le, decided_bit, decided_same}
 use Rattle.rv_text.proofs.RegisterNames.{register_or_not}

@@ -1,9 +1,17 @@
 -- The table of keywords finds just those that the definitions give.
-use Rattle.rv_text.proofs.Prelude.{◌≡◌, ℕ, ◌<◌, nat_lt, List, sym, ap, ◌∙◌, Option, Some, None, IfSome, IfNone, refl, slice_index, slice_index_or, slice_get-get_or, same_Some, ltb-true, ALL, PLACES, Add, Addi, Lb, Sb, Beq, Mnemonic, Op, OpImm, Load, Store, Branch, Jal, Keyword, Nop, Word, name_of, keyword_name, mnemonic_in}
+use Rattle.rv_text.proofs.Prelude.{◌≡◌, ℕ, ◌<◌, nat_lt, List, sym, ap, ◌∙◌, Option, Some, None, IfSome, IfNone, refl, slice_index, slice_index_or, slice_get-get_or, same_Some, ltb-true, Mnemonic, Keyword, Nop, name_of, keyword_name}
+use Rattle.rv_text.specs.declared.keyword.DataWidth.TheVariants.{Word}
+use Rattle.rv_text.specs.declared.keyword.TheConstants.{ALL, PLACES}
+use Rattle.rv_text.specs.declared.mnemonic.Mnemonic.TheVariants.{Op, OpImm, Load, Store, Branch, Jal}
+use Rattle.rv_word.specs.declared.instr.Cond.TheVariants.{Beq}
+use Rattle.rv_word.specs.declared.instr.ImmOp.TheVariants.{Addi}
+use Rattle.rv_word.specs.declared.instr.LoadKind.TheVariants.{Lb}
+use Rattle.rv_word.specs.declared.instr.RegOp.TheVariants.{Add}
+use Rattle.rv_word.specs.declared.instr.StoreWidth.TheVariants.{Sb}
 use Rattle.rv_text.proofs.RegisterNames.{below}
 use Rattle.rv_text.specs.declared.keyword.Keyword.TheVariants as keyword
 use Rattle.rv_text.specs.declared.keyword.Directive.TheVariants.{Sandbox}
-use Rattle.rv_text.specs.private.Lookup.{hash, candidate}
+use Rattle.rv_text.specs.private.Lookup.{hash, candidate, mnemonic_in}
 
 -- each keyword is the candidate of its name, by computation
 candidate_own : (k : Keyword) → candidate (keyword_name k) ≡ k

@@ -1,5 +1,10 @@
 -- The token length that the lexer computes is that of the longest token.
-use Rattle.rv_text.proofs.Prelude.{◌≡◌, ℕ, ◌+◌, ◌<◌, ◌≤◌, Bool, true, false, cond, List, [], ◌∷◌, ◌++◌, length, get_or, take, drop, inl, inr, ⊎_elim, refl, sym, ap, ◌∙◌, subst, arith, lit<, length-append, zero, suc, pos, neg_ℤ, IsTrue, ◌==◌, AllByRecursion, prefix_len, is_ascii_digit, is_ascii_hexdigit, digit_value, IsNumeral, AllDigits, digits_value, prefix_len-le-length, IsUtf8, IsCharBoundary, IsCharBoundary-start, IsCharBoundary-after_ascii, length-prefix_len, cases_Bool, cond_both, eqb-true, nat_tests, is_space, IsBlank, IsMagnitude, is_mark, IsToken, begins_name, continues_name, begins_hex, after_sign}
+use Rattle.rv_text.proofs.Prelude.{◌≡◌, ℕ, ◌+◌, ◌<◌, ◌≤◌, Bool, true, false, cond, List, [], ◌∷◌, ◌++◌, length, get_or, take, drop, inl, inr, ⊎_elim, refl, sym, ap, ◌∙◌, subst, arith, lit<, length-append, zero, suc, pos, neg_ℤ, IsTrue, ◌==◌, AllByRecursion, prefix_len, prefix_len-le-length, cases_Bool, cond_both, eqb-true, nat_tests, is_space, IsBlank, IsMagnitude, is_mark, IsToken, begins_name, continues_name, begins_hex, after_sign}
+use Rattle.std.proofs.lemmas.List.Folds.{length-prefix_len}
+use Rattle.std.proofs.lemmas.Str.{IsCharBoundary-start, IsCharBoundary-after_ascii}
+use Rattle.std.specs.Char.{is_ascii_digit, is_ascii_hexdigit, digit_value}
+use Rattle.std.specs.Str.{IsUtf8, IsCharBoundary}
+use Rattle.std.specs.Str.Parse.{IsNumeral, AllDigits, digits_value}
 use Rattle.rv_text.specs.private.Scan.{magnitude_len, token_len}
 
 -- what holds of each, and what it implies

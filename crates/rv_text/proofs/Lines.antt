@@ -1,5 +1,10 @@
 -- A line states one thing, or nothing for one cause.
-use Rattle.rv_text.proofs.Prelude.{◌≡◌, ℕ, List, [], ◌∷◌, ◌⊎◌, inl, inr, refl, sym, ap, ◌∙◌, subst, ℤ, Result, Ok, Err, IfOk, IfErr, MatchResult, flat_map, IfOk-weaker, Instr, Cond, TextCause, Mnemonic, Part, Directive, Pseudo, Nop, Ret, DataWidth, Keyword, Statement, IsBlank, AreTokens, LeadsTo, name_of, form_of, OperandValues, Departs, mnemonic_of, operands_of, Spells, OperandsDepart, Reads, AgreesOn, FollowsName, directive_form, directive_states, pseudo_form, pseudo_states, branch_form, branch_states, jal_form, jal_states, data_kind, data_bytes, Writes, AreMore, IsRow, IsData, StatesAfter, InstrDeparts, RefusedWith, ReadsRow, ReadsInstr, ReadsAfter, ReadsList, Stated, within, bytes, plain, stated, IsRightStatement}
+use Rattle.rv_text.proofs.Prelude.{◌≡◌, ℕ, List, [], ◌∷◌, ◌⊎◌, inl, inr, refl, sym, ap, ◌∙◌, subst, ℤ, Result, Ok, Err, IfOk, IfErr, MatchResult, flat_map, IfOk-weaker, Instr, TextCause, Mnemonic, Part, Nop, Ret, DataWidth, Keyword, IsBlank, AreTokens, LeadsTo, name_of, form_of, OperandValues, Departs, mnemonic_of, operands_of, Spells, OperandsDepart, Reads, AgreesOn, FollowsName, directive_form, directive_states, pseudo_form, pseudo_states, branch_form, branch_states, jal_form, jal_states, data_kind, data_bytes, Writes, AreMore, IsRow, IsData, StatesAfter, InstrDeparts, RefusedWith, Stated, within, bytes, plain, stated, IsRightStatement}
+use Rattle.rv_text.specs.declared.keyword.Directive.{Directive}
+use Rattle.rv_text.specs.declared.keyword.Pseudo.{Pseudo}
+use Rattle.rv_text.specs.declared.statement.Statement.{Statement}
+use Rattle.rv_text.specs.private.Lists.{ReadsRow, ReadsInstr, ReadsAfter, ReadsList}
+use Rattle.rv_word.specs.declared.instr.Cond.{Cond}
 use Rattle.rv_text.specs.declared.cause.TextCause.TheVariants as cause
 use Rattle.rv_text.specs.declared.mnemonic.Mnemonic.TheVariants as mnemonic
 use Rattle.rv_text.specs.declared.keyword.Directive.TheVariants as directive

@@ -1,5 +1,7 @@
 -- A list of data is read in one way.
-use Rattle.rv_text.proofs.Prelude.{◌≡◌, ℕ, List, [], ◌∷◌, ◌++◌, ◌⊎◌, inl, inr, refl, sym, ap, ◌∙◌, subst, ℤ, pos, Some, codes, flat_map, flat_map_more, TextCause, NumberKind, Number, Comma, DataWidth, Takes, IsBlank, AreTokens, IsNumber, IsNumberOf, Differs, data_kind, data_bytes, operands, Writes, AreMore, LeadsByMore, NumberDeparts, MoreDeparts, ListDeparts, ReadsNumber, ReadsList, ReadsAnother}
+use Rattle.rv_text.proofs.Prelude.{◌≡◌, ℕ, List, [], ◌∷◌, ◌++◌, ◌⊎◌, inl, inr, refl, sym, ap, ◌∙◌, subst, ℤ, pos, Some, codes, flat_map, TextCause, NumberKind, Number, Comma, DataWidth, Takes, IsBlank, AreTokens, IsNumber, IsNumberOf, Differs, data_kind, data_bytes, operands, Writes, AreMore, LeadsByMore, NumberDeparts, MoreDeparts, ListDeparts}
+use Rattle.rv_text.specs.private.Lists.{ReadsNumber, ReadsList, ReadsAnother}
+use Rattle.std.proofs.lemmas.List.{flat_map_more}
 use Rattle.rv_text.specs.declared.cause.TextCause.TheVariants as cause
 use Rattle.rv_text.proofs.Numbers.{number_unique}
 use Rattle.rv_text.proofs.Taking.{takes_unique, blank_takes_none}

@@ -1,5 +1,6 @@
 -- Where a token ends: at a mark, at a space, at the end of the text.
-use Rattle.rv_text.proofs.Prelude.{◌≡◌, ℕ, ◌≤◌, Bool, true, false, ◌||◌, List, [], ◌∷◌, ◌++◌, length, length-append, ◌⊎◌, inl, inr, ⊎_elim, refl, sym, ap, ◌∙◌, subst, arith, AllByRecursion, is_ascii_digit, is_ascii_hexdigit, nat_tests, false≢true, is_space, IsBlank, IsMagnitude, is_mark, IsToken, Takes, begins_name, continues_name, token_len}
+use Rattle.rv_text.proofs.Prelude.{◌≡◌, ℕ, ◌≤◌, Bool, true, false, ◌||◌, List, [], ◌∷◌, ◌++◌, length, length-append, ◌⊎◌, inl, inr, ⊎_elim, refl, sym, ap, ◌∙◌, subst, arith, AllByRecursion, nat_tests, false≢true, is_space, IsBlank, IsMagnitude, is_mark, IsToken, Takes, begins_name, continues_name, token_len}
+use Rattle.std.specs.Char.{is_ascii_digit, is_ascii_hexdigit}
 use Rattle.rv_text.proofs.Lexing.{all_by, numeral_passes, hex_passes, token_within, token_at_mark}
 
 -- a mark or a space ends the token before it

@@ -1,5 +1,7 @@
 -- A text writes one number, and one whose digits write none of 64 bits writes none that 32 bits hold.
-use Rattle.rv_text.proofs.Prelude.{◌≡◌, ℕ, ◌<◌, ◌^◌, List, ◌∷◌, ◌++◌, inl, inr, get_or, sym, ap, ◌∙◌, subst, arith, ℤ, pos, neg_ℤ, codes, ints, nat_tests, AllDigits, digits_value, IsMagnitude, IsNumber, IsInReach, NumberKind, DataSize, IsNumberOf}
+use Rattle.rv_text.proofs.Prelude.{◌≡◌, ℕ, ◌<◌, ◌^◌, List, ◌∷◌, ◌++◌, inl, inr, get_or, sym, ap, ◌∙◌, subst, arith, ℤ, pos, neg_ℤ, codes, ints, nat_tests, IsMagnitude, IsNumber, NumberKind, DataSize, IsNumberOf}
+use Rattle.rv_text.specs.private.Numbers.{IsInReach}
+use Rattle.std.specs.Str.Parse.{AllDigits, digits_value}
 
 abbrev WritesNone : List ℕ → Type 0
 WritesNone text = (n : ℕ) → IsMagnitude text n → n < 2 ^ 64 → ⊥

@@ -1,5 +1,9 @@
 -- A number is a power of two where one of its bits is set.
-use Rattle.rv_text.proofs.Prelude.{◌≡◌, ℕ, zero, suc, ◌/◌, ◌%◌, ◌^◌, ◌≤◌, ap, ◌∙◌, refl, sym, arith, inl, inr, Bool, IsTrue, ◌↔◌, count_ones, IsPowerOfTwo, is_power_of_two, ones_step, zero_from_ones, ones_le_self, pow-suc, cases_lt, eqb-true, eq-eqb}
+use Rattle.rv_text.proofs.Prelude.{◌≡◌, ℕ, zero, suc, ◌/◌, ◌%◌, ◌^◌, ◌≤◌, ap, ◌∙◌, refl, sym, arith, inl, inr, Bool, IsTrue, ◌↔◌, count_ones, cases_lt, eqb-true, eq-eqb}
+use Rattle.std.proofs.Math.Nat.{pow-suc}
+use Rattle.std.proofs.lemmas.Nat.{zero_from_ones, ones_le_self}
+use Rattle.std.specs.Int.{IsPowerOfTwo, is_power_of_two}
+use Rattle.std.specs.Int.Count.{ones_step}
 use Rattle.std.specs.Int.Count.{ones, ones_in}
 
 power_by : (d n : ℕ) → n ≤ d → count_ones n ≡ 1 → IsPowerOfTwo n

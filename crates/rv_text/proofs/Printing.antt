@@ -1,5 +1,17 @@
 -- What a printed word of each kind is: a name, a register, a decimal or a hexadecimal number.
-use Rattle.rv_text.proofs.Prelude.{◌≡◌, ℕ, ◌<◌, ◌^◌, Bool, true, false, ◌&&◌, List, [], ◌∷◌, ◌++◌, inl, inr, refl, sym, arith, suc, ℤ, pos, negsuc, codes, list_all, decimal, signed_decimal, digits, is_ascii_digit, decimal_is_IsNumeral, digits_is_IsNumeral, ints, and_parts, false≢true, nat_tests, Add, Addi, Lb, Sb, Beq, Mnemonic, Op, OpImm, Load, Store, Branch, Keyword, Nop, Word, keyword_name, NumberKind, Upper, IsNumber, IsToken, IsInReach, begins_name, continues_name, IsName, x_name, name_of, IsNumberOf, number_text}
+use Rattle.rv_text.proofs.Prelude.{◌≡◌, ℕ, ◌<◌, ◌^◌, Bool, true, false, ◌&&◌, List, [], ◌∷◌, ◌++◌, inl, inr, refl, sym, arith, suc, ℤ, pos, negsuc, codes, list_all, ints, and_parts, false≢true, nat_tests, Mnemonic, Keyword, Nop, keyword_name, NumberKind, Upper, IsNumber, IsToken, begins_name, continues_name, IsName, name_of, IsNumberOf, number_text}
+use Rattle.rv_text.specs.Registers.{x_name}
+use Rattle.rv_text.specs.declared.keyword.DataWidth.TheVariants.{Word}
+use Rattle.rv_text.specs.declared.mnemonic.Mnemonic.TheVariants.{Op, OpImm, Load, Store, Branch}
+use Rattle.rv_text.specs.private.Numbers.{IsInReach}
+use Rattle.rv_word.specs.declared.instr.Cond.TheVariants.{Beq}
+use Rattle.rv_word.specs.declared.instr.ImmOp.TheVariants.{Addi}
+use Rattle.rv_word.specs.declared.instr.LoadKind.TheVariants.{Lb}
+use Rattle.rv_word.specs.declared.instr.RegOp.TheVariants.{Add}
+use Rattle.rv_word.specs.declared.instr.StoreWidth.TheVariants.{Sb}
+use Rattle.std.proofs.lemmas.Fmt.{decimal_is_IsNumeral, digits_is_IsNumeral}
+use Rattle.std.specs.Char.{is_ascii_digit}
+use Rattle.std.specs.Fmt.{decimal, signed_decimal, digits}
 use Rattle.rv_text.specs.declared.keyword.Keyword.TheVariants as keyword
 use Rattle.rv_text.specs.declared.keyword.Directive.TheVariants.{Sandbox}
 use Rattle.rv_text.proofs.Lexing.{Passes, all_by, numeral_passes}

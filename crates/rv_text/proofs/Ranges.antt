@@ -1,5 +1,6 @@
 -- An instruction is in range where its operands fit its form.
-use Rattle.rv_text.proofs.Prelude.{ℕ, ◌<◌, ◌^◌, Bool, true, false, arith, rules, ℤ, pos, MatchBool, if◌then◌else◌, ints, Instr, is_shift, IsBetween, IsImm12, Immediate, ShiftAmount, IsNumberOf, form_of, AllSuit, mnemonic_of, operands_of, full_fence}
+use Rattle.rv_text.proofs.Prelude.{ℕ, ◌<◌, ◌^◌, Bool, true, false, arith, rules, ℤ, pos, MatchBool, if◌then◌else◌, ints, Instr, IsBetween, IsImm12, Immediate, ShiftAmount, IsNumberOf, form_of, AllSuit, mnemonic_of, operands_of, full_fence}
+use Rattle.rv_word.specs.Functs.{is_shift}
 use Rattle.rv_word.specs.declared.instr.Instr.TheVariants as instr
 use Rattle.rv_word.specs.Spelling.{InRange}
 

@@ -1,9 +1,11 @@
 -- The table of the names of registers has just those that the definitions give.
-use Rattle.rv_text.proofs.Prelude.{◌≡◌, ℕ, ◌+◌, ◌*◌, ◌%◌, ◌<◌, Bool, true, ◌&&◌, ◌||◌, List, [], ◌∷◌, map, get_or, slice_index, slice_index_or, length, zero, suc, ◌⊎◌, inl, inr, ⊎_elim, refl, sym, ap, ◌∙◌, subst, subst₂, arith, zero-add, Some, bytes_eq, nat_lt, codes, ◌==◌, list_all, range_with_len, bytes_eq-Decides, length-range_with_len, get_or-range_with_len, AllPass-from_list_all, get_or_from_slice_get, slice_get-get_or, and_parts, ltb-true, eqb-true, or_cases, abi_names, x_name, IsRegister, register_names, name_at, register_at}
+use Rattle.rv_text.proofs.Prelude.{◌≡◌, ℕ, ◌+◌, ◌*◌, ◌%◌, ◌<◌, Bool, true, ◌&&◌, ◌||◌, List, [], ◌∷◌, map, get_or, slice_index, slice_index_or, length, zero, suc, ◌⊎◌, inl, inr, ⊎_elim, refl, sym, ap, ◌∙◌, subst, subst₂, arith, zero-add, Some, bytes_eq, nat_lt, codes, ◌==◌, list_all, range_with_len, bytes_eq-Decides, AllPass-from_list_all, get_or_from_slice_get, slice_get-get_or, and_parts, ltb-true, eqb-true, or_cases}
+use Rattle.rv_text.specs.Registers.{abi_names, x_name, IsRegister}
+use Rattle.std.proofs.lemmas.List.FromFn.{length-range_with_len, get_or-range_with_len}
 use Rattle.std.specs.Fmt.{digits}
 use Rattle.rv_text.proofs.Decided.{decided_same}
 use Rattle.rv_text.specs.declared.register.TheConstants.{PLACES}
-use Rattle.rv_text.specs.private.Lookup.{hash, name_place}
+use Rattle.rv_text.specs.private.Lookup.{hash, name_place, register_names, name_at, register_at}
 
 -- a test that passes at each number below a bound by computation
 pub below : (n : ℕ) (test : ℕ → Bool) → list_all test (range_with_len 0 n) ≡ true → (r : ℕ) → r < n → test r ≡ true

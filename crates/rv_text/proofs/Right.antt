@@ -1,5 +1,13 @@
 -- What a line states is in range.
-use Rattle.rv_text.proofs.Prelude.{rules, ◌≡◌, ℕ, ◌^◌, ◌<◌, ◌≤◌, Bool, true, false, cond, List, [], ◌∷◌, length, inl, inr, refl, sym, ap, ◌∙◌, subst, arith, ℤ, pos, negsuc, ◌+ℤ◌, unsigned_abs, ◌==◌, All, flat_map, ints, All-nil, All-cons, All-append, All-replicate, All-from_recursion, Instr, Addi, Cond, modulo, IsImm12, Mnemonic, Part, Directive, Pseudo, Nop, Li, DataWidth, Word, Half, Byte, Keyword, IsDataSize, IsStraight, Place, name_of, form_of, IsNumberOf, OperandValues, HasForm, AllSuit, mnemonic_of, operands_of, Spells, upper, lower, is_small, add_lower, constant, data_bytes, directive_form, directive_states, pseudo_form, pseudo_states, branch_form, branch_states, jal_form, jal_states, place_of_keyword, IsRow, After, Stated, within, plain, IsRightStatement, place_of_stated}
+use Rattle.rv_text.proofs.Prelude.{rules, ◌≡◌, ℕ, ◌^◌, ◌<◌, ◌≤◌, Bool, true, false, cond, List, [], ◌∷◌, length, inl, inr, refl, sym, ap, ◌∙◌, subst, arith, ℤ, pos, negsuc, ◌+ℤ◌, unsigned_abs, ◌==◌, All, flat_map, ints, Instr, modulo, IsImm12, Mnemonic, Part, Nop, Li, DataWidth, Keyword, IsDataSize, IsStraight, name_of, form_of, IsNumberOf, OperandValues, HasForm, AllSuit, mnemonic_of, operands_of, Spells, is_small, add_lower, constant, data_bytes, directive_form, directive_states, pseudo_form, pseudo_states, branch_form, branch_states, jal_form, jal_states, place_of_keyword, IsRow, After, Stated, within, plain, IsRightStatement, place_of_stated}
+use Rattle.rv_source.specs.Halves.{upper, lower}
+use Rattle.rv_text.specs.declared.keyword.DataWidth.TheVariants.{Word, Half, Byte}
+use Rattle.rv_text.specs.declared.keyword.Directive.{Directive}
+use Rattle.rv_text.specs.declared.keyword.Pseudo.{Pseudo}
+use Rattle.rv_text.specs.declared.statement.Place.{Place}
+use Rattle.rv_word.specs.declared.instr.Cond.{Cond}
+use Rattle.rv_word.specs.declared.instr.ImmOp.TheVariants.{Addi}
+use Rattle.std.proofs.lemmas.List.Elements.{All-nil, All-cons, All-append, All-replicate, All-from_recursion}
 use Rattle.sfi_policy.specs.Limits.{service_most}
 use Rattle.rv_word.specs.declared.instr.Instr.TheVariants as instr
 use Rattle.rv_word.specs.Spelling.{InRange}

@@ -1,5 +1,6 @@
 -- A printed instruction reads back, part by part.
-use Rattle.rv_text.proofs.Prelude.{◌≡◌, ℕ, Bool, true, false, nat_lt, ◌&&◌, ◌||◌, List, [], ◌∷◌, ◌++◌, inl, inr, refl, sym, subst, codes, flat_map, and_parts, append-nil, Instr, InRange, Mnemonic, Part, Rd, Rs1, Rs2, Number, Name, Mode, Comma, Open, Close, IsBlank, IsToken, Takes, name_of, form_of, OperandValues, Stands, mode_name, Reads, AllSuit, slot, mnemonic_of, operands_of, Means, part_text, operands_text, printed, PrintedReadsBack}
+use Rattle.rv_text.proofs.Prelude.{◌≡◌, ℕ, Bool, true, false, nat_lt, ◌&&◌, ◌||◌, List, [], ◌∷◌, ◌++◌, inl, inr, refl, sym, subst, codes, flat_map, and_parts, Instr, InRange, Mnemonic, Part, Rd, Rs1, Rs2, Number, Name, Mode, Comma, Open, Close, IsBlank, IsToken, Takes, name_of, form_of, OperandValues, Stands, mode_name, Reads, AllSuit, slot, mnemonic_of, operands_of, Means, part_text, operands_text, printed, PrintedReadsBack}
+use Rattle.std.proofs.lemmas.List.{append-nil}
 use Rattle.rv_text.specs.declared.mnemonic.Mnemonic.TheVariants as mnemonic
 use Rattle.rv_text.proofs.Ranges.{in_range_fits}
 use Rattle.rv_text.proofs.Meaning.{means}

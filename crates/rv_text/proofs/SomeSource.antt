@@ -1,5 +1,9 @@
 -- A text means an instruction or is refused; a text means a source or has a fault.
-use Rattle.rv_text.proofs.Prelude.{◌≡◌, ℕ, zero, suc, ◌+◌, ◌≤◌, Bool, List, [], ◌∷◌, ◌++◌, length, ◌⊎◌, inl, inr, refl, sym, ◌∙◌, subst, arith, Option, Some, None, codes, IsSomeAnd, cases_lt, cases_eq, same_Some, none-some, Sfi1, Sfi2, Named, Unknown, meaning, TextCause, TextFault, Keyword, Mnemonic, Place, Takes, name_of, keyword_name, place_of_keyword, Stated, StatedWithin, format, sandbox, within, gate, compressed, data_part, IsRightStatement, place_within, place_of_stated, Begun, SoFar, nothing, sandboxes, begin, format_or_sfi1, with_label, IsFree, Labels, RefusesLabel, MayCome, Fits, with_stated, Does, HasNoRoom, BeginsWithName, BeginsWithLabel, HasNoLabel, LabelsLead, PassesLabels, IsTaken, IsGateTwice, LeadsAfter, RestLeads, Leads, LabelRefused, RefusedAfter, StatementRefused, LineRefused, most_bytes, lines, uncommented, LinesLead, FirstRefused, first_line, SomeMeaning, SomeSource}
+use Rattle.rv_text.proofs.Prelude.{◌≡◌, ℕ, zero, suc, ◌+◌, ◌≤◌, Bool, List, [], ◌∷◌, ◌++◌, length, ◌⊎◌, inl, inr, refl, sym, ◌∙◌, subst, arith, Option, Some, None, codes, cases_lt, cases_eq, same_Some, none-some, Named, Unknown, meaning, TextCause, Keyword, Mnemonic, Takes, name_of, keyword_name, place_of_keyword, Stated, StatedWithin, format, sandbox, within, gate, compressed, data_part, IsRightStatement, place_within, place_of_stated, Begun, SoFar, nothing, sandboxes, begin, format_or_sfi1, with_label, IsFree, Labels, RefusesLabel, MayCome, Fits, with_stated, Does, HasNoRoom, BeginsWithName, BeginsWithLabel, HasNoLabel, LabelsLead, PassesLabels, IsTaken, IsGateTwice, LeadsAfter, RestLeads, Leads, LabelRefused, RefusedAfter, StatementRefused, LineRefused, most_bytes, lines, uncommented, LinesLead, FirstRefused, first_line, SomeMeaning, SomeSource}
+use Rattle.rv_text.specs.declared.fault.TextFault.{TextFault}
+use Rattle.rv_text.specs.declared.statement.Place.{Place}
+use Rattle.sfi_policy.specs.declared.format.Format.TheVariants.{Sfi1, Sfi2}
+use Rattle.std.specs.Option.{IsSomeAnd}
 use Rattle.rv_text.specs.declared.cause.TextCause.TheVariants as cause
 use Rattle.rv_text.specs.declared.keyword.Directive.TheVariants as directive
 use Rattle.rv_text.specs.declared.keyword.Keyword.TheVariants as keyword

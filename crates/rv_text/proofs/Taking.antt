@@ -1,5 +1,9 @@
 -- The first token of a text is what the lexer computes, and so is what follows it.
-use Rattle.rv_text.proofs.Prelude.{◌≡◌, ℕ, ◌<◌, false, List, [], ◌∷◌, ◌++◌, length, take, drop, refl, sym, ap, ◌∙◌, subst, arith, take-append-drop, length-append, length-take-le, length-drop, take_all, prefix_len, drop_of_length-le, take-append_seam, drop-append_seam, length-prefix_len, is_space, IsBlank, IsToken, Takes, IsStuck, IsUtf8, IsCharBoundary}
+use Rattle.rv_text.proofs.Prelude.{◌≡◌, ℕ, ◌<◌, false, List, [], ◌∷◌, ◌++◌, length, take, drop, refl, sym, ap, ◌∙◌, subst, arith, take-append-drop, length-append, length-take-le, length-drop, take_all, prefix_len, is_space, IsBlank, IsToken, Takes, IsStuck}
+use Rattle.std.proofs.Math.ListN.{drop_of_length-le}
+use Rattle.std.proofs.Math.Seq.{take-append_seam, drop-append_seam}
+use Rattle.std.proofs.lemmas.List.Folds.{length-prefix_len}
+use Rattle.std.specs.Str.{IsUtf8, IsCharBoundary}
 use Rattle.rv_text.specs.private.Scan.{body_of, token_len}
 use Rattle.rv_text.proofs.Lexing.{front_passes, token_within, token_found, token_begins, token_len-le, cut_after_ascii, blank_ascii, token_ascii}
 

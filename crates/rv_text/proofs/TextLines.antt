@@ -1,5 +1,10 @@
 -- Reading a text line by line.
-use Rattle.rv_text.proofs.Prelude.{◌≡◌, sym, ap, subst, ◌∙◌, ℕ, ◌⊎◌, inl, inr, List, [], ◌∷◌, length, length-append, ◌==◌, Option, None, Some, Bor, Result, Ok, Err, IfOk, IfErr, arith, MatchOption, MatchResult, before_first, after_first, fails_before_first, split_at_first, slice_split_none, slice_split_first, IsSplitOnceResult, split_once_first, TextCause, Sandbox, TextFault, memory, SoFar, LineRefused, lines, uncommented, LinesLead, LineFault, FirstRefused, MeansSource, IsFault, BeginsWithLine}
+use Rattle.rv_text.proofs.Prelude.{◌≡◌, sym, ap, subst, ◌∙◌, ℕ, ◌⊎◌, inl, inr, List, [], ◌∷◌, length, length-append, ◌==◌, Option, None, Some, Bor, Result, Ok, Err, IfOk, IfErr, arith, MatchOption, MatchResult, before_first, after_first, fails_before_first, split_at_first, TextCause, Sandbox, SoFar, LineRefused, lines, uncommented, LinesLead, LineFault, FirstRefused, MeansSource, IsFault}
+use Rattle.rv_text.specs.Causes.{memory}
+use Rattle.rv_text.specs.declared.fault.TextFault.{TextFault}
+use Rattle.rv_text.specs.private.Texts.{BeginsWithLine}
+use Rattle.std.proofs.lemmas.List.Splits.{slice_split_none, slice_split_first}
+use Rattle.std.proofs.lemmas.Str.Pattern.{IsSplitOnceResult, split_once_first}
 use Rattle.rv_text.specs.declared.cause.TextCause.TheVariants as cause
 use Rattle.rv_text.proofs.OneSource.{one_source, one_fault, meant_has_no_fault}
 

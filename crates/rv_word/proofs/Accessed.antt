@@ -1,5 +1,9 @@
 -- What was told to load or store does, and nothing else.
-use Rattle.rv_word.proofs.Prelude.{◌≡◌, ℕ, ◌+◌, ◌*◌, ◌^◌, ◌<◌, Bool, true, false, ◌&&◌, ◌==◌, Some, None, refl, sym, ap, ◌∙◌, subst, inl, inr, arith, eqb-true, ◌||◌, not, nat_lt, if◌then◌else◌, and_parts, cases_eq, ltb-true, Access, Parts, LoadKind, Lb, Lh, Lw, Lbu, Lhu, StoreWidth, Sb, Sh, Sw, Instr, Load, Store, bits, load_funct3, store_funct3, access, IsAccessOf, spelling, InRange, IsWordOf, word_of, Fits, is_access}
+use Rattle.rv_word.proofs.Prelude.{◌≡◌, ℕ, ◌+◌, ◌*◌, ◌^◌, ◌<◌, Bool, true, false, ◌&&◌, ◌==◌, Some, None, refl, sym, ap, ◌∙◌, subst, inl, inr, arith, eqb-true, ◌||◌, not, nat_lt, if◌then◌else◌, and_parts, cases_eq, ltb-true, Parts, LoadKind, StoreWidth, Instr, Load, Store, bits, load_funct3, store_funct3, spelling, InRange, IsWordOf, word_of, Fits, is_access}
+use Rattle.rv_word.specs.Accesses.{access, IsAccessOf}
+use Rattle.rv_word.specs.declared.access.Access.{Access}
+use Rattle.rv_word.specs.declared.instr.LoadKind.TheVariants.{Lb, Lh, Lw, Lbu, Lhu}
+use Rattle.rv_word.specs.declared.instr.StoreWidth.TheVariants.{Sb, Sh, Sw}
 use Rattle.rv_word.proofs.Cut.{cut, cut_is}
 use Rattle.rv_word.proofs.OneSpelling.{one_spelling}
 use Rattle.rv_word.proofs.Tables.{imm12_of}

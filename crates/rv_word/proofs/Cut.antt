@@ -1,5 +1,11 @@
 -- The word that spells an instruction, cut at the borders of the R format.
-use Rattle.rv_word.proofs.Prelude.{◌≡◌, ℕ, ◌+◌, ◌*◌, ◌<◌, ◌/◌, ◌%◌, ℤ, pos, negsuc, arith, refl, sym, ap, ◌∙◌, Parts, RegOp, Add, ImmOp, Addi, Slti, Sltiu, Xori, Ori, Andi, Slli, Srli, Srai, LoadKind, Lb, Lh, Lw, Lbu, Lhu, StoreWidth, Sb, Sh, Sw, Cond, Beq, Bne, Blt, Bge, Bltu, Bgeu, Instr, Op, OpImm, Load, Store, Branch, Jal, Jalr, Lui, Auipc, Fence, Ecall, Ebreak, modulo, bits, r_format, op_funct3, op_funct7, imm_funct3, load_funct3, store_funct3, cond_funct3, spelling, InRange, IsWordOf, word_of, Fits}
+use Rattle.rv_word.proofs.Prelude.{◌≡◌, ℕ, ◌+◌, ◌*◌, ◌<◌, ◌/◌, ◌%◌, ℤ, pos, negsuc, arith, refl, sym, ap, ◌∙◌, Parts, RegOp, ImmOp, Addi, Slti, Sltiu, Xori, Ori, Andi, Slli, Srli, Srai, LoadKind, StoreWidth, Instr, Op, OpImm, Load, Store, Branch, Jal, Jalr, Lui, Auipc, Fence, Ecall, Ebreak, modulo, bits, op_funct3, op_funct7, imm_funct3, load_funct3, store_funct3, cond_funct3, spelling, InRange, IsWordOf, word_of, Fits}
+use Rattle.rv_word.specs.Formats.{r_format}
+use Rattle.rv_word.specs.declared.instr.Cond.{Cond}
+use Rattle.rv_word.specs.declared.instr.Cond.TheVariants.{Beq, Bne, Blt, Bge, Bltu, Bgeu}
+use Rattle.rv_word.specs.declared.instr.LoadKind.TheVariants.{Lb, Lh, Lw, Lbu, Lhu}
+use Rattle.rv_word.specs.declared.instr.RegOp.TheVariants.{Add}
+use Rattle.rv_word.specs.declared.instr.StoreWidth.TheVariants.{Sb, Sh, Sw}
 
 -- the parts of a word are determined by it
 same_parts : (a7 a2 a1 a3 ad ao b7 b2 b1 b3 bd bo : ℕ) →

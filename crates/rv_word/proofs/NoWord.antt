@@ -1,5 +1,6 @@
 -- Words that spell no instruction.
-use Rattle.rv_word.proofs.Prelude.{◌≡◌, ℕ, ℤ, arith, refl, sym, ap, ◌≢◌, true, false, Option, Some, None, IfNone, Parts, RegOp, ImmOp, Slli, Srli, Srai, LoadKind, StoreWidth, Cond, Op, OpImm, Load, Store, Branch, Jal, Jalr, Lui, Auipc, Fence, Ecall, Ebreak, op_funct3, op_funct7, imm_funct3, is_shift, shift_funct7, load_funct3, store_funct3, cond_funct3, word_of, Fits, SpellsNone}
+use Rattle.rv_word.proofs.Prelude.{◌≡◌, ℕ, ℤ, arith, refl, sym, ap, ◌≢◌, true, false, Option, Some, None, IfNone, Parts, RegOp, ImmOp, Slli, Srli, Srai, LoadKind, StoreWidth, Op, OpImm, Load, Store, Branch, Jal, Jalr, Lui, Auipc, Fence, Ecall, Ebreak, op_funct3, op_funct7, imm_funct3, is_shift, shift_funct7, load_funct3, store_funct3, cond_funct3, word_of, Fits, SpellsNone}
+use Rattle.rv_word.specs.declared.instr.Cond.{Cond}
 use Rattle.rv_word.proofs.Cut.{parts, cut, imm_cut, cut_is, opcode_of, opcode_is}
 
 -- the fields of two equal cuts are equal

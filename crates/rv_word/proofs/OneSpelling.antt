@@ -1,5 +1,12 @@
 -- No two instructions have one spelling: read is the way back from the parts.
-use Rattle.rv_word.proofs.Prelude.{◌≡◌, ℕ, ◌+◌, ◌-◌, ◌*◌, ◌/◌, ◌%◌, ℤ, pos, negsuc, arith, refl, sym, ap, ◌∙◌, Option, Some, None, nat_lt, List, [], ◌∷◌, ◌==◌, ◌&&◌, if◌then◌else◌, option_map, Parts, RegOp, Add, Sub, Sll, Slt, Sltu, Xor, Srl, Sra, Or, And, Mul, Mulh, Mulhsu, Mulhu, Div, Divu, Rem, Remu, ImmOp, Addi, Slti, Sltiu, Xori, Ori, Andi, Slli, Srli, Srai, LoadKind, Lb, Lh, Lw, Lbu, Lhu, StoreWidth, Sb, Sh, Sw, Cond, Beq, Bne, Blt, Bge, Bltu, Bgeu, Instr, Op, OpImm, Load, Store, Branch, Jal, Jalr, Lui, Auipc, Fence, Ecall, Ebreak, modulo, bits, minus, IsBetween, IsEven, op_funct3, op_funct7, imm_funct3, load_funct3, store_funct3, cond_funct3, spelling, InRange, IsImm12, IsImmOf, OneSpelling, word_of, find}
+use Rattle.rv_word.proofs.Prelude.{◌≡◌, ℕ, ◌+◌, ◌-◌, ◌*◌, ◌/◌, ◌%◌, ℤ, pos, negsuc, arith, refl, sym, ap, ◌∙◌, Option, Some, None, nat_lt, List, [], ◌∷◌, ◌==◌, ◌&&◌, if◌then◌else◌, Parts, RegOp, ImmOp, Addi, Slti, Sltiu, Xori, Ori, Andi, Slli, Srli, Srai, LoadKind, StoreWidth, Instr, Op, OpImm, Load, Store, Branch, Jal, Jalr, Lui, Auipc, Fence, Ecall, Ebreak, modulo, bits, minus, IsBetween, IsEven, op_funct3, op_funct7, imm_funct3, load_funct3, store_funct3, cond_funct3, spelling, InRange, IsImm12, IsImmOf, OneSpelling, word_of}
+use Rattle.rv_word.specs.declared.instr.Cond.{Cond}
+use Rattle.rv_word.specs.declared.instr.Cond.TheVariants.{Beq, Bne, Blt, Bge, Bltu, Bgeu}
+use Rattle.rv_word.specs.declared.instr.LoadKind.TheVariants.{Lb, Lh, Lw, Lbu, Lhu}
+use Rattle.rv_word.specs.declared.instr.RegOp.TheVariants.{Add, Sub, Sll, Slt, Sltu, Xor, Srl, Sra, Or, And, Mul, Mulh, Mulhsu, Mulhu, Div, Divu, Rem, Remu}
+use Rattle.rv_word.specs.declared.instr.StoreWidth.TheVariants.{Sb, Sh, Sw}
+use Rattle.std.specs.List.{find}
+use Rattle.std.specs.Option.{option_map}
 use Rattle.rv_word.proofs.Cut.{parts, cut, imm_cut, cut_fits, cut_sum, cut_is}
 
 -- the number whose two's complement is n, where half is the least n that stands for a negative number

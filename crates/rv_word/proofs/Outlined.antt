@@ -1,5 +1,8 @@
 -- What was decoded, as its outline.
-use Rattle.rv_word.proofs.Prelude.{◌≡◌, ℕ, Option, Some, None, IfSome, IfNone, subst, refl, sym, ap, ◌∙◌, option_map, Instr, Outline, outline, IsWordThat, SpellsNone, IsWordOf}
+use Rattle.rv_word.proofs.Prelude.{◌≡◌, ℕ, Option, Some, None, IfSome, IfNone, subst, refl, sym, ap, ◌∙◌, Instr, SpellsNone, IsWordOf}
+use Rattle.rv_word.specs.Outlines.{outline, IsWordThat}
+use Rattle.rv_word.specs.declared.outline.Outline.{Outline}
+use Rattle.std.specs.Option.{option_map}
 
 mapped_found : (word : ℕ) (o : Option Instr) → IfSome o (IsWordOf word) → IfSome (option_map outline o) (IsWordThat word)
 mapped_found word (Some i) is = record { instr = i; spelled = is; does = refl }

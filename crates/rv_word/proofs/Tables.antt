@@ -1,5 +1,12 @@
 -- The tables of what computes, seen right at each opcode, funct3 and funct7.
-use Rattle.rv_word.proofs.Prelude.{◌≡◌, ℕ, ◌+◌, ◌-◌, ◌*◌, ◌/◌, ◌%◌, ◌<◌, ◌^◌, Bool, true, false, ◌&&◌, ◌==◌, ℤ, pos, negsuc, refl, sym, ap, ◌∙◌, subst, inl, inr, arith, eqb-true, eq-eqb, Option, Some, None, bit_and, slice_index, not, if◌then◌else◌, OnTrue, agree_below, agree_below_at, and_parts, cases_lt, ints, and_mask, Parts, COMPUTING, CLASSES, RegOp, Add, ImmOp, Addi, Instr, Op, OpImm, Lui, Auipc, Computes, modulo, bits, op_funct3, op_funct7, imm_funct3, is_shift, shift_funct7, outline, IsWordThat, spelling, InRange, IsWordOf, IsImm12, word_of, Fits}
+use Rattle.rv_word.proofs.Prelude.{◌≡◌, ℕ, ◌+◌, ◌-◌, ◌*◌, ◌/◌, ◌%◌, ◌<◌, ◌^◌, Bool, true, false, ◌&&◌, ◌==◌, ℤ, pos, negsuc, refl, sym, ap, ◌∙◌, subst, inl, inr, arith, eqb-true, eq-eqb, Option, Some, None, bit_and, slice_index, not, if◌then◌else◌, agree_below, agree_below_at, and_parts, cases_lt, Parts, RegOp, ImmOp, Addi, Instr, Op, OpImm, Lui, Auipc, modulo, bits, op_funct3, op_funct7, imm_funct3, is_shift, shift_funct7, spelling, InRange, IsWordOf, IsImm12, word_of, Fits}
+use Rattle.rv_word.specs.Outlines.{outline, IsWordThat}
+use Rattle.rv_word.specs.declared.computing.TheConstants.{COMPUTING, CLASSES}
+use Rattle.rv_word.specs.declared.instr.RegOp.TheVariants.{Add}
+use Rattle.rv_word.specs.declared.outline.Outline.TheVariants.{Computes}
+use Rattle.std.proofs.lemmas.Int.{ints}
+use Rattle.std.proofs.lemmas.Nat.{and_mask}
+use Rattle.std.specs.Bool.{OnTrue}
 use Rattle.rv_word.proofs.Cut.{cut, imm_cut, cut_is}
 use Rattle.rv_word.proofs.OneSpelling.{op_at, imm_op_at, shift_at}
 

@@ -1,5 +1,7 @@
 -- Fields that an `|` puts side by side are added.
-use Rattle.rv_word.proofs.Prelude.{◌≡◌, ℕ, ◌+◌, ◌*◌, ◌^◌, ◌<◌, ◌≤◌, ◌%◌, arith, bit_or, bit_and, ◌∙◌, refl, or_shifted, and_mask, shl_whole, r_format, u_format}
+use Rattle.std.proofs.Common.{◌≡◌, ℕ, ◌+◌, ◌*◌, ◌^◌, ◌<◌, ◌≤◌, ◌%◌, arith, bit_or, bit_and, ◌∙◌, refl}
+use Rattle.rv_word.specs.Formats.{r_format, u_format}
+use Rattle.std.proofs.lemmas.Nat.{or_shifted, and_mask, shl_whole}
 
 -- high | low, where low has k bits and high none of them
 or_above : (high low k m whole : ℕ) → high ≡ m * 2 ^ k → low < 2 ^ k → m * 2 ^ k + low ≡ whole → bit_or high low ≡ whole

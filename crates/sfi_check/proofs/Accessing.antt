@@ -1,5 +1,10 @@
 -- Where an access through a register that points into the data falls, and which registers a write leaves alone.
-use Rattle.sfi_check.proofs.Prelude.{◌≡◌, ◌≢◌, ℕ, suc, ◌+◌, ◌-◌, ◌%◌, ◌^◌, ◌<◌, ◌≤◌, ◌⊎◌, List, length, get_or, set, false, ◌||◌, ◌==◌, refl, sym, ◌∙◌, subst, inl, inr, ⊎_elim, arith, ℤ, pos, negsuc, ◌+ℤ◌, slice_index, Contains, range_with_len, ints, cases_lt, or_parts, eqb-false, cond_both, get_or-set_other, length-set, length-map, length-range_with_len, get_or-map-range_with_len, offset_by, Load, Store, LoadKind, Lb, Lh, Lw, Lbu, Lhu, StoreWidth, Sb, Sh, Sw, InRange, IsImm12, address_after, addresses, Hart, with_register, word, load_size, store_size, Part, IsRightPart, is_reserved, InData, InGuard, HasReserved}
+use Rattle.sfi_check.proofs.Prelude.{◌≡◌, ◌≢◌, ℕ, suc, ◌+◌, ◌-◌, ◌%◌, ◌^◌, ◌<◌, ◌≤◌, ◌⊎◌, List, length, get_or, set, false, ◌||◌, ◌==◌, refl, sym, ◌∙◌, subst, inl, inr, ⊎_elim, arith, ℤ, pos, negsuc, ◌+ℤ◌, slice_index, Contains, range_with_len, ints, cases_lt, or_parts, eqb-false, cond_both, get_or-set_other, length-set, length-map, offset_by, Load, Store, Sb, Sh, Sw, InRange, IsImm12, address_after, addresses, Hart, with_register, word, load_size, store_size, Part, IsRightPart, InData, InGuard, HasReserved}
+use Rattle.rv_word.specs.declared.instr.LoadKind.{LoadKind}
+use Rattle.rv_word.specs.declared.instr.LoadKind.TheVariants.{Lb, Lh, Lw, Lbu, Lhu}
+use Rattle.rv_word.specs.declared.instr.StoreWidth.{StoreWidth}
+use Rattle.sfi_policy.specs.Registers.{is_reserved}
+use Rattle.std.proofs.lemmas.List.FromFn.{length-range_with_len, get_or-map-range_with_len}
 
 -- ---- sums
 

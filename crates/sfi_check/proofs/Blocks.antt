@@ -1,5 +1,8 @@
 -- A block of plain bundles: its findings, and the tally with them.
-use Rattle.sfi_check.proofs.Prelude.{◌≡◌, ℕ, zero, suc, ◌+◌, ◌*◌, ◌<◌, ◌≤◌, Bool, true, false, List, [], ◌++◌, length, get_or, take, drop, refl, sym, ap, ◌∙◌, subst, arith, append_assoc, inr, slice_get, first_chunks, length-append, length-take, length-drop, drop-drop, append-nil, take_all, Gate, Fields, is_gate_of, Front, ArePlain, Follows, Empty, AfterMagic, AfterCount, InGates, InCode, InInit, Whole, ReaderState, StandsFor, Leads, left, BundlePlace, Finding, is_in, block_bundle, bundle_at, AreBundleFindings, AreReadingFindings, Tally, AddsFindings, AreFindingsOfPlain, AreFindingsSoFar, IsPlainFrom, IsSoFar, Tallies, findings_most}
+use Rattle.sfi_check.proofs.Prelude.{◌≡◌, ℕ, zero, suc, ◌+◌, ◌*◌, ◌<◌, ◌≤◌, Bool, true, false, List, [], ◌++◌, length, get_or, take, drop, refl, sym, ap, ◌∙◌, subst, arith, append_assoc, inr, slice_get, length-append, length-take, length-drop, drop-drop, append-nil, take_all, Gate, is_gate_of, Front, ArePlain, Follows, Empty, AfterMagic, AfterCount, InGates, InCode, InInit, Whole, ReaderState, StandsFor, Leads, left, BundlePlace, Finding, block_bundle, bundle_at, AreBundleFindings, AreReadingFindings, Tally, AddsFindings, AreFindingsOfPlain, AreFindingsSoFar, IsPlainFrom, IsSoFar, Tallies, findings_most}
+use Rattle.sfi_image.specs.declared.fields.Fields.{Fields}
+use Rattle.sfi_masks.specs.Masks.{is_in}
+use Rattle.std.specs.Simd.{first_chunks}
 use Rattle.sfi_check.proofs.Tallying.{Adds, bundle_more, same_place, code_tallies}
 use Rattle.sfi_check.proofs.Leading.{joined, take_on}
 

@@ -1,5 +1,6 @@
 -- Accepted code calls with its stack pointer in the data region.
-use Rattle.sfi_check.proofs.Prelude.{◌≡◌, ℕ, zero, suc, ◌+◌, List, [], ◌∷◌, Option, Some, None, refl, sym, ap, ◌∙◌, subst, arith, All, Ecall, State, Stands, Part, AreRight, Finding, AreFindings, AreFindingsFrom, StackInData, Turn, IsRun, after_turn, after_turns, CallsWithStack, AllCallWithStack, IsCleanPart, IsGood, IsGoodIf, CleanCallsWithStack, GoesOnSafely, IsClean}
+use Rattle.sfi_check.proofs.Prelude.{◌≡◌, ℕ, zero, suc, ◌+◌, List, [], ◌∷◌, Option, Some, None, refl, sym, ap, ◌∙◌, subst, arith, All, Ecall, State, Stands, Part, AreRight, Finding, AreFindings, AreFindingsFrom, StackInData, Turn, IsRun, after_turn, IsCleanPart, IsGood, IsGoodIf, CleanCallsWithStack, GoesOnSafely, IsClean}
+use Rattle.sfi_check.specs.Stack.{after_turns, CallsWithStack, AllCallWithStack}
 use Rattle.sfi_check.proofs.Places.{nothing_before, present}
 use Rattle.sfi_check.proofs.Stacking.{is_of_pair, stack_here}
 use Rattle.sfi_check.proofs.Safe.{stays_safe, first_apart, others_right}

@@ -1,5 +1,7 @@
 -- Reads one after another.
-use Rattle.sfi_check.proofs.Prelude.{◌≡◌, ℕ, ◌<◌, ◌≤◌, Bool, true, false, cond, List, [], ◌∷◌, ◌++◌, length, Option, Some, None, refl, sym, ap, ◌∙◌, subst, arith, append_assoc, ◌||◌, lt-ltb, append-nil, All-push, OneRead, IsChain, is_end, bytes_handed_out, finds_end, Streams}
+use Rattle.sfi_check.proofs.Prelude.{◌≡◌, ℕ, ◌<◌, ◌≤◌, Bool, true, false, cond, List, [], ◌∷◌, ◌++◌, length, Option, Some, None, refl, sym, ap, ◌∙◌, subst, arith, append_assoc, ◌||◌, lt-ltb, append-nil}
+use Rattle.sfi_image.specs.Sources.{OneRead, IsChain, is_end, bytes_handed_out, finds_end, Streams}
+use Rattle.std.proofs.lemmas.List.Elements.{All-push}
 use Rattle.sfi_image.specs.Sources.{bytes_of}
 
 module _ {S : Type 0} (reads : S → ℕ → Option (List ℕ) → S → Type 0) where

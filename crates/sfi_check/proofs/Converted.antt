@@ -1,5 +1,16 @@
 -- What a refusal is to a conversion, and which format an image begins with.
-use Rattle.sfi_check.proofs.Prelude.{◌≡◌, ℕ, List, [], ◌∷◌, ◌++◌, take, get_or, refl, sym, ap, ◌∙◌, subst, arith, Result, Ok, Err, Vec, IfOk, IfErr, IsErrAnd, Global, Format, Sfi1, Sfi2, magic, LayoutFault, IsFault, SandboxPart, Part, view, views, format_of, all_in_format, Finding, Refusal, Layout, Findings, Memory, IfLayoutFault, IfFindings, IsAccepted, HasFindings, ConvertFault, Refused, NotOld, Stack, IsSecond, IsConversion, IsConvertFault, fault_of, AnswersLayout, AnswersFindings, IsStackOf, Converts}
+use Rattle.sfi_check.proofs.Prelude.{◌≡◌, ℕ, List, [], ◌∷◌, ◌++◌, take, get_or, refl, sym, ap, ◌∙◌, subst, arith, Result, Ok, Err, Vec, IfOk, IfErr, Format, Sfi1, Sfi2, magic, IsFault, SandboxPart, Part, view, views, format_of, Finding, IsAccepted, HasFindings}
+use Rattle.sfi_check.specs.Converting.{IsSecond, IsConversion, IsConvertFault, fault_of, AnswersLayout, AnswersFindings}
+use Rattle.sfi_check.specs.Refusals.{IfLayoutFault, IfFindings}
+use Rattle.sfi_check.specs.declared.conversion.ConvertFault.{ConvertFault}
+use Rattle.sfi_check.specs.declared.conversion.ConvertFault.TheVariants.{Refused, NotOld, Stack}
+use Rattle.sfi_check.specs.declared.refusal.Refusal.{Refusal}
+use Rattle.sfi_check.specs.declared.refusal.Refusal.TheVariants.{Layout, Findings, Memory}
+use Rattle.sfi_check.specs.private.Converting.{IsStackOf, Converts}
+use Rattle.sfi_image.specs.InFormat.{all_in_format}
+use Rattle.sfi_image.specs.declared.fault.LayoutFault.{LayoutFault}
+use Rattle.std.specs.Global.{Global}
+use Rattle.std.specs.Result.{IsErrAnd}
 use Rattle.sfi_image.specs.Spelling.{spelling}
 use Rattle.sfi_check.specs.Verdict as verdict
 use Rattle.sfi_check.specs.declared.conversion.ConvertFault.TheVariants as convert

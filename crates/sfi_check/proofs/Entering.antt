@@ -1,5 +1,8 @@
 -- A sandbox with a right layout can be entered.
-use Rattle.sfi_check.proofs.Prelude.{◌≡◌, ◌≢◌, ℕ, zero, suc, ◌+◌, ◌-◌, ◌^◌, ◌<◌, ◌≤◌, ◌==◌, ◌⊎◌, Bool, true, false, cond, List, [], ◌∷◌, length, Option, Some, None, inl, inr, refl, sym, ap, subst, ◌∙◌, arith, slice_index, nat_cmp_total, unsigned_tied, nat_cmp, empty, get-empty, insert, get-insert, Bytes, IsMemory, byte_at, Part, AreApart, code_region, guarded_region, IsRightPart, Hart, IsHart, IsBundleStart, InGuard, HasReserved, StackInData, IsEntry, CanBeEntered}
+use Rattle.sfi_check.proofs.Prelude.{◌≡◌, ◌≢◌, ℕ, zero, suc, ◌+◌, ◌-◌, ◌^◌, ◌<◌, ◌≤◌, ◌==◌, ◌⊎◌, Bool, true, false, cond, List, [], ◌∷◌, length, Option, Some, None, inl, inr, refl, sym, ap, subst, ◌∙◌, arith, slice_index, Bytes, IsMemory, byte_at, Part, AreApart, code_region, guarded_region, IsRightPart, Hart, IsHart, IsBundleStart, InGuard, HasReserved, StackInData, IsEntry, CanBeEntered}
+use Rattle.std.specs.Cmp.{nat_cmp_total, unsigned_tied}
+use Rattle.std.specs.FinMap.{empty, get-empty, insert, get-insert}
+use Rattle.std.specs.Ordering.{nat_cmp}
 use Rattle.sfi_image.proofs.Facts.{code_ends}
 
 -- bytes from an address on, and nothing else

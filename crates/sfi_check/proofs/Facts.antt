@@ -1,5 +1,6 @@
 -- What holds of every sandbox without a finding, and of every verdict: the laws, for proofs here and in the crates above.
-use Rattle.sfi_check.proofs.Prelude.{InstructionLeaves, TurnKeeps, EntryIsGood, CanBeEntered, CleanRunsSafely, SafeTurns, SafeStaysSafe, SafeFetches, CleanCallsWithStack, GoesOnSafely, OneListOfFindings, NeverAcceptedWithFindings, VerdictIsOnAll, OneVerdict, StreamSaysSame}
+use Rattle.sfi_check.specs.Laws.{InstructionLeaves, TurnKeeps, EntryIsGood, CanBeEntered, CleanRunsSafely, SafeTurns, SafeStaysSafe, SafeFetches, CleanCallsWithStack, GoesOnSafely}
+use Rattle.sfi_check.specs.OneVerdict.{OneListOfFindings, NeverAcceptedWithFindings, VerdictIsOnAll, OneVerdict, StreamSaysSame}
 use Rattle.sfi_check.proofs.Calling.{clean_calls, goes_on}
 use Rattle.sfi_check.proofs.Entering.{entered}
 use Rattle.sfi_check.proofs.OneVerdict as verdicts

@@ -1,5 +1,7 @@
 -- What a feed holds.
-use Rattle.sfi_check.proofs.Prelude.{◌≡◌, ◌∙◌, ◌≤◌, ◌+◌, ℕ, List, [], ◌++◌, true, false, refl, Option, None, Some, take, length, sym, ap, subst, arith, inl, inr, append_assoc, is_some, append-nil, length-take, length-append, take-append_seam, Want, IsFault, Front, want_of, IsLess, HasFaultNumberWhateverFollows, Empty, AfterMagic, AfterCount, InGates, InCode, InInit, Whole, ReaderState, StandsFor, Feed, Tally, IsSoFar, IsCut, verdict_of, IsFed, IsFedBy, IsHeld, IsVerdictOn}
+use Rattle.sfi_check.proofs.Prelude.{◌≡◌, ◌∙◌, ◌≤◌, ◌+◌, ℕ, List, [], ◌++◌, true, false, refl, Option, None, Some, take, length, sym, ap, subst, arith, inl, inr, append_assoc, is_some, append-nil, length-take, length-append, take-append_seam, IsFault, Front, want_of, IsLess, HasFaultNumberWhateverFollows, Empty, AfterMagic, AfterCount, InGates, InCode, InInit, Whole, ReaderState, StandsFor, Tally, IsSoFar, IsCut, verdict_of, IsFed, IsFedBy, IsHeld, IsVerdictOn}
+use Rattle.sfi_check.specs.declared.feed.Feed.{Feed}
+use Rattle.sfi_image.specs.declared.want.Want.{Want}
 use Rattle.sfi_image.specs.declared.want.Want.TheVariants as wants
 use Rattle.sfi_image.specs.declared.want.Next.TheVariants as next
 use Rattle.sfi_check.specs.declared.stream_answer.StreamAnswer.TheVariants as answers

@@ -1,5 +1,6 @@
 -- The answer on a stream.
-use Rattle.sfi_check.proofs.Prelude.{◌≡◌, ℕ, ◌<◌, true, false, List, [], ◌∷◌, ◌++◌, length, Option, None, refl, sym, ap, ◌∙◌, subst, arith, append_assoc, inr, slice_get, Part, IsFault, IsImage, Front, front, HasFaultNumberWhateverFollows, Empty, AfterMagic, AfterCount, InGates, InCode, InInit, Whole, ReaderState, StandsFor, left, left_most, Finding, AreImageFindings, StreamAnswer, Tally, Tallies, IsSoFar, IsCut, verdict_by, verdict_of, HasFindings, IsVerdictOn, AreHandedOver}
+use Rattle.sfi_check.proofs.Prelude.{◌≡◌, ℕ, ◌<◌, true, false, List, [], ◌∷◌, ◌++◌, length, Option, None, refl, sym, ap, ◌∙◌, subst, arith, append_assoc, inr, slice_get, Part, IsFault, Front, front, HasFaultNumberWhateverFollows, Empty, AfterMagic, AfterCount, InGates, InCode, InInit, Whole, ReaderState, StandsFor, left, left_most, Finding, AreImageFindings, StreamAnswer, Tally, Tallies, IsSoFar, IsCut, verdict_by, verdict_of, HasFindings, IsVerdictOn, AreHandedOver}
+use Rattle.sfi_image.specs.Images.{IsImage}
 use Rattle.sfi_image.specs.declared.fault.LayoutFault.TheVariants as faults
 use Rattle.sfi_image.specs.declared.want.Next.TheVariants as next
 use Rattle.sfi_check.specs.declared.stream_answer.StreamAnswer.TheVariants as answers

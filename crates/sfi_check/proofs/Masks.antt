@@ -1,5 +1,8 @@
 -- A mask and an or put any number into a region.
-use Rattle.sfi_check.proofs.Prelude.{◌≡◌, ℕ, ◌+◌, ◌-◌, ◌*◌, ◌/◌, ◌%◌, ◌^◌, ◌<◌, ◌≤◌, ap, ◌∙◌, ⊎_elim, arith, bit_and, bit_or, and_mask, or_shifted, or_comm, mod_below, pow_pos, pow-add, pow_below, and_high, cases_lt, Format, Sfi1, Sfi2, code_most, IsRegion}
+use Rattle.sfi_check.proofs.Prelude.{◌≡◌, ℕ, ◌+◌, ◌-◌, ◌*◌, ◌/◌, ◌%◌, ◌^◌, ◌<◌, ◌≤◌, ap, ◌∙◌, ⊎_elim, arith, cases_lt, Format, Sfi1, Sfi2, code_most, IsRegion}
+use Rattle.std.proofs.lemmas.Nat.{and_mask, or_shifted, or_comm, mod_below, pow_pos, pow-add, pow_below}
+use Rattle.std.proofs.lemmas.Nat.Bits.{and_high}
+use Rattle.std.specs.Int.Bits.{bit_and, bit_or}
 
 -- no code region is larger than this
 pub code_at_most : (format : Format) → code_most format ≤ 1048576

@@ -1,5 +1,9 @@
 -- The rules that the samples of instructions break are needed.
-use Rattle.sfi_check.proofs.Prelude.{◌≡◌, ℕ, ◌+◌, ◌*◌, List, [], ◌∷◌, refl, sym, arith, add-zero, pos, filter, ints, And, Or, Addi, Sw, Instr, Op, OpImm, Store, Jal, Jalr, Ecall, Ebreak, minus, InRange, Rule, Sfi1, Sfi2, V3, V4, V5, V6, V7, V10, place_of, bundle_bytes, Piece, rest_of, breaks, is_empty, all_rules, IsGate, Sample, sandbox, words_of, bytes_of, ecall_at_no_gate, written_rd_forgotten, pair_on_x0, pair_across_bundles, jalr_offset_ignored, jump_to_any_start, stack_not_put_back, BreaksAlone, IsNeeded}
+use Rattle.sfi_check.proofs.Prelude.{◌≡◌, ℕ, ◌+◌, ◌*◌, List, [], ◌∷◌, refl, sym, arith, add-zero, pos, filter, ints, And, Or, Sw, Instr, Op, OpImm, Store, Jal, Jalr, Ecall, Ebreak, minus, InRange, Sfi1, Sfi2, place_of, bundle_bytes, Piece, rest_of, breaks, is_empty, all_rules, IsGate, BreaksAlone, IsNeeded}
+use Rattle.rv_word.specs.declared.instr.ImmOp.TheVariants.{Addi}
+use Rattle.sfi_check.specs.Samples.{Sample, sandbox, words_of, bytes_of, ecall_at_no_gate, written_rd_forgotten, pair_on_x0, pair_across_bundles, jalr_offset_ignored, jump_to_any_start, stack_not_put_back}
+use Rattle.sfi_scan.specs.declared.rule.Rule.{Rule}
+use Rattle.sfi_scan.specs.declared.rule.Rule.TheVariants.{V3, V4, V5, V6, V7, V10}
 use Rattle.rv_comp.proofs.Facts.{word_spells}
 use Rattle.sfi_check.proofs.Readings.{IsSpelled, op_spelled, store_spelled, ebreak_spelled, code_findings, four, four_longest, wide}
 use Rattle.sfi_check.proofs.Samples.{IsSample, without_gates, hart, stack_hart, then_step, reaches, calls_elsewhere, has_left, past_end, needed}
@@ -89,10 +93,10 @@ written_rd_forgotten_unsafe =
     jal_x26 ebreak_spelled ebreak_spelled ebreak_spelled (op_spelled And 31 10 27 refl) (op_spelled Or 31 31 26 refl) (store_spelled Sw 31 11 refl) ebreak_spelled refl refl)
     (first_alone s V4 0 (Jal 26 (pos 16)) Ebreak Ebreak Ebreak refl jal_x26 ebreak_spelled ebreak_spelled ebreak_spelled refl)
     (λ m entry.
-      then_step s is m entry.code (hart 0x01000000 0x01800000 0) 0 4 (Jal 26 (pos 16)) refl (omega arith) jal_x26 (hart 0x01000010 0x01000004 0) refl (
-      then_step s is m entry.code (hart 0x01000010 0x01000004 0) 16 4 (Op And 31 10 27) refl (omega arith) (op_spelled And 31 10 27 refl) (hart 0x01000014 0x01000004 240) refl (
-      then_step s is m entry.code (hart 0x01000014 0x01000004 240) 20 4 (Op Or 31 31 26) refl (omega arith) (op_spelled Or 31 31 26 refl) (hart 0x01000018 0x01000004 0x010000f4) refl (
-      reaches s is m entry.code (hart 0x01000018 0x01000004 0x010000f4) 24 4 (Store Sw 31 11 (pos 0)) refl (omega arith) (store_spelled Sw 31 11 refl) 0x010000f4 (0, omega arith, refl) (omega arith)))))
+    then_step s is m entry.code (hart 0x01000000 0x01800000 0) 0 4 (Jal 26 (pos 16)) refl (omega arith) jal_x26 (hart 0x01000010 0x01000004 0) refl (
+    then_step s is m entry.code (hart 0x01000010 0x01000004 0) 16 4 (Op And 31 10 27) refl (omega arith) (op_spelled And 31 10 27 refl) (hart 0x01000014 0x01000004 240) refl (
+    then_step s is m entry.code (hart 0x01000014 0x01000004 240) 20 4 (Op Or 31 31 26) refl (omega arith) (op_spelled Or 31 31 26 refl) (hart 0x01000018 0x01000004 0x010000f4) refl (
+    reaches s is m entry.code (hart 0x01000018 0x01000004 0x010000f4) 24 4 (Store Sw 31 11 (pos 0)) refl (omega arith) (store_spelled Sw 31 11 refl) 0x010000f4 (0, omega arith, refl) (omega arith)))))
 
 -- ---- a pair on x0
 
@@ -105,9 +109,9 @@ pair_on_x0_unsafe =
     (op_spelled And 0 10 27 refl) (op_spelled Or 0 0 26 refl) (store_spelled Sw 0 11 refl) ebreak_spelled ebreak_spelled ebreak_spelled ebreak_spelled ebreak_spelled refl refl)
     (third_alone s V5 0 (Op And 0 10 27) (Op Or 0 0 26) (Store Sw 0 11 (pos 0)) Ebreak refl (op_spelled And 0 10 27 refl) (op_spelled Or 0 0 26 refl) (store_spelled Sw 0 11 refl) ebreak_spelled refl)
     (λ m entry.
-      then_step s is m entry.code (hart 0x01000000 0x01800000 0) 0 4 (Op And 0 10 27) refl (omega arith) (op_spelled And 0 10 27 refl) (hart 0x01000004 0x01800000 0) refl (
-      then_step s is m entry.code (hart 0x01000004 0x01800000 0) 4 4 (Op Or 0 0 26) refl (omega arith) (op_spelled Or 0 0 26 refl) (hart 0x01000008 0x01800000 0) refl (
-      reaches s is m entry.code (hart 0x01000008 0x01800000 0) 8 4 (Store Sw 0 11 (pos 0)) refl (omega arith) (store_spelled Sw 0 11 refl) 0 (0, omega arith, refl) (omega arith))))
+    then_step s is m entry.code (hart 0x01000000 0x01800000 0) 0 4 (Op And 0 10 27) refl (omega arith) (op_spelled And 0 10 27 refl) (hart 0x01000004 0x01800000 0) refl (
+    then_step s is m entry.code (hart 0x01000004 0x01800000 0) 4 4 (Op Or 0 0 26) refl (omega arith) (op_spelled Or 0 0 26 refl) (hart 0x01000008 0x01800000 0) refl (
+    reaches s is m entry.code (hart 0x01000008 0x01800000 0) 8 4 (Store Sw 0 11 (pos 0)) refl (omega arith) (store_spelled Sw 0 11 refl) 0 (0, omega arith, refl) (omega arith))))
 
 -- ---- a pair across bundles
 
@@ -132,10 +136,10 @@ jalr_offset_ignored_unsafe =
     (op_spelled And 31 10 25 refl) (op_spelled Or 31 31 24 refl) jalr_past ebreak_spelled ebreak_spelled ebreak_spelled ebreak_spelled ebreak_spelled refl refl)
     (third_alone s V6 0 (Op And 31 10 25) (Op Or 31 31 24) (Jalr 0 31 (pos 16)) Ebreak refl (op_spelled And 31 10 25 refl) (op_spelled Or 31 31 24 refl) jalr_past ebreak_spelled refl)
     (λ m entry.
-      then_step s is m entry.code (hart 0x01000000 0x01800000 0) 0 4 (Op And 31 10 25) refl (omega arith) (op_spelled And 31 10 25 refl) (hart 0x01000004 0x01800000 240) refl (
-      then_step s is m entry.code (hart 0x01000004 0x01800000 240) 4 4 (Op Or 31 31 24) refl (omega arith) (op_spelled Or 31 31 24 refl) (hart 0x01000008 0x01800000 0x010000f0) refl (
-      then_step s is m entry.code (hart 0x01000008 0x01800000 0x010000f0) 8 4 (Jalr 0 31 (pos 16)) refl (omega arith) jalr_past (hart 0x01000100 0x01800000 0x010000f0) refl (
-      has_left (sandbox s) m (hart 0x01000100 0x01800000 0x010000f0) (past_end s is)))))
+    then_step s is m entry.code (hart 0x01000000 0x01800000 0) 0 4 (Op And 31 10 25) refl (omega arith) (op_spelled And 31 10 25 refl) (hart 0x01000004 0x01800000 240) refl (
+    then_step s is m entry.code (hart 0x01000004 0x01800000 240) 4 4 (Op Or 31 31 24) refl (omega arith) (op_spelled Or 31 31 24 refl) (hart 0x01000008 0x01800000 0x010000f0) refl (
+    then_step s is m entry.code (hart 0x01000008 0x01800000 0x010000f0) 8 4 (Jalr 0 31 (pos 16)) refl (omega arith) jalr_past (hart 0x01000100 0x01800000 0x010000f0) refl (
+    has_left (sandbox s) m (hart 0x01000100 0x01800000 0x010000f0) (past_end s is)))))
 
 -- ---- a jump to any start
 
@@ -148,8 +152,8 @@ jump_to_any_start_unsafe =
     (op_spelled And 31 10 27 refl) (op_spelled Or 31 31 26 refl) (store_spelled Sw 31 11 refl) ebreak_spelled jal_back ebreak_spelled ebreak_spelled ebreak_spelled refl refl)
     (first_alone s V7 1 (Jal 0 (minus 8)) Ebreak Ebreak Ebreak refl jal_back ebreak_spelled ebreak_spelled ebreak_spelled refl)
     (λ m entry.
-      then_step s is m entry.code (hart 0x01000010 0x01800000 0) 16 4 (Jal 0 (minus 8)) refl (omega arith) jal_back (hart 0x01000008 0x01800000 0) refl (
-      reaches s is m entry.code (hart 0x01000008 0x01800000 0) 8 4 (Store Sw 31 11 (pos 0)) refl (omega arith) (store_spelled Sw 31 11 refl) 0 (0, omega arith, refl) (omega arith)))
+    then_step s is m entry.code (hart 0x01000010 0x01800000 0) 16 4 (Jal 0 (minus 8)) refl (omega arith) jal_back (hart 0x01000008 0x01800000 0) refl (
+    reaches s is m entry.code (hart 0x01000008 0x01800000 0) 8 4 (Store Sw 31 11 (pos 0)) refl (omega arith) (store_spelled Sw 31 11 refl) 0 (0, omega arith, refl) (omega arith)))
 
 -- ---- a stack pointer that is written and not put back
 
@@ -162,5 +166,5 @@ stack_not_put_back_unsafe =
     addi_x2 (store_spelled Sw 2 11 refl) ebreak_spelled ebreak_spelled ebreak_spelled ebreak_spelled ebreak_spelled ebreak_spelled refl refl)
     (first_alone s V10 0 (OpImm Addi 2 0 (pos 0)) (Store Sw 2 11 (pos 0)) Ebreak Ebreak refl addi_x2 (store_spelled Sw 2 11 refl) ebreak_spelled ebreak_spelled refl)
     (λ m entry.
-      then_step s is m entry.code (hart 0x01000000 0x01800000 0) 0 4 (OpImm Addi 2 0 (pos 0)) refl (omega arith) addi_x2 (stack_hart 0 0x01000004 0x01800000 0) refl (
-      reaches s is m entry.code (stack_hart 0 0x01000004 0x01800000 0) 4 4 (Store Sw 2 11 (pos 0)) refl (omega arith) (store_spelled Sw 2 11 refl) 0 (0, omega arith, refl) (omega arith)))
+    then_step s is m entry.code (hart 0x01000000 0x01800000 0) 0 4 (OpImm Addi 2 0 (pos 0)) refl (omega arith) addi_x2 (stack_hart 0 0x01000004 0x01800000 0) refl (
+    reaches s is m entry.code (stack_hart 0 0x01000004 0x01800000 0) 4 4 (Store Sw 2 11 (pos 0)) refl (omega arith) (store_spelled Sw 2 11 refl) 0 (0, omega arith, refl) (omega arith)))

@@ -1,5 +1,10 @@
 -- That the rules on what is read, on the region's end and on gates are needed.
-use Rattle.sfi_check.proofs.Prelude.{◌≡◌, ◌≢◌, ℕ, zero, suc, ◌+◌, ◌*◌, ◌<◌, ◌≤◌, ◌==◌, ◌||◌, List, [], ◌∷◌, length, take, drop, Some, false, refl, sym, ap, ◌∙◌, subst, inl, inr, arith, get_or-take, pos, slice_index, All, ints, service_most, Instr, And, Or, Sw, Op, Store, Jalr, Ecall, Ebreak, spelling, InRange, Spells, CAddi, Sfi1, Bytes, Stands, unchanged, Call, is_gate_of, IsBundleStart, AreGateWords, V1, V2, V3, V4, V5, V6, V7, V8, V9, V10, stub, place_of, bundle_bytes, HasCode, Steps, Replies, IsReply, IsEntry, sandbox, nop, undecodable, crossing_store, ecall_at_no_gate, written_rd_forgotten, pair_on_x0, jalr_offset_ignored, jump_to_any_start, running_off_the_end, gate_comes_back_elsewhere, stack_not_put_back, IsNeeded, EachRuleIsNeeded}
+use Rattle.sfi_check.proofs.Prelude.{◌≡◌, ◌≢◌, ℕ, zero, suc, ◌+◌, ◌*◌, ◌<◌, ◌≤◌, ◌==◌, ◌||◌, List, [], ◌∷◌, length, take, drop, Some, false, refl, sym, ap, ◌∙◌, subst, inl, inr, arith, get_or-take, pos, slice_index, All, ints, Instr, And, Or, Sw, Op, Store, Jalr, Ecall, Ebreak, spelling, InRange, Spells, Sfi1, Bytes, Stands, unchanged, Call, is_gate_of, IsBundleStart, AreGateWords, place_of, bundle_bytes, HasCode, Steps, Replies, IsReply, IsEntry, IsNeeded, EachRuleIsNeeded}
+use Rattle.rv_comp.specs.declared.form.Form16.TheVariants.{CAddi}
+use Rattle.sfi_check.specs.Samples.{sandbox, nop, undecodable, crossing_store, ecall_at_no_gate, written_rd_forgotten, pair_on_x0, jalr_offset_ignored, jump_to_any_start, running_off_the_end, gate_comes_back_elsewhere, stack_not_put_back}
+use Rattle.sfi_policy.specs.Limits.{service_most}
+use Rattle.sfi_policy.specs.Pairs.{stub}
+use Rattle.sfi_scan.specs.declared.rule.Rule.TheVariants.{V1, V2, V3, V4, V5, V6, V7, V8, V9, V10}
 use Rattle.sfi_check.proofs.Readings.{IsSpelled, BeginsNothing, op_spelled, nothing_begins, ebreak_spelled, four, read_bundle, four_words, four_longest, wide, all_findings, quiet, none_listed}
 use Rattle.sfi_check.proofs.Samples.{IsSample, without_gates, hart, is_hart, first, bytes_there, stands, then_turn, step_at, then_step, reaches, has_left, past_end, needed}
 use Rattle.sfi_check.proofs.Undecodable.{ones_begin_nothing}
@@ -91,11 +96,11 @@ crossing_store_unsafe =
     (quiet Sfi1 [] n n n 0x20230001 0x00000013 brk brk brk brk brk brk brk none_listed 14 refl refl refl))
     tt
     (λ m entry.
-      then_step s is m entry.code (hart 0x01000000 0x01800000 0) 0 4 nop refl (omega arith) nop_spelled (hart 0x01000004 0x01800000 0) refl (
-      then_step s is m entry.code (hart 0x01000004 0x01800000 0) 4 4 nop refl (omega arith) nop_spelled (hart 0x01000008 0x01800000 0) refl (
-      then_step s is m entry.code (hart 0x01000008 0x01800000 0) 8 4 nop refl (omega arith) nop_spelled (hart 0x0100000c 0x01800000 0) refl (
-      then_step s is m entry.code (hart 0x0100000c 0x01800000 0) 12 2 nop refl (omega arith) short_nop (hart 0x0100000e 0x01800000 0) refl (
-      reaches s is m entry.code (hart 0x0100000e 0x01800000 0) 14 4 (Store Sw 6 1 (pos 0)) refl (omega arith) store_across 0 (0, omega arith, refl) (omega arith))))))
+    then_step s is m entry.code (hart 0x01000000 0x01800000 0) 0 4 nop refl (omega arith) nop_spelled (hart 0x01000004 0x01800000 0) refl (
+    then_step s is m entry.code (hart 0x01000004 0x01800000 0) 4 4 nop refl (omega arith) nop_spelled (hart 0x01000008 0x01800000 0) refl (
+    then_step s is m entry.code (hart 0x01000008 0x01800000 0) 8 4 nop refl (omega arith) nop_spelled (hart 0x0100000c 0x01800000 0) refl (
+    then_step s is m entry.code (hart 0x0100000c 0x01800000 0) 12 2 nop refl (omega arith) short_nop (hart 0x0100000e 0x01800000 0) refl (
+    reaches s is m entry.code (hart 0x0100000e 0x01800000 0) 14 4 (Store Sw 6 1 (pos 0)) refl (omega arith) store_across 0 (0, omega arith, refl) (omega arith))))))
 
 -- ---- a region's end without a jump
 
@@ -122,11 +127,11 @@ running_off_the_end_unsafe =
       broken = refl;
     })
     (λ m entry.
-      then_step s is m entry.code (hart 0x010000f0 0x01800000 0) 240 4 nop refl (omega arith) nop_spelled (hart 0x010000f4 0x01800000 0) refl (
-      then_step s is m entry.code (hart 0x010000f4 0x01800000 0) 244 4 nop refl (omega arith) nop_spelled (hart 0x010000f8 0x01800000 0) refl (
-      then_step s is m entry.code (hart 0x010000f8 0x01800000 0) 248 4 nop refl (omega arith) nop_spelled (hart 0x010000fc 0x01800000 0) refl (
-      then_step s is m entry.code (hart 0x010000fc 0x01800000 0) 252 4 nop refl (omega arith) nop_spelled (hart 0x01000100 0x01800000 0) refl (
-      has_left (sandbox s) m (hart 0x01000100 0x01800000 0) (past_end s is))))))
+    then_step s is m entry.code (hart 0x010000f0 0x01800000 0) 240 4 nop refl (omega arith) nop_spelled (hart 0x010000f4 0x01800000 0) refl (
+    then_step s is m entry.code (hart 0x010000f4 0x01800000 0) 244 4 nop refl (omega arith) nop_spelled (hart 0x010000f8 0x01800000 0) refl (
+    then_step s is m entry.code (hart 0x010000f8 0x01800000 0) 248 4 nop refl (omega arith) nop_spelled (hart 0x010000fc 0x01800000 0) refl (
+    then_step s is m entry.code (hart 0x010000fc 0x01800000 0) 252 4 nop refl (omega arith) nop_spelled (hart 0x01000100 0x01800000 0) refl (
+    has_left (sandbox s) m (hart 0x01000100 0x01800000 0) (past_end s is))))))
 
 -- ---- a gate that comes back elsewhere
 
@@ -184,12 +189,12 @@ gate_comes_back_elsewhere_unsafe =
     (quiet Sfi1 s.gates (spelling Ecall) and_back or_back jump brk brk brk brk brk brk brk brk others_unlisted 14 refl refl refl))
     tt
     (λ m entry.
-      then_turn p (first 0x01000000 m) (first 0x01000000 m) (Steps (unchanged Call (hart 0x01000000 0x01800000 0) m)) (step_at s gate_sample m entry.code (hart 0x01000000 0x01800000 0) 0 4 Ecall refl (omega arith) ecall_spelled) refl (
-      then_turn p (first 0x01000000 m) (first 0x01000004 m) (Replies (first 0x01000004 m)) (silent_reply m entry) refl (
-      then_step s gate_sample m entry.code (hart 0x01000004 0x01800000 0) 4 4 (Op And 31 1 25) refl (omega arith) (op_spelled And 31 1 25 refl) (hart 0x01000008 0x01800000 240) refl (
-      then_step s gate_sample m entry.code (hart 0x01000008 0x01800000 240) 8 4 (Op Or 31 31 24) refl (omega arith) (op_spelled Or 31 31 24 refl) (hart 0x0100000c 0x01800000 0x010000f0) refl (
-      then_step s gate_sample m entry.code (hart 0x0100000c 0x01800000 0x010000f0) 12 4 (Jalr 0 31 (pos 16)) refl (omega arith) jalr_past (hart 0x01000100 0x01800000 0x010000f0) refl (
-      has_left p m (hart 0x01000100 0x01800000 0x010000f0) (past_end s gate_sample)))))))
+    then_turn p (first 0x01000000 m) (first 0x01000000 m) (Steps (unchanged Call (hart 0x01000000 0x01800000 0) m)) (step_at s gate_sample m entry.code (hart 0x01000000 0x01800000 0) 0 4 Ecall refl (omega arith) ecall_spelled) refl (
+    then_turn p (first 0x01000000 m) (first 0x01000004 m) (Replies (first 0x01000004 m)) (silent_reply m entry) refl (
+    then_step s gate_sample m entry.code (hart 0x01000004 0x01800000 0) 4 4 (Op And 31 1 25) refl (omega arith) (op_spelled And 31 1 25 refl) (hart 0x01000008 0x01800000 240) refl (
+    then_step s gate_sample m entry.code (hart 0x01000008 0x01800000 240) 8 4 (Op Or 31 31 24) refl (omega arith) (op_spelled Or 31 31 24 refl) (hart 0x0100000c 0x01800000 0x010000f0) refl (
+    then_step s gate_sample m entry.code (hart 0x0100000c 0x01800000 0x010000f0) 12 4 (Jalr 0 31 (pos 16)) refl (omega arith) jalr_past (hart 0x01000100 0x01800000 0x010000f0) refl (
+    has_left p m (hart 0x01000100 0x01800000 0x010000f0) (past_end s gate_sample)))))))
 
 -- ---- all ten
 

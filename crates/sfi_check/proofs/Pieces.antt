@@ -1,5 +1,6 @@
 -- The loop over a stream's pieces: what it keeps, and what each of its ends answers.
-use Rattle.sfi_check.proofs.Prelude.{◌≡◌, ◌∙◌, ◌≤◌, ◌<◌, ◌++◌, ℕ, List, [], Bool, true, false, take, drop, length, Option, Some, None, sym, ap, subst, arith, append_assoc, length-drop, length-take, take-append-drop, take_all, ReaderState, HasFaultNumberWhateverFollows, Streams, Finding, StreamAnswer, Tally, IsSoFar, IsCut, IsTold, Goes, verdict_of, IsVerdictOn, AreHandedOver}
+use Rattle.sfi_check.proofs.Prelude.{◌≡◌, ◌∙◌, ◌≤◌, ◌<◌, ◌++◌, ℕ, List, [], Bool, true, false, take, drop, length, Option, Some, None, sym, ap, subst, arith, append_assoc, length-drop, length-take, take-append-drop, take_all, ReaderState, HasFaultNumberWhateverFollows, Finding, StreamAnswer, Tally, IsSoFar, IsCut, IsTold, Goes, verdict_of, IsVerdictOn, AreHandedOver}
+use Rattle.sfi_image.specs.Sources.{Streams}
 use Rattle.sfi_check.specs.declared.progress.Progress.TheVariants as ways
 use Rattle.sfi_check.specs.declared.stream_answer.StreamAnswer.TheVariants as answers
 use Rattle.sfi_check.proofs.Leading.{fault_on}

@@ -1,110 +1,54 @@
--- The words of definitions and of std that the proofs of this crate speak of.
+-- Words of std and of definitions that many proofs of this crate use.
 pub use Rattle.std.proofs.Common.{◌≡◌, ◌≢◌, ℕ, suc, ◌+◌, ◌-◌, ◌%◌, ◌^◌, ◌<◌, ◌≤◌, ◌⊎◌, List, length, get_or, set, false, ◌||◌, ◌==◌, refl, sym, ◌∙◌, subst, inl, inr, ⊎_elim, arith, zero, ◌*◌, Bool, true, [], ◌++◌, take, drop, ap, append_assoc, ◌∷◌, Option, Some, None, cond, Result, Ok, Err, ◌/◌, not, ◌&&◌, add-zero, get_or-take, map, get_or-drop, replicate, eqb, rules}
 pub use Rattle.std.specs.Prelude.{ℤ, pos, negsuc, ◌+ℤ◌, slice_index, slice_get, Vec, IfOk, IfErr, is_some, filter, nat_lt, nat_le, IsSome}
 pub use Rattle.std.proofs.Math.Seq.{take-append_seam, take-append-add}
 pub use Rattle.std.proofs.lemmas.Bool.{cases_lt, or_parts, eqb-false, cond_both, lt-ltb, and_parts, or_cases, eqb-true, not-false, and_from, cond-false, ne_eqb, not-true, false≢true, ltb-true, cases_Bool, or_left, or_right, leb-true, eq-eqb}
 pub use Rattle.std.proofs.lemmas.Int.{ints}
 pub use Rattle.std.proofs.lemmas.List.{get_or-set_other, length-set, length-map, length-append, length-take, length-drop, drop-drop, append-nil, take_all, take_more, get_or-map, take-append-drop, get_or-set_same, length_push, drop-take}
-pub use Rattle.std.proofs.lemmas.List.Elements.{All-push}
-pub use Rattle.std.proofs.lemmas.List.FromFn.{length-range_with_len, get_or-map-range_with_len}
-pub use Rattle.std.proofs.lemmas.List.Sums.{sum_by-append}
-pub use Rattle.std.proofs.lemmas.Nat.{and_mask, or_shifted, or_comm, mod_below, pow_pos, pow-add, pow_below}
-pub use Rattle.std.proofs.lemmas.Nat.Bits.{and_high}
-pub use Rattle.std.specs.Cmp.{nat_cmp_total, unsigned_tied}
-pub use Rattle.std.specs.FinMap.{empty, get-empty, insert, get-insert}
-pub use Rattle.std.specs.Global.{Global}
-pub use Rattle.std.specs.Int.{w32, to_le_bytes, w16, from_le_bytes}
-pub use Rattle.std.specs.Int.Bits.{bit_and, bit_or}
 pub use Rattle.std.specs.List.{Contains, range_with_len, All, list_all}
-pub use Rattle.std.specs.Ordering.{nat_cmp}
-pub use Rattle.std.specs.Result.{IsErrAnd}
-pub use Rattle.std.specs.Simd.{first_chunks}
 pub use Rattle.rv_word.specs.Numbers.{offset_by, minus}
 pub use Rattle.rv_word.specs.Spelling.{InRange, IsImm12, spelling, IsWordOf}
-pub use Rattle.rv_word.specs.Writes.{destination, is_register}
-pub use Rattle.rv_word.specs.declared.instr.ImmOp.TheVariants.{Addi}
 pub use Rattle.rv_word.specs.declared.instr.Instr.{Instr}
 pub use Rattle.rv_word.specs.declared.instr.Instr.TheVariants.{Load, Store, Ecall, Op, OpImm, Branch, Jal, Jalr, Lui, Auipc, Fence, Ebreak}
-pub use Rattle.rv_word.specs.declared.instr.LoadKind.{LoadKind}
-pub use Rattle.rv_word.specs.declared.instr.LoadKind.TheVariants.{Lb, Lh, Lw, Lbu, Lhu}
-pub use Rattle.rv_word.specs.declared.instr.RegOp.{RegOp}
 pub use Rattle.rv_word.specs.declared.instr.RegOp.TheVariants.{And, Or}
-pub use Rattle.rv_word.specs.declared.instr.StoreWidth.{StoreWidth}
 pub use Rattle.rv_word.specs.declared.instr.StoreWidth.TheVariants.{Sb, Sh, Sw}
-pub use Rattle.rv_word.specs.declared.length.Length.TheVariants.{Wide, Longer}
-pub use Rattle.rv_comp.specs.Bits.{Bit, is, bit_value, number_after}
 pub use Rattle.rv_comp.specs.Fronts.{Spells}
-pub use Rattle.rv_comp.specs.Halfwords.{IsShortSpelling}
-pub use Rattle.rv_comp.specs.Table.{row, fields_of}
-pub use Rattle.rv_comp.specs.declared.form.Form16.{Form16}
-pub use Rattle.rv_comp.specs.declared.form.Form16.TheVariants.{CAddi, CAddi4spn, CLw, CSw, CJal, CLi, CAddi16sp, CLui, CSrli, CSrai, CAndi, CSub, CXor, COr, CAnd, CJ, CBeqz, CBnez, CSlli, CLwsp, CJr, CJalr, CMv, CAdd, CEbreak, CSwsp}
-pub use Rattle.rv_comp.specs.declared.front.Front.TheVariants.{Read}
 pub use Rattle.rv_mem.specs.Bytes.{address_after, addresses, Bytes, bytes_at, loaded, stored, IsMemory, byte_at, in_front}
 pub use Rattle.rv_step.specs.Access.{Accesses}
 pub use Rattle.rv_step.specs.State.{Hart, with_register, State, register, with_pc, past, even_of, IsHart}
 pub use Rattle.rv_step.specs.Step.{Stands, effect, after_load, next, unchanged, Stepped, IsStep}
 pub use Rattle.rv_step.specs.Values.{word, load_size, store_size, extended, is_taken, result_of}
-pub use Rattle.rv_step.specs.declared.outcome.Outcome.{Outcome}
 pub use Rattle.rv_step.specs.declared.outcome.Outcome.TheVariants.{Next, Call, Trap}
 pub use Rattle.sfi_policy.specs.Formats.{magic, code_most, has_stack, is_stack}
-pub use Rattle.sfi_policy.specs.Limits.{service_most, gates_most}
-pub use Rattle.sfi_policy.specs.Pairs.{stub, masking_instr, placing_instr, is_masking, is_placing}
-pub use Rattle.sfi_policy.specs.Registers.{is_reserved}
 pub use Rattle.sfi_policy.specs.declared.format.Format.{Format}
 pub use Rattle.sfi_policy.specs.declared.format.Format.TheVariants.{Sfi1, Sfi2}
 pub use Rattle.sfi_image.specs.Faults.{IsFault, number_of}
 pub use Rattle.sfi_image.specs.Fronts.{Front, ArePlain, Follows, want_of, IsLess, HasFaultNumberWhateverFollows, front, IsRightFront, IsLengthOf, part_of, after_parts, after_init, after_code, after_gates}
 pub use Rattle.sfi_image.specs.Fronts.Front.{Empty, AfterMagic, AfterCount, InGates, InCode, InInit, Whole}
 pub use Rattle.sfi_image.specs.Gates.{is_gate_of, AreGates}
-pub use Rattle.sfi_image.specs.Images.{IsImage}
-pub use Rattle.sfi_image.specs.InFormat.{all_in_format}
 pub use Rattle.sfi_image.specs.Keeping.{ReaderState, StandsFor, Leads, left, left_most}
-pub use Rattle.sfi_image.specs.Outcome.{IfLayout}
 pub use Rattle.sfi_image.specs.Parts.{IsRightPart, AreRight, IsRightLayout, AreOf}
 pub use Rattle.sfi_image.specs.Regions.{IsBundleStart, IsCodeRegion, IsRegion}
-pub use Rattle.sfi_image.specs.Sources.{OneRead, IsChain, is_end, bytes_handed_out, finds_end, Streams}
 pub use Rattle.sfi_image.specs.Spans.{code_region, AreApart, guarded_region, spans, Holds}
 pub use Rattle.sfi_image.specs.Spelling.{Part, view, views, format_of, AreGateWords}
-pub use Rattle.sfi_image.specs.Tests.{IsFirstFault, field_tests}
-pub use Rattle.sfi_image.specs.declared.fault.ImageFault.{ImageFault}
-pub use Rattle.sfi_image.specs.declared.fault.LayoutFault.{LayoutFault}
-pub use Rattle.sfi_image.specs.declared.fields.Fields.{Fields}
 pub use Rattle.sfi_image.specs.declared.part.Gate.{Gate}
 pub use Rattle.sfi_image.specs.declared.part.SandboxPart.{SandboxPart}
-pub use Rattle.sfi_image.specs.declared.span.Span.{Span}
-pub use Rattle.sfi_image.specs.declared.want.Want.{Want}
-pub use Rattle.sfi_masks.specs.Masks.{is_in}
 pub use Rattle.sfi_scan.specs.Bundles.{block_bundle, bundle_at, IsWithin, place_of, bundle_bytes}
 pub use Rattle.sfi_scan.specs.Findings.{AreBundleFindings, AreReadingFindings, AreFindings, AreFindingsFrom, AreImageFindings, all_rules, lowest, findings_from, rest_finding, AreFindingsOfFirst}
-pub use Rattle.sfi_scan.specs.Pairs.{follows_data_pair, follows_code_pair, follows_pair}
 pub use Rattle.sfi_scan.specs.Readings.{Piece, rest_of, IsReading, IsLongestReading}
 pub use Rattle.sfi_scan.specs.Rules.{Place, is_empty, is_bundle_start, breaks_ecall, breaks_reserved, breaks_access, breaks_jump, breaks_target, breaks_stack, may_access, ends_region, breaks, breaks_end, may_write_stack}
-pub use Rattle.sfi_scan.specs.Stack.{writes_stack, is_jump, is_stack_pair, begins_pair, ends_pair, precedes_pair}
 pub use Rattle.sfi_scan.specs.declared.bundle.BundlePlace.{BundlePlace}
 pub use Rattle.sfi_scan.specs.declared.finding.Finding.{Finding}
-pub use Rattle.sfi_scan.specs.declared.rule.Rule.{Rule}
-pub use Rattle.sfi_scan.specs.declared.rule.Rule.TheVariants.{V3, V4, V5, V6, V7, V10, V1, V2, V8, V9}
-pub use Rattle.sfi_check.specs.Converting.{IsSecond, IsConversion, IsConvertFault, fault_of, AnswersLayout, AnswersFindings}
 pub use Rattle.sfi_check.specs.Feeds.{IsFed, IsFedBy, IsHeld}
 pub use Rattle.sfi_check.specs.Laws.{CleanCallsWithStack, GoesOnSafely, CanBeEntered, InstructionLeaves, TurnKeeps, EntryIsGood, CleanRunsSafely, SafeTurns, SafeStaysSafe, SafeFetches}
 pub use Rattle.sfi_check.specs.Leaving.{Leaves, WritesResult, follows_mask}
 pub use Rattle.sfi_check.specs.Needed.{BreaksAlone, IsNeeded, EachRuleIsNeeded, HasOneFinding, HasUnsafeRun, StoresByte, IsAcceptedAndRuns, IsStricter, BreaksNoOther}
-pub use Rattle.sfi_check.specs.OneVerdict.{OneListOfFindings, NeverAcceptedWithFindings, VerdictIsOnAll, OneVerdict, StreamSaysSame, Answers, IsReadOf, SaysSame}
 pub use Rattle.sfi_check.specs.Places.{IsCleanPart, IsGood, IsGoodIf, StackInDataBefore, IsAtPlace}
-pub use Rattle.sfi_check.specs.Refusals.{IfLayoutFault, IfFindings, refusal_of}
 pub use Rattle.sfi_check.specs.Regions.{InData, InGuard, HasReserved, StackInData, IsGate, HasCode, HasEmptyGuards}
 pub use Rattle.sfi_check.specs.Runs.{Turn, IsRun, after_turn, IsEntry, Steps, Replies, IsReply, IsTurn, after_step, KeepsBytes, Changes, IsChange}
 pub use Rattle.sfi_check.specs.Safety.{AllRunSafely, IsSafeRun, RunsSafelyFrom, RunsSafely, IsSafeStep, IsTrap, IsSafeState, IsSafeTurn}
-pub use Rattle.sfi_check.specs.Samples.{Sample, sandbox, words_of, bytes_of, ecall_at_no_gate, written_rd_forgotten, pair_on_x0, pair_across_bundles, jalr_offset_ignored, jump_to_any_start, stack_not_put_back, nop, undecodable, crossing_store, running_off_the_end, gate_comes_back_elsewhere, code_as, sandboxed_store, undecodable_after_ebreak, crossing_after_ebreak, ecall_after_ebreak, nops_after_ebreak}
-pub use Rattle.sfi_check.specs.Stack.{after_turns, CallsWithStack, AllCallWithStack}
 pub use Rattle.sfi_check.specs.Streams.{IsVerdictOn, AreHandedOver, IsFaultOf, AreCounted}
 pub use Rattle.sfi_check.specs.Verdict.{IsClean, IsAccepted, HasFindings, bundle_count, MayRun}
-pub use Rattle.sfi_check.specs.declared.conversion.ConvertFault.{ConvertFault}
-pub use Rattle.sfi_check.specs.declared.conversion.ConvertFault.TheVariants.{Refused, NotOld, Stack}
-pub use Rattle.sfi_check.specs.declared.feed.Feed.{Feed}
-pub use Rattle.sfi_check.specs.declared.refusal.Refusal.{Refusal}
-pub use Rattle.sfi_check.specs.declared.refusal.Refusal.TheVariants.{Layout, Findings, Memory}
 pub use Rattle.sfi_check.specs.declared.stream_answer.StreamAnswer.{StreamAnswer}
 pub use Rattle.sfi_check.specs.declared.tally.Tally.{Tally}
-pub use Rattle.sfi_check.specs.private.Converting.{IsStackOf, Converts}
 pub use Rattle.sfi_check.specs.private.Tallies.{AddsFindings, AreFindingsOfPlain, AreFindingsSoFar, IsPlainFrom, IsSoFar, Tallies, findings_most, IsCut, verdict_of, verdict_by, IsTold, want_at, Goes, AreFindingsWithin, LeadsOn}

@@ -1,5 +1,9 @@
 -- What the samples' bundles are read as, and the findings of a sample.
-use Rattle.sfi_check.proofs.Prelude.{Format, Sfi1, Sfi2, Gate, is_gate_of, ◌≡◌, ℕ, suc, ◌+◌, ◌-◌, ◌*◌, ◌≤◌, List, [], ◌∷◌, ◌++◌, length, take, drop, true, false, refl, sym, ap, ◌∙◌, subst, inr, arith, get_or-take, w32, to_le_bytes, false≢true, append-nil, Instr, Ebreak, spelling, InRange, Spells, BundlePlace, Finding, place_of, bundle_bytes, Piece, IsReading, IsLongestReading, rest_of, is_empty, findings_from, rest_finding, AreBundleFindings, AreFindingsOfFirst, AreFindings, Sample, sandbox, words_of, bytes_of, code_as, RegOp, StoreWidth, Op, Store, pos, nat_lt, ◌&&◌, and_parts, ltb-true, ints}
+use Rattle.sfi_check.proofs.Prelude.{Format, Sfi1, Sfi2, Gate, is_gate_of, ◌≡◌, ℕ, suc, ◌+◌, ◌-◌, ◌*◌, ◌≤◌, List, [], ◌∷◌, ◌++◌, length, take, drop, true, false, refl, sym, ap, ◌∙◌, subst, inr, arith, get_or-take, false≢true, append-nil, Instr, Ebreak, spelling, InRange, Spells, BundlePlace, Finding, place_of, bundle_bytes, Piece, IsReading, IsLongestReading, rest_of, is_empty, findings_from, rest_finding, AreBundleFindings, AreFindingsOfFirst, AreFindings, Op, Store, pos, nat_lt, ◌&&◌, and_parts, ltb-true, ints}
+use Rattle.rv_word.specs.declared.instr.RegOp.{RegOp}
+use Rattle.rv_word.specs.declared.instr.StoreWidth.{StoreWidth}
+use Rattle.sfi_check.specs.Samples.{Sample, sandbox, words_of, bytes_of, code_as}
+use Rattle.std.specs.Int.{w32, to_le_bytes}
 use Rattle.std.proofs.Common.{length-take}
 use Rattle.rv_comp.proofs.Facts.{one_spelling, word_spells, spelled_length, spelled_some}
 

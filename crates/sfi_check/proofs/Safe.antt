@@ -1,5 +1,8 @@
 -- What follows from that every run is safe, and that it is so of a clean image.
-use Rattle.sfi_check.proofs.Prelude.{◌≡◌, ℕ, zero, suc, ◌+◌, List, [], ◌∷◌, Option, Some, None, Bool, true, false, cond, refl, sym, ◌∙◌, subst, arith, is_some, All, offset_by, Instr, Op, OpImm, Load, Store, Branch, Jal, Jalr, Lui, Auipc, Fence, Ecall, Ebreak, LoadKind, Bytes, bytes_at, addresses, loaded, Outcome, Next, Call, Trap, Hart, State, register, Stepped, IsStep, effect, after_load, next, unchanged, load_size, store_size, Part, AreApart, code_region, guarded_region, AreRight, Finding, AreFindings, AreFindingsFrom, IsRun, IsSafeRun, RunsSafelyFrom, RunsSafely, AllRunSafely, AllCallWithStack, SafeTurns, SafeStaysSafe, SafeFetches, IsClean, MayRun}
+use Rattle.sfi_check.proofs.Prelude.{◌≡◌, ℕ, zero, suc, ◌+◌, List, [], ◌∷◌, Option, Some, None, Bool, true, false, cond, refl, sym, ◌∙◌, subst, arith, is_some, All, offset_by, Instr, Op, OpImm, Load, Store, Branch, Jal, Jalr, Lui, Auipc, Fence, Ecall, Ebreak, Bytes, bytes_at, addresses, loaded, Next, Call, Trap, Hart, State, register, Stepped, IsStep, effect, after_load, next, unchanged, load_size, store_size, Part, AreApart, code_region, guarded_region, AreRight, Finding, AreFindings, AreFindingsFrom, IsRun, IsSafeRun, RunsSafelyFrom, RunsSafely, AllRunSafely, SafeTurns, SafeStaysSafe, SafeFetches, IsClean, MayRun}
+use Rattle.rv_step.specs.declared.outcome.Outcome.{Outcome}
+use Rattle.rv_word.specs.declared.instr.LoadKind.{LoadKind}
+use Rattle.sfi_check.specs.Stack.{AllCallWithStack}
 use Rattle.rv_step.specs.declared.outcome.Cause.TheVariants as cause
 use Rattle.sfi_check.proofs.Places.{nothing_before}
 use Rattle.rv_step.proofs.Facts.{step_is_effect}

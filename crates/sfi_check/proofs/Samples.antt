@@ -1,5 +1,10 @@
 -- The samples: their layout, their image, where they are entered, and their steps.
-use Rattle.sfi_check.proofs.Prelude.{◌≡◌, ℕ, zero, suc, ◌+◌, ◌-◌, ◌*◌, ◌%◌, ◌^◌, ◌<◌, ◌≤◌, ◌⊎◌, List, [], ◌∷◌, ◌++◌, length, replicate, take, drop, Option, Some, inl, inr, refl, sym, ap, subst, ◌∙◌, arith, get_or, get_or-drop, get_or-take, slice_index, true, nat_lt, All, list_all, and_parts, ltb-true, Instr, Ebreak, Spells, Read, Format, Sfi1, Sfi2, code_most, Bytes, byte_at, bytes_at, addresses, address_after, Accesses, Hart, IsHart, State, Stepped, Stands, IsStep, effect, next, unchanged, Call, Span, gates_most, AreGates, Part, AreGateWords, AreApart, code_region, guarded_region, IsBundleStart, IsRightPart, IsRightLayout, AreOf, Finding, AreFindings, InData, InGuard, IsGate, HasReserved, HasCode, Turn, Steps, IsEntry, IsRun, IsTurn, after_turn, after_step, IsSafeRun, Sample, sandbox, bytes_of, words_of, HasOneFinding, HasUnsafeRun, Rule, IsNeeded, BreaksNoOther}
+use Rattle.sfi_check.proofs.Prelude.{◌≡◌, ℕ, zero, suc, ◌+◌, ◌-◌, ◌*◌, ◌%◌, ◌^◌, ◌<◌, ◌≤◌, ◌⊎◌, List, [], ◌∷◌, ◌++◌, length, replicate, take, drop, Option, Some, inl, inr, refl, sym, ap, subst, ◌∙◌, arith, get_or, get_or-drop, get_or-take, slice_index, true, nat_lt, All, list_all, and_parts, ltb-true, Instr, Ebreak, Spells, Format, Sfi1, Sfi2, code_most, Bytes, byte_at, bytes_at, addresses, address_after, Accesses, Hart, IsHart, State, Stepped, Stands, IsStep, effect, next, unchanged, Call, AreGates, Part, AreGateWords, AreApart, code_region, guarded_region, IsBundleStart, IsRightPart, IsRightLayout, AreOf, Finding, AreFindings, InData, InGuard, IsGate, HasReserved, HasCode, Turn, Steps, IsEntry, IsRun, IsTurn, after_turn, after_step, IsSafeRun, HasOneFinding, HasUnsafeRun, IsNeeded, BreaksNoOther}
+use Rattle.rv_comp.specs.declared.front.Front.TheVariants.{Read}
+use Rattle.sfi_check.specs.Samples.{Sample, sandbox, bytes_of, words_of}
+use Rattle.sfi_image.specs.declared.span.Span.{Span}
+use Rattle.sfi_policy.specs.Limits.{gates_most}
+use Rattle.sfi_scan.specs.declared.rule.Rule.{Rule}
 use Rattle.std.proofs.Common.{length-append, length-take, length-drop}
 use Rattle.sfi_check.specs.Regions.{InCode}
 use Rattle.sfi_check.proofs.Places.{read_all}

@@ -1,5 +1,8 @@
 -- Where a format has a stack pointer, it lies in the data region, or is put there.
-use Rattle.sfi_check.proofs.Prelude.{◌≡◌, ℕ, List, [], ◌∷◌, true, false, Bool, not, ◌&&◌, ◌||◌, ◌==◌, refl, sym, ◌∙◌, subst, inl, inr, ⊎_elim, slice_index, cases_Bool, and_parts, and_from, or_cases, or_left, or_right, not-false, false≢true, Instr, Op, OpImm, Load, Store, Branch, Jal, Jalr, Lui, Auipc, Fence, Ecall, Ebreak, And, Or, has_stack, Part, BundlePlace, is_masking, is_placing, follows_data_pair, Piece, writes_stack, is_stack_pair, begins_pair, ends_pair, precedes_pair, is_jump, Place, may_write_stack, breaks_stack, InData, StackInData, Leaves, StackInDataBefore}
+use Rattle.sfi_check.proofs.Prelude.{◌≡◌, ℕ, List, [], ◌∷◌, true, false, Bool, not, ◌&&◌, ◌||◌, ◌==◌, refl, sym, ◌∙◌, subst, inl, inr, ⊎_elim, slice_index, cases_Bool, and_parts, and_from, or_cases, or_left, or_right, not-false, false≢true, Instr, Op, OpImm, Load, Store, Branch, Jal, Jalr, Lui, Auipc, Fence, Ecall, Ebreak, And, Or, has_stack, Part, BundlePlace, Piece, Place, may_write_stack, breaks_stack, InData, StackInData, Leaves, StackInDataBefore}
+use Rattle.sfi_policy.specs.Pairs.{is_masking, is_placing}
+use Rattle.sfi_scan.specs.Pairs.{follows_data_pair}
+use Rattle.sfi_scan.specs.Stack.{writes_stack, is_stack_pair, begins_pair, ends_pair, precedes_pair, is_jump}
 
 -- the instruction is one of the pair's two
 abbrev pub is_of_pair : Instr → Bool

@@ -1,5 +1,6 @@
 -- One step from a good state is safe, and leads to a good state.
-use Rattle.sfi_check.proofs.Prelude.{◌≡◌, ℕ, suc, ◌+◌, ◌*◌, ◌%◌, ◌^◌, ◌<◌, ◌≤◌, ◌⊎◌, List, [], ◌∷◌, length, Option, Some, None, true, ◌&&◌, ◌==◌, refl, sym, ap, ◌∙◌, subst, inl, inr, ⊎_elim, arith, add-zero, slice_get, nat_lt, nat_le, IsSome, and_parts, or_cases, eqb-true, leb-true, ltb-true, false≢true, Instr, byte_at, Outcome, Next, Call, Trap, Accesses, State, Stepped, Stands, IsStep, effect, Gate, Part, Holds, code_region, guarded_region, IsBundleStart, IsRightPart, is_gate_of, place_of, is_empty, is_bundle_start, InData, InGuard, IsGate, HasCode, HasEmptyGuards, after_step, IsSafeStep, IsTrap, IsCleanPart, IsGood, IsGoodIf}
+use Rattle.sfi_check.proofs.Prelude.{◌≡◌, ℕ, suc, ◌+◌, ◌*◌, ◌%◌, ◌^◌, ◌<◌, ◌≤◌, ◌⊎◌, List, [], ◌∷◌, length, Option, Some, None, true, ◌&&◌, ◌==◌, refl, sym, ap, ◌∙◌, subst, inl, inr, ⊎_elim, arith, add-zero, slice_get, nat_lt, nat_le, IsSome, and_parts, or_cases, eqb-true, leb-true, ltb-true, false≢true, Instr, byte_at, Next, Call, Trap, Accesses, State, Stepped, Stands, IsStep, effect, Gate, Part, Holds, code_region, guarded_region, IsBundleStart, IsRightPart, is_gate_of, place_of, is_empty, is_bundle_start, InData, InGuard, IsGate, HasCode, HasEmptyGuards, after_step, IsSafeStep, IsTrap, IsCleanPart, IsGood, IsGoodIf}
+use Rattle.rv_step.specs.declared.outcome.Outcome.{Outcome}
 use Rattle.sfi_check.proofs.Places.{pc_in_code, present}
 use Rattle.sfi_check.proofs.NextPlace.{place_here, rules_kept, goes_on}
 use Rattle.sfi_check.proofs.Effects.{Here, Leads, accesses_near, no_call, leads}

@@ -1,5 +1,7 @@
 -- That some rules are stricter than safety asks: code that stops at each bundle start is safe, whatever stands after that.
-use Rattle.sfi_check.proofs.Prelude.{◌≡◌, ℕ, zero, suc, ◌+◌, ◌-◌, ◌*◌, ◌/◌, ◌<◌, List, [], ◌∷◌, take, drop, Some, refl, sym, ap, ◌∙◌, subst, arith, Instr, Ecall, Ebreak, spelling, Spells, Sfi1, Accesses, State, Stepped, Stands, IsStep, effect, Call, Trap, Finding, V1, V2, V3, V8, place_of, bundle_bytes, HasCode, Turn, Steps, Replies, Changes, IsRun, IsEntry, after_step, IsSafeState, IsSafeStep, IsSafeRun, RunsSafely, Sample, sandbox, nop, undecodable_after_ebreak, crossing_after_ebreak, ecall_after_ebreak, nops_after_ebreak, IsStricter}
+use Rattle.sfi_check.proofs.Prelude.{◌≡◌, ℕ, zero, suc, ◌+◌, ◌-◌, ◌*◌, ◌/◌, ◌<◌, List, [], ◌∷◌, take, drop, Some, refl, sym, ap, ◌∙◌, subst, arith, Instr, Ecall, Ebreak, spelling, Spells, Sfi1, Accesses, State, Stepped, Stands, IsStep, effect, Call, Trap, Finding, place_of, bundle_bytes, HasCode, Turn, Steps, Replies, Changes, IsRun, IsEntry, after_step, IsSafeState, IsSafeStep, IsSafeRun, RunsSafely, IsStricter, ⊎_elim, cases_lt, ◌≤◌}
+use Rattle.sfi_check.specs.Samples.{Sample, sandbox, nop, undecodable_after_ebreak, crossing_after_ebreak, ecall_after_ebreak, nops_after_ebreak}
+use Rattle.sfi_scan.specs.declared.rule.Rule.TheVariants.{V1, V2, V3, V8}
 use Rattle.rv_step.specs.declared.outcome.Cause.TheVariants as cause
 use Rattle.sfi_check.proofs.Readings.{ebreak_spelled, read_bundle, four_words, code_findings, all_findings, quiet, none_listed, wide}
 use Rattle.sfi_check.proofs.Samples.{IsSample, without_gates, size, refused, stands}
@@ -89,24 +91,15 @@ module _ (s : Sample) (is : IsSample s) (stops : (n : ℕ) → n < 16 → StopsA
 
 -- ---- samples that stop
 
-sixteen : (P : ℕ → Type 0) → P 0 → P 1 → P 2 → P 3 → P 4 → P 5 → P 6 → P 7 → P 8 → P 9 → P 10 → P 11 → P 12 → P 13 → P 14 → P 15 → (n : ℕ) → n < 16 → P n
-sixteen P p0 p1 p2 p3 p4 p5 p6 p7 p8 p9 p10 p11 p12 p13 p14 p15 zero below = p0
-sixteen P p0 p1 p2 p3 p4 p5 p6 p7 p8 p9 p10 p11 p12 p13 p14 p15 (suc zero) below = p1
-sixteen P p0 p1 p2 p3 p4 p5 p6 p7 p8 p9 p10 p11 p12 p13 p14 p15 (suc (suc zero)) below = p2
-sixteen P p0 p1 p2 p3 p4 p5 p6 p7 p8 p9 p10 p11 p12 p13 p14 p15 (suc (suc (suc zero))) below = p3
-sixteen P p0 p1 p2 p3 p4 p5 p6 p7 p8 p9 p10 p11 p12 p13 p14 p15 (suc (suc (suc (suc zero)))) below = p4
-sixteen P p0 p1 p2 p3 p4 p5 p6 p7 p8 p9 p10 p11 p12 p13 p14 p15 (suc (suc (suc (suc (suc zero))))) below = p5
-sixteen P p0 p1 p2 p3 p4 p5 p6 p7 p8 p9 p10 p11 p12 p13 p14 p15 (suc (suc (suc (suc (suc (suc zero)))))) below = p6
-sixteen P p0 p1 p2 p3 p4 p5 p6 p7 p8 p9 p10 p11 p12 p13 p14 p15 (suc (suc (suc (suc (suc (suc (suc zero))))))) below = p7
-sixteen P p0 p1 p2 p3 p4 p5 p6 p7 p8 p9 p10 p11 p12 p13 p14 p15 (suc (suc (suc (suc (suc (suc (suc (suc zero)))))))) below = p8
-sixteen P p0 p1 p2 p3 p4 p5 p6 p7 p8 p9 p10 p11 p12 p13 p14 p15 (suc (suc (suc (suc (suc (suc (suc (suc (suc zero))))))))) below = p9
-sixteen P p0 p1 p2 p3 p4 p5 p6 p7 p8 p9 p10 p11 p12 p13 p14 p15 (suc (suc (suc (suc (suc (suc (suc (suc (suc (suc zero)))))))))) below = p10
-sixteen P p0 p1 p2 p3 p4 p5 p6 p7 p8 p9 p10 p11 p12 p13 p14 p15 (suc (suc (suc (suc (suc (suc (suc (suc (suc (suc (suc zero))))))))))) below = p11
-sixteen P p0 p1 p2 p3 p4 p5 p6 p7 p8 p9 p10 p11 p12 p13 p14 p15 (suc (suc (suc (suc (suc (suc (suc (suc (suc (suc (suc (suc zero)))))))))))) below = p12
-sixteen P p0 p1 p2 p3 p4 p5 p6 p7 p8 p9 p10 p11 p12 p13 p14 p15 (suc (suc (suc (suc (suc (suc (suc (suc (suc (suc (suc (suc (suc zero))))))))))))) below = p13
-sixteen P p0 p1 p2 p3 p4 p5 p6 p7 p8 p9 p10 p11 p12 p13 p14 p15 (suc (suc (suc (suc (suc (suc (suc (suc (suc (suc (suc (suc (suc (suc zero)))))))))))))) below = p14
-sixteen P p0 p1 p2 p3 p4 p5 p6 p7 p8 p9 p10 p11 p12 p13 p14 p15 (suc (suc (suc (suc (suc (suc (suc (suc (suc (suc (suc (suc (suc (suc (suc zero))))))))))))))) below = p15
-sixteen P p0 p1 p2 p3 p4 p5 p6 p7 p8 p9 p10 p11 p12 p13 p14 p15 (suc (suc (suc (suc (suc (suc (suc (suc (suc (suc (suc (suc (suc (suc (suc (suc n)))))))))))))))) below = absurd (omega arith)
+-- of each number below n
+AllBelow : (ℕ → Type 0) → ℕ → Type 0
+AllBelow P zero = Unit {0}
+AllBelow P (suc n) = AllBelow P n × P n
+
+one_below : (P : ℕ → Type 0) (n k : ℕ) → AllBelow P n → k < n → P k
+unfolding AllBelow
+one_below P zero k all below = absurd (omega arith)
+one_below P (suc n) k all below = ⊎_elim (λ (less : k < n). one_below P n k all.0 less) (λ (more : n ≤ k). let e : n ≡ k = omega arith in subst P e all.1) (cases_lt k n)
 
 abbrev brk : ℕ
 brk = spelling Ebreak
@@ -116,7 +109,8 @@ module _ (b c d f g h j k l : ℕ) where
   stopping = record { format = Sfi1; gates = []; first_words = brk ∷ b ∷ c ∷ d ∷ brk ∷ f ∷ g ∷ h ∷ []; last_words = brk ∷ j ∷ k ∷ l ∷ [] }
 
   stops : (n : ℕ) → n < 16 → StopsAt stopping n
-  stops = sixteen (StopsAt stopping) ebreak_spelled ebreak_spelled ebreak_spelled ebreak_spelled ebreak_spelled ebreak_spelled ebreak_spelled ebreak_spelled ebreak_spelled ebreak_spelled ebreak_spelled ebreak_spelled ebreak_spelled ebreak_spelled ebreak_spelled ebreak_spelled
+  unfolding AllBelow
+  stops n below = let e = ebreak_spelled in one_below (StopsAt stopping) 16 n (((((((((((((((((tt, e), e), e), e), e), e), e), e), e), e), e), e), e), e), e), e) below
 
 pub undecodable_stricter : IsStricter V1 0x01000004 (sandbox undecodable_after_ebreak)
 undecodable_stricter =

@@ -1,5 +1,6 @@
 -- Each turn keeps a good state, and so does each run.
-use Rattle.sfi_check.proofs.Prelude.{◌≡◌, ℕ, ◌+◌, ◌<◌, List, [], ◌∷◌, length, Option, Some, None, false, refl, sym, ap, ◌∙◌, subst, arith, Instr, Ecall, InRange, Bytes, address_after, Call, Read, State, Stands, IsStep, unchanged, Part, ends_region, IsGate, HasCode, HasReserved, HasEmptyGuards, KeepsBytes, IsReply, IsChange, Turn, Steps, Replies, Changes, IsTurn, IsRun, after_turn, IsSafeState, IsSafeTurn, IsSafeRun, Leaves, StackInDataBefore, IsCleanPart, IsGood, IsGoodIf, EntryIsGood, TurnKeeps, CleanRunsSafely}
+use Rattle.sfi_check.proofs.Prelude.{◌≡◌, ℕ, ◌+◌, ◌<◌, List, [], ◌∷◌, length, Option, Some, None, false, refl, sym, ap, ◌∙◌, subst, arith, Instr, Ecall, InRange, Bytes, address_after, Call, State, Stands, IsStep, unchanged, Part, ends_region, IsGate, HasCode, HasReserved, HasEmptyGuards, KeepsBytes, IsReply, IsChange, Turn, Steps, Replies, Changes, IsTurn, IsRun, after_turn, IsSafeState, IsSafeTurn, IsSafeRun, Leaves, StackInDataBefore, IsCleanPart, IsGood, IsGoodIf, EntryIsGood, TurnKeeps, CleanRunsSafely}
+use Rattle.rv_comp.specs.declared.front.Front.TheVariants.{Read}
 use Rattle.sfi_check.proofs.Places.{at_start, pc_in_code, byte_in_code}
 use Rattle.sfi_check.proofs.NextPlace.{goes_on}
 use Rattle.sfi_check.proofs.Stacking.{stack_lies}

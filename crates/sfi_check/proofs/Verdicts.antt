@@ -1,5 +1,9 @@
 -- What the refusal of bytes with a fault says.
-use Rattle.sfi_check.proofs.Prelude.{◌≡◌, ℕ, List, Err, LayoutFault, ImageFault, Part, IsFault, IfLayout, refusal_of, IfLayoutFault}
+use Rattle.sfi_check.proofs.Prelude.{◌≡◌, ℕ, List, Err, Part, IsFault}
+use Rattle.sfi_check.specs.Refusals.{refusal_of, IfLayoutFault}
+use Rattle.sfi_image.specs.Outcome.{IfLayout}
+use Rattle.sfi_image.specs.declared.fault.ImageFault.{ImageFault}
+use Rattle.sfi_image.specs.declared.fault.LayoutFault.{LayoutFault}
 use Rattle.sfi_check.specs.Verdict.{AnswersLayout}
 use Rattle.sfi_image.specs.declared.fault.ImageFault.TheVariants as image
 

@@ -1,5 +1,6 @@
 -- Code regions are whole bundles, and end within the addresses; so each number of a right sandbox has 32 bits.
-use Rattle.sfi_image.proofs.Prelude.{◌≡◌, ℕ, ◌+◌, ◌-◌, ◌*◌, ◌^◌, ◌<◌, ◌≤◌, ap, ◌∙◌, ⊎_elim, arith, pow-add, pow_below, cases_lt, Format, code_most, bundle_size, Part, AreWords, IsCodeRegion, IsRightPart, WholeBundles, CodeEnds}
+use Rattle.sfi_image.proofs.Prelude.{◌≡◌, ℕ, ◌+◌, ◌-◌, ◌*◌, ◌^◌, ◌<◌, ◌≤◌, ap, ◌∙◌, ⊎_elim, arith, pow-add, pow_below, cases_lt, Format, code_most, bundle_size, Part, AreWords, IsCodeRegion, IsRightPart}
+use Rattle.sfi_image.specs.Laws.{WholeBundles, CodeEnds}
 use Rattle.sfi_image.proofs.Formats.{code_at_most}
 
 -- powers of two in the order of their exponents

@@ -1,5 +1,7 @@
 -- What is spelled at the front of bytes is determined by them.
-use Rattle.sfi_image.proofs.Prelude.{◌≡◌, ℕ, ◌+◌, List, [], ◌∷◌, ◌++◌, length, take, refl, sym, ap, ◌∙◌, arith, append_assoc, inl, inr, ◌⊎◌, w32, to_le_bytes, from_le_bytes, All, flat_map, take-append_seam, from_le_bytes-to_le_bytes_4, append_cancel_left, length-append, All-head, All-tail, Format, Gate, Fields, Part, fields_of, number, fields, gate, part, IsWord, AreFieldWords, AreGateWords, AreWords}
+use Rattle.sfi_image.proofs.Prelude.{◌≡◌, ℕ, ◌+◌, List, [], ◌∷◌, ◌++◌, length, take, refl, sym, ap, ◌∙◌, arith, append_assoc, inl, inr, ◌⊎◌, All, flat_map, from_le_bytes-to_le_bytes_4, append_cancel_left, length-append, All-head, All-tail, Format, Gate, Fields, Part, fields_of, number, fields, gate, part, IsWord, AreFieldWords, AreGateWords, AreWords}
+use Rattle.std.proofs.Math.Seq.{take-append_seam}
+use Rattle.std.specs.Int.{w32, to_le_bytes, from_le_bytes}
 
 -- two fronts of one length are the same front
 pub same_front : (xs ys : List ℕ) (r s : List ℕ) → length xs ≡ length ys → xs ++ r ≡ ys ++ s → (xs ≡ ys) × (r ≡ s)

@@ -1,5 +1,6 @@
 -- What holds of images, of their faults and regions: the laws, for proofs here and in the crates above.
-use Rattle.sfi_image.proofs.Prelude.{OneImage, NeverBoth, OneFault, SomeReading, WholeBundles, CodeEnds, RightInSecond, CutShort, Trails, WholeIsImage}
+use Rattle.sfi_image.specs.Fronts.{CutShort, Trails, WholeIsImage}
+use Rattle.sfi_image.specs.Laws.{OneImage, NeverBoth, OneFault, SomeReading, WholeBundles, CodeEnds, RightInSecond}
 use Rattle.sfi_image.proofs.Bundles as bundles
 use Rattle.sfi_image.proofs.Ending as ending
 use Rattle.sfi_image.proofs.OneReading as reading

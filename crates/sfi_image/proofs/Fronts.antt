@@ -1,5 +1,6 @@
 -- What stands at the front of bytes that are long enough.
-use Rattle.sfi_image.proofs.Prelude.{◌≡◌, ℕ, ◌+◌, ◌<◌, ◌≤◌, List, ◌++◌, length, take, drop, refl, sym, ap, ◌∙◌, arith, inl, inr, All, cases_lt, take-append-drop, length-take, length-drop, get_or-drop, get_or_past, Format, little_number, Gate, Fields, number, fields, gate, IsWord, AreFieldWords, AreGateWords}
+use Rattle.sfi_image.proofs.Prelude.{◌≡◌, ℕ, ◌+◌, ◌<◌, ◌≤◌, List, ◌++◌, length, take, drop, refl, sym, ap, ◌∙◌, arith, inl, inr, All, cases_lt, take-append-drop, length-take, length-drop, get_or-drop, get_or_past, Format, Gate, Fields, number, fields, gate, IsWord, AreFieldWords, AreGateWords}
+use Rattle.byteorder.specs.Endian.{little_number}
 use Rattle.sfi_image.proofs.Numbers.{IsBytes, IsBytes-take, number_of_bytes}
 use Rattle.sfi_image.proofs.Cancelling.{gate_split, fields_split}
 

@@ -1,5 +1,8 @@
 -- Gates that follow one another.
-use Rattle.sfi_image.proofs.Prelude.{◌≡◌, ℕ, ◌+◌, ◌-◌, ◌<◌, ◌≤◌, List, [], ◌∷◌, ◌++◌, length, map, get_or, refl, sym, ap, subst, ◌∙◌, arith, append_assoc, inl, inr, lt_trans, ltb, ◌↔◌, IsTrue, slice_get, Option, None, Some, All, AllPairs, flat_map, option_map, cases_lt, ltb-true, lt-ltb, flat_map-append, length-map, length_push, length-append, get_or_append_left, get_or_push, get_or_from_slice_get, slice_get_within, slice_get-map, All-push, all_pairs_push, service_most, Gate, Fields, Span, gate, AreGateWords, code_span, IsBundleStart, AreGates}
+use Rattle.sfi_image.proofs.Prelude.{◌≡◌, ℕ, ◌+◌, ◌-◌, ◌<◌, ◌≤◌, List, [], ◌∷◌, ◌++◌, length, map, get_or, refl, sym, ap, subst, ◌∙◌, arith, append_assoc, inl, inr, lt_trans, ltb, ◌↔◌, IsTrue, slice_get, Option, None, Some, All, AllPairs, flat_map, cases_lt, ltb-true, lt-ltb, flat_map-append, length-map, length_push, length-append, get_or_append_left, get_or_push, All-push, service_most, Gate, Fields, Span, gate, AreGateWords, code_span, IsBundleStart, AreGates}
+use Rattle.std.proofs.lemmas.List.Quantifiers.{all_pairs_push}
+use Rattle.std.proofs.lemmas.Option.{get_or_from_slice_get, slice_get_within, slice_get-map}
+use Rattle.std.specs.Option.{option_map}
 
 -- above the last of ascending gates is above all
 pub above_last : (gs : List Gate) (at : ℕ) (g : Gate) → AllPairs (λ g h. g.address < h.address) gs → slice_get gs (length gs - 1) ≡ Some g

@@ -1,5 +1,6 @@
 -- Numbers and their bytes.
-use Rattle.sfi_image.proofs.Prelude.{◌≡◌, ℕ, ◌<◌, List, length, get_or, take, arith, inl, inr, le_bytes_4, get_or-take, get_or_past, length-take, cases_lt, little_number, number}
+use Rattle.sfi_image.proofs.Prelude.{◌≡◌, ℕ, ◌<◌, List, length, get_or, take, arith, inl, inr, le_bytes_4, get_or-take, get_or_past, length-take, cases_lt, number}
+use Rattle.byteorder.specs.Endian.{little_number}
 
 abbrev pub IsBytes : List ℕ → Type 0
 IsBytes bytes = (i : ℕ) → get_or bytes i 0 < 256

@@ -1,5 +1,7 @@
 -- Reading an image by a reader: its faults and its parts.
-use Rattle.sfi_image.proofs.Prelude.{◌≡◌, ℕ, ◌+◌, ◌<◌, eqb, true, List, [], ◌∷◌, ◌++◌, length, cond, refl, sym, ap, ◌∙◌, subst, arith, append_assoc, inl, inr, Result, Ok, Err, eqb_tells, All, flat_map, eq-eqb, length-append, append-nil, Format, magic, Gate, Fields, LayoutFault, Part, number, fields, gate, part, IsWord, AreFieldWords, AreGateWords, IsFault, Front, front, head, want_of, IsLess, part_of, after_parts, after_init, after_code, after_gates, HasFaultWhateverFollows, AfterMagic, AfterCount, InGates, InCode, InInit, Whole, ReaderState, StandsFor, Leads, MayTake, next_code, ImageFault, IfLayout, Reads, All-head, All-tail}
+use Rattle.sfi_image.proofs.Prelude.{◌≡◌, ℕ, ◌+◌, ◌<◌, eqb, true, List, [], ◌∷◌, ◌++◌, length, cond, refl, sym, ap, ◌∙◌, subst, arith, append_assoc, inl, inr, Result, Ok, Err, eqb_tells, All, flat_map, eq-eqb, length-append, append-nil, Format, magic, Gate, Fields, LayoutFault, Part, number, fields, gate, part, IsWord, AreFieldWords, AreGateWords, IsFault, Front, front, head, want_of, IsLess, part_of, after_parts, after_init, after_code, after_gates, HasFaultWhateverFollows, AfterMagic, AfterCount, InGates, InCode, InInit, Whole, ReaderState, StandsFor, Leads, MayTake, next_code, IfLayout, All-head, All-tail}
+use Rattle.sfi_image.specs.declared.fault.ImageFault.{ImageFault}
+use Rattle.sfi_image.specs.private.Outcome.{Reads}
 use Rattle.sfi_image.specs.declared.want.Next.TheVariants as next
 use Rattle.sfi_image.proofs.Following.{head_push}
 use Rattle.sfi_image.proofs.Cancelling.{same_gate, same_fields, same_number}

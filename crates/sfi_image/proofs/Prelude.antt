@@ -1,39 +1,25 @@
--- The words of definitions and of std that the proofs of this crate speak of.
+-- Words of std and of definitions that many proofs of this crate use.
 pub use Rattle.std.proofs.Common.{◌≡◌, ℕ, ◌+◌, ◌-◌, ◌*◌, ◌^◌, ◌<◌, ◌≤◌, ap, ◌∙◌, ⊎_elim, arith, List, [], ◌∷◌, ◌++◌, length, take, refl, sym, append_assoc, inl, inr, ◌⊎◌, ◌%◌, suc, Option, Some, None, subst, get_or, drop, map, lt_trans, ltb, ◌↔◌, IsTrue, Result, Ok, Err, eqb, true, cond, ◌/◌, false, zero, below_more, ◌==◌, Bool, rules}
 pub use Rattle.std.specs.Prelude.{count_ones, slice_get, IfErr, nat_le, ◌≢◌, slice_index_or}
-pub use Rattle.std.proofs.Math.Bool.{or-false}
-pub use Rattle.std.proofs.Math.ListN.{get_or-map}
-pub use Rattle.std.proofs.Math.Nat.{pow-suc, div-add-mod', mul-mod_left}
-pub use Rattle.std.proofs.Math.Seq.{take-append_seam, split_at}
 pub use Rattle.std.proofs.lemmas.Bool.{cases_lt, cases_eq, eqb-true, eq-eqb, ltb-true, lt-ltb, ne_eqb, eqb-false}
 pub use Rattle.std.proofs.lemmas.Bool.Decides.{eqb_tells, nat_tests, Decides-eqb}
 pub use Rattle.std.proofs.lemmas.Grind.{flat_map-append}
 pub use Rattle.std.proofs.lemmas.List.{append_cancel_left, length-append, append-nil, take-append-drop, length-take, length-drop, get_or-drop, get_or_past, length-map, length_push, get_or_append_left, get_or_push, get_or-take, take_more, map_push, get_or_default, get_or-append_right, drop-drop, take_all, take-map}
 pub use Rattle.std.proofs.lemmas.List.Elements.{All-head, All-tail, All-nil, All-cons, All-push, All-append, All-from_recursion, All-map, All-weaker}
-pub use Rattle.std.proofs.lemmas.List.Kept.{AllPairs-cons}
-pub use Rattle.std.proofs.lemmas.List.Quantifiers.{all_pairs_push}
 pub use Rattle.std.proofs.lemmas.Nat.{pow-add, pow_below, from_le_bytes-to_le_bytes_4, le_bytes_4, zero_from_ones, ones_le_self}
-pub use Rattle.std.proofs.lemmas.Option.{get_or_from_slice_get, slice_get_within, slice_get-map}
 pub use Rattle.std.proofs.lemmas.Result.{err_from_is_err_and}
-pub use Rattle.std.proofs.lemmas.Slice.Eq.{slice_eq-Decides}
-pub use Rattle.std.specs.Int.{w32, to_le_bytes, from_le_bytes, IsPowerOfTwo}
-pub use Rattle.std.specs.Int.Count.{ones_step, ones, ones_in}
 pub use Rattle.std.specs.List.{All, flat_map, AllPairs, AllByRecursion}
-pub use Rattle.std.specs.Option.{option_map}
 pub use Rattle.sfi_policy.specs.Formats.{code_most, magic}
 pub use Rattle.sfi_policy.specs.Limits.{bundle_size, gates_most, service_most}
 pub use Rattle.sfi_policy.specs.declared.format.Format.{Format}
 pub use Rattle.sfi_policy.specs.declared.format.Format.TheVariants.{Sfi1, Sfi2}
-pub use Rattle.byteorder.specs.Endian.{little_number}
 pub use Rattle.sfi_image.specs.Bounded.{IsBounded}
 pub use Rattle.sfi_image.specs.Faults.{IsFault, IsBodyFault, IsPartFault, ArePartsFault, IsCountFault, IsGateShort, IsGateWrong, AreContentsShort}
 pub use Rattle.sfi_image.specs.Fronts.{front, head, IsRightFront, CutShort, Trails, WholeIsImage, Front, IsHead, IsOpened, part_of, after_parts, after_init, after_code, after_gates, Follows, want_of, IsLess, HasFaultWhateverFollows, IsLengthOf, ArePlainNext}
 pub use Rattle.sfi_image.specs.Fronts.Front.{Empty, AfterMagic, AfterCount, InGates, InCode, InInit, Whole}
 pub use Rattle.sfi_image.specs.Gates.{AreGates, is_gate_of}
 pub use Rattle.sfi_image.specs.Images.{IsImage}
-pub use Rattle.sfi_image.specs.InFormat.{in_format, all_in_format}
 pub use Rattle.sfi_image.specs.Keeping.{ReaderState, StandsFor, Leads, IsReader, AreAhead, is_one_of, KeepsHead, KeepsFields, KeepsCode, AreRest}
-pub use Rattle.sfi_image.specs.Laws.{WholeBundles, CodeEnds, OneImage, NeverBoth, OneFault, SomeReading, RightInSecond}
 pub use Rattle.sfi_image.specs.Outcome.{IfLayout}
 pub use Rattle.sfi_image.specs.Parts.{IsRightPart, AreOf, AreRight, IsRightLayout}
 pub use Rattle.sfi_image.specs.Reader.{kept}
@@ -41,15 +27,9 @@ pub use Rattle.sfi_image.specs.Regions.{IsCodeRegion, IsRegion, HasGuardRoom, Is
 pub use Rattle.sfi_image.specs.Spans.{Holds, AreApart, code_span, spans_of, spans, code_region, guarded_span}
 pub use Rattle.sfi_image.specs.Spelling.{Part, AreWords, fields_of, number, fields, gate, part, IsWord, AreFieldWords, AreGateWords, format_of, spelling, views, view}
 pub use Rattle.sfi_image.specs.Tests.{FieldTest, Passes, IsFirstFault, fault_of, field_tests}
-pub use Rattle.sfi_image.specs.Tests.FieldTest.{Code, Data, GuardRoom, Start, Gates, Init, Overlap}
-pub use Rattle.sfi_image.specs.Writing.{HasWrongGate, HasFault, HasWrongPart, HaveFault}
-pub use Rattle.sfi_image.specs.declared.fault.ImageFault.{ImageFault}
 pub use Rattle.sfi_image.specs.declared.fault.LayoutFault.{LayoutFault}
 pub use Rattle.sfi_image.specs.declared.fault.LayoutFault.TheVariants.{Count, Short, Trailing, Magic}
 pub use Rattle.sfi_image.specs.declared.fields.Fields.{Fields}
 pub use Rattle.sfi_image.specs.declared.part.Gate.{Gate}
-pub use Rattle.sfi_image.specs.declared.part.SandboxPart.{SandboxPart}
 pub use Rattle.sfi_image.specs.declared.span.Span.{Span}
 pub use Rattle.sfi_image.specs.private.Keeping.{MayTake, next_code, is_first, AreFrom, HasPlain, next_part, next_init, next_gate}
-pub use Rattle.sfi_image.specs.private.Outcome.{Reads}
-pub use Rattle.sfi_image.specs.private.Writing.{capped, capped_fields}

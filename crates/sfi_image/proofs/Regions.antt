@@ -1,5 +1,8 @@
 -- Powers of two, multiples and spans.
-use Rattle.sfi_image.proofs.Prelude.{◌≡◌, ℕ, zero, suc, ◌/◌, ◌%◌, ◌^◌, ◌<◌, ◌≤◌, refl, ap, ◌∙◌, arith, ◌⊎◌, inl, inr, eqb, IsTrue, ◌↔◌, ◌≢◌, count_ones, IsPowerOfTwo, ones_step, ones, ones_in, zero_from_ones, ones_le_self, pow-suc, div-add-mod', mul-mod_left, cases_lt, eqb-true, eq-eqb, IsRegion}
+use Rattle.sfi_image.proofs.Prelude.{◌≡◌, ℕ, zero, suc, ◌/◌, ◌%◌, ◌^◌, ◌<◌, ◌≤◌, refl, ap, ◌∙◌, arith, ◌⊎◌, inl, inr, eqb, IsTrue, ◌↔◌, ◌≢◌, count_ones, zero_from_ones, ones_le_self, cases_lt, eqb-true, eq-eqb, IsRegion}
+use Rattle.std.proofs.Math.Nat.{pow-suc, div-add-mod', mul-mod_left}
+use Rattle.std.specs.Int.{IsPowerOfTwo}
+use Rattle.std.specs.Int.Count.{ones_step, ones, ones_in}
 
 power_by : (d n : ℕ) → n ≤ d → count_ones n ≡ 1 → IsPowerOfTwo n
 power_by zero n le e = absurd (omega (arith, ones_le_self n))

@@ -1,5 +1,6 @@
 -- Bytes have an image or a fault.
-use Rattle.sfi_image.proofs.Prelude.{◌≡◌, ℕ, ◌+◌, ◌<◌, ◌≤◌, List, [], ◌∷◌, ◌++◌, length, take, drop, refl, sym, ap, subst, ◌∙◌, arith, zero, suc, inl, inr, ◌⊎◌, Some, None, Option, AllPairs, flat_map, cases_lt, take-append-drop, length-take, length-drop, All-nil, Format, Sfi1, Sfi2, magic, Gate, Fields, Span, LayoutFault, Magic, Count, Short, Trailing, Part, fields_of, number, fields, part, AreFieldWords, AreApart, code_span, spans_of, IsRightPart, AreOf, AreRight, IsFirstFault, field_tests, IsImage, IsBodyFault, IsPartFault, ArePartsFault, IsCountFault, IsFault, SomeReading}
+use Rattle.sfi_image.proofs.Prelude.{◌≡◌, ℕ, ◌+◌, ◌<◌, ◌≤◌, List, [], ◌∷◌, ◌++◌, length, take, drop, refl, sym, ap, subst, ◌∙◌, arith, zero, suc, inl, inr, ◌⊎◌, Some, None, Option, AllPairs, flat_map, cases_lt, take-append-drop, length-take, length-drop, All-nil, Format, Sfi1, Sfi2, magic, Gate, Fields, Span, LayoutFault, Magic, Count, Short, Trailing, Part, fields_of, number, fields, part, AreFieldWords, AreApart, code_span, spans_of, IsRightPart, AreOf, AreRight, IsFirstFault, field_tests, IsImage, IsBodyFault, IsPartFault, ArePartsFault, IsCountFault, IsFault}
+use Rattle.sfi_image.specs.Laws.{SomeReading}
 use Rattle.sfi_image.specs.declared.fault.LayoutFault.TheVariants.{Gates}
 use Rattle.sfi_image.proofs.Numbers.{IsBytes}
 use Rattle.sfi_image.proofs.GateLists.{GatesRead, GatesRead-push}

@@ -1,5 +1,6 @@
 -- Spans that lie apart.
-use Rattle.sfi_image.proofs.Prelude.{◌≡◌, ℕ, ◌+◌, ◌-◌, ◌<◌, List, [], ◌∷◌, ◌++◌, length, get_or, refl, ap, ◌∙◌, arith, append_assoc, subst, below_more, All, AllPairs, length-append, get_or_append_left, get_or_default, get_or-append_right, All-push, all_pairs_push, Span, AreApart}
+use Rattle.sfi_image.proofs.Prelude.{◌≡◌, ℕ, ◌+◌, ◌-◌, ◌<◌, List, [], ◌∷◌, ◌++◌, length, get_or, refl, ap, ◌∙◌, arith, append_assoc, subst, below_more, All, AllPairs, length-append, get_or_append_left, get_or_default, get_or-append_right, All-push, Span, AreApart}
+use Rattle.std.proofs.lemmas.List.Quantifiers.{all_pairs_push}
 
 -- one more step over the spans before
 pub apart_more : (xs : List Span) (one : Span) (i : ℕ) (x : Span) → i < length xs → ((k : ℕ) (d : Span) → k < i → AreApart (get_or xs k d) one)

@@ -1,5 +1,6 @@
 -- What a reader stands for after each step.
-use Rattle.sfi_image.proofs.Prelude.{◌≡◌, ℕ, zero, suc, ◌+◌, ◌*◌, ◌%◌, ◌<◌, ◌≤◌, ◌==◌, Bool, true, false, ◌^◌, List, [], ◌∷◌, ◌++◌, length, map, drop, cond, refl, sym, ap, ◌∙◌, subst, arith, inl, inr, None, or-false, eqb_tells, All, AllPairs, eqb-true, eqb-false, ne_eqb, length_push, drop-drop, Format, magic, Gate, Fields, Span, Part, number, AreFieldWords, code_span, spans, spans_of, AreGates, is_gate_of, AreOf, AreRight, IsFirstFault, field_tests, Front, IsHead, IsOpened, IsRightFront, part_of, after_parts, after_init, after_code, after_gates, Follows, Empty, AfterMagic, AfterCount, ReaderState, KeepsHead, KeepsFields, StandsFor, KeepsCode, IsReader, Leads, AreAhead, AreRest, is_one_of, next_part, next_init, next_code, next_gate, is_first}
+use Rattle.sfi_image.proofs.Prelude.{◌≡◌, ℕ, zero, suc, ◌+◌, ◌*◌, ◌%◌, ◌<◌, ◌≤◌, ◌==◌, Bool, true, false, ◌^◌, List, [], ◌∷◌, ◌++◌, length, map, drop, cond, refl, sym, ap, ◌∙◌, subst, arith, inl, inr, None, eqb_tells, All, AllPairs, eqb-true, eqb-false, ne_eqb, length_push, drop-drop, Format, magic, Gate, Fields, Span, Part, number, AreFieldWords, code_span, spans, spans_of, AreGates, is_gate_of, AreOf, AreRight, IsFirstFault, field_tests, Front, IsHead, IsOpened, IsRightFront, part_of, after_parts, after_init, after_code, after_gates, Follows, Empty, AfterMagic, AfterCount, ReaderState, KeepsHead, KeepsFields, StandsFor, KeepsCode, IsReader, Leads, AreAhead, AreRest, is_one_of, next_part, next_init, next_code, next_gate, is_first}
+use Rattle.std.proofs.Math.Bool.{or-false}
 use Rattle.sfi_image.specs.declared.want.Next.TheVariants as next
 use Rattle.sfi_image.proofs.FieldTests.{all_pass}
 use Rattle.sfi_image.proofs.PartLists.{spans_push}

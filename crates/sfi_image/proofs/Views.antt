@@ -1,5 +1,6 @@
 -- Parts of one format.
-use Rattle.sfi_image.proofs.Prelude.{◌≡◌, zero, suc, ◌≤◌, List, [], ◌∷◌, length, refl, arith, Format, SandboxPart, Part, views, format_of, AreOf}
+use Rattle.sfi_image.proofs.Prelude.{◌≡◌, zero, suc, ◌≤◌, List, [], ◌∷◌, length, refl, arith, Format, Part, views, format_of, AreOf}
+use Rattle.sfi_image.specs.declared.part.SandboxPart.{SandboxPart}
 
 -- the first one tells it
 pub same_format : {format : Format} (ps : List Part) → AreOf format ps → 1 ≤ length ps → format_of ps ≡ format

@@ -1,5 +1,14 @@
 -- A text has one build or one fault.
-use Rattle.sfi_link.proofs.Prelude.{◌≡◌, ℕ, List, [], ◌∷◌, ap, subst, ◌⊎◌, inl, inr, Vec, Global, Result, Ok, Err, IfOk, IfErr, Sandbox, MeansSource, RewriteFault, Placement, IsSourceFault, AreRewritten, Place, BuildFault, Text, Rewrite, Link, IsLinkedImage, ArePlacements, IsBuild, IsLinkFault, ImageRunsAs, IsTextBuild, IsCleanImage, IsBuildFault, IsWantOfMemory, AnswersBuild, AnswersBuildFault}
+use Rattle.sfi_link.proofs.Prelude.{◌≡◌, ℕ, List, [], ◌∷◌, ap, subst, ◌⊎◌, inl, inr, Vec, Global, Result, Ok, Err, IfOk, IfErr, Sandbox, Placement, Place, IsLinkFault}
+use Rattle.rv_text.specs.Texts.{MeansSource}
+use Rattle.sfi_link.specs.Building.{IsLinkedImage, ArePlacements, IsBuild}
+use Rattle.sfi_link.specs.Standing.{ImageRunsAs}
+use Rattle.sfi_link.specs.Texts.{IsTextBuild, IsCleanImage, IsBuildFault, IsWantOfMemory, AnswersBuild, AnswersBuildFault}
+use Rattle.sfi_link.specs.declared.build_fault.BuildFault.{BuildFault}
+use Rattle.sfi_link.specs.declared.build_fault.BuildFault.TheVariants.{Text, Rewrite, Link}
+use Rattle.sfi_rewrite.specs.Faults.{IsSourceFault}
+use Rattle.sfi_rewrite.specs.Rewriting.{AreRewritten}
+use Rattle.sfi_rewrite.specs.declared.fault.RewriteFault.{RewriteFault}
 use Rattle.rv_text.proofs.Facts as texts
 use Rattle.sfi_rewrite.proofs.Facts as sources
 use Rattle.sfi_link.proofs.Linking.{one_bytes, never}

@@ -1,5 +1,17 @@
 -- A bundle of whole expansions breaks no rule.
-use Rattle.sfi_link.proofs.Prelude.{◌≡◌, ℕ, zero, suc, ◌+◌, ◌^◌, ◌<◌, ◌≤◌, List, [], ◌∷◌, ◌++◌, length, Option, Some, None, Bool, true, false, refl, sym, ap, ◌∙◌, subst, arith, append_assoc, inl, inr, replicate, ℤ, pos, negsuc, ◌-ℤ◌, ◌==◌, ◌&&◌, ◌||◌, not, MatchBool, offset_by, And, Or, Addi, Instr, Op, OpImm, Load, Store, Branch, Jal, Jalr, Lui, Fence, Ecall, Ebreak, destination, is_register, writes_register, has_stack, is_stack, Body, Plain, To, High, Low, IsBody, BundlePlace, Piece, is_reserved, is_withheld, follows_data_pair, writes_stack, begins_pair, ends_pair, precedes_pair, is_jump, is_bundle_start, breaks_reserved, breaks_stack, upper, lower, Slot, Wide, Short, Jump, Upper, Lower, PlacedName, names_withheld, item_names_withheld, is_ecall, slot_size, size_of, c_nop, jump_to_x31, jump_slots, IsAlone, IsMasked, IsExpansionOf, AreWhole, nothing, padding, Bases, target_at, address_at, with_offset, c_ebreak, resolved, made_of, AreSlots}
+use Rattle.sfi_link.proofs.Prelude.{◌≡◌, ℕ, zero, suc, ◌+◌, ◌^◌, ◌<◌, ◌≤◌, List, [], ◌∷◌, ◌++◌, length, Option, Some, None, Bool, true, false, refl, sym, ap, ◌∙◌, subst, arith, append_assoc, inl, inr, replicate, ℤ, pos, negsuc, ◌-ℤ◌, ◌==◌, ◌&&◌, ◌||◌, not, MatchBool, Addi, Instr, Op, OpImm, Load, Store, Branch, Jal, Jalr, Lui, Fence, Ecall, Ebreak, has_stack, is_stack, IsBody, Piece, upper, lower, Slot, Wide, Short, Jump, Upper, Lower, PlacedName, slot_size, size_of, c_nop, AreWhole, nothing, padding, Bases, target_at, address_at, with_offset, c_ebreak, resolved, made_of, AreSlots}
+use Rattle.rv_source.specs.declared.item.Body.{Body}
+use Rattle.rv_source.specs.declared.item.Body.TheVariants.{Plain, To, High, Low}
+use Rattle.rv_word.specs.Numbers.{offset_by}
+use Rattle.rv_word.specs.Writes.{destination, is_register, writes_register}
+use Rattle.rv_word.specs.declared.instr.RegOp.TheVariants.{And, Or}
+use Rattle.sfi_policy.specs.Registers.{is_reserved, is_withheld}
+use Rattle.sfi_rewrite.specs.Expansion.{jump_to_x31, jump_slots, IsAlone, IsMasked, IsExpansionOf}
+use Rattle.sfi_rewrite.specs.Registers.{names_withheld, item_names_withheld, is_ecall}
+use Rattle.sfi_scan.specs.Pairs.{follows_data_pair}
+use Rattle.sfi_scan.specs.Rules.{is_bundle_start, breaks_reserved, breaks_stack}
+use Rattle.sfi_scan.specs.Stack.{writes_stack, begins_pair, ends_pair, precedes_pair, is_jump}
+use Rattle.sfi_scan.specs.declared.bundle.BundlePlace.{BundlePlace}
 use Rattle.sfi_rewrite.specs.Placed.{expansion as whole_expansion}
 use Rattle.std.proofs.lemmas.Bool as bool
 use Rattle.sfi_rewrite.specs.Stack as stack

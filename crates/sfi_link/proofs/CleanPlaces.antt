@@ -1,5 +1,17 @@
 -- No rule is broken at the place of an instruction.
-use Rattle.sfi_link.proofs.Prelude.{◌≡◌, ℕ, ◌+◌, ◌^◌, ◌<◌, List, [], ◌∷◌, ◌++◌, length, take, drop, Option, Some, None, Bool, true, false, refl, sym, ap, ◌∙◌, subst, arith, length-append, ℤ, pos, negsuc, ◌+ℤ◌, ◌-ℤ◌, ◌==◌, ◌&&◌, ◌||◌, not, take-append_seam, drop-append_seam, and_right, or_parts, ints, modulo, offset_by, And, Or, Instr, Op, OpImm, Load, Branch, Jal, Jalr, Lui, Auipc, Fence, Ebreak, writes_register, CEbreak, Spells, expansion, has_stack, is_stack, To, IsBody, BundlePlace, Piece, IsReading, rest_of, is_masking, is_placing, is_reserved, is_withheld, writes_stack, begins_pair, precedes_pair, is_empty, is_bundle_start, breaks_ecall, breaks_reserved, breaks_access, breaks_jump, breaks_target, breaks_end, breaks_stack, may_write_stack, ends_region, is_last_bundle, lowest, all_rules, findings_from, Slot, Wide, Short, PlacedName, names_withheld, slot_size, size_of, Bases, target_at, with_offset, resolved, made_of, IsSlot}
+use Rattle.sfi_link.proofs.Prelude.{◌≡◌, ℕ, ◌+◌, ◌^◌, ◌<◌, List, [], ◌∷◌, ◌++◌, length, take, drop, Option, Some, None, Bool, true, false, refl, sym, ap, ◌∙◌, subst, arith, length-append, ℤ, pos, negsuc, ◌+ℤ◌, ◌-ℤ◌, ◌==◌, ◌&&◌, ◌||◌, not, and_right, or_parts, ints, Instr, Op, OpImm, Load, Branch, Jal, Jalr, Lui, Auipc, Fence, Ebreak, Spells, expansion, has_stack, is_stack, IsBody, Piece, IsReading, rest_of, is_masking, is_placing, Slot, Wide, Short, PlacedName, slot_size, size_of, Bases, target_at, with_offset, resolved, made_of, IsSlot}
+use Rattle.rv_comp.specs.declared.form.Form16.TheVariants.{CEbreak}
+use Rattle.rv_source.specs.declared.item.Body.TheVariants.{To}
+use Rattle.rv_word.specs.Numbers.{modulo, offset_by}
+use Rattle.rv_word.specs.Writes.{writes_register}
+use Rattle.rv_word.specs.declared.instr.RegOp.TheVariants.{And, Or}
+use Rattle.sfi_policy.specs.Registers.{is_reserved, is_withheld}
+use Rattle.sfi_rewrite.specs.Registers.{names_withheld}
+use Rattle.sfi_scan.specs.Findings.{lowest, all_rules, findings_from}
+use Rattle.sfi_scan.specs.Rules.{is_empty, is_bundle_start, breaks_ecall, breaks_reserved, breaks_access, breaks_jump, breaks_target, breaks_end, breaks_stack, may_write_stack, ends_region, is_last_bundle}
+use Rattle.sfi_scan.specs.Stack.{writes_stack, begins_pair, precedes_pair}
+use Rattle.sfi_scan.specs.declared.bundle.BundlePlace.{BundlePlace}
+use Rattle.std.proofs.Math.Seq.{take-append_seam, drop-append_seam}
 use Rattle.sfi_scan.specs.Rules.{Place}
 use Rattle.sfi_rewrite.specs.Stack as stack
 use Rattle.rv_comp.proofs.Facts.{word_spells, spelled_length}

@@ -1,5 +1,6 @@
 -- A sandbox that lies beside others.
-use Rattle.sfi_link.proofs.Prelude.{◌≡◌, ℕ, List, [], ◌∷◌, ◌++◌, sym, ◌∙◌, arith, append_assoc, subst, All, AllPairs, All-push, Span, IsBounded, AreApart, with_guards, Place, Placement, IsRightPlace, spans_at, LiesBeside}
+use Rattle.sfi_link.proofs.Prelude.{◌≡◌, ℕ, List, [], ◌∷◌, ◌++◌, sym, ◌∙◌, arith, append_assoc, subst, All, AllPairs, All-push, Span, AreApart, with_guards, Place, Placement, IsRightPlace, spans_at, LiesBeside}
+use Rattle.sfi_image.specs.Bounded.{IsBounded}
 use Rattle.sfi_image.proofs.Formats.{code_at_most}
 
 pub code_bounded : (p : Placement) (size : ℕ) (place : Place) → IsRightPlace p size place → IsBounded (record { base = place.code_base; size = size })

@@ -1,5 +1,10 @@
 -- What is made of a placed sandbox breaks no rule.
-use Rattle.sfi_link.proofs.Prelude.{◌≡◌, ℕ, ◌+◌, ◌-◌, ◌*◌, ◌^◌, ◌<◌, ◌≤◌, List, [], ◌∷◌, length, replicate, Option, Some, None, refl, sym, ap, ◌∙◌, subst, arith, length-append, slice_get, All, repeat, All-head, All-tail, slice_get_within, get_or_from_slice_get, Format, Part, is_gate_of, IsBundleStart, stub, AreFindings, AreFindingsFrom, Slot, PlacedName, Gate, Code, Data, Unknown, slots_of, Placement, AreWhole, IsPlacedPart, IsPlacedThere, Place, bases_of, of_name, target_of, AreSlots, c_ebreak, needed, gates_from, IsLinked, AreLinkedFrom}
+use Rattle.sfi_link.proofs.Prelude.{◌≡◌, ℕ, ◌+◌, ◌-◌, ◌*◌, ◌^◌, ◌<◌, ◌≤◌, List, [], ◌∷◌, length, replicate, Option, Some, None, refl, sym, ap, ◌∙◌, subst, arith, length-append, slice_get, All, repeat, All-head, All-tail, Format, Part, stub, Slot, PlacedName, slots_of, Placement, AreWhole, IsPlacedPart, IsPlacedThere, Place, bases_of, of_name, target_of, AreSlots, c_ebreak, needed, gates_from, IsLinked, AreLinkedFrom}
+use Rattle.sfi_image.specs.Gates.{is_gate_of}
+use Rattle.sfi_image.specs.Regions.{IsBundleStart}
+use Rattle.sfi_rewrite.specs.declared.placed.PlacedName.TheVariants.{Gate, Code, Data, Unknown}
+use Rattle.sfi_scan.specs.Findings.{AreFindings, AreFindingsFrom}
+use Rattle.std.proofs.lemmas.Option.{slice_get_within, get_or_from_slice_get}
 use Rattle.sfi_scan.specs.Bundles.{place_of}
 use Rattle.sfi_scan.proofs.Facts.{same_bundle_starts}
 use Rattle.sfi_rewrite.proofs.Sizes.{size_of-append}

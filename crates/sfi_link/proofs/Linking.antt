@@ -1,5 +1,13 @@
 -- From the code of each sandbox to the image.
-use Rattle.sfi_link.proofs.Prelude.{◌≡◌, ℕ, zero, suc, ◌+◌, ◌-◌, ◌*◌, ◌/◌, ◌^◌, ◌<◌, ◌≤◌, List, [], ◌∷◌, ◌++◌, length, take, drop, get_or, replicate, refl, sym, ap, ◌∙◌, subst, arith, append_assoc, append-nil, length-append, inl, inr, Vec, Global, max, map, Result, Ok, Err, IfOk, All, AllPairs, repeat, pow-suc, pow_mono, cases_lt, flat_map-append, length-map, length-take-le, map_push, All-nil, Format, Sfi1, Sfi2, code_most, SourceGate, Sandbox, Span, Part, fields_of, IsBounded, stub, PlacedName, size_of, slots_of, Placement, IsPlacedPart, IsPlacedThere, Place, Bases, LinkFault, place_of, IsRightPlace, spans_at, AreApart, spans, spans_of, bases_of, AreSlots, c_ebreak, needed, HasRoom, IsCodeSize, gates_from, IsLinkedCode, IsLinked, AreLinkedFrom, AreLinked, IsLinkedImage, ArePlacements, IsBuild, MayLie, IsSlotFault, HasPartFault, IsPartFault, IsLinkFault, IsNear, AreNear, HasRoomFor, AreWritten, LiesBeside, IsCodeBeside, AreCodes, Links, UnlessMemory, AnswersBytes, AnswersFault}
+use Rattle.sfi_link.proofs.Prelude.{◌≡◌, ℕ, zero, suc, ◌+◌, ◌-◌, ◌*◌, ◌/◌, ◌^◌, ◌<◌, ◌≤◌, List, [], ◌∷◌, ◌++◌, length, take, drop, get_or, replicate, refl, sym, ap, ◌∙◌, subst, arith, append_assoc, append-nil, length-append, inl, inr, Vec, Global, max, map, Result, Ok, Err, IfOk, All, AllPairs, repeat, cases_lt, length-map, length-take-le, map_push, All-nil, Format, code_most, Sandbox, Span, Part, fields_of, stub, PlacedName, size_of, slots_of, Placement, IsPlacedPart, IsPlacedThere, Place, Bases, LinkFault, place_of, IsRightPlace, spans_at, AreApart, spans, spans_of, bases_of, AreSlots, c_ebreak, needed, HasRoom, IsCodeSize, gates_from, IsLinkedCode, IsLinked, AreLinkedFrom, AreLinked, MayLie, IsSlotFault, HasPartFault, IsPartFault, IsLinkFault, IsNear, AreNear, HasRoomFor, AreWritten, LiesBeside, IsCodeBeside, AreCodes, Links}
+use Rattle.rv_source.specs.declared.item.SourceGate.{SourceGate}
+use Rattle.sfi_image.specs.Bounded.{IsBounded}
+use Rattle.sfi_link.specs.Answers.{UnlessMemory, AnswersBytes, AnswersFault}
+use Rattle.sfi_link.specs.Building.{IsLinkedImage, ArePlacements, IsBuild}
+use Rattle.sfi_policy.specs.declared.format.Format.TheVariants.{Sfi1, Sfi2}
+use Rattle.std.proofs.Math.Nat.{pow-suc}
+use Rattle.std.proofs.Math.Pow.{pow_mono}
+use Rattle.std.proofs.lemmas.Grind.{flat_map-append}
 use Rattle.sfi_image.specs.Spelling.{spelling}
 use Rattle.sfi_image.proofs.Formats.{code_at_most}
 use Rattle.sfi_image.proofs.SpanLists.{front_apart}

@@ -1,5 +1,7 @@
 -- A text has one map.
-use Rattle.sfi_link.proofs.Prelude.{◌≡◌, ℕ, zero, suc, ◌+◌, ◌<◌, List, [], ◌∷◌, ◌++◌, length, take, get_or, refl, sym, subst, ap, ◌∙◌, arith, Some, None, ◌⊎◌, inl, inr, Vec, Global, slice_get, Result, Ok, Err, IfOk, IfErr, Sandbox, PlacedName, Placement, Bases, BuildFault, Place, bases_of, Part, IsLinked, AreLinkedFrom, IsBuildFault, IsWantOfMemory, MapEntry, entry_of, entries_of, texts_of, map_from, IsTextMap, AnswersMap, AnswersMapFault}
+use Rattle.sfi_link.proofs.Prelude.{◌≡◌, ℕ, zero, suc, ◌+◌, ◌<◌, List, [], ◌∷◌, ◌++◌, length, take, get_or, refl, sym, subst, ap, ◌∙◌, arith, Some, None, ◌⊎◌, inl, inr, Vec, Global, slice_get, Result, Ok, Err, IfOk, IfErr, Sandbox, PlacedName, Placement, Bases, Place, bases_of, Part, IsLinked, AreLinkedFrom, MapEntry, entry_of, entries_of, texts_of, map_from, IsTextMap, AnswersMap, AnswersMapFault}
+use Rattle.sfi_link.specs.Texts.{IsBuildFault, IsWantOfMemory}
+use Rattle.sfi_link.specs.declared.build_fault.BuildFault.{BuildFault}
 use Rattle.std.proofs.lemmas.List.{append-nil, append_assoc}
 use Rattle.rv_text.proofs.Facts.{one_source}
 use Rattle.sfi_link.proofs.Building.{same_placed, never_built, one_build_fault}

@@ -1,5 +1,6 @@
 -- One list of sandboxes is made of what is placed, or it has one fault.
-use Rattle.sfi_link.proofs.Prelude.{append_assoc, ◌≡◌, ℕ, ◌+◌, ◌*◌, ◌≤◌, List, [], ◌∷◌, ◌++◌, length, replicate, Option, Some, None, sym, ap, ◌∙◌, subst, arith, inl, inr, length-append, pos, ◌-ℤ◌, repeat, w32, to_le_bytes, none-some, Instr, InRange, spelling, Format, Part, fields_of, stub, Slot, Wide, Short, Jump, Upper, Lower, PlacedName, slot_size, size_of, slots_of, Placement, Place, Bases, LinkFault, bases_of, address_at, target_at, with_offset, made_of, IsSlot, AreSlots, place_of, spans_at, Span, AreApart, with_guards, spans_of, spans, AllPairs, c_ebreak, needed, IsCodeSize, IsLinkedCode, IsLinked, AreLinkedFrom, AreLinked, HasSlotFault, IsSlotFault, HasPartFault, IsPartFault, IsLinkFault}
+use Rattle.sfi_link.proofs.Prelude.{append_assoc, ◌≡◌, ℕ, ◌+◌, ◌*◌, ◌≤◌, List, [], ◌∷◌, ◌++◌, length, replicate, Option, Some, None, sym, ap, ◌∙◌, subst, arith, inl, inr, length-append, pos, ◌-ℤ◌, repeat, w32, to_le_bytes, Instr, InRange, spelling, Format, Part, fields_of, stub, Slot, Wide, Short, Jump, Upper, Lower, PlacedName, slot_size, size_of, slots_of, Placement, Place, Bases, LinkFault, bases_of, address_at, target_at, with_offset, made_of, IsSlot, AreSlots, place_of, spans_at, Span, AreApart, with_guards, spans_of, spans, AllPairs, c_ebreak, needed, IsCodeSize, IsLinkedCode, IsLinked, AreLinkedFrom, AreLinked, HasSlotFault, IsSlotFault, HasPartFault, IsPartFault, IsLinkFault}
+use Rattle.std.proofs.lemmas.Option.{none-some}
 use Rattle.sfi_image.proofs.SpanLists.{front_apart}
 use Rattle.sfi_rewrite.proofs.Sizes.{size_of-append}
 use Rattle.sfi_link.proofs.Sizes.{size_fill}

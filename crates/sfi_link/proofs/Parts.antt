@@ -1,5 +1,12 @@
 -- What is made of a placed sandbox has a right layout.
-use Rattle.sfi_link.proofs.Prelude.{◌≡◌, ℕ, zero, suc, ◌+◌, ◌*◌, ◌%◌, ◌^◌, ◌<◌, ◌≤◌, ◌==◌, List, [], ◌∷◌, length, get_or, true, refl, sym, ap, ◌∙◌, subst, arith, inl, inr, length-append, All, AllPairs, eq-eqb, eqb-true, or_right, or_cases, All-nil, All-cons, All-head, All-tail, AllPairs-cons, slice_get-get_or, service_most, Format, SourceGate, Span, Part, format_of, code_region, IsCodeRegion, IsDataRegion, HasGuardRoom, IsBundleStart, is_gate_of, IsRightPart, IsRightLayout, AreOf, Slot, Wide, PlacedName, slot_size, size_of, Placement, IsPlacedPart, IsPlaced, Place, Bases, bases_of, stub_size, IsSlot, AreSlots, place_of, IsRightPlace, needed, HasRoom, gates_from, IsLinked, AreLinkedFrom, AreLinked}
+use Rattle.sfi_link.proofs.Prelude.{◌≡◌, ℕ, zero, suc, ◌+◌, ◌*◌, ◌%◌, ◌^◌, ◌<◌, ◌≤◌, ◌==◌, List, [], ◌∷◌, length, get_or, true, refl, sym, ap, ◌∙◌, subst, arith, inl, inr, length-append, All, AllPairs, eq-eqb, eqb-true, or_right, or_cases, All-nil, All-cons, All-head, All-tail, Format, Span, Part, format_of, code_region, Slot, Wide, PlacedName, slot_size, size_of, Placement, IsPlacedPart, IsPlaced, Place, Bases, bases_of, stub_size, IsSlot, AreSlots, place_of, IsRightPlace, needed, HasRoom, gates_from, IsLinked, AreLinkedFrom, AreLinked}
+use Rattle.rv_source.specs.declared.item.SourceGate.{SourceGate}
+use Rattle.sfi_image.specs.Gates.{is_gate_of}
+use Rattle.sfi_image.specs.Parts.{IsRightPart, IsRightLayout, AreOf}
+use Rattle.sfi_image.specs.Regions.{IsCodeRegion, IsDataRegion, HasGuardRoom, IsBundleStart}
+use Rattle.sfi_policy.specs.Limits.{service_most}
+use Rattle.std.proofs.lemmas.List.Kept.{AllPairs-cons}
+use Rattle.std.proofs.lemmas.Option.{slice_get-get_or}
 use Rattle.sfi_rewrite.specs.Placed as placements
 use Rattle.sfi_image.proofs.Bundles.{whole_bundles}
 use Rattle.sfi_rewrite.proofs.Sizes.{size_of-cons}

@@ -1,5 +1,9 @@
 -- Slots written one after another.
-use Rattle.sfi_link.proofs.Prelude.{◌≡◌, ℕ, zero, suc, ◌+◌, ◌<◌, ◌≤◌, List, [], ◌∷◌, ◌++◌, length, take, drop, get_or, replicate, Some, refl, sym, ap, ◌∙◌, subst, arith, append_assoc, append-nil, length-append, drop-cons, add-one, inl, inr, ℤ, pos, All, repeat, w32, to_le_bytes, flat_map-append, take_more, take-append-drop, get_or_append_left, get_or-append-add, sum_by-take-le, ints, Instr, OpImm, Addi, InRange, IsReg, IsImm12, spelling, CEbreak, expansion, lower, Slot, Lower, PlacedName, slot_size, size_of, slots_of, Bases, LinkFault, address_at, AreSlots, made_of, c_ebreak, HasRoomFor, IsPushed, AreWritten, HasSlotFault, IsSlotFault, UnlessMemory}
+use Rattle.sfi_link.proofs.Prelude.{◌≡◌, ℕ, zero, suc, ◌+◌, ◌<◌, ◌≤◌, List, [], ◌∷◌, ◌++◌, length, take, drop, get_or, replicate, Some, refl, sym, ap, ◌∙◌, subst, arith, append_assoc, append-nil, length-append, drop-cons, add-one, inl, inr, ℤ, pos, All, repeat, w32, to_le_bytes, take_more, take-append-drop, get_or_append_left, get_or-append-add, ints, Instr, OpImm, Addi, InRange, IsReg, IsImm12, spelling, expansion, lower, Slot, Lower, PlacedName, slot_size, size_of, slots_of, Bases, LinkFault, address_at, AreSlots, made_of, c_ebreak, HasRoomFor, IsPushed, AreWritten, HasSlotFault, IsSlotFault}
+use Rattle.rv_comp.specs.declared.form.Form16.TheVariants.{CEbreak}
+use Rattle.sfi_link.specs.Answers.{UnlessMemory}
+use Rattle.std.proofs.lemmas.Grind.{flat_map-append}
+use Rattle.std.proofs.lemmas.List.Sums.{sum_by-take-le}
 use Rattle.sfi_link.proofs.Unless.{then_unless}
 use Rattle.sfi_rewrite.proofs.Sizes.{size_of-cons, size_of-append}
 use Rattle.sfi_link.proofs.Parts.{slots_length}

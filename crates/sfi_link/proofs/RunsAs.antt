@@ -1,5 +1,16 @@
 -- Each item of a source does in the image what its instruction does.
-use Rattle.sfi_link.proofs.Prelude.{◌≡◌, ℕ, ◌+◌, ◌*◌, ◌^◌, ◌≤◌, List, [], ◌∷◌, ◌++◌, length, length-append, replicate, Some, Bool, true, false, refl, sym, ap, ◌∙◌, subst, arith, append_assoc, inl, inr, slice_index, pos, ℤ, negsuc, zero, suc, ◌-ℤ◌, MatchBool, slice_get, repeat, All, get_or_append_left, get_or-append-add, Instr, OpImm, Load, Store, Branch, Jal, Jalr, Lui, Addi, Format, is_stack, Bytes, byte_at, address_after, Holds, upper, lower, Body, Plain, To, High, Low, Item, Sandbox, IsSandbox, IsBody, Part, IsRightPart, stub, Slot, Wide, Short, PlacedName, size_of, slots_of, c_nop, is_on_stack, stack_pair, put_back, jump_slots, IsAlone, IsMasked, IsExpansionOf, Placement, IsRewritten, AreRewritten, IsAimed, MayBe, Place, Bases, bases_of, with_offset, target_at, address_at, AreSlots, c_ebreak, IsLinked, AreLinkedFrom, AreResolvedTo, RunsAs, LinkedRunsAs, LinkedImagesRunAs, SandboxesRunAs, All-head, All-tail}
+use Rattle.sfi_link.proofs.Prelude.{◌≡◌, ℕ, ◌+◌, ◌*◌, ◌^◌, ◌≤◌, List, [], ◌∷◌, ◌++◌, length, length-append, replicate, Some, Bool, true, false, refl, sym, ap, ◌∙◌, subst, arith, append_assoc, inl, inr, slice_index, pos, ℤ, negsuc, zero, suc, ◌-ℤ◌, MatchBool, slice_get, repeat, All, get_or_append_left, get_or-append-add, Instr, OpImm, Load, Store, Branch, Jal, Jalr, Lui, Addi, Format, is_stack, upper, lower, Sandbox, IsSandbox, IsBody, Part, stub, Slot, Wide, Short, PlacedName, size_of, slots_of, c_nop, Placement, Place, Bases, bases_of, with_offset, target_at, address_at, AreSlots, c_ebreak, IsLinked, AreLinkedFrom, All-head, All-tail}
+use Rattle.rv_mem.specs.Bytes.{Bytes, byte_at, address_after}
+use Rattle.rv_mem.specs.Laws.{Holds}
+use Rattle.rv_source.specs.declared.item.Body.{Body}
+use Rattle.rv_source.specs.declared.item.Body.TheVariants.{Plain, To, High, Low}
+use Rattle.rv_source.specs.declared.item.Item.{Item}
+use Rattle.sfi_image.specs.Parts.{IsRightPart}
+use Rattle.sfi_link.specs.Standing.{AreResolvedTo, RunsAs, LinkedRunsAs, LinkedImagesRunAs, SandboxesRunAs}
+use Rattle.sfi_rewrite.specs.Expansion.{jump_slots, IsAlone, IsMasked, IsExpansionOf}
+use Rattle.sfi_rewrite.specs.Rewriting.{IsRewritten, AreRewritten}
+use Rattle.sfi_rewrite.specs.Stack.{is_on_stack, stack_pair, put_back}
+use Rattle.sfi_rewrite.specs.Transparency.{IsAimed, MayBe}
 use Rattle.sfi_rewrite.specs.Stack.{writes_stack}
 use Rattle.sfi_rewrite.proofs.Facts.{rewritten_is_transparent}
 use Rattle.sfi_link.proofs.CleanPlaces.{made}

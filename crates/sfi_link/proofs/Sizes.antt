@@ -1,5 +1,6 @@
 -- How many bytes slots take.
-use Rattle.sfi_link.proofs.Prelude.{◌≡◌, ℕ, ◌+◌, ◌*◌, ◌<◌, List, [], ◌∷◌, ◌++◌, length, replicate, subst, ap, ◌∙◌, arith, sum_by-replicate, Slot, Short, slot_size, size_of, slots_of, AreBundles, c_ebreak}
+use Rattle.sfi_link.proofs.Prelude.{◌≡◌, ℕ, ◌+◌, ◌*◌, ◌<◌, List, [], ◌∷◌, ◌++◌, length, replicate, subst, ap, ◌∙◌, arith, Slot, Short, slot_size, size_of, slots_of, AreBundles, c_ebreak}
+use Rattle.std.proofs.lemmas.List.Folds.{sum_by-replicate}
 use Rattle.sfi_rewrite.proofs.Sizes.{size_of-append}
 
 -- bundles that are full, and a last one

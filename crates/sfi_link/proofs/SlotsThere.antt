@@ -1,5 +1,12 @@
 -- Where a memory holds the linker's bytes of slots, the slots stand.
-use Rattle.sfi_link.proofs.Prelude.{◌≡◌, ℕ, ◌+◌, List, [], ◌∷◌, ◌++◌, length, Some, sym, ap, ◌∙◌, subst, arith, slice_index, get_or_append_left, get_or-append-add, Instr, Spells, expansion, Bytes, byte_at, address_after, Holds, State, Stands, further, Slot, Wide, Short, PlacedName, slot_size, size_of, SlotStands, SlotsStand, Bases, IsSlot, AreSlots, IsResolvedTo, AreResolvedTo}
+use Rattle.sfi_link.proofs.Prelude.{◌≡◌, ℕ, ◌+◌, List, [], ◌∷◌, ◌++◌, length, Some, sym, ap, ◌∙◌, subst, arith, slice_index, get_or_append_left, get_or-append-add, Instr, Spells, expansion, Slot, Wide, Short, PlacedName, slot_size, size_of, Bases, IsSlot, AreSlots}
+use Rattle.rv_mem.specs.Bytes.{Bytes, byte_at, address_after}
+use Rattle.rv_mem.specs.Laws.{Holds}
+use Rattle.rv_step.specs.State.{State}
+use Rattle.rv_step.specs.Step.{Stands}
+use Rattle.rv_step.specs.Steps.{further}
+use Rattle.sfi_link.specs.Standing.{IsResolvedTo, AreResolvedTo}
+use Rattle.sfi_rewrite.specs.Transparency.{SlotStands, SlotsStand}
 use Rattle.rv_mem.proofs.Facts.{read_is_held}
 use Rattle.rv_comp.proofs.Facts.{spelled_length}
 use Rattle.sfi_link.proofs.CleanPlaces.{slot_spells, some_same}

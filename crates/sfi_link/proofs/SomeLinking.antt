@@ -1,5 +1,11 @@
 -- What is placed has an image, or a fault.
-use Rattle.sfi_link.proofs.Prelude.{◌≡◌, ℕ, zero, suc, ◌+◌, ◌-◌, ◌/◌, ◌^◌, ◌<◌, ◌≤◌, List, [], ◌∷◌, ◌++◌, length, Option, Some, None, refl, sym, ap, ◌∙◌, subst, arith, inl, inr, ◌⊎◌, ℤ, pos, negsuc, ◌-ℤ◌, All, AllPairs, repeat, w16, w32, to_le_bytes, pow-suc, cases_lt, cases_eq, ints, All-head, All-tail, Instr, OpImm, Branch, Jal, Lui, Addi, modulo, minus, IsBetween, IsEven, InRange, IsReg, IsBranchOffset, IsJumpOffset, spelling, expansion, halfword_of, Format, code_most, upper, lower, stub, Slot, Wide, Short, Jump, Upper, Lower, PlacedName, slot_size, slots_of, Placement, Encodes, IsPlacedPart, Bases, LinkFault, UnknownName, BranchReach, TooLarge, TooManySandboxes, data_most, Place, Span, AreApart, spans, place_of, IsRightPlace, spans_at, bases_of, address_at, target_at, with_offset, made_of, IsSlot, AreSlots, needed, HasRoom, IsCodeSize, IsLinkedCode, IsLinked, AreLinkedFrom, AreLinked, AreWritten, MayLie, HasSlotFault, IsSlotFault, HasPartFault, IsPartFault, SomeLinking}
+use Rattle.sfi_link.proofs.Prelude.{◌≡◌, ℕ, zero, suc, ◌+◌, ◌-◌, ◌/◌, ◌^◌, ◌<◌, ◌≤◌, List, [], ◌∷◌, ◌++◌, length, Option, Some, None, refl, sym, ap, ◌∙◌, subst, arith, inl, inr, ◌⊎◌, ℤ, pos, negsuc, ◌-ℤ◌, All, AllPairs, repeat, w16, w32, to_le_bytes, cases_lt, cases_eq, ints, All-head, All-tail, Instr, OpImm, Branch, Jal, Lui, Addi, InRange, IsReg, IsBranchOffset, IsJumpOffset, spelling, expansion, Format, code_most, upper, lower, stub, Slot, Wide, Short, Jump, Upper, Lower, PlacedName, slot_size, slots_of, Placement, Encodes, IsPlacedPart, Bases, LinkFault, Place, Span, AreApart, spans, place_of, IsRightPlace, spans_at, bases_of, address_at, target_at, with_offset, made_of, IsSlot, AreSlots, needed, HasRoom, IsCodeSize, IsLinkedCode, IsLinked, AreLinkedFrom, AreLinked, AreWritten, MayLie, HasSlotFault, IsSlotFault, HasPartFault, IsPartFault}
+use Rattle.rv_comp.specs.Halfwords.{halfword_of}
+use Rattle.rv_word.specs.Numbers.{modulo, minus, IsBetween, IsEven}
+use Rattle.sfi_link.specs.Laws.{SomeLinking}
+use Rattle.sfi_link.specs.declared.fault.LinkFault.TheVariants.{UnknownName, BranchReach, TooLarge, TooManySandboxes}
+use Rattle.sfi_policy.specs.Limits.{data_most}
+use Rattle.std.proofs.Math.Nat.{pow-suc}
 use Rattle.std.proofs.lemmas.List.{append-nil, append_assoc}
 use Rattle.sfi_image.specs.Spelling as image
 use Rattle.sfi_link.specs.declared.fault.LinkFault.TheVariants as named

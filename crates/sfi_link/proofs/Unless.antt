@@ -1,5 +1,7 @@
 -- What is said of a fault, unless memory ran out.
-use Rattle.sfi_link.proofs.Prelude.{◌≡◌, ◌⊎◌, inl, inr, refl, LinkFault, Memory, UnlessMemory}
+use Rattle.sfi_link.proofs.Prelude.{◌≡◌, ◌⊎◌, inl, inr, refl, LinkFault}
+use Rattle.sfi_link.specs.Answers.{UnlessMemory}
+use Rattle.sfi_link.specs.declared.fault.LinkFault.TheVariants.{Memory}
 
 -- memory ran out, or it holds
 pub memory_or : (P : LinkFault → Type 0) (f : LinkFault) → UnlessMemory P f → (f ≡ Memory) ⊎ P f

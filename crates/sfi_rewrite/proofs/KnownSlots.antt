@@ -1,5 +1,9 @@
 -- What is known of the slots of a sandbox's items: they encode, and their names are the sandbox's.
-use Rattle.sfi_rewrite.proofs.Prelude.{◌≡◌, ℕ, zero, suc, ◌+◌, ◌*◌, ◌<◌, List, [], ◌∷◌, ◌++◌, replicate, refl, arith, inl, inr, ints, ℤ, pos, negsuc, Bool, true, false, MatchBool, All, All-nil, All-cons, All-append, All-head, All-tail, All-replicate, Instr, And, Or, Addi, LoadKind, StoreWidth, Op, OpImm, Load, Store, Jalr, InRange, IsImm12, Format, is_stack, Item, Body, Plain, To, High, Low, IsBody, Slot, Wide, Short, Jump, Upper, Lower, size_of, c_nop, writes_stack, is_on_stack, stack_pair, put_back, code_pair_slots, jump_to_x31, jump_slots, IsAlone, IsMasked, IsExpansionOf, AreLaidFrom, Encodes, IsNamedBelow}
+use Rattle.sfi_rewrite.proofs.Prelude.{◌≡◌, ℕ, zero, suc, ◌+◌, ◌*◌, ◌<◌, List, [], ◌∷◌, ◌++◌, replicate, refl, arith, inl, inr, ℤ, pos, negsuc, Bool, true, false, MatchBool, All, All-nil, All-cons, All-append, All-head, All-tail, All-replicate, Instr, And, Or, LoadKind, Op, OpImm, Load, Store, Jalr, Format, is_stack, Item, Body, Plain, To, High, Low, IsBody, Slot, Wide, Short, Jump, Upper, Lower, size_of, c_nop, writes_stack, is_on_stack, stack_pair, put_back, code_pair_slots, jump_to_x31, jump_slots, IsAlone, IsMasked, IsExpansionOf, AreLaidFrom, Encodes, IsNamedBelow}
+use Rattle.rv_word.specs.Spelling.{InRange, IsImm12}
+use Rattle.rv_word.specs.declared.instr.ImmOp.TheVariants.{Addi}
+use Rattle.rv_word.specs.declared.instr.StoreWidth.{StoreWidth}
+use Rattle.std.proofs.lemmas.Int.{ints}
 
 pub record IsKnown (count : ℕ) (s : Slot) : Type 0 where
   pub encodes : Encodes s

@@ -1,5 +1,7 @@
 -- A source has one fault, or is rewritten.
-use Rattle.sfi_rewrite.proofs.Prelude.{◌≡◌, ℕ, zero, suc, ◌+◌, ◌<◌, ◌≤◌, List, [], ◌∷◌, length, take, drop, get_or, sym, ap, ◌∙◌, subst, arith, Some, inl, inr, Bool, true, false, slice_get, All, AllZip, drop-cons, cases_order, get_or-take, take-take, take_all, length-take-le, slice_get_within, get_or_from_slice_get, Format, Item, Sandbox, Slot, RewriteFault, ReservedRegister, TooLarge, Memory, StackWrite, size_of, AreLaidFrom, Placement, IsPermitted, AreFaultless, IsTooLarge, HasFault, IsItemFault, IsFaultless, IsSourceFault, IsRewritten}
+use Rattle.sfi_rewrite.proofs.Prelude.{◌≡◌, ℕ, zero, suc, ◌+◌, ◌<◌, ◌≤◌, List, [], ◌∷◌, length, take, drop, get_or, sym, ap, ◌∙◌, subst, arith, Some, inl, inr, Bool, true, false, slice_get, All, AllZip, cases_order, get_or-take, take-take, take_all, length-take-le, slice_get_within, get_or_from_slice_get, Format, Item, Sandbox, Slot, RewriteFault, size_of, AreLaidFrom, Placement, IsPermitted, AreFaultless, IsTooLarge, HasFault, IsItemFault, IsFaultless, IsSourceFault, IsRewritten}
+use Rattle.sfi_rewrite.specs.declared.fault.RewriteFault.TheVariants.{ReservedRegister, TooLarge, Memory, StackWrite}
+use Rattle.std.proofs.Math.Seq.{drop-cons}
 use Rattle.sfi_rewrite.specs.declared.fault.RewriteFault.TheVariants.{Ecall}
 use Rattle.sfi_rewrite.proofs.Sizes.{size_of-append}
 use Rattle.sfi_rewrite.proofs.Expansions.{expansion_one}

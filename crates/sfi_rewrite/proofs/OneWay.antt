@@ -1,5 +1,6 @@
 -- A sandbox has one placement.
-use Rattle.sfi_rewrite.proofs.Prelude.{◌≡◌, ℕ, ◌<◌, ◌≤◌, List, [], ◌∷◌, ◌++◌, take, replicate, refl, sym, ap, ◌∙◌, subst, arith, append-nil, AllZip, Format, Item, Named, Code, SourceGate, Sandbox, named, Slot, PlacedName, size_of, slots_of, c_nop, next_bundle, Placement, IsPlacedName, HasEndLabel, FillsEnd, AreBundles, IsPlacement, IsRewritten}
+use Rattle.sfi_rewrite.proofs.Prelude.{◌≡◌, ℕ, ◌<◌, ◌≤◌, List, [], ◌∷◌, ◌++◌, take, replicate, refl, sym, ap, ◌∙◌, subst, arith, append-nil, AllZip, Format, Item, Named, Code, Sandbox, named, Slot, PlacedName, size_of, slots_of, c_nop, next_bundle, Placement, IsPlacedName, HasEndLabel, FillsEnd, AreBundles, IsPlacement, IsRewritten}
+use Rattle.rv_source.specs.declared.item.SourceGate.{SourceGate}
 use Rattle.sfi_rewrite.specs.declared.placed.PlacedName.TheVariants as placed
 use Rattle.sfi_rewrite.proofs.Sizes.{size_of-append, size_at_least, begins_with}
 use Rattle.sfi_rewrite.proofs.Laid.{laid_one_way}

@@ -1,5 +1,9 @@
 -- The placement of a sandbox keeps what the type of what is placed keeps.
-use Rattle.sfi_rewrite.proofs.Prelude.{◌≡◌, ℕ, suc, ◌+◌, ◌-◌, ◌*◌, ◌/◌, ◌%◌, ◌<◌, ◌≤◌, List, [], ◌∷◌, ◌++◌, length, take, drop, get_or, replicate, refl, sym, ap, ◌∙◌, subst, arith, Some, None, Option, inl, inr, slice_get, IsTrue, ◌↔◌, Contains, Bool, false, MatchOption, All, AllZip, IsSomeAnd, drop-cons, cases_lt, take_all, length-map, All-nil, All-cons, All-append, All-head, All-tail, All-contains_itself, slice_get-get_or, AllZip-left, AllZip-long, Ecall, Format, code_most, Item, Plain, Named, Gate, Code, Data, Unknown, SourceGate, Sandbox, IsSandbox, IsThere, IsBody, named, Slot, PlacedName, size_of, slots_of, c_nop, next_bundle, AreLaid, AreLaidFrom, IsLabelAt, Placement, IsPlacedName, HasEndLabel, FillsEnd, AreBundles, AreWhole, IsPlacedThere, IsPlacedGate, IsPlacedPart, HaveBodies, HasEnd, AreFaultless, IsRewritten}
+use Rattle.sfi_rewrite.proofs.Prelude.{◌≡◌, ℕ, suc, ◌+◌, ◌-◌, ◌*◌, ◌/◌, ◌%◌, ◌<◌, ◌≤◌, List, [], ◌∷◌, ◌++◌, length, take, drop, get_or, replicate, refl, sym, ap, ◌∙◌, subst, arith, Some, None, Option, inl, inr, slice_get, IsTrue, ◌↔◌, Contains, Bool, false, MatchOption, All, AllZip, cases_lt, take_all, length-map, All-nil, All-cons, All-append, All-head, All-tail, All-contains_itself, slice_get-get_or, Ecall, Format, code_most, Item, Plain, Named, Gate, Code, Data, Unknown, Sandbox, IsSandbox, IsThere, IsBody, named, Slot, PlacedName, size_of, slots_of, c_nop, next_bundle, AreLaid, AreLaidFrom, IsLabelAt, Placement, IsPlacedName, HasEndLabel, FillsEnd, AreBundles, AreWhole, IsPlacedThere, IsPlacedGate, IsPlacedPart, HaveBodies, HasEnd, AreFaultless, IsRewritten}
+use Rattle.rv_source.specs.declared.item.SourceGate.{SourceGate}
+use Rattle.std.proofs.Math.Seq.{drop-cons}
+use Rattle.std.proofs.lemmas.Slice.Zip.{AllZip-left, AllZip-long}
+use Rattle.std.specs.Option.{IsSomeAnd}
 use Rattle.sfi_rewrite.proofs.Sizes.{size_of-append, size_nops, size_even}
 use Rattle.sfi_rewrite.proofs.Laid.{laid_split, laid_one_way, size_next}
 use Rattle.sfi_rewrite.proofs.OneByOne.{whole_bundles}

@@ -1,5 +1,18 @@
 -- States in which the expansions of a load, of an indirect jump and of a write of the stack pointer stand.
-use Rattle.sfi_rewrite.proofs.Prelude.{◌≡◌, ℕ, zero, suc, ◌+◌, ◌-◌, ◌%◌, ◌^◌, ◌<◌, ◌≤◌, List, [], ◌∷◌, ◌++◌, length, take, drop, replicate, true, Option, Some, None, refl, sym, ap, subst, ◌∙◌, ⊎_elim, arith, get_or-drop, slice_index, nat_lt, Contains, pos, empty, get-empty, w32, to_le_bytes, flat_map, list_all, option_map, nat_cmp, and_parts, ltb-true, cases_lt, ints, RegOp, And, Or, Lw, Instr, Op, Load, Jalr, spelling, InRange, Spells, Sfi2, Bytes, IsMemory, byte_at, bytes_at, addresses, address_after, with_bytes, number_of, Next, Hart, IsHart, Stands, effect, after_load, Span, Wide, AreRegions, HasReserved, IsAskedOf, MeetsTransparent, MeetsKeepsStack, sample_load, sample_jump, sample_push, TransparencyCanBeMet}
+use Rattle.sfi_rewrite.proofs.Prelude.{◌≡◌, ℕ, zero, suc, ◌+◌, ◌-◌, ◌%◌, ◌^◌, ◌<◌, ◌≤◌, List, [], ◌∷◌, ◌++◌, length, take, drop, replicate, true, Option, Some, None, refl, sym, ap, subst, ◌∙◌, ⊎_elim, arith, get_or-drop, slice_index, nat_lt, Contains, pos, flat_map, list_all, and_parts, ltb-true, cases_lt, And, Or, Instr, Op, Load, Jalr, Bytes, IsMemory, byte_at, bytes_at, addresses, address_after, with_bytes, number_of, Hart, IsHart, Stands, effect, after_load, Wide, AreRegions, HasReserved, IsAskedOf, TransparencyCanBeMet}
+use Rattle.rv_comp.specs.Fronts.{Spells}
+use Rattle.rv_step.specs.declared.outcome.Outcome.TheVariants.{Next}
+use Rattle.rv_word.specs.Spelling.{spelling, InRange}
+use Rattle.rv_word.specs.declared.instr.LoadKind.TheVariants.{Lw}
+use Rattle.rv_word.specs.declared.instr.RegOp.{RegOp}
+use Rattle.sfi_image.specs.declared.span.Span.{Span}
+use Rattle.sfi_policy.specs.declared.format.Format.TheVariants.{Sfi2}
+use Rattle.sfi_rewrite.specs.Samples.{MeetsTransparent, MeetsKeepsStack, sample_load, sample_jump, sample_push}
+use Rattle.std.proofs.lemmas.Int.{ints}
+use Rattle.std.specs.FinMap.{empty, get-empty}
+use Rattle.std.specs.Int.{w32, to_le_bytes}
+use Rattle.std.specs.Option.{option_map}
+use Rattle.std.specs.Ordering.{nat_cmp}
 use Rattle.std.proofs.Common.{get_or-take}
 use Rattle.rv_comp.proofs.Facts.{word_spells}
 use Rattle.rv_mem.proofs.Facts.{addresses_are_these, others_stay, read_is_held, written_is_there}

@@ -1,5 +1,7 @@
 -- How many bytes slots take.
-use Rattle.sfi_rewrite.proofs.Prelude.{◌≡◌, ℕ, zero, suc, ◌+◌, ◌*◌, ◌%◌, ◌<◌, ◌≤◌, List, [], ◌∷◌, ◌++◌, length, take, get_or, replicate, refl, sym, ap, ◌∙◌, arith, length-take, ◌^◌, Fits, w64, rules, take_more, sum_by-append, sum_by-cons, Slot, Short, bundle_size, slot_size, size_of, c_nop}
+use Rattle.sfi_rewrite.proofs.Prelude.{◌≡◌, ℕ, zero, suc, ◌+◌, ◌*◌, ◌%◌, ◌<◌, ◌≤◌, List, [], ◌∷◌, ◌++◌, length, take, get_or, replicate, refl, sym, ap, ◌∙◌, arith, length-take, ◌^◌, Fits, w64, rules, take_more, Slot, Short, slot_size, size_of, c_nop}
+use Rattle.sfi_policy.specs.Limits.{bundle_size}
+use Rattle.std.proofs.lemmas.List.Sums.{sum_by-append, sum_by-cons}
 
 pub size_of-append : (xs ys : List Slot) → size_of (xs ++ ys) ≡ size_of xs + size_of ys
 size_of-append xs ys = sum_by-append slot_size xs ys

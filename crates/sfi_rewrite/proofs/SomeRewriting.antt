@@ -1,5 +1,9 @@
 -- A source is rewritten, or has a fault.
-use Rattle.sfi_rewrite.proofs.Prelude.{◌≡◌, ℕ, zero, suc, ◌+◌, ◌-◌, ◌*◌, ◌/◌, ◌%◌, ◌<◌, ◌≤◌, List, [], ◌∷◌, ◌++◌, length, take, get_or, replicate, refl, sym, ap, ◌∙◌, subst, arith, append_assoc, append-nil, inl, inr, ◌⊎◌, Bool, true, false, MatchBool, Contains, AllZip, cases_lt, cases_eq, cases_Bool, false≢true, take_all, get_or_default, Contains-append_right, Contains-tail, slice_get-get_or, Instr, Load, Store, Jalr, Ecall, Format, Sfi1, code_most, is_stack, Item, Body, Plain, To, High, Low, Named, Gate, Code, Data, Unknown, Sandbox, named, Slot, Wide, Short, Jump, Upper, Lower, RewriteFault, PlacedName, bundle_size, size_of, slots_of, c_nop, writes_stack, is_on_stack, is_stack_write, stack_pair, put_back, item_names_withheld, is_ecall, data_pair_slots, jump_slots, IsAlone, IsMasked, IsExpansionOf, IsExpansion, is_call, next_bundle, FillsGap, AreLaid, Placement, IsPlacedName, HasEndLabel, FillsEnd, AreBundles, HasNext, IsPermitted, AreFaultless, HasFault, IsItemFault, IsSourceFault, IsRewritten, AreRewritten, SomeRewriting}
+use Rattle.sfi_rewrite.proofs.Prelude.{◌≡◌, ℕ, zero, suc, ◌+◌, ◌-◌, ◌*◌, ◌/◌, ◌%◌, ◌<◌, ◌≤◌, List, [], ◌∷◌, ◌++◌, length, take, get_or, replicate, refl, sym, ap, ◌∙◌, subst, arith, append_assoc, append-nil, inl, inr, ◌⊎◌, Bool, true, false, MatchBool, Contains, AllZip, cases_lt, cases_eq, cases_Bool, false≢true, take_all, get_or_default, Contains-append_right, slice_get-get_or, Instr, Load, Store, Jalr, Ecall, Format, code_most, is_stack, Item, Body, Plain, To, High, Low, Named, Gate, Code, Data, Unknown, Sandbox, named, Slot, Wide, Short, Jump, Upper, Lower, RewriteFault, PlacedName, size_of, slots_of, c_nop, writes_stack, is_on_stack, is_stack_write, stack_pair, put_back, data_pair_slots, jump_slots, IsAlone, IsMasked, IsExpansionOf, IsExpansion, is_call, next_bundle, FillsGap, AreLaid, Placement, IsPlacedName, HasEndLabel, FillsEnd, AreBundles, HasNext, IsPermitted, AreFaultless, HasFault, IsItemFault, IsSourceFault, IsRewritten, AreRewritten, SomeRewriting}
+use Rattle.sfi_policy.specs.Limits.{bundle_size}
+use Rattle.sfi_policy.specs.declared.format.Format.TheVariants.{Sfi1}
+use Rattle.sfi_rewrite.specs.Registers.{item_names_withheld, is_ecall}
+use Rattle.std.proofs.lemmas.Map.Made.{Contains-tail}
 use Rattle.rv_comp.proofs.Facts.{some_first_form}
 use Rattle.sfi_rewrite.specs.declared.fault.RewriteFault.TheVariants as fault
 use Rattle.sfi_rewrite.specs.declared.placed.PlacedName.TheVariants as placed

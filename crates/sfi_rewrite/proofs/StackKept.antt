@@ -1,5 +1,14 @@
 -- What each expansion does.
-use Rattle.sfi_rewrite.proofs.Prelude.{◌≡◌, ◌≢◌, ℕ, ◌+◌, ◌==◌, ◌&&◌, List, [], ◌∷◌, set, get_or, Bool, true, false, cond, Option, Some, None, refl, sym, ap, ◌∙◌, subst, arith, bit_and, bit_or, MatchBool, eqb-true, true≢false, and_parts, and_right, set-get_or, offset_by, writes_register, And, Or, Addi, LoadKind, Instr, Op, OpImm, Load, Branch, Jal, Jalr, Lui, Auipc, Format, has_stack, is_stack, Bytes, address_after, loaded, Next, Hart, State, IsState, register, with_register, with_pc, past, Stepped, Stands, after_load, effect, IsStep, further, StandInRow, LeadsTo, LeadTo, load_size, Body, Plain, To, High, Low, Span, Holds, Slot, Wide, Jump, Upper, Lower, names_withheld, item_names_withheld, slot_size, IsAlone, IsMasked, IsExpansionOf, writes_stack, is_on_stack, is_stack_write, jumps_or_loads_x2, stack_pair, put_back, ExpansionsAreTransparent, AreRegions, HasReserved, SlotStands, IsTransparent, at_pc, KeepsStack, ActsAs, IsAimed, MayBe}
+use Rattle.sfi_rewrite.proofs.Prelude.{◌≡◌, ◌≢◌, ℕ, ◌+◌, ◌==◌, ◌&&◌, List, [], ◌∷◌, set, get_or, Bool, true, false, cond, Option, Some, None, refl, sym, ap, ◌∙◌, subst, arith, bit_and, bit_or, MatchBool, eqb-true, true≢false, and_parts, and_right, set-get_or, And, Or, LoadKind, Instr, Op, OpImm, Load, Branch, Jal, Jalr, Lui, Auipc, Format, has_stack, is_stack, Bytes, address_after, loaded, Hart, State, IsState, register, with_register, with_pc, past, Stepped, Stands, after_load, effect, IsStep, Body, Plain, To, High, Low, Slot, Wide, Jump, Upper, Lower, slot_size, IsAlone, IsMasked, IsExpansionOf, writes_stack, is_on_stack, is_stack_write, jumps_or_loads_x2, stack_pair, put_back, ExpansionsAreTransparent, AreRegions, HasReserved, SlotStands, IsTransparent, at_pc, KeepsStack, ActsAs, IsAimed, MayBe}
+use Rattle.rv_step.specs.Steps.{further, StandInRow, LeadsTo, LeadTo}
+use Rattle.rv_step.specs.Values.{load_size}
+use Rattle.rv_step.specs.declared.outcome.Outcome.TheVariants.{Next}
+use Rattle.rv_word.specs.Numbers.{offset_by}
+use Rattle.rv_word.specs.Writes.{writes_register}
+use Rattle.rv_word.specs.declared.instr.ImmOp.TheVariants.{Addi}
+use Rattle.sfi_image.specs.Spans.{Holds}
+use Rattle.sfi_image.specs.declared.span.Span.{Span}
+use Rattle.sfi_rewrite.specs.Registers.{names_withheld, item_names_withheld}
 use Rattle.rv_step.proofs.Facts.{pair_leaves, step_keeps_state}
 use Rattle.rv_step.proofs.Pairs.{written_elsewhere}
 use Rattle.sfi_rewrite.proofs.Transparent.{stands_at, does, twelve, unmasked_data, alone_transparent, named_transparent, of_masked}

@@ -1,5 +1,8 @@
 -- A number that lies in a region stays as it is under the region's mask and bits.
-use Rattle.sfi_rewrite.proofs.Prelude.{◌≡◌, ℕ, ◌+◌, ◌-◌, ◌*◌, ◌/◌, ◌%◌, ◌^◌, ◌<◌, ◌≤◌, ap, ◌∙◌, arith, and_mask, or_shifted, or_comm, mod-mul-add, pow-add, and_high, IsRegion}
+use Rattle.std.proofs.Common.{◌≡◌, ℕ, ◌+◌, ◌-◌, ◌*◌, ◌/◌, ◌%◌, ◌^◌, ◌<◌, ◌≤◌, ap, ◌∙◌, arith}
+use Rattle.sfi_image.specs.Regions.{IsRegion}
+use Rattle.std.proofs.lemmas.Nat.{and_mask, or_shifted, or_comm, mod-mul-add, pow-add}
+use Rattle.std.proofs.lemmas.Nat.Bits.{and_high}
 use Rattle.std.specs.Int.Bits.{bit_and, bit_or}
 use Rattle.sfi_image.proofs.Bundles.{exponent_le}
 

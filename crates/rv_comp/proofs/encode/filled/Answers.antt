@@ -1,4 +1,6 @@
-use Rattle.rv_comp.proofs.Prelude.{◌∙◌, sym, ap, ℤ, to_z-of_z, Fields, row_fields}
+use Rattle.rv_comp.proofs.Prelude.{◌∙◌, sym, ap, ℤ, row_fields}
+use Rattle.rv_comp.specs.Bits.{Fields}
+use Rattle.std.proofs.lemmas.Int.{to_z-of_z}
 use Rattle.std.proofs.Common.{w32}
 use Rattle.rv_comp.proofs.Rows.{rows_low, row_below, halfword_is}
 use Rattle.rv_comp.proofs.encode.filled.Goals as goal

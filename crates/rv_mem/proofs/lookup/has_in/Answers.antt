@@ -1,4 +1,5 @@
-use Rattle.rv_mem.proofs.Prelude.{subst, Segment, byte_in, HasIn, HasNone}
+use Rattle.rv_mem.proofs.Prelude.{subst, byte_in, HasIn, HasNone}
+use Rattle.rv_mem.specs.declared.segment.Segment.{Segment}
 use Rattle.rv_mem.proofs.Lookups.{found_later, none_later}
 use Rattle.rv_mem.proofs.lookup.has_in.Goals as goal
 

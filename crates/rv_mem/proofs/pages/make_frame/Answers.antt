@@ -1,4 +1,4 @@
-use Rattle.rv_mem.proofs.Prelude.{◌≡◌, ◌/◌, ◌∙◌, length, arith, slice_index}
+use Rattle.std.proofs.Common.{◌≡◌, ◌/◌, ◌∙◌, length, arith, slice_index}
 use Rattle.rv_mem.proofs.Paging.{read_is}
 use Rattle.rv_mem.proofs.PageWrites.{frame_made}
 use Rattle.rv_mem.proofs.pages.make_frame.Goals as goal

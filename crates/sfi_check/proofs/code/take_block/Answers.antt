@@ -1,4 +1,5 @@
-use Rattle.sfi_check.proofs.Prelude.{◌≡◌, ℕ, List, [], true, sym, subst, arith, append-nil, Finding, is_in}
+use Rattle.sfi_check.proofs.Prelude.{◌≡◌, ℕ, List, [], true, sym, subst, arith, append-nil, Finding}
+use Rattle.sfi_masks.specs.Masks.{is_in}
 use Rattle.sfi_check.proofs.Blocks.{adds_none, adds_of, all_set, block_step, none_found, reading_found}
 use Rattle.sfi_check.proofs.code.take_block.Goals as goal
 

@@ -1,4 +1,6 @@
-use Rattle.sfi_check.proofs.Prelude.{Err, refl, sym, subst, IsConvertFault, AnswersLayout, AnswersFindings, ConvertFault}
+use Rattle.std.proofs.Common.{Err, refl, sym, subst}
+use Rattle.sfi_check.specs.Converting.{IsConvertFault, AnswersLayout, AnswersFindings}
+use Rattle.sfi_check.specs.declared.conversion.ConvertFault.{ConvertFault}
 use Rattle.sfi_check.proofs.Converted.{first_not_second, converted_means, stack_means, refused_means, refused_layout, refused_findings}
 use Rattle.sfi_check.proofs.conversion.convert.Goals as goal
 

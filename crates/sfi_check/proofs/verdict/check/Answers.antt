@@ -1,4 +1,6 @@
-use Rattle.sfi_check.proofs.Prelude.{List, Err, sym, subst, Part, IsFault, Refusal, IfLayoutFault}
+use Rattle.sfi_check.proofs.Prelude.{List, Err, sym, subst, Part, IsFault}
+use Rattle.sfi_check.specs.Refusals.{IfLayoutFault}
+use Rattle.sfi_check.specs.declared.refusal.Refusal.{Refusal}
 use Rattle.sfi_check.specs.Verdict.{AnswersLayout}
 use Rattle.sfi_check.proofs.Verdicts.{fault_means, fault_layout}
 use Rattle.sfi_check.proofs.verdict.check.Goals as goal

@@ -1,4 +1,5 @@
-use Rattle.sfi_image.proofs.Prelude.{◌≡◌, sym, ◌∙◌, eqb, slice_eq-Decides, Decides-eqb, magic}
+use Rattle.sfi_image.proofs.Prelude.{◌≡◌, sym, ◌∙◌, eqb, Decides-eqb, magic}
+use Rattle.std.proofs.lemmas.Slice.Eq.{slice_eq-Decides}
 use Rattle.sfi_image.proofs.reading.is_magic.Goals as goal
 
 pub returns : goal.returns

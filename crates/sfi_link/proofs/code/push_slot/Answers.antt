@@ -1,4 +1,5 @@
-use Rattle.sfi_link.proofs.Prelude.{refl, sym, subst, w16, to_le_bytes, expansion, halfword_of, IsSlot, Slot, ◌+◌, length, Short, Encodes}
+use Rattle.sfi_link.proofs.Prelude.{refl, sym, subst, w16, to_le_bytes, expansion, IsSlot, Slot, ◌+◌, length, Short, Encodes}
+use Rattle.rv_comp.specs.Halfwords.{halfword_of}
 use Rattle.sfi_link.proofs.code.push_slot.Goals as goal
 
 pub returns-in_ok-push_short-in-Short : goal.returns-in_ok-push_short-in-Short

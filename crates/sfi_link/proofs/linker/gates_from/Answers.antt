@@ -1,4 +1,5 @@
-use Rattle.sfi_link.proofs.Prelude.{◌++◌, [], ◌∷◌, ◌+◌, ◌*◌, take, get_or, ap, sym, arith, ◌∙◌, length-take-le, take_more, SourceGate, gates_from}
+use Rattle.sfi_link.proofs.Prelude.{◌++◌, [], ◌∷◌, ◌+◌, ◌*◌, take, get_or, ap, sym, arith, ◌∙◌, length-take-le, take_more, gates_from}
+use Rattle.rv_source.specs.declared.item.SourceGate.{SourceGate}
 use Rattle.sfi_link.proofs.Linking.{gates_push}
 use Rattle.sfi_link.proofs.linker.gates_from.Goals as goal
 

@@ -1,4 +1,5 @@
-use Rattle.sfi_link.proofs.Prelude.{◌≡◌, ◌<◌, ◌++◌, [], ◌∷◌, List, length, take, get_or, ap, sym, subst, arith, ◌∙◌, map_push, length-map, length-take-le, get_or-map, Format, Part, view, views, Placement, IsLinked, AreLinkedFrom, contents}
+use Rattle.sfi_link.proofs.Prelude.{◌≡◌, ◌<◌, ◌++◌, [], ◌∷◌, List, length, take, get_or, ap, sym, subst, arith, ◌∙◌, map_push, length-map, length-take-le, Format, Part, view, views, Placement, IsLinked, AreLinkedFrom, contents}
+use Rattle.std.proofs.Math.ListN.{get_or-map}
 use Rattle.sfi_link.proofs.Pushed.{take_one_more}
 use Rattle.sfi_link.proofs.Linking.{linked_push, codes_length, code_at}
 use Rattle.sfi_link.proofs.linker.linked_parts.Goals as goal

@@ -1,4 +1,6 @@
-use Rattle.sfi_link.proofs.Prelude.{◌∙◌, List, length, sym, ap, subst, AllZip-long, IsRewritten, Placement, map_from, Part, AreLinkedFrom}
+use Rattle.sfi_link.proofs.Prelude.{◌∙◌, List, length, sym, ap, subst, Placement, map_from, Part, AreLinkedFrom}
+use Rattle.sfi_rewrite.specs.Rewriting.{IsRewritten}
+use Rattle.std.proofs.lemmas.Slice.Zip.{AllZip-long}
 use Rattle.sfi_link.proofs.names.map_of.Goals as goal
 
 pub names_of-requires-clause-each : goal.names_of-requires-clause-each

@@ -1,4 +1,5 @@
-use Rattle.sfi_link.proofs.Prelude.{◌≡◌, ◌+◌, ◌++◌, ◌∷◌, [], ◌∙◌, map, take, get_or, suc, sym, ap, arith, Gate, entry_of, entries_of}
+use Rattle.sfi_link.proofs.Prelude.{◌≡◌, ◌+◌, ◌++◌, ◌∷◌, [], ◌∙◌, map, take, get_or, suc, sym, ap, arith, entry_of, entries_of}
+use Rattle.sfi_rewrite.specs.declared.placed.PlacedName.TheVariants.{Gate}
 use Rattle.std.proofs.lemmas.List.{append-nil}
 use Rattle.sfi_link.proofs.Mapping.{none_placed, entries_more, entries_end, listed_more}
 use Rattle.sfi_link.proofs.names.push_names.Goals as goal

@@ -1,4 +1,5 @@
-use Rattle.sfi_rewrite.proofs.Prelude.{err_from_is_err_and, size_of}
+use Rattle.sfi_rewrite.specs.Slots.{size_of}
+use Rattle.std.proofs.lemmas.Result.{err_from_is_err_and}
 use Rattle.sfi_rewrite.proofs.OneByOne.{one_more, label_here, label_push, label_count, item_fault, found_fault, body_at, all_labels}
 use Rattle.sfi_rewrite.proofs.laying.lay_items.Goals as goal
 

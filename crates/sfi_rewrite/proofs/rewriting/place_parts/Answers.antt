@@ -1,4 +1,5 @@
-use Rattle.sfi_rewrite.proofs.Prelude.{refl, All-push, err_from_is_err_and, IsPlacedPart}
+use Rattle.sfi_rewrite.proofs.Prelude.{refl, All-push, IsPlacedPart}
+use Rattle.std.proofs.lemmas.Result.{err_from_is_err_and}
 use Rattle.sfi_rewrite.proofs.Sources.{source_fault, parts_push}
 use Rattle.sfi_rewrite.proofs.rewriting.place_parts.Goals as goal
 

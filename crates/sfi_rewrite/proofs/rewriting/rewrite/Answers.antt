@@ -1,4 +1,5 @@
-use Rattle.sfi_rewrite.proofs.Prelude.{subst, sym, AllZip, err_from_is_err_and, UnlessMemory, IsSourceFault, IsRewritten}
+use Rattle.sfi_rewrite.proofs.Prelude.{subst, sym, AllZip, UnlessMemory, IsSourceFault, IsRewritten}
+use Rattle.std.proofs.lemmas.Result.{err_from_is_err_and}
 use Rattle.sfi_rewrite.proofs.OneFault.{rewritten_has_none}
 use Rattle.sfi_rewrite.proofs.Standing.{all_stand}
 use Rattle.sfi_rewrite.proofs.Sources.{is_placed, fault_answered}

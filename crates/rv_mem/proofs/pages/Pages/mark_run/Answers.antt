@@ -1,4 +1,5 @@
-use Rattle.rv_mem.proofs.Prelude.{rules, ◌≡◌, ◌+◌, ◌*◌, ◌%◌, ◌/◌, ℕ, List, Option, sym, ap, ◌∙◌, subst, arith, slice_index, with_items, with_items_is, ArePages, frame_of, cell_at, MarksRun, run_of}
+use Rattle.rv_mem.proofs.Prelude.{rules, ◌≡◌, ◌+◌, ◌*◌, ◌%◌, ◌/◌, ℕ, List, Option, sym, ap, ◌∙◌, subst, arith, slice_index, with_items_is, ArePages, frame_of, cell_at, MarksRun, run_of}
+use Rattle.std.specs.Vec.{with_items}
 use Rattle.rv_mem.proofs.Paging.{table_value, get_pages, memory_is}
 use Rattle.rv_mem.proofs.PageRuns.{are_run, run_written}
 use Rattle.rv_mem.proofs.pages.Pages.mark_run.Goals as goal

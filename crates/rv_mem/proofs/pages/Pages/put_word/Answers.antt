@@ -1,4 +1,6 @@
-use Rattle.rv_mem.proofs.Prelude.{refl, sym, rules, ◌%◌, ◌≡◌, ◌+◌, ◌≤◌, List, Option, ℕ, IsSome, length, subst, ap, ◌∙◌, IfSome, bytes_low_first, with_items, with_items_is, ArePages, frame_of, cell_at, values_of, with_four, loaded}
+use Rattle.rv_mem.proofs.Prelude.{refl, sym, rules, ◌%◌, ◌≡◌, ◌+◌, ◌≤◌, List, Option, ℕ, IsSome, length, subst, ap, ◌∙◌, IfSome, with_items_is, ArePages, frame_of, cell_at, values_of, with_four, loaded}
+use Rattle.std.specs.Int.{bytes_low_first}
+use Rattle.std.specs.Vec.{with_items}
 use Rattle.rv_mem.proofs.Paging.{some_if, memory_is}
 use Rattle.rv_mem.proofs.PageWrites.{word_first, word_put}
 use Rattle.rv_mem.proofs.pages.Pages.put_word.Goals as goal

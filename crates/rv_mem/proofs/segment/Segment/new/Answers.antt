@@ -1,4 +1,5 @@
-use Rattle.rv_mem.proofs.Prelude.{◌-◌, length, arith, common_steps}
+use Rattle.std.proofs.Common.{◌-◌, length, arith}
+use Rattle.std.proofs.lemmas.Grind.{common_steps}
 use Rattle.rv_mem.proofs.Ranges.{below_filled}
 use Rattle.rv_mem.proofs.segment.Segment.new.Goals as goal
 

@@ -1,4 +1,4 @@
-use Rattle.rv_mem.proofs.Prelude.{arith}
+use Rattle.std.proofs.Common.{arith}
 use Rattle.rv_mem.specs.Segments.{bytes_of}
 use Rattle.rv_mem.proofs.Ranges.{over_low, over_high}
 use Rattle.rv_mem.proofs.segments.Segments.overlaps.Goals as goal

@@ -1,4 +1,5 @@
-use Rattle.rv_mem.proofs.Prelude.{rules, ap, ◌∙◌, with_items_is, bytes_among}
+use Rattle.rv_mem.proofs.Prelude.{rules, ap, ◌∙◌, with_items_is}
+use Rattle.rv_mem.specs.Segment.{bytes_among}
 use Rattle.rv_mem.proofs.Lookups.{is_memory, put_done}
 use Rattle.rv_mem.proofs.segments.Segments.put_byte.Goals as goal
 
