@@ -3,6 +3,7 @@ use Rattle.std.proofs.lemmas.Bool.Decides.{nat_tests}
 use Rattle.rv_text.specs.private.Scan.{body_of, token_len}
 use Rattle.rv_text.proofs.Taking.{token_boundary, body_blank, stuck, takes_found}
 use Rattle.rv_text.proofs.lexer.next_token.Goals as goal
+use Rattle.rv_text.proofs.lexer.next_token.Goals.{Else-len-eq0, Else-is_empty, Then-len-eq0}
 
 pub split_at-requires : goal.split_at-requires
 split_at-requires c =
