@@ -1,10 +1,5 @@
 -- The pieces after a place are those that are read there.
-use Rattle.std.proofs.Common.{◌≡◌, ℕ, suc, ◌≤◌, List, [], ◌∷◌, length, take, drop, Option, Some, refl, sym, ap, ◌∙◌, subst, arith}
-use Rattle.rv_word.specs.declared.instr.Instr.{Instr}
-use Rattle.rv_comp.specs.Fronts.{Spells}
-use Rattle.rv_comp.specs.declared.front.Front.TheVariants.{Read}
-use Rattle.sfi_scan.specs.Readings.{Piece, IsReading, IsLongestReading}
-use Rattle.sfi_scan.specs.private.Near.{ahead}
+use Rattle.sfi_scan.proofs.Prelude.{◌≡◌, ℕ, suc, ◌≤◌, List, [], ◌∷◌, length, take, drop, Option, Some, refl, sym, ap, ◌∙◌, subst, arith, Instr, Spells, Read, Piece, IsReading, IsLongestReading, ahead}
 
 -- only this piece can stand at the front
 abbrev pub IsOnly : List ℕ → Instr → ℕ → Type 0

@@ -1,15 +1,11 @@
 -- One bit of a mask, through each operation.
-use Rattle.std.proofs.Common.{◌≡◌, ℕ, zero, suc, ◌+◌, ◌-◌, ◌*◌, ◌/◌, ◌%◌, ◌^◌, ◌<◌, ◌≤◌, ◌≢◌, true≢false, min, Bool, true, false, not, ◌&&◌, ◌==◌, ◌⊎◌, inl, inr, refl, sym, ap, ◌∙◌, subst, arith, w64, mul_assoc, bit_and}
-use Rattle.std.specs.Int.{Width, bit_at, bit_not, trailing_zeros}
-use mir.Val.{bits}
-use Rattle.std.specs.Int.RustNames.{bit_or}
-use Rattle.std.proofs.lemmas.Bool.{cases_order, agree_below_at, and_parts}
-use Rattle.std.proofs.lemmas.Nat.{shl-shr, shr-shr}
-use Rattle.std.proofs.lemmas.Nat.Bits.{bit_at-lt, bit_at_and, bit_at_not, bit_at_set_other, bit_at_above, bit_at-trailing_zeros}
+use Rattle.sfi_scan.proofs.Prelude.{◌≡◌, ℕ, zero, suc, ◌+◌, ◌-◌, ◌*◌, ◌/◌, ◌%◌, ◌^◌, ◌<◌, ◌≤◌, ◌≢◌, true≢false, min, Bool, true, false, not, ◌&&◌, ◌==◌, ◌⊎◌, inl, inr, refl, sym, ap, ◌∙◌, subst, arith, w64, mul_assoc, bit_and, Width, bit_at, bit_not, trailing_zeros, cases_order, agree_below_at, and_parts, shl-shr, shr-shr, is_in}
 use Rattle.std.proofs.Math.Nat.{zero-div}
+use Rattle.std.proofs.lemmas.Nat.Bits.{bit_at-lt, bit_at_and, bit_at_not, bit_at_set_other, bit_at_above, bit_at-trailing_zeros}
+use Rattle.std.specs.Int.RustNames.{bit_or}
+use mir.Val.{bits}
 use lib.Bits.{shifted_even}
 use lib.Pow.{field, mod-mod-pow, pow-add}
-use Rattle.sfi_masks.specs.Masks.{is_in}
 
 by_bit : (P : ℕ → Type 0) → P 0 → P 1 → (x : ℕ) → x < 2 → P x
 by_bit P p q zero h = p

@@ -1,6 +1,5 @@
 -- What holds of readings, rules and findings: the laws, for proofs here and in the crates above.
-use Rattle.std.proofs.Common.{[], refl, ◌+◌, ◌%◌, ◌==◌, ◌&&◌, nat_le, nat_lt}
-use Rattle.std.proofs.lemmas.Bool.{and_parts, and_from, leb-true, ltb-true, eqb-true, le-leb, lt-ltb, eq-eqb}
+use Rattle.sfi_scan.proofs.Prelude.{[], refl, ◌+◌, ◌%◌, ◌==◌, ◌&&◌, nat_le, nat_lt, and_parts, and_from, leb-true, ltb-true, eqb-true, le-leb, lt-ltb, eq-eqb}
 use Rattle.sfi_policy.specs.Limits.{bundle_size}
 use Rattle.sfi_scan.specs.Laws.{SameBundleStarts, OneLongestReading, OneBundleList, OneList, OneImageList, FirstFormatHasNoStack, FirstFormatFindsNoV10, CleanBreaksStackAlone}
 use Rattle.sfi_scan.proofs.FirstFormat as first

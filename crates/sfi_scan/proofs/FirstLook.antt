@@ -1,28 +1,12 @@
 -- The first look at a bundle: what breaks no rule.
-use Rattle.std.proofs.Common.{◌≡◌, ℕ, ◌==◌, Bool, true, false, List, [], ◌∷◌, Option, Some, None, ℤ, pos, negsuc, of_z, to_z, w32, SFits, refl, sym, ap, ◌∙◌, ◌⊎◌, subst, inl, inr, arith, eq-eqb}
-use Rattle.std.specs.Prelude.{◌&&◌, ◌||◌, not}
-use Rattle.std.proofs.lemmas.Bool.{and_parts, and_right, or_parts}
-use Rattle.std.specs.Bool.{OnTrue}
-use Rattle.std.proofs.lemmas.Int.{to_z-of_z}
+use Rattle.sfi_scan.proofs.Prelude.{◌≡◌, ℕ, ◌==◌, Bool, true, false, List, [], ◌∷◌, Option, Some, None, ℤ, pos, negsuc, of_z, to_z, SFits, refl, sym, ap, ◌∙◌, ◌⊎◌, subst, inl, inr, arith, ◌&&◌, ◌||◌, not, and_parts, and_right, or_parts, OnTrue, Instr, Op, OpImm, Load, Store, Branch, Jal, Jalr, Lui, Auipc, Fence, Ecall, Ebreak, And, Or, outline, spelling, IsWordOf, has_stack, is_stack, BundlePlace, is_reserved, follows_pair, follows_code_pair, Piece, Place, is_last_bundle, is_bundle_start, may_access, lowest, all_rules, IsWordOr0, AreBefore, is_protected, is_clean, is_zero, near}
 use Rattle.rv_word.specs.Numbers.{offset_by}
-use Rattle.rv_word.specs.declared.instr.Instr.{Instr}
-use Rattle.rv_word.specs.declared.instr.Instr.TheVariants.{Op, OpImm, Load, Store, Branch, Jal, Jalr, Lui, Auipc, Fence, Ecall, Ebreak}
-use Rattle.rv_word.specs.declared.instr.RegOp.TheVariants.{And, Or}
 use Rattle.rv_word.specs.declared.outline.Outline.{Outline}
 use Rattle.rv_word.specs.declared.outline.Outline.TheVariants.{Computes, Loads}
-use Rattle.rv_word.specs.Outlines.{outline}
-use Rattle.rv_word.specs.Spelling.{spelling, IsWordOf}
-use Rattle.sfi_policy.specs.Formats.{has_stack, is_stack}
-use Rattle.sfi_scan.specs.declared.bundle.BundlePlace.{BundlePlace}
-use Rattle.sfi_scan.specs.declared.clean.Words.{Words}
-use Rattle.sfi_policy.specs.Registers.{is_reserved}
-use Rattle.sfi_scan.specs.Pairs.{follows_pair, follows_code_pair}
-use Rattle.sfi_scan.specs.Readings.{Piece}
 use Rattle.sfi_scan.specs.Stack.{begins_pair, ends_pair, precedes_pair, is_jump}
-use Rattle.sfi_scan.specs.Rules.{Place, is_last_bundle, is_bundle_start, may_access}
-use Rattle.sfi_scan.specs.Findings.{lowest, all_rules}
-use Rattle.sfi_scan.specs.private.FirstLook.{IsWordOr0, AreBefore, is_protected, is_clean, is_zero}
-use Rattle.sfi_scan.specs.private.Near.{near}
+use Rattle.sfi_scan.specs.declared.clean.Words.{Words}
+use Rattle.std.proofs.lemmas.Int.{to_z-of_z}
+use Rattle.std.proofs.Common.{w32, eq-eqb}
 use Rattle.rv_word.proofs.Facts.{one_spelling}
 
 -- ---- pairs

@@ -1,20 +1,10 @@
 -- The gates that are still ahead of a bundle, and the findings of one bundle more.
-use Rattle.std.proofs.Common.{◌≡◌, ℕ, zero, suc, ◌+◌, ◌-◌, ◌*◌, ◌%◌, ◌<◌, ◌≤◌, ◌==◌, Bool, true, false, cond, List, [], ◌∷◌, ◌++◌, length, take, drop, get_or, inr, true≢false, refl, sym, ap, ◌∙◌, subst, arith}
-use Rattle.std.specs.Prelude.{◌||◌, if◌then◌else◌}
-use Rattle.std.proofs.lemmas.List.{append-nil, drop-drop, drop-take, take-take}
-use Rattle.std.specs.Simd.{first_chunks}
-use Rattle.std.proofs.lemmas.Bool.{ltb-false, ne_eqb, eqb-true, eqb-false}
+use Rattle.sfi_scan.proofs.Prelude.{◌≡◌, ℕ, zero, suc, ◌+◌, ◌-◌, ◌*◌, ◌%◌, ◌<◌, ◌≤◌, ◌==◌, Bool, true, false, cond, List, [], ◌∷◌, ◌++◌, length, take, drop, get_or, inr, true≢false, refl, sym, ap, ◌∙◌, subst, arith, ◌||◌, if◌then◌else◌, append-nil, drop-drop, drop-take, take-take, ltb-false, ne_eqb, eqb-true, eqb-false, Part, All, AllPairs, BundlePlace, Finding, AreAhead, AreGatesFrom, is_first_at, is_first_below, place_of, block_bundle, bundle_at, bundle_bytes, AreBundleFindings, AreReadingFindings, AreFindingsOfFirst}
+use Rattle.sfi_image.specs.Gates.{is_gate_of}
+use Rattle.sfi_image.specs.Regions.{IsBundleStart}
 use Rattle.sfi_image.specs.declared.part.Gate.{Gate}
 use Rattle.sfi_image.specs.declared.span.Span.{Span}
-use Rattle.sfi_image.specs.Spelling.{Part}
-use Rattle.sfi_image.specs.Regions.{IsBundleStart}
-use Rattle.sfi_image.specs.Gates.{is_gate_of}
-use Rattle.std.specs.List.{All, AllPairs}
-use Rattle.sfi_scan.specs.declared.bundle.BundlePlace.{BundlePlace}
-use Rattle.sfi_scan.specs.declared.finding.Finding.{Finding}
-use Rattle.sfi_scan.specs.private.Near.{AreAhead, AreGatesFrom, is_first_at, is_first_below}
-use Rattle.sfi_scan.specs.Bundles.{place_of, block_bundle, bundle_at, bundle_bytes}
-use Rattle.sfi_scan.specs.Findings.{AreBundleFindings, AreReadingFindings, AreFindingsOfFirst}
+use Rattle.std.specs.Simd.{first_chunks}
 
 apart : (a b : ℕ) → a < b → a % 16 ≡ 0 → b % 16 ≡ 0 → a + 16 ≤ b
 apart a b h e f = omega arith

@@ -1,16 +1,5 @@
 -- The bundles of a block are read from start to start, and what begins at each breaks no rule.
-use Rattle.std.proofs.Common.{◌≡◌, ℕ, zero, suc, ◌+◌, ◌-◌, ◌*◌, ◌/◌, ◌%◌, ◌<◌, ◌≤◌, Bool, true, false, not, cond, List, [], length, take, drop, ◌⊎◌, inl, inr, refl, sym, ap, ◌∙◌, subst, arith, length-drop}
-use Rattle.std.proofs.lemmas.Bool.{cases_order, ne_eqb}
-use Rattle.std.proofs.lemmas.List.{length-take, drop-take, take-take, drop-drop}
-use Rattle.rv_word.specs.declared.instr.Instr.{Instr}
-use Rattle.sfi_policy.specs.Formats.{has_stack}
-use Rattle.sfi_masks.specs.Masks.{is_in}
-use Rattle.sfi_scan.specs.declared.bundle.BundlePlace.{BundlePlace}
-use Rattle.sfi_scan.specs.Bundles.{IsWithinBlock, bundle_at, block_bundle}
-use Rattle.sfi_scan.specs.Findings.{AreReadingFindings}
-use Rattle.sfi_scan.specs.Rules.{is_last_bundle}
-use Rattle.sfi_scan.specs.private.Block.{AreStarts, AreAfterTwo, offset, words_from, IsSpelledAt, IsCleanIn, IsCleanAt, IsWritten, IsOfWrite}
-use Rattle.sfi_scan.specs.private.FirstLook.{word_at, AreWordsFrom, IsCleanOne, IsStackWrite, AreStackPair}
+use Rattle.sfi_scan.proofs.Prelude.{◌≡◌, ℕ, zero, suc, ◌+◌, ◌-◌, ◌*◌, ◌/◌, ◌%◌, ◌<◌, ◌≤◌, Bool, true, false, not, cond, List, [], length, take, drop, ◌⊎◌, inl, inr, refl, sym, ap, ◌∙◌, subst, arith, length-drop, cases_order, ne_eqb, length-take, drop-take, take-take, drop-drop, Instr, has_stack, is_in, BundlePlace, IsWithinBlock, bundle_at, block_bundle, AreReadingFindings, is_last_bundle, AreStarts, AreAfterTwo, offset, words_from, IsSpelledAt, IsCleanIn, IsCleanAt, IsWritten, IsOfWrite, word_at, AreWordsFrom, IsCleanOne, IsStackWrite, AreStackPair}
 use Rattle.sfi_scan.proofs.Look.{Looks, looks_first, looks_half, looks_word, looks_write, looks_masking, looks_placing}
 use Rattle.sfi_scan.proofs.Walk.{at_last}
 

@@ -1,3 +1,4 @@
+pub mod Prelude
 pub mod After
 pub mod Bits
 pub mod Joining

@@ -1,23 +1,7 @@
 -- The first look walks as the scan does, and finds nothing.
-use Rattle.std.proofs.Common.{◌≡◌, ℕ, ◌+◌, ◌<◌, ◌≤◌, false, true, List, [], ◌∷◌, length, take, drop, Some, None, refl, sym, ap, ◌∙◌, subst, inl, inr, arith, length-drop}
-use Rattle.std.proofs.lemmas.List.{length-take, drop-drop}
-use Rattle.rv_word.specs.declared.instr.Instr.{Instr}
-use Rattle.rv_word.specs.Outlines.{outline}
-use Rattle.rv_word.specs.Spelling.{IsWordOf}
+use Rattle.sfi_scan.proofs.Prelude.{◌≡◌, ℕ, ◌+◌, ◌<◌, ◌≤◌, false, true, List, [], ◌∷◌, length, take, drop, Some, None, refl, sym, ap, ◌∙◌, subst, inl, inr, arith, length-drop, length-take, drop-drop, Instr, outline, IsWordOf, Spells, Read, has_stack, Before, BundlePlace, near, Place, is_last_bundle, lowest, all_rules, Op, And, Or, Piece, IsLongestReading, half_at, word_at, AreWordsFrom, IsCleanOne, is_clean, IsStackWrite, AreStackPair}
 use Rattle.rv_comp.specs.Halfwords.{IsShortSpelling}
-use Rattle.rv_comp.specs.Fronts.{Spells}
-use Rattle.rv_comp.specs.declared.front.Front.TheVariants.{Read}
-use Rattle.sfi_policy.specs.Formats.{has_stack}
-use Rattle.sfi_scan.specs.declared.before.Before.{Before}
-use Rattle.sfi_scan.specs.declared.bundle.BundlePlace.{BundlePlace}
-use Rattle.sfi_scan.specs.private.Near.{near}
-use Rattle.sfi_scan.specs.Rules.{Place, is_last_bundle}
-use Rattle.sfi_scan.specs.Findings.{lowest, all_rules}
-use Rattle.rv_word.specs.declared.instr.Instr.TheVariants.{Op}
-use Rattle.rv_word.specs.declared.instr.RegOp.TheVariants.{And, Or}
 use Rattle.sfi_scan.specs.Stack.{begins_pair, precedes_pair}
-use Rattle.sfi_scan.specs.Readings.{Piece, IsLongestReading}
-use Rattle.sfi_scan.specs.private.FirstLook.{half_at, word_at, AreWordsFrom, IsCleanOne, is_clean, IsStackWrite, AreStackPair}
 use Rattle.sfi_scan.proofs.After.{IsOnly, Begins, begins}
 use Rattle.sfi_scan.proofs.FirstLook.{clean_is, kind_of, write_quiet, masking_quiet, placing_quiet, masking_before}
 use Rattle.sfi_scan.proofs.Readings.{front_one}

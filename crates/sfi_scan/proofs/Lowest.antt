@@ -1,13 +1,8 @@
 -- The lowest rule that is broken at a place. Crates above cite this, too.
-use Rattle.std.proofs.Common.{◌≡◌, ◌-◌, ◌<◌, List, [], ◌∷◌, length, Bool, true, false, cond, refl, subst, arith, get_or}
-use Rattle.std.specs.List.{All}
-use Rattle.std.proofs.lemmas.List.Elements.{All-cons, All-get_or, All-nil}
-use Rattle.sfi_scan.specs.declared.rule.Rule.{Rule}
-use Rattle.sfi_scan.specs.declared.rule.Rule.TheVariants.{V1}
-use Rattle.sfi_scan.specs.declared.finding.Finding.{Finding}
+use Rattle.sfi_scan.proofs.Prelude.{◌≡◌, ◌-◌, ◌<◌, List, [], ◌∷◌, length, Bool, true, false, cond, refl, subst, arith, get_or, All, Rule, Finding, Place, breaks, broken, lowest, all_rules}
 use Rattle.sfi_scan.specs.Numbers.{number_of}
-use Rattle.sfi_scan.specs.Rules.{Place, breaks}
-use Rattle.sfi_scan.specs.Findings.{broken, lowest, all_rules}
+use Rattle.sfi_scan.specs.declared.rule.Rule.TheVariants.{V1}
+use Rattle.std.proofs.lemmas.List.Elements.{All-cons, All-get_or, All-nil}
 
 -- what holds of the finding of each rule that is broken holds of the lowest one's
 pub lowest_is : (P : Finding → Type 0) (x : Place) (rules : List Rule) → ((rule : Rule) → breaks x rule ≡ true → P (broken x.bundle x.address rule)) → All P (lowest x rules)

@@ -1,11 +1,5 @@
 -- Where the instructions of a block begin.
-use Rattle.std.proofs.Common.{◌≡◌, ℕ, zero, suc, ◌+◌, ◌-◌, ◌*◌, ◌/◌, ◌%◌, ◌^◌, ◌<◌, ◌≤◌, Bool, true, false, not, ◌&&◌, ◌==◌, refl, sym, ap, ◌∙◌, arith, rules, tests, w64, mod-lt, pow_pos, bit_and}
-use Rattle.std.specs.Prelude.{nat_le, nat_eq}
-use Rattle.std.specs.Bool.{OnTrue}
-use Rattle.std.specs.Int.{bit_not}
-use Rattle.std.proofs.lemmas.Bool.{agree_below_at, and_parts, eqb-true}
-use Rattle.sfi_masks.specs.Masks.{is_in}
-use Rattle.sfi_scan.specs.private.Block.{AreStarts, AreAfterTwo, AreThreeWords}
+use Rattle.sfi_scan.proofs.Prelude.{◌≡◌, ℕ, zero, suc, ◌+◌, ◌-◌, ◌*◌, ◌/◌, ◌%◌, ◌^◌, ◌<◌, ◌≤◌, Bool, true, false, not, ◌&&◌, ◌==◌, refl, sym, ap, ◌∙◌, arith, rules, tests, w64, mod-lt, pow_pos, bit_and, nat_le, nat_eq, OnTrue, bit_not, agree_below_at, and_parts, eqb-true, is_in, AreStarts, AreAfterTwo, AreThreeWords}
 use Rattle.sfi_scan.specs.declared.block.TheConstants.{FIRST_THREE, LAST, LAST_FOUR}
 use Rattle.sfi_scan.proofs.Bits.{shl, in_and, in_not, in_shl, in_shl_low, in_shr, in_zero}
 

@@ -1,12 +1,5 @@
 -- A bundle, a part and an image each have one list of findings.
-use Rattle.std.proofs.Common.{◌≡◌, ℕ, zero, suc, ◌+◌, ◌-◌, List, [], ◌∷◌, ◌++◌, length, sym, ap, ◌∙◌, subst, inl, inr, arith}
-use Rattle.sfi_image.specs.Spelling.{Part}
-use Rattle.sfi_scan.specs.declared.bundle.BundlePlace.{BundlePlace}
-use Rattle.sfi_scan.specs.declared.finding.Finding.{Finding}
-use Rattle.sfi_scan.specs.Bundles.{place_of, bundle_bytes}
-use Rattle.sfi_scan.specs.Readings.{Piece, rest_of}
-use Rattle.sfi_scan.specs.Rules.{is_empty}
-use Rattle.sfi_scan.specs.Findings.{findings_from, rest_finding, AreReadingFindings, AreBundleFindings, AreFindingsOfFirst, AreFindings, AreFindingsFrom}
+use Rattle.sfi_scan.proofs.Prelude.{◌≡◌, ℕ, zero, suc, ◌+◌, ◌-◌, List, [], ◌∷◌, ◌++◌, length, sym, ap, ◌∙◌, subst, inl, inr, arith, Part, BundlePlace, Finding, place_of, bundle_bytes, Piece, rest_of, is_empty, findings_from, rest_finding, AreReadingFindings, AreBundleFindings, AreFindingsOfFirst, AreFindings, AreFindingsFrom}
 use Rattle.sfi_scan.proofs.Readings.{longest_one}
 
 -- the findings of a reading

@@ -1,20 +1,7 @@
 -- The tables of the pairs on each register, seen right at each.
-use Rattle.std.proofs.Common.{◌≡◌, ℕ, ◌+◌, ◌*◌, ◌/◌, ◌%◌, ◌^◌, ◌<◌, Bool, true, false, ◌&&◌, ◌||◌, not, ◌==◌, List, refl, sym, ap, ap₂, ◌∙◌, arith, bit_and}
-use Rattle.std.specs.Prelude.{slice_index, nat_eq}
-use Rattle.std.specs.Bool.{OnTrue}
-use Rattle.std.proofs.lemmas.Bool.{agree_below_at, and_parts, eqb-true}
-use Rattle.std.proofs.lemmas.Nat.{and_mask, and_block, and_le_r}
-use Rattle.rv_word.specs.declared.instr.Instr.{Instr}
-use Rattle.rv_word.specs.declared.instr.Instr.TheVariants.{Op}
-use Rattle.rv_word.specs.declared.instr.RegOp.TheVariants.{And, Or}
-use Rattle.rv_word.specs.Spelling.{spelling, InRange, IsWordOf}
-use Rattle.sfi_policy.specs.Registers.{is_reserved}
+use Rattle.sfi_scan.proofs.Prelude.{◌≡◌, ℕ, ◌+◌, ◌*◌, ◌/◌, ◌%◌, ◌^◌, ◌<◌, Bool, true, false, ◌&&◌, ◌||◌, not, ◌==◌, List, refl, sym, ap, ap₂, ◌∙◌, arith, bit_and, slice_index, nat_eq, OnTrue, agree_below_at, and_parts, eqb-true, and_mask, and_block, and_le_r, Instr, Op, And, Or, spelling, InRange, IsWordOf, is_reserved, follows_pair, AreBefore, near}
 use Rattle.sfi_scan.specs.declared.pair_words.TheConstants.{MASKING, PLACING}
-use Rattle.sfi_scan.specs.Pairs.{follows_pair}
-use Rattle.sfi_scan.specs.private.FirstLook.{AreBefore}
-use Rattle.sfi_scan.specs.private.Near.{near}
 use Rattle.sfi_scan.proofs.FirstLook.{pair_told}
-use Rattle.rv_word.proofs.Facts.{one_spelling}
 
 -- a register's entries are the words of its pair, or it may have none
 abbrev is_target : ℕ → Bool

@@ -1,7 +1,5 @@
 -- A list of bytes has one longest reading.
-use Rattle.std.proofs.Common.{◌≡◌, ℕ, List, [], ◌∷◌, length, take, drop, refl, sym, ap, ◌∙◌, subst, arith, get_or-take}
-use Rattle.rv_comp.specs.Fronts.{Spells}
-use Rattle.sfi_scan.specs.Readings.{Piece, IsReading, IsLongestReading}
+use Rattle.sfi_scan.proofs.Prelude.{◌≡◌, ℕ, List, [], ◌∷◌, length, take, drop, refl, sym, ap, ◌∙◌, subst, arith, get_or-take, Spells, Piece, IsReading, IsLongestReading}
 use Rattle.rv_comp.proofs.Facts.{one_spelling}
 
 -- the front of a list of bytes spells one instruction at most

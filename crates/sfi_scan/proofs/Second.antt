@@ -1,23 +1,10 @@
 -- Where no rule is broken, the second format's findings are V10 alone.
-use Rattle.std.proofs.Common.{◌≡◌, ℕ, pos, negsuc, zero, suc, ◌+◌, ◌-◌, List, [], ◌∷◌, ◌++◌, length, Bool, true, false, not, ◌&&◌, ◌||◌, refl, sym, ◌∙◌, subst, inl, inr, arith}
-use Rattle.std.specs.List.{All}
-use Rattle.std.proofs.lemmas.List.Elements.{All-append, All-nil}
-use Rattle.rv_word.specs.declared.instr.Instr.{Instr}
-use Rattle.rv_word.specs.declared.instr.Instr.TheVariants.{Load, Store, Branch, Jal, Jalr, Ecall}
+use Rattle.sfi_scan.proofs.Prelude.{◌≡◌, ℕ, pos, negsuc, zero, suc, ◌+◌, ◌-◌, List, [], ◌∷◌, ◌++◌, length, Bool, true, false, not, ◌&&◌, ◌||◌, refl, sym, ◌∙◌, subst, inl, inr, arith, All, Instr, Load, Store, Branch, Jal, Jalr, Ecall, has_stack, Part, Rule, BundlePlace, Finding, place_of, bundle_bytes, Piece, rest_of, follows_data_pair, Place, breaks, breaks_ecall, breaks_access, breaks_jump, breaks_target, is_empty, lowest, all_rules, findings_from, rest_finding, AreReadingFindings, AreBundleFindings, AreFindingsOfFirst, AreFindings, AreFindingsFrom}
+use Rattle.sfi_image.specs.InFormat.{in_format, all_in_format}
 use Rattle.sfi_policy.specs.declared.format.Format.{Format}
 use Rattle.sfi_policy.specs.declared.format.Format.TheVariants.{Sfi1, Sfi2}
-use Rattle.sfi_policy.specs.Formats.{has_stack}
-use Rattle.sfi_image.specs.Spelling.{Part}
-use Rattle.sfi_image.specs.InFormat.{in_format, all_in_format}
-use Rattle.sfi_scan.specs.declared.rule.Rule.{Rule}
 use Rattle.sfi_scan.specs.declared.rule.Rule.TheVariants.{V3, V4, V5, V6, V7, V8, V10}
-use Rattle.sfi_scan.specs.declared.bundle.BundlePlace.{BundlePlace}
-use Rattle.sfi_scan.specs.declared.finding.Finding.{Finding}
-use Rattle.sfi_scan.specs.Bundles.{place_of, bundle_bytes}
-use Rattle.sfi_scan.specs.Readings.{Piece, rest_of}
-use Rattle.sfi_scan.specs.Pairs.{follows_data_pair}
-use Rattle.sfi_scan.specs.Rules.{Place, breaks, breaks_ecall, breaks_access, breaks_jump, breaks_target, is_empty}
-use Rattle.sfi_scan.specs.Findings.{lowest, all_rules, findings_from, rest_finding, AreReadingFindings, AreBundleFindings, AreFindingsOfFirst, AreFindings, AreFindingsFrom}
+use Rattle.std.proofs.lemmas.List.Elements.{All-append, All-nil}
 use Rattle.sfi_scan.proofs.Lowest.{kept, lowest_is}
 use Rattle.sfi_scan.proofs.Readings.{longest_one}
 

@@ -1,12 +1,7 @@
 -- Whatever begins in a bundle with none of the places that are left is clean.
-use Rattle.std.proofs.Common.{◌≡◌, ℕ, ◌%◌, ◌^◌, ◌<◌, Bool, true, false, not, ◌&&◌, inl, inr, List, refl, sym, ap, ◌∙◌, subst, w64, bit_and}
-use Rattle.std.specs.Int.{bit_not}
-use Rattle.std.proofs.lemmas.Bool.{and_parts}
-use Rattle.sfi_masks.specs.Masks.{is_in, AreMasks, IsFreeAccess, word_at}
+use Rattle.sfi_scan.proofs.Prelude.{◌≡◌, ℕ, ◌%◌, ◌^◌, ◌<◌, Bool, true, false, not, ◌&&◌, inl, inr, List, refl, sym, ap, ◌∙◌, subst, w64, bit_and, bit_not, and_parts, is_in, AreMasks, IsFreeAccess, has_stack, BundlePlace, AreStarts, IsCleanAt, IsOfWrite, IsWithout}
 use Rattle.sfi_masks.specs.declared.masks.Masks.{Masks}
-use Rattle.sfi_policy.specs.Formats.{has_stack}
-use Rattle.sfi_scan.specs.declared.bundle.BundlePlace.{BundlePlace}
-use Rattle.sfi_scan.specs.private.Block.{AreStarts, IsCleanAt, IsOfWrite, IsWithout}
+use Rattle.sfi_masks.specs.Masks.{word_at}
 use Rattle.sfi_scan.proofs.Bits.{in_and, in_not}
 use Rattle.sfi_scan.proofs.Joining.{IsQuietAt}
 use Rattle.sfi_scan.proofs.Starts.{free_half, free_word}

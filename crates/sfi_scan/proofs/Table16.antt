@@ -1,29 +1,15 @@
 -- The table of halfwords that compute, seen right at each halfword.
-use Rattle.std.proofs.Common.{List, ◌≡◌, ℕ, ◌+◌, ◌*◌, ◌/◌, ◌%◌, ◌<◌, Bool, true, false, ◌&&◌, ◌==◌, refl, ap, sym, ◌∙◌, subst, arith, Option, Some, IfSome, bit_and, ◌^◌, ◌≢◌}
-use Rattle.std.specs.Prelude.{slice_index, ◌||◌, not}
-use Rattle.std.specs.Bool.{OnTrue}
-use Rattle.std.proofs.lemmas.Nat.{and_mask}
-use Rattle.std.proofs.lemmas.Bool.{agree_below, agree_below_at, and_parts, ne_eqb}
-use Rattle.rv_word.specs.declared.outline.Outline.{Outline}
-use Rattle.rv_word.specs.declared.outline.Outline.TheVariants.{Computes}
-use Rattle.rv_word.specs.Accesses.{access, IsAccessOf}
-use Rattle.rv_word.specs.Outlines.{outline, IsWordThat}
-use Rattle.rv_word.specs.Spelling.{IsWordOf}
+use Rattle.sfi_scan.proofs.Prelude.{List, ◌≡◌, ℕ, ◌+◌, ◌*◌, ◌/◌, ◌%◌, ◌<◌, Bool, true, false, ◌&&◌, ◌==◌, refl, ap, sym, ◌∙◌, subst, arith, Option, Some, IfSome, bit_and, ◌^◌, ◌≢◌, slice_index, ◌||◌, not, OnTrue, and_mask, agree_below, agree_below_at, and_parts, ne_eqb, outline, IsWordThat, IsWordOf, has_stack, is_reserved, may_access, AreBefore, IsCleanOne, is_clean, is_clean_access, is_protected, BundlePlace, Before, near, Instr, Load, Store}
 use Rattle.rv_comp.specs.Halfwords.{IsHalfwordThat, IsShortSpelling}
 use Rattle.rv_comp.specs.mirror.Decoding.{extended, jump_offset, branch_offset}
 use Rattle.rv_comp.specs.mirror.Outlining.{row_of, jump, jump_or_stop, outlined}
-use Rattle.sfi_policy.specs.Formats.{has_stack}
-use Rattle.sfi_policy.specs.Registers.{is_reserved}
-use Rattle.sfi_scan.specs.Rules.{may_access}
-use Rattle.sfi_scan.specs.private.FirstLook.{AreBefore, IsFreeHalf, IsCleanOne, is_clean, is_clean_access, is_protected}
-use Rattle.sfi_scan.specs.declared.bundle.BundlePlace.{BundlePlace}
-use Rattle.sfi_scan.specs.declared.clean.Words.{Words}
-use Rattle.sfi_scan.specs.declared.before.Before.{Before}
-use Rattle.sfi_scan.specs.private.Near.{near}
+use Rattle.rv_word.specs.Accesses.{access, IsAccessOf}
 use Rattle.rv_word.specs.declared.access.Access.{Access}
-use Rattle.rv_word.specs.declared.instr.Instr.{Instr}
-use Rattle.rv_word.specs.declared.instr.Instr.TheVariants.{Load, Store}
+use Rattle.rv_word.specs.declared.outline.Outline.{Outline}
+use Rattle.rv_word.specs.declared.outline.Outline.TheVariants.{Computes}
+use Rattle.sfi_scan.specs.declared.clean.Words.{Words}
 use Rattle.sfi_scan.specs.declared.computing.TheConstants.{COMPUTING}
+use Rattle.sfi_scan.specs.private.FirstLook.{IsFreeHalf}
 use Rattle.rv_comp.proofs.Facts.{halfwords_are_outlined}
 
 -- it computes into a register that is not reserved, and into x2 only where the halfword names it in bits 11:7

@@ -1,25 +1,11 @@
 -- The walk over a bundle: what is found so far, and what the rest adds.
-use Rattle.std.proofs.Common.{◌≡◌, ℕ, ◌+◌, ◌-◌, ◌*◌, ◌%◌, ◌<◌, ◌≤◌, Bool, true, false, List, [], ◌∷◌, ◌++◌, length, take, drop, Option, Some, None, refl, sym, ap, ◌∙◌, subst, inl, inr, arith, append_assoc, length-drop}
-use Rattle.std.specs.Prelude.{◌&&◌}
-use Rattle.std.proofs.lemmas.List.{length-take, length-append, append-nil, drop_all, drop-drop, take_all}
-use Rattle.std.specs.Int.{w16, from_le_bytes}
-use Rattle.rv_word.specs.declared.instr.Instr.{Instr}
+use Rattle.sfi_scan.proofs.Prelude.{◌≡◌, ℕ, ◌+◌, ◌-◌, ◌*◌, ◌%◌, ◌<◌, ◌≤◌, Bool, true, false, List, [], ◌∷◌, ◌++◌, length, take, drop, Option, Some, None, refl, sym, ap, ◌∙◌, subst, inl, inr, arith, append_assoc, length-drop, ◌&&◌, length-take, length-append, append-nil, drop_all, drop-drop, take_all, w16, from_le_bytes, Instr, Spells, IsCutShort, SpellsNothing, Read, Before, BundlePlace, Rule, Finding, Piece, IsReading, IsLongestReading, rest_of, Place, is_empty, broken, lowest, all_rules, findings_from, rest_finding, rule_of_length, AreReadingFindings, near, finding_of}
+use Rattle.rv_word.specs.Lengths.{length_of}
 use Rattle.rv_word.specs.declared.length.Length.{Length}
 use Rattle.rv_word.specs.declared.length.Length.TheVariants.{Wide, Longer}
-use Rattle.rv_word.specs.declared.length.Length.TheVariants as lengths
-use Rattle.rv_word.specs.Lengths.{length_of}
-use Rattle.rv_comp.specs.Fronts.{Spells, IsCutShort, SpellsNothing}
-use Rattle.rv_comp.specs.declared.front.Front.TheVariants.{Read}
-use Rattle.rv_comp.specs.declared.front.Front.TheVariants as fronts
-use Rattle.sfi_scan.specs.declared.before.Before.{Before}
-use Rattle.sfi_scan.specs.declared.bundle.BundlePlace.{BundlePlace}
-use Rattle.sfi_scan.specs.declared.rule.Rule.{Rule}
 use Rattle.sfi_scan.specs.declared.rule.Rule.TheVariants.{V1, V2}
-use Rattle.sfi_scan.specs.declared.finding.Finding.{Finding}
-use Rattle.sfi_scan.specs.Readings.{Piece, IsReading, IsLongestReading, rest_of}
-use Rattle.sfi_scan.specs.Rules.{Place, is_empty}
-use Rattle.sfi_scan.specs.Findings.{broken, lowest, all_rules, findings_from, rest_finding, rule_of_length, AreReadingFindings}
-use Rattle.sfi_scan.specs.private.Near.{near, finding_of}
+use Rattle.rv_word.specs.declared.length.Length.TheVariants as lengths
+use Rattle.rv_comp.specs.declared.front.Front.TheVariants as fronts
 
 -- ---- spellings
 

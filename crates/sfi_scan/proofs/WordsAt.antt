@@ -1,8 +1,5 @@
 -- The words before a place.
-use Rattle.std.proofs.Common.{Option, Some, None, refl, inl}
-use Rattle.rv_word.specs.declared.instr.Instr.{Instr}
-use Rattle.sfi_scan.specs.declared.before.Before.{Before}
-use Rattle.sfi_scan.specs.private.FirstLook.{IsWordOr0, AreBefore}
+use Rattle.sfi_scan.proofs.Prelude.{Option, Some, None, refl, inl, Instr, Before, IsWordOr0, AreBefore}
 
 -- 0 stands for every instruction, and for none
 zero_for : (o : Option Instr) → IsWordOr0 0 o

@@ -1,10 +1,5 @@
 -- Writes of the stack pointer in a block.
-use Rattle.std.proofs.Common.{◌≡◌, ℕ, ◌+◌, ◌*◌, ◌/◌, ◌%◌, ◌<◌, Bool, true, false, List, sym, ap, ◌∙◌, subst, arith}
-use Rattle.std.specs.Bool.{OnTrue}
-use Rattle.sfi_masks.specs.Masks.{is_in}
-use Rattle.sfi_scan.specs.Bundles.{block_bundle}
-use Rattle.sfi_scan.specs.private.Block.{AreThreeWords, IsWritten, IsOfWrite, offset}
-use Rattle.sfi_scan.specs.private.FirstLook.{word_at, IsStackWrite, AreStackPair}
+use Rattle.sfi_scan.proofs.Prelude.{◌≡◌, ℕ, ◌+◌, ◌*◌, ◌/◌, ◌%◌, ◌<◌, Bool, true, false, List, sym, ap, ◌∙◌, subst, arith, OnTrue, is_in, block_bundle, AreThreeWords, IsWritten, IsOfWrite, offset, word_at, IsStackWrite, AreStackPair}
 use Rattle.sfi_scan.proofs.Bits.{in_zero}
 
 pub no_writes : (block : List ℕ) (words i : ℕ) → is_in 0 i ≡ true → IsOfWrite block words i

@@ -1,6 +1,4 @@
-use Rattle.std.proofs.Common.{◌≡◌, ℕ, ap}
-use Rattle.rv_word.specs.declared.instr.Instr.{Instr}
-use Rattle.rv_comp.specs.declared.front.Front.TheVariants.{Read, Short}
+use Rattle.sfi_scan.proofs.Prelude.{◌≡◌, ℕ, ap, Instr, Read, Short}
 use Rattle.sfi_scan.specs.declared.ahead.Ahead.{Ahead}
 use Rattle.sfi_scan.proofs.After.{first_read, none_read}
 use Rattle.sfi_scan.proofs.ahead.first_of.Goals as goal

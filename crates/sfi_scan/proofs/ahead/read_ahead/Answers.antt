@@ -1,8 +1,5 @@
-use Rattle.std.proofs.Common.{◌≡◌, ℕ, ◌-◌, ◌∙◌, sym, subst, arith, List, length, take, drop}
-use Rattle.std.proofs.lemmas.List.{take_all, length-drop}
-use Rattle.rv_word.specs.declared.instr.Instr.{Instr}
-use Rattle.rv_comp.specs.declared.front.Front.TheVariants.{Read, Short}
-use Rattle.sfi_scan.specs.Readings.{IsLongestReading}
+use Rattle.sfi_scan.proofs.Prelude.{◌≡◌, ℕ, ◌-◌, ◌∙◌, sym, subst, arith, List, length, take, drop, take_all, Instr, Read, Short, IsLongestReading}
+use Rattle.std.proofs.lemmas.List.{length-drop}
 use Rattle.sfi_scan.proofs.After.{both_read, none_read}
 use Rattle.sfi_scan.proofs.ahead.read_ahead.Goals as goal
 

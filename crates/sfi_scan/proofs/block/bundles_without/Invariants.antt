@@ -1,5 +1,4 @@
-use Rattle.std.proofs.Common.{ℕ, ◌≡◌, ◌+◌, ◌-◌, ◌*◌, ◌<◌, true, false}
-use Rattle.sfi_masks.specs.Masks.{is_in}
+use Rattle.sfi_scan.proofs.Prelude.{ℕ, ◌≡◌, ◌+◌, ◌-◌, ◌*◌, ◌<◌, true, false, is_in}
 use Rattle.sfi_scan.proofs.block.bundles_without.Given as goal
 
 -- the bundles told so far have none of the places

@@ -1,8 +1,5 @@
-use Rattle.std.proofs.Common.{◌-◌, sym, ◌∙◌, ap, w64}
-use Rattle.std.specs.Int.{trailing_zeros}
+use Rattle.sfi_scan.proofs.Prelude.{◌-◌, sym, ◌∙◌, ap, w64, trailing_zeros, OnTrue_at, is_in}
 use Rattle.std.proofs.Math.Facts.{Fits-lt-pow}
-use Rattle.std.proofs.lemmas.Bool.{OnTrue_at}
-use Rattle.sfi_masks.specs.Masks.{is_in}
 use Rattle.sfi_scan.proofs.Bits.{in_lowest, in_rest, in_more}
 use Rattle.sfi_scan.proofs.Starts.{IsCleanAccess}
 use Rattle.sfi_scan.proofs.block.clean_accesses.Goals as goal

@@ -1,5 +1,4 @@
-use Rattle.std.proofs.Common.{ℕ, ◌≡◌, true}
-use Rattle.sfi_masks.specs.Masks.{is_in}
+use Rattle.sfi_scan.proofs.Prelude.{ℕ, ◌≡◌, true, is_in}
 use Rattle.sfi_scan.proofs.Starts.{IsCleanAccess}
 use Rattle.sfi_scan.proofs.block.clean_accesses.Given as goal
 

@@ -1,6 +1,4 @@
-use Rattle.std.proofs.Common.{ℕ, ◌≡◌, true}
-use Rattle.sfi_masks.specs.Masks.{is_in}
-use Rattle.sfi_scan.specs.private.Block.{IsCleanAt}
+use Rattle.sfi_scan.proofs.Prelude.{ℕ, ◌≡◌, true, is_in, IsCleanAt}
 use Rattle.sfi_scan.proofs.block.clean_others.Given as goal
 
 -- what is clean is so

@@ -1,5 +1,4 @@
-use Rattle.std.proofs.Common.{rules, ◌≡◌, ◌*◌, take, drop, ap, ◌∙◌}
-use Rattle.std.specs.Int.{w16, from_le_bytes}
+use Rattle.sfi_scan.proofs.Prelude.{rules, ◌≡◌, ◌*◌, take, drop, ap, ◌∙◌, w16, from_le_bytes}
 use Rattle.sfi_scan.proofs.Joining.{half_cut}
 use Rattle.sfi_scan.proofs.block.half_at.Goals as goal
 

@@ -1,5 +1,4 @@
-use Rattle.std.proofs.Common.{◌/◌, ◌∙◌, ap, bit_and}
-use Rattle.sfi_scan.specs.Bundles.{bundle_at}
+use Rattle.sfi_scan.proofs.Prelude.{◌/◌, ◌∙◌, ap, bit_and, bundle_at}
 use Rattle.sfi_scan.proofs.Starts.{access_clean}
 use Rattle.sfi_scan.proofs.block.is_clean_access.Goals as goal
 

@@ -1,11 +1,4 @@
-use Rattle.std.proofs.Common.{◌/◌, ◌∙◌, sym, subst, ◌≡◌, ◌+◌, List, true}
-use Rattle.std.specs.Bool.{OnTrue}
-use Rattle.rv_word.specs.declared.instr.Instr.{Instr}
-use Rattle.sfi_scan.specs.Bundles.{bundle_at}
-use Rattle.sfi_scan.specs.declared.bundle.BundlePlace.{BundlePlace}
-use Rattle.sfi_scan.specs.private.Block.{offset}
-use Rattle.sfi_scan.specs.private.FirstLook.{AreBefore, is_clean}
-use Rattle.sfi_scan.specs.private.Near.{near}
+use Rattle.sfi_scan.proofs.Prelude.{◌/◌, ◌∙◌, sym, subst, ◌≡◌, ◌+◌, List, true, OnTrue, Instr, bundle_at, BundlePlace, offset, AreBefore, is_clean, near}
 use Rattle.sfi_scan.proofs.Starts.{short_clean, wide_clean}
 use Rattle.sfi_scan.proofs.block.is_clean_at.Goals as goal
 use Rattle.sfi_scan.proofs.block.is_clean_at.Goals.{then-has, else-has}

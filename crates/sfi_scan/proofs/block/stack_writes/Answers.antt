@@ -1,9 +1,5 @@
-use Rattle.std.proofs.Common.{ℕ, ◌+◌, ◌-◌, sym, arith, ◌∙◌, ap, w64, refl, inl, inr}
-use Rattle.std.specs.Int.{trailing_zeros}
+use Rattle.sfi_scan.proofs.Prelude.{ℕ, ◌+◌, ◌-◌, sym, arith, ◌∙◌, ap, w64, refl, inl, inr, trailing_zeros, OnTrue_at, is_in, IsOfWrite}
 use Rattle.std.proofs.Math.Facts.{Fits-lt-pow}
-use Rattle.std.proofs.lemmas.Bool.{OnTrue_at}
-use Rattle.sfi_masks.specs.Masks.{is_in}
-use Rattle.sfi_scan.specs.private.Block.{IsOfWrite}
 use Rattle.sfi_scan.proofs.Bits.{in_lowest, in_rest, in_rest_other, in_more}
 use Rattle.sfi_scan.proofs.Writes.{no_writes}
 use Rattle.sfi_scan.proofs.block.stack_writes.Goals as goal

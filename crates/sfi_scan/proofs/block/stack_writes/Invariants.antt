@@ -1,6 +1,4 @@
-use Rattle.std.proofs.Common.{ℕ, ◌≡◌, true}
-use Rattle.sfi_masks.specs.Masks.{is_in}
-use Rattle.sfi_scan.specs.private.Block.{IsOfWrite}
+use Rattle.sfi_scan.proofs.Prelude.{ℕ, ◌≡◌, true, is_in, IsOfWrite}
 use Rattle.sfi_scan.proofs.block.stack_writes.Given as goal
 
 -- what is left is of the places where three words begin, and what is told is of writes

@@ -1,5 +1,4 @@
-use Rattle.std.proofs.Common.{bit_and, ◌≡◌, ◌+◌, ◌*◌, true, false, sym, ap, ◌∙◌, inl, arith}
-use Rattle.sfi_masks.specs.Masks.{is_in}
+use Rattle.sfi_scan.proofs.Prelude.{bit_and, ◌≡◌, ◌+◌, ◌*◌, true, false, sym, ap, ◌∙◌, inl, arith, is_in}
 use Rattle.sfi_scan.proofs.Marks.{after_two_is}
 use Rattle.sfi_scan.proofs.Bits.{in_all, in_zero}
 use Rattle.sfi_scan.proofs.Joining.{joined}

@@ -1,5 +1,4 @@
-use Rattle.std.proofs.Common.{◌+◌}
-use Rattle.sfi_scan.specs.private.FirstLook.{AreWordsFrom}
+use Rattle.sfi_scan.proofs.Prelude.{◌+◌, AreWordsFrom}
 use Rattle.sfi_scan.proofs.Table16.{clean_access}
 use Rattle.sfi_scan.proofs.clean.is_clean_word.Goals as goal
 

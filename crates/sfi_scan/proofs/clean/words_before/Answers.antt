@@ -1,5 +1,4 @@
-use Rattle.std.proofs.Common.{◌-◌, sym, subst, arith}
-use Rattle.sfi_scan.specs.private.FirstLook.{IsWordOr0}
+use Rattle.sfi_scan.proofs.Prelude.{◌-◌, sym, subst, arith, IsWordOr0}
 use Rattle.sfi_scan.proofs.WordsAt.{no_words}
 use Rattle.sfi_scan.proofs.clean.words_before.Goals as goal
 

@@ -1,9 +1,5 @@
-use Rattle.std.proofs.Common.{◌≡◌, ◌+◌, ◌*◌, false, ℕ, length, take, drop, ap, sym, ◌∙◌, subst, arith}
-use Rattle.std.proofs.lemmas.List.{length-drop, take_rest}
-use Rattle.sfi_image.specs.Spelling.{view}
-use Rattle.sfi_scan.specs.declared.bundle.BundlePlace.{BundlePlace}
-use Rattle.sfi_scan.specs.Bundles.{IsWithinBlock}
-use Rattle.sfi_scan.specs.private.Near.{is_first_below}
+use Rattle.sfi_scan.proofs.Prelude.{◌≡◌, ◌+◌, ◌*◌, false, ℕ, length, take, drop, ap, sym, ◌∙◌, subst, arith, take_rest, view, BundlePlace, IsWithinBlock, is_first_below}
+use Rattle.std.proofs.lemmas.List.{length-drop}
 use Rattle.sfi_scan.proofs.Bits.{in_byte}
 use Rattle.sfi_scan.proofs.Gates.{none_below, seen_clean}
 use Rattle.sfi_scan.proofs.part.clean_from.Goals as goal

@@ -1,14 +1,8 @@
-use Rattle.std.proofs.Common.{◌≡◌, ℕ, ◌+◌, ◌*◌, ◌/◌, ◌%◌, List, ◌++◌, length, drop, cond, get_or, refl, true, false, true≢false, sym, ◌∙◌, ap, subst, arith, Bool, []}
-use Rattle.std.specs.Result.{is_ok}
-use Rattle.sfi_scan.specs.declared.bundle.BundlePlace.{BundlePlace}
-use Rattle.sfi_image.specs.declared.part.Gate.{Gate}
-use Rattle.sfi_image.specs.Spelling.{view}
-use Rattle.sfi_image.specs.Spans.{code_region}
+use Rattle.sfi_scan.proofs.Prelude.{◌≡◌, ℕ, ◌+◌, ◌*◌, ◌/◌, ◌%◌, List, ◌++◌, length, drop, cond, get_or, refl, true, false, true≢false, sym, ◌∙◌, ap, subst, arith, Bool, [], BundlePlace, view, is_in, IsWithin, place_of, AreFindingsOfFirst, AreAhead, AreGatesFrom, IsClean, is_first_at}
 use Rattle.sfi_image.specs.Gates.{is_gate_of}
-use Rattle.sfi_masks.specs.Masks.{is_in}
-use Rattle.sfi_scan.specs.Bundles.{IsWithin, place_of}
-use Rattle.sfi_scan.specs.Findings.{AreFindingsOfFirst}
-use Rattle.sfi_scan.specs.private.Near.{AreAhead, AreGatesFrom, IsClean, is_first_at}
+use Rattle.sfi_image.specs.Spans.{code_region}
+use Rattle.sfi_image.specs.declared.part.Gate.{Gate}
+use Rattle.std.specs.Result.{is_ok}
 use Rattle.sfi_scan.proofs.Bits.{in_shr, in_zero}
 use Rattle.sfi_scan.proofs.Gates.{all_ahead, one_more, first_is, ahead_next, chunk_at, if_true, none_more}
 use Rattle.sfi_scan.proofs.part.scan_part_as.Goals as goal

@@ -1,8 +1,4 @@
-use Rattle.std.proofs.Common.{◌≡◌, ℕ, ◌+◌, true}
-use Rattle.sfi_image.specs.Spelling.{view}
-use Rattle.sfi_masks.specs.Masks.{is_in}
-use Rattle.sfi_scan.specs.Findings.{AreFindingsOfFirst}
-use Rattle.sfi_scan.specs.private.Near.{AreAhead, IsClean}
+use Rattle.sfi_scan.proofs.Prelude.{◌≡◌, ℕ, ◌+◌, true, view, is_in, AreFindingsOfFirst, AreAhead, IsClean}
 use Rattle.sfi_scan.proofs.part.scan_part_as.Given as goal
 
 -- the findings of the bundles so far, the gates that are still ahead, and what the mask tells

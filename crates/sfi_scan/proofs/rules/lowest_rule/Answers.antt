@@ -1,9 +1,4 @@
-use Rattle.std.proofs.Common.{◌≡◌, Bool, List, [], ◌∷◌, true, false, refl, ap, ◌∙◌, sym}
-use Rattle.std.specs.Prelude.{not, is_some}
-use Rattle.rv_word.specs.declared.instr.Instr.{Instr}
-use Rattle.sfi_scan.specs.declared.before.Before.{Before}
-use Rattle.sfi_scan.specs.Rules.{is_empty, breaks_ecall}
-use Rattle.sfi_scan.specs.private.Near.{near}
+use Rattle.sfi_scan.proofs.Prelude.{◌≡◌, Bool, List, [], ◌∷◌, true, false, refl, ap, ◌∙◌, sym, not, is_some, Instr, Before, is_empty, breaks_ecall, near}
 use Rattle.sfi_scan.proofs.rules.lowest_rule.Goals as goal
 
 first_is : (earlier : List Instr) (b : Before) → near earlier ≡ b → is_empty earlier ≡ not (is_some b.second)

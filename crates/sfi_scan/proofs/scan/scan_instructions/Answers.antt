@@ -1,10 +1,6 @@
-use Rattle.std.proofs.Common.{◌≡◌, ◌+◌, List, ◌++◌, sym, ◌∙◌, subst}
-use Rattle.rv_comp.specs.declared.front.Front.TheVariants.{Read}
-use Rattle.sfi_scan.specs.declared.finding.Finding.{Finding}
-use Rattle.sfi_scan.specs.Findings.{AreReadingFindings}
-use Rattle.sfi_scan.specs.private.Near.{finding_of}
-use Rattle.sfi_scan.proofs.Walk.{Leads, next_of, at_last, short_end, bad_end, pushed, some_found, none_found}
+use Rattle.sfi_scan.proofs.Prelude.{◌≡◌, ◌+◌, List, ◌++◌, sym, ◌∙◌, subst, Read, Finding, AreReadingFindings, finding_of}
 use Rattle.sfi_scan.specs.declared.rule.Rule.TheVariants.{V1, V2}
+use Rattle.sfi_scan.proofs.Walk.{Leads, next_of, at_last, short_end, bad_end, pushed, some_found, none_found}
 use Rattle.sfi_scan.proofs.scan.scan_instructions.Goals as goal
 use Rattle.sfi_scan.proofs.scan.scan_instructions.Goals.{in-Some, in_default}
 

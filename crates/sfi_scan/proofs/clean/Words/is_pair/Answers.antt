@@ -1,7 +1,4 @@
-use Rattle.std.proofs.Common.{subst}
-use Rattle.rv_word.specs.declared.instr.Instr.TheVariants.{Op}
-use Rattle.rv_word.specs.declared.instr.RegOp.TheVariants.{And, Or}
-use Rattle.rv_word.specs.Spelling.{IsWordOf}
+use Rattle.sfi_scan.proofs.Prelude.{subst, Op, And, Or, IsWordOf}
 use Rattle.sfi_scan.proofs.FirstLook.{pair_told}
 use Rattle.sfi_scan.proofs.clean.Words.is_pair.Goals as goal
 
