@@ -1,5 +1,6 @@
 -- What begins at a start of a block breaks no rule.
-use Rattle.sfi_scan.proofs.Prelude.{◌≡◌, ℕ, ◌+◌, ◌-◌, ◌/◌, ◌%◌, ◌<◌, Bool, true, false, not, ◌&&◌, ◌||◌, ◌==◌, cond, List, Option, Some, None, IfSome, refl, sym, ap, ◌∙◌, subst, arith, bit_and, OnTrue, w16, w32, from_le_bytes, and_parts, and_mask, outline, IsWordThat, IsWordOf, Instr, is_in, may_write, is_free, IsFreeHalf, IsFreeWord, IsFreeAccess, half_at as block_half, word_at as block_word, has_stack, is_reserved, stack_pointer, Before, BundlePlace, bundle_at, block_bundle, follows_data_pair, may_access, AreAfterTwo, offset, words_from, IsCleanAt, half_at, word_at, AreWordsFrom, AreBefore, IsWordOr0, is_protected, is_clean, is_clean_access, near}
+use Rattle.sfi_scan.proofs.Prelude.{◌≡◌, ℕ, ◌+◌, ◌-◌, ◌/◌, ◌%◌, ◌<◌, Bool, true, false, not, ◌&&◌, ◌||◌, ◌==◌, cond, List, Option, Some, None, IfSome, refl, sym, ap, ◌∙◌, subst, arith, bit_and, OnTrue, w16, w32, from_le_bytes, and_parts, and_mask, outline, IsWordThat, IsWordOf, Instr, is_in, may_write, is_free, IsFreeHalf, IsFreeWord, IsFreeAccess, has_stack, is_reserved, stack_pointer, Before, BundlePlace, bundle_at, block_bundle, follows_data_pair, may_access, AreAfterTwo, offset, words_from, IsCleanAt, half_at, word_at, AreWordsFrom, AreBefore, IsWordOr0, is_protected, is_clean, is_clean_access, near}
+use Rattle.sfi_masks.specs.Masks.{half_at as block_half, word_at as block_word}
 use Rattle.rv_comp.specs.Halfwords.{IsHalfwordThat, IsShortSpelling}
 use Rattle.rv_word.specs.Accesses.{IsAccessOf}
 use Rattle.rv_word.specs.Numbers.{bits}
