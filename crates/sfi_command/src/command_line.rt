@@ -184,8 +184,8 @@ fn job_named(alloc: Global, name: &str, found: &ArgMatches<'_>) -> Result<Job, J
 
 /// The job that the words ask for. The first word is the program's name, as `env::args` gives it.
 ///
-/// Words that don't parse, and those that ask for help or the version, are a `Usage`, with the text
-/// to print. `Hex` comes of words that parse, where the text of `--input` has an odd number of
+/// Words that don't parse, have an `--at` that is no place, or ask for both `--raw` and `--report`, for help
+/// or for the version, are a `Usage`, with the text to print. `Hex` comes of words that parse, where the text of `--input` has an odd number of
 /// digits or something that is no digit.
 pub fn job_of(alloc: Global, words: &[String]) -> Result<Job, JobFault>
     ensures job { IfOk result (Asks (map string_bytes words.now)) }

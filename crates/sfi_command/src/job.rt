@@ -65,7 +65,8 @@ pub const HEX_LINE: &str = "option fault hex\n";
 /// Why the words ask for no job.
 #[derive(Debug, Drop, Error)]
 pub enum JobFault {
-    /// The words don't parse, or ask for help or the version: the text to print.
+    /// The words don't parse, have an `--at` that is no place, or ask for both `--raw` and `--report`, for
+    /// help or for the version: the text to print.
     #[error("{0}")]
     Usage(String),
     /// The words parse, and the text of `--input` spells no bytes.

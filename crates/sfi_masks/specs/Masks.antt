@@ -59,9 +59,9 @@ pub record IsFreeAccess (stack : Bool) (word : ℕ) : Type 0 where
   pub base : access.base ≡ bits word 19 15
   pub free : may_write stack access.written ≡ true
 
--- What the masks tell of the block's 64 halfwords. `long` tells each that begins an instruction of
--- 32 bits, and no other. What `free` or `access` tells is so wherever an instruction begins there,
--- but of one of 32 bits at a bundle's last halfword they tell nothing.
+-- What the masks tell of the block's 64 halfwords. `long` tells each whose two lowest bits are 11, so
+-- that it begins no instruction of 16 bits, and no other. What `free` or `access` tells is so wherever
+-- an instruction begins there, but of one of 32 bits at a bundle's last halfword they tell nothing.
 pub record AreMasks (stack : Bool) (bytes : List ℕ) (m : Masks) : Type 0 where
   pub long : (i : ℕ) → i < 64 → is_in m.long i ≡ (half_at bytes i % 4 == 3)
   pub short :

@@ -74,7 +74,7 @@ pub(crate) fn kept_classes(stack: bool, low: u8x16, high: u8x16) -> u8x16
         .select(u8x16::splat(NO_RD), u8x16::splat(ALL))
 }
 
-/// A bit for each halfword that begins an instruction of 32 bits.
+/// A bit for each halfword whose two lowest bits are 11.
 #[inline(always)]
 pub(crate) fn long_bits(low: u8x16) -> u64
     ensures small { result < 2 ^ 16 }

@@ -1,4 +1,4 @@
-//! Eight bundles of code looked at at once: which halfwords begin an instruction of 32 bits, which
+//! Eight bundles of code looked at at once: which halfwords begin no instruction of 16 bits, which begin
 //! an instruction that breaks no rule in a plain bundle whatever stands beside it, and which a load or
 //! a store.
 //!

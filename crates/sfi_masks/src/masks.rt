@@ -16,7 +16,7 @@ pub const BLOCK_BYTES: usize = 128;
 /// Of each of the 64 halfwords of a block a bit, the lowest for the first.
 #[derive(Clone, Copy)]
 pub struct Masks {
-    /// It begins an instruction of 32 bits.
+    /// Its two lowest bits are 11: it begins no instruction of 16 bits.
     pub long: u64,
     /// It begins an instruction that breaks no rule in a plain bundle, whatever stands beside it.
     pub free: u64,

@@ -7,7 +7,7 @@ use Rattle.sfi_report.specs.Listing.{IsListing}
 use Rattle.sfi_report.specs.State.{IsStateText}
 use Rattle.rv_step.specs.State.{Hart}
 
--- findings have one report
+-- findings have at most one report
 abbrev pub OneReport : Type 0
 OneReport = (ps : List Part) (found : List Finding) (text other : List ℕ) → IsReport ps found text
     → IsReport ps found other → text ≡ other

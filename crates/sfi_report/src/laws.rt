@@ -1,7 +1,7 @@
 //! What holds of reports, listings and states.
 ghost use Rattle.sfi_report.specs.Laws.{OneReport, OneListing, OneState};
 
-/// Findings have one report.
+/// Findings have at most one report.
 pub fn one_report()
     ensures { OneReport }
 {}

@@ -46,12 +46,12 @@ abbrev pub breaks_reserved : Instr → Bool
 breaks_reserved i = is_reserved_one (destination i)
 
 -- an access on this base stays in the data and the guards: the two instructions directly before are
--- the data pair on it, or it is the stack pointer
+-- the data pair on it, or it is the stack pointer of a format that has one
 abbrev pub may_access : BundlePlace → ℕ → List Instr → Bool
 may_access b base earlier = is_stack b.format base || follows_data_pair base earlier
 
 -- V5: a load or store, and the two instructions directly before it are not the data pair on its
--- base (on the stack pointer it is never broken)
+-- base (on the stack pointer of a format that has one it is never broken)
 abbrev pub breaks_access : Place → Instr → Bool
 breaks_access x (Load kind rd rs1 imm) = not (may_access x.bundle rs1 x.earlier)
 breaks_access x (Store width rs1 rs2 imm) = not (may_access x.bundle rs1 x.earlier)

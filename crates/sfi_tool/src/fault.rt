@@ -22,7 +22,7 @@ pub(crate) const TOO_LARGE_LINE: &str = "input fault too large\n";
 pub(crate) enum InputFault {
     Hex(HexFault),
     Utf8,
-    /// It spells an image of the second format, which `convert` makes.
+    /// It begins as an image of the second format does, which `convert` makes.
     NotOld,
 }
 

@@ -43,7 +43,7 @@ HasFindingsForConvert bytes =
 
 -- ---- the command
 
--- `convert`. Bytes that begin as an image of the second format does have a fault, whatever follows
+-- `convert`. Bytes that begin with the magic of the second format have a fault, whatever follows
 abbrev pub convert : Meaning
 convert = record {
   says = SaysConversion;
