@@ -23,7 +23,7 @@ enum Takes<'a> {
     Text(&'a str),
     /// A text, and the option may be given again and again.
     Texts(&'a str),
-    /// A number from 1 to the most, which is the usual one where the option isn't given.
+    /// A number from 1 to `most`; `usual` where the option isn't given.
     Count {
         word: &'a str,
         usual: &'a str,
