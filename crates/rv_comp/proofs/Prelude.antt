@@ -4,7 +4,8 @@ pub use Rattle.std.specs.Prelude.{nat_lt, nat_le, bit_and, IfNone, IsTrue, slice
 pub use Rattle.std.proofs.lemmas.Bool.{and_parts, ltb-true, ne_eqb, leb-true, cases_lt, cases_eq, cases_Bool, lt-ltb, le-ltb, cond-true, cond-false, agree_below, agree_below_at}
 pub use Rattle.std.proofs.lemmas.Nat.{and_mask, div_below, div-add-mod', from_le_bytes-to_le_bytes_4}
 pub use Rattle.std.specs.Int.{w16, w32, from_le_bytes, cast_unsigned, cast_signed, to_le_bytes}
-unfoldable pub use Rattle.rv_word.specs.Spelling.{IsWordOf, InRange, IsImm12, IsBranchOffset, IsJumpOffset, spelling}
+pub use Rattle.rv_word.specs.Spelling.{IsWordOf, IsImm12, IsBranchOffset, IsJumpOffset, spelling}
+unfoldable pub use Rattle.rv_word.specs.Spelling.{InRange}
 pub use Rattle.rv_word.specs.declared.instr.Instr.{Instr}
 pub use Rattle.rv_comp.specs.Fronts.{SpellsShort, SpellsWide, IsFront, Spells, IsCutShort, SpellsNothing}
 pub use Rattle.rv_comp.specs.Halfwords.{halfword_of, IsShortSpelling, IsHalfwordOf, IsFirst, IsHalfwordThat}
@@ -13,4 +14,5 @@ pub use Rattle.rv_comp.specs.Table.{allowed, expansion, place, is_reg, is_short_
 pub use Rattle.rv_comp.specs.declared.form.Form16.{Form16}
 pub use Rattle.rv_comp.specs.declared.form.Form16.TheVariants.{CAddi4spn, CLw, CSw, CAddi, CJal, CLi, CAddi16sp, CLui, CSrli, CSrai, CAndi, CSub, CXor, COr, CAnd, CJ, CBeqz, CBnez, CSlli, CLwsp, CJr, CJalr, CMv, CAdd, CEbreak, CSwsp}
 unfoldable pub use Rattle.rv_comp.specs.mirror.Decoding.{decoded, quadrant0, quadrant1, quadrant2, arithmetic, upper, jump_or_move, extended, word_offset, six, jump_offset, branch_offset, stack_step, stack_address, load_offset, store_offset}
-unfoldable pub use Rattle.rv_comp.specs.mirror.Encoding.{row_bit, row_fields, row_number, is_low, AreLow}
+pub use Rattle.rv_comp.specs.mirror.Encoding.{row_bit, row_fields, is_low, AreLow}
+unfoldable pub use Rattle.rv_comp.specs.mirror.Encoding.{row_number}

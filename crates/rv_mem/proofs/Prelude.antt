@@ -6,7 +6,8 @@ pub use Rattle.std.specs.Cmp.{nat_cmp_total, unsigned_tied}
 pub use Rattle.std.specs.FinMap.{insert, get-insert, get, find, get-from_entries, same_map, nat_cmp-IsAntisymmetric, empty, get-empty}
 pub use Rattle.std.specs.Option.{option_or, option_map}
 pub use Rattle.rv_mem.specs.Bytes.{Bytes, byte_at, bytes_at, address_after, addresses, in_front, IsMemory, with_bytes, number_of, loaded, added, Overlaps, IsFree}
-unfoldable pub use Rattle.rv_mem.specs.Frames.{frame_of, cell, cell_at, ArePages, values_of, with_entry, values_below}
+pub use Rattle.rv_mem.specs.Frames.{frame_of, cell, cell_at, ArePages, with_entry}
+unfoldable pub use Rattle.rv_mem.specs.Frames.{values_of, values_below}
 pub use Rattle.rv_mem.specs.Pages.{bytes_of}
 pub use Rattle.rv_mem.specs.private.Frames.{run_of, Puts, MarksRun, with_four}
 pub use Rattle.rv_mem.specs.private.Ranges.{HasIn, HasNone}

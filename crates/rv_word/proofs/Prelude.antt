@@ -5,7 +5,8 @@ pub use Rattle.std.proofs.lemmas.Bool.{and_parts, cases_eq, ltb-true, cases_lt, 
 pub use Rattle.rv_word.specs.Functs.{load_funct3, store_funct3, op_funct3, op_funct7, imm_funct3, cond_funct3, is_shift, shift_funct7}
 pub use Rattle.rv_word.specs.Laws.{WordIsDecided, OneSpelling, SpellingsAreWide}
 pub use Rattle.rv_word.specs.Numbers.{bits, modulo, minus, IsBetween, IsEven}
-unfoldable pub use Rattle.rv_word.specs.Spelling.{spelling, InRange, IsWordOf, IsImm12, IsImmOf, IsBranchOffset, IsJumpOffset}
+pub use Rattle.rv_word.specs.Spelling.{IsWordOf, IsImm12, IsImmOf, IsBranchOffset, IsJumpOffset}
+unfoldable pub use Rattle.rv_word.specs.Spelling.{spelling, InRange}
 pub use Rattle.rv_word.specs.declared.instr.ImmOp.{ImmOp}
 pub use Rattle.rv_word.specs.declared.instr.ImmOp.TheVariants.{Addi, Slti, Sltiu, Xori, Ori, Andi, Slli, Srli, Srai}
 pub use Rattle.rv_word.specs.declared.instr.Instr.{Instr}

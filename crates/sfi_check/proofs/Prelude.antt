@@ -7,7 +7,8 @@ pub use Rattle.std.proofs.lemmas.Int.{ints}
 pub use Rattle.std.proofs.lemmas.List.{get_or-set_other, length-set, length-map, length-append, length-take, length-drop, drop-drop, append-nil, take_all, take_more, get_or-map, take-append-drop, get_or-set_same, length_push, drop-take}
 pub use Rattle.std.specs.List.{Contains, range_with_len, All, list_all}
 pub use Rattle.rv_word.specs.Numbers.{offset_by, minus}
-unfoldable pub use Rattle.rv_word.specs.Spelling.{InRange, IsImm12, spelling, IsWordOf}
+pub use Rattle.rv_word.specs.Spelling.{IsImm12, IsWordOf}
+unfoldable pub use Rattle.rv_word.specs.Spelling.{InRange, spelling}
 pub use Rattle.rv_word.specs.declared.instr.Instr.{Instr}
 pub use Rattle.rv_word.specs.declared.instr.Instr.TheVariants.{Load, Store, Ecall, Op, OpImm, Branch, Jal, Jalr, Lui, Auipc, Fence, Ebreak}
 pub use Rattle.rv_word.specs.declared.instr.RegOp.TheVariants.{And, Or}
@@ -19,7 +20,8 @@ pub use Rattle.rv_step.specs.State.{Hart, with_register, State, register, with_p
 pub use Rattle.rv_step.specs.Step.{Stands, effect, after_load, next, unchanged, Stepped, IsStep}
 pub use Rattle.rv_step.specs.Values.{word, load_size, store_size, extended, is_taken, result_of}
 pub use Rattle.rv_step.specs.declared.outcome.Outcome.TheVariants.{Next, Call, Trap}
-unfoldable pub use Rattle.sfi_policy.specs.Formats.{magic, code_most, has_stack, is_stack}
+pub use Rattle.sfi_policy.specs.Formats.{code_most, has_stack, is_stack}
+unfoldable pub use Rattle.sfi_policy.specs.Formats.{magic}
 pub use Rattle.sfi_policy.specs.declared.format.Format.{Format}
 pub use Rattle.sfi_policy.specs.declared.format.Format.TheVariants.{Sfi1, Sfi2}
 pub use Rattle.sfi_image.specs.Faults.{IsFault, number_of}

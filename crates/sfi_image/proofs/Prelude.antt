@@ -9,7 +9,8 @@ pub use Rattle.std.proofs.lemmas.List.Elements.{All-head, All-tail, All-nil, All
 pub use Rattle.std.proofs.lemmas.Nat.{pow-add, pow_below, from_le_bytes-to_le_bytes_4, le_bytes_4, zero_from_ones, ones_le_self}
 pub use Rattle.std.proofs.lemmas.Result.{err_from_is_err_and}
 pub use Rattle.std.specs.List.{All, flat_map, AllPairs, AllByRecursion}
-unfoldable pub use Rattle.sfi_policy.specs.Formats.{code_most, magic}
+pub use Rattle.sfi_policy.specs.Formats.{code_most}
+unfoldable pub use Rattle.sfi_policy.specs.Formats.{magic}
 pub use Rattle.sfi_policy.specs.Limits.{bundle_size, gates_most, service_most}
 pub use Rattle.sfi_policy.specs.declared.format.Format.{Format}
 pub use Rattle.sfi_policy.specs.declared.format.Format.TheVariants.{Sfi1, Sfi2}
@@ -25,7 +26,8 @@ pub use Rattle.sfi_image.specs.Parts.{IsRightPart, AreOf, AreRight, IsRightLayou
 pub use Rattle.sfi_image.specs.Reader.{kept}
 pub use Rattle.sfi_image.specs.Regions.{IsCodeRegion, IsRegion, HasGuardRoom, IsBundleStart}
 pub use Rattle.sfi_image.specs.Spans.{Holds, AreApart, code_span, spans_of, spans, code_region, guarded_span}
-unfoldable pub use Rattle.sfi_image.specs.Spelling.{Part, AreWords, fields_of, number, fields, gate, part, IsWord, AreFieldWords, AreGateWords, format_of, spelling, views, view}
+pub use Rattle.sfi_image.specs.Spelling.{Part, AreWords, fields_of, IsWord, AreFieldWords, AreGateWords, format_of, views, view}
+unfoldable pub use Rattle.sfi_image.specs.Spelling.{number, fields, gate, part, spelling}
 pub use Rattle.sfi_image.specs.Tests.{FieldTest, Passes, IsFirstFault, fault_of, field_tests}
 pub use Rattle.sfi_image.specs.declared.fault.LayoutFault.{LayoutFault}
 pub use Rattle.sfi_image.specs.declared.fault.LayoutFault.TheVariants.{Count, Short, Trailing, Magic}

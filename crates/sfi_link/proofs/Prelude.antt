@@ -8,7 +8,8 @@ pub use Rattle.std.proofs.lemmas.List.Elements.{All-head, All-tail, All-cons, Al
 pub use Rattle.std.proofs.lemmas.Result.{err_from_is_err_and}
 pub use Rattle.std.specs.Int.{w32, to_le_bytes, w16, bit_at}
 pub use Rattle.std.specs.List.{All, AllPairs, repeat, flat_map}
-unfoldable pub use Rattle.rv_word.specs.Spelling.{InRange, spelling, IsReg, IsImm12, IsBranchOffset, IsJumpOffset}
+pub use Rattle.rv_word.specs.Spelling.{IsReg, IsImm12, IsBranchOffset, IsJumpOffset}
+unfoldable pub use Rattle.rv_word.specs.Spelling.{InRange, spelling}
 pub use Rattle.rv_word.specs.declared.instr.ImmOp.TheVariants.{Addi}
 pub use Rattle.rv_word.specs.declared.instr.Instr.{Instr}
 pub use Rattle.rv_word.specs.declared.instr.Instr.TheVariants.{Op, OpImm, Load, Store, Branch, Jal, Jalr, Lui, Fence, Ecall, Ebreak, Auipc}

@@ -8,7 +8,8 @@ pub use Rattle.std.specs.Bool.{OnTrue}
 pub use Rattle.std.specs.Int.{Width, bit_at, bit_not, trailing_zeros, w16, w32, from_le_bytes}
 pub use Rattle.std.specs.List.{All, AllPairs}
 pub use Rattle.rv_word.specs.Outlines.{outline, IsWordThat}
-unfoldable pub use Rattle.rv_word.specs.Spelling.{spelling, IsWordOf, InRange}
+pub use Rattle.rv_word.specs.Spelling.{IsWordOf}
+unfoldable pub use Rattle.rv_word.specs.Spelling.{spelling, InRange}
 pub use Rattle.rv_word.specs.declared.instr.Instr.{Instr}
 pub use Rattle.rv_word.specs.declared.instr.Instr.TheVariants.{Op, OpImm, Load, Store, Branch, Jal, Jalr, Lui, Auipc, Fence, Ecall, Ebreak}
 pub use Rattle.rv_word.specs.declared.instr.RegOp.TheVariants.{And, Or}
