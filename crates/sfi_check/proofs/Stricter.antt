@@ -110,7 +110,7 @@ module _ (b c d f g h j k l : ℕ) where
 
   stops : (n : ℕ) → n < 16 → StopsAt stopping n
   unfolding AllBelow
-  stops n below = let e = ebreak_spelled in one_below (StopsAt stopping) 16 n (((((((((((((((((tt, e), e), e), e), e), e), e), e), e), e), e), e), e), e), e), e) below
+  stops n below = let e = ebreak_spelled in one_below (StopsAt stopping) 16 n ((((((((((((((((tt, e), e), e), e), e), e), e), e), e), e), e), e), e), e), e), e) below
 
 pub undecodable_stricter : IsStricter V1 0x01000004 (sandbox undecodable_after_ebreak)
 undecodable_stricter =
