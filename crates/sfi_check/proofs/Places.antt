@@ -1,5 +1,6 @@
 -- A hart at a bundle start is at that bundle's first piece, and the one instruction there is the reading's.
 use Rattle.sfi_check.proofs.Prelude.{◌≡◌, ℕ, zero, suc, ◌+◌, ◌-◌, ◌*◌, ◌/◌, ◌%◌, ◌<◌, ◌≤◌, List, [], ◌∷◌, ◌++◌, length, map, get_or, take, drop, Some, true, refl, sym, ap, ◌∙◌, subst, inl, inr, ⊎_elim, arith, get_or-drop, get_or-take, add-zero, slice_index, range_with_len, cases_lt, Spells, Bytes, byte_at, bytes_at, address_after, addresses, Hart, Stands, Part, code_region, IsBundleStart, BundlePlace, Finding, place_of, bundle_bytes, Piece, IsReading, rest_of, is_empty, findings_from, rest_finding, AreReadingFindings, AreBundleFindings, AreFindingsOfFirst, StackInData, HasCode, IsCleanPart, IsAtPlace}
+use Rattle.rv_comp.proofs.Facts.{spelled_length, spelled_some}
 use Rattle.std.proofs.Common.{length-take, length-drop}
 use Rattle.sfi_check.specs.Regions.{InCode}
 use Rattle.sfi_check.proofs.PairResult.{leaves_nothing}
