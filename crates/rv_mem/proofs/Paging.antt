@@ -119,10 +119,6 @@ module _ (t c : List ℕ) (are : ArePages t c) where
   pub has_frame : (q : ℕ) → IsSome (cell_at t c q) → slice_index t (q / 4096) ≢ 0
   has_frame q s e = let n : cell_at t c q ≡ None = no_frame q e in absurd (cc)
 
-  -- in the frame of a page
-  pub in_frame : (q : ℕ) → slice_index t (q / 4096) ≢ 0 → frame_of t q + 8192 ≤ length c
-  in_frame q h = let b : q / 4096 < length t = within t (q / 4096) h in let f = are.frames (q / 4096) b in omega (arith, f)
-
 -- ---- a memory without any byte
 
 pub none_anywhere : (t c : List ℕ) → t ≡ [] → c ≡ [] → values_of (cell_at t c) ≡ empty
