@@ -42,9 +42,8 @@ get_with_data b m others q =
 -- ---- the data among the own bytes
 
 own_data : (c d : Bool) (o : Option ℕ) → cond d (cond (c || d) o None) None ≡ cond d o None
-own_data true true o = refl
+own_data true d o = refl
 own_data false true o = refl
-own_data true false o = refl
 own_data false false o = refl
 
 pub data_of_own : (b : Bounds) (m : Bytes) → bytes_in b.data (own b m) ≡ bytes_in b.data m

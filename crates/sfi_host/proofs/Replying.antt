@@ -15,7 +15,7 @@ use Rattle.sfi_host.specs.declared.turn.StepResult.{StepResult}
 use Rattle.sfi_host.specs.declared.turn.StepResult.TheVariants.{Continue, RunEnds}
 use Rattle.sfi_host.specs.Answering.{spoken}
 use Rattle.sfi_host.specs.Guests.{call_by}
-use Rattle.sfi_host.specs.Hosts.{Call, Way, Replied, Yield, Exit, Reply, Answer}
+use Rattle.sfi_host.specs.Hosts.{Call, Way, Replied, Exit, Reply, Answer}
 use Rattle.sfi_host.specs.Regions.{bytes_in, IsWhole}
 use Rattle.sfi_host.specs.Slots.{Bounds, Slot, one_more, own}
 use Rattle.sfi_host.specs.Joint.{word, call_of, with_arguments, with_data, after_way, status_after, replied, next_after}
@@ -46,20 +46,16 @@ asked_is number r m s e =
 
 by_way : (m n : Bytes) (s : Sandbox) (t : Told) (r : Reply) (w : Way) → s.status ≡ Ready → t.a0 ≡ word r.a0 → t.a1 ≡ word r.a1 → own (seat_of s).bounds n ≡ with_data (seat_of s).bounds (own (seat_of s).bounds m) r.bytes
     → slot_of n (seat_of (after_told (spoken w) s t)) ≡ replied (slot_of m (seat_of s)) (record { way = w; a0 = r.a0; a1 = r.a1; bytes = r.bytes })
-by_way m n s t r Replied ready x y b = slot_from (seat_of s).bounds _ _ _ _ (one_more s.steps) _ _ (ap (λ (h : Hart). past h 4) (arguments s.cpu _ _ _ _ x y)) ready b
-by_way m n s t r Yield ready x y b = slot_from (seat_of s).bounds _ _ _ _ (one_more s.steps) _ _ (ap (λ (h : Hart). past h 4) (arguments s.cpu _ _ _ _ x y)) ready b
 by_way m n s t r (Exit k) ready x y b = slot_from (seat_of s).bounds _ _ _ _ (one_more s.steps) _ _ (arguments s.cpu _ _ _ _ x y) refl b
+by_way m n s t r w ready x y b = slot_from (seat_of s).bounds _ _ _ _ (one_more s.steps) _ _ (ap (λ (h : Hart). past h 4) (arguments s.cpu _ _ _ _ x y)) ready b
 
 next_way : (w : Way) → next_after_answer (spoken w) ≡ next_after w
 next_way Replied = refl
-next_way Yield = refl
-next_way (Exit n) = refl
+next_way w = refl
 
 refused_answer : (a : GateAnswer) → next_after_answer a ≡ RunEnds → a ≡ gate.Memory
-refused_answer gate.Replied e = absurd (cc)
-refused_answer gate.Yield e = absurd (cc)
-refused_answer (gate.Exit n) e = absurd (cc)
 refused_answer gate.Memory e = refl
+refused_answer a e = absurd (cc)
 
 -- ---- the two ways in which a call ends
 
@@ -97,17 +93,13 @@ module _ {S : Type 0} (m n : Bytes) (s : Sandbox) (t : Told) (call : Call) (numb
 -- ---- the sandbox afterwards
 
 pub bounds_after : (a : GateAnswer) (s : Sandbox) (t : Told) → (seat_of (after_told a s t)).bounds ≡ (seat_of s).bounds
-bounds_after gate.Replied s t = refl
-bounds_after gate.Yield s t = refl
-bounds_after (gate.Exit n) s t = refl
 bounds_after gate.Memory s t = refl
+bounds_after a s t = refl
 
 -- where its turn goes on, a sandbox is ready as before
 pub still_ready : (a : GateAnswer) (s : Sandbox) (t : Told) (goes : StepResult) → goes ≡ next_after_answer a → goes ≡ Continue → s.status ≡ Ready → (after_told a s t).status ≡ Ready
 still_ready gate.Replied s t goes e more ready = ready
-still_ready gate.Yield s t goes e more ready = absurd (cc)
-still_ready (gate.Exit n) s t goes e more ready = absurd (cc)
-still_ready gate.Memory s t goes e more ready = absurd (cc)
+still_ready a s t goes e more ready = absurd (cc)
 
 pub safe_after : (m n : Bytes) (s : Sandbox) (t : Told) (a : GateAnswer) (size : ℕ) → IsSafeSeat m (seat_of s) → s.status ≡ Ready → Stands (state_in m (seat_of s)) Ecall size
     → IsMemory n → StaysOutside (seat_of s).bounds.data m n → IsWhole (seat_of s).bounds.data n → t.a0 < 2 ^ 32 → t.a1 < 2 ^ 32
@@ -121,7 +113,6 @@ safe_after m n s t a size seat ready stands memory stays whole f g = by_answer a
     goes_on = subst (λ (x : Status). IsSafeSeat n (record { bounds = (seat_of s).bounds; hart = past (with_arguments s.cpu t.a0 t.a1) 4; status = x; steps = one_more s.steps })) (sym ready) (after Replied)
 
     by_answer : (a : GateAnswer) → IsSafeSeat n (seat_of (after_told a s t))
-    by_answer gate.Replied = goes_on
-    by_answer gate.Yield = goes_on
     by_answer (gate.Exit k) = after (Exit k)
     by_answer gate.Memory = keep.own_changed m (seat_of s) seat n memory stays whole
+    by_answer a = goes_on

@@ -1,8 +1,5 @@
 use Rattle.sfi_host.proofs.Solo.{joined_alone, joint_alone}
 use Rattle.sfi_host.proofs.laws.joint_is_solo.Goals as goal
 
-pub returns-clause-any_host : goal.returns-clause-any_host
-returns-clause-any_host g c = joined_alone
-
-pub returns-clause-limited : goal.returns-clause-limited
-returns-clause-limited g c = joint_alone
+pub returns : goal.returns
+returns g c = record { any_host = joined_alone; limited = joint_alone }
