@@ -80,10 +80,6 @@ or_right : (o p : Option ℕ) → IsSome p → IsSome (option_or o p)
 or_right None p h = h
 or_right (Some x) p h = refl
 
-or_either : (o p : Option ℕ) (v : ℕ) → option_or o p ≡ Some v → (o ≡ Some v) ⊎ (p ≡ Some v)
-or_either None p v e = inr e
-or_either (Some x) p v e = inl e
-
 own_at : (c d t : Bool) (o y : Option ℕ) → cond (c || d) (option_or (cond (d && t) o None) y) None ≡ option_or (cond (d && t) o None) (cond (c || d) y None)
 own_at true d t o y = refl
 own_at false true t o y = refl
@@ -93,11 +89,10 @@ left_at : (d t : Bool) (o y : Option ℕ) → (d ≡ true → ⊥) → option_or
 left_at true t o y out = absurd (out refl)
 left_at false t o y out = refl
 
--- a byte that is taken
-taken_at : (d t : Bool) (o : Option ℕ) (v : ℕ) → cond (d && t) o None ≡ Some v → (d ≡ true) × (t ≡ true) × (o ≡ Some v)
-taken_at true true o v e = (refl, refl, e)
-taken_at true false o v e = absurd (cc)
-taken_at false t o v e = absurd (cc)
+-- a byte is one that is taken, or was there
+with_case : (d t : Bool) (o y : Option ℕ) (v : ℕ) → option_or (cond (d && t) o None) y ≡ Some v → ((d ≡ true) × (t ≡ true) × (o ≡ Some v)) ⊎ (y ≡ Some v)
+with_case true true (Some x) y v e = inl (refl, refl, e)
+with_case d t o y v e = inr e
 
 below : (o : Option ℕ) (v : ℕ) → is_byte o ≡ true → o ≡ Some v → v < 256
 below None v t e = absurd (cc)
@@ -118,13 +113,12 @@ module _ (b : Bounds) (m others : Bytes) where
   whole_with whole a h = ap is_some (get_with_data b m others a) ∙ or_right _ _ (whole a h)
 
   memory_with : IsMemory m → IsWhole b.data m → IsMemory (with_data b m others)
-  memory_with old whole = record {
-    addresses = λ a v e. ⊎_elim (λ (f : _). let x = taken_at _ _ _ v f in there_below m a old (byte_at m a) refl (whole a (is_in-true b.data a x.0))) (λ (f : _). old.addresses a v f) (either a v e);
-    bytes = λ a v e. ⊎_elim (λ (f : _). let x = taken_at _ _ _ v f in below (byte_at others a) v x.1 x.2) (λ (f : _). old.bytes a v f) (either a v e);
-  }
-    where
-      either : (a v : ℕ) → byte_at (with_data b m others) a ≡ Some v → (cond (is_in b.data a && is_byte (byte_at others a)) (byte_at others a) None ≡ Some v) ⊎ (byte_at m a ≡ Some v)
-      either a v e = or_either _ _ v (sym (get_with_data b m others a) ∙ e)
+  memory_with old whole =
+      let either = λ (a v : ℕ) (e : byte_at (with_data b m others) a ≡ Some v). with_case (is_in b.data a) (is_byte (byte_at others a)) (byte_at others a) (byte_at m a) v (sym (get_with_data b m others a) ∙ e) in
+      record {
+        addresses = λ a v e. elim (either a v e) [ inl x ↦ there_below m a old (byte_at m a) refl (whole a (is_in-true b.data a x.0)) | inr f ↦ old.addresses a v f ];
+        bytes = λ a v e. elim (either a v e) [ inl x ↦ below (byte_at others a) v x.1 x.2 | inr f ↦ old.bytes a v f ];
+      }
 
 -- ---- one step
 
