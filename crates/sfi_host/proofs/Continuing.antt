@@ -12,10 +12,10 @@ use Rattle.sfi_host.specs.declared.turn.StepResult.TheVariants.{Continue, TurnEn
 use Rattle.sfi_host.specs.Slots.{Slot, state_of}
 use Rattle.sfi_host.specs.Hosts.{Call, Way, Replied, Answer, Limited, limited, if_left}
 use Rattle.sfi_host.specs.Joint.{Machine, Moved, still, moved, moved_if, after_step, after_answer, call_of, next_after, replied, Joined, joined, joint}
-use Rattle.sfi_host.specs.Plans.{IsJoint, IsCutJoint}
+use Rattle.sfi_host.specs.Plans.{IsJoint, IsRefusedIn, IsCutJoint}
 use Rattle.sfi_host.specs.Following.{after_run, shortened, IsJointUpTo, JointFollows, PlansFollow, CutFollows, CutIsShorter, RetryFollows}
 use Rattle.sfi_host.specs.private.Limits.{allow, allows, with_left, end_of, limited_step, limited_turn, IsTurnOf, IsStepOf}
-use Rattle.sfi_host.proofs.Plans.{follows, allows_some, no_limit, joined_nil, bare, run_end, with_turn, is_joint, none_then, turn_then}
+use Rattle.sfi_host.proofs.Plans.{follows, allows_some, no_limit, joined_nil, bare, run_end, with_turn, is_joint, is_cut, none_then, turn_then}
 use Rattle.sfi_host.proofs.SlotSteps.{left_for_one}
 use Rattle.sfi_host.proofs.Turning.{allows_both, step_then, no_step}
 
@@ -260,6 +260,9 @@ module _ {S : Type 0} (machine : Machine) (answer : S → Call → Answer S) whe
 
   -- ---- the laws
 
+  refused_too : (may_refuse : S → Call → Bool) (p q : List Turn) (i j : ℕ) (slots : List Slot) (host : S) (r : IsRefusedIn machine may_refuse p i slots host) → slice_get q j ≡ Some r.turn → IsRefusedIn machine may_refuse q j slots host
+  refused_too may_refuse p q i j slots host r there = record { turn = r.turn; turn_is = there; slot = r.slot; slot_is = r.slot_is; refused = r.refused }
+
   -- one plan and then another, if each turn of the first was taken
   run_on : (p q : List Turn) (old mid : List Slot) (before between : S) (given left : Option ℕ) → bare_joint p old before given ≡ run_end mid between left (length p) false
       → joint machine answer (p ++ q) old before given ≡ after_run (joint machine answer p old before given) (joint machine answer q mid between left)
@@ -298,21 +301,9 @@ module _ {S : Type 0} (machine : Machine) (answer : S → Call → Answer S) whe
         let limit = some.answers + cut.answered in
         let is : bare_joint p old before (Some limit) ≡ run_end mid between (Some cut.answered) (length p) false =
         ap (bare_joint p old before) (enough limit some.answers cut.answered refl) ∙ front (Some cut.answered) in
-        let e = run_on p q old mid before between (Some limit) (Some cut.answered) is in
-        record {
-          answered = limit;
-          slots = cut.slots ∙ sym (ap (λ (j : Joined _). j.slots) e);
-          host = cut.host ∙ sym (ap (λ (j : Joined (Limited S)). j.host.host) e);
-          ended = ap (λ (j : Joined _). j.is_ended) e ∙ cut.ended;
-          turns = ap (λ (j : Joined _). j.turns) e ∙ (let a : (joint machine answer p old before (Some limit)).turns ≡ length p = ap (λ (j : Joined _). j.turns) is in let b = cut.turns in omega (arith, a, b));
-          refused = record {
-            turn = cut.refused.turn;
-            turn_is = turn_after p q place ∙ cut.refused.turn_is;
-            slot = cut.refused.slot;
-            slot_is = cut.refused.slot_is;
-            refused = cut.refused.refused;
-          };
-        }
+        let turns : (joint machine answer p old before (Some limit)).turns ≡ length p = ap (λ (j : Joined (Limited S)). j.turns) is in
+        is_cut machine answer may_refuse (p ++ q) old new before after limit (length p + place) _ (ap bare (run_on p q old mid before between (Some limit) (Some cut.answered) is))
+        cut.slots cut.host cut.ended (let b = cut.turns in omega (arith, turns, b)) (refused_too may_refuse q (p ++ q) place (length p + place) new after cut.refused (turn_after p q place ∙ cut.refused.turn_is))
       where
         turn_after : (p q : List Turn) (place : ℕ) → slice_get (p ++ q) (length p + place) ≡ slice_get q place
         turn_after [] q place = let e : 0 + place ≡ place = omega arith in ap (slice_get q) e
@@ -325,20 +316,8 @@ module _ {S : Type 0} (machine : Machine) (answer : S → Call → Answer S) whe
       let e : joint machine answer (p ++ q) old before (Some cut.answered) ≡ j =
       follows machine (limited answer) p q old (with_left before (Some cut.answered))
       ∙ ap (λ (b : Bool). cond b j (after_run j (joined machine (limited answer) q j.slots j.host))) cut.ended in
-      record {
-        answered = cut.answered;
-        slots = cut.slots ∙ sym (ap (λ (x : Joined _). x.slots) e);
-        host = cut.host ∙ sym (ap (λ (x : Joined (Limited S)). x.host.host) e);
-        ended = ap (λ (x : Joined _). x.is_ended) e ∙ cut.ended;
-        turns = ap (λ (x : Joined _). x.turns) e ∙ cut.turns;
-        refused = record {
-          turn = cut.refused.turn;
-          turn_is = there p place cut.refused.turn_is;
-          slot = cut.refused.slot;
-          slot_is = cut.refused.slot_is;
-          refused = cut.refused.refused;
-        };
-      }
+      is_cut machine answer may_refuse (p ++ q) old new before after cut.answered place (bare j) (ap bare e) cut.slots cut.host cut.ended cut.turns
+      (refused_too may_refuse p (p ++ q) place place new after cut.refused (there p place cut.refused.turn_is))
     where
       there : (p : List Turn) (place : ℕ) {t : Turn} → slice_get p place ≡ Some t → slice_get (p ++ q) place ≡ Some t
       there [] place e = absurd (cc)

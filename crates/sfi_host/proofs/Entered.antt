@@ -47,34 +47,25 @@ pub record LieApart (ps : List Part) : Type 0 where
   pub own : (i : ℕ) (p : Part) → slice_get ps i ≡ Some p → AreApart (code_region p) (guarded_region p)
   pub others : (i j : ℕ) (p q : Part) → i ≢ j → slice_get ps i ≡ Some p → slice_get ps j ≡ Some q → Apart p q
 
-two_spans : (all : List Span) (i j : ℕ) (s t d : Span) → AllPairs AreApart all → i < j → j < length all → get_or all i d ≡ s → get_or all j d ≡ t → AreApart s t
-two_spans all i j s t d apart less below e f =
-    subst (λ (x : Span). AreApart x t) e (subst (λ (x : Span). AreApart (get_or all i d) x) f (apart i j d less below))
+two_spans : (all : List Span) (i j : ℕ) (s t d : Span) → AllPairs AreApart all → i ≢ j → i < length all → j < length all → get_or all i d ≡ s → get_or all j d ≡ t → AreApart s t
+two_spans all i j s t d apart other low high e f =
+    subst (λ (x : Span). AreApart x t) e (subst (λ (x : Span). AreApart (get_or all i d) x) f
+    (elim (cases_lt i j) [ inl less ↦ apart i j d less high | inr more ↦ λ a h k. apart j i d (omega arith) low a k h ]))
 
-flip : (s t : Span) → AreApart s t → AreApart t s
-flip s t apart a h k = apart a k h
-
-in_order : (ps : List Part) (i j : ℕ) (p q : Part) → AllPairs AreApart (spans ps) → i < j → slice_get ps i ≡ Some p → slice_get ps j ≡ Some q → Apart p q
-in_order ps i j p q apart less e f =
+two_apart : (ps : List Part) (i j : ℕ) (p q : Part) → AllPairs AreApart (spans ps) → i ≢ j → slice_get ps i ≡ Some p → slice_get ps j ≡ Some q → Apart p q
+two_apart ps i j p q apart other e f =
     let n = span_count ps in
-    let below : j < length ps = slice_get_within ps j q f in
+    let low : i < length ps = slice_get_within ps i p e in
+    let high : j < length ps = slice_get_within ps j q f in
     let d = code_region p in
     let first = spans_at ps i p d e in
     let second = spans_at ps j q d f in
     record {
-      code_code = two_spans (spans ps) (i + i) (j + j) _ _ d apart (omega arith) (omega arith) first.0 second.0;
-      code_guarded = two_spans (spans ps) (i + i) (j + j + 1) _ _ d apart (omega arith) (omega arith) first.0 second.1;
-      guarded_code = two_spans (spans ps) (i + i + 1) (j + j) _ _ d apart (omega arith) (omega arith) first.1 second.0;
-      guarded_guarded = two_spans (spans ps) (i + i + 1) (j + j + 1) _ _ d apart (omega arith) (omega arith) first.1 second.1;
+      code_code = two_spans (spans ps) (i + i) (j + j) _ _ d apart (λ z. omega arith) (omega arith) (omega arith) first.0 second.0;
+      code_guarded = two_spans (spans ps) (i + i) (j + j + 1) _ _ d apart (λ z. omega arith) (omega arith) (omega arith) first.0 second.1;
+      guarded_code = two_spans (spans ps) (i + i + 1) (j + j) _ _ d apart (λ z. omega arith) (omega arith) (omega arith) first.1 second.0;
+      guarded_guarded = two_spans (spans ps) (i + i + 1) (j + j + 1) _ _ d apart (λ z. omega arith) (omega arith) (omega arith) first.1 second.1;
     }
-
-flipped : (p q : Part) → Apart q p → Apart p q
-flipped p q a = record {
-  code_code = flip _ _ a.code_code;
-  code_guarded = flip _ _ a.guarded_code;
-  guarded_code = flip _ _ a.code_guarded;
-  guarded_guarded = flip _ _ a.guarded_guarded;
-}
 
 pub lie_apart : (ps : List Part) → IsRightLayout ps → LieApart ps
 lie_apart ps layout = record {
@@ -83,12 +74,8 @@ lie_apart ps layout = record {
       let n = span_count ps in
       let below : i < length ps = slice_get_within ps i p e in
       let there = spans_at ps i p (code_region p) e in
-      two_spans (spans ps) (i + i) (i + i + 1) _ _ (code_region p) layout.right.apart (omega arith) (omega arith) there.0 there.1;
-  others = λ i j p q ne e f.
-      ⊎_elim
-      (λ (less : i < j). in_order ps i j p q layout.right.apart less e f)
-      (λ (more : j ≤ i). flipped p q (in_order ps j i q p layout.right.apart (omega arith) f e))
-      (cases_lt i j);
+      two_spans (spans ps) (i + i) (i + i + 1) _ _ (code_region p) layout.right.apart (λ z. omega arith) (omega arith) (omega arith) there.0 there.1;
+  others = λ i j p q other e f. two_apart ps i j p q layout.right.apart other e f;
 }
 
 next_of_suc : (i j : ℕ) → i ≢ j → suc i ≢ suc j

@@ -93,28 +93,13 @@ one_more_set h now new arguments k v r is below value place set =
 -- ---- a sandbox that enters
 
 module _ (m : Bytes) (s : Seat) (seat : IsSafeSeat m s) where
-  code_size : 16 ≤ s.bounds.code.size
-  code_size =
-      let least : 256 ≤ length seat.part.code = seat.right.code_placed.at_least in
-      let e : s.bounds.code.size ≡ length seat.part.code = ap (λ (b : Bounds). b.code.size) seat.bounds in
-      omega arith
-
-  data_size : 16 ≤ s.bounds.data.size
-  data_size =
-      let least : 256 ≤ seat.part.data_size = seat.right.data_placed.at_least in
-      let e : s.bounds.data.size ≡ seat.part.data_size = ap (λ (b : Bounds). b.data.size) seat.bounds in
-      omega arith
-
-  data_end : s.bounds.data.base + s.bounds.data.size < 2 ^ 32
-  data_end =
-      let above : seat.part.data_base + seat.part.data_size + 4096 ≤ 2 ^ 32 = seat.right.guard_room.above in
-      let e : s.bounds.data.size ≡ seat.part.data_size = ap (λ (b : Bounds). b.data.size) seat.bounds in
-      let f : s.bounds.data.base ≡ seat.part.data_base = ap (λ (b : Bounds). b.data.base) seat.bounds in
-      omega arith
-
   -- what a sandbox of the program has
   pub sizes : (16 ≤ s.bounds.code.size) × (16 ≤ s.bounds.data.size) × (s.bounds.data.base + s.bounds.data.size < 2 ^ 32)
-  sizes = (code_size, data_size, data_end)
+  sizes =
+      let code : 256 ≤ length seat.part.code = seat.right.code_placed.at_least in
+      let data_size : 256 ≤ seat.part.data_size = seat.right.data_placed.at_least in
+      let above : seat.part.data_base + seat.part.data_size + 4096 ≤ 2 ^ 32 = seat.right.guard_room.above in
+      subst (λ (b : Bounds). (16 ≤ b.code.size) × (16 ≤ b.data.size) × (b.data.base + b.data.size < 2 ^ 32)) (sym seat.bounds) (omega arith, omega arith, omega arith)
 
   module _ (pc : ℕ) (arguments : List ℕ) (few : length arguments ≤ 8) (start : IsBundleStart s.bounds.code pc) (hart : IsHart (entered_hart s.bounds pc arguments)) (p : Part) (is : s.bounds ≡ bounds_of p) where
     abbrev now : List ℕ
@@ -130,7 +115,7 @@ module _ (m : Bytes) (s : Seat) (seat : IsSafeSeat m s) where
     stack_is = others_kept arguments fresh 10 2 (inl (omega arith))
 
     stack_there : Holds s.bounds.data (slice_index now 2)
-    stack_there = let z = stack_is in let d = data_size in (omega (arith, z, d), omega (arith, z, d))
+    stack_there = let z = stack_is in let d = sizes.1 in (omega (arith, z, d), omega (arith, z, d))
 
     guard_there : (a : ℕ) → InGuard p a → InGuard seat.part a
     guard_there a h = subst (λ (b : Bounds). InGuards b.data a) (sym is ∙ seat.bounds) h

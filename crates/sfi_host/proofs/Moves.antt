@@ -1,5 +1,5 @@
 -- Moves of the sandboxes of a safe world are a run to each of them.
-use Rattle.std.proofs.Common.{◌≡◌, ◌⊎◌, ⊎_elim, inl, inr, ℕ, ◌+◌, ◌<◌, List, [], ◌∷◌, length, Option, Some, None, slice_get, sym, ap, ◌∙◌, subst, ◌≢◌, ◌==◌, cond, true, false, ◌++◌, set, refl}
+use Rattle.std.proofs.Common.{◌≡◌, inl, inr, ℕ, ◌+◌, ◌<◌, List, [], ◌∷◌, length, Option, Some, None, slice_get, sym, ap, ◌∙◌, subst, ◌≢◌, ◌==◌, cond, true, false, ◌++◌, set, refl}
 use Rattle.rv_mem.specs.Bytes.{Bytes, byte_at}
 use Rattle.rv_step.specs.State.{State}
 use Rattle.sfi_image.specs.declared.part.Gate.{Gate}
@@ -57,10 +57,7 @@ module _ (q p : Part) (same : bounds_of q ≡ bounds_of p) (m : Bytes) (there : 
 
   safe_turn : (s : State) (turn : Turn) → IsSafeTurn q s turn → IsSafeTurn p s turn
   safe_turn s (Steps r) h = record {
-    within = λ i n stands a accesses. ⊎_elim
-        (λ (d : InData q a). inl (in_data a d))
-        (λ (g : InGuard q a). inr (in_guard a g))
-        (h.within i n stands a accesses);
+    within = λ i n stands a accesses. elim (h.within i n stands a accesses) [ inl d ↦ inl (in_data a d) | inr g ↦ inr (in_guard a g) ];
     trapped = λ i n stands a accesses inside. h.trapped i n stands a accesses (guard_in a inside);
     called = λ e. is_gate s.hart.pc (h.called e);
   }

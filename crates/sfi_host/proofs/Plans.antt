@@ -5,7 +5,7 @@ use Rattle.sfi_host.specs.declared.turn.StepResult.TheVariants.{TurnEnds, RunEnd
 use Rattle.sfi_host.specs.Hosts.{Call, Answer, Host, Limited, limited}
 use Rattle.sfi_host.specs.Slots.{Slot}
 use Rattle.sfi_host.specs.Joint.{Machine, Moved, still, Joined, joined, joint, and_plan, turn_and, after_turn, turned, Given, given}
-use Rattle.sfi_host.specs.Plans.{IsJoint, IsCutJoint}
+use Rattle.sfi_host.specs.Plans.{IsJoint, IsRefusedIn, IsCutJoint}
 use Rattle.sfi_host.specs.private.Limits.{allow, allows, with_left, end_of, limited_turn, IsTurnOf, IsCutTurnOf}
 use Rattle.sfi_host.specs.declared.turn.StepResult.{StepResult}
 use Rattle.sfi_host.specs.Following.{after_run, JoinedFollows}
@@ -59,6 +59,19 @@ is_joint {S} machine answer plan old new before after e = record {
   turns = ap (λ (j : Joined (Limited S)). j.turns) e;
 }
 
+-- a call ended the run in the turn at that place
+pub is_cut : {S : Type 0} (machine : Machine) (answer : S → Call → Answer S) (may_refuse : S → Call → Bool) (plan : List Turn) (old new : List Slot) (before after : S) (n place : ℕ) (j : Joined (Limited S))
+    → bare (joint machine answer plan old before (Some n)) ≡ j → new ≡ j.slots → after ≡ j.host.host → j.is_ended ≡ true → j.turns ≡ place + 1 → IsRefusedIn machine may_refuse plan place new after
+    → IsCutJoint machine answer may_refuse plan old before place new after
+is_cut {S} machine answer may_refuse plan old new before after n place j e slots host ended turns refused = record {
+  answered = n;
+  slots = slots ∙ sym (ap (λ (x : Joined (Limited S)). x.slots) e);
+  host = host ∙ sym (ap (λ (x : Joined (Limited S)). x.host.host) e);
+  ended = ap (λ (x : Joined (Limited S)). x.is_ended) e ∙ ended;
+  turns = ap (λ (x : Joined (Limited S)). x.turns) e ∙ turns;
+  refused = refused;
+}
+
 module _ {S : Type 0} (machine : Machine) (answer : S → Call → Answer S) (t : Turn) (old : List Slot) (before : S) where
   -- a turn that names no sandbox
   pub none_then : (left : Option ℕ) → slice_get old t.sandbox ≡ None → (rest : List Turn) → bare (joint machine answer (t ∷ rest) old before left) ≡ with_turn (joint machine answer rest old before left)
@@ -87,18 +100,10 @@ module _ {S : Type 0} (machine : Machine) (answer : S → Call → Answer S) (t 
       pub cut_turn : (may_refuse : S → Call → Bool) → slice_get (set old t.sandbox new) t.sandbox ≡ Some new → IsCutTurnOf machine answer may_refuse t.sandbox t.steps slot before new after
           → IsCutJoint machine answer may_refuse (t ∷ []) old before 0 (set old t.sandbox new) after
       cut_turn may_refuse there turn =
-          let n = turn.answers + 0 in
-          let e : bare (joint machine answer (t ∷ []) old before (Some n)) ≡ run_end (set old t.sandbox new) after (Some 0) 1 true =
-          turn_then (Some n) (still new (with_left after (Some 0)) RunEnds)
-          (ap (λ (x : Option ℕ). end_of (limited_turn machine answer t.sandbox t.steps slot before x)) (sym (allows_some turn.answers 0)) ∙ turn.is) [] in
-          record {
-            answered = n;
-            slots = sym (ap (λ (j : Joined (Limited S)). j.slots) e);
-            host = sym (ap (λ (j : Joined (Limited S)). j.host.host) e);
-            ended = ap (λ (j : Joined (Limited S)). j.is_ended) e;
-            turns = ap (λ (j : Joined (Limited S)). j.turns) e;
-            refused = record { turn = t; turn_is = refl; slot = new; slot_is = there; refused = turn.refused };
-          }
+          is_cut machine answer may_refuse (t ∷ []) old (set old t.sandbox new) before after (turn.answers + 0) 0 (run_end (set old t.sandbox new) after (Some 0) 1 true)
+          (turn_then (Some (turn.answers + 0)) (still new (with_left after (Some 0)) RunEnds)
+          (ap (λ (x : Option ℕ). end_of (limited_turn machine answer t.sandbox t.steps slot before x)) (sym (allows_some turn.answers 0)) ∙ turn.is) [])
+          refl refl refl refl (record { turn = t; turn_is = refl; slot = new; slot_is = there; refused = turn.refused })
 
 -- ---- one plan after another
 

@@ -38,10 +38,7 @@ code_stays p m n keeps code k below = keeps.code (p.code_base + k) (code_at p k 
 
 module _ (m : Bytes) (s : Seat) (seat : IsSafeSeat m s) where
   room : 4096 ≤ s.bounds.data.base
-  room =
-      let below : 4096 ≤ seat.part.data_base = seat.right.guard_room.below in
-      let e : s.bounds.data.base ≡ seat.part.data_base = ap (λ (b : Bounds). b.data.base) seat.bounds in
-      omega arith
+  room = subst (λ (b : Bounds). 4096 ≤ b.data.base) (sym seat.bounds) seat.right.guard_room.below
 
   -- the data are among the addresses that are guarded
   pub data_guarded : (a : ℕ) → Holds s.bounds.data a → Holds (with_guards s.bounds.data) a

@@ -1,5 +1,5 @@
 -- What stops a safe sandbox is its own instruction, and it stays at that.
-use Rattle.std.proofs.Common.{◌≡◌, ℕ, zero, suc, ◌<◌, ⊎_elim, inl, inr, List, [], ◌∷◌, cond, Option, Some, None, is_some, IsSome, slice_get, refl, sym, ap, ◌∙◌, subst, arith}
+use Rattle.std.proofs.Common.{◌≡◌, ℕ, zero, suc, ◌<◌, inl, inr, List, [], ◌∷◌, cond, Option, Some, None, is_some, IsSome, slice_get, refl, sym, ap, ◌∙◌, subst, arith}
 use Rattle.std.specs.Prelude.{ℤ}
 use Rattle.std.specs.List.{Contains}
 use Rattle.std.specs.Option.{option_map}
@@ -156,14 +156,13 @@ module _ (m : Bytes) (s : Seat) (seat : IsSafeSeat m s) (ready : s.status ≡ Re
           is_at = at_pc i size stands;
           count = count;
           accesses = are;
-          within = λ a c. ⊎_elim (λ (d : InData seat.part a). inl (data_of a d)) (λ (g : InGuard seat.part a). inr (guards_of a g)) (safe.within i size stands a (accesses a c));
+          within = λ a c. elim (safe.within i size stands a (accesses a c)) [ inl d ↦ inl (data_of a d) | inr g ↦ inr (guards_of a g) ];
           address = x.0;
           among = x.1;
-          guard = ⊎_elim
-              (λ (d : InData seat.part x.0).
-              absurd (none_there (byte_at m x.0) x.2 (seat.has_data x.0 (data_of x.0 d))))
-              (λ (g : InGuard seat.part x.0). guards_of x.0 g)
-              (safe.within i size stands x.0 (accesses x.0 x.1));
+          guard = elim (safe.within i size stands x.0 (accesses x.0 x.1)) [
+            | inl d ↦ absurd (none_there (byte_at m x.0) x.2 (seat.has_data x.0 (data_of x.0 d)))
+            | inr g ↦ guards_of x.0 g
+          ];
         }
 
     abbrev Stops : Cause → ℕ → Type 0
