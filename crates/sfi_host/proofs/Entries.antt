@@ -42,13 +42,11 @@ pub is_first : (ps : List Part) → IsRightLayout ps → AllRunSafely ps → All
 is_first ps layout safe calls m seats programs is_memory bytes are made =
     let memory : IsMemory (with_parts empty ps) = subst IsMemory bytes is_memory in
     let entries = entered ps layout memory in
-    subst (λ (n : Bytes). IsFirst ps n seats programs) (sym bytes)
-    (subst (λ (all : List Seat). IsFirst ps (with_parts empty ps) all programs) (sym are)
-    (record {
+    subst (λ (x : Bytes × List Seat). IsFirst ps x.0 x.1 programs) (λ k. (sym bytes k, sym are k)) (record {
       kept = (world_safe ps layout memory safe calls, first_decoded ps (with_parts empty ps) programs made entries, all_enterable ps layout memory safe calls);
       entered = entries;
       first_data = first_data_there ps layout;
-    }))
+    })
 
 -- ---- with which registers
 
@@ -84,9 +82,7 @@ one_more_set h now new arguments k v r is below value place set =
     let many : length (take k arguments) ≡ k = length-take-le k arguments (omega arith) in
     let at : r ≡ 10 + length (take k arguments) = omega (arith, many, place) in
     set
-    ∙ ap (λ q. with_register now q v) at
-    ∙ ap (λ x. with_register now (10 + length (take k arguments)) x) value
-    ∙ ap (λ x. with_register x (10 + length (take k arguments)) (get_or arguments k 0)) is
+    ∙ (λ j. with_register (is j) (at j) (value j))
     ∙ sym (with_more h 10 (take k arguments) (get_or arguments k 0))
     ∙ ap (with_registers h 10) (sym (take_more arguments k 0 below))
 

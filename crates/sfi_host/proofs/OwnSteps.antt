@@ -7,7 +7,7 @@ use Rattle.rv_step.specs.declared.outcome.Outcome.TheVariants.{Next, Call, Trap}
 use Rattle.rv_step.specs.Access.{Accesses}
 use Rattle.rv_step.specs.Laws.{AgreeHere, IsSameStep}
 use Rattle.rv_step.proofs.Facts.{agreeing_stands_too, agreeing_steps_are_same, other_bytes_stay, stopped_stays, step_keeps_state, no_byte_goes, calls_are_ecalls}
-use Rattle.rv_step.specs.State.{Hart, State}
+use Rattle.rv_step.specs.State.{State}
 use Rattle.rv_step.specs.Step.{Stepped, Stands, IsStep}
 use Rattle.sfi_image.specs.Spans.{Holds}
 use Rattle.sfi_check.specs.Regions.{InCode, InData, InGuard}
@@ -53,15 +53,6 @@ same_own b w m there missing = same_bytes w (own b m) (λ a.
 
 pub true_false : (b : Bool) → b ≡ true → b ≡ false → ⊥
 true_false b t f = cc
-
-abbrev stepped_of : Outcome → Hart → Bytes → Stepped
-stepped_of o h w = record { outcome = o; state = record { hart = h; memory = w } }
-
-stepped_is : (q : Stepped) (o : Outcome) (h : Hart) (w : Bytes) → q.outcome ≡ o → q.state.hart ≡ h → q.state.memory ≡ w → q ≡ record { outcome = o; state = record { hart = h; memory = w } }
-stepped_is q o h w e f g =
-    ap (λ (x : Outcome). stepped_of x q.state.hart q.state.memory) e
-    ∙ ap (λ (x : Hart). stepped_of o x q.state.memory) f
-    ∙ ap (λ (x : Bytes). stepped_of o h x) g
 
 is_trap_not : (o : Outcome) → o ≡ Next → IsTrap o → ⊥
 is_trap_not (Trap cause at) e t = cc
@@ -150,8 +141,9 @@ module _ (m : Bytes) (s : Seat) (r : Stepped) (seat : IsSafeSeat m s) (ready : s
         ∙ own_missing s.bounds m a out)
 
     alone : machine (state_of (slot_of m s)) ≡ own_step s.bounds r
-    alone = stepped_is (machine (state_of (slot_of m s))) _ _ _ same.outcome same.hart
-        (same_own s.bounds (machine (state_of (slot_of m s))).state.memory r.state.memory (λ a e. same.bytes a (own_there s.bounds m a e)) nothing_else)
+    alone =
+        let bytes = same_own s.bounds (machine (state_of (slot_of m s))).state.memory r.state.memory (λ a e. same.bytes a (own_there s.bounds m a e)) nothing_else in
+        λ k. record { outcome = same.outcome k; state = record { hart = same.hart k; memory = bytes k } }
 
   own_is_step : IsOwnStep m s r
   own_is_step = record {

@@ -119,9 +119,8 @@ turn_before gs j true rest = refl
 turn_before gs j false rest =
     let k = rest j.slots j.host in
     let one_more : suc (j.turns + k.turns) ≡ suc j.turns + k.turns = omega arith in
-    ap (λ (l : List Given). let x : Joined _ = record { slots = k.slots; host = k.host; replies = l; turns = suc (j.turns + k.turns); is_ended = k.is_ended } in x)
-    (sym (append_assoc gs j.replies k.replies))
-    ∙ ap (λ (n : ℕ). let x : Joined _ = record { slots = k.slots; host = k.host; replies = (gs ++ j.replies) ++ k.replies; turns = n; is_ended = k.is_ended } in x) one_more
+    let replies = sym (append_assoc gs j.replies k.replies) in
+    λ x. record { slots = k.slots; host = k.host; replies = replies x; turns = one_more x; is_ended = k.is_ended }
 
 -- `both` is `one` and what follows it
 abbrev IsBoth : {S : Type 0} → (one both rest : List Slot → S → Joined S) → Type 0

@@ -162,8 +162,7 @@ next_written m all at i l =
     let then : length (take (i + 1) all) ≡ i + 1 = length-take-le (i + 1) all (omega arith) in
     ap (λ k. insert (with_bytes m (range_with_len at k) (take i all)) (at + i) (get_or all i 0)) now
     ∙ sym (write_more m at i (get_or all i 0) (take i all) now)
-    ∙ ap (with_bytes m (range_with_len at (i + 1))) (sym (take_more all i 0 l))
-    ∙ ap (λ k. with_bytes m (range_with_len at k) (take (i + 1) all)) (sym then)
+    ∙ (λ j. with_bytes m (range_with_len at (sym then j)) (sym (take_more all i 0 l) j))
 
 -- the first i bytes are written in the region, and nothing else changed
 pub record HasWritten (s : Span) (m n : Bytes) (at to i : ℕ) (all : List ℕ) : Type 0 where

@@ -1,5 +1,5 @@
 -- A console's answers: to a caller that has a session, to one that posts a word, and to one that it doesn't know.
-use Rattle.std.proofs.Common.{◌≡◌, ◌≢◌, ℕ, List, Some, sym, ap, subst, ◌∙◌, arith, ◌↔◌, IsTrue, ◌<◌, ◌≤◌, Bool, true, false, if◌then◌else◌, length, get_or, None, refl}
+use Rattle.std.proofs.Common.{slice_set, ◌≡◌, ◌≢◌, ℕ, List, Some, sym, ap, subst, ◌∙◌, arith, ◌↔◌, IsTrue, ◌<◌, ◌≤◌, Bool, true, false, if◌then◌else◌, length, get_or, None, refl}
 use Rattle.std.specs.List.{slice_get}
 use Rattle.rv_mem.specs.Bytes.{Bytes}
 use Rattle.sfi_host.specs.declared.guest.Guest.{Guest}
@@ -72,15 +72,10 @@ post_value : (s : ConsoleState) (c : Call) (x after : SessionState) (i a0 : ℕ)
     → post s c ≡ replied c a0 (with_session s i after)
 post_value s c x after i a0 m true f there n r sent full z =
     by_room s c x i true f there r
-    ∙ ap (λ j. replied c posted (with_session s j (with_message x (message_of c)))) (sym f)
-    ∙ ap (λ k. replied c posted (with_session s i (with_message x k))) (sym n)
-    ∙ ap (λ y. replied c posted (with_session s i y)) (sym sent)
-    ∙ ap (λ v. replied c v (with_session s i after)) (sym z)
+    ∙ (λ k. replied c (sym z k) (with_session s (sym f k) ((ap (with_message x) (sym n) ∙ sym sent) k)))
 post_value s c x after i a0 m false f there n r sent full z =
     by_room s c x i false f there r
-    ∙ ap (λ xs. replied c mailbox_full (record s { sessions = xs })) (sym (set_itself s.sessions i x there))
-    ∙ ap (λ y. replied c mailbox_full (with_session s i y)) (sym full)
-    ∙ ap (λ v. replied c v (with_session s i after)) (sym z)
+    ∙ (λ k. replied c (sym z k) (record s { sessions = (sym (set_itself s.sessions i x there) ∙ ap (slice_set s.sessions i) (sym full)) k }))
 
 pub posted_at : {M : Type 0} (bytes : M → Bytes) (s self : ConsoleState) (old new : Guest M) (x after : SessionState) (i a0 : ℕ) (m : Message) (room : Bool)
     → s ≡ self → i ≡ (asked bytes old).a0 → slice_get s.sessions i ≡ Some x → m ≡ message_of (asked bytes old)
