@@ -101,8 +101,7 @@ module _ (machine : Machine) where
         let m = turned machine host t.sandbox t.steps slot s in
         let left = replies_to i gs in
         let rest = joined machine replay (turns_of i plan) in
-        ap (λ (p : List Turn). slot_alone p slot (replies_to i (given t.sandbox m.replies ++ gs))) (turns_are i t plan true b)
-        ∙ ap (slot_alone (record { sandbox = 0; steps = t.steps } ∷ turns_of i plan) slot) (replies_same i t.sandbox m.replies gs b)
+        (λ k. slot_alone (turns_are i t plan true b k) slot (replies_same i t.sandbox m.replies gs b k))
         ∙ ap (λ (n : Moved (List Reply)). slice_get (and_plan n.next 0 n (slot ∷ []) rest).slots 0) (turn_alone host t.sandbox t.steps slot s left (λ w. none (sym is ∙ w)))
         ∙ ap (λ (x : StepResult). slice_get (and_plan x 0 (alone m left) (slot ∷ []) rest).slots 0) is
 
@@ -123,8 +122,7 @@ module _ (machine : Machine) where
       other_more : (rs : List Reply) (j : Joined S) → (t.sandbox == i) ≡ false → IsSolo machine plan i slot j → IsSolo machine (t ∷ plan) i slot (after_turn (given t.sandbox rs) j)
       other_more rs j b before =
           before
-          ∙ sym (ap (λ (p : List Turn). slot_alone p slot (replies_to i (given t.sandbox rs ++ j.replies))) (turns_are i t (take j.turns plan) false b)
-          ∙ ap (slot_alone (turns_of i (take j.turns plan)) slot) (replies_other i t.sandbox rs j.replies b))
+          ∙ sym (λ k. slot_alone (turns_are i t (take j.turns plan) false b k) slot (replies_other i t.sandbox rs j.replies b k))
 
       -- another's turn
       other_turn : (m : Moved S) (next : StepResult) → (t.sandbox == i) ≡ false → slice_get (set slots t.sandbox m.slot) i ≡ Some slot → IsSolo machine (t ∷ plan) i slot (and_plan next t.sandbox m slots rest)
