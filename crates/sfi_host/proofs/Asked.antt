@@ -1,16 +1,16 @@
 -- What a world answers of a sandbox.
-use Rattle.std.proofs.Common.{◌≡◌, ℕ, zero, suc, ◌↔◌, ◌<◌, List, [], ◌∷◌, length, get_or, Option, Some, None, IsSome, slice_get, refl, sym, ap, ◌∙◌, subst}
+use Rattle.std.proofs.Common.{◌≡◌, ℕ, ◌↔◌, ◌<◌, List, length, get_or, Option, Some, None, IsSome, slice_get, sym, ap, ◌∙◌, subst}
 use Rattle.std.specs.Option.{option_map}
 use Rattle.std.proofs.lemmas.Option.{slice_get-get_or, slice_get-map}
 use Rattle.std.specs.List.{range_with_len}
 use Rattle.rv_mem.specs.Bytes.{Bytes, byte_at, bytes_at}
 use Rattle.sfi_image.specs.Spans.{Holds}
 use Rattle.sfi_host.specs.declared.sandbox.Sandbox.{Sandbox}
-use Rattle.sfi_host.specs.Regions.{span_of, bytes_in}
+use Rattle.sfi_host.specs.Regions.{bytes_in}
 use Rattle.sfi_host.specs.Changing.{data_bytes_of}
 use Rattle.sfi_host.specs.Slots.{Slot}
 use Rattle.sfi_host.specs.Sandboxes.{seat_of, seats_of, world_of}
-use Rattle.sfi_host.specs.Worlds.{Sandboxes, slot_of, slots_of, status_at, steps_at, data_byte_of}
+use Rattle.sfi_host.specs.Worlds.{Sandboxes, slot_of, slots_of, data_byte_of}
 use Rattle.sfi_host.proofs.Leaving.{data_of_own}
 use Rattle.sfi_host.proofs.SameWorld.{get_map}
 
@@ -29,10 +29,6 @@ pub found : {A : Type 0} (all seen : List A) (i : ℕ) (s : A) → seen ≡ all 
 found all seen i s e below is = ap (λ (l : List _). slice_get l i) (sym e) ∙ slice_get-get_or seen i s below ∙ ap Some (sym is)
 
 module _ (w : Sandboxes) (m : Bytes) (all : List Sandbox) (is : world_of m all ≡ w) (i : ℕ) where
-  -- what the slot has
-  pub got : {A : Type 0} (f : Slot → A) (s : Sandbox) → slice_get all i ≡ Some s → Some (f (slot_of m (seat_of s))) ≡ option_map f (slice_get (slots_of w) i)
-  got f s e = sym (ap (λ (x : Sandboxes). option_map f (slice_get (slots_of x) i)) (sym is) ∙ ap (option_map f) (slot_at m all i s e))
-
   pub slot_is : (s : Sandbox) → slice_get all i ≡ Some s → slice_get (slots_of w) i ≡ Some (slot_of m (seat_of s))
   slot_is s e = ap (λ (x : Sandboxes). slice_get (slots_of x) i) (sym is) ∙ slot_at m all i s e
 

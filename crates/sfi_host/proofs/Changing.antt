@@ -1,23 +1,96 @@
--- A world into whose data bytes were written from outside.
-use Rattle.std.proofs.Common.{◌≡◌, ◌≢◌, ⊎_elim, ℕ, List, [], ◌∷◌, Some, set, slice_get, refl, sym, ap, ◌∙◌, subst}
+-- A world of which one sandbox changed: it took a turn, or its data were written from outside.
+use Rattle.std.proofs.Common.{◌≡◌, ◌≢◌, ⊎_elim, ℕ, ◌+◌, List, Some, set, slice_get, sym, ap, ◌∙◌, subst, refl}
 use Rattle.std.proofs.lemmas.Bool.{cases_eq}
+use Rattle.std.proofs.lemmas.List.{map-set}
 use Rattle.std.proofs.lemmas.Option.{same_Some}
 use Rattle.rv_mem.specs.Bytes.{Bytes, IsMemory}
+use Rattle.sfi_image.specs.Spans.{Holds}
 use Rattle.sfi_image.specs.Spelling.{Part}
-use Rattle.sfi_check.specs.Runs.{IsChange}
+use Rattle.sfi_check.specs.Regions.{InCode}
 use Rattle.sfi_host.specs.declared.program.Program.{Program}
 use Rattle.sfi_host.specs.declared.sandbox.Sandbox.{Sandbox}
-use Rattle.sfi_host.specs.Changing.{OthersAreSame, AreChanges}
+use Rattle.sfi_host.specs.Entering.{AreEnterable}
 use Rattle.sfi_host.specs.Programs.{AreDecoded}
-use Rattle.sfi_host.specs.Regions.{bytes_in, bytes_outside, IsWhole}
 use Rattle.sfi_host.specs.Sandboxes.{seat_of, seats_of, world_of}
-use Rattle.sfi_host.specs.Slots.{Slot, bounds_of}
-use Rattle.sfi_host.specs.Worlds.{Seat, Sandboxes, slot_of, slots_of, state_in, IsSafeSeat, IsSafeWorld, StaysOutside}
+use Rattle.sfi_host.specs.Slots.{Bounds, Slot, bounds_of}
+use Rattle.sfi_host.specs.Worlds.{Seat, Sandboxes, slot_of, slots_of, IsSafeSeat, IsSafeWorld, StaysOutside, StaysOutsideData, state_in}
+use Rattle.sfi_host.specs.private.Sandboxes.{bounds_in}
 use Rattle.sfi_host.proofs.Asked.{seat_at}
-use Rattle.sfi_host.proofs.Leaving.{stays_outside, whole_in, whole_of}
-use Rattle.sfi_host.proofs.Neighbours.{get_set_other, set_itself, neighbours_are}
+use Rattle.sfi_host.proofs.Decoding.{are_decoded}
+use Rattle.sfi_host.proofs.Neighbours.{slots_are, world_safe, get_set_other, set_itself, neighbours_are}
 use Rattle.sfi_host.proofs.SafeSeats as keep
-use Rattle.sfi_host.proofs.Taking.{AfterTurn, turn_taken}
+use Rattle.sfi_host.proofs.SameWorld.{get_map, same_bounds}
+use Rattle.sfi_host.proofs.Worlds.{map_get}
+use Rattle.sfi_check.specs.Runs.{IsChange}
+use Rattle.sfi_host.specs.Changing.{OthersAreSame, AreChanges}
+use Rattle.sfi_host.specs.Regions.{bytes_in, bytes_outside, IsWhole}
+use Rattle.sfi_host.proofs.Leaving.{stays_outside, whole_in, whole_of}
+
+-- ---- a turn
+
+-- no code lies in the data of any
+module _ (w : Sandboxes) (safe : IsSafeWorld w) (i : ℕ) (s : Seat) (at : slice_get w.seats i ≡ Some s) (p : Part) (is : s.bounds ≡ bounds_of p) (a : ℕ) (inside : InCode p a) where
+  code_out : (j : ℕ) (t : Seat) → slice_get w.seats j ≡ Some t → Holds t.bounds.data a → ⊥
+  code_out j t there h = ⊎_elim
+      (λ (same : j ≡ i).
+      let one : t ≡ s = same_Some t s (sym there ∙ ap (slice_get w.seats) same ∙ at) in
+      keep.code_not_data w.bytes s (safe.each i s at) p is a inside (subst (λ (y : Seat). Holds y.bounds.data a) one h))
+      (λ (other : j ≢ i). (safe.others j i t s other there at).code a h (subst (λ (b : Bounds). Holds b.code a) (sym is) inside))
+      (cases_eq j i)
+
+-- where each lies as before, and only data changed, each may be entered as before
+still_enterable : (w o : Sandboxes) → IsSafeWorld w → bounds_in o ≡ bounds_in w → StaysOutsideData w o.bytes → AreEnterable w → AreEnterable o
+still_enterable w o safe same outside enterable i t at =
+    let x = map_get (λ (s : Seat). s.bounds) w.seats i t.bounds (ap (λ (l : List Bounds). slice_get l i) (sym same) ∙ get_map (λ (s : Seat). s.bounds) o.seats i t at) in
+    let e = enterable i x.0 x.1 in
+    record {
+      part = e.part;
+      bounds = x.2 ∙ e.bounds;
+      right = e.right;
+      code = λ k below. outside (e.part.code_base + k) (code_out w safe i x.0 x.1 e.part e.bounds (e.part.code_base + k) (keep.code_at e.part k below)) ∙ e.code k below;
+      runs = e.runs;
+      calls = e.calls;
+    }
+
+-- what the type keeps of a world
+abbrev pub IsKept : Sandboxes → List Program → Type 0
+IsKept w programs = IsSafeWorld w × AreDecoded w programs × AreEnterable w
+
+-- the sandbox at that place, which was this slot, is that one now
+pub record AfterTurn (w : Sandboxes) (programs : List Program) (i : ℕ) (old new : Slot) (o : Sandboxes) : Type 0 where
+  pub kept : IsKept o programs
+  pub bounds : bounds_in o ≡ bounds_in w
+  pub outside : StaysOutsideData w o.bytes
+  pub there : slice_get (slots_of w) i ≡ Some old
+  pub slots : slots_of o ≡ set (slots_of w) i new
+
+module _ (m n : Bytes) (items : List Sandbox) (programs : List Program) (i : ℕ) (x new : Sandbox) (inside : IsKept (world_of m items) programs)
+    (at : slice_get items i ≡ Some x) (bounds : (seat_of new).bounds ≡ (seat_of x).bounds) (safe : IsSafeSeat n (seat_of new)) (others : StaysOutside (seat_of x).bounds.data m n) where
+  by_seats : AfterTurn (world_of m items) programs i (slot_of m (seat_of x)) (slot_of n (seat_of new)) (record { bytes = n; seats = set (seats_of items) i (seat_of new) })
+  by_seats =
+      let w = world_of m items in
+      let o : Sandboxes = record { bytes = n; seats = set (seats_of items) i (seat_of new) } in
+      let there : slice_get (seats_of items) i ≡ Some (seat_of x) = seat_at items i x at in
+      let same : bounds_in o ≡ bounds_in w = same_bounds (seats_of items) i (seat_of x) (seat_of new) there bounds in
+      let outside : StaysOutsideData w n = λ a out. others a (out i (seat_of x) there) in
+      record {
+        kept = (
+          world_safe m n (seats_of items) i (seat_of x) (seat_of new) inside.0 there others safe bounds,
+          are_decoded m n (seats_of items) i (seat_of x) (seat_of new) inside.0 there others bounds programs inside.1,
+          still_enterable w o inside.0 same outside inside.2,
+        );
+        bounds = same;
+        outside = outside;
+        there = get_map (slot_of m) (seats_of items) i (seat_of x) there;
+        slots = slots_are m n (seats_of items) i (seat_of x) (seat_of new) inside.0 there others;
+      }
+
+  pub turn_taken : (w : Sandboxes) → world_of m items ≡ w → AfterTurn w programs i (slot_of m (seat_of x)) (slot_of n (seat_of new)) (world_of n (set items i new))
+  turn_taken w view =
+      subst (λ (y : Sandboxes). AfterTurn y programs i (slot_of m (seat_of x)) (slot_of n (seat_of new)) (world_of n (set items i new))) view
+      (subst (λ (l : List Seat). AfterTurn (world_of m items) programs i (slot_of m (seat_of x)) (slot_of n (seat_of new)) (record { bytes = n; seats = l })) (sym (map-set seat_of items i new)) by_seats)
+
+-- ---- data that are written
 
 -- where one place was set, the others are what they were
 pub others_same : (w : Sandboxes) (i : ℕ) (new : Slot) (o : Sandboxes) → slots_of o ≡ set (slots_of w) i new → OthersAreSame w i o
@@ -27,38 +100,30 @@ others_same w i new o slots j other = ap (λ (l : List Slot). slice_get l j) slo
 pub whole_at : (m : Bytes) (items : List Sandbox) (i : ℕ) (x : Sandbox) → IsSafeWorld (world_of m items) → slice_get items i ≡ Some x → IsWhole (seat_of x).bounds.data (bytes_in (seat_of x).bounds.data m)
 whole_at m items i x world at = whole_in (seat_of x).bounds.data m (world.each i (seat_of x) (seat_at items i x at)).has_data
 
-module _ (m n : Bytes) (items : List Sandbox) (programs : List Program) (i : ℕ) (x : Sandbox)
-    (world : IsSafeWorld (world_of m items)) (decoded : AreDecoded (world_of m items) programs) (at : slice_get items i ≡ Some x) (memory : IsMemory n)
+module _ (m n : Bytes) (items : List Sandbox) (programs : List Program) (i : ℕ) (x : Sandbox) (inside : IsKept (world_of m items) programs) (at : slice_get items i ≡ Some x) (memory : IsMemory n)
     (out : bytes_outside (seat_of x).bounds.data n ≡ bytes_outside (seat_of x).bounds.data m)
     (whole : IsWhole (seat_of x).bounds.data (bytes_in (seat_of x).bounds.data m) → IsWhole (seat_of x).bounds.data (bytes_in (seat_of x).bounds.data n)) where
-  there : slice_get (seats_of items) i ≡ Some (seat_of x)
-  there = seat_at items i x at
-
-  seat : IsSafeSeat m (seat_of x)
-  seat = world.each i (seat_of x) there
+  here : slice_get (seats_of items) i ≡ Some (seat_of x)
+  here = seat_at items i x at
 
   others : StaysOutside (seat_of x).bounds.data m n
   others = stays_outside (seat_of x).bounds.data m n out
 
   safe : IsSafeSeat n (seat_of x)
-  safe = keep.own_changed m (seat_of x) seat n memory others (whole_of (seat_of x).bounds.data n (whole (whole_in (seat_of x).bounds.data m seat.has_data)))
-
-  pub data_written : (w : Sandboxes) → world_of m items ≡ w → AfterTurn w programs i (slot_of m (seat_of x)) (slot_of n (seat_of x)) (world_of n items)
-  data_written w view =
-      subst (λ (l : List Sandbox). AfterTurn w programs i (slot_of m (seat_of x)) (slot_of n (seat_of x)) (world_of n l)) (set_itself items i x at)
-      (turn_taken m n items programs i x x (world, decoded) at refl safe others w view)
-
-  own_change : (j : ℕ) (s : Seat) (p : Part) → j ≡ i → slice_get (seats_of items) j ≡ Some s → s.bounds ≡ bounds_of p → IsChange p (state_in m s) (state_in n s)
-  own_change j s p h e is =
-      let same : s ≡ seat_of x = same_Some s (seat_of x) (sym e ∙ ap (slice_get (seats_of items)) h ∙ there) in
-      let stays : StaysOutside s.bounds.data m n = subst (λ (y : Seat). StaysOutside y.bounds.data m n) (sym same) others in
-      record { pc = refl; registers = refl; bytes = keep.own_kept m s (world.each j s e) p is n stays }
+  safe = keep.own_changed m (seat_of x) (inside.0.each i (seat_of x) here) n memory others (whole_of (seat_of x).bounds.data n (whole (whole_at m items i x inside.0 at)))
 
   change : (j : ℕ) (s : Seat) (p : Part) → slice_get (seats_of items) j ≡ Some s → s.bounds ≡ bounds_of p → IsChange p (state_in m s) (state_in n s)
   change j s p e is = ⊎_elim
-      (λ (h : j ≡ i). own_change j s p h e is)
-      (λ (h : j ≢ i). neighbours_are (world_of m items) i j (seat_of x) s n p world (λ z. h (sym z)) there e others is)
+      (λ (h : j ≡ i).
+      let same : s ≡ seat_of x = same_Some s (seat_of x) (sym e ∙ ap (slice_get (seats_of items)) h ∙ here) in
+      let stays : StaysOutside s.bounds.data m n = subst (λ (y : Seat). StaysOutside y.bounds.data m n) (sym same) others in
+      record { pc = refl; registers = refl; bytes = keep.own_kept m s (inside.0.each j s e) p is n stays })
+      (λ (h : j ≢ i). neighbours_are (world_of m items) i j (seat_of x) s n p inside.0 (λ z. h (sym z)) here e others is)
       (cases_eq j i)
 
-  pub are_changes : (w : Sandboxes) → world_of m items ≡ w → AreChanges w (world_of n items)
-  are_changes w view = subst (λ (y : Sandboxes). AreChanges y (world_of n items)) view change
+  pub data_written : (w : Sandboxes) → world_of m items ≡ w → AfterTurn w programs i (slot_of m (seat_of x)) (slot_of n (seat_of x)) (world_of n items) × AreChanges w (world_of n items)
+  data_written w view = (
+    subst (λ (l : List Sandbox). AfterTurn w programs i (slot_of m (seat_of x)) (slot_of n (seat_of x)) (world_of n l)) (set_itself items i x at)
+        (turn_taken m n items programs i x x inside at refl safe others w view),
+    subst (λ (y : Sandboxes). AreChanges y (world_of n items)) view change,
+  )

@@ -5,19 +5,19 @@ use Rattle.rv_step.specs.State.{State}
 use Rattle.rv_step.specs.declared.outcome.Outcome.{Outcome}
 use Rattle.rv_step.specs.declared.outcome.Outcome.TheVariants as outcome
 use Rattle.sfi_host.specs.declared.status.Status.{Status}
-use Rattle.sfi_host.specs.declared.status.Status.TheVariants.{Ready, Exited, Trapped}
+use Rattle.sfi_host.specs.declared.status.Status.TheVariants.{Ready}
 use Rattle.sfi_host.specs.declared.turn.Turn.{Turn}
 use Rattle.sfi_host.specs.declared.turn.StepResult.{StepResult}
 use Rattle.sfi_host.specs.declared.turn.StepResult.TheVariants.{Continue, TurnEnds, RunEnds}
 use Rattle.sfi_host.specs.Slots.{Slot, state_of}
-use Rattle.sfi_host.specs.Hosts.{Call, Way, Replied, Yield, Exit, Answer, Limited, limited, if_left}
-use Rattle.sfi_host.specs.Joint.{Machine, Moved, moved, moved_if, turned, after_step, after_answer, call_of, next_after, replied, Joined, joined, joint}
-use Rattle.sfi_host.specs.Plans.{IsJoint, IsCutJoint}
+use Rattle.sfi_host.specs.Hosts.{Call, Way, Replied, Answer, Limited, limited, if_left}
+use Rattle.sfi_host.specs.Joint.{Machine, Moved, still, moved, moved_if, after_step, after_answer, call_of, next_after, replied, Joined, joined, joint}
+use Rattle.sfi_host.specs.Plans.{IsJoint, IsRefusedIn, IsCutJoint}
 use Rattle.sfi_host.specs.Following.{after_run, shortened, IsJointUpTo, JointFollows, PlansFollow, CutFollows, CutIsShorter, RetryFollows}
-use Rattle.sfi_host.specs.private.Limits.{allow, allows, with_left, Comes, IsTurnOf, IsStepOf, SameEnd}
-use Rattle.sfi_host.proofs.Following.{follows}
-use Rattle.sfi_host.proofs.Plans.{allows_some, no_limit, joined_nil, SamePlan, none_then, is_joint, turn_then, turn_ends}
-use Rattle.sfi_host.proofs.Turning.{allows_both, one_more_step, last_step, no_step}
+use Rattle.sfi_host.specs.private.Limits.{allow, allows, with_left, end_of, limited_step, limited_turn, IsTurnOf, IsStepOf}
+use Rattle.sfi_host.proofs.Plans.{follows, allows_some, no_limit, joined_nil, bare, run_end, with_turn, is_joint, is_cut, none_then, turn_then}
+use Rattle.sfi_host.proofs.SlotSteps.{left_for_one}
+use Rattle.sfi_host.proofs.Turning.{allows_both, step_then, no_step}
 
 -- ---- limits
 
@@ -27,11 +27,12 @@ less_or zero (suc k) = inl (omega arith)
 less_or (suc n) (suc k) = ⊎_elim (λ (l : n < k). inl (omega arith)) (λ (x : (r : ℕ) × (n ≡ k + r)). inr (x.0, omega (arith, x.1))) (less_or n k)
 
 -- a limit that is enough for these calls
-enough : (n k r : ℕ) → n ≡ k + r → allows k (Some r) ≡ Some n
-enough n k r e = allows_some k r ∙ ap Some (sym e)
+enough : (n k r : ℕ) → n ≡ k + r → Some n ≡ allows k (Some r)
+enough n k r e = ap Some e ∙ sym (allows_some k r)
 
-comes_too : {S : Type 0} (m n : Moved (Limited S)) (slot : Slot) (host : S) (left : Option ℕ) (next : StepResult) → SameEnd m n → Comes n slot host left next → Comes m slot host left next
-comes_too m n slot host left next e f = record { slot_is = e.slot_is ∙ f.slot_is; host_is = e.host_is ∙ f.host_is; next_is = e.next_is ∙ f.next_is }
+pub way_goes : (way : Way) → next_after way ≢ RunEnds
+way_goes Replied e = let z : Continue ≡ RunEnds = e in cc
+way_goes way e = let z : TurnEnds ≡ RunEnds = e in cc
 
 module _ {S : Type 0} (machine : Machine) (answer : S → Call → Answer S) where
   -- ---- a step
@@ -43,33 +44,16 @@ module _ {S : Type 0} (machine : Machine) (answer : S → Call → Answer S) whe
     next : StepResult
     goes : next ≢ RunEnds
     answers : ℕ
-    is : (left : Option ℕ) → Comes (move (with_left before (allows answers left))) new after left next
-    cut : (n : ℕ) → n < answers → Comes (move (with_left before (Some n))) old before (Some n) RunEnds
+    is : (left : Option ℕ) → end_of (move (with_left before (allows answers left))) ≡ still new (with_left after left) next
+    cut : (n : ℕ) → n < answers → end_of (move (with_left before (Some n))) ≡ still old (with_left before (Some n)) RunEnds
 
-  way_goes : (way : Way) → next_after way ≢ RunEnds
-  way_goes Replied e = let z : Continue ≡ RunEnds = e in cc
-  way_goes Yield e = let z : TurnEnds ≡ RunEnds = e in cc
-  way_goes (Exit n) e = let z : TurnEnds ≡ RunEnds = e in cc
-
-  answered : (slot : Slot) (host : S) (a : Answer S) (left : Option ℕ)
-      → Comes (after_answer slot (with_left host (allow left)) (if_left (allow left) a)) (replied slot a.reply) a.host left (next_after a.reply.way)
-  answered slot host a None = record { slot_is = refl; host_is = refl; next_is = refl }
-  answered slot host a (Some n) = record { slot_is = refl; host_is = refl; next_is = refl }
-
-  not_answered : (slot : Slot) (host : S) (a : Answer S) (n : ℕ) → n < 1 → Comes (after_answer slot (with_left host (Some n)) (if_left (Some n) a)) slot host (Some n) RunEnds
-  not_answered slot host a zero none = record { slot_is = refl; host_is = refl; next_is = refl }
+  not_answered : (slot : Slot) (host : S) (a : Answer S) (n : ℕ) → n < 1 → end_of (after_answer slot (with_left host (Some n)) (if_left (Some n) a)) ≡ still slot (with_left host (Some n)) RunEnds
+  not_answered slot host a zero none = refl
   not_answered slot host a (suc n) none = absurd (omega arith)
 
-  nothing_asked : (old : Slot) (before : S) (new : Slot) (next : StepResult) → next ≢ RunEnds → SomeMove old before (λ l. record { slot = new; host = l; replies = []; next = next })
-  nothing_asked old before new next goes = record {
-    new = new;
-    after = before;
-    next = next;
-    goes = goes;
-    answers = 0;
-    is = λ left. record { slot_is = refl; host_is = refl; next_is = refl };
-    cut = λ n none. absurd (omega arith);
-  }
+  nothing_asked : (old : Slot) (before : S) (new : Slot) (next : StepResult) → next ≢ RunEnds → SomeMove old before (λ l. still new l next)
+  nothing_asked old before new next goes =
+      record { new = new; after = before; next = next; goes = goes; answers = 0; is = λ left. refl; cut = λ n none. absurd (omega arith) }
 
   outcome_moves : (number : ℕ) (slot : Slot) (before : S) (o : Outcome) (state : State) → SomeMove slot before (λ l. after_step (limited answer) number slot l o state)
   outcome_moves number slot before outcome.Next state = nothing_asked slot before _ Continue (λ e. cc)
@@ -82,14 +66,13 @@ module _ {S : Type 0} (machine : Machine) (answer : S → Call → Answer S) whe
         next = next_after a.reply.way;
         goes = way_goes a.reply.way;
         answers = 1;
-        is = λ left. answered slot before a left;
+        is = λ left. ap (λ (x : Option (Answer (Limited S))). end_of (after_answer slot (with_left before (allow left)) x)) (left_for_one left a);
         cut = λ n none. not_answered slot before a n none;
       }
 
   status_moves : (number : ℕ) (slot : Slot) (before : S) (status : Status) → SomeMove slot before (λ l. moved_if machine (limited answer) number slot l status)
   status_moves number slot before Ready = let r = machine (state_of slot) in outcome_moves number slot before r.outcome r.state
-  status_moves number slot before (Exited n) = nothing_asked slot before slot TurnEnds (λ e. cc)
-  status_moves number slot before (Trapped cause at) = nothing_asked slot before slot TurnEnds (λ e. cc)
+  status_moves number slot before status = nothing_asked slot before slot TurnEnds (λ e. cc)
 
   some_move : (number : ℕ) (slot : Slot) (before : S) → SomeMove slot before (λ l. moved machine (limited answer) number slot l)
   unfolding moved
@@ -104,8 +87,8 @@ module _ {S : Type 0} (machine : Machine) (answer : S → Call → Answer S) whe
     new : Slot
     after : S
     left : Option ℕ
-    ends : Comes (turned machine (limited answer) number k old (with_left before (Some n))) new after left RunEnds
-    is : Comes (turned machine (limited answer) number steps old (with_left before None)) new after None TurnEnds
+    ends : end_of (limited_turn machine answer number k old before (Some n)) ≡ still new (with_left after left) RunEnds
+    is : end_of (limited_turn machine answer number steps old before None) ≡ still new (with_left after None) TurnEnds
 
   -- what a turn comes to
   record SomeTurn (number k : ℕ) (old : Slot) (before : S) : Type 0 where
@@ -115,46 +98,49 @@ module _ {S : Type 0} (machine : Machine) (answer : S → Call → Answer S) whe
     cut : (n : ℕ) → n < turn.answers → TurnCut number k old before n
 
   module _ (number k : ℕ) (old : Slot) (before : S) where
-    cut_here : SomeMove old before (λ l. moved machine (limited answer) number old l) → (n : ℕ) → Comes (moved machine (limited answer) number old (with_left before (Some n))) old before (Some n) RunEnds → TurnCut number (suc k) old before n
-    cut_here m n ends = record {
+    abbrev end_with : ℕ → Option ℕ → Moved (Limited S)
+    end_with steps left = end_of (limited_turn machine answer number steps old before left)
+
+    cut_here : (n : ℕ) → end_of (limited_step machine answer number old before (Some n)) ≡ still old (with_left before (Some n)) RunEnds → TurnCut number (suc k) old before n
+    cut_here n ends = record {
       steps = 0;
       fewer = omega arith;
       new = old;
       after = before;
       left = Some n;
-      ends = last_step machine answer number k old old before before (Some n) (Some n) RunEnds (λ f. cc) ends;
+      ends = step_then machine answer number k old before (Some n) (still old (with_left before (Some n)) RunEnds) ends;
       is = no_step machine answer number old before None;
     }
 
-    module _ (new : Slot) (after : S) (step : IsStepOf machine answer number old before new after Continue) (rest : SomeTurn number k new after) where
-      cut_later : (n r : ℕ) → n ≡ step.answers + r → r < rest.turn.answers → TurnCut number (suc k) old before n
-      cut_later n r e less =
-          let c = rest.cut r less in
-          record {
-            steps = suc c.steps;
-            fewer = let f = c.fewer in omega arith;
-            new = c.new;
-            after = c.after;
-            left = c.left;
-            ends = subst (λ (x : Option ℕ). Comes (turned machine (limited answer) number (suc k) old (with_left before x)) c.new c.after c.left RunEnds) (enough n step.answers r e)
-                (comes_too _ _ _ _ _ _ (one_more_step machine answer number k old new before after (allows step.answers (Some r)) (Some r) (step.is (Some r))) c.ends);
-            is = comes_too _ _ _ _ _ _ (one_more_step machine answer number c.steps old new before after None None
-                (subst (λ (x : Option ℕ). Comes (moved machine (limited answer) number old (with_left before x)) new after None Continue) (no_limit step.answers) (step.is None))) c.is;
-          }
+    module _ (new : Slot) (after : S) (step : IsStepOf machine answer number old before new after Continue) where
+      -- what the steps after it come to, the whole does
+      then_more : (steps : ℕ) (left : Option ℕ) → end_with (suc steps) (allows step.answers left) ≡ end_of (limited_turn machine answer number steps new after left)
+      then_more steps left = step_then machine answer number steps old before (allows step.answers left) (still new (with_left after left) Continue) (step.is left)
 
-      more_turn : ((n : ℕ) → n < step.answers → TurnCut number (suc k) old before n) → SomeTurn number (suc k) old before
-      more_turn here = record {
-        new = rest.new;
-        after = rest.after;
-        turn = record {
-          answers = step.answers + rest.turn.answers;
-          is = λ left.
-              let more = allows rest.turn.answers left in
-              subst (λ (x : Option ℕ). Comes (turned machine (limited answer) number (suc k) old (with_left before x)) rest.new rest.after left TurnEnds) (sym (allows_both step.answers rest.turn.answers left))
-              (comes_too _ _ _ _ _ _ (one_more_step machine answer number k old new before after (allows step.answers more) more (step.is more)) (rest.turn.is left));
-        };
-        cut = λ n less. ⊎_elim (here n) (λ (x : (r : ℕ) × (n ≡ step.answers + r)). cut_later n x.0 x.1 (omega (arith, x.1, less))) (less_or n step.answers);
-      }
+      module _ (rest : SomeTurn number k new after) where
+        cut_later : (n r : ℕ) → n ≡ step.answers + r → r < rest.turn.answers → TurnCut number (suc k) old before n
+        cut_later n r e less =
+            let c = rest.cut r less in
+            record {
+              steps = suc c.steps;
+              fewer = let f = c.fewer in omega arith;
+              new = c.new;
+              after = c.after;
+              left = c.left;
+              ends = ap (end_with (suc k)) (enough n step.answers r e) ∙ then_more k (Some r) ∙ c.ends;
+              is = ap (end_with (suc c.steps)) (sym (no_limit step.answers)) ∙ then_more c.steps None ∙ c.is;
+            }
+
+        more_turn : ((n : ℕ) → n < step.answers → TurnCut number (suc k) old before n) → SomeTurn number (suc k) old before
+        more_turn here = record {
+          new = rest.new;
+          after = rest.after;
+          turn = record {
+            answers = step.answers + rest.turn.answers;
+            is = λ left. ap (end_with (suc k)) (allows_both step.answers rest.turn.answers left) ∙ then_more k (allows rest.turn.answers left) ∙ rest.turn.is left;
+          };
+          cut = λ n less. ⊎_elim (here n) (λ (x : (r : ℕ) × (n ≡ step.answers + r)). cut_later n x.0 x.1 (omega (arith, x.1, less))) (less_or n step.answers);
+        }
 
     by_next : (new : Slot) (after : S) (next : StepResult) → next ≢ RunEnds → (step : IsStepOf machine answer number old before new after next) → ((n : ℕ) → n < step.answers → TurnCut number (suc k) old before n)
         → SomeTurn number k new after → SomeTurn number (suc k) old before
@@ -162,7 +148,7 @@ module _ {S : Type 0} (machine : Machine) (answer : S → Call → Answer S) whe
     by_next new after TurnEnds goes step here rest = record {
       new = new;
       after = after;
-      turn = record { answers = step.answers; is = λ left. last_step machine answer number k old new before after (allows step.answers left) left TurnEnds (λ f. cc) (step.is left) };
+      turn = record { answers = step.answers; is = λ left. step_then machine answer number k old before (allows step.answers left) (still new (with_left after left) TurnEnds) (step.is left) };
       cut = here;
     }
     by_next new after RunEnds goes step here rest = absurd (goes refl)
@@ -176,46 +162,49 @@ module _ {S : Type 0} (machine : Machine) (answer : S → Call → Answer S) whe
   }
   some_turn number (suc k) old before =
       let m = some_move number old before in
-      by_next number k old before m.new m.after m.next m.goes (record { answers = m.answers; is = m.is }) (λ n less. cut_here number k old before m n (m.cut n less)) (some_turn number k m.new m.after)
+      by_next number k old before m.new m.after m.next m.goes (record { answers = m.answers; is = m.is }) (λ n less. cut_here number k old before n (m.cut n less)) (some_turn number k m.new m.after)
 
   -- ---- a plan
 
-  -- where too few calls are left, it ends at one
+  abbrev bare_joint : List Turn → List Slot → S → Option ℕ → Joined (Limited S)
+  bare_joint plan old before left = bare (joint machine answer plan old before left)
+
+  -- where too few calls are left, it ends at one, as with a turn of fewer steps where each is answered
   record PlanCut (plan : List Turn) (old : List Slot) (before : S) (n : ℕ) : Type 0 where
     place : ℕ
+    turn : Turn
+    turn_is : slice_get plan place ≡ Some turn
+    steps : ℕ
+    fewer : steps < turn.steps
     new : List Slot
     after : S
-    slots : (joint machine answer plan old before (Some n)).slots ≡ new
-    host : (joint machine answer plan old before (Some n)).host.host ≡ after
-    turns : (joint machine answer plan old before (Some n)).turns ≡ place + 1
-    up_to : IsJointUpTo machine answer plan place old before new after
+    left : Option ℕ
+    ends : bare_joint plan old before (Some n) ≡ run_end new after left (suc place) true
+    is : let less = shortened plan place steps in bare_joint less old before None ≡ run_end new after None (length less) false
 
   -- what a turn at the front of a plan comes to
   record SomeFirst (t : Turn) (old : List Slot) (before : S) : Type 0 where
     new : List Slot
     after : S
     answers : ℕ
-    is : (rest : List Turn) (left : Option ℕ) → SamePlan 1 (joint machine answer (t ∷ rest) old before (allows answers left)) (joint machine answer rest new after left)
+    is : (rest : List Turn) (left : Option ℕ) → bare_joint (t ∷ rest) old before (allows answers left) ≡ with_turn (joint machine answer rest new after left)
     cut : (n : ℕ) → n < answers → (rest : List Turn) → PlanCut (t ∷ rest) old before n
 
   first_cut : (t : Turn) (old : List Slot) (before : S) (slot : Slot) → slice_get old t.sandbox ≡ Some slot → (n : ℕ) → TurnCut t.sandbox t.steps slot before n → (rest : List Turn) → PlanCut (t ∷ rest) old before n
   first_cut t old before slot at n c rest =
-      let e = turn_ends machine answer t old before slot c.new c.after at n c.left c.ends rest in
-      let short : Turn = record { sandbox = t.sandbox; steps = c.steps } in
+      let new = set old t.sandbox c.new in
       record {
         place = 0;
-        new = set old t.sandbox c.new;
+        turn = t;
+        turn_is = refl;
+        steps = c.steps;
+        fewer = c.fewer;
+        new = new;
         after = c.after;
-        slots = ap (λ (j : Joined _). j.slots) e;
-        host = ap (λ (j : Joined (Limited S)). j.host.host) e;
-        turns = ap (λ (j : Joined _). j.turns) e;
-        up_to = record {
-          turn = t;
-          turn_is = refl;
-          steps = c.steps;
-          fewer = c.fewer;
-          joint = is_joint machine answer short old before (set old t.sandbox c.new) c.after (turn_then machine answer short old before slot c.new c.after at None None c.is []);
-        };
+        left = c.left;
+        ends = turn_then machine answer t old before slot at (Some n) (still c.new (with_left c.after c.left) RunEnds) c.ends rest;
+        is = turn_then machine answer (record { sandbox = t.sandbox; steps = c.steps }) old before slot at None (still c.new (with_left c.after None) TurnEnds) c.is []
+            ∙ ap with_turn (joined_nil machine (limited answer) new (with_left c.after None));
       }
 
   first_found : (t : Turn) (old : List Slot) (before : S) (found : Option Slot) → slice_get old t.sandbox ≡ found → SomeFirst t old before
@@ -226,69 +215,37 @@ module _ {S : Type 0} (machine : Machine) (answer : S → Call → Answer S) whe
         new = set old t.sandbox some.new;
         after = some.after;
         answers = some.turn.answers;
-        is = λ rest left. turn_then machine answer t old before slot some.new some.after e (allows some.turn.answers left) left (some.turn.is left) rest;
+        is = λ rest left. turn_then machine answer t old before slot e (allows some.turn.answers left) (still some.new (with_left some.after left) TurnEnds) (some.turn.is left) rest;
         cut = λ n less. first_cut t old before slot e n (some.cut n less);
       }
-
-  -- each turn was taken
-  record IsTaken (count : ℕ) (j : Joined (Limited S)) (new : List Slot) (after : S) (left : Option ℕ) : Type 0 where
-    slots_are : j.slots ≡ new
-    host_is : j.host ≡ with_left after left
-    turns_are : j.turns ≡ count
-    ended_is : j.is_ended ≡ false
 
   -- what a plan comes to
   record SomePlan (plan : List Turn) (old : List Slot) (before : S) : Type 0 where
     new : List Slot
     after : S
     answers : ℕ
-    is : (left : Option ℕ) → IsTaken (length plan) (joint machine answer plan old before (allows answers left)) new after left
+    is : (left : Option ℕ) → bare_joint plan old before (allows answers left) ≡ run_end new after left (length plan) false
     cut : (n : ℕ) → n < answers → PlanCut plan old before n
 
-  module _ (t : Turn) (plan : List Turn) (old : List Slot) (before : S) (first : SomeFirst t old before) (rest : SomePlan plan first.new first.after) where
-    taken_too : (given left : Option ℕ) → allows first.answers (allows rest.answers left) ≡ given → IsTaken (suc (length plan)) (joint machine answer (t ∷ plan) old before given) rest.new rest.after left
-    taken_too given left e =
-        let s = first.is plan (allows rest.answers left) in
-        let y = rest.is left in
-        subst (λ (x : Option ℕ). IsTaken (suc (length plan)) (joint machine answer (t ∷ plan) old before x) rest.new rest.after left) e
-        (record { slots_are = s.slots_are ∙ y.slots_are; host_is = s.host_is ∙ y.host_is; turns_are = let a = s.turns_are in let b = y.turns_are in omega (arith, a, b); ended_is = s.ended_is ∙ y.ended_is })
-
-    plan_cut : (n r : ℕ) → n ≡ first.answers + r → PlanCut plan first.new first.after r → PlanCut (t ∷ plan) old before n
-    plan_cut n r e c =
-        let s : SamePlan 1 (joint machine answer (t ∷ plan) old before (Some n)) (joint machine answer plan first.new first.after (Some r)) =
-        subst (λ (x : Option ℕ). SamePlan 1 (joint machine answer (t ∷ plan) old before x) (joint machine answer plan first.new first.after (Some r))) (enough n first.answers r e) (first.is plan (Some r)) in
-        let less = shortened plan c.place c.up_to.steps in
-        let u : SamePlan 1 (joint machine answer (t ∷ less) old before None) (joint machine answer less first.new first.after None) =
-        subst (λ (x : Option ℕ). SamePlan 1 (joint machine answer (t ∷ less) old before x) (joint machine answer less first.new first.after None)) (no_limit first.answers) (first.is less None) in
-        record {
-          place = suc c.place;
-          new = c.new;
-          after = c.after;
-          slots = s.slots_are ∙ c.slots;
-          host = ap (λ (l : Limited S). l.host) s.host_is ∙ c.host;
-          turns = let a = s.turns_are in let b = c.turns in omega (arith, a, b);
-          up_to = record {
-            turn = c.up_to.turn;
-            turn_is = c.up_to.turn_is;
-            steps = c.up_to.steps;
-            fewer = c.up_to.fewer;
-            joint = record {
-              slots = c.up_to.joint.slots ∙ sym u.slots_are;
-              host = c.up_to.joint.host ∙ sym (ap (λ (l : Limited S). l.host) u.host_is);
-              turns = let a = u.turns_are in let b = c.up_to.joint.turns in omega (arith, a, b);
-            };
-          };
-        }
+  plan_cut : (t : Turn) (plan : List Turn) (old : List Slot) (before : S) (first : SomeFirst t old before) (n r : ℕ) → n ≡ first.answers + r → PlanCut plan first.new first.after r → PlanCut (t ∷ plan) old before n
+  plan_cut t plan old before first n r e c =
+      let less = shortened plan c.place c.steps in
+      record {
+        place = suc c.place;
+        turn = c.turn;
+        turn_is = c.turn_is;
+        steps = c.steps;
+        fewer = c.fewer;
+        new = c.new;
+        after = c.after;
+        left = c.left;
+        ends = ap (bare_joint (t ∷ plan) old before) (enough n first.answers r e) ∙ first.is plan (Some r) ∙ ap with_turn c.ends;
+        is = ap (bare_joint (t ∷ less) old before) (sym (no_limit first.answers)) ∙ first.is less None ∙ ap with_turn c.is;
+      }
 
   some_plan : (plan : List Turn) (old : List Slot) (before : S) → SomePlan plan old before
-  some_plan [] old before = record {
-    new = old;
-    after = before;
-    answers = 0;
-    is = λ left. subst (λ (j : Joined (Limited S)). IsTaken 0 j old before left) (sym (joined_nil machine (limited answer) old (with_left before left)))
-        (record { slots_are = refl; host_is = refl; turns_are = refl; ended_is = refl });
-    cut = λ n none. absurd (omega arith);
-  }
+  some_plan [] old before =
+      record { new = old; after = before; answers = 0; is = λ left. ap bare (joined_nil machine (limited answer) old (with_left before left)); cut = λ n none. absurd (omega arith) }
   some_plan (t ∷ plan) old before =
       let first = first_found t old before (slice_get old t.sandbox) refl in
       let rest = some_plan plan first.new first.after in
@@ -296,46 +253,45 @@ module _ {S : Type 0} (machine : Machine) (answer : S → Call → Answer S) whe
         new = rest.new;
         after = rest.after;
         answers = first.answers + rest.answers;
-        is = λ left. taken_too t plan old before first rest _ left (sym (allows_both first.answers rest.answers left));
+        is = λ left. ap (bare_joint (t ∷ plan) old before) (allows_both first.answers rest.answers left) ∙ first.is plan (allows rest.answers left) ∙ ap with_turn (rest.is left);
         cut = λ n less. ⊎_elim (λ l. first.cut n l plan)
-            (λ (x : (r : ℕ) × (n ≡ first.answers + r)). plan_cut t plan old before first rest n x.0 x.1 (rest.cut x.0 (omega (arith, x.1, less)))) (less_or n first.answers);
+            (λ (x : (r : ℕ) × (n ≡ first.answers + r)). plan_cut t plan old before first n x.0 x.1 (rest.cut x.0 (omega (arith, x.1, less)))) (less_or n first.answers);
       }
 
   -- ---- the laws
 
+  refused_too : (may_refuse : S → Call → Bool) (p q : List Turn) (i j : ℕ) (slots : List Slot) (host : S) (r : IsRefusedIn machine may_refuse p i slots host) → slice_get q j ≡ Some r.turn → IsRefusedIn machine may_refuse q j slots host
+  refused_too may_refuse p q i j slots host r there = record { turn = r.turn; turn_is = there; slot = r.slot; slot_is = r.slot_is; refused = r.refused }
+
   -- one plan and then another, if each turn of the first was taken
-  run_on : (p q : List Turn) (old mid : List Slot) (before between : S) (given left : Option ℕ) → IsTaken (length p) (joint machine answer p old before given) mid between left
+  run_on : (p q : List Turn) (old mid : List Slot) (before between : S) (given left : Option ℕ) → bare_joint p old before given ≡ run_end mid between left (length p) false
       → joint machine answer (p ++ q) old before given ≡ after_run (joint machine answer p old before given) (joint machine answer q mid between left)
   run_on p q old mid before between given left is =
       let j = joint machine answer p old before given in
       follows machine (limited answer) p q old (with_left before given)
-      ∙ ap (λ (b : Bool). cond b j (after_run j (joined machine (limited answer) q j.slots j.host))) is.ended_is
-      ∙ ap (λ (l : List Slot). after_run j (joined machine (limited answer) q l j.host)) is.slots_are
-      ∙ ap (λ (h : Limited S). after_run j (joined machine (limited answer) q mid h)) is.host_is
+      ∙ ap (λ (x : Joined (Limited S)). cond x.is_ended j (after_run j (joined machine (limited answer) q x.slots x.host))) is
 
-  each_taken : (p : List Turn) (old : List Slot) (before : S) → let some = some_plan p old before in IsTaken (length p) (joint machine answer p old before None) some.new some.after None
-  each_taken p old before =
-      let some = some_plan p old before in
-      subst (λ (x : Option ℕ). IsTaken (length p) (joint machine answer p old before x) some.new some.after None) (no_limit some.answers) (some.is None)
+  each_taken : (p : List Turn) (old : List Slot) (before : S) → let some = some_plan p old before in bare_joint p old before None ≡ run_end some.new some.after None (length p) false
+  each_taken p old before = let some = some_plan p old before in ap (bare_joint p old before) (sym (no_limit some.answers)) ∙ some.is None
 
   module _ (p q : List Turn) (old mid new : List Slot) (before between after : S) (first : IsJoint machine answer p old before mid between) where
     -- it comes there, whatever number of calls is left then
-    front : (left : Option ℕ) → let some = some_plan p old before in IsTaken (length p) (joint machine answer p old before (allows some.answers left)) mid between left
+    front : (left : Option ℕ) → let some = some_plan p old before in bare_joint p old before (allows some.answers left) ≡ run_end mid between left (length p) false
     front left =
         let some = some_plan p old before in
         let e = each_taken p old before in
-        subst (λ (x : List Slot). IsTaken (length p) (joint machine answer p old before (allows some.answers left)) x between left) (sym (first.slots ∙ e.slots_are))
-        (subst (λ (x : S). IsTaken (length p) (joint machine answer p old before (allows some.answers left)) some.new x left) (sym (first.host ∙ ap (λ (l : Limited S). l.host) e.host_is)) (some.is left))
+        some.is left
+        ∙ ap (λ (x : List Slot). run_end x some.after left (length p) false) (sym (first.slots ∙ ap (λ (j : Joined (Limited S)). j.slots) e))
+        ∙ ap (λ (x : S). run_end mid x left (length p) false) (sym (first.host ∙ ap (λ (j : Joined (Limited S)). j.host.host) e))
 
     both_done : IsJoint machine answer q mid between new after → IsJoint machine answer (p ++ q) old before new after
     both_done second =
-        let some = some_plan p old before in
-        let is : IsTaken (length p) (joint machine answer p old before None) mid between None = subst (λ (x : Option ℕ). IsTaken (length p) (joint machine answer p old before x) mid between None) (no_limit some.answers) (front None) in
+        let is : bare_joint p old before None ≡ run_end mid between None (length p) false = ap (bare_joint p old before) (sym (no_limit (some_plan p old before).answers)) ∙ front None in
         let e = run_on p q old mid before between None None is in
         record {
           slots = second.slots ∙ sym (ap (λ (j : Joined _). j.slots) e);
           host = second.host ∙ sym (ap (λ (j : Joined (Limited S)). j.host.host) e);
-          turns = ap (λ (j : Joined _). j.turns) e ∙ (let a = is.turns_are in let b = second.turns in omega (arith, a, b, length-append p q));
+          turns = ap (λ (j : Joined _). j.turns) e ∙ (let a : (joint machine answer p old before None).turns ≡ length p = ap (λ (j : Joined _). j.turns) is in let b = second.turns in omega (arith, a, b, length-append p q));
         }
 
     both_cut : (may_refuse : S → Call → Bool) (place : ℕ) → IsCutJoint machine answer may_refuse q mid between place new after
@@ -343,23 +299,11 @@ module _ {S : Type 0} (machine : Machine) (answer : S → Call → Answer S) whe
     both_cut may_refuse place cut =
         let some = some_plan p old before in
         let limit = some.answers + cut.answered in
-        let is : IsTaken (length p) (joint machine answer p old before (Some limit)) mid between (Some cut.answered) =
-        subst (λ (x : Option ℕ). IsTaken (length p) (joint machine answer p old before x) mid between (Some cut.answered)) (allows_some some.answers cut.answered) (front (Some cut.answered)) in
-        let e = run_on p q old mid before between (Some limit) (Some cut.answered) is in
-        record {
-          answered = limit;
-          slots = cut.slots ∙ sym (ap (λ (j : Joined _). j.slots) e);
-          host = cut.host ∙ sym (ap (λ (j : Joined (Limited S)). j.host.host) e);
-          ended = ap (λ (j : Joined _). j.is_ended) e ∙ cut.ended;
-          turns = ap (λ (j : Joined _). j.turns) e ∙ (let a = is.turns_are in let b = cut.turns in omega (arith, a, b));
-          refused = record {
-            turn = cut.refused.turn;
-            turn_is = turn_after p q place ∙ cut.refused.turn_is;
-            slot = cut.refused.slot;
-            slot_is = cut.refused.slot_is;
-            refused = cut.refused.refused;
-          };
-        }
+        let is : bare_joint p old before (Some limit) ≡ run_end mid between (Some cut.answered) (length p) false =
+        ap (bare_joint p old before) (enough limit some.answers cut.answered refl) ∙ front (Some cut.answered) in
+        let turns : (joint machine answer p old before (Some limit)).turns ≡ length p = ap (λ (j : Joined (Limited S)). j.turns) is in
+        is_cut machine answer may_refuse (p ++ q) old new before after limit (length p + place) _ (ap bare (run_on p q old mid before between (Some limit) (Some cut.answered) is))
+        cut.slots cut.host cut.ended (let b = cut.turns in omega (arith, turns, b)) (refused_too may_refuse q (p ++ q) place (length p + place) new after cut.refused (turn_after p q place ∙ cut.refused.turn_is))
       where
         turn_after : (p q : List Turn) (place : ℕ) → slice_get (p ++ q) (length p + place) ≡ slice_get q place
         turn_after [] q place = let e : 0 + place ≡ place = omega arith in ap (slice_get q) e
@@ -372,20 +316,8 @@ module _ {S : Type 0} (machine : Machine) (answer : S → Call → Answer S) whe
       let e : joint machine answer (p ++ q) old before (Some cut.answered) ≡ j =
       follows machine (limited answer) p q old (with_left before (Some cut.answered))
       ∙ ap (λ (b : Bool). cond b j (after_run j (joined machine (limited answer) q j.slots j.host))) cut.ended in
-      record {
-        answered = cut.answered;
-        slots = cut.slots ∙ sym (ap (λ (x : Joined _). x.slots) e);
-        host = cut.host ∙ sym (ap (λ (x : Joined (Limited S)). x.host.host) e);
-        ended = ap (λ (x : Joined _). x.is_ended) e ∙ cut.ended;
-        turns = ap (λ (x : Joined _). x.turns) e ∙ cut.turns;
-        refused = record {
-          turn = cut.refused.turn;
-          turn_is = there p place cut.refused.turn_is;
-          slot = cut.refused.slot;
-          slot_is = cut.refused.slot_is;
-          refused = cut.refused.refused;
-        };
-      }
+      is_cut machine answer may_refuse (p ++ q) old new before after cut.answered place (bare j) (ap bare e) cut.slots cut.host cut.ended cut.turns
+      (refused_too may_refuse p (p ++ q) place place new after cut.refused (there p place cut.refused.turn_is))
     where
       there : (p : List Turn) (place : ℕ) {t : Turn} → slice_get p place ≡ Some t → slice_get (p ++ q) place ≡ Some t
       there [] place e = absurd (cc)
@@ -415,20 +347,14 @@ module _ {S : Type 0} (machine : Machine) (answer : S → Call → Answer S) whe
   up_to_there plan old before n ended =
       let some = some_plan plan old before in
       ⊎_elim (some.cut n) (λ (x : (r : ℕ) × (n ≡ some.answers + r)).
-      let is = some.is (Some x.0) in
-      let e : (joint machine answer plan old before (Some n)).is_ended ≡ false = ap (λ (y : Option ℕ). (joint machine answer plan old before y).is_ended) (sym (enough n some.answers x.0 x.1)) ∙ is.ended_is in
-      absurd (let z : true ≡ false = sym ended ∙ e in cc)) (less_or n some.answers)
+      let e = ap (bare_joint plan old before) (enough n some.answers x.0 x.1) ∙ some.is (Some x.0) in
+      absurd (let z : true ≡ false = sym ended ∙ ap (λ (j : Joined (Limited S)). j.is_ended) e in cc)) (less_or n some.answers)
 
 pub joint_follows : {S : Type 0} → JointFollows S
 joint_follows {S} machine answer p q slots s =
     let j = joint machine answer p slots s None in
     let is = each_taken machine answer p slots s in
-    run_on machine answer p q slots j.slots s j.host.host None None (record {
-      slots_are = refl;
-      host_is = is.host_is ∙ ap (λ (x : S). with_left x None) (sym (ap (λ (l : Limited S). l.host) is.host_is));
-      turns_are = is.turns_are;
-      ended_is = is.ended_is;
-    })
+    run_on machine answer p q slots j.slots s j.host.host None None (is ∙ sym (ap (λ (x : Joined (Limited S)). run_end x.slots x.host.host None (length p) false) is))
 
 pub plans_follow : {S : Type 0} → PlansFollow S
 plans_follow machine answer p q old mid new before between after first second =
@@ -441,10 +367,14 @@ cut_follows machine answer may_refuse p q old mid new before between after place
 pub cut_is_shorter : {S : Type 0} → CutIsShorter S
 cut_is_shorter {S} machine answer may_refuse plan old new before after place cut =
     let c = up_to_there machine answer plan old before cut.answered cut.ended in
-    let same : c.place ≡ place = omega (arith, c.turns, cut.turns) in
+    let less = shortened plan c.place c.steps in
+    let up_to : IsJointUpTo machine answer plan c.place old before c.new c.after =
+    record { turn = c.turn; turn_is = c.turn_is; steps = c.steps; fewer = c.fewer; joint = is_joint machine answer less old c.new before c.after c.is } in
+    let turns : (joint machine answer plan old before (Some cut.answered)).turns ≡ suc c.place = ap (λ (j : Joined (Limited S)). j.turns) c.ends in
+    let same : c.place ≡ place = omega (arith, turns, cut.turns) in
     subst (λ (x : ℕ). IsJointUpTo machine answer plan x old before new after) same
-    (subst (λ (x : List Slot). IsJointUpTo machine answer plan c.place old before x after) (sym (cut.slots ∙ c.slots))
-    (subst (λ (x : S). IsJointUpTo machine answer plan c.place old before c.new x) (sym (cut.host ∙ c.host)) c.up_to))
+    (subst (λ (x : List Slot). IsJointUpTo machine answer plan c.place old before x after) (sym (cut.slots ∙ ap (λ (j : Joined (Limited S)). j.slots) c.ends))
+    (subst (λ (x : S). IsJointUpTo machine answer plan c.place old before c.new x) (sym (cut.host ∙ ap (λ (j : Joined (Limited S)). j.host.host) c.ends)) up_to))
 
 pub retry_follows : {S : Type 0} → RetryFollows S
 retry_follows machine answer may_refuse p q old mid new before between after place cut second =

@@ -1,5 +1,6 @@
 -- An image whose parts lie apart, in an empty memory: what is where.
 use Rattle.std.proofs.Common.{◌≡◌, ◌≢◌, ℕ, zero, suc, ◌+◌, ◌-◌, ◌%◌, ◌^◌, ◌<◌, ◌≤◌, ◌==◌, ◌⊎◌, inl, inr, ⊎_elim, true, false, List, [], ◌∷◌, ◌++◌, length, get_or, Some, None, slice_get, refl, sym, ap, ◌∙◌, subst, arith, length-append}
+use Rattle.std.proofs.Math.ListN.{get_or-append}
 use Rattle.std.proofs.lemmas.List.{length-replicate}
 use Rattle.std.proofs.lemmas.Option.{get_or_from_slice_get, slice_get_within}
 use Rattle.std.specs.Prelude.{slice_index, replicate}
@@ -17,32 +18,21 @@ use Rattle.sfi_image.proofs.Facts.{code_ends}
 use Rattle.sfi_check.specs.Regions.{InCode, InData, InGuard}
 use Rattle.sfi_host.specs.Loading.{first_data, with_part, with_parts}
 
--- ---- lists
-
-front_index : (xs ys : List ℕ) (k : ℕ) → k < length xs → slice_index (xs ++ ys) k ≡ slice_index xs k
-front_index [] ys k h = absurd (omega arith)
-front_index (x ∷ xs) ys zero h = refl
-front_index (x ∷ xs) ys (suc k) h = front_index xs ys k (omega arith)
-
 -- ---- the spans of an image
 
 span_count : (ps : List Part) → length (spans ps) ≡ length ps + length ps
 span_count [] = refl
 span_count (p ∷ ps) = let h : length (spans ps) ≡ length ps + length ps = span_count ps in omega arith
 
-code_at : (ps : List Part) (i : ℕ) (p : Part) (d : Span) → slice_get ps i ≡ Some p → get_or (spans ps) (i + i) d ≡ code_region p
-code_at [] i p d e = absurd (cc)
-code_at (q ∷ ps) zero p d e = let same : q ≡ p = cc in ap code_region same
-code_at (q ∷ ps) (suc i) p d e =
-    let z : suc i + suc i ≡ suc (suc (i + i)) = omega arith in
-    ap (λ (n : ℕ). get_or (spans (q ∷ ps)) n d) z ∙ code_at ps i p d e
-
-guarded_at : (ps : List Part) (i : ℕ) (p : Part) (d : Span) → slice_get ps i ≡ Some p → get_or (spans ps) (i + i + 1) d ≡ guarded_region p
-guarded_at [] i p d e = absurd (cc)
-guarded_at (q ∷ ps) zero p d e = let same : q ≡ p = cc in ap guarded_region same
-guarded_at (q ∷ ps) (suc i) p d e =
+-- where the spans of a sandbox stand
+spans_at : (ps : List Part) (i : ℕ) (p : Part) (d : Span) → slice_get ps i ≡ Some p → (get_or (spans ps) (i + i) d ≡ code_region p) × (get_or (spans ps) (i + i + 1) d ≡ guarded_region p)
+spans_at [] i p d e = absurd (cc)
+spans_at (q ∷ ps) zero p d e = let same : q ≡ p = cc in (ap code_region same, ap guarded_region same)
+spans_at (q ∷ ps) (suc i) p d e =
+    let y : suc i + suc i ≡ suc (suc (i + i)) = omega arith in
     let z : suc i + suc i + 1 ≡ suc (suc (i + i + 1)) = omega arith in
-    ap (λ (n : ℕ). get_or (spans (q ∷ ps)) n d) z ∙ guarded_at ps i p d e
+    let there = spans_at ps i p d e in
+    (ap (λ (n : ℕ). get_or (spans (q ∷ ps)) n d) y ∙ there.0, ap (λ (n : ℕ). get_or (spans (q ∷ ps)) n d) z ∙ there.1)
 
 -- two sandboxes of an image have no address in common
 pub record Apart (p q : Part) : Type 0 where
@@ -57,32 +47,25 @@ pub record LieApart (ps : List Part) : Type 0 where
   pub own : (i : ℕ) (p : Part) → slice_get ps i ≡ Some p → AreApart (code_region p) (guarded_region p)
   pub others : (i j : ℕ) (p q : Part) → i ≢ j → slice_get ps i ≡ Some p → slice_get ps j ≡ Some q → Apart p q
 
-two_spans : (all : List Span) (i j : ℕ) (s t d : Span) → AllPairs AreApart all → i < j → j < length all → get_or all i d ≡ s → get_or all j d ≡ t → AreApart s t
-two_spans all i j s t d apart less below e f =
-    subst (λ (x : Span). AreApart x t) e (subst (λ (x : Span). AreApart (get_or all i d) x) f (apart i j d less below))
+two_spans : (all : List Span) (i j : ℕ) (s t d : Span) → AllPairs AreApart all → i ≢ j → i < length all → j < length all → get_or all i d ≡ s → get_or all j d ≡ t → AreApart s t
+two_spans all i j s t d apart other low high e f =
+    subst (λ (x : Span). AreApart x t) e (subst (λ (x : Span). AreApart (get_or all i d) x) f
+    (elim (cases_lt i j) [ inl less ↦ apart i j d less high | inr more ↦ λ a h k. apart j i d (omega arith) low a k h ]))
 
-flip : (s t : Span) → AreApart s t → AreApart t s
-flip s t apart a h k = apart a k h
-
-in_order : (ps : List Part) (i j : ℕ) (p q : Part) → AllPairs AreApart (spans ps) → i < j → slice_get ps i ≡ Some p → slice_get ps j ≡ Some q → Apart p q
-in_order ps i j p q apart less e f =
+two_apart : (ps : List Part) (i j : ℕ) (p q : Part) → AllPairs AreApart (spans ps) → i ≢ j → slice_get ps i ≡ Some p → slice_get ps j ≡ Some q → Apart p q
+two_apart ps i j p q apart other e f =
     let n = span_count ps in
-    let below : j < length ps = slice_get_within ps j q f in
+    let low : i < length ps = slice_get_within ps i p e in
+    let high : j < length ps = slice_get_within ps j q f in
     let d = code_region p in
+    let first = spans_at ps i p d e in
+    let second = spans_at ps j q d f in
     record {
-      code_code = two_spans (spans ps) (i + i) (j + j) _ _ d apart (omega arith) (omega arith) (code_at ps i p d e) (code_at ps j q d f);
-      code_guarded = two_spans (spans ps) (i + i) (j + j + 1) _ _ d apart (omega arith) (omega arith) (code_at ps i p d e) (guarded_at ps j q d f);
-      guarded_code = two_spans (spans ps) (i + i + 1) (j + j) _ _ d apart (omega arith) (omega arith) (guarded_at ps i p d e) (code_at ps j q d f);
-      guarded_guarded = two_spans (spans ps) (i + i + 1) (j + j + 1) _ _ d apart (omega arith) (omega arith) (guarded_at ps i p d e) (guarded_at ps j q d f);
+      code_code = two_spans (spans ps) (i + i) (j + j) _ _ d apart (λ z. omega arith) (omega arith) (omega arith) first.0 second.0;
+      code_guarded = two_spans (spans ps) (i + i) (j + j + 1) _ _ d apart (λ z. omega arith) (omega arith) (omega arith) first.0 second.1;
+      guarded_code = two_spans (spans ps) (i + i + 1) (j + j) _ _ d apart (λ z. omega arith) (omega arith) (omega arith) first.1 second.0;
+      guarded_guarded = two_spans (spans ps) (i + i + 1) (j + j + 1) _ _ d apart (λ z. omega arith) (omega arith) (omega arith) first.1 second.1;
     }
-
-flipped : (p q : Part) → Apart q p → Apart p q
-flipped p q a = record {
-  code_code = flip _ _ a.code_code;
-  code_guarded = flip _ _ a.guarded_code;
-  guarded_code = flip _ _ a.code_guarded;
-  guarded_guarded = flip _ _ a.guarded_guarded;
-}
 
 pub lie_apart : (ps : List Part) → IsRightLayout ps → LieApart ps
 lie_apart ps layout = record {
@@ -90,13 +73,9 @@ lie_apart ps layout = record {
   own = λ i p e.
       let n = span_count ps in
       let below : i < length ps = slice_get_within ps i p e in
-      let d = code_region p in
-      two_spans (spans ps) (i + i) (i + i + 1) _ _ d layout.right.apart (omega arith) (omega arith) (code_at ps i p d e) (guarded_at ps i p d e);
-  others = λ i j p q ne e f.
-      ⊎_elim
-      (λ (less : i < j). in_order ps i j p q layout.right.apart less e f)
-      (λ (more : j ≤ i). flipped p q (in_order ps j i q p layout.right.apart (omega arith) f e))
-      (cases_lt i j);
+      let there = spans_at ps i p (code_region p) e in
+      two_spans (spans ps) (i + i) (i + i + 1) _ _ (code_region p) layout.right.apart (λ z. omega arith) (omega arith) (omega arith) there.0 there.1;
+  others = λ i j p q other e f. two_apart ps i j p q layout.right.apart other e f;
 }
 
 next_of_suc : (i j : ℕ) → i ≢ j → suc i ≢ suc j
@@ -163,7 +142,7 @@ module _ (m : Bytes) (p : Part) (right : IsRightPart p) where
       added_outside (added m p.code_base (length p.code) p.code) p.data_base p.data_size p.init (p.code_base + k) data_fits
       (λ h. apart (p.code_base + k) (omega arith, omega (arith, below)) (data_guarded p (p.code_base + k) right h))
       ∙ added_inside m p.code_base (length p.code) p.code k (omega arith) code_fits below
-      ∙ ap Some (front_index p.code (replicate (length p.code - length p.code) 0) k below)
+      ∙ ap Some (get_or-append p.code (replicate (length p.code - length p.code) 0) 0 k below)
 
   part_data : (k : ℕ) → k < p.data_size → byte_at (with_part m p) (p.data_base + k) ≡ Some (slice_index (first_data p) k)
   part_data k below = added_inside (added m p.code_base (length p.code) p.code) p.data_base p.data_size p.init k right.init_len data_fits below
@@ -177,8 +156,8 @@ all_outside (p ∷ ps) m a lie out =
     ∙ part_outside m p (lie.each 0 p refl) a (out 0 p refl).0 (out 0 p refl).1
 
 -- what one sandbox has at an address, those after it leave
-left : (p : Part) (ps : List Part) (m : Bytes) (a : ℕ) → LieApart (p ∷ ps) → (InCode p a ⊎ InData p a) → byte_at (with_parts (with_part m p) ps) a ≡ byte_at (with_part m p) a
-left p ps m a lie h = all_outside ps (with_part m p) a (tail p ps lie) (λ i q e.
+left : (p : Part) (ps : List Part) (m : Bytes) → LieApart (p ∷ ps) → (a : ℕ) → InCode p a ⊎ InData p a → byte_at (with_parts (with_part m p) ps) a ≡ byte_at (with_part m p) a
+left p ps m lie a h = all_outside ps (with_part m p) a (tail p ps lie) (λ i q e.
     let apart : Apart p q = lie.others 0 (suc i) p q (λ z. omega arith) refl e in
     let mine = lie.each 0 p refl in
     let its = lie.each (suc i) q e in
@@ -187,23 +166,22 @@ left p ps m a lie h = all_outside ps (with_part m p) a (tail p ps lie) (λ i q e
     (λ (d : InData p a). (λ k. apart.guarded_code a (data_guarded p a mine d) k, λ k. apart.guarded_guarded a (data_guarded p a mine d) (data_guarded q a its k)))
     h)
 
-pub has_code : (ps : List Part) (m : Bytes) (i : ℕ) (p : Part) → LieApart ps → slice_get ps i ≡ Some p → (k : ℕ) → k < length p.code → byte_at (with_parts m ps) (p.code_base + k) ≡ Some (slice_index p.code k)
-has_code [] m i p lie e k below = absurd (cc)
-has_code (q ∷ ps) m zero p lie e k below =
+-- what one sandbox brings is there in the end
+stays_there : (ps : List Part) (m : Bytes) (i : ℕ) (p : Part) → LieApart ps → slice_get ps i ≡ Some p
+    → (n : Bytes) × ((a : ℕ) → InCode p a ⊎ InData p a → byte_at (with_parts m ps) a ≡ byte_at (with_part n p) a)
+stays_there [] m i p lie e = absurd (cc)
+stays_there (q ∷ ps) m zero p lie e =
     let same : q ≡ p = cc in
-    let at : (j : ℕ) → j < length q.code → byte_at (with_parts m (q ∷ ps)) (q.code_base + j) ≡ Some (slice_index q.code j) =
-    λ j less. left q ps m (q.code_base + j) lie (inl (omega arith, omega (arith, less))) ∙ part_code m q (lie.each 0 q refl) (lie.own 0 q refl) j less in
-    (subst (λ (x : Part). (j : ℕ) → j < length x.code → byte_at (with_parts m (q ∷ ps)) (x.code_base + j) ≡ Some (slice_index x.code j)) same at) k below
-has_code (q ∷ ps) m (suc i) p lie e k below = has_code ps (with_part m q) i p (tail q ps lie) e k below
+    subst (λ (x : Part). (n : Bytes) × ((a : ℕ) → InCode x a ⊎ InData x a → byte_at (with_parts m (q ∷ ps)) a ≡ byte_at (with_part n x) a)) same (m, left q ps m lie)
+stays_there (q ∷ ps) m (suc i) p lie e = stays_there ps (with_part m q) i p (tail q ps lie) e
+
+pub has_code : (ps : List Part) (m : Bytes) (i : ℕ) (p : Part) → LieApart ps → slice_get ps i ≡ Some p → (k : ℕ) → k < length p.code → byte_at (with_parts m ps) (p.code_base + k) ≡ Some (slice_index p.code k)
+has_code ps m i p lie e k below =
+    let x = stays_there ps m i p lie e in x.1 (p.code_base + k) (inl (omega arith, omega (arith, below))) ∙ part_code x.0 p (lie.each i p e) (lie.own i p e) k below
 
 pub has_data : (ps : List Part) (m : Bytes) (i : ℕ) (p : Part) → LieApart ps → slice_get ps i ≡ Some p → (k : ℕ) → k < p.data_size → byte_at (with_parts m ps) (p.data_base + k) ≡ Some (slice_index (first_data p) k)
-has_data [] m i p lie e k below = absurd (cc)
-has_data (q ∷ ps) m zero p lie e k below =
-    let same : q ≡ p = cc in
-    let at : (j : ℕ) → j < q.data_size → byte_at (with_parts m (q ∷ ps)) (q.data_base + j) ≡ Some (slice_index (first_data q) j) =
-    λ j less. left q ps m (q.data_base + j) lie (inr (omega arith, omega (arith, less))) ∙ part_data m q (lie.each 0 q refl) j less in
-    (subst (λ (x : Part). (j : ℕ) → j < x.data_size → byte_at (with_parts m (q ∷ ps)) (x.data_base + j) ≡ Some (slice_index (first_data x) j)) same at) k below
-has_data (q ∷ ps) m (suc i) p lie e k below = has_data ps (with_part m q) i p (tail q ps lie) e k below
+has_data ps m i p lie e k below =
+    let x = stays_there ps m i p lie e in x.1 (p.data_base + k) (inr (omega arith, omega (arith, below))) ∙ part_data x.0 p (lie.each i p e) k below
 
 same_part : (ps : List Part) (i j : ℕ) (p q : Part) → i ≡ j → slice_get ps i ≡ Some p → slice_get ps j ≡ Some q → q ≡ p
 same_part ps i j p q same e f = let g : slice_get ps j ≡ Some p = ap (slice_get ps) (sym same) ∙ e in cc

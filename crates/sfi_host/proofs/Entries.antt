@@ -1,7 +1,6 @@
 -- A sandbox that is entered again.
 use Rattle.std.proofs.Common.{◌≡◌, ◌≢◌, ◌⊎◌, inl, inr, ⊎_elim, ◌↔◌, IsTrue, ℕ, suc, ◌+◌, ◌-◌, ◌^◌, ◌<◌, ◌≤◌, ◌==◌, Bool, true, false, List, [], ◌∷◌, ◌++◌, map, length, take, get_or, Some, None, set, slice_get, refl, sym, ap, ◌∙◌, subst, arith, get_or-set_other}
-use Rattle.std.proofs.lemmas.Bool.{cases_eq}
-use Rattle.std.proofs.lemmas.Option.{same_Some, get_or_from_slice_get, slice_get_within}
+use Rattle.std.proofs.lemmas.Option.{same_Some}
 use Rattle.std.specs.Prelude.{slice_index, slice_set, cond}
 use Rattle.std.specs.FinMap.{empty}
 use Rattle.std.proofs.lemmas.List.{map-set, take_more, take_all, length-take-le}
@@ -11,36 +10,30 @@ use Rattle.sfi_image.specs.Parts.{IsRightLayout}
 use Rattle.sfi_image.specs.Regions.{IsBundleStart}
 use Rattle.sfi_image.specs.Spans.{Holds, InGuards, AreApart, with_guards, code_region}
 use Rattle.sfi_image.specs.Spelling.{Part}
-use Rattle.sfi_check.specs.Regions.{InCode, InGuard, HasCode}
+use Rattle.sfi_check.specs.Regions.{InGuard, HasCode}
 use Rattle.sfi_check.specs.Runs.{IsEntry}
-use Rattle.sfi_check.specs.Safety.{RunsSafely, AllRunSafely}
-use Rattle.sfi_check.specs.Stack.{CallsWithStack, AllCallWithStack}
+use Rattle.sfi_check.specs.Safety.{AllRunSafely}
+use Rattle.sfi_check.specs.Stack.{AllCallWithStack}
 use Rattle.sfi_host.specs.declared.program.Program.{Program}
 use Rattle.sfi_host.specs.declared.sandbox.Sandbox.{Sandbox}
-use Rattle.sfi_host.specs.Entering.{MayEnter, MayEnterAt, fresh_hart, with_registers, entered_hart, entered_seat, with_entry_of, with_entry, IsAtEntry, IsEnterable, AreEnterable}
+use Rattle.sfi_host.specs.Entering.{MayEnter, MayEnterAt, fresh_hart, with_registers, entered_hart, entered_seat, with_entry_of, with_entry, IsAtEntry, IsEnterable}
 use Rattle.sfi_host.specs.Loading.{first_seat, with_parts, AreEntered, HaveFirstData}
-use Rattle.sfi_host.specs.Programs.{AreDecoded}
 use Rattle.sfi_host.specs.Sandboxes.{seat_of, seats_of, world_of}
 use Rattle.sfi_host.specs.Slots.{Bounds, Slot, bounds_of}
-use Rattle.sfi_host.specs.Worlds.{Seat, Sandboxes, slot_of, slots_of, state_in, IsSafeSeat, IsSafeWorld, StaysOutsideData}
+use Rattle.sfi_host.specs.Worlds.{Seat, Sandboxes, slot_of, slots_of, state_in, IsSafeSeat}
 use Rattle.sfi_host.specs.private.Programs.{AreProgramsOf}
-use Rattle.sfi_host.specs.private.Sandboxes.{bounds_in}
 use Rattle.sfi_host.proofs.Asked.{seat_at, slot_is, no_slot}
 use Rattle.sfi_host.proofs.Decoding.{first_decoded}
-use Rattle.sfi_host.proofs.Entered.{lie_apart}
 use Rattle.sfi_host.proofs.Neighbours.{get_set_same}
 use Rattle.sfi_host.proofs.SafeSeats as keep
-use Rattle.sfi_host.proofs.SameWorld.{get_map}
-use Rattle.sfi_host.proofs.Taking.{AfterTurn, turn_taken}
-use Rattle.sfi_host.proofs.Worlds.{map_get, entered, first_data_there, world_safe}
+use Rattle.sfi_host.proofs.Changing.{IsKept, AfterTurn, turn_taken}
+use Rattle.sfi_host.proofs.Worlds.{entered, first_data_there, world_safe, all_enterable}
 
 -- ---- each sandbox of a world may be entered
 
 -- the world of an image at first, with the programs of its parts
 pub record IsFirst (ps : List Part) (m : Bytes) (seats : List Seat) (programs : List Program) : Type 0 where
-  pub safe : IsSafeWorld (record { bytes = m; seats = seats })
-  pub decoded : AreDecoded (record { bytes = m; seats = seats }) programs
-  pub enterable : AreEnterable (record { bytes = m; seats = seats })
+  pub kept : IsKept (record { bytes = m; seats = seats }) programs
   pub entered : AreEntered ps m
   pub first_data : HaveFirstData ps m
 
@@ -49,53 +42,11 @@ pub is_first : (ps : List Part) → IsRightLayout ps → AllRunSafely ps → All
 is_first ps layout safe calls m seats programs is_memory bytes are made =
     let memory : IsMemory (with_parts empty ps) = subst IsMemory bytes is_memory in
     let entries = entered ps layout memory in
-    subst (λ (n : Bytes). IsFirst ps n seats programs) (sym bytes)
-    (subst (λ (all : List Seat). IsFirst ps (with_parts empty ps) all programs) (sym are)
-    (record {
-      safe = world_safe ps layout memory safe calls;
-      decoded = first_decoded ps (with_parts empty ps) programs made entries;
-      enterable = λ i s e.
-          let x = map_get first_seat ps i s e in
-          let p = x.0 in
-          record {
-            part = p;
-            bounds = ap (λ (t : Seat). t.bounds) x.2;
-            right = (lie_apart ps layout).each i p x.1;
-            code = (entries i p x.1).code;
-            runs = subst (λ (q : Part). RunsSafely q) (get_or_from_slice_get ps i p p x.1) (safe.each i p (slice_get_within ps i p x.1));
-            calls = subst (λ (q : Part). CallsWithStack q) (get_or_from_slice_get ps i p p x.1) (calls.each i p (slice_get_within ps i p x.1));
-          };
+    subst (λ (x : Bytes × List Seat). IsFirst ps x.0 x.1 programs) (λ k. (sym bytes k, sym are k)) (record {
+      kept = (world_safe ps layout memory safe calls, first_decoded ps (with_parts empty ps) programs made entries, all_enterable ps layout memory safe calls);
       entered = entries;
       first_data = first_data_there ps layout;
-    }))
-
--- no code lies in the data of any
-module _ (w : Sandboxes) (safe : IsSafeWorld w) (i : ℕ) (s : Seat) (at : slice_get w.seats i ≡ Some s) (p : Part) (is : s.bounds ≡ bounds_of p) (a : ℕ) (inside : InCode p a) where
-  code_out : (j : ℕ) (t : Seat) → slice_get w.seats j ≡ Some t → Holds t.bounds.data a → ⊥
-  code_out j t there h = ⊎_elim
-      (λ (same : j ≡ i).
-      let one : t ≡ s = same_Some t s (sym there ∙ ap (slice_get w.seats) same ∙ at) in
-      keep.code_not_data w.bytes s (safe.each i s at) p is a inside (subst (λ (y : Seat). Holds y.bounds.data a) one h))
-      (λ (other : j ≢ i). (safe.others j i t s other there at).code a h (subst (λ (b : Bounds). Holds b.code a) (sym is) inside))
-      (cases_eq j i)
-
--- where each lies as before, and only data changed, each may be entered as before
-pub still_enterable : (v w o : Sandboxes) → v ≡ w → IsSafeWorld v → bounds_in o ≡ bounds_in w → StaysOutsideData w o.bytes → AreEnterable v → AreEnterable o
-still_enterable v w o view safe same outside enterable i t at =
-    let same-2 : bounds_in o ≡ bounds_in v = same ∙ ap bounds_in (sym view) in
-    let left : StaysOutsideData v o.bytes = subst (λ (y : Sandboxes). StaysOutsideData y o.bytes) (sym view) outside in
-    let x = map_get (λ (s : Seat). s.bounds) v.seats i t.bounds (ap (λ (l : List Bounds). slice_get l i) (sym same-2) ∙ get_map (λ (s : Seat). s.bounds) o.seats i t at) in
-    let e = enterable i x.0 x.1 in
-    record {
-      part = e.part;
-      bounds = x.2 ∙ e.bounds;
-      right = e.right;
-      code = λ k below. left (e.part.code_base + k) (code_out v safe i x.0 x.1 e.part e.bounds (e.part.code_base + k) (keep.code_at e.part k below)) ∙ e.code k below;
-      runs = e.runs;
-      calls = e.calls;
-    }
-
--- ---- where
+    })
 
 -- ---- with which registers
 
@@ -131,37 +82,20 @@ one_more_set h now new arguments k v r is below value place set =
     let many : length (take k arguments) ≡ k = length-take-le k arguments (omega arith) in
     let at : r ≡ 10 + length (take k arguments) = omega (arith, many, place) in
     set
-    ∙ ap (λ q. with_register now q v) at
-    ∙ ap (λ x. with_register now (10 + length (take k arguments)) x) value
-    ∙ ap (λ x. with_register x (10 + length (take k arguments)) (get_or arguments k 0)) is
+    ∙ (λ j. with_register (is j) (at j) (value j))
     ∙ sym (with_more h 10 (take k arguments) (get_or arguments k 0))
     ∙ ap (with_registers h 10) (sym (take_more arguments k 0 below))
 
 -- ---- a sandbox that enters
 
 module _ (m : Bytes) (s : Seat) (seat : IsSafeSeat m s) where
-  code_size : 16 ≤ s.bounds.code.size
-  code_size =
-      let least : 256 ≤ length seat.part.code = seat.right.code_placed.at_least in
-      let e : s.bounds.code.size ≡ length seat.part.code = ap (λ (b : Bounds). b.code.size) seat.bounds in
-      omega arith
-
-  data_size : 16 ≤ s.bounds.data.size
-  data_size =
-      let least : 256 ≤ seat.part.data_size = seat.right.data_placed.at_least in
-      let e : s.bounds.data.size ≡ seat.part.data_size = ap (λ (b : Bounds). b.data.size) seat.bounds in
-      omega arith
-
-  data_end : s.bounds.data.base + s.bounds.data.size < 2 ^ 32
-  data_end =
-      let above : seat.part.data_base + seat.part.data_size + 4096 ≤ 2 ^ 32 = seat.right.guard_room.above in
-      let e : s.bounds.data.size ≡ seat.part.data_size = ap (λ (b : Bounds). b.data.size) seat.bounds in
-      let f : s.bounds.data.base ≡ seat.part.data_base = ap (λ (b : Bounds). b.data.base) seat.bounds in
-      omega arith
-
   -- what a sandbox of the program has
   pub sizes : (16 ≤ s.bounds.code.size) × (16 ≤ s.bounds.data.size) × (s.bounds.data.base + s.bounds.data.size < 2 ^ 32)
-  sizes = (code_size, data_size, data_end)
+  sizes =
+      let code : 256 ≤ length seat.part.code = seat.right.code_placed.at_least in
+      let data_size : 256 ≤ seat.part.data_size = seat.right.data_placed.at_least in
+      let above : seat.part.data_base + seat.part.data_size + 4096 ≤ 2 ^ 32 = seat.right.guard_room.above in
+      subst (λ (b : Bounds). (16 ≤ b.code.size) × (16 ≤ b.data.size) × (b.data.base + b.data.size < 2 ^ 32)) (sym seat.bounds) (omega arith, omega arith, omega arith)
 
   module _ (pc : ℕ) (arguments : List ℕ) (few : length arguments ≤ 8) (start : IsBundleStart s.bounds.code pc) (hart : IsHart (entered_hart s.bounds pc arguments)) (p : Part) (is : s.bounds ≡ bounds_of p) where
     abbrev now : List ℕ
@@ -177,7 +111,7 @@ module _ (m : Bytes) (s : Seat) (seat : IsSafeSeat m s) where
     stack_is = others_kept arguments fresh 10 2 (inl (omega arith))
 
     stack_there : Holds s.bounds.data (slice_index now 2)
-    stack_there = let z = stack_is in let d = data_size in (omega (arith, z, d), omega (arith, z, d))
+    stack_there = let z = stack_is in let d = sizes.1 in (omega (arith, z, d), omega (arith, z, d))
 
     guard_there : (a : ℕ) → InGuard p a → InGuard seat.part a
     guard_there a h = subst (λ (b : Bounds). InGuards b.data a) (sym is ∙ seat.bounds) h
@@ -202,56 +136,51 @@ module _ (m : Bytes) (s : Seat) (seat : IsSafeSeat m s) where
     entry = at_entry pc arguments few start hart enterable.part enterable.bounds enterable.code
 
     pub entered_safe : IsSafeSeat m (entered_seat s pc arguments)
-    entered_safe = record {
-      part = enterable.part;
-      bounds = enterable.bounds;
-      right = enterable.right;
-      state = entry.state;
-      apart = subst (λ (b : Bounds). AreApart b.code (with_guards b.data)) (sym seat.bounds ∙ enterable.bounds) seat.apart;
-      code = enterable.code;
-      guards = entry.guards;
-      has_data = seat.has_data;
-      safe = λ ready. record { safe = enterable.runs.from _ entry; calls = enterable.calls.from _ entry };
-      stopped = tt;
-    }
+    entered_safe = keep.ready_safe m s.bounds (entered_hart s.bounds pc arguments) s.steps enterable entry
+        (subst (λ (b : Bounds). AreApart b.code (with_guards b.data)) (sym seat.bounds ∙ enterable.bounds) seat.apart) seat.has_data
 
 -- ---- a world in which it did
 
-module _ (m : Bytes) (items : List Sandbox) (programs : List Program) (i : ℕ) (x new : Sandbox)
-    (world : IsSafeWorld (world_of m items)) (decoded : AreDecoded (world_of m items) programs) (enterable : AreEnterable (world_of m items)) (at : slice_get items i ≡ Some x)
+-- beside what comes of a turn, the world is the one with the entry, and it is an entry
+pub record HasEntered (w : Sandboxes) (programs : List Program) (i pc : ℕ) (arguments : List ℕ) (old new : Slot) (o : Sandboxes) : Type 0 where
+  pub after : AfterTurn w programs i old new o
+  pub world : o ≡ with_entry w i pc arguments
+  pub entry : IsAtEntry o i
+
+module _ (m : Bytes) (items : List Sandbox) (programs : List Program) (i : ℕ) (x new : Sandbox) (inside : IsKept (world_of m items) programs) (at : slice_get items i ≡ Some x)
     (pc : ℕ) (arguments : List ℕ) (few : length arguments ≤ 8) (start : IsBundleStart (seat_of x).bounds.code pc)
     (is : seat_of new ≡ entered_seat (seat_of x) pc arguments) (hart : IsHart new.cpu) where
   there : slice_get (seats_of items) i ≡ Some (seat_of x)
   there = seat_at items i x at
 
   seat : IsSafeSeat m (seat_of x)
-  seat = world.each i (seat_of x) there
+  seat = inside.0.each i (seat_of x) there
 
   hart_is : IsHart (entered_hart (seat_of x).bounds pc arguments)
   hart_is = subst IsHart (ap (λ (s : Seat). s.hart) is) hart
 
   safe : IsSafeSeat m (seat_of new)
-  safe = subst (IsSafeSeat m) (sym is) (entered_safe m (seat_of x) seat (enterable i (seat_of x) there) pc arguments few start hart_is)
-
-  pub has_entered : (w : Sandboxes) → world_of m items ≡ w → AfterTurn w programs i (slot_of m (seat_of x)) (slot_of m (seat_of new)) (world_of m (set items i new))
-  has_entered w view = turn_taken m m items programs i x new (world, decoded) at (ap (λ (s : Seat). s.bounds) is) safe (λ a out. refl) w view
+  safe = subst (IsSafeSeat m) (sym is) (entered_safe m (seat_of x) seat (inside.2 i (seat_of x) there) pc arguments few start hart_is)
 
   seats_are : seats_of (set items i new) ≡ set (seats_of items) i (entered_seat (seat_of x) pc arguments)
   seats_are = map-set seat_of items i new ∙ ap (λ (s : Seat). set (seats_of items) i s) is
 
-  pub world_is : (w : Sandboxes) → world_of m items ≡ w → world_of m (set items i new) ≡ with_entry w i pc arguments
-  world_is w view =
-      ap (λ (l : List Seat). let y : Sandboxes = record { bytes = m; seats = l } in y) seats_are
-      ∙ ap (with_entry_of (world_of m items) i pc arguments) (sym there)
-      ∙ ap (λ (y : Sandboxes). with_entry y i pc arguments) view
-
-  pub is_at_entry : IsAtEntry (world_of m (set items i new)) i
+  is_at_entry : IsAtEntry (world_of m (set items i new)) i
   is_at_entry s p e bounds code =
       let here : slice_get (seats_of (set items i new)) i ≡ Some (entered_seat (seat_of x) pc arguments) =
       ap (λ (l : List Seat). slice_get l i) seats_are ∙ get_set_same (seats_of items) i (seat_of x) _ there in
       let same : s ≡ entered_seat (seat_of x) pc arguments = same_Some _ _ (sym e ∙ here) in
       subst (λ (y : Seat). IsEntry p (state_in m y)) (sym same)
       (at_entry m (seat_of x) seat pc arguments few start hart_is p (sym (ap (λ (y : Seat). y.bounds) same) ∙ bounds) code)
+
+  pub has_entered : (w : Sandboxes) → world_of m items ≡ w → HasEntered w programs i pc arguments (slot_of m (seat_of x)) (slot_of m (seat_of new)) (world_of m (set items i new))
+  has_entered w view = record {
+    after = turn_taken m m items programs i x new inside at (ap (λ (s : Seat). s.bounds) is) safe (λ a out. refl) w view;
+    world = ap (λ (l : List Seat). let y : Sandboxes = record { bytes = m; seats = l } in y) seats_are
+        ∙ ap (with_entry_of (world_of m items) i pc arguments) (sym there)
+        ∙ ap (λ (y : Sandboxes). with_entry y i pc arguments) view;
+    entry = is_at_entry;
+  }
 
 -- ---- where the program says so
 

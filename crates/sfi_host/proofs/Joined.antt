@@ -1,5 +1,5 @@
 -- What the joint run does from a safe world is a list of moves.
-use Rattle.std.proofs.Common.{◌≡◌, ◌≢◌, ◌⊎◌, inl, inr, ⊎_elim, IsSome, is_some, ℕ, zero, suc, ◌<◌, ◌≤◌, ◌^◌, ◌||◌, ◌&&◌, Bool, true, false, cond, List, [], ◌∷◌, ◌++◌, length, take, Option, Some, None, slice_get, set, refl, sym, ap, ◌∙◌, subst, arith, append_assoc, append-nil}
+use Rattle.std.proofs.Common.{◌≡◌, ◌≢◌, ◌⊎◌, inl, inr, IsSome, is_some, ℕ, zero, suc, ◌<◌, ◌≤◌, ◌^◌, ◌||◌, ◌&&◌, Bool, true, false, cond, List, [], ◌∷◌, ◌++◌, length, take, Option, Some, None, slice_get, set, refl, sym, ap, ◌∙◌, subst, arith, append_assoc, append-nil}
 use Rattle.std.specs.List.{All}
 use Rattle.std.specs.Option.{option_map, option_or}
 use Rattle.std.proofs.lemmas.Option.{slice_get-map}
@@ -14,26 +14,28 @@ use Rattle.rv_step.specs.Step.{Stepped, Stands, IsStep}
 use Rattle.sfi_image.specs.Spelling.{Part}
 use Rattle.sfi_check.specs.Runs.{IsReply, IsTurn, after_step as step_to, after_turn as goes_to}
 use Rattle.sfi_host.specs.declared.status.Status.{Status}
-use Rattle.sfi_host.specs.declared.status.Status.TheVariants.{Ready, Exited, Trapped}
+use Rattle.sfi_host.specs.declared.status.Status.TheVariants.{Ready, Trapped}
 use Rattle.sfi_host.specs.declared.turn.StepResult.{StepResult}
 use Rattle.sfi_host.specs.declared.turn.StepResult.TheVariants.{Continue, TurnEnds, RunEnds}
 use Rattle.sfi_host.specs.declared.turn.Turn.{Turn as PlanTurn}
-use Rattle.sfi_host.specs.Hosts.{Way, Replied, Yield, Exit, Reply, Answer, Host, limited, replay}
+use Rattle.sfi_host.specs.Hosts.{Way, Exit, Reply, Answer, Host, limited, replay}
 use Rattle.sfi_host.specs.Regions.{is_in, IsWhole}
 use Rattle.sfi_host.specs.Slots.{Bounds, Slot, bounds_of, one_more, is_own, own}
-use Rattle.sfi_host.specs.Joint.{Machine, IsMachine, word, is_byte, with_arguments, with_data, after_way, status_after, replied, Moved, moved, still, after_answer, after_step, after_replies, next_after, and_more, turned, Given, given, Joined, joined, after_turn, and_plan, turn_and, call_of}
+use Rattle.sfi_host.specs.Joint.{Machine, IsMachine, word, is_byte, with_arguments, with_data, after_way, status_after, replied, Moved, moved, still, after_answer, after_step, after_replies, and_more, turned, Given, given, Joined, joined, after_turn, and_plan, turn_and, call_of}
 use Rattle.sfi_host.specs.Worlds.{Seat, Sandboxes, slot_of, slots_of, state_in, IsSafeSeat, IsSafeWorld, StaysOutside}
 use Rattle.sfi_host.specs.Steps.{IsOwnStep}
 use Rattle.sfi_host.specs.Moves.{StepsAlone, Move, after_move, IsTurnsShare, AreShares, all_of, given_in, ComeTo, HaveRun, JoinedMoves, JointMoves}
+use Rattle.sfi_host.proofs.Continuing.{way_goes}
 use Rattle.sfi_host.proofs.Leaving.{get_with_data}
 use Rattle.sfi_host.proofs.Moves.{turn_of, Taken, IsTaken, AreTaken, are_moves, taken_follow, safe_after, slots_after, are_runs, safe_runs}
 use Rattle.sfi_host.proofs.Neighbours.{get_set_same, set_itself}
 use Rattle.sfi_host.proofs.OwnSteps.{steps_own}
 use Rattle.sfi_host.proofs.Plans.{joined_nil, joined_cons}
 use Rattle.sfi_host.proofs.RegionBytes.{get_kept, same_bytes, is_in-true}
+use Rattle.sfi_host.proofs.Runs.{there_below}
 use Rattle.sfi_host.proofs.SafeSeats as keep
 use Rattle.sfi_host.proofs.SameWorld.{get_map}
-use Rattle.sfi_host.proofs.SlotSteps.{moved_by, not_moved, seat_with}
+use Rattle.sfi_host.proofs.SlotSteps.{moved_by, not_moved, next_safe, seat_with}
 
 -- ---- lists
 
@@ -78,10 +80,6 @@ or_right : (o p : Option ℕ) → IsSome p → IsSome (option_or o p)
 or_right None p h = h
 or_right (Some x) p h = refl
 
-or_either : (o p : Option ℕ) (v : ℕ) → option_or o p ≡ Some v → (o ≡ Some v) ⊎ (p ≡ Some v)
-or_either None p v e = inr e
-or_either (Some x) p v e = inl e
-
 own_at : (c d t : Bool) (o y : Option ℕ) → cond (c || d) (option_or (cond (d && t) o None) y) None ≡ option_or (cond (d && t) o None) (cond (c || d) y None)
 own_at true d t o y = refl
 own_at false true t o y = refl
@@ -91,19 +89,14 @@ left_at : (d t : Bool) (o y : Option ℕ) → (d ≡ true → ⊥) → option_or
 left_at true t o y out = absurd (out refl)
 left_at false t o y out = refl
 
--- a byte that is taken
-taken_at : (d t : Bool) (o : Option ℕ) (v : ℕ) → cond (d && t) o None ≡ Some v → (d ≡ true) × (t ≡ true) × (o ≡ Some v)
-taken_at true true o v e = (refl, refl, e)
-taken_at true false o v e = absurd (cc)
-taken_at false t o v e = absurd (cc)
+-- a byte is one that is taken, or was there
+with_case : (d t : Bool) (o y : Option ℕ) (v : ℕ) → option_or (cond (d && t) o None) y ≡ Some v → ((d ≡ true) × (t ≡ true) × (o ≡ Some v)) ⊎ (y ≡ Some v)
+with_case true true (Some x) y v e = inl (refl, refl, e)
+with_case d t o y v e = inr e
 
 below : (o : Option ℕ) (v : ℕ) → is_byte o ≡ true → o ≡ Some v → v < 256
 below None v t e = absurd (cc)
 below (Some x) v t e = let same : x ≡ v = cc in grind arith
-
-there_below : (m : Bytes) (a : ℕ) → IsMemory m → (o : Option ℕ) → byte_at m a ≡ o → IsSome o → a < 2 ^ 32
-there_below m a memory None e h = absurd (cc)
-there_below m a memory (Some v) e h = memory.addresses a v e
 
 module _ (b : Bounds) (m others : Bytes) where
   own_with : own b (with_data b m others) ≡ with_data b (own b m) others
@@ -120,13 +113,12 @@ module _ (b : Bounds) (m others : Bytes) where
   whole_with whole a h = ap is_some (get_with_data b m others a) ∙ or_right _ _ (whole a h)
 
   memory_with : IsMemory m → IsWhole b.data m → IsMemory (with_data b m others)
-  memory_with old whole = record {
-    addresses = λ a v e. ⊎_elim (λ (f : _). let x = taken_at _ _ _ v f in there_below m a old (byte_at m a) refl (whole a (is_in-true b.data a x.0))) (λ (f : _). old.addresses a v f) (either a v e);
-    bytes = λ a v e. ⊎_elim (λ (f : _). let x = taken_at _ _ _ v f in below (byte_at others a) v x.1 x.2) (λ (f : _). old.bytes a v f) (either a v e);
-  }
-    where
-      either : (a v : ℕ) → byte_at (with_data b m others) a ≡ Some v → (cond (is_in b.data a && is_byte (byte_at others a)) (byte_at others a) None ≡ Some v) ⊎ (byte_at m a ≡ Some v)
-      either a v e = or_either _ _ v (sym (get_with_data b m others a) ∙ e)
+  memory_with old whole =
+      let either = λ (a v : ℕ) (e : byte_at (with_data b m others) a ≡ Some v). with_case (is_in b.data a) (is_byte (byte_at others a)) (byte_at others a) (byte_at m a) v (sym (get_with_data b m others a) ∙ e) in
+      record {
+        addresses = λ a v e. elim (either a v e) [ inl x ↦ there_below m a old (byte_at m a) refl (whole a (is_in-true b.data a x.0)) | inr f ↦ old.addresses a v f ];
+        bytes = λ a v e. elim (either a v e) [ inl x ↦ below (byte_at others a) v x.1 x.2 | inr f ↦ old.bytes a v f ];
+      }
 
 -- ---- one step
 
@@ -143,17 +135,13 @@ record Rests {S : Type 0} (m : Bytes) (s : Seat) (mv : Moved S) : Type 0 where
   none : mv.replies ≡ []
   ends : mv.next ≢ Continue
 
-way_goes : (way : Way) → next_after way ≢ RunEnds
-way_goes Replied e = let z : Continue ≡ RunEnds = e in cc
-way_goes Yield e = let z : TurnEnds ≡ RunEnds = e in cc
-way_goes (Exit n) e = let z : TurnEnds ≡ RunEnds = e in cc
-
 low : (n : ℕ) → word n < 2 ^ 32
 low n = omega arith
 
 module _ (machine : Machine) (is : IsMachine machine) where
-  abbrev Comes : {S : Type 0} → ℕ → Bytes → Seat → Moved S → Type 0
-  Comes i m s mv = MovesTo machine i m s mv ⊎ Rests m s mv
+  -- it moves, or rests
+  abbrev Does : {S : Type 0} → ℕ → Bytes → Seat → Moved S → Type 0
+  Does i m s mv = ((s.status ≡ Ready) × MovesTo machine i m s mv) ⊎ Rests m s mv
 
   module _ (m : Bytes) (s : Seat) (i : ℕ) (seat : IsSafeSeat m s) (ready : s.status ≡ Ready) where
     abbrev r : Stepped
@@ -192,7 +180,7 @@ module _ (machine : Machine) (is : IsMachine machine) where
         step = λ none. refl;
         others = alone.others;
         bounds = refl;
-        safe = subst (λ (x : Status). IsSafeSeat r.state.memory (seat_with s r.state.hart x (one_more s.steps))) (sym ready) (alone.safe e (one_more s.steps));
+        safe = next_safe m s r seat ready step e (one_more s.steps);
         is_turn = λ p here. step;
         leads = λ still. ap (λ (o : Outcome). step_to o r.state) e;
       };
@@ -237,10 +225,8 @@ module _ (machine : Machine) (is : IsMachine machine) where
       memory = memory_with s.bounds m a.reply.bytes seat.state.memory seat.has_data
 
       slot_after : slot_of n (t a.reply.way) ≡ replied (slot_of m s) a.reply
-      slot_after = ap (λ (x : Bytes). with_bytes x) (own_with s.bounds m a.reply.bytes)
-        where
-          with_bytes : Bytes → Slot
-          with_bytes x = record { bounds = s.bounds; hart = (t a.reply.way).hart; status = status_after a.reply.way; steps = one_more s.steps; bytes = x }
+      slot_after = ap (λ (x : Bytes). let y : Slot = record { bounds = s.bounds; hart = (t a.reply.way).hart; status = status_after a.reply.way; steps = one_more s.steps; bytes = x } in y)
+          (own_with s.bounds m a.reply.bytes)
 
       -- the turn that it is, if that is right and leads there
       taken_by : (w : Way) → a.reply.way ≡ w
@@ -264,37 +250,25 @@ module _ (machine : Machine) (is : IsMachine machine) where
           (ap (λ (y : Way). (t y).hart) (sym way)) others
 
       by_way : (w : Way) → a.reply.way ≡ w → Taken machine i m s (a.reply ∷ []) n (t w)
-      by_way Replied way = taken_by Replied way (is_reply Replied way refl) (λ still. refl)
-      by_way Yield way = taken_by Yield way (is_reply Yield way refl) (λ still. refl)
       by_way (Exit code) way = taken_by (Exit code) way (λ p here. step) (λ still. absurd (cc))
+      by_way w way = taken_by w way (is_reply w way refl) (λ still. refl)
 
       reply_moves : MovesTo machine i m s (after_answer (slot_of m s) a.host (Some a))
       reply_moves = record { n = n; t = t a.reply.way; taken = by_way a.reply.way refl; slot = slot_after }
 
-    outcome_moves : {S : Type 0} (host : Host S) (x : S) (out : Outcome) → r.outcome ≡ out → Comes i m s (after_step host i (slot_of m s) x out after)
-    outcome_moves host x outcome.Next e = inl (next_moves host x e)
-    outcome_moves host x (outcome.Trap cause at) e = inl (trap_moves host x cause at e)
+    outcome_moves : {S : Type 0} (host : Host S) (x : S) (out : Outcome) → r.outcome ≡ out → Does i m s (after_step host i (slot_of m s) x out after)
+    outcome_moves host x outcome.Next e = inl (ready, next_moves host x e)
+    outcome_moves host x (outcome.Trap cause at) e = inl (ready, trap_moves host x cause at e)
     outcome_moves {S} host x outcome.Call e = by_answer (host x (call_of i (slot_of m s)))
       where
-        by_answer : (o : Option (Answer S)) → Comes i m s (after_answer (slot_of m s) x o)
+        by_answer : (o : Option (Answer S)) → Does i m s (after_answer (slot_of m s) x o)
         by_answer None = inr (record { same = refl; none = refl; ends = λ f. cc })
-        by_answer (Some a) = inl (reply_moves a e)
-
-  -- any sandbox that is safe moves, or rests
-  abbrev Does : {S : Type 0} → ℕ → Bytes → Seat → Moved S → Type 0
-  Does i m s mv = ((s.status ≡ Ready) × MovesTo machine i m s mv) ⊎ Rests m s mv
+        by_answer (Some a) = inl (ready, reply_moves a e)
 
   any_does : {S : Type 0} (host : Host S) (i : ℕ) (m : Bytes) (s : Seat) (x : S) → IsSafeSeat m s → (status : Status) → s.status ≡ status → Does i m s (moved machine host i (slot_of m s) x)
-  any_does {S} host i m s x seat status e = by_status status e
-    where
-      rests : (status : Status) → status ≢ Ready → s.status ≡ status → Does i m s (moved machine host i (slot_of m s) x)
-      rests status ne e = subst (λ (mv : Moved S). Does i m s mv) (sym (not_moved machine host i (slot_of m s) x status ne e)) (inr (record { same = refl; none = refl; ends = λ f. cc }))
-
-      by_status : (status : Status) → s.status ≡ status → Does i m s (moved machine host i (slot_of m s) x)
-      by_status Ready e = subst (λ (mv : Moved S). Does i m s mv) (sym (by m s i seat e host x (machine (state_in m s)).outcome refl))
-          (⊎_elim (λ (v : MovesTo machine i m s _). inl (e, v)) (λ (v : Rests m s _). inr v) (outcome_moves m s i seat e host x (machine (state_in m s)).outcome refl))
-      by_status (Exited k) e = rests (Exited k) (λ f. cc) e
-      by_status (Trapped cause at) e = rests (Trapped cause at) (λ f. cc) e
+  any_does {S} host i m s x seat Ready e = let out = (machine (state_in m s)).outcome in subst (λ (mv : Moved S). Does i m s mv) (sym (by m s i seat e host x out refl)) (outcome_moves m s i seat e host x out refl)
+  any_does {S} host i m s x seat status e =
+      subst (λ (mv : Moved S). Does i m s mv) (sym (not_moved machine host i (slot_of m s) x status (λ f. cc) e)) (inr (record { same = refl; none = refl; ends = λ f. cc }))
 
   -- ---- a turn
 
@@ -359,12 +333,10 @@ module _ (machine : Machine) (is : IsMachine machine) where
 
     by_next : {S : Type 0} (k : ℕ) (mv : Moved S) (rest : Slot → S → Moved S) → ((w : Sandboxes) (s : Seat) (x : S) → IsSafeWorld w → slice_get w.seats i ≡ Some s → TurnMoves i k w (rest (slot_of w.bytes s) x))
         → (next : StepResult) → mv.next ≡ next → Does i w.bytes s mv → TurnMoves i (suc k) w (and_more next mv rest)
-    by_next k mv rest goal TurnEnds e (inl x) = one_moves mv x.0 x.1 k
-    by_next k mv rest goal TurnEnds e (inr x) = none_moves (suc k) mv x
-    by_next k mv rest goal RunEnds e (inl x) = one_moves mv x.0 x.1 k
-    by_next k mv rest goal RunEnds e (inr x) = none_moves (suc k) mv x
     by_next k mv rest goal Continue e (inl x) = more_moves mv x.0 x.1 k rest goal
     by_next k mv rest goal Continue e (inr x) = absurd (x.ends e)
+    by_next k mv rest goal next e (inl x) = one_moves mv x.0 x.1 k
+    by_next k mv rest goal next e (inr x) = none_moves (suc k) mv x
 
   turn_moves : {S : Type 0} (host : Host S) (i k : ℕ) (w : Sandboxes) (s : Seat) (x : S) → IsSafeWorld w → slice_get w.seats i ≡ Some s → TurnMoves i k w (turned machine host i k (slot_of w.bytes s) x)
   unfolding turned
@@ -431,8 +403,6 @@ module _ (machine : Machine) (is : IsMachine machine) where
             )
 
         by_end : (next : StepResult) → After first.moves (λ rest. and_plan next t.sandbox mv (slots_of w) (joined machine host rest))
-        by_end Continue = goes_on
-        by_end TurnEnds = goes_on
         by_end RunEnds = (
           none_of plan,
           no_shares plan,
@@ -440,6 +410,7 @@ module _ (machine : Machine) (is : IsMachine machine) where
               (sym (ap (λ (l : List Move). first.moves ++ l) (no_moves k plan) ∙ append-nil first.moves))
               (record { n = first.n; taken = first.taken; slots = first.slots; replies = first.replies }),
         )
+        by_end next = goes_on
 
       by_found : (found : Option Seat) → slice_get w.seats t.sandbox ≡ found → PlanMoves (t ∷ plan) w (first_turns (t ∷ plan) (slots_of w) x)
       by_found None e = and_rest [] (no_share t) None (slice_get-map (slot_of w.bytes) w.seats t.sandbox ∙ ap (option_map (slot_of w.bytes)) e) names_none

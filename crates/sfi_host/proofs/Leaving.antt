@@ -27,8 +27,7 @@ pub get_both : (m w : Bytes) (q : ℕ) → byte_at (both m w) q ≡ option_or (b
 get_both m w q =
     get-from_entries nat_cmp_total (entries m ++ entries w) q
     ∙ find_both q (entries m) (entries w)
-    ∙ ap (λ (o : Option ℕ). option_or o (find nat_cmp q (entries w))) (sym (get-entries m q))
-    ∙ ap (λ (o : Option ℕ). option_or (byte_at m q) o) (sym (get-entries w q))
+    ∙ (λ k. option_or (sym (get-entries m q) k) (sym (get-entries w q) k))
 
 -- the addresses at which a reply's bytes are taken
 abbrev taken : Bounds → Bytes → ℕ → Bool
@@ -42,9 +41,8 @@ get_with_data b m others q =
 -- ---- the data among the own bytes
 
 own_data : (c d : Bool) (o : Option ℕ) → cond d (cond (c || d) o None) None ≡ cond d o None
-own_data true true o = refl
+own_data true d o = refl
 own_data false true o = refl
-own_data true false o = refl
 own_data false false o = refl
 
 pub data_of_own : (b : Bounds) (m : Bytes) → bytes_in b.data (own b m) ≡ bytes_in b.data m

@@ -1,23 +1,73 @@
 -- Moves of the sandboxes of a safe world are a run to each of them.
-use Rattle.std.proofs.Common.{◌≡◌, ◌≢◌, ℕ, ◌==◌, cond, true, false, List, [], ◌∷◌, ◌++◌, Option, Some, slice_get, set, refl, sym, ap, ◌∙◌, subst}
+use Rattle.std.proofs.Common.{◌≡◌, inl, inr, ℕ, ◌+◌, ◌<◌, List, [], ◌∷◌, length, Option, Some, None, slice_get, sym, ap, ◌∙◌, subst, ◌≢◌, ◌==◌, cond, true, false, ◌++◌, set, refl}
+use Rattle.rv_mem.specs.Bytes.{Bytes, byte_at}
+use Rattle.rv_step.specs.State.{State}
+use Rattle.sfi_image.specs.declared.part.Gate.{Gate}
+use Rattle.sfi_image.specs.Spelling.{Part}
+use Rattle.sfi_image.specs.Spans.{Holds, InGuards}
+use Rattle.sfi_check.specs.Regions.{InCode, InData, InGuard, IsGate, HasCode}
+use Rattle.sfi_check.specs.Runs.{Turn, Steps, Replies, Changes, after_turn, KeepsBytes, IsTurn, IsRun}
+use Rattle.sfi_check.specs.Safety.{IsSafeState, IsSafeTurn, IsSafeRun}
+use Rattle.sfi_host.specs.Slots.{Bounds, bounds_of, Slot}
 use Rattle.std.proofs.lemmas.Bool.{eqb-true, eqb-false}
 use Rattle.std.proofs.lemmas.Option.{same_Some}
-use Rattle.rv_mem.specs.Bytes.{Bytes}
-use Rattle.rv_step.specs.State.{State}
-use Rattle.sfi_image.specs.Spelling.{Part}
-use Rattle.sfi_check.specs.Runs.{Turn, Changes, KeepsBytes, IsTurn, IsRun, after_turn}
 use Rattle.sfi_check.specs.Stack.{after_turns}
 use Rattle.sfi_host.specs.declared.status.Status.{Status}
-use Rattle.sfi_host.specs.declared.status.Status.TheVariants.{Ready, Exited, Trapped}
-use Rattle.sfi_host.specs.Slots.{Slot, bounds_of}
+use Rattle.sfi_host.specs.declared.status.Status.TheVariants.{Ready}
 use Rattle.sfi_host.specs.Hosts.{Reply}
 use Rattle.sfi_host.specs.Joint.{Machine}
 use Rattle.sfi_host.specs.Worlds.{Seat, Sandboxes, slot_of, slots_of, state_in, IsSafeSeat, IsSafeWorld, StaysOutside}
 use Rattle.sfi_host.specs.Moves.{StepsAlone, Move, after_move, AreMoves, own_turn, own_turns, turns_to, IsRunBetween, AreRuns, AreSafeRuns}
 use Rattle.sfi_host.proofs.SafeSeats as keep
 use Rattle.sfi_host.proofs.Neighbours.{get_set_same, get_set_other, other_same, slots_are, world_safe, neighbours_are}
-use Rattle.sfi_host.proofs.SamePart.{safe_run}
 use Rattle.sfi_host.proofs.SameWorld.{outside_more, same_bounds}
+
+-- ---- a run that is safe for a part is safe for another one that lies there with the same code
+
+module _ (q p : Part) (same : bounds_of q ≡ bounds_of p) (m : Bytes) (there : HasCode q m) (code : HasCode p m) where
+  in_code : (a : ℕ) → InCode q a → InCode p a
+  in_code a h = subst (λ (b : Bounds). Holds b.code a) same h
+
+  in_data : (a : ℕ) → InData q a → InData p a
+  in_data a h = subst (λ (b : Bounds). Holds b.data a) same h
+
+  in_guard : (a : ℕ) → InGuard q a → InGuard p a
+  in_guard a h = subst (λ (b : Bounds). InGuards b.data a) same h
+
+  guard_in : (a : ℕ) → InGuard p a → InGuard q a
+  guard_in a h = subst (λ (b : Bounds). InGuards b.data a) (sym same) h
+
+  is_gate : (a : ℕ) → IsGate q a → IsGate p a
+  is_gate a h = subst (λ (b : Bounds). (k : ℕ) × (g : Gate) × (slice_get b.gates k ≡ Some g) × (g.address ≡ a)) same h
+
+  -- the code bytes of both are those of one memory
+  has_code : (w : Bytes) → HasCode q w → HasCode p w
+  has_code w h k below =
+      let low : k < length q.code = subst (λ (b : Bounds). k < b.code.size) (sym same) below in
+      let base : q.code_base ≡ p.code_base = ap (λ (b : Bounds). b.code.base) same in
+      ap (λ (b : ℕ). byte_at w (b + k)) (sym base) ∙ h k low ∙ sym (there k low) ∙ ap (λ (b : ℕ). byte_at m (b + k)) base ∙ code k below
+
+  safe_state : (s : State) → IsSafeState q s → IsSafeState p s
+  safe_state s h = record {
+    code = has_code s.memory h.code;
+    present = h.present;
+    pc = in_code s.hart.pc h.pc;
+    instruction = λ i n stands k below. in_code _ (h.instruction i n stands k below);
+  }
+
+  safe_turn : (s : State) (turn : Turn) → IsSafeTurn q s turn → IsSafeTurn p s turn
+  safe_turn s (Steps r) h = record {
+    within = λ i n stands a accesses. elim (h.within i n stands a accesses) [ inl d ↦ inl (in_data a d) | inr g ↦ inr (in_guard a g) ];
+    trapped = λ i n stands a accesses inside. h.trapped i n stands a accesses (guard_in a inside);
+    called = λ e. is_gate s.hart.pc (h.called e);
+  }
+  safe_turn s (Replies after) h = is_gate s.hart.pc h
+  safe_turn s (Changes after) h = tt
+
+  pub safe_run : (o : Option State) (turns : List Turn) → IsSafeRun q o turns → IsSafeRun p o turns
+  safe_run None turns h = tt
+  safe_run (Some s) [] h = safe_state s h
+  safe_run (Some s) (turn ∷ turns) h = (safe_state s h.0, safe_turn s turn h.1, safe_run (after_turn turn) turns h.2)
 
 -- ---- what is known of a move
 
@@ -58,8 +108,7 @@ both_keep p m n w f g = record {
 -- what holds of its turns where it goes on after one, and where that is the last
 by_status : (P : List Turn → Type 0) (turn : Turn) (later : List Turn) (status : Status) → (status ≡ Ready → P (turn ∷ later)) → (status ≢ Ready → P (turn ∷ [])) → P (own_turns status turn later)
 by_status P turn later Ready on last = on refl
-by_status P turn later (Exited n) on last = last (λ e. cc)
-by_status P turn later (Trapped cause at) on last = last (λ e. cc)
+by_status P turn later status on last = last (λ e. cc)
 
 -- ---- one move, and what comes then
 

@@ -1,5 +1,5 @@
 -- What the turn of one sandbox leaves of the others.
-use Rattle.std.proofs.Common.{◌≡◌, ◌≢◌, ℕ, zero, suc, ◌+◌, ◌-◌, ◌<◌, ◌≤◌, ◌⊎◌, inl, inr, ⊎_elim, List, [], ◌∷◌, map, set, Some, is_some, slice_get, refl, sym, ap, ◌∙◌, subst, arith}
+use Rattle.std.proofs.Common.{◌≡◌, ◌≢◌, ℕ, zero, suc, ◌⊎◌, inl, inr, ⊎_elim, List, [], ◌∷◌, map, set, Some, is_some, slice_get, refl, sym, ap, ◌∙◌, subst, arith}
 use Rattle.std.proofs.lemmas.Bool.{cases_eq}
 use Rattle.std.proofs.lemmas.Option.{same_Some}
 use Rattle.rv_mem.specs.Bytes.{Bytes, IsMemory, byte_at}
@@ -62,13 +62,10 @@ module _ (m n : Bytes) (b : Bounds) (left : StaysOutside b.data m n) (t : Seat) 
   -- and its slot is the same
   pub other_same : slot_of n t ≡ slot_of m t
   other_same =
-      ap (λ (x : Bytes). slot_with x)
+      ap (λ (x : Bytes). let y : Slot = record { bounds = t.bounds; hart = t.hart; status = t.status; steps = t.steps; bytes = x } in y)
       (same_own t.bounds (own t.bounds n) m
-      (λ a e. own_there t.bounds n a e ∙ ⊎_elim (λ (c : Holds t.bounds.code a). code_same a c) (λ (d : Holds t.bounds.data a). data_same a d) (own_is t.bounds a e))
+      (λ a e. own_there t.bounds n a e ∙ ⊎_elim (code_same a) (data_same a) (own_is t.bounds a e))
       (λ a e. own_missing t.bounds n a e))
-    where
-      slot_with : Bytes → Slot
-      slot_with x = record { bounds = t.bounds; hart = t.hart; status = t.status; steps = t.steps; bytes = x }
 
 -- ---- all of them
 

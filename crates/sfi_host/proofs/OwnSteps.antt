@@ -1,5 +1,5 @@
 -- A step in the one memory, and the same step in the sandbox's own.
-use Rattle.std.proofs.Common.{◌≡◌, ◌≢◌, ℕ, ◌+◌, ◌≤◌, ◌⊎◌, inl, inr, ⊎_elim, ◌||◌, Bool, true, false, cond, None, refl, sym, ap, ◌∙◌, subst, arith}
+use Rattle.std.proofs.Common.{◌≡◌, ◌≢◌, ℕ, ◌⊎◌, inl, inr, ⊎_elim, Bool, true, false, cond, None, refl, sym, ap, ◌∙◌, subst}
 use Rattle.std.proofs.lemmas.Bool.{or_left, or_right, or_cases}
 use Rattle.rv_mem.specs.Bytes.{Bytes, byte_at}
 use Rattle.rv_step.specs.declared.outcome.Outcome.{Outcome}
@@ -7,7 +7,7 @@ use Rattle.rv_step.specs.declared.outcome.Outcome.TheVariants.{Next, Call, Trap}
 use Rattle.rv_step.specs.Access.{Accesses}
 use Rattle.rv_step.specs.Laws.{AgreeHere, IsSameStep}
 use Rattle.rv_step.proofs.Facts.{agreeing_stands_too, agreeing_steps_are_same, other_bytes_stay, stopped_stays, step_keeps_state, no_byte_goes, calls_are_ecalls}
-use Rattle.rv_step.specs.State.{Hart, State}
+use Rattle.rv_step.specs.State.{State}
 use Rattle.rv_step.specs.Step.{Stepped, Stands, IsStep}
 use Rattle.sfi_image.specs.Spans.{Holds}
 use Rattle.sfi_check.specs.Regions.{InCode, InData, InGuard}
@@ -20,7 +20,7 @@ use Rattle.sfi_host.specs.Slots.{Bounds, is_own, own, state_of}
 use Rattle.sfi_host.specs.Joint.{Machine, IsMachine}
 use Rattle.sfi_host.specs.Worlds.{Seat, slot_of, state_in, IsSafeSeat, StaysOutside}
 use Rattle.sfi_host.specs.Steps.{own_step, stepped_seat, IsOwnStep, StepsAreOwn}
-use Rattle.sfi_host.proofs.SafeSeats.{code_at}
+use Rattle.sfi_host.proofs.SafeSeats as keep
 use Rattle.sfi_host.proofs.Stops.{trap_itself}
 use Rattle.sfi_host.proofs.RegionBytes.{get_kept, same_bytes, is_in-true, is_in-Holds}
 
@@ -54,19 +54,9 @@ same_own b w m there missing = same_bytes w (own b m) (λ a.
 pub true_false : (b : Bool) → b ≡ true → b ≡ false → ⊥
 true_false b t f = cc
 
-abbrev stepped_of : Outcome → Hart → Bytes → Stepped
-stepped_of o h w = record { outcome = o; state = record { hart = h; memory = w } }
-
-stepped_is : (q : Stepped) (o : Outcome) (h : Hart) (w : Bytes) → q.outcome ≡ o → q.state.hart ≡ h → q.state.memory ≡ w → q ≡ record { outcome = o; state = record { hart = h; memory = w } }
-stepped_is q o h w e f g =
-    ap (λ (x : Outcome). stepped_of x q.state.hart q.state.memory) e
-    ∙ ap (λ (x : Hart). stepped_of o x q.state.memory) f
-    ∙ ap (λ (x : Bytes). stepped_of o h x) g
-
 is_trap_not : (o : Outcome) → o ≡ Next → IsTrap o → ⊥
-is_trap_not Next e t = t
-is_trap_not Call e t = t
 is_trap_not (Trap cause at) e t = cc
+is_trap_not o e t = t
 
 module _ (m : Bytes) (s : Seat) (r : Stepped) (seat : IsSafeSeat m s) (ready : s.status ≡ Ready) (step : IsStep (state_in m s) r) where
   from : RunsSafelyFrom seat.part (state_in m s)
@@ -81,29 +71,9 @@ module _ (m : Bytes) (s : Seat) (r : Stepped) (seat : IsSafeSeat m s) (ready : s
   in_code : (a : ℕ) → InCode seat.part a → Holds s.bounds.code a
   in_code a h = subst (λ (b : Bounds). Holds b.code a) (sym seat.bounds) h
 
-  data_in : (a : ℕ) → Holds s.bounds.data a → InData seat.part a
-  data_in a h = subst (λ (b : Bounds). Holds b.data a) seat.bounds h
-
-  code_in : (a : ℕ) → Holds s.bounds.code a → InCode seat.part a
-  code_in a h = subst (λ (b : Bounds). Holds b.code a) seat.bounds h
-
-  room : 4096 ≤ seat.part.data_base
-  room = seat.right.guard_room.below
-
-  guard_not_data : (a : ℕ) → InGuard seat.part a → InData seat.part a → ⊥
-  guard_not_data a (inl low) inside = let room' = room in omega arith
-  guard_not_data a (inr high) inside = omega arith
-
-  guard_not_code : (a : ℕ) → InGuard seat.part a → InCode seat.part a → ⊥
-  guard_not_code a (inl low) inside = let room' = room in seat.apart a inside (omega arith, omega arith)
-  guard_not_code a (inr high) inside = let room' = room in seat.apart a inside (omega arith, omega arith)
-
-  data_not_code : (a : ℕ) → InData seat.part a → InCode seat.part a → ⊥
-  data_not_code a inner inside = let room' = room in seat.apart a inside (omega arith, omega arith)
-
   guard_not_own : (a : ℕ) → InGuard seat.part a → is_own s.bounds a ≡ false
   guard_not_own a guard = elim (is_own s.bounds a) as (λ t. is_own s.bounds a ≡ t → t ≡ false) [
-    | true ↦ λ t. absurd (⊎_elim (λ (c : Holds s.bounds.code a). guard_not_code a guard (code_in a c)) (λ (d : Holds s.bounds.data a). guard_not_data a guard (data_in a d)) (own_is s.bounds a t))
+    | true ↦ λ t. absurd (⊎_elim (keep.guard_not_code m s seat seat.part seat.bounds a guard) (keep.guard_not_data m s seat seat.part seat.bounds a guard) (own_is s.bounds a t))
     | false ↦ λ t. refl
   ] refl
 
@@ -149,20 +119,10 @@ module _ (m : Bytes) (s : Seat) (r : Stepped) (seat : IsSafeSeat m s) (ready : s
       (λ stopped. ap (λ (x : State). byte_at x.memory a) (stopped_stays (state_in m s) r step stopped))
 
   safe_next : r.outcome ≡ Next → (steps : ℕ) → IsSafeSeat r.state.memory (stepped_seat s r steps)
-  safe_next done steps = record {
-    part = seat.part;
-    bounds = seat.bounds;
-    right = seat.right;
-    state = step_keeps_state (state_in m s) r seat.state step;
-    apart = seat.apart;
-    code = λ k below.
-        let there = code_at seat.part k below in
-        stays_outside (seat.part.code_base + k) (λ inside. data_not_code _ (data_in _ inside) there) ∙ seat.code k below;
-    guards = λ a guard. stays_outside a (λ inside. guard_not_data a guard (data_in a inside)) ∙ seat.guards a guard;
-    has_data = λ a inside. no_byte_goes (state_in m s) r a step (seat.has_data a inside);
-    safe = λ e. goes_on_safely seat.part (state_in m s) r.state (Steps r) (seat.safe ready) step (ap (λ (o : Outcome). after_step o r.state) done);
-    stopped = tt;
-  }
+  safe_next done steps =
+      keep.again m s seat r.state.memory (stepped_seat s r steps) refl (step_keeps_state (state_in m s) r seat.state step)
+      (keep.own_kept m s seat seat.part seat.bounds r.state.memory stays_outside) (λ a inside. no_byte_goes (state_in m s) r a step (seat.has_data a inside))
+      (λ e. goes_on_safely seat.part (state_in m s) r.state (Steps r) (seat.safe ready) step (ap (λ (o : Outcome). after_step o r.state) done)) tt
 
   -- ---- alone
 
@@ -181,8 +141,9 @@ module _ (m : Bytes) (s : Seat) (r : Stepped) (seat : IsSafeSeat m s) (ready : s
         ∙ own_missing s.bounds m a out)
 
     alone : machine (state_of (slot_of m s)) ≡ own_step s.bounds r
-    alone = stepped_is (machine (state_of (slot_of m s))) _ _ _ same.outcome same.hart
-        (same_own s.bounds (machine (state_of (slot_of m s))).state.memory r.state.memory (λ a e. same.bytes a (own_there s.bounds m a e)) nothing_else)
+    alone =
+        let bytes = same_own s.bounds (machine (state_of (slot_of m s))).state.memory r.state.memory (λ a e. same.bytes a (own_there s.bounds m a e)) nothing_else in
+        λ k. record { outcome = same.outcome k; state = record { hart = same.hart k; memory = bytes k } }
 
   own_is_step : IsOwnStep m s r
   own_is_step = record {

@@ -1,13 +1,14 @@
--- One turn at the front of a plan.
-use Rattle.std.proofs.Common.{◌≡◌, ℕ, zero, suc, ◌+◌, Bool, true, false, List, [], ◌∷◌, Option, Some, None, slice_get, set, refl, sym, ap, ◌∙◌, subst, arith}
+-- What a plan comes to, by the turn at its front; and one plan after another.
+use Rattle.std.proofs.Common.{◌≡◌, ℕ, zero, suc, ◌+◌, Bool, true, false, List, [], ◌∷◌, Option, Some, None, length, slice_get, set, refl, sym, ap, ◌∙◌, arith, cond, ◌++◌, append_assoc}
 use Rattle.sfi_host.specs.declared.turn.Turn.{Turn}
-use Rattle.sfi_host.specs.declared.turn.StepResult.{StepResult}
 use Rattle.sfi_host.specs.declared.turn.StepResult.TheVariants.{TurnEnds, RunEnds}
 use Rattle.sfi_host.specs.Hosts.{Call, Answer, Host, Limited, limited}
 use Rattle.sfi_host.specs.Slots.{Slot}
-use Rattle.sfi_host.specs.Joint.{Machine, turned, Joined, joined, joint, given, and_plan, turn_and, after_turn}
-use Rattle.sfi_host.specs.Plans.{IsJoint, IsCutJoint}
-use Rattle.sfi_host.specs.private.Limits.{allow, allows, with_left, Comes, IsTurnOf, IsCutTurnOf}
+use Rattle.sfi_host.specs.Joint.{Machine, Moved, still, Joined, joined, joint, and_plan, turn_and, after_turn, turned, Given, given}
+use Rattle.sfi_host.specs.Plans.{IsJoint, IsRefusedIn, IsCutJoint}
+use Rattle.sfi_host.specs.private.Limits.{allow, allows, with_left, end_of, limited_turn, IsTurnOf, IsCutTurnOf}
+use Rattle.sfi_host.specs.declared.turn.StepResult.{StepResult}
+use Rattle.sfi_host.specs.Following.{after_run, JoinedFollows}
 
 -- ---- limits
 
@@ -37,73 +38,115 @@ none_joint machine answer old before = record { slots = refl; host = refl; turns
 
 -- ---- one turn, and the rest of a plan
 
--- two runs come to the same, the first with so many turns more
-pub record SamePlan {S : Type 0} (more : ℕ) (a b : Joined (Limited S)) : Type 0 where
-  pub slots_are : a.slots ≡ b.slots
-  pub host_is : a.host ≡ b.host
-  pub turns_are : a.turns ≡ more + b.turns
-  pub ended_is : a.is_ended ≡ b.is_ended
+-- a run, but for its replies
+abbrev pub bare : {S : Type 0} → Joined S → Joined S
+bare j = record j { replies = [] }
 
--- the replies of a turn don't matter
-same_after : {S : Type 0} (j k : Joined (Limited S)) (gs : List _) → j ≡ after_turn gs k → SamePlan 1 j k
-same_after j k gs e = record {
-  slots_are = ap (λ (x : Joined _). x.slots) e;
-  host_is = ap (λ (x : Joined _). x.host) e;
-  turns_are = ap (λ (x : Joined _). x.turns) e ∙ (let z : suc k.turns ≡ 1 + k.turns = omega arith in z);
-  ended_is = ap (λ (x : Joined _). x.is_ended) e;
+-- one in which so many turns were begun, which a call ended or not
+abbrev pub run_end : {S : Type 0} → List Slot → S → Option ℕ → ℕ → Bool → Joined (Limited S)
+run_end slots host left turns ended = record { slots = slots; host = with_left host left; replies = []; turns = turns; is_ended = ended }
+
+-- the same, after one turn more
+abbrev pub with_turn : {S : Type 0} → Joined S → Joined S
+with_turn j = bare (after_turn [] j)
+
+-- each turn of a plan was taken
+pub is_joint : {S : Type 0} (machine : Machine) (answer : S → Call → Answer S) (plan : List Turn) (old new : List Slot) (before after : S)
+    → bare (joint machine answer plan old before None) ≡ run_end new after None (length plan) false → IsJoint machine answer plan old before new after
+is_joint {S} machine answer plan old new before after e = record {
+  slots = sym (ap (λ (j : Joined (Limited S)). j.slots) e);
+  host = sym (ap (λ (j : Joined (Limited S)). j.host.host) e);
+  turns = ap (λ (j : Joined (Limited S)). j.turns) e;
+}
+
+-- a call ended the run in the turn at that place
+pub is_cut : {S : Type 0} (machine : Machine) (answer : S → Call → Answer S) (may_refuse : S → Call → Bool) (plan : List Turn) (old new : List Slot) (before after : S) (n place : ℕ) (j : Joined (Limited S))
+    → bare (joint machine answer plan old before (Some n)) ≡ j → new ≡ j.slots → after ≡ j.host.host → j.is_ended ≡ true → j.turns ≡ place + 1 → IsRefusedIn machine may_refuse plan place new after
+    → IsCutJoint machine answer may_refuse plan old before place new after
+is_cut {S} machine answer may_refuse plan old new before after n place j e slots host ended turns refused = record {
+  answered = n;
+  slots = slots ∙ sym (ap (λ (x : Joined (Limited S)). x.slots) e);
+  host = host ∙ sym (ap (λ (x : Joined (Limited S)). x.host.host) e);
+  ended = ap (λ (x : Joined (Limited S)). x.is_ended) e ∙ ended;
+  turns = ap (λ (x : Joined (Limited S)). x.turns) e ∙ turns;
+  refused = refused;
 }
 
 module _ {S : Type 0} (machine : Machine) (answer : S → Call → Answer S) (t : Turn) (old : List Slot) (before : S) where
   -- a turn that names no sandbox
-  pub none_then : (left : Option ℕ) → slice_get old t.sandbox ≡ None → (rest : List Turn) → SamePlan 1 (joined machine (limited answer) (t ∷ rest) old (with_left before left)) (joined machine (limited answer) rest old (with_left before left))
-  none_then left e rest = same_after _ _ [] (joined_cons machine (limited answer) t rest old (with_left before left) None e)
+  pub none_then : (left : Option ℕ) → slice_get old t.sandbox ≡ None → (rest : List Turn) → bare (joint machine answer (t ∷ rest) old before left) ≡ with_turn (joint machine answer rest old before left)
+  none_then left e rest = ap bare (joined_cons machine (limited answer) t rest old (with_left before left) None e)
 
   -- of a plan with one turn it is the whole
-  pub is_joint : (new : List Slot) (after : S) → SamePlan 1 (joined machine (limited answer) (t ∷ []) old (with_left before None)) (joined machine (limited answer) [] new (with_left after None)) → IsJoint machine answer (t ∷ []) old before new after
-  is_joint new after same =
-      let nil = joined_nil machine (limited answer) new (with_left after None) in
-      record {
-        slots = sym (same.slots_are ∙ ap (λ (j : Joined _). j.slots) nil);
-        host = sym (ap (λ (l : Limited S). l.host) same.host_is ∙ ap (λ (j : Joined (Limited S)). j.host.host) nil);
-        turns = same.turns_are ∙ ap (λ (j : Joined _). 1 + j.turns) nil;
-      }
+  pub one_joint : (new : List Slot) (after : S) → bare (joint machine answer (t ∷ []) old before None) ≡ with_turn (joint machine answer [] new after None) → IsJoint machine answer (t ∷ []) old before new after
+  one_joint new after e = is_joint machine answer (t ∷ []) old new before after (e ∙ ap with_turn (joined_nil machine (limited answer) new (with_left after None)))
 
-  module _ (slot new : Slot) (after : S) (at : slice_get old t.sandbox ≡ Some slot) where
-    -- a turn of a sandbox
-    pub turn_then : (given left : Option ℕ) → Comes (turned machine (limited answer) t.sandbox t.steps slot (with_left before given)) new after left TurnEnds → (rest : List Turn)
-        → SamePlan 1 (joined machine (limited answer) (t ∷ rest) old (with_left before given)) (joined machine (limited answer) rest (set old t.sandbox new) (with_left after left))
-    turn_then allowed left comes rest =
-        let m = turned machine (limited answer) t.sandbox t.steps slot (with_left before allowed) in
-        same_after _ _ (given t.sandbox m.replies)
-        (joined_cons machine (limited answer) t rest old (with_left before allowed) (Some slot) at
-        ∙ ap (λ (x : StepResult). and_plan x t.sandbox m old (joined machine (limited answer) rest)) comes.next_is
-        ∙ ap (λ (x : Slot). after_turn (given t.sandbox m.replies) (joined machine (limited answer) rest (set old t.sandbox x) m.host)) comes.slot_is
-        ∙ ap (λ (x : Limited S). after_turn (given t.sandbox m.replies) (joined machine (limited answer) rest (set old t.sandbox new) x)) comes.host_is)
+  module _ (slot : Slot) (at : slice_get old t.sandbox ≡ Some slot) where
+    -- a turn of a sandbox, by what it comes to
+    pub turn_then : (left : Option ℕ) (e : Moved (Limited S)) → end_of (limited_turn machine answer t.sandbox t.steps slot before left) ≡ e → (rest : List Turn)
+        → bare (joint machine answer (t ∷ rest) old before left)
+        ≡ bare (and_plan e.next t.sandbox (record e { replies = (limited_turn machine answer t.sandbox t.steps slot before left).replies }) old (joined machine (limited answer) rest))
+    turn_then left e ends rest =
+        let m = limited_turn machine answer t.sandbox t.steps slot before left in
+        ap bare (joined_cons machine (limited answer) t rest old (with_left before left) (Some slot) at)
+        ∙ ap (λ (x : Moved (Limited S)). bare (and_plan x.next t.sandbox (record x { replies = m.replies }) old (joined machine (limited answer) rest))) ends
 
-    pub one_turn : IsTurnOf machine answer t.sandbox t.steps slot before new after → IsJoint machine answer (t ∷ []) old before (set old t.sandbox new) after
-    one_turn turn = is_joint (set old t.sandbox new) after
-        (turn_then None None (subst (λ (x : Option ℕ). Comes (turned machine (limited answer) t.sandbox t.steps slot (with_left before x)) new after None TurnEnds) (no_limit turn.answers) (turn.is None)) [])
+    module _ (new : Slot) (after : S) where
+      pub one_turn : IsTurnOf machine answer t.sandbox t.steps slot before new after → IsJoint machine answer (t ∷ []) old before (set old t.sandbox new) after
+      one_turn turn = one_joint (set old t.sandbox new) after
+          (turn_then None (still new (with_left after None) TurnEnds)
+          (ap (λ (x : Option ℕ). end_of (limited_turn machine answer t.sandbox t.steps slot before x)) (sym (no_limit turn.answers)) ∙ turn.is None) [])
 
-    -- one that ends the run
-    pub turn_ends : (n : ℕ) (left : Option ℕ) → Comes (turned machine (limited answer) t.sandbox t.steps slot (with_left before (Some n))) new after left RunEnds → (rest : List Turn)
-        → joint machine answer (t ∷ rest) old before (Some n) ≡ record { slots = set old t.sandbox new; host = with_left after left; replies = given t.sandbox (turned machine (limited answer) t.sandbox t.steps slot (with_left before (Some n))).replies; turns = 1; is_ended = true }
-    turn_ends n left comes rest =
-        let m = turned machine (limited answer) t.sandbox t.steps slot (with_left before (Some n)) in
-        joined_cons machine (limited answer) t rest old (with_left before (Some n)) (Some slot) at
-        ∙ ap (λ (x : StepResult). and_plan x t.sandbox m old (joined machine (limited answer) rest)) comes.next_is
-        ∙ ap (λ (x : Slot). let j : Joined (Limited S) = record { slots = set old t.sandbox x; host = m.host; replies = given t.sandbox m.replies; turns = 1; is_ended = true } in j) comes.slot_is
-        ∙ ap (λ (x : Limited S). let j : Joined (Limited S) = record { slots = set old t.sandbox new; host = x; replies = given t.sandbox m.replies; turns = 1; is_ended = true } in j) comes.host_is
+      pub cut_turn : (may_refuse : S → Call → Bool) → slice_get (set old t.sandbox new) t.sandbox ≡ Some new → IsCutTurnOf machine answer may_refuse t.sandbox t.steps slot before new after
+          → IsCutJoint machine answer may_refuse (t ∷ []) old before 0 (set old t.sandbox new) after
+      cut_turn may_refuse there turn =
+          is_cut machine answer may_refuse (t ∷ []) old (set old t.sandbox new) before after (turn.answers + 0) 0 (run_end (set old t.sandbox new) after (Some 0) 1 true)
+          (turn_then (Some (turn.answers + 0)) (still new (with_left after (Some 0)) RunEnds)
+          (ap (λ (x : Option ℕ). end_of (limited_turn machine answer t.sandbox t.steps slot before x)) (sym (allows_some turn.answers 0)) ∙ turn.is) [])
+          refl refl refl refl (record { turn = t; turn_is = refl; slot = new; slot_is = there; refused = turn.refused })
 
-    pub cut_turn : (may_refuse : S → Call → Bool) → slice_get (set old t.sandbox new) t.sandbox ≡ Some new → IsCutTurnOf machine answer may_refuse t.sandbox t.steps slot before new after
-        → IsCutJoint machine answer may_refuse (t ∷ []) old before 0 (set old t.sandbox new) after
-    cut_turn may_refuse there turn =
-        let n = turn.answers + 0 in
-        let e = turn_ends n (Some 0) (subst (λ (x : Option ℕ). Comes (turned machine (limited answer) t.sandbox t.steps slot (with_left before x)) new after (Some 0) RunEnds) (allows_some turn.answers 0) turn.is) [] in
-        record {
-          answered = n;
-          slots = sym (ap (λ (j : Joined _). j.slots) e);
-          host = sym (ap (λ (j : Joined (Limited S)). j.host.host) e);
-          ended = ap (λ (j : Joined _). j.is_ended) e;
-          turns = ap (λ (j : Joined _). j.turns) e;
-          refused = record { turn = t; turn_is = refl; slot = new; slot_is = there; refused = turn.refused };
-        }
+-- ---- one plan after another
+
+-- a run, and what follows it if no call ended it
+abbrev and_run : {S : Type 0} → Joined S → (List Slot → S → Joined S) → Joined S
+and_run j rest = cond j.is_ended j (after_run j (rest j.slots j.host))
+
+-- a turn before both is a turn before the first
+turn_before : {S : Type 0} (gs : List Given) (j : Joined S) (ended : Bool) (rest : List Slot → S → Joined S)
+    → after_turn gs (cond ended j (after_run j (rest j.slots j.host)))
+    ≡ cond ended (after_turn gs j) (after_run (after_turn gs j) (rest j.slots j.host))
+turn_before gs j true rest = refl
+turn_before gs j false rest =
+    let k = rest j.slots j.host in
+    let one_more : suc (j.turns + k.turns) ≡ suc j.turns + k.turns = omega arith in
+    let replies = sym (append_assoc gs j.replies k.replies) in
+    λ x. record { slots = k.slots; host = k.host; replies = replies x; turns = one_more x; is_ended = k.is_ended }
+
+-- `both` is `one` and what follows it
+abbrev IsBoth : {S : Type 0} → (one both rest : List Slot → S → Joined S) → Type 0
+IsBoth {S} one both rest = (slots : List Slot) (s : S) → both slots s ≡ and_run (one slots s) rest
+
+turn_first : {S : Type 0} (next : StepResult) (i : ℕ) (m : Moved S) (slots : List Slot) (one both rest : List Slot → S → Joined S) → IsBoth one both rest
+    → and_plan next i m slots both ≡ and_run (and_plan next i m slots one) rest
+turn_first RunEnds i m slots one both rest same = refl
+turn_first next i m slots one both rest same =
+    let j = one (set slots i m.slot) m.host in
+    ap (λ (x : Joined _). after_turn (given i m.replies) x) (same (set slots i m.slot) m.host) ∙ turn_before (given i m.replies) j j.is_ended rest
+
+found_first : {S : Type 0} (machine : Machine) (host : Host S) (t : Turn) (slots : List Slot) (s : S) (found : Option Slot) (one both rest : List Slot → S → Joined S) → IsBoth one both rest
+    → turn_and machine host t slots s found both ≡ and_run (turn_and machine host t slots s found one) rest
+found_first machine host t slots s None one both rest same =
+    ap (λ (x : Joined _). after_turn [] x) (same slots s) ∙ turn_before [] (one slots s) (one slots s).is_ended rest
+found_first machine host t slots s (Some slot) one both rest same =
+    let m = turned machine host t.sandbox t.steps slot s in
+    turn_first m.next t.sandbox m slots one both rest same
+
+pub follows : {S : Type 0} → JoinedFollows S
+unfolding joined
+follows machine host [] q slots s =
+    let j = joined machine host q slots s in
+    let none : j.turns ≡ 0 + j.turns = omega arith in
+    ap (λ (n : ℕ). let x : Joined _ = record { slots = j.slots; host = j.host; replies = j.replies; turns = n; is_ended = j.is_ended } in x) none
+follows machine host (t ∷ p) q slots s =
+    found_first machine host t slots s (slice_get slots t.sandbox) (joined machine host p) (joined machine host (p ++ q)) (joined machine host q)
+    (λ slots s. follows machine host p q slots s)

@@ -2,7 +2,7 @@
 use Rattle.std.proofs.Common.{◌≡◌, ◌≢◌, ℕ, ◌<◌, ◌^◌, Bool, refl, sym, ap, ◌∙◌, subst, arith}
 use Rattle.rv_mem.specs.Bytes.{Bytes, IsMemory}
 use Rattle.rv_word.specs.declared.instr.Instr.TheVariants.{Ecall}
-use Rattle.rv_step.specs.State.{Hart, past}
+use Rattle.rv_step.specs.State.{past}
 use Rattle.rv_step.specs.Step.{Stands}
 use Rattle.sfi_host.specs.declared.status.Status.{Status}
 use Rattle.sfi_host.specs.declared.status.Status.TheVariants.{Ready}
@@ -15,25 +15,15 @@ use Rattle.sfi_host.specs.declared.turn.StepResult.{StepResult}
 use Rattle.sfi_host.specs.declared.turn.StepResult.TheVariants.{Continue, RunEnds}
 use Rattle.sfi_host.specs.Answering.{spoken}
 use Rattle.sfi_host.specs.Guests.{call_by}
-use Rattle.sfi_host.specs.Hosts.{Call, Way, Replied, Yield, Exit, Reply, Answer}
+use Rattle.sfi_host.specs.Hosts.{Call, Way, Replied, Exit, Reply, Answer}
 use Rattle.sfi_host.specs.Regions.{bytes_in, IsWhole}
-use Rattle.sfi_host.specs.Slots.{Bounds, Slot, one_more, own}
+use Rattle.sfi_host.specs.Slots.{one_more, own}
 use Rattle.sfi_host.specs.Joint.{word, call_of, with_arguments, with_data, after_way, status_after, replied, next_after}
 use Rattle.sfi_host.specs.Sandboxes.{seat_of}
 use Rattle.sfi_host.specs.private.Sandboxes.{IsReplied, IsNotReplied, request_by, IsTold, IsNotTold, after_ecall, after_told, next_after_answer}
 use Rattle.sfi_host.specs.Worlds.{slot_of, state_in, IsSafeSeat, StaysOutside}
 use Rattle.sfi_host.proofs.Leaving.{data_of_own, put_back, own_left}
 use Rattle.sfi_host.proofs.SafeSeats as keep
-
-abbrev slot_with : Bounds → Hart → Status → ℕ → Bytes → Slot
-slot_with b h status n bytes = record { bounds = b; hart = h; status = status; steps = n; bytes = bytes }
-
-slot_from : (b : Bounds) (h h' : Hart) (st st' : Status) (n : ℕ) (m m' : Bytes) → h ≡ h' → st ≡ st' → m ≡ m' → slot_with b h st n m ≡ slot_with b h' st' n m'
-slot_from b h h' st st' n m m' e f q =
-    ap (λ (x : Hart). slot_with b x st n m) e ∙ ap (λ (x : Status). slot_with b h' x n m) f ∙ ap (λ (x : Bytes). slot_with b h' st' n x) q
-
-arguments : (h : Hart) (a0 a1 b0 b1 : ℕ) → a0 ≡ b0 → a1 ≡ b1 → with_arguments h a0 a1 ≡ with_arguments h b0 b1
-arguments h a0 a1 b0 b1 e f = ap (λ (x : ℕ). with_arguments h x a1) e ∙ ap (λ (x : ℕ). with_arguments h b0 x) f
 
 word_is : (a b : ℕ) → a < 2 ^ 32 → a ≡ b → a ≡ word b
 word_is a b fits e = omega arith
@@ -46,20 +36,16 @@ asked_is number r m s e =
 
 by_way : (m n : Bytes) (s : Sandbox) (t : Told) (r : Reply) (w : Way) → s.status ≡ Ready → t.a0 ≡ word r.a0 → t.a1 ≡ word r.a1 → own (seat_of s).bounds n ≡ with_data (seat_of s).bounds (own (seat_of s).bounds m) r.bytes
     → slot_of n (seat_of (after_told (spoken w) s t)) ≡ replied (slot_of m (seat_of s)) (record { way = w; a0 = r.a0; a1 = r.a1; bytes = r.bytes })
-by_way m n s t r Replied ready x y b = slot_from (seat_of s).bounds _ _ _ _ (one_more s.steps) _ _ (ap (λ (h : Hart). past h 4) (arguments s.cpu _ _ _ _ x y)) ready b
-by_way m n s t r Yield ready x y b = slot_from (seat_of s).bounds _ _ _ _ (one_more s.steps) _ _ (ap (λ (h : Hart). past h 4) (arguments s.cpu _ _ _ _ x y)) ready b
-by_way m n s t r (Exit k) ready x y b = slot_from (seat_of s).bounds _ _ _ _ (one_more s.steps) _ _ (arguments s.cpu _ _ _ _ x y) refl b
+by_way m n s t r (Exit k) ready x y b = λ j. record { bounds = (seat_of s).bounds; hart = with_arguments s.cpu (x j) (y j); status = status_after (Exit k); steps = one_more s.steps; bytes = b j }
+by_way m n s t r w ready x y b = λ j. record { bounds = (seat_of s).bounds; hart = past (with_arguments s.cpu (x j) (y j)) 4; status = ready j; steps = one_more s.steps; bytes = b j }
 
 next_way : (w : Way) → next_after_answer (spoken w) ≡ next_after w
 next_way Replied = refl
-next_way Yield = refl
-next_way (Exit n) = refl
+next_way w = refl
 
 refused_answer : (a : GateAnswer) → next_after_answer a ≡ RunEnds → a ≡ gate.Memory
-refused_answer gate.Replied e = absurd (cc)
-refused_answer gate.Yield e = absurd (cc)
-refused_answer (gate.Exit n) e = absurd (cc)
 refused_answer gate.Memory e = refl
+refused_answer a e = absurd (cc)
 
 -- ---- the two ways in which a call ends
 
@@ -90,24 +76,20 @@ module _ {S : Type 0} (m n : Bytes) (s : Sandbox) (t : Told) (call : Call) (numb
       own_left (seat_of s).bounds m n out (b.data_bytes ∙ ap (λ (x : Call). x.bytes) is ∙ data_of_own (seat_of s).bounds m) in
       record {
         test = ap (may_refuse before) (sym is) ∙ b.test;
-        slot = ap (λ (a : GateAnswer). slot_of n (seat_of (after_told a s t))) e ∙ slot_from (seat_of s).bounds s.cpu s.cpu s.status s.status s.steps _ _ refl refl same;
+        slot = ap (λ (a : GateAnswer). slot_of n (seat_of (after_told a s t))) e ∙ (λ j. record { bounds = (seat_of s).bounds; hart = s.cpu; status = s.status; steps = s.steps; bytes = same j });
         host = b.state;
       }
 
 -- ---- the sandbox afterwards
 
 pub bounds_after : (a : GateAnswer) (s : Sandbox) (t : Told) → (seat_of (after_told a s t)).bounds ≡ (seat_of s).bounds
-bounds_after gate.Replied s t = refl
-bounds_after gate.Yield s t = refl
-bounds_after (gate.Exit n) s t = refl
 bounds_after gate.Memory s t = refl
+bounds_after a s t = refl
 
 -- where its turn goes on, a sandbox is ready as before
 pub still_ready : (a : GateAnswer) (s : Sandbox) (t : Told) (goes : StepResult) → goes ≡ next_after_answer a → goes ≡ Continue → s.status ≡ Ready → (after_told a s t).status ≡ Ready
 still_ready gate.Replied s t goes e more ready = ready
-still_ready gate.Yield s t goes e more ready = absurd (cc)
-still_ready (gate.Exit n) s t goes e more ready = absurd (cc)
-still_ready gate.Memory s t goes e more ready = absurd (cc)
+still_ready a s t goes e more ready = absurd (cc)
 
 pub safe_after : (m n : Bytes) (s : Sandbox) (t : Told) (a : GateAnswer) (size : ℕ) → IsSafeSeat m (seat_of s) → s.status ≡ Ready → Stands (state_in m (seat_of s)) Ecall size
     → IsMemory n → StaysOutside (seat_of s).bounds.data m n → IsWhole (seat_of s).bounds.data n → t.a0 < 2 ^ 32 → t.a1 < 2 ^ 32
@@ -121,7 +103,6 @@ safe_after m n s t a size seat ready stands memory stays whole f g = by_answer a
     goes_on = subst (λ (x : Status). IsSafeSeat n (record { bounds = (seat_of s).bounds; hart = past (with_arguments s.cpu t.a0 t.a1) 4; status = x; steps = one_more s.steps })) (sym ready) (after Replied)
 
     by_answer : (a : GateAnswer) → IsSafeSeat n (seat_of (after_told a s t))
-    by_answer gate.Replied = goes_on
-    by_answer gate.Yield = goes_on
     by_answer (gate.Exit k) = after (Exit k)
     by_answer gate.Memory = keep.own_changed m (seat_of s) seat n memory stays whole
+    by_answer a = goes_on

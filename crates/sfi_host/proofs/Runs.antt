@@ -1,12 +1,13 @@
 -- Bytes at consecutive addresses, which aren't taken modulo 2 ^ 32.
-use Rattle.std.proofs.Common.{◌≡◌, ◌↔◌, IsTrue, IsSome, is_some, ℕ, zero, suc, ◌+◌, ◌-◌, ◌^◌, ◌<◌, ◌≤◌, List, [], ◌∷◌, ◌++◌, length, Option, Some, None, refl, sym, ap, ◌∙◌, add-one, Bool, true, false, nat_le, arith}
-use Rattle.std.specs.Bool.{OnTrue}
+use Rattle.std.proofs.Common.{◌≡◌, ◌↔◌, IsTrue, IsSome, is_some, ℕ, zero, suc, ◌+◌, ◌-◌, ◌^◌, ◌<◌, ◌≤◌, List, [], ◌∷◌, ◌++◌, length, Option, Some, None, refl, sym, ap, ◌∙◌, add-one, Bool, true, false, nat_le, arith, ◌%◌, take, get_or}
+use Rattle.std.specs.Bool.{OnTrue, OnFalse}
 use Rattle.std.specs.List.{range_with_len}
 use Rattle.std.specs.FinMap.{insert}
-use Rattle.rv_mem.specs.Bytes.{Bytes, IsMemory, byte_at, bytes_at, with_bytes, in_front}
+use Rattle.rv_mem.specs.Bytes.{Bytes, IsMemory, byte_at, bytes_at, with_bytes, in_front, stored, IsThere}
 use Rattle.sfi_image.specs.declared.span.Span.{Span}
-use Rattle.sfi_host.specs.Regions.{bytes_in, IsWhole}
-use Rattle.sfi_host.proofs.RegionBytes.{held, byte_in, is_in-Holds, still_there}
+use Rattle.sfi_host.specs.Regions.{bytes_in, IsWhole, is_in, bytes_outside}
+use Rattle.sfi_host.proofs.RegionBytes.{held, byte_in, is_in-Holds, still_there, store_puts, put_outside, put_whole, kept_put}
+use Rattle.std.proofs.lemmas.List.{take_more, length-take, length-take-le}
 
 -- ---- which are there
 
@@ -112,17 +113,18 @@ not_covered s m a n h l = (forth, back)
     back : IsSome (bytes_at (bytes_in s m) (range_with_len a n)) → IsTrue (nat_le s.base a)
     back t = let x = held s m (a + 0) (each_there (bytes_in s m) a n 0 t l) in let y = x.0 in absurd (omega (arith, y))
 
+-- an address at which there is a byte
+pub there_below : (m : Bytes) (a : ℕ) → IsMemory m → (o : Option ℕ) → byte_at m a ≡ o → IsSome o → a < 2 ^ 32
+there_below m a memory None e h = absurd (cc)
+there_below m a memory (Some v) e h = memory.addresses a v e
+
 -- where all are there, they end at the last address at most
 pub ends_within : (s : Span) (m : Bytes) (a n : ℕ) → IsMemory m → 0 < n → IsSome (bytes_at (bytes_in s m) (range_with_len a n)) → a + n ≤ 2 ^ 32
 ends_within s m a n r l t =
     let x = last_there (bytes_in s m) a n t l in
     let y = ap is_some (sym (byte_in s m (a + (n - 1)) (is_in-Holds s (a + (n - 1)) (held s m (a + (n - 1)) x)))) ∙ x in
-    let z = below (byte_at m (a + (n - 1))) y refl in
+    let z = there_below m (a + (n - 1)) r (byte_at m (a + (n - 1))) refl y in
     omega arith
-  where
-    below : (o : Option ℕ) → IsSome o → byte_at m (a + (n - 1)) ≡ o → a + (n - 1) < 2 ^ 32
-    below None h e = absurd (cc)
-    below (Some b) h e = r.addresses (a + (n - 1)) b e
 
 pub covered_end : (s : Span) (m : Bytes) (a n q : ℕ) → IsMemory m → IsWhole s (bytes_in s m) → s.base ≤ a → 0 < n → q ≡ s.base + s.size - a
     → OnTrue (nat_le n q) (a + n ≤ 2 ^ 32)
@@ -141,3 +143,61 @@ pub with_keeps : (m : Bytes) (at bs : List ℕ) (q : ℕ) → IsSome (byte_at m 
 with_keeps m [] bs q h = h
 with_keeps m (a ∷ more) [] q h = h
 with_keeps m (a ∷ more) (b ∷ bs) q h = with_keeps (insert m a b) more bs q (still_there m a b q h)
+
+-- ---- bytes that are written one after another
+
+on_true : (r : Bool) (P : Type 0) → OnTrue r P → IsTrue r → P
+on_true true P h t = h
+on_true false P h t = absurd (cc)
+
+-- what these bytes leave
+abbrev pub written : Bytes → ℕ → List ℕ → Bytes
+written m at bs = with_bytes m (range_with_len at (length bs)) bs
+
+-- one byte more
+next_written : (m : Bytes) (all : List ℕ) (at i : ℕ) → i < length all
+    → insert (written m at (take i all)) (at + i) (get_or all i 0) ≡ written m at (take (i + 1) all)
+next_written m all at i l =
+    let now : length (take i all) ≡ i = length-take-le i all (omega arith) in
+    let then : length (take (i + 1) all) ≡ i + 1 = length-take-le (i + 1) all (omega arith) in
+    ap (λ k. insert (with_bytes m (range_with_len at k) (take i all)) (at + i) (get_or all i 0)) now
+    ∙ sym (write_more m at i (get_or all i 0) (take i all) now)
+    ∙ (λ j. with_bytes m (range_with_len at (sym then j)) (sym (take_more all i 0 l) j))
+
+-- the first i bytes are written in the region, and nothing else changed
+pub record HasWritten (s : Span) (m n : Bytes) (at to i : ℕ) (all : List ℕ) : Type 0 where
+  pub memory : n ≡ written m at (take i all)
+  pub inside : bytes_in s n ≡ written (bytes_in s m) at (take i all)
+  pub others : bytes_outside s n ≡ bytes_outside s m
+  pub whole : IsWhole s (bytes_in s m) → IsWhole s (bytes_in s n)
+  pub next : to ≡ (at + i) % 2 ^ 32
+
+pub none_written : (s : Span) (m : Bytes) (at : ℕ) (all : List ℕ) → at ≡ (at + 0) % 2 ^ 32 → HasWritten s m m at at 0 all
+none_written s m at all next = record { memory = refl; inside = refl; others = refl; whole = λ w. w; next = next }
+
+pub one_more_written : (s : Span) (m n o : Bytes) (all : List ℕ) (at to v i : ℕ) (done : Bool)
+    → IsSome (bytes_at (bytes_in s m) (range_with_len at (length all))) → at + length all ≤ 2 ^ 32 → i < length all → HasWritten s m n at to i all
+    → v ≡ get_or all i 0 → get_or all i 0 < 256 → (IsTrue done ↔ IsThere n to 1) → OnTrue done (o ≡ stored n to 1 v) → OnFalse done (o ≡ n)
+    → HasWritten s m o at ((to + 1) % 2 ^ 32) (i + 1) all
+one_more_written s m n o all at to v i done there room l h value small g d r =
+    let next = h.next in
+    let place : to ≡ at + i = omega (arith, next, room, l) in
+    let here : IsSome (byte_at (bytes_in s m) to) = ap (λ a. is_some (byte_at (bytes_in s m) a)) place ∙ each_there (bytes_in s m) at (length all) i there l in
+    let within : is_in s to ≡ true = is_in-Holds s to (held s m to here) in
+    let puts = store_puts s n o to v (get_or all i 0) done within (omega (arith, place, room, l)) value small g d r in
+    let kept : IsSome (byte_at (bytes_in s n) to) =
+    ap (λ x. is_some (byte_at x to)) h.inside ∙ with_keeps (bytes_in s m) (range_with_len at (length (take i all))) (take i all) to here in
+    let is : IsTrue done = puts.there.1 (ap is_some (sym (byte_in s n to within)) ∙ kept) in
+    let put : o ≡ insert n to (get_or all i 0) = on_true done _ puts.changed is in
+    record {
+      memory = put ∙ ap (λ x. insert x to (get_or all i 0)) h.memory ∙ ap (λ a. insert (written m at (take i all)) a (get_or all i 0)) place ∙ next_written m all at i l;
+      inside = ap (bytes_in s) put ∙ kept_put n (is_in s) to (get_or all i 0) within
+          ∙ ap (λ x. insert x to (get_or all i 0)) h.inside ∙ ap (λ a. insert (written (bytes_in s m) at (take i all)) a (get_or all i 0)) place ∙ next_written (bytes_in s m) all at i l;
+      others = put_outside s n o to (get_or all i 0) done puts ∙ h.others;
+      whole = λ w. put_whole s n o to (get_or all i 0) done puts (h.whole w);
+      next = omega (arith, next);
+    }
+
+-- some of a list are no more than were asked for
+pub few : (most a : ℕ) (xs ys : List ℕ) → ys ≡ take most xs → most ≡ a → length ys ≤ a
+few most a xs ys e f = let n = length-take most xs in rw e (omega (arith, n, f))

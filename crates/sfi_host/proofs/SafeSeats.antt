@@ -8,15 +8,17 @@ use Rattle.rv_step.specs.State.{Hart, IsHart, IsState, past}
 use Rattle.rv_step.specs.Step.{Stands}
 use Rattle.rv_step.proofs.Harts.{register_is, after_is}
 use Rattle.sfi_image.specs.Spelling.{Part}
-use Rattle.sfi_image.specs.Spans.{Holds, AreApart, with_guards}
+use Rattle.sfi_image.specs.Spans.{Holds, AreApart, with_guards, code_region, guarded_region}
 use Rattle.sfi_check.specs.Regions.{InCode, InData, InGuard, HasCode, StackInData}
-use Rattle.sfi_check.specs.Runs.{Replies, Changes, KeepsBytes, KeepsReserved, IsReply}
+use Rattle.sfi_check.specs.Runs.{IsEntry, Replies, Changes, KeepsBytes, KeepsReserved, IsReply}
+use Rattle.sfi_check.specs.Stack.{GoesSafelyFrom}
 use Rattle.sfi_check.proofs.Facts.{goes_on_safely}
 use Rattle.sfi_host.specs.declared.status.Status.TheVariants.{Ready}
+use Rattle.sfi_host.specs.Entering.{IsEnterable}
 use Rattle.sfi_host.specs.Regions.{IsWhole}
 use Rattle.sfi_host.specs.Slots.{Bounds, bounds_of, one_more}
 use Rattle.sfi_host.specs.Arguments.{a0_register, a1_register}
-use Rattle.sfi_host.specs.Hosts.{Way, Replied, Yield, Exit}
+use Rattle.sfi_host.specs.Hosts.{Way, Replied, Exit}
 use Rattle.sfi_host.specs.Joint.{word, with_arguments, after_way, status_after}
 use Rattle.sfi_host.specs.Laws.{CallsHaveStack, AnswersAreReplies}
 use Rattle.sfi_host.specs.Stops.{StoppedItself}
@@ -36,14 +38,14 @@ code_stays p m n keeps code k below = keeps.code (p.code_base + k) (code_at p k 
 
 module _ (m : Bytes) (s : Seat) (seat : IsSafeSeat m s) where
   room : 4096 ≤ s.bounds.data.base
-  room =
-      let below : 4096 ≤ seat.part.data_base = seat.right.guard_room.below in
-      let e : s.bounds.data.base ≡ seat.part.data_base = ap (λ (b : Bounds). b.data.base) seat.bounds in
-      omega arith
+  room = subst (λ (b : Bounds). 4096 ≤ b.data.base) (sym seat.bounds) seat.right.guard_room.below
 
   -- the data are among the addresses that are guarded
   pub data_guarded : (a : ℕ) → Holds s.bounds.data a → Holds (with_guards s.bounds.data) a
   data_guarded a h = let room' = room in (omega arith, omega arith)
+
+  apart : AreApart s.bounds.code (with_guards s.bounds.data)
+  apart = subst (λ (b : Bounds). AreApart b.code (with_guards b.data)) (sym seat.bounds) seat.apart
 
   -- ---- for a part that lies there
 
@@ -61,15 +63,15 @@ module _ (m : Bytes) (s : Seat) (seat : IsSafeSeat m s) where
     guard_guarded a (inl low) = let room' = room in let e = base_is in let f = size_is in (omega arith, omega arith)
     guard_guarded a (inr high) = let room' = room in let e = base_is in let f = size_is in (omega arith, omega arith)
 
-    guard_not_data : (a : ℕ) → InGuard p a → Holds s.bounds.data a → ⊥
+    pub guard_not_data : (a : ℕ) → InGuard p a → Holds s.bounds.data a → ⊥
     guard_not_data a (inl low) h = let room' = room in let e = base_is in omega arith
     guard_not_data a (inr high) h = let e = base_is in let f = size_is in omega arith
 
+    pub guard_not_code : (a : ℕ) → InGuard p a → Holds s.bounds.code a → ⊥
+    guard_not_code a guard inside = apart a inside (guard_guarded a guard)
+
     pub code_not_data : (a : ℕ) → InCode p a → Holds s.bounds.data a → ⊥
     code_not_data a inside h = apart a (code_in a inside) (data_guarded a h)
-      where
-        apart : AreApart s.bounds.code (with_guards s.bounds.data)
-        apart = subst (λ (b : Bounds). AreApart b.code (with_guards b.data)) (sym seat.bounds) seat.apart
 
     -- its own data alone may have changed
     pub own_kept : (n : Bytes) → StaysOutside s.bounds.data m n → KeepsBytes p m n
@@ -96,25 +98,28 @@ module _ (m : Bytes) (s : Seat) (seat : IsSafeSeat m s) where
     pub stack_kept : StackInData p s.hart.registers → (h : Hart) → slice_index h.registers 2 ≡ slice_index s.hart.registers 2 → StackInData p h.registers
     stack_kept lies h same has = subst (λ (a : ℕ). InData p a) (sym same) (lies has)
 
-  -- ---- a change by others
-
-  pub changed : (n : Bytes) → IsMemory n → KeepsBytes seat.part m n → IsWhole s.bounds.data n → IsSafeSeat n s
-  changed n memory keeps whole = record {
+  -- where code and guard zones are kept it is safe, if it goes on safely or has stopped itself
+  pub again : (n : Bytes) (t : Seat) → t.bounds ≡ s.bounds → IsState (state_in n t) → KeepsBytes seat.part m n → IsWhole s.bounds.data n
+      → (t.status ≡ Ready → GoesSafelyFrom seat.part (state_in n t)) → StoppedItself s.bounds (state_in n t) t.status → IsSafeSeat n t
+  again n t same state keeps whole safe stopped = record {
     part = seat.part;
-    bounds = seat.bounds;
+    bounds = same ∙ seat.bounds;
     right = seat.right;
-    state = record { hart = seat.state.hart; memory = memory };
+    state = state;
     apart = seat.apart;
     code = code_stays seat.part m n keeps seat.code;
     guards = λ a guard. keeps.guards a guard (seat.guards a guard);
-    has_data = whole;
-    safe = λ ready. goes_on_safely seat.part (state_in m s) (state_in n s) (Changes (state_in n s)) (seat.safe ready)
-        (record { pc = refl; registers = refl; bytes = keeps }) refl;
-    stopped = stopped_still s.bounds m n (λ a inside. keeps.code a (in_part a inside)) s.hart s.status seat.stopped;
+    has_data = subst (λ (b : Bounds). IsWhole b.data n) (sym same) whole;
+    safe = safe;
+    stopped = subst (λ (b : Bounds). StoppedItself b (state_in n t) t.status) (sym same) stopped;
   }
-    where
-      in_part : (a : ℕ) → Holds s.bounds.code a → InCode seat.part a
-      in_part a inside = subst (λ (b : Bounds). Holds b.code a) seat.bounds inside
+
+  -- ---- a change by others
+
+  pub changed : (n : Bytes) → IsMemory n → KeepsBytes seat.part m n → IsWhole s.bounds.data n → IsSafeSeat n s
+  changed n memory keeps whole = again n s refl (record { hart = seat.state.hart; memory = memory }) keeps whole
+      (λ ready. goes_on_safely seat.part (state_in m s) (state_in n s) (Changes (state_in n s)) (seat.safe ready) (record { pc = refl; registers = refl; bytes = keeps }) refl)
+      (stopped_still s.bounds m n (λ a inside. keeps.code a (subst (λ (b : Bounds). Holds b.code a) seat.bounds inside)) s.hart s.status seat.stopped)
 
   -- the same, where all but its own data is left
   pub own_changed : (n : Bytes) → IsMemory n → StaysOutside s.bounds.data m n → IsWhole s.bounds.data n → IsSafeSeat n s
@@ -126,19 +131,10 @@ module _ (m : Bytes) (s : Seat) (seat : IsSafeSeat m s) where
       → (n : Bytes) (h : Hart) (steps : ℕ) → IsMemory n → StaysOutside s.bounds.data m n → IsWhole s.bounds.data n
       → IsHart h → h.pc ≡ address_after s.hart.pc 4 → KeepsReserved s.hart h → slice_index h.registers 2 ≡ slice_index s.hart.registers 2
       → IsSafeSeat n (record { bounds = s.bounds; hart = h; status = Ready; steps = steps })
-  replied ready size stands n h steps memory stays whole hart pc reserved stack = record {
-    part = seat.part;
-    bounds = seat.bounds;
-    right = seat.right;
-    state = record { hart = hart; memory = memory };
-    apart = seat.apart;
-    code = code_stays seat.part m n (own_kept seat.part seat.bounds n stays) seat.code;
-    guards = λ a guard. (own_kept seat.part seat.bounds n stays).guards a guard (seat.guards a guard);
-    has_data = whole;
-    safe = λ still. goes_on_safely seat.part (state_in m s) (record { hart = h; memory = n }) (Replies (record { hart = h; memory = n })) (seat.safe ready)
-        (is_reply seat.part seat.bounds size stands n h stays (record { hart = hart; memory = memory }) pc reserved (stack_kept seat.part seat.bounds (stack_lies seat.part seat.bounds ready size stands) h stack)) refl;
-    stopped = tt;
-  }
+  replied ready size stands n h steps memory stays whole hart pc reserved stack =
+      again n _ refl (record { hart = hart; memory = memory }) (own_kept seat.part seat.bounds n stays) whole
+      (λ still. goes_on_safely seat.part (state_in m s) (record { hart = h; memory = n }) (Replies (record { hart = h; memory = n })) (seat.safe ready)
+      (is_reply seat.part seat.bounds size stands n h stays (record { hart = hart; memory = memory }) pc reserved (stack_kept seat.part seat.bounds (stack_lies seat.part seat.bounds ready size stands) h stack)) refl) tt
 
   -- the code where its own data alone may have changed
   pub code_same : (n : Bytes) → StaysOutside s.bounds.data m n → (a : ℕ) → Holds s.bounds.code a → byte_at n a ≡ byte_at m a
@@ -146,18 +142,7 @@ module _ (m : Bytes) (s : Seat) (seat : IsSafeSeat m s) where
 
   -- one that has stopped itself is safe, whatever its registers hold
   pub halted : (n : Bytes) (t : Seat) → IsState (state_in n t) → t.bounds ≡ s.bounds → t.status ≢ Ready → StoppedItself s.bounds (state_in n t) t.status → StaysOutside s.bounds.data m n → IsWhole s.bounds.data n → IsSafeSeat n t
-  halted n t state same not_ready stopped stays whole = record {
-    part = seat.part;
-    bounds = same ∙ seat.bounds;
-    right = seat.right;
-    state = state;
-    apart = seat.apart;
-    code = code_stays seat.part m n (own_kept seat.part seat.bounds n stays) seat.code;
-    guards = λ a guard. (own_kept seat.part seat.bounds n stays).guards a guard (seat.guards a guard);
-    has_data = subst (λ (b : Bounds). IsWhole b.data n) (sym same) whole;
-    safe = λ ready. absurd (not_ready ready);
-    stopped = subst (λ (b : Bounds). StoppedItself b (state_in n t) t.status) (sym same) stopped;
-  }
+  halted n t state same not_ready stopped stays whole = again n t same state (own_kept seat.part seat.bounds n stays) whole (λ ready. absurd (not_ready ready)) stopped
 
 -- a0 and a1 are none of the reserved registers
 kept_register : (registers : List ℕ) (a0 a1 r : ℕ) → r ≢ a0_register → r ≢ a1_register → slice_index (slice_set (slice_set registers a0_register a0) a1_register a1) r ≡ slice_index registers r
@@ -180,45 +165,49 @@ arguments_are : (h : Hart) (a0 a1 : ℕ) → IsHart h → a0 < 2 ^ 32 → a1 < 2
 arguments_are h a0 a1 is f g = register_is _ 11 a1 (register_is h 10 a0 is f) g
 
 pub answered_is : (w : Way) (h : Hart) (a0 a1 : ℕ) → IsHart h → a0 < 2 ^ 32 → a1 < 2 ^ 32 → IsHart (after_way w (with_arguments h a0 a1))
-answered_is Replied h a0 a1 is f g = after_is _ 4 (arguments_are h a0 a1 is f g) refl
-answered_is Yield h a0 a1 is f g = after_is _ 4 (arguments_are h a0 a1 is f g) refl
 answered_is (Exit n) h a0 a1 is f g = arguments_are h a0 a1 is f g
+answered_is w h a0 a1 is f g = after_is _ 4 (arguments_are h a0 a1 is f g) refl
 
 -- a ready sandbox is safe after the answer to its call
 pub answered_safe : (m : Bytes) (s : Seat) → IsSafeSeat m s → s.status ≡ Ready → (size : ℕ) → Stands (state_in m s) Ecall size
     → (n : Bytes) → IsMemory n → StaysOutside s.bounds.data m n → IsWhole s.bounds.data n → (a0 a1 : ℕ) → a0 < 2 ^ 32 → a1 < 2 ^ 32
     → (w : Way) → IsSafeSeat n (record { bounds = s.bounds; hart = after_way w (with_arguments s.hart a0 a1); status = status_after w; steps = one_more s.steps })
-answered_safe m s seat ready size stands n memory stays whole a0 a1 f g Replied =
-    replied m s seat ready size stands n _ _ memory stays whole (answered_is Replied s.hart a0 a1 seat.state.hart f g) refl (arguments_keep s.hart a0 a1) (stack_argument s.hart a0 a1)
-answered_safe m s seat ready size stands n memory stays whole a0 a1 f g Yield =
-    replied m s seat ready size stands n _ _ memory stays whole (answered_is Yield s.hart a0 a1 seat.state.hart f g) refl (arguments_keep s.hart a0 a1) (stack_argument s.hart a0 a1)
 answered_safe m s seat ready size stands n memory stays whole a0 a1 f g (Exit k) =
     halted m s seat n _ (record { hart = arguments_are s.hart a0 a1 seat.state.hart f g; memory = memory }) refl (λ e. cc)
     (at_gate_still s.bounds m n (code_same m s seat n stays) s.hart (with_arguments s.hart a0 a1) refl (at_gate m s seat ready size stands)) stays whole
+answered_safe m s seat ready size stands n memory stays whole a0 a1 f g w =
+    replied m s seat ready size stands n _ _ memory stays whole (answered_is Replied s.hart a0 a1 seat.state.hart f g) refl (arguments_keep s.hart a0 a1) (stack_argument s.hart a0 a1)
 
 -- ---- a reply in the words of runs
 
-way_keeps : (w : Way) (h : Hart) (a0 a1 : ℕ) → status_after w ≡ Ready → KeepsReserved h (after_way w (with_arguments h a0 a1))
-way_keeps Replied h a0 a1 goes_on = arguments_keep h a0 a1
-way_keeps Yield h a0 a1 goes_on = arguments_keep h a0 a1
-way_keeps (Exit n) h a0 a1 goes_on = absurd (cc)
-
-way_stack : (w : Way) (h : Hart) (a0 a1 : ℕ) → status_after w ≡ Ready → slice_index (after_way w (with_arguments h a0 a1)).registers 2 ≡ slice_index h.registers 2
-way_stack Replied h a0 a1 goes_on = stack_argument h a0 a1
-way_stack Yield h a0 a1 goes_on = stack_argument h a0 a1
-way_stack (Exit n) h a0 a1 goes_on = absurd (cc)
-
-way_pc : (w : Way) (h : Hart) (a0 a1 : ℕ) → status_after w ≡ Ready → (after_way w (with_arguments h a0 a1)).pc ≡ address_after h.pc 4
-way_pc Replied h a0 a1 goes_on = refl
-way_pc Yield h a0 a1 goes_on = refl
-way_pc (Exit n) h a0 a1 goes_on = absurd (cc)
+goes_past : (w : Way) (h : Hart) → status_after w ≡ Ready → after_way w h ≡ past h 4
+goes_past (Exit n) h goes_on = absurd (cc)
+goes_past w h goes_on = refl
 
 pub answers_are : AnswersAreReplies
 answers_are m s r after size p seat is stack stands goes_on state hart stays =
-    is_reply m s seat p is size stands after.memory after.hart stays state
-    (ap (λ (h : Hart). h.pc) hart ∙ way_pc r.way s.hart (word r.a0) (word r.a1) goes_on)
-    (subst (λ (h : Hart). KeepsReserved s.hart h) (sym hart) (way_keeps r.way s.hart (word r.a0) (word r.a1) goes_on))
-    (stack_kept m s seat p is stack after.hart (ap (λ (h : Hart). slice_index h.registers 2) hart ∙ way_stack r.way s.hart (word r.a0) (word r.a1) goes_on))
+    let a0 = word r.a0 in
+    let a1 = word r.a1 in
+    let now : after.hart ≡ past (with_arguments s.hart a0 a1) 4 = hart ∙ goes_past r.way (with_arguments s.hart a0 a1) goes_on in
+    is_reply m s seat p is size stands after.memory after.hart stays state (ap (λ (h : Hart). h.pc) now)
+    (subst (λ (h : Hart). KeepsReserved s.hart h) (sym now) (arguments_keep s.hart a0 a1))
+    (stack_kept m s seat p is stack after.hart (ap (λ (h : Hart). slice_index h.registers 2) now ∙ stack_argument s.hart a0 a1))
+
+-- one that is ready at an entry, where every run from that is safe
+pub ready_safe : (m : Bytes) (b : Bounds) (h : Hart) (steps : ℕ) (e : IsEnterable m b) → IsEntry e.part (record { hart = h; memory = m }) → AreApart (code_region e.part) (guarded_region e.part) → IsWhole b.data m
+    → IsSafeSeat m (record { bounds = b; hart = h; status = Ready; steps = steps })
+ready_safe m b h steps e entry apart whole = record {
+  part = e.part;
+  bounds = e.bounds;
+  right = e.right;
+  state = entry.state;
+  apart = apart;
+  code = e.code;
+  guards = entry.guards;
+  has_data = whole;
+  safe = λ ready. record { safe = e.runs.from _ entry; calls = e.calls.from _ entry };
+  stopped = tt;
+}
 
 pub calls_have : CallsHaveStack
 calls_have m s size p seat is ready stands = stack_lies m s seat p is ready size stands

@@ -78,8 +78,8 @@ module _ (w n o : Sandboxes) (lie : bounds_in o ≡ bounds_in w) (slots : slots_
 
   pub same_world : n ≡ o
   same_world =
-      ap (λ (m : Bytes). let x : Sandboxes = record { bytes = m; seats = n.seats } in x) (same_bytes n.bytes o.bytes (λ a. ⊎_elim (in_data a) (out_of_data a) (found o.seats a)))
-      ∙ ap (λ (l : List Seat). let x : Sandboxes = record { bytes = o.bytes; seats = l } in x) same_seats
+      let bytes = same_bytes n.bytes o.bytes (λ a. ⊎_elim (in_data a) (out_of_data a) (found o.seats a)) in
+      λ k. record { bytes = bytes k; seats = same_seats k }
 
 -- what comes to the slots of a joint run, and keeps the bytes outside all data, is what its moves lead to
 pub world_runs : {S : Type 0} → JointMoves S → (machine : Machine) → IsMachine machine → (answer : S → Call → Answer S) (plan : List Turn) (w n : Sandboxes) (s : S) → IsSafeWorld w

@@ -1,17 +1,17 @@
 -- What stops a safe sandbox is its own instruction, and it stays at that.
-use Rattle.std.proofs.Common.{◌≡◌, ℕ, zero, suc, ◌<◌, ⊎_elim, inl, inr, List, [], ◌∷◌, cond, Option, Some, None, is_some, IsSome, slice_get, refl, sym, ap, ◌∙◌, subst, arith}
+use Rattle.std.proofs.Common.{◌≡◌, ℕ, zero, suc, ◌<◌, inl, inr, List, [], ◌∷◌, cond, Option, Some, None, is_some, IsSome, slice_get, refl, sym, ap, ◌∙◌, subst, arith}
 use Rattle.std.specs.Prelude.{ℤ}
 use Rattle.std.specs.List.{Contains}
 use Rattle.std.specs.Option.{option_map}
-use Rattle.std.proofs.lemmas.List.FromFn.{get_or-map-range_with_len, length-map-range_with_len}
 use Rattle.std.proofs.lemmas.Option.{slice_get_within, get_or_from_slice_get}
 use Rattle.rv_word.specs.Numbers.{offset_by}
 use Rattle.rv_word.specs.declared.instr.Instr.{Instr}
-use Rattle.rv_word.specs.declared.instr.Instr.TheVariants.{Op, OpImm, Load, Store, Branch, Jal, Jalr, Lui, Auipc, Fence, Ecall, Ebreak}
+use Rattle.rv_word.specs.declared.instr.Instr.TheVariants.{Load, Store, Ecall, Ebreak}
 use Rattle.rv_word.specs.declared.instr.LoadKind.{LoadKind}
 use Rattle.rv_word.specs.declared.instr.StoreWidth.{StoreWidth}
 use Rattle.rv_comp.specs.declared.front.Front.TheVariants.{Read}
 use Rattle.rv_mem.specs.Bytes.{Bytes, byte_at, bytes_at, address_after, addresses, in_front, number_of}
+use Rattle.rv_mem.proofs.Facts.{read_is_held}
 use Rattle.rv_step.specs.declared.outcome.Outcome.TheVariants.{Call, Trap}
 use Rattle.rv_step.specs.declared.outcome.Cause.{Cause}
 use Rattle.rv_step.specs.declared.outcome.Cause.TheVariants as cause
@@ -34,32 +34,13 @@ use Rattle.sfi_host.specs.Worlds.{Seat, Sandboxes, slots_of, status_at, state_in
 
 -- ---- where the code stays, the instruction does
 
--- one of the addresses of an access lies some places from the first
-one_address : (at n a : ℕ) → Contains (addresses at n) a → (k : ℕ) × (k < n) × (a ≡ address_after at k)
-one_address at n a (k, below, is) =
-    let many = length-map-range_with_len (address_after at) 0 n in
-    let small : k < n = omega arith in
-    (k, small, sym is ∙ get_or-map-range_with_len (address_after at) 0 n k k a small (omega arith))
-
-first_of : (x : ℕ) (xs : List ℕ) → Contains (x ∷ xs) x
-first_of x xs = (0, omega arith, refl)
-
-later_of : (x : ℕ) (xs : List ℕ) (a : ℕ) → Contains xs a → Contains (x ∷ xs) a
-later_of x xs a (k, below, is) = (suc k, omega arith, is)
-
-same_at : (m n : Bytes) (at : List ℕ) → ((a : ℕ) → Contains at a → byte_at n a ≡ byte_at m a) → bytes_at n at ≡ bytes_at m at
-same_at m n [] same = refl
-same_at m n (x ∷ xs) same =
-    ap (λ (o : Option ℕ). in_front o (bytes_at n xs)) (same x (first_of x xs))
-    ∙ ap (λ (o : Option (List ℕ)). in_front (byte_at m x) o) (same_at m n xs (λ a h. same a (later_of x xs a h)))
-
 pub stands_still : (code : Span) (m n : Bytes) → ((a : ℕ) → Holds code a → byte_at n a ≡ byte_at m a) → (h k : Hart) (i : Instr) (size : ℕ) → k.pc ≡ h.pc → Stands (record { hart = h; memory = m }) i size
     → ((j : ℕ) → j < size → Holds code (address_after h.pc j)) → Stands (record { hart = k; memory = n }) i size
 stands_still code m n same h k i size pc stands within = record {
   bytes = stands.bytes;
-  there = ap (λ (p : ℕ). bytes_at n (addresses p size)) pc
-      ∙ same_at m n (addresses h.pc size) (λ a c. let x = one_address h.pc size a c in same a (subst (λ (y : ℕ). Holds code y) (sym x.2) (within x.0 x.1)))
-      ∙ stands.there;
+  there = let held = (read_is_held m h.pc size stands.bytes).0 stands.there in
+      ap (λ (p : ℕ). bytes_at n (addresses p size)) pc
+      ∙ (read_is_held n h.pc size stands.bytes).1 (record { count = held.count; each = λ j below. same (address_after h.pc j) (within j below) ∙ held.each j below });
   spelled = stands.spelled;
 }
 
@@ -92,31 +73,25 @@ module _ (b : Bounds) (m n : Bytes) (same : (a : ℕ) → Holds b.code a → byt
   }
 
   pub stopped_still : (h : Hart) (status : Status) → StoppedItself b (record { hart = h; memory = m }) status → StoppedItself b (record { hart = h; memory = n }) status
-  stopped_still h Ready x = x
   stopped_still h (Exited code) x = at_gate_still h h refl x
   stopped_still h (Trapped cause.Break at) x = (at_still h h Ebreak refl x.0, x.1)
   stopped_still h (Trapped cause.Load at) (kind, rd, rs1, imm, x) = (kind, rd, rs1, imm, touches_still h (Load kind rd rs1 imm) at x)
   stopped_still h (Trapped cause.Store at) (width, rs1, rs2, imm, x) = (width, rs1, rs2, imm, touches_still h (Store width rs1 rs2 imm) at x)
-  stopped_still h (Trapped cause.Fetch at) x = x
-  stopped_still h (Trapped cause.Illegal at) x = x
+  stopped_still h status x = x
 
 -- ---- a byte that is missing
 
-missing_in : (m : Bytes) (at : List ℕ) → bytes_at m at ≡ None → (a : ℕ) × Contains at a × (byte_at m a ≡ None)
+abbrev HasMissing : Bytes → List ℕ → Type 0
+HasMissing m at = (a : ℕ) × Contains at a × (byte_at m a ≡ None)
+
+missing_first : (m : Bytes) (x : ℕ) (xs : List ℕ) (o : Option ℕ) (p : Option (List ℕ)) → byte_at m x ≡ o → (p ≡ None → HasMissing m xs) → in_front o p ≡ None → HasMissing m (x ∷ xs)
+missing_first m x xs None p f later e = (x, (0, omega arith, refl), f)
+missing_first m x xs (Some b) None f later e = let rest = later refl in (rest.0, (suc rest.1.0, omega (arith, rest.1.1), rest.1.2), rest.2)
+missing_first m x xs (Some b) (Some bs) f later e = absurd (cc)
+
+missing_in : (m : Bytes) (at : List ℕ) → bytes_at m at ≡ None → HasMissing m at
 missing_in m [] e = absurd (cc)
-missing_in m (x ∷ xs) e =
-    elim (byte_at m x) as (λ o. byte_at m x ≡ o → (a : ℕ) × Contains (x ∷ xs) a × (byte_at m a ≡ None)) [
-      | None ↦ λ f. (x, first_of x xs, f)
-      | Some b ↦ λ f.
-          elim (bytes_at m xs) as (λ o. bytes_at m xs ≡ o → (a : ℕ) × Contains (x ∷ xs) a × (byte_at m a ≡ None)) [
-            | None ↦ λ g.
-                let rest = missing_in m xs g in
-                (rest.0, later_of x xs rest.0 rest.1, rest.2)
-            | Some bs ↦ λ g.
-                let h : in_front (byte_at m x) (bytes_at m xs) ≡ Some (b ∷ bs) = ap (λ (o : Option ℕ). in_front o (bytes_at m xs)) f ∙ ap (λ (o : Option (List ℕ)). in_front (Some b) o) g in
-                absurd (let z : Some (b ∷ bs) ≡ None = sym h ∙ e in cc)
-          ] refl
-    ] refl
+missing_in m (x ∷ xs) e = missing_first m x xs (byte_at m x) (bytes_at m xs) refl (missing_in m xs) e
 
 none_there : (o : Option ℕ) → o ≡ None → IsSome o → ⊥
 none_there None e some = cc
@@ -181,14 +156,13 @@ module _ (m : Bytes) (s : Seat) (seat : IsSafeSeat m s) (ready : s.status ≡ Re
           is_at = at_pc i size stands;
           count = count;
           accesses = are;
-          within = λ a c. ⊎_elim (λ (d : InData seat.part a). inl (data_of a d)) (λ (g : InGuard seat.part a). inr (guards_of a g)) (safe.within i size stands a (accesses a c));
+          within = λ a c. elim (safe.within i size stands a (accesses a c)) [ inl d ↦ inl (data_of a d) | inr g ↦ inr (guards_of a g) ];
           address = x.0;
           among = x.1;
-          guard = ⊎_elim
-              (λ (d : InData seat.part x.0).
-              absurd (none_there (byte_at m x.0) x.2 (seat.has_data x.0 (data_of x.0 d))))
-              (λ (g : InGuard seat.part x.0). guards_of x.0 g)
-              (safe.within i size stands x.0 (accesses x.0 x.1));
+          guard = elim (safe.within i size stands x.0 (accesses x.0 x.1)) [
+            | inl d ↦ absurd (none_there (byte_at m x.0) x.2 (seat.has_data x.0 (data_of x.0 d)))
+            | inr g ↦ guards_of x.0 g
+          ];
         }
 
     abbrev Stops : Cause → ℕ → Type 0
@@ -201,13 +175,8 @@ module _ (m : Bytes) (s : Seat) (seat : IsSafeSeat m s) (ready : s.status ≡ Re
         let from = offset_by (register s.hart rs1) imm in
         let x : cause.Load ≡ c = cc in
         let y : from ≡ at = cc in
-        subst (λ (q : Cause). Stops q at) x (
-          kind,
-          rd,
-          rs1,
-          imm,
-          subst (λ (a : ℕ). TouchesGuard s.bounds (state_in m s) (Load kind rd rs1 imm) a) y (touches (Load kind rd rs1 imm) n stands from (load_size kind) refl none),
-        )
+        let touch = subst (λ (a : ℕ). TouchesGuard s.bounds (state_in m s) (Load kind rd rs1 imm) a) y (touches (Load kind rd rs1 imm) n stands from (load_size kind) refl none) in
+        subst (λ (q : Cause). Stops q at) x (kind, rd, rs1, imm, touch)
     by_load kind rd rs1 imm n stands c at (Some bs) some e = absurd (cc)
 
     by_store : (width : StoreWidth) (rs1 rs2 : ℕ) (imm : ℤ) (n : ℕ) (k : Hart) (w : Bytes) → Stands (state_in m s) (Store width rs1 rs2 imm) n → (c : Cause) (at : ℕ) (o : Option (List ℕ))
@@ -217,32 +186,19 @@ module _ (m : Bytes) (s : Seat) (seat : IsSafeSeat m s) (ready : s.status ≡ Re
         let from = offset_by (register s.hart rs1) imm in
         let x : cause.Store ≡ c = cc in
         let y : from ≡ at = cc in
-        subst (λ (q : Cause). Stops q at) x (
-          width,
-          rs1,
-          rs2,
-          imm,
-          subst (λ (a : ℕ). TouchesGuard s.bounds (state_in m s) (Store width rs1 rs2 imm) a) y (touches (Store width rs1 rs2 imm) n stands from (store_size width) refl none),
-        )
+        let touch = subst (λ (a : ℕ). TouchesGuard s.bounds (state_in m s) (Store width rs1 rs2 imm) a) y (touches (Store width rs1 rs2 imm) n stands from (store_size width) refl none) in
+        subst (λ (q : Cause). Stops q at) x (width, rs1, rs2, imm, touch)
     by_store width rs1 rs2 imm n k w stands c at (Some bs) some e = absurd (cc)
 
     by_instr : (i : Instr) (n : ℕ) → Stands (state_in m s) i n → (c : Cause) (at : ℕ) → (effect i n s.hart m).outcome ≡ Trap c at → Stops c at
-    by_instr (Op op rd rs1 rs2) n stands c at e = absurd (cc)
-    by_instr (OpImm op rd rs1 imm) n stands c at e = absurd (cc)
     by_instr (Load kind rd rs1 imm) n stands c at e = by_load kind rd rs1 imm n stands c at (bytes_at m (addresses (offset_by (register s.hart rs1) imm) (load_size kind))) refl e
     by_instr (Store width rs1 rs2 imm) n stands c at e =
         by_store width rs1 rs2 imm n _ _ stands c at (bytes_at m (addresses (offset_by (register s.hart rs1) imm) (store_size width))) refl e
-    by_instr (Branch condition rs1 rs2 offset) n stands c at e = absurd (cc)
-    by_instr (Jal rd offset) n stands c at e = absurd (cc)
-    by_instr (Jalr rd rs1 imm) n stands c at e = absurd (cc)
-    by_instr (Lui rd imm) n stands c at e = absurd (cc)
-    by_instr (Auipc rd imm) n stands c at e = absurd (cc)
-    by_instr (Fence imm rd rs1) n stands c at e = absurd (cc)
-    by_instr Ecall n stands c at e = absurd (cc)
     by_instr Ebreak n stands c at e =
         let x : cause.Break ≡ c = cc in
         let y : s.hart.pc ≡ at = cc in
         subst (λ (q : Cause). Stops q at) x (at_pc Ebreak n stands, sym y)
+    by_instr i n stands c at e = absurd (cc)
 
     pub trap_itself : IsStep (state_in m s) r → (c : Cause) (at : ℕ) → r.outcome ≡ Trap c at → StoppedItself s.bounds (state_in m s) (Trapped c at)
     trap_itself step c at e =

@@ -17,6 +17,7 @@ pub fn one_machine()
 
 /// What a sandbox comes to among others is what it comes to alone with the replies that it got.
 /// `S` is a host's state.
+#[tactic(auto, using(crate::proofs::Solo::joined_alone, crate::proofs::Solo::joint_alone))]
 pub fn joint_is_solo<S>()
     // With any host.
     ensures any_host { JoinedIsSolo S }
@@ -27,6 +28,7 @@ pub fn joint_is_solo<S>()
 
 /// The joint run of one plan after another is that of the second from where the first left off.
 /// `S` is a host's state.
+#[tactic(auto, using(crate::proofs::Plans::follows, crate::proofs::Continuing::joint_follows))]
 pub fn joined_follows<S>()
     // With any host, a call that ends the first ends both.
     ensures any_host { JoinedFollows S }
@@ -57,6 +59,7 @@ pub fn steps_are_own()
 
 /// What one sandbox of a safe world makes of its own data is, to each other one, a change by
 /// others: that keeps its pc, registers, code and empty guard zones.
+#[tactic(auto, using(crate::proofs::Neighbours::neighbours_are))]
 pub fn neighbours_are_changes()
     ensures { NeighboursAreChanges }
 {}
@@ -77,6 +80,7 @@ pub fn answers_are_replies()
 /// What the joint run does from a safe world is a list of moves in the one memory: step by step and
 /// reply by reply, with the same slots. To each sandbox these moves are a run, and where it was
 /// ready a safe one. `S` is a host's state.
+#[tactic(auto, using(crate::proofs::Joined::joined_are, crate::proofs::Joined::joint_are))]
 pub fn joined_moves<S>()
     // With any host.
     ensures any_host { JoinedMoves S }

@@ -9,7 +9,7 @@ ghost use Rattle.sfi_host.specs.Entering.{MayEnterAt, with_entry, IsAtEntry};
 ghost use Rattle.sfi_host.specs.Joint.{Machine, IsMachine};
 ghost use Rattle.sfi_host.specs.Moves.{HaveRunJointly};
 ghost use Rattle.sfi_host.specs.Plans.{IsJoint, IsCutJoint};
-ghost use Rattle.sfi_host.specs.private.Sandboxes.{bounds_in};
+ghost use Rattle.sfi_host.specs.private.Sandboxes.{bounds_in, slot_in};
 ghost use Rattle.sfi_host.specs.Reading.{hart_at, data_region_at};
 ghost use Rattle.sfi_host.specs.Regions.{span_of};
 ghost use Rattle.sfi_host.specs.Slots.{Slot};
@@ -172,11 +172,20 @@ impl<M: Memory> World<M> {
         let _ = &self.memory;
     }
 
+    // The sandbox of that number.
+    fn find(&self, i: u32) -> Option<&Sandbox>
+        ensures { option_map (λ s. slot_in self.now.bytes s.now) result
+            ≡ slice_get (slots_of self.now) i }
+    {
+        let sandbox = self.sandboxes.get(i as usize)?;
+        Some(sandbox)
+    }
+
     /// What the sandbox of that number may still do; `None` where there is none.
     pub fn status(&self, i: u32) -> Option<Status>
         ensures { result ≡ status_at (slots_of self.now) i }
     {
-        let sandbox = self.sandboxes.get(i as usize)?;
+        let sandbox = self.find(i)?;
         Some(sandbox.status)
     }
 
@@ -184,7 +193,7 @@ impl<M: Memory> World<M> {
     pub fn steps(&self, i: u32) -> Option<u64>
         ensures { result ≡ steps_at (slots_of self.now) i }
     {
-        let sandbox = self.sandboxes.get(i as usize)?;
+        let sandbox = self.find(i)?;
         Some(sandbox.steps)
     }
 
@@ -286,7 +295,7 @@ impl<M: Memory> World<M> {
     pub fn cpu(&self, i: u32) -> Option<&Cpu>
         ensures { option_map (λ cpu. cpu.now) result ≡ hart_at (slots_of self.now) i }
     {
-        let sandbox = self.sandboxes.get(i as usize)?;
+        let sandbox = self.find(i)?;
         Some(&sandbox.cpu)
     }
 
@@ -294,7 +303,7 @@ impl<M: Memory> World<M> {
     pub fn data_region(&self, i: u32) -> Option<Region>
         ensures { option_map span_of result ≡ data_region_at (slots_of self.now) i }
     {
-        let sandbox = self.sandboxes.get(i as usize)?;
+        let sandbox = self.find(i)?;
         Some(sandbox.data)
     }
 

@@ -4,7 +4,7 @@ use Rattle.std.specs.List.{slice_get}
 use Rattle.sfi_host.specs.Consoles.{message_of}
 use Rattle.sfi_host.specs.Guests.{asked}
 use Rattle.sfi_host.specs.Messages.{Message}
-use Rattle.sfi_host.proofs.Posting.{posted_at}
+use Rattle.sfi_host.proofs.Serving.{posted_at}
 use Rattle.sfi_host.proofs.console.Console.post.Goals.{then-deliver, else-deliver}
 use Rattle.sfi_host.proofs.console.Console.post.Goals as goal
 

@@ -5,8 +5,7 @@ use Rattle.std.specs.Vec.{vec_len}
 use Rattle.sfi_host.specs.Consoles.{ConsoleState}
 use Rattle.sfi_host.specs.Guests.{asked}
 use Rattle.sfi_host.specs.Services.{exit_service, yield_service, post_service}
-use Rattle.sfi_host.proofs.Serving.{given_at, refusal_at}
-use Rattle.sfi_host.proofs.Posting.{posts_at, unknown_at}
+use Rattle.sfi_host.proofs.Serving.{given_at, refusal_at, posts_at, unknown_at}
 use Rattle.sfi_host.proofs.console.ConsoleGates.call.Goals as goal
 
 pub returns-then-caller-len-clause-answered : goal.returns-then-caller-len-clause-answered
@@ -23,21 +22,18 @@ returns-then-service-eq-POST-clause-answered g c h =
     let known : (asked g.M.Memory.bytes c.args.guest.now).caller < length c.args.self.now.sessions = omega (arith, count, c.if-caller-len.false, c.sandbox-caller.ensures) in
     posts_at g.M.Memory.bytes c.args.self.now c.post.new.self c.args.guest.now c.post.new.guest c.post.result (sym c.service-2.ensures ∙ c.if-service-eq-POST.true) known (c.post.ensures.answered h)
 
-pub returns-clause-answered : goal.returns-clause-answered
-returns-clause-answered g c h =
-    let items = c.self.inside.sessions.items in
+pub returns : goal.returns
+returns g c =
     let i = c.sandbox-caller.result in
     let known : i < vec_len c.self.inside.sessions = omega (arith, c.len.ensures, c.if-caller-len.false) in
-    let there : slice_get items i ≡ Some c.index_mut.result.now = slice_get_read items _ i c.index_mut.result.now c.self.inside.sessions.ok.0 known c.index_mut.ensures.value in
+    let there : slice_get c.self.inside.sessions.items i ≡ Some c.index_mut.result.now = slice_get_read c.self.inside.sessions.items _ i c.index_mut.result.now c.self.inside.sessions.ok.0 known c.index_mut.ensures.value in
     let not_exit : (asked g.M.Memory.bytes c.args.guest.now).service ≢ exit_service = grind arith in
     let not_yield : (asked g.M.Memory.bytes c.args.guest.now).service ≢ yield_service = grind arith in
     let no_post : (asked g.M.Memory.bytes c.args.guest.now).service ≢ post_service = λ e. c.if-service-eq-POST.false (c.service-2.ensures ∙ e) in
-    given_at g.M.Memory.bytes _ c.args.self.now c.args.guest.now c.serve.new.guest c.index_mut.result.now c.serve.new.self i c.deref.result.now c.serve.result c.self.view_is c.sandbox-caller.ensures c.deref.ensures.value there not_exit not_yield no_post (c.serve.ensures.answered h)
-
-pub returns-clause-refused : goal.returns-clause-refused
-returns-clause-refused g c h =
-    let items = c.self.inside.sessions.items in
-    let i = c.sandbox-caller.result in
-    let known : i < vec_len c.self.inside.sessions = omega (arith, c.len.ensures, c.if-caller-len.false) in
-    let there : slice_get items i ≡ Some c.index_mut.result.now = slice_get_read items _ i c.index_mut.result.now c.self.inside.sessions.ok.0 known c.index_mut.ensures.value in
-    refusal_at g.M.Memory.bytes _ c.args.self.now c.args.guest.now c.serve.new.guest c.index_mut.result.now c.serve.new.self i c.self.view_is c.sandbox-caller.ensures there (c.serve.ensures.refused h)
+    record {
+      same_reference = c.serve.ensures.same_reference;
+      others = c.serve.ensures.others;
+      answered = λ h. given_at g.M.Memory.bytes _ c.args.self.now c.args.guest.now c.serve.new.guest c.index_mut.result.now c.serve.new.self i c.deref.result.now c.serve.result
+          c.self.view_is c.sandbox-caller.ensures c.deref.ensures.value there not_exit not_yield no_post (c.serve.ensures.answered h);
+      refused = λ h. refusal_at g.M.Memory.bytes _ c.args.self.now c.args.guest.now c.serve.new.guest c.index_mut.result.now c.serve.new.self i c.self.view_is c.sandbox-caller.ensures there (c.serve.ensures.refused h);
+    }

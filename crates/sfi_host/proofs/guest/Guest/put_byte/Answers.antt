@@ -1,6 +1,7 @@
-use Rattle.std.proofs.Common.{◌≡◌, true, sym, ◌∙◌, ap, is_some}
+use Rattle.std.proofs.Common.{◌≡◌, true, sym, ◌∙◌, ap, is_some, rules}
+use Rattle.rv_mem.specs.Bytes.{Bytes}
 use Rattle.sfi_host.specs.Regions.{is_in}
-use Rattle.sfi_host.specs.Guests.{data_of}
+use Rattle.sfi_host.specs.Guests.{data_of, call_by}
 use Rattle.sfi_host.proofs.RegionBytes.{byte_out, store_puts, put_there, put_kept, put_outside, put_whole, put_region}
 use Rattle.sfi_host.proofs.guest.Guest.put_byte.Goals as goal
 
@@ -9,32 +10,18 @@ returns-then-not-holds-clause-there g c =
     let missing = byte_out (data_of c.args.self.now) (g.M.Memory.bytes c.args.self.now.memory.now) c.args.at (cc) in
     (λ t. ap is_some (sym missing) ∙ t, λ t. ap is_some missing ∙ t)
 
-pub returns-clause-there : goal.returns-clause-there
-returns-clause-there g c =
+pub returns : goal.returns
+returns g c =
     let within : is_in (data_of c.args.self.now) c.args.at ≡ true = cc in
     let puts = store_puts _ _ _ _ _ _ _ within c.ranges.at.fits c.from.ensures c.ranges.byte.fits c.store.ensures.there c.store.ensures.done c.store.ensures.refused in
-    put_there _ _ _ _ _ _ puts
-
-pub returns-clause-done : goal.returns-clause-done
-returns-clause-done g c =
-    let within : is_in (data_of c.args.self.now) c.args.at ≡ true = cc in
-    let puts = store_puts _ _ _ _ _ _ _ within c.ranges.at.fits c.from.ensures c.ranges.byte.fits c.store.ensures.there c.store.ensures.done c.store.ensures.refused in
-    put_kept _ _ _ _ _ _ (λ x. record { caller = c.args.self.now.request.sandbox; service = c.args.self.now.request.service; a0 = c.args.self.now.request.a0; a1 = c.args.self.now.request.a1; bytes = x }) puts
-
-pub returns-clause-region : goal.returns-clause-region
-returns-clause-region g c =
-    let within : is_in (data_of c.args.self.now) c.args.at ≡ true = cc in
-    let puts = store_puts _ _ _ _ _ _ _ within c.ranges.at.fits c.from.ensures c.ranges.byte.fits c.store.ensures.there c.store.ensures.done c.store.ensures.refused in
-    put_region _ _ _ _ _ _ puts
-
-pub returns-clause-has_data : goal.returns-clause-has_data
-returns-clause-has_data g c =
-    let within : is_in (data_of c.args.self.now) c.args.at ≡ true = cc in
-    let puts = store_puts _ _ _ _ _ _ _ within c.ranges.at.fits c.from.ensures c.ranges.byte.fits c.store.ensures.there c.store.ensures.done c.store.ensures.refused in
-    put_whole _ _ _ _ _ _ puts
-
-pub returns-clause-outside : goal.returns-clause-outside
-returns-clause-outside g c =
-    let within : is_in (data_of c.args.self.now) c.args.at ≡ true = cc in
-    let puts = store_puts _ _ _ _ _ _ _ within c.ranges.at.fits c.from.ensures c.ranges.byte.fits c.store.ensures.there c.store.ensures.done c.store.ensures.refused in
-    put_outside _ _ _ _ _ _ puts
+    let call = λ (x : Bytes). call_by c.args.self.now.request x in
+    record {
+      same_reference = search rules;
+      done = put_kept _ _ _ _ _ _ call puts;
+      refused = search rules;
+      there = put_there _ _ _ _ _ _ puts;
+      region = put_region _ _ _ _ _ _ puts;
+      has_data = put_whole _ _ _ _ _ _ puts;
+      outside = put_outside _ _ _ _ _ _ puts;
+      place = search rules;
+    }

@@ -3,13 +3,11 @@ use Rattle.sfi_host.specs.Regions.{span_of}
 use Rattle.sfi_host.proofs.Runs.{covered, not_covered, covered_end}
 use Rattle.sfi_host.proofs.region.Region.covers.Goals as goal
 
-pub returns-then-self-at-clause-there : goal.returns-then-self-at-clause-there
-returns-then-self-at-clause-there c m whole =
-    covered (span_of c.args.self) m c.args.at c.args.count _ whole c.if-self-at.true (omega arith) (cc)
-
-pub returns-then-self-at-clause-end : goal.returns-then-self-at-clause-end
-returns-then-self-at-clause-end c m memory whole =
-    covered_end (span_of c.args.self) m c.args.at c.args.count _ memory whole c.if-self-at.true (omega arith) (cc)
+pub returns-then-self-at : goal.returns-then-self-at
+returns-then-self-at c = record {
+  there = λ m whole. covered (span_of c.args.self) m c.args.at c.args.count _ whole c.if-self-at.true (omega arith) (cc);
+  end = λ m memory whole. covered_end (span_of c.args.self) m c.args.at c.args.count _ memory whole c.if-self-at.true (omega arith) (cc);
+}
 
 pub returns-else-self-at-clause-there : goal.returns-else-self-at-clause-there
 returns-else-self-at-clause-there c m whole =

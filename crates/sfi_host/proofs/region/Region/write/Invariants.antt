@@ -1,5 +1,5 @@
 use Rattle.sfi_host.specs.Regions.{span_of}
-use Rattle.sfi_host.proofs.Writing.{HasWritten}
+use Rattle.sfi_host.proofs.Runs.{HasWritten}
 use Rattle.sfi_host.proofs.region.Region.write.Given as goal
 
 abbrev pub invariant-loop-byte : goal.invariant-loop-byte

@@ -2,8 +2,7 @@ use Rattle.std.proofs.Common.{ap, ◌∙◌, is_some, drop, length}
 use Rattle.std.specs.List.{range_with_len}
 use Rattle.rv_mem.specs.Bytes.{bytes_at}
 use Rattle.sfi_host.specs.Guests.{asked}
-use Rattle.sfi_host.proofs.Runs.{fewer_there}
-use Rattle.sfi_host.proofs.Writing.{few}
+use Rattle.sfi_host.proofs.Runs.{fewer_there, few}
 use Rattle.sfi_host.proofs.session.Session.get.Goals as goal
 
 pub put_bytes-requires-clause-there : goal.put_bytes-requires-clause-there

@@ -7,7 +7,6 @@ use Rattle.sfi_image.specs.Spelling.{Part, views}
 use Rattle.sfi_host.specs.Loading.{first_seat, with_parts}
 use Rattle.sfi_host.specs.private.Programs.{AreProgramsOf}
 use Rattle.sfi_host.specs.Sandboxes.{seats_of}
-use Rattle.sfi_host.specs.Worlds.{Seat}
 use Rattle.sfi_host.proofs.Entries.{IsFirst, is_first}
 use Rattle.sfi_host.proofs.world.World.load.Given as given
 use Rattle.sfi_host.proofs.world.World.load.Goals as goal
@@ -29,7 +28,7 @@ first g c =
     (subst (λ (qs : List Part). AreProgramsOf qs (length qs) c.in_ok-programs.programs.items) parts-2 (c.in_ok-programs.ensures c.format.result))
 
 pub invariant_of-result : goal.invariant_of-result
-invariant_of-result g c = ((first g c).safe, (first g c).decoded, (first g c).enterable)
+invariant_of-result g c = (first g c).kept
 
 pub returns-clause-entered : goal.returns-clause-entered
 returns-clause-entered g c = (first g c).entered
@@ -38,4 +37,4 @@ pub returns-clause-first_data : goal.returns-clause-first_data
 returns-clause-first_data g c = (first g c).first_data
 
 pub returns-clause-safe : goal.returns-clause-safe
-returns-clause-safe g c = (first g c).safe
+returns-clause-safe g c = (first g c).kept.0

@@ -1,11 +1,11 @@
-use Rattle.std.proofs.Common.{◌≡◌, ◌≢◌, ◌⊎◌, inl, inr, ℕ, List, Some, None, ◌∙◌, refl, sym, subst}
+use Rattle.std.proofs.Common.{◌≡◌, ◌≢◌, ◌⊎◌, inl, inr, ℕ, List, Some, None, ◌∙◌, refl, sym, subst, arith}
 use Rattle.std.proofs.lemmas.List.{take_all}
 use Rattle.sfi_host.specs.declared.turn.StepResult.{StepResult}
 use Rattle.sfi_host.specs.declared.turn.StepResult.TheVariants.{Continue, TurnEnds, RunEnds}
 use Rattle.sfi_host.specs.declared.turn.Turn.{Turn}
 use Rattle.sfi_host.specs.Joint.{Machine, IsMachine}
 use Rattle.sfi_host.specs.Plans.{IsJoint, IsCutJoint}
-use Rattle.sfi_host.specs.Worlds.{slots_of, StaysOutsideData}
+use Rattle.sfi_host.specs.Worlds.{slots_of}
 use Rattle.sfi_host.proofs.Continuing.{next_taken, next_cut}
 use Rattle.sfi_host.proofs.Joined.{joint_are}
 use Rattle.sfi_host.proofs.Plans.{none_joint}
@@ -57,30 +57,28 @@ returns-clause-stops g c = have_stopped c.loop-place.self c.loop-place.invariant
 
 -- ---- a call was refused
 
-cut : (g : given.Over) (c : goal.In-RunEnds g) (machine : Machine) → IsMachine machine
-    → IsCutJoint machine g.G.Gates.answer g.G.Gates.may_refuse c.args.plan.now (slots_of c.args.self.now) c.args.gates.now c.loop-place.place (slots_of c.take_turn.new.self) c.take_turn.new.gates
-cut g c machine is = next_cut machine g.G.Gates.answer c.args.plan.now c.loop-place.place no_turn c.loop-place-test.true (slots_of c.args.self.now) _ _ c.args.gates.now c.loop-place.gates _
-    (c.loop-place.invariant.taken machine is) g.G.Gates.may_refuse (c.in-RunEnds.ensures.refused refl machine is)
-
-left : (g : given.Over) (c : goal.In-RunEnds g) → StaysOutsideData c.args.self.now c.take_turn.new.self.bytes
-left g c = outside_more c.args.self.now c.loop-place.self _ c.loop-place.invariant.bounds c.loop-place.invariant.outside c.take_turn.ensures.outside
-
-pub returns-in-RunEnds-clause-memory : goal.returns-in-RunEnds-clause-memory
-returns-in-RunEnds-clause-memory g c place is_place machine is =
-    let same : c.loop-place.place ≡ place = cc in
-    subst (λ (n : ℕ). IsCutJoint machine g.G.Gates.answer g.G.Gates.may_refuse c.args.plan.now (slots_of c.args.self.now) c.args.gates.now n (slots_of c.take_turn.new.self) c.take_turn.new.gates) same (cut g c machine is)
-
-pub returns-in-RunEnds-clause-runs : goal.returns-in-RunEnds-clause-runs
-returns-in-RunEnds-clause-runs g c machine is =
-    let ended = cut g c machine is in
+pub returns-in-RunEnds : goal.returns-in-RunEnds
+returns-in-RunEnds g c =
+    let old = slots_of c.args.self.now in
+    let new = slots_of c.take_turn.new.self in
+    let left = outside_more c.args.self.now c.loop-place.self _ c.loop-place.invariant.bounds c.loop-place.invariant.outside c.take_turn.ensures.outside in
+    let cut : (machine : Machine) → IsMachine machine → IsCutJoint machine g.G.Gates.answer g.G.Gates.may_refuse c.args.plan.now old c.args.gates.now c.loop-place.place new c.take_turn.new.gates =
+    λ machine is. next_cut machine g.G.Gates.answer c.args.plan.now c.loop-place.place no_turn c.loop-place-test.true old _ _ c.args.gates.now c.loop-place.gates _
+    (c.loop-place.invariant.taken machine is) g.G.Gates.may_refuse (c.in-RunEnds.ensures.refused refl machine is) in
     record {
-      cut = ended;
-      moved = world_runs joint_are machine is g.G.Gates.answer c.args.plan.now c.args.self.now c.take_turn.new.self c.args.gates.now c.stays_safe.ensures
-          (c.take_turn.ensures.bounds ∙ c.loop-place.invariant.bounds) (left g c) (Some ended.answered) ended.slots;
+      done = λ e. absurd (cc);
+      memory = λ place e machine is.
+          let same : c.loop-place.place ≡ place = cc in
+          subst (λ (n : ℕ). IsCutJoint machine g.G.Gates.answer g.G.Gates.may_refuse c.args.plan.now old c.args.gates.now n new c.take_turn.new.gates) same (cut machine is);
+      runs = λ machine is.
+          let ended = cut machine is in
+          record {
+            cut = ended;
+            moved = world_runs joint_are machine is g.G.Gates.answer c.args.plan.now c.args.self.now c.take_turn.new.self c.args.gates.now c.stays_safe.ensures
+                (c.take_turn.ensures.bounds ∙ c.loop-place.invariant.bounds) left (Some ended.answered) ended.slots;
+          };
+      safe = c.take_turn.ensures.safe;
+      stops = have_stopped c.take_turn.new.self c.take_turn.ensures.safe;
+      outside = left;
+      place = λ turn e. let same : c.loop-place.place ≡ turn = cc in omega (arith, same, c.loop-place-test.true);
     }
-
-pub returns-in-RunEnds-clause-stops : goal.returns-in-RunEnds-clause-stops
-returns-in-RunEnds-clause-stops g c = have_stopped c.take_turn.new.self c.take_turn.ensures.safe
-
-pub returns-in-RunEnds-clause-outside : goal.returns-in-RunEnds-clause-outside
-returns-in-RunEnds-clause-outside g c = left g c

@@ -6,10 +6,9 @@ use Rattle.sfi_host.specs.Plans.{IsJoint, IsCutJoint}
 use Rattle.sfi_host.specs.Sandboxes.{seat_of, world_of}
 use Rattle.sfi_host.specs.Worlds.{Sandboxes, slot_of, slots_of}
 use Rattle.sfi_host.proofs.Asked.{found, no_slot, seat_at}
-use Rattle.sfi_host.proofs.Entries.{still_enterable}
 use Rattle.sfi_host.proofs.Neighbours.{get_set_same}
-use Rattle.sfi_host.proofs.Plans.{none_then, is_joint, one_turn, cut_turn}
-use Rattle.sfi_host.proofs.Taking.{AfterTurn, turn_taken}
+use Rattle.sfi_host.proofs.Plans.{none_then, one_joint, one_turn, cut_turn}
+use Rattle.sfi_host.proofs.Changing.{AfterTurn, turn_taken}
 use Rattle.sfi_host.proofs.world.World.take_turn.Given as given
 use Rattle.sfi_host.proofs.world.World.take_turn.Goals as goal
 
@@ -18,26 +17,23 @@ returns-then-place-len-clause-whole g c whole machine is =
     let m = g.M.Memory.bytes c.self.inside.memory in
     let items = c.self.inside.sandboxes.items in
     let i = c.args.turn.sandbox in
-    is_joint machine g.G.Gates.answer c.args.turn (slots_of c.args.self.now) c.args.gates.now (slots_of c.args.self.now) c.args.gates.now
+    one_joint machine g.G.Gates.answer c.args.turn (slots_of c.args.self.now) c.args.gates.now (slots_of c.args.self.now) c.args.gates.now
     (none_then machine g.G.Gates.answer c.args.turn (slots_of c.args.self.now) c.args.gates.now None
     (ap (λ (w : Sandboxes). slice_get (slots_of w) i) (sym c.self.view_is) ∙ no_slot m items i (slice_get_past items i (omega (arith, c.len.ensures, c.if-place-len.true)))) [])
 
-pub run_turn-requires-clause-safe : goal.run_turn-requires-clause-safe
-run_turn-requires-clause-safe g c =
-    let items = c.self.inside.sandboxes.items in
-    let i = c.args.turn.sandbox in
-    let x = c.index_mut.result.now in
-    c.self.invariant.0.each i (seat_of x) (seat_at items i x (found items items i x refl (omega (arith, c.len.ensures, c.if-place-len.false)) c.index_mut.ensures.value))
-
-pub run_turn-requires-clause-decoded : goal.run_turn-requires-clause-decoded
-run_turn-requires-clause-decoded g c =
+pub run_turn-requires : goal.run_turn-requires
+run_turn-requires g c =
     let items = c.self.inside.sandboxes.items in
     let programs = c.self.inside.programs.items in
     let i = c.args.turn.sandbox in
     let x = c.index_mut.result.now in
     let below : i < length items = omega (arith, c.len.ensures, c.if-place-len.false) in
     let count : length programs ≡ length items = c.self.invariant.1.count ∙ length-map items seat_of in
-    c.self.invariant.1.each i c.index.result.now (seat_of x) (found programs programs i c.index.result.now refl (omega (arith, below, count)) c.index.ensures) (seat_at items i x (found items items i x refl below c.index_mut.ensures.value))
+    let there = seat_at items i x (found items items i x refl below c.index_mut.ensures.value) in
+    record {
+      safe = c.self.invariant.0.each i (seat_of x) there;
+      decoded = c.self.invariant.1.each i c.index.result.now (seat_of x) (found programs programs i c.index.result.now refl (omega (arith, below, count)) c.index.ensures) there;
+    }
 
 taken : (g : given.Over) (c : goal.After-self-1 g) → AfterTurn c.args.self.now c.self.inside.programs.items c.args.turn.sandbox (slot_of (g.M.Memory.bytes c.self.inside.memory) (seat_of c.index_mut.result.now))
     (slot_of (g.M.Memory.bytes c.run_turn.new.memory) (seat_of c.run_turn.new.sandbox)) (world_of (g.M.Memory.bytes c.run_turn.new.memory) (set c.self.inside.sandboxes.items c.args.turn.sandbox c.run_turn.new.sandbox))
@@ -46,32 +42,24 @@ taken g c =
     let i = c.args.turn.sandbox in
     let x = c.index_mut.result.now in
     turn_taken (g.M.Memory.bytes c.self.inside.memory) (g.M.Memory.bytes c.run_turn.new.memory) items c.self.inside.programs.items i x c.run_turn.new.sandbox
-    (c.self.invariant.0, c.self.invariant.1) (found items items i x refl (omega (arith, c.len.ensures, c.if-place-len.false)) c.index_mut.ensures.value) c.run_turn.ensures.bounds c.run_turn.ensures.safe c.run_turn.ensures.others
+    c.self.invariant (found items items i x refl (omega (arith, c.len.ensures, c.if-place-len.false)) c.index_mut.ensures.value) c.run_turn.ensures.bounds c.run_turn.ensures.safe c.run_turn.ensures.others
     c.args.self.now c.self.view_is
 
 pub invariant_of-self : goal.invariant_of-self
-invariant_of-self g c =
+invariant_of-self g c = (taken g c).kept
+
+pub returns : goal.returns
+returns g c =
     let after = taken g c in
-    (after.safe, after.decoded, still_enterable (world_of (g.M.Memory.bytes c.self.inside.memory) c.self.inside.sandboxes.items) c.args.self.now _ c.self.view_is c.self.invariant.0 after.bounds after.outside c.self.invariant.2)
-
-pub returns-clause-safe : goal.returns-clause-safe
-returns-clause-safe g c = (taken g c).safe
-
-pub returns-clause-bounds : goal.returns-clause-bounds
-returns-clause-bounds g c = (taken g c).bounds
-
-pub returns-clause-outside : goal.returns-clause-outside
-returns-clause-outside g c = (taken g c).outside
-
-pub returns-clause-whole : goal.returns-clause-whole
-returns-clause-whole g c whole machine is =
-    let after = taken g c in
-    subst (λ (l : List Slot). IsJoint machine g.G.Gates.answer (c.args.turn ∷ []) (slots_of c.args.self.now) c.args.gates.now l c.run_turn.new.gates) (sym after.slots)
-    (one_turn machine g.G.Gates.answer c.args.turn (slots_of c.args.self.now) c.args.gates.now _ _ c.run_turn.new.gates after.there (c.run_turn.ensures.whole whole machine is))
-
-pub returns-clause-refused : goal.returns-clause-refused
-returns-clause-refused g c refused machine is =
-    let after = taken g c in
-    subst (λ (l : List Slot). IsCutJoint machine g.G.Gates.answer g.G.Gates.may_refuse (c.args.turn ∷ []) (slots_of c.args.self.now) c.args.gates.now 0 l c.run_turn.new.gates) (sym after.slots)
-    (cut_turn machine g.G.Gates.answer c.args.turn (slots_of c.args.self.now) c.args.gates.now _ _ c.run_turn.new.gates after.there g.G.Gates.may_refuse
-    (get_set_same (slots_of c.args.self.now) c.args.turn.sandbox _ _ after.there) (c.run_turn.ensures.refused refused machine is))
+    let slots = slots_of c.args.self.now in
+    record {
+      safe = after.kept.0;
+      bounds = after.bounds;
+      outside = after.outside;
+      whole = λ whole machine is. subst (λ (l : List Slot). IsJoint machine g.G.Gates.answer (c.args.turn ∷ []) slots c.args.gates.now l c.run_turn.new.gates) (sym after.slots)
+          (one_turn machine g.G.Gates.answer c.args.turn slots c.args.gates.now _ after.there _ c.run_turn.new.gates (c.run_turn.ensures.whole whole machine is));
+      refused = λ refused machine is.
+          subst (λ (l : List Slot). IsCutJoint machine g.G.Gates.answer g.G.Gates.may_refuse (c.args.turn ∷ []) slots c.args.gates.now 0 l c.run_turn.new.gates) (sym after.slots)
+          (cut_turn machine g.G.Gates.answer c.args.turn slots c.args.gates.now _ after.there _ c.run_turn.new.gates g.G.Gates.may_refuse
+          (get_set_same slots c.args.turn.sandbox _ _ after.there) (c.run_turn.ensures.refused refused machine is));
+    }
