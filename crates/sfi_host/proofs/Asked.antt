@@ -1,16 +1,6 @@
 -- What a world answers of a sandbox.
-use Rattle.std.proofs.Common.{◌≡◌, ℕ, ◌↔◌, ◌<◌, List, length, get_or, Option, Some, None, IsSome, slice_get, sym, ap, ◌∙◌, subst}
-use Rattle.std.specs.Option.{option_map}
-use Rattle.std.proofs.lemmas.Option.{slice_get-get_or, slice_get-map}
-use Rattle.std.specs.List.{range_with_len}
-use Rattle.rv_mem.specs.Bytes.{Bytes, byte_at, bytes_at}
-use Rattle.sfi_image.specs.Spans.{Holds}
-use Rattle.sfi_host.specs.declared.sandbox.Sandbox.{Sandbox}
-use Rattle.sfi_host.specs.Regions.{bytes_in}
+use Rattle.sfi_host.proofs.Prelude.{◌≡◌, ℕ, ◌↔◌, ◌<◌, List, length, get_or, Option, Some, None, IsSome, slice_get, sym, ap, ◌∙◌, subst, option_map, slice_get-get_or, slice_get-map, range_with_len, Bytes, byte_at, bytes_at, Holds, Sandbox, bytes_in, Slot, seat_of, seats_of, world_of, Sandboxes, slot_of, slots_of, data_byte_of}
 use Rattle.sfi_host.specs.Changing.{data_bytes_of}
-use Rattle.sfi_host.specs.Slots.{Slot}
-use Rattle.sfi_host.specs.Sandboxes.{seat_of, seats_of, world_of}
-use Rattle.sfi_host.specs.Worlds.{Sandboxes, slot_of, slots_of, data_byte_of}
 use Rattle.sfi_host.proofs.Leaving.{data_of_own}
 use Rattle.sfi_host.proofs.SameWorld.{get_map}
 

@@ -1,29 +1,13 @@
 -- A world of which one sandbox changed: it took a turn, or its data were written from outside.
-use Rattle.std.proofs.Common.{◌≡◌, ◌≢◌, ⊎_elim, ℕ, ◌+◌, List, Some, set, slice_get, sym, ap, ◌∙◌, subst, refl}
-use Rattle.std.proofs.lemmas.Bool.{cases_eq}
-use Rattle.std.proofs.lemmas.List.{map-set}
-use Rattle.std.proofs.lemmas.Option.{same_Some}
-use Rattle.rv_mem.specs.Bytes.{Bytes, IsMemory}
-use Rattle.sfi_image.specs.Spans.{Holds}
-use Rattle.sfi_image.specs.Spelling.{Part}
-use Rattle.sfi_check.specs.Regions.{InCode}
-use Rattle.sfi_host.specs.declared.program.Program.{Program}
-use Rattle.sfi_host.specs.declared.sandbox.Sandbox.{Sandbox}
-use Rattle.sfi_host.specs.Entering.{AreEnterable}
+use Rattle.sfi_host.proofs.Prelude.{◌≡◌, ◌≢◌, ⊎_elim, ℕ, ◌+◌, List, Some, set, slice_get, sym, ap, ◌∙◌, subst, refl, cases_eq, map-set, same_Some, Bytes, IsMemory, Holds, Part, InCode, Program, Sandbox, AreEnterable, seat_of, seats_of, world_of, Bounds, Slot, bounds_of, Seat, Sandboxes, slot_of, slots_of, IsSafeSeat, IsSafeWorld, StaysOutside, StaysOutsideData, state_in, bounds_in, IsChange, bytes_in, bytes_outside, IsWhole}
+use Rattle.sfi_host.specs.Changing.{OthersAreSame, AreChanges}
 use Rattle.sfi_host.specs.Programs.{AreDecoded}
-use Rattle.sfi_host.specs.Sandboxes.{seat_of, seats_of, world_of}
-use Rattle.sfi_host.specs.Slots.{Bounds, Slot, bounds_of}
-use Rattle.sfi_host.specs.Worlds.{Seat, Sandboxes, slot_of, slots_of, IsSafeSeat, IsSafeWorld, StaysOutside, StaysOutsideData, state_in}
-use Rattle.sfi_host.specs.private.Sandboxes.{bounds_in}
 use Rattle.sfi_host.proofs.Asked.{seat_at}
 use Rattle.sfi_host.proofs.Decoding.{are_decoded}
 use Rattle.sfi_host.proofs.Neighbours.{slots_are, world_safe, get_set_other, set_itself, neighbours_are}
 use Rattle.sfi_host.proofs.SafeSeats as keep
 use Rattle.sfi_host.proofs.SameWorld.{get_map, same_bounds}
 use Rattle.sfi_host.proofs.Worlds.{map_get}
-use Rattle.sfi_check.specs.Runs.{IsChange}
-use Rattle.sfi_host.specs.Changing.{OthersAreSame, AreChanges}
-use Rattle.sfi_host.specs.Regions.{bytes_in, bytes_outside, IsWhole}
 use Rattle.sfi_host.proofs.Leaving.{stays_outside, whole_in, whole_of}
 
 -- ---- a turn

@@ -1,22 +1,9 @@
 -- An image whose parts lie apart, in an empty memory: what is where.
-use Rattle.std.proofs.Common.{◌≡◌, ◌≢◌, ℕ, zero, suc, ◌+◌, ◌-◌, ◌%◌, ◌^◌, ◌<◌, ◌≤◌, ◌==◌, ◌⊎◌, inl, inr, ⊎_elim, true, false, List, [], ◌∷◌, ◌++◌, length, get_or, Some, None, slice_get, refl, sym, ap, ◌∙◌, subst, arith, length-append}
+use Rattle.sfi_host.proofs.Prelude.{◌≡◌, ◌≢◌, ℕ, zero, suc, ◌+◌, ◌-◌, ◌%◌, ◌^◌, ◌<◌, ◌≤◌, ◌==◌, ◌⊎◌, inl, inr, ⊎_elim, true, false, List, [], ◌∷◌, ◌++◌, length, get_or, Some, None, slice_get, refl, sym, ap, ◌∙◌, subst, arith, length-append, length-replicate, get_or_from_slice_get, slice_get_within, slice_index, replicate, Contains, AllPairs, empty, get-empty, cases_lt, eqb-true, eqb-false, Bytes, byte_at, addresses, with_bytes, added, Span, Part, Holds, AreApart, code_region, guarded_region, spans, IsRightPart, IsRightLayout, InCode, InData, InGuard, first_data, with_part, with_parts}
 use Rattle.std.proofs.Math.ListN.{get_or-append}
-use Rattle.std.proofs.lemmas.List.{length-replicate}
-use Rattle.std.proofs.lemmas.Option.{get_or_from_slice_get, slice_get_within}
-use Rattle.std.specs.Prelude.{slice_index, replicate}
-use Rattle.std.specs.List.{Contains, AllPairs}
 use Rattle.std.specs.Ordering.{nat_cmp}
-use Rattle.std.specs.FinMap.{empty, get-empty}
-use Rattle.std.proofs.lemmas.Bool.{cases_lt, eqb-true, eqb-false}
-use Rattle.rv_mem.specs.Bytes.{Bytes, byte_at, addresses, with_bytes, added}
 use Rattle.rv_mem.proofs.Facts.{addresses_are_these, others_stay, written_is_there}
-use Rattle.sfi_image.specs.declared.span.Span.{Span}
-use Rattle.sfi_image.specs.Spelling.{Part}
-use Rattle.sfi_image.specs.Spans.{Holds, AreApart, code_region, guarded_region, spans}
-use Rattle.sfi_image.specs.Parts.{IsRightPart, IsRightLayout}
 use Rattle.sfi_image.proofs.Facts.{code_ends}
-use Rattle.sfi_check.specs.Regions.{InCode, InData, InGuard}
-use Rattle.sfi_host.specs.Loading.{first_data, with_part, with_parts}
 
 -- ---- the spans of an image
 

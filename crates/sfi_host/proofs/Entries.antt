@@ -1,27 +1,6 @@
 -- A sandbox that is entered again.
-use Rattle.std.proofs.Common.{◌≡◌, ◌≢◌, ◌⊎◌, inl, inr, ⊎_elim, ◌↔◌, IsTrue, ℕ, suc, ◌+◌, ◌-◌, ◌^◌, ◌<◌, ◌≤◌, ◌==◌, Bool, true, false, List, [], ◌∷◌, ◌++◌, map, length, take, get_or, Some, None, set, slice_get, refl, sym, ap, ◌∙◌, subst, arith, get_or-set_other}
-use Rattle.std.proofs.lemmas.Option.{same_Some}
-use Rattle.std.specs.Prelude.{slice_index, slice_set, cond}
-use Rattle.std.specs.FinMap.{empty}
-use Rattle.std.proofs.lemmas.List.{map-set, take_more, take_all, length-take-le}
-use Rattle.rv_mem.specs.Bytes.{Bytes, IsMemory}
-use Rattle.rv_step.specs.State.{Hart, IsHart, with_register}
-use Rattle.sfi_image.specs.Parts.{IsRightLayout}
+use Rattle.sfi_host.proofs.Prelude.{◌≡◌, ◌≢◌, ◌⊎◌, inl, inr, ⊎_elim, ◌↔◌, IsTrue, ℕ, suc, ◌+◌, ◌-◌, ◌^◌, ◌<◌, ◌≤◌, ◌==◌, Bool, true, false, List, [], ◌∷◌, ◌++◌, map, length, take, get_or, Some, None, set, slice_get, refl, sym, ap, ◌∙◌, subst, arith, get_or-set_other, same_Some, slice_index, slice_set, cond, empty, map-set, take_more, take_all, length-take-le, Bytes, IsMemory, Hart, IsHart, with_register, IsRightLayout, Holds, InGuards, AreApart, with_guards, code_region, Part, InGuard, HasCode, IsEntry, AllRunSafely, AllCallWithStack, Program, Sandbox, MayEnter, MayEnterAt, fresh_hart, with_registers, entered_hart, entered_seat, with_entry_of, with_entry, IsAtEntry, IsEnterable, first_seat, with_parts, AreEntered, HaveFirstData, seat_of, seats_of, world_of, Bounds, Slot, bounds_of, Seat, Sandboxes, slot_of, slots_of, state_in, IsSafeSeat, AreProgramsOf}
 use Rattle.sfi_image.specs.Regions.{IsBundleStart}
-use Rattle.sfi_image.specs.Spans.{Holds, InGuards, AreApart, with_guards, code_region}
-use Rattle.sfi_image.specs.Spelling.{Part}
-use Rattle.sfi_check.specs.Regions.{InGuard, HasCode}
-use Rattle.sfi_check.specs.Runs.{IsEntry}
-use Rattle.sfi_check.specs.Safety.{AllRunSafely}
-use Rattle.sfi_check.specs.Stack.{AllCallWithStack}
-use Rattle.sfi_host.specs.declared.program.Program.{Program}
-use Rattle.sfi_host.specs.declared.sandbox.Sandbox.{Sandbox}
-use Rattle.sfi_host.specs.Entering.{MayEnter, MayEnterAt, fresh_hart, with_registers, entered_hart, entered_seat, with_entry_of, with_entry, IsAtEntry, IsEnterable}
-use Rattle.sfi_host.specs.Loading.{first_seat, with_parts, AreEntered, HaveFirstData}
-use Rattle.sfi_host.specs.Sandboxes.{seat_of, seats_of, world_of}
-use Rattle.sfi_host.specs.Slots.{Bounds, Slot, bounds_of}
-use Rattle.sfi_host.specs.Worlds.{Seat, Sandboxes, slot_of, slots_of, state_in, IsSafeSeat}
-use Rattle.sfi_host.specs.private.Programs.{AreProgramsOf}
 use Rattle.sfi_host.proofs.Asked.{seat_at, slot_is, no_slot}
 use Rattle.sfi_host.proofs.Decoding.{first_decoded}
 use Rattle.sfi_host.proofs.Neighbours.{get_set_same}

@@ -1,30 +1,11 @@
 -- What the joint run does from a safe world is a list of moves.
-use Rattle.std.proofs.Common.{◌≡◌, ◌≢◌, ◌⊎◌, inl, inr, IsSome, is_some, ℕ, zero, suc, ◌<◌, ◌≤◌, ◌^◌, ◌||◌, ◌&&◌, Bool, true, false, cond, List, [], ◌∷◌, ◌++◌, length, take, Option, Some, None, slice_get, set, refl, sym, ap, ◌∙◌, subst, arith, append_assoc, append-nil}
-use Rattle.std.specs.List.{All}
-use Rattle.std.specs.Option.{option_map, option_or}
-use Rattle.std.proofs.lemmas.Option.{slice_get-map}
-use Rattle.std.proofs.lemmas.List.{map-append, take_all}
-use Rattle.std.proofs.lemmas.List.Elements.{All-cons, All-nil}
-use Rattle.rv_mem.specs.Bytes.{Bytes, IsMemory, byte_at}
-use Rattle.rv_word.specs.declared.instr.Instr.TheVariants.{Ecall}
-use Rattle.rv_step.specs.declared.outcome.Outcome.{Outcome}
-use Rattle.rv_step.specs.declared.outcome.Outcome.TheVariants as outcome
-use Rattle.rv_step.specs.State.{State}
-use Rattle.rv_step.specs.Step.{Stepped, Stands, IsStep}
-use Rattle.sfi_image.specs.Spelling.{Part}
-use Rattle.sfi_check.specs.Runs.{IsReply, IsTurn, after_step as step_to, after_turn as goes_to}
-use Rattle.sfi_host.specs.declared.status.Status.{Status}
-use Rattle.sfi_host.specs.declared.status.Status.TheVariants.{Ready, Trapped}
-use Rattle.sfi_host.specs.declared.turn.StepResult.{StepResult}
-use Rattle.sfi_host.specs.declared.turn.StepResult.TheVariants.{Continue, TurnEnds, RunEnds}
-use Rattle.sfi_host.specs.declared.turn.Turn.{Turn as PlanTurn}
-use Rattle.sfi_host.specs.Hosts.{Way, Exit, Reply, Answer, Host, limited, replay}
-use Rattle.sfi_host.specs.Regions.{is_in, IsWhole}
-use Rattle.sfi_host.specs.Slots.{Bounds, Slot, bounds_of, one_more, is_own, own}
-use Rattle.sfi_host.specs.Joint.{Machine, IsMachine, word, is_byte, with_arguments, with_data, after_way, status_after, replied, Moved, moved, still, after_answer, after_step, after_replies, and_more, turned, Given, given, Joined, joined, after_turn, and_plan, turn_and, call_of}
-use Rattle.sfi_host.specs.Worlds.{Seat, Sandboxes, slot_of, slots_of, state_in, IsSafeSeat, IsSafeWorld, StaysOutside}
-use Rattle.sfi_host.specs.Steps.{IsOwnStep}
+use Rattle.sfi_host.proofs.Prelude.{◌≡◌, ◌≢◌, ◌⊎◌, inl, inr, IsSome, is_some, ℕ, zero, suc, ◌<◌, ◌≤◌, ◌^◌, ◌||◌, ◌&&◌, Bool, true, false, cond, List, [], ◌∷◌, ◌++◌, length, take, Option, Some, None, slice_get, set, refl, sym, ap, ◌∙◌, subst, arith, append_assoc, append-nil, All, option_map, option_or, slice_get-map, map-append, take_all, Bytes, IsMemory, byte_at, Ecall, Outcome, State, Stepped, Stands, IsStep, Part, IsReply, IsTurn, Status, Ready, Trapped, StepResult, Continue, TurnEnds, RunEnds, Way, Exit, Reply, Answer, Host, limited, replay, is_in, IsWhole, Bounds, Slot, bounds_of, one_more, is_own, own, Machine, IsMachine, word, is_byte, with_arguments, with_data, after_way, status_after, replied, Moved, moved, still, after_answer, after_step, after_replies, and_more, turned, Given, given, Joined, joined, after_turn, and_plan, turn_and, call_of, Seat, Sandboxes, slot_of, slots_of, state_in, IsSafeSeat, IsSafeWorld, StaysOutside}
 use Rattle.sfi_host.specs.Moves.{StepsAlone, Move, after_move, IsTurnsShare, AreShares, all_of, given_in, ComeTo, HaveRun, JoinedMoves, JointMoves}
+use Rattle.sfi_host.specs.Steps.{IsOwnStep}
+use Rattle.std.proofs.lemmas.List.Elements.{All-cons, All-nil}
+use Rattle.sfi_check.specs.Runs.{after_step as step_to, after_turn as goes_to}
+use Rattle.sfi_host.specs.declared.turn.Turn.{Turn as PlanTurn}
+use Rattle.rv_step.specs.declared.outcome.Outcome.TheVariants as outcome
 use Rattle.sfi_host.proofs.Continuing.{way_goes}
 use Rattle.sfi_host.proofs.Leaving.{get_with_data}
 use Rattle.sfi_host.proofs.Moves.{turn_of, Taken, IsTaken, AreTaken, are_moves, taken_follow, safe_after, slots_after, are_runs, safe_runs}

@@ -1,15 +1,7 @@
 -- A sandbox's own bytes after a call.
-use Rattle.std.proofs.Common.{◌≡◌, ℕ, ◌<◌, ◌||◌, ◌&&◌, IsSome, Bool, true, false, not, cond, List, [], ◌∷◌, ◌++◌, Option, Some, None, refl, sym, ap, ◌∙◌, arith}
-use Rattle.std.specs.Option.{option_or}
-use Rattle.std.specs.Ordering.{nat_cmp, eq_by_cmp}
+use Rattle.sfi_host.proofs.Prelude.{◌≡◌, ℕ, ◌<◌, ◌||◌, ◌&&◌, IsSome, Bool, true, false, not, cond, List, [], ◌∷◌, ◌++◌, Option, Some, None, refl, sym, ap, ◌∙◌, arith, option_or, find, retain_keys, entries, get-from_entries, get-entries, Bytes, IsMemory, byte_at, Span, is_in, bytes_in, bytes_outside, IsWhole, Bounds, is_own, own, both, is_byte, with_data, StaysOutside}
 use Rattle.std.specs.Cmp.{nat_cmp_total}
-use Rattle.std.specs.FinMap.{find, retain_keys, entries, get-from_entries, get-entries}
-use Rattle.rv_mem.specs.Bytes.{Bytes, IsMemory, byte_at}
-use Rattle.sfi_image.specs.declared.span.Span.{Span}
-use Rattle.sfi_host.specs.Regions.{is_in, bytes_in, bytes_outside, IsWhole}
-use Rattle.sfi_host.specs.Slots.{Bounds, is_own, own}
-use Rattle.sfi_host.specs.Joint.{both, is_byte, with_data}
-use Rattle.sfi_host.specs.Worlds.{StaysOutside}
+use Rattle.std.specs.Ordering.{nat_cmp, eq_by_cmp}
 use Rattle.sfi_host.proofs.RegionBytes.{get_kept, same_bytes, byte_in, is_in-true, is_in-Holds}
 use Rattle.sfi_host.proofs.OwnSteps.{own_there, own_missing, same_own, true_false}
 

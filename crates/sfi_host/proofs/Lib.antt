@@ -1,3 +1,4 @@
+pub mod Prelude
 pub mod Solo
 pub mod Asked
 pub mod Decoding

@@ -1,23 +1,8 @@
 -- Moves of the sandboxes of a safe world are a run to each of them.
-use Rattle.std.proofs.Common.{◌≡◌, inl, inr, ℕ, ◌+◌, ◌<◌, List, [], ◌∷◌, length, Option, Some, None, slice_get, sym, ap, ◌∙◌, subst, ◌≢◌, ◌==◌, cond, true, false, ◌++◌, set, refl}
-use Rattle.rv_mem.specs.Bytes.{Bytes, byte_at}
-use Rattle.rv_step.specs.State.{State}
-use Rattle.sfi_image.specs.declared.part.Gate.{Gate}
-use Rattle.sfi_image.specs.Spelling.{Part}
-use Rattle.sfi_image.specs.Spans.{Holds, InGuards}
-use Rattle.sfi_check.specs.Regions.{InCode, InData, InGuard, IsGate, HasCode}
-use Rattle.sfi_check.specs.Runs.{Turn, Steps, Replies, Changes, after_turn, KeepsBytes, IsTurn, IsRun}
-use Rattle.sfi_check.specs.Safety.{IsSafeState, IsSafeTurn, IsSafeRun}
-use Rattle.sfi_host.specs.Slots.{Bounds, bounds_of, Slot}
-use Rattle.std.proofs.lemmas.Bool.{eqb-true, eqb-false}
-use Rattle.std.proofs.lemmas.Option.{same_Some}
-use Rattle.sfi_check.specs.Stack.{after_turns}
-use Rattle.sfi_host.specs.declared.status.Status.{Status}
-use Rattle.sfi_host.specs.declared.status.Status.TheVariants.{Ready}
-use Rattle.sfi_host.specs.Hosts.{Reply}
-use Rattle.sfi_host.specs.Joint.{Machine}
-use Rattle.sfi_host.specs.Worlds.{Seat, Sandboxes, slot_of, slots_of, state_in, IsSafeSeat, IsSafeWorld, StaysOutside}
+use Rattle.sfi_host.proofs.Prelude.{◌≡◌, inl, inr, ℕ, ◌+◌, ◌<◌, List, [], ◌∷◌, length, Option, Some, None, slice_get, sym, ap, ◌∙◌, subst, ◌≢◌, ◌==◌, cond, true, false, ◌++◌, set, refl, Bytes, byte_at, State, Part, Holds, InGuards, InCode, InData, InGuard, IsGate, HasCode, Steps, Replies, Changes, KeepsBytes, IsTurn, IsRun, IsSafeState, IsSafeTurn, IsSafeRun, Bounds, bounds_of, Slot, eqb-true, eqb-false, same_Some, after_turns, Status, Ready, Reply, Machine, Seat, Sandboxes, slot_of, slots_of, state_in, IsSafeSeat, IsSafeWorld, StaysOutside}
 use Rattle.sfi_host.specs.Moves.{StepsAlone, Move, after_move, AreMoves, own_turn, own_turns, turns_to, IsRunBetween, AreRuns, AreSafeRuns}
+use Rattle.sfi_image.specs.declared.part.Gate.{Gate}
+use Rattle.sfi_check.specs.Runs.{Turn, after_turn}
 use Rattle.sfi_host.proofs.SafeSeats as keep
 use Rattle.sfi_host.proofs.Neighbours.{get_set_same, get_set_other, other_same, slots_are, world_safe, neighbours_are}
 use Rattle.sfi_host.proofs.SameWorld.{outside_more, same_bounds}

@@ -1,14 +1,6 @@
 -- What the turn of one sandbox leaves of the others.
-use Rattle.std.proofs.Common.{◌≡◌, ◌≢◌, ℕ, zero, suc, ◌⊎◌, inl, inr, ⊎_elim, List, [], ◌∷◌, map, set, Some, is_some, slice_get, refl, sym, ap, ◌∙◌, subst, arith}
-use Rattle.std.proofs.lemmas.Bool.{cases_eq}
-use Rattle.std.proofs.lemmas.Option.{same_Some}
-use Rattle.rv_mem.specs.Bytes.{Bytes, IsMemory, byte_at}
-use Rattle.sfi_image.specs.Spelling.{Part}
-use Rattle.sfi_image.specs.Spans.{Holds}
-use Rattle.sfi_check.specs.Runs.{KeepsBytes}
+use Rattle.sfi_host.proofs.Prelude.{◌≡◌, ◌≢◌, ℕ, zero, suc, ◌⊎◌, inl, inr, ⊎_elim, List, [], ◌∷◌, map, set, Some, is_some, slice_get, refl, sym, ap, ◌∙◌, subst, arith, cases_eq, same_Some, Bytes, IsMemory, byte_at, Part, Holds, KeepsBytes, Bounds, bounds_of, own, Slot, Seat, slot_of, slots_of, IsSafeSeat, LiesOutside, IsSafeWorld, StaysOutside}
 use Rattle.sfi_host.specs.Laws.{NeighboursAreChanges}
-use Rattle.sfi_host.specs.Slots.{Bounds, bounds_of, own, Slot}
-use Rattle.sfi_host.specs.Worlds.{Seat, slot_of, slots_of, IsSafeSeat, LiesOutside, IsSafeWorld, StaysOutside}
 use Rattle.sfi_host.proofs.SafeSeats as keep
 use Rattle.sfi_host.proofs.OwnSteps.{own_is, own_there, own_missing, same_own}
 

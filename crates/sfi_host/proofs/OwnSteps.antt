@@ -1,25 +1,13 @@
 -- A step in the one memory, and the same step in the sandbox's own.
-use Rattle.std.proofs.Common.{◌≡◌, ◌≢◌, ℕ, ◌⊎◌, inl, inr, ⊎_elim, Bool, true, false, cond, None, refl, sym, ap, ◌∙◌, subst}
-use Rattle.std.proofs.lemmas.Bool.{or_left, or_right, or_cases}
-use Rattle.rv_mem.specs.Bytes.{Bytes, byte_at}
-use Rattle.rv_step.specs.declared.outcome.Outcome.{Outcome}
-use Rattle.rv_step.specs.declared.outcome.Outcome.TheVariants.{Next, Call, Trap}
+use Rattle.sfi_host.proofs.Prelude.{◌≡◌, ◌≢◌, ℕ, ◌⊎◌, inl, inr, ⊎_elim, Bool, true, false, cond, None, refl, sym, ap, ◌∙◌, subst, or_left, or_right, or_cases, Bytes, byte_at, Outcome, State, Stepped, Stands, IsStep, Holds, InCode, InData, InGuard, Steps, IsSafeState, IsSafeStep, IsTrap, RunsSafelyFrom, Ready, is_in, Bounds, is_own, own, state_of, Machine, IsMachine, Seat, slot_of, state_in, IsSafeSeat, StaysOutside}
 use Rattle.rv_step.specs.Access.{Accesses}
 use Rattle.rv_step.specs.Laws.{AgreeHere, IsSameStep}
-use Rattle.rv_step.proofs.Facts.{agreeing_stands_too, agreeing_steps_are_same, other_bytes_stay, stopped_stays, step_keeps_state, no_byte_goes, calls_are_ecalls}
-use Rattle.rv_step.specs.State.{State}
-use Rattle.rv_step.specs.Step.{Stepped, Stands, IsStep}
-use Rattle.sfi_image.specs.Spans.{Holds}
-use Rattle.sfi_check.specs.Regions.{InCode, InData, InGuard}
-use Rattle.sfi_check.specs.Runs.{Steps, after_step}
-use Rattle.sfi_check.specs.Safety.{IsSafeState, IsSafeStep, IsTrap, RunsSafelyFrom}
-use Rattle.sfi_check.proofs.Facts.{safe_turns, goes_on_safely}
-use Rattle.sfi_host.specs.declared.status.Status.TheVariants.{Ready}
-use Rattle.sfi_host.specs.Regions.{is_in}
-use Rattle.sfi_host.specs.Slots.{Bounds, is_own, own, state_of}
-use Rattle.sfi_host.specs.Joint.{Machine, IsMachine}
-use Rattle.sfi_host.specs.Worlds.{Seat, slot_of, state_in, IsSafeSeat, StaysOutside}
+use Rattle.rv_step.specs.declared.outcome.Outcome.TheVariants.{Next, Trap}
 use Rattle.sfi_host.specs.Steps.{own_step, stepped_seat, IsOwnStep, StepsAreOwn}
+use Rattle.rv_step.specs.declared.outcome.Outcome.TheVariants.{Call}
+use Rattle.sfi_check.specs.Runs.{after_step}
+use Rattle.rv_step.proofs.Facts.{agreeing_stands_too, agreeing_steps_are_same, other_bytes_stay, stopped_stays, step_keeps_state, no_byte_goes, calls_are_ecalls}
+use Rattle.sfi_check.proofs.Facts.{safe_turns, goes_on_safely}
 use Rattle.sfi_host.proofs.SafeSeats as keep
 use Rattle.sfi_host.proofs.Stops.{trap_itself}
 use Rattle.sfi_host.proofs.RegionBytes.{get_kept, same_bytes, is_in-true, is_in-Holds}

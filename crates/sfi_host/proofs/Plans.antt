@@ -1,13 +1,5 @@
 -- What a plan comes to, by the turn at its front; and one plan after another.
-use Rattle.std.proofs.Common.{◌≡◌, ℕ, zero, suc, ◌+◌, Bool, true, false, List, [], ◌∷◌, Option, Some, None, length, slice_get, set, refl, sym, ap, ◌∙◌, arith, cond, ◌++◌, append_assoc}
-use Rattle.sfi_host.specs.declared.turn.Turn.{Turn}
-use Rattle.sfi_host.specs.declared.turn.StepResult.TheVariants.{TurnEnds, RunEnds}
-use Rattle.sfi_host.specs.Hosts.{Call, Answer, Host, Limited, limited}
-use Rattle.sfi_host.specs.Slots.{Slot}
-use Rattle.sfi_host.specs.Joint.{Machine, Moved, still, Joined, joined, joint, and_plan, turn_and, after_turn, turned, Given, given}
-use Rattle.sfi_host.specs.Plans.{IsJoint, IsRefusedIn, IsCutJoint}
-use Rattle.sfi_host.specs.private.Limits.{allow, allows, with_left, end_of, limited_turn, IsTurnOf, IsCutTurnOf}
-use Rattle.sfi_host.specs.declared.turn.StepResult.{StepResult}
+use Rattle.sfi_host.proofs.Prelude.{◌≡◌, ℕ, zero, suc, ◌+◌, Bool, true, false, List, [], ◌∷◌, Option, Some, None, length, slice_get, set, refl, sym, ap, ◌∙◌, arith, cond, ◌++◌, append_assoc, Turn, TurnEnds, RunEnds, Call, Answer, Host, Limited, limited, Slot, Machine, Moved, still, Joined, joined, joint, and_plan, turn_and, after_turn, turned, Given, given, IsJoint, IsRefusedIn, IsCutJoint, allow, allows, with_left, end_of, limited_turn, IsTurnOf, IsCutTurnOf, StepResult}
 use Rattle.sfi_host.specs.Following.{after_run, JoinedFollows}
 
 -- ---- limits

@@ -1,16 +1,7 @@
 -- The bytes of a memory in a region: what is read there, and what a write leaves.
-use Rattle.std.proofs.Common.{◌↔◌, IsTrue, IsSome, is_some, ◌≡◌, ℕ, ◌+◌, ◌%◌, ◌^◌, ◌<◌, ◌==◌, Bool, true, false, cond, not, [], Option, Some, None, refl, sym, ap, subst, ◌∙◌, arith}
-use Rattle.std.proofs.lemmas.Bool.{eqb-true}
-use Rattle.std.specs.Option.{option_map}
+use Rattle.sfi_host.proofs.Prelude.{◌↔◌, IsTrue, IsSome, is_some, ◌≡◌, ℕ, ◌+◌, ◌%◌, ◌^◌, ◌<◌, ◌==◌, Bool, true, false, cond, not, [], Option, Some, None, refl, sym, ap, subst, ◌∙◌, arith, eqb-true, option_map, get, insert, retain_keys, get-retain_keys, get-insert, same_map, nat_cmp-IsAntisymmetric, OnTrue, OnFalse, Bytes, byte_at, loaded, stored, number_of, in_front, IsThere, Span, Holds, Call, is_in, bytes_in, bytes_outside, IsWhole}
 use Rattle.std.specs.Cmp.{nat_cmp_total, unsigned_tied}
-use Rattle.std.specs.FinMap.{get, insert, retain_keys, get-retain_keys, get-insert, same_map, nat_cmp-IsAntisymmetric}
 use Rattle.std.specs.Int.{byte_at as low_byte}
-use Rattle.std.specs.Bool.{OnTrue, OnFalse}
-use Rattle.rv_mem.specs.Bytes.{Bytes, byte_at, loaded, stored, number_of, in_front, IsThere}
-use Rattle.sfi_image.specs.declared.span.Span.{Span}
-use Rattle.sfi_image.specs.Spans.{Holds}
-use Rattle.sfi_host.specs.Hosts.{Call}
-use Rattle.sfi_host.specs.Regions.{is_in, bytes_in, bytes_outside, IsWhole}
 
 -- ---- the keys of a map that pass a test
 

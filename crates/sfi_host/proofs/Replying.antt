@@ -1,27 +1,10 @@
 -- A sandbox after an answered call is the slot that the definition makes.
-use Rattle.std.proofs.Common.{◌≡◌, ◌≢◌, ℕ, ◌<◌, ◌^◌, Bool, refl, sym, ap, ◌∙◌, subst, arith}
-use Rattle.rv_mem.specs.Bytes.{Bytes, IsMemory}
-use Rattle.rv_word.specs.declared.instr.Instr.TheVariants.{Ecall}
-use Rattle.rv_step.specs.State.{past}
-use Rattle.rv_step.specs.Step.{Stands}
-use Rattle.sfi_host.specs.declared.status.Status.{Status}
-use Rattle.sfi_host.specs.declared.status.Status.TheVariants.{Ready}
-use Rattle.sfi_host.specs.declared.gates.GateAnswer.{GateAnswer}
-use Rattle.sfi_host.specs.declared.gates.GateAnswer.TheVariants as gate
-use Rattle.sfi_host.specs.declared.guest.Request.{Request}
-use Rattle.sfi_host.specs.declared.sandbox.Sandbox.{Sandbox}
-use Rattle.sfi_host.specs.declared.asking.Told.{Told}
-use Rattle.sfi_host.specs.declared.turn.StepResult.{StepResult}
-use Rattle.sfi_host.specs.declared.turn.StepResult.TheVariants.{Continue, RunEnds}
+use Rattle.sfi_host.proofs.Prelude.{◌≡◌, ◌≢◌, ℕ, ◌<◌, ◌^◌, Bool, refl, sym, ap, ◌∙◌, subst, arith, Bytes, IsMemory, Ecall, past, Stands, Status, Ready, Sandbox, StepResult, Continue, RunEnds, call_by, Call, Way, Replied, Exit, Reply, Answer, bytes_in, IsWhole, one_more, own, word, call_of, with_arguments, with_data, after_way, status_after, replied, next_after, seat_of, IsReplied, IsNotReplied, request_by, IsTold, IsNotTold, after_ecall, after_told, next_after_answer, slot_of, state_in, IsSafeSeat, StaysOutside}
 use Rattle.sfi_host.specs.Answering.{spoken}
-use Rattle.sfi_host.specs.Guests.{call_by}
-use Rattle.sfi_host.specs.Hosts.{Call, Way, Replied, Exit, Reply, Answer}
-use Rattle.sfi_host.specs.Regions.{bytes_in, IsWhole}
-use Rattle.sfi_host.specs.Slots.{one_more, own}
-use Rattle.sfi_host.specs.Joint.{word, call_of, with_arguments, with_data, after_way, status_after, replied, next_after}
-use Rattle.sfi_host.specs.Sandboxes.{seat_of}
-use Rattle.sfi_host.specs.private.Sandboxes.{IsReplied, IsNotReplied, request_by, IsTold, IsNotTold, after_ecall, after_told, next_after_answer}
-use Rattle.sfi_host.specs.Worlds.{slot_of, state_in, IsSafeSeat, StaysOutside}
+use Rattle.sfi_host.specs.declared.asking.Told.{Told}
+use Rattle.sfi_host.specs.declared.gates.GateAnswer.{GateAnswer}
+use Rattle.sfi_host.specs.declared.guest.Request.{Request}
+use Rattle.sfi_host.specs.declared.gates.GateAnswer.TheVariants as gate
 use Rattle.sfi_host.proofs.Leaving.{data_of_own, put_back, own_left}
 use Rattle.sfi_host.proofs.SafeSeats as keep
 

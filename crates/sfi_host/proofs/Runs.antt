@@ -1,13 +1,7 @@
 -- Bytes at consecutive addresses, which aren't taken modulo 2 ^ 32.
-use Rattle.std.proofs.Common.{◌≡◌, ◌↔◌, IsTrue, IsSome, is_some, ℕ, zero, suc, ◌+◌, ◌-◌, ◌^◌, ◌<◌, ◌≤◌, List, [], ◌∷◌, ◌++◌, length, Option, Some, None, refl, sym, ap, ◌∙◌, add-one, Bool, true, false, nat_le, arith, ◌%◌, take, get_or}
-use Rattle.std.specs.Bool.{OnTrue, OnFalse}
-use Rattle.std.specs.List.{range_with_len}
-use Rattle.std.specs.FinMap.{insert}
-use Rattle.rv_mem.specs.Bytes.{Bytes, IsMemory, byte_at, bytes_at, with_bytes, in_front, stored, IsThere}
-use Rattle.sfi_image.specs.declared.span.Span.{Span}
-use Rattle.sfi_host.specs.Regions.{bytes_in, IsWhole, is_in, bytes_outside}
+use Rattle.sfi_host.proofs.Prelude.{◌≡◌, ◌↔◌, IsTrue, IsSome, is_some, ℕ, zero, suc, ◌+◌, ◌-◌, ◌^◌, ◌<◌, ◌≤◌, List, [], ◌∷◌, ◌++◌, length, Option, Some, None, refl, sym, ap, ◌∙◌, add-one, Bool, true, false, nat_le, arith, ◌%◌, take, get_or, OnTrue, OnFalse, range_with_len, insert, Bytes, IsMemory, byte_at, bytes_at, with_bytes, in_front, stored, IsThere, Span, bytes_in, IsWhole, is_in, bytes_outside, take_more, length-take-le}
+use Rattle.std.proofs.lemmas.List.{length-take}
 use Rattle.sfi_host.proofs.RegionBytes.{held, byte_in, is_in-Holds, still_there, store_puts, put_outside, put_whole, kept_put}
-use Rattle.std.proofs.lemmas.List.{take_more, length-take, length-take-le}
 
 -- ---- which are there
 

@@ -1,28 +1,11 @@
 -- What leaves a sandbox safe.
-use Rattle.std.proofs.Common.{◌≡◌, ◌≢◌, ℕ, ◌+◌, ◌^◌, ◌<◌, ◌≤◌, inl, inr, List, [], length, true, refl, sym, ap, ◌∙◌, subst, arith, get_or-set_other}
-use Rattle.std.specs.Prelude.{slice_index, slice_set}
-use Rattle.rv_word.specs.declared.instr.Instr.TheVariants.{Ecall}
-use Rattle.sfi_policy.specs.Formats.{has_stack}
-use Rattle.rv_mem.specs.Bytes.{Bytes, IsMemory, byte_at, address_after}
-use Rattle.rv_step.specs.State.{Hart, IsHart, IsState, past}
-use Rattle.rv_step.specs.Step.{Stands}
-use Rattle.rv_step.proofs.Harts.{register_is, after_is}
-use Rattle.sfi_image.specs.Spelling.{Part}
-use Rattle.sfi_image.specs.Spans.{Holds, AreApart, with_guards, code_region, guarded_region}
-use Rattle.sfi_check.specs.Regions.{InCode, InData, InGuard, HasCode, StackInData}
-use Rattle.sfi_check.specs.Runs.{IsEntry, Replies, Changes, KeepsBytes, KeepsReserved, IsReply}
-use Rattle.sfi_check.specs.Stack.{GoesSafelyFrom}
-use Rattle.sfi_check.proofs.Facts.{goes_on_safely}
-use Rattle.sfi_host.specs.declared.status.Status.TheVariants.{Ready}
-use Rattle.sfi_host.specs.Entering.{IsEnterable}
-use Rattle.sfi_host.specs.Regions.{IsWhole}
-use Rattle.sfi_host.specs.Slots.{Bounds, bounds_of, one_more}
+use Rattle.sfi_host.proofs.Prelude.{◌≡◌, ◌≢◌, ℕ, ◌+◌, ◌^◌, ◌<◌, ◌≤◌, inl, inr, List, [], length, true, refl, sym, ap, ◌∙◌, subst, arith, get_or-set_other, slice_index, slice_set, Ecall, Bytes, IsMemory, byte_at, address_after, Hart, IsHart, IsState, past, Stands, Part, Holds, AreApart, with_guards, code_region, guarded_region, InCode, InData, InGuard, HasCode, StackInData, IsEntry, Replies, Changes, KeepsBytes, KeepsReserved, IsReply, GoesSafelyFrom, Ready, IsEnterable, IsWhole, Bounds, bounds_of, one_more, Way, Replied, Exit, word, with_arguments, after_way, status_after, Seat, state_in, IsSafeSeat, StaysOutside}
 use Rattle.sfi_host.specs.Arguments.{a0_register, a1_register}
-use Rattle.sfi_host.specs.Hosts.{Way, Replied, Exit}
-use Rattle.sfi_host.specs.Joint.{word, with_arguments, after_way, status_after}
 use Rattle.sfi_host.specs.Laws.{CallsHaveStack, AnswersAreReplies}
 use Rattle.sfi_host.specs.Stops.{StoppedItself}
-use Rattle.sfi_host.specs.Worlds.{Seat, state_in, IsSafeSeat, StaysOutside}
+use Rattle.sfi_policy.specs.Formats.{has_stack}
+use Rattle.rv_step.proofs.Harts.{register_is, after_is}
+use Rattle.sfi_check.proofs.Facts.{goes_on_safely}
 use Rattle.sfi_host.proofs.Stops.{at_gate, at_gate_still, stopped_still}
 
 -- ---- the code of a part

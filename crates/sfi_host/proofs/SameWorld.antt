@@ -1,17 +1,6 @@
 -- A world is its slots and the bytes outside all data.
-use Rattle.std.proofs.Common.{◌≡◌, ◌⊎◌, inl, inr, ⊎_elim, ℕ, zero, suc, true, false, List, [], ◌∷◌, map, Option, Some, slice_get, set, refl, sym, ap, ◌∙◌, subst}
-use Rattle.std.proofs.lemmas.Option.{same_Some, slice_get-map}
-use Rattle.std.specs.Option.{option_map}
-use Rattle.rv_mem.specs.Bytes.{Bytes, byte_at}
-use Rattle.sfi_image.specs.Spans.{Holds}
-use Rattle.sfi_host.specs.declared.turn.Turn.{Turn}
-use Rattle.sfi_host.specs.Hosts.{Call, Answer}
-use Rattle.sfi_host.specs.Joint.{Machine, IsMachine, joint}
+use Rattle.sfi_host.proofs.Prelude.{◌≡◌, ◌⊎◌, inl, inr, ⊎_elim, ℕ, zero, suc, true, false, List, [], ◌∷◌, map, Option, Some, slice_get, set, refl, sym, ap, ◌∙◌, subst, same_Some, slice_get-map, option_map, Bytes, byte_at, Holds, Turn, Call, Answer, Machine, IsMachine, joint, bounds_in, is_in, Bounds, Slot, is_own, Seat, Sandboxes, slot_of, slots_of, IsSafeWorld, StaysOutsideData}
 use Rattle.sfi_host.specs.Moves.{HaveRun, JointMoves}
-use Rattle.sfi_host.specs.private.Sandboxes.{bounds_in}
-use Rattle.sfi_host.specs.Regions.{is_in}
-use Rattle.sfi_host.specs.Slots.{Bounds, Slot, is_own}
-use Rattle.sfi_host.specs.Worlds.{Seat, Sandboxes, slot_of, slots_of, IsSafeWorld, StaysOutsideData}
 use Rattle.sfi_host.proofs.OwnSteps.{own_data, own_there, true_false}
 use Rattle.sfi_host.proofs.RegionBytes.{same_bytes, is_in-true, is_in-Holds}
 use Rattle.sfi_host.proofs.Worlds.{map_get}

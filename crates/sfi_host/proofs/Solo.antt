@@ -1,20 +1,7 @@
 -- A sandbox alone, with the replies that it got among others.
-use Rattle.std.proofs.Common.{◌≡◌, ℕ, zero, suc, ◌==◌, Bool, true, false, cond, List, [], ◌∷◌, ◌++◌, map, Option, Some, None, slice_get, set, take, refl, sym, ap, ◌∙◌, subst, append_assoc, append-nil}
-use Rattle.std.proofs.lemmas.Bool.{eqb-true, eqb-false}
-use Rattle.std.proofs.lemmas.Option.{same_Some}
-use Rattle.std.specs.List.{filter}
-use Rattle.rv_step.specs.State.{State}
-use Rattle.rv_step.specs.declared.outcome.Outcome.{Outcome}
-use Rattle.rv_step.specs.declared.outcome.Outcome.TheVariants as outcome
-use Rattle.sfi_host.specs.declared.status.Status.{Status}
-use Rattle.sfi_host.specs.declared.status.Status.TheVariants.{Ready}
-use Rattle.sfi_host.specs.declared.turn.Turn.{Turn}
-use Rattle.sfi_host.specs.Slots.{Slot, state_of}
-use Rattle.sfi_host.specs.Hosts.{Call, Reply, Answer, Host, limited, replay}
-use Rattle.sfi_host.specs.declared.turn.StepResult.{StepResult}
-use Rattle.sfi_host.specs.declared.turn.StepResult.TheVariants.{Continue, RunEnds}
-use Rattle.sfi_host.specs.Joint.{Machine, Moved, moved, moved_if, after_step, after_answer, after_replies, call_of, and_more, turned, Given, given, Joined, joined, turn_and, and_plan, after_turn}
+use Rattle.sfi_host.proofs.Prelude.{◌≡◌, ℕ, zero, suc, ◌==◌, Bool, true, false, cond, List, [], ◌∷◌, ◌++◌, map, Option, Some, None, slice_get, set, take, refl, sym, ap, ◌∙◌, subst, append_assoc, append-nil, eqb-true, eqb-false, same_Some, filter, State, Outcome, Status, Ready, Turn, Slot, state_of, Call, Reply, Answer, Host, limited, replay, StepResult, Continue, RunEnds, Machine, Moved, moved, moved_if, after_step, after_answer, after_replies, call_of, and_more, turned, Given, given, Joined, joined, turn_and, and_plan, after_turn}
 use Rattle.sfi_host.specs.Solo.{IsSolo, JoinedIsSolo, JointIsSolo, turns_of, replies_to}
+use Rattle.rv_step.specs.declared.outcome.Outcome.TheVariants as outcome
 use Rattle.sfi_host.proofs.Neighbours.{get_set_same, get_set_other}
 
 -- the same with a host that has these replies left

@@ -1,36 +1,20 @@
 -- What stops a safe sandbox is its own instruction, and it stays at that.
-use Rattle.std.proofs.Common.{◌≡◌, ℕ, zero, suc, ◌<◌, inl, inr, List, [], ◌∷◌, cond, Option, Some, None, is_some, IsSome, slice_get, refl, sym, ap, ◌∙◌, subst, arith}
-use Rattle.std.specs.Prelude.{ℤ}
-use Rattle.std.specs.List.{Contains}
-use Rattle.std.specs.Option.{option_map}
-use Rattle.std.proofs.lemmas.Option.{slice_get_within, get_or_from_slice_get}
+use Rattle.sfi_host.proofs.Prelude.{◌≡◌, ℕ, zero, suc, ◌<◌, inl, inr, List, [], ◌∷◌, cond, Option, Some, None, is_some, IsSome, slice_get, refl, sym, ap, ◌∙◌, subst, arith, ℤ, Contains, option_map, slice_get_within, get_or_from_slice_get, Load, Store, Ecall, Ebreak, Bytes, byte_at, bytes_at, address_after, addresses, in_front, number_of, Hart, register, Stepped, Stands, IsStep, next, unchanged, after_load, effect, Span, Holds, InGuards, InData, InGuard, IsGate, Steps, IsSafeState, IsSafeStep, Status, Ready, Exited, Trapped, Bounds, Seat, Sandboxes, slots_of, status_at, state_in, IsSafeSeat, IsSafeWorld, HaveStoppedThemselves}
+use Rattle.rv_comp.specs.declared.front.Front.TheVariants.{Read}
+use Rattle.rv_step.specs.Access.{accessed, Accesses}
+use Rattle.rv_step.specs.Values.{load_size, store_size}
+use Rattle.rv_step.specs.declared.outcome.Cause.{Cause}
+use Rattle.rv_step.specs.declared.outcome.Outcome.TheVariants.{Trap}
 use Rattle.rv_word.specs.Numbers.{offset_by}
 use Rattle.rv_word.specs.declared.instr.Instr.{Instr}
-use Rattle.rv_word.specs.declared.instr.Instr.TheVariants.{Load, Store, Ecall, Ebreak}
 use Rattle.rv_word.specs.declared.instr.LoadKind.{LoadKind}
 use Rattle.rv_word.specs.declared.instr.StoreWidth.{StoreWidth}
-use Rattle.rv_comp.specs.declared.front.Front.TheVariants.{Read}
-use Rattle.rv_mem.specs.Bytes.{Bytes, byte_at, bytes_at, address_after, addresses, in_front, number_of}
-use Rattle.rv_mem.proofs.Facts.{read_is_held}
-use Rattle.rv_step.specs.declared.outcome.Outcome.TheVariants.{Call, Trap}
-use Rattle.rv_step.specs.declared.outcome.Cause.{Cause}
-use Rattle.rv_step.specs.declared.outcome.Cause.TheVariants as cause
-use Rattle.rv_step.specs.Access.{accessed, Accesses}
-use Rattle.rv_step.proofs.Facts.{step_is_effect}
-use Rattle.rv_step.specs.State.{Hart, register}
-use Rattle.rv_step.specs.Step.{Stepped, Stands, IsStep, next, unchanged, after_load, effect}
-use Rattle.rv_step.specs.Values.{load_size, store_size}
-use Rattle.sfi_image.specs.declared.part.Gate.{Gate}
-use Rattle.sfi_image.specs.declared.span.Span.{Span}
-use Rattle.sfi_image.specs.Spans.{Holds, InGuards}
-use Rattle.sfi_check.specs.Regions.{InData, InGuard, IsGate}
-use Rattle.sfi_check.specs.Runs.{Steps}
-use Rattle.sfi_check.specs.Safety.{IsSafeState, IsSafeStep}
-use Rattle.sfi_host.specs.declared.status.Status.{Status}
-use Rattle.sfi_host.specs.declared.status.Status.TheVariants.{Ready, Exited, Trapped}
-use Rattle.sfi_host.specs.Slots.{Bounds}
 use Rattle.sfi_host.specs.Stops.{IsAt, IsAtGate, TouchesGuard, StoppedItself}
-use Rattle.sfi_host.specs.Worlds.{Seat, Sandboxes, slots_of, status_at, state_in, IsSafeSeat, IsSafeWorld, HaveStoppedThemselves}
+use Rattle.sfi_image.specs.declared.part.Gate.{Gate}
+use Rattle.rv_step.specs.declared.outcome.Outcome.TheVariants.{Call}
+use Rattle.rv_mem.proofs.Facts.{read_is_held}
+use Rattle.rv_step.specs.declared.outcome.Cause.TheVariants as cause
+use Rattle.rv_step.proofs.Facts.{step_is_effect}
 
 -- ---- where the code stays, the instruction does
 

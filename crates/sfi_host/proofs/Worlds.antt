@@ -1,21 +1,7 @@
 -- A world at its start is safe.
-use Rattle.std.proofs.Common.{◌≡◌, ◌≢◌, ℕ, zero, suc, ◌+◌, ◌-◌, ◌%◌, ◌^◌, ◌<◌, ◌≤◌, List, [], ◌∷◌, length, Some, is_some, slice_get, refl, sym, ap, ◌∙◌, subst, arith}
-use Rattle.std.proofs.lemmas.Option.{get_or_from_slice_get, slice_get_within}
-use Rattle.std.specs.Prelude.{slice_index, replicate, map}
-use Rattle.std.specs.FinMap.{empty}
-use Rattle.rv_mem.specs.Bytes.{IsMemory, byte_at}
-use Rattle.rv_step.specs.State.{IsHart}
+use Rattle.sfi_host.proofs.Prelude.{◌≡◌, ◌≢◌, ℕ, zero, suc, ◌+◌, ◌-◌, ◌%◌, ◌^◌, ◌<◌, ◌≤◌, List, [], ◌∷◌, length, Some, is_some, slice_get, refl, sym, ap, ◌∙◌, subst, arith, get_or_from_slice_get, slice_get_within, slice_index, replicate, map, empty, IsMemory, byte_at, IsHart, Part, IsRightPart, IsRightLayout, InData, RunsSafely, AllRunSafely, CallsWithStack, AllCallWithStack, IsEnterable, AreEnterable, bounds_of, bare_hart, first_hart, first_seat, with_parts, AreEntered, HaveFirstData, Seat, IsSafeSeat, LiesOutside, IsSafeWorld}
 use Rattle.rv_step.proofs.Harts.{register_is}
-use Rattle.sfi_image.specs.Spelling.{Part}
-use Rattle.sfi_image.specs.Parts.{IsRightPart, IsRightLayout}
-use Rattle.sfi_check.specs.Regions.{InData}
-use Rattle.sfi_check.specs.Safety.{RunsSafely, AllRunSafely}
-use Rattle.sfi_check.specs.Stack.{CallsWithStack, AllCallWithStack}
 use Rattle.sfi_image.proofs.Facts.{code_ends}
-use Rattle.sfi_host.specs.Entering.{IsEnterable, AreEnterable}
-use Rattle.sfi_host.specs.Slots.{bounds_of}
-use Rattle.sfi_host.specs.Loading.{bare_hart, first_hart, first_seat, with_parts, AreEntered, HaveFirstData}
-use Rattle.sfi_host.specs.Worlds.{Seat, IsSafeSeat, LiesOutside, IsSafeWorld}
 use Rattle.sfi_host.proofs.SafeSeats.{ready_safe}
 use Rattle.sfi_host.proofs.Entered.{Apart, lie_apart, has_code, has_data, has_empty_guards, data_guarded}
 

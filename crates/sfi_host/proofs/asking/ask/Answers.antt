@@ -1,12 +1,4 @@
-use Rattle.std.proofs.Common.{◌≡◌, ap, ◌∙◌, sym, subst}
-use Rattle.rv_mem.specs.Bytes.{IsMemory}
-use Rattle.sfi_host.specs.declared.sandbox.Sandbox.{Sandbox}
-use Rattle.sfi_host.specs.Guests.{call_by}
-use Rattle.sfi_host.specs.Joint.{call_of}
-use Rattle.sfi_host.specs.Regions.{bytes_in, IsWhole}
-use Rattle.sfi_host.specs.Sandboxes.{seat_of}
-use Rattle.sfi_host.specs.private.Sandboxes.{IsReplied, IsNotReplied}
-use Rattle.sfi_host.specs.Worlds.{slot_of, IsSafeSeat, StaysOutside}
+use Rattle.sfi_host.proofs.Prelude.{◌≡◌, ap, ◌∙◌, sym, subst, IsMemory, Sandbox, call_by, call_of, bytes_in, IsWhole, seat_of, IsReplied, IsNotReplied, slot_of, IsSafeSeat, StaysOutside}
 use Rattle.sfi_host.proofs.Leaving.{whole_in, whole_of, stays_outside}
 use Rattle.sfi_host.proofs.Replying.{asked_is, still_ready, bounds_after, safe_after, replies, refuses}
 use Rattle.sfi_host.proofs.asking.ask.Goals as goal

@@ -1,5 +1,4 @@
-use Rattle.std.proofs.Common.{◌≡◌, drop}
-use Rattle.sfi_host.specs.Joint.{service_at}
+use Rattle.sfi_host.proofs.Prelude.{◌≡◌, drop, service_at}
 use Rattle.sfi_host.proofs.asking.service_of.Given as goal
 
 abbrev pub invariant-loop-gate : goal.invariant-loop-gate

@@ -1,6 +1,4 @@
-use Rattle.std.proofs.Common.{◌≡◌, take}
-use Rattle.rv_step.specs.State.{IsHart}
-use Rattle.sfi_host.specs.Entering.{with_registers}
+use Rattle.sfi_host.proofs.Prelude.{◌≡◌, take, IsHart, with_registers}
 use Rattle.sfi_host.proofs.entering.set_arguments.Given as goal
 
 abbrev pub invariant-loop-k : goal.invariant-loop-k

@@ -1,5 +1,4 @@
-use Rattle.std.proofs.Common.{◌++◌, ◌∷◌, [], is_some, ap, sym, ◌∙◌, append_assoc, arith}
-use Rattle.sfi_host.specs.Guests.{asked}
+use Rattle.sfi_host.proofs.Prelude.{◌++◌, ◌∷◌, [], is_some, ap, sym, ◌∙◌, append_assoc, arith, asked}
 use Rattle.sfi_host.proofs.Runs.{each_there, bytes_more}
 use Rattle.sfi_host.proofs.handing.append.Goals as goal
 

@@ -1,8 +1,5 @@
-use Rattle.std.proofs.Common.{◌≡◌, ◌+◌, ◌≤◌, ◌++◌, Some, ℕ, List}
-use Rattle.std.specs.List.{range_with_len}
+use Rattle.sfi_host.proofs.Prelude.{◌≡◌, ◌+◌, ◌≤◌, ◌++◌, Some, ℕ, List, range_with_len, Bytes, bytes_at, asked}
 use Rattle.std.specs.Vec.{vec_len, vec_capacity}
-use Rattle.rv_mem.specs.Bytes.{Bytes, bytes_at}
-use Rattle.sfi_host.specs.Guests.{asked}
 use Rattle.sfi_host.proofs.handing.append.Given as goal
 
 -- the first k bytes are appended, and there is room for the others

@@ -1,5 +1,4 @@
-use Rattle.std.proofs.Common.{List, subst, sym, ◌+◌, ◌<◌, length, arith}
-use Rattle.sfi_host.specs.declared.sandbox.Sandbox.{Sandbox}
+use Rattle.sfi_host.proofs.Prelude.{List, subst, sym, ◌+◌, ◌<◌, length, arith, Sandbox}
 use Rattle.sfi_host.proofs.Loaded.{AreLoaded, right_part, one_more}
 use Rattle.sfi_host.proofs.loading.load_parts.Goals as goal
 

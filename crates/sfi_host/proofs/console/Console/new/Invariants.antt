@@ -1,5 +1,4 @@
-use Rattle.std.proofs.Common.{◌≡◌, replicate}
-use Rattle.sfi_host.specs.Consoles.{new_session}
+use Rattle.sfi_host.proofs.Prelude.{◌≡◌, replicate, new_session}
 use Rattle.sfi_host.proofs.console.Console.new.Given as goal
 
 abbrev pub invariant-loop : goal.invariant-loop

@@ -1,9 +1,6 @@
-use Rattle.std.proofs.Common.{◌≡◌, refl, sym, ap, ◌∙◌, if◌then◌else◌, Some}
-use Rattle.std.proofs.lemmas.Option.{slice_get_read}
-use Rattle.std.specs.List.{slice_get}
-use Rattle.sfi_host.specs.Consoles.{message_of}
-use Rattle.sfi_host.specs.Guests.{asked}
+use Rattle.sfi_host.proofs.Prelude.{◌≡◌, refl, sym, ap, ◌∙◌, if◌then◌else◌, Some, slice_get_read, message_of, asked}
 use Rattle.sfi_host.specs.Messages.{Message}
+use Rattle.std.specs.List.{slice_get}
 use Rattle.sfi_host.proofs.Serving.{posted_at}
 use Rattle.sfi_host.proofs.console.Console.post.Goals.{then-deliver, else-deliver}
 use Rattle.sfi_host.proofs.console.Console.post.Goals as goal

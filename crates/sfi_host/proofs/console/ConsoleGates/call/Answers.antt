@@ -1,10 +1,7 @@
-use Rattle.std.proofs.Common.{◌≡◌, ◌≢◌, ◌<◌, ◌≤◌, length, sym, ap, ◌∙◌, Some, arith}
-use Rattle.std.proofs.lemmas.Option.{slice_get_read}
-use Rattle.std.specs.List.{slice_get}
-use Rattle.std.specs.Vec.{vec_len}
-use Rattle.sfi_host.specs.Consoles.{ConsoleState}
-use Rattle.sfi_host.specs.Guests.{asked}
+use Rattle.sfi_host.proofs.Prelude.{◌≡◌, ◌≢◌, ◌<◌, ◌≤◌, length, sym, ap, ◌∙◌, Some, arith, slice_get_read, ConsoleState, asked}
 use Rattle.sfi_host.specs.Services.{exit_service, yield_service, post_service}
+use Rattle.std.specs.Vec.{vec_len}
+use Rattle.std.specs.List.{slice_get}
 use Rattle.sfi_host.proofs.Serving.{given_at, refusal_at, posts_at, unknown_at}
 use Rattle.sfi_host.proofs.console.ConsoleGates.call.Goals as goal
 

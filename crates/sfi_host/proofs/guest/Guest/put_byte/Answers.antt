@@ -1,7 +1,4 @@
-use Rattle.std.proofs.Common.{◌≡◌, true, sym, ◌∙◌, ap, is_some, rules}
-use Rattle.rv_mem.specs.Bytes.{Bytes}
-use Rattle.sfi_host.specs.Regions.{is_in}
-use Rattle.sfi_host.specs.Guests.{data_of, call_by}
+use Rattle.sfi_host.proofs.Prelude.{◌≡◌, true, sym, ◌∙◌, ap, is_some, rules, Bytes, is_in, data_of, call_by}
 use Rattle.sfi_host.proofs.RegionBytes.{byte_out, store_puts, put_there, put_kept, put_outside, put_whole, put_region}
 use Rattle.sfi_host.proofs.guest.Guest.put_byte.Goals as goal
 

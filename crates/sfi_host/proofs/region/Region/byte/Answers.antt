@@ -1,5 +1,4 @@
-use Rattle.std.proofs.Common.{◌≡◌, true, ◌∙◌}
-use Rattle.sfi_host.specs.Regions.{span_of, is_in}
+use Rattle.sfi_host.proofs.Prelude.{◌≡◌, true, ◌∙◌, span_of, is_in}
 use Rattle.sfi_host.proofs.RegionBytes.{byte_out, load_kept, whole_there}
 use Rattle.sfi_host.proofs.region.Region.byte.Goals as goal
 

@@ -1,5 +1,4 @@
-use Rattle.std.proofs.Common.{arith}
-use Rattle.sfi_host.specs.Regions.{span_of}
+use Rattle.sfi_host.proofs.Prelude.{arith, span_of}
 use Rattle.sfi_host.proofs.Runs.{covered, not_covered, covered_end}
 use Rattle.sfi_host.proofs.region.Region.covers.Goals as goal
 

@@ -1,8 +1,4 @@
-use Rattle.std.proofs.Common.{◌<◌, Some, IsSome, is_some, length, ap, refl, sym, ◌∙◌, arith}
-use Rattle.std.proofs.lemmas.List.{take_more_set, length-set}
-use Rattle.std.specs.List.{range_with_len}
-use Rattle.rv_mem.specs.Bytes.{bytes_at}
-use Rattle.sfi_host.specs.Regions.{span_of, bytes_in}
+use Rattle.sfi_host.proofs.Prelude.{◌<◌, Some, IsSome, is_some, length, ap, refl, sym, ◌∙◌, arith, take_more_set, length-set, range_with_len, bytes_at, span_of, bytes_in}
 use Rattle.sfi_host.proofs.Runs.{each_there, bytes_more}
 use Rattle.sfi_host.proofs.region.Region.read.Goals as goal
 

@@ -1,7 +1,4 @@
-use Rattle.std.proofs.Common.{◌≡◌, Some, ℕ, List, length, take}
-use Rattle.std.specs.List.{range_with_len}
-use Rattle.rv_mem.specs.Bytes.{Bytes, bytes_at}
-use Rattle.sfi_host.specs.Regions.{span_of, bytes_in}
+use Rattle.sfi_host.proofs.Prelude.{◌≡◌, Some, ℕ, List, length, take, range_with_len, Bytes, bytes_at, span_of, bytes_in}
 use Rattle.sfi_host.proofs.region.Region.read.Given as goal
 
 -- the first k bytes are read, and there are still as many

@@ -1,5 +1,4 @@
-use Rattle.std.proofs.Common.{arith}
-use Rattle.sfi_host.specs.Regions.{span_of}
+use Rattle.sfi_host.proofs.Prelude.{arith, span_of}
 use Rattle.sfi_host.proofs.Runs.{none_written, one_more_written}
 use Rattle.sfi_host.proofs.region.Region.write.Goals as goal
 

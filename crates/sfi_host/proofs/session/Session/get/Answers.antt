@@ -1,7 +1,4 @@
-use Rattle.std.proofs.Common.{ap, ◌∙◌, is_some, drop, length}
-use Rattle.std.specs.List.{range_with_len}
-use Rattle.rv_mem.specs.Bytes.{bytes_at}
-use Rattle.sfi_host.specs.Guests.{asked}
+use Rattle.sfi_host.proofs.Prelude.{ap, ◌∙◌, is_some, drop, length, range_with_len, bytes_at, asked}
 use Rattle.sfi_host.proofs.Runs.{fewer_there, few}
 use Rattle.sfi_host.proofs.session.Session.get.Goals as goal
 

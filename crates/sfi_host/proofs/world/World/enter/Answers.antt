@@ -1,9 +1,4 @@
-use Rattle.std.proofs.Common.{◌≡◌, true, set, slice_get, Some, refl, sym, ◌∙◌, subst, arith}
-use Rattle.std.proofs.lemmas.Option.{slice_get_past, same_Some}
-use Rattle.sfi_host.specs.declared.sandbox.Sandbox.{Sandbox}
-use Rattle.sfi_host.specs.Entering.{MayEnter}
-use Rattle.sfi_host.specs.Sandboxes.{seat_of, world_of}
-use Rattle.sfi_host.specs.Worlds.{slot_of}
+use Rattle.sfi_host.proofs.Prelude.{◌≡◌, true, set, slice_get, Some, refl, sym, ◌∙◌, subst, arith, slice_get_past, same_Some, Sandbox, MayEnter, seat_of, world_of, slot_of}
 use Rattle.sfi_host.proofs.Asked.{found, seat_at}
 use Rattle.sfi_host.proofs.Changing.{others_same}
 use Rattle.sfi_host.proofs.Entries.{sizes, HasEntered, has_entered, no_entry, entry_where}

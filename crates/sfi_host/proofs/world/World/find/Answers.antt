@@ -1,6 +1,4 @@
-use Rattle.std.proofs.Common.{Some, sym, ap, ◌∙◌}
-use Rattle.sfi_host.specs.Sandboxes.{seat_of}
-use Rattle.sfi_host.specs.Worlds.{Sandboxes, slot_of}
+use Rattle.sfi_host.proofs.Prelude.{Some, sym, ap, ◌∙◌, seat_of, Sandboxes, slot_of}
 use Rattle.sfi_host.proofs.Asked.{found, slot_is}
 use Rattle.sfi_host.proofs.world.World.find.Goals as goal
 

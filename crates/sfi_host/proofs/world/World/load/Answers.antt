@@ -1,12 +1,4 @@
-use Rattle.std.proofs.Common.{◌≡◌, List, length, map, sym, ap, ◌∙◌, subst}
-use Rattle.std.specs.FinMap.{empty}
-use Rattle.sfi_policy.specs.declared.format.Format.{Format}
-use Rattle.rv_mem.specs.Bytes.{Bytes}
-use Rattle.sfi_image.specs.Parts.{IsRightLayout}
-use Rattle.sfi_image.specs.Spelling.{Part, views}
-use Rattle.sfi_host.specs.Loading.{first_seat, with_parts}
-use Rattle.sfi_host.specs.private.Programs.{AreProgramsOf}
-use Rattle.sfi_host.specs.Sandboxes.{seats_of}
+use Rattle.sfi_host.proofs.Prelude.{◌≡◌, List, length, map, sym, ap, ◌∙◌, subst, empty, Format, Bytes, IsRightLayout, Part, views, first_seat, with_parts, AreProgramsOf, seats_of}
 use Rattle.sfi_host.proofs.Entries.{IsFirst, is_first}
 use Rattle.sfi_host.proofs.world.World.load.Given as given
 use Rattle.sfi_host.proofs.world.World.load.Goals as goal

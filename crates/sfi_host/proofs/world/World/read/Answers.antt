@@ -1,5 +1,4 @@
-use Rattle.std.proofs.Common.{◌≡◌, ◌↔◌, IsTrue, IsSome, List, length, ℕ, Option, Some, subst}
-use Rattle.std.specs.Bool.{OnTrue}
+use Rattle.sfi_host.proofs.Prelude.{◌≡◌, ◌↔◌, IsTrue, IsSome, List, length, ℕ, Option, Some, subst, OnTrue}
 use Rattle.sfi_host.proofs.Asked.{found, data_bytes_is}
 use Rattle.sfi_host.proofs.Changing.{whole_at}
 use Rattle.sfi_host.proofs.world.World.read.Goals as goal

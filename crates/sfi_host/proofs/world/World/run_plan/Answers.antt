@@ -1,11 +1,4 @@
-use Rattle.std.proofs.Common.{◌≡◌, ◌≢◌, ◌⊎◌, inl, inr, ℕ, List, Some, None, ◌∙◌, refl, sym, subst, arith}
-use Rattle.std.proofs.lemmas.List.{take_all}
-use Rattle.sfi_host.specs.declared.turn.StepResult.{StepResult}
-use Rattle.sfi_host.specs.declared.turn.StepResult.TheVariants.{Continue, TurnEnds, RunEnds}
-use Rattle.sfi_host.specs.declared.turn.Turn.{Turn}
-use Rattle.sfi_host.specs.Joint.{Machine, IsMachine}
-use Rattle.sfi_host.specs.Plans.{IsJoint, IsCutJoint}
-use Rattle.sfi_host.specs.Worlds.{slots_of}
+use Rattle.sfi_host.proofs.Prelude.{◌≡◌, ◌≢◌, ◌⊎◌, inl, inr, ℕ, List, Some, None, ◌∙◌, refl, sym, subst, arith, take_all, StepResult, Continue, TurnEnds, RunEnds, Turn, Machine, IsMachine, IsJoint, IsCutJoint, slots_of}
 use Rattle.sfi_host.proofs.Continuing.{next_taken, next_cut}
 use Rattle.sfi_host.proofs.Joined.{joint_are}
 use Rattle.sfi_host.proofs.Plans.{none_joint}

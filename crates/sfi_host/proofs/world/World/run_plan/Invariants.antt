@@ -1,8 +1,4 @@
-use Rattle.std.proofs.Common.{◌≡◌, take}
-use Rattle.sfi_host.specs.Joint.{Machine, IsMachine}
-use Rattle.sfi_host.specs.Plans.{IsJoint}
-use Rattle.sfi_host.specs.private.Sandboxes.{bounds_in}
-use Rattle.sfi_host.specs.Worlds.{slots_of, IsSafeWorld, StaysOutsideData}
+use Rattle.sfi_host.proofs.Prelude.{◌≡◌, take, Machine, IsMachine, IsJoint, bounds_in, slots_of, IsSafeWorld, StaysOutsideData}
 use Rattle.sfi_host.proofs.world.World.run_plan.Given as goal
 
 abbrev pub invariant-loop-place : goal.invariant-loop-place

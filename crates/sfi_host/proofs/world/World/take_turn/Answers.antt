@@ -1,10 +1,4 @@
-use Rattle.std.proofs.Common.{◌≡◌, ◌<◌, List, [], ◌∷◌, None, length, set, slice_get, refl, sym, ap, ◌∙◌, subst, arith}
-use Rattle.std.proofs.lemmas.List.{length-map}
-use Rattle.std.proofs.lemmas.Option.{slice_get_past}
-use Rattle.sfi_host.specs.Slots.{Slot}
-use Rattle.sfi_host.specs.Plans.{IsJoint, IsCutJoint}
-use Rattle.sfi_host.specs.Sandboxes.{seat_of, world_of}
-use Rattle.sfi_host.specs.Worlds.{Sandboxes, slot_of, slots_of}
+use Rattle.sfi_host.proofs.Prelude.{◌≡◌, ◌<◌, List, [], ◌∷◌, None, length, set, slice_get, refl, sym, ap, ◌∙◌, subst, arith, length-map, slice_get_past, Slot, IsJoint, IsCutJoint, seat_of, world_of, Sandboxes, slot_of, slots_of}
 use Rattle.sfi_host.proofs.Asked.{found, no_slot, seat_at}
 use Rattle.sfi_host.proofs.Neighbours.{get_set_same}
 use Rattle.sfi_host.proofs.Plans.{none_then, one_joint, one_turn, cut_turn}

@@ -1,7 +1,5 @@
-use Rattle.std.proofs.Common.{◌≡◌, ◌↔◌, IsTrue, IsSome, List, length, ℕ, true, false, Option, Some, slice_get, refl, subst, arith, rules}
+use Rattle.sfi_host.proofs.Prelude.{◌≡◌, ◌↔◌, IsTrue, IsSome, List, length, ℕ, true, false, Option, Some, slice_get, refl, subst, arith, rules, seat_of, world_of, slot_of}
 use Rattle.sfi_host.specs.Changing.{AreChanges}
-use Rattle.sfi_host.specs.Sandboxes.{seat_of, world_of}
-use Rattle.sfi_host.specs.Worlds.{slot_of}
 use Rattle.sfi_host.proofs.Asked.{found, data_bytes_is}
 use Rattle.sfi_host.proofs.Changing.{whole_at, data_written, others_same, AfterTurn}
 use Rattle.sfi_host.proofs.world.World.write.Given as given
