@@ -25,11 +25,9 @@ set_itself (y ∷ xs) zero x e = let same : x ≡ y = cc in ap (λ (z : _). z �
 set_itself (y ∷ xs) (suc i) x e = ap (λ (l : List _). y ∷ l) (set_itself xs i x e)
 
 pub get_set_other : {A : Type 0} (xs : List A) (i j : ℕ) (y : A) → j ≢ i → slice_get (set xs i y) j ≡ slice_get xs j
-get_set_other [] i j y n = refl
 get_set_other (z ∷ xs) zero zero y n = absurd (n refl)
-get_set_other (z ∷ xs) zero (suc j) y n = refl
-get_set_other (z ∷ xs) (suc i) zero y n = refl
 get_set_other (z ∷ xs) (suc i) (suc j) y n = get_set_other xs i j y (λ e. n (ap suc e))
+get_set_other xs i j y n = refl
 
 -- what stands at a place where one was set
 pub set_found : {A : Type 0} (xs : List A) (i : ℕ) (x new : A) → slice_get xs i ≡ Some x → (j : ℕ) (y : A) → slice_get (set xs i new) j ≡ Some y → ((j ≡ i) × (y ≡ new)) ⊎ ((j ≢ i) × (slice_get xs j ≡ Some y))
