@@ -74,10 +74,9 @@ set_slots m n (t ∷ seats) zero s same = ap (λ (l : List Slot). slot_of n s �
   where
     each : (all : List Seat) → ((j : ℕ) (u : Seat) → slice_get all j ≡ Some u → slot_of n u ≡ slot_of m u) → map (slot_of n) all ≡ map (slot_of m) all
     each [] h = refl
-    each (u ∷ all) h = ap (λ (x : Slot). x ∷ map (slot_of n) all) (h 0 u refl) ∙ ap (λ (l : List Slot). slot_of m u ∷ l) (each all (λ j v e. h (suc j) v e))
+    each (u ∷ all) h = λ k. h 0 u refl k ∷ each all (λ j v e. h (suc j) v e) k
 set_slots m n (t ∷ seats) (suc i) s same =
-    ap (λ (x : Slot). x ∷ map (slot_of n) (set seats i s)) (same 0 t (λ z. omega arith) refl)
-    ∙ ap (λ (l : List Slot). slot_of m t ∷ l) (set_slots m n seats i s (λ j u ne e. same (suc j) u (λ z. ne (omega arith)) e))
+    λ k. same 0 t (λ z. omega arith) refl k ∷ set_slots m n seats i s (λ j u ne e. same (suc j) u (λ z. ne (omega arith)) e) k
 
 module _ (m n : Bytes) (seats : List Seat) (i : ℕ) (s new : Seat) (world : IsSafeWorld (record { bytes = m; seats = seats })) (at : slice_get seats i ≡ Some s) (left : StaysOutside s.bounds.data m n) where
   pub slots_are : slots_of (record { bytes = n; seats = set seats i new }) ≡ set (slots_of (record { bytes = m; seats = seats })) i (slot_of n new)
