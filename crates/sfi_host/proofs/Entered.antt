@@ -80,14 +80,14 @@ tail p ps lie = record {
 abbrev region : ℕ → ℕ → Span
 region base size = record { base = base; size = size }
 
-guard_in : (p : Part) (a : ℕ) → IsRightPart p → InGuard p a → Holds (guarded_region p) a
+pub guard_in : (p : Part) (a : ℕ) → IsRightPart p → InGuard p a → Holds (guarded_region p) a
 guard_in p a right (inl low) = let room : 4096 ≤ p.data_base = right.guard_room.below in (omega arith, omega arith)
 guard_in p a right (inr high) = let room : 4096 ≤ p.data_base = right.guard_room.below in (omega arith, omega arith)
 
 pub data_guarded : (p : Part) (a : ℕ) → IsRightPart p → InData p a → Holds (guarded_region p) a
 data_guarded p a right h = let room : 4096 ≤ p.data_base = right.guard_room.below in (omega arith, omega arith)
 
-guard_not_data : (p : Part) (a : ℕ) → IsRightPart p → InGuard p a → InData p a → ⊥
+pub guard_not_data : (p : Part) (a : ℕ) → IsRightPart p → InGuard p a → InData p a → ⊥
 guard_not_data p a right (inl low) h = let room : 4096 ≤ p.data_base = right.guard_room.below in omega arith
 guard_not_data p a right (inr high) h = omega arith
 

@@ -21,9 +21,8 @@ use Rattle.sfi_host.proofs.SlotSteps.{moved_by, not_moved, next_safe, seat_with}
 -- ---- lists
 
 set_again : {A : Type 0} (xs : List A) (i : ℕ) (x y : A) → set (set xs i x) i y ≡ set xs i y
-set_again [] i x y = refl
-set_again (z ∷ xs) zero x y = refl
 set_again (z ∷ xs) (suc i) x y = ap (λ (l : List _). z ∷ l) (set_again xs i x y)
+set_again xs i x y = refl
 
 given_append : (first second : List Move) → given_in (first ++ second) ≡ given_in first ++ given_in second
 given_append [] second = refl
@@ -46,9 +45,8 @@ no_shares (t ∷ plan) = (no_share t, no_shares plan)
 
 no_moves : (k : ℕ) (plan : List PlanTurn) → all_of (take k (none_of plan)) ≡ []
 unfolding none_of
-no_moves zero plan = refl
-no_moves (suc k) [] = refl
 no_moves (suc k) (t ∷ plan) = no_moves k plan
+no_moves k plan = refl
 
 as_many : (plan : List PlanTurn) (shares : List (List Move)) → AreShares plan shares → length shares ≡ length plan
 as_many [] shares are = ap length are

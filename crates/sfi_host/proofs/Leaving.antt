@@ -56,10 +56,9 @@ or_taken (Some v) y h = refl
 
 -- by an address: in the data, where there is a byte, or left
 put_back_at : (c d t : Bool) (x y o : Option ℕ) → (d ≡ true → (o ≡ x) × (IsSome x) × (t ≡ true)) → (d ≡ false → x ≡ y) → cond (c || d) x None ≡ option_or (cond (d && t) o None) (cond (c || d) y None)
-put_back_at true true t x y o there left = let h = there refl in or_taken x y h.1 ∙ ap (λ (z : Option ℕ). option_or z y) (sym h.0) ∙ ap (λ (b : Bool). option_or (cond b o None) y) (sym h.2)
-put_back_at false true t x y o there left = let h = there refl in or_taken x y h.1 ∙ ap (λ (z : Option ℕ). option_or z y) (sym h.0) ∙ ap (λ (b : Bool). option_or (cond b o None) y) (sym h.2)
 put_back_at true false t x y o there left = left refl
 put_back_at false false t x y o there left = refl
+put_back_at c d t x y o there left = let h = there refl in or_taken x y h.1 ∙ (λ k. option_or (cond (sym h.2 k) (sym h.0 k) None) y)
 
 -- the own bytes, where all but the data is left
 pub put_back : (b : Bounds) (m n others : Bytes) → StaysOutside b.data m n → IsMemory n → IsWhole b.data n → bytes_in b.data n ≡ others → own b n ≡ with_data b (own b m) others

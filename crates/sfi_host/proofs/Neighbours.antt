@@ -17,11 +17,9 @@ set_itself (y ∷ xs) zero x e = let same : x ≡ y = cc in ap (λ (z : _). z �
 set_itself (y ∷ xs) (suc i) x e = ap (λ (l : List _). y ∷ l) (set_itself xs i x e)
 
 pub get_set_other : {A : Type 0} (xs : List A) (i j : ℕ) (y : A) → j ≢ i → slice_get (set xs i y) j ≡ slice_get xs j
-get_set_other [] i j y n = refl
 get_set_other (z ∷ xs) zero zero y n = absurd (n refl)
-get_set_other (z ∷ xs) zero (suc j) y n = refl
-get_set_other (z ∷ xs) (suc i) zero y n = refl
 get_set_other (z ∷ xs) (suc i) (suc j) y n = get_set_other xs i j y (λ e. n (ap suc e))
+get_set_other xs i j y n = refl
 
 -- what stands at a place where one was set
 pub set_found : {A : Type 0} (xs : List A) (i : ℕ) (x new : A) → slice_get xs i ≡ Some x → (j : ℕ) (y : A) → slice_get (set xs i new) j ≡ Some y → ((j ≡ i) × (y ≡ new)) ⊎ ((j ≢ i) × (slice_get xs j ≡ Some y))
@@ -68,10 +66,9 @@ set_slots m n (t ∷ seats) zero s same = ap (λ (l : List Slot). slot_of n s �
   where
     each : (all : List Seat) → ((j : ℕ) (u : Seat) → slice_get all j ≡ Some u → slot_of n u ≡ slot_of m u) → map (slot_of n) all ≡ map (slot_of m) all
     each [] h = refl
-    each (u ∷ all) h = ap (λ (x : Slot). x ∷ map (slot_of n) all) (h 0 u refl) ∙ ap (λ (l : List Slot). slot_of m u ∷ l) (each all (λ j v e. h (suc j) v e))
+    each (u ∷ all) h = λ k. h 0 u refl k ∷ each all (λ j v e. h (suc j) v e) k
 set_slots m n (t ∷ seats) (suc i) s same =
-    ap (λ (x : Slot). x ∷ map (slot_of n) (set seats i s)) (same 0 t (λ z. omega arith) refl)
-    ∙ ap (λ (l : List Slot). slot_of m t ∷ l) (set_slots m n seats i s (λ j u ne e. same (suc j) u (λ z. ne (omega arith)) e))
+    λ k. same 0 t (λ z. omega arith) refl k ∷ set_slots m n seats i s (λ j u ne e. same (suc j) u (λ z. ne (omega arith)) e) k
 
 module _ (m n : Bytes) (seats : List Seat) (i : ℕ) (s new : Seat) (world : IsSafeWorld (record { bytes = m; seats = seats })) (at : slice_get seats i ≡ Some s) (left : StaysOutside s.bounds.data m n) where
   pub slots_are : slots_of (record { bytes = n; seats = set seats i new }) ≡ set (slots_of (record { bytes = m; seats = seats })) i (slot_of n new)

@@ -42,11 +42,10 @@ each_there m a (suc n) (suc k) h l =
 -- ---- reading
 
 one_more : (o : Option ℕ) (p q : Option (List ℕ)) (b : ℕ) (bs : List ℕ) → in_front o p ≡ Some bs → ((cs : List ℕ) → p ≡ Some cs → q ≡ Some (cs ++ b ∷ [])) → in_front o q ≡ Some (bs ++ b ∷ [])
-one_more None p q b bs e longer = absurd (cc)
-one_more (Some a) None q b bs e longer = absurd (cc)
 one_more (Some a) (Some cs) q b bs e longer =
     let all : a ∷ cs ≡ bs = cc in
     ap (λ (r : Option (List ℕ)). in_front (Some a) r) (longer cs refl) ∙ ap (λ (l : List ℕ). Some (l ++ b ∷ [])) all
+one_more o p q b bs e longer = absurd (cc)
 
 -- one byte more
 read_more : (m : Bytes) (a n b : ℕ) (bs : List ℕ) → bytes_at m (range_with_len a n) ≡ Some bs → byte_at m (a + n) ≡ Some b
@@ -70,11 +69,10 @@ bytes_more m a n b bs e f = ap (λ k. bytes_at m (range_with_len a k)) (add-one 
 put_more : (m : Bytes) (a n b : ℕ) (bs : List ℕ) → length bs ≡ n
     → with_bytes m (range_with_len a (suc n)) (bs ++ b ∷ []) ≡ insert (with_bytes m (range_with_len a n) bs) (a + n) b
 put_more m a zero b [] e = let z : a ≡ a + 0 = omega arith in ap (λ x. insert m x b) z
-put_more m a zero b (c ∷ bs) e = absurd (omega arith)
-put_more m a (suc n) b [] e = absurd (omega arith)
 put_more m a (suc n) b (c ∷ bs) e =
     let z : a + 1 + n ≡ a + suc n = omega arith in
     put_more (insert m a c) (a + 1) n b bs (omega arith) ∙ ap (λ x. insert (with_bytes (insert m a c) (range_with_len (a + 1) n) bs) x b) z
+put_more m a n b bs e = absurd (omega arith)
 
 pub write_more : (m : Bytes) (a n b : ℕ) (bs : List ℕ) → length bs ≡ n
     → with_bytes m (range_with_len a (n + 1)) (bs ++ b ∷ []) ≡ insert (with_bytes m (range_with_len a n) bs) (a + n) b
@@ -134,9 +132,8 @@ fewer_there m a n k h l = all_there m a k (λ j below. each_there m a n j h (ome
 
 -- a write removes none
 pub with_keeps : (m : Bytes) (at bs : List ℕ) (q : ℕ) → IsSome (byte_at m q) → IsSome (byte_at (with_bytes m at bs) q)
-with_keeps m [] bs q h = h
-with_keeps m (a ∷ more) [] q h = h
 with_keeps m (a ∷ more) (b ∷ bs) q h = with_keeps (insert m a b) more bs q (still_there m a b q h)
+with_keeps m at bs q h = h
 
 -- ---- bytes that are written one after another
 

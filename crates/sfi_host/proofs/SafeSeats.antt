@@ -1,11 +1,12 @@
 -- What leaves a sandbox safe.
-use Rattle.sfi_host.proofs.Prelude.{◌≡◌, ◌≢◌, ℕ, ◌+◌, ◌^◌, ◌<◌, ◌≤◌, inl, inr, List, [], length, true, refl, sym, ap, ◌∙◌, subst, arith, get_or-set_other, slice_index, slice_set, Ecall, Bytes, IsMemory, byte_at, address_after, Hart, IsHart, IsState, past, Stands, Part, Holds, AreApart, with_guards, code_region, guarded_region, InCode, InData, InGuard, HasCode, StackInData, IsEntry, Replies, Changes, KeepsBytes, KeepsReserved, IsReply, GoesSafelyFrom, Ready, IsEnterable, IsWhole, Bounds, bounds_of, one_more, Way, Replied, Exit, word, with_arguments, after_way, status_after, Seat, state_in, IsSafeSeat, StaysOutside}
+use Rattle.sfi_host.proofs.Prelude.{◌≡◌, ◌≢◌, ℕ, ◌+◌, ◌^◌, ◌<◌, List, [], length, true, refl, sym, ap, ◌∙◌, subst, arith, get_or-set_other, slice_index, slice_set, Ecall, Bytes, IsMemory, byte_at, address_after, Hart, IsHart, IsState, past, Stands, Part, Holds, InGuards, AreApart, with_guards, code_region, guarded_region, InCode, InData, InGuard, HasCode, StackInData, IsEntry, Replies, Changes, KeepsBytes, KeepsReserved, IsReply, GoesSafelyFrom, Ready, IsEnterable, IsWhole, Bounds, bounds_of, one_more, Way, Replied, Exit, word, with_arguments, after_way, status_after, Seat, state_in, IsSafeSeat, StaysOutside}
 use Rattle.sfi_host.specs.Arguments.{a0_register, a1_register}
 use Rattle.sfi_host.specs.Laws.{CallsHaveStack, AnswersAreReplies}
 use Rattle.sfi_host.specs.Stops.{StoppedItself}
 use Rattle.sfi_policy.specs.Formats.{has_stack}
 use Rattle.rv_step.proofs.Harts.{register_is, after_is}
 use Rattle.sfi_check.proofs.Facts.{goes_on_safely}
+use Rattle.sfi_host.proofs.Entered as parts
 use Rattle.sfi_host.proofs.Stops.{at_gate, at_gate_still, stopped_still}
 
 -- ---- the code of a part
@@ -20,12 +21,9 @@ code_stays p m n keeps code k below = keeps.code (p.code_base + k) (code_at p k 
 -- ---- the regions of one sandbox
 
 module _ (m : Bytes) (s : Seat) (seat : IsSafeSeat m s) where
-  room : 4096 ≤ s.bounds.data.base
-  room = subst (λ (b : Bounds). 4096 ≤ b.data.base) (sym seat.bounds) seat.right.guard_room.below
-
   -- the data are among the addresses that are guarded
   pub data_guarded : (a : ℕ) → Holds s.bounds.data a → Holds (with_guards s.bounds.data) a
-  data_guarded a h = let room' = room in (omega arith, omega arith)
+  data_guarded a h = subst (λ (b : Bounds). Holds (with_guards b.data) a) (sym seat.bounds) (parts.data_guarded seat.part a seat.right (subst (λ (b : Bounds). Holds b.data a) seat.bounds h))
 
   apart : AreApart s.bounds.code (with_guards s.bounds.data)
   apart = subst (λ (b : Bounds). AreApart b.code (with_guards b.data)) (sym seat.bounds) seat.apart
@@ -33,22 +31,17 @@ module _ (m : Bytes) (s : Seat) (seat : IsSafeSeat m s) where
   -- ---- for a part that lies there
 
   module _ (p : Part) (is : s.bounds ≡ bounds_of p) where
-    base_is : s.bounds.data.base ≡ p.data_base
-    base_is = ap (λ (b : Bounds). b.data.base) is
-
-    size_is : s.bounds.data.size ≡ p.data_size
-    size_is = ap (λ (b : Bounds). b.data.size) is
-
     pub code_in : (a : ℕ) → InCode p a → Holds s.bounds.code a
     code_in a inside = subst (λ (b : Bounds). Holds b.code a) (sym is) inside
 
+    guard_mine : (a : ℕ) → InGuard p a → InGuard seat.part a
+    guard_mine a guard = subst (λ (b : Bounds). InGuards b.data a) (sym is ∙ seat.bounds) guard
+
     pub guard_guarded : (a : ℕ) → InGuard p a → Holds (with_guards s.bounds.data) a
-    guard_guarded a (inl low) = let room' = room in let e = base_is in let f = size_is in (omega arith, omega arith)
-    guard_guarded a (inr high) = let room' = room in let e = base_is in let f = size_is in (omega arith, omega arith)
+    guard_guarded a guard = subst (λ (b : Bounds). Holds (with_guards b.data) a) (sym seat.bounds) (parts.guard_in seat.part a seat.right (guard_mine a guard))
 
     pub guard_not_data : (a : ℕ) → InGuard p a → Holds s.bounds.data a → ⊥
-    guard_not_data a (inl low) h = let room' = room in let e = base_is in omega arith
-    guard_not_data a (inr high) h = let e = base_is in let f = size_is in omega arith
+    guard_not_data a guard h = parts.guard_not_data seat.part a seat.right (guard_mine a guard) (subst (λ (b : Bounds). Holds b.data a) seat.bounds h)
 
     pub guard_not_code : (a : ℕ) → InGuard p a → Holds s.bounds.code a → ⊥
     guard_not_code a guard inside = apart a inside (guard_guarded a guard)

@@ -8,9 +8,8 @@ use Rattle.sfi_host.proofs.Entered.{Apart, lie_apart, has_code, has_data, has_em
 -- ---- the first hart
 
 zero_words : (n r : ℕ) → slice_index (replicate n 0) r < 2 ^ 32
-zero_words zero r = omega arith
-zero_words (suc n) zero = omega arith
 zero_words (suc n) (suc r) = zero_words n r
+zero_words n r = omega arith
 
 pub first_is : (p : Part) → p.code_base + length p.code ≤ 2 ^ 32 → IsRightPart p → IsHart (first_hart p)
 first_is p end right =
