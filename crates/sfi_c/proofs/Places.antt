@@ -1,26 +1,23 @@
 -- Where the numbers of a sandbox and of a gate lie, and that they have 32 bits.
-use Rattle.std.proofs.Common.{◌≡◌, ◌∙◌, ℕ, zero, suc, ◌+◌, ◌-◌, ◌*◌, ◌^◌, ◌<◌, ◌≤◌, List, [], ◌∷◌, ◌++◌, length, Some, refl, sym, ap, subst, arith, append_assoc}
+use Rattle.std.proofs.Common.{◌≡◌, ◌∙◌, ℕ, zero, suc, ◌+◌, ◌-◌, ◌*◌, ◌<◌, ◌≤◌, List, [], ◌∷◌, ◌++◌, length, Some, refl, sym, ap, subst, arith, append_assoc}
 use Rattle.std.specs.Prelude.{drop, slice_get}
 use Rattle.std.specs.List.{All, flat_map}
 use Rattle.std.proofs.lemmas.List.{length-append, append-nil}
-use Rattle.std.proofs.lemmas.Option.{slice_get_within}
-use Rattle.std.proofs.lemmas.List.Elements.{All-head, All-tail}
-use Rattle.sfi_policy.specs.Limits.{service_most}
-use Rattle.sfi_policy.specs.declared.format.Format.{Format}
-use Rattle.sfi_policy.specs.declared.format.Format.TheVariants.{Sfi1, Sfi2}
-use Rattle.sfi_policy.specs.Formats.{magic, code_most}
+use Rattle.std.proofs.lemmas.Option.{slice_get_within, get_or_from_slice_get}
+use Rattle.std.proofs.lemmas.List.Elements.{All-get_or}
+use Rattle.std.proofs.Math.Seq.{drop-cons}
+use Rattle.sfi_policy.specs.Formats.{magic}
 use Rattle.sfi_image.specs.declared.part.Gate.{Gate}
 use Rattle.sfi_image.specs.declared.fields.Fields.{Fields}
-use Rattle.sfi_image.specs.Spelling.{Part, fields_of, number, fields, gate, part, format_of, IsWord, AreFieldWords}
-use Rattle.sfi_image.specs.Spans.{code_region}
-use Rattle.sfi_image.specs.Laws.{CodeEnds}
-use Rattle.sfi_image.specs.Regions.{IsBundleStart}
+use Rattle.sfi_image.specs.Spelling.{Part, fields_of, number, fields, gate, part, format_of, IsWord, AreFieldWords, AreGateWords}
 use Rattle.sfi_image.specs.Parts.{IsRightPart}
 use Rattle.sfi_image.specs.Images.{IsImage}
+use Rattle.sfi_image.proofs.Bundles.{right_words}
 use Rattle.sfi_c.specs.declared.part.SfiPart.{SfiPart}
 use Rattle.sfi_c.specs.Parts.{IsSandboxOf, LiesAt, Tells, told_part}
 use Rattle.sfi_c.specs.private.Places.{IsPartAt, IsWordAt, code_at, told_at}
 use Rattle.sfi_c.proofs.Heads.{head_is, length-magic}
+use Rattle.sfi_c.proofs.Lookups.{one_there}
 use Rattle.sfi_c.proofs.Lying.{front_lies, rest_lies, length-number}
 
 -- ---- gates
@@ -114,31 +111,9 @@ length-part p = omega (
   length-gates p.gates,
 )
 
-code_fits : (format : Format) (n : ℕ) → n ≤ code_most format → n < 2 ^ 32
-code_fits Sfi1 n le = omega arith
-code_fits Sfi2 n le = omega arith
-
-words : CodeEnds → (p : Part) → IsRightPart p → AreFieldWords (fields_of p)
-words law p right =
-    let ends = law p right in
-    let above = right.guard_room.above in
-    let start = right.start.held in
-    let gates = right.gate_count in
-    let init = right.init_len in
-    let largest = right.data_placed.at_most in
-    record {
-      code_base = right.code_base;
-      code_size = code_fits p.format (length p.code) right.code_placed.at_most;
-      data_base = omega arith;
-      data_size = omega arith;
-      start = omega (arith, start.1);
-      gate_count = omega arith;
-      init_len = omega arith;
-    }
-
-pub numbers : CodeEnds → (bytes : List ℕ) (o : ℕ) (p : Part) → LiesAt bytes o (part p) → IsRightPart p → AreAt bytes o (fields_of p)
+pub numbers : (bytes : List ℕ) (o : ℕ) (p : Part) → LiesAt bytes o (part p) → IsRightPart p → AreAt bytes o (fields_of p)
 unfolding part
-numbers law bytes o p h right = seven bytes o (fields_of p) (words law p right) (front_lies bytes o (fields (fields_of p)) _ h)
+numbers bytes o p h right = seven bytes o (fields_of p) (right_words p right).fields (front_lies bytes o (fields (fields_of p)) _ h)
 
 -- ---- an image
 
@@ -154,21 +129,7 @@ all_lie bytes ps h = record {
 
 -- what holds of each holds of the one of that number
 all_at : {X : Type 0} (P : X → Type 0) (xs : List X) (i : ℕ) (x : X) → All P xs → slice_get xs i ≡ Some x → P x
-all_at P [] i x h e = absurd cc
-all_at P (y ∷ ys) zero x h e = let is : y ≡ x = cc in subst P is (All-head P y ys h)
-all_at P (y ∷ ys) (suc i) x h e = all_at P ys i x (All-tail P y ys h) e
-
-pub record IsNext (ps : List Part) (i : ℕ) : Type 0 where
-  pub sandbox : Part
-  pub sandbox_is : slice_get ps i ≡ Some sandbox
-  pub on : drop i ps ≡ sandbox ∷ drop (suc i) ps
-
-pub is_next : (ps : List Part) (i : ℕ) → i < length ps → IsNext ps i
-is_next [] i lt = absurd (omega arith)
-is_next (p ∷ ps) zero lt = record { sandbox = p; sandbox_is = refl; on = refl }
-is_next (p ∷ ps) (suc i) lt =
-    let n = is_next ps i (omega arith) in
-    record { sandbox = n.sandbox; sandbox_is = n.sandbox_is; on = n.on }
+all_at P xs i x h e = subst P (get_or_from_slice_get xs i x x e) (All-get_or P xs i x (slice_get_within xs i x e) h)
 
 -- the sandbox of that number lies here, and then the others
 pub record IsThere (bytes : List ℕ) (ps : List Part) (i o : ℕ) : Type 0 where
@@ -181,14 +142,16 @@ pub record IsThere (bytes : List ℕ) (ps : List Part) (i o : ℕ) : Type 0 wher
 
 pub there : (bytes : List ℕ) (ps : List Part) (i o : ℕ) → IsImage bytes ps → i < length ps → LiesAt bytes o (flat_map part (drop i ps)) → IsThere bytes ps i o
 there bytes ps i o h lt lies =
-    let n = is_next ps i lt in
-    let all : LiesAt bytes o (part n.sandbox ++ flat_map part (drop (suc i) ps)) = subst (λ (l : List Part). LiesAt bytes o (flat_map part l)) n.on lies in
+    let x = one_there ps i lt in
+    let p = x.0 in
+    let next : drop i ps ≡ p ∷ drop (suc i) ps = drop-cons ps i p lt ∙ ap (λ (q : Part). q ∷ drop (suc i) ps) (get_or_from_slice_get ps i p p x.1) in
+    let all : LiesAt bytes o (part p ++ flat_map part (drop (suc i) ps)) = subst (λ (l : List Part). LiesAt bytes o (flat_map part l)) next lies in
     record {
-      sandbox = n.sandbox;
-      sandbox_is = n.sandbox_is;
-      right = all_at IsRightPart ps i n.sandbox h.layout.right.each n.sandbox_is;
-      format_is = all_at (λ (p : Part). p.format ≡ format_of ps) ps i n.sandbox h.layout.one_format n.sandbox_is;
-      lies = front_lies bytes o (part n.sandbox) (flat_map part (drop (suc i) ps)) all;
+      sandbox = p;
+      sandbox_is = x.1;
+      right = all_at IsRightPart ps i p h.layout.right.each x.1;
+      format_is = all_at (λ (q : Part). q.format ≡ format_of ps) ps i p h.layout.one_format x.1;
+      lies = front_lies bytes o (part p) (flat_map part (drop (suc i) ps)) all;
       on = all;
     }
 
@@ -236,21 +199,20 @@ pub record IsGateThere (bytes : List ℕ) (t : SfiPart) (index : ℕ) (g : Gate)
   pub address : IsWord g.address
   pub service : IsWord g.service
 
-pub one_gate : CodeEnds → (bytes : List ℕ) (n index : ℕ) (p : Part) (g : Gate) (t : SfiPart) → IsSandboxOf bytes n p → IsPartAt bytes p t
+pub one_gate : (bytes : List ℕ) (n index : ℕ) (p : Part) (g : Gate) (t : SfiPart) → IsSandboxOf bytes n p → IsPartAt bytes p t
     → slice_get p.gates index ≡ Some g → IsGateThere bytes t index g
-one_gate law bytes n index p g t h at is_g =
+one_gate bytes n index p g t h at is_g =
     let right = all_at IsRightPart h.parts n p h.image.layout.right.each h.sandbox_is in
     let there = gate_there bytes (at.offset + 28) index p.gates g is_g (pieces bytes at.offset p at.lies).gates in
     let lt : index < length p.gates = slice_get_within p.gates index g is_g in
     let gates = gates_are bytes p t at in
     let code : t.code_offset ≡ at.offset + 28 + 8 * length p.gates = ap (λ (u : SfiPart). u.code_offset) at.told_is in
     let place : at.offset + 28 + 8 * index ≡ t.code_offset - 8 * (t.gates - index) = omega arith in
-    let start = (all_at (λ (x : Gate). IsBundleStart (code_region p) x.address) p.gates index g right.gates.starts is_g).held in
-    let service = all_at (λ (x : Gate). x.service ≤ service_most) p.gates index g right.gates.services is_g in
+    let words = all_at AreGateWords p.gates index g (right_words p right).gates is_g in
     record {
       few = omega arith;
       room = omega arith;
       lies = subst (λ (m : ℕ). LiesAt bytes m (gate g)) place there;
-      address = omega (arith, start.1, law p right);
-      service = omega arith;
+      address = words.address;
+      service = words.service;
     }

@@ -8,7 +8,6 @@ ghost use Rattle.sfi_image.specs.Images.{IsImage};
 ghost use Rattle.sfi_c.specs.Parts.{IsSandboxOf, LiesAt, told_gate, with_gates, format_number};
 ghost use Rattle.sfi_c.specs.private.Places.{IsPartAt, IsWordAt, told_at};
 
-use sfi_image::code_ends;
 use sfi_policy::Format;
 
 /// A sandbox of an image: `struct sfi_part`.
@@ -93,9 +92,6 @@ fn part_at(image: &[u8], offset: usize, format: u32) -> SfiPart
     ensures { (p : Part) → LiesAt image.now offset (part p) → IsRightPart p
         → format ≡ format_number p.format → result ≡ told_at p offset }
 {
-    // The law that the contract rests on: this call does nothing.
-    code_ends();
-
     let code_size = number_at(image, offset + 4);
     let gates = number_at(image, offset + 20);
     let code_offset = offset + FIELDS_BYTES + GATE_BYTES * gates as usize;
@@ -135,9 +131,6 @@ pub(crate) fn gate_of(image: &[u8], part: &SfiPart, index: u32) -> SfiGate
         → IsPartAt image.now p part.now → slice_get p.gates index ≡ Some g
         → result ≡ told_gate g }
 {
-    // The law that the contract rests on: this call does nothing.
-    code_ends();
-
     gate_at(
         image,
         part.code_offset - GATE_BYTES * (part.gates - index) as usize,
