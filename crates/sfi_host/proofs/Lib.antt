@@ -27,3 +27,4 @@ pub mod Entries
 pub mod Turning
 pub mod Worlds
 pub mod Writing
+pub mod Facts
