@@ -1,7 +1,7 @@
 -- What is answered on a stream holds of the bytes that its reader told.
 use Rattle.std.proofs.Common.{◌≡◌, ℕ, ◌⊎◌, Bool, true, false, List, [], ◌∷◌, ◌++◌, Option, Some, None, refl, sym, ap, ◌∙◌, subst, inl, inr, IfSome, append_assoc}
 use Rattle.std.specs.Prelude.{nat_lt}
-use Rattle.std.proofs.lemmas.Bool.{ltb-true}
+use Rattle.std.proofs.lemmas.Bool.{cases_Bool, ltb-true}
 use Rattle.std.proofs.lemmas.List.{append-nil}
 use Rattle.sfi_image.specs.declared.fault.LayoutFault.{LayoutFault}
 use Rattle.sfi_image.specs.Faults.{IsFault, number_of}
@@ -14,10 +14,6 @@ use Rattle.sfi_check.specs.declared.stream_answer.StreamAnswer.TheVariants as an
 use Rattle.sfi_check.specs.Streams.{AreCounted, IsFaultOf, IsVerdictOn}
 use Rattle.sfi_tool.specs.commands.Checking.{HasSomeFault, SaysVerdict}
 use Rattle.sfi_tool.specs.Verdict.{accepted_text, refused_line, refused_text}
-
-which : (b : Bool) → (b ≡ true) ⊎ (b ≡ false)
-which true = inl refl
-which false = inr refl
 
 -- the line of counted findings is that of the findings
 line_of_count : (count : ℕ) (first : Finding) (found : List Finding) → AreCounted count first found → refused_text count first ≡ refused_line found
@@ -64,7 +60,7 @@ module _ {S : Type 0} (known : S → Option (List ℕ)) (failed : S → Bool) wh
           let k = subst (λ (o : Option (List ℕ)). ReadsOf (Some all) (failed s) r.buffer_length (Some []) o (failed r.after)) n (subst (λ (o : Option (List ℕ)). ReadsOf (Some all) (failed s) r.buffer_length o (known r.after) (failed r.after)) a one) in
           let rest = ih left n in
           let same : all ≡ left = k.1 in
-          elim (which (nat_lt 0 r.buffer_length)) [
+          elim (cases_Bool (nat_lt 0 r.buffer_length)) [
             | inl holds ↦ (let none : left ≡ [] = k.3 refl (ltb-true 0 r.buffer_length holds) in rw (a, holds) ([], same ∙ none, λ _. refl))
             | inr fails ↦ rw (a, fails) (rest.0, same ∙ rest.1, rest.2)
           ]
