@@ -1,6 +1,7 @@
 use Rattle.std.proofs.Common.{◌≡◌, ◌+◌, ◌*◌, false, ℕ, length, take, drop, ap, sym, ◌∙◌, subst, arith}
 use Rattle.std.proofs.lemmas.List.{length-drop, take_rest}
 use Rattle.sfi_image.specs.Spelling.{view}
+use Rattle.sfi_image.proofs.Facts.{whole_bundles}
 use Rattle.sfi_scan.specs.declared.bundle.BundlePlace.{BundlePlace}
 use Rattle.sfi_scan.specs.Bundles.{IsWithinBlock}
 use Rattle.sfi_scan.specs.private.Near.{is_first_below}
@@ -10,7 +11,7 @@ use Rattle.sfi_scan.proofs.part.clean_from.Goals as goal
 
 pub overflow_add-place : goal.overflow_add-place
 overflow_add-place c =
-    let whole = c.whole_bundles.ensures c.args.format c.args.part.now.code_base (length c.args.part.now.code.now) c.requires.right.code_base c.requires.right.code_placed in
+    let whole = whole_bundles c.args.format c.args.part.now.code_base (length c.args.part.now.code.now) c.requires.right.code_base c.requires.right.code_placed in
     let end = whole.4 in
     let at : c.place_in-place.result.address ≡ c.args.part.now.code_base + 16 * c.args.number = ap (λ (b : BundlePlace). b.address) c.place_in-place.ensures in
     let xs = c.args.part.now.code.now in
@@ -22,7 +23,7 @@ overflow_add-place c =
 
 pub clean_bundles-requires : goal.clean_bundles-requires
 clean_bundles-requires c =
-    let whole = c.whole_bundles.ensures c.args.format c.args.part.now.code_base (length c.args.part.now.code.now) c.requires.right.code_base c.requires.right.code_placed in
+    let whole = whole_bundles c.args.format c.args.part.now.code_base (length c.args.part.now.code.now) c.requires.right.code_base c.requires.right.code_placed in
     let end = whole.4 in
     let xs = c.args.part.now.code.now in
     let enough = c.in-Some.ensures.cases.enough in
