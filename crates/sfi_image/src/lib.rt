@@ -32,7 +32,7 @@ mod writing;
 pub use fault::{ImageFault, LayoutFault};
 pub use fields::{Fields, has_guard_room, is_region};
 pub use image::Image;
-pub use laws::{code_ends, front_ends, one_reading, right_in_second, some_reading, whole_bundles};
+pub use laws::{front_ends, one_reading, some_reading};
 pub use layout_reader::LayoutReader;
 pub use part::{Gate, SandboxPart};
 pub use reader_parts::ReaderParts;
