@@ -8,7 +8,8 @@ ghost use Rattle.sfi_c.specs.private.Lookups.{HasPart, HasGate, HasFault, IsSaid
 
 use crate::layout::is_image;
 use crate::lookup::Lookup;
-use crate::part::{SfiGate, SfiPart, gate_of, number_at, part_of, write_gates};
+use crate::part::{SfiGate, SfiPart, gate_of, part_of, write_gates};
+use sfi_image::number_at;
 
 /// Where the count of sandboxes lies.
 const COUNT_OFFSET: usize = 4;
@@ -19,7 +20,8 @@ fn look_up(image: &[u8], number: u32) -> Lookup
         result }
 {
     if is_image(image) {
-        if number < number_at(image, COUNT_OFFSET) {
+        let (count, _) = number_at(&image[COUNT_OFFSET..]);
+        if number < count {
             Lookup::Found
         } else {
             Lookup::Beyond

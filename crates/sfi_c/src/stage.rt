@@ -1,5 +1,6 @@
 //! Numbers for what an enum says in Rattle.
 ghost use Rattle.std.specs.Prelude.{◌≡◌};
+ghost use Rattle.sfi_c.specs.Parts.{format_number};
 ghost use Rattle.sfi_c.specs.Streams.{stage_of, format_of, first_finding};
 
 use crate::finding::{SfiFinding, no_finding, told};
@@ -40,7 +41,8 @@ pub(crate) fn stage_of(number: u32) -> Next
 
 /// The number of a format.
 pub(crate) fn format_number(format: Format) -> u32
-    ensures { format_of result ≡ format }
+    ensures number { result ≡ format_number format }
+    ensures back { format_of result ≡ format }
 {
     match format {
         Format::Sfi1 => 1,
