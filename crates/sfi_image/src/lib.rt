@@ -30,7 +30,7 @@ mod want;
 mod writing;
 
 pub use fault::{ImageFault, LayoutFault};
-pub use fields::{Fields, has_guard_room, is_region};
+pub use fields::{Fields, has_guard_room, is_region, with_guards};
 pub use image::Image;
 pub use laws::{front_ends, one_reading, some_reading};
 pub use layout_reader::LayoutReader;
