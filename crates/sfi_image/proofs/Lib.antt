@@ -24,3 +24,4 @@ pub mod Ending
 pub mod Parsing
 pub mod Second
 pub mod Facts
+pub mod Handing
