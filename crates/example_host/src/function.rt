@@ -7,7 +7,6 @@ ghost use Rattle.sfi_host.specs.Plans.{IsJoint, IsCutJoint};
 ghost use Rattle.sfi_host.specs.Worlds.{slots_of, status_at, IsSafeWorld, StaysOutsideData};
 
 use rv_mem::Memory;
-use sfi_host::laws::some_machine;
 use sfi_host::{Gates, RunAnswer, Status, Turn, World};
 
 /// A function of a sandbox, which takes a text in memory and leaves another of the same length
@@ -141,8 +140,6 @@ impl Function {
         ensures outside { StaysOutsideData world.old world.new.bytes }
         ensures safe { IsSafeWorld world.new }
     {
-        // What the contract rests on: these calls do nothing.
-        some_machine();
         world.stays_safe();
 
         let turn = Turn {

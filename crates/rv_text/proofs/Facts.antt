@@ -1,12 +1,8 @@
--- What holds of every text: the laws, for proofs here and in the crates above.
-use Rattle.rv_source.proofs.NameTable.{met_there, meaning_new}
-use Rattle.rv_text.specs.Laws.{SourcesAreRight, OneSource, OneFault, MeantHasNoFault, SomeSource}
+-- What holds of every text: laws, and that sources are right, for proofs here and in the crates above.
+use Rattle.rv_text.specs.Laws.{OneSource, OneFault, MeantHasNoFault, SomeSource}
 use Rattle.rv_text.proofs.OneSource as one
-use Rattle.rv_text.proofs.RightTexts as right
 use Rattle.rv_text.proofs.SomeSource as some
-
-pub sources_are_right : SourcesAreRight
-sources_are_right = right.sources_are_right met_there meaning_new
+pub use Rattle.rv_text.proofs.RightTexts.{sources_are_right}
 
 pub one_source : OneSource
 one_source = one.one_source

@@ -18,7 +18,7 @@ pub use Rattle.rv_text.specs.Constants.{constant, data_bytes, is_small, add_lowe
 pub use Rattle.rv_text.specs.Effects.{Does, IsFree, Labels, RefusesLabel, Fits, GoesOn, with_stated, HasNoRoom, MayCome}
 pub use Rattle.rv_text.specs.Forms.{IsNumberOf, form_of}
 pub use Rattle.rv_text.specs.Keywords.{keyword_name, directive_form, directive_states, pseudo_form, pseudo_states, branch_form, branch_states, jal_form, jal_states, data_kind, place_of_keyword}
-pub use Rattle.rv_text.specs.Laws.{ConstantsAddUp, OneMeaning, MeaningsAreInRange, LeadsOnce, LeadingIsNotRefused, RefusedOnce, OneSource, OneFault, MeantHasNoFault, OneCause, MeantIsNotRefused, SourcesAreRight, PrintedReadsBack, SomeMeaning, SomeSource}
+pub use Rattle.rv_text.specs.Laws.{ConstantsAddUp, OneMeaning, MeaningsAreInRange, LeadsOnce, LeadingIsNotRefused, RefusedOnce, OneSource, OneFault, MeantHasNoFault, OneCause, MeantIsNotRefused, PrintedReadsBack, SomeMeaning, SomeSource}
 pub use Rattle.rv_text.specs.Leads.{LabelsLead, RestLeads, BeginsWithName, BeginsWithLabel, HasNoLabel, IsTaken, LabelRefused, PassesLabels, LeadsAfter, PassesLimit, OperandsRefused, RefusedAfter, RefusedFrom, StatementRefused, Leads, IsGateTwice, LineRefused}
 pub use Rattle.rv_text.specs.Lines.{Writes, AreMore, IsRow, IsData, StatesAfter, InstrDeparts, RefusedWith, LeadsByMore, NumberDeparts, MoreDeparts, ListDeparts, NameRefused, After}
 pub use Rattle.rv_text.specs.Mnemonics.{name_of}

@@ -1,6 +1,5 @@
 -- What a text means is right: each sandbox is within its limits, and its names, gates and items fit each other.
 use Rattle.rv_text.proofs.Prelude.{◌≡◌, ◌≢◌, ◌↔◌, refl, sym, ap, subst, ◌∙◌, ℕ, zero, suc, ◌+◌, ◌<◌, ◌≤◌, ◌⊎◌, inl, inr, Bool, true, false, not, ◌||◌, IsTrue, true≢false, if◌then◌else◌, List, [], ◌∷◌, ◌++◌, Some, map, slice_get, length, length-append, arith, AllByRecursion, bytes_eq, same_Some, none-some, slice_get_within, cases_lt, bytes_eq-Decides, Named, Gate, Code, Data, Unknown, IsShortLabel, place_of, placed, met, Sandbox, IsDataSize, IsBody, IsThere, IsEntry, IsGate, IsSandbox, Begun, begin, with_names, with_label, with_gate, items_of, with_bodies, with_bytes, IsFree}
-use Rattle.rv_source.specs.Laws.{MetNamesStay, NewNamesNameNothing}
 use Rattle.rv_source.specs.declared.item.Body.{Body}
 use Rattle.rv_source.specs.declared.item.Body.TheVariants.{Plain, To, High, Low}
 use Rattle.rv_source.specs.declared.item.Item.{Item}
@@ -10,6 +9,7 @@ use Rattle.std.proofs.lemmas.List.Elements.{All-from_recursion}
 use Rattle.std.proofs.lemmas.Map.Made.{AllPairs-from_IsDistinct}
 use Rattle.std.specs.List.{IsDistinct}
 use Rattle.sfi_policy.specs.Limits.{service_most}
+use Rattle.rv_source.proofs.NameTable.{met_there, meaning_new}
 use Rattle.rv_text.proofs.Lexing.{all_by}
 use Rattle.rv_text.proofs.Placing.{Has, has_contained, contained_has, placed_has, placed_keeps, placed_back, placed_at, placed_stays, placed_all, placed_grows, placed_differ}
 
@@ -168,12 +168,12 @@ label_right b d name free is_label = by b.in_data
         (λ h. placed_has b.sandbox.names name (Code (length b.sandbox.items)), λ h. or_true b.labelled)
 
 -- a name that an instruction goes to
-pub met_right : MetNamesStay → NewNamesNameNothing → (b : Begun) (d : IsDraft b) (name : List ℕ) → IsShortLabel name → IsDraft (with_names (met b.sandbox.names name) b)
-met_right met_law new_law b d name is_label =
+pub met_right : (b : Begun) (d : IsDraft b) (name : List ℕ) → IsShortLabel name → IsDraft (with_names (met b.sandbox.names name) b)
+met_right b d name is_label =
     elim (cases_lt (place_of b.sandbox.names name) (length b.sandbox.names)) [
-      | inl there ↦ subst (λ names. IsDraft (with_names names b)) (met_law b.sandbox.names name there) d
+      | inl there ↦ subst (λ names. IsDraft (with_names names b)) (met_there b.sandbox.names name there) d
       | inr none ↦
-          let free : IsFree name b = new_law b.sandbox.names name none in
+          let free : IsFree name b = meaning_new b.sandbox.names name none in
           subst (λ what. IsDraft (with_names (placed b.sandbox.names name what) b)) (sym free)
           (placed_right b d name Unknown b.labelled b.opened free is_label tt (λ k within e. cc) (through d.labelled (code_stays b name Unknown (length b.sandbox.items) free (λ e. cc))))
     ]

@@ -7,7 +7,7 @@ use Rattle.rv_text.specs.declared.cause.TextCause.{TextCause}
 use Rattle.rv_text.specs.Statement.{Means, Refused}
 use Rattle.rv_text.specs.Printed.{printed}
 use Rattle.rv_text.specs.declared.fault.TextFault.{TextFault}
-use Rattle.rv_source.specs.Source.{Sandbox, IsSource}
+use Rattle.rv_source.specs.Source.{Sandbox}
 use Rattle.rv_text.specs.SoFar.{SoFar}
 use Rattle.rv_text.specs.Leads.{Leads, LineRefused}
 use Rattle.rv_text.specs.Texts.{MeansSource, IsFault}
@@ -70,10 +70,6 @@ SomeSource = (text : List ℕ)
 abbrev pub MeantHasNoFault : Type 0
 MeantHasNoFault =
     (text : List ℕ) (p : List Sandbox) (f : TextFault) → MeansSource text p → IsFault text f → ⊥
-
--- what a text means is within its limits, and its names, gates and instructions fit each other
-abbrev pub SourcesAreRight : Type 0
-SourcesAreRight = (text : List ℕ) (parts : List Sandbox) → MeansSource text parts → IsSource parts
 
 -- the lui and the addi of a number add up to it, as 32 bits hold it
 abbrev pub ConstantsAddUp : Type 0

@@ -1,6 +1,5 @@
-//! Laws of the text of instructions and of sources.
-//! A caller calls one to have its statement at hand.
-ghost use Rattle.rv_text.specs.Laws.{OneMeaning, OneCause, MeantIsNotRefused, SomeMeaning, MeaningsAreInRange, PrintedReadsBack, LeadsOnce, LeadingIsNotRefused, RefusedOnce, OneSource, OneFault, MeantHasNoFault, SomeSource, SourcesAreRight, ConstantsAddUp};
+//! Laws of the text of instructions and of sources. A call costs nothing.
+ghost use Rattle.rv_text.specs.Laws.{OneMeaning, OneCause, MeantIsNotRefused, SomeMeaning, MeaningsAreInRange, PrintedReadsBack, LeadsOnce, LeadingIsNotRefused, RefusedOnce, OneSource, OneFault, MeantHasNoFault, SomeSource, ConstantsAddUp};
 
 /// A text means one instruction at most.
 pub fn one_meaning()
@@ -68,13 +67,6 @@ pub fn meant_has_no_fault()
 pub fn some_source()
     ensures { SomeSource }
 {}
-
-/// What a text means is within its limits, and its names, gates and instructions fit each other.
-pub fn sources_are_right()
-    ensures { SourcesAreRight }
-{
-    rv_source::laws::names_are_met();
-}
 
 /// The lui and the addi that `li` stands for add up to its number.
 #[tactic(auto, using(crate::proofs::Adding::add_up))]

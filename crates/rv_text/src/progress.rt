@@ -15,7 +15,6 @@ use crate::cause::TextCause;
 use crate::draft::Draft;
 use crate::fault::TextFault;
 use crate::keyword::{Directive, Keyword};
-use crate::laws::sources_are_right;
 use crate::lexer::{Next, body, next_token};
 use crate::line::{read_keyword, read_statement};
 use crate::read::is_label;
@@ -306,7 +305,6 @@ impl Progress {
         match self.begun {
             Some(draft) => {
                 parts.push(draft.finish())?;
-                sources_are_right();
                 Ok(Source::new(parts))
             }
             None => Err(TextFault {

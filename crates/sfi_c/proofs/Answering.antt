@@ -5,7 +5,7 @@ use Rattle.sfi_image.specs.Faults.{IsFault}
 use Rattle.sfi_image.specs.Fronts.{HasFaultNumberWhateverFollows}
 use Rattle.sfi_scan.specs.declared.finding.Finding.{Finding}
 use Rattle.sfi_check.specs.declared.stream_answer.StreamAnswer.{StreamAnswer}
-use Rattle.sfi_check.specs.declared.stream_answer.StreamAnswer.TheVariants.{Accepted, Layout, Findings, ReadFault}
+use Rattle.sfi_check.specs.declared.stream_answer.StreamAnswer.TheVariants.{Accepted, Layout, Findings}
 use Rattle.sfi_check.specs.Verdict.{HasFindings}
 use Rattle.sfi_check.specs.Streams.{IsFaultOf, AreCounted, IsVerdictOn}
 use Rattle.sfi_c.specs.Verdicts.{no_image, refusal, IsAcceptance, IsRefusal, IsLayoutFault}
@@ -14,9 +14,7 @@ use Rattle.sfi_c.specs.private.Reads.{verdict_of}
 pub accepted : (bytes : List ℕ) (a : StreamAnswer) → IsVerdictOn bytes true a → (verdict_of a).status ≡ 0 → IsAcceptance bytes (verdict_of a)
 accepted bytes (Accepted sandboxes bundles) v e =
     let h = v.accepted in record { parts = h.1; accepted = h.2; safe = h.5; verdict_is = rw (h.3, h.4) refl }
-accepted bytes (Layout number) v e = absurd cc
-accepted bytes (Findings count first) v e = absurd cc
-accepted bytes ReadFault v e = absurd cc
+accepted bytes _ v e = absurd cc
 
 counted : (bytes : List ℕ) (count : ℕ) (first : Finding) (found : List Finding) → HasFindings bytes found → AreCounted count first found
     → (head : Finding) × (rest : List Finding) × IsRefusal bytes head rest (refusal count first)
@@ -28,10 +26,8 @@ counted bytes count first (x ∷ xs) h c =
 
 pub refused : (bytes : List ℕ) (a : StreamAnswer) → IsVerdictOn bytes true a → (verdict_of a).status ≡ 1
     → (first : Finding) × (rest : List Finding) × IsRefusal bytes first rest (verdict_of a)
-refused bytes (Accepted sandboxes bundles) v e = absurd cc
-refused bytes (Layout number) v e = absurd cc
 refused bytes (Findings count first) v e = let f = v.findings in counted bytes count first f.1 f.2 f.3
-refused bytes ReadFault v e = absurd cc
+refused bytes _ v e = absurd cc
 
 -- a fault whatever follows is one of the bytes
 fault : (bytes : List ℕ) (number : ℕ) → ((true ≡ true) × IsFaultOf bytes number) ⊎ HasFaultNumberWhateverFollows bytes number → IsFaultOf bytes number
@@ -39,8 +35,6 @@ fault bytes number (inl (all, h)) = h
 fault bytes number (inr (k, is, h)) = (k, is, subst (λ (l : List ℕ). IsFault l k) (append-nil bytes) (h []))
 
 pub layout : (bytes : List ℕ) (a : StreamAnswer) → IsVerdictOn bytes true a → (verdict_of a).status ≡ 2 → IsLayoutFault bytes (verdict_of a)
-layout bytes (Accepted sandboxes bundles) v e = absurd cc
 layout bytes (Layout number) v e =
     let k = fault bytes number v.layout in record { fault = k.0; is = k.2; verdict_is = ap no_image (sym k.1) }
-layout bytes (Findings count first) v e = absurd cc
-layout bytes ReadFault v e = absurd cc
+layout bytes _ v e = absurd cc

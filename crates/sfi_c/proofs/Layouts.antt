@@ -6,9 +6,10 @@ use Rattle.sfi_image.specs.declared.fault.LayoutFault.TheVariants.{Short, Traili
 use Rattle.sfi_image.specs.Spelling.{Part}
 use Rattle.sfi_image.specs.Images.{IsImage}
 use Rattle.sfi_image.specs.Faults.{IsFault}
-use Rattle.sfi_image.specs.Fronts.{Front, front, want_of, IsRightFront, IsLess, IsLengthOf, CutShort, Trails, WholeIsImage, HasFaultNumberWhateverFollows}
+use Rattle.sfi_image.specs.Fronts.{Front, front, want_of, IsRightFront, IsLess, IsLengthOf, HasFaultNumberWhateverFollows}
 use Rattle.sfi_image.specs.Fronts.Front.{Empty, AfterMagic, AfterCount, InGates, InCode, InInit, Whole}
-use Rattle.sfi_image.specs.Keeping.{ReaderState, StandsFor, Leads}
+use Rattle.sfi_image.specs.Keeping.{ReaderState, StandsFor}
+use Rattle.sfi_image.proofs.Facts.{cut_short, trails, whole_is_image}
 use Rattle.sfi_c.specs.private.Layouts.{length_of}
 
 -- the reader has read the bytes but for the rest
@@ -19,15 +20,11 @@ pub record IsRead (bytes : List ℕ) (r : ReaderState) (rest : List ℕ) : Type 
 
 -- as many bytes as come next
 pub wanted : (x : Front) (n : ℕ) → IsRightFront x → Some n ≡ length_of (want_of x) → IsLengthOf n (want_of x)
-wanted Empty n right e = cc
-wanted (AfterMagic format) n right e = cc
-wanted (AfterCount format k ps) n right e = cc
-wanted (InGates k ps f gs) n right e = cc
-wanted (InCode k ps f gs code) n right e = cc
 wanted (InInit k ps f gs code init) n right e =
     let is : n ≡ f.init_len - length init = cc in
     let less = right.3 in (omega arith, omega arith)
 wanted (Whole ps) n right e = absurd cc
+wanted _ n right e = cc
 
 -- fewer
 pub fewer : (x : Front) (n m : ℕ) → Some n ≡ length_of (want_of x) → m < n → IsLess m (want_of x)
@@ -39,44 +36,32 @@ fewer (InCode k ps f gs code) n m e lt = let is : n ≡ 16 = cc in omega arith
 fewer (InInit k ps f gs code init) n m e lt = let is : n ≡ f.init_len - length init = cc in omega arith
 fewer (Whole ps) n m e lt = absurd cc
 
-pub short : CutShort → (bytes : List ℕ) (r : ReaderState) (rest : List ℕ) (n : ℕ) (h : IsRead bytes r rest) → Some n ≡ length_of (want_of h.at) → length rest < n
+pub short : (bytes : List ℕ) (r : ReaderState) (rest : List ℕ) (n : ℕ) (h : IsRead bytes r rest) → Some n ≡ length_of (want_of h.at) → length rest < n
     → (k : LayoutFault) × IsFault bytes k
-short law bytes r rest n h e lt =
-    (Short, subst (λ (l : List ℕ). IsFault l Short) (sym h.bytes_are) (law h.at rest h.stands.right (fewer h.at n (length rest) e lt)))
+short bytes r rest n h e lt =
+    (Short, subst (λ (l : List ℕ). IsFault l Short) (sym h.bytes_are) (cut_short h.at rest h.stands.right (fewer h.at n (length rest) e lt)))
 
 pub faulty : (bytes : List ℕ) (r : ReaderState) (rest s after : List ℕ) (number : ℕ) (h : IsRead bytes r rest) → rest ≡ s ++ after
     → HasFaultNumberWhateverFollows (front h.at ++ s) number → (k : LayoutFault) × IsFault bytes k
 faulty bytes r rest s after number h e f =
     (f.0, subst (λ (l : List ℕ). IsFault l f.0) (append_assoc (front h.at) s after ∙ ap (λ (l : List ℕ). front h.at ++ l) (sym e) ∙ sym h.bytes_are) (f.2 after))
 
-pub read_on : (bytes : List ℕ) (r new : ReaderState) (rest s after : List ℕ) (h : IsRead bytes r rest) → rest ≡ s ++ after → Leads h.at s new → IsRead bytes new after
-read_on bytes r new rest s after h e l = record {
-  at = l.to;
-  stands = l.stands;
-  bytes_are = h.bytes_are ∙ ap (λ (t : List ℕ). front h.at ++ t) e ∙ sym (append_assoc (front h.at) s after) ∙ ap (λ (t : List ℕ). t ++ after) (sym l.bytes);
-}
-
 ended : (x : Front) → None ≡ length_of (want_of x) → (ps : List Part) × (x ≡ Whole ps)
-ended Empty e = absurd cc
-ended (AfterMagic format) e = absurd cc
-ended (AfterCount format k ps) e = absurd cc
-ended (InGates k ps f gs) e = absurd cc
-ended (InCode k ps f gs code) e = absurd cc
-ended (InInit k ps f gs code init) e = absurd cc
 ended (Whole ps) e = (ps, refl)
+ended _ e = absurd cc
 
-pub whole : WholeIsImage → (bytes : List ℕ) (r : ReaderState) (rest : List ℕ) (h : IsRead bytes r rest) → None ≡ length_of (want_of h.at) → rest ≡ []
+pub whole : (bytes : List ℕ) (r : ReaderState) (rest : List ℕ) (h : IsRead bytes r rest) → None ≡ length_of (want_of h.at) → rest ≡ []
     → (ps : List Part) × IsImage bytes ps
-whole law bytes r rest h e none =
+whole bytes r rest h e none =
     let x = ended h.at e in
     let right : IsRightFront (Whole x.0) = subst IsRightFront x.1 h.stands.right in
     let is : bytes ≡ front (Whole x.0) = h.bytes_are ∙ ap (λ (l : List ℕ). front h.at ++ l) none ∙ append-nil (front h.at) ∙ ap front x.1 in
-    (x.0, subst (λ (l : List ℕ). IsImage l x.0) (sym is) (law x.0 right))
+    (x.0, subst (λ (l : List ℕ). IsImage l x.0) (sym is) (whole_is_image x.0 right))
 
-pub trailing : Trails → (bytes : List ℕ) (r : ReaderState) (rest : List ℕ) (h : IsRead bytes r rest) → None ≡ length_of (want_of h.at) → 0 < length rest
+pub trailing : (bytes : List ℕ) (r : ReaderState) (rest : List ℕ) (h : IsRead bytes r rest) → None ≡ length_of (want_of h.at) → 0 < length rest
     → (k : LayoutFault) × IsFault bytes k
-trailing law bytes r rest h e some =
+trailing bytes r rest h e some =
     let x = ended h.at e in
     let right : IsRightFront (Whole x.0) = subst IsRightFront x.1 h.stands.right in
     let is : bytes ≡ front (Whole x.0) ++ rest = h.bytes_are ∙ ap (λ (y : Front). front y ++ rest) x.1 in
-    (Trailing, subst (λ (l : List ℕ). IsFault l Trailing) (sym is) (law x.0 rest right some))
+    (Trailing, subst (λ (l : List ℕ). IsFault l Trailing) (sym is) (trails x.0 rest right some))

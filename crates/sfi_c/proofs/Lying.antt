@@ -1,10 +1,8 @@
 -- Pieces of bytes, and where they lie.
 use Rattle.std.proofs.Common.{◌≡◌, ◌∙◌, ℕ, ◌+◌, ◌-◌, ◌≤◌, List, ◌++◌, length, take, drop, refl, sym, ap, arith, append_assoc}
 use Rattle.std.proofs.lemmas.List.{length-append, length-drop, take_all}
-use Rattle.std.proofs.lemmas.Nat.{from_le_bytes-to_le_bytes_4}
-use Rattle.std.proofs.Math.Seq.{drop-append_seam, take-append_seam}
-use Rattle.std.specs.Int.{w32, from_le_bytes}
-use Rattle.sfi_image.specs.Spelling.{number, IsWord}
+use Rattle.std.proofs.Math.Seq.{drop-append_seam}
+use Rattle.sfi_image.specs.Spelling.{number}
 use Rattle.sfi_c.specs.Parts.{LiesAt}
 
 -- the front of a piece lies where it does
@@ -29,26 +27,18 @@ pub room : (bytes : List ℕ) (o : ℕ) (s : List ℕ) → LiesAt bytes o s → 
 room bytes o s h =
     omega (arith, ap length h.bytes_are, length-append h.before (s ++ h.after), length-append s h.after, h.offset_is)
 
-from_there : (bytes : List ℕ) (o : ℕ) (s : List ℕ) (h : LiesAt bytes o s) → drop o bytes ≡ s ++ h.after
+pub starts_within : (bytes : List ℕ) (o : ℕ) (s : List ℕ) → LiesAt bytes o s → o ≤ length bytes
+starts_within bytes o s h = omega (arith, room bytes o s h)
+
+-- what is there to the end begins with the piece
+pub from_there : (bytes : List ℕ) (o : ℕ) (s : List ℕ) (h : LiesAt bytes o s) → take (length bytes - o) (drop o bytes) ≡ s ++ h.after
 from_there bytes o s h =
-    ap (λ (k : ℕ). drop k bytes) h.offset_is ∙ ap (λ (l : List ℕ). drop (length h.before) l) h.bytes_are ∙ drop-append_seam h.before (s ++ h.after)
+    take_all (length bytes - o) (drop o bytes) (omega (arith, length-drop o bytes))
+    ∙ ap (λ (k : ℕ). drop k bytes) h.offset_is ∙ ap (λ (l : List ℕ). drop (length h.before) l) h.bytes_are ∙ drop-append_seam h.before (s ++ h.after)
+
+pub long_enough : (bytes : List ℕ) (o : ℕ) (s : List ℕ) → LiesAt bytes o s → length s ≤ length (take (length bytes - o) (drop o bytes))
+long_enough bytes o s h = omega (arith, ap length (from_there bytes o s h), length-append s h.after)
 
 pub length-number : (n : ℕ) → length (number n) ≡ 4
 unfolding number
 length-number n = refl
-
-taken : (s t : List ℕ) → length s ≡ 4 → take 4 (s ++ t) ≡ s
-taken s t e = ap (λ (k : ℕ). take k (s ++ t)) (sym e) ∙ take-append_seam s t
-
-back : (n : ℕ) → IsWord n → from_le_bytes w32 (number n) ≡ n
-unfolding number
-back n word = from_le_bytes-to_le_bytes_4 n word
-
--- what is read where a number lies
-pub read_back : (bytes : List ℕ) (o n : ℕ) → LiesAt bytes o (number n) → IsWord n → from_le_bytes w32 (take 4 (drop o bytes)) ≡ n
-read_back bytes o n h word =
-    ap (λ (l : List ℕ). from_le_bytes w32 (take 4 l)) (from_there bytes o (number n) h) ∙ ap (from_le_bytes w32) (taken (number n) h.after (length-number n)) ∙ back n word
-
--- a slice to the end is all that is there
-pub to_end : (bytes : List ℕ) (o : ℕ) → take (length bytes - o) (drop o bytes) ≡ drop o bytes
-to_end bytes o = take_all (length bytes - o) (drop o bytes) (omega (arith, length-drop o bytes))

@@ -1,40 +1,28 @@
--- Where the numbers of a sandbox and of a gate lie, and that they have 32 bits.
-use Rattle.std.proofs.Common.{◌≡◌, ◌∙◌, ℕ, zero, suc, ◌+◌, ◌-◌, ◌*◌, ◌^◌, ◌<◌, ◌≤◌, List, [], ◌∷◌, ◌++◌, length, Some, refl, sym, ap, subst, arith, append_assoc}
-use Rattle.std.specs.Prelude.{drop, slice_get}
+-- Where a sandbox and its gates lie in the bytes of an image, and what is read there.
+use Rattle.std.proofs.Common.{◌≡◌, ◌∙◌, ℕ, zero, suc, ◌+◌, ◌-◌, ◌*◌, ◌<◌, ◌≤◌, List, [], ◌∷◌, ◌++◌, length, Some, refl, sym, ap, subst, arith, append_assoc}
+use Rattle.std.specs.Prelude.{take, drop, slice_get}
 use Rattle.std.specs.List.{All, flat_map}
 use Rattle.std.proofs.lemmas.List.{length-append, append-nil}
-use Rattle.std.proofs.lemmas.Option.{slice_get_within}
-use Rattle.std.proofs.lemmas.List.Elements.{All-head, All-tail}
-use Rattle.sfi_policy.specs.Limits.{service_most}
-use Rattle.sfi_policy.specs.declared.format.Format.{Format}
-use Rattle.sfi_policy.specs.declared.format.Format.TheVariants.{Sfi1, Sfi2}
-use Rattle.sfi_policy.specs.Formats.{magic, code_most}
+use Rattle.std.proofs.lemmas.Option.{slice_get_within, get_or_from_slice_get}
+use Rattle.std.proofs.lemmas.List.Elements.{All-get_or}
+use Rattle.std.proofs.Math.Seq.{drop-cons}
+use Rattle.sfi_policy.specs.Formats.{magic}
 use Rattle.sfi_image.specs.declared.part.Gate.{Gate}
 use Rattle.sfi_image.specs.declared.fields.Fields.{Fields}
-use Rattle.sfi_image.specs.Spelling.{Part, fields_of, number, fields, gate, part, format_of, IsWord, AreFieldWords}
-use Rattle.sfi_image.specs.Spans.{code_region}
-use Rattle.sfi_image.specs.Laws.{CodeEnds}
-use Rattle.sfi_image.specs.Regions.{IsBundleStart}
+use Rattle.sfi_image.specs.Spelling.{Part, fields_of, number, fields, gate, part, format_of, AreFieldWords, AreGateWords}
 use Rattle.sfi_image.specs.Parts.{IsRightPart}
 use Rattle.sfi_image.specs.Images.{IsImage}
+use Rattle.sfi_image.proofs.Bundles.{right_words}
+use Rattle.sfi_image.proofs.Cancelling.{same_fields, part_split}
+use Rattle.sfi_image.proofs.Formats.{length-magic}
 use Rattle.sfi_c.specs.declared.part.SfiPart.{SfiPart}
 use Rattle.sfi_c.specs.Parts.{IsSandboxOf, LiesAt, Tells, told_part}
-use Rattle.sfi_c.specs.private.Places.{IsPartAt, IsWordAt, code_at, told_at}
-use Rattle.sfi_c.proofs.Heads.{head_is, length-magic}
-use Rattle.sfi_c.proofs.Lying.{front_lies, rest_lies, length-number}
+use Rattle.sfi_c.specs.private.Places.{IsPartAt, code_at, told_at}
+use Rattle.sfi_c.proofs.Heads.{head_is}
+use Rattle.sfi_c.proofs.Lookups.{one_there, within}
+use Rattle.sfi_c.proofs.Lying.{front_lies, rest_lies, from_there, length-number}
 
 -- ---- gates
-
-pub address_there : (bytes : List ℕ) (o : ℕ) (g : Gate) → LiesAt bytes o (gate g) → IsWord g.address → IsWordAt bytes o g.address
-unfolding gate
-address_there bytes o g h word = record { lies = front_lies bytes o (number g.address) (number g.service) h; word = word }
-
-pub service_there : (bytes : List ℕ) (o : ℕ) (g : Gate) → LiesAt bytes o (gate g) → IsWord g.service → IsWordAt bytes (o + 4) g.service
-unfolding gate
-service_there bytes o g h word = record {
-  lies = rest_lies bytes o (o + 4) (number g.address) (number g.service) (omega (arith, length-number g.address)) h;
-  word = word;
-}
 
 pub length-gate : (g : Gate) → length (gate g) ≡ 8
 unfolding gate
@@ -44,41 +32,7 @@ pub length-gates : (gs : List Gate) → length (flat_map gate gs) ≡ 8 * length
 length-gates [] = refl
 length-gates (g ∷ gs) = omega (arith, length-append (gate g) (flat_map gate gs), length-gate g, length-gates gs)
 
--- ---- the seven numbers
-
--- each lies 4 bytes after the one before it
-pub record AreAt (bytes : List ℕ) (o : ℕ) (f : Fields) : Type 0 where
-  pub code_base : IsWordAt bytes o f.code_base
-  pub code_size : IsWordAt bytes (o + 4) f.code_size
-  pub data_base : IsWordAt bytes (o + 8) f.data_base
-  pub data_size : IsWordAt bytes (o + 12) f.data_size
-  pub start : IsWordAt bytes (o + 16) f.start
-  pub gate_count : IsWordAt bytes (o + 20) f.gate_count
-  pub init_len : IsWordAt bytes (o + 24) f.init_len
-
-next : (bytes : List ℕ) (o m n : ℕ) (t : List ℕ) → m ≡ o + 4 → LiesAt bytes o (number n ++ t) → LiesAt bytes m t
-next bytes o m n t e h = rest_lies bytes o m (number n) t (omega (arith, e, length-number n)) h
-
-seven : (bytes : List ℕ) (o : ℕ) (f : Fields) → AreFieldWords f → LiesAt bytes o (fields f) → AreAt bytes o f
-unfolding fields
-seven bytes o f words h =
-    let h1 = next bytes o (o + 4) f.code_base _ (omega arith) h in
-    let h2 = next bytes (o + 4) (o + 8) f.code_size _ (omega arith) h1 in
-    let h3 = next bytes (o + 8) (o + 12) f.data_base _ (omega arith) h2 in
-    let h4 = next bytes (o + 12) (o + 16) f.data_size _ (omega arith) h3 in
-    let h5 = next bytes (o + 16) (o + 20) f.start _ (omega arith) h4 in
-    let h6 = next bytes (o + 20) (o + 24) f.gate_count _ (omega arith) h5 in
-    record {
-      code_base = record { lies = front_lies bytes o (number f.code_base) _ h; word = words.code_base };
-      code_size = record { lies = front_lies bytes (o + 4) (number f.code_size) _ h1; word = words.code_size };
-      data_base = record { lies = front_lies bytes (o + 8) (number f.data_base) _ h2; word = words.data_base };
-      data_size = record { lies = front_lies bytes (o + 12) (number f.data_size) _ h3; word = words.data_size };
-      start = record { lies = front_lies bytes (o + 16) (number f.start) _ h4; word = words.start };
-      gate_count = record { lies = front_lies bytes (o + 20) (number f.gate_count) _ h5; word = words.gate_count };
-      init_len = record { lies = h6; word = words.init_len };
-    }
-
-length-fields : (f : Fields) → length (fields f) ≡ 28
+pub length-fields : (f : Fields) → length (fields f) ≡ 28
 unfolding fields number
 length-fields f = refl
 
@@ -114,31 +68,11 @@ length-part p = omega (
   length-gates p.gates,
 )
 
-code_fits : (format : Format) (n : ℕ) → n ≤ code_most format → n < 2 ^ 32
-code_fits Sfi1 n le = omega arith
-code_fits Sfi2 n le = omega arith
-
-words : CodeEnds → (p : Part) → IsRightPart p → AreFieldWords (fields_of p)
-words law p right =
-    let ends = law p right in
-    let above = right.guard_room.above in
-    let start = right.start.held in
-    let gates = right.gate_count in
-    let init = right.init_len in
-    let largest = right.data_placed.at_most in
-    record {
-      code_base = right.code_base;
-      code_size = code_fits p.format (length p.code) right.code_placed.at_most;
-      data_base = omega arith;
-      data_size = omega arith;
-      start = omega (arith, start.1);
-      gate_count = omega arith;
-      init_len = omega arith;
-    }
-
-pub numbers : CodeEnds → (bytes : List ℕ) (o : ℕ) (p : Part) → LiesAt bytes o (part p) → IsRightPart p → AreAt bytes o (fields_of p)
-unfolding part
-numbers law bytes o p h right = seven bytes o (fields_of p) (words law p right) (front_lies bytes o (fields (fields_of p)) _ h)
+-- what is read as its fields is so
+pub fields_there : (bytes : List ℕ) (o : ℕ) (p : Part) (f : Fields) (rest : List ℕ) → LiesAt bytes o (part p) → IsRightPart p → AreFieldWords f → f.format ≡ p.format
+    → take (length bytes - o) (drop o bytes) ≡ fields f ++ rest → f ≡ fields_of p
+fields_there bytes o p f rest h right words format e =
+    (same_fields f (fields_of p) _ _ words (right_words p right).fields format (sym e ∙ from_there bytes o (part p) h ∙ part_split p h.after)).0
 
 -- ---- an image
 
@@ -149,26 +83,12 @@ all_lie bytes ps h = record {
   after = [];
   bytes_are = head_is bytes ps h ∙ ap (λ (l : List ℕ). magic (format_of ps) ++ (number (length ps) ++ l)) (sym (append-nil (flat_map part ps)))
       ∙ sym (append_assoc (magic (format_of ps)) (number (length ps)) (flat_map part ps ++ []));
-  offset_is = omega (arith, length-append (magic (format_of ps)) (number (length ps)), length-magic (format_of ps), length-number (length ps));
+  offset_is = omega (arith, length-magic (format_of ps) (number (length ps)), length-number (length ps));
 }
 
 -- what holds of each holds of the one of that number
 all_at : {X : Type 0} (P : X → Type 0) (xs : List X) (i : ℕ) (x : X) → All P xs → slice_get xs i ≡ Some x → P x
-all_at P [] i x h e = absurd cc
-all_at P (y ∷ ys) zero x h e = let is : y ≡ x = cc in subst P is (All-head P y ys h)
-all_at P (y ∷ ys) (suc i) x h e = all_at P ys i x (All-tail P y ys h) e
-
-pub record IsNext (ps : List Part) (i : ℕ) : Type 0 where
-  pub sandbox : Part
-  pub sandbox_is : slice_get ps i ≡ Some sandbox
-  pub on : drop i ps ≡ sandbox ∷ drop (suc i) ps
-
-pub is_next : (ps : List Part) (i : ℕ) → i < length ps → IsNext ps i
-is_next [] i lt = absurd (omega arith)
-is_next (p ∷ ps) zero lt = record { sandbox = p; sandbox_is = refl; on = refl }
-is_next (p ∷ ps) (suc i) lt =
-    let n = is_next ps i (omega arith) in
-    record { sandbox = n.sandbox; sandbox_is = n.sandbox_is; on = n.on }
+all_at P xs i x h e = subst P (get_or_from_slice_get xs i x x e) (All-get_or P xs i x (slice_get_within xs i x e) h)
 
 -- the sandbox of that number lies here, and then the others
 pub record IsThere (bytes : List ℕ) (ps : List Part) (i o : ℕ) : Type 0 where
@@ -179,16 +99,20 @@ pub record IsThere (bytes : List ℕ) (ps : List Part) (i o : ℕ) : Type 0 wher
   pub lies : LiesAt bytes o (part sandbox)
   pub on : LiesAt bytes o (part sandbox ++ flat_map part (drop (suc i) ps))
 
-pub there : (bytes : List ℕ) (ps : List Part) (i o : ℕ) → IsImage bytes ps → i < length ps → LiesAt bytes o (flat_map part (drop i ps)) → IsThere bytes ps i o
-there bytes ps i o h lt lies =
-    let n = is_next ps i lt in
-    let all : LiesAt bytes o (part n.sandbox ++ flat_map part (drop (suc i) ps)) = subst (λ (l : List Part). LiesAt bytes o (flat_map part l)) n.on lies in
+pub there : {bytes : List ℕ} {number : ℕ} {q : Part} (h : IsSandboxOf bytes number q) (i o : ℕ) → i ≤ number → LiesAt bytes o (flat_map part (drop i h.parts)) → IsThere bytes h.parts i o
+there {bytes = bytes} h i o le lies =
+    let ps = h.parts in
+    let lt : i < length ps = let more = within h in omega arith in
+    let x = one_there ps i lt in
+    let p = x.0 in
+    let next : drop i ps ≡ p ∷ drop (suc i) ps = drop-cons ps i p lt ∙ ap (λ (q : Part). q ∷ drop (suc i) ps) (get_or_from_slice_get ps i p p x.1) in
+    let all : LiesAt bytes o (part p ++ flat_map part (drop (suc i) ps)) = subst (λ (l : List Part). LiesAt bytes o (flat_map part l)) next lies in
     record {
-      sandbox = n.sandbox;
-      sandbox_is = n.sandbox_is;
-      right = all_at IsRightPart ps i n.sandbox h.layout.right.each n.sandbox_is;
-      format_is = all_at (λ (p : Part). p.format ≡ format_of ps) ps i n.sandbox h.layout.one_format n.sandbox_is;
-      lies = front_lies bytes o (part n.sandbox) (flat_map part (drop (suc i) ps)) all;
+      sandbox = p;
+      sandbox_is = x.1;
+      right = all_at IsRightPart ps i p h.image.layout.right.each x.1;
+      format_is = all_at (λ (q : Part). q.format ≡ format_of ps) ps i p h.image.layout.one_format x.1;
+      lies = front_lies bytes o (part p) (flat_map part (drop (suc i) ps)) all;
       on = all;
     }
 
@@ -228,29 +152,21 @@ gate_there bytes o (suc i) (x ∷ gs) g e h =
     let same : o + 8 + 8 * i ≡ o + 8 * suc i = omega arith in
     subst (λ (m : ℕ). LiesAt bytes m (gate g)) same (gate_there bytes (o + 8) i gs g e after)
 
--- the gate of that index lies there, and its numbers have 32 bits
+-- the gate of that index lies there, and both its numbers have 32 bits
 pub record IsGateThere (bytes : List ℕ) (t : SfiPart) (index : ℕ) (g : Gate) : Type 0 where
-  pub few : index < t.gates
-  pub room : 8 * (t.gates - index) ≤ t.code_offset
   pub lies : LiesAt bytes (t.code_offset - 8 * (t.gates - index)) (gate g)
-  pub address : IsWord g.address
-  pub service : IsWord g.service
+  pub words : AreGateWords g
 
-pub one_gate : CodeEnds → (bytes : List ℕ) (n index : ℕ) (p : Part) (g : Gate) (t : SfiPart) → IsSandboxOf bytes n p → IsPartAt bytes p t
+pub one_gate : (bytes : List ℕ) (n index : ℕ) (p : Part) (g : Gate) (t : SfiPart) → IsSandboxOf bytes n p → IsPartAt bytes p t
     → slice_get p.gates index ≡ Some g → IsGateThere bytes t index g
-one_gate law bytes n index p g t h at is_g =
+one_gate bytes n index p g t h at is_g =
     let right = all_at IsRightPart h.parts n p h.image.layout.right.each h.sandbox_is in
     let there = gate_there bytes (at.offset + 28) index p.gates g is_g (pieces bytes at.offset p at.lies).gates in
     let lt : index < length p.gates = slice_get_within p.gates index g is_g in
     let gates = gates_are bytes p t at in
     let code : t.code_offset ≡ at.offset + 28 + 8 * length p.gates = ap (λ (u : SfiPart). u.code_offset) at.told_is in
     let place : at.offset + 28 + 8 * index ≡ t.code_offset - 8 * (t.gates - index) = omega arith in
-    let start = (all_at (λ (x : Gate). IsBundleStart (code_region p) x.address) p.gates index g right.gates.starts is_g).held in
-    let service = all_at (λ (x : Gate). x.service ≤ service_most) p.gates index g right.gates.services is_g in
     record {
-      few = omega arith;
-      room = omega arith;
       lies = subst (λ (m : ℕ). LiesAt bytes m (gate g)) place there;
-      address = omega (arith, start.1, law p right);
-      service = omega arith;
+      words = all_at AreGateWords p.gates index g (right_words p right).gates is_g;
     }

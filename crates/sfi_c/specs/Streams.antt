@@ -1,5 +1,6 @@
 -- What C keeps of an image that comes in pieces.
 use Rattle.std.specs.Prelude.{◌==◌, ℕ, List, cond, take, Option, Some, None}
+use Rattle.std.specs.Option.{option_map}
 use Rattle.sfi_policy.specs.declared.format.Format.{Format}
 use Rattle.sfi_policy.specs.declared.format.Format.TheVariants.{Sfi1, Sfi2}
 use Rattle.sfi_image.specs.declared.fields.Fields.{Fields}
@@ -7,8 +8,7 @@ use Rattle.sfi_image.specs.declared.want.Next.{Next}
 use Rattle.sfi_image.specs.declared.want.Next.TheVariants as next
 use Rattle.sfi_image.specs.Keeping.{ReaderState, IsReader}
 use Rattle.sfi_scan.specs.declared.finding.Finding.{Finding}
-use Rattle.sfi_scan.specs.declared.rule.Rule.{Rule}
-use Rattle.sfi_scan.specs.declared.rule.Rule.TheVariants.{V1, V2, V3, V4, V5, V6, V7, V8, V9, V10}
+use Rattle.sfi_scan.specs.Numbers.{numbered}
 use Rattle.sfi_check.specs.declared.feed.Feed.{Feed}
 use Rattle.sfi_check.specs.declared.tally.Tally.{Tally}
 use Rattle.sfi_check.specs.Feeds.{IsFed}
@@ -32,24 +32,11 @@ stage_of n =
 abbrev pub format_of : ℕ → Format
 format_of n = cond (n == 1) Sfi1 Sfi2
 
--- a rule
-abbrev pub rule_of : ℕ → Rule
-rule_of n =
-    cond (n == 1) V1
-    (cond (n == 2) V2
-    (cond (n == 3) V3
-    (cond (n == 4) V4
-    (cond (n == 5) V5
-    (cond (n == 6) V6
-    (cond (n == 7) V7
-    (cond (n == 8) V8
-    (cond (n == 9) V9 V10))))))))
-
--- a finding, if there is one
+-- a finding; zeros are none, since no rule has the number 0
 abbrev pub first_finding : SfiFinding → Option Finding
 first_finding f =
-    cond (f.rule == 0) None
-    (Some (record { sandbox = f.sandbox; address = f.address; rule = rule_of f.rule }))
+    option_map (λ rule. record { sandbox = f.sandbox; address = f.address; rule = rule })
+    (numbered f.rule)
 
 -- ---- a feed, by the numbers that C keeps
 

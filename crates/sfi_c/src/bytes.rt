@@ -8,11 +8,12 @@ pub(crate) struct Bytes<'a> {
 }
 
 impl<'a> ByteSource for Bytes<'a> {
-    ghost use Rattle.std.specs.Prelude.{false};
+    ghost use Rattle.std.specs.Prelude.{Some, false};
     ghost use Rattle.std.proofs.Common.{refl};
-    ghost use Rattle.sfi_c.specs.private.Reads.{HandsOut};
+    ghost use Rattle.sfi_image.specs.Reading.{ReadsOf};
 
-    ghost reads = { λ s most answer t. HandsOut s.rest.now most answer t.rest.now };
+    ghost reads = { λ s most answer t.
+        ReadsOf (Some s.rest.now) false most answer (Some t.rest.now) false };
 
     ghost has_failed = { λ s. false };
 
@@ -27,7 +28,7 @@ impl<'a> ByteSource for Bytes<'a> {
         false
     }
 
-    ghost fails = { λ s t n h. absurd h };
+    ghost fails = { λ s t n h. h.0 };
 
     ghost stays = { λ s t n bytes h. refl };
 }

@@ -15,7 +15,6 @@ use crate::bytes::Bytes;
 use crate::finding::{SfiFinding, write_findings};
 use crate::status::Status;
 use crate::verdict::{SfiVerdict, acceptance, no_image, refusal};
-use sfi_check::laws::{one_list_of_findings, verdict_is_on_all};
 use sfi_check::{StreamAnswer, check_stream, check_stream_into};
 
 /// What the checker answers on the bytes.
@@ -23,9 +22,6 @@ fn answer_on(image: &[u8]) -> StreamAnswer
     ensures judged { IsVerdictOn image.now true result }
     ensures read { result ≢ StreamAnswer.ReadFault }
 {
-    // The law that the contract rests on: this call does nothing.
-    verdict_is_on_all();
-
     check_stream(&mut Bytes { rest: image })
 }
 
@@ -40,23 +36,6 @@ pub(crate) fn verdict_of(answer: StreamAnswer) -> SfiVerdict
         StreamAnswer::Layout(number) => no_image(number),
         StreamAnswer::ReadFault => unreachable!(),
     }
-}
-
-/// The verdict on the bytes.
-fn verdict_on(image: &[u8]) -> SfiVerdict
-    ensures known { result.status ≤ 2 }
-    ensures accepted { result.status ≡ number_of Status.Accepted → IsAcceptance image.now result }
-    ensures refused { result.status ≡ number_of Status.Refused
-        → (first : Finding) × (rest : List Finding) × IsRefusal image.now first rest result }
-    ensures layout { result.status ≡ number_of Status.NoImage → IsLayoutFault image.now result }
-    ensures only_accepted { (ps : List Part) → IsAccepted image.now ps
-        → result ≡ acceptance (length ps) (bundle_count ps) }
-    ensures only_refused { (first : Finding) (rest : List Finding)
-        → HasFindings image.now (first ∷ rest) → result ≡ refusal (length (first ∷ rest)) first }
-    ensures only_layout { (k : LayoutFault) → IsFault image.now k
-        → result ≡ no_image (fault_number k) }
-{
-    verdict_of(answer_on(image))
 }
 
 /// Writes the verdict on the bytes to `verdict`, and returns its status. It takes no memory.
@@ -80,7 +59,7 @@ pub extern "C" fn sfi_c_check(image: &[u8], verdict: &mut SfiVerdict) -> u32
     ensures only_layout { (k : LayoutFault) → IsFault image.now k
         → verdict.new ≡ no_image (fault_number k) }
 {
-    *verdict = verdict_on(image);
+    *verdict = verdict_of(answer_on(image));
     verdict.status
 }
 
@@ -91,10 +70,6 @@ fn fill(image: &[u8], sink: &mut Array<'_>)
     ensures listed { (found : List Finding) → HasFindings image.now found
         → sink.new.elements.now ≡ with_findings found sink.old.elements.now }
 {
-    // The laws that the contract rests on: these calls do nothing.
-    verdict_is_on_all();
-    one_list_of_findings();
-
     check_stream_into(&mut Bytes { rest: image }, sink);
 }
 
@@ -139,9 +114,9 @@ pub extern "C" fn sfi_c_findings(
     ensures only_layout { (k : LayoutFault) → IsFault image.now k
         → verdict.new ≡ no_image (fault_number k) }
 {
-    *verdict = verdict_on(image);
-    if verdict.status == Status::Refused.number() {
+    let status = sfi_c_check(image, verdict);
+    if status == Status::Refused.number() {
         list_findings(image, array);
     }
-    verdict.status
+    status
 }

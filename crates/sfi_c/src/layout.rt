@@ -8,7 +8,7 @@ ghost use Rattle.sfi_image.specs.Fronts.{Front, want_of};
 ghost use Rattle.sfi_image.specs.Keeping.{StandsFor};
 ghost use Rattle.sfi_c.specs.private.Layouts.{length_of};
 
-use sfi_image::{LayoutReader, Want, front_ends};
+use sfi_image::{LayoutReader, Want};
 use sfi_policy::BUNDLE_BYTES;
 
 /// How many bytes are read next; none where the layout was read to its end.
@@ -29,9 +29,6 @@ pub(crate) fn is_image(image: &[u8]) -> bool
     ensures image { result ≡ true → (ps : List Part) × IsImage image.now ps }
     ensures fault { result ≡ false → (k : LayoutFault) × IsFault image.now k }
 {
-    // The law that the contract rests on: this call does nothing.
-    front_ends();
-
     let mut reader = LayoutReader::new();
     let mut rest = image;
     while let Some(len) = next_length(&reader) {

@@ -4,23 +4,24 @@ ghost use Rattle.sfi_image.specs.declared.fault.LayoutFault.{LayoutFault};
 ghost use Rattle.sfi_image.specs.Spelling.{Part};
 ghost use Rattle.sfi_image.specs.Faults.{IsFault};
 ghost use Rattle.sfi_c.specs.Parts.{lookup_number, IsSandboxOf, IsPartOf, IsBeyond, IsGateOf, IsBeyondGates, AreGatesOf};
+ghost use Rattle.sfi_c.specs.private.Lookups.{HasPart, HasGate, HasFault, IsSaid};
 
 use crate::layout::is_image;
 use crate::lookup::Lookup;
-use crate::part::{SfiGate, SfiPart, gate_of, number_at, part_of, write_gates};
-use sfi_image::one_reading;
+use crate::part::{SfiGate, SfiPart, gate_of, part_of, write_gates};
+use sfi_image::number_at;
 
 /// Where the count of sandboxes lies.
 const COUNT_OFFSET: usize = 4;
 
 /// Whether the bytes are an image with a sandbox of that number.
 fn look_up(image: &[u8], number: u32) -> Lookup
-    ensures found { result ≡ Lookup.Found → (p : Part) × IsSandboxOf image.now number p }
-    ensures beyond { result ≡ Lookup.Beyond → IsBeyond image.now number }
-    ensures layout { result ≡ Lookup.NoImage → (k : LayoutFault) × IsFault image.now k }
+    ensures { IsSaid (HasPart image.now number) (IsBeyond image.now number) (HasFault image.now)
+        result }
 {
     if is_image(image) {
-        if number < number_at(image, COUNT_OFFSET) {
+        let (count, _) = number_at(&image[COUNT_OFFSET..]);
+        if number < count {
             Lookup::Found
         } else {
             Lookup::Beyond
@@ -32,16 +33,18 @@ fn look_up(image: &[u8], number: u32) -> Lookup
 
 /// Whether the bytes are an image with a gate of that index in the sandbox of that number.
 fn look_up_gate(image: &[u8], number: u32, index: u32) -> Lookup
-    ensures found { result ≡ Lookup.Found
-        → (p : Part) × IsSandboxOf image.now number p × (index < length p.gates) }
-    ensures beyond { result ≡ Lookup.Beyond → IsBeyondGates image.now number index }
-    ensures layout { result ≡ Lookup.NoImage → (k : LayoutFault) × IsFault image.now k }
+    ensures { IsSaid (HasGate image.now number index) (IsBeyondGates image.now number index)
+        (HasFault image.now) result }
 {
     let lookup = look_up(image, number);
-    if lookup == Lookup::Found && part_of(image, number).gates <= index {
-        return Lookup::Beyond;
+    let Lookup::Found = lookup else {
+        return lookup;
+    };
+    if index < part_of(image, number).gates {
+        Lookup::Found
+    } else {
+        Lookup::Beyond
     }
-    lookup
 }
 
 /// Writes to `part` what the image has of its sandbox of that number, counted from 0, and returns
@@ -64,11 +67,8 @@ pub extern "C" fn sfi_c_part(image: &[u8], number: u32, part: &mut SfiPart) -> u
     ensures only_layout { (k : LayoutFault) → IsFault image.now k
         → result ≡ lookup_number Lookup.NoImage }
 {
-    // The law that the contract rests on: this call does nothing.
-    one_reading();
-
     let lookup = look_up(image, number);
-    if lookup == Lookup::Found {
+    if let Lookup::Found = lookup {
         *part = part_of(image, number);
     }
     lookup.number()
@@ -95,11 +95,8 @@ pub extern "C" fn sfi_c_gate(image: &[u8], number: u32, index: u32, gate: &mut S
     ensures only_layout { (k : LayoutFault) → IsFault image.now k
         → result ≡ lookup_number Lookup.NoImage }
 {
-    // The law that the contract rests on: this call does nothing.
-    one_reading();
-
     let lookup = look_up_gate(image, number, index);
-    if lookup == Lookup::Found {
+    if let Lookup::Found = lookup {
         *gate = gate_of(image, &part_of(image, number), index);
     }
     lookup.number()
@@ -127,11 +124,8 @@ pub extern "C" fn sfi_c_gates(image: &[u8], number: u32, array: &mut [SfiGate]) 
     ensures only_layout { (k : LayoutFault) → IsFault image.now k
         → result ≡ lookup_number Lookup.NoImage }
 {
-    // The law that the contract rests on: this call does nothing.
-    one_reading();
-
     let lookup = look_up(image, number);
-    if lookup == Lookup::Found {
+    if let Lookup::Found = lookup {
         write_gates(image, &part_of(image, number), array);
     }
     lookup.number()

@@ -1,15 +1,14 @@
 //! Sandboxes and gates of an image as C sees them, and how they are read from its bytes.
 ghost use Rattle.std.specs.Prelude.{◌≡◌, ℕ, List, Some, slice_get};
-ghost use Rattle.sfi_policy.specs.declared.format.Format.{Format};
 ghost use Rattle.sfi_image.specs.declared.part.Gate.{Gate};
-ghost use Rattle.sfi_image.specs.Spelling.{Part, gate, part, format_of, IsWord};
+ghost use Rattle.sfi_image.specs.Spelling.{Part, part, format_of};
 ghost use Rattle.sfi_image.specs.Parts.{IsRightPart};
 ghost use Rattle.sfi_image.specs.Images.{IsImage};
-ghost use Rattle.sfi_c.specs.Parts.{IsSandboxOf, LiesAt, told_gate, with_gates, format_number};
-ghost use Rattle.sfi_c.specs.private.Places.{IsPartAt, IsWordAt, told_at};
+ghost use Rattle.sfi_c.specs.Parts.{IsSandboxOf, LiesAt, told_gate, with_gates};
+ghost use Rattle.sfi_c.specs.private.Places.{IsPartAt, told_at};
 
-use sfi_image::code_ends;
-use sfi_policy::Format;
+use crate::stage::format_number;
+use sfi_image::{FIELDS_BYTES, Format, GATE_BYTES, fields_at, gate_at};
 
 /// A sandbox of an image: `struct sfi_part`.
 #[repr(C)]
@@ -50,66 +49,37 @@ pub struct SfiGate {
 /// The bytes of a magic and of the count.
 const HEAD_BYTES: usize = 8;
 
-/// The bytes of a sandbox's seven numbers.
-const FIELDS_BYTES: usize = 28;
-
-/// The bytes of a gate.
-const GATE_BYTES: usize = 8;
-
-/// The number at the offset.
-pub(crate) fn number_at(image: &[u8], offset: usize) -> u32
-    requires { (n : ℕ) × IsWordAt image.now offset n }
-    ensures { (n : ℕ) → IsWordAt image.now offset n → result ≡ n }
+/// The format of an image.
+fn format_of(image: &[u8]) -> Format
+    requires { (ps : List Part) × IsImage image.now ps }
+    ensures { (ps : List Part) → IsImage image.now ps → result ≡ format_of ps }
 {
-    let Some(bytes) = image[offset..].first_chunk::<4>() else {
-        unreachable!();
-    };
-    u32::from_le_bytes(*bytes)
-}
-
-/// The gate at the offset.
-fn gate_at(image: &[u8], offset: usize) -> SfiGate
-    requires { (g : Gate) × LiesAt image.now offset (gate g) × IsWord g.address × IsWord g.service }
-    ensures { (g : Gate) → LiesAt image.now offset (gate g) → IsWord g.address → IsWord g.service
-        → result ≡ told_gate g }
-{
-    SfiGate {
-        address: number_at(image, offset),
-        service: number_at(image, offset + 4),
+    if Format::Sfi1.begins(image) {
+        Format::Sfi1
+    } else {
+        Format::Sfi2
     }
 }
 
-/// The number of the format of an image.
-fn format_number_of(image: &[u8]) -> u32
-    requires { (ps : List Part) × IsImage image.now ps }
-    ensures { (ps : List Part) → IsImage image.now ps → result ≡ format_number (format_of ps) }
-{
-    if Format::Sfi1.begins(image) { 1 } else { 2 }
-}
-
 /// The sandbox at the offset.
-fn part_at(image: &[u8], offset: usize, format: u32) -> SfiPart
+fn part_at(image: &[u8], offset: usize, format: Format) -> SfiPart
     requires { (p : Part) × LiesAt image.now offset (part p) × IsRightPart p }
     ensures { (p : Part) → LiesAt image.now offset (part p) → IsRightPart p
-        → format ≡ format_number p.format → result ≡ told_at p offset }
+        → format ≡ p.format → result ≡ told_at p offset }
 {
-    // The law that the contract rests on: this call does nothing.
-    code_ends();
-
-    let code_size = number_at(image, offset + 4);
-    let gates = number_at(image, offset + 20);
-    let code_offset = offset + FIELDS_BYTES + GATE_BYTES * gates as usize;
+    let (fields, _) = fields_at(format, &image[offset..]);
+    let code_offset = offset + FIELDS_BYTES + GATE_BYTES * fields.gate_count as usize;
     SfiPart {
-        format,
-        code_base: number_at(image, offset),
-        code_size,
-        data_base: number_at(image, offset + 8),
-        data_size: number_at(image, offset + 12),
-        start: number_at(image, offset + 16),
-        gates,
-        init_size: number_at(image, offset + 24),
+        format: format_number(format),
+        code_base: fields.code_base,
+        code_size: fields.code_size,
+        data_base: fields.data_base,
+        data_size: fields.data_size,
+        start: fields.start,
+        gates: fields.gate_count,
+        init_size: fields.init_len,
         code_offset,
-        init_offset: code_offset + code_size as usize,
+        init_offset: code_offset + fields.code_size as usize,
     }
 }
 
@@ -118,7 +88,7 @@ pub(crate) fn part_of(image: &[u8], number: u32) -> SfiPart
     requires { (p : Part) × IsSandboxOf image.now number p }
     ensures { (p : Part) → IsSandboxOf image.now number p → IsPartAt image.now p result }
 {
-    let format = format_number_of(image);
+    let format = format_of(image);
     let mut offset = HEAD_BYTES;
     for _ in 0..number {
         let part = part_at(image, offset, format);
@@ -135,13 +105,12 @@ pub(crate) fn gate_of(image: &[u8], part: &SfiPart, index: u32) -> SfiGate
         → IsPartAt image.now p part.now → slice_get p.gates index ≡ Some g
         → result ≡ told_gate g }
 {
-    // The law that the contract rests on: this call does nothing.
-    code_ends();
-
-    gate_at(
-        image,
-        part.code_offset - GATE_BYTES * (part.gates - index) as usize,
-    )
+    let offset = part.code_offset - GATE_BYTES * (part.gates - index) as usize;
+    let (gate, _) = gate_at(&image[offset..]);
+    SfiGate {
+        address: gate.address,
+        service: gate.service,
+    }
 }
 
 /// Writes the gates of the sandbox to the front of the array, as many as it has room for.

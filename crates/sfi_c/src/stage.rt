@@ -1,6 +1,7 @@
 //! Numbers for what an enum says in Rattle.
 ghost use Rattle.std.specs.Prelude.{◌≡◌};
-ghost use Rattle.sfi_c.specs.Streams.{stage_of, format_of, rule_of, first_finding};
+ghost use Rattle.sfi_c.specs.Parts.{format_number};
+ghost use Rattle.sfi_c.specs.Streams.{stage_of, format_of, first_finding};
 
 use crate::finding::{SfiFinding, no_finding, told};
 use sfi_image::{Format, Next};
@@ -40,7 +41,8 @@ pub(crate) fn stage_of(number: u32) -> Next
 
 /// The number of a format.
 pub(crate) fn format_number(format: Format) -> u32
-    ensures { format_of result ≡ format }
+    ensures number { result ≡ format_number format }
+    ensures back { format_of result ≡ format }
 {
     match format {
         Format::Sfi1 => 1,
@@ -58,24 +60,6 @@ pub(crate) fn format_of(number: u32) -> Format
     }
 }
 
-/// A rule by its number.
-fn rule_of(number: u32) -> Rule
-    ensures { result ≡ rule_of number }
-{
-    match number {
-        1 => Rule::V1,
-        2 => Rule::V2,
-        3 => Rule::V3,
-        4 => Rule::V4,
-        5 => Rule::V5,
-        6 => Rule::V6,
-        7 => Rule::V7,
-        8 => Rule::V8,
-        9 => Rule::V9,
-        _ => Rule::V10,
-    }
-}
-
 /// The first finding, or zeros.
 pub(crate) fn first_told(first: Option<Finding>) -> SfiFinding
     ensures { first_finding result ≡ first }
@@ -90,13 +74,10 @@ pub(crate) fn first_told(first: Option<Finding>) -> SfiFinding
 pub(crate) fn first_finding(first: SfiFinding) -> Option<Finding>
     ensures { result ≡ first_finding first }
 {
-    if first.rule == 0 {
-        None
-    } else {
-        Some(Finding {
-            sandbox: first.sandbox,
-            address: first.address,
-            rule: rule_of(first.rule),
-        })
-    }
+    let rule = Rule::numbered(first.rule)?;
+    Some(Finding {
+        sandbox: first.sandbox,
+        address: first.address,
+        rule,
+    })
 }

@@ -23,3 +23,4 @@ pub mod Changing
 pub mod Entries
 pub mod Turning
 pub mod Worlds
+pub mod Facts

@@ -1,6 +1,5 @@
 -- Code regions are whole bundles, and end within the addresses; so each number of a right sandbox has 32 bits.
-use Rattle.sfi_image.proofs.Prelude.{◌≡◌, ℕ, ◌+◌, ◌-◌, ◌*◌, ◌^◌, ◌<◌, ◌≤◌, ap, ◌∙◌, ⊎_elim, arith, pow-add, pow_below, cases_lt, Format, code_most, bundle_size, Part, AreWords, IsCodeRegion, IsRightPart}
-use Rattle.sfi_image.specs.Laws.{WholeBundles, CodeEnds}
+use Rattle.sfi_image.proofs.Prelude.{◌≡◌, ℕ, ◌+◌, ◌-◌, ◌*◌, ◌^◌, ◌<◌, ◌≤◌, length, ap, ◌∙◌, ⊎_elim, arith, pow-add, pow_below, cases_lt, Format, code_most, bundle_size, Part, AreWords, IsCodeRegion, IsRightPart}
 use Rattle.sfi_image.proofs.Formats.{code_at_most}
 
 -- powers of two in the order of their exponents
@@ -42,18 +41,21 @@ bundles_of format base size region =
     let base_is : base ≡ q * (16 * 2 ^ j) = region.base_is ∙ ap (λ n. q * n) (let e : size ≡ 16 * 2 ^ j = omega arith in e) in
     (2 ^ j, q * 2 ^ j, omega arith, omega arith)
 
-pub whole_bundles : WholeBundles
+-- a code region is whole bundles, at a multiple of a bundle's size, and ends at or below 2 ^ 32
+pub whole_bundles : (format : Format) (base size : ℕ) → base < 2 ^ 32 → IsCodeRegion format base size
+    → (n : ℕ) × (m : ℕ) × (size ≡ bundle_size * n) × (base ≡ bundle_size * m) × (base + size ≤ 2 ^ 32)
 whole_bundles format base size address region =
     let whole = bundles_of format base size region in
     (whole.0, whole.1, whole.2, whole.3, region_end format base size address region)
 
-pub code_end : CodeEnds
-code_end p right = region_end p.format p.code_base _ right.code_base right.code_placed
+-- so that of a sandbox ends within the addresses
+pub code_ends : (p : Part) → IsRightPart p → p.code_base + length p.code ≤ 2 ^ 32
+code_ends p right = region_end p.format p.code_base _ right.code_base right.code_placed
 
 -- each number of a right sandbox has 32 bits
 pub right_words : (p : Part) → IsRightPart p → AreWords p
 right_words p right =
-    let code_end = code_end p right in
+    let code_end = code_ends p right in
     let code_most = right.code_placed.at_most in
     let format_most = code_at_most p.format in
     let data_most = right.data_placed.at_most in

@@ -25,3 +25,4 @@ pub mod Ending
 pub mod Parsing
 pub mod Second
 pub mod Facts
+pub mod Handing

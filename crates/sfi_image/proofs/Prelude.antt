@@ -1,7 +1,7 @@
 -- Words of std and of definitions that many proofs of this crate use.
-pub use Rattle.std.proofs.Common.{◌≡◌, ℕ, ◌+◌, ◌-◌, ◌*◌, ◌^◌, ◌<◌, ◌≤◌, ap, ◌∙◌, ⊎_elim, arith, List, [], ◌∷◌, ◌++◌, length, take, refl, sym, append_assoc, inl, inr, ◌⊎◌, ◌%◌, suc, Option, Some, None, subst, get_or, drop, map, lt_trans, ltb, ◌↔◌, IsTrue, Result, Ok, Err, eqb, true, cond, ◌/◌, false, zero, below_more, ◌==◌, Bool, rules}
-pub use Rattle.std.specs.Prelude.{count_ones, slice_get, IfErr, nat_le, ◌≢◌, slice_index_or}
-pub use Rattle.std.proofs.lemmas.Bool.{cases_lt, cases_eq, eqb-true, eq-eqb, ltb-true, lt-ltb, ne_eqb, eqb-false}
+pub use Rattle.std.proofs.Common.{◌≡◌, ℕ, ◌+◌, ◌-◌, ◌*◌, ◌^◌, ◌<◌, ◌≤◌, length, ap, ◌∙◌, ⊎_elim, arith, List, [], ◌∷◌, ◌++◌, take, refl, sym, append_assoc, inl, inr, ◌⊎◌, ◌%◌, suc, Option, Some, None, subst, get_or, drop, map, lt_trans, ltb, ◌↔◌, IsTrue, Bool, true, Result, Ok, Err, eqb, cond, ◌/◌, false, zero, below_more, ◌==◌, rules}
+pub use Rattle.std.specs.Prelude.{count_ones, slice_get, nat_lt, IfErr, nat_le, ◌≢◌, slice_index_or}
+pub use Rattle.std.proofs.lemmas.Bool.{cases_lt, cases_eq, eqb-true, eq-eqb, ltb-true, lt-ltb, cases_Bool, ne_eqb, eqb-false}
 pub use Rattle.std.proofs.lemmas.Bool.Decides.{eqb_tells, nat_tests, Decides-eqb}
 pub use Rattle.std.proofs.lemmas.Grind.{flat_map-append}
 pub use Rattle.std.proofs.lemmas.List.{append_cancel_left, length-append, append-nil, take-append-drop, length-take, length-drop, get_or-drop, get_or_past, length-map, length_push, get_or_append_left, get_or_push, get_or-take, take_more, map_push, get_or_default, get_or-append_right, drop-drop, take_all, take-map}

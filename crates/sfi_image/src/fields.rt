@@ -1,7 +1,8 @@
 //! The seven fields of a sandbox and their tests.
 ghost use Rattle.std.specs.Prelude.{◌≡◌, ◌≤◌, ◌↔◌, IsTrue, IfOk, IfErr, Some, None};
 ghost use Rattle.std.specs.List.{All, AllPairs};
-ghost use Rattle.sfi_image.specs.Spans.{AreApart, code_span, guarded_span};
+ghost use Rattle.sfi_policy.specs.Limits.{guard};
+ghost use Rattle.sfi_image.specs.Spans.{AreApart, code_span, guarded_span, with_guards};
 ghost use Rattle.sfi_image.specs.Bounded.{IsBounded};
 ghost use Rattle.sfi_image.specs.Regions.{IsRegion, IsBundleStart, HasGuardRoom};
 ghost use Rattle.sfi_image.specs.Tests.{IsFirstFault, field_tests};
@@ -84,14 +85,14 @@ fn code_span(fields: &Fields) -> Span
     }
 }
 
-// The data with a guard zone on each side.
-fn guarded_span(fields: &Fields) -> Span
-    requires { GUARD ≤ fields.now.data_base }
-    ensures { result ≡ guarded_span fields.now }
+/// The data region there with a guard zone on each side.
+pub fn with_guards(base: u32, size: u32) -> Span
+    requires { guard ≤ base }
+    ensures { result ≡ with_guards (record { base = base; size = size }) }
 {
     Span {
-        base: u64::from(fields.data_base) - GUARD,
-        size: GUARD + u64::from(fields.data_size) + GUARD,
+        base: u64::from(base) - GUARD,
+        size: GUARD + u64::from(size) + GUARD,
     }
 }
 
@@ -130,7 +131,7 @@ pub(crate) fn spans_after(before: &[Span], fields: &Fields) -> Result<OwnSpans, 
     }
     let own = OwnSpans {
         code: code_span(fields),
-        guarded: guarded_span(fields),
+        guarded: with_guards(fields.data_base, fields.data_size),
     };
     if !are_all_apart(before, own.code, own.guarded) {
         return Err(LayoutFault::Overlap);

@@ -1,5 +1,5 @@
 //! What holds of the definitions themselves.
-ghost use Rattle.sfi_image.specs.Laws.{OneImage, NeverBoth, OneFault, SomeReading, WholeBundles, CodeEnds, RightInSecond};
+ghost use Rattle.sfi_image.specs.Laws.{OneImage, NeverBoth, OneFault, SomeReading};
 ghost use Rattle.sfi_image.specs.Fronts.{CutShort, Trails, WholeIsImage};
 
 /// Bytes are the image of one list of sandboxes at most, or have one fault at most, and never both.
@@ -12,21 +12,6 @@ pub fn one_reading()
 /// Bytes are the image of some list of sandboxes, or have some fault.
 pub fn some_reading()
     ensures { SomeReading }
-{}
-
-/// A code region is whole bundles, at a multiple of a bundle's size, and ends at or below 2^32.
-pub fn whole_bundles()
-    ensures { WholeBundles }
-{}
-
-/// A code region ends within the addresses, as its base is a multiple of its size.
-pub fn code_ends()
-    ensures { CodeEnds }
-{}
-
-/// A right layout is one in the second format too.
-pub fn right_in_second()
-    ensures { RightInSecond }
 {}
 
 /// What holds where bytes end within an image, or go on past a whole one.

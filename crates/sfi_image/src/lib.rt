@@ -30,13 +30,15 @@ mod want;
 mod writing;
 
 pub use fault::{ImageFault, LayoutFault};
-pub use fields::{Fields, has_guard_room, is_region};
+pub use fields::{Fields, has_guard_room, is_region, with_guards};
 pub use image::Image;
-pub use laws::{code_ends, front_ends, one_reading, right_in_second, some_reading, whole_bundles};
+pub use laws::{front_ends, one_reading, some_reading};
 pub use layout_reader::LayoutReader;
 pub use part::{Gate, SandboxPart};
 pub use reader_parts::ReaderParts;
-pub use reading::parse_image;
+pub use reading::{
+    FIELDS_BYTES, GATE_BYTES, NUMBER_BYTES, fields_at, gate_at, number_at, parse_image,
+};
 pub use reserved::Reserved;
 pub use sfi_policy::Format;
 pub use source::{ByteSource, ReadFault, Reading};

@@ -1,20 +1,17 @@
 //! Whether a sandbox may lie at its place.
-ghost use Rattle.std.specs.Prelude.{◌≡◌, ◌++◌, ◌≤◌, ◌↔◌, IsTrue, IfOk};
+ghost use Rattle.std.specs.Prelude.{◌++◌, ◌↔◌, IsTrue, IfOk};
 ghost use Rattle.std.specs.Bool.{OnTrue, OnFalse};
 ghost use Rattle.std.specs.List.{All, AllPairs};
-ghost use Rattle.sfi_policy.specs.Limits.{guard};
 ghost use Rattle.sfi_image.specs.Bounded.{IsBounded};
-ghost use Rattle.sfi_image.specs.Spans.{AreApart, with_guards};
+ghost use Rattle.sfi_image.specs.Spans.{AreApart};
 ghost use Rattle.sfi_link.specs.Lying.{IsRightPlace, spans_at};
 ghost use Rattle.sfi_link.specs.private.Near.{LiesBeside};
 
-use sfi_image::{Span, are_all_apart, has_guard_room, is_region};
+use sfi_image::{Span, are_all_apart, has_guard_room, is_region, with_guards};
 use sfi_place::Place;
 use sfi_policy::{DATA_MOST, REGION_LEAST};
 use sfi_rewrite::PlacedPart;
 use std::alloc::AllocError;
-
-const GUARD: u64 = sfi_policy::GUARD as u64;
 
 // The sandbox may lie there by itself, with a code region of that size.
 fn is_right_place(part: &PlacedPart, size: u32, place: Place) -> bool
@@ -33,17 +30,6 @@ fn is_right_place(part: &PlacedPart, size: u32, place: Place) -> bool
         return false;
     }
     has_guard_room(place.data_base, data_size)
-}
-
-// The data with a guard zone on each side.
-fn guarded_at(base: u32, size: u32) -> Span
-    requires { guard ≤ base }
-    ensures { result ≡ with_guards (record { base = base; size = size }) }
-{
-    Span {
-        base: u64::from(base) - GUARD,
-        size: GUARD + u64::from(size) + GUARD,
-    }
 }
 
 // The sandbox may lie there, with a code region of that size, apart from those spans. Then its own
@@ -68,7 +54,7 @@ pub(crate) fn lies_beside(
         base: u64::from(place.code_base),
         size: u64::from(size),
     };
-    let guarded = guarded_at(place.data_base, part.data_size());
+    let guarded = with_guards(place.data_base, part.data_size());
     if !are_all_apart(spans, code, guarded) {
         return Ok(false);
     }

@@ -10,7 +10,7 @@ use crate::digits::{push_eight_digits, push_two_digits, push_word};
 use rv_comp::{Front, read_front};
 use rv_text::push_instr;
 use rv_word::Instr;
-use sfi_image::{Gate, Image, SandboxPart, whole_bundles};
+use sfi_image::{Gate, Image, SandboxPart};
 use sfi_policy::{BUNDLE_BYTES, BUNDLE_SIZE, Format};
 use std::alloc::{AllocError, Global};
 
@@ -123,9 +123,6 @@ fn push_code(out: &mut String, part: &SandboxPart) -> Result<(), AllocError>
     ensures { (format : Format) → OnOk result (Adds (string_bytes out.old) (string_bytes out.new)
         (IsCodeListing (view format part.now))) }
 {
-    // The law that the bounds rest on: this call does nothing.
-    whole_bundles();
-
     for (k, bytes) in part.code.as_chunks::<BUNDLE_BYTES>().0.iter().enumerate() {
         push_bundle(out, part.code_base + BUNDLE_SIZE * k as u32, bytes)?;
     }

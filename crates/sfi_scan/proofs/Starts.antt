@@ -1,6 +1,5 @@
 -- What begins at a start of a block breaks no rule.
 use Rattle.sfi_scan.proofs.Prelude.{◌≡◌, ℕ, ◌+◌, ◌-◌, ◌/◌, ◌%◌, ◌<◌, Bool, true, false, not, ◌&&◌, ◌||◌, ◌==◌, cond, List, Option, Some, None, IfSome, refl, sym, ap, ◌∙◌, subst, arith, bit_and, OnTrue, w16, w32, from_le_bytes, and_parts, and_mask, outline, IsWordThat, IsWordOf, Instr, is_in, may_write, is_free, IsFreeHalf, IsFreeWord, IsFreeAccess, has_stack, is_reserved, stack_pointer, Before, BundlePlace, bundle_at, block_bundle, follows_data_pair, may_access, AreAfterTwo, offset, words_from, IsCleanAt, half_at, word_at, AreWordsFrom, AreBefore, IsWordOr0, is_protected, is_clean, is_clean_access, near}
-use Rattle.sfi_masks.specs.Masks.{half_at as block_half, word_at as block_word}
 use Rattle.rv_comp.specs.Halfwords.{IsHalfwordThat, IsShortSpelling}
 use Rattle.rv_word.specs.Accesses.{IsAccessOf}
 use Rattle.rv_word.specs.Numbers.{bits}
@@ -8,6 +7,7 @@ use Rattle.rv_word.specs.declared.access.Access.{Access}
 use Rattle.rv_word.specs.declared.outline.Outline.{Outline}
 use Rattle.rv_word.specs.declared.outline.Outline.TheVariants.{Computes, Loads, Stores, Orders, Stops}
 use Rattle.sfi_scan.specs.declared.clean.Words.{Words}
+use Rattle.sfi_masks.specs.Masks.{half_at as block_half, word_at as block_word}
 use Rattle.sfi_scan.proofs.Joining.{half_cut, word_cut}
 use Rattle.sfi_scan.proofs.Table16.{clean_short, clean_wide, clean_access}
 

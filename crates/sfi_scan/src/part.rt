@@ -14,7 +14,7 @@ use crate::bundle::BundlePlace;
 use crate::finding::Finding;
 use crate::findings::BundleFindings;
 use crate::scan::scan_bundle;
-use sfi_image::{Gate, SandboxPart, whole_bundles};
+use sfi_image::{Gate, SandboxPart};
 use sfi_masks::BLOCK_BYTES;
 use sfi_policy::{BUNDLE_BYTES, BUNDLE_SIZE, Format};
 use std::alloc::{AllocError, Global};
@@ -56,7 +56,6 @@ fn place_in(
       listed = is_first_at gates.now (part.now.code_base + bundle_size * number);
     } }
 {
-    whole_bundles();
     let address = part.code_base + BUNDLE_SIZE * number as u32;
     BundlePlace {
         sandbox,
@@ -87,7 +86,6 @@ fn clean_from(format: Format, sandbox: u32, part: &SandboxPart, gates: &[Gate], 
     ensures { (i : ℕ) → is_in result i ≡ true
         → IsClean sandbox (view format part.now) (number + i) }
 {
-    whole_bundles();
     let rest = &part.code[BUNDLE_BYTES * number..];
     let Some(block) = rest.first_chunk::<BLOCK_BYTES>() else {
         return 0;
@@ -111,7 +109,6 @@ pub fn scan_part_as(
     requires { IsRightPart (view format part.now) }
     ensures { IfOk result (λ found. AreFindings sandbox (view format part.now) found.items) }
 {
-    whole_bundles();
     let mut found = Vec::new(alloc);
     let mut findings = BundleFindings::new();
     let mut gates = part.gates.as_slice();

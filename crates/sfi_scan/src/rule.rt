@@ -30,7 +30,7 @@ pub enum Rule {
 }
 
 impl Rule {
-    ghost use Rattle.sfi_scan.specs.Numbers.{number_of};
+    ghost use Rattle.sfi_scan.specs.Numbers.{number_of, numbered};
 
     /// The rule's number, 1 to 10.
     pub fn number(self) -> u32
@@ -47,6 +47,25 @@ impl Rule {
             Rule::V8 => 8,
             Rule::V9 => 9,
             Rule::V10 => 10,
+        }
+    }
+
+    /// The rule of that number, if there is one.
+    pub fn numbered(number: u32) -> Option<Rule>
+        ensures { result ≡ numbered number }
+    {
+        match number {
+            1 => Some(Rule::V1),
+            2 => Some(Rule::V2),
+            3 => Some(Rule::V3),
+            4 => Some(Rule::V4),
+            5 => Some(Rule::V5),
+            6 => Some(Rule::V6),
+            7 => Some(Rule::V7),
+            8 => Some(Rule::V8),
+            9 => Some(Rule::V9),
+            10 => Some(Rule::V10),
+            _ => None,
         }
     }
 }

@@ -54,13 +54,10 @@ not_second read fault found only f second =
 
 findings_say : (bytes : List ℕ) (fault : ConvertFault) (found : List Finding) (status : ℕ) (line : List ℕ) → (¬ IsSecond bytes) → IsConvertFault bytes fault → status ≡ 1 → HasFound fault found
     → line ≡ refused_line found → SaysConversion bytes status line
-findings_say bytes (Refused (refusal.Layout k)) found status line first is one h e = absurd h
 findings_say bytes (Refused (refusal.Findings others)) found status line first is one h e =
     inr (inl (first, record { found = found; refused = subst (HasFindings bytes) h is.1; status_is = one; text_is = e }))
-findings_say bytes (Refused refusal.Memory) found status line first is one h e = absurd h
-findings_say bytes NotOld found status line first is one h e = absurd h
 findings_say bytes (Stack others) found status line first is one h e = inr (inr (record { found = found; refused = subst (HasStackFindings bytes) h is; status_is = one; text_is = e }))
-findings_say bytes Memory found status line first is one h e = absurd h
+findings_say bytes _ found status line first is one h e = absurd h
 
 fault_says : (bytes : List ℕ) (fault : ConvertFault) (answer : Result Answer Stop) → (IsSecond bytes → AnswersNotOld (Err fault))
     → IsConvertFault bytes fault → AnswersConvertFault fault answer → IfOk answer (λ a. SaysConversion bytes a.status (string_bytes a.text))
@@ -86,10 +83,8 @@ memory_answer status (Err (stop.Build other)) h = absurd h
 memory_answer status (Err stop.Memory) h = tt
 
 done_after : (new : List ℕ) (fault : ConvertFault) (answer : Result Answer Stop) → AnswersConversion new (Err fault) → AnswersConvertFault fault answer → AnswersStatus 0 answer
-done_after new (Refused r) answer only h = absurd only
-done_after new NotOld answer only h = absurd only
-done_after new (Stack found) answer only h = absurd only
 done_after new Memory answer only h = memory_answer 0 answer h
+done_after new _ answer only h = absurd only
 
 -- findings are answered by status 1
 findings_status : (fault : ConvertFault) (found : List Finding) (answer : Result Answer Stop) → HasFound fault found → AnswersConvertFault fault answer → AnswersStatus 1 answer
@@ -100,26 +95,19 @@ findings_status fault found (Err (stop.Build other)) f h = absurd h
 findings_status fault found (Err stop.Memory) f h = tt
 
 first_after : (found : List Finding) (fault : ConvertFault) (answer : Result Answer Stop) → AnswersFindings found (Err fault) → AnswersConvertFault fault answer → AnswersStatus 1 answer
-first_after found (Refused (refusal.Layout k)) answer only h = absurd only
 first_after found (Refused (refusal.Findings others)) answer only h = findings_status (Refused (refusal.Findings others)) found answer only h
-first_after found (Refused refusal.Memory) answer only h = absurd only
-first_after found NotOld answer only h = absurd only
-first_after found (Stack others) answer only h = absurd only
 first_after found Memory answer only h = memory_answer 1 answer h
+first_after found _ answer only h = absurd only
 
 second_after : (found : List Finding) (fault : ConvertFault) (answer : Result Answer Stop) → AnswersStack found (Err fault) → AnswersConvertFault fault answer → AnswersStatus 1 answer
-second_after found (Refused r) answer only h = absurd only
-second_after found NotOld answer only h = absurd only
 second_after found (Stack others) answer only h = findings_status (Stack others) found answer only h
 second_after found Memory answer only h = memory_answer 1 answer h
+second_after found _ answer only h = absurd only
 
 no_layout : (fault : ConvertFault) (found : List Finding) (k : LayoutFault) → HasFound fault found → AnswersLayout k (Err fault) → ⊥
-no_layout (Refused (refusal.Layout j)) found k f h = f
 no_layout (Refused (refusal.Findings others)) found k f h = h
-no_layout (Refused refusal.Memory) found k f h = f
-no_layout NotOld found k f h = f
 no_layout (Stack others) found k f h = h
-no_layout Memory found k f h = f
+no_layout _ found k f h = f
 
 pub not_converted : (bytes : List ℕ) (fault : ConvertFault) (answer : Result Answer Stop) → IsConvertFault bytes fault → (IsSecond bytes → AnswersNotOld (Err fault))
     → ((k : LayoutFault) → (¬ IsSecond bytes) → IsFault bytes k → AnswersLayout k (Err fault))

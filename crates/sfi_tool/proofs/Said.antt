@@ -30,7 +30,7 @@ said_of_run report machine rounds quantum given ps count w c slots host text e s
 
 -- the lines with what is told
 pub lines_and_told : (report : Bool) (ps : List Part) (slots : List Slot) (host : ConsoleState) (count : ℕ) (lines text : List ℕ) → report ≡ true → count ≡ length ps
-    → lines ≡ run_lines count slots host → Adds lines text (AreTold count ps slots) → IsRunTextOf report ps slots host text
+    → lines ≡ run_lines count slots host → Adds lines text (AreTold (length ps) ps slots) → IsRunTextOf report ps slots host text
 lines_and_told report ps slots host count lines text is e h a =
     subst (λ (r : Bool). IsRunTextOf r ps slots host text) (sym is)
-    (a.text, subst (λ n. AreTold n ps slots a.text) e a.text_is, a.new_is ∙ ap (λ (l : List ℕ). l ++ a.text) (h ∙ ap (λ n. run_lines n slots host) e))
+    (a.text, a.text_is, a.new_is ∙ ap (λ (l : List ℕ). l ++ a.text) (h ∙ ap (λ n. run_lines n slots host) e))

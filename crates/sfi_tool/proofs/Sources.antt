@@ -1,5 +1,5 @@
 -- What is answered on a source text of which nothing is made.
-use Rattle.std.proofs.Common.{◌≡◌, ◌⊎◌, ℕ, List, Result, Ok, Err, refl, sym, subst, inl, inr}
+use Rattle.std.proofs.Common.{◌≡◌, ◌⊎◌, ℕ, List, Result, Err, refl, sym, subst, inl, inr}
 use Rattle.std.specs.Prelude.{IsErrAnd}
 use Rattle.sfi_link.specs.declared.build_fault.BuildFault.{BuildFault}
 use Rattle.sfi_link.specs.Texts.{IsBuildFault, IsWantOfMemory}
@@ -17,9 +17,6 @@ fault_of places source f enough (inr is) = is
 pub not_made : {A : Type 0} (places : List Place) (is_made : List Place → List ℕ → A → Type 0) (text_of : A → List ℕ) (input source : List ℕ) (f : BuildFault) (r : Result Answer Stop)
     → source ≡ input → IsWantOfMemory f ⊎ IsBuildFault places source f → ((x : A) → is_made places source x → IsWantOfMemory f) → IsErrAnd r (StopsBuild f)
     → Answers (of_source is_made text_of places) input r
-not_made places is_made text_of input source f (Ok a) same why only stops = absurd stops
-not_made places is_made text_of input source f (Err (stop.Input fault)) same why only stops = absurd stops
-not_made places is_made text_of input source f (Err (stop.Layout fault)) same why only stops = absurd stops
 not_made places is_made text_of input source f (Err (stop.Build fault)) same why only stops = record {
   says = tt;
   stop = inr (f, subst (λ (t : List ℕ). IsBuildFault places t f) same (fault_of places source f stops.1 why));
@@ -34,3 +31,4 @@ not_made places is_made text_of input source f (Err stop.Memory) same why only s
   only_refused = λ _. tt;
   only_fault = λ _. refl;
 }
+not_made places is_made text_of input source f _ same why only stops = absurd stops

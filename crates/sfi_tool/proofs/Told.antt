@@ -62,12 +62,6 @@ pub part_told : (format : Format) (sandbox : ℕ) (items : List SandboxPart) (pa
 part_told format sandbox items part o old new e h =
     subst (λ (x : Option Part). Adds old new (IsToldOf sandbox x o)) (sym (slice_get-map (view format) items sandbox ∙ ap (option_map (view format)) e)) h
 
-pub no_part : (format : Format) (sandbox : ℕ) (items : List SandboxPart) (o : Option Slot) (old : List ℕ) → slice_get items sandbox ≡ None
-    → Adds old old (IsToldOf sandbox (slice_get (views format items) sandbox) o)
-no_part format sandbox items o old e =
-    subst (λ (x : Option Part). Adds old old (IsToldOf sandbox x o)) (sym (slice_get-map (view format) items sandbox ∙ ap (option_map (view format)) e))
-    (adds_nothing old (IsToldOf sandbox None o) refl)
-
 -- one sandbox more
 pub one_more_told : (n : ℕ) (ps : List Part) (slots : List Slot) (old mid new : List ℕ) → Adds old mid (AreTold n ps slots)
     → Adds mid new (IsToldOf n (slice_get ps n) (slice_get slots n)) → Adds old new (AreTold (n + 1) ps slots)

@@ -8,19 +8,17 @@ ghost use Rattle.sfi_tool.specs.commands.Checking.{IsRefusalText, IsReportOf, Sa
 use crate::fault::Stop;
 use crate::verdict::{Answer, accepted_line, refused_line};
 use sfi_check::{Refusal, check};
-use sfi_image::{one_reading, parse_image};
+use sfi_image::parse_image;
 use sfi_report::report_text;
 use sfi_scan::Finding;
 use std::alloc::{AllocError, Global};
 
 /// The report on the findings of the image with these bytes.
+#[tactic(auto, using(sfi_image::proofs::Facts::one_image))]
 fn report_of(alloc: Global, bytes: &[u8], findings: &[Finding]) -> Result<String, AllocError>
     requires { HasFindings bytes.now findings.now }
     ensures { IfOk result (λ text. IsReportOf bytes.now findings.now (string_bytes text)) }
 {
-    // The laws that the contract rests on: this call does nothing.
-    one_reading();
-
     match parse_image(alloc, bytes) {
         Ok(image) => report_text(alloc, &image, findings),
         // Bytes with findings have no fault, so memory ran out.

@@ -6,7 +6,6 @@ ghost use Rattle.sfi_tool.specs.RunLines.{round_of};
 ghost use Rattle.sfi_tool.specs.private.Rounds.{AreTaken};
 
 use rv_mem::Memory;
-use sfi_host::laws::plans_follow;
 use sfi_host::{Console, RunAnswer, Turn, World};
 use std::alloc::{AllocError, Global};
 
@@ -37,9 +36,6 @@ pub(crate) fn take_rounds<M: Memory>(
     ensures { OnOk result (AreTaken rounds quantum count
         (slots_of world.old) console.old (slots_of world.new) console.new) }
 {
-    // The law that the contract rests on: this call does nothing.
-    plans_follow::<Console>();
-
     let round = round_of(alloc, quantum, count)?;
     for _ in 0..rounds {
         match world.run_plan(&round, console) {

@@ -34,7 +34,7 @@ fn said<M: Memory>(
     if !report {
         return Ok(text);
     }
-    push_states(alloc, &mut text, count, accepted.image().parts(), world)?;
+    push_states(alloc, &mut text, accepted.image().parts(), world)?;
     Ok(text)
 }
 

@@ -1,6 +1,6 @@
 //! The pc and registers of the sandboxes that may still run or have trapped.
 
-ghost use Rattle.std.specs.Prelude.{Some, OnOk, slice_get, string_bytes};
+ghost use Rattle.std.specs.Prelude.{◌<◌, ◌^◌, Some, OnOk, length, slice_get, string_bytes};
 ghost use Rattle.sfi_host.specs.Worlds.{slots_of};
 ghost use Rattle.sfi_image.specs.Spelling.{view, views};
 ghost use Rattle.sfi_policy.specs.declared.format.Format.{Format};
@@ -53,37 +53,19 @@ fn push_told<M: Memory>(
     }
 }
 
-/// Writes what is told of the sandbox of that number; nothing where there is no such part.
-fn push_told_of<M: Memory>(
-    alloc: Global,
-    out: &mut String,
-    sandbox: u32,
-    parts: &[SandboxPart<'_>],
-    world: &World<M>,
-) -> Result<(), AllocError>
-    ensures { (format : Format) → OnOk result (Adds (string_bytes out.old) (string_bytes out.new)
-        (IsToldOf sandbox (slice_get (views format parts.now) sandbox)
-        (slice_get (slots_of world.now) sandbox))) }
-{
-    match parts.get(sandbox as usize) {
-        Some(part) => push_told(alloc, out, sandbox, part, world),
-        None => Ok(()),
-    }
-}
-
-/// Writes what is told of the first sandboxes, so many, in order.
+/// Writes what is told of each sandbox of an image, in order.
 pub(crate) fn push_states<M: Memory>(
     alloc: Global,
     out: &mut String,
-    count: u32,
     parts: &[SandboxPart<'_>],
     world: &World<M>,
 ) -> Result<(), AllocError>
+    requires { length parts.now < 2 ^ 32 }
     ensures { (format : Format) → OnOk result (Adds (string_bytes out.old) (string_bytes out.new)
-        (AreTold count (views format parts.now) (slots_of world.now))) }
+        (AreTold (length (views format parts.now)) (views format parts.now) (slots_of world.now))) }
 {
-    for sandbox in 0..count {
-        push_told_of(alloc, out, sandbox, parts, world)?;
+    for (sandbox, part) in parts.iter().enumerate() {
+        push_told(alloc, out, sandbox as u32, part, world)?;
     }
     Ok(())
 }

@@ -1,13 +1,8 @@
--- Where numbers and sandboxes lie in the bytes of an image.
+-- Where sandboxes lie in the bytes of an image.
 use Rattle.std.specs.Prelude.{◌≡◌, ℕ, ◌+◌, ◌*◌, List, length}
-use Rattle.sfi_image.specs.Spelling.{Part, fields_bytes, gate_bytes, number, part, IsWord}
+use Rattle.sfi_image.specs.Spelling.{Part, fields_bytes, gate_bytes, part}
 use Rattle.sfi_c.specs.declared.part.SfiPart.{SfiPart}
 use Rattle.sfi_c.specs.Parts.{LiesAt, told_part}
-
--- the four bytes at the offset are this number, of 32 bits
-pub record IsWordAt (bytes : List ℕ) (offset n : ℕ) : Type 0 where
-  pub lies : LiesAt bytes offset (number n)
-  pub word : IsWord n
 
 -- where the code of a sandbox lies whose bytes lie at the offset
 abbrev pub code_at : Part → ℕ → ℕ

@@ -1,16 +1,8 @@
--- Reads of a list of bytes, and the verdict by what the checker answers on it.
-use Rattle.std.specs.Prelude.{◌≡◌, ℕ, ◌<◌, ◌≤◌, List, [], ◌++◌, length, Option, Some, None}
+-- The verdict by what the checker answers on a list of bytes.
 use Rattle.sfi_check.specs.declared.stream_answer.StreamAnswer.{StreamAnswer}
 use Rattle.sfi_check.specs.declared.stream_answer.StreamAnswer.TheVariants.{Accepted, Layout, Findings, ReadFault}
 use Rattle.sfi_c.specs.declared.verdict.SfiVerdict.{SfiVerdict}
 use Rattle.sfi_c.specs.Verdicts.{no_finding, acceptance, refusal, no_image}
-
--- the bytes that are left before a read, the length of its buffer, what it hands out,
--- and what is left then
-abbrev pub HandsOut : List ℕ → ℕ → Option (List ℕ) → List ℕ → Type 0
-HandsOut rest most None after = ⊥
-HandsOut rest most (Some bytes) after =
-    (rest ≡ bytes ++ after) × (length bytes ≤ most) × (bytes ≡ [] → 0 < most → rest ≡ [])
 
 -- the verdict by an answer; no read fails
 abbrev pub verdict_of : StreamAnswer → SfiVerdict

@@ -3,6 +3,9 @@ use Rattle.sfi_c.specs.private.Reads.{verdict_of}
 use Rattle.sfi_c.proofs.Answering as by
 use Rattle.sfi_c.proofs.feeding.sfi_c_end.Goals as goal
 
+pub returns-clause-accepted : goal.returns-clause-accepted
+returns-clause-accepted c = λ bytes h. rw c.verdict_of.ensures (by.accepted bytes c.answer.result (c.answer.ensures.judged bytes (rw c.feed_of.ensures h.fed)))
+
 pub returns-clause-refused : goal.returns-clause-refused
 returns-clause-refused c = λ bytes h. rw c.verdict_of.ensures (by.refused bytes c.answer.result (c.answer.ensures.judged bytes (rw c.feed_of.ensures h.fed)))
 

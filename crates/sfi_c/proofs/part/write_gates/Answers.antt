@@ -1,10 +1,10 @@
-use Rattle.std.proofs.Common.{◌≡◌, ℕ, length, arith, ◌∙◌, ap, sym}
+use Rattle.std.proofs.Common.{◌≡◌, length, arith, ◌∙◌, ap, sym}
 use Rattle.std.specs.Prelude.{min}
 use Rattle.std.proofs.lemmas.Option.{get_or_from_slice_get}
 use Rattle.sfi_c.specs.Parts.{told_gate}
 use Rattle.sfi_c.proofs.Lookups.{one_there}
 use Rattle.sfi_c.proofs.Places.{gates_are}
-use Rattle.sfi_c.proofs.Writing.{written_one_more, all_written, one_is_least}
+use Rattle.sfi_c.proofs.Writing.{written_one_more, all_written, with_is}
 use Rattle.sfi_c.proofs.part.write_gates.Goals as goal
 
 pub gate_of-requires : goal.gate_of-requires
@@ -24,6 +24,5 @@ loop-i-preserved c = λ n p h at.
 pub returns : goal.returns
 returns c = λ n p h at.
     let gates = gates_are c.args.image.now p c.args.part.now at in
-    let is : c.loop-i.i ≡ c.min-count.result = omega arith in
-    c.loop-i.invariant n p h at ∙ all_written told_gate p.gates c.args.array.now c.loop-i.i (omega arith) (omega arith)
-    (one_is_least (length p.gates) (length c.args.array.now) c.loop-i.i (is ∙ c.min-count.ensures ∙ ap (λ (k : ℕ). min k (length c.args.array.now)) gates))
+    let all : c.loop-i.i ≡ min (length p.gates) (length c.args.array.now) = omega (arith, gates, c.min-count.ensures) in
+    c.loop-i.invariant n p h at ∙ all_written told_gate p.gates c.args.array.now c.loop-i.i all ∙ sym (with_is told_gate p.gates c.args.array.now)

@@ -7,15 +7,15 @@ are_all_apart-requires-clause-apart c = subst (AllPairs AreApart) (sym c.deref.e
 
 pub returns-then-not-are_all_apart-clause-wrong : goal.returns-then-not-are_all_apart-clause-wrong
 returns-then-not-are_all_apart-clause-wrong c =
-    let own : record { base = c.from.result; size = c.from-2.result } ∷ c.guarded_at-guarded.result ∷ [] ≡ spans_at c.args.part.now c.args.size c.args.place =
-    (λ i. record { base = c.from.ensures i; size = c.from-2.ensures i } ∷ (c.guarded_at-guarded.ensures ∙ ap (λ n. with_guards (record { base = c.args.place.data_base; size = n })) c.data_size.ensures) i ∷ []) in
+    let own : record { base = c.from.result; size = c.from-2.result } ∷ c.with_guards-guarded.result ∷ [] ≡ spans_at c.args.part.now c.args.size c.args.place =
+    (λ i. record { base = c.from.ensures i; size = c.from-2.ensures i } ∷ (c.with_guards-guarded.ensures ∙ ap (λ n. with_guards (record { base = c.args.place.data_base; size = n })) c.data_size.ensures) i ∷ []) in
     λ right pairs. let e : false ≡ true = c.if-not-are_all_apart.ensures.1 (subst (AllPairs AreApart) (λ i. sym c.deref.ensures.value i ++ sym own i) pairs) in cc
 
 pub returns-clause-lies : goal.returns-clause-lies
 returns-clause-lies c =
     let old = c.args.spans.now.items in
-    let own : record { base = c.from.result; size = c.from-2.result } ∷ c.guarded_at-guarded.result ∷ [] ≡ spans_at c.args.part.now c.args.size c.args.place =
-    (λ i. record { base = c.from.ensures i; size = c.from-2.ensures i } ∷ (c.guarded_at-guarded.ensures ∙ ap (λ n. with_guards (record { base = c.args.place.data_base; size = n })) c.data_size.ensures) i ∷ []) in
+    let own : record { base = c.from.result; size = c.from-2.result } ∷ c.with_guards-guarded.result ∷ [] ≡ spans_at c.args.part.now c.args.size c.args.place =
+    (λ i. record { base = c.from.ensures i; size = c.from-2.ensures i } ∷ (c.with_guards-guarded.ensures ∙ ap (λ n. with_guards (record { base = c.args.place.data_base; size = n })) c.data_size.ensures) i ∷ []) in
     lies_beside c.args.part.now c.args.size c.args.place old _ (c.if-not-is_right_place.ensures.0 refl) c.requires.bounded
     (subst (AllPairs AreApart) (λ i. c.deref.ensures.value i ++ own i) (c.if-not-are_all_apart.ensures.0 refl))
-    (c.in_ok-push-2.ensures.items ∙ ap (λ l. l ++ c.guarded_at-guarded.result ∷ []) c.in_ok-push.ensures.items ∙ append_assoc old _ (c.guarded_at-guarded.result ∷ []) ∙ ap (λ l. old ++ l) own)
+    (c.in_ok-push-2.ensures.items ∙ ap (λ l. l ++ c.with_guards-guarded.result ∷ []) c.in_ok-push.ensures.items ∙ append_assoc old _ (c.with_guards-guarded.result ∷ []) ∙ ap (λ l. old ++ l) own)

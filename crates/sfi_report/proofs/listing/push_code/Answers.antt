@@ -1,6 +1,7 @@
 use Rattle.std.proofs.Common.{ℕ, ◌/◌, List, length, get_or, [], ◌∙◌, ap, arith}
 use Rattle.std.specs.Prelude.{string_bytes}
 use Rattle.sfi_image.specs.Spelling.{view}
+use Rattle.sfi_image.proofs.Facts.{whole_bundles}
 use Rattle.sfi_report.proofs.Sandboxes.{empty_listing, one_bundle_more, all_bundles, chunk_at}
 use Rattle.sfi_report.proofs.listing.push_code.Goals as goal
 
@@ -9,7 +10,7 @@ loop-k-init c = λ format. empty_listing (view format c.args.part.now) (string_b
 
 pub overflow_add-part : goal.overflow_add-part
 overflow_add-part c =
-    let whole = c.whole_bundles.ensures c.requires.0 c.args.part.now.code_base (length c.args.part.now.code.now) c.requires.1.code_base c.requires.1.code_placed in
+    let whole = whole_bundles c.requires.0 c.args.part.now.code_base (length c.args.part.now.code.now) c.requires.1.code_base c.requires.1.code_placed in
     let end = whole.4 in
     let count = c.as_chunks.ensures.front_len in
     let below = c.loop-k-test.true in
@@ -17,7 +18,7 @@ overflow_add-part c =
 
 pub push_bundle-requires : goal.push_bundle-requires
 push_bundle-requires c =
-    let whole = c.whole_bundles.ensures c.requires.0 c.args.part.now.code_base (length c.args.part.now.code.now) c.requires.1.code_base c.requires.1.code_placed in
+    let whole = whole_bundles c.requires.0 c.args.part.now.code_base (length c.args.part.now.code.now) c.requires.1.code_base c.requires.1.code_placed in
     let end = whole.4 in
     let count = c.as_chunks.ensures.front_len in
     let below = c.loop-k-test.true in
@@ -33,7 +34,7 @@ loop-k-preserved c = λ format.
 
 pub returns : goal.returns
 returns c = λ format.
-    let whole = c.whole_bundles.ensures c.requires.0 c.args.part.now.code_base (length c.args.part.now.code.now) c.requires.1.code_base c.requires.1.code_placed in
+    let whole = whole_bundles c.requires.0 c.args.part.now.code_base (length c.args.part.now.code.now) c.requires.1.code_base c.requires.1.code_placed in
     let size = whole.2 in
     let count = c.as_chunks.ensures.front_len in
     let over = c.loop-k-test.false in

@@ -1,12 +1,13 @@
 use Rattle.sfi_scan.proofs.Prelude.{◌≡◌, ◌+◌, ◌*◌, false, ℕ, length, take, drop, ap, sym, ◌∙◌, subst, arith, take_rest, view, BundlePlace, IsWithinBlock, is_first_below}
 use Rattle.std.proofs.lemmas.List.{length-drop}
+use Rattle.sfi_image.proofs.Facts.{whole_bundles}
 use Rattle.sfi_scan.proofs.Bits.{in_byte}
 use Rattle.sfi_scan.proofs.Gates.{none_below, seen_clean}
 use Rattle.sfi_scan.proofs.part.clean_from.Goals as goal
 
 pub overflow_add-place : goal.overflow_add-place
 overflow_add-place c =
-    let whole = c.whole_bundles.ensures c.args.format c.args.part.now.code_base (length c.args.part.now.code.now) c.requires.right.code_base c.requires.right.code_placed in
+    let whole = whole_bundles c.args.format c.args.part.now.code_base (length c.args.part.now.code.now) c.requires.right.code_base c.requires.right.code_placed in
     let end = whole.4 in
     let at : c.place_in-place.result.address ≡ c.args.part.now.code_base + 16 * c.args.number = ap (λ (b : BundlePlace). b.address) c.place_in-place.ensures in
     let xs = c.args.part.now.code.now in
@@ -18,7 +19,7 @@ overflow_add-place c =
 
 pub clean_bundles-requires : goal.clean_bundles-requires
 clean_bundles-requires c =
-    let whole = c.whole_bundles.ensures c.args.format c.args.part.now.code_base (length c.args.part.now.code.now) c.requires.right.code_base c.requires.right.code_placed in
+    let whole = whole_bundles c.args.format c.args.part.now.code_base (length c.args.part.now.code.now) c.requires.right.code_base c.requires.right.code_placed in
     let end = whole.4 in
     let xs = c.args.part.now.code.now in
     let enough = c.in-Some.ensures.cases.enough in

@@ -3,6 +3,7 @@ use Rattle.sfi_image.specs.Gates.{is_gate_of}
 use Rattle.sfi_image.specs.Spans.{code_region}
 use Rattle.sfi_image.specs.declared.part.Gate.{Gate}
 use Rattle.std.specs.Result.{is_ok}
+use Rattle.sfi_image.proofs.Facts.{whole_bundles}
 use Rattle.sfi_scan.proofs.Bits.{in_shr, in_zero}
 use Rattle.sfi_scan.proofs.Gates.{all_ahead, one_more, first_is, ahead_next, chunk_at, if_true, none_more}
 use Rattle.sfi_scan.proofs.part.scan_part_as.Goals as goal
@@ -33,7 +34,7 @@ place_in-place-requires-clause-inside c =
 
 pub scan_bundle-requires : goal.scan_bundle-requires
 scan_bundle-requires c =
-    let whole = c.whole_bundles.ensures c.args.format c.args.part.now.code_base (length c.args.part.now.code.now) c.requires.code_base c.requires.code_placed in
+    let whole = whole_bundles c.args.format c.args.part.now.code_base (length c.args.part.now.code.now) c.requires.code_base c.requires.code_placed in
     let end = whole.4 in
     let count = c.as_chunks.ensures.front_len in
     let below = c.loop-k-test.true in
@@ -46,7 +47,7 @@ loop-k-preserved c =
     let at = c.args.part.now.code_base + 16 * k in
     let old = c.loop-k.invariant in
     let gates = c.loop-k.gates.now in
-    let whole = c.whole_bundles.ensures c.args.format c.args.part.now.code_base (length c.args.part.now.code.now) c.requires.code_base c.requires.code_placed in
+    let whole = whole_bundles c.args.format c.args.part.now.code_base (length c.args.part.now.code.now) c.requires.code_base c.requires.code_placed in
     let even : at % 16 ≡ 0 = let base = whole.3 in omega arith in
     let listed = first_is at gates old.ahead.from ∙ old.ahead.same at (omega arith) in
     let place_with : Bool → BundlePlace = λ l. record (place_of c.args.sandbox p k) { listed = l } in
@@ -84,7 +85,7 @@ loop-k-preserved c =
 
 pub returns : goal.returns
 returns c =
-    let whole = c.whole_bundles.ensures c.args.format c.args.part.now.code_base (length c.args.part.now.code.now) c.requires.code_base c.requires.code_placed in
+    let whole = whole_bundles c.args.format c.args.part.now.code_base (length c.args.part.now.code.now) c.requires.code_base c.requires.code_placed in
     let count = c.as_chunks.ensures.front_len in
     let over = c.loop-k-test.false in
     let up = c.loop-k.auto.k-end in

@@ -3,6 +3,7 @@ use Rattle.sfi_host.specs.declared.turn.Turn.{Turn}
 use Rattle.sfi_host.specs.Consoles.{console}
 use Rattle.sfi_host.specs.Plans.{IsJoint}
 use Rattle.sfi_host.specs.Worlds.{slots_of}
+use Rattle.sfi_host.proofs.Facts.{plans_follow}
 use Rattle.sfi_tool.specs.RunLines.{plan_of, round_of}
 use Rattle.sfi_tool.proofs.Rounds.{no_turn, one_more_round}
 use Rattle.sfi_tool.proofs.plan.take_rounds.Goals as goal
@@ -24,5 +25,5 @@ loop-preserved g c machine is =
     subst (λ (p : List Turn). IsJoint machine console p mid c.loop.console new after) (c.deref.ensures.value ∙ c.in_ok-round.ensures)
     (c.in-Done.ensures.done refl machine is) in
     subst (λ (p : List Turn). IsJoint machine console p old c.args.console.now new after) (one_more_round k quantum count)
-    (c.plans_follow.ensures.done machine console (plan_of k quantum count) (round_of quantum count)
+    (plans_follow machine console (plan_of k quantum count) (round_of quantum count)
     old mid new c.args.console.now c.loop.console after (c.loop.invariant machine is) round)

@@ -1,10 +1,10 @@
-use Rattle.std.proofs.Common.{◌≡◌, ◌∙◌, List, [], ℕ, ◌-◌, ◌++◌, length, take, drop, ap, refl, arith}
+use Rattle.std.proofs.Common.{◌≡◌, ◌∙◌, List, [], ℕ, ◌-◌, ◌≤◌, ◌++◌, length, take, drop, ap, refl, arith}
 use Rattle.std.specs.Prelude.{min}
 use Rattle.std.proofs.Math.ListN.{drop_of_length-le}
 use Rattle.std.proofs.lemmas.List.{append-nil, length-drop, take_all}
 use Rattle.sfi_c.specs.declared.finding.SfiFinding.{SfiFinding}
 use Rattle.sfi_c.specs.Verdicts.{with_findings}
-use Rattle.sfi_c.proofs.Filling.{filled, is_least}
+use Rattle.sfi_c.proofs.Filling.{filled}
 use Rattle.sfi_c.proofs.array.ArrayFindingSink.put.Goals as goal
 
 pub returns : goal.returns
@@ -13,8 +13,7 @@ returns c = (
   λ first before has.
       let array = c.args.self.now.elements.now in
       let from = c.min-from.result in
-      let least = is_least from c.args.self.now.written (length array) c.min-from.ensures in
-      let inside = least.1 in
+      let inside : from ≤ length array = omega (arith, c.min-from.ensures) in
       let room : take (length array - from) (drop from array) ≡ drop from array = take_all (length array - from) (drop from array) (omega (arith, length-drop from array)) in
       let none : drop (length array - from) (drop from array) ≡ [] = drop_of_length-le (drop from array) (omega (arith, length-drop from array)) in
       let written = c.write_findings.ensures ∙ ap (λ (l : List SfiFinding). with_findings c.args.found.now l) room in

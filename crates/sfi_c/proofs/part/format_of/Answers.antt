@@ -1,5 +1,5 @@
 use Rattle.sfi_c.proofs.Heads.{first, second}
-use Rattle.sfi_c.proofs.part.format_number_of.Goals as goal
+use Rattle.sfi_c.proofs.part.format_of.Goals as goal
 
 pub returns-then-begins : goal.returns-then-begins
 returns-then-begins c = λ ps h. first c.args.image.now ps h (c.begins.ensures.0 c.if-begins.true)

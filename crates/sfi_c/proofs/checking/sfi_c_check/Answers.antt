@@ -1,7 +1,7 @@
 use Rattle.std.proofs.Common.{◌∙◌, ap, ◌∷◌, refl}
 use Rattle.sfi_c.specs.private.Reads.{verdict_of}
 use Rattle.sfi_c.proofs.Answering as by
-use Rattle.sfi_c.proofs.checking.verdict_on.Goals as goal
+use Rattle.sfi_c.proofs.checking.sfi_c_check.Goals as goal
 
 pub returns-clause-accepted : goal.returns-clause-accepted
 returns-clause-accepted c = rw c.verdict_of.ensures (by.accepted c.args.image.now c.answer_on.result c.answer_on.ensures.judged)
