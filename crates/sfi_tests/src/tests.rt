@@ -1,33 +1,19 @@
 mod blocks;
 mod build;
-mod build_command;
-mod build_limits;
-mod check;
-mod codes;
 mod consoles;
-mod convert;
 mod entering;
 mod formats;
-mod frames;
 mod guests;
 mod image;
 mod image_reading;
-mod lines;
 mod link;
-mod listing;
 mod names;
-mod needs;
-mod neighbours;
+mod options;
 mod pieces;
-mod places;
 mod programs;
-mod refused_texts;
 mod rows;
-mod run_limits;
 mod scan;
 mod stream;
-mod tour;
-mod usage;
 mod worlds;
 
 use sfi_tool::run_tool;
@@ -55,13 +41,4 @@ fn run(alloc: Global, line: &str, input: &[u8]) -> Result<Outcome, AllocError> {
     let mut text = Vec::new(alloc);
     let status = run_tool(alloc, words.as_slice(), &mut reader, &mut text);
     Ok(Outcome { status, text })
-}
-
-// What the build of a source prints where it fails, and else what the command prints of its image.
-fn built_and_run(alloc: Global, source: &str, command: &str) -> Result<Outcome, AllocError> {
-    let Outcome { status, text } = run(alloc, "sfi build", source.as_bytes())?;
-    if status != 0 {
-        return Ok(Outcome { status, text });
-    }
-    run(alloc, command, text.as_slice())
 }

@@ -2,6 +2,7 @@
 use sfi_policy::Format;
 use sfi_scan::{BundlePlace, clean_bundles};
 use std::alloc::Global;
+use std::process::Abort;
 use std::test::Fail;
 
 const CODE_BASE: u32 = 0x0100_0000;
@@ -12,7 +13,7 @@ const ADDI: &str = "93821200938212009382120093821200";
 /// A bundle that is seen in each place of a block.
 struct Row(&'static str, &'static str);
 
-const SEEN: [Row; 8] = [
+const SEEN: &[Row] = &[
     Row("addi", ADDI),
     Row("c.addi", "85028502850285028502850285028502"),
     Row(
@@ -30,7 +31,7 @@ const SEEN: [Row; 8] = [
 ];
 
 /// A bundle that breaks a rule.
-const UNSEEN: [Row; 4] = [
+const UNSEEN: &[Row] = &[
     Row("store without a pair", "23a07200938212009382120093821200"),
     Row("load of x26", "b372b301b3e2a20103ad020093821200"),
     Row(
@@ -65,26 +66,35 @@ fn seen(alloc: Global, format: Format, usual: &str, other: &str, at: u8) -> Resu
     Ok(clean_bundles(&place, block))
 }
 
+// Each clean bundle is seen in each place of a block.
+fn try_clean(rt: &impl Abort, alloc: Global, format: Format) -> Result<(), Fail> {
+    for Row(name, digits) in SEEN {
+        let mask = seen(alloc, format, digits, digits, 0)?;
+        assert!(rt; mask == 0xff, "{name}");
+    }
+    Ok(())
+}
+
 #[test]
 fn eight_clean_bundles_are_seen(rt: HostRuntime) -> Result<(), Fail> {
-    for format in [Format::Sfi1, Format::Sfi2] {
-        for row in &SEEN {
-            let mask = seen(rt.alloc(), format, row.1, row.1, 0)?;
-            assert!(rt; mask == 0xff, "{}", row.0);
-        }
+    try_clean(&rt, rt.alloc(), Format::Sfi1)?;
+    try_clean(&rt, rt.alloc(), Format::Sfi2)
+}
+
+// In each place of a block the bundle isn't seen, and the others are.
+fn try_unclean(rt: &impl Abort, alloc: Global, format: Format, row: &Row) -> Result<(), Fail> {
+    for at in 0..8u8 {
+        let mask = seen(alloc, format, ADDI, row.1, at)?;
+        assert!(rt; mask == !(1 << at), "{}", row.0);
     }
     Ok(())
 }
 
 #[test]
 fn each_but_one_is_seen(rt: HostRuntime) -> Result<(), Fail> {
-    for format in [Format::Sfi1, Format::Sfi2] {
-        for row in &UNSEEN {
-            for at in 0..8u8 {
-                let mask = seen(rt.alloc(), format, ADDI, row.1, at)?;
-                assert!(rt; mask == !(1 << at), "{}", row.0);
-            }
-        }
+    for row in UNSEEN {
+        try_unclean(&rt, rt.alloc(), Format::Sfi1, row)?;
+        try_unclean(&rt, rt.alloc(), Format::Sfi2, row)?;
     }
     Ok(())
 }

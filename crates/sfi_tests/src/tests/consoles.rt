@@ -9,40 +9,45 @@ use sfi_host::{Console, GateAnswer};
 // a0 of a refused call.
 const FAILED: u32 = 0xffff_ffff;
 
+// A call, as its caller, its service, a0 and a1; the answer; and a0 after it. a1 stays.
+type Served = ((u32, u32, u32, u32), GateAnswer, u32);
+
+const SERVED: &[Served] = &[
+    // Exit and yield serve any caller.
+    ((2, 0, 7, 8), GateAnswer::Exit(7), 7),
+    ((2, 3, 7, 8), GateAnswer::Yield, 7),
+    // Put.
+    ((0, 1, DATA, 2), GateAnswer::Replied, 2),
+    ((1, 1, DATA + 1, 1), GateAnswer::Replied, 1),
+    ((0, 1, DATA + 1, 1), GateAnswer::Replied, 1),
+    ((0, 1, 0, 0), GateAnswer::Replied, 0),
+    ((0, 1, DATA + 255, 2), GateAnswer::Replied, FAILED),
+    ((0, 1, DATA - 1, 2), GateAnswer::Replied, FAILED),
+    ((0, 1, FAILED, 2), GateAnswer::Replied, FAILED),
+    ((0, 1, DATA, 65537), GateAnswer::Replied, FAILED),
+    // Get: the range that a1 names has to be there.
+    ((0, 2, DATA + 255, 2), GateAnswer::Replied, FAILED),
+    ((0, 2, DATA + 254, 2), GateAnswer::Replied, 2),
+    ((1, 2, DATA + 4, 1), GateAnswer::Replied, 1),
+    ((0, 2, DATA + 8, 9), GateAnswer::Replied, 1),
+    ((0, 2, DATA + 8, 9), GateAnswer::Replied, 0),
+    ((0, 2, 0, 0), GateAnswer::Replied, 0),
+    // No other service is served, and no caller without a session.
+    ((0, 6, 1, 8), GateAnswer::Replied, FAILED),
+    ((2, 1, DATA, 1), GateAnswer::Replied, FAILED),
+    ((2, 2, DATA, 1), GateAnswer::Replied, FAILED),
+    ((2, 4, 1, 8), GateAnswer::Replied, FAILED),
+    ((2, 5, 1, 8), GateAnswer::Replied, FAILED),
+];
+
 #[test]
 fn a_console_serves(rt: HostRuntime) {
     let mut memory = memory(&rt, rt.alloc(), &[72, 105]);
     let mut console = Console::new(rt.alloc(), 2, &[97, 98, 99]).expect(&rt, "memory");
-    let cases = [
-        // Exit and yield serve any caller.
-        (request(2, 0, 7, 8), GateAnswer::Exit(7), 7),
-        (request(2, 3, 7, 8), GateAnswer::Yield, 7),
-        // Put.
-        (request(0, 1, DATA, 2), GateAnswer::Replied, 2),
-        (request(1, 1, DATA + 1, 1), GateAnswer::Replied, 1),
-        (request(0, 1, DATA + 1, 1), GateAnswer::Replied, 1),
-        (request(0, 1, 0, 0), GateAnswer::Replied, 0),
-        (request(0, 1, DATA + 255, 2), GateAnswer::Replied, FAILED),
-        (request(0, 1, DATA - 1, 2), GateAnswer::Replied, FAILED),
-        (request(0, 1, FAILED, 2), GateAnswer::Replied, FAILED),
-        (request(0, 1, DATA, 65537), GateAnswer::Replied, FAILED),
-        // Get: the range that a1 names has to be there.
-        (request(0, 2, DATA + 255, 2), GateAnswer::Replied, FAILED),
-        (request(0, 2, DATA + 254, 2), GateAnswer::Replied, 2),
-        (request(1, 2, DATA + 4, 1), GateAnswer::Replied, 1),
-        (request(0, 2, DATA + 8, 9), GateAnswer::Replied, 1),
-        (request(0, 2, DATA + 8, 9), GateAnswer::Replied, 0),
-        (request(0, 2, 0, 0), GateAnswer::Replied, 0),
-        // No other service is served, and no caller without a session.
-        (request(0, 6, 1, 8), GateAnswer::Replied, FAILED),
-        (request(2, 1, DATA, 1), GateAnswer::Replied, FAILED),
-        (request(2, 2, DATA, 1), GateAnswer::Replied, FAILED),
-        (request(2, 4, 1, 8), GateAnswer::Replied, FAILED),
-        (request(2, 5, 1, 8), GateAnswer::Replied, FAILED),
-    ];
-    for (request, answer, a0) in cases {
-        let told = call(&mut console, &mut memory, request);
-        assert_eq!(rt; told, (answer, a0, request.a1), "{request:?}");
+    for (asked, answer, told) in SERVED {
+        let (sandbox, service, a0, a1) = *asked;
+        let after = call(&mut console, &mut memory, request(sandbox, service, a0, a1));
+        assert_eq!(rt; after, (*answer, *told, a1), "{asked:?}");
     }
     assert_eq!(rt; console.output(0), Some(&[72, 105, 105][..]));
     assert_eq!(rt; console.output(1), Some(&[105][..]));
@@ -53,25 +58,34 @@ fn a_console_serves(rt: HostRuntime) {
     assert_eq!(rt; memory.load(DATA + 256, Width::One), Some(2));
 }
 
+// A call that is replied to, as its caller, its service, a0 and a1; and a0 and a1 after it.
+type Passed = ((u32, u32, u32, u32), u32, u32);
+
+const PASSED: &[Passed] = &[
+    // Post: to the other, to itself, and to none.
+    ((0, 4, 1, 7), 0, 7),
+    ((1, 4, 1, FAILED), 0, FAILED),
+    ((0, 4, 2, 9), FAILED, 9),
+    ((0, 4, FAILED, 9), FAILED, 9),
+    // Take: each has a mailbox of its own.
+    ((0, 5, 3, 4), 0, 0),
+    ((1, 5, 3, 4), 7, 1),
+    ((1, 5, 3, 4), FAILED, 2),
+    ((1, 5, 3, 4), 0, 0),
+];
+
 #[test]
 fn a_console_passes_words_on(rt: HostRuntime) {
     let mut memory = memory(&rt, rt.alloc(), &[72, 105]);
     let mut console = Console::new(rt.alloc(), 2, &[]).expect(&rt, "memory");
-    let cases = [
-        // Post: to the other, to itself, and to none.
-        (request(0, 4, 1, 7), 0, 7),
-        (request(1, 4, 1, FAILED), 0, FAILED),
-        (request(0, 4, 2, 9), FAILED, 9),
-        (request(0, 4, FAILED, 9), FAILED, 9),
-        // Take: each has a mailbox of its own.
-        (request(0, 5, 3, 4), 0, 0),
-        (request(1, 5, 3, 4), 7, 1),
-        (request(1, 5, 3, 4), FAILED, 2),
-        (request(1, 5, 3, 4), 0, 0),
-    ];
-    for (request, a0, a1) in cases {
-        let told = call(&mut console, &mut memory, request);
-        assert_eq!(rt; told, (GateAnswer::Replied, a0, a1), "{request:?}");
+    for (asked, a0, a1) in PASSED {
+        let (sandbox, service, first, second) = *asked;
+        let after = call(
+            &mut console,
+            &mut memory,
+            request(sandbox, service, first, second),
+        );
+        assert_eq!(rt; after, (GateAnswer::Replied, *a0, *a1), "{asked:?}");
     }
     // A mailbox holds 16 words, and gives them back in their order.
     for word in 100..117 {

@@ -1,7 +1,7 @@
 //! The world of the smallest image: what is asked of it, its data from outside, and how its sandbox
 //! is entered again.
 use super::guests::{DATA, REGION};
-use super::image::image_bytes;
+use super::rows::image_of;
 use rv_mem::{Memory, Segments, Width};
 use rv_step::Cause;
 use rv_word::Reg;
@@ -13,59 +13,80 @@ use std::test::Fail;
 
 // The world of the smallest image: 64 times `ebreak` and 256 data bytes.
 fn smallest_world(rt: &impl Abort, alloc: Global) -> Result<World<Segments>, Fail> {
-    let bytes = image_bytes(alloc, &[])?;
+    let bytes = image_of(alloc, "")?;
     let accepted = check(alloc, bytes.as_slice()).expect(rt, "accepted");
     Ok(World::load(alloc, &accepted, Segments::new(alloc))?)
 }
 
 #[test]
-fn the_smallest_image_traps(rt: HostRuntime) -> Result<(), Fail> {
-    let alloc = rt.alloc();
-    let mut world = smallest_world(&rt, alloc)?;
-    assert_eq!(rt;
-        (world.status(0), world.steps(0)),
-        (Some(Status::Ready), Some(0))
-    );
-    assert_eq!(rt;
-        (world.data_byte(0, DATA), world.data_byte(0, DATA + 255)),
-        (Some(0), Some(0))
-    );
-    assert_eq!(rt;
-        (world.data_byte(0, DATA - 1), world.data_byte(0, DATA + 256)),
-        (None, None)
-    );
+fn a_world_before_its_first_turn(rt: HostRuntime) -> Result<(), Fail> {
+    let world = smallest_world(&rt, rt.alloc())?;
     assert_eq!(rt; world.len(), 1);
-    assert_eq!(rt;
-        (world.data_region(0), world.data_region(1)),
-        (Some(REGION), None)
-    );
+    assert_eq!(rt; world.status(0), Some(Status::Ready));
+    assert_eq!(rt; world.steps(0), Some(0));
+    assert_eq!(rt; world.data_region(0), Some(REGION));
     let cpu = world.cpu(0).expect(&rt, "a sandbox");
-    assert_eq!(rt; (cpu.pc(), cpu.reg(Reg::numbered(27))), (0x0100_0000, 255));
-    let mut console = Console::new(alloc, 1, &[])?;
-    let plan = [
-        Turn {
-            sandbox: 1,
-            steps: 1,
-        },
-        Turn {
-            sandbox: 0,
-            steps: 1000,
-        },
-        Turn {
-            sandbox: 0,
-            steps: 1000,
-        },
-    ];
-    assert_eq!(rt; world.run_plan(&plan, &mut console), RunAnswer::Done);
+    assert_eq!(rt; cpu.pc(), 0x0100_0000);
+    assert_eq!(rt; cpu.reg(Reg::numbered(27)), 255);
+    Ok(())
+}
+
+// An address, and the data byte there.
+const BYTES: &[(u32, Option<u8>)] = &[
+    (DATA - 1, None),
+    (DATA, Some(0)),
+    (DATA + 255, Some(0)),
+    (DATA + 256, None),
+];
+
+#[test]
+fn data_of_a_world(rt: HostRuntime) -> Result<(), Fail> {
+    let world = smallest_world(&rt, rt.alloc())?;
+    for (address, byte) in BYTES {
+        assert_eq!(rt; world.data_byte(0, *address), *byte);
+    }
+    Ok(())
+}
+
+// A turn of no sandbox, and two of the first.
+const TURNS: &[Turn] = &[
+    Turn {
+        sandbox: 1,
+        steps: 1,
+    },
+    Turn {
+        sandbox: 0,
+        steps: 1000,
+    },
+    Turn {
+        sandbox: 0,
+        steps: 1000,
+    },
+];
+
+#[test]
+fn the_smallest_image_traps(rt: HostRuntime) -> Result<(), Fail> {
+    let mut console = Console::new(rt.alloc(), 1, &[])?;
+    let mut world = smallest_world(&rt, rt.alloc())?;
+    assert_eq!(rt; world.run_plan(TURNS, &mut console), RunAnswer::Done);
     world.stays_safe();
     let trapped = Status::Trapped(Cause::Break, 0x0100_0000);
-    assert_eq!(rt; (world.status(0), world.steps(0)), (Some(trapped), Some(0)));
-    assert_eq!(rt; (world.status(1), world.steps(1)), (None, None));
-    assert_eq!(rt; world.data_byte(1, DATA), None);
-    assert!(rt; world.cpu(1).is_none());
+    assert_eq!(rt; world.status(0), Some(trapped));
+    assert_eq!(rt; world.steps(0), Some(0));
     let memory = world.into_memory();
     assert_eq!(rt; memory.load(0x0100_0000, Width::Four), Some(0x0010_0073));
     assert_eq!(rt; memory.load(DATA - 1, Width::One), None);
+    Ok(())
+}
+
+#[test]
+fn no_sandbox_is_there(rt: HostRuntime) -> Result<(), Fail> {
+    let world = smallest_world(&rt, rt.alloc())?;
+    assert_eq!(rt; world.status(1), None);
+    assert_eq!(rt; world.steps(1), None);
+    assert_eq!(rt; world.data_region(1), None);
+    assert_eq!(rt; world.data_byte(1, DATA), None);
+    assert!(rt; world.cpu(1).is_none());
     Ok(())
 }
 
@@ -117,6 +138,22 @@ fn a_sandbox_is_entered_again(rt: HostRuntime) -> Result<(), Fail> {
     Ok(())
 }
 
+// The number of a register, and what is in it.
+const REGISTERS: &[(u8, u32)] = &[
+    (0, 0),
+    (1, 0),
+    (2, DATA + 240),
+    (9, 0),
+    (10, 11),
+    (17, 18),
+    (18, 0),
+    (24, 0x0100_0000),
+    (25, 240),
+    (26, DATA),
+    (27, 255),
+    (31, 0),
+];
+
 #[test]
 fn an_entered_sandbox_has_fresh_registers(rt: HostRuntime) -> Result<(), Fail> {
     let alloc = rt.alloc();
@@ -124,22 +161,9 @@ fn an_entered_sandbox_has_fresh_registers(rt: HostRuntime) -> Result<(), Fail> {
     turned(&mut world, alloc)?;
     assert!(rt; world.enter(0, 0x0100_0010, &[11, 12, 13, 14, 15, 16, 17, 18]));
     let cpu = world.cpu(0).expect(&rt, "a sandbox");
-    let rows = [
-        (Reg::numbered(0), 0),
-        (Reg::numbered(1), 0),
-        (Reg::numbered(2), DATA + 240),
-        (Reg::numbered(9), 0),
-        (Reg::numbered(10), 11),
-        (Reg::numbered(17), 18),
-        (Reg::numbered(18), 0),
-        (Reg::numbered(24), 0x0100_0000),
-        (Reg::numbered(25), 240),
-        (Reg::numbered(26), DATA),
-        (Reg::numbered(27), 255),
-        (Reg::numbered(31), 0),
-    ];
-    for (register, value) in rows {
-        assert_eq!(rt; cpu.reg(register), value);
+    for (number, value) in REGISTERS {
+        let register = Reg::new(*number).expect(&rt, "a register");
+        assert_eq!(rt; cpu.reg(register), *value, "x{number}");
     }
     Ok(())
 }

@@ -71,28 +71,35 @@ fn writes_an_image_of_the_second_format(rt: HostRuntime) -> Result<(), Fail> {
     Ok(())
 }
 
+// Each fault of a layout, with its number and name.
+const FAULTS: &[(LayoutFault, &str)] = &[
+    (LayoutFault::Magic, "1 Magic"),
+    (LayoutFault::Count, "2 Count"),
+    (LayoutFault::Short, "3 Short"),
+    (LayoutFault::Code, "4 Code"),
+    (LayoutFault::Data, "5 Data"),
+    (LayoutFault::GuardRoom, "6 GuardRoom"),
+    (LayoutFault::Start, "7 Start"),
+    (LayoutFault::Gates, "8 Gates"),
+    (LayoutFault::Init, "9 Init"),
+    (LayoutFault::Overlap, "10 Overlap"),
+    (LayoutFault::Trailing, "11 Trailing"),
+];
+
 #[test]
 fn says_faults(rt: HostRuntime) -> Result<(), Fail> {
-    let alloc = rt.alloc();
-    for (fault, text) in [
-        (LayoutFault::Magic, "1 Magic"),
-        (LayoutFault::Count, "2 Count"),
-        (LayoutFault::Short, "3 Short"),
-        (LayoutFault::Code, "4 Code"),
-        (LayoutFault::Data, "5 Data"),
-        (LayoutFault::GuardRoom, "6 GuardRoom"),
-        (LayoutFault::Start, "7 Start"),
-        (LayoutFault::Gates, "8 Gates"),
-        (LayoutFault::Init, "9 Init"),
-        (LayoutFault::Overlap, "10 Overlap"),
-        (LayoutFault::Trailing, "11 Trailing"),
-    ] {
-        let said = format!(in alloc; "{} {fault}", fault.number())?;
-        assert_eq!(rt; said.as_str(), text);
+    for (fault, text) in FAULTS {
+        let said = format!(in rt.alloc(); "{} {fault}", fault.number())?;
+        assert_eq!(rt; said.as_str(), *text);
     }
-    let whole = format!(in alloc; "{}", ImageFault::Layout(LayoutFault::Magic))?;
+    Ok(())
+}
+
+#[test]
+fn says_faults_of_a_layout(rt: HostRuntime) -> Result<(), Fail> {
+    let whole = format!(in rt.alloc(); "{}", ImageFault::Layout(LayoutFault::Magic))?;
     assert_eq!(rt; whole.as_str(), "layout fault 1 Magic");
-    let refused = format!(in alloc; "{}", Refusal::Layout(LayoutFault::Trailing))?;
+    let refused = format!(in rt.alloc(); "{}", Refusal::Layout(LayoutFault::Trailing))?;
     assert_eq!(rt; refused.as_str(), "layout fault 11 Trailing");
     Ok(())
 }

@@ -1,5 +1,5 @@
 //! Linking what is placed.
-use super::image::{CODE, FILL, end_in, image_bytes};
+use super::rows::image_of;
 use rv_text::parse_source;
 use sfi_link::link;
 use sfi_rewrite::rewrite;
@@ -9,7 +9,7 @@ use std::test::Fail;
 #[test]
 fn a_placed_source_is_linked(rt: HostRuntime) -> Result<(), Fail> {
     let alloc = rt.alloc();
-    let image = image_bytes(alloc, &[end_in(CODE + 4, FILL, 126)])?;
+    let image = image_of(alloc, "end 40 126 0290")?;
     let source = parse_source(alloc, ".sandbox 256\nebreak\n")?;
     let placed = rewrite(alloc, &source)?;
     let bytes = link(alloc, &placed)?;

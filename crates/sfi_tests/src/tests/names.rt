@@ -1,52 +1,62 @@
 //! The addresses of names.
+use super::programs::NAMES;
 use sfi_link::{Place, names_at};
 use sfi_rewrite::PlacedName;
+use std::alloc::Global;
+use std::process::Abort;
 use std::test::Fail;
 
-// Two sandboxes, each with its own names: a gate, a name of data that is seen before its place, and
-// labels of code.
-const SOURCE: &str = ".sandbox 256
-.gate exit 0
-        la   a0, text
-        lw   a0, 0(a0)
-end:    call exit
-.data
-        .word 7
-text:   .word 72
-.sandbox 256
-end:    ebreak
-";
+// The sandbox of a name, the name, and its address.
+struct Name(u32, &'static str, u32);
 
-// The place of the first sandbox. A gate's stub is one bundle, and the code begins after it: a bundle
-// with the `la`, one with the masks of the `lw` and itself, and the label's. The usual places are
-// those of docs/SOURCE.md.
-const ELSEWHERE: Place = Place {
+// Where they are at the usual places, which are those of docs/SOURCE.md. A gate's stub is one bundle,
+// and the code begins after it: a bundle with the `la`, one with the masks of the `lw` and itself,
+// and the label's.
+const USUAL: &[Name] = &[
+    Name(0, "exit", 0x0100_0000),
+    Name(0, "text", 0x0180_0004),
+    Name(0, "end", 0x0100_0030),
+    Name(1, "end", 0x0200_0000),
+];
+
+// The first sandbox lies elsewhere.
+const PLACES: &[Place] = &[Place {
     code_base: 0x2050_0000,
     data_base: 0x8000_0000,
-};
+}];
+
+const ELSEWHERE: &[Name] = &[
+    Name(0, "exit", 0x2050_0000),
+    Name(0, "text", 0x8000_0004),
+    Name(0, "end", 0x2050_0030),
+    Name(1, "end", 0x0200_0000),
+];
+
+fn try_names(rt: &impl Abort, alloc: Global, places: &[Place], names: &[Name]) -> Result<(), Fail> {
+    let found = names_at(alloc, NAMES, places)?;
+    assert_eq!(rt; found.len(), names.len());
+    for (entry, name) in found.iter().zip(names) {
+        assert_eq!(rt; entry.sandbox(), name.0, "{}", name.1);
+        assert_eq!(rt; entry.name(), name.1);
+        assert!(rt; entry.address() == Some(name.2), "{}", name.1);
+    }
+    Ok(())
+}
 
 #[test]
 fn names_have_their_addresses(rt: HostRuntime) -> Result<(), Fail> {
-    let alloc = rt.alloc();
-    let rows = [
-        (0, "exit", 0x0100_0000, 0x2050_0000),
-        (0, "text", 0x0180_0004, 0x8000_0004),
-        (0, "end", 0x0100_0030, 0x2050_0030),
-        (1, "end", 0x0200_0000, 0x0200_0000),
-    ];
-    let usual = names_at(alloc, SOURCE, &[])?;
-    let elsewhere = names_at(alloc, SOURCE, &[ELSEWHERE])?;
-    assert_eq!(rt; usual.len(), rows.len());
-    assert_eq!(rt; elsewhere.len(), rows.len());
-    for (k, (sandbox, name, usually, there)) in rows.into_iter().enumerate() {
-        for (entry, address) in [(&usual[k], usually), (&elsewhere[k], there)] {
-            assert_eq!(rt; entry.sandbox(), sandbox, "{name}");
-            assert_eq!(rt; entry.name(), name);
-            assert!(rt; entry.address() == Some(address), "{name}");
-        }
-    }
-    assert!(rt; matches!(usual[0].named(), PlacedName::Gate(0)));
-    assert!(rt; matches!(usual[1].named(), PlacedName::Data(4)));
-    assert!(rt; matches!(usual[2].named(), PlacedName::Code(32)));
+    try_names(&rt, rt.alloc(), &[], USUAL)?;
+    try_names(&rt, rt.alloc(), PLACES, ELSEWHERE)
+}
+
+#[test]
+fn names_have_their_kinds(rt: HostRuntime) -> Result<(), Fail> {
+    let found = names_at(rt.alloc(), NAMES, &[])?;
+    let [gate, data, code, ..] = found.as_slice() else {
+        return Err(Fail::new("three names"));
+    };
+    assert!(rt; matches!(gate.named(), PlacedName::Gate(0)));
+    assert!(rt; matches!(data.named(), PlacedName::Data(4)));
+    assert!(rt; matches!(code.named(), PlacedName::Code(32)));
     Ok(())
 }

@@ -1,30 +1,53 @@
 //! Tests as rows of text: an input, the commands that read it, and what each of them prints.
 //!
-//! A row begins with a line `= NAME`. Each line after it has a word and what belongs to that:
+//! A row begins with a line `= NAME`. Each line after it has a word and what belongs to that. The input is the smallest
+//! image, and after the word `source` it is empty. These add to it:
+//!
+//! - `| LINE`: a line; `times N LINE`: N such lines; `+ N TEXT`: N times the text, with no line feed;
+//! - `text NAME`: the text of that name (rows/texts.rt); `texts N NAME`: N times that text;
+//! - `bytes DIGITS`: the bytes that the digits spell.
+//!
+//! These change the digits of the image that stands there, one after another:
 //!
 //! - `put AT DIGITS`: the digits stand in place of as many of the image's, from byte AT on;
 //! - `insert AT DIGITS`: they stand before that byte;
-//! - `end AT TIMES DIGITS`: so many times, they stand in place of all from that byte on;
-//! - `cut AT`: nothing stands there;
-//! - `source`: the input is a text in place of an image; `| LINE` is a line of it, and `times N LINE`
-//!   as many lines;
-//! - `$ COMMAND`: the command reads the input, as bytes if it is `--raw`; in `$ sfi build | COMMAND`
-//!   the second command reads what the first prints;
-//! - `> LINE`: each command prints this line; `>.. TEXT`: what it prints begins so;
-//! - `status N`: each ends in this status, and not in 0.
+//! - `end AT N DIGITS`: N times, they stand in place of all from that byte on;
+//! - `cut AT`: nothing stands there.
 //!
-//! The image is the smallest one before the edits, which are made one after another.
+//! The commands that read it, each of which ends in status 0 unless a line `status N` says another:
+//!
+//! - `$ COMMAND`: the command, which reads the bytes that the input's digits spell if it is `--raw`. In
+//!   `$ COMMAND | COMMAND` the second reads what the first prints, if that ends in status 0;
+//! - `input N DIGITS`: N times the digits are the `--input` of each, or of its second command.
+//!
+//! Each of them prints what these add:
+//!
+//! - `> LINE`: a line; `>+ N TEXT`: N times the text, with no line feed; `>text NAME`: the text of that name;
+//! - `..`: any text, of several lines or none; `>.. TEXT`: the text, and any after it;
+//! - `as COMMAND`: what that command prints of the input so far.
+//!
+//! `# NOTE` is a note. A line with another word, or with no number where one belongs, fails the test.
+mod examples;
 mod formats;
+mod help;
 mod images;
 mod lengths;
 mod limits;
+mod lines;
+mod listings;
+mod needs;
+mod places;
+mod refused;
 mod reports;
 mod runs;
+mod sources;
+mod texts;
 mod words;
 
-use super::image::{Edit, edited, end_in, image, insert, put};
-use super::{Outcome, built_and_run, run};
-use std::alloc::{AllocError, Global};
+use super::image::{edited, smallest};
+use super::{Outcome, run};
+use lines::{ANY, Line, line_of, push_part};
+use std::alloc::Global;
 use std::process::Abort;
 use std::str::from_utf8;
 use std::test::Fail;
@@ -33,110 +56,144 @@ use std::test::Fail;
 #[derive(Drop)]
 struct Row {
     input: Vec<u8>,
+    digits: Vec<u8>,
     said: Vec<u8>,
-    is_whole: bool,
     status: u8,
 }
 
-fn place(digits: &str) -> usize {
-    digits.parse().unwrap_or(0)
+fn push_bytes(alloc: Global, text: &mut Vec<u8>, digits: &str) -> Result<(), Fail> {
+    let bytes = hex::decode(alloc, digits.as_bytes())?;
+    Ok(text.extend_from_slice(bytes.as_slice())?)
 }
 
-fn edit_of<'a>(word: &str, rest: &'a str) -> Option<Edit<'a>> {
-    let (at, digits) = rest.split_once(' ').unwrap_or((rest, ""));
-    match word {
-        "put" => Some(put(place(at), digits)),
-        "insert" => Some(insert(place(at), digits)),
-        "cut" => Some(end_in(place(at), "", 0)),
-        "end" => {
-            let (times, digits) = digits.split_once(' ')?;
-            Some(end_in(place(at), digits, place(times)))
-        }
-        _ => None,
-    }
-}
-
-fn push_line(text: &mut Vec<u8>, line: &str) -> Result<(), AllocError> {
-    text.extend_from_slice(line.as_bytes())?;
-    Ok(text.push(b'\n')?)
-}
-
-// So many lines, by a number and the line.
-fn push_lines(text: &mut Vec<u8>, rest: &str) -> Result<(), AllocError> {
-    let (times, line) = rest.split_once(' ').unwrap_or((rest, ""));
-    for _ in 0..place(times) {
-        push_line(text, line)?;
-    }
-    Ok(())
-}
-
-// What is printed begins so.
-fn push_front(row: &mut Row, front: &str) -> Result<(), AllocError> {
-    row.is_whole = false;
-    row.said.extend_from_slice(front.as_bytes())
+fn push_printed(alloc: Global, row: &mut Row, command: &str) -> Result<(), Fail> {
+    let Outcome { status: _, text } = answer(alloc, row, command)?;
+    Ok(row.said.extend_from_slice(text.as_slice())?)
 }
 
 // The row with what a line of it says.
-fn read_line(alloc: Global, row: &mut Row, line: &str) -> Result<(), AllocError> {
-    let (word, rest) = line.split_once(' ').unwrap_or((line, ""));
-    match word {
-        "source" => row.input.clear(),
-        "|" => push_line(&mut row.input, rest)?,
-        "times" => push_lines(&mut row.input, rest)?,
-        ">.." => push_front(row, rest)?,
-        ">" => push_line(&mut row.said, rest)?,
-        "status" => row.status = rest.parse().unwrap_or(0),
-        _ => {
-            if let Some(edit) = edit_of(word, rest) {
-                row.input = edited(alloc, row.input.as_slice(), &edit)?;
-            }
-        }
+fn add_line(alloc: Global, row: &mut Row, line: Line<'_>) -> Result<(), Fail> {
+    match line {
+        Line::Note | Line::Command => {}
+        Line::Change(edit) => row.input = edited(alloc, row.input.as_slice(), &edit)?,
+        Line::Source => row.input.clear(),
+        Line::Input(part) => push_part(&mut row.input, part)?,
+        Line::Bytes(digits) => push_bytes(alloc, &mut row.input, digits)?,
+        Line::Digits(part) => push_part(&mut row.digits, part)?,
+        Line::Said(part) => push_part(&mut row.said, part)?,
+        Line::SaidBy(command) => push_printed(alloc, row, command)?,
+        Line::Status(status) => row.status = status,
     }
     Ok(())
 }
 
-fn read_row(alloc: Global, text: &str) -> Result<Row, AllocError> {
+fn read_row(alloc: Global, name: &str, lines: &str) -> Result<Row, Fail> {
     let mut row = Row {
-        input: image(alloc, &[])?,
+        input: smallest(alloc)?,
+        digits: Vec::new(alloc),
         said: Vec::new(alloc),
-        is_whole: true,
         status: 0,
     };
-    for line in text.lines() {
-        read_line(alloc, &mut row, line)?;
+    for text in lines.lines() {
+        let Some(line) = line_of(text) else {
+            return Err(Fail::new(format_args!("{name}: no line of a row: {text}")));
+        };
+        add_line(alloc, &mut row, line)?;
     }
     Ok(row)
 }
 
-// What the command prints of the row's input.
+/// The bytes of the image that these lines of a row make of the smallest one.
+pub(super) fn image_of(alloc: Global, lines: &str) -> Result<Vec<u8>, Fail> {
+    let row = read_row(alloc, "an image", lines)?;
+    Ok(hex::decode(alloc, row.input.as_slice())?)
+}
+
+// What the command prints of the input, as bytes if it is `--raw`.
+fn printed(alloc: Global, command: &str, input: &[u8]) -> Result<Outcome, Fail> {
+    if !command.contains("--raw") {
+        return Ok(run(alloc, command, input)?);
+    }
+    let bytes = hex::decode(alloc, input.trim_ascii())?;
+    Ok(run(alloc, command, bytes.as_slice())?)
+}
+
+// What the first command prints where it fails, and else what the second prints of that.
+fn piped(alloc: Global, first: &str, second: &str, input: &[u8]) -> Result<Outcome, Fail> {
+    let Outcome { status, text } = printed(alloc, first, input)?;
+    match status {
+        0 => printed(alloc, second, text.as_slice()),
+        _ => Ok(Outcome { status, text }),
+    }
+}
+
+// The command with the row's digits as its `--input`.
+fn with_digits(alloc: Global, row: &Row, command: &str) -> Result<String, Fail> {
+    match from_utf8(row.digits.as_slice())? {
+        "" => Ok(String::from_str(alloc, command)?),
+        digits => Ok(format!(in alloc; "{command} --input {digits}")?),
+    }
+}
+
+// What the command, or two of them, print of the row's input.
 fn answer(alloc: Global, row: &Row, command: &str) -> Result<Outcome, Fail> {
-    if let Some((_, second)) = command.split_once(" | ") {
-        let source = from_utf8(row.input.as_slice())?;
-        return Ok(built_and_run(alloc, source, second)?);
+    let command = with_digits(alloc, row, command)?;
+    match command.as_str().split_once(" | ") {
+        Some((first, second)) => piped(alloc, first, second, row.input.as_slice()),
+        None => printed(alloc, command.as_str(), row.input.as_slice()),
     }
-    if command.contains("--raw") {
-        let bytes = hex::decode(alloc, row.input.as_slice())?;
-        return Ok(run(alloc, command, bytes.as_slice())?);
+}
+
+// Whether the text has these parts one after another, with any text beside them.
+fn has_parts(text: &str, parts: &str) -> bool {
+    let mut rest = text;
+    for part in parts.split(ANY) {
+        match rest.split_once(part) {
+            Some((_, after)) => rest = after,
+            None => return false,
+        }
     }
-    Ok(run(alloc, command, row.input.as_slice())?)
+    true
+}
+
+// Whether the text is this one, with any text in place of each `ANY`.
+fn is_said(text: &str, said: &str) -> bool {
+    let Some((front, rest)) = said.split_once(ANY) else {
+        return text == said;
+    };
+    let (parts, end) = rest.rsplit_once(ANY).unwrap_or(("", rest));
+    match text.strip_prefix(front) {
+        Some(text) => match text.strip_suffix(end) {
+            Some(text) => has_parts(text, parts),
+            None => false,
+        },
+        None => false,
+    }
+}
+
+// Tries a command of the row.
+fn try_command(
+    rt: &impl Abort,
+    alloc: Global,
+    row: &Row,
+    name: &str,
+    command: &str,
+) -> Result<(), Fail> {
+    let said = from_utf8(row.said.as_slice())?;
+    let Outcome { status, text } = answer(alloc, row, command)?;
+    let text = from_utf8(text.as_slice())?;
+    assert!(rt; is_said(text, said), "{name}: {command} prints\n{text}");
+    assert_eq!(rt; status, row.status, "{name}: {command}");
+    Ok(())
 }
 
 // Tries each command of the row.
 fn try_row(rt: &impl Abort, alloc: Global, text: &str) -> Result<(), Fail> {
-    let row = read_row(alloc, text)?;
-    let name = text.lines().next().unwrap_or("");
-    for line in text.lines() {
+    let (name, lines) = text.split_once('\n').unwrap_or((text, ""));
+    let row = read_row(alloc, name, lines)?;
+    for line in lines.lines() {
         if let Some(command) = line.strip_prefix("$ ") {
-            let Outcome { status, text } = answer(alloc, &row, command)?;
-            if row.is_whole {
-                assert_eq!(rt; text.as_slice(), row.said.as_slice(), "{name}: {command}");
-            } else {
-                assert!(rt;
-                    text.as_slice().starts_with(row.said.as_slice()),
-                    "{name}: {command}"
-                );
-            }
-            assert_eq!(rt; status, row.status, "{name}: {command}");
+            try_command(rt, alloc, &row, name, command)?;
         }
     }
     Ok(())
@@ -144,37 +201,73 @@ fn try_row(rt: &impl Abort, alloc: Global, text: &str) -> Result<(), Fail> {
 
 // Tries each row of the table, which has so many commands.
 fn try_rows(rt: &impl Abort, alloc: Global, table: &str, count: usize) -> Result<(), Fail> {
-    assert_eq!(rt; table.matches("\n$ ").count(), count);
+    assert!(rt; table.starts_with("\n= "), "{table}");
+    assert_eq!(rt; table.matches("\n$ ").count(), count, "{table}");
     for text in table.split("\n= ").skip(1) {
         try_row(rt, alloc, text)?;
     }
     Ok(())
 }
 
+// One table of all of them would be too large a constant for the prover.
+
 #[test]
-fn rows(rt: HostRuntime) -> Result<(), Fail> {
-    for (table, commands) in TABLES {
-        try_rows(&rt, rt.alloc(), table, *commands)?;
-    }
-    Ok(())
+fn image_rows(rt: HostRuntime) -> Result<(), Fail> {
+    try_rows(&rt, rt.alloc(), images::LAYOUTS, 38)?;
+    try_rows(&rt, rt.alloc(), images::RULES, 46)?;
+    try_rows(&rt, rt.alloc(), images::STACKS, 22)?;
+    try_rows(&rt, rt.alloc(), images::DIGITS, 6)
 }
 
-// The tables, and how many commands each of them has.
-const TABLES: &[(&str, usize)] = &[
-    (images::LAYOUTS, 38),
-    (images::RULES, 46),
-    (images::STACKS, 22),
-    (formats::VERDICTS, 68),
-    (formats::TEXTS, 8),
-    (reports::REPORTS, 12),
-    (reports::CONVERSIONS, 7),
-    (runs::RUNS, 14),
-    (runs::STATES, 5),
-    (runs::NEIGHBOURS, 11),
-    (runs::MAPS, 5),
-    (words::USAGE, 50),
-    (words::PLACES, 9),
-];
+#[test]
+fn format_rows(rt: HostRuntime) -> Result<(), Fail> {
+    try_rows(&rt, rt.alloc(), formats::VERDICTS, 68)?;
+    try_rows(&rt, rt.alloc(), formats::TEXTS, 11)
+}
+
+#[test]
+fn needed_rows(rt: HostRuntime) -> Result<(), Fail> {
+    try_rows(&rt, rt.alloc(), needs::UNSAFE, 11)?;
+    try_rows(&rt, rt.alloc(), needs::SAFE, 10)
+}
+
+#[test]
+fn word_rows(rt: HostRuntime) -> Result<(), Fail> {
+    try_rows(&rt, rt.alloc(), words::USAGE, 51)?;
+    try_rows(&rt, rt.alloc(), places::ALLOWED, 8)?;
+    try_rows(&rt, rt.alloc(), places::REFUSED, 10)
+}
+
+#[test]
+fn help_rows(rt: HostRuntime) -> Result<(), Fail> {
+    try_rows(&rt, rt.alloc(), help::TEXTS, 4)?;
+    try_rows(&rt, rt.alloc(), help::HELP, 21)
+}
+
+#[test]
+fn text_rows(rt: HostRuntime) -> Result<(), Fail> {
+    try_rows(&rt, rt.alloc(), examples::BUILDS, 7)?;
+    try_rows(&rt, rt.alloc(), examples::TOUR, 10)?;
+    try_rows(&rt, rt.alloc(), refused::TEXTS, 24)?;
+    try_rows(&rt, rt.alloc(), refused::DIRECTIVES, 13)
+}
+
+#[test]
+fn report_rows(rt: HostRuntime) -> Result<(), Fail> {
+    try_rows(&rt, rt.alloc(), reports::REPORTS, 13)?;
+    try_rows(&rt, rt.alloc(), reports::CONVERSIONS, 13)?;
+    try_rows(&rt, rt.alloc(), listings::LISTINGS, 7)
+}
+
+#[test]
+fn run_rows(rt: HostRuntime) -> Result<(), Fail> {
+    try_rows(&rt, rt.alloc(), runs::RUNS, 14)?;
+    try_rows(&rt, rt.alloc(), runs::STATES, 5)?;
+    try_rows(&rt, rt.alloc(), runs::NEIGHBOURS, 11)?;
+    try_rows(&rt, rt.alloc(), runs::MAPS, 5)
+}
+
+// Those that take long stand alone, since a test has a minute.
 
 #[test]
 fn image_limits(rt: HostRuntime) -> Result<(), Fail> {
@@ -183,7 +276,7 @@ fn image_limits(rt: HostRuntime) -> Result<(), Fail> {
 
 #[test]
 fn text_limits(rt: HostRuntime) -> Result<(), Fail> {
-    try_rows(&rt, rt.alloc(), lengths::TEXTS, 15)
+    try_rows(&rt, rt.alloc(), lengths::TEXTS, 17)
 }
 
 #[test]
@@ -194,4 +287,19 @@ fn long_texts(rt: HostRuntime) -> Result<(), Fail> {
 #[test]
 fn too_long_texts(rt: HostRuntime) -> Result<(), Fail> {
     try_rows(&rt, rt.alloc(), lengths::TOO_LONG_TEXTS, 2)
+}
+
+#[test]
+fn bytes_at_a_time(rt: HostRuntime) -> Result<(), Fail> {
+    try_rows(&rt, rt.alloc(), lengths::BYTES, 6)
+}
+
+#[test]
+fn words_are_exchanged(rt: HostRuntime) -> Result<(), Fail> {
+    try_rows(&rt, rt.alloc(), examples::PRIMES, 4)
+}
+
+#[test]
+fn frames_in_both_formats(rt: HostRuntime) -> Result<(), Fail> {
+    try_rows(&rt, rt.alloc(), examples::FRAMES, 6)
 }

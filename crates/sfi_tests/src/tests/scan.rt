@@ -1,15 +1,15 @@
 //! The findings of a sandbox, as a list.
-use super::codes::MOVES_STACK;
-use super::image::{CODE, SFI2, end_in, image, put};
+use super::rows::image_of;
 use sfi_image::parse_image;
 use sfi_policy::Format;
 use sfi_scan::{Finding, Rule, scan_part, scan_part_as};
 use std::alloc::Global;
 use std::test::Fail;
 
-// The findings of an image's first sandbox, in the image's format.
-fn findings_of(alloc: Global, digits: &[u8]) -> Result<Vec<Finding>, Fail> {
-    let bytes = hex::decode(alloc, digits)?;
+// The findings of an image's first sandbox, in the image's format. The image is the smallest one
+// after the edits.
+fn findings_of(alloc: Global, edits: &str) -> Result<Vec<Finding>, Fail> {
+    let bytes = image_of(alloc, edits)?;
     let image = parse_image(alloc, bytes.as_slice())?;
     let [part, ..] = image.parts() else {
         return Err(Fail::new("a sandbox"));
@@ -23,8 +23,7 @@ fn findings_of(alloc: Global, digits: &[u8]) -> Result<Vec<Finding>, Fail> {
 
 #[test]
 fn zero_code_has_a_finding_in_each_bundle(rt: HostRuntime) -> Result<(), Fail> {
-    let text = image(rt.alloc(), &[end_in(CODE, "00", 256)])?;
-    let found = findings_of(rt.alloc(), text.as_slice())?;
+    let found = findings_of(rt.alloc(), "end 36 256 00")?;
     assert_eq!(rt; found.len(), 16);
     for (k, finding) in found.iter().enumerate() {
         let expected = Finding {
@@ -40,15 +39,13 @@ fn zero_code_has_a_finding_in_each_bundle(rt: HostRuntime) -> Result<(), Fail> {
 // `c.addi x2, -16` breaks a rule of the second format alone.
 #[test]
 fn a_part_is_scanned_by_its_format(rt: HostRuntime) -> Result<(), Fail> {
-    let text = image(rt.alloc(), &[put(CODE, MOVES_STACK)])?;
-    assert!(rt; findings_of(rt.alloc(), text.as_slice())?.is_empty());
-    let text = image(rt.alloc(), &[put(0, SFI2), put(CODE, MOVES_STACK)])?;
+    assert!(rt; findings_of(rt.alloc(), "put 36 41110290")?.is_empty());
     let expected = Finding {
         sandbox: 0,
         address: 0x0100_0000,
         rule: Rule::V10,
     };
-    let found = findings_of(rt.alloc(), text.as_slice())?;
+    let found = findings_of(rt.alloc(), "put 0 53464932\nput 36 41110290")?;
     assert!(rt; found.as_slice() == [expected].as_slice());
     Ok(())
 }

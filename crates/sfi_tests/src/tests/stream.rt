@@ -1,13 +1,13 @@
 //! Images as streams of bytes, and the command `check --raw`.
-use super::codes::{HALF_A_PAIR, MOVES_STACK};
-use super::image::{CODE, END, Edit, SFI2, SFI3, end_in, image_bytes, put, same};
 use super::pieces::Pieces;
-use super::{Outcome, lines, words_of};
+use super::rows::image_of;
+use super::{Outcome, words_of};
 use sfi_check::{StreamAnswer, check_stream};
 use sfi_image::{ByteSource, ReadFault, Reading};
 use sfi_scan::{Finding, Rule};
 use sfi_tool::run_tool;
 use std::alloc::{AllocError, Global};
+use std::process::Abort;
 use std::test::Fail;
 
 const ACCEPTED: StreamAnswer = StreamAnswer::Accepted {
@@ -15,115 +15,99 @@ const ACCEPTED: StreamAnswer = StreamAnswer::Accepted {
     bundles: 16,
 };
 
-// So many findings, the first of them at this address.
-fn refused(count: u32, rule: Rule, address: u32) -> StreamAnswer {
-    StreamAnswer::Findings {
-        count,
-        first: Finding {
-            sandbox: 0,
-            address,
-            rule,
+// The edits of the smallest image, and the verdict on its stream.
+struct Row(&'static str, StreamAnswer);
+
+const ROWS: &[Row] = &[
+    Row("", ACCEPTED),
+    Row("# the second format\nput 0 53464932", ACCEPTED),
+    Row("# with data\nput 32 00010000\nend 292 256 07", ACCEPTED),
+    Row("# x2 moves\nput 36 41110290", ACCEPTED),
+    Row(
+        "# x2 moves in the second format\nput 0 53464932\nput 36 41110290",
+        StreamAnswer::Findings {
+            count: 1,
+            first: Finding {
+                sandbox: 0,
+                address: 0x0100_0000,
+                rule: Rule::V10,
+            },
         },
-    }
-}
+    ),
+    Row(
+        "# zeros\nend 36 256 00",
+        StreamAnswer::Findings {
+            count: 16,
+            first: Finding {
+                sandbox: 0,
+                address: 0x0100_0000,
+                rule: Rule::V1,
+            },
+        },
+    ),
+    Row(
+        "# half a pair, and a store\nput 36 b37fb50123a0bf00",
+        StreamAnswer::Findings {
+            count: 1,
+            first: Finding {
+                sandbox: 0,
+                address: 0x0100_0004,
+                rule: Rule::V5,
+            },
+        },
+    ),
+    Row(
+        "# the same less the last byte\nput 36 b37fb50123a0bf00\ncut 291",
+        StreamAnswer::Layout(3),
+    ),
+    Row("# empty\ncut 0", StreamAnswer::Layout(3)),
+    Row("# no format\nput 0 53464933", StreamAnswer::Layout(1)),
+    Row("# less its last byte\ncut 291", StreamAnswer::Layout(3)),
+    Row("# one byte more\nend 292 1 00", StreamAnswer::Layout(11)),
+];
 
-// An image, and the verdict on its stream.
-#[derive(Clone, Copy, Debug)]
-struct Row<'a> {
-    name: &'a str,
-    edits: [Edit<'a>; 2],
-    answer: StreamAnswer,
-}
-
-fn row_of<'a>(name: &'a str, edits: [Edit<'a>; 2], answer: StreamAnswer) -> Row<'a> {
-    Row {
-        name,
-        edits,
-        answer,
-    }
-}
-
-fn rows() -> [Row<'static>; 12] {
-    let second_format = put(0, SFI2);
-    let first_data = put(32, "00010000");
-    let half_a_pair = put(CODE, HALF_A_PAIR);
-    let lowered = put(CODE, MOVES_STACK);
-    let less_a_byte = end_in(END - 1, "", 0);
-    let one_more = end_in(END, "00", 1);
-    [
-        row_of("smallest", [same(), same()], ACCEPTED),
-        row_of("second format", [second_format, same()], ACCEPTED),
-        row_of("with data", [first_data, end_in(END, "07", 256)], ACCEPTED),
-        row_of("x2 moves", [lowered, same()], ACCEPTED),
-        row_of(
-            "x2 moves in the second format",
-            [second_format, lowered],
-            refused(1, Rule::V10, 0x0100_0000),
-        ),
-        row_of(
-            "zeros",
-            [end_in(CODE, "00", 256), same()],
-            refused(16, Rule::V1, 0x0100_0000),
-        ),
-        row_of(
-            "half a pair",
-            [half_a_pair, same()],
-            refused(1, Rule::V5, 0x0100_0004),
-        ),
-        row_of(
-            "half a pair less the last byte",
-            [half_a_pair, less_a_byte],
-            StreamAnswer::Layout(3),
-        ),
-        row_of("empty", [end_in(0, "", 0), same()], StreamAnswer::Layout(3)),
-        row_of("no format", [put(0, SFI3), same()], StreamAnswer::Layout(1)),
-        row_of(
-            "less its last byte",
-            [less_a_byte, same()],
-            StreamAnswer::Layout(3),
-        ),
-        row_of(
-            "one byte more",
-            [one_more, same()],
-            StreamAnswer::Layout(11),
-        ),
-    ]
-}
-
-// A stream is judged alike however it is cut into pieces,
-// and no read is to fill more than 4096 bytes.
-#[test]
-fn pieces(rt: HostRuntime) -> Result<(), Fail> {
-    for step in [1usize, 7, 16, 4096] {
-        for row in rows() {
-            let name = row.name;
-            let bytes = image_bytes(rt.alloc(), &row.edits)?;
-            let mut reader = Pieces::new(bytes.as_slice(), step, 1000);
-            let mut source = Reading::new(&mut reader);
-            assert_eq!(rt; check_stream(&mut source), row.answer, "{name} by {step}");
-            assert!(rt; reader.longest() <= 4096, "{name} by {step}");
-        }
+// A stream is judged alike however it is cut into pieces, and no read is to fill more than 4096
+// bytes.
+fn try_pieces(rt: &impl Abort, alloc: Global, step: usize) -> Result<(), Fail> {
+    for Row(edits, answer) in ROWS {
+        let bytes = image_of(alloc, edits)?;
+        let mut reader = Pieces::new(bytes.as_slice(), step, 1000);
+        let mut source = Reading::new(&mut reader);
+        assert_eq!(rt; check_stream(&mut source), *answer, "{edits} by {step}");
+        assert!(rt; reader.longest() <= 4096, "{edits} by {step}");
     }
     Ok(())
+}
+
+#[test]
+fn pieces(rt: HostRuntime) -> Result<(), Fail> {
+    for step in [1, 7, 16, 4096] {
+        try_pieces(&rt, rt.alloc(), step)?;
+    }
+    Ok(())
+}
+
+// The smallest image is accepted by so many reads of so many bytes, and not by fewer.
+fn try_reads(rt: &impl Abort, bytes: &[u8], step: usize, enough: usize) {
+    for calls in 0..=enough {
+        let mut reader = Pieces::new(bytes, step, calls);
+        let mut source = Reading::new(&mut reader);
+        let answer = if calls < enough {
+            StreamAnswer::ReadFault
+        } else {
+            ACCEPTED
+        };
+        assert_eq!(rt; check_stream(&mut source), answer, "{calls} by {step}");
+    }
 }
 
 // The smallest image has 292 bytes, so 42 reads of 7 or 3 of 100 take it, and one more finds its
 // end. The second read of 100 fails after 100 bytes.
 #[test]
 fn failing_streams(rt: HostRuntime) -> Result<(), Fail> {
-    let bytes = image_bytes(rt.alloc(), &[])?;
-    for (step, enough) in [(7usize, 43usize), (100, 4)] {
-        for calls in 0..=enough {
-            let mut reader = Pieces::new(bytes.as_slice(), step, calls);
-            let mut source = Reading::new(&mut reader);
-            let answer = if calls < enough {
-                StreamAnswer::ReadFault
-            } else {
-                ACCEPTED
-            };
-            assert_eq!(rt; check_stream(&mut source), answer, "{calls} by {step}");
-        }
-    }
+    let bytes = image_of(rt.alloc(), "")?;
+    try_reads(&rt, bytes.as_slice(), 7, 43);
+    try_reads(&rt, bytes.as_slice(), 100, 4);
     Ok(())
 }
 
@@ -139,7 +123,7 @@ fn run_by_hundreds(alloc: Global, bytes: &[u8], calls: usize) -> Result<Outcome,
 #[test]
 fn failing_runs(rt: HostRuntime) -> Result<(), Fail> {
     let alloc = rt.alloc();
-    let bytes = image_bytes(alloc, &[])?;
+    let bytes = image_of(alloc, "")?;
     for calls in 0..4 {
         let Outcome { status, text } = run_by_hundreds(alloc, bytes.as_slice(), calls)?;
         assert_eq!(rt; status, 5, "{calls}");
@@ -147,7 +131,10 @@ fn failing_runs(rt: HostRuntime) -> Result<(), Fail> {
     }
     let Outcome { status, text } = run_by_hundreds(alloc, bytes.as_slice(), 4)?;
     assert_eq!(rt; status, 0);
-    assert_eq!(rt; text.as_slice(), lines::ACCEPTED.as_bytes());
+    assert_eq!(rt;
+        text.as_slice(),
+        b"accepted sandboxes=1 bundles=16\n".as_slice()
+    );
     Ok(())
 }
 

@@ -2,7 +2,6 @@
 ghost use Rattle.std.specs.Prelude.{◌≡◌};
 ghost use Rattle.std.specs.FinMap.{empty};
 
-use super::image::text_of;
 use super::programs::{HI_IMAGE, READS_IMAGE, YIELDS_IMAGE};
 use rv_mem::{Memory, Pages, Segments};
 use sfi_check::check;
@@ -11,9 +10,9 @@ use std::alloc::{AllocError, Global};
 use std::process::Abort;
 use std::test::Fail;
 
-// A program, its input, the turns of its one sandbox, and what becomes of that.
+// The image of a program, its input, the turns of its one sandbox, and what becomes of that.
 struct Case {
-    pieces: [(&'static str, usize); 3],
+    image: &'static str,
     input: &'static [u8],
     rounds: u32,
     quantum: u32,
@@ -22,9 +21,9 @@ struct Case {
     output: &'static [u8],
 }
 
-const CASES: [Case; 6] = [
+const CASES: &[Case] = &[
     Case {
-        pieces: HI_IMAGE,
+        image: HI_IMAGE,
         input: b"",
         rounds: 1,
         quantum: 1000,
@@ -33,7 +32,7 @@ const CASES: [Case; 6] = [
         output: b"Hi",
     },
     Case {
-        pieces: HI_IMAGE,
+        image: HI_IMAGE,
         input: b"",
         rounds: 1000,
         quantum: 1,
@@ -42,7 +41,7 @@ const CASES: [Case; 6] = [
         output: b"Hi",
     },
     Case {
-        pieces: YIELDS_IMAGE,
+        image: YIELDS_IMAGE,
         input: b"",
         rounds: 3,
         quantum: 1000,
@@ -51,7 +50,7 @@ const CASES: [Case; 6] = [
         output: b"",
     },
     Case {
-        pieces: YIELDS_IMAGE,
+        image: YIELDS_IMAGE,
         input: b"",
         rounds: 3,
         quantum: 8,
@@ -60,7 +59,7 @@ const CASES: [Case; 6] = [
         output: b"",
     },
     Case {
-        pieces: READS_IMAGE,
+        image: READS_IMAGE,
         input: b"abc",
         rounds: 1,
         quantum: 1000,
@@ -69,7 +68,7 @@ const CASES: [Case; 6] = [
         output: b"",
     },
     Case {
-        pieces: READS_IMAGE,
+        image: READS_IMAGE,
         input: b"",
         rounds: 1,
         quantum: 1000,
@@ -79,37 +78,43 @@ const CASES: [Case; 6] = [
     },
 ];
 
-// So many turns of the first sandbox.
-fn plan_of(alloc: Global, rounds: u32, quantum: u32) -> Result<Vec<Turn>, AllocError> {
+// The world of the case's image over that memory.
+fn world_of<M: Memory>(
+    rt: &impl Abort,
+    alloc: Global,
+    memory: M,
+    case: &Case,
+) -> Result<World<M>, AllocError>
+    requires { M.bytes memory ≡ empty }
+{
+    let image = hex::decode(alloc, case.image.as_bytes()).expect(rt, "an even number of digits");
+    let accepted = check(alloc, image.as_slice()).expect(rt, "accepted");
+    World::load(alloc, &accepted, memory)
+}
+
+// The case's turns of the first sandbox.
+fn plan_of(alloc: Global, case: &Case) -> Result<Vec<Turn>, AllocError> {
     let mut plan = Vec::new(alloc);
-    for _ in 0..rounds {
+    for _ in 0..case.rounds {
         plan.push(Turn {
             sandbox: 0,
-            steps: quantum,
+            steps: case.quantum,
         })?;
     }
     Ok(plan)
 }
 
-// Runs a case over that memory.
+// Runs a case in its world.
 fn run_case<M: Memory>(
     rt: &impl Abort,
     alloc: Global,
-    memory: M,
+    world: &mut World<M>,
     case: &Case,
-) -> Result<(), AllocError>
-    requires { M.bytes memory ≡ empty }
-{
-    let text = text_of(alloc, &case.pieces)?;
-    let image = hex::decode(alloc, text.as_slice()).expect(rt, "an even number of digits");
-    let accepted = check(alloc, image.as_slice()).expect(rt, "accepted");
-    let mut world = World::load(alloc, &accepted, memory)?;
+) -> Result<(), AllocError> {
+    let plan = plan_of(alloc, case)?;
     let mut console = Console::new(alloc, 1, case.input)?;
-    let plan = plan_of(alloc, case.rounds, case.quantum)?;
-    assert_eq!(rt;
-        world.run_plan(plan.as_slice(), &mut console),
-        RunAnswer::Done
-    );
+    let answer = world.run_plan(plan.as_slice(), &mut console);
+    assert_eq!(rt; answer, RunAnswer::Done);
     assert_eq!(rt; world.status(0), Some(case.status));
     assert_eq!(rt; world.steps(0), Some(case.steps));
     assert_eq!(rt; console.output(0), Some(case.output));
@@ -117,11 +122,21 @@ fn run_case<M: Memory>(
 }
 
 #[test]
-fn both_memories_run_alike(rt: HostRuntime) -> Result<(), Fail> {
+fn runs_over_segments(rt: HostRuntime) -> Result<(), Fail> {
     let alloc = rt.alloc();
-    for case in &CASES {
-        run_case(&rt, alloc, Segments::new(alloc), case)?;
-        run_case(&rt, alloc, Pages::new(alloc), case)?;
+    for case in CASES {
+        let mut world = world_of(&rt, alloc, Segments::new(alloc), case)?;
+        run_case(&rt, alloc, &mut world, case)?;
+    }
+    Ok(())
+}
+
+#[test]
+fn runs_alike_over_pages(rt: HostRuntime) -> Result<(), Fail> {
+    let alloc = rt.alloc();
+    for case in CASES {
+        let mut world = world_of(&rt, alloc, Pages::new(alloc), case)?;
+        run_case(&rt, alloc, &mut world, case)?;
     }
     Ok(())
 }

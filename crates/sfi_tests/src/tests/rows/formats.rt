@@ -309,39 +309,42 @@ status 2
 
 = a number kept on a stack, no format
 source
-| .sandbox 256
-| .gate quit 0
-| li a0, 5
-| addi sp, sp, -16
-| sw a0, 12(sp)
-| lw a0, 12(sp)
-| call quit
+text stacked
 $ sfi build | sfi run
 > sandbox=0 exit=5 steps=16 out=
 
 = a number kept on a stack, .format 1
 source
 | .format 1
-| .sandbox 256
-| .gate quit 0
-| li a0, 5
-| addi sp, sp, -16
-| sw a0, 12(sp)
-| lw a0, 12(sp)
-| call quit
+text stacked
 $ sfi build | sfi run
 > sandbox=0 exit=5 steps=16 out=
 
 = a number kept on a stack, .format 2
 source
 | .format 2
-| .sandbox 256
-| .gate quit 0
-| li a0, 5
-| addi sp, sp, -16
-| sw a0, 12(sp)
-| lw a0, 12(sp)
-| call quit
+text stacked
 $ sfi build | sfi run
 > sandbox=0 exit=5 steps=10 out=
+
+= lw sp, 0(a0), in the first format
+source
+| .sandbox 256
+| lw sp, 0(a0)
+$ sfi build
+..
+
+= jalr sp, 0(a0), in the first format
+source
+| .sandbox 256
+| jalr sp, 0(a0)
+$ sfi build
+..
+
+= x: jal sp, x, in the first format
+source
+| .sandbox 256
+| x: jal sp, x
+$ sfi build
+..
 ";

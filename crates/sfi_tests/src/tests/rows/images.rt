@@ -390,3 +390,55 @@ $ sfi check --raw
 > refused findings=1 first=V10 sandbox=0 at=01000008
 status 1
 ";
+
+/// Digits, and white space between them.
+pub(super) const DIGITS: &str = "
+= odd
+source
++ 1 53464
+$ sfi check
+> input fault hex odd
+status 2
+
+= odd before a wrong digit
+source
++ 1 5g3
+$ sfi check
+> input fault hex odd
+status 2
+
+= white space is dropped before digits are counted
+source
++ 1  5\t3
+bytes 0d0a
++ 1 4 z
+$ sfi check
+> input fault hex digit 3
+status 2
+
+= prefix
+source
++ 1 0x53
+$ sfi check
+> input fault hex digit 1
+status 2
+
+= form feed
+source
+bytes 0c
++ 1 5
+$ sfi check
+> input fault hex digit 0
+status 2
+
+= digits of either case after a line feed, and each white space between them
+source
+|
++ 1 5346493101000000000000010001000000008001
+bytes 20090d0a200d
++ 1 00010000000000010000000000000000
++ 1 B37FB501b3EFaf0123A0bF0073001000
++ 60 73001000
+$ sfi check
+> accepted sandboxes=1 bundles=16
+";

@@ -1,4 +1,4 @@
-//! Texts at the limits of what can be built, and one step beyond.
+//! Texts at the limits of what can be built and of what a call can ask for, and one step beyond.
 
 /// What can be built. A store takes 12 bytes, so that no bundle holds two.
 pub(super) const TEXTS: &str = "
@@ -22,6 +22,20 @@ times 255 sw a1, 0(a2)
 $ sfi build | sfi check
 > accepted sandboxes=1 bundles=512
 
+= a branch 4094 bytes ahead, as it is listed
+source
+| .sandbox 256
+| .option rvc
+| nop
+| beqz a0, over
+times 255 sw a1, 0(a2)
+| over:
+$ sfi build | sfi dis
+..
+>
+> 01000002 7e050fe3 beq x10, x0, 4094
+..
+
 = a branch that would go 4096 bytes ahead
 source
 | .sandbox 256
@@ -41,6 +55,19 @@ times 256 sw a1, 0(a2)
 | beqz a0, back
 $ sfi build | sfi check
 > accepted sandboxes=1 bundles=512
+
+= a branch 4096 bytes back, as it is listed
+source
+| .sandbox 256
+| back:
+times 256 sw a1, 0(a2)
+| nop
+| beqz a0, back
+$ sfi build | sfi dis
+..
+>
+> 01001000 80050063 beq x10, x0, -4096
+..
 
 = a branch that would go 4098 bytes back
 source
@@ -108,218 +135,26 @@ status 2
 
 = sixteen sandboxes
 source
-| .sandbox 256
-| ret
-| .sandbox 256
-| ret
-| .sandbox 256
-| ret
-| .sandbox 256
-| ret
-| .sandbox 256
-| ret
-| .sandbox 256
-| ret
-| .sandbox 256
-| ret
-| .sandbox 256
-| ret
-| .sandbox 256
-| ret
-| .sandbox 256
-| ret
-| .sandbox 256
-| ret
-| .sandbox 256
-| ret
-| .sandbox 256
-| ret
-| .sandbox 256
-| ret
-| .sandbox 256
-| ret
-| .sandbox 256
-| ret
+texts 16 sandbox
 $ sfi build | sfi check
 > accepted sandboxes=16 bundles=256
 
 = seventeen sandboxes
 source
-| .sandbox 256
-| ret
-| .sandbox 256
-| ret
-| .sandbox 256
-| ret
-| .sandbox 256
-| ret
-| .sandbox 256
-| ret
-| .sandbox 256
-| ret
-| .sandbox 256
-| ret
-| .sandbox 256
-| ret
-| .sandbox 256
-| ret
-| .sandbox 256
-| ret
-| .sandbox 256
-| ret
-| .sandbox 256
-| ret
-| .sandbox 256
-| ret
-| .sandbox 256
-| ret
-| .sandbox 256
-| ret
-| .sandbox 256
-| ret
-| .sandbox 256
-| ret
+texts 17 sandbox
 $ sfi build | sfi check
 > link fault 4 TooManySandboxes
 status 2
 
 = sixty-four gates
 source
-| .sandbox 256
-| .gate g0 0
-| .gate g1 0
-| .gate g2 0
-| .gate g3 0
-| .gate g4 0
-| .gate g5 0
-| .gate g6 0
-| .gate g7 0
-| .gate g8 0
-| .gate g9 0
-| .gate g10 0
-| .gate g11 0
-| .gate g12 0
-| .gate g13 0
-| .gate g14 0
-| .gate g15 0
-| .gate g16 0
-| .gate g17 0
-| .gate g18 0
-| .gate g19 0
-| .gate g20 0
-| .gate g21 0
-| .gate g22 0
-| .gate g23 0
-| .gate g24 0
-| .gate g25 0
-| .gate g26 0
-| .gate g27 0
-| .gate g28 0
-| .gate g29 0
-| .gate g30 0
-| .gate g31 0
-| .gate g32 0
-| .gate g33 0
-| .gate g34 0
-| .gate g35 0
-| .gate g36 0
-| .gate g37 0
-| .gate g38 0
-| .gate g39 0
-| .gate g40 0
-| .gate g41 0
-| .gate g42 0
-| .gate g43 0
-| .gate g44 0
-| .gate g45 0
-| .gate g46 0
-| .gate g47 0
-| .gate g48 0
-| .gate g49 0
-| .gate g50 0
-| .gate g51 0
-| .gate g52 0
-| .gate g53 0
-| .gate g54 0
-| .gate g55 0
-| .gate g56 0
-| .gate g57 0
-| .gate g58 0
-| .gate g59 0
-| .gate g60 0
-| .gate g61 0
-| .gate g62 0
-| .gate g63 0
+text 64 gates
 $ sfi build | sfi check
 > accepted sandboxes=1 bundles=128
 
 = sixty-five gates
 source
-| .sandbox 256
-| .gate g0 0
-| .gate g1 0
-| .gate g2 0
-| .gate g3 0
-| .gate g4 0
-| .gate g5 0
-| .gate g6 0
-| .gate g7 0
-| .gate g8 0
-| .gate g9 0
-| .gate g10 0
-| .gate g11 0
-| .gate g12 0
-| .gate g13 0
-| .gate g14 0
-| .gate g15 0
-| .gate g16 0
-| .gate g17 0
-| .gate g18 0
-| .gate g19 0
-| .gate g20 0
-| .gate g21 0
-| .gate g22 0
-| .gate g23 0
-| .gate g24 0
-| .gate g25 0
-| .gate g26 0
-| .gate g27 0
-| .gate g28 0
-| .gate g29 0
-| .gate g30 0
-| .gate g31 0
-| .gate g32 0
-| .gate g33 0
-| .gate g34 0
-| .gate g35 0
-| .gate g36 0
-| .gate g37 0
-| .gate g38 0
-| .gate g39 0
-| .gate g40 0
-| .gate g41 0
-| .gate g42 0
-| .gate g43 0
-| .gate g44 0
-| .gate g45 0
-| .gate g46 0
-| .gate g47 0
-| .gate g48 0
-| .gate g49 0
-| .gate g50 0
-| .gate g51 0
-| .gate g52 0
-| .gate g53 0
-| .gate g54 0
-| .gate g55 0
-| .gate g56 0
-| .gate g57 0
-| .gate g58 0
-| .gate g59 0
-| .gate g60 0
-| .gate g61 0
-| .gate g62 0
-| .gate g63 0
+text 64 gates
 | .gate h 0
 $ sfi build | sfi check
 > source fault 7 Limit line 66
@@ -366,4 +201,111 @@ times 65536 sw a1, 0(a2)
 $ sfi build | sfi check
 > link fault 3 TooLarge sandbox 0
 status 2
+";
+
+/// Puts and gets at their limits, and one byte beyond. Each exits with the answer.
+pub(super) const BYTES: &str = "
+= as many bytes as can be put at a time
+source
+| .sandbox 131072
+| .gate ask 1
+| .gate quit 0
+| la a0, bytes
+| li a1, 65536
+| call ask
+| call quit
+| .data
+| bytes:
+$ sfi build | sfi run
+>+ 1 sandbox=0 exit=65536 steps=16 out=
+>+ 65536 00
+>
+
+= a byte more
+source
+| .sandbox 131072
+| .gate ask 1
+| .gate quit 0
+| la a0, bytes
+| li a1, 65537
+| call ask
+| call quit
+| .data
+| bytes:
+$ sfi build | sfi run
+> sandbox=0 exit=4294967295 steps=23 out=
+
+= as many bytes as can be got at a time
+source
+| .sandbox 131072
+| .gate ask 2
+| .gate quit 0
+| la a0, bytes
+| li a1, 65536
+| call ask
+| call quit
+| .data
+| bytes:
+input 65537 07
+$ sfi build | sfi run
+> sandbox=0 exit=65536 steps=16 out=
+
+= a byte more than can be got
+source
+| .sandbox 131072
+| .gate ask 2
+| .gate quit 0
+| la a0, bytes
+| li a1, 65537
+| call ask
+| call quit
+| .data
+| bytes:
+input 65537 07
+$ sfi build | sfi run
+> sandbox=0 exit=4294967295 steps=23 out=
+
+= as many bytes as an output holds, and none more
+source
+| .sandbox 65536
+| .gate put 1
+| .gate quit 0
+|         li   s0, 16
+| again:  la   a0, bytes
+|         li   a1, 65536
+|         call put
+|         addi s0, s0, -1
+|         bnez s0, again
+|         la   a0, bytes
+|         li   a1, 0
+|         call put
+|         call quit
+| .data
+| bytes:
+$ sfi build | sfi run
+>+ 1 sandbox=0 exit=0 steps=187 out=
+>+ 1048576 00
+>
+
+= as many bytes as an output holds, and one more
+source
+| .sandbox 65536
+| .gate put 1
+| .gate quit 0
+|         li   s0, 16
+| again:  la   a0, bytes
+|         li   a1, 65536
+|         call put
+|         addi s0, s0, -1
+|         bnez s0, again
+|         la   a0, bytes
+|         li   a1, 1
+|         call put
+|         call quit
+| .data
+| bytes:
+$ sfi build | sfi run
+>+ 1 sandbox=0 exit=4294967295 steps=187 out=
+>+ 1048576 00
+>
 ";

@@ -90,9 +90,17 @@ $ sfi check --report
 > 1 02000004 V4 reserved jal x27, 16
 > refused findings=3 first=V1 sandbox=0 at=01000010
 status 1
+
+= masks the stack pointer in the second format
+put 0 53464932
+put 36 3371b501
+$ sfi check --report
+> 0 01000000 V10 stack and x2, x10, x27
+> refused findings=1 first=V10 sandbox=0 at=01000000
+status 1
 ";
 
-/// What is not converted.
+/// What is converted, and what isn't.
 pub(super) const CONVERSIONS: &str = "
 = convert: x2 moves
 put 36 41110290
@@ -135,5 +143,42 @@ status 2
 cut 3
 $ sfi convert
 > layout fault 3 Short
+status 2
+
+= convert: the magic changes alone
+$ sfi convert
+>+ 1 534649320100000000000001000100000000800100010000000000010000000000000000
+>+ 64 73001000
+>
+
+= convert: the new image is accepted
+$ sfi convert | sfi check
+> accepted sandboxes=1 bundles=16
+
+= convert: two letters
+source
+text image of hi
+$ sfi convert
+>+ 1 534649320100000000000001000100000000800100010000200000010200000002000000
+>+ 1 00000001010000001000000100000000
+>+ 1 73000000b3ff9001b3ef8f0167800f0073000000b3ff9001b3ef8f0167800f00
+>+ 1 370580011305050093052000eff05ffd37058001130505000100010001000100
+>+ 1 b37fb501b3efaf0103c51f00eff05ffc
+>+ 88 0290
+>+ 1 4869
+>
+
+= convert: what is converted runs alike
+source
+text image of hi
+$ sfi run
+$ sfi convert | sfi run
+> sandbox=0 exit=105 steps=19 out=4869
+
+= convert: an odd digit
+source
++ 1 5
+$ sfi convert
+> input fault hex odd
 status 2
 ";

@@ -3,128 +3,70 @@
 /// One sandbox.
 pub(super) const RUNS: &str = "
 = the smallest image
-cut 0
-end 1000000000 1 534649310100000000000001000100000000800100010000000000010000000000000000
-end 1000000000 64 73001000
 $ sfi run
 > sandbox=0 trap=Break at=01000000 steps=0 out=
 
 = a load past the data
-cut 0
-end 1000000000 1 534649310100000000000001000100000000800100010000000000010000000000000000
-end 1000000000 1 b37fb501b3efaf0103a5df0f73001000
-end 1000000000 60 73001000
+put 36 b37fb501b3efaf0103a5df0f73001000
 $ sfi run
 > sandbox=0 trap=Load at=018000fd steps=2 out=
 
 = a store below the data
-cut 0
-end 1000000000 1 534649310100000000000001000100000000800100010000000000010000000000000000
-end 1000000000 1 b37fb501b3efaf01a38faffe73001000
-end 1000000000 60 73001000
+put 36 b37fb501b3efaf01a38faffe73001000
 $ sfi run
 > sandbox=0 trap=Store at=017fffff steps=2 out=
 
 = a store after half a pair
-cut 0
-end 1000000000 1 534649310100000000000001000100000000800100010000000000010000000000000000
-end 1000000000 1 b37fb50123a0bf00
-end 1000000000 62 73001000
+put 36 b37fb50123a0bf00
 $ sfi run
 > refused findings=1 first=V5 sandbox=0 at=01000004
 status 1
 
 = an image cut short
-cut 0
-end 1000000000 1 534649310100000000000001000100000000800100010000000000010000000000000000
-end 1000000000 63 73001000
+end 36 63 73001000
 $ sfi run
 > layout fault 3 Short
 status 2
 
 = an odd digit
-cut 0
-end 1000000000 1 534649310100000000000001000100000000800100010000000000010000000000000000
-end 1000000000 1 7
+end 36 1 7
 $ sfi run
 > input fault hex odd
 status 2
 
 = two letters: run
 source
-| .sandbox 256
-| .gate put 1
-| .gate quit 0
-| la a0, msg
-| li a1, 2
-| call put
-| la a0, msg
-| lbu a0, 1(a0)
-| call quit
-| .data
-| msg: .byte 72, 105
+text hi
 $ sfi build | sfi run
 > sandbox=0 exit=105 steps=19 out=4869
 
 = two letters: run --rounds 1000 --quantum 1
 source
-| .sandbox 256
-| .gate put 1
-| .gate quit 0
-| la a0, msg
-| li a1, 2
-| call put
-| la a0, msg
-| lbu a0, 1(a0)
-| call quit
-| .data
-| msg: .byte 72, 105
+text hi
 $ sfi build | sfi run --rounds 1000 --quantum 1
 > sandbox=0 exit=105 steps=19 out=4869
 
 = a text that yields: run --rounds 3 --quantum 1000
 source
-| .sandbox 256
-| .gate y 3
-| again: call y
-| j again
+text yields
 $ sfi build | sfi run --rounds 3 --quantum 1000
 > sandbox=0 ready steps=32 out=
 
 = a text that yields: run --rounds 3 --quantum 8
 source
-| .sandbox 256
-| .gate y 3
-| again: call y
-| j again
+text yields
 $ sfi build | sfi run --rounds 3 --quantum 8
 > sandbox=0 ready steps=20 out=
 
 = a text that reads: run --input 616263
 source
-| .sandbox 256
-| .gate get 2
-| .gate quit 0
-| la a0, buf
-| li a1, 2
-| call get
-| call quit
-| .data
-| buf: .zero 2
+text reads
 $ sfi build | sfi run --input 616263
 > sandbox=0 exit=2 steps=16 out=
 
 = a text that reads: run
 source
-| .sandbox 256
-| .gate get 2
-| .gate quit 0
-| la a0, buf
-| li a1, 2
-| call get
-| call quit
-| .data
-| buf: .zero 2
+text reads
 $ sfi build | sfi run
 > sandbox=0 exit=0 steps=16 out=
 
@@ -147,10 +89,7 @@ $ sfi build | sfi run
 /// What `run --report` prints after the lines of a run.
 pub(super) const STATES: &str = "
 = a store that traps
-cut 0
-end 1000000000 1 534649310100000000000001000100000000800100010000000000010000000000000000
-end 1000000000 1 b37fb501b3efaf01a38faffe
-end 1000000000 61 73001000
+put 36 b37fb501b3efaf01a38faffe
 $ sfi run --report
 > sandbox=0 trap=Store at=017fffff steps=2 out=
 > sandbox=0 pc=01000008 feaf8fa3 sb x10, -1(x31)
@@ -161,10 +100,7 @@ $ sfi run --report
 
 = before its first call
 source
-| .sandbox 256
-| .gate y 3
-| again: call y
-| j again
+text yields
 $ sfi build | sfi run --report --quantum 3
 > sandbox=0 ready steps=3 out=
 > sandbox=0 pc=01000016 0001 addi x0, x0, 0
@@ -175,10 +111,7 @@ $ sfi build | sfi run --report --quantum 3
 
 = in its stub
 source
-| .sandbox 256
-| .gate y 3
-| again: call y
-| j again
+text yields
 $ sfi build | sfi run --rounds 3 --quantum 8 --report
 > sandbox=0 ready steps=20 out=
 > sandbox=0 pc=01000004 0190ffb3 and x31, x1, x25
@@ -205,17 +138,7 @@ $ sfi build | sfi run --report
 
 = a sandbox that exits
 source
-| .sandbox 256
-| .gate put 1
-| .gate quit 0
-| la a0, msg
-| li a1, 2
-| call put
-| la a0, msg
-| lbu a0, 1(a0)
-| call quit
-| .data
-| msg: .byte 72, 105
+text hi
 $ sfi build | sfi run --report
 > sandbox=0 exit=105 steps=19 out=4869
 ";
@@ -224,72 +147,32 @@ $ sfi build | sfi run --report
 pub(super) const NEIGHBOURS: &str = "
 = the first posts to the second: run
 source
-| .sandbox 256
-| .gate post 4
-| .gate quit 0
-| li a0, 1
-| li a1, 7
-| call post
-| call quit
-| .sandbox 256
-| .gate take 5
-| .gate quit 0
-| call take
-| call quit
+text post to 1
+text take
 $ sfi build | sfi run
 > sandbox=0 exit=0 steps=17 out=
 > sandbox=1 exit=7 steps=19 out=
 
 = the first posts to the second: run --rounds 1000 --quantum 1
 source
-| .sandbox 256
-| .gate post 4
-| .gate quit 0
-| li a0, 1
-| li a1, 7
-| call post
-| call quit
-| .sandbox 256
-| .gate take 5
-| .gate quit 0
-| call take
-| call quit
+text post to 1
+text take
 $ sfi build | sfi run --rounds 1000 --quantum 1
 > sandbox=0 exit=0 steps=17 out=
 > sandbox=1 exit=7 steps=19 out=
 
 = the second posts to the first: run
 source
-| .sandbox 256
-| .gate take 5
-| .gate quit 0
-| call take
-| call quit
-| .sandbox 256
-| .gate post 4
-| .gate quit 0
-| li a0, 0
-| li a1, 7
-| call post
-| call quit
+text take
+text post to 0
 $ sfi build | sfi run
 > sandbox=0 exit=0 steps=19 out=
 > sandbox=1 exit=0 steps=17 out=
 
 = the second posts to the first: run --rounds 1000 --quantum 1
 source
-| .sandbox 256
-| .gate take 5
-| .gate quit 0
-| call take
-| call quit
-| .sandbox 256
-| .gate post 4
-| .gate quit 0
-| li a0, 0
-| li a1, 7
-| call post
-| call quit
+text take
+text post to 0
 $ sfi build | sfi run --rounds 1000 --quantum 1
 > sandbox=0 exit=7 steps=19 out=
 > sandbox=1 exit=0 steps=17 out=
@@ -346,26 +229,22 @@ $ sfi build | sfi run
 > sandbox=0 exit=51 steps=45 out=
 
 = a bare store into a neighbour, checked
-cut 0
-end 1000000000 1 534649310200000000000001000100000000800100010000000000010000000000000000
-end 1000000000 1 2320b500
-end 1000000000 63 73001000
-end 1000000000 1 000000020001000000008002000100002000000202000000020000000000000201000000100000020000000073000000b3ff9001b3ef8f0167800f0073000000b3ff9001b3ef8f0167800f00370580021305050093052000eff05ffd37058002130505000100010001000100b37fb501b3efaf0103c51f00eff05ffc
-end 1000000000 88 0290
-end 1000000000 1 4869
+put 4 02000000
+put 36 2320b500
++ 1 000000020001000000008002000100002000000202000000020000000000000201000000100000020000000073000000b3ff9001b3ef8f0167800f0073000000b3ff9001b3ef8f0167800f00370580021305050093052000eff05ffd37058002130505000100010001000100b37fb501b3efaf0103c51f00eff05ffc
++ 88 0290
++ 1 4869
 $ sfi check
 $ sfi run --rounds 1000
 > refused findings=1 first=V5 sandbox=0 at=01000000
 status 1
 
 = a masked store beside a neighbour
-cut 0
-end 1000000000 1 534649310200000000000001000100000000800100010000000000010000000000000000
-end 1000000000 1 b37fb501b3efaf0123a0bf00
-end 1000000000 61 73001000
-end 1000000000 1 000000020001000000008002000100002000000202000000020000000000000201000000100000020000000073000000b3ff9001b3ef8f0167800f0073000000b3ff9001b3ef8f0167800f00370580021305050093052000eff05ffd37058002130505000100010001000100b37fb501b3efaf0103c51f00eff05ffc
-end 1000000000 88 0290
-end 1000000000 1 4869
+put 4 02000000
+put 36 b37fb501b3efaf0123a0bf00
++ 1 000000020001000000008002000100002000000202000000020000000000000201000000100000020000000073000000b3ff9001b3ef8f0167800f0073000000b3ff9001b3ef8f0167800f00370580021305050093052000eff05ffd37058002130505000100010001000100b37fb501b3efaf0103c51f00eff05ffc
++ 88 0290
++ 1 4869
 $ sfi run --rounds 1000 --quantum 1
 $ sfi run --rounds 1000 --quantum 3
 $ sfi run --rounds 1000 --quantum 1000
@@ -377,16 +256,7 @@ $ sfi run --rounds 1000 --quantum 1000
 pub(super) const MAPS: &str = "
 = map: two sandboxes
 source
-| .sandbox 256
-| .gate exit 0
-|         la   a0, text
-|         lw   a0, 0(a0)
-| end:    call exit
-| .data
-|         .word 7
-| text:   .word 72
-| .sandbox 256
-| end:    ebreak
+text names
 $ sfi map
 > sandbox=0 gate exit at=01000000
 > sandbox=0 data text at=01800004
@@ -395,16 +265,7 @@ $ sfi map
 
 = map: at places of its own
 source
-| .sandbox 256
-| .gate exit 0
-|         la   a0, text
-|         lw   a0, 0(a0)
-| end:    call exit
-| .data
-|         .word 7
-| text:   .word 72
-| .sandbox 256
-| end:    ebreak
+text names
 $ sfi map --at 20500000:80000000
 > sandbox=0 gate exit at=20500000
 > sandbox=0 data text at=80000004
@@ -427,16 +288,7 @@ status 2
 
 = map: a wrong place
 source
-| .sandbox 256
-| .gate exit 0
-|         la   a0, text
-|         lw   a0, 0(a0)
-| end:    call exit
-| .data
-|         .word 7
-| text:   .word 72
-| .sandbox 256
-| end:    ebreak
+text names
 $ sfi map --at 20500080:80000000
 > link fault 6 Place sandbox 0
 status 2

@@ -6,8 +6,8 @@ use Rattle.sfi_tests.proofs.tests.consoles.a_console_passes_words_on.Given as go
 abbrev HasTestData : Bytes → Type 0
 HasTestData m = IsWhole (record { base = 25165824; size = 256 }) (bytes_in (record { base = 25165824; size = 256 }) m)
 
-abbrev pub invariant-loop-request : goal.invariant-loop-request
-invariant-loop-request g l = HasTestData (bytes_of l.memory)
+abbrev pub invariant-loop-asked : goal.invariant-loop-asked
+invariant-loop-asked g l = HasTestData (bytes_of l.memory)
 
 abbrev pub invariant-loop-word : goal.invariant-loop-word
 invariant-loop-word g l = HasTestData (bytes_of l.memory)

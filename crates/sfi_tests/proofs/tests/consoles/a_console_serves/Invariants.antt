@@ -2,5 +2,5 @@ use Rattle.rv_mem.specs.Segments.{bytes_of}
 use Rattle.sfi_host.specs.Regions.{bytes_in, IsWhole}
 use Rattle.sfi_tests.proofs.tests.consoles.a_console_serves.Given as goal
 
-abbrev pub invariant-loop-request : goal.invariant-loop-request
-invariant-loop-request g l = IsWhole (record { base = 25165824; size = 256 }) (bytes_in (record { base = 25165824; size = 256 }) (bytes_of l.memory))
+abbrev pub invariant-loop-asked : goal.invariant-loop-asked
+invariant-loop-asked g l = IsWhole (record { base = 25165824; size = 256 }) (bytes_in (record { base = 25165824; size = 256 }) (bytes_of l.memory))

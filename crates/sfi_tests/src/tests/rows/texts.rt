@@ -1,0 +1,193 @@
+//! Texts of more than one row, by their names.
+use super::super::programs::{HI, HI_IMAGE, NAMES, READS, READS_IMAGE, YIELDS, YIELDS_IMAGE};
+use super::sources;
+
+// The texts by their names.
+const TEXTS: &[(&str, &str)] = &[
+    ("hi", HI),
+    ("image of hi", HI_IMAGE),
+    ("yields", YIELDS),
+    ("image of yields", YIELDS_IMAGE),
+    ("reads", READS),
+    ("image of reads", READS_IMAGE),
+    ("sandbox", SANDBOX),
+    ("two sandboxes", TWO_SANDBOXES),
+    ("64 gates", GATES),
+    ("digits of 64 gates", GATE_DIGITS),
+    ("names", NAMES),
+    ("jumps", JUMPS),
+    ("stacked", STACKED),
+    ("post to 0", POST_TO_0),
+    ("post to 1", POST_TO_1),
+    ("take", TAKE),
+    ("hi.s", sources::HI),
+    ("echo.s", sources::ECHO),
+    ("checksum.s", sources::CHECKSUM),
+    ("counter.s", sources::COUNTER),
+    ("primes.s", sources::PRIMES),
+    ("fibonacci.s", sources::FIBONACCI),
+    ("hanoi.s", sources::HANOI),
+    ("sort.s", sources::SORT),
+];
+
+/// The text of that name.
+pub(super) fn text_named(name: &str) -> Option<&'static str> {
+    for (known, text) in TEXTS {
+        if *known == name {
+            return Some(*text);
+        }
+    }
+    None
+}
+
+// A sandbox that returns.
+const SANDBOX: &str = ".sandbox 256
+ret
+";
+
+// Two of them, of different sizes.
+const TWO_SANDBOXES: &str = ".sandbox 256
+ret
+.sandbox 4096
+ret
+";
+
+// As many gates as a sandbox may have.
+const GATES: &str = ".sandbox 256
+.gate g0 0
+.gate g1 0
+.gate g2 0
+.gate g3 0
+.gate g4 0
+.gate g5 0
+.gate g6 0
+.gate g7 0
+.gate g8 0
+.gate g9 0
+.gate g10 0
+.gate g11 0
+.gate g12 0
+.gate g13 0
+.gate g14 0
+.gate g15 0
+.gate g16 0
+.gate g17 0
+.gate g18 0
+.gate g19 0
+.gate g20 0
+.gate g21 0
+.gate g22 0
+.gate g23 0
+.gate g24 0
+.gate g25 0
+.gate g26 0
+.gate g27 0
+.gate g28 0
+.gate g29 0
+.gate g30 0
+.gate g31 0
+.gate g32 0
+.gate g33 0
+.gate g34 0
+.gate g35 0
+.gate g36 0
+.gate g37 0
+.gate g38 0
+.gate g39 0
+.gate g40 0
+.gate g41 0
+.gate g42 0
+.gate g43 0
+.gate g44 0
+.gate g45 0
+.gate g46 0
+.gate g47 0
+.gate g48 0
+.gate g49 0
+.gate g50 0
+.gate g51 0
+.gate g52 0
+.gate g53 0
+.gate g54 0
+.gate g55 0
+.gate g56 0
+.gate g57 0
+.gate g58 0
+.gate g59 0
+.gate g60 0
+.gate g61 0
+.gate g62 0
+.gate g63 0
+";
+
+// The digits of 64 gates of service 0, one in each of the first bundles.
+const GATE_DIGITS: &str = "0000000100000000100000010000000020000001000000003000000100000000\
+    4000000100000000500000010000000060000001000000007000000100000000\
+    80000001000000009000000100000000a000000100000000b000000100000000\
+    c000000100000000d000000100000000e000000100000000f000000100000000\
+    0001000100000000100100010000000020010001000000003001000100000000\
+    4001000100000000500100010000000060010001000000007001000100000000\
+    80010001000000009001000100000000a001000100000000b001000100000000\
+    c001000100000000d001000100000000e001000100000000f001000100000000\
+    0002000100000000100200010000000020020001000000003002000100000000\
+    4002000100000000500200010000000060020001000000007002000100000000\
+    80020001000000009002000100000000a002000100000000b002000100000000\
+    c002000100000000d002000100000000e002000100000000f002000100000000\
+    0003000100000000100300010000000020030001000000003003000100000000\
+    4003000100000000500300010000000060030001000000007003000100000000\
+    80030001000000009003000100000000a003000100000000b003000100000000\
+    c003000100000000d003000100000000e003000100000000f003000100000000";
+
+// A branch back, addresses of code and data, and an indirect jump.
+const JUMPS: &str = ".sandbox 256
+.gate exit 0
+        li   a0, 3
+loop:   addi a0, a0, -1
+        bnez a0, loop
+        la   a1, last
+        jr   a1
+        ebreak
+last:   la   a2, number
+        lw   a0, 0(a2)
+        call exit
+.data
+number: .word 72
+";
+
+// Keeps a number on its stack, and exits with it.
+const STACKED: &str = ".sandbox 256
+.gate quit 0
+li a0, 5
+addi sp, sp, -16
+sw a0, 12(sp)
+lw a0, 12(sp)
+call quit
+";
+
+// Posts 7 to the first sandbox, and exits with the answer.
+const POST_TO_0: &str = ".sandbox 256
+.gate post 4
+.gate quit 0
+li a0, 0
+li a1, 7
+call post
+call quit
+";
+
+// Posts 7 to the second sandbox, and exits with the answer.
+const POST_TO_1: &str = ".sandbox 256
+.gate post 4
+.gate quit 0
+li a0, 1
+li a1, 7
+call post
+call quit
+";
+
+// Takes a word from its mailbox, and exits with it.
+const TAKE: &str = ".sandbox 256
+.gate take 5
+.gate quit 0
+call take
+call quit
+";
