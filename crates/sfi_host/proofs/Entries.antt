@@ -8,9 +8,9 @@ use Rattle.rv_mem.specs.Bytes.{Bytes, IsMemory}
 use Rattle.rv_step.specs.State.{Hart, IsHart, with_register}
 use Rattle.sfi_image.specs.Parts.{IsRightLayout}
 use Rattle.sfi_image.specs.Regions.{IsBundleStart}
-use Rattle.sfi_image.specs.Spans.{Holds, InGuards, AreApart, with_guards, code_region}
+use Rattle.sfi_image.specs.Spans.{Holds, AreApart, with_guards, code_region}
 use Rattle.sfi_image.specs.Spelling.{Part}
-use Rattle.sfi_check.specs.Regions.{InGuard, HasCode}
+use Rattle.sfi_check.specs.Regions.{HasCode}
 use Rattle.sfi_check.specs.Runs.{IsEntry}
 use Rattle.sfi_check.specs.Safety.{AllRunSafely}
 use Rattle.sfi_check.specs.Stack.{AllCallWithStack}
@@ -113,9 +113,6 @@ module _ (m : Bytes) (s : Seat) (seat : IsSafeSeat m s) where
     stack_there : Holds s.bounds.data (slice_index now 2)
     stack_there = let z = stack_is in let d = sizes.1 in (omega (arith, z, d), omega (arith, z, d))
 
-    guard_there : (a : ℕ) → InGuard p a → InGuard seat.part a
-    guard_there a h = subst (λ (b : Bounds). InGuards b.data a) (sym is ∙ seat.bounds) h
-
     pub at_entry : HasCode p m → IsEntry p (state_in m (entered_seat s pc arguments))
     at_entry code = record {
       state = record { hart = hart; memory = seat.state.memory };
@@ -128,7 +125,7 @@ module _ (m : Bytes) (s : Seat) (seat : IsSafeSeat m s) where
       };
       stack = λ has. subst (λ (b : Bounds). Holds b.data (slice_index now 2)) is stack_there;
       code = code;
-      guards = λ a guard. seat.guards a (guard_there a guard);
+      guards = λ a guard. seat.guards a (keep.guard_mine m s seat p is a guard);
     }
 
   module _ (enterable : IsEnterable m s.bounds) (pc : ℕ) (arguments : List ℕ) (few : length arguments ≤ 8) (start : IsBundleStart s.bounds.code pc) (hart : IsHart (entered_hart s.bounds pc arguments)) where

@@ -12,7 +12,7 @@ use Rattle.rv_step.specs.Step.{Stepped, Stands, IsStep}
 use Rattle.sfi_image.specs.Spans.{Holds}
 use Rattle.sfi_check.specs.Regions.{InCode, InData, InGuard}
 use Rattle.sfi_check.specs.Runs.{Steps, after_step}
-use Rattle.sfi_check.specs.Safety.{IsSafeState, IsSafeStep, IsTrap, RunsSafelyFrom}
+use Rattle.sfi_check.specs.Safety.{IsSafeState, IsSafeStep, IsTrap}
 use Rattle.sfi_check.proofs.Facts.{safe_turns, goes_on_safely}
 use Rattle.sfi_host.specs.declared.status.Status.TheVariants.{Ready}
 use Rattle.sfi_host.specs.Regions.{is_in}
@@ -59,11 +59,8 @@ is_trap_not (Trap cause at) e t = cc
 is_trap_not o e t = t
 
 module _ (m : Bytes) (s : Seat) (r : Stepped) (seat : IsSafeSeat m s) (ready : s.status ≡ Ready) (step : IsStep (state_in m s) r) where
-  from : RunsSafelyFrom seat.part (state_in m s)
-  from = (seat.safe ready).safe
-
   both : IsSafeState seat.part (state_in m s) × IsSafeStep seat.part (state_in m s) r
-  both = safe_turns seat.part (state_in m s) (Steps r) from step
+  both = safe_turns seat.part (state_in m s) (Steps r) (seat.safe ready).safe step
 
   in_data : (a : ℕ) → InData seat.part a → Holds s.bounds.data a
   in_data a h = subst (λ (b : Bounds). Holds b.data a) (sym seat.bounds) h
