@@ -129,11 +129,9 @@ module _ (m : Bytes) (s : Seat) (seat : IsSafeSeat m s) where
     }
 
   module _ (enterable : IsEnterable m s.bounds) (pc : ℕ) (arguments : List ℕ) (few : length arguments ≤ 8) (start : IsBundleStart s.bounds.code pc) (hart : IsHart (entered_hart s.bounds pc arguments)) where
-    entry : IsEntry enterable.part (state_in m (entered_seat s pc arguments))
-    entry = at_entry pc arguments few start hart enterable.part enterable.bounds enterable.code
-
     pub entered_safe : IsSafeSeat m (entered_seat s pc arguments)
-    entered_safe = keep.ready_safe m s.bounds (entered_hart s.bounds pc arguments) s.steps enterable entry
+    entered_safe =
+        keep.ready_safe m s.bounds (entered_hart s.bounds pc arguments) s.steps enterable (at_entry pc arguments few start hart enterable.part enterable.bounds enterable.code)
         (subst (λ (b : Bounds). AreApart b.code (with_guards b.data)) (sym seat.bounds ∙ enterable.bounds) seat.apart) seat.has_data
 
 -- ---- a world in which it did
