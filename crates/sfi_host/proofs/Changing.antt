@@ -71,8 +71,7 @@ module _ (m n : Bytes) (items : List Sandbox) (programs : List Program) (i : ℕ
 
   pub turn_taken : (w : Sandboxes) → world_of m items ≡ w → AfterTurn w programs i (slot_of m (seat_of x)) (slot_of n (seat_of new)) (world_of n (set items i new))
   turn_taken w view =
-      subst (λ (y : Sandboxes). AfterTurn y programs i (slot_of m (seat_of x)) (slot_of n (seat_of new)) (world_of n (set items i new))) view
-      (subst (λ (l : List Seat). AfterTurn (world_of m items) programs i (slot_of m (seat_of x)) (slot_of n (seat_of new)) (record { bytes = n; seats = l })) (sym (map-set seat_of items i new)) by_seats)
+      subst (λ (y : Sandboxes × List Seat). AfterTurn y.0 programs i (slot_of m (seat_of x)) (slot_of n (seat_of new)) (record { bytes = n; seats = y.1 })) (λ k. (view k, sym (map-set seat_of items i new) k)) by_seats
 
 -- ---- data that are written
 

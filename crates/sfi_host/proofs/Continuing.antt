@@ -268,8 +268,7 @@ module _ {S : Type 0} (machine : Machine) (answer : S → Call → Answer S) whe
         let some = some_plan p old before in
         let e = each_taken p old before in
         some.is left
-        ∙ ap (λ (x : List Slot). run_end x some.after left (length p) false) (sym (first.slots ∙ ap (λ (j : Joined (Limited S)). j.slots) e))
-        ∙ ap (λ (x : S). run_end mid x left (length p) false) (sym (first.host ∙ ap (λ (j : Joined (Limited S)). j.host.host) e))
+        ∙ (λ k. run_end (sym (first.slots ∙ ap (λ (j : Joined (Limited S)). j.slots) e) k) (sym (first.host ∙ ap (λ (j : Joined (Limited S)). j.host.host) e) k) left (length p) false)
 
     both_done : IsJoint machine answer q mid between new after → IsJoint machine answer (p ++ q) old before new after
     both_done second =
@@ -359,9 +358,8 @@ cut_is_shorter {S} machine answer may_refuse plan old new before after place cut
     record { turn = c.turn; turn_is = c.turn_is; steps = c.steps; fewer = c.fewer; joint = is_joint machine answer less old c.new before c.after c.is } in
     let turns : (joint machine answer plan old before (Some cut.answered)).turns ≡ suc c.place = ap (λ (j : Joined (Limited S)). j.turns) c.ends in
     let same : c.place ≡ place = omega (arith, turns, cut.turns) in
-    subst (λ (x : ℕ). IsJointUpTo machine answer plan x old before new after) same
-    (subst (λ (x : List Slot). IsJointUpTo machine answer plan c.place old before x after) (sym (cut.slots ∙ ap (λ (j : Joined (Limited S)). j.slots) c.ends))
-    (subst (λ (x : S). IsJointUpTo machine answer plan c.place old before c.new x) (sym (cut.host ∙ ap (λ (j : Joined (Limited S)). j.host.host) c.ends)) up_to))
+    subst (λ (x : ℕ × List Slot × S). IsJointUpTo machine answer plan x.0 old before x.1 x.2)
+    (λ k. (same k, sym (cut.slots ∙ ap (λ (j : Joined (Limited S)). j.slots) c.ends) k, sym (cut.host ∙ ap (λ (j : Joined (Limited S)). j.host.host) c.ends) k)) up_to
 
 pub retry_follows : {S : Type 0} → RetryFollows S
 retry_follows machine answer may_refuse p q old mid new before between after place cut second =

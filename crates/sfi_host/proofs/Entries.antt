@@ -1,5 +1,5 @@
 -- A sandbox that is entered again.
-use Rattle.sfi_host.proofs.Prelude.{◌≡◌, ◌≢◌, ◌⊎◌, inl, inr, ⊎_elim, ◌↔◌, IsTrue, ℕ, suc, ◌+◌, ◌-◌, ◌^◌, ◌<◌, ◌≤◌, ◌==◌, Bool, true, false, List, [], ◌∷◌, ◌++◌, map, length, take, get_or, Some, None, set, slice_get, refl, sym, ap, ◌∙◌, subst, arith, get_or-set_other, same_Some, slice_index, slice_set, cond, empty, map-set, take_more, take_all, length-take-le, Bytes, IsMemory, Hart, IsHart, with_register, IsRightLayout, Holds, InGuards, AreApart, with_guards, code_region, Part, InGuard, HasCode, IsEntry, AllRunSafely, AllCallWithStack, Program, Sandbox, MayEnter, MayEnterAt, fresh_hart, with_registers, entered_hart, entered_seat, with_entry_of, with_entry, IsAtEntry, IsEnterable, first_seat, with_parts, AreEntered, HaveFirstData, seat_of, seats_of, world_of, Bounds, Slot, bounds_of, Seat, Sandboxes, slot_of, slots_of, state_in, IsSafeSeat, AreProgramsOf}
+use Rattle.sfi_host.proofs.Prelude.{◌≡◌, ◌≢◌, ◌⊎◌, inl, inr, ⊎_elim, ◌↔◌, IsTrue, ℕ, suc, ◌+◌, ◌-◌, ◌^◌, ◌<◌, ◌≤◌, ◌==◌, Bool, true, false, List, [], ◌∷◌, ◌++◌, map, length, take, get_or, Some, None, set, slice_get, refl, sym, ap, ◌∙◌, subst, arith, get_or-set_other, same_Some, slice_index, slice_set, cond, empty, map-set, take_more, take_all, length-take-le, Bytes, IsMemory, Hart, IsHart, with_register, IsRightLayout, Holds, AreApart, with_guards, code_region, Part, HasCode, IsEntry, AllRunSafely, AllCallWithStack, Program, Sandbox, MayEnter, MayEnterAt, fresh_hart, with_registers, entered_hart, entered_seat, with_entry_of, with_entry, IsAtEntry, IsEnterable, first_seat, with_parts, AreEntered, HaveFirstData, seat_of, seats_of, world_of, Bounds, Slot, bounds_of, Seat, Sandboxes, slot_of, slots_of, state_in, IsSafeSeat, AreProgramsOf}
 use Rattle.sfi_image.specs.Regions.{IsBundleStart}
 use Rattle.sfi_host.proofs.Asked.{seat_at, slot_is, no_slot}
 use Rattle.sfi_host.proofs.Decoding.{first_decoded}
@@ -92,9 +92,6 @@ module _ (m : Bytes) (s : Seat) (seat : IsSafeSeat m s) where
     stack_there : Holds s.bounds.data (slice_index now 2)
     stack_there = let z = stack_is in let d = sizes.1 in (omega (arith, z, d), omega (arith, z, d))
 
-    guard_there : (a : ℕ) → InGuard p a → InGuard seat.part a
-    guard_there a h = subst (λ (b : Bounds). InGuards b.data a) (sym is ∙ seat.bounds) h
-
     pub at_entry : HasCode p m → IsEntry p (state_in m (entered_seat s pc arguments))
     at_entry code = record {
       state = record { hart = hart; memory = seat.state.memory };
@@ -107,15 +104,13 @@ module _ (m : Bytes) (s : Seat) (seat : IsSafeSeat m s) where
       };
       stack = λ has. subst (λ (b : Bounds). Holds b.data (slice_index now 2)) is stack_there;
       code = code;
-      guards = λ a guard. seat.guards a (guard_there a guard);
+      guards = λ a guard. seat.guards a (keep.guard_mine m s seat p is a guard);
     }
 
   module _ (enterable : IsEnterable m s.bounds) (pc : ℕ) (arguments : List ℕ) (few : length arguments ≤ 8) (start : IsBundleStart s.bounds.code pc) (hart : IsHart (entered_hart s.bounds pc arguments)) where
-    entry : IsEntry enterable.part (state_in m (entered_seat s pc arguments))
-    entry = at_entry pc arguments few start hart enterable.part enterable.bounds enterable.code
-
     pub entered_safe : IsSafeSeat m (entered_seat s pc arguments)
-    entered_safe = keep.ready_safe m s.bounds (entered_hart s.bounds pc arguments) s.steps enterable entry
+    entered_safe =
+        keep.ready_safe m s.bounds (entered_hart s.bounds pc arguments) s.steps enterable (at_entry pc arguments few start hart enterable.part enterable.bounds enterable.code)
         (subst (λ (b : Bounds). AreApart b.code (with_guards b.data)) (sym seat.bounds ∙ enterable.bounds) seat.apart) seat.has_data
 
 -- ---- a world in which it did

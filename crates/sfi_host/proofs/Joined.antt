@@ -238,11 +238,10 @@ module _ (machine : Machine) (is : IsMachine machine) where
     outcome_moves : {S : Type 0} (host : Host S) (x : S) (out : Outcome) → r.outcome ≡ out → Does i m s (after_step host i (slot_of m s) x out after)
     outcome_moves host x outcome.Next e = inl (ready, next_moves host x e)
     outcome_moves host x (outcome.Trap cause at) e = inl (ready, trap_moves host x cause at e)
-    outcome_moves {S} host x outcome.Call e = by_answer (host x (call_of i (slot_of m s)))
-      where
-        by_answer : (o : Option (Answer S)) → Does i m s (after_answer (slot_of m s) x o)
-        by_answer None = inr (record { same = refl; none = refl; ends = λ f. cc })
-        by_answer (Some a) = inl (ready, reply_moves a e)
+    outcome_moves host x outcome.Call e = elim (host x (call_of i (slot_of m s))) as (λ o. Does i m s (after_answer (slot_of m s) x o)) [
+      | None ↦ inr (record { same = refl; none = refl; ends = λ f. cc })
+      | Some a ↦ inl (ready, reply_moves a e)
+    ]
 
   any_does : {S : Type 0} (host : Host S) (i : ℕ) (m : Bytes) (s : Seat) (x : S) → IsSafeSeat m s → (status : Status) → s.status ≡ status → Does i m s (moved machine host i (slot_of m s) x)
   any_does {S} host i m s x seat Ready e = let out = (machine (state_in m s)).outcome in subst (λ (mv : Moved S). Does i m s mv) (sym (by m s i seat e host x out refl)) (outcome_moves m s i seat e host x out refl)

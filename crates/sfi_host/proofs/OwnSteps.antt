@@ -1,5 +1,5 @@
 -- A step in the one memory, and the same step in the sandbox's own.
-use Rattle.sfi_host.proofs.Prelude.{◌≡◌, ◌≢◌, ℕ, ◌⊎◌, inl, inr, ⊎_elim, Bool, true, false, cond, None, refl, sym, ap, ◌∙◌, subst, or_left, or_right, or_cases, Bytes, byte_at, Outcome, State, Stepped, Stands, IsStep, Holds, InCode, InData, InGuard, Steps, IsSafeState, IsSafeStep, IsTrap, RunsSafelyFrom, Ready, is_in, Bounds, is_own, own, state_of, Machine, IsMachine, Seat, slot_of, state_in, IsSafeSeat, StaysOutside}
+use Rattle.sfi_host.proofs.Prelude.{◌≡◌, ◌≢◌, ℕ, ◌⊎◌, inl, inr, ⊎_elim, Bool, true, false, cond, None, refl, sym, ap, ◌∙◌, subst, or_left, or_right, or_cases, Bytes, byte_at, Outcome, State, Stepped, Stands, IsStep, Holds, InCode, InData, InGuard, Steps, IsSafeState, IsSafeStep, IsTrap, Ready, is_in, Bounds, is_own, own, state_of, Machine, IsMachine, Seat, slot_of, state_in, IsSafeSeat, StaysOutside}
 use Rattle.rv_step.specs.Access.{Accesses}
 use Rattle.rv_step.specs.Laws.{AgreeHere, IsSameStep}
 use Rattle.rv_step.specs.declared.outcome.Outcome.TheVariants.{Next, Trap}
@@ -47,11 +47,8 @@ is_trap_not (Trap cause at) e t = cc
 is_trap_not o e t = t
 
 module _ (m : Bytes) (s : Seat) (r : Stepped) (seat : IsSafeSeat m s) (ready : s.status ≡ Ready) (step : IsStep (state_in m s) r) where
-  from : RunsSafelyFrom seat.part (state_in m s)
-  from = (seat.safe ready).safe
-
   both : IsSafeState seat.part (state_in m s) × IsSafeStep seat.part (state_in m s) r
-  both = safe_turns seat.part (state_in m s) (Steps r) from step
+  both = safe_turns seat.part (state_in m s) (Steps r) (seat.safe ready).safe step
 
   in_data : (a : ℕ) → InData seat.part a → Holds s.bounds.data a
   in_data a h = subst (λ (b : Bounds). Holds b.data a) (sym seat.bounds) h

@@ -24,10 +24,9 @@ pub all_there : (m : Bytes) (a n : ℕ) → ((k : ℕ) → k < n → IsSome (byt
 all_there m a zero h = refl
 all_there m a (suc n) h =
     let z : a + 0 ≡ a = omega arith in
-    both_there _ _ (ap (λ x. is_some (byte_at m x)) (sym z) ∙ h 0 (omega arith)) (all_there m (a + 1) n further)
-  where
-    further : (k : ℕ) → k < n → IsSome (byte_at m (a + 1 + k))
-    further k l = let z : a + 1 + k ≡ a + suc k = omega arith in ap (λ x. is_some (byte_at m x)) z ∙ h (suc k) (omega arith)
+    both_there _ _ (ap (λ x. is_some (byte_at m x)) (sym z) ∙ h 0 (omega arith)) (all_there m (a + 1) n (λ k l.
+    let y : a + 1 + k ≡ a + suc k = omega arith in
+    ap (λ x. is_some (byte_at m x)) y ∙ h (suc k) (omega arith)))
 
 -- each is there where all are
 pub each_there : (m : Bytes) (a n k : ℕ) → IsSome (bytes_at m (range_with_len a n)) → k < n → IsSome (byte_at m (a + k))
@@ -86,24 +85,18 @@ last_there m a n h l = each_there m a n (n - 1) h (omega arith)
 -- n addresses that don't begin below the region: all are there exactly where they don't end above it
 pub covered : (s : Span) (m : Bytes) (a n q : ℕ) → IsWhole s (bytes_in s m) → s.base ≤ a → 0 < n → q ≡ s.base + s.size - a
     → (IsTrue (nat_le n q) ↔ IsSome (bytes_at (bytes_in s m) (range_with_len a n)))
-covered s m a n q w h l f = (forth, back)
-  where
-    forth : IsTrue (nat_le n q) → IsSome (bytes_at (bytes_in s m) (range_with_len a n))
-    forth t = let le : n ≤ q = grind arith in all_there (bytes_in s m) a n (λ k below. w (a + k) (omega arith, omega arith))
-
-    back : IsSome (bytes_at (bytes_in s m) (range_with_len a n)) → IsTrue (nat_le n q)
-    back t = let x = held s m (a + (n - 1)) (last_there (bytes_in s m) a n t l) in let y = x.1 in grind (arith, y, f, l)
+covered s m a n q w h l f = (
+  λ t. let le : n ≤ q = grind arith in all_there (bytes_in s m) a n (λ k below. w (a + k) (omega arith, omega arith)),
+  λ t. let x = held s m (a + (n - 1)) (last_there (bytes_in s m) a n t l) in let y = x.1 in grind (arith, y, f, l),
+)
 
 -- those that begin below it aren't all there
 pub not_covered : (s : Span) (m : Bytes) (a n : ℕ) → a < s.base → 0 < n
     → (IsTrue (nat_le s.base a) ↔ IsSome (bytes_at (bytes_in s m) (range_with_len a n)))
-not_covered s m a n h l = (forth, back)
-  where
-    forth : IsTrue (nat_le s.base a) → IsSome (bytes_at (bytes_in s m) (range_with_len a n))
-    forth t = let no : s.base ≤ a = grind arith in absurd (omega arith)
-
-    back : IsSome (bytes_at (bytes_in s m) (range_with_len a n)) → IsTrue (nat_le s.base a)
-    back t = let x = held s m (a + 0) (each_there (bytes_in s m) a n 0 t l) in let y = x.0 in absurd (omega (arith, y))
+not_covered s m a n h l = (
+  λ t. let no : s.base ≤ a = grind arith in absurd (omega arith),
+  λ t. let x = held s m (a + 0) (each_there (bytes_in s m) a n 0 t l) in let y = x.0 in absurd (omega (arith, y)),
+)
 
 -- an address at which there is a byte
 pub there_below : (m : Bytes) (a : ℕ) → IsMemory m → (o : Option ℕ) → byte_at m a ≡ o → IsSome o → a < 2 ^ 32

@@ -34,7 +34,7 @@ module _ (m : Bytes) (s : Seat) (seat : IsSafeSeat m s) where
     pub code_in : (a : ℕ) → InCode p a → Holds s.bounds.code a
     code_in a inside = subst (λ (b : Bounds). Holds b.code a) (sym is) inside
 
-    guard_mine : (a : ℕ) → InGuard p a → InGuard seat.part a
+    pub guard_mine : (a : ℕ) → InGuard p a → InGuard seat.part a
     guard_mine a guard = subst (λ (b : Bounds). InGuards b.data a) (sym is ∙ seat.bounds) guard
 
     pub guard_guarded : (a : ℕ) → InGuard p a → Holds (with_guards s.bounds.data) a

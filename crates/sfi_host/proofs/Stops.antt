@@ -10,7 +10,6 @@ use Rattle.rv_word.specs.declared.instr.Instr.{Instr}
 use Rattle.rv_word.specs.declared.instr.LoadKind.{LoadKind}
 use Rattle.rv_word.specs.declared.instr.StoreWidth.{StoreWidth}
 use Rattle.sfi_host.specs.Stops.{IsAt, IsAtGate, TouchesGuard, StoppedItself}
-use Rattle.sfi_image.specs.declared.part.Gate.{Gate}
 use Rattle.rv_step.specs.declared.outcome.Outcome.TheVariants.{Call}
 use Rattle.rv_mem.proofs.Facts.{read_is_held}
 use Rattle.rv_step.specs.declared.outcome.Cause.TheVariants as cause
@@ -97,31 +96,17 @@ module _ (m : Bytes) (s : Seat) (seat : IsSafeSeat m s) (ready : s.status ≡ Re
 
   -- an ecall at its pc is at one of its gates: its step is a call
   pub at_gate : (size : ℕ) → Stands (state_in m s) Ecall size → IsAtGate s.bounds (state_in m s)
-  at_gate size stands = record {
-    is_at = at_pc Ecall size stands;
-    gate = gate;
-    among = subst (λ (b : Bounds). Contains b.gates gate) (sym seat.bounds)
-        (number, slice_get_within seat.part.gates number gate there, get_or_from_slice_get seat.part.gates number gate gate there);
-    address = listed.3;
-  }
-    where
-      call : Stepped
-      call = record { outcome = Call; state = state_in m s }
-
-      step : IsStep (state_in m s) call
-      step = record { front = Read Ecall size; at_pc = stands; result = refl }
-
-      listed : IsGate seat.part s.hart.pc
-      listed = ((seat.safe ready).safe.safe (Steps call ∷ []) (step, tt)).1.called refl
-
-      number : ℕ
-      number = listed.0
-
-      gate : Gate
-      gate = listed.1
-
-      there : slice_get seat.part.gates number ≡ Some gate
-      there = listed.2
+  at_gate size stands =
+      let call : Stepped = record { outcome = Call; state = state_in m s } in
+      let step : IsStep (state_in m s) call = record { front = Read Ecall size; at_pc = stands; result = refl } in
+      let listed : IsGate seat.part s.hart.pc = ((seat.safe ready).safe.safe (Steps call ∷ []) (step, tt)).1.called refl in
+      record {
+        is_at = at_pc Ecall size stands;
+        gate = listed.1;
+        among = subst (λ (b : Bounds). Contains b.gates listed.1) (sym seat.bounds)
+            (listed.0, slice_get_within seat.part.gates listed.0 listed.1 listed.2, get_or_from_slice_get seat.part.gates listed.0 listed.1 listed.1 listed.2);
+        address = listed.3;
+      }
 
   module _ (r : Stepped) (safe : IsSafeStep seat.part (state_in m s) r) where
     data_of : (a : ℕ) → InData seat.part a → Holds s.bounds.data a
