@@ -1,5 +1,5 @@
 -- The accepted sample: no rule is broken in it, and it stores a byte.
-use Rattle.sfi_check.proofs.Prelude.{◌≡◌, ◌≢◌, ℕ, ◌+◌, [], ◌∷◌, cond, Some, None, refl, ap, ◌∙◌, inl, inr, arith, pos, is_some, ints, And, Or, Sb, Op, Store, Jal, Ebreak, minus, spelling, InRange, Sfi1, Bytes, byte_at, in_front, stored, Trap, past, Stepped, effect, next, unchanged, Part, AreFindings, InGuard, HasCode, KeepsBytes, StoresByte, IsAcceptedAndRuns, IsAccepted}
+use Rattle.sfi_check.proofs.Prelude.{◌≡◌, ◌≢◌, ℕ, ◌+◌, [], ◌∷◌, cond, Some, None, refl, ap, ◌∙◌, inl, inr, arith, pos, is_some, ints, And, Or, Sb, Op, Store, Jal, Ebreak, minus, InRange, Sfi1, Bytes, byte_at, in_front, stored, Trap, past, Stepped, effect, next, unchanged, Part, AreFindings, InGuard, HasCode, KeepsBytes, StoresByte, IsAcceptedAndRuns, IsAccepted}
 use Rattle.sfi_check.specs.Samples.{sandbox, sandboxed_store}
 use Rattle.std.specs.FinMap.{insert}
 use Rattle.rv_step.specs.declared.outcome.Cause.TheVariants as cause
