@@ -1,5 +1,5 @@
 -- That the rules on what is read, on the region's end and on gates are needed.
-use Rattle.sfi_check.proofs.Prelude.{◌≡◌, ◌≢◌, ℕ, zero, suc, ◌+◌, ◌*◌, ◌<◌, ◌≤◌, ◌==◌, ◌||◌, List, [], ◌∷◌, length, take, drop, Some, false, refl, sym, ap, ◌∙◌, subst, inl, inr, arith, get_or-take, pos, slice_index, All, ints, Instr, And, Or, Sw, Op, Store, Jalr, Ecall, Ebreak, spelling, InRange, Spells, Sfi1, Bytes, Stands, unchanged, Call, is_gate_of, IsBundleStart, AreGateWords, place_of, bundle_bytes, HasCode, Steps, Replies, IsReply, IsEntry, IsNeeded, EachRuleIsNeeded}
+use Rattle.sfi_check.proofs.Prelude.{◌≡◌, ◌≢◌, ℕ, zero, suc, ◌+◌, ◌*◌, ◌<◌, ◌≤◌, ◌==◌, ◌||◌, List, [], ◌∷◌, length, take, drop, Some, false, refl, sym, ap, ◌∙◌, subst, inl, inr, arith, get_or-take, pos, slice_index, All, ints, Instr, And, Or, Sw, Op, Store, Jalr, Ecall, Ebreak, spelling, InRange, Spells, Sfi1, Bytes, Stands, unchanged, Call, is_gate_of, IsBundleStart, AreGateWords, place_of, bundle_bytes, HasCode, Steps, Replies, IsReply, IsEntry, IsNeeded, EachRuleIsNeeded, Finding}
 use Rattle.rv_comp.specs.declared.form.Form16.TheVariants.{CAddi}
 use Rattle.sfi_check.specs.Samples.{sandbox, nop, undecodable, crossing_store, ecall_at_no_gate, written_rd_forgotten, pair_on_x0, jalr_offset_ignored, jump_to_any_start, running_off_the_end, gate_comes_back_elsewhere, stack_not_put_back}
 use Rattle.sfi_policy.specs.Limits.{service_most}
@@ -25,7 +25,7 @@ pub undecodable_unsafe : IsNeeded V1 0x01000000 (sandbox undecodable)
 undecodable_unsafe =
     let p = sandbox undecodable in
     let bytes = bundle_bytes p 0 in
-    let x = record { sandbox = 0; address = 0x01000000; rule = V1 } ∷ [] in
+    let x : List Finding = record { sandbox = 0; address = 0x01000000; rule = V1 } ∷ [] in
     needed undecodable is V1 0x01000000 0 (omega arith)
     (all_findings Sfi1 [] 0xffffffff brk brk brk brk brk brk brk brk brk brk brk none_listed x [] []
     (read_bundle (place_of 0 p 0) bytes [] bytes x refl tt refl (ones_begin_nothing (drop 4 bytes)) refl)
@@ -85,7 +85,7 @@ pub crossing_store_unsafe : IsNeeded V2 0x0100000e (sandbox crossing_store)
 crossing_store_unsafe =
     let s = crossing_store in
     let is : IsSample s = without_gates s refl refl refl in
-    let x = record { sandbox = 0; address = 0x0100000e; rule = V2 } ∷ [] in
+    let x : List Finding = record { sandbox = 0; address = 0x0100000e; rule = V2 } ∷ [] in
     let n = spelling nop in
     let place = place_of 0 (sandbox s) in
     let bytes = bundle_bytes (sandbox s) in
@@ -108,7 +108,7 @@ pub running_off_the_end_unsafe : IsNeeded V8 0x010000fc (sandbox running_off_the
 running_off_the_end_unsafe =
     let s = running_off_the_end in
     let is : IsSample s = without_gates s refl refl refl in
-    let x = record { sandbox = 0; address = 0x010000fc; rule = V8 } ∷ [] in
+    let x : List Finding = record { sandbox = 0; address = 0x010000fc; rule = V8 } ∷ [] in
     let n = spelling nop in
     let place = place_of 0 (sandbox s) in
     let bytes = bundle_bytes (sandbox s) in
