@@ -8,9 +8,9 @@ pub mod Findings
 pub mod NextPlace
 pub mod PairResult
 pub mod Masks
-pub mod Needed
 pub mod OneVerdict
 pub mod NeededBundles
+pub mod Needed
 pub mod Stricter
 pub mod Undecodable
 pub mod Places

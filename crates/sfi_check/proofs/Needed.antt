@@ -1,22 +1,15 @@
--- The rules that the samples of instructions break are needed.
-use Rattle.sfi_check.proofs.Prelude.{◌≡◌, ℕ, ◌+◌, ◌*◌, List, [], ◌∷◌, refl, sym, arith, add-zero, pos, filter, ints, And, Or, Sw, Instr, Op, OpImm, Store, Jal, Jalr, Ecall, Ebreak, minus, InRange, Sfi1, Sfi2, place_of, bundle_bytes, Piece, rest_of, breaks, is_empty, all_rules, IsGate, BreaksAlone, IsNeeded}
+-- The rules that the samples of instructions break are needed, and so is each.
+use Rattle.sfi_check.proofs.Prelude.{◌≡◌, ℕ, ◌+◌, ◌*◌, List, [], ◌∷◌, refl, sym, arith, add-zero, pos, filter, ints, And, Or, Sw, Instr, Op, OpImm, Store, Jal, Jalr, Ecall, Ebreak, minus, InRange, Sfi1, Sfi2, place_of, bundle_bytes, Piece, rest_of, breaks, is_empty, all_rules, IsGate, BreaksAlone, IsNeeded, EachRuleIsNeeded}
 use Rattle.rv_word.specs.declared.instr.ImmOp.TheVariants.{Addi}
-use Rattle.sfi_check.specs.Samples.{Sample, sandbox, words_of, bytes_of, ecall_at_no_gate, written_rd_forgotten, pair_on_x0, pair_across_bundles, jalr_offset_ignored, jump_to_any_start, stack_not_put_back}
+use Rattle.sfi_check.specs.Samples.{Sample, sandbox, words_of, bytes_of, ecall_at_no_gate, written_rd_forgotten, pair_on_x0, pair_across_bundles, jalr_offset_ignored, jump_to_any_start, stack_not_put_back, undecodable, crossing_store, running_off_the_end, gate_comes_back_elsewhere}
 use Rattle.sfi_scan.specs.declared.rule.Rule.{Rule}
-use Rattle.sfi_scan.specs.declared.rule.Rule.TheVariants.{V3, V4, V5, V6, V7, V10}
+use Rattle.sfi_scan.specs.declared.rule.Rule.TheVariants.{V1, V2, V3, V4, V5, V6, V7, V8, V9, V10}
 use Rattle.rv_comp.proofs.Facts.{word_spells}
-use Rattle.sfi_check.proofs.Readings.{IsSpelled, op_spelled, store_spelled, ebreak_spelled, code_findings, four, four_longest, wide}
+use Rattle.sfi_check.proofs.NeededBundles.{undecodable_unsafe, crossing_store_unsafe, running_off_the_end_unsafe, gate_comes_back_elsewhere_unsafe}
+use Rattle.sfi_check.proofs.Readings.{IsSpelled, op_spelled, store_spelled, ebreak_spelled, code_findings, four, four_longest, wide, ecall_spelled, jalr_past}
 use Rattle.sfi_check.proofs.Samples.{IsSample, without_gates, hart, stack_hart, then_step, reaches, calls_elsewhere, has_left, past_end, needed}
 
 -- ---- the words
-
-pub ecall_spelled : IsSpelled Ecall
-unfolding InRange
-ecall_spelled = word_spells Ecall tt
-
-pub jalr_past : IsSpelled (Jalr 0 31 (pos 16))
-unfolding InRange
-jalr_past = word_spells (Jalr 0 31 (pos 16)) (omega arith, omega arith, (omega (arith, ints), omega (arith, ints)))
 
 jal_x26 : IsSpelled (Jal 26 (pos 16))
 unfolding InRange
@@ -168,3 +161,17 @@ stack_not_put_back_unsafe =
     (λ m entry.
     then_step s is m entry.code (hart 0x01000000 0x01800000 0) 0 4 (OpImm Addi 2 0 (pos 0)) refl (omega arith) addi_x2 (stack_hart 0 0x01000004 0x01800000 0) refl (
     reaches s is m entry.code (stack_hart 0 0x01000004 0x01800000 0) 4 4 (Store Sw 2 11 (pos 0)) refl (omega arith) (store_spelled Sw 2 11 refl) 0 (0, omega arith, refl) (omega arith)))
+
+-- ---- all ten
+
+pub each_rule : EachRuleIsNeeded
+each_rule V1 = (0x01000000, sandbox undecodable, undecodable_unsafe)
+each_rule V2 = (0x0100000e, sandbox crossing_store, crossing_store_unsafe)
+each_rule V3 = (0x01000000, sandbox ecall_at_no_gate, ecall_at_no_gate_unsafe)
+each_rule V4 = (0x01000000, sandbox written_rd_forgotten, written_rd_forgotten_unsafe)
+each_rule V5 = (0x01000008, sandbox pair_on_x0, pair_on_x0_unsafe)
+each_rule V6 = (0x01000008, sandbox jalr_offset_ignored, jalr_offset_ignored_unsafe)
+each_rule V7 = (0x01000010, sandbox jump_to_any_start, jump_to_any_start_unsafe)
+each_rule V8 = (0x010000fc, sandbox running_off_the_end, running_off_the_end_unsafe)
+each_rule V9 = (0x01000000, sandbox gate_comes_back_elsewhere, gate_comes_back_elsewhere_unsafe)
+each_rule V10 = (0x01000000, sandbox stack_not_put_back, stack_not_put_back_unsafe)

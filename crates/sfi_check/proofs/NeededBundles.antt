@@ -1,14 +1,13 @@
 -- That the rules on what is read, on the region's end and on gates are needed.
-use Rattle.sfi_check.proofs.Prelude.{◌≡◌, ◌≢◌, ℕ, zero, suc, ◌+◌, ◌*◌, ◌<◌, ◌≤◌, ◌==◌, ◌||◌, List, [], ◌∷◌, length, take, drop, Some, false, refl, sym, ap, ◌∙◌, subst, inl, inr, arith, get_or-take, pos, slice_index, All, ints, Instr, And, Or, Sw, Op, Store, Jalr, Ecall, Ebreak, spelling, InRange, Spells, Sfi1, Bytes, Stands, unchanged, Call, is_gate_of, IsBundleStart, AreGateWords, place_of, bundle_bytes, HasCode, Steps, Replies, IsReply, IsEntry, IsNeeded, EachRuleIsNeeded, Finding}
+use Rattle.sfi_check.proofs.Prelude.{◌≡◌, ◌≢◌, ℕ, zero, suc, ◌+◌, ◌*◌, ◌<◌, ◌≤◌, ◌==◌, ◌||◌, List, [], ◌∷◌, length, take, drop, Some, false, refl, sym, ap, ◌∙◌, subst, inl, inr, arith, get_or-take, pos, slice_index, All, ints, Instr, And, Or, Sw, Op, Store, Jalr, Ecall, Ebreak, spelling, InRange, Spells, Sfi1, Bytes, Stands, unchanged, Call, is_gate_of, IsBundleStart, AreGateWords, place_of, bundle_bytes, HasCode, Steps, Replies, IsReply, IsEntry, IsNeeded, Finding}
 use Rattle.rv_comp.specs.declared.form.Form16.TheVariants.{CAddi}
-use Rattle.sfi_check.specs.Samples.{sandbox, nop, undecodable, crossing_store, ecall_at_no_gate, written_rd_forgotten, pair_on_x0, jalr_offset_ignored, jump_to_any_start, running_off_the_end, gate_comes_back_elsewhere, stack_not_put_back}
+use Rattle.sfi_check.specs.Samples.{sandbox, nop, undecodable, crossing_store, running_off_the_end, gate_comes_back_elsewhere}
 use Rattle.sfi_policy.specs.Limits.{service_most}
 use Rattle.sfi_policy.specs.Pairs.{stub}
-use Rattle.sfi_scan.specs.declared.rule.Rule.TheVariants.{V1, V2, V3, V4, V5, V6, V7, V8, V9, V10}
-use Rattle.sfi_check.proofs.Readings.{IsSpelled, BeginsNothing, op_spelled, nothing_begins, ebreak_spelled, four, read_bundle, four_words, four_longest, wide, all_findings, quiet, none_listed}
+use Rattle.sfi_scan.specs.declared.rule.Rule.TheVariants.{V1, V2, V8, V9}
+use Rattle.sfi_check.proofs.Readings.{IsSpelled, BeginsNothing, op_spelled, nothing_begins, ebreak_spelled, four, read_bundle, four_words, four_longest, wide, all_findings, quiet, none_listed, ecall_spelled, jalr_past}
 use Rattle.sfi_check.proofs.Samples.{IsSample, without_gates, hart, is_hart, first, bytes_there, stands, then_turn, step_at, then_step, reaches, has_left, past_end, needed}
 use Rattle.sfi_check.proofs.Undecodable.{ones_begin_nothing}
-use Rattle.sfi_check.proofs.Needed.{ecall_spelled, jalr_past, ecall_at_no_gate_unsafe, written_rd_forgotten_unsafe, pair_on_x0_unsafe, jalr_offset_ignored_unsafe, jump_to_any_start_unsafe, stack_not_put_back_unsafe}
 use Rattle.rv_comp.proofs.Facts.{one_spelling, word_spells}
 
 -- the word of an ebreak
@@ -195,17 +194,3 @@ gate_comes_back_elsewhere_unsafe =
     then_step s gate_sample m entry.code (hart 0x01000008 0x01800000 240) 8 4 (Op Or 31 31 24) refl (omega arith) (op_spelled Or 31 31 24 refl) (hart 0x0100000c 0x01800000 0x010000f0) refl (
     then_step s gate_sample m entry.code (hart 0x0100000c 0x01800000 0x010000f0) 12 4 (Jalr 0 31 (pos 16)) refl (omega arith) jalr_past (hart 0x01000100 0x01800000 0x010000f0) refl (
     has_left p m (hart 0x01000100 0x01800000 0x010000f0) (past_end s gate_sample)))))))
-
--- ---- all ten
-
-pub each_rule : EachRuleIsNeeded
-each_rule V1 = (0x01000000, sandbox undecodable, undecodable_unsafe)
-each_rule V2 = (0x0100000e, sandbox crossing_store, crossing_store_unsafe)
-each_rule V3 = (0x01000000, sandbox ecall_at_no_gate, ecall_at_no_gate_unsafe)
-each_rule V4 = (0x01000000, sandbox written_rd_forgotten, written_rd_forgotten_unsafe)
-each_rule V5 = (0x01000008, sandbox pair_on_x0, pair_on_x0_unsafe)
-each_rule V6 = (0x01000008, sandbox jalr_offset_ignored, jalr_offset_ignored_unsafe)
-each_rule V7 = (0x01000010, sandbox jump_to_any_start, jump_to_any_start_unsafe)
-each_rule V8 = (0x010000fc, sandbox running_off_the_end, running_off_the_end_unsafe)
-each_rule V9 = (0x01000000, sandbox gate_comes_back_elsewhere, gate_comes_back_elsewhere_unsafe)
-each_rule V10 = (0x01000000, sandbox stack_not_put_back, stack_not_put_back_unsafe)

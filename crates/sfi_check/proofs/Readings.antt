@@ -1,5 +1,5 @@
 -- What the samples' bundles are read as, and the findings of a sample.
-use Rattle.sfi_check.proofs.Prelude.{Format, Sfi1, Sfi2, Gate, is_gate_of, ◌≡◌, ℕ, suc, ◌+◌, ◌-◌, ◌*◌, ◌≤◌, List, [], ◌∷◌, ◌++◌, length, take, drop, true, false, refl, sym, ap, ◌∙◌, subst, inr, arith, get_or-take, false≢true, append-nil, Instr, Ebreak, spelling, InRange, Spells, BundlePlace, Finding, place_of, bundle_bytes, Piece, IsReading, IsLongestReading, rest_of, is_empty, findings_from, rest_finding, AreBundleFindings, AreFindingsOfFirst, AreFindings, Op, Store, pos, nat_lt, ◌&&◌, and_parts, ltb-true, ints}
+use Rattle.sfi_check.proofs.Prelude.{Format, Sfi1, Sfi2, Gate, is_gate_of, ◌≡◌, ℕ, suc, ◌+◌, ◌-◌, ◌*◌, ◌≤◌, List, [], ◌∷◌, ◌++◌, length, take, drop, true, false, refl, sym, ap, ◌∙◌, subst, inr, arith, get_or-take, false≢true, append-nil, Instr, Ebreak, spelling, InRange, Spells, BundlePlace, Finding, place_of, bundle_bytes, Piece, IsReading, IsLongestReading, rest_of, is_empty, findings_from, rest_finding, AreBundleFindings, AreFindingsOfFirst, AreFindings, Op, Store, pos, nat_lt, ◌&&◌, and_parts, ltb-true, ints, Ecall, Jalr}
 use Rattle.rv_word.specs.declared.instr.RegOp.{RegOp}
 use Rattle.rv_word.specs.declared.instr.StoreWidth.{StoreWidth}
 use Rattle.sfi_check.specs.Samples.{Sample, sandbox, words_of, bytes_of, code_as}
@@ -65,6 +65,14 @@ store_spelled width a b e = let x = and_parts (nat_lt a 32) (nat_lt b 32) e in w
 pub ebreak_spelled : IsSpelled Ebreak
 unfolding InRange
 ebreak_spelled = word_spells Ebreak tt
+
+pub ecall_spelled : IsSpelled Ecall
+unfolding InRange
+ecall_spelled = word_spells Ecall tt
+
+pub jalr_past : IsSpelled (Jalr 0 31 (pos 16))
+unfolding InRange
+jalr_past = word_spells (Jalr 0 31 (pos 16)) (omega arith, omega arith, (omega (arith, ints), omega (arith, ints)))
 
 abbrev pub four : Instr → Instr → Instr → Instr → List Piece
 four a b c d =

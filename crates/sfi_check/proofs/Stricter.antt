@@ -3,10 +3,9 @@ use Rattle.sfi_check.proofs.Prelude.{◌≡◌, ℕ, zero, suc, ◌+◌, ◌-◌
 use Rattle.sfi_check.specs.Samples.{Sample, sandbox, nop, undecodable_after_ebreak, crossing_after_ebreak, ecall_after_ebreak, nops_after_ebreak}
 use Rattle.sfi_scan.specs.declared.rule.Rule.TheVariants.{V1, V2, V3, V8}
 use Rattle.rv_step.specs.declared.outcome.Cause.TheVariants as cause
-use Rattle.sfi_check.proofs.Readings.{ebreak_spelled, read_bundle, four_words, code_findings, all_findings, quiet, none_listed, wide}
+use Rattle.sfi_check.proofs.Readings.{ebreak_spelled, read_bundle, four_words, code_findings, all_findings, quiet, none_listed, wide, ecall_spelled}
 use Rattle.sfi_check.proofs.Samples.{IsSample, without_gates, size, refused, stands}
 use Rattle.sfi_check.proofs.Undecodable.{ones_begin_nothing}
-use Rattle.sfi_check.proofs.Needed.{ecall_spelled}
 use Rattle.sfi_check.proofs.NeededBundles.{nop_spelled, short_nop, half_begins_nothing}
 use Rattle.rv_step.proofs.Facts.{one_instruction, step_is_effect}
 

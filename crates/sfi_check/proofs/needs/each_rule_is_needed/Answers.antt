@@ -1,4 +1,4 @@
-use Rattle.sfi_check.proofs.NeededBundles.{each_rule}
+use Rattle.sfi_check.proofs.Needed.{each_rule}
 use Rattle.sfi_check.proofs.needs.each_rule_is_needed.Goals as goal
 
 pub returns : goal.returns
