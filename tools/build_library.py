@@ -11,9 +11,12 @@ by which `rt lib` would take them, so that `rt lib` would prove them once more. 
 it, as `rt lib` does, by the toolchain's own module, for all targets side by side. Where a library has the mark,
 `rt ci` gave back what earlier checks kept: `rt lib` has little to prove then, and is called, once for each target.
 """
+import copy
 import os
 import subprocess
 import sys
+import tempfile
+from concurrent.futures import ThreadPoolExecutor
 
 sys.dont_write_bytecode = True
 import toolchain
@@ -44,17 +47,28 @@ def build_again(folder):
     return 0
 
 
-def build_proved(rtlib, crate):
-    """Proves the crate and builds it, for all targets side by side, as `rt lib` does for one."""
-    rtlib.guarded()  # what it starts ends with it
-    held = rtlib.lock([*crate.below(), crate])
+def build_for(rtlib, crate, target):
+    """Proves the crate and builds it for a target, as `rt lib` does, and prints what rt has to say once it has ended."""
     words = crate.words(["--jobs", "1"], keeps=False)
     made = ["--toolchain", f"{rtlib.KIT}/toolchain", "--backend", "llvm"]
-    status = crate.prove(*[["build", *words, "--target", target, *made, "-o", archive_of(target)]
-                           for target in TARGETS])
+    crate = copy.copy(crate)
+    crate.is_wasm = target == WASM  # rt holds what rattle says of the target to it
+    with tempfile.TemporaryFile("w+", errors="replace") as crate.out:
+        status = crate.prove(["build", *words, "--target", target, *made, "-o", archive_of(target)])
+        crate.out.seek(0)
+        print(f"== {CRATE} for {target}\n{crate.out.read()}", end="", flush=True)
+    return status
+
+
+def build_proved(rtlib, crate):
+    """Proves the crate and builds it, for all targets side by side."""
+    rtlib.guarded()  # what it starts ends with it
+    held = rtlib.lock([*crate.below(), crate])
+    with ThreadPoolExecutor(len(TARGETS)) as pool:
+        statuses = list(pool.map(lambda target: build_for(rtlib, crate, target), TARGETS))
     for lock in held:
         os.close(lock)
-    return status
+    return max(statuses)
 
 
 def link_module(rtlib, folder):
