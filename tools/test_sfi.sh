@@ -1,6 +1,6 @@
 #!/usr/bin/env bash
 # Tests of the wrapper ./sfi, in a scratch copy with five crates and stand-ins for the toolchain's command rt and for
-# tools/prove_crates.py.
+# tools/build_program.py.
 #
 #     tools/test_sfi.sh
 set -uo pipefail
@@ -28,53 +28,60 @@ skip() { # why, how many tests
     echo "skipped: $1"
 }
 
-# ---- the scratch copy, and commands that note each call, wait while a file `hold` is there, and fail if `break` is
-make_rt() {
-    mkdir -p "$room/bin"
-    cat >"$room/bin/rt" <<'RT'
-#!/usr/bin/env bash
-echo "$*" >>"$ROOM/calls"
-while [ -e "$ROOM/hold" ]; do sleep 0.05; done
-mkdir -p out
-printf '#!/bin/sh\necho "program $*"\n' >out/sfi
-chmod +x out/sfi
-echo "accepted sandboxes=1 bundles=16"
-RT
-    chmod +x "$room/bin/rt"
-}
-
-make_builder() {
-    mkdir -p "$copy/tools"
-    cat >"$copy/tools/prove_crates.py" <<'BUILDER'
-#!/usr/bin/env bash
-echo "libraries $*" >>"$ROOM/calls"
-while [ -e "$ROOM/hold" ]; do sleep 0.05; done
-echo "rt: waiting for another rt to finish in a folder" >&2
-printf '== low\nfn low::f: proved\ncrate low: modules loaded=0 checked=1\nlogic=proved functions=1\n'
-if [ -e "$ROOM/break" ]; then
-    printf '== mid\nsrc/lib.rt:3:5: error: the reason\n'
-    for ((line = 0; line < 150; line++)); do echo "statements of library $line"; done
-    printf 'crate mid: modules loaded=0 checked=0\nlogic=not-proved\n'
-    printf '== summary\nlow: ok\nmid: failed (1)\n'
-    exit 1
-fi
-printf 'crate mid: modules loaded=0 checked=1\nlogic=proved functions=1\n'
-BUILDER
-    chmod +x "$copy/tools/prove_crates.py"
-}
-
+# ---- the scratch copy, and commands that note each call, and fail if a file `break` is there
 make_copy() {
     local crate
-    mkdir -p "$copy/examples"
+    mkdir -p "$copy/examples" "$copy/tools" "$room/bin"
     cp "$top/sfi" "$copy/sfi"
-    echo 00 >"$copy/examples/smallest.hex"
-    printf '# the crates\nlow:\nmid: low thiserror\nsfi: mid\n' >"$copy/crates.txt"
+    printf '# the crates\nlow:\nmid: low thiserror\nsfi: mid # the program\n' >"$copy/crates.txt"
     printf 'sfi_tests: mid\nffi staticlib: low\n' >>"$copy/crates.txt"
     for crate in low mid sfi sfi_tests ffi; do
         mkdir -p "$copy/crates/$crate/src/tests" "$copy/crates/$crate/specs" "$copy/crates/$crate/proofs/tests"
         echo >"$copy/crates/$crate/src/lib.rt"
         touch -d "1 hour ago" "$copy/crates/$crate/src/lib.rt"
     done
+}
+
+# The builder's program prints its words, copies its input, sleeps, or ends in the status that it is told.
+make_builder() {
+    cat >"$copy/tools/build_program.py" <<'BUILDER'
+#!/usr/bin/env bash
+echo "build" >>"$ROOM/calls"
+echo "all that rt printed"
+if [ -e "$ROOM/break" ]; then
+    echo "src/lib.rt:3:5: error: the reason" >&2
+    exit 1
+fi
+mkdir -p "$ROOM/checkout/crates/sfi/out"
+cat >"$ROOM/checkout/crates/sfi/out/sfi" <<'PROGRAM'
+#!/bin/sh
+case $1 in
+copy) exec cat ;;
+sleep) echo $$ >"$ROOM/process" && exec sleep 60 ;;
+[0-9]) echo "said $1" && exit "$1" ;;
+*) echo "program $*" ;;
+esac
+PROGRAM
+chmod +x "$ROOM/checkout/crates/sfi/out/sfi"
+BUILDER
+    chmod +x "$copy/tools/build_program.py"
+}
+
+# `rt try --seconds N -- WORDS`, as far as the wrapper sees it: it runs the program above, or finds a fault.
+make_rt() {
+    cat >"$room/bin/rt" <<'RT'
+#!/usr/bin/env bash
+echo "$* in ${PWD##*/}" >>"$ROOM/calls"
+[ "$1" = try ] && shift 4 && "$ROOM/checkout/crates/sfi/out/sfi" "$@"
+status=$?
+if [ "$1" = fault ]; then
+    printf 'checked: fault\nrun=fault proved=no\n' >&2
+    exit 1
+fi
+printf 'checked: ended\nrun=ended status=%s runners=1 proved=no\n' "$status" >&2
+exit "$status"
+RT
+    chmod +x "$room/bin/rt"
 }
 
 # Runs the wrapper by a path, and keeps what it says: `found` has the output, the errors and the status.
@@ -86,9 +93,6 @@ call() { # path, arguments
     found="$(cat "$room/output"); $(cat "$room/errors"); status $status"
 }
 
-# Runs the wrapper, with all that it prints in a file.
-call_aside() { PATH=$room/bin:$PATH ROOM=$room "$copy/sfi" check >"$1" 2>&1 </dev/null; }
-
 says() { grep -qF -- "$1" <<<"$found"; }
 calls() { [ -e "$room/calls" ] && wc -l <"$room/calls" || echo 0; }
 ran() { [ "$(cat "$room/output")" = "program $*" ]; }
@@ -96,13 +100,10 @@ change() { touch -d "${2:-now}" "$copy/crates/$1"; }
 
 first_build() {
     call "$copy/sfi" check --raw
-    ran check --raw && [ "$(calls)" = 2 ] && says "proving and building the program" &&
-        says "mid is proved (2 of 3 crates"
+    ran check --raw && [ "$(calls)" = 1 ] && says "proving and building the program"
     report $? "the first call builds the program, and runs it" "$found"
-    says "waiting for another rt"
-    report $? "it tells that rt waits" "$found"
-    [ ! -e "$out/sfi.begun" ] && [ -e "$out/sfi.built" ]
-    report $? "a build leaves no file of its own" "$(ls "$out")"
+    [ "$(cat "$out/sfi.log")" = "all that rt printed" ]
+    report $? "what rt prints is kept" "$(cat "$out/sfi.log")"
     call "$copy/sfi" check
     ran check && [ "$(calls)" = 0 ] && [ ! -s "$room/errors" ]
     report $? "a second call builds nothing, and says nothing" "$found"
@@ -119,7 +120,7 @@ which_changes_count() {
     report $? "tests of a crate start no build" "$found"
     change low/src/lib.rt && change mid/specs/Lib.antt
     call "$copy/sfi" check
-    ran check && [ "$(calls)" = 2 ] && says "2 of 3 crates have changed (low mid)"
+    ran check && [ "$(calls)" = 1 ] && says "2 of 3 crates have changed (mid low)"
     report $? "changed crates are built anew, and told" "$found"
 }
 
@@ -129,17 +130,61 @@ places() {
     ran check && [ "$(ls -A "$room/elsewhere")" = link ]
     report $? "through a link, which leaves nothing beside it" "$found; $(ls -A "$room/elsewhere")"
     rm -r "$room/elsewhere"
-    found=$(cd "$room" && CDPATH=$room:/ checkout/sfi check 2>&1)
-    [ "$found" = "program check" ]
-    report $? "with CDPATH exported" "$found"
-    found=$(cd "$copy/crates" && CDPATH=.. ../sfi check 2>&1)
+    found=$(cd "$copy/crates" && ../sfi check 2>&1)
     [ "$found" = "program check" ]
     report $? "from another folder" "$found"
-    ln -s /etc "$copy/etc" && change low/src/lib.rt
+}
+
+failing() {
+    change low/src/lib.rt && touch "$room/break"
     call "$copy/sfi" check
-    ran check && [ "$(calls)" = 2 ]
-    report $? "with a link in the checkout" "$found"
-    rm "$copy/etc"
+    says "status 125" && [ ! -s "$room/output" ]
+    report $? "a build that fails ends in 125, and runs nothing" "$found"
+    [ "$(tail -n 2 "$room/errors")" = "src/lib.rt:3:5: error: the reason
+sfi: the program can't be built; all that rt printed is in $out/sfi.log" ]
+    report $? "it tells the reason, and where all lines are" "$(tail -n 5 "$room/errors")"
+    call "$copy/sfi" check
+    rm "$room/break"
+    [ "$(calls)" = 1 ] && says "status 125"
+    report $? "the call after it builds" "$found"
+}
+
+# The tools that the wrapper calls, without rt.
+without_rt() { # arguments
+    mkdir -p "$room/tools"
+    ln -sf "$(python3 -c 'import sys; print(sys.executable)')" "$room/tools/python3"
+    found=$(PATH=$room/tools /usr/bin/env python3 "$copy/sfi" "$@" 2>"$room/errors" </dev/null; echo "$?"; cat "$room/errors")
+}
+
+where_none_can_be_built() {
+    change low/src/lib.rt
+    without_rt check
+    says "program check
+0
+sfi: sources have changed since the program was built, and it can't be built here: the Rattle toolchain isn't"
+    report $? "without the toolchain the program that is there is run" "$found"
+    mv "$out/sfi" "$room/kept"
+    without_rt check
+    says "125
+sfi: the program isn't built, and can't be built here: the Rattle toolchain isn't there"
+    report $? "without the toolchain and a program it ends in 125" "$found"
+    without_rt try check
+    says "125
+sfi: the Rattle toolchain isn't there"
+    report $? "nor is anything tried there" "$found"
+    mv "$room/kept" "$out/sfi"
+    if [ "$(id -u)" != 0 ]; then
+        chmod a-w "$out"
+        call "$copy/sfi" check
+    elif command -v setpriv >"$room/which"; then
+        chmod a+rx "$room" && chmod a+rw "$room/output" "$room/errors" && rm -f "$room/calls"
+        call setpriv --reuid=65534 --regid=65534 --clear-groups /usr/bin/env python3 "$copy/sfi" check
+    else
+        skip "a folder that can't be written: this is root, and setpriv isn't there" 1
+        return
+    fi
+    ran check && [ "$(calls)" = 0 ] && says "can't be written; this runs it as it is"
+    report $? "where nothing can be written the program that is there is run" "$found"
 }
 
 # Waits until a command succeeds, 10 seconds at most.
@@ -152,105 +197,8 @@ await() {
     report 1 "waiting for: $*" "10 seconds have passed"
 }
 
-waiting() {
-    change low/src/lib.rt && touch "$room/hold" "$room/second" && rm -f "$room/calls"
-    call_aside "$room/first" &
-    await test -e "$room/calls"
-    call_aside "$room/second" &
-    await grep -q waiting "$room/second"
-    rm "$room/hold"
-    wait
-    found=$(cat "$room/second")
-    [ "$found" = $'sfi: waiting for another call, which builds the program\nprogram check' ]
-    report $? "a second call says that it waits, and builds nothing" "$found"
-}
-
-interrupted() {
-    local process
-    change low/src/lib.rt && touch "$room/hold" && rm -f "$room/calls"
-    PATH=$room/bin:$PATH ROOM=$room setsid "$copy/sfi" check >"$room/second" 2>&1 &
-    process=$!
-    await test -e "$room/calls"
-    kill -TERM -- "-$process"
-    wait "$process" 2>>"$room/errors"
-    rm "$room/hold"
-    await test ! -e "$out/sfi.begun" # each process of the group ends in its own time
-    found=$(ls "$out")
-    [ ! -e "$out/sfi.begun" ]
-    report $? "an interrupted build leaves no file of its own" "$found"
-    call "$copy/sfi" check
-    ran check && [ "$(calls)" = 2 ]
-    report $? "the call after it builds" "$found"
-}
-
-failing() {
-    change low/src/lib.rt && touch "$room/break"
-    call "$copy/sfi" check
-    rm "$room/break"
-    says "status 125" && [ ! -s "$room/output" ]
-    report $? "a build that fails ends in 125, and runs nothing" "$found"
-    [ "$(tail -n 2 "$room/errors")" = "src/lib.rt:3:5: error: the reason
-sfi: the program can't be built: mid failed, as the lines above say; all that rt printed is in $out/sfi.log" ]
-    report $? "its last lines are the reason, and where all lines are" "$(tail -n 5 "$room/errors")"
-    [ "$(grep -c statements "$room/errors")" = 0 ] && [ "$(grep -c statements "$out/sfi.log")" = 150 ]
-    report $? "the other lines are in that file" "$found"
-    [ ! -e "$out/sfi.begun" ]
-    report $? "it leaves no file of its own" "$(ls "$out")"
-}
-
-# The tools that the wrapper calls, without rt.
-without_rt() {
-    local tool
-    mkdir -p "$room/tools"
-    for tool in bash env sh readlink dirname awk find cut sort flock mkdir wc grep sed head tail cat tee nproc rm mv
-    do
-        ln -sf "$(command -v "$tool")" "$room/tools/$tool"
-    done
-    found=$(PATH=$room/tools "$copy/sfi" check 2>"$room/errors"; echo "$?"; cat "$room/errors")
-}
-
-where_none_can_be_built() {
-    change low/src/lib.rt
-    without_rt
-    says "program check
-0
-sfi: sources have changed since the program was built, and it can't be built here: the Rattle toolchain isn't"
-    report $? "without the toolchain the program that is there is run" "$found"
-    mv "$out/sfi" "$room/kept"
-    without_rt
-    says "125
-sfi: the program isn't built, and can't be built here: the Rattle toolchain isn't there"
-    report $? "without the toolchain and a program it ends in 125" "$found"
-    mv "$room/kept" "$out/sfi"
-    if [ "$(id -u)" != 0 ]; then
-        chmod a-w "$out"
-        call "$copy/sfi" check
-    elif command -v setpriv >"$room/which"; then
-        chmod a+rx "$room" && chmod a+rw "$room/output" "$room/errors" && rm -f "$room/calls"
-        call setpriv --reuid=65534 --regid=65534 --clear-groups "$copy/sfi" check
-    else
-        skip "a folder that can't be written: this is root, and setpriv isn't there" 1
-        return
-    fi
-    ran check && [ "$(calls)" = 0 ] && says "can't be written; this runs it as it is"
-    report $? "where nothing can be written the program that is there is run" "$found"
-}
-
-# A program that ends in the status that it's told, copies its input, or sleeps.
-other_program() {
-    cat >"$out/sfi" <<'PROGRAM'
-#!/bin/sh
-case $1 in
-copy) exec cat ;;
-sleep) echo $$ >"$ROOM/process" && exec sleep 60 ;;
-*) echo "said $1" && exit "$1" ;;
-esac
-PROGRAM
-}
-
 statuses() {
     local status told
-    cp "$out/sfi" "$room/kept" && other_program
     while IFS=: read -r status told; do
         call "$copy/sfi" "$status"
         [ "$found" = "said $status; $told; status $status" ]
@@ -276,18 +224,50 @@ ROWS
     found="status $?"
     [ "$found" = "status 143" ] && ! kill -0 "$(cat "$room/process")" 2>>"$room/errors"
     report $? "a signal ends the program, too" "$found"
-    mv "$room/kept" "$out/sfi"
 }
 
-make_rt
+tries() {
+    local said="sfi: this build proves nothing: rt try compiles the sources as they are, which takes some 80 seconds"
+    change low/src/lib.rt
+    call "$copy/sfi" try check --raw
+    [ "$found" = "program check --raw; $said; status 0" ] &&
+        [ "$(cat "$room/calls")" = "try --seconds 3600 -- check --raw in sfi" ]
+    report $? "a try builds nothing, and says that nothing is proved" "$found; $(cat "$room/calls")"
+    call "$copy/sfi" try 4
+    says "said 4; $said
+sfi: memory ran out, and nothing was printed (status 4); status 4"
+    report $? "its status is the command's" "$found"
+    found=$(printf 'words\n\n' | PATH=$room/bin:$PATH ROOM=$room "$copy/sfi" try copy 2>"$room/errors" | od -c)
+    [ "$found" = "$(printf 'words\n\n' | od -c)" ]
+    report $? "it reads the wrapper's input" "$found"
+    call "$copy/sfi" try fault
+    says "checked: fault" && says "the command didn't end, as the lines above say; status 125"
+    report $? "one that doesn't end is told, by status 125" "$found"
+}
+
+named_program() {
+    printf '#!/bin/sh\necho "other $*"\nexit 3\n' >"$room/other" && chmod +x "$room/other"
+    change low/src/lib.rt
+    call env SFI="$room/other" "$copy/sfi" check --raw
+    [ "$found" = "other check --raw; ; status 3" ] && [ "$(calls)" = 0 ]
+    report $? "a program that SFI names is taken as it is" "$found"
+    call env SFI="$copy/sfi" "$copy/sfi" check
+    ran check && [ "$(calls)" = 1 ]
+    report $? "where SFI names the wrapper it counts for nothing" "$found"
+    call env SFI="$room/none" "$copy/sfi" check
+    says "status 125" && says "$room/none"
+    report $? "where SFI names no program it ends in 125" "$found"
+}
+
 make_copy
 make_builder
+make_rt
 first_build
 statuses
+tries
+named_program
 which_changes_count
 places
-waiting
-interrupted
 failing
 where_none_can_be_built
 if [ "$skipped" = 0 ]; then

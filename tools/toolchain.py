@@ -25,8 +25,8 @@ def rtlib():
     return module("rtlib", "rtlib.py")
 
 
-def sharing_rtlib():
-    """The same, where what is proved is shared with the other checkouts on this machine, as the command rt does."""
+def sharing_rt():
+    """The command rt itself, which shares what is proved with the other checkouts on this machine."""
     rt = module("rt", "rt")
     rt.share_work(True)
-    return rt.rtlib
+    return rt
