@@ -151,6 +151,16 @@ class Programs(Folder):
         for options in ([], ["-O0", "-g"], ["-Os", "--stack", "65536"]):
             self.compare("--cc", GCC, *options)
 
+    @unittest.skipUnless(shutil.which(GCC), f"{GCC} isn't there")
+    def test_code_on_the_stack(self):
+        """By gcc's own warning, and by the converter where -w takes that away."""
+        file = self.write("nested.c", "int apply(int (*f)(int)) { return f(1); }\n"
+                                      "int main(void) { int k = 5; int add(int x) { return x + k; } return apply(add); }\n")
+        for option, wanted in (("-O0", "error: trampoline"), ("-w", "code on the stack")):
+            status, image, told = self.call("--cc", GCC, option, file)
+            self.assertEqual((status, image), (1, ""))
+            self.assertIn(wanted, "".join(told))
+
     @unittest.skipUnless(shutil.which("clang") and shutil.which("llc"), "clang or llc isn't there")
     def test_clang(self):
         for options in ([], ["-O0", "-g"], ["-Os"]):

@@ -6,14 +6,23 @@ from instructions import SHAPES, STORES, is_access, offset_and_base, written
 WIDTHS = {"b": 1, "h": 2, "w": 4}  # by the letter after the first of a load's or store's name
 
 
-def reads(op):
-    """The registers that an instruction reads."""
+def base(op):
+    """The register that the address of a load, a store or a `jalr` is counted from, or None."""
+    return offset_and_base(op)[1] if SHAPES.get(op.word) == "RM" else None
+
+
+def values(op):
+    """The registers whose values an instruction takes other than as the base of an address: the
+    one that a store stores is among them."""
     if op.word == "ret":
         return {"ra"}
-    kinds = list(zip(SHAPES.get(op.word, ""), op.operands))[written(op) is not None:]
-    found = {text for kind, text in kinds if kind == "R"}
-    found |= {offset_and_base(op)[1] for kind, _ in kinds if kind == "M"}
-    return found - {"zero"}
+    operands = list(zip(SHAPES.get(op.word, ""), op.operands))[written(op) is not None:]
+    return {text for kind, text in operands if kind == "R"} - {"zero"}
+
+
+def reads(op):
+    """The registers that an instruction reads."""
+    return values(op) | {base(op)} - {None, "zero"}
 
 
 def writes(op):
@@ -43,14 +52,16 @@ def runs(code):
 
 class Access:
     """A load or store of a run. `version` counts the writes of its base before it, so that two
-    accesses on one base and version are on one address."""
+    accesses on one base and version are on one address. A load of the stack pointer itself is from
+    where its program kept it, and so may be on an object."""
 
     def __init__(self, op, version):
         self.offset, self.base = offset_and_base(op)
         self.end = self.offset + WIDTHS[op.word[1]]
         self.version = version
         self.stores = op.word in STORES
-        self.region = {"sp": "another" if op.pointed else "frame", "zero": "data"}.get(self.base)
+        in_frame = not op.pointed and written(op) != "sp"
+        self.region = {"sp": "frame" if in_frame else "another", "zero": "data"}.get(self.base)
 
     def may_meet(self, other):
         """Whether two accesses, of which one stores, may have a byte in common. A frame's slots

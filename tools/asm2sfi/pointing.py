@@ -18,7 +18,7 @@ from collections import Counter
 from dataclasses import dataclass, replace
 
 from control import LOOP, Blocks, goes_on, is_branch, is_call, is_jump, labels_of
-from dependences import reads, runs, writes
+from dependences import reads, runs, values, writes
 from instructions import Op, is_access, offset_and_base
 from liveness import Liveness
 from program import Mark
@@ -32,6 +32,12 @@ LOWEST, HIGHEST = -2048, 2047
 
 def touches_stack(op):
     return "sp" in reads(op) | writes(op)
+
+
+def may_point(op):
+    """Whether an instruction is an access that does the same on `sp`, where that holds its base:
+    it has another base, and neither stores the stack pointer nor loads it."""
+    return is_access(op) and offset_and_base(op)[1] != "sp" and "sp" not in values(op) | writes(op)
 
 
 @dataclass
@@ -64,7 +70,7 @@ class Chains:
         self.found = []
         self.open = {}  # by base, its chain and how far the base has moved
         for index, op in enumerate(ops):
-            if is_access(op) and offset_and_base(op)[1] != "sp":
+            if may_point(op):
                 self.take(index, *offset_and_base(op))
             for name in writes(op):
                 self.move(op, name)
@@ -253,15 +259,15 @@ class Loops:
 
 
 def base_of(piece):
-    """The base of a load or store; None for all else."""
-    return offset_and_base(piece)[1] if not piece.is_mark and is_access(piece) else None
+    """The base of an access that may be one on `sp`; None for all else."""
+    return offset_and_base(piece)[1] if not piece.is_mark and may_point(piece) else None
 
 
 def pointed_body(body):
     """What a loop becomes, what a turn of it gains, and the base that `sp` is set to before it,
     if to one alone."""
     changed = set().union(*(writes(piece) for piece in body if not piece.is_mark))
-    counts = Counter(base for base in map(base_of, body) if base not in (None, "sp", *changed))
+    counts = Counter(base for base in map(base_of, body) if base not in (None, *changed))
     out, gain = [], 0
     for run in runs(body):
         ops = [body[number] for number in run]

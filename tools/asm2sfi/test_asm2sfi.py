@@ -297,6 +297,15 @@ main:
                       "\t.data\nx:\t.word 9\n")
         self.assertEqual(lines_after(text, "main:")[:3], ["la a0, x", "lw a0, 0(a0)", "ret"])
 
+    def test_code_on_the_stack(self):
+        """The four words of gcc's code that calls a nested function: `lui t2, 0`, `lui t0, 0`, `addi t2, t2, 0` and
+        `jr t0`, as two that are or-ed to the upper part of an address, and two in parts."""
+        words = "\tori a4,a4,951\n\tori a3,a3,695\n\tli a5,229376\n\taddi a5,a5,915\n\tli a2,163840\n"
+        self.assertEqual(refusals_of(MAIN + words + "\tret\n"),
+                         ["a.s:4: code on the stack, which can't run: the address of a nested function is taken"])
+        for word in words.splitlines(keepends=True)[:1] + words.splitlines(keepends=True)[4:]:
+            self.assertEqual(refusals_of(MAIN + words.replace(word, "") + "\tret\n"), [])
+
     def test_refusals(self):
         rows = [
             ("\tcall\tnothere\n", "undefined symbol nothere"),

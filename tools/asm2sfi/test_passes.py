@@ -5,7 +5,7 @@ import unittest
 
 from assembly import read_assembly
 from control import Blocks, weights
-from dependences import needed_before, reads, writes
+from dependences import needed_before, reads, values, writes
 from instructions import Converter, Op
 from known import with_known_places
 from liveness import Liveness, without_unread
@@ -89,12 +89,20 @@ class Dependences(unittest.TestCase):
             [op] = code(text)
             self.assertEqual((reads(op), writes(op)), (read, written), text)
 
+    def test_values(self):
+        """What an instruction reads other than as the base of an address."""
+        rows = [("lw a0,4(a1)", set()), ("sw a0,4(a1)", {"a0"}), ("sw sp,4(a1)", {"sp"}), ("sw a1,4(a1)", {"a1"}),
+                ("sw a0,4(sp)", {"a0"}), ("addi a0,sp,4", {"sp"}), ("jalr ra,0(a5)", set()), ("jr a5", {"a5"})]
+        for text, wanted in rows:
+            [op] = code(text)
+            self.assertEqual(values(op), wanted, text)
+
     def test_order(self):
         rows = [  # two instructions, and whether the second has to stay after the first
             ("li a0,1; li a1,1", False), ("li a0,1; mv a1,a0", True), ("mv a1,a0; li a0,1", True), ("li a0,1; li a0,2", True),
             ("lw a0,0(a2); lw a1,0(a3)", False), ("sw a0,0(a2); lw a1,0(a3)", True), ("lw a0,0(a2); sw a1,0(a3)", True),
             ("sw a0,0(a2); sw a1,4(a2)", False), ("sw a0,0(a2); sb a1,3(a2)", True), ("sh a0,2(a2); lbu a1,1(a2)", False),
-            ("sw a0,0(sp); lw a1,8(zero)", False), ("sw a0,0(sp); lw a1,8(a0)", True),
+            ("sw a0,0(sp); lw a1,8(zero)", False), ("sw a0,0(sp); lw a1,8(a0)", True), ("sw a0,8(zero); lw sp,4(sp)", True),
         ]
         for text, stays in rows:
             self.assertEqual(needed_before(code(text))[1] != 0, stays, text)
@@ -153,6 +161,11 @@ class Known(unittest.TestCase):
         text = "f: la a5,x; beqz a0,.a; la a5,y; .a: lw a0,0(a5); ret"
         self.assertIn("lw a0, 0(a5)", self.improved(text, x=16, y=32))
 
+    def test_stack_pointer(self):
+        """A store of the stack pointer may be on an object; a load of it stays on `sp`."""
+        self.assertEqual(self.improved("f: la a5,x; sw sp,8(a5); mv sp,a5; lw sp,4(sp); ret", x=16)[1:],
+                         ["la a5, x", "sw sp, 24(zero)", "mv sp, a5", "lw sp, 4(sp)", "ret"])
+
     def test_calls(self):
         text = "f: la s0,x; la a5,x; call g; lw a0,0(s0); lw a1,0(a5); ret; g: ret"
         self.assertEqual(self.improved(text, x=16)[4:6], ["lw a0, 16(zero)", "lw a1, 0(a5)"])
@@ -167,6 +180,12 @@ class Pointing(unittest.TestCase):
             ("lw a0,0(a5); addi a5,a5,8; lw a2,-4(a5)", [{0: 0, 2: 4}]),
             ("lw a0,0(a5); lw a5,4(a5); lw a2,8(a5)", [{0: 0, 1: 4}]),
             ("lw a0,2000(a5); addi a5,a5,64; lw a2,2000(a5)", []),
+            ("sw a5,0(a5); sw a5,4(a5)", [{0: 0, 1: 4}]),
+            ("sw a0,0(a5); sw sp,4(a5)", []),
+            ("sw sp,0(a5); sw a0,4(a5); sw a1,8(a5)", [{1: 4, 2: 8}]),
+            ("sw a0,0(a5); sw sp,4(a5); sw a1,8(a5)", []),
+            ("sw a0,0(a5); addi a1,sp,4; sw a1,8(a5)", []),
+            ("sw a0,0(a5); mv a1,sp; sw a1,8(a5)", []),
         ]
         for text, wanted in rows:
             self.assertEqual([cluster.offsets for cluster in best_clusters(code(text))], wanted, text)
@@ -176,6 +195,12 @@ class Pointing(unittest.TestCase):
         self.assertEqual(lines(found), [
             "f:", "li t0, 1", "point..1:", "mv t0, sp", ".a:", "mv sp, a5", "lw a4, 0(sp)", "sw a4, 4(sp)", "addi a5, a5, 8",
             "bne a5, a3, .a", "mv sp, t0", "mv a0, a4", "ret"])
+
+    def test_stored_stack_pointer(self):
+        """A loop that stores the stack pointer keeps it, at any place of the store."""
+        for body in ("sw sp,0(a5); sw a4,4(a5); sw a4,8(a5)", "sw a4,0(a5); sw a4,4(a5); sw sp,8(a5)"):
+            pieces = code(f"f: li t0,1; .a: {body}; addi a5,a5,12; bne a5,a3,.a; ret")
+            self.assertEqual(lines(with_pointing(pieces, Names([]))), lines(pieces))
 
     def test_no_register_of_a_caller(self):
         """The function writes no register that is free, and gcc lets callers count on each other
