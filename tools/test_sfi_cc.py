@@ -68,7 +68,7 @@ class Steps(Folder):
     def test_all_pass(self):
         self.assertEqual(self.made(), (0, "0123\n", []))
         self.assertEqual(self.read("check.input"), "0123\n")
-        self.assertIn("main:\n        li a0, 7\n        ret\n", self.read("build.input"))
+        self.assertIn("main:\n.option rvc\nli a0,7\nret\n", self.read("build.input"))
 
     def test_which_fails(self):
         rows = [
@@ -95,6 +95,58 @@ class Steps(Folder):
         told = ["asm2sfi: main.asm:6: ecall: a sandbox calls its host through gates alone",
                 "sfi-cc: asm2sfi failed, in status 1"]
         self.assertEqual(self.made(), (1, "", told))
+
+    def test_fault_in_a_line(self):
+        """What `sfi build` says of a line of the text is told with where it comes from."""
+        self.write("main.asm", '\t.file 1 "main.c"\n' + ASSEMBLY.replace("main:\n", "main:\n\t.loc 1 3 1\n"))
+        fault = "rewrite fault 5 StackWrite line"
+        text = self.made("-c")[1].splitlines()
+        rows = [(text.index("li a0,7") + 1, "main, main.c:3 (main.asm:6): li a0, 7"),
+                (text.index("call main") + 1, "the start, before main: call main"), (text.index("main:") + 1, "the label main"),
+                (1, "neither a label nor an instruction"), (1000, "neither a label nor an instruction")]
+        for line, told in rows:
+            self.assertEqual(self.made(build=f"echo {fault} {line}; exit 2"), (2, "", [
+                f"{fault} {line}", f"line {line}: {told}", "sfi-cc: program build failed, in status 2"]))
+
+    def test_keep(self):
+        text = self.made("-c")[1]
+        for options, status in [({}, 0), ({"build": "exit 2"}, 2)]:
+            self.assertEqual(self.made("--keep", self.path("kept.s"), **options)[0], status)
+            self.assertEqual(self.read("kept.s"), text)
+            os.remove(self.path("kept.s"))
+
+    def test_kinds_of_files(self):
+        """What the compiler is asked for by a file's name. An assembly is taken as it is."""
+        common, plus_plus = "-fdata-sections", "-fno-exceptions -fno-rtti"
+        rows = [("x.c", f"-S.*{common}", plus_plus), ("x.cc", f"-S.*{common}.*{plus_plus}", None),
+                ("x.cpp", f"-S.*{plus_plus}", None), ("x.S", "-E ", "-S")]
+        for name, wanted, absent in rows:
+            self.write("words", "")
+            file = self.write(name, "")
+            self.assertEqual(self.call("--cc", self.compiler, "-c", file)[0], 0)
+            words = self.read("words")
+            self.assertRegex(words, wanted)
+            self.assertTrue(absent is None or absent not in words, words)
+        file = self.write("y.s", ASSEMBLY)
+        self.assertIn("main:\n.option rvc\nli a0,7\n", self.call("--cc", "/nothing/gcc", "-c", file)[1])
+        self.assertEqual(self.call("-c", file, "z.o")[2][-1],
+                         "sfi-cc: error: z.o holds no assembly: give the files that it was made of")
+
+    def test_side_by_side(self):
+        """The first compiler ends when the second has begun; what they say is in the files' order."""
+        compiler = self.write("pair", f'''#!/bin/sh
+for file; do :; done
+case $file in
+*one.c) while [ ! -e {self.folder}/begun ]; do sleep 0.05; done ;;
+*) touch {self.folder}/begun ;;
+esac
+echo $(basename $file) >&2
+while [ "$1" != -o ]; do shift; done
+cp {self.folder}/main.asm "$2"
+''', 0o755)
+        self.write("main.asm", ASSEMBLY.replace(".globl\tmain", ".weak main"))
+        status, _, told = self.call("--cc", compiler, "-c", self.write("one.c", ""), self.write("two.c", ""))
+        self.assertEqual((status, told), (0, ["one.c", "two.c"]))
 
     def test_output(self):
         self.assertEqual(self.made("-o", self.path("new.hex")), (0, "", []))
@@ -128,7 +180,7 @@ class Steps(Folder):
                               (["--stack"], "argument --stack: expected one argument")]:
             status, output, lines = self.call(self.file, *options)
             self.assertEqual((status, output, lines[-1]), (2, "", f"sfi-cc: error: {told}"))
-        self.assertEqual(self.call("-O2")[2][-1], "sfi-cc: error: a FILE.c is wanted")
+        self.assertEqual(self.call("-O2")[2][-1], "sfi-cc: error: a FILE of C, C++ or assembly is wanted")
 
 
 @unittest.skipUnless(os.access(SFI, os.X_OK), f"{SFI} isn't built")
@@ -165,6 +217,19 @@ class Programs(Folder):
     def test_clang(self):
         for options in ([], ["-O0", "-g"], ["-Os"]):
             self.compare("--cc", "clang", *options)
+
+    @unittest.skipUnless(shutil.which(GCC), f"{GCC} isn't there")
+    def test_assembly_and_cpp(self):
+        main = self.write("main.cc", '''extern "C" int twice(int number);
+struct Shape { virtual int corners() const = 0; };
+struct Square : Shape { int corners() const override { return 4; } };
+int corners_of(const Shape &shape) { return shape.corners(); }
+int main() { return twice(19) + corners_of(Square()); }
+''')
+        twice = self.write("twice.S", "#define TIMES 1\n.globl twice\ntwice: slli a0,a0,TIMES\nret\n")
+        for compiler in [GCC] + ["clang"] * bool(shutil.which("clang") and shutil.which("llc")):
+            for level in ("-O0", "-O2"):
+                self.assertEqual(self.runs("--cc", compiler, level, main, twice), ["sandbox=0", "exit=42", "out="])
 
     @unittest.skipUnless(shutil.which(GCC), f"{GCC} isn't there")
     def test_two_files_of_one_name(self):

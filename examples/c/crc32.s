@@ -5,131 +5,119 @@
 .gate put 1
 .gate get 2
 .option rvc
-        addi sp, sp, -16
-        call main
-        .option norvc
-        nop
-        nop
-        nop
-        .option rvc
-        call exit_with
+addi sp,sp,-16
+call main
+.option norvc
+nop
+nop
+nop
+call exit_with
 main:
-        addi sp, sp, -48
-        lui a2, 973704
-        sw s3, 28(sp)
-        la s3, table
-        sw ra, 44(sp)
-        sw s0, 40(sp)
-        sw s1, 36(sp)
-        sw s2, 32(sp)
-        add a0, zero, s3
-        .option norvc
-        li a1, 0
-        .option rvc
-        addi a2, a2, 800
-        li a6, 256
+.option rvc
+addi sp,sp,-48
+lui a2,973704
+sw s3,28(sp)
+la s3,table
+sw ra,44(sp)
+sw s0,40(sp)
+sw s1,36(sp)
+sw s2,32(sp)
+add a0,zero,s3
+.option norvc
+li a1,0
+addi a2,a2,800
+li a6,256
 _.L4:
-        add a5, zero, a1
-        li a4, 8
-        j _.L3
+.option rvc
+add a5,zero,a1
+li a4,8
+j _.L3
 _.L3:
-        andi a3, a5, 1
-        addi a4, a4, -1
-        srli a5, a5, 1
-        beq a3, zero, _.L2
-        .option norvc
-        xor a5, a5, a2
+andi a3,a5,1
+addi a4,a4,-1
+srli a5,a5,1
+beq a3,zero,_.L2
+.option norvc
+xor a5,a5,a2
 _.L2:
-        .option rvc
-        bne a4, zero, _.L3
-        sw a5, 0(a0)
-        addi a1, a1, 1
-        addi a0, a0, 4
-        bne a1, a6, _.L4
-        la s2, chunk
-        lui a1, 1
-        add a0, zero, s2
-        .option norvc
-        li s1, 0
-        li s0, -1
-        .option rvc
-        call get
-        blt zero, a0, _.L7
-        j _.L17
+bne a4,zero,_.L3
+sw a5,0(a0)
+.option rvc
+addi a1,a1,1
+addi a0,a0,4
+bne a1,a6,_.L4
+la s2,chunk
+lui a1,1
+add a0,zero,s2
+.option norvc
+li s1,0
+li s0,-1
+call get
+blt zero,a0,_.L7
+j _.L17
 _.L7:
-        la a4, chunk
-        add a2, a0, a4
-        .option norvc
-        nop
+la a4,chunk
+add a2,a0,a4
+nop
 _.L6:
-        .option rvc
-        lbu a5, 0(a4)
-        srli a3, s0, 8
-        addi a4, a4, 1
-        xor a5, a5, s0
-        andi a5, a5, 255
-        .option norvc
-        slli a5, a5, 2
-        add a5, a5, s3
-        .option rvc
-        lw s0, 0(a5)
-        .option norvc
-        xor s0, s0, a3
-        .option rvc
-        bne a2, a4, _.L6
-        lui a1, 1
-        add a0, zero, s2
-        .option norvc
-        addi s1, s1, 1
-        .option rvc
-        call get
-        blt zero, a0, _.L7
-        j _.L17
+lbu a5,0(a4)
+srli a3,s0,8
+.option rvc
+addi a4,a4,1
+xor a5,a5,s0
+andi a5,a5,255
+.option norvc
+slli a5,a5,2
+add a5,a5,s3
+lw s0,0(a5)
+xor s0,s0,a3
+bne a2,a4,_.L6
+.option rvc
+lui a1,1
+add a0,zero,s2
+.option norvc
+addi s1,s1,1
+call get
+blt zero,a0,_.L7
+j _.L17
 _.L17:
-        xori s0, s0, -1
-        .option norvc
-        addi a3, sp, 4
-        li a4, 28
-        nop
-        .option rvc
-        la a1, _.LC0
-        .option norvc
-        li a2, -4
-        nop
+xori s0,s0,-1
+addi a3,sp,4
+li a4,28
+nop
+la a1,_.LC0
+li a2,-4
+nop
 _.L8:
-        .option rvc
-        srl a5, s0, a4
-        .option norvc
-        andi a5, a5, 15
-        add a5, a5, a1
-        addi a4, a4, -4
-        .option rvc
-        lbu a5, 0(a5)
-        .option norvc
-        addi a3, a3, 1
-        .option rvc
-        sb a5, -1(a3)
-        bne a4, a2, _.L8
-        addi a0, sp, 4
-        li a5, 10
-        .option norvc
-        li a1, 9
-        .option rvc
-        sb a5, 12(sp)
-        call put
-        lw ra, 44(sp)
-        lw s0, 40(sp)
-        .option norvc
-        lw s2, 32(sp)
-        lw s3, 28(sp)
-        add a0, zero, s1
-        lw s1, 36(sp)
-        .option rvc
-        addi sp, sp, 48
-        jr ra
+srl a5,s0,a4
+andi a5,a5,15
+add a5,a5,a1
+addi a4,a4,-4
+lbu a5,0(a5)
+addi a3,a3,1
+sb a5,-1(a3)
+bne a4,a2,_.L8
+.option rvc
+addi a0,sp,4
+li a5,10
+.option norvc
+li a1,9
+sb a5,12(sp)
+call put
+.option rvc
+lw ra,44(sp)
+lw s0,40(sp)
+.option norvc
+lw s2,32(sp)
+lw s3,28(sp)
+add a0,zero,s1
+lw s1,36(sp)
+.option rvc
+addi sp,sp,48
+jr ra
 .data
 _.LC0:
-        .word 0x33323130, 0x37363534, 0x62613938, 0x66656463, 0x0
+.word 0x33323130,0x37363534,0x62613938,0x66656463,0x0
 table:
-        .zero 1024
+.zero 1024
 chunk:

@@ -108,3 +108,9 @@ def expansions(op, image_format):
     if op.wide or not has_short_form(op):
         return ((4,),)
     return ((2, 4),)
+
+
+def is_in_two_sizes(op):
+    """Whether an instruction has a 16-bit form in one of the formats."""
+    narrow = replace(op, wide=False)
+    return any(len(sizes) == 2 for image_format in (1, 2) for sizes in expansions(narrow, image_format))

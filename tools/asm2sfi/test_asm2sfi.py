@@ -8,10 +8,11 @@ import unittest
 
 from assembly import Label, Place, Refused, Statement, read_assembly
 from conversion import Options, convert
-from instructions import Converter
+from instructions import Converter, Op
 from naming import Names
 from operands import Symbol
 from reading import read_unit, string_bytes
+from writing import code_lines
 
 HERE = Place("a.s", 1)
 
@@ -34,9 +35,20 @@ def refusals_of(text, **options):
     return [str(refusal) for refusal in refusals]
 
 
+def lines_of(text):
+    """The lines of a source text but for those that choose sizes, with a space after each comma."""
+    return [line.replace(",", ", ") for line in text.splitlines() if not line.startswith(".option")]
+
+
 def lines_after(text, line):
-    lines = [line.strip() for line in text.splitlines()]
+    lines = lines_of(text)
     return lines[lines.index(line) + 1:]
+
+
+def start_of(text):
+    """What the code begins with."""
+    lines = lines_of(text)
+    return lines[max(number for number, line in enumerate(lines) if line.startswith(".gate")) + 1:]
 
 
 MAIN = "\t.text\n\t.globl\tmain\nmain:\n"
@@ -203,13 +215,21 @@ class Programs(unittest.TestCase):
 .format 2
 .sandbox 8192
 .gate exit_with 0
-.option rvc
-        call main
-        call exit_with
+call main
+call exit_with
 main:
-        li a0, 7
-        ret
+.option rvc
+li a0,7
+ret
 """)
+
+    def test_sizes_change_where_they_matter(self):
+        code = [Op(*words.split(" ", 1)[:1], tuple(words.split(" ", 1)[1].split()), HERE, wide) for words, wide in [
+            ("add a0 a0 a1", False), ("call f", False), ("add a0 a0 a1", True), ("mul a0 a0 a1", False),
+            ("addi sp sp 16", True), ("call f", False), ("add a0 a0 a1", False)]]
+        self.assertEqual(code_lines(code), [
+            ".option rvc", "add a0,a0,a1", "call f", ".option norvc", "add a0,a0,a1", "mul a0,a0,a1", "addi sp,sp,16",
+            "call f", ".option rvc", "add a0,a0,a1"])
 
     def test_only_labels_that_are_used(self):
         text = source(MAIN + ".LFB0:\n.L2:\n\tnop\n.L3:\n\tbnez\ta0,.L2\n\tret\n")
@@ -262,12 +282,12 @@ main:
                       "\t.comm big,4000,4\n\t.bss\n\t.align 2\nz:\t.zero 8\n\t.data\ns:\t.ascii \"Hi\"\n\t.align 2\nt:\t.word 1,258,0,0,0\n")
         self.assertEqual(lines_after(text, "ret"), [
             ".data", "s:", ".word 0x6948, 0x1", "t..plus4:", ".word 0x102", ".zero 12", "z:", ".zero 8", "big:"])
-        self.assertIn("        la a1, t..plus4\n", text)
+        self.assertIn("la a1,t..plus4\n", text)
         self.assertIn(".sandbox 16384\n", text)
 
     def test_addresses_in_data(self):
         text = source(MAIN + "\tla a0,t\n\tret\nf:\tret\n\t.data\nt:\t.word 5,f,t+8\n")
-        self.assertEqual(lines_after(text, ".option rvc")[:7], [
+        self.assertEqual(start_of(text)[:7], [
             "la t0, address..4", "la t1, f", "sw t1, 0(t0)", "la t1, t..plus8", "sw t1, 4(t0)", "call main",
             "call exit_with"])
         self.assertEqual(lines_after(text, ".data"), ["t:", ".word 0x5", "address..4:", ".zero 4", "t..plus8:"])
@@ -276,7 +296,7 @@ main:
         """A base that an offset leads back from lies in the region, too."""
         text = source(MAIN + "\tla a0,x\n\tlw a1,20(a0)\n\tsb a1,-1(a0)\n\tlw ra,2000(sp)\n\tret\n"
                       "\t.data\nx:\t.word 5\n")
-        self.assertEqual(lines_after(text, ".option rvc")[0], "addi sp, sp, -16")
+        self.assertEqual(start_of(text)[0], "addi sp, sp, -16")
         self.assertEqual(lines_after(text, ".data"), [".zero 32", "x:", ".word 0x5"])
 
     def test_addresses_before_and_after_the_data(self):

@@ -59,7 +59,7 @@ def first_instruction(op, image_format):
 
 def read_source(text):
     """The gates' number and the code of a source text of this tool."""
-    gates, code, wide = 0, [], False
+    gates, code, wide = 0, [], True
     for line in text.splitlines():
         words = line.split("#")[0].replace(",", " ").split()
         if not words or words[0] in (".format", ".sandbox"):
@@ -100,7 +100,7 @@ def random_code(source):
 
 
 def source_of(code, image_format):
-    return "\n".join([f".format {image_format}", ".sandbox 4096", ".option rvc", *code_lines(code)]) + "\n"
+    return "\n".join([f".format {image_format}", ".sandbox 4096", *code_lines(code)]) + "\n"
 
 
 @unittest.skipUnless(os.access(SFI, os.X_OK), f"{SFI} isn't built")

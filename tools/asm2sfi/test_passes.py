@@ -30,7 +30,8 @@ def code(text):
 
 
 def lines(pieces):
-    return [line.strip() for line in code_lines(pieces)]
+    """The source text of pieces, but for the lines that choose sizes, with a space after each comma."""
+    return [line.replace(",", ", ") for line in code_lines(pieces) if not line.startswith(".option")]
 
 
 class Layout:
