@@ -579,4 +579,75 @@ __bswapdi2:
 	or	a1,a4,a1
 	ret
 	.size	__bswapdi2, .-__bswapdi2
+	.section	.text.unlikely.__cxa_pure_virtual,"ax",@progbits
+	.align	1
+	.globl	__cxa_pure_virtual
+	.type	__cxa_pure_virtual, @function
+__cxa_pure_virtual:
+	ebreak
+	.size	__cxa_pure_virtual, .-__cxa_pure_virtual
+	.section	.text._Znwj,"ax",@progbits
+	.align	1
+	.globl	_Znwj
+	.type	_Znwj, @function
+_Znwj:
+	addi	sp,sp,-16
+	sw	ra,12(sp)
+	bne	a0,zero,.L142
+	li	a0,1
+.L142:
+	call	malloc
+	beq	a0,zero,.L145
+	lw	ra,12(sp)
+	addi	sp,sp,16
+	jr	ra
+.L145:
+	ebreak
+	.size	_Znwj, .-_Znwj
+	.section	.text._Znaj,"ax",@progbits
+	.align	1
+	.globl	_Znaj
+	.type	_Znaj, @function
+_Znaj:
+	addi	sp,sp,-16
+	sw	ra,12(sp)
+	bne	a0,zero,.L147
+	li	a0,1
+.L147:
+	call	malloc
+	beq	a0,zero,.L150
+	lw	ra,12(sp)
+	addi	sp,sp,16
+	jr	ra
+.L150:
+	ebreak
+	.size	_Znaj, .-_Znaj
+	.section	.text._ZdlPv,"ax",@progbits
+	.align	1
+	.globl	_ZdlPv
+	.type	_ZdlPv, @function
+_ZdlPv:
+	tail	free
+	.size	_ZdlPv, .-_ZdlPv
+	.section	.text._ZdaPv,"ax",@progbits
+	.align	1
+	.globl	_ZdaPv
+	.type	_ZdaPv, @function
+_ZdaPv:
+	tail	free
+	.size	_ZdaPv, .-_ZdaPv
+	.section	.text._ZdlPvj,"ax",@progbits
+	.align	1
+	.globl	_ZdlPvj
+	.type	_ZdlPvj, @function
+_ZdlPvj:
+	tail	free
+	.size	_ZdlPvj, .-_ZdlPvj
+	.section	.text._ZdaPvj,"ax",@progbits
+	.align	1
+	.globl	_ZdaPvj
+	.type	_ZdaPvj, @function
+_ZdaPvj:
+	tail	free
+	.size	_ZdaPvj, .-_ZdaPvj
 	.ident	"GCC: (12.2.0-14+deb12u1+11+b2) 12.2.0"

@@ -183,3 +183,48 @@ u32 __bswapsi2(u32 number) {
 u64 __bswapdi2(u64 number) {
     return joined(__bswapsi2(number), __bswapsi2(high_half(number)));
 }
+
+/* C++: a call of a virtual function that no class defines, and memory from the C library's malloc. */
+
+void __cxa_pure_virtual(void) {
+    __builtin_trap();
+}
+
+void *malloc(size count);
+void free(void *memory);
+
+void *new_object(size count) __asm__("_Znwj");
+void *new_array(size count) __asm__("_Znaj");
+void delete_object(void *memory) __asm__("_ZdlPv");
+void delete_array(void *memory) __asm__("_ZdaPv");
+void delete_object_of(void *memory, size count) __asm__("_ZdlPvj");
+void delete_array_of(void *memory, size count) __asm__("_ZdaPvj");
+
+void *new_object(size count) {
+    void *memory = malloc(count ? count : 1);
+    if (!memory)
+        __builtin_trap();
+    return memory;
+}
+
+void *new_array(size count) {
+    return new_object(count);
+}
+
+void delete_object(void *memory) {
+    free(memory);
+}
+
+void delete_array(void *memory) {
+    free(memory);
+}
+
+void delete_object_of(void *memory, size count) {
+    (void)count;
+    free(memory);
+}
+
+void delete_array_of(void *memory, size count) {
+    (void)count;
+    free(memory);
+}

@@ -6,6 +6,9 @@
 #ifdef NDEBUG
 #define assert(condition) ((void)0)
 #else
+#ifdef __cplusplus
+extern "C"
+#endif
 __attribute__((noreturn)) void assertion_failed(const char *message);
 #define ASSERT_LINE(line) #line
 #define ASSERT_TEXT(line) ASSERT_LINE(line)

@@ -8,6 +8,10 @@
 #define EXIT_FAILURE 1
 #define RAND_MAX 32767
 
+#ifdef __cplusplus
+extern "C" {
+#endif
+
 void *malloc(size_t size);
 void *calloc(size_t count, size_t size);
 void *realloc(void *memory, size_t size);
@@ -26,5 +30,9 @@ void srand(unsigned seed);
 
 __attribute__((noreturn)) void exit(int code);
 __attribute__((noreturn)) void abort(void);
+
+#ifdef __cplusplus
+}
+#endif
 
 #endif

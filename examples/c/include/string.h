@@ -4,6 +4,10 @@
 
 #include <stddef.h>
 
+#ifdef __cplusplus
+extern "C" {
+#endif
+
 void *memcpy(void *to, const void *from, size_t count);
 void *memmove(void *to, const void *from, size_t count);
 void *memset(void *to, int value, size_t count);
@@ -19,5 +23,9 @@ char *strcat(char *to, const char *from);
 char *strchr(const char *text, int wanted);
 char *strrchr(const char *text, int wanted);
 char *strstr(const char *text, const char *wanted);
+
+#ifdef __cplusplus
+}
+#endif
 
 #endif

@@ -261,7 +261,7 @@ OWN_GOES_FIRST int snprintf(char *to, size_t room, const char *form, ...) {
 OWN_GOES_FIRST int sprintf(char *to, const char *form, ...) {
     va_list arguments;
     va_start(arguments, form);
-    int total = vsnprintf(to, SIZE_MAX, form, arguments);
+    int total = vsnprintf(to, PTRDIFF_MAX, form, arguments);
     va_end(arguments);
     return total;
 }
