@@ -1,10 +1,6 @@
 pub mod Texts
-pub mod Streamed
 pub mod TooLarge
-pub mod Sources
-pub mod Verdicts
 pub mod Statuses
-pub mod Conversions
 pub mod Rounds
 pub mod Told
 pub mod Said

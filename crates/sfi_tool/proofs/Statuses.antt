@@ -1,9 +1,9 @@
 -- A job's answer has status 0 or 1.
 use Rattle.std.proofs.Common.{◌≤◌, arith, ℕ, Bool, true, false, List, inl, inr}
 use Rattle.sfi_tool.specs.Says.{Says}
-use Rattle.sfi_tool.specs.commands.Checking.{SaysVerdict}
+use Rattle.sfi_answers.specs.commands.Checking.{SaysVerdict}
 use Rattle.sfi_tool.specs.commands.Running.{SaysRun}
-use Rattle.sfi_tool.specs.commands.Converting.{SaysConversion}
+use Rattle.sfi_answers.specs.commands.Converting.{SaysConversion}
 use Rattle.sfi_command.specs.declared.job.Job.{Job}
 use Rattle.sfi_command.specs.declared.job.Job.TheVariants.{Check, Dis, Build, Map, Run, Convert}
 

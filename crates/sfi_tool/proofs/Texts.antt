@@ -3,11 +3,11 @@ use Rattle.std.proofs.Common.{◌≡◌, ℕ, List, Result, sym, subst, inl, inr
 use Rattle.std.specs.Prelude.{IsErr}
 use Rattle.std.proofs.lemmas.Result.{IfOk-weaker, IfErr-weaker}
 use Rattle.sfi_io.specs.Hexadecimal.{IsUnreadable, SpellsBytes}
-use Rattle.sfi_tool.specs.Meaning.{Meaning, on_text}
-use Rattle.sfi_tool.specs.private.Says.{Answers, IsStop}
-use Rattle.sfi_tool.specs.declared.fault.Stop.{Stop}
-use Rattle.sfi_tool.specs.declared.fault.Stop.TheVariants as stop
-use Rattle.sfi_tool.specs.declared.verdict.Answer.{Answer}
+use Rattle.sfi_answers.specs.Meaning.{Meaning, on_text}
+use Rattle.sfi_answers.specs.Answers.{Answers, IsStop}
+use Rattle.sfi_answers.specs.declared.fault.Stop.{Stop}
+use Rattle.sfi_answers.specs.declared.fault.Stop.TheVariants as stop
+use Rattle.sfi_answers.specs.declared.verdict.Answer.{Answer}
 
 -- a fault that follows from another
 stops_more : (P Q : Type 0) → (P → Q) → (s : Stop) → IsStop P s → IsStop Q s

@@ -1,8 +1,4 @@
-pub mod Input
-pub mod Verdict
 pub mod RunLines
-pub mod MapLines
-pub mod Meaning
 pub mod commands
 pub mod Says
 pub mod Run

@@ -2,12 +2,12 @@
 use Rattle.std.specs.Prelude.{ℕ, List, true, false}
 use Rattle.sfi_command.specs.declared.job.Job.{Job}
 use Rattle.sfi_command.specs.declared.job.Job.TheVariants.{Check, Dis, Build, Map, Run, Convert}
-use Rattle.sfi_tool.specs.Meaning.{Meaning, on_text}
-use Rattle.sfi_tool.specs.commands.Checking.{check}
-use Rattle.sfi_tool.specs.commands.Listing.{dis}
-use Rattle.sfi_tool.specs.commands.Building.{build, map}
+use Rattle.sfi_answers.specs.Meaning.{Meaning, on_text}
+use Rattle.sfi_answers.specs.commands.Checking.{check}
+use Rattle.sfi_answers.specs.commands.Listing.{dis}
+use Rattle.sfi_answers.specs.commands.Building.{build, map}
 use Rattle.sfi_tool.specs.commands.Running.{run}
-use Rattle.sfi_tool.specs.commands.Converting.{convert}
+use Rattle.sfi_answers.specs.commands.Converting.{convert}
 
 -- what is said of each job, by its command. All read hexadecimal text, but for a check of an
 -- image's own bytes, and a build and a map of a source text

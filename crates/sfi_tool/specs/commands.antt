@@ -1,6 +1,2 @@
--- The commands, each with all that is said of it.
-pub mod Checking
-pub mod Listing
-pub mod Building
+-- The command that stands on a host; `sfi_answers` has the others.
 pub mod Running
-pub mod Converting

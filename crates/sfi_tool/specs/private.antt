@@ -1,5 +1,4 @@
 -- Words that private contracts and proofs alone cite: no public statement rests on them.
-pub mod Converting
 pub mod Says
 pub mod Rounds
 pub mod Told

@@ -4,15 +4,13 @@ ghost use Rattle.std.specs.Prelude.{◌≡◌, ◌≤◌, ◌<◌, false, length
 ghost use Rattle.sfi_command.specs.Jobs.{is_raw};
 ghost use Rattle.sfi_io.specs.Input.{limit};
 ghost use Rattle.sfi_tool.specs.Says.{HasInputFault, IsDone, IsRefused, Says, meaning_of};
-ghost use Rattle.sfi_tool.specs.private.Says.{Answers};
+ghost use Rattle.sfi_answers.specs.Answers.{Answers};
 
-use crate::building::{build_answer, map_answer};
-use crate::checking::check_answer;
-use crate::converting::conversion_answer;
-use crate::fault::{Stop, TOO_LARGE_LINE, stop_answer};
-use crate::listing::listing_answer;
 use crate::running::run_answer;
-use crate::verdict::Answer;
+use sfi_answers::{
+    Answer, Stop, TOO_LARGE_LINE, build_answer, check_answer, conversion_answer, listing_answer,
+    map_answer, stop_answer,
+};
 use sfi_command::Job;
 use sfi_io::{INPUT_LIMIT, bytes_of};
 use std::alloc::{AllocError, Global};

@@ -3,16 +3,14 @@
 ghost use Rattle.std.specs.Prelude.{◌≡◌, IfOk, string_bytes, length};
 ghost use Rattle.sfi_host.specs.Worlds.{slots_of};
 ghost use Rattle.sfi_tool.specs.RunLines.{IsRunText, IsRunTextOf};
-ghost use Rattle.sfi_tool.specs.private.Says.{Answers};
+ghost use Rattle.sfi_answers.specs.Answers.{Answers};
 ghost use Rattle.sfi_tool.specs.commands.Running.{run};
 
-use crate::checking::refusal_answer;
-use crate::fault::Stop;
 use crate::plan::take_rounds;
 use crate::run_lines::run_lines;
 use crate::states::push_states;
-use crate::verdict::Answer;
 use rv_mem::{Memory, Pages};
+use sfi_answers::{Answer, Stop, refusal_answer};
 use sfi_check::{Accepted, check};
 use sfi_host::{Console, World};
 use std::alloc::{AllocError, Global};

@@ -11,8 +11,7 @@ ghost use Rattle.sfi_tool.specs.Run.{WritesAnswer, MeetsFault, OnlyAppends};
 ghost use Rattle.sfi_tool.specs.private.Says.{Runs};
 
 use crate::answering::answer;
-use crate::fault::TOO_LARGE_LINE;
-use crate::raw::raw_answer;
+use sfi_answers::{TOO_LARGE_LINE, raw_answer};
 use sfi_command::{HEX_LINE, Job, JobFault, job_of};
 use sfi_io::{Input, ReadStop, read_input, write_out};
 use std::alloc::Global;

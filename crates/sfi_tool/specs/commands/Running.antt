@@ -2,9 +2,9 @@
 use Rattle.std.specs.Prelude.{◌≡◌, ◌⊎◌, ℕ, Bool, List, false}
 use Rattle.sfi_image.specs.Spelling.{Part}
 use Rattle.sfi_check.specs.Verdict.{IsAccepted}
-use Rattle.sfi_tool.specs.Meaning.{Meaning}
+use Rattle.sfi_answers.specs.Meaning.{Meaning}
 use Rattle.sfi_tool.specs.RunLines.{IsRunText}
-use Rattle.sfi_tool.specs.commands.Checking.{SaysRefused, on_verdict}
+use Rattle.sfi_answers.specs.commands.Checking.{SaysRefused, on_verdict}
 
 -- the image has no findings: status 0 and the text of a run of its sandboxes, each of which reads
 -- what is given

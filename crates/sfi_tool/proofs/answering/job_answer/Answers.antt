@@ -1,12 +1,12 @@
 use Rattle.std.proofs.Common.{◌≡◌, ◌∙◌, ℕ, Bool, false, List, Result, ap, sym, subst}
 use Rattle.sfi_tool.specs.Says.{meaning_of}
-use Rattle.sfi_tool.specs.commands.Checking.{check}
-use Rattle.sfi_tool.specs.commands.Converting.{convert}
-use Rattle.sfi_tool.specs.commands.Listing.{dis}
+use Rattle.sfi_answers.specs.commands.Checking.{check}
+use Rattle.sfi_answers.specs.commands.Converting.{convert}
+use Rattle.sfi_answers.specs.commands.Listing.{dis}
 use Rattle.sfi_tool.specs.commands.Running.{run}
-use Rattle.sfi_tool.specs.declared.fault.Stop.{Stop}
-use Rattle.sfi_tool.specs.declared.verdict.Answer.{Answer}
-use Rattle.sfi_tool.specs.private.Says.{Answers}
+use Rattle.sfi_answers.specs.declared.fault.Stop.{Stop}
+use Rattle.sfi_answers.specs.declared.verdict.Answer.{Answer}
+use Rattle.sfi_answers.specs.Answers.{Answers}
 use Rattle.sfi_command.specs.Jobs.{is_raw}
 use Rattle.sfi_command.specs.declared.job.Job.{Job}
 use Rattle.sfi_command.specs.declared.job.Job.TheVariants.{Check}

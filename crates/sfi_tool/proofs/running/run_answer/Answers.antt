@@ -1,6 +1,6 @@
 use Rattle.std.proofs.Common.{inl, refl}
 use Rattle.sfi_tool.specs.commands.Running.{SaysRun}
-use Rattle.sfi_tool.proofs.Verdicts.{accepted}
+use Rattle.sfi_answers.proofs.Verdicts.{accepted}
 use Rattle.sfi_tool.proofs.running.run_answer.Goals as goal
 
 pub returns-in_ok-run_text-in-Ok : goal.returns-in_ok-run_text-in-Ok

@@ -1,0 +1,4 @@
+pub mod Streamed
+pub mod Sources
+pub mod Verdicts
+pub mod Conversions

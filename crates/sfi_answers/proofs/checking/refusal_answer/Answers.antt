@@ -1,0 +1,18 @@
+use Rattle.std.proofs.Common.{List, refl, subst}
+use Rattle.std.specs.Prelude.{string_bytes}
+use Rattle.sfi_check.specs.declared.refusal.Refusal.{Refusal}
+use Rattle.sfi_scan.specs.declared.finding.Finding.{Finding}
+use Rattle.sfi_answers.specs.commands.Checking.{IsRefusalText, SaysRefused}
+use Rattle.sfi_answers.specs.Refusals.{Refuses}
+use Rattle.sfi_answers.proofs.Verdicts.{has_fault, has_findings}
+use Rattle.sfi_answers.proofs.checking.refusal_answer.Goals as goal
+
+pub returns-in_ok-refusal_text-in-Findings : goal.returns-in_ok-refusal_text-in-Findings
+returns-in_ok-refusal_text-in-Findings c =
+    let text = c.in_ok-refusal_text-in-Findings.field-0 in
+    has_findings c.args.report c.args.bytes.now c.in-Findings.findings _ (subst (λ (r : Refusal). Refuses c.args.bytes.now r) c.in-Findings.is c.requires) refl
+    (subst (λ (found : List Finding). IsRefusalText c.args.report c.args.bytes.now found (string_bytes text)) c.as_slice.ensures.value c.in_ok-refusal_text-in-Findings.ensures)
+
+pub returns-in-Layout : goal.returns-in-Layout
+returns-in-Layout c =
+    has_fault (SaysRefused c.args.report) c.args.bytes.now c.in-Layout.fault (subst (λ (r : Refusal). Refuses c.args.bytes.now r) c.in-Layout.is c.requires)

@@ -1,0 +1,82 @@
+//! The command `check`.
+
+ghost use Rattle.std.specs.Prelude.{IfOk, string_bytes};
+ghost use Rattle.sfi_check.specs.Verdict.{HasFindings};
+ghost use Rattle.sfi_answers.specs.Answers.{Answers};
+ghost use Rattle.sfi_answers.specs.Refusals.{Refuses};
+ghost use Rattle.sfi_answers.specs.commands.Checking.{IsRefusalText, IsReportOf, SaysRefused, check, on_verdict};
+
+use crate::fault::Stop;
+use crate::verdict::{Answer, accepted_line, refused_line};
+use sfi_check::{Refusal, check};
+use sfi_image::parse_image;
+use sfi_report::report_text;
+use sfi_scan::Finding;
+use std::alloc::{AllocError, Global};
+
+/// The report on the findings of the image with these bytes.
+#[tactic(auto, using(sfi_image::proofs::Facts::one_image))]
+fn report_of(alloc: Global, bytes: &[u8], findings: &[Finding]) -> Result<String, AllocError>
+    requires { HasFindings bytes.now findings.now }
+    ensures { IfOk result (λ text. IsReportOf bytes.now findings.now (string_bytes text)) }
+{
+    match parse_image(alloc, bytes) {
+        Ok(image) => report_text(alloc, &image, findings),
+        // Bytes with findings have no fault, so memory ran out.
+        Err(_) => Err(AllocError),
+    }
+}
+
+/// The line of the first of an image's findings.
+/// With the report a line for each finding goes before it.
+fn refusal_text(
+    alloc: Global,
+    report: bool,
+    bytes: &[u8],
+    findings: &[Finding],
+) -> Result<String, AllocError>
+    requires { HasFindings bytes.now findings.now }
+    ensures { IfOk result
+        (λ text. IsRefusalText report bytes.now findings.now (string_bytes text)) }
+{
+    let verdict = refused_line(alloc, findings.len(), findings[0])?;
+    if !report {
+        return Ok(verdict);
+    }
+    let mut text = report_of(alloc, bytes, findings)?;
+    text.push_str(&verdict)?;
+    Ok(text)
+}
+
+/// What a command answers on an image that is refused, with a report on its findings or without.
+pub fn refusal_answer(
+    alloc: Global,
+    report: bool,
+    bytes: &[u8],
+    refusal: Refusal,
+) -> Result<Answer, Stop>
+    requires { Refuses bytes.now refusal }
+    ensures { Answers (on_verdict (SaysRefused report)) bytes.now result }
+{
+    match refusal {
+        Refusal::Findings(findings) => Ok(Answer {
+            status: 1,
+            text: refusal_text(alloc, report, bytes, findings.as_slice())?,
+        }),
+        Refusal::Layout(fault) => Err(Stop::Layout(fault)),
+        Refusal::Memory => Err(Stop::Memory),
+    }
+}
+
+/// The verdict on the image with these bytes, with a report on its findings or without.
+pub fn check_answer(alloc: Global, report: bool, bytes: &[u8]) -> Result<Answer, Stop>
+    ensures { Answers (check report) bytes.now result }
+{
+    match check(alloc, bytes) {
+        Ok(accepted) => Ok(Answer {
+            status: 0,
+            text: accepted_line(alloc, accepted.sandboxes(), accepted.bundles())?,
+        }),
+        Err(refusal) => refusal_answer(alloc, report, bytes, refusal),
+    }
+}

@@ -1,0 +1,67 @@
+//! The command `convert`.
+
+ghost use Rattle.std.specs.Prelude.{◌≡◌, ◌≢◌, [], IfOk, string_bytes};
+ghost use Rattle.sfi_check.specs.declared.conversion.ConvertFault.TheVariants.{Refused};
+ghost use Rattle.sfi_answers.specs.private.Converting.{AnswersConvertFault, HoldsSome};
+ghost use Rattle.sfi_answers.specs.Answers.{Answers};
+ghost use Rattle.sfi_answers.specs.Verdict.{refused_line};
+ghost use Rattle.sfi_answers.specs.commands.Converting.{convert};
+
+use crate::fault::{InputFault, Stop};
+use crate::verdict::{Answer, digits_line, refused_line};
+use sfi_check::{ConvertFault, Refusal, convert};
+use sfi_scan::Finding;
+use std::alloc::{AllocError, Global};
+
+/// The line of the first of these findings.
+fn findings_line(alloc: Global, findings: &[Finding]) -> Result<String, AllocError>
+    requires { findings.now ≢ [] }
+    ensures { IfOk result (λ line. string_bytes line ≡ refused_line findings.now) }
+{
+    refused_line(alloc, findings.len(), findings[0])
+}
+
+/// What the command answers on an image that is refused.
+fn refused_answer(alloc: Global, refusal: Refusal) -> Result<Answer, Stop>
+    requires { HoldsSome (Refused refusal) }
+    ensures { AnswersConvertFault (Refused refusal) result }
+{
+    match refusal {
+        Refusal::Layout(fault) => Err(Stop::Layout(fault)),
+        Refusal::Findings(found) => Ok(Answer {
+            status: 1,
+            text: findings_line(alloc, found.as_slice())?,
+        }),
+        Refusal::Memory => Err(Stop::Memory),
+    }
+}
+
+/// What the command answers on bytes that are not converted.
+fn fault_answer(alloc: Global, fault: ConvertFault) -> Result<Answer, Stop>
+    requires { HoldsSome fault }
+    ensures { AnswersConvertFault fault result }
+{
+    match fault {
+        ConvertFault::Refused(refusal) => refused_answer(alloc, refusal),
+        ConvertFault::NotOld => Err(Stop::Input(InputFault::NotOld)),
+        ConvertFault::Stack(found) => Ok(Answer {
+            status: 1,
+            text: findings_line(alloc, found.as_slice())?,
+        }),
+        ConvertFault::Memory => Err(Stop::Memory),
+    }
+}
+
+/// The image with these bytes, in the second format, in hexadecimal digits; or the verdict where it
+/// breaks a rule of either format.
+pub fn conversion_answer(alloc: Global, bytes: &[u8]) -> Result<Answer, Stop>
+    ensures { Answers convert bytes.now result }
+{
+    match convert(alloc, bytes) {
+        Ok(new) => Ok(Answer {
+            status: 0,
+            text: digits_line(alloc, &new)?,
+        }),
+        Err(fault) => fault_answer(alloc, fault),
+    }
+}

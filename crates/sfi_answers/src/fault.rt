@@ -1,0 +1,134 @@
+//! Faults of the input.
+
+ghost use Rattle.std.specs.Prelude.{◌≡◌, ◌≢◌, IfOk};
+ghost use Rattle.sfi_image.specs.declared.fault.LayoutFault.{LayoutFault};
+ghost use Rattle.sfi_image.specs.Faults.{number_of};
+ghost use Rattle.sfi_answers.specs.Stops.{StopsBuild, stop_of};
+ghost use Rattle.sfi_answers.specs.declared.fault.Stop.TheVariants.{Memory};
+
+use crate::verdict::Answer;
+use rv_text::{TextCause, TextFault};
+use sfi_image::{ImageFault, LayoutFault};
+use sfi_io::{HexFault, HexStop};
+use sfi_link::{BuildFault, LinkFault};
+use sfi_rewrite::RewriteFault;
+use std::alloc::{AllocError, Global};
+
+/// The line that names a text above its limit.
+pub const TOO_LARGE_LINE: &str = "input fault too large\n";
+
+/// What is wrong with the text that was read.
+#[derive(Clone, Copy)]
+pub enum InputFault {
+    Hex(HexFault),
+    Utf8,
+    /// It begins as an image of the second format does, which `convert` makes.
+    NotOld,
+}
+
+/// Why a command gives no verdict: a fault of the text, of the image that it spells or of the
+/// source that it means, or an allocation was refused.
+#[derive(Clone, Copy)]
+pub enum Stop {
+    Input(InputFault),
+    Layout(LayoutFault),
+    Build(BuildFault),
+    Memory,
+}
+
+impl From<AllocError> for Stop {
+    ghost from_gives = { λ _ e. e ≡ Memory };
+
+    fn from(_e: AllocError) -> Stop {
+        Stop::Memory
+    }
+}
+
+impl From<HexStop> for Stop {
+    ghost from_gives = { λ stop given. given ≡ stop_of stop };
+
+    fn from(stop: HexStop) -> Stop {
+        match stop {
+            HexStop::Fault(fault) => Stop::Input(InputFault::Hex(fault)),
+            HexStop::Memory => Stop::Memory,
+        }
+    }
+}
+
+/// Why a build stops: want of memory is no fault of the text.
+impl From<BuildFault> for Stop {
+    ghost from_gives = { StopsBuild };
+
+    fn from(fault: BuildFault) -> Stop {
+        match fault {
+            BuildFault::Text(
+                TextFault {
+                    cause: TextCause::Memory,
+                    ..
+                },
+            )
+            | BuildFault::Rewrite(RewriteFault::Memory)
+            | BuildFault::Link(LinkFault::Memory) => Stop::Memory,
+            BuildFault::Text(_) | BuildFault::Rewrite(_) | BuildFault::Link(_) => Stop::Build(
+                fault,
+            ),
+        }
+    }
+}
+
+/// The fault of an image that has this number.
+pub(crate) fn fault_numbered(number: u32) -> LayoutFault
+    requires { (fault : LayoutFault) × (number_of fault ≡ number) }
+    ensures { number_of result ≡ number }
+{
+    match number {
+        1 => LayoutFault::Magic,
+        2 => LayoutFault::Count,
+        3 => LayoutFault::Short,
+        4 => LayoutFault::Code,
+        5 => LayoutFault::Data,
+        6 => LayoutFault::GuardRoom,
+        7 => LayoutFault::Start,
+        8 => LayoutFault::Gates,
+        9 => LayoutFault::Init,
+        10 => LayoutFault::Overlap,
+        _ => LayoutFault::Trailing,
+    }
+}
+
+/// The line that names a fault of the image.
+pub(crate) fn layout_line(alloc: Global, fault: LayoutFault) -> Result<String, AllocError> {
+    let fault = ImageFault::Layout(fault);
+    format!(in alloc; "{fault}\n")
+}
+
+/// The line that names a fault of the text.
+fn input_line(alloc: Global, fault: InputFault) -> Result<String, AllocError> {
+    match fault {
+        InputFault::Hex(fault) => format!(in alloc; "{fault}\n"),
+        InputFault::Utf8 => String::from_str(alloc, "input fault utf8\n"),
+        InputFault::NotOld => String::from_str(alloc, "convert fault 2 NotOld\n"),
+    }
+}
+
+/// The line that says why a command gives no verdict.
+fn stop_line(alloc: Global, stop: Stop) -> Result<String, AllocError>
+    ensures { IfOk result (λ line. stop ≢ Memory) }
+{
+    match stop {
+        Stop::Input(fault) => input_line(alloc, fault),
+        Stop::Layout(fault) => layout_line(alloc, fault),
+        Stop::Build(fault) => format!(in alloc; "{fault}\n"),
+        Stop::Memory => Err(AllocError),
+    }
+}
+
+/// What is answered where a command gives no verdict.
+pub fn stop_answer(alloc: Global, stop: Stop) -> Result<Answer, AllocError>
+    ensures { IfOk result (λ a. (a.status ≡ 2) × (stop ≢ Memory)) }
+{
+    Ok(Answer {
+        status: 2,
+        text: stop_line(alloc, stop)?,
+    })
+}

@@ -1,0 +1,19 @@
+//! What the commands answer that run no sandbox: `check`, `build`, `map`, `dis` and `convert`.
+#![tactic(auto)]
+
+mod building;
+mod checking;
+mod converting;
+mod fault;
+mod listing;
+mod map_lines;
+mod raw;
+mod verdict;
+
+pub use building::{build_answer, map_answer};
+pub use checking::{check_answer, refusal_answer};
+pub use converting::conversion_answer;
+pub use fault::{InputFault, Stop, TOO_LARGE_LINE, stop_answer};
+pub use listing::listing_answer;
+pub use raw::raw_answer;
+pub use verdict::Answer;

@@ -1,0 +1,40 @@
+//! The command `check --raw`.
+
+ghost use Rattle.std.specs.Prelude.{◌≡◌, ◌<◌, ◌≤◌, true, false, IfOk, IfSome, string_bytes};
+ghost use Rattle.sfi_answers.specs.commands.Checking.{check};
+
+use crate::fault::{fault_numbered, layout_line};
+use crate::verdict::{Answer, accepted_line, refused_line};
+use sfi_check::{StreamAnswer, check_stream};
+use sfi_image::Reading;
+use sfi_io::ReadStop;
+use std::alloc::Global;
+use std::io::Read;
+
+/// The verdict on the image whose own bytes the reader gives. Memory is taken for its line alone,
+/// however long the image is.
+pub fn raw_answer<R: Read>(alloc: Global, reader: &mut R) -> Result<Answer, ReadStop>
+    ensures statuses { IfOk result (λ a. a.status ≤ 2) }
+    ensures says { IfOk result (λ a. a.status < 2
+        → IfSome (R.remaining reader.old)
+        (λ bytes. (check false).says bytes a.status (string_bytes a.text))) }
+    ensures fault { IfOk result
+        (λ a. a.status ≡ 2 → IfSome (R.remaining reader.old) (check false).has_fault) }
+{
+    let mut source = Reading::new(reader);
+    match check_stream(&mut source) {
+        StreamAnswer::Accepted { sandboxes, bundles } => Ok(Answer {
+            status: 0,
+            text: accepted_line(alloc, sandboxes as usize, bundles as usize)?,
+        }),
+        StreamAnswer::Findings { count, first } => Ok(Answer {
+            status: 1,
+            text: refused_line(alloc, count as usize, first)?,
+        }),
+        StreamAnswer::Layout(number) => Ok(Answer {
+            status: 2,
+            text: layout_line(alloc, fault_numbered(number))?,
+        }),
+        StreamAnswer::ReadFault => Err(ReadStop::Failed),
+    }
+}

@@ -1,0 +1,60 @@
+//! What a command answers.
+
+ghost use Rattle.std.specs.Prelude.{◌≡◌, IfOk, string_bytes};
+ghost use Rattle.sfi_answers.specs.Verdict.{accepted_text, refused_text};
+ghost use Rattle.sfi_answers.specs.commands.Building.{digits_line};
+
+use sfi_report::push_eight_digits;
+use sfi_scan::Finding;
+use std::alloc::{AllocError, Global};
+
+/// What a command answers: the status to end with, and the text to print.
+#[derive(Debug, Drop)]
+pub struct Answer {
+    /// 0 where the job was done, 1 where the image has findings, 2 for a fault of the input.
+    pub status: u8,
+    /// Whole lines, each of which ends in LF.
+    pub text: String,
+}
+
+/// The verdict on an image without findings, which has so many sandboxes and bundles.
+pub(crate) fn accepted_line(
+    alloc: Global,
+    sandboxes: usize,
+    bundles: usize,
+) -> Result<String, AllocError>
+    ensures { IfOk result (λ line. string_bytes line ≡ accepted_text sandboxes bundles) }
+{
+    format!(in alloc; "accepted sandboxes={sandboxes} bundles={bundles}\n")
+}
+
+/// The verdict on an image with so many findings, of which this is the first.
+pub(crate) fn refused_line(
+    alloc: Global,
+    count: usize,
+    first: Finding,
+) -> Result<String, AllocError>
+    ensures { IfOk result (λ line. string_bytes line ≡ refused_text count first) }
+{
+    let Finding {
+        sandbox,
+        address,
+        rule,
+    } = first;
+    let number = rule.number();
+    let mut line = format!(in alloc;
+        "refused findings={count} first=V{number} sandbox={sandbox} at="
+    )?;
+    push_eight_digits(&mut line, address)?;
+    line.push_str("\n")?;
+    Ok(line)
+}
+
+/// The bytes in lower-case hexadecimal digits, on one line.
+pub(crate) fn digits_line(alloc: Global, bytes: &[u8]) -> Result<String, AllocError>
+    ensures { IfOk result (λ line. string_bytes line ≡ digits_line bytes.now) }
+{
+    let mut line = hex::encode(alloc, bytes)?;
+    line.push_str("\n")?;
+    Ok(line)
+}

@@ -1,9 +1,0 @@
-use Rattle.sfi_link.specs.Texts.{IsTextBuild}
-use Rattle.sfi_tool.specs.commands.Building.{digits_line}
-use Rattle.sfi_tool.proofs.Sources.{not_made}
-use Rattle.sfi_tool.proofs.building.build_answer.Goals as goal
-
-pub returns-in_err-bytes : goal.returns-in_err-bytes
-returns-in_err-bytes c =
-    not_made c.args.places.now IsTextBuild digits_line c.args.text.now c.in_ok-source.source.now c.in_err-bytes.field-0.0 c.from_residual-in_err-bytes.result
-    c.in_ok-source.ensures.text.0 c.in_err-bytes.ensures.fault c.in_err-bytes.ensures.only_built c.from_residual-in_err-bytes.ensures.1

@@ -1,8 +1,0 @@
-use Rattle.std.proofs.Common.{append_assoc}
-use Rattle.std.proofs.lemmas.Result.{IfOk-weaker}
-use Rattle.sfi_tool.specs.Verdict.{accepted_text}
-use Rattle.sfi_tool.proofs.verdict.accepted_line.Goals as goal
-
-pub returns : goal.returns
-unfolding accepted_text
-returns c = IfOk-weaker c.format.result _ _ (λ s h. simp append_assoc h) c.format.ensures.ok
