@@ -1,33 +1,54 @@
 """Which instructions of a run may change places: what they read and write, in registers and in
 memory."""
+from collections import deque
+from functools import lru_cache
+from typing import NamedTuple
+
 from control import goes_on, is_branch, is_call
-from instructions import SHAPES, STORES, is_access, offset_and_base, written
+from instructions import SHAPES, STORES, is_access, memory_parts, offset_and_base, written
+from operands import REGISTERS
 
 WIDTHS = {"b": 1, "h": 2, "w": 4}  # by the letter after the first of a load's or store's name
+WINDOW = 32  # only instructions that are less far apart change places
 
 
-def base(op):
-    """The register that the address of a load, a store or a `jalr` is counted from, or None."""
-    return offset_and_base(op)[1] if SHAPES.get(op.word) == "RM" else None
+class Registers(NamedTuple):
+    """What an instruction does with registers. A value is what it reads other than as the base of
+    an address: what a store stores is one."""
+    values: frozenset
+    reads: frozenset
+    writes: frozenset
+
+
+@lru_cache(maxsize=None)
+def registers_of(word, operands, target):
+    """The registers of an instruction, of which the one that it writes is known."""
+    kinds = list(zip(SHAPES.get(word, ""), operands))[target is not None:]
+    values_read = {"ra"} if word == "ret" else {text for kind, text in kinds if kind == "R"}
+    bases = {memory_parts(text)[1] for kind, text in kinds if kind == "M"}
+    without_zero = [frozenset(names - {None, "zero"}) for names in (values_read, values_read | bases, {target})]
+    return Registers(*without_zero)
 
 
 def values(op):
-    """The registers whose values an instruction takes other than as the base of an address: the
-    one that a store stores is among them."""
-    if op.word == "ret":
-        return {"ra"}
-    operands = list(zip(SHAPES.get(op.word, ""), op.operands))[written(op) is not None:]
-    return {text for kind, text in operands if kind == "R"} - {"zero"}
+    """The registers that an instruction reads other than as the base of an address."""
+    return registers_of(op.word, op.operands, written(op)).values
 
 
 def reads(op):
     """The registers that an instruction reads."""
-    return values(op) | {base(op)} - {None, "zero"}
+    return registers_of(op.word, op.operands, written(op)).reads
 
 
 def writes(op):
     """The registers that an instruction writes."""
-    return {written(op)} - {None, "zero"}
+    return registers_of(op.word, op.operands, written(op)).writes
+
+
+@lru_cache(maxsize=None)
+def bits(names):
+    """Registers as a number: bit n stands for register n."""
+    return sum(1 << REGISTERS[name] for name in names)
 
 
 def is_barrier(piece):
@@ -55,7 +76,8 @@ class Access:
     accesses on one base and version are on one address. A load of the stack pointer itself is from
     where its program kept it, and so may be on an object."""
 
-    def __init__(self, op, version):
+    def __init__(self, index, op, version):
+        self.index = index
         self.offset, self.base = offset_and_base(op)
         self.end = self.offset + WIDTHS[op.word[1]]
         self.version = version
@@ -74,19 +96,24 @@ class Access:
 
 
 def needed_before(ops):
-    """For each instruction of a run those, as bits, that have to stay before it."""
-    needed, writers, readers, accesses, versions = [], {}, {}, [], {}
+    """For each instruction of a run the earlier ones that have to stay before it, of those less
+    than WINDOW before it."""
+    needed, writers, readers, versions = [], {}, {}, {}
+    accesses = deque()
     for index, op in enumerate(ops):
-        earlier = {writers[name] for name in reads(op) | writes(op) if name in writers}
-        earlier |= {reader for name in writes(op) for reader in readers.get(name, ())}
+        read, written_now = reads(op), writes(op)
+        earlier = {writers[name] for name in read | written_now if name in writers}
+        earlier.update(reader for name in written_now for reader in readers.get(name, ()))
         if is_access(op):
-            access = Access(op, versions.get(offset_and_base(op)[1], 0))
-            earlier |= {other for other, there in accesses if access.may_meet(there)}
-            accesses.append((index, access))
-        for name in reads(op):
+            while accesses and index - accesses[0].index >= WINDOW:
+                accesses.popleft()
+            access = Access(index, op, versions.get(offset_and_base(op)[1], 0))
+            earlier.update(other.index for other in accesses if access.may_meet(other))
+            accesses.append(access)
+        for name in read:
             readers.setdefault(name, []).append(index)
-        for name in writes(op):
+        for name in written_now:
             writers[name], readers[name] = index, []
             versions[name] = versions.get(name, 0) + 1
-        needed.append(sum(1 << other for other in earlier))
+        needed.append({other for other in earlier if index - other < WINDOW})
     return needed

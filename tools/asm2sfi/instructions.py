@@ -1,5 +1,6 @@
 """Turns one instruction of the compiler's assembly into instructions of the source language."""
 from dataclasses import dataclass
+from functools import lru_cache
 
 from assembly import Refused, Statement
 from operands import (MEMORY, PART, Symbol, is_register, is_stack_pointer, is_symbol, lower, number, number_or_none,
@@ -41,6 +42,10 @@ SHAPES = {
 }
 LOADS = ("lb", "lh", "lw", "lbu", "lhu")
 STORES = ("sb", "sh", "sw")
+ACCESSES = frozenset(LOADS + STORES)
+# Those that write their first operand.
+WRITING = frozenset(word for word, shape in SHAPES.items()
+                    if shape[:1] == "R" and "J" not in shape and word not in STORES + ("jr",)) | {"jal"}
 
 # The assembler takes these with a number as the last operand, too.
 WITH_NUMBER = {"add": "addi", "slt": "slti", "sltu": "sltiu", "xor": "xori", "or": "ori", "and": "andi",
@@ -261,20 +266,24 @@ OPERANDS = {
 }
 
 
-def offset_and_base(op):
-    """The offset and the base register of a load, a store or a `jalr`."""
-    match = MEMORY.fullmatch(op.operands[1])
+@lru_cache(maxsize=None)
+def memory_parts(text):
+    """The offset and the base register of a memory operand such as `4(a0)`."""
+    match = MEMORY.fullmatch(text)
     return int(match.group(1)), match.group(2)
 
 
+def offset_and_base(op):
+    """The offset and the base register of a load, a store or a `jalr`."""
+    return memory_parts(op.operands[1])
+
+
 def is_access(op):
-    return op.word in LOADS + STORES
+    return op.word in ACCESSES
 
 
 def written(op):
     """The register that an instruction writes, or None."""
-    if op.word == "call":
-        return "ra"
-    if SHAPES.get(op.word, "").startswith("R") and op.word not in STORES + ("jr",) and "J" not in SHAPES[op.word]:
+    if op.word in WRITING:
         return op.operands[0]
-    return op.operands[0] if op.word == "jal" else None
+    return "ra" if op.word == "call" else None

@@ -16,121 +16,18 @@ again. And no caller counts on it: it is one that the function, wherever it's en
 itself."""
 from collections import Counter
 from dataclasses import dataclass, replace
+from operator import and_, or_
 
-from control import LOOP, Blocks, goes_on, is_branch, is_call, is_jump, labels_of
-from dependences import reads, runs, values, writes
-from instructions import Op, is_access, offset_and_base
-from liveness import Liveness
+from clusters import POINT, SPARED, base_of, best_clusters, on_stack_pointer, pointed, touches_stack
+from control import LOOP, Blocks, goes_on, is_branch, is_call, is_jump, labels_of, spread
+from dependences import bits, reads, runs, writes
+from instructions import Op, offset_and_base
+from liveness import EVERYTHING, Liveness
+from operands import REGISTERS
 from program import Mark
 
 KEEPERS = "t0 t1 t2 t3 t4 t5 a0 a1 a2 a3 a4 a5 a6 a7 ra s0 s1 s2 s3 s4 s5 s6 s7".split()
-POINT = 3  # the steps of `mv sp, a`
-SPARED = 2  # the steps that an access on `sp` spares
 KEEP_AND_PUT_BACK = 4
-LOWEST, HIGHEST = -2048, 2047
-
-
-def touches_stack(op):
-    return "sp" in reads(op) | writes(op)
-
-
-def may_point(op):
-    """Whether an instruction is an access that does the same on `sp`, where that holds its base:
-    it has another base, and neither stores the stack pointer nor loads it."""
-    return is_access(op) and offset_and_base(op)[1] != "sp" and "sp" not in values(op) | writes(op)
-
-
-@dataclass
-class Cluster:
-    """Accesses of a run, by their index, with their offsets from what `sp` is set to before the
-    first of them."""
-    base: str
-    offsets: dict
-
-    def gain(self):
-        return SPARED * len(self.offsets) - POINT
-
-    def first(self):
-        return min(self.offsets)
-
-    def last(self):
-        return max(self.offsets)
-
-    def is_in_reach(self):
-        return all(LOWEST <= offset <= HIGHEST for offset in self.offsets.values())
-
-
-class Chains:
-    """The accesses of a run on one base, and on what it becomes by the sums `addi a, a, N`: each
-    chain has the indices of its accesses, with the offsets from the base as it was at its
-    beginning. Each base that leads to an object lies in the data region (`layout`), so masking
-    the first in place of each changes nothing."""
-
-    def __init__(self, ops):
-        self.found = []
-        self.open = {}  # by base, its chain and how far the base has moved
-        for index, op in enumerate(ops):
-            if may_point(op):
-                self.take(index, *offset_and_base(op))
-            for name in writes(op):
-                self.move(op, name)
-
-    def take(self, index, offset, base):
-        if base not in self.open:
-            self.found.append(Cluster(base, {}))
-            self.open[base] = self.found[-1], 0
-        chain, moved = self.open[base]
-        chain.offsets[index] = offset + moved
-
-    def move(self, op, name):
-        if name in self.open:
-            chain, moved = self.open.pop(name)
-            if op.word == "addi" and op.operands[1] == name:
-                self.open[name] = chain, moved + int(op.operands[2])
-
-
-def clusters_ending(ops):
-    """By its last index, each part of a chain that `sp` may serve: within it the stack pointer
-    isn't used."""
-    found = {}
-    for chain in Chains(ops).found:
-        indices = sorted(chain.offsets)
-        for begin, first in enumerate(indices):
-            moved = chain.offsets[first] - offset_and_base(ops[first])[0]
-            for end in range(begin + 1, len(indices)):
-                if any(touches_stack(op) for op in ops[indices[end - 1]:indices[end]]):
-                    break
-                part = indices[begin:end + 1]
-                cluster = Cluster(chain.base, {index: chain.offsets[index] - moved for index in part})
-                if cluster.is_in_reach():
-                    found.setdefault(part[-1], []).append(cluster)
-    return found
-
-
-def best_clusters(ops):
-    """The clusters of a run, no two of which overlap, that gain most together."""
-    ending = clusters_ending(ops)
-    best = [(0, ())]  # by the number of instructions passed: what is gained, and the clusters
-    for index in range(len(ops)):
-        choices = [best[index]]
-        for cluster in ending.get(index, []):
-            gain, before = best[cluster.first()]
-            choices.append((gain + cluster.gain(), (*before, cluster)))
-        best.append(max(choices, key=lambda choice: choice[0]))
-    return list(best[-1][1])
-
-
-def pointed(ops, clusters):
-    """The instructions of a run, for each in a list what it becomes."""
-    starts = {cluster.first(): cluster.base for cluster in clusters}
-    offsets = {index: offset for cluster in clusters for index, offset in cluster.offsets.items()}
-    for index, op in enumerate(ops):
-        point = [Op("mv", ("sp", starts[index]), op.place)] if index in starts else []
-        yield point + [on_stack_pointer(op, offsets[index]) if index in offsets else op]
-
-
-def on_stack_pointer(op, offset):
-    return replace(op, operands=(op.operands[0], f"{offset}(sp)"), pointed=True)
 
 
 class Keepers:
@@ -140,31 +37,28 @@ class Keepers:
         self.code = code
         self.liveness = Liveness(code)
         self.blocks = blocks
+        self.touched = [0 if piece.is_mark else bits(reads(piece)) | bits(writes(piece)) for piece in code]
         self.owned = self.owned_by_blocks()
 
     def owned_by_blocks(self):
-        """For each block, the registers that the program writes from each entry that leads to
-        the block. gcc's -fipa-ra lets a caller count on each other one."""
-        written = [set() for _ in self.blocks.starts]
+        """For each block, as bits, the registers that the program writes from each entry that
+        leads to the block. gcc's -fipa-ra lets a caller count on each other one."""
+        written = [0] * len(self.blocks.starts)
         for block, piece in zip(self.blocks.block_of, self.code):
-            written[block] |= set() if piece.is_mark else writes(piece)
-        owned = [set(KEEPERS) for _ in self.blocks.starts]
+            written[block] |= 0 if piece.is_mark else bits(writes(piece))
+        ahead = spread(written, self.blocks.before, or_)
+        owned = [bits(EVERYTHING) for _ in written]
         for entry in self.blocks.entries:
-            reached = self.blocks.reached_from(entry)
-            from_entry = set().union(*(written[block] for block in reached))
-            for block in reached:
-                owned[block] &= from_entry
-        return owned
+            owned[entry] = ahead[entry]
+        return spread(owned, self.blocks.following, and_)
 
     def free(self, first, last):
         """A register that nothing needs from one piece to another, or None."""
-        used = self.liveness.before[first] | {"zero"}
+        used = self.liveness.before[first]
         for number in range(first, last + 1):
-            used |= self.liveness.after[number]
-            if not self.code[number].is_mark:
-                used |= reads(self.code[number]) | writes(self.code[number])
-        owned = self.owned[self.blocks.block_of[first]]
-        return next((name for name in KEEPERS if name in owned and name not in used), None)
+            used |= self.liveness.after[number] | self.touched[number]
+        usable = self.owned[self.blocks.block_of[first]] & ~used
+        return next((name for name in KEEPERS if usable >> REGISTERS[name] & 1), None)
 
 
 def keep(keeper):
@@ -229,7 +123,7 @@ class Loops:
     def is_fit(self, head, inside, first, last):
         """Whether it is one stretch of code, from its head's label on, without an inner loop, a
         call or a use of the stack pointer."""
-        if inside & self.blocks.entries or (inside - {head}) & set(self.loops) or not self.code[first].is_mark:
+        if inside & self.blocks.entries or (inside - {head}) & self.loops.keys() or not self.code[first].is_mark:
             return False
         return sorted(inside) == list(range(head, max(inside) + 1)) and all(
             leaves_stack_alone(piece) for piece in self.code[first:last + 1])
@@ -256,11 +150,6 @@ class Loops:
         jump = self.entering(Op("j", piece.operands[-1:], piece.place))
         self.exits += [Mark(name, True), put_back(loop.keeper), jump]
         return replace(piece, operands=(*piece.operands[:-1], name))
-
-
-def base_of(piece):
-    """The base of an access that may be one on `sp`; None for all else."""
-    return offset_and_base(piece)[1] if not piece.is_mark and may_point(piece) else None
 
 
 def pointed_body(body):
@@ -294,7 +183,7 @@ def with_pointed_runs(code):
             keeper = keepers.free(run[first], run[last])
             if keeper is None or sum(cluster.gain() for cluster in part) <= KEEP_AND_PUT_BACK:
                 continue
-            pieces[first:last + 1] = list(pointed(ops, part))[first:last + 1]
+            pieces[first:last + 1] = pointed(ops[first:last + 1], part, first)
             pieces[first].insert(0, keep(keeper))
             pieces[last].append(put_back(keeper))
         out += [op for some in pieces for op in some]

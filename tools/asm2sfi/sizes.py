@@ -6,8 +6,9 @@ expansion has one size, or two where the instruction has a 16-bit form: then `.o
 `.option norvc` choose. Were a size wrong here, the code would run through more nops than it
 need, and would do the same."""
 from dataclasses import replace
+from functools import lru_cache
 
-from instructions import LOADS, STORES, is_access, offset_and_base, written
+from instructions import LOADS, STORES, Op, is_access, offset_and_base, written
 from operands import REGISTERS
 
 BUNDLE = 16
@@ -93,21 +94,26 @@ def has_short_form(op):
 def expansions(op, image_format):
     """The sizes of an instruction's expansions: for each, the one size or the two that it may
     have."""
-    has_stack = image_format == 2
+    return sizes_of(op.word, op.operands, op.wide, image_format == 2)
+
+
+@lru_cache(maxsize=None)
+def sizes_of(word, operands, wide, has_stack):
+    """The same of a word with operands, in a format that has a stack pointer or one without."""
+    op = Op(word, operands, None, wide)
     if has_stack and written(op) == "sp":
-        parts = 2 if op.word == "la" else len(number_parts(op)) if op.word == "li" else 1
+        parts = 2 if word == "la" else len(number_parts(op)) if word == "li" else 1
         return ((MASKED,),) * parts
-    if is_access(op) and not (has_stack and offset_and_base(op)[1] == "sp") or op.word in ("jr", "ret"):
+    if is_access(op) and not (has_stack and offset_and_base(op)[1] == "sp") or word in ("jr", "ret"):
         return ((MASKED,),)
-    if op.word == "jalr":
+    if word == "jalr":
         return ((MASKED,),) if offset_and_base(op)[0] == 0 else ((MASKED + 4,),)
-    if op.word == "la":
+    if word == "la":
         return (4,), (4,)
-    if op.word == "li" and number_parts(op) != [op]:
-        return tuple(size for part in number_parts(op) for size in expansions(part, image_format))
-    if op.wide or not has_short_form(op):
-        return ((4,),)
-    return ((2, 4),)
+    if word == "li" and number_parts(op) != [op]:
+        return tuple(size for part in number_parts(op)
+                     for size in sizes_of(part.word, part.operands, wide, has_stack))
+    return ((4,),) if wide or not has_short_form(op) else ((2, 4),)
 
 
 def is_in_two_sizes(op):

@@ -4,15 +4,16 @@ from docs/SOURCE.md, from the table of RV32C and from the calling convention."""
 import unittest
 
 from assembly import read_assembly
+from clusters import best_clusters
 from control import Blocks, weights
-from dependences import needed_before, reads, values, writes
+from dependences import bits, needed_before, reads, values, writes
 from instructions import Converter, Op
 from known import with_known_places
 from liveness import Liveness, without_unread
 from naming import Names
 from packing import packed
 from placement import FARTHEST, far_branches, places, with_near_branches
-from pointing import best_clusters, with_pointing
+from pointing import with_pointing
 from program import Mark
 from sizes import expansions
 from writing import code_lines
@@ -106,14 +107,14 @@ class Dependences(unittest.TestCase):
             ("sw a0,0(sp); lw a1,8(zero)", False), ("sw a0,0(sp); lw a1,8(a0)", True), ("sw a0,8(zero); lw sp,4(sp)", True),
         ]
         for text, stays in rows:
-            self.assertEqual(needed_before(code(text))[1] != 0, stays, text)
+            self.assertEqual(needed_before(code(text))[1] != set(), stays, text)
 
     def test_a_changed_base(self):
-        self.assertEqual(needed_before(code("sw a0,0(a2); addi a2,a2,4; sw a1,4(a2)")), [0, 1, 3])
+        self.assertEqual(needed_before(code("sw a0,0(a2); addi a2,a2,4; sw a1,4(a2)")), [set(), {0}, {0, 1}])
 
     def test_another_stack_pointer(self):
         [first, second] = code("sw a0,0(sp); lw a1,8(zero)")
-        self.assertEqual(needed_before([Op(first.word, first.operands, None, pointed=True), second]), [0, 1])
+        self.assertEqual(needed_before([Op(first.word, first.operands, None, pointed=True), second]), [set(), {0}])
 
 
 class Placement(unittest.TestCase):
@@ -140,8 +141,7 @@ class Liveness_(unittest.TestCase):
         write."""
         pieces = code("main: li t3,1; li a1,2; call f; mv a0,t3; ret; f: mv a0,a1; ret")
         live = Liveness(pieces)
-        self.assertTrue({"t3", "a1"} <= live.before[3])
-        self.assertFalse("a2" in live.before[3])
+        self.assertEqual(live.before[3] & bits(("t3", "a1", "a2")), bits(("t3", "a1")))
 
     def test_unread(self):
         pieces = code("f: la a5,x; lw a4,0(zero); la a5,y; mv a0,a5; ret")
