@@ -158,12 +158,12 @@ sw s0,56(sp)
 sw s2,48(sp)
 sw s3,44(sp)
 sw s5,36(sp)
-li s1,2000
-li s4,435
 .option norvc
 sw s6,32(sp)
+li s1,2000
 li a5,0
 li s7,0
+li s4,435
 _.L20:
 sw a5,0(sp)
 nop
@@ -191,9 +191,9 @@ add a2,zero,s6
 slli a6,a5,8
 add a3,zero,s5
 add a0,zero,s3
-mulhu a4,s4,a5
 .option norvc
 addi s1,s1,-1
+mulhu a4,s4,a5
 add s0,s0,a6
 mul s2,s4,a5
 add s0,s0,a4
@@ -256,9 +256,9 @@ lw a2,4(sp)
 lw a3,0(sp)
 slli a6,a5,8
 mulhu a4,s3,a5
-mul s5,s3,a5
 .option norvc
 add a0,zero,s6
+mul s5,s3,a5
 addi s1,s1,1
 add s0,s0,a6
 add s0,s0,a4
@@ -310,9 +310,9 @@ mul a5,s3,a5
 slli a3,a0,8
 sw zero,0(sp)
 li s2,0
-li s7,435
 .option norvc
 li s1,0
+li s7,435
 mulhu a1,s3,a0
 add a5,a5,a3
 mul a0,s3,a0
@@ -538,22 +538,25 @@ add a1,zero,s4
 add a0,s2,s7
 call memmove
 srli a5,s0,16
+.option rvc
 lw a4,0(sp)
 andi a5,a5,63
 add a5,a5,s1
+.option norvc
+slli a4,a4,8
 lbu a2,0(a5)
 .option rvc
-slli a4,a4,8
 srli s0,s0,24
 or s0,s0,a4
 xor a4,a2,s0
+.option norvc
 add a1,zero,s1
 li a2,48
-.option norvc
 add a0,zero,s2
 sb a4,0(a5)
 call memcmp
 slt a5,zero,a0
+.option rvc
 srli a0,a0,31
 sub a5,a5,a0
 srai a4,a5,31
@@ -561,10 +564,11 @@ li a7,435
 xor a4,a4,s5
 xor a5,a5,s3
 mul a4,a7,a4
+.option norvc
+lw a6,4(sp)
 slli a2,a5,8
 mulhu s5,a7,a5
 mul s3,a7,a5
-lw a6,4(sp)
 addi a6,a6,1
 add a4,a4,a2
 li a5,2000
@@ -574,6 +578,7 @@ la a4,left
 la a1,right
 la a6,left..plus64
 li a2,435
+nop
 _.L29:
 lbu a5,0(a4)
 mul a3,a2,s5
@@ -585,8 +590,8 @@ xor a5,a5,s3
 slli a0,a5,8
 .option norvc
 addi a4,a4,1
-addi a1,a1,1
 mulhu s5,a2,a5
+addi a1,a1,1
 add a3,a3,a0
 mul s3,a2,a5
 add s5,s5,a3
@@ -615,22 +620,22 @@ j _.L17..1
 _.L2..1:
 addi sp,sp,-16
 .option norvc
-nop
 sw s0,12(sp)
 li t4,64
 li a7,0
 li a0,0
+nop
 _.L8..1:
 srli a5,a1,31
-slli a6,a7,1
-srli a7,a7,31
 slli t3,a0,1
+srli t0,t1,31
+slli a6,a7,1
 .option rvc
 add a6,a6,a5
+srli a7,a7,31
 or t3,t3,a7
 sltu a5,a6,a5
 add a5,a5,t3
-srli t0,t1,31
 sub t5,a6,a2
 srli t3,a0,31
 slli a1,a1,1
@@ -656,9 +661,9 @@ bne t4,zero,_.L8..1
 lw s0,12(sp)
 nop
 sw a0,4(a4)
-nop
-sw a7,0(a4)
 add a0,zero,t1
+sw a7,0(a4)
+nop
 .option rvc
 addi sp,sp,16
 .option norvc
@@ -668,11 +673,11 @@ _.L17..1:
 add a1,zero,a2
 beq a2,zero,_.L2..1
 remu a5,a0,a2
-nop
-sw zero,4(a4)
 li a1,0
+sw zero,4(a4)
 divu a0,a0,a2
 sw a5,0(a4)
+nop
 ret
 memcpy:
 or a5,a0,a1
@@ -988,16 +993,15 @@ sub a1,zero,a1
 sub a1,a1,a5
 sub a0,zero,a0
 _.L99..1:
-.option rvc
 add a3,zero,s1
 bge s1,zero,_.L101..1
 sltu a5,zero,a2
 sub a3,zero,s1
 sub a3,a3,a5
 sub a2,zero,a2
-j _.L101..1
+nop
+nop
 _.L101..1:
-.option norvc
 addi a4,sp,8
 xor s0,s0,s1
 nop

@@ -39,23 +39,23 @@ j _.L5
 _.L5:
 la s0,values
 add a5,zero,s0
-nop
 la a3,values..plus256
+.option rvc
 li a4,-1
-nop
+j _.L3
 _.L3:
 sw a4,0(a5)
+.option norvc
 addi a5,a5,4
 bne a5,a3,_.L3
 la a1,letters
-nop
-li a2,64
 add a3,zero,a1
+.option rvc
 li a5,0
-nop
+li a2,64
+j _.L6
 _.L6:
 lbu a4,0(a3)
-.option rvc
 addi a3,a3,1
 add a4,a4,s0
 sb a5,0(a4)
@@ -94,10 +94,9 @@ lbu t5,0(t5)
 andi a3,a3,63
 andi a4,a4,63
 mv sp,a5
-.option rvc
 add a3,a3,a1
-add a4,a4,a1
 lbu t2,0(a3)
+add a4,a4,a1
 lbu a3,0(a4)
 addi a4,a5,4
 sb t0,0(sp)
@@ -109,6 +108,7 @@ sub a3,a4,a6
 bne a3,a7,_.L22
 j _.L36
 _.L22:
+.option rvc
 addi a2,a2,-3
 add a5,zero,a4
 sub a4,s1,a2
@@ -173,10 +173,10 @@ add s2,s2,s3
 li a0,0
 li a2,0
 li a5,0
-li t3,61
-li t5,255
 .option norvc
 li t1,10
+li t3,61
+li t5,255
 .option rvc
 li t0,7
 la t4,decoded
@@ -229,19 +229,22 @@ _.L15:
 li a0,1
 j _.L1
 _.L1:
-.option norvc
 lw ra,28(sp)
 lw s0,24(sp)
+.option norvc
 lw s1,20(sp)
 lw s2,16(sp)
 lw s3,12(sp)
 .option rvc
 addi sp,sp,32
+.option norvc
+nop
 jr ra
 _.L9:
 srli a3,a4,12
 srli t5,a4,18
 andi a3,a3,63
+.option rvc
 add t5,t5,a1
 add a3,a3,a1
 lbu t5,0(t5)

@@ -82,14 +82,15 @@ blt zero,a0,_.L7
 j _.L17
 _.L17:
 xori s0,s0,-1
+.option rvc
 addi a3,sp,4
 li a4,28
-nop
 la a1,_.LC0
 li a2,-4
-nop
+j _.L8
 _.L8:
 srl a5,s0,a4
+.option norvc
 andi a5,a5,15
 add a5,a5,a1
 addi a4,a4,-4

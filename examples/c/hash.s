@@ -61,19 +61,20 @@ add:
 addi sp,sp,-32
 sw s1,20(sp)
 sw s2,16(sp)
-.option norvc
 sw ra,28(sp)
 sw s0,24(sp)
+.option norvc
 sw s3,12(sp)
 add s2,zero,a1
 add s1,zero,a0
 beq a1,zero,_.L29
 lui s0,528842
 lui a3,4096
-add a2,a1,a0
 add a5,zero,a0
+add a2,a1,a0
 addi s0,s0,-571
 addi a3,a3,403
+nop
 _.L18:
 lbu a4,0(a5)
 addi a5,a5,1
@@ -93,21 +94,24 @@ lw a4,12(a5)
 addi a4,a4,1
 sw a4,12(a5)
 _.L20:
+.option rvc
 li a0,0
 j _.L16
 _.L16:
 lw ra,28(sp)
 lw s0,24(sp)
+.option norvc
 lw s1,20(sp)
 lw s2,16(sp)
 lw s3,12(sp)
 .option rvc
 addi sp,sp,32
+.option norvc
+nop
 jr ra
 _.L19:
 lw s3,48(zero)
 la a6,table
-.option norvc
 li a0,1
 addi a5,s3,-2048
 beq a5,zero,_.L16
@@ -118,11 +122,11 @@ add t1,a5,s2
 bltu a4,t1,_.L16
 la a4,letters
 add a1,a5,a4
-nop
 beq s2,zero,_.L22
 add a5,zero,s1
 add a4,zero,a1
 add a0,s1,s2
+nop
 _.L23:
 lbu a2,0(a5)
 .option rvc
@@ -277,18 +281,18 @@ j _.L47
 main:
 .option rvc
 addi sp,sp,-80
+.option norvc
 sw s2,64(sp)
 sw ra,76(sp)
 sw s0,72(sp)
 sw s1,68(sp)
 sw s3,60(sp)
+.option rvc
 sw s4,56(sp)
-.option norvc
 sw s5,52(sp)
+.option norvc
 sw s6,48(sp)
 sw s7,44(sp)
-nop
-nop
 call count_words
 li s2,2
 bne a0,zero,_.L64
@@ -326,21 +330,24 @@ _.L71:
 add ra,zero,sp
 mv sp,a4
 lw s3,4(sp)
-.option norvc
 lw a6,8(sp)
 lw a3,12(sp)
+.option norvc
 lw s4,0(sp)
 add a5,a4,t1
 sub a4,a4,t1
 mv sp,a5
+.option rvc
 sw s3,4(sp)
 sw s4,0(sp)
 sw a6,8(sp)
 sw a3,12(sp)
 mv sp,ra
-bltu a0,a7,_.L68
+bgeu a0,a7,_.L69
+j _.L68
 _.L69:
 lw a3,12(a4)
+.option norvc
 add a5,zero,a0
 add a2,zero,a4
 sub a0,a0,a7

@@ -62,9 +62,10 @@ li a0,0
 j _.L2
 put_value:
 addi sp,sp,-80
+.option norvc
 sw s1,68(sp)
-li a5,2
 lw s1,0(a0)
+.option rvc
 sw s0,72(sp)
 sw ra,76(sp)
 sw s2,64(sp)
@@ -74,6 +75,8 @@ sw s5,52(sp)
 .option norvc
 sw s6,48(sp)
 sw s7,44(sp)
+.option rvc
+li a5,2
 add s0,zero,a0
 beq s1,a5,_.L19
 bltu a5,s1,_.L20
@@ -81,6 +84,7 @@ beq s1,zero,_.L57
 lw a5,8(a0)
 la a0,_.LC0
 beq a5,zero,_.L58
+.option norvc
 li a1,5
 sub a1,a1,a5
 _.L56:
@@ -129,13 +133,13 @@ add t0,zero,t3
 bge t3,zero,_.L26
 j _.L60
 _.L26:
-lui a7,838861
-addi a2,a7,-819
+addi a1,sp,31
 .option norvc
 li a0,24
-nop
-addi a1,sp,31
 li t1,5
+nop
+lui a7,838861
+addi a2,a7,-819
 addi a7,a7,-820
 nop
 _.L50:
@@ -145,30 +149,30 @@ sltu a4,a5,a3
 add a5,a5,a4
 remu a5,a5,t1
 add a6,zero,t0
+addi a1,a1,-1
+add t4,zero,a3
 sub a5,a3,a5
 sltu a4,a3,a5
 sub a4,t0,a4
 mul t2,a5,a7
-addi a1,a1,-1
 mul a4,a4,a2
 mulhu t0,a5,a2
-add a4,a4,t2
 mul a5,a5,a2
+add a4,a4,t2
 add a4,a4,t0
 slli t2,a4,31
 srli t0,a4,1
+.option norvc
+add t5,zero,a0
+addi a0,a0,-1
 srli a5,a5,1
 or a5,a5,t2
 slli a4,a5,2
-.option norvc
 add a4,a4,a5
 slli a4,a4,1
 sub a4,a3,a4
 addi a4,a4,48
 sb a4,1(a1)
-add t4,zero,a3
-add t5,zero,a0
-addi a0,a0,-1
 add a3,zero,a5
 bne a6,zero,_.L50
 li a5,9
@@ -293,10 +297,10 @@ lw a3,108(zero)
 lui a1,1046528
 addi a1,a1,-20
 lbu a2,0(a3)
-addi a5,a2,-9
-andi a5,a5,255
 li a6,23
+addi a5,a2,-9
 li t1,0
+andi a5,a5,255
 sra a4,a1,a5
 add a7,zero,a3
 andi a4,a4,1
@@ -317,17 +321,17 @@ beq t1,zero,_.L66
 sw a3,108(zero)
 _.L66:
 bne a0,a2,_.L69
+j next..1..n2
+next..1..n2:
 addi a3,a3,1
-nop
-nop
 sw a3,108(zero)
+.option rvc
 li a0,1
 ret
 _.L67:
 beq t1,zero,_.L69
 sw a7,108(zero)
 _.L69:
-.option rvc
 li a0,0
 ret
 read_value:
@@ -436,9 +440,9 @@ addi sp,sp,48
 jr ra
 _.L217:
 bne a7,zero,_.L76
+lw s4,100(zero)
 la s3,depth
 li a5,32
-lw s4,100(zero)
 beq s4,a5,_.L79
 addi a5,s4,1
 sw a5,100(zero)
@@ -613,14 +617,19 @@ addi a3,a5,-2048
 beq a3,zero,_.L131
 slli s1,a5,3
 sub s1,s1,a5
-slli s1,s1,2
 la s6,values
+.option rvc
+slli s1,s1,2
 add s0,s6,s1
+.option norvc
 addi a5,a5,1
 li a3,4
+.option rvc
+nop
 li a0,93
 sw a3,0(s0)
 sw a5,104(zero)
+.option norvc
 nop
 sw a1,108(zero)
 call passed
@@ -777,9 +786,9 @@ call read_value
 beq a0,zero,_.L213
 lw a7,20(s0)
 .option rvc
-add t1,zero,s1
 lw a6,12(sp)
 sw s5,16(a0)
+add t1,zero,s1
 sw a6,12(a0)
 beq a7,zero,_.L118
 _.L117:
@@ -890,18 +899,18 @@ beq a5,zero,_.L150
 slli a5,a4,3
 sub a5,a5,a4
 la a3,values
+.option rvc
 slli a5,a5,2
 addi a4,a4,1
+.option norvc
 add a5,a5,a3
 sw a4,104(zero)
-.option rvc
 li a3,1
 add s5,zero,a5
 sw a3,0(a5)
 sw zero,8(a5)
 j _.L92
 _.L153:
-.option norvc
 addi a1,a1,1
 sw a1,108(zero)
 j _.L154
@@ -969,19 +978,19 @@ j _.L232
 _.L232:
 add s0,s0,s1
 sb zero,0(s0)
+sw s1,108(zero)
 la s2,at
 nop
 nop
-sw s1,108(zero)
 call read_value
 lw a3,108(zero)
 lui a1,1046528
 addi a1,a1,-20
 lbu a2,0(a3)
-addi a5,a2,-9
-andi a5,a5,255
 li a6,23
+addi a5,a2,-9
 li t1,0
+andi a5,a5,255
 sra a4,a1,a5
 add a7,zero,a3
 andi a4,a4,1

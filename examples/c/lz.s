@@ -20,13 +20,12 @@ addi t4,sp,8
 addi a6,t1,-819
 sw ra,44(sp)
 add a3,zero,a0
+.option norvc
 add t2,zero,a1
 add a2,zero,t4
-.option norvc
 li t3,5
 addi t1,t1,-820
 li t5,9
-nop
 _.L9:
 add a5,a3,t2
 sltu a4,a5,a3
@@ -102,28 +101,30 @@ j _.L14
 _.L14:
 la ra,newest
 add a5,zero,ra
-nop
 la a3,newest..plus2048
+.option rvc
 li a4,-1
-nop
+j _.L16
 _.L16:
 sh a4,0(a5)
+.option norvc
 addi a5,a5,2
 bne a5,a3,_.L16
 beq s1,zero,_.L18
 .option rvc
 lui t0,16
 li s5,0
+.option norvc
 li a6,0
-li s3,0
 la s2,packed
+li s3,0
 la t5,older
+.option rvc
 li s4,2
 addi t0,t0,-1
 .option norvc
 lui t2,1
 li s6,18
-nop
 _.L31:
 andi a3,s3,7
 bne a3,zero,_.L19
@@ -139,11 +140,11 @@ nop
 lbu a7,0(a1)
 slli a5,a7,4
 lbu t1,1(a1)
+slli a4,t1,5
+lbu a2,2(a1)
 .option rvc
 add a5,a5,a7
 slli a5,a5,6
-lbu a2,2(a1)
-slli a4,t1,5
 add a5,a5,a7
 add a4,a4,t1
 add a5,a5,a4

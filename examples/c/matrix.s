@@ -55,17 +55,19 @@ ret
 main:
 .option rvc
 addi sp,sp,-96
+.option norvc
 sw s3,76(sp)
-sw s0,88(sp)
 la s3,base
+.option rvc
+sw s0,88(sp)
 sw s1,84(sp)
 sw ra,92(sp)
 sw s2,80(sp)
 sw s4,72(sp)
 sw s5,68(sp)
 sw s6,64(sp)
-.option norvc
 sw s7,60(sp)
+.option norvc
 add s1,zero,s3
 li s0,0
 _.L13:
@@ -246,16 +248,14 @@ _.L31:
 lw a2,0(a4)
 addi a4,a4,80
 mv sp,a5
-.option norvc
 lw a3,0(sp)
-.option rvc
 addi a5,a5,4
+.option norvc
 sw a2,0(sp)
 sw a3,-80(a4)
 bne a5,a1,_.L31
 mv sp,t1
 addi a0,a0,80
-.option norvc
 addi a6,a6,4
 addi a1,a1,84
 bne s3,a0,_.L43
@@ -271,11 +271,11 @@ sub s4,s4,s2
 _.L40:
 lw t3,0(s6)
 .option norvc
-nop
 li t4,0
 add a3,zero,s2
 li a7,5
 addi a0,s5,-820
+nop
 _.L59:
 add a5,t3,t4
 sltu a4,a5,t3

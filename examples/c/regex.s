@@ -88,11 +88,12 @@ match_rest:
 addi sp,sp,-48
 sw ra,44(sp)
 sw s0,40(sp)
-.option norvc
 sw s1,36(sp)
 sw s2,32(sp)
+.option norvc
 sw s3,28(sp)
 sw s4,24(sp)
+nop
 lbu s2,0(a0)
 beq s2,zero,_.L49
 add s1,zero,a1
@@ -112,16 +113,16 @@ andi a4,a4,255
 bltu s4,a4,_.L83
 nop
 _.L34:
-.option rvc
 sw a0,4(sp)
 sw s0,8(sp)
 sb a5,12(sp)
 li a4,43
-.option norvc
+.option rvc
 li s3,0
 lui s4,2
 bne a5,a4,_.L41
 add s2,s1,s3
+.option norvc
 addi a0,sp,4
 lbu a1,0(s2)
 beq a1,zero,_.L47
@@ -161,16 +162,17 @@ j _.L21
 _.L21:
 lw ra,44(sp)
 lw s0,40(sp)
-.option norvc
 lw s1,36(sp)
 lw s2,32(sp)
+.option norvc
 lw s3,28(sp)
 lw s4,24(sp)
 .option rvc
 addi sp,sp,48
+.option norvc
+nop
 jr ra
 _.L87:
-.option norvc
 nop
 nop
 nop
@@ -390,13 +392,15 @@ li a1,0
 bne a4,zero,_.L107
 j _.L106
 _.L107:
+.option rvc
 addi a1,a1,1
 add a4,s1,a1
-nop
-nop
+j next..1..n3
+next..1..n3:
 lbu a4,0(a4)
 bne a4,zero,_.L107
 _.L106:
+.option norvc
 add a0,zero,s1
 nop
 nop

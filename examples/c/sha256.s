@@ -50,16 +50,17 @@ bne a7,a4,_.L2
 mv sp,t0
 lw t0,68(sp)
 lw t5,72(sp)
+.option norvc
 lw t4,76(sp)
 lw t3,80(sp)
 lw t1,84(sp)
+.option rvc
 lw a2,88(sp)
-addi t2,a6,196
-.option norvc
 lw a7,92(sp)
+.option norvc
 lw a3,32(sp)
 addi a1,sp,36
-nop
+addi t2,a6,196
 _.L3:
 add s0,zero,a3
 lw a3,0(a1)
@@ -316,32 +317,37 @@ slli a5,a5,2
 add a5,a5,a0
 xori a4,a3,-1
 lw a5,0(a5)
+.option rvc
 andi a4,a4,7
 slli a4,a4,2
 srl a5,a5,a4
+.option norvc
 andi a5,a5,15
 add a5,a5,a6
-lbu a5,0(a5)
-.option rvc
 addi a3,a3,1
+lbu a5,0(a5)
 addi a2,a2,1
 sb a5,-1(a2)
 bne a3,a1,_.L28
+.option rvc
 add a0,zero,s0
 li a5,10
 li a1,65
 sb a5,140(sp)
 call put
-.option norvc
 lw ra,156(sp)
+.option norvc
 lw s0,152(sp)
 lw s1,148(sp)
 lw s2,144(sp)
-li a0,0
 .option rvc
+nop
 addi sp,sp,160
+.option norvc
+li a0,0
 jr ra
 _.L19:
+.option rvc
 addi s0,sp,76
 bne a5,a3,_.L22
 j _.L23

@@ -132,13 +132,13 @@ _.L18:
 add a0,s2,s0
 bgeu s2,a0,_.L20
 la s1,ascending
+li s0,0
 la a4,text
 li a7,100
 la t3,descending
+li a6,9
 li t4,45
 la t1,numbers
-li s0,0
-li a6,9
 lui t5,1
 nop
 _.L30:

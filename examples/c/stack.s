@@ -141,11 +141,11 @@ j _.L8
 _.L7:
 .option rvc
 li a2,0
-.option norvc
 li a3,0
 j _.L6
 _.L6:
 sw a2,0(a0)
+.option norvc
 nop
 sw a3,4(a0)
 li a0,0
@@ -159,10 +159,10 @@ j _.L7
 equal:
 lw a5,0(a0)
 nop
-lw a4,4(a0)
-nop
 lw a2,8(a0)
 xor a5,a5,a2
+lw a4,4(a0)
+nop
 lw a3,12(a0)
 xor a4,a4,a3
 sw zero,4(a0)
@@ -176,19 +176,21 @@ shift:
 lw a5,8(a0)
 andi a5,a5,63
 addi a3,a5,-32
+j next..1
+next..1:
 blt a3,zero,_.L11
-.option norvc
-nop
-nop
 lw a4,0(a0)
+.option norvc
 li a5,0
 sw a5,0(a0)
 sll a4,a4,a3
 sw a4,4(a0)
+.option rvc
 li a0,0
 ret
 _.L11:
 lw a3,0(a0)
+.option norvc
 li a1,31
 lw a4,4(a0)
 sub a1,a1,a5
@@ -203,13 +205,13 @@ li a0,0
 ret
 duplicate:
 lw a2,0(a0)
-nop
-lw a3,4(a0)
 add a5,zero,a0
+lw a3,4(a0)
+li a0,0
 sw a2,8(a5)
 nop
 sw a3,12(a5)
-li a0,0
+nop
 ret
 drop:
 .option rvc
@@ -282,11 +284,11 @@ nop
 lw a7,4(a0)
 nop
 lw a2,8(a0)
-nop
-lw a3,12(a0)
 add a5,zero,a0
-sw a6,8(a5)
+lw a3,12(a0)
 li a0,0
+sw a6,8(a5)
+nop
 sw a7,12(a5)
 nop
 sw a2,0(a5)
@@ -306,9 +308,9 @@ nop
 ret
 rotate:
 lw a2,0(a0)
-nop
-lw a3,4(a0)
 add a5,zero,a0
+lw a3,4(a0)
+nop
 lw t1,8(a0)
 nop
 lw t2,12(a0)
@@ -316,9 +318,9 @@ nop
 lw a6,16(a0)
 nop
 lw a7,20(a0)
-nop
-sw t1,0(a5)
 li a0,0
+sw t1,0(a5)
+nop
 sw t2,4(a5)
 nop
 sw a6,8(a5)
@@ -410,13 +412,15 @@ addi sp,sp,48
 jr ra
 main:
 addi sp,sp,-32
+.option norvc
 lui a1,4
-sw s0,24(sp)
 la a0,text
+.option rvc
+sw s0,24(sp)
 sw s1,20(sp)
 sw s2,16(sp)
-.option norvc
 sw s3,12(sp)
+.option norvc
 sw ra,28(sp)
 la s3,text
 call get
@@ -495,8 +499,8 @@ sub a6,a4,a3
 lw a0,8(a5)
 li a7,256
 add t1,a6,a0
-j next..1
-next..1:
+j next..1..n2
+next..1..n2:
 blt a7,t1,_.L88
 lw a2,12(a5)
 slli a6,a6,3
@@ -534,12 +538,12 @@ lw a5,36(zero)
 la a1,depth
 beq a5,zero,_.L79
 addi a5,a5,-1
-nop
 slli a3,a5,3
 la a4,stack
 add a4,a4,a3
-lw a3,0(a4)
 li a0,0
+lw a3,0(a4)
+nop
 lw a4,4(a4)
 or a3,a3,a4
 sw a5,36(zero)
@@ -570,16 +574,19 @@ _.L59:
 li a0,5
 j _.L49
 _.L49:
-.option norvc
 lw ra,28(sp)
 lw s0,24(sp)
+.option norvc
 lw s1,20(sp)
 lw s2,16(sp)
 lw s3,12(sp)
 .option rvc
 addi sp,sp,32
+.option norvc
+nop
 jr ra
 _.L112:
+.option rvc
 li a0,1
 li a5,10
 j _.L75
@@ -648,16 +655,19 @@ j _.L75
 _.L79:
 lw ra,28(sp)
 lw s0,24(sp)
-.option norvc
 lw s1,20(sp)
+.option norvc
 lw s2,16(sp)
 lw s3,12(sp)
-li a0,1
 .option rvc
+nop
 addi sp,sp,32
+.option norvc
+li a0,1
 jr ra
 _.L110:
 bltu s0,s3,_.L59
+.option rvc
 li a2,0
 j _.L62
 _.L63:
@@ -696,22 +706,22 @@ j _.L17..1
 _.L2..1:
 addi sp,sp,-16
 .option norvc
-nop
 sw s0,12(sp)
 li t4,64
 li a7,0
 li a0,0
+nop
 _.L8..1:
 srli a5,a1,31
-slli a6,a7,1
-srli a7,a7,31
 slli t3,a0,1
+srli t0,t1,31
+slli a6,a7,1
 .option rvc
 add a6,a6,a5
+srli a7,a7,31
 or t3,t3,a7
 sltu a5,a6,a5
 add a5,a5,t3
-srli t0,t1,31
 sub t5,a6,a2
 srli t3,a0,31
 slli a1,a1,1
@@ -737,9 +747,9 @@ bne t4,zero,_.L8..1
 lw s0,12(sp)
 nop
 sw a0,4(a4)
-nop
-sw a7,0(a4)
 add a0,zero,t1
+sw a7,0(a4)
+nop
 .option rvc
 addi sp,sp,16
 .option norvc
@@ -749,11 +759,11 @@ _.L17..1:
 add a1,zero,a2
 beq a2,zero,_.L2..1
 remu a5,a0,a2
-nop
-sw zero,4(a4)
 li a1,0
+sw zero,4(a4)
 divu a0,a0,a2
 sw a5,0(a4)
+nop
 ret
 __divdi3:
 .option rvc

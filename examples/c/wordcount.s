@@ -102,6 +102,7 @@ j put
 main:
 addi sp,sp,-736
 li a2,192
+.option norvc
 li a1,0
 add a0,zero,sp
 sw s0,728(sp)
@@ -112,9 +113,7 @@ sw s3,716(sp)
 sw s4,712(sp)
 sw s5,708(sp)
 sw s6,704(sp)
-.option norvc
 addi s0,sp,104
-nop
 call memset
 _.L23:
 li a1,512
@@ -131,11 +130,12 @@ lw s1,20(sp)
 lw a7,0(sp)
 lw t1,4(sp)
 lw a6,8(sp)
-lw t3,12(sp)
-li s3,0
-add t5,a1,a0
-li t4,32
 .option norvc
+lw t3,12(sp)
+add t5,a1,a0
+.option rvc
+li s3,0
+li t4,32
 li t0,4
 li ra,79
 j _.L30
@@ -146,6 +146,7 @@ bgeu t0,a3,_.L24
 bltu ra,a2,_.L26
 addi a3,a2,1
 addi a2,a2,704
+.option norvc
 add a2,a2,sp
 sw a3,24(sp)
 sb a5,-676(a2)
@@ -180,13 +181,13 @@ nop
 lw s3,12(a5)
 nop
 lw s6,0(a5)
-nop
+addi a5,a5,16
 sw s5,4(a3)
 nop
 sw s4,8(a3)
 nop
 sw s6,0(a3)
-addi a5,a5,16
+nop
 sw s3,12(a3)
 addi a3,a3,16
 bne a5,s0,_.L28
@@ -195,13 +196,13 @@ sw a5,0(a3)
 nop
 _.L27:
 sltu a2,zero,a2
-.option rvc
 add a2,a2,a6
 sltu a6,a2,a6
 sw zero,24(sp)
-.option norvc
+.option rvc
 addi a1,a1,1
 add t3,t3,a6
+.option norvc
 li s3,1
 add a6,zero,a2
 bne t5,a1,_.L30

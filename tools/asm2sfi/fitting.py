@@ -4,7 +4,7 @@ from typing import NamedTuple
 
 from sizes import BUNDLE
 
-BYTE = 0.004  # what a byte of code counts, in steps outside of loops
+STEP = 250  # what a step outside of loops counts, in bytes of code
 JUMP = 2  # what a jump over a gap counts: it is one step, but takes a processor longer than a nop does
 PLACES = range(0, BUNDLE, 2)
 
@@ -38,7 +38,7 @@ class Step(NamedTuple):
     before it, whether it has 32 bits, and the gap in the next bundle before it if it's a call.
     `turned` says that a branch before the gap is inverted."""
     end: int
-    cost: float
+    cost: int
     gap: Gap = NO_GAP
     wide: bool = False
     second: Gap = NO_GAP
@@ -61,7 +61,7 @@ def begin(place, size, call):
 
 
 def steps_of(units, call, place, weight):
-    """The ways to place an instruction's expansions, where a step counts `weight`. Of two, only
+    """The ways to place an instruction's expansions, which runs `weight` times. Of two, only
     the first one's gap is chosen here."""
     first, *others = units
     for size in first:
@@ -72,12 +72,12 @@ def steps_of(units, call, place, weight):
                     more, end = more + (BUNDLE - end) // 2, 0
                 end += sizes[0]
             waste = size - first[0] + gap.size() + second.size()
-            cost = (gap.steps() + second.steps() + more) * weight + waste * BYTE
+            cost = (gap.steps() + second.steps() + more) * weight * STEP + waste
             yield Step(end % BUNDLE, cost, gap, size != first[0], second)
 
 
 def cost_between(start, end, weight):
     """What it costs at most to come from a place in a bundle to another by nops."""
     if start <= end:
-        return nops(end - start) * weight + (end - start) * BYTE
+        return nops(end - start) * weight * STEP + end - start
     return cost_between(start, BUNDLE, weight) + cost_between(0, end, weight)

@@ -3,8 +3,8 @@ the cheapest beginnings."""
 from dependences import WINDOW, needed_before
 from fitting import PLACES, cost_between
 
-WAYS = 24  # how many beginnings of a run's order are kept
-CHOICES = 8  # how many of the instructions that may come next are tried
+WAYS = 40  # how many beginnings of a run's order are kept
+CHOICES = 6  # how many of the instructions that may come next are tried
 
 # A cheap way to a place in the bundle is (cost, moved, number, step, way): what it costs, how far
 # it is from the compiler's order, the last piece and how that is placed, and the way to it.
@@ -98,18 +98,15 @@ def kept(found, bounds):
     fits as well without them."""
     entries = []
     for done, ways in found.items():
-        if len(ways) > 1:
-            place = min(ways, key=lambda place: ways[place][0])
-            cost, bound = ways[place][0], bounds[place]
-            ways = {other: way for other, way in ways.items() if other == place or way[0] < cost + bound[other]}
-            found[done] = ways
-        entries += [(way[0], way[1], done, place) for place, way in ways.items()]
-    if len(entries) <= WAYS:
-        return found
-    entries.sort()
+        cost, cheapest = min((way[COST], place) for place, way in ways.items())
+        bound = bounds[cheapest]
+        entries += [(way[COST], way[MOVED], done, place, way) for place, way in ways.items()
+                    if place == cheapest or way[COST] < cost + bound[place]]
+    if len(entries) > WAYS:
+        entries.sort()
     result = {}
-    for _, _, done, place in entries[:WAYS]:
-        result.setdefault(done, {})[place] = found[done][place]
+    for _, _, done, place, way in entries[:WAYS]:
+        result.setdefault(done, {})[place] = way
     return result
 
 

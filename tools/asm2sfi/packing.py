@@ -18,7 +18,7 @@ from functools import lru_cache
 
 from control import goes_on, is_branch, is_call, labels_of, weights
 from dependences import runs
-from fitting import BUNDLE, BYTE, NO_GAP, PLACES, Step, gap_between, steps_of
+from fitting import BUNDLE, NO_GAP, PLACES, STEP, Step, gap_between, steps_of
 from instructions import Op
 from ordering import COST, FIRST, MOVED, Order, bounds, choices_of, rank, ways_over
 from placement import inverted
@@ -77,10 +77,10 @@ class Packer:
         found = []
         for place, way in ways.items():
             gap = gap_between(place, BUNDLE) if place else NO_GAP
-            cost, waste = gap.steps() * weight, gap.size() * BYTE
-            step = Step(0, cost + waste, gap if weight else NO_GAP)
+            cost, waste = gap.steps() * weight, gap.size()
+            step = Step(0, cost * STEP + waste, gap if weight else NO_GAP)
             if turned is not None and gap.size() >= 4 and turned < cost:
-                step = Step(0, turned + waste, turned=True)
+                step = Step(0, turned * STEP + waste, turned=True)
             found.append((way[COST] + step.cost, way[MOVED], number, step, way))
         return {0: min(found, key=rank)}
 
