@@ -186,14 +186,16 @@ lw a5,0(sp)
 xor s0,a1,s7
 mul s0,s4,s0
 xor a5,a5,a0
+.option norvc
 add a1,zero,s2
-add a2,zero,s6
 slli a6,a5,8
+.option rvc
+add a2,zero,s6
 add a3,zero,s5
 add a0,zero,s3
-.option norvc
 addi s1,s1,-1
 mulhu a4,s4,a5
+.option norvc
 add s0,s0,a6
 mul s2,s4,a5
 add s0,s0,a4
@@ -255,12 +257,12 @@ add a1,zero,s5
 lw a2,4(sp)
 lw a3,0(sp)
 slli a6,a5,8
-mulhu a4,s3,a5
 .option norvc
 add a0,zero,s6
-mul s5,s3,a5
+mulhu a4,s3,a5
 addi s1,s1,1
 add s0,s0,a6
+mul s5,s3,a5
 add s0,s0,a4
 call __moddi3
 xor s0,s0,a1
@@ -354,13 +356,15 @@ sub a0,zero,s3
 add s6,zero,a5
 sw a6,8(sp)
 call __ashrdi3
+.option norvc
 lw a3,4(sp)
 add a5,zero,a1
-.option norvc
 add t3,zero,a0
 add a2,zero,s5
+.option rvc
 add a0,zero,s3
 add a1,zero,s4
+.option norvc
 add s3,zero,t3
 add s4,zero,a5
 call __muldi3
@@ -538,25 +542,22 @@ add a1,zero,s4
 add a0,s2,s7
 call memmove
 srli a5,s0,16
-.option rvc
 lw a4,0(sp)
 andi a5,a5,63
 add a5,a5,s1
-.option norvc
-slli a4,a4,8
 lbu a2,0(a5)
 .option rvc
+slli a4,a4,8
 srli s0,s0,24
 or s0,s0,a4
 xor a4,a2,s0
-.option norvc
 add a1,zero,s1
 li a2,48
+.option norvc
 add a0,zero,s2
 sb a4,0(a5)
 call memcmp
 slt a5,zero,a0
-.option rvc
 srli a0,a0,31
 sub a5,a5,a0
 srai a4,a5,31
@@ -564,11 +565,10 @@ li a7,435
 xor a4,a4,s5
 xor a5,a5,s3
 mul a4,a7,a4
-.option norvc
-lw a6,4(sp)
 slli a2,a5,8
 mulhu s5,a7,a5
 mul s3,a7,a5
+lw a6,4(sp)
 addi a6,a6,1
 add a4,a4,a2
 li a5,2000
@@ -578,7 +578,6 @@ la a4,left
 la a1,right
 la a6,left..plus64
 li a2,435
-nop
 _.L29:
 lbu a5,0(a4)
 mul a3,a2,s5
@@ -590,8 +589,8 @@ xor a5,a5,s3
 slli a0,a5,8
 .option norvc
 addi a4,a4,1
-mulhu s5,a2,a5
 addi a1,a1,1
+mulhu s5,a2,a5
 add a3,a3,a0
 mul s3,a2,a5
 add s5,s5,a3
@@ -779,13 +778,15 @@ ret
 memset:
 andi a5,a1,255
 slli a3,a5,8
+.option norvc
 add a3,a3,a5
 slli a5,a3,16
-add a3,a3,a5
 andi a1,a1,255
+add a3,a3,a5
 beq a2,zero,_.L59..1
 andi a5,a0,3
 beq a5,zero,_.L56..1
+.option rvc
 add a5,zero,a0
 j _.L51..1
 _.L67..1:
@@ -952,9 +953,9 @@ __udivdi3:
 .option rvc
 addi sp,sp,-32
 .option norvc
-nop
 addi a4,sp,8
 sw ra,28(sp)
+nop
 nop
 call divided..1
 lw ra,28(sp)
@@ -964,9 +965,9 @@ jr ra
 __umoddi3:
 addi sp,sp,-32
 .option norvc
-nop
 addi a4,sp,8
 sw ra,28(sp)
+nop
 nop
 call divided..1
 lw ra,28(sp)
@@ -993,15 +994,16 @@ sub a1,zero,a1
 sub a1,a1,a5
 sub a0,zero,a0
 _.L99..1:
+.option rvc
 add a3,zero,s1
 bge s1,zero,_.L101..1
 sltu a5,zero,a2
 sub a3,zero,s1
 sub a3,a3,a5
 sub a2,zero,a2
-nop
-nop
+j _.L101..1
 _.L101..1:
+.option norvc
 addi a4,sp,8
 xor s0,s0,s1
 nop
@@ -1089,11 +1091,9 @@ lw a1,12(sp)
 sltu a5,zero,a0
 sub a1,zero,a1
 sub a0,zero,a0
-.option norvc
 sub a1,a1,a5
 j _.L122..1
 __clzsi2:
-.option rvc
 add a5,zero,a0
 li a0,32
 bne a5,zero,_.L125..1

@@ -49,8 +49,8 @@ sw a4,0(a5)
 addi a5,a5,4
 bne a5,a3,_.L3
 la a1,letters
-add a3,zero,a1
 .option rvc
+add a3,zero,a1
 li a5,0
 li a2,64
 j _.L6
@@ -94,9 +94,10 @@ lbu t5,0(t5)
 andi a3,a3,63
 andi a4,a4,63
 mv sp,a5
+.option rvc
 add a3,a3,a1
-lbu t2,0(a3)
 add a4,a4,a1
+lbu t2,0(a3)
 lbu a3,0(a4)
 addi a4,a5,4
 sb t0,0(sp)
@@ -108,7 +109,6 @@ sub a3,a4,a6
 bne a3,a7,_.L22
 j _.L36
 _.L22:
-.option rvc
 addi a2,a2,-3
 add a5,zero,a4
 sub a4,s1,a2
@@ -155,10 +155,10 @@ _.L37:
 beq a5,a6,_.L12
 .option norvc
 li a4,10
-nop
-nop
 addi a6,a5,1
+nop
 sb a4,0(a5)
+nop
 _.L12:
 sub s3,a6,s2
 j next..1
@@ -173,11 +173,9 @@ add s2,s2,s3
 li a0,0
 li a2,0
 li a5,0
-.option norvc
 li t1,10
 li t3,61
 li t5,255
-.option rvc
 li t0,7
 la t4,decoded
 j _.L16
@@ -186,6 +184,7 @@ sb a6,0(a3)
 .option norvc
 addi a0,a0,1
 _.L14:
+.option rvc
 addi a4,a4,1
 bne s2,a4,_.L16
 j _.L39
@@ -197,6 +196,7 @@ add a6,s0,a3
 beq a3,t1,_.L14
 beq a3,t3,_.L14
 lbu a5,0(a6)
+.option norvc
 addi a2,a2,-2
 add a3,a0,t4
 beq a5,t5,_.L15
@@ -229,22 +229,19 @@ _.L15:
 li a0,1
 j _.L1
 _.L1:
+.option norvc
 lw ra,28(sp)
 lw s0,24(sp)
-.option norvc
 lw s1,20(sp)
 lw s2,16(sp)
 lw s3,12(sp)
 .option rvc
 addi sp,sp,32
-.option norvc
-nop
 jr ra
 _.L9:
 srli a3,a4,12
 srli t5,a4,18
 andi a3,a3,63
-.option rvc
 add t5,t5,a1
 add a3,a3,a1
 lbu t5,0(t5)
@@ -259,9 +256,11 @@ nop
 sb a3,1(a5)
 j _.L21
 _.L41:
+.option rvc
 li a0,0
 j _.L1
 _.L7:
+.option norvc
 li a1,0
 la a0,text
 call put

@@ -15,20 +15,20 @@ call exit_with
 main:
 .option rvc
 addi sp,sp,-48
-lui a2,973704
+.option norvc
 sw s3,28(sp)
+lui a2,973704
 la s3,table
+.option rvc
 sw ra,44(sp)
 sw s0,40(sp)
 sw s1,36(sp)
 sw s2,32(sp)
 add a0,zero,s3
-.option norvc
 li a1,0
 addi a2,a2,800
 li a6,256
 _.L4:
-.option rvc
 add a5,zero,a1
 li a4,8
 j _.L3

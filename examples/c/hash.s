@@ -59,22 +59,23 @@ ret
 add:
 .option rvc
 addi sp,sp,-32
+.option norvc
 sw s1,20(sp)
 sw s2,16(sp)
 sw ra,28(sp)
 sw s0,24(sp)
-.option norvc
 sw s3,12(sp)
+.option rvc
 add s2,zero,a1
 add s1,zero,a0
 beq a1,zero,_.L29
 lui s0,528842
 lui a3,4096
+.option norvc
 add a5,zero,a0
 add a2,a1,a0
 addi s0,s0,-571
 addi a3,a3,403
-nop
 _.L18:
 lbu a4,0(a5)
 addi a5,a5,1
@@ -98,20 +99,19 @@ _.L20:
 li a0,0
 j _.L16
 _.L16:
+.option norvc
 lw ra,28(sp)
 lw s0,24(sp)
-.option norvc
 lw s1,20(sp)
 lw s2,16(sp)
 lw s3,12(sp)
 .option rvc
 addi sp,sp,32
-.option norvc
-nop
 jr ra
 _.L19:
 lw s3,48(zero)
 la a6,table
+.option norvc
 li a0,1
 addi a5,s3,-2048
 beq a5,zero,_.L16
@@ -225,9 +225,9 @@ addi a4,s1,320
 .option norvc
 add a4,a4,sp
 bltu s4,s1,_.L52
-nop
-sb a5,-320(a4)
 addi s1,s1,1
+sb a5,-320(a4)
+nop
 _.L52:
 .option rvc
 addi s0,s0,1
@@ -246,17 +246,19 @@ bne s1,zero,_.L53
 .option norvc
 nop
 _.L55:
+.option rvc
 li s1,0
 j _.L52
 _.L53:
+.option norvc
 add a1,zero,s1
 add a0,zero,sp
 nop
 call add
 beq a0,zero,_.L55
+.option rvc
 li a0,1
-nop
-nop
+j _.L47
 _.L47:
 lw ra,348(sp)
 lw s0,344(sp)
@@ -266,7 +268,6 @@ lw s3,332(sp)
 j next..1
 next..1:
 lw s4,328(sp)
-.option rvc
 addi sp,sp,352
 jr ra
 _.L57:
@@ -330,24 +331,21 @@ _.L71:
 add ra,zero,sp
 mv sp,a4
 lw s3,4(sp)
+.option norvc
 lw a6,8(sp)
 lw a3,12(sp)
-.option norvc
 lw s4,0(sp)
 add a5,a4,t1
 sub a4,a4,t1
 mv sp,a5
-.option rvc
 sw s3,4(sp)
 sw s4,0(sp)
 sw a6,8(sp)
 sw a3,12(sp)
 mv sp,ra
-bgeu a0,a7,_.L69
-j _.L68
+bltu a0,a7,_.L68
 _.L69:
 lw a3,12(a4)
-.option norvc
 add a5,zero,a0
 add a2,zero,a4
 sub a0,a0,a7
@@ -386,17 +384,16 @@ _.L68:
 add a0,zero,sp
 mv sp,a2
 sw t5,0(sp)
+.option norvc
 sw t4,4(sp)
 sw s1,8(sp)
-.option norvc
 sw t3,12(sp)
 addi t2,t2,1
-addi t0,t0,16
 mv sp,a0
+addi t0,t0,16
 bne s2,t2,_.L77
 srli a7,a7,1
 bne a7,zero,_.L66
-nop
 nop
 _.L80:
 addi s5,sp,8

@@ -133,46 +133,43 @@ add t0,zero,t3
 bge t3,zero,_.L26
 j _.L60
 _.L26:
-addi a1,sp,31
-.option norvc
-li a0,24
-li t1,5
-nop
 lui a7,838861
 addi a2,a7,-819
+addi a1,sp,31
+li a0,24
+li t1,5
 addi a7,a7,-820
-nop
+j _.L50
 _.L50:
 add a5,a3,t0
 sltu a4,a5,a3
-.option rvc
 add a5,a5,a4
 remu a5,a5,t1
 add a6,zero,t0
-addi a1,a1,-1
-add t4,zero,a3
 sub a5,a3,a5
 sltu a4,a3,a5
 sub a4,t0,a4
 mul t2,a5,a7
+addi a1,a1,-1
 mul a4,a4,a2
 mulhu t0,a5,a2
-mul a5,a5,a2
 add a4,a4,t2
+mul a5,a5,a2
 add a4,a4,t0
 slli t2,a4,31
 srli t0,a4,1
-.option norvc
-add t5,zero,a0
-addi a0,a0,-1
 srli a5,a5,1
 or a5,a5,t2
 slli a4,a5,2
+.option norvc
 add a4,a4,a5
 slli a4,a4,1
 sub a4,a3,a4
 addi a4,a4,48
 sb a4,1(a1)
+add t4,zero,a3
+add t5,zero,a0
+addi a0,a0,-1
 add a3,zero,a5
 bne a6,zero,_.L50
 li a5,9
@@ -298,8 +295,8 @@ lui a1,1046528
 addi a1,a1,-20
 lbu a2,0(a3)
 li a6,23
-addi a5,a2,-9
 li t1,0
+addi a5,a2,-9
 andi a5,a5,255
 sra a4,a1,a5
 add a7,zero,a3
@@ -407,16 +404,13 @@ addi a5,a5,1
 li a1,1
 beq a2,zero,_.L219
 lbu a3,0(a5)
-.option norvc
 addi a4,a4,1
 beq a3,a2,_.L145
-nop
-nop
+j _.L212
 _.L212:
 beq a1,zero,_.L150
 sw a5,108(zero)
 _.L150:
-.option rvc
 li s5,0
 j _.L92
 _.L92:
@@ -472,6 +466,7 @@ sw a4,104(zero)
 call read_string
 sw a0,8(s5)
 bge a0,zero,_.L92
+.option rvc
 li s5,0
 j _.L92
 _.L84:
@@ -481,7 +476,6 @@ li a5,123
 bne a2,a5,_.L90
 lw a5,104(zero)
 la a4,used
-.option rvc
 addi a1,a1,1
 addi a3,a5,-2048
 beq a3,zero,_.L131
@@ -493,19 +487,21 @@ slli t1,t1,2
 add s0,s1,t1
 addi a5,a5,1
 lui a2,1046528
+.option norvc
 addi a2,a2,-20
 li a0,23
 sw a3,0(s0)
-.option norvc
 add s5,zero,s0
-li a7,0
 lbu a3,0(a1)
 sw a5,104(zero)
 addi a5,a3,-9
 andi a5,a5,255
 sw a1,108(zero)
 sra a4,a2,a5
+.option rvc
+li a7,0
 add a6,zero,a1
+.option norvc
 andi a4,a4,1
 bltu a0,a5,_.L222
 _.L93:
@@ -536,20 +532,24 @@ la a4,_.LC4
 j _.L151
 _.L148:
 lbu a2,0(a4)
+.option rvc
 addi a5,a5,1
 li a1,1
 bne a2,zero,_.L151
 j _.L223
 _.L151:
 lbu a3,0(a5)
+.option norvc
 addi a4,a4,1
 beq a3,a2,_.L148
 j _.L212
 _.L79:
+.option rvc
 li s5,0
 j _.L74
 _.L89:
 lw a5,108(zero)
+.option norvc
 li a1,0
 la a4,_.LC0
 .option rvc
@@ -557,13 +557,13 @@ li a0,1
 j _.L144
 _.L142:
 lbu a2,0(a4)
-.option norvc
 addi a5,a5,1
 li a1,1
 bne a2,zero,_.L144
 j _.L224
 _.L144:
 lbu a3,0(a5)
+.option norvc
 addi a4,a4,1
 beq a3,a2,_.L142
 j _.L212
@@ -617,19 +617,14 @@ addi a3,a5,-2048
 beq a3,zero,_.L131
 slli s1,a5,3
 sub s1,s1,a5
-la s6,values
-.option rvc
 slli s1,s1,2
+la s6,values
 add s0,s6,s1
-.option norvc
 addi a5,a5,1
 li a3,4
-.option rvc
-nop
 li a0,93
 sw a3,0(s0)
 sw a5,104(zero)
-.option norvc
 nop
 sw a1,108(zero)
 call passed
@@ -899,18 +894,18 @@ beq a5,zero,_.L150
 slli a5,a4,3
 sub a5,a5,a4
 la a3,values
-.option rvc
 slli a5,a5,2
 addi a4,a4,1
-.option norvc
 add a5,a5,a3
 sw a4,104(zero)
+.option rvc
 li a3,1
 add s5,zero,a5
 sw a3,0(a5)
 sw zero,8(a5)
 j _.L92
 _.L153:
+.option norvc
 addi a1,a1,1
 sw a1,108(zero)
 j _.L154
@@ -959,7 +954,6 @@ sw s0,40(sp)
 sw s1,36(sp)
 sw s2,32(sp)
 sw ra,44(sp)
-.option norvc
 li s0,0
 la s1,input
 lui s2,4
@@ -971,6 +965,7 @@ j _.L232
 _.L231:
 sub a1,s2,s0
 add a0,s1,s0
+.option norvc
 nop
 call get
 blt zero,a0,_.L233
@@ -988,8 +983,8 @@ lui a1,1046528
 addi a1,a1,-20
 lbu a2,0(a3)
 li a6,23
-addi a5,a2,-9
 li t1,0
+addi a5,a2,-9
 andi a5,a5,255
 sra a4,a1,a5
 add a7,zero,a3
@@ -1017,12 +1012,14 @@ call put_value
 li a1,1
 la a0,_.LC11
 call put
+.option rvc
 li a0,0
 j _.L230
 _.L262:
 beq t1,zero,_.L238
 sw a7,108(zero)
 _.L238:
+.option norvc
 li a1,9
 la a0,_.LC10
 call put

@@ -169,13 +169,13 @@ _.L22:
 li a5,0
 j _.L27
 _.L24:
-.option norvc
 addi a5,a5,1
 bltu a5,a0,_.L27
 j _.L23
 _.L27:
 add s7,a5,a2
 add a4,a1,a5
+.option norvc
 add s7,s7,s0
 nop
 lbu s7,0(s7)

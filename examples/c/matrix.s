@@ -46,6 +46,7 @@ remu a5,a5,a6
 bne a4,a0,_.L3
 sw a5,0(a7)
 addi a0,a4,4
+.option rvc
 addi a7,a7,4
 bne t3,a0,_.L6
 addi t4,t4,-1
@@ -53,7 +54,6 @@ addi t5,t5,80
 bne t4,zero,_.L2
 ret
 main:
-.option rvc
 addi sp,sp,-96
 .option norvc
 sw s3,76(sp)
@@ -109,18 +109,17 @@ addi a5,a5,84
 add a4,a4,a3
 bne a5,a2,_.L14
 lui a5,8
+.option norvc
 addi a5,a5,-19
 remu a4,a4,a5
-li t5,0
 lui a6,838861
 addi s2,sp,24
 addi a0,a6,-819
-.option norvc
+addi a6,a6,-820
+li t5,0
 add a2,zero,s2
 li a7,5
-addi a6,a6,-820
 li t1,9
-nop
 _.L58:
 add a5,a4,t5
 sltu a3,a5,a4
@@ -174,13 +173,14 @@ li a2,0
 .option norvc
 li a1,20
 _.L21:
+.option rvc
 add a3,zero,a0
 li a5,0
-nop
-nop
+j _.L22
 _.L22:
 sub a4,a2,a5
 sltiu a4,a4,1
+.option norvc
 addi a5,a5,1
 nop
 sw a4,0(a3)
@@ -206,13 +206,12 @@ add a0,zero,s5
 nop
 nop
 call multiply.constprop.0
+.option rvc
 add a2,zero,s4
 add a1,zero,s3
-nop
-nop
+j _.L27
 _.L27:
 addi a5,a2,-80
-.option rvc
 add a4,zero,a1
 j _.L28
 _.L28:
@@ -261,16 +260,14 @@ addi a1,a1,84
 bne s3,a0,_.L43
 _.L63:
 lui s5,838861
-.option rvc
 li s4,23
-j next..1..n2
-next..1..n2:
 la s6,power..plus1520
 addi s7,s5,-819
 sub s4,s4,s2
+nop
+nop
 _.L40:
 lw t3,0(s6)
-.option norvc
 li t4,0
 add a3,zero,s2
 li a7,5
