@@ -95,14 +95,18 @@ module _ (m n : Bytes) (items : List Sandbox) (programs : List Program) (i : ℕ
   safe : IsSafeSeat n (seat_of x)
   safe = keep.own_changed m (seat_of x) (inside.0.each i (seat_of x) here) n memory others (whole_of (seat_of x).bounds.data n (whole (whole_at m items i x inside.0 at)))
 
-  change : (j : ℕ) (s : Seat) (p : Part) → slice_get (seats_of items) j ≡ Some s → s.bounds ≡ bounds_of p → IsChange p (state_in m s) (state_in n s)
-  change j s p e is = ⊎_elim
+  change_of : (j : ℕ) (s : Seat) (p : Part) → slice_get (seats_of items) j ≡ Some s → s.bounds ≡ bounds_of p → IsChange p (state_in m s) (state_in n s)
+  change_of j s p e is = ⊎_elim
       (λ (h : j ≡ i).
       let same : s ≡ seat_of x = same_Some s (seat_of x) (sym e ∙ ap (slice_get (seats_of items)) h ∙ here) in
       let stays : StaysOutside s.bounds.data m n = subst (λ (y : Seat). StaysOutside y.bounds.data m n) (sym same) others in
       record { pc = refl; registers = refl; bytes = keep.own_kept m s (inside.0.each j s e) p is n stays })
       (λ (h : j ≢ i). neighbours_are (world_of m items) i j (seat_of x) s n p inside.0 (λ z. h (sym z)) here e others is)
       (cases_eq j i)
+
+  -- each seat is what it was
+  change : AreChanges (world_of m items) (world_of n items)
+  change j s p e is = (s, e, change_of j s p e is)
 
   pub data_written : (w : Sandboxes) → world_of m items ≡ w → AfterTurn w programs i (slot_of m (seat_of x)) (slot_of n (seat_of x)) (world_of n items) × AreChanges w (world_of n items)
   data_written w view = (

@@ -26,8 +26,10 @@ abbrev pub OthersAreSame : Sandboxes → ℕ → Sandboxes → Type 0
 OthersAreSame w i n =
     (j : ℕ) → j ≢ i → slice_get (slots_of n) j ≡ slice_get (slots_of w) j
 
--- to each sandbox it is a change by others: its pc, registers, code and empty guard zones are kept
+-- each sandbox is still there, and to it this is a change by others: its pc, registers, code and empty
+-- guard zones are what they were
 abbrev pub AreChanges : Sandboxes → Sandboxes → Type 0
 AreChanges w n =
     (i : ℕ) (s : Seat) (p : Part) → slice_get w.seats i ≡ Some s → s.bounds ≡ bounds_of p
-    → IsChange p (state_in w.bytes s) (state_in n.bytes s)
+    → (t : Seat) × (slice_get n.seats i ≡ Some t)
+    × IsChange p (state_in w.bytes s) (state_in n.bytes t)
