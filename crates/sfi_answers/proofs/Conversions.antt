@@ -4,7 +4,7 @@ use Rattle.std.specs.Prelude.{Result, Ok, Err, Vec, IfOk, IfErr, IsErr, string_b
 use Rattle.std.specs.Global.{Global}
 use Rattle.sfi_image.specs.Faults.{IsFault}
 use Rattle.sfi_image.specs.declared.fault.LayoutFault.{LayoutFault}
-use Rattle.sfi_scan.specs.declared.finding.Finding.{Finding}
+use Rattle.sfi_rules.specs.declared.finding.Finding.{Finding}
 use Rattle.sfi_check.specs.Converting.{IsSecond, IsConversion, HasStackFindings, IsConvertFault, AnswersConversion, AnswersFindings, AnswersLayout, AnswersNotOld, AnswersStack}
 use Rattle.sfi_check.specs.Verdict.{HasFindings}
 use Rattle.sfi_check.specs.declared.conversion.ConvertFault.{ConvertFault}

@@ -5,7 +5,7 @@ use Rattle.sfi_check.specs.Verdict.{HasFindings}
 use Rattle.sfi_check.specs.declared.refusal.Refusal.TheVariants.{Layout, Findings}
 use Rattle.sfi_image.specs.Faults.{IsFault}
 use Rattle.sfi_image.specs.declared.fault.LayoutFault.{LayoutFault}
-use Rattle.sfi_scan.specs.declared.finding.Finding.{Finding}
+use Rattle.sfi_rules.specs.declared.finding.Finding.{Finding}
 use Rattle.sfi_answers.specs.commands.Checking.{IsRefusalText, SaysRefused, on_verdict}
 use Rattle.sfi_answers.specs.Answers.{Answers}
 use Rattle.sfi_answers.specs.Refusals.{Refuses}

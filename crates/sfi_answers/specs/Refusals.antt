@@ -5,8 +5,9 @@ use Rattle.sfi_image.specs.Faults.{IsFault}
 use Rattle.sfi_image.specs.declared.fault.LayoutFault.{LayoutFault}
 use Rattle.sfi_check.specs.declared.refusal.Refusal.{Refusal}
 use Rattle.sfi_check.specs.Refusals.{IfLayoutFault, IfFindings}
-use Rattle.sfi_check.specs.Verdict.{IsAccepted, HasFindings, AnswersLayout, AnswersFindings, AnswersAccepted}
-use Rattle.sfi_scan.specs.declared.finding.Finding.{Finding}
+use Rattle.sfi_check.specs.Verdict.{HasFindings, AnswersLayout, AnswersFindings, AnswersAccepted}
+use Rattle.sfi_safety.specs.Clean.{IsAccepted}
+use Rattle.sfi_rules.specs.declared.finding.Finding.{Finding}
 
 -- the check of these bytes refuses them so: the fault or the findings are theirs,
 -- and no other answer is

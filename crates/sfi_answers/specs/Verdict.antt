@@ -2,8 +2,8 @@
 use Rattle.std.specs.Prelude.{ℕ, List, [], ◌∷◌, ◌++◌, length, codes, decimal}
 use Rattle.sfi_image.specs.Spelling.{Part}
 use Rattle.sfi_check.specs.Verdict.{bundle_count}
-use Rattle.sfi_scan.specs.Numbers.{number_of}
-use Rattle.sfi_scan.specs.declared.finding.Finding.{Finding}
+use Rattle.sfi_rules.specs.Numbers.{number_of}
+use Rattle.sfi_rules.specs.declared.finding.Finding.{Finding}
 use Rattle.sfi_report.specs.Digits.{hex_digits, line_end}
 
 -- the line that says how many sandboxes and bundles an image without findings has

@@ -11,7 +11,7 @@ use crate::verdict::{Answer, accepted_line, refused_line};
 use sfi_check::{Refusal, check};
 use sfi_image::parse_image;
 use sfi_report::report_text;
-use sfi_scan::Finding;
+use sfi_rules::Finding;
 use std::alloc::{AllocError, Global};
 
 /// The report on the findings of the image with these bytes.

@@ -10,7 +10,7 @@ ghost use Rattle.sfi_answers.specs.commands.Converting.{convert};
 use crate::fault::{InputFault, Stop};
 use crate::verdict::{Answer, digits_line, refused_line};
 use sfi_check::{ConvertFault, Refusal, convert};
-use sfi_scan::Finding;
+use sfi_rules::Finding;
 use std::alloc::{AllocError, Global};
 
 /// The line of the first of these findings.

@@ -5,7 +5,7 @@ ghost use Rattle.sfi_answers.specs.Verdict.{accepted_text, refused_text};
 ghost use Rattle.sfi_answers.specs.commands.Building.{digits_line};
 
 use sfi_report::push_eight_digits;
-use sfi_scan::Finding;
+use sfi_rules::Finding;
 use std::alloc::{AllocError, Global};
 
 /// What a command answers: the status to end with, and the text to print.

@@ -2,7 +2,7 @@
 use Rattle.std.proofs.Common.{◌≡◌, ◌∙◌, ℕ, ◌+◌, ◌-◌, List, [], ◌++◌, length, sym, ap, arith}
 use Rattle.std.specs.Prelude.{take, drop, min}
 use Rattle.std.proofs.lemmas.List.{length-append}
-use Rattle.sfi_scan.specs.declared.finding.Finding.{Finding}
+use Rattle.sfi_rules.specs.declared.finding.Finding.{Finding}
 use Rattle.sfi_c.specs.declared.finding.SfiFinding.{SfiFinding}
 use Rattle.sfi_c.specs.Verdicts.{told, with_findings}
 use Rattle.sfi_c.specs.private.Rooms.{Has}

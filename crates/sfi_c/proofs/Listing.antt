@@ -1,7 +1,7 @@
 -- What was handed over on the way to an answer, where the bytes have findings.
 use Rattle.std.proofs.Common.{◌≡◌, ℕ, List, [], ◌∷◌, ◌++◌, Bool, true, refl, sym, ap, ◌∙◌, subst}
 use Rattle.std.proofs.lemmas.List.{append-nil}
-use Rattle.sfi_scan.specs.declared.finding.Finding.{Finding}
+use Rattle.sfi_rules.specs.declared.finding.Finding.{Finding}
 use Rattle.sfi_check.specs.declared.stream_answer.StreamAnswer.{StreamAnswer}
 use Rattle.sfi_check.specs.Verdict.{HasFindings}
 use Rattle.sfi_check.specs.Streams.{IsVerdictOn, IfFindings, AreCounted, AreHandedOver}

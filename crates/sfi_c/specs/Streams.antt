@@ -7,8 +7,8 @@ use Rattle.sfi_image.specs.declared.fields.Fields.{Fields}
 use Rattle.sfi_image.specs.declared.want.Next.{Next}
 use Rattle.sfi_image.specs.declared.want.Next.TheVariants as next
 use Rattle.sfi_image.specs.Keeping.{ReaderState, IsReader}
-use Rattle.sfi_scan.specs.declared.finding.Finding.{Finding}
-use Rattle.sfi_scan.specs.Numbers.{numbered}
+use Rattle.sfi_rules.specs.declared.finding.Finding.{Finding}
+use Rattle.sfi_rules.specs.Numbers.{numbered}
 use Rattle.sfi_check.specs.declared.feed.Feed.{Feed}
 use Rattle.sfi_check.specs.declared.tally.Tally.{Tally}
 use Rattle.sfi_check.specs.Feeds.{IsFed}

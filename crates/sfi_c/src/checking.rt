@@ -3,8 +3,9 @@ ghost use Rattle.std.specs.Prelude.{◌≡◌, ◌≢◌, ◌≤◌, List, ◌�
 ghost use Rattle.sfi_image.specs.declared.fault.LayoutFault.{LayoutFault};
 ghost use Rattle.sfi_image.specs.Spelling.{Part};
 ghost use Rattle.sfi_image.specs.Faults.{IsFault, number_of as fault_number};
-ghost use Rattle.sfi_scan.specs.declared.finding.Finding.{Finding};
-ghost use Rattle.sfi_check.specs.Verdict.{IsAccepted, HasFindings, bundle_count};
+ghost use Rattle.sfi_rules.specs.declared.finding.Finding.{Finding};
+ghost use Rattle.sfi_check.specs.Verdict.{HasFindings, bundle_count};
+ghost use Rattle.sfi_safety.specs.Clean.{IsAccepted};
 ghost use Rattle.sfi_check.specs.Streams.{IsVerdictOn};
 ghost use Rattle.sfi_c.specs.private.Reads.{verdict_of};
 ghost use Rattle.sfi_c.specs.Statuses.{number_of};

@@ -5,7 +5,7 @@ ghost use Rattle.sfi_c.specs.Streams.{stage_of, format_of, first_finding};
 
 use crate::finding::{SfiFinding, no_finding, told};
 use sfi_image::{Format, Next};
-use sfi_scan::{Finding, Rule};
+use sfi_rules::{Finding, Rule};
 
 /// The number of what comes next.
 pub(crate) fn stage_number(next: Next) -> u32

@@ -4,7 +4,7 @@ ghost use Rattle.sfi_c.specs.Verdicts.{acceptance, refusal, no_image};
 
 use crate::finding::{SfiFinding, no_finding, told};
 use crate::status::Status;
-use sfi_scan::Finding;
+use sfi_rules::Finding;
 
 /// The verdict on an image: `struct sfi_verdict`. What its status doesn't speak of is 0.
 #[repr(C)]

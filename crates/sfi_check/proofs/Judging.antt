@@ -5,7 +5,7 @@ use Rattle.sfi_image.specs.declared.fault.LayoutFault.TheVariants as faults
 use Rattle.sfi_image.specs.declared.want.Next.TheVariants as next
 use Rattle.sfi_check.specs.declared.stream_answer.StreamAnswer.TheVariants as answers
 use Rattle.sfi_check.proofs.OneVerdict.{on_fault, on_accepted, on_findings}
-use Rattle.sfi_check.proofs.Safe.{all_safe}
+use Rattle.sfi_safety.proofs.Safe.{all_safe}
 use Rattle.sfi_image.proofs.Facts.{cut_short, trails, whole_is_image}
 
 -- ---- before the end

@@ -8,7 +8,7 @@ use Rattle.sfi_image.specs.declared.fault.LayoutFault.{LayoutFault}
 use Rattle.sfi_check.specs.declared.stream_answer.StreamAnswer.TheVariants as answers
 use Rattle.sfi_image.proofs.Facts.{one_image, one_fault}
 use Rattle.sfi_image.proofs.Facts as image_facts
-use Rattle.sfi_scan.proofs.Facts.{one_image_list}
+use Rattle.sfi_rules.proofs.Facts.{one_image_list}
 
 -- ---- findings
 

@@ -1,56 +1,34 @@
 -- Words of std and of definitions that many proofs of this crate use.
-pub use Rattle.std.proofs.Common.{◌≡◌, ◌≢◌, ℕ, suc, ◌+◌, ◌-◌, ◌%◌, ◌^◌, ◌<◌, ◌≤◌, ◌⊎◌, List, length, get_or, set, false, ◌||◌, ◌==◌, refl, sym, ◌∙◌, subst, inl, inr, ⊎_elim, arith, zero, ◌*◌, Bool, true, [], ◌++◌, take, drop, ap, append_assoc, ◌∷◌, Option, Some, None, cond, Result, Ok, Err, ◌/◌, not, ◌&&◌, add-zero, get_or-take, map, get_or-drop, replicate, eqb, rules}
-pub use Rattle.std.specs.Prelude.{ℤ, pos, negsuc, ◌+ℤ◌, slice_index, slice_get, Vec, IfOk, IfErr, is_some, filter, nat_lt, nat_le, IsSome}
+pub use Rattle.std.proofs.Common.{◌≡◌, ◌≢◌, ℕ, suc, ◌+◌, ◌-◌, ◌<◌, ◌≤◌, ◌⊎◌, List, length, get_or, false, ◌||◌, refl, sym, ◌∙◌, subst, inl, inr, arith, zero, ◌*◌, Bool, true, [], ◌++◌, take, drop, ap, append_assoc, ◌∷◌, Option, Some, None, cond, Result, Ok, Err, ◌/◌, add-zero, eqb, rules}
+pub use Rattle.std.specs.Prelude.{slice_get, Vec, IfOk, IfErr, is_some}
 pub use Rattle.std.proofs.Math.Seq.{take-append_seam, take-append-add}
-pub use Rattle.std.proofs.lemmas.Bool.{cases_lt, or_parts, eqb-false, cond_both, lt-ltb, and_parts, or_cases, eqb-true, not-false, and_from, cond-false, ne_eqb, not-true, false≢true, ltb-true, cases_Bool, or_left, or_right, leb-true, eq-eqb}
-pub use Rattle.std.proofs.lemmas.Int.{ints}
-pub use Rattle.std.proofs.lemmas.List.{get_or-set_other, length-set, length-map, length-append, length-take, length-drop, drop-drop, append-nil, take_all, take_more, get_or-map, take-append-drop, get_or-set_same, length_push, drop-take}
-pub use Rattle.std.specs.List.{Contains, range_with_len, All, list_all}
-pub use Rattle.rv_word.specs.Numbers.{offset_by, minus}
-pub use Rattle.rv_word.specs.Spelling.{IsImm12, IsWordOf}
-unfoldable pub use Rattle.rv_word.specs.Spelling.{InRange, spelling}
-pub use Rattle.rv_word.specs.declared.instr.Instr.{Instr}
-pub use Rattle.rv_word.specs.declared.instr.Instr.TheVariants.{Load, Store, Ecall, Op, OpImm, Branch, Jal, Jalr, Lui, Auipc, Fence, Ebreak}
-pub use Rattle.rv_word.specs.declared.instr.RegOp.TheVariants.{And, Or}
-pub use Rattle.rv_word.specs.declared.instr.StoreWidth.TheVariants.{Sb, Sh, Sw}
-pub use Rattle.rv_comp.specs.Fronts.{Spells}
-pub use Rattle.rv_mem.specs.Bytes.{address_after, addresses, Bytes, bytes_at, loaded, stored, IsMemory, byte_at, in_front}
-pub use Rattle.rv_step.specs.Access.{Accesses}
-pub use Rattle.rv_step.specs.State.{Hart, with_register, State, register, with_pc, past, even_of, IsHart}
-pub use Rattle.rv_step.specs.Step.{Stands, effect, after_load, next, unchanged, Stepped, IsStep}
-pub use Rattle.rv_step.specs.Values.{word, load_size, store_size, extended, is_taken, result_of}
-pub use Rattle.rv_step.specs.declared.outcome.Outcome.TheVariants.{Next, Call, Trap}
-pub use Rattle.sfi_policy.specs.Formats.{code_most, has_stack, is_stack}
+pub use Rattle.std.proofs.lemmas.Bool.{lt-ltb, eqb-true, cases_Bool, eq-eqb}
+pub use Rattle.std.proofs.lemmas.List.{length-map, length-append, length-take, length-drop, drop-drop, append-nil, take_all, take_more, get_or-map, take-append-drop, length_push, drop-take}
+pub use Rattle.std.specs.List.{All}
+pub use Rattle.sfi_policy.specs.Formats.{code_most}
 unfoldable pub use Rattle.sfi_policy.specs.Formats.{magic}
 pub use Rattle.sfi_policy.specs.declared.format.Format.{Format}
 pub use Rattle.sfi_policy.specs.declared.format.Format.TheVariants.{Sfi1, Sfi2}
 pub use Rattle.sfi_image.specs.Faults.{IsFault, number_of}
 pub use Rattle.sfi_image.specs.Fronts.{Front, ArePlain, Follows, want_of, IsLess, HasFaultNumberWhateverFollows, front, IsRightFront, IsLengthOf, part_of, after_parts, after_init, after_code, after_gates}
 pub use Rattle.sfi_image.specs.Fronts.Front.{Empty, AfterMagic, AfterCount, InGates, InCode, InInit, Whole}
-pub use Rattle.sfi_image.specs.Gates.{is_gate_of, AreGates}
+pub use Rattle.sfi_image.specs.Gates.{is_gate_of}
 pub use Rattle.sfi_image.specs.Keeping.{ReaderState, StandsFor, Leads, left, left_most}
-pub use Rattle.sfi_image.specs.Parts.{IsRightPart, AreRight, IsRightLayout, AreOf}
-pub use Rattle.sfi_image.specs.Regions.{IsBundleStart, IsCodeRegion, IsRegion}
-pub use Rattle.sfi_image.specs.Spans.{code_region, AreApart, guarded_region, spans, Holds}
-pub use Rattle.sfi_image.specs.Spelling.{Part, view, views, format_of, AreGateWords}
+pub use Rattle.sfi_image.specs.Parts.{IsRightPart, IsRightLayout}
+pub use Rattle.sfi_image.specs.Regions.{IsCodeRegion}
+pub use Rattle.sfi_image.specs.Spans.{spans}
+pub use Rattle.sfi_image.specs.Spelling.{Part, view, views, format_of}
 pub use Rattle.sfi_image.specs.declared.part.Gate.{Gate}
 pub use Rattle.sfi_image.specs.declared.part.SandboxPart.{SandboxPart}
-pub use Rattle.sfi_scan.specs.Bundles.{block_bundle, bundle_at, IsWithin, place_of, bundle_bytes}
-pub use Rattle.sfi_scan.specs.Findings.{AreBundleFindings, AreReadingFindings, AreFindings, AreFindingsFrom, AreImageFindings, all_rules, lowest, findings_from, rest_finding, AreFindingsOfFirst}
-pub use Rattle.sfi_scan.specs.Readings.{Piece, rest_of, IsReading, IsLongestReading}
-pub use Rattle.sfi_scan.specs.Rules.{Place, is_empty, is_bundle_start, breaks_ecall, breaks_reserved, breaks_access, breaks_jump, breaks_target, breaks_stack, may_access, ends_region, breaks, breaks_end, may_write_stack}
-pub use Rattle.sfi_scan.specs.declared.bundle.BundlePlace.{BundlePlace}
-pub use Rattle.sfi_scan.specs.declared.finding.Finding.{Finding}
+pub use Rattle.sfi_rules.specs.Bundles.{block_bundle, bundle_at, IsWithin, place_of, bundle_bytes}
+pub use Rattle.sfi_rules.specs.Findings.{AreBundleFindings, AreReadingFindings, AreFindings, AreFindingsFrom, AreImageFindings, AreFindingsOfFirst}
+pub use Rattle.sfi_rules.specs.declared.bundle.BundlePlace.{BundlePlace}
+pub use Rattle.sfi_rules.specs.declared.finding.Finding.{Finding}
 pub use Rattle.sfi_check.specs.Feeds.{IsFed, IsFedBy, IsHeld}
-pub use Rattle.sfi_check.specs.Laws.{CleanCallsWithStack, GoesOnSafely, CanBeEntered, InstructionLeaves, TurnKeeps, EntryIsGood, CleanRunsSafely, SafeTurns, SafeStaysSafe, SafeFetches}
-pub use Rattle.sfi_check.specs.Leaving.{Leaves, WritesResult, follows_mask}
-pub use Rattle.sfi_check.specs.Needed.{BreaksAlone, IsNeeded, EachRuleIsNeeded, HasOneFinding, HasUnsafeRun, StoresByte, IsAcceptedAndRuns, IsStricter, BreaksNoOther}
-pub use Rattle.sfi_check.specs.Places.{IsCleanPart, IsGood, IsGoodIf, StackInDataBefore, IsAtPlace}
-pub use Rattle.sfi_check.specs.Regions.{InData, InGuard, HasReserved, StackInData, IsGate, HasCode, HasEmptyGuards}
-pub use Rattle.sfi_check.specs.Runs.{Turn, IsRun, after_turn, IsEntry, Steps, Replies, IsReply, IsTurn, after_step, KeepsBytes, Changes, IsChange}
-pub use Rattle.sfi_check.specs.Safety.{AllRunSafely, IsSafeRun, RunsSafelyFrom, RunsSafely, IsSafeStep, IsTrap, IsSafeState, IsSafeTurn}
+pub use Rattle.sfi_safety.specs.Safety.{AllRunSafely}
 pub use Rattle.sfi_check.specs.Streams.{IsVerdictOn, AreHandedOver, IsFaultOf, AreCounted}
-pub use Rattle.sfi_check.specs.Verdict.{IsClean, IsAccepted, HasFindings, bundle_count, MayRun}
+pub use Rattle.sfi_check.specs.Verdict.{HasFindings, bundle_count}
+pub use Rattle.sfi_safety.specs.Clean.{IsAccepted}
 pub use Rattle.sfi_check.specs.declared.stream_answer.StreamAnswer.{StreamAnswer}
 pub use Rattle.sfi_check.specs.declared.tally.Tally.{Tally}
 pub use Rattle.sfi_check.specs.private.Tallies.{AddsFindings, AreFindingsOfPlain, AreFindingsSoFar, IsPlainFrom, IsSoFar, Tallies, findings_most, IsCut, verdict_of, verdict_by, IsTold, want_at, Goes, AreFindingsWithin, LeadsOn}

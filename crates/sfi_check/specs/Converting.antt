@@ -9,14 +9,15 @@ use Rattle.sfi_image.specs.declared.fault.LayoutFault.{LayoutFault}
 use Rattle.sfi_image.specs.Spelling.{Part, format_of}
 use Rattle.sfi_image.specs.InFormat.{all_in_format}
 use Rattle.sfi_image.specs.Faults.{IsFault}
-use Rattle.sfi_scan.specs.declared.finding.Finding.{Finding}
-use Rattle.sfi_scan.specs.declared.rule.Rule.TheVariants.{V10}
-use Rattle.sfi_scan.specs.Findings.{AreImageFindings}
+use Rattle.sfi_rules.specs.declared.finding.Finding.{Finding}
+use Rattle.sfi_rules.specs.declared.rule.Rule.TheVariants.{V10}
+use Rattle.sfi_rules.specs.Findings.{AreImageFindings}
 use Rattle.sfi_check.specs.declared.refusal.Refusal.{Refusal}
 use Rattle.sfi_check.specs.declared.refusal.Refusal.TheVariants as refusal
 use Rattle.sfi_check.specs.declared.conversion.ConvertFault.{ConvertFault}
 use Rattle.sfi_check.specs.declared.conversion.ConvertFault.TheVariants.{Refused, NotOld, Stack, Memory}
-use Rattle.sfi_check.specs.Verdict.{IsAccepted, HasFindings}
+use Rattle.sfi_check.specs.Verdict.{HasFindings}
+use Rattle.sfi_safety.specs.Clean.{IsAccepted}
 
 -- ---- bytes
 

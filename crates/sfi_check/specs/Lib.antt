@@ -1,13 +1,4 @@
-pub mod Laws
-pub mod Leaving
-pub mod Places
 pub mod Refusals
-pub mod Regions
-pub mod Runs
-pub mod Safety
-pub mod Stack
-pub mod Samples
-pub mod Needed
 pub mod OneVerdict
 pub mod Verdict
 pub mod Streams

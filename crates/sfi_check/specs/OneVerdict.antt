@@ -2,13 +2,14 @@
 use Rattle.std.specs.Prelude.{◌≡◌, ◌≢◌, ℕ, List, [], ◌++◌, Bool, true, length, slice_get, Some, Result, Ok, Err, IfOk, IfErr}
 use Rattle.sfi_image.specs.Spelling.{Part}
 use Rattle.sfi_image.specs.Faults.{IsFault, number_of}
-use Rattle.sfi_scan.specs.declared.finding.Finding.{Finding}
+use Rattle.sfi_rules.specs.declared.finding.Finding.{Finding}
 use Rattle.sfi_check.specs.declared.refusal.Refusal.{Refusal}
 use Rattle.sfi_check.specs.declared.refusal.Refusal.TheVariants.{Layout, Findings, Memory}
 use Rattle.sfi_check.specs.declared.stream_answer.StreamAnswer.{StreamAnswer}
 use Rattle.sfi_check.specs.declared.stream_answer.StreamAnswer.TheVariants as answers
 use Rattle.sfi_check.specs.Refusals.{IfLayoutFault, IfFindings}
-use Rattle.sfi_check.specs.Verdict.{IsAccepted, HasFindings, bundle_count}
+use Rattle.sfi_check.specs.Verdict.{HasFindings, bundle_count}
+use Rattle.sfi_safety.specs.Clean.{IsAccepted}
 use Rattle.sfi_check.specs.Streams.{IsVerdictOn}
 
 -- what `check` promises of its answer on the bytes: its clauses `layout`, `findings` and `accepted`

@@ -4,11 +4,12 @@ use Rattle.sfi_image.specs.declared.fault.LayoutFault.{LayoutFault}
 use Rattle.sfi_image.specs.Spelling.{Part}
 use Rattle.sfi_image.specs.Faults.{IsFault, number_of}
 use Rattle.sfi_image.specs.Fronts.{HasFaultNumberWhateverFollows}
-use Rattle.sfi_scan.specs.declared.finding.Finding.{Finding}
+use Rattle.sfi_rules.specs.declared.finding.Finding.{Finding}
 use Rattle.sfi_check.specs.declared.stream_answer.StreamAnswer.{StreamAnswer}
 use Rattle.sfi_check.specs.declared.stream_answer.StreamAnswer.TheVariants as answers
-use Rattle.sfi_check.specs.Verdict.{IsAccepted, HasFindings, bundle_count}
-use Rattle.sfi_check.specs.Safety.{AllRunSafely}
+use Rattle.sfi_check.specs.Verdict.{HasFindings, bundle_count}
+use Rattle.sfi_safety.specs.Clean.{IsAccepted}
+use Rattle.sfi_safety.specs.Safety.{AllRunSafely}
 
 -- ---- a fact of the answer, where it is that one
 

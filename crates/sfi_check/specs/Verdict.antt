@@ -5,12 +5,12 @@ use Rattle.sfi_image.specs.declared.fault.LayoutFault.{LayoutFault}
 use Rattle.sfi_image.specs.Spelling.{Part}
 use Rattle.sfi_image.specs.Parts.{IsRightLayout}
 use Rattle.sfi_image.specs.Images.{IsImage}
-use Rattle.sfi_scan.specs.declared.finding.Finding.{Finding}
-use Rattle.sfi_scan.specs.Findings.{AreImageFindings}
+use Rattle.sfi_rules.specs.declared.finding.Finding.{Finding}
+use Rattle.sfi_rules.specs.Findings.{AreImageFindings}
 use Rattle.sfi_check.specs.declared.refusal.Refusal.{Refusal}
 use Rattle.sfi_check.specs.declared.refusal.Refusal.TheVariants.{Layout, Findings, Memory}
-use Rattle.sfi_check.specs.Safety.{AllRunSafely}
-use Rattle.sfi_check.specs.Stack.{AllCallWithStack}
+use Rattle.sfi_safety.specs.Safety.{AllRunSafely}
+use Rattle.sfi_safety.specs.Stack.{AllCallWithStack}
 
 -- ---- images
 
@@ -18,24 +18,7 @@ use Rattle.sfi_check.specs.Stack.{AllCallWithStack}
 abbrev pub bundle_count : List Part → ℕ
 bundle_count ps = sum_by (λ p. length p.code / bundle_size) ps
 
--- the layout is right, and no rule is broken
-pub record IsClean (ps : List Part) : Type 0 where
-  pub layout : IsRightLayout ps
-  pub none_found : AreImageFindings ps []
-
--- the layout is right, no rule is broken, every run from every entry of each sandbox is safe, and
--- calls with the stack pointer in the data
-pub record MayRun (ps : List Part) : Type 0 where
-  pub clean : IsClean ps
-  pub safe : AllRunSafely ps
-  pub calls : AllCallWithStack ps
-
 -- ---- bytes
-
--- the bytes are an image with these parts, in which no rule is broken
-pub record IsAccepted (bytes : List ℕ) (ps : List Part) : Type 0 where
-  pub image : IsImage bytes ps
-  pub none_found : AreImageFindings ps []
 
 -- the bytes are an image with these findings, of which there is at least one
 pub record HasFindings (bytes : List ℕ) (found : List Finding) : Type 0 where

@@ -3,9 +3,10 @@ ghost use Rattle.std.specs.Prelude.{◌≡◌, length};
 ghost use Rattle.sfi_policy.specs.declared.format.Format.{Format};
 ghost use Rattle.sfi_image.specs.Spelling.{views};
 ghost use Rattle.sfi_image.specs.Parts.{IsRightLayout};
-ghost use Rattle.sfi_check.specs.Safety.{AllRunSafely};
-ghost use Rattle.sfi_check.specs.Stack.{AllCallWithStack};
-ghost use Rattle.sfi_check.specs.Verdict.{IsClean, bundle_count};
+ghost use Rattle.sfi_safety.specs.Safety.{AllRunSafely};
+ghost use Rattle.sfi_safety.specs.Stack.{AllCallWithStack};
+ghost use Rattle.sfi_check.specs.Verdict.{bundle_count};
+ghost use Rattle.sfi_safety.specs.Clean.{IsClean};
 
 use sfi_image::{Image, SandboxPart};
 use sfi_policy::BUNDLE_BYTES;
@@ -21,7 +22,7 @@ pub struct Accepted<'a> {
 impl<'a> Model for Accepted<'a> {
     ghost use Rattle.std.specs.Prelude.{List};
     ghost use Rattle.sfi_image.specs.Spelling.{Part};
-    ghost use Rattle.sfi_check.specs.Verdict.{MayRun};
+    ghost use Rattle.sfi_safety.specs.Clean.{MayRun};
 
     ghost Value = { List Part };
 

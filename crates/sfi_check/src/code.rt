@@ -4,8 +4,8 @@ ghost use Rattle.sfi_policy.specs.Limits.{bundle_size};
 ghost use Rattle.sfi_image.specs.Fronts.{Front, want_of};
 ghost use Rattle.sfi_image.specs.Keeping.{StandsFor, left};
 ghost use Rattle.sfi_masks.specs.Masks.{is_in};
-ghost use Rattle.sfi_scan.specs.Bundles.{IsWithin, IsWithinBlock, block_bundle, bundle_at};
-ghost use Rattle.sfi_scan.specs.Findings.{AreBundleFindings, AreReadingFindings};
+ghost use Rattle.sfi_rules.specs.Bundles.{IsWithin, IsWithinBlock, block_bundle, bundle_at};
+ghost use Rattle.sfi_rules.specs.Findings.{AreBundleFindings, AreReadingFindings};
 ghost use Rattle.sfi_check.specs.private.Tallies.{AddsFindings, AreScanned, IsPlainFrom, IsSoFar, LeadsOn, Steps, findings_most, want_at};
 
 use crate::progress::Step;

@@ -5,7 +5,7 @@ ghost use Rattle.sfi_image.specs.declared.fault.LayoutFault.{LayoutFault};
 ghost use Rattle.sfi_image.specs.Spelling.{views};
 ghost use Rattle.sfi_image.specs.Parts.{IsRightLayout};
 ghost use Rattle.sfi_image.specs.Faults.{IsFault};
-ghost use Rattle.sfi_scan.specs.declared.finding.Finding.{Finding};
+ghost use Rattle.sfi_rules.specs.declared.finding.Finding.{Finding};
 ghost use Rattle.sfi_check.specs.Verdict.{HasFindings};
 ghost use Rattle.sfi_check.specs.Converting.{number_of, IsSecond, HasStackFindings, IsConversion, AreOfStack, IfStack, IsConvertFault, AnswersNotOld, AnswersLayout, AnswersFindings, AnswersStack, AnswersConversion};
 ghost use Rattle.sfi_check.specs.private.Converting.{ChecksStack, Converts};
@@ -96,7 +96,7 @@ fn convert_accepted(alloc: Global, accepted: &Accepted<'_>) -> Result<Vec<u8>, C
 /// they break one of its rules.
 ///
 /// What it makes is an accepted image: `check` refuses it for want of memory alone.
-#[tactic(auto, using(sfi_scan::proofs::Facts::one_image_list, sfi_scan::proofs::Facts::clean_breaks_stack_alone))]
+#[tactic(auto, using(sfi_rules::proofs::Facts::one_image_list, sfi_rules::proofs::Facts::clean_breaks_stack_alone))]
 pub fn convert(alloc: Global, bytes: &[u8]) -> Result<Vec<u8>, ConvertFault>
     // What each answer means.
     ensures converted { IfOk result (λ new. IsConversion bytes.now new.items) }

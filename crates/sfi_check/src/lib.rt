@@ -5,7 +5,7 @@
 //! them, every run of each sandbox is safe, from every bundle start, with x24 to x27 set and, in
 //! the second format, x2 in the data; whatever the other registers and the data hold, and however
 //! the turns of its neighbours and its host's replies fall between its steps: `specs/Runs.antt`
-//! says what may happen, and `specs/Safety.antt` what is safe.
+//! of `sfi_safety` says what may happen, and `specs/Safety.antt` what is safe.
 #![tactic(auto)]
 
 mod accepted;
@@ -13,7 +13,6 @@ mod code;
 mod conversion;
 mod feed;
 pub mod laws;
-pub mod needs;
 mod progress;
 mod refusal;
 mod sink;

@@ -1,6 +1,6 @@
 //! Where the findings of a stream go.
 ghost use Rattle.std.specs.Prelude.{List, [], ◌++◌};
-ghost use Rattle.sfi_scan.specs.declared.finding.Finding.{Finding};
+ghost use Rattle.sfi_rules.specs.declared.finding.Finding.{Finding};
 
 use sfi_scan::BundleFindings;
 

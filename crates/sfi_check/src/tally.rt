@@ -1,7 +1,7 @@
 //! What was found so far.
 ghost use Rattle.std.specs.Prelude.{◌≡◌, ◌+◌, ◌<◌, ◌≤◌, ◌^◌, ◌++◌, List, length, slice_get};
 ghost use Rattle.sfi_policy.specs.Limits.{sandboxes_most};
-ghost use Rattle.sfi_scan.specs.declared.finding.Finding.{Finding};
+ghost use Rattle.sfi_rules.specs.declared.finding.Finding.{Finding};
 ghost use Rattle.sfi_check.specs.private.Tallies.{AddsFindings, findings_most};
 
 use sfi_scan::{BundleFindings, Finding};

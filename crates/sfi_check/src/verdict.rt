@@ -4,12 +4,13 @@ ghost use Rattle.sfi_image.specs.declared.fault.LayoutFault.{LayoutFault};
 ghost use Rattle.sfi_image.specs.Spelling.{Part, views};
 ghost use Rattle.sfi_image.specs.Parts.{IsRightLayout};
 ghost use Rattle.sfi_image.specs.Faults.{IsFault};
-ghost use Rattle.sfi_scan.specs.declared.finding.Finding.{Finding};
-ghost use Rattle.sfi_scan.specs.Findings.{AreImageFindings};
+ghost use Rattle.sfi_rules.specs.declared.finding.Finding.{Finding};
+ghost use Rattle.sfi_rules.specs.Findings.{AreImageFindings};
 ghost use Rattle.sfi_check.specs.Refusals.{IfLayoutFault, IfFindings};
-ghost use Rattle.sfi_check.specs.Safety.{AllRunSafely};
+ghost use Rattle.sfi_safety.specs.Safety.{AllRunSafely};
 ghost use Rattle.sfi_check.specs.private.Verdict.{Judges};
-ghost use Rattle.sfi_check.specs.Verdict.{IsAccepted, HasFindings, AnswersLayout, AnswersFindings, AnswersAccepted};
+ghost use Rattle.sfi_check.specs.Verdict.{HasFindings, AnswersLayout, AnswersFindings, AnswersAccepted};
+ghost use Rattle.sfi_safety.specs.Clean.{IsAccepted};
 
 use crate::accepted::Accepted;
 use crate::refusal::Refusal;
@@ -60,7 +61,7 @@ fn judge<'a>(alloc: Global, image: Image<'a>) -> Result<Accepted<'a>, Refusal>
 ///
 /// The verdict rests on the bytes alone. Want of memory is the one answer that the bytes don't
 /// determine.
-#[tactic(auto, using(sfi_image::proofs::Facts::one_image, sfi_scan::proofs::Facts::one_image_list))]
+#[tactic(auto, using(sfi_image::proofs::Facts::one_image, sfi_rules::proofs::Facts::one_image_list))]
 pub fn check<'a>(alloc: Global, bytes: &'a [u8]) -> Result<Accepted<'a>, Refusal>
     // What each answer means.
     ensures layout { IfErr result (IfLayoutFault (IsFault bytes.entry.now)) }

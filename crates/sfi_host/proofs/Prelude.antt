@@ -18,10 +18,10 @@ pub use Rattle.sfi_image.specs.Parts.{IsRightPart, IsRightLayout}
 pub use Rattle.sfi_image.specs.Spans.{Holds, code_region, AreApart, guarded_region, spans, with_guards, InGuards}
 pub use Rattle.sfi_image.specs.Spelling.{Part, view, views}
 pub use Rattle.sfi_image.specs.declared.span.Span.{Span}
-pub use Rattle.sfi_check.specs.Regions.{InCode, HasCode, InData, InGuard, IsGate, StackInData}
-pub use Rattle.sfi_check.specs.Runs.{IsChange, IsEntry, IsReply, IsTurn, Steps, Replies, Changes, KeepsBytes, IsRun, KeepsReserved}
-pub use Rattle.sfi_check.specs.Safety.{AllRunSafely, IsSafeState, IsSafeTurn, IsSafeRun, IsSafeStep, IsTrap, RunsSafely}
-pub use Rattle.sfi_check.specs.Stack.{AllCallWithStack, after_turns, GoesSafelyFrom, CallsWithStack}
+pub use Rattle.sfi_safety.specs.Regions.{InCode, HasCode, InData, InGuard, IsGate, StackInData}
+pub use Rattle.sfi_safety.specs.Runs.{IsChange, IsEntry, IsReply, IsTurn, Steps, Replies, Changes, KeepsBytes, IsRun, KeepsReserved}
+pub use Rattle.sfi_safety.specs.Safety.{AllRunSafely, IsSafeState, IsSafeTurn, IsSafeRun, IsSafeStep, IsTrap, RunsSafely}
+pub use Rattle.sfi_safety.specs.Stack.{AllCallWithStack, after_turns, GoesSafelyFrom, CallsWithStack}
 pub use Rattle.sfi_host.specs.Consoles.{SessionState, ConsoleState, with_session, serve, serve_own, console, may_want, may_want_if, console_may_refuse, new_session, failed, most_messages, posted, mailbox_full, message_of, with_message, post_to, post}
 pub use Rattle.sfi_host.specs.Entering.{AreEnterable, MayEnter, MayEnterAt, fresh_hart, with_registers, entered_hart, entered_seat, with_entry_of, with_entry, IsAtEntry, IsEnterable}
 pub use Rattle.sfi_host.specs.Guests.{call_by, asked, with_a0, data_of}

@@ -5,7 +5,7 @@ use Rattle.sfi_host.specs.Laws.{CallsHaveStack, AnswersAreReplies}
 use Rattle.sfi_host.specs.Stops.{StoppedItself}
 use Rattle.sfi_policy.specs.Formats.{has_stack}
 use Rattle.rv_step.proofs.Harts.{register_is, after_is}
-use Rattle.sfi_check.proofs.Facts.{goes_on_safely}
+use Rattle.sfi_safety.proofs.Facts.{goes_on_safely}
 use Rattle.sfi_host.proofs.Entered as parts
 use Rattle.sfi_host.proofs.Stops.{at_gate, at_gate_still, stopped_still}
 

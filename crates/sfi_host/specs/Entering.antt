@@ -9,10 +9,10 @@ use Rattle.sfi_image.specs.Parts.{IsRightPart}
 use Rattle.sfi_image.specs.Regions.{IsBundleStart}
 use Rattle.sfi_image.specs.Registers.{reserved_for}
 use Rattle.sfi_image.specs.Spelling.{Part}
-use Rattle.sfi_check.specs.Regions.{HasCode}
-use Rattle.sfi_check.specs.Runs.{IsEntry}
-use Rattle.sfi_check.specs.Safety.{RunsSafely}
-use Rattle.sfi_check.specs.Stack.{CallsWithStack}
+use Rattle.sfi_safety.specs.Regions.{HasCode}
+use Rattle.sfi_safety.specs.Runs.{IsEntry}
+use Rattle.sfi_safety.specs.Safety.{RunsSafely}
+use Rattle.sfi_safety.specs.Stack.{CallsWithStack}
 use Rattle.sfi_host.specs.declared.status.Status.{Status}
 use Rattle.sfi_host.specs.declared.status.Status.TheVariants.{Ready}
 use Rattle.sfi_host.specs.Arguments.{a0_register}

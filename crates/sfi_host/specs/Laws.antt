@@ -5,8 +5,8 @@ use Rattle.rv_mem.specs.Bytes.{Bytes}
 use Rattle.rv_step.specs.State.{State, IsState}
 use Rattle.rv_step.specs.Step.{Stands}
 use Rattle.sfi_image.specs.Spelling.{Part}
-use Rattle.sfi_check.specs.Regions.{StackInData}
-use Rattle.sfi_check.specs.Runs.{IsReply, IsChange}
+use Rattle.sfi_safety.specs.Regions.{StackInData}
+use Rattle.sfi_safety.specs.Runs.{IsReply, IsChange}
 use Rattle.sfi_host.specs.declared.status.Status.TheVariants.{Ready}
 use Rattle.sfi_host.specs.Hosts.{Reply}
 use Rattle.sfi_host.specs.Slots.{bounds_of}

@@ -6,7 +6,7 @@ use Rattle.sfi_policy.specs.Registers.{code_base_register, code_mask_register, d
 use Rattle.sfi_policy.specs.Limits.{first_frame}
 use Rattle.sfi_image.specs.Spelling.{Part}
 use Rattle.sfi_image.specs.Registers.{reserved_of}
-use Rattle.sfi_check.specs.Runs.{IsEntry}
+use Rattle.sfi_safety.specs.Runs.{IsEntry}
 use Rattle.sfi_host.specs.declared.status.Status.TheVariants.{Ready}
 use Rattle.sfi_host.specs.Slots.{bounds_of}
 use Rattle.sfi_host.specs.Worlds.{Seat, state_in}

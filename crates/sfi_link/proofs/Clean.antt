@@ -8,10 +8,10 @@ use Rattle.rv_word.specs.declared.instr.RegOp.TheVariants.{And, Or}
 use Rattle.sfi_policy.specs.Registers.{is_reserved, is_withheld}
 use Rattle.sfi_rewrite.specs.Expansion.{jump_to_x31, jump_slots, IsAlone, IsMasked, IsExpansionOf}
 use Rattle.sfi_rewrite.specs.Registers.{names_withheld, item_names_withheld, is_ecall}
-use Rattle.sfi_scan.specs.Pairs.{follows_data_pair}
-use Rattle.sfi_scan.specs.Rules.{is_bundle_start, breaks_reserved, breaks_stack}
-use Rattle.sfi_scan.specs.Stack.{writes_stack, begins_pair, ends_pair, precedes_pair, is_jump}
-use Rattle.sfi_scan.specs.declared.bundle.BundlePlace.{BundlePlace}
+use Rattle.sfi_rules.specs.Pairs.{follows_data_pair}
+use Rattle.sfi_rules.specs.Rules.{is_bundle_start, breaks_reserved, breaks_stack}
+use Rattle.sfi_rules.specs.Stack.{writes_stack, begins_pair, ends_pair, precedes_pair, is_jump}
+use Rattle.sfi_rules.specs.declared.bundle.BundlePlace.{BundlePlace}
 use Rattle.sfi_rewrite.specs.Placed.{expansion as whole_expansion}
 use Rattle.std.proofs.lemmas.Bool as bool
 use Rattle.sfi_rewrite.specs.Stack as stack

@@ -3,10 +3,10 @@ use Rattle.sfi_link.proofs.Prelude.{◌≡◌, ℕ, ◌+◌, ◌-◌, ◌*◌, �
 use Rattle.sfi_image.specs.Gates.{is_gate_of}
 use Rattle.sfi_image.specs.Regions.{IsBundleStart}
 use Rattle.sfi_rewrite.specs.declared.placed.PlacedName.TheVariants.{Gate, Code, Data, Unknown}
-use Rattle.sfi_scan.specs.Findings.{AreFindings, AreFindingsFrom}
+use Rattle.sfi_rules.specs.Findings.{AreFindings, AreFindingsFrom}
 use Rattle.std.proofs.lemmas.Option.{slice_get_within, get_or_from_slice_get}
-use Rattle.sfi_scan.specs.Bundles.{place_of}
-use Rattle.sfi_scan.proofs.Facts.{same_bundle_starts}
+use Rattle.sfi_rules.specs.Bundles.{place_of}
+use Rattle.sfi_rules.proofs.Facts.{same_bundle_starts}
 use Rattle.sfi_rewrite.proofs.Sizes.{size_of-append}
 use Rattle.sfi_link.proofs.Sizes.{size_fill}
 use Rattle.sfi_link.proofs.CleanPlaces.{AreStarts, some_same}

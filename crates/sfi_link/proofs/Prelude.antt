@@ -25,7 +25,7 @@ pub use Rattle.sfi_place.specs.declared.place.Place.{Place}
 pub use Rattle.sfi_image.specs.Spans.{AreApart, with_guards, spans, spans_of, code_region}
 pub use Rattle.sfi_image.specs.Spelling.{Part, fields_of, format_of, views, view}
 pub use Rattle.sfi_image.specs.declared.span.Span.{Span}
-pub use Rattle.sfi_scan.specs.Readings.{Piece, IsReading, rest_of, IsLongestReading}
+pub use Rattle.sfi_rules.specs.Readings.{Piece, IsReading, rest_of, IsLongestReading}
 pub use Rattle.sfi_rewrite.specs.Placed.{AreWhole, nothing, padding, IsPlacedPart, IsPlacedThere, IsPlaced, Encodes}
 pub use Rattle.sfi_rewrite.specs.Placement.{Placement, AreBundles}
 pub use Rattle.sfi_rewrite.specs.Slots.{slot_size, size_of, c_nop, slots_of}

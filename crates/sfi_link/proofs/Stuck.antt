@@ -1,7 +1,7 @@
 -- A reading that can't go on is the longest.
 use Rattle.sfi_link.proofs.Prelude.{◌≡◌, ℕ, ◌≤◌, List, [], ◌∷◌, length, take, drop, sym, ap, subst, arith, length-take, ⊎_elim, Spells, Piece, IsReading, IsLongestReading, rest_of}
 use Rattle.rv_comp.proofs.Facts.{two_lengths, spelled_length}
-use Rattle.sfi_scan.proofs.Readings.{front_one}
+use Rattle.sfi_rules.proofs.Readings.{front_one}
 
 -- nothing is spelled at the front of no bytes
 nothing_there : (x : Piece) → Spells (take x.size []) x.instr x.size → ⊥

@@ -3,7 +3,7 @@ use Rattle.std.specs.Prelude.{◌≡◌, ◌⊎◌, ℕ, ◌≤◌, List, [], le
 use Rattle.sfi_image.specs.Spelling.{Part}
 use Rattle.sfi_image.specs.Parts.{IsRightLayout}
 use Rattle.sfi_place.specs.declared.place.Place.{Place}
-use Rattle.sfi_scan.specs.Findings.{AreFindings}
+use Rattle.sfi_rules.specs.Findings.{AreFindings}
 use Rattle.sfi_rewrite.specs.Placement.{Placement}
 use Rattle.sfi_rewrite.specs.Placed.{IsPlacedPart, IsPlaced}
 use Rattle.sfi_link.specs.declared.fault.LinkFault.{LinkFault}

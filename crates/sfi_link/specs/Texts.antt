@@ -7,7 +7,7 @@ use Rattle.rv_text.specs.Texts.{MeansSource, IsFault}
 use Rattle.sfi_image.specs.Spelling.{Part}
 use Rattle.sfi_place.specs.declared.place.Place.{Place}
 use Rattle.sfi_image.specs.Images.{IsImage}
-use Rattle.sfi_scan.specs.Findings.{AreImageFindings}
+use Rattle.sfi_rules.specs.Findings.{AreImageFindings}
 use Rattle.sfi_rewrite.specs.declared.fault.RewriteFault.TheVariants as rewriter
 use Rattle.sfi_rewrite.specs.Placement.{Placement}
 use Rattle.sfi_rewrite.specs.Faults.{IsSourceFault}

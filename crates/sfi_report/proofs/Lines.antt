@@ -4,7 +4,7 @@ use Rattle.std.proofs.lemmas.List.{length-take, append-nil, drop-drop, take_all,
 use Rattle.rv_word.specs.declared.instr.Instr.{Instr}
 use Rattle.rv_comp.specs.Fronts.{Spells}
 use Rattle.rv_comp.specs.declared.front.Front.TheVariants.{Read}
-use Rattle.sfi_scan.specs.Readings.{Piece, IsReading, IsLongestReading}
+use Rattle.sfi_rules.specs.Readings.{Piece, IsReading, IsLongestReading}
 use Rattle.sfi_report.specs.Listing.{instruction_line, rest_line, IsBundleListing}
 use Rattle.sfi_report.specs.private.Added.{Adds}
 

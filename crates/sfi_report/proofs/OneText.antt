@@ -4,17 +4,17 @@ use Rattle.std.specs.List.{flat_map}
 use Rattle.rv_comp.specs.declared.front.Front.{Front}
 use Rattle.rv_text.specs.Printed.{printed}
 use Rattle.sfi_image.specs.Spelling.{Part, format_of}
-use Rattle.sfi_scan.specs.declared.finding.Finding.{Finding}
-use Rattle.sfi_scan.specs.declared.rule.Rule.{Rule}
-use Rattle.sfi_scan.specs.declared.rule.Rule.TheVariants.{V1, V2, V9}
-use Rattle.sfi_scan.specs.Bundles.{bundle_bytes}
+use Rattle.sfi_rules.specs.declared.finding.Finding.{Finding}
+use Rattle.sfi_rules.specs.declared.rule.Rule.{Rule}
+use Rattle.sfi_rules.specs.declared.rule.Rule.TheVariants.{V1, V2, V9}
+use Rattle.sfi_rules.specs.Bundles.{bundle_bytes}
 use Rattle.sfi_report.specs.Digits.{line_end}
 use Rattle.sfi_report.specs.Report.{IsInstructionText, IsPlaceText, line_front, IsFindingLine}
 use Rattle.sfi_report.specs.Listing.{reading_lines, sandbox_line, gate_line, format_line, IsBundleListing, IsListingOfFirst, IsCodeListing, IsSandboxListing, IsListingFrom}
 use Rattle.sfi_report.specs.State.{code_from, place_line, registers_text, state_front}
 use Rattle.sfi_report.specs.Laws.{OneReport, OneListing, OneState}
 use Rattle.rv_comp.proofs.Facts.{one_front, one_spelling}
-use Rattle.sfi_scan.proofs.Facts.{one_longest_reading}
+use Rattle.sfi_rules.proofs.Facts.{one_longest_reading}
 
 -- ---- reports
 

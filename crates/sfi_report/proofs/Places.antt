@@ -11,16 +11,16 @@ use Rattle.rv_word.specs.declared.length.Length.TheVariants as lengths
 use Rattle.rv_word.specs.Lengths.{length_of}
 use Rattle.rv_comp.specs.Fronts.{Spells}
 use Rattle.sfi_image.specs.Spelling.{Part}
-use Rattle.sfi_scan.specs.declared.bundle.BundlePlace.{BundlePlace}
-use Rattle.sfi_scan.specs.declared.rule.Rule.{Rule}
-use Rattle.sfi_scan.specs.declared.rule.Rule.TheVariants.{V1, V2, V9}
-use Rattle.sfi_scan.specs.declared.finding.Finding.{Finding}
-use Rattle.sfi_scan.specs.Bundles.{place_of, bundle_bytes}
-use Rattle.sfi_scan.specs.Readings.{Piece, IsReading, rest_of}
-use Rattle.sfi_scan.specs.Rules.{breaks}
-use Rattle.sfi_scan.specs.Findings.{broken, lowest, all_rules, findings_from, rest_finding, rule_of_length, AreBundleFindings, AreFindingsOfFirst, AreFindings, AreFindingsFrom, AreImageFindings}
+use Rattle.sfi_rules.specs.declared.bundle.BundlePlace.{BundlePlace}
+use Rattle.sfi_rules.specs.declared.rule.Rule.{Rule}
+use Rattle.sfi_rules.specs.declared.rule.Rule.TheVariants.{V1, V2, V9}
+use Rattle.sfi_rules.specs.declared.finding.Finding.{Finding}
+use Rattle.sfi_rules.specs.Bundles.{place_of, bundle_bytes}
+use Rattle.sfi_rules.specs.Readings.{Piece, IsReading, rest_of}
+use Rattle.sfi_rules.specs.Rules.{breaks}
+use Rattle.sfi_rules.specs.Findings.{broken, lowest, all_rules, findings_from, rest_finding, rule_of_length, AreBundleFindings, AreFindingsOfFirst, AreFindings, AreFindingsFrom, AreImageFindings}
 use Rattle.sfi_report.specs.private.Added.{SpellsFirst, IsPlace, Stands}
-use Rattle.sfi_scan.proofs.Lowest.{lowest_is}
+use Rattle.sfi_rules.proofs.Lowest.{lowest_is}
 use Rattle.sfi_report.proofs.Lines.{spell_even, spell_fits}
 
 -- the finding is one of the sandbox, so many bytes after the address, where these bytes are

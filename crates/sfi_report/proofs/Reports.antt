@@ -6,7 +6,7 @@ use Rattle.std.proofs.lemmas.List.{append-nil, take_more}
 use Rattle.sfi_policy.specs.declared.format.Format.{Format}
 use Rattle.sfi_image.specs.declared.part.SandboxPart.{SandboxPart}
 use Rattle.sfi_image.specs.Spelling.{Part, view, views}
-use Rattle.sfi_scan.specs.declared.finding.Finding.{Finding}
+use Rattle.sfi_rules.specs.declared.finding.Finding.{Finding}
 use Rattle.sfi_report.specs.Digits.{line_end}
 use Rattle.sfi_report.specs.Report.{IsPlaceText, line_front, IsFindingLine, IsReport}
 use Rattle.sfi_report.specs.private.Added.{Adds, Stands}

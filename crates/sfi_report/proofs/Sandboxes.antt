@@ -7,7 +7,7 @@ use Rattle.sfi_policy.specs.declared.format.Format.{Format}
 use Rattle.sfi_image.specs.declared.part.SandboxPart.{SandboxPart}
 use Rattle.sfi_image.specs.Spelling.{Part, view, views, format_of}
 use Rattle.sfi_image.specs.Parts.{IsRightPart, IsRightLayout}
-use Rattle.sfi_scan.specs.Bundles.{bundle_bytes}
+use Rattle.sfi_rules.specs.Bundles.{bundle_bytes}
 use Rattle.sfi_report.specs.private.Added.{Adds}
 use Rattle.sfi_report.specs.Listing.{sandbox_line, gate_line, IsBundleListing, IsListingOfFirst, IsCodeListing, IsSandboxListing, IsListingFrom, format_line, IsListing}
 

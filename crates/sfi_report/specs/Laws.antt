@@ -1,7 +1,7 @@
 -- What holds of reports and listings.
 use Rattle.std.specs.Prelude.{◌≡◌, List, ℕ}
 use Rattle.sfi_image.specs.Spelling.{Part}
-use Rattle.sfi_scan.specs.declared.finding.Finding.{Finding}
+use Rattle.sfi_rules.specs.declared.finding.Finding.{Finding}
 use Rattle.sfi_report.specs.Report.{IsReport}
 use Rattle.sfi_report.specs.Listing.{IsListing}
 use Rattle.sfi_report.specs.State.{IsStateText}

@@ -8,8 +8,8 @@ use Rattle.rv_text.specs.Printed.{printed}
 use Rattle.sfi_policy.specs.Limits.{bundle_size}
 use Rattle.sfi_image.specs.Spelling.{Part, format_of}
 use Rattle.sfi_image.specs.declared.part.Gate.{Gate}
-use Rattle.sfi_scan.specs.Bundles.{bundle_bytes}
-use Rattle.sfi_scan.specs.Readings.{Piece, IsLongestReading}
+use Rattle.sfi_rules.specs.Bundles.{bundle_bytes}
+use Rattle.sfi_rules.specs.Readings.{Piece, IsLongestReading}
 use Rattle.sfi_report.specs.Digits.{hex_digits, line_end, word_digits}
 
 -- ---- of a bundle

@@ -4,10 +4,10 @@ use Rattle.rv_word.specs.declared.instr.Instr.{Instr}
 use Rattle.rv_comp.specs.Fronts.{Spells}
 use Rattle.rv_text.specs.Printed.{printed}
 use Rattle.sfi_image.specs.Spelling.{Part}
-use Rattle.sfi_scan.specs.Numbers.{number_of}
-use Rattle.sfi_scan.specs.declared.finding.Finding.{Finding}
-use Rattle.sfi_scan.specs.declared.rule.Rule.{Rule}
-use Rattle.sfi_scan.specs.declared.rule.Rule.TheVariants.{V1, V2, V3, V4, V5, V6, V7, V8, V9, V10}
+use Rattle.sfi_rules.specs.Numbers.{number_of}
+use Rattle.sfi_rules.specs.declared.finding.Finding.{Finding}
+use Rattle.sfi_rules.specs.declared.rule.Rule.{Rule}
+use Rattle.sfi_rules.specs.declared.rule.Rule.TheVariants.{V1, V2, V3, V4, V5, V6, V7, V8, V9, V10}
 use Rattle.sfi_report.specs.Digits.{hex_digits, line_end, word_digits}
 
 -- the name of a rule

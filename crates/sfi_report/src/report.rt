@@ -1,7 +1,7 @@
 //! The report on the findings of an image.
 ghost use Rattle.std.specs.Prelude.{◌≡◌, ◌≤◌, ◌++◌, OnOk, IfOk, length, string_bytes};
 ghost use Rattle.sfi_image.specs.Spelling.{views};
-ghost use Rattle.sfi_scan.specs.Findings.{AreImageFindings};
+ghost use Rattle.sfi_rules.specs.Findings.{AreImageFindings};
 ghost use Rattle.sfi_report.specs.Report.{IsFindingLine, IsPlaceText, IsInstructionText, IsReport, line_front, half_text, rule_name};
 ghost use Rattle.sfi_report.specs.private.Added.{Adds, IsPlace, SpellsFirst, Stands};
 
@@ -10,7 +10,7 @@ use rv_comp::{Front, read_front};
 use rv_text::push_instr;
 use sfi_image::{Image, SandboxPart};
 use sfi_policy::Format;
-use sfi_scan::{Finding, Rule};
+use sfi_rules::{Finding, Rule};
 use std::alloc::{AllocError, Global};
 
 /// The rule's name.

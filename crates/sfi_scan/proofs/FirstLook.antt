@@ -3,7 +3,7 @@ use Rattle.sfi_scan.proofs.Prelude.{◌≡◌, ℕ, ◌==◌, Bool, true, false,
 use Rattle.rv_word.specs.Numbers.{offset_by}
 use Rattle.rv_word.specs.declared.outline.Outline.{Outline}
 use Rattle.rv_word.specs.declared.outline.Outline.TheVariants.{Computes, Loads}
-use Rattle.sfi_scan.specs.Stack.{begins_pair, ends_pair, precedes_pair, is_jump}
+use Rattle.sfi_rules.specs.Stack.{begins_pair, ends_pair, precedes_pair, is_jump}
 use Rattle.sfi_scan.specs.declared.clean.Words.{Words}
 use Rattle.std.proofs.lemmas.Int.{to_z-of_z}
 use Rattle.std.proofs.Common.{w32, eq-eqb}

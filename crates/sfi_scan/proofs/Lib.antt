@@ -6,16 +6,10 @@ pub mod Marks
 pub mod FirstLook
 pub mod Gates
 pub mod Look
-pub mod Lowest
-pub mod OneList
 pub mod PairTables
-pub mod Readings
 pub mod WordsAt
 pub mod Writes
 pub mod Walk
-pub mod FirstFormat
-pub mod Second
 pub mod Seen
 pub mod Starts
 pub mod Table16
-pub mod Facts

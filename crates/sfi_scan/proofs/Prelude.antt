@@ -1,7 +1,7 @@
 -- Words of std and of definitions that many proofs of this crate use.
-pub use Rattle.std.proofs.Common.{◌≡◌, ℕ, suc, ◌≤◌, List, [], ◌∷◌, length, take, drop, Option, Some, refl, sym, ap, ◌∙◌, subst, arith, zero, ◌+◌, ◌-◌, ◌*◌, ◌/◌, ◌%◌, ◌^◌, ◌<◌, ◌≢◌, true≢false, min, Bool, true, false, not, ◌&&◌, ◌==◌, ◌⊎◌, inl, inr, w64, mul_assoc, bit_and, nat_le, nat_lt, ◌++◌, None, ℤ, pos, negsuc, of_z, to_z, SFits, ◌||◌, cond, get_or, length-drop, rules, tests, mod-lt, pow_pos, ap₂, get_or-take, IfSome, append_assoc, w8}
+pub use Rattle.std.proofs.Common.{◌≡◌, ℕ, suc, ◌≤◌, List, [], ◌∷◌, length, take, drop, Option, Some, refl, sym, ap, ◌∙◌, subst, arith, zero, ◌+◌, ◌-◌, ◌*◌, ◌/◌, ◌%◌, ◌^◌, ◌<◌, ◌≢◌, true≢false, min, Bool, true, false, not, ◌&&◌, ◌==◌, ◌⊎◌, inl, inr, w64, mul_assoc, bit_and, nat_le, ◌++◌, None, ℤ, pos, negsuc, of_z, to_z, SFits, ◌||◌, cond, get_or, length-drop, rules, tests, mod-lt, pow_pos, ap₂, IfSome, append_assoc, w8}
 pub use Rattle.std.specs.Prelude.{if◌then◌else◌, nat_eq, slice_index, is_some}
-pub use Rattle.std.proofs.lemmas.Bool.{cases_order, agree_below_at, and_parts, and_from, leb-true, ltb-true, eqb-true, le-leb, lt-ltb, eq-eqb, and_right, or_parts, ltb-false, ne_eqb, eqb-false, agree_below, OnTrue_at}
+pub use Rattle.std.proofs.lemmas.Bool.{cases_order, agree_below_at, and_parts, eqb-true, and_right, or_parts, ltb-false, ne_eqb, eqb-false, agree_below, OnTrue_at}
 pub use Rattle.std.proofs.lemmas.List.{append-nil, drop-drop, drop-take, take-take, length-take, length-append, drop_all, take_all, take_rest}
 pub use Rattle.std.proofs.lemmas.Nat.{shl-shr, shr-shr, and_mask, and_block, and_le_r}
 pub use Rattle.std.specs.Bool.{OnTrue}
@@ -19,15 +19,15 @@ pub use Rattle.sfi_policy.specs.Formats.{has_stack, is_stack}
 pub use Rattle.sfi_policy.specs.Registers.{is_reserved, stack_pointer}
 pub use Rattle.sfi_image.specs.Spelling.{Part, view}
 pub use Rattle.sfi_masks.specs.Masks.{is_in, AreMasks, IsFreeAccess, may_write, is_free, IsFreeHalf, IsFreeWord}
-pub use Rattle.sfi_scan.specs.Bundles.{place_of, bundle_bytes, block_bundle, bundle_at, IsWithinBlock, IsWithin}
-pub use Rattle.sfi_scan.specs.Findings.{broken, lowest, all_rules, rule_of_length, findings_from, rest_finding, AreReadingFindings, AreBundleFindings, AreFindingsOfFirst, AreFindings, AreFindingsFrom}
-pub use Rattle.sfi_scan.specs.Pairs.{follows_data_pair, follows_pair, follows_code_pair}
-pub use Rattle.sfi_scan.specs.Readings.{Piece, IsReading, IsLongestReading, rest_of}
-pub use Rattle.sfi_scan.specs.Rules.{Place, breaks, breaks_stack, may_access, is_last_bundle, is_bundle_start, is_empty, breaks_ecall, breaks_access, breaks_jump, breaks_target}
+pub use Rattle.sfi_rules.specs.Bundles.{place_of, bundle_bytes, block_bundle, bundle_at, IsWithinBlock, IsWithin}
+pub use Rattle.sfi_rules.specs.Findings.{broken, lowest, all_rules, rule_of_length, findings_from, rest_finding, AreReadingFindings, AreBundleFindings, AreFindingsOfFirst}
+pub use Rattle.sfi_rules.specs.Pairs.{follows_data_pair, follows_pair, follows_code_pair}
+pub use Rattle.sfi_rules.specs.Readings.{Piece, IsReading, IsLongestReading, rest_of}
+pub use Rattle.sfi_rules.specs.Rules.{Place, may_access, is_last_bundle, is_bundle_start, is_empty, breaks_ecall}
 pub use Rattle.sfi_scan.specs.declared.before.Before.{Before}
-pub use Rattle.sfi_scan.specs.declared.bundle.BundlePlace.{BundlePlace}
-pub use Rattle.sfi_scan.specs.declared.finding.Finding.{Finding}
-pub use Rattle.sfi_scan.specs.declared.rule.Rule.{Rule}
+pub use Rattle.sfi_rules.specs.declared.bundle.BundlePlace.{BundlePlace}
+pub use Rattle.sfi_rules.specs.declared.finding.Finding.{Finding}
+pub use Rattle.sfi_rules.specs.declared.rule.Rule.{Rule}
 pub use Rattle.sfi_scan.specs.private.Block.{AreStarts, AreAfterTwo, offset, words_from, IsSpelledAt, IsCleanIn, IsCleanAt, IsWritten, IsOfWrite, AreThreeWords, IsWithout}
 pub use Rattle.sfi_scan.specs.private.FirstLook.{IsWordOr0, AreBefore, is_protected, is_clean, is_zero, word_at, AreWordsFrom, IsCleanOne, IsStackWrite, AreStackPair, half_at, is_clean_access}
 pub use Rattle.sfi_scan.specs.private.Near.{ahead, near, AreAhead, AreGatesFrom, is_first_at, is_first_below, finding_of, IsClean}

@@ -3,7 +3,7 @@ use Rattle.sfi_scan.proofs.Prelude.{◌≡◌, ℕ, ◌+◌, ◌-◌, ◌*◌, �
 use Rattle.rv_word.specs.Lengths.{length_of}
 use Rattle.rv_word.specs.declared.length.Length.{Length}
 use Rattle.rv_word.specs.declared.length.Length.TheVariants.{Wide, Longer}
-use Rattle.sfi_scan.specs.declared.rule.Rule.TheVariants.{V1, V2}
+use Rattle.sfi_rules.specs.declared.rule.Rule.TheVariants.{V1, V2}
 use Rattle.rv_word.specs.declared.length.Length.TheVariants as lengths
 use Rattle.rv_comp.specs.declared.front.Front.TheVariants as fronts
 

@@ -1,9 +1,1 @@
-pub mod Bundles
-pub mod Readings
-pub mod Pairs
-pub mod Stack
-pub mod Rules
-pub mod Findings
-pub mod Numbers
-pub mod Laws
 pub mod private

@@ -4,18 +4,18 @@ ghost use Rattle.std.specs.Bool.{OnTrue};
 ghost use Rattle.sfi_masks.specs.Masks.{is_in, IsFreeAccess, word_at as block_word};
 ghost use Rattle.sfi_policy.specs.Formats.{has_stack};
 ghost use Rattle.sfi_scan.specs.declared.before.Before.{Before};
-ghost use Rattle.sfi_scan.specs.declared.bundle.BundlePlace.{BundlePlace};
-ghost use Rattle.sfi_scan.specs.Bundles.{IsWithin, IsWithinBlock, bundle_at, block_bundle};
-ghost use Rattle.sfi_scan.specs.Findings.{AreReadingFindings};
+ghost use Rattle.sfi_rules.specs.declared.bundle.BundlePlace.{BundlePlace};
+ghost use Rattle.sfi_rules.specs.Bundles.{IsWithin, IsWithinBlock, bundle_at, block_bundle};
+ghost use Rattle.sfi_rules.specs.Findings.{AreReadingFindings};
 ghost use Rattle.sfi_scan.specs.private.Block.{AreStarts, AreAfterTwo, AreThreeWords, IsWithout, IsWritten, IsOfWrite, offset, words_from, IsCleanAt};
 ghost use Rattle.sfi_scan.specs.private.FirstLook.{half_at, word_at, AreWordsFrom, AreBefore};
 
-use crate::bundle::BundlePlace;
 use crate::clean::{Words, is_clean, is_stack_pair, is_stack_write, may_access};
 use rv_comp::outline16;
 use rv_word::{Reg, outline32};
 use sfi_masks::{BLOCK_BYTES, masks_of};
 use sfi_policy::BUNDLE_SIZE;
+use sfi_rules::BundlePlace;
 
 /// Every second halfword, from the first.
 const EVEN: u64 = 0x5555_5555_5555_5555;

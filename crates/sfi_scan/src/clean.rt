@@ -7,23 +7,23 @@ ghost use Rattle.rv_word.specs.declared.instr.Instr.{Instr};
 ghost use Rattle.rv_word.specs.Spelling.{IsWordOf};
 ghost use Rattle.sfi_policy.specs.Formats.{has_stack};
 ghost use Rattle.sfi_scan.specs.declared.before.Before.{Before};
-ghost use Rattle.sfi_scan.specs.Bundles.{IsWithin};
-ghost use Rattle.sfi_scan.specs.Findings.{AreReadingFindings};
+ghost use Rattle.sfi_rules.specs.Bundles.{IsWithin};
+ghost use Rattle.sfi_rules.specs.Findings.{AreReadingFindings};
 ghost use Rattle.sfi_scan.specs.private.Near.{near};
 ghost use Rattle.sfi_policy.specs.Limits.{bundle_size};
 ghost use Rattle.sfi_policy.specs.Registers.{is_reserved};
-ghost use Rattle.sfi_scan.specs.Pairs.{follows_pair, follows_code_pair};
-ghost use Rattle.sfi_scan.specs.Rules.{is_last_bundle, may_access};
+ghost use Rattle.sfi_rules.specs.Pairs.{follows_pair, follows_code_pair};
+ghost use Rattle.sfi_rules.specs.Rules.{is_last_bundle, may_access};
 ghost use Rattle.sfi_scan.specs.private.FirstLook.{half_at, word_at, AreWordsFrom, AreBefore, is_zero, is_protected, is_clean, is_clean_access, IsCleanOne, IsStackWrite, AreStackPair};
 
 use crate::before::{CODE, DATA, Pair, may_be_target};
-use crate::bundle::BundlePlace;
 use crate::computing::is_free_half;
 use crate::pair_words::are_data_pair;
 use crate::rules::{STACK, is_bundle_start, is_last_bundle, offset_by};
 use rv_comp::outline16;
 use rv_word::{Access, Outline, Reg, RegOp, access32, computes32, op_word, outline32};
 use sfi_policy::{BUNDLE_BYTES, is_reserved};
+use sfi_rules::BundlePlace;
 
 /// The words of the two instructions directly before a place in its bundle. 0 stands for a 16-bit
 /// form, and where there is none: neither is one of a pair.

@@ -1,9 +1,8 @@
 //! The findings of one bundle.
 ghost use Rattle.std.specs.Prelude.{◌≡◌, ◌<◌, ◌≤◌, ◌++◌, ◌∷◌, [], List, length, take, slice_get};
-ghost use Rattle.sfi_scan.specs.declared.finding.Finding.{Finding};
+ghost use Rattle.sfi_rules.specs.declared.finding.Finding.{Finding};
 
-use crate::finding::Finding;
-use crate::rule::Rule;
+use sfi_rules::{Finding, Rule};
 use std::marker::Model;
 
 /// The findings of one bundle, at most eight, in an array. Contracts see them as a list.

@@ -1,4 +1,4 @@
-//! The rules of sandboxed code, and the places of an image where they are broken.
+//! The scan: the places of an image where the rules of `sfi_rules` are broken.
 //!
 //! Code is read in bundles, aligned blocks of 16 bytes (Yee and others, 2009, "Native Client"). An
 //! access and an indirect jump stand after a masked pair in the same bundle (Wahbe and others,
@@ -10,23 +10,17 @@
 mod ahead;
 mod before;
 mod block;
-mod bundle;
 mod clean;
 mod computing;
-mod finding;
 mod findings;
-pub mod laws;
 mod pair_words;
 mod part;
-mod rule;
 mod rules;
 mod scan;
 
 pub use block::clean_bundles;
-pub use bundle::BundlePlace;
-pub use finding::Finding;
 pub use findings::BundleFindings;
 pub use part::{scan_part, scan_part_as};
-pub use rule::Rule;
 pub use scan::scan_bundle;
 pub use sfi_policy::Format;
+pub use sfi_rules::{BundlePlace, Finding, Rule};

@@ -2,7 +2,7 @@
 ghost use Rattle.std.specs.Prelude.{◌≡◌, List, true};
 ghost use Rattle.std.specs.Bool.{OnTrue};
 ghost use Rattle.rv_word.specs.declared.instr.Instr.{Instr};
-ghost use Rattle.sfi_scan.specs.Pairs.{follows_data_pair};
+ghost use Rattle.sfi_rules.specs.Pairs.{follows_data_pair};
 ghost use Rattle.sfi_scan.specs.private.FirstLook.{AreBefore};
 ghost use Rattle.sfi_scan.specs.private.Near.{near};
 

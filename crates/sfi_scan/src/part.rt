@@ -5,18 +5,17 @@ ghost use Rattle.sfi_policy.specs.declared.format.Format.TheVariants.{Sfi1};
 ghost use Rattle.sfi_image.specs.Spelling.{view};
 ghost use Rattle.sfi_image.specs.Parts.{IsRightPart};
 ghost use Rattle.sfi_masks.specs.Masks.{is_in};
-ghost use Rattle.sfi_scan.specs.Bundles.{place_of};
-ghost use Rattle.sfi_scan.specs.Findings.{AreFindings};
+ghost use Rattle.sfi_rules.specs.Bundles.{place_of};
+ghost use Rattle.sfi_rules.specs.Findings.{AreFindings};
 ghost use Rattle.sfi_scan.specs.private.Near.{AreAhead, IsClean, is_first_at, is_first_below};
 
 use crate::block::{clean_bundles, has};
-use crate::bundle::BundlePlace;
-use crate::finding::Finding;
 use crate::findings::BundleFindings;
 use crate::scan::scan_bundle;
 use sfi_image::{Gate, SandboxPart};
 use sfi_masks::BLOCK_BYTES;
 use sfi_policy::{BUNDLE_BYTES, BUNDLE_SIZE, Format};
+use sfi_rules::{BundlePlace, Finding};
 use std::alloc::{AllocError, Global};
 
 /// How many bundles a block has.

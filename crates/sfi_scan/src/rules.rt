@@ -2,19 +2,18 @@
 ghost use Rattle.std.specs.Prelude.{◌≡◌, ◌&&◌, not, List};
 ghost use Rattle.rv_word.specs.Numbers.{offset_by};
 ghost use Rattle.rv_word.specs.declared.instr.Instr.{Instr};
-ghost use Rattle.sfi_scan.specs.Readings.{Piece, IsLongestReading};
-ghost use Rattle.sfi_scan.specs.Stack.{writes_stack, is_stack_pair, begins_pair, ends_pair, precedes_pair, is_jump};
-ghost use Rattle.sfi_scan.specs.Bundles.{IsWithin};
-ghost use Rattle.sfi_scan.specs.Rules.{Place, is_empty, is_bundle_start, is_last_bundle, breaks_ecall, breaks_reserved, breaks_access, breaks_jump, breaks_target, breaks_stack, may_write_stack, may_access, ends_region};
-ghost use Rattle.sfi_scan.specs.Findings.{lowest, all_rules};
+ghost use Rattle.sfi_rules.specs.Readings.{Piece, IsLongestReading};
+ghost use Rattle.sfi_rules.specs.Stack.{writes_stack, is_stack_pair, begins_pair, ends_pair, precedes_pair, is_jump};
+ghost use Rattle.sfi_rules.specs.Bundles.{IsWithin};
+ghost use Rattle.sfi_rules.specs.Rules.{Place, is_empty, is_bundle_start, is_last_bundle, breaks_ecall, breaks_reserved, breaks_access, breaks_jump, breaks_target, breaks_stack, may_write_stack, may_access, ends_region};
+ghost use Rattle.sfi_rules.specs.Findings.{lowest, all_rules};
 ghost use Rattle.sfi_scan.specs.private.Near.{near, ahead, finding_of};
 
 use crate::ahead::{Ahead, read_ahead};
 use crate::before::{Before, CODE, DATA, is_masking, is_placing};
-use crate::bundle::BundlePlace;
-use crate::rule::Rule;
 use rv_word::Instr;
 use sfi_policy::{BUNDLE_SIZE, STACK_POINTER, is_reserved};
+use sfi_rules::{BundlePlace, Rule};
 
 fn breaks_ecall(place: &BundlePlace, is_first: bool, instr: &Instr) -> bool
     ensures { (x : Place) → x.bundle ≡ place.now → is_empty x.earlier ≡ is_first →

@@ -1,18 +1,16 @@
 //! The scan of a bundle.
 ghost use Rattle.std.specs.Prelude.{◌≡◌, ◌+◌, ◌<◌};
 ghost use Rattle.sfi_policy.specs.Limits.{bundle_size};
-ghost use Rattle.sfi_scan.specs.Bundles.{IsWithin};
-ghost use Rattle.sfi_scan.specs.Findings.{AreBundleFindings, AreReadingFindings};
+ghost use Rattle.sfi_rules.specs.Bundles.{IsWithin};
+ghost use Rattle.sfi_rules.specs.Findings.{AreBundleFindings, AreReadingFindings};
 
 use crate::before::Before;
-use crate::bundle::BundlePlace;
 use crate::clean::is_seen_clean;
-use crate::finding::Finding;
 use crate::findings::BundleFindings;
-use crate::rule::Rule;
 use crate::rules::lowest_rule;
 use rv_comp::{Front, read_front};
 use sfi_policy::{BUNDLE_BYTES, STUB};
+use sfi_rules::{BundlePlace, Finding, Rule};
 
 fn finding(place: &BundlePlace, offset: usize, rule: Rule) -> Finding
     requires within { IsWithin place.now }

@@ -4,9 +4,10 @@ use Rattle.sfi_image.specs.Spelling.{Part}
 use Rattle.sfi_image.specs.Images.{IsImage}
 use Rattle.sfi_image.specs.Faults.{IsFault}
 use Rattle.sfi_image.specs.declared.fault.LayoutFault.{LayoutFault}
-use Rattle.sfi_check.specs.Verdict.{IsAccepted, HasFindings}
+use Rattle.sfi_check.specs.Verdict.{HasFindings}
+use Rattle.sfi_safety.specs.Clean.{IsAccepted}
 use Rattle.sfi_report.specs.Report.{IsReport}
-use Rattle.sfi_scan.specs.declared.finding.Finding.{Finding}
+use Rattle.sfi_rules.specs.declared.finding.Finding.{Finding}
 use Rattle.sfi_answers.specs.Meaning.{Meaning}
 use Rattle.sfi_answers.specs.Verdict.{accepted_line, refused_line}
 

@@ -2,7 +2,7 @@
 use Rattle.std.specs.Prelude.{◌≡◌, ◌⊎◌, ℕ, List, false}
 use Rattle.sfi_check.specs.Converting.{IsSecond, IsConversion, HasStackFindings}
 use Rattle.sfi_check.specs.Verdict.{HasFindings}
-use Rattle.sfi_scan.specs.declared.finding.Finding.{Finding}
+use Rattle.sfi_rules.specs.declared.finding.Finding.{Finding}
 use Rattle.sfi_answers.specs.Meaning.{Meaning}
 use Rattle.sfi_answers.specs.Verdict.{refused_line}
 use Rattle.sfi_answers.specs.commands.Building.{digits_line}

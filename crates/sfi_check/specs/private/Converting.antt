@@ -4,10 +4,10 @@ use Rattle.std.specs.Global.{Global}
 use Rattle.sfi_policy.specs.declared.format.Format.TheVariants.{Sfi2}
 use Rattle.sfi_image.specs.Spelling.{Part}
 use Rattle.sfi_image.specs.InFormat.{all_in_format}
-use Rattle.sfi_scan.specs.Findings.{AreImageFindings}
+use Rattle.sfi_rules.specs.Findings.{AreImageFindings}
 use Rattle.sfi_check.specs.declared.conversion.ConvertFault.{ConvertFault}
 use Rattle.sfi_check.specs.declared.conversion.ConvertFault.TheVariants.{Refused, NotOld, Stack, Memory}
-use Rattle.sfi_check.specs.Verdict.{IsAccepted}
+use Rattle.sfi_safety.specs.Clean.{IsAccepted}
 
 -- the fault is the findings of these sandboxes, of which there is at least one, or want of memory
 abbrev pub IsStackOf : List Part → ConvertFault → Type 0

@@ -10,10 +10,10 @@ use Rattle.sfi_image.specs.declared.want.Want.TheVariants as wants
 use Rattle.sfi_image.specs.Fronts.{Front, front, want_of, ArePlainNext, IsLess, part_of, HasFaultNumberWhateverFollows}
 use Rattle.sfi_image.specs.Fronts.Front.{Empty, AfterMagic, AfterCount, InGates, InCode, InInit, Whole}
 use Rattle.sfi_image.specs.Keeping.{ReaderState, StandsFor, left, left_most}
-use Rattle.sfi_scan.specs.declared.finding.Finding.{Finding}
-use Rattle.sfi_scan.specs.declared.bundle.BundlePlace.{BundlePlace}
-use Rattle.sfi_scan.specs.Bundles.{block_bundle, bundle_at}
-use Rattle.sfi_scan.specs.Findings.{AreBundleFindings, AreFindingsOfFirst, AreImageFindings}
+use Rattle.sfi_rules.specs.declared.finding.Finding.{Finding}
+use Rattle.sfi_rules.specs.declared.bundle.BundlePlace.{BundlePlace}
+use Rattle.sfi_rules.specs.Bundles.{block_bundle, bundle_at}
+use Rattle.sfi_rules.specs.Findings.{AreBundleFindings, AreFindingsOfFirst, AreImageFindings}
 use Rattle.sfi_check.specs.declared.tally.Tally.{Tally}
 use Rattle.sfi_check.specs.declared.stream_answer.StreamAnswer.{StreamAnswer}
 use Rattle.sfi_check.specs.declared.stream_answer.StreamAnswer.TheVariants as answers

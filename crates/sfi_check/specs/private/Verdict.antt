@@ -1,7 +1,7 @@
 -- Words of private contracts and proofs, beside those of Verdict.antt.
 use Rattle.std.specs.Prelude.{◌≡◌, ◌≢◌, List, [], Result, IfOk, IfErr}
 use Rattle.sfi_image.specs.Spelling.{Part}
-use Rattle.sfi_scan.specs.Findings.{AreImageFindings}
+use Rattle.sfi_rules.specs.Findings.{AreImageFindings}
 use Rattle.sfi_check.specs.declared.refusal.Refusal.{Refusal}
 use Rattle.sfi_check.specs.Refusals.{IfLayoutFault, IfFindings}
 

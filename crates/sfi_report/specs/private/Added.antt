@@ -4,10 +4,10 @@ use Rattle.rv_word.specs.declared.instr.Instr.{Instr}
 use Rattle.rv_comp.specs.Fronts.{IsFront, Spells}
 use Rattle.rv_comp.specs.declared.front.Front.{Front}
 use Rattle.sfi_image.specs.Spelling.{Part}
-use Rattle.sfi_scan.specs.declared.finding.Finding.{Finding}
-use Rattle.sfi_scan.specs.declared.rule.Rule.{Rule}
+use Rattle.sfi_rules.specs.declared.finding.Finding.{Finding}
+use Rattle.sfi_rules.specs.declared.rule.Rule.{Rule}
 use Rattle.sfi_report.specs.State.{place_line}
-use Rattle.sfi_scan.specs.declared.rule.Rule.TheVariants.{V1, V2, V9}
+use Rattle.sfi_rules.specs.declared.rule.Rule.TheVariants.{V1, V2, V9}
 
 -- the new text is the old one and some such text
 pub record Adds (old new : List ℕ) (is : List ℕ → Type 0) : Type 0 where

@@ -11,13 +11,13 @@ use Rattle.rv_word.specs.Spelling.{IsWordOf}
 use Rattle.rv_comp.specs.Halfwords.{IsHalfwordThat}
 use Rattle.sfi_policy.specs.Formats.{is_stack}
 use Rattle.sfi_scan.specs.declared.before.Before.{Before}
-use Rattle.sfi_scan.specs.declared.bundle.BundlePlace.{BundlePlace}
+use Rattle.sfi_rules.specs.declared.bundle.BundlePlace.{BundlePlace}
 use Rattle.sfi_scan.specs.declared.clean.Words.{Words}
 use Rattle.sfi_scan.specs.private.Near.{near}
 use Rattle.sfi_policy.specs.Registers.{data_base_register, data_mask_register, is_reserved, stack_pointer}
 use Rattle.sfi_policy.specs.Pairs.{masking_instr, placing_instr}
-use Rattle.sfi_scan.specs.Pairs.{follows_code_pair}
-use Rattle.sfi_scan.specs.Rules.{is_bundle_start, may_access}
+use Rattle.sfi_rules.specs.Pairs.{follows_code_pair}
+use Rattle.sfi_rules.specs.Rules.{is_bundle_start, may_access}
 
 -- the instruction's word, or 0; 0 where there is none
 abbrev pub IsWordOr0 : ℕ → Option Instr → Type 0

@@ -1,7 +1,7 @@
 -- The command `run`, on an image's bytes.
 use Rattle.std.specs.Prelude.{◌≡◌, ◌⊎◌, ℕ, Bool, List, false}
 use Rattle.sfi_image.specs.Spelling.{Part}
-use Rattle.sfi_check.specs.Verdict.{IsAccepted}
+use Rattle.sfi_safety.specs.Clean.{IsAccepted}
 use Rattle.sfi_answers.specs.Meaning.{Meaning}
 use Rattle.sfi_tool.specs.RunLines.{IsRunText}
 use Rattle.sfi_answers.specs.commands.Checking.{SaysRefused, on_verdict}

@@ -1,5 +1,5 @@
 use Rattle.std.proofs.Common.{ℕ, List, [], ◌∙◌, ap, sym, subst}
-use Rattle.sfi_scan.specs.declared.finding.Finding.{Finding}
+use Rattle.sfi_rules.specs.declared.finding.Finding.{Finding}
 use Rattle.sfi_check.proofs.Facts.{verdict_is_on_all}
 use Rattle.sfi_c.specs.declared.bytes.Bytes.{Bytes}
 use Rattle.sfi_c.specs.Verdicts.{with_findings}

@@ -2,8 +2,8 @@ use Rattle.std.proofs.Common.{List, get_or, sym, subst}
 use Rattle.std.specs.Prelude.{string_bytes}
 use Rattle.std.proofs.lemmas.List.{take_all}
 use Rattle.sfi_image.specs.Spelling.{Part, format_of}
-use Rattle.sfi_scan.specs.declared.finding.Finding.{Finding}
-use Rattle.sfi_scan.specs.declared.rule.Rule.TheVariants.{V1}
+use Rattle.sfi_rules.specs.declared.finding.Finding.{Finding}
+use Rattle.sfi_rules.specs.declared.rule.Rule.TheVariants.{V1}
 use Rattle.sfi_report.specs.private.Added.{Adds, Stands}
 use Rattle.sfi_report.specs.Report.{IsFindingLine, IsReport}
 use Rattle.sfi_report.proofs.Places.{findings_stand}

@@ -1,5 +1,5 @@
-use Rattle.sfi_check.proofs.Calling.{all_call}
-use Rattle.sfi_check.proofs.Safe.{may_run}
+use Rattle.sfi_safety.proofs.Calling.{all_call}
+use Rattle.sfi_safety.proofs.Safe.{may_run}
 use Rattle.sfi_check.proofs.accepted.Accepted.new.Goals as goal
 
 pub invariant_of-result : goal.invariant_of-result

@@ -1,5 +1,0 @@
-use Rattle.sfi_check.proofs.Needed.{jalr_offset_ignored_unsafe}
-use Rattle.sfi_check.proofs.needs.jalr_offset_ignored_is_unsafe.Goals as goal
-
-pub returns : goal.returns
-returns c = jalr_offset_ignored_unsafe

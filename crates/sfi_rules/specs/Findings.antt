@@ -1,0 +1,104 @@
+-- The findings of a bundle, of a sandbox's part and of an image, in order.
+use Rattle.std.specs.Prelude.{◌≡◌, ◌≢◌, ◌+◌, ◌-◌, ◌*◌, ◌⊎◌, ℕ, zero, suc, List, [], ◌∷◌, ◌++◌, Bool, true, cond, length}
+use Rattle.std.specs.Int.{w16, from_le_bytes}
+use Rattle.rv_word.specs.declared.instr.Instr.{Instr}
+use Rattle.rv_word.specs.declared.length.Length.{Length}
+use Rattle.rv_word.specs.declared.length.Length.TheVariants.{Short, Wide, Longer}
+use Rattle.rv_word.specs.Lengths.{length_of}
+use Rattle.sfi_image.specs.Spelling.{Part}
+use Rattle.sfi_rules.specs.declared.rule.Rule.{Rule}
+use Rattle.sfi_rules.specs.declared.rule.Rule.TheVariants.{V1, V2, V3, V4, V5, V6, V7, V8, V9, V10}
+use Rattle.sfi_rules.specs.declared.finding.Finding.{Finding}
+use Rattle.sfi_rules.specs.declared.bundle.BundlePlace.{BundlePlace}
+use Rattle.sfi_policy.specs.Limits.{bundle_size}
+use Rattle.sfi_policy.specs.Pairs.{stub}
+use Rattle.sfi_rules.specs.Bundles.{place_of, bundle_bytes}
+use Rattle.sfi_rules.specs.Readings.{Piece, IsLongestReading, rest_of}
+use Rattle.sfi_rules.specs.Rules.{Place, breaks, is_empty}
+
+-- a rule broken in the bundle, at that address
+abbrev pub broken : BundlePlace → ℕ → Rule → Finding
+broken b at rule = record { sandbox = b.sandbox; address = at; rule = rule }
+
+-- ---- of a bundle
+
+-- the first of the rules that is broken at the place
+abbrev pub lowest : Place → List Rule → List Finding
+lowest x [] = []
+lowest x (rule ∷ rules) =
+    cond (breaks x rule) (broken x.bundle x.address rule ∷ []) (lowest x rules)
+
+-- the rules, from the lowest up
+abbrev pub all_rules : List Rule
+all_rules = V1 ∷ V2 ∷ V3 ∷ V4 ∷ V5 ∷ V6 ∷ V7 ∷ V8 ∷ V9 ∷ V10 ∷ []
+
+-- the lowest rule broken at each place of what is left of a reading, in order
+abbrev pub findings_from : BundlePlace → Bool → ℕ → List Instr → List Piece → List Finding
+findings_from b whole at earlier [] = []
+findings_from b whole at earlier (x ∷ later) =
+    lowest (record {
+      bundle = b;
+      address = at;
+      earlier = earlier;
+      instr = x.instr;
+      later = later;
+      whole = whole;
+    }) all_rules
+    ++ findings_from b whole (at + x.size) (x.instr ∷ earlier) later
+
+-- V2 where the two bytes that are left begin a 32-bit instruction, which crosses the bundle's end
+abbrev pub rule_of_length : Length → Rule
+rule_of_length Wide = V2
+rule_of_length Short = V1
+rule_of_length Longer = V1
+
+-- at the place of what a reading leaves, V2 or else V1
+abbrev pub rest_finding : BundlePlace → ℕ → List ℕ → List Finding
+rest_finding b at [] = []
+rest_finding b at (low ∷ high ∷ []) =
+    broken b at (rule_of_length (length_of (from_le_bytes w16 (low ∷ high ∷ [])))) ∷ []
+rest_finding b at _ = broken b at V1 ∷ []
+
+-- the findings of a bundle that is judged by its instructions
+pub record AreReadingFindings (b : BundlePlace) (bytes : List ℕ)
+    (found : List Finding) : Type 0 where
+  pub reading : List Piece
+  pub longest : IsLongestReading bytes reading
+  pub found_is :
+      found ≡ findings_from b (is_empty (rest_of bytes reading)) b.address [] reading
+      ++ rest_finding b (b.address + (length bytes - length (rest_of bytes reading)))
+      (rest_of bytes reading)
+
+-- the findings of a bundle with these bytes:
+-- a listed gate that is not the stub has one V9 in place of all others
+abbrev pub AreBundleFindings : BundlePlace → List ℕ → List Finding → Type 0
+AreBundleFindings b bytes found =
+    ((b.listed ≡ true) × (bytes ≢ stub) × (found ≡ broken b b.address V9 ∷ []))
+    ⊎ ((b.listed ≡ true → bytes ≡ stub) × AreReadingFindings b bytes found)
+
+-- ---- of a part
+
+-- the findings of the first n bundles, in order
+abbrev pub AreFindingsOfFirst : ℕ → Part → ℕ → List Finding → Type 0
+AreFindingsOfFirst sandbox p zero found = found ≡ []
+AreFindingsOfFirst sandbox p (suc n) found =
+    (front : List Finding) × (last : List Finding) × AreFindingsOfFirst sandbox p n front
+    × AreBundleFindings (place_of sandbox p n) (bundle_bytes p n) last × (found ≡ front ++ last)
+
+-- the findings of the part of the sandbox of that number: those of all its bundles
+abbrev pub AreFindings : ℕ → Part → List Finding → Type 0
+AreFindings sandbox p found = (bundles : ℕ) × (length p.code ≡ bundle_size * bundles)
+    × AreFindingsOfFirst sandbox p bundles found
+
+-- ---- of an image
+
+-- the findings of parts, the first of which is that of the sandbox of that number
+abbrev pub AreFindingsFrom : ℕ → List Part → List Finding → Type 0
+AreFindingsFrom sandbox [] found = found ≡ []
+AreFindingsFrom sandbox (p ∷ ps) found =
+    (front : List Finding) × (rest : List Finding) × AreFindings sandbox p front
+    × AreFindingsFrom (sandbox + 1) ps rest × (found ≡ front ++ rest)
+
+-- the findings of an image with these parts, by sandbox and then by address
+abbrev pub AreImageFindings : List Part → List Finding → Type 0
+AreImageFindings ps found = AreFindingsFrom 0 ps found

@@ -1,0 +1,58 @@
+-- Laws of readings, rules and findings.
+use Rattle.std.specs.Prelude.{◌≡◌, ◌≢◌, ◌↔◌, ℕ, List, [], IsTrue, false}
+use Rattle.std.specs.List.{All}
+use Rattle.rv_word.specs.declared.instr.Instr.{Instr}
+use Rattle.sfi_policy.specs.declared.format.Format.TheVariants.{Sfi1, Sfi2}
+use Rattle.sfi_image.specs.Spelling.{Part}
+use Rattle.sfi_image.specs.InFormat.{all_in_format}
+use Rattle.sfi_image.specs.Regions.{IsBundleStart}
+use Rattle.sfi_rules.specs.declared.bundle.BundlePlace.{BundlePlace}
+use Rattle.sfi_rules.specs.declared.finding.Finding.{Finding}
+use Rattle.sfi_rules.specs.declared.rule.Rule.TheVariants.{V10}
+use Rattle.sfi_rules.specs.Pairs.{follows_data_pair}
+use Rattle.sfi_rules.specs.Readings.{Piece, IsLongestReading}
+use Rattle.sfi_rules.specs.Rules.{Place, breaks, is_bundle_start, may_access}
+use Rattle.sfi_rules.specs.Findings.{AreBundleFindings, AreFindings, AreImageFindings}
+
+-- the rules' bundle starts are those of the image's code region
+abbrev pub SameBundleStarts : Type 0
+SameBundleStarts = (b : BundlePlace) (at : ℕ) → IsTrue (is_bundle_start b at)
+    ↔ IsBundleStart (record { base = b.code_base; size = b.code_size }) at
+
+-- a list of bytes has at most one longest reading
+abbrev pub OneLongestReading : Type 0
+OneLongestReading = (bytes : List ℕ) (xs ys : List Piece) → IsLongestReading bytes xs
+    → IsLongestReading bytes ys → xs ≡ ys
+
+-- a bundle has at most one list of findings
+abbrev pub OneBundleList : Type 0
+OneBundleList = (b : BundlePlace) (bytes : List ℕ) (xs ys : List Finding)
+    → AreBundleFindings b bytes xs → AreBundleFindings b bytes ys → xs ≡ ys
+
+-- a part has at most one list of findings
+abbrev pub OneList : Type 0
+OneList = (sandbox : ℕ) (p : Part) (xs ys : List Finding) → AreFindings sandbox p xs
+    → AreFindings sandbox p ys → xs ≡ ys
+
+-- an image has at most one list of findings
+abbrev pub OneImageList : Type 0
+OneImageList = (ps : List Part) (xs ys : List Finding) → AreImageFindings ps xs
+    → AreImageFindings ps ys → xs ≡ ys
+
+-- In the first format x2 is a register like any other: an access on it needs the pair,
+-- and no place breaks V10.
+abbrev pub FirstFormatHasNoStack : Type 0
+FirstFormatHasNoStack =
+    (x : Place) → x.bundle.format ≡ Sfi1
+    → ((base : ℕ) (earlier : List Instr)
+    → may_access x.bundle base earlier ≡ follows_data_pair base earlier) × (breaks x V10 ≡ false)
+
+-- so V10 is no finding of a part of that format
+abbrev pub FirstFormatFindsNoV10 : Type 0
+FirstFormatFindsNoV10 = (sandbox : ℕ) (p : Part) (found : List Finding) → p.format ≡ Sfi1
+    → AreFindings sandbox p found → All (λ f. f.rule ≢ V10) found
+
+-- where no rule is broken, the second format's findings of the same sandboxes are V10 alone
+abbrev pub CleanBreaksStackAlone : Type 0
+CleanBreaksStackAlone = (ps : List Part) (found : List Finding) → AreImageFindings ps []
+    → AreImageFindings (all_in_format Sfi2 ps) found → All (λ f. f.rule ≡ V10) found

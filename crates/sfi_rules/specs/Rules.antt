@@ -1,0 +1,111 @@
+-- Which rules are broken at a place of a bundle's reading.
+use Rattle.std.specs.Prelude.{◌+◌, ◌%◌, ◌==◌, ◌&&◌, ◌||◌, not, ℕ, pos, negsuc, List, [], ◌∷◌, Bool, true, false, Option, Some, None, nat_lt, nat_le}
+use Rattle.rv_word.specs.declared.instr.Instr.{Instr}
+use Rattle.rv_word.specs.declared.instr.Instr.TheVariants.{Load, Store, Branch, Jal, Jalr, Ecall, Ebreak}
+use Rattle.rv_word.specs.Numbers.{offset_by}
+use Rattle.rv_word.specs.Writes.{destination}
+use Rattle.sfi_policy.specs.Formats.{is_stack}
+use Rattle.sfi_rules.specs.declared.rule.Rule.{Rule}
+use Rattle.sfi_rules.specs.declared.rule.Rule.TheVariants.{V1, V2, V3, V4, V5, V6, V7, V8, V9, V10}
+use Rattle.sfi_rules.specs.declared.bundle.BundlePlace.{BundlePlace}
+use Rattle.sfi_policy.specs.Limits.{bundle_size}
+use Rattle.sfi_policy.specs.Registers.{is_reserved}
+use Rattle.sfi_rules.specs.Pairs.{follows_data_pair, follows_code_pair}
+use Rattle.sfi_rules.specs.Readings.{Piece}
+use Rattle.sfi_rules.specs.Stack.{writes_stack, begins_pair, ends_pair, precedes_pair, is_jump}
+
+-- a place of a bundle's reading
+pub record Place : Type 0 where
+  pub bundle : BundlePlace
+  pub address : ℕ  -- that of the instruction
+  pub earlier : List Instr  -- the instructions before it in the bundle, the nearest first
+  pub instr : Instr
+  pub later : List Piece  -- those after it
+  pub whole : Bool  -- the reading leaves nothing of the bundle
+
+abbrev pub is_empty : {A : Type 0} → List A → Bool
+is_empty [] = true
+is_empty (x ∷ xs) = false
+
+-- a multiple of a bundle's size in the bundle's code region
+abbrev pub is_bundle_start : BundlePlace → ℕ → Bool
+is_bundle_start b a =
+    nat_le b.code_base a && nat_lt a (b.code_base + b.code_size) && (a % bundle_size == 0)
+
+-- V3: an ecall that is not the first instruction of a listed gate
+abbrev pub breaks_ecall : Place → Instr → Bool
+breaks_ecall x Ecall = not (is_empty x.earlier && x.bundle.listed)
+breaks_ecall x _ = false
+
+abbrev pub is_reserved_one : Option ℕ → Bool
+is_reserved_one None = false
+is_reserved_one (Some r) = is_reserved r
+
+-- V4: it writes a reserved register
+abbrev pub breaks_reserved : Instr → Bool
+breaks_reserved i = is_reserved_one (destination i)
+
+-- an access on this base stays in the data and the guards: the two instructions directly before are
+-- the data pair on it, or it is the stack pointer of a format that has one
+abbrev pub may_access : BundlePlace → ℕ → List Instr → Bool
+may_access b base earlier = is_stack b.format base || follows_data_pair base earlier
+
+-- V5: a load or store, and the two instructions directly before it are not the data pair on its
+-- base (on the stack pointer of a format that has one it is never broken)
+abbrev pub breaks_access : Place → Instr → Bool
+breaks_access x (Load kind rd rs1 imm) = not (may_access x.bundle rs1 x.earlier)
+breaks_access x (Store width rs1 rs2 imm) = not (may_access x.bundle rs1 x.earlier)
+breaks_access x _ = false
+
+-- V6: a jalr whose offset is not 0, or the two directly before it are not the code pair on its base
+abbrev pub breaks_jump : Place → Instr → Bool
+breaks_jump x (Jalr rd rs1 (pos n)) = not ((n == 0) && follows_code_pair rs1 x.earlier)
+breaks_jump x (Jalr rd rs1 (negsuc n)) = true
+breaks_jump x _ = false
+
+-- V7: a jal or branch whose target is no bundle start of its own code region
+abbrev pub breaks_target : Place → Instr → Bool
+breaks_target x (Jal rd offset) = not (is_bundle_start x.bundle (offset_by x.address offset))
+breaks_target x (Branch condition rs1 rs2 offset) =
+    not (is_bundle_start x.bundle (offset_by x.address offset))
+breaks_target x _ = false
+
+-- an ebreak, jal or jalr, after which control never runs on
+abbrev pub ends_region : Instr → Bool
+ends_region (Jal rd offset) = true
+ends_region (Jalr rd rs1 imm) = true
+ends_region Ebreak = true
+ends_region _ = false
+
+abbrev pub is_last_bundle : BundlePlace → Bool
+is_last_bundle b = b.address + bundle_size == b.code_base + b.code_size
+
+-- V8: the region's last bundle is read whole and this, its last instruction, is not ebreak,
+-- jal or jalr
+abbrev pub breaks_end : Place → Instr → Bool
+breaks_end x i = is_last_bundle x.bundle && (x.whole && is_empty x.later) && not (ends_region i)
+
+-- it stands in the pair on x2, or directly before it and control runs on
+abbrev pub may_write_stack : Place → Instr → Bool
+may_write_stack x i =
+    begins_pair i x.later || ends_pair x.earlier i || (not (is_jump i) && precedes_pair x.later)
+
+-- V10: it writes the stack pointer, and does not stand so.
+-- (Where the format has none this is never broken.)
+abbrev pub breaks_stack : Place → Instr → Bool
+breaks_stack x i = writes_stack x.bundle i && not (may_write_stack x i)
+
+-- The rule is broken at the place. (Each test takes the place's instruction again, to go by its
+-- cases.) V1 and V2 are broken where no instruction stands, and V9 by a whole bundle,
+-- so never at a place.
+abbrev pub breaks : Place → Rule → Bool
+breaks x V1 = false
+breaks x V2 = false
+breaks x V3 = breaks_ecall x x.instr
+breaks x V4 = breaks_reserved x.instr
+breaks x V5 = breaks_access x x.instr
+breaks x V6 = breaks_jump x x.instr
+breaks x V7 = breaks_target x x.instr
+breaks x V8 = breaks_end x x.instr
+breaks x V9 = false
+breaks x V10 = breaks_stack x x.instr

@@ -1,0 +1,170 @@
+-- A hart at a bundle start is at that bundle's first piece, and the one instruction there is the reading's.
+use Rattle.sfi_safety.proofs.Prelude.{◌≡◌, ℕ, zero, suc, ◌+◌, ◌-◌, ◌*◌, ◌/◌, ◌%◌, ◌<◌, ◌≤◌, List, [], ◌∷◌, ◌++◌, length, map, get_or, take, drop, Some, true, refl, sym, ap, ◌∙◌, subst, inl, inr, ⊎_elim, arith, get_or-drop, get_or-take, add-zero, slice_index, range_with_len, cases_lt, Spells, Bytes, byte_at, bytes_at, address_after, addresses, Hart, Stands, Part, code_region, IsBundleStart, BundlePlace, Finding, place_of, bundle_bytes, Piece, IsReading, rest_of, is_empty, findings_from, rest_finding, AreReadingFindings, AreBundleFindings, AreFindingsOfFirst, StackInData, HasCode, IsCleanPart, IsAtPlace}
+use Rattle.rv_comp.proofs.Facts.{spelled_length, spelled_some}
+use Rattle.std.proofs.Common.{length-take, length-drop}
+use Rattle.sfi_safety.specs.Regions.{InCode}
+use Rattle.sfi_safety.proofs.PairResult.{leaves_nothing}
+use Rattle.sfi_image.proofs.Facts.{whole_bundles, code_ends}
+
+-- ---- spellings
+
+-- ---- a bundle without a finding
+
+pub nothing_before : {A : Type 0} (xs ys : List A) → xs ++ ys ≡ [] → (xs ≡ []) × (ys ≡ [])
+nothing_before [] ys h = (refl, h)
+nothing_before (x ∷ xs) ys h = absurd cc
+
+rest_is_none : (b : BundlePlace) (at : ℕ) (rest : List ℕ) → rest_finding b at rest ≡ [] → rest ≡ []
+rest_is_none b at [] h = refl
+rest_is_none b at (low ∷ []) h = absurd cc
+rest_is_none b at (low ∷ high ∷ []) h = absurd cc
+rest_is_none b at (low ∷ high ∷ x ∷ rest) h = absurd cc
+
+clean_bundle : (sandbox : ℕ) (p : Part) (n : ℕ) (found : List Finding) → AreFindingsOfFirst sandbox p n found → found ≡ [] → (b : ℕ) → b < n → AreBundleFindings (place_of sandbox p b) (bundle_bytes p b) []
+clean_bundle sandbox p zero found h e b below = absurd (omega arith)
+clean_bundle sandbox p (suc n) found h e b below =
+    let both = nothing_before h.0 h.1 (sym h.4 ∙ e) in
+    ⊎_elim
+    (λ (less : b < n). clean_bundle sandbox p n h.0 h.2 both.0 b less)
+    (λ (more : n ≤ b).
+    let at : n ≡ b = omega arith in
+    subst (λ m. AreBundleFindings (place_of sandbox p m) (bundle_bytes p m) []) at
+    (subst (λ (l : List Finding). AreBundleFindings (place_of sandbox p n) (bundle_bytes p n) l) both.1 h.3))
+    (cases_lt b n)
+
+by_reading : (b : BundlePlace) (bytes : List ℕ) → AreBundleFindings b bytes [] → AreReadingFindings b bytes []
+by_reading b bytes (inl x) = absurd (let e = x.2 in cc)
+by_reading b bytes (inr x) = x.1
+
+-- its reading leaves nothing
+all_clean : (b : BundlePlace) (bytes : List ℕ) (found : AreReadingFindings b bytes []) → (rest_of bytes found.reading ≡ []) × (findings_from b true b.address [] found.reading ≡ [])
+all_clean b bytes found =
+    let parts = nothing_before (findings_from b (is_empty (rest_of bytes found.reading)) b.address [] found.reading) (rest_finding b (b.address + (length bytes - length (rest_of bytes found.reading))) (rest_of bytes found.reading)) (sym found.found_is) in
+    let rest = rest_is_none b (b.address + (length bytes - length (rest_of bytes found.reading))) (rest_of bytes found.reading) parts.1 in
+    (rest, subst (λ (l : List ℕ). findings_from b (is_empty l) b.address [] found.reading ≡ []) rest parts.0)
+
+pub bundle_length : (p : Part) (b : ℕ) → 16 * b + 16 ≤ length p.code → length (bundle_bytes p b) ≡ 16
+bundle_length p b within = simp (length-take, length-drop) (omega arith)
+
+-- a reading that leaves nothing has a first piece
+at_first : (sandbox : ℕ) (p : Part) (h : Hart) (b : ℕ) → 16 * b + 16 ≤ length p.code → h.pc ≡ p.code_base + 16 * b → length (bundle_bytes p b) ≡ 16
+    → StackInData p h.registers → (reading : List Piece) → IsReading (bundle_bytes p b) reading → rest_of (bundle_bytes p b) reading ≡ [] → findings_from (place_of sandbox p b) true (p.code_base + 16 * b) [] reading ≡ [] → IsAtPlace sandbox p h
+at_first sandbox p h b within pc size stack [] is whole clean = absurd (let e = sym size ∙ ap length whole in omega arith)
+at_first sandbox p h b within pc size stack (here ∷ later) is whole clean = record {
+  number = b;
+  within = within;
+  offset = 0;
+  earlier = [];
+  here = here;
+  later = later;
+  reading = is;
+  whole = whole;
+  clean = subst (λ (n : ℕ). findings_from (place_of sandbox p b) true n [] (here ∷ later) ≡ []) (sym (add-zero (p.code_base + 16 * b))) clean;
+  pc = pc ∙ sym (add-zero (p.code_base + 16 * b));
+  first = λ _. refl;
+  leaves = leaves_nothing p h.registers;
+  stack = λ has. inl (stack has);
+}
+
+-- at a bundle start
+pub at_start : (sandbox : ℕ) (p : Part) (h : Hart) → IsCleanPart sandbox p → IsBundleStart (code_region p) h.pc → StackInData p h.registers → IsAtPlace sandbox p h
+at_start sandbox p h clean start stack =
+    let bundles = whole_bundles p.format p.code_base (length p.code) clean.right.code_base clean.right.code_placed in
+    let base_is : p.code_base ≡ 16 * bundles.1 = bundles.3 in
+    let from : p.code_base ≤ h.pc = start.held.0 in
+    let below : h.pc < p.code_base + length p.code = start.held.1 in
+    let multiple : h.pc % 16 ≡ 0 = start.aligned in
+    let b = (h.pc - p.code_base) / 16 in
+    let n = clean.none_found.0 in
+    let size_is : length p.code ≡ 16 * n = clean.none_found.1 in
+    let pc : h.pc ≡ p.code_base + 16 * b = omega arith in
+    let number : b < n = omega arith in
+    let within : 16 * b + 16 ≤ length p.code = omega arith in
+    let found = by_reading (place_of sandbox p b) (bundle_bytes p b) (clean_bundle sandbox p n [] clean.none_found.2 refl b number) in
+    let all = all_clean (place_of sandbox p b) (bundle_bytes p b) found in
+    at_first sandbox p h b within pc (bundle_length p b within) stack found.reading found.longest.is_reading all.0 all.1
+
+-- ---- the one instruction there
+
+-- bytes that stand one after another are read as a list
+pub read_all : (m : Bytes) (f : ℕ → ℕ) (a : ℕ) (bytes : List ℕ) → ((k : ℕ) → k < length bytes → byte_at m (f (a + k)) ≡ Some (slice_index bytes k)) → bytes_at m (map f (range_with_len a (length bytes))) ≡ Some bytes
+read_all m f a [] each = refl
+read_all m f a (b ∷ bytes) each =
+    let first : byte_at m (f a) ≡ Some b = ap (λ (n : ℕ). byte_at m (f n)) (sym (add-zero a)) ∙ each 0 (omega arith) in
+    let others = read_all m f (a + 1) bytes (λ k h. let e : a + 1 + k ≡ a + suc k = omega arith in ap (λ (n : ℕ). byte_at m (f n)) e ∙ each (suc k) (omega arith)) in
+    rw (first, others) refl
+
+module _ (sandbox : ℕ) (p : Part) (h : Hart) (clean : IsCleanPart sandbox p) (at : IsAtPlace sandbox p h) where
+  bytes_here : List ℕ
+  bytes_here = take at.here.size (drop at.offset (bundle_bytes p at.number))
+
+  spelled_here : Spells bytes_here at.here.instr at.here.size
+  unfolding bytes_here
+  spelled_here = at.reading.0
+
+  length_here : length bytes_here ≡ at.here.size
+  length_here = spelled_length bytes_here at.here.instr at.here.size spelled_here
+
+  pub here_some : 0 < at.here.size
+  here_some = spelled_some bytes_here at.here.instr at.here.size spelled_here
+
+  -- it lies in the bundle
+  pub here_within : at.offset + at.here.size ≤ 16
+  unfolding bytes_here
+  here_within =
+      let bundle = bundle_bytes p at.number in
+      let some = here_some in
+      let sixteen : length bundle ≡ 16 = bundle_length p at.number at.within in
+      let cut = length-take at.here.size (drop at.offset bundle) in
+      let left = length-drop at.offset bundle in
+      let all : length (take at.here.size (drop at.offset bundle)) ≡ at.here.size = length_here in
+      omega (arith, cut, left, all, sixteen, some)
+
+  byte_here : (k : ℕ) → k < at.here.size → get_or bytes_here k 0 ≡ get_or p.code (16 * at.number + at.offset + k) 0
+  unfolding bytes_here
+  byte_here k below =
+      let within = here_within in
+      let place : 16 * at.number + (at.offset + k) ≡ 16 * at.number + at.offset + k = omega arith in
+      let inside : at.offset + k < 16 = omega arith in
+      get_or-take at.here.size (drop at.offset (bundle_bytes p at.number)) k 0 below
+      ∙ get_or-drop at.offset (bundle_bytes p at.number) k 0
+      ∙ get_or-take 16 (drop (16 * at.number) p.code) (at.offset + k) 0 inside
+      ∙ get_or-drop (16 * at.number) p.code (at.offset + k) 0
+      ∙ ap (λ n. get_or p.code n 0) place
+
+  there_here : (m : Bytes) → HasCode p m → (k : ℕ) → k < length bytes_here → byte_at m (address_after h.pc k) ≡ Some (slice_index bytes_here k)
+  there_here m code k below =
+      let size = here_within in
+      let below' : k < at.here.size = subst (λ n. k < n) length_here below in
+      let within : 16 * at.number + 16 ≤ length p.code = at.within in
+      let end = code_ends p clean.right in
+      let pc : h.pc ≡ p.code_base + 16 * at.number + at.offset = at.pc in
+      let j = 16 * at.number + at.offset + k in
+      let same : address_after h.pc k ≡ p.code_base + j = omega arith in
+      let inside : j < length p.code = omega arith in
+      ap (byte_at m) same ∙ code j inside ∙ ap Some (sym (byte_here k below'))
+
+  pub pc_in_code : InCode p h.pc
+  pc_in_code =
+      let size = here_within in
+      let some = here_some in
+      let pc : h.pc ≡ p.code_base + 16 * at.number + at.offset = at.pc in
+      let within : 16 * at.number + 16 ≤ length p.code = at.within in
+      (omega arith, omega arith)
+
+  pub byte_in_code : (k : ℕ) → k < at.here.size → InCode p (address_after h.pc k)
+  byte_in_code k below =
+      let size = here_within in
+      let end = code_ends p clean.right in
+      let pc : h.pc ≡ p.code_base + 16 * at.number + at.offset = at.pc in
+      let within : 16 * at.number + 16 ≤ length p.code = at.within in
+      let e : address_after h.pc k ≡ h.pc + k = omega arith in
+      (omega arith, omega arith)
+
+  read_here : (m : Bytes) → HasCode p m → bytes_at m (addresses h.pc at.here.size) ≡ Some bytes_here
+  read_here m code =
+      subst (λ (n : ℕ). bytes_at m (addresses h.pc n) ≡ Some bytes_here) length_here
+      (read_all m (address_after h.pc) 0 bytes_here (λ k below. let e : k ≡ 0 + k = omega arith in subst (λ (j : ℕ). byte_at m (address_after h.pc j) ≡ Some (slice_index bytes_here k)) e (there_here m code k below)))
+
+  pub present : (m : Bytes) → HasCode p m → Stands (record { hart = h; memory = m }) at.here.instr at.here.size
+  present m code = record { bytes = bytes_here; there = read_here m code; spelled = spelled_here }

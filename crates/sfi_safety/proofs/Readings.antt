@@ -1,0 +1,149 @@
+-- What the samples' bundles are read as, and the findings of a sample.
+use Rattle.sfi_safety.proofs.Prelude.{Format, Sfi1, Sfi2, Gate, is_gate_of, ◌≡◌, ℕ, suc, ◌+◌, ◌-◌, ◌*◌, ◌≤◌, List, [], ◌∷◌, ◌++◌, length, take, drop, true, false, refl, sym, ap, ◌∙◌, subst, inr, arith, get_or-take, false≢true, append-nil, Instr, Ebreak, spelling, InRange, Spells, BundlePlace, Finding, place_of, bundle_bytes, Piece, IsReading, IsLongestReading, rest_of, is_empty, findings_from, rest_finding, AreBundleFindings, AreFindingsOfFirst, AreFindings, Op, Store, pos, nat_lt, ◌&&◌, and_parts, ltb-true, ints, Ecall, Jalr}
+use Rattle.rv_word.specs.declared.instr.RegOp.{RegOp}
+use Rattle.rv_word.specs.declared.instr.StoreWidth.{StoreWidth}
+use Rattle.sfi_safety.specs.Samples.{Sample, sandbox, words_of, bytes_of, code_as}
+use Rattle.std.specs.Int.{w32, to_le_bytes}
+use Rattle.std.proofs.Common.{length-take}
+use Rattle.rv_comp.proofs.Facts.{one_spelling, word_spells, spelled_length, spelled_some}
+
+-- nothing is spelled by no bytes
+none_spelled : (bytes : List ℕ) (y : Piece) → bytes ≡ [] → Spells (take y.size bytes) y.instr y.size → ⊥
+none_spelled bytes y e s =
+    let some = spelled_some (take y.size bytes) y.instr y.size s in
+    let long = spelled_length (take y.size bytes) y.instr y.size s in
+    let short : length (take y.size bytes) ≡ length (take y.size []) = ap (λ (l : List ℕ). length (take y.size l)) e in
+    let none = length-take {A = ℕ} y.size [] in
+    omega (arith, some, long, short, none)
+
+-- no instruction's bytes begin these
+abbrev pub BeginsNothing : List ℕ → Type 0
+BeginsNothing bytes = (y : Piece) → Spells (take y.size bytes) y.instr y.size → ⊥
+
+pub nothing_begins : (bytes : List ℕ) → bytes ≡ [] → BeginsNothing bytes
+nothing_begins bytes e = λ y s. none_spelled bytes y e s
+
+-- no reading has more pieces than one after which no instruction begins
+most : (bytes : List ℕ) (xs ys : List Piece) → IsReading bytes xs → BeginsNothing (rest_of bytes xs) → IsReading bytes ys → length ys ≤ length xs
+most bytes [] [] a end b = omega arith
+most bytes [] (y ∷ ys) a end b = absurd (end y b.0)
+most bytes (x ∷ xs) [] a end b = omega arith
+most bytes (x ∷ xs) (y ∷ ys) a end b =
+    let e = one_spelling (take x.size bytes) (take y.size bytes) x.instr y.instr x.size y.size a.0 b.0 (λ k h g. get_or-take x.size bytes k 0 h ∙ sym (get_or-take y.size bytes k 0 g)) in
+    let rest = most (drop x.size bytes) xs ys a.1 end (subst (λ (n : ℕ). IsReading (drop n bytes) ys) (sym e.1) b.1) in
+    omega (arith, rest)
+
+-- a bundle that is no gate's has the findings of its reading and of what that leaves
+pub read_bundle : (b : BundlePlace) (bytes : List ℕ) (reading : List Piece) (rest : List ℕ) (found : List Finding) → b.listed ≡ false → IsReading bytes reading → rest_of bytes reading ≡ rest → BeginsNothing rest
+    → findings_from b (is_empty rest) b.address [] reading ++ rest_finding b (b.address + (length bytes - length rest)) rest ≡ found → AreBundleFindings b bytes found
+read_bundle b bytes reading rest found unlisted is left end e = inr (
+  (λ listed. absurd (false≢true (sym unlisted ∙ listed))),
+  record {
+    reading = reading;
+    longest = record { is_reading = is; longest = λ other h. most bytes reading other is (subst BeginsNothing (sym left) end) h };
+    found_is = sym (subst (λ (rest : List ℕ). findings_from b (is_empty rest) b.address [] reading ++ rest_finding b (b.address + (length bytes - length rest)) rest ≡ found) (sym left) e);
+  },
+)
+
+-- ---- bundles of four words
+
+-- the word of an instruction spells it
+abbrev pub IsSpelled : Instr → Type 0
+IsSpelled i = Spells (to_le_bytes w32 (spelling i)) i 4
+
+pub op_spelled : (op : RegOp) (rd a b : ℕ) → (nat_lt rd 32 && (nat_lt a 32 && nat_lt b 32)) ≡ true → IsSpelled (Op op rd a b)
+unfolding InRange
+op_spelled op rd a b e =
+    let x = and_parts (nat_lt rd 32) (nat_lt a 32 && nat_lt b 32) e in
+    let y = and_parts (nat_lt a 32) (nat_lt b 32) x.1 in
+    word_spells (Op op rd a b) (ltb-true rd 32 x.0, ltb-true a 32 y.0, ltb-true b 32 y.1)
+
+pub store_spelled : (width : StoreWidth) (a b : ℕ) → (nat_lt a 32 && nat_lt b 32) ≡ true → IsSpelled (Store width a b (pos 0))
+unfolding InRange
+store_spelled width a b e = let x = and_parts (nat_lt a 32) (nat_lt b 32) e in word_spells (Store width a b (pos 0)) (ltb-true a 32 x.0, ltb-true b 32 x.1, (omega (arith, ints), omega (arith, ints)))
+
+pub ebreak_spelled : IsSpelled Ebreak
+unfolding InRange
+ebreak_spelled = word_spells Ebreak tt
+
+pub ecall_spelled : IsSpelled Ecall
+unfolding InRange
+ecall_spelled = word_spells Ecall tt
+
+pub jalr_past : IsSpelled (Jalr 0 31 (pos 16))
+unfolding InRange
+jalr_past = word_spells (Jalr 0 31 (pos 16)) (omega arith, omega arith, (omega (arith, ints), omega (arith, ints)))
+
+abbrev pub four : Instr → Instr → Instr → Instr → List Piece
+four a b c d =
+    record { instr = a; size = 4 } ∷ record { instr = b; size = 4 } ∷ record { instr = c; size = 4 } ∷ record { instr = d; size = 4 } ∷ []
+
+pub four_words : (place : BundlePlace) (bytes : List ℕ) (a b c d : Instr) (found : List Finding) → place.listed ≡ false → bytes_of (words_of (a ∷ b ∷ c ∷ d ∷ [])) ≡ bytes
+    → IsSpelled a → IsSpelled b → IsSpelled c → IsSpelled d → findings_from place true place.address [] (four a b c d) ≡ found → AreBundleFindings place bytes found
+four_words place bytes a b c d found unlisted is sa sb sc sd e =
+    subst (λ (l : List ℕ). AreBundleFindings place l found) is
+    (read_bundle place (bytes_of (words_of (a ∷ b ∷ c ∷ d ∷ []))) (four a b c d) [] found unlisted (sa, (sb, (sc, (sd, tt)))) refl (nothing_begins [] refl) (append-nil (findings_from place true place.address [] (four a b c d)) ∙ e))
+
+-- such a bundle is read as these four
+pub four_longest : (bytes : List ℕ) (a b c d : Instr) → bytes_of (words_of (a ∷ b ∷ c ∷ d ∷ [])) ≡ bytes → IsSpelled a → IsSpelled b → IsSpelled c → IsSpelled d → IsLongestReading bytes (four a b c d)
+four_longest bytes a b c d is sa sb sc sd =
+    subst (λ (l : List ℕ). IsLongestReading l (four a b c d)) is (record {
+      is_reading = (sa, (sb, (sc, (sd, tt))));
+      longest = λ other h. most (bytes_of (words_of (a ∷ b ∷ c ∷ d ∷ []))) (four a b c d) other (sa, (sb, (sc, (sd, tt)))) (nothing_begins [] refl) h;
+    })
+
+abbrev pub wide : Instr → Piece
+wide i = record { instr = i; size = 4 }
+
+-- ---- samples
+
+module _ (format : Format) (gates : List Gate) (a b c d e f g h i j k l : ℕ) (unlisted : (n : ℕ) → is_gate_of gates (0x01000000 + 16 * suc n) ≡ false) where
+  abbrev s : Sample
+  s = record { format = format; gates = gates; first_words = a ∷ b ∷ c ∷ d ∷ e ∷ f ∷ g ∷ h ∷ []; last_words = i ∷ j ∷ k ∷ l ∷ [] }
+
+  -- a bundle of ebreaks there has no finding
+  abbrev IsQuiet : ℕ → Format → Type 0
+  IsQuiet n x = findings_from (place_of 0 (sandbox (record s { format = x })) n) true (0x01000000 + 16 * n) [] (four Ebreak Ebreak Ebreak Ebreak) ≡ []
+
+  in_each : (n : ℕ) (x : Format) → IsQuiet n Sfi1 → IsQuiet n Sfi2 → IsQuiet n x
+  in_each n Sfi1 one two = one
+  in_each n Sfi2 one two = two
+
+  pub quiet : (n : ℕ) → bytes_of (words_of (Ebreak ∷ Ebreak ∷ Ebreak ∷ Ebreak ∷ [])) ≡ bundle_bytes (sandbox s) (suc n) → IsQuiet (suc n) Sfi1 → IsQuiet (suc n) Sfi2
+      → AreBundleFindings (place_of 0 (sandbox s) (suc n)) (bundle_bytes (sandbox s) (suc n)) []
+  quiet n bytes one two =
+      four_words (place_of 0 (sandbox s) (suc n)) (bundle_bytes (sandbox s) (suc n)) Ebreak Ebreak Ebreak Ebreak [] (unlisted n) bytes ebreak_spelled ebreak_spelled ebreak_spelled ebreak_spelled (in_each (suc n) format one two)
+
+  -- one bundle of ebreaks more
+  more : (n : ℕ) (found : List Finding) → bytes_of (words_of (Ebreak ∷ Ebreak ∷ Ebreak ∷ Ebreak ∷ [])) ≡ bundle_bytes (sandbox s) (suc n) → IsQuiet (suc n) Sfi1 → IsQuiet (suc n) Sfi2
+      → AreFindingsOfFirst 0 (sandbox s) (suc n) found → AreFindingsOfFirst 0 (sandbox s) (suc (suc n)) found
+  more n found bytes one two before = (found, [], before, quiet n bytes one two, sym (append-nil found))
+
+  -- the findings of a sample are those of its first two bundles and of its last one
+  pub all_findings : (x y z : List Finding) → AreBundleFindings (place_of 0 (sandbox s) 0) (bundle_bytes (sandbox s) 0) x → AreBundleFindings (place_of 0 (sandbox s) 1) (bundle_bytes (sandbox s) 1) y
+      → AreBundleFindings (place_of 0 (sandbox s) 15) (bundle_bytes (sandbox s) 15) z → AreFindings 0 (sandbox s) ((x ++ y) ++ z)
+  all_findings x y z first second last =
+      let at2 : AreFindingsOfFirst 0 (sandbox s) 2 (x ++ y) = (x, y, ([], x, refl, first, refl), second, refl) in
+      let at4 = more 2 (x ++ y) refl refl refl (more 1 (x ++ y) refl refl refl at2) in
+      let at8 = more 6 (x ++ y) refl refl refl (more 5 (x ++ y) refl refl refl (more 4 (x ++ y) refl refl refl (more 3 (x ++ y) refl refl refl at4))) in
+      let at12 = more 10 (x ++ y) refl refl refl (more 9 (x ++ y) refl refl refl (more 8 (x ++ y) refl refl refl (more 7 (x ++ y) refl refl refl at8))) in
+      let at15 = more 13 (x ++ y) refl refl refl (more 12 (x ++ y) refl refl refl (more 11 (x ++ y) refl refl refl at12)) in
+      (16, refl, (x ++ y, z, at15, last, refl))
+
+pub none_listed : (n : ℕ) → is_gate_of [] (0x01000000 + 16 * suc n) ≡ false
+none_listed n = refl
+
+-- where it is 8 instructions and then ebreaks, they are those of the two bundles of the 8
+module _ (format : Format) (a b c d e f g h : Instr) where
+  abbrev is : Sample
+  is = code_as format (a ∷ b ∷ c ∷ d ∷ e ∷ f ∷ g ∷ h ∷ [])
+
+  pub code_findings : (x y : List Finding) → IsSpelled a → IsSpelled b → IsSpelled c → IsSpelled d → IsSpelled e → IsSpelled f → IsSpelled g → IsSpelled h
+      → findings_from (place_of 0 (sandbox is) 0) true 0x01000000 [] (four a b c d) ≡ x → findings_from (place_of 0 (sandbox is) 1) true 0x01000010 [] (four e f g h) ≡ y → AreFindings 0 (sandbox is) (x ++ y)
+  code_findings x y sa sb sc sd se sf sg sh first second =
+      let last = spelling Ebreak in
+      subst (AreFindings 0 (sandbox is)) (append-nil (x ++ y))
+      (all_findings format [] (spelling a) (spelling b) (spelling c) (spelling d) (spelling e) (spelling f) (spelling g) (spelling h) last last last last none_listed x y []
+      (four_words (place_of 0 (sandbox is) 0) (bundle_bytes (sandbox is) 0) a b c d x refl refl sa sb sc sd first)
+      (four_words (place_of 0 (sandbox is) 1) (bundle_bytes (sandbox is) 1) e f g h y refl refl se sf sg sh second)
+      (quiet format [] (spelling a) (spelling b) (spelling c) (spelling d) (spelling e) (spelling f) (spelling g) (spelling h) last last last last none_listed 14 refl refl refl))

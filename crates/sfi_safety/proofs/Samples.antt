@@ -1,0 +1,235 @@
+-- The samples: their layout, their image, where they are entered, and their steps.
+use Rattle.sfi_safety.proofs.Prelude.{◌≡◌, ℕ, zero, suc, ◌+◌, ◌-◌, ◌*◌, ◌%◌, ◌^◌, ◌<◌, ◌≤◌, ◌⊎◌, List, [], ◌∷◌, ◌++◌, length, replicate, take, drop, Option, Some, inl, inr, refl, sym, ap, subst, ◌∙◌, arith, get_or, get_or-drop, get_or-take, slice_index, true, nat_lt, All, list_all, and_parts, ltb-true, Instr, Ebreak, Spells, Format, Sfi1, Sfi2, code_most, Bytes, byte_at, bytes_at, addresses, address_after, Accesses, Hart, IsHart, State, Stepped, Stands, IsStep, effect, next, unchanged, Call, AreGates, Part, AreGateWords, AreApart, code_region, guarded_region, IsBundleStart, IsRightPart, IsRightLayout, AreOf, Finding, AreFindings, InData, InGuard, IsGate, HasReserved, HasCode, Turn, Steps, IsEntry, IsRun, IsTurn, after_turn, after_step, IsSafeRun, HasOneFinding, HasUnsafeRun, IsNeeded, BreaksNoOther}
+use Rattle.rv_comp.specs.declared.front.Front.TheVariants.{Read}
+use Rattle.sfi_safety.specs.Samples.{Sample, sandbox, bytes_of, words_of}
+use Rattle.sfi_image.specs.declared.span.Span.{Span}
+use Rattle.sfi_policy.specs.Limits.{gates_most}
+use Rattle.sfi_rules.specs.declared.rule.Rule.{Rule}
+use Rattle.std.proofs.Common.{length-append, length-take, length-drop}
+use Rattle.sfi_safety.specs.Regions.{InCode}
+use Rattle.sfi_safety.proofs.Places.{read_all}
+use Rattle.sfi_safety.proofs.Entering.{entered_at}
+
+-- ---- the samples' layout
+
+-- what is asked of a sample
+pub record IsSample (s : Sample) : Type 0 where
+  pub first_words : length s.first_words ≡ 8
+  pub last_words : length s.last_words ≡ 4
+  pub words : All AreGateWords s.gates
+  pub few : length s.gates ≤ gates_most
+  pub gates : AreGates (record { base = 0x01000000; size = 256 }) s.gates
+
+-- a sample without gates
+pub without_gates : (s : Sample) → s.gates ≡ [] → length s.first_words ≡ 8 → length s.last_words ≡ 4 → IsSample s
+without_gates s none first last =
+    let empty : length s.gates ≡ 0 = ap length none in
+    record {
+      first_words = first;
+      last_words = last;
+      words = λ k d below. absurd (omega (arith, empty, below));
+      few = omega (arith, empty);
+      gates = record {
+        starts = λ k d below. absurd (omega (arith, empty, below));
+        services = λ k d below. absurd (omega (arith, empty, below));
+        ascending = λ i j d less below. absurd (omega (arith, empty, below));
+      };
+    }
+
+bytes_length : (words : List ℕ) → length (bytes_of words) ≡ 4 * length words
+bytes_length [] = refl
+bytes_length (w ∷ words) = let rest = bytes_length words in omega (arith, rest)
+
+pub size : (s : Sample) → IsSample s → length (sandbox s).code ≡ 256
+size s is =
+    let words = s.first_words ++ (words_of (replicate 52 Ebreak) ++ s.last_words) in
+    let all = length-append s.first_words (words_of (replicate 52 Ebreak) ++ s.last_words) in
+    let bytes = bytes_length words in
+    let first = is.first_words in
+    let last = is.last_words in
+    omega (arith, all, bytes, first, last)
+
+pub bytes_small : (words : List ℕ) (k : ℕ) → slice_index (bytes_of words) k < 256
+bytes_small [] k = omega arith
+bytes_small (w ∷ words) zero = omega arith
+bytes_small (w ∷ words) (suc zero) = omega arith
+bytes_small (w ∷ words) (suc (suc zero)) = omega arith
+bytes_small (w ∷ words) (suc (suc (suc zero))) = omega arith
+bytes_small (w ∷ words) (suc (suc (suc (suc k)))) = bytes_small words k
+
+-- no code region need be larger than this
+code_at_least : (f : Format) → 256 ≤ code_most f
+code_at_least Sfi1 = omega arith
+code_at_least Sfi2 = omega arith
+
+module _ (s : Sample) (is : IsSample s) where
+  pub right_part : IsRightPart (sandbox s)
+  right_part =
+      let size = size s is in
+      let few = is.few in
+      record {
+        code_base = omega arith;
+        code_placed = record { power = 8; size_is = size; at_least = omega (arith, size); at_most = omega (arith, size, code_at_least s.format); multiple = 65536; base_is = sym (ap (λ (n : ℕ). 65536 * n) size) };
+        data_placed = record { power = 8; size_is = refl; at_least = omega arith; at_most = omega arith; multiple = 98304; base_is = refl };
+        guard_room = record { below = omega arith; above = omega arith };
+        start = record { held = (omega arith, omega (arith, size)); aligned = refl };
+        gate_count = few;
+        init_len = omega arith;
+        gates = subst (λ (n : ℕ). AreGates (record { base = 0x01000000; size = n }) s.gates) (sym size) is.gates;
+      }
+
+  pub apart : AreApart (code_region (sandbox s)) (guarded_region (sandbox s))
+  apart a (low, high) (from, below) = let size = size s is in omega arith
+
+  pairs_apart : (i j : ℕ) (d : Span) → i < j → j < 2 → AreApart (get_or (code_region (sandbox s) ∷ guarded_region (sandbox s) ∷ []) i d) (get_or (code_region (sandbox s) ∷ guarded_region (sandbox s) ∷ []) j d)
+  pairs_apart zero (suc zero) d less below = apart
+  pairs_apart zero zero d less below = absurd (omega arith)
+  pairs_apart zero (suc (suc j)) d less below = absurd (omega arith)
+  pairs_apart (suc i) zero d less below = absurd (omega arith)
+  pairs_apart (suc i) (suc j) d less below = absurd (omega arith)
+
+  -- the layout of an image of it alone
+  pub right_layout : IsRightLayout (sandbox s ∷ [])
+  right_layout = record {
+    at_least_one = omega arith;
+    at_most = omega arith;
+    one_format = one;
+    right = record { each = only; apart = pairs_apart };
+  }
+    where
+      one : AreOf s.format (sandbox s ∷ [])
+      one zero d below = refl
+      one (suc k) d below = absurd (omega arith)
+
+      only : All IsRightPart (sandbox s ∷ [])
+      only zero d below = right_part
+      only (suc k) d below = absurd (omega arith)
+
+  -- that image has the sandbox's one finding
+  pub refused : (x : Finding) → AreFindings 0 (sandbox s) (x ∷ []) → HasOneFinding (sandbox s) x
+  refused x found = record {
+    image = record { bytes_are = refl; layout = right_layout };
+    found_are = (x ∷ [], [], found, refl, refl);
+  }
+
+-- ---- entries
+
+-- x1 and x10 are 240, the reserved registers but x26 have their values, and all others but x2 and x31 are 0
+abbrev pub stack_hart : ℕ → ℕ → ℕ → ℕ → Hart
+stack_hart x2 pc x26 x31 = record {
+  pc = pc;
+  registers = 0 ∷ 240 ∷ x2 ∷ replicate 7 0 ++ (240 ∷ (replicate 13 0 ++ (0x01000000 ∷ 240 ∷ x26 ∷ 255 ∷ 0 ∷ 0 ∷ 0 ∷ x31 ∷ [])));
+}
+
+-- x2 points to the data
+abbrev pub hart : ℕ → ℕ → ℕ → Hart
+hart pc x26 x31 = stack_hart 0x01800000 pc x26 x31
+
+each_below : (n : ℕ) (xs : List ℕ) → 0 < n → list_all (λ x. nat_lt x n) xs ≡ true → (k : ℕ) → slice_index xs k < n
+each_below n [] some h k = some
+each_below n (x ∷ xs) some h zero = ltb-true x n (and_parts (nat_lt x n) (list_all (λ y. nat_lt y n) xs) h).0
+each_below n (x ∷ xs) some h (suc k) = each_below n xs some (and_parts (nat_lt x n) (list_all (λ y. nat_lt y n) xs) h).1 k
+
+pub is_hart : (pc : ℕ) → pc % 2 ≡ 0 → pc < 2 ^ 32 → IsHart (hart pc 0x01800000 0)
+is_hart pc even fits = record {
+  even = even;
+  address = fits;
+  count = refl;
+  words = each_below (2 ^ 32) (hart pc 0x01800000 0).registers (omega arith) refl;
+  zero = refl;
+}
+
+-- where a run begins
+abbrev pub first : ℕ → Bytes → State
+first pc m = record { hart = hart pc 0x01800000 0; memory = m }
+
+-- a run may begin at the bundle of that number
+pub enters : (s : Sample) → IsSample s → (n : ℕ) → n < 16 → (m : Bytes) × IsEntry (sandbox s) (first (0x01000000 + 16 * n) m)
+enters s is n few =
+    let size = size s is in
+    let at = 0x01000000 + 16 * n in
+    let start : IsBundleStart (code_region (sandbox s)) at = record { held = (omega arith, omega (arith, size)); aligned = omega arith } in
+    let reserved : HasReserved (sandbox s) (hart at 0x01800000 0).registers = record { code_base = refl; code_mask = sym (ap (λ (n : ℕ). n - 16) size); data_base = refl; data_mask = refl } in
+    let end : 0x01000000 + length (sandbox s).code ≤ 2 ^ 32 = omega (arith, size) in
+    entered_at (sandbox s) end (hart at 0x01800000 0) (right_part s is) (apart s is) (bytes_small (s.first_words ++ (words_of (replicate 52 Ebreak) ++ s.last_words))) (is_hart at (omega arith) (omega arith)) start reserved (λ has. (omega arith, omega arith))
+
+-- ---- what stands there
+
+module _ (s : Sample) (is : IsSample s) (m : Bytes) (code : HasCode (sandbox s) m) where
+  pub bytes_there : (h : Hart) (at n : ℕ) → h.pc ≡ 0x01000000 + at → at + n ≤ 256 → bytes_at m (addresses h.pc n) ≡ Some (take n (drop at (sandbox s).code))
+  bytes_there h at n pc within =
+      let bytes = take n (drop at (sandbox s).code) in
+      let size = size s is in
+      let long : length bytes ≡ n = (let a = length-take n (drop at (sandbox s).code) in let b = length-drop at (sandbox s).code in omega (arith, a, b, size, within)) in
+      subst (λ (k : ℕ). bytes_at m (addresses h.pc k) ≡ Some bytes) long (read_all m (address_after h.pc) 0 bytes (λ k below. each k (omega (arith, long, below))))
+    where
+      each : (k : ℕ) → k < n → byte_at m (address_after h.pc (0 + k)) ≡ Some (slice_index (take n (drop at (sandbox s).code)) k)
+      each k few =
+          let size = size s is in
+          let e : address_after h.pc (0 + k) ≡ 0x01000000 + (at + k) = omega (arith, pc, within, few) in
+          ap (byte_at m) e ∙ code (at + k) (omega (arith, within, few, size)) ∙ ap Some (sym (get_or-take n (drop at (sandbox s).code) k 0 few ∙ get_or-drop at (sandbox s).code k 0))
+
+  -- an instruction of n bytes at that offset of the code
+  pub stands : (h : Hart) (at n : ℕ) (i : Instr) → h.pc ≡ 0x01000000 + at → at + n ≤ 256 → Spells (take n (drop at (sandbox s).code)) i n → Stands (record { hart = h; memory = m }) i n
+  stands h at n i pc within spelled = record { bytes = take n (drop at (sandbox s).code); there = bytes_there h at n pc within; spelled = spelled }
+
+-- ---- runs that are not safe
+
+pub then_turn : (p : Part) (s after : State) (turn : Turn) → IsTurn p s turn → after_turn turn ≡ Some after → HasUnsafeRun p after → HasUnsafeRun p s
+then_turn p s after turn is e rest = record {
+  turns = turn ∷ rest.turns;
+  run = (is, subst (λ (o : Option State). IsRun p o rest.turns) (sym e) rest.run);
+  unsafe = λ safe. rest.unsafe (subst (λ (o : Option State). IsSafeRun p o rest.turns) e safe.2);
+}
+
+-- it has left the code
+pub has_left : (p : Part) (m : Bytes) (h : Hart) → (InCode p h.pc → ⊥) → HasUnsafeRun p (record { hart = h; memory = m })
+has_left p m h out = record { turns = []; run = tt; unsafe = λ safe. out safe.pc }
+
+-- with the code there, at an instruction of n bytes at that offset
+module _ (s : Sample) (is : IsSample s) (m : Bytes) (code : HasCode (sandbox s) m) (h : Hart) (at n : ℕ) (i : Instr) (pc : h.pc ≡ 0x01000000 + at) (within : at + n ≤ 256) (spelled : Spells (take n (drop at (sandbox s).code)) i n) where
+  pub step_at : IsStep (record { hart = h; memory = m }) (effect i n h m)
+  step_at = record { front = Read i n; at_pc = stands s is m code h at n i pc within spelled; result = refl }
+
+  -- the step is done
+  pub then_step : (h' : Hart) → effect i n h m ≡ next h' m → HasUnsafeRun (sandbox s) (record { hart = h'; memory = m }) → HasUnsafeRun (sandbox s) (record { hart = h; memory = m })
+  then_step h' e rest = then_turn (sandbox s) (record { hart = h; memory = m }) (record { hart = h'; memory = m }) (Steps (effect i n h m)) step_at (ap (λ (r : Stepped). after_step r.outcome r.state) e) rest
+
+  -- it accesses an address far below the data
+  pub reaches : (a : ℕ) → Accesses i h a → a + 4096 < 0x01800000 → HasUnsafeRun (sandbox s) (record { hart = h; memory = m })
+  reaches a has below = record {
+    turns = Steps (effect i n h m) ∷ [];
+    run = (step_at, tt);
+    unsafe = λ safe. far (safe.1.within i n (stands s is m code h at n i pc within spelled) a has);
+  }
+    where
+      far : InData (sandbox s) a ⊎ InGuard (sandbox s) a → ⊥
+      far (inl (from, under)) = omega arith
+      far (inr (inl (from, under))) = omega arith
+      far (inr (inr (from, under))) = omega arith
+
+  -- it is a call, and there is no gate
+  pub calls_elsewhere : effect i n h m ≡ unchanged Call h m → (IsGate (sandbox s) h.pc → ⊥) → HasUnsafeRun (sandbox s) (record { hart = h; memory = m })
+  calls_elsewhere e nowhere = record {
+    turns = Steps (effect i n h m) ∷ [];
+    run = (step_at, tt);
+    unsafe = λ safe. nowhere (safe.1.called (ap (λ (r : Stepped). r.outcome) e));
+  }
+
+pub past_end : (s : Sample) → IsSample s → InCode (sandbox s) 0x01000100 → ⊥
+past_end s is (from, below) = let size = size s is in omega arith
+
+-- ---- rules that are needed
+
+-- with that one finding, and a run from the bundle of that number that is not safe
+pub needed : (s : Sample) (is : IsSample s) (rule : Rule) (address n : ℕ) → n < 16 → AreFindings 0 (sandbox s) (record { sandbox = 0; address = address; rule = rule } ∷ []) → BreaksNoOther rule address (sandbox s)
+    → ((m : Bytes) → IsEntry (sandbox s) (first (0x01000000 + 16 * n) m) → HasUnsafeRun (sandbox s) (first (0x01000000 + 16 * n) m)) → IsNeeded rule address (sandbox s)
+needed s is rule address n few alone no_other runs =
+    let e = enters s is n few in
+    record {
+      refused = refused s is (record { sandbox = 0; address = address; rule = rule }) alone;
+      no_other = no_other;
+      entry = first (0x01000000 + 16 * n) e.0;
+      is_entry = e.1;
+      runs_unsafely = runs e.0 e.1;
+    }

@@ -1,0 +1,104 @@
+-- The accepted sample: no rule is broken in it, and it stores a byte.
+use Rattle.sfi_safety.proofs.Prelude.{◌≡◌, ◌≢◌, ℕ, ◌+◌, [], ◌∷◌, cond, Some, None, refl, ap, ◌∙◌, inl, inr, arith, pos, is_some, ints, And, Or, Sb, Op, Store, Jal, Ebreak, minus, InRange, Sfi1, Bytes, byte_at, in_front, stored, Trap, past, Stepped, effect, next, unchanged, Part, AreFindings, InGuard, HasCode, KeepsBytes, StoresByte, IsAcceptedAndRuns, IsAccepted}
+use Rattle.sfi_safety.specs.Samples.{sandbox, sandboxed_store}
+use Rattle.std.specs.FinMap.{insert}
+use Rattle.rv_step.specs.declared.outcome.Cause.TheVariants as cause
+use Rattle.sfi_image.specs.Spelling as image
+use Rattle.sfi_safety.proofs.Entering.{inserted_here, inserted_elsewhere}
+use Rattle.rv_comp.proofs.Facts.{word_spells}
+use Rattle.sfi_safety.proofs.Readings.{IsSpelled, op_spelled, store_spelled, ebreak_spelled, code_findings}
+use Rattle.sfi_safety.proofs.Samples.{IsSample, without_gates, size, right_layout, hart, first, enters, step_at}
+
+-- ---- the sample
+
+abbrev pub p : Part
+p = sandbox sandboxed_store
+
+is_sample : IsSample sandboxed_store
+is_sample = without_gates sandboxed_store refl refl refl
+
+jump_there : IsSpelled (Jal 0 (minus 12))
+unfolding InRange
+jump_there = word_spells (Jal 0 (minus 12)) (omega arith, ((omega (arith, ints), omega (arith, ints)), refl))
+
+no_finding : AreFindings 0 p []
+no_finding =
+    code_findings Sfi1 (Op And 31 10 27) (Op Or 31 31 26) (Store Sb 31 10 (pos 0)) (Jal 0 (minus 12)) Ebreak Ebreak Ebreak Ebreak [] []
+    (op_spelled And 31 10 27 refl) (op_spelled Or 31 31 26 refl) (store_spelled Sb 31 10 refl) jump_there ebreak_spelled ebreak_spelled ebreak_spelled ebreak_spelled refl refl
+
+-- ---- the image
+
+pub accepted : IsAccepted (image.spelling (p ∷ [])) (p ∷ [])
+accepted = record {
+  image = record { bytes_are = refl; layout = right_layout sandboxed_store is_sample };
+  none_found = ([], [], no_finding, refl, refl);
+}
+
+-- ---- the run
+
+module _ (m : Bytes) (code : HasCode p m) (guards : (a : ℕ) → InGuard p a → byte_at m a ≡ None) where
+  -- others put a 0 at the address that is stored to
+  pub changed : Bytes
+  changed = insert m 0x018000f0 0
+
+  in_data : (a : ℕ) → a ≢ 0x018000f0 → byte_at changed a ≡ byte_at m a
+  unfolding changed
+  in_data a ne = inserted_elsewhere m 0x018000f0 0 a ne
+
+  there : byte_at changed 0x018000f0 ≡ Some 0
+  unfolding changed
+  there = inserted_here m 0x018000f0 0 0x018000f0 refl
+
+  pub keeps : KeepsBytes p m changed
+  keeps =
+      let size = size sandboxed_store is_sample in
+      record {
+        code = λ a inside. in_data a (λ same. let below = inside.1 in omega arith);
+        guards = λ a guard none. in_data a (λ same. not_guard a guard same) ∙ none;
+      }
+    where
+      not_guard : (a : ℕ) → InGuard p a → a ≡ 0x018000f0 → ⊥
+      not_guard a (inl (from, below)) same = omega arith
+      not_guard a (inr (from, below)) same = omega arith
+
+  changed_code : HasCode p changed
+  changed_code k below = let size = size sandboxed_store is_sample in in_data (0x01000000 + k) (λ same. omega arith) ∙ code k below
+
+  store_done : effect (Store Sb 31 10 (pos 0)) 4 (hart 0x01000008 0x01800000 0x018000f0) changed ≡ next (past (hart 0x01000008 0x01800000 0x018000f0) 4) (stored changed 0x018000f0 1 240)
+  store_done = ap (λ o. cond (is_some (in_front o (Some []))) (next (past (hart 0x01000008 0x01800000 0x018000f0) 4) (stored changed 0x018000f0 1 240)) (unchanged (Trap cause.Store 0x018000f0) (hart 0x01000008 0x01800000 0x018000f0) changed)) there
+
+  store_is : byte_at (stored changed 0x018000f0 1 240) 0x018000f0 ≡ Some 240
+  store_is = inserted_here changed 0x018000f0 240 0x018000f0 refl
+
+stores : StoresByte p
+stores =
+    let e = enters sandboxed_store is_sample 0 (omega arith) in
+    let w = changed e.0 e.1.code e.1.guards in
+    let step = step_at sandboxed_store is_sample w (changed_code e.0 e.1.code e.1.guards) in
+    let done = store_done e.0 e.1.code e.1.guards in
+    record {
+      entry = first 0x01000000 e.0;
+      is_entry = e.1;
+      changed = first 0x01000000 w;
+      masked = effect (Op And 31 10 27) 4 (hart 0x01000000 0x01800000 0) w;
+      placed = effect (Op Or 31 31 26) 4 (hart 0x01000004 0x01800000 240) w;
+      stored = effect (Store Sb 31 10 (pos 0)) 4 (hart 0x01000008 0x01800000 0x018000f0) w;
+      run = (
+        record { pc = refl; registers = refl; bytes = keeps e.0 e.1.code e.1.guards },
+        (
+          step (hart 0x01000000 0x01800000 0) 0 4 (Op And 31 10 27) refl (omega arith) (op_spelled And 31 10 27 refl),
+          (
+            step (hart 0x01000004 0x01800000 240) 4 4 (Op Or 31 31 26) refl (omega arith) (op_spelled Or 31 31 26 refl),
+            (step (hart 0x01000008 0x01800000 0x018000f0) 8 4 (Store Sb 31 10 (pos 0)) refl (omega arith) (store_spelled Sb 31 10 refl), tt),
+          ),
+        ),
+      );
+      done = ap (λ (r : Stepped). r.outcome) done;
+      address = 0x018000f0;
+      inside = (omega arith, omega arith);
+      before = there e.0 e.1.code e.1.guards;
+      after = ap (λ (r : Stepped). byte_at r.state.memory 0x018000f0) done ∙ store_is e.0 e.1.code e.1.guards;
+    }
+
+pub accepted_and_runs : IsAcceptedAndRuns p
+accepted_and_runs = record { bytes = image.spelling (p ∷ []); accepted = accepted; stores = stores }

@@ -1,0 +1,103 @@
+-- That a rule is needed, and that the rules leave code that does something.
+use Rattle.std.specs.Prelude.{◌≡◌, ◌+◌, ◌*◌, Some, ℕ, List, [], ◌∷◌, ◌++◌, map, filter, reverse, sum_by}
+use Rattle.rv_mem.specs.Bytes.{byte_at}
+use Rattle.rv_step.specs.declared.outcome.Outcome.TheVariants.{Next}
+use Rattle.rv_step.specs.State.{State}
+use Rattle.rv_step.specs.Step.{Stepped}
+use Rattle.sfi_policy.specs.Limits.{bundle_size}
+use Rattle.sfi_image.specs.Images.{IsImage}
+use Rattle.sfi_image.specs.Spelling.{Part, spelling}
+use Rattle.sfi_rules.specs.declared.rule.Rule.{Rule}
+use Rattle.sfi_rules.specs.declared.rule.Rule.TheVariants.{V1, V2, V9}
+use Rattle.sfi_rules.specs.Bundles.{place_of, bundle_bytes}
+use Rattle.sfi_rules.specs.Readings.{Piece, IsLongestReading, rest_of}
+use Rattle.sfi_rules.specs.Rules.{breaks, is_empty}
+use Rattle.sfi_rules.specs.declared.finding.Finding.{Finding}
+use Rattle.sfi_rules.specs.Findings.{AreImageFindings, all_rules}
+use Rattle.sfi_safety.specs.Regions.{InData}
+use Rattle.sfi_safety.specs.Runs.{Turn, Steps, Changes, IsEntry, IsRun}
+use Rattle.sfi_safety.specs.Safety.{IsSafeRun, RunsSafely}
+use Rattle.sfi_safety.specs.Clean.{IsAccepted}
+
+-- a run from this state is not safe
+pub record HasUnsafeRun (p : Part) (s : State) : Type 0 where
+  pub turns : List Turn
+  pub run : IsRun p (Some s) turns
+  pub unsafe : IsSafeRun p (Some s) turns → ⊥
+
+-- The instruction at this address is one of its bundle's longest reading,
+-- and it breaks this rule and no other.
+pub record BreaksAlone (rule : Rule) (address : ℕ) (p : Part) : Type 0 where
+  pub number : ℕ  -- the bundle's
+  pub earlier : List Piece  -- the pieces before it, the nearest first
+  pub here : Piece
+  pub later : List Piece
+  pub longest : IsLongestReading (bundle_bytes p number) (reverse earlier ++ here ∷ later)
+  pub address_is : address ≡ p.code_base + bundle_size * number + sum_by (λ x. x.size) earlier
+  pub broken :
+      filter (λ r. breaks (record {
+        bundle = place_of 0 p number;
+        address = address;
+        earlier = map (λ x. x.instr) earlier;
+        instr = here.instr;
+        later = later;
+        whole = is_empty (rest_of (bundle_bytes p number) (reverse earlier ++ here ∷ later));
+      }) r) all_rules ≡ rule ∷ []
+
+-- No other rule is broken where that rule's finding is. V1 and V2 are found where no instruction
+-- stands, so there is none. V9 stands in place of all findings of its bundle,
+-- and of these nothing is said.
+abbrev pub BreaksNoOther : Rule → ℕ → Part → Type 0
+BreaksNoOther V1 address p = Unit {0}
+BreaksNoOther V2 address p = Unit {0}
+BreaksNoOther V9 address p = Unit {0}
+BreaksNoOther rule address p = BreaksAlone rule address p
+
+-- the image of this sandbox has a right layout, and this one finding
+pub record HasOneFinding (p : Part) (found : Finding) : Type 0 where
+  pub image : IsImage (spelling (p ∷ [])) (p ∷ [])
+  pub found_are : AreImageFindings (p ∷ []) (found ∷ [])
+
+-- The rule is needed: the image of this sandbox has a right layout and one finding, that rule at
+-- this address, where no other is broken, and from an entry it has a run that is not safe.
+pub record IsNeeded (rule : Rule) (address : ℕ) (p : Part) : Type 0 where
+  pub refused : HasOneFinding p (record { sandbox = 0; address = address; rule = rule })
+  pub no_other : BreaksNoOther rule address p
+  pub entry : State
+  pub is_entry : IsEntry p entry
+  pub runs_unsafely : HasUnsafeRun p entry
+
+-- each of the ten rules is (of V9 this says that its finding may not be passed over, not that no
+-- other rule would refuse the image)
+abbrev pub EachRuleIsNeeded : Type 0
+EachRuleIsNeeded = (rule : Rule) → (address : ℕ) × (p : Part) × IsNeeded rule address p
+
+-- The rule is stricter than safety asks: the image of this sandbox has a right layout and one
+-- finding, that rule at this address, and every run from every entry is safe.
+pub record IsStricter (rule : Rule) (address : ℕ) (p : Part) : Type 0 where
+  pub refused : HasOneFinding p (record { sandbox = 0; address = address; rule = rule })
+  pub safe : RunsSafely p
+
+-- ---- an accepted one
+
+-- a run in which others change a byte of the data,
+-- and three steps later the sandbox has stored one there
+pub record StoresByte (p : Part) : Type 0 where
+  pub entry : State
+  pub is_entry : IsEntry p entry
+  pub changed : State
+  pub masked : Stepped
+  pub placed : Stepped
+  pub stored : Stepped
+  pub run : IsRun p (Some entry) (Changes changed ∷ Steps masked ∷ Steps placed ∷ Steps stored ∷ [])
+  pub done : stored.outcome ≡ Next
+  pub address : ℕ
+  pub inside : InData p address
+  pub before : byte_at changed.memory address ≡ Some 0
+  pub after : byte_at stored.state.memory address ≡ Some 240
+
+-- there is an accepted image of this sandbox, and such a run of it
+pub record IsAcceptedAndRuns (p : Part) : Type 0 where
+  pub bytes : List ℕ
+  pub accepted : IsAccepted bytes (p ∷ [])
+  pub stores : StoresByte p

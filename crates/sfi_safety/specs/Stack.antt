@@ -1,0 +1,34 @@
+-- Where the stack pointer lies when a sandbox calls: what its host may rely on.
+use Rattle.std.specs.Prelude.{◌≡◌, ℕ, List, [], ◌∷◌, Option, Some, None}
+use Rattle.std.specs.List.{All}
+use Rattle.rv_word.specs.declared.instr.Instr.TheVariants.{Ecall}
+use Rattle.rv_step.specs.State.{State}
+use Rattle.rv_step.specs.Step.{Stands}
+use Rattle.sfi_image.specs.Spelling.{Part}
+use Rattle.sfi_safety.specs.Regions.{StackInData}
+use Rattle.sfi_safety.specs.Safety.{RunsSafelyFrom}
+use Rattle.sfi_safety.specs.Runs.{Turn, IsEntry, IsRun, after_turn}
+
+-- the state after the last of the turns, if the run goes on there
+abbrev pub after_turns : Option State → List Turn → Option State
+after_turns o [] = o
+after_turns None (turn ∷ turns) = None
+after_turns (Some s) (turn ∷ turns) = after_turns (after_turn turn) turns
+
+-- in every run from this state the stack pointer lies in the data region wherever an ecall stands
+pub record CallsWithStackFrom (p : Part) (s : State) : Type 0 where
+  pub lies : (turns : List Turn) (at : State) (n : ℕ) → IsRun p (Some s) turns
+      → after_turns (Some s) turns ≡ Some at → Stands at Ecall n → StackInData p at.hart.registers
+
+-- every run from this state is safe, and calls so: what a world keeps of each sandbox
+pub record GoesSafelyFrom (p : Part) (s : State) : Type 0 where
+  pub safe : RunsSafelyFrom p s
+  pub calls : CallsWithStackFrom p s
+
+-- so it does in every run from every state in which the sandbox may be entered
+pub record CallsWithStack (p : Part) : Type 0 where
+  pub from : (s : State) → IsEntry p s → CallsWithStackFrom p s
+
+-- each of the sandboxes calls so
+pub record AllCallWithStack (ps : List Part) : Type 0 where
+  pub each : All CallsWithStack ps

@@ -1,0 +1,85 @@
+//! That each rule but V9 is needed, and that no finding may be passed over: there is code whose one
+//! finding is of that rule and which does what is not safe; and that the rules leave code that does
+//! something. A call costs nothing.
+ghost use Rattle.sfi_rules.specs.declared.rule.Rule.TheVariants.{V1, V2, V3, V4, V5, V6, V7, V8, V9, V10};
+ghost use Rattle.sfi_safety.specs.Needed.{IsNeeded, EachRuleIsNeeded, IsStricter, IsAcceptedAndRuns};
+ghost use Rattle.sfi_safety.specs.Samples.{sandbox, undecodable, crossing_store, ecall_at_no_gate, written_rd_forgotten, pair_on_x0, pair_across_bundles, jalr_offset_ignored, jump_to_any_start, running_off_the_end, gate_comes_back_elsewhere, stack_not_put_back, undecodable_after_ebreak, crossing_after_ebreak, ecall_after_ebreak, nops_after_ebreak, sandboxed_store};
+
+/// V1 is needed: where the bytes do not decode, a run stands at no instruction.
+pub fn undecodable_is_unsafe()
+    ensures { IsNeeded V1 0x01000000 (sandbox undecodable) }
+{}
+
+/// V2 is needed: a store that begins in one bundle and ends in the next reaches address 0, and no
+/// reading of a bundle has it.
+pub fn crossing_store_is_unsafe()
+    ensures { IsNeeded V2 0x0100000e (sandbox crossing_store) }
+{}
+
+/// V3 is needed: an ecall calls the host where no gate is listed.
+pub fn ecall_at_no_gate_is_unsafe()
+    ensures { IsNeeded V3 0x01000000 (sandbox ecall_at_no_gate) }
+{}
+
+/// V4 is needed: after a jal that writes x26 a store reaches the code.
+pub fn written_rd_forgotten_is_unsafe()
+    ensures { IsNeeded V4 0x01000000 (sandbox written_rd_forgotten) }
+{}
+
+/// V5 is needed: a store after a pair on x0 reaches address 0.
+pub fn pair_on_x0_is_unsafe()
+    ensures { IsNeeded V5 0x01000008 (sandbox pair_on_x0) }
+{}
+
+/// V5 is needed: a store at the start of a bundle reaches what a run is entered with, whatever
+/// stands in the bundle before.
+pub fn pair_across_bundles_is_unsafe()
+    ensures { IsNeeded V5 0x01000010 (sandbox pair_across_bundles) }
+{}
+
+/// V6 is needed: a jalr with an offset leaves the code region past its last bundle.
+pub fn jalr_offset_ignored_is_unsafe()
+    ensures { IsNeeded V6 0x01000008 (sandbox jalr_offset_ignored) }
+{}
+
+/// V7 is needed: a jump onto a store skips the pair before it.
+pub fn jump_to_any_start_is_unsafe()
+    ensures { IsNeeded V7 0x01000010 (sandbox jump_to_any_start) }
+{}
+
+/// V8 is needed: nops up to the region's end lead out of it.
+pub fn running_off_the_end_is_unsafe()
+    ensures { IsNeeded V8 0x010000fc (sandbox running_off_the_end) }
+{}
+
+/// A finding of V9 may not be passed over: a listed gate whose jalr has an offset leaves the code
+/// region after the host's reply. (V9 stands in place of the other findings of a gate's bundle.
+/// Here V6 would be one.)
+pub fn gate_comes_back_elsewhere_is_unsafe()
+    ensures { IsNeeded V9 0x01000000 (sandbox gate_comes_back_elsewhere) }
+{}
+
+/// V10 is needed: a store on a stack pointer that was made 0 reaches address 0.
+pub fn stack_not_put_back_is_unsafe()
+    ensures { IsNeeded V10 0x01000000 (sandbox stack_not_put_back) }
+{}
+
+/// So it is of each rule.
+pub fn each_rule_is_needed()
+    ensures { EachRuleIsNeeded }
+{}
+
+/// Rules are stricter than safety asks, since they look at what no run comes to: bytes that do not
+/// decode, a store across a bundle's end, an ecall and a region's end, each after an ebreak that
+/// stands at its bundle's start.
+pub fn unreached_code_is_safe()
+    ensures undecodable { IsStricter V1 0x01000004 (sandbox undecodable_after_ebreak) }
+    ensures crossing { IsStricter V2 0x0100000e (sandbox crossing_after_ebreak) }
+    ensures ecall { IsStricter V3 0x01000004 (sandbox ecall_after_ebreak) }
+    ensures end { IsStricter V8 0x010000fc (sandbox nops_after_ebreak) }
+{}
+
+/// An accepted sandbox stores a byte.
+pub fn sandboxed_store_is_accepted()
+    ensures { IsAcceptedAndRuns (sandbox sandboxed_store) }
+{}

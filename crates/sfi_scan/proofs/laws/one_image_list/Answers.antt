@@ -1,5 +1,0 @@
-use Rattle.sfi_scan.proofs.Facts.{one_image_list}
-use Rattle.sfi_scan.proofs.laws.one_image_list.Goals as goal
-
-pub returns : goal.returns
-returns c = one_image_list
