@@ -58,6 +58,7 @@ cat >"$ROOM/checkout/crates/sfi/out/sfi" <<'PROGRAM'
 case $1 in
 copy) exec cat ;;
 sleep) echo $$ >"$ROOM/process" && exec sleep 60 ;;
+killed) kill -KILL $$ ;;
 [0-9]) echo "said $1" && exit "$1" ;;
 *) echo "program $*" ;;
 esac
@@ -88,7 +89,7 @@ RT
 call() { # path, arguments
     local status
     rm -f "$room/calls"
-    PATH=$room/bin:$PATH ROOM=$room "$@" >"$room/output" 2>"$room/errors" </dev/null
+    { PATH=$room/bin:$PATH ROOM=$room "$@" >"$room/output" 2>"$room/errors" </dev/null; } 2>"$room/killed"
     status=$?
     found="$(cat "$room/output"); $(cat "$room/errors"); status $status"
 }
@@ -210,6 +211,9 @@ statuses() {
 4:sfi: memory ran out, and nothing was printed (status 4)
 5:sfi: reading the input or writing the output failed (status 5)
 ROWS
+    call "$copy/sfi" killed
+    says "status 137"
+    report $? "where a signal ends the program it ends the wrapper" "$found"
     found=$(echo words | "$copy/sfi" copy)
     [ "$found" = words ]
     report $? "the program reads the wrapper's input" "$found"
