@@ -1,0 +1,121 @@
+"""Runs a compiler on each file of a program, with the options that a sandbox wants, several at a time."""
+import os
+import subprocess
+import sys
+from concurrent.futures import ThreadPoolExecutor
+
+TOOLS = os.path.dirname(os.path.dirname(os.path.abspath(__file__)))
+TOP = os.path.dirname(TOOLS)
+GCC, CLANG = "riscv64-unknown-elf-gcc", "clang"
+RESERVED = (24, 25, 26, 27, 31)  # the sandbox's own registers
+LEVELS = {"-O": "-O1", "-Og": "-O1", "-Os": "-O2", "-Oz": "-O2", "-Ofast": "-O3"}  # those that llc hasn't
+COMMON = ["-march=rv32imc", "-mabi=ilp32", "-fno-builtin", "-ffunction-sections", "-fdata-sections", "-fno-jump-tables"]
+FIXED = ["-Werror=trampolines", *(f"-ffixed-x{number}" for number in RESERVED)]
+PLUS_PLUS = ["-fno-exceptions", "-fno-rtti", "-fno-threadsafe-statics"]
+LAST = ["-fno-lto"]  # what outweighs the options that are given
+TARGET = ["--target=riscv32-unknown-elf"]
+LLC = ["-march=riscv32", "-target-abi=ilp32", "--function-sections", "--data-sections",
+       "-mattr=+m,+c," + ",".join(f"+reserve-x{number}" for number in RESERVED)]
+HEADERS = ["-I", os.path.join(TOP, "examples", "c")]
+SOURCES = (".c", ".i")
+PLUS_PLUS_SOURCES = (".cc", ".cpp", ".cxx", ".C", ".ii")
+WITH_MACROS = (".S", ".sx")  # assembly that a preprocessor goes over first
+ASSEMBLY = (".s", ".asm")
+
+
+class Failed(Exception):
+    """A program that failed, or couldn't be run: the status to end in, and what the program said."""
+
+    def __init__(self, status, reason, told=b""):
+        super().__init__(reason)
+        self.status = status
+        self.told = told
+
+
+def ran(words, data=b""):
+    """What a program prints, and what it says on standard error. Where it fails, that includes what it printed."""
+    try:
+        done = subprocess.run(words, input=data, stdout=subprocess.PIPE, stderr=subprocess.PIPE, check=False)
+    except OSError as error:
+        raise Failed(2, f"{words[0]} can't be run: {error.strerror}") from error
+    if done.returncode:
+        reason = f"{name_of(words)} failed, in status {done.returncode}"
+        raise Failed(max(done.returncode, 1), reason, done.stderr + done.stdout)
+    return done.stdout, done.stderr
+
+
+def tell(said):
+    sys.stderr.buffer.write(said)
+    sys.stderr.flush()
+
+
+def run(words, data=b""):
+    """What a program prints; what it says goes on to standard error."""
+    printed, said = ran(words, data)
+    tell(said)
+    return printed
+
+
+def name_of(words):
+    """How a program is told: by its own name, and by the tool or the command that it was to run."""
+    if words[0] == sys.executable:
+        return os.path.basename(words[2])
+    name = os.path.basename(words[0])
+    return f"{name} {words[1]}" if words[1:2] in (["build"], ["check"]) else name
+
+
+def level(given):
+    """The level of optimisation for llc: that of the last -O."""
+    last = [word for word in ["-O2", *given] if word.startswith("-O")][-1]
+    return LEVELS.get(last, last)
+
+
+def language(file):
+    """The options for C or C++. Without a hosted C++ a `main` is a name like any other."""
+    return PLUS_PLUS if file.endswith(PLUS_PLUS_SOURCES) else ["-ffreestanding"]
+
+
+def version(compiler):
+    """What tells one compiler from another."""
+    return ran([compiler, "--version"])[0].decode("utf-8", "replace")
+
+
+def by_gcc(compiler, given, file, assembly):
+    return ran([compiler, "-S", "-O2", *COMMON, *FIXED, *language(file), *given, *LAST, *HEADERS, "-o", assembly, file])[1]
+
+
+def by_clang(compiler, given, file, assembly):
+    """clang in two steps: in one, version 14 doesn't keep the sandbox's own registers free."""
+    middle = assembly + ".ll"
+    folder, name = os.path.split(compiler)
+    llc = os.path.join(folder, name.replace("clang", "llc"))
+    first = ran([compiler, "-S", "-emit-llvm", "-O2", *TARGET, *COMMON, *language(file), *given, *LAST, *HEADERS,
+                 "-o", middle, file])
+    return first[1] + ran([llc, level(given), *LLC, "-o", assembly, middle])[1]
+
+
+def preprocessed(compiler, given, file, assembly):
+    target = TARGET if "clang" in os.path.basename(compiler) else []
+    return ran([compiler, "-E", *target, *COMMON, *given, *HEADERS, "-o", assembly, file])[1]
+
+
+def compiled(compiler, given, file, place):
+    """The path of a file's assembly, and what the compiler said. Each has a folder `place` of its own, since two may
+    have one name."""
+    if file.endswith(ASSEMBLY):
+        return file, b""
+    os.mkdir(place)
+    assembly = os.path.join(place, os.path.splitext(os.path.basename(file))[0] + ".asm")
+    compile_one = by_clang if "clang" in os.path.basename(compiler) else by_gcc
+    if file.endswith(WITH_MACROS):
+        compile_one = preprocessed
+    return assembly, compile_one(compiler, given, file, assembly)
+
+
+def all_compiled(compiler, given, files, folder):
+    """The paths of the assembly of each file. Compilers run side by side; what they say is told in the files' order."""
+    with ThreadPoolExecutor(os.cpu_count()) as pool:
+        places = [os.path.join(folder, str(number)) for number in range(len(files))]
+        for assembly, said in pool.map(lambda file, place: compiled(compiler, given, file, place), files, places):
+            tell(said)
+            yield assembly

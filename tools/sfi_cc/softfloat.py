@@ -1,0 +1,75 @@
+"""Floating point: the functions of GCC's libgcc that compilers call where the machine has none. They are compiled from
+GCC's sources, once for each compiler, and kept."""
+import glob
+import os
+import re
+import shutil
+from concurrent.futures import ThreadPoolExecutor
+
+from compilers import compiled, version
+from kept import kept
+from sources import GCC_SOURCE, identity, unpacked
+
+PARTS = ("libgcc/soft-fp", "libgcc/config/riscv", "libgcc/libgcc2.c", "libgcc/libgcc2.h", "include/longlong.h")
+# Of numbers of 32, 64 and 128 bits: those of arithmetic, comparisons, and from and to integers and each other.
+SOFT_FP = re.compile(r"(add|sub|mul|div)[sdt]f3|(neg|eq|ge|le|unord)[sdt]f2|fix(uns)?[sdt]f[sd]i|float(un)?[sd]i[sdt]f|"
+                     r"(extend(sfdf|sftf|dftf)|trunc(dfsf|tfsf|tfdf))2")
+LIBGCC2 = [f"{name}" for mode in "sdt" for name in (f"mul{mode}c3", f"div{mode}c3", f"powi{mode}f2")]
+CALLED = re.compile(rb"\b__\w*([sdt]f[23]|[sdt]c3|[sdt]f[sd]i|[sd]i[sdt]f)\b")  # what the assembly of floats speaks of
+# What a compiler that builds libgcc defines by itself. The headers are of a part of GCC that isn't needed.
+MODES = ["-D__libgcc_cmp_return__=SI", "-D__libgcc_shift_count__=SI", "-DMIN_UNITS_PER_WORD=4", "-include", "stddef.h",
+         "-include", "limits.h"]
+MODES += [f"-D__LIBGCC_{mode}F_{what}" for mode, name, digits, end in (("S", "FLT", 24, "f"), ("D", "DBL", 53, ""),
+                                                                      ("T", "LDBL", 113, "l"))
+          for what in (f"MANT_DIG__={digits}", f"FUNC_EXT__={end}", f"MAX__=__{name}_MAX__", f"MIN__=__{name}_MIN__",
+                       f"EPSILON__=__{name}_EPSILON__")]
+MODES += [f"-D__LIBGCC_HAS_{mode}F_MODE__" for mode in "SDT"]
+EMPTY_HEADERS = ("tconfig.h", "tsystem.h", "coretypes.h", "tm.h", "libgcc_tm.h")
+
+
+def speaks_of_floats(assemblies):
+    """Whether files of assembly call functions of floating point."""
+    for path in assemblies:
+        with open(path, "rb") as file:
+            if CALLED.search(file.read()):
+                return True
+    return False
+
+
+def jobs(tree, stubs):
+    """The files of GCC to compile, each with the name of its function and its options."""
+    folders = ["-I", stubs, "-I", f"{tree}/libgcc/config/riscv", "-I", f"{tree}/libgcc/soft-fp", "-I",
+               f"{tree}/libgcc", "-I", f"{tree}/include"]
+    for path in sorted(glob.glob(f"{tree}/libgcc/soft-fp/*.c")):
+        name = os.path.splitext(os.path.basename(path))[0]
+        if SOFT_FP.fullmatch(name):
+            yield path, name, ["-w", *MODES[:1], *folders]
+    for name in LIBGCC2:
+        yield f"{tree}/libgcc/libgcc2.c", name, ["-w", *MODES, f"-DL_{name}", *folders]
+
+
+def compile_all(compiler, tree, folder):
+    """Fills a folder with the assembly of each function."""
+    room = os.path.join(folder, "room")
+    stubs = os.path.join(room, "stubs")
+    os.makedirs(stubs)
+    for name in EMPTY_HEADERS:
+        with open(os.path.join(stubs, name), "w", encoding="utf-8"):
+            pass
+
+    def compile_one(job):
+        path, name, options = job
+        assembly, _ = compiled(compiler, options, path, os.path.join(room, name))
+        os.rename(assembly, os.path.join(folder, f"{name}.asm"))
+
+    with ThreadPoolExecutor(os.cpu_count()) as pool:
+        list(pool.map(compile_one, jobs(tree, stubs)))
+    shutil.rmtree(room)
+
+
+def folder_of(compiler):
+    """The folder of assembly that a compiler made of these functions; None where the sources aren't there."""
+    if GCC_SOURCE.where() is None:
+        return None
+    words = [version(compiler), identity(GCC_SOURCE.where()), *LIBGCC2, SOFT_FP.pattern, *MODES]
+    return kept("softfloat", words, lambda folder: compile_all(compiler, unpacked(GCC_SOURCE, *PARTS), folder))

@@ -1,0 +1,111 @@
+#!/usr/bin/env python3
+"""Tests of floating point by sfi-cc: `[SFI=PATH] tools/unit_tests.py tools`. They are skipped where a compiler, GCC's
+sources or the program isn't there."""
+import glob
+import os
+import shutil
+import subprocess
+import sys
+import tempfile
+import unittest
+from dataclasses import replace
+
+TOOLS = os.path.dirname(os.path.abspath(__file__))
+sys.path.insert(0, os.path.join(TOOLS, "sfi_cc"))
+
+import softfloat
+from sources import GCC_SOURCE
+
+SFI_CC = os.path.join(TOOLS, "sfi-cc")
+SFI = os.environ.get("SFI", os.path.join(os.path.dirname(TOOLS), "crates", "sfi", "out", "sfi"))
+GCC = "riscv64-unknown-elf-gcc"
+SOURCES = GCC_SOURCE.where()
+
+# The sum of bits that the IEEE 754 formats fix: 3.5 * 2, 1/3 in 32 and 64 bits, (3+4i)/(1-2i) = -1+2i, 1.5 ** 5.
+PROGRAM = """
+volatile double seven = 3.5, third = 3;
+volatile float single = 3;
+volatile _Complex double quotient = 3 + 4i;
+volatile long double wide = 10;
+int main(void) {
+    union { double value; unsigned long long bits; } d = { 1 / third };
+    union { float value; unsigned bits; } f = { 1 / single };
+    _Complex double q = quotient / (1 - 2i);
+    volatile double power = 1.5;
+    if ((int)(seven * 2) != 7 || d.bits != 0x3fd5555555555555 || f.bits != 0x3eaaaaab)
+        return 1;
+    if (__real__ q != -1 || __imag__ q != 2 || __builtin_powi(power, CONSTANT) != 7.59375)
+        return 2;
+    return wide / 4 == 2.5 && (unsigned long long)(wide * 1e10) == 100000000000 ? 42 : 3;
+}
+"""
+
+
+class Floats(unittest.TestCase):
+    def setUp(self):
+        room = tempfile.TemporaryDirectory()
+        self.addCleanup(room.cleanup)
+        self.folder = room.name
+        self.file = os.path.join(self.folder, "floats.c")
+        with open(self.file, "w", encoding="utf-8") as file:
+            file.write(PROGRAM.replace("CONSTANT", "third > 1 ? 5 : 4"))
+
+    def started(self, *words, **variables):
+        return subprocess.Popen([SFI_CC, "-w", "--program", SFI, *words, self.file], stdout=subprocess.PIPE,
+                                stderr=subprocess.PIPE, env={**os.environ, **variables})
+
+    def answer(self, process):
+        image, told = process.communicate()
+        self.assertEqual(told.decode(), "")
+        return subprocess.run([SFI, "run", "--quantum", "100000"], input=image, capture_output=True, check=True).stdout
+
+    @unittest.skipUnless(SOURCES and os.path.exists(SFI), "GCC's sources or the program isn't there")
+    def test_answers(self):
+        for compiler in filter(shutil.which, (GCC, "clang")):
+            for level in ("-O0", "-O2"):
+                self.assertIn(b"exit=42 ", self.answer(self.started("--cc", compiler, level)))
+
+    @unittest.skipUnless(SOURCES and os.path.exists(SFI) and shutil.which(GCC), "a compiler or the sources aren't there")
+    def test_two_at_once(self):
+        """Both make the functions, one folder stays, and nothing of the other."""
+        home = os.path.join(self.folder, "home")
+        for process in [self.started("--cc", GCC, XDG_CACHE_HOME=home) for _ in range(2)]:
+            self.assertIn(b"exit=42 ", self.answer(process))
+        self.assertEqual(sorted(name.rsplit("-", 1)[0] for name in os.listdir(os.path.join(home, "sfi-cc"))),
+                         sorted({"softfloat"} | ({GCC_SOURCE.name} if os.path.isfile(SOURCES) else set())))
+        names = [os.path.basename(path) for path in glob.glob(os.path.join(home, "sfi-cc", "softfloat-*", "*"))]
+        self.assertTrue({"muldf3.asm", "divtc3.asm", "fixunssfdi.asm"} <= set(names))
+        self.assertEqual([name for name in names if not name.endswith(".asm")], [])
+
+    @unittest.skipUnless(shutil.which(GCC), f"{GCC} isn't there")
+    def test_sources_that_are_not_there(self):
+        lines = self.started("--cc", GCC, GCC_SOURCE="/nowhere").communicate()[1].decode().splitlines()
+        self.assertEqual(lines, ["sfi-cc: /nowhere, which GCC_SOURCE names, isn't there"])
+
+    def test_what_to_install(self):
+        self.assertEqual(replace(GCC_SOURCE, archives="/nothing/*").where(), None)
+        self.assertIn("gcc-12-source", GCC_SOURCE.wanted())
+
+    def test_what_speaks_of_floats(self):
+        for text, wanted in (("\tcall\t__muldf3\n", True), ("\ttail\t__floatundisf\n", True), ("\tcall\t__divdc3\n", True),
+                             ("\tcall\t__udivdi3\n\tcall\t__popcountsi2\n", False), ("\tcall\tmuldf3\n", False)):
+            with open(self.file, "w", encoding="utf-8") as file:
+                file.write(text)
+            self.assertEqual(softfloat.speaks_of_floats([self.file]), wanted, text)
+
+    def test_every_function(self):
+        """libgcc's own list for a machine of 32 bits without floating point: 57 of soft-fp, and those of libgcc2."""
+        arithmetic = [f"{name}{mode}f3" for name in ("add", "sub", "mul", "div") for mode in "sdt"]
+        others = [f"{name}{mode}f2" for name in ("neg", "eq", "ge", "le", "unord") for mode in "sdt"]
+        numbers = [f"fix{uns}{mode}f{i}i" for uns in ("", "uns") for mode in "sdt" for i in "sd"]
+        numbers += [f"float{un}{i}i{mode}f" for un in ("", "un") for mode in "sdt" for i in "sd"]
+        names = arithmetic + others + numbers + ["extendsfdf2", "extendsftf2", "extenddftf2", "truncdfsf2", "trunctfsf2",
+                                                 "trunctfdf2"]
+        self.assertEqual(len(names), 57)
+        self.assertEqual([name for name in names if not softfloat.SOFT_FP.fullmatch(name)], [])
+        self.assertEqual([name for name in ("fixdfti", "extendhfsf2", "floattidf", "addxf3")
+                          if softfloat.SOFT_FP.fullmatch(name)], [])
+
+
+if __name__ == "__main__":
+    unittest.main()
