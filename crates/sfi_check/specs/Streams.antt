@@ -62,7 +62,7 @@ pub record IsVerdictOn (bytes : List ℕ) (ends : Bool) (answer : StreamAnswer) 
       → answer ≡ answers.Accepted (length ps) (bundle_count ps)
 
 -- The findings that were handed over on the way to the answer: all of the bytes where there are
--- any, and none where the bytes are accepted. With another answer they are those of a beginning.
+-- any, and none where the bytes are accepted. With another answer nothing is said of them.
 pub record AreHandedOver (bytes : List ℕ) (found : List Finding) (answer : StreamAnswer) : Type 0 where
   pub findings : IfFindings (λ count first. HasFindings bytes found) answer
   pub accepted : IfAccepted (λ sandboxes bundles. found ≡ []) answer

@@ -145,8 +145,8 @@ fn read_more<S: ByteSource>(
 
 /// Accepts the bytes of the stream, or says why not, and hands the findings to the sink on the way,
 /// by sandbox and then by address. It takes no memory, and reads at most 4096 bytes at a time, to a
-/// fault of the layout or to the end. Of bytes that it finds to be no image, or after a read that
-/// failed, the sink has the findings so far.
+/// fault of the layout or to the end (tested). Where the bytes are no image, or a read fails, nothing
+/// is said of what the sink was handed.
 pub fn check_stream_into<S: ByteSource, F: FindingSink>(
     source: &mut S,
     sink: &mut F,
@@ -193,7 +193,7 @@ pub fn check_stream_into<S: ByteSource, F: FindingSink>(
 }
 
 /// Accepts the bytes of the stream, or says why not. It takes no memory, and reads at most 4096
-/// bytes at a time, to a fault of the layout or to the end.
+/// bytes at a time, to a fault of the layout or to the end (tested).
 pub fn check_stream<S: ByteSource>(source: &mut S) -> StreamAnswer
     requires { S.has_failed source.old ≡ false }
     ensures judged { (bytes : List ℕ) × (ends : Bool)
