@@ -13,15 +13,26 @@ ghost use Rattle.sfi_command.specs.private.Places.{ArePlacesFault};
 ghost use Rattle.sfi_command.specs.Numbers.{number_of};
 
 use crate::commands::{QUANTUM_MOST, ROUNDS_MOST, program};
+use crate::escaped::escaped;
 use crate::job::{Job, JobFault, usage_fault};
 use crate::places::parse_places;
 use clap::error::ErrorKind;
 use clap::{ArgMatches, Error};
 use hex::FromHexError;
 use sfi_place::Place;
-use std::alloc::Global;
+use std::alloc::{AllocError, Global};
 
-const RAW_REPORT: &str = "error: '--raw' and '--report' cannot be used together\n";
+const RAW_REPORT: &str = "\
+error: '--raw' and '--report' cannot be used together
+
+For more information, try '--help'.
+";
+
+// The error's text, which may cite a word as it was given.
+fn shown(alloc: Global, error: &Error) -> Result<String, AllocError> {
+    let text = error.to_string(alloc)?;
+    escaped(alloc, text.as_str())
+}
 
 /// What is printed for words that don't parse, or ask for help or the version.
 fn usage(alloc: Global, error: Error) -> JobFault
@@ -31,7 +42,7 @@ fn usage(alloc: Global, error: Error) -> JobFault
     if error.kind() == ErrorKind::OutOfMemory {
         return JobFault::Memory;
     }
-    match error.to_string(alloc) {
+    match shown(alloc, &error) {
         Ok(text) => JobFault::Usage(text),
         Err(_) => JobFault::Memory,
     }

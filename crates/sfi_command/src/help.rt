@@ -39,6 +39,9 @@ Reads an image, and prints one of
   refused findings=N first=Vk sandbox=S at=AAAAAAAA
   layout fault K Name, or another line that names a fault of the input
 
+An image's own bytes get `input fault hex ..` where --raw is missing; digits get
+`layout fault 1 Magic` where it is given.
+
 Exit status:
   0  accepted: C sandboxes with B bundles of code, and no finding
   1  refused: N findings, the first in sandbox S at address AAAAAAAA, where
@@ -111,7 +114,7 @@ pub(crate) const RUN_QUANTUM: &str = "Steps of a turn at most, from 1 to 1000000
 pub(crate) const RUN_INPUT: &str = "What each sandbox reads, as hexadecimal digits";
 
 pub(crate) const RUN_REPORT: &str =
-    "After these lines, print pc and registers of each sandbox that has not exited";
+    "After all lines on sandboxes, print pc and registers of each that has not exited";
 
 pub(crate) const RUN_NOTES: &str = "\
 Reads an image, and prints for each sandbox a line of its state (ready, an exit

@@ -3,6 +3,7 @@
 
 mod command_line;
 mod commands;
+mod escaped;
 mod help;
 mod job;
 mod places;

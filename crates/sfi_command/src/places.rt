@@ -12,7 +12,11 @@ use std::alloc::Global;
 // The most digits of an address.
 const ADDRESS_DIGITS: usize = 8;
 
-const NO_PLACE: &str = "error: '--at' wants CODE:DATA, two hexadecimal addresses\n";
+const NO_PLACE: &str = "\
+error: '--at' wants CODE:DATA, two hexadecimal addresses
+
+For more information, try '--help'.
+";
 
 /// The address that the text spells.
 fn parse_address(text: &str) -> Option<u32>

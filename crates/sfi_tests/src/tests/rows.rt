@@ -227,8 +227,7 @@ fn format_rows(rt: HostRuntime) -> Result<(), Fail> {
 
 #[test]
 fn needed_rows(rt: HostRuntime) -> Result<(), Fail> {
-    try_rows(&rt, rt.alloc(), needs::UNSAFE, 11)?;
-    try_rows(&rt, rt.alloc(), needs::SAFE, 10)
+    try_rows(&rt, rt.alloc(), needs::SAFE, 6)
 }
 
 #[test]
@@ -240,7 +239,7 @@ fn word_rows(rt: HostRuntime) -> Result<(), Fail> {
 
 #[test]
 fn help_rows(rt: HostRuntime) -> Result<(), Fail> {
-    try_rows(&rt, rt.alloc(), help::TEXTS, 4)?;
+    try_rows(&rt, rt.alloc(), help::TEXTS, 5)?;
     try_rows(&rt, rt.alloc(), help::HELP, 21)
 }
 
@@ -248,7 +247,7 @@ fn help_rows(rt: HostRuntime) -> Result<(), Fail> {
 fn text_rows(rt: HostRuntime) -> Result<(), Fail> {
     try_rows(&rt, rt.alloc(), examples::BUILDS, 7)?;
     try_rows(&rt, rt.alloc(), examples::TOUR, 10)?;
-    try_rows(&rt, rt.alloc(), refused::TEXTS, 24)?;
+    try_rows(&rt, rt.alloc(), refused::TEXTS, 13)?;
     try_rows(&rt, rt.alloc(), refused::DIRECTIVES, 13)
 }
 
@@ -263,7 +262,7 @@ fn report_rows(rt: HostRuntime) -> Result<(), Fail> {
 fn run_rows(rt: HostRuntime) -> Result<(), Fail> {
     try_rows(&rt, rt.alloc(), runs::RUNS, 14)?;
     try_rows(&rt, rt.alloc(), runs::STATES, 5)?;
-    try_rows(&rt, rt.alloc(), runs::NEIGHBOURS, 11)?;
+    try_rows(&rt, rt.alloc(), runs::NEIGHBOURS, 12)?;
     try_rows(&rt, rt.alloc(), runs::MAPS, 5)
 }
 

@@ -22,6 +22,16 @@ $ sfi frob
 > For more information, try '--help'.
 status 3
 
+= a control character is printed as an escape
+source
+$ sfi fr\u{1b}[7mob
+> error: unrecognized subcommand 'fr\\u{1b}[7mob'
+>
+> Usage: sfi <COMMAND>
+>
+> For more information, try '--help'.
+status 3
+
 = the version
 source
 $ sfi --version

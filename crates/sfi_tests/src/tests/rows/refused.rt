@@ -1,6 +1,6 @@
 //! Texts that can't be built, and the fault of each.
 
-/// Each with and without a line feed at its end.
+/// Each ends in a line feed.
 pub(super) const TEXTS: &str = "
 = a reserved register
 source
@@ -10,26 +10,10 @@ $ sfi build
 > rewrite fault 1 ReservedRegister line 2
 status 2
 
-= a reserved register, with no line feed at the end
-source
-| .sandbox 256
-+ 1 mv t6, a0
-$ sfi build
-> rewrite fault 1 ReservedRegister line 2
-status 2
-
 = ecall
 source
 | .sandbox 256
 | ecall
-$ sfi build
-> rewrite fault 2 Ecall line 2
-status 2
-
-= ecall, with no line feed at the end
-source
-| .sandbox 256
-+ 1 ecall
 $ sfi build
 > rewrite fault 2 Ecall line 2
 status 2
@@ -43,15 +27,6 @@ $ sfi build
 > rewrite fault 5 StackWrite line 3
 status 2
 
-= a stack pointer that is loaded, with no line feed at the end
-source
-| .format 2
-| .sandbox 256
-+ 1 lw sp, 0(a0)
-$ sfi build
-> rewrite fault 5 StackWrite line 3
-status 2
-
 = no mark between operands
 source
 | .sandbox 256
@@ -60,24 +35,9 @@ $ sfi build
 > source fault 4 Operands line 2
 status 2
 
-= no mark between operands, with no line feed at the end
-source
-| .sandbox 256
-+ 1 li a0 5
-$ sfi build
-> source fault 4 Operands line 2
-status 2
-
 = no format
 source
 | .format 3
-$ sfi build
-> source fault 3 Number line 1
-status 2
-
-= no format, with no line feed at the end
-source
-+ 1 .format 3
 $ sfi build
 > source fault 3 Number line 1
 status 2
@@ -90,26 +50,10 @@ $ sfi build
 > source fault 3 Number line 2
 status 2
 
-= a load too far ahead, with no line feed at the end
-source
-| .sandbox 256
-+ 1 lw a0, 2048(a1)
-$ sfi build
-> source fault 3 Number line 2
-status 2
-
 = a load too far back
 source
 | .sandbox 256
 | lw a0, -2049(a1)
-$ sfi build
-> source fault 3 Number line 2
-status 2
-
-= a load too far back, with no line feed at the end
-source
-| .sandbox 256
-+ 1 lw a0, -2049(a1)
 $ sfi build
 > source fault 3 Number line 2
 status 2
@@ -122,26 +66,10 @@ $ sfi build
 > source fault 3 Number line 2
 status 2
 
-= a store too far ahead, with no line feed at the end
-source
-| .sandbox 256
-+ 1 sw a0, 2048(a1)
-$ sfi build
-> source fault 3 Number line 2
-status 2
-
 = a store too far back
 source
 | .sandbox 256
 | sw a0, -2049(a1)
-$ sfi build
-> source fault 3 Number line 2
-status 2
-
-= a store too far back, with no line feed at the end
-source
-| .sandbox 256
-+ 1 sw a0, -2049(a1)
 $ sfi build
 > source fault 3 Number line 2
 status 2
@@ -154,30 +82,12 @@ $ sfi build
 > link fault 1 UnknownName line 2
 status 2
 
-= a jump to an unknown name, with no line feed at the end
-source
-| .sandbox 256
-+ 1 j away
-$ sfi build
-> link fault 1 UnknownName line 2
-status 2
-
 = a jump to data
 source
 | .sandbox 256
 | j there
 | .data
 | there: .byte 1
-$ sfi build
-> link fault 1 UnknownName line 2
-status 2
-
-= a jump to data, with no line feed at the end
-source
-| .sandbox 256
-| j there
-| .data
-+ 1 there: .byte 1
 $ sfi build
 > link fault 1 UnknownName line 2
 status 2

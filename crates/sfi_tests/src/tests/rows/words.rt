@@ -49,7 +49,9 @@ status 3
 source
 $ sfi check --raw --report
 $ sfi check --report --raw
->.. error: '--raw' and '--report' cannot be used together
+> error: '--raw' and '--report' cannot be used together
+>
+> For more information, try '--help'.
 status 3
 
 = no place
@@ -65,6 +67,8 @@ $ sfi build --at 0x2050:80000000
 $ sfi build --at 20500000:80000000:1
 $ sfi build --at 1000:2000,3000:4000
 $ sfi map --at 20500000
->.. error: '--at' wants CODE:DATA, two hexadecimal addresses
+> error: '--at' wants CODE:DATA, two hexadecimal addresses
+>
+> For more information, try '--help'.
 status 3
 ";
