@@ -6,19 +6,6 @@ reserved="+reserve-x24,+reserve-x25,+reserve-x26,+reserve-x27,+reserve-x31"
 machine="-std=c11 -O2 -Wall -Wextra -Werror -march=rv32imc -mabi=ilp32 -fno-builtin -fno-jump-tables
     -ffunction-sections -fdata-sections -I include -I ."
 
-skip() { # what, why
-    skipped=$((skipped + 1))
-    echo "skipped: $1: $2"
-}
-
-compare() { # what is tried, what is wanted, what is found
-    if [ "$3" = "$2" ]; then
-        passed=$((passed + 1))
-    else
-        report "$@"
-    fi
-}
-
 compile_by_gcc() { # C file, assembly file
     riscv64-unknown-elf-gcc -S $machine $owns -o "$2" "$1"
 }
@@ -74,7 +61,7 @@ try_linking() { # compiler
     local names found
     names=$(sed -n 's/^[ \t]*\.weak[ \t]*\([a-z]*\).*/\1/p' "$room/$1"/library/*.asm)
     found=$(sed -n 's/^\([a-z]*\):$/\1/p' "$room/$1/base64.s" | grep -xF "$names" | sort | paste -sd' ')
-    compare "base64 by $1: functions of the library" "getchar putchar" "$found"
+    report "base64 by $1: functions of the library" "getchar putchar" "$found"
 }
 
 compile_into() { # folder, compiler, C files
@@ -103,7 +90,7 @@ try_pair() { # compiler, format
         python3 ../../tools/asm2sfi --format "$2" "$at/primes_take.asm" | grep -v '^\.format'
     } | "$sfi" build | tee "$room/$1-pair.$2" | "$sfi" run --rounds 100 --quantum 10000 | sed 's/ steps=[0-9]*//')
     check_image "$1-pair" "$2"
-    compare "two programs by $1, format $2" "$wanted" "$found"
+    report "two programs by $1, format $2" "$wanted" "$found"
 }
 
 try_format() { # compiler, format
@@ -136,7 +123,7 @@ native_programs() {
 missing() { # programs that are wanted
     local name
     for name in "$@"; do
-        command -v "$name" >"$room/which" || echo "$name isn't there"
+        has "$name" || echo "$name isn't there"
     done | head -n 1
 }
 
@@ -144,7 +131,7 @@ std_programs_as_natively() {
     local why
     why=$(missing gcc python3)
     if [ -n "$why" ]; then
-        skip "programs with standard headers" "$why"
+        skip 1 "programs with standard headers" "$why"
         return
     fi
     if ! native_programs 2>"$room/messages"; then
@@ -152,7 +139,7 @@ std_programs_as_natively() {
         return
     fi
     why=$(missing riscv64-unknown-elf-gcc)
-    if [ -n "$why" ]; then skip "std by gcc" "$why"; else try_compiler gcc; fi
+    if [ -n "$why" ]; then skip 1 "std by gcc" "$why"; else try_compiler gcc; fi
     why=$(missing clang llc)
-    if [ -n "$why" ]; then skip "std by clang" "$why"; else try_compiler clang; fi
+    if [ -n "$why" ]; then skip 1 "std by clang" "$why"; else try_compiler clang; fi
 }

@@ -9,17 +9,8 @@ unset CDPATH
 here=$(cd "$(dirname "${BASH_SOURCE[0]}")" && pwd)
 sfi=$(realpath "${1:-$here/../../sfi}")
 cd "$here" || exit 1
-room=$(mktemp -d)
-trap 'rm -rf "$room"' EXIT
-passed=0
-failed=0
-skipped=0
+source ../harness.sh
 source ./std.sh
-
-report() { # what failed, and what was wanted and found
-    failed=$((failed + 1))
-    printf 'FAILED %s\n  wanted %s\n  found  %s\n' "$1" "${2:0:500}" "${3:0:500}"
-}
 
 make_image() { # program, format
     grep -v '^\.format' "$1.s" | sed "1i .format $2" | "$sfi" build >"$room/$1.$2"
@@ -28,33 +19,21 @@ make_image() { # program, format
 check_image() { # program, format
     local verdict
     verdict=$("$sfi" check <"$room/$1.$2")
-    case $verdict in
-    accepted*) passed=$((passed + 1)) ;;
-    *) report "$1, format $2: check" accepted "$verdict" ;;
-    esac
+    report "$1, format $2: check" accepted "${verdict%% *}"
 }
 
 run_case() { # program, format, input file, what is wanted
     local found
     found=$("$sfi" run --rounds 10000 --quantum 1000000 --input "$(od -An -v -tx1 "$3" | tr -d ' \n')" <"$room/$1.$2")
-    if [ "$(sed 's/^sandbox=0 //; s/ steps=[0-9]*//' <<<"$found")" = "$4" ]; then
-        passed=$((passed + 1))
-    else
-        report "$1, format $2, $3" "$4" "$found"
-    fi
+    report "$1, format $2, $3" "$4" "$(sed 's/^sandbox=0 //; s/ steps=[0-9]*//' <<<"$found")"
 }
 
 headers_in_cpp() {
-    local header found
+    local header
     for header in gates.h numbers.h; do
-        if ! command -v g++ >"$room/which"; then
-            skipped=$((skipped + 1))
-            echo "skipped: $header in C++: g++ isn't there"
-        elif found=$(g++ -std=c++98 -Wall -Wextra -Werror -Wno-long-long -x c++ -fsyntax-only "$header" 2>&1); then
-            passed=$((passed + 1))
-        else
-            report "$header in C++" "no message" "$found"
-        fi
+        has g++ || { skip 1 "$header in C++" "g++ isn't there" && continue; }
+        g++ -std=c++98 -Wall -Wextra -Werror -Wno-long-long -x c++ -fsyntax-only "$header" >"$room/messages" 2>&1
+        report_as $? "$header in C++" "no message" "$(cat "$room/messages")"
     done
 }
 
@@ -72,9 +51,4 @@ for format in 1 2; do
 done
 headers_in_cpp
 std_programs_as_natively
-if [ "$skipped" = 0 ]; then
-    echo "$passed passed, $failed failed"
-else
-    echo "$passed passed, $failed failed, $skipped skipped"
-fi
-[ "$failed" = 0 ]
+finish

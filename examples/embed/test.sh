@@ -10,43 +10,13 @@ here=$(cd "$(dirname "${BASH_SOURCE[0]}")" && pwd)
 top=$(cd "$here/../.." && pwd)
 # The most bytes of code and constants that the checker may add to a program.
 most=40960
-room=$(mktemp -d)
-trap 'rm -rf "$room"' EXIT
-passed=0
-failed=0
-skipped=0
-
-report() { # whether it passed, its name, what was wanted, what was found
-    if [ "$1" = 0 ]; then
-        passed=$((passed + 1))
-    else
-        failed=$((failed + 1))
-        printf 'FAILED %s\n  wanted %s\n  found  %s\n' "$2" "$3" "$4"
-    fi
-}
-
-skip() { # how many tests, which, and why
-    skipped=$((skipped + $1))
-    echo "skipped: $2"
-}
-
-finish() {
-    if [ "$skipped" = 0 ]; then
-        echo "$passed passed, $failed failed"
-    else
-        echo "$passed passed, $failed failed, $skipped skipped"
-    fi
-    [ "$failed" = 0 ]
-    exit
-}
-
-has() { command -v "$1" >"$room/which" 2>&1; }
+source "$here/../harness.sh"
 
 compile() { # a program's name, and the command line that builds it
     local name=$1
     shift
     "$@" >"$room/log" 2>&1
-    report $? "$name is built" "$*" "$(cat "$room/log")"
+    report_as $? "$name is built" "$*" "$(cat "$room/log")"
 }
 
 # ---- images, by hand: the smallest one is 64 times ebreak in one sandbox at 01000000
@@ -102,7 +72,7 @@ run_cases() { # a host's name, and its command line
         found=$("$@" "$capacity" <"$room/$image.image" 2>&1)
         found="$?|$(tr '\n' ';' <<<"$found" | sed 's/;$//')"
         [ "$found" = "$status|$lines" ]
-        report $? "$name on $image with room for $capacity" "$status|$lines" "$found"
+        report_as $? "$name on $image with room for $capacity" "$status|$lines" "$found"
     done
 }
 
@@ -118,7 +88,7 @@ run_pieces() { # a host's name, and its command line: whatever the size of the p
             found=$("$@" "$size" <"$room/$image.image" 2>&1)
             found="$?|$found"
             [ "$found" = "$status|${lines##*;}" ]
-            report $? "$name on $image, $size bytes at a time" "$status|${lines##*;}" "$found"
+            report_as $? "$name on $image, $size bytes at a time" "$status|${lines##*;}" "$found"
         done
     done
 }
@@ -141,7 +111,7 @@ run_tellings() { # a host's name, and its command line
         found=$("$@" <"$room/$image.image" 2>&1)
         found="$?|${found//$'\n'/;}"
         [ "$found" = "$status|$lines" ]
-        report $? "$name tells of $image" "$status|$lines" "$found"
+        report_as $? "$name tells of $image" "$status|$lines" "$found"
     done
 }
 images=$(printf '%s\n' "${cases[@]%%|*}" | uniq | wc -l)
@@ -166,7 +136,7 @@ run_verdicts() { # the name of a program that is given the fields
     for one in "${verdicts[@]}"; do
         IFS='|' read -r image fields <<<"$one"
         found=$("$room/$name" $fields <"$room/$image.image" 2>&1)
-        report $? "$name.c on $image" "$name: passed" "$found"
+        report_as $? "$name.c on $image" "$name: passed" "$found"
     done
 }
 run_valgrind() { # the names of a program and of an image
@@ -174,19 +144,19 @@ run_valgrind() { # the names of a program and of an image
     for one in "${verdicts[@]}"; do
         [ "${one%%|*}" = "$image" ] || continue
         found=$(valgrind -q --error-exitcode=9 --leak-check=full "$room/$name" ${one#*|} <"$room/$image.image" 2>&1)
-        report $? "$name.c under valgrind on $image" "$name: passed" "$found"
+        report_as $? "$name.c under valgrind on $image" "$name: passed" "$found"
     done
 }
 
 # ---- the library
 if ! has gcc; then
-    skip 1 "all hosts: gcc isn't there"
+    skip 1 "all hosts" "gcc isn't there"
     finish
 fi
 if [ -z "$library" ]; then
     library=$top/crates/sfi_c/out/libsfi_c.a
     (cd "$top/crates/sfi_c" && rt lib) >"$room/log" 2>&1
-    report $? "the library is built" "$library" "$(tail -n 3 "$room/log")"
+    report_as $? "the library is built" "$library" "$(tail -n 3 "$room/log")"
 fi
 if [ ! -f "$library" ]; then
     echo "there is no library $library"
@@ -201,19 +171,19 @@ for word in -1 "" 2x 8388609 99999999999999999999; do
     "$room/host" "$word" <"$room/three.image" >"$room/said"
     found=$?
     [ "$found" = 6 ] && [ ! -s "$room/said" ]
-    report $? "host.c with room for '$word'" "6, and nothing printed" "$found, $(cat "$room/said")"
+    report_as $? "host.c with room for '$word'" "6, and nothing printed" "$found, $(cat "$room/said")"
 done
 "$room/host" <&- >"$room/said"
 found=$?
 [ "$found" = 5 ] && [ ! -s "$room/said" ]
-report $? "host.c without an image" "5, and nothing printed" "$found, $(cat "$room/said")"
+report_as $? "host.c without an image" "5, and nothing printed" "$found, $(cat "$room/said")"
 compile feed.c gcc -std=c99 "${warnings[@]}" "$here/feed.c" "$library" -o "$room/feed"
 run_pieces feed.c "$room/feed"
 for word in 0 -1 "" 2x 65537; do
     "$room/feed" "$word" <"$room/three.image" >"$room/said"
     found=$?
     [ "$found" = 6 ] && [ ! -s "$room/said" ]
-    report $? "feed.c with pieces of '$word'" "6, and nothing printed" "$found, $(cat "$room/said")"
+    report_as $? "feed.c with pieces of '$word'" "6, and nothing printed" "$found, $(cat "$room/said")"
 done
 compile parts.c gcc -std=c99 "${warnings[@]}" "$here/parts.c" "$library" -o "$room/parts"
 run_tellings parts.c "$room/parts"
@@ -221,18 +191,18 @@ version() { sed -n "s/.*$1.*\"\([0-9.]*\)\".*/\1/p" "$2"; }
 wanted=$(version "const VERSION" "$top/crates/sfi_command/src/help.rt")
 found=$(version "define SFI_VERSION" "$top/crates/sfi_c/include/sfi.h")
 [ -n "$wanted" ] && [ "$found" = "$wanted" ]
-report $? "the header's version" "$wanted" "$found"
+report_as $? "the header's version" "$wanted" "$found"
 # no allocator is linked: of C the library asks for no more than what a compiler copies and fills memory by
 found=$(nm -u "$library" 2>"$room/log" | awk 'NF == 2 { print $2 }' | sort -u | tr '\n' ' ')
 [ -n "$found" ] && ! grep -qvxE 'memcpy|memmove|memset' < <(tr ' ' '\n' <<<"${found% }")
-report $? "what the library asks for" "no more than memcpy, memmove and memset" "$found$(cat "$room/log")"
+report_as $? "what the library asks for" "no more than memcpy, memmove and memset" "$found$(cat "$room/log")"
 
 # the host in README.md
 sed -n '/^## Embedding/,/^## Rules/p' "$top/README.md" | sed -n '/^```c$/,/^```$/p' | sed '/^```/d' >"$room/readme.c"
 compile "the host of README.md" gcc "${warnings[@]}" "$room/readme.c" "$library" -o "$room/readme"
 found=$("$room/readme" <"$room/first_format.image"; echo "$?"; "$room/readme" <"$room/three.image"; echo "$?")
 [ "$found" = $'accepted sandboxes=1 bundles=16\n0\n1' ]
-report $? "the host of README.md" "a line and 0, and then 1" "$found"
+report_as $? "the host of README.md" "a line and 0, and then 1" "$found"
 compile edges.c gcc -std=c11 "${warnings[@]}" "$here/edges.c" "$library" -o "$room/edges"
 run_verdicts edges
 compile pieces.c gcc -std=c11 "${warnings[@]}" "$here/pieces.c" "$library" -o "$room/pieces"
@@ -249,12 +219,12 @@ run_many 3 first_format three cut none second_format
 wanted="0|accepted sandboxes=1 bundles=16|first_format.image;1|refused findings=3 first=V5 sandbox=0 at=01000000|three.image;"
 wanted+="2|layout fault 3 Short|cut.image;5||none.image;0|accepted sandboxes=1 bundles=16|second_format.image;1"
 [ "$found" = "$wanted" ]
-report $? "many.c on five names" "$wanted" "$found"
+report_as $? "many.c on five names" "$wanted" "$found"
 for one in "1 0" "1024 0" "0 6" "1025 6" "2x 6"; do
     read -r words wanted <<<"$one"
     run_many "$words"
     [ "$found" = "$wanted" ]
-    report $? "many.c with $words threads, and no names" "$wanted" "$found"
+    report_as $? "many.c with $words threads, and no names" "$wanted" "$found"
 done
 
 if has valgrind; then
@@ -262,13 +232,13 @@ if has valgrind; then
     run_valgrind edges two
     run_valgrind pieces three
 else
-    skip 3 "edges.c and pieces.c under valgrind: valgrind isn't there"
+    skip 3 "edges.c and pieces.c under valgrind" "valgrind isn't there"
 fi
 if has g++; then
     compile "the header in C++98" g++ -std=c++98 "${warnings[@]}" -x c++ -fsyntax-only "$top/crates/sfi_c/include/sfi.h"
     compile "the header in C++17" g++ -std=c++17 "${warnings[@]}" -x c++ -fsyntax-only "$top/crates/sfi_c/include/sfi.h"
 else
-    skip 2 "the header in C++: g++ isn't there"
+    skip 2 "the header in C++" "g++ isn't there"
 fi
 
 # ---- its size: that of the shared library less that of one without it
@@ -277,7 +247,7 @@ compile "a shared library without it" gcc -shared -o "$room/libnone.so" -x c /de
 total() { size "$1" | awk 'NR == 2 { print $1 + $2 + $3 }'; }
 added=$(($(total "$room/libsfi.so") - $(total "$room/libnone.so")))
 [ "$added" -gt 0 ] && [ "$added" -le "$most" ]
-report $? "the size of the library" "at most $most bytes" "$added bytes"
+report_as $? "the size of the library" "at most $most bytes" "$added bytes"
 
 # ---- Python and Rust
 if has python3; then
@@ -285,7 +255,7 @@ if has python3; then
     run_pieces host.py python3 "$here/host.py" "$room/libsfi.so" 0
     run_tellings host.py python3 "$here/host.py" "$room/libsfi.so" parts
 else
-    skip $((${#cases[@]} + images * ${#pieces[@]} + ${#tellings[@]})) "host.py: python3 isn't there"
+    skip $((${#cases[@]} + images * ${#pieces[@]} + ${#tellings[@]})) "host.py" "python3 isn't there"
 fi
 if has rustc; then
     compile host.rs rustc --edition 2021 -O -D warnings -o "$room/host_rs" "$here/host.rs" -C link-arg="$library"
@@ -293,7 +263,7 @@ if has rustc; then
     run_pieces host.rs "$room/host_rs" 0
     run_tellings host.rs "$room/host_rs" parts
 else
-    skip $((1 + ${#cases[@]} + images * ${#pieces[@]} + ${#tellings[@]})) "host.rs: rustc isn't there"
+    skip $((1 + ${#cases[@]} + images * ${#pieces[@]} + ${#tellings[@]})) "host.rs" "rustc isn't there"
 fi
 
 # ---- aarch64 and WebAssembly: what tools/build_library.py builds beside the library of x86-64
@@ -302,11 +272,11 @@ module=$(dirname "$library")/wasm64-unknown-unknown/sfi.wasm
 not_built="isn't there: tools/build_library.py builds it"
 on_arm=$((3 + ${#cases[@]} + images * ${#pieces[@]} + ${#tellings[@]}))
 if [ ! -f "$arm" ]; then
-    skip "$on_arm" "host.c, feed.c and parts.c on aarch64: $arm $not_built"
+    skip "$on_arm" "host.c, feed.c and parts.c on aarch64" "$arm $not_built"
 elif ! has aarch64-linux-gnu-gcc; then
-    skip "$on_arm" "host.c, feed.c and parts.c on aarch64: aarch64-linux-gnu-gcc isn't there"
+    skip "$on_arm" "host.c, feed.c and parts.c on aarch64" "aarch64-linux-gnu-gcc isn't there"
 elif ! has qemu-aarch64; then
-    skip "$on_arm" "host.c, feed.c and parts.c on aarch64: qemu-aarch64 isn't there"
+    skip "$on_arm" "host.c, feed.c and parts.c on aarch64" "qemu-aarch64 isn't there"
 else
     compile "host.c for aarch64" aarch64-linux-gnu-gcc -static -std=c99 "${warnings[@]}" "$here/host.c" "$arm" -o "$room/host_arm"
     run_cases "host.c on aarch64" qemu-aarch64 "$room/host_arm"
@@ -321,11 +291,11 @@ if has node && node --experimental-wasm-memory64 -e 0 >"$room/log" 2>&1; then
     memory64=(--experimental-wasm-memory64) # later versions of node have it without
 fi
 if [ ! -f "$module" ]; then
-    skip "$in_node" "host.mjs: $module $not_built"
+    skip "$in_node" "host.mjs" "$module $not_built"
 elif ! has node; then
-    skip "$in_node" "host.mjs: node isn't there"
+    skip "$in_node" "host.mjs" "node isn't there"
 elif ! node "${memory64[@]}" -e 'process.exit(WebAssembly.validate(new Uint8Array(Buffer.from("0061736d010000000503010401", "hex"))) ? 0 : 1)'; then
-    skip "$in_node" "host.mjs: this node has no memory of 64 bits"
+    skip "$in_node" "host.mjs" "this node has no memory of 64 bits"
 else
     run_cases host.mjs node "${memory64[@]}" --no-warnings "$here/host.mjs" "$module"
     run_pieces host.mjs node "${memory64[@]}" --no-warnings "$here/host.mjs" "$module" 0
