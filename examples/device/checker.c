@@ -1,15 +1,22 @@
 /* The proved checker in the loader: the library of crates/sfi_c as a WebAssembly module, which
-   checker.sh turned into C, and the few functions that such C asks for. For the module its memory
-   reaches from checker_memory to the image's end: it reads the image where load() takes it from. */
+   checker.sh turned into C, and the few functions that such C asks for. It reads the image where
+   load() takes it from, and may access nothing but that and checker_memory (reach.h). */
 #include "checker.h"
 
 #include "host.h"
+#include "reach.h"
 #include "sfi_wasm.h"
 
 struct checker_memory checker_memory __attribute__((aligned(16)));
 static Z_sfi_instance_t module;
+struct reach image_reach;
 
 /* ---- For the C that wasm2c made */
+
+/* Addresses of the module wrap in 32 bits, as those of the processor do. */
+static uint32_t in_module(const void *place) {
+    return (uint32_t)place - (uint32_t)&checker_memory + (LINKED_STACK - MODULE_STACK);
+}
 
 void wasm_rt_trap(wasm_rt_trap_t cause) {
     (void)cause;
@@ -18,8 +25,8 @@ void wasm_rt_trap(wasm_rt_trap_t cause) {
 
 void wasm_rt_allocate_memory(wasm_rt_memory_t *memory, uint32_t pages, uint32_t most) {
     (void)pages, (void)most; /* nothing grows it */
-    memory->data = checker_memory.stack;
-    memory->size = offsetof(struct checker_memory, stream);
+    memory->data = (uint8_t *)((uintptr_t)&checker_memory - (LINKED_STACK - MODULE_STACK));
+    memory->size = UINT32_MAX; /* module_reaches decides */
 }
 
 void wasm_rt_free_memory(wasm_rt_memory_t *memory) {
@@ -42,10 +49,6 @@ void *memmove(void *to, const void *from, size_t length) {
 }
 
 /* ---- For the loader */
-
-static uint32_t in_module(const void *place) {
-    return (uint32_t)place - (uint32_t)&checker_memory;
-}
 
 static const char *name_of_fault(uint32_t fault) {
     static const char *const names[] = {
@@ -80,11 +83,12 @@ _Noreturn static void refuse_image(const struct sfi_verdict *verdict) {
 void check_image(const uint8_t *image, uint32_t length) {
     struct sfi_verdict *verdict = &checker_memory.verdict;
     uint32_t stream = in_module(&checker_memory.stream);
+    memset(checker_memory.data, 0, sizeof checker_memory - MODULE_STACK);
+    image_reach = (struct reach){in_module(image), length};
     Z_sfi_init_module();
     Z_sfi_instantiate(&module);
     if (*Z_sfiZ___heap_base(&module) > stream)
         refuse("there is no room for the checker");
-    Z_sfiZ_memory(&module)->size = in_module(image) + (uint64_t)length;
     /* Not sfi_c_check, whose code for vectors is five times as long, and slower where there are none. */
     Z_sfiZ_sfi_c_begin(&module, stream);
     Z_sfiZ_sfi_c_feed(&module, stream, in_module(image), length);
@@ -94,7 +98,8 @@ void check_image(const uint8_t *image, uint32_t length) {
 
 static void tell_gates(const uint8_t *image, uint32_t length, uint32_t number, struct part *part) {
     const struct sfi_gate *told = checker_memory.gates;
-    if (Z_sfiZ_sfi_c_gates(&module, in_module(image), length, number, in_module(told), MODULE_GATES) != SFI_FOUND)
+    if (Z_sfiZ_sfi_c_gates(&module, in_module(image), length, number, in_module(told),
+                           MODULE_GATES) != SFI_FOUND)
         refuse("the checker tells of no such sandbox"); /* never where it has told of it */
     for (uint32_t index = 0; index < part->gate_count; index++)
         part->gates[index] = (struct gate){told[index].address, told[index].service};

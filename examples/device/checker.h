@@ -7,7 +7,8 @@
 #include "sfi.h"
 
 enum {
-    MODULE_STACK = 65536,       /* checker.sh gives this number to the linker */
+    LINKED_STACK = 65536,       /* checker.sh gives this number to the linker: the least that it takes */
+    MODULE_STACK = 4096,        /* as much of it is there: the last addresses */
     MODULE_DATA = 4096,         /* at least the module's constants */
     MODULE_GATES = 64           /* no sandbox has more */
 };
@@ -19,7 +20,7 @@ struct module_part {
 };
 _Static_assert(sizeof(struct module_part) == 48, "struct sfi_part of the module");
 
-/* The module's own memory, from its address 0 on. */
+/* The module's own memory, from its address LINKED_STACK - MODULE_STACK on. */
 struct checker_memory {
     uint8_t stack[MODULE_STACK], data[MODULE_DATA];
     struct sfi_stream stream;

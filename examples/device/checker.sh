@@ -36,11 +36,15 @@ library=$(realpath "$1")
 mkdir -p "$2"
 cd "$2"
 
-# 65536 is the least stack that the linker takes: MODULE_STACK of checker.h.
+# 65536 is the least stack that the linker takes: LINKED_STACK of checker.h.
 "$toolchain/bin/rattle-link" --target wasm64-unknown-unknown --toolchain "$toolchain/toolchain" \
     --stack 65536 -o sfi64.wasm "$library" 2>link.log || { cat link.log >&2 && exit 1; }
 wasm-opt --all-features --memory64-lowering sfi64.wasm -o sfi32.wasm
 wasm2c sfi32.wasm -n sfi -o sfi_wasm.c
+# wasm2c tests each access against the memory's end alone; reach.h says where the module may go.
+grep -q '^  if (UNLIKELY(offset + (uint64_t)len > mem->size))' sfi_wasm.c ||
+    fail "sfi_wasm.c has no such test of an access as it had"
+sed -i 's/(offset + (uint64_t)len > mem->size)/(!module_reaches(offset, len))/' sfi_wasm.c
 
 # What wasm2c wrote wants headers of C: they are picolibc's. Nothing of a C library is linked.
 cp /usr/include/wasm-rt.h .
@@ -50,8 +54,8 @@ flags+=(-ffreestanding -fno-builtin -ffunction-sections -fdata-sections -DNDEBUG
 flags+=(-I. -I"$here/../../crates/sfi_c/include")
 # shellcheck disable=SC2206 # words
 flags+=(${CHECKER_FLAGS:-})
-warned=(-Wall -Wextra -Werror -I"$here")
-"$riscv" "${flags[@]}" -w -c -o sfi_wasm.o sfi_wasm.c
+warned=(-Wall -Wextra -Wconversion -Wshadow -Wmissing-prototypes -Werror -I"$here")
+"$riscv" "${flags[@]}" -w -I"$here" -include reach.h -c -o sfi_wasm.o sfi_wasm.c
 "$riscv" "${flags[@]}" "${warned[@]}" -c -o judge.o "$here/checker.c"
 "$riscv" "${flags[@]}" "${warned[@]}" -c -o measure.o "$here/measure.c"
 "$riscv" "${machine[@]}" -nostdlib -r -Wl,--gc-sections,-echeck_image,-utell_part -o checker.o judge.o sfi_wasm.o -lgcc

@@ -12,9 +12,14 @@ void print_hex(uint32_t number, unsigned digits) {
 }
 
 void print_decimal(uint64_t number) {
-    if (number > 9)
-        print_decimal(number / 10);
-    send('0' + number % 10);
+    char digits[20]; /* of the largest number */
+    unsigned count = 0;
+    do {
+        digits[count++] = "0123456789"[number % 10];
+        number /= 10;
+    } while (number > 0);
+    while (count > 0)
+        send(digits[--count]);
 }
 
 void finish(void) {
@@ -40,6 +45,15 @@ void refuse_sandbox(uint32_t number, const char *reason) {
     print_decimal(number);
     print(": ");
     print(reason);
+    print("\n");
+    fail(2);
+}
+
+void refuse_number(const char *reason, uint32_t number, const char *more) {
+    print(refusal);
+    print(reason);
+    print_decimal(number);
+    print(more);
     print("\n");
     fail(2);
 }
@@ -86,7 +100,7 @@ static void print_written(const struct part *part) {
     }
 }
 
-void print_sandbox(const struct world *world, uint32_t number) {
+static void print_sandbox(const struct world *world, uint32_t number) {
     const struct sandbox *sandbox = &world->sandboxes[number];
     print("sandbox=");
     print_decimal(number);
@@ -102,4 +116,55 @@ void print_sandbox(const struct world *world, uint32_t number) {
     if (world->arguments->prints_written)
         print_written(&sandbox->part);
     print("\n");
+}
+
+static uint32_t half_at(const uint8_t *bytes) {
+    return bytes[0] | (uint32_t)bytes[1] << 8;
+}
+
+/* The instruction's digits as `sfi run --report` has them; none where pc isn't in the code, to which
+   accepted code never comes. */
+static void print_instruction(const struct sandbox *sandbox) {
+    uint32_t offset = sandbox->frame.pc - sandbox->part.code_base;
+    if (offset >= sandbox->part.code_size || offset % 2 != 0)
+        return;
+    const uint8_t *bytes = sandbox->part.code + offset;
+    uint32_t half = half_at(bytes);
+    print(" ");
+    if ((half & 3) != 3)
+        print_hex(half, 4);
+    else if (sandbox->part.code_size - offset >= 4)
+        print_hex(half_at(bytes + 2) << 16 | half, 8);
+}
+
+static void print_registers(const struct frame *frame) {
+    for (uint32_t number = 1; number < 32; number++) {
+        print("x");
+        print_decimal(number);
+        print("=");
+        print_hex(frame->x[number], 8);
+        print(number % 8 == 7 ? "\n" : " ");
+    }
+}
+
+/* Of a sandbox that has trapped; with the registers, of each that hasn't exited. */
+static void print_place(const struct world *world, uint32_t number) {
+    const struct sandbox *sandbox = &world->sandboxes[number];
+    if (sandbox->state != TRAPPED && !(sandbox->state == READY && world->arguments->prints_registers))
+        return;
+    print("sandbox=");
+    print_decimal(number);
+    print(" pc=");
+    print_hex(sandbox->frame.pc, 8);
+    print_instruction(sandbox);
+    print("\n");
+    if (world->arguments->prints_registers)
+        print_registers(&sandbox->frame);
+}
+
+void print_world(const struct world *world) {
+    for (uint32_t number = 0; number < world->count; number++)
+        print_sandbox(world, number);
+    for (uint32_t number = 0; number < world->count; number++)
+        print_place(world, number);
 }

@@ -6,24 +6,28 @@
 #include <stddef.h>
 #include <stdint.h>
 
+#include "machine.h"
+
 /* docs/IMAGE.md and docs/GATES.md */
 enum {
+    IMAGE_SANDBOXES_MOST = 16,
     GATES_MOST = 64,
+    BUNDLE = 16,
     GUARD_ZONE = 4096,
     CALL_BYTES_MOST = 65536,
-    MAILBOX_WORDS = 16
+    MAILBOX_WORDS = 16,
+    ENTRY_ARGUMENTS = 8
 };
-#ifdef MICROCONTROLLER  /* it has 16 KiB of memory */
-enum { SANDBOXES_MOST = 2, OUTPUT_MOST = 256 };
-#else
-enum { SANDBOXES_MOST = 16, OUTPUT_MOST = 1048576 };
-#endif
 
-/* What run.sh asks for. A tick of `time` has 100 ns on this machine. */
+/* What run.sh asks for: running.sh writes the same words. `enters`: once the rounds are over, the sandbox
+   of that number is entered at that pc with these arguments, and there are as many rounds again. */
 struct arguments {
     uint32_t image_length, input_length, rounds, turn_ticks;
-    uint32_t prints_steps, prints_written;
+    uint32_t prints_steps, prints_written, prints_registers;
+    uint32_t enters, entered, entry_pc, entry_arguments[ENTRY_ARGUMENTS];
 };
+
+enum { A0 = 10, A1 = 11 };      /* registers: arguments of a call, and its answers */
 
 struct gate {
     uint32_t address, service;
@@ -81,17 +85,44 @@ bool tell_part(const uint8_t *image, uint32_t length, uint32_t number, struct pa
 /* image.c */
 uint32_t little_endian(const uint8_t *bytes);
 uint32_t read_image(const uint8_t *image, uint32_t length, struct sandbox sandboxes[]);
+/* Makes a sandbox that has stopped ready at pc, the first address of one of its bundles, with arguments
+   in a0 to a7. Its data stay. False, and nothing is changed, where it is ready or pc isn't such. */
+bool enter_again(struct sandbox *sandbox, uint32_t pc, const uint32_t arguments[ENTRY_ARGUMENTS]);
 
 /* paging.c: all of this before there is a page table */
 void map_sandbox(uint32_t number, const struct part *part);
 uint32_t finish_page_table(void);       /* with the host in it; answers what satp takes */
 
-/* protection.c */
-void protect(uint32_t entry, uint32_t base, uint32_t size, uint8_t rights);
+/* protection.c: write_protection refuses to go on where an entry isn't as it was written */
+void protect(uint32_t entry, uint32_t address, uint8_t configuration);
+uint32_t power_of_two(uint32_t base, uint32_t size);    /* the address that PMP_NAPOT takes for it */
 void write_protection(void);
 
+/* turns.c: runs the world's sandboxes as its arguments ask for, and ends */
+_Noreturn void run_world(struct world *world);
+
 /* gates.c: answers the call at the caller's pc; false where the turn ends */
-bool answer_call(struct world *world, uint32_t caller);
+bool answer_call(struct world *world, uint32_t number);
+/* The bytes of a sandbox's data from an address on, or NULL where one of them isn't its own */
+uint8_t *own_bytes(const struct world *world, uint32_t number, uint32_t address, uint32_t length);
+
+/* services.c, or a vendor's file in its place: answers a call. It may change the call's a0 and a1, what
+   own_bytes gives it, and what is the host's own */
+struct call {
+    uint32_t caller, service, a0, a1;   /* the caller's number; 0 to 5 */
+};
+enum outcome {
+    REPLIED,
+    YIELDED,    /* the reply ends the turn */
+    LEFT        /* the caller has exited, with a0 */
+};
+enum outcome serve(struct world *world, struct call *call);
+
+/* interrupts.c, or a vendor's file in its place. start_interrupts is called before the first turn.
+   answer_interrupt is called at each interrupt but the timer's, with its cause less CAUSE_INTERRUPT; then
+   the turn goes on */
+void start_interrupts(void);
+void answer_interrupt(uint32_t cause);
 
 /* trap.c */
 void stop_by_trap(struct sandbox *sandbox, uint32_t cause);
@@ -100,21 +131,29 @@ void stop_by_trap(struct sandbox *sandbox, uint32_t cause);
 uint32_t enter(struct frame *frame);
 extern const uint32_t switch_instructions;      /* how many of its own lie between the two counts */
 
+/* main.c, of each machine: run_host is called by start.S, and so are load of `virt` and judge of mcu */
+uint32_t load(void);                            /* answers what satp takes */
+void judge(void);
+_Noreturn void run_host(void);
+void interrupt_after(uint32_t ticks);           /* the timer, and once */
+
 /* serial.c, of each machine */
 void send(char byte);
 _Noreturn void end(uint32_t status);            /* of the run */
 
-/* serial.c of `virt` */
-void console_is_paged(void);
+void console_is_paged(void);                    /* of `virt` */
+void start_chip(void);                          /* of mcu */
 
 /* console.c */
 void print(const char *text);
 void print_hex(uint32_t number, unsigned digits);
 void print_decimal(uint64_t number);
-void print_sandbox(const struct world *world, uint32_t number);
+void print_world(const struct world *world);
 _Noreturn void finish(void);
 _Noreturn void fail(uint32_t status);
-_Noreturn void refuse(const char *reason);                      /* the image as a whole */
+_Noreturn void refuse(const char *reason);                      /* the image as a whole, or the machine */
 _Noreturn void refuse_sandbox(uint32_t number, const char *reason);
+_Noreturn void refuse_number(const char *reason, uint32_t number, const char *more);
+_Noreturn void host_fault(uint32_t cause, uint32_t pc);         /* start.S and switch.S come here, too */
 
 #endif

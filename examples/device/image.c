@@ -1,5 +1,5 @@
 /* The sandboxes of an image, as the checker tells them (checker.c, or unchecked.c), and their
-   registers at the entry. */
+   registers at an entry. */
 #include "host.h"
 
 uint32_t little_endian(const uint8_t *bytes) {
@@ -7,10 +7,11 @@ uint32_t little_endian(const uint8_t *bytes) {
 }
 
 /* The registers as a World of `sfi run` sets them (docs/GATES.md, "Turns"); all others are 0. */
-static void set_registers(struct sandbox *sandbox) {
+static void set_registers(struct sandbox *sandbox, uint32_t pc) {
     const struct part *part = &sandbox->part;
     struct frame *frame = &sandbox->frame;
-    frame->pc = part->start;
+    memset(frame, 0, sizeof *frame);
+    frame->pc = pc;
     frame->x[2] = part->data_base + part->data_size - 16;
     frame->x[24] = part->code_base;
     frame->x[25] = part->code_size - 16;
@@ -19,8 +20,23 @@ static void set_registers(struct sandbox *sandbox) {
 }
 
 uint32_t read_image(const uint8_t *image, uint32_t length, struct sandbox sandboxes[]) {
-    uint32_t count = 0;
-    while (count < SANDBOXES_MOST && tell_part(image, length, count, &sandboxes[count].part))
-        set_registers(&sandboxes[count++]);
-    return count;
+    struct part further;
+    for (uint32_t count = 0; count < SANDBOXES_MOST; count++) {
+        if (!tell_part(image, length, count, &sandboxes[count].part))
+            return count;
+        set_registers(&sandboxes[count], sandboxes[count].part.start);
+    }
+    if (tell_part(image, length, SANDBOXES_MOST, &further))
+        refuse_number("there is room for ", SANDBOXES_MOST, " sandboxes");
+    return SANDBOXES_MOST;
+}
+
+bool enter_again(struct sandbox *sandbox, uint32_t pc, const uint32_t arguments[ENTRY_ARGUMENTS]) {
+    uint32_t offset = pc - sandbox->part.code_base;
+    if (sandbox->state == READY || offset >= sandbox->part.code_size || offset % BUNDLE != 0)
+        return false;
+    set_registers(sandbox, pc);
+    memcpy(&sandbox->frame.x[A0], arguments, ENTRY_ARGUMENTS * sizeof arguments[0]);
+    sandbox->state = READY;
+    return true;
 }

@@ -63,3 +63,13 @@ image() { # format, how many sandboxes; the sandboxes on standard input
     words "$2"
     cat
 }
+
+# A boot ROM at an address, which QEMU starts at and which ends at the host's first instruction: assembly
+# on standard input. Prints words for QEMU.
+boot_rom() { # its address, the host's
+    { cat && printf ' li t0, %s\n jr t0\n' "$2"; } >"$room/boot.S"
+    riscv64-unknown-elf-gcc -nostdlib -march=rv32imc_zicsr -mabi=ilp32 -mno-relax -Wl,-Ttext="$1",-e0 \
+        "$room/boot.S" -o "$room/boot.elf" || return
+    riscv64-unknown-elf-objcopy -O binary -j .text "$room/boot.elf" "$room/boot.bin" || return
+    echo "-device loader,file=$room/boot.bin,addr=$1,force-raw=on -device loader,addr=$1,cpu-num=0"
+}

@@ -1,9 +1,10 @@
-/* The machine: QEMU's `virt` with 256 MiB, and what the manuals say of RV32. Chapters are those of
+/* QEMU's `virt` with 256 MiB, and what the manuals say of RV32. Chapters are those of
    the RISC-V privileged manual (volume II), unless another is named. C and assembly read this file,
    so it has macros alone. */
 #ifndef MACHINE_H
 #define MACHINE_H
 
+#ifndef MICROCONTROLLER
 /* ---- QEMU's devices and memory: hw/riscv/virt.c, virt_memmap */
 #define UART_DEVICE     0x10000000      /* a 16550A */
 #define UART_TRANSMIT   0               /* register: a byte stored here is sent */
@@ -12,6 +13,7 @@
 #define FINISHER_DEVICE 0x00100000      /* a word stored at SiFive's test device ends QEMU */
 #define FINISH_PASSED   0x5555          /* with status 0 */
 #define FINISH_FAILED   0x3333          /* with the status in the upper 16 bits */
+#define FINISH_STATUS   16              /* is added to it: QEMU fails of itself in 1 */
 #define RAM             0x80000000
 
 /* ---- Where the loader keeps things there; run.sh writes the same addresses */
@@ -23,6 +25,14 @@
 #define UART            0x90000000
 #define FINISHER        0x90001000
 #define HOST_END        0x90002000      /* the host's addresses are those from RAM to here */
+
+#define HOST_HART       0               /* all others are parked */
+#define PMP_ENTRIES     16
+#define SANDBOXES_MOST  16
+#define OUTPUT_MOST     1048576         /* bytes that a sandbox can put */
+#else
+#include "chip.h"                       /* the same words for a chip without paging */
+#endif
 
 /* ---- Machine-Level ISA, "Machine Cause Register", and Supervisor-Level ISA, "Supervisor Cause
    Register" */
@@ -39,7 +49,9 @@
 #define CAUSE_FETCH_PAGE        12
 #define CAUSE_LOAD_PAGE         13
 #define CAUSE_STORE_PAGE        15
-#define CAUSE_TIMER             (1u << 31 | 5)
+#define CAUSE_INTERRUPT         (1u << 31)      /* set where it is an interrupt, and no exception */
+#define CAUSE_SUPERVISOR_TIMER  (1u << 31 | 5)
+#define CAUSE_MACHINE_TIMER     (1u << 31 | 7)
 
 /* ---- Machine-Level ISA: mstatus, and the upper half of menvcfg, whose STCE turns on stimecmp */
 #define MSTATUS_MPIE            (1 << 7)        /* interrupts are on after mret */
@@ -47,6 +59,9 @@
 #define MSTATUS_MPP_MACHINE     (3 << 11)       /* mret stays in M-mode */
 #define MENVCFGH                0x31a
 #define MENVCFGH_STCE           (1 << 31)
+
+/* ---- Machine-Level ISA: mie */
+#define MIE_MTIE                (1 << 7)        /* the timer may interrupt */
 
 /* ---- Supervisor-Level ISA: sstatus, sie (whose bits mie has too), satp */
 #define SSTATUS_SPIE            (1 << 5)        /* interrupts are on after sret */
@@ -69,15 +84,17 @@
 #define PTE_DIRTY               0x80
 
 /* ---- Machine-Level ISA, "Physical Memory Protection": a byte of pmpcfg */
-#define PMP_ENTRIES             16
 #define PMP_R                   1
 #define PMP_W                   2
 #define PMP_X                   4
+#define PMP_OFF                 0               /* matches nothing; the next entry may begin here */
 #define PMP_TOR                 (1 << 3)        /* from the entry before to this one */
 #define PMP_NAPOT               (3 << 3)        /* a power of two of addresses, aligned to it */
 #define PMP_LOCKED              (1 << 7)        /* holds in M-mode too, until the next reset */
+#define PMPCFG0                 0x3a0           /* four entries in each word */
+#define PMPADDR0                0x3b0
 
-/* ---- The mode that host and sandboxes share, for switch.S: M-mode on a microcontroller */
+/* ---- The mode that host and sandboxes share: M-mode on a microcontroller */
 #ifdef MICROCONTROLLER
 #define SCRATCH                 mscratch
 #define EXCEPTION_PC            mepc
@@ -85,6 +102,9 @@
 #define STATUS                  mstatus
 #define STATUS_AT_ENTRY         (MSTATUS_MPP_MACHINE | MSTATUS_MPIE)
 #define RETURN                  mret
+#define RETIRED                 minstret
+#define CAUSE_ECALL             CAUSE_ECALL_FROM_M
+#define CAUSE_TIMER             CAUSE_MACHINE_TIMER
 #else
 #define SCRATCH                 sscratch
 #define EXCEPTION_PC            sepc
@@ -92,6 +112,9 @@
 #define STATUS                  sstatus
 #define STATUS_AT_ENTRY         (SSTATUS_SPP | SSTATUS_SPIE)
 #define RETURN                  sret
+#define RETIRED                 instret
+#define CAUSE_ECALL             CAUSE_ECALL_FROM_S
+#define CAUSE_TIMER             CAUSE_SUPERVISOR_TIMER
 #endif
 
 /* ---- struct frame of host.h: offsets for switch.S */

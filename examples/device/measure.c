@@ -24,7 +24,7 @@ static uint32_t retired(void) {
 static uint32_t used(const uint8_t *bottom, const uint8_t *top) {
     while (bottom < top && *bottom == PAINT)
         bottom++;
-    return top - bottom;
+    return (uint32_t)top - (uint32_t)bottom;
 }
 
 static void item(const char *what, uint32_t number) {
@@ -42,7 +42,8 @@ static void print_cost(uint32_t instructions) {
 
 void check_image(const uint8_t *image, uint32_t length) {
     stack_before = __builtin_frame_address(0);
-    memset(stack_bottom, PAINT, stack_before - 128 - stack_bottom); /* not this call's own frame */
+    /* up to 128 bytes below, so that this call's own frame stays */
+    memset(stack_bottom, PAINT, (uint32_t)stack_before - 128 - (uint32_t)stack_bottom);
     memset(checker_memory.stack, PAINT, MODULE_STACK);
     retired_before = retired();
     checker_check_image(image, length);

@@ -3,7 +3,7 @@
 
 void *memset(void *to, int byte, size_t length) {
     for (uint8_t *at = to; length > 0; length--)
-        *at++ = byte;
+        *at++ = (uint8_t)byte;
     return to;
 }
 

@@ -69,7 +69,8 @@ static void open_small_data(uint32_t sandbox, const struct part *part) {
         refuse_sandbox(sandbox, "there is room for 14 data regions below 4096 bytes");
     uint8_t *page = memset(window + PAGE * small_count, 0, PAGE);
     *entry_of(part->data_base, sandbox) = entry_to(page, PTE_R | PTE_W | PTE_ACCESSED | PTE_DIRTY);
-    protect(small_count, (uint32_t)page + part->data_base % PAGE, part->data_size, PMP_R | PMP_W);
+    protect(small_count, power_of_two((uint32_t)page + part->data_base % PAGE, part->data_size),
+            PMP_NAPOT | PMP_R | PMP_W);
     small_count++;
 }
 
@@ -98,8 +99,8 @@ uint32_t finish_page_table(void) {
         root[address / MEGAPAGE] = entry_to((void *)address, rights | PTE_X);
     *entry_of(UART, 0) = entry_to((void *)UART_DEVICE, rights);
     *entry_of(FINISHER, 0) = entry_to((void *)FINISHER_DEVICE, rights);
-    protect(PMP_WINDOW, (uint32_t)window, WINDOW_SIZE, 0);
-    protect(PMP_ALL, 0, 0, PMP_R | PMP_W | PMP_X);
+    protect(PMP_WINDOW, power_of_two((uint32_t)window, WINDOW_SIZE), PMP_NAPOT);
+    protect(PMP_ALL, UINT32_MAX, PMP_NAPOT | PMP_R | PMP_W | PMP_X); /* all addresses */
     write_protection();
     return SATP_SV32 | (uint32_t)root / PAGE;
 }

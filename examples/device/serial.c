@@ -18,5 +18,5 @@ void send(char byte) {
 
 void end(uint32_t status) {
     for (;;)
-        *finisher = status == 0 ? FINISH_PASSED : status << 16 | FINISH_FAILED;
+        *finisher = status == 0 ? FINISH_PASSED : (FINISH_STATUS + status) << 16 | FINISH_FAILED;
 }

@@ -4,7 +4,14 @@
 
         .section .init, "ax"
         .globl  start
-start:  la      t0, loader_fault
+start:  csrw    mstatus, zero           # a boot loader may have left interrupts on
+        csrw    mie, zero
+        csrr    t0, mhartid
+        li      t1, HOST_HART
+        beq     t0, t1, first
+park:   wfi
+        j       park
+first:  la      t0, loader_fault
         csrw    mtvec, t0
         la      sp, stack_top
         la      t0, loader_memory       # it may hold anything after a reset
@@ -13,6 +20,8 @@ clear:  sw      zero, 0(t0)
         bltu    t0, sp, clear
         call    load                    # answers what satp takes
         csrw    satp, a0
+        csrr    t0, satp
+        bne     t0, a0, no_paging
         sfence.vma
         fence.i                         # load has written code
         li      t0, -1
@@ -23,6 +32,8 @@ clear:  sw      zero, 0(t0)
         csrs    MENVCFGH, t0
         la      t0, trapped
         csrw    stvec, t0
+        csrr    t1, stvec
+        bne     t0, t1, no_handler
         csrw    sscratch, zero          # the host runs, and no sandbox
         li      t0, SIE_STIE
         csrw    mie, t0                 # and no other interrupt
@@ -32,6 +43,13 @@ clear:  sw      zero, 0(t0)
         csrw    mepc, t0
         mret
 
+no_paging:
+        la      a0, paging_refused
+        j       refuse
+no_handler:
+        la      a0, handler_refused
+        j       refuse
+
         .balign 4
 loader_fault:
         csrr    a0, mcause
@@ -39,15 +57,8 @@ loader_fault:
         la      sp, stack_top
         j       host_fault
 
-        .text
-        .globl  pmp_write
-pmp_write:                              # from protection.c: 16 addresses, 16 configurations
-        .irp    entry, 0,1,2,3,4,5,6,7,8,9,10,11,12,13,14,15
-        lw      t0, 4*\entry(a0)
-        csrw    pmpaddr\entry, t0
-        .endr
-        .irp    word, 0,1,2,3
-        lw      t0, 4*\word(a1)
-        csrw    pmpcfg\word, t0
-        .endr
-        ret
+        .section .rodata
+paging_refused:
+        .asciz  "satp isn't as it was written: there is no paging"
+handler_refused:
+        .asciz  "stvec isn't as it was written: no trap comes to the host"

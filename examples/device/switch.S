@@ -29,7 +29,7 @@ enter:  addi    sp, sp, -64
         li      t0, STATUS_AT_ENTRY
         csrs    STATUS, t0
 count_before:
-        csrr    t0, instret
+        csrr    t0, RETIRED
         sw      t0, FRAME_BEFORE(a0)
         each_register lw
         lw      a0, 4*10(a0)
@@ -42,7 +42,7 @@ trapped:
         beqz    a0, fault_of_host
         each_register sw
 count_after:
-        csrr    t0, instret
+        csrr    t0, RETIRED
         sw      t0, FRAME_AFTER(a0)
         csrrw   t0, SCRATCH, zero      # the sandbox's a0
         sw      t0, 4*10(a0)

@@ -14,44 +14,19 @@ export SFI
 all=${ALL:-}
 seconds=60
 [ -z "$all" ] || seconds=600 # for the longest output
-passed=0
-failed=0
-skipped=0
-room=$(mktemp -d)
-trap 'rm -rf "$room"' EXIT
+source "$here/../harness.sh"
 source "$here/images.sh"
 cd "$here"
 
-report() { # what is tried, what is wanted, what is found
-    if [ "$2" = "$3" ]; then
-        passed=$((passed + 1))
-    else
-        failed=$((failed + 1))
-        printf 'FAILED %s\n  wanted %s\n  found  %s\n' "$1" "${2:0:500}" "${3:0:500}"
-    fi
-}
-
-finish() {
-    printf '%s passed, %s failed' "$passed" "$failed"
-    [ "$skipped" = 0 ] || printf ', %s skipped' "$skipped"
-    echo
-    [ "$failed" = 0 ]
-    exit
-}
-
-needs() { # a command, and the Debian package that has it
-    command -v "$1" >"$room/which" && return
-    echo "skipped: the loader for RV32: $1 isn't there (Debian's package $2)"
-    skipped=$((skipped + 1))
-}
-
-needs qemu-system-riscv32 qemu-system-misc
-needs riscv64-unknown-elf-gcc gcc-riscv64-unknown-elf
-needs make make
-needs xxd xxd
-needs python3 python3
+for need in "qemu-system-riscv32 qemu-system-misc" "riscv64-unknown-elf-gcc gcc-riscv64-unknown-elf" \
+    "make make" "xxd xxd" "python3 python3"; do
+    needs "the loader for RV32" $need
+done
 [ "$skipped" = 0 ] || finish
 make -s || { report "make" "the loader" "none" && finish; }
+
+# The lines of run.sh but those of each trap's pc.
+run() { ./run.sh "$@" | sed '/ pc=/d'; }
 
 # ---- Lines beside those of `sfi run`
 
@@ -70,7 +45,7 @@ compare() { # what is tried, its image, input, `steps` or `no steps`
     local wanted turn found
     wanted=$("$SFI" run --rounds 10000 --quantum 1000000 --input "$3" <"$2")
     for turn in "${turns[@]}"; do
-        found=$(./run.sh "${by[@]}" --steps --seconds "$seconds" --turn "$turn" --input "$3" <"$2")
+        found=$(run "${by[@]}" --steps --seconds "$seconds" --turn "$turn" --input "$3" <"$2")
         if [ "$4" = steps ]; then
             report "$1, turns of $turn us" "$wanted" "$found"
         else
@@ -79,7 +54,7 @@ compare() { # what is tried, its image, input, `steps` or `no steps`
         fi
     done
     [ -n "$all" ] || return
-    found=$(./run.sh "${by[@]}" --seconds "$seconds" --turn 10 --input "$3" <"$2")
+    found=$(run "${by[@]}" --seconds "$seconds" --turn 10 --input "$3" <"$2")
     report "$1, turns of 10 us by the real clock" "$(without_steps <<<"$wanted")" "$found"
 }
 
@@ -117,7 +92,7 @@ compare "the smallest image" ../smallest.hex '' steps
 
 build cases/endless.s 2 >"$room/image.hex"
 report "a turn that never ends by itself" $'sandbox=0 ready out=\nsandbox=1 exit=7 out=' \
-    "$(./run.sh --rounds 20 --turn 1000 <"$room/image.hex")"
+    "$(run --rounds 20 --turn 1000 <"$room/image.hex")"
 
 # Each of 16 sandboxes posts to the next, and puts its sender's word.
 for ((number = 0; number < 16; number++)); do
@@ -145,8 +120,8 @@ for ((number = 0; number < 16; number++)); do
 text:   .word 0
 END
 done >"$room/sixteen.s"
-build "$room/sixteen.s" 2 >"$room/image.hex"
-compare "sixteen sandboxes" "$room/image.hex" '' steps
+build "$room/sixteen.s" 2 >"$room/sixteen.hex"
+compare "sixteen sandboxes" "$room/sixteen.hex" '' steps
 
 # ---- Loads and stores at the ends of the data, and over them
 
@@ -199,7 +174,7 @@ compare_accesses() { # data size, format, base register
     for ((from = 0; from < ${#accesses[@]}; from += 14)); do
         access_source "$size" "$format" "$register" "${accesses[@]:from:14}" |
             "$SFI" build >"$room/image.hex"
-        found=$(./run.sh --steps --written <"$room/image.hex")
+        found=$(run --steps --written <"$room/image.hex")
         wanted=$("$SFI" run --rounds 2 <"$room/image.hex")
         report "accesses from $from on, data of $size bytes, on $register, beside sfi run" \
             "$wanted" "$(sed 's/ written=.*//' <<<"$found")"
@@ -243,7 +218,7 @@ END
 compare "regions anywhere" "$room/image.hex" '' steps
 report "regions anywhere: the trap and what is written" \
     "sandbox=0 trap=Store at=00001ffe out= written=0000107d:10" \
-    "$(./run.sh --written <"$room/image.hex" | head -n 1)"
+    "$(run --written <"$room/image.hex" | head -n 1)"
 
 # Code in the page of a neighbour's guard zone, which can't be read there: above it, and below it.
 image 1 3 >"$room/image.hex" < <(
@@ -267,7 +242,7 @@ END
 compare "code in the page of a guard zone" "$room/image.hex" '' steps
 report "code in the page of a guard zone: where they trap" \
     $'trap=Load at=027ff900\ntrap=Load at=038016fe\ntrap=Store at=048016fe' \
-    "$(./run.sh <"$room/image.hex" | sed 's/sandbox=. //; s/ out=//')"
+    "$(run <"$room/image.hex" | sed 's/sandbox=. //; s/ out=//')"
 
 symbol() { riscv64-unknown-elf-nm out/loader | sed -n "s/^\([0-9a-f]*\) . $1$/0x\1/p"; }
 
@@ -281,7 +256,7 @@ one() { sandbox "$1" "$2" "$3" "" "" <<<ebreak; } # code base, data base, data s
 
 refused_by_loader() { # reason; the image on standard input
     local found
-    found=$(./run.sh; echo "status $?")
+    found=$(run; echo "status $?")
     report "the loader refuses: $1" "device: $1"$'\nstatus 2' "$found"
 }
 
@@ -310,9 +285,9 @@ attack() { # name, the verdict's rule and address, what is found unchecked; asse
     image 1 1 >"$room/image.hex" < <(sandbox 0x01000000 0x01800000 4096 "0 1" '')
     cp "$room/image.hex" "$room/attack${#attacks[@]}.hex"
     attacks+=("$1")
-    found=$(./run.sh <"$room/image.hex"; echo "status $?")
+    found=$(run <"$room/image.hex"; echo "status $?")
     report "$1: checked" "refused findings=1 first=$2 sandbox=0 at=$3"$'\nstatus 1' "$found"
-    found=$(./run.sh --unchecked --seconds 3 <"$room/image.hex" 2>"$room/log"; echo "status $?")
+    found=$(run --unchecked --seconds 3 <"$room/image.hex" 2>"$room/log"; echo "status $?")
     report "$1: unchecked" "$4" "$found"
 }
 
@@ -364,7 +339,7 @@ image 1 1 >"$room/image.hex" < <(sandbox 0x01000000 0x01800000 4096 "" '' <<'END
 END
 )
 report "a store to the UART, masked" "sandbox=0 trap=Break at=01000020 out= written=01800004:21" \
-    "$(./run.sh --written <"$room/image.hex")"
+    "$(run --written <"$room/image.hex")"
 
 # Accepted code may hold these three instructions, which a debugger takes for a call: 4 writes the
 # text at a1.
@@ -378,10 +353,10 @@ image 1 1 >"$room/image.hex" < <(sandbox 0x01000000 0x01800000 4096 "" 6869210a0
 END
 )
 report "the ebreak of semihosting" "sandbox=0 trap=Break at=01000014 out=" \
-    "$(./run.sh <"$room/image.hex")"
+    "$(run <"$room/image.hex")"
 report "the ebreak of semihosting, where that is on" \
     $'hi!\nsandbox=0 trap=Break at=01000020 out=' \
-    "$(QEMU_OPTIONS='-semihosting-config enable=on,target=native' ./run.sh <"$room/image.hex" 2>&1)"
+    "$(QEMU_OPTIONS='-semihosting-config enable=on,target=native' run <"$room/image.hex" 2>&1)"
 
 # ---- The commands and lines of docs/C.md and docs/DEVICE.md, whose numbers are those of gcc 12
 
@@ -401,7 +376,7 @@ try_docs() {
     block DEVICE.md c 1 >"$room/top/outside.c"
     in_docs "the recipe" C.md 1 < <(block C.md sh 1)
     in_docs "the recipe" DEVICE.md 1 < <(block DEVICE.md sh 1)
-    found=$(cd "$room/top" && block DEVICE.md sh 1 | sed 's/hello/outside/g' | bash 2>&1)
+    found=$(cd "$room/top" && block DEVICE.md sh 1 | sed 's/hello/outside/g' | bash 2>&1 | sed '/ pc=/d')
     report "DEVICE.md: the recipe of outside.c" 1 "$(uniq <<<"$found" | wc -l)"
     in_docs "a trap, a refusal, two sandboxes" DEVICE.md 2 < <(block DEVICE.md sh 2)
 }
@@ -420,11 +395,23 @@ source_of adder "--gate take=5" | sed '/^\.format/d' >>"$room/pair.s"
 "$SFI" build <"$room/pair.s" >"$room/image.hex"
 report "words between two C programs" \
     $'sandbox=0 exit=0 out=\nsandbox=1 exit='"$((39 * 40 * 79 / 6)) out=" \
-    "$(./run.sh <"$room/image.hex")"
+    "$(run <"$room/image.hex")"
 case $(riscv64-unknown-elf-gcc -dumpversion) in
 12.*) try_docs ;;
-*) skipped=$((skipped + 1)) && echo "skipped: the lines of docs: they are those of gcc 12" ;;
+*) skip 1 "the lines of docs" "they are those of gcc 12" ;;
 esac
+
+# ---- What the loader finds at its start, and what a vendor adds
+
+source "$here/test_premises.sh"
+source "$here/test_vendor.sh"
+cases=$here/cases code=01000000 on=()
+try_enter
+try_services
+try_interrupts 1
+build cases/outside.s 1 >"$room/image.hex"
+try_report "$room/image.hex"
+try_pcs "$room/image.hex"
 
 # ---- The checker on the device
 
@@ -436,7 +423,7 @@ refused_by_script() { # status, the line; the words of the command line
     local status=$1 line=$2
     shift 2
     report "run.sh $*" "$line"$'\n'"status $status" \
-        "$(./run.sh "$@" <"$room/image.hex" 2>&1; echo "status $?")"
+        "$(run "$@" <"$room/image.hex" 2>&1; echo "status $?")"
 }
 
 for option in --rounds --turn --seconds; do
@@ -458,15 +445,18 @@ xxd -r -p ../smallest.hex | head -c 32 >"$room/image.hex"
 refused_by_script 2 "run.sh: the image $no_digits SFI1" --steps
 echo 00112233 >"$room/image.hex"
 refused_by_script 2 "layout fault 1 Magic" --steps
+cp ../smallest.hex "$room/image.hex"
+QEMU_OPTIONS=-none refused_by_script 4 \
+    "run.sh: QEMU failed in status 1: qemu-system-riscv32: -none: invalid option"
 SFI=./none refused_by_script 3 \
     "run.sh: ./none isn't there (the program sfi; SFI=PATH names another)"
 build cases/endless.s 2 >"$room/image.hex"
 report "run.sh: a compiler that isn't there" \
-    "run.sh: the loader isn't built; RISCV=PATH names the compiler, gcc for RISC-V"$'\nstatus 3' \
-    "$({ MAKEFLAGS=B RISCV=./none ./run.sh <"$room/image.hex" 2>&1; echo "status $?"; } |
+    "run.sh: the host isn't built; RISCV=PATH names the compiler, gcc for RISC-V"$'\nstatus 3' \
+    "$({ MAKEFLAGS=B RISCV=./none run <"$room/image.hex" 2>&1; echo "status $?"; } |
         grep -v '^make')"
 report "run.sh: a run that doesn't end" \
     "run.sh: the run wasn't over after 1 seconds; --seconds N gives it N, and with fewer --rounds\
  it ends by itself"$'\nstatus 124' \
-    "$({ ./run.sh --seconds 1 <"$room/image.hex" 2>&1; echo "status $?"; } | grep -v '^qemu')"
+    "$({ run --seconds 1 <"$room/image.hex" 2>&1; echo "status $?"; } | grep -v '^qemu')"
 finish

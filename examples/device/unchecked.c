@@ -29,7 +29,7 @@ static uint32_t take_head(struct reader *reader) {
     uint32_t count = take_word(reader);
     if (magic[0] != 'S' || magic[1] != 'F' || magic[2] != 'I' || !is_format)
         refuse("no image");
-    if (count == 0 || count > SANDBOXES_MOST)
+    if (count == 0 || count > IMAGE_SANDBOXES_MOST)
         refuse("no image");
     return count;
 }

@@ -2,18 +2,21 @@
    code lies in flash, at the places that `sfi build --at` gave it. It trusts the checker:
    docs/DEVICE.md says for what. */
 #include "../host.h"
-#include "../machine.h"
-#include "chip.h"
-#include "protection.h"
 
-_Static_assert(offsetof(struct frame, pc) == FRAME_PC, "switch.S");
-_Static_assert(offsetof(struct frame, host_stack) == FRAME_HOST_STACK, "switch.S");
-_Static_assert(offsetof(struct frame, retired_before) == FRAME_BEFORE, "switch.S");
-_Static_assert(offsetof(struct frame, retired_after) == FRAME_AFTER, "switch.S");
+enum { ENTRIES_EACH = 3 };
+_Static_assert(ENTRIES_EACH * SANDBOXES_MOST <= PMP_ENTRIES, "chip.h");
 
 static struct world world;
 
-/* The guard zone below the memory's first address is where no memory is. */
+void judge(void) {
+    const uint8_t *image = (const uint8_t *)FLASH_IMAGE;
+    world.arguments = (const struct arguments *)FLASH_ARGUMENTS;
+    world.input = (const uint8_t *)FLASH_INPUT;
+    check_image(image, world.arguments->image_length);
+    world.count = read_image(image, world.arguments->image_length, world.sandboxes);
+}
+
+/* The guard zone below CHIP_RAM is nobody's: chip.h sees to that. */
 static bool data_is_free(const struct part *part) {
     return part->data_base >= CHIP_RAM && part->data_size <= HOST_RAM - CHIP_RAM &&
            part->data_base - CHIP_RAM <= HOST_RAM - CHIP_RAM - part->data_size &&
@@ -32,6 +35,17 @@ static bool code_is_in_place(const struct part *part) {
     return true;
 }
 
+/* Locked entries hold in M-mode, where host and sandboxes run, and the first entry that fits decides:
+   the data region is open, and the rest from the first address of the lower guard zone to the last of
+   the upper one is closed. */
+static void close_guards(uint32_t number, const struct part *part) {
+    uint32_t entry = ENTRIES_EACH * number, data_end = part->data_base + part->data_size;
+    protect(entry, power_of_two(part->data_base, part->data_size),
+            PMP_LOCKED | PMP_NAPOT | PMP_R | PMP_W);
+    protect(entry + 1, part->data_base - GUARD_ZONE, PMP_LOCKED | PMP_OFF);
+    protect(entry + 2, data_end + GUARD_ZONE, PMP_LOCKED | PMP_TOR);
+}
+
 static void place(uint32_t number, const struct part *part) {
     if (!data_is_free(part))
         refuse_sandbox(number, "there is no memory for its data and guard zones");
@@ -42,58 +56,32 @@ static void place(uint32_t number, const struct part *part) {
     close_guards(number, part);
 }
 
-static void load(void) {
-    world.arguments = (const struct arguments *)FLASH_ARGUMENTS;
-    world.input = (const uint8_t *)FLASH_INPUT;
-    world.count = read_image((const uint8_t *)FLASH_IMAGE, world.arguments->image_length, world.sandboxes);
+static uint64_t now(void) {
+    const volatile uint32_t *time = (const volatile uint32_t *)TIME;
+    uint32_t low, high;
+    do {
+        high = time[1];
+        low = time[0];
+    } while (high != time[1]);
+    return (uint64_t)high << 32 | low;
+}
+
+/* The lower half first becomes its largest, so that no time between the old and the new one is set. */
+void interrupt_after(uint32_t ticks) {
+    volatile uint32_t *due = (volatile uint32_t *)TIMER_DUE;
+    uint64_t time = now() + ticks;
+    due[0] = UINT32_MAX;
+    due[1] = (uint32_t)(time >> 32);
+    due[0] = (uint32_t)time;
+#ifdef TIMER_STATE
+    *(volatile uint32_t *)TIMER_STATE = 1;
+#endif
+}
+
+void run_host(void) {
     for (uint32_t number = 0; number < world.count; number++)
         place(number, &world.sandboxes[number].part);
-}
-
-/* Runs of some minutes at most are meant: the clock's upper word stays 0. */
-static void interrupt_after(uint32_t ticks) {
-    volatile uint32_t *due = (volatile uint32_t *)TIMER_DUE;
-    due[1] = 0;
-    due[0] = *(volatile uint32_t *)TIME + ticks;
-}
-
-/* Runs a sandbox until its turn ends: by the timer, a yield, an exit or a trap. */
-static void take_turn(uint32_t number) {
-    struct sandbox *sandbox = &world.sandboxes[number];
-    interrupt_after(world.arguments->turn_ticks);
-    while (sandbox->state == READY) {
-        uint32_t cause = enter(&sandbox->frame);
-        uint32_t retired = sandbox->frame.retired_after - sandbox->frame.retired_before;
-        sandbox->steps += retired - switch_instructions;
-        if (cause == CAUSE_MACHINE_TIMER)
-            return;
-        if (cause != CAUSE_ECALL_FROM_M) {
-            stop_by_trap(sandbox, cause);
-            sandbox->steps -= cause == CAUSE_BREAKPOINT; /* QEMU counts it; a trap is no step */
-        } else if (!answer_call(&world, number)) {
-            return;
-        }
-    }
-}
-
-/* One turn for each sandbox that is ready. Answers whether there was one. */
-static bool run_round(void) {
-    bool any = false;
-    for (uint32_t number = 0; number < world.count; number++)
-        if (world.sandboxes[number].state == READY) {
-            take_turn(number);
-            any = true;
-        }
-    return any;
-}
-
-/* start.S comes here. */
-void run_host(void) {
-    load();
-    for (uint32_t round = 0; round < world.arguments->rounds; round++)
-        if (!run_round())
-            break;
-    for (uint32_t number = 0; number < world.count; number++)
-        print_sandbox(&world, number);
-    finish();
+    write_protection();
+    __asm__ volatile("fence.i"); /* whoever wrote the code into the flash need not have done it */
+    run_world(&world);
 }

@@ -1,87 +1,95 @@
 #!/usr/bin/env bash
-# Checks an image, and runs it on QEMU's model of the FE310, a chip without paging that has 16 KiB of
-# memory: host and sandboxes run in M-mode, and code lies in flash.
+# Runs an image on QEMU's model of a chip without paging: host and sandboxes run in M-mode, and code lies
+# in flash. The checker judges it there; without --checker that of ../out/checker.o, and none with
+# --unchecked.
 #
 #     examples/device/mcu/run.sh [OPTIONS] < IMAGE      # hexadecimal text, as `sfi run` reads it
 #
-#     --rounds N     how many rounds of one turn for each sandbox; 10000 if absent
-#     --turn TICKS   how long a turn may be, in ticks of the clock, of 1/32768 s; 328 if
-#                    absent
-#     --input HEX    what get reads
-#     --steps        prints steps too; QEMU then counts instructions
-#     --written      prints the data bytes that are not as the image gave them
-#     --unchecked    sends an image that the checker refuses too
-#     --seconds N    ends QEMU after so long; 60 if absent
-#
-# In the environment, SFI is the program sfi, ./sfi at the top if absent; RISCV the compiler that
-# builds the host. Ends in the checker's status where that refuses, in 2 where the host does, in 3
-# for other words than these and for a fault of the host, in 124 after --seconds.
+#     --chip NAME      one of chips/table; sifive_e, a model of the FE310, if absent
+#     --turn TICKS     how long a turn may be, in ticks of the chip's clock; about 10 ms if absent
 set -euo pipefail
 here=$(cd "$(dirname "${BASH_SOURCE[0]}")" && pwd)
-sfi=${SFI:-$here/../../../sfi}
-rounds=10000 turn=328 input='' steps=0 written=0 checked=1 seconds=60
-room=$(mktemp -d)
-qemu=''
-trap '[ -z "$qemu" ] || kill "$qemu" 2>"$room/log" || true; rm -rf "$room"' EXIT
+top=$here/../../..
+turn_most=4294967295
+chip=sifive_e
+source "$here/../running.sh"
 
-while [ $# -gt 0 ]; do
-    case $1 in
-    --rounds) rounds=$2; shift ;;
-    --turn) turn=$2; shift ;;
-    --input) input=$2; shift ;;
-    --seconds) seconds=$2; shift ;;
-    --steps) steps=1 ;;
-    --written) written=1 ;;
-    --unchecked) checked=0 ;;
-    *) sed -n '2,/^[^#]/ s/^# \{0,1\}//p' "${BASH_SOURCE[0]}" && exit 3 ;;
-    esac
-    shift
-done
+own_option() {
+    [ "$1" = --chip ] || return
+    chip=$(value "$@")
+}
 
-# The bytes that are checked are the bytes that are sent.
-tr -d ' \t\r\n' | xxd -r -p >"$room/image"
-xxd -r -p <<<"$input" >"$room/input"
-if [ "$checked" = 1 ]; then
-    "$sfi" check --raw <"$room/image" >"$room/verdict" ||
-        { status=$? && cat "$room/verdict" && exit "$status"; }
-fi
-make -s -C "$here" >&2 || { echo "run.sh: the host isn't built" >&2; exit 3; }
+# What comes after the chip's name in chips/table.
+words_of_chip() {
+    local name words
+    while read -r name words; do
+        [ "$name" != "$chip" ] || { echo "$words" && return; }
+    done <"$here/chips/table"
+    fail 3 "there is no chip $chip: chips/table names them"
+}
 
-options=(-M sifive_e -bios none -display none -monitor none -serial stdio -kernel "$here/out/mcu")
-file() { [ ! -s "$1" ] || options+=(-device "loader,file=$1,addr=$2,force-raw=on"); }
+places_of_chip() {
+    "$RISCV" -E -P -x c -I "$here/chips/$chip" - <<<'#include "chip.h"
+FLASH_ARGUMENTS FLASH_IMAGE FLASH_INPUT TURN_TICKS' | tail -n 1
+}
 
-# struct arguments of host.h, at the addresses of chip.h.
-python3 - "$room" "$rounds" "$turn" "$steps" "$written" <<'END'
+# The code of each sandbox as a programmer of flash would put it there, as far as the image has any, and no
+# two at one place: a line `ADDRESS` for each file code0, code1, ...
+cut_code() {
+    python3 - "$room" <<'END'
 import struct
 import sys
 from pathlib import Path
 
 room = Path(sys.argv[1])
 image = (room / "image").read_bytes()
-words = [len(image), (room / "input").stat().st_size, *map(int, sys.argv[2:])]
-(room / "arguments").write_bytes(struct.pack("<6I", *words))
 at, places = 8, []
-for number in range(struct.unpack_from("<I", image, 4)[0]):
+while at + 28 <= len(image) and len(places) < struct.unpack_from("<I", image, 4)[0]:
     code_base, code_size, _, _, _, gates, first = struct.unpack_from("<7I", image, at)
     at += 28 + 8 * gates
-    (room / f"code{number}").write_bytes(image[at : at + code_size])
+    if code_base in places:
+        break
+    (room / f"code{len(places)}").write_bytes(image[at : at + code_size])
+    places.append(code_base)
+    print(f"{code_base:#x}")
     at += code_size + first
-    places.append(f"{code_base:#x}\n")
-(room / "places").write_text("".join(places))
 END
-file "$room/arguments" 0x205ff000
-file "$room/image" 0x20600000
-file "$room/input" 0x20700000
+}
+
+read_options "$@"
+words=$(words_of_chip)
+if [ "$unchecked" = 0 ]; then
+    [ -n "$checker" ] || [ -f "$here/../out/checker.o" ] ||
+        fail 3 "there is no ../out/checker.o: ../checker.sh makes it"
+    checker=${checker:-$here/../out/checker.o}
+fi
+needs_tools
+needs python3 "Debian's package python3"
+read_bytes
+out=${OUT:-$here/out}/$chip
+build_host OUT="$out" CHIP="$chip"
+places=$(places_of_chip)
+read -r at_arguments at_image at_input ticks <<<"$places"
+write_arguments "${turn:-$ticks}"
+
+# shellcheck disable=SC2206 # words
+options=($words -display none -monitor none -serial stdio)
+options+=(-kernel "$out/$([ -z "$checker" ] && echo unchecked || echo checked)")
+file arguments "$at_arguments"
+file image "$at_image"
+file input "$at_input"
 number=0
-while read -r place; do # the sandboxes' code, as a programmer of flash would put it there
-    file "$room/code$number" "$place"
+while read -r place; do
+    file "code$number" "$place"
     number=$((number + 1))
-done <"$room/places"
+done < <(cut_code)
 [ "$steps" = 0 ] || options+=(-icount shift=0)
 
 # Nothing on the chip ends QEMU: its last line is `status N`.
 mkfifo "$room/line"
-timeout "$seconds" qemu-system-riscv32 "${options[@]}" </dev/null >"$room/line" 2>"$room/log" &
+# shellcheck disable=SC2086 # words
+timeout "$seconds" qemu-system-riscv32 "${options[@]}" ${QEMU_OPTIONS:-} </dev/null >"$room/line" \
+    2>"$room/log" &
 qemu=$!
 while read -r line; do
     case $line in
@@ -89,5 +97,7 @@ while read -r line; do
     *) echo "$line" ;;
     esac
 done <"$room/line"
-wait "$qemu" && exit 3
-exit $?
+status=0
+wait "$qemu" || status=$?
+[ "$status" != 124 ] || ended_late
+failed "$status"

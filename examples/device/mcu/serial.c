@@ -1,17 +1,21 @@
 /* The serial line of the chip, and how a run ends: nothing ends QEMU from within, so run.sh waits for
    a line `status N`. */
 #include "../host.h"
-#include "chip.h"
 
-static volatile uint32_t *uart(uint32_t at) {
-    return (volatile uint32_t *)(CHIP_UART + at);
+struct store {
+    uint32_t address, word;
+};
+
+void start_chip(void) {
+    static const struct store stores[] = {CHIP_START};
+    for (uint32_t k = 0; k < sizeof stores / sizeof stores[0]; k++)
+        *(volatile uint32_t *)stores[k].address = stores[k].word;
 }
 
 void send(char byte) {
-    *uart(UART_CONTROL) = 1;
-    while (*uart(CHIP_UART_TRANSMIT) & UART_IS_FULL) {
+    while (*(volatile uint32_t *)UART_STATUS & UART_IS_FULL) {
     }
-    *uart(CHIP_UART_TRANSMIT) = (uint8_t)byte;
+    *(volatile uint32_t *)UART_TRANSMIT = (uint8_t)byte;
 }
 
 void end(uint32_t status) {

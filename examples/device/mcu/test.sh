@@ -1,76 +1,69 @@
 #!/usr/bin/env bash
-# Runs images on QEMU's model of a chip without paging, beside `sfi run`, and compares their lines:
-# exit codes, traps with their addresses, steps and output.
+# Runs images on QEMU's models of chips without paging, beside `sfi run`, and compares their lines: exit
+# codes, traps with their addresses, steps and output. The checker judges each of them on the chip, if
+# the library for wasm64 is there (judging.sh).
 #
 #     examples/device/mcu/test.sh [SFI]         # SFI is the program; ./sfi at the top if absent
 set -uo pipefail
 here=$(cd "$(dirname "${BASH_SOURCE[0]}")" && pwd)
+shared=$(realpath "$here/..")
 SFI=$(realpath "${1:-$here/../../../sfi}")
 export SFI
-passed=0
-failed=0
-skipped=0
-room=$(mktemp -d)
-trap 'rm -rf "$room"' EXIT
-source "$here/../images.sh"
+source "$shared/../harness.sh"
+source "$shared/images.sh"
+source "$shared/judging.sh"
+source "$shared/test_vendor.sh"
+source "$here/test_premises.sh"
 cd "$here"
 
-report() { # what is tried, what is wanted, what is found
-    if [ "$2" = "$3" ]; then
-        passed=$((passed + 1))
-    else
-        failed=$((failed + 1))
-        printf 'FAILED %s\n  wanted %s\n  found  %s\n' "$1" "${2:0:500}" "${3:0:500}"
-    fi
-}
-
-finish() {
-    printf '%s passed, %s failed' "$passed" "$failed"
-    [ "$skipped" = 0 ] || printf ', %s skipped' "$skipped"
-    echo
-    [ "$failed" = 0 ]
-    exit
-}
-
-needs() { # a command, and the Debian package that has it
-    command -v "$1" >"$room/which" && return
-    echo "skipped: the host for a chip without paging: $1 isn't there (Debian's package $2)"
-    skipped=$((skipped + 1))
-}
-
-needs qemu-system-riscv32 qemu-system-misc
-needs riscv64-unknown-elf-gcc gcc-riscv64-unknown-elf
-needs make make
-needs xxd xxd
-needs python3 python3
-[ "$skipped" = 0 ] || finish
-make -s || { report "make" "the host" "none" && finish; }
-
-compare() { # what is tried, its image, input
-    local wanted
-    wanted=$("$SFI" run --rounds 100 --quantum 1000000 --input "$3" <"$2")
-    report "$1" "${wanted:-the lines of sfi run}" "$(./run.sh --rounds 100 --steps --input "$3" <"$2")"
-}
-
-# ---- Sources, at the chip's places
-
-one=(--at 20500000:80000000)
-two=("${one[@]}" --at 20540000:80002100)
-
-for source in ../../hi.s ../../echo.s; do
-    [ -e "$source" ] || continue
-    for format in 1 2; do
-        grep -v '^\.format' "$source" | sed "1i .format $format" |
-            "$SFI" build "${one[@]}" >"$room/image.hex"
-        report "$(basename "$source"), format $format: its verdict" accepted \
-            "$("$SFI" check <"$room/image.hex" | cut -d ' ' -f 1)"
-        compare "$(basename "$source"), format $format" "$room/image.hex" 48656c6c6f
-    done
+for need in "qemu-system-riscv32 qemu-system-misc" "riscv64-unknown-elf-gcc gcc-riscv64-unknown-elf" \
+    "make make" "xxd xxd" "python3 python3"; do
+    needs "the host for a chip without paging" $need
 done
+[ "$skipped" = 0 ] || finish
+
+by=(--unchecked)
+! make_checker || by=(--checker "$room/checker/checker.o")
+cases=$shared/cases
+
+without_steps() { sed 's/ steps=[0-9]*//'; }
+
+# The lines of run.sh but those of each trap's pc.
+run() { ./run.sh "${on[@]}" "${by[@]}" "$@" | sed '/ pc=/d'; }
+
+macro() { # of the chip's header
+    riscv64-unknown-elf-gcc -E -P -x c -I "chips/$chip" - <<<"#include \"chip.h\"
+$1" | tail -n 1
+}
+
+hex() { printf 0x%x $(($1)); } # of a computation
+
+at() { # numbers of sandboxes with 256 bytes of data each, that lie next to each other
+    local number
+    for number; do
+        printf -- '--at %x:%x ' $((flash_code + 0x1000 * number)) $((chip_ram + 0x2100 * number))
+    done
+}
+
+build() { # a source, a format; the image of its sandboxes, which are as many as it has
+    local count
+    count=$(grep -c '^\.sandbox' "$1")
+    # shellcheck disable=SC2046 # words
+    grep -v '^\.format' "$1" | sed "1i .format $2" | "$SFI" build $(at $(seq 0 $((count - 1))))
+}
+
+compare() { # what is tried; its input. The image is $room/image.hex
+    local wanted
+    wanted=$("$SFI" run --rounds 100 --quantum 1000000 --input "$2" <"$room/image.hex")
+    report "$chip: $1" "${wanted:-the lines of sfi run}" \
+        "$(run --rounds 100 --steps --input "$2" <"$room/image.hex")"
+}
 
 # Each posts a word to the other, and exits with the word that it takes.
-for ((number = 0; number < 2; number++)); do
-    cat <<END
+pair_source() {
+    local number
+    for ((number = 0; number < 2; number++)); do
+        cat <<END
 .sandbox 256
 .gate exit 0
 .gate yield 3
@@ -83,43 +76,179 @@ for ((number = 0; number < 2; number++)); do
         call take
         call exit
 END
-done >"$room/two.s"
-"$SFI" build "${two[@]}" <"$room/two.s" >"$room/image.hex"
-compare "words between two sandboxes" "$room/image.hex" ''
+    done
+}
+
+try_sources() {
+    local source format
+    for source in hi echo; do
+        for format in 1 2; do
+            build "$shared/../$source.s" "$format" >"$room/image.hex"
+            compare "$source, format $format" 48656c6c6f
+        done
+    done
+    pair_source >"$room/pair.s"
+    build "$room/pair.s" 1 >"$room/image.hex"
+    compare "words between two sandboxes" ''
+}
 
 # ---- Loads and stores at the ends of the data, and over them
 
+accesses=()
 for operation in lb lhu lw sb sh sw; do
     for place in "0 -2048" "0 -1" "0 0" "-1 -3" "-1 -1" "-1 0" "-1 2047"; do
-        read -r base offset <<<"$place"
-        printf '.sandbox 256\n li a0, %s\n li a1, 0x44332211\n %s a1, %s(a0)\n ebreak\n' \
-            "$base" "$operation" "$offset" >"$room/one.s"
-        (cat "$room/one.s" "$room/one.s") | "$SFI" build "${two[@]}" >"$room/image.hex"
-        compare "$operation $place" "$room/image.hex" ''
+        accesses+=("$operation $place")
     done
 done
 
-# ---- What the host refuses, and what guard zones keep from nobody
+# As many sandboxes in an image as the chip has room for, each with an access of the list.
+try_accesses() { # the list
+    local from one operation base offset
+    local accesses=("$@")
+    for ((from = 0; from < ${#accesses[@]}; from += sandboxes_most)); do
+        for one in "${accesses[@]:from:sandboxes_most}"; do
+            read -r operation base offset <<<"$one"
+            printf '.sandbox 256\n li a0, %s\n li a1, 0x44332211\n %s a1, %s(a0)\n ebreak\n' \
+                "$base" "$operation" "$offset"
+        done >"$room/accesses.s"
+        build "$room/accesses.s" 1 >"$room/image.hex"
+        compare "${accesses[*]:from:sandboxes_most}" ''
+    done
+}
+
+# ---- What the host refuses, what a sandbox can't put, and what guard zones keep from nobody
 
 refused() { # reason; the sandboxes on standard input
     image 1 1 >"$room/image.hex"
-    report "the host refuses: $1" "device: sandbox 0: $1"$'\nstatus 2' \
-        "$(./run.sh <"$room/image.hex"; echo "status $?")"
+    report "$chip: the host refuses: $1" "device: $1"$'\nstatus 2' \
+        "$(run <"$room/image.hex"; echo "status $?")"
 }
 
-refused "there is no memory for its data and guard zones" \
-    < <(sandbox 0x20500000 0x80003000 256 "" "" <<<ebreak)
-refused "its code isn't in the flash" < <(sandbox 0x20300000 0x80000000 256 "" "" <<<ebreak)
+try_places() {
+    refused "sandbox 0: there is no memory for its data and guard zones" \
+        < <(sandbox "$flash_code" "$(hex "host_ram - 512")" 256 "" "" <<<ebreak)
+    refused "sandbox 0: its code isn't in the flash" \
+        < <(sandbox "$(hex "flash_code - 256")" "$chip_ram" 256 "" "" <<<ebreak)
+    yes $'.sandbox 256\n ebreak' | head -n $((2 * sandboxes_most + 2)) >"$room/many.s"
+    build "$room/many.s" 1 >"$room/image.hex"
+    report "$chip: too many sandboxes" \
+        "device: there is room for $((sandboxes_most)) sandboxes"$'\nstatus 2' \
+        "$(run <"$room/image.hex"; echo "status $?")"
+}
 
-image 1 1 >"$room/image.hex" < <(sandbox 0x20500000 0x80000000 256 "" "" <<'END'
-        lui     a0, 0x10013
+try_output() {
+    cat >"$room/output.s" <<END
+.sandbox 256
+.gate exit 0
+.gate put 1
+        li   s0, $((output_most / 256))
+more:   li   a0, $((chip_ram))
+        li   a1, 256
+        call put
+        addi s0, s0, -1
+        bnez s0, more
+        li   a0, $((chip_ram))
+        li   a1, 1
+        call put
+        call exit
+END
+    build "$room/output.s" 1 >"$room/image.hex"
+    report "$chip: more output than there is room for" "exit=4294967295 $((2 * output_most)) digits" \
+        "$(run <"$room/image.hex" | awk '{ print $2, length($3) - 4, "digits" }')"
+}
+
+try_attack() {
+    image 1 1 >"$room/image.hex" < <(sandbox "$flash_code" "$chip_ram" 256 "" "" <<END
+        li      a0, $((uart))
         li      a1, '!'
         sw      a1, 0(a0)
         ebreak
 END
-)
-report "a store to the UART: checked" "refused findings=1 first=V5 sandbox=0 at=20500008" \
-    "$(./run.sh <"$room/image.hex")"
-report "a store to the UART: unchecked" "!sandbox=0 trap=Break at=2050000c out=" \
-    "$(./run.sh --unchecked <"$room/image.hex")"
+    )
+    local place
+    place=$("$SFI" check <"$room/image.hex")
+    [ "${by[0]}" = --unchecked ] ||
+        report "$chip: a store to the UART: checked" "device: $place"$'\nstatus 1' \
+            "$(run <"$room/image.hex"; echo "status $?")"
+    report "$chip: a store to the UART: unchecked" \
+        "!sandbox=0 trap=Break at=$(printf %08x $((16#${place##*at=} + 4))) out=" \
+        "$(by=(--unchecked) && run <"$room/image.hex")"
+}
+
+# ---- The stack of the checker on the chip's own: half of its room is left
+
+try_stacks() {
+    local line stack module room_for
+    build "$room/pair.s" 2 >"$room/image.hex"
+    line=$(./run.sh "${on[@]}" --checker "$room/checker/measured.o" --steps <"$room/image.hex" | head -n 1)
+    room_for=$(riscv64-unknown-elf-nm "out/$chip/checked" |
+        awk '/ stack_bottom$/ { from = $1 } / judge_stack_top$/ { to = $1 } END { print "0x" to " - 0x" from }')
+    [[ $line =~ " stack="([0-9]+)" module_stack="([0-9]+)$ ]]
+    stack=${BASH_REMATCH[1]:-none} module=${BASH_REMATCH[2]:-none}
+    report "$chip: the checker's stacks: $line, of $((room_for))" "both at most half" \
+        "$([ "$stack" -le $(((room_for) / 2)) ] && [ "$module" -le 2048 ] && echo "both at most half")"
+}
+
+# On one chip: a vendor's own files are the same on all.
+try_vendor() {
+    try_enter
+    try_services
+    try_interrupts 3
+    build "$cases/outside.s" 1 >"$room/image.hex"
+    try_report "$room/image.hex"
+    try_pcs "$room/image.hex"
+}
+
+# ---- What run.sh refuses
+
+refused_by_script() { # status, the line; the words of the command line
+    local status=$1 line=$2
+    shift 2
+    report "mcu/run.sh $*" "$line"$'\n'"status $status" \
+        "$(run "$@" <"$room/image.hex" 2>&1; echo "status $?")"
+}
+
+try_script() {
+    build "$shared/../hi.s" 1 >"$room/image.hex"
+    refused_by_script 3 "run.sh: --rounds takes a number from 1 to 4294967295" --rounds
+    refused_by_script 3 "run.sh: --turn takes a number from 1 to 4294967295" --turn x
+    refused_by_script 3 "run.sh: there is no option --round; --help names them" --round 3
+    refused_by_script 3 "run.sh: there is no chip none: chips/table names them" --chip none
+    refused_by_script 3 "run.sh: --checker names no file" --checker none
+    QEMU_OPTIONS=-none refused_by_script 4 \
+        "run.sh: QEMU failed in status 1: qemu-system-riscv32: -none: invalid option"
+    echo zz >>"$room/image.hex"
+    refused_by_script 2 "run.sh: the image isn't pairs of hexadecimal digits: $(head -c 80 "$room/image.hex")"
+    echo 534649 >"$room/image.hex"
+    report "an image of 3 bytes, unchecked" $'device: the image is cut short\nstatus 2' \
+        "$(by=(--unchecked) && run <"$room/image.hex"; echo "status $?")"
+}
+
+try_chip() {
+    local flash_code chip_ram host_ram sandboxes_most output_most uart code
+    read -r flash_code chip_ram host_ram sandboxes_most output_most uart < \
+        <(macro "FLASH_CODE CHIP_RAM HOST_RAM SANDBOXES_MOST OUTPUT_MOST UART_TRANSMIT")
+    code=$(printf %08x $((flash_code)))
+    on=(--chip "$chip")
+    try_sources
+    try_accesses "${accesses[@]}"
+    # Each of them in the other sandbox, too
+    [ "$sandboxes_most" != 2 ] || try_accesses "${accesses[@]:1}" "${accesses[0]}"
+    try_places
+    try_output
+    try_attack
+    try_premises
+    [ "${by[0]}" = --unchecked ] || try_stacks
+    case $chip in
+    sifive_e)
+        try_script
+        [ "${by[0]}" = --unchecked ] || judge_layouts
+        ;;
+    sifive_u) try_vendor ;;
+    esac
+}
+
+while read -r chip _; do
+    try_chip
+done <chips/table
 finish

@@ -1,0 +1,32 @@
+/* A vendor's own interrupt: S-mode's software interrupt, or on a chip with SiFive's CLINT that of M-mode.
+   It is raised ten times, and prints a line each time. */
+#include "host.h"
+
+#ifdef MICROCONTROLLER
+enum { SOFTWARE = 3 };
+static void raise(uint32_t word) { *(volatile uint32_t *)0x02000000 = word; }
+#define ENABLED "mie"
+#else
+enum { SOFTWARE = 1 };
+static void raise(uint32_t word) {
+    if (word)
+        __asm__ volatile("csrsi sip, 2");
+    else
+        __asm__ volatile("csrci sip, 2");
+}
+#define ENABLED "sie"
+#endif
+
+static uint32_t answered;
+
+void start_interrupts(void) {
+    __asm__ volatile("csrs " ENABLED ", %0" ::"r"(1 << SOFTWARE));
+    raise(1);
+}
+
+void answer_interrupt(uint32_t cause) {
+    print("interrupt ");
+    print_decimal(cause);
+    print("\n");
+    raise(++answered < 10);
+}

@@ -1,0 +1,109 @@
+# What the host supposes of the chip, for test.sh, whose functions this uses: it reads back what it
+# writes, parks all harts but one, and takes nothing as a boot ROM left it.
+
+# The image is $room/image.hex.
+after_boot() { # what is tried, what is wanted; a boot ROM's assembly on standard input
+    local words
+    words=$(boot_rom "$boots_at" "$flash_host")
+    report "$chip: $1" "$2" "$(QEMU_OPTIONS=$words run --rounds 100 --steps <"$room/image.hex"; echo "status $?")"
+}
+
+pmp_refused() { # what is tried, the entry; a boot ROM's assembly on standard input
+    after_boot "$1" \
+        "device: entry $2 of physical memory protection isn't as it was written"$'\nstatus 2'
+}
+
+# The store is to the guard zone: with the first entry as it was locked it would go through.
+try_entries() {
+    head -n 7 "$cases/outside.s" >"$room/store.s"
+    build "$room/store.s" 1 >"$room/image.hex"
+    local trap
+    trap=$("$SFI" run --rounds 100 --quantum 1000000 <"$room/image.hex")$'\nstatus 0'
+    pmp_refused "a locked entry that opens the memory" 0 <<END
+        li      t0, ($((chip_ram)) | 0x1fff) >> 2
+        csrw    pmpaddr0, t0
+        li      t0, 0x9b
+        csrw    pmpcfg0, t0
+END
+    pmp_refused "two entries are there" 2 <<'END'
+        li      t0, 0x80800000
+        csrw    pmpcfg0, t0
+        li      t0, 0x80808080
+        csrw    pmpcfg1, t0
+END
+    pmp_refused "addresses are multiples of 512" 0 <<END
+        li      t0, ($((chip_ram)) | 0xff) >> 2
+        csrw    pmpaddr0, t0
+        li      t0, 0x9b
+        csrw    pmpcfg0, t0
+END
+    after_boot "entries that are there, not locked" "$trap" <<'END'
+        li      t0, -1
+        csrw    pmpaddr2, t0
+        li      t0, 0x1f1f1f1f
+        csrw    pmpcfg0, t0
+        csrw    pmpcfg1, t0
+END
+}
+
+# The timer is due while the checker judges.
+try_interrupts_left_on() {
+    after_boot "interrupts that were left on" "$1" <<END
+        li      t0, $time
+        lw      t1, 0(t0)
+        addi    t1, t1, 2
+        li      t0, $due
+        sw      x0, 4(t0)
+        sw      t1, 0(t0)
+        li      t0, -1
+        csrw    mie, t0
+        csrsi   mstatus, 8
+END
+}
+
+# The clock as it is after days, and as its lower word begins anew.
+try_clocks() {
+    local word
+    for word in 1:0 0:0xfffffffe; do
+        after_boot "the clock is at ${word/:/, }" "$1" <<END
+        li      t0, $time
+        sw      x0, 0(t0)
+        li      t1, ${word%:*}
+        sw      t1, 4(t0)
+        li      t1, ${word#*:}
+        sw      t1, 0(t0)
+END
+    done
+}
+
+try_harts() {
+    local harts
+    for harts in 2 5; do
+        report "$chip: $harts harts" "$1" \
+            "$(QEMU_OPTIONS="-smp $harts" run --rounds 100 --steps <"$room/image.hex"; echo "status $?")"
+    done
+}
+
+# What a reset leaves in memory is nothing to rely on.
+try_memory() {
+    head -c $((ram_end - chip_ram)) /dev/zero | tr '\0' '\377' >"$room/ones"
+    report "$chip: memory isn't 0 at first" "$1" \
+        "$(QEMU_OPTIONS="-device loader,file=$room/ones,addr=$chip_ram,force-raw=on" \
+            run --rounds 100 --steps <"$room/image.hex"; echo "status $?")"
+}
+
+try_premises() {
+    local flash_host flash_input time due ram_end boots_at lines
+    read -r flash_host flash_input time due ram_end < \
+        <(macro "FLASH_HOST FLASH_INPUT TIME TIMER_DUE RAM_END")
+    boots_at=$(hex "flash_input + 0x3f000")
+    try_entries
+    build "$room/pair.s" 1 >"$room/image.hex"
+    lines=$("$SFI" run --rounds 100 --quantum 1000000 <"$room/image.hex")$'\nstatus 0'
+    try_memory "$lines"
+    case $chip in
+    opentitan) ;; # its clock can't be set, and it has one hart
+    *) try_interrupts_left_on "$lines" && try_clocks "$lines" ;;
+    esac
+    [ "$chip" != sifive_u ] || try_harts "$lines"
+}

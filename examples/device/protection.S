@@ -1,0 +1,42 @@
+# The registers of physical memory protection, whose numbers are part of the instructions. Where there
+# are none, the first access traps, and both functions end there.
+#include "machine.h"
+
+        .macro  each_entry              # csrw or csrr, and lw or sw, of `each`
+        .set    number, 0
+        .rept   PMP_ENTRIES
+        each    PMPADDR0 + number, 4*number(a0)
+        .set    number, number + 1
+        .endr
+        .set    number, 0
+        .rept   PMP_ENTRIES / 4
+        each    PMPCFG0 + number, 4*number(a1)
+        .set    number, number + 1
+        .endr
+        .endm
+
+        .text
+        .globl  pmp_write, pmp_read
+pmp_write:                              # addresses, configurations
+        la      t1, ended
+        csrrw   t1, mtvec, t1
+        .macro  each register, place
+        lw      t0, \place
+        csrw    \register, t0
+        .endm
+        each_entry
+        .purgem each
+        j       ended
+
+pmp_read:                               # where to: addresses, configurations
+        la      t1, ended
+        csrrw   t1, mtvec, t1
+        .macro  each register, place
+        csrr    t0, \register
+        sw      t0, \place
+        .endm
+        each_entry
+
+        .balign 4
+ended:  csrw    mtvec, t1
+        ret

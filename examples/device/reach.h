@@ -1,0 +1,29 @@
+/* Where the module may read and write: the C that wasm2c made asks this before each access. */
+#ifndef REACH_H
+#define REACH_H
+
+#include <stdbool.h>
+#include <stdint.h>
+
+#include "checker.h"
+
+/* Addresses of the module. */
+struct reach {
+    uint32_t first, size;
+};
+extern struct reach image_reach;
+
+#define IN_EACH_ACCESS __attribute__((always_inline)) static inline
+
+IN_EACH_ACCESS bool lies_in(uint32_t at, uint32_t length, struct reach reach) {
+    return length <= reach.size && at - reach.first <= reach.size - length;
+}
+
+/* Whether the addresses of the module from `at` on are its own memory's, or the image's. */
+IN_EACH_ACCESS bool module_reaches(uint64_t at, uint32_t length) {
+    const struct reach own = {LINKED_STACK - MODULE_STACK, sizeof(struct checker_memory)};
+    uint32_t address = (uint32_t)at;
+    return at == address && (lies_in(address, length, own) || lies_in(address, length, image_reach));
+}
+
+#endif

@@ -1,0 +1,57 @@
+# What a vendor adds to the host, for test.sh and mcu/test.sh, whose functions `run`, `build` and
+# `without_steps` this uses: services and interrupts of one's own, and calls of a sandbox that has stopped.
+# $cases is the folder of the files, $on has the words of run.sh that name a chip, and sandbox 0's code
+# is at $code.
+
+try_enter() {
+    build "$cases/plugin.s" 1 >"$room/image.hex"
+    local at first=$((16#$code))
+    at=$(printf %x $((first + 48)))
+    report "a sandbox that has stopped is called" "sandbox=0 exit=1239 out=61" \
+        "$(run --enter "0:$at:1000,200,30,4,2,1,1,1" <"$room/image.hex")"
+    report "it is called, with fewer arguments" "sandbox=0 exit=7 out=61" \
+        "$(run --enter "0:$at:7" <"$room/image.hex")"
+    local no="device: --enter: there is no such sandbox, or it hasn't stopped,"
+    no+=" or no bundle begins there"
+    for at in "0:$(printf %x $((first + 52)))" "0:$(printf %x $((first - 16)))" \
+        "0:$(printf %x $((first + 65536)))" "1:$code"; do
+        report "--enter $at" "$no"$'\nstatus 2' "$(run --enter "$at:" <"$room/image.hex"; echo "status $?")"
+    done
+    build "$cases/endless.s" 1 >"$room/image.hex"
+    report "--enter of a sandbox that is ready" "$no"$'\nstatus 2' \
+        "$(run --rounds 2 --enter "0:$code:" <"$room/image.hex"; echo "status $?")"
+}
+
+try_services() {
+    build "$cases/counter.s" 1 >"$room/image.hex"
+    report "services of a vendor's own" "sandbox=0 exit=42 out=" \
+        "$(SERVICES=$cases/counter_services.c OUT=$room/vendor run <"$room/image.hex")"
+}
+
+# A vendor's interrupt comes at the first instruction of a turn, ten times.
+try_interrupts() { # the interrupt's number
+    local line lines=''
+    for line in 1 2 3 4 5 6 7 8 9 10; do lines+="interrupt $1"$'\n'; done
+    build "$cases/endless.s" 1 >"$room/image.hex"
+    lines+=$("$SFI" run --rounds 2 <"$room/image.hex" | without_steps)
+    export INTERRUPTS=$cases/software_interrupt.c OUT=$room/interrupts
+    report "interrupts of a vendor's own" "$lines" "$(run --rounds 2 <"$room/image.hex")"
+    unset INTERRUPTS OUT
+}
+
+# The pc and registers of `sfi run --report`, but for the instruction's name.
+try_report() { # image
+    local wanted
+    wanted=$("$SFI" run --rounds 10 --report <"$1" | without_steps |
+        sed 's/\(pc=[0-9a-f]* [0-9a-f]*\) .*/\1/')
+    report "--report" "$wanted" "$(./run.sh "${on[@]}" "${by[@]}" --rounds 10 --report <"$1")"
+}
+
+# The pc of each trap is told without an option, too.
+try_pcs() { # image
+    local wanted
+    wanted=$("$SFI" run --rounds 10 --report <"$1" |
+        sed -n 's/\(pc=[0-9a-f]* [0-9a-f]*\) .*/\1/p')
+    report "the pc of a trap" "$wanted" \
+        "$(./run.sh "${on[@]}" "${by[@]}" --rounds 10 <"$1" | grep ' pc=')"
+}
