@@ -35,36 +35,64 @@ def rounded(count):
     return count + -count % FRAME_ALIGNMENT
 
 
+def groups_of(sections):
+    """The sections, each alone, but for those of one name that C can say: as linkers do, they lie side by side."""
+    groups = {}
+    for section in sections:
+        groups.setdefault(section.name if section.name.isidentifier() else id(section), []).append(section)
+    return list(groups.values())
+
+
+def is_zero(group):
+    return all(section.is_zero() for section in group)
+
+
+def size_of(group):
+    return sum(len(section.content) for section in group)
+
+
 class DataLayout:
     """The data sections one after another, after the room below them: first the small ones, which are cheap to reach at
-    the region's beginning, then those with content, and then those of zeros, the largest last, so that the most zeros
-    are left to the region's own."""
+    the region's beginning, then those with content, and after `close` those of zeros, the largest last, so that the
+    most zeros are left to the region's own."""
 
     def __init__(self, sections, below=0):
-        small = [section for section in sections if len(section.content) <= SMALL]
-        large = [section for section in sections if len(section.content) > SMALL]
-        filled = sorted(small, key=lambda section: (section.is_zero(), -section.alignment))
-        filled += [section for section in large if not section.is_zero()]
-        zeros = sorted((section for section in large if section.is_zero()), key=lambda section: len(section.content))
+        groups = groups_of(sections)
+        small = [group for group in groups if size_of(group) <= SMALL]
+        large = [group for group in groups if size_of(group) > SMALL]
+        filled = sorted(small, key=lambda group: (is_zero(group), -group[0].alignment))
+        self.zeros = sorted((group for group in large if is_zero(group)), key=size_of)
         self.starts = {}
         self.chunks = []
         self.labels = {}  # by offset, the labels that code and addresses speak of
         self.end = below if sections else 0
-        for section in filled + zeros:
+        for group in filled + [group for group in large if not is_zero(group)]:
+            self.add(group)
+
+    def add(self, group):
+        for section in group:
             self.end += -self.end % section.alignment
             self.starts[id(section)] = self.end
             self.chunks.append((self.end, section))
             self.end += len(section.content)
 
+    def close(self):
+        for group in self.zeros:
+            self.add(group)
+
     def offset(self, section, name):
         return self.starts[id(section)] + section.labels[name]
 
-    def label(self, section, symbol, addend, text, place):
-        """Puts a label where the symbol plus the addend lies. A loop may end after the last object."""
+    def reach(self, section, symbol, addend, place):
+        """Where the symbol plus the addend lies. A loop may end after the last object."""
         offset = self.offset(section, symbol) + addend
         if not 0 <= offset <= LARGEST_DATA:
             raise Refused(place, f"{symbol}{addend:+} lies outside the data")
         self.end = max(self.end, offset)
+        return offset
+
+    def label(self, offset, text):
+        """Puts a label at an offset."""
         texts = self.labels.setdefault(offset, [])
         if text not in texts:
             texts.append(text)
