@@ -611,79 +611,261 @@ lw s7,28(sp)
 li a0,0
 addi sp,sp,64
 jr ra
-divided..1:
-add t1,zero,a0
-bne a1,zero,_.L2..1
-bne a3,zero,_.L2..1
-j _.L17..1
+digit..1:
+lw t4,0(a0)
+srli t1,a2,16
+.option norvc
+add t5,zero,a0
+divu a0,t4,t1
+slli t3,a2,16
+srli t3,t3,16
+remu a5,t4,t1
+mul a6,t3,a0
+nop
+nop
 _.L2..1:
-addi sp,sp,-16
-.option norvc
-sw s0,12(sp)
-li t4,64
-li a7,0
-li a0,0
-nop
-_.L8..1:
-srli a5,a1,31
-slli t3,a0,1
-srli t0,t1,31
-slli a6,a7,1
+slli a3,a5,16
+srli a4,a0,16
 .option rvc
-add a6,a6,a5
-srli a7,a7,31
-or t3,t3,a7
-sltu a5,a6,a5
-add a5,a5,t3
-sub t5,a6,a2
-srli t3,a0,31
-slli a1,a1,1
-sltu t2,a6,t5
-add a0,zero,a5
-sub s0,a5,a3
+add a5,a5,t1
+srli a7,a5,16
+or a3,a3,a1
+bne a4,zero,_.L4..1
+bltu a3,a6,_.L4..1
+j _.L3..1
+_.L4..1:
 .option norvc
-add a7,zero,a6
-or a1,a1,t0
-slli t1,t1,1
-bne t3,zero,_.L6..1
-bltu a5,a3,_.L5..1
-bne a3,a5,_.L6..1
-bltu a6,a2,_.L5..1
-_.L6..1:
-add a7,zero,t5
-sub a0,s0,t2
-ori t1,t1,1
+addi a0,a0,-1
+sub a6,a6,t3
+beq a7,zero,_.L2..1
 nop
-_.L5..1:
-addi t4,t4,-1
-bne t4,zero,_.L8..1
-lw s0,12(sp)
-nop
-sw a0,4(a4)
-add a0,zero,t1
-sw a7,0(a4)
-nop
-.option rvc
-addi sp,sp,16
-.option norvc
-nop
-jr ra
-_.L17..1:
-add a1,zero,a2
-beq a2,zero,_.L2..1
-remu a5,a0,a2
-li a1,0
-sw zero,4(a4)
-divu a0,a0,a2
-sw a5,0(a4)
+_.L3..1:
+mul a2,a0,a2
+slli t4,t4,16
+or t4,t4,a1
+sub t4,t4,a2
+sw t4,0(t5)
 nop
 ret
+quotient_of..1:
+.option rvc
+addi sp,sp,-48
+sw s3,28(sp)
+sw ra,44(sp)
+.option norvc
+sw s0,40(sp)
+sw s1,36(sp)
+sw s2,32(sp)
+add t3,zero,a0
+.option rvc
+add s3,zero,a3
+add a7,zero,a2
+.option norvc
+li a4,5
+li t1,32
+li a5,16
+_.L8..1:
+srl a6,a7,a5
+.option rvc
+addi a4,a4,-1
+beq a6,zero,_.L7..1
+sub t1,t1,a5
+add a7,zero,a6
+_.L7..1:
+.option norvc
+srai a5,a5,1
+bne a4,zero,_.L8..1
+sub s2,t1,a7
+beq t1,a7,_.L9..1
+li a5,32
+sub a5,a5,s2
+srl a5,a1,a5
+sll t3,t3,s2
+or t3,t3,a5
+j _.L9..1
+_.L9..1:
+sll s0,a2,s2
+sll s1,a1,s2
+add a2,zero,s0
+srli a1,s1,16
+addi a0,sp,12
+sw t3,12(sp)
+nop
+call digit..1
+slli a1,s1,16
+add a5,zero,a0
+add a2,zero,s0
+addi a0,sp,12
+srli a1,a1,16
+add s0,zero,a5
+nop
+call digit..1
+.option rvc
+lw a5,12(sp)
+slli s0,s0,16
+lw ra,44(sp)
+or a0,a0,s0
+.option norvc
+lw s0,40(sp)
+srl a5,a5,s2
+sw a5,0(s3)
+.option rvc
+lw s1,36(sp)
+lw s2,32(sp)
+.option norvc
+lw s3,28(sp)
+.option rvc
+addi sp,sp,48
+jr ra
+divided..1:
+addi sp,sp,-48
+sw s2,32(sp)
+sw s3,28(sp)
+sw s4,24(sp)
+sw ra,44(sp)
+sw s0,40(sp)
+sw s1,36(sp)
+.option norvc
+sw s5,20(sp)
+or a5,a2,a3
+add s3,zero,a0
+add s4,zero,a1
+add s2,zero,a4
+beq a5,zero,_.L38..1
+.option rvc
+add s0,zero,a2
+add s1,zero,a3
+bne a3,zero,_.L39..1
+bne a1,zero,_.L28..1
+remu a5,a0,a2
+sw zero,4(a4)
+.option norvc
+li a1,0
+divu a0,a0,a2
+sw a5,0(a4)
+_.L18..1:
+.option rvc
+lw ra,44(sp)
+lw s0,40(sp)
+lw s1,36(sp)
+lw s2,32(sp)
+.option norvc
+lw s3,28(sp)
+lw s4,24(sp)
+lw s5,20(sp)
+.option rvc
+addi sp,sp,48
+jr ra
+_.L28..1:
+remu a0,a1,a2
+.option norvc
+addi a3,sp,12
+add a1,zero,s3
+call quotient_of..1
+lw a5,12(sp)
+sw zero,4(s2)
+divu a1,s4,s0
+sw a5,0(s2)
+j _.L18..1
+_.L38..1:
+sw a0,0(s2)
+li a0,-1
+sw a1,4(s2)
+li a1,-1
+j _.L18..1
+_.L39..1:
+add a1,zero,a3
+li a4,5
+li a0,32
+li a5,16
+_.L23..1:
+srl a3,a1,a5
+.option rvc
+addi a4,a4,-1
+beq a3,zero,_.L22..1
+sub a0,a0,a5
+.option norvc
+add a1,zero,a3
+_.L22..1:
+.option rvc
+srai a5,a5,1
+bne a4,zero,_.L23..1
+sub s5,a0,a1
+add a2,zero,s1
+beq a0,a1,_.L24..1
+li a2,32
+sub a2,a2,s5
+srl a2,s0,a2
+sll a5,s1,s5
+or a2,a2,a5
+j _.L24..1
+_.L24..1:
+srli a5,s3,1
+slli a1,s4,31
+.option norvc
+or a1,a1,a5
+addi a3,sp,12
+srli a0,s4,1
+nop
+nop
+call quotient_of..1
+.option rvc
+li a5,31
+sub a5,a5,s5
+srl a4,a0,a5
+beq a4,zero,_.L30..1
+addi a4,a4,-1
+mulhu a2,s0,a4
+add a0,zero,a4
+li a1,0
+mul a3,s0,a4
+mul a5,s1,a4
+_.L25..1:
+sub a3,s3,a3
+sub a5,s4,a5
+.option norvc
+sub a5,a5,a2
+sltu s3,s3,a3
+sub a5,a5,s3
+.option rvc
+add a2,zero,a3
+add a6,zero,a5
+bltu a5,s1,_.L26..1
+beq s1,a5,_.L40..1
+_.L31..1:
+sub a2,a3,s0
+sltu a3,a3,a2
+.option norvc
+sub a5,a5,s1
+sub a6,a5,a3
+addi a0,a4,1
+.option rvc
+li a1,0
+j _.L26..1
+_.L26..1:
+sw a2,0(s2)
+.option norvc
+nop
+sw a6,4(s2)
+j _.L18..1
+_.L30..1:
+.option rvc
+li a5,0
+li a3,0
+li a2,0
+li a0,0
+li a1,0
+j _.L25..1
+_.L40..1:
+bltu a3,s0,_.L26..1
+j _.L31..1
 memcpy:
 or a5,a0,a1
+.option norvc
 andi a5,a5,3
-bne a5,zero,_.L25..1
+bne a5,zero,_.L48..1
 li a5,3
-bgeu a5,a2,_.L25..1
+bgeu a5,a2,_.L48..1
 addi a7,a2,-4
 andi a7,a7,-4
 addi a7,a7,4
@@ -691,89 +873,89 @@ add a5,a0,a7
 add a3,zero,a1
 add a4,zero,a0
 nop
-_.L23..1:
+_.L46..1:
 lw a6,0(a3)
 .option rvc
 addi a4,a4,4
 addi a3,a3,4
 sw a6,-4(a4)
-bne a4,a5,_.L23..1
+bne a4,a5,_.L46..1
 .option norvc
 andi a2,a2,3
 add a1,a1,a7
 add a3,a5,a2
-bne a2,zero,_.L24..1
-_.L29..1:
+bne a2,zero,_.L47..1
+_.L52..1:
 ret
-_.L25..1:
+_.L48..1:
 .option rvc
 add a5,zero,a0
 add a3,a5,a2
-bne a2,zero,_.L24..1
-j _.L29..1
-_.L24..1:
+bne a2,zero,_.L47..1
+j _.L52..1
+_.L47..1:
 lbu a4,0(a1)
 addi a5,a5,1
 addi a1,a1,1
 sb a4,-1(a5)
-bne a5,a3,_.L24..1
+bne a5,a3,_.L47..1
 ret
 memmove:
-bgeu a1,a0,_.L31..1
+bgeu a1,a0,_.L54..1
 addi a5,a2,-1
 .option norvc
 li a6,-1
-beq a2,zero,_.L45..1
-_.L32..1:
+beq a2,zero,_.L68..1
+_.L55..1:
 add a4,a1,a5
 lbu a3,0(a4)
 add a4,a0,a5
 sb a3,0(a4)
 .option rvc
 addi a5,a5,-1
-bne a5,a6,_.L32..1
+bne a5,a6,_.L55..1
 j next..1
 next..1:
 ret
-_.L31..1:
+_.L54..1:
 or a5,a0,a1
 andi a5,a5,3
-bne a5,zero,_.L39..1
+bne a5,zero,_.L62..1
 li a5,3
-bgeu a5,a2,_.L39..1
+bgeu a5,a2,_.L62..1
 addi a5,a2,-4
 andi a5,a5,-4
 addi a5,a5,4
 add a6,a1,a5
 .option norvc
 add a4,zero,a0
-_.L37..1:
+_.L60..1:
 lw a3,0(a1)
 .option rvc
 addi a1,a1,4
 addi a4,a4,4
 sw a3,-4(a4)
-bne a6,a1,_.L37..1
+bne a6,a1,_.L60..1
 andi a2,a2,3
 add a5,a5,a0
-j _.L36..1
-_.L39..1:
+j _.L59..1
+_.L62..1:
 add a5,zero,a0
-j _.L36..1
-_.L36..1:
+j _.L59..1
+_.L59..1:
 add a3,a1,a2
-bne a2,zero,_.L38..1
-j _.L46..1
-_.L38..1:
+bne a2,zero,_.L61..1
+j _.L69..1
+_.L61..1:
 lbu a4,0(a1)
 addi a1,a1,1
 addi a5,a5,1
 sb a4,-1(a5)
-bne a3,a1,_.L38..1
+bne a3,a1,_.L61..1
 ret
-_.L45..1:
+_.L68..1:
 ret
-_.L46..1:
+_.L69..1:
 ret
 memset:
 andi a5,a1,255
@@ -783,92 +965,92 @@ add a3,a3,a5
 slli a5,a3,16
 andi a1,a1,255
 add a3,a3,a5
-beq a2,zero,_.L59..1
+beq a2,zero,_.L82..1
 andi a5,a0,3
-beq a5,zero,_.L56..1
+beq a5,zero,_.L79..1
 .option rvc
 add a5,zero,a0
-j _.L51..1
-_.L67..1:
-bne a4,zero,_.L51..1
-j _.L49..1
-_.L51..1:
+j _.L74..1
+_.L90..1:
+bne a4,zero,_.L74..1
+j _.L72..1
+_.L74..1:
 sb a1,0(a5)
 .option norvc
 addi a2,a2,-1
 addi a5,a5,1
 andi a4,a5,3
-bne a2,zero,_.L67..1
+bne a2,zero,_.L90..1
 nop
-_.L59..1:
+_.L82..1:
 ret
-_.L56..1:
+_.L79..1:
 .option rvc
 add a5,zero,a0
-j _.L49..1
-_.L49..1:
+j _.L72..1
+_.L72..1:
 li a4,3
-bgeu a4,a2,_.L68..1
+bgeu a4,a2,_.L91..1
 addi a4,a2,-4
 andi a4,a4,-4
 addi a4,a4,4
 add a4,a4,a5
-_.L52..1:
+_.L75..1:
 sw a3,0(a5)
 .option norvc
 addi a5,a5,4
-bne a4,a5,_.L52..1
+bne a4,a5,_.L75..1
 .option rvc
 andi a2,a2,3
-bne a2,zero,_.L55..1
-j _.L59..1
-_.L55..1:
+bne a2,zero,_.L78..1
+j _.L82..1
+_.L78..1:
 add a2,a2,a4
-j _.L53..1
-_.L53..1:
+j _.L76..1
+_.L76..1:
 .option norvc
 addi a4,a4,1
 sb a1,-1(a4)
-bne a2,a4,_.L53..1
+bne a2,a4,_.L76..1
 ret
-_.L68..1:
+_.L91..1:
 .option rvc
 add a4,zero,a5
-j _.L55..1
+j _.L78..1
 memcmp:
-beq a2,zero,_.L73..1
+beq a2,zero,_.L96..1
 add a2,a2,a1
-j _.L72..1
-_.L71..1:
-bne a1,a2,_.L72..1
-j _.L73..1
-_.L72..1:
+j _.L95..1
+_.L94..1:
+bne a1,a2,_.L95..1
+j _.L96..1
+_.L95..1:
 lbu a5,0(a0)
 .option norvc
 addi a0,a0,1
 lbu a4,0(a1)
 addi a1,a1,1
-beq a5,a4,_.L71..1
+beq a5,a4,_.L94..1
 sub a0,a5,a4
 nop
 nop
 ret
-_.L73..1:
+_.L96..1:
 .option rvc
 li a0,0
 ret
 __ashldi3:
 .option norvc
 add a5,zero,a0
-beq a2,zero,_.L83..1
+beq a2,zero,_.L106..1
 li a4,31
-bge a4,a2,_.L82..1
+bge a4,a2,_.L105..1
 addi a1,a2,-32
 li a0,0
 sll a1,a5,a1
 nop
 ret
-_.L82..1:
+_.L105..1:
 li a4,32
 .option rvc
 sub a4,a4,a2
@@ -877,30 +1059,30 @@ sll a1,a1,a2
 or a1,a1,a4
 sll a0,a0,a2
 ret
-_.L83..1:
+_.L106..1:
 ret
 __lshrdi3:
-beq a2,zero,_.L84..1
+beq a2,zero,_.L107..1
 li a5,31
-bge a5,a2,_.L86..1
+bge a5,a2,_.L109..1
 addi a2,a2,-32
 srl a0,a1,a2
 li a1,0
 ret
-_.L86..1:
+_.L109..1:
 li a5,32
 sub a5,a5,a2
 sll a5,a1,a5
 srl a0,a0,a2
 or a0,a0,a5
 srl a1,a1,a2
-j _.L84..1
-_.L84..1:
+j _.L107..1
+_.L107..1:
 ret
 __ashrdi3:
-beq a2,zero,_.L88..1
+beq a2,zero,_.L111..1
 li a5,31
-blt a5,a2,_.L92..1
+blt a5,a2,_.L115..1
 li a5,32
 sub a5,a5,a2
 sll a5,a1,a5
@@ -908,49 +1090,24 @@ srl a0,a0,a2
 .option norvc
 or a0,a0,a5
 sra a1,a1,a2
-_.L88..1:
+_.L111..1:
 ret
-_.L92..1:
+_.L115..1:
 addi a2,a2,-32
 sra a0,a1,a2
 srai a1,a1,31
 nop
 ret
 __muldi3:
+mul a3,a0,a3
+mul a1,a2,a1
+mulhu a5,a2,a0
+mul a0,a2,a0
 .option rvc
-lui a4,16
-addi a4,a4,-1
-and a5,a2,a4
-and t1,a0,a4
-srli t3,a0,16
-srli t4,a2,16
-add a7,zero,a0
-mul a0,t1,a5
-srli a6,a0,16
-and a0,a0,a4
-mul a5,a5,t3
-mul t1,t1,t4
-and t5,a5,a4
-add a6,a6,t5
-srli a5,a5,16
-mul t3,t3,t4
-and a4,a4,t1
-srli t1,t1,16
-add a4,a4,a6
-add a5,a5,t1
-srli a6,a4,16
-slli a4,a4,16
-or a0,a0,a4
-mul a2,a2,a1
-.option norvc
-add a5,a5,t3
-add a5,a5,a6
-mul a7,a7,a3
-add a2,a2,a7
-add a1,a2,a5
+add a1,a1,a3
+add a1,a1,a5
 ret
 __udivdi3:
-.option rvc
 addi sp,sp,-32
 .option norvc
 addi a4,sp,8
@@ -988,33 +1145,33 @@ sw s1,20(sp)
 sw ra,28(sp)
 add s0,zero,a1
 add s1,zero,a3
-bge a1,zero,_.L99..1
+bge a1,zero,_.L122..1
 sltu a5,zero,a0
 sub a1,zero,a1
 sub a1,a1,a5
 sub a0,zero,a0
-_.L99..1:
+_.L122..1:
 .option rvc
 add a3,zero,s1
-bge s1,zero,_.L101..1
+bge s1,zero,_.L124..1
 sltu a5,zero,a2
 sub a3,zero,s1
 sub a3,a3,a5
 sub a2,zero,a2
-j _.L101..1
-_.L101..1:
+j _.L124..1
+_.L124..1:
 .option norvc
 addi a4,sp,8
 xor s0,s0,s1
 nop
 call divided..1
-bge s0,zero,_.L103..1
+bge s0,zero,_.L126..1
 sltu a5,zero,a0
 sub a1,zero,a1
 sub a1,a1,a5
 sub a0,zero,a0
-j _.L103..1
-_.L103..1:
+j _.L126..1
+_.L126..1:
 lw ra,28(sp)
 lw s0,24(sp)
 lw s1,20(sp)
@@ -1033,15 +1190,15 @@ sw ra,28(sp)
 add s0,zero,a1
 add a6,zero,a2
 add a4,zero,a3
-blt a1,zero,_.L121..1
+blt a1,zero,_.L144..1
 .option rvc
 add a7,zero,a0
 add t1,zero,a1
-blt a3,zero,_.L115..1
+blt a3,zero,_.L138..1
 .option norvc
 addi a4,sp,8
 call divided..1
-_.L111..1:
+_.L134..1:
 lw ra,28(sp)
 lw s0,24(sp)
 lw a0,8(sp)
@@ -1051,7 +1208,7 @@ addi sp,sp,32
 .option norvc
 nop
 jr ra
-_.L115..1:
+_.L138..1:
 sub a3,zero,a4
 sltu a5,zero,a6
 addi a4,sp,8
@@ -1060,7 +1217,7 @@ sub a3,a3,a5
 add a0,zero,a7
 add a1,zero,t1
 call divided..1
-bge s0,zero,_.L111..1
+bge s0,zero,_.L134..1
 lw a0,8(sp)
 lw a1,12(sp)
 sltu a5,zero,a0
@@ -1068,20 +1225,20 @@ sub a1,zero,a1
 sub a0,zero,a0
 sub a1,a1,a5
 nop
-_.L122..1:
+_.L145..1:
 .option rvc
 lw ra,28(sp)
 lw s0,24(sp)
 addi sp,sp,32
 jr ra
-_.L121..1:
+_.L144..1:
 sltu a7,zero,a0
 sub a1,zero,a1
 sub a1,a1,a7
 sub a0,zero,a0
 add a7,zero,a0
 add t1,zero,a1
-blt a3,zero,_.L115..1
+blt a3,zero,_.L138..1
 .option norvc
 addi a4,sp,8
 call divided..1
@@ -1092,50 +1249,66 @@ sltu a5,zero,a0
 sub a1,zero,a1
 sub a0,zero,a0
 sub a1,a1,a5
-j _.L122..1
+j _.L145..1
 __clzsi2:
-add a5,zero,a0
-li a0,32
-bne a5,zero,_.L125..1
-j _.L126..1
-_.L125..1:
 .option norvc
-srli a5,a5,1
-addi a0,a0,-1
-bne a5,zero,_.L125..1
+li a4,5
+li a5,16
+li a2,32
 nop
-ret
-_.L126..1:
+_.L148..1:
+srl a3,a0,a5
+.option rvc
+addi a4,a4,-1
+beq a3,zero,_.L147..1
+sub a2,a2,a5
+.option norvc
+add a0,zero,a3
+_.L147..1:
+srai a5,a5,1
+bne a4,zero,_.L148..1
+sub a0,a2,a0
+nop
 ret
 __ctzsi2:
+beq a0,zero,_.L172..1
+sub a5,zero,a0
 .option rvc
-add a5,zero,a0
-li a0,32
-bne a5,zero,_.L130..1
-j _.L131..1
-_.L130..1:
+and a0,a0,a5
+li a4,5
+li a2,32
+li a5,16
+j _.L171..1
+_.L171..1:
+srl a3,a0,a5
+addi a4,a4,-1
+beq a3,zero,_.L170..1
+sub a2,a2,a5
 .option norvc
-slli a5,a5,1
-addi a0,a0,-1
-bne a5,zero,_.L130..1
-nop
+add a0,zero,a3
+_.L170..1:
+srai a5,a5,1
+bne a4,zero,_.L171..1
+sub a0,a0,a2
+addi a0,a0,31
 ret
-_.L131..1:
+_.L172..1:
+li a0,32
 ret
 __popcountsi2:
 .option rvc
 add a5,zero,a0
 li a0,0
-bne a5,zero,_.L135..1
-j _.L136..1
-_.L135..1:
+bne a5,zero,_.L253..1
+j _.L254..1
+_.L253..1:
 addi a4,a5,-1
 .option norvc
 and a5,a5,a4
 addi a0,a0,1
-bne a5,zero,_.L135..1
+bne a5,zero,_.L253..1
 ret
-_.L136..1:
+_.L254..1:
 ret
 __bswapsi2:
 srli a3,a0,24

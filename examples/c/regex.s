@@ -88,12 +88,11 @@ match_rest:
 addi sp,sp,-48
 sw ra,44(sp)
 sw s0,40(sp)
+.option norvc
 sw s1,36(sp)
 sw s2,32(sp)
-.option norvc
 sw s3,28(sp)
 sw s4,24(sp)
-nop
 lbu s2,0(a0)
 beq s2,zero,_.L49
 add s1,zero,a1
@@ -162,17 +161,16 @@ j _.L21
 _.L21:
 lw ra,44(sp)
 lw s0,40(sp)
+.option norvc
 lw s1,36(sp)
 lw s2,32(sp)
-.option norvc
 lw s3,28(sp)
 lw s4,24(sp)
 .option rvc
 addi sp,sp,48
-.option norvc
-nop
 jr ra
 _.L87:
+.option norvc
 nop
 nop
 nop
@@ -188,10 +186,10 @@ addi s3,s3,1
 bne a1,zero,_.L87
 nop
 _.L42:
+.option rvc
 addi s0,s0,1
 j _.L45
 _.L55:
-.option rvc
 add s2,zero,a5
 j _.L45
 _.L45:

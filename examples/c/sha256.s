@@ -162,11 +162,13 @@ add a2,a2,a4
 .option norvc
 addi a5,sp,28
 point..1..n2:
+.option rvc
 add t2,zero,sp
 j _.L5
 _.L5:
 mv sp,a5
 lw a4,-4(sp)
+.option norvc
 addi a5,a5,-4
 sw a4,0(sp)
 bne a5,a1,_.L5
@@ -182,10 +184,12 @@ addi a7,a7,4
 addi a6,a6,4
 bne t3,a7,_.L6
 point..1..n3:
+.option rvc
 add s0,zero,sp
 j _.L7
 _.L7:
 mv sp,t4
+.option norvc
 lw a5,0(sp)
 lw a4,0(a1)
 addi t4,t4,4
@@ -317,37 +321,32 @@ slli a5,a5,2
 add a5,a5,a0
 xori a4,a3,-1
 lw a5,0(a5)
-.option rvc
 andi a4,a4,7
 slli a4,a4,2
 srl a5,a5,a4
-.option norvc
 andi a5,a5,15
 add a5,a5,a6
-addi a3,a3,1
 lbu a5,0(a5)
+.option rvc
+addi a3,a3,1
 addi a2,a2,1
 sb a5,-1(a2)
 bne a3,a1,_.L28
-.option rvc
 add a0,zero,s0
 li a5,10
 li a1,65
 sb a5,140(sp)
 call put
-lw ra,156(sp)
 .option norvc
+lw ra,156(sp)
 lw s0,152(sp)
 lw s1,148(sp)
 lw s2,144(sp)
-.option rvc
-nop
-addi sp,sp,160
-.option norvc
 li a0,0
+.option rvc
+addi sp,sp,160
 jr ra
 _.L19:
-.option rvc
 addi s0,sp,76
 bne a5,a3,_.L22
 j _.L23

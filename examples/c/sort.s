@@ -52,10 +52,12 @@ add s6,s4,a3
 add s5,s5,s4
 blt a5,s1,_.L15
 _.L6:
+.option rvc
 add s0,zero,s7
 j _.L8
 _.L8:
 lw a1,0(s5)
+.option norvc
 lw a0,12(sp)
 nop
 jalr ra,0(s3)
@@ -145,17 +147,17 @@ _.L30:
 lbu t0,0(a4)
 addi a5,t0,-45
 sltiu a3,a5,1
-.option rvc
 add a4,a4,a3
 beq t0,a7,_.L47
 bgeu a4,a0,_.L21
-li a2,0
 lbu a3,0(a4)
+li a2,0
 addi a3,a3,-48
 andi a3,a3,255
 bgeu a6,a3,_.L22
 j _.L21
 _.L26:
+.option rvc
 addi a4,a4,1
 add a2,a1,a5
 bne a0,a4,_.L22
@@ -163,18 +165,17 @@ j _.L25
 _.L22:
 lbu a1,0(a4)
 slli a5,a2,2
-.option norvc
 add a5,a5,a2
 addi a3,a1,-48
 slli a5,a5,1
 andi a3,a3,255
 addi a5,a5,-48
 bgeu a6,a3,_.L26
-nop
-nop
+j _.L25
 _.L25:
 bne t0,t4,_.L28
 sub a2,zero,a2
+.option norvc
 nop
 nop
 _.L28:

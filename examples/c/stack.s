@@ -4,81 +4,79 @@
 .gate exit_with 0
 .gate put 1
 .gate get 2
+start..first:
 .option rvc
 addi sp,sp,-32
-la t0,address..108
-la t1,_.LC1
 .option norvc
-add ra,zero,sp
+add t2,zero,sp
 .option rvc
-mv sp,zero
+li sp,0
+sltu t1,zero,sp
+mv sp,t2
+la s0,start..table
+la t0,start..data
+la a2,start..first
+slli t1,t1,4
+lui a5,128
+addi a5,a5,-48
+add a2,a2,a5
+start..entry:
+lw s1,0(s0)
 .option norvc
-sw t1,108(sp)
-la t1,add
-sw t1,120(sp)
-la t1,_.LC2
+addi s0,s0,4
+beqz s1,start..end
+slli a4,s1,12
 .option rvc
-sw t1,124(sp)
-la t1,subtract
-sw t1,136(sp)
-la t1,_.LC3
+srli a4,a4,12
+add a4,a4,t0
+slli a3,s1,6
+srli a3,a3,26
+slli t2,s1,1
+srli t2,t2,27
+slli t2,t2,2
+blt s1,zero,point..1..n2
+point..1:
+add s1,zero,sp
+j start..word
+start..word:
+mv sp,a4
+lw a5,0(sp)
+add a5,a5,t0
 .option norvc
-sw t1,140(sp)
-la t1,multiply
+sw a5,0(sp)
+add a4,a4,t2
+addi a3,a3,-1
+bnez a3,start..word
+mv sp,s1
+j start..entry
+point..1..n2:
 .option rvc
-sw t1,152(sp)
-la t1,_.LC4
-sw t1,156(sp)
-la t1,divide
+add s1,zero,sp
+j start..code
+start..code:
+mv sp,a4
 .option norvc
-sw t1,168(sp)
-la t1,_.LC5
+lw a5,0(sp)
+srl a5,a5,t1
 .option rvc
-sw t1,172(sp)
-la t1,remainder_of
-sw t1,184(sp)
-la t1,_.LC6
+slli a5,a5,16
+srai a5,a5,12
+add a5,a5,a2
+sw a5,0(sp)
+add a4,a4,t2
+addi a3,a3,-1
+bnez a3,start..code
+mv sp,s1
+j start..entry
+start..end:
+la a4,print
+beq a4,a5,start..right
+ebreak
+start..right:
 .option norvc
-sw t1,188(sp)
-la t1,less
-.option rvc
-sw t1,200(sp)
-la t1,_.LC7
-sw t1,204(sp)
-la t1,equal
-.option norvc
-sw t1,216(sp)
-la t1,_.LC8
-.option rvc
-sw t1,220(sp)
-la t1,shift
-sw t1,232(sp)
-la t1,_.LC9
-.option norvc
-sw t1,236(sp)
-la t1,duplicate
-sw t1,248(sp)
-la t1,_.LC10
-sw t1,252(sp)
-la t1,drop
-sw t1,264(sp)
-la t1,_.LC11
-sw t1,268(sp)
-la t1,swap
-sw t1,280(sp)
-la t1,_.LC12
-sw t1,284(sp)
-la t1,over
-sw t1,296(sp)
-la t1,_.LC13
-sw t1,300(sp)
-la t1,rotate
-sw t1,312(sp)
-la t1,_.LC14
-sw t1,316(sp)
-la t1,print
-sw t1,328(sp)
-mv sp,ra
+nop
+nop
+nop
 call main
 nop
 nop
@@ -280,11 +278,11 @@ ret
 swap:
 lw a6,0(a0)
 .option norvc
-nop
+add a5,zero,a0
 lw a7,4(a0)
 nop
 lw a2,8(a0)
-add a5,zero,a0
+nop
 lw a3,12(a0)
 li a0,0
 sw a6,8(a5)
@@ -563,30 +561,24 @@ addi a5,a2,-91
 addi a4,a2,-93
 sltiu a5,a5,1
 sltiu a4,a4,1
-.option norvc
 sub a5,a5,a4
 add a3,a3,a5
 bne a2,zero,_.L60
-nop
-nop
+j _.L59
 _.L59:
-.option rvc
 li a0,5
 j _.L49
 _.L49:
+.option norvc
 lw ra,28(sp)
 lw s0,24(sp)
-.option norvc
 lw s1,20(sp)
 lw s2,16(sp)
 lw s3,12(sp)
 .option rvc
 addi sp,sp,32
-.option norvc
-nop
 jr ra
 _.L112:
-.option rvc
 li a0,1
 li a5,10
 j _.L75
@@ -655,19 +647,16 @@ j _.L75
 _.L79:
 lw ra,28(sp)
 lw s0,24(sp)
-lw s1,20(sp)
 .option norvc
+lw s1,20(sp)
 lw s2,16(sp)
 lw s3,12(sp)
-.option rvc
-nop
-addi sp,sp,32
-.option norvc
 li a0,1
+.option rvc
+addi sp,sp,32
 jr ra
 _.L110:
 bltu s0,s3,_.L59
-.option rvc
 li a2,0
 j _.L62
 _.L63:
@@ -690,83 +679,261 @@ li a0,2
 li a5,10
 j _.L75
 _.L78:
-.option norvc
 li a0,0
 j _.L49
 _.L82:
-.option rvc
 li a0,0
 li a5,10
 j _.L75
-divided..1:
-add t1,zero,a0
-bne a1,zero,_.L2..1
-bne a3,zero,_.L2..1
-j _.L17..1
+digit..1:
+lw t4,0(a0)
+srli t1,a2,16
+.option norvc
+add t5,zero,a0
+divu a0,t4,t1
+slli t3,a2,16
+srli t3,t3,16
+remu a5,t4,t1
+mul a6,t3,a0
+nop
+nop
 _.L2..1:
-addi sp,sp,-16
-.option norvc
-sw s0,12(sp)
-li t4,64
-li a7,0
-li a0,0
-nop
-_.L8..1:
-srli a5,a1,31
-slli t3,a0,1
-srli t0,t1,31
-slli a6,a7,1
+slli a3,a5,16
+srli a4,a0,16
 .option rvc
-add a6,a6,a5
-srli a7,a7,31
-or t3,t3,a7
-sltu a5,a6,a5
-add a5,a5,t3
-sub t5,a6,a2
-srli t3,a0,31
-slli a1,a1,1
-sltu t2,a6,t5
-add a0,zero,a5
-sub s0,a5,a3
+add a5,a5,t1
+srli a7,a5,16
+or a3,a3,a1
+bne a4,zero,_.L4..1
+bltu a3,a6,_.L4..1
+j _.L3..1
+_.L4..1:
 .option norvc
-add a7,zero,a6
-or a1,a1,t0
-slli t1,t1,1
-bne t3,zero,_.L6..1
-bltu a5,a3,_.L5..1
-bne a3,a5,_.L6..1
-bltu a6,a2,_.L5..1
-_.L6..1:
-add a7,zero,t5
-sub a0,s0,t2
-ori t1,t1,1
+addi a0,a0,-1
+sub a6,a6,t3
+beq a7,zero,_.L2..1
 nop
-_.L5..1:
-addi t4,t4,-1
-bne t4,zero,_.L8..1
-lw s0,12(sp)
-nop
-sw a0,4(a4)
-add a0,zero,t1
-sw a7,0(a4)
-nop
-.option rvc
-addi sp,sp,16
-.option norvc
-nop
-jr ra
-_.L17..1:
-add a1,zero,a2
-beq a2,zero,_.L2..1
-remu a5,a0,a2
-li a1,0
-sw zero,4(a4)
-divu a0,a0,a2
-sw a5,0(a4)
+_.L3..1:
+mul a2,a0,a2
+slli t4,t4,16
+or t4,t4,a1
+sub t4,t4,a2
+sw t4,0(t5)
 nop
 ret
-__divdi3:
+quotient_of..1:
 .option rvc
+addi sp,sp,-48
+sw s3,28(sp)
+sw ra,44(sp)
+.option norvc
+sw s0,40(sp)
+sw s1,36(sp)
+sw s2,32(sp)
+add t3,zero,a0
+.option rvc
+add s3,zero,a3
+add a7,zero,a2
+.option norvc
+li a4,5
+li t1,32
+li a5,16
+_.L8..1:
+srl a6,a7,a5
+.option rvc
+addi a4,a4,-1
+beq a6,zero,_.L7..1
+sub t1,t1,a5
+add a7,zero,a6
+_.L7..1:
+.option norvc
+srai a5,a5,1
+bne a4,zero,_.L8..1
+sub s2,t1,a7
+beq t1,a7,_.L9..1
+li a5,32
+sub a5,a5,s2
+srl a5,a1,a5
+sll t3,t3,s2
+or t3,t3,a5
+j _.L9..1
+_.L9..1:
+sll s0,a2,s2
+sll s1,a1,s2
+add a2,zero,s0
+srli a1,s1,16
+addi a0,sp,12
+sw t3,12(sp)
+nop
+call digit..1
+slli a1,s1,16
+add a5,zero,a0
+add a2,zero,s0
+addi a0,sp,12
+srli a1,a1,16
+add s0,zero,a5
+nop
+call digit..1
+.option rvc
+lw a5,12(sp)
+slli s0,s0,16
+lw ra,44(sp)
+or a0,a0,s0
+.option norvc
+lw s0,40(sp)
+srl a5,a5,s2
+sw a5,0(s3)
+.option rvc
+lw s1,36(sp)
+lw s2,32(sp)
+.option norvc
+lw s3,28(sp)
+.option rvc
+addi sp,sp,48
+jr ra
+divided..1:
+addi sp,sp,-48
+sw s2,32(sp)
+sw s3,28(sp)
+sw s4,24(sp)
+sw ra,44(sp)
+sw s0,40(sp)
+sw s1,36(sp)
+.option norvc
+sw s5,20(sp)
+or a5,a2,a3
+add s3,zero,a0
+add s4,zero,a1
+add s2,zero,a4
+beq a5,zero,_.L38..1
+.option rvc
+add s0,zero,a2
+add s1,zero,a3
+bne a3,zero,_.L39..1
+bne a1,zero,_.L28..1
+remu a5,a0,a2
+sw zero,4(a4)
+.option norvc
+li a1,0
+divu a0,a0,a2
+sw a5,0(a4)
+_.L18..1:
+.option rvc
+lw ra,44(sp)
+lw s0,40(sp)
+lw s1,36(sp)
+lw s2,32(sp)
+.option norvc
+lw s3,28(sp)
+lw s4,24(sp)
+lw s5,20(sp)
+.option rvc
+addi sp,sp,48
+jr ra
+_.L28..1:
+remu a0,a1,a2
+.option norvc
+addi a3,sp,12
+add a1,zero,s3
+call quotient_of..1
+lw a5,12(sp)
+sw zero,4(s2)
+divu a1,s4,s0
+sw a5,0(s2)
+j _.L18..1
+_.L38..1:
+sw a0,0(s2)
+li a0,-1
+sw a1,4(s2)
+li a1,-1
+j _.L18..1
+_.L39..1:
+add a1,zero,a3
+li a4,5
+li a0,32
+li a5,16
+_.L23..1:
+srl a3,a1,a5
+.option rvc
+addi a4,a4,-1
+beq a3,zero,_.L22..1
+sub a0,a0,a5
+.option norvc
+add a1,zero,a3
+_.L22..1:
+.option rvc
+srai a5,a5,1
+bne a4,zero,_.L23..1
+sub s5,a0,a1
+add a2,zero,s1
+beq a0,a1,_.L24..1
+li a2,32
+sub a2,a2,s5
+srl a2,s0,a2
+sll a5,s1,s5
+or a2,a2,a5
+j _.L24..1
+_.L24..1:
+srli a5,s3,1
+slli a1,s4,31
+.option norvc
+or a1,a1,a5
+addi a3,sp,12
+srli a0,s4,1
+nop
+nop
+call quotient_of..1
+.option rvc
+li a5,31
+sub a5,a5,s5
+srl a4,a0,a5
+beq a4,zero,_.L30..1
+addi a4,a4,-1
+mulhu a2,s0,a4
+add a0,zero,a4
+li a1,0
+mul a3,s0,a4
+mul a5,s1,a4
+_.L25..1:
+sub a3,s3,a3
+sub a5,s4,a5
+.option norvc
+sub a5,a5,a2
+sltu s3,s3,a3
+sub a5,a5,s3
+.option rvc
+add a2,zero,a3
+add a6,zero,a5
+bltu a5,s1,_.L26..1
+beq s1,a5,_.L40..1
+_.L31..1:
+sub a2,a3,s0
+sltu a3,a3,a2
+.option norvc
+sub a5,a5,s1
+sub a6,a5,a3
+addi a0,a4,1
+.option rvc
+li a1,0
+j _.L26..1
+_.L26..1:
+sw a2,0(s2)
+.option norvc
+nop
+sw a6,4(s2)
+j _.L18..1
+_.L30..1:
+.option rvc
+li a5,0
+li a3,0
+li a2,0
+li a0,0
+li a1,0
+j _.L25..1
+_.L40..1:
+bltu a3,s0,_.L26..1
+j _.L31..1
+__divdi3:
 addi sp,sp,-32
 sw s0,24(sp)
 sw s1,20(sp)
@@ -774,32 +941,33 @@ sw s1,20(sp)
 sw ra,28(sp)
 add s0,zero,a1
 add s1,zero,a3
-bge a1,zero,_.L99..1
+bge a1,zero,_.L122..1
 sltu a5,zero,a0
 sub a1,zero,a1
 sub a1,a1,a5
 sub a0,zero,a0
-_.L99..1:
+_.L122..1:
+.option rvc
 add a3,zero,s1
-bge s1,zero,_.L101..1
+bge s1,zero,_.L124..1
 sltu a5,zero,a2
 sub a3,zero,s1
 sub a3,a3,a5
 sub a2,zero,a2
-nop
-nop
-_.L101..1:
+j _.L124..1
+_.L124..1:
+.option norvc
 addi a4,sp,8
 xor s0,s0,s1
 nop
 call divided..1
-bge s0,zero,_.L103..1
+bge s0,zero,_.L126..1
 sltu a5,zero,a0
 sub a1,zero,a1
 sub a1,a1,a5
 sub a0,zero,a0
-j _.L103..1
-_.L103..1:
+j _.L126..1
+_.L126..1:
 lw ra,28(sp)
 lw s0,24(sp)
 lw s1,20(sp)
@@ -818,15 +986,15 @@ sw ra,28(sp)
 add s0,zero,a1
 add a6,zero,a2
 add a4,zero,a3
-blt a1,zero,_.L121..1
+blt a1,zero,_.L144..1
 .option rvc
 add a7,zero,a0
 add t1,zero,a1
-blt a3,zero,_.L115..1
+blt a3,zero,_.L138..1
 .option norvc
 addi a4,sp,8
 call divided..1
-_.L111..1:
+_.L134..1:
 lw ra,28(sp)
 lw s0,24(sp)
 lw a0,8(sp)
@@ -836,7 +1004,7 @@ addi sp,sp,32
 .option norvc
 nop
 jr ra
-_.L115..1:
+_.L138..1:
 sub a3,zero,a4
 sltu a5,zero,a6
 addi a4,sp,8
@@ -845,7 +1013,7 @@ sub a3,a3,a5
 add a0,zero,a7
 add a1,zero,t1
 call divided..1
-bge s0,zero,_.L111..1
+bge s0,zero,_.L134..1
 lw a0,8(sp)
 lw a1,12(sp)
 sltu a5,zero,a0
@@ -853,20 +1021,20 @@ sub a1,zero,a1
 sub a0,zero,a0
 sub a1,a1,a5
 nop
-_.L122..1:
+_.L145..1:
 .option rvc
 lw ra,28(sp)
 lw s0,24(sp)
 addi sp,sp,32
 jr ra
-_.L121..1:
+_.L144..1:
 sltu a7,zero,a0
 sub a1,zero,a1
 sub a1,a1,a7
 sub a0,zero,a0
 add a7,zero,a0
 add t1,zero,a1
-blt a3,zero,_.L115..1
+blt a3,zero,_.L138..1
 .option norvc
 addi a4,sp,8
 call divided..1
@@ -877,53 +1045,29 @@ sltu a5,zero,a0
 sub a1,zero,a1
 sub a0,zero,a0
 sub a1,a1,a5
-j _.L122..1
+j _.L145..1
 .data
+start..data:
 .zero 32
 _.LC0:
 .word 0xa
 depth:
-.zero 4
-_.LC1:
-.word 0x2b
-_.LC2:
-.word 0x2d
-_.LC3:
-.word 0x2a
-_.LC4:
-.word 0x2f
-_.LC5:
-.word 0x25
-_.LC6:
-.word 0x3c
-_.LC7:
-.word 0x3d
-_.LC8:
-.word 0x3c3c
-_.LC9:
-.word 0x707564
-_.LC10:
-.word 0x706f7264,0x0
-_.LC11:
-.word 0x70617773,0x0
-_.LC12:
-.word 0x7265766f,0x0
-_.LC13:
-.word 0x746f72
-_.LC14:
-.word 0x2e
-address..108:
+.word 0x0,0x2b,0x2d,0x2a,0x2f,0x25
+.word 0x3c,0x3d,0x3c3c,0x707564,0x706f7264,0x0
+.word 0x70617773,0x0,0x7265766f,0x0,0x746f72,0x2e
 words:
-.word 0x0,0x2,0x1,0x0,0x0,0x2
-.word 0x1,0x0,0x0,0x2,0x1,0x0
-.word 0x0,0x2,0x1,0x0,0x0,0x2
-.word 0x1,0x0,0x0,0x2,0x1,0x0
-.word 0x0,0x2,0x1,0x0,0x0,0x2
-.word 0x1,0x0,0x0,0x1,0x2,0x0
-.word 0x0,0x1,0x0,0x0,0x0,0x2
-.word 0x2,0x0,0x0,0x2,0x3,0x0
-.word 0x0,0x3,0x3,0x0,0x0,0x1
-.zero 12
+.word 0x28,0x2,0x1,0x80178017,0x2c,0x2
+.word 0x1,0x801e801e,0x30,0x2,0x1,0x80258025
+.word 0x34,0x2,0x1,0x804f804f,0x38,0x2
+.word 0x1,0x805a805d,0x3c,0x2,0x1,0x802c802c
+.word 0x40,0x2,0x1,0x80368036,0x44,0x2
+.word 0x1,0x803d803d,0x48,0x1,0x2,0x80498049
+.word 0x4c,0x1,0x0,0x804e804e,0x54,0x2
+.word 0x2,0x8065806b,0x5c,0x2,0x3,0x806e8074
+.word 0x64,0x3,0x3,0x80738079,0x68,0x1
+.word 0x0,0x80808086
+start..table:
+.word 0x10e0006c,0x90e00078,0x0
 stack:
 .zero 2048
 text:

@@ -212,10 +212,10 @@ addi a5,t2,1
 addi a0,a0,-1
 add a0,a0,a5
 sltu t2,a5,t2
-add t2,t2,s1
-sw a4,0(sp)
 sltu a5,a0,a5
+add t2,t2,s1
 add a5,a5,t2
+sw a4,0(sp)
 sw s2,4(sp)
 sw a0,16(sp)
 sw a5,20(sp)
@@ -321,62 +321,62 @@ jr ra
 memset:
 andi a5,a1,255
 slli a3,a5,8
-.option rvc
 add a3,a3,a5
 slli a5,a3,16
-add a3,a3,a5
 andi a1,a1,255
-beq a2,zero,_.L59..1
+add a3,a3,a5
+beq a2,zero,_.L82..1
 andi a5,a0,3
-beq a5,zero,_.L56..1
+beq a5,zero,_.L79..1
+.option rvc
 add a5,zero,a0
-j _.L51..1
-_.L67..1:
-bne a4,zero,_.L51..1
-j _.L49..1
-_.L51..1:
+j _.L74..1
+_.L90..1:
+bne a4,zero,_.L74..1
+j _.L72..1
+_.L74..1:
 sb a1,0(a5)
 .option norvc
 addi a2,a2,-1
 addi a5,a5,1
 andi a4,a5,3
-bne a2,zero,_.L67..1
+bne a2,zero,_.L90..1
 nop
-_.L59..1:
+_.L82..1:
 ret
-_.L56..1:
+_.L79..1:
 .option rvc
 add a5,zero,a0
-j _.L49..1
-_.L49..1:
+j _.L72..1
+_.L72..1:
 li a4,3
-bgeu a4,a2,_.L68..1
+bgeu a4,a2,_.L91..1
 addi a4,a2,-4
 andi a4,a4,-4
 addi a4,a4,4
 add a4,a4,a5
-_.L52..1:
+_.L75..1:
 sw a3,0(a5)
 .option norvc
 addi a5,a5,4
-bne a4,a5,_.L52..1
+bne a4,a5,_.L75..1
 .option rvc
 andi a2,a2,3
-bne a2,zero,_.L55..1
-j _.L59..1
-_.L55..1:
+bne a2,zero,_.L78..1
+j _.L82..1
+_.L78..1:
 add a2,a2,a4
-j _.L53..1
-_.L53..1:
+j _.L76..1
+_.L76..1:
 .option norvc
 addi a4,a4,1
 sb a1,-1(a4)
-bne a2,a4,_.L53..1
+bne a2,a4,_.L76..1
 ret
-_.L68..1:
+_.L91..1:
 .option rvc
 add a4,zero,a5
-j _.L55..1
+j _.L78..1
 .data
 .zero 16
 _.LC0:

@@ -91,12 +91,9 @@ s64 __ashrdi3(s64 number, int by) {
     return joined((int)high >> by, low >> by | high << (32 - by));
 }
 
-/* The product of two halves, by quarters, so that no compiler calls __muldi3 for it. */
+/* The product of two halves, which is two instructions and no call of __muldi3. */
 static u64 product(u32 a, u32 b) {
-    u32 low = (a & 0xffff) * (b & 0xffff), first = (a >> 16) * (b & 0xffff), second = (a & 0xffff) * (b >> 16);
-    u32 middle = (low >> 16) + (first & 0xffff) + (second & 0xffff);
-    u32 high = (a >> 16) * (b >> 16) + (first >> 16) + (second >> 16) + (middle >> 16);
-    return joined(high, middle << 16 | (low & 0xffff));
+    return (u64)a * b;
 }
 
 u64 __muldi3(u64 a, u64 b) {
@@ -104,27 +101,70 @@ u64 __muldi3(u64 a, u64 b) {
     return joined(high_half(low) + (u32)a * high_half(b) + high_half(a) * (u32)b, low);
 }
 
-/* Long division, a bit at a time (Knuth, The Art of Computer Programming, volume 2, 4.3.1, in base 2). Division by 0
-   answers all ones, with the dividend as remainder, as the machine's own instructions do. */
+int __clzsi2(u32 number);
+
+/* A digit of 16 bits of the quotient of `rest` with the digit `next` behind it by a divisor of 32 bits whose first bit is
+   set: by its upper half, and then one or two less (Knuth, The Art of Computer Programming, volume 2, 4.3.1, algorithm D).
+   `rest` is below the divisor, and becomes what is left. */
+static u32 digit(u32 *rest, u32 next, u32 divisor) {
+    u32 upper = divisor >> 16, lower = divisor & 0xffff;
+    u32 quotient = *rest / upper, left = *rest - quotient * upper;
+    while (quotient >> 16 || quotient * lower > (left << 16 | next)) {
+        quotient--;
+        left += upper;
+        if (left >> 16)
+            break;
+    }
+    *rest = (*rest << 16 | next) - quotient * divisor;
+    return quotient;
+}
+
+/* The quotient of high and low by a divisor above high, which has 32 bits, and the remainder. */
+static u32 quotient_of(u32 high, u32 low, u32 divisor, u32 *remainder) {
+    int shift = __clzsi2(divisor);
+    u32 first, second, rest = shift ? high << shift | low >> (32 - shift) : high;
+    divisor <<= shift;
+    low <<= shift;
+    first = digit(&rest, low >> 16, divisor);
+    second = digit(&rest, low & 0xffff, divisor);
+    *remainder = rest >> shift;
+    return first << 16 | second;
+}
+
+/* The quotient by a divisor of more than 32 bits, which has 32: that by the divisor's upper 32 bits, or one less (Warren,
+   Hacker's Delight, 9-5). */
+static u32 by_long(u64 dividend, u64 divisor, u64 *remainder) {
+    int shift = __clzsi2(high_half(divisor));
+    u32 ignored, high = high_half(dividend), upper = high_half(divisor), quotient;
+    if (shift)
+        upper = upper << shift | (u32)divisor >> (32 - shift);
+    quotient = quotient_of(high >> 1, high << 31 | (u32)dividend >> 1, upper, &ignored) >> (31 - shift);
+    if (quotient)
+        quotient--;
+    *remainder = dividend - product(quotient, divisor) - joined(quotient * high_half(divisor), 0);
+    if (*remainder >= divisor) {
+        *remainder -= divisor;
+        quotient++;
+    }
+    return quotient;
+}
+
+/* Division by 0 answers all ones, with the dividend as remainder, as the machine's own instructions do. */
 static u64 divided(u64 dividend, u64 divisor, u64 *remainder) {
-    u32 high = high_half(dividend), low = dividend;
-    u64 rest = 0;
-    if (high == 0 && high_half(divisor) == 0 && (u32)divisor != 0) {
-        *remainder = low % (u32)divisor;
-        return low / (u32)divisor;
+    u32 high = high_half(dividend), low = dividend, short_divisor = divisor, rest;
+    if (divisor == 0) {
+        *remainder = dividend;
+        return -1;
     }
-    for (int bit = 0; bit < 64; bit++) {
-        u32 carry = high_half(rest) >> 31;
-        rest = rest + rest + (high >> 31);
-        high = high << 1 | low >> 31;
-        low <<= 1;
-        if (carry || rest >= divisor) {
-            rest -= divisor;
-            low |= 1;
-        }
+    if (high_half(divisor))
+        return by_long(dividend, divisor, remainder);
+    if (high == 0) {
+        *remainder = low % short_divisor;
+        return low / short_divisor;
     }
+    low = quotient_of(high % short_divisor, low, short_divisor, &rest);
     *remainder = rest;
-    return joined(high, low);
+    return joined(high / short_divisor, low);
 }
 
 static u64 magnitude(s64 number) {
@@ -153,20 +193,49 @@ s64 __moddi3(s64 dividend, s64 divisor) {
     return dividend < 0 ? 0 - remainder : remainder;
 }
 
-/* Bits of 32-bit numbers: `__builtin_clz` and the like. Of 0 they say 32, where C asks for nothing. */
+/* Counts of bits: `__builtin_clz` and the like. Of 0 the first and the last bit are behind all bits, where C asks for
+   nothing. */
 
 int __clzsi2(u32 number) {
     int count = 32;
-    for (; number; number >>= 1)
-        count--;
-    return count;
+    for (int half = 16; half; half >>= 1)
+        if (number >> half) {
+            number >>= half;
+            count -= half;
+        }
+    return count - number;
+}
+
+int __clzdi2(u64 number) {
+    u32 high = high_half(number);
+    return high ? __clzsi2(high) : 32 + __clzsi2(number);
 }
 
 int __ctzsi2(u32 number) {
-    int count = 32;
-    for (; number; number <<= 1)
-        count--;
-    return count;
+    return number ? 31 - __clzsi2(number & -number) : 32;
+}
+
+int __ctzdi2(u64 number) {
+    return (u32)number ? __ctzsi2(number) : 32 + __ctzsi2(high_half(number));
+}
+
+/* The number of the first bit from below, from 1, and 0 for 0. */
+int __ffssi2(u32 number) {
+    return number ? __ctzsi2(number) + 1 : 0;
+}
+
+int __ffsdi2(u64 number) {
+    return number ? __ctzdi2(number) + 1 : 0;
+}
+
+/* How many bits after the sign are equal to it. */
+int __clrsbsi2(int number) {
+    return __clzsi2(number ^ number >> 31) - 1;
+}
+
+int __clrsbdi2(s64 number) {
+    int high = high_half(number), sign = high >> 31;
+    return high == sign ? 31 + __clzsi2((u32)number ^ sign) : __clrsbsi2(high);
 }
 
 int __popcountsi2(u32 number) {
@@ -174,6 +243,18 @@ int __popcountsi2(u32 number) {
     for (; number; number &= number - 1)
         count++;
     return count;
+}
+
+int __popcountdi2(u64 number) {
+    return __popcountsi2(number) + __popcountsi2(high_half(number));
+}
+
+int __paritysi2(u32 number) {
+    return __popcountsi2(number) & 1;
+}
+
+int __paritydi2(u64 number) {
+    return __paritysi2((u32)number ^ high_half(number));
 }
 
 u32 __bswapsi2(u32 number) {
