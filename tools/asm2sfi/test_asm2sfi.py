@@ -333,10 +333,8 @@ ret
             ("\tla a0,main+4\n", "main+4 lies inside code"),
             ("\t.word 5\n", ".word in the code section .text"),
             ("\t.incbin \"x\"\n", "the directive .incbin"),
-            ("\t.section .init_array,\"aw\"\n\t.word main+3\n", "section .init_array: nothing runs before main and after it"),
-            ("\t.section .tbss,\"awT\",@nobits\n", "section .tbss: there is one thread"),
             ("\tcall a\n\t.set a,b\n\t.set b,a\n", "a is set to itself"),
-            ("\t.set a,5\n", ".set to what is no symbol"),
+            ("\t.set a,5\n", ".set to what is no symbol plus a number"),
             ("\t.align\n", ".align has 1 operands at least"),
         ]
         for text, wanted in rows:
