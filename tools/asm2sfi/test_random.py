@@ -3,7 +3,7 @@
 
     [SFI=PATH] [SEED=N] [COUNT=N] python3 tools/asm2sfi/test_random.py
 
-Each program goes through gcc at -O0 to -O3 and, where it is there, through clang at -O2, then
+Each program goes through gcc at -O0 to -O3 and -Os and, where it is there, through clang at -O2, then
 through the tool with all its passes, and runs in both formats. The same programs are tried each
 time, so that the gate's answer can be repeated; SEED=N in the environment takes others, and COUNT=N
 so many of them. A failure names its seed. Where a compiler isn't there the test is skipped."""
@@ -25,9 +25,9 @@ COUNT = int(os.environ.get("COUNT", 5))
 STACK = 1 << 19  # the programs call themselves some hundred times
 GCC, CLANG, LLC, NATIVE = "riscv64-unknown-elf-gcc", "clang", "llc", "gcc"
 COMMON = ["-march=rv32imc", "-mabi=ilp32", "-ffreestanding", "-fno-builtin", "-fno-jump-tables", "-ffunction-sections",
-          "-fdata-sections", "-I", EXAMPLES]
+          "-fdata-sections", "-I", EXAMPLES, "-I", HERE]
 OWN = [f"-ffixed-x{number}" for number in (24, 25, 26, 27, 31)]
-GCC_WAYS = [["-O0"], ["-O1"], ["-O2", "-fno-section-anchors", "-mno-explicit-relocs"], ["-O3", "-funroll-loops"]]
+GCC_WAYS = [["-O0"], ["-O1"], ["-O2", "-fno-section-anchors", "-mno-explicit-relocs"], ["-Os"], ["-O3", "-funroll-loops"]]
 RESERVED = ",".join(f"+reserve-x{number}" for number in (24, 25, 26, 27, 31))
 
 
@@ -39,7 +39,7 @@ def native_answer(path, folder):
     """The exit code and the output of the program as the machine's own compiler makes it, in the
     words of `sfi run`."""
     program = os.path.join(folder, "native")
-    words = [NATIVE, "-O1", "-w", "-fno-builtin", "-I", EXAMPLES, "-o", program, path, os.path.join(EXAMPLES, "native_gates.c")]
+    words = [NATIVE, "-O1", "-w", "-fno-builtin", "-I", EXAMPLES, "-I", HERE, "-o", program, path, os.path.join(EXAMPLES, "native_gates.c")]
     subprocess.run(words, check=True)
     done = run(program)
     return f"exit={done.returncode} out={done.stdout.hex()}"
