@@ -21,7 +21,7 @@ TOP = os.path.dirname(os.path.dirname(HERE))
 EXAMPLES = os.path.join(TOP, "examples", "c")
 SFI = os.environ.get("SFI", os.path.join(TOP, "crates", "sfi", "out", "sfi"))
 SEED = int(os.environ.get("SEED", 1))
-COUNT = int(os.environ.get("COUNT", 5))
+COUNT = int(os.environ.get("COUNT", 3))
 STACK = 1 << 19  # the programs call themselves some hundred times
 GCC, CLANG, LLC, NATIVE = "riscv64-unknown-elf-gcc", "clang", "llc", "gcc"
 COMMON = ["-march=rv32imc", "-mabi=ilp32", "-ffreestanding", "-fno-builtin", "-fno-jump-tables", "-ffunction-sections",
