@@ -7,7 +7,8 @@ A word is a definition in a crate's specs/, but for specs/private, which private
 has to be named in a row of its crate's section where a public contract cites it (that of a `pub fn`, of a `pub trait`, or
 an impl's ghost items), or where a word on which such a contract rests is defined by it in another file. Any other word on
 which contracts rest is a part, of which its own file alone makes words that are named. "X and its parts" names the parts
-of X too. And each name of a row has to be a word of one of the row's files.
+of X too. And each name of a row has to be a word of one of the row's files. No definition outside specs/private imports a
+word from there, of its own crate or of another, so that no public contract rests on one.
 
 In documents `PATH` (N), PATH being a file below crates/, says that the file has N lines; a name without a folder, such as
 `Runs` (86), goes on with the folder of the path before it.
@@ -157,6 +158,21 @@ def wanted(words):
     return {key: why for key, why in found.items() if not key[1].startswith(NOT_LISTED)}
 
 
+def imports_of_private(name, text):
+    """A line for each import from specs/private in a file of definitions that isn't there itself."""
+    if "/specs/private" in name:
+        return []
+    found = re.findall(r"^[a-z ]*\buse Rattle\.\w+\.specs\.private\b.*", text, flags=re.M)
+    return [f"{name} imports from specs/private: {line}" for line in found]
+
+
+def compared_imports():
+    """How many files of definitions outside specs/private import nothing from there, and a line for each import."""
+    files = {str(path.relative_to(TOP)): path for path in sorted(CRATES.glob("*/specs/**/*.antt"))}
+    faults = {name: imports_of_private(name, path.read_text(encoding="utf-8")) for name, path in files.items()}
+    return sum("/specs/private" not in name and not found for name, found in faults.items()), sum(faults.values(), [])
+
+
 # ---- the document
 
 def rows(text):
@@ -274,6 +290,7 @@ def checked_itself():
     words = {("c", file, name): word for file, text in SPECS.items() for name, word in words_of("c", file, text).items()}
     first, second = rows(TABLE)
     lines = counted("`a/specs/X.antt` (3), `Y`\n(4 lines), `Z` and (5)")
+    private = "use Rattle.c.specs.private.B.{far}\npub use Rattle.d.specs.private as p\nuse Rattle.c.specs.B.{far}\n"
     found = {
         "imports": imports(CODE)["close"] == ("c", "A", "near"),
         "clauses": "close" in names_in(clauses(CODE)) and "other" not in names_in(clauses(CODE)),
@@ -281,6 +298,8 @@ def checked_itself():
         "constructors": words["c", "B", "Two"].key == ("c", "B", "Kind"),
         "parts": named(words, first) == {("c", "A", "near"), ("c", "A", "part")},
         "rows": named(words, second) == {("c", "B", "far")} and len(faults_of_row(words, second)) == 1,
+        "private": len(imports_of_private("crates/c/specs/A.antt", private)) == 2
+                   and not imports_of_private("crates/c/specs/private/A.antt", private),
         "lines": lines == [("a/specs/X.antt", 3), ("a/specs/Y.antt", 4)],
     }
     return sum(found.values()), [f"tools/definitions.py itself: {name}" for name, holds in found.items() if not holds]
@@ -292,7 +311,7 @@ def main(options):
         print("\n".join(" ".join(key) for key in sorted(wanted(words))))
     listed = rows((TOP / "docs" / "DEFINITIONS.md").read_text(encoding="utf-8"))
     documents = sorted([TOP / "README.md", *(TOP / "docs").glob("*.md")])
-    results = [checked_itself(), compared_words(words, listed), *map(compared_lines, documents)]
+    results = [checked_itself(), compared_words(words, listed), compared_imports(), *map(compared_lines, documents)]
     faults = [fault for _, found in results for fault in found]
     print("\n".join(faults + [f"{sum(right for right, _ in results)} passed, {len(faults)} failed"]))
     return 1 if faults else 0

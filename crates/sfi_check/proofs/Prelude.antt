@@ -31,4 +31,5 @@ pub use Rattle.sfi_check.specs.Verdict.{HasFindings, bundle_count}
 pub use Rattle.sfi_safety.specs.Clean.{IsAccepted}
 pub use Rattle.sfi_check.specs.declared.stream_answer.StreamAnswer.{StreamAnswer}
 pub use Rattle.sfi_check.specs.declared.tally.Tally.{Tally}
-pub use Rattle.sfi_check.specs.private.Tallies.{AddsFindings, AreFindingsOfPlain, AreFindingsSoFar, IsPlainFrom, IsSoFar, Tallies, findings_most, IsCut, verdict_of, verdict_by, IsTold, want_at, Goes, AreFindingsWithin, LeadsOn}
+pub use Rattle.sfi_check.specs.Tallies.{AreFindingsSoFar, IsSoFar, Tallies, findings_most, IsCut, AreFindingsWithin}
+pub use Rattle.sfi_check.specs.private.Tallies.{AddsFindings, AreFindingsOfPlain, IsPlainFrom, verdict_of, verdict_by, IsTold, want_at, Goes, LeadsOn}

@@ -4,13 +4,13 @@ use Rattle.sfi_image.specs.declared.want.Next.TheVariants as next
 use Rattle.sfi_image.specs.Fronts.{HasFaultNumberWhateverFollows}
 use Rattle.sfi_image.specs.Keeping.{ReaderState}
 use Rattle.sfi_check.specs.declared.feed.Feed.{Feed}
-use Rattle.sfi_check.specs.private.Tallies.{IsSoFar, IsCut}
+use Rattle.sfi_check.specs.Tallies.{IsSoFar, IsCut}
 
 -- ---- `IsFed`, and its parts, which only private contracts name themselves
 
--- its reader and its tally are those of these bytes
-abbrev pub IsReading : Feed → List ℕ → Type 0
-IsReading f so_far = IsSoFar (λ found. Unit {0}) f.reader f.tally so_far
+-- its reader has taken these bytes, and its tally is theirs
+abbrev pub HasTaken : Feed → List ℕ → Type 0
+HasTaken f so_far = IsSoFar (λ found. Unit {0}) f.reader f.tally so_far
 
 -- so many bytes are fewer than come next, or the image is whole and there are none
 abbrev pub Rests : ReaderState → ℕ → Type 0
@@ -19,7 +19,7 @@ Rests r count = IsCut r count ⊎ ((r.next ≡ next.End) × (count ≡ 0))
 -- the bytes are those that its reader has taken, and then those that it holds
 pub record IsHeld (f : Feed) (bytes : List ℕ) : Type 0 where
   pub so_far : List ℕ
-  pub at : IsReading f so_far
+  pub at : HasTaken f so_far
   pub bytes_are : bytes ≡ so_far ++ take f.count f.held
   pub rests : Rests f.reader f.count
   pub long : length f.held ≡ 64

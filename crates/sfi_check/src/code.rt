@@ -6,7 +6,8 @@ ghost use Rattle.sfi_image.specs.Keeping.{StandsFor, left};
 ghost use Rattle.sfi_masks.specs.Masks.{is_in};
 ghost use Rattle.sfi_rules.specs.Bundles.{IsWithin, IsWithinBlock, block_bundle, bundle_at};
 ghost use Rattle.sfi_rules.specs.Findings.{AreBundleFindings, AreReadingFindings};
-ghost use Rattle.sfi_check.specs.private.Tallies.{AddsFindings, AreScanned, IsPlainFrom, IsSoFar, LeadsOn, Steps, findings_most, want_at};
+ghost use Rattle.sfi_check.specs.Tallies.{IsSoFar, findings_most};
+ghost use Rattle.sfi_check.specs.private.Tallies.{AddsFindings, AreScanned, IsPlainFrom, LeadsOn, Steps, want_at};
 
 use crate::progress::Step;
 use crate::sink::FindingSink;

@@ -1,7 +1,7 @@
 //! The verdict on bytes that are handed in piece by piece, without taking memory.
 ghost use Rattle.std.specs.Prelude.{◌≡◌, ◌≢◌, ℕ, ◌+◌, ◌<◌, ◌≤◌, List, [], ◌++◌, length, take, true, None};
 ghost use Rattle.sfi_check.specs.Streams.{IsVerdictOn};
-ghost use Rattle.sfi_check.specs.Feeds.{IsFed, IsReading};
+ghost use Rattle.sfi_check.specs.Feeds.{IsFed, HasTaken};
 
 use crate::code::BUNDLE_BY_BUNDLE;
 use crate::progress::Progress;
@@ -71,8 +71,8 @@ impl Feed {
     fn take_all(&mut self, bytes: &[u8])
         requires fault { self.old.fault ≡ None }
         requires long { length self.old.held ≡ 64 }
-        requires reading { (so_far : List ℕ) × IsReading self.old so_far }
-        ensures { (so_far : List ℕ) → IsReading self.old so_far
+        requires reading { (so_far : List ℕ) × HasTaken self.old so_far }
+        ensures { (so_far : List ℕ) → HasTaken self.old so_far
             → IsFed self.new (so_far ++ bytes.now) }
     {
         match take_piece::<Nowhere, BUNDLE_BY_BUNDLE>(

@@ -2,7 +2,8 @@
 ghost use Rattle.std.specs.Prelude.{◌≡◌, ◌↔◌, ℕ, ◌+◌, ◌-◌, ◌<◌, ◌≤◌, List, Bool, true, false, length, take, drop, Some, None, IfOk, OnErr};
 ghost use Rattle.sfi_image.specs.Sources.{Streams};
 ghost use Rattle.sfi_rules.specs.declared.finding.Finding.{Finding};
-ghost use Rattle.sfi_check.specs.private.Tallies.{IsSoFar, Steps, Goes, verdict_of};
+ghost use Rattle.sfi_check.specs.Tallies.{IsSoFar};
+ghost use Rattle.sfi_check.specs.private.Tallies.{Steps, Goes, verdict_of};
 ghost use Rattle.sfi_check.specs.Streams.{IsVerdictOn, AreHandedOver};
 
 use crate::code::{IN_BLOCKS, take_code};

@@ -2,7 +2,8 @@
 ghost use Rattle.std.specs.Prelude.{◌≡◌, ◌+◌, ◌<◌, ◌≤◌, ◌^◌, ◌++◌, List, length, slice_get};
 ghost use Rattle.sfi_policy.specs.Limits.{sandboxes_most};
 ghost use Rattle.sfi_rules.specs.declared.finding.Finding.{Finding};
-ghost use Rattle.sfi_check.specs.private.Tallies.{AddsFindings, findings_most};
+ghost use Rattle.sfi_check.specs.Tallies.{findings_most};
+ghost use Rattle.sfi_check.specs.private.Tallies.{AddsFindings};
 
 use sfi_scan::{BundleFindings, Finding};
 
