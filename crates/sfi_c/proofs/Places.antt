@@ -16,8 +16,8 @@ use Rattle.sfi_image.proofs.Bundles.{right_words}
 use Rattle.sfi_image.proofs.Cancelling.{same_fields, part_split}
 use Rattle.sfi_image.proofs.Formats.{length-magic}
 use Rattle.sfi_c.specs.declared.part.SfiPart.{SfiPart}
-use Rattle.sfi_c.specs.Parts.{IsSandboxOf, LiesAt, Tells, told_part}
-use Rattle.sfi_c.specs.private.Places.{IsPartAt, code_at, told_at}
+use Rattle.sfi_c.specs.Parts.{IsSandboxOf, LiesAt, Tells, sandbox_offset, told_at}
+use Rattle.sfi_c.specs.private.Places.{IsPartAt}
 use Rattle.sfi_c.proofs.Heads.{head_is}
 use Rattle.sfi_c.proofs.Lookups.{one_there, within}
 use Rattle.sfi_c.proofs.Lying.{front_lies, rest_lies, from_there, length-number}
@@ -122,16 +122,27 @@ go_on bytes ps i o h t e =
     rest_lies bytes o (t.init_offset + t.init_size) (part h.sandbox) (flat_map part (drop (suc i) ps))
     (omega (arith, length-part h.sandbox, ap (λ (u : SfiPart). u.init_offset) e, ap (λ (u : SfiPart). u.init_size) e)) h.on
 
+-- the next one begins after it
+length_next : (ps : List Part) (i : ℕ) (p : Part) → slice_get ps i ≡ Some p → length (flat_map part (take (suc i) ps)) ≡ length (flat_map part (take i ps)) + length (part p)
+length_next [] i p e = absurd cc
+length_next (q ∷ ps) zero p e = let is : q ≡ p = cc in omega (arith, ap (λ (x : Part). length (part x)) is, length-append (part q) [])
+length_next (q ∷ ps) (suc i) p e =
+    omega (arith, length_next ps i p e, length-append (part q) (flat_map part (take (suc i) ps)), length-append (part q) (flat_map part (take i ps)))
+
+pub next_offset : (bytes : List ℕ) (ps : List Part) (i o : ℕ) (h : IsThere bytes ps i o) (t : SfiPart) → t ≡ told_at h.sandbox o → o ≡ sandbox_offset ps i
+    → t.init_offset + t.init_size ≡ sandbox_offset ps (suc i)
+next_offset bytes ps i o h t e at =
+    omega (arith, at, length-part h.sandbox, length_next ps i h.sandbox h.sandbox_is, ap (λ (u : SfiPart). u.init_offset) e, ap (λ (u : SfiPart). u.init_size) e)
+
 -- ---- what is told
 
-pub tells : (bytes : List ℕ) (p : Part) (t : SfiPart) → IsPartAt bytes p t → Tells bytes p t
-tells bytes p t at =
+pub tells : (bytes : List ℕ) (ps : List Part) (number : ℕ) (p : Part) (t : SfiPart) → IsPartAt bytes p t → t ≡ told_at p (sandbox_offset ps number) → Tells bytes ps number p t
+tells bytes ps number p t at is =
     let all = pieces bytes at.offset p at.lies in
-    let e = at.told_is in
-    let code = ap (λ (u : SfiPart). u.code_offset) e in
-    let init = ap (λ (u : SfiPart). u.init_offset) e in
+    let code = ap (λ (u : SfiPart). u.code_offset) at.told_is in
+    let init = ap (λ (u : SfiPart). u.init_offset) at.told_is in
     record {
-      told_is = e ∙ sym (ap (λ (m : ℕ). told_part p m t.init_offset) code ∙ ap (λ (m : ℕ). told_part p (code_at p at.offset) m) init);
+      told_is = is;
       code = subst (λ (m : ℕ). LiesAt bytes m p.code) (sym code) all.code;
       init = subst (λ (m : ℕ). LiesAt bytes m p.init) (sym init) all.init;
     }

@@ -1,9 +1,10 @@
 -- What C is told of the sandboxes and gates of an image's bytes.
-use Rattle.std.specs.Prelude.{◌≡◌, ℕ, ◌≤◌, ◌⊎◌, List, ◌++◌, Some, length, slice_get}
+use Rattle.std.specs.Prelude.{◌≡◌, ℕ, ◌+◌, ◌*◌, ◌≤◌, ◌⊎◌, List, ◌++◌, Some, length, slice_get, take}
+use Rattle.std.specs.List.{flat_map}
 use Rattle.sfi_policy.specs.declared.format.Format.{Format}
 use Rattle.sfi_policy.specs.declared.format.Format.TheVariants.{Sfi1, Sfi2}
 use Rattle.sfi_image.specs.declared.part.Gate.{Gate}
-use Rattle.sfi_image.specs.Spelling.{Part}
+use Rattle.sfi_image.specs.Spelling.{Part, part, magic_bytes, number_bytes, fields_bytes, gate_bytes}
 use Rattle.sfi_image.specs.Images.{IsImage}
 use Rattle.sfi_c.specs.declared.lookup.Lookup.{Lookup}
 use Rattle.sfi_c.specs.declared.lookup.Lookup.TheVariants.{Found, Beyond, NoImage}
@@ -58,16 +59,30 @@ told_part p code_offset init_offset = record {
   init_offset = init_offset;
 }
 
--- this is told of a sandbox of the image with these bytes, in which its code and its first data
--- bytes lie at the offsets that it names
-pub record Tells (bytes : List ℕ) (p : Part) (t : SfiPart) : Type 0 where
-  pub told_is : t ≡ told_part p t.code_offset t.init_offset
+-- where the sandbox of that number begins in the bytes of an image with these sandboxes: after the
+-- magic, the count and the sandboxes before it
+abbrev pub sandbox_offset : List Part → ℕ → ℕ
+sandbox_offset ps number = magic_bytes + number_bytes + length (flat_map part (take number ps))
+
+-- where the code of a sandbox lies that begins at the offset: after its fields and its gates
+abbrev pub code_after : Part → ℕ → ℕ
+code_after p offset = offset + fields_bytes + gate_bytes * length p.gates
+
+-- what is told of a sandbox that begins at the offset; its first data bytes lie after its code
+abbrev pub told_at : Part → ℕ → SfiPart
+told_at p offset = told_part p (code_after p offset) (code_after p offset + length p.code)
+
+-- this is told of the sandbox of that number in an image with these bytes and sandboxes: the offsets
+-- are its place, at which its code and its first data bytes lie
+pub record Tells (bytes : List ℕ) (ps : List Part) (number : ℕ) (p : Part) (t : SfiPart) : Type 0 where
+  pub told_is : t ≡ told_at p (sandbox_offset ps number)
   pub code : LiesAt bytes t.code_offset p.code
   pub init : LiesAt bytes t.init_offset p.init
 
 -- the bytes are an image, and this is told of its sandbox of that number
 abbrev pub IsPartOf : List ℕ → ℕ → SfiPart → Type 0
-IsPartOf bytes number t = (p : Part) × IsSandboxOf bytes number p × Tells bytes p t
+IsPartOf bytes number t =
+    (p : Part) × (h : IsSandboxOf bytes number p) × Tells bytes h.parts number p t
 
 -- ---- gates
 

@@ -4,8 +4,8 @@ ghost use Rattle.sfi_image.specs.declared.part.Gate.{Gate};
 ghost use Rattle.sfi_image.specs.Spelling.{Part, part, format_of};
 ghost use Rattle.sfi_image.specs.Parts.{IsRightPart};
 ghost use Rattle.sfi_image.specs.Images.{IsImage};
-ghost use Rattle.sfi_c.specs.Parts.{IsSandboxOf, LiesAt, told_gate, with_gates};
-ghost use Rattle.sfi_c.specs.private.Places.{IsPartAt, told_at};
+ghost use Rattle.sfi_c.specs.Parts.{IsSandboxOf, LiesAt, sandbox_offset, told_at, told_gate, with_gates};
+ghost use Rattle.sfi_c.specs.private.Places.{IsPartAt};
 
 use crate::stage::format_number;
 use sfi_image::{FIELDS_BYTES, Format, GATE_BYTES, fields_at, gate_at};
@@ -86,7 +86,9 @@ fn part_at(image: &[u8], offset: usize, format: Format) -> SfiPart
 /// The sandbox of that number.
 pub(crate) fn part_of(image: &[u8], number: u32) -> SfiPart
     requires { (p : Part) × IsSandboxOf image.now number p }
-    ensures { (p : Part) → IsSandboxOf image.now number p → IsPartAt image.now p result }
+    ensures lies { (p : Part) → IsSandboxOf image.now number p → IsPartAt image.now p result }
+    ensures place { (p : Part) (h : IsSandboxOf image.now number p)
+        → result ≡ told_at p (sandbox_offset h.parts number) }
 {
     let format = format_of(image);
     let mut offset = HEAD_BYTES;
