@@ -50,6 +50,7 @@ pub struct Reading<'a, R: Read> {
 impl<'a, R: Read> Reading<'a, R> {
     /// Over this reader.
     pub fn new(reader: &'a mut R) -> Self
+        ensures same_reference { result.reader.ghost_name ≡ reader.entry.ghost_name }
         ensures reader { R.remaining result.reader.now ≡ R.remaining reader.old }
         ensures failed { result.failed ≡ false }
     {
