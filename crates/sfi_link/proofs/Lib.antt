@@ -16,6 +16,7 @@ pub mod Lies
 pub mod Pushed
 pub mod Linking
 pub mod SomeLinking
+pub mod Usual
 pub mod Building
 pub mod Mapping
 pub mod SomeBuilding

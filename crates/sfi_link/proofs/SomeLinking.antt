@@ -128,7 +128,7 @@ next_power needed (suc d) k low high =
       | inr enough ↦ let twice = pow-suc 2 k in record { power = suc k; enough = enough; half = omega arith }
     ]
 
-size_or_none : (f : Format) (needed : ℕ) → ((size : ℕ) × IsCodeSize f needed size) ⊎ ((size : ℕ) → HasRoom f needed size → ⊥)
+pub size_or_none : (f : Format) (needed : ℕ) → ((size : ℕ) × IsCodeSize f needed size) ⊎ ((size : ℕ) → HasRoom f needed size → ⊥)
 size_or_none f needed =
     elim (cases_lt (code_most f) needed) [
       | inl large ↦ inr (λ size. no_room f needed size large)

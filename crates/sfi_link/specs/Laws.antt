@@ -7,6 +7,7 @@ use Rattle.sfi_rules.specs.Findings.{AreFindings}
 use Rattle.sfi_rewrite.specs.Placement.{Placement}
 use Rattle.sfi_rewrite.specs.Placed.{IsPlacedPart, IsPlaced}
 use Rattle.sfi_link.specs.declared.fault.LinkFault.{LinkFault}
+use Rattle.sfi_link.specs.declared.fault.LinkFault.TheVariants as fault
 use Rattle.sfi_link.specs.declared.build_fault.BuildFault.{BuildFault}
 use Rattle.sfi_link.specs.Linked.{IsLinked, AreLinked}
 use Rattle.sfi_link.specs.Building.{IsLinkedImage}
@@ -55,6 +56,11 @@ abbrev pub SomeLinking : Type 0
 SomeLinking = (given : List Place) (placed : List Placement) → IsPlaced placed
     → ((bytes : List ℕ) × IsLinkedImage given placed bytes)
     ⊎ ((f : LinkFault) × IsLinkFault given placed f)
+
+-- where no place is given, no sandbox has a fault of its place
+abbrev pub UsualPlacesAreFree : Type 0
+UsualPlacesAreFree = (placed : List Placement) (sandbox : ℕ) → IsPlaced placed
+    → IsLinkFault [] placed (fault.Place sandbox) → ⊥
 
 -- each text has a build or a fault
 abbrev pub SomeBuilding : Type 0

@@ -1,10 +1,11 @@
 //! From a text to an image.
-ghost use Rattle.std.specs.Prelude.{◌≡◌, ◌⊎◌, ◌<◌, ℕ, List, [], length, Err, IfOk, IfErr};
+ghost use Rattle.std.specs.Prelude.{◌≡◌, ◌≢◌, ◌⊎◌, ◌<◌, ℕ, List, [], length, Err, IfOk, IfErr};
 ghost use Rattle.rv_source.specs.Source.{Sandbox};
 ghost use Rattle.rv_text.specs.Texts.{MeansSource, most_bytes, first_line};
 ghost use Rattle.rv_text.specs.declared.cause.TextCause.TheVariants.{Limit};
 ghost use Rattle.sfi_link.specs.declared.build_fault.BuildFault.{BuildFault};
-ghost use Rattle.sfi_link.specs.declared.build_fault.BuildFault.TheVariants.{Text};
+ghost use Rattle.sfi_link.specs.declared.build_fault.BuildFault.TheVariants.{Text, Link};
+ghost use Rattle.sfi_link.specs.declared.fault.LinkFault.TheVariants as fault;
 ghost use Rattle.sfi_link.specs.Building.{IsBuild};
 ghost use Rattle.sfi_link.specs.Standing.{ImageRunsAs};
 ghost use Rattle.sfi_link.specs.Texts.{IsTextBuild, IsCleanImage, IsBuildFault, IsWantOfMemory, AnswersBuild, AnswersBuildFault};
@@ -46,6 +47,10 @@ pub fn build_at(alloc: Global, text: &str, places: &[Place]) -> Result<Vec<u8>, 
     ensures only_fault { (f : BuildFault)
         → IsBuildFault places.now text.now f → AnswersBuildFault f result }
 
+    // Where no place is given, no fault is that of a place.
+    ensures no_place { places.now ≡ []
+        → (sandbox : ℕ) → result ≢ Err (Link (fault.Place sandbox)) }
+
     // Of a text above its limit, whatever memory there is.
     ensures too_long { most_bytes < length text.now → result ≡ Err (Text (first_line Limit)) }
 {
@@ -68,6 +73,9 @@ pub fn build(alloc: Global, text: &str) -> Result<Vec<u8>, BuildFault>
         → IsTextBuild [] text.now bytes → AnswersBuild bytes result }
     ensures only_fault { (f : BuildFault)
         → IsBuildFault [] text.now f → AnswersBuildFault f result }
+
+    // No fault is that of a place.
+    ensures no_place { (sandbox : ℕ) → result ≢ Err (Link (fault.Place sandbox)) }
 
     // Of a text above its limit, whatever memory there is.
     ensures too_long { most_bytes < length text.now → result ≡ Err (Text (first_line Limit)) }

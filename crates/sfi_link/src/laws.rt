@@ -1,5 +1,5 @@
 //! What holds of all that is placed, and of every text. A call costs nothing.
-ghost use Rattle.sfi_link.specs.Laws.{LinkedIsClean, LinkedIsRight, OneLinking, OneImage, OneFault, NeverBoth, ImageHasNoFault, SomeLinking, SomeBuilding};
+ghost use Rattle.sfi_link.specs.Laws.{LinkedIsClean, LinkedIsRight, OneLinking, OneImage, OneFault, NeverBoth, ImageHasNoFault, SomeLinking, UsualPlacesAreFree, SomeBuilding};
 ghost use Rattle.sfi_link.specs.Standing.{LinkedRunsAs, LinkedImagesRunAs};
 
 /// What is made of a placed sandbox breaks no rule: its stubs, its whole expansions with addresses
@@ -27,6 +27,12 @@ pub fn one_linking()
 /// unless memory runs out.
 pub fn some_linking()
     ensures { SomeLinking }
+{}
+
+/// Where no place is given, [`LinkFault::Place`](crate::LinkFault::Place) never comes: the usual
+/// places are right, and no two sandboxes there meet.
+pub fn usual_places_are_free()
+    ensures { UsualPlacesAreFree }
 {}
 
 /// Each item of a source stands in the image as its instruction,

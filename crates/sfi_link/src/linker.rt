@@ -1,11 +1,12 @@
 //! From what is placed to an image.
-ghost use Rattle.std.specs.Prelude.{◌≡◌, ◌+◌, ◌*◌, ◌<◌, ◌≤◌, ◌^◌, ℕ, List, [], length, Err, IfOk, IfErr};
+ghost use Rattle.std.specs.Prelude.{◌≡◌, ◌≢◌, ◌+◌, ◌*◌, ◌<◌, ◌≤◌, ◌^◌, ℕ, List, [], length, Err, IfOk, IfErr};
 ghost use Rattle.std.specs.List.{All};
 ghost use Rattle.rv_source.specs.Source.{Sandbox};
 ghost use Rattle.sfi_image.specs.Spelling.{view, views};
-ghost use Rattle.sfi_rewrite.specs.Placed.{IsPlacedPart, AreOf};
+ghost use Rattle.sfi_rewrite.specs.Placed.{IsPlacedPart, IsPlaced, AreOf};
 ghost use Rattle.sfi_link.specs.declared.fault.LinkFault.{LinkFault};
 ghost use Rattle.sfi_link.specs.declared.fault.LinkFault.TheVariants.{TooManySandboxes};
+ghost use Rattle.sfi_link.specs.declared.fault.LinkFault.TheVariants as fault;
 ghost use Rattle.sfi_place.specs.Places.{place_of};
 ghost use Rattle.sfi_link.specs.Lying.{IsRightPlace};
 ghost use Rattle.sfi_link.specs.Linked.{gates_from, IsLinkedCode, IsLinked, AreLinkedFrom};
@@ -117,6 +118,7 @@ fn linked_parts<'a>(
 fn image_of(alloc: Global, placed: &Placed, places: &[Place]) -> Result<Vec<u8>, LinkFault>
     ensures links { Links (λ bytes. IsLinkedImage places.now placed.now bytes.items)
         (IsLinkFault places.now placed.now) result }
+    ensures placed { IsPlaced placed.now }
     ensures too_many { sandboxes_most < length placed.now → result ≡ Err TooManySandboxes }
 {
     let format = placed.format();
@@ -155,6 +157,9 @@ pub fn link_at(alloc: Global, placed: &Placed, places: &[Place]) -> Result<Vec<u
     // Of too many sandboxes, whatever memory there is.
     ensures too_many { sandboxes_most < length placed.now → result ≡ Err TooManySandboxes }
 
+    // Where no place is given, no fault is that of a place.
+    ensures no_place { places.now ≡ [] → (sandbox : ℕ) → result ≢ Err (fault.Place sandbox) }
+
     // The image is the build of each source that is placed so.
     ensures build { (source : List Sandbox) → ArePlacements source placed.now
         → IfOk result (λ bytes. IsBuild places.now source bytes.items) }
@@ -175,6 +180,9 @@ pub fn link(alloc: Global, placed: &Placed) -> Result<Vec<u8>, LinkFault>
 
     // Of too many sandboxes, whatever memory there is.
     ensures too_many { sandboxes_most < length placed.now → result ≡ Err TooManySandboxes }
+
+    // No fault is that of a place.
+    ensures no_place { (sandbox : ℕ) → result ≢ Err (fault.Place sandbox) }
 
     // The image is the build of each source that is placed so.
     ensures build { (source : List Sandbox) → ArePlacements source placed.now

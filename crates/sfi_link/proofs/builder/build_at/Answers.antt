@@ -1,4 +1,5 @@
 use Rattle.sfi_link.proofs.Building.{only_built, only_build_fault, text_build, means_clean, build_runs_as}
+use Rattle.sfi_link.proofs.Usual.{never_place_built}
 use Rattle.sfi_link.proofs.builder.build_at.Goals as goal
 
 pub returns-clause-build : goal.returns-clause-build
@@ -15,3 +16,6 @@ returns-clause-only_fault c = only_build_fault _ _ _ c.build_of.ensures.built c.
 
 pub returns-clause-runs_as : goal.returns-clause-runs_as
 returns-clause-runs_as c = build_runs_as _ _ _ c.build_of.ensures.built
+
+pub returns-clause-no_place : goal.returns-clause-no_place
+returns-clause-no_place c = never_place_built _ _ _ c.build_of.ensures.fault
