@@ -8,7 +8,7 @@ has to be named in a row of its crate's section where a public contract cites it
 an impl's ghost items), or where a word on which such a contract rests is defined by it in another file. Any other word on
 which contracts rest is a part, of which its own file alone makes words that are named. "X and its parts" names the parts
 of X too. And each name of a row has to be a word of one of the row's files. No definition outside specs/private imports a
-word from there, of its own crate or of another, so that no public contract rests on one.
+word from there, of its own crate or of another.
 
 In documents `PATH` (N), PATH being a file below crates/, says that the file has N lines; a name without a folder, such as
 `Runs` (86), goes on with the folder of the path before it.

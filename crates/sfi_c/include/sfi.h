@@ -169,8 +169,8 @@ struct sfi_part {
     uint32_t start;     /* the address at which the sandbox starts to run */
     uint32_t gates;     /* how many gates it has, 0 to 64 */
     uint32_t init_size; /* how many first bytes of the data region are in the image: zeros follow them */
-    size_t code_offset; /* where the code lies in the image's bytes, counted from 0 */
-    size_t init_offset; /* where the first data bytes lie there */
+    size_t code_offset; /* where the code begins in the image's bytes, counted from 0: after this sandbox's fields and gates */
+    size_t init_offset; /* where the first data bytes begin there: directly after the code, also where there are none */
 };
 
 /* A gate of a sandbox. */

@@ -64,7 +64,7 @@ told_part p code_offset init_offset = record {
 abbrev pub sandbox_offset : List Part → ℕ → ℕ
 sandbox_offset ps number = magic_bytes + number_bytes + length (flat_map part (take number ps))
 
--- where the code of a sandbox lies that begins at the offset: after its fields and its gates
+-- where the code lies of a sandbox that begins at the offset: after its fields and its gates
 abbrev pub code_after : Part → ℕ → ℕ
 code_after p offset = offset + fields_bytes + gate_bytes * length p.gates
 

@@ -30,9 +30,10 @@ pub struct SfiPart {
     pub gates: u32,
     /// How many first data bytes are in the image; zeros follow them in the data region.
     pub init_size: u32,
-    /// Where the code lies in the image's bytes, counted from 0.
+    /// Where the code begins in the image's bytes, counted from 0: directly after this sandbox's
+    /// fields and gates.
     pub code_offset: usize,
-    /// Where the first data bytes lie there.
+    /// Where the first data bytes begin there: directly after the code, also where there are none.
     pub init_offset: usize,
 }
 

@@ -8,11 +8,11 @@ use Rattle.sfi_check.specs.Tallies.{IsSoFar, IsCut}
 
 -- ---- `IsFed`, and its parts, which only private contracts name themselves
 
--- its reader has taken these bytes, and its tally is theirs
+-- its reader has taken these bytes, and its tally is of what was found in them
 abbrev pub HasTaken : Feed → List ℕ → Type 0
 HasTaken f so_far = IsSoFar (λ found. Unit {0}) f.reader f.tally so_far
 
--- so many bytes are fewer than come next, or the image is whole and there are none
+-- so many bytes are fewer than what comes next has, or the image is whole and none is held
 abbrev pub Rests : ReaderState → ℕ → Type 0
 Rests r count = IsCut r count ⊎ ((r.next ≡ next.End) × (count ≡ 0))
 

@@ -30,6 +30,7 @@ pub record AreFindingsWithin (ps : List Part) (f : Fields) (gs : List Gate) (cod
   pub here_are : AreFindingsSoFar (length ps) f gs code here
   pub found_is : found ≡ before ++ here
 
+-- the findings of a front
 abbrev pub AreFrontFindings : Front → List Finding → Type 0
 AreFrontFindings Empty found = found ≡ []
 AreFrontFindings (AfterMagic format) found = found ≡ []
@@ -39,7 +40,7 @@ AreFrontFindings (InCode n ps f gs code) found = AreFindingsWithin ps f gs code 
 AreFrontFindings (InInit n ps f gs code init) found = AreFindingsWithin ps f gs code found
 AreFrontFindings (Whole ps) found = AreImageFindings ps found
 
--- how many bundles it has
+-- how many bundles a front has
 abbrev pub front_bundles : Front → ℕ
 front_bundles Empty = 0
 front_bundles (AfterMagic format) = 0
@@ -59,7 +60,7 @@ front_sandboxes (InCode n ps f gs code) = cond (length code == 0) (length ps) (l
 front_sandboxes (InInit n ps f gs code init) = length ps + 1
 front_sandboxes (Whole ps) = length ps
 
--- the most findings of a bundle, one at each instruction, of two bytes at least
+-- a bundle has at most so many findings: one at each instruction, and each has two bytes at least
 abbrev pub findings_most : ℕ
 findings_most = bundle_size / 2
 

@@ -145,9 +145,9 @@ fn read_more<S: ByteSource>(
 }
 
 /// Accepts the bytes of the stream, or says why not, and hands the findings to the sink on the way,
-/// by sandbox and then by address. It takes no memory, and reads at most 4096 bytes at a time, to a
-/// fault of the layout or to the end (tested). Where the bytes are no image, or a read fails, nothing
-/// is said of what the sink was handed.
+/// by sandbox and then by address. It takes no memory, and reads at most 4096 bytes at a time. That it
+/// stops at a fault of the layout is only tested. Where the bytes are no image, or a read fails, no
+/// clause says which findings the sink was handed.
 pub fn check_stream_into<S: ByteSource, F: FindingSink>(
     source: &mut S,
     sink: &mut F,
@@ -194,7 +194,7 @@ pub fn check_stream_into<S: ByteSource, F: FindingSink>(
 }
 
 /// Accepts the bytes of the stream, or says why not. It takes no memory, and reads at most 4096
-/// bytes at a time, to a fault of the layout or to the end (tested).
+/// bytes at a time. That it stops at a fault of the layout is only tested.
 pub fn check_stream<S: ByteSource>(source: &mut S) -> StreamAnswer
     requires { S.has_failed source.old ≡ false }
     ensures judged { (bytes : List ℕ) × (ends : Bool)

@@ -29,8 +29,8 @@ pub fn some_linking()
     ensures { SomeLinking }
 {}
 
-/// Where no place is given, [`LinkFault::Place`](crate::LinkFault::Place) never comes: the usual
-/// places are right, and no two sandboxes there meet.
+/// Where no place is given, [`LinkFault::Place`](crate::LinkFault::Place) never comes: a sandbox
+/// that isn't too large has room at its usual place, and meets none before it.
 pub fn usual_places_are_free()
     ensures { UsualPlacesAreFree }
 {}

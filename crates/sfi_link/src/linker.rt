@@ -118,6 +118,7 @@ fn linked_parts<'a>(
 fn image_of(alloc: Global, placed: &Placed, places: &[Place]) -> Result<Vec<u8>, LinkFault>
     ensures links { Links (λ bytes. IsLinkedImage places.now placed.now bytes.items)
         (IsLinkFault places.now placed.now) result }
+    // What the type of `placed` keeps: `no_place` of the calls rests on it.
     ensures placed { IsPlaced placed.now }
     ensures too_many { sandboxes_most < length placed.now → result ≡ Err TooManySandboxes }
 {

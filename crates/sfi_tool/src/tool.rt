@@ -71,8 +71,8 @@ fn run_on<W: Write>(alloc: Global, job: &Job, text: &[u8], writer: &mut W) -> u8
     }
 }
 
-/// Runs a job: its reader is read to its end or past the limit, or, where it judges raw bytes, to a
-/// fault of the layout or to the end (tested).
+/// Runs a job. Its reader is read to its end or past the limit. Where it judges raw bytes, that reading
+/// stops at a fault of the layout is only tested.
 fn run_job<R: Read, W: Write>(alloc: Global, job: &Job, reader: &mut R, writer: &mut W) -> u8
     requires { is_raw job.now ≡ true → job.now ≡ Check true false }
     ensures runs { Runs job.now (R.remaining reader.old)
