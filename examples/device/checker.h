@@ -6,9 +6,12 @@
 
 #include "sfi.h"
 
+#ifndef MODULE_STACK
+#define MODULE_STACK 4096       /* as much of LINKED_STACK is there: the last addresses */
+#endif
+
 enum {
     LINKED_STACK = 65536,       /* checker.sh gives this number to the linker: the least that it takes */
-    MODULE_STACK = 4096,        /* as much of it is there: the last addresses */
     MODULE_DATA = 4096,         /* at least the module's constants */
     MODULE_GATES = 64           /* no sandbox has more */
 };

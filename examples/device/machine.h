@@ -103,6 +103,8 @@
 #define STATUS_AT_ENTRY         (MSTATUS_MPP_MACHINE | MSTATUS_MPIE)
 #define RETURN                  mret
 #define RETIRED                 minstret
+#define JUMPS_TO_TRAPPED        1               /* from the vector of mcu/start.S */
+#define MTVEC_VECTORED          1               /* an interrupt comes to the base + 4 * its cause */
 #define CAUSE_ECALL             CAUSE_ECALL_FROM_M
 #define CAUSE_TIMER             CAUSE_MACHINE_TIMER
 #else
@@ -113,6 +115,7 @@
 #define STATUS_AT_ENTRY         (SSTATUS_SPP | SSTATUS_SPIE)
 #define RETURN                  sret
 #define RETIRED                 instret
+#define JUMPS_TO_TRAPPED        0
 #define CAUSE_ECALL             CAUSE_ECALL_FROM_S
 #define CAUSE_TIMER             CAUSE_SUPERVISOR_TIMER
 #endif

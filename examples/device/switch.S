@@ -63,4 +63,4 @@ fault_of_host:
         .globl  switch_instructions     # each has 4 bytes: the loader has no 16-bit forms
         .balign 4
 switch_instructions:
-        .word   (enter_end - count_before) / 4 + (count_after - trapped) / 4
+        .word   (enter_end - count_before) / 4 + JUMPS_TO_TRAPPED + (count_after - trapped) / 4

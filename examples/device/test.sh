@@ -5,8 +5,8 @@
 # print. test_checker.sh has the checker judge images on the device.
 #
 #     examples/device/test.sh [SFI]             # SFI is the program; ./sfi at the top if absent
-#     ALL=1 examples/device/test.sh [SFI]       # every input, more sizes of data, and turns by the
-#                                               # real clock
+#     ALL=1 examples/device/test.sh [SFI]       # every input, more sizes of data, turns by the real
+#                                               # clock, and a checker without room for its stack
 set -uo pipefail
 here=$(cd "$(dirname "${BASH_SOURCE[0]}")" && pwd)
 SFI=$(realpath "${1:-$here/../../sfi}")

@@ -3,6 +3,14 @@
 shared=$here
 source "$here/judging.sh"
 
+# A stack of 1536 bytes is less than a verdict takes: the access below it is refused.
+try_small_stack() {
+    local library=${WASM_LIBRARY:-../../crates/sfi_c/out/wasm64-unknown-unknown/libsfi_c.a}
+    CHECKER_FLAGS=-DMODULE_STACK=1536 ./checker.sh "$library" "$room/small"
+    report "too small a stack for the checker" $'device: the checker stopped\nstatus 2' \
+        "$(run --checker "$room/small/checker.o" <../smallest.hex; echo "status $?")"
+}
+
 try_checker() {
     local number format
     by=(--checker "$room/checker/checker.o")
@@ -19,6 +27,7 @@ try_checker() {
     judge_layouts
     compare "sixteen sandboxes, which the checker tells" "$room/sixteen.hex" '' steps
     by=()
+    [ -z "$all" ] || try_small_stack
 }
 
 ! make_checker || try_checker

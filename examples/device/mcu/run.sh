@@ -6,7 +6,7 @@
 #     examples/device/mcu/run.sh [OPTIONS] < IMAGE      # hexadecimal text, as `sfi run` reads it
 #
 #     --chip NAME      one of chips/table; sifive_e, a model of the FE310, if absent
-#     --turn TICKS     how long a turn may be, in ticks of the chip's clock; about 10 ms if absent
+#     --turn TICKS     how long a turn may be, in ticks of the clock; if absent, as chip.h says
 set -euo pipefail
 here=$(cd "$(dirname "${BASH_SOURCE[0]}")" && pwd)
 top=$here/../../..

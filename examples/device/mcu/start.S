@@ -10,10 +10,11 @@ start:  csrw    mstatus, zero           # a boot loader may have left interrupts
 park:   wfi
         j       park
 first:  la      sp, stack_top
-        la      t0, trapped             # of switch.S
+        la      t0, vectors + MTVEC_VECTORED
         csrw    mtvec, t0
         csrw    mscratch, zero          # the host runs
         csrr    t1, mtvec
+        ori     t1, t1, MTVEC_VECTORED  # where there is one place for all, it is the first
         li      t2, CHIP_RAM            # memory may hold anything after a reset
         li      t3, RAM_END
 clear:  sw      zero, 0(t2)
@@ -32,6 +33,12 @@ clear:  sw      zero, 0(t2)
 no_handler:
         la      a0, handler_refused
         j       refuse
+
+        .balign 256                     # some cores want this
+vectors:
+        .rept   32
+        j       trapped                 # of switch.S
+        .endr
 
         .section .rodata
 handler_refused:

@@ -9,7 +9,7 @@
 #define OUTPUT_MOST     256             /* bytes that a sandbox can put */
 
 /* The timer: two words each, the lower one first */
-#define TIME            0x0200bff8      /* ticks of the clock, of 1/32768 s */
+#define TIME            0x0200bff8      /* ticks of 1/32768 s, of 100 ns in the model */
 #define TIMER_DUE       0x02004000      /* the timer interrupts the host's hart from this time on */
 #define TURN_TICKS      328             /* a turn's, where run.sh is given none */
 
