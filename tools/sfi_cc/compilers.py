@@ -1,5 +1,6 @@
 """Runs a compiler on each file of a program, with the options that a sandbox wants, several at a time."""
 import os
+import shutil
 import subprocess
 import sys
 from concurrent.futures import ThreadPoolExecutor
@@ -73,6 +74,10 @@ def level(given):
 def language(file):
     """The options for C or C++. Without a hosted C++ a `main` is a name like any other."""
     return PLUS_PLUS if file.endswith(PLUS_PLUS_SOURCES) else ["-ffreestanding"]
+
+
+def default_compiler():
+    return CLANG if shutil.which(CLANG) and not shutil.which(GCC) else GCC
 
 
 def version(compiler):

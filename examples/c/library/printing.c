@@ -1,10 +1,12 @@
-/* printf and its kin of stdio.h: flags, width, precision and length, and the conversions d i u o x X c s p %. Any other
-   conversion, such as those of floating point, is printed as it stands. */
+/* printf and its kin of stdio.h: flags, width, precision and length, and the conversions d i u o x X c s p %. The others of
+   the C standard, such as those of floating point, end the program with a line that says so; what is no conversion is
+   printed as it stands. */
 #include "library.h"
 #include "../gates.h"
 #include <limits.h>
 #include <stdint.h>
 #include <stdio.h>
+#include <stdlib.h>
 #include <string.h>
 
 /* Where the characters go: into a buffer, which is written to the output each time that it is full, or else takes no
@@ -198,6 +200,16 @@ static void emit_pointer(struct sink *sink, struct form *form, uintptr_t address
     emit_unsigned(sink, form, address);
 }
 
+/* A conversion that isn't there takes an argument of a size that isn't known, so the next ones couldn't be found. */
+static void refuse(struct sink *sink, const char *text, const char *end) {
+    if (sink->is_output)
+        flush(sink);
+    put("printf of this library has no ", 30);
+    put(text, end - text);
+    put("\n", 1);
+    abort();
+}
+
 /* One conversion, of which `text` is the beginning. Answers where it ends. */
 static const char *emit_conversion(struct sink *sink, const char *text, va_list *arguments) {
     struct form form;
@@ -209,6 +221,9 @@ static const char *emit_conversion(struct sink *sink, const char *text, va_list 
     case 's': emit_string(sink, &form, va_arg(*arguments, const char *)); break;
     case 'p': emit_pointer(sink, &form, (uintptr_t)va_arg(*arguments, void *)); break;
     case '%': emit(sink, '%'); break;
+    case 'a': case 'A': case 'e': case 'E': case 'f': case 'F': case 'g': case 'G': case 'L': case 'n':
+        refuse(sink, text, end);
+        break;
     default: emit_text(sink, text, end - text);
     }
     return end;

@@ -1,0 +1,78 @@
+"""newlib for sandboxes: which of its files are compiled, with which options, and what is added to them."""
+import glob
+import os
+import shutil
+from concurrent.futures import ThreadPoolExecutor
+
+import softfloat
+from compilers import Failed, compiled
+from sources import GCC_SOURCE, NEWLIB_SOURCE, unpacked
+
+GLUE = os.path.join(os.path.dirname(os.path.abspath(__file__)), "newlib")
+MARK = "newlib-of-sfi-cc"  # a file that says what the folder is
+PARTS = ("newlib/libc", "newlib/libm", "newlib/newlib.hin", "newlib/_newlib_version.hin")
+FOLDERS = [f"libc/{name}" for name in ("ctype", "errno", "locale", "misc", "reent", "search", "signal", "stdio", "stdlib",
+                                       "string", "syscalls", "time")] + ["libm/common", "libm/math"]
+POSIX = [f"libc/posix/{name}.c" for name in ("regcomp", "regerror", "regexec", "regfree", "collate", "collcmp")]
+LEFT_OUT = {f"libc/{name}.c" for name in (
+    "stdlib/mallocr", "stdlib/nano-mallocr",  # in VARIANTS, as the smaller malloc
+    "stdio/nano-vfprintf", "stdio/nano-vfprintf_float", "stdio/nano-vfprintf_i",  # printf and scanf without floats
+    "stdio/nano-vfscanf", "stdio/nano-vfscanf_float", "stdio/nano-vfscanf_i",
+    "misc/init", "misc/fini")}  # what runs before main is the converter's
+# Files that are compiled several times: the name of each, the file, and its options.
+VARIANTS = [("vfiprintf", "libc/stdio/vfprintf.c", ["-DINTEGER_ONLY"]),
+            ("svfprintf", "libc/stdio/vfprintf.c", ["-DSTRING_ONLY"]),
+            ("svfiprintf", "libc/stdio/vfprintf.c", ["-DINTEGER_ONLY", "-DSTRING_ONLY"]),
+            ("vfiscanf", "libc/stdio/vfscanf.c", ["-DINTEGER_ONLY"]),
+            ("svfscanf", "libc/stdio/vfscanf.c", ["-DSTRING_ONLY"]),
+            ("svfiscanf", "libc/stdio/vfscanf.c", ["-DINTEGER_ONLY", "-DSTRING_ONLY"])]
+VARIANTS += [(f"nano-{name}", "libc/stdlib/nano-mallocr.c", ["-DINTERNAL_NEWLIB", f"-DDEFINE_{name.upper()}"])
+             for name in ("malloc", "free", "realloc", "calloc", "cfree", "memalign", "valloc", "pvalloc", "mallinfo",
+                          "malloc_stats", "malloc_usable_size", "mallopt")]
+OPTIONS = ["-w", "-fhosted", "-fno-common", "-fno-tree-loop-distribute-patterns", "-D_LIBC", "-D_COMPILING_NEWLIB"]
+SEARCHED = ("libc/time", "libc/stdio", "libc/stdlib", "libc/locale", "libc/ctype", "libc/posix", "libc/string", "libm/common")
+
+
+def jobs(tree):
+    """The files to compile, each with a name of its own and its options."""
+    paths = [path for folder in FOLDERS for path in sorted(glob.glob(f"{tree}/{folder}/*.c"))]
+    for path in paths + [f"{tree}/{name}" for name in POSIX]:
+        name = os.path.relpath(path, tree)
+        if name not in LEFT_OUT:
+            yield path, os.path.splitext(name)[0].replace("/", "-"), []
+    for name, path, options in VARIANTS:
+        yield f"{tree}/{path}", name, options
+
+
+def headers(tree, folder):
+    """Newlib's headers, with our choices of what it has, and its version by its own file."""
+    shutil.copytree(f"{tree}/libc/include", folder)
+    shutil.copytree(f"{tree}/libc/machine/riscv/sys", os.path.join(folder, "sys"), dirs_exist_ok=True)
+    shutil.copy(os.path.join(GLUE, "newlib.h"), folder)
+
+
+def compile_all(compiler, heap, folder):
+    """Fills a folder with the library, and answers the number of its files."""
+    if GCC_SOURCE.where() is None:
+        raise Failed(2, f"for floating point {GCC_SOURCE.wanted()}")
+    tree = os.path.join(unpacked(NEWLIB_SOURCE, *PARTS), "newlib")
+    include, room = os.path.join(folder, "include"), os.path.join(folder, "room")
+    os.makedirs(room)
+    headers(tree, include)
+    options = [*OPTIONS, "-isystem", include, *(word for part in SEARCHED for word in ("-I", f"{tree}/{part}"))]
+    glue = [(os.path.join(GLUE, f"{name}.c"), f"sandbox-{name}", [f"-DHEAP={heap}"] if heap else [])
+            for name in ("system", "heap")]
+
+    def compile_one(job):
+        path, name, more = job
+        assembly, _ = compiled(compiler, [*options, *more], path, os.path.join(room, name))
+        os.rename(assembly, os.path.join(folder, f"{name}.asm"))
+
+    with ThreadPoolExecutor(os.cpu_count()) as pool:
+        list(pool.map(compile_one, [*jobs(tree), *glue]))
+    shutil.rmtree(room)
+    shutil.copy(os.path.join(GLUE, "setjmp.asm"), folder)
+    shutil.copytree(softfloat.folder_of(compiler), folder, dirs_exist_ok=True)
+    with open(os.path.join(folder, MARK), "w", encoding="utf-8") as file:
+        file.write(f"newlib of {NEWLIB_SOURCE.where()}, by {compiler}\n")
+    return len(glob.glob(os.path.join(folder, "*.asm")))
