@@ -5,12 +5,14 @@ import shutil
 from concurrent.futures import ThreadPoolExecutor
 
 import softfloat
-from compilers import Failed, compiled
-from sources import GCC_SOURCE, NEWLIB_SOURCE, unpacked
+from compilers import Failed, compiled, version
+from kept import kept
+from sources import GCC_SOURCE, NEWLIB_SOURCE, identity, unpacked
 
 GLUE = os.path.join(os.path.dirname(os.path.abspath(__file__)), "newlib")
+HEAP = 98304
 MARK = "newlib-of-sfi-cc"  # a file that says what the folder is
-PARTS = ("newlib/libc", "newlib/libm", "newlib/newlib.hin", "newlib/_newlib_version.hin")
+PARTS = ("newlib/libc", "newlib/libm")
 FOLDERS = [f"libc/{name}" for name in ("ctype", "errno", "locale", "misc", "reent", "search", "signal", "stdio", "stdlib",
                                        "string", "syscalls", "time")] + ["libm/common", "libm/math"]
 POSIX = [f"libc/posix/{name}.c" for name in ("regcomp", "regerror", "regexec", "regfree", "collate", "collcmp")]
@@ -45,23 +47,20 @@ def jobs(tree):
 
 
 def headers(tree, folder):
-    """Newlib's headers, with our choices of what it has, and its version by its own file."""
+    """Newlib's headers, with our choice of what it has."""
     shutil.copytree(f"{tree}/libc/include", folder)
     shutil.copytree(f"{tree}/libc/machine/riscv/sys", os.path.join(folder, "sys"), dirs_exist_ok=True)
     shutil.copy(os.path.join(GLUE, "newlib.h"), folder)
 
 
 def compile_all(compiler, heap, folder):
-    """Fills a folder with the library, and answers the number of its files."""
-    if GCC_SOURCE.where() is None:
-        raise Failed(2, f"for floating point {GCC_SOURCE.wanted()}")
+    """Fills a folder with the library."""
     tree = os.path.join(unpacked(NEWLIB_SOURCE, *PARTS), "newlib")
     include, room = os.path.join(folder, "include"), os.path.join(folder, "room")
     os.makedirs(room)
     headers(tree, include)
     options = [*OPTIONS, "-isystem", include, *(word for part in SEARCHED for word in ("-I", f"{tree}/{part}"))]
-    glue = [(os.path.join(GLUE, f"{name}.c"), f"sandbox-{name}", [f"-DHEAP={heap}"] if heap else [])
-            for name in ("system", "heap")]
+    glue = [(os.path.join(GLUE, f"{name}.c"), f"sandbox-{name}", [f"-DHEAP={heap}"]) for name in ("system", "heap")]
 
     def compile_one(job):
         path, name, more = job
@@ -75,4 +74,17 @@ def compile_all(compiler, heap, folder):
     shutil.copytree(softfloat.folder_of(compiler), folder, dirs_exist_ok=True)
     with open(os.path.join(folder, MARK), "w", encoding="utf-8") as file:
         file.write(f"newlib of {NEWLIB_SOURCE.where()}, by {compiler}\n")
-    return len(glob.glob(os.path.join(folder, "*.asm")))
+
+
+def folder_of(compiler, heap):
+    """The folder of the library by a compiler, with a heap of some bytes, which is kept."""
+    for package in (NEWLIB_SOURCE, GCC_SOURCE):
+        if package.where() is None:
+            raise Failed(2, package.wanted())
+    own = []
+    for path in sorted(glob.glob(os.path.join(GLUE, "*"))):
+        with open(path, encoding="utf-8") as file:
+            own.append(file.read())
+    words = [version(compiler), str(heap), identity(NEWLIB_SOURCE.where()), identity(GCC_SOURCE.where()), *own, *OPTIONS,
+             *sorted(LEFT_OUT), *FOLDERS, *POSIX, str(VARIANTS)]
+    return kept("newlib", words, lambda folder: compile_all(compiler, heap, folder))

@@ -1,6 +1,3 @@
 /* The heap that malloc has where the program has no other. */
-#ifndef HEAP
-#define HEAP 98304
-#endif
 char __heap[HEAP] __attribute__((aligned(16)));
 const unsigned __heap_size = HEAP;

@@ -6,10 +6,7 @@
 #define _WANT_IO_LONG_LONG 1
 #define _WANT_IO_POS_ARGS 1
 #define _HAVE_LONG_DOUBLE 1
-#define _WANT_REENT_SMALL 1
-#define _REENT_CHECK_VERIFY 1
 #define _ATEXIT_DYNAMIC_ALLOC 1
-#define _LITE_EXIT 1
 #define _UNBUF_STREAM_OPT 1
 #define _FVWRITE_IN_STREAMIO 1
 #define _MB_LEN_MAX 1

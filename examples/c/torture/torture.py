@@ -1,0 +1,287 @@
+"""GCC's torture tests (gcc.c-torture/execute) in sandboxes: what each does, beside what it does natively.
+
+    examples/c/torture.sh [OPTIONS] [NAME ..]
+
+Each test is compiled twice by one compiler: for qemu-riscv32 with picolibc, and by the way of sfi-cc. Where the first exits
+with 0, the second has to, and to print the same. A fixed sample runs, each test in another of the ways, if no names and
+no --all are given. The last line is `N passed, M failed[, K skipped]`; a line `skipped: WHAT: WHY` tells each that can't pass.
+"""
+import argparse
+import glob
+import os
+import random
+import re
+import resource
+import shutil
+import signal
+import subprocess
+import sys
+import tempfile
+from collections import Counter
+from contextlib import contextmanager
+from dataclasses import dataclass
+from multiprocessing import Pool
+
+HERE = os.path.dirname(os.path.abspath(__file__))
+EXAMPLES = os.path.dirname(HERE)
+TOP = os.path.dirname(os.path.dirname(EXAMPLES))
+sys.dont_write_bytecode = True
+sys.path[:0] = [os.path.join(TOP, "tools", "sfi_cc"), os.path.join(TOP, "tools", "asm2sfi")]
+
+import softfloat
+from compilers import GCC, Failed, compiled, ran, version
+from conversion import Options, convert
+from kept import kept
+from sources import GCC_SOURCE, unpacked
+
+PICOLIBC = "/usr/lib/picolibc/riscv64-unknown-elf"
+QEMU = "qemu-riscv32"
+TESTS = "gcc/testsuite/gcc.c-torture/execute"
+COMPILERS = {"gcc": GCC, "clang": "clang"}
+LEVELS = ("-O0", "-O1", "-O2", "-O3", "-Os")
+PACKAGES = {GCC: "gcc-riscv64-unknown-elf", "clang": "clang", "llc": "llvm", QEMU: "qemu-user"}
+SAMPLE, SEED = 60, 1
+STACKS = (540000, 65536)  # the second where the data leave no room for the first
+HEAP = 300000
+MEMORY, SECONDS = 3 << 30, 120  # what a conversion may take
+RUN = ["run", "--rounds", "1000", "--quantum", "1000000"]
+MACHINE = ["-march=rv32imc", "-mabi=ilp32"]
+QUIET = ["-w", "-Wno-everything"]
+DIRECTIVE = re.compile(r'dg-(?:options|additional-options)\s+"([^"]*)"\s*(\{\s*target)?')
+
+
+@dataclass(frozen=True)
+class Case:
+    """A test, and the way it goes."""
+    name: str
+    compiler: str
+    level: str
+    image_format: int
+
+    def __str__(self):
+        return f"{self.name} by {self.compiler} {self.level}, format {self.image_format}"
+
+
+@dataclass(frozen=True)
+class Room:
+    """What all cases share: the tests' folder, a folder for what is made, the program, and the libraries by compiler."""
+    tests: str
+    folder: str
+    program: str
+    libraries: dict
+    includes: tuple
+
+    def source(self, case):
+        return os.path.join(self.tests, f"{case.name}.c")
+
+    def options(self, case):
+        """The level, and what the test itself asks for."""
+        with open(self.source(case), encoding="latin-1") as file:
+            asked = [words for words, target in DIRECTIVE.findall(file.read()) if not target]
+        return [case.level, *(word for words in asked for word in words.split())]
+
+
+def natively(room, case, place):
+    """The status and the output of a test by qemu; None where it can't be built."""
+    compiler = COMPILERS[case.compiler]
+    target = ["--target=riscv32-unknown-elf"] if case.compiler == "clang" else []
+    common = [compiler, *target, *MACHINE, "-isystem", f"{PICOLIBC}/include", *QUIET[:1 + len(target)]]
+    try:
+        ran([*common, *room.options(case), "-c", "-o", f"{place}.o", room.source(case)])
+        ran([GCC, *MACHINE, "-nostdlib", "-o", f"{place}.elf", os.path.join(room.folder, "start.o"), f"{place}.o",
+             f"-L{PICOLIBC}/lib/rv32im/ilp32", "-Wl,--start-group", "-lc", "-lm", "-lgcc", "-Wl,--end-group"])
+        done = subprocess.run([QEMU, f"{place}.elf"], stdout=subprocess.PIPE, stderr=subprocess.DEVNULL, check=False,
+                              timeout=SECONDS)
+    except (Failed, subprocess.TimeoutExpired):
+        return None
+    return done.returncode, done.stdout
+
+
+def too_long(*_):
+    raise TimeoutError(f"the converter took more than {SECONDS} s")
+
+
+@contextmanager
+def limited():
+    """Holds this process to some time and memory. What it starts would be held to the memory, too, and qemu needs more."""
+    most = resource.getrlimit(resource.RLIMIT_AS)
+    signal.signal(signal.SIGALRM, too_long)
+    resource.setrlimit(resource.RLIMIT_AS, (MEMORY, most[1]))
+    signal.alarm(SECONDS)
+    try:
+        yield
+    finally:
+        signal.alarm(0)
+        resource.setrlimit(resource.RLIMIT_AS, most)
+
+
+def converted(room, case, assembly):
+    """The source text, or why there is none."""
+    with open(assembly, encoding="utf-8", errors="surrogateescape") as file:
+        texts = [(os.path.basename(assembly), file.read())]
+    with open(os.path.join(TOP, "tools", "asm2sfi", "runtime.asm"), encoding="utf-8") as file:
+        runtime = [("runtime.asm", file.read())]
+    for stack in STACKS:
+        options = Options(case.image_format, stack=stack, folders=room.libraries[case.compiler])
+        try:
+            with limited():
+                text, refusals = convert(texts, runtime, options)
+        except Exception as error:  # pylint: disable=broad-except
+            return "", f"the converter: {error!r}"
+        if not refusals or "don't fit" not in str(refusals[0]):
+            break
+    return text, "; ".join(str(refusal) for refusal in refusals[:4])
+
+
+def sandboxed(room, case, place):
+    """The status and the output in a sandbox, or why there are none."""
+    try:
+        given = ["-fhosted", *QUIET[:1 + (case.compiler == "clang")], *room.includes, *room.options(case)]
+        assembly, _ = compiled(COMPILERS[case.compiler], given, room.source(case), place)
+    except Failed as failed:
+        return "refused: " + next((line for line in failed.told.decode("latin-1").splitlines() if "error" in line), "?")
+    text, why = converted(room, case, assembly)
+    if why:
+        return f"refused: {why}"
+    try:
+        image, _ = ran([room.program, "build"], text.encode("utf-8", "surrogateescape"))
+        ran([room.program, "check"], image)
+        line = ran([room.program, *RUN], image)[0].decode()
+    except Failed as failed:
+        return f"fault: {failed} {failed.told[:200]!r}"
+    match = re.fullmatch(r"sandbox=0 exit=(\d+) steps=\d+ out=([0-9a-f]*)\n", line)
+    return (int(match.group(1)), bytes.fromhex(match.group(2))) if match else line[:200].strip()
+
+
+def tried(task):
+    """A case, and what is to be said of it: nothing where it passes, None where it goes natively in another way."""
+    room, case = task
+    place = os.path.join(room.folder, str(case).replace(" ", "_"))
+    wanted = natively(room, case, place)
+    if wanted is None or wanted[0] != 0:
+        return case, None
+    found = sandboxed(room, case, place)
+    shutil.rmtree(place, ignore_errors=True)
+    for path in glob.glob(f"{glob.escape(place)}.*"):
+        os.unlink(path)
+    if found == wanted:
+        return case, ""
+    return case, found if isinstance(found, str) else f"wanted {wanted}, found {found}"
+
+
+def small_library(compiler):
+    """The folder of the small library by a compiler, kept."""
+    paths = sorted(glob.glob(os.path.join(EXAMPLES, "library", "*.c")))
+    include = os.path.join(EXAMPLES, "include")
+
+    def make(folder):
+        for path in paths:
+            options = ["-fhosted", "-w", f"-DHEAP={HEAP}", "-I", include]
+            assembly, _ = compiled(compiler, options, path, os.path.join(folder, "room"))
+            os.rename(assembly, os.path.join(folder, os.path.basename(path) + ".asm"))
+            shutil.rmtree(os.path.join(folder, "room"))
+
+    texts = [open(path, encoding="utf-8").read() for path in paths + sorted(glob.glob(os.path.join(include, "*.h")))]
+    return kept("library", [version(compiler), str(HEAP), *texts], make)
+
+
+def room_of(options, folder):
+    tests = os.path.join(unpacked(GCC_SOURCE, TESTS), TESTS, "ieee" if options.ieee else "")
+    ran([GCC, *MACHINE, "-O2", "-isystem", f"{PICOLIBC}/include", "-c", "-o", os.path.join(folder, "start.o"),
+         os.path.join(HERE, "start.c")])
+    libraries = {}
+    for name in options.compiler:
+        compiler = COMPILERS[name]
+        libraries[name] = (options.library or small_library(compiler), softfloat.folder_of(compiler))
+    include = os.path.join(options.library, "include") if options.library else os.path.join(EXAMPLES, "include")
+    return Room(tests, folder, os.path.abspath(options.program), libraries, ("-isystem", include))
+
+
+def cases_of(options, room):
+    """The cases that are asked for, in an order that is always the same."""
+    names = sorted(os.path.basename(path)[:-2] for path in glob.glob(os.path.join(room.tests, "*.c")))
+    ways = [(compiler, level, image_format) for level in options.level for image_format in options.format
+            for compiler in options.compiler]
+    if options.names or options.all or options.ieee:
+        return [Case(name, *way) for name in options.names or names for way in ways]
+    random.Random(SEED).shuffle(names)
+    return [Case(name, *ways[number % len(ways)]) for number, name in enumerate(names[:SAMPLE])]
+
+
+def parsed(words):
+    parser = argparse.ArgumentParser(prog="torture.sh", description=__doc__.split("\n", maxsplit=1)[0])
+    parser.add_argument("names", nargs="*", metavar="NAME", help="tests that run in each way, in place of the sample")
+    parser.add_argument("--all", action="store_true", help="all tests in each way")
+    parser.add_argument("--ieee", action="store_true", help="the tests of the folder ieee, all in each way")
+    parser.add_argument("--compiler", action="append", choices=COMPILERS, help="gcc and clang if absent")
+    parser.add_argument("--level", action="append", choices=LEVELS, help="such as --level=-O2; all if absent")
+    parser.add_argument("--format", action="append", type=int, choices=(1, 2), help="both if absent")
+    parser.add_argument("--library", metavar="FOLDER", help="a C library of tools/sfi-library in place of the small one")
+    parser.add_argument("--jobs", type=int, default=2, help="how many run side by side; 2 if absent")
+    parser.add_argument("--program", default=os.path.join(TOP, "sfi"), help="the program sfi; ./sfi at the top if absent")
+    options = parser.parse_args(words)
+    options.level, options.format = options.level or LEVELS, options.format or (1, 2)
+    options.asked = options.compiler
+    options.compiler = options.compiler or [name for name in COMPILERS if shutil.which(name) or name == "gcc"]
+    return options
+
+
+def missing(options):
+    """What isn't there that all tests need: a line that names the package."""
+    for command in (GCC, QEMU):
+        if not shutil.which(command):
+            return f"{command} isn't there (Debian's package {PACKAGES[command]})"
+    if not os.path.isdir(PICOLIBC):
+        return "picolibc isn't there (Debian's package picolibc-riscv64-unknown-elf)"
+    if not GCC_SOURCE.where():
+        return f"GCC's sources aren't there: {GCC_SOURCE.wanted()}"
+    if not os.access(options.program, os.X_OK):
+        return f"{options.program} isn't built"
+    return None
+
+
+def count(results):
+    """Tells what didn't pass, and counts."""
+    counts = Counter()
+    for case, said in results:
+        known = CANNOT_PASS.get(case.name)
+        if said is None:
+            counts["left out"] += 1
+        elif not said:
+            counts["passed"] += 1
+        elif known and said.startswith("refused: "):
+            counts["skipped"] += 1
+            print(f"skipped: {case}: {known}")
+        else:
+            counts["failed"] += 1
+            print(f"FAILED {case}\n  {said}", flush=True)
+    if counts["left out"]:
+        print(f"left out, since they don't exit with 0 natively: {counts['left out']}")
+    return counts
+
+
+# Tests that are refused with a message that says why, here in few words.
+CANNOT_PASS = {}
+
+
+def main():
+    options = parsed(sys.argv[1:])
+    why = missing(options)
+    if why:
+        print(f"skipped: torture tests: {why}\n0 passed, 0 failed, 1 skipped")
+        return 0
+    skipped = 0
+    if not options.asked and not (shutil.which("clang") and shutil.which("llc")):
+        options.compiler, skipped = ["gcc"], 1
+        print("skipped: torture tests by clang: clang or llc isn't there (Debian's packages clang and llvm)")
+    with tempfile.TemporaryDirectory() as folder:
+        room = room_of(options, folder)
+        with Pool(options.jobs) as pool:
+            counts = count(pool.imap(tried, [(room, case) for case in cases_of(options, room)]))
+    skipped += counts["skipped"]
+    print(f"{counts['passed']} passed, {counts['failed']} failed" + (f", {skipped} skipped" if skipped else ""))
+    return 1 if counts["failed"] else 0
+
+
+if __name__ == "__main__":
+    sys.exit(main())

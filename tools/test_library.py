@@ -1,0 +1,123 @@
+#!/usr/bin/env python3
+"""Tests of sfi-library: `[SFI=PATH] tools/unit_tests.py tools`. What each program prints is compared with what the C
+standard has it print. They are skipped where the compiler, the sources or the program isn't there. The library is kept,
+so that only the first run compiles it."""
+import os
+import shutil
+import subprocess
+import tempfile
+import unittest
+
+from test_floats import GCC, SFI, SFI_CC, SOURCES, TOOLS  # finds the modules of sfi-cc, too
+from sources import NEWLIB_SOURCE
+
+SFI_LIBRARY = os.path.join(TOOLS, "sfi-library")
+ALL_THERE = SOURCES and NEWLIB_SOURCE.where() and shutil.which(GCC) and os.path.exists(SFI)
+
+PROGRAM = r"""
+#include <errno.h>
+#include <math.h>
+#include <sys/types.h>
+#include <regex.h>
+#include <setjmp.h>
+#include <stdio.h>
+#include <stdlib.h>
+#include <string.h>
+static jmp_buf back;
+static void leave(int depth) { if (depth) leave(depth - 1); else longjmp(back, 0); }
+static void last(void) { fputs("last\n", stderr); }
+int main(int argc, char **argv) {
+    char line[80], *end;
+    int number;
+    atexit(last);
+    if (argc != 0 || argv[0] != NULL || scanf("%d %79s", &number, line) != 2) return 1;
+    printf("%d %s|%5.2f|%g|%e|%a\n", number, line, 2.25, 1e100, -1.5e-7, 0.1);
+    printf("%.15f %.15f %.15f\n", sqrt(2), sin(1), pow(2, 0.1));
+    printf("%.17g %s\n", strtod("6.02214076e23xyz", &end), end);
+    volatile int set = setjmp(back);
+    if (set == 0) leave(7);
+    printf("%d\n", set);
+    regex_t regex;
+    regmatch_t found[2];
+    if (regcomp(&regex, "a(b+)c", REG_EXTENDED) || regexec(&regex, "xxabbbcx", 2, found, 0)) return 2;
+    printf("%d %d\n", (int)found[1].rm_so, (int)found[1].rm_eo);
+    for (int turn = 0; turn < 1000; turn++) { /* far more than the heap */
+        char *room = malloc(5000 + turn);
+        if (room == NULL) return 3;
+        memset(room, turn, 5000 + turn);
+        free(room);
+    }
+    printf("%d %d\n", malloc(1 << 20) == NULL, errno == ENOMEM);
+    printf("%d %d\n", fopen("file", "r") == NULL, errno == ENOENT);
+    while (fgets(line, sizeof line, stdin)) fprintf(stdout, "<%s>", line);
+    return 42;
+}
+"""
+PRINTED = """7 words| 2.25|1e+100|-1.500000e-07|0x1.999999999999ap-4
+1.414213562373095 0.841470984807897 1.071773462536293
+6.0221407599999999e+23 xyz
+1
+3 6
+1 1
+1 1
+<
+><end
+>"""
+
+
+@unittest.skipUnless(ALL_THERE, "the compiler, the sources or the program isn't there")
+class Library(unittest.TestCase):
+    @classmethod
+    def setUpClass(cls):
+        room = tempfile.TemporaryDirectory()
+        cls.addClassCleanup(room.cleanup)
+        cls.folder = room.name
+        cls.library = os.path.join(cls.folder, "library")
+        subprocess.run([SFI_LIBRARY, cls.library], check=True)
+
+    def ran(self, text, *words, given=b""):
+        """What `sfi run` says of a program with some input, and the bytes that it put."""
+        path = os.path.join(self.folder, "program.c")
+        with open(path, "w", encoding="utf-8") as file:
+            file.write(text)
+        image = subprocess.run([SFI_CC, "--program", SFI, *words, "--library", self.library, path], check=True,
+                               capture_output=True).stdout
+        line = subprocess.run([SFI, "run", "--rounds", "100", "--quantum", "1000000", "--input", given.hex()], input=image,
+                              capture_output=True, check=True).stdout.decode()
+        before, _, put = line.partition(" out=")
+        return before.split(" steps=")[0], bytes.fromhex(put).decode()
+
+    def test_all_of_it(self):
+        self.assertEqual(self.ran(PROGRAM, given=b" 7 words\nend\n"), ("sandbox=0 exit=42", PRINTED + "last\n"))
+
+    def test_how_it_ends(self):
+        text = "#include <stdlib.h>\n#include <assert.h>\nint main(void) { %s }\n"
+        for ending, wanted in (("exit(3);", "3"), ("abort();", "134"), ("_Exit(4);", "4"), ("assert(0);", "134"), ("", "0")):
+            self.assertEqual(self.ran(text % ending)[0], f"sandbox=0 exit={wanted}", ending)
+
+    def test_own_heap(self):
+        text = ("#include <stdlib.h>\nchar __heap[262144];\nconst unsigned __heap_size = sizeof __heap;\n"
+                "int main(void) { return malloc(200000) != NULL && malloc(200000) == NULL; }\n")
+        self.assertEqual(self.ran(text)[0], "sandbox=0 exit=1")
+
+    def test_what_is_not_called_costs_nothing(self):
+        path = os.path.join(self.folder, "none.c")
+        with open(path, "w", encoding="utf-8") as file:
+            file.write("void _start(void) {}\nint main(void) { return 0; }\n")
+        plain, with_it = [subprocess.run([SFI_CC, "-c", *words, path], check=True, capture_output=True).stdout
+                          for words in ([], ["--library", self.library])]
+        self.assertEqual(plain, with_it)
+
+    def test_another_folder_stays(self):
+        file = os.path.join(self.folder, "other", "file")
+        os.makedirs(os.path.dirname(file))
+        with open(file, "w", encoding="utf-8"):
+            pass
+        done = subprocess.run([SFI_LIBRARY, os.path.dirname(file)], capture_output=True, check=False, text=True)
+        self.assertEqual((done.returncode, done.stderr), (2, f"sfi-library: {os.path.dirname(file)} is there, and is no "
+                                                             "library\n"))
+        self.assertTrue(os.path.exists(file))
+
+
+if __name__ == "__main__":
+    unittest.main()
