@@ -88,7 +88,7 @@ class Library(unittest.TestCase):
         return before.split(" steps=")[0], bytes.fromhex(put).decode()
 
     def test_all_of_it(self):
-        self.assertEqual(self.ran(PROGRAM, given=b" 7 words\nend\n"), ("sandbox=0 exit=42", PRINTED + "last\n"))
+        self.assertEqual(self.ran(PROGRAM, given=b" 7 words\nend\n"), ("sandbox=0 exit=42", PRINTED[:-1] + "last\n>"))  # standard output goes by lines
 
     def test_how_it_ends(self):
         text = "#include <stdlib.h>\n#include <assert.h>\nint main(void) { %s }\n"

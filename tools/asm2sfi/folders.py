@@ -55,5 +55,5 @@ def global_definitions(unit):
 def undefined(unit):
     """The symbols that a unit speaks of and doesn't define; those of weak references may stay undefined."""
     spoken = {symbol.name for section in unit.sections for symbol, _ in section.references()}
-    spoken |= {getattr(other, "name", other) for other in unit.aliases.values()}
+    spoken |= {other.name for other in unit.aliases.values()}
     return sorted(spoken - set(unit.homes) - set(unit.aliases) - unit.weak)
