@@ -7,13 +7,15 @@ use std::env;
 use std::io::{self, ErrorKind};
 use std::process::ExitCode;
 
+const NO_TEXT: &[u8] = b"error: an argument is not UTF-8\n\nFor more information, try '--help'.\n";
+
 // The status for arguments that can't be had: they aren't UTF-8, or an allocation was refused.
 fn without_words(rt: HostRuntime, kind: ErrorKind) -> u8 {
     if kind == ErrorKind::OutOfMemory {
         return 4;
     }
     let mut writer = io::writer(&rt);
-    if write_out(&mut writer, b"error: an argument is not UTF-8\n") {
+    if write_out(&mut writer, NO_TEXT) {
         3
     } else {
         5
