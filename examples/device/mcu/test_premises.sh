@@ -31,6 +31,10 @@ END
         li      t0, 0x80808080
         csrw    pmpcfg1, t0
 END
+    after_boot "an entry is locked that one sandbox doesn't need" "$trap" <<'END'
+        li      t0, 0x80000000
+        csrw    pmpcfg0, t0
+END
     pmp_refused "addresses are multiples of 512" 0 <<END
         li      t0, ($((chip_ram)) | 0xff) >> 2
         csrw    pmpaddr0, t0
@@ -100,6 +104,10 @@ try_premises() {
     try_entries
     build "$room/pair.s" 1 >"$room/image.hex"
     lines=$("$SFI" run --rounds 100 --quantum 1000000 <"$room/image.hex")$'\nstatus 0'
+    pmp_refused "an entry of the second sandbox is locked" 3 <<'END'
+        li      t0, 0x80000000
+        csrw    pmpcfg0, t0
+END
     try_memory "$lines"
     case $chip in
     opentitan) ;; # its clock can't be set, and it has one hart
