@@ -1,6 +1,7 @@
 """Folders of assembly, such as a C library: a program gets of them the files that define what it speaks of."""
 import os
 import re
+from functools import lru_cache
 
 from reading import read_unit
 
@@ -46,6 +47,12 @@ class Folders:
                 known |= global_definitions(unit) | {name}
                 waiting += undefined(unit)
         return found, refusals
+
+
+@lru_cache(maxsize=4)
+def folders_of(paths):
+    """The files of some folders, which are read once in a run."""
+    return Folders(paths)
 
 
 def global_definitions(unit):

@@ -43,7 +43,7 @@ PACKAGES = {GCC: "gcc-riscv64-unknown-elf", "clang": "clang", "llc": "llvm", QEM
 SAMPLE, SEED = 120, 1
 STACKS = (540000, 65536)  # the second where the data leave no room for the first
 HEAP = 300000
-MEMORY, SECONDS = 3 << 30, 120  # what a conversion may take
+MEMORY, SECONDS = 3 << 30, 120  # what a conversion may take, of the processor's time
 RUN = ["run", "--rounds", "1000", "--quantum", "1000000"]
 MACHINE = ["-march=rv32imc", "-mabi=ilp32"]
 QUIET = ["-w", "-Wno-everything"]
@@ -91,7 +91,7 @@ def natively(room, case, place):
         ran([GCC, *MACHINE, "-nostdlib", "-o", f"{place}.elf", os.path.join(room.folder, "start.o"), f"{place}.o",
              f"-L{PICOLIBC}/lib/rv32im/ilp32", "-Wl,--start-group", "-lc", "-lm", "-lgcc", "-Wl,--end-group"])
         done = subprocess.run([QEMU, f"{place}.elf"], stdout=subprocess.PIPE, stderr=subprocess.DEVNULL, check=False,
-                              timeout=SECONDS)
+                              timeout=5 * SECONDS)
     except (Failed, subprocess.TimeoutExpired):
         return None
     return done.returncode, done.stdout
@@ -105,13 +105,13 @@ def too_long(*_):
 def limited():
     """Holds this process to some time and memory. What it starts would be held to the memory, too, and qemu needs more."""
     most = resource.getrlimit(resource.RLIMIT_AS)
-    signal.signal(signal.SIGALRM, too_long)
+    signal.signal(signal.SIGPROF, too_long)
     resource.setrlimit(resource.RLIMIT_AS, (MEMORY, most[1]))
-    signal.alarm(SECONDS)
+    signal.setitimer(signal.ITIMER_PROF, SECONDS)
     try:
         yield
     finally:
-        signal.alarm(0)
+        signal.setitimer(signal.ITIMER_PROF, 0)
         resource.setrlimit(resource.RLIMIT_AS, most)
 
 
