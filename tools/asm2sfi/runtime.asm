@@ -4,221 +4,6 @@
 	.attribute unaligned_access, 0
 	.attribute stack_align, 16
 	.text
-	.section	.text.digit,"ax",@progbits
-	.align	1
-	.type	digit, @function
-digit:
-	lw	t4,0(a0)
-	srli	t1,a2,16
-	mv	t5,a0
-	divu	a0,t4,t1
-	slli	t3,a2,16
-	srli	t3,t3,16
-	remu	a5,t4,t1
-	mul	a6,t3,a0
-.L2:
-	slli	a3,a5,16
-	srli	a4,a0,16
-	add	a5,a5,t1
-	srli	a7,a5,16
-	or	a3,a3,a1
-	bne	a4,zero,.L4
-	bgeu	a3,a6,.L3
-.L4:
-	addi	a0,a0,-1
-	sub	a6,a6,t3
-	beq	a7,zero,.L2
-.L3:
-	mul	a2,a0,a2
-	slli	t4,t4,16
-	or	t4,t4,a1
-	sub	t4,t4,a2
-	sw	t4,0(t5)
-	ret
-	.size	digit, .-digit
-	.section	.text.quotient_of,"ax",@progbits
-	.align	1
-	.type	quotient_of, @function
-quotient_of:
-	addi	sp,sp,-48
-	sw	s3,28(sp)
-	sw	ra,44(sp)
-	sw	s0,40(sp)
-	sw	s1,36(sp)
-	sw	s2,32(sp)
-	mv	t3,a0
-	mv	s3,a3
-	mv	a7,a2
-	li	a4,5
-	li	t1,32
-	li	a5,16
-.L8:
-	srl	a6,a7,a5
-	addi	a4,a4,-1
-	beq	a6,zero,.L7
-	sub	t1,t1,a5
-	mv	a7,a6
-.L7:
-	srai	a5,a5,1
-	bne	a4,zero,.L8
-	sub	s2,t1,a7
-	beq	t1,a7,.L9
-	li	a5,32
-	sub	a5,a5,s2
-	srl	a5,a1,a5
-	sll	t3,t3,s2
-	or	t3,a5,t3
-.L9:
-	sll	s0,a2,s2
-	sll	s1,a1,s2
-	mv	a2,s0
-	srli	a1,s1,16
-	addi	a0,sp,12
-	sw	t3,12(sp)
-	call	digit
-	slli	a1,s1,16
-	mv	a5,a0
-	mv	a2,s0
-	addi	a0,sp,12
-	srli	a1,a1,16
-	mv	s0,a5
-	call	digit
-	lw	a5,12(sp)
-	slli	s0,s0,16
-	lw	ra,44(sp)
-	or	a0,s0,a0
-	lw	s0,40(sp)
-	srl	a5,a5,s2
-	sw	a5,0(s3)
-	lw	s1,36(sp)
-	lw	s2,32(sp)
-	lw	s3,28(sp)
-	addi	sp,sp,48
-	jr	ra
-	.size	quotient_of, .-quotient_of
-	.section	.text.divided,"ax",@progbits
-	.align	1
-	.type	divided, @function
-divided:
-	addi	sp,sp,-48
-	sw	s2,32(sp)
-	sw	s3,28(sp)
-	sw	s4,24(sp)
-	sw	ra,44(sp)
-	sw	s0,40(sp)
-	sw	s1,36(sp)
-	sw	s5,20(sp)
-	or	a5,a2,a3
-	mv	s3,a0
-	mv	s4,a1
-	mv	s2,a4
-	beq	a5,zero,.L38
-	mv	s0,a2
-	mv	s1,a3
-	bne	a3,zero,.L39
-	bne	a1,zero,.L28
-	remu	a5,a0,a2
-	sw	zero,4(a4)
-	li	a1,0
-	divu	a0,a0,a2
-	sw	a5,0(a4)
-.L18:
-	lw	ra,44(sp)
-	lw	s0,40(sp)
-	lw	s1,36(sp)
-	lw	s2,32(sp)
-	lw	s3,28(sp)
-	lw	s4,24(sp)
-	lw	s5,20(sp)
-	addi	sp,sp,48
-	jr	ra
-.L28:
-	remu	a0,a1,a2
-	addi	a3,sp,12
-	mv	a1,s3
-	call	quotient_of
-	lw	a5,12(sp)
-	divu	a1,s4,s0
-	sw	zero,4(s2)
-	sw	a5,0(s2)
-	j	.L18
-.L38:
-	sw	a0,0(s2)
-	sw	a1,4(s2)
-	li	a0,-1
-	li	a1,-1
-	j	.L18
-.L39:
-	mv	a1,a3
-	li	a4,5
-	li	a0,32
-	li	a5,16
-.L23:
-	srl	a3,a1,a5
-	addi	a4,a4,-1
-	beq	a3,zero,.L22
-	sub	a0,a0,a5
-	mv	a1,a3
-.L22:
-	srai	a5,a5,1
-	bne	a4,zero,.L23
-	sub	s5,a0,a1
-	mv	a2,s1
-	beq	a0,a1,.L24
-	li	a2,32
-	sub	a2,a2,s5
-	srl	a2,s0,a2
-	sll	a5,s1,s5
-	or	a2,a2,a5
-.L24:
-	srli	a5,s3,1
-	slli	a1,s4,31
-	or	a1,a1,a5
-	addi	a3,sp,12
-	srli	a0,s4,1
-	call	quotient_of
-	li	a5,31
-	sub	a5,a5,s5
-	srl	a4,a0,a5
-	beq	a4,zero,.L30
-	addi	a4,a4,-1
-	mulhu	a2,s0,a4
-	mv	a0,a4
-	li	a1,0
-	mul	a3,s0,a4
-	mul	a5,s1,a4
-.L25:
-	sub	a3,s3,a3
-	sub	a5,s4,a5
-	sub	a5,a5,a2
-	sgtu	s3,a3,s3
-	sub	a5,a5,s3
-	mv	a2,a3
-	mv	a6,a5
-	bgtu	s1,a5,.L26
-	beq	s1,a5,.L40
-.L31:
-	sub	a2,a3,s0
-	sgtu	a3,a2,a3
-	sub	a5,a5,s1
-	sub	a6,a5,a3
-	addi	a0,a4,1
-	li	a1,0
-.L26:
-	sw	a2,0(s2)
-	sw	a6,4(s2)
-	j	.L18
-.L30:
-	li	a5,0
-	li	a3,0
-	li	a2,0
-	li	a0,0
-	li	a1,0
-	j	.L25
-.L40:
-	bgtu	s0,a3,.L26
-	j	.L31
-	.size	divided, .-divided
 	.section	.text.memcpy,"ax",@progbits
 	.align	1
 	.globl	memcpy
@@ -226,37 +11,37 @@ divided:
 memcpy:
 	or	a5,a0,a1
 	andi	a5,a5,3
-	bne	a5,zero,.L48
+	bne	a5,zero,.L8
 	li	a5,3
-	bleu	a2,a5,.L48
+	bleu	a2,a5,.L8
 	addi	a7,a2,-4
 	andi	a7,a7,-4
 	addi	a7,a7,4
 	add	a5,a0,a7
 	mv	a3,a1
 	mv	a4,a0
-.L46:
+.L6:
 	lw	a6,0(a3)
 	addi	a4,a4,4
 	addi	a3,a3,4
 	sw	a6,-4(a4)
-	bne	a4,a5,.L46
+	bne	a4,a5,.L6
 	andi	a2,a2,3
 	add	a1,a1,a7
 	add	a3,a5,a2
-	bne	a2,zero,.L47
-.L52:
+	bne	a2,zero,.L7
+.L13:
 	ret
-.L48:
+.L8:
 	mv	a5,a0
 	add	a3,a5,a2
-	beq	a2,zero,.L52
-.L47:
+	beq	a2,zero,.L13
+.L7:
 	lbu	a4,0(a1)
 	addi	a5,a5,1
 	addi	a1,a1,1
 	sb	a4,-1(a5)
-	bne	a5,a3,.L47
+	bne	a5,a3,.L7
 	ret
 	.size	memcpy, .-memcpy
 	.section	.text.memmove,"ax",@progbits
@@ -264,53 +49,53 @@ memcpy:
 	.globl	memmove
 	.type	memmove, @function
 memmove:
-	bleu	a0,a1,.L54
+	bleu	a0,a1,.L15
 	addi	a5,a2,-1
 	li	a6,-1
-	beq	a2,zero,.L68
-.L55:
+	beq	a2,zero,.L29
+.L16:
 	add	a4,a1,a5
 	lbu	a3,0(a4)
 	add	a4,a0,a5
 	addi	a5,a5,-1
 	sb	a3,0(a4)
-	bne	a5,a6,.L55
+	bne	a5,a6,.L16
 	ret
-.L54:
+.L15:
 	or	a5,a0,a1
 	andi	a5,a5,3
-	bne	a5,zero,.L62
+	bne	a5,zero,.L23
 	li	a5,3
-	bleu	a2,a5,.L62
+	bleu	a2,a5,.L23
 	addi	a5,a2,-4
 	andi	a5,a5,-4
 	addi	a5,a5,4
 	add	a6,a1,a5
 	mv	a4,a0
-.L60:
+.L21:
 	lw	a3,0(a1)
 	addi	a1,a1,4
 	addi	a4,a4,4
 	sw	a3,-4(a4)
-	bne	a6,a1,.L60
+	bne	a6,a1,.L21
 	andi	a2,a2,3
 	add	a5,a0,a5
-	j	.L59
-.L62:
+	j	.L20
+.L23:
 	mv	a5,a0
-.L59:
+.L20:
 	add	a3,a1,a2
-	beq	a2,zero,.L69
-.L61:
+	beq	a2,zero,.L30
+.L22:
 	lbu	a4,0(a1)
 	addi	a1,a1,1
 	addi	a5,a5,1
 	sb	a4,-1(a5)
-	bne	a3,a1,.L61
+	bne	a3,a1,.L22
 	ret
-.L68:
+.L29:
 	ret
-.L69:
+.L30:
 	ret
 	.size	memmove, .-memmove
 	.section	.text.memset,"ax",@progbits
@@ -324,66 +109,66 @@ memset:
 	slli	a5,a3,16
 	andi	a1,a1,0xff
 	add	a3,a3,a5
-	beq	a2,zero,.L82
+	beq	a2,zero,.L43
 	andi	a5,a0,3
-	beq	a5,zero,.L79
+	beq	a5,zero,.L40
 	mv	a5,a0
-	j	.L74
-.L90:
-	beq	a4,zero,.L72
-.L74:
+	j	.L35
+.L51:
+	beq	a4,zero,.L33
+.L35:
 	sb	a1,0(a5)
 	addi	a2,a2,-1
 	addi	a5,a5,1
 	andi	a4,a5,3
-	bne	a2,zero,.L90
-.L82:
+	bne	a2,zero,.L51
+.L43:
 	ret
-.L79:
+.L40:
 	mv	a5,a0
-.L72:
+.L33:
 	li	a4,3
-	bleu	a2,a4,.L91
+	bleu	a2,a4,.L52
 	addi	a4,a2,-4
 	andi	a4,a4,-4
 	addi	a4,a4,4
 	add	a4,a5,a4
-.L75:
+.L36:
 	sw	a3,0(a5)
 	addi	a5,a5,4
-	bne	a4,a5,.L75
+	bne	a4,a5,.L36
 	andi	a2,a2,3
-	beq	a2,zero,.L82
-.L78:
+	beq	a2,zero,.L43
+.L39:
 	add	a2,a4,a2
-.L76:
+.L37:
 	addi	a4,a4,1
 	sb	a1,-1(a4)
-	bne	a2,a4,.L76
+	bne	a2,a4,.L37
 	ret
-.L91:
+.L52:
 	mv	a4,a5
-	j	.L78
+	j	.L39
 	.size	memset, .-memset
 	.section	.text.memcmp,"ax",@progbits
 	.align	1
 	.globl	memcmp
 	.type	memcmp, @function
 memcmp:
-	beq	a2,zero,.L96
+	beq	a2,zero,.L57
 	add	a2,a1,a2
-	j	.L95
-.L94:
-	beq	a1,a2,.L96
-.L95:
+	j	.L56
+.L55:
+	beq	a1,a2,.L57
+.L56:
 	lbu	a5,0(a0)
 	lbu	a4,0(a1)
 	addi	a0,a0,1
 	addi	a1,a1,1
-	beq	a5,a4,.L94
+	beq	a5,a4,.L55
 	sub	a0,a5,a4
 	ret
-.L96:
+.L57:
 	li	a0,0
 	ret
 	.size	memcmp, .-memcmp
@@ -393,15 +178,15 @@ memcmp:
 	.type	strlen, @function
 strlen:
 	lbu	a5,0(a0)
-	beq	a5,zero,.L101
+	beq	a5,zero,.L62
 	mv	a5,a0
-.L100:
+.L61:
 	lbu	a4,1(a5)
 	addi	a5,a5,1
-	bne	a4,zero,.L100
+	bne	a4,zero,.L61
 	sub	a0,a5,a0
 	ret
-.L101:
+.L62:
 	li	a0,0
 	ret
 	.size	strlen, .-strlen
@@ -411,14 +196,14 @@ strlen:
 	.type	__ashldi3, @function
 __ashldi3:
 	mv	a5,a0
-	beq	a2,zero,.L106
+	beq	a2,zero,.L67
 	li	a4,31
-	ble	a2,a4,.L105
+	ble	a2,a4,.L66
 	addi	a1,a2,-32
 	li	a0,0
 	sll	a1,a5,a1
 	ret
-.L105:
+.L66:
 	li	a4,32
 	sub	a4,a4,a2
 	srl	a4,a0,a4
@@ -426,7 +211,7 @@ __ashldi3:
 	sll	a0,a0,a2
 	or	a1,a4,a1
 	ret
-.L106:
+.L67:
 	ret
 	.size	__ashldi3, .-__ashldi3
 	.section	.text.__lshrdi3,"ax",@progbits
@@ -434,21 +219,21 @@ __ashldi3:
 	.globl	__lshrdi3
 	.type	__lshrdi3, @function
 __lshrdi3:
-	beq	a2,zero,.L107
+	beq	a2,zero,.L68
 	li	a5,31
-	ble	a2,a5,.L109
+	ble	a2,a5,.L70
 	addi	a2,a2,-32
 	srl	a0,a1,a2
 	li	a1,0
 	ret
-.L109:
+.L70:
 	li	a5,32
 	sub	a5,a5,a2
 	sll	a5,a1,a5
 	srl	a0,a0,a2
 	or	a0,a5,a0
 	srl	a1,a1,a2
-.L107:
+.L68:
 	ret
 	.size	__lshrdi3, .-__lshrdi3
 	.section	.text.__ashrdi3,"ax",@progbits
@@ -456,18 +241,18 @@ __lshrdi3:
 	.globl	__ashrdi3
 	.type	__ashrdi3, @function
 __ashrdi3:
-	beq	a2,zero,.L111
+	beq	a2,zero,.L72
 	li	a5,31
-	bgt	a2,a5,.L115
+	bgt	a2,a5,.L76
 	li	a5,32
 	sub	a5,a5,a2
 	sll	a5,a1,a5
 	srl	a0,a0,a2
 	or	a0,a5,a0
 	sra	a1,a1,a2
-.L111:
+.L72:
 	ret
-.L115:
+.L76:
 	addi	a2,a2,-32
 	sra	a0,a1,a2
 	srai	a1,a1,31
@@ -486,6 +271,177 @@ __muldi3:
 	add	a1,a1,a5
 	ret
 	.size	__muldi3, .-__muldi3
+	.section	.text.__clzsi2,"ax",@progbits
+	.align	1
+	.globl	__clzsi2
+	.type	__clzsi2, @function
+__clzsi2:
+	li	a4,5
+	li	a5,16
+	li	a2,32
+.L80:
+	srl	a3,a0,a5
+	addi	a4,a4,-1
+	beq	a3,zero,.L79
+	sub	a2,a2,a5
+	mv	a0,a3
+.L79:
+	srai	a5,a5,1
+	bne	a4,zero,.L80
+	sub	a0,a2,a0
+	ret
+	.size	__clzsi2, .-__clzsi2
+	.section	.text.long_divided,"ax",@progbits
+	.align	1
+	.type	long_divided, @function
+long_divided:
+	addi	sp,sp,-32
+	sw	s2,16(sp)
+	sw	s3,12(sp)
+	sw	s4,8(sp)
+	sw	s5,4(sp)
+	sw	ra,28(sp)
+	sw	s0,24(sp)
+	sw	s1,20(sp)
+	mv	s5,a0
+	mv	s3,a1
+	mv	s2,a2
+	mv	s4,a4
+	bne	a3,zero,.L103
+	remu	s0,a1,a2
+	mv	a0,a2
+	mv	s1,a3
+	call	__clzsi2
+	li	a5,31
+	srli	t2,s5,1
+	sll	a4,s2,a0
+	sub	a5,a5,a0
+	srl	t2,t2,a5
+	slli	t0,a4,16
+	sll	s5,s5,a0
+	srli	t4,a4,16
+	srli	t0,t0,16
+	li	a2,2
+	li	a1,1
+	sll	s0,s0,a0
+	or	t2,t2,s0
+.L97:
+	divu	a7,t2,t4
+	srli	t5,s5,16
+	remu	a5,t2,t4
+	mul	t1,t0,a7
+.L94:
+	slli	a6,a5,16
+	srli	a3,a7,16
+	add	a5,a5,t4
+	srli	t3,a5,16
+	or	a6,a6,t5
+	bne	a3,zero,.L96
+	bgeu	a6,t1,.L95
+.L96:
+	addi	a7,a7,-1
+	sub	t1,t1,t0
+	beq	t3,zero,.L94
+.L95:
+	mul	a3,a4,a7
+	slli	t2,t2,16
+	or	t2,t2,t5
+	slli	s1,s1,16
+	or	s1,a7,s1
+	slli	s5,s5,16
+	sub	t2,t2,a3
+	beq	a2,a1,.L104
+	li	a2,1
+	j	.L97
+.L104:
+	divu	a1,s3,s2
+	srl	t2,t2,a0
+	sw	t2,0(s4)
+	sw	zero,4(s4)
+	mv	a0,s1
+.L85:
+	lw	ra,28(sp)
+	lw	s0,24(sp)
+	lw	s1,20(sp)
+	lw	s2,16(sp)
+	lw	s3,12(sp)
+	lw	s4,8(sp)
+	lw	s5,4(sp)
+	addi	sp,sp,32
+	jr	ra
+.L103:
+	mv	a0,a3
+	mv	s0,a3
+	call	__clzsi2
+	mv	s1,a0
+	mv	a0,s3
+	call	__clzsi2
+	sub	a3,s1,a0
+	ble	a3,zero,.L87
+	li	a4,31
+	srli	a5,s2,1
+	sub	a4,a4,a3
+	srl	a5,a5,a4
+	sll	s0,s0,a3
+	sll	s2,s2,a3
+	or	s0,a5,s0
+.L88:
+	li	a5,0
+	li	a0,-1
+.L92:
+	slli	a2,s0,31
+	srli	a4,s2,1
+	addi	a3,a3,-1
+	slli	a5,a5,1
+	bgtu	s0,s3,.L90
+	sub	a1,s5,s2
+	sgtu	a6,a1,s5
+	sub	a7,s3,s0
+	bne	s0,s3,.L100
+	bgtu	s2,s5,.L90
+.L100:
+	mv	s5,a1
+	sub	s3,a7,a6
+	ori	a5,a5,1
+.L90:
+	or	s2,a2,a4
+	srli	s0,s0,1
+	bne	a3,a0,.L92
+	mv	a0,a5
+	li	a1,0
+.L89:
+	sw	s5,0(s4)
+	sw	s3,4(s4)
+	j	.L85
+.L87:
+	beq	a3,zero,.L88
+	li	a0,0
+	li	a1,0
+	j	.L89
+	.size	long_divided, .-long_divided
+	.section	.text.divided,"ax",@progbits
+	.align	1
+	.type	divided, @function
+divided:
+	or	t4,a2,a3
+	beq	t4,zero,.L109
+	or	a5,a3,a1
+	bne	a5,zero,.L110
+	remu	a5,a0,a2
+	sw	zero,4(a4)
+	li	a1,0
+	divu	a0,a0,a2
+	sw	a5,0(a4)
+	ret
+.L110:
+	tail	long_divided
+.L109:
+	sw	a0,0(a4)
+	sw	a1,4(a4)
+	li	a0,-1
+	li	a1,-1
+	ret
+	.size	divided, .-divided
 	.section	.text.__udivdi3,"ax",@progbits
 	.align	1
 	.globl	__udivdi3
@@ -522,34 +478,33 @@ __divdi3:
 	addi	sp,sp,-32
 	sw	s0,24(sp)
 	sw	s1,20(sp)
-	sw	ra,28(sp)
-	mv	s0,a1
-	mv	s1,a3
-	bge	a1,zero,.L122
-	snez	a5,a0
-	neg	a1,a1
-	sub	a1,a1,a5
-	neg	a0,a0
-.L122:
-	mv	a3,s1
-	bge	s1,zero,.L124
-	snez	a5,a2
-	neg	a3,s1
-	sub	a3,a3,a5
-	neg	a2,a2
-.L124:
+	srai	s0,a1,31
+	srai	s1,a3,31
+	xor	a4,a2,s1
+	xor	a5,a0,s0
+	sub	a2,a4,s1
+	sub	a0,a5,s0
+	xor	a3,a3,s1
+	xor	a1,a1,s0
+	sgtu	a6,a2,a4
+	sgtu	a5,a0,a5
+	sub	a3,a3,s1
+	sub	a1,a1,s0
 	addi	a4,sp,8
+	sub	a1,a1,a5
+	sub	a3,a3,a6
+	sw	ra,28(sp)
 	xor	s0,s0,s1
 	call	divided
-	bge	s0,zero,.L126
-	snez	a5,a0
-	neg	a1,a1
-	sub	a1,a1,a5
-	neg	a0,a0
-.L126:
+	xor	a5,a0,s0
+	xor	a1,a1,s0
+	sub	a0,a5,s0
 	lw	ra,28(sp)
+	sub	a1,a1,s0
 	lw	s0,24(sp)
+	sgtu	a5,a0,a5
 	lw	s1,20(sp)
+	sub	a1,a1,a5
 	addi	sp,sp,32
 	jr	ra
 	.size	__divdi3, .-__divdi3
@@ -558,219 +513,135 @@ __divdi3:
 	.globl	__moddi3
 	.type	__moddi3, @function
 __moddi3:
+	or	a5,a3,a1
+	bne	a5,zero,.L118
+	or	a5,a2,a3
+	bne	a5,zero,.L127
+.L118:
 	addi	sp,sp,-32
 	sw	s0,24(sp)
+	srai	a7,a3,31
+	srai	s0,a1,31
+	xor	a4,a7,a2
+	xor	a5,s0,a0
+	sub	a2,a4,a7
+	sub	a0,a5,s0
+	xor	a3,a7,a3
+	xor	a1,s0,a1
+	sgtu	a6,a2,a4
+	sgtu	a5,a0,a5
+	sub	a3,a3,a7
+	sub	a1,a1,s0
+	addi	a4,sp,8
+	sub	a1,a1,a5
+	sub	a3,a3,a6
 	sw	ra,28(sp)
-	mv	s0,a1
-	mv	a6,a2
-	mv	a4,a3
-	blt	a1,zero,.L144
-	mv	a7,a0
-	mv	t1,a1
-	blt	a3,zero,.L138
-	addi	a4,sp,8
 	call	divided
-.L134:
-	lw	ra,28(sp)
-	lw	s0,24(sp)
-	lw	a0,8(sp)
+	lw	a5,8(sp)
 	lw	a1,12(sp)
+	lw	ra,28(sp)
+	xor	a5,a5,s0
+	xor	a1,a1,s0
+	sub	a0,a5,s0
+	sub	a1,a1,s0
+	lw	s0,24(sp)
+	sgtu	a5,a0,a5
+	sub	a1,a1,a5
 	addi	sp,sp,32
 	jr	ra
-.L138:
-	neg	a3,a4
-	snez	a5,a6
-	addi	a4,sp,8
-	neg	a2,a6
-	sub	a3,a3,a5
-	mv	a0,a7
-	mv	a1,t1
-	call	divided
-	bge	s0,zero,.L134
-	lw	a0,8(sp)
-	lw	a1,12(sp)
-	snez	a5,a0
-	neg	a1,a1
-	neg	a0,a0
-	sub	a1,a1,a5
-.L145:
-	lw	ra,28(sp)
-	lw	s0,24(sp)
-	addi	sp,sp,32
-	jr	ra
-.L144:
-	snez	a7,a0
-	neg	a1,a1
-	sub	a1,a1,a7
-	neg	a0,a0
-	mv	a7,a0
-	mv	t1,a1
-	blt	a3,zero,.L138
-	addi	a4,sp,8
-	call	divided
-	lw	a0,8(sp)
-	lw	a1,12(sp)
-	snez	a5,a0
-	neg	a1,a1
-	neg	a0,a0
-	sub	a1,a1,a5
-	j	.L145
-	.size	__moddi3, .-__moddi3
-	.section	.text.__clzsi2,"ax",@progbits
-	.align	1
-	.globl	__clzsi2
-	.type	__clzsi2, @function
-__clzsi2:
-	li	a4,5
-	li	a5,16
-	li	a2,32
-.L148:
-	srl	a3,a0,a5
-	addi	a4,a4,-1
-	beq	a3,zero,.L147
-	sub	a2,a2,a5
-	mv	a0,a3
-.L147:
-	srai	a5,a5,1
-	bne	a4,zero,.L148
-	sub	a0,a2,a0
+.L127:
+	remu	a0,a0,a2
+	li	a1,0
 	ret
-	.size	__clzsi2, .-__clzsi2
+	.size	__moddi3, .-__moddi3
 	.section	.text.__clzdi2,"ax",@progbits
 	.align	1
 	.globl	__clzdi2
 	.type	__clzdi2, @function
 __clzdi2:
-	beq	a1,zero,.L154
-	li	a4,5
-	li	a0,32
-	li	a5,16
-.L156:
-	srl	a3,a1,a5
-	addi	a4,a4,-1
-	beq	a3,zero,.L155
-	sub	a0,a0,a5
-	mv	a1,a3
-.L155:
-	srai	a5,a5,1
-	bne	a4,zero,.L156
-	sub	a0,a0,a1
-	ret
-.L154:
-	li	a3,5
-	li	a5,32
-	li	a4,16
-.L159:
-	srl	a2,a0,a4
-	addi	a3,a3,-1
-	beq	a2,zero,.L158
-	sub	a5,a5,a4
-	mv	a0,a2
-.L158:
-	srai	a4,a4,1
-	bne	a3,zero,.L159
-	sub	a0,a5,a0
+	beq	a1,zero,.L129
+	mv	a0,a1
+	tail	__clzsi2
+.L129:
+	addi	sp,sp,-16
+	sw	ra,12(sp)
+	call	__clzsi2
+	lw	ra,12(sp)
 	addi	a0,a0,32
-	ret
+	addi	sp,sp,16
+	jr	ra
 	.size	__clzdi2, .-__clzdi2
 	.section	.text.__ctzsi2,"ax",@progbits
 	.align	1
 	.globl	__ctzsi2
 	.type	__ctzsi2, @function
 __ctzsi2:
-	beq	a0,zero,.L172
-	neg	a5,a0
-	and	a0,a5,a0
-	li	a4,5
-	li	a2,32
-	li	a5,16
-.L171:
-	srl	a3,a0,a5
-	addi	a4,a4,-1
-	beq	a3,zero,.L170
-	sub	a2,a2,a5
-	mv	a0,a3
-.L170:
-	srai	a5,a5,1
-	bne	a4,zero,.L171
-	sub	a0,a0,a2
-	addi	a0,a0,31
-	ret
-.L172:
+	bne	a0,zero,.L139
 	li	a0,32
 	ret
+.L139:
+	neg	a5,a0
+	addi	sp,sp,-16
+	and	a0,a5,a0
+	sw	ra,12(sp)
+	call	__clzsi2
+	lw	ra,12(sp)
+	li	a5,31
+	sub	a0,a5,a0
+	addi	sp,sp,16
+	jr	ra
 	.size	__ctzsi2, .-__ctzsi2
 	.section	.text.__ctzdi2,"ax",@progbits
 	.align	1
 	.globl	__ctzdi2
 	.type	__ctzdi2, @function
 __ctzdi2:
-	bne	a0,zero,.L195
+	addi	sp,sp,-16
+	sw	ra,12(sp)
+	bne	a0,zero,.L147
 	li	a0,64
-	beq	a1,zero,.L177
+	bne	a1,zero,.L148
+	lw	ra,12(sp)
+	addi	sp,sp,16
+	jr	ra
+.L148:
 	neg	a0,a1
 	and	a0,a0,a1
-	li	a4,5
-	li	a2,32
-	li	a5,16
-.L184:
-	srl	a3,a0,a5
-	addi	a4,a4,-1
-	beq	a3,zero,.L183
-	sub	a2,a2,a5
-	mv	a0,a3
-.L183:
-	srai	a5,a5,1
-	bne	a4,zero,.L184
-	sub	a0,a0,a2
-	addi	a0,a0,63
-.L177:
-	ret
-.L195:
+	call	__clzsi2
+	lw	ra,12(sp)
+	li	a5,63
+	sub	a0,a5,a0
+	addi	sp,sp,16
+	jr	ra
+.L147:
 	neg	a5,a0
 	and	a0,a5,a0
-	li	a4,5
-	li	a2,32
-	li	a5,16
-.L180:
-	srl	a3,a0,a5
-	addi	a4,a4,-1
-	beq	a3,zero,.L179
-	sub	a2,a2,a5
-	mv	a0,a3
-.L179:
-	srai	a5,a5,1
-	bne	a4,zero,.L180
-	sub	a0,a0,a2
-	addi	a0,a0,31
-	ret
+	call	__clzsi2
+	lw	ra,12(sp)
+	li	a5,31
+	sub	a0,a5,a0
+	addi	sp,sp,16
+	jr	ra
 	.size	__ctzdi2, .-__ctzdi2
 	.section	.text.__ffssi2,"ax",@progbits
 	.align	1
 	.globl	__ffssi2
 	.type	__ffssi2, @function
 __ffssi2:
-	bne	a0,zero,.L205
+	bne	a0,zero,.L156
 	li	a0,0
 	ret
-.L205:
+.L156:
 	neg	a5,a0
+	addi	sp,sp,-16
 	and	a0,a5,a0
-	li	a4,5
-	li	a2,32
-	li	a5,16
-.L199:
-	srl	a3,a0,a5
-	addi	a4,a4,-1
-	beq	a3,zero,.L198
-	sub	a2,a2,a5
-	mv	a0,a3
-.L198:
-	srai	a5,a5,1
-	bne	a4,zero,.L199
-	sub	a0,a0,a2
-	addi	a0,a0,32
-	ret
+	sw	ra,12(sp)
+	call	__clzsi2
+	lw	ra,12(sp)
+	li	a5,32
+	sub	a0,a5,a0
+	addi	sp,sp,16
+	jr	ra
 	.size	__ffssi2, .-__ffssi2
 	.section	.text.__ffsdi2,"ax",@progbits
 	.align	1
@@ -778,113 +649,74 @@ __ffssi2:
 	.type	__ffsdi2, @function
 __ffsdi2:
 	or	a5,a0,a1
-	bne	a5,zero,.L227
+	bne	a5,zero,.L170
 	li	a0,0
-.L206:
 	ret
-.L227:
-	bne	a0,zero,.L228
+.L170:
+	addi	sp,sp,-16
+	sw	ra,12(sp)
+	bne	a0,zero,.L171
 	li	a0,65
-	beq	a1,zero,.L206
+	bne	a1,zero,.L172
+	lw	ra,12(sp)
+	addi	sp,sp,16
+	jr	ra
+.L172:
 	neg	a0,a1
 	and	a0,a0,a1
-	li	a4,5
-	li	a2,32
-	li	a5,16
-.L215:
-	srl	a3,a0,a5
-	addi	a4,a4,-1
-	beq	a3,zero,.L214
-	sub	a2,a2,a5
-	mv	a0,a3
-.L214:
-	srai	a5,a5,1
-	bne	a4,zero,.L215
-	sub	a0,a0,a2
-	addi	a0,a0,64
-	ret
-.L228:
+	call	__clzsi2
+	lw	ra,12(sp)
+	li	a5,64
+	sub	a0,a5,a0
+	addi	sp,sp,16
+	jr	ra
+.L171:
 	neg	a5,a0
 	and	a0,a5,a0
-	li	a4,5
-	li	a2,32
-	li	a5,16
-.L211:
-	srl	a3,a0,a5
-	addi	a4,a4,-1
-	beq	a3,zero,.L210
-	sub	a2,a2,a5
-	mv	a0,a3
-.L210:
-	srai	a5,a5,1
-	bne	a4,zero,.L211
-	sub	a0,a0,a2
-	addi	a0,a0,32
-	ret
+	call	__clzsi2
+	lw	ra,12(sp)
+	li	a5,32
+	sub	a0,a5,a0
+	addi	sp,sp,16
+	jr	ra
 	.size	__ffsdi2, .-__ffsdi2
 	.section	.text.__clrsbsi2,"ax",@progbits
 	.align	1
 	.globl	__clrsbsi2
 	.type	__clrsbsi2, @function
 __clrsbsi2:
-	srai	a2,a0,31
-	xor	a2,a2,a0
-	li	a4,5
-	li	a0,32
-	li	a5,16
-.L231:
-	srl	a3,a2,a5
-	addi	a4,a4,-1
-	beq	a3,zero,.L230
-	sub	a0,a0,a5
-	mv	a2,a3
-.L230:
-	srai	a5,a5,1
-	bne	a4,zero,.L231
-	sub	a0,a0,a2
+	srai	a5,a0,31
+	addi	sp,sp,-16
+	xor	a0,a5,a0
+	sw	ra,12(sp)
+	call	__clzsi2
+	lw	ra,12(sp)
 	addi	a0,a0,-1
-	ret
+	addi	sp,sp,16
+	jr	ra
 	.size	__clrsbsi2, .-__clrsbsi2
 	.section	.text.__clrsbdi2,"ax",@progbits
 	.align	1
 	.globl	__clrsbdi2
 	.type	__clrsbdi2, @function
 __clrsbdi2:
+	addi	sp,sp,-16
+	sw	ra,12(sp)
 	srai	a5,a1,31
-	bne	a1,a5,.L237
-	xor	a0,a1,a0
-	li	a3,5
-	li	a5,32
-	li	a4,16
-.L239:
-	srl	a2,a0,a4
-	addi	a3,a3,-1
-	beq	a2,zero,.L238
-	sub	a5,a5,a4
-	mv	a0,a2
-.L238:
-	srai	a4,a4,1
-	bne	a3,zero,.L239
-	sub	a5,a5,a0
-	addi	a0,a5,31
-	ret
-.L237:
+	beq	a1,a5,.L179
 	xor	a0,a1,a5
-	li	a3,5
-	li	a5,32
-	li	a4,16
-.L242:
-	srl	a2,a0,a4
-	addi	a3,a3,-1
-	beq	a2,zero,.L241
-	sub	a5,a5,a4
-	mv	a0,a2
-.L241:
-	srai	a4,a4,1
-	bne	a3,zero,.L242
-	sub	a5,a5,a0
-	addi	a0,a5,-1
-	ret
+	call	__clzsi2
+	lw	ra,12(sp)
+	addi	a0,a0,-1
+	addi	sp,sp,16
+	jr	ra
+.L179:
+	xor	a0,a1,a0
+	call	__clzsi2
+	lw	ra,12(sp)
+	addi	a0,a0,31
+	addi	sp,sp,16
+	jr	ra
 	.size	__clrsbdi2, .-__clrsbdi2
 	.section	.text.__popcountsi2,"ax",@progbits
 	.align	1
@@ -893,14 +725,14 @@ __clrsbdi2:
 __popcountsi2:
 	mv	a5,a0
 	li	a0,0
-	beq	a5,zero,.L254
-.L253:
+	beq	a5,zero,.L183
+.L182:
 	addi	a4,a5,-1
 	and	a5,a5,a4
 	addi	a0,a0,1
-	bne	a5,zero,.L253
+	bne	a5,zero,.L182
 	ret
-.L254:
+.L183:
 	ret
 	.size	__popcountsi2, .-__popcountsi2
 	.section	.text.__popcountdi2,"ax",@progbits
@@ -910,22 +742,22 @@ __popcountsi2:
 __popcountdi2:
 	mv	a5,a0
 	li	a0,0
-	beq	a5,zero,.L257
-.L258:
+	beq	a5,zero,.L186
+.L187:
 	addi	a4,a5,-1
 	and	a5,a5,a4
 	addi	a0,a0,1
-	bne	a5,zero,.L258
-.L257:
-	beq	a1,zero,.L256
+	bne	a5,zero,.L187
+.L186:
+	beq	a1,zero,.L185
 	li	a5,0
-.L260:
+.L189:
 	addi	a4,a1,-1
 	and	a1,a1,a4
 	addi	a5,a5,1
-	bne	a1,zero,.L260
+	bne	a1,zero,.L189
 	add	a0,a0,a5
-.L256:
+.L185:
 	ret
 	.size	__popcountdi2, .-__popcountdi2
 	.section	.text.__paritysi2,"ax",@progbits
@@ -933,16 +765,16 @@ __popcountdi2:
 	.globl	__paritysi2
 	.type	__paritysi2, @function
 __paritysi2:
-	beq	a0,zero,.L270
+	beq	a0,zero,.L199
 	li	a5,0
-.L269:
+.L198:
 	addi	a4,a0,-1
 	and	a0,a0,a4
 	addi	a5,a5,1
-	bne	a0,zero,.L269
+	bne	a0,zero,.L198
 	andi	a0,a5,1
 	ret
-.L270:
+.L199:
 	li	a0,0
 	ret
 	.size	__paritysi2, .-__paritysi2
@@ -952,16 +784,16 @@ __paritysi2:
 	.type	__paritydi2, @function
 __paritydi2:
 	xor	a5,a0,a1
-	beq	a0,a1,.L275
+	beq	a0,a1,.L204
 	li	a0,0
-.L274:
+.L203:
 	addi	a4,a5,-1
 	and	a5,a5,a4
 	addi	a0,a0,1
-	bne	a5,zero,.L274
+	bne	a5,zero,.L203
 	andi	a0,a0,1
 	ret
-.L275:
+.L204:
 	li	a0,0
 	ret
 	.size	__paritydi2, .-__paritydi2
@@ -1026,15 +858,15 @@ __cxa_pure_virtual:
 _Znwj:
 	addi	sp,sp,-16
 	sw	ra,12(sp)
-	bne	a0,zero,.L281
+	bne	a0,zero,.L210
 	li	a0,1
-.L281:
+.L210:
 	call	malloc
-	beq	a0,zero,.L284
+	beq	a0,zero,.L213
 	lw	ra,12(sp)
 	addi	sp,sp,16
 	jr	ra
-.L284:
+.L213:
 	ebreak
 	.size	_Znwj, .-_Znwj
 	.section	.text._Znaj,"ax",@progbits
@@ -1044,15 +876,15 @@ _Znwj:
 _Znaj:
 	addi	sp,sp,-16
 	sw	ra,12(sp)
-	bne	a0,zero,.L286
+	bne	a0,zero,.L215
 	li	a0,1
-.L286:
+.L215:
 	call	malloc
-	beq	a0,zero,.L289
+	beq	a0,zero,.L218
 	lw	ra,12(sp)
 	addi	sp,sp,16
 	jr	ra
-.L289:
+.L218:
 	ebreak
 	.size	_Znaj, .-_Znaj
 	.section	.text._ZdlPv,"ax",@progbits

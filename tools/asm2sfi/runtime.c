@@ -103,72 +103,74 @@ u64 __muldi3(u64 a, u64 b) {
 
 int __clzsi2(u32 number);
 
-/* A digit of 16 bits of the quotient of `rest` with the digit `next` behind it by a divisor of 32 bits whose first bit is
-   set: by its upper half, and then one or two less (Knuth, The Art of Computer Programming, volume 2, 4.3.1, algorithm D).
-   `rest` is below the divisor, and becomes what is left. */
-static u32 digit(u32 *rest, u32 next, u32 divisor) {
-    u32 upper = divisor >> 16, lower = divisor & 0xffff;
-    u32 quotient = *rest / upper, left = *rest - quotient * upper;
-    while (quotient >> 16 || quotient * lower > (left << 16 | next)) {
-        quotient--;
-        left += upper;
-        if (left >> 16)
-            break;
-    }
-    *rest = (*rest << 16 | next) - quotient * divisor;
-    return quotient;
-}
-
-/* The quotient of high and low by a divisor above high, which has 32 bits, and the remainder. */
+/* The quotient of high and low by a divisor above high, which has 32 bits, and the remainder: two digits of 16 bits, each
+   by the divisor's upper half, and then one or two less (Knuth, The Art of Computer Programming, volume 2, 4.3.1,
+   algorithm D). */
 static u32 quotient_of(u32 high, u32 low, u32 divisor, u32 *remainder) {
     int shift = __clzsi2(divisor);
-    u32 first, second, rest = shift ? high << shift | low >> (32 - shift) : high;
+    u32 rest = high << shift | low >> 1 >> (31 - shift), upper, lower, quotient = 0;
     divisor <<= shift;
     low <<= shift;
-    first = digit(&rest, low >> 16, divisor);
-    second = digit(&rest, low & 0xffff, divisor);
+    upper = divisor >> 16;
+    lower = divisor & 0xffff;
+    for (int digits = 2; digits; digits--) {
+        u32 digit = rest / upper, left = rest % upper, next = low >> 16;
+        for (; digit >> 16 || digit * lower > (left << 16 | next); digit--) {
+            left += upper;
+            if (left >> 16) {
+                digit--;
+                break;
+            }
+        }
+        rest = (rest << 16 | next) - digit * divisor;
+        quotient = quotient << 16 | digit;
+        low <<= 16;
+    }
     *remainder = rest >> shift;
-    return first << 16 | second;
+    return quotient;
 }
 
-/* The quotient by a divisor of more than 32 bits, which has 32: that by the divisor's upper 32 bits, or one less (Warren,
-   Hacker's Delight, 9-5). */
+/* The quotient by a divisor of more than 32 bits, which has 32, a bit at a time. */
 static u32 by_long(u64 dividend, u64 divisor, u64 *remainder) {
-    int shift = __clzsi2(high_half(divisor));
-    u32 ignored, high = high_half(dividend), upper = high_half(divisor), quotient;
-    if (shift)
-        upper = upper << shift | (u32)divisor >> (32 - shift);
-    quotient = quotient_of(high >> 1, high << 31 | (u32)dividend >> 1, upper, &ignored) >> (31 - shift);
-    if (quotient)
-        quotient--;
-    *remainder = dividend - product(quotient, divisor) - joined(quotient * high_half(divisor), 0);
-    if (*remainder >= divisor) {
-        *remainder -= divisor;
-        quotient++;
+    int shift = __clzsi2(high_half(divisor)) - __clzsi2(high_half(dividend));
+    u32 quotient = 0;
+    if (shift > 0)
+        divisor = joined(high_half(divisor) << shift | (u32)divisor >> 1 >> (31 - shift), (u32)divisor << shift);
+    for (; shift >= 0; shift--, divisor >>= 1) {
+        quotient <<= 1;
+        if (dividend >= divisor) {
+            dividend -= divisor;
+            quotient |= 1;
+        }
     }
+    *remainder = dividend;
     return quotient;
+}
+
+static __attribute__((noinline)) u64 long_divided(u64 dividend, u64 divisor, u64 *remainder) {
+    u32 high = high_half(dividend), low = divisor, rest, quotient;
+    if (high_half(divisor))
+        return by_long(dividend, divisor, remainder);
+    quotient = quotient_of(high % low, dividend, low, &rest);
+    *remainder = rest;
+    return joined(high / low, quotient);
 }
 
 /* Division by 0 answers all ones, with the dividend as remainder, as the machine's own instructions do. */
-static u64 divided(u64 dividend, u64 divisor, u64 *remainder) {
-    u32 high = high_half(dividend), low = dividend, short_divisor = divisor, rest;
+static __attribute__((noinline)) u64 divided(u64 dividend, u64 divisor, u64 *remainder) {
     if (divisor == 0) {
         *remainder = dividend;
         return -1;
     }
-    if (high_half(divisor))
-        return by_long(dividend, divisor, remainder);
-    if (high == 0) {
-        *remainder = low % short_divisor;
-        return low / short_divisor;
-    }
-    low = quotient_of(high % short_divisor, low, short_divisor, &rest);
-    *remainder = rest;
-    return joined(high / short_divisor, low);
+    if (high_half(dividend) || high_half(divisor))
+        return long_divided(dividend, divisor, remainder);
+    *remainder = (u32)dividend % (u32)divisor;
+    return (u32)dividend / (u32)divisor;
 }
 
-static u64 magnitude(s64 number) {
-    return number < 0 ? 0 - (u64)number : (u64)number;
+/* The number, or less than 0 where the sign is -1 in place of 0. */
+static u64 with_sign(u64 number, s64 sign) {
+    return (number ^ (u64)sign) - (u64)sign;
 }
 
 u64 __udivdi3(u64 dividend, u64 divisor) {
@@ -183,20 +185,23 @@ u64 __umoddi3(u64 dividend, u64 divisor) {
 }
 
 s64 __divdi3(s64 dividend, s64 divisor) {
-    u64 remainder, quotient = divided(magnitude(dividend), magnitude(divisor), &remainder);
-    return (dividend < 0) != (divisor < 0) ? 0 - quotient : quotient;
+    s64 first = dividend >> 63, second = divisor >> 63;
+    u64 remainder;
+    return with_sign(divided(with_sign(dividend, first), with_sign(divisor, second), &remainder), first ^ second);
 }
 
 s64 __moddi3(s64 dividend, s64 divisor) {
     u64 remainder;
-    divided(magnitude(dividend), magnitude(divisor), &remainder);
-    return dividend < 0 ? 0 - remainder : remainder;
+    if (high_half(dividend) == 0 && high_half(divisor) == 0 && divisor != 0)
+        return (u32)dividend % (u32)divisor;
+    divided(with_sign(dividend, dividend >> 63), with_sign(divisor, divisor >> 63), &remainder);
+    return with_sign(remainder, dividend >> 63);
 }
 
 /* Counts of bits: `__builtin_clz` and the like. Of 0 the first and the last bit are behind all bits, where C asks for
    nothing. */
 
-int __clzsi2(u32 number) {
+__attribute__((noinline)) int __clzsi2(u32 number) {
     int count = 32;
     for (int half = 16; half; half >>= 1)
         if (number >> half) {

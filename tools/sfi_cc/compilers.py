@@ -10,11 +10,12 @@ TOP = os.path.dirname(TOOLS)
 GCC, CLANG = "riscv64-unknown-elf-gcc", "clang"
 RESERVED = (24, 25, 26, 27, 31)  # the sandbox's own registers
 LEVELS = {"-O": "-O1", "-Og": "-O1", "-Os": "-O2", "-Oz": "-O2", "-Ofast": "-O3"}  # those that llc hasn't
-COMMON = ["-march=rv32imc", "-mabi=ilp32", "-fno-builtin", "-ffunction-sections", "-fdata-sections", "-fno-jump-tables"]
-FIXED = ["-Werror=trampolines", *(f"-ffixed-x{number}" for number in RESERVED)]
+CASES = 64  # of more cases a `switch` is cheaper by a table of addresses than by branches
+COMMON = ["-march=rv32imc", "-mabi=ilp32", "-fno-builtin", "-ffunction-sections", "-fdata-sections"]
+FIXED = ["-Werror=trampolines", f"--param=case-values-threshold={CASES}", *(f"-ffixed-x{number}" for number in RESERVED)]
 PLUS_PLUS = ["-fno-exceptions", "-fno-rtti", "-fno-threadsafe-statics"]
 LAST = ["-fno-lto"]  # what outweighs the options that are given
-TARGET = ["--target=riscv32-unknown-elf"]
+TARGET = ["--target=riscv32-unknown-elf", "-fno-jump-tables"]  # llc makes tables of any five cases, or none
 LLC = ["-march=riscv32", "-target-abi=ilp32", "--function-sections", "--data-sections",
        "-mattr=+m,+c," + ",".join(f"+reserve-x{number}" for number in RESERVED)]
 HEADERS = ["-I", os.path.join(TOP, "examples", "c")]
