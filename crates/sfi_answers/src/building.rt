@@ -38,8 +38,8 @@ pub fn build_answer(alloc: Global, places: &[Place], text: &[u8]) -> Result<Answ
     })
 }
 
-/// The lines of the source text's names, with their addresses in the image that it makes with its
-/// sandboxes at these places.
+/// The lines of the source text's gates and labels, with their addresses in the image that it makes
+/// with its sandboxes at these places.
 pub fn map_answer(alloc: Global, places: &[Place], text: &[u8]) -> Result<Answer, Stop>
     requires { length text.now ≤ limit }
     ensures { Answers (map places.now) text.now result }

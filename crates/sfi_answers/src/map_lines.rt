@@ -1,41 +1,36 @@
-//! The lines that say the addresses of names.
+//! The lines that say the addresses of gates and labels.
 
 ghost use Rattle.std.specs.Prelude.{◌≡◌, ◌++◌, OnOk, IfOk, string_bytes};
 ghost use Rattle.sfi_answers.specs.MapLines.{kind_name, line_of_entry, map_lines};
 
-use sfi_link::NameAddress;
+use sfi_link::{NameAddress, NameKind};
 use sfi_report::push_eight_digits;
-use sfi_rewrite::PlacedName;
 use std::alloc::{AllocError, Global};
 
-fn kind_name(named: PlacedName) -> &'static str
-    ensures { result.now ≡ kind_name named }
+fn kind_name(kind: NameKind) -> &'static str
+    ensures { result.now ≡ kind_name kind }
 {
-    match named {
-        PlacedName::Gate(_) => "gate",
-        PlacedName::Code(_) => "code",
-        PlacedName::Data(_) => "data",
-        PlacedName::Unknown => "unknown",
+    match kind {
+        NameKind::Gate => "gate",
+        NameKind::Code => "code",
+        NameKind::Data => "data",
     }
 }
 
-/// Writes the line of a name; none where it has no address.
+/// Writes the line of a gate or label.
 fn push_name_line(out: &mut String, entry: &NameAddress) -> Result<(), AllocError>
     ensures { OnOk result (string_bytes out.new
         ≡ string_bytes out.old ++ line_of_entry entry.now) }
 {
-    let Some(address) = entry.address() else {
-        return Ok(());
-    };
     let sandbox = entry.sandbox();
-    let kind = kind_name(entry.named());
+    let kind = kind_name(entry.kind());
     let name = entry.name();
     write!(out, "sandbox={sandbox} {kind} {name} at=")?;
-    push_eight_digits(out, address)?;
+    push_eight_digits(out, entry.address())?;
     out.push_str("\n")
 }
 
-/// The lines of names, in their order.
+/// The lines of gates and labels, in their order.
 pub(crate) fn map_lines(alloc: Global, entries: &[NameAddress]) -> Result<String, AllocError>
     ensures { IfOk result (λ text. string_bytes text ≡ map_lines entries.now) }
 {

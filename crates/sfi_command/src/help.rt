@@ -89,16 +89,16 @@ Example:
   sfi build < examples/hi.s > hi.hex
   sfi build --at 20500000:80000000 < examples/hi.s > hi.hex";
 
-pub(crate) const MAP: &str = "Say where the names of a source text lie in its image";
+pub(crate) const MAP: &str = "Say where the gates and labels of a source text lie in its image";
 
 pub(crate) const MAP_NOTES: &str = "\
-Reads a source text as `sfi build` does, and prints a line for each name: its
-sandbox, whether it names a gate, code or data, and its address in the image that
-is built with the same --at:
+Reads a source text as `sfi build` does, and prints a line for each gate and
+label: its sandbox, what it is (gate, code or data), its name, and its address in
+the image that is built with the same --at:
   sandbox=S gate NAME at=AAAAAAAA
 
 Exit status:
-  0  the source can be built, and its names are printed
+  0  the source can be built, and its map is printed
   2  the source or a place has a fault, and the line says which
   3, 4, 5  as `sfi help` says
 

@@ -1,5 +1,6 @@
 -- A text has one map.
-use Rattle.sfi_link.proofs.Prelude.{◌≡◌, ℕ, zero, suc, ◌+◌, ◌<◌, List, [], ◌∷◌, ◌++◌, length, take, get_or, refl, sym, subst, ap, ◌∙◌, arith, Some, None, ◌⊎◌, inl, inr, Vec, Global, slice_get, Result, Ok, Err, IfOk, IfErr, Sandbox, PlacedName, Placement, Bases, Place, bases_of, Part, IsLinked, AreLinkedFrom, MapEntry, entry_of, entries_of, texts_of, map_from, IsTextMap, AnswersMap, AnswersMapFault}
+use Rattle.sfi_link.proofs.Prelude.{◌≡◌, ℕ, zero, suc, ◌+◌, ◌<◌, List, [], ◌∷◌, ◌++◌, length, take, get_or, refl, sym, subst, ap, ◌∙◌, arith, Some, None, ◌⊎◌, inl, inr, Vec, Global, slice_get, Result, Ok, Err, IfOk, IfErr, Sandbox, PlacedName, Placement, Bases, Place, bases_of, Part, IsLinked, AreLinkedFrom, MapEntry, kind_of, entry_of, entries_of, texts_of, map_from, IsTextMap, AnswersMap, AnswersMapFault}
+use Rattle.sfi_link.specs.Addresses.{address_of}
 use Rattle.sfi_link.specs.Texts.{IsBuildFault, IsWantOfMemory}
 use Rattle.sfi_link.specs.declared.build_fault.BuildFault.{BuildFault}
 use Rattle.std.proofs.lemmas.List.{append-nil, append_assoc}
@@ -12,16 +13,20 @@ pub none_placed : (number : ℕ) (at : Bases) (names : List (List ℕ)) → entr
 none_placed number at [] = refl
 none_placed number at (n ∷ names) = refl
 
--- one name more
+-- what one name more adds
 pub entries_more : (number : ℕ) (at : Bases) (names : List (List ℕ)) (placed : List PlacedName) (k : ℕ) (name : List ℕ) (p : PlacedName) → k < length placed
-    → Some name ≡ slice_get names k → entries_of number at names (take (suc k) placed) ≡ entries_of number at names (take k placed) ++ entry_of number at name (get_or placed k p) ∷ []
+    → Some name ≡ slice_get names k → entries_of number at names (take (suc k) placed) ≡ entries_of number at names (take k placed) ++ entry_of number name (kind_of (get_or placed k p)) (address_of at (get_or placed k p))
 entries_more number at [] placed k name p lt there = absurd (cc)
 entries_more number at (n ∷ names) [] k name p lt there = absurd (omega arith)
 entries_more number at (n ∷ names) (q ∷ placed) zero name p lt there =
     let same : name ≡ n = cc in
-    rw same (ap (λ l. entry_of number at n q ∷ l) (none_placed number at names))
+    let one = entry_of number n (kind_of q) (address_of at q) in
+    rw same (ap (λ l. one ++ l) (none_placed number at names) ∙ append-nil one)
 entries_more number at (n ∷ names) (q ∷ placed) (suc k) name p lt there =
-    ap (λ l. entry_of number at n q ∷ l) (entries_more number at names placed k name p (omega arith) there)
+    let one = entry_of number n (kind_of q) (address_of at q) in
+    let other = get_or placed k p in
+    ap (λ l. one ++ l) (entries_more number at names placed k name p (omega arith) there)
+    ∙ sym (append_assoc one (entries_of number at names (take k placed)) (entry_of number name (kind_of other) (address_of at other)))
 
 -- where there is no text
 pub entries_end : (number : ℕ) (at : Bases) (names : List (List ℕ)) (placed : List PlacedName) (k : ℕ) → k < length placed
@@ -30,11 +35,11 @@ entries_end number at [] placed k lt there = refl
 entries_end number at (n ∷ names) [] k lt there = absurd (omega arith)
 entries_end number at (n ∷ names) (q ∷ placed) zero lt there = absurd (cc)
 entries_end number at (n ∷ names) (q ∷ placed) (suc k) lt there =
-    ap (λ l. entry_of number at n q ∷ l) (entries_end number at names placed k (omega arith) there)
+    ap (λ l. entry_of number n (kind_of q) (address_of at q) ++ l) (entries_end number at names placed k (omega arith) there)
 
--- the list with one name more
-pub listed_more : (old listed now front : List MapEntry) (e : MapEntry) → listed ≡ old ++ front → now ≡ listed ++ e ∷ [] → now ≡ old ++ (front ++ e ∷ [])
-listed_more old listed now front e before one = one ∙ ap (λ l. l ++ e ∷ []) before ∙ append_assoc old front (e ∷ [])
+-- the list with what one name more adds
+pub listed_more : (old listed now front one : List MapEntry) → listed ≡ old ++ front → now ≡ listed ++ one → now ≡ old ++ (front ++ one)
+listed_more old listed now front one before after = after ∙ ap (λ l. l ++ one) before ∙ append_assoc old front one
 
 -- ---- the names of all
 

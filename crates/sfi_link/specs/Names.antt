@@ -1,40 +1,55 @@
--- The map of a text: the addresses of its names in the image that is built.
-use Rattle.std.specs.Prelude.{◌≡◌, ◌⊎◌, ℕ, ◌+◌, List, [], ◌∷◌, ◌++◌, map, Option, Result, Ok, Err, Vec}
+-- The map of a text: the addresses of its gates and labels in the image that is built.
+use Rattle.std.specs.Prelude.{◌≡◌, ◌⊎◌, ℕ, ◌+◌, List, [], ◌∷◌, ◌++◌, map, Option, Some, None, Result, Ok, Err, Vec}
 use Rattle.std.specs.Global.{Global}
 use Rattle.rv_source.specs.Source.{Sandbox}
 use Rattle.sfi_place.specs.declared.place.Place.{Place}
 use Rattle.sfi_rewrite.specs.declared.placed.PlacedName.{PlacedName}
+use Rattle.sfi_rewrite.specs.declared.placed.PlacedName.TheVariants.{Gate, Code, Data, Unknown}
 use Rattle.sfi_rewrite.specs.Placement.{Placement}
 use Rattle.sfi_link.specs.declared.bases.Bases.{Bases}
 use Rattle.sfi_link.specs.declared.build_fault.BuildFault.{BuildFault}
+use Rattle.sfi_link.specs.declared.names.NameKind.{NameKind}
+use Rattle.sfi_link.specs.declared.names.NameKind.TheVariants as kind
 use Rattle.sfi_link.specs.Addresses.{address_of, bases_of}
 use Rattle.sfi_link.specs.Texts.{IsTextBuild, IsWantOfMemory}
 
--- a name in an image: the number of its sandbox, counted from 0, its text, what it names, and the
--- address that stands for it, if one does
+-- a gate or a label in an image: the number of its sandbox, counted from 0, its name, which of them
+-- it is, and the address that stands for it
 pub record MapEntry : Type 0 where
   pub sandbox : ℕ
   pub name : List ℕ
-  pub named : PlacedName
-  pub address : Option ℕ
+  pub kind : NameKind
+  pub address : ℕ
 
--- the name, in the sandbox of that number, which lies there
-abbrev pub entry_of : ℕ → Bases → List ℕ → PlacedName → MapEntry
-entry_of number at name p =
-    record { sandbox = number; name = name; named = p; address = address_of at p }
+-- what a name is: a gate, or a label in the code or in the data; neither where the text only cites
+-- it and never says what it names
+abbrev pub kind_of : PlacedName → Option NameKind
+kind_of (Gate k) = Some kind.Gate
+kind_of (Code place) = Some kind.Code
+kind_of (Data offset) = Some kind.Data
+kind_of Unknown = None
 
--- the names of that sandbox, in the order in which they are first seen
+-- the entry of a name of that kind with that address, in the sandbox of that number; none of a name
+-- that is neither a gate nor a label
+abbrev pub entry_of : ℕ → List ℕ → Option NameKind → Option ℕ → List MapEntry
+entry_of number name None address = []
+entry_of number name (Some kind) None = []
+entry_of number name (Some kind) (Some address) =
+    record { sandbox = number; name = name; kind = kind; address = address } ∷ []
+
+-- the gates and labels of the sandbox of that number, which lies there, in the order in which their
+-- names are first seen
 abbrev pub entries_of : ℕ → Bases → List (List ℕ) → List PlacedName → List MapEntry
 entries_of number at [] placed = []
 entries_of number at (name ∷ names) [] = []
 entries_of number at (name ∷ names) (p ∷ placed) =
-    entry_of number at name p ∷ entries_of number at names placed
+    entry_of number name (kind_of p) (address_of at p) ++ entries_of number at names placed
 
 -- the texts of a sandbox's names
 abbrev pub texts_of : Sandbox → List (List ℕ)
 texts_of s = map (λ e. e.0) s.names
 
--- the names of sandboxes, the first of which has that number, by what was placed of each
+-- the gates and labels of sandboxes, the first of which has that number, by what was placed of each
 abbrev pub map_from : List Place → ℕ → List Sandbox → List Placement → List MapEntry
 map_from given number [] placed = []
 map_from given number (s ∷ source) [] = []
@@ -42,15 +57,15 @@ map_from given number (s ∷ source) (p ∷ placed) =
     entries_of number (bases_of given number p) (texts_of s) p.names
     ++ map_from given (number + 1) source placed
 
--- the text has a build at the given places, and these are its names, with the addresses that they
--- have there
+-- the text has a build at the given places, and these are its gates and labels, with the addresses
+-- that they have there
 pub record IsTextMap (given : List Place) (text : List ℕ) (entries : List MapEntry)
     : Type 0 where
   pub bytes : List ℕ
   pub build : IsTextBuild given text bytes
   pub entries_are : entries ≡ map_from given 0 build.source build.placed
 
--- the answer is these names, or memory ran out
+-- the answer is these, or memory ran out
 abbrev pub AnswersMap : List MapEntry → Result (Vec MapEntry Global) BuildFault → Type 0
 AnswersMap entries (Ok v) = v.items ≡ entries
 AnswersMap entries (Err f) = IsWantOfMemory f

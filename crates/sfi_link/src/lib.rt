@@ -23,5 +23,5 @@ pub use build_fault::BuildFault;
 pub use builder::{build, build_at};
 pub use fault::LinkFault;
 pub use linker::{link, link_at};
-pub use names::{NameAddress, names_at};
+pub use names::{NameAddress, NameKind, names_at};
 pub use sfi_place::Place;

@@ -1,4 +1,4 @@
-//! The addresses of a text's names in the image that is built.
+//! The addresses of a text's gates and labels in the image that is built.
 ghost use Rattle.std.specs.Prelude.{◌≡◌, ◌⊎◌, ◌<◌, ◌≤◌, ◌++◌, List, length, map, Err, IfOk, IfErr, OnOk};
 ghost use Rattle.std.specs.List.{All};
 ghost use Rattle.rv_text.specs.Texts.{most_bytes, first_line};
@@ -7,11 +7,12 @@ ghost use Rattle.sfi_policy.specs.Limits.{sandboxes_most};
 ghost use Rattle.sfi_rewrite.specs.Placed.{IsPlacedPart};
 ghost use Rattle.sfi_link.specs.declared.build_fault.BuildFault.{BuildFault};
 ghost use Rattle.sfi_link.specs.declared.build_fault.BuildFault.TheVariants.{Text, Link};
-ghost use Rattle.sfi_link.specs.Names.{MapEntry, entries_of, map_from, IsTextMap, AnswersMap, AnswersMapFault};
+ghost use Rattle.sfi_link.specs.Addresses.{address_of};
+ghost use Rattle.sfi_link.specs.Names.{MapEntry, kind_of, entry_of, entries_of, map_from, IsTextMap, AnswersMap, AnswersMapFault};
 ghost use Rattle.sfi_link.specs.Texts.{IsBuildFault, IsWantOfMemory};
 ghost use Rattle.sfi_image.specs.Spelling.{Part};
 ghost use Rattle.sfi_link.specs.Linked.{AreLinkedFrom};
-ghost use Rattle.sfi_link.specs.private.Near.{AreNear};
+ghost use Rattle.sfi_link.specs.private.Near.{IsNear, AreNear};
 
 use crate::address::address_of;
 use crate::bases::{Bases, bases_of};
@@ -25,13 +26,24 @@ use sfi_rewrite::{PlacedName, PlacedPart, rewrite};
 use std::alloc::{AllocError, Global};
 use std::marker::Model;
 
-/// A name of a text, with the address that it has in the image that is built.
+/// What has an address in an image.
+#[derive(Clone, Copy)]
+pub enum NameKind {
+    /// A gate: the address is that of its stub.
+    Gate,
+    /// A label in the code.
+    Code,
+    /// A label in the data.
+    Data,
+}
+
+/// A gate or a label of a text, with the address that it has in the image that is built.
 #[derive(Drop)]
 pub struct NameAddress {
     sandbox: u32,
     name: String,
-    named: PlacedName,
-    address: Option<u32>,
+    kind: NameKind,
+    address: u32,
 }
 
 impl Model for NameAddress {
@@ -43,42 +55,78 @@ impl Model for NameAddress {
     ghost view = { λ n. record {
       sandbox = n.sandbox;
       name = string_bytes n.name;
-      named = n.named;
+      kind = n.kind;
       address = n.address;
     } };
 }
 
 impl NameAddress {
-    /// The number of the sandbox that has the name, counted from 0.
+    /// The number of the sandbox that has it, counted from 0.
     pub fn sandbox(&self) -> u32
         ensures { result ≡ self.now.sandbox }
     {
         self.sandbox
     }
 
-    /// The name's text.
+    /// Its name.
     pub fn name(&self) -> &str
         ensures { result.now ≡ self.now.name }
     {
         self.name.as_str()
     }
 
-    /// What the name names.
-    pub fn named(&self) -> PlacedName
-        ensures { result ≡ self.now.named }
+    /// Which of them it is.
+    pub fn kind(&self) -> NameKind
+        ensures { result ≡ self.now.kind }
     {
-        self.named
+        self.kind
     }
 
-    /// The address that stands for the name; `None` where the text never says what it names.
-    pub fn address(&self) -> Option<u32>
+    /// The address that stands for it.
+    pub fn address(&self) -> u32
         ensures { result ≡ self.now.address }
     {
         self.address
     }
 }
 
-// The names of the sandbox of that number come after the names so far.
+fn kind_of(named: PlacedName) -> Option<NameKind>
+    ensures { result ≡ kind_of named }
+{
+    match named {
+        PlacedName::Gate(_) => Some(NameKind::Gate),
+        PlacedName::Code(_) => Some(NameKind::Code),
+        PlacedName::Data(_) => Some(NameKind::Data),
+        PlacedName::Unknown => None,
+    }
+}
+
+// The name of the sandbox of that number comes after those so far, where the text says what it names.
+fn push_name(
+    alloc: Global,
+    listed: &mut Vec<NameAddress>,
+    number: u32,
+    at: Bases,
+    name: &str,
+    named: PlacedName,
+) -> Result<(), AllocError>
+    requires near { IsNear at named }
+    ensures { OnOk result (listed.new.items
+        ≡ listed.old.items ++ entry_of number name.now (kind_of named) (address_of at named)) }
+{
+    let (Some(kind), Some(address)) = (kind_of(named), address_of(at, named)) else {
+        return Ok(());
+    };
+    listed.push(NameAddress {
+        sandbox: number,
+        name: String::from_str(alloc, name)?,
+        kind,
+        address,
+    })?;
+    Ok(())
+}
+
+// The gates and labels of the sandbox of that number come after those so far.
 fn push_names(
     alloc: Global,
     listed: &mut Vec<NameAddress>,
@@ -95,17 +143,12 @@ fn push_names(
         let Some(name) = names.text(place) else {
             continue;
         };
-        listed.push(NameAddress {
-            sandbox: number,
-            name: String::from_str(alloc, name)?,
-            named: *named,
-            address: address_of(at, *named),
-        })?;
+        push_name(alloc, listed, number, at, name, *named)?;
     }
     Ok(())
 }
 
-// The names of the sandboxes at these places, by what was placed of each.
+// The gates and labels of the sandboxes at these places, by what was placed of each.
 fn names_of(
     alloc: Global,
     given: &[Place],
@@ -129,7 +172,7 @@ fn names_of(
     Ok(listed)
 }
 
-// The names of the text, or its fault.
+// The gates and labels of the text, or its fault.
 fn map_of(alloc: Global, text: &str, places: &[Place]) -> Result<Vec<NameAddress>, BuildFault>
     ensures mapped { IfOk result (λ entries. IsTextMap places.now text.now entries.items) }
     ensures fault { IfErr result (λ f. IsWantOfMemory f ⊎ IsBuildFault places.now text.now f) }
@@ -141,9 +184,9 @@ fn map_of(alloc: Global, text: &str, places: &[Place]) -> Result<Vec<NameAddress
     Ok(names_of(alloc, places, source.parts(), placed.parts())?)
 }
 
-/// The names of a text in the image that is built of it with its sandboxes at these places: sandbox
-/// after sandbox, each name in the order in which it is first seen, with its address. A text that
-/// has no build there has no names, but the fault of its build.
+/// The gates and labels of a text in the image that is built of it with its sandboxes at these
+/// places: sandbox after sandbox, in the order in which their names are first seen, each with its
+/// address. A text that has no build there has none, but the fault of its build.
 pub fn names_at(alloc: Global, text: &str, places: &[Place]) -> Result<Vec<NameAddress>, BuildFault>
     // What each answer means.
     ensures mapped { IfOk result (λ entries. IsTextMap places.now text.now entries.items) }

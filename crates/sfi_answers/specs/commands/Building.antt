@@ -48,7 +48,7 @@ digits_line bytes = encode_lower bytes ++ line_end
 abbrev pub build : List Place → Meaning
 build = of_source IsTextBuild digits_line
 
--- `map`, with these places: the lines of the names, with the addresses that they have there; what
--- has no build has no map, and the same fault
+-- `map`, with these places: the lines of the gates and labels, with the addresses that they have
+-- there; what has no build has no map, and the same fault
 abbrev pub map : List Place → Meaning
 map = of_source IsTextMap map_lines

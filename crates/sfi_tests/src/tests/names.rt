@@ -1,7 +1,6 @@
 //! The addresses of names.
 use super::programs::NAMES;
-use sfi_link::{Place, names_at};
-use sfi_rewrite::PlacedName;
+use sfi_link::{NameKind, Place, names_at};
 use std::alloc::Global;
 use std::process::Abort;
 use std::test::Fail;
@@ -38,7 +37,7 @@ fn try_names(rt: &impl Abort, alloc: Global, places: &[Place], names: &[Name]) -
     for (entry, name) in found.iter().zip(names) {
         assert_eq!(rt; entry.sandbox(), name.0, "{}", name.1);
         assert_eq!(rt; entry.name(), name.1);
-        assert!(rt; entry.address() == Some(name.2), "{}", name.1);
+        assert!(rt; entry.address() == name.2, "{}", name.1);
     }
     Ok(())
 }
@@ -55,8 +54,8 @@ fn names_have_their_kinds(rt: HostRuntime) -> Result<(), Fail> {
     let [gate, data, code, ..] = found.as_slice() else {
         return Err(Fail::new("three names"));
     };
-    assert!(rt; matches!(gate.named(), PlacedName::Gate(0)));
-    assert!(rt; matches!(data.named(), PlacedName::Data(4)));
-    assert!(rt; matches!(code.named(), PlacedName::Code(32)));
+    assert!(rt; matches!(gate.kind(), NameKind::Gate));
+    assert!(rt; matches!(data.kind(), NameKind::Data));
+    assert!(rt; matches!(code.kind(), NameKind::Code));
     Ok(())
 }

@@ -1,4 +1,5 @@
-use Rattle.sfi_link.proofs.Prelude.{◌≡◌, ◌+◌, ◌++◌, ◌∷◌, [], ◌∙◌, map, take, get_or, suc, sym, ap, arith, entry_of, entries_of}
+use Rattle.sfi_link.proofs.Prelude.{◌≡◌, ◌+◌, ◌++◌, ◌∙◌, map, take, get_or, suc, sym, ap, arith, kind_of, entry_of, entries_of}
+use Rattle.sfi_link.specs.Addresses.{address_of}
 use Rattle.sfi_rewrite.specs.declared.placed.PlacedName.TheVariants.{Gate}
 use Rattle.std.proofs.lemmas.List.{append-nil}
 use Rattle.sfi_link.proofs.Mapping.{none_placed, entries_more, entries_end, listed_more}
@@ -12,13 +13,10 @@ loop-place-preserved c =
     let k = c.loop-place.place in
     let texts = map (λ e. e.0) c.args.names.now in
     let named = get_or c.args.placed.now k (Gate 0) in
-    let told = c.in_ok-from_str.ensures.ok in
-    let address = c.address_of.ensures.is in
+    let one = entry_of c.args.number c.in-Some.name.now (kind_of named) (address_of c.args.at named) in
     let next : k + 1 ≡ suc k = omega arith in
-    let one : c.push.new.self.items ≡ c.loop-place.listed.items ++ entry_of c.args.number c.args.at c.in-Some.name.now named ∷ [] =
-    c.in_ok-push.ensures.items ∙ (λ i. c.loop-place.listed.items ++ record { sandbox = c.args.number; name = told i; named = named; address = address i } ∷ []) in
-    listed_more c.args.listed.now.items c.loop-place.listed.items c.push.new.self.items (entries_of c.args.number c.args.at texts (take k c.args.placed.now)) (entry_of c.args.number c.args.at c.in-Some.name.now named)
-    c.loop-place.invariant one
+    listed_more c.args.listed.now.items c.loop-place.listed.items c.push_name.new.listed.items (entries_of c.args.number c.args.at texts (take k c.args.placed.now)) one
+    c.loop-place.invariant c.in_ok-push_name.ensures
     ∙ ap (λ l. c.args.listed.now.items ++ l) (sym (entries_more c.args.number c.args.at texts c.args.placed.now k c.in-Some.name.now (Gate 0) c.loop-place-test.true c.in-Some.ensures))
     ∙ ap (λ n. c.args.listed.now.items ++ entries_of c.args.number c.args.at texts (take n c.args.placed.now)) (sym next)
 
