@@ -9,8 +9,7 @@ import subprocess
 import tempfile
 import unittest
 
-import addresses
-from addresses import CODE, DATA, Word, entry, runs_of
+from addresses import FEW
 from conversion import Options, convert, converted
 from linking import why_undefined
 from layout import DataLayout
@@ -19,7 +18,9 @@ from naming import Names
 from placement import places
 from sections import DataSection
 from sizes import BUNDLE
+from table import Table, entry, runs_of
 from test_asm2sfi import MAIN, lines_after, lines_of, refusals_of, source, start_of
+from words import CODE, DATA, Word
 
 TOP = os.path.dirname(os.path.dirname(os.path.dirname(os.path.abspath(__file__))))
 SFI = os.environ.get("SFI", os.path.join(TOP, "crates", "sfi", "out", "sfi"))
@@ -189,7 +190,7 @@ class Runs(unittest.TestCase):
         self.assertEqual(entry(run, 1), 1 << 31 | 31 << 26 | 2 << 20 | 0xabcde)
 
 
-class Table(unittest.TestCase):
+class Tables(unittest.TestCase):
     def test_words(self):
         """Each word holds an object's offset, or the number of the code's bundle in either format, less 32768."""
         text = MAIN + "\tla a0,t\n" + "".join(f"\tlw a1,{4 * n}(sp)\nf{n}:\tnop\n" for n in range(12)) + "\tret\n\t.data\nt:\t"
@@ -208,7 +209,7 @@ class Table(unittest.TestCase):
 
     def test_least(self):
         """Few addresses are written one by one."""
-        for image_format, few in addresses.FEW.items():
+        for image_format, few in FEW.items():
             for count in (few, few + 1):
                 text = source(MAIN + "\tla a0,t\n\tret\n\t.data\nt:\t.word " + ",".join(["t"] * count), image_format=image_format)
                 self.assertEqual("start..table" in text, count > few)
@@ -218,7 +219,7 @@ class Table(unittest.TestCase):
         offsets = [4 * n * n for n in range(100)]
         words = [Word(offset, DATA, 0, DataSection("x"), None) for offset in offsets]
         layout = DataLayout([])
-        addresses.Table(words, layout, Names([]))
+        Table(words, layout, Names([]))
         self.assertLessEqual(layout.end, 4 * len(words) + 4)
 
 
