@@ -108,7 +108,8 @@ class Constructors(unittest.TestCase):
     def test_order(self):
         """First those of .preinit_array, then by the number, in the order of the files, and last those without one."""
         first = self.functions(("init_array", "a"), ("init_array.00200", "b"), ("init_array.65535", "c"))
-        second = self.functions(("init_array", "d"), ("init_array.101", "e"), ("preinit_array", "f"), ("init_array.00200", "g"))
+        second = self.functions(("init_array", "d"), ("init_array.101", "e"), ("preinit_array", "f"),
+                                ("init_array.00200", "g"))
         self.assertEqual(self.calls(MAIN + "\tret\n" + first, second), [*"febgcad", "main", "exit_with"])
 
     def test_main_has_no_arguments(self):
@@ -143,7 +144,8 @@ class SectionsOfOneName(unittest.TestCase):
         self.assertEqual(lines[:lines.index("__stop_set:")], [".word 0x1, 0x2, 0x3"])
 
     def test_no_section(self):
-        self.assertEqual(refusals_of(self.MAIN), ["a.s:4: undefined symbol __start_set", "a.s:5: undefined symbol __stop_set"])
+        told = ["a.s:4: undefined symbol __start_set", "a.s:5: undefined symbol __stop_set"]
+        self.assertEqual(refusals_of(self.MAIN), told)
         weak = self.MAIN + "\t.weak __start_set\n\t.weak __stop_set\n"
         self.assertEqual(lines_after(source(weak), "main:"), ["li a0, 0", "li a1, 0", "ret"])
 
@@ -155,7 +157,8 @@ class SectionsOfOneName(unittest.TestCase):
 
 class Differences(unittest.TestCase):
     def test_in_the_data(self):
-        text = source(MAIN + "\tla a0,t\n\tret\n\t.data\nt:\t.word end-begin,begin-end+4,begin-(end)\nbegin:\t.zero 12\nend:\n")
+        words = "end-begin,begin-end+4,begin-(end)"
+        text = source(MAIN + f"\tla a0,t\n\tret\n\t.data\nt:\t.word {words}\nbegin:\t.zero 12\nend:\n")
         self.assertIn(".word 0xc, 0xfffffff8, 0xfffffff4", lines_of(text))
 
     def test_in_the_code(self):
@@ -193,8 +196,8 @@ class Runs(unittest.TestCase):
 class Tables(unittest.TestCase):
     def test_words(self):
         """Each word holds an object's offset, or the number of the code's bundle in either format, less 32768."""
-        text = MAIN + "\tla a0,t\n" + "".join(f"\tlw a1,{4 * n}(sp)\nf{n}:\tnop\n" for n in range(12)) + "\tret\n\t.data\nt:\t"
-        text += ".word " + ",".join(f"f{n}" for n in range(12)) + ",put,t+4\n"
+        text = MAIN + "\tla a0,t\n" + "".join(f"\tlw a1,{4 * n}(sp)\nf{n}:\tnop\n" for n in range(12))
+        text += "\tret\n\t.data\nt:\t.word " + ",".join(f"f{n}" for n in range(12)) + ",put,t+4\n"
         made, refusals = converted([("a.s", text)], [], Options(image_format=1, passes=()))
         self.assertEqual(refusals, [])
         [start] = [start for start, section in made.layout.chunks if "t" in section.labels]
@@ -211,7 +214,8 @@ class Tables(unittest.TestCase):
         """Few addresses are written one by one."""
         for image_format, few in FEW.items():
             for count in (few, few + 1):
-                text = source(MAIN + "\tla a0,t\n\tret\n\t.data\nt:\t.word " + ",".join(["t"] * count), image_format=image_format)
+                text = source(MAIN + "\tla a0,t\n\tret\n\t.data\nt:\t.word " + ",".join(["t"] * count),
+                              image_format=image_format)
                 self.assertEqual("start..table" in text, count > few)
 
     def test_size(self):
@@ -229,7 +233,8 @@ class Limits(unittest.TestCase):
         self.assertEqual(code_size(made.code, made.gates, 1), 16 + 2 * 16 + 4090 * 16 + 16)
         check_code(made.code, made.gates, 1)
         self.assertEqual(refusals_of(MAIN + "\tlw a0,0(a0)\n" * 4093 + "\tret\n", image_format=1, passes=()),
-                         ["start: the code has 65552 bytes, 16 more than format 1 has room for; format 2 has room for 1048576"])
+                         ["start: the code has 65552 bytes, 16 more than format 1 has room for; "
+                          "format 2 has room for 1048576"])
         self.assertEqual(refusals_of(MAIN + "\tnop\n" * 65534 + "\tret\n", passes=()),
                          ["start: 65537 instructions are 1 more than `sfi build` takes"])
         self.assertEqual(MOST_CODE, {1: 65536, 2: 1048576})
@@ -357,7 +362,8 @@ class Programs(unittest.TestCase):
     def test_a_wrong_place_is_found(self):
         """Where the code isn't laid out as the converter has it, the start traps."""
         cases = "".join(f"f{n}:\tnop\n" for n in range(30))
-        text = source(MAIN + "\tla a0,t\n\tret\n" + cases + "\tret\n\t.data\nt:\t.word " + ",".join(f"f{n}" for n in range(30)))
+        names = ",".join(f"f{n}" for n in range(30))
+        text = source(MAIN + "\tla a0,t\n\tret\n" + cases + "\tret\n\t.data\nt:\t.word " + names)
         self.assertIn("exit=", self.answer(text, "2"))
         longer = text.replace("\nf20:\n", "\n" + "nop\n" * 9 + "f20:\n")
         self.assertIn("trap=Break", self.answer(longer, "2"))

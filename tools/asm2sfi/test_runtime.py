@@ -76,10 +76,11 @@ int main(void) {
 '''
 
 OPERATIONS = {"add": 5, "sub": 9, "or": 0x55, "and": 0xfe, "xor": 0x81, "nand": 0x3c}
-AFTERWARDS = ["__atomic_load_n(p, 5)", "__atomic_exchange_n(p, (T)42, 5)", "__atomic_compare_exchange_n(p, &y, (T)1, 0, 5, 5)",
-              "y", "__atomic_compare_exchange_n(p, &y, (T)-1, 0, 5, 5)", "x", "__sync_bool_compare_and_swap(p, (T)-1, (T)3)",
-              "__sync_bool_compare_and_swap(p, (T)-1, (T)4)", "__sync_val_compare_and_swap(p, (T)3, (T)-5)",
-              "__sync_val_compare_and_swap(p, (T)3, (T)6)", "__sync_lock_test_and_set(p, (T)9)"]
+AFTERWARDS = [
+    "__atomic_load_n(p, 5)", "__atomic_exchange_n(p, (T)42, 5)", "__atomic_compare_exchange_n(p, &y, (T)1, 0, 5, 5)", "y",
+    "__atomic_compare_exchange_n(p, &y, (T)-1, 0, 5, 5)", "x", "__sync_bool_compare_and_swap(p, (T)-1, (T)3)",
+    "__sync_bool_compare_and_swap(p, (T)-1, (T)4)", "__sync_val_compare_and_swap(p, (T)3, (T)-5)",
+    "__sync_val_compare_and_swap(p, (T)3, (T)6)", "__sync_lock_test_and_set(p, (T)9)"]
 TYPES = ["signed char", "unsigned char", "short", "unsigned short", "int", "unsigned", "s8", "u8"]
 
 
