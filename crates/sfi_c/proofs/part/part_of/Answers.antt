@@ -24,8 +24,7 @@ loop-preserved c = λ p h.
     let format = c.format_of-format.ensures h.parts h.image ∙ sym t.format_is in
     let next : suc c.loop.counter ≡ c.loop.counter + 1 = omega arith in
     let told = c.part_at-part.ensures t.sandbox t.lies t.right format in
-    let result = c.part_at-part.result in
-    (
+    let result = c.part_at-part.result in (
       subst (λ (k : ℕ). LiesAt c.args.image.now (result.init_offset + result.init_size) (flat_map part (drop k h.parts))) next
           (go_on c.args.image.now h.parts c.loop.counter c.loop.offset t result told),
       subst (λ (k : ℕ). result.init_offset + result.init_size ≡ sandbox_offset h.parts k) next
