@@ -50,4 +50,8 @@ void begin(void) {
     exit(main(0, 0));
 }
 
-__asm__(".globl _start\n_start:\n.option push\n.option norelax\nla gp, __global_pointer$\n.option pop\ncall begin\n");
+/* picolibc's data of the one thread, such as errno, are zeros at first. */
+char thread[4096] __attribute__((aligned(16)));
+
+__asm__(".globl _start\n_start:\n.option push\n.option norelax\nla gp, __global_pointer$\n.option pop\n"
+        "la tp, thread\ncall begin\n");
