@@ -44,6 +44,7 @@ SAMPLE, SEED = 120, 1
 STACKS = (540000, 65536)  # the second where the data leave no room for the first
 HEAP = 300000
 MEMORY, SECONDS = 3 << 30, 120  # what a conversion may take, of the processor's time
+NATIVE_SECONDS = 30
 RUN = ["run", "--rounds", "1000", "--quantum", "1000000"]
 MACHINE = ["-march=rv32imc", "-mabi=ilp32"]
 QUIET = ["-w", "-Wno-everything"]
@@ -91,7 +92,7 @@ def natively(room, case, place):
         ran([GCC, *MACHINE, "-nostdlib", "-o", f"{place}.elf", os.path.join(room.folder, "start.o"), f"{place}.o",
              f"-L{PICOLIBC}/lib/rv32im/ilp32", "-Wl,--start-group", "-lc", "-lm", "-lgcc", "-Wl,--end-group"])
         done = subprocess.run([QEMU, f"{place}.elf"], stdout=subprocess.PIPE, stderr=subprocess.DEVNULL, check=False,
-                              timeout=5 * SECONDS)
+                              timeout=NATIVE_SECONDS)
     except (Failed, subprocess.TimeoutExpired):
         return None
     return done.returncode, done.stdout
