@@ -66,9 +66,9 @@ try_program() { # program, format
     local files
     files=$(files_of "$1")
     if ! ../../../tools/sfi-cc --program "$sfi" --format "$2" --library "$library" --stack 32768 $(options_of "$1") \
-        "$1.c" $files >"$room/$1.hex" 2>"$room/messages"; then
-        if grep -q TooLarge "$room/messages"; then
-            skip 1 "$1, format $2" "$(grep -m1 TooLarge "$room/messages")"
+        "$1.c" heap.c $files >"$room/$1.hex" 2>"$room/messages"; then
+        if grep -q 'more than format 1 has room' "$room/messages"; then
+            skip 1 "$1, format $2" "$(grep -m1 'more than format 1' "$room/messages")"
         else
             report "$1, format $2" image "$(cat "$room/messages")"
         fi
