@@ -15,6 +15,8 @@ int main(void) {
     decContextDefault(&context, DEC_INIT_BASE);
     context.traps = 0;
     context.digits = DECNUMDIGITS;
+    context.emax = 999999; /* more is refused by exp, ln and power */
+    context.emin = -999999;
     decNumberFromString(&two, "2", &context);
     decNumberFromString(&seven, "-7.25e3", &context);
     show("sqrt", decNumberSquareRoot(&result, &two, &context));
