@@ -1,7 +1,10 @@
 //! Tests as rows of text: an input, the commands that read it, and what each of them prints.
 //!
-//! A row begins with a line `= NAME`. Each line after it has a word and what belongs to that. The input is the smallest
-//! image, and after the word `source` it is empty. These add to it:
+//! A row begins with a line `= NAME`. Each line after it has a word and what belongs to that. The first lines may stand
+//! on that of the name, `= NAME; LINE; LINE`. What stands above the first row of a table is in each of its rows, before
+//! the row's own lines.
+//!
+//! The input is the smallest image, and after the word `source` it is empty. These add to it:
 //!
 //! - `| LINE`: a line; `times N LINE`: N such lines; `+ N TEXT`: N times the text, with no line feed;
 //! - `text NAME`: the text of that name (rows/texts.rt); `texts N NAME`: N times that text;
@@ -14,7 +17,7 @@
 //! - `end AT N DIGITS`: N times, they stand in place of all from that byte on;
 //! - `cut AT`: nothing stands there.
 //!
-//! The commands that read it, each of which ends in status 0 unless a line `status N` says another:
+//! The commands that read it:
 //!
 //! - `$ COMMAND`: the command, which reads the bytes that the input's digits spell if it is `--raw`. In
 //!   `$ COMMAND | COMMAND` the second reads what the first prints, if that ends in status 0;
@@ -25,6 +28,9 @@
 //! - `> LINE`: a line; `>+ N TEXT`: N times the text, with no line feed; `>text NAME`: the text of that name;
 //! - `..`: any text, of several lines or none; `>.. TEXT`: the text, and any after it;
 //! - `as COMMAND`: what that command prints of the input so far.
+//!
+//! Each ends in the status that a printed line tells, which is 1 if the line begins with `refused`, 2 if it has the word
+//! `fault`, and 3 if it begins with `error:`; else in status 0. A line `status N` says another.
 //!
 //! `# NOTE` is a note. A line with another word, or with no number where one belongs, fails the test.
 mod examples;
@@ -46,7 +52,7 @@ mod words;
 
 use super::image::{edited, smallest};
 use super::{Outcome, run};
-use lines::{ANY, Line, line_of, push_part};
+use lines::{ANY, Line, line_of, push_part, status_told, unfolded};
 use std::alloc::Global;
 use std::process::Abort;
 use std::str::from_utf8;
@@ -80,7 +86,10 @@ fn add_line(alloc: Global, row: &mut Row, line: Line<'_>) -> Result<(), Fail> {
         Line::Input(part) => push_part(&mut row.input, part)?,
         Line::Bytes(digits) => push_bytes(alloc, &mut row.input, digits)?,
         Line::Digits(part) => push_part(&mut row.digits, part)?,
-        Line::Said(part) => push_part(&mut row.said, part)?,
+        Line::Said(part) => {
+            row.status = row.status.max(status_told(&part));
+            push_part(&mut row.said, part)?;
+        }
         Line::SaidBy(command) => push_printed(alloc, row, command)?,
         Line::Status(status) => row.status = status,
     }
@@ -199,14 +208,20 @@ fn try_row(rt: &impl Abort, alloc: Global, text: &str) -> Result<(), Fail> {
     Ok(())
 }
 
-// Tries each row of the table, which has so many commands.
-fn try_rows(rt: &impl Abort, alloc: Global, table: &str, count: usize) -> Result<(), Fail> {
-    assert!(rt; table.starts_with("\n= "), "{table}");
-    assert_eq!(rt; table.matches("\n$ ").count(), count, "{table}");
-    for text in table.split("\n= ").skip(1) {
+// Tries each of the rows, which have so many commands.
+fn try_each(rt: &impl Abort, alloc: Global, rows: &str, count: usize) -> Result<(), Fail> {
+    assert!(rt; rows.starts_with("\n= "), "{rows}");
+    assert_eq!(rt; rows.matches("\n$ ").count(), count, "{rows}");
+    for text in rows.split("\n= ").skip(1) {
         try_row(rt, alloc, text)?;
     }
     Ok(())
+}
+
+// Tries each row of the table. They have so many commands, with those of its head in each.
+fn try_rows(rt: &impl Abort, alloc: Global, table: &str, count: usize) -> Result<(), Fail> {
+    let rows = unfolded(alloc, table)?;
+    try_each(rt, alloc, from_utf8(rows.as_slice())?, count)
 }
 
 // One table of all of them would be too large a constant for the prover.
@@ -215,14 +230,16 @@ fn try_rows(rt: &impl Abort, alloc: Global, table: &str, count: usize) -> Result
 fn image_rows(rt: HostRuntime) -> Result<(), Fail> {
     try_rows(&rt, rt.alloc(), images::LAYOUTS, 38)?;
     try_rows(&rt, rt.alloc(), images::RULES, 46)?;
-    try_rows(&rt, rt.alloc(), images::STACKS, 22)?;
     try_rows(&rt, rt.alloc(), images::DIGITS, 6)
 }
 
 #[test]
 fn format_rows(rt: HostRuntime) -> Result<(), Fail> {
-    try_rows(&rt, rt.alloc(), formats::VERDICTS, 68)?;
-    try_rows(&rt, rt.alloc(), formats::TEXTS, 11)
+    try_rows(&rt, rt.alloc(), formats::FIRST, 34)?;
+    try_rows(&rt, rt.alloc(), formats::SECOND, 34)?;
+    try_rows(&rt, rt.alloc(), formats::WRITES, 5)?;
+    try_rows(&rt, rt.alloc(), formats::FIRST_WRITES, 3)?;
+    try_rows(&rt, rt.alloc(), formats::KEPT, 3)
 }
 
 #[test]
@@ -247,20 +264,22 @@ fn help_rows(rt: HostRuntime) -> Result<(), Fail> {
 fn text_rows(rt: HostRuntime) -> Result<(), Fail> {
     try_rows(&rt, rt.alloc(), examples::BUILDS, 7)?;
     try_rows(&rt, rt.alloc(), examples::TOUR, 10)?;
-    try_rows(&rt, rt.alloc(), refused::TEXTS, 13)?;
+    try_rows(&rt, rt.alloc(), refused::TEXTS, 12)?;
     try_rows(&rt, rt.alloc(), refused::DIRECTIVES, 13)
 }
 
 #[test]
 fn report_rows(rt: HostRuntime) -> Result<(), Fail> {
     try_rows(&rt, rt.alloc(), reports::REPORTS, 13)?;
-    try_rows(&rt, rt.alloc(), reports::CONVERSIONS, 13)?;
+    try_rows(&rt, rt.alloc(), reports::CONVERSIONS, 10)?;
+    try_rows(&rt, rt.alloc(), reports::CONVERTED, 3)?;
     try_rows(&rt, rt.alloc(), listings::LISTINGS, 7)
 }
 
 #[test]
 fn run_rows(rt: HostRuntime) -> Result<(), Fail> {
-    try_rows(&rt, rt.alloc(), runs::RUNS, 14)?;
+    try_rows(&rt, rt.alloc(), runs::IMAGES, 6)?;
+    try_rows(&rt, rt.alloc(), runs::RUNS, 8)?;
     try_rows(&rt, rt.alloc(), runs::STATES, 5)?;
     try_rows(&rt, rt.alloc(), runs::NEIGHBOURS, 12)?;
     try_rows(&rt, rt.alloc(), runs::MAPS, 5)
@@ -275,7 +294,8 @@ fn image_limits(rt: HostRuntime) -> Result<(), Fail> {
 
 #[test]
 fn text_limits(rt: HostRuntime) -> Result<(), Fail> {
-    try_rows(&rt, rt.alloc(), lengths::TEXTS, 17)
+    try_rows(&rt, rt.alloc(), lengths::TEXTS, 15)?;
+    try_rows(&rt, rt.alloc(), lengths::LISTED, 2)
 }
 
 #[test]

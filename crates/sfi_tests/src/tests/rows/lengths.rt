@@ -2,163 +2,76 @@
 
 /// What can be built. A store takes 12 bytes, so that no bundle holds two.
 pub(super) const TEXTS: &str = "
-= a branch at the first byte of the code
 source
-| .sandbox 256
-| beqz a0, over
-times 255 sw a1, 0(a2)
-| over:
 $ sfi build | sfi check
+= a branch at the first byte of the code; | .sandbox 256; | beqz a0, over; times 255 sw a1, 0(a2); | over:
 > accepted sandboxes=1 bundles=256
-
 = a branch 4094 bytes ahead, the farthest
-source
 | .sandbox 256
 | .option rvc
 | nop
 | beqz a0, over
 times 255 sw a1, 0(a2)
 | over:
-$ sfi build | sfi check
 > accepted sandboxes=1 bundles=512
+= a branch that would go 4096 bytes ahead; | .sandbox 256; | beqz a0, over; times 256 sw a1, 0(a2); | over:
+> link fault 2 BranchReach line 2
+= a branch 4096 bytes back, the farthest
+| .sandbox 256
+| back:
+times 256 sw a1, 0(a2)
+| nop
+| beqz a0, back
+> accepted sandboxes=1 bundles=512
+= a branch that would go 4098 bytes back
+| .sandbox 256
+| back:
+times 256 sw a1, 0(a2)
+| .option rvc
+| nop
+| nop
+| nop
+| beqz a0, back
+> link fault 2 BranchReach line 263
+= the most code of the first format; | .sandbox 256; times 4096 sw a1, 0(a2); > accepted sandboxes=1 bundles=4096
+= a bundle more; | .sandbox 256; times 4097 sw a1, 0(a2); > rewrite fault 3 TooLarge sandbox 0
+= the most code beside a gate; | .sandbox 256; | .gate quit 0; times 4095 sw a1, 0(a2)
+> accepted sandboxes=1 bundles=4096
+= a bundle more beside a gate; | .sandbox 256; | .gate quit 0; times 4096 sw a1, 0(a2)
+> link fault 3 TooLarge sandbox 0
+= the most data; | .sandbox 1048576; | .data; times 16 .zero 65536; > accepted sandboxes=1 bundles=16
+= a byte more of data; | .sandbox 1048576; | .data; times 16 .zero 65536; | .byte 0; > source fault 7 Limit line 19
+= sixteen sandboxes; texts 16 sandbox; > accepted sandboxes=16 bundles=256
+= seventeen sandboxes; texts 17 sandbox; > link fault 4 TooManySandboxes
+= sixty-four gates; text 64 gates; > accepted sandboxes=1 bundles=128
+= sixty-five gates; text 64 gates; | .gate h 0; > source fault 7 Limit line 66
+";
 
-= a branch 4094 bytes ahead, as it is listed
+/// Two of them, as `dis` lists them.
+pub(super) const LISTED: &str = "
 source
+$ sfi build | sfi dis
+= a branch 4094 bytes ahead, as it is listed
 | .sandbox 256
 | .option rvc
 | nop
 | beqz a0, over
 times 255 sw a1, 0(a2)
 | over:
-$ sfi build | sfi dis
 ..
 >
 > 01000002 7e050fe3 beq x10, x0, 4094
 ..
-
-= a branch that would go 4096 bytes ahead
-source
-| .sandbox 256
-| beqz a0, over
-times 256 sw a1, 0(a2)
-| over:
-$ sfi build | sfi check
-> link fault 2 BranchReach line 2
-status 2
-
-= a branch 4096 bytes back, the farthest
-source
-| .sandbox 256
-| back:
-times 256 sw a1, 0(a2)
-| nop
-| beqz a0, back
-$ sfi build | sfi check
-> accepted sandboxes=1 bundles=512
-
 = a branch 4096 bytes back, as it is listed
-source
 | .sandbox 256
 | back:
 times 256 sw a1, 0(a2)
 | nop
 | beqz a0, back
-$ sfi build | sfi dis
 ..
 >
 > 01001000 80050063 beq x10, x0, -4096
 ..
-
-= a branch that would go 4098 bytes back
-source
-| .sandbox 256
-| back:
-times 256 sw a1, 0(a2)
-| .option rvc
-| nop
-| nop
-| nop
-| beqz a0, back
-$ sfi build | sfi check
-> link fault 2 BranchReach line 263
-status 2
-
-= the most code of the first format
-source
-| .sandbox 256
-times 4096 sw a1, 0(a2)
-$ sfi build | sfi check
-> accepted sandboxes=1 bundles=4096
-
-= a bundle more
-source
-| .sandbox 256
-times 4097 sw a1, 0(a2)
-$ sfi build | sfi check
-> rewrite fault 3 TooLarge sandbox 0
-status 2
-
-= the most code beside a gate
-source
-| .sandbox 256
-| .gate quit 0
-times 4095 sw a1, 0(a2)
-$ sfi build | sfi check
-> accepted sandboxes=1 bundles=4096
-
-= a bundle more beside a gate
-source
-| .sandbox 256
-| .gate quit 0
-times 4096 sw a1, 0(a2)
-$ sfi build | sfi check
-> link fault 3 TooLarge sandbox 0
-status 2
-
-= the most data
-source
-| .sandbox 1048576
-| .data
-times 16 .zero 65536
-$ sfi build | sfi check
-> accepted sandboxes=1 bundles=16
-
-= a byte more of data
-source
-| .sandbox 1048576
-| .data
-times 16 .zero 65536
-| .byte 0
-$ sfi build | sfi check
-> source fault 7 Limit line 19
-status 2
-
-= sixteen sandboxes
-source
-texts 16 sandbox
-$ sfi build | sfi check
-> accepted sandboxes=16 bundles=256
-
-= seventeen sandboxes
-source
-texts 17 sandbox
-$ sfi build | sfi check
-> link fault 4 TooManySandboxes
-status 2
-
-= sixty-four gates
-source
-text 64 gates
-$ sfi build | sfi check
-> accepted sandboxes=1 bundles=128
-
-= sixty-five gates
-source
-text 64 gates
-| .gate h 0
-$ sfi build | sfi check
-> source fault 7 Limit line 66
-status 2
 ";
 
 /// The most code of the second format.

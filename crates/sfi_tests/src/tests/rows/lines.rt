@@ -1,7 +1,7 @@
 //! The lines of a row, as rows.rt says how they are written.
 use super::super::image::{Edit, end_in, insert, put};
 use super::texts::text_named;
-use std::alloc::AllocError;
+use std::alloc::{AllocError, Global};
 
 /// What stands for any text in what is printed. Nothing prints it.
 pub(super) const ANY: &str = "\0";
@@ -137,4 +137,43 @@ pub(super) fn push_part(bytes: &mut Vec<u8>, part: Part<'_>) -> Result<(), Alloc
         bytes.extend_from_slice(end.as_bytes())?;
     }
     Ok(())
+}
+
+/// The status that a printed line tells.
+pub(super) fn status_told(part: &Part<'_>) -> u8 {
+    let text = part.text;
+    if text.starts_with("refused ") {
+        1
+    } else if text.contains(" fault ") {
+        2
+    } else if text.starts_with("error: ") {
+        3
+    } else {
+        0
+    }
+}
+
+// Adds the row, with the head's lines after its name, and each of its lines on a line.
+fn push_row(text: &mut Vec<u8>, head: &str, row: &str) -> Result<(), AllocError> {
+    let (first, rest) = row.split_once('\n').unwrap_or((row, ""));
+    let (name, _) = first.split_once("; ").unwrap_or((first, ""));
+    text.extend_from_slice("\n= ".as_bytes())?;
+    text.extend_from_slice(name.as_bytes())?;
+    text.extend_from_slice(head.as_bytes())?;
+    for line in first.split("; ").skip(1) {
+        text.extend_from_slice("\n".as_bytes())?;
+        text.extend_from_slice(line.as_bytes())?;
+    }
+    text.extend_from_slice("\n".as_bytes())?;
+    text.extend_from_slice(rest.as_bytes())
+}
+
+/// The rows of the table, each with the lines of the table's head.
+pub(super) fn unfolded(alloc: Global, table: &str) -> Result<Vec<u8>, AllocError> {
+    let (head, rows) = table.split_once("\n= ").unwrap_or(("", ""));
+    let mut text = Vec::new(alloc);
+    for row in rows.split("\n= ") {
+        push_row(&mut text, head, row)?;
+    }
+    Ok(text)
 }

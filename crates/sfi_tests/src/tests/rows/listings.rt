@@ -2,8 +2,8 @@
 
 /// Listings, and faults.
 pub(super) const LISTINGS: &str = "
-= the smallest image
 $ sfi dis
+= the smallest image
 > sandbox 0 code 01000000 256 data 01800000 256 start 01000000 gates 0 init 0
 > 01000000 00100073 ebreak
 > 01000004 00100073 ebreak
@@ -69,10 +69,7 @@ $ sfi dis
 > 010000f4 00100073 ebreak
 > 010000f8 00100073 ebreak
 > 010000fc 00100073 ebreak
-
-= half of an ecall
-put 36 01000100010001000100010001007300
-$ sfi dis
+= half of an ecall; put 36 01000100010001000100010001007300
 > sandbox 0 code 01000000 256 data 01800000 256 start 01000000 gates 0 init 0
 > 01000000 0001 addi x0, x0, 0
 > 01000002 0001 addi x0, x0, 0
@@ -86,22 +83,15 @@ $ sfi dis
 ..
 >
 > 010000fc 00100073 ebreak
-
-= no instruction at the front
-put 36 1f000102030405060708090a0b0c0d0e
-$ sfi dis
+= no instruction at the front; put 36 1f000102030405060708090a0b0c0d0e
 > sandbox 0 code 01000000 256 data 01800000 256 start 01000000 gates 0 init 0
 > 01000000 .bytes 1f000102030405060708090a0b0c0d0e
 > 01000010 00100073 ebreak
 ..
 >
 > 010000fc 00100073 ebreak
-
-= a gate and first data
-put 28 0100000000000000
-put 36 73000000b3ff9001b3ef8f0167800f00
+= a gate and first data; put 28 0100000000000000; put 36 73000000b3ff9001b3ef8f0167800f00
 insert 36 0000000105000000
-$ sfi dis
 > sandbox 0 code 01000000 256 data 01800000 256 start 01000000 gates 1 init 0
 > gate 01000000 5
 > 01000000 00000073 ecall
@@ -112,27 +102,12 @@ $ sfi dis
 ..
 >
 > 010000fc 00100073 ebreak
-
-= the second format
-put 0 53464932
-put 36 3371b501
-$ sfi dis
+= the second format; put 0 53464932; put 36 3371b501
 > format SFI2
 > sandbox 0 code 01000000 256 data 01800000 256 start 01000000 gates 0 init 0
 > 01000000 01b57133 and x2, x10, x27
 > 01000004 00100073 ebreak
 ..
-
-= no format
-put 0 53464933
-$ sfi dis
-> layout fault 1 Magic
-status 2
-
-= an odd digit
-source
-+ 1 53464
-$ sfi dis
-> input fault hex odd
-status 2
+= no format; put 0 53464933; > layout fault 1 Magic
+= an odd digit; source; + 1 53464; > input fault hex odd
 ";

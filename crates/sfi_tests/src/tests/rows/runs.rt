@@ -1,127 +1,57 @@
 //! Runs, and the addresses of names.
 
-/// One sandbox.
+/// Images of one sandbox.
+pub(super) const IMAGES: &str = "
+$ sfi run
+= the smallest image; > sandbox=0 trap=Break at=01000000 steps=0 out=
+= a load past the data; put 36 b37fb501b3efaf0103a5df0f73001000; > sandbox=0 trap=Load at=018000fd steps=2 out=
+= a store below the data; put 36 b37fb501b3efaf01a38faffe73001000; > sandbox=0 trap=Store at=017fffff steps=2 out=
+= a store after half a pair; put 36 b37fb50123a0bf00; > refused findings=1 first=V5 sandbox=0 at=01000004
+= an image cut short; end 36 63 73001000; > layout fault 3 Short
+= an odd digit; end 36 1 7; > input fault hex odd
+";
+
+/// Texts of one sandbox.
 pub(super) const RUNS: &str = "
-= the smallest image
-$ sfi run
-> sandbox=0 trap=Break at=01000000 steps=0 out=
-
-= a load past the data
-put 36 b37fb501b3efaf0103a5df0f73001000
-$ sfi run
-> sandbox=0 trap=Load at=018000fd steps=2 out=
-
-= a store below the data
-put 36 b37fb501b3efaf01a38faffe73001000
-$ sfi run
-> sandbox=0 trap=Store at=017fffff steps=2 out=
-
-= a store after half a pair
-put 36 b37fb50123a0bf00
-$ sfi run
-> refused findings=1 first=V5 sandbox=0 at=01000004
-status 1
-
-= an image cut short
-end 36 63 73001000
-$ sfi run
-> layout fault 3 Short
-status 2
-
-= an odd digit
-end 36 1 7
-$ sfi run
-> input fault hex odd
-status 2
-
-= two letters: run
 source
-text hi
+= two letters; text hi
 $ sfi build | sfi run
-> sandbox=0 exit=105 steps=19 out=4869
-
-= two letters: run --rounds 1000 --quantum 1
-source
-text hi
 $ sfi build | sfi run --rounds 1000 --quantum 1
 > sandbox=0 exit=105 steps=19 out=4869
-
-= a text that yields: run --rounds 3 --quantum 1000
-source
-text yields
-$ sfi build | sfi run --rounds 3 --quantum 1000
-> sandbox=0 ready steps=32 out=
-
-= a text that yields: run --rounds 3 --quantum 8
-source
-text yields
-$ sfi build | sfi run --rounds 3 --quantum 8
-> sandbox=0 ready steps=20 out=
-
-= a text that reads: run --input 616263
-source
-text reads
-$ sfi build | sfi run --input 616263
-> sandbox=0 exit=2 steps=16 out=
-
-= a text that reads: run
-source
-text reads
-$ sfi build | sfi run
-> sandbox=0 exit=0 steps=16 out=
-
-= a store as far above the data as it reaches: run
-source
-| .sandbox 256
-| li a1, -1
-| sw a0, 2047(a1)
-$ sfi build | sfi run
+= a text that yields; text yields; $ sfi build | sfi run --rounds 3 --quantum 1000; > sandbox=0 ready steps=32 out=
+= a text that yields; text yields; $ sfi build | sfi run --rounds 3 --quantum 8; > sandbox=0 ready steps=20 out=
+= a text that reads; text reads; $ sfi build | sfi run --input 616263; > sandbox=0 exit=2 steps=16 out=
+= a text that reads; text reads; $ sfi build | sfi run; > sandbox=0 exit=0 steps=16 out=
+= a store as far above the data as it reaches; | .sandbox 256; | li a1, -1; | sw a0, 2047(a1); $ sfi build | sfi run
 > sandbox=0 trap=Store at=018008fe steps=3 out=
-
-= a load as far below the data as it reaches: run
-source
-| .sandbox 256
-| lb a0, -2048(a1)
-$ sfi build | sfi run
+= a load as far below the data as it reaches; | .sandbox 256; | lb a0, -2048(a1); $ sfi build | sfi run
 > sandbox=0 trap=Load at=017ff800 steps=2 out=
 ";
 
 /// What `run --report` prints after the lines of a run.
 pub(super) const STATES: &str = "
-= a store that traps
-put 36 b37fb501b3efaf01a38faffe
-$ sfi run --report
+= a store that traps; put 36 b37fb501b3efaf01a38faffe; $ sfi run --report
 > sandbox=0 trap=Store at=017fffff steps=2 out=
 > sandbox=0 pc=01000008 feaf8fa3 sb x10, -1(x31)
 > x1=00000000 x2=018000f0 x3=00000000 x4=00000000 x5=00000000 x6=00000000 x7=00000000
 > x8=00000000 x9=00000000 x10=00000000 x11=00000000 x12=00000000 x13=00000000 x14=00000000 x15=00000000
 > x16=00000000 x17=00000000 x18=00000000 x19=00000000 x20=00000000 x21=00000000 x22=00000000 x23=00000000
 > x24=01000000 x25=000000f0 x26=01800000 x27=000000ff x28=00000000 x29=00000000 x30=00000000 x31=01800000
-
-= before its first call
-source
-text yields
-$ sfi build | sfi run --report --quantum 3
+= before its first call; source; text yields; $ sfi build | sfi run --report --quantum 3
 > sandbox=0 ready steps=3 out=
 > sandbox=0 pc=01000016 0001 addi x0, x0, 0
 > x1=00000000 x2=018000f0 x3=00000000 x4=00000000 x5=00000000 x6=00000000 x7=00000000
 > x8=00000000 x9=00000000 x10=00000000 x11=00000000 x12=00000000 x13=00000000 x14=00000000 x15=00000000
 > x16=00000000 x17=00000000 x18=00000000 x19=00000000 x20=00000000 x21=00000000 x22=00000000 x23=00000000
 > x24=01000000 x25=000000f0 x26=01800000 x27=000000ff x28=00000000 x29=00000000 x30=00000000 x31=00000000
-
-= in its stub
-source
-text yields
-$ sfi build | sfi run --rounds 3 --quantum 8 --report
+= in its stub; source; text yields; $ sfi build | sfi run --rounds 3 --quantum 8 --report
 > sandbox=0 ready steps=20 out=
 > sandbox=0 pc=01000004 0190ffb3 and x31, x1, x25
 > x1=01000020 x2=018000f0 x3=00000000 x4=00000000 x5=00000000 x6=00000000 x7=00000000
 > x8=00000000 x9=00000000 x10=00000000 x11=00000000 x12=00000000 x13=00000000 x14=00000000 x15=00000000
 > x16=00000000 x17=00000000 x18=00000000 x19=00000000 x20=00000000 x21=00000000 x22=00000000 x23=00000000
 > x24=01000000 x25=000000f0 x26=01800000 x27=000000ff x28=00000000 x29=00000000 x30=00000000 x31=01000020
-
-= one trap and one exit
-source
+= one trap and one exit; source
 | .sandbox 256
 | ebreak
 | .sandbox 256
@@ -135,50 +65,23 @@ $ sfi build | sfi run --report
 > x8=00000000 x9=00000000 x10=00000000 x11=00000000 x12=00000000 x13=00000000 x14=00000000 x15=00000000
 > x16=00000000 x17=00000000 x18=00000000 x19=00000000 x20=00000000 x21=00000000 x22=00000000 x23=00000000
 > x24=01000000 x25=000000f0 x26=01800000 x27=000000ff x28=00000000 x29=00000000 x30=00000000 x31=00000000
-
-= a sandbox that exits
-source
-text hi
-$ sfi build | sfi run --report
-> sandbox=0 exit=105 steps=19 out=4869
+= a sandbox that exits; source; text hi; $ sfi build | sfi run --report; > sandbox=0 exit=105 steps=19 out=4869
 ";
 
 /// Two sandboxes.
 pub(super) const NEIGHBOURS: &str = "
-= the first posts to the second: run
-source
-text post to 1
-text take
+= the first posts to the second; source; text post to 1; text take
 $ sfi build | sfi run
-> sandbox=0 exit=0 steps=17 out=
-> sandbox=1 exit=7 steps=19 out=
-
-= the first posts to the second: run --rounds 1000 --quantum 1
-source
-text post to 1
-text take
 $ sfi build | sfi run --rounds 1000 --quantum 1
 > sandbox=0 exit=0 steps=17 out=
 > sandbox=1 exit=7 steps=19 out=
-
-= the second posts to the first: run
-source
-text take
-text post to 0
-$ sfi build | sfi run
+= the second posts to the first; source; text take; text post to 0; $ sfi build | sfi run
 > sandbox=0 exit=0 steps=19 out=
 > sandbox=1 exit=0 steps=17 out=
-
-= the second posts to the first: run --rounds 1000 --quantum 1
-source
-text take
-text post to 0
-$ sfi build | sfi run --rounds 1000 --quantum 1
+= the second posts to the first; source; text take; text post to 0; $ sfi build | sfi run --rounds 1000 --quantum 1
 > sandbox=0 exit=7 steps=19 out=
 > sandbox=1 exit=0 steps=17 out=
-
-= a mailbox that is full: run
-source
+= a mailbox that is full; source
 | .sandbox 256
 | ebreak
 | .sandbox 256
@@ -206,9 +109,7 @@ source
 $ sfi build | sfi run
 > sandbox=0 trap=Break at=01000000 steps=0 out=
 > sandbox=1 exit=72 steps=287 out=0000000000000000000000000000000000000000000000000000000000000000000000000000000000000000000000000000000000000000000000000000000001000000ffffffff
-
-= a sandbox that posts to itself: run
-source
+= a sandbox that posts to itself; source
 | .sandbox 256
 | .gate post 4
 | .gate take 5
@@ -227,33 +128,14 @@ source
 |         call quit
 $ sfi build | sfi run
 > sandbox=0 exit=51 steps=45 out=
-
-= a bare store into a neighbour, checked
-put 4 02000000
-put 36 2320b500
-+ 1 000000020001000000008002000100002000000202000000020000000000000201000000100000020000000073000000b3ff9001b3ef8f0167800f0073000000b3ff9001b3ef8f0167800f00370580021305050093052000eff05ffd37058002130505000100010001000100b37fb501b3efaf0103c51f00eff05ffc
-+ 88 0290
-+ 1 4869
+= a bare store into a neighbour, checked; put 4 02000000; put 36 2320b500; text a neighbour
 $ sfi check
 $ sfi run --rounds 1000
 > refused findings=1 first=V5 sandbox=0 at=01000000
-status 1
-
-= a masked store beside a neighbour, checked
-put 4 02000000
-put 36 b37fb501b3efaf0123a0bf00
-+ 1 000000020001000000008002000100002000000202000000020000000000000201000000100000020000000073000000b3ff9001b3ef8f0167800f0073000000b3ff9001b3ef8f0167800f00370580021305050093052000eff05ffd37058002130505000100010001000100b37fb501b3efaf0103c51f00eff05ffc
-+ 88 0290
-+ 1 4869
+= a masked store beside a neighbour, checked; put 4 02000000; put 36 b37fb501b3efaf0123a0bf00; text a neighbour
 $ sfi check
 > accepted sandboxes=2 bundles=32
-
-= a masked store beside a neighbour
-put 4 02000000
-put 36 b37fb501b3efaf0123a0bf00
-+ 1 000000020001000000008002000100002000000202000000020000000000000201000000100000020000000073000000b3ff9001b3ef8f0167800f0073000000b3ff9001b3ef8f0167800f00370580021305050093052000eff05ffd37058002130505000100010001000100b37fb501b3efaf0103c51f00eff05ffc
-+ 88 0290
-+ 1 4869
+= a masked store beside a neighbour; put 4 02000000; put 36 b37fb501b3efaf0123a0bf00; text a neighbour
 $ sfi run --rounds 1000 --quantum 1
 $ sfi run --rounds 1000 --quantum 3
 $ sfi run --rounds 1000 --quantum 1000
@@ -263,42 +145,18 @@ $ sfi run --rounds 1000 --quantum 1000
 
 /// What `map` prints.
 pub(super) const MAPS: &str = "
-= map: two sandboxes
 source
-text names
-$ sfi map
+= two sandboxes; text names; $ sfi map
 > sandbox=0 gate exit at=01000000
 > sandbox=0 data text at=01800004
 > sandbox=0 code end at=01000030
 > sandbox=1 code end at=02000000
-
-= map: at places of its own
-source
-text names
-$ sfi map --at 20500000:80000000
+= at places of its own; text names; $ sfi map --at 20500000:80000000
 > sandbox=0 gate exit at=20500000
 > sandbox=0 data text at=80000004
 > sandbox=0 code end at=20500030
 > sandbox=1 code end at=02000000
-
-= map: a text without names
-source
-| .sandbox 256
-| ret
-$ sfi map
-
-= map: a name that is nowhere
-source
-| .sandbox 256
-| j nowhere
-$ sfi map
-> link fault 1 UnknownName line 2
-status 2
-
-= map: a wrong place
-source
-text names
-$ sfi map --at 20500080:80000000
-> link fault 6 Place sandbox 0
-status 2
+= a text without names; | .sandbox 256; | ret; $ sfi map
+= a name that is nowhere; | .sandbox 256; | j nowhere; $ sfi map; > link fault 1 UnknownName line 2
+= a wrong place; text names; $ sfi map --at 20500080:80000000; > link fault 6 Place sandbox 0
 ";

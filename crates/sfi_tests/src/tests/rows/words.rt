@@ -2,8 +2,8 @@
 
 /// Words that ask for nothing.
 pub(super) const USAGE: &str = "
-= words that ask for nothing
 source
+= words that ask for nothing
 $ sfi
 $ sfi frob
 $ sfi check image
@@ -43,19 +43,13 @@ $ sfi check --version
 $ sfi help frob
 $ sfi convert --report
 >.. error: 
-status 3
-
 = bytes, and a report
-source
 $ sfi check --raw --report
 $ sfi check --report --raw
 > error: '--raw' and '--report' cannot be used together
 >
 > For more information, try '--help'.
-status 3
-
 = no place
-source
 $ sfi build --at 20500000
 $ sfi build --at :
 $ sfi build --at 20500000:
@@ -70,5 +64,4 @@ $ sfi map --at 20500000
 > error: '--at' wants CODE:DATA, two hexadecimal addresses
 >
 > For more information, try '--help'.
-status 3
 ";
